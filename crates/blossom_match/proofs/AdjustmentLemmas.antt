@@ -1,22 +1,22 @@
 -- After a change of duals the step can be made, and the invariants still hold.
 use Rattle.std.proofs.Common.{◌≡◌, ◌≢◌, ℕ, ◌+◌, ◌*◌, ◌^◌, ◌≤◌, ◌<◌, suc, zero, List, [], ◌∷◌, flat_map, length, drop, arith, refl, sym, ap, subst, ◌∙◌}
 use Rattle.blossom_match.specs.Lists.{Each}
-use Rattle.blossom_match.specs.Bands.{Band, NestValue, apart, bands, count, height, load}
-use Rattle.blossom_match.specs.Matches.{match_members, match_bands, IsJoined}
-use Rattle.blossom_match.specs.Sound.{IsFirm, IsFirmMatch, IsSound, IsTight}
-use Rattle.blossom_match.specs.Trees.{around, both, branch_bands, inner_bands, inner_members, inner_sets, outer_members, outer_sets, IsGrown}
-use Rattle.blossom_match.specs.Lays.{FirstComesApart}
-use Rattle.blossom_match.specs.Searches.{height_at, height_of, holding_both, outers, IsReady, IsSearch}
-use Rattle.blossom_match.specs.Bounds.{Bounds, CanSearch, FirstIsDue, IsDue, DualIsEnough}
-use Rattle.blossom_match.specs.Duals.{all_changed, CanChange, CanChangeHeights, CanAdjust, Changes, StepsOn, Adjusts}
+use Rattle.blossom_match.specs.DualSets.{DualSet, OddSetValue, apart, dual_sets, count, height, dual_load}
+use Rattle.blossom_match.specs.MatchedSets.{match_members, match_dual_sets, IsMatch}
+use Rattle.blossom_match.specs.SoundSets.{IsSoundBranch, IsSoundMatch, IsSoundSet, IsTight}
+use Rattle.blossom_match.specs.Trees.{outer_with_both, one_if_both, branch_dual_sets, inner_dual_sets, inner_members, inner_sets, outer_members, outer_sets, IsAlternatingTree}
+use Rattle.blossom_match.specs.Expansions.{FirstCanExpand}
+use Rattle.blossom_match.specs.Searches.{stored_height, dual_height, search_holding_both, outer_vertices, IsStepReady, IsSearch}
+use Rattle.blossom_match.specs.LeastChanges.{IsLeastChange, CanSearch, FirstHasDual, IsReadyAfter, AllowsChange}
+use Rattle.blossom_match.specs.Duals.{all_changed, CanChange, CanChangeHeights, CanAdjust, ChangesDuals, CanStepAfter, Adjusts}
 use Rattle.blossom_match.specs.TableValue.{TableValue}
-use Rattle.blossom_match.specs.Tables.{entry, IsMetric, IsTable, KeepsTriangles}
+use Rattle.blossom_match.specs.Tables.{entry, IsMetric, IsTable, HasTriangleInequality}
 use Rattle.blossom_match.specs.declared.table.TheConstants.{MAX_DISTANCE}
-use Rattle.blossom_match.specs.declared.nest.Link.{Link}
+use Rattle.blossom_match.specs.declared.odd_set.TightEdge.{TightEdge}
 use Rattle.blossom_match.specs.Values.{BranchValue, MatchValue, SearchValue}
-use Rattle.blossom_match.specs.declared.search.Step.{Step}
-use Rattle.blossom_match.specs.declared.search.Step.TheVariants.{Meet, Grow, Shrink, Expand}
-use Rattle.blossom_match.specs.declared.least.Change.{Change}
+use Rattle.blossom_match.specs.declared.search.SearchStep.{SearchStep}
+use Rattle.blossom_match.specs.declared.search.SearchStep.TheVariants.{Augment, Grow, Shrink, Expand}
+use Rattle.blossom_match.specs.declared.least.DualChange.{DualChange}
 use Rattle.blossom_match.proofs.ListLemmas.{each-right}
 use Rattle.blossom_match.proofs.SumLemmas.{count-append, members-append, some_member}
 use Rattle.blossom_match.proofs.TreeLemmas.{base_in}
@@ -26,18 +26,19 @@ use Rattle.blossom_match.proofs.SearchLemmas.{in_place, is_one, place_in}
 use Rattle.blossom_match.proofs.FreeLemmas.{load_of, load_of-comm, under}
 use Rattle.blossom_match.proofs.BoundLemmas.{height_limit, loads_apart}
 use Rattle.blossom_match.proofs.TableLemmas.{entry-comm}
-use Rattle.blossom_match.proofs.DualLemmas.{around-comm, around_same_all, between_in, between_out, branches_load, branches_tall, counted, matches_same, drop_changed, each_split, firm_changed, grown_same, inner_same, inside, more_wide, one_place, outer_limit, outer_same, set_limit, sizes_same, sound_up, times_by, wide_tall, within}
+use Rattle.blossom_match.proofs.DualLemmas.{outer_with_both-comm, around_same_all, between_in, between_out, branches_load, branches_tall, counted, matches_same, drop_changed, each_split, firm_changed, grown_same, inner_same, inside, more_wide, one_place, outer_limit, outer_same, set_limit, sizes_same, sound_up, times_by, wide_tall, within}
 
 -- the inner blossom at which the step is due has dual 0 after the change
-due_comes_apart : (by : ℕ) (bs : List BranchValue) → FirstIsDue by bs → FirstComesApart (all_changed by bs)
+due_comes_apart : (by : ℕ) (bs : List BranchValue) → FirstHasDual by bs → FirstCanExpand (all_changed by bs)
 due_comes_apart by [] due = due
 due_comes_apart by (b ∷ bs) due = (omega (arith, due.0), due.1)
 
-none_below : (v : ℕ) (bs : List Band) → length bs ≡ 0 → height v bs ≡ 0
+none_below : (v : ℕ) (bs : List DualSet) → length bs ≡ 0 → height v bs ≡ 0
 none_below v [] e = refl
 none_below v (b ∷ bs) e = absurd (omega arith)
 
-narrow_case : (n : ℕ) (t : TableValue) (h : ℕ → ℕ) (by : ℕ) (b : BranchValue) → length b.inner.below ≡ n → DualIsEnough by b → IsFirm t h b
+narrow_case : (n : ℕ) (t : TableValue) (h : ℕ → ℕ) (by : ℕ) (b : BranchValue) → length b.inner.below ≡ n → AllowsChange by b
+    → IsSoundBranch t h b
     → count b.up.to b.inner.members ≡ 1 → count b.pair.from b.inner.members ≡ 1 →
     entry t b.up.from b.pair.to ≤ entry t b.up.from b.up.to + entry t b.up.to b.pair.to
     → h b.up.from + h b.pair.to + 2 * by ≤ 2 * entry t b.up.from b.pair.to → by ≤ b.inner.dual
@@ -48,28 +49,31 @@ narrow_case zero t h by b e blossom f to from triangle slack =
     in
     let pair : 2 * entry t v b.pair.to ≡ h v + h b.pair.to = subst (λ (x : ℕ). 2 * entry t x b.pair.to ≡ h x + h b.pair.to)
     (sym same) f.pair in
-    let tall : height v (bands b.inner) ≡ h v = f.inner.local v (omega (arith, to)) in
+    let tall : height v (dual_sets b.inner) ≡ h v = f.inner.local v (omega (arith, to)) in
     omega (arith, f.up, pair, triangle, slack, tall, none_below v b.inner.below e, ap (λ (k : ℕ). b.inner.dual * k) to)
 
 -- each inner set has the dual of the change: a blossom by the bound on blossoms, a single place by the triangles
-can_change : (t : TableValue) (h : ℕ → ℕ) (s : SearchValue) (c : Change) → IsTable t → KeepsTriangles t → IsSearch t h s → Bounds t h s c
+can_change : (t : TableValue) (h : ℕ → ℕ) (s : SearchValue) (c : DualChange) → IsTable t → HasTriangleInequality t → IsSearch t h s
+    → IsLeastChange t h s c
     → 1 ≤ length s.free → Each (CanChange c.by) s.tree
 can_change t h s c is tri i b some =
     let f = some_member s.free some in
     each_split (CanChange c.by) s.tree s.tree [] refl (λ bs k after e.
-    let grown = grown-right s.root.members bs (k ∷ after) (subst (λ (ks : List BranchValue). IsGrown s.root.members ks) e i.grown) in
-    let firm = (each-right (IsFirm t h) bs (k ∷ after) (subst (λ (ks : List BranchValue). Each (IsFirm t h) ks) e i.tree)).0 in
-    let blossom = (each-right (DualIsEnough c.by) bs (k ∷ after) (subst (λ (ks : List BranchValue). Each (DualIsEnough c.by) ks) e
+    let grown = grown-right s.root.members bs (k ∷ after) (subst (λ (ks : List BranchValue). IsAlternatingTree s.root.members ks) e i.grown)
+    in
+    let firm = (each-right (IsSoundBranch t h) bs (k ∷ after) (subst (λ (ks : List BranchValue). Each (IsSoundBranch t h) ks) e i.tree)).0
+    in
+    let blossom = (each-right (AllowsChange c.by) bs (k ∷ after) (subst (λ (ks : List BranchValue). Each (AllowsChange c.by) ks) e
     b.blossoms)).0 in
     let at = λ (x : ℕ). ap (λ (ks : List BranchValue). count x (outer_members s.root.members ks)) e
     ∙ members-append outer_sets x s.root.members bs (k ∷ after) in
     let on = λ (x : ℕ). count-append x k.outer.members (outer_members [] after) in
     let deep = λ (x : ℕ). ap (λ (ks : List BranchValue). count x (inner_members ks)) e ∙ members-append inner_sets x [] bs (k ∷ after) in
     let under = λ (x : ℕ). count-append x k.inner.members (inner_members after) in
-    let from : 1 ≤ count k.up.from (outers s) = omega (arith, at k.up.from, grown.0) in
-    let to : 1 ≤ count k.pair.to (outers s) = omega (arith, at k.pair.to, on k.pair.to, grown.3) in
-    let apart : holding_both k.up.from k.pair.to s ≡ 0 = subst (λ (ks : List BranchValue). both k.up.from k.pair.to s.root
-    + around k.up.from k.pair.to ks ≡ 0) (sym e)
+    let from : 1 ≤ count k.up.from (outer_vertices s) = omega (arith, at k.up.from, grown.0) in
+    let to : 1 ≤ count k.pair.to (outer_vertices s) = omega (arith, at k.pair.to, on k.pair.to, grown.3) in
+    let apart : search_holding_both k.up.from k.pair.to s ≡ 0 = subst (λ (ks : List BranchValue). one_if_both k.up.from k.pair.to s.root
+    + outer_with_both k.up.from k.pair.to ks ≡ 0) (sym e)
     (apart_from k.up.from k.pair.to s.root bs k after (λ x. omega
     (arith, i.places x, is_one t x, ap (λ (ks : List BranchValue). count x (outer_members s.root.members ks)) e)) grown.0
     (omega (arith, grown.3))) in
@@ -94,7 +98,8 @@ fall_case zero by w i e down = omega (arith, ap (λ (k : ℕ). by * k) e)
 fall_case (suc n) by w i e down = down (omega (arith, e))
 
 -- the cells of the places of the tree
-can_change_heights : (t : TableValue) (s : SearchValue) (c : Change) → IsMetric t → CanSearch t s → Bounds t (height_at s) s c
+can_change_heights : (t : TableValue) (s : SearchValue) (c : DualChange) → IsMetric t → CanSearch t s
+    → IsLeastChange t (stored_height s) s c
     → Each (CanChange c.by) s.tree → CanChangeHeights c.by s.root s.tree s.heights
 can_change_heights t s c m can b wide = record {
   cells = λ x here. omega (arith, can.size, place_in t x (omega (arith, can.search.places x, here)));
@@ -103,11 +108,11 @@ can_change_heights t s c m can b wide = record {
       let i = can.search in
       omega (
         arith,
-        rise_case (count x (outers s)) c.by (height_at s x) (2 * MAX_DISTANCE) (count x (outers s)) refl
-            (omega (arith, i.places x, is_one t x)) (height_limit t (height_at s) s x f.0 m.table i f.1)
-            (λ here. outer_limit t (height_at s) s c x f.0 m.table i b f.1 here),
+        rise_case (count x (outer_vertices s)) c.by (stored_height s x) (2 * MAX_DISTANCE) (count x (outer_vertices s)) refl
+            (omega (arith, i.places x, is_one t x)) (height_limit t (stored_height s) s x f.0 m.table i f.1)
+            (λ here. outer_limit t (stored_height s) s c x f.0 m.table i b f.1 here),
       );
-  fall = λ x. fall_case (count x (inner_members s.tree)) c.by (height_at s x) (count x (inner_members s.tree)) refl (λ here.
+  fall = λ x. fall_case (count x (inner_members s.tree)) c.by (stored_height s x) (count x (inner_members s.tree)) refl (λ here.
       let i = can.search in
       let no : count x (outer_members [] s.tree) ≡ 0 = omega
       (arith, i.places x, is_one t x, here, members-append outer_sets x s.root.members [] s.tree) in
@@ -120,47 +125,49 @@ can_change_heights t s c m can b wide = record {
       ));
 }
 
-pub can_adjust : (s : SearchValue) (c : Change) → CanAdjust s c →
+pub can_adjust : (s : SearchValue) (c : DualChange) → CanAdjust s c →
     (s.root.dual + c.by < 2 ^ 32) × Each (CanChange c.by) s.tree × CanChangeHeights c.by s.root s.tree s.heights
 can_adjust s c w =
     let i = w.can.search in
     let f = some_member s.free w.can.some in
-    let wide = can_change w.t (height_at s) s c w.metric.table w.metric.triangles i w.bounds w.can.some in (
-      set_limit w.t (height_at s) s.root c.by i.root (λ x. omega
+    let wide = can_change w.t (stored_height s) s c w.metric.table w.metric.triangles i w.bounds w.can.some in (
+      set_limit w.t (stored_height s) s.root c.by i.root (λ x. omega
           (arith, i.places x, is_one w.t x, base_in x s.root.members s.tree))
-          (λ x here. outer_limit w.t (height_at s) s c x f.0 w.metric.table i w.bounds f.1
+          (λ x here. outer_limit w.t (stored_height s) s c x f.0 w.metric.table i w.bounds f.1
           (omega (arith, base_in x s.root.members s.tree, here))),
       wide,
       can_change_heights w.t s c w.metric w.can w.bounds wide,
     )
 
 -- how the heights move
-moved : (by : ℕ) (s r : SearchValue) → Changes by s r → Each (CanChange by) s.tree → (x : ℕ) →
-    height_of r x + by * count x (inner_members s.tree) ≡ height_of s x + by * count x (outers s)
+moved : (by : ℕ) (s r : SearchValue) → ChangesDuals by s r → Each (CanChange by) s.tree → (x : ℕ) →
+    dual_height r x + by * count x (inner_members s.tree) ≡ dual_height s x + by * count x (outer_vertices s)
 moved by s r ch can x =
     omega (
       arith,
       branches_tall x by s.tree can,
       wide_tall x by s.root,
-      ap (λ (v : NestValue). height x (bands v)) ch.root,
-      ap (λ (ks : List BranchValue). height x (branch_bands ks)) ch.tree,
-      ap (λ (cs : List MatchValue). height x (match_bands cs)) ch.rest,
+      ap (λ (v : OddSetValue). height x (dual_sets v)) ch.root,
+      ap (λ (ks : List BranchValue). height x (branch_dual_sets ks)) ch.tree,
+      ap (λ (cs : List MatchValue). height x (match_dual_sets cs)) ch.rest,
       times_by by _ _ _ (members-append outer_sets x s.root.members [] s.tree),
     )
 
 -- the bound on a place of an outer set and any other that no set holds with it
-slack_case : (n : ℕ) (t : TableValue) (h : ℕ → ℕ) (s : SearchValue) (c : Change) (a b : ℕ) → IsSearch t h s → Bounds t h s c → b < t.places
-    → 1 ≤ count a (outers s) → count b (inner_members s.tree) ≡ 0 → holding_both a b s ≡ 0 →
-    count b (outers s) ≡ n → h a + h b + c.by ≤ 2 * entry t a b
+slack_case : (n : ℕ) (t : TableValue) (h : ℕ → ℕ) (s : SearchValue) (c : DualChange) (a b : ℕ) → IsSearch t h s → IsLeastChange t h s c
+    → b < t.places
+    → 1 ≤ count a (outer_vertices s) → count b (inner_members s.tree) ≡ 0 → search_holding_both a b s ≡ 0 →
+    count b (outer_vertices s) ≡ n → h a + h b + c.by ≤ 2 * entry t a b
 slack_case zero t h s c a b i bd lb ha none apart e = bd.one a b ha (omega (arith, i.places b, in_place t b lb, none, e))
 slack_case (suc n) t h s c a b i bd lb ha none apart e = omega (arith, bd.two a b ha (omega (arith, e)) apart)
 
-one_slack : (t : TableValue) (h : ℕ → ℕ) (s : SearchValue) (c : Change) (a b : ℕ) → IsSearch t h s → Bounds t h s c → b < t.places
-    → 1 ≤ count a (outers s) → count b (inner_members s.tree) ≡ 0 → holding_both a b s ≡ 0 →
+one_slack : (t : TableValue) (h : ℕ → ℕ) (s : SearchValue) (c : DualChange) (a b : ℕ) → IsSearch t h s → IsLeastChange t h s c
+    → b < t.places
+    → 1 ≤ count a (outer_vertices s) → count b (inner_members s.tree) ≡ 0 → search_holding_both a b s ≡ 0 →
     h a + h b + c.by ≤ 2 * entry t a b
-one_slack t h s c a b i bd lb ha none apart = slack_case (count b (outers s)) t h s c a b i bd lb ha none apart refl
+one_slack t h s c a b i bd lb ha none apart = slack_case (count b (outer_vertices s)) t h s c a b i bd lb ha none apart refl
 
-abbrev apart_of : ℕ → ℕ → NestValue → ℕ
+abbrev apart_of : ℕ → ℕ → OddSetValue → ℕ
 apart_of a b n = apart (count a n.members) (count b n.members)
 
 sum_all : (by r1 r2 r3 s1 s2 s3 c2 ao bo bi : ℕ) → r1 ≡ s1 + by * ao → r2 ≡ c2 → r3 ≡ s3 → c2 + by * bi ≡ s2 + by * bo
@@ -168,9 +175,10 @@ sum_all : (by r1 r2 r3 s1 s2 s3 c2 ao bo bi : ℕ) → r1 ≡ s1 + by * ao → r
 sum_all by r1 r2 r3 s1 s2 s3 c2 ao bo bi e f g k = omega arith
 
 -- exactly one of the two places, or each, is in an outer set
-one_case : (n : ℕ) (t : TableValue) (h : ℕ → ℕ) (s : SearchValue) (c : Change) (a b : ℕ) → IsSearch t h s → Bounds t h s c → a < t.places
-    → b < t.places → count a (outers s) ≡ n → 1 ≤ count a (outers s) + count b (outers s) →
-    count a (inner_members s.tree) + count b (inner_members s.tree) ≡ 0 → holding_both a b s ≡ 0
+one_case : (n : ℕ) (t : TableValue) (h : ℕ → ℕ) (s : SearchValue) (c : DualChange) (a b : ℕ) → IsSearch t h s → IsLeastChange t h s c
+    → a < t.places
+    → b < t.places → count a (outer_vertices s) ≡ n → 1 ≤ count a (outer_vertices s) + count b (outer_vertices s) →
+    count a (inner_members s.tree) + count b (inner_members s.tree) ≡ 0 → search_holding_both a b s ≡ 0
     → load_of s a b + c.by ≤ 2 * entry t a b
 one_case (suc n) t h s c a b i bd la lb e some none apart =
     omega (
@@ -182,7 +190,7 @@ one_case (suc n) t h s c a b i bd la lb e some none apart =
           (omega (arith, e)) (omega (arith, none)) apart,
     )
 one_case zero t h s c a b i bd la lb e some none apart =
-    let other : holding_both b a s ≡ 0 = omega (arith, apart, around-comm a b s.tree) in
+    let other : search_holding_both b a s ≡ 0 = omega (arith, apart, outer_with_both-comm a b s.tree) in
     omega (
       arith,
       load_of-comm s a b,
@@ -195,31 +203,34 @@ one_case zero t h s c a b i bd la lb e some none apart =
     )
 
 -- the load between two places stays within its bound
-loads_stay : (t : TableValue) (h : ℕ → ℕ) (s r : SearchValue) (c : Change) → IsSearch t h s → Bounds t h s c → Changes c.by s r
+loads_stay : (t : TableValue) (h : ℕ → ℕ) (s r : SearchValue) (c : DualChange) → IsSearch t h s → IsLeastChange t h s c
+    → ChangesDuals c.by s r
     → Each (CanChange c.by) s.tree → (a b : ℕ) → a < t.places → b < t.places → a ≢ b →
     load_of r a b ≤ 2 * entry t a b
 loads_stay t h s r c i bd ch can a b la lb ne =
     let by = c.by in
     let tree = s.tree in
     let bo = apart_of a b s.root + between_out a b tree in
-    let root : load a b (bands r.root) ≡ load a b (bands s.root) + by * apart_of a b s.root =
-    ap (λ (v : NestValue). load a b (bands v)) ch.root ∙ more_wide s.root.dual by (apart_of a b s.root) (load a b s.root.below) _
-    (load a b (bands s.root)) refl refl in
-    let branches = ap (λ (ks : List BranchValue). load a b (branch_bands ks)) ch.tree in
-    let rest = ap (λ (cs : List MatchValue). load a b (match_bands cs)) ch.rest in
+    let root : dual_load a b (dual_sets r.root) ≡ dual_load a b (dual_sets s.root) + by * apart_of a b s.root =
+    ap (λ (v : OddSetValue). dual_load a b (dual_sets v)) ch.root
+    ∙ more_wide s.root.dual by (apart_of a b s.root) (dual_load a b s.root.below) _
+    (dual_load a b (dual_sets s.root)) refl refl in
+    let branches = ap (λ (ks : List BranchValue). dual_load a b (branch_dual_sets ks)) ch.tree in
+    let rest = ap (λ (cs : List MatchValue). dual_load a b (match_dual_sets cs)) ch.rest in
     let oa = members-append outer_sets a s.root.members [] tree in
     let ob = members-append outer_sets b s.root.members [] tree in
     let pa = i.places a in
     let pb = i.places b in
-    within (2 * entry t a b) (load_of s a b) (load_of r a b) by bo (between_in a b tree) (holding_both a b s) (inside a b tree)
-    (count a (outers s)) (count b (outers s)) (count a (inner_members tree)) (count b (inner_members tree))
-    (sum_all by (load a b (bands r.root)) (load a b (branch_bands r.tree)) (load a b (match_bands r.rest))
-    (load a b (bands s.root)) (load a b (branch_bands tree)) (load a b (match_bands s.rest))
-    (load a b (branch_bands (all_changed by tree))) (apart_of a b s.root) (between_out a b tree) (between_in a b tree) root branches rest
+    within (2 * entry t a b) (load_of s a b) (load_of r a b) by bo (between_in a b tree) (search_holding_both a b s) (inside a b tree)
+    (count a (outer_vertices s)) (count b (outer_vertices s)) (count a (inner_members tree)) (count b (inner_members tree))
+    (sum_all by (dual_load a b (dual_sets r.root)) (dual_load a b (branch_dual_sets r.tree)) (dual_load a b (match_dual_sets r.rest))
+    (dual_load a b (dual_sets s.root)) (dual_load a b (branch_dual_sets tree)) (dual_load a b (match_dual_sets s.rest))
+    (dual_load a b (branch_dual_sets (all_changed by tree))) (apart_of a b s.root) (between_out a b tree) (between_in a b tree) root
+    branches rest
     (branches_load a b by tree can))
     (omega (arith, counted a b (flat_map outer_sets tree), oa, ob)) (counted a b (flat_map inner_sets tree))
     (omega (arith, pa, is_one t a)) (omega (arith, pb, is_one t b)) (i.loads a b la lb ne)
-    (λ some none apart. one_case (count a (outers s)) t h s c a b i bd la lb refl some none apart)
+    (λ some none apart. one_case (count a (outer_vertices s)) t h s c a b i bd la lb refl some none apart)
     (λ two apart. omega (
       arith,
       loads_apart t h s a b i (omega (arith, two, pb, is_one t b)) apart,
@@ -230,15 +241,15 @@ loads_stay t h s r c i bd ch can a b la lb ne =
     ))
 
 -- an edge that is tight after the change
-tight_after : (d : TableValue) (k : ℕ → ℕ) (l : Link) → k l.from + k l.to ≡ 2 * entry d l.from l.to → IsTight d k l
+tight_after : (d : TableValue) (k : ℕ → ℕ) (l : TightEdge) → k l.from + k l.to ≡ 2 * entry d l.from l.to → IsTight d k l
 tight_after d k l e = sym e
 
-due_ready : (step : Step) (t : TableValue) (h k : ℕ → ℕ) (s r : SearchValue) (by : ℕ) → Changes by s r
-    → ((x : ℕ) → 1 ≤ count x (outers s) → k x ≡ h x + by) →
+due_ready : (step : SearchStep) (t : TableValue) (h k : ℕ → ℕ) (s r : SearchValue) (by : ℕ) → ChangesDuals by s r
+    → ((x : ℕ) → 1 ≤ count x (outer_vertices s) → k x ≡ h x + by) →
     ((x : ℕ) → 1 ≤ count x (match_members s.rest) + count x s.free → k x ≡ h x)
-    → ((x : ℕ) → count x (outers r) ≡ count x (outers s)) →
-    IsDue t h s by step → IsReady t k r step
-due_ready (Meet l) t h k s r by ch up same outer due = (
+    → ((x : ℕ) → count x (outer_vertices r) ≡ count x (outer_vertices s)) →
+    IsReadyAfter t h s by step → IsStepReady t k r step
+due_ready (Augment l) t h k s r by ch up same outer due = (
   omega (arith, due.0, outer l.from),
   omega (arith, due.1, ap (λ (xs : List ℕ). count l.to xs) ch.free),
   tight_after t k l
@@ -255,16 +266,16 @@ due_ready (Shrink l) t h k s r by ch up same outer due = (
   omega (
     arith,
     due.2,
-    ap (λ (v : NestValue). both l.from l.to v) ch.root,
+    ap (λ (v : OddSetValue). one_if_both l.from l.to v) ch.root,
     ap
-        (λ (ks : List BranchValue). around l.from l.to ks) ch.tree,
+        (λ (ks : List BranchValue). outer_with_both l.from l.to ks) ch.tree,
     around_same_all by l.from l.to s.tree,
   ),
   tight_after t k l (omega (arith, due.3, up l.from due.0, up l.to due.1)),
 )
 due_ready (Expand at) t h k s r by ch up same outer due =
-    subst (λ (ks : List BranchValue). FirstComesApart (drop at ks)) (sym ch.tree)
-    (subst FirstComesApart (sym (drop_changed by at s.tree)) (due_comes_apart by (drop at s.tree) due))
+    subst (λ (ks : List BranchValue). FirstCanExpand (drop at ks)) (sym ch.tree)
+    (subst FirstCanExpand (sym (drop_changed by at s.tree)) (due_comes_apart by (drop at s.tree) due))
 
 rise : (by k h i o : ℕ) → k + by * i ≡ h + by * o → i ≡ 0 → o ≡ 1 → k ≡ h + by
 rise by k h i o e g j = omega (arith, e, ap (λ (x : ℕ). by * x) g, ap (λ (x : ℕ). by * x) j)
@@ -281,30 +292,31 @@ at_most zero zero P few out inn rest = rest refl
 at_most zero (suc m) P few out inn rest = inn (omega (arith, few))
 at_most (suc n) m P few out inn rest = out (omega (arith, few))
 
-steps_on : (t : TableValue) (s r : SearchValue) (c : Change) → Changes c.by s r → IsMetric t → CanSearch t s → Bounds t (height_at s) s c
-    → StepsOn t c r
+steps_on : (t : TableValue) (s r : SearchValue) (c : DualChange) → ChangesDuals c.by s r → IsMetric t → CanSearch t s
+    → IsLeastChange t (stored_height s) s c
+    → CanStepAfter t c r
 steps_on t s r c ch m cs b =
     let by = c.by in
-    let h = height_at s in
-    let k = height_at r in
+    let h = stored_height s in
+    let k = stored_height r in
     let i = cs.search in
     let can = can_change t h s c m.table m.triangles i b cs.some in
     let move = ch.heights in
     let one = λ (x : ℕ). is_one t x in
-    let outer : (x : ℕ) → count x (outers r) ≡ count x (outers s) =
-    λ x. ap (λ (v : NestValue). count x (outer_members v.members r.tree)) ch.root
+    let outer : (x : ℕ) → count x (outer_vertices r) ≡ count x (outer_vertices s) =
+    λ x. ap (λ (v : OddSetValue). count x (outer_members v.members r.tree)) ch.root
     ∙ ap (λ (ks : List BranchValue). count x (outer_members s.root.members ks)) ch.tree
     ∙ ap (λ (xs : List ℕ). count x xs) (outer_same by s.root.members s.tree) in
     let inner : (x : ℕ) → count x (inner_members r.tree) ≡ count x (inner_members s.tree) =
     λ x. ap (λ (ks : List BranchValue). count x (inner_members ks)) ch.tree ∙ ap (λ (xs : List ℕ). count x xs) (inner_same by s.tree) in
-    let up : (x : ℕ) → 1 ≤ count x (outers s) → k x ≡ h x + by =
-    λ x here. rise by (k x) (h x) (count x (inner_members s.tree)) (count x (outers s)) (move x)
+    let up : (x : ℕ) → 1 ≤ count x (outer_vertices s) → k x ≡ h x + by =
+    λ x here. rise by (k x) (h x) (count x (inner_members s.tree)) (count x (outer_vertices s)) (move x)
     (omega (arith, i.places x, one x, here)) (omega (arith, i.places x, one x, here)) in
     let down : (x : ℕ) → 1 ≤ count x (inner_members s.tree) → k x + by ≡ h x =
-    λ x here. fall by (k x) (h x) (count x (inner_members s.tree)) (count x (outers s)) (move x)
+    λ x here. fall by (k x) (h x) (count x (inner_members s.tree)) (count x (outer_vertices s)) (move x)
     (omega (arith, i.places x, one x, here)) (omega (arith, i.places x, one x, here)) in
     let same : (x : ℕ) → 1 ≤ count x (match_members s.rest) + count x s.free → k x ≡ h x =
-    λ x here. stay by (k x) (h x) (count x (inner_members s.tree)) (count x (outers s)) (move x)
+    λ x here. stay by (k x) (h x) (count x (inner_members s.tree)) (count x (outer_vertices s)) (move x)
     (omega (arith, i.places x, one x, here)) (omega (arith, i.places x, one x, here)) in
     record {
       search = record {
@@ -319,7 +331,7 @@ steps_on t s r c ch m cs b =
             let hs : 1 ≤ count f s.free = omega (arith, hf, ap (λ (xs : List ℕ). count f xs) ch.free) in
             let was = i.slack a f la hs ne in
             let still = same f (omega (arith, hs)) in
-            at_most (count a (outers s)) (count a (inner_members s.tree)) (k a + k f ≤ 2 * entry t a f)
+            at_most (count a (outer_vertices s)) (count a (inner_members s.tree)) (k a + k f ≤ 2 * entry t a f)
             (omega (arith, i.places a, one a))
             (λ out. omega (arith, still, up a (omega (arith, out)), b.one a f (omega (arith, out)) (omega (arith, hs))))
             (λ inn. omega (arith, still, down a (omega (arith, inn)), was))
@@ -333,15 +345,16 @@ steps_on t s r c ch m cs b =
           ap
               (λ (xs : List ℕ). count x xs) ch.free,
         );
-        grown = subst (λ (v : NestValue). IsGrown v.members r.tree) (sym ch.root)
-            (subst (λ (ks : List BranchValue). IsGrown s.root.members ks) (sym ch.tree) (grown_same by s.root.members s.tree i.grown));
-        joined = subst (λ (cs : List MatchValue). Each IsJoined cs) (sym ch.rest) i.joined;
-        root = subst (λ (v : NestValue). IsSound t k v) (sym ch.root)
+        grown = subst (λ (v : OddSetValue). IsAlternatingTree v.members r.tree) (sym ch.root)
+            (subst (λ (ks : List BranchValue). IsAlternatingTree s.root.members ks) (sym ch.tree)
+            (grown_same by s.root.members s.tree i.grown));
+        joined = subst (λ (cs : List MatchValue). Each IsMatch cs) (sym ch.rest) i.joined;
+        root = subst (λ (v : OddSetValue). IsSoundSet t k v) (sym ch.root)
             (sound_up t h k by s.root (λ x. omega (arith, i.places x, one x, base_in x s.root.members s.tree))
             (λ x here. up x (omega (arith, here, base_in x s.root.members s.tree))) i.root);
-        tree = subst (λ (ks : List BranchValue). Each (IsFirm t k) ks) (sym ch.tree)
+        tree = subst (λ (ks : List BranchValue). Each (IsSoundBranch t k) ks) (sym ch.tree)
             (firm_changed t h k by s.root.members s.tree i.grown can i.tree (λ x. omega (arith, i.places x, one x)) up down);
-        rest = subst (λ (cs : List MatchValue). Each (IsFirmMatch t k) cs) (sym ch.rest)
+        rest = subst (λ (cs : List MatchValue). Each (IsSoundMatch t k) cs) (sym ch.rest)
             (matches_same t h k s.rest i.joined i.rest (λ x here. same x (omega (arith, here))));
         loads = loads_stay t h s r c i b ch can;
       };
@@ -349,15 +362,15 @@ steps_on t s r c ch m cs b =
       size = ch.size ∙ cs.size;
     }
 
-pub adjusts : (s r : SearchValue) (c : Change) → Changes c.by s r → Adjusts s c r
+pub adjusts : (s r : SearchValue) (c : DualChange) → ChangesDuals c.by s r → Adjusts s c r
 adjusts s r c ch = record {
   search = λ t m can b. steps_on t s r c ch m can b;
   size = omega (
     arith,
-    ap (λ (ks : List BranchValue). length (inner_bands ks)) ch.tree,
+    ap (λ (ks : List BranchValue). length (inner_dual_sets ks)) ch.tree,
     sizes_same c.by s.tree,
     ap
-        (λ (cs : List MatchValue). length (match_bands cs)) ch.rest,
+        (λ (cs : List MatchValue). length (match_dual_sets cs)) ch.rest,
   );
   free = ch.free;
 }

@@ -1,27 +1,27 @@
 -- Augmenting, branch by branch from the newest.
 use Rattle.std.proofs.Common.{◌≡◌, ◌≤◌, List, [], ◌∷◌, ◌++◌, length, arith, sym, subst}
-use Rattle.blossom_match.specs.Bands.{NestValue, count}
-use Rattle.blossom_match.specs.Matches.{IsJoined}
-use Rattle.blossom_match.specs.Sound.{IsFirm, IsFirmMatch}
-use Rattle.blossom_match.specs.Trees.{Augmenting, Augments, PairsAt}
-use Rattle.blossom_match.specs.declared.nest.Link.{Link}
+use Rattle.blossom_match.specs.DualSets.{OddSetValue, count}
+use Rattle.blossom_match.specs.MatchedSets.{IsMatch}
+use Rattle.blossom_match.specs.SoundSets.{IsSoundBranch, IsSoundMatch}
+use Rattle.blossom_match.specs.Trees.{CanAugment, Augments, PairsBranch}
+use Rattle.blossom_match.specs.declared.odd_set.TightEdge.{TightEdge}
 use Rattle.blossom_match.specs.Values.{BranchValue, MatchValue}
 use Rattle.blossom_match.proofs.ListLemmas.{each-left, each-last, each-push}
 use Rattle.blossom_match.proofs.TreeLemmas.{last_of}
 use Rattle.blossom_match.proofs.SumLemmas.{bands_push, members_push}
 
 -- what is left to do does the rest
-pub record Pairing (root met : NestValue) (link : Link) (tree : List BranchValue) (old now : List MatchValue) (hand : NestValue)
-    (way : Link)
+pub record Pairing (root met : OddSetValue) (link : TightEdge) (tree : List BranchValue) (old now : List MatchValue) (hand : OddSetValue)
+    (way : TightEdge)
     (left : List BranchValue) : Type 0 where
-  pub can : Augmenting hand way root left
+  pub can : CanAugment hand way root left
   pub does : (new : List MatchValue) → Augments root hand way left now new → Augments root met link tree old new
 
-abbrev match_of : NestValue → NestValue → Link → MatchValue
+abbrev match_of : OddSetValue → OddSetValue → TightEdge → MatchValue
 match_of s t l = record { first = s; second = t; link = l }
 
-pub takes_hand : (hand : NestValue) (way : Link) (b : BranchValue) → 1 ≤ count way.from b.outer.members
-    → PairsAt hand way b (match_of b.outer hand way) b.inner b.up
+pub takes_hand : (hand : OddSetValue) (way : TightEdge) (b : BranchValue) → 1 ≤ count way.from b.outer.members
+    → PairsBranch hand way b (match_of b.outer hand way) b.inner b.up
 takes_hand hand way b here =
     let c = match_of b.outer hand way in
     record {
@@ -35,17 +35,17 @@ takes_hand hand way b here =
       does = λ root bs old new can a.
           let one : count way.from b.outer.members ≡ 1 = omega (arith, here, can.once way.from, members_push) in
           record {
-            joined = λ j. a.joined (each-push IsJoined old c j (record { from = one; to = can.to }));
-            firm = λ d h w r m t j. let f = each-last (IsFirm d h) bs b t in
-                a.firm d h f.up r f.inner (each-left (IsFirm d h) bs (b ∷ []) t)
-                (each-push (IsFirmMatch d h) old c j (record { link = w; first = f.outer; second = m }));
+            joined = λ j. a.joined (each-push IsMatch old c j (record { from = one; to = can.to }));
+            firm = λ d h w r m t j. let f = each-last (IsSoundBranch d h) bs b t in
+                a.firm d h f.up r f.inner (each-left (IsSoundBranch d h) bs (b ∷ []) t)
+                (each-push (IsSoundMatch d h) old c j (record { link = w; first = f.outer; second = m }));
             places = λ x. omega (arith, a.places x, members_push);
             sums = λ F add. omega (arith, a.sums F add, bands_push F add);
           };
     }
 
-pub keeps_hand : (hand : NestValue) (way : Link) (b : BranchValue) → count way.from b.outer.members ≡ 0
-    → PairsAt hand way b (match_of b.inner b.outer b.pair) hand way
+pub keeps_hand : (hand : OddSetValue) (way : TightEdge) (b : BranchValue) → count way.from b.outer.members ≡ 0
+    → PairsBranch hand way b (match_of b.inner b.outer b.pair) hand way
 keeps_hand hand way b none =
     let c = match_of b.inner b.outer b.pair in
     record {
@@ -57,41 +57,43 @@ keeps_hand hand way b none =
       };
       does = λ root bs old new can a. let l = last_of root.members bs b can.grown in
           record {
-            joined = λ j. a.joined (each-push IsJoined old c j (record { from = l.pair_from; to = l.pair_to }));
-            firm = λ d h w r m t j. let f = each-last (IsFirm d h) bs b t in
-                a.firm d h w r m (each-left (IsFirm d h) bs (b ∷ []) t)
-                (each-push (IsFirmMatch d h) old c j (record { link = f.pair; first = f.inner; second = f.outer }));
+            joined = λ j. a.joined (each-push IsMatch old c j (record { from = l.pair_from; to = l.pair_to }));
+            firm = λ d h w r m t j. let f = each-last (IsSoundBranch d h) bs b t in
+                a.firm d h w r m (each-left (IsSoundBranch d h) bs (b ∷ []) t)
+                (each-push (IsSoundMatch d h) old c j (record { link = f.pair; first = f.inner; second = f.outer }));
             places = λ x. omega (arith, a.places x, members_push);
             sums = λ F add. omega (arith, a.sums F add, bands_push F add);
           };
     }
 
-pub pairing_more : (root met : NestValue) (link : Link) (tree : List BranchValue) (old now next : List MatchValue) (hand : NestValue)
-    (way : Link) (left bs : List BranchValue) (b : BranchValue) (c : MatchValue) (more : NestValue) (on : Link) →
-    Pairing root met link tree old now hand way left → left ≡ bs ++ b ∷ [] → PairsAt hand way b c more on →
+pub pairing_more : (root met : OddSetValue) (link : TightEdge) (tree : List BranchValue) (old now next : List MatchValue)
+    (hand : OddSetValue)
+    (way : TightEdge) (left bs : List BranchValue) (b : BranchValue) (c : MatchValue) (more : OddSetValue) (on : TightEdge) →
+    Pairing root met link tree old now hand way left → left ≡ bs ++ b ∷ [] → PairsBranch hand way b c more on →
     next ≡ now ++ c ∷ [] → Pairing root met link tree old next more on bs
 pairing_more root met link tree old now next hand way left bs b c more on p e s f =
-    let can = subst (λ (ks : List BranchValue). Augmenting hand way root ks) e p.can in
+    let can = subst (λ (ks : List BranchValue). CanAugment hand way root ks) e p.can in
     record {
       can = s.can root bs can;
       does = λ new a. p.does new (subst (λ (ks : List BranchValue). Augments root hand way ks now new) (sym e)
           (s.does root bs now new can (subst (λ (ks : List MatchValue). Augments root more on bs ks new) f a)));
     }
 
-at_root : (root hand : NestValue) (way : Link) (now : List MatchValue) → Augmenting hand way root []
+at_root : (root hand : OddSetValue) (way : TightEdge) (now : List MatchValue) → CanAugment hand way root []
     → Augments root hand way [] now (now ++ match_of root hand way ∷ [])
 at_root root hand way now can =
     let one : count way.from root.members ≡ 1 = omega (arith, can.from, can.once way.from) in
     let c = match_of root hand way in
     record {
-      joined = λ j. each-push IsJoined now c j (record { from = one; to = can.to });
-      firm = λ d h w r m t j. each-push (IsFirmMatch d h) now c j (record { link = w; first = r; second = m });
+      joined = λ j. each-push IsMatch now c j (record { from = one; to = can.to });
+      firm = λ d h w r m t j. each-push (IsSoundMatch d h) now c j (record { link = w; first = r; second = m });
       places = λ x. omega (arith, members_push);
       sums = λ F add. omega (arith, bands_push F add, add [] []);
     }
 
-pub pairing_done : (root met : NestValue) (link : Link) (tree : List BranchValue) (old now new : List MatchValue) (hand : NestValue)
-    (way : Link)
+pub pairing_done : (root met : OddSetValue) (link : TightEdge) (tree : List BranchValue) (old now new : List MatchValue)
+    (hand : OddSetValue)
+    (way : TightEdge)
     (left : List BranchValue) →
     Pairing root met link tree old now hand way left → length left ≡ 0 → new ≡ now ++ match_of root hand way ∷ []
     → Augments root met link tree old new
@@ -99,6 +101,7 @@ pairing_done root met link tree old now new hand way [] p none f =
     p.does new (subst (λ (ks : List MatchValue). Augments root hand way [] now ks) (sym f) (at_root root hand way now p.can))
 pairing_done root met link tree old now new hand way (b ∷ bs) p none f = absurd (omega arith)
 
-pub pairing_start : (root met : NestValue) (link : Link) (tree : List BranchValue) (old : List MatchValue) → Augmenting met link root tree
+pub pairing_start : (root met : OddSetValue) (link : TightEdge) (tree : List BranchValue) (old : List MatchValue)
+    → CanAugment met link root tree
     → Pairing root met link tree old old met link tree
 pairing_start root met link tree old can = record { can = can; does = λ new a. a }

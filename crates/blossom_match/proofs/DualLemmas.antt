@@ -1,26 +1,26 @@
 -- A change of duals preserves the invariants of a search.
 use Rattle.std.proofs.Common.{◌≡◌, ℕ, ◌+◌, ◌-◌, ◌*◌, ◌^◌, ◌≤◌, ◌<◌, suc, zero, List, [], ◌∷◌, ◌++◌, flat_map, length, map, take, drop, get_or, set, set-set, get_or-set_same, arith, refl, sym, ap, ◌∙◌, append_assoc}
 use Rattle.blossom_match.specs.Lists.{Each, sum_over}
-use Rattle.blossom_match.specs.Bands.{NestValue, apart, bands, count, height, load, members_onto, uses, with_dual}
-use Rattle.blossom_match.specs.Matches.{match_members, IsJoined}
-use Rattle.blossom_match.specs.Sound.{IsFirm, IsFirmMatch, IsSound}
-use Rattle.blossom_match.specs.Trees.{all_bands, around, both, branch_bands, inner_bands, inner_members, inner_sets, outer_members, outer_sets, IsGrown}
-use Rattle.blossom_match.specs.Searches.{outers, IsSearch}
-use Rattle.blossom_match.specs.Bounds.{Bounds}
-use Rattle.blossom_match.specs.Duals.{all_changed, changed_by, resized, CanChange, CanResize}
+use Rattle.blossom_match.specs.DualSets.{OddSetValue, apart, dual_sets, count, height, dual_load, members_onto, key_count, with_dual}
+use Rattle.blossom_match.specs.MatchedSets.{match_members, IsMatch}
+use Rattle.blossom_match.specs.SoundSets.{IsSoundBranch, IsSoundMatch, IsSoundSet}
+use Rattle.blossom_match.specs.Trees.{all_dual_sets, outer_with_both, one_if_both, branch_dual_sets, inner_dual_sets, inner_members, inner_sets, outer_members, outer_sets, IsAlternatingTree}
+use Rattle.blossom_match.specs.Searches.{outer_vertices, IsSearch}
+use Rattle.blossom_match.specs.LeastChanges.{IsLeastChange}
+use Rattle.blossom_match.specs.Duals.{all_changed, changed_by, changed_branch, CanChange, CanChangeBranch}
 use Rattle.blossom_match.specs.TableValue.{TableValue}
 use Rattle.blossom_match.specs.Tables.{IsTable}
 use Rattle.blossom_match.specs.declared.table.TheConstants.{MAX_DISTANCE}
 use Rattle.blossom_match.specs.Values.{BranchValue, MatchValue, SearchValue}
 use Rattle.blossom_match.specs.Slots.{branch_in, branches_in, AreSets, Slots}
 use Rattle.blossom_match.specs.declared.branches.Branch.{Branch}
-use Rattle.blossom_match.specs.declared.least.Change.{Change}
+use Rattle.blossom_match.specs.declared.least.DualChange.{DualChange}
 use Rattle.std.proofs.lemmas.List.Edits.{map_over_more}
 use Rattle.blossom_match.proofs.ListLemmas.{get_or_self, mapped_drop}
-use Rattle.blossom_match.proofs.SeatLemmas.{no_branch}
+use Rattle.blossom_match.proofs.HandleLemmas.{no_branch}
 use Rattle.blossom_match.proofs.ShrunkLemmas.{all_uses}
 use Rattle.blossom_match.proofs.SlotLemmas.{sets_fewer}
-use Rattle.blossom_match.proofs.SumLemmas.{uses-append, count-append, height-append, hit_is, load-append, size-append, some_member}
+use Rattle.blossom_match.proofs.SumLemmas.{key_count-append, count-append, height-append, hit_is, dual_load-append, size-append, some_member}
 use Rattle.blossom_match.proofs.TreeLemmas.{base_in, outer_members_base}
 use Rattle.blossom_match.proofs.SearchLemmas.{place_in}
 
@@ -33,22 +33,22 @@ pub inner_same : (by : ℕ) (bs : List BranchValue) → inner_members (all_chang
 inner_same by [] = refl
 inner_same by (b ∷ bs) = ap (λ (xs : List ℕ). b.inner.members ++ xs) (inner_same by bs)
 
-pub around_same_all : (by a c : ℕ) (bs : List BranchValue) → around a c (all_changed by bs) ≡ around a c bs
+pub around_same_all : (by a c : ℕ) (bs : List BranchValue) → outer_with_both a c (all_changed by bs) ≡ outer_with_both a c bs
 around_same_all by a c [] = refl
 around_same_all by a c (b ∷ bs) = omega (arith, around_same_all by a c bs)
 
-pub grown_same : (by : ℕ) (base : List ℕ) (bs : List BranchValue) → IsGrown base bs → IsGrown base (all_changed by bs)
+pub grown_same : (by : ℕ) (base : List ℕ) (bs : List BranchValue) → IsAlternatingTree base bs → IsAlternatingTree base (all_changed by bs)
 grown_same by base [] g = tt
 grown_same by base (b ∷ bs) g = (g.0, g.1, g.2, g.3, grown_same by (b.outer.members ++ base) bs g.4)
 
-pub sizes_same : (by : ℕ) (bs : List BranchValue) → length (inner_bands (all_changed by bs)) ≡ length (inner_bands bs)
+pub sizes_same : (by : ℕ) (bs : List BranchValue) → length (inner_dual_sets (all_changed by bs)) ≡ length (inner_dual_sets bs)
 sizes_same by [] = refl
 sizes_same by (b ∷ bs) = omega (
   arith,
   sizes_same by bs,
-  size-append (bands b.inner) (inner_bands bs),
+  size-append (dual_sets b.inner) (inner_dual_sets bs),
   size-append
-      (bands (with_dual (b.inner.dual - by) b.inner)) (inner_bands (all_changed by bs)),
+      (dual_sets (with_dual (b.inner.dual - by) b.inner)) (inner_dual_sets (all_changed by bs)),
 )
 
 pub drop_changed : (by at : ℕ) (bs : List BranchValue) → drop at (all_changed by bs) ≡ all_changed by (drop at bs)
@@ -63,17 +63,18 @@ narrowed w by c low =
 pub times_by : (by m n k : ℕ) → m ≡ n + k → by * m ≡ by * n + by * k
 times_by by m n k e = let f = ap (λ (x : ℕ). by * x) e in omega (arith, f)
 
-pub wide_tall : (x by : ℕ) (s : NestValue) → height x (bands (with_dual (s.dual + by) s)) ≡ height x (bands s) + by * count x s.members
+pub wide_tall : (x by : ℕ) (s : OddSetValue) → height x (dual_sets (with_dual (s.dual + by) s))
+    ≡ height x (dual_sets s) + by * count x s.members
 wide_tall x by s = omega arith
 
-narrow_tall : (x by : ℕ) (s : NestValue) → by ≤ s.dual → height x (bands (with_dual (s.dual - by) s)) + by * count x s.members
-    ≡ height x (bands s)
+narrow_tall : (x by : ℕ) (s : OddSetValue) → by ≤ s.dual → height x (dual_sets (with_dual (s.dual - by) s)) + by * count x s.members
+    ≡ height x (dual_sets s)
 narrow_tall x by s low = omega (arith, narrowed s.dual by (count x s.members) low)
 
 -- heights rise by the change in outer sets and fall by it in inner sets
 pub branches_tall : (x by : ℕ) (bs : List BranchValue) → Each (CanChange by) bs →
-    height x (branch_bands (all_changed by bs)) + by * count x (inner_members bs)
-    ≡ height x (branch_bands bs) + by * count x (outer_members [] bs)
+    height x (branch_dual_sets (all_changed by bs)) + by * count x (inner_members bs)
+    ≡ height x (branch_dual_sets bs) + by * count x (outer_members [] bs)
 branches_tall x by [] can = omega arith
 branches_tall x by (b ∷ bs) can =
     let n = with_dual (b.inner.dual - by) b.inner in
@@ -85,16 +86,16 @@ branches_tall x by (b ∷ bs) can =
       wide_tall x by b.outer,
       times_by by _ _ _ (count-append x b.inner.members (inner_members bs)),
       times_by by _ _ _ (count-append x b.outer.members (outer_members [] bs)),
-      height-append x (bands n) (bands w ++ branch_bands (all_changed by bs)),
-      height-append x (bands w) (branch_bands (all_changed by bs)),
-      height-append x (bands b.inner) (bands b.outer ++ branch_bands bs),
-      height-append x (bands b.outer) (branch_bands bs),
+      height-append x (dual_sets n) (dual_sets w ++ branch_dual_sets (all_changed by bs)),
+      height-append x (dual_sets w) (branch_dual_sets (all_changed by bs)),
+      height-append x (dual_sets b.inner) (dual_sets b.outer ++ branch_dual_sets bs),
+      height-append x (dual_sets b.outer) (branch_dual_sets bs),
     )
 
 -- a set of the outer sets, of the inner sets and of the others
-pub sound_up : (d : TableValue) (h k : ℕ → ℕ) (by : ℕ) (s : NestValue) → ((x : ℕ) → count x s.members ≤ 1)
-    → ((x : ℕ) → 1 ≤ count x s.members → k x ≡ h x + by) → IsSound d h s →
-    IsSound d k (with_dual (s.dual + by) s)
+pub sound_up : (d : TableValue) (h k : ℕ → ℕ) (by : ℕ) (s : OddSetValue) → ((x : ℕ) → count x s.members ≤ 1)
+    → ((x : ℕ) → 1 ≤ count x s.members → k x ≡ h x + by) → IsSoundSet d h s →
+    IsSoundSet d k (with_dual (s.dual + by) s)
 sound_up d h k by s once up i = record {
   kept = record { odd = i.kept.odd; covered = i.kept.covered; single = i.kept.single };
   paid = i.paid;
@@ -105,9 +106,9 @@ sound_up d h k by s once up i = record {
   even = λ x y hx hy. omega (arith, i.even x y hx hy, up x hx, up y hy);
 }
 
-sound_down : (d : TableValue) (h k : ℕ → ℕ) (by : ℕ) (s : NestValue) → by ≤ s.dual → ((x : ℕ) → count x s.members ≤ 1)
-    → ((x : ℕ) → 1 ≤ count x s.members → k x + by ≡ h x) → IsSound d h s →
-    IsSound d k (with_dual (s.dual - by) s)
+sound_down : (d : TableValue) (h k : ℕ → ℕ) (by : ℕ) (s : OddSetValue) → by ≤ s.dual → ((x : ℕ) → count x s.members ≤ 1)
+    → ((x : ℕ) → 1 ≤ count x s.members → k x + by ≡ h x) → IsSoundSet d h s →
+    IsSoundSet d k (with_dual (s.dual - by) s)
 sound_down d h k by s low once down i = record {
   kept = record { odd = i.kept.odd; covered = i.kept.covered; single = i.kept.single };
   paid = i.paid;
@@ -118,7 +119,8 @@ sound_down d h k by s low once down i = record {
   even = λ x y hx hy. omega (arith, i.even x y hx hy, down x hx, down y hy);
 }
 
-sound_same : (d : TableValue) (h k : ℕ → ℕ) (s : NestValue) → ((x : ℕ) → 1 ≤ count x s.members → k x ≡ h x) → IsSound d h s → IsSound d k s
+sound_same : (d : TableValue) (h k : ℕ → ℕ) (s : OddSetValue) → ((x : ℕ) → 1 ≤ count x s.members → k x ≡ h x) → IsSoundSet d h s
+    → IsSoundSet d k s
 sound_same d h k s same i = record {
   kept = i.kept;
   paid = i.paid;
@@ -127,12 +129,13 @@ sound_same d h k s same i = record {
   even = λ x y hx hy. omega (arith, i.even x y hx hy, same x hx, same y hy);
 }
 
-pub firm_changed : (d : TableValue) (h k : ℕ → ℕ) (by : ℕ) (base : List ℕ) (bs : List BranchValue) → IsGrown base bs → Each (CanChange by)
+pub firm_changed : (d : TableValue) (h k : ℕ → ℕ) (by : ℕ) (base : List ℕ) (bs : List BranchValue) → IsAlternatingTree base bs
+    → Each (CanChange by)
     bs
-    → Each (IsFirm d h) bs →
+    → Each (IsSoundBranch d h) bs →
     ((x : ℕ) → count x (outer_members base bs) + count x (inner_members bs) ≤ 1)
     → ((x : ℕ) → 1 ≤ count x (outer_members base bs) → k x ≡ h x + by) →
-    ((x : ℕ) → 1 ≤ count x (inner_members bs) → k x + by ≡ h x) → Each (IsFirm d k) (all_changed by bs)
+    ((x : ℕ) → 1 ≤ count x (inner_members bs) → k x + by ≡ h x) → Each (IsSoundBranch d k) (all_changed by bs)
 firm_changed d h k by base [] g can f once up down = tt
 firm_changed d h k by base (b ∷ bs) g can f once up down =
     let more = λ (x : ℕ). outer_members_base x b.outer.members base bs in
@@ -154,8 +157,8 @@ firm_changed d h k by base (b ∷ bs) g can f once up down =
           (λ x here. up x (omega (arith, here, more x, count-append))) (λ x here. down x (omega (arith, here, count-append))),
     )
 
-pub matches_same : (d : TableValue) (h k : ℕ → ℕ) (cs : List MatchValue) → Each IsJoined cs → Each (IsFirmMatch d h) cs
-    → ((x : ℕ) → 1 ≤ count x (match_members cs) → k x ≡ h x) → Each (IsFirmMatch d k) cs
+pub matches_same : (d : TableValue) (h k : ℕ → ℕ) (cs : List MatchValue) → Each IsMatch cs → Each (IsSoundMatch d h) cs
+    → ((x : ℕ) → 1 ≤ count x (match_members cs) → k x ≡ h x) → Each (IsSoundMatch d k) cs
 matches_same d h k [] j f same = tt
 matches_same d h k (c ∷ cs) j f same =
     let first = λ (x : ℕ) (here : 1 ≤ count x c.first.members). same x (omega (arith, here, count-append)) in
@@ -169,7 +172,7 @@ matches_same d h k (c ∷ cs) j f same =
     )
 
 -- 1 where the set holds exactly one of the places
-abbrev one_of : ℕ → ℕ → NestValue → ℕ
+abbrev one_of : ℕ → ℕ → OddSetValue → ℕ
 one_of a b s = apart (count a s.members) (count b s.members)
 
 -- how many sets of the branches hold exactly one of the places, and how many inner sets hold both
@@ -180,9 +183,9 @@ abbrev pub between_in : ℕ → ℕ → List BranchValue → ℕ
 between_in a b bs = sum_over (one_of a b) (flat_map inner_sets bs)
 
 abbrev pub inside : ℕ → ℕ → List BranchValue → ℕ
-inside a b bs = sum_over (both a b) (flat_map inner_sets bs)
+inside a b bs = sum_over (one_if_both a b) (flat_map inner_sets bs)
 
-pub counted : (a b : ℕ) (ss : List NestValue) → sum_over (one_of a b) ss + 2 * sum_over (both a b) ss
+pub counted : (a b : ℕ) (ss : List OddSetValue) → sum_over (one_of a b) ss + 2 * sum_over (one_if_both a b) ss
     ≡ count a (members_onto [] ss) + count b (members_onto [] ss)
 counted a b [] = refl
 counted a b (s ∷ ss) = omega (arith, counted a b ss, count-append)
@@ -199,21 +202,24 @@ sum_up : (by n w r i o q ci co bi bo new old : ℕ) → new ≡ n + (w + r) → 
 sum_up by n w r i o q ci co bi bo new old e f g k m = omega arith
 
 pub branches_load : (a b by : ℕ) (bs : List BranchValue) → Each (CanChange by) bs →
-    load a b (branch_bands (all_changed by bs)) + by * between_in a b bs ≡ load a b (branch_bands bs) + by * between_out a b bs
+    dual_load a b (branch_dual_sets (all_changed by bs)) + by * between_in a b bs
+    ≡ dual_load a b (branch_dual_sets bs) + by * between_out a b bs
 branches_load a b by [] can = omega arith
 branches_load a b by (c ∷ cs) can =
     let n = with_dual (c.inner.dual - by) c.inner in
     let w = with_dual (c.outer.dual + by) c.outer in
     let ci = apart (count a c.inner.members) (count b c.inner.members) in
     let co = apart (count a c.outer.members) (count b c.outer.members) in
-    sum_up by (load a b (bands n)) (load a b (bands w)) (load a b (branch_bands (all_changed by cs))) (load a b (bands c.inner))
-    (load a b (bands c.outer)) (load a b (branch_bands cs)) ci co (between_in a b cs) (between_out a b cs) _ _
-    (load-append a b (bands n) (bands w ++ branch_bands (all_changed by cs))
-    ∙ ap (λ (x : ℕ). load a b (bands n) + x) (load-append a b (bands w) (branch_bands (all_changed by cs))))
-    (load-append a b (bands c.inner) (bands c.outer ++ branch_bands cs)
-    ∙ ap (λ (x : ℕ). load a b (bands c.inner) + x) (load-append a b (bands c.outer) (branch_bands cs)))
-    (less_wide c.inner.dual by ci (load a b c.inner.below) (load a b (bands n)) (load a b (bands c.inner)) can.0.wide refl refl)
-    (more_wide c.outer.dual by co (load a b c.outer.below) (load a b (bands w)) (load a b (bands c.outer)) refl refl)
+    sum_up by (dual_load a b (dual_sets n)) (dual_load a b (dual_sets w)) (dual_load a b (branch_dual_sets (all_changed by cs)))
+    (dual_load a b (dual_sets c.inner))
+    (dual_load a b (dual_sets c.outer)) (dual_load a b (branch_dual_sets cs)) ci co (between_in a b cs) (between_out a b cs) _ _
+    (dual_load-append a b (dual_sets n) (dual_sets w ++ branch_dual_sets (all_changed by cs))
+    ∙ ap (λ (x : ℕ). dual_load a b (dual_sets n) + x) (dual_load-append a b (dual_sets w) (branch_dual_sets (all_changed by cs))))
+    (dual_load-append a b (dual_sets c.inner) (dual_sets c.outer ++ branch_dual_sets cs)
+    ∙ ap (λ (x : ℕ). dual_load a b (dual_sets c.inner) + x) (dual_load-append a b (dual_sets c.outer) (branch_dual_sets cs)))
+    (less_wide c.inner.dual by ci (dual_load a b c.inner.below) (dual_load a b (dual_sets n)) (dual_load a b (dual_sets c.inner)) can.0.wide
+    refl refl)
+    (more_wide c.outer.dual by co (dual_load a b c.outer.below) (dual_load a b (dual_sets w)) (dual_load a b (dual_sets c.outer)) refl refl)
     (branches_load a b by cs can.1)
 
 -- bo, bi: how many outer and inner sets hold exactly one of a and b; oo, ii: how many hold both; oa, ob, ia, ib: how many hold a and b
@@ -232,9 +238,9 @@ within top old new by (suc (suc zero)) zero oo ii oa ob ia ib e f g p q base one
 within top old new by (suc (suc zero)) (suc bi) oo ii oa ob ia ib e f g p q base one two = absurd (omega arith)
 within top old new by (suc (suc (suc bo))) bi oo ii oa ob ia ib e f g p q base one two = absurd (omega arith)
 
-pub around-comm : (a b : ℕ) (bs : List BranchValue) → around a b bs ≡ around b a bs
-around-comm a b [] = refl
-around-comm a b (c ∷ cs) = omega (arith, around-comm a b cs)
+pub outer_with_both-comm : (a b : ℕ) (bs : List BranchValue) → outer_with_both a b bs ≡ outer_with_both b a bs
+outer_with_both-comm a b [] = refl
+outer_with_both-comm a b (c ∷ cs) = omega (arith, outer_with_both-comm a b cs)
 
 -- an item after those before it
 pub each_split : {X : Type 0} (P : X → Type 0) (all rest before : List X) → all ≡ before ++ rest
@@ -247,8 +253,9 @@ each_split P all (b ∷ bs) before e f = (
 )
 
 -- the height of a place of an outer set can rise, and so can the set's dual
-pub outer_limit : (t : TableValue) (h : ℕ → ℕ) (s : SearchValue) (c : Change) (x f : ℕ) → IsTable t → IsSearch t h s → Bounds t h s c
-    → 1 ≤ count f s.free → 1 ≤ count x (outers s) → h x + c.by ≤ 2 * MAX_DISTANCE
+pub outer_limit : (t : TableValue) (h : ℕ → ℕ) (s : SearchValue) (c : DualChange) (x f : ℕ) → IsTable t → IsSearch t h s
+    → IsLeastChange t h s c
+    → 1 ≤ count f s.free → 1 ≤ count x (outer_vertices s) → h x + c.by ≤ 2 * MAX_DISTANCE
 outer_limit t h s c x f is i b hf hx =
     omega (
       arith,
@@ -257,7 +264,7 @@ outer_limit t h s c x f is i b hf hx =
           (place_in t f (omega (arith, i.places f, hf))),
     )
 
-pub set_limit : (d : TableValue) (h : ℕ → ℕ) (n : NestValue) (by : ℕ) → IsSound d h n → ((x : ℕ) → count x n.members ≤ 1)
+pub set_limit : (d : TableValue) (h : ℕ → ℕ) (n : OddSetValue) (by : ℕ) → IsSoundSet d h n → ((x : ℕ) → count x n.members ≤ 1)
     → ((x : ℕ) → 1 ≤ count x n.members → h x + by ≤ 2 * MAX_DISTANCE) → n.dual + by < 2 ^ 32
 set_limit d h n by i once limit =
     let r = some_member n.members (omega (arith, i.kept.odd)) in
@@ -277,46 +284,46 @@ abbrev outer_resized : ℕ → Branch → Branch
 outer_resized by b = record { up = b.up; inner = b.inner; pair = b.pair; outer = record { key = b.outer.key; dual = b.outer.dual + by } }
 
 pub resized_more : (by : ℕ) (xs ys : List Branch) (i : ℕ) → i < length xs → length ys ≡ length xs
-    → ys ≡ map (resized by) (take i xs) ++ drop i xs
+    → ys ≡ map (changed_branch by) (take i xs) ++ drop i xs
     → set (set ys i (inner_resized by (get_or ys i no_branch))) i
     (outer_resized by (get_or (set ys i (inner_resized by (get_or ys i no_branch))) i no_branch))
-    ≡ map (resized by) (take (i + 1) xs) ++ drop (i + 1) xs
+    ≡ map (changed_branch by) (take (i + 1) xs) ++ drop (i + 1) xs
 resized_more by xs ys i low size e =
     let x = get_or ys i no_branch in
     let a = inner_resized by x in
     ap (λ (b : Branch). set (set ys i a) i (outer_resized by b)) (get_or-set_same ys i a no_branch (omega (arith, low, size)))
-    ∙ set-set ys i a (outer_resized by a) ∙ map_over_more (resized by) xs ys i x low e (get_or_self ys i no_branch)
+    ∙ set-set ys i a (outer_resized by a) ∙ map_over_more (changed_branch by) xs ys i x low e (get_or_self ys i no_branch)
 
-pub can_resize : (by : ℕ) (sets : Slots) (bs : List Branch) → Each (CanChange by) (branches_in sets bs) → Each (CanResize by) bs
+pub can_resize : (by : ℕ) (sets : Slots) (bs : List Branch) → Each (CanChange by) (branches_in sets bs) → Each (CanChangeBranch by) bs
 can_resize by sets [] can = tt
 can_resize by sets (b ∷ bs) can = (record { fits = can.0.fits; wide = can.0.wide }, can_resize by sets bs can.1)
 
-pub all_resized : (by : ℕ) (sets : Slots) (bs : List Branch) → branches_in sets (map (resized by) bs) ≡ all_changed by
+pub all_resized : (by : ℕ) (sets : Slots) (bs : List Branch) → branches_in sets (map (changed_branch by) bs) ≡ all_changed by
     (branches_in sets bs)
 all_resized by sets [] = refl
 all_resized by sets (b ∷ bs) =
     ap (λ (ks : List BranchValue). changed_by by (branch_in sets b) ∷ ks) (all_resized by sets bs)
 
 -- the same sets under the same keys
-uses_same : (k by : ℕ) (bs : List BranchValue) → uses k (branch_bands (all_changed by bs)) ≡ uses k (branch_bands bs)
+uses_same : (k by : ℕ) (bs : List BranchValue) → key_count k (branch_dual_sets (all_changed by bs)) ≡ key_count k (branch_dual_sets bs)
 uses_same k by [] = refl
 uses_same k by (b ∷ bs) =
     omega (
       arith,
       uses_same k by bs,
-      uses-append k b.inner.below (bands b.outer ++ branch_bands bs),
-      uses-append k b.inner.below (bands (changed_by by b).outer ++ branch_bands (all_changed by bs)),
-      uses-append k b.outer.below (branch_bands bs),
-      uses-append k b.outer.below (branch_bands (all_changed by bs)),
+      key_count-append k b.inner.below (dual_sets b.outer ++ branch_dual_sets bs),
+      key_count-append k b.inner.below (dual_sets (changed_by by b).outer ++ branch_dual_sets (all_changed by bs)),
+      key_count-append k b.outer.below (branch_dual_sets bs),
+      key_count-append k b.outer.below (branch_dual_sets (all_changed by bs)),
     )
 
-pub changed_sets : (sets : Slots) (by w : ℕ) (root : NestValue) (tree now : List BranchValue) (rest : List MatchValue)
-    → now ≡ all_changed by tree → AreSets sets (all_bands root tree rest) → AreSets sets (all_bands (with_dual w root) now rest)
+pub changed_sets : (sets : Slots) (by w : ℕ) (root : OddSetValue) (tree now : List BranchValue) (rest : List MatchValue)
+    → now ≡ all_changed by tree → AreSets sets (all_dual_sets root tree rest) → AreSets sets (all_dual_sets (with_dual w root) now rest)
 changed_sets sets by w root tree now rest e are =
-    sets_fewer sets (all_bands root tree rest) (all_bands (with_dual w root) now rest) are (λ k. omega (
+    sets_fewer sets (all_dual_sets root tree rest) (all_dual_sets (with_dual w root) now rest) are (λ k. omega (
       arith,
       all_uses k root tree rest,
       all_uses k (with_dual w root) now rest,
-      ap (λ (ks : List BranchValue). uses k (branch_bands ks)) e,
+      ap (λ (ks : List BranchValue). key_count k (branch_dual_sets ks)) e,
       uses_same k by tree,
     ))

@@ -5,26 +5,26 @@ use Rattle.std.proofs.lemmas.Bool.{eqb-true, eqb-false, ltb-true, ltb-false}
 use Rattle.std.proofs.lemmas.List.Elements.{All-nil, All-cons}
 use Rattle.std.proofs.lemmas.List.Kept.{AllPairs-cons}
 use Rattle.blossom_match.specs.Lists.{Each, EachPair}
-use Rattle.blossom_match.specs.Bands.{Band, apart, count, hit, load}
-use Rattle.blossom_match.specs.Matches.{match_members, match_bands, IsJoined, IsSettled}
-use Rattle.blossom_match.specs.Sound.{IsFirmMatch}
-use Rattle.blossom_match.specs.Searches.{height_at, IsSearch, IsStanding, CanStepAt}
-use Rattle.blossom_match.specs.Bounds.{Bounds, CanSearch}
-use Rattle.blossom_match.specs.Blossoms.{single_of}
+use Rattle.blossom_match.specs.DualSets.{DualSet, apart, count, one_if_equal, dual_load}
+use Rattle.blossom_match.specs.MatchedSets.{match_members, match_dual_sets, IsMatch, IsTightMatch}
+use Rattle.blossom_match.specs.SoundSets.{IsSoundMatch}
+use Rattle.blossom_match.specs.Searches.{stored_height, IsSearch, IsPartialMatching, CanStepAt}
+use Rattle.blossom_match.specs.LeastChanges.{IsLeastChange, CanSearch}
+use Rattle.blossom_match.specs.Blossoms.{vertex_set}
 use Rattle.blossom_match.specs.Duals.{CanAdjust, Adjusts}
-use Rattle.blossom_match.specs.Phases.{Begins, Goes, IsMatched, Leads, Stands}
-use Rattle.blossom_match.specs.Taken.{IsOddIn, LieIn, TakesMatches}
-use Rattle.blossom_match.specs.Matchings.{AreLaminar, IsMatching, IsOddMoat}
+use Rattle.blossom_match.specs.Phases.{BeginsSearch, MakesProgress, MatchesAll, IsStepResult, IsPartialWithHeights}
+use Rattle.blossom_match.specs.Taken.{IsOddMoatIn, AreMoatsIn, TakesApartMatches}
+use Rattle.blossom_match.specs.Matchings.{AreLaminar, IsOptimalMatching, IsOddMoat}
 use Rattle.blossom_match.specs.TableValue.{TableValue}
 use Rattle.blossom_match.specs.Tables.{entry, IsMetric}
 use Rattle.blossom_match.specs.Values.{MatchValue, SearchValue}
 use Rattle.blossom_match.specs.declared.matching.Moat.{Moat}
 use Rattle.blossom_match.specs.declared.matching.Pair.{Pair}
-use Rattle.blossom_match.specs.declared.least.Change.{Change}
+use Rattle.blossom_match.specs.declared.least.DualChange.{DualChange}
 use Rattle.blossom_match.specs.Slots.{matches_in}
 use Rattle.blossom_match.specs.States.{search_value}
-use Rattle.blossom_match.specs.declared.phase.Stepped.{Stepped}
-use Rattle.blossom_match.specs.declared.phase.Stepped.TheVariants.{More, Done}
+use Rattle.blossom_match.specs.declared.phase.StepResult.{StepResult}
+use Rattle.blossom_match.specs.declared.phase.StepResult.TheVariants.{More, Done}
 use Rattle.blossom_match.proofs.SumLemmas.{count-append, hit_same}
 use Rattle.blossom_match.proofs.FreeLemmas.{begun}
 use Rattle.blossom_match.proofs.SearchLemmas.{is_one, place_in}
@@ -42,48 +42,52 @@ below_case false false false x n e f g = omega arith
 pub places_more : (x n : ℕ) (xs new : List ℕ) → new ≡ xs ++ n ∷ [] → count x xs ≡ cond (ltb x n) 1 0 → count x new
     ≡ cond (ltb x (n + 1)) 1 0
 places_more x n xs new e f =
-    ap (λ (ys : List ℕ). count x ys) e ∙ count-append x xs (n ∷ []) ∙ ap (λ (k : ℕ). k + (hit x n + 0)) f
+    ap (λ (ys : List ℕ). count x ys) e ∙ count-append x xs (n ∷ []) ∙ ap (λ (k : ℕ). k + (one_if_equal x n + 0)) f
     ∙ below_case (ltb x n) (eqb x n) (ltb x (n + 1)) x n refl refl refl
 
 -- a free place has a cell
 pub place_there : (t : TableValue) (place : ℕ) (matches : List MatchValue) (free heights : List ℕ)
-    → Stands t matches (free ++ place ∷ []) heights → place < length heights
+    → IsPartialWithHeights t matches (free ++ place ∷ []) heights → place < length heights
 place_there t place matches free heights st =
     omega (arith, st.size, place_in t place (omega (arith, st.standing.places place, count-append, hit_same place)))
 
 pub begins : (t : TableValue) (place : ℕ) (matches : List MatchValue) (free heights : List ℕ) (s : SearchValue)
-    → Stands t matches (free ++ place ∷ []) heights → 1 ≤ length free → Begins t place matches free heights s → CanSearch t s
+    → IsPartialWithHeights t matches (free ++ place ∷ []) heights → 1 ≤ length free → BeginsSearch t place matches free heights s
+    → CanSearch t s
 begins t place matches free heights s st some b =
     let high = λ (hs : List ℕ) (x : ℕ). get_or hs x 0 in
-    let at = subst (λ (hs : List ℕ). IsStanding t (high hs) s.rest (s.free ++ place ∷ [])) (sym b.heights)
-    (subst (λ (cs : List MatchValue). IsStanding t (high heights) cs (s.free ++ place ∷ [])) (sym b.rest)
-    (subst (λ (xs : List ℕ). IsStanding t (high heights) matches (xs ++ place ∷ [])) (sym b.free) st.standing)) in
+    let at = subst (λ (hs : List ℕ). IsPartialMatching t (high hs) s.rest (s.free ++ place ∷ [])) (sym b.heights)
+    (subst (λ (cs : List MatchValue). IsPartialMatching t (high heights) cs (s.free ++ place ∷ [])) (sym b.rest)
+    (subst (λ (xs : List ℕ). IsPartialMatching t (high heights) matches (xs ++ place ∷ [])) (sym b.free) st.standing)) in
     record {
-      search = begun t (height_at s) place s b.table at
-          (subst (λ (hs : List ℕ). s.root ≡ single_of s.root.key t place (high hs place)) (sym b.heights) b.root)
+      search = begun t (stored_height s) place s b.table at
+          (subst (λ (hs : List ℕ). s.root ≡ vertex_set s.root.key t place (high hs place)) (sym b.heights) b.root)
           b.tree;
       size = ap (λ (hs : List ℕ). length hs) b.heights ∙ st.size;
       some = omega (arith, some, ap (λ (xs : List ℕ). length xs) b.free);
     }
 
-pub can_step : (t : TableValue) (s wide : SearchValue) (c : Change) → IsMetric t → CanSearch t s → Bounds t (height_at s) s c → Adjusts s c
+pub can_step : (t : TableValue) (s wide : SearchValue) (c : DualChange) → IsMetric t → CanSearch t s → IsLeastChange t (stored_height s) s c
+    → Adjusts s c
     wide
     → CanStepAt t wide c.step
 can_step t s wide c m can bounds w =
     let on = w.search t m can bounds in
     record { search = on.search; ready = on.ready; size = on.size }
 
-pub can_adjust_now : (t : TableValue) (s : SearchValue) (c : Change) → IsMetric t → CanSearch t s → Bounds t (height_at s) s c
+pub can_adjust_now : (t : TableValue) (s : SearchValue) (c : DualChange) → IsMetric t → CanSearch t s
+    → IsLeastChange t (stored_height s) s c
     → CanAdjust s c
 can_adjust_now t s c m can bounds = record { t = t; metric = m; can = can; bounds = bounds }
 
-pub goes : (t : TableValue) (s wide : SearchValue) (c : Change) (next : Stepped) → IsMetric t → CanSearch t s → Bounds t (height_at s) s c
-    → Adjusts s c wide → Leads t wide c.step next → Goes t s next
+pub goes : (t : TableValue) (s wide : SearchValue) (c : DualChange) (next : StepResult) → IsMetric t → CanSearch t s
+    → IsLeastChange t (stored_height s) s c
+    → Adjusts s c wide → IsStepResult t wide c.step next → MakesProgress t s next
 goes t s wide c (More r) m can bounds w l =
     let on = w.search t m can bounds in
     let free = l.free ∙ w.free in
     let same = subst (λ (hs : List ℕ). IsSearch t (λ (x : ℕ). get_or hs x 0) (search_value r)) (sym l.heights)
-    (l.search t (height_at wide) on.search on.ready) in (
+    (l.search t (stored_height wide) on.search on.ready) in (
       record {
         search = same;
         size = ap (λ (hs : List ℕ). length hs) l.heights ∙ on.size;
@@ -95,7 +99,7 @@ goes t s wide c (More r) m can bounds w l =
     )
 goes t s wide c (Done r) m can bounds w l =
     let on = w.search t m can bounds in
-    let same = subst (λ (hs : List ℕ). IsStanding t (λ (x : ℕ). get_or hs x 0) (matches_in r.sets r.matches.items) r.free.items)
+    let same = subst (λ (hs : List ℕ). IsPartialMatching t (λ (x : ℕ). get_or hs x 0) (matches_in r.sets r.matches.items) r.free.items)
     (sym l.heights)
     l.standing in (
       record { standing = same; size = ap (λ (hs : List ℕ). length hs) l.heights ∙ on.size },
@@ -104,7 +108,7 @@ goes t s wide c (Done r) m can bounds w l =
     )
 
 -- the edges of each match are tight
-settled : (d : TableValue) (h : ℕ → ℕ) (cs : List MatchValue) → Each IsJoined cs → Each (IsFirmMatch d h) cs → Each (IsSettled d) cs
+settled : (d : TableValue) (h : ℕ → ℕ) (cs : List MatchValue) → Each IsMatch cs → Each (IsSoundMatch d h) cs → Each (IsTightMatch d) cs
 settled d h [] j f = tt
 settled d h (c ∷ cs) j f = (
   record {
@@ -124,7 +128,8 @@ settled d h (c ∷ cs) j f = (
 missing : (x : ℕ) (xs : List ℕ) → count x xs ≡ 0 → All (λ (y : ℕ). x ≢ y) xs
 missing x [] none = All-nil (λ (y : ℕ). x ≢ y)
 missing x (y ∷ xs) none =
-    All-cons (λ (z : ℕ). x ≢ z) y xs (λ e. omega (arith, none, hit_same x, ap (λ (z : ℕ). hit x z) e)) (missing x xs (omega (arith, none)))
+    All-cons (λ (z : ℕ). x ≢ z) y xs (λ e. omega (arith, none, hit_same x, ap (λ (z : ℕ). one_if_equal x z) e))
+    (missing x xs (omega (arith, none)))
 
 different : (xs : List ℕ) → ((x : ℕ) → count x xs ≤ 1) → AllPairs (λ (x y : ℕ). x ≢ y) xs
 different [] once = λ i j d less low. absurd (omega (arith, low))
@@ -137,7 +142,7 @@ below n (x ∷ xs) all within low =
     All-cons (λ (y : ℕ). y < n) x xs (low x (omega (arith, within x, hit_same x))) (below n xs all (λ y. omega (arith, within y)) low)
 
 odd_moats : (n : ℕ) (all : List ℕ) (moats : List Moat) → ((x : ℕ) → count x all ≤ 1) → ((x : ℕ) → 1 ≤ count x all → x < n)
-    → Each (IsOddIn all) moats → All (IsOddMoat n) moats
+    → Each (IsOddMoatIn all) moats → All (IsOddMoat n) moats
 odd_moats n all [] once low each = All-nil (IsOddMoat n)
 odd_moats n all (m ∷ moats) once low each =
     All-cons (IsOddMoat n) m moats (record {
@@ -155,26 +160,27 @@ pairs_all : {X : Type 0} (R : X → X → Type 0) (xs : List X) → EachPair R x
 pairs_all R [] e = λ i j d less low. absurd (omega (arith, low))
 pairs_all R (x ∷ xs) e = AllPairs-cons R x xs (each_all (R x) xs e.0) (pairs_all R xs e.1)
 
-load_same : (a : ℕ) (bs : List Band) → load a a bs ≡ 0
+load_same : (a : ℕ) (bs : List DualSet) → dual_load a a bs ≡ 0
 load_same a [] = refl
 load_same a (s ∷ bs) =
     let e : apart (count a s.members) (count a s.members) ≡ 0 = omega arith in
     omega (arith, load_same a bs, ap (λ (k : ℕ). s.dual * k) e)
 
-load_case : (p : Bool) (t : TableValue) (h : ℕ → ℕ) (cs : List MatchValue) (a b : ℕ) → eqb a b ≡ p → IsStanding t h cs [] → a < t.places
-    → b < t.places → load a b (match_bands cs) ≤ 2 * entry t a b
+load_case : (p : Bool) (t : TableValue) (h : ℕ → ℕ) (cs : List MatchValue) (a b : ℕ) → eqb a b ≡ p → IsPartialMatching t h cs []
+    → a < t.places
+    → b < t.places → dual_load a b (match_dual_sets cs) ≤ 2 * entry t a b
 load_case true t h cs a b e st la lb =
     let same : a ≡ b = eqb-true a b e in
-    omega (arith, load_same a (match_bands cs), ap (λ (x : ℕ). load a x (match_bands cs)) (sym same))
+    omega (arith, load_same a (match_dual_sets cs), ap (λ (x : ℕ). dual_load a x (match_dual_sets cs)) (sym same))
 load_case false t h cs a b e st la lb = st.loads a b la lb (eqb-false a b e)
 
 -- what is taken out of matches that hold all places is a matching with moats
-pub matched : (t : TableValue) (cs : List MatchValue) (pairs : List Pair) (moats : List Moat) → IsMatched t cs
-    → TakesMatches cs [] pairs [] moats → IsMatching t pairs moats
+pub matched : (t : TableValue) (cs : List MatchValue) (pairs : List Pair) (moats : List Moat) → MatchesAll t cs
+    → TakesApartMatches cs [] pairs [] moats → IsOptimalMatching t pairs moats
 matched t cs pairs moats s k =
     let st = s.stands.standing in
     let places = λ (x : ℕ). st.places x in
-    let lie = subst (λ (ms : List Moat). LieIn (match_members cs) ms) (sym k.is) k.lie in
+    let lie = subst (λ (ms : List Moat). AreMoatsIn (match_members cs) ms) (sym k.is) k.lie in
     record {
       paired = λ x. omega (arith, k.places x, places x);
       odd = odd_moats t.places (match_members cs) moats (λ x. omega (arith, places x, is_one t x))
@@ -184,5 +190,5 @@ matched t cs pairs moats s k =
       paid = omega (arith, k.widths, k.paid t (settled t (λ x. get_or s.heights x 0) cs st.joined st.firm));
     }
 
-pub once_each : (t : TableValue) (cs : List MatchValue) → IsMatched t cs → (x : ℕ) → count x (match_members cs) ≤ 1
+pub once_each : (t : TableValue) (cs : List MatchValue) → MatchesAll t cs → (x : ℕ) → count x (match_members cs) ≤ 1
 once_each t cs s x = omega (arith, s.stands.standing.places x, is_one t x)

@@ -1,21 +1,21 @@
 -- Free vertices and their initial duals: a search begins at one, and ends at another.
 use Rattle.std.proofs.Common.{◌≡◌, ◌≢◌, ℕ, ◌+◌, ◌*◌, ◌≤◌, ◌<◌, suc, zero, List, [], ◌∷◌, ◌++◌, length, Bool, true, false, cond, eqb, arith, refl, sym, ap, subst, ◌∙◌}
 use Rattle.std.proofs.lemmas.Bool.{eqb-true}
-use Rattle.blossom_match.proofs.RowLemmas.{single_near}
-use Rattle.blossom_match.specs.Rows.{single_row}
+use Rattle.blossom_match.proofs.SlackRowLemmas.{single_near}
+use Rattle.blossom_match.specs.SlackRows.{vertex_slacks}
 use Rattle.blossom_match.specs.Lists.{Each}
-use Rattle.blossom_match.specs.Bands.{Band, NestValue, apart, bands, count, height, hit, load}
-use Rattle.blossom_match.specs.Blossoms.{single_of}
-use Rattle.blossom_match.specs.Matches.{match_bands}
-use Rattle.blossom_match.specs.Sound.{IsFirm, IsSound}
-use Rattle.blossom_match.specs.Trees.{branch_bands, inner_members, outer_members, Augments, IsGrown}
-use Rattle.blossom_match.specs.Searches.{height_at, height_of, outers, Ends, IsSearch, IsStanding, CanStepAt}
+use Rattle.blossom_match.specs.DualSets.{DualSet, OddSetValue, apart, dual_sets, count, height, one_if_equal, dual_load}
+use Rattle.blossom_match.specs.Blossoms.{vertex_set}
+use Rattle.blossom_match.specs.MatchedSets.{match_dual_sets}
+use Rattle.blossom_match.specs.SoundSets.{IsSoundBranch, IsSoundSet}
+use Rattle.blossom_match.specs.Trees.{branch_dual_sets, inner_members, outer_members, Augments, IsAlternatingTree}
+use Rattle.blossom_match.specs.Searches.{stored_height, dual_height, outer_vertices, EndsSearch, IsSearch, IsPartialMatching, CanStepAt}
 use Rattle.blossom_match.specs.TableValue.{TableValue}
 use Rattle.blossom_match.specs.Tables.{entry, IsTable}
-use Rattle.blossom_match.specs.declared.nest.Link.{Link}
-use Rattle.blossom_match.specs.Values.{BranchValue, MatchValue, SearchValue, StandingValue}
-use Rattle.blossom_match.specs.declared.search.Step.TheVariants.{Meet}
-use Rattle.blossom_match.proofs.SumLemmas.{count-append, height-append, hit_is, hit_same, load-append, load-comm, load_alone, low, none_hold}
+use Rattle.blossom_match.specs.declared.odd_set.TightEdge.{TightEdge}
+use Rattle.blossom_match.specs.Values.{BranchValue, MatchValue, SearchValue, PartialMatchingValue}
+use Rattle.blossom_match.specs.declared.search.SearchStep.TheVariants.{Augment}
+use Rattle.blossom_match.proofs.SumLemmas.{count-append, height-append, hit_is, hit_same, dual_load-append, dual_load-comm, load_alone, low, none_hold}
 use Rattle.blossom_match.proofs.BlossomLemmas.{made_kept}
 use Rattle.blossom_match.proofs.SearchLemmas.{is_one, low_branches, low_matches, none_branches, none_matches, place_in}
 use Rattle.blossom_match.proofs.TableLemmas.{entry-comm}
@@ -23,32 +23,32 @@ use Rattle.blossom_match.proofs.TreeLemmas.{base_in}
 
 -- all duals between two places
 abbrev pub load_of : SearchValue → ℕ → ℕ → ℕ
-load_of s a b = load a b (bands s.root) + load a b (branch_bands s.tree) + load a b (match_bands s.rest)
+load_of s a b = dual_load a b (dual_sets s.root) + dual_load a b (branch_dual_sets s.tree) + dual_load a b (match_dual_sets s.rest)
 
 pub load_of-comm : (s : SearchValue) (a b : ℕ) → load_of s a b ≡ load_of s b a
 load_of-comm s a b = omega (
   arith,
-  load-comm a b (bands s.root),
-  load-comm a b (branch_bands s.tree),
-  load-comm a b
-      (match_bands s.rest),
+  dual_load-comm a b (dual_sets s.root),
+  dual_load-comm a b (branch_dual_sets s.tree),
+  dual_load-comm a b
+      (match_dual_sets s.rest),
 )
 
 -- to a free place the load is the height
-load_free : (t : TableValue) (h : ℕ → ℕ) (s : SearchValue) (x f : ℕ) → IsSearch t h s → 1 ≤ count f s.free → load_of s x f ≡ height_of s x
+load_free : (t : TableValue) (h : ℕ → ℕ) (s : SearchValue) (x f : ℕ) → IsSearch t h s → 1 ≤ count f s.free → load_of s x f ≡ dual_height s x
 load_free t h s x f i hf =
     let one = is_one t f in
-    let o : count f (outers s) ≡ 0 = omega (arith, i.places f, one, hf) in
+    let o : count f (outer_vertices s) ≡ 0 = omega (arith, i.places f, one, hf) in
     omega (
       arith,
-      load_alone x f (bands s.root) (none_hold f s.root i.root.kept (omega (arith, base_in f s.root.members s.tree, o))),
-      load_alone x f (branch_bands s.tree) (none_branches t h f s.root.members s.tree i.tree o
+      load_alone x f (dual_sets s.root) (none_hold f s.root i.root.kept (omega (arith, base_in f s.root.members s.tree, o))),
+      load_alone x f (branch_dual_sets s.tree) (none_branches t h f s.root.members s.tree i.tree o
           (omega (arith, i.places f, one, hf))),
-      load_alone x f (match_bands s.rest) (none_matches t h f s.rest i.rest (omega (arith, i.places f, one, hf))),
+      load_alone x f (match_dual_sets s.rest) (none_matches t h f s.rest i.rest (omega (arith, i.places f, one, hf))),
     )
 
 -- a free place is in no set
-low_free : (t : TableValue) (h : ℕ → ℕ) (s : SearchValue) (x : ℕ) → IsSearch t h s → 1 ≤ count x s.free → height_of s x ≡ 0
+low_free : (t : TableValue) (h : ℕ → ℕ) (s : SearchValue) (x : ℕ) → IsSearch t h s → 1 ≤ count x s.free → dual_height s x ≡ 0
 low_free t h s x i some =
     let one = is_one t x in
     omega (
@@ -59,23 +59,23 @@ low_free t h s x i some =
       low_matches t h x s.rest i.rest (omega (arith, i.places x, one, some)),
     )
 
-under_case : (n : ℕ) (t : TableValue) (h : ℕ → ℕ) (s : SearchValue) (x : ℕ) → IsSearch t h s → count x s.free ≡ n → height_of s x ≤ h x
+under_case : (n : ℕ) (t : TableValue) (h : ℕ → ℕ) (s : SearchValue) (x : ℕ) → IsSearch t h s → count x s.free ≡ n → dual_height s x ≤ h x
 under_case zero t h s x i e = omega (arith, i.tall x e)
 under_case (suc n) t h s x i e = omega (arith, low_free t h s x i (omega (arith, e)))
 
 -- the sets make no place higher than it is
-pub under : (t : TableValue) (h : ℕ → ℕ) (s : SearchValue) (x : ℕ) → IsSearch t h s → height_of s x ≤ h x
+pub under : (t : TableValue) (h : ℕ → ℕ) (s : SearchValue) (x : ℕ) → IsSearch t h s → dual_height s x ≤ h x
 under t h s x i = under_case (count x s.free) t h s x i refl
 
 -- one place with its height is a sound set
-pub single_sound : (key : ℕ) (d : TableValue) (h : ℕ → ℕ) (x : ℕ) → IsTable d → x < d.places → IsSound d h (single_of key d x (h x))
+pub single_sound : (key : ℕ) (d : TableValue) (h : ℕ → ℕ) (x : ℕ) → IsTable d → x < d.places → IsSoundSet d h (vertex_set key d x (h x))
 single_sound key d h x is low =
-    let at = λ (y : ℕ) (here : 1 ≤ hit y x + 0). hit_is y x (omega (arith, here)) in
+    let at = λ (y : ℕ) (here : 1 ≤ one_if_equal y x + 0). hit_is y x (omega (arith, here)) in
     record {
-      kept = made_kept key (x ∷ []) (h x) (single_row d x) [] refl;
+      kept = made_kept key (x ∷ []) (h x) (vertex_slacks d x) [] refl;
       paid = tt;
       near = (single_near d x is low, tt);
-      local = λ y here. subst (λ (z : ℕ). height z (bands (single_of key d x (h x))) ≡ h z) (sym (at y here))
+      local = λ y here. subst (λ (z : ℕ). height z (dual_sets (vertex_set key d x (h x))) ≡ h z) (sym (at y here))
           (omega (arith, ap (λ (k : ℕ). h x * k) (hit_same x)));
       even = λ y z hy hz. omega (arith, ap h (at y hy), ap h (at z hz));
     }
@@ -90,7 +90,7 @@ load_case false false a b f w old top e g ne base left right = omega (arith, bas
 
 -- the load with the set of one place more
 single_load : (key : ℕ) (t : TableValue) (a b f w old top : ℕ) → a ≢ b → old ≤ top → (a ≡ f → old + w ≤ top) → (b ≡ f → old + w ≤ top)
-    → old + load a b (bands (single_of key t f w)) ≤ top
+    → old + dual_load a b (dual_sets (vertex_set key t f w)) ≤ top
 single_load key t a b f w old top ne base left right = omega (
   arith,
   load_case (eqb a f) (eqb b f) a b f w old top refl refl ne base left
@@ -106,9 +106,9 @@ tall_case true x f w top old left was e n none tall same =
 tall_case false x f w top old left was e n none tall same = omega (arith, tall (omega (arith, n, none)))
 
 -- the height with the set of one place more
-single_tall : (key : ℕ) (t : TableValue) (x f w top old left was : ℕ) → left + hit x f ≡ was → left ≡ 0 → (was ≡ 0 → top ≡ old)
+single_tall : (key : ℕ) (t : TableValue) (x f w top old left was : ℕ) → left + one_if_equal x f ≡ was → left ≡ 0 → (was ≡ 0 → top ≡ old)
     → (x ≡ f → (top ≡ w) × (old ≡ 0))
-    → top ≡ old + height x (bands (single_of key t f w))
+    → top ≡ old + height x (dual_sets (vertex_set key t f w))
 single_tall key t x f w top old left was n none tall same = omega (arith, tall_case (eqb x f) x f w top old left was refl n none tall same)
 
 -- in a search the slack between a free place and any other isn't negative
@@ -116,26 +116,26 @@ load_slack : (t : TableValue) (h : ℕ → ℕ) (s : SearchValue) (x f : ℕ) �
     → load_of s x f + h f ≤ 2 * entry t x f
 load_slack t h s x f i lx hf ne = omega (arith, load_free t h s x f i hf, under t h s x i, i.slack x f lx hf ne)
 
-met_standing : (t : TableValue) (h : ℕ → ℕ) (link : Link) (s : SearchValue) (r : StandingValue) (m : NestValue)
-    → Augments s.root m link s.tree s.rest r.matches → IsTable t → m ≡ single_of m.key t link.to (h link.to) →
-    ((x : ℕ) → count x r.free + hit x link.to ≡ count x s.free) → IsSearch t h s → 1 ≤ count link.to s.free
+met_standing : (t : TableValue) (h : ℕ → ℕ) (link : TightEdge) (s : SearchValue) (r : PartialMatchingValue) (m : OddSetValue)
+    → Augments s.root m link s.tree s.rest r.matches → IsTable t → m ≡ vertex_set m.key t link.to (h link.to) →
+    ((x : ℕ) → count x r.free + one_if_equal x link.to ≡ count x s.free) → IsSearch t h s → 1 ≤ count link.to s.free
     → 2 * entry t link.from link.to ≡ h link.from + h link.to →
-    IsStanding t h r.matches r.free
+    IsPartialMatching t h r.matches r.free
 met_standing t h link s r m aug is e counts i here tight =
     let f = link.to in
-    let at = λ (F : List Band → ℕ). ap (λ (v : NestValue). F (bands v)) e in
+    let at = λ (F : List DualSet → ℕ). ap (λ (v : OddSetValue). F (dual_sets v)) e in
     record {
       tall = λ x none. omega (
         arith,
-        single_tall m.key t x f (h f) (h x) (height_of s x) (count x r.free) (count x s.free) (counts x) none (i.tall x)
-            (λ g. (ap h g, ap (height_of s) g ∙ low_free t h s f i here)),
+        single_tall m.key t x f (h f) (h x) (dual_height s x) (count x r.free) (count x s.free) (counts x) none (i.tall x)
+            (λ g. (ap h g, ap (dual_height s) g ∙ low_free t h s f i here)),
         aug.sums (height x) (height-append x),
         at (height x),
       );
       slack = λ a g la hg ne. i.slack a g la (omega (arith, hg, counts g)) ne;
-      places = λ x. omega (arith, i.places x, aug.places x, ap (λ (v : NestValue). count x v.members) e, counts x);
+      places = λ x. omega (arith, i.places x, aug.places x, ap (λ (v : OddSetValue). count x v.members) e, counts x);
       joined = aug.joined i.joined;
-      firm = aug.firm t h tight i.root (subst (λ (v : NestValue). IsSound t h v) (sym e)
+      firm = aug.firm t h tight i.root (subst (λ (v : OddSetValue). IsSoundSet t h v) (sym e)
           (single_sound m.key t h f is (place_in t f (omega (arith, i.places f, here)))))
           i.tree i.rest;
       loads = λ a b la lb ne. omega (
@@ -148,56 +148,59 @@ met_standing t h link s r m aug is e counts i here tight =
               subst (λ (z : ℕ). load_of s b z + h f ≤ 2 * entry t b z) (sym g) (load_slack t h s b f i lb here (λ k. ne (g ∙ sym k))),
             ))
             (λ g. subst (λ (z : ℕ). load_of s a z + h f ≤ 2 * entry t a z) (sym g) (load_slack t h s a f i la here (λ k. ne (k ∙ sym g)))),
-        aug.sums (load a b) (load-append a b),
-        at (load a b),
+        aug.sums (dual_load a b) (dual_load-append a b),
+        at (dual_load a b),
       );
     }
 
-pub met : (t : TableValue) (link : Link) (s : SearchValue) (r : StandingValue) (m : NestValue) → CanStepAt t s (Meet link)
-    → Augments s.root m link s.tree s.rest r.matches → IsTable t → m ≡ single_of m.key t link.to (height_at s link.to) →
-    ((x : ℕ) → count x r.free + hit x link.to ≡ count x s.free) → length r.free + 1 ≡ length s.free
-    → r.heights ≡ s.heights → Ends t s (Meet link) r
+pub met : (t : TableValue) (link : TightEdge) (s : SearchValue) (r : PartialMatchingValue) (m : OddSetValue) → CanStepAt t s (Augment link)
+    → Augments s.root m link s.tree s.rest r.matches → IsTable t → m ≡ vertex_set m.key t link.to (stored_height s link.to) →
+    ((x : ℕ) → count x r.free + one_if_equal x link.to ≡ count x s.free) → length r.free + 1 ≡ length s.free
+    → r.heights ≡ s.heights → EndsSearch t s (Augment link) r
 met t link s r m can aug is e counts fewer same = record {
-  standing = met_standing t (height_at s) link s r m aug is e counts can.search can.ready.1 can.ready.2;
+  standing = met_standing t (stored_height s) link s r m aug is e counts can.search can.ready.1 can.ready.2;
   fewer = fewer;
   heights = same;
 }
 
-low_standing : (t : TableValue) (h : ℕ → ℕ) (cs : List MatchValue) (free : List ℕ) (x : ℕ) → IsStanding t h cs free → 1 ≤ count x free
-    → height x (match_bands cs) ≡ 0
+low_standing : (t : TableValue) (h : ℕ → ℕ) (cs : List MatchValue) (free : List ℕ) (x : ℕ) → IsPartialMatching t h cs free
+    → 1 ≤ count x free
+    → height x (match_dual_sets cs) ≡ 0
 low_standing t h cs free x i some = low_matches t h x cs i.firm (omega (arith, i.places x, is_one t x, some))
 
-lower_case : (n : ℕ) (t : TableValue) (h : ℕ → ℕ) (cs : List MatchValue) (free : List ℕ) (x : ℕ) → IsStanding t h cs free → count x free
+lower_case : (n : ℕ) (t : TableValue) (h : ℕ → ℕ) (cs : List MatchValue) (free : List ℕ) (x : ℕ) → IsPartialMatching t h cs free
+    → count x free
     ≡ n
-    → height x (match_bands cs) ≤ h x
+    → height x (match_dual_sets cs) ≤ h x
 lower_case zero t h cs free x i e = omega (arith, i.tall x e)
 lower_case (suc n) t h cs free x i e = omega (arith, low_standing t h cs free x i (omega (arith, e)))
 
-standing_slack : (t : TableValue) (h : ℕ → ℕ) (cs : List MatchValue) (free : List ℕ) (x f : ℕ) → IsStanding t h cs free → x < t.places
-    → 1 ≤ count f free → x ≢ f → load x f (match_bands cs) + h f ≤ 2 * entry t x f
+standing_slack : (t : TableValue) (h : ℕ → ℕ) (cs : List MatchValue) (free : List ℕ) (x f : ℕ) → IsPartialMatching t h cs free
+    → x < t.places
+    → 1 ≤ count f free → x ≢ f → dual_load x f (match_dual_sets cs) + h f ≤ 2 * entry t x f
 standing_slack t h cs free x f i lx hf ne =
     omega (
       arith,
-      load_alone x f (match_bands cs) (none_matches t h f cs i.firm (omega (arith, i.places f, is_one t f, hf))),
+      load_alone x f (match_dual_sets cs) (none_matches t h f cs i.firm (omega (arith, i.places f, is_one t f, hf))),
       lower_case (count x free) t h cs free x i refl,
       i.slack x f lx hf ne,
     )
 
 -- a search from a free place
 pub begun : (t : TableValue) (h : ℕ → ℕ) (place : ℕ) (s : SearchValue) → IsTable t
-    → IsStanding t h s.rest (s.free ++ place ∷ []) → s.root ≡ single_of s.root.key t place (h place) → s.tree ≡ [] → IsSearch t h s
+    → IsPartialMatching t h s.rest (s.free ++ place ∷ []) → s.root ≡ vertex_set s.root.key t place (h place) → s.tree ≡ [] → IsSearch t h s
 begun t h place s is i e f =
     let cs = s.rest in
     let at = λ (x : ℕ). count-append x s.free (place ∷ []) in
     let here : 1 ≤ count place (s.free ++ place ∷ []) = omega (arith, at place, hit_same place) in
-    let sums = λ (F : List Band → ℕ). ap (λ (v : NestValue). F (bands v)) e in
-    let none_hung = λ (F : List Band → ℕ). ap (λ (bs : List BranchValue). F (branch_bands bs)) f in
+    let sums = λ (F : List DualSet → ℕ). ap (λ (v : OddSetValue). F (dual_sets v)) e in
+    let none_hung = λ (F : List DualSet → ℕ). ap (λ (bs : List BranchValue). F (branch_dual_sets bs)) f in
     record {
       tall = λ x none. omega (
         arith,
-        single_tall s.root.key t x place (h place) (h x) (height x (match_bands cs)) (count x s.free) (count x (s.free ++ place ∷ []))
+        single_tall s.root.key t x place (h place) (h x) (height x (match_dual_sets cs)) (count x s.free) (count x (s.free ++ place ∷ []))
             (omega (arith, at x)) none (i.tall x)
-            (λ g. (ap h g, ap (λ (z : ℕ). height z (match_bands cs)) g ∙ low_standing t h cs (s.free ++ place ∷ []) place i here)),
+            (λ g. (ap h g, ap (λ (z : ℕ). height z (match_dual_sets cs)) g ∙ low_standing t h cs (s.free ++ place ∷ []) place i here)),
         sums (height x),
         none_hung (height x),
       );
@@ -206,30 +209,30 @@ begun t h place s is i e f =
         arith,
         i.places x,
         at x,
-        ap (λ (v : NestValue). count x (outer_members v.members s.tree)) e,
+        ap (λ (v : OddSetValue). count x (outer_members v.members s.tree)) e,
         ap
             (λ (bs : List BranchValue). count x (outer_members (place ∷ []) bs)) f,
         ap (λ (bs : List BranchValue). count x (inner_members bs)) f,
       );
-      grown = subst (λ (bs : List BranchValue). IsGrown s.root.members bs) (sym f) tt;
+      grown = subst (λ (bs : List BranchValue). IsAlternatingTree s.root.members bs) (sym f) tt;
       joined = i.joined;
-      root = subst (λ (v : NestValue). IsSound t h v) (sym e)
+      root = subst (λ (v : OddSetValue). IsSoundSet t h v) (sym e)
           (single_sound s.root.key t h place is (place_in t place (omega (arith, i.places place, here))));
-      tree = subst (λ (bs : List BranchValue). Each (IsFirm t h) bs) (sym f) tt;
+      tree = subst (λ (bs : List BranchValue). Each (IsSoundBranch t h) bs) (sym f) tt;
       rest = i.firm;
       loads = λ a b la lb ne. omega (
         arith,
-        single_load s.root.key t a b place (h place) (load a b (match_bands cs)) (2 * entry t a b) ne (i.loads a b la lb ne)
+        single_load s.root.key t a b place (h place) (dual_load a b (match_dual_sets cs)) (2 * entry t a b) ne (i.loads a b la lb ne)
             (λ g. omega (
               arith,
-              load-comm a b (match_bands cs),
+              dual_load-comm a b (match_dual_sets cs),
               entry-comm t a b,
-              subst (λ (z : ℕ). load b z (match_bands cs) + h place ≤ 2 * entry t b z) (sym g)
+              subst (λ (z : ℕ). dual_load b z (match_dual_sets cs) + h place ≤ 2 * entry t b z) (sym g)
                   (standing_slack t h cs (s.free ++ place ∷ []) b place i lb here (λ k. ne (g ∙ sym k))),
             ))
-            (λ g. subst (λ (z : ℕ). load a z (match_bands cs) + h place ≤ 2 * entry t a z) (sym g)
+            (λ g. subst (λ (z : ℕ). dual_load a z (match_dual_sets cs) + h place ≤ 2 * entry t a z) (sym g)
             (standing_slack t h cs (s.free ++ place ∷ []) a place i la here (λ k. ne (k ∙ sym g)))),
-        sums (load a b),
-        none_hung (load a b),
+        sums (dual_load a b),
+        none_hung (dual_load a b),
       );
     }

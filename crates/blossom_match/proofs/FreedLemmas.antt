@@ -3,19 +3,19 @@ use Rattle.std.proofs.Common.{◌≡◌, ℕ, ◌+◌, ◌≤◌, ◌<◌, List,
 use Rattle.std.proofs.lemmas.List.{length-map, map-append}
 use Rattle.std.proofs.lemmas.Bool.{lt-ltb, ltb-true}
 use Rattle.slab.specs.Slab.{get, ContainsKey, Updates}
-use Rattle.blossom_match.specs.Bands.{Band, NestValue, bands, count, hit, uses}
-use Rattle.blossom_match.specs.Matches.{match_bands}
-use Rattle.blossom_match.specs.Blossoms.{bands_in, members_in, nest_of, IsBlossom}
-use Rattle.blossom_match.specs.Lays.{CanLay, Expanding, Expands, GoesEvenly, GrowsAt, Lays}
-use Rattle.blossom_match.specs.Slots.{branch_in, branches_in, match_in, matches_in, members_at, members_of, near_at, part_in, parts_at, parts_in, parts_of, set_in, AreSets, Slots}
-use Rattle.blossom_match.specs.Trees.{all_bands, branch_bands}
+use Rattle.blossom_match.specs.DualSets.{DualSet, OddSetValue, dual_sets, count, one_if_equal, key_count}
+use Rattle.blossom_match.specs.MatchedSets.{match_dual_sets}
+use Rattle.blossom_match.specs.Blossoms.{dual_sets_in, members_in, odd_set_of, IsBlossom}
+use Rattle.blossom_match.specs.Expansions.{CanSplitBlossom, CanExpand, Expands, IsEvenlyOriented, InsertsBranches, SplitsBlossom}
+use Rattle.blossom_match.specs.Slots.{branch_in, branches_in, match_in, matches_in, members_at, slot_members, slacks_at, part_in, parts_at, parts_in, slot_parts, set_in, AreSets, Slots}
+use Rattle.blossom_match.specs.Trees.{all_dual_sets, branch_dual_sets}
 use Rattle.blossom_match.specs.Values.{BranchValue, MatchValue, PartValue}
-use Rattle.blossom_match.specs.declared.nest.Seat.{Seat}
-use Rattle.blossom_match.specs.declared.nest.Slot.{Slot}
+use Rattle.blossom_match.specs.declared.odd_set.Handle.{Handle}
+use Rattle.blossom_match.specs.declared.odd_set.Slot.{Slot}
 use Rattle.blossom_match.specs.declared.matches.Match.{Match}
 use Rattle.blossom_match.specs.declared.branches.Branch.{Branch}
 use Rattle.blossom_match.proofs.ListLemmas.{mapped_drop, mapped_last, mapped_take}
-use Rattle.blossom_match.proofs.SumLemmas.{bands-append, bands_push, hit_same, uses-append}
+use Rattle.blossom_match.proofs.SumLemmas.{dual_sets-append, bands_push, hit_same, key_count-append}
 use Rattle.blossom_match.proofs.SlotLemmas.{can_left, can_right, has_slot, is_made, keep_branches, keep_matches, keep_parts, keep_seat, kept_append, parts_show, removed_keeps, set_made, set_of, sets_fewer, AreKept}
 use Rattle.blossom_match.proofs.OpenLemmas.{made_blossom}
 use Rattle.blossom_match.proofs.ShrunkLemmas.{all_uses}
@@ -23,63 +23,65 @@ use Rattle.blossom_match.proofs.ExpandLemmas.{can_lay, expanded, grows_at, split
 
 -- the sets of a search without the one that comes apart: the root, the branches before, its parts,
 -- its partner, the branches after it, and the matches
-abbrev others : NestValue → List BranchValue → List PartValue → NestValue → List BranchValue → List MatchValue → List Band
+abbrev others : OddSetValue → List BranchValue → List PartValue → OddSetValue → List BranchValue → List MatchValue → List DualSet
 others root bs ps outer later rest =
-    bands root ++ (branch_bands bs ++ (bands_in ps ++ (bands outer ++ (branch_bands later ++ match_bands rest))))
+    dual_sets root ++ (branch_dual_sets bs ++ (dual_sets_in ps ++ (dual_sets outer ++ (branch_dual_sets later ++ match_dual_sets rest))))
 
-others_uses : (k : ℕ) (root : NestValue) (bs : List BranchValue) (ps : List PartValue) (outer : NestValue) (later : List BranchValue)
-    (rest : List MatchValue) → uses k (others root bs ps outer later rest)
-    ≡ uses k (bands root) + uses k (branch_bands bs) + uses k (bands_in ps) + uses k (bands outer) + uses k (branch_bands later)
-    + uses k (match_bands rest)
+others_uses : (k : ℕ) (root : OddSetValue) (bs : List BranchValue) (ps : List PartValue) (outer : OddSetValue) (later : List BranchValue)
+    (rest : List MatchValue) → key_count k (others root bs ps outer later rest)
+    ≡ key_count k (dual_sets root) + key_count k (branch_dual_sets bs) + key_count k (dual_sets_in ps) + key_count k (dual_sets outer)
+    + key_count k (branch_dual_sets later)
+    + key_count k (match_dual_sets rest)
 others_uses k root bs ps outer later rest =
     omega (
       arith,
-      uses-append k (bands root) (branch_bands bs ++ (bands_in ps ++ (bands outer ++ (branch_bands later ++ match_bands rest)))),
-      uses-append k (branch_bands bs) (bands_in ps ++ (bands outer ++ (branch_bands later ++ match_bands rest))),
-      uses-append k (bands_in ps) (bands outer ++ (branch_bands later ++ match_bands rest)),
-      uses-append k (bands outer) (branch_bands later ++ match_bands rest),
-      uses-append k (branch_bands later) (match_bands rest),
+      key_count-append k (dual_sets root) (branch_dual_sets bs
+          ++ (dual_sets_in ps ++ (dual_sets outer ++ (branch_dual_sets later ++ match_dual_sets rest)))),
+      key_count-append k (branch_dual_sets bs) (dual_sets_in ps ++ (dual_sets outer ++ (branch_dual_sets later ++ match_dual_sets rest))),
+      key_count-append k (dual_sets_in ps) (dual_sets outer ++ (branch_dual_sets later ++ match_dual_sets rest)),
+      key_count-append k (dual_sets outer) (branch_dual_sets later ++ match_dual_sets rest),
+      key_count-append k (branch_dual_sets later) (match_dual_sets rest),
     )
 
 -- the sets of a search, by the one that comes apart and the others
-split_uses : (k key : ℕ) (root : NestValue) (tree bs : List BranchValue) (b : BranchValue) (later : List BranchValue)
+split_uses : (k key : ℕ) (root : OddSetValue) (tree bs : List BranchValue) (b : BranchValue) (later : List BranchValue)
     (rest : List MatchValue)
-    (ps : List PartValue) (near : List ℕ) → tree ≡ (bs ++ b ∷ []) ++ later → b.inner ≡ nest_of key (members_in ps) b.inner.dual near ps
-    → uses k (all_bands root tree rest) ≡ hit k key + uses k (others root bs ps b.outer later rest)
+    (ps : List PartValue) (near : List ℕ) → tree ≡ (bs ++ b ∷ []) ++ later → b.inner ≡ odd_set_of key (members_in ps) b.inner.dual near ps
+    → key_count k (all_dual_sets root tree rest) ≡ one_if_equal k key + key_count k (others root bs ps b.outer later rest)
 split_uses k key root tree bs b later rest ps near is made =
     omega (
       arith,
       all_uses k root tree rest,
       others_uses k root bs ps b.outer later rest,
-      ap (λ (ks : List BranchValue). uses k (branch_bands ks)) is,
-      bands-append (uses k) (uses-append k),
-      bands_push (uses k) (uses-append k),
-      ap (λ (v : NestValue). uses k (bands v)) made,
+      ap (λ (ks : List BranchValue). key_count k (branch_dual_sets ks)) is,
+      dual_sets-append (key_count k) (key_count-append k),
+      bands_push (key_count k) (key_count-append k),
+      ap (λ (v : OddSetValue). key_count k (dual_sets v)) made,
     )
 
 -- the inner set has a slot
-inner_used : (k : ℕ) (root : NestValue) (tree bs : List BranchValue) (b : BranchValue) (later : List BranchValue) (rest : List MatchValue)
-    → tree ≡ (bs ++ b ∷ []) ++ later → uses k (bands b.inner) ≤ uses k (all_bands root tree rest)
+inner_used : (k : ℕ) (root : OddSetValue) (tree bs : List BranchValue) (b : BranchValue) (later : List BranchValue) (rest : List MatchValue)
+    → tree ≡ (bs ++ b ∷ []) ++ later → key_count k (dual_sets b.inner) ≤ key_count k (all_dual_sets root tree rest)
 inner_used k root tree bs b later rest is =
     omega (
       arith,
       all_uses k root tree rest,
-      ap (λ (ks : List BranchValue). uses k (branch_bands ks)) is,
-      bands-append (uses k) (uses-append k),
-      bands_push (uses k) (uses-append k),
+      ap (λ (ks : List BranchValue). key_count k (branch_dual_sets ks)) is,
+      dual_sets-append (key_count k) (key_count-append k),
+      bands_push (key_count k) (key_count-append k),
     )
 
 -- a blossom has parts
-shown : (sets : Slots) (s : Seat) → 0 < length (set_in sets s).below → 0 < length (parts_in sets (parts_at sets s.key))
+shown : (sets : Slots) (s : Handle) → 0 < length (set_in sets s).below → 0 < length (parts_in sets (parts_at sets s.key))
 shown sets s some =
     ltb-true 0 (length (parts_in sets (parts_at sets s.key))) (ap (λ (n : ℕ). ltb 0 n) (length-map (parts_at sets s.key) (part_in sets))
     ∙ parts_show (length (members_at sets s.key)) sets (parts_at sets s.key) ∙ lt-ltb 0 (length (set_in sets s).below) some)
 
-module _ (old : Slots) (root : Seat) (tree bs later : List Branch) (b : Branch) (rest : List Match) where
+module _ (old : Slots) (root : Handle) (tree bs later : List Branch) (b : Branch) (rest : List Match) where
   abbrev IsSplit : Type 0
   IsSplit = SplitAt (set_in old root) (branches_in old tree) (branches_in old bs) (branch_in old b) (branches_in old later)
 
-  pub split_slots : (kept : List Branch) (at : ℕ) → Expanding (set_in old root) (branches_in old tree) at → kept ≡ take (at + 1) tree
+  pub split_slots : (kept : List Branch) (at : ℕ) → CanExpand (set_in old root) (branches_in old tree) at → kept ≡ take (at + 1) tree
       → later ≡ drop (at + 1) tree → kept ≡ bs ++ b ∷ [] → IsSplit
   split_slots kept at ex e f g =
       split_at (set_in old root) (branches_in old tree) (branches_in old kept) (branches_in old bs) (branch_in old b)
@@ -89,11 +91,11 @@ module _ (old : Slots) (root : Seat) (tree bs later : List Branch) (b : Branch) 
       (mapped_last (branch_in old) kept bs b g)
 
   abbrev Stand : Type 0
-  Stand = AreSets old (all_bands (set_in old root) (branches_in old tree) (matches_in old rest))
+  Stand = AreSets old (all_dual_sets (set_in old root) (branches_in old tree) (matches_in old rest))
 
-  inner_sets : IsSplit → Stand → AreSets old (bands (set_in old b.inner))
+  inner_sets : IsSplit → Stand → AreSets old (dual_sets (set_in old b.inner))
   inner_sets s are =
-      sets_fewer old (all_bands (set_in old root) (branches_in old tree) (matches_in old rest)) (bands (set_in old b.inner)) are
+      sets_fewer old (all_dual_sets (set_in old root) (branches_in old tree) (matches_in old rest)) (dual_sets (set_in old b.inner)) are
       (λ k. inner_used k (set_in old root) (branches_in old tree) (branches_in old bs) (branch_in old b) (branches_in old later)
       (matches_in old rest) s.is)
 
@@ -105,8 +107,8 @@ module _ (old : Slots) (root : Seat) (tree bs later : List Branch) (b : Branch) 
     pub record Freed : Type 0 where
       pub apart : IsSplit
       pub blossom : IsBlossom (parts_in old slot.parts.items)
-      pub made : set_in old b.inner ≡ nest_of b.inner.key (members_in (parts_in old slot.parts.items)) b.inner.dual
-          (near_at old b.inner.key) (parts_in old slot.parts.items)
+      pub made : set_in old b.inner ≡ odd_set_of b.inner.key (members_in (parts_in old slot.parts.items)) b.inner.dual
+          (slacks_at old b.inner.key) (parts_in old slot.parts.items)
       pub same_root : set_in new root ≡ set_in old root
       pub same_before : branches_in new bs ≡ branches_in old bs
       pub same_parts : parts_in new slot.parts.items ≡ parts_in old slot.parts.items
@@ -115,8 +117,9 @@ module _ (old : Slots) (root : Seat) (tree bs later : List Branch) (b : Branch) 
       pub same_rest : matches_in new rest ≡ matches_in old rest
       pub kept : AreKept old new (others (set_in old root) (branches_in old bs) (parts_in old slot.parts.items) (set_in old b.outer)
           (branches_in old later) (matches_in old rest))
-      pub split : (k : ℕ) → uses k (all_bands (set_in old root) (branches_in old tree) (matches_in old rest))
-          ≡ hit k b.inner.key + uses k (others (set_in old root) (branches_in old bs) (parts_in old slot.parts.items) (set_in old b.outer)
+      pub split : (k : ℕ) → key_count k (all_dual_sets (set_in old root) (branches_in old tree) (matches_in old rest))
+          ≡ one_if_equal k b.inner.key + key_count k (others (set_in old root) (branches_in old bs) (parts_in old slot.parts.items)
+          (set_in old b.outer)
           (branches_in old later) (matches_in old rest))
 
     pub freed : IsSplit → Stand → get old b.inner.key ≡ Some slot → Updates old new b.inner.key None → Freed
@@ -126,20 +129,20 @@ module _ (old : Slots) (root : Seat) (tree bs later : List Branch) (b : Branch) 
         let set = set_of old b.inner (inner_sets s are) in
         let some : 0 < length (parts_in old (parts_at old key)) = shown old b.inner s.some in
         let whole = made_blossom (members_at old key) (parts_in old (parts_at old key)) some (is_made old key set) in
-        let all = subst (λ (o : Option Slot). (members_of o ≡ members_in (parts_in old (parts_of o))) × IsBlossom
-        (parts_in old (parts_of o))) is
+        let all = subst (λ (o : Option Slot). (slot_members o ≡ members_in (parts_in old (slot_parts o))) × IsBlossom
+        (parts_in old (slot_parts o))) is
         whole in
         let made = set_made old b.inner set
-        ∙ ap (λ (o : Option Slot). nest_of key (members_of o) b.inner.dual (near_at old key) (parts_in old (parts_of o))) is
-        ∙ ap (λ (ms : List ℕ). nest_of key ms b.inner.dual (near_at old key) (parts_in old ps)) all.0 in
-        let r = bands (set_in old root) in
-        let p = branch_bands (branches_in old bs) in
-        let q = bands_in (parts_in old ps) in
-        let o = bands (set_in old b.outer) in
-        let l = branch_bands (branches_in old later) in
-        let c = match_bands (matches_in old rest) in
+        ∙ ap (λ (o : Option Slot). odd_set_of key (slot_members o) b.inner.dual (slacks_at old key) (parts_in old (slot_parts o))) is
+        ∙ ap (λ (ms : List ℕ). odd_set_of key ms b.inner.dual (slacks_at old key) (parts_in old ps)) all.0 in
+        let r = dual_sets (set_in old root) in
+        let p = branch_dual_sets (branches_in old bs) in
+        let q = dual_sets_in (parts_in old ps) in
+        let o = dual_sets (set_in old b.outer) in
+        let l = branch_dual_sets (branches_in old later) in
+        let c = match_dual_sets (matches_in old rest) in
         let sum = λ (k : ℕ). split_uses k key (set_in old root) (branches_in old tree) (branches_in old bs) (branch_in old b)
-        (branches_in old later) (matches_in old rest) (parts_in old ps) (near_at old key) s.is made in
+        (branches_in old later) (matches_in old rest) (parts_in old ps) (slacks_at old key) s.is made in
         let can = removed_keeps old new key (r ++ (p ++ (q ++ (o ++ (l ++ c))))) up.others
         (omega (arith, sum key, are.once key, hit_same key))
         (λ k u. are.each k (omega (arith, u, sum k))) in
@@ -169,7 +172,7 @@ module _ (old : Slots) (root : Seat) (tree bs later : List Branch) (b : Branch) 
           split = sum;
         }
 
-module _ {old new : Slots} {root : Seat} {tree bs later : List Branch} {b : Branch} {rest : List Match} {slot : Slot}
+module _ {old new : Slots} {root : Handle} {tree bs later : List Branch} {b : Branch} {rest : List Match} {slot : Slot}
     (f : Freed old root tree bs later b rest new slot) where
   pub blossom_stays : IsBlossom (parts_in new slot.parts.items)
   blossom_stays = subst (λ (ps : List PartValue). IsBlossom ps) (sym f.same_parts) f.blossom
@@ -177,32 +180,32 @@ module _ {old new : Slots} {root : Seat} {tree bs later : List Branch} {b : Bran
   -- the blossom's places are those of the inner set
   pub places_stay : (x : ℕ) → count x (members_in (parts_in new slot.parts.items)) ≡ count x (set_in old b.inner).members
   places_stay x =
-      ap (λ (ps : List PartValue). count x (members_in ps)) f.same_parts ∙ sym (ap (λ (v : NestValue). count x v.members) f.made)
+      ap (λ (ps : List PartValue). count x (members_in ps)) f.same_parts ∙ sym (ap (λ (v : OddSetValue). count x v.members) f.made)
 
   abbrev Evenly : List PartValue → Type 0
-  Evenly blossom = GoesEvenly b.up.to b.pair.from (parts_in new slot.parts.items) blossom
+  Evenly blossom = IsEvenlyOriented b.up.to b.pair.from (parts_in new slot.parts.items) blossom
 
-  evenly_old : (blossom : List PartValue) → Evenly blossom → GoesEvenly b.up.to b.pair.from (parts_in old slot.parts.items) blossom
-  evenly_old blossom g = subst (λ (ps : List PartValue). GoesEvenly b.up.to b.pair.from ps blossom) f.same_parts g
+  evenly_old : (blossom : List PartValue) → Evenly blossom → IsEvenlyOriented b.up.to b.pair.from (parts_in old slot.parts.items) blossom
+  evenly_old blossom g = subst (λ (ps : List PartValue). IsEvenlyOriented b.up.to b.pair.from ps blossom) f.same_parts g
 
   pub can_lay_freed : (blossom : List PartValue) → Evenly blossom
-      → CanLay (set_in new root) (branches_in new bs) blossom b.up b.pair (set_in new b.outer)
+      → CanSplitBlossom (set_in new root) (branches_in new bs) blossom b.up b.pair (set_in new b.outer)
   can_lay_freed blossom g =
       let can = can_lay b.inner.key (set_in old root) (branches_in old tree) (branches_in old bs) (branch_in old b)
       (branches_in old later) (parts_in old slot.parts.items) blossom f.apart f.made (evenly_old blossom g) in
-      subst (λ (v : NestValue). CanLay v (branches_in new bs) blossom b.up b.pair (set_in new b.outer)) (sym f.same_root)
-      (subst (λ (ks : List BranchValue). CanLay (set_in old root) ks blossom b.up b.pair (set_in new b.outer)) (sym f.same_before)
-      (subst (λ (v : NestValue). CanLay (set_in old root) (branches_in old bs) blossom b.up b.pair v) (sym f.same_outer) can))
+      subst (λ (v : OddSetValue). CanSplitBlossom v (branches_in new bs) blossom b.up b.pair (set_in new b.outer)) (sym f.same_root)
+      (subst (λ (ks : List BranchValue). CanSplitBlossom (set_in old root) ks blossom b.up b.pair (set_in new b.outer)) (sym f.same_before)
+      (subst (λ (v : OddSetValue). CanSplitBlossom (set_in old root) (branches_in old bs) blossom b.up b.pair v) (sym f.same_outer) can))
 
   abbrev Laid : List PartValue → List BranchValue → List MatchValue → Type 0
-  Laid blossom mid cs = Lays (set_in new root) (branches_in new bs) blossom b.up b.pair (set_in new b.outer) mid cs
+  Laid blossom mid cs = SplitsBlossom (set_in new root) (branches_in new bs) blossom b.up b.pair (set_in new b.outer) mid cs
 
   laid_old : (blossom : List PartValue) (mid : List BranchValue) (cs : List MatchValue) → Laid blossom mid cs
-      → Lays (set_in old root) (branches_in old bs) blossom b.up b.pair (set_in old b.outer) mid cs
+      → SplitsBlossom (set_in old root) (branches_in old bs) blossom b.up b.pair (set_in old b.outer) mid cs
   laid_old blossom mid cs l =
-      subst (λ (v : NestValue). Lays v (branches_in old bs) blossom b.up b.pair (set_in old b.outer) mid cs) f.same_root
-      (subst (λ (ks : List BranchValue). Lays (set_in new root) ks blossom b.up b.pair (set_in old b.outer) mid cs) f.same_before
-      (subst (λ (v : NestValue). Lays (set_in new root) (branches_in new bs) blossom b.up b.pair v mid cs) f.same_outer l))
+      subst (λ (v : OddSetValue). SplitsBlossom v (branches_in old bs) blossom b.up b.pair (set_in old b.outer) mid cs) f.same_root
+      (subst (λ (ks : List BranchValue). SplitsBlossom (set_in new root) ks blossom b.up b.pair (set_in old b.outer) mid cs) f.same_before
+      (subst (λ (v : OddSetValue). SplitsBlossom (set_in new root) (branches_in new bs) blossom b.up b.pair v mid cs) f.same_outer l))
 
   module _ (blossom : List PartValue) (mid now : List Branch) (cs all : List Match) where
     mid_more : now ≡ mid ++ later → branches_in new now ≡ branches_in new mid ++ branches_in old later
@@ -222,22 +225,22 @@ module _ {old new : Slots} {root : Seat} {tree bs later : List Branch} {b : Bran
     -- the sets after it are the others
     now_uses : (k : ℕ)
         → Expands b.inner.key (set_in old root) (branches_in old tree) (branches_in new now) (matches_in old rest) (matches_in new all)
-        → uses k (all_bands (set_in new root) (branches_in new now) (matches_in new all))
-        ≡ uses k (others (set_in old root) (branches_in old bs) (parts_in old slot.parts.items) (set_in old b.outer)
+        → key_count k (all_dual_sets (set_in new root) (branches_in new now) (matches_in new all))
+        ≡ key_count k (others (set_in old root) (branches_in old bs) (parts_in old slot.parts.items) (set_in old b.outer)
         (branches_in old later) (matches_in old rest))
     now_uses k x =
         omega (
           arith,
           all_uses k (set_in new root) (branches_in new now) (matches_in new all),
           all_uses k (set_in old root) (branches_in old tree) (matches_in old rest),
-          ap (λ (v : NestValue). uses k (bands v)) f.same_root,
-          x.sums (uses k) (uses-append k),
+          ap (λ (v : OddSetValue). key_count k (dual_sets v)) f.same_root,
+          x.sums (key_count k) (key_count-append k),
           f.split k,
         )
 
     -- no set more than before but the parts of the one that came apart
     pub freed_sets : Stand old root tree bs later b rest → Evenly blossom → Laid blossom (branches_in new mid) (matches_in new cs)
-        → all ≡ rest ++ cs → now ≡ mid ++ later → AreSets new (all_bands (set_in new root) (branches_in new now) (matches_in new all))
+        → all ≡ rest ++ cs → now ≡ mid ++ later → AreSets new (all_dual_sets (set_in new root) (branches_in new now) (matches_in new all))
     freed_sets are g l e m =
         let x = expanded_freed g l e m in
         record {
@@ -246,9 +249,9 @@ module _ {old new : Slots} {root : Seat} {tree bs later : List Branch} {b : Bran
         }
 
     pub grows_freed : (kept : List Branch) (at : ℕ)
-        → Expanding (set_in old root) (branches_in old tree) at → kept ≡ take (at + 1) tree → later ≡ drop (at + 1) tree
+        → CanExpand (set_in old root) (branches_in old tree) at → kept ≡ take (at + 1) tree → later ≡ drop (at + 1) tree
         → kept ≡ bs ++ b ∷ [] → Laid blossom (branches_in new mid) (matches_in new cs) → now ≡ mid ++ later
-        → GrowsAt at (branches_in old tree) (branches_in new now)
+        → InsertsBranches at (branches_in old tree) (branches_in new now)
     grows_freed kept at ex e g h l m =
         grows_at (set_in old root) (branches_in old tree) (branches_in old kept) (branches_in old bs) (branch_in old b)
         (branches_in old later) (branches_in new mid) (branches_in new now) blossom (matches_in new cs) at ex

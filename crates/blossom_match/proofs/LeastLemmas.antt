@@ -3,8 +3,8 @@ use Rattle.std.proofs.Common.{◌≡◌, ◌≢◌, ℕ, suc, ◌+◌, ◌-◌, 
 use Rattle.std.specs.List.{All, AllPairs}
 use Rattle.std.proofs.lemmas.Bool.{eqb-true, eq-eqb, ne_eqb, lt-ltb, ltb-true}
 use Rattle.std.proofs.lemmas.List.Sums.{sum_by-cons}
-use Rattle.blossom_match.specs.Bands.{count, hit}
-use Rattle.blossom_match.specs.Matchings.{cost_of, crosses, ends_at, load_on, width_of, IsMatching, IsOddMoat, KeepsLoads, PairsEach}
+use Rattle.blossom_match.specs.DualSets.{count, one_if_equal}
+use Rattle.blossom_match.specs.Matchings.{pairs_cost, crosses_moat, pair_ends_at, moat_load, width_of, IsOptimalMatching, IsOddMoat, KeepsMoatLoads, IsPerfectMatching}
 use Rattle.blossom_match.specs.TableValue.{TableValue}
 use Rattle.blossom_match.specs.Tables.{entry}
 use Rattle.blossom_match.specs.declared.matching.Moat.{Moat}
@@ -25,7 +25,7 @@ hit_cases false false x y e f = refl
 hit_cases true false x y e f = absurd (true_false (sym (eq-eqb y x (sym (eqb-true x y e))) ∙ f))
 hit_cases false true x y e f = absurd (true_false (sym (eq-eqb x y (sym (eqb-true y x f))) ∙ e))
 
-hit_sym : (x y : ℕ) → hit x y ≡ hit y x
+hit_sym : (x y : ℕ) → one_if_equal x y ≡ one_if_equal y x
 hit_sym x y = hit_cases (eqb x y) (eqb y x) x y refl refl
 
 -- the ends of the pairs that are among the places
@@ -36,16 +36,16 @@ ends_in ms (p ∷ ps) = (count p.a ms + count p.b ms) + ends_in ms ps
 -- the ends that each place is, over all places
 abbrev pub ends_over : List ℕ → List Pair → ℕ
 ends_over [] ps = 0
-ends_over (x ∷ xs) ps = ends_at ps x + ends_over xs ps
+ends_over (x ∷ xs) ps = pair_ends_at ps x + ends_over xs ps
 
-ends-cons : (p : Pair) (ps : List Pair) (x : ℕ) → ends_at (p ∷ ps) x ≡ (hit x p.a + hit x p.b) + ends_at ps x
-ends-cons p ps x = sum_by-cons (λ (q : Pair). hit x q.a + hit x q.b) p ps
+ends-cons : (p : Pair) (ps : List Pair) (x : ℕ) → pair_ends_at (p ∷ ps) x ≡ (one_if_equal x p.a + one_if_equal x p.b) + pair_ends_at ps x
+ends-cons p ps x = sum_by-cons (λ (q : Pair). one_if_equal x q.a + one_if_equal x q.b) p ps
 
 ends_in_none : (ps : List Pair) → ends_in [] ps ≡ 0
 ends_in_none [] = refl
 ends_in_none (p ∷ ps) = omega (arith, ends_in_none ps)
 
-ends_in-cons : (x : ℕ) (xs : List ℕ) (ps : List Pair) → ends_in (x ∷ xs) ps ≡ ends_at ps x + ends_in xs ps
+ends_in-cons : (x : ℕ) (xs : List ℕ) (ps : List Pair) → ends_in (x ∷ xs) ps ≡ pair_ends_at ps x + ends_in xs ps
 ends_in-cons x xs [] = refl
 ends_in-cons x xs (p ∷ ps) =
     omega (arith, ends-cons p ps x, hit_sym x p.a, hit_sym x p.b, ends_in-cons x xs ps)
@@ -56,17 +56,17 @@ same_ends [] ps = sym (ends_in_none ps)
 same_ends (x ∷ xs) ps = omega (arith, ends_in-cons x xs ps, same_ends xs ps)
 
 -- each place is one end
-ends_each : (n : ℕ) (ps : List Pair) (ms : List ℕ) → PairsEach n ps → All (λ x. x < n) ms → ends_over ms ps ≡ length ms
+ends_each : (n : ℕ) (ps : List Pair) (ms : List ℕ) → IsPerfectMatching n ps → All (λ x. x < n) ms → ends_over ms ps ≡ length ms
 ends_each n ps [] each below = refl
 ends_each n ps (x ∷ xs) each below =
-    let one : ends_at ps x ≡ 1 = each x ∙ (rw (lt-ltb x n (below 0 x (omega arith))) refl) in
+    let one : pair_ends_at ps x ≡ 1 = each x ∙ (rw (lt-ltb x n (below 0 x (omega arith))) refl) in
     omega (arith, one, ends_each n ps xs each (λ k d within. below (suc k) d (omega arith)))
 
 -- a place that differs from all of the places is not among them
 missing : (x : ℕ) (ys : List ℕ) → All (λ y. x ≢ y) ys → count x ys ≡ 0
 missing x [] differs = refl
 missing x (y ∷ ys) differs =
-    let no : hit x y ≡ 0 = rw (ne_eqb x y (differs 0 y (omega arith))) refl in
+    let no : one_if_equal x y ≡ 0 = rw (ne_eqb x y (differs 0 y (omega arith))) refl in
     omega (arith, no, missing x ys (λ k d within. differs (suc k) d (omega arith)))
 
 -- different places are counted once
@@ -84,20 +84,20 @@ once (y ∷ ys) differ x = once_case (eqb x y) x y ys refl (λ k d within. diffe
 -- what the pairs pay for a moat
 abbrev pub paid_for : Moat → List Pair → ℕ
 paid_for m [] = 0
-paid_for m (p ∷ ps) = cond (crosses p.a p.b m) m.width 0 + paid_for m ps
+paid_for m (p ∷ ps) = cond (crosses_moat p.a p.b m) m.width 0 + paid_for m ps
 
 -- a pair that does not cross a moat has both ends in it or none
-both_or_none : (a b : ℕ) (m : Moat) → count a m.members ≤ 1 → count b m.members ≤ 1 → crosses a b m ≡ false
+both_or_none : (a b : ℕ) (m : Moat) → count a m.members ≤ 1 → count b m.members ≤ 1 → crosses_moat a b m ≡ false
     → count a m.members ≡ count b m.members
 both_or_none a b m fa fb apart =
-    let e : one_if (crosses a b m) ≡ 1 * ((count a m.members - count b m.members) + (count b m.members - count a m.members)) =
+    let e : one_if (crosses_moat a b m) ≡ 1 * ((count a m.members - count b m.members) + (count b m.members - count a m.members)) =
     crossing a b 1 m.members fa fb in
     let z : 0 ≡ 1 * ((count a m.members - count b m.members) + (count b m.members - count a m.members)) =
     subst (λ (t : Bool). one_if t ≡ 1 * ((count a m.members - count b m.members) + (count b m.members - count a m.members))) apart e in
     omega (arith, z)
 
 -- a moat is paid, or an even number of ends is in it
-paid_case : (b : Bool) (m : Moat) (p : Pair) (ps : List Pair) → crosses p.a p.b m ≡ b → ((x : ℕ) → count x m.members ≤ 1)
+paid_case : (b : Bool) (m : Moat) (p : Pair) (ps : List Pair) → crosses_moat p.a p.b m ≡ b → ((x : ℕ) → count x m.members ≤ 1)
     → (m.width ≤ paid_for m ps) ⊎ ((k : ℕ) × (ends_in m.members ps ≡ 2 * k))
     → (m.width ≤ cond b m.width 0 + paid_for m ps) ⊎ ((k : ℕ) × (ends_in m.members (p ∷ ps) ≡ 2 * k))
 paid_case true m p ps e few rest = inl (omega arith)
@@ -108,7 +108,7 @@ paid_case false m p ps e few (inr (k, even)) =
 paid_or_even : (m : Moat) (ps : List Pair) → ((x : ℕ) → count x m.members ≤ 1)
     → (m.width ≤ paid_for m ps) ⊎ ((k : ℕ) × (ends_in m.members ps ≡ 2 * k))
 paid_or_even m [] few = inr (0, refl)
-paid_or_even m (p ∷ ps) few = paid_case (crosses p.a p.b m) m p ps refl few (paid_or_even m ps few)
+paid_or_even m (p ∷ ps) few = paid_case (crosses_moat p.a p.b m) m p ps refl few (paid_or_even m ps few)
 
 odd_paid : (m : Moat) (ps : List Pair) → ends_in m.members ps % 2 ≡ 1
     → (m.width ≤ paid_for m ps) ⊎ ((k : ℕ) × (ends_in m.members ps ≡ 2 * k)) → m.width ≤ paid_for m ps
@@ -116,7 +116,7 @@ odd_paid m ps odd (inl paid) = paid
 odd_paid m ps odd (inr (k, even)) = absurd (omega (arith, odd, even))
 
 -- so pairs of all places pay for each odd moat
-moat_paid : (n : ℕ) (m : Moat) (ps : List Pair) → PairsEach n ps → IsOddMoat n m → m.width ≤ paid_for m ps
+moat_paid : (n : ℕ) (m : Moat) (ps : List Pair) → IsPerfectMatching n ps → IsOddMoat n m → m.width ≤ paid_for m ps
 moat_paid n m ps each is =
     let all : ends_in m.members ps ≡ length m.members = sym (same_ends m.members ps) ∙ ends_each n ps m.members each is.below in
     odd_paid m ps (omega (arith, all, is.odd)) (paid_or_even m ps (once m.members is.different))
@@ -124,10 +124,10 @@ moat_paid n m ps each is =
 -- the loads of all pairs
 abbrev pub loads_of : List Moat → List Pair → ℕ
 loads_of moats [] = 0
-loads_of moats (p ∷ ps) = load_on moats p.a p.b + loads_of moats ps
+loads_of moats (p ∷ ps) = moat_load moats p.a p.b + loads_of moats ps
 
-load-cons : (m : Moat) (ms : List Moat) (a b : ℕ) → load_on (m ∷ ms) a b ≡ cond (crosses a b m) m.width 0 + load_on ms a b
-load-cons m ms a b = sum_by-cons (λ (k : Moat). cond (crosses a b k) k.width 0) m ms
+load-cons : (m : Moat) (ms : List Moat) (a b : ℕ) → moat_load (m ∷ ms) a b ≡ cond (crosses_moat a b m) m.width 0 + moat_load ms a b
+load-cons m ms a b = sum_by-cons (λ (k : Moat). cond (crosses_moat a b k) k.width 0) m ms
 
 loads_none : (ps : List Pair) → loads_of [] ps ≡ 0
 loads_none [] = refl
@@ -137,7 +137,8 @@ loads-cons : (m : Moat) (ms : List Moat) (ps : List Pair) → loads_of (m ∷ ms
 loads-cons m ms [] = refl
 loads-cons m ms (p ∷ ps) = omega (arith, load-cons m ms p.a p.b, loads-cons m ms ps)
 
-widths_paid : (n : ℕ) (moats : List Moat) (ps : List Pair) → PairsEach n ps → All (IsOddMoat n) moats → width_of moats ≤ loads_of moats ps
+widths_paid : (n : ℕ) (moats : List Moat) (ps : List Pair) → IsPerfectMatching n ps → All (IsOddMoat n) moats
+    → width_of moats ≤ loads_of moats ps
 widths_paid n [] ps each odd = omega arith
 widths_paid n (m ∷ ms) ps each odd = omega (
   arith,
@@ -148,8 +149,8 @@ widths_paid n (m ∷ ms) ps each odd = omega (
 )
 
 -- and no pair carries more than two halves for each step
-loads_cost : (t : TableValue) (moats : List Moat) (ps : List Pair) → KeepsLoads t moats
-    → ((x : ℕ) → 1 ≤ ends_at ps x → x < t.places) → loads_of moats ps ≤ 2 * cost_of t ps
+loads_cost : (t : TableValue) (moats : List Moat) (ps : List Pair) → KeepsMoatLoads t moats
+    → ((x : ℕ) → 1 ≤ pair_ends_at ps x → x < t.places) → loads_of moats ps ≤ 2 * pairs_cost t ps
 loads_cost t moats [] keeps below = omega arith
 loads_cost t moats (p ∷ ps) keeps below =
     let a = below p.a (omega (arith, ends-cons p ps p.a, hit_same p.a)) in
@@ -166,11 +167,11 @@ below_case : (b : Bool) (x n e : ℕ) → nat_lt x n ≡ b → e ≡ one_if b �
 below_case true x n e is one some = omega (arith, ltb-true x n is)
 below_case false x n e is none some = absurd (omega (arith, none, some))
 
-ends_below : (n : ℕ) (ps : List Pair) → PairsEach n ps → (x : ℕ) → 1 ≤ ends_at ps x → x < n
-ends_below n ps each x some = below_case (nat_lt x n) x n (ends_at ps x) refl (each x) some
+ends_below : (n : ℕ) (ps : List Pair) → IsPerfectMatching n ps → (x : ℕ) → 1 ≤ pair_ends_at ps x → x < n
+ends_below n ps each x some = below_case (nat_lt x n) x n (pair_ends_at ps x) refl (each x) some
 
-pub none_cheaper : (t : TableValue) (pairs : List Pair) (moats : List Moat) → IsMatching t pairs moats
-    → (others : List Pair) → PairsEach t.places others → cost_of t pairs ≤ cost_of t others
+pub none_cheaper : (t : TableValue) (pairs : List Pair) (moats : List Moat) → IsOptimalMatching t pairs moats
+    → (others : List Pair) → IsPerfectMatching t.places others → pairs_cost t pairs ≤ pairs_cost t others
 none_cheaper t pairs moats is others each = omega (
   arith,
   is.paid,

@@ -7,34 +7,34 @@ pub mod OpenLemmas
 pub mod MoatLemmas
 pub mod LeastLemmas
 mod LimitFacts
-mod RowFacts
+mod SlackRowFacts
 mod SetFacts
 pub mod TakenLemmas
 pub mod TreeLemmas
 pub mod AugmentLemmas
-pub mod SeatLemmas
+pub mod HandleLemmas
 pub mod SlotLemmas
 pub mod MatchLemmas
 pub mod ClosingLemmas
 pub mod ChainLemmas
 pub mod ShrinkLemmas
 pub mod ShrunkLemmas
-pub mod MirrorLemmas
-pub mod LayLemmas
+pub mod ReversalLemmas
+pub mod SplitLemmas
 pub mod ExpandLemmas
 pub mod FreedLemmas
 pub mod SearchLemmas
 pub mod FreeLemmas
-pub mod StandLemmas
+pub mod PartialMatchingLemmas
 pub mod RaisedLemmas
 pub mod ScanLemmas
-pub mod RowLemmas
-pub mod ReachLemmas
-pub mod AimLemmas
+pub mod SlackRowLemmas
+pub mod OuterSlackLemmas
+pub mod CandidateLemmas
 pub mod MaskLemmas
 pub mod BoundLemmas
 pub mod DualLemmas
 pub mod LoweredLemmas
 pub mod EndLemmas
 pub mod AdjustmentLemmas
-pub mod PriceLemmas
+pub mod InitialDualLemmas

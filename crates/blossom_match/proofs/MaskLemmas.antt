@@ -3,15 +3,15 @@ use Rattle.std.proofs.Common.{◌≡◌, ℕ, ◌+◌, ◌≤◌, ◌<◌, ◌�
 use Rattle.std.proofs.lemmas.Bool.{cases_lt}
 use Rattle.std.proofs.lemmas.List.{take-append-drop}
 use Rattle.std.proofs.Math.Seq.{drop-append_seam}
-use Rattle.blossom_match.specs.Bands.{NestValue, count}
-use Rattle.blossom_match.specs.Matches.{match_members}
+use Rattle.blossom_match.specs.DualSets.{OddSetValue, count}
+use Rattle.blossom_match.specs.MatchedSets.{match_members}
 use Rattle.blossom_match.specs.Trees.{inner_members, outer_members}
-use Rattle.blossom_match.specs.Searches.{height_at, Advances, CanStepAt, ComesApart, HangsOn, IsSearch}
-use Rattle.blossom_match.specs.Rows.{Puts}
-use Rattle.blossom_match.specs.Masks.{branch_members, shown, IsShown, Masks, SearchMasks}
+use Rattle.blossom_match.specs.Searches.{stored_height, Advances, CanStepAt, ExpandsBranch, GrowsBranch, IsSearch}
+use Rattle.blossom_match.specs.SlackRows.{SetsCells}
+use Rattle.blossom_match.specs.Masks.{branch_members, masked_slack, IsMaskedSlack, IsMask, IsSearchMask}
 use Rattle.blossom_match.specs.TableValue.{TableValue}
 use Rattle.blossom_match.specs.Values.{BranchValue, MatchValue, SearchValue}
-use Rattle.blossom_match.specs.declared.search.Step.{Step}
+use Rattle.blossom_match.specs.declared.search.SearchStep.{SearchStep}
 use Rattle.blossom_match.specs.declared.table.TheConstants.{FAR}
 use Rattle.blossom_match.proofs.ListLemmas.{mapped_at, take_here}
 use Rattle.blossom_match.proofs.SumLemmas.{count-append, members-append, members_push}
@@ -19,13 +19,13 @@ use Rattle.blossom_match.proofs.MatchLemmas.{match_here}
 use Rattle.blossom_match.proofs.SearchLemmas.{is_one, place_in}
 
 -- cells of two lists, one after the other
-join_case : (n : ℕ) (left : ℕ) (xs ys old mid new : List ℕ) (x : ℕ) → count x ys ≡ n → 1 ≤ count x xs + n → Puts left xs old mid
-    → Puts left ys mid new → get_or new x 0 ≡ left
+join_case : (n : ℕ) (left : ℕ) (xs ys old mid new : List ℕ) (x : ℕ) → count x ys ≡ n → 1 ≤ count x xs + n → SetsCells left xs old mid
+    → SetsCells left ys mid new → get_or new x 0 ≡ left
 join_case zero left xs ys old mid new x e here one two = two.off x e ∙ one.on x (omega (arith, here))
 join_case (suc n) left xs ys old mid new x e here one two = two.on x (omega (arith, e))
 
-pub puts_join : (left : ℕ) (xs ys zs old mid new : List ℕ) → ((x : ℕ) → count x zs ≡ count x xs + count x ys) → Puts left xs old mid
-    → Puts left ys mid new → Puts left zs old new
+pub puts_join : (left : ℕ) (xs ys zs old mid new : List ℕ) → ((x : ℕ) → count x zs ≡ count x xs + count x ys) → SetsCells left xs old mid
+    → SetsCells left ys mid new → SetsCells left zs old new
 puts_join left xs ys zs old mid new all one two = record {
   on = λ x here. join_case (count x ys) left xs ys old mid new x refl (omega (arith, here, all x)) one two;
   off = λ x none. two.off x (omega (arith, none, all x)) ∙ one.off x (omega (arith, none, all x));
@@ -33,8 +33,8 @@ puts_join left xs ys zs old mid new all one two = record {
 
 -- one match more
 pub puts_match : (left : ℕ) (cs : List MatchValue) (i : ℕ) (c : MatchValue) (old now mid new : List ℕ) → i < length cs
-    → c ≡ get_or cs i c → Puts left (match_members (take i cs)) old now → Puts left c.first.members now mid
-    → Puts left c.second.members mid new → Puts left (match_members (take (i + 1) cs)) old new
+    → c ≡ get_or cs i c → SetsCells left (match_members (take i cs)) old now → SetsCells left c.first.members now mid
+    → SetsCells left c.second.members mid new → SetsCells left (match_members (take (i + 1) cs)) old new
 puts_match left cs i c old now mid new low is one two three =
     let both = c.first.members ++ c.second.members in
     let at = λ (x : ℕ). count-append x c.first.members c.second.members in
@@ -60,35 +60,35 @@ match_within x cs i c low is =
 
 -- a mask computed from the beginning
 pub masks_anew : (places old new : List ℕ) → ((x : ℕ) → 1 ≤ count x places → x < length new) → length new ≡ length old
-    → ((x : ℕ) → x < length old → get_or old x 0 ≡ FAR) → Puts 0 places old new → Masks places new
+    → ((x : ℕ) → x < length old → get_or old x 0 ≡ FAR) → SetsCells 0 places old new → IsMask places new
 masks_anew places old new within size far k = record {
   within = within;
   on = k.on;
   off = λ x low none. k.off x none ∙ far x (omega (arith, low, size));
 }
 
-more_case : (n : ℕ) (places more old new : List ℕ) (x : ℕ) → count x more ≡ n → 1 ≤ count x places + n → Masks places old
-    → Puts 0 more old new → get_or new x 0 ≡ 0
+more_case : (n : ℕ) (places more old new : List ℕ) (x : ℕ) → count x more ≡ n → 1 ≤ count x places + n → IsMask places old
+    → SetsCells 0 more old new → get_or new x 0 ≡ 0
 more_case zero places more old new x e here m k = k.off x e ∙ m.on x (omega (arith, here))
 more_case (suc n) places more old new x e here m k = k.on x (omega (arith, e))
 
 -- one that shows more places
 masks_more : (places more all old new : List ℕ) → ((x : ℕ) → count x all ≡ count x places + count x more)
-    → ((x : ℕ) → 1 ≤ count x all → x < length new) → length new ≡ length old → Masks places old → Puts 0 more old new → Masks all new
+    → ((x : ℕ) → 1 ≤ count x all → x < length new) → length new ≡ length old → IsMask places old → SetsCells 0 more old new → IsMask all new
 masks_more places more all old new sum within size m k = record {
   within = within;
   on = λ x here. more_case (count x more) places more old new x refl (omega (arith, here, sum x)) m k;
   off = λ x low none. k.off x (omega (arith, none, sum x)) ∙ m.off x (omega (arith, low, size)) (omega (arith, none, sum x));
 }
 
-less_case : (n : ℕ) (places gone old new : List ℕ) (x : ℕ) → count x gone ≡ n → count x places ≡ n → x < length old → Masks places old
-    → Puts FAR gone old new → get_or new x 0 ≡ FAR
+less_case : (n : ℕ) (places gone old new : List ℕ) (x : ℕ) → count x gone ≡ n → count x places ≡ n → x < length old → IsMask places old
+    → SetsCells FAR gone old new → get_or new x 0 ≡ FAR
 less_case zero places gone old new x e none low m k = k.off x e ∙ m.off x low none
 less_case (suc n) places gone old new x e here low m k = k.on x (omega (arith, e))
 
 -- one that shows fewer
 masks_less : (places gone all old new : List ℕ) → ((x : ℕ) → count x places ≡ count x all + count x gone) → ((x : ℕ) → count x places ≤ 1)
-    → length new ≡ length old → Masks places old → Puts FAR gone old new → Masks all new
+    → length new ≡ length old → IsMask places old → SetsCells FAR gone old new → IsMask all new
 masks_less places gone all old new sum once size m k = record {
   within = λ x here. omega (arith, m.within x (omega (arith, here, sum x)), size);
   on = λ x here. k.off x (omega (arith, here, sum x, once x)) ∙ m.on x (omega (arith, here, sum x));
@@ -97,10 +97,10 @@ masks_less places gone all old new sum once size m k = record {
 }
 
 -- the matches stay
-pub masks_same : (t : TableValue) (s r : SearchValue) (mask : List ℕ) → r.rest ≡ s.rest → SearchMasks t s mask → SearchMasks t r mask
+pub masks_same : (t : TableValue) (s r : SearchValue) (mask : List ℕ) → r.rest ≡ s.rest → IsSearchMask t s mask → IsSearchMask t r mask
 masks_same t s r mask e m = record {
   size = m.size;
-  masks = subst (λ (cs : List MatchValue). Masks (match_members cs) mask) (sym e) m.masks;
+  masks = subst (λ (cs : List MatchValue). IsMask (match_members cs) mask) (sym e) m.masks;
 }
 
 dropped_in : (x n : ℕ) (cs : List MatchValue) → count x (match_members (drop n cs)) ≤ count x (match_members cs)
@@ -119,14 +119,14 @@ have_cells t h s n mask i size x here =
     omega (arith, low, size)
 
 -- the search that the step leads to
-pub next_search : (t : TableValue) (s r : SearchValue) (st now : Step) → st ≡ now → CanStepAt t s st → Advances s now r
-    → IsSearch t (height_at s) r
+pub next_search : (t : TableValue) (s r : SearchValue) (st now : SearchStep) → st ≡ now → CanStepAt t s st → Advances s now r
+    → IsSearch t (stored_height s) r
 next_search t s r st now e k adv =
-    let on = subst (λ (st : Step). CanStepAt t s st) e k in
-    adv.search t (height_at s) on.search on.ready
+    let on = subst (λ (st : SearchStep). CanStepAt t s st) e k in
+    adv.search t (stored_height s) on.search on.ready
 
 -- the matches of before are those after it and the branch
-hung_out : (t : TableValue) (h : ℕ → ℕ) (s r : SearchValue) → IsSearch t h s → IsSearch t h r → (hangs : HangsOn s r) → r.free ≡ s.free
+hung_out : (t : TableValue) (h : ℕ → ℕ) (s r : SearchValue) → IsSearch t h s → IsSearch t h r → (hangs : GrowsBranch s r) → r.free ≡ s.free
     → (x : ℕ) → count x (match_members s.rest) ≡ count x (match_members r.rest) + count x (branch_members hangs.branch)
 hung_out t h s r i j hangs free x =
     let b = hangs.branch in
@@ -134,7 +134,7 @@ hung_out t h s r i j hangs free x =
       arith,
       i.places x,
       j.places x,
-      ap (λ (v : NestValue). count x (outer_members v.members r.tree)) hangs.root,
+      ap (λ (v : OddSetValue). count x (outer_members v.members r.tree)) hangs.root,
       ap (λ (ks : List BranchValue). count x (outer_members s.root.members ks)) hangs.tree,
       members_push,
       ap (λ (ks : List BranchValue). count x (inner_members ks)) hangs.tree,
@@ -154,34 +154,35 @@ newest_is {X} {Y} f xs i x ys y is e at =
     ∙ subst (λ (n : ℕ). get_or (ys ++ y ∷ []) n (f x) ≡ y) (sym at) (last_here ys y (f x))
 
 -- a match that moved into the tree was shown
-pub hides_there : (t : TableValue) (s r : SearchValue) (st now : Step) (b : BranchValue) (mask : List ℕ) → st ≡ now → CanStepAt t s st
-    → Advances s now r → (hangs : HangsOn s r) → b ≡ hangs.branch → SearchMasks t s mask → (x : ℕ) → 1 ≤ count x (branch_members b)
+pub hides_there : (t : TableValue) (s r : SearchValue) (st now : SearchStep) (b : BranchValue) (mask : List ℕ) → st ≡ now → CanStepAt t s st
+    → Advances s now r → (hangs : GrowsBranch s r) → b ≡ hangs.branch → IsSearchMask t s mask → (x : ℕ) → 1 ≤ count x (branch_members b)
     → x < length mask
 hides_there t s r st now b mask e k adv hangs is m x here =
     m.masks.within x (omega (
       arith,
       here,
       ap (λ (c : BranchValue). count x (branch_members c)) is,
-      hung_out t (height_at s) s r k.search (next_search t s r st now e k adv) hangs adv.free x,
+      hung_out t (stored_height s) s r k.search (next_search t s r st now e k adv) hangs adv.free x,
     ))
 
 -- and is hidden then
-pub masks_hung : (t : TableValue) (s r : SearchValue) (st now : Step) (b : BranchValue) (old new : List ℕ) → st ≡ now → CanStepAt t s st
-    → Advances s now r → (hangs : HangsOn s r) → b ≡ hangs.branch → SearchMasks t s old → length new ≡ length old
-    → Puts FAR (branch_members b) old new → SearchMasks t r new
+pub masks_hung : (t : TableValue) (s r : SearchValue) (st now : SearchStep) (b : BranchValue) (old new : List ℕ) → st ≡ now
+    → CanStepAt t s st
+    → Advances s now r → (hangs : GrowsBranch s r) → b ≡ hangs.branch → IsSearchMask t s old → length new ≡ length old
+    → SetsCells FAR (branch_members b) old new → IsSearchMask t r new
 masks_hung t s r st now b old new e k adv hangs is m size puts =
-    let out = hung_out t (height_at s) s r k.search (next_search t s r st now e k adv) hangs adv.free in
+    let out = hung_out t (stored_height s) s r k.search (next_search t s r st now e k adv) hangs adv.free in
     record {
       size = size ∙ m.size;
       masks = masks_less (match_members s.rest) (branch_members hangs.branch) (match_members r.rest) old new out
           (λ x. omega (arith, k.search.places x, is_one t x)) size m.masks
-          (subst (λ (c : BranchValue). Puts FAR (branch_members c) old new) is puts);
+          (subst (λ (c : BranchValue). SetsCells FAR (branch_members c) old new) is puts);
     }
 
 -- matches more are shown
 pub masks_apart : (t : TableValue) (h : ℕ → ℕ) (s r : SearchValue) (at n : ℕ) (old new : List ℕ) → IsSearch t h r
-    → (apart : ComesApart at s r) → n ≡ length s.rest → SearchMasks t s old → length new ≡ length old
-    → Puts 0 (match_members (drop n r.rest)) old new → SearchMasks t r new
+    → (apart : ExpandsBranch at s r) → n ≡ length s.rest → IsSearchMask t s old → length new ≡ length old
+    → SetsCells 0 (match_members (drop n r.rest)) old new → IsSearchMask t r new
 masks_apart t h s r at n old new j apart e m size puts =
     let more : drop n r.rest ≡ apart.more = ap (λ (cs : List MatchValue). drop n cs) apart.rest
     ∙ subst (λ (i : ℕ). drop i (s.rest ++ apart.more) ≡ apart.more) (sym e) (drop-append_seam s.rest apart.more) in
@@ -190,32 +191,34 @@ masks_apart t h s r at n old new j apart e m size puts =
       masks = masks_more (match_members s.rest) (match_members apart.more) (match_members r.rest) old new
           (λ x. omega (arith, members-append, ap (λ (cs : List MatchValue). count x (match_members cs)) apart.rest))
           (have_cells t h r 0 new j (size ∙ m.size)) size m.masks
-          (subst (λ (cs : List MatchValue). Puts 0 (match_members cs) old new) more puts);
+          (subst (λ (cs : List MatchValue). SetsCells 0 (match_members cs) old new) more puts);
     }
 
-shown_case : (hs reach mask : List ℕ) (i old new : ℕ) → new ≡ min (shown hs reach mask i) old → i < length reach
-    → (old < FAR → IsShown hs reach mask old) → new < FAR → (shown hs reach mask i < old) ⊎ (old ≤ shown hs reach mask i)
-    → IsShown hs reach mask new
+shown_case : (hs reach mask : List ℕ) (i old new : ℕ) → new ≡ min (masked_slack hs reach mask i) old → i < length reach
+    → (old < FAR → IsMaskedSlack hs reach mask old) → new < FAR → (masked_slack hs reach mask i < old)
+    ⊎ (old ≤ masked_slack hs reach mask i)
+    → IsMaskedSlack hs reach mask new
 shown_case hs reach mask i old new is low was near (inl less) =
     record { place = i; within = low; exact = omega (arith, is, less) }
 shown_case hs reach mask i old new is low was near (inr more) =
     let same : new ≡ old = omega (arith, is, more) in
-    subst (λ (n : ℕ). IsShown hs reach mask n) (sym same) (was (omega (arith, same, near)))
+    subst (λ (n : ℕ). IsMaskedSlack hs reach mask n) (sym same) (was (omega (arith, same, near)))
 
 -- the lesser of what is shown so far and at the next place
-pub shown_next : (hs reach mask : List ℕ) (i old new : ℕ) → new ≡ min (shown hs reach mask i) old → i < length reach
-    → (old < FAR → IsShown hs reach mask old) → new < FAR → IsShown hs reach mask new
+pub shown_next : (hs reach mask : List ℕ) (i old new : ℕ) → new ≡ min (masked_slack hs reach mask i) old → i < length reach
+    → (old < FAR → IsMaskedSlack hs reach mask old) → new < FAR → IsMaskedSlack hs reach mask new
 shown_next hs reach mask i old new is low was near =
-    shown_case hs reach mask i old new is low was near (cases_lt (shown hs reach mask i) old)
+    shown_case hs reach mask i old new is low was near (cases_lt (masked_slack hs reach mask i) old)
 
-least_case : (hs reach mask : List ℕ) (i old new x : ℕ) → new ≡ min (shown hs reach mask i) old → (x < i → old ≤ shown hs reach mask x)
-    → x < i + 1 → (x < i) ⊎ (i ≤ x) → new ≤ shown hs reach mask x
+least_case : (hs reach mask : List ℕ) (i old new x : ℕ) → new ≡ min (masked_slack hs reach mask i) old
+    → (x < i → old ≤ masked_slack hs reach mask x)
+    → x < i + 1 → (x < i) ⊎ (i ≤ x) → new ≤ masked_slack hs reach mask x
 least_case hs reach mask i old new x is was low (inl less) = omega (arith, is, was less)
 least_case hs reach mask i old new x is was low (inr more) =
     let same : x ≡ i = omega (arith, low, more) in
-    subst (λ (y : ℕ). new ≤ shown hs reach mask y) (sym same) (omega (arith, is))
+    subst (λ (y : ℕ). new ≤ masked_slack hs reach mask y) (sym same) (omega (arith, is))
 
 -- and no place so far has less
-pub least_next : (hs reach mask : List ℕ) (i old new : ℕ) → new ≡ min (shown hs reach mask i) old
-    → ((x : ℕ) → x < i → old ≤ shown hs reach mask x) → (x : ℕ) → x < i + 1 → new ≤ shown hs reach mask x
+pub least_next : (hs reach mask : List ℕ) (i old new : ℕ) → new ≡ min (masked_slack hs reach mask i) old
+    → ((x : ℕ) → x < i → old ≤ masked_slack hs reach mask x) → (x : ℕ) → x < i + 1 → new ≤ masked_slack hs reach mask x
 least_next hs reach mask i old new is was x low = least_case hs reach mask i old new x is (was x) low (cases_lt x i)

@@ -1,9 +1,9 @@
 -- One match of a list.
 use Rattle.std.proofs.Common.{◌≡◌, ℕ, ◌+◌, ◌≤◌, ◌<◌, suc, List, ◌∷◌, ◌++◌, length, take, drop, get_or, drop-cons, add-one, arith, sym, ap, subst, ◌∙◌}
 use Rattle.std.proofs.lemmas.List.{take-append-drop}
-use Rattle.blossom_match.specs.Bands.{count}
-use Rattle.blossom_match.specs.Matches.{match_members, MatchHolds, FirstMatchHolds}
-use Rattle.blossom_match.specs.Trees.{TakesOut}
+use Rattle.blossom_match.specs.DualSets.{count}
+use Rattle.blossom_match.specs.MatchedSets.{match_members, MatchHolds, FirstMatchHolds}
+use Rattle.blossom_match.specs.Trees.{RemovesMatch}
 use Rattle.blossom_match.specs.Values.{MatchValue}
 use Rattle.blossom_match.proofs.SumLemmas.{count-append}
 
@@ -20,7 +20,7 @@ match_later x cs i c lt is off none some =
 
 pub taken_out : (x : ℕ) (old new : List MatchValue) (i : ℕ) (c : MatchValue) → i < length old → c ≡ get_or old i c → new
     ≡ take i old ++ drop (suc i) old → MatchHolds x old i →
-    TakesOut x old new c
+    RemovesMatch x old new c
 taken_out x old new i c lt is now holds =
     let here : drop i old ≡ c ∷ drop (suc i) old = drop-cons old i c lt ∙ ap (λ (k : MatchValue). k ∷ drop (suc i) old) (sym is) in
     record {

@@ -1,8 +1,8 @@
 -- Worked values of matchings with moats.
 use Rattle.std.proofs.Common.{◌≡◌, ℕ, ◌≤◌, ◌<◌, true, false, List, [], ◌∷◌, refl, sym, arith, ⊎_elim, true≢false}
 use Rattle.blossom_match.specs.TableValue.{TableValue}
-use Rattle.blossom_match.specs.Tables.{IsStored, IsTable, KeepsTriangles, after_set, entry}
-use Rattle.blossom_match.specs.Matchings.{AreLaminar, IsMatching, IsOddMoat, KeepsLoads, PairsEach, cost_of, crosses, ends_at, holds, load_on, width_of}
+use Rattle.blossom_match.specs.Tables.{IsStored, IsTable, HasTriangleInequality, after_set, entry}
+use Rattle.blossom_match.specs.Matchings.{AreLaminar, IsOptimalMatching, IsOddMoat, KeepsMoatLoads, IsPerfectMatching, pairs_cost, crosses_moat, pair_ends_at, moat_holds, moat_load, width_of}
 use Rattle.blossom_match.specs.declared.matching.Moat.{Moat}
 use Rattle.blossom_match.specs.declared.matching.Pair.{Pair}
 
@@ -23,39 +23,39 @@ abbrev four_moats : List Moat
 four_moats = alone 0 ∷ alone 1 ∷ alone 2 ∷ alone 3 ∷ []
 
 -- two pairs hold each of the four places once, and no fifth
-pub known_ends : ends_at two_pairs 2 ≡ 1
+pub known_ends : pair_ends_at two_pairs 2 ≡ 1
 known_ends = refl
 
-pub known_no_end : ends_at two_pairs 4 ≡ 0
+pub known_no_end : pair_ends_at two_pairs 4 ≡ 0
 known_no_end = refl
 
 -- one pair at a place twice has two ends there
-pub known_two_ends : ends_at (pair 1 1 ∷ []) 1 ≡ 2
+pub known_two_ends : pair_ends_at (pair 1 1 ∷ []) 1 ≡ 2
 known_two_ends = refl
 
 -- two steps in all, paid by four halves; two halves lie between any two places
-pub known_cost : cost_of star two_pairs ≡ 2
+pub known_cost : pairs_cost star two_pairs ≡ 2
 known_cost = refl
 
 pub known_width : width_of four_moats ≡ 4
 known_width = refl
 
-pub known_load : load_on four_moats 0 3 ≡ 2
+pub known_load : moat_load four_moats 0 3 ≡ 2
 known_load = refl
 
 -- places 3, 5, 0 and 9 of one axis: the pairs from 3 to 0 and from 5 to 9 are 7 steps
-pub known_line : cost_of (record { places = 4; cells = 0 ∷ 2 ∷ 3 ∷ 6 ∷ 2 ∷ 0 ∷ 5 ∷ 4 ∷ 3 ∷ 5 ∷ 0 ∷ 9 ∷ 6 ∷ 4 ∷ 9 ∷ 0 ∷ [] })
+pub known_line : pairs_cost (record { places = 4; cells = 0 ∷ 2 ∷ 3 ∷ 6 ∷ 2 ∷ 0 ∷ 5 ∷ 4 ∷ 3 ∷ 5 ∷ 0 ∷ 9 ∷ 6 ∷ 4 ∷ 9 ∷ 0 ∷ [] })
     (pair 0 2 ∷ pair 1 3 ∷ []) ≡ 7
 known_line = refl
 
 -- a moat of three places is crossed from inside to outside, and not inside
-pub known_crossing : crosses 1 4 (record { members = 0 ∷ 1 ∷ 2 ∷ []; width = 5 }) ≡ true
+pub known_crossing : crosses_moat 1 4 (record { members = 0 ∷ 1 ∷ 2 ∷ []; width = 5 }) ≡ true
 known_crossing = refl
 
-pub known_no_crossing : crosses 1 2 (record { members = 0 ∷ 1 ∷ 2 ∷ []; width = 5 }) ≡ false
+pub known_no_crossing : crosses_moat 1 2 (record { members = 0 ∷ 1 ∷ 2 ∷ []; width = 5 }) ≡ false
 known_no_crossing = refl
 
-pub known_member : holds (alone 3) 3 ≡ true
+pub known_member : moat_holds (alone 3) 3 ≡ true
 known_member = refl
 
 -- the entry of two places is set both ways, and no other
@@ -80,13 +80,13 @@ abbrev Differ : ℕ → ℕ → Type 0
 Differ m n = m ≡ n → ⊥
 
 -- two pairs are no matching of five places, nor of three
-pub known_left_out : PairsEach 5 two_pairs → ⊥
+pub known_left_out : IsPerfectMatching 5 two_pairs → ⊥
 known_left_out each = none (each 4)
   where
     none : Differ 0 1
     none is = omega (arith, is)
 
-pub known_outside : PairsEach 3 two_pairs → ⊥
+pub known_outside : IsPerfectMatching 3 two_pairs → ⊥
 known_outside each = one (each 3)
   where
     one : Differ 1 0
@@ -123,13 +123,13 @@ known_across laminar = ⊎_elim (λ inside. true≢false (sym (inside 0 refl)))
     (λ other. ⊎_elim (λ around. true≢false (sym (around 3 refl))) (λ beside. true≢false (beside 2 refl)) other) laminar.lie
 
 -- three halves are too much for one step, and the widths are twice the cost
-pub known_heavy : KeepsLoads star (moat (0 ∷ []) 3 ∷ []) → ⊥
+pub known_heavy : KeepsMoatLoads star (moat (0 ∷ []) 3 ∷ []) → ⊥
 known_heavy keeps = heavy (keeps 0 1 (omega arith) (omega arith))
   where
     heavy : 3 ≤ 2 → ⊥
     heavy is = omega (arith, is)
 
-pub known_unpaid : IsMatching star two_pairs (alone 0 ∷ alone 1 ∷ []) → ⊥
+pub known_unpaid : IsOptimalMatching star two_pairs (alone 0 ∷ alone 1 ∷ []) → ⊥
 known_unpaid is = half is.paid
   where
     half : Differ 2 4
@@ -166,7 +166,7 @@ known_round is = round (is.diagonal 1 (omega arith))
     round is = omega (arith, is)
 
 -- 3 steps from 0 to 2 are more than 2 by way of 1
-pub known_shorter : KeepsTriangles (table 3 (0 ∷ 1 ∷ 3 ∷ 1 ∷ 0 ∷ 1 ∷ 3 ∷ 1 ∷ 0 ∷ [])) → ⊥
+pub known_shorter : HasTriangleInequality (table 3 (0 ∷ 1 ∷ 3 ∷ 1 ∷ 0 ∷ 1 ∷ 3 ∷ 1 ∷ 0 ∷ [])) → ⊥
 known_shorter keeps = shorter (keeps 0 1 (omega arith) (omega arith) 2 (omega arith))
   where
     shorter : 3 ≤ 2 → ⊥

@@ -4,11 +4,11 @@ use Rattle.std.specs.List.{list_any}
 use Rattle.std.proofs.lemmas.List.Sums.{sum_by-append, sum_by-cons}
 use Rattle.std.proofs.lemmas.Bool.{lt-ltb}
 use Rattle.blossom_match.specs.Lists.{Each}
-use Rattle.blossom_match.specs.Bands.{apart, count, hit}
+use Rattle.blossom_match.specs.DualSets.{apart, count, one_if_equal}
 use Rattle.blossom_match.specs.TableValue.{TableValue}
 use Rattle.blossom_match.specs.Tables.{entry}
-use Rattle.blossom_match.specs.Matchings.{cost_of, crosses, ends_at, holds, load_on, width_of, AreLaminar}
-use Rattle.blossom_match.specs.Taken.{own_moat, IsOddIn, LieIn}
+use Rattle.blossom_match.specs.Matchings.{pairs_cost, crosses_moat, pair_ends_at, moat_holds, moat_load, width_of, AreLaminar}
+use Rattle.blossom_match.specs.Taken.{moat_of_set, IsOddMoatIn, AreMoatsIn}
 use Rattle.blossom_match.specs.declared.matching.Moat.{Moat}
 use Rattle.blossom_match.specs.declared.matching.Pair.{Pair}
 use Rattle.blossom_match.proofs.ListLemmas.{each-append, each-map, pairs-append}
@@ -42,7 +42,7 @@ counted x xs some = counted_case (count x xs) x xs refl some
 
 -- a moat that holds exactly one of two places, by counts
 crossing_case : (a b w ca cb : ℕ) (ms : List ℕ) → count a ms ≡ ca → count b ms ≡ cb → ca ≤ 1 → cb ≤ 1 →
-    cond (crosses a b (record { members = ms; width = w })) w 0 ≡ w * apart ca cb
+    cond (crosses_moat a b (record { members = ms; width = w })) w 0 ≡ w * apart ca cb
 crossing_case a b w zero zero ms ea eb pa pb = rw (none_counted a ms ea, none_counted b ms eb) (omega arith)
 crossing_case a b w zero (suc zero) ms ea eb pa pb = rw (none_counted a ms ea, any_counted b ms (omega (arith, eb))) (omega arith)
 crossing_case a b w (suc zero) zero ms ea eb pa pb = rw (any_counted a ms (omega (arith, ea)), none_counted b ms eb) (omega arith)
@@ -52,28 +52,29 @@ crossing_case a b w (suc (suc n)) cb ms ea eb pa pb = absurd (omega arith)
 crossing_case a b w zero (suc (suc n)) ms ea eb pa pb = absurd (omega arith)
 crossing_case a b w (suc zero) (suc (suc n)) ms ea eb pa pb = absurd (omega arith)
 
-pub crossing : (a b w : ℕ) (ms : List ℕ) → count a ms ≤ 1 → count b ms ≤ 1 → cond (crosses a b (record { members = ms; width = w })) w 0
+pub crossing : (a b w : ℕ) (ms : List ℕ) → count a ms ≤ 1 → count b ms ≤ 1
+    → cond (crosses_moat a b (record { members = ms; width = w })) w 0
     ≡ w * apart (count a ms) (count b ms)
 crossing a b w ms pa pb = crossing_case a b w (count a ms) (count b ms) ms refl refl pa pb
 
-own_wide : (w : ℕ) (ms : List ℕ) → own_moat ms (suc w) ≡ record { members = ms; width = suc w } ∷ []
+own_wide : (w : ℕ) (ms : List ℕ) → moat_of_set ms (suc w) ≡ record { members = ms; width = suc w } ∷ []
 own_wide w ms = rw (lt-ltb 0 (suc w) (omega arith)) refl
 
 -- one moat more
-pub load_own : (a b w : ℕ) (ms : List ℕ) (was : List Moat) → count a ms ≤ 1 → count b ms ≤ 1 → load_on (was ++ own_moat ms w) a b
-    ≡ load_on was a b + w * apart (count a ms) (count b ms)
-load_own a b zero ms was pa pb = omega (arith, sum_by-append (λ (m : Moat). cond (crosses a b m) m.width 0) was [])
+pub load_own : (a b w : ℕ) (ms : List ℕ) (was : List Moat) → count a ms ≤ 1 → count b ms ≤ 1 → moat_load (was ++ moat_of_set ms w) a b
+    ≡ moat_load was a b + w * apart (count a ms) (count b ms)
+load_own a b zero ms was pa pb = omega (arith, sum_by-append (λ (m : Moat). cond (crosses_moat a b m) m.width 0) was [])
 load_own a b (suc w) ms was pa pb =
     let m : Moat = record { members = ms; width = suc w } in
     rw (own_wide w ms) (omega (
       arith,
-      sum_by-append (λ (k : Moat). cond (crosses a b k) k.width 0) was (m ∷ []),
+      sum_by-append (λ (k : Moat). cond (crosses_moat a b k) k.width 0) was (m ∷ []),
       sum_by-cons
-          (λ (k : Moat). cond (crosses a b k) k.width 0) m [],
+          (λ (k : Moat). cond (crosses_moat a b k) k.width 0) m [],
       crossing a b (suc w) ms pa pb,
     ))
 
-pub width_own : (w : ℕ) (ms : List ℕ) (was : List Moat) → width_of (was ++ own_moat ms w) ≡ width_of was + w
+pub width_own : (w : ℕ) (ms : List ℕ) (was : List Moat) → width_of (was ++ moat_of_set ms w) ≡ width_of was + w
 width_own zero ms was = omega (arith, sum_by-append (λ (m : Moat). m.width) was [])
 width_own (suc w) ms was = rw (own_wide w ms) (omega (
   arith,
@@ -85,10 +86,12 @@ pub width-append : (xs ys : List Moat) → width_of (xs ++ ys) ≡ width_of xs +
 width-append xs ys = sum_by-append (λ (m : Moat). m.width) xs ys
 
 -- one pair more
-pub cost_push : (t : TableValue) (ps : List Pair) (a b : ℕ) → cost_of t (ps ++ record { a = a; b = b } ∷ []) ≡ cost_of t ps + entry t a b
+pub cost_push : (t : TableValue) (ps : List Pair) (a b : ℕ)
+    → pairs_cost t (ps ++ record { a = a; b = b } ∷ []) ≡ pairs_cost t ps + entry t a b
 cost_push t ps a b = omega (arith, sum_by-append (λ (p : Pair). entry t p.a p.b) ps (record { a = a; b = b } ∷ []))
 
-pub ends_push : (x : ℕ) (ps : List Pair) (a b : ℕ) → ends_at (ps ++ record { a = a; b = b } ∷ []) x ≡ ends_at ps x + (hit x a + hit x b)
+pub ends_push : (x : ℕ) (ps : List Pair) (a b : ℕ)
+    → pair_ends_at (ps ++ record { a = a; b = b } ∷ []) x ≡ pair_ends_at ps x + (one_if_equal x a + one_if_equal x b)
 ends_push x ps a b = omega (
   arith,
   sum_by-append (λ (p : Pair). cond (eqb x p.a) 1 0 + cond (eqb x p.b) 1 0) ps
@@ -96,9 +99,10 @@ ends_push x ps a b = omega (
 )
 
 -- the same moats among more places
-pub lie_more : (ps qs : List ℕ) (ms : List Moat) → ((x : ℕ) → count x ps ≤ count x qs) → LieIn ps ms → LieIn qs ms
+pub lie_more : (ps qs : List ℕ) (ms : List Moat) → ((x : ℕ) → count x ps ≤ count x qs) → AreMoatsIn ps ms → AreMoatsIn qs ms
 lie_more ps qs ms more l = record {
-  each = each-map (IsOddIn ps) (IsOddIn qs) (λ m o. record { odd = o.odd; within = λ x. omega (arith, o.within x, more x); wide = o.wide })
+  each = each-map (IsOddMoatIn ps) (IsOddMoatIn qs)
+      (λ m o. record { odd = o.odd; within = λ x. omega (arith, o.within x, more x); wide = o.wide })
       ms l.each;
   apart = l.apart;
 }
@@ -106,53 +110,57 @@ lie_more ps qs ms more l = record {
 differ_by : (p q : Bool) → p ≡ true → q ≡ false → p ≢ q
 differ_by p q e f g = true_false (sym e ∙ g ∙ f)
 
-inside_own : (own m : Moat) (ps : List ℕ) (x : ℕ) → IsOddIn ps m → count x ps ≡ 0 → 1 ≤ count x own.members
+inside_own : (own m : Moat) (ps : List ℕ) (x : ℕ) → IsOddMoatIn ps m → count x ps ≡ 0 → 1 ≤ count x own.members
     → ((y : ℕ) → count y ps ≤ count y own.members) → AreLaminar own m
 inside_own own m ps x o none here more = record {
-  differ = (x, differ_by (holds own x) (holds m x) (any_counted x own.members here) (none_counted x m.members (omega (arith, o.within x))));
+  differ = (
+    x,
+    differ_by (moat_holds own x) (moat_holds m x) (any_counted x own.members here)
+        (none_counted x m.members (omega (arith, o.within x))),
+  );
   lie = inr (inl (λ y some. any_counted y own.members (omega (arith, o.within y, more y, counted y m.members some))));
 }
 
 -- a set is different from those inside it that miss one of its places
-around : (own : Moat) (ps : List ℕ) (x : ℕ) (ms : List Moat) → Each (IsOddIn ps) ms → count x ps ≡ 0 → 1 ≤ count x own.members →
+around : (own : Moat) (ps : List ℕ) (x : ℕ) (ms : List Moat) → Each (IsOddMoatIn ps) ms → count x ps ≡ 0 → 1 ≤ count x own.members →
     ((y : ℕ) → count y ps ≤ count y own.members) → Each (AreLaminar own) ms
-around own ps x ms each none here more = each-map (IsOddIn ps) (AreLaminar own) (λ m o. inside_own own m ps x o none here more) ms each
+around own ps x ms each none here more = each-map (IsOddMoatIn ps) (AreLaminar own) (λ m o. inside_own own m ps x o none here more) ms each
 
-beside : (m k : Moat) (ps qs : List ℕ) → IsOddIn ps m → IsOddIn qs k → ((x : ℕ) → count x ps + count x qs ≤ 1) → AreLaminar m k
+beside : (m k : Moat) (ps qs : List ℕ) → IsOddMoatIn ps m → IsOddMoatIn qs k → ((x : ℕ) → count x ps + count x qs ≤ 1) → AreLaminar m k
 beside m k ps qs o u once =
     let some = some_member m.members (omega (arith, o.odd)) in
     record {
       differ = (
         some.0,
-        differ_by (holds m some.0) (holds k some.0) (any_counted some.0 m.members some.1)
+        differ_by (moat_holds m some.0) (moat_holds k some.0) (any_counted some.0 m.members some.1)
             (none_counted some.0 k.members (omega (arith, some.1, o.within some.0, u.within some.0, once some.0))),
       );
       lie = inr (inr (λ y here. none_counted y k.members (omega (arith, counted y m.members here, o.within y, u.within y, once y))));
     }
 
 -- moats among places apart
-pub lie_both : (ps qs all : List ℕ) (ms ks : List Moat) → LieIn ps ms → LieIn qs ks → ((x : ℕ) → count x ps + count x qs ≤ 1) →
-    ((x : ℕ) → count x ps + count x qs ≤ count x all) → LieIn all (ms ++ ks)
+pub lie_both : (ps qs all : List ℕ) (ms ks : List Moat) → AreMoatsIn ps ms → AreMoatsIn qs ks → ((x : ℕ) → count x ps + count x qs ≤ 1) →
+    ((x : ℕ) → count x ps + count x qs ≤ count x all) → AreMoatsIn all (ms ++ ks)
 lie_both ps qs all ms ks l r once more =
     let a = lie_more ps all ms (λ x. omega (arith, more x)) l in
     let b = lie_more qs all ks (λ x. omega (arith, more x)) r in
     record {
-      each = each-append (IsOddIn all) ms ks a.each b.each;
+      each = each-append (IsOddMoatIn all) ms ks a.each b.each;
       apart = pairs-append AreLaminar ms ks l.apart r.apart
-          (each-map (IsOddIn ps) (λ (m : Moat). Each (AreLaminar m) ks)
-          (λ m o. each-map (IsOddIn qs) (AreLaminar m) (λ k u. beside m k ps qs o u once) ks r.each) ms l.each);
+          (each-map (IsOddMoatIn ps) (λ (m : Moat). Each (AreLaminar m) ks)
+          (λ m o. each-map (IsOddMoatIn qs) (AreLaminar m) (λ k u. beside m k ps qs o u once) ks r.each) ms l.each);
     }
 
 -- the set's own moat before those inside it, in two groups that each miss one of its places
-pub lie_own : (w : ℕ) (own ps qs : List ℕ) (ms ks : List Moat) (x y : ℕ) → length own % 2 ≡ 1 → LieIn ps ms → LieIn qs ks
+pub lie_own : (w : ℕ) (own ps qs : List ℕ) (ms ks : List Moat) (x y : ℕ) → length own % 2 ≡ 1 → AreMoatsIn ps ms → AreMoatsIn qs ks
     → ((z : ℕ) → count z ps + count z qs ≤ 1) →
     ((z : ℕ) → count z ps + count z qs ≤ count z own) → count x ps ≡ 0 → 1 ≤ count x own → count y qs ≡ 0 → 1 ≤ count y own
-    → LieIn own (own_moat own w ++ (ms ++ ks))
+    → AreMoatsIn own (moat_of_set own w ++ (ms ++ ks))
 lie_own zero own ps qs ms ks x y odd l r once more px ox qy oy = lie_both ps qs own ms ks l r once more
 lie_own (suc w) own ps qs ms ks x y odd l r once more px ox qy oy =
     let rest = lie_both ps qs own ms ks l r once more in
     let m : Moat = record { members = own; width = suc w } in
-    subst (λ (os : List Moat). LieIn own (os ++ (ms ++ ks))) (sym (own_wide w own)) (record {
+    subst (λ (os : List Moat). AreMoatsIn own (os ++ (ms ++ ks))) (sym (own_wide w own)) (record {
       each = (record { odd = odd; within = λ z. omega arith; wide = omega arith }, rest.each);
       apart = (
         each-append (AreLaminar m) ms ks (around m ps x ms l.each px ox (λ z. omega (arith, more z)))
@@ -161,5 +169,5 @@ lie_own (suc w) own ps qs ms ks x y odd l r once more px ox qy oy =
       );
     })
 
-pub lie_none : (ps : List ℕ) → LieIn ps []
+pub lie_none : (ps : List ℕ) → AreMoatsIn ps []
 lie_none ps = record { each = tt; apart = tt }

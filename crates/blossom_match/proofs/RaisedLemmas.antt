@@ -1,7 +1,7 @@
 -- Heights raised place by place.
 use Rattle.std.proofs.Common.{◌≡◌, ℕ, ◌+◌, ◌-◌, ◌*◌, ◌<◌, ◌≤◌, ◌≢◌, Bool, true, false, cond, eqb, zero, suc, List, [], ◌∷◌, length, drop, get_or, set, drop-cons, add-one, arith, refl, sym, ap, subst, ◌∙◌, get_or-set_other, get_or-set_same}
 use Rattle.std.proofs.lemmas.Bool.{eqb-true, eqb-false, eq-eqb}
-use Rattle.blossom_match.specs.Bands.{count}
+use Rattle.blossom_match.specs.DualSets.{count}
 use Rattle.blossom_match.specs.Trees.{inner_members, outer_members}
 use Rattle.blossom_match.specs.Values.{BranchValue}
 use Rattle.blossom_match.proofs.ListLemmas.{drop_here}

@@ -3,26 +3,26 @@ use Rattle.std.proofs.Common.{◌≡◌, ℕ, ◌+◌, ◌≤◌, ◌<◌, ◌�
 use Rattle.std.proofs.Math.Seq.{take-length}
 use Rattle.std.proofs.lemmas.List.{take-append-drop}
 use Rattle.blossom_match.specs.Lists.{Each}
-use Rattle.blossom_match.specs.Bands.{NestValue, count}
-use Rattle.blossom_match.specs.Trees.{around, outer_members}
-use Rattle.blossom_match.specs.Bounds.{holding, FirstIsDue, IsDualOf, Narrows, NarrowsAt, BlossomIsDue, DualIsEnough}
+use Rattle.blossom_match.specs.DualSets.{OddSetValue, count}
+use Rattle.blossom_match.specs.Trees.{outer_with_both, outer_members}
+use Rattle.blossom_match.specs.LeastChanges.{count_holding_both, FirstHasDual, IsBranchDual, IsLesserChange, IsLesserChangeAt, IsBlossomDual, AllowsChange}
 use Rattle.blossom_match.specs.Values.{BranchValue}
-use Rattle.blossom_match.specs.declared.least.Change.{Change}
+use Rattle.blossom_match.specs.declared.least.DualChange.{DualChange}
 use Rattle.blossom_match.proofs.ListLemmas.{drop_here, each-map, each-push, take_here}
 use Rattle.blossom_match.proofs.SumLemmas.{count-append, members-append}
 use Rattle.blossom_match.proofs.ChainLemmas.{around_append}
 use Rattle.blossom_match.proofs.TreeLemmas.{base_in}
 
 -- outer sets that do not hold one of the places do not hold both
-pub around_none : (a b : ℕ) (base : List ℕ) (bs : List BranchValue) → count b (outer_members base bs) ≡ 0 → around a b bs ≡ 0
+pub around_none : (a b : ℕ) (base : List ℕ) (bs : List BranchValue) → count b (outer_members base bs) ≡ 0 → outer_with_both a b bs ≡ 0
 around_none a b base [] none = refl
 around_none a b base (c ∷ cs) none =
     omega (arith, around_none a b base cs (omega (arith, count-append, none)), count-append, none)
 
 -- no outer set holds a place of those before and a place of this one
-pub apart_from : (a b : ℕ) (root : NestValue) (bs : List BranchValue) (c : BranchValue) (after : List BranchValue)
+pub apart_from : (a b : ℕ) (root : OddSetValue) (bs : List BranchValue) (c : BranchValue) (after : List BranchValue)
     → ((x : ℕ) → count x (outer_members root.members (bs ++ c ∷ after)) ≤ 1) →
-    1 ≤ count a (outer_members root.members bs) → 1 ≤ count b c.outer.members → holding a b root (bs ++ c ∷ after) ≡ 0
+    1 ≤ count a (outer_members root.members bs) → 1 ≤ count b c.outer.members → count_holding_both a b root (bs ++ c ∷ after) ≡ 0
 apart_from a b root bs c after once ha hb =
     omega (
       arith,
@@ -43,39 +43,39 @@ pub split_here : (tree : List BranchValue) (i : ℕ) (b : BranchValue) → i < l
 split_here tree i b low is = sym (take-append-drop i tree) ∙ ap (λ (ks : List BranchValue). take i tree ++ ks) (drop_here tree i b low is)
 
 -- the blossoms so far
-pub record Narrowing (tree : List BranchValue) (i : ℕ) (old new : Change) : Type 0 where
+pub record Narrowing (tree : List BranchValue) (i : ℕ) (old new : DualChange) : Type 0 where
   pub less : new.by ≤ old.by
-  pub wide : Each (DualIsEnough new.by) (take i tree)
-  pub is : (new ≡ old) ⊎ BlossomIsDue tree new
+  pub wide : Each (AllowsChange new.by) (take i tree)
+  pub is : (new ≡ old) ⊎ IsBlossomDual tree new
 
-narrowing_is : (tree : List BranchValue) (i : ℕ) (b : BranchValue) (o m n : Change) → i < length tree → b ≡ get_or tree i b → (m ≡ o)
-    ⊎ BlossomIsDue tree m → (n ≡ m) ⊎ IsDualOf b i n → (n ≡ o) ⊎ BlossomIsDue tree n
+narrowing_is : (tree : List BranchValue) (i : ℕ) (b : BranchValue) (o m n : DualChange) → i < length tree → b ≡ get_or tree i b → (m ≡ o)
+    ⊎ IsBlossomDual tree m → (n ≡ m) ⊎ IsBranchDual b i n → (n ≡ o) ⊎ IsBlossomDual tree n
 narrowing_is tree i b o m n low is (inl e) (inl f) = inl (f ∙ e)
-narrowing_is tree i b o m n low is (inr e) (inl f) = inr (subst (λ (k : Change). BlossomIsDue tree k) (sym f) e)
+narrowing_is tree i b o m n low is (inr e) (inl f) = inr (subst (λ (k : DualChange). IsBlossomDual tree k) (sym f) e)
 narrowing_is tree i b o m n low is e (inr f) = inr (record {
   at = i;
   step = f.step;
   due =
-      subst (FirstIsDue n.by) (sym (drop_here tree i b low is)) (f.wide, f.some);
+      subst (FirstHasDual n.by) (sym (drop_here tree i b low is)) (f.wide, f.some);
 })
 
-pub narrowing_more : (tree : List BranchValue) (i : ℕ) (b : BranchValue) (o m n : Change) → i < length tree → b ≡ get_or tree i b
-    → Narrowing tree i o m → NarrowsAt b i m n → Narrowing tree (i + 1) o n
+pub narrowing_more : (tree : List BranchValue) (i : ℕ) (b : BranchValue) (o m n : DualChange) → i < length tree → b ≡ get_or tree i b
+    → Narrowing tree i o m → IsLesserChangeAt b i m n → Narrowing tree (i + 1) o n
 narrowing_more tree i b o m n low is one two = record {
   less = omega (arith, one.less, two.less);
-  wide = subst (λ (ks : List BranchValue). Each (DualIsEnough n.by) ks) (sym (take_here tree i b low is))
-      (each-push (DualIsEnough n.by) (take i tree) b (each-map (DualIsEnough m.by) (DualIsEnough n.by)
+  wide = subst (λ (ks : List BranchValue). Each (AllowsChange n.by) ks) (sym (take_here tree i b low is))
+      (each-push (AllowsChange n.by) (take i tree) b (each-map (AllowsChange m.by) (AllowsChange n.by)
       (λ k w some. omega (arith, w some, two.less)) (take i tree) one.wide) two.wide);
   is = narrowing_is tree i b o m n low is one.is two.is;
 }
 
-pub narrowing_start : (tree : List BranchValue) (o : Change) → Narrowing tree 0 o o
+pub narrowing_start : (tree : List BranchValue) (o : DualChange) → Narrowing tree 0 o o
 narrowing_start tree o = record { less = omega arith; wide = tt; is = inl refl }
 
-pub narrowing_done : (tree : List BranchValue) (o n : Change) → Narrowing tree (length tree) o n → Narrows tree o n
+pub narrowing_done : (tree : List BranchValue) (o n : DualChange) → Narrowing tree (length tree) o n → IsLesserChange tree o n
 narrowing_done tree o n r = record {
   less = r.less;
-  wide = subst (λ (ks : List BranchValue). Each (DualIsEnough n.by) ks)
+  wide = subst (λ (ks : List BranchValue). Each (AllowsChange n.by) ks)
       (take-length tree) r.wide;
   is = r.is;
 }

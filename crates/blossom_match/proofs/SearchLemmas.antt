@@ -3,20 +3,20 @@ use Rattle.std.proofs.Common.{◌≡◌, ℕ, ◌+◌, ◌≤◌, ◌<◌, suc, 
 use Rattle.std.proofs.lemmas.Bool.{lt-ltb, ltb-true, ltb-false}
 use Rattle.std.proofs.lemmas.List.{take-append-drop}
 use Rattle.blossom_match.specs.Lists.{Each}
-use Rattle.blossom_match.specs.Bands.{Adds, Band, NestValue, bands, count, height, hit, load, Misses, NoneHold}
-use Rattle.blossom_match.specs.Blossoms.{back_of}
-use Rattle.blossom_match.specs.Matches.{match_members, match_bands, IsJoined}
-use Rattle.blossom_match.specs.Sound.{IsFirm, IsFirmMatch, IsSound, IsSymmetric, IsTight}
-use Rattle.blossom_match.specs.Trees.{branch_bands, branch_sets, hung_by, inner_bands, inner_members, inner_sets, outer_members, outer_sets, IsGrown, TakesOut}
-use Rattle.blossom_match.specs.Shrinks.{Shrinking, Shrinks}
-use Rattle.blossom_match.specs.Lays.{Expands}
-use Rattle.blossom_match.specs.Searches.{height_at, is_place, outers, Advances, CanStep, FreeHaveSlack}
+use Rattle.blossom_match.specs.DualSets.{IsAdditive, DualSet, OddSetValue, dual_sets, count, height, one_if_equal, dual_load, IsOutside, NoneHold}
+use Rattle.blossom_match.specs.Blossoms.{reversed_edge}
+use Rattle.blossom_match.specs.MatchedSets.{match_members, match_dual_sets, IsMatch}
+use Rattle.blossom_match.specs.SoundSets.{IsSoundBranch, IsSoundMatch, IsSoundSet, IsSymmetric, IsTight}
+use Rattle.blossom_match.specs.Trees.{branch_dual_sets, branch_sets, branch_by_edge, inner_dual_sets, inner_members, inner_sets, outer_members, outer_sets, IsAlternatingTree, RemovesMatch}
+use Rattle.blossom_match.specs.Shrinks.{CanShrink, Shrinks}
+use Rattle.blossom_match.specs.Expansions.{Expands}
+use Rattle.blossom_match.specs.Searches.{stored_height, is_place, outer_vertices, Advances, CanStep, FreeHaveSlack}
 use Rattle.blossom_match.specs.TableValue.{TableValue}
-use Rattle.blossom_match.specs.declared.nest.Link.{Link}
+use Rattle.blossom_match.specs.declared.odd_set.TightEdge.{TightEdge}
 use Rattle.blossom_match.specs.Values.{BranchValue, MatchValue, SearchValue}
-use Rattle.blossom_match.specs.declared.search.Step.TheVariants.{Grow, Shrink, Expand}
+use Rattle.blossom_match.specs.declared.search.SearchStep.TheVariants.{Grow, Shrink, Expand}
 use Rattle.blossom_match.proofs.ListLemmas.{each-append, each-left, each-right, each-push}
-use Rattle.blossom_match.proofs.SumLemmas.{bands-append, bands_push, count-append, height-append, load-append, members-append, members_push, none_hold, none_tall, size-append}
+use Rattle.blossom_match.proofs.SumLemmas.{dual_sets-append, bands_push, count-append, height-append, dual_load-append, members-append, members_push, none_hold, none_tall, size-append}
 use Rattle.blossom_match.proofs.ChainLemmas.{tight_back}
 use Rattle.blossom_match.proofs.TableLemmas.{entry-comm}
 use Rattle.blossom_match.proofs.TreeLemmas.{grown_push}
@@ -24,7 +24,7 @@ use Rattle.blossom_match.proofs.TreeLemmas.{grown_push}
 free_none : (x : ℕ) {xs ys : List ℕ} → xs ≡ ys → count x xs ≡ 0 → count x ys ≡ 0
 free_none x e none = omega (arith, none, ap (λ (zs : List ℕ). count x zs) e)
 
-pub shrunk : (key : ℕ) (link : Link) (s r : SearchValue) → Shrinks key link s.root r.root s.tree r.tree → r.rest ≡ s.rest
+pub shrunk : (key : ℕ) (link : TightEdge) (s r : SearchValue) → Shrinks key link s.root r.root s.tree r.tree → r.rest ≡ s.rest
     → r.free ≡ s.free → r.heights ≡ s.heights → Advances s (Shrink link) r
 shrunk key link s r sh e f g = record {
   search = λ t h i ready.
@@ -35,7 +35,7 @@ shrunk key link s r sh e f g = record {
           i.tall x (free_none x f none),
           sh.sums (height x) (height-append x),
           ap
-              (λ (cs : List MatchValue). height x (match_bands cs)) e,
+              (λ (cs : List MatchValue). height x (match_dual_sets cs)) e,
         );
         slack = subst (λ (xs : List ℕ). FreeHaveSlack t h xs) (sym f) i.slack;
         places = λ x. omega (
@@ -47,19 +47,19 @@ shrunk key link s r sh e f g = record {
               (λ (xs : List ℕ). count x xs) f,
         );
         grown = sh.grown;
-        joined = subst (λ (cs : List MatchValue). Each IsJoined cs) (sym e) i.joined;
+        joined = subst (λ (cs : List MatchValue). Each IsMatch cs) (sym e) i.joined;
         root = firm.0;
         tree = firm.1;
-        rest = subst (λ (cs : List MatchValue). Each (IsFirmMatch t h) cs) (sym e) i.rest;
+        rest = subst (λ (cs : List MatchValue). Each (IsSoundMatch t h) cs) (sym e) i.rest;
         loads = λ a b la lb ne. omega (
           arith,
           i.loads a b la lb ne,
-          sh.sums (load a b) (load-append a b),
+          sh.sums (dual_load a b) (dual_load-append a b),
           ap
-              (λ (cs : List MatchValue). load a b (match_bands cs)) e,
+              (λ (cs : List MatchValue). dual_load a b (match_dual_sets cs)) e,
         );
       };
-  fewer = omega (arith, sh.fewer, ap (λ (cs : List MatchValue). length (match_bands cs)) e);
+  fewer = omega (arith, sh.fewer, ap (λ (cs : List MatchValue). length (match_dual_sets cs)) e);
   free = f;
   heights = g;
 }
@@ -75,28 +75,28 @@ came_apart key at s r ex e f g = record {
           i.tall x (free_none x f none),
           ex.sums (height x) (height-append x),
           ap
-              (λ (v : NestValue). height x (bands v)) e,
+              (λ (v : OddSetValue). height x (dual_sets v)) e,
         );
         slack = subst (λ (xs : List ℕ). FreeHaveSlack t h xs) (sym f) i.slack;
         places = λ x. omega (
           arith,
           i.places x,
           ex.places x,
-          ap (λ (v : NestValue). count x (outer_members v.members r.tree)) e,
+          ap (λ (v : OddSetValue). count x (outer_members v.members r.tree)) e,
           ap
               (λ (xs : List ℕ). count x xs) f,
         );
-        grown = subst (λ (v : NestValue). IsGrown v.members r.tree) (sym e) ex.grown;
+        grown = subst (λ (v : OddSetValue). IsAlternatingTree v.members r.tree) (sym e) ex.grown;
         joined = ex.joined i.joined;
-        root = subst (λ (v : NestValue). IsSound t h v) (sym e) i.root;
+        root = subst (λ (v : OddSetValue). IsSoundSet t h v) (sym e) i.root;
         tree = firm.0;
         rest = firm.1;
         loads = λ a b la lb ne. omega (
           arith,
           i.loads a b la lb ne,
-          ex.sums (load a b) (load-append a b),
+          ex.sums (dual_load a b) (dual_load-append a b),
           ap
-              (λ (v : NestValue). load a b (bands v)) e,
+              (λ (v : OddSetValue). dual_load a b (dual_sets v)) e,
         );
       };
   fewer = ex.fewer;
@@ -105,19 +105,19 @@ came_apart key at s r ex e f g = record {
 }
 
 -- what a match's sets are as a branch
-record IsHung (up : Link) (c : MatchValue) (b : BranchValue) : Type 0 where
+record IsHung (up : TightEdge) (c : MatchValue) (b : BranchValue) : Type 0 where
   same : b.up ≡ up
   counts : (x : ℕ) → count x b.inner.members + count x b.outer.members ≡ count x c.first.members + count x c.second.members
-  sums : (F : List Band → ℕ) → F (bands b.inner) + F (bands b.outer) ≡ F (bands c.first) + F (bands c.second)
+  sums : (F : List DualSet → ℕ) → F (dual_sets b.inner) + F (dual_sets b.outer) ≡ F (dual_sets c.first) + F (dual_sets c.second)
   up_to : count up.to b.inner.members ≡ 1
   pair_from : count b.pair.from b.inner.members ≡ 1
   pair_to : count b.pair.to b.outer.members ≡ 1
-  firm : (d : TableValue) (h : ℕ → ℕ) → IsSymmetric d → IsTight d h up → IsFirmMatch d h c → IsFirm d h b
+  firm : (d : TableValue) (h : ℕ → ℕ) → IsSymmetric d → IsTight d h up → IsSoundMatch d h c → IsSoundBranch d h b
 
-hung_case : (b : Bool) (up : Link) (c : MatchValue) → ltb 0 (count up.to c.first.members) ≡ b
-    → count up.to c.first.members + count up.to c.second.members ≡ 1 → IsJoined c
+hung_case : (b : Bool) (up : TightEdge) (c : MatchValue) → ltb 0 (count up.to c.first.members) ≡ b
+    → count up.to c.first.members + count up.to c.second.members ≡ 1 → IsMatch c
     → IsHung up c (cond b (record { up = up; inner = c.first; pair = c.link; outer = c.second })
-    (record { up = up; inner = c.second; pair = back_of c.link; outer = c.first }))
+    (record { up = up; inner = c.second; pair = reversed_edge c.link; outer = c.first }))
 hung_case true up c is one j =
     let some = ltb-true 0 (count up.to c.first.members) is in
     record {
@@ -141,8 +141,8 @@ hung_case false up c is one j =
       firm = λ d h sy t f. record { up = t; pair = tight_back d h c.link sy f.link; inner = f.second; outer = f.first };
     }
 
-hung_is : (up : Link) (c : MatchValue) → count up.to c.first.members + count up.to c.second.members ≡ 1 → IsJoined c
-    → IsHung up c (hung_by up c)
+hung_is : (up : TightEdge) (c : MatchValue) → count up.to c.first.members + count up.to c.second.members ≡ 1 → IsMatch c
+    → IsHung up c (branch_by_edge up c)
 hung_is up c one j = hung_case (ltb 0 (count up.to c.first.members)) up c refl one j
 
 members_split : (x : ℕ) (before after : List MatchValue) (c : MatchValue) →
@@ -151,10 +151,10 @@ members_split : (x : ℕ) (before after : List MatchValue) (c : MatchValue) →
 members_split x before after c =
     omega (arith, members-append, count-append)
 
-bands_split : (F : List Band → ℕ) → Adds F → (before after : List MatchValue) (c : MatchValue) →
-    F (match_bands (before ++ c ∷ after)) ≡ F (match_bands (before ++ after)) + F (bands c.first) + F (bands c.second)
+bands_split : (F : List DualSet → ℕ) → IsAdditive F → (before after : List MatchValue) (c : MatchValue) →
+    F (match_dual_sets (before ++ c ∷ after)) ≡ F (match_dual_sets (before ++ after)) + F (dual_sets c.first) + F (dual_sets c.second)
 bands_split F add before after c =
-    omega (arith, bands-append F add, add)
+    omega (arith, dual_sets-append F add, add)
 
 without : (P : MatchValue → Type 0) (before after : List MatchValue) (c : MatchValue) → Each P (before ++ c ∷ after) → P c × Each P
     (before ++ after)
@@ -182,35 +182,35 @@ in_place t x low = rw (lt-ltb x t.places low) refl
 
 -- the inner set of a match's branch is fewer sets than the match
 abbrev InnerIsFewer : MatchValue → BranchValue → Type 0
-InnerIsFewer c b = length (bands b.inner) < length (bands c.first) + length (bands c.second)
+InnerIsFewer c b = length (dual_sets b.inner) < length (dual_sets c.first) + length (dual_sets c.second)
 
-hung_fewer : (p : Bool) (up : Link) (c : MatchValue) →
+hung_fewer : (p : Bool) (up : TightEdge) (c : MatchValue) →
     InnerIsFewer c (cond p (record { up = up; inner = c.first; pair = c.link; outer = c.second })
-    (record { up = up; inner = c.second; pair = back_of c.link; outer = c.first }))
+    (record { up = up; inner = c.second; pair = reversed_edge c.link; outer = c.first }))
 hung_fewer true up c = omega arith
 hung_fewer false up c = omega arith
 
-pub hung : (link : Link) (s r : SearchValue) (c : MatchValue) → TakesOut link.to s.rest r.rest c → r.tree
-    ≡ s.tree ++ hung_by link c ∷ [] → r.root ≡ s.root → r.free ≡ s.free →
+pub hung : (link : TightEdge) (s r : SearchValue) (c : MatchValue) → RemovesMatch link.to s.rest r.rest c → r.tree
+    ≡ s.tree ++ branch_by_edge link c ∷ [] → r.root ≡ s.root → r.free ≡ s.free →
     r.heights ≡ s.heights → Advances s (Grow link) r
 hung link s r c out g e f same =
-    let b = hung_by link c in
-    let sizes = λ (ks : List Band). length ks in
-    let was = λ (F : List Band → ℕ) (add : Adds F). ap (λ (cs : List MatchValue). F (match_bands cs)) out.was
+    let b = branch_by_edge link c in
+    let sizes = λ (ks : List DualSet). length ks in
+    let was = λ (F : List DualSet → ℕ) (add : IsAdditive F). ap (λ (cs : List MatchValue). F (match_dual_sets cs)) out.was
     ∙ bands_split F add out.before out.after c in
-    let now = λ (F : List Band → ℕ). ap (λ (cs : List MatchValue). F (match_bands cs)) out.now in
+    let now = λ (F : List DualSet → ℕ). ap (λ (cs : List MatchValue). F (match_dual_sets cs)) out.now in
     let held = λ (x : ℕ). ap (λ (cs : List MatchValue). count x (match_members cs)) out.was ∙ members_split x out.before out.after c in
     let kept = λ (x : ℕ). ap (λ (cs : List MatchValue). count x (match_members cs)) out.now in
-    let grew = λ (F : List Band → ℕ) (add : Adds F). ap (λ (ks : List BranchValue). F (branch_bands ks)) g
+    let grew = λ (F : List DualSet → ℕ) (add : IsAdditive F). ap (λ (ks : List BranchValue). F (branch_dual_sets ks)) g
     ∙ bands_push F add BranchValue branch_sets s.tree b in
-    let outside = λ (x : ℕ). ap (λ (v : NestValue). count x (outer_members v.members r.tree)) e
+    let outside = λ (x : ℕ). ap (λ (v : OddSetValue). count x (outer_members v.members r.tree)) e
     ∙ ap (λ (ks : List BranchValue). count x (outer_members s.root.members ks)) g ∙ members_push outer_sets x s.root.members s.tree b in
     let inside = λ (x : ℕ). ap (λ (ks : List BranchValue). count x (inner_members ks)) g ∙ members_push inner_sets x [] s.tree b in
     record {
       search = λ t h i ready.
-          let joined = without IsJoined out.before out.after c (subst (λ (cs : List MatchValue). Each IsJoined cs) out.was i.joined) in
-          let firm = without (IsFirmMatch t h) out.before out.after c
-          (subst (λ (cs : List MatchValue). Each (IsFirmMatch t h) cs) out.was i.rest) in
+          let joined = without IsMatch out.before out.after c (subst (λ (cs : List MatchValue). Each IsMatch cs) out.was i.joined) in
+          let firm = without (IsSoundMatch t h) out.before out.after c
+          (subst (λ (cs : List MatchValue). Each (IsSoundMatch t h) cs) out.was i.rest) in
           let k = hung_is link c (omega (arith, out.here, held link.to, i.places link.to, is_one t link.to)) joined.0 in
           record {
             tall = λ x none. omega (
@@ -221,34 +221,35 @@ hung link s r c out g e f same =
               grew (height x)
                   (height-append x),
               k.sums (height x),
-              ap (λ (v : NestValue). height x (bands v)) e,
+              ap (λ (v : OddSetValue). height x (dual_sets v)) e,
             );
             slack = subst (λ (xs : List ℕ). FreeHaveSlack t h xs) (sym f) i.slack;
             places = λ x. omega (arith, i.places x, held x, kept x, outside x, inside x, k.counts x, ap (λ (xs : List ℕ). count x xs) f);
-            grown = subst (λ (v : NestValue). IsGrown v.members r.tree) (sym e)
-                (subst (λ (ks : List BranchValue). IsGrown s.root.members ks) (sym g)
-                (grown_push s.root.members s.tree b i.grown (subst (λ (l : Link). 1 ≤ count l.from (outers s)) (sym k.same) ready.0)
-                (subst (λ (l : Link). count l.to b.inner.members ≡ 1) (sym k.same) k.up_to) k.pair_from k.pair_to));
-            joined = subst (λ (cs : List MatchValue). Each IsJoined cs) (sym out.now) joined.1;
-            root = subst (λ (v : NestValue). IsSound t h v) (sym e) i.root;
-            tree = subst (λ (ks : List BranchValue). Each (IsFirm t h) ks) (sym g)
-                (each-push (IsFirm t h) s.tree b i.tree (k.firm t h (entry-comm t) ready.2 firm.0));
-            rest = subst (λ (cs : List MatchValue). Each (IsFirmMatch t h) cs) (sym out.now) firm.1;
+            grown = subst (λ (v : OddSetValue). IsAlternatingTree v.members r.tree) (sym e)
+                (subst (λ (ks : List BranchValue). IsAlternatingTree s.root.members ks) (sym g)
+                (grown_push s.root.members s.tree b i.grown
+                (subst (λ (l : TightEdge). 1 ≤ count l.from (outer_vertices s)) (sym k.same) ready.0)
+                (subst (λ (l : TightEdge). count l.to b.inner.members ≡ 1) (sym k.same) k.up_to) k.pair_from k.pair_to));
+            joined = subst (λ (cs : List MatchValue). Each IsMatch cs) (sym out.now) joined.1;
+            root = subst (λ (v : OddSetValue). IsSoundSet t h v) (sym e) i.root;
+            tree = subst (λ (ks : List BranchValue). Each (IsSoundBranch t h) ks) (sym g)
+                (each-push (IsSoundBranch t h) s.tree b i.tree (k.firm t h (entry-comm t) ready.2 firm.0));
+            rest = subst (λ (cs : List MatchValue). Each (IsSoundMatch t h) cs) (sym out.now) firm.1;
             loads = λ x y lx ly ne. omega (
               arith,
               i.loads x y lx ly ne,
-              was (load x y) (load-append x y),
-              now (load x y),
-              grew (load x y)
-                  (load-append x y),
-              k.sums (load x y),
-              ap (λ (v : NestValue). load x y (bands v)) e,
+              was (dual_load x y) (dual_load-append x y),
+              now (dual_load x y),
+              grew (dual_load x y)
+                  (dual_load-append x y),
+              k.sums (dual_load x y),
+              ap (λ (v : OddSetValue). dual_load x y (dual_sets v)) e,
             );
           };
       fewer = omega (
         arith,
         hung_fewer (ltb 0 (count link.to c.first.members)) link c,
-        ap (λ (ks : List BranchValue). length (inner_bands ks)) g ∙ bands_push sizes size-append BranchValue inner_sets s.tree b,
+        ap (λ (ks : List BranchValue). length (inner_dual_sets ks)) g ∙ bands_push sizes size-append BranchValue inner_sets s.tree b,
         was sizes size-append,
         now sizes,
       );
@@ -257,38 +258,40 @@ hung link s r c out g e f same =
     }
 
 -- a place in no member list is in no set
-pub none_branches : (d : TableValue) (h : ℕ → ℕ) (x : ℕ) (base : List ℕ) (tree : List BranchValue) → Each (IsFirm d h) tree
-    → count x (outer_members base tree) ≡ 0 → count x (inner_members tree) ≡ 0 → NoneHold x (branch_bands tree)
+pub none_branches : (d : TableValue) (h : ℕ → ℕ) (x : ℕ) (base : List ℕ) (tree : List BranchValue) → Each (IsSoundBranch d h) tree
+    → count x (outer_members base tree) ≡ 0 → count x (inner_members tree) ≡ 0 → NoneHold x (branch_dual_sets tree)
 none_branches d h x base [] f none empty = tt
 none_branches d h x base (b ∷ bs) f none empty =
-    each-append (Misses x) (bands b.inner) (bands b.outer ++ branch_bands bs)
+    each-append (IsOutside x) (dual_sets b.inner) (dual_sets b.outer ++ branch_dual_sets bs)
     (none_hold x b.inner f.0.inner.kept (omega (arith, count-append, empty)))
-    (each-append (Misses x) (bands b.outer) (branch_bands bs) (none_hold x b.outer f.0.outer.kept (omega (arith, count-append, none)))
+    (each-append (IsOutside x) (dual_sets b.outer) (branch_dual_sets bs)
+    (none_hold x b.outer f.0.outer.kept (omega (arith, count-append, none)))
     (none_branches d h x base bs f.1 (omega (arith, count-append, none)) (omega (arith, count-append, empty))))
 
-pub none_matches : (d : TableValue) (h : ℕ → ℕ) (x : ℕ) (cs : List MatchValue) → Each (IsFirmMatch d h) cs
-    → count x (match_members cs) ≡ 0 → NoneHold x (match_bands cs)
+pub none_matches : (d : TableValue) (h : ℕ → ℕ) (x : ℕ) (cs : List MatchValue) → Each (IsSoundMatch d h) cs
+    → count x (match_members cs) ≡ 0 → NoneHold x (match_dual_sets cs)
 none_matches d h x [] f none = tt
 none_matches d h x (c ∷ cs) f none =
-    each-append (Misses x) (bands c.first) (bands c.second ++ match_bands cs)
+    each-append (IsOutside x) (dual_sets c.first) (dual_sets c.second ++ match_dual_sets cs)
     (none_hold x c.first f.0.first.kept (omega (arith, count-append, none)))
-    (each-append (Misses x) (bands c.second) (match_bands cs) (none_hold x c.second f.0.second.kept (omega (arith, count-append, none)))
+    (each-append (IsOutside x) (dual_sets c.second) (match_dual_sets cs)
+    (none_hold x c.second f.0.second.kept (omega (arith, count-append, none)))
     (none_matches d h x cs f.1 (omega (arith, count-append, none))))
 
 -- and has height 0
-pub low_branches : (d : TableValue) (h : ℕ → ℕ) (x : ℕ) (base : List ℕ) (tree : List BranchValue) → Each (IsFirm d h) tree
+pub low_branches : (d : TableValue) (h : ℕ → ℕ) (x : ℕ) (base : List ℕ) (tree : List BranchValue) → Each (IsSoundBranch d h) tree
     → count x (outer_members base tree) ≡ 0 → count x (inner_members tree) ≡ 0 →
-    height x (branch_bands tree) ≡ 0
-low_branches d h x base tree f none empty = none_tall x (branch_bands tree) (none_branches d h x base tree f none empty)
+    height x (branch_dual_sets tree) ≡ 0
+low_branches d h x base tree f none empty = none_tall x (branch_dual_sets tree) (none_branches d h x base tree f none empty)
 
-pub low_matches : (d : TableValue) (h : ℕ → ℕ) (x : ℕ) (cs : List MatchValue) → Each (IsFirmMatch d h) cs → count x (match_members cs)
+pub low_matches : (d : TableValue) (h : ℕ → ℕ) (x : ℕ) (cs : List MatchValue) → Each (IsSoundMatch d h) cs → count x (match_members cs)
     ≡ 0
-    → height x (match_bands cs) ≡ 0
-low_matches d h x cs f none = none_tall x (match_bands cs) (none_matches d h x cs f none)
+    → height x (match_dual_sets cs) ≡ 0
+low_matches d h x cs f none = none_tall x (match_dual_sets cs) (none_matches d h x cs f none)
 
 -- a place is taken from the free ones
 pub taken_place : (x : ℕ) (xs new : List ℕ) (i place : ℕ) → i < length xs → get_or xs i 0 ≡ place → new ≡ take i xs ++ drop (suc i) xs
-    → count x new + hit x place ≡ count x xs
+    → count x new + one_if_equal x place ≡ count x xs
 taken_place x xs new i place low is e =
     let here : drop i xs ≡ place ∷ drop (suc i) xs = drop-cons xs i 0 low ∙ ap (λ (y : ℕ). y ∷ drop (suc i) xs) is in
     omega (
@@ -301,7 +304,7 @@ taken_place x xs new i place low is e =
     )
 
 -- the edge closes a blossom
-pub can_shrink : (link : Link) (s : SearchValue) → CanStep s (Shrink link) → Shrinking link s.root s.tree
+pub can_shrink : (link : TightEdge) (s : SearchValue) → CanStep s (Shrink link) → CanShrink link s.root s.tree
 can_shrink link s k =
     let i = k.can.search in
     let ready = k.can.ready in
@@ -312,7 +315,7 @@ can_shrink link s k =
       apart = ready.2;
       once = λ x. omega (arith, i.places x, is_one k.t x);
       t = k.t;
-      h = height_at s;
+      h = stored_height s;
       within = λ x here. place_in k.t x (omega (arith, i.places x, here));
       symmetric = entry-comm k.t;
       tight = ready.3;

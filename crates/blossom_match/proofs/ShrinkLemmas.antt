@@ -3,26 +3,26 @@ use Rattle.std.proofs.Common.{◌≡◌, ℕ, ◌+◌, ◌%◌, ◌≤◌, List,
 use Rattle.std.proofs.lemmas.List.{append-nil}
 use Rattle.blossom_match.specs.TableValue.{TableValue}
 use Rattle.blossom_match.specs.Lists.{Each}
-use Rattle.blossom_match.specs.Bands.{Adds, Band, NestValue, Kept, bands, count}
-use Rattle.blossom_match.specs.Blossoms.{members_in, bands_in, IsBlossom}
-use Rattle.blossom_match.specs.BlossomRows.{HaveRows}
-use Rattle.blossom_match.specs.Sound.{IsFirm, IsSound, IsFirmPart}
-use Rattle.blossom_match.specs.Trees.{both, outer_members, inner_members, outer_sets, IsGrown}
-use Rattle.blossom_match.specs.Shrinks.{part_of, blossom_value, Closable, Shrinking, Shrinks, Chaining}
-use Rattle.blossom_match.specs.declared.nest.Link.{Link}
+use Rattle.blossom_match.specs.DualSets.{IsAdditive, DualSet, OddSetValue, IsOddSet, dual_sets, count}
+use Rattle.blossom_match.specs.Blossoms.{members_in, dual_sets_in, IsBlossom}
+use Rattle.blossom_match.specs.BlossomSlacks.{HaveSlacks}
+use Rattle.blossom_match.specs.SoundSets.{IsSoundBranch, IsSoundSet, IsSoundPart}
+use Rattle.blossom_match.specs.Trees.{one_if_both, outer_members, inner_members, outer_sets, IsAlternatingTree}
+use Rattle.blossom_match.specs.Shrinks.{part_with_edge, closed_blossom, CanClose, CanShrink, Shrinks, IsOpenChain}
+use Rattle.blossom_match.specs.declared.odd_set.TightEdge.{TightEdge}
 use Rattle.blossom_match.specs.Values.{BranchValue, PartValue}
 use Rattle.blossom_match.proofs.ListLemmas.{each-append, each-left, each-last, each-map}
-use Rattle.blossom_match.proofs.SumLemmas.{adds_none, bands-append, bands_push, count-append, members-append, members_push, size-append, some_member}
+use Rattle.blossom_match.proofs.SumLemmas.{adds_none, dual_sets-append, bands_push, count-append, members-append, members_push, size-append, some_member}
 use Rattle.blossom_match.proofs.ClosingLemmas.{chain_closes, blossom_sound, tree_even}
 use Rattle.blossom_match.proofs.TreeLemmas.{last_of, grown_more, grown-append}
 use Rattle.blossom_match.proofs.ChainLemmas.{around_append}
 
-pub blossom_from : (top : NestValue) (way : Link) (chain : List PartValue) (to : ℕ) → Closable top way chain to → Kept top
-    → IsBlossom (part_of top way ∷ chain)
+pub blossom_from : (top : OddSetValue) (way : TightEdge) (chain : List PartValue) (to : ℕ) → CanClose top way chain to → IsOddSet top
+    → IsBlossom (part_with_edge top way ∷ chain)
 blossom_from top way chain to c kt = record {
   odd = omega (arith, c.even);
   three = omega (arith, c.even, c.some);
-  linked = chain_closes (part_of top way) chain to c.leads c.from c.back;
+  linked = chain_closes (part_with_edge top way) chain to c.leads c.from c.back;
   kept = (kt, c.kept);
 }
 
@@ -31,22 +31,23 @@ all_moved xs [] ys none e = sym (append-nil xs) ∙ e
 all_moved xs (p ∷ left) ys none e = absurd (omega arith)
 
 -- an edge whose ends aren't both in the set at the top closes no empty chain
-not_empty : (link : Link) (s : NestValue) (way : Link) (to : ℕ) (chain : List PartValue)
+not_empty : (link : TightEdge) (s : OddSetValue) (way : TightEdge) (to : ℕ) (chain : List PartValue)
     → (length chain ≡ 0 → (way.from ≡ link.from) × (to ≡ link.to)) →
-    both link.from link.to s ≡ 0 → 1 ≤ count way.from s.members → 1 ≤ count to s.members → 1 ≤ length chain
+    one_if_both link.from link.to s ≡ 0 → 1 ≤ count way.from s.members → 1 ≤ count to s.members → 1 ≤ length chain
 not_empty link s way to [] begun apart from back =
     let e = begun refl in
     absurd (omega (arith, apart, from, back, ap (λ (x : ℕ). count x s.members) e.0, ap (λ (x : ℕ). count x s.members) e.1))
 not_empty link s way to (p ∷ ps) begun apart from back = omega arith
 
-same_size : (t : TableValue) (h : ℕ → ℕ) (n : ℕ) → n ≡ t.places → (ps : List PartValue) → Each (IsFirmPart t h) ps
-    → Each (λ (p : PartValue). length p.nest.near ≡ n) ps
-same_size t h n e ps f = each-map (IsFirmPart t h) (λ (p : PartValue). length p.nest.near ≡ n) (λ p k. k.nest.near.0.size ∙ sym e) ps f
+same_size : (t : TableValue) (h : ℕ → ℕ) (n : ℕ) → n ≡ t.places → (ps : List PartValue) → Each (IsSoundPart t h) ps
+    → Each (λ (p : PartValue). length p.odd_set.near ≡ n) ps
+same_size t h n e ps f = each-map (IsSoundPart t h) (λ (p : PartValue). length p.odd_set.near ≡ n) (λ p k. k.odd_set.near.0.size ∙ sym e) ps
+    f
 
 -- the rows of a set and of a firm chain
-have_rows : (t : TableValue) (h : ℕ → ℕ) (top : NestValue) (way : Link) (chain : List PartValue) → IsSound t h top
-    → Each (IsFirmPart t h) chain → ((x : ℕ) → 1 ≤ count x top.members + count x (members_in chain) → x < t.places)
-    → HaveRows (length top.near) (part_of top way ∷ chain)
+have_rows : (t : TableValue) (h : ℕ → ℕ) (top : OddSetValue) (way : TightEdge) (chain : List PartValue) → IsSoundSet t h top
+    → Each (IsSoundPart t h) chain → ((x : ℕ) → 1 ≤ count x top.members + count x (members_in chain) → x < t.places)
+    → HaveSlacks (length top.near) (part_with_edge top way ∷ chain)
 have_rows t h top way chain s f within = record {
   rows = (refl, same_size t h (length top.near) s.near.0.size chain f);
   within = λ x here. omega (
@@ -56,14 +57,14 @@ have_rows t h top way chain s f within = record {
   );
 }
 
-pub closable : (link : Link) (root : NestValue) (tree left bs : List BranchValue) (b : BranchValue) (chain : List PartValue)
+pub closable : (link : TightEdge) (root : OddSetValue) (tree left bs : List BranchValue) (b : BranchValue) (chain : List PartValue)
     (aside : List BranchValue)
-    (way : Link) (to : ℕ) → Shrinking link root tree →
-    Chaining link root tree left chain aside way to → left ≡ bs ++ b ∷ [] → 1 ≤ count way.from b.outer.members
+    (way : TightEdge) (to : ℕ) → CanShrink link root tree →
+    IsOpenChain link root tree left chain aside way to → left ≡ bs ++ b ∷ [] → 1 ≤ count way.from b.outer.members
     → 1 ≤ count to b.outer.members →
-    Closable b.outer way chain to
+    CanClose b.outer way chain to
 closable link root tree left bs b chain aside way to sh c e here there =
-    let c = subst (λ (ks : List BranchValue). Chaining link root tree ks chain aside way to) e c in
+    let c = subst (λ (ks : List BranchValue). IsOpenChain link root tree ks chain aside way to) e c in
     let u = c.firm sh.t sh.h sh.symmetric sh.tight sh.firm in
     record {
       leads = c.leads;
@@ -72,14 +73,15 @@ closable link root tree left bs b chain aside way to sh c e here there =
       even = c.even;
       some = not_empty link b.outer way to chain c.begun (omega (arith, c.apart, around_append)) here there;
       kept = c.kept;
-      rows = have_rows sh.t sh.h b.outer way chain (each-last (IsFirm sh.t sh.h) bs b u.0).outer u.2
+      rows = have_rows sh.t sh.h b.outer way chain (each-last (IsSoundBranch sh.t sh.h) bs b u.0).outer u.2
           (λ x some. sh.within x (omega (arith, some, c.places x, members_push)));
     }
 
-pub closable_root : (link : Link) (root : NestValue) (tree left : List BranchValue) (chain : List PartValue) (aside : List BranchValue)
-    (way : Link)
-    (to : ℕ) → Shrinking link root tree →
-    Chaining link root tree left chain aside way to → length left ≡ 0 → Closable root way chain to
+pub closable_root : (link : TightEdge) (root : OddSetValue) (tree left : List BranchValue) (chain : List PartValue)
+    (aside : List BranchValue)
+    (way : TightEdge)
+    (to : ℕ) → CanShrink link root tree →
+    IsOpenChain link root tree left chain aside way to → length left ≡ 0 → CanClose root way chain to
 closable_root link root tree [] chain aside way to sh c none = record {
   leads = c.leads;
   from = omega (arith, c.once way.from, c.places way.from, c.from);
@@ -92,29 +94,31 @@ closable_root link root tree [] chain aside way to sh c none = record {
 }
 closable_root link root tree (b ∷ bs) chain aside way to sh c none = absurd (omega arith)
 
-abbrev with_outer : BranchValue → NestValue → BranchValue
+abbrev with_outer : BranchValue → OddSetValue → BranchValue
 with_outer b s = record { up = b.up; inner = b.inner; pair = b.pair; outer = s }
 
-blossom_sums : (F : List Band → ℕ) → Adds F → (key : ℕ) (top : NestValue) (way : Link) (chain : List PartValue) (blossom : NestValue)
+blossom_sums : (F : List DualSet → ℕ) → IsAdditive F
+    → (key : ℕ) (top : OddSetValue) (way : TightEdge) (chain : List PartValue) (blossom : OddSetValue)
     → blossom
-    ≡ blossom_value key top way chain →
-    F (bands blossom) ≡ F (bands top) + F (bands_in chain) + F (record {
+    ≡ closed_blossom key top way chain →
+    F (dual_sets blossom) ≡ F (dual_sets top) + F (dual_sets_in chain) + F (record {
       key = key;
-      members = members_in (part_of top way ∷ chain);
+      members = members_in (part_with_edge top way ∷ chain);
       dual = 0;
     } ∷ [])
 blossom_sums F add key top way chain blossom e =
     omega (
       arith,
-      ap (λ (s : NestValue). F (bands s)) e,
-      add (record { key = key; members = members_in (part_of top way ∷ chain); dual = 0 } ∷ [])
-          (bands_in (part_of top way ∷ chain)),
+      ap (λ (s : OddSetValue). F (dual_sets s)) e,
+      add (record { key = key; members = members_in (part_with_edge top way ∷ chain); dual = 0 } ∷ [])
+          (dual_sets_in (part_with_edge top way ∷ chain)),
       add,
     )
 
 -- the heights of two places in the tree are both even or both odd
-pub two_even : (d : TableValue) (h : ℕ → ℕ) (root : NestValue) (tree : List BranchValue) → IsGrown root.members tree → IsSound d h root
-    → Each (IsFirm d h) tree → (x y : ℕ) →
+pub two_even : (d : TableValue) (h : ℕ → ℕ) (root : OddSetValue) (tree : List BranchValue) → IsAlternatingTree root.members tree
+    → IsSoundSet d h root
+    → Each (IsSoundBranch d h) tree → (x y : ℕ) →
     1 ≤ count x (outer_members root.members tree) + count x (inner_members tree)
     → 1 ≤ count y (outer_members root.members tree) + count y (inner_members tree) → (h x + h y) % 2 ≡ 0
 two_even d h root tree g s f x y hx hy =
@@ -123,23 +127,23 @@ two_even d h root tree g s f x y hx hy =
     tree g f (λ k here. s.even r.0 k r.1 here) z hz in
     omega (arith, at x hx, at y hy)
 
-pub closed_inside : (key : ℕ) (link : Link) (root blossom : NestValue) (tree left bs mid new : List BranchValue) (b : BranchValue)
+pub closed_inside : (key : ℕ) (link : TightEdge) (root blossom : OddSetValue) (tree left bs mid new : List BranchValue) (b : BranchValue)
     (chain : List PartValue)
-    (aside : List BranchValue) (way : Link) (to : ℕ) →
-    Shrinking link root tree → Chaining link root tree left chain aside way to → left ≡ bs ++ b ∷ [] → Closable b.outer way chain to
-    → Kept b.outer → blossom ≡ blossom_value key b.outer way chain →
+    (aside : List BranchValue) (way : TightEdge) (to : ℕ) →
+    CanShrink link root tree → IsOpenChain link root tree left chain aside way to → left ≡ bs ++ b ∷ [] → CanClose b.outer way chain to
+    → IsOddSet b.outer → blossom ≡ closed_blossom key b.outer way chain →
     mid ≡ bs ++ with_outer b blossom ∷ [] → new ≡ mid ++ reverse aside → Shrinks key link root root tree new
 closed_inside key link root blossom tree left bs mid new b chain aside way to sh c e cl kb closes m n =
-    let c = subst (λ (ks : List BranchValue). Chaining link root tree ks chain aside way to) e c in
+    let c = subst (λ (ks : List BranchValue). IsOpenChain link root tree ks chain aside way to) e c in
     let l = last_of root.members bs b c.grown in
-    let parts = part_of b.outer way ∷ chain in
+    let parts = part_with_edge b.outer way ∷ chain in
     let q = λ (x : ℕ). count-append x b.outer.members (members_in chain) in
-    let r = λ (x : ℕ). ap (λ (s : NestValue). count x s.members) closes ∙ q x in
+    let r = λ (x : ℕ). ap (λ (s : OddSetValue). count x s.members) closes ∙ q x in
     let b2 = with_outer b blossom in
-    let sizes = λ (ks : List Band). length ks in
-    let made : IsGrown root.members (bs ++ b2 ∷ []) = grown-append root.members bs (b2 ∷ []) l.grown
+    let sizes = λ (ks : List DualSet). length ks in
+    let made : IsAlternatingTree root.members (bs ++ b2 ∷ []) = grown-append root.members bs (b2 ∷ []) l.grown
     (l.above, l.up_to, l.pair_from, omega (arith, l.pair_to, r b.pair.to, members_push, c.once b.pair.to, c.places b.pair.to), tt) in
-    let hung : IsGrown (outer_members root.members (bs ++ b2 ∷ [])) (reverse aside) =
+    let hung : IsAlternatingTree (outer_members root.members (bs ++ b2 ∷ [])) (reverse aside) =
     grown_more (members_in chain ++ outer_members root.members (bs ++ b ∷ [])) (outer_members root.members (bs ++ b2 ∷ [])) (reverse aside)
     (λ x. omega (arith, members_push, r x, count-append)) c.hung in
     let is : new ≡ (bs ++ b2 ∷ []) ++ reverse aside = n ∙ ap (λ (ks : List BranchValue). ks ++ reverse aside) m in
@@ -149,66 +153,73 @@ closed_inside key link root blossom tree left bs mid new b chain aside way to sh
       blossom = members_in parts;
       sums = λ F add. omega (
         arith,
-        bands-append F add,
+        dual_sets-append F add,
         bands_push F add,
         c.sums F add,
         blossom_sums F add key b.outer way chain blossom
             closes,
       );
-      fewer = omega (arith, bands-append sizes size-append, bands_push sizes size-append, c.fewer, cl.some);
-      firm = λ d h sy w s t. let u = c.firm d h sy w t in let f = each-last (IsFirm d h) bs b u.0 in
-          let sound = blossom_sound d h key (part_of b.outer way) chain (blossom_from b.outer way chain to cl kb)
+      fewer = omega (arith, dual_sets-append sizes size-append, bands_push sizes size-append, c.fewer, cl.some);
+      firm = λ d h sy w s t. let u = c.firm d h sy w t in let f = each-last (IsSoundBranch d h) bs b u.0 in
+          let sound = blossom_sound d h key (part_with_edge b.outer way) chain (blossom_from b.outer way chain to cl kb)
           (λ x. omega (arith, q x, members_push, c.once x, c.places x))
-          (record { next = u.3; nest = f.outer }, u.2)
+          (record { next = u.3; odd_set = f.outer }, u.2)
           (λ x y hx hy. two_even d h root tree sh.grown s t x y (omega (arith, hx, q x, members_push, c.places x))
           (omega (arith, hy, q y, members_push, c.places y))) in (
             s,
-            each-append (IsFirm d h) (bs ++ b2 ∷ []) (reverse aside)
-                (each-append (IsFirm d h) bs (b2 ∷ []) (each-left (IsFirm d h) bs (b ∷ []) u.0) (
-                  record { up = f.up; pair = f.pair; inner = f.inner; outer = subst (λ (v : NestValue). IsSound d h v) (sym closes) sound },
+            each-append (IsSoundBranch d h) (bs ++ b2 ∷ []) (reverse aside)
+                (each-append (IsSoundBranch d h) bs (b2 ∷ []) (each-left (IsSoundBranch d h) bs (b ∷ []) u.0) (
+                  record {
+                    up = f.up;
+                    pair = f.pair;
+                    inner = f.inner;
+                    outer = subst (λ (v : OddSetValue). IsSoundSet d h v) (sym closes)
+                        sound;
+                  },
                   tt,
                 )) u.1,
           );
     })
 
-at_the_root : (key : ℕ) (link : Link) (root blossom : NestValue) (tree new : List BranchValue) (chain : List PartValue)
-    (aside : List BranchValue) (way : Link) (to : ℕ)
+at_the_root : (key : ℕ) (link : TightEdge) (root blossom : OddSetValue) (tree new : List BranchValue) (chain : List PartValue)
+    (aside : List BranchValue) (way : TightEdge) (to : ℕ)
     →
-    Shrinking link root tree → Chaining link root tree [] chain aside way to → Closable root way chain to → Kept root → blossom
-    ≡ blossom_value key root way chain →
+    CanShrink link root tree → IsOpenChain link root tree [] chain aside way to → CanClose root way chain to → IsOddSet root → blossom
+    ≡ closed_blossom key root way chain →
     new ≡ reverse aside → Shrinks key link root blossom tree new
 at_the_root key link root blossom tree new chain aside way to sh c cl kr closes n =
     let q = λ (x : ℕ). count-append x root.members (members_in chain) in
-    let r = λ (x : ℕ). ap (λ (s : NestValue). count x s.members) closes ∙ q x in
+    let r = λ (x : ℕ). ap (λ (s : OddSetValue). count x s.members) closes ∙ q x in
     subst (λ (ks : List BranchValue). Shrinks key link root blossom tree ks) (sym n) (record {
       grown = grown_more (members_in chain ++ root.members) blossom.members (reverse aside)
           (λ x. omega (arith, r x, count-append)) c.hung;
       places = λ x. omega (arith, members-append outer_sets x blossom.members [] (reverse aside), r x, c.places x);
-      blossom = members_in (part_of root way ∷ chain);
+      blossom = members_in (part_with_edge root way ∷ chain);
       sums = λ F add. omega (arith, c.sums F add, adds_none F add, blossom_sums F add key root way chain blossom closes);
       fewer = omega (arith, c.fewer, cl.some);
       firm = λ d h sy w s t. let u = c.firm d h sy w t in
-          let sound = blossom_sound d h key (part_of root way) chain (blossom_from root way chain to cl kr)
+          let sound = blossom_sound d h key (part_with_edge root way) chain (blossom_from root way chain to cl kr)
           (λ x. omega (arith, q x, c.once x, c.places x))
-          (record { next = u.3; nest = s }, u.2)
+          (record { next = u.3; odd_set = s }, u.2)
           (λ x y hx hy. two_even d h root tree sh.grown s t x y (omega (arith, hx, q x, c.places x)) (omega (arith, hy, q y, c.places y)))
           in
-          (subst (λ (v : NestValue). IsSound d h v) (sym closes) sound, u.1);
+          (subst (λ (v : OddSetValue). IsSoundSet d h v) (sym closes) sound, u.1);
     })
 
 empty_left : (left rest : List BranchValue) (none : List BranchValue) → length left ≡ 0 → left ≡ rest ++ none → rest ≡ []
 empty_left left [] none zero_left e = refl
 empty_left left (b ∷ bs) none zero_left e = absurd (omega (arith, ap (λ (ks : List BranchValue). length ks) e))
 
-pub closed_root : (key : ℕ) (link : Link) (root blossom : NestValue) (tree left rest none : List BranchValue) (new : List BranchValue)
+pub closed_root : (key : ℕ) (link : TightEdge) (root blossom : OddSetValue) (tree left rest none : List BranchValue)
+    (new : List BranchValue)
     (chain : List PartValue)
-    (aside : List BranchValue) (way : Link) (to : ℕ) (top : NestValue) → top ≡ root →
-    Shrinking link root tree → Chaining link root tree left chain aside way to → length left ≡ 0
-    → blossom ≡ blossom_value key top way chain →
+    (aside : List BranchValue) (way : TightEdge) (to : ℕ) (top : OddSetValue) → top ≡ root →
+    CanShrink link root tree → IsOpenChain link root tree left chain aside way to → length left ≡ 0
+    → blossom ≡ closed_blossom key top way chain →
     left ≡ rest ++ none → new ≡ rest ++ reverse aside → Shrinks key link root blossom tree new
 closed_root key link root blossom tree [] rest none new chain aside way to top e sh c zero_left closes m n =
     at_the_root key link root blossom tree new chain aside way to sh c
     (closable_root link root tree [] chain aside way to sh c zero_left) sh.sound.kept
-    (closes ∙ ap (λ (s : NestValue). blossom_value key s way chain) e)
+    (closes ∙ ap (λ (s : OddSetValue). closed_blossom key s way chain) e)
     (n ∙ ap (λ (ks : List BranchValue). ks ++ reverse aside) (empty_left [] rest none zero_left m))
 closed_root key link root blossom tree (b ∷ bs) rest none new chain aside way to top e sh c zero_left closes m n = absurd (omega arith)

@@ -2,45 +2,45 @@
 use Rattle.std.proofs.Common.{◌≡◌, ℕ, ◌+◌, ◌*◌, ◌≤◌, ◌<◌, List, [], ◌∷◌, ◌++◌, length, arith, refl, sym, ap, subst, ◌∙◌, append_assoc, Some, None, Option}
 use Rattle.std.proofs.lemmas.List.{append-nil}
 use Rattle.blossom_match.specs.Lists.{Each}
-use Rattle.blossom_match.specs.Bands.{Adds, NestValue, Band, bands, count, load, total, uses}
-use Rattle.blossom_match.specs.Matches.{match_members, match_bands, IsJoined}
+use Rattle.blossom_match.specs.DualSets.{IsAdditive, OddSetValue, DualSet, dual_sets, count, dual_load, total, key_count}
+use Rattle.blossom_match.specs.MatchedSets.{match_members, match_dual_sets, IsMatch}
 use Rattle.blossom_match.specs.Opens.{OpensAt}
-use Rattle.blossom_match.specs.Matchings.{load_on, width_of}
-use Rattle.blossom_match.specs.Taken.{own_moat, TakesNest, TakesMatches, Taking}
+use Rattle.blossom_match.specs.Matchings.{moat_load, width_of}
+use Rattle.blossom_match.specs.Taken.{moat_of_set, TakesApartSet, TakesApartMatches, IsTakingApart}
 use Rattle.blossom_match.specs.Values.{MatchValue}
 use Rattle.blossom_match.specs.declared.matching.Moat.{Moat}
 use Rattle.blossom_match.specs.declared.matching.Pair.{Pair}
-use Rattle.blossom_match.proofs.SumLemmas.{count-append, hit_same, load-append, size-append, total-append, uses-append}
+use Rattle.blossom_match.proofs.SumLemmas.{count-append, hit_same, dual_load-append, size-append, total-append, key_count-append}
 use Rattle.blossom_match.proofs.MoatLemmas.{cost_push, ends_push, lie_both, lie_more, lie_none, lie_own, load_own, width_own}
 
 places_of : (x : ℕ) (c : MatchValue) (rest : List MatchValue) → count x (match_members (c ∷ rest))
     ≡ count x c.first.members + count x c.second.members + count x (match_members rest)
 places_of x c rest = omega (arith, count-append)
 
-sum_of : (F : List Band → ℕ) → Adds F → (c : MatchValue) (rest : List MatchValue) → F (match_bands (c ∷ rest))
-    ≡ F (bands c.first) + F (bands c.second) + F (match_bands rest)
+sum_of : (F : List DualSet → ℕ) → IsAdditive F → (c : MatchValue) (rest : List MatchValue) → F (match_dual_sets (c ∷ rest))
+    ≡ F (dual_sets c.first) + F (dual_sets c.second) + F (match_dual_sets rest)
 sum_of F add c rest = omega (arith, add)
 
-total_of : (c : MatchValue) (rest : List MatchValue) → total (match_bands (c ∷ rest))
-    ≡ total (bands c.first) + total (bands c.second) + total (match_bands rest)
+total_of : (c : MatchValue) (rest : List MatchValue) → total (match_dual_sets (c ∷ rest))
+    ≡ total (dual_sets c.first) + total (dual_sets c.second) + total (match_dual_sets rest)
 total_of c rest = sum_of total total-append c rest
 
-sizes_of : (c : MatchValue) (rest : List MatchValue) → length (match_bands (c ∷ rest))
-    ≡ length (bands c.first) + length (bands c.second) + length (match_bands rest)
-sizes_of c rest = sum_of (λ (bs : List Band). length bs) size-append c rest
+sizes_of : (c : MatchValue) (rest : List MatchValue) → length (match_dual_sets (c ∷ rest))
+    ≡ length (dual_sets c.first) + length (dual_sets c.second) + length (match_dual_sets rest)
+sizes_of c rest = sum_of (λ (bs : List DualSet). length bs) size-append c rest
 
 pub record Head (c : MatchValue) (all : List MatchValue) : Type 0 where
   pub from : count c.link.from c.first.members ≡ 1
   pub to : count c.link.to c.second.members ≡ 1
   pub once_first : (x : ℕ) → count x c.first.members ≤ 1
   pub once_second : (x : ℕ) → count x c.second.members ≤ 1
-  pub size_first : length (bands c.first) ≤ length (match_bands all)
-  pub size_second : length (bands c.second) ≤ length (match_bands all)
+  pub size_first : length (dual_sets c.first) ≤ length (match_dual_sets all)
+  pub size_second : length (dual_sets c.second) ≤ length (match_dual_sets all)
 
 pub head_of : (all left : List MatchValue) (old now : List Pair) (was so_far : List Moat) (c : MatchValue) (rest : List MatchValue) →
-    Taking all left old now was so_far → left ≡ c ∷ rest → Head c all
+    IsTakingApart all left old now was so_far → left ≡ c ∷ rest → Head c all
 head_of all left old now was so_far c rest taking e =
-    let t = subst (λ (l : List MatchValue). Taking all l old now was so_far) e taking in
+    let t = subst (λ (l : List MatchValue). IsTakingApart all l old now was so_far) e taking in
     record {
       from = t.joined.0.from;
       to = t.joined.0.to;
@@ -57,10 +57,11 @@ joined_lists was a b c x y z e f g =
 
 pub taking_more : (all left : List MatchValue) (old now mid end new : List Pair) (was a b z : List Moat) (c : MatchValue)
     (rest : List MatchValue) →
-    Taking all left old now was a → left ≡ c ∷ rest → TakesNest c.link.from c.first now mid a b → TakesNest c.link.to c.second mid end b z →
-    new ≡ end ++ record { a = c.link.from; b = c.link.to } ∷ [] → Taking all rest old new was z
+    IsTakingApart all left old now was a → left ≡ c ∷ rest → TakesApartSet c.link.from c.first now mid a b
+    → TakesApartSet c.link.to c.second mid end b z →
+    new ≡ end ++ record { a = c.link.from; b = c.link.to } ∷ [] → IsTakingApart all rest old new was z
 taking_more all left old now mid end new was a b z c rest taking e one two pushed =
-    let t = subst (λ (l : List MatchValue). Taking all l old now was a) e taking in
+    let t = subst (λ (l : List MatchValue). IsTakingApart all l old now was a) e taking in
     let both = c.first.members ++ c.second.members in
     record {
       joined = t.joined.1;
@@ -88,7 +89,7 @@ taking_more all left old now mid end new was a b z c rest taking e one two pushe
             x,
       ));
       widths = omega (arith, total_of c rest, t.widths, one.widths, two.widths);
-      loads = λ x y. omega (arith, sum_of (load x y) (load-append x y) c rest, t.loads x y, one.loads x y, two.loads x y);
+      loads = λ x y. omega (arith, sum_of (dual_load x y) (dual_load-append x y) c rest, t.loads x y, one.loads x y, two.loads x y);
       taken = t.taken ++ both;
       rest = λ x. omega (arith, t.rest x, places_of x c rest, count-append);
       moats = t.moats ++ (one.moats ++ two.moats);
@@ -99,9 +100,9 @@ taking_more all left old now mid end new was a b z c rest taking e one two pushe
           (λ x. omega (arith, count-append, places_of x c rest, t.once x, t.rest x)) (λ x. omega (arith, count-append));
     }
 
-pub taking_start : (all left : List MatchValue) (old : List Pair) (was : List Moat) → Each IsJoined all
-    → ((x : ℕ) → count x (match_members all) ≤ 1) → left ≡ all → Taking all left old old was was
-taking_start all left old was joined once e = subst (λ (cs : List MatchValue). Taking all cs old old was was) (sym e) (record {
+pub taking_start : (all left : List MatchValue) (old : List Pair) (was : List Moat) → Each IsMatch all
+    → ((x : ℕ) → count x (match_members all) ≤ 1) → left ≡ all → IsTakingApart all left old old was was
+taking_start all left old was joined once e = subst (λ (cs : List MatchValue). IsTakingApart all cs old old was was) (sym e) (record {
   joined = joined;
   once = once;
   fewer = omega arith;
@@ -117,9 +118,9 @@ taking_start all left old was joined once e = subst (λ (cs : List MatchValue). 
   lie = lie_none [];
 })
 
-pub taking_done : (all left : List MatchValue) (old new : List Pair) (was now : List Moat) → Taking all left old new was now → length
+pub taking_done : (all left : List MatchValue) (old new : List Pair) (was now : List Moat) → IsTakingApart all left old new was now → length
     left ≡ 0
-    → TakesMatches all old new was now
+    → TakesApartMatches all old new was now
 taking_done all [] old new was now t none = record {
   paid = λ tab p. omega (arith, t.paid tab p);
   places = λ x. omega (arith, t.places x);
@@ -135,9 +136,10 @@ whole : (w n : ℕ) → n ≡ 1 → w * n ≡ w
 whole w n one = rw one (omega arith)
 
 -- a single place
-takes_place : (left : ℕ) (s : NestValue) (cs : List MatchValue) (old new : List Pair) (was a now : List Moat)
+takes_place : (left : ℕ) (s : OddSetValue) (cs : List MatchValue) (old new : List Pair) (was a now : List Moat)
     → ((x : ℕ) → count x s.members ≤ 1) →
-    OpensAt left s None cs → a ≡ was ++ own_moat s.members s.dual → TakesMatches cs old new a now → TakesNest left s old new was now
+    OpensAt left s None cs → a ≡ was ++ moat_of_set s.members s.dual → TakesApartMatches cs old new a now
+    → TakesApartSet left s old new was now
 takes_place left s cs old new was a now once o own t =
     let sum = o.sums total total-append in
     record {
@@ -156,14 +158,14 @@ takes_place left s cs old new was a now once o own t =
       widths = omega (arith, sum, t.widths, ap width_of own, width_own s.dual s.members was);
       loads = λ x y. omega (
         arith,
-        o.sums (load x y) (load-append x y),
+        o.sums (dual_load x y) (dual_load-append x y),
         t.loads x y,
         ap
-            (λ (k : List Moat). load_on k x y) own,
+            (λ (k : List Moat). moat_load k x y) own,
         load_own x y s.dual s.members was (once x) (once y),
       );
-      moats = own_moat s.members s.dual ++ t.moats;
-      is = t.is ∙ ap (λ (k : List Moat). k ++ t.moats) own ∙ append_assoc was (own_moat s.members s.dual) t.moats;
+      moats = moat_of_set s.members s.dual ++ t.moats;
+      is = t.is ∙ ap (λ (k : List Moat). k ++ t.moats) own ∙ append_assoc was (moat_of_set s.members s.dual) t.moats;
       lie = lie_own s.dual s.members [] (match_members cs) [] t.moats left left o.odd (lie_none []) t.lie
           (λ x. omega (arith, o.places x, once x)) (λ x. omega (arith, o.places x))
           refl (omega (arith, o.places left, hit_same left)) (omega (arith, o.places left, hit_same left, once left))
@@ -171,10 +173,11 @@ takes_place left s cs old new was a now once o own t =
     }
 
 -- a blossom
-takes_blossom : (left : ℕ) (s p : NestValue) (cs : List MatchValue) (old mid new : List Pair) (was a b now : List Moat)
+takes_blossom : (left : ℕ) (s p : OddSetValue) (cs : List MatchValue) (old mid new : List Pair) (was a b now : List Moat)
     → ((x : ℕ) → count x s.members ≤ 1) →
-    OpensAt left s (Some p) cs → a ≡ was ++ own_moat s.members s.dual → TakesNest left p old mid a b → TakesMatches cs mid new b now
-    → TakesNest left s old new was now
+    OpensAt left s (Some p) cs → a ≡ was ++ moat_of_set s.members s.dual → TakesApartSet left p old mid a b
+    → TakesApartMatches cs mid new b now
+    → TakesApartSet left s old new was now
 takes_blossom left s p cs old mid new was a b now once o own first t =
     let sum = o.sums total total-append in
     let other = o.holds.1 in
@@ -192,66 +195,67 @@ takes_blossom left s p cs old mid new was a b now once o own first t =
       widths = omega (arith, sum, first.widths, t.widths, ap width_of own, width_own s.dual s.members was);
       loads = λ x y. omega (
         arith,
-        o.sums (load x y) (load-append x y),
+        o.sums (dual_load x y) (dual_load-append x y),
         first.loads x y,
         t.loads x y,
         ap
-            (λ (k : List Moat). load_on k x y) own,
+            (λ (k : List Moat). moat_load k x y) own,
         load_own x y s.dual s.members was (once x) (once y),
       );
-      moats = own_moat s.members s.dual ++ (first.moats ++ t.moats);
-      is = joined_lists was a b now (own_moat s.members s.dual) first.moats t.moats own first.is t.is;
+      moats = moat_of_set s.members s.dual ++ (first.moats ++ t.moats);
+      is = joined_lists was a b now (moat_of_set s.members s.dual) first.moats t.moats own first.is t.is;
       lie = lie_own s.dual s.members p.members (match_members cs) first.moats t.moats other.0 left o.odd first.lie t.lie
           (λ x. omega (arith, o.places x, once x)) (λ x. omega (arith, o.places x))
           (omega (arith, other.1, o.places other.0, once other.0)) (omega (arith, other.1, o.places other.0))
           (omega (arith, o.holds.0, o.places left, once left)) (omega (arith, o.holds.0, o.places left));
     }
 
-pub took_place : (left : ℕ) (s : NestValue) (core : Option NestValue) (cs : List MatchValue) (old new : List Pair)
+pub took_place : (left : ℕ) (s : OddSetValue) (core : Option OddSetValue) (cs : List MatchValue) (old new : List Pair)
     (was a now : List Moat) → ((x : ℕ) → count x s.members ≤ 1) → core ≡ None →
-    OpensAt left s core cs → a ≡ was ++ own_moat s.members s.dual → TakesMatches cs old new a now → TakesNest left s old new was now
+    OpensAt left s core cs → a ≡ was ++ moat_of_set s.members s.dual → TakesApartMatches cs old new a now
+    → TakesApartSet left s old new was now
 took_place left s core cs old new was a now once e o own t =
-    takes_place left s cs old new was a now once (subst (λ (k : Option NestValue). OpensAt left s k cs) e o) own t
+    takes_place left s cs old new was a now once (subst (λ (k : Option OddSetValue). OpensAt left s k cs) e o) own t
 
-pub took_blossom : (left : ℕ) (s p : NestValue) (core : Option NestValue) (cs : List MatchValue) (old mid new : List Pair)
+pub took_blossom : (left : ℕ) (s p : OddSetValue) (core : Option OddSetValue) (cs : List MatchValue) (old mid new : List Pair)
     (was a b now : List Moat) → ((x : ℕ) → count x s.members ≤ 1) → core ≡ Some p →
-    OpensAt left s core cs → a ≡ was ++ own_moat s.members s.dual → TakesNest left p old mid a b → TakesMatches cs mid new b now
-    → TakesNest left s old new was now
+    OpensAt left s core cs → a ≡ was ++ moat_of_set s.members s.dual → TakesApartSet left p old mid a b → TakesApartMatches cs mid new b now
+    → TakesApartSet left s old new was now
 took_blossom left s p core cs old mid new was a b now once e o own first t =
-    takes_blossom left s p cs old mid new was a b now once (subst (λ (k : Option NestValue). OpensAt left s k cs) e o) own first t
+    takes_blossom left s p cs old mid new was a b now once (subst (λ (k : Option OddSetValue). OpensAt left s k cs) e o) own first t
 
-pub record CoreOf (left : ℕ) (s p : NestValue) (cs : List MatchValue) : Type 0 where
+pub record CoreOf (left : ℕ) (s p : OddSetValue) (cs : List MatchValue) : Type 0 where
   pub holds : count left p.members ≡ 1
   pub once : (x : ℕ) → count x p.members ≤ 1
-  pub fewer : length (bands p) < length (bands s)
+  pub fewer : length (dual_sets p) < length (dual_sets s)
 
-pub core_of : (left : ℕ) (s p : NestValue) (core : Option NestValue) (cs : List MatchValue) → core ≡ Some p
+pub core_of : (left : ℕ) (s p : OddSetValue) (core : Option OddSetValue) (cs : List MatchValue) → core ≡ Some p
     → OpensAt left s core cs → ((x : ℕ) → count x s.members ≤ 1) → CoreOf left s p cs
 core_of left s p core cs e open_ once =
-    let o = subst (λ (k : Option NestValue). OpensAt left s k cs) e open_ in
+    let o = subst (λ (k : Option OddSetValue). OpensAt left s k cs) e open_ in
     record {
       holds = o.holds.0;
       once = λ x. omega (arith, o.places x, once x);
       fewer =
-          omega (arith, o.sums (λ (bs : List Band). length bs) size-append);
+          omega (arith, o.sums (λ (bs : List DualSet). length bs) size-append);
     }
 
-pub record RestOf (s : NestValue) (cs : List MatchValue) : Type 0 where
+pub record RestOf (s : OddSetValue) (cs : List MatchValue) : Type 0 where
   pub once : (x : ℕ) → count x (match_members cs) ≤ 1
-  pub fewer : length (match_bands cs) < length (bands s)
+  pub fewer : length (match_dual_sets cs) < length (dual_sets s)
 
-pub rest_of : (left : ℕ) (s : NestValue) (core : Option NestValue) (cs : List MatchValue) → OpensAt left s core cs
+pub rest_of : (left : ℕ) (s : OddSetValue) (core : Option OddSetValue) (cs : List MatchValue) → OpensAt left s core cs
     → ((x : ℕ) → count x s.members ≤ 1) → RestOf s cs
 rest_of left s core cs o once =
-    record { once = λ x. omega (arith, o.places x, once x); fewer = omega (arith, o.sums (λ (bs : List Band). length bs) size-append) }
+    record { once = λ x. omega (arith, o.places x, once x); fewer = omega (arith, o.sums (λ (bs : List DualSet). length bs) size-append) }
 
 -- each set of the part that is left, and of the matches, is inside the opened set
-pub core_uses : (left : ℕ) (s p : NestValue) (core : Option NestValue) (cs : List MatchValue) → core ≡ Some p → OpensAt left s core cs
-    → (k : ℕ) → uses k (bands p) ≤ uses k (bands s)
+pub core_uses : (left : ℕ) (s p : OddSetValue) (core : Option OddSetValue) (cs : List MatchValue) → core ≡ Some p → OpensAt left s core cs
+    → (k : ℕ) → key_count k (dual_sets p) ≤ key_count k (dual_sets s)
 core_uses left s p core cs e open_ k =
-    let o = subst (λ (c : Option NestValue). OpensAt left s c cs) e open_ in
-    omega (arith, o.sums (uses k) (uses-append k))
+    let o = subst (λ (c : Option OddSetValue). OpensAt left s c cs) e open_ in
+    omega (arith, o.sums (key_count k) (key_count-append k))
 
-pub rest_uses : (left : ℕ) (s : NestValue) (core : Option NestValue) (cs : List MatchValue) → OpensAt left s core cs
-    → (k : ℕ) → uses k (match_bands cs) ≤ uses k (bands s)
-rest_uses left s core cs o k = omega (arith, o.sums (uses k) (uses-append k))
+pub rest_uses : (left : ℕ) (s : OddSetValue) (core : Option OddSetValue) (cs : List MatchValue) → OpensAt left s core cs
+    → (k : ℕ) → key_count k (match_dual_sets cs) ≤ key_count k (dual_sets s)
+rest_uses left s core cs o k = omega (arith, o.sums (key_count k) (key_count-append k))

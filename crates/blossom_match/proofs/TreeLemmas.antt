@@ -1,7 +1,7 @@
 -- Trees that grow at the end.
 use Rattle.std.proofs.Common.{◌≡◌, ℕ, ◌+◌, ◌≤◌, List, [], ◌∷◌, ◌++◌, arith}
-use Rattle.blossom_match.specs.Bands.{count}
-use Rattle.blossom_match.specs.Trees.{outer_members, IsGrown}
+use Rattle.blossom_match.specs.DualSets.{count}
+use Rattle.blossom_match.specs.Trees.{outer_members, IsAlternatingTree}
 use Rattle.blossom_match.specs.Values.{BranchValue}
 use Rattle.blossom_match.proofs.SumLemmas.{count-append, members_each}
 
@@ -10,13 +10,13 @@ pub outer_members_base : (x : ℕ) (ys base : List ℕ) (bs : List BranchValue) 
 outer_members_base x ys base bs = omega (arith, members_each, count-append)
 
 pub record Last (base : List ℕ) (bs : List BranchValue) (b : BranchValue) : Type 0 where
-  pub grown : IsGrown base bs
+  pub grown : IsAlternatingTree base bs
   pub above : 1 ≤ count b.up.from (outer_members base bs)
   pub up_to : count b.up.to b.inner.members ≡ 1
   pub pair_from : count b.pair.from b.inner.members ≡ 1
   pub pair_to : count b.pair.to b.outer.members ≡ 1
 
-pub last_of : (base : List ℕ) (bs : List BranchValue) (b : BranchValue) → IsGrown base (bs ++ b ∷ []) → Last base bs b
+pub last_of : (base : List ℕ) (bs : List BranchValue) (b : BranchValue) → IsAlternatingTree base (bs ++ b ∷ []) → Last base bs b
 last_of base [] b g = record { grown = tt; above = g.0; up_to = g.1; pair_from = g.2; pair_to = g.3 }
 last_of base (a ∷ bs) b g =
     let r = last_of (a.outer.members ++ base) bs b g.4 in
@@ -28,7 +28,8 @@ last_of base (a ∷ bs) b g =
       pair_to = r.pair_to;
     }
 
-pub grown_more : (ps qs : List ℕ) (bs : List BranchValue) → ((x : ℕ) → count x ps ≤ count x qs) → IsGrown ps bs → IsGrown qs bs
+pub grown_more : (ps qs : List ℕ) (bs : List BranchValue) → ((x : ℕ) → count x ps ≤ count x qs) → IsAlternatingTree ps bs
+    → IsAlternatingTree qs bs
 grown_more ps qs [] le g = tt
 grown_more ps qs (b ∷ bs) le g = (
   omega (arith, g.0, le b.up.from),
@@ -39,7 +40,8 @@ grown_more ps qs (b ∷ bs) le g = (
       (λ x. omega (arith, le x, count-append)) g.4,
 )
 
-pub grown-append : (base : List ℕ) (xs ys : List BranchValue) → IsGrown base xs → IsGrown (outer_members base xs) ys → IsGrown base
+pub grown-append : (base : List ℕ) (xs ys : List BranchValue) → IsAlternatingTree base xs → IsAlternatingTree (outer_members base xs) ys
+    → IsAlternatingTree base
     (xs ++ ys)
 grown-append base [] ys g h = h
 grown-append base (b ∷ xs) ys g h = (
@@ -53,9 +55,10 @@ grown-append base (b ∷ xs) ys g h = (
 )
 
 -- one branch more at the end
-pub grown_push : (base : List ℕ) (bs : List BranchValue) (b : BranchValue) → IsGrown base bs → 1 ≤ count b.up.from (outer_members base bs)
+pub grown_push : (base : List ℕ) (bs : List BranchValue) (b : BranchValue) → IsAlternatingTree base bs
+    → 1 ≤ count b.up.from (outer_members base bs)
     → count b.up.to b.inner.members ≡ 1 →
-    count b.pair.from b.inner.members ≡ 1 → count b.pair.to b.outer.members ≡ 1 → IsGrown base (bs ++ b ∷ [])
+    count b.pair.from b.inner.members ≡ 1 → count b.pair.to b.outer.members ≡ 1 → IsAlternatingTree base (bs ++ b ∷ [])
 grown_push base bs b g f u i o = grown-append base bs (b ∷ []) g (f, u, i, o, tt)
 
 -- the places at the start are among the outer ones

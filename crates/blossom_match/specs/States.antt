@@ -1,8 +1,8 @@
 -- The values of a search and of a partial matching, with the odd sets of their slots.
 use Rattle.blossom_match.specs.Slots.{matches_in, branches_in, set_in}
-use Rattle.blossom_match.specs.Values.{SearchValue, StandingValue}
+use Rattle.blossom_match.specs.Values.{SearchValue, PartialMatchingValue}
 use Rattle.blossom_match.specs.declared.state.Search.{Search}
-use Rattle.blossom_match.specs.declared.state.Standing.{Standing}
+use Rattle.blossom_match.specs.declared.state.PartialMatching.{PartialMatching}
 
 -- The value of a search.
 abbrev pub search_value : Search → SearchValue
@@ -15,8 +15,8 @@ search_value s = record {
 }
 
 -- The value of a partial matching.
-abbrev pub standing_value : Standing → StandingValue
-standing_value s = record {
+abbrev pub partial_value : PartialMatching → PartialMatchingValue
+partial_value s = record {
   matches = matches_in s.sets s.matches.items;
   free = s.free.items;
   heights = s.heights.items;

@@ -29,14 +29,14 @@ abbrev pub EntriesAre : TableValue → (ℕ → ℕ → ℕ) → Type 0
 EntriesAre t d = (a b : ℕ) → a < t.places → b < t.places → entry t a b ≡ d a b
 
 -- A path from a through b is at least as long as the direct way, to every third place.
-abbrev pub IsNoShorterBy : TableValue → ℕ → ℕ → Type 0
-IsNoShorterBy t a b = (c : ℕ) → c < t.places → entry t a c ≤ entry t a b + entry t b c
+abbrev pub HasNoShortcutBy : TableValue → ℕ → ℕ → Type 0
+HasNoShortcutBy t a b = (c : ℕ) → c < t.places → entry t a c ≤ entry t a b + entry t b c
 
 -- The triangle inequality holds in a table.
-abbrev pub KeepsTriangles : TableValue → Type 0
-KeepsTriangles t = (a b : ℕ) → a < t.places → b < t.places → IsNoShorterBy t a b
+abbrev pub HasTriangleInequality : TableValue → Type 0
+HasTriangleInequality t = (a b : ℕ) → a < t.places → b < t.places → HasNoShortcutBy t a b
 
 -- A table whose distances satisfy the triangle inequality.
 pub record IsMetric (t : TableValue) : Type 0 where
   pub table : IsTable t
-  pub triangles : KeepsTriangles t
+  pub triangles : HasTriangleInequality t

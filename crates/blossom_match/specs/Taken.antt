@@ -1,70 +1,74 @@
 -- The pairs and moats that taking odd sets apart adds.
 use Rattle.std.specs.Prelude.{◌≡◌, ℕ, ◌+◌, ◌*◌, ◌%◌, ◌≤◌, List, [], ◌∷◌, ◌++◌, length, nat_lt, if◌then◌else◌}
 use Rattle.blossom_match.specs.Lists.{Each, EachPair}
-use Rattle.blossom_match.specs.Bands.{NestValue, bands, count, height, hit, load, total, IsPaid}
-use Rattle.blossom_match.specs.Matches.{match_members, match_bands, IsJoined, IsSettled}
+use Rattle.blossom_match.specs.DualSets.{OddSetValue, dual_sets, count, height, one_if_equal, dual_load, total, AreTightInside}
+use Rattle.blossom_match.specs.MatchedSets.{match_members, match_dual_sets, IsMatch, IsTightMatch}
 use Rattle.blossom_match.specs.TableValue.{TableValue}
-use Rattle.blossom_match.specs.Matchings.{cost_of, ends_at, load_on, width_of, AreLaminar}
+use Rattle.blossom_match.specs.Matchings.{pairs_cost, pair_ends_at, moat_load, width_of, AreLaminar}
 use Rattle.blossom_match.specs.declared.matching.Moat.{Moat}
 use Rattle.blossom_match.specs.declared.matching.Pair.{Pair}
 use Rattle.blossom_match.specs.Values.{MatchValue}
 
 -- The moat of a set; none where its dual is 0.
-abbrev pub own_moat : List ℕ → ℕ → List Moat
-own_moat members width = if nat_lt 0 width then record { members = members; width = width } ∷ []
+abbrev pub moat_of_set : List ℕ → ℕ → List Moat
+moat_of_set members width = if nat_lt 0 width then record { members = members; width = width } ∷ []
     else []
 
 -- An odd set with a width, whose members are among the given vertices.
-pub record IsOddIn (places : List ℕ) (m : Moat) : Type 0 where
+pub record IsOddMoatIn (places : List ℕ) (m : Moat) : Type 0 where
   pub odd : length m.members % 2 ≡ 1
   pub within : (x : ℕ) → count x m.members ≤ count x places
   pub wide : 1 ≤ m.width
 
 -- Odd sets among the given vertices, all different, and each two of them nested or disjoint.
-pub record LieIn (places : List ℕ) (moats : List Moat) : Type 0 where
-  pub each : Each (IsOddIn places) moats
+pub record AreMoatsIn (places : List ℕ) (moats : List Moat) : Type 0 where
+  pub each : Each (IsOddMoatIn places) moats
   pub apart : EachPair AreLaminar moats
 
 -- The pairs inside a set and its moats are appended, where its member `left` is paired outside.
-pub record TakesNest (left : ℕ) (s : NestValue) (old new : List Pair)
+pub record TakesApartSet (left : ℕ) (s : OddSetValue) (old new : List Pair)
     (was now : List Moat) : Type 0 where
-  pub paid : (t : TableValue) → IsPaid t s.tolls → 2 * cost_of t new + height left (bands s)
-      ≡ 2 * cost_of t old + total (bands s)
-  pub places : (x : ℕ) → ends_at new x + hit x left ≡ ends_at old x + count x s.members
-  pub widths : width_of now ≡ width_of was + total (bands s)
-  pub loads : (a b : ℕ) → load_on now a b ≡ load_on was a b + load a b (bands s)
+  pub paid : (t : TableValue) → AreTightInside t s.blossom_edges
+      → 2 * pairs_cost t new + height left (dual_sets s)
+      ≡ 2 * pairs_cost t old + total (dual_sets s)
+  pub places : (x : ℕ) → pair_ends_at new x + one_if_equal x left
+      ≡ pair_ends_at old x + count x s.members
+  pub widths : width_of now ≡ width_of was + total (dual_sets s)
+  pub loads : (a b : ℕ) → moat_load now a b ≡ moat_load was a b + dual_load a b (dual_sets s)
   pub moats : List Moat
   pub is : now ≡ was ++ moats
-  pub lie : LieIn s.members moats
+  pub lie : AreMoatsIn s.members moats
 
 -- The pairs of the matches, the pairs inside them and their moats are appended.
-pub record TakesMatches (cs : List MatchValue) (old new : List Pair)
+pub record TakesApartMatches (cs : List MatchValue) (old new : List Pair)
     (was now : List Moat) : Type 0 where
-  pub paid : (t : TableValue) → Each (IsSettled t) cs → 2 * cost_of t new
-      ≡ 2 * cost_of t old + total (match_bands cs)
-  pub places : (x : ℕ) → ends_at new x ≡ ends_at old x + count x (match_members cs)
-  pub widths : width_of now ≡ width_of was + total (match_bands cs)
-  pub loads : (a b : ℕ) → load_on now a b ≡ load_on was a b + load a b (match_bands cs)
+  pub paid : (t : TableValue) → Each (IsTightMatch t) cs → 2 * pairs_cost t new
+      ≡ 2 * pairs_cost t old + total (match_dual_sets cs)
+  pub places : (x : ℕ) → pair_ends_at new x ≡ pair_ends_at old x + count x (match_members cs)
+  pub widths : width_of now ≡ width_of was + total (match_dual_sets cs)
+  pub loads : (a b : ℕ) → moat_load now a b ≡ moat_load was a b + dual_load a b (match_dual_sets cs)
   pub moats : List Moat
   pub is : now ≡ was ++ moats
-  pub lie : LieIn (match_members cs) moats
+  pub lie : AreMoatsIn (match_members cs) moats
 
 -- The loop invariant of taking matches apart, with the matches that remain.
-pub record Taking (all left : List MatchValue) (old now : List Pair)
+pub record IsTakingApart (all left : List MatchValue) (old now : List Pair)
     (was so_far : List Moat) : Type 0 where
-  pub joined : Each IsJoined left
+  pub joined : Each IsMatch left
   pub once : (x : ℕ) → count x (match_members all) ≤ 1
-  pub fewer : length (match_bands left) ≤ length (match_bands all)
-  pub stays : (t : TableValue) → Each (IsSettled t) all → Each (IsSettled t) left
-  pub paid : (t : TableValue) → Each (IsSettled t) all
-      → 2 * cost_of t now + total (match_bands left) ≡ 2 * cost_of t old + total (match_bands all)
-  pub places : (x : ℕ) → ends_at now x + count x (match_members left)
-      ≡ ends_at old x + count x (match_members all)
-  pub widths : width_of so_far + total (match_bands left) ≡ width_of was + total (match_bands all)
-  pub loads : (a b : ℕ) → load_on so_far a b + load a b (match_bands left)
-      ≡ load_on was a b + load a b (match_bands all)
+  pub fewer : length (match_dual_sets left) ≤ length (match_dual_sets all)
+  pub stays : (t : TableValue) → Each (IsTightMatch t) all → Each (IsTightMatch t) left
+  pub paid : (t : TableValue) → Each (IsTightMatch t) all
+      → 2 * pairs_cost t now + total (match_dual_sets left)
+      ≡ 2 * pairs_cost t old + total (match_dual_sets all)
+  pub places : (x : ℕ) → pair_ends_at now x + count x (match_members left)
+      ≡ pair_ends_at old x + count x (match_members all)
+  pub widths : width_of so_far + total (match_dual_sets left)
+      ≡ width_of was + total (match_dual_sets all)
+  pub loads : (a b : ℕ) → moat_load so_far a b + dual_load a b (match_dual_sets left)
+      ≡ moat_load was a b + dual_load a b (match_dual_sets all)
   pub taken : List ℕ
   pub rest : (x : ℕ) → count x taken + count x (match_members left) ≡ count x (match_members all)
   pub moats : List Moat
   pub is : so_far ≡ was ++ moats
-  pub lie : LieIn taken moats
+  pub lie : AreMoatsIn taken moats

@@ -2,20 +2,20 @@ ghost use Rattle.std.specs.Prelude.{◌≡◌, ◌+◌, ◌^◌, ◌<◌, length
 ghost use Rattle.blossom_match.specs.Lists.{Each};
 ghost use Rattle.blossom_match.specs.Slots.{branches_in, set_in};
 ghost use Rattle.blossom_match.specs.States.{search_value};
-ghost use Rattle.blossom_match.specs.Duals.{resized, CanChange, CanChangeHeights, CanResize, CanAdjust, Changes, Moves, Adjusts};
+ghost use Rattle.blossom_match.specs.Duals.{changed_branch, CanChange, CanChangeHeights, CanChangeBranch, CanAdjust, ChangesDuals, ChangesHeights, Adjusts};
 
 use crate::branches::Branch;
 use crate::heights::{lower_inners, raise, raise_outers};
-use crate::least::Change;
-use crate::nest::{Seat, Sets};
+use crate::least::DualChange;
+use crate::odd_set::{Handle, Sets};
 use crate::state::Search;
 
 /// Raises the duals of the outer sets and lowers those of the inner ones, so that the step of the change can
 /// be made.
-pub fn adjust(s: Search, change: Change) -> Search
+pub fn adjust(s: Search, change: DualChange) -> Search
     requires { CanAdjust (search_value s) change }
     ensures adjusts { Adjusts (search_value s) change (search_value result) }
-    ensures changes { Changes change.by (search_value s) (search_value result) }
+    ensures changes { ChangesDuals change.by (search_value s) (search_value result) }
 {
     change_duals(s, change.by)
 }
@@ -26,7 +26,7 @@ fn change_duals(s: Search, by: u32) -> Search
     requires tree { Each (CanChange by) (branches_in s.sets s.tree.items) }
     requires heights { CanChangeHeights by (set_in s.sets s.root) (branches_in s.sets s.tree.items)
         s.heights.items }
-    ensures { Changes by (search_value s) (search_value result) }
+    ensures { ChangesDuals by (search_value s) (search_value result) }
 {
     let Search {
         sets,
@@ -42,7 +42,7 @@ fn change_duals(s: Search, by: u32) -> Search
     change_branches(&mut changed, by);
     Search {
         sets,
-        root: Seat {
+        root: Handle {
             key: root.key,
             dual: root.dual + by,
         },
@@ -54,9 +54,10 @@ fn change_duals(s: Search, by: u32) -> Search
 }
 
 /// Raises the heights of the outer vertices, and lowers those of the inner ones.
-fn change_heights(sets: &Sets, root: Seat, tree: &[Branch], by: u32, heights: &mut [u32])
+fn change_heights(sets: &Sets, root: Handle, tree: &[Branch], by: u32, heights: &mut [u32])
     requires { CanChangeHeights by (set_in sets.now root) (branches_in sets.now tree.now) heights.old }
-    ensures moves { Moves by (set_in sets.now root) (branches_in sets.now tree.now) heights.old heights.new }
+    ensures moves { ChangesHeights by (set_in sets.now root) (branches_in sets.now tree.now) heights.old
+        heights.new }
     ensures size { length heights.new ≡ length heights.old }
 {
     raise(root.members(sets), by, heights);
@@ -66,8 +67,8 @@ fn change_heights(sets: &Sets, root: Seat, tree: &[Branch], by: u32, heights: &m
 
 /// Raises the outer dual of each branch and lowers the inner one.
 fn change_branches(tree: &mut [Branch], by: u32)
-    requires { Each (CanResize by) tree.old }
-    ensures { tree.new ≡ map (resized by) tree.old }
+    requires { Each (CanChangeBranch by) tree.old }
+    ensures { tree.new ≡ map (changed_branch by) tree.old }
 {
     for i in 0..tree.len() {
         tree[i].inner.dual -= by;

@@ -1,26 +1,26 @@
 ghost use Rattle.std.specs.Prelude.{◌≡◌, ◌≤◌, ◌<◌, ℕ, length, slice_index, IfOk};
 ghost use Rattle.blossom_match.specs.Lists.{Each};
-ghost use Rattle.blossom_match.specs.Bands.{count};
-ghost use Rattle.blossom_match.specs.Blossoms.{members_in, FirstHolds, HoldsAt, IsTurned};
-ghost use Rattle.blossom_match.specs.BlossomRows.{least_of, blossom_row, row_for as the_row, HaveRows, RowsAgree};
+ghost use Rattle.blossom_match.specs.DualSets.{count};
+ghost use Rattle.blossom_match.specs.Blossoms.{members_in, FirstPartHolds, PartHoldsAt, IsRotated};
+ghost use Rattle.blossom_match.specs.BlossomSlacks.{least_part_slack, blossom_slacks, blossom_slacks_of, HaveSlacks, SlacksAgree};
 ghost use Rattle.blossom_match.specs.Slots.{parts_in};
 ghost use Rattle.blossom_match.specs.declared.table.TheConstants.{FAR};
 
-use crate::nest::{Part, Sets};
-use crate::rows::{far_cells, merge, put};
+use crate::odd_set::{BlossomPart, Sets};
+use crate::slack_rows::{far_cells, merge, put};
 use crate::table::FAR;
 use design_model::Memory;
 use std::alloc::Global;
 use std::collections::VecDeque;
 
 /// Returns the index of the part that holds a vertex.
-pub fn part_with(sets: &Sets, parts: &[Part], place: u32) -> usize
+pub fn part_with(sets: &Sets, parts: &[BlossomPart], place: u32) -> usize
     requires { 1 ≤ count place (members_in (parts_in sets.now parts.now)) }
     ensures within { result < length parts.now }
-    ensures there { HoldsAt place (parts_in sets.now parts.now) result }
+    ensures there { PartHoldsAt place (parts_in sets.now parts.now) result }
 {
     for (i, p) in parts.iter().enumerate() {
-        if p.seat.holds(sets, place) {
+        if p.handle.holds(sets, place) {
             return i;
         }
     }
@@ -28,10 +28,10 @@ pub fn part_with(sets: &Sets, parts: &[Part], place: u32) -> usize
 }
 
 /// Rotates a blossom so that the part that holds a vertex comes first.
-pub fn turned_to(sets: &Sets, parts: Vec<Part>, place: u32) -> Vec<Part>
+pub fn turned_to(sets: &Sets, parts: Vec<BlossomPart>, place: u32) -> Vec<BlossomPart>
     requires { 1 ≤ count place (members_in (parts_in sets.now parts.items)) }
-    ensures turned { IsTurned (parts_in sets.now parts.items) (parts_in sets.now result.items) }
-    ensures first { FirstHolds place (parts_in sets.now result.items) }
+    ensures turned { IsRotated (parts_in sets.now parts.items) (parts_in sets.now result.items) }
+    ensures first { FirstPartHolds place (parts_in sets.now result.items) }
 {
     let mut blossom = parts;
     let at = part_with(sets, &blossom, place);
@@ -40,7 +40,7 @@ pub fn turned_to(sets: &Sets, parts: Vec<Part>, place: u32) -> Vec<Part>
 }
 
 /// Returns the parts of a chain as a vector.
-pub fn listed(alloc: Global, chain: VecDeque<Part>) -> Result<Vec<Part>, Memory>
+pub fn listed(alloc: Global, chain: VecDeque<BlossomPart>) -> Result<Vec<BlossomPart>, Memory>
     ensures { IfOk result (λ ps. ps.items ≡ chain.items) }
 {
     let mut parts = Vec::new(alloc);
@@ -55,15 +55,15 @@ pub fn listed(alloc: Global, chain: VecDeque<Part>) -> Result<Vec<Part>, Memory>
 pub fn row_of(
     alloc: Global,
     sets: &Sets,
-    parts: &[Part],
+    parts: &[BlossomPart],
     members: &[u32],
 ) -> Result<Vec<u32>, Memory>
     requires some { 0 < length parts.now }
-    requires rows { RowsAgree (parts_in sets.now parts.now) }
+    requires rows { SlacksAgree (parts_in sets.now parts.now) }
     requires members { members.now ≡ members_in (parts_in sets.now parts.now) }
-    ensures { IfOk result (λ row. row.items ≡ blossom_row (parts_in sets.now parts.now)) }
+    ensures { IfOk result (λ row. row.items ≡ blossom_slacks (parts_in sets.now parts.now)) }
 {
-    let n = parts[0].seat.near(sets).len();
+    let n = parts[0].handle.near(sets).len();
     let row = row_for(alloc, n, sets, parts, members)?;
     Ok(row)
 }
@@ -73,12 +73,12 @@ fn row_for(
     alloc: Global,
     n: usize,
     sets: &Sets,
-    parts: &[Part],
+    parts: &[BlossomPart],
     members: &[u32],
 ) -> Result<Vec<u32>, Memory>
-    requires rows { HaveRows n (parts_in sets.now parts.now) }
+    requires rows { HaveSlacks n (parts_in sets.now parts.now) }
     requires members { members.now ≡ members_in (parts_in sets.now parts.now) }
-    ensures { IfOk result (λ row. row.items ≡ the_row n (parts_in sets.now parts.now)) }
+    ensures { IfOk result (λ row. row.items ≡ blossom_slacks_of n (parts_in sets.now parts.now)) }
 {
     let mut row = far_cells(alloc, n)?;
     fill(sets, parts, members, &mut row);
@@ -86,24 +86,24 @@ fn row_for(
 }
 
 /// Computes the slack row in cells that are all FAR.
-fn fill(sets: &Sets, parts: &[Part], members: &[u32], cells: &mut [u32])
-    requires rows { HaveRows (length cells.old) (parts_in sets.now parts.now) }
+fn fill(sets: &Sets, parts: &[BlossomPart], members: &[u32], cells: &mut [u32])
+    requires rows { HaveSlacks (length cells.old) (parts_in sets.now parts.now) }
     requires members { members.now ≡ members_in (parts_in sets.now parts.now) }
     requires far { (x : ℕ) → x < length cells.old → slice_index cells.old x ≡ FAR }
-    ensures { cells.new ≡ the_row (length cells.old) (parts_in sets.now parts.now) }
+    ensures { cells.new ≡ blossom_slacks_of (length cells.old) (parts_in sets.now parts.now) }
 {
     merge_all(sets, parts, cells);
     put(FAR, members, cells);
 }
 
 /// Computes the least slacks of the parts, less their duals.
-fn merge_all(sets: &Sets, parts: &[Part], cells: &mut [u32])
-    requires rows { Each (λ p. length p.nest.near ≡ length cells.old) (parts_in sets.now parts.now) }
+fn merge_all(sets: &Sets, parts: &[BlossomPart], cells: &mut [u32])
+    requires rows { Each (λ p. length p.odd_set.near ≡ length cells.old) (parts_in sets.now parts.now) }
     requires far { (x : ℕ) → x < length cells.old → slice_index cells.old x ≡ FAR }
     ensures { (x : ℕ) → x < length cells.old
-        → slice_index cells.new x ≡ least_of (parts_in sets.now parts.now) x }
+        → slice_index cells.new x ≡ least_part_slack (parts_in sets.now parts.now) x }
 {
     for p in parts {
-        merge(p.seat.near(sets), p.seat.dual, cells);
+        merge(p.handle.near(sets), p.handle.dual, cells);
     }
 }

@@ -1,25 +1,30 @@
 ghost use Rattle.std.specs.Prelude.{◌≡◌, ◌++◌, ◌∷◌, [], reverse, OnOk};
 ghost use Rattle.blossom_match.specs.Slots.{branch_in, branches_in, match_in, matches_in, set_in};
-ghost use Rattle.blossom_match.specs.Trees.{hung_by, Augmenting, Augments, PairsAt};
+ghost use Rattle.blossom_match.specs.Trees.{branch_by_edge, CanAugment, Augments, PairsBranch};
 
 use crate::matches::Match;
-use crate::nest::{Link, Seat, Sets};
+use crate::odd_set::{Handle, Sets, TightEdge};
 use design_model::Memory;
 
 /// A branch of the alternating tree: an inner set and the outer set that it is matched with. The edge `up`
 /// leads from an earlier outer set to the inner set, and `pair` from the inner set to its partner.
 #[derive(Clone, Copy, Drop)]
 pub struct Branch {
-    pub up: Link,
-    pub inner: Seat,
-    pub pair: Link,
-    pub outer: Seat,
+    pub up: TightEdge,
+    pub inner: Handle,
+    pub pair: TightEdge,
+    pub outer: Handle,
 }
 
 /// Appends a match to the tree, below the outer set that the edge comes from.
-pub fn grow(sets: &Sets, tree: &mut Vec<Branch>, up: Link, matched: Match) -> Result<(), Memory>
+pub fn grow(
+    sets: &Sets,
+    tree: &mut Vec<Branch>,
+    up: TightEdge,
+    matched: Match,
+) -> Result<(), Memory>
     ensures { OnOk result (branches_in sets.now tree.new.items
-        ≡ branches_in sets.now tree.old.items ++ hung_by up (match_in sets.now matched) ∷ []) }
+        ≡ branches_in sets.now tree.old.items ++ branch_by_edge up (match_in sets.now matched) ∷ []) }
 {
     if matched.first.holds(sets, up.to) {
         hang(tree, up, matched.first, matched.link, matched.second)?;
@@ -32,10 +37,10 @@ pub fn grow(sets: &Sets, tree: &mut Vec<Branch>, up: Link, matched: Match) -> Re
 /// Appends a branch with an inner set below the edge `up`, and the outer set that it is matched with.
 pub fn hang(
     tree: &mut Vec<Branch>,
-    up: Link,
-    inner: Seat,
-    pair: Link,
-    outer: Seat,
+    up: TightEdge,
+    inner: Handle,
+    pair: TightEdge,
+    outer: Handle,
 ) -> Result<(), Memory>
     ensures { OnOk result (tree.new.items
         ≡ tree.old.items ++ record { up = up; inner = inner; pair = pair; outer = outer } ∷ []) }
@@ -52,20 +57,20 @@ pub fn hang(
 /// Augments along the path from an edge to the root: each branch becomes a match.
 pub fn augment(
     sets: &Sets,
-    root: Seat,
+    root: Handle,
     tree: Vec<Branch>,
-    link: Link,
-    met: Seat,
+    link: TightEdge,
+    met: Handle,
     rest: &mut Vec<Match>,
 ) -> Result<(), Memory>
-    requires { Augmenting (set_in sets.now met) link (set_in sets.now root)
+    requires { CanAugment (set_in sets.now met) link (set_in sets.now root)
         (branches_in sets.now tree.items) }
     ensures { OnOk result (Augments (set_in sets.now root) (set_in sets.now met) link
         (branches_in sets.now tree.items) (matches_in sets.now rest.old.items)
         (matches_in sets.now rest.new.items)) }
 {
     let mut left = tree;
-    let mut hand = Hand {
+    let mut hand = Exposed {
         set: met,
         way: link,
     };
@@ -82,16 +87,16 @@ pub fn augment(
 
 /// A set without a partner, and the edge to it from an outer set.
 #[derive(Clone, Copy, Drop)]
-struct Hand {
-    set: Seat,
-    way: Link,
+struct Exposed {
+    set: Handle,
+    way: TightEdge,
 }
 
-impl Hand {
+impl Exposed {
     /// Returns the match at a branch. Where the edge comes from the branch's outer set, that set is matched,
     /// and the inner set is the next one without a partner.
     fn pair_at(&mut self, sets: &Sets, b: Branch) -> Match
-        ensures { PairsAt (set_in sets.now self.old.set) self.old.way (branch_in sets.now b)
+        ensures { PairsBranch (set_in sets.now self.old.set) self.old.way (branch_in sets.now b)
             (match_in sets.now result) (set_in sets.now self.new.set) self.new.way }
     {
         if b.outer.holds(sets, self.way.from) {
@@ -113,7 +118,7 @@ impl Hand {
 }
 
 /// Puts branches that were set aside, newest first, back into the tree.
-pub fn give_back(tree: &mut Vec<Branch>, aside: Vec<Branch>) -> Result<(), Memory>
+pub fn put_back(tree: &mut Vec<Branch>, aside: Vec<Branch>) -> Result<(), Memory>
     ensures { OnOk result (tree.new.items ≡ tree.old.items ++ reverse aside.items) }
 {
     let mut left = aside;

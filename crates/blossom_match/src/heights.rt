@@ -1,11 +1,11 @@
 ghost use Rattle.std.specs.Prelude.{◌*◌, []};
-ghost use Rattle.blossom_match.specs.Bands.{count};
+ghost use Rattle.blossom_match.specs.DualSets.{count};
 ghost use Rattle.blossom_match.specs.Trees.{inner_members, outer_members};
 ghost use Rattle.blossom_match.specs.Heights.{CanFall, CanRise, Falls, HasCells, Rises};
 ghost use Rattle.blossom_match.specs.Slots.{branches_in};
 
 use crate::branches::Branch;
-use crate::nest::Sets;
+use crate::odd_set::Sets;
 
 /// Raises the heights of the vertices.
 pub fn raise(members: &[u32], by: u32, heights: &mut [u32])
@@ -31,7 +31,8 @@ fn lower(members: &[u32], by: u32, heights: &mut [u32])
 
 /// Raises the vertices of all outer sets but the root.
 pub fn raise_outers(sets: &Sets, tree: &[Branch], by: u32, heights: &mut [u32])
-    requires within { HasCells (λ x. count x (outer_members [] (branches_in sets.now tree.now))) heights.old }
+    requires within { HasCells (λ x. count x (outer_members [] (branches_in sets.now tree.now)))
+        heights.old }
     requires fits { CanRise (λ x. by * count x (outer_members [] (branches_in sets.now tree.now)))
         heights.old }
     ensures { Rises (λ x. by * count x (outer_members [] (branches_in sets.now tree.now)))
@@ -45,7 +46,8 @@ pub fn raise_outers(sets: &Sets, tree: &[Branch], by: u32, heights: &mut [u32])
 /// Lowers the vertices of all inner sets.
 pub fn lower_inners(sets: &Sets, tree: &[Branch], by: u32, heights: &mut [u32])
     requires within { HasCells (λ x. count x (inner_members (branches_in sets.now tree.now))) heights.old }
-    requires fits { CanFall (λ x. by * count x (inner_members (branches_in sets.now tree.now))) heights.old }
+    requires fits { CanFall (λ x. by * count x (inner_members (branches_in sets.now tree.now)))
+        heights.old }
     ensures { Falls (λ x. by * count x (inner_members (branches_in sets.now tree.now)))
         heights.old heights.new }
 {

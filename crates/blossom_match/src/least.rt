@@ -1,119 +1,119 @@
 ghost use Rattle.std.specs.Prelude.{◌≡◌, ◌≤◌, ◌<◌, ◌∷◌, [], ℕ, length, slice_index};
-ghost use Rattle.blossom_match.specs.Bands.{count};
+ghost use Rattle.blossom_match.specs.DualSets.{count};
 ghost use Rattle.blossom_match.specs.Trees.{outer_members};
 ghost use Rattle.blossom_match.specs.Heights.{HasCells};
 ghost use Rattle.blossom_match.specs.Tables.{IsTable};
-ghost use Rattle.blossom_match.specs.Bounds.{holding, step_of, Bounds, CanSearch, Narrows, NarrowsAt};
-ghost use Rattle.blossom_match.specs.Searches.{height_at, outers};
-ghost use Rattle.blossom_match.specs.Reaches.{left_by, CanReach, IsReached, SearchReaches};
+ghost use Rattle.blossom_match.specs.LeastChanges.{count_holding_both, step_of, IsLeastChange, CanSearch, IsLesserChange, IsLesserChangeAt};
+ghost use Rattle.blossom_match.specs.Searches.{stored_height, outer_vertices};
+ghost use Rattle.blossom_match.specs.OuterSlacks.{slack_from, HasOuterCells, IsOuterSlack, AreSearchSlacks};
 ghost use Rattle.blossom_match.specs.Slots.{branch_in, branches_in, set_in};
-ghost use Rattle.blossom_match.specs.Masks.{shown, AimsShown, IsShown, SearchMasks};
+ghost use Rattle.blossom_match.specs.Masks.{masked_slack, IsBestShown, IsMaskedSlack, IsSearchMask};
 ghost use Rattle.blossom_match.specs.States.{search_value};
-ghost use Rattle.blossom_match.specs.Aims.{change_of, Aims, AimsAt, CanLead, LeadsTo, Leaves, LeavesIn};
-ghost use Rattle.blossom_match.specs.declared.least.Kind.TheVariants as kind;
+ghost use Rattle.blossom_match.specs.Candidates.{change_of, IsBestCandidate, IsCandidateAmong, CanFindEdge, IsCandidateChange, FindsSlackInSet, FindsSlackIn};
+ghost use Rattle.blossom_match.specs.declared.least.EdgeKind.TheVariants as kind;
 ghost use Rattle.blossom_match.specs.declared.table.TheConstants.{FAR, MAX_PLACES};
 
 use crate::branches::Branch;
-use crate::nest::{Link, Seat, Sets};
-use crate::rows::lesser_by;
-use crate::search::Step;
+use crate::odd_set::{Handle, Sets, TightEdge};
+use crate::search::SearchStep;
+use crate::slack_rows::lower_slack;
 use crate::state::Search;
 use crate::table::{DistTable, FAR};
 
 /// A change of duals, in halves of a step, and the step that it makes possible.
 #[derive(Clone, Copy, Drop)]
-pub struct Change {
+pub struct DualChange {
     pub by: u32,
-    pub step: Step,
+    pub step: SearchStep,
 }
 
 /// The kind of an edge from an outer set: to a free vertex, to a match, or to another outer set.
 #[derive(Clone, Copy, Drop)]
-enum Kind {
-    Meet,
+enum EdgeKind {
+    Augment,
     Grow,
     Shrink,
 }
 
 /// A candidate: a vertex that an edge leads to, and the change of duals after which the edge is tight.
 #[derive(Clone, Copy, Drop)]
-struct Aim {
+struct Candidate {
     by: u32,
-    kind: Kind,
+    kind: EdgeKind,
     to: u32,
 }
 
 /// Returns the least change of duals after which a step can be made.
-pub fn least(t: &DistTable, reach: &[u32], mask: &[u32], s: &Search) -> Change
+pub fn least(t: &DistTable, reach: &[u32], mask: &[u32], s: &Search) -> DualChange
     requires table { IsTable t.now }
     requires can { CanSearch t.now (search_value s.now) }
-    requires reaches { SearchReaches t.now (search_value s.now) reach.now }
-    requires masks { SearchMasks t.now (search_value s.now) mask.now }
-    ensures { Bounds t.now (height_at (search_value s.now)) (search_value s.now) result }
+    requires reaches { AreSearchSlacks t.now (search_value s.now) reach.now }
+    requires masks { IsSearchMask t.now (search_value s.now) mask.now }
+    ensures { IsLeastChange t.now (stored_height (search_value s.now)) (search_value s.now) result }
 {
     least_at(t, &s.heights, reach, mask, s)
 }
 
 /// Returns the least change of duals, with the heights as a slice.
-fn least_at(t: &DistTable, heights: &[u32], reach: &[u32], mask: &[u32], s: &Search) -> Change
+fn least_at(t: &DistTable, heights: &[u32], reach: &[u32], mask: &[u32], s: &Search) -> DualChange
     requires table { IsTable t.now }
     requires can { CanSearch t.now (search_value s.now) }
-    requires reaches { SearchReaches t.now (search_value s.now) reach.now }
-    requires masks { SearchMasks t.now (search_value s.now) mask.now }
+    requires reaches { AreSearchSlacks t.now (search_value s.now) reach.now }
+    requires masks { IsSearchMask t.now (search_value s.now) mask.now }
     requires heights { heights.now ≡ s.now.heights.items }
-    ensures { Bounds t.now (height_at (search_value s.now)) (search_value s.now) result }
+    ensures { IsLeastChange t.now (stored_height (search_value s.now)) (search_value s.now) result }
 {
-    let first = first_aim(heights, reach, &s.free);
-    let met = aim_at(heights, reach, &s.free, Kind::Meet, first);
-    let grown = aim_at_shown(heights, reach, mask, met);
-    let crossed = aim_at_outers(heights, reach, s, grown);
+    let first = first_candidate(heights, reach, &s.free);
+    let met = best_candidate(heights, reach, &s.free, EdgeKind::Augment, first);
+    let grown = best_shown(heights, reach, mask, met);
+    let crossed = best_outer(heights, reach, s, grown);
     let change = change_to(t, heights, reach, s, crossed);
     scan_blossoms(&s.sets, &s.tree, change)
 }
 
 /// Returns the change of duals that uses up a slack.
-fn change_for(kind: Kind, slack: u32) -> u32
+fn change_for(kind: EdgeKind, slack: u32) -> u32
     ensures { result ≡ change_of kind slack }
 {
     match kind {
-        Kind::Meet => slack,
-        Kind::Grow => slack,
-        Kind::Shrink => slack / 2,
+        EdgeKind::Augment => slack,
+        EdgeKind::Grow => slack,
+        EdgeKind::Shrink => slack / 2,
     }
 }
 
 /// Returns the step that an edge of a kind makes possible.
-fn step_for(kind: Kind, link: Link) -> Step
+fn step_for(kind: EdgeKind, link: TightEdge) -> SearchStep
     ensures { result ≡ step_of kind link }
 {
     match kind {
-        Kind::Meet => Step::Meet(link),
-        Kind::Grow => Step::Grow(link),
-        Kind::Shrink => Step::Shrink(link),
+        EdgeKind::Augment => SearchStep::Augment(link),
+        EdgeKind::Grow => SearchStep::Grow(link),
+        EdgeKind::Shrink => SearchStep::Shrink(link),
     }
 }
 
 /// Returns the candidate at the first free vertex.
-fn first_aim(heights: &[u32], reach: &[u32], free: &[u32]) -> Aim
+fn first_candidate(heights: &[u32], reach: &[u32], free: &[u32]) -> Candidate
     requires cells { length heights.now ≡ length reach.now }
     requires some { 1 ≤ length free.now }
     requires within { (b : ℕ) → 1 ≤ count b free.now → b < length reach.now }
     requires near { (b : ℕ) → 1 ≤ count b free.now → slice_index reach.now b < FAR }
-    ensures { AimsAt heights.now reach.now kind.Meet free.now result }
+    ensures { IsCandidateAmong heights.now reach.now kind.Augment free.now result }
 {
     let to = free[0];
-    Aim {
+    Candidate {
         by: reach[to as usize].saturating_sub(heights[to as usize]),
-        kind: Kind::Meet,
+        kind: EdgeKind::Augment,
         to,
     }
 }
 
 /// Returns the lesser of a candidate and the one at the given vertex.
-fn nearer(heights: &[u32], reach: &[u32], to: u32, kind: Kind, best: Aim) -> Aim
+fn nearer(heights: &[u32], reach: &[u32], to: u32, kind: EdgeKind, best: Candidate) -> Candidate
     requires cells { length heights.now ≡ length reach.now }
     requires within { to < length reach.now }
-    ensures { Aims heights.now reach.now kind (to ∷ []) best result }
+    ensures { IsBestCandidate heights.now reach.now kind (to ∷ []) best result }
 {
     let left = reach[to as usize];
     if left >= FAR {
@@ -121,17 +121,23 @@ fn nearer(heights: &[u32], reach: &[u32], to: u32, kind: Kind, best: Aim) -> Aim
     }
     let by = change_for(kind, left.saturating_sub(heights[to as usize]));
     if by < best.by {
-        Aim { by, kind, to }
+        Candidate { by, kind, to }
     } else {
         best
     }
 }
 
 /// Returns the least of a candidate and those at the given vertices.
-fn aim_at(heights: &[u32], reach: &[u32], ys: &[u32], kind: Kind, best: Aim) -> Aim
+fn best_candidate(
+    heights: &[u32],
+    reach: &[u32],
+    ys: &[u32],
+    kind: EdgeKind,
+    best: Candidate,
+) -> Candidate
     requires cells { length heights.now ≡ length reach.now }
     requires within { (b : ℕ) → 1 ≤ count b ys.now → b < length reach.now }
-    ensures { Aims heights.now reach.now kind ys.now best result }
+    ensures { IsBestCandidate heights.now reach.now kind ys.now best result }
 {
     let mut least = best;
     for b in ys {
@@ -141,31 +147,32 @@ fn aim_at(heights: &[u32], reach: &[u32], ys: &[u32], kind: Kind, best: Aim) -> 
 }
 
 /// Returns the least of a candidate and those at the vertices that the mask shows.
-fn aim_at_shown(heights: &[u32], reach: &[u32], mask: &[u32], best: Aim) -> Aim
+fn best_shown(heights: &[u32], reach: &[u32], mask: &[u32], best: Candidate) -> Candidate
     requires cells { length heights.now ≡ length reach.now }
     requires masked { length mask.now ≡ length reach.now }
     requires few { length reach.now ≤ MAX_PLACES }
     requires near { best.by ≤ FAR }
-    ensures { AimsShown heights.now reach.now mask.now best result }
+    ensures { IsBestShown heights.now reach.now mask.now best result }
 {
     let slack = least_shown(heights, reach, mask);
     if slack >= best.by {
         return best;
     }
     let to = place_shown(heights, reach, mask, slack);
-    nearer(heights, reach, to, Kind::Grow, best)
+    nearer(heights, reach, to, EdgeKind::Grow, best)
 }
 
 /// Returns the least slack to a vertex that the mask shows; FAR where there is none.
 fn least_shown(heights: &[u32], reach: &[u32], mask: &[u32]) -> u32
     requires cells { length heights.now ≡ length reach.now }
     requires masked { length mask.now ≡ length reach.now }
-    ensures least { (x : ℕ) → x < length reach.now → result ≤ shown heights.now reach.now mask.now x }
-    ensures is { result < FAR → IsShown heights.now reach.now mask.now result }
+    ensures least { (x : ℕ) → x < length reach.now
+        → result ≤ masked_slack heights.now reach.now mask.now x }
+    ensures is { result < FAR → IsMaskedSlack heights.now reach.now mask.now result }
 {
     let mut least = FAR;
     for x in 0..reach.len() {
-        least = lesser_by(heights[x], reach[x]).max(mask[x]).min(least);
+        least = lower_slack(heights[x], reach[x]).max(mask[x]).min(least);
     }
     least
 }
@@ -175,12 +182,12 @@ fn place_shown(heights: &[u32], reach: &[u32], mask: &[u32], slack: u32) -> u32
     requires cells { length heights.now ≡ length reach.now }
     requires masked { length mask.now ≡ length reach.now }
     requires few { length reach.now ≤ MAX_PLACES }
-    requires there { IsShown heights.now reach.now mask.now slack }
+    requires there { IsMaskedSlack heights.now reach.now mask.now slack }
     ensures within { result < length reach.now }
-    ensures exact { slack ≡ shown heights.now reach.now mask.now result }
+    ensures exact { slack ≡ masked_slack heights.now reach.now mask.now result }
 {
     for x in 0..reach.len() {
-        if lesser_by(heights[x], reach[x]).max(mask[x]) == slack {
+        if lower_slack(heights[x], reach[x]).max(mask[x]) == slack {
             return x as u32;
         }
     }
@@ -188,33 +195,60 @@ fn place_shown(heights: &[u32], reach: &[u32], mask: &[u32], slack: u32) -> u32
 }
 
 /// Returns the least of a candidate and those at the outer vertices.
-fn aim_at_outers(heights: &[u32], reach: &[u32], s: &Search, best: Aim) -> Aim
+fn best_outer(heights: &[u32], reach: &[u32], s: &Search, best: Candidate) -> Candidate
     requires cells { length heights.now ≡ length reach.now }
-    requires within { HasCells (λ b. count b (outers (search_value s.now))) reach.now }
-    ensures { Aims heights.now reach.now kind.Shrink (outers (search_value s.now)) best result }
+    requires within { HasCells (λ b. count b (outer_vertices (search_value s.now))) reach.now }
+    ensures { IsBestCandidate heights.now reach.now kind.Shrink (outer_vertices (search_value s.now))
+        best result }
 {
-    let rooted = aim_at(heights, reach, s.root.members(&s.sets), Kind::Shrink, best);
-    aim_at_branches(&s.sets, heights, reach, &s.tree, rooted)
+    let rooted = best_candidate(
+        heights,
+        reach,
+        s.root.members(&s.sets),
+        EdgeKind::Shrink,
+        best,
+    );
+    best_in_branches(&s.sets, heights, reach, &s.tree, rooted)
 }
 
 /// Returns the least of a candidate and those at the outer vertices of the branches.
-fn aim_at_branches(sets: &Sets, heights: &[u32], reach: &[u32], tree: &[Branch], best: Aim) -> Aim
+fn best_in_branches(
+    sets: &Sets,
+    heights: &[u32],
+    reach: &[u32],
+    tree: &[Branch],
+    best: Candidate,
+) -> Candidate
     requires cells { length heights.now ≡ length reach.now }
     requires within { HasCells (λ b. count b (outer_members [] (branches_in sets.now tree.now))) reach.now }
-    ensures { Aims heights.now reach.now kind.Shrink (outer_members [] (branches_in sets.now tree.now))
+    ensures { IsBestCandidate heights.now reach.now kind.Shrink
+        (outer_members [] (branches_in sets.now tree.now))
         best result }
 {
     let mut least = best;
     for b in tree {
-        least = aim_at(heights, reach, b.outer.members(sets), Kind::Shrink, least);
+        least = best_candidate(
+            heights,
+            reach,
+            b.outer.members(sets),
+            EdgeKind::Shrink,
+            least,
+        );
     }
     least
 }
 
 /// Returns the change of a candidate, with the edge from an outer vertex that has its slack.
-fn change_to(t: &DistTable, heights: &[u32], reach: &[u32], s: &Search, aim: Aim) -> Change
-    requires { CanLead t.now heights.now (search_value s.now).root (search_value s.now).tree reach.now aim }
-    ensures { LeadsTo t.now heights.now (search_value s.now).root (search_value s.now).tree
+fn change_to(
+    t: &DistTable,
+    heights: &[u32],
+    reach: &[u32],
+    s: &Search,
+    aim: Candidate,
+) -> DualChange
+    requires { CanFindEdge t.now heights.now (search_value s.now).root (search_value s.now).tree
+        reach.now aim }
+    ensures { IsCandidateChange t.now heights.now (search_value s.now).root (search_value s.now).tree
         reach.now aim result }
 {
     let from = nearest(
@@ -226,9 +260,9 @@ fn change_to(t: &DistTable, heights: &[u32], reach: &[u32], s: &Search, aim: Aim
         aim.to,
         reach[aim.to as usize],
     );
-    Change {
+    DualChange {
         by: aim.by,
-        step: step_for(aim.kind, Link { from, to: aim.to }),
+        step: step_for(aim.kind, TightEdge { from, to: aim.to }),
     }
 }
 
@@ -237,25 +271,26 @@ fn nearest(
     sets: &Sets,
     t: &DistTable,
     heights: &[u32],
-    root: Seat,
+    root: Handle,
     tree: &[Branch],
     to: u32,
     left: u32,
 ) -> u32
-    requires can { CanReach t.now heights.now (set_in sets.now root) (branches_in sets.now tree.now) }
+    requires can { HasOuterCells t.now heights.now (set_in sets.now root) (branches_in sets.now tree.now) }
     requires within { to < t.now.places }
-    requires reached { IsReached t.now heights.now (set_in sets.now root)
+    requires reached { IsOuterSlack t.now heights.now (set_in sets.now root)
         (branches_in sets.now tree.now) to left }
     ensures here { 1 ≤ count result
         (outer_members (set_in sets.now root).members (branches_in sets.now tree.now)) }
-    ensures apart { holding result to (set_in sets.now root) (branches_in sets.now tree.now) ≡ 0 }
-    ensures exact { left ≡ left_by t.now heights.now result to }
+    ensures apart { count_holding_both result to (set_in sets.now root) (branches_in sets.now tree.now)
+        ≡ 0 }
+    ensures exact { left ≡ slack_from t.now heights.now result to }
 {
-    if let Some(a) = leaving(sets, t, heights, root, to, left) {
+    if let Some(a) = vertex_with_slack(sets, t, heights, root, to, left) {
         return a;
     }
     for b in tree {
-        if let Some(a) = leaving(sets, t, heights, b.outer, to, left) {
+        if let Some(a) = vertex_with_slack(sets, t, heights, b.outer, to, left) {
             return a;
         }
     }
@@ -263,25 +298,32 @@ fn nearest(
 }
 
 /// Returns a vertex of a set with the given slack to the other vertex, if the set doesn't hold both.
-fn leaving(sets: &Sets, t: &DistTable, heights: &[u32], s: Seat, to: u32, left: u32) -> Option<u32>
+fn vertex_with_slack(
+    sets: &Sets,
+    t: &DistTable,
+    heights: &[u32],
+    s: Handle,
+    to: u32,
+    left: u32,
+) -> Option<u32>
     requires cells { length heights.now ≡ t.now.places }
     requires within { (a : ℕ) → 1 ≤ count a (set_in sets.now s).members → a < t.now.places }
     requires to_in { to < t.now.places }
-    ensures { Leaves t.now heights.now (set_in sets.now s) to left result }
+    ensures { FindsSlackInSet t.now heights.now (set_in sets.now s) to left result }
 {
     if s.holds(sets, to) {
         None
     } else {
-        first_leaving(t, heights, s.members(sets), to, left)
+        first_with_slack(t, heights, s.members(sets), to, left)
     }
 }
 
 /// Returns the first of the vertices with the given slack.
-fn first_leaving(t: &DistTable, heights: &[u32], xs: &[u32], to: u32, left: u32) -> Option<u32>
+fn first_with_slack(t: &DistTable, heights: &[u32], xs: &[u32], to: u32, left: u32) -> Option<u32>
     requires cells { length heights.now ≡ t.now.places }
     requires within { (a : ℕ) → 1 ≤ count a xs.now → a < t.now.places }
     requires to_in { to < t.now.places }
-    ensures { LeavesIn t.now heights.now xs.now to left result }
+    ensures { FindsSlackIn t.now heights.now xs.now to left result }
 {
     for a in xs {
         if (2 * t.get(to, *a)).saturating_sub(heights[*a as usize]) == left {
@@ -292,25 +334,25 @@ fn first_leaving(t: &DistTable, heights: &[u32], xs: &[u32], to: u32, left: u32)
 }
 
 /// Returns the lesser of a change and the least dual of an inner blossom.
-fn scan_blossoms(sets: &Sets, tree: &[Branch], best: Change) -> Change
-    ensures { Narrows (branches_in sets.now tree.now) best result }
+fn scan_blossoms(sets: &Sets, tree: &[Branch], best: DualChange) -> DualChange
+    ensures { IsLesserChange (branches_in sets.now tree.now) best result }
 {
     let mut least = best;
     for (i, b) in tree.iter().enumerate() {
-        least = narrower(sets, *b, i, least);
+        least = lesser_change(sets, *b, i, least);
     }
     least
 }
 
 /// Returns the lesser of a change and the dual of the branch's inner blossom.
-fn narrower(sets: &Sets, b: Branch, at: usize, best: Change) -> Change
-    ensures { NarrowsAt (branch_in sets.now b) at best result }
+fn lesser_change(sets: &Sets, b: Branch, at: usize, best: DualChange) -> DualChange
+    ensures { IsLesserChangeAt (branch_in sets.now b) at best result }
 {
     let dual = b.inner.dual;
     if b.inner.is_blossom(sets) && dual < best.by {
-        Change {
+        DualChange {
             by: dual,
-            step: Step::Expand(at),
+            step: SearchStep::Expand(at),
         }
     } else {
         best

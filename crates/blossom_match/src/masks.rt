@@ -1,24 +1,24 @@
 ghost use Rattle.std.specs.Prelude.{◌≤◌, drop, length};
-ghost use Rattle.blossom_match.specs.Bands.{count};
-ghost use Rattle.blossom_match.specs.Matches.{match_members};
+ghost use Rattle.blossom_match.specs.DualSets.{count};
+ghost use Rattle.blossom_match.specs.MatchedSets.{match_members};
 ghost use Rattle.blossom_match.specs.Heights.{HasCells};
 ghost use Rattle.blossom_match.specs.Masks.{branch_members};
-ghost use Rattle.blossom_match.specs.Rows.{Puts};
+ghost use Rattle.blossom_match.specs.SlackRows.{SetsCells};
 ghost use Rattle.blossom_match.specs.Slots.{branch_in, matches_in};
 ghost use Rattle.blossom_match.specs.States.{search_value};
 ghost use Rattle.blossom_match.specs.declared.table.TheConstants.{FAR};
 
 use crate::branches::Branch;
 use crate::matches::Match;
-use crate::nest::Sets;
-use crate::rows::put;
+use crate::odd_set::Sets;
+use crate::slack_rows::put;
 use crate::state::Search;
 use crate::table::FAR;
 
 /// Shows the vertices of the matches.
 fn show(sets: &Sets, matches: &[Match], mask: &mut [u32])
     requires { HasCells (λ x. count x (match_members (matches_in sets.now matches.now))) mask.old }
-    ensures { Puts 0 (match_members (matches_in sets.now matches.now)) mask.old mask.new }
+    ensures { SetsCells 0 (match_members (matches_in sets.now matches.now)) mask.old mask.new }
 {
     for c in matches {
         put(0, c.first.members(sets), mask);
@@ -30,7 +30,7 @@ fn show(sets: &Sets, matches: &[Match], mask: &mut [u32])
 pub fn show_from(s: &Search, at: usize, mask: &mut [u32])
     requires within { at ≤ length s.now.rest.items }
     requires cells { HasCells (λ x. count x (match_members (drop at (search_value s.now).rest))) mask.old }
-    ensures { Puts 0 (match_members (drop at (search_value s.now).rest)) mask.old mask.new }
+    ensures { SetsCells 0 (match_members (drop at (search_value s.now).rest)) mask.old mask.new }
 {
     show(&s.sets, &s.rest[at..], mask);
 }
@@ -38,7 +38,7 @@ pub fn show_from(s: &Search, at: usize, mask: &mut [u32])
 /// Hides the vertices of a branch.
 pub fn hide(sets: &Sets, b: Branch, mask: &mut [u32])
     requires { HasCells (λ x. count x (branch_members (branch_in sets.now b))) mask.old }
-    ensures { Puts FAR (branch_members (branch_in sets.now b)) mask.old mask.new }
+    ensures { SetsCells FAR (branch_members (branch_in sets.now b)) mask.old mask.new }
 {
     put(FAR, b.inner.members(sets), mask);
     put(FAR, b.outer.members(sets), mask);

@@ -1,24 +1,24 @@
 ghost use Rattle.std.specs.Prelude.{◌≡◌, ◌≤◌, ◌<◌, ◌+◌, length, IfOk};
 ghost use Rattle.std.specs.Vec.Iter.{into_iter_items};
-ghost use Rattle.blossom_match.specs.Bands.{count};
-ghost use Rattle.blossom_match.specs.Matches.{match_members, matches_along, MatchHolds};
+ghost use Rattle.blossom_match.specs.DualSets.{count};
+ghost use Rattle.blossom_match.specs.MatchedSets.{match_members, matches_along, MatchHolds};
 ghost use Rattle.blossom_match.specs.Slots.{match_in, matches_in, parts_in, Slots};
-ghost use Rattle.blossom_match.specs.Trees.{TakesOut};
+ghost use Rattle.blossom_match.specs.Trees.{RemovesMatch};
 
-use crate::nest::{Link, Part, Seat, Sets};
+use crate::odd_set::{BlossomPart, Handle, Sets, TightEdge};
 use design_model::Memory;
 use std::alloc::Global;
 
 /// Two odd sets that are matched by an edge from the first to the second.
 #[derive(Clone, Copy, Drop)]
 pub struct Match {
-    pub first: Seat,
-    pub second: Seat,
-    pub link: Link,
+    pub first: Handle,
+    pub second: Handle,
+    pub link: TightEdge,
 }
 
 /// Matches the parts two by two; a last single part is left out.
-pub fn pair_off(alloc: Global, parts: std::vec::IntoIter<Part>) -> Result<Vec<Match>, Memory>
+pub fn pair_off(alloc: Global, parts: std::vec::IntoIter<BlossomPart>) -> Result<Vec<Match>, Memory>
     ensures { IfOk result (λ cs. (sets : Slots) → matches_in sets cs.items
         ≡ matches_along (parts_in sets (into_iter_items parts))) }
 {
@@ -27,8 +27,8 @@ pub fn pair_off(alloc: Global, parts: std::vec::IntoIter<Part>) -> Result<Vec<Ma
     while let Some(p) = left.next() {
         if let Some(q) = left.next() {
             out.push(Match {
-                first: p.seat,
-                second: q.seat,
+                first: p.handle,
+                second: q.handle,
                 link: p.next,
             })?;
         }
@@ -53,7 +53,7 @@ fn match_with(sets: &Sets, matches: &[Match], place: u32) -> usize
 /// Removes the match that holds a vertex, and returns it.
 pub fn take_match(sets: &Sets, matches: &mut Vec<Match>, place: u32) -> Match
     requires { 1 ≤ count place (match_members (matches_in sets.now matches.old.items)) }
-    ensures { TakesOut place (matches_in sets.now matches.old.items)
+    ensures { RemovesMatch place (matches_in sets.now matches.old.items)
         (matches_in sets.now matches.new.items) (match_in sets.now result) }
 {
     let at = match_with(sets, matches, place);

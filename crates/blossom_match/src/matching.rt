@@ -1,9 +1,9 @@
 ghost use Rattle.std.specs.Prelude.{◌≡◌, ◌%◌, IfOk};
-ghost use Rattle.blossom_match.specs.Tables.{KeepsTriangles};
-ghost use Rattle.blossom_match.specs.Matchings.{IsMatching};
+ghost use Rattle.blossom_match.specs.Tables.{HasTriangleInequality};
+ghost use Rattle.blossom_match.specs.Matchings.{IsOptimalMatching};
 
-use crate::pairing::match_sets;
-use crate::state::Standing;
+use crate::pairing::find_matches;
+use crate::state::PartialMatching;
 use crate::table::DistTable;
 use crate::taking::take_matches;
 use design_model::{Items, Memory, Numbers};
@@ -39,15 +39,15 @@ pub struct Matching {
 /// step. The only error is out of memory.
 pub fn match_all(alloc: Global, t: &DistTable) -> Result<Matching, Memory>
     requires even { t.now.places % 2 ≡ 0 }
-    requires triangles { KeepsTriangles t.now }
-    ensures { IfOk result (λ m. IsMatching t.now m.pairs m.moats) }
+    requires triangles { HasTriangleInequality t.now }
+    ensures { IfOk result (λ m. IsOptimalMatching t.now m.pairs m.moats) }
 {
-    let Standing {
+    let PartialMatching {
         sets,
         matches,
         free: _,
         heights: _,
-    } = match_sets(alloc, t)?;
+    } = find_matches(alloc, t)?;
     let mut pairs = Pairs::new(alloc);
     let mut moats = Moats::new(alloc);
     take_matches(alloc, &sets, matches, &mut pairs, &mut moats)?;

@@ -1,23 +1,23 @@
 ghost use Rattle.std.specs.Prelude.{◌≡◌, ◌≤◌, ℕ, IfOk};
-ghost use Rattle.blossom_match.specs.Bands.{count};
+ghost use Rattle.blossom_match.specs.DualSets.{count};
 ghost use Rattle.blossom_match.specs.Opens.{OpensAt};
 ghost use Rattle.blossom_match.specs.Slots.{core_in, matches_in, set_in, IsSet};
 
 use crate::blossom::turned_to;
 use crate::matches::{Match, pair_off};
-use crate::nest::{Seat, Sets};
+use crate::odd_set::{Handle, Sets};
 use design_model::Memory;
 use std::alloc::Global;
 
 /// A set that was opened: the part with the member that is paired outside, and the others matched.
 #[derive(Drop)]
-pub struct Opened {
-    pub core: Option<Seat>,
+pub struct OpenedSet {
+    pub core: Option<Handle>,
     pub matches: Vec<Match>,
 }
 
 /// Opens a set at the member that is paired outside.
-pub fn open_at(alloc: Global, sets: &Sets, s: Seat, left: u32) -> Result<Opened, Memory>
+pub fn open_at(alloc: Global, sets: &Sets, s: Handle, left: u32) -> Result<OpenedSet, Memory>
     requires set { IsSet sets.now s.key }
     requires there { count left (set_in sets.now s).members ≡ 1 }
     requires once { (x : ℕ) → count x (set_in sets.now s).members ≤ 1 }
@@ -27,7 +27,7 @@ pub fn open_at(alloc: Global, sets: &Sets, s: Seat, left: u32) -> Result<Opened,
     let mut parts = Vec::new(alloc);
     parts.extend_from_slice(s.parts(sets))?;
     if parts.len() == 0 {
-        return Ok(Opened {
+        return Ok(OpenedSet {
             core: None,
             matches: Vec::new(alloc),
         });
@@ -37,8 +37,8 @@ pub fn open_at(alloc: Global, sets: &Sets, s: Seat, left: u32) -> Result<Opened,
         None => unreachable!(),
         Some(p) => {
             let matches = pair_off(alloc, rest)?;
-            Ok(Opened {
-                core: Some(p.seat),
+            Ok(OpenedSet {
+                core: Some(p.handle),
                 matches,
             })
         }

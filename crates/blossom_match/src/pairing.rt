@@ -1,32 +1,36 @@
 ghost use Rattle.std.specs.Prelude.{◌≡◌, ◌%◌, length, IfOk};
-ghost use Rattle.blossom_match.specs.Tables.{IsMetric, KeepsTriangles};
-ghost use Rattle.blossom_match.specs.Phases.{IsMatched, StandsAt};
+ghost use Rattle.blossom_match.specs.Tables.{IsMetric, HasTriangleInequality};
+ghost use Rattle.blossom_match.specs.Phases.{MatchesAll, IsPartialState};
 ghost use Rattle.blossom_match.specs.Slots.{matches_in};
 
+use crate::initial_duals::initial_matching;
 use crate::phase::pair_up;
-use crate::prices::priced;
-use crate::rows::far_cells;
-use crate::state::Standing;
+use crate::slack_rows::far_cells;
+use crate::state::PartialMatching;
 use crate::table::DistTable;
 use design_model::Memory;
 use std::alloc::Global;
 
 /// Returns matched sets that hold all vertices.
-pub fn match_sets(alloc: Global, t: &DistTable) -> Result<Standing, Memory>
+pub fn find_matches(alloc: Global, t: &DistTable) -> Result<PartialMatching, Memory>
     requires even { t.now.places % 2 ≡ 0 }
-    requires triangles { KeepsTriangles t.now }
-    ensures { IfOk result (λ r. IsMatched t.now (matches_in r.sets r.matches.items)) }
+    requires triangles { HasTriangleInequality t.now }
+    ensures { IfOk result (λ r. MatchesAll t.now (matches_in r.sets r.matches.items)) }
 {
-    let now = priced(alloc, t, t.places())?;
+    let now = initial_matching(alloc, t, t.places())?;
     search_all(alloc, t, now)
 }
 
 /// Searches from each free vertex in turn.
-fn search_all(alloc: Global, t: &DistTable, from: Standing) -> Result<Standing, Memory>
+fn search_all(
+    alloc: Global,
+    t: &DistTable,
+    from: PartialMatching,
+) -> Result<PartialMatching, Memory>
     requires metric { IsMetric t.now }
-    requires stands { StandsAt t.now from }
+    requires stands { IsPartialState t.now from }
     requires even { length from.free.items % 2 ≡ 0 }
-    ensures { IfOk result (λ r. IsMatched t.now (matches_in r.sets r.matches.items)) }
+    ensures { IfOk result (λ r. MatchesAll t.now (matches_in r.sets r.matches.items)) }
 {
     let mut reach = far_cells(alloc, t.places() as usize)?;
     let mut mask = far_cells(alloc, t.places() as usize)?;

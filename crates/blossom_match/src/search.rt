@@ -1,15 +1,15 @@
 ghost use Rattle.std.specs.Prelude.{◌≡◌, ◌≤◌, ◌<◌, ◌+◌, ℕ, length, slice_index, IfOk};
-ghost use Rattle.blossom_match.specs.Bands.{count, hit};
-ghost use Rattle.blossom_match.specs.Searches.{Advances, CanStep, CanStepAt, ComesApart, Ends, HangsOn};
-ghost use Rattle.blossom_match.specs.States.{search_value, standing_value};
-ghost use Rattle.blossom_match.specs.declared.search.Step.TheVariants as step;
+ghost use Rattle.blossom_match.specs.DualSets.{count, one_if_equal};
+ghost use Rattle.blossom_match.specs.Searches.{Advances, CanStep, CanStepAt, ExpandsBranch, EndsSearch, GrowsBranch};
+ghost use Rattle.blossom_match.specs.States.{search_value, partial_value};
+ghost use Rattle.blossom_match.specs.declared.search.SearchStep.TheVariants as step;
 
 use crate::branches::{augment, grow};
 use crate::expanding::expand;
 use crate::matches::take_match;
-use crate::nest::{Link, single};
+use crate::odd_set::{TightEdge, single};
 use crate::shrinking::shrink;
-use crate::state::{Search, Standing};
+use crate::state::{PartialMatching, Search};
 use crate::table::DistTable;
 use design_model::Memory;
 use std::alloc::Global;
@@ -17,18 +17,18 @@ use std::alloc::Global;
 /// A step of a search. `Augment`, `Grow` and `Shrink` use a tight edge from an outer set: to a free vertex, a
 /// match, or another outer set. `Expand` takes the index of a branch whose inner set is a blossom of dual 0.
 #[derive(Clone, Copy, Drop)]
-pub enum Step {
-    Meet(Link),
-    Grow(Link),
-    Shrink(Link),
+pub enum SearchStep {
+    Augment(TightEdge),
+    Grow(TightEdge),
+    Shrink(TightEdge),
     Expand(usize),
 }
 
 /// Moves the match that an edge leads to into the tree.
-pub fn grow_to(s: Search, link: Link) -> Result<Search, Memory>
+pub fn grow_to(s: Search, link: TightEdge) -> Result<Search, Memory>
     requires { CanStep (search_value s) (step.Grow link) }
     ensures advances { IfOk result (λ r. Advances (search_value s) (step.Grow link) (search_value r)) }
-    ensures hangs { IfOk result (λ r. HangsOn (search_value s) (search_value r)) }
+    ensures hangs { IfOk result (λ r. GrowsBranch (search_value s) (search_value r)) }
 {
     let Search {
         sets,
@@ -53,7 +53,7 @@ pub fn grow_to(s: Search, link: Link) -> Result<Search, Memory>
 }
 
 /// Shrinks the blossom that an edge closes to one outer set.
-pub fn shrink_by(alloc: Global, s: Search, link: Link) -> Result<Search, Memory>
+pub fn shrink_by(alloc: Global, s: Search, link: TightEdge) -> Result<Search, Memory>
     requires { CanStep (search_value s) (step.Shrink link) }
     ensures advances { IfOk result (λ r. Advances (search_value s) (step.Shrink link) (search_value r)) }
     ensures rest { IfOk result (λ r. (search_value r).rest ≡ (search_value s).rest) }
@@ -83,7 +83,7 @@ pub fn shrink_by(alloc: Global, s: Search, link: Link) -> Result<Search, Memory>
 pub fn expand_at(alloc: Global, s: Search, at: usize) -> Result<Search, Memory>
     requires { CanStep (search_value s) (step.Expand at) }
     ensures advances { IfOk result (λ r. Advances (search_value s) (step.Expand at) (search_value r)) }
-    ensures apart { IfOk result (λ r. ComesApart at (search_value s) (search_value r)) }
+    ensures apart { IfOk result (λ r. ExpandsBranch at (search_value s) (search_value r)) }
 {
     let Search {
         sets,
@@ -108,9 +108,14 @@ pub fn expand_at(alloc: Global, s: Search, at: usize) -> Result<Search, Memory>
 }
 
 /// Augments along the path to the free vertex that an edge leads to: all sets of the tree are matched.
-pub fn meet(alloc: Global, t: &DistTable, s: Search, link: Link) -> Result<Standing, Memory>
-    requires { CanStepAt t.now (search_value s) (step.Meet link) }
-    ensures { IfOk result (λ r. Ends t.now (search_value s) (step.Meet link) (standing_value r)) }
+pub fn augment_to(
+    alloc: Global,
+    t: &DistTable,
+    s: Search,
+    link: TightEdge,
+) -> Result<PartialMatching, Memory>
+    requires { CanStepAt t.now (search_value s) (step.Augment link) }
+    ensures { IfOk result (λ r. EndsSearch t.now (search_value s) (step.Augment link) (partial_value r)) }
 {
     let Search {
         sets,
@@ -126,7 +131,7 @@ pub fn meet(alloc: Global, t: &DistTable, s: Search, link: Link) -> Result<Stand
     let met = single(alloc, &mut slots, t, link.to, &heights)?;
     let mut matches = rest;
     augment(&slots, root, tree, link, met, &mut matches)?;
-    Ok(Standing {
+    Ok(PartialMatching {
         sets: slots,
         matches,
         free: left,
@@ -137,7 +142,7 @@ pub fn meet(alloc: Global, t: &DistTable, s: Search, link: Link) -> Result<Stand
 /// Removes a vertex from a list that has it.
 pub fn take_place(places: &mut Vec<u32>, place: u32)
     requires { 1 ≤ count place places.old.items }
-    ensures counts { (x : ℕ) → count x places.new.items + hit x place ≡ count x places.old.items }
+    ensures counts { (x : ℕ) → count x places.new.items + one_if_equal x place ≡ count x places.old.items }
     ensures fewer { length places.new.items + 1 ≡ length places.old.items }
 {
     let at = index_of(places, place);

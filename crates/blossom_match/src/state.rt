@@ -1,23 +1,23 @@
 ghost use Rattle.std.proofs.Props.{props};
 ghost use Rattle.blossom_match.specs.SlotProps.{set-prop};
-ghost use Rattle.blossom_match.specs.Matches.{match_bands};
-ghost use Rattle.blossom_match.specs.Trees.{all_bands};
+ghost use Rattle.blossom_match.specs.MatchedSets.{match_dual_sets};
+ghost use Rattle.blossom_match.specs.Trees.{all_dual_sets};
 ghost use Rattle.blossom_match.specs.Slots.{branches_in, matches_in, set_in, AreSets};
 
 use crate::branches::Branch;
 use crate::matches::Match;
-use crate::nest::{Seat, Sets};
+use crate::odd_set::{Handle, Sets};
 
 /// A partial matching: matched sets, free vertices, and the height of each vertex. The height is the sum of
 /// the duals of the sets that hold the vertex, or the initial dual of a free one. Each set has a slot of its
 /// own.
 #[derive(Drop)]
-pub struct Standing {
+pub struct PartialMatching {
     pub sets: Sets,
     pub matches: Vec<Match>,
     pub free: Vec<u32>,
     pub heights: Vec<u32>,
-    ghost stand: { AreSets sets (match_bands (matches_in sets matches.items)) } by { Prim.hlevel (props, set-prop) },
+    ghost stand: { AreSets sets (match_dual_sets (matches_in sets matches.items)) } by { Prim.hlevel (props, set-prop) },
 }
 
 /// A search for an augmenting path from the root to a free vertex. The fields are the alternating tree, the
@@ -25,11 +25,11 @@ pub struct Standing {
 #[derive(Drop)]
 pub struct Search {
     pub sets: Sets,
-    pub root: Seat,
+    pub root: Handle,
     pub tree: Vec<Branch>,
     pub rest: Vec<Match>,
     pub free: Vec<u32>,
     pub heights: Vec<u32>,
-    ghost stand: { AreSets sets (all_bands (set_in sets root) (branches_in sets tree.items)
+    ghost stand: { AreSets sets (all_dual_sets (set_in sets root) (branches_in sets tree.items)
         (matches_in sets rest.items)) } by { Prim.hlevel (props, set-prop) },
 }

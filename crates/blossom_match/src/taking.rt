@@ -1,33 +1,33 @@
 ghost use Rattle.std.specs.Prelude.{◌≡◌, ◌≤◌, ◌++◌, ◌∷◌, [], ℕ, OnOk};
 ghost use Rattle.blossom_match.specs.Lists.{Each};
-ghost use Rattle.blossom_match.specs.Bands.{bands, count};
-ghost use Rattle.blossom_match.specs.Matches.{match_bands, match_members, IsJoined};
+ghost use Rattle.blossom_match.specs.DualSets.{dual_sets, count};
+ghost use Rattle.blossom_match.specs.MatchedSets.{match_dual_sets, match_members, IsMatch};
 ghost use Rattle.blossom_match.specs.Slots.{matches_in, set_in, AreSets};
-ghost use Rattle.blossom_match.specs.Taken.{own_moat, TakesMatches, TakesNest};
+ghost use Rattle.blossom_match.specs.Taken.{moat_of_set, TakesApartMatches, TakesApartSet};
 
 use crate::matches::Match;
 use crate::matching::{Moat, Moats, Pair, Pairs};
-use crate::nest::{Link, Seat, Sets};
-use crate::opening::{Opened, open_at};
+use crate::odd_set::{Handle, Sets, TightEdge};
+use crate::opening::{OpenedSet, open_at};
 use design_model::{Memory, Numbers};
 use std::alloc::Global;
 
 /// Appends the pairs inside a set and its moats, where its member `left` is paired outside.
 #[cycle(taking)]
-pub fn take_nest(
+pub fn take_apart(
     alloc: Global,
     sets: &Sets,
-    s: Seat,
+    s: Handle,
     left: u32,
     pairs: &mut Pairs,
     moats: &mut Moats,
 ) -> Result<(), Memory>
-    requires sets { AreSets sets.now (bands (set_in sets.now s)) }
+    requires sets { AreSets sets.now (dual_sets (set_in sets.now s)) }
     requires there { count left (set_in sets.now s).members ≡ 1 }
     requires once { (x : ℕ) → count x (set_in sets.now s).members ≤ 1 }
-    ensures { OnOk result (TakesNest left (set_in sets.now s) pairs.old pairs.new moats.old moats.new) }
+    ensures { OnOk result (TakesApartSet left (set_in sets.now s) pairs.old pairs.new moats.old moats.new) }
 {
-    let Opened { core, matches } = open_at(alloc, sets, s, left)?;
+    let OpenedSet { core, matches } = open_at(alloc, sets, s, left)?;
     add_moat(alloc, s.members(sets), s.dual, moats)?;
     match core {
         None => {
@@ -35,7 +35,7 @@ pub fn take_nest(
             Ok(())
         }
         Some(part) => {
-            take_nest(alloc, sets, part, left, pairs, moats)?;
+            take_apart(alloc, sets, part, left, pairs, moats)?;
             take_matches(alloc, sets, matches, pairs, moats)?;
             Ok(())
         }
@@ -51,16 +51,16 @@ pub fn take_matches(
     pairs: &mut Pairs,
     moats: &mut Moats,
 ) -> Result<(), Memory>
-    requires sets { AreSets sets.now (match_bands (matches_in sets.now matches.items)) }
-    requires joined { Each IsJoined (matches_in sets.now matches.items) }
+    requires sets { AreSets sets.now (match_dual_sets (matches_in sets.now matches.items)) }
+    requires joined { Each IsMatch (matches_in sets.now matches.items) }
     requires once { (x : ℕ) → count x (match_members (matches_in sets.now matches.items)) ≤ 1 }
-    ensures { OnOk result (TakesMatches (matches_in sets.now matches.items) pairs.old pairs.new
+    ensures { OnOk result (TakesApartMatches (matches_in sets.now matches.items) pairs.old pairs.new
         moats.old moats.new) }
 {
     let mut rest = matches.into_iter();
     while let Some(c) = rest.next() {
-        take_nest(alloc, sets, c.first, c.link.from, pairs, moats)?;
-        take_nest(alloc, sets, c.second, c.link.to, pairs, moats)?;
+        take_apart(alloc, sets, c.first, c.link.from, pairs, moats)?;
+        take_apart(alloc, sets, c.second, c.link.to, pairs, moats)?;
         add_pair(c.link, pairs)?;
     }
     Ok(())
@@ -68,7 +68,7 @@ pub fn take_matches(
 
 /// Appends a moat, unless its width is 0.
 fn add_moat(alloc: Global, members: &[u32], width: u32, moats: &mut Moats) -> Result<(), Memory>
-    ensures { OnOk result (moats.new ≡ moats.old ++ own_moat members.now width) }
+    ensures { OnOk result (moats.new ≡ moats.old ++ moat_of_set members.now width) }
 {
     if width > 0 {
         let mut places = Numbers::new(alloc);
@@ -82,7 +82,7 @@ fn add_moat(alloc: Global, members: &[u32], width: u32, moats: &mut Moats) -> Re
 }
 
 /// Appends the pair of an edge.
-fn add_pair(link: Link, pairs: &mut Pairs) -> Result<(), Memory>
+fn add_pair(link: TightEdge, pairs: &mut Pairs) -> Result<(), Memory>
     ensures { OnOk result (pairs.new ≡ pairs.old ++ record { a = link.from; b = link.to } ∷ []) }
 {
     pairs.push(Pair {

@@ -4,7 +4,7 @@ use Rattle.std.specs.Fmt.{digits}
 use Rattle.std.specs.List.{flat_map}
 use Rattle.cut_certificate.specs.declared.certificate.PieceCert.{PieceCert}
 use Rattle.certificate_text.specs.declared.reading.TheConstants.{MAX_CERT}
-use Rattle.certificate_text.specs.CertificateLines.{number_in, pass_in}
+use Rattle.certificate_text.specs.CertificateLines.{parsed_cert_number, parsed_pass}
 use Rattle.text_parts.specs.Parts.{words_in}
 use Rattle.certificate_text.specs.CertificateTexts.{certificate_text}
 use Rattle.certificate_text.specs.ReadCertificates.{cert_of, first_lines}
@@ -59,18 +59,18 @@ pub known_empty : certificate_text [] ≡ headed (codes "end" ∷ []) × Says (c
 known_empty = (refl, refl)
 
 -- numbers as words: none, zero, a zero before a digit, the greatest and the one above it, a letter, a sign
-pub known_numbers : (number_in [] ≡ None) × (number_in (codes "0") ≡ Some 0) × (number_in (codes "00") ≡ None)
-    × (number_in (codes "07") ≡ None) × (number_in (codes "70") ≡ Some 70)
-    × (number_in (codes "4294967295") ≡ Some 4294967295) × (number_in (codes "4294967296") ≡ None)
-    × (number_in (codes "7a") ≡ None) × (number_in (codes "/") ≡ None) × (number_in (codes ":") ≡ None)
-    × (number_in (codes "+7") ≡ None)
+pub known_numbers : (parsed_cert_number [] ≡ None) × (parsed_cert_number (codes "0") ≡ Some 0) × (parsed_cert_number (codes "00") ≡ None)
+    × (parsed_cert_number (codes "07") ≡ None) × (parsed_cert_number (codes "70") ≡ Some 70)
+    × (parsed_cert_number (codes "4294967295") ≡ Some 4294967295) × (parsed_cert_number (codes "4294967296") ≡ None)
+    × (parsed_cert_number (codes "7a") ≡ None) × (parsed_cert_number (codes "/") ≡ None) × (parsed_cert_number (codes ":") ≡ None)
+    × (parsed_cert_number (codes "+7") ≡ None)
 known_numbers = (refl, refl, refl, refl, refl, refl, refl, refl, refl, refl, refl)
 
 -- passes: the greatest index is one below the greatest number
-pub known_passes : (pass_in (codes "4294967295") ≡ Some (record { line = 4294967294; back = false }))
-    × (pass_in (codes "-3") ≡ Some (record { line = 2; back = true }))
-    × (pass_in (codes "0") ≡ None) × (pass_in (codes "-0") ≡ None) × (pass_in (codes "-") ≡ None)
-    × (pass_in (codes "--1") ≡ None) × (pass_in (codes "4294967296") ≡ None)
+pub known_passes : (parsed_pass (codes "4294967295") ≡ Some (record { line = 4294967294; back = false }))
+    × (parsed_pass (codes "-3") ≡ Some (record { line = 2; back = true }))
+    × (parsed_pass (codes "0") ≡ None) × (parsed_pass (codes "-0") ≡ None) × (parsed_pass (codes "-") ≡ None)
+    × (parsed_pass (codes "--1") ≡ None) × (parsed_pass (codes "4294967296") ≡ None)
 known_passes = (refl, refl, refl, refl, refl, refl, refl)
 
 -- words: each space parts two, which may be empty

@@ -9,8 +9,8 @@ use Rattle.std.specs.Char.{is_ascii_digit}
 use Rattle.std.specs.List.{flat_map}
 use Rattle.std.specs.Str.{all_ascii_digits}
 use Rattle.line_graph.specs.declared.pass.Pass.{Pass}
-use Rattle.line_graph.specs.PieceWalks.{above, rises}
-use Rattle.certificate_text.specs.CertificateLines.{members_after, number_above, pass_along, pass_in, passes_in}
+use Rattle.line_graph.specs.PieceWalks.{all_greater, is_strictly_increasing}
+use Rattle.certificate_text.specs.CertificateLines.{parsed_members_after, parsed_number_above, parsed_pass_along, parsed_pass, parsed_passes}
 use Rattle.certificate_text.specs.CertificateTexts.{member_text, passes_text}
 use Rattle.certificate_text.proofs.NumberWords.{above_is, above_read, map_some, own, pass_is, pass_spaced, pass_word, spaced, then_some}
 
@@ -38,21 +38,21 @@ members_spaced (j ∷ members) =
     ap (λ (text : List ℕ). (32 ∷ member_word j) ++ text) (members_spaced members)
 
 -- a printed pass is read
-pass_read : (pass : Pass) → HasPass pass → pass_in (pass_word pass) ≡ Some pass
+pass_read : (pass : Pass) → HasPass pass → parsed_pass (pass_word pass) ≡ Some pass
 pass_read pass has = by_sign pass.back refl where
-  along : (back : Bool) → pass_along back (decimal (pass.line + 1)) ≡ Some (record { line = pass.line; back = back })
+  along : (back : Bool) → parsed_pass_along back (decimal (pass.line + 1)) ≡ Some (record { line = pass.line; back = back })
   along back =
       let before : pass.line + 1 - 1 ≡ pass.line = omega arith in
       rw (above_read 0 (pass.line + 1) (omega arith) has, before) refl
 
-  forward : (word : List ℕ) → all_ascii_digits word ≡ true → 0 < length word → pass_in word ≡ pass_along false word
+  forward : (word : List ℕ) → all_ascii_digits word ≡ true → 0 < length word → parsed_pass word ≡ parsed_pass_along false word
   forward [] digits some = absurd (omega arith)
   forward (b ∷ rest) digits some =
       let digit = (and_parts (is_ascii_digit b) (all_ascii_digits rest) digits).0 in
       let test : (b == 45) ≡ false = grind (arith, nat_tests, digit) in
       rw test refl
 
-  by_sign : (back : Bool) → pass.back ≡ back → pass_in (pass_word pass) ≡ Some pass
+  by_sign : (back : Bool) → pass.back ≡ back → parsed_pass (pass_word pass) ≡ Some pass
   by_sign true is = rw is (along true)
   by_sign false is =
       let fits : pass.line + 1 < 2 ^ 64 = omega (arith, has) in
@@ -60,7 +60,7 @@ pass_read pass has = by_sign pass.back refl where
       (decimal_nonempty (pass.line + 1) fits) ∙ along false)
 
 -- printed passes are read
-pub passes_read : (walk : List Pass) → All HasPass walk → passes_in (map pass_word walk) ≡ Some walk
+pub passes_read : (walk : List Pass) → All HasPass walk → parsed_passes (map pass_word walk) ≡ Some walk
 passes_read [] have = refl
 passes_read (pass ∷ walk) have =
     rw (pass_read pass (All-head HasPass pass walk have), passes_read walk (All-tail HasPass pass walk have)) refl
@@ -71,12 +71,12 @@ pub record SayPasses (words : List (List ℕ)) (walk : List Pass) : Type 0 where
   pub have : All HasPass walk
 
 -- passes that were read are those that the words spell
-pub passes_are : (words : List (List ℕ)) (walk : List Pass) → passes_in words ≡ Some walk → SayPasses words walk
+pub passes_are : (words : List (List ℕ)) (walk : List Pass) → parsed_passes words ≡ Some walk → SayPasses words walk
 passes_are [] walk says =
     subst (λ (one : List Pass). SayPasses [] one) (same_Some [] walk says) (record { are = refl; have = All-nil HasPass })
 passes_are (word ∷ words) walk says =
-    then_some (λ pass. option_map (λ passes. pass ∷ passes) (passes_in words)) (pass_in word) walk says (λ pass first rest.
-    map_some (λ passes. pass ∷ passes) (passes_in words) walk rest (λ passes behind made.
+    then_some (λ pass. option_map (λ passes. pass ∷ passes) (parsed_passes words)) (parsed_pass word) walk says (λ pass first rest.
+    map_some (λ passes. pass ∷ passes) (parsed_passes words) walk rest (λ passes behind made.
     let one = pass_is word pass first in
     let others = passes_are words passes behind in
     subst (λ (all : List Pass). SayPasses (word ∷ words) all) made (record {
@@ -95,37 +95,38 @@ reach_all [] = tt
 reach_all (j ∷ members) = omega arith
 
 -- what is above a number is above a lesser one
-above_less : (j m : ℕ) (members : List ℕ) → j < m → above m members ≡ true → above j members ≡ true
+above_less : (j m : ℕ) (members : List ℕ) → j < m → all_greater m members ≡ true → all_greater j members ≡ true
 above_less j m [] less all = refl
 above_less j m (k ∷ members) less all =
-    let both = and_parts (nat_lt m k) (above m members) all in
-    and_from (nat_lt j k) (above j members) (grind (arith, nat_tests, less, both.0)) (above_less j m members less both.1)
+    let both = and_parts (nat_lt m k) (all_greater m members) all in
+    and_from (nat_lt j k) (all_greater j members) (grind (arith, nat_tests, less, both.0)) (above_less j m members less both.1)
 
 -- members rise where each is above the one before it
-rises_from : (j : ℕ) (members : List ℕ) → Reaches (j + 1) members → rises members ≡ true → rises (j ∷ members) ≡ true
+rises_from : (j : ℕ) (members : List ℕ) → Reaches (j + 1) members → is_strictly_increasing members ≡ true
+    → is_strictly_increasing (j ∷ members) ≡ true
 rises_from j [] reach rising = refl
 rises_from j (k ∷ members) reach rising =
-    let both = and_parts (above k members) (rises members) rising in
+    let both = and_parts (all_greater k members) (is_strictly_increasing members) rising in
     let less : j < k = omega (arith, reach) in
-    and_from (above j (k ∷ members)) (rises (k ∷ members))
-    (and_from (nat_lt j k) (above j members) (grind (arith, nat_tests, less)) (above_less j k members less both.0)) rising
+    and_from (all_greater j (k ∷ members)) (is_strictly_increasing (k ∷ members))
+    (and_from (nat_lt j k) (all_greater j members) (grind (arith, nat_tests, less)) (above_less j k members less both.0)) rising
 
 -- where members rise, the second one is above the first one
-rises_reach : (j : ℕ) (members : List ℕ) → rises (j ∷ members) ≡ true → Reaches (j + 1) members
+rises_reach : (j : ℕ) (members : List ℕ) → is_strictly_increasing (j ∷ members) ≡ true → Reaches (j + 1) members
 rises_reach j [] rising = tt
 rises_reach j (k ∷ members) rising =
-    let both = and_parts (above j (k ∷ members)) (rises (k ∷ members)) rising in
-    let less = (and_parts (nat_lt j k) (above j members) both.0).0 in
+    let both = and_parts (all_greater j (k ∷ members)) (is_strictly_increasing (k ∷ members)) rising in
+    let less = (and_parts (nat_lt j k) (all_greater j members) both.0).0 in
     grind (arith, nat_tests, less)
 
 -- printed members are read
-pub members_read : (before : ℕ) (members : List ℕ) → Reaches before members → rises members ≡ true → All HasMember members
-    → members_after before (map member_word members) ≡ Some members
+pub members_read : (before : ℕ) (members : List ℕ) → Reaches before members → is_strictly_increasing members ≡ true → All HasMember members
+    → parsed_members_after before (map member_word members) ≡ Some members
 members_read before [] reach rising have = refl
 members_read before (j ∷ members) reach rising have =
     let less : before < j + 1 = omega (arith, reach) in
     let same : j + 1 - 1 ≡ j = omega arith in
-    let rest = (and_parts (above j members) (rises members) rising).1 in
+    let rest = (and_parts (all_greater j members) (is_strictly_increasing members) rising).1 in
     rw (
       above_read before (j + 1) less (All-head HasMember j members have),
       members_read (j + 1) members (rises_reach j members rising) rest (All-tail HasMember j members have),
@@ -136,19 +137,19 @@ members_read before (j ∷ members) reach rising have =
 pub record SayMembers (before : ℕ) (words : List (List ℕ)) (members : List ℕ) : Type 0 where
   pub are : map member_word members ≡ words
   pub reach : Reaches before members
-  pub rising : rises members ≡ true
+  pub rising : is_strictly_increasing members ≡ true
   pub have : All HasMember members
 
 -- members that were read are those that the words spell
-pub members_are : (before : ℕ) (words : List (List ℕ)) (members : List ℕ) → members_after before words ≡ Some members
+pub members_are : (before : ℕ) (words : List (List ℕ)) (members : List ℕ) → parsed_members_after before words ≡ Some members
     → SayMembers before words members
 members_are before [] members says =
     subst (λ (one : List ℕ). SayMembers before [] one) (same_Some [] members says)
     (record { are = refl; reach = tt; rising = refl; have = All-nil HasMember })
 members_are before (word ∷ words) members says =
-    then_some (λ number. option_map (λ more. (number - 1) ∷ more) (members_after number words)) (number_above before word)
+    then_some (λ number. option_map (λ more. (number - 1) ∷ more) (parsed_members_after number words)) (parsed_number_above before word)
     members says (λ number first rest.
-    map_some (λ more. (number - 1) ∷ more) (members_after number words) members rest (λ more behind made.
+    map_some (λ more. (number - 1) ∷ more) (parsed_members_after number words) members rest (λ more behind made.
     let one = above_is before word number first in
     let others = members_are number words more behind in
     let next : number - 1 + 1 ≡ number = omega (arith, one.0) in

@@ -6,8 +6,8 @@ mod CertificateFacts
 mod NumberWords
 mod ItemWords
 mod LineTexts
-mod OneText
+mod UniqueTexts
 mod ReadTexts
 mod ItemPuts
 mod TextLengths
-mod FirstUnfit
+mod FirstBadLines

@@ -8,7 +8,7 @@ use Rattle.line_graph.specs.declared.pass.Pass.{Pass}
 use Rattle.certificate_text.specs.declared.lines.CertLine.{CertLine}
 use Rattle.certificate_text.specs.declared.lines.CertLine.TheVariants as line
 use Rattle.cut_certificate.specs.declared.cut.Cut.{Cut}
-use Rattle.certificate_text.specs.CertificateLines.{cut_in, line_said, members_after, number_above, number_in, only_number, passes_in, walk_in, words_said}
+use Rattle.certificate_text.specs.CertificateLines.{parsed_cut, parsed_cert_line, parsed_members_after, parsed_number_above, parsed_cert_number, only_number, parsed_passes, parsed_walk, parsed_cert_words}
 use Rattle.text_parts.specs.Parts.{words_in}
 use Rattle.certificate_text.specs.CertificateTexts.{member_text, passes_text}
 use Rattle.cut_certificate.specs.Packings.{IsPlainCut}
@@ -52,7 +52,7 @@ piece_said : (words : List (List ℕ)) (l : CertLine) → option_map line.Piece 
     → SaysLine (codes "piece" ++ spaced words) l
 piece_said [] l says = absurd (none-some l says)
 piece_said (word ∷ []) l says =
-    map_some line.Piece (number_in word) l says (λ number read made.
+    map_some line.Piece (parsed_cert_number word) l says (λ number read made.
     let spells = number_is word number read in
     subst (λ (one : CertLine). SaysLine (codes "piece" ++ spaced (word ∷ [])) one) made (record {
       is = ap (λ (text : List ℕ). codes "piece " ++ text) (append-nil word ∙ sym spells.is);
@@ -70,11 +70,11 @@ some_pass walk word words are none =
     some_item word words (sym are ∙ ap (λ (passes : List Pass). map pass_word passes) none)
 
 -- the line of a walk
-walk_said : (words : List (List ℕ)) (l : CertLine) → option_map line.Walk (walk_in words) ≡ Some l
+walk_said : (words : List (List ℕ)) (l : CertLine) → option_map line.Walk (parsed_walk words) ≡ Some l
     → SaysLine (codes "walk" ++ spaced words) l
 walk_said [] l says = absurd (none-some l says)
 walk_said (word ∷ words) l says =
-    map_some line.Walk (passes_in (word ∷ words)) l says (λ walk read made.
+    map_some line.Walk (parsed_passes (word ∷ words)) l says (λ walk read made.
     let all = passes_are (word ∷ words) walk read in
     subst (λ (one : CertLine). SaysLine (codes "walk" ++ spaced (word ∷ words)) one) made (record {
       is = ap (λ (text : List ℕ). codes "walk" ++ text) (sym (passes_spaced walk ∙ ap spaced all.are));
@@ -82,14 +82,14 @@ walk_said (word ∷ words) l says =
     }))
 
 -- the line of a cut
-cut_said : (words : List (List ℕ)) (l : CertLine) → option_map line.Cut (cut_in words) ≡ Some l
+cut_said : (words : List (List ℕ)) (l : CertLine) → option_map line.Cut (parsed_cut words) ≡ Some l
     → SaysLine (codes "cut" ++ spaced words) l
 cut_said [] l says = absurd (none-some l says)
 cut_said (word ∷ words) l says =
-    map_some line.Cut (cut_in (word ∷ words)) l says (λ cut read made.
-    then_some (λ weight. option_map (λ members. record { weight = weight; members = members }) (members_after 0 words))
-    (number_above 0 word) cut read (λ weight first rest.
-    map_some (λ members. record { weight = weight; members = members }) (members_after 0 words) cut rest (λ members behind cuts.
+    map_some line.Cut (parsed_cut (word ∷ words)) l says (λ cut read made.
+    then_some (λ weight. option_map (λ members. record { weight = weight; members = members }) (parsed_members_after 0 words))
+    (parsed_number_above 0 word) cut read (λ weight first rest.
+    map_some (λ members. record { weight = weight; members = members }) (parsed_members_after 0 words) cut rest (λ members behind cuts.
     let spells = above_is 0 word weight first in
     let all = members_are 0 words members behind in
     let whole : Cut = record { weight = weight; members = members } in
@@ -109,7 +109,7 @@ same_word : (word text : List ℕ) → bytes_eq word text ≡ true → word ≡ 
 same_word word text found = (bytes_eq-Decides word text).0 found
 
 -- the line of words, by the first one
-words_are : (words : List (List ℕ)) (l : CertLine) → words_said words ≡ Some l → SaysLine (join_with_byte 32 words) l
+words_are : (words : List (List ℕ)) (l : CertLine) → parsed_cert_words words ≡ Some l → SaysLine (join_with_byte 32 words) l
 words_are [] l says = absurd (none-some l says)
 words_are (word ∷ words) l says =
     subst (λ (bytes : List ℕ). SaysLine bytes l) (sym (joined word words))
@@ -128,7 +128,7 @@ words_are (word ∷ words) l says =
       by_kind false false false is walks cuts = absurd (none-some l (rw (is, walks, cuts) at says))
 
 -- bytes with the meaning of a line are the text of that line
-pub line_is : (bytes : List ℕ) (l : CertLine) → line_said bytes ≡ Some l → SaysLine bytes l
+pub line_is : (bytes : List ℕ) (l : CertLine) → parsed_cert_line bytes ≡ Some l → SaysLine bytes l
 line_is bytes l says =
     by_kind (bytes_eq bytes (codes "redwork-certificate 1")) (bytes_eq bytes (codes "end")) refl refl where
       whole : (text : List ℕ) (one : CertLine) → bytes_eq bytes text ≡ true → text ≡ line_bytes one → HasLine one

@@ -11,7 +11,7 @@ use Rattle.std.specs.Option.{option_and_then}
 use Rattle.std.specs.Str.{all_ascii_digits}
 use Rattle.std.specs.Str.Parse.{digits_value}
 use Rattle.line_graph.specs.declared.pass.Pass.{Pass}
-use Rattle.certificate_text.specs.CertificateLines.{is_plain_numeral, number_above, number_in, pass_along, pass_in, small_number}
+use Rattle.certificate_text.specs.CertificateLines.{is_canonical_numeral, parsed_number_above, parsed_cert_number, parsed_pass_along, parsed_pass, small_number}
 use Rattle.certificate_text.specs.CertificateTexts.{pass_text}
 
 -- std's view of decimal digits
@@ -47,7 +47,7 @@ false_true : false ≡ true → ⊥
 false_true is = cc
 
 -- the result of the test of a numeral
-plain_is : (word : List ℕ) → is_plain_numeral word ≡ true → IsPlain word
+plain_is : (word : List ℕ) → is_canonical_numeral word ≡ true → IsPlain word
 plain_is [] is = absurd (false_true is)
 plain_is (b ∷ []) is = record { digits = and_from (is_ascii_digit b) true is refl; some = omega arith; lead = λ zero. refl }
 plain_is (b ∷ c ∷ rest) is =
@@ -56,14 +56,14 @@ plain_is (b ∷ c ∷ rest) is =
 
 -- digits after one that is no zero are such a numeral
 plain_from : (word : List ℕ) → all_ascii_digits word ≡ true → 0 < length word → 48 < get_or word 0 0
-    → is_plain_numeral word ≡ true
+    → is_canonical_numeral word ≡ true
 plain_from [] digits some lead = absurd (omega arith)
 plain_from (b ∷ []) digits some lead = (and_parts (is_ascii_digit b) true digits).0
 plain_from (b ∷ c ∷ rest) digits some lead =
     and_from (not (b == 48)) (all_ascii_digits (b ∷ c ∷ rest)) (grind (arith, nat_tests, lead)) digits
 
 -- the numeral of a number has no leading zero
-decimal_plain : (n : ℕ) → n < 2 ^ 64 → is_plain_numeral (decimal n) ≡ true
+decimal_plain : (n : ℕ) → n < 2 ^ 64 → is_canonical_numeral (decimal n) ≡ true
 decimal_plain n small = elim (cases_order n 0) [
   | inl none ↦ rw (none, decimal_digit 0 (omega arith)) refl
   | inr (inl less) ↦ absurd (omega (arith, less))
@@ -72,7 +72,7 @@ decimal_plain n small = elim (cases_order n 0) [
 ]
 
 -- a number is read from its numeral
-pub number_read : (n : ℕ) → n < 2 ^ 32 → number_in (decimal n) ≡ Some n
+pub number_read : (n : ℕ) → n < 2 ^ 32 → parsed_cert_number (decimal n) ≡ Some n
 number_read n small =
     let fits : n < 2 ^ 64 = omega (arith, small) in
     let test : nat_lt n (2 ^ 32) ≡ true = grind (arith, nat_tests, small) in
@@ -84,9 +84,9 @@ pub record Spells (word : List ℕ) (n : ℕ) : Type 0 where
   pub small : n < 2 ^ 32
 
 -- the number that is read from a word is the one that it denotes
-pub number_is : (word : List ℕ) (n : ℕ) → number_in word ≡ Some n → Spells word n
+pub number_is : (word : List ℕ) (n : ℕ) → parsed_cert_number word ≡ Some n → Spells word n
 number_is word n says =
-    let plain = if_some (is_plain_numeral word) (small_number (digits_value 10 word)) n says in
+    let plain = if_some (is_canonical_numeral word) (small_number (digits_value 10 word)) n says in
     let value = cond_some (nat_lt (digits_value 10 word) (2 ^ 32)) (digits_value 10 word) n plain.1 in
     let small : digits_value 10 word < 2 ^ 32 = grind (arith, nat_tests, value.0) in
     let parts = plain_is word plain.0 in
@@ -97,15 +97,15 @@ number_is word n says =
     }
 
 -- the same of numbers above one
-pub above_read : (least n : ℕ) → least < n → n < 2 ^ 32 → number_above least (decimal n) ≡ Some n
+pub above_read : (least n : ℕ) → least < n → n < 2 ^ 32 → parsed_number_above least (decimal n) ≡ Some n
 above_read least n more small =
     let test : nat_lt least n ≡ true = grind (arith, nat_tests, more) in
     rw (number_read n small, test) refl
 
 -- and so is one above another
-pub above_is : (least : ℕ) (word : List ℕ) (n : ℕ) → number_above least word ≡ Some n → (least < n) × Spells word n
+pub above_is : (least : ℕ) (word : List ℕ) (n : ℕ) → parsed_number_above least word ≡ Some n → (least < n) × Spells word n
 above_is least word n says =
-    then_some (λ number. if nat_lt least number then Some number else None) (number_in word) n says (λ number read found.
+    then_some (λ number. if nat_lt least number then Some number else None) (parsed_cert_number word) n says (λ number read found.
     let both = cond_some (nat_lt least number) number n found in (
       grind (arith, nat_tests, both.0, both.1),
       number_is word n (read ∙ ap (λ one. Some one) both.1),
@@ -133,10 +133,10 @@ pub record SaysPass (word : List ℕ) (pass : Pass) : Type 0 where
   pub fits : pass.line + 1 < 2 ^ 32
 
 -- a pass that is read from a number
-along_is : (back : Bool) (word : List ℕ) (pass : Pass) → pass_along back word ≡ Some pass
+along_is : (back : Bool) (word : List ℕ) (pass : Pass) → parsed_pass_along back word ≡ Some pass
     → SaysPass ((if back then 45 ∷ [] else []) ++ word) pass
 along_is back word pass says =
-    map_some (λ (number : ℕ). record { line = number - 1; back = back }) (number_above 0 word) pass says (λ number read made.
+    map_some (λ (number : ℕ). record { line = number - 1; back = back }) (parsed_number_above 0 word) pass says (λ number read made.
     let spells = above_is 0 word number read in
     let next : number - 1 + 1 ≡ number = omega (arith, spells.0) in
     subst (λ (one : Pass). SaysPass ((if back then 45 ∷ [] else []) ++ word) one) made (record {
@@ -146,7 +146,7 @@ along_is back word pass says =
     }))
 
 -- a pass that is read from a word
-pub pass_is : (word : List ℕ) (pass : Pass) → pass_in word ≡ Some pass → SaysPass word pass
+pub pass_is : (word : List ℕ) (pass : Pass) → parsed_pass word ≡ Some pass → SaysPass word pass
 pass_is [] pass says = absurd (none-some pass says)
 pass_is (b ∷ rest) pass says = by_sign (b == 45) refl where
   by_sign : (minus : Bool) → (b == 45) ≡ minus → SaysPass (b ∷ rest) pass

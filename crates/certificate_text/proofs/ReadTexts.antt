@@ -13,22 +13,22 @@ use Rattle.std.specs.Option.{option_and_then}
 use Rattle.std.specs.Str.{all_ascii_digits}
 use Rattle.line_graph.specs.declared.pass.Pass.{Pass}
 use Rattle.cut_certificate.specs.declared.certificate.PieceCert.{PieceCert}
-use Rattle.certificate_text.specs.declared.draft.Draft.{Draft}
-use Rattle.certificate_text.specs.declared.draft.Draft.TheVariants as draft
+use Rattle.certificate_text.specs.declared.draft.CertDraft.{CertDraft}
+use Rattle.certificate_text.specs.declared.draft.CertDraft.TheVariants as draft
 use Rattle.certificate_text.specs.declared.lines.CertLine.{CertLine}
 use Rattle.certificate_text.specs.declared.lines.CertLine.TheVariants as line
 use Rattle.cut_certificate.specs.declared.cut.Cut.{Cut}
-use Rattle.certificate_text.specs.CertificateLines.{cut_in, line_said, walk_in, words_said}
-use Rattle.text_parts.specs.Parts.{parted, words_in}
-use Rattle.cut_certificate.specs.Certificates.{CanBeSpelled}
-use Rattle.certificate_text.specs.CertificateTexts.{certificate_text, cut_text, member_text, passes_text, piece_text}
-use Rattle.design_model.specs.TextLines.{line_end}
+use Rattle.certificate_text.specs.CertificateLines.{parsed_cut, parsed_cert_line, parsed_walk, parsed_cert_words}
+use Rattle.text_parts.specs.Parts.{parts_between, words_in}
+use Rattle.cut_certificate.specs.Certificates.{HasCanonicalText}
+use Rattle.certificate_text.specs.CertificateTexts.{certificate_text, cut_line_text, member_text, passes_text, piece_text}
+use Rattle.design_model.specs.TextLines.{newline}
 use Rattle.cut_certificate.specs.Packings.{IsPlainCut}
-use Rattle.certificate_text.specs.ReadCertificates.{HasSmallNumbers, cert_of, drafted, judged, said_after, with_cut}
+use Rattle.certificate_text.specs.ReadCertificates.{HasSmallNumbers, cert_of, draft_with_text_line, draft_with_line, pieces_after_lines, with_cut}
 use Rattle.certificate_text.proofs.ItemWords.{HasMember, HasPass, member_word, members_read, members_spaced, passes_read, passes_spaced, reach_all}
 use Rattle.certificate_text.proofs.LineTexts.{HasCut, HasLine, line_bytes}
 use Rattle.certificate_text.proofs.NumberWords.{above_read, number_read, own, pass_word, spaced}
-use Rattle.certificate_text.proofs.OneText.{HasText}
+use Rattle.certificate_text.proofs.UniqueTexts.{HasText}
 use Rattle.certificate_text.proofs.ReadingLemmas.{goes_on, line_judged}
 
 -- a byte that ends neither a word nor a line
@@ -166,32 +166,32 @@ is_line l has =
     }
 
 -- a walk with a pass is read
-walk_read : (walk : List Pass) → walk ≢ [] → All HasPass walk → walk_in (map pass_word walk) ≡ Some walk
+walk_read : (walk : List Pass) → walk ≢ [] → All HasPass walk → parsed_walk (map pass_word walk) ≡ Some walk
 walk_read [] some have = absurd (some refl)
 walk_read (pass ∷ walk) some have = passes_read (pass ∷ walk) have
 
 -- and a plain cut
-cut_read : (cut : Cut) → HasCut cut → cut_in (decimal cut.weight ∷ map member_word cut.members) ≡ Some cut
+cut_read : (cut : Cut) → HasCut cut → parsed_cut (decimal cut.weight ∷ map member_word cut.members) ≡ Some cut
 cut_read cut has =
     rw (above_read 0 cut.weight has.plain.heavy has.small, members_read 0 cut.members (reach_all cut.members) has.plain.rising has.members)
     refl
 
 -- a line that is neither the first one nor the last one is read by its words
 by_words : (bytes : List ℕ) → bytes_eq bytes (codes "redwork-certificate 1") ≡ false → bytes_eq bytes (codes "end") ≡ false
-    → line_said bytes ≡ words_said (words_in bytes)
+    → parsed_cert_line bytes ≡ parsed_cert_words (words_in bytes)
 by_words bytes head end = rw (head, end) refl
 
 -- the text of a line has its meaning
-line_read : (l : CertLine) → HasLine l → line_said (line_bytes l) ≡ Some l
+line_read : (l : CertLine) → HasLine l → parsed_cert_line (line_bytes l) ≡ Some l
 line_read line.Head has = refl
 line_read (line.Piece retraced) has =
-    by_words (line_bytes (line.Piece retraced)) refl refl ∙ (ap words_said (is_line (line.Piece retraced) has).words
+    by_words (line_bytes (line.Piece retraced)) refl refl ∙ (ap parsed_cert_words (is_line (line.Piece retraced) has).words
     ∙ ap (λ number. option_map line.Piece number) (number_read retraced has))
 line_read (line.Walk walk) has =
-    by_words (line_bytes (line.Walk walk)) refl refl ∙ (ap words_said (is_line (line.Walk walk) has).words
+    by_words (line_bytes (line.Walk walk)) refl refl ∙ (ap parsed_cert_words (is_line (line.Walk walk) has).words
     ∙ ap (λ passes. option_map line.Walk passes) (walk_read walk has.0 has.1))
 line_read (line.Cut cut) has =
-    by_words (line_bytes (line.Cut cut)) refl refl ∙ (ap words_said (is_line (line.Cut cut) has).words
+    by_words (line_bytes (line.Cut cut)) refl refl ∙ (ap parsed_cert_words (is_line (line.Cut cut) has).words
     ∙ ap (λ one. option_map line.Cut one) (cut_read cut has))
 line_read line.End has = refl
 
@@ -200,32 +200,33 @@ abbrev pub Lacks : List ℕ → Type 0
 Lacks bytes = All (λ b. (b == 10) ≡ false) bytes
 
 -- the lines after a draft complete it with these pieces, whatever their numbers
-abbrev pub SayOn : Draft → List ℕ → List PieceCert → Type 0
-SayOn said text pieces = (number : ℕ) → said_after number said (parted 10 text) ≡ Ok pieces
+abbrev pub SayOn : CertDraft → List ℕ → List PieceCert → Type 0
+SayOn said text pieces = (number : ℕ) → pieces_after_lines number said (parts_between 10 text) ≡ Ok pieces
 
 -- one line before others
-pub next_judged : (number : ℕ) (said : Draft) (bytes text : List ℕ) → Lacks bytes
-    → said_after number said (parted 10 (bytes ++ 10 ∷ text)) ≡ goes_on number (drafted said bytes) (parted 10 text)
+pub next_judged : (number : ℕ) (said : CertDraft) (bytes text : List ℕ) → Lacks bytes
+    → pieces_after_lines number said (parts_between 10 (bytes ++ 10 ∷ text))
+    ≡ goes_on number (draft_with_text_line said bytes) (parts_between 10 text)
 next_judged number said bytes text lacks =
     line_judged number said (bytes ++ 10 ∷ text) bytes text (slice_split_at (λ (b : ℕ). b == 10) bytes 10 text lacks refl)
 
 -- a line by its meaning, after a draft
-pub line_before : (said new : Draft) (l : CertLine) (text : List ℕ) (pieces : List PieceCert) → HasLine l
-    → judged said l ≡ Some new → SayOn new text pieces → SayOn said (line_bytes l ++ 10 ∷ text) pieces
+pub line_before : (said new : CertDraft) (l : CertLine) (text : List ℕ) (pieces : List PieceCert) → HasLine l
+    → draft_with_line said l ≡ Some new → SayOn new text pieces → SayOn said (line_bytes l ++ 10 ∷ text) pieces
 line_before said new l text pieces has fits rest number =
     let kept : Lacks (line_bytes l) =
     All-weaker (λ (b : ℕ). is_kept b ≡ true) (λ (b : ℕ). (b == 10) ≡ false) (λ b test. not-true (b == 10) test)
     (line_bytes l) (AllPass-from_list_all is_kept (line_bytes l) (is_line l has).kept) in
-    let next : drafted said (line_bytes l) ≡ Some new =
-    ap (λ one. option_and_then (judged said) one) (line_read l has) ∙ fits in
+    let next : draft_with_text_line said (line_bytes l) ≡ Some new =
+    ap (λ one. option_and_then (draft_with_line said) one) (line_read l has) ∙ fits in
     next_judged number said (line_bytes l) text kept
-    ∙ (ap (λ (one : Option Draft). goes_on number one (parted 10 text)) next ∙ rest (number + 1))
+    ∙ (ap (λ (one : Option CertDraft). goes_on number one (parts_between 10 text)) next ∙ rest (number + 1))
 
 -- the cuts of a piece before them
-cut_before : (cut : Cut) (text : List ℕ) → cut_text cut ++ text ≡ line_bytes (line.Cut cut) ++ 10 ∷ text
+cut_before : (cut : Cut) (text : List ℕ) → cut_line_text cut ++ text ≡ line_bytes (line.Cut cut) ++ 10 ∷ text
 cut_before cut text = ap (λ (more : List ℕ). codes "cut " ++ more)
-    (append_assoc (decimal cut.weight) (flat_map member_text cut.members ++ line_end) text
-    ∙ (ap (λ (more : List ℕ). decimal cut.weight ++ more) (append_assoc (flat_map member_text cut.members) line_end text)
+    (append_assoc (decimal cut.weight) (flat_map member_text cut.members ++ newline) text
+    ∙ (ap (λ (more : List ℕ). decimal cut.weight ++ more) (append_assoc (flat_map member_text cut.members) newline text)
     ∙ sym (append_assoc (decimal cut.weight) (flat_map member_text cut.members) (10 ∷ text))))
 
 -- a piece with these cuts more
@@ -234,26 +235,26 @@ with_cuts piece cuts = record piece { cuts = piece.cuts ++ cuts }
 
 -- the cuts are added one after another
 cuts_before : (cuts : List Cut) (done : List PieceCert) (piece : PieceCert) (text : List ℕ) (pieces : List PieceCert)
-    → All HasCut cuts → SayOn (draft.Within done (with_cuts piece cuts)) text pieces
-    → SayOn (draft.Within done piece) (flat_map cut_text cuts ++ text) pieces
+    → All HasCut cuts → SayOn (draft.InPiece done (with_cuts piece cuts)) text pieces
+    → SayOn (draft.InPiece done piece) (flat_map cut_line_text cuts ++ text) pieces
 cuts_before [] done piece text pieces have rest =
-    subst (λ (one : List Cut). SayOn (draft.Within done (record piece { cuts = one })) text pieces) (append-nil piece.cuts) rest
+    subst (λ (one : List Cut). SayOn (draft.InPiece done (record piece { cuts = one })) text pieces) (append-nil piece.cuts) rest
 cuts_before (cut ∷ cuts) done piece text pieces have rest =
-    let behind : List ℕ = flat_map cut_text cuts ++ text in
-    let parts : flat_map cut_text (cut ∷ cuts) ++ text ≡ line_bytes (line.Cut cut) ++ 10 ∷ behind =
-    append_assoc (cut_text cut) (flat_map cut_text cuts) text ∙ cut_before cut behind in
+    let behind : List ℕ = flat_map cut_line_text cuts ++ text in
+    let parts : flat_map cut_line_text (cut ∷ cuts) ++ text ≡ line_bytes (line.Cut cut) ++ 10 ∷ behind =
+    append_assoc (cut_line_text cut) (flat_map cut_line_text cuts) text ∙ cut_before cut behind in
     let same : piece.cuts ++ cut ∷ cuts ≡ (with_cut piece cut).cuts ++ cuts = sym (append_assoc piece.cuts (cut ∷ []) cuts) in
-    let others : SayOn (draft.Within done (with_cut piece cut)) behind pieces =
+    let others : SayOn (draft.InPiece done (with_cut piece cut)) behind pieces =
     cuts_before cuts done (with_cut piece cut) text pieces (All-tail HasCut cut cuts have)
-    (subst (λ (one : List Cut). SayOn (draft.Within done (record piece { cuts = one })) text pieces) same rest) in
-    subst (λ (bytes : List ℕ). SayOn (draft.Within done piece) bytes pieces) (sym parts)
-    (line_before (draft.Within done piece) (draft.Within done (with_cut piece cut)) (line.Cut cut) behind pieces
+    (subst (λ (one : List Cut). SayOn (draft.InPiece done (record piece { cuts = one })) text pieces) same rest) in
+    subst (λ (bytes : List ℕ). SayOn (draft.InPiece done piece) bytes pieces) (sym parts)
+    (line_before (draft.InPiece done piece) (draft.InPiece done (with_cut piece cut)) (line.Cut cut) behind pieces
     (All-head HasCut cut cuts have) refl others)
 
 -- after a draft a piece may begin, or the certificate may end, with these pieces complete
-record Awaits (said : Draft) (done : List PieceCert) : Type 0 where
-  opens : (retraced : ℕ) → judged said (line.Piece retraced) ≡ Some (draft.Opened done retraced)
-  ends : judged said line.End ≡ Some (draft.Ended done)
+record Awaits (said : CertDraft) (done : List PieceCert) : Type 0 where
+  opens : (retraced : ℕ) → draft_with_line said (line.Piece retraced) ≡ Some (draft.AwaitingWalk done retraced)
+  ends : draft_with_line said line.End ≡ Some (draft.Complete done)
 
 -- the cuts of a piece that can be printed
 cuts_have : (cuts : List Cut) → All IsPlainCut cuts → All (λ (cut : Cut). All HasMember cut.members) cuts
@@ -261,13 +262,13 @@ cuts_have : (cuts : List Cut) → All IsPlainCut cuts → All (λ (cut : Cut). A
 cuts_have cuts plain members small = λ k d there. record { plain = plain k d there; small = small k d there; members = members k d there }
 
 -- a piece before them
-piece_before : (said : Draft) (done : List PieceCert) (piece : PieceCert) (text : List ℕ) (pieces : List PieceCert)
-    → Awaits said done → HasText piece → SayOn (draft.Within done piece) text pieces
+piece_before : (said : CertDraft) (done : List PieceCert) (piece : PieceCert) (text : List ℕ) (pieces : List PieceCert)
+    → Awaits said done → HasText piece → SayOn (draft.InPiece done piece) text pieces
     → SayOn said (piece_text piece ++ text) pieces
 piece_before said done piece text pieces awaits has rest =
     let cost : List ℕ = decimal piece.retraced in
     let passes : List ℕ = passes_text piece.walk in
-    let cuts : List ℕ = flat_map cut_text piece.cuts in
+    let cuts : List ℕ = flat_map cut_line_text piece.cuts in
     let begun : PieceCert = record { retraced = piece.retraced; walk = piece.walk; cuts = [] } in
     let have : All HasCut piece.cuts =
     cuts_have piece.cuts has.spelled.plain has.spelled.members has.small.weights in
@@ -275,37 +276,37 @@ piece_before said done piece text pieces awaits has rest =
     ≡ line_bytes (line.Piece piece.retraced) ++ 10 ∷ (line_bytes (line.Walk piece.walk) ++ 10 ∷ (cuts ++ text)) =
     ap (λ (more : List ℕ). codes "piece " ++ more) (append_assoc cost (10 ∷ (codes "walk" ++ (passes ++ 10 ∷ cuts))) text
     ∙ ap (λ (more : List ℕ). cost ++ 10 ∷ (codes "walk" ++ more)) (append_assoc passes (10 ∷ cuts) text)) in
-    let behind : SayOn (draft.Within done begun) (cuts ++ text) pieces =
+    let behind : SayOn (draft.InPiece done begun) (cuts ++ text) pieces =
     cuts_before piece.cuts done begun text pieces have rest in
-    let walked : SayOn (draft.Opened done piece.retraced) (line_bytes (line.Walk piece.walk) ++ 10 ∷ (cuts ++ text)) pieces =
-    line_before (draft.Opened done piece.retraced) (draft.Within done begun) (line.Walk piece.walk) (cuts ++ text) pieces
+    let walked : SayOn (draft.AwaitingWalk done piece.retraced) (line_bytes (line.Walk piece.walk) ++ 10 ∷ (cuts ++ text)) pieces =
+    line_before (draft.AwaitingWalk done piece.retraced) (draft.InPiece done begun) (line.Walk piece.walk) (cuts ++ text) pieces
     (has.spelled.some, has.spelled.passes) refl behind in
     subst (λ (bytes : List ℕ). SayOn said bytes pieces) (sym parts)
-    (line_before said (draft.Opened done piece.retraced) (line.Piece piece.retraced) _ pieces
+    (line_before said (draft.AwaitingWalk done piece.retraced) (line.Piece piece.retraced) _ pieces
     has.small.retraced (awaits.opens piece.retraced) walked)
 
 -- the pieces and the end
-pieces_say : (pieces : List PieceCert) (said : Draft) (done : List PieceCert) → Awaits said done → All HasText pieces
-    → SayOn said (flat_map piece_text pieces ++ (codes "end" ++ line_end)) (done ++ pieces)
+pieces_say : (pieces : List PieceCert) (said : CertDraft) (done : List PieceCert) → Awaits said done → All HasText pieces
+    → SayOn said (flat_map piece_text pieces ++ (codes "end" ++ newline)) (done ++ pieces)
 pieces_say [] said done awaits have =
-    subst (λ (all : List PieceCert). SayOn said (codes "end" ++ line_end) all) (sym (append-nil done))
-    (line_before said (draft.Ended done) line.End [] done tt awaits.ends (λ number. refl))
+    subst (λ (all : List PieceCert). SayOn said (codes "end" ++ newline) all) (sym (append-nil done))
+    (line_before said (draft.Complete done) line.End [] done tt awaits.ends (λ number. refl))
 pieces_say (piece ∷ pieces) said done awaits have =
-    let rest : List ℕ = flat_map piece_text pieces ++ (codes "end" ++ line_end) in
-    let next : Awaits (draft.Within done piece) (done ++ piece ∷ []) = record { opens = λ retraced. refl; ends = refl } in
-    let others : SayOn (draft.Within done piece) rest ((done ++ piece ∷ []) ++ pieces) =
-    pieces_say pieces (draft.Within done piece) (done ++ piece ∷ []) next (All-tail HasText piece pieces have) in
-    let whole : SayOn (draft.Within done piece) rest (done ++ piece ∷ pieces) =
-    subst (λ (all : List PieceCert). SayOn (draft.Within done piece) rest all) (append_assoc done (piece ∷ []) pieces) others in
+    let rest : List ℕ = flat_map piece_text pieces ++ (codes "end" ++ newline) in
+    let next : Awaits (draft.InPiece done piece) (done ++ piece ∷ []) = record { opens = λ retraced. refl; ends = refl } in
+    let others : SayOn (draft.InPiece done piece) rest ((done ++ piece ∷ []) ++ pieces) =
+    pieces_say pieces (draft.InPiece done piece) (done ++ piece ∷ []) next (All-tail HasText piece pieces have) in
+    let whole : SayOn (draft.InPiece done piece) rest (done ++ piece ∷ pieces) =
+    subst (λ (all : List PieceCert). SayOn (draft.InPiece done piece) rest all) (append_assoc done (piece ∷ []) pieces) others in
     subst (λ (bytes : List ℕ). SayOn said bytes (done ++ piece ∷ pieces))
-    (sym (append_assoc (piece_text piece) (flat_map piece_text pieces) (codes "end" ++ line_end)))
+    (sym (append_assoc (piece_text piece) (flat_map piece_text pieces) (codes "end" ++ newline)))
     (piece_before said done piece rest (done ++ piece ∷ pieces) awaits (All-head HasText piece pieces have) whole)
 
 -- the entire text
-pub text_says : (pieces : List PieceCert) → All CanBeSpelled pieces → All HasSmallNumbers pieces
+pub text_says : (pieces : List PieceCert) → All HasCanonicalText pieces → All HasSmallNumbers pieces
     → cert_of (certificate_text pieces) ≡ Ok pieces
 text_says pieces spelled small =
-    let rest : List ℕ = flat_map piece_text pieces ++ (codes "end" ++ line_end) in
+    let rest : List ℕ = flat_map piece_text pieces ++ (codes "end" ++ newline) in
     let next : Awaits draft.Headed [] = record { opens = λ retraced. refl; ends = refl } in
     let have : All HasText pieces = λ k d there. record { spelled = spelled k d there; small = small k d there } in
-    line_before draft.Blank draft.Headed line.Head rest pieces tt refl (pieces_say pieces draft.Headed [] next have) 1
+    line_before draft.Empty draft.Headed line.Head rest pieces tt refl (pieces_say pieces draft.Headed [] next have) 1

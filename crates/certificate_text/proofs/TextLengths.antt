@@ -6,8 +6,8 @@ use Rattle.std.specs.List.{flat_map}
 use Rattle.line_graph.specs.declared.pass.Pass.{Pass}
 use Rattle.cut_certificate.specs.declared.certificate.PieceCert.{PieceCert}
 use Rattle.cut_certificate.specs.declared.cut.Cut.{Cut}
-use Rattle.certificate_text.specs.CertificateTexts.{certificate_text, cut_text, member_text, pass_text, passes_text, piece_text}
-use Rattle.design_model.specs.TextLines.{line_end}
+use Rattle.certificate_text.specs.CertificateTexts.{certificate_text, cut_line_text, member_text, pass_text, passes_text, piece_text}
+use Rattle.design_model.specs.TextLines.{newline}
 use Rattle.certificate_text.specs.ReadCertificates.{AreFew, HasFewItems}
 use Rattle.certificate_text.proofs.NumberWords.{pass_spaced}
 
@@ -31,7 +31,7 @@ member_some : (j : ℕ) → 1 ≤ length (member_text j)
 member_some j = omega arith
 
 -- and that of a cut
-cut_some : (cut : Cut) → 1 ≤ length (cut_text cut)
+cut_some : (cut : Cut) → 1 ≤ length (cut_line_text cut)
 cut_some cut = omega arith
 
 -- and that of a piece
@@ -47,34 +47,34 @@ last_most : (before after : List ℕ) → length after ≤ length (before ++ aft
 last_most before after = omega (arith, length-append before after)
 
 -- the members of a cut
-cut_few : (limit : ℕ) (cut : Cut) → length (cut_text cut) ≤ limit → length cut.members ≤ limit
+cut_few : (limit : ℕ) (cut : Cut) → length (cut_line_text cut) ≤ limit → length cut.members ≤ limit
 cut_few limit cut within =
     let members : List ℕ = flat_map member_text cut.members in
     omega (
       arith,
       within,
       count_most member_text cut.members member_some,
-      first_most members line_end,
-      last_most (decimal cut.weight) (members ++ line_end),
+      first_most members newline,
+      last_most (decimal cut.weight) (members ++ newline),
     )
 
 -- the lists of a piece are short where its text is
 piece_few : (piece : PieceCert) → length (piece_text piece) ≤ 67108864 → HasFewItems piece
 piece_few piece within =
     let passes : List ℕ = passes_text piece.walk in
-    let cuts : List ℕ = flat_map cut_text piece.cuts in
+    let cuts : List ℕ = flat_map cut_line_text piece.cuts in
     let all : length passes + length cuts ≤ 67108864 = omega (
       arith,
       within,
-      length-append passes (line_end ++ cuts),
-      last_most (decimal piece.retraced) (line_end ++ (codes "walk" ++ (passes ++ (line_end ++ cuts)))),
+      length-append passes (newline ++ cuts),
+      last_most (decimal piece.retraced) (newline ++ (codes "walk" ++ (passes ++ (newline ++ cuts)))),
     ) in
     record {
       passes = omega (arith, all, count_most pass_text piece.walk pass_some);
-      cuts = omega (arith, all, count_most cut_text piece.cuts cut_some);
+      cuts = omega (arith, all, count_most cut_line_text piece.cuts cut_some);
       members = λ k d there. omega (
         arith,
-        cut_few 67108864 (get_or piece.cuts k d) (omega (arith, all, one_most cut_text piece.cuts k d there)),
+        cut_few 67108864 (get_or piece.cuts k d) (omega (arith, all, one_most cut_line_text piece.cuts k d there)),
       );
     }
 
@@ -82,7 +82,7 @@ piece_few piece within =
 pub are_few : (pieces : List PieceCert) (text : List ℕ) → text ≡ certificate_text pieces → length text ≤ 67108864 → AreFew pieces
 are_few pieces text is within =
     let texts : List ℕ = flat_map piece_text pieces in
-    let all : length texts ≤ 67108864 = omega (arith, within, ap length is, first_most texts (codes "end" ++ line_end)) in
+    let all : length texts ≤ 67108864 = omega (arith, within, ap length is, first_most texts (codes "end" ++ newline)) in
     record {
       few = omega (arith, all, count_most piece_text pieces piece_some);
       each = λ k d there. piece_few (get_or pieces k d) (omega (arith, all, one_most piece_text pieces k d there));

@@ -1,7 +1,7 @@
 -- Words of a line, taken one after another.
 use Rattle.std.proofs.Common.{◌≡◌, ◌≢◌, ℕ, ◌-◌, List, [], ◌∷◌, ◌++◌, Option, None, Some, option_map, append_assoc, ap, refl, sym, ◌∙◌}
 use Rattle.std.specs.Option.{option_and_then}
-use Rattle.certificate_text.specs.CertificateLines.{members_after, number_above, only_number, passes_in, walk_in}
+use Rattle.certificate_text.specs.CertificateLines.{parsed_members_after, parsed_number_above, only_number, parsed_passes, parsed_walk}
 use Rattle.text_parts.specs.Parts.{words_in}
 use Rattle.certificate_text.proofs.PartLemmas.{some_part}
 use Rattle.line_graph.specs.declared.pass.Pass.{Pass}
@@ -16,12 +16,12 @@ pub more_than_one : (words word rest : List ℕ) → words_in words ≡ word ∷
 more_than_one words word rest are = ap only_number are ∙ not_only word (words_in rest) (some_part 32 rest)
 
 -- one or more words are a walk if all are passes
-walk_of_some : (words : List (List ℕ)) → words ≢ [] → walk_in words ≡ passes_in words
+walk_of_some : (words : List (List ℕ)) → words ≢ [] → parsed_walk words ≡ parsed_passes words
 walk_of_some [] some = absurd (some refl)
 walk_of_some (word ∷ words) some = refl
 
 -- the words of a line are one or more
-pub walk_of_words : (words : List ℕ) → walk_in (words_in words) ≡ passes_in (words_in words)
+pub walk_of_words : (words : List ℕ) → parsed_walk (words_in words) ≡ parsed_passes (words_in words)
 walk_of_words words = walk_of_some (words_in words) (some_part 32 words)
 
 -- these items, and then those that come
@@ -30,11 +30,11 @@ behind items rest = option_map (λ more. items ++ more) rest
 
 -- the words so far denote these passes, and the rest is read after them
 pub record PassesOn (words rest : List ℕ) (walk : List Pass) : Type 0 where
-  pub whole : passes_in (words_in words) ≡ behind walk (passes_in (words_in rest))
+  pub whole : parsed_passes (words_in words) ≡ behind walk (parsed_passes (words_in rest))
 
 -- the words so far denote these members, and the rest is read after that number
 pub record MembersOn (words rest : List ℕ) (before : ℕ) (members : List ℕ) : Type 0 where
-  pub whole : members_after 0 (words_in words) ≡ behind members (members_after before (words_in rest))
+  pub whole : parsed_members_after 0 (words_in words) ≡ behind members (parsed_members_after before (words_in rest))
 
 -- a member is after those so far, and others after it
 one_behind : (members : List ℕ) (n : ℕ) (rest : Option (List ℕ))
@@ -44,12 +44,12 @@ one_behind members n (Some more) = ap Some (sym (append_assoc members (n ∷ [])
 
 -- the word that denotes a member is added to the members
 pub one_member : (words rest word after : List ℕ) (before number : ℕ) (members more : List ℕ) → MembersOn words rest before members
-    → words_in rest ≡ word ∷ words_in after → Some number ≡ number_above before word → more ≡ members ++ (number - 1) ∷ []
+    → words_in rest ≡ word ∷ words_in after → Some number ≡ parsed_number_above before word → more ≡ members ++ (number - 1) ∷ []
     → MembersOn words after number more
 one_member words rest word after before number members more on are is put = record {
-  whole = on.whole ∙ ap (λ ws. behind members (members_after before ws)) are
+  whole = on.whole ∙ ap (λ ws. behind members (parsed_members_after before ws)) are
       ∙ ap (λ found. behind members (option_and_then
-      (λ n. option_map (λ ms. (n - 1) ∷ ms) (members_after n (words_in after))) found)) (sym is)
-      ∙ one_behind members (number - 1) (members_after number (words_in after))
-      ∙ ap (λ ms. behind ms (members_after number (words_in after))) (sym put);
+      (λ n. option_map (λ ms. (n - 1) ∷ ms) (parsed_members_after n (words_in after))) found)) (sym is)
+      ∙ one_behind members (number - 1) (parsed_members_after number (words_in after))
+      ∙ ap (λ ms. behind ms (parsed_members_after number (words_in after))) (sym put);
 }

@@ -5,7 +5,7 @@ use Rattle.std.specs.Prelude.{ℕ, ◌+◌, List, ◌++◌, codes, decimal, if�
 use Rattle.std.specs.List.{flat_map}
 use Rattle.cut_certificate.specs.declared.certificate.PieceCert.{PieceCert}
 use Rattle.cut_certificate.specs.declared.cut.Cut.{Cut}
-use Rattle.design_model.specs.TextLines.{line_end}
+use Rattle.design_model.specs.TextLines.{newline}
 use Rattle.line_graph.specs.declared.pass.Pass.{Pass}
 
 -- The text of a pass: a space, a minus sign where it goes backwards, and the number of its line,
@@ -22,16 +22,17 @@ abbrev pub member_text : ℕ → List ℕ
 member_text j = codes " " ++ decimal (j + 1)
 
 -- The line of a cut: its weight in halves of a step, and its members.
-abbrev pub cut_text : Cut → List ℕ
-cut_text cut = codes "cut " ++ (decimal cut.weight
-    ++ (flat_map member_text cut.members ++ line_end))
+abbrev pub cut_line_text : Cut → List ℕ
+cut_line_text cut = codes "cut " ++ (decimal cut.weight
+    ++ (flat_map member_text cut.members ++ newline))
 
 -- The lines of a piece.
 abbrev pub piece_text : PieceCert → List ℕ
-piece_text piece = codes "piece " ++ (decimal piece.retraced ++ (line_end
-    ++ (codes "walk" ++ (passes_text piece.walk ++ (line_end ++ flat_map cut_text piece.cuts)))))
+piece_text piece = codes "piece " ++ (decimal piece.retraced ++ (newline
+    ++ (codes "walk" ++ (passes_text piece.walk
+    ++ (newline ++ flat_map cut_line_text piece.cuts)))))
 
 -- The text of a certificate.
 abbrev pub certificate_text : List PieceCert → List ℕ
-certificate_text pieces = codes "redwork-certificate 1" ++ (line_end ++ (flat_map piece_text pieces
-    ++ (codes "end" ++ line_end)))
+certificate_text pieces = codes "redwork-certificate 1" ++ (newline ++ (flat_map piece_text pieces
+    ++ (codes "end" ++ newline)))

@@ -1,6 +1,6 @@
 ghost use Rattle.std.specs.Prelude.{◌≡◌, ◌∷◌, ◌++◌, [], IfOk};
 ghost use Rattle.certificate_text.specs.declared.lines.CertLine.TheVariants as line;
-ghost use Rattle.certificate_text.specs.ReadCertificates.{drafted, judged};
+ghost use Rattle.certificate_text.specs.ReadCertificates.{draft_with_text_line, draft_with_line};
 
 use crate::lines::{CertLine, line_of};
 use cut_certificate::{Cut, Cuts, PieceCert, PieceCerts};
@@ -10,23 +10,23 @@ use std::alloc::Global;
 
 /// A draft: the certificate of the text lines so far.
 #[derive(Debug, Drop)]
-pub enum Draft {
+pub enum CertDraft {
     /// There is no line yet.
-    Blank,
+    Empty,
     /// There is the first line, and no piece yet.
     Headed,
     /// The pieces in `done` are complete, and a piece with the retraced cost needs its walk.
-    Opened { done: PieceCerts, retraced: u32 },
+    AwaitingWalk { done: PieceCerts, retraced: u32 },
     /// The pieces in `done` are complete, and more cuts of `piece` may follow.
-    Within { done: PieceCerts, piece: PieceCert },
+    InPiece { done: PieceCerts, piece: PieceCert },
     /// The certificate is complete.
-    Ended { pieces: PieceCerts },
+    Complete { pieces: PieceCerts },
 }
 
-impl Draft {
+impl CertDraft {
     /// Returns the draft with one more line, if such a line may follow.
-    pub(crate) fn with_line(self, alloc: Global, line: &[u8]) -> Result<Option<Draft>, Memory>
-        ensures { IfOk result (λ new. new ≡ drafted self line.now) }
+    pub(crate) fn with_line(self, alloc: Global, line: &[u8]) -> Result<Option<CertDraft>, Memory>
+        ensures { IfOk result (λ new. new ≡ draft_with_text_line self line.now) }
     {
         match line_of(alloc, line)? {
             Some(said) => self.judge(alloc, said),
@@ -34,8 +34,8 @@ impl Draft {
         }
     }
 
-    fn judge(self, alloc: Global, said: CertLine) -> Result<Option<Draft>, Memory>
-        ensures { IfOk result (λ new. new ≡ judged self said) }
+    fn judge(self, alloc: Global, said: CertLine) -> Result<Option<CertDraft>, Memory>
+        ensures { IfOk result (λ new. new ≡ draft_with_line self said) }
     {
         match said {
             CertLine::Head => Ok(self.with_head()),
@@ -46,64 +46,64 @@ impl Draft {
         }
     }
 
-    fn with_head(self) -> Option<Draft>
-        ensures { result ≡ judged self line.Head }
+    fn with_head(self) -> Option<CertDraft>
+        ensures { result ≡ draft_with_line self line.Head }
     {
         match self {
-            Draft::Blank => Some(Draft::Headed),
+            CertDraft::Empty => Some(CertDraft::Headed),
             _ => None,
         }
     }
 
-    fn with_piece(self, alloc: Global, retraced: u32) -> Result<Option<Draft>, Memory>
-        ensures { IfOk result (λ new. new ≡ judged self (line.Piece retraced)) }
+    fn with_piece(self, alloc: Global, retraced: u32) -> Result<Option<CertDraft>, Memory>
+        ensures { IfOk result (λ new. new ≡ draft_with_line self (line.Piece retraced)) }
     {
         let done = match self {
-            Draft::Headed => PieceCerts::new(alloc),
-            Draft::Within { done, piece } => with_piece_done(done, piece)?,
+            CertDraft::Headed => PieceCerts::new(alloc),
+            CertDraft::InPiece { done, piece } => with_piece_done(done, piece)?,
             _ => return Ok(None),
         };
-        Ok(Some(Draft::Opened { done, retraced }))
+        Ok(Some(CertDraft::AwaitingWalk { done, retraced }))
     }
 
-    fn with_walk(self, alloc: Global, walk: Walk) -> Option<Draft>
-        ensures { result ≡ judged self (line.Walk walk) }
+    fn with_walk(self, alloc: Global, walk: Walk) -> Option<CertDraft>
+        ensures { result ≡ draft_with_line self (line.Walk walk) }
     {
         match self {
-            Draft::Opened { done, retraced } => {
+            CertDraft::AwaitingWalk { done, retraced } => {
                 let cuts = Cuts::new(alloc);
                 let piece = PieceCert {
                     retraced,
                     walk,
                     cuts,
                 };
-                Some(Draft::Within { done, piece })
+                Some(CertDraft::InPiece { done, piece })
             }
             _ => None,
         }
     }
 
-    fn with_cut(self, cut: Cut) -> Result<Option<Draft>, Memory>
-        ensures { IfOk result (λ new. new ≡ judged self (line.Cut cut)) }
+    fn with_cut(self, cut: Cut) -> Result<Option<CertDraft>, Memory>
+        ensures { IfOk result (λ new. new ≡ draft_with_line self (line.Cut cut)) }
     {
         match self {
-            Draft::Within { done, mut piece } => {
+            CertDraft::InPiece { done, mut piece } => {
                 piece.cuts.push(cut)?;
-                Ok(Some(Draft::Within { done, piece }))
+                Ok(Some(CertDraft::InPiece { done, piece }))
             }
             _ => Ok(None),
         }
     }
 
-    fn with_end(self, alloc: Global) -> Result<Option<Draft>, Memory>
-        ensures { IfOk result (λ new. new ≡ judged self line.End) }
+    fn with_end(self, alloc: Global) -> Result<Option<CertDraft>, Memory>
+        ensures { IfOk result (λ new. new ≡ draft_with_line self line.End) }
     {
         let pieces = match self {
-            Draft::Headed => PieceCerts::new(alloc),
-            Draft::Within { done, piece } => with_piece_done(done, piece)?,
+            CertDraft::Headed => PieceCerts::new(alloc),
+            CertDraft::InPiece { done, piece } => with_piece_done(done, piece)?,
             _ => return Ok(None),
         };
-        Ok(Some(Draft::Ended { pieces }))
+        Ok(Some(CertDraft::Complete { pieces }))
     }
 }
 

@@ -1,6 +1,6 @@
 ghost use Rattle.std.specs.Prelude.{◌≡◌, ◌∷◌, ◌<◌, IfOk, IfSome, option_map};
 ghost use Rattle.certificate_text.specs.declared.lines.CertLine.TheVariants as line;
-ghost use Rattle.certificate_text.specs.CertificateLines.{cut_in, line_said, members_after, number_above as above, only_number, pass_along as along, pass_in, passes_in, walk_in, words_said};
+ghost use Rattle.certificate_text.specs.CertificateLines.{parsed_cut, parsed_cert_line, parsed_members_after, parsed_number_above, only_number, parsed_pass_along, parsed_pass, parsed_passes, parsed_walk, parsed_cert_words};
 ghost use Rattle.text_parts.specs.Parts.{words_in};
 
 use crate::words::number_in;
@@ -8,7 +8,7 @@ use cut_certificate::Cut;
 use design_model::{Memory, Numbers};
 use line_graph::{Pass, Walk};
 use std::alloc::Global;
-use text_parts::{spells, split_first};
+use text_parts::{equals_text, split_first};
 
 /// The meaning of one line of a certificate.
 #[derive(Debug, Drop)]
@@ -27,12 +27,12 @@ pub enum CertLine {
 
 /// Returns the meaning of a line by its bytes, if there is one.
 pub(crate) fn line_of(alloc: Global, line: &[u8]) -> Result<Option<CertLine>, Memory>
-    ensures { IfOk result (λ said. said ≡ line_said line.now) }
+    ensures { IfOk result (λ said. said ≡ parsed_cert_line line.now) }
 {
-    if spells(line, "redwork-certificate 1") {
+    if equals_text(line, "redwork-certificate 1") {
         return Ok(Some(CertLine::Head));
     }
-    if spells(line, "end") {
+    if equals_text(line, "end") {
         return Ok(Some(CertLine::End));
     }
     let Some((word, rest)) = split_first(line, b' ') else {
@@ -42,15 +42,15 @@ pub(crate) fn line_of(alloc: Global, line: &[u8]) -> Result<Option<CertLine>, Me
 }
 
 fn line_of_words(alloc: Global, word: &[u8], rest: &[u8]) -> Result<Option<CertLine>, Memory>
-    ensures { IfOk result (λ said. said ≡ words_said (word.now ∷ words_in rest.now)) }
+    ensures { IfOk result (λ said. said ≡ parsed_cert_words (word.now ∷ words_in rest.now)) }
 {
-    if spells(word, "piece") {
+    if equals_text(word, "piece") {
         return Ok(piece_line(rest));
     }
-    if spells(word, "walk") {
+    if equals_text(word, "walk") {
         return walk_line(alloc, rest);
     }
-    if spells(word, "cut") {
+    if equals_text(word, "cut") {
         return cut_line(alloc, rest);
     }
     Ok(None)
@@ -66,7 +66,7 @@ fn piece_line(words: &[u8]) -> Option<CertLine>
 }
 
 fn walk_line(alloc: Global, words: &[u8]) -> Result<Option<CertLine>, Memory>
-    ensures { IfOk result (λ said. said ≡ option_map line.Walk (walk_in (words_in words.now))) }
+    ensures { IfOk result (λ said. said ≡ option_map line.Walk (parsed_walk (words_in words.now))) }
 {
     match passes_of(alloc, words)? {
         Some(walk) => Ok(Some(CertLine::Walk(walk))),
@@ -75,7 +75,7 @@ fn walk_line(alloc: Global, words: &[u8]) -> Result<Option<CertLine>, Memory>
 }
 
 fn passes_of(alloc: Global, words: &[u8]) -> Result<Option<Walk>, Memory>
-    ensures { IfOk result (λ walk. walk ≡ passes_in (words_in words.now)) }
+    ensures { IfOk result (λ walk. walk ≡ parsed_passes (words_in words.now)) }
 {
     let mut walk = Walk::new(alloc);
     let mut rest = words;
@@ -94,7 +94,7 @@ fn passes_of(alloc: Global, words: &[u8]) -> Result<Option<Walk>, Memory>
 }
 
 fn pass_of(word: &[u8]) -> Option<Pass>
-    ensures { result ≡ pass_in word.now }
+    ensures { result ≡ parsed_pass word.now }
 {
     match word {
         [first, number @ ..] if *first == b'-' => pass_along(true, number),
@@ -103,14 +103,14 @@ fn pass_of(word: &[u8]) -> Option<Pass>
 }
 
 fn pass_along(back: bool, word: &[u8]) -> Option<Pass>
-    ensures { result ≡ along back word.now }
+    ensures { result ≡ parsed_pass_along back word.now }
 {
     let line = number_above(0, word)? - 1;
     Some(Pass { line, back })
 }
 
 fn cut_line(alloc: Global, words: &[u8]) -> Result<Option<CertLine>, Memory>
-    ensures { IfOk result (λ said. said ≡ option_map line.Cut (cut_in (words_in words.now))) }
+    ensures { IfOk result (λ said. said ≡ option_map line.Cut (parsed_cut (words_in words.now))) }
 {
     let (word, rest) = match split_first(words, b' ') {
         Some((word, rest)) => (word, Some(rest)),
@@ -130,7 +130,7 @@ fn cut_line(alloc: Global, words: &[u8]) -> Result<Option<CertLine>, Memory>
 }
 
 fn members_of(alloc: Global, words: &[u8]) -> Result<Option<Numbers>, Memory>
-    ensures { IfOk result (λ members. members ≡ members_after 0 (words_in words.now)) }
+    ensures { IfOk result (λ members. members ≡ parsed_members_after 0 (words_in words.now)) }
 {
     let mut members = Numbers::new(alloc);
     let mut before: u32 = 0;
@@ -152,7 +152,7 @@ fn members_of(alloc: Global, words: &[u8]) -> Result<Option<Numbers>, Memory>
 
 /// Returns the number that a word denotes, if it is greater than the given one.
 fn number_above(least: u32, word: &[u8]) -> Option<u32>
-    ensures value { result ≡ above least word.now }
+    ensures value { result ≡ parsed_number_above least word.now }
     ensures more { IfSome result (λ number. least < number) }
 {
     let number = number_in(word)?;

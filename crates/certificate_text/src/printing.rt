@@ -1,8 +1,8 @@
 ghost use Rattle.std.specs.Prelude.{◌≡◌, ◌+◌, ◌++◌, ◌<◌, ◌^◌, All, IfOk, Ok, OnOk, decimal};
 ghost use Rattle.std.specs.List.{flat_map};
 ghost use Rattle.certificate_text.specs.ReadCertificates.{HasSmallNumbers, cert_of};
-ghost use Rattle.cut_certificate.specs.Certificates.{CanBeSpelled};
-ghost use Rattle.certificate_text.specs.CertificateTexts.{certificate_text, cut_text, member_text, pass_text, passes_text, piece_text};
+ghost use Rattle.cut_certificate.specs.Certificates.{HasCanonicalText};
+ghost use Rattle.certificate_text.specs.CertificateTexts.{certificate_text, cut_line_text, member_text, pass_text, passes_text, piece_text};
 
 use cut_certificate::{Cert, Cut, PieceCert};
 use design_model::{Bytes, Memory};
@@ -13,7 +13,7 @@ use std::alloc::Global;
 /// Returns the text of a certificate. Reading the text returns the certificate.
 #[tactic(auto, using(crate::proofs::ReadTexts::text_says))]
 pub fn print_cert(alloc: Global, cert: &Cert) -> Result<Bytes, Memory>
-    requires { All CanBeSpelled cert.now.pieces }
+    requires { All HasCanonicalText cert.now.pieces }
     ensures value { IfOk result (λ text. text ≡ certificate_text cert.now.pieces) }
     ensures again { IfOk result (λ text. cert_of text ≡ Ok cert.now.pieces) }
 {
@@ -25,7 +25,7 @@ pub fn print_cert(alloc: Global, cert: &Cert) -> Result<Bytes, Memory>
 }
 
 fn put_pieces(text: &mut Bytes, pieces: &[PieceCert]) -> Result<(), Memory>
-    requires { All CanBeSpelled pieces.now }
+    requires { All HasCanonicalText pieces.now }
     ensures value { OnOk result (text.new ≡ text.old ++ flat_map piece_text pieces.now) }
     ensures small { OnOk result (All HasSmallNumbers pieces.now) }
 {
@@ -36,7 +36,7 @@ fn put_pieces(text: &mut Bytes, pieces: &[PieceCert]) -> Result<(), Memory>
 }
 
 fn put_piece(text: &mut Bytes, piece: &PieceCert) -> Result<(), Memory>
-    requires { CanBeSpelled piece.now }
+    requires { HasCanonicalText piece.now }
     ensures value { OnOk result (text.new ≡ text.old ++ piece_text piece.now) }
     ensures small { OnOk result (HasSmallNumbers piece.now) }
 {
@@ -75,7 +75,7 @@ fn put_pass(text: &mut Bytes, pass: Pass) -> Result<(), Memory>
 
 fn put_cuts(text: &mut Bytes, cuts: &[Cut]) -> Result<(), Memory>
     requires { All (λ cut. All (λ j. j + 1 < 2 ^ 32) cut.members) cuts.now }
-    ensures value { OnOk result (text.new ≡ text.old ++ flat_map cut_text cuts.now) }
+    ensures value { OnOk result (text.new ≡ text.old ++ flat_map cut_line_text cuts.now) }
     ensures small { OnOk result (All (λ cut. cut.weight < 2 ^ 32) cuts.now) }
 {
     for cut in cuts {
@@ -86,7 +86,7 @@ fn put_cuts(text: &mut Bytes, cuts: &[Cut]) -> Result<(), Memory>
 
 fn put_cut(text: &mut Bytes, cut: &Cut) -> Result<(), Memory>
     requires { All (λ j. j + 1 < 2 ^ 32) cut.now.members }
-    ensures value { OnOk result (text.new ≡ text.old ++ cut_text cut.now) }
+    ensures value { OnOk result (text.new ≡ text.old ++ cut_line_text cut.now) }
     ensures small { OnOk result (cut.now.weight < 2 ^ 32) }
 {
     text.append(b"cut ")?;

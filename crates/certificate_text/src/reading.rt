@@ -1,9 +1,9 @@
 ghost use Rattle.std.specs.Prelude.{◌≡◌, ◌≤◌, All, IfOk, length};
-ghost use Rattle.cut_certificate.specs.Certificates.{CanBeSpelled};
+ghost use Rattle.cut_certificate.specs.Certificates.{HasCanonicalText};
 ghost use Rattle.certificate_text.specs.CertificateTexts.{certificate_text};
 ghost use Rattle.certificate_text.specs.ReadCertificates.{AreFew, ReadsCert, cert_of};
 
-use crate::draft::Draft;
+use crate::draft::CertDraft;
 use cut_certificate::Cert;
 use design_model::Memory;
 use std::alloc::Global;
@@ -37,7 +37,7 @@ pub fn read_cert(alloc: Global, bytes: &[u8]) -> Result<Cert, CertFault>
     requires { length bytes.now ≤ MAX_CERT }
     ensures value { ReadsCert (cert_of bytes.now) result }
     ensures text { IfOk result (λ cert. bytes.now ≡ certificate_text cert.pieces) }
-    ensures spelled { IfOk result (λ cert. All CanBeSpelled cert.pieces) }
+    ensures spelled { IfOk result (λ cert. All HasCanonicalText cert.pieces) }
     ensures few { IfOk result (λ cert. AreFew cert.pieces) }
 {
     let cert = read_lines(alloc, bytes)?;
@@ -48,7 +48,7 @@ fn read_lines(alloc: Global, bytes: &[u8]) -> Result<Cert, CertFault>
     requires { length bytes.now ≤ MAX_CERT }
     ensures { ReadsCert (cert_of bytes.now) result }
 {
-    let mut draft = Draft::Blank;
+    let mut draft = CertDraft::Empty;
     let mut number: u32 = 1;
     let mut rest = bytes;
     while let Some((line, after)) = split_line(rest) {
@@ -60,7 +60,7 @@ fn read_lines(alloc: Global, bytes: &[u8]) -> Result<Cert, CertFault>
         rest = after;
     }
     match draft {
-        Draft::Ended { pieces } if rest.is_empty() => Ok(Cert { pieces }),
+        CertDraft::Complete { pieces } if rest.is_empty() => Ok(Cert { pieces }),
         _ => Err(CertFault::BadLine { number }),
     }
 }

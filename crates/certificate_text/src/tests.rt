@@ -1,5 +1,5 @@
 ghost use Rattle.std.specs.Prelude.{All, IfOk};
-ghost use Rattle.cut_certificate.specs.Certificates.{CanBeSpelled};
+ghost use Rattle.cut_certificate.specs.Certificates.{HasCanonicalText};
 
 use crate::{CertFault, MAX_CERT, print_cert, read_cert};
 use cut_certificate::Cert;
@@ -10,7 +10,7 @@ use std::process::Abort;
 use std::test::Fail;
 
 fn cert(alloc: Global, text: &[u8]) -> Result<Cert, CertFault>
-    ensures { IfOk result (λ cert. All CanBeSpelled cert.pieces) }
+    ensures { IfOk result (λ cert. All HasCanonicalText cert.pieces) }
 {
     if text.len() > MAX_CERT {
         return Err(CertFault::Memory);

@@ -2,11 +2,11 @@ ghost use Rattle.std.specs.Prelude.{◌≡◌, ◌≤◌, ◌+◌, ◌*◌, ◌^
 ghost use Rattle.std.specs.Char.{digit_value, is_ascii_digit};
 ghost use Rattle.std.specs.Str.{all_ascii_digits};
 ghost use Rattle.std.specs.Str.Parse.{digits_value};
-ghost use Rattle.certificate_text.specs.CertificateLines.{is_plain_numeral as is_plain, number_in as number_spelled};
+ghost use Rattle.certificate_text.specs.CertificateLines.{is_canonical_numeral, parsed_cert_number};
 
 /// Returns the number below 2 ^ 32 that a word of any length denotes without leading zeros.
 pub(crate) fn number_in(word: &[u8]) -> Option<u32>
-    ensures { result ≡ number_spelled word.now }
+    ensures { result ≡ parsed_cert_number word.now }
 {
     if !is_plain_numeral(word) {
         return None;
@@ -15,7 +15,7 @@ pub(crate) fn number_in(word: &[u8]) -> Option<u32>
 }
 
 fn is_plain_numeral(word: &[u8]) -> bool
-    ensures { result ≡ is_plain word.now }
+    ensures { result ≡ is_canonical_numeral word.now }
 {
     match word {
         [] => false,

@@ -6,15 +6,15 @@ use Rattle.command_words.specs.declared.edit_words.Edit.TheVariants as edit
 use Rattle.command_words.specs.Changes.{Change, mirror, shift, thread, turn}
 
 -- The change that an edit is.
-abbrev pub change_by : Edit → Change
-change_by (edit.Shift by) = shift by.x by.y
-change_by (edit.Turn quarters) = turn quarters
-change_by (edit.Mirror axis) = mirror axis
-change_by (edit.Thread place number) = thread place number
+abbrev pub change_of_edit : Edit → Change
+change_of_edit (edit.Shift by) = shift by.x by.y
+change_of_edit (edit.Turn quarters) = turn quarters
+change_of_edit (edit.Mirror axis) = mirror axis
+change_of_edit (edit.Thread place number) = thread place number
 
 -- An edit whose numbers are within the bounds of its argument.
-abbrev pub IsSmallEdit : Edit → Type 0
-IsSmallEdit (edit.Shift by) = (unsigned_abs by.x ≤ MAX_SHIFT) × (unsigned_abs by.y ≤ MAX_SHIFT)
-IsSmallEdit (edit.Turn quarters) = quarters ≤ 3
-IsSmallEdit (edit.Mirror axis) = Unit {0}
-IsSmallEdit (edit.Thread place number) = (1 ≤ place) × (place ≤ 255)
+abbrev pub IsEditInBounds : Edit → Type 0
+IsEditInBounds (edit.Shift by) = (unsigned_abs by.x ≤ MAX_SHIFT) × (unsigned_abs by.y ≤ MAX_SHIFT)
+IsEditInBounds (edit.Turn quarters) = quarters ≤ 3
+IsEditInBounds (edit.Mirror axis) = Unit {0}
+IsEditInBounds (edit.Thread place number) = (1 ≤ place) × (place ≤ 255)

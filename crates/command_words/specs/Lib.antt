@@ -1,6 +1,6 @@
 pub mod Changes
-pub mod Words
+pub mod Arguments
 -- Read Requests first: the requests, and the arguments that represent them.
 pub mod Requests
-pub mod SoundRequests
+pub mod ValidRequests
 pub mod Edits

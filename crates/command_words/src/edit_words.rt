@@ -1,9 +1,9 @@
 ghost use Rattle.std.specs.Prelude.{◌≡◌, IfSome, option_map};
-ghost use Rattle.command_words.specs.Edits.{IsSmallEdit, change_by};
-ghost use Rattle.design_model.specs.WholeNumbers.{whole_of};
-ghost use Rattle.command_words.specs.Words.{bounded as bounded_by, comma, edit_of, edit_spelled as edit_spelled_by, mirror_in, parted_at as parted, shift_in, thread_in, turn_by};
+ghost use Rattle.command_words.specs.Edits.{IsEditInBounds, change_of_edit};
+ghost use Rattle.design_model.specs.WholeNumbers.{parsed_whole};
+ghost use Rattle.command_words.specs.Arguments.{natural_within, comma, parsed_named_edit, parsed_edit, parsed_mirror, split_at_byte, parsed_shift, parsed_block_thread, turn_if_some};
 
-use crate::number_words::{bounded, sized};
+use crate::number_words::{parse_integer, parse_natural};
 use design_edits::{Axis, MAX_SHIFT};
 use design_model::Point;
 
@@ -21,64 +21,65 @@ pub enum Edit {
 }
 
 /// Parses an edit: `shift=DX,DY`, `turn=Q`, `mirror=x`, `mirror=y` or `thread=P,T`.
-pub fn edit_spelled(word: &[u8]) -> Option<Edit>
-    ensures value { option_map change_by result ≡ edit_spelled_by word.now }
-    ensures small { IfSome result IsSmallEdit }
+pub fn parse_edit(word: &[u8]) -> Option<Edit>
+    ensures value { option_map change_of_edit result ≡ parsed_edit word.now }
+    ensures small { IfSome result IsEditInBounds }
 {
-    match parted_at(word, b'=') {
-        Some((name, value)) => edit_named(name, value),
+    match split_once(word, b'=') {
+        Some((name, value)) => parse_named_edit(name, value),
         None => None,
     }
 }
 
-fn edit_named(name: &[u8], value: &[u8]) -> Option<Edit>
-    ensures value { option_map change_by result ≡ edit_of name.now value.now }
-    ensures small { IfSome result IsSmallEdit }
+fn parse_named_edit(name: &[u8], value: &[u8]) -> Option<Edit>
+    ensures value { option_map change_of_edit result ≡ parsed_named_edit name.now value.now }
+    ensures small { IfSome result IsEditInBounds }
 {
     if name == b"shift".as_slice() {
-        return shift_spelled(value);
+        return parse_shift(value);
     }
     if name == b"turn".as_slice() {
-        return turn_spelled(value);
+        return parse_turn(value);
     }
     if name == b"mirror".as_slice() {
-        return mirror_spelled(value);
+        return parse_mirror(value);
     }
     if name == b"thread".as_slice() {
-        return thread_spelled(value);
+        return parse_thread(value);
     }
     None
 }
 
-fn shift_spelled(value: &[u8]) -> Option<Edit>
-    ensures value { option_map change_by result ≡ shift_in (parted comma value.now) }
-    ensures small { IfSome result IsSmallEdit }
+fn parse_shift(value: &[u8]) -> Option<Edit>
+    ensures value { option_map change_of_edit result ≡ parsed_shift (split_at_byte comma value.now) }
+    ensures small { IfSome result IsEditInBounds }
 {
-    let Some((across, down)) = parted_at(value, b',') else {
+    let Some((across, down)) = split_once(value, b',') else {
         return None;
     };
-    let Some(dx) = sized(MAX_SHIFT, across) else {
+    let Some(dx) = parse_integer(MAX_SHIFT, across) else {
         return None;
     };
-    let Some(dy) = sized(MAX_SHIFT, down) else {
+    let Some(dy) = parse_integer(MAX_SHIFT, down) else {
         return None;
     };
     Some(Edit::Shift(Point { x: dx, y: dy }))
 }
 
-fn turn_spelled(value: &[u8]) -> Option<Edit>
-    ensures value { option_map change_by result ≡ turn_by (bounded_by 0 3 (whole_of value.now)) }
-    ensures small { IfSome result IsSmallEdit }
+fn parse_turn(value: &[u8]) -> Option<Edit>
+    ensures value { option_map change_of_edit result
+        ≡ turn_if_some (natural_within 0 3 (parsed_whole value.now)) }
+    ensures small { IfSome result IsEditInBounds }
 {
-    match bounded(0, 3, value) {
+    match parse_natural(0, 3, value) {
         Some(quarters) => Some(Edit::Turn { quarters }),
         None => None,
     }
 }
 
-fn mirror_spelled(value: &[u8]) -> Option<Edit>
-    ensures value { option_map change_by result ≡ mirror_in value.now }
-    ensures small { IfSome result IsSmallEdit }
+fn parse_mirror(value: &[u8]) -> Option<Edit>
+    ensures value { option_map change_of_edit result ≡ parsed_mirror value.now }
+    ensures small { IfSome result IsEditInBounds }
 {
     if value == b"x".as_slice() {
         return Some(Edit::Mirror(Axis::X));
@@ -89,17 +90,17 @@ fn mirror_spelled(value: &[u8]) -> Option<Edit>
     None
 }
 
-fn thread_spelled(value: &[u8]) -> Option<Edit>
-    ensures value { option_map change_by result ≡ thread_in (parted comma value.now) }
-    ensures small { IfSome result IsSmallEdit }
+fn parse_thread(value: &[u8]) -> Option<Edit>
+    ensures value { option_map change_of_edit result ≡ parsed_block_thread (split_at_byte comma value.now) }
+    ensures small { IfSome result IsEditInBounds }
 {
-    let Some((block, number)) = parted_at(value, b',') else {
+    let Some((block, number)) = split_once(value, b',') else {
         return None;
     };
-    let Some(place) = bounded(1, 255, block) else {
+    let Some(place) = parse_natural(1, 255, block) else {
         return None;
     };
-    let Some(thread) = bounded(0, 255, number) else {
+    let Some(thread) = parse_natural(0, 255, number) else {
         return None;
     };
     Some(Edit::Thread {
@@ -109,8 +110,8 @@ fn thread_spelled(value: &[u8]) -> Option<Edit>
 }
 
 /// Splits a text at the first occurrence of a byte, if there is one.
-fn parted_at(text: &[u8], separator: u8) -> Option<(&[u8], &[u8])>
-    ensures { option_map (λ parts. (parts.0.now, parts.1.now)) result ≡ parted separator text.now }
+fn split_once(text: &[u8], separator: u8) -> Option<(&[u8], &[u8])>
+    ensures { option_map (λ parts. (parts.0.now, parts.1.now)) result ≡ split_at_byte separator text.now }
 {
     for (place, byte) in text.iter().enumerate() {
         if *byte == separator {

@@ -7,6 +7,6 @@ mod number_words;
 mod request_words;
 mod requests;
 
-pub use edit_words::{Edit, edit_spelled};
+pub use edit_words::{Edit, parse_edit};
 pub use request_words::{MAX_SAMPLE, MAX_SIDE, request};
-pub use requests::{CheckNames, Names, Request, RouteNames};
+pub use requests::{CheckNames, Request, RewriteNames, RouteNames};

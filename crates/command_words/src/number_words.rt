@@ -1,12 +1,12 @@
 ghost use Rattle.std.specs.Prelude.{◌≡◌, ◌≤◌, IfSome, unsigned_abs};
-ghost use Rattle.design_model.specs.WholeNumbers.{whole_of};
-ghost use Rattle.command_words.specs.Words.{bounded as bounded_by, number_within, sized as sized_by};
+ghost use Rattle.design_model.specs.WholeNumbers.{parsed_whole};
+ghost use Rattle.command_words.specs.Arguments.{natural_within, natural_if_within, integer_within};
 
 use design_model::{Whole, parse_whole};
 
 /// Parses an integer whose absolute value is at most `most`.
-pub(crate) fn sized(most: u32, word: &[u8]) -> Option<i32>
-    ensures value { result ≡ sized_by most (whole_of word.now) }
+pub(crate) fn parse_integer(most: u32, word: &[u8]) -> Option<i32>
+    ensures value { result ≡ integer_within most (parsed_whole word.now) }
     ensures most { IfSome result (λ number. unsigned_abs number ≤ most) }
 {
     match parse_whole(word) {
@@ -16,8 +16,8 @@ pub(crate) fn sized(most: u32, word: &[u8]) -> Option<i32>
 }
 
 /// Parses a natural number from `least` to `most`.
-pub(crate) fn bounded(least: u32, most: u32, word: &[u8]) -> Option<u32>
-    ensures value { result ≡ bounded_by least most (whole_of word.now) }
+pub(crate) fn parse_natural(least: u32, most: u32, word: &[u8]) -> Option<u32>
+    ensures value { result ≡ natural_within least most (parsed_whole word.now) }
     ensures least { IfSome result (λ number. least ≤ number) }
     ensures most { IfSome result (λ number. number ≤ most) }
 {
@@ -28,7 +28,7 @@ pub(crate) fn bounded(least: u32, most: u32, word: &[u8]) -> Option<u32>
 }
 
 fn within(least: u32, most: u32, number: u32) -> Option<u32>
-    ensures value { result ≡ number_within least most number }
+    ensures value { result ≡ natural_if_within least most number }
     ensures least { IfSome result (λ number. least ≤ number) }
     ensures most { IfSome result (λ number. number ≤ most) }
 {

@@ -1,11 +1,11 @@
 ghost use Rattle.std.specs.Prelude.{◌≡◌, IfSome, codes, is_some, map, option_map, string_bytes};
-ghost use Rattle.command_words.specs.Requests.{asked_as, asked_check, asked_convert, asked_double, asked_edit, asked_hoop, asked_migrate, asked_of, asked_route, asked_sample, asked_show, asked_trace, hoop_with, sample_with};
-ghost use Rattle.command_words.specs.SoundRequests.{IsSound, asked_by};
-ghost use Rattle.command_words.specs.Words.{are_both as are_both_words, edits_spelled, refits_spelled, sample_of, side_of};
+ghost use Rattle.command_words.specs.Requests.{parsed_command, parsed_check, parsed_convert, parsed_double, parsed_edit_request, parsed_hoop, parsed_migrate, parsed_request, parsed_route, parsed_sample, parsed_show, parsed_trace, hoop_with, sample_with};
+ghost use Rattle.command_words.specs.ValidRequests.{IsValidRequest, request_value};
+ghost use Rattle.command_words.specs.Arguments.{are_in_either_order, parsed_edits, parsed_refits, sample_number, hoop_side};
 
-use crate::edit_words::edit_spelled;
-use crate::number_words::bounded;
-use crate::requests::{CheckNames, Names, Request, RouteNames};
+use crate::edit_words::parse_edit;
+use crate::number_words::parse_natural;
+use crate::requests::{CheckNames, Request, RewriteNames, RouteNames};
 use outside_io::is_name;
 
 /// The maximum side of a hoop, in tenths of a millimetre.
@@ -19,20 +19,20 @@ pub const MAX_SAMPLE: u32 = 999_999;
 /// DRAWING OUT`, `trace FILE DRAWING` or `double DRAWING OUT CERT`. Returns `None` for other arguments.
 /// Allocates nothing.
 pub fn request(words: &[String]) -> Option<Request<'_>>
-    ensures value { option_map asked_by result
-        ≡ asked_of (map (λ word. string_bytes word) words.now) }
-    ensures sound { IfSome result IsSound }
+    ensures value { option_map request_value result
+        ≡ parsed_request (map (λ word. string_bytes word) words.now) }
+    ensures sound { IfSome result IsValidRequest }
 {
     match words {
-        [command, rest @ ..] => request_as(command.as_str(), rest),
+        [command, rest @ ..] => parse_command(command.as_str(), rest),
         [] => None,
     }
 }
 
-fn request_as<'a>(command: &str, words: &'a [String]) -> Option<Request<'a>>
-    ensures value { option_map asked_by result
-        ≡ asked_as command.now (map (λ word. string_bytes word) words.now) }
-    ensures sound { IfSome result IsSound }
+fn parse_command<'a>(command: &str, words: &'a [String]) -> Option<Request<'a>>
+    ensures value { option_map request_value result
+        ≡ parsed_command command.now (map (λ word. string_bytes word) words.now) }
+    ensures sound { IfSome result IsValidRequest }
 {
     if command == "route" {
         return route_request(words);
@@ -68,9 +68,9 @@ fn request_as<'a>(command: &str, words: &'a [String]) -> Option<Request<'a>>
 }
 
 fn route_request(words: &[String]) -> Option<Request<'_>>
-    ensures value { option_map asked_by result
-        ≡ asked_route (map (λ word. string_bytes word) words.now) }
-    ensures sound { IfSome result IsSound }
+    ensures value { option_map request_value result
+        ≡ parsed_route (map (λ word. string_bytes word) words.now) }
+    ensures sound { IfSome result IsValidRequest }
 {
     let [drawing, out, cert] = words else {
         return None;
@@ -87,9 +87,9 @@ fn route_request(words: &[String]) -> Option<Request<'_>>
 }
 
 fn check_request(words: &[String]) -> Option<Request<'_>>
-    ensures value { option_map asked_by result
-        ≡ asked_check (map (λ word. string_bytes word) words.now) }
-    ensures sound { IfSome result IsSound }
+    ensures value { option_map request_value result
+        ≡ parsed_check (map (λ word. string_bytes word) words.now) }
+    ensures sound { IfSome result IsValidRequest }
 {
     let [drawing, file, cert] = words else {
         return None;
@@ -106,19 +106,19 @@ fn check_request(words: &[String]) -> Option<Request<'_>>
 }
 
 fn convert_request(words: &[String]) -> Option<Request<'_>>
-    ensures value { option_map asked_by result
-        ≡ asked_convert (map (λ word. string_bytes word) words.now) }
-    ensures sound { IfSome result IsSound }
+    ensures value { option_map request_value result
+        ≡ parsed_convert (map (λ word. string_bytes word) words.now) }
+    ensures sound { IfSome result IsValidRequest }
 {
     let [input, output, flags @ ..] = words else {
         return None;
     };
-    let Some((splits, cuts)) = refits(flags) else {
+    let Some((splits, cuts)) = parse_refits(flags) else {
         return None;
     };
     if is_name(input.as_str()) && is_name(output.as_str()) {
         Some(Request::Convert {
-            names: Names {
+            names: RewriteNames {
                 input: input.as_str(),
                 output: output.as_str(),
             },
@@ -131,8 +131,8 @@ fn convert_request(words: &[String]) -> Option<Request<'_>>
 }
 
 /// Parses the flags of `convert`: whether to split stitches, and whether to cut floats.
-fn refits(flags: &[String]) -> Option<(bool, bool)>
-    ensures { result ≡ refits_spelled (map (λ word. string_bytes word) flags.now) }
+fn parse_refits(flags: &[String]) -> Option<(bool, bool)>
+    ensures { result ≡ parsed_refits (map (λ word. string_bytes word) flags.now) }
 {
     match flags {
         [] => Some((false, false)),
@@ -144,15 +144,15 @@ fn refits(flags: &[String]) -> Option<(bool, bool)>
 }
 
 fn are_both(first: &str, second: &str) -> bool
-    ensures { result ≡ are_both_words first.now second.now (codes "--split") (codes "--cut") }
+    ensures { result ≡ are_in_either_order first.now second.now (codes "--split") (codes "--cut") }
 {
     first == "--split" && second == "--cut" || first == "--cut" && second == "--split"
 }
 
 fn show_request(words: &[String]) -> Option<Request<'_>>
-    ensures value { option_map asked_by result
-        ≡ asked_show (map (λ word. string_bytes word) words.now) }
-    ensures sound { IfSome result IsSound }
+    ensures value { option_map request_value result
+        ≡ parsed_show (map (λ word. string_bytes word) words.now) }
+    ensures sound { IfSome result IsValidRequest }
 {
     let [file] = words else {
         return None;
@@ -166,9 +166,9 @@ fn show_request(words: &[String]) -> Option<Request<'_>>
 
 #[tactic(auto, using(crate::proofs::WordLemmas::few_no_edit))]
 fn edit_request(words: &[String]) -> Option<Request<'_>>
-    ensures value { option_map asked_by result
-        ≡ asked_edit (map (λ word. string_bytes word) words.now) }
-    ensures sound { IfSome result IsSound }
+    ensures value { option_map request_value result
+        ≡ parsed_edit_request (map (λ word. string_bytes word) words.now) }
+    ensures sound { IfSome result IsValidRequest }
 {
     let [input, output, edits @ ..] = words else {
         return None;
@@ -178,7 +178,7 @@ fn edit_request(words: &[String]) -> Option<Request<'_>>
     }
     if is_name(input.as_str()) && is_name(output.as_str()) {
         Some(Request::Edit {
-            names: Names {
+            names: RewriteNames {
                 input: input.as_str(),
                 output: output.as_str(),
             },
@@ -191,10 +191,10 @@ fn edit_request(words: &[String]) -> Option<Request<'_>>
 
 /// Returns whether each argument is an edit.
 fn are_edits(words: &[String]) -> bool
-    ensures { result ≡ is_some (edits_spelled (map (λ word. string_bytes word) words.now)) }
+    ensures { result ≡ is_some (parsed_edits (map (λ word. string_bytes word) words.now)) }
 {
     for word in words {
-        match edit_spelled(word.as_bytes()) {
+        match parse_edit(word.as_bytes()) {
             Some(_) => {}
             None => return false,
         }
@@ -203,25 +203,25 @@ fn are_edits(words: &[String]) -> bool
 }
 
 fn hoop_request(words: &[String]) -> Option<Request<'_>>
-    ensures value { option_map asked_by result
-        ≡ asked_hoop (map (λ word. string_bytes word) words.now) }
-    ensures sound { IfSome result IsSound }
+    ensures value { option_map request_value result
+        ≡ parsed_hoop (map (λ word. string_bytes word) words.now) }
+    ensures sound { IfSome result IsValidRequest }
 {
     match words {
-        [file, width, height] => hoop_spelled(file.as_str(), width.as_bytes(), height.as_bytes()),
+        [file, width, height] => parse_hoop(file.as_str(), width.as_bytes(), height.as_bytes()),
         _ => None,
     }
 }
 
-fn hoop_spelled<'a>(file: &'a str, width: &[u8], height: &[u8]) -> Option<Request<'a>>
-    ensures value { option_map asked_by result
-        ≡ hoop_with file.now (side_of width.now) (side_of height.now) }
-    ensures sound { IfSome result IsSound }
+fn parse_hoop<'a>(file: &'a str, width: &[u8], height: &[u8]) -> Option<Request<'a>>
+    ensures value { option_map request_value result
+        ≡ hoop_with file.now (hoop_side width.now) (hoop_side height.now) }
+    ensures sound { IfSome result IsValidRequest }
 {
-    let Some(width) = bounded(1, MAX_SIDE, width) else {
+    let Some(width) = parse_natural(1, MAX_SIDE, width) else {
         return None;
     };
-    let Some(height) = bounded(1, MAX_SIDE, height) else {
+    let Some(height) = parse_natural(1, MAX_SIDE, height) else {
         return None;
     };
     if is_name(file) {
@@ -236,21 +236,21 @@ fn hoop_spelled<'a>(file: &'a str, width: &[u8], height: &[u8]) -> Option<Reques
 }
 
 fn sample_request(words: &[String]) -> Option<Request<'_>>
-    ensures value { option_map asked_by result
-        ≡ asked_sample (map (λ word. string_bytes word) words.now) }
-    ensures sound { IfSome result IsSound }
+    ensures value { option_map request_value result
+        ≡ parsed_sample (map (λ word. string_bytes word) words.now) }
+    ensures sound { IfSome result IsValidRequest }
 {
     match words {
-        [number, drawing] => sample_spelled(number.as_bytes(), drawing.as_str()),
+        [number, drawing] => parse_sample(number.as_bytes(), drawing.as_str()),
         _ => None,
     }
 }
 
-fn sample_spelled<'a>(number: &[u8], drawing: &'a str) -> Option<Request<'a>>
-    ensures value { option_map asked_by result ≡ sample_with (sample_of number.now) drawing.now }
-    ensures sound { IfSome result IsSound }
+fn parse_sample<'a>(number: &[u8], drawing: &'a str) -> Option<Request<'a>>
+    ensures value { option_map request_value result ≡ sample_with (sample_number number.now) drawing.now }
+    ensures sound { IfSome result IsValidRequest }
 {
-    let Some(number) = bounded(1, MAX_SAMPLE, number) else {
+    let Some(number) = parse_natural(1, MAX_SAMPLE, number) else {
         return None;
     };
     if is_name(drawing) {
@@ -261,9 +261,9 @@ fn sample_spelled<'a>(number: &[u8], drawing: &'a str) -> Option<Request<'a>>
 }
 
 fn migrate_request(words: &[String]) -> Option<Request<'_>>
-    ensures value { option_map asked_by result
-        ≡ asked_migrate (map (λ word. string_bytes word) words.now) }
-    ensures sound { IfSome result IsSound }
+    ensures value { option_map request_value result
+        ≡ parsed_migrate (map (λ word. string_bytes word) words.now) }
+    ensures sound { IfSome result IsValidRequest }
 {
     let [input, output] = words else {
         return None;
@@ -279,9 +279,9 @@ fn migrate_request(words: &[String]) -> Option<Request<'_>>
 }
 
 fn trace_request(words: &[String]) -> Option<Request<'_>>
-    ensures value { option_map asked_by result
-        ≡ asked_trace (map (λ word. string_bytes word) words.now) }
-    ensures sound { IfSome result IsSound }
+    ensures value { option_map request_value result
+        ≡ parsed_trace (map (λ word. string_bytes word) words.now) }
+    ensures sound { IfSome result IsValidRequest }
 {
     let [design, drawing] = words else {
         return None;
@@ -297,9 +297,9 @@ fn trace_request(words: &[String]) -> Option<Request<'_>>
 }
 
 fn double_request(words: &[String]) -> Option<Request<'_>>
-    ensures value { option_map asked_by result
-        ≡ asked_double (map (λ word. string_bytes word) words.now) }
-    ensures sound { IfSome result IsSound }
+    ensures value { option_map request_value result
+        ≡ parsed_double (map (λ word. string_bytes word) words.now) }
+    ensures sound { IfSome result IsValidRequest }
 {
     let [drawing, output, cert] = words else {
         return None;

@@ -7,7 +7,7 @@ pub enum Request<'a> {
     Check(CheckNames<'a>),
     /// Write a design in another format, with long stitches split or long floats cut.
     Convert {
-        names: Names<'a>,
+        names: RewriteNames<'a>,
         splits: bool,
         cuts: bool,
     },
@@ -15,7 +15,7 @@ pub enum Request<'a> {
     Show(&'a str),
     /// Write a design after edits, one for each argument.
     Edit {
-        names: Names<'a>,
+        names: RewriteNames<'a>,
         edits: &'a [String],
     },
     /// Check whether a design fits a hoop, whose sides are in tenths of a millimetre.
@@ -61,7 +61,7 @@ pub struct CheckNames<'a> {
 
 /// The files of `convert` and `edit`: the design to read, and the design to write.
 #[derive(Clone, Copy, Debug)]
-pub struct Names<'a> {
+pub struct RewriteNames<'a> {
     pub input: &'a str,
     pub output: &'a str,
 }

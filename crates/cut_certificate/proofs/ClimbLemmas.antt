@@ -2,19 +2,19 @@
 use Rattle.std.proofs.Common.{◌≡◌, ℕ, ◌+◌, ◌-◌, ◌*◌, ◌<◌, ◌≤◌, ◌⊎◌, List, [], ◌∷◌, true, arith, inl, inr, refl, ap}
 use Rattle.std.proofs.lemmas.Bool.{cases_lt}
 use Rattle.blossom_match.specs.declared.matching.Moat.{Moat}
-use Rattle.cut_certificate.specs.Cuts.{holds}
-use Rattle.cut_certificate.specs.Levels.{Site, depth, level, widths}
+use Rattle.cut_certificate.specs.Cuts.{has_member}
+use Rattle.cut_certificate.specs.Levels.{LiftInput, depth, level, width_sum}
 use Rattle.cut_certificate.proofs.LevelLemmas.{IsBest, best, inner_full, level_by, level_most}
 use Rattle.cut_certificate.proofs.MoatLemmas.{Apart, Disjoint, Fits, IsOf, not_in, parts, reach, related}
 use Rattle.cut_certificate.proofs.OverlapLemmas.{overlap, overlaps, overlaps_fit, part_at}
 
 -- how many halves of the cuts of these moats hold i and not j
-abbrev pub climb : Site → (i j : ℕ) → List Moat → ℕ
+abbrev pub climb : LiftInput → (i j : ℕ) → List Moat → ℕ
 climb g i j [] = 0
 climb g i j (m ∷ rest) = (level g m j - level g m i) + climb g i j rest
 
 -- the costs of two junctions from each terminal differ by no more than that
-pub record IsLine (g : Site) (i j c : ℕ) : Type 0 where
+pub record IsLine (g : LiftInput) (i j c : ℕ) : Type 0 where
   pub forth : (t : ℕ) → t < g.places → g.least t j ≤ g.least t i + c
   pub back : (t : ℕ) → t < g.places → g.least t i ≤ g.least t j + c
 
@@ -22,7 +22,7 @@ in_overlap : (b w x y from to : ℕ) → to ≤ w → b + to ≤ y → x - b ≤
 in_overlap b w x y from to h k l m = omega arith
 
 -- one moat's share of the cuts that hold i and not j
-climb_at : (g : Site) (i j t y : ℕ) → IsBest g i t → (m : Moat) → IsOf g.moats m
+climb_at : (g : LiftInput) (i j t y : ℕ) → IsBest g i t → (m : Moat) → IsOf g.moats m
     → (level g m i < level g m j → depth g m t + level g m j ≤ y) → level g m j - level g m i ≤ part_at g t (2 * g.least t i) y m
 climb_at g i j t y best m is top = elim (cases_lt (level g m i) (level g m j)) [
   | inl less ↦
@@ -33,7 +33,7 @@ climb_at g i j t y best m is top = elim (cases_lt (level g m i) (level g m j)) [
   | inr more ↦ omega arith
 ]
 
-climb_fits : (g : Site) (i j t y : ℕ) → IsBest g i t → (ms : List Moat) → ((m : Moat) → IsOf ms m → IsOf g.moats m)
+climb_fits : (g : LiftInput) (i j t y : ℕ) → IsBest g i t → (ms : List Moat) → ((m : Moat) → IsOf ms m → IsOf g.moats m)
     → ((m : Moat) → IsOf ms m → level g m i < level g m j → depth g m t + level g m j ≤ y)
     → climb g i j ms ≤ overlaps g t (2 * g.least t i) y ms
 climb_fits g i j t y b [] f top = omega arith
@@ -44,7 +44,7 @@ climb_fits g i j t y b (m ∷ ms) f top =
     sums : (a b c d : ℕ) → a ≤ b → c ≤ d → a + c ≤ b + d
     sums a b c d h k = omega arith
 
-climb_below : (g : Site) → Fits g → (i j t y : ℕ) → IsBest g i t
+climb_below : (g : LiftInput) → Fits g → (i j t y : ℕ) → IsBest g i t
     → ((m : Moat) → IsOf g.moats m → level g m i < level g m j → depth g m t + level g m j ≤ y)
     → climb g i j g.moats ≤ y - 2 * g.least t i
 climb_below g f i j t y b top =
@@ -54,7 +54,7 @@ climb_below g f i j t y b top =
     le_by a b c h k = omega arith
 
 -- no cut holds i
-no_climb : (g : Site) (i j : ℕ) (ms : List Moat) → ((m : Moat) → IsOf ms m → m.width ≤ level g m i) → climb g i j ms ≡ 0
+no_climb : (g : LiftInput) (i j : ℕ) (ms : List Moat) → ((m : Moat) → IsOf ms m → m.width ≤ level g m i) → climb g i j ms ≡ 0
 no_climb g i j [] f = refl
 no_climb g i j (m ∷ ms) f =
     let here = f m (inl refl) in
@@ -66,7 +66,7 @@ under : (b e x : ℕ) → 0 < e → e ≤ x - b → b + e ≤ x
 under b e x h k = omega arith
 
 -- the cuts that hold i and not j have two halves at most for each step
-half : (g : Site) → Fits g → (i j c : ℕ) → i < g.size → ((t : ℕ) → t < g.places → g.least t j ≤ g.least t i + c)
+half : (g : LiftInput) → Fits g → (i j c : ℕ) → i < g.size → ((t : ℕ) → t < g.places → g.least t j ≤ g.least t i + c)
     → climb g i j g.moats ≤ 2 * c
 half g f i j c in_i forth = elim (best g f i in_i) [
   | inl none ↦ omega (arith, no_climb g i j g.moats none)
@@ -82,7 +82,7 @@ half g f i j c in_i forth = elim (best g f i in_i) [
         let low : level g m i < m.width = omega arith in
         under (depth g m t) (level g m j) (2 * g.least t j) (omega arith) (level_by g m j t (b.inside m is low))
 
-some_climb : (g : Site) (i j : ℕ) (ms : List Moat) → 0 < climb g i j ms → (m : Moat) × IsOf ms m × (level g m i < level g m j)
+some_climb : (g : LiftInput) (i j : ℕ) (ms : List Moat) → 0 < climb g i j ms → (m : Moat) × IsOf ms m × (level g m i < level g m j)
 some_climb g i j [] h = absurd (omega arith)
 some_climb g i j (m ∷ ms) h = elim (cases_lt (level g m i) (level g m j)) [
   | inl less ↦ (m, inl refl, less)
@@ -90,7 +90,7 @@ some_climb g i j (m ∷ ms) h = elim (cases_lt (level g m i) (level g m j)) [
 ]
 
 -- a moat with a cut that holds i and not j, and one the other way, are disjoint
-crossed : (g : Site) (i j : ℕ) (a b : Moat) → IsOf g.moats a → IsOf g.moats b → level g a i < level g a j
+crossed : (g : LiftInput) (i j : ℕ) (a b : Moat) → IsOf g.moats a → IsOf g.moats b → level g a i < level g a j
     → level g b j < level g b i → (a ≡ b) ⊎ Apart a b → Disjoint a b
 crossed g i j a b is_a is_b up down (inl same) =
     absurd (omega (arith, ap (λ (m : Moat). level g m i) same, ap (λ (m : Moat). level g m j) same))
@@ -105,24 +105,24 @@ crossed g i j a b is_a is_b up down (inr (inr (inr v))) =
     absurd (omega arith)
 
 -- the cuts that hold i and not j stay below what parts t from u, where some cut holds j and not i
-one_side : (g : Site) → Fits g → (i j t u : ℕ) → IsBest g i t → IsBest g j u → 0 < climb g j i g.moats
-    → climb g i j g.moats ≤ widths (parts t u) g.moats - 2 * g.least t i
-one_side g f i j t u bi bj other = climb_below g f i j t (widths (parts t u) g.moats) bi top
+one_side : (g : LiftInput) → Fits g → (i j t u : ℕ) → IsBest g i t → IsBest g j u → 0 < climb g j i g.moats
+    → climb g i j g.moats ≤ width_sum (parts t u) g.moats - 2 * g.least t i
+one_side g f i j t u bi bj other = climb_below g f i j t (width_sum (parts t u) g.moats) bi top
   where
-    top : (m : Moat) → IsOf g.moats m → level g m i < level g m j → depth g m t + level g m j ≤ widths (parts t u) g.moats
+    top : (m : Moat) → IsOf g.moats m → level g m i < level g m j → depth g m t + level g m j ≤ width_sum (parts t u) g.moats
     top m is less =
         let p = some_climb g j i g.moats other in
         let down : level g p.0 j < level g p.0 i = p.2 in
         let most : level g m j ≤ m.width = level_most g m j in
         let most_p : level g p.0 i ≤ p.0.width = level_most g p.0 i in
         let d = crossed g i j m p.0 is p.1 less down (related g.moats m p.0 f.laminar is p.1) in
-        let has_u : holds p.0.members u ≡ true = bj.inside p.0 p.1 (omega arith) in
-        let has_t : holds m.members t ≡ true = bi.inside m is (omega arith) in
-        let r : depth g m t + m.width ≤ widths (parts t u) g.moats
+        let has_u : has_member p.0.members u ≡ true = bj.inside p.0 p.1 (omega arith) in
+        let has_t : has_member m.members t ≡ true = bi.inside m is (omega arith) in
+        let r : depth g m t + m.width ≤ width_sum (parts t u) g.moats
         = reach g f.laminar m t u is has_t (not_in p.0 m u (λ x y z. d x z y) has_u) in
         omega arith
 
-both_sides : (g : Site) → Fits g → (i j c : ℕ) → j < g.size → IsLine g i j c → 0 < climb g i j g.moats → 0 < climb g j i g.moats
+both_sides : (g : LiftInput) → Fits g → (i j c : ℕ) → j < g.size → IsLine g i j c → 0 < climb g i j g.moats → 0 < climb g j i g.moats
     → ((m : Moat) → IsOf g.moats m → m.width ≤ level g m i) ⊎ ((t : ℕ) × (t < g.places) × IsBest g i t)
     → ((m : Moat) → IsOf g.moats m → m.width ≤ level g m j) ⊎ ((t : ℕ) × (t < g.places) × IsBest g j t)
     → climb g i j g.moats + climb g j i g.moats ≤ 2 * c
@@ -140,7 +140,7 @@ both_sides g f i j c in_j l up down (inr p) (inr q) =
     add a b v w d x y z c h k m n o p q = omega arith
 
 -- the cuts that hold exactly one of i and j have two halves at most for each step
-pub carries : (g : Site) → Fits g → (i j c : ℕ) → i < g.size → j < g.size → IsLine g i j c
+pub carries : (g : LiftInput) → Fits g → (i j c : ℕ) → i < g.size → j < g.size → IsLine g i j c
     → climb g i j g.moats + climb g j i g.moats ≤ 2 * c
 carries g f i j c in_i in_j l = elim (cases_lt 0 (climb g i j g.moats)) [
   | inl up ↦ elim (cases_lt 0 (climb g j i g.moats)) [

@@ -3,18 +3,18 @@ use Rattle.std.proofs.Common.{◌≡◌, ℕ, ◌+◌, ◌%◌, ◌==◌, Bool, 
 use Rattle.std.proofs.lemmas.Bool.Decides.{nat_tests}
 use Rattle.line_graph.specs.declared.edge.Edge.{Edge}
 use Rattle.line_graph.specs.declared.pass.Pass.{Pass}
-use Rattle.line_graph.specs.PieceGraphs.{bit}
-use Rattle.line_graph.specs.PieceWalks.{after_edge, edge_of, end_of, of_edge, pass_sum, start_of, walk_on}
+use Rattle.line_graph.specs.PieceGraphs.{one_if}
+use Rattle.line_graph.specs.PieceWalks.{after_edge, edge_of, pass_end, edge_value, pass_sum, pass_start, walk_end_from}
 
 -- 1 where the set has the junction
 abbrev pub inside : (ℕ → Bool) → ℕ → ℕ
-inside set j = bit (set j)
+inside set j = one_if (set j)
 
 -- 1 where the set has exactly one end of the edge
 abbrev pub crossing : (ℕ → Bool) → Edge → ℕ
-crossing set e = bit (cond (set e.a) (not (set e.b)) (set e.b))
+crossing set e = one_if (cond (set e.a) (not (set e.b)) (set e.b))
 
-edge_even : (s t : Bool) → ((bit (cond s (not t) t) + bit s) + bit t) % 2 ≡ 0
+edge_even : (s t : Bool) → ((one_if (cond s (not t) t) + one_if s) + one_if t) % 2 ≡ 0
 edge_even true true = refl
 edge_even true false = refl
 edge_even false true = refl
@@ -23,12 +23,13 @@ edge_even false false = refl
 swapped : (x y z : ℕ) → ((x + y) + z) % 2 ≡ 0 → ((x + z) + y) % 2 ≡ 0
 swapped x y z h = omega arith
 
-pass_even : (set : ℕ → Bool) (e : Edge) (back : Bool) → ((crossing set e + inside set (start_of e back)) + inside set (end_of e back)) % 2
+pass_even : (set : ℕ → Bool) (e : Edge) (back : Bool)
+    → ((crossing set e + inside set (pass_start e back)) + inside set (pass_end e back)) % 2
     ≡ 0
 pass_even set e false = edge_even (set e.a) (set e.b)
 pass_even set e true = swapped (crossing set e) (inside set e.a) (inside set e.b) (edge_even (set e.a) (set e.b))
 
-lost : (ns : List ℕ) (es : List Edge) (ps : List Pass) (to : ℕ) → walk_on ns es None ps ≡ Some to → ⊥
+lost : (ns : List ℕ) (es : List Edge) (ps : List Pass) (to : ℕ) → walk_end_from ns es None ps ≡ Some to → ⊥
 lost ns es [] to is = cc
 lost ns es (p ∷ ps) to is = lost ns es ps to is
 
@@ -39,15 +40,17 @@ twice : (k : ℕ) → ((0 + k) + k) % 2 ≡ 0
 twice k = omega arith
 
 step_even : (ns : List ℕ) (es : List Edge) (set : ℕ → Bool) (ps : List Pass) (e : Edge) (back : Bool) (at to : ℕ) (t : Bool)
-    → (start_of e back == at) ≡ t
-    → walk_on ns es (cond t (Some (end_of e back)) None) ps ≡ Some to
-    → (walk_on ns es (Some (end_of e back)) ps ≡ Some to → ((pass_sum ns es (crossing set) ps + inside set (end_of e back)) + inside set to)
+    → (pass_start e back == at) ≡ t
+    → walk_end_from ns es (cond t (Some (pass_end e back)) None) ps ≡ Some to
+    → (walk_end_from ns es (Some (pass_end e back)) ps ≡ Some to
+    → ((pass_sum ns es (crossing set) ps + inside set (pass_end e back)) + inside set to)
     % 2 ≡ 0)
     → (((crossing set e + pass_sum ns es (crossing set) ps) + inside set at) + inside set to) % 2 ≡ 0
 step_even ns es set ps e back at to true test is rest =
     subst (λ (k : ℕ). (((crossing set e + pass_sum ns es (crossing set) ps) + inside set k) + inside set to) % 2 ≡ 0)
-    (same (start_of e back) at test)
-    (joined (crossing set e) (pass_sum ns es (crossing set) ps) (inside set (start_of e back)) (inside set (end_of e back)) (inside set to)
+    (same (pass_start e back) at test)
+    (joined (crossing set e) (pass_sum ns es (crossing set) ps) (inside set (pass_start e back)) (inside set (pass_end e back))
+    (inside set to)
     (pass_even set e back) (rest is))
   where
     same : (m n : ℕ) → (m == n) ≡ true → m ≡ n
@@ -55,14 +58,14 @@ step_even ns es set ps e back at to true test is rest =
 step_even ns es set ps e back at to false test is rest = absurd (lost ns es ps to is)
 
 edge_step : (ns : List ℕ) (es : List Edge) (set : ℕ → Bool) (ps : List Pass) (found : Option Edge) (back : Bool) (at to : ℕ)
-    → walk_on ns es (after_edge found back at) ps ≡ Some to
-    → ((k : ℕ) → walk_on ns es (Some k) ps ≡ Some to → ((pass_sum ns es (crossing set) ps + inside set k) + inside set to) % 2 ≡ 0)
-    → (((of_edge (crossing set) found + pass_sum ns es (crossing set) ps) + inside set at) + inside set to) % 2 ≡ 0
+    → walk_end_from ns es (after_edge found back at) ps ≡ Some to
+    → ((k : ℕ) → walk_end_from ns es (Some k) ps ≡ Some to → ((pass_sum ns es (crossing set) ps + inside set k) + inside set to) % 2 ≡ 0)
+    → (((edge_value (crossing set) found + pass_sum ns es (crossing set) ps) + inside set at) + inside set to) % 2 ≡ 0
 edge_step ns es set ps None back at to is rest = absurd (lost ns es ps to is)
-edge_step ns es set ps (Some e) back at to is rest = step_even ns es set ps e back at to (start_of e back == at) refl is
-    (rest (end_of e back))
+edge_step ns es set ps (Some e) back at to is rest = step_even ns es set ps e back at to (pass_start e back == at) refl is
+    (rest (pass_end e back))
 
-pub walk_even : (ns : List ℕ) (es : List Edge) (set : ℕ → Bool) (ps : List Pass) (at to : ℕ) → walk_on ns es (Some at) ps ≡ Some to
+pub walk_even : (ns : List ℕ) (es : List Edge) (set : ℕ → Bool) (ps : List Pass) (at to : ℕ) → walk_end_from ns es (Some at) ps ≡ Some to
     → ((pass_sum ns es (crossing set) ps + inside set at) + inside set to) % 2 ≡ 0
 walk_even ns es set [] at to is =
     let same : at ≡ to = cc in

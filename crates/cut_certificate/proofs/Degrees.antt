@@ -5,15 +5,15 @@ use Rattle.std.proofs.lemmas.Bool.{and_parts}
 use Rattle.std.proofs.lemmas.List.Recursion.{is_count_by}
 use Rattle.std.specs.List.{count_by, range_with_len}
 use Rattle.line_graph.specs.declared.edge.Edge.{Edge}
-use Rattle.line_graph.specs.KeptPieces.{ends_below}
-use Rattle.line_graph.specs.PieceGraphs.{bit, degree, degrees_from, is_odd}
+use Rattle.line_graph.specs.ValidPieces.{ends_below}
+use Rattle.line_graph.specs.PieceGraphs.{one_if, degree, degrees_from, is_odd}
 use Rattle.line_graph.specs.PieceWalks.{edge_sum}
 use Rattle.cut_certificate.proofs.Crossing.{crossing, inside}
 
 -- the odd junctions in a set, from a number on
 abbrev pub odd_in : (ℕ → Bool) → ℕ → List ℕ → ℕ
 odd_in s at [] = 0
-odd_in s at (d ∷ ds) = bit (s at && is_odd d) + odd_in s (at + 1) ds
+odd_in s at (d ∷ ds) = one_if (s at && is_odd d) + odd_in s (at + 1) ds
 
 -- how many of the numbers are in a set
 abbrev counted : (ℕ → Bool) → List ℕ → ℕ
@@ -31,7 +31,7 @@ counted_from s es at (suc n) = by_test (is_odd (degree es at)) refl (s at) refl 
     by_test : (t : Bool) → is_odd (degree es at) ≡ t → (u : Bool) → s at ≡ u
         → counted s (filter (λ j. is_odd (degree es j)) (range_with_len (at + 1) n)) ≡ odd_in s (at + 1) (degrees_from es (at + 1) n)
         → counted s (filter (λ j. is_odd (degree es j)) (range_with_len at (suc n)))
-        ≡ bit (s at && is_odd (degree es at)) + odd_in s (at + 1) (degrees_from es (at + 1) n)
+        ≡ one_if (s at && is_odd (degree es at)) + odd_in s (at + 1) (degrees_from es (at + 1) n)
     by_test true odd true has rest = rw (odd, has, rest) refl
     by_test true odd false has rest = rw (odd, has, rest) (none _)
     by_test false odd true has rest = rw (odd, has, rest) (none _)
@@ -49,10 +49,10 @@ abbrev held : (ℕ → Bool) → ℕ → List ℕ → ℕ
 held s at [] = 0
 held s at (d ∷ ds) = cond (s at) d 0 + held s (at + 1) ds
 
-odd_bit : (t : Bool) (d : ℕ) → bit (t && is_odd d) % 2 ≡ cond t d 0 % 2
+odd_bit : (t : Bool) (d : ℕ) → one_if (t && is_odd d) % 2 ≡ cond t d 0 % 2
 odd_bit true d = by_test (is_odd d) refl
   where
-    by_test : (u : Bool) → (d % 2 == 1) ≡ u → bit u % 2 ≡ d % 2
+    by_test : (u : Bool) → (d % 2 == 1) ≡ u → one_if u % 2 ≡ d % 2
     by_test true is = odd d is
       where
         odd : (d : ℕ) → (d % 2 == 1) ≡ true → 1 ≡ d % 2
@@ -69,13 +69,13 @@ alike x y u v first rest = omega arith
 odd_is_held : (s : ℕ → Bool) (at : ℕ) (ds : List ℕ) → odd_in s at ds % 2 ≡ held s at ds % 2
 odd_is_held s at [] = refl
 odd_is_held s at (d ∷ ds) =
-    alike (bit (s at && is_odd d)) (cond (s at) d 0) (odd_in s (at + 1) ds) (held s (at + 1) ds) (odd_bit (s at) d)
+    alike (one_if (s at && is_odd d)) (cond (s at) d 0) (odd_in s (at + 1) ds) (held s (at + 1) ds) (odd_bit (s at) d)
     (odd_is_held s (at + 1) ds)
 
 -- a junction, where it is in the set and in the range
 abbrev one : (ℕ → Bool) → ℕ → ℕ → ℕ → ℕ
 one s j at zero = 0
-one s j at (suc n) = cond (s at) (bit (j == at)) 0 + one s j (at + 1) n
+one s j at (suc n) = cond (s at) (one_if (j == at)) 0 + one s j (at + 1) n
 
 held_none : (s : ℕ → Bool) (at n : ℕ) → held s at (degrees_from [] at n) ≡ 0
 held_none s at zero = refl
@@ -89,7 +89,7 @@ held_edge : (s : ℕ → Bool) (e : Edge) (es : List Edge) (at n : ℕ)
     → held s at (degrees_from (e ∷ es) at n) ≡ (one s e.a at n + one s e.b at n) + held s at (degrees_from es at n)
 held_edge s e es at zero = refl
 held_edge s e es at (suc n) = rw (held_edge s e es (at + 1) n)
-    (regroup (s at) (bit (e.a == at)) (bit (e.b == at)) (degree es at) (one s e.a (at + 1) n) (one s e.b (at + 1) n)
+    (regroup (s at) (one_if (e.a == at)) (one_if (e.b == at)) (degree es at) (one s e.a (at + 1) n) (one s e.b (at + 1) n)
     (held s (at + 1) (degrees_from es (at + 1) n)))
   where
     regroup : (t : Bool) (x y d u v h : ℕ) → cond t ((x + y) + d) 0 + ((u + v) + h)
@@ -120,7 +120,7 @@ met s j at (suc n) from to = by_test (j == at) refl (λ (h : at + 1 ≤ j). met 
     next : (m n : ℕ) → (m == n) ≡ false → n ≤ m → n + 1 ≤ m
     next m n is h = grind (arith, nat_tests)
 
-    here : (t : Bool) → cond t 1 0 + 0 ≡ bit t
+    here : (t : Bool) → cond t 1 0 + 0 ≡ one_if t
     here true = refl
     here false = refl
 
@@ -129,7 +129,7 @@ met s j at (suc n) from to = by_test (j == at) refl (λ (h : at + 1 ≤ j). met 
     there false k = omega arith
 
     by_test : (u : Bool) → (j == at) ≡ u → (at + 1 ≤ j → one s j (at + 1) n ≡ inside s j)
-        → cond (s at) (bit (j == at)) 0 + one s j (at + 1) n ≡ inside s j
+        → cond (s at) (one_if (j == at)) 0 + one s j (at + 1) n ≡ inside s j
     by_test true is rest =
         rw (is, before s j (at + 1) n (omega (arith, same j at is))) (here (s at) ∙ ap (λ (k : ℕ). inside s k) (sym (same j at is)))
     by_test false is rest = rw (is, rest (next j at is from)) (there (s at) (inside s j))
@@ -153,7 +153,7 @@ held_edges s (e ∷ es) n within =
     less : (m n : ℕ) → nat_lt m n ≡ true → m < 0 + n
     less m n is = grind (arith, nat_tests)
 
-both_crosses : (a b : Bool) → (bit a + bit b) % 2 ≡ bit (cond a (not b) b) % 2
+both_crosses : (a b : Bool) → (one_if a + one_if b) % 2 ≡ one_if (cond a (not b) b) % 2
 both_crosses true true = refl
 both_crosses true false = refl
 both_crosses false true = refl

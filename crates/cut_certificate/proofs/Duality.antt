@@ -8,12 +8,12 @@ use Rattle.std.specs.Option.{option_or}
 use native.Mathlib.Nat.{mul-le-mul_left, le-mul_of_pos_right}
 use Rattle.line_graph.specs.declared.edge.Edge.{Edge}
 use Rattle.line_graph.specs.declared.pass.Pass.{Pass}
-use Rattle.line_graph.specs.KeptPieces.{KeepsPiece, ends_below, is_below}
-use Rattle.line_graph.specs.PieceGraphs.{PieceValue, bit, closed_edges, closing}
-use Rattle.line_graph.specs.PieceWalks.{are_one, cost_of, covers, edge_sum, first_start, fits, leads, pass_sum, piece_cost, walk_cost, walk_on}
+use Rattle.line_graph.specs.ValidPieces.{IsValidPiece, ends_below, is_below}
+use Rattle.line_graph.specs.PieceGraphs.{PieceValue, one_if, edges_with_closing, closing_edge}
+use Rattle.line_graph.specs.PieceWalks.{are_same_junction, edge_cost, covers, edge_sum, walk_start, is_fitting_walk, is_walk_start_to_end, pass_sum, piece_cost, walk_cost, walk_end_from}
 use Rattle.cut_certificate.specs.declared.cut.Cut.{Cut}
-use Rattle.cut_certificate.specs.Bounds.{BoundsWalks, ProvesLeast}
-use Rattle.cut_certificate.specs.Cuts.{crosses, holds, load_on, total_of}
+use Rattle.cut_certificate.specs.PackingBounds.{BoundsWalks, ProvesLeast}
+use Rattle.cut_certificate.specs.Cuts.{crosses, has_member, load_on, total_weight}
 use Rattle.cut_certificate.specs.Packings.{IsOddCut, odd_held}
 use Rattle.cut_certificate.proofs.Crossing.{crossing, inside, walk_even}
 use Rattle.cut_certificate.proofs.Degrees.{odd_counted, odd_crossing}
@@ -23,7 +23,7 @@ use Rattle.cut_certificate.proofs.Sums.{exchange, more, once_and_more, weigh}
 load_cons : (c : Cut) (cs : List Cut) (e : Edge) → load_on (c ∷ cs) e ≡ cond (crosses c.members e) c.weight 0 + load_on cs e
 load_cons c cs e = sum_by-cons (λ (cut : Cut). cond (crosses cut.members e) cut.weight 0) c cs
 
-total_cons : (c : Cut) (cs : List Cut) → total_of (c ∷ cs) ≡ c.weight + total_of cs
+total_cons : (c : Cut) (cs : List Cut) → total_weight (c ∷ cs) ≡ c.weight + total_weight cs
 total_cons c cs = sum_by-cons (λ (cut : Cut). cut.weight) c cs
 
 no_load : (ns : List ℕ) (es : List Edge) (y : ℕ → ℕ) → weigh ns es y (load_on []) ≡ 0
@@ -35,7 +35,7 @@ no_load (n ∷ ns) (e ∷ es) y = rw (no_load ns es y) (nothing (y n))
     nothing k = omega arith
 
 load_step : (ns : List ℕ) (es : List Edge) (y : ℕ → ℕ) (c : Cut) (cs : List Cut)
-    → weigh ns es y (load_on (c ∷ cs)) ≡ c.weight * weigh ns es y (crossing (holds c.members)) + weigh ns es y (load_on cs)
+    → weigh ns es y (load_on (c ∷ cs)) ≡ c.weight * weigh ns es y (crossing (has_member c.members)) + weigh ns es y (load_on cs)
 load_step [] es y c cs = none c.weight
   where
     none : (w : ℕ) → 0 ≡ w * 0 + 0
@@ -46,19 +46,19 @@ load_step (n ∷ ns) [] y c cs = none c.weight
     none w = omega arith
 load_step (n ∷ ns) (e ∷ es) y c cs =
     rw (load_step ns es y c cs, load_cons c cs e) (regroup (crosses c.members e) (y n) c.weight (load_on cs e)
-    (weigh ns es y (crossing (holds c.members))) (weigh ns es y (load_on cs)))
+    (weigh ns es y (crossing (has_member c.members))) (weigh ns es y (load_on cs)))
   where
-    regroup : (t : Bool) (k w l u v : ℕ) → k * (cond t w 0 + l) + (w * u + v) ≡ w * (k * bit t + u) + (k * l + v)
+    regroup : (t : Bool) (k w l u v : ℕ) → k * (cond t w 0 + l) + (w * u + v) ≡ w * (k * one_if t + u) + (k * l + v)
     regroup true k w l u v = omega arith
     regroup false k w l u v = omega arith
 
 -- where each cut is crossed, the total is at most the load that is crossed
 pub total_loads : (ns : List ℕ) (es : List Edge) (y : ℕ → ℕ) (p : PieceValue) (cuts : List Cut) → All (IsOddCut p) cuts
-    → ((c : Cut) → IsOddCut p c → 1 ≤ weigh ns es y (crossing (holds c.members)))
-    → total_of cuts ≤ weigh ns es y (load_on cuts)
+    → ((c : Cut) → IsOddCut p c → 1 ≤ weigh ns es y (crossing (has_member c.members)))
+    → total_weight cuts ≤ weigh ns es y (load_on cuts)
 total_loads ns es y p [] odd each = omega arith
 total_loads ns es y p (c ∷ cs) odd each =
-    rw (load_step ns es y c cs, total_cons c cs) (added c.weight (weigh ns es y (crossing (holds c.members))) (total_of cs)
+    rw (load_step ns es y c cs, total_cons c cs) (added c.weight (weigh ns es y (crossing (has_member c.members))) (total_weight cs)
     (weigh ns es y (load_on cs))
     (each c (All-head (IsOddCut p) c cs odd)) (total_loads ns es y p cs (All-tail (IsOddCut p) c cs odd) each))
   where
@@ -73,12 +73,12 @@ Fits cuts e = load_on cuts e ≤ 2 * e.cost
 
 -- where each line carries at most twice its cost
 pub loads_cost : (ns : List ℕ) (es : List Edge) (y : ℕ → ℕ) (cuts : List Cut) → All (λ (e : Edge). load_on cuts e ≤ 2 * e.cost) es
-    → weigh ns es y (load_on cuts) ≤ 2 * weigh ns es y cost_of
-loads_cost [] es y cuts fits = omega arith
-loads_cost (n ∷ ns) [] y cuts fits = omega arith
-loads_cost (n ∷ ns) (e ∷ es) y cuts fits =
-    added (y n) (load_on cuts e) e.cost (weigh ns es y (load_on cuts)) (weigh ns es y cost_of)
-    (All-head (Fits cuts) e es fits) (loads_cost ns es y cuts (All-tail (Fits cuts) e es fits))
+    → weigh ns es y (load_on cuts) ≤ 2 * weigh ns es y edge_cost
+loads_cost [] es y cuts is_fitting_walk = omega arith
+loads_cost (n ∷ ns) [] y cuts is_fitting_walk = omega arith
+loads_cost (n ∷ ns) (e ∷ es) y cuts is_fitting_walk =
+    added (y n) (load_on cuts e) e.cost (weigh ns es y (load_on cuts)) (weigh ns es y edge_cost)
+    (All-head (Fits cuts) e es is_fitting_walk) (loads_cost ns es y cuts (All-tail (Fits cuts) e es is_fitting_walk))
   where
     added : (k l c u v : ℕ) → l ≤ 2 * c → u ≤ 2 * v → k * l + u ≤ 2 * (k * c + v)
     added k l c u v first rest =
@@ -90,24 +90,24 @@ loads_cost (n ∷ ns) (e ∷ es) y cuts fits =
 record Led (ns : List ℕ) (es : List Edge) (walk : List Pass) (back : List Edge) : Type 0 where
   at : ℕ
   to : ℕ
-  goes : walk_on ns es (Some at) walk ≡ Some to
+  goes : walk_end_from ns es (Some at) walk ≡ Some to
   even : (s : ℕ → Bool) → ((edge_sum (crossing s) back + inside s at) + inside s to) % 2 ≡ 0
 
-same_place : (x : Option ℕ) (b : ℕ) → are_one x (Some b) ≡ true → x ≡ Some b
+same_place : (x : Option ℕ) (b : ℕ) → are_same_junction x (Some b) ≡ true → x ≡ Some b
 same_place None b is = absurd (cc)
 same_place (Some a) b is = ap (λ (n : ℕ). Some n) (same a b is)
   where
     same : (m n : ℕ) → (m == n) ≡ true → m ≡ n
     same m n is = grind (arith, nat_tests)
 
-nowhere : (x : Option ℕ) → are_one x None ≡ true → ⊥
+nowhere : (x : Option ℕ) → are_same_junction x None ≡ true → ⊥
 nowhere None is = cc
 nowhere (Some a) is = cc
 
-line_back : (s : ℕ → Bool) (a b : ℕ) → ((edge_sum (crossing s) (closing (Some a) (Some b)) + inside s a) + inside s b) % 2 ≡ 0
+line_back : (s : ℕ → Bool) (a b : ℕ) → ((edge_sum (crossing s) (closing_edge (Some a) (Some b)) + inside s a) + inside s b) % 2 ≡ 0
 line_back s a b = by_tests (s a) (s b)
   where
-    by_tests : (x y : Bool) → (((bit (cond y (not x) x) + 0) + bit x) + bit y) % 2 ≡ 0
+    by_tests : (x y : Bool) → (((one_if (cond y (not x) x) + 0) + one_if x) + one_if y) % 2 ≡ 0
     by_tests true true = refl
     by_tests true false = refl
     by_tests false true = refl
@@ -116,26 +116,27 @@ line_back s a b = by_tests (s a) (s b)
 no_line : (k : ℕ) → ((0 + k) + k) % 2 ≡ 0
 no_line k = omega arith
 
-led_between : (ns : List ℕ) (es : List Edge) (walk : List Pass) (a b : ℕ) → are_one (walk_on ns es (Some a) walk) (Some b) ≡ true
-    → Led ns es walk (closing (Some a) (Some b))
+led_between : (ns : List ℕ) (es : List Edge) (walk : List Pass) (a b : ℕ)
+    → are_same_junction (walk_end_from ns es (Some a) walk) (Some b) ≡ true
+    → Led ns es walk (closing_edge (Some a) (Some b))
 led_between ns es walk a b is = record {
   at = a;
   to = b;
-  goes = same_place (walk_on ns es (Some a) walk) b is;
+  goes = same_place (walk_end_from ns es (Some a) walk) b is;
   even = λ s. line_back s a b;
 }
 
 led : (ns : List ℕ) (es : List Edge) (walk : List Pass) (start end first : Option ℕ)
-    → are_one (walk_on ns es (option_or (option_or start end) first) walk) (option_or (option_or end start) first) ≡ true
-    → Led ns es walk (closing (option_or start end) (option_or end start))
+    → are_same_junction (walk_end_from ns es (option_or (option_or start end) first) walk) (option_or (option_or end start) first) ≡ true
+    → Led ns es walk (closing_edge (option_or start end) (option_or end start))
 led ns es walk (Some a) (Some b) first is = led_between ns es walk a b is
 led ns es walk (Some a) None first is = led_between ns es walk a a is
 led ns es walk None (Some b) first is = led_between ns es walk b b is
-led ns es walk None None None is = absurd (nowhere (walk_on ns es None walk) is)
+led ns es walk None None None is = absurd (nowhere (walk_end_from ns es None walk) is)
 led ns es walk None None (Some a) is = record {
   at = a;
   to = a;
-  goes = same_place (walk_on ns es (Some a) walk) a is;
+  goes = same_place (walk_end_from ns es (Some a) walk) a is;
   even = λ s. no_line (inside s a);
 }
 
@@ -150,7 +151,7 @@ sum_append f (x ∷ xs) ys = rw (sum_append f xs ys) (regroup (f x) (edge_sum f 
     regroup x u v = omega arith
 
 ends_of_back : (n : ℕ) (from to : Option ℕ) (es : List Edge) → is_below n from ≡ true → is_below n to ≡ true
-    → ends_below n es ≡ true → ends_below n (closing from to ++ es) ≡ true
+    → ends_below n es ≡ true → ends_below n (closing_edge from to ++ es) ≡ true
 ends_of_back n None to es f t within = within
 ends_of_back n (Some a) None es f t within = within
 ends_of_back n (Some a) (Some b) es f t within = rw (f, t, within) refl
@@ -160,30 +161,30 @@ or_below n (Some a) y f t = f
 or_below n None y f t = t
 
 -- both ends of each edge of a piece, and of the line back, are junctions
-pub closed_ends : (p : PieceValue) → KeepsPiece p → ends_below (length p.junctions) (closed_edges p) ≡ true
+pub closed_ends : (p : PieceValue) → IsValidPiece p → ends_below (length p.junctions) (edges_with_closing p) ≡ true
 closed_ends p kept =
     ends_of_back (length p.junctions) (option_or p.start p.end) (option_or p.end p.start) p.edges
     (or_below _ p.start p.end kept.start_below kept.end_below) (or_below _ p.end p.start kept.end_below kept.start_below) kept.ends
 
 -- the odd junctions that a set holds, and the lines that cross it, the line back among them
-pub held_crossing : (p : PieceValue) → KeepsPiece p → (members : List ℕ)
-    → odd_held p members % 2 ≡ edge_sum (crossing (holds members)) (closed_edges p) % 2
+pub held_crossing : (p : PieceValue) → IsValidPiece p → (members : List ℕ)
+    → odd_held p members % 2 ≡ edge_sum (crossing (has_member members)) (edges_with_closing p) % 2
 held_crossing p kept members =
-    ap (λ (k : ℕ). k % 2) (odd_counted (holds members) (closed_edges p) 0 (length p.junctions))
-    ∙ odd_crossing (holds members) (closed_edges p) (length p.junctions) (closed_ends p kept)
+    ap (λ (k : ℕ). k % 2) (odd_counted (has_member members) (edges_with_closing p) 0 (length p.junctions))
+    ∙ odd_crossing (has_member members) (edges_with_closing p) (length p.junctions) (closed_ends p kept)
 
 -- a fitting walk crosses an odd cut once more than the lines do
-crossed_more : (p : PieceValue) (walk : List Pass) → KeepsPiece p → covers p.lines walk ≡ true
-    → Led p.lines p.edges walk (closing (option_or p.start p.end) (option_or p.end p.start))
-    → (c : Cut) → IsOddCut p c → 1 ≤ weigh p.lines p.edges (more walk) (crossing (holds c.members))
+crossed_more : (p : PieceValue) (walk : List Pass) → IsValidPiece p → covers p.lines walk ≡ true
+    → Led p.lines p.edges walk (closing_edge (option_or p.start p.end) (option_or p.end p.start))
+    → (c : Cut) → IsOddCut p c → 1 ≤ weigh p.lines p.edges (more walk) (crossing (has_member c.members))
 crossed_more p walk kept all led c odd =
-    let s = holds c.members in
+    let s = has_member c.members in
     left (pass_sum p.lines p.edges (crossing s) walk) (edge_sum (crossing s) p.edges) (weigh p.lines p.edges (more walk) (crossing s))
-    (edge_sum (crossing s) (closing (option_or p.start p.end) (option_or p.end p.start))) (inside s led.at) (inside s led.to)
+    (edge_sum (crossing s) (closing_edge (option_or p.start p.end) (option_or p.end p.start))) (inside s led.at) (inside s led.to)
     (exchange p.lines p.edges (crossing s) walk kept.rising ∙ once_and_more p.lines p.edges (crossing s) walk kept.beside all)
     (walk_even p.lines p.edges s walk led.at led.to led.goes)
     (led.even s)
-    (ap (λ (k : ℕ). k % 2) (sym (sum_append (crossing s) (closing (option_or p.start p.end) (option_or p.end p.start)) p.edges))
+    (ap (λ (k : ℕ). k % 2) (sym (sum_append (crossing s) (closing_edge (option_or p.start p.end) (option_or p.end p.start)) p.edges))
     ∙ sym (held_crossing p kept c.members) ∙ odd.odd)
   where
     left : (w b m k i t : ℕ) → w ≡ b + m → ((w + i) + t) % 2 ≡ 0 → ((k + i) + t) % 2 ≡ 0 → (k + b) % 2 ≡ 1 → 1 ≤ m
@@ -191,21 +192,21 @@ crossed_more p walk kept all led c odd =
 
 pub bounds_walks : BoundsWalks
 bounds_walks p cuts walk kept packing fit =
-    let parts = and_parts (leads p walk) (covers p.lines walk) fit in
-    let there = led p.lines p.edges walk p.start p.end (first_start p.lines p.edges walk) parts.0 in
-    let cost : walk_cost p walk ≡ piece_cost p + weigh p.lines p.edges (more walk) cost_of
-    = exchange p.lines p.edges cost_of walk kept.rising ∙ once_and_more p.lines p.edges cost_of walk kept.beside parts.1 in
+    let parts = and_parts (is_walk_start_to_end p walk) (covers p.lines walk) fit in
+    let there = led p.lines p.edges walk p.start p.end (walk_start p.lines p.edges walk) parts.0 in
+    let cost : walk_cost p walk ≡ piece_cost p + weigh p.lines p.edges (more walk) edge_cost
+    = exchange p.lines p.edges edge_cost walk kept.rising ∙ once_and_more p.lines p.edges edge_cost walk kept.beside parts.1 in
     let most = total_loads p.lines p.edges (more walk) p cuts packing.odd (crossed_more p walk kept parts.1 there) in
     let most_cost = loads_cost p.lines p.edges (more walk) cuts packing.loads in
-    added (total_of cuts) (walk_cost p walk) (piece_cost p) (weigh p.lines p.edges (more walk) cost_of)
+    added (total_weight cuts) (walk_cost p walk) (piece_cost p) (weigh p.lines p.edges (more walk) edge_cost)
     (weigh p.lines p.edges (more walk) (load_on cuts)) cost most most_cost
   where
     added : (t w c m l : ℕ) → w ≡ c + m → t ≤ l → l ≤ 2 * m → t + 2 * c ≤ 2 * w
-    added t w c m l is most fits = omega arith
+    added t w c m l is most is_fitting_walk = omega arith
 
 pub proves_least : ProvesLeast
 proves_least p cuts walk kept packing full other fit =
-    half (total_of cuts) (walk_cost p walk) (walk_cost p other) (piece_cost p) full (bounds_walks p cuts other kept packing fit)
+    half (total_weight cuts) (walk_cost p walk) (walk_cost p other) (piece_cost p) full (bounds_walks p cuts other kept packing fit)
   where
     half : (t w v c : ℕ) → t + 2 * c ≡ 2 * w → t + 2 * c ≤ 2 * v → w ≤ v
     half t w v c full most = omega arith

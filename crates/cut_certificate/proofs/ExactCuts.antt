@@ -3,14 +3,14 @@ use Rattle.std.proofs.Common.{◌≡◌, ◌≤◌, ◌<◌, ℕ, ◌+◌, ◌*�
 use Rattle.std.proofs.lemmas.Bool.Decides.{nat_tests}
 use Rattle.std.proofs.lemmas.List.Elements.{All-cons, All-head, All-nil, All-tail}
 use Rattle.line_graph.specs.declared.edge.Edge.{Edge}
-use Rattle.line_graph.specs.KeptPieces.{KeepsPiece}
+use Rattle.line_graph.specs.ValidPieces.{IsValidPiece}
 use Rattle.line_graph.specs.PieceGraphs.{PieceValue, is_odd}
 use Rattle.cut_certificate.specs.declared.cut.Cut.{Cut}
 use Rattle.cut_certificate.specs.declared.faults.CutFault.{CutFault}
 use Rattle.cut_certificate.specs.declared.faults.CutFault.TheVariants as fault
 use Rattle.cut_certificate.specs.CutFaults.{cut_fault, cut_faults, cuts_fault, even_fault, load_fault, load_faults, stranger_fault, total_fault}
-use Rattle.cut_certificate.specs.Cuts.{load_on, total_of}
-use Rattle.cut_certificate.specs.Faults.{Tells, first_fault}
+use Rattle.cut_certificate.specs.Cuts.{load_on, total_weight}
+use Rattle.cut_certificate.specs.Faults.{ReportsFault, first_fault}
 use Rattle.cut_certificate.specs.Packings.{IsOddCut, IsPacking, odd_held}
 
 -- two faults are none where neither is one
@@ -110,24 +110,24 @@ no_load_faults cuts (n ∷ ns) (e ∷ es) fit =
 
 -- cuts without a fault are a packing with that total
 packing_right : (p : PieceValue) (retraced : ℕ) (cuts : List Cut) → length p.lines ≡ length p.edges
-    → cuts_fault p retraced cuts ≡ None → IsPacking p cuts × (total_of cuts ≡ 2 * retraced)
+    → cuts_fault p retraced cuts ≡ None → IsPacking p cuts × (total_weight cuts ≡ 2 * retraced)
 packing_right p retraced cuts beside is =
     let odd = first_right (cut_faults p 1 cuts)
-    (first_fault (load_faults cuts p.lines p.edges) (total_fault (total_of cuts) (2 * retraced))) is in
-    let loads = first_right (load_faults cuts p.lines p.edges) (total_fault (total_of cuts) (2 * retraced)) odd.1 in (
+    (first_fault (load_faults cuts p.lines p.edges) (total_fault (total_weight cuts) (2 * retraced))) is in
+    let loads = first_right (load_faults cuts p.lines p.edges) (total_fault (total_weight cuts) (2 * retraced)) odd.1 in (
       record { odd = cuts_right p 1 cuts odd.0; loads = loads_right cuts p.lines p.edges beside loads.0 },
-      equal (total_of cuts) (2 * retraced)
-          (test_right (total_of cuts == 2 * retraced) (fault.Total (total_of cuts) (2 * retraced)) loads.1),
+      equal (total_weight cuts) (2 * retraced)
+          (test_right (total_weight cuts == 2 * retraced) (fault.Total (total_weight cuts) (2 * retraced)) loads.1),
     )
   where
     equal : (m n : ℕ) → (m == n) ≡ true → m ≡ n
     equal m n h = grind (arith, nat_tests)
 
 -- and such a packing has none
-no_fault_found : (p : PieceValue) (retraced : ℕ) (cuts : List Cut) → IsPacking p cuts → total_of cuts ≡ 2 * retraced
+no_fault_found : (p : PieceValue) (retraced : ℕ) (cuts : List Cut) → IsPacking p cuts → total_weight cuts ≡ 2 * retraced
     → cuts_fault p retraced cuts ≡ None
 no_fault_found p retraced cuts are total =
-    let equal : (total_of cuts == 2 * retraced) ≡ true = test (total_of cuts) (2 * retraced) total in
+    let equal : (total_weight cuts == 2 * retraced) ≡ true = test (total_weight cuts) (2 * retraced) total in
     rw (no_cut_faults p 1 cuts are.odd, no_load_faults cuts p.lines p.edges are.loads, equal) refl
   where
     test : (m n : ℕ) → m ≡ n → (m == n) ≡ true
@@ -135,8 +135,8 @@ no_fault_found p retraced cuts are total =
 
 -- so the check answers right exactly there
 pub exact_cuts : {T : Type 0} (p : PieceValue) (retraced : ℕ) (cuts : List Cut) (r : Result T CutFault) → length p.lines ≡ length p.edges
-    → Tells (cuts_fault p retraced cuts) r
-    → (IsOk r → IsPacking p cuts × (total_of cuts ≡ 2 * retraced)) × (IsPacking p cuts × (total_of cuts ≡ 2 * retraced) → IsOk r)
+    → ReportsFault (cuts_fault p retraced cuts) r
+    → (IsOk r → IsPacking p cuts × (total_weight cuts ≡ 2 * retraced)) × (IsPacking p cuts × (total_weight cuts ≡ 2 * retraced) → IsOk r)
 exact_cuts p retraced cuts (Ok x) beside is = (λ ok. packing_right p retraced cuts beside is, λ are. refl)
 exact_cuts p retraced cuts (Err found) beside is =
     (λ ok. absurd (cc), λ are. absurd (differ (sym (no_fault_found p retraced cuts are.0 are.1) ∙ is)))
@@ -145,8 +145,8 @@ exact_cuts p retraced cuts (Err found) beside is =
     differ h = cc
 
 -- no fault is found exactly where the cuts are a packing with that total
-pub cuts_exact : (p : PieceValue) (retraced : ℕ) (cuts : List Cut) → KeepsPiece p
-    → (cuts_fault p retraced cuts ≡ None → IsPacking p cuts × (total_of cuts ≡ 2 * retraced))
-    × (IsPacking p cuts × (total_of cuts ≡ 2 * retraced) → cuts_fault p retraced cuts ≡ None)
+pub cuts_exact : (p : PieceValue) (retraced : ℕ) (cuts : List Cut) → IsValidPiece p
+    → (cuts_fault p retraced cuts ≡ None → IsPacking p cuts × (total_weight cuts ≡ 2 * retraced))
+    × (IsPacking p cuts × (total_weight cuts ≡ 2 * retraced) → cuts_fault p retraced cuts ≡ None)
 cuts_exact p retraced cuts keeps =
     (λ none. packing_right p retraced cuts keeps.beside none, λ are. no_fault_found p retraced cuts are.0 are.1)

@@ -7,20 +7,20 @@ use Rattle.std.proofs.lemmas.Option.{slice_get-get_or, slice_get_read}
 use Rattle.std.specs.Prelude.{if◌then◌else◌}
 use Rattle.std.specs.List.{count_by}
 use Rattle.blossom_match.specs.declared.matching.Moat.{Moat}
-use Rattle.blossom_match.specs.Matchings.{IsOddMoat, crosses as parts_places, load_on as moats_between}
+use Rattle.blossom_match.specs.Matchings.{IsOddMoat, crosses_moat, moat_load}
 use Rattle.line_graph.specs.declared.edge.Edge.{Edge}
 use Rattle.line_graph.specs.declared.limits.TheConstants.{MAX_LINES}
-use Rattle.line_graph.specs.KeptPieces.{KeepsPiece, ends_below}
+use Rattle.line_graph.specs.ValidPieces.{IsValidPiece, ends_below}
 use Rattle.line_graph.specs.PieceGraphs.{PieceValue}
-use Rattle.odd_paths.specs.CostLaws.{AreDistances}
+use Rattle.odd_paths.specs.CostTheorems.{AreDistances}
 use Rattle.odd_paths.specs.LeastRows.{RowsValue, cost_at, length_in, terminal_of}
 use Rattle.cut_certificate.specs.declared.cut.Cut.{Cut}
-use Rattle.cut_certificate.specs.Cuts.{holds, load_on}
-use Rattle.cut_certificate.specs.Levels.{Site, site_of, widths}
-use Rattle.cut_certificate.specs.Lifts.{AreMoats, IsLifted}
+use Rattle.cut_certificate.specs.Cuts.{has_member, load_on}
+use Rattle.cut_certificate.specs.Levels.{LiftInput, lift_input, width_sum}
+use Rattle.cut_certificate.specs.Lifts.{AreLiftableMoats, IsLifted}
 use Rattle.cut_certificate.specs.MoatCuts.{AddsCuts, AreCutsTo}
 use Rattle.cut_certificate.specs.Packings.{IsOddCut, IsPlainCut}
-use Rattle.cut_certificate.specs.Reaches.{AreAllReaches, CanReach, IsReach}
+use Rattle.cut_certificate.specs.MoatDistances.{AreAllMoatDistances, HasRowsForMoats, AreDistancesFrom}
 use Rattle.cut_certificate.proofs.ClimbLemmas.{IsLine, carries}
 use Rattle.cut_certificate.proofs.HeldLemmas.{as_many}
 use Rattle.cut_certificate.proofs.LaminarLemmas.{below, differ, held_below, laminar, of_all}
@@ -28,8 +28,8 @@ use Rattle.cut_certificate.proofs.LiftLemmas.{AreCutsOf, AreLifted, IsMade, all_
 use Rattle.cut_certificate.proofs.MoatLemmas.{Fits, parts}
 
 -- the input of lifting for a piece
-abbrev pub piece_site : PieceValue → RowsValue → List Moat → Site
-piece_site p rows moats = site_of rows (length p.junctions) moats
+abbrev pub piece_site : PieceValue → RowsValue → List Moat → LiftInput
+piece_site p rows moats = lift_input rows (length p.junctions) moats
 
 two_parts : (a b : Bool) (w x y z : ℕ) → x + y ≡ z
     → ((if a && not b then w else 0) + x) + ((if b && not a then w else 0) + y) ≡ (if (if a then not b else b) then w else 0) + z
@@ -38,22 +38,24 @@ two_parts true false w x y z h = omega arith
 two_parts false true w x y z h = omega arith
 two_parts false false w x y z h = omega arith
 
-both_parts : (t u : ℕ) (ms : List Moat) → widths (parts t u) ms + widths (parts u t) ms ≡ widths (parts_places t u) ms
+both_parts : (t u : ℕ) (ms : List Moat) → width_sum (parts t u) ms + width_sum (parts u t) ms ≡ width_sum (crosses_moat t u) ms
 both_parts t u [] = refl
-both_parts t u (m ∷ ms) = two_parts (holds m.members t) (holds m.members u) m.width _ _ _ (both_parts t u ms)
+both_parts t u (m ∷ ms) = two_parts (has_member m.members t) (has_member m.members u) m.width _ _ _ (both_parts t u ms)
 
 -- the widths between two terminals, from both sides
-between_is : (t u : ℕ) (ms : List Moat) → widths (parts t u) ms + widths (parts u t) ms ≡ moats_between ms t u
+between_is : (t u : ℕ) (ms : List Moat) → width_sum (parts t u) ms + width_sum (parts u t) ms ≡ moat_load ms t u
 between_is t u ms =
     both_parts t u ms
-    ∙ is_sum_by (widths (parts_places t u)) (λ (m : Moat). if parts_places t u m then m.width else 0) refl (λ x xs. refl) ms
+    ∙ is_sum_by (width_sum (crosses_moat t u)) (λ (m : Moat). if crosses_moat t u m then m.width else 0) refl (λ x xs. refl) ms
 
-terminal_below : (p : PieceValue) (rows : RowsValue) (moats : List Moat) → AreMoats p rows moats → (u : ℕ) → u < length rows.terminals
+terminal_below : (p : PieceValue) (rows : RowsValue) (moats : List Moat) → AreLiftableMoats p rows moats → (u : ℕ)
+    → u < length rows.terminals
     → terminal_of rows u < length p.junctions
 terminal_below p rows moats are u lt = are.rows_are.terminals.there u 0 lt
 
 -- such moats fit
-pub fits : (p : PieceValue) (rows : RowsValue) (moats : List Moat) → AreDistances p → AreMoats p rows moats → Fits (piece_site p rows moats)
+pub fits : (p : PieceValue) (rows : RowsValue) (moats : List Moat) → AreDistances p → AreLiftableMoats p rows moats
+    → Fits (piece_site p rows moats)
 fits p rows moats law are = record {
   laminar = laminar (length rows.terminals) moats are.odd are.laminar;
   placed = λ m is t h. held_below (length rows.terminals) t m.members
@@ -75,7 +77,7 @@ ends_at n (e ∷ es) zero d ends lt =
 ends_at n (e ∷ es) (suc k) d ends lt =
     ends_at n es k d (and_parts (nat_lt e.a n && nat_lt e.b n) (ends_below n es) ends).1 (omega arith)
 
-line : (p : PieceValue) (rows : RowsValue) (moats : List Moat) → AreDistances p → AreMoats p rows moats → (k : ℕ) (e : Edge)
+line : (p : PieceValue) (rows : RowsValue) (moats : List Moat) → AreDistances p → AreLiftableMoats p rows moats → (k : ℕ) (e : Edge)
     → slice_get p.edges k ≡ Some e → e.a < length p.junctions → e.b < length p.junctions → IsLine (piece_site p rows moats) e.a e.b e.cost
 line p rows moats law are k e at in_a in_b = record {
   forth = λ t lt. (law.along (terminal_of rows t) k (cost_at rows t e.a) (cost_at rows t e.b) e at
@@ -88,7 +90,8 @@ line p rows moats law are k e at in_a in_b = record {
 abbrev Carries : List Cut → Edge → Type 0
 Carries cuts e = load_on cuts e ≤ 2 * e.cost
 
-loads : (p : PieceValue) (rows : RowsValue) (moats : List Moat) (cuts : List Cut) → KeepsPiece p → AreDistances p → AreMoats p rows moats
+loads : (p : PieceValue) (rows : RowsValue) (moats : List Moat) (cuts : List Cut) → IsValidPiece p → AreDistances p
+    → AreLiftableMoats p rows moats
     → AreLifted (piece_site p rows moats) [] cuts → All (Carries cuts) p.edges
 loads p rows moats cuts kept law are l k d lt = carried (get_or p.edges k d) (slice_get-get_or p.edges k d lt)
     (ends_at (length p.junctions) p.edges k d kept.ends lt)
@@ -99,21 +102,22 @@ loads p rows moats cuts kept law are l k d lt = carried (get_or p.edges k d) (sl
         (line p rows moats law are k e at ends.0 ends.1) in
         omega (arith, l.loads e ends.0 ends.1, most)
 
-odd_cut : (p : PieceValue) (rows : RowsValue) (moats : List Moat) → AreDistances p → AreMoats p rows moats → (c : Cut)
+odd_cut : (p : PieceValue) (rows : RowsValue) (moats : List Moat) → AreDistances p → AreLiftableMoats p rows moats → (c : Cut)
     → IsMade (piece_site p rows moats) c → IsOddCut p c
 odd_cut p rows moats law are c made =
     let moat = of_all (IsOddMoat (length rows.terminals)) moats made.moat are.odd made.is in
-    let many : count_by (holds c.members) rows.terminals ≡ length made.moat.members
+    let many : count_by (has_member c.members) rows.terminals ≡ length made.moat.members
     = as_many c.members made.moat.members rows.terminals
     (λ u lt. as_moat (piece_site p rows moats) (fits p rows moats law are) c made u lt (terminal_below p rows moats are u lt))
     (differ made.moat.members moat.different) (below (length rows.terminals) made.moat.members moat.below) in
     record {
       there = made.there;
-      odd = ap (λ (ts : List ℕ). count_by (holds c.members) ts % 2) (sym are.terminals) ∙ ap (λ (k : ℕ). k % 2) many ∙ moat.odd;
+      odd = ap (λ (ts : List ℕ). count_by (has_member c.members) ts % 2) (sym are.terminals) ∙ ap (λ (k : ℕ). k % 2) many ∙ moat.odd;
     }
 
 -- the cuts of all moats are what lifting is to bring out
-lifted : (p : PieceValue) (rows : RowsValue) (moats : List Moat) (cuts : List Cut) → KeepsPiece p → AreDistances p → AreMoats p rows moats
+lifted : (p : PieceValue) (rows : RowsValue) (moats : List Moat) (cuts : List Cut) → IsValidPiece p → AreDistances p
+    → AreLiftableMoats p rows moats
     → AreLifted (piece_site p rows moats) [] cuts → IsLifted p moats cuts
 lifted p rows moats cuts kept law are l = record {
   packing = record {
@@ -125,8 +129,8 @@ lifted p rows moats cuts kept law are l = record {
       l.each;
 }
 
-reaching : (p : PieceValue) (rows : RowsValue) (moats : List Moat) → KeepsPiece p → AreMoats p rows moats
-    → CanReach rows (length p.junctions) moats
+reaching : (p : PieceValue) (rows : RowsValue) (moats : List Moat) → IsValidPiece p → AreLiftableMoats p rows moats
+    → HasRowsForMoats rows (length p.junctions) moats
 reaching p rows moats kept are = record {
   rows_sized = are.rows_are.sized;
   wide = λ t lt. ap length_in (slice_get-get_or rows.table t [] (omega (arith, are.rows_are.sized)))
@@ -137,32 +141,33 @@ reaching p rows moats kept are = record {
 }
 
 -- the distances can be computed
-pub can_reach : (p : PieceValue) (rows : RowsValue) (moats seen : List Moat) (size : ℕ) → KeepsPiece p → AreMoats p rows moats
+pub can_reach : (p : PieceValue) (rows : RowsValue) (moats seen : List Moat) (size : ℕ) → IsValidPiece p → AreLiftableMoats p rows moats
     → seen ≡ moats
-    → size ≡ length p.junctions → CanReach rows size seen
+    → size ≡ length p.junctions → HasRowsForMoats rows size seen
 can_reach p rows moats seen size kept are same sized =
-    subst (λ (n : ℕ). CanReach rows n seen) (sym sized)
-    (subst (λ (ms : List Moat). CanReach rows (length p.junctions) ms) (sym same) (reaching p rows moats kept are))
+    subst (λ (n : ℕ). HasRowsForMoats rows n seen) (sym sized)
+    (subst (λ (ms : List Moat). HasRowsForMoats rows (length p.junctions) ms) (sym same) (reaching p rows moats kept are))
 
 -- the distances at an index, as the code reads them
 pub reach_at : (p : PieceValue) (rows : RowsValue) (moats : List Moat) (size index : ℕ) (s : Moat) (reaches : List (Vec ℕ Global))
     (v : Vec ℕ Global)
-    (read : List ℕ) → size ≡ length p.junctions → AreAllReaches (site_of rows size moats) reaches → index < length moats → s ≡ get_or
+    (read : List ℕ) → size ≡ length p.junctions → AreAllMoatDistances (lift_input rows size moats) reaches → index < length moats
+    → s ≡ get_or
     moats index s
-    → v ≡ get_or reaches index v → read ≡ v.items → IsReach (piece_site p rows moats) s read
+    → v ≡ get_or reaches index v → read ≡ v.items → AreDistancesFrom (piece_site p rows moats) s read
 reach_at p rows moats size index s reaches v read sized all lt at is same =
-    subst (λ (n : ℕ). IsReach (site_of rows n moats) s read) sized
-    (subst (IsReach (site_of rows size moats) s) (sym same)
+    subst (λ (n : ℕ). AreDistancesFrom (lift_input rows n moats) s read) sized
+    (subst (AreDistancesFrom (lift_input rows size moats) s) (sym same)
     (all.1 index s v (slice_get_read moats (length moats) index s refl lt at)
     (slice_get_read reaches (length reaches) index v refl (omega (arith, all.0)) is)))
 
 -- it has no more numbers than a piece has junctions
-pub reach_few : (p : PieceValue) (rows : RowsValue) (moats : List Moat) (s : Moat) (read : List ℕ) → KeepsPiece p
-    → IsReach (piece_site p rows moats) s read → length read ≤ MAX_LINES + 1
+pub reach_few : (p : PieceValue) (rows : RowsValue) (moats : List Moat) (s : Moat) (read : List ℕ) → IsValidPiece p
+    → AreDistancesFrom (piece_site p rows moats) s read → length read ≤ MAX_LINES + 1
 reach_few p rows moats s read kept is = omega (arith, is.sized, kept.junctions_few, kept.few)
 
 -- and makes the cuts of its moat
-pub cuts_of : (g : Site) (s : Moat) (read : List ℕ) (width : ℕ) (old new : List Cut) → IsReach g s read → width ≡ s.width
+pub cuts_of : (g : LiftInput) (s : Moat) (read : List ℕ) (width : ℕ) (old new : List Cut) → AreDistancesFrom g s read → width ≡ s.width
     → AddsCuts (AreCutsTo read width) old new → AddsCuts (AreCutsOf g s) old new
 cuts_of g s read width old new is wide adds = record {
   more = adds.more;
@@ -171,8 +176,8 @@ cuts_of g s read width old new is wide adds = record {
 }
 
 -- after the last moat
-pub lifted_by : (p : PieceValue) (rows : RowsValue) (moats seen : List Moat) (i : ℕ) (cuts : List Cut) → seen ≡ moats → KeepsPiece p
-    → AreDistances p → AreMoats p rows moats → length seen ≤ i → AreLifted (piece_site p rows seen) (drop i seen) cuts
+pub lifted_by : (p : PieceValue) (rows : RowsValue) (moats seen : List Moat) (i : ℕ) (cuts : List Cut) → seen ≡ moats → IsValidPiece p
+    → AreDistances p → AreLiftableMoats p rows moats → length seen ≤ i → AreLifted (piece_site p rows seen) (drop i seen) cuts
     → IsLifted p moats cuts
 lifted_by p rows moats seen i cuts same kept law are le l =
     lifted p rows moats cuts kept law are

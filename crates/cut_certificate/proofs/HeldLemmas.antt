@@ -5,13 +5,13 @@ use Rattle.std.proofs.lemmas.List.Recursion.{is_count_by}
 use Rattle.std.specs.List.{count_by}
 use Rattle.std.specs.Prelude.{if◌then◌else◌, slice_index}
 use Rattle.blossom_match.specs.declared.matching.Moat.{Moat}
-use Rattle.cut_certificate.specs.Cuts.{holds}
+use Rattle.cut_certificate.specs.Cuts.{has_member}
 use Rattle.cut_certificate.proofs.MoatLemmas.{Apart, Disjoint}
 
 -- no number is named twice
 abbrev pub Differ : List ℕ → Type 0
 Differ [] = Unit {0}
-Differ (x ∷ xs) = (holds xs x ≡ false) × Differ xs
+Differ (x ∷ xs) = (has_member xs x ≡ false) × Differ xs
 
 -- each number is below n
 abbrev pub Below : ℕ → List ℕ → Type 0
@@ -20,25 +20,26 @@ Below n (x ∷ xs) = (x < n) × Below n xs
 
 -- each of the numbers is one of the others
 abbrev pub IsPart : List ℕ → List ℕ → Type 0
-IsPart xs ys = (t : ℕ) → holds xs t ≡ true → holds ys t ≡ true
+IsPart xs ys = (t : ℕ) → has_member xs t ≡ true → has_member ys t ≡ true
 
 -- how many of the numbers are members
 abbrev held : List ℕ → List ℕ → ℕ
 held members [] = 0
-held members (t ∷ ts) = cond (holds members t) (1 + held members ts) (held members ts)
+held members (t ∷ ts) = cond (has_member members t) (1 + held members ts) (held members ts)
 
 -- how many of the terminals from k on, as many as the list has, are members
 abbrev tally : ℕ → List ℕ → List ℕ → ℕ
 tally k xs [] = 0
-tally k xs (t ∷ ts) = cond (holds xs k) (1 + tally (k + 1) xs ts) (tally (k + 1) xs ts)
+tally k xs (t ∷ ts) = cond (has_member xs k) (1 + tally (k + 1) xs ts) (tally (k + 1) xs ts)
 
-held_is : (members xs : List ℕ) (k : ℕ) (ts : List ℕ) → ((u : ℕ) → u < length ts → holds members (slice_index ts u) ≡ holds xs (k + u))
+held_is : (members xs : List ℕ) (k : ℕ) (ts : List ℕ)
+    → ((u : ℕ) → u < length ts → has_member members (slice_index ts u) ≡ has_member xs (k + u))
     → held members ts ≡ tally k xs ts
 held_is members xs k [] f = refl
 held_is members xs k (t ∷ ts) f =
-    let here : holds members t ≡ holds xs k = f 0 (omega arith) ∙ ap (holds xs) (let e : k + 0 ≡ k = omega arith in e) in
+    let here : has_member members t ≡ has_member xs k = f 0 (omega arith) ∙ ap (has_member xs) (let e : k + 0 ≡ k = omega arith in e) in
     let rest : held members ts ≡ tally (k + 1) xs ts
-    = held_is members xs (k + 1) ts (λ u lt. f (suc u) (omega arith) ∙ ap (holds xs)
+    = held_is members xs (k + 1) ts (λ u lt. f (suc u) (omega arith) ∙ ap (has_member xs)
     (let e : k + suc u ≡ (k + 1) + u = omega arith in e)) in
     rw (here, rest) refl
 
@@ -52,16 +53,16 @@ tally_past k x xs (t ∷ ts) lt =
     let other : (k == x) ≡ false = ne_eqb k x (λ same. omega arith) in
     rw (other, tally_past (k + 1) x xs ts (omega arith)) refl
 
-tally_one : (k x : ℕ) (xs ts : List ℕ) → k ≤ x → x < k + length ts → holds xs x ≡ false → tally k (x ∷ xs) ts ≡ 1 + tally k xs ts
+tally_one : (k x : ℕ) (xs ts : List ℕ) → k ≤ x → x < k + length ts → has_member xs x ≡ false → tally k (x ∷ xs) ts ≡ 1 + tally k xs ts
 tally_one k x xs [] le lt none = absurd (omega arith)
 tally_one k x xs (t ∷ ts) le lt none = elim (cases_eq k x) [
   | inl same ↦
       let here : (k == x) ≡ true = eq-eqb k x same in
-      let not_here : holds xs k ≡ false = ap (holds xs) same ∙ none in
+      let not_here : has_member xs k ≡ false = ap (has_member xs) same ∙ none in
       rw (here, not_here, tally_past (k + 1) x xs ts (omega arith)) refl
   | inr other ↦
       let not_here : (k == x) ≡ false = ne_eqb k x other in
-      rw (not_here, tally_one (k + 1) x xs ts (omega arith) (omega arith) none) (more (holds xs k) (tally (k + 1) xs ts))
+      rw (not_here, tally_one (k + 1) x xs ts (omega arith) (omega arith) none) (more (has_member xs k) (tally (k + 1) xs ts))
 ]
   where
     more : (b : Bool) (v : ℕ) → cond b (1 + (1 + v)) (1 + v) ≡ 1 + cond b (1 + v) v
@@ -74,11 +75,11 @@ tally_all (x ∷ xs) ts differ in_n =
     omega (arith, tally_one 0 x xs ts (omega arith) (omega (arith, in_n.0)) differ.0, tally_all xs ts differ.1 in_n.1)
 
 -- a cut that holds the junctions of a moat's members holds as many of them
-pub as_many : (members xs ts : List ℕ) → ((u : ℕ) → u < length ts → holds members (slice_index ts u) ≡ holds xs u) → Differ xs
-    → Below (length ts) xs → count_by (holds members) ts ≡ length xs
+pub as_many : (members xs ts : List ℕ) → ((u : ℕ) → u < length ts → has_member members (slice_index ts u) ≡ has_member xs u) → Differ xs
+    → Below (length ts) xs → count_by (has_member members) ts ≡ length xs
 as_many members xs ts f differ in_n =
-    sym (is_count_by (held members) (holds members) refl (λ x xs. refl) ts)
-    ∙ held_is members xs 0 ts (λ u lt. f u lt ∙ ap (holds xs) (let e : u ≡ 0 + u = omega arith in e))
+    sym (is_count_by (held members) (has_member members) refl (λ x xs. refl) ts)
+    ∙ held_is members xs 0 ts (λ u lt. f u lt ∙ ap (has_member xs) (let e : u ≡ 0 + u = omega arith in e))
     ∙ tally_all xs ts differ in_n
 
 -- the numbers without the first that is x
@@ -86,22 +87,22 @@ abbrev remove : ℕ → List ℕ → List ℕ
 remove x [] = []
 remove x (y ∷ ys) = if x == y then ys else y ∷ remove x ys
 
-remove_length : (x : ℕ) (ys : List ℕ) → holds ys x ≡ true → length ys ≡ 1 + length (remove x ys)
+remove_length : (x : ℕ) (ys : List ℕ) → has_member ys x ≡ true → length ys ≡ 1 + length (remove x ys)
 remove_length x [] h = absurd (both_ways false refl h)
 remove_length x (y ∷ ys) h = elim (cases_Bool (x == y)) [
   | inl same ↦ rw same (omega arith)
-  | inr other ↦ let h' : holds ys x ≡ true = rw other at h in rw other (omega (arith, remove_length x ys h'))
+  | inr other ↦ let h' : has_member ys x ≡ true = rw other at h in rw other (omega (arith, remove_length x ys h'))
 ]
 
-remove_other : (x t : ℕ) (ys : List ℕ) → t ≢ x → holds ys t ≡ true → holds (remove x ys) t ≡ true
+remove_other : (x t : ℕ) (ys : List ℕ) → t ≢ x → has_member ys t ≡ true → has_member (remove x ys) t ≡ true
 remove_other x t [] ne h = h
-remove_other x t (y ∷ ys) ne h = elim (or_cases (t == y) (holds ys t) h) [
+remove_other x t (y ∷ ys) ne h = elim (or_cases (t == y) (has_member ys t) h) [
   | inl same ↦
       let not_x : (x == y) ≡ false = ne_eqb x y (λ e. ne (eqb-true t y same ∙ sym e)) in
       rw (not_x, same) refl
   | inr there ↦ elim (cases_Bool (x == y)) [
     | inl is ↦ rw is there
-    | inr isnt ↦ rw isnt (later (t == y) (holds (remove x ys) t) (remove_other x t ys ne there))
+    | inr isnt ↦ rw isnt (later (t == y) (has_member (remove x ys) t) (remove_other x t ys ne there))
   ]
 ]
   where
@@ -109,19 +110,19 @@ remove_other x t (y ∷ ys) ne h = elim (or_cases (t == y) (holds ys t) h) [
     later true b h = refl
     later false b h = h
 
-at_front : (x : ℕ) (xs : List ℕ) → holds (x ∷ xs) x ≡ true
+at_front : (x : ℕ) (xs : List ℕ) → has_member (x ∷ xs) x ≡ true
 at_front x xs = rw (eq-eqb x x refl) refl
 
-behind : (x t : ℕ) (xs : List ℕ) → holds xs t ≡ true → holds (x ∷ xs) t ≡ true
+behind : (x t : ℕ) (xs : List ℕ) → has_member xs t ≡ true → has_member (x ∷ xs) t ≡ true
 behind x t xs h = go (t == x)
   where
-    go : (b : Bool) → (b || holds xs t) ≡ true
+    go : (b : Bool) → (b || has_member xs t) ≡ true
     go true = refl
     go false = h
 
-rest_part : (x : ℕ) (xs ys : List ℕ) → holds xs x ≡ false → IsPart (x ∷ xs) ys → IsPart xs (remove x ys)
+rest_part : (x : ℕ) (xs ys : List ℕ) → has_member xs x ≡ false → IsPart (x ∷ xs) ys → IsPart xs (remove x ys)
 rest_part x xs ys none part t h =
-    remove_other x t ys (λ same. both_ways (holds xs x) none (ap (holds xs) (sym same) ∙ h)) (part t (behind x t xs h))
+    remove_other x t ys (λ same. both_ways (has_member xs x) none (ap (has_member xs) (sym same) ∙ h)) (part t (behind x t xs h))
 
 -- a part that is no shorter is all
 all_of : (xs ys : List ℕ) → Differ xs → IsPart xs ys → length ys ≤ length xs → IsPart ys xs
@@ -130,7 +131,7 @@ all_of [] (y ∷ ys) differ part le t h = absurd (omega arith)
 all_of (x ∷ xs) ys differ part le t h =
     let size = remove_length x ys (part x (at_front x xs)) in
     elim (cases_eq t x) [
-      | inl same ↦ subst (λ (z : ℕ). holds (x ∷ xs) z ≡ true) (sym same) (at_front x xs)
+      | inl same ↦ subst (λ (z : ℕ). has_member (x ∷ xs) z ≡ true) (sym same) (at_front x xs)
       | inr other ↦ behind x t xs
           (all_of xs (remove x ys) differ.1 (rest_part x xs ys differ.0 part) (omega arith) t (remove_other x t ys other h))
     ]

@@ -5,12 +5,12 @@ use Rattle.std.proofs.lemmas.List.Elements.{All-head, All-tail, All-weaker}
 use Rattle.std.proofs.lemmas.List.Folds.{list_any_none}
 use Rattle.std.specs.Prelude.{◌==◌}
 use Rattle.blossom_match.specs.declared.matching.Moat.{Moat}
-use Rattle.blossom_match.specs.Matchings.{AreLaminar, IsOddMoat, LiesBeside, LiesIn}
-use Rattle.cut_certificate.specs.Cuts.{holds}
+use Rattle.blossom_match.specs.Matchings.{AreLaminar, IsOddMoat, IsDisjointFrom, IsNestedIn}
+use Rattle.cut_certificate.specs.Cuts.{has_member}
 use Rattle.cut_certificate.proofs.HeldLemmas.{Below, Differ, apart}
 use Rattle.cut_certificate.proofs.MoatLemmas.{Apart, ApartFromAll, IsOf, Laminar}
 
-not_held : (x : ℕ) (xs : List ℕ) → All (λ y. x ≢ y) xs → holds xs x ≡ false
+not_held : (x : ℕ) (xs : List ℕ) → All (λ y. x ≢ y) xs → has_member xs x ≡ false
 not_held x xs all =
     list_any_none (λ y. x == y) xs (All-weaker (λ y. x ≢ y) (λ y. (x == y) ≡ false) (λ y other. ne_eqb x y other) xs all)
 
@@ -25,9 +25,9 @@ pub below : (n : ℕ) (xs : List ℕ) → All (λ x. x < n) xs → Below n xs
 below n [] all = tt
 below n (x ∷ xs) all = (All-head (λ x. x < n) x xs all, below n xs (All-tail (λ x. x < n) x xs all))
 
-pub held_below : (n t : ℕ) (xs : List ℕ) → Below n xs → holds xs t ≡ true → t < n
+pub held_below : (n t : ℕ) (xs : List ℕ) → Below n xs → has_member xs t ≡ true → t < n
 held_below n t [] all h = absurd (both_ways false refl h)
-held_below n t (x ∷ xs) all h = elim (or_cases (t == x) (holds xs t) h) [
+held_below n t (x ∷ xs) all h = elim (or_cases (t == x) (has_member xs t) h) [
   | inl same ↦ omega (arith, all.0, eqb-true t x same)
   | inr there ↦ held_below n t xs all.1 there
 ]
@@ -47,16 +47,17 @@ same_test false false f h = refl
 pub apart_two : (n : ℕ) (a b : Moat) → IsOddMoat n a → IsOddMoat n b → AreLaminar a b → Apart a b
 apart_two n a b odd_a odd_b l =
     apart a b (differ a.members odd_a.different) (differ b.members odd_b.different)
-    (λ one other. l.differ.1 (same_test (holds a.members l.differ.0) (holds b.members l.differ.0) (one l.differ.0) (other l.differ.0)))
+    (λ one other. l.differ.1 (same_test (has_member a.members l.differ.0) (has_member b.members l.differ.0) (one l.differ.0)
+    (other l.differ.0)))
     (lie l.lie)
   where
-    lie : LiesIn a b ⊎ (LiesIn b a ⊎ LiesBeside a b)
-        → ((t : ℕ) → holds a.members t ≡ true → holds b.members t ≡ true → ⊥)
-        ⊎ (((t : ℕ) → holds a.members t ≡ true → holds b.members t ≡ true)
-        ⊎ ((t : ℕ) → holds b.members t ≡ true → holds a.members t ≡ true))
+    lie : IsNestedIn a b ⊎ (IsNestedIn b a ⊎ IsDisjointFrom a b)
+        → ((t : ℕ) → has_member a.members t ≡ true → has_member b.members t ≡ true → ⊥)
+        ⊎ (((t : ℕ) → has_member a.members t ≡ true → has_member b.members t ≡ true)
+        ⊎ ((t : ℕ) → has_member b.members t ≡ true → has_member a.members t ≡ true))
     lie (inl inner) = inr (inl inner)
     lie (inr (inl outer)) = inr (inr outer)
-    lie (inr (inr beside)) = inl (λ t in_a in_b. both_ways (holds b.members t) (beside t in_a) in_b)
+    lie (inr (inr beside)) = inl (λ t in_a in_b. both_ways (has_member b.members t) (beside t in_a) in_b)
 
 apart_all : (n : ℕ) (m : Moat) (ms : List Moat) → IsOddMoat n m → All (IsOddMoat n) ms → All (AreLaminar m) ms → ApartFromAll m ms
 apart_all n m [] odd all l = tt

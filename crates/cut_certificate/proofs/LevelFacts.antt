@@ -3,10 +3,10 @@
 use Rattle.std.proofs.Common.{◌≡◌, [], ◌∷◌, Some, None, true, nat_lt, ◌-◌, refl}
 use Rattle.blossom_match.specs.declared.matching.Moat.{Moat}
 use Rattle.odd_paths.specs.LeastRows.{RowsValue}
-use Rattle.cut_certificate.specs.declared.stand.Stand.TheVariants as stand
-use Rattle.cut_certificate.specs.Levels.{Site, beyond, depth, level, lowest, site_of, widths}
-use Rattle.cut_certificate.specs.Reaches.{lowered, way}
-use Rattle.cut_certificate.specs.Stands.{surrounded}
+use Rattle.cut_certificate.specs.declared.terminal_state.TerminalState.TheVariants as stand
+use Rattle.cut_certificate.specs.Levels.{LiftInput, distance_beyond, depth, level, lowest, lift_input, width_sum}
+use Rattle.cut_certificate.specs.MoatDistances.{lowered_distance, distance_from}
+use Rattle.cut_certificate.specs.TerminalStates.{surrounded}
 
 abbrev first : Moat
 first = record { members = 0 ∷ []; width = 2 }
@@ -27,12 +27,12 @@ rows = record {
 }
 
 -- the hub is junction 4
-abbrev star : Site
-star = site_of rows 5 (first ∷ around_three ∷ second ∷ last ∷ [])
+abbrev star : LiftInput
+star = lift_input rows 5 (first ∷ around_three ∷ second ∷ last ∷ [])
 
 -- of all four, and of none but the wide ones
-pub known_widths : (widths (λ m. true) (first ∷ around_three ∷ second ∷ last ∷ []) ≡ 17)
-    × (widths (λ m. nat_lt 2 m.width) (first ∷ around_three ∷ second ∷ last ∷ []) ≡ 14)
+pub known_widths : (width_sum (λ m. true) (first ∷ around_three ∷ second ∷ last ∷ []) ≡ 17)
+    × (width_sum (λ m. nat_lt 2 m.width) (first ∷ around_three ∷ second ∷ last ∷ []) ≡ 14)
 known_widths = (refl, refl)
 
 -- a moat is not below itself, nor one around another terminal
@@ -41,7 +41,8 @@ pub known_depths : (depth star around_three 0 ≡ 2) × (depth star around_three
 known_depths = (refl, refl, refl, refl)
 
 -- twice the cost, less the moat around the first terminal
-pub known_beyond : (beyond star around_three 3 0 ≡ 10) × (beyond star around_three 4 0 ≡ 0) × (beyond star around_three 4 2 ≡ 4)
+pub known_beyond : (distance_beyond star around_three 3 0 ≡ 10) × (distance_beyond star around_three 4 0 ≡ 0)
+    × (distance_beyond star around_three 4 2 ≡ 4)
 known_beyond = (refl, refl, refl)
 
 pub known_lowest : (lowest (λ t. 10 - t) 8 (1 ∷ 4 ∷ 3 ∷ []) ≡ 6) × (lowest (λ t. 10 - t) 5 (1 ∷ 4 ∷ 3 ∷ []) ≡ 5) ×
@@ -63,10 +64,10 @@ pub known_stands : surrounded (stand.Free ∷ stand.First 7 ∷ stand.Inside ∷
 known_stands = refl
 
 -- from a free terminal, and from none that is inside
-pub known_ways : (way star [] 3 4 (Some stand.Free) ≡ Some 10) × (way star [] 3 4 (Some stand.Inside) ≡ None) ×
-    (way star [] 3 4 None ≡ None)
+pub known_ways : (distance_from star [] 3 4 (Some stand.Free) ≡ Some 10) × (distance_from star [] 3 4 (Some stand.Inside) ≡ None) ×
+    (distance_from star [] 3 4 None ≡ None)
 known_ways = (refl, refl, refl)
 
 -- by the nearer of two free terminals, and not by the one that is inside
-pub known_lowered : lowered star (stand.Inside ∷ stand.Free ∷ stand.Free ∷ []) [] 4 100 (0 ∷ 2 ∷ 1 ∷ []) ≡ 2
+pub known_lowered : lowered_distance star (stand.Inside ∷ stand.Free ∷ stand.Free ∷ []) [] 4 100 (0 ∷ 2 ∷ 1 ∷ []) ≡ 2
 known_lowered = refl

@@ -2,8 +2,8 @@
 use Rattle.std.proofs.Common.{◌≡◌, ℕ, ◌+◌, ◌-◌, ◌*◌, ◌<◌, ◌≤◌, ◌⊎◌, min, List, [], ◌∷◌, length, Bool, true, false, ◌||◌, ◌==◌, nat_lt, arith, inl, inr, refl, sym, ap, subst}
 use Rattle.std.proofs.lemmas.Bool.{both_ways, cases_Bool, cases_lt, eq-eqb, eqb-true, lt-ltb, ltb-true, or_cases}
 use Rattle.blossom_match.specs.declared.matching.Moat.{Moat}
-use Rattle.cut_certificate.specs.Cuts.{holds}
-use Rattle.cut_certificate.specs.Levels.{Site, beyond, depth, level, lowest, widths}
+use Rattle.cut_certificate.specs.Cuts.{has_member}
+use Rattle.cut_certificate.specs.Levels.{LiftInput, distance_beyond, depth, level, lowest, width_sum}
 use Rattle.cut_certificate.proofs.MoatLemmas.{Apart, Disjoint, Fits, Inside, IsOf, above, not_in, parts, reach, related}
 
 -- the least number is no more than the limit
@@ -12,14 +12,14 @@ lowest_most at limit [] = omega arith
 lowest_most at limit (t ∷ ts) = omega (arith, lowest_most at limit ts)
 
 -- at most the number at each of the terminals
-pub lowest_by : (at : ℕ → ℕ) (limit t : ℕ) (ts : List ℕ) → holds ts t ≡ true → lowest at limit ts ≤ at t
+pub lowest_by : (at : ℕ → ℕ) (limit t : ℕ) (ts : List ℕ) → has_member ts t ≡ true → lowest at limit ts ≤ at t
 lowest_by at limit t [] h = absurd (both_ways false refl h)
-lowest_by at limit t (x ∷ ts) h = elim (or_cases (t == x) (holds ts t) h) [
+lowest_by at limit t (x ∷ ts) h = elim (or_cases (t == x) (has_member ts t) h) [
   | inl same ↦ subst (λ (y : ℕ). min (at x) (lowest at limit ts) ≤ at y) (sym (eqb-true t x same)) (omega arith)
   | inr there ↦ omega (arith, lowest_by at limit t ts there)
 ]
 
-at_front : (x : ℕ) (ts : List ℕ) → holds (x ∷ ts) x ≡ true
+at_front : (x : ℕ) (ts : List ℕ) → has_member (x ∷ ts) x ≡ true
 at_front x ts = rw (eq-eqb x x refl) refl
 
 later : (a b : Bool) → b ≡ true → (a || b) ≡ true
@@ -28,30 +28,30 @@ later false b h = h
 
 -- a minimum below the limit is the number at one of the terminals
 pub lowest_some : (at : ℕ → ℕ) (limit : ℕ) (ts : List ℕ) → lowest at limit ts < limit
-    → (t : ℕ) × (holds ts t ≡ true) × (lowest at limit ts ≡ at t)
+    → (t : ℕ) × (has_member ts t ≡ true) × (lowest at limit ts ≡ at t)
 lowest_some at limit [] h = absurd (omega arith)
 lowest_some at limit (x ∷ ts) h = elim (cases_lt (lowest at limit ts) (at x)) [
   | inl less ↦
       let p = lowest_some at limit ts (omega arith) in
-      (p.0, later (p.0 == x) (holds ts p.0) p.1, omega (arith, p.2))
+      (p.0, later (p.0 == x) (has_member ts p.0) p.1, omega (arith, p.2))
   | inr more ↦ (x, at_front x ts, omega arith)
 ]
 
 -- a level is no more than the width
-pub level_most : (g : Site) (s : Moat) (j : ℕ) → level g s j ≤ s.width
-level_most g s j = lowest_most (beyond g s j) s.width s.members
+pub level_most : (g : LiftInput) (s : Moat) (j : ℕ) → level g s j ≤ s.width
+level_most g s j = lowest_most (distance_beyond g s j) s.width s.members
 
 -- nor more than how far the junction is beyond the smaller moats around each member
-pub level_by : (g : Site) (s : Moat) (j t : ℕ) → holds s.members t ≡ true → level g s j ≤ 2 * g.least t j - depth g s t
-level_by g s j t h = lowest_by (beyond g s j) s.width t s.members h
+pub level_by : (g : LiftInput) (s : Moat) (j t : ℕ) → has_member s.members t ≡ true → level g s j ≤ 2 * g.least t j - depth g s t
+level_by g s j t h = lowest_by (distance_beyond g s j) s.width t s.members h
 
 -- below the width it is that much from one of the members
-pub level_some : (g : Site) (s : Moat) (j : ℕ) → level g s j < s.width
-    → (t : ℕ) × (holds s.members t ≡ true) × (level g s j ≡ 2 * g.least t j - depth g s t)
-level_some g s j h = lowest_some (beyond g s j) s.width s.members h
+pub level_some : (g : LiftInput) (s : Moat) (j : ℕ) → level g s j < s.width
+    → (t : ℕ) × (has_member s.members t ≡ true) × (level g s j ≡ 2 * g.least t j - depth g s t)
+level_some g s j h = lowest_some (distance_beyond g s j) s.width s.members h
 
 -- cuts of disjoint moats share no junction
-pub no_share : (g : Site) → Fits g → (a b : Moat) (j : ℕ) → j < g.size → IsOf g.moats a → IsOf g.moats b → Disjoint a b
+pub no_share : (g : LiftInput) → Fits g → (a b : Moat) (j : ℕ) → j < g.size → IsOf g.moats a → IsOf g.moats b → Disjoint a b
     → level g a j < a.width → level g b j < b.width → ⊥
 no_share g f a b j in_j is_a is_b d in_a in_b =
     let p = level_some g a j in_a in
@@ -60,14 +60,15 @@ no_share g f a b j in_j is_a is_b d in_a in_b =
     let u = q.0 in
     let bounded = f.bounded t u (f.placed a is_a t p.1) (f.placed b is_b u q.1) in
     let joined = f.joined t u j (f.placed a is_a t p.1) (f.placed b is_b u q.1) in_j in
-    let one : depth g a t + a.width ≤ widths (parts t u) g.moats = reach g f.laminar a t u is_a p.1 (not_in b a u (λ x y z. d x z y) q.1) in
-    let two : depth g b u + b.width ≤ widths (parts u t) g.moats = reach g f.laminar b u t is_b q.1 (not_in a b t d p.1) in
+    let one : depth g a t + a.width ≤ width_sum (parts t u) g.moats = reach g f.laminar a t u is_a p.1
+    (not_in b a u (λ x y z. d x z y) q.1) in
+    let two : depth g b u + b.width ≤ width_sum (parts u t) g.moats = reach g f.laminar b u t is_b q.1 (not_in a b t d p.1) in
     let e = p.2 in
     let h = q.2 in
     omega arith
 
 -- a cut of a moat lies inside each cut of a larger one around it
-pub inner_full : (g : Site) (a b : Moat) (j : ℕ) → IsOf g.moats a → Inside a b → level g a j < a.width → level g b j ≡ 0
+pub inner_full : (g : LiftInput) (a b : Moat) (j : ℕ) → IsOf g.moats a → Inside a b → level g a j < a.width → level g b j ≡ 0
 inner_full g a b j is i in_a =
     let p = level_some g a j in_a in
     let over : depth g a p.0 + a.width ≤ depth g b p.0 = above g a b p.0 is p.1 i.0 in
@@ -76,27 +77,27 @@ inner_full g a b j is i in_a =
     omega arith
 
 -- the junction of a member is in all cuts of its moat
-pub insider : (g : Site) → Fits g → (a : Moat) (u : ℕ) → u < g.places → holds a.members u ≡ true → level g a (g.spot u) ≡ 0
+pub insider : (g : LiftInput) → Fits g → (a : Moat) (u : ℕ) → u < g.places → has_member a.members u ≡ true → level g a (g.spot u) ≡ 0
 insider g f a u fits in_a =
     let most : level g a (g.spot u) ≤ 2 * g.least u (g.spot u) - depth g a u = level_by g a (g.spot u) u in_a in
     omega (arith, f.home u fits)
 
 -- the junction of any other terminal is in no cut of the moat
-pub outsider : (g : Site) → Fits g → (a : Moat) (u : ℕ) → IsOf g.moats a → u < g.places → holds a.members u ≡ false
+pub outsider : (g : LiftInput) → Fits g → (a : Moat) (u : ℕ) → IsOf g.moats a → u < g.places → has_member a.members u ≡ false
     → level g a (g.spot u) ≡ a.width
 outsider g f a u is fits out = elim (cases_lt (level g a (g.spot u)) a.width) [
   | inl less ↦
       let p = level_some g a (g.spot u) less in
       let bounded = f.bounded p.0 u (f.placed a is p.0 p.1) fits in
-      let one : depth g a p.0 + a.width ≤ widths (parts p.0 u) g.moats = reach g f.laminar a p.0 u is p.1 out in
+      let one : depth g a p.0 + a.width ≤ width_sum (parts p.0 u) g.moats = reach g f.laminar a p.0 u is p.1 out in
       let e = p.2 in
       absurd (omega arith)
   | inr more ↦ omega (arith, level_most g a (g.spot u))
 ]
 
 -- a terminal that puts a junction into every cut that holds it
-pub record IsBest (g : Site) (i t : ℕ) : Type 0 where
-  pub inside : (m : Moat) → IsOf g.moats m → level g m i < m.width → holds m.members t ≡ true
+pub record IsBest (g : LiftInput) (i t : ℕ) : Type 0 where
+  pub inside : (m : Moat) → IsOf g.moats m → level g m i < m.width → has_member m.members t ≡ true
   pub first : (m : Moat) → IsOf g.moats m → level g m i < m.width → 2 * g.least t i - depth g m t ≤ level g m i
 
 -- a moat that passes, and has no more members than any other that does
@@ -144,12 +145,12 @@ smallest p [] = inl (λ m is. absurd is)
 smallest p (x ∷ xs) = one_more p x xs (cases_Bool (p x)) (smallest p xs)
 
 -- what puts a junction into the smallest moat of whose cuts one holds it puts it into all others
-inside_all : (g : Site) → Fits g → (i t : ℕ) (s m : Moat) → i < g.size → IsOf g.moats s → IsOf g.moats m → level g s i < s.width
-    → holds s.members t ≡ true → level g s i ≡ 2 * g.least t i - depth g s t → length s.members ≤ length m.members
+inside_all : (g : LiftInput) → Fits g → (i t : ℕ) (s m : Moat) → i < g.size → IsOf g.moats s → IsOf g.moats m → level g s i < s.width
+    → has_member s.members t ≡ true → level g s i ≡ 2 * g.least t i - depth g s t → length s.members ≤ length m.members
     → level g m i < m.width → (m ≡ s) ⊎ Apart m s
-    → (holds m.members t ≡ true) × (2 * g.least t i - depth g m t ≤ level g m i)
+    → (has_member m.members t ≡ true) × (2 * g.least t i - depth g m t ≤ level g m i)
 inside_all g f i t s m in_i is_s is_m low has e le h (inl same) =
-    subst (λ (y : Moat). (holds y.members t ≡ true) × (2 * g.least t i - depth g y t ≤ level g y i)) (sym same) (has, omega arith)
+    subst (λ (y : Moat). (has_member y.members t ≡ true) × (2 * g.least t i - depth g y t ≤ level g y i)) (sym same) (has, omega arith)
 inside_all g f i t s m in_i is_s is_m low has e le h (inr (inl d)) = absurd (no_share g f m s i in_i is_m is_s d h low)
 inside_all g f i t s m in_i is_s is_m low has e le h (inr (inr (inl j))) = absurd (omega (arith, j.0))
 inside_all g f i t s m in_i is_s is_m low has e le h (inr (inr (inr j))) =
@@ -157,7 +158,7 @@ inside_all g f i t s m in_i is_s is_m low has e le h (inr (inr (inr j))) =
     (j.1 t has, omega arith)
 
 -- either no cut holds the junction, or a terminal puts it into every cut that does
-pub best : (g : Site) → Fits g → (i : ℕ) → i < g.size
+pub best : (g : LiftInput) → Fits g → (i : ℕ) → i < g.size
     → ((m : Moat) → IsOf g.moats m → m.width ≤ level g m i) ⊎ ((t : ℕ) × (t < g.places) × IsBest g i t)
 best g f i in_i = elim (smallest (λ m. nat_lt (level g m i) m.width) g.moats) [
   | inl none ↦ inl (λ m is. elim (cases_lt (level g m i) m.width) [

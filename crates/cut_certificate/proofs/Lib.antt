@@ -10,8 +10,8 @@ mod ClimbLemmas
 mod MoatCutLemmas
 mod HeldLemmas
 mod LaminarLemmas
-mod StandLemmas
-mod ReachLemmas
+mod TerminalStateLemmas
+mod MoatDistanceLemmas
 mod ProgressLemmas
 mod WayLemmas
 mod LiftLemmas
@@ -19,7 +19,7 @@ mod FitLemmas
 mod LevelFacts
 mod MoatCutFacts
 mod TreeFacts
-mod MoatFitLemmas
+mod MoatTestLemmas
 mod TableLemmas
 mod PlaceLemmas
 mod ParityLemmas

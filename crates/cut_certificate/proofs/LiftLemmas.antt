@@ -8,47 +8,47 @@ use Rattle.std.specs.Prelude.{if◌then◌else◌, slice_index}
 use Rattle.blossom_match.specs.declared.matching.Moat.{Moat}
 use Rattle.blossom_match.specs.Matchings.{width_of}
 use Rattle.line_graph.specs.declared.edge.Edge.{Edge}
-use Rattle.line_graph.specs.PieceWalks.{rises}
+use Rattle.line_graph.specs.PieceWalks.{is_strictly_increasing}
 use Rattle.cut_certificate.specs.declared.cut.Cut.{Cut}
-use Rattle.cut_certificate.specs.Cuts.{crosses, holds, load_on, total_of}
-use Rattle.cut_certificate.specs.Levels.{Site, level}
-use Rattle.cut_certificate.specs.MoatCuts.{AddsCuts, AreCutsTo, IsLevelCut, between}
-use Rattle.cut_certificate.specs.Reaches.{IsReach}
+use Rattle.cut_certificate.specs.Cuts.{crosses, has_member, load_on, total_weight}
+use Rattle.cut_certificate.specs.Levels.{LiftInput, level}
+use Rattle.cut_certificate.specs.MoatCuts.{AddsCuts, AreCutsTo, IsLevelCut, distance_between}
+use Rattle.cut_certificate.specs.MoatDistances.{AreDistancesFrom}
 use Rattle.cut_certificate.proofs.ClimbLemmas.{climb}
 use Rattle.cut_certificate.proofs.LevelLemmas.{insider, outsider}
 use Rattle.cut_certificate.proofs.MoatCutLemmas.{member_at, members_below, members_rise}
 use Rattle.cut_certificate.proofs.MoatLemmas.{Fits, IsOf}
-use Rattle.cut_certificate.proofs.ReachLemmas.{level_is}
+use Rattle.cut_certificate.proofs.MoatDistanceLemmas.{level_is}
 
 -- a cut of one of the moats
-pub record IsMade (g : Site) (c : Cut) : Type 0 where
+pub record IsMade (g : LiftInput) (c : Cut) : Type 0 where
   pub moat : Moat
   pub is : IsOf g.moats moat
   pub limit : ℕ
   pub low : limit < moat.width
   pub heavy : 1 ≤ c.weight
-  pub rising : rises c.members ≡ true
+  pub rising : is_strictly_increasing c.members ≡ true
   pub there : All (λ j. j < g.size) c.members
-  pub members : (j : ℕ) → j < g.size → holds c.members j ≡ nat_le (level g moat j) limit
+  pub members : (j : ℕ) → j < g.size → has_member c.members j ≡ nat_le (level g moat j) limit
 
 -- the cuts of the moats before the rest
-pub record AreLifted (g : Site) (rest : List Moat) (cuts : List Cut) : Type 0 where
+pub record AreLifted (g : LiftInput) (rest : List Moat) (cuts : List Cut) : Type 0 where
   pub loads : (e : Edge) → e.a < g.size → e.b < g.size
       → load_on cuts e + (climb g e.a e.b rest + climb g e.b e.a rest) ≡ climb g e.a e.b g.moats + climb g e.b e.a g.moats
-  pub total : total_of cuts + width_of rest ≡ width_of g.moats
+  pub total : total_weight cuts + width_of rest ≡ width_of g.moats
   pub each : All (IsMade g) cuts
 
 -- the cuts of one moat, by the distances from it
-pub record AreCutsOf (g : Site) (s : Moat) (cuts : List Cut) : Type 0 where
+pub record AreCutsOf (g : LiftInput) (s : Moat) (cuts : List Cut) : Type 0 where
   pub reach : List ℕ
-  pub is : IsReach g s reach
+  pub is : AreDistancesFrom g s reach
   pub cuts_are : AreCutsTo reach s.width cuts
 
 -- before the first moat
-pub none_lifted : (g : Site) → AreLifted g g.moats []
+pub none_lifted : (g : LiftInput) → AreLifted g g.moats []
 none_lifted g = record { loads = λ e in_a in_b. omega arith; total = omega arith; each = All-nil (IsMade g) }
 
-one_load : (w a b x y l p q r : ℕ) → min w x ≡ a → min w y ≡ b → l ≡ between (min w x) (min w y)
+one_load : (w a b x y l p q r : ℕ) → min w x ≡ a → min w y ≡ b → l ≡ distance_between (min w x) (min w y)
     → (p + l) + (q + r) ≡ p + (((b - a) + q) + ((a - b) + r))
 one_load w a b x y l p q r hx hy hl = omega arith
 
@@ -59,27 +59,28 @@ same_limit w x a limit is low = elim (cases_lt limit x) [
   | inr under ↦ le-leb x limit under ∙ sym (le-leb a limit (omega arith))
 ]
 
-made : (g : Site) (s : Moat) (reach : List ℕ) (c : Cut) → IsOf g.moats s → IsReach g s reach → IsLevelCut reach s.width c → IsMade g c
+made : (g : LiftInput) (s : Moat) (reach : List ℕ) (c : Cut) → IsOf g.moats s → AreDistancesFrom g s reach → IsLevelCut reach s.width c
+    → IsMade g c
 made g s reach c is_s is cut = record {
   moat = s;
   is = is_s;
   limit = cut.limit;
   low = cut.low;
   heavy = cut.heavy;
-  rising = ap rises cut.members ∙ members_rise 0 cut.limit reach;
+  rising = ap is_strictly_increasing cut.members ∙ members_rise 0 cut.limit reach;
   there = subst (λ (l : List ℕ). All (λ j. j < g.size) l) (sym cut.members)
       (members_below g.size 0 cut.limit reach (omega (arith, is.sized)));
-  members = λ j in_j. ap (λ (l : List ℕ). holds l j) cut.members ∙ member_at cut.limit j reach (omega (arith, is.sized))
+  members = λ j in_j. ap (λ (l : List ℕ). has_member l j) cut.members ∙ member_at cut.limit j reach (omega (arith, is.sized))
       ∙ same_limit s.width (slice_index reach j) (level g s j) cut.limit (level_is g s reach j is in_j) cut.low;
 }
 
-more_lifted : (g : Site) (s : Moat) (after : List Moat) (old new : List Cut) → IsOf g.moats s → AreLifted g (s ∷ after) old
+more_lifted : (g : LiftInput) (s : Moat) (after : List Moat) (old new : List Cut) → IsOf g.moats s → AreLifted g (s ∷ after) old
     → AddsCuts (AreCutsOf g s) old new → AreLifted g after new
 more_lifted g s after old new is_s l a = record {
   loads = loads;
   total = omega (
     arith,
-    ap total_of a.is,
+    ap total_weight a.is,
     sum_by-append (λ (c : Cut). c.weight) old a.more,
     a.kind.cuts_are.total,
     l.total,
@@ -109,7 +110,7 @@ is_at (x ∷ xs) zero d lt = inl refl
 is_at (x ∷ xs) (suc i) d lt = inr (is_at xs i d (omega arith))
 
 -- the cuts of one more moat
-pub next_lifted : (g : Site) (i : ℕ) (s : Moat) (old new : List Cut) → i < length g.moats → s ≡ get_or g.moats i s
+pub next_lifted : (g : LiftInput) (i : ℕ) (s : Moat) (old new : List Cut) → i < length g.moats → s ≡ get_or g.moats i s
     → AreLifted g (drop i g.moats) old → AddsCuts (AreCutsOf g s) old new → AreLifted g (drop (i + 1) g.moats) new
 next_lifted g i s old new lt is l a =
     let here : drop i g.moats ≡ s ∷ drop (i + 1) g.moats
@@ -118,13 +119,13 @@ next_lifted g i s old new lt is l a =
     (subst (λ (z : List Moat). AreLifted g z old) here l) a
 
 -- after the last moat
-pub all_lifted : (g : Site) (i : ℕ) (cuts : List Cut) → length g.moats ≤ i → AreLifted g (drop i g.moats) cuts → AreLifted g [] cuts
+pub all_lifted : (g : LiftInput) (i : ℕ) (cuts : List Cut) → length g.moats ≤ i → AreLifted g (drop i g.moats) cuts → AreLifted g [] cuts
 all_lifted g i cuts le l = subst (λ (z : List Moat). AreLifted g z cuts) (drop_all i g.moats le) l
 
 -- a cut of a moat holds the junction of a terminal exactly where the moat holds the terminal
-pub as_moat : (g : Site) → Fits g → (c : Cut) (made : IsMade g c) (u : ℕ) → u < g.places → g.spot u < g.size
-    → holds c.members (g.spot u) ≡ holds made.moat.members u
-as_moat g f c made u fits in_u = elim (cases_Bool (holds made.moat.members u)) [
+pub as_moat : (g : LiftInput) → Fits g → (c : Cut) (made : IsMade g c) (u : ℕ) → u < g.places → g.spot u < g.size
+    → has_member c.members (g.spot u) ≡ has_member made.moat.members u
+as_moat g f c made u fits in_u = elim (cases_Bool (has_member made.moat.members u)) [
   | inl has ↦ made.members (g.spot u) in_u ∙ le-leb _ _ (omega (arith, insider g f made.moat u fits has)) ∙ sym has
   | inr misses ↦ made.members (g.spot u) in_u ∙ lt-leb _ _ (omega (arith, made.low, outsider g f made.moat u made.is fits misses)) ∙ sym
       misses

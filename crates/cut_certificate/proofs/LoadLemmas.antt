@@ -8,11 +8,11 @@ use Rattle.std.proofs.lemmas.List.Elements.{All-head, All-tail}
 use Rattle.std.specs.List.{fold}
 use Rattle.std.specs.Result.{IsErrAnd}
 use Rattle.cut_certificate.specs.declared.cut.Cut.{Cut}
-use Rattle.cut_certificate.specs.CheckTables.{AddsShares, AreLoads, share_of, sum_faults}
-use Rattle.cut_certificate.specs.Faults.{Tells}
-use Rattle.cut_certificate.specs.CutFaults.{AreNumbered, cut_fault, cut_faults, cuts_fault, load_faults, total_fault}
+use Rattle.cut_certificate.specs.CheckTables.{AddsShares, AreLoads, share_of, table_load_faults}
+use Rattle.cut_certificate.specs.Faults.{ReportsFault}
+use Rattle.cut_certificate.specs.CutFaults.{HaveNumberedMembers, cut_fault, cut_faults, cuts_fault, load_faults, total_fault}
 use Rattle.cut_certificate.specs.declared.faults.CutFault.{CutFault}
-use Rattle.cut_certificate.specs.Cuts.{load_on, total_of}
+use Rattle.cut_certificate.specs.Cuts.{load_on, total_weight}
 use Rattle.line_graph.specs.PieceGraphs.{PieceValue}
 use Rattle.cut_certificate.proofs.TableLemmas.{blank}
 use Rattle.line_graph.specs.declared.edge.Edge.{Edge}
@@ -39,10 +39,10 @@ pub no_load : (i : ℕ) → get_or (replicate MAX_LINES 0) i 0 ≤ 4294967295
 no_load i = rw (blank {X = ℕ} 0 MAX_LINES i) (omega arith)
 
 -- the members of the next cut, and of those after it
-pub next_numbered : (cuts : List Cut) (cut : Cut) (rest : List Cut) → cuts ≡ cut ∷ rest → AreNumbered cuts
-    → All (λ j. j + 1 < 2 ^ 32) cut.members × AreNumbered rest
+pub next_numbered : (cuts : List Cut) (cut : Cut) (rest : List Cut) → cuts ≡ cut ∷ rest → HaveNumberedMembers cuts
+    → All (λ j. j + 1 < 2 ^ 32) cut.members × HaveNumberedMembers rest
 next_numbered cuts cut rest is are =
-    let these : AreNumbered (cut ∷ rest) = subst (λ cuts. AreNumbered cuts) is are in
+    let these : HaveNumberedMembers (cut ∷ rest) = subst (λ cuts. HaveNumberedMembers cuts) is are in
     (All-head Numbered cut rest these, All-tail Numbered cut rest these)
 
 -- the loads with one cut more
@@ -108,7 +108,7 @@ most_next old now at share more sized little behind most i = elim (cases_eq i at
 
 -- with the loads by index, the first line with too high a load is the first one
 pub sums_told : (cuts : List Cut) (lines : List ℕ) (edges : List Edge) (loads : List ℕ)
-    → AreLoads cuts edges loads → sum_faults lines edges loads ≡ load_faults cuts lines edges
+    → AreLoads cuts edges loads → table_load_faults lines edges loads ≡ load_faults cuts lines edges
 sums_told cuts [] edges loads are = refl
 sums_told cuts (n ∷ lines) [] loads are = refl
 sums_told cuts (n ∷ lines) (e ∷ edges) [] are =
@@ -123,18 +123,18 @@ sums_told cuts (n ∷ lines) (e ∷ edges) (load ∷ loads) are =
 
 -- the first line that carries too much is the first fault of cuts that have none themselves
 pub loads_found : (p : PieceValue) (retraced : ℕ) (cuts : List Cut) (loads : List ℕ) (found : CutFault)
-    → (cut_faults p 1 cuts ≡ None) × AreLoads cuts p.edges loads → sum_faults p.lines p.edges loads ≡ Some found
+    → (cut_faults p 1 cuts ≡ None) × AreLoads cuts p.edges loads → table_load_faults p.lines p.edges loads ≡ Some found
     → cuts_fault p retraced cuts ≡ Some found
 loads_found p retraced cuts loads found are is = rw (are.0, ← sums_told cuts p.lines p.edges loads are.1, is) refl
 
 -- where there is none, the total is compared
 pub total_found : (p : PieceValue) (retraced : ℕ) (cuts : List Cut) (loads : List ℕ)
-    → (cut_faults p 1 cuts ≡ None) × AreLoads cuts p.edges loads → sum_faults p.lines p.edges loads ≡ None
-    → total_fault (total_of cuts) (2 * retraced) ≡ cuts_fault p retraced cuts
+    → (cut_faults p 1 cuts ≡ None) × AreLoads cuts p.edges loads → table_load_faults p.lines p.edges loads ≡ None
+    → total_fault (total_weight cuts) (2 * retraced) ≡ cuts_fault p retraced cuts
 total_found p retraced cuts loads are is = rw (are.0, ← sums_told cuts p.lines p.edges loads are.1, is) refl
 
 -- a result with that fault reports it
 pub told_on : {T F : Type 0} (found : Option F) (fault : F) (result : Result T F) → IsErrAnd result (λ (f : F). f ≡ fault)
-    → found ≡ Some fault → Tells found result
+    → found ≡ Some fault → ReportsFault found result
 told_on found fault (Ok x) is told = absurd is
 told_on found fault (Err f) is told = told ∙ ap (λ (g : _). Some g) (sym is)

@@ -1,6 +1,6 @@
 -- Five junctions that enter at the levels 3, 0, 2, 2 and 5.
 use Rattle.std.proofs.Common.{◌≡◌, ℕ, List, [], ◌∷◌, refl}
-use Rattle.cut_certificate.specs.MoatCuts.{between, members_from}
+use Rattle.cut_certificate.specs.MoatCuts.{distance_between, members_from}
 
 abbrev levels : List ℕ
 levels = 3 ∷ 0 ∷ 2 ∷ 2 ∷ 5 ∷ []
@@ -10,5 +10,5 @@ pub known_members : (members_from 0 0 levels ≡ 1 ∷ []) × (members_from 0 1 
     × (members_from 7 4 levels ≡ 7 ∷ 8 ∷ 9 ∷ 10 ∷ [])
 known_members = (refl, refl, refl, refl)
 
-pub known_between : (between 3 5 ≡ 2) × (between 5 3 ≡ 2) × (between 4 4 ≡ 0)
+pub known_between : (distance_between 3 5 ≡ 2) × (distance_between 5 3 ≡ 2) × (distance_between 4 4 ≡ 0)
 known_between = (refl, refl, refl)

@@ -5,69 +5,69 @@ use Rattle.std.proofs.lemmas.List.Elements.{All-cons, All-nil, All-push, All-wea
 use Rattle.std.proofs.lemmas.List.Sums.{sum_by_push}
 use Rattle.std.specs.Prelude.{if◌then◌else◌, slice_index}
 use Rattle.line_graph.specs.declared.edge.Edge.{Edge}
-use Rattle.line_graph.specs.PieceWalks.{above, rises}
+use Rattle.line_graph.specs.PieceWalks.{all_greater, is_strictly_increasing}
 use Rattle.cut_certificate.specs.declared.cut.Cut.{Cut}
-use Rattle.cut_certificate.specs.Cuts.{crosses, holds, load_on}
-use Rattle.cut_certificate.specs.MoatCuts.{AddsCuts, AreCutsTo, IsLevelCut, between, members_from}
+use Rattle.cut_certificate.specs.Cuts.{crosses, has_member, load_on}
+use Rattle.cut_certificate.specs.MoatCuts.{AddsCuts, AreCutsTo, IsLevelCut, distance_between, members_from}
 
-none_before : (k h j : ℕ) (es : List ℕ) → j < k → holds (members_from k h es) j ≡ false
+none_before : (k h j : ℕ) (es : List ℕ) → j < k → has_member (members_from k h es) j ≡ false
 none_before k h j [] lt = refl
 none_before k h j (e ∷ es) lt = go (nat_le e h) (none_before (k + 1) h j es (omega arith))
   where
-    go : (b : Bool) → holds (members_from (k + 1) h es) j ≡ false
-        → holds (if b then k ∷ members_from (k + 1) h es else members_from (k + 1) h es) j ≡ false
+    go : (b : Bool) → has_member (members_from (k + 1) h es) j ≡ false
+        → has_member (if b then k ∷ members_from (k + 1) h es else members_from (k + 1) h es) j ≡ false
     go false rest = rest
     go true rest = let other : (j == k) ≡ false = ne_eqb j k (λ same. omega arith) in rw (other, rest) refl
 
-holds_at : (k h i : ℕ) (es : List ℕ) → i < length es → holds (members_from k h es) (k + i) ≡ nat_le (slice_index es i) h
+holds_at : (k h i : ℕ) (es : List ℕ) → i < length es → has_member (members_from k h es) (k + i) ≡ nat_le (slice_index es i) h
 holds_at k h i [] lt = absurd (omega arith)
 holds_at k h zero (e ∷ es) lt = go (nat_le e h) refl
   where
     here : ((k + 0) == k) ≡ true
     here = eq-eqb (k + 0) k (omega arith)
 
-    none : holds (members_from (k + 1) h es) (k + 0) ≡ false
+    none : has_member (members_from (k + 1) h es) (k + 0) ≡ false
     none = none_before (k + 1) h (k + 0) es (omega arith)
 
     go : (b : Bool) → nat_le e h ≡ b
-        → holds (if b then k ∷ members_from (k + 1) h es else members_from (k + 1) h es) (k + 0) ≡ nat_le e h
+        → has_member (if b then k ∷ members_from (k + 1) h es else members_from (k + 1) h es) (k + 0) ≡ nat_le e h
     go true is = rw here (sym is)
     go false is = none ∙ sym is
 holds_at k h (suc i) (e ∷ es) lt =
     go (nat_le e h)
-    (subst (λ (x : ℕ). holds (members_from (k + 1) h es) x ≡ nat_le (slice_index es i) h) (omega arith)
+    (subst (λ (x : ℕ). has_member (members_from (k + 1) h es) x ≡ nat_le (slice_index es i) h) (omega arith)
     (holds_at (k + 1) h i es (omega arith)))
   where
     other : ((k + suc i) == k) ≡ false
     other = ne_eqb (k + suc i) k (λ same. omega arith)
 
-    go : (b : Bool) → holds (members_from (k + 1) h es) (k + suc i) ≡ nat_le (slice_index es i) h
-        → holds (if b then k ∷ members_from (k + 1) h es else members_from (k + 1) h es) (k + suc i) ≡ nat_le (slice_index es i) h
+    go : (b : Bool) → has_member (members_from (k + 1) h es) (k + suc i) ≡ nat_le (slice_index es i) h
+        → has_member (if b then k ∷ members_from (k + 1) h es else members_from (k + 1) h es) (k + suc i) ≡ nat_le (slice_index es i) h
     go true rest = rw (other, rest) refl
     go false rest = rest
 
 -- a junction is a member exactly where its level is no more than the limit
-pub member_at : (h i : ℕ) (es : List ℕ) → i < length es → holds (members_from 0 h es) i ≡ nat_le (slice_index es i) h
+pub member_at : (h i : ℕ) (es : List ℕ) → i < length es → has_member (members_from 0 h es) i ≡ nat_le (slice_index es i) h
 member_at h i es lt =
-    subst (λ (x : ℕ). holds (members_from 0 h es) x ≡ nat_le (slice_index es i) h) (omega arith) (holds_at 0 h i es lt)
+    subst (λ (x : ℕ). has_member (members_from 0 h es) x ≡ nat_le (slice_index es i) h) (omega arith) (holds_at 0 h i es lt)
 
-above_all : (low k h : ℕ) (es : List ℕ) → low < k → above low (members_from k h es) ≡ true
+above_all : (low k h : ℕ) (es : List ℕ) → low < k → all_greater low (members_from k h es) ≡ true
 above_all low k h [] lt = refl
 above_all low k h (e ∷ es) lt = go (nat_le e h) (above_all low (k + 1) h es (omega arith))
   where
-    go : (b : Bool) → above low (members_from (k + 1) h es) ≡ true
-        → above low (if b then k ∷ members_from (k + 1) h es else members_from (k + 1) h es) ≡ true
-    go true rest = and_from (nat_lt low k) (above low (members_from (k + 1) h es)) (lt-ltb low k lt) rest
+    go : (b : Bool) → all_greater low (members_from (k + 1) h es) ≡ true
+        → all_greater low (if b then k ∷ members_from (k + 1) h es else members_from (k + 1) h es) ≡ true
+    go true rest = and_from (nat_lt low k) (all_greater low (members_from (k + 1) h es)) (lt-ltb low k lt) rest
     go false rest = rest
 
 -- the members rise
-pub members_rise : (k h : ℕ) (es : List ℕ) → rises (members_from k h es) ≡ true
+pub members_rise : (k h : ℕ) (es : List ℕ) → is_strictly_increasing (members_from k h es) ≡ true
 members_rise k h [] = refl
 members_rise k h (e ∷ es) = go (nat_le e h) (members_rise (k + 1) h es)
   where
-    go : (b : Bool) → rises (members_from (k + 1) h es) ≡ true
-        → rises (if b then k ∷ members_from (k + 1) h es else members_from (k + 1) h es) ≡ true
-    go true rest = and_from (above k (members_from (k + 1) h es)) (rises (members_from (k + 1) h es))
+    go : (b : Bool) → is_strictly_increasing (members_from (k + 1) h es) ≡ true
+        → is_strictly_increasing (if b then k ∷ members_from (k + 1) h es else members_from (k + 1) h es) ≡ true
+    go true rest = and_from (all_greater k (members_from (k + 1) h es)) (is_strictly_increasing (members_from (k + 1) h es))
         (above_all k (k + 1) h es (omega arith)) rest
     go false rest = rest
 
@@ -83,8 +83,9 @@ members_below n k h (e ∷ es) fits = go (nat_le e h) (members_below n (k + 1) h
 
 -- what one cut adds to an edge's load
 step_load : (from next a b : ℕ) → from < next → (a ≤ from) ⊎ (next ≤ a) → (b ≤ from) ⊎ (next ≤ b)
-    → between (min from a) (min from b) + (if (if nat_le a from then not (nat_le b from) else nat_le b from) then next - from else 0)
-    ≡ between (min next a) (min next b)
+    → distance_between (min from a) (min from b)
+    + (if (if nat_le a from then not (nat_le b from) else nat_le b from) then next - from else 0)
+    ≡ distance_between (min next a) (min next b)
 step_load from next a b lt (inl p) (inl q) = rw (le-leb a from p, le-leb b from q) (omega arith)
 step_load from next a b lt (inl p) (inr q) =
     let over : nat_le b from ≡ false = lt-leb b from (omega arith) in
@@ -105,10 +106,10 @@ one_load : (e : Edge) (c : Cut) (from w : ℕ) (levels : List ℕ) → c.members
     from)
     then w else 0)
 one_load e c from w levels is weight in_a in_b =
-    let at_a : holds c.members e.a ≡ nat_le (slice_index levels e.a) from
-    = ap (λ (l : List ℕ). holds l e.a) is ∙ member_at from e.a levels in_a in
-    let at_b : holds c.members e.b ≡ nat_le (slice_index levels e.b) from
-    = ap (λ (l : List ℕ). holds l e.b) is ∙ member_at from e.b levels in_b in
+    let at_a : has_member c.members e.a ≡ nat_le (slice_index levels e.a) from
+    = ap (λ (l : List ℕ). has_member l e.a) is ∙ member_at from e.a levels in_a in
+    let at_b : has_member c.members e.b ≡ nat_le (slice_index levels e.b) from
+    = ap (λ (l : List ℕ). has_member l e.b) is ∙ member_at from e.b levels in_b in
     rw (at_a, at_b, weight) refl
 
 -- before the first cut
@@ -133,11 +134,11 @@ next_cut levels from next cs c made lt gap is weight = record {
 }
   where
     loads : (e : Edge) → e.a < length levels → e.b < length levels
-        → load_on (cs ++ c ∷ []) e ≡ between (min next (slice_index levels e.a)) (min next (slice_index levels e.b))
+        → load_on (cs ++ c ∷ []) e ≡ distance_between (min next (slice_index levels e.a)) (min next (slice_index levels e.b))
     loads e in_a in_b =
         one_load_on cs c e
         ∙ ap (λ (x : ℕ). x + (if crosses c.members e then c.weight else 0)) (made.loads e in_a in_b)
-        ∙ ap (λ (x : ℕ). between (min from (slice_index levels e.a)) (min from (slice_index levels e.b)) + x)
+        ∙ ap (λ (x : ℕ). distance_between (min from (slice_index levels e.a)) (min from (slice_index levels e.b)) + x)
         (one_load e c from (next - from) levels is weight in_a in_b)
         ∙ step_load from next (slice_index levels e.a) (slice_index levels e.b) lt (gap e.a in_a) (gap e.b in_b)
 

@@ -3,8 +3,8 @@ use Rattle.std.proofs.Common.{◌≡◌, ℕ, ◌+◌, ◌*◌, ◌<◌, ◌≤�
 use Rattle.std.proofs.lemmas.Bool.{and_from, and_parts, and_right, both_ways, cases_Bool, le-ltb, lt-ltb, ltb-true}
 use Rattle.std.specs.Prelude.{if◌then◌else◌}
 use Rattle.blossom_match.specs.declared.matching.Moat.{Moat}
-use Rattle.cut_certificate.specs.Cuts.{holds}
-use Rattle.cut_certificate.specs.Levels.{Site, depth, is_inner, widths}
+use Rattle.cut_certificate.specs.Cuts.{has_member}
+use Rattle.cut_certificate.specs.Levels.{LiftInput, depth, is_inner, width_sum}
 
 -- a moat of the list
 abbrev pub IsOf : List Moat → Moat → Type 0
@@ -13,15 +13,15 @@ IsOf (x ∷ xs) m = (m ≡ x) ⊎ IsOf xs m
 
 -- the moat holds the first terminal and not the second
 abbrev pub parts : ℕ → ℕ → Moat → Bool
-parts t u m = holds m.members t && not (holds m.members u)
+parts t u m = has_member m.members t && not (has_member m.members u)
 
 -- no terminal is a member of both
 abbrev pub Disjoint : Moat → Moat → Type 0
-Disjoint a b = (t : ℕ) → holds a.members t ≡ true → holds b.members t ≡ true → ⊥
+Disjoint a b = (t : ℕ) → has_member a.members t ≡ true → has_member b.members t ≡ true → ⊥
 
 -- the one has fewer members, and all of them are the other's
 abbrev pub Inside : Moat → Moat → Type 0
-Inside a b = (length a.members < length b.members) × ((t : ℕ) → holds a.members t ≡ true → holds b.members t ≡ true)
+Inside a b = (length a.members < length b.members) × ((t : ℕ) → has_member a.members t ≡ true → has_member b.members t ≡ true)
 
 -- two moats are disjoint, or one lies inside the other
 abbrev pub Apart : Moat → Moat → Type 0
@@ -39,11 +39,11 @@ Laminar (m ∷ ms) = ApartFromAll m ms × Laminar ms
 
 -- laminar moats over the terminals, and costs that are distances; no two terminals have more between
 -- them than two halves for each step from one to the other
-pub record Fits (g : Site) : Type 0 where
+pub record Fits (g : LiftInput) : Type 0 where
   pub laminar : Laminar g.moats
-  pub placed : (m : Moat) → IsOf g.moats m → (t : ℕ) → holds m.members t ≡ true → t < g.places
+  pub placed : (m : Moat) → IsOf g.moats m → (t : ℕ) → has_member m.members t ≡ true → t < g.places
   pub bounded : (t u : ℕ) → t < g.places → u < g.places
-      → widths (parts t u) g.moats + widths (parts u t) g.moats ≤ 2 * g.least t (g.spot u)
+      → width_sum (parts t u) g.moats + width_sum (parts u t) g.moats ≤ 2 * g.least t (g.spot u)
   pub home : (t : ℕ) → t < g.places → g.least t (g.spot t) ≡ 0
   pub joined : (t u j : ℕ) → t < g.places → u < g.places → j < g.size → g.least t (g.spot u) ≤ g.least t j + g.least u j
 
@@ -64,21 +64,21 @@ here_with p q w a b misses is h = rw (misses, is) (omega arith)
 
 -- where the one test passes less than the other, so do the sums
 pub widths_mono : (p q : Moat → Bool) (ms : List Moat) → ((m : Moat) → IsOf ms m → p m ≡ true → q m ≡ true)
-    → widths p ms ≤ widths q ms
+    → width_sum p ms ≤ width_sum q ms
 widths_mono p q [] f = omega arith
 widths_mono p q (m ∷ ms) f =
-    step (p m) (q m) m.width (widths p ms) (widths q ms) (f m (inl refl)) (widths_mono p q ms (λ x h. f x (inr h)))
+    step (p m) (q m) m.width (width_sum p ms) (width_sum q ms) (f m (inl refl)) (widths_mono p q ms (λ x h. f x (inr h)))
 
 -- and where it misses a moat that the other passes, the width of this moat lies between the sums
 pub widths_with : (p q : Moat → Bool) (s : Moat) (ms : List Moat) → IsOf ms s → p s ≡ false → q s ≡ true
-    → ((m : Moat) → IsOf ms m → p m ≡ true → q m ≡ true) → widths p ms + s.width ≤ widths q ms
+    → ((m : Moat) → IsOf ms m → p m ≡ true → q m ≡ true) → width_sum p ms + s.width ≤ width_sum q ms
 widths_with p q s [] is misses passes f = absurd is
 widths_with p q s (m ∷ ms) (inl same) misses passes f =
-    subst (λ (x : Moat). widths p (m ∷ ms) + x.width ≤ widths q (m ∷ ms)) (sym same)
-    (here_with (p m) (q m) m.width (widths p ms) (widths q ms) (subst (λ (x : Moat). p x ≡ false) same misses)
+    subst (λ (x : Moat). width_sum p (m ∷ ms) + x.width ≤ width_sum q (m ∷ ms)) (sym same)
+    (here_with (p m) (q m) m.width (width_sum p ms) (width_sum q ms) (subst (λ (x : Moat). p x ≡ false) same misses)
     (subst (λ (x : Moat). q x ≡ true) same passes) (widths_mono p q ms (λ x h. f x (inr h))))
 widths_with p q s (m ∷ ms) (inr is) misses passes f =
-    step_with (p m) (q m) s.width m.width (widths p ms) (widths q ms) (f m (inl refl))
+    step_with (p m) (q m) s.width m.width (width_sum p ms) (width_sum q ms) (f m (inl refl))
     (widths_with p q s ms is misses passes (λ x h. f x (inr h)))
 
 turned : (a b : Moat) → Apart a b → Apart b a
@@ -101,49 +101,50 @@ related (m ∷ ms) a b l (inr x) (inl y) = inr (subst (λ (z : Moat). Apart a z)
 related (m ∷ ms) a b l (inr x) (inr y) = related ms a b l.1 x y
 
 -- a member of one of two disjoint moats is no member of the other
-pub not_in : (a b : Moat) (t : ℕ) → Disjoint a b → holds a.members t ≡ true → holds b.members t ≡ false
-not_in a b t d h = elim (cases_Bool (holds b.members t)) [
+pub not_in : (a b : Moat) (t : ℕ) → Disjoint a b → has_member a.members t ≡ true → has_member b.members t ≡ false
+not_in a b t d h = elim (cases_Bool (has_member b.members t)) [
   | inl has ↦ absurd (d t h has)
   | inr misses ↦ misses
 ]
 
-inside_parts : (g : Site) → Laminar g.moats → (s m : Moat) (t u : ℕ) → IsOf g.moats s → IsOf g.moats m → holds s.members t ≡ true
-    → holds s.members u ≡ false → is_inner s t m ≡ true → parts t u m ≡ true
+inside_parts : (g : LiftInput) → Laminar g.moats → (s m : Moat) (t u : ℕ) → IsOf g.moats s → IsOf g.moats m → has_member s.members t ≡ true
+    → has_member s.members u ≡ false → is_inner s t m ≡ true → parts t u m ≡ true
 inside_parts g l s m t u is here in_s out small =
-    let both = and_parts (holds m.members t) (nat_lt (length m.members) (length s.members)) small in
+    let both = and_parts (has_member m.members t) (nat_lt (length m.members) (length s.members)) small in
     let size : length m.members < length s.members = ltb-true _ _ both.1 in
-    and_from (holds m.members t) (not (holds m.members u)) both.0 (outside (related g.moats m s l here is) both.0 size)
+    and_from (has_member m.members t) (not (has_member m.members u)) both.0 (outside (related g.moats m s l here is) both.0 size)
   where
-    outside : (m ≡ s) ⊎ Apart m s → holds m.members t ≡ true → length m.members < length s.members → not (holds m.members u) ≡ true
+    outside : (m ≡ s) ⊎ Apart m s → has_member m.members t ≡ true → length m.members < length s.members
+        → not (has_member m.members u) ≡ true
     outside (inl same) in_m size = absurd (omega (arith, ap (λ (x : Moat). length x.members) same))
     outside (inr (inl d)) in_m size = absurd (d t in_m in_s)
-    outside (inr (inr (inl i))) in_m size = elim (cases_Bool (holds m.members u)) [
-      | inl has ↦ absurd (both_ways (holds s.members u) out (i.1 u has))
+    outside (inr (inr (inl i))) in_m size = elim (cases_Bool (has_member m.members u)) [
+      | inl has ↦ absurd (both_ways (has_member s.members u) out (i.1 u has))
       | inr misses ↦ rw misses refl
     ]
     outside (inr (inr (inr i))) in_m size = absurd (omega (arith, i.0))
 
 not_inner : (s : Moat) (t : ℕ) → is_inner s t s ≡ false
-not_inner s t = and_right (holds s.members t) (nat_lt (length s.members) (length s.members)) (le-ltb _ _ (omega arith))
+not_inner s t = and_right (has_member s.members t) (nat_lt (length s.members) (length s.members)) (le-ltb _ _ (omega arith))
 
 -- a moat around t reaches no higher above t than the moats that hold t and not u
-pub reach : (g : Site) → Laminar g.moats → (s : Moat) (t u : ℕ) → IsOf g.moats s → holds s.members t ≡ true
-    → holds s.members u ≡ false → depth g s t + s.width ≤ widths (parts t u) g.moats
+pub reach : (g : LiftInput) → Laminar g.moats → (s : Moat) (t u : ℕ) → IsOf g.moats s → has_member s.members t ≡ true
+    → has_member s.members u ≡ false → depth g s t + s.width ≤ width_sum (parts t u) g.moats
 reach g l s t u is in_s out =
     widths_with (is_inner s t) (parts t u) s g.moats is (not_inner s t)
-    (and_from (holds s.members t) (not (holds s.members u)) in_s (rw out refl))
+    (and_from (has_member s.members t) (not (has_member s.members u)) in_s (rw out refl))
     (λ m here small. inside_parts g l s m t u is here in_s out small)
 
 larger_too : (t : ℕ) (a b m : Moat) → length a.members < length b.members → is_inner a t m ≡ true → is_inner b t m ≡ true
 larger_too t a b m size h =
-    let both = and_parts (holds m.members t) (nat_lt (length m.members) (length a.members)) h in
+    let both = and_parts (has_member m.members t) (nat_lt (length m.members) (length a.members)) h in
     let small : length m.members < length a.members = ltb-true _ _ both.1 in
-    and_from (holds m.members t) (nat_lt (length m.members) (length b.members)) both.0 (lt-ltb _ _ (omega arith))
+    and_from (has_member m.members t) (nat_lt (length m.members) (length b.members)) both.0 (lt-ltb _ _ (omega arith))
 
 -- a larger moat around t begins above the smaller one
-pub above : (g : Site) (a b : Moat) (t : ℕ) → IsOf g.moats a → holds a.members t ≡ true
+pub above : (g : LiftInput) (a b : Moat) (t : ℕ) → IsOf g.moats a → has_member a.members t ≡ true
     → length a.members < length b.members → depth g a t + a.width ≤ depth g b t
 above g a b t is in_a size =
     widths_with (is_inner a t) (is_inner b t) a g.moats is (not_inner a t)
-    (and_from (holds a.members t) (nat_lt (length a.members) (length b.members)) in_a (lt-ltb _ _ size))
+    (and_from (has_member a.members t) (nat_lt (length a.members) (length b.members)) in_a (lt-ltb _ _ size))
     (λ m here small. larger_too t a b m size small)

@@ -3,8 +3,8 @@ use Rattle.std.proofs.Common.{◌≡◌, ℕ, ◌+◌, ◌-◌, ◌≤◌, ◌�
 use Rattle.std.proofs.lemmas.Bool.{cases_Bool}
 use Rattle.std.specs.Prelude.{if◌then◌else◌}
 use Rattle.blossom_match.specs.declared.matching.Moat.{Moat}
-use Rattle.cut_certificate.specs.Cuts.{holds}
-use Rattle.cut_certificate.specs.Levels.{Site, depth}
+use Rattle.cut_certificate.specs.Cuts.{has_member}
+use Rattle.cut_certificate.specs.Levels.{LiftInput, depth}
 use Rattle.cut_certificate.proofs.MoatLemmas.{Apart, ApartFromAll, IsOf, Laminar, above}
 
 -- how much is above both lower limits and below both upper ones
@@ -12,11 +12,11 @@ abbrev pub overlap : (low high from to : ℕ) → ℕ
 overlap low high from to = min high to - max low from
 
 -- how much of the levels of a moat above a terminal is within limits
-abbrev pub part_at : Site → (t from to : ℕ) → Moat → ℕ
-part_at g t from to m = if holds m.members t then overlap (depth g m t) (depth g m t + m.width) from to else 0
+abbrev pub part_at : LiftInput → (t from to : ℕ) → Moat → ℕ
+part_at g t from to m = if has_member m.members t then overlap (depth g m t) (depth g m t + m.width) from to else 0
 
 -- the same for all of the moats
-abbrev pub overlaps : Site → (t from to : ℕ) → List Moat → ℕ
+abbrev pub overlaps : LiftInput → (t from to : ℕ) → List Moat → ℕ
 overlaps g t from to [] = 0
 overlaps g t from to (m ∷ ms) = part_at g t from to m + overlaps g t from to ms
 
@@ -28,22 +28,23 @@ split_up lo hi lo' hi' x y one two (inr down) = omega arith
 whole : (lo hi x y a b : ℕ) → lo ≤ hi → a ≤ min lo y - x → b ≤ y - max hi x → overlap lo hi x y + (a + b) ≤ y - x
 whole lo hi x y a b h k l = omega arith
 
-beside : (g : Site) (t : ℕ) (m s : Moat) → IsOf g.moats m → IsOf g.moats s → holds m.members t ≡ true → holds s.members t ≡ true → Apart m s
+beside : (g : LiftInput) (t : ℕ) (m s : Moat) → IsOf g.moats m → IsOf g.moats s → has_member m.members t ≡ true
+    → has_member s.members t ≡ true → Apart m s
     → (depth g m t + m.width ≤ depth g s t) ⊎ (depth g s t + s.width ≤ depth g m t)
 beside g t m s is_m is_s in_m in_s (inl d) = absurd (d t in_m in_s)
 beside g t m s is_m is_s in_m in_s (inr (inl i)) = inl (above g m s t is_m in_m i.0)
 beside g t m s is_m is_s in_m in_s (inr (inr i)) = inr (above g s m t is_s in_s i.0)
 
-part_split : (g : Site) (t x y : ℕ) (m s : Moat) → IsOf g.moats m → IsOf g.moats s → holds m.members t ≡ true → Apart m s
+part_split : (g : LiftInput) (t x y : ℕ) (m s : Moat) → IsOf g.moats m → IsOf g.moats s → has_member m.members t ≡ true → Apart m s
     → part_at g t x y s ≤ part_at g t x (min (depth g m t) y) s + part_at g t (max (depth g m t + m.width) x) y s
-part_split g t x y m s is_m is_s in_m apart = elim (cases_Bool (holds s.members t)) [
+part_split g t x y m s is_m is_s in_m apart = elim (cases_Bool (has_member s.members t)) [
   | inl has ↦ rw has (split_up (depth g m t) (depth g m t + m.width) (depth g s t) (depth g s t + s.width) x y (omega arith) (omega arith)
       (beside g t m s is_m is_s in_m has apart))
   | inr misses ↦ rw misses (omega arith)
 ]
 
-rest_split : (g : Site) (t x y : ℕ) (m : Moat) (ms : List Moat) → IsOf g.moats m → ((s : Moat) → IsOf ms s → IsOf g.moats s)
-    → holds m.members t ≡ true → ApartFromAll m ms
+rest_split : (g : LiftInput) (t x y : ℕ) (m : Moat) (ms : List Moat) → IsOf g.moats m → ((s : Moat) → IsOf ms s → IsOf g.moats s)
+    → has_member m.members t ≡ true → ApartFromAll m ms
     → overlaps g t x y ms ≤ overlaps g t x (min (depth g m t) y) ms + overlaps g t (max (depth g m t + m.width) x) y ms
 rest_split g t x y m [] is f in_m apart = omega arith
 rest_split g t x y m (s ∷ ms) is f in_m apart =
@@ -54,10 +55,10 @@ rest_split g t x y m (s ∷ ms) is f in_m apart =
     add_up a b c d e f h k = omega arith
 
 -- together they have no more within limits than these leave room for
-pub overlaps_fit : (g : Site) (t x y : ℕ) (ms : List Moat) → ((s : Moat) → IsOf ms s → IsOf g.moats s) → Laminar ms
+pub overlaps_fit : (g : LiftInput) (t x y : ℕ) (ms : List Moat) → ((s : Moat) → IsOf ms s → IsOf g.moats s) → Laminar ms
     → overlaps g t x y ms ≤ y - x
 overlaps_fit g t x y [] f l = omega arith
-overlaps_fit g t x y (m ∷ ms) f l = elim (cases_Bool (holds m.members t)) [
+overlaps_fit g t x y (m ∷ ms) f l = elim (cases_Bool (has_member m.members t)) [
   | inl has ↦
       let left = overlaps_fit g t x (min (depth g m t) y) ms (λ z h. f z (inr h)) l.1 in
       let right = overlaps_fit g t (max (depth g m t + m.width) x) y ms (λ z h. f z (inr h)) l.1 in

@@ -3,7 +3,7 @@ use Rattle.std.proofs.Common.{◌≡◌, ◌<◌, ◌≤◌, ℕ, zero, suc, Boo
 use Rattle.std.proofs.lemmas.List.Elements.{All-cons, All-head, All-nil, All-tail}
 use Rattle.design_model.specs.declared.point.Point.{Point}
 use Rattle.design_model.specs.Points.{is_same_point}
-use Rattle.line_graph.specs.KeptPieces.{KeepsPiece, is_below}
+use Rattle.line_graph.specs.ValidPieces.{IsValidPiece, is_below}
 use Rattle.line_graph.specs.PieceGraphs.{degree}
 use Rattle.cut_certificate.proofs.CutFaultFacts.{complete}
 use Rattle.cut_certificate.proofs.WalkFaultFacts.{corners, edge, star}
@@ -46,7 +46,7 @@ joined set one two three i j a b = sym (from_first i a) ∙ from_first j b
     from_first (suc (suc (suc zero))) below = three
     from_first (suc (suc (suc (suc k)))) below = absurd (omega arith)
 
-pub keeps_star : (start end : Option ℕ) → is_below 4 start ≡ true → is_below 4 end ≡ true → KeepsPiece (star start end)
+pub keeps_star : (start end : Option ℕ) → is_below 4 start ≡ true → is_below 4 end ≡ true → IsValidPiece (star start end)
 keeps_star start end start_below end_below = record {
   some = omega arith;
   few = omega arith;
@@ -65,7 +65,7 @@ keeps_star start end start_below end_below = record {
   end_below = end_below;
 }
 
-pub keeps_complete : KeepsPiece complete
+pub keeps_complete : IsValidPiece complete
 keeps_complete = record {
   some = omega arith;
   few = omega arith;

@@ -6,7 +6,7 @@ use Rattle.std.proofs.lemmas.List.{get_or-set_other, get_or-set_same}
 use Rattle.std.proofs.lemmas.Option.{slice_get-get_or, slice_get_past}
 use Rattle.line_graph.specs.declared.edge.Edge.{Edge}
 use Rattle.line_graph.specs.declared.limits.TheConstants.{MAX_LINES}
-use Rattle.line_graph.specs.PieceWalks.{above, edge_of, rises}
+use Rattle.line_graph.specs.PieceWalks.{all_greater, edge_of, is_strictly_increasing}
 use Rattle.cut_certificate.proofs.TableLemmas.{at_place, blank}
 
 -- the first of two edges, if there is one
@@ -26,17 +26,17 @@ places_blank lines edges few line =
     rw (blank MAX_LINES MAX_LINES line, slice_get_past edges MAX_LINES few) (earlier_none (edge_of lines edges line))
 
 -- a line is none of greater ones
-pub none_above : (line : ℕ) (lines : List ℕ) (edges : List Edge) → above line lines ≡ true → edge_of lines edges line ≡ None
+pub none_above : (line : ℕ) (lines : List ℕ) (edges : List Edge) → all_greater line lines ≡ true → edge_of lines edges line ≡ None
 none_above line [] edges greater = refl
 none_above line (n ∷ lines) [] greater = refl
 none_above line (n ∷ lines) (e ∷ edges) greater =
-    let parts = and_parts (nat_lt line n) (above line lines) greater in
+    let parts = and_parts (nat_lt line n) (all_greater line lines) greater in
     let other : (line == n) ≡ false = grind (arith, nat_tests) in
     rw (other, none_above line lines edges parts.1) refl
 
 -- the table with one line more
 place_next : (n : ℕ) (rest : List ℕ) (e : Edge) (es edges : List Edge) (places : List ℕ) (at line : ℕ) (told : Option Edge)
-    → above n rest ≡ true → slice_get edges at ≡ Some e → n < length places
+    → all_greater n rest ≡ true → slice_get edges at ≡ Some e → n < length places
     → earlier (edge_of (n ∷ rest) (e ∷ es) line) (slice_get edges (get_or places line MAX_LINES)) ≡ told
     → earlier (edge_of rest es line) (slice_get edges (get_or (set places n at) line MAX_LINES)) ≡ told
 place_next n rest e es edges places at line told greater found there is = by_test (line == n) refl is
@@ -56,10 +56,10 @@ place_next n rest e es edges places at line told greater found there is = by_tes
 
 -- the remaining lines rise, and with them the table is complete
 pub places_next : (lines : List ℕ) (edges : List Edge) (places : List ℕ) (at : ℕ)
-    → at < length lines → length lines ≡ length edges → get_or lines at 0 < length places → rises (drop at lines) ≡ true
+    → at < length lines → length lines ≡ length edges → get_or lines at 0 < length places → is_strictly_increasing (drop at lines) ≡ true
     → ((line : ℕ) → earlier (edge_of (drop at lines) (drop at edges) line) (slice_get edges (get_or places line MAX_LINES))
     ≡ edge_of lines edges line)
-    → (rises (drop (at + 1) lines) ≡ true)
+    → (is_strictly_increasing (drop (at + 1) lines) ≡ true)
     × ((line : ℕ) → earlier (edge_of (drop (at + 1) lines) (drop (at + 1) edges) line)
     (slice_get edges (get_or (set places (get_or lines at 0) at) line MAX_LINES)) ≡ edge_of lines edges line)
 places_next lines edges places at less beside there rising told =
@@ -70,7 +70,7 @@ places_next lines edges places at less beside there rising told =
     let rest = drop (at + 1) lines in
     let es = drop (at + 1) edges in
     let second = at_place edges at no_edge (omega (arith, less, beside)) in
-    let parts = and_parts (above n rest) (rises rest) (rw first at rising) in (
+    let parts = and_parts (all_greater n rest) (is_strictly_increasing rest) (rw first at rising) in (
       parts.1,
       λ line. place_next n rest e es edges places at line (edge_of lines edges line) parts.0
           (slice_get-get_or edges at no_edge (omega (arith, less, beside))) there (rw (first, second) at (told line)),

@@ -6,16 +6,16 @@ use Rattle.std.proofs.lemmas.List.Elements.{All-get_or}
 use Rattle.std.proofs.lemmas.Option.{get_or_from_slice_get, slice_get_within}
 use Rattle.blossom_match.specs.declared.matching.Moat.{Moat}
 use Rattle.blossom_match.specs.Matchings.{AreLaminar, IsOddMoat}
-use Rattle.cut_certificate.specs.declared.stand.Stand.{Stand}
-use Rattle.cut_certificate.specs.declared.stand.Stand.TheVariants as stand
-use Rattle.cut_certificate.specs.Cuts.{holds}
-use Rattle.cut_certificate.specs.Levels.{Site, site_of}
-use Rattle.cut_certificate.specs.Reaches.{AreAllReaches, IsProgress, CanReach, IsNext, IsReach}
-use Rattle.cut_certificate.specs.Stands.{IsDone, IsOutermost, surrounded}
+use Rattle.cut_certificate.specs.declared.terminal_state.TerminalState.{TerminalState}
+use Rattle.cut_certificate.specs.declared.terminal_state.TerminalState.TheVariants as stand
+use Rattle.cut_certificate.specs.Cuts.{has_member}
+use Rattle.cut_certificate.specs.Levels.{LiftInput, lift_input}
+use Rattle.cut_certificate.specs.MoatDistances.{AreAllMoatDistances, IsProgress, HasRowsForMoats, IsNextMoat, AreDistancesFrom}
+use Rattle.cut_certificate.specs.TerminalStates.{IsProcessed, IsOutermost, surrounded}
 use Rattle.cut_certificate.proofs.LaminarLemmas.{apart_two, below, held_below, laminar, of_all}
 use Rattle.cut_certificate.proofs.MoatLemmas.{Apart}
-use Rattle.cut_certificate.proofs.ReachLemmas.{Finds}
-use Rattle.cut_certificate.proofs.StandLemmas.{is_of, next_stands, one_at}
+use Rattle.cut_certificate.proofs.MoatDistanceLemmas.{Finds}
+use Rattle.cut_certificate.proofs.TerminalStateLemmas.{is_of, next_stands, one_at}
 use Rattle.odd_paths.specs.LeastRows.{RowsValue}
 
 -- two moats at different indexes are apart
@@ -32,8 +32,8 @@ apart_at n ms i k a b odd l at_a at_b lt =
 
 -- a processed moat that shares a terminal with the next one is smaller
 smaller : (n : ℕ) (ms : List Moat) (index : ℕ) (s : Moat) → All (IsOddMoat n) ms → AllPairs AreLaminar ms → slice_get ms index ≡ Some s
-    → (c : ℕ) (m : Moat) (t : ℕ) → slice_get ms c ≡ Some m → IsDone (length s.members) index c m → holds m.members t ≡ true
-    → holds s.members t ≡ true → length m.members < length s.members
+    → (c : ℕ) (m : Moat) (t : ℕ) → slice_get ms c ≡ Some m → IsProcessed (length s.members) index c m → has_member m.members t ≡ true
+    → has_member s.members t ≡ true → length m.members < length s.members
 smaller n ms index s odd l at c m t at_m (inl less) in_m in_s = less
 smaller n ms index s odd l at c m t at_m (inr as_many) in_m in_s =
     absurd (clash as_many.0 (apart_at n ms c index m s odd l at_m at as_many.1))
@@ -47,10 +47,11 @@ odd_some : (k : ℕ) → k % 2 ≡ 1 → 1 ≤ k
 odd_some k odd = omega arith
 
 -- what the next moat finds
-pub finds : (rows : RowsValue) (size : ℕ) (moats : List Moat) (s : Moat) (index : ℕ) (stands : List Stand) (reaches : List (Vec ℕ Global))
-    → CanReach rows size moats → slice_get moats index ≡ Some s
-    → IsProgress (site_of rows size moats) (length s.members) index stands reaches
-    → Finds (site_of rows size moats) s index stands reaches
+pub finds : (rows : RowsValue) (size : ℕ) (moats : List Moat) (s : Moat) (index : ℕ) (stands : List TerminalState)
+    (reaches : List (Vec ℕ Global))
+    → HasRowsForMoats rows size moats → slice_get moats index ≡ Some s
+    → IsProgress (lift_input rows size moats) (length s.members) index stands reaches
+    → Finds (lift_input rows size moats) s index stands reaches
 finds rows size moats s index stands reaches can at progress =
     let odd = of_all (IsOddMoat (length rows.terminals)) moats s can.odd (is_of moats index s at) in
     record {
@@ -63,11 +64,12 @@ finds rows size moats s index stands reaches can at progress =
     }
 
 -- each moat has an odd number of members
-pub all_odd : (rows : RowsValue) (size : ℕ) (moats : List Moat) → CanReach rows size moats → (i : ℕ) (m : Moat) → slice_get moats i ≡ Some m
+pub all_odd : (rows : RowsValue) (size : ℕ) (moats : List Moat) → HasRowsForMoats rows size moats → (i : ℕ) (m : Moat)
+    → slice_get moats i ≡ Some m
     → length m.members % 2 ≡ 1
 all_odd rows size moats can i m at = (of_all (IsOddMoat (length rows.terminals)) moats m can.odd (is_of moats i m at)).odd
 
-never : (i : ℕ) (m : Moat) → length m.members % 2 ≡ 1 → IsDone 1 0 i m → ⊥
+never : (i : ℕ) (m : Moat) → length m.members % 2 ≡ 1 → IsProcessed 1 0 i m → ⊥
 never i m odd (inl less) = omega arith
 never i m odd (inr as_many) = omega (arith, as_many.1)
 
@@ -76,7 +78,8 @@ all_free zero t lt = absurd (omega arith)
 all_free (suc n) zero lt = refl
 all_free (suc n) (suc t) lt = all_free n t (omega arith)
 
-all_stand_free : (g : Site) (reaches : List (Vec ℕ Global)) → ((i : ℕ) (m : Moat) → slice_get g.moats i ≡ Some m → length m.members % 2 ≡ 1)
+all_stand_free : (g : LiftInput) (reaches : List (Vec ℕ Global))
+    → ((i : ℕ) (m : Moat) → slice_get g.moats i ≡ Some m → length m.members % 2 ≡ 1)
     → length reaches ≡ length g.moats → IsProgress g 1 0 (replicate g.places stand.Free) reaches
 all_stand_free g reaches odd beside = record {
   standing = record {
@@ -98,13 +101,13 @@ all_stand_free g reaches odd beside = record {
         free_is_none c (sym (all_free g.places t (omega (arith, length-replicate g.places stand.Free))) ∙ is)
 
 -- before the first moat
-pub none_yet : (rows : RowsValue) (size : ℕ) (moats : List Moat) (stands : List Stand) (reaches : List (Vec ℕ Global))
-    → CanReach rows size moats
+pub none_yet : (rows : RowsValue) (size : ℕ) (moats : List Moat) (stands : List TerminalState) (reaches : List (Vec ℕ Global))
+    → HasRowsForMoats rows size moats
     → stands ≡ replicate (length rows.terminals) stand.Free → length reaches ≡ length moats
-    → IsProgress (site_of rows size moats) 1 0 stands reaches
+    → IsProgress (lift_input rows size moats) 1 0 stands reaches
 none_yet rows size moats stands reaches can are beside =
-    subst (λ (ss : List Stand). IsProgress (site_of rows size moats) 1 0 ss reaches) (sym are)
-    (all_stand_free (site_of rows size moats) reaches (all_odd rows size moats can) beside)
+    subst (λ (ss : List TerminalState). IsProgress (lift_input rows size moats) 1 0 ss reaches) (sym are)
+    (all_stand_free (lift_input rows size moats) reaches (all_odd rows size moats can) beside)
 
 put_here : (xs : List (Vec ℕ Global)) (i : ℕ) (v : Vec ℕ Global) → i < length xs → slice_get (slice_set xs i v) i ≡ Some v
 put_here [] i v lt = absurd (omega arith)
@@ -127,8 +130,8 @@ same_reach : (v w : Vec ℕ Global) → Some v ≡ Some w → v ≡ w
 same_reach v w h = cc
 
 -- after the next moat
-pub next_progress : (g : Site) (s : Moat) (index : ℕ) (stands : List Stand) (reaches : List (Vec ℕ Global)) (v : Vec ℕ Global)
-    → Finds g s index stands reaches → IsReach g s v.items
+pub next_progress : (g : LiftInput) (s : Moat) (index : ℕ) (stands : List TerminalState) (reaches : List (Vec ℕ Global)) (v : Vec ℕ Global)
+    → Finds g s index stands reaches → AreDistancesFrom g s v.items
     → IsProgress g (length s.members) (index + 1) (surrounded stands s.members index) (slice_set reaches index v)
 next_progress g s index stands reaches v f is = record {
   standing = next_stands g.moats g.places index s stands f.laminar f.at f.some f.placed f.progress.standing;
@@ -136,19 +139,19 @@ next_progress g s index stands reaches v f is = record {
   made = made;
 }
   where
-    made : (i : ℕ) (m : Moat) (w : Vec ℕ Global) → slice_get g.moats i ≡ Some m → IsDone (length s.members) (index + 1) i m
-        → slice_get (slice_set reaches index v) i ≡ Some w → IsReach g m w.items
+    made : (i : ℕ) (m : Moat) (w : Vec ℕ Global) → slice_get g.moats i ≡ Some m → IsProcessed (length s.members) (index + 1) i m
+        → slice_get (slice_set reaches index v) i ≡ Some w → AreDistancesFrom g m w.items
     made i m w at done there = elim (cases_eq i index) [
       | inl same ↦
           let lt = slice_get_within g.moats index s f.at in
           let here = put_here reaches index v (omega (arith, f.progress.beside)) in
           let value : v ≡ w = same_reach v w (sym here ∙ subst (λ (k : ℕ). slice_get (slice_set reaches index v) k ≡ Some w) same there) in
           let moat : s ≡ m = one_at g.moats index s m f.at (subst (λ (k : ℕ). slice_get g.moats k ≡ Some m) same at) in
-          subst (λ (x : Moat). IsReach g x w.items) moat (subst (λ (x : Vec ℕ Global). IsReach g s x.items) value is)
+          subst (λ (x : Moat). AreDistancesFrom g x w.items) moat (subst (λ (x : Vec ℕ Global). AreDistancesFrom g s x.items) value is)
       | inr other ↦ f.progress.made i m w at (before i m other done) (sym (put_other reaches index i v other) ∙ there)
     ]
       where
-        before : (i : ℕ) (m : Moat) → i ≢ index → IsDone (length s.members) (index + 1) i m → IsDone (length s.members) index i m
+        before : (i : ℕ) (m : Moat) → i ≢ index → IsProcessed (length s.members) (index + 1) i m → IsProcessed (length s.members) index i m
         before i m other (inl less) = inl less
         before i m other (inr as_many) = inr (as_many.0, not_last i index other as_many.1)
           where
@@ -157,10 +160,11 @@ next_progress g s index stands reaches v f is = record {
 
 -- what was gone through is the same
 abbrev GoneAlike : List Moat → (members before more later : ℕ) → Type 0
-GoneAlike ms members before more later = (i : ℕ) (m : Moat) → slice_get ms i ≡ Some m → IsDone members before i m → IsDone more later i m
+GoneAlike ms members before more later = (i : ℕ) (m : Moat) → slice_get ms i ≡ Some m → IsProcessed members before i m
+    → IsProcessed more later i m
 
 -- so it is progress alike
-progress_alike : (g : Site) (members before more later : ℕ) (stands : List Stand) (reaches : List (Vec ℕ Global))
+progress_alike : (g : LiftInput) (members before more later : ℕ) (stands : List TerminalState) (reaches : List (Vec ℕ Global))
     → GoneAlike g.moats members before more later → GoneAlike g.moats more later members before → IsProgress g members before stands reaches
     → IsProgress g more later stands reaches
 progress_alike g members before more later stands reaches forth back progress = record {
@@ -188,7 +192,7 @@ progress_alike g members before more later stands reaches forth back progress = 
     }
 
 -- a moat with another number of members is left out
-pub skipped : (g : Site) (members index : ℕ) (s : Moat) (stands : List Stand) (reaches : List (Vec ℕ Global))
+pub skipped : (g : LiftInput) (members index : ℕ) (s : Moat) (stands : List TerminalState) (reaches : List (Vec ℕ Global))
     → slice_get g.moats index ≡ Some s
     → length s.members ≢ members → IsProgress g members index stands reaches → IsProgress g members (index + 1) stands reaches
 skipped g members index s stands reaches at other progress = progress_alike g members index members (index + 1) stands reaches forth back
@@ -211,7 +215,7 @@ skipped g members index s stands reaches at other progress = progress_alike g me
         not_last i k other lt = omega arith
 
 -- after the last moat with that number of members
-pub next_size : (g : Site) (members index : ℕ) (stands : List Stand) (reaches : List (Vec ℕ Global)) → members % 2 ≡ 1
+pub next_size : (g : LiftInput) (members index : ℕ) (stands : List TerminalState) (reaches : List (Vec ℕ Global)) → members % 2 ≡ 1
     → ((i : ℕ) (m : Moat) → slice_get g.moats i ≡ Some m → length m.members % 2 ≡ 1) → length g.moats ≤ index
     → IsProgress g members index stands reaches → IsProgress g (members + 2) 0 stands reaches
 next_size g members index stands reaches odd all last progress = progress_alike g members index (members + 2) 0 stands reaches forth back
@@ -232,8 +236,9 @@ next_size g members index stands reaches odd all last progress = progress_alike 
         next_odd i k other odd_i odd_k lt = omega arith
 
 -- after the last moat
-pub all_reached : (g : Site) (most members : ℕ) (stands : List Stand) (reaches : List (Vec ℕ Global))
-    → All (λ (m : Moat). length m.members ≤ most) g.moats → most < members → IsProgress g members 0 stands reaches → AreAllReaches g reaches
+pub all_reached : (g : LiftInput) (most members : ℕ) (stands : List TerminalState) (reaches : List (Vec ℕ Global))
+    → All (λ (m : Moat). length m.members ≤ most) g.moats → most < members → IsProgress g members 0 stands reaches
+    → AreAllMoatDistances g reaches
 all_reached g most members stands reaches few lt progress = (
   progress.beside,
   λ i m v at there. progress.made i m v at
@@ -246,28 +251,30 @@ all_reached g most members stands reaches few lt progress = (
         omega arith
 
 -- the moat is the next one
-pub is_next : (g : Site) (s : Moat) (members index : ℕ) (stands seen : List Stand) (reaches read : List (Vec ℕ Global))
+pub is_next : (g : LiftInput) (s : Moat) (members index : ℕ) (stands seen : List TerminalState) (reaches read : List (Vec ℕ Global))
     → slice_get g.moats index ≡ Some s
-    → length s.members ≡ members → seen ≡ stands → read ≡ reaches → IsProgress g members index stands reaches → IsNext g s seen read
+    → length s.members ≡ members → seen ≡ stands → read ≡ reaches → IsProgress g members index stands reaches → IsNextMoat g s seen read
 is_next g s members index stands seen reaches read at size is are progress = record {
   index = index;
   at = at;
   progress = subst (λ (k : ℕ). IsProgress g k index seen read) (sym size)
-      (subst (λ (ss : List Stand). IsProgress g members index ss read) (sym is)
+      (subst (λ (ss : List TerminalState). IsProgress g members index ss read) (sym is)
       (subst (λ (vs : List (Vec ℕ Global)). IsProgress g members index stands vs) (sym are) progress));
 }
 
 -- after the next moat, as the code computes it
-pub progress_on : (rows : RowsValue) (size : ℕ) (moats : List Moat) (s : Moat) (members index : ℕ) (stands new : List Stand)
-    (reaches : List (Vec ℕ Global)) (v : Vec ℕ Global) → CanReach rows size moats → slice_get moats index ≡ Some s → length s.members ≡
+pub progress_on : (rows : RowsValue) (size : ℕ) (moats : List Moat) (s : Moat) (members index : ℕ) (stands new : List TerminalState)
+    (reaches : List (Vec ℕ Global)) (v : Vec ℕ Global) → HasRowsForMoats rows size moats → slice_get moats index ≡ Some s
+    → length s.members ≡
     members
-    → IsProgress (site_of rows size moats) members index stands reaches → IsReach (site_of rows size moats) s v.items
-    → new ≡ surrounded stands s.members index → IsProgress (site_of rows size moats) members (index + 1) new (slice_set reaches index v)
+    → IsProgress (lift_input rows size moats) members index stands reaches → AreDistancesFrom (lift_input rows size moats) s v.items
+    → new ≡ surrounded stands s.members index → IsProgress (lift_input rows size moats) members (index + 1) new (slice_set reaches index v)
 progress_on rows size moats s members index stands new reaches v can at many progress is are =
-    let g = site_of rows size moats in
+    let g = lift_input rows size moats in
     let found = finds rows size moats s index stands reaches can at
-    (subst (λ (k : ℕ). IsProgress (site_of rows size moats) k index stands reaches) (sym many) progress) in
-    subst (λ (ss : List Stand). IsProgress (site_of rows size moats) members (index + 1) ss (slice_set reaches index v)) (sym are)
-    (subst (λ (k : ℕ). IsProgress (site_of rows size moats) k (index + 1) (surrounded stands s.members index)
+    (subst (λ (k : ℕ). IsProgress (lift_input rows size moats) k index stands reaches) (sym many) progress) in
+    subst (λ (ss : List TerminalState). IsProgress (lift_input rows size moats) members (index + 1) ss (slice_set reaches index v))
+    (sym are)
+    (subst (λ (k : ℕ). IsProgress (lift_input rows size moats) k (index + 1) (surrounded stands s.members index)
     (slice_set reaches index v)) many
-    (next_progress (site_of rows size moats) s index stands reaches v found is))
+    (next_progress (lift_input rows size moats) s index stands reaches v found is))

@@ -4,8 +4,8 @@ use Rattle.std.proofs.lemmas.Bool.Decides.{nat_tests}
 use Rattle.std.proofs.lemmas.Bool.{and_parts}
 use Rattle.line_graph.specs.declared.edge.Edge.{Edge}
 use Rattle.line_graph.specs.declared.pass.Pass.{Pass}
-use Rattle.line_graph.specs.PieceGraphs.{bit}
-use Rattle.line_graph.specs.PieceWalks.{above, covers, edge_of, edge_sum, of_edge, pass_sum, passed, passes, rises}
+use Rattle.line_graph.specs.PieceGraphs.{one_if}
+use Rattle.line_graph.specs.PieceWalks.{all_greater, covers, edge_of, edge_sum, edge_value, pass_sum, is_line_passed, passes, is_strictly_increasing}
 
 -- each line's number, y times
 abbrev pub weigh : List ℕ → List Edge → (ℕ → ℕ) → (Edge → ℕ) → ℕ
@@ -17,7 +17,7 @@ abbrev never : ℕ → ℕ
 never n = 0
 
 abbrev this : ℕ → ℕ → ℕ
-this line n = bit (line == n)
+this line n = one_if (line == n)
 
 abbrev pub often : List Pass → ℕ → ℕ
 often ps n = passes n ps
@@ -41,13 +41,15 @@ weigh_step : (ns : List ℕ) (es : List Edge) (p : Pass) (ps : List Pass) (f : E
 weigh_step [] es p ps f = refl
 weigh_step (n ∷ ns) [] p ps f = refl
 weigh_step (n ∷ ns) (e ∷ es) p ps f =
-    rw (weigh_step ns es p ps f) (spread (bit (p.line == n)) (passes n ps) (f e) (weigh ns es (this p.line) f) (weigh ns es (often ps) f))
+    rw (weigh_step ns es p ps f) (spread (one_if (p.line == n)) (passes n ps) (f e) (weigh ns es (this p.line) f)
+    (weigh ns es (often ps) f))
 
-absent : (line low : ℕ) (ns : List ℕ) (es : List Edge) (f : Edge → ℕ) → line ≡ low → above low ns ≡ true → weigh ns es (this line) f ≡ 0
+absent : (line low : ℕ) (ns : List ℕ) (es : List Edge) (f : Edge → ℕ) → line ≡ low → all_greater low ns ≡ true
+    → weigh ns es (this line) f ≡ 0
 absent line low [] es f is up = refl
 absent line low (n ∷ ns) [] f is up = refl
 absent line low (n ∷ ns) (e ∷ es) f is up =
-    let parts = and_parts (nat_lt low n) (above low ns) up in
+    let parts = and_parts (nat_lt low n) (all_greater low ns) up in
     let other : (line == n) ≡ false = differs line low n is parts.0 in
     rw (other, absent line low ns es f is parts.1) (nothing (f e))
   where
@@ -55,12 +57,12 @@ absent line low (n ∷ ns) (e ∷ es) f is up =
     differs line low n is up = grind (arith, nat_tests)
 
 -- the line itself is weighed once
-single : (line : ℕ) (ns : List ℕ) (es : List Edge) (f : Edge → ℕ) → rises ns ≡ true → weigh ns es (this line) f
-    ≡ of_edge f (edge_of ns es line)
+single : (line : ℕ) (ns : List ℕ) (es : List Edge) (f : Edge → ℕ) → is_strictly_increasing ns ≡ true → weigh ns es (this line) f
+    ≡ edge_value f (edge_of ns es line)
 single line [] es f up = refl
 single line (n ∷ ns) [] f up = refl
-single line (n ∷ ns) (e ∷ es) f up = by_test (line == n) refl (and_parts (above n ns) (rises ns) up).0
-    (single line ns es f (and_parts (above n ns) (rises ns) up).1)
+single line (n ∷ ns) (e ∷ es) f up = by_test (line == n) refl (and_parts (all_greater n ns) (is_strictly_increasing ns) up).0
+    (single line ns es f (and_parts (all_greater n ns) (is_strictly_increasing ns) up).1)
   where
     same : (line n : ℕ) → (line == n) ≡ true → line ≡ n
     same line n is = grind (arith, nat_tests)
@@ -71,22 +73,22 @@ single line (n ∷ ns) (e ∷ es) f up = by_test (line == n) refl (and_parts (ab
     none : (k v : ℕ) → 0 * k + v ≡ v
     none k v = omega arith
 
-    by_test : (t : Bool) → (line == n) ≡ t → above n ns ≡ true → weigh ns es (this line) f ≡ of_edge f (edge_of ns es line)
-        → bit (line == n) * f e + weigh ns es (this line) f ≡ of_edge f (cond (line == n) (Some e) (edge_of ns es line))
+    by_test : (t : Bool) → (line == n) ≡ t → all_greater n ns ≡ true → weigh ns es (this line) f ≡ edge_value f (edge_of ns es line)
+        → one_if (line == n) * f e + weigh ns es (this line) f ≡ edge_value f (cond (line == n) (Some e) (edge_of ns es line))
     by_test true is up rest = rw (is, absent line n ns es f (same line n is) up) (once (f e))
     by_test false is up rest = rw (is, rest) (none (f e) _)
 
 -- a sum over the passes is a sum over the lines
-pub exchange : (ns : List ℕ) (es : List Edge) (f : Edge → ℕ) (ps : List Pass) → rises ns ≡ true → pass_sum ns es f ps
+pub exchange : (ns : List ℕ) (es : List Edge) (f : Edge → ℕ) (ps : List Pass) → is_strictly_increasing ns ≡ true → pass_sum ns es f ps
     ≡ weigh ns es (often ps) f
 exchange ns es f [] up = sym (weigh_never ns es f)
 exchange ns es f (p ∷ ps) up = rw (weigh_step ns es p ps f, single p.line ns es f up, exchange ns es f ps up) refl
 
-least : (n : ℕ) (ps : List Pass) → passed n ps ≡ true → 1 ≤ passes n ps
+least : (n : ℕ) (ps : List Pass) → is_line_passed n ps ≡ true → 1 ≤ passes n ps
 least n [] is = absurd (cc)
 least n (p ∷ ps) is = by_test (p.line == n) is (λ h. least n ps h)
   where
-    by_test : (t : Bool) → (t || passed n ps) ≡ true → (passed n ps ≡ true → 1 ≤ passes n ps) → 1 ≤ bit t + passes n ps
+    by_test : (t : Bool) → (t || is_line_passed n ps) ≡ true → (is_line_passed n ps ≡ true → 1 ≤ passes n ps) → 1 ≤ one_if t + passes n ps
     by_test true is rest = omega arith
     by_test false is rest = let more : 1 ≤ passes n ps = rest is in omega arith
 
@@ -97,7 +99,7 @@ once_and_more [] [] f ps same all = refl
 once_and_more [] (e ∷ es) f ps same all = absurd (omega arith)
 once_and_more (n ∷ ns) [] f ps same all = absurd (omega arith)
 once_and_more (n ∷ ns) (e ∷ es) f ps same all =
-    let parts = and_parts (passed n ps) (covers ns ps) all in
+    let parts = and_parts (is_line_passed n ps) (covers ns ps) all in
     rw (once_and_more ns es f ps (omega arith) parts.1) (split (passes n ps) (f e) (edge_sum f es) (weigh ns es (more ps) f)
     (least n ps parts.0))
   where

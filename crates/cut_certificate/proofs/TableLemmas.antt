@@ -5,7 +5,7 @@ use Rattle.std.proofs.lemmas.Bool.Decides.{nat_tests}
 use Rattle.std.proofs.lemmas.List.{at_drop_more, length-set}
 use Rattle.line_graph.specs.declared.edge.Edge.{Edge}
 use Rattle.line_graph.specs.declared.limits.TheConstants.{MAX_LINES}
-use Rattle.line_graph.specs.KeptPieces.{KeepsPiece, all_below, ends_below}
+use Rattle.line_graph.specs.ValidPieces.{IsValidPiece, all_below, ends_below}
 use Rattle.line_graph.specs.PieceGraphs.{PieceValue, degrees_from}
 
 -- each entry of a blank table is the same
@@ -54,7 +54,7 @@ ends_within count most (e ∷ edges) less below =
     is_less j is = grind (arith, nat_tests)
 
 -- the ends of the edges of a piece are few
-pub ends_few : (p : PieceValue) → KeepsPiece p → ends_below (MAX_LINES + 1) p.edges ≡ true
+pub ends_few : (p : PieceValue) → IsValidPiece p → ends_below (MAX_LINES + 1) p.edges ≡ true
 ends_few p keeps =
     ends_within (length p.junctions) (MAX_LINES + 1) p.edges (omega (arith, keeps.junctions_few, keeps.few)) keeps.ends
 
@@ -63,7 +63,7 @@ length-degrees_from es at zero = refl
 length-degrees_from es at (suc n) = omega (arith, length-degrees_from es (at + 1) n)
 
 -- and so are its junctions
-pub degrees_few : (p : PieceValue) → KeepsPiece p → length p.degrees ≤ MAX_LINES + 1
+pub degrees_few : (p : PieceValue) → IsValidPiece p → length p.degrees ≤ MAX_LINES + 1
 degrees_few p keeps =
     rw keeps.counted (omega (arith, length-degrees_from p.edges 0 (length p.junctions), keeps.junctions_few, keeps.few))
 

@@ -1,12 +1,12 @@
 -- The total of a packing is at most twice the cost of the lines, since each odd cut is crossed by a line.
 use Rattle.std.proofs.Common.{◌≡◌, ◌≤◌, ◌<◌, ℕ, zero, suc, ◌+◌, ◌*◌, ◌%◌, Bool, true, false, cond, not, List, [], ◌∷◌, length, Some, arith, refl, ◌∙◌, ap, subst}
 use Rattle.line_graph.specs.declared.edge.Edge.{Edge}
-use Rattle.line_graph.specs.KeptPieces.{KeepsPiece, NoneLeaves}
-use Rattle.line_graph.specs.PieceGraphs.{PieceValue, bit, closed_edges, degrees_from}
-use Rattle.line_graph.specs.PieceWalks.{cost_of, edge_sum, piece_cost}
+use Rattle.line_graph.specs.ValidPieces.{IsValidPiece, NoEdgeLeaves}
+use Rattle.line_graph.specs.PieceGraphs.{PieceValue, one_if, edges_with_closing, degrees_from}
+use Rattle.line_graph.specs.PieceWalks.{edge_cost, edge_sum, piece_cost}
 use Rattle.cut_certificate.specs.declared.cut.Cut.{Cut}
-use Rattle.cut_certificate.specs.Bounds.{KeepsTotal}
-use Rattle.cut_certificate.specs.Cuts.{holds, load_on, total_of}
+use Rattle.cut_certificate.specs.PackingBounds.{BoundsTotal}
+use Rattle.cut_certificate.specs.Cuts.{has_member, load_on, total_weight}
 use Rattle.cut_certificate.specs.Packings.{IsOddCut, odd_held}
 use Rattle.cut_certificate.proofs.Crossing.{crossing}
 use Rattle.cut_certificate.proofs.Degrees.{odd_counted, odd_crossing, odd_in}
@@ -28,13 +28,13 @@ weigh_once (n ∷ ns) (e ∷ es) f same = rw (weigh_once ns es f (omega arith)) 
 crosses_none : (s : ℕ → Bool) (e : Edge) → crossing s e ≡ 0 → s e.a ≡ s e.b
 crosses_none s e none = by_tests (s e.a) (s e.b) none
   where
-    by_tests : (x y : Bool) → bit (cond x (not y) y) ≡ 0 → x ≡ y
+    by_tests : (x y : Bool) → one_if (cond x (not y) y) ≡ 0 → x ≡ y
     by_tests true true h = refl
     by_tests true false h = absurd (cc)
     by_tests false true h = absurd (cc)
     by_tests false false h = refl
 
-none_leaves : (s : ℕ → Bool) (es : List Edge) → edge_sum (crossing s) es ≡ 0 → NoneLeaves es s
+none_leaves : (s : ℕ → Bool) (es : List Edge) → edge_sum (crossing s) es ≡ 0 → NoEdgeLeaves es s
 none_leaves s [] none i e at = absurd (cc)
 none_leaves s (x ∷ es) none zero e at = let is : x ≡ e = some_same x e at
     in subst (λ (y : Edge). s y.a ≡ s y.b) is (crosses_none s x (omega arith))
@@ -60,39 +60,42 @@ never_crossed [] = refl
 never_crossed (e ∷ es) = rw (never_crossed es) refl
 
 -- all or none of the odd junctions are an even number
-constant_even : (p : PieceValue) → KeepsPiece p → (t : Bool) → odd_in (λ j. t) 0 (degrees_from (closed_edges p) 0 (length p.junctions)) % 2
+constant_even : (p : PieceValue) → IsValidPiece p → (t : Bool)
+    → odd_in (λ j. t) 0 (degrees_from (edges_with_closing p) 0 (length p.junctions)) % 2
     ≡ 0
-constant_even p kept true = odd_crossing (λ j. true) (closed_edges p) (length p.junctions) (closed_ends p kept)
-    ∙ ap (λ (k : ℕ). k % 2) (never_crossed (closed_edges p))
-constant_even p kept false = ap (λ (k : ℕ). k % 2) (none_odd (degrees_from (closed_edges p) 0 (length p.junctions)) 0)
+constant_even p kept true = odd_crossing (λ j. true) (edges_with_closing p) (length p.junctions) (closed_ends p kept)
+    ∙ ap (λ (k : ℕ). k % 2) (never_crossed (edges_with_closing p))
+constant_even p kept false = ap (λ (k : ℕ). k % 2) (none_odd (degrees_from (edges_with_closing p) 0 (length p.junctions)) 0)
 
-crossed_once : (p : PieceValue) → KeepsPiece p → (c : Cut) → IsOddCut p c → 1 ≤ edge_sum (crossing (holds c.members)) p.edges
+crossed_once : (p : PieceValue) → IsValidPiece p → (c : Cut) → IsOddCut p c → 1 ≤ edge_sum (crossing (has_member c.members)) p.edges
 crossed_once p kept c odd = by_sum (edge_sum (crossing s) p.edges) refl
   where
     s : ℕ → Bool
-    s = holds c.members
+    s = has_member c.members
 
-    even : edge_sum (crossing (holds c.members)) p.edges ≡ 0 → odd_held p c.members % 2 ≡ 0
+    even : edge_sum (crossing (has_member c.members)) p.edges ≡ 0 → odd_held p c.members % 2 ≡ 0
     even none =
-        ap (λ (k : ℕ). k % 2) (odd_counted (holds c.members) (closed_edges p) 0 (length p.junctions)
-        ∙ agree (holds c.members) (λ j. holds c.members 0) (closed_edges p) 0 (length p.junctions)
-        (λ j. λ from. λ to. kept.joined (holds c.members) (none_leaves (holds c.members) p.edges none) j 0 (omega arith) (omega arith)))
-        ∙ constant_even p kept (holds c.members 0)
+        ap (λ (k : ℕ). k % 2) (odd_counted (has_member c.members) (edges_with_closing p) 0 (length p.junctions)
+        ∙ agree (has_member c.members) (λ j. has_member c.members 0) (edges_with_closing p) 0 (length p.junctions)
+        (λ j. λ from. λ to. kept.joined (has_member c.members) (none_leaves (has_member c.members) p.edges none) j 0 (omega arith)
+        (omega arith)))
+        ∙ constant_even p kept (has_member c.members 0)
 
-    by_sum : (k : ℕ) → edge_sum (crossing (holds c.members)) p.edges ≡ k → 1 ≤ edge_sum (crossing (holds c.members)) p.edges
+    by_sum : (k : ℕ) → edge_sum (crossing (has_member c.members)) p.edges ≡ k → 1 ≤ edge_sum (crossing (has_member c.members)) p.edges
     by_sum zero is = absurd (clash (odd_held p c.members % 2) odd.odd (even is))
       where
         clash : (k : ℕ) → k ≡ 1 → k ≡ 0 → ⊥
         clash k one none = omega arith
     by_sum (suc k) is = omega arith
 
-pub keeps_total : KeepsTotal
+pub keeps_total : BoundsTotal
 keeps_total p cuts kept packing =
     let most = total_loads p.lines p.edges once p cuts packing.odd
-    (λ c. λ odd. rw (weigh_once p.lines p.edges (crossing (holds c.members)) kept.beside) (crossed_once p kept c odd)) in
+    (λ c. λ odd. rw (weigh_once p.lines p.edges (crossing (has_member c.members)) kept.beside) (crossed_once p kept c odd)) in
     let cost = loads_cost p.lines p.edges once cuts packing.loads in
-    let all = weigh_once p.lines p.edges cost_of kept.beside in
-    added (total_of cuts) (weigh p.lines p.edges once (load_on cuts)) (weigh p.lines p.edges once cost_of) (piece_cost p) most cost all
+    let all = weigh_once p.lines p.edges edge_cost kept.beside in
+    added (total_weight cuts) (weigh p.lines p.edges once (load_on cuts)) (weigh p.lines p.edges once edge_cost) (piece_cost p) most cost
+    all
   where
     added : (t l w c : ℕ) → t ≤ l → l ≤ 2 * w → w ≡ c → t ≤ 2 * c
     added t l w c most fits is = omega arith

@@ -7,9 +7,9 @@ use Rattle.std.specs.List.{list_any}
 use Rattle.design_model.specs.declared.point.Point.{Point}
 use Rattle.design_model.specs.Points.{is_same_point}
 use Rattle.line_graph.specs.declared.edge.Edge.{Edge}
-use Rattle.line_graph.specs.KeptPieces.{KeepsPiece, NoneLeaves}
+use Rattle.line_graph.specs.ValidPieces.{IsValidPiece, NoEdgeLeaves}
 use Rattle.line_graph.specs.PieceGraphs.{PieceValue, degree}
-use Rattle.cut_certificate.specs.MoatFits.{corner_points}
+use Rattle.cut_certificate.specs.MoatTests.{corner_points}
 
 abbrev edge : (a b cost : ℕ) → Edge
 edge a b cost = record { a = a; b = b; cost = cost }
@@ -70,7 +70,7 @@ met (suc (suc (suc (suc (suc (suc (suc zero))))))) lt = omega arith
 met (suc (suc (suc (suc (suc (suc (suc (suc j)))))))) lt = absurd (omega arith)
 
 -- all junctions are on the side of junction 2
-beside : (set : ℕ → Bool) → NoneLeaves edges set → (j : ℕ) → j < 8 → set j ≡ set 2
+beside : (set : ℕ → Bool) → NoEdgeLeaves edges set → (j : ℕ) → j < 8 → set j ≡ set 2
 beside set none zero lt = none 0 (edge 0 2 2) refl
 beside set none (suc zero) lt = none 1 (edge 1 2 2) refl
 beside set none (suc (suc zero)) lt = refl
@@ -85,7 +85,7 @@ beside set none (suc (suc (suc (suc (suc (suc (suc zero))))))) lt =
 beside set none (suc (suc (suc (suc (suc (suc (suc (suc j)))))))) lt = absurd (omega arith)
 
 -- the tree is a piece
-pub keeps_tree : KeepsPiece tree
+pub keeps_tree : IsValidPiece tree
 keeps_tree = record {
   some = omega arith;
   few = omega arith;

@@ -4,7 +4,7 @@ use Rattle.design_model.specs.declared.point.Point.{Point}
 use Rattle.line_graph.specs.declared.edge.Edge.{Edge}
 use Rattle.line_graph.specs.declared.pass.Pass.{Pass}
 use Rattle.line_graph.specs.PieceGraphs.{PieceValue}
-use Rattle.line_graph.specs.PieceWalks.{fits, walk_cost}
+use Rattle.line_graph.specs.PieceWalks.{is_fitting_walk, walk_cost}
 use Rattle.cut_certificate.specs.declared.faults.WalkFault.TheVariants as fault
 use Rattle.cut_certificate.specs.WalkFaults.{walk_fault}
 
@@ -48,7 +48,7 @@ known_right = refl
 pub known_cost : walk_cost closed all_twice ≡ 12
 known_cost = refl
 
-pub known_fits : fits closed all_twice ≡ true
+pub known_fits : is_fitting_walk closed all_twice ≡ true
 known_fits = refl
 
 -- no line of the drawing but of the piece: the second line is none of it
@@ -73,7 +73,7 @@ known_other_order = refl
 pub known_open : walk_fault closed (forth 0 ∷ back 0 ∷ forth 2 ∷ back 2 ∷ back 5 ∷ []) ≡ Some fault.Open
 known_open = refl
 
-pub known_no_fit : fits closed (forth 0 ∷ back 0 ∷ forth 2 ∷ back 2 ∷ back 5 ∷ []) ≡ false
+pub known_no_fit : is_fitting_walk closed (forth 0 ∷ back 0 ∷ forth 2 ∷ back 2 ∷ back 5 ∷ []) ≡ false
 known_no_fit = refl
 
 pub known_empty : walk_fault closed [] ≡ Some fault.Open

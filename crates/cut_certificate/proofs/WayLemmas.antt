@@ -9,18 +9,18 @@ use Rattle.blossom_match.specs.declared.matching.Moat.{Moat}
 use Rattle.blossom_match.specs.Matchings.{IsOddMoat}
 use Rattle.line_graph.specs.declared.limits.TheConstants.{MAX_COST}
 use Rattle.odd_paths.specs.LeastRows.{RowsValue, cost_in, length_in}
-use Rattle.cut_certificate.specs.declared.reach.TheConstants.{FAR}
-use Rattle.cut_certificate.specs.declared.stand.Stand.{Stand}
-use Rattle.cut_certificate.specs.declared.stand.Stand.TheVariants as stand
-use Rattle.cut_certificate.specs.Levels.{Site, site_of}
-use Rattle.cut_certificate.specs.Reaches.{CanReach, HasWay, IsNext, IsReach, lower_of, lowered, way}
+use Rattle.cut_certificate.specs.declared.single_moat.TheConstants.{FAR}
+use Rattle.cut_certificate.specs.declared.terminal_state.TerminalState.{TerminalState}
+use Rattle.cut_certificate.specs.declared.terminal_state.TerminalState.TheVariants as stand
+use Rattle.cut_certificate.specs.Levels.{LiftInput, lift_input}
+use Rattle.cut_certificate.specs.MoatDistances.{HasRowsForMoats, HasDistance, IsNextMoat, AreDistancesFrom, lesser_of, lowered_distance, distance_from}
 use Rattle.cut_certificate.proofs.ProgressLemmas.{finds}
 use Rattle.cut_certificate.proofs.LaminarLemmas.{of_all}
-use Rattle.cut_certificate.proofs.ReachLemmas.{past, reach_found}
-use Rattle.cut_certificate.proofs.StandLemmas.{is_of}
+use Rattle.cut_certificate.proofs.MoatDistanceLemmas.{past, reach_found}
+use Rattle.cut_certificate.proofs.TerminalStateLemmas.{is_of}
 
 -- no number of a row is above the greatest cost
-pub row_low : (rows : RowsValue) (size : ℕ) (moats : List Moat) (t : ℕ) (row : List ℕ) (j : ℕ) → CanReach rows size moats
+pub row_low : (rows : RowsValue) (size : ℕ) (moats : List Moat) (t : ℕ) (row : List ℕ) (j : ℕ) → HasRowsForMoats rows size moats
     → t < length rows.terminals
     → slice_get rows.table t ≡ Some row → j < length row → slice_index row j ≤ MAX_COST
 row_low rows size moats t row j can in_t at lt =
@@ -28,34 +28,37 @@ row_low rows size moats t row j can in_t at lt =
     subst (λ (o : Option (List ℕ)). cost_in o j ≤ MAX_COST) at (can.low t j in_t (omega arith))
 
 -- the distances from a processed moat are as many as a row has
-pub reach_wide : (rows : RowsValue) (size : ℕ) (moats : List Moat) (stands : List Stand) (reaches : List (Vec ℕ Global)) (t c : ℕ)
-    (place : Stand)
-    (v : Vec ℕ Global) (seen : List ℕ) → HasWay rows size moats stands reaches t → slice_get stands t ≡ Some place → place ≡ stand.First c
+pub reach_wide : (rows : RowsValue) (size : ℕ) (moats : List Moat) (stands : List TerminalState) (reaches : List (Vec ℕ Global)) (t c : ℕ)
+    (place : TerminalState)
+    (v : Vec ℕ Global) (seen : List ℕ) → HasDistance rows size moats stands reaches t → slice_get stands t ≡ Some place
+    → place ≡ stand.First c
     → c < length reaches → v ≡ get_or reaches c v → seen ≡ v.items → length seen ≡ size
 reach_wide rows size moats stands reaches t c place v seen has at is lt read are =
     ap (λ (l : List ℕ). length l) are
-    ∙ has.wide c v (at ∙ ap (λ (p : Stand). Some p) is) (slice_get_read reaches (length reaches) c v refl lt read)
+    ∙ has.wide c v (at ∙ ap (λ (p : TerminalState). Some p) is) (slice_get_read reaches (length reaches) c v refl lt read)
 
 -- lowered to the distances from the outermost moat whose first member is the terminal
-pub first_way : (g : Site) (stands : List Stand) (reaches : List (Vec ℕ Global)) (t j c : ℕ) (place : Stand) (m : Moat) (v : Vec ℕ Global)
+pub first_way : (g : LiftInput) (stands : List TerminalState) (reaches : List (Vec ℕ Global)) (t j c : ℕ) (place : TerminalState) (m : Moat)
+    (v : Vec ℕ Global)
     (seen : List ℕ) (old new : ℕ) → slice_get stands t ≡ Some place → place ≡ stand.First c → c < length g.moats → m ≡ get_or g.moats c m
     → c < length reaches → v ≡ get_or reaches c v → seen ≡ v.items → new ≡ min (slice_index seen j - (get_or g.moats c m).width) old
-    → new ≡ lower_of (way g reaches t j (slice_get stands t)) old
+    → new ≡ lesser_of (distance_from g reaches t j (slice_get stands t)) old
 first_way g stands reaches t j c place m v seen old new at is in_moats at_m in_reaches at_v are value =
     value ∙ ap (λ (x : Moat). min (slice_index seen j - x.width) old) (sym at_m) ∙ ap
     (λ (l : List ℕ). min (slice_index l j - m.width) old) are
-    ∙ ap (λ (o : Option ℕ). lower_of o old)
-    (sym (past g reaches t j c m v (slice_get stands t) (at ∙ ap (λ (p : Stand). Some p) is)
+    ∙ ap (λ (o : Option ℕ). lesser_of o old)
+    (sym (past g reaches t j c m v (slice_get stands t) (at ∙ ap (λ (p : TerminalState). Some p) is)
     (slice_get_read g.moats (length g.moats) c m refl in_moats at_m) (slice_get_read reaches (length reaches) c v refl in_reaches at_v)))
 
 -- each terminal of the next moat has a distance
-pub have_ways : (rows : RowsValue) (size : ℕ) (moats : List Moat) (s : Moat) (stands : List Stand) (reaches : List (Vec ℕ Global))
-    → CanReach rows size moats → IsNext (site_of rows size moats) s stands reaches → All (HasWay rows size moats stands reaches) s.members
+pub have_ways : (rows : RowsValue) (size : ℕ) (moats : List Moat) (s : Moat) (stands : List TerminalState) (reaches : List (Vec ℕ Global))
+    → HasRowsForMoats rows size moats → IsNextMoat (lift_input rows size moats) s stands reaches
+    → All (HasDistance rows size moats stands reaches) s.members
 have_ways rows size moats s stands reaches can next =
-    All-weaker (λ t. t < length rows.terminals) (HasWay rows size moats stands reaches) has s.members
+    All-weaker (λ t. t < length rows.terminals) (HasDistance rows size moats stands reaches) has s.members
     (of_all (IsOddMoat (length rows.terminals)) moats s can.odd (is_of moats next.index s next.at)).below
   where
-    has : (t : ℕ) → t < length rows.terminals → HasWay rows size moats stands reaches t
+    has : (t : ℕ) → t < length rows.terminals → HasDistance rows size moats stands reaches t
     has t lt = record {
       place = lt;
       stands_there = omega (arith, next.progress.standing.sized);
@@ -70,23 +73,25 @@ written len new old same = subst (λ (n : ℕ). take n (new ++ drop (length new)
     (take-append_seam new (drop (length new) old))
 
 -- a list of FAR that is lowered to all distances has those from the next moat
-pub reach_made : (rows : RowsValue) (size : ℕ) (moats : List Moat) (s : Moat) (stands : List Stand) (reaches : List (Vec ℕ Global))
+pub reach_made : (rows : RowsValue) (size : ℕ) (moats : List Moat) (s : Moat) (stands : List TerminalState) (reaches : List (Vec ℕ Global))
     (len : ℕ)
-    (far now new members : List ℕ) → CanReach rows size moats → IsNext (site_of rows size moats) s stands reaches → far ≡ replicate size FAR
+    (far now new members : List ℕ) → HasRowsForMoats rows size moats → IsNextMoat (lift_input rows size moats) s stands reaches
+    → far ≡ replicate size FAR
     → now ≡ far → len ≡ size → length new ≡ length now → members ≡ s.members
-    → ((j : ℕ) → j < length now → slice_index new j ≡ lowered (site_of rows (length now) moats) stands reaches j (slice_index now j)
+    → ((j : ℕ) → j < length now → slice_index new j
+    ≡ lowered_distance (lift_input rows (length now) moats) stands reaches j (slice_index now j)
     members)
-    → IsReach (site_of rows size moats) s (take len (new ++ drop (length new) far))
+    → AreDistancesFrom (lift_input rows size moats) s (take len (new ++ drop (length new) far))
 reach_made rows size moats s stands reaches len far now new members can next is are sized long same value =
     let wide : length now ≡ size = ap (λ (l : List ℕ). length l) (are ∙ is) ∙ length-replicate size FAR in
-    subst (IsReach (site_of rows size moats) s) (sym (written len new far (long ∙ wide ∙ sym sized)))
-    (reach_found (site_of rows size moats) s next.index stands reaches new FAR
+    subst (AreDistancesFrom (lift_input rows size moats) s) (sym (written len new far (long ∙ wide ∙ sym sized)))
+    (reach_found (lift_input rows size moats) s next.index stands reaches new FAR
     (finds rows size moats s next.index stands reaches can next.at next.progress) (long ∙ wide)
     (λ t j in_t in_j. let low = can.low t j in_t in_j in twice _ low)
     (λ j in_j. value j (omega arith)
-    ∙ ap (λ (x : ℕ). lowered (site_of rows size moats) stands reaches j x members)
+    ∙ ap (λ (x : ℕ). lowered_distance (lift_input rows size moats) stands reaches j x members)
     (ap (λ (l : List ℕ). slice_index l j) (are ∙ is) ∙ get_or-replicate size j FAR 0 in_j)
-    ∙ ap (lowered (site_of rows size moats) stands reaches j FAR) same))
+    ∙ ap (lowered_distance (lift_input rows size moats) stands reaches j FAR) same))
   where
     twice : (x : ℕ) → x ≤ MAX_COST → 2 * x ≤ FAR
     twice x low = omega arith
@@ -110,12 +115,13 @@ pub most_all : (ms : List Moat) (i most : ℕ) → length ms ≤ i → All (λ (
 most_all ms i most le all = subst (λ (l : List Moat). All (λ (x : Moat). length x.members ≤ most) l) (take_all i ms le) all
 
 -- each terminal of the next moat has a distance, as the code reads terminals and numbers
-pub all_ways : (rows : RowsValue) (size : ℕ) (moats : List Moat) (s : Moat) (stands : List Stand) (reaches : List (Vec ℕ Global))
-    (far now members : List ℕ) → CanReach rows size moats → IsNext (site_of rows size moats) s stands reaches → far ≡ replicate size FAR
+pub all_ways : (rows : RowsValue) (size : ℕ) (moats : List Moat) (s : Moat) (stands : List TerminalState) (reaches : List (Vec ℕ Global))
+    (far now members : List ℕ) → HasRowsForMoats rows size moats → IsNextMoat (lift_input rows size moats) s stands reaches
+    → far ≡ replicate size FAR
     → now ≡ far
-    → members ≡ s.members → All (HasWay rows (length now) moats stands reaches) members
+    → members ≡ s.members → All (HasDistance rows (length now) moats stands reaches) members
 all_ways rows size moats s stands reaches far now members can next is are same =
-    subst (λ (n : ℕ). All (HasWay rows n moats stands reaches) members)
+    subst (λ (n : ℕ). All (HasDistance rows n moats stands reaches) members)
     (sym (ap (λ (l : List ℕ). length l) (are ∙ is) ∙ length-replicate size FAR))
-    (subst (λ (ts : List ℕ). All (HasWay rows size moats stands reaches) ts) (sym same)
+    (subst (λ (ts : List ℕ). All (HasDistance rows size moats stands reaches) ts) (sym same)
     (have_ways rows size moats s stands reaches can next))

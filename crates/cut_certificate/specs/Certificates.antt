@@ -7,7 +7,7 @@ use Rattle.line_graph.specs.declared.pass.Pass.{Pass}
 
 -- A piece of a certificate that has a canonical text, which reads back. The walk has a pass, the
 -- cuts are plain, and no index is the maximum of 32 bits.
-pub record CanBeSpelled (piece : PieceCert) : Type 0 where
+pub record HasCanonicalText (piece : PieceCert) : Type 0 where
   pub some : piece.walk ≢ []
   pub passes : All (λ (pass : Pass). pass.line + 1 < 2 ^ 32) piece.walk
   pub plain : All IsPlainCut piece.cuts

@@ -4,15 +4,15 @@ use Rattle.std.specs.Prelude.{ℕ, ◌+◌, ◌*◌, ◌<◌, ◌==◌, ◌^◌,
 use Rattle.cut_certificate.specs.declared.cut.Cut.{Cut}
 use Rattle.cut_certificate.specs.declared.faults.CutFault.{CutFault}
 use Rattle.cut_certificate.specs.declared.faults.CutFault.TheVariants as fault
-use Rattle.cut_certificate.specs.Cuts.{load_on, total_of}
+use Rattle.cut_certificate.specs.Cuts.{load_on, total_weight}
 use Rattle.cut_certificate.specs.Faults.{first_fault}
 use Rattle.cut_certificate.specs.Packings.{odd_held}
 use Rattle.line_graph.specs.declared.edge.Edge.{Edge}
 use Rattle.line_graph.specs.PieceGraphs.{PieceValue, is_odd}
 
 -- No member of the cuts is the maximum of 32 bits, so that each has a number.
-abbrev pub AreNumbered : List Cut → Type 0
-AreNumbered cuts = All (λ (cut : Cut). All (λ j. j + 1 < 2 ^ 32) cut.members) cuts
+abbrev pub HaveNumberedMembers : List Cut → Type 0
+HaveNumberedMembers cuts = All (λ (cut : Cut). All (λ j. j + 1 < 2 ^ 32) cut.members) cuts
 
 -- The first member that isn't a junction of the piece.
 abbrev pub stranger_fault : (count number : ℕ) → List ℕ → Option CutFault
@@ -57,4 +57,5 @@ total_fault sum needed = if sum == needed then None else Some (fault.Total sum n
 -- weight. The total must be twice the retraced cost.
 abbrev pub cuts_fault : PieceValue → ℕ → List Cut → Option CutFault
 cuts_fault p retraced cuts = first_fault (cut_faults p 1 cuts)
-    (first_fault (load_faults cuts p.lines p.edges) (total_fault (total_of cuts) (2 * retraced)))
+    (first_fault (load_faults cuts p.lines p.edges)
+    (total_fault (total_weight cuts) (2 * retraced)))

@@ -5,17 +5,18 @@ use Rattle.cut_certificate.specs.declared.cut.Cut.{Cut}
 use Rattle.line_graph.specs.declared.edge.Edge.{Edge}
 
 -- A junction is a member of a cut.
-abbrev pub holds : List ℕ → ℕ → Bool
-holds members j = list_any (λ m. j == m) members
+abbrev pub has_member : List ℕ → ℕ → Bool
+has_member members j = list_any (λ m. j == m) members
 
 -- A cut holds exactly one end of an edge.
 abbrev pub crosses : List ℕ → Edge → Bool
-crosses members e = if holds members e.a then not (holds members e.b) else holds members e.b
+crosses members e = if has_member members e.a then not (has_member members e.b) else has_member
+    members e.b
 
 -- The load on an edge: the weights of the cuts that hold exactly one of its ends, added up.
 abbrev pub load_on : List Cut → Edge → ℕ
 load_on cuts e = sum_by (λ (cut : Cut). if crosses cut.members e then cut.weight else 0) cuts
 
 -- The total weight of all cuts.
-abbrev pub total_of : List Cut → ℕ
-total_of cuts = sum_by (λ (cut : Cut). cut.weight) cuts
+abbrev pub total_weight : List Cut → ℕ
+total_weight cuts = sum_by (λ (cut : Cut). cut.weight) cuts

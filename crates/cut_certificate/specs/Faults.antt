@@ -7,6 +7,6 @@ first_fault (Some fault) rest = Some fault
 first_fault None rest = rest
 
 -- A result reports the given fault, or is Ok where there is none.
-abbrev pub Tells : {T F : Type 0} → Option F → Result T F → Type 0
-Tells found (Ok _) = found ≡ None
-Tells found (Err fault) = found ≡ Some fault
+abbrev pub ReportsFault : {T F : Type 0} → Option F → Result T F → Type 0
+ReportsFault found (Ok _) = found ≡ None
+ReportsFault found (Err fault) = found ≡ Some fault

@@ -1,7 +1,7 @@
 -- The cuts of one moat, by the levels of the junctions. Weights and levels count halves of a step.
 use Rattle.std.specs.Prelude.{◌≡◌, ℕ, ◌+◌, ◌-◌, ◌<◌, ◌≤◌, ◌⊎◌, min, List, [], ◌∷◌, ◌++◌, All, length, nat_le, slice_index, if◌then◌else◌}
 use Rattle.cut_certificate.specs.declared.cut.Cut.{Cut}
-use Rattle.cut_certificate.specs.Cuts.{load_on, total_of}
+use Rattle.cut_certificate.specs.Cuts.{load_on, total_weight}
 use Rattle.line_graph.specs.declared.edge.Edge.{Edge}
 
 -- The junctions whose level is at most a limit, where the first of the levels is that of junction
@@ -14,8 +14,8 @@ members_from k limit (level ∷ rest) =
     else members_from (k + 1) limit rest
 
 -- The distance of two numbers.
-abbrev pub between : ℕ → ℕ → ℕ
-between a b = (a - b) + (b - a)
+abbrev pub distance_between : ℕ → ℕ → ℕ
+distance_between a b = (a - b) + (b - a)
 
 -- Each level is at most `from` or at least `next`.
 abbrev pub NoneBetween : (from next : ℕ) → List ℕ → Type 0
@@ -34,8 +34,8 @@ pub record IsLevelCut (levels : List ℕ) (top : ℕ) (cut : Cut) : Type 0 where
 pub record AreCutsTo (levels : List ℕ) (top : ℕ) (cuts : List Cut) : Type 0 where
   pub loads : (e : Edge) → e.a < length levels → e.b < length levels
       → load_on cuts e
-      ≡ between (min top (slice_index levels e.a)) (min top (slice_index levels e.b))
-  pub total : total_of cuts ≡ top
+      ≡ distance_between (min top (slice_index levels e.a)) (min top (slice_index levels e.b))
+  pub total : total_weight cuts ≡ top
   pub each : All (IsLevelCut levels top) cuts
 
 -- Cuts of a kind are appended.

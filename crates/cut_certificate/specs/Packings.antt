@@ -3,15 +3,15 @@
 -- count steps.
 use Rattle.std.specs.Prelude.{◌≡◌, ℕ, ◌*◌, ◌%◌, ◌<◌, ◌≤◌, true, List, length, All, count_by}
 use Rattle.cut_certificate.specs.declared.cut.Cut.{Cut}
-use Rattle.cut_certificate.specs.Cuts.{holds, load_on}
+use Rattle.cut_certificate.specs.Cuts.{has_member, load_on}
 use Rattle.line_graph.specs.declared.edge.Edge.{Edge}
 use Rattle.line_graph.specs.PieceGraphs.{PieceValue, odd_junctions}
-use Rattle.line_graph.specs.PieceWalks.{rises}
+use Rattle.line_graph.specs.PieceWalks.{is_strictly_increasing}
 
 -- The number of odd junctions of a piece that are members; a member that is listed twice counts
 -- once.
 abbrev pub odd_held : PieceValue → List ℕ → ℕ
-odd_held p members = count_by (holds members) (odd_junctions p)
+odd_held p members = count_by (has_member members) (odd_junctions p)
 
 -- A set of junctions of a piece that holds an odd number of odd junctions.
 pub record IsOddCut (p : PieceValue) (cut : Cut) : Type 0 where
@@ -26,4 +26,4 @@ pub record IsPacking (p : PieceValue) (cuts : List Cut) : Type 0 where
 -- A cut with a weight of at least 1, whose members rise.
 pub record IsPlainCut (cut : Cut) : Type 0 where
   pub heavy : 1 ≤ cut.weight
-  pub rising : rises cut.members ≡ true
+  pub rising : is_strictly_increasing cut.members ≡ true

@@ -1,6 +1,6 @@
 ghost use Rattle.std.specs.Prelude.{◌≡◌, ◌∷◌, ◌+◌, ◌<◌, ◌≤◌, ◌^◌, ◌-◌, [], All, IfOk, OnOk, length, pos, true};
-ghost use Rattle.cut_certificate.specs.CutFaults.{AreNumbered};
-ghost use Rattle.line_graph.specs.KeptPieces.{is_below};
+ghost use Rattle.cut_certificate.specs.CutFaults.{HaveNumberedMembers};
+ghost use Rattle.line_graph.specs.ValidPieces.{is_below};
 
 use crate::{Cut, CutFault, Cuts, WalkFault, check_cuts, check_walk};
 use design_model::{Items, Memory, Numbers, Point, Points};
@@ -161,7 +161,7 @@ fn said(
 }
 
 fn cuts_of(alloc: Global, table: &[(u32, [u8; 3])]) -> Result<Cuts, Memory>
-    ensures numbered { IfOk result AreNumbered }
+    ensures numbered { IfOk result HaveNumberedMembers }
     ensures few { IfOk result (λ cuts. length cuts ≤ length table.now) }
 {
     let mut cuts = Cuts::new(alloc);
@@ -172,7 +172,7 @@ fn cuts_of(alloc: Global, table: &[(u32, [u8; 3])]) -> Result<Cuts, Memory>
 }
 
 fn add_cut(alloc: Global, cuts: &mut Cuts, weight: u32, numbers: &[u8]) -> Result<(), Memory>
-    ensures numbered { OnOk result (AreNumbered cuts.old → AreNumbered cuts.new) }
+    ensures numbered { OnOk result (HaveNumberedMembers cuts.old → HaveNumberedMembers cuts.new) }
     ensures few { OnOk result (length cuts.new ≤ length cuts.old + 1) }
 {
     if weight > 0 {

@@ -1,10 +1,10 @@
 ghost use Rattle.std.specs.Prelude.{◌≡◌, ◌+◌, ◌*◌, ◌-◌, ◌<◌, ◌≤◌, ◌^◌, ◌↔◌, All, IsOk, length};
-ghost use Rattle.cut_certificate.specs.CheckTables.{AreParities, ChecksCut, ChecksEach};
-ghost use Rattle.cut_certificate.specs.CutFaults.{AreNumbered, cuts_fault, stranger_fault, total_fault};
-ghost use Rattle.cut_certificate.specs.Cuts.{total_of as sum_of};
-ghost use Rattle.cut_certificate.specs.Faults.{Tells};
+ghost use Rattle.cut_certificate.specs.CheckTables.{AreParities, ChecksCut, ChecksCuts};
+ghost use Rattle.cut_certificate.specs.CutFaults.{HaveNumberedMembers, cuts_fault, stranger_fault, total_fault};
+ghost use Rattle.cut_certificate.specs.Cuts.{total_weight};
+ghost use Rattle.cut_certificate.specs.Faults.{ReportsFault};
 ghost use Rattle.cut_certificate.specs.Packings.{IsPacking};
-ghost use Rattle.line_graph.specs.CutPieces.{graph_of};
+ghost use Rattle.line_graph.specs.PiecesOfDrawings.{graph_of};
 ghost use Rattle.line_graph.specs.PieceGraphs.{is_odd as is_odd_number};
 
 use crate::cut::Cut;
@@ -19,10 +19,10 @@ use line_graph::{MAX_LINES, Piece};
 /// of odd junctions. Over the lines in order: a load that is too high. Last: the total weight.
 pub fn check_cuts(p: &Piece, retraced: u32, cuts: &[Cut]) -> Result<(), CutFault>
     requires few { length cuts.now < 2 ^ 32 - 1 }
-    requires members { AreNumbered cuts.now }
+    requires members { HaveNumberedMembers cuts.now }
     ensures exact { IsOk result
-        ↔ (IsPacking (graph_of p.now) cuts.now × (sum_of cuts.now ≡ 2 * retraced)) }
-    ensures cause { Tells (cuts_fault (graph_of p.now) retraced cuts.now) result }
+        ↔ (IsPacking (graph_of p.now) cuts.now × (total_weight cuts.now ≡ 2 * retraced)) }
+    ensures cause { ReportsFault (cuts_fault (graph_of p.now) retraced cuts.now) result }
 {
     first_fault(p, retraced, cuts)
 }
@@ -30,8 +30,8 @@ pub fn check_cuts(p: &Piece, retraced: u32, cuts: &[Cut]) -> Result<(), CutFault
 /// Reports the first fault of the cuts, the loads and the total.
 fn first_fault(p: &Piece, retraced: u32, cuts: &[Cut]) -> Result<(), CutFault>
     requires few { length cuts.now < 2 ^ 32 - 1 }
-    requires members { AreNumbered cuts.now }
-    ensures { Tells (cuts_fault (graph_of p.now) retraced cuts.now) result }
+    requires members { HaveNumberedMembers cuts.now }
+    ensures { ReportsFault (cuts_fault (graph_of p.now) retraced cuts.now) result }
 {
     let loads = loads_of(p, cuts)?;
     check_loads(p, &loads)?;
@@ -41,8 +41,8 @@ fn first_fault(p: &Piece, retraced: u32, cuts: &[Cut]) -> Result<(), CutFault>
 /// Returns the load of the cuts on each edge of a piece, by index, or the first fault of a cut.
 fn loads_of(p: &Piece, cuts: &[Cut]) -> Result<[u64; MAX_LINES], CutFault>
     requires few { length cuts.now < 2 ^ 32 - 1 }
-    requires members { AreNumbered cuts.now }
-    ensures { ChecksEach (graph_of p.now) cuts.now result }
+    requires members { HaveNumberedMembers cuts.now }
+    ensures { ChecksCuts (graph_of p.now) cuts.now result }
 {
     let parities = parities_of(p);
     let mut loads = [0; MAX_LINES];
@@ -88,7 +88,7 @@ fn is_odd(n: u32) -> bool
 /// Reports the first member that is no junction.
 fn check_members(count: usize, number: u32, members: &[u32]) -> Result<(), CutFault>
     requires { All (λ j. j + 1 < 2 ^ 32) members.now }
-    ensures { Tells (stranger_fault count number members.now) result }
+    ensures { ReportsFault (stranger_fault count number members.now) result }
 {
     let mut rest = members;
     while let [j, after @ ..] = rest {
@@ -106,7 +106,7 @@ fn check_members(count: usize, number: u32, members: &[u32]) -> Result<(), CutFa
 /// Returns the total weight of all cuts.
 fn total_of(cuts: &[Cut]) -> u64
     requires { length cuts.now < 2 ^ 32 - 1 }
-    ensures { result ≡ sum_of cuts.now }
+    ensures { result ≡ total_weight cuts.now }
 {
     let mut sum: u64 = 0;
     let mut rest = cuts;
@@ -127,7 +127,7 @@ fn weight_of(cut: &Cut) -> u64
 
 /// Reports a total weight that isn't the needed one.
 fn check_total(sum: u64, needed: u64) -> Result<(), CutFault>
-    ensures { Tells (total_fault sum needed) result }
+    ensures { ReportsFault (total_fault sum needed) result }
 {
     if sum == needed {
         Ok(())

@@ -1,6 +1,6 @@
 ghost use Rattle.std.specs.Prelude.{◌≡◌, ℕ, ◌+◌, ◌<◌, ◌≤◌, ◌==◌, ◌||◌, false, get_or, length};
-ghost use Rattle.cut_certificate.specs.CheckTables.{AreHeld, AreParities, odd_among, parities_from};
-ghost use Rattle.line_graph.specs.CutPieces.{graph_of};
+ghost use Rattle.cut_certificate.specs.CheckTables.{AreMemberFlags, AreParities, odd_among, parities_from};
+ghost use Rattle.line_graph.specs.PiecesOfDrawings.{graph_of};
 ghost use Rattle.line_graph.specs.declared.limits.TheConstants.{MAX_LINES as most_lines};
 
 use arrayvec::ArrayVec;
@@ -12,7 +12,7 @@ pub(crate) const MAX_JUNCTIONS: usize = 1_025;
 
 /// Returns, for each junction, whether it is one of the members.
 pub(crate) fn held_by(members: &[u32]) -> [bool; MAX_JUNCTIONS]
-    ensures { AreHeld members.now result }
+    ensures { AreMemberFlags members.now result }
 {
     let mut held = none_held();
     let mut rest = members;

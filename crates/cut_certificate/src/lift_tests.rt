@@ -1,5 +1,5 @@
 ghost use Rattle.std.specs.Prelude.{◌≡◌, IfOk};
-ghost use Rattle.cut_certificate.specs.MoatFits.{corner_points};
+ghost use Rattle.cut_certificate.specs.MoatTests.{corner_points};
 
 mod moat_checks;
 

@@ -1,10 +1,10 @@
 ghost use Rattle.std.specs.Prelude.{◌<◌, ◌^◌, IfOk, length};
-ghost use Rattle.cut_certificate.specs.Lifts.{AreMoats, IsLifted};
-ghost use Rattle.line_graph.specs.CutPieces.{graph_of};
+ghost use Rattle.cut_certificate.specs.Lifts.{AreLiftableMoats, IsLifted};
+ghost use Rattle.line_graph.specs.PiecesOfDrawings.{graph_of};
 
 use crate::cut::Cuts;
 use crate::moat_cuts::add_cuts;
-use crate::moat_reaches::reaches;
+use crate::moat_distances::reaches;
 use blossom_match::Moats;
 use design_model::Memory;
 use line_graph::Piece;
@@ -14,7 +14,7 @@ use std::alloc::Global;
 /// Returns a packing of odd cuts of the piece whose total weight is the total width of the moats. Each moat
 /// over the odd junctions becomes cuts of the junctions near it. The only error is out of memory.
 pub fn lift(alloc: Global, p: &Piece, rows: &Rows, moats: &Moats) -> Result<Cuts, Memory>
-    requires moats { AreMoats (graph_of p.now) rows.now moats.now }
+    requires moats { AreLiftableMoats (graph_of p.now) rows.now moats.now }
     requires few { length moats.now < 2 ^ 31 }
     ensures { IfOk result (IsLifted (graph_of p.now) moats.now) }
 {

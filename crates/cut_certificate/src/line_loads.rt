@@ -1,8 +1,8 @@
 ghost use Rattle.std.specs.Prelude.{◌≡◌, ℕ, ◌*◌, ◌+◌, ◌-◌, ◌<◌, ◌≤◌, ◌^◌, length, true};
-ghost use Rattle.cut_certificate.specs.CheckTables.{AddsShares, AreAtMost, AreHeld, share_of, sum_faults};
-ghost use Rattle.cut_certificate.specs.Faults.{Tells};
+ghost use Rattle.cut_certificate.specs.CheckTables.{AddsShares, AreAtMost, AreMemberFlags, share_of, table_load_faults};
+ghost use Rattle.cut_certificate.specs.Faults.{ReportsFault};
 ghost use Rattle.cut_certificate.specs.CutFaults.{load_fault};
-ghost use Rattle.line_graph.specs.KeptPieces.{ends_below};
+ghost use Rattle.line_graph.specs.ValidPieces.{ends_below};
 ghost use Rattle.line_graph.specs.declared.limits.TheConstants.{MAX_LINES as most_lines};
 
 use crate::cut::Cut;
@@ -17,7 +17,7 @@ pub(crate) fn add_shares(
     held: &[bool; MAX_JUNCTIONS],
     cut: &Cut,
 )
-    requires held { AreHeld cut.now.members held.now }
+    requires held { AreMemberFlags cut.now.members held.now }
     requires few { length edges.now ≤ most_lines }
     requires ends { ends_below (most_lines + 1) edges.now ≡ true }
     requires room { AreAtMost (2 ^ 64 - 2 ^ 32) loads.old }
@@ -32,7 +32,7 @@ pub(crate) fn add_shares(
 
 /// Returns the load of a cut on an edge.
 fn share(held: &[bool; MAX_JUNCTIONS], cut: &Cut, e: Edge) -> u64
-    requires held { AreHeld cut.now.members held.now }
+    requires held { AreMemberFlags cut.now.members held.now }
     requires first { e.a < most_lines + 1 }
     requires last { e.b < most_lines + 1 }
     ensures value { result ≡ share_of cut.now e }
@@ -47,7 +47,7 @@ fn share(held: &[bool; MAX_JUNCTIONS], cut: &Cut, e: Edge) -> u64
 
 /// Reports the first line whose load is too high.
 pub(crate) fn check_loads(p: &Piece, loads: &[u64; MAX_LINES]) -> Result<(), CutFault>
-    ensures { Tells (sum_faults p.now.lines p.now.edges loads.now) result }
+    ensures { ReportsFault (table_load_faults p.now.lines p.now.edges loads.now) result }
 {
     let lines = p.lines.as_slice();
     let edges = p.edges.as_slice();
@@ -60,7 +60,7 @@ pub(crate) fn check_loads(p: &Piece, loads: &[u64; MAX_LINES]) -> Result<(), Cut
 /// Reports a line whose load is more than twice its cost.
 fn check_load(line: u32, load: u64, cost: u32) -> Result<(), CutFault>
     requires { line < most_lines }
-    ensures { Tells (load_fault line load cost) result }
+    ensures { ReportsFault (load_fault line load cost) result }
 {
     let allowed = 2 * u64::from(cost);
     if load <= allowed {

@@ -1,12 +1,12 @@
 ghost use Rattle.std.specs.Prelude.{◌≡◌, ℕ, ◌<◌, ◌==◌, ◌||◌, false, get_or};
-ghost use Rattle.line_graph.specs.PieceWalks.{passed as is_passed};
+ghost use Rattle.line_graph.specs.PieceWalks.{is_line_passed};
 ghost use Rattle.line_graph.specs.declared.limits.TheConstants.{MAX_LINES as most_lines};
 
 use line_graph::{MAX_LINES, Pass};
 
 /// Returns, for each line of the drawing, whether a walk passes it.
 pub(crate) fn passed_lines(walk: &[Pass]) -> [bool; MAX_LINES]
-    ensures { (line : ℕ) → line < most_lines → get_or result line false ≡ is_passed line walk.now }
+    ensures { (line : ℕ) → line < most_lines → get_or result line false ≡ is_line_passed line walk.now }
 {
     let mut passed = none_passed();
     let mut rest = walk;

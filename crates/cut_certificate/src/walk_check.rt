@@ -1,15 +1,15 @@
 ghost use Rattle.std.specs.Prelude.{◌≡◌, ◌<◌, ◌-◌, ◌^◌, IfOk, Some, is_ok, length, true};
-ghost use Rattle.cut_certificate.specs.CheckTables.{ArePlaces, Follows, IsTrail};
-ghost use Rattle.cut_certificate.specs.Faults.{Tells};
+ghost use Rattle.cut_certificate.specs.CheckTables.{AreEdgeIndexes, IsSummaryFrom, IsWalkSummary};
+ghost use Rattle.cut_certificate.specs.Faults.{ReportsFault};
 ghost use Rattle.cut_certificate.specs.WalkFaults.{ChecksWalk, ends_fault, missing_fault};
-ghost use Rattle.line_graph.specs.CutPieces.{graph_of};
-ghost use Rattle.line_graph.specs.PieceGraphs.{from_of, to_of};
-ghost use Rattle.line_graph.specs.PieceWalks.{are_one, end_of, fits, start_of, walk_cost};
-ghost use Rattle.line_graph.specs.KeptPieces.{all_below};
+ghost use Rattle.line_graph.specs.PiecesOfDrawings.{graph_of};
+ghost use Rattle.line_graph.specs.PieceGraphs.{given_start, given_end};
+ghost use Rattle.line_graph.specs.PieceWalks.{are_same_junction, pass_end, is_fitting_walk, pass_start, walk_cost};
+ghost use Rattle.line_graph.specs.ValidPieces.{all_below};
 ghost use Rattle.line_graph.specs.declared.limits.TheConstants.{MAX_LINES as most_lines};
 
 use crate::faults::WalkFault;
-use crate::line_places::{find_edge, places_of};
+use crate::line_indexes::{edge_indexes, find_edge};
 use crate::passed_lines::passed_lines;
 use line_graph::{Edge, MAX_LINES, Pass, Piece};
 
@@ -19,7 +19,7 @@ use line_graph::{Edge, MAX_LINES, Pass, Piece};
 /// Afterwards: the start, the end, and the first line that isn't passed.
 pub fn check_walk(p: &Piece, walk: &[Pass]) -> Result<u64, WalkFault>
     requires { length walk.now < 2 ^ 32 - 1 }
-    ensures exact { is_ok result ≡ fits (graph_of p.now) walk.now }
+    ensures exact { is_ok result ≡ is_fitting_walk (graph_of p.now) walk.now }
     ensures cost { IfOk result (λ cost. cost ≡ walk_cost (graph_of p.now) walk.now) }
     ensures cause { ChecksWalk (graph_of p.now) walk.now result }
 {
@@ -31,7 +31,7 @@ fn cost_or_fault(p: &Piece, walk: &[Pass]) -> Result<u64, WalkFault>
     requires { length walk.now < 2 ^ 32 - 1 }
     ensures { ChecksWalk (graph_of p.now) walk.now result }
 {
-    let trail = trail_of(p, walk)?;
+    let trail = walk_summary(p, walk)?;
     check_ends(p, trail)?;
     check_lines(p.lines.as_slice(), walk)?;
     Ok(trail.cost)
@@ -39,25 +39,25 @@ fn cost_or_fault(p: &Piece, walk: &[Pass]) -> Result<u64, WalkFault>
 
 /// The summary of a walk: where it leads from and to, and its cost.
 #[derive(Clone, Copy)]
-struct Trail {
+struct WalkSummary {
     start: Option<u32>,
     end: Option<u32>,
     cost: u64,
 }
 
 /// Returns the summary of a walk, or its first fault.
-fn trail_of(p: &Piece, walk: &[Pass]) -> Result<Trail, WalkFault>
+fn walk_summary(p: &Piece, walk: &[Pass]) -> Result<WalkSummary, WalkFault>
     requires { length walk.now < 2 ^ 32 - 1 }
-    ensures { IsTrail p.now.lines p.now.edges walk.now result }
+    ensures { IsWalkSummary p.now.lines p.now.edges walk.now result }
 {
     let [first, ..] = walk else {
-        return Ok(Trail {
+        return Ok(WalkSummary {
             start: None,
             end: None,
             cost: 0,
         });
     };
-    let places = places_of(p);
+    let places = edge_indexes(p);
     let Some(e) = find_edge(p, &places, first.line) else {
         return Err(WalkFault::Stranger { pass: 1 });
     };
@@ -70,10 +70,10 @@ fn follow(
     places: &[usize; MAX_LINES],
     start: u32,
     walk: &[Pass],
-) -> Result<Trail, WalkFault>
-    requires places { ArePlaces p.now.lines p.now.edges places.now }
+) -> Result<WalkSummary, WalkFault>
+    requires places { AreEdgeIndexes p.now.lines p.now.edges places.now }
     requires few { length walk.now < 2 ^ 32 - 1 }
-    ensures { Follows p.now.lines p.now.edges start walk.now result }
+    ensures { IsSummaryFrom p.now.lines p.now.edges start walk.now result }
 {
     let mut at = start;
     let mut cost: u64 = 0;
@@ -91,7 +91,7 @@ fn follow(
         number += 1;
         rest = after;
     }
-    Ok(Trail {
+    Ok(WalkSummary {
         start: Some(start),
         end: Some(at),
         cost,
@@ -100,21 +100,21 @@ fn follow(
 
 /// Returns the junction where a pass starts.
 fn start_of_pass(e: Edge, back: bool) -> u32
-    ensures { result ≡ start_of e back }
+    ensures { result ≡ pass_start e back }
 {
     if back { e.b } else { e.a }
 }
 
 /// Returns the junction where a pass ends.
 fn end_of_pass(e: Edge, back: bool) -> u32
-    ensures { result ≡ end_of e back }
+    ensures { result ≡ pass_end e back }
 {
     if back { e.a } else { e.b }
 }
 
 /// Reports a walk that doesn't start or end where required, or isn't closed.
-fn check_ends(p: &Piece, trail: Trail) -> Result<(), WalkFault>
-    ensures { Tells (ends_fault (from_of (graph_of p.now)) (to_of (graph_of p.now))
+fn check_ends(p: &Piece, trail: WalkSummary) -> Result<(), WalkFault>
+    ensures { ReportsFault (ends_fault (given_start (graph_of p.now)) (given_end (graph_of p.now))
         trail.start trail.end) result }
 {
     let from = p.from();
@@ -136,7 +136,7 @@ fn check_ends(p: &Piece, trail: Trail) -> Result<(), WalkFault>
 
 /// Returns whether both junctions are there and equal.
 fn is_same(first: Option<u32>, other: Option<u32>) -> bool
-    ensures { result ≡ are_one first other }
+    ensures { result ≡ are_same_junction first other }
 {
     match (first, other) {
         (Some(a), Some(b)) => a == b,
@@ -147,7 +147,7 @@ fn is_same(first: Option<u32>, other: Option<u32>) -> bool
 /// Reports the first line that isn't passed.
 fn check_lines(lines: &[u32], walk: &[Pass]) -> Result<(), WalkFault>
     requires { all_below most_lines lines.now ≡ true }
-    ensures { Tells (missing_fault lines.now walk.now) result }
+    ensures { ReportsFault (missing_fault lines.now walk.now) result }
 {
     let passed = passed_lines(walk);
     let mut rest = lines;

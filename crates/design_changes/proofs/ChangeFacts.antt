@@ -6,7 +6,7 @@ use Rattle.design_model.specs.declared.command.Command.TheVariants.{Stitch, Stop
 use Rattle.design_model.specs.declared.point.Point.{Point}
 use Rattle.design_model.specs.Designs.{DesignValue, empty_design}
 use Rattle.design_changes.specs.declared.change_faults.ChangeFault.TheVariants as reason
-use Rattle.design_changes.specs.ChangedDesigns.{Becomes, BecomesAll, shifted_unless, threaded}
+use Rattle.design_changes.specs.ChangedDesigns.{Becomes, BecomesAll, shifted_if_in_range, threaded_if_place}
 
 abbrev place : ℤ → ℤ → Point
 place x y = record { x = x; y = y }
@@ -16,14 +16,14 @@ abbrev two_blocks : DesignValue
 two_blocks = record empty_design { commands = Stitch (place (pos 0) (pos 0)) ∷ Stop ∷ Stitch (place (pos 5) (pos 0)) ∷ [] }
 
 -- places count from 1, and the blocks before keep the threads that they had
-pub known_second_thread : threaded 2 9 two_blocks ≡ Ok (record two_blocks { threads = 1 ∷ 9 ∷ [] })
+pub known_second_thread : threaded_if_place 2 9 two_blocks ≡ Ok (record two_blocks { threads = 1 ∷ 9 ∷ [] })
 known_second_thread = refl
 
-pub known_no_third_place : threaded 3 9 two_blocks ≡ Err (reason.NoPlace 3 2)
+pub known_no_third_place : threaded_if_place 3 9 two_blocks ≡ Err (reason.NoPlace 3 2)
 known_no_third_place = refl
 
 -- a shift that leads a command out of range names it
-pub known_moved_out : shifted_unless (Some 4) two_blocks ≡ Err (reason.MovedOut 4)
+pub known_moved_out : shifted_if_in_range (Some 4) two_blocks ≡ Err (reason.MovedOut 4)
 known_moved_out = refl
 
 -- a needle at that point

@@ -13,7 +13,8 @@ refit_change mode.Split = split
 refit_change mode.Cut = cut
 
 -- The result of one edit of a design in place.
-abbrev pub EditsTo : {T : Type 0} → ℕ → Change → DesignValue → Result T ChangeFault → DesignValue
+abbrev pub IsEditResult : {T : Type 0} → ℕ → Change → DesignValue → Result T ChangeFault
+    → DesignValue
     → Type 0
-EditsTo limit change old (Ok _) new = Becomes limit change old (Ok new)
-EditsTo limit change old (Err why) new = Becomes limit change old (Err why)
+IsEditResult limit change old (Ok _) new = Becomes limit change old (Ok new)
+IsEditResult limit change old (Err why) new = Becomes limit change old (Err why)

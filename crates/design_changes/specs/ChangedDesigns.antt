@@ -1,8 +1,8 @@
 -- The changes of a design between reading and writing, and the faults for which they are refused.
 use Rattle.std.specs.Prelude.{◌≡◌, ◌⊎◌, ℕ, ◌-◌, nat_lt, List, [], ◌∷◌, Option, Some, None, Result, Ok, Err, if◌then◌else◌}
 use Rattle.command_words.specs.Changes.{Change, cut, mirror, shift, split, thread, turn}
-use Rattle.design_edits.specs.Colours.{place_count, recoloured}
-use Rattle.design_edits.specs.Moves.{first_outside, mirrored, shifted, turned}
+use Rattle.design_edits.specs.Colours.{colour_place_count, recoloured}
+use Rattle.design_edits.specs.Moves.{first_out_of_range, mirrored, shifted, turned}
 use Rattle.design_model.specs.Designs.{DesignValue}
 use Rattle.step_splitter.specs.declared.refitting.RefitFault.TheVariants as fault
 use Rattle.step_splitter.specs.declared.refitting.RefitMode.{RefitMode}
@@ -19,25 +19,26 @@ RefitsTo m limit d (Err (reason.RefitTooMany number)) =
 RefitsTo m limit d (Err _) = ⊥
 
 -- The shifted design, or a fault for the first command whose point would be out of range.
-abbrev pub shifted_unless : Option ℕ → DesignValue → Result DesignValue ChangeFault
-shifted_unless None moved = Ok moved
-shifted_unless (Some number) moved = Err (reason.MovedOut number)
+abbrev pub shifted_if_in_range : Option ℕ → DesignValue → Result DesignValue ChangeFault
+shifted_if_in_range None moved = Ok moved
+shifted_if_in_range (Some number) moved = Err (reason.MovedOut number)
 
 -- The design with another thread for a block, numbered from 1, or a fault if there is no such
 -- colour place.
-abbrev pub threaded : ℕ → ℕ → DesignValue → Result DesignValue ChangeFault
-threaded place number d = if nat_lt (place - 1) (place_count d)
-    then Ok (recoloured (place - 1) number d) else Err (reason.NoPlace place (place_count d))
+abbrev pub threaded_if_place : ℕ → ℕ → DesignValue → Result DesignValue ChangeFault
+threaded_if_place place number d = if nat_lt (place - 1) (colour_place_count d)
+    then Ok (recoloured (place - 1) number d) else Err (reason.NoPlace place (colour_place_count d))
 
 -- The result of one change of a design. Refits are to that limit.
 abbrev pub Becomes : ℕ → Change → DesignValue → Result DesignValue ChangeFault → Type 0
 Becomes limit split d r = RefitsTo mode.Split limit d r
 Becomes limit cut d r = RefitsTo mode.Cut limit d r
-Becomes limit (shift dx dy) d r = r ≡ shifted_unless (first_outside (shifted dx dy d).commands)
+Becomes limit (shift dx dy) d r = r
+    ≡ shifted_if_in_range (first_out_of_range (shifted dx dy d).commands)
     (shifted dx dy d)
 Becomes limit (turn quarters) d r = r ≡ Ok (turned quarters d)
 Becomes limit (mirror axis) d r = r ≡ Ok (mirrored axis d)
-Becomes limit (thread place number) d r = r ≡ threaded place number d
+Becomes limit (thread place number) d r = r ≡ threaded_if_place place number d
 
 -- The result of changes in order. The first refused change determines the fault.
 abbrev pub BecomesAll : ℕ → List Change → DesignValue → Result DesignValue ChangeFault → Type 0

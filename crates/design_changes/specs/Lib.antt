@@ -2,5 +2,5 @@
 pub use Rattle.command_words.specs.Changes
 -- Read ChangedDesigns first: the results of changes, and their faults.
 pub mod ChangedDesigns
-pub mod Changings
+pub mod AppliedChanges
 pub mod ChangeSteps

@@ -11,9 +11,9 @@ pub enum ChangeFault {
 
 /// Why a design was not changed.
 #[derive(Clone, Copy, Debug, PartialEq, Eq)]
-pub enum Unchanged {
+pub enum ChangeFailure {
     /// A change is refused.
-    For(ChangeFault),
+    Refused(ChangeFault),
     /// Out of memory.
     Memory,
 }

@@ -1,8 +1,8 @@
 ghost use Rattle.std.specs.Prelude.{◌≤◌};
-ghost use Rattle.design_changes.specs.Changings.{AreSound, ChangesTo, changes_by};
+ghost use Rattle.design_changes.specs.AppliedChanges.{AreValidChanges, IsChangesResult, change_list};
 ghost use Rattle.step_splitter.specs.declared.segment.TheConstants.{MAX_STEP};
 
-use crate::change_faults::Unchanged;
+use crate::change_faults::ChangeFailure;
 use crate::edits::edited;
 use crate::refits::refitted;
 use design_model::Design;
@@ -24,11 +24,11 @@ pub fn changed(
     design: Design,
     limit: u32,
     changes: &Changes<'_>,
-) -> Result<Design, Unchanged>
+) -> Result<Design, ChangeFailure>
     requires low { 1 ≤ limit }
     requires high { limit ≤ MAX_STEP }
-    requires changes { AreSound changes.now }
-    ensures { ChangesTo limit (changes_by changes.now) design result }
+    requires changes { AreValidChanges changes.now }
+    ensures { IsChangesResult limit (change_list changes.now) design result }
 {
     match *changes {
         Changes::Refits { splits, cuts } => refitted(alloc, design, limit, splits, cuts),

@@ -7,5 +7,5 @@ mod changes;
 mod edits;
 mod refits;
 
-pub use change_faults::{ChangeFault, Unchanged};
+pub use change_faults::{ChangeFailure, ChangeFault};
 pub use changes::{Changes, changed};

@@ -1,10 +1,10 @@
 ghost use Rattle.std.specs.Prelude.{◌∷◌, ◌≤◌, [], if◌then◌else◌};
-ghost use Rattle.command_words.specs.Words.{refits};
-ghost use Rattle.design_changes.specs.Changings.{ChangesTo};
+ghost use Rattle.command_words.specs.Arguments.{refit_changes};
+ghost use Rattle.design_changes.specs.AppliedChanges.{IsChangesResult};
 ghost use Rattle.design_changes.specs.ChangeSteps.{refit_change};
 ghost use Rattle.step_splitter.specs.declared.segment.TheConstants.{MAX_STEP};
 
-use crate::change_faults::{ChangeFault, Unchanged};
+use crate::change_faults::{ChangeFailure, ChangeFault};
 use design_model::Design;
 use std::alloc::Global;
 use step_splitter::{MAX_STEP, RefitFault, RefitMode, refit};
@@ -16,10 +16,10 @@ pub(crate) fn refitted(
     limit: u32,
     splits: bool,
     cuts: bool,
-) -> Result<Design, Unchanged>
+) -> Result<Design, ChangeFailure>
     requires low { 1 ≤ limit }
     requires high { limit ≤ MAX_STEP }
-    ensures { ChangesTo limit (refits splits cuts) design result }
+    ensures { IsChangesResult limit (refit_changes splits cuts) design result }
 {
     let split = refitted_where(splits, alloc, design, limit, RefitMode::Split)?;
     refitted_where(cuts, alloc, split, limit, RefitMode::Cut)
@@ -31,10 +31,10 @@ fn refitted_where(
     design: Design,
     limit: u32,
     mode: RefitMode,
-) -> Result<Design, Unchanged>
+) -> Result<Design, ChangeFailure>
     requires low { 1 ≤ limit }
     requires high { limit ≤ MAX_STEP }
-    ensures { ChangesTo limit (if asked then refit_change mode ∷ [] else []) design result }
+    ensures { IsChangesResult limit (if asked then refit_change mode ∷ [] else []) design result }
 {
     if !asked {
         return Ok(design);
@@ -42,8 +42,8 @@ fn refitted_where(
     match refit(alloc, &design, limit, mode) {
         Ok(refitted) => Ok(refitted),
         Err(RefitFault::TooMany { number }) => {
-            Err(Unchanged::For(ChangeFault::RefitTooMany { number }))
+            Err(ChangeFailure::Refused(ChangeFault::RefitTooMany { number }))
         }
-        Err(RefitFault::Memory) => Err(Unchanged::Memory),
+        Err(RefitFault::Memory) => Err(ChangeFailure::Memory),
     }
 }

@@ -2,17 +2,17 @@
 use Rattle.std.proofs.Common.{◌≡◌, ℕ, List, [], ◌∷◌, ◌++◌, replicate, refl}
 use Rattle.design_model.specs.declared.command.Command.TheVariants.{Stop}
 use Rattle.design_model.specs.Designs.{DesignValue}
-use Rattle.design_edits.specs.Colours.{place_count, recoloured}
+use Rattle.design_edits.specs.Colours.{colour_place_count, recoloured}
 
 -- A design with those threads and n stops.
 abbrev pub stopping : List ℕ → ℕ → DesignValue
 stopping threads stops = record { label = []; threads = threads; commands = replicate stops Stop }
 
 -- one place more than stops, and no more than 255
-pub known_places : place_count (stopping [] 3) ≡ 4
+pub known_places : colour_place_count (stopping [] 3) ≡ 4
 known_places = refl
 
-pub known_most_places : place_count (stopping [] 260) ≡ 255
+pub known_most_places : colour_place_count (stopping [] 260) ≡ 255
 known_most_places = refl
 
 -- the threads before the place are kept as they are: those of the second and third block are 2 and 3

@@ -7,7 +7,7 @@ use Rattle.design_model.specs.declared.command.Command.TheVariants.{Stitch, Jump
 use Rattle.design_model.specs.declared.point.Point.{Point}
 use Rattle.design_model.specs.Designs.{DesignValue}
 use Rattle.design_edits.specs.declared.axis.Axis.TheVariants as axis
-use Rattle.design_edits.specs.Laws.{FourQuarterTurnsRestore, OppositeShiftRestores, TwoMirroringsRestore}
+use Rattle.design_edits.specs.Inverses.{FourQuarterTurnsRestore, OppositeShiftRestores, TwoMirroringsRestore}
 use Rattle.design_edits.specs.Moves.{mirror_point, shift_point, turn_point, turned, with_mapped_point, with_mapped_points}
 
 -- a map that undoes another on points undoes it on designs

@@ -5,7 +5,7 @@ use Rattle.design_model.specs.declared.point.Point.{Point}
 use Rattle.design_model.specs.Designs.{DesignValue}
 use Rattle.design_edits.specs.declared.axis.Axis.TheVariants as axis
 use Rattle.design_edits.specs.declared.motion.TheConstants.{MAX_SHIFT}
-use Rattle.design_edits.specs.Moves.{first_outside, mirror_point, mirrored, shift_point, shifted, turn_point}
+use Rattle.design_edits.specs.Moves.{first_out_of_range, mirror_point, mirrored, shift_point, shifted, turn_point}
 
 -- the point with those numbers
 abbrev pub at : ℤ → ℤ → Point
@@ -44,11 +44,11 @@ pub known_mirrored : mirrored axis.X sample ≡ record sample {
 known_mirrored = refl
 
 -- at 1 a needle may be shifted by 29999 and not by 30000; a jump has its own range
-pub known_needle_outside : first_outside (shifted (pos 30000) (pos 0) sample).commands ≡ Some 1
+pub known_needle_outside : first_out_of_range (shifted (pos 30000) (pos 0) sample).commands ≡ Some 1
 known_needle_outside = refl
 
-pub known_jump_outside : first_outside (shifted (pos 29999) (pos 0) sample).commands ≡ Some 2
+pub known_jump_outside : first_out_of_range (shifted (pos 29999) (pos 0) sample).commands ≡ Some 2
 known_jump_outside = refl
 
-pub known_inside : first_outside (shifted (negsuc 30000) (pos 29998) sample).commands ≡ None
+pub known_inside : first_out_of_range (shifted (negsuc 30000) (pos 29998) sample).commands ≡ None
 known_inside = refl

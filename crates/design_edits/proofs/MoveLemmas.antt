@@ -8,19 +8,19 @@ use Rattle.std.specs.List.{list_all, position_from}
 use Rattle.design_model.specs.declared.command.Command.{Command}
 use Rattle.design_model.specs.declared.command.Command.TheVariants.{Stitch, Jump, Trim, Stop}
 use Rattle.design_model.specs.declared.point.Point.{Point}
-use Rattle.design_model.specs.Commands.{is_in_range, target_of}
+use Rattle.design_model.specs.Commands.{is_command_in_range, target_of}
 use Rattle.design_model.specs.Designs.{DesignValue, KeepsLimits, with_command_at}
-use Rattle.design_model.specs.Points.{is_within}
+use Rattle.design_model.specs.Points.{is_point_within}
 use Rattle.design_edits.specs.declared.axis.Axis.{Axis}
 use Rattle.design_edits.specs.declared.axis.Axis.TheVariants as axis
-use Rattle.design_edits.specs.Moves.{first_outside, mirror_point, quarter_point, turn_point, with_mapped_point, with_mapped_points}
+use Rattle.design_edits.specs.Moves.{first_out_of_range, mirror_point, quarter_point, turn_point, with_mapped_point, with_mapped_points}
 
 -- whether a command's point is out of its range
 abbrev pub is_outside : Command → Bool
-is_outside c = not (is_in_range c)
+is_outside c = not (is_command_in_range c)
 
 -- where the first is inside, the first outside is among the others
-go_on : (n : ℕ) (c : Command) (rest : Option ℕ) → IsTrue (is_in_range c) → rest ≡ None
+go_on : (n : ℕ) (c : Command) (rest : Option ℕ) → IsTrue (is_command_in_range c) → rest ≡ None
     → cond (is_outside c) (Some n) rest ≡ None
 go_on n c rest inside none = rw inside none
 
@@ -31,18 +31,18 @@ gone_on n false rest none = cc
 
 -- A map that keeps points within each limit keeps all commands in range.
 module _ (f : Point → Point)
-    (stays : (limit : ℕ) (p : Point) → IsTrue (is_within limit p) → IsTrue (is_within limit (f p))) where
-  stays_in_range : (c : Command) → IsTrue (is_in_range c) → IsTrue (is_in_range (with_mapped_point f c))
+    (stays : (limit : ℕ) (p : Point) → IsTrue (is_point_within limit p) → IsTrue (is_point_within limit (f p))) where
+  stays_in_range : (c : Command) → IsTrue (is_command_in_range c) → IsTrue (is_command_in_range (with_mapped_point f c))
   stays_in_range (Stitch p) inside = stays _ p inside
   stays_in_range (Jump p) inside = stays _ p inside
   stays_in_range Trim inside = refl
   stays_in_range Stop inside = refl
 
-  none_outside : (n : ℕ) (cs : List Command) → IsTrue (list_all is_in_range cs)
+  none_outside : (n : ℕ) (cs : List Command) → IsTrue (list_all is_command_in_range cs)
       → position_from is_outside n (map (with_mapped_point f) cs) ≡ None
   none_outside n [] all = refl
   none_outside n (c ∷ rest) all =
-      let both = and_parts (is_in_range c) (list_all is_in_range rest) all in
+      let both = and_parts (is_command_in_range c) (list_all is_command_in_range rest) all in
       go_on n (with_mapped_point f c) (position_from is_outside (n + 1) (map (with_mapped_point f) rest))
       (stays_in_range c both.0) (none_outside (n + 1) rest both.1)
 
@@ -50,27 +50,27 @@ module _ (f : Point → Point)
 size-neg : (z : ℤ) → unsigned_abs (neg_ℤ z) ≡ unsigned_abs z
 size-neg z = grind (arith, ints)
 
-quarter_stays : (limit : ℕ) (p : Point) → IsTrue (is_within limit p) → IsTrue (is_within limit (quarter_point p))
+quarter_stays : (limit : ℕ) (p : Point) → IsTrue (is_point_within limit p) → IsTrue (is_point_within limit (quarter_point p))
 quarter_stays limit p within = grind (arith, nat_tests, size-neg)
 
-turn_stays : (quarters limit : ℕ) (p : Point) → IsTrue (is_within limit p)
-    → IsTrue (is_within limit (turn_point quarters p))
+turn_stays : (quarters limit : ℕ) (p : Point) → IsTrue (is_point_within limit p)
+    → IsTrue (is_point_within limit (turn_point quarters p))
 turn_stays zero limit p within = within
 turn_stays (suc quarters) limit p within =
     quarter_stays limit (turn_point quarters p) (turn_stays quarters limit p within)
 
-mirror_stays : (a : Axis) (limit : ℕ) (p : Point) → IsTrue (is_within limit p)
-    → IsTrue (is_within limit (mirror_point a p))
+mirror_stays : (a : Axis) (limit : ℕ) (p : Point) → IsTrue (is_point_within limit p)
+    → IsTrue (is_point_within limit (mirror_point a p))
 mirror_stays axis.X limit p within = grind (arith, nat_tests, size-neg)
 mirror_stays axis.Y limit p within = grind (arith, nat_tests, size-neg)
 
 -- No point of a design leaves its range in a turn or a mirroring.
 pub turn_in_range : (quarters : ℕ) (d : DesignValue) → KeepsLimits d
-    → first_outside (with_mapped_points (turn_point quarters) d).commands ≡ None
+    → first_out_of_range (with_mapped_points (turn_point quarters) d).commands ≡ None
 turn_in_range quarters d limits = none_outside (turn_point quarters) (turn_stays quarters) 1 d.commands limits.in_range
 
 pub mirror_in_range : (a : Axis) (d : DesignValue) → KeepsLimits d
-    → first_outside (with_mapped_points (mirror_point a) d).commands ≡ None
+    → first_out_of_range (with_mapped_points (mirror_point a) d).commands ≡ None
 mirror_in_range a d limits = none_outside (mirror_point a) (mirror_stays a) 1 d.commands limits.in_range
 
 -- the commands of which those before an index are mapped
@@ -93,13 +93,13 @@ map_next g (suc i) (c ∷ rest) there = ap (λ xs. g c ∷ xs) (map_next g i res
 
 -- each mapped command is inside
 inside_at : (g : Command → Command) (n i : ℕ) (cs : List Command) → i < length cs
-    → position_from is_outside n (map g cs) ≡ None → IsTrue (is_in_range (g (get_or cs i Trim)))
+    → position_from is_outside n (map g cs) ≡ None → IsTrue (is_command_in_range (g (get_or cs i Trim)))
 inside_at g n i [] there none = absurd (omega arith)
 inside_at g n zero (c ∷ rest) there none =
-    (gone_on n (is_in_range (g c)) (position_from is_outside (n + 1) (map g rest)) none).0
+    (gone_on n (is_command_in_range (g c)) (position_from is_outside (n + 1) (map g rest)) none).0
 inside_at g n (suc i) (c ∷ rest) there none =
     inside_at g (n + 1) i rest (omega arith)
-    (gone_on n (is_in_range (g c)) (position_from is_outside (n + 1) (map g rest)) none).1
+    (gone_on n (is_command_in_range (g c)) (position_from is_outside (n + 1) (map g rest)) none).1
 
 -- the design of which the commands before an index are mapped
 module _ (g : Command → Command) (i : ℕ) (whole d : DesignValue) (there : i < length whole.commands)
@@ -107,8 +107,8 @@ module _ (g : Command → Command) (i : ℕ) (whole d : DesignValue) (there : i 
   next_of : slice_get d.commands i ≡ Some (get_or whole.commands i Trim)
   next_of = ap (λ x. slice_get x.commands i) is ∙ next_as_before g i whole.commands there
 
-  pub next_inside : first_outside (map g whole.commands) ≡ None
-      → IfSome (slice_get d.commands i) (λ c. IsTrue (is_in_range (g c)))
+  pub next_inside : first_out_of_range (map g whole.commands) ≡ None
+      → IfSome (slice_get d.commands i) (λ c. IsTrue (is_command_in_range (g c)))
   next_inside none = rw next_of (inside_at g 1 i whole.commands there none)
 
   pub next_mapped : (new : DesignValue)

@@ -10,8 +10,8 @@ use Rattle.design_edits.specs.declared.edit_fault.EditFault.TheVariants as fault
 
 -- The number of colour places: the number of blocks, which is that of stops plus 1, but at most
 -- MAX_THREADS.
-abbrev pub place_count : DesignValue → ℕ
-place_count d = min ((counts_of d).stops + 1) MAX_THREADS
+abbrev pub colour_place_count : DesignValue → ℕ
+colour_place_count d = min ((counts_of d).stops + 1) MAX_THREADS
 
 -- The threads of `count` blocks, from one block on.
 abbrev pub threads_from : DesignValue → ℕ → ℕ → List ℕ
@@ -32,10 +32,10 @@ Recolours place thread old new =
     (block : ℕ) → thread_of new block ≡ (if block == place then thread else thread_of old block)
 
 -- The results of setting a thread. An error leaves the design unchanged.
-abbrev pub RecolourGives : {T : Type 0} → ℕ → ℕ → DesignValue → Result T EditFault → DesignValue
+abbrev pub IsRecolourResult : {T : Type 0} → ℕ → ℕ → DesignValue → Result T EditFault → DesignValue
     → Type 0
-RecolourGives place thread old (Ok _) new = (place < place_count old)
+IsRecolourResult place thread old (Ok _) new = (place < colour_place_count old)
     × (new ≡ recoloured place thread old)
-RecolourGives place thread old (Err (fault.Range number)) new = ⊥
-RecolourGives place thread old (Err (fault.NoPlace count)) new =
-    (place_count old ≤ place) × (count ≡ place_count old) × (new ≡ old)
+IsRecolourResult place thread old (Err (fault.Range number)) new = ⊥
+IsRecolourResult place thread old (Err (fault.NoPlace count)) new =
+    (colour_place_count old ≤ place) × (count ≡ colour_place_count old) × (new ≡ old)

@@ -2,5 +2,5 @@
 pub mod Moves
 pub mod Shifts
 pub mod Motions
-pub mod Laws
+pub mod Inverses
 pub mod Colours

@@ -7,14 +7,14 @@ use Rattle.design_edits.specs.declared.motion.TheConstants.{MAX_SHIFT}
 use Rattle.design_edits.specs.Moves.{mirror_point, shift_point, turn_point}
 
 -- The map over points that a motion is.
-abbrev pub moved : Motion → Point → Point
-moved (motion.Shift dx dy) = shift_point dx dy
-moved (motion.Turn quarters) = turn_point quarters
-moved (motion.Mirror a) = mirror_point a
+abbrev pub motion_map : Motion → Point → Point
+motion_map (motion.Shift dx dy) = shift_point dx dy
+motion_map (motion.Turn quarters) = turn_point quarters
+motion_map (motion.Mirror a) = mirror_point a
 
 -- The test whether a motion is within MAX_SHIFT; turns and mirrorings always are.
-abbrev pub is_small : Motion → Bool
-is_small (motion.Shift dx dy) = nat_le (unsigned_abs dx) MAX_SHIFT && nat_le
+abbrev pub is_small_motion : Motion → Bool
+is_small_motion (motion.Shift dx dy) = nat_le (unsigned_abs dx) MAX_SHIFT && nat_le
     (unsigned_abs dy) MAX_SHIFT
-is_small (motion.Turn quarters) = true
-is_small (motion.Mirror a) = true
+is_small_motion (motion.Turn quarters) = true
+is_small_motion (motion.Mirror a) = true

@@ -5,7 +5,7 @@ use Rattle.std.specs.List.{position_from}
 use Rattle.design_model.specs.declared.command.Command.{Command}
 use Rattle.design_model.specs.declared.command.Command.TheVariants.{Stitch, Jump, Trim, Stop}
 use Rattle.design_model.specs.declared.point.Point.{Point}
-use Rattle.design_model.specs.Commands.{is_in_range}
+use Rattle.design_model.specs.Commands.{is_command_in_range}
 use Rattle.design_model.specs.Designs.{DesignValue}
 use Rattle.design_edits.specs.declared.axis.Axis.{Axis}
 use Rattle.design_edits.specs.declared.axis.Axis.TheVariants as axis
@@ -52,5 +52,5 @@ abbrev pub mirrored : Axis → DesignValue → DesignValue
 mirrored a d = with_mapped_points (mirror_point a) d
 
 -- The number of the first command whose point is out of its range, counted from 1, if there is one.
-abbrev pub first_outside : List Command → Option ℕ
-first_outside commands = position_from (λ c. not (is_in_range c)) 1 commands
+abbrev pub first_out_of_range : List Command → Option ℕ
+first_out_of_range commands = position_from (λ c. not (is_command_in_range c)) 1 commands

@@ -1,7 +1,7 @@
 ghost use Rattle.std.specs.Prelude.{◌≡◌, ◌<◌, length, OnOk};
 ghost use Rattle.design_model.specs.declared.design.TheConstants.{MAX_THREADS};
 ghost use Rattle.design_model.specs.Designs.{thread_of, with_thread};
-ghost use Rattle.design_edits.specs.Colours.{RecolourGives, Recolours, place_count as number_of_places, threads_up_to};
+ghost use Rattle.design_edits.specs.Colours.{IsRecolourResult, Recolours, colour_place_count, threads_up_to};
 
 use crate::edit_fault::EditFault;
 use design_model::{Design, MAX_THREADS, counts};
@@ -10,7 +10,7 @@ use design_model::{Design, MAX_THREADS, counts};
 /// stored too.
 #[tactic(auto, using(crate::proofs::ColourLemmas::place_kept, crate::proofs::ColourLemmas::recolours_by))]
 pub fn recolour(design: &mut Design, place: u32, thread: u8) -> Result<(), EditFault>
-    ensures value { RecolourGives place thread design.old result design.new }
+    ensures value { IsRecolourResult place thread design.old result design.new }
     ensures threads { OnOk result (Recolours place thread design.old design.new) }
 {
     let count = place_count(design);
@@ -24,7 +24,7 @@ pub fn recolour(design: &mut Design, place: u32, thread: u8) -> Result<(), EditF
 
 /// Returns the number of blocks whose thread can be set.
 fn place_count(design: &Design) -> u32
-    ensures { result ≡ number_of_places design.now }
+    ensures { result ≡ colour_place_count design.now }
 {
     counts(design).stops.min(MAX_THREADS as u32 - 1) + 1
 }

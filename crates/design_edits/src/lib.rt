@@ -4,7 +4,7 @@
 mod axis;
 mod colours;
 mod edit_fault;
-mod laws;
+mod inverses;
 mod motion;
 mod moving;
 #[cfg(test)]
@@ -13,6 +13,8 @@ mod tests;
 pub use axis::Axis;
 pub use colours::recolour;
 pub use edit_fault::EditFault;
-pub use laws::{an_opposite_shift_restores, four_quarter_turns_restore, two_mirrorings_restore};
+pub use inverses::{
+    an_opposite_shift_restores, four_quarter_turns_restore, two_mirrorings_restore,
+};
 pub use motion::MAX_SHIFT;
 pub use moving::{mirror, shift, turn};

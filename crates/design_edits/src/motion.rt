@@ -1,8 +1,8 @@
 ghost use Rattle.std.specs.Prelude.{◌≡◌, ◌≤◌, ◌+ℤ◌, neg_ℤ, unsigned_abs, IsTrue};
 ghost use Rattle.design_model.specs.declared.point.TheConstants.{JUMP_LIMIT};
-ghost use Rattle.design_model.specs.Points.{is_within};
+ghost use Rattle.design_model.specs.Points.{is_point_within};
 ghost use Rattle.design_edits.specs.Moves.{mirror_point, quarter_point, shift_point, turn_point};
-ghost use Rattle.design_edits.specs.Motions.{is_small, moved};
+ghost use Rattle.design_edits.specs.Motions.{is_small_motion, motion_map};
 
 use crate::axis::Axis;
 use design_model::Point;
@@ -21,9 +21,9 @@ pub enum Motion {
 impl Motion {
     /// Returns the point after the motion.
     pub fn of(self, point: Point) -> Point
-        requires small { IsTrue (is_small self) }
-        requires point { IsTrue (is_within JUMP_LIMIT point) }
-        ensures { result ≡ moved self point }
+        requires small { IsTrue (is_small_motion self) }
+        requires point { IsTrue (is_point_within JUMP_LIMIT point) }
+        ensures { result ≡ motion_map self point }
     {
         match self {
             Motion::Shift { dx, dy } => shifted(point, dx, dy),
@@ -36,7 +36,7 @@ impl Motion {
 fn shifted(point: Point, dx: i32, dy: i32) -> Point
     requires dx { unsigned_abs dx ≤ MAX_SHIFT }
     requires dy { unsigned_abs dy ≤ MAX_SHIFT }
-    requires point { IsTrue (is_within JUMP_LIMIT point) }
+    requires point { IsTrue (is_point_within JUMP_LIMIT point) }
     ensures { result ≡ shift_point dx dy point }
 {
     Point {
@@ -46,7 +46,7 @@ fn shifted(point: Point, dx: i32, dy: i32) -> Point
 }
 
 fn turned(point: Point, quarters: u32) -> Point
-    requires { IsTrue (is_within JUMP_LIMIT point) }
+    requires { IsTrue (is_point_within JUMP_LIMIT point) }
     ensures { result ≡ turn_point quarters point }
 {
     let mut turned = point;
@@ -57,9 +57,9 @@ fn turned(point: Point, quarters: u32) -> Point
 }
 
 fn after_quarter(point: Point) -> Point
-    requires { IsTrue (is_within JUMP_LIMIT point) }
+    requires { IsTrue (is_point_within JUMP_LIMIT point) }
     ensures value { result ≡ quarter_point point }
-    ensures within { IsTrue (is_within JUMP_LIMIT result) }
+    ensures within { IsTrue (is_point_within JUMP_LIMIT result) }
 {
     Point {
         x: negated(point.y),
@@ -68,7 +68,7 @@ fn after_quarter(point: Point) -> Point
 }
 
 fn mirrored(point: Point, axis: Axis) -> Point
-    requires { IsTrue (is_within JUMP_LIMIT point) }
+    requires { IsTrue (is_point_within JUMP_LIMIT point) }
     ensures { result ≡ mirror_point axis point }
 {
     match axis {

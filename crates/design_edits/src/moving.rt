@@ -1,11 +1,11 @@
 ghost use Rattle.std.specs.Prelude.{◌≡◌, ◌≤◌, ◌<◌, length, map, unsigned_abs, slice_get, IfSome, IsTrue, Some, None};
 ghost use Rattle.std.specs.List.{list_all};
 ghost use Rattle.design_model.specs.declared.design.TheConstants.{MAX_COMMANDS};
-ghost use Rattle.design_model.specs.Commands.{is_in_range};
+ghost use Rattle.design_model.specs.Commands.{is_command_in_range};
 ghost use Rattle.design_model.specs.Designs.{KeepsLimits, with_command_at};
-ghost use Rattle.design_edits.specs.Motions.{is_small, moved};
-ghost use Rattle.design_edits.specs.Moves.{first_outside as first_out, mirrored, turned, with_mapped_point, with_mapped_points};
-ghost use Rattle.design_edits.specs.Shifts.{Shifts};
+ghost use Rattle.design_edits.specs.Motions.{is_small_motion, motion_map};
+ghost use Rattle.design_edits.specs.Moves.{first_out_of_range, mirrored, turned, with_mapped_point, with_mapped_points};
+ghost use Rattle.design_edits.specs.Shifts.{IsShiftResult};
 
 use crate::axis::Axis;
 use crate::edit_fault::EditFault;
@@ -17,7 +17,7 @@ use design_model::{Command, Design};
 pub fn shift(design: &mut Design, dx: i32, dy: i32) -> Result<(), EditFault>
     requires dx { unsigned_abs dx ≤ MAX_SHIFT }
     requires dy { unsigned_abs dy ≤ MAX_SHIFT }
-    ensures { Shifts dx dy design.old result design.new }
+    ensures { IsShiftResult dx dy design.old result design.new }
 {
     let motion = Motion::Shift { dx, dy };
     if let Some(number) = first_outside(design.commands(), motion) {
@@ -45,10 +45,10 @@ pub fn mirror(design: &mut Design, axis: Axis)
 
 /// Returns the number of the first command whose moved point would be out of its range.
 fn first_outside(commands: &[Command], motion: Motion) -> Option<u32>
-    requires small { IsTrue (is_small motion) }
+    requires small { IsTrue (is_small_motion motion) }
     requires count { length commands.now ≤ MAX_COMMANDS }
-    requires in_range { IsTrue (list_all is_in_range commands.now) }
-    ensures { result ≡ first_out (map (with_mapped_point (moved motion)) commands.now) }
+    requires in_range { IsTrue (list_all is_command_in_range commands.now) }
+    ensures { result ≡ first_out_of_range (map (with_mapped_point (motion_map motion)) commands.now) }
 {
     let mut number: u32 = 0;
     for command in commands {
@@ -61,9 +61,9 @@ fn first_outside(commands: &[Command], motion: Motion) -> Option<u32>
 }
 
 fn moved_command(command: Command, motion: Motion) -> Command
-    requires small { IsTrue (is_small motion) }
-    requires in_range { IsTrue (is_in_range command) }
-    ensures { result ≡ with_mapped_point (moved motion) command }
+    requires small { IsTrue (is_small_motion motion) }
+    requires in_range { IsTrue (is_command_in_range command) }
+    ensures { result ≡ with_mapped_point (motion_map motion) command }
 {
     match command {
         Command::Stitch(at) => Command::Stitch(motion.of(at)),
@@ -74,10 +74,10 @@ fn moved_command(command: Command, motion: Motion) -> Command
 
 /// Moves each point. All moved points are in their ranges.
 fn move_points(design: &mut Design, motion: Motion)
-    requires small { IsTrue (is_small motion) }
+    requires small { IsTrue (is_small_motion motion) }
     requires in_range { KeepsLimits design.old
-        → first_out (with_mapped_points (moved motion) design.old).commands ≡ None }
-    ensures { design.new ≡ with_mapped_points (moved motion) design.old }
+        → first_out_of_range (with_mapped_points (motion_map motion) design.old).commands ≡ None }
+    ensures { design.new ≡ with_mapped_points (motion_map motion) design.old }
 {
     for index in 0..design.commands().len() {
         move_point(design, index, motion);
@@ -86,12 +86,12 @@ fn move_points(design: &mut Design, motion: Motion)
 
 /// Moves the point of one command, if it has one.
 fn move_point(design: &mut Design, index: usize, motion: Motion)
-    requires small { IsTrue (is_small motion) }
+    requires small { IsTrue (is_small_motion motion) }
     requires there { index < length design.old.commands }
     requires in_range { IfSome (slice_get design.old.commands index)
-        (λ c. IsTrue (is_in_range (with_mapped_point (moved motion) c))) }
+        (λ c. IsTrue (is_command_in_range (with_mapped_point (motion_map motion) c))) }
     ensures { IfSome (slice_get design.old.commands index)
-        (λ c. design.new ≡ with_command_at design.old index (with_mapped_point (moved motion) c)) }
+        (λ c. design.new ≡ with_command_at design.old index (with_mapped_point (motion_map motion) c)) }
 {
     let command = design.commands()[index];
     if let Some(at) = command.target() {

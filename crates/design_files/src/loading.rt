@@ -1,7 +1,7 @@
 ghost use Rattle.std.specs.Prelude.{◌≡◌};
-ghost use Rattle.design_files.specs.Loading.{FeedsWhole, Loads};
-ghost use Rattle.format_traits.specs.Feeding.{IsFresh};
-ghost use Rattle.outside_io.specs.Files.{IsName};
+ghost use Rattle.design_files.specs.Loading.{FeedsFile, Loads};
+ghost use Rattle.format_traits.specs.Feeding.{HasNothingFed};
+ghost use Rattle.outside_io.specs.Files.{IsFileName};
 
 use design_model::Memory;
 use format_traits::{Format, Loaded, ReadFault, begin_by, feed_by, finish_by};
@@ -34,9 +34,9 @@ pub fn load<S: Store>(
     name: &str,
     format: &mut Box<dyn Format>,
 ) -> Result<Loaded, LoadFault>
-    requires { IsName name.now }
-    ensures loads { Loads (meaning format.old).reads name.now (S.sight store.old) (S.sight store.new) result }
-    ensures files { (S.sight store.new).files ≡ (S.sight store.old).files }
+    requires { IsFileName name.now }
+    ensures loads { Loads (meaning format.old).reads name.now (S.view store.old) (S.view store.new) result }
+    ensures files { (S.view store.new).files ≡ (S.view store.old).files }
     ensures same { meaning format.new ≡ meaning format.old }
 {
     begin_by(format);
@@ -54,11 +54,12 @@ fn feed_file<S: Store>(
     name: &str,
     format: &mut Box<dyn Format>,
 ) -> Result<(), GetFault>
-    requires name { IsName name.now }
-    requires fresh { IsFresh (meaning format.old).reads (meaning format.old).shown (feeding format.old) }
-    ensures feeds { FeedsWhole (meaning format.old).reads name.now (S.sight store.old) (S.sight store.new)
-        result (feeding format.new) }
-    ensures files { (S.sight store.new).files ≡ (S.sight store.old).files }
+    requires name { IsFileName name.now }
+    requires fresh { HasNothingFed (meaning format.old).reads (meaning format.old).shown
+        (feed_state format.old) }
+    ensures feeds { FeedsFile (meaning format.old).reads name.now (S.view store.old) (S.view store.new)
+        result (feed_state format.new) }
+    ensures files { (S.view store.new).files ≡ (S.view store.old).files }
     ensures same { meaning format.new ≡ meaning format.old }
 {
     let mut at = 0;

@@ -3,7 +3,7 @@ use Rattle.std.proofs.Common.{◌≡◌, ℤ, pos, true, false, [], ◌∷◌, r
 use Rattle.design_model.specs.declared.act.Act.TheVariants as act
 use Rattle.design_model.specs.declared.command.Command.TheVariants.{Stitch, Jump, Trim, Stop}
 use Rattle.design_model.specs.declared.point.Point.{Point}
-use Rattle.design_model.specs.Acts.{acts_along, bare, numbered}
+use Rattle.design_model.specs.Acts.{acts_along, acts_without_numbers, numbered}
 
 -- the point at that x on the axis
 abbrev pub at : ℤ → Point
@@ -16,7 +16,7 @@ known_first = refl
 
 -- a jump between two needles makes the second a float; after a trim it does not
 pub known_floats :
-    bare (acts_along (Stitch (at (pos 0)) ∷ Jump (at (pos 5)) ∷ Stitch (at (pos 5)) ∷ Trim
+    acts_without_numbers (acts_along (Stitch (at (pos 0)) ∷ Jump (at (pos 5)) ∷ Stitch (at (pos 5)) ∷ Trim
     ∷ Trim ∷ Jump (at (pos 9)) ∷ Stitch (at (pos 9)) ∷ []))
     ≡ act.Needle (at (pos 0)) false ∷ act.Needle (at (pos 5)) true ∷ act.Trim
     ∷ act.Needle (at (pos 9)) false ∷ []
@@ -30,11 +30,11 @@ known_stops = refl
 
 -- the needle after a float is none
 pub known_after_float :
-    bare (acts_along (Stitch (at (pos 1)) ∷ Jump (at (pos 2)) ∷ Stitch (at (pos 3)) ∷ Stitch (at (pos 4)) ∷ []))
+    acts_without_numbers (acts_along (Stitch (at (pos 1)) ∷ Jump (at (pos 2)) ∷ Stitch (at (pos 3)) ∷ Stitch (at (pos 4)) ∷ []))
     ≡ act.Needle (at (pos 1)) false ∷ act.Needle (at (pos 3)) true ∷ act.Needle (at (pos 4)) false ∷ []
 known_after_float = refl
 
 -- A jump after a stop makes no float.
-pub known_after_stop : bare (acts_along (Stitch (at (pos 1)) ∷ Stop ∷ Jump (at (pos 2)) ∷ Stitch (at (pos 3)) ∷ []))
+pub known_after_stop : acts_without_numbers (acts_along (Stitch (at (pos 1)) ∷ Stop ∷ Jump (at (pos 2)) ∷ Stitch (at (pos 3)) ∷ []))
     ≡ act.Needle (at (pos 1)) false ∷ act.Stop ∷ act.Needle (at (pos 3)) false ∷ []
 known_after_stop = refl

@@ -2,7 +2,7 @@
 use Rattle.std.proofs.Common.{◌≡◌, pos, false, [], ◌∷◌, map, refl}
 use Rattle.design_model.specs.declared.act.Act.TheVariants as act
 use Rattle.design_model.specs.declared.command.Command.TheVariants.{Stitch, Jump, Trim, Stop}
-use Rattle.design_model.specs.Acts.{acts_along, bare}
+use Rattle.design_model.specs.Acts.{acts_along, acts_without_numbers}
 use Rattle.design_model.specs.Blocks.{blocks_of, needles_by_block}
 use Rattle.design_model.proofs.ActFacts.{at}
 
@@ -24,6 +24,7 @@ pub known_bare_blocks :
 known_bare_blocks = refl
 
 -- the acts of blocks in order; the stops are in none
-pub known_acts : map bare (blocks_of (acts_along (Stitch (at (pos 9)) ∷ Trim ∷ Stop ∷ Stitch (at (pos 5)) ∷ Stitch (at (pos 6)) ∷ [])))
+pub known_acts : map acts_without_numbers (blocks_of
+    (acts_along (Stitch (at (pos 9)) ∷ Trim ∷ Stop ∷ Stitch (at (pos 5)) ∷ Stitch (at (pos 6)) ∷ [])))
     ≡ (act.Needle (at (pos 9)) false ∷ act.Trim ∷ []) ∷ (act.Needle (at (pos 5)) false ∷ act.Needle (at (pos 6)) false ∷ []) ∷ []
 known_acts = refl

@@ -8,36 +8,36 @@ use Rattle.design_model.specs.declared.act.Act.TheVariants as act
 use Rattle.design_model.specs.declared.act.NumberedAct.{NumberedAct}
 use Rattle.design_model.specs.ActKinds.{is_needle, is_stop}
 use Rattle.design_model.specs.Acts.{numbered}
-use Rattle.design_model.specs.Blocks.{blocks_of, carried, in_first, needles_by_block, with_first}
+use Rattle.design_model.specs.Blocks.{blocks_of, continued_block_counts, with_act_in_first_block, needles_by_block, with_needles_in_first_block}
 
 -- The blocks of an act and of the acts after it start with a block, to which no needle is added.
 none_more_in : (a : NumberedAct) (stops : Bool) (later : List (List NumberedAct))
-    → let blocks : List (List NumberedAct) = if stops then [] ∷ later else in_first a later in
-    with_first 0 (map (count_by is_needle) blocks) ≡ map (count_by is_needle) blocks
+    → let blocks : List (List NumberedAct) = if stops then [] ∷ later else with_act_in_first_block a later in
+    with_needles_in_first_block 0 (map (count_by is_needle) blocks) ≡ map (count_by is_needle) blocks
 none_more_in a true later = refl
 none_more_in a false [] = simp zero-add
 none_more_in a false (block ∷ later) = simp zero-add
 
 -- no needle more in the first block
-none_more : (acts : List NumberedAct) → with_first 0 (needles_by_block acts) ≡ needles_by_block acts
+none_more : (acts : List NumberedAct) → with_needles_in_first_block 0 (needles_by_block acts) ≡ needles_by_block acts
 none_more [] = refl
 none_more (a ∷ rest) = none_more_in a (is_stop a) (blocks_of rest)
 
 -- at the beginning no block ended, and the first has no needle
-pub carried_first : (acts : List NumberedAct) → carried [] 0 acts ≡ needles_by_block acts
+pub carried_first : (acts : List NumberedAct) → continued_block_counts [] 0 acts ≡ needles_by_block acts
 carried_first acts = none_more acts
 
 -- A stop appends the count of its block to the others, and starts the next block.
 pub carried_stop : (before after : List ℕ) (needles : ℕ) (a : Act)
     → after ≡ before ++ needles ∷ [] → a ≡ act.Stop → (n : ℕ) (rest : List NumberedAct)
-    → carried after 0 rest ≡ carried before needles (numbered n a ∷ rest)
+    → continued_block_counts after 0 rest ≡ continued_block_counts before needles (numbered n a ∷ rest)
 carried_stop before after needles a pushed stop n rest =
     rw (pushed, stop) (simp (append_assoc, none_more rest, add-zero))
 
 -- An act adds one block if it is a stop.
 length-parted : (a : NumberedAct) (stops : Bool) (later : List (List NumberedAct)) (count : ℕ)
     → length later ≡ count + 1
-    → length (if stops then [] ∷ later else in_first a later) ≡ (if stops then 1 else 0) + count + 1
+    → length (if stops then [] ∷ later else with_act_in_first_block a later) ≡ (if stops then 1 else 0) + count + 1
 length-parted a true later count is = omega arith
 length-parted a false [] count is = omega arith
 length-parted a false (block ∷ later) count is = omega arith

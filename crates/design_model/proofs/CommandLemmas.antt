@@ -6,10 +6,10 @@ use Rattle.std.specs.List.{list_all}
 use Rattle.design_model.specs.declared.command.Command.{Command}
 use Rattle.design_model.specs.declared.command.Command.TheVariants.{Stitch, Jump, Trim, Stop}
 use Rattle.design_model.specs.declared.point.Point.{Point}
-use Rattle.design_model.specs.Commands.{is_in_range, moved_to, takes_point}
+use Rattle.design_model.specs.Commands.{is_command_in_range, command_with_point, command_accepts_point}
 
 -- A command that accepts a point is in range there.
-taken_in_range : (c : Command) (p : Point) → IsTrue (takes_point c p) → IsTrue (is_in_range (moved_to c p))
+taken_in_range : (c : Command) (p : Point) → IsTrue (command_accepts_point c p) → IsTrue (is_command_in_range (command_with_point c p))
 taken_in_range (Stitch q) p takes = takes
 taken_in_range (Jump q) p takes = takes
 taken_in_range Trim p takes = refl
@@ -25,23 +25,23 @@ found_there (c ∷ rest) (suc i) found is = found_there rest i found is
 -- The replaced command can be computed from either of two equal ones.
 put_there : (cs : List Command) (i : ℕ) (found : Command) (p : Point) (looked_up : Option Command)
     → IfSome looked_up (λ c. found ≡ c)
-    → IfSome looked_up (λ c. set cs i (moved_to found p) ≡ set cs i (moved_to c p))
+    → IfSome looked_up (λ c. set cs i (command_with_point found p) ≡ set cs i (command_with_point c p))
 put_there cs i found p None same = tt
-put_there cs i found p (Some c) same = ap (λ x. set cs i (moved_to x p)) same
+put_there cs i found p (Some c) same = ap (λ x. set cs i (command_with_point x p)) same
 
 pub moved_in_place : (cs : List Command) (i : ℕ) (found : Command) (p : Point) → found ≡ get_or cs i found
-    → IfSome (slice_get cs i) (λ c. set cs i (moved_to found p) ≡ set cs i (moved_to c p))
+    → IfSome (slice_get cs i) (λ c. set cs i (command_with_point found p) ≡ set cs i (command_with_point c p))
 moved_in_place cs i found p is = put_there cs i found p (slice_get cs i) (found_there cs i found is)
 
 -- Commands in range remain in range.
 pub moved_in_range : (cs : List Command) (i : ℕ) (found : Command) (p : Point) → found ≡ get_or cs i found
-    → IsSomeAnd (slice_get cs i) (λ c. IsTrue (takes_point c p))
-    → IsTrue (list_all is_in_range cs) → IsTrue (list_all is_in_range (set cs i (moved_to found p)))
+    → IsSomeAnd (slice_get cs i) (λ c. IsTrue (command_accepts_point c p))
+    → IsTrue (list_all is_command_in_range cs) → IsTrue (list_all is_command_in_range (set cs i (command_with_point found p)))
 moved_in_range [] i found p is takes all = all
 moved_in_range (c ∷ rest) zero found p is takes all =
-    and_from (is_in_range (moved_to found p)) (list_all is_in_range rest)
-    (rw is (taken_in_range c p takes)) (and_parts (is_in_range c) (list_all is_in_range rest) all).1
+    and_from (is_command_in_range (command_with_point found p)) (list_all is_command_in_range rest)
+    (rw is (taken_in_range c p takes)) (and_parts (is_command_in_range c) (list_all is_command_in_range rest) all).1
 moved_in_range (c ∷ rest) (suc i) found p is takes all =
-    let both = and_parts (is_in_range c) (list_all is_in_range rest) all in
-    and_from (is_in_range c) (list_all is_in_range (set rest i (moved_to found p))) both.0
+    let both = and_parts (is_command_in_range c) (list_all is_command_in_range rest) all in
+    and_from (is_command_in_range c) (list_all is_command_in_range (set rest i (command_with_point found p))) both.0
     (moved_in_range rest i found p is takes both.1)

@@ -3,7 +3,7 @@ use Rattle.std.proofs.Common.{◌≡◌, ℤ, pos, negsuc, [], ◌∷◌, Some, 
 use Rattle.design_model.specs.declared.command.Command.TheVariants.{Stitch, Jump, Trim, Stop}
 use Rattle.design_model.specs.declared.point.Point.{Point}
 use Rattle.design_model.specs.Acts.{acts_along}
-use Rattle.design_model.specs.Extents.{Bounds, extent_of_points, height_of, needle_points, width_of}
+use Rattle.design_model.specs.Extents.{IsExtentOrNone, extent_of_points, extent_height, needle_points_of_acts, extent_width}
 
 -- the point with those coordinates
 abbrev pub place : ℤ → ℤ → Point
@@ -11,36 +11,36 @@ place x y = record { x = x; y = y }
 
 -- without a needle there is no extent
 pub known_no_needle :
-    extent_of_points (needle_points (acts_along (Jump (place (pos 9) (pos 9)) ∷ Trim ∷ Stop ∷ [])))
+    extent_of_points (needle_points_of_acts (acts_along (Jump (place (pos 9) (pos 9)) ∷ Trim ∷ Stop ∷ [])))
     ≡ None
 known_no_needle = refl
 
 -- one needle is its own extent, and the origin is not in it
 pub known_one_needle :
-    extent_of_points (needle_points (acts_along (Stitch (place (pos 3) (negsuc 4)) ∷ [])))
+    extent_of_points (needle_points_of_acts (acts_along (Stitch (place (pos 3) (negsuc 4)) ∷ [])))
     ≡ Some (record { min = place (pos 3) (negsuc 4); max = place (pos 3) (negsuc 4) })
 known_one_needle = refl
 
 -- needles at (-2, 7), (-9, -1) and (-4, 12), and a jump far away that does not count
 pub known_extent :
-    extent_of_points (needle_points (acts_along (Stitch (place (negsuc 1) (pos 7))
+    extent_of_points (needle_points_of_acts (acts_along (Stitch (place (negsuc 1) (pos 7))
     ∷ Jump (place (pos 500) (negsuc 499)) ∷ Stitch (place (negsuc 8) (negsuc 0)) ∷ Trim ∷ Stop
     ∷ Stitch (place (negsuc 3) (pos 12)) ∷ [])))
     ≡ Some (record { min = place (negsuc 8) (negsuc 0); max = place (negsuc 1) (pos 12) })
 known_extent = refl
 
 -- a width is measured from left to right, a height downwards
-pub known_width : width_of (Some (record { min = place (negsuc 8) (negsuc 0); max = place (negsuc 1) (pos 12) })) ≡ 7
+pub known_width : extent_width (Some (record { min = place (negsuc 8) (negsuc 0); max = place (negsuc 1) (pos 12) })) ≡ 7
 known_width = refl
 
-pub known_height : height_of (Some (record { min = place (negsuc 8) (negsuc 0); max = place (negsuc 1) (pos 12) })) ≡ 13
+pub known_height : extent_height (Some (record { min = place (negsuc 8) (negsuc 0); max = place (negsuc 1) (pos 12) })) ≡ 13
 known_height = refl
 
-pub known_none : width_of None ≡ height_of None
+pub known_none : extent_width None ≡ extent_height None
 known_none = refl
 
 -- a point has an extent
-pub known_some : Bounds (place (pos 3) (pos 4) ∷ []) None → ⊥
+pub known_some : IsExtentOrNone (place (pos 3) (pos 4) ∷ []) None → ⊥
 known_some none = some none
   where
     some : place (pos 3) (pos 4) ∷ [] ≡ [] → ⊥

@@ -6,7 +6,7 @@ use Rattle.std.specs.Prelude.{◌≤ℤ◌, fold}
 use Rattle.std.specs.Int.{int_min, int_max}
 use Rattle.design_model.specs.declared.bounds.Extent.{Extent}
 use Rattle.design_model.specs.declared.point.Point.{Point}
-use Rattle.design_model.specs.Extents.{Bounds, IsGreatest, IsLeast, columns, extent_of_points, rows}
+use Rattle.design_model.specs.Extents.{IsExtentOrNone, IsMaximum, IsMinimum, x_coordinates, extent_of_points, y_coordinates}
 
 -- a number that is the head or in the tail is in the list
 contains_from : (a r : ℤ) (xs : List ℤ) → (r ≡ a) ⊎ Contains xs r → Contains (a ∷ xs) r
@@ -14,7 +14,7 @@ contains_from a r xs (inl e) = (0, omega arith, sym e)
 contains_from a r xs (inr (k, below, e)) = (suc k, omega arith, e)
 
 -- the fold of the lesser is the least
-fold-least : (a : ℤ) (xs : List ℤ) → IsLeast (fold int_min a xs) (a ∷ xs)
+fold-least : (a : ℤ) (xs : List ℤ) → IsMinimum (fold int_min a xs) (a ∷ xs)
 fold-least a xs =
     let least = fold int_min a xs in
     let bounds = fold-int_min_bounds a xs least refl in
@@ -24,7 +24,7 @@ fold-least a xs =
     }
 
 -- the fold of the greater is the greatest
-fold-greatest : (a : ℤ) (xs : List ℤ) → IsGreatest (fold int_max a xs) (a ∷ xs)
+fold-greatest : (a : ℤ) (xs : List ℤ) → IsMaximum (fold int_max a xs) (a ∷ xs)
 fold-greatest a xs =
     let greatest = fold int_max a xs in
     let bounds = fold-int_max_bounds a xs greatest refl in
@@ -35,14 +35,14 @@ fold-greatest a xs =
 
 -- the extent of points has their least and greatest x and y
 pub bounds_of_points : (points : List Point) (extent : Option Extent)
-    → extent ≡ extent_of_points points → Bounds points extent
+    → extent ≡ extent_of_points points → IsExtentOrNone points extent
 bounds_of_points [] None is = refl
 bounds_of_points [] (Some extent) is = cc
 bounds_of_points (p ∷ rest) None is = cc
 bounds_of_points (p ∷ rest) (Some extent) is =
-    subst (λ e. Bounds (p ∷ rest) e) (sym is) (record {
-      left = fold-least p.x (columns rest);
-      top = fold-least p.y (rows rest);
-      right = fold-greatest p.x (columns rest);
-      bottom = fold-greatest p.y (rows rest);
+    subst (λ e. IsExtentOrNone (p ∷ rest) e) (sym is) (record {
+      left = fold-least p.x (x_coordinates rest);
+      top = fold-least p.y (y_coordinates rest);
+      right = fold-greatest p.x (x_coordinates rest);
+      bottom = fold-greatest p.y (y_coordinates rest);
     })

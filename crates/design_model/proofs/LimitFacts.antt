@@ -7,7 +7,7 @@ use Rattle.design_model.specs.declared.design.TheConstants.{MAX_COMMANDS, MAX_LA
 use Rattle.design_model.specs.declared.point.Point.{Point}
 use Rattle.design_model.specs.declared.point.TheConstants.{JUMP_LIMIT, NEEDLE_LIMIT}
 use Rattle.design_model.specs.declared.whole_number.TheConstants.{MAX_WHOLE}
-use Rattle.design_model.specs.Commands.{is_in_range, moved_to, takes_point, target_of}
+use Rattle.design_model.specs.Commands.{is_command_in_range, command_with_point, command_accepts_point, target_of}
 use Rattle.design_model.specs.Designs.{DesignValue, KeepsLimits, thread_of}
 use Rattle.design_model.specs.Labels.{IsLabel, IsPrintable}
 
@@ -28,17 +28,17 @@ farther = record { x = pos 30001; y = pos 0 }
 abbrev too_far : Point
 too_far = record { x = pos 0; y = pos 32768 }
 
-pub known_stitch : map (takes_point (Stitch farther)) (far ∷ farther ∷ []) ≡ true ∷ false ∷ []
+pub known_stitch : map (command_accepts_point (Stitch farther)) (far ∷ farther ∷ []) ≡ true ∷ false ∷ []
 known_stitch = refl
 
-pub known_jump_point : map (takes_point (Jump far)) (farther ∷ too_far ∷ []) ≡ true ∷ false ∷ []
+pub known_jump_point : map (command_accepts_point (Jump far)) (farther ∷ too_far ∷ []) ≡ true ∷ false ∷ []
 known_jump_point = refl
 
-pub known_no_point : takes_point Trim far ∷ takes_point Stop far ∷ [] ≡ false ∷ false ∷ []
+pub known_no_point : command_accepts_point Trim far ∷ command_accepts_point Stop far ∷ [] ≡ false ∷ false ∷ []
 known_no_point = refl
 
 -- The maximum distance of points.
-pub known_ranges : map is_in_range (Stitch far ∷ Stitch farther ∷ Jump farther ∷ Jump too_far ∷ Trim ∷ Stop ∷ [])
+pub known_ranges : map is_command_in_range (Stitch far ∷ Stitch farther ∷ Jump farther ∷ Jump too_far ∷ Trim ∷ Stop ∷ [])
     ≡ true ∷ false ∷ true ∷ false ∷ true ∷ true ∷ []
 known_ranges = refl
 
@@ -46,7 +46,7 @@ known_ranges = refl
 pub known_targets : map target_of (Stitch far ∷ Jump farther ∷ Trim ∷ Stop ∷ []) ≡ Some far ∷ Some farther ∷ None ∷ None ∷ []
 known_targets = refl
 
-pub known_moved : map (λ command. moved_to command far) (Stitch farther ∷ Jump farther ∷ Trim ∷ Stop ∷ [])
+pub known_moved : map (λ command. command_with_point command far) (Stitch farther ∷ Jump farther ∷ Trim ∷ Stop ∷ [])
     ≡ Stitch far ∷ Jump far ∷ Trim ∷ Stop ∷ []
 known_moved = refl
 
@@ -57,7 +57,7 @@ known_threads_of = refl
 
 -- The maximum numbers of a design.
 pub known_full : (d : DesignValue) → IsLabel d.label → length d.threads ≤ 255 → length d.commands ≤ 1000000
-    → IsTrue (list_all is_in_range d.commands) → KeepsLimits d
+    → IsTrue (list_all is_command_in_range d.commands) → KeepsLimits d
 known_full d label threads count in_range = record { label = label; threads = threads; count = count; in_range = in_range }
 
 pub known_commands : MAX_COMMANDS ≡ 1000000

@@ -24,9 +24,9 @@ acts_from n false jumped (Trim ∷ rest) = numbered n act.Trim ∷ acts_from (n 
 acts_from n loose jumped (Stop ∷ rest) = numbered n act.Stop ∷ acts_from (n + 1) true false rest
 
 -- The list of one numbered act, or the empty list for none.
-abbrev pub listed : ℕ → Option Act → List NumberedAct
-listed n (Some a) = numbered n a ∷ []
-listed n None = []
+abbrev pub numbered_act_list : ℕ → Option Act → List NumberedAct
+numbered_act_list n (Some a) = numbered n a ∷ []
+numbered_act_list n None = []
 
 -- The acts of a list of commands, numbered from 1.
 abbrev pub acts_along : List Command → List NumberedAct
@@ -37,5 +37,5 @@ abbrev pub acts_of : DesignValue → List NumberedAct
 acts_of d = acts_along d.commands
 
 -- Acts without their numbers.
-abbrev pub bare : List NumberedAct → List Act
-bare acts = map (λ a. a.act) acts
+abbrev pub acts_without_numbers : List NumberedAct → List Act
+acts_without_numbers acts = map (λ a. a.act) acts

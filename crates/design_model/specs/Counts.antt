@@ -8,8 +8,8 @@ use Rattle.design_model.specs.Acts.{acts_along}
 use Rattle.design_model.specs.Designs.{DesignValue}
 
 -- The counts of a list of commands.
-abbrev pub counts_along : List Command → Counts
-counts_along commands = record {
+abbrev pub counts_of_commands : List Command → Counts
+counts_of_commands commands = record {
   commands = length commands;
   needles = count_by is_needle (acts_along commands);
   trims = count_by is_trim (acts_along commands);
@@ -18,7 +18,7 @@ counts_along commands = record {
 
 -- The counts of a design: commands, needle acts, trim acts and stop acts.
 abbrev pub counts_of : DesignValue → Counts
-counts_of d = counts_along d.commands
+counts_of d = counts_of_commands d.commands
 
 -- The counts with further acts added to each kind.
 abbrev pub with_acts : Counts → List NumberedAct → Counts
@@ -29,5 +29,5 @@ with_acts counts acts = record counts {
 }
 
 -- The number of acts counted, over all kinds.
-abbrev pub counted : Counts → ℕ
-counted counts = counts.needles + counts.trims + counts.stops
+abbrev pub total_of_counts : Counts → ℕ
+total_of_counts counts = counts.needles + counts.trims + counts.stops

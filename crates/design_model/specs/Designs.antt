@@ -5,7 +5,7 @@ use Rattle.design_model.specs.declared.command.Command.{Command}
 use Rattle.design_model.specs.declared.design.ModelFault.{ModelFault}
 use Rattle.design_model.specs.declared.design.ModelFault.TheVariants as fault
 use Rattle.design_model.specs.declared.design.TheConstants.{MAX_COMMANDS, MAX_THREADS}
-use Rattle.design_model.specs.Commands.{is_in_range}
+use Rattle.design_model.specs.Commands.{is_command_in_range}
 use Rattle.design_model.specs.Labels.{IsLabel}
 
 -- A design: the bytes of the label, the thread numbers of the first blocks, and the commands.
@@ -19,7 +19,7 @@ pub record KeepsLimits (d : DesignValue) : Type 0 where
   pub label : IsLabel d.label
   pub threads : length d.threads ≤ MAX_THREADS
   pub count : length d.commands ≤ MAX_COMMANDS
-  pub in_range : IsTrue (list_all is_in_range d.commands)
+  pub in_range : IsTrue (list_all is_command_in_range d.commands)
 
 -- The design without label, threads and commands.
 abbrev pub empty_design : DesignValue
@@ -57,9 +57,10 @@ thread_of d block = unwrap_or (slice_get d.threads block) (1 + block % 64)
 abbrev pub Pushes : {T : Type 0} → Command → DesignValue → Result T ModelFault → DesignValue
     → Type 0
 Pushes c old (Ok _) new =
-    (is_in_range c ≡ true) × (length old.commands < MAX_COMMANDS) × (new ≡ with_command old c)
-Pushes c old (Err fault.Range) new = (is_in_range c ≡ false) × (new ≡ old)
+    (is_command_in_range c ≡ true) × (length old.commands < MAX_COMMANDS)
+    × (new ≡ with_command old c)
+Pushes c old (Err fault.Range) new = (is_command_in_range c ≡ false) × (new ≡ old)
 Pushes c old (Err fault.TooMany) new =
-    (is_in_range c ≡ true) × (length old.commands ≡ MAX_COMMANDS) × (new ≡ old)
+    (is_command_in_range c ≡ true) × (length old.commands ≡ MAX_COMMANDS) × (new ≡ old)
 Pushes c old (Err fault.Memory) new =
-    (is_in_range c ≡ true) × (length old.commands < MAX_COMMANDS) × (new ≡ old)
+    (is_command_in_range c ≡ true) × (length old.commands < MAX_COMMANDS) × (new ≡ old)

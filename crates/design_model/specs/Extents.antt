@@ -11,31 +11,31 @@ use Rattle.design_model.specs.Acts.{acts_of}
 use Rattle.design_model.specs.Designs.{DesignValue}
 
 -- The points of the needle acts in a list of acts.
-abbrev pub needle_points : List NumberedAct → List Point
-needle_points acts = filter_map needle_point acts
+abbrev pub needle_points_of_acts : List NumberedAct → List Point
+needle_points_of_acts acts = filter_map needle_point acts
 
 -- The points of the needle acts of a design.
-abbrev pub needle_points_of : DesignValue → List Point
-needle_points_of d = needle_points (acts_of d)
+abbrev pub needle_points_of_design : DesignValue → List Point
+needle_points_of_design d = needle_points_of_acts (acts_of d)
 
 -- The x coordinates of points.
-abbrev pub columns : List Point → List ℤ
-columns points = map (λ p. p.x) points
+abbrev pub x_coordinates : List Point → List ℤ
+x_coordinates points = map (λ p. p.x) points
 
 -- The y coordinates of points.
-abbrev pub rows : List Point → List ℤ
-rows points = map (λ p. p.y) points
+abbrev pub y_coordinates : List Point → List ℤ
+y_coordinates points = map (λ p. p.y) points
 
 -- The smallest extent that contains an extent and further points.
-abbrev pub grown : Extent → List Point → Extent
-grown extent points = record {
+abbrev pub grown_extent : Extent → List Point → Extent
+grown_extent extent points = record {
   min = record {
-    x = fold int_min extent.min.x (columns points);
-    y = fold int_min extent.min.y (rows points);
+    x = fold int_min extent.min.x (x_coordinates points);
+    y = fold int_min extent.min.y (y_coordinates points);
   };
   max = record {
-    x = fold int_max extent.max.x (columns points);
-    y = fold int_max extent.max.y (rows points);
+    x = fold int_max extent.max.x (x_coordinates points);
+    y = fold int_max extent.max.y (y_coordinates points);
   };
 }
 
@@ -46,45 +46,45 @@ extent_at p = record { min = p; max = p }
 -- The extent of a list of points; none for the empty list.
 abbrev pub extent_of_points : List Point → Option Extent
 extent_of_points [] = None
-extent_of_points (p ∷ rest) = Some (grown (extent_at p) rest)
+extent_of_points (p ∷ rest) = Some (grown_extent (extent_at p) rest)
 
 -- The extent of the needle points of a design.
 abbrev pub extent_of : DesignValue → Option Extent
-extent_of d = extent_of_points (needle_points_of d)
+extent_of d = extent_of_points (needle_points_of_design d)
 
 -- The smallest extent of an optional extent and further points.
-abbrev pub extended : Option Extent → List Point → Option Extent
-extended None points = extent_of_points points
-extended (Some extent) points = Some (grown extent points)
+abbrev pub grown_optional_extent : Option Extent → List Point → Option Extent
+grown_optional_extent None points = extent_of_points points
+grown_optional_extent (Some extent) points = Some (grown_extent extent points)
 
 -- The width of an extent, in tenths of a millimetre; 0 for none.
-abbrev pub width_of : Option Extent → ℕ
-width_of None = 0
-width_of (Some extent) = unsigned_abs (extent.max.x -ℤ extent.min.x)
+abbrev pub extent_width : Option Extent → ℕ
+extent_width None = 0
+extent_width (Some extent) = unsigned_abs (extent.max.x -ℤ extent.min.x)
 
 -- The height of an extent, in tenths of a millimetre; 0 for none.
-abbrev pub height_of : Option Extent → ℕ
-height_of None = 0
-height_of (Some extent) = unsigned_abs (extent.max.y -ℤ extent.min.y)
+abbrev pub extent_height : Option Extent → ℕ
+extent_height None = 0
+extent_height (Some extent) = unsigned_abs (extent.max.y -ℤ extent.min.y)
 
 -- The minimum of a list: an element that no element is below.
-pub record IsLeast (number : ℤ) (numbers : List ℤ) : Type 0 where
+pub record IsMinimum (number : ℤ) (numbers : List ℤ) : Type 0 where
   pub bound : All (λ n. number ≤ℤ n) numbers
   pub reached : Contains numbers number
 
 -- The maximum of a list: an element that no element is above.
-pub record IsGreatest (number : ℤ) (numbers : List ℤ) : Type 0 where
+pub record IsMaximum (number : ℤ) (numbers : List ℤ) : Type 0 where
   pub bound : All (λ n. n ≤ℤ number) numbers
   pub reached : Contains numbers number
 
 -- The extent of points, stated by its corners: the minimum and maximum x and y.
 pub record IsExtent (points : List Point) (extent : Extent) : Type 0 where
-  pub left : IsLeast extent.min.x (columns points)
-  pub top : IsLeast extent.min.y (rows points)
-  pub right : IsGreatest extent.max.x (columns points)
-  pub bottom : IsGreatest extent.max.y (rows points)
+  pub left : IsMinimum extent.min.x (x_coordinates points)
+  pub top : IsMinimum extent.min.y (y_coordinates points)
+  pub right : IsMaximum extent.max.x (x_coordinates points)
+  pub bottom : IsMaximum extent.max.y (y_coordinates points)
 
 -- The extent of points if there are any, and none for the empty list.
-abbrev pub Bounds : List Point → Option Extent → Type 0
-Bounds points None = points ≡ []
-Bounds points (Some extent) = IsExtent points extent
+abbrev pub IsExtentOrNone : List Point → Option Extent → Type 0
+IsExtentOrNone points None = points ≡ []
+IsExtentOrNone points (Some extent) = IsExtent points extent

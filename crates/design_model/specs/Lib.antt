@@ -6,11 +6,11 @@ pub mod Designs
 pub mod LongerDesigns
 pub mod Acts
 pub mod ActKinds
-pub mod ActPlaces
-pub mod ActWalks
+pub mod ActPositions
+pub mod ActScanners
 pub mod Counts
 pub mod Extents
 pub mod Blocks
 pub mod WholeNumbers
-pub mod WantOfMemory
+pub mod OutOfMemory
 pub mod TextLines

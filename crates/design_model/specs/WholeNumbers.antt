@@ -7,23 +7,24 @@ use Rattle.design_model.specs.declared.whole_number.Whole.{Whole}
 use Rattle.design_model.specs.declared.whole_number.Whole.TheVariants as whole
 
 -- The test whether a text is one or more decimal digits.
-abbrev pub is_numeral : List ℕ → Bool
-is_numeral [] = false
-is_numeral (c ∷ rest) = all_ascii_digits (c ∷ rest)
+abbrev pub is_digit_string : List ℕ → Bool
+is_digit_string [] = false
+is_digit_string (c ∷ rest) = all_ascii_digits (c ∷ rest)
 
 -- The integer with a sign and an absolute value.
-abbrev pub signed : Bool → ℕ → ℤ
-signed minus size = if minus then neg_ℤ (pos size) else pos size
+abbrev pub signed_number : Bool → ℕ → ℤ
+signed_number minus size = if minus then neg_ℤ (pos size) else pos size
 
 -- The number written by digits, given whether a minus sign precedes them.
-abbrev pub signed_whole : Bool → List ℕ → Whole
-signed_whole minus digits =
-    if not (is_numeral digits) then whole.NotANumber
+abbrev pub parsed_digits : Bool → List ℕ → Whole
+parsed_digits minus digits =
+    if not (is_digit_string digits) then whole.NotANumber
     else if nat_le (digits_value 10 digits) MAX_WHOLE then whole.Value
-    (signed minus (digits_value 10 digits))
+    (signed_number minus (digits_value 10 digits))
     else whole.Outside
 
 -- The number that a text represents. Byte 45 is the minus sign.
-abbrev pub whole_of : List ℕ → Whole
-whole_of [] = whole.NotANumber
-whole_of (c ∷ rest) = if c == 45 then signed_whole true rest else signed_whole false (c ∷ rest)
+abbrev pub parsed_whole : List ℕ → Whole
+parsed_whole [] = whole.NotANumber
+parsed_whole (c ∷ rest) = if c == 45 then parsed_digits true rest else parsed_digits false
+    (c ∷ rest)

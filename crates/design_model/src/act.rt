@@ -1,5 +1,5 @@
 ghost use Rattle.std.specs.Prelude.{◌≡◌};
-ghost use Rattle.design_model.specs.ActPlaces.{is_loose_after as is_loose, place_after as place_of};
+ghost use Rattle.design_model.specs.ActPositions.{leaves_thread_loose, needle_position_after};
 
 use crate::point::Point;
 
@@ -17,7 +17,7 @@ pub enum Act {
 impl Act {
     /// Returns whether the thread is loose after the act: a trim and a stop leave it loose.
     pub fn is_loose_after(self) -> bool
-        ensures { result ≡ is_loose self }
+        ensures { result ≡ leaves_thread_loose self }
     {
         match self {
             Act::Needle { .. } => false,
@@ -27,7 +27,7 @@ impl Act {
 
     /// Returns the position of the needle after the act: the new penetration, or `place` itself.
     pub fn place_after(self, place: Point) -> Point
-        ensures { result ≡ place_of place self }
+        ensures { result ≡ needle_position_after place self }
     {
         match self {
             Act::Needle { at, .. } => at,

@@ -1,10 +1,10 @@
 ghost use Rattle.std.specs.Prelude.{◌≡◌, ◌≤◌, ◌<◌, ◌+◌, ◌∷◌, ℕ, List, length, true, IfOk, OnOk};
 ghost use Rattle.design_model.specs.declared.act.NumberedAct.{NumberedAct as NumberedActValue};
 ghost use Rattle.design_model.specs.declared.design.TheConstants.{MAX_COMMANDS};
-ghost use Rattle.design_model.specs.ActPlaces.{is_loose_after};
+ghost use Rattle.design_model.specs.ActPositions.{leaves_thread_loose};
 ghost use Rattle.design_model.specs.Acts.{acts_along, numbered};
 ghost use Rattle.design_model.specs.Counts.{counts_of};
-ghost use Rattle.design_model.specs.Blocks.{carried, needles_by_block, needles_of_blocks};
+ghost use Rattle.design_model.specs.Blocks.{continued_block_counts, needles_by_block, needles_of_blocks};
 
 use crate::act::Act;
 use crate::command::Command;
@@ -45,7 +45,8 @@ fn block_counts_in(alloc: Global, commands: &[Command]) -> Result<Numbers, Memor
 fn needles_after(ended: &mut Numbers, needles: u32, act: Act) -> Result<u32, Memory>
     requires { needles < MAX_COMMANDS }
     ensures blocks { IfOk result (λ more. (n : ℕ) (rest : List NumberedActValue) →
-        carried ended.new more rest ≡ carried ended.old needles (numbered n act ∷ rest)) }
+        continued_block_counts ended.new more rest
+        ≡ continued_block_counts ended.old needles (numbered n act ∷ rest)) }
     ensures most { IfOk result (λ more. more ≤ needles + 1) }
     ensures ended { OnOk result (length ended.new ≤ length ended.old + 1) }
 {
@@ -59,9 +60,10 @@ fn needles_after(ended: &mut Numbers, needles: u32, act: Act) -> Result<u32, Mem
 #[cold]
 #[inline(never)]
 fn needles_after_cut(ended: &mut Numbers, needles: u32, act: Act) -> Result<u32, Memory>
-    requires { is_loose_after act ≡ true }
+    requires { leaves_thread_loose act ≡ true }
     ensures blocks { IfOk result (λ more. (n : ℕ) (rest : List NumberedActValue) →
-        carried ended.new more rest ≡ carried ended.old needles (numbered n act ∷ rest)) }
+        continued_block_counts ended.new more rest
+        ≡ continued_block_counts ended.old needles (numbered n act ∷ rest)) }
     ensures most { IfOk result (λ more. more ≤ needles) }
     ensures ended { OnOk result (length ended.new ≤ length ended.old + 1) }
 {

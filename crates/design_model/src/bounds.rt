@@ -1,5 +1,5 @@
 ghost use Rattle.std.specs.Prelude.{◌≡◌};
-ghost use Rattle.design_model.specs.Extents.{height_of, width_of};
+ghost use Rattle.design_model.specs.Extents.{extent_height, extent_width};
 
 use crate::point::Point;
 
@@ -13,7 +13,7 @@ pub struct Extent {
 
 /// Returns the width of an extent, in tenths of a millimetre; 0 for `None`.
 pub fn width(extent: Option<Extent>) -> u32
-    ensures { result ≡ width_of extent }
+    ensures { result ≡ extent_width extent }
 {
     match extent {
         Some(Extent { min, max }) => max.x.abs_diff(min.x),
@@ -23,7 +23,7 @@ pub fn width(extent: Option<Extent>) -> u32
 
 /// Returns the height of an extent, in tenths of a millimetre; 0 for `None`.
 pub fn height(extent: Option<Extent>) -> u32
-    ensures { result ≡ height_of extent }
+    ensures { result ≡ extent_height extent }
 {
     match extent {
         Some(Extent { min, max }) => max.y.abs_diff(min.y),

@@ -1,5 +1,5 @@
 ghost use Rattle.std.specs.Prelude.{◌≡◌};
-ghost use Rattle.design_model.specs.Commands.{is_in_range as command_is_in_range, moved_to as command_moved_to, takes_point as command_takes_point, target_of};
+ghost use Rattle.design_model.specs.Commands.{is_command_in_range, command_with_point, command_accepts_point, target_of};
 
 use crate::point::{JUMP_LIMIT, NEEDLE_LIMIT, Point};
 
@@ -19,7 +19,7 @@ pub enum Command {
 impl Command {
     /// Returns whether the point of the command, if any, is in the range of its kind.
     pub fn is_in_range(&self) -> bool
-        ensures { result ≡ command_is_in_range self.now }
+        ensures { result ≡ is_command_in_range self.now }
     {
         match self {
             Command::Stitch(at) => at.is_within(NEEDLE_LIMIT),
@@ -40,7 +40,7 @@ impl Command {
 
     /// Returns whether the command is a stitch or a jump and the point is in its range.
     pub fn takes_point(self, point: Point) -> bool
-        ensures { result ≡ command_takes_point self point }
+        ensures { result ≡ command_accepts_point self point }
     {
         match self {
             Command::Stitch(_) => point.is_within(NEEDLE_LIMIT),
@@ -51,7 +51,7 @@ impl Command {
 
     /// Returns the stitch or jump at another point; a trim or a stop is unchanged.
     pub fn moved_to(self, point: Point) -> Command
-        ensures { result ≡ command_moved_to self point }
+        ensures { result ≡ command_with_point self point }
     {
         match self {
             Command::Stitch(_) => Command::Stitch(point),

@@ -1,6 +1,6 @@
 ghost use Rattle.std.specs.Prelude.{◌≡◌, ◌<◌, ◌≤◌, ◌∷◌, ◌++◌, [], length, slice_get, slice_set, IfSome, IsSomeAnd, IsTrue};
 ghost use Rattle.std.specs.List.{list_all};
-ghost use Rattle.design_model.specs.Commands.{is_in_range, moved_to, takes_point};
+ghost use Rattle.design_model.specs.Commands.{is_command_in_range, command_with_point, command_accepts_point};
 ghost use Rattle.design_model.specs.Labels.{IsLabel};
 
 use crate::command::Command;
@@ -178,9 +178,9 @@ impl Design {
     /// Moves the stitch or the jump at `index` to a point in its range.
     pub fn put_point(&mut self, index: usize, point: Point)
         requires { IsSomeAnd (slice_get self.old.commands index)
-            (λ command. IsTrue (takes_point command point)) }
+            (λ command. IsTrue (command_accepts_point command point)) }
         ensures { IfSome (slice_get self.old.commands index)
-            (λ command. self.new ≡ with_command_at self.old index (moved_to command point)) }
+            (λ command. self.new ≡ with_command_at self.old index (command_with_point command point)) }
     {
         move_one(&mut self.commands, index, point);
     }
@@ -189,12 +189,13 @@ impl Design {
 #[tactic(auto, using(crate::proofs::CommandLemmas::moved_in_place, crate::proofs::CommandLemmas::moved_in_range))]
 fn move_one(commands: &mut Vec<Command>, index: usize, point: Point)
     requires { IsSomeAnd (slice_get commands.old.items index)
-        (λ command. IsTrue (takes_point command point)) }
+        (λ command. IsTrue (command_accepts_point command point)) }
     ensures moved { IfSome (slice_get commands.old.items index)
-        (λ command. commands.new.items ≡ slice_set commands.old.items index (moved_to command point)) }
+        (λ command. commands.new.items
+        ≡ slice_set commands.old.items index (command_with_point command point)) }
     ensures length { length commands.new.items ≡ length commands.old.items }
-    ensures in_range { IsTrue (list_all is_in_range commands.old.items)
-        → IsTrue (list_all is_in_range commands.new.items) }
+    ensures in_range { IsTrue (list_all is_command_in_range commands.old.items)
+        → IsTrue (list_all is_command_in_range commands.new.items) }
 {
     let command = commands[index];
     commands[index] = command.moved_to(point);

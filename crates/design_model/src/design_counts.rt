@@ -1,8 +1,8 @@
 ghost use Rattle.std.specs.Prelude.{◌≡◌, ◌≤◌, ◌<◌, ◌+◌, ◌∷◌, [], ℕ, length, true};
 ghost use Rattle.design_model.specs.declared.design.TheConstants.{MAX_COMMANDS};
-ghost use Rattle.design_model.specs.ActPlaces.{is_loose_after};
-ghost use Rattle.design_model.specs.Acts.{listed, numbered};
-ghost use Rattle.design_model.specs.Counts.{counts_of, counts_along, counted, with_acts};
+ghost use Rattle.design_model.specs.ActPositions.{leaves_thread_loose};
+ghost use Rattle.design_model.specs.Acts.{numbered_act_list, numbered};
+ghost use Rattle.design_model.specs.Counts.{counts_of, counts_of_commands, total_of_counts, with_acts};
 
 use crate::act::Act;
 use crate::command::Command;
@@ -19,7 +19,7 @@ pub fn counts(design: &Design) -> Counts
 
 fn counts_in(commands: &[Command]) -> Counts
     requires { length commands.now ≤ MAX_COMMANDS }
-    ensures { result ≡ counts_along commands.now }
+    ensures { result ≡ counts_of_commands commands.now }
 {
     let mut counts = Counts {
         commands: commands.len() as u32,
@@ -35,9 +35,9 @@ fn counts_in(commands: &[Command]) -> Counts
 }
 
 fn counts_with(counts: Counts, act: Option<Act>) -> Counts
-    requires { counted counts < MAX_COMMANDS }
-    ensures counts { (n : ℕ) → result ≡ with_acts counts (listed n act) }
-    ensures most { counted result ≤ counted counts + 1 }
+    requires { total_of_counts counts < MAX_COMMANDS }
+    ensures counts { (n : ℕ) → result ≡ with_acts counts (numbered_act_list n act) }
+    ensures most { total_of_counts result ≤ total_of_counts counts + 1 }
 {
     let Some(act) = act else {
         return counts;
@@ -55,10 +55,10 @@ fn counts_with(counts: Counts, act: Option<Act>) -> Counts
 #[cold]
 #[inline(never)]
 fn counts_with_cut(counts: Counts, act: Act) -> Counts
-    requires cut { is_loose_after act ≡ true }
-    requires most { counted counts < MAX_COMMANDS }
+    requires cut { leaves_thread_loose act ≡ true }
+    requires most { total_of_counts counts < MAX_COMMANDS }
     ensures counts { (n : ℕ) → result ≡ with_acts counts (numbered n act ∷ []) }
-    ensures most { counted result ≤ counted counts + 1 }
+    ensures most { total_of_counts result ≤ total_of_counts counts + 1 }
 {
     let mut more = counts;
     if let Act::Stop = act {

@@ -1,7 +1,7 @@
 ghost use Rattle.std.specs.Prelude.{◌≡◌, ◌∷◌, [], Some};
 ghost use Rattle.std.specs.Int.{int_min, int_max};
 ghost use Rattle.design_model.specs.Acts.{acts_along};
-ghost use Rattle.design_model.specs.Extents.{Bounds, extended, extent_of, extent_of_points, needle_points, needle_points_of};
+ghost use Rattle.design_model.specs.Extents.{IsExtentOrNone, grown_optional_extent, extent_of, extent_of_points, needle_points_of_acts, needle_points_of_design};
 
 use crate::act::Act;
 use crate::bounds::Extent;
@@ -15,13 +15,13 @@ use crate::thread_state::ThreadState;
 #[tactic(auto, using(crate::proofs::ExtentLemmas::bounds_of_points))]
 pub fn extent(design: &Design) -> Option<Extent>
     ensures value { result ≡ extent_of design.now }
-    ensures bounds { Bounds (needle_points_of design.now) result }
+    ensures bounds { IsExtentOrNone (needle_points_of_design design.now) result }
 {
     extent_in(design.commands())
 }
 
 fn extent_in(commands: &[Command]) -> Option<Extent>
-    ensures { result ≡ extent_of_points (needle_points (acts_along commands.now)) }
+    ensures { result ≡ extent_of_points (needle_points_of_acts (acts_along commands.now)) }
 {
     let mut extent = None;
     let mut thread = ThreadState::new();
@@ -34,7 +34,7 @@ fn extent_in(commands: &[Command]) -> Option<Extent>
 }
 
 fn extent_with(extent: Option<Extent>, at: Point) -> Extent
-    ensures { extended extent (at ∷ []) ≡ Some result }
+    ensures { grown_optional_extent extent (at ∷ []) ≡ Some result }
 {
     match extent {
         Some(Extent { min, max }) => Extent {

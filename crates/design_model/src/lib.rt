@@ -4,7 +4,7 @@
 
 mod act;
 mod act_lists;
-mod act_walk;
+mod act_scanner;
 mod block_needles;
 mod bounds;
 mod command;
@@ -22,7 +22,7 @@ mod whole_number;
 
 pub use act::{Act, NumberedAct};
 pub use act_lists::acts;
-pub use act_walk::ActWalk;
+pub use act_scanner::ActScanner;
 pub use block_needles::block_counts;
 pub use bounds::{Extent, height, width};
 pub use command::Command;

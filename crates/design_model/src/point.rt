@@ -1,5 +1,5 @@
 ghost use Rattle.std.specs.Prelude.{◌≡◌};
-ghost use Rattle.design_model.specs.Points.{is_within as point_is_within};
+ghost use Rattle.design_model.specs.Points.{is_point_within};
 
 /// The maximum absolute value of a needle coordinate, in tenths of a millimetre.
 pub const NEEDLE_LIMIT: u32 = 30_000;
@@ -18,7 +18,7 @@ pub struct Point {
 impl Point {
     /// Returns whether neither coordinate exceeds `limit` in absolute value.
     pub fn is_within(&self, limit: u32) -> bool
-        ensures { result ≡ point_is_within limit self.now }
+        ensures { result ≡ is_point_within limit self.now }
     {
         self.x.unsigned_abs() <= limit && self.y.unsigned_abs() <= limit
     }

@@ -1,5 +1,5 @@
 ghost use Rattle.std.specs.Prelude.{◌≡◌, ◌∷◌, ◌++◌, ◌+◌, ℕ, List, None, true, false};
-ghost use Rattle.design_model.specs.Acts.{acts_from, listed};
+ghost use Rattle.design_model.specs.Acts.{acts_from, numbered_act_list};
 ghost use Rattle.design_model.specs.Commands.{target_of};
 ghost use Rattle.design_model.specs.declared.command.Command.{Command as CommandValue};
 
@@ -29,7 +29,7 @@ impl ThreadState {
     pub fn step(&mut self, command: Command) -> Option<Act>
         ensures { (n : ℕ) (rest : List CommandValue) →
             acts_from n self.old.loose self.old.jumped (command ∷ rest)
-            ≡ listed n result ++ acts_from (n + 1) self.new.loose self.new.jumped rest }
+            ≡ numbered_act_list n result ++ acts_from (n + 1) self.new.loose self.new.jumped rest }
     {
         match command {
             Command::Stitch(at) => {
@@ -59,7 +59,7 @@ impl ThreadState {
         requires { target_of command ≡ None }
         ensures { (n : ℕ) (rest : List CommandValue) →
             acts_from n self.old.loose self.old.jumped (command ∷ rest)
-            ≡ listed n result ++ acts_from (n + 1) self.new.loose self.new.jumped rest }
+            ≡ numbered_act_list n result ++ acts_from (n + 1) self.new.loose self.new.jumped rest }
     {
         if let Command::Stop = command {
             self.settle(true);

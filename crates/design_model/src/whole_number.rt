@@ -2,7 +2,7 @@ ghost use Rattle.std.specs.Prelude.{◌≡◌, ◌+◌, ◌*◌, ◌≤◌, ◌�
 ghost use Rattle.std.specs.Char.{digit_value, is_ascii_digit};
 ghost use Rattle.std.specs.Str.{all_ascii_digits};
 ghost use Rattle.std.specs.Str.Parse.{digits_value};
-ghost use Rattle.design_model.specs.WholeNumbers.{is_numeral as is_a_numeral, signed as signed_by, signed_whole, whole_of};
+ghost use Rattle.design_model.specs.WholeNumbers.{is_digit_string, signed_number, parsed_digits, parsed_whole};
 
 /// The maximum absolute value of a whole number in a text.
 pub const MAX_WHOLE: u32 = 999_999_999;
@@ -20,7 +20,7 @@ pub enum Whole {
 
 /// Reads a text of any length as a whole number. Allocates nothing.
 pub fn parse_whole(word: &[u8]) -> Whole
-    ensures { result ≡ whole_of word.now }
+    ensures { result ≡ parsed_whole word.now }
 {
     match after_minus(word) {
         Some(digits) => parse_signed(true, digits),
@@ -31,7 +31,7 @@ pub fn parse_whole(word: &[u8]) -> Whole
 /// Returns the bytes after a leading minus sign, if there is one.
 fn after_minus(word: &[u8]) -> Option<&[u8]>
     ensures some { IfSome result (λ digits. word.now ≡ 45 ∷ digits.now) }
-    ensures none { IfNone result (whole_of word.now ≡ signed_whole false word.now) }
+    ensures none { IfNone result (parsed_whole word.now ≡ parsed_digits false word.now) }
 {
     match word {
         [first, digits @ ..] if *first == b'-' => Some(digits),
@@ -40,7 +40,7 @@ fn after_minus(word: &[u8]) -> Option<&[u8]>
 }
 
 fn parse_signed(minus: bool, digits: &[u8]) -> Whole
-    ensures { result ≡ signed_whole minus digits.now }
+    ensures { result ≡ parsed_digits minus digits.now }
 {
     if !is_numeral(digits) {
         return Whole::NotANumber;
@@ -54,13 +54,13 @@ fn parse_signed(minus: bool, digits: &[u8]) -> Whole
 
 fn signed(minus: bool, size: u32) -> i32
     requires { size ≤ MAX_WHOLE }
-    ensures { result ≡ signed_by minus size }
+    ensures { result ≡ signed_number minus size }
 {
     if minus { -(size as i32) } else { size as i32 }
 }
 
 fn is_numeral(digits: &[u8]) -> bool
-    ensures { result ≡ is_a_numeral digits.now }
+    ensures { result ≡ is_digit_string digits.now }
 {
     !digits.is_empty() && are_digits(digits)
 }

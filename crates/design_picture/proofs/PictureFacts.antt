@@ -7,8 +7,8 @@ use Rattle.design_model.specs.declared.point.Point.{Point}
 use Rattle.design_model.specs.Acts.{acts_along}
 use Rattle.design_picture.specs.Captions.{caption, mm_text}
 use Rattle.design_picture.specs.Colours.{colour_of}
-use Rattle.design_picture.specs.Pictures.{lines, unbegun}
-use Rattle.design_picture.specs.Sheets.{across, down, frame_text, picture_of}
+use Rattle.design_picture.specs.Pictures.{acts_and_end_text, initial_pen}
+use Rattle.design_picture.specs.Sheets.{sheet_width_of, sheet_height_of, frame_text, picture_of}
 
 abbrev pub point : ℤ → ℤ → Point
 point x y = record { x = x; y = y }
@@ -33,7 +33,7 @@ two_lines_shown = codes "<polyline stroke='#c8102e' points='0,0 30,0'/>"
     ∷ codes "<path class='stop' d='M0,40m-9,-9h18v18h-18z'/>"
     ∷ codes "</g>" ∷ codes "</svg>" ∷ []
 
-pub known_lines : lines unbegun (acts_along two_lines) ≡ ended two_lines_shown
+pub known_lines : acts_and_end_text initial_pen (acts_along two_lines) ≡ ended two_lines_shown
 unfolding digits
 known_lines = refl
 
@@ -52,13 +52,14 @@ unfolding digits
 known_picture = refl
 
 -- a stop that comes first is shown by the next colour alone; nothing leads to the first needle
-pub known_first_stop : lines unbegun (acts_along (Stop ∷ Stitch (point (negsuc 4) (pos 7)) ∷ Stitch (point (negsuc 0) (pos 8)) ∷ []))
+pub known_first_stop : acts_and_end_text initial_pen
+    (acts_along (Stop ∷ Stitch (point (negsuc 4) (pos 7)) ∷ Stitch (point (negsuc 0) (pos 8)) ∷ []))
     ≡ ended (codes "<polyline stroke='#0057b7' points='-5,7 -1,8'/>" ∷ codes "</g>" ∷ codes "</svg>" ∷ [])
 unfolding digits
 known_first_stop = refl
 
 -- without a needle nothing is shown
-pub known_nothing : lines unbegun (acts_along (Stop ∷ Trim ∷ [])) ≡ ended (codes "</g>" ∷ codes "</svg>" ∷ [])
+pub known_nothing : acts_and_end_text initial_pen (acts_along (Stop ∷ Trim ∷ [])) ≡ ended (codes "</g>" ∷ codes "</svg>" ∷ [])
 known_nothing = refl
 
 -- red, blue, green, orange, purple, teal, pink and brown, and red again for the ninth block
@@ -67,7 +68,8 @@ pub known_colours : map colour_of (0 ∷ 1 ∷ 2 ∷ 3 ∷ 4 ∷ 5 ∷ 6 ∷ 7 �
 known_colours = refl
 
 -- a trim and a stop one after the other have a mark each, and the way to the next needle begins where they stand
-pub known_two_marks : lines unbegun (acts_along (Stitch (point (pos 3) (pos 4)) ∷ Trim ∷ Stop ∷ Stitch (point (pos 8) (pos 9)) ∷ []))
+pub known_two_marks : acts_and_end_text initial_pen
+    (acts_along (Stitch (point (pos 3) (pos 4)) ∷ Trim ∷ Stop ∷ Stitch (point (pos 8) (pos 9)) ∷ []))
     ≡ ended (codes "<polyline stroke='#c8102e' points='3,4'/>"
     ∷ codes "<path class='trim' d='M3,4m-6,0a6,6,0,1,0,12,0a6,6,0,1,0,-12,0'/>"
     ∷ codes "<path class='stop' d='M3,4m-9,-9h18v18h-18z'/>"
@@ -94,10 +96,10 @@ unfolding digits
 known_lengths = refl
 
 -- a sheet holds the design, and the caption where that is wider
-pub known_sheets : map across (None ∷ Some (record { min = point (pos 0) (pos 0); max = point (pos 201) (pos 9) }) ∷ [])
+pub known_sheets : map sheet_width_of (None ∷ Some (record { min = point (pos 0) (pos 0); max = point (pos 201) (pos 9) }) ∷ [])
     ≡ 300 ∷ 301 ∷ []
 known_sheets = refl
 
-pub known_heights : map down (None ∷ Some (record { min = point (pos 0) (negsuc 9); max = point (pos 201) (pos 9) }) ∷ [])
+pub known_heights : map sheet_height_of (None ∷ Some (record { min = point (pos 0) (negsuc 9); max = point (pos 201) (pos 9) }) ∷ [])
     ≡ 220 ∷ 239 ∷ []
 known_heights = refl

@@ -7,8 +7,8 @@ use Rattle.design_model.specs.Acts.{acts_of}
 use Rattle.design_model.specs.Counts.{counts_of}
 use Rattle.design_model.specs.Designs.{DesignValue}
 use Rattle.design_model.specs.Extents.{extent_of}
-use Rattle.design_picture.specs.Pictures.{lines, unbegun}
-use Rattle.design_picture.specs.Sheets.{picture_of, top}
+use Rattle.design_picture.specs.Pictures.{acts_and_end_text, initial_pen}
+use Rattle.design_picture.specs.Sheets.{picture_of, top_text}
 
 pub two : (old a b t t' : List ℕ) → t ≡ old ++ a → t' ≡ t ++ b → t' ≡ old ++ (a ++ b)
 two old a b t t' first second = second ∙ ap (λ text. text ++ b) first ∙ append_assoc old a b
@@ -28,9 +28,9 @@ five old a b c d e t t' t'' u u' first second third fourth fifth =
     two old a (b ++ (c ++ (d ++ e))) t u' first (four t b c d e t' t'' u u' second third fourth fifth)
 
 pub whole : (d : DesignValue) (extent : Option Extent) (counts : Counts) (empty t t' : List ℕ) → empty ≡ []
-    → extent ≡ extent_of d → counts ≡ counts_of d → t ≡ empty ++ top counts extent
-    → t' ≡ t ++ lines unbegun (acts_of d) → t' ≡ picture_of d
+    → extent ≡ extent_of d → counts ≡ counts_of d → t ≡ empty ++ top_text counts extent
+    → t' ≡ t ++ acts_and_end_text initial_pen (acts_of d) → t' ≡ picture_of d
 whole d extent counts empty t t' none extent_is counts_is first second =
-    second ∙ ap (λ text. text ++ lines unbegun (acts_of d))
-    (first ∙ ap (λ text. text ++ top counts extent) none ∙ ap (λ n. top n extent) counts_is
-    ∙ ap (λ e. top (counts_of d) e) extent_is)
+    second ∙ ap (λ text. text ++ acts_and_end_text initial_pen (acts_of d))
+    (first ∙ ap (λ text. text ++ top_text counts extent) none ∙ ap (λ n. top_text n extent) counts_is
+    ∙ ap (λ e. top_text (counts_of d) e) extent_is)

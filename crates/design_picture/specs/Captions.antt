@@ -4,7 +4,7 @@ use Rattle.std.specs.Fmt.{decimal, signed_decimal}
 use Rattle.design_model.specs.declared.bounds.Extent.{Extent}
 use Rattle.design_model.specs.declared.point.Point.{Point}
 use Rattle.design_model.specs.declared.tally.Counts.{Counts}
-use Rattle.design_model.specs.Extents.{extent_at, height_of, width_of}
+use Rattle.design_model.specs.Extents.{extent_at, extent_height, extent_width}
 use Rattle.design_model.specs.Points.{origin}
 
 -- The corners of the extent of the needles; the origin for both without a needle.
@@ -17,27 +17,28 @@ abbrev pub mm_text : ℕ → List ℕ
 mm_text tenths = decimal (tenths / 10) ++ (codes "." ++ decimal (tenths % 10))
 
 -- The lower left corner of the needles, from which the caption is placed.
-abbrev pub caption_at : Extent → Point
-caption_at extent = record { x = extent.min.x; y = extent.max.y }
+abbrev pub caption_corner : Extent → Point
+caption_corner extent = record { x = extent.min.x; y = extent.max.y }
 
 -- The start of a line of text, at a distance below a point.
-abbrev pub line_start : Point → List ℕ → List ℕ
-line_start p below = codes "<text x='" ++ (signed_decimal p.x ++ (codes "' y='"
+abbrev pub caption_line_start : Point → List ℕ → List ℕ
+caption_line_start p below = codes "<text x='" ++ (signed_decimal p.x ++ (codes "' y='"
     ++ (signed_decimal p.y ++ (codes "' dy='" ++ (below ++ codes "'>")))))
 
 -- A line with a word and a count.
 abbrev pub counted_line : Point → List ℕ → List ℕ → ℕ → List ℕ
-counted_line p below word count = line_start p below
+counted_line p below word count = caption_line_start p below
     ++ (word ++ (decimal count ++ (codes "</text>" ++ 10 ∷ [])))
 
 -- The text of a design's size: width and height in millimetres.
-abbrev pub size_text : Option Extent → List ℕ
-size_text extent = mm_text (width_of extent) ++ (codes " x " ++ mm_text (height_of extent))
+abbrev pub caption_size_text : Option Extent → List ℕ
+caption_size_text extent = mm_text (extent_width extent)
+    ++ (codes " x " ++ mm_text (extent_height extent))
 
 -- The line of text with the design's size.
 abbrev pub size_line : Point → Option Extent → List ℕ
-size_line p extent = line_start p (codes "155")
-    ++ (size_text extent ++ (codes " mm</text>" ++ 10 ∷ []))
+size_line p extent = caption_line_start p (codes "155")
+    ++ (caption_size_text extent ++ (codes " mm</text>" ++ 10 ∷ []))
 
 -- The four lines of a caption, each at its distance below a point.
 abbrev pub caption_lines : Point → Counts → Option Extent → List ℕ
@@ -49,4 +50,4 @@ caption_lines p counts extent =
 
 -- The caption of a design with these counts and this extent.
 abbrev pub caption : Counts → Option Extent → List ℕ
-caption counts extent = caption_lines (caption_at (corners extent)) counts extent
+caption counts extent = caption_lines (caption_corner (corners extent)) counts extent

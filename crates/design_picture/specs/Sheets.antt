@@ -8,22 +8,22 @@ use Rattle.design_model.specs.declared.tally.Counts.{Counts}
 use Rattle.design_model.specs.Acts.{acts_of}
 use Rattle.design_model.specs.Counts.{counts_of}
 use Rattle.design_model.specs.Designs.{DesignValue}
-use Rattle.design_model.specs.Extents.{extent_of, height_of, width_of}
-use Rattle.design_picture.specs.declared.sheet.TheConstants.{CAPTION_HEIGHT, LEAST_WIDTH, MARGIN}
+use Rattle.design_model.specs.Extents.{extent_of, extent_height, extent_width}
+use Rattle.design_picture.specs.declared.sheet.TheConstants.{CAPTION_HEIGHT, MIN_WIDTH, MARGIN}
 use Rattle.design_picture.specs.Captions.{caption, corners, mm_text}
-use Rattle.design_picture.specs.Pictures.{lines, unbegun}
+use Rattle.design_picture.specs.Pictures.{acts_and_end_text, initial_pen}
 
 -- The width of a picture, from the extent of the needles.
-abbrev pub across : Option Extent → ℕ
-across extent = max (width_of extent) LEAST_WIDTH + 2 * MARGIN
+abbrev pub sheet_width_of : Option Extent → ℕ
+sheet_width_of extent = max (extent_width extent) MIN_WIDTH + 2 * MARGIN
 
 -- The height of a picture, from the extent of the needles.
-abbrev pub down : Option Extent → ℕ
-down extent = height_of extent + 2 * MARGIN + CAPTION_HEIGHT
+abbrev pub sheet_height_of : Option Extent → ℕ
+sheet_height_of extent = extent_height extent + 2 * MARGIN + CAPTION_HEIGHT
 
 -- The start of a picture, with its size in millimetres.
-abbrev pub size_text : ℕ → ℕ → List ℕ
-size_text width height = codes "<svg xmlns='http://www.w3.org/2000/svg' width='"
+abbrev pub sheet_size_text : ℕ → ℕ → List ℕ
+sheet_size_text width height = codes "<svg xmlns='http://www.w3.org/2000/svg' width='"
     ++ (mm_text width ++ (codes "mm' height='" ++ (mm_text height ++ codes "mm'")))
 
 -- The text of a corner: its x and its y.
@@ -36,21 +36,22 @@ frame_text corner width height = codes " viewBox='" ++ (corner_text corner
     ++ (decimal width ++ (codes " " ++ (decimal height ++ (codes "'>" ++ 10 ∷ [])))))
 
 -- The style of text, dashed lines and marks, and the group that moves all shapes by the margin.
-abbrev pub style : List ℕ
-style = codes "<style>text{font:22px sans-serif;fill:#333;stroke:none}"
+abbrev pub style_text : List ℕ
+style_text = codes "<style>text{font:22px sans-serif;fill:#333;stroke:none}"
     ++ (codes ".travel{stroke:#777;stroke-width:1.5;stroke-dasharray:6 5}"
     ++ (codes ".trim,.stop{stroke:#000;stroke-width:1.5}</style>" ++ (10 ∷
     (codes "<g transform='translate(50,50)' fill='none' stroke-width='4'>" ++ 10 ∷ []))))
 
 -- The text of a picture before the caption.
-abbrev pub head : Option Extent → List ℕ
-head extent = size_text (across extent) (down extent)
-    ++ (frame_text (corners extent).min (across extent) (down extent) ++ style)
+abbrev pub head_text : Option Extent → List ℕ
+head_text extent = sheet_size_text (sheet_width_of extent) (sheet_height_of extent)
+    ++ (frame_text (corners extent).min (sheet_width_of extent) (sheet_height_of extent)
+    ++ style_text)
 
 -- The text of a picture before its acts, for a design with these counts and this extent.
-abbrev pub top : Counts → Option Extent → List ℕ
-top counts extent = head extent ++ caption counts extent
+abbrev pub top_text : Counts → Option Extent → List ℕ
+top_text counts extent = head_text extent ++ caption counts extent
 
 -- The picture of a design.
 abbrev pub picture_of : DesignValue → List ℕ
-picture_of d = top (counts_of d) (extent_of d) ++ lines unbegun (acts_of d)
+picture_of d = top_text (counts_of d) (extent_of d) ++ acts_and_end_text initial_pen (acts_of d)

@@ -1,5 +1,5 @@
 ghost use Rattle.std.specs.Prelude.{◌≡◌, ◌++◌, OnOk};
-ghost use Rattle.design_picture.specs.Captions.{caption, caption_at, counted_line, line_start, size_line, size_text};
+ghost use Rattle.design_picture.specs.Captions.{caption, caption_corner, counted_line, caption_line_start, size_line, caption_size_text};
 
 use crate::numbers::{put_mm, put_number, put_signed};
 use crate::sheet::corners_in;
@@ -23,7 +23,7 @@ pub(crate) fn put_caption(
 
 /// Returns the lower left corner of an extent.
 fn caption_place(extent: Extent) -> Point
-    ensures { result ≡ caption_at extent }
+    ensures { result ≡ caption_corner extent }
 {
     Point {
         x: extent.min.x,
@@ -58,7 +58,7 @@ fn put_size_line(text: &mut Bytes, at: Point, extent: Option<Extent>) -> Result<
 }
 
 fn put_size(text: &mut Bytes, extent: Option<Extent>) -> Result<(), Memory>
-    ensures { OnOk result (text.new ≡ text.old ++ size_text extent) }
+    ensures { OnOk result (text.new ≡ text.old ++ caption_size_text extent) }
 {
     put_mm(text, width(extent) as u64)?;
     text.append(b" x ")?;
@@ -67,7 +67,7 @@ fn put_size(text: &mut Bytes, extent: Option<Extent>) -> Result<(), Memory>
 }
 
 fn put_start(text: &mut Bytes, at: Point, below: &[u8]) -> Result<(), Memory>
-    ensures { OnOk result (text.new ≡ text.old ++ line_start at below.now) }
+    ensures { OnOk result (text.new ≡ text.old ++ caption_line_start at below.now) }
 {
     text.append(b"<text x='")?;
     put_signed(text, at.x)?;

@@ -1,6 +1,6 @@
 ghost use Rattle.std.specs.Prelude.{◌≡◌, ◌++◌, OnOk};
 ghost use Rattle.std.specs.Fmt.{decimal, signed_decimal};
-ghost use Rattle.design_picture.specs.Shapes.{point_text};
+ghost use Rattle.design_picture.specs.Shapes.{svg_point_text};
 ghost use Rattle.design_picture.specs.Captions.{mm_text};
 
 use design_model::{Bytes, Memory, Point};
@@ -36,7 +36,7 @@ pub(crate) fn put_mm(text: &mut Bytes, tenths: u64) -> Result<(), Memory>
 
 /// Appends a point, with a comma between its coordinates.
 pub(crate) fn put_point(text: &mut Bytes, at: Point) -> Result<(), Memory>
-    ensures { OnOk result (text.new ≡ text.old ++ point_text at) }
+    ensures { OnOk result (text.new ≡ text.old ++ svg_point_text at) }
 {
     put_signed(text, at.x)?;
     text.append(b",")?;

@@ -5,7 +5,7 @@ use design_model::{Act, Point};
 
 /// The state of the polyline that is drawn.
 #[derive(Clone, Copy, Debug, PartialEq, Eq)]
-pub enum Line {
+pub enum PenLine {
     /// No needle was drawn yet.
     Unbegun,
     /// A polyline is open, and its last point is this needle.
@@ -18,7 +18,7 @@ pub enum Line {
 #[derive(Clone, Copy, Debug, PartialEq, Eq)]
 pub struct Pen {
     pub stops: u32,
-    pub line: Line,
+    pub line: PenLine,
 }
 
 impl Pen {
@@ -31,7 +31,7 @@ impl Pen {
         match act {
             Act::Needle { at, .. } => Pen {
                 stops: self.stops,
-                line: Line::Open(at),
+                line: PenLine::Open(at),
             },
             Act::Trim => Pen {
                 stops: self.stops,
@@ -45,16 +45,16 @@ impl Pen {
     }
 }
 
-impl Line {
+impl PenLine {
     ghost use Rattle.design_picture.specs.Pictures.{loosened};
 
     /// Returns the state of the polyline after a trim or a stop.
-    fn loosened(self) -> Line
+    fn loosened(self) -> PenLine
         ensures { result ≡ loosened self }
     {
         match self {
-            Line::Open(at) => Line::Ended(at),
-            Line::Unbegun | Line::Ended(_) => self,
+            PenLine::Open(at) => PenLine::Ended(at),
+            PenLine::Unbegun | PenLine::Ended(_) => self,
         }
     }
 }

@@ -1,6 +1,6 @@
 ghost use Rattle.std.specs.Prelude.{◌≡◌, ◌++◌, OnOk};
 ghost use Rattle.design_picture.specs.Colours.{colour_of};
-ghost use Rattle.design_picture.specs.Shapes.{closing, mark, opening, stop_mark, travel, trim_mark};
+ghost use Rattle.design_picture.specs.Shapes.{shape_end, mark_text, polyline_start, stop_mark, travel, trim_mark};
 
 use crate::colours::colour;
 use crate::numbers::put_point;
@@ -8,7 +8,7 @@ use design_model::{Bytes, Memory, Point};
 
 /// Begins a polyline in the colour of the block after `stops` stops.
 pub(crate) fn put_opening(text: &mut Bytes, stops: u32, at: Point) -> Result<(), Memory>
-    ensures { OnOk result (text.new ≡ text.old ++ opening stops at) }
+    ensures { OnOk result (text.new ≡ text.old ++ polyline_start stops at) }
 {
     text.append(b"<polyline stroke='")?;
     put_colour(text, stops)?;
@@ -26,7 +26,7 @@ fn put_colour(text: &mut Bytes, stops: u32) -> Result<(), Memory>
 
 /// Ends a shape.
 pub(crate) fn put_closing(text: &mut Bytes) -> Result<(), Memory>
-    ensures { OnOk result (text.new ≡ text.old ++ closing) }
+    ensures { OnOk result (text.new ≡ text.old ++ shape_end) }
 {
     text.append(b"'/>\n")?;
     Ok(())
@@ -66,7 +66,7 @@ pub(crate) fn put_stop_mark(text: &mut Bytes, at: Point) -> Result<(), Memory>
 }
 
 fn put_mark(text: &mut Bytes, kind: &[u8], strokes: &[u8], at: Point) -> Result<(), Memory>
-    ensures { OnOk result (text.new ≡ text.old ++ mark kind.now strokes.now at) }
+    ensures { OnOk result (text.new ≡ text.old ++ mark_text kind.now strokes.now at) }
 {
     text.append(kind)?;
     put_point(text, at)?;

@@ -1,6 +1,6 @@
 ghost use Rattle.std.specs.Prelude.{◌≡◌, ◌++◌, OnOk};
 ghost use Rattle.design_picture.specs.Captions.{corners};
-ghost use Rattle.design_picture.specs.Sheets.{across, corner_text, down, frame_text, head, size_text, style};
+ghost use Rattle.design_picture.specs.Sheets.{sheet_width_of, corner_text, sheet_height_of, frame_text, head_text, sheet_size_text, style_text};
 
 use crate::numbers::{put_mm, put_number, put_signed};
 use design_model::{Bytes, Extent, Memory, Point, height, width};
@@ -9,14 +9,14 @@ use design_model::{Bytes, Extent, Memory, Point, height, width};
 pub const MARGIN: u32 = 50;
 
 /// The least width of the space for a design, in tenths of a millimetre: that of the caption.
-pub const LEAST_WIDTH: u32 = 200;
+pub const MIN_WIDTH: u32 = 200;
 
 /// The space for the caption below a design, in tenths of a millimetre.
 pub const CAPTION_HEIGHT: u32 = 120;
 
 /// Appends the text before the caption.
 pub(crate) fn put_head(text: &mut Bytes, extent: Option<Extent>) -> Result<(), Memory>
-    ensures { OnOk result (text.new ≡ text.old ++ head extent) }
+    ensures { OnOk result (text.new ≡ text.old ++ head_text extent) }
 {
     put_size(text, sheet_width(extent), sheet_height(extent))?;
     put_frame(text, extent, sheet_width(extent), sheet_height(extent))?;
@@ -26,7 +26,7 @@ pub(crate) fn put_head(text: &mut Bytes, extent: Option<Extent>) -> Result<(), M
 
 /// Appends the size of the picture, in millimetres.
 fn put_size(text: &mut Bytes, width: u64, height: u64) -> Result<(), Memory>
-    ensures { OnOk result (text.new ≡ text.old ++ size_text width height) }
+    ensures { OnOk result (text.new ≡ text.old ++ sheet_size_text width height) }
 {
     text.append(
         b"<svg xmlns='http://\
@@ -68,7 +68,7 @@ fn put_corner(text: &mut Bytes, corner: Point) -> Result<(), Memory>
 }
 
 fn put_style(text: &mut Bytes) -> Result<(), Memory>
-    ensures { OnOk result (text.new ≡ text.old ++ style) }
+    ensures { OnOk result (text.new ≡ text.old ++ style_text) }
 {
     text.append(b"<style>text{font:22px sans-serif;fill:#333;stroke:none}")?;
     text.append(b".travel{stroke:#777;stroke-width:1.5;stroke-dasharray:6 5}")?;
@@ -91,13 +91,13 @@ pub(crate) fn corners_in(extent: Option<Extent>) -> Extent
 }
 
 fn sheet_width(extent: Option<Extent>) -> u64
-    ensures { result ≡ across extent }
+    ensures { result ≡ sheet_width_of extent }
 {
-    width(extent).max(LEAST_WIDTH) as u64 + 2 * MARGIN as u64
+    width(extent).max(MIN_WIDTH) as u64 + 2 * MARGIN as u64
 }
 
 fn sheet_height(extent: Option<Extent>) -> u64
-    ensures { result ≡ down extent }
+    ensures { result ≡ sheet_height_of extent }
 {
     height(extent) as u64 + 2 * MARGIN as u64 + CAPTION_HEIGHT as u64
 }

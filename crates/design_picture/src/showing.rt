@@ -1,16 +1,16 @@
 ghost use Rattle.std.specs.Prelude.{◌≡◌, ◌++◌, IfOk, OnOk};
 ghost use Rattle.design_model.specs.Acts.{acts_of};
-ghost use Rattle.design_picture.specs.declared.pen.Line.TheVariants.{Open};
-ghost use Rattle.design_picture.specs.Pictures.{act_text, begun, cut_text, end_text, lines, needle_text, unbegun};
+ghost use Rattle.design_picture.specs.declared.pen.PenLine.TheVariants.{Open};
+ghost use Rattle.design_picture.specs.Pictures.{act_text, travel_and_opening, thread_cut_text, end_text, acts_and_end_text, needle_text, initial_pen};
 ghost use Rattle.design_picture.specs.Shapes.{stop_mark, trim_mark};
-ghost use Rattle.design_picture.specs.Sheets.{picture_of, top};
+ghost use Rattle.design_picture.specs.Sheets.{picture_of, top_text};
 
 use crate::caption::put_caption;
 use crate::numbers::put_point;
-use crate::pen::{Line, Pen};
+use crate::pen::{Pen, PenLine};
 use crate::shapes::{put_closing, put_opening, put_stop_mark, put_travel, put_trim_mark};
 use crate::sheet::put_head;
-use design_model::{Act, ActWalk, Bytes, Counts, Design, Extent, Memory, Point, counts, extent};
+use design_model::{Act, ActScanner, Bytes, Counts, Design, Extent, Memory, Point, counts, extent};
 use std::alloc::Global;
 
 /// Returns the picture of a design, a text of SVG 1.1, the standard of the World Wide Web Consortium. A unit
@@ -26,7 +26,7 @@ pub fn picture(alloc: Global, design: &Design) -> Result<Bytes, Memory>
 
 /// Appends the text before the acts.
 fn put_top(text: &mut Bytes, counts: Counts, extent: Option<Extent>) -> Result<(), Memory>
-    ensures { OnOk result (text.new ≡ text.old ++ top counts extent) }
+    ensures { OnOk result (text.new ≡ text.old ++ top_text counts extent) }
 {
     put_head(text, extent)?;
     put_caption(text, counts, extent)?;
@@ -35,13 +35,13 @@ fn put_top(text: &mut Bytes, counts: Counts, extent: Option<Extent>) -> Result<(
 
 /// Appends the shapes of the acts, and the end of the picture.
 fn put_lines(text: &mut Bytes, design: &Design) -> Result<(), Memory>
-    ensures { OnOk result (text.new ≡ text.old ++ lines unbegun (acts_of design.now)) }
+    ensures { OnOk result (text.new ≡ text.old ++ acts_and_end_text initial_pen (acts_of design.now)) }
 {
     let mut pen = Pen {
         stops: 0,
-        line: Line::Unbegun,
+        line: PenLine::Unbegun,
     };
-    let mut walk = ActWalk::new();
+    let mut walk = ActScanner::new();
     for command in design.commands() {
         let Some(act) = walk.next(*command) else {
             continue;
@@ -69,9 +69,9 @@ fn put_needle(text: &mut Bytes, pen: Pen, float: bool, at: Point) -> Result<(), 
     ensures { OnOk result (text.new ≡ text.old ++ needle_text pen.stops pen.line float at) }
 {
     match pen.line {
-        Line::Unbegun => put_opening(text, pen.stops, at)?,
-        Line::Ended(from) => put_begun(text, pen.stops, from, at)?,
-        Line::Open(from) => put_next(text, pen.stops, from, float, at)?,
+        PenLine::Unbegun => put_opening(text, pen.stops, at)?,
+        PenLine::Ended(from) => put_begun(text, pen.stops, from, at)?,
+        PenLine::Open(from) => put_next(text, pen.stops, from, float, at)?,
     }
     Ok(())
 }
@@ -92,20 +92,20 @@ fn put_next(text: &mut Bytes, stops: u32, from: Point, float: bool, at: Point) -
 
 /// Appends the travel to a needle, and begins a polyline there.
 fn put_begun(text: &mut Bytes, stops: u32, from: Point, at: Point) -> Result<(), Memory>
-    ensures { OnOk result (text.new ≡ text.old ++ begun stops from at) }
+    ensures { OnOk result (text.new ≡ text.old ++ travel_and_opening stops from at) }
 {
     put_travel(text, from, at)?;
     put_opening(text, stops, at)?;
     Ok(())
 }
 
-fn put_trim(text: &mut Bytes, line: Line) -> Result<(), Memory>
-    ensures { OnOk result (text.new ≡ text.old ++ cut_text trim_mark line) }
+fn put_trim(text: &mut Bytes, line: PenLine) -> Result<(), Memory>
+    ensures { OnOk result (text.new ≡ text.old ++ thread_cut_text trim_mark line) }
 {
     match line {
-        Line::Unbegun => {}
-        Line::Ended(at) => put_trim_mark(text, at)?,
-        Line::Open(at) => {
+        PenLine::Unbegun => {}
+        PenLine::Ended(at) => put_trim_mark(text, at)?,
+        PenLine::Open(at) => {
             put_closing(text)?;
             put_trim_mark(text, at)?;
         }
@@ -113,13 +113,13 @@ fn put_trim(text: &mut Bytes, line: Line) -> Result<(), Memory>
     Ok(())
 }
 
-fn put_stop(text: &mut Bytes, line: Line) -> Result<(), Memory>
-    ensures { OnOk result (text.new ≡ text.old ++ cut_text stop_mark line) }
+fn put_stop(text: &mut Bytes, line: PenLine) -> Result<(), Memory>
+    ensures { OnOk result (text.new ≡ text.old ++ thread_cut_text stop_mark line) }
 {
     match line {
-        Line::Unbegun => {}
-        Line::Ended(at) => put_stop_mark(text, at)?,
-        Line::Open(at) => {
+        PenLine::Unbegun => {}
+        PenLine::Ended(at) => put_stop_mark(text, at)?,
+        PenLine::Open(at) => {
             put_closing(text)?;
             put_stop_mark(text, at)?;
         }
@@ -128,10 +128,10 @@ fn put_stop(text: &mut Bytes, line: Line) -> Result<(), Memory>
 }
 
 /// Appends the end of the picture, and ends a polyline that is open.
-fn put_end(text: &mut Bytes, line: Line) -> Result<(), Memory>
+fn put_end(text: &mut Bytes, line: PenLine) -> Result<(), Memory>
     ensures { OnOk result (text.new ≡ text.old ++ end_text line) }
 {
-    if let Line::Open(_) = line {
+    if let PenLine::Open(_) = line {
         put_closing(text)?;
         text.append(b"</g>\n</svg>\n")?;
         return Ok(());

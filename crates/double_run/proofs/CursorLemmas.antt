@@ -6,9 +6,9 @@ use Rattle.std.proofs.lemmas.Bool.Decides.{nat_tests}
 use Rattle.std.proofs.lemmas.List.Sums.{sum_by-set}
 use Rattle.line_graph.specs.declared.edge.Edge.{Edge}
 use Rattle.line_graph.specs.PieceGraphs.{is_odd}
-use Rattle.double_run.specs.Cursors.{AreReady, IsCursor}
+use Rattle.double_run.specs.Cursors.{AreTraversalTables, IsTraversalCursor}
 use Rattle.euler_tour.specs.LineEnds.{AreBefore, AreLast, IsLast, junction_at}
-use Rattle.double_run.specs.Outings.{LeadsFrom, is_spent, touches}
+use Rattle.double_run.specs.Traversals.{IsLegFrom, is_exhausted, has_end_at}
 use Rattle.double_run.proofs.EndLemmas.{end_a, end_b, end_within, half, half_more, started}
 use Rattle.double_run.proofs.LineLemmas.{same}
 use Rattle.double_run.proofs.MetLemmas.{one_of}
@@ -41,12 +41,12 @@ is_passed (p ∷ passed) (suc k) is = is_passed passed k is
 
 -- a junction is exhausted where each line that ends there was passed
 all_spent : (passed : List Bool) (edges : List Edge) (j : ℕ)
-    → ((k : ℕ) (e : Edge) → slice_get edges k ≡ Some e → touches e j ≡ true → get_or passed k false ≡ true)
-    → is_spent passed edges j ≡ true
+    → ((k : ℕ) (e : Edge) → slice_get edges k ≡ Some e → has_end_at e j ≡ true → get_or passed k false ≡ true)
+    → is_exhausted passed edges j ≡ true
 all_spent [] edges j each = refl
 all_spent (p ∷ passed) [] j each = refl
 all_spent (p ∷ passed) (e ∷ edges) j each =
-    and_from (p || not (touches e j)) (is_spent passed edges j) (here p (touches e j) (each 0 e refl))
+    and_from (p || not (has_end_at e j)) (is_exhausted passed edges j) (here p (has_end_at e j) (each 0 e refl))
     (all_spent passed edges j (λ k. λ x. λ is. λ at. each (suc k) x is at))
   where
     here : (p t : Bool) → (t ≡ true → p ≡ true) → (p || not t) ≡ true
@@ -58,7 +58,7 @@ all_spent (p ∷ passed) (e ∷ edges) j each =
 
 -- the last end of all is a cursor
 cursor_first : (edges : List Edge) (passed : List Bool) (j number : ℕ) → IsLast edges j (2 * length edges) number
-    → IsCursor edges passed j number
+    → IsTraversalCursor edges passed j number
 cursor_first edges passed j number last = record {
   within = last.within;
   there = last.there;
@@ -66,8 +66,8 @@ cursor_first edges passed j number last = record {
 }
 
 -- so is the one before an end whose line is passed
-cursor_back : (edges : List Edge) (passed : List Bool) (j end number : ℕ) → IsCursor edges passed j (end + 1)
-    → get_or passed (end / 2) false ≡ true → IsLast edges j end number → IsCursor edges passed j number
+cursor_back : (edges : List Edge) (passed : List Bool) (j end number : ℕ) → IsTraversalCursor edges passed j (end + 1)
+    → get_or passed (end / 2) false ≡ true → IsLast edges j end number → IsTraversalCursor edges passed j number
 cursor_back edges passed j end number cursor gone last = record {
   within = low number end (2 * length edges) last.within cursor.within;
   there = last.there;
@@ -94,8 +94,8 @@ cursor_back edges passed j end number cursor gone last = record {
     by_place other above there (inr differs) = by_order other above there differs (nat_lt other end) refl
 
 -- a cursor stays one where a line is passed
-cursor_on : (edges : List Edge) (passed : List Bool) (j number m : ℕ) → IsCursor edges passed j number
-    → IsCursor edges (set passed m true) j number
+cursor_on : (edges : List Edge) (passed : List Bool) (j number m : ℕ) → IsTraversalCursor edges passed j number
+    → IsTraversalCursor edges (set passed m true) j number
 cursor_on edges passed j number m cursor = record {
   within = cursor.within;
   there = cursor.there;
@@ -103,7 +103,7 @@ cursor_on edges passed j number m cursor = record {
 }
 
 -- the junction is exhausted where the cursor is 0
-pub cursor_none : (edges : List Edge) (passed : List Bool) (j : ℕ) → IsCursor edges passed j 0 → is_spent passed edges j ≡ true
+pub cursor_none : (edges : List Edge) (passed : List Bool) (j : ℕ) → IsTraversalCursor edges passed j 0 → is_exhausted passed edges j ≡ true
 cursor_none edges passed j cursor =
     all_spent passed edges j (λ k. λ e. λ is. λ at. by_end k e is (one_of (e.a == j) (e.b == j) at))
   where
@@ -119,7 +119,7 @@ cursor_none edges passed j cursor =
 -- those to begin with
 pub begins_ready : (edges : List Edge) (count : ℕ) (passed : List Bool) (last before : List ℕ) (at : ℕ) → length last ≡ count
     → length before ≡ 2 * length edges → at < count → AreBefore edges before → AreLast edges (2 * length edges) last
-    → AreReady edges count passed last before at
+    → AreTraversalTables edges count passed last before at
 begins_ready edges count passed last before at is_last is_before below linked are = record {
   last_beside = is_last;
   before_beside = is_before;
@@ -131,7 +131,7 @@ begins_ready edges count passed last before at is_last is_before below linked ar
 -- the tables after an end is skipped
 pub over_ready : (edges : List Edge) (count : ℕ) (passed : List Bool) (last last2 before : List ℕ) (at end : ℕ)
     → last2 ≡ set last at (get_or before end 0) → get_or last at 0 ≡ end + 1 → get_or passed (end / 2) false ≡ true
-    → AreReady edges count passed last before at → AreReady edges count passed last2 before at
+    → AreTraversalTables edges count passed last before at → AreTraversalTables edges count passed last2 before at
 over_ready edges count passed last last2 before at end is_last here gone ready = rw is_last record {
   last_beside = length-set last at (get_or before end 0) ∙ ready.last_beside;
   before_beside = ready.before_beside;
@@ -140,16 +140,17 @@ over_ready edges count passed last last2 before at end is_last here gone ready =
   cursors = λ j. λ low. by_junction j low (cases_eq j at);
 }
   where
-    cursor : IsCursor edges passed at (end + 1)
-    cursor = subst (λ (n : ℕ). IsCursor edges passed at n) here (ready.cursors at ready.below)
+    cursor : IsTraversalCursor edges passed at (end + 1)
+    cursor = subst (λ (n : ℕ). IsTraversalCursor edges passed at n) here (ready.cursors at ready.below)
 
     number : IsLast edges at end (get_or before end 0)
     number = ready.linked end at (subst (λ (n : ℕ). end < n) (sym ready.before_beside) (end_within edges end at (cursor.there end refl)))
         (cursor.there end refl)
 
-    by_junction : (j : ℕ) → j < count → (j ≡ at) ⊎ (j ≡ at → ⊥) → IsCursor edges passed j (get_or (set last at (get_or before end 0)) j 0)
+    by_junction : (j : ℕ) → j < count → (j ≡ at) ⊎ (j ≡ at → ⊥)
+        → IsTraversalCursor edges passed j (get_or (set last at (get_or before end 0)) j 0)
     by_junction j low (inl is) =
-        subst (λ (n : ℕ). IsCursor edges passed n (get_or (set last at (get_or before end 0)) n 0)) (sym is)
+        subst (λ (n : ℕ). IsTraversalCursor edges passed n (get_or (set last at (get_or before end 0)) n 0)) (sym is)
         (rw (get_or-set_same last at (get_or before end 0) 0 (subst (λ (n : ℕ). at < n) (sym ready.last_beside) ready.below))
         (cursor_back edges passed at end (get_or before end 0) cursor gone number))
     by_junction j low (inr other) =
@@ -157,7 +158,7 @@ over_ready edges count passed last last2 before at end is_last here gone ready =
 
 -- those after a line is passed
 pub out_ready : (edges : List Edge) (count : ℕ) (passed : List Bool) (last before : List ℕ) (at m next : ℕ) → next < count
-    → AreReady edges count passed last before at → AreReady edges count (set passed m true) last before next
+    → AreTraversalTables edges count passed last before at → AreTraversalTables edges count (set passed m true) last before next
 out_ready edges count passed last before at m next below ready = record {
   last_beside = ready.last_beside;
   before_beside = ready.before_beside;
@@ -168,7 +169,7 @@ out_ready edges count passed last before at m next below ready = record {
 
 -- those at another junction
 pub back_ready : (edges : List Edge) (count : ℕ) (passed : List Bool) (last before : List ℕ) (at next : ℕ) → next < count
-    → AreReady edges count passed last before at → AreReady edges count passed last before next
+    → AreTraversalTables edges count passed last before at → AreTraversalTables edges count passed last before next
 back_ready edges count passed last before at next below ready = record {
   last_beside = ready.last_beside;
   before_beside = ready.before_beside;
@@ -179,9 +180,10 @@ back_ready edges count passed last before at next below ready = record {
 
 -- the end before another has a lesser number
 before_less : (edges : List Edge) (count : ℕ) (passed : List Bool) (last before : List ℕ) (at end : ℕ) → get_or last at 0 ≡ end + 1
-    → AreReady edges count passed last before at → get_or before end 0 < end + 1
+    → AreTraversalTables edges count passed last before at → get_or before end 0 < end + 1
 before_less edges count passed last before at end here ready =
-    let cursor : IsCursor edges passed at (end + 1) = subst (λ (n : ℕ). IsCursor edges passed at n) here (ready.cursors at ready.below) in
+    let cursor : IsTraversalCursor edges passed at (end + 1) = subst (λ (n : ℕ). IsTraversalCursor edges passed at n) here
+    (ready.cursors at ready.below) in
     let there : junction_at edges end ≡ Some at = cursor.there end refl in
     more _ end (ready.linked end at (subst (λ (n : ℕ). end < n) (sym ready.before_beside) (end_within edges end at there)) there).within
   where
@@ -192,7 +194,7 @@ before_less edges count passed last before at end here ready =
 
 -- the cursor at a junction
 pub read_cursor : (edges : List Edge) (count : ℕ) (passed : List Bool) (last before : List ℕ) (at number : ℕ)
-    → number ≡ get_or last at number → AreReady edges count passed last before at → get_or last at 0 ≡ number
+    → number ≡ get_or last at number → AreTraversalTables edges count passed last before at → get_or last at 0 ≡ number
 read_cursor edges count passed last before at number is ready =
     sym (is ∙ get_or_default_zero last at number (subst (λ (n : ℕ). at < n) (sym ready.last_beside) ready.below))
 
@@ -202,7 +204,7 @@ cursor_end zero some = absurd (some refl)
 cursor_end (suc number) some = omega arith
 
 pub cursor_within : (edges : List Edge) (count : ℕ) (passed : List Bool) (last before : List ℕ) (at end : ℕ)
-    → get_or last at 0 ≡ end + 1 → AreReady edges count passed last before at → end < 2 * length edges
+    → get_or last at 0 ≡ end + 1 → AreTraversalTables edges count passed last before at → end < 2 * length edges
 cursor_within edges count passed last before at end here ready =
     less end (2 * length edges) (subst (λ (n : ℕ). n ≤ 2 * length edges) here (ready.cursors at ready.below).within)
   where
@@ -210,7 +212,8 @@ cursor_within edges count passed last before at end here ready =
     less m n h = omega arith
 
 pub cursor_place : (edges : List Edge) (count : ℕ) (passed : List Bool) (last before : List ℕ) (at end : ℕ)
-    → get_or last at 0 ≡ end + 1 → length passed ≡ length edges → AreReady edges count passed last before at → end / 2 < length passed
+    → get_or last at 0 ≡ end + 1 → length passed ≡ length edges → AreTraversalTables edges count passed last before at
+    → end / 2 < length passed
 cursor_place edges count passed last before at end here beside ready =
     halved end (length edges) (length passed) (cursor_within edges count passed last before at end here ready) beside
   where
@@ -218,15 +221,15 @@ cursor_place edges count passed last before at end here beside ready =
     halved end n k low beside = omega arith
 
 pub cursor_leads : (edges : List Edge) (count : ℕ) (passed : List Bool) (last before : List ℕ) (at end : ℕ)
-    → get_or last at 0 ≡ end + 1 → slice_get passed (end / 2) ≡ Some false → AreReady edges count passed last before at
-    → LeadsFrom edges passed at (record { place = end / 2; back = is_odd end })
+    → get_or last at 0 ≡ end + 1 → slice_get passed (end / 2) ≡ Some false → AreTraversalTables edges count passed last before at
+    → IsLegFrom edges passed at (record { place = end / 2; back = is_odd end })
 cursor_leads edges count passed last before at end here left ready =
     let e = started (slice_get edges (end / 2)) (is_odd end) at ((ready.cursors at ready.below).there end here) in
     record { edge = e.0; there = e.1; starts = e.2; left = left }
 
 -- the cursors decrease where an end is skipped
 pub over_less : (edges : List Edge) (count : ℕ) (passed : List Bool) (last last2 before : List ℕ) (at end k : ℕ)
-    → last2 ≡ set last at (get_or before end 0) → get_or last at 0 ≡ end + 1 → AreReady edges count passed last before at
+    → last2 ≡ set last at (get_or before end 0) → get_or last at 0 ≡ end + 1 → AreTraversalTables edges count passed last before at
     → k + sum_by (λ (n : ℕ). n) last2 < k + sum_by (λ (n : ℕ). n) last
 over_less edges count passed last last2 before at end k is here ready =
     rw is (less k (sum_by (λ (n : ℕ). n) (set last at (get_or before end 0))) (sum_by (λ (n : ℕ). n) last) (get_or last at 0)

@@ -5,8 +5,8 @@ use Rattle.design_model.specs.declared.point.Point.{Point}
 use Rattle.line_graph.specs.declared.edge.Edge.{Edge}
 use Rattle.line_graph.specs.declared.pass.Pass.{Pass}
 use Rattle.line_graph.specs.PieceGraphs.{PieceValue}
-use Rattle.line_graph.specs.PieceWalks.{fits, walk_cost}
-use Rattle.double_run.specs.DoubleWalks.{GoesBothWays, IsDouble, same_way, times, unbound}
+use Rattle.line_graph.specs.PieceWalks.{is_fitting_walk, walk_cost}
+use Rattle.double_run.specs.DoubleWalks.{IsPassedBothWays, IsDouble, same_way, directed_passes, without_ends}
 
 abbrev edge : (a b cost : ℕ) → Edge
 edge a b cost = record { a = a; b = b; cost = cost }
@@ -37,10 +37,10 @@ abbrev there_and_back : List Pass
 there_and_back = forth 4 ∷ back 6 ∷ forth 9 ∷ back 9 ∷ forth 6 ∷ back 4 ∷ []
 
 -- passes of another line or in the other direction don't count
-pub known_forwards : times 4 false (forth 4 ∷ back 4 ∷ forth 6 ∷ forth 4 ∷ []) ≡ 2
+pub known_forwards : directed_passes 4 false (forth 4 ∷ back 4 ∷ forth 6 ∷ forth 4 ∷ []) ≡ 2
 known_forwards = refl
 
-pub known_backwards : times 4 true (forth 4 ∷ back 4 ∷ back 6 ∷ forth 4 ∷ []) ≡ 1
+pub known_backwards : directed_passes 4 true (forth 4 ∷ back 4 ∷ back 6 ∷ forth 4 ∷ []) ≡ 1
 known_backwards = refl
 
 pub known_ways : same_way true false ≡ false
@@ -49,19 +49,19 @@ known_ways = refl
 pub known_double : IsDouble tail there_and_back
 known_double = record {
   closed = refl;
-  each = All-cons (GoesBothWays there_and_back) 4 (6 ∷ 9 ∷ []) (record { forwards = refl; backwards = refl })
-      (All-cons (GoesBothWays there_and_back) 6 (9 ∷ []) (record { forwards = refl; backwards = refl })
-      (All-cons (GoesBothWays there_and_back) 9 [] (record { forwards = refl; backwards = refl })
-      (All-nil (GoesBothWays there_and_back))));
+  each = All-cons (IsPassedBothWays there_and_back) 4 (6 ∷ 9 ∷ []) (record { forwards = refl; backwards = refl })
+      (All-cons (IsPassedBothWays there_and_back) 6 (9 ∷ []) (record { forwards = refl; backwards = refl })
+      (All-cons (IsPassedBothWays there_and_back) 9 [] (record { forwards = refl; backwards = refl })
+      (All-nil (IsPassedBothWays there_and_back))));
   begins = refl;
 }
 
 -- a required start and end are dropped, and nothing else
-pub known_unbound : unbound (record tail { start = Some 1; end = Some 2 }) ≡ tail
+pub known_unbound : without_ends (record tail { start = Some 1; end = Some 2 }) ≡ tail
 known_unbound = refl
 
 -- it fits, and costs twice the 12 steps of the lines
-pub known_fit : fits (unbound tail) there_and_back ≡ true
+pub known_fit : is_fitting_walk (without_ends tail) there_and_back ≡ true
 known_fit = refl
 
 pub known_cost : walk_cost tail there_and_back ≡ 24
@@ -72,7 +72,7 @@ abbrev twice_forwards : List Pass
 twice_forwards = forth 4 ∷ back 6 ∷ forth 9 ∷ forth 9 ∷ forth 6 ∷ back 4 ∷ []
 
 pub known_twice : IsDouble tail twice_forwards → ⊥
-known_twice double = once _ refl (All-get_or (GoesBothWays twice_forwards) tail.lines 2 0 (omega arith) double.each).forwards
+known_twice double = once _ refl (All-get_or (IsPassedBothWays twice_forwards) tail.lines 2 0 (omega arith) double.each).forwards
   where
     once : (n : ℕ) → n ≡ 2 → n ≡ 1 → ⊥
     once n two one = omega (arith, two, one)
@@ -82,7 +82,7 @@ abbrev left_out : List Pass
 left_out = forth 4 ∷ back 6 ∷ forth 6 ∷ back 4 ∷ []
 
 pub known_left_out : IsDouble tail left_out → ⊥
-known_left_out double = once _ refl (All-get_or (GoesBothWays left_out) tail.lines 2 0 (omega arith) double.each).backwards
+known_left_out double = once _ refl (All-get_or (IsPassedBothWays left_out) tail.lines 2 0 (omega arith) double.each).backwards
   where
     once : (n : ℕ) → n ≡ 0 → n ≡ 1 → ⊥
     once n none one = omega (arith, none, one)

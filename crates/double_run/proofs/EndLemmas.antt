@@ -5,16 +5,16 @@ use Rattle.std.proofs.lemmas.Bool.Decides.{nat_tests}
 use Rattle.std.proofs.lemmas.Option.{slice_get_within}
 use Rattle.line_graph.specs.declared.edge.Edge.{Edge}
 use Rattle.line_graph.specs.PieceGraphs.{is_odd}
-use Rattle.line_graph.specs.KeptPieces.{ends_below}
-use Rattle.line_graph.specs.PieceWalks.{edge_start, start_of}
+use Rattle.line_graph.specs.ValidPieces.{ends_below}
+use Rattle.line_graph.specs.PieceWalks.{pass_start_on, pass_start}
 use Rattle.euler_tour.specs.LineEnds.{junction_at}
 use Rattle.double_run.proofs.LineLemmas.{some_same}
 
 -- the edge that starts at a junction
-pub started : (found : Option Edge) (back : Bool) (j : ℕ) → edge_start found back ≡ Some j
-    → (e : Edge) × (found ≡ Some e) × (start_of e back ≡ j)
+pub started : (found : Option Edge) (back : Bool) (j : ℕ) → pass_start_on found back ≡ Some j
+    → (e : Edge) × (found ≡ Some e) × (pass_start e back ≡ j)
 started None back j is = absurd (cc)
-started (Some e) back j is = (e, refl, some_same (start_of e back) j is)
+started (Some e) back j is = (e, refl, some_same (pass_start e back) j is)
 
 -- an end that is somewhere is that of a line
 pub end_within : (edges : List Edge) (end j : ℕ) → junction_at edges end ≡ Some j → end < 2 * length edges

@@ -4,18 +4,18 @@ use Rattle.std.proofs.lemmas.List.Elements.{All-from_get_or, All-get_or}
 use Rattle.std.proofs.lemmas.List.{length-replicate}
 use Rattle.line_graph.specs.declared.edge.Edge.{Edge}
 use Rattle.line_graph.specs.declared.pass.Pass.{Pass}
-use Rattle.line_graph.specs.KeptPieces.{KeepsPiece}
-use Rattle.line_graph.specs.PieceGraphs.{PieceValue, bit}
+use Rattle.line_graph.specs.ValidPieces.{IsValidPiece}
+use Rattle.line_graph.specs.PieceGraphs.{PieceValue, one_if}
 use Rattle.line_graph.specs.Pieces.{first_line}
-use Rattle.line_graph.specs.PieceWalks.{BeginsWith, covers, first_start, fits, leads, passed, piece_cost, walk_cost, walk_on}
-use Rattle.double_run.specs.DoubleWalks.{GoesBothWays, IsDouble, same_way, times, unbound}
-use Rattle.double_run.specs.Outings.{Keeps, LeadsFrom, is_met, is_spent, passed_cost, root_of}
+use Rattle.line_graph.specs.PieceWalks.{BeginsWith, covers, walk_start, is_fitting_walk, is_walk_start_to_end, is_line_passed, piece_cost, walk_cost, walk_end_from}
+use Rattle.double_run.specs.DoubleWalks.{IsPassedBothWays, IsDouble, same_way, directed_passes, without_ends}
+use Rattle.double_run.specs.Traversals.{IsTraversalInvariant, IsLegFrom, is_visited, is_exhausted, passed_cost, root_junction}
 use Rattle.double_run.proofs.EndLemmas.{ends_are_below}
 use Rattle.double_run.proofs.LineLemmas.{edge_found, eq_self, same, some_same}
 use Rattle.double_run.proofs.MetLemmas.{cost_all, passed_meets, spent_passes, touches_a, touches_b}
 
 -- no junction is visited where no line was passed
-none_met : (n : ℕ) (edges : List Edge) (j : ℕ) → is_met (replicate n false) edges j ≡ false
+none_met : (n : ℕ) (edges : List Edge) (j : ℕ) → is_visited (replicate n false) edges j ≡ false
 none_met zero edges j = refl
 none_met (suc n) [] j = refl
 none_met (suc n) (e ∷ edges) j = none_met n edges j
@@ -34,18 +34,18 @@ costs_none edges = rw (none_costs edges) refl
 
 -- a traversal without a pass
 pub begins_kept : (lines : List ℕ) (edges : List Edge) (root : ℕ)
-    → Keeps lines edges [] [] (replicate (length edges) false) root root
+    → IsTraversalInvariant lines edges [] [] (replicate (length edges) false) root root
 begins_kept lines edges root = record {
   beside = length-replicate (length edges) false;
   led = refl;
   home = refl;
   legs = refl;
-  counted = λ k. λ way. λ below. ap bit (sym (none_passed (length edges) k));
+  counted = λ k. λ way. λ below. ap one_if (sym (none_passed (length edges) k));
   sums = costs_none edges;
   spent = λ j. λ met. absurd (no_way j met);
 }
   where
-    no_way : (j : ℕ) → is_met (replicate (length edges) false) edges j ≡ true → ⊥
+    no_way : (j : ℕ) → is_visited (replicate (length edges) false) edges j ≡ true → ⊥
     no_way j met = apart (sym (none_met (length edges) edges j) ∙ met)
       where
         apart : false ≡ true → ⊥
@@ -53,7 +53,7 @@ begins_kept lines edges root = record {
 
 -- the first line starts where the traversal does
 pub first_leads : (edges : List Edge) → 1 ≤ length edges
-    → LeadsFrom edges (replicate (length edges) false) (root_of edges) (record { place = 0; back = false })
+    → IsLegFrom edges (replicate (length edges) false) (root_junction edges) (record { place = 0; back = false })
 first_leads [] some = absurd (omega arith)
 first_leads (e ∷ edges) some = record { edge = e; there = refl; starts = refl; left = refl }
 
@@ -74,7 +74,7 @@ edge_there (e ∷ edges) zero below = (e, refl)
 edge_there (e ∷ edges) (suc k) below = edge_there edges k (omega arith)
 
 -- the first line begins at the root
-pub root_is : (edges : List Edge) (e : Edge) → slice_get edges 0 ≡ Some e → root_of edges ≡ e.a
+pub root_is : (edges : List Edge) (e : Edge) → slice_get edges 0 ≡ Some e → root_junction edges ≡ e.a
 root_is [] e there = absurd (cc)
 root_is (x ∷ edges) e there = ap (λ (y : Edge). y.a) (some_same x e there)
 
@@ -85,8 +85,8 @@ equal_tests false true to from = from refl
 equal_tests false false to from = refl
 
 -- a walk that begins with the first line starts at the root
-starts_first : (p : PieceValue) (walk : List Pass) → KeepsPiece p → BeginsWith (first_line p.lines) walk
-    → first_start p.lines p.edges walk ≡ Some (root_of p.edges)
+starts_first : (p : PieceValue) (walk : List Pass) → IsValidPiece p → BeginsWith (first_line p.lines) walk
+    → walk_start p.lines p.edges walk ≡ Some (root_junction p.edges)
 starts_first p [] kept begins = absurd begins
 starts_first p (x ∷ rest) kept begins =
     let e = edge_there p.edges 0 (omega (arith, kept.some, kept.beside)) in
@@ -94,83 +94,88 @@ starts_first p (x ∷ rest) kept begins =
     (ap (λ (n : ℕ). Some n) (sym (root_is p.edges e.0 e.1)))
 
 -- a finished traversal passed all lines
-home_passed : (p : PieceValue) (walk : List Pass) (passed : List Bool) (at : ℕ) → KeepsPiece p
-    → Keeps p.lines p.edges walk [] passed (root_of p.edges) at → is_spent passed p.edges at ≡ true
-    → get_or passed 0 false ≡ true → (i : ℕ) → i < length p.edges → get_or passed i false ≡ true
-home_passed p walk passed at kept k stuck first = all_passed
+home_passed : (p : PieceValue) (walk : List Pass) (is_line_passed : List Bool) (at : ℕ) → IsValidPiece p
+    → IsTraversalInvariant p.lines p.edges walk [] is_line_passed (root_junction p.edges) at → is_exhausted is_line_passed p.edges at ≡ true
+    → get_or is_line_passed 0 false ≡ true → (i : ℕ) → i < length p.edges → get_or is_line_passed i false ≡ true
+home_passed p walk is_line_passed at kept k stuck first = all_passed
   where
     e0 : (e : Edge) × (slice_get p.edges 0 ≡ Some e)
     e0 = edge_there p.edges 0 (omega (arith, kept.some, kept.beside))
 
-    spent : (j : ℕ) → is_met passed p.edges j ≡ true → is_spent passed p.edges j ≡ true
+    spent : (j : ℕ) → is_visited is_line_passed p.edges j ≡ true → is_exhausted is_line_passed p.edges j ≡ true
     spent j met = by_test (at == j) refl
       where
-        by_test : (t : Bool) → (at == j) ≡ t → is_spent passed p.edges j ≡ true
-        by_test true is = subst (λ (n : ℕ). is_spent passed p.edges n ≡ true) (same at j is) stuck
+        by_test : (t : Bool) → (at == j) ≡ t → is_exhausted is_line_passed p.edges j ≡ true
+        by_test true is = subst (λ (n : ℕ). is_exhausted is_line_passed p.edges n ≡ true) (same at j is) stuck
         by_test false is = k.spent j met is refl
 
-    none_leaves : (i : ℕ) (e : Edge) → slice_get p.edges i ≡ Some e → is_met passed p.edges e.a ≡ is_met passed p.edges e.b
-    none_leaves i e there = equal_tests (is_met passed p.edges e.a) (is_met passed p.edges e.b)
-        (λ met. passed_meets passed p.edges i e.b e
-        (spent_passes passed p.edges i e.a e k.beside there (touches_a e) (spent e.a met)) there (touches_b e))
-        (λ met. passed_meets passed p.edges i e.a e
-        (spent_passes passed p.edges i e.b e k.beside there (touches_b e) (spent e.b met)) there (touches_a e))
+    none_leaves : (i : ℕ) (e : Edge) → slice_get p.edges i ≡ Some e
+        → is_visited is_line_passed p.edges e.a ≡ is_visited is_line_passed p.edges e.b
+    none_leaves i e there = equal_tests (is_visited is_line_passed p.edges e.a) (is_visited is_line_passed p.edges e.b)
+        (λ met. passed_meets is_line_passed p.edges i e.b e
+        (spent_passes is_line_passed p.edges i e.a e k.beside there (touches_a e) (spent e.a met)) there (touches_b e))
+        (λ met. passed_meets is_line_passed p.edges i e.a e
+        (spent_passes is_line_passed p.edges i e.b e k.beside there (touches_b e) (spent e.b met)) there (touches_a e))
 
-    all_passed : (i : ℕ) → i < length p.edges → get_or passed i false ≡ true
+    all_passed : (i : ℕ) → i < length p.edges → get_or is_line_passed i false ≡ true
     all_passed i below =
         let e = edge_there p.edges i below in
-        let met : is_met passed p.edges e.0.a ≡ true =
-        kept.joined (is_met passed p.edges) none_leaves e.0.a e0.0.a
+        let met : is_visited is_line_passed p.edges e.0.a ≡ true =
+        kept.joined (is_visited is_line_passed p.edges) none_leaves e.0.a e0.0.a
         (ends_are_below (length p.junctions) p.edges i e.0 kept.ends e.1).0
         (ends_are_below (length p.junctions) p.edges 0 e0.0 kept.ends e0.1).0
-        ∙ passed_meets passed p.edges 0 e0.0.a e0.0 first e0.1 (touches_a e0.0) in
-        spent_passes passed p.edges i e.0.a e.0 k.beside e.1 (touches_a e.0) (spent e.0.a met)
+        ∙ passed_meets is_line_passed p.edges 0 e0.0.a e0.0 first e0.1 (touches_a e0.0) in
+        spent_passes is_line_passed p.edges i e.0.a e.0 k.beside e.1 (touches_a e.0) (spent e.0.a met)
 
 -- the walk of a finished traversal
-pub home_double : (p : PieceValue) (walk : List Pass) (passed : List Bool) (at : ℕ) → KeepsPiece p
-    → Keeps p.lines p.edges walk [] passed (root_of p.edges) at → is_spent passed p.edges at ≡ true
-    → BeginsWith (first_line p.lines) walk → get_or passed 0 false ≡ true
+pub home_double : (p : PieceValue) (walk : List Pass) (is_line_passed : List Bool) (at : ℕ) → IsValidPiece p
+    → IsTraversalInvariant p.lines p.edges walk [] is_line_passed (root_junction p.edges) at → is_exhausted is_line_passed p.edges at ≡ true
+    → BeginsWith (first_line p.lines) walk → get_or is_line_passed 0 false ≡ true
     → IsDouble p walk
-home_double p walk passed at kept k stuck begins first = record {
+home_double p walk is_line_passed at kept k stuck begins first = record {
   closed = closes walk begins k.led;
-  each = All-from_get_or (GoesBothWays walk) p.lines 0 goes;
+  each = All-from_get_or (IsPassedBothWays walk) p.lines 0 goes;
   begins = begins;
 }
   where
-    is_root : at ≡ root_of p.edges
-    is_root = some_same at (root_of p.edges) k.home
+    is_root : at ≡ root_junction p.edges
+    is_root = some_same at (root_junction p.edges) k.home
 
-    closes : (w : List Pass) → BeginsWith (first_line p.lines) w → walk_on p.lines p.edges (Some (root_of p.edges)) w ≡ Some at
-        → walk_on p.lines p.edges (first_start p.lines p.edges w) w ≡ first_start p.lines p.edges w
+    closes : (w : List Pass) → BeginsWith (first_line p.lines) w → walk_end_from p.lines p.edges (Some (root_junction p.edges)) w ≡ Some at
+        → walk_end_from p.lines p.edges (walk_start p.lines p.edges w) w ≡ walk_start p.lines p.edges w
     closes w h led = rw (starts_first p w kept h) (led ∙ ap (λ (n : ℕ). Some n) is_root)
 
-    goes : (i : ℕ) → i < length p.lines → GoesBothWays walk (get_or p.lines i 0)
+    goes : (i : ℕ) → i < length p.lines → IsPassedBothWays walk (get_or p.lines i 0)
     goes i below =
-        let is : get_or passed i false ≡ true = home_passed p walk passed at kept k stuck first i (omega (arith, below, kept.beside)) in
+        let is : get_or is_line_passed i false ≡ true = home_passed p walk is_line_passed at kept k stuck first i
+        (omega (arith, below, kept.beside)) in
         record {
-          forwards = bare _ (k.counted i false below ∙ ap bit is);
-          backwards = bare _ (k.counted i true below ∙ ap bit is);
+          forwards = bare _ (k.counted i false below ∙ ap one_if is);
+          backwards = bare _ (k.counted i true below ∙ ap one_if is);
         }
       where
         bare : (n : ℕ) → n + 0 ≡ 1 → n ≡ 1
         bare n is = omega arith
 
 -- which costs twice the piece
-pub home_cost : (p : PieceValue) (walk : List Pass) (passed : List Bool) (at : ℕ) → KeepsPiece p
-    → Keeps p.lines p.edges walk [] passed (root_of p.edges) at → is_spent passed p.edges at ≡ true
-    → get_or passed 0 false ≡ true → walk_cost p walk ≡ 2 * piece_cost p
-home_cost p walk passed at kept k stuck first =
-    bare _ _ (k.sums ∙ ap (λ (n : ℕ). 2 * n) (cost_all passed p.edges k.beside (home_passed p walk passed at kept k stuck first)))
+pub home_cost : (p : PieceValue) (walk : List Pass) (is_line_passed : List Bool) (at : ℕ) → IsValidPiece p
+    → IsTraversalInvariant p.lines p.edges walk [] is_line_passed (root_junction p.edges) at → is_exhausted is_line_passed p.edges at ≡ true
+    → get_or is_line_passed 0 false ≡ true → walk_cost p walk ≡ 2 * piece_cost p
+home_cost p walk is_line_passed at kept k stuck first =
+    bare _ _ (k.sums ∙ ap (λ (n : ℕ). 2 * n) (cost_all is_line_passed p.edges k.beside
+    (home_passed p walk is_line_passed at kept k stuck first)))
   where
     bare : (m n : ℕ) → m + 0 ≡ n → m ≡ n
     bare m n is = omega arith
 
 -- a line that is passed in a direction is passed
-is_passed : (line : ℕ) (walk : List Pass) → 1 ≤ times line false walk → passed line walk ≡ true
+is_passed : (line : ℕ) (walk : List Pass) → 1 ≤ directed_passes line false walk → is_line_passed line walk ≡ true
 is_passed line [] some = absurd (omega (arith, some))
-is_passed line (x ∷ walk) some = by_line (x.line == line) (same_way false x.back) (times line false walk) some (is_passed line walk)
+is_passed line (x ∷ walk) some = by_line (x.line == line) (same_way false x.back) (directed_passes line false walk) some
+    (is_passed line walk)
   where
-    by_line : (t way : Bool) (n : ℕ) → 1 ≤ bit (t && way) + n → (1 ≤ n → passed line walk ≡ true) → (t || passed line walk) ≡ true
+    by_line : (t way : Bool) (n : ℕ) → 1 ≤ one_if (t && way) + n → (1 ≤ n → is_line_passed line walk ≡ true)
+        → (t || is_line_passed line walk) ≡ true
     by_line true way n some then = refl
     by_line false way n some then = then (bare n some)
       where
@@ -178,7 +183,7 @@ is_passed line (x ∷ walk) some = by_line (x.line == line) (same_way false x.ba
         bare n some = omega (arith, some)
 
 -- so a double walk covers the piece
-all_covered : (lines : List ℕ) (walk : List Pass) → ((k : ℕ) → k < length lines → GoesBothWays walk (get_or lines k 0))
+all_covered : (lines : List ℕ) (walk : List Pass) → ((k : ℕ) → k < length lines → IsPassedBothWays walk (get_or lines k 0))
     → covers lines walk ≡ true
 all_covered [] walk each = refl
 all_covered (line ∷ lines) walk each =
@@ -189,12 +194,12 @@ all_covered (line ∷ lines) walk each =
     one n is = omega (arith, is)
 
 -- and fits it
-pub double_fits : (p : PieceValue) (walk : List Pass) → KeepsPiece p → IsDouble p walk → fits (unbound p) walk ≡ true
+pub double_fits : (p : PieceValue) (walk : List Pass) → IsValidPiece p → IsDouble p walk → is_fitting_walk (without_ends p) walk ≡ true
 double_fits p walk kept double =
-    rw (closes, all_covered p.lines walk (λ k. λ below. All-get_or (GoesBothWays walk) p.lines k 0 below double.each)) refl
+    rw (closes, all_covered p.lines walk (λ k. λ below. All-get_or (IsPassedBothWays walk) p.lines k 0 below double.each)) refl
   where
-    starts : first_start p.lines p.edges walk ≡ Some (root_of p.edges)
+    starts : walk_start p.lines p.edges walk ≡ Some (root_junction p.edges)
     starts = starts_first p walk kept double.begins
 
-    closes : leads (unbound p) walk ≡ true
-    closes = rw (double.closed, starts) (eq_self (root_of p.edges))
+    closes : is_walk_start_to_end (without_ends p) walk ≡ true
+    closes = rw (double.closed, starts) (eq_self (root_junction p.edges))

@@ -2,11 +2,11 @@
 use Rattle.std.proofs.Common.{◌≡◌, ◌<◌, ◌⊎◌, inl, inr, ℕ, zero, suc, ◌+◌, ◌==◌, ◌&&◌, ◌||◌, Bool, true, false, not, List, [], ◌∷◌, ◌++◌, length, get_or, set, slice_get, Some, arith, refl, sym, ◌∙◌, subst}
 use Rattle.std.proofs.lemmas.Bool.{and_parts}
 use Rattle.line_graph.specs.declared.edge.Edge.{Edge}
-use Rattle.line_graph.specs.PieceGraphs.{bit}
-use Rattle.line_graph.specs.PieceWalks.{cost_of, edge_sum, end_of, start_of}
-use Rattle.double_run.specs.declared.legs.Leg.{Leg}
-use Rattle.double_run.specs.OutingSteps.{count_left}
-use Rattle.double_run.specs.Outings.{edge_at, is_met, is_on_way, is_spent, passed_cost, touches}
+use Rattle.line_graph.specs.PieceGraphs.{one_if}
+use Rattle.line_graph.specs.PieceWalks.{edge_cost, edge_sum, pass_end, pass_start}
+use Rattle.double_run.specs.declared.legs.DirectedLeg.{DirectedLeg}
+use Rattle.double_run.specs.TraversalSteps.{remaining_count}
+use Rattle.double_run.specs.Traversals.{edge_at, is_visited, is_on_stack, is_exhausted, passed_cost, has_end_at}
 use Rattle.double_run.proofs.LineLemmas.{eq_self, some_same, suc_suc, suc_zero, zero_suc}
 
 -- a test that is one of two
@@ -19,52 +19,52 @@ neither true t is = absurd (cc)
 neither false t is = (refl, is)
 
 -- exhausted junctions stay exhausted
-pub spent_on : (passed : List Bool) (edges : List Edge) (m j : ℕ) → is_spent passed edges j ≡ true
-    → is_spent (set passed m true) edges j ≡ true
+pub spent_on : (passed : List Bool) (edges : List Edge) (m j : ℕ) → is_exhausted passed edges j ≡ true
+    → is_exhausted (set passed m true) edges j ≡ true
 spent_on [] edges m j is = refl
 spent_on (p ∷ passed) [] zero j is = refl
 spent_on (p ∷ passed) [] (suc m) j is = refl
-spent_on (p ∷ passed) (e ∷ edges) zero j is = (and_parts (p || not (touches e j)) (is_spent passed edges j) is).1
+spent_on (p ∷ passed) (e ∷ edges) zero j is = (and_parts (p || not (has_end_at e j)) (is_exhausted passed edges j) is).1
 spent_on (p ∷ passed) (e ∷ edges) (suc m) j is =
-    let parts = and_parts (p || not (touches e j)) (is_spent passed edges j) is in
+    let parts = and_parts (p || not (has_end_at e j)) (is_exhausted passed edges j) is in
     rw parts.0 (spent_on passed edges m j parts.1)
 
 -- a visited junction was visited before, or is an end of the line that is passed now
 pub met_before : (passed : List Bool) (edges : List Edge) (m j : ℕ) (e : Edge) → slice_get edges m ≡ Some e
-    → is_met (set passed m true) edges j ≡ true → (is_met passed edges j ≡ true) ⊎ (touches e j ≡ true)
+    → is_visited (set passed m true) edges j ≡ true → (is_visited passed edges j ≡ true) ⊎ (has_end_at e j ≡ true)
 met_before [] edges m j e there is = absurd (cc)
 met_before (p ∷ passed) [] m j e there is = absurd (cc)
 met_before (p ∷ passed) (x ∷ edges) zero j e there is =
-    by_test p (one_of (touches x j) (is_met passed edges j) is)
+    by_test p (one_of (has_end_at x j) (is_visited passed edges j) is)
   where
-    by_test : (p : Bool) → (touches x j ≡ true) ⊎ (is_met passed edges j ≡ true)
-        → (((p && touches x j) || is_met passed edges j) ≡ true) ⊎ (touches e j ≡ true)
-    by_test p (inl at) = inr (subst (λ (y : Edge). touches y j ≡ true) (some_same x e there) at)
-    by_test p (inr met) = inl (last (p && touches x j) met)
+    by_test : (p : Bool) → (has_end_at x j ≡ true) ⊎ (is_visited passed edges j ≡ true)
+        → (((p && has_end_at x j) || is_visited passed edges j) ≡ true) ⊎ (has_end_at e j ≡ true)
+    by_test p (inl at) = inr (subst (λ (y : Edge). has_end_at y j ≡ true) (some_same x e there) at)
+    by_test p (inr met) = inl (last (p && has_end_at x j) met)
       where
-        last : (s : Bool) → is_met passed edges j ≡ true → (s || is_met passed edges j) ≡ true
+        last : (s : Bool) → is_visited passed edges j ≡ true → (s || is_visited passed edges j) ≡ true
         last true h = refl
         last false h = h
 met_before (p ∷ passed) (x ∷ edges) (suc m) j e there is =
-    by_test (p && touches x j) is (met_before passed edges m j e there)
+    by_test (p && has_end_at x j) is (met_before passed edges m j e there)
   where
-    by_test : (s : Bool) → (s || is_met (set passed m true) edges j) ≡ true
-        → (is_met (set passed m true) edges j ≡ true → (is_met passed edges j ≡ true) ⊎ (touches e j ≡ true))
-        → ((s || is_met passed edges j) ≡ true) ⊎ (touches e j ≡ true)
+    by_test : (s : Bool) → (s || is_visited (set passed m true) edges j) ≡ true
+        → (is_visited (set passed m true) edges j ≡ true → (is_visited passed edges j ≡ true) ⊎ (has_end_at e j ≡ true))
+        → ((s || is_visited passed edges j) ≡ true) ⊎ (has_end_at e j ≡ true)
     by_test true h then = inl refl
     by_test false h then = then h
 
 -- the leg that was gone out last
-pub way_push : (edges : List Edge) (out : List Leg) (leg : Leg) (j : ℕ)
-    → is_on_way edges (out ++ leg ∷ []) j ≡ (is_on_way edges out j || (start_of (edge_at edges leg.place) leg.back == j))
-way_push edges [] leg j = no_more (start_of (edge_at edges leg.place) leg.back == j)
+pub way_push : (edges : List Edge) (out : List DirectedLeg) (leg : DirectedLeg) (j : ℕ)
+    → is_on_stack edges (out ++ leg ∷ []) j ≡ (is_on_stack edges out j || (pass_start (edge_at edges leg.place) leg.back == j))
+way_push edges [] leg j = no_more (pass_start (edge_at edges leg.place) leg.back == j)
   where
     no_more : (s : Bool) → (s || false) ≡ s
     no_more true = refl
     no_more false = refl
 way_push edges (x ∷ out) leg j =
     rw (way_push edges out leg j)
-    (joined (start_of (edge_at edges x.place) x.back == j) (is_on_way edges out j) (start_of (edge_at edges leg.place) leg.back == j))
+    (joined (pass_start (edge_at edges x.place) x.back == j) (is_on_stack edges out j) (pass_start (edge_at edges leg.place) leg.back == j))
   where
     joined : (r s t : Bool) → (r || (s || t)) ≡ ((r || s) || t)
     joined true s t = refl
@@ -77,21 +77,21 @@ found_at (x ∷ edges) zero e there = some_same x e there
 found_at (x ∷ edges) (suc m) e there = found_at edges m e there
 
 -- a line that touches a junction has one of its ends there, whichever way it is passed
-pub touched : (e : Edge) (back : Bool) (j : ℕ) → touches e j ≡ true → (start_of e back == j) ≡ false → (end_of e back == j) ≡ false
+pub touched : (e : Edge) (back : Bool) (j : ℕ) → has_end_at e j ≡ true → (pass_start e back == j) ≡ false → (pass_end e back == j) ≡ false
     → false ≡ true
 touched e true j at first last = sym (rw (last, first) refl) ∙ at
 touched e false j at first last = sym (rw (first, last) refl) ∙ at
 
 -- a line more is passed
 pub marks : (passed : List Bool) (m k : ℕ) → slice_get passed m ≡ Some false
-    → bit (get_or (set passed m true) k false) ≡ bit (get_or passed k false) + bit (m == k)
+    → one_if (get_or (set passed m true) k false) ≡ one_if (get_or passed k false) + one_if (m == k)
 marks [] m k left = absurd (cc)
 marks (p ∷ passed) zero zero left = rw (some_same p false left) refl
-marks (p ∷ passed) zero (suc k) left = rw (zero_suc k) (last (bit (get_or passed k false)))
+marks (p ∷ passed) zero (suc k) left = rw (zero_suc k) (last (one_if (get_or passed k false)))
   where
     last : (n : ℕ) → n ≡ n + 0
     last n = omega arith
-marks (p ∷ passed) (suc m) zero left = rw (suc_zero m) (last (bit p))
+marks (p ∷ passed) (suc m) zero left = rw (suc_zero m) (last (one_if p))
   where
     last : (n : ℕ) → n ≡ n + 0
     last n = omega arith
@@ -99,13 +99,13 @@ marks (p ∷ passed) (suc m) (suc k) left = rw (suc_suc m k) (marks passed m k l
 
 -- and one less is left
 pub less_left : (passed : List Bool) (m : ℕ) → slice_get passed m ≡ Some false
-    → count_left passed ≡ count_left (set passed m true) + 1
+    → remaining_count passed ≡ remaining_count (set passed m true) + 1
 less_left [] m left = absurd (cc)
-less_left (p ∷ passed) zero left = rw (some_same p false left) (turned (count_left passed))
+less_left (p ∷ passed) zero left = rw (some_same p false left) (turned (remaining_count passed))
   where
     turned : (n : ℕ) → 1 + n ≡ (0 + n) + 1
     turned n = omega arith
-less_left (p ∷ passed) (suc m) left = rw (less_left passed m left) (joined (bit (not p)) (count_left (set passed m true)))
+less_left (p ∷ passed) (suc m) left = rw (less_left passed m left) (joined (one_if (not p)) (remaining_count (set passed m true)))
   where
     joined : (x y : ℕ) → x + (y + 1) ≡ (x + y) + 1
     joined x y = omega arith
@@ -126,7 +126,7 @@ cost_more (false ∷ passed) (x ∷ edges) (suc m) e left there = cost_more pass
 
 -- where all are passed it costs what they cost
 pub cost_all : (passed : List Bool) (edges : List Edge) → length passed ≡ length edges
-    → ((k : ℕ) → k < length edges → get_or passed k false ≡ true) → passed_cost passed edges ≡ edge_sum cost_of edges
+    → ((k : ℕ) → k < length edges → get_or passed k false ≡ true) → passed_cost passed edges ≡ edge_sum edge_cost edges
 cost_all [] [] beside all = refl
 cost_all [] (e ∷ edges) beside all = absurd (omega (arith, beside))
 cost_all (p ∷ passed) [] beside all = refl
@@ -135,38 +135,39 @@ cost_all (p ∷ passed) (e ∷ edges) beside all =
 
 -- a line at an exhausted junction was passed
 pub spent_passes : (passed : List Bool) (edges : List Edge) (k j : ℕ) (e : Edge) → length passed ≡ length edges
-    → slice_get edges k ≡ Some e → touches e j ≡ true → is_spent passed edges j ≡ true → get_or passed k false ≡ true
+    → slice_get edges k ≡ Some e → has_end_at e j ≡ true → is_exhausted passed edges j ≡ true → get_or passed k false ≡ true
 spent_passes passed [] k j e beside there at is = absurd (cc)
 spent_passes [] (x ∷ edges) k j e beside there at is = absurd (omega (arith, beside))
 spent_passes (p ∷ passed) (x ∷ edges) zero j e beside there at is =
-    by_test p (touches x j) (and_parts (p || not (touches x j)) (is_spent passed edges j) is).0
-    (subst (λ (y : Edge). touches y j ≡ true) (sym (some_same x e there)) at)
+    by_test p (has_end_at x j) (and_parts (p || not (has_end_at x j)) (is_exhausted passed edges j) is).0
+    (subst (λ (y : Edge). has_end_at y j ≡ true) (sym (some_same x e there)) at)
   where
     by_test : (p t : Bool) → (p || not t) ≡ true → t ≡ true → p ≡ true
     by_test true t is at = refl
     by_test false true is at = is
     by_test false false is at = at
 spent_passes (p ∷ passed) (x ∷ edges) (suc k) j e beside there at is =
-    spent_passes passed edges k j e (omega (arith, beside)) there at (and_parts (p || not (touches x j)) (is_spent passed edges j) is).1
+    spent_passes passed edges k j e (omega (arith, beside)) there at
+    (and_parts (p || not (has_end_at x j)) (is_exhausted passed edges j) is).1
 
 -- the ends of a passed line are visited
 pub passed_meets : (passed : List Bool) (edges : List Edge) (k j : ℕ) (e : Edge) → get_or passed k false ≡ true
-    → slice_get edges k ≡ Some e → touches e j ≡ true → is_met passed edges j ≡ true
+    → slice_get edges k ≡ Some e → has_end_at e j ≡ true → is_visited passed edges j ≡ true
 passed_meets [] edges k j e is there at = absurd (cc)
 passed_meets (p ∷ passed) [] k j e is there at = absurd (cc)
 passed_meets (p ∷ passed) (x ∷ edges) zero j e is there at =
-    rw (is, subst (λ (y : Edge). touches y j ≡ true) (sym (some_same x e there)) at) refl
-passed_meets (p ∷ passed) (x ∷ edges) (suc k) j e is there at = last (p && touches x j) (passed_meets passed edges k j e is there at)
+    rw (is, subst (λ (y : Edge). has_end_at y j ≡ true) (sym (some_same x e there)) at) refl
+passed_meets (p ∷ passed) (x ∷ edges) (suc k) j e is there at = last (p && has_end_at x j) (passed_meets passed edges k j e is there at)
   where
-    last : (s : Bool) → is_met passed edges j ≡ true → (s || is_met passed edges j) ≡ true
+    last : (s : Bool) → is_visited passed edges j ≡ true → (s || is_visited passed edges j) ≡ true
     last true h = refl
     last false h = h
 
 -- both ends of a line touch it
-pub touches_a : (e : Edge) → touches e e.a ≡ true
+pub touches_a : (e : Edge) → has_end_at e e.a ≡ true
 touches_a e = rw (eq_self e.a) refl
 
-pub touches_b : (e : Edge) → touches e e.b ≡ true
+pub touches_b : (e : Edge) → has_end_at e e.b ≡ true
 touches_b e = rw (eq_self e.b) (last (e.a == e.b))
   where
     last : (s : Bool) → (s || true) ≡ true

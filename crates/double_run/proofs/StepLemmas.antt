@@ -4,17 +4,17 @@ use Rattle.std.proofs.lemmas.Bool.{and_parts}
 use Rattle.std.proofs.lemmas.Bool.Decides.{nat_tests}
 use Rattle.line_graph.specs.declared.edge.Edge.{Edge}
 use Rattle.line_graph.specs.declared.pass.Pass.{Pass}
-use Rattle.line_graph.specs.KeptPieces.{KeepsPiece, ends_below}
+use Rattle.line_graph.specs.ValidPieces.{IsValidPiece, ends_below}
 use Rattle.line_graph.specs.PieceGraphs.{PieceValue}
 use Rattle.line_graph.specs.Pieces.{first_line}
-use Rattle.line_graph.specs.PieceWalks.{end_of, piece_cost, start_of, walk_cost}
-use Rattle.double_run.specs.declared.legs.Leg.{Leg}
-use Rattle.double_run.specs.declared.outing.Outing.{Outing}
+use Rattle.line_graph.specs.PieceWalks.{pass_end, piece_cost, pass_start, walk_cost}
+use Rattle.double_run.specs.declared.legs.DirectedLeg.{DirectedLeg}
+use Rattle.double_run.specs.declared.traversal.Traversal.{Traversal}
 use Rattle.double_run.specs.DoubleWalks.{IsDouble}
-use Rattle.double_run.specs.Cursors.{AreReady}
+use Rattle.double_run.specs.Cursors.{AreTraversalTables}
 use Rattle.euler_tour.specs.LineEnds.{AreBefore, AreLast}
-use Rattle.double_run.specs.Outings.{IsOuting, IsReady, Keeps, KeepsOuting, LeadsFrom, are_there, edge_at, is_spent, pass_along, pass_home, root_of}
-use Rattle.double_run.specs.OutingSteps.{GoesOut, IsHome, IsStep, count_left}
+use Rattle.double_run.specs.Traversals.{IsTraversal, HasTraversalTables, IsTraversalInvariant, KeepsTraversal, IsLegFrom, legs_are_below, edge_at, is_exhausted, leg_pass, leg_return, root_junction}
+use Rattle.double_run.specs.TraversalSteps.{GoesOut, IsTraversalDone, IsTraversalStep, remaining_count}
 use Rattle.double_run.proofs.CursorLemmas.{back_ready, begins_ready, marked_at, marked_stays, out_ready, over_less, over_ready}
 use Rattle.double_run.proofs.EndLemmas.{ends_are_below}
 use Rattle.double_run.proofs.HomeLemmas.{begins_kept, begins_on, edge_there, first_is, home_cost, home_double, root_is}
@@ -22,11 +22,11 @@ use Rattle.double_run.proofs.MetLemmas.{found_at}
 use Rattle.double_run.proofs.OutingLemmas.{back_kept, back_less, out_kept, out_less, there_push}
 
 -- the first line begins at the root, which is a junction
-root_at : (edges : List Edge) → (slice_index_or edges 0 (record { a = 0; b = 0; cost = 0 })).a ≡ root_of edges
+root_at : (edges : List Edge) → (slice_index_or edges 0 (record { a = 0; b = 0; cost = 0 })).a ≡ root_junction edges
 root_at [] = refl
 root_at (e ∷ edges) = refl
 
-root_below : (p : PieceValue) → KeepsPiece p → root_of p.edges < length p.junctions
+root_below : (p : PieceValue) → IsValidPiece p → root_junction p.edges < length p.junctions
 root_below p kept =
     let e = edge_there p.edges 0 (omega (arith, kept.some, kept.beside)) in
     subst (λ (n : ℕ). n < length p.junctions) (sym (root_is p.edges e.0 e.1))
@@ -34,47 +34,51 @@ root_below p kept =
 
 -- the ends of a line are junctions, whichever way it is passed
 leg_below : (n : ℕ) (edges : List Edge) (k : ℕ) (e : Edge) (back : Bool) → ends_below n edges ≡ true → slice_get edges k ≡ Some e
-    → (start_of e back < n) × (end_of e back < n)
+    → (pass_start e back < n) × (pass_end e back < n)
 leg_below n edges k e back all is = either e back (ends_are_below n edges k e all is)
   where
-    either : (e : Edge) (back : Bool) → (e.a < n) × (e.b < n) → (start_of e back < n) × (end_of e back < n)
+    either : (e : Edge) (back : Bool) → (e.a < n) × (e.b < n) → (pass_start e back < n) × (pass_end e back < n)
     either e true both = (both.1, both.0)
     either e false both = both
 
 -- a traversal without a pass satisfies the invariant
-pub begins_all : (p : PieceValue) (walk : List Pass) (out : List Leg) (passed : List Bool) (edges : List Edge) → walk ≡ [] → out ≡ []
+pub begins_all : (p : PieceValue) (walk : List Pass) (out : List DirectedLeg) (passed : List Bool) (edges : List Edge) → walk ≡ []
+    → out ≡ []
     → passed ≡ replicate (length p.edges) false → edges ≡ p.edges
-    → Keeps p.lines p.edges walk out passed (root_of p.edges) (slice_index_or edges 0 (record { a = 0; b = 0; cost = 0 })).a
+    → IsTraversalInvariant p.lines p.edges walk out passed (root_junction p.edges)
+    (slice_index_or edges 0 (record { a = 0; b = 0; cost = 0 })).a
 begins_all p walk out passed edges is_walk is_out is_passed are =
-    rw (is_walk, is_out, is_passed, are, root_at p.edges) (begins_kept p.lines p.edges (root_of p.edges))
+    rw (is_walk, is_out, is_passed, are, root_at p.edges) (begins_kept p.lines p.edges (root_junction p.edges))
 
 -- and it has its chains
-pub begins_chains : (p : PieceValue) (passed : List Bool) (last before : List ℕ) (edges : List Edge) → KeepsPiece p → edges ≡ p.edges
+pub begins_chains : (p : PieceValue) (passed : List Bool) (last before : List ℕ) (edges : List Edge) → IsValidPiece p → edges ≡ p.edges
     → length last ≡ length p.junctions → length before ≡ 2 * length p.edges → AreBefore p.edges before
     → AreLast p.edges (2 * length p.edges) last
-    → AreReady p.edges (length p.junctions) passed last before (slice_index_or edges 0 (record { a = 0; b = 0; cost = 0 })).a
+    → AreTraversalTables p.edges (length p.junctions) passed last before (slice_index_or edges 0 (record { a = 0; b = 0; cost = 0 })).a
 begins_chains p passed last before edges kept are is_last is_before linked ends =
     rw (are, root_at p.edges)
-    (begins_ready p.edges (length p.junctions) passed last before (root_of p.edges) is_last is_before (root_below p kept) linked ends)
+    (begins_ready p.edges (length p.junctions) passed last before (root_junction p.edges) is_last is_before (root_below p kept) linked ends)
 
 -- a step out
-pub out_step : (p : PieceValue) (old : Outing) (walk : List Pass) (out : Vec Leg Global) (passed : Vec Bool Global) (at : ℕ) (leg : Leg)
-    → KeepsPiece p → KeepsOuting p old → IsReady p old → LeadsFrom p.edges old.passed.items old.at leg
-    → walk ≡ old.walk ++ pass_along p.lines leg ∷ [] → out.items ≡ old.out.items ++ leg ∷ []
-    → passed.items ≡ set old.passed.items leg.place true → at ≡ end_of (edge_at p.edges leg.place) leg.back
+pub out_step : (p : PieceValue) (old : Traversal) (walk : List Pass) (out : Vec DirectedLeg Global) (passed : Vec Bool Global) (at : ℕ)
+    (leg : DirectedLeg)
+    → IsValidPiece p → KeepsTraversal p old → HasTraversalTables p old → IsLegFrom p.edges old.passed.items old.at leg
+    → walk ≡ old.walk ++ leg_pass p.lines leg ∷ [] → out.items ≡ old.out.items ++ leg ∷ []
+    → passed.items ≡ set old.passed.items leg.place true → at ≡ pass_end (edge_at p.edges leg.place) leg.back
     → GoesOut p old (record { walk = walk; ends = old.ends; out = out; passed = passed; at = at }) leg
 out_step p old walk out passed at leg kept keeps ready leads is_walk is_out is_passed is_at = record {
   made = record {
     on = record {
       keeps = rw (is_walk, is_out, is_passed, is_next)
-          (out_kept p.lines p.edges old.walk old.out.items old.passed.items (root_of p.edges) leg leads.edge kept.rising kept.beside
+          (out_kept p.lines p.edges old.walk old.out.items old.passed.items (root_junction p.edges) leg leads.edge kept.rising kept.beside
           leads.there leads.left
-          (subst (λ (n : ℕ). Keeps p.lines p.edges old.walk old.out.items old.passed.items (root_of p.edges) n) (sym leads.starts) keeps));
+          (subst (λ (n : ℕ). IsTraversalInvariant p.lines p.edges old.walk old.out.items old.passed.items (root_junction p.edges) n)
+          (sym leads.starts) keeps));
       ready = rw (is_passed, is_next)
           (out_ready p.edges (length p.junctions) old.passed.items old.ends.last.items old.ends.before.items old.at leg.place
-          (end_of leads.edge leg.back) (leg_below
+          (pass_end leads.edge leg.back) (leg_below
           (length p.junctions) p.edges leg.place leads.edge leg.back kept.ends leads.there).1 ready);
-      begins = λ h. rw is_walk (begins_on (first_line p.lines) old.walk (pass_along p.lines leg ∷ []) h);
+      begins = λ h. rw is_walk (begins_on (first_line p.lines) old.walk (leg_pass p.lines leg ∷ []) h);
       first = λ h. rw is_passed (marked_stays old.passed.items leg.place 0 h);
     };
     less = rw (is_out, is_passed)
@@ -84,15 +88,15 @@ out_step p old walk out passed at leg kept keeps ready leads is_walk is_out is_p
   marked = rw is_passed (marked_at old.passed.items leg.place leads.left);
 }
   where
-    is_next : at ≡ end_of leads.edge leg.back
-    is_next = is_at ∙ ap (λ (e : Edge). end_of e leg.back) (found_at p.edges leg.place leads.edge leads.there)
+    is_next : at ≡ pass_end leads.edge leg.back
+    is_next = is_at ∙ ap (λ (e : Edge). pass_end e leg.back) (found_at p.edges leg.place leads.edge leads.there)
 
     more : {m n : ℕ} (k : ℕ) → m < n → m + k < n + k
     more k h = omega arith
 
 -- the first one
-pub set_off : (p : PieceValue) (old new : Outing) → old.walk ≡ [] → GoesOut p old new (record { place = 0; back = false })
-    → IsOuting p new
+pub set_off : (p : PieceValue) (old new : Traversal) → old.walk ≡ [] → GoesOut p old new (record { place = 0; back = false })
+    → IsTraversal p new
 set_off p old new blank out = record {
   keeps = out.made.on.keeps;
   ready = out.made.on.ready;
@@ -101,10 +105,10 @@ set_off p old new blank out = record {
 }
 
 -- a skipped end
-pub over_step : (p : PieceValue) (old : Outing) (last : Vec ℕ Global) (end : ℕ) → KeepsOuting p old → IsReady p old
+pub over_step : (p : PieceValue) (old : Traversal) (last : Vec ℕ Global) (end : ℕ) → KeepsTraversal p old → HasTraversalTables p old
     → get_or old.ends.last.items old.at 0 ≡ end + 1 → get_or old.passed.items (end / 2) false ≡ true
     → last.items ≡ set old.ends.last.items old.at (get_or old.ends.before.items end 0)
-    → IsStep p old (record {
+    → IsTraversalStep p old (record {
       walk = old.walk;
       ends = record { last = last; before = old.ends.before };
       out = old.out;
@@ -120,67 +124,70 @@ over_step p old last end keeps ready here gone is_last = record {
     first = λ h. h;
   };
   less = over_less p.edges (length p.junctions) old.passed.items old.ends.last.items last.items old.ends.before.items old.at end
-      (2 * count_left old.passed.items + length old.out.items) is_last here ready;
+      (2 * remaining_count old.passed.items + length old.out.items) is_last here ready;
 }
 
 -- the edge of the last leg
-leg_edge : (edges : List Edge) (out : List Leg) (leg : Leg) → are_there (length edges) (out ++ leg ∷ []) ≡ true
+leg_edge : (edges : List Edge) (out : List DirectedLeg) (leg : DirectedLeg) → legs_are_below (length edges) (out ++ leg ∷ []) ≡ true
     → (e : Edge) × (slice_get edges leg.place ≡ Some e)
 leg_edge edges out leg there =
     edge_there edges leg.place
-    (less leg.place (length edges) (and_parts (are_there (length edges) out) _ (sym (there_push (length edges) out leg) ∙ there)).1)
+    (less leg.place (length edges) (and_parts (legs_are_below (length edges) out) _ (sym (there_push (length edges) out leg) ∙ there)).1)
   where
     less : (m n : ℕ) → nat_lt m n ≡ true → m < n
     less m n is = grind (arith, nat_tests)
 
 -- which is an index of a line of the piece
-pub leg_within : (p : PieceValue) (old : Outing) (out : List Leg) (leg : Leg) → KeepsOuting p old → old.out.items ≡ out ++ leg ∷ []
+pub leg_within : (p : PieceValue) (old : Traversal) (out : List DirectedLeg) (leg : DirectedLeg) → KeepsTraversal p old
+    → old.out.items ≡ out ++ leg ∷ []
     → leg.place < length p.edges
 leg_within p old out leg keeps is_out =
     less leg.place (length p.edges)
-    (and_parts (are_there (length p.edges) out) _ (sym (there_push (length p.edges) out leg) ∙ rw (← is_out) keeps.legs)).1
+    (and_parts (legs_are_below (length p.edges) out) _ (sym (there_push (length p.edges) out leg) ∙ rw (← is_out) keeps.legs)).1
   where
     less : (m n : ℕ) → nat_lt m n ≡ true → m < n
     less m n is = grind (arith, nat_tests)
 
 -- a step back
-pub back_step : (p : PieceValue) (old : Outing) (walk : List Pass) (out : Vec Leg Global) (at : ℕ) (leg : Leg) → KeepsPiece p
-    → KeepsOuting p old → IsReady p old
-    → is_spent old.passed.items p.edges old.at ≡ true → old.out.items ≡ out.items ++ leg ∷ []
-    → walk ≡ old.walk ++ pass_home p.lines leg ∷ [] → at ≡ start_of (edge_at p.edges leg.place) leg.back
-    → IsStep p old (record { walk = walk; ends = old.ends; out = out; passed = old.passed; at = at })
+pub back_step : (p : PieceValue) (old : Traversal) (walk : List Pass) (out : Vec DirectedLeg Global) (at : ℕ) (leg : DirectedLeg)
+    → IsValidPiece p
+    → KeepsTraversal p old → HasTraversalTables p old
+    → is_exhausted old.passed.items p.edges old.at ≡ true → old.out.items ≡ out.items ++ leg ∷ []
+    → walk ≡ old.walk ++ leg_return p.lines leg ∷ [] → at ≡ pass_start (edge_at p.edges leg.place) leg.back
+    → IsTraversalStep p old (record { walk = walk; ends = old.ends; out = out; passed = old.passed; at = at })
 back_step p old walk out at leg kept keeps ready spent is_out is_walk is_at = record {
   on = record {
     keeps = rw (is_walk, is_next)
-        (back_kept p.lines p.edges old.walk out.items old.passed.items (root_of p.edges) old.at leg e.0 kept.rising kept.beside e.1 spent
+        (back_kept p.lines p.edges old.walk out.items old.passed.items (root_junction p.edges) old.at leg e.0 kept.rising kept.beside e.1
+        spent
         (rw is_out at keeps));
     ready = rw is_next
-        (back_ready p.edges (length p.junctions) old.passed.items old.ends.last.items old.ends.before.items old.at (start_of e.0 leg.back)
+        (back_ready p.edges (length p.junctions) old.passed.items old.ends.last.items old.ends.before.items old.at (pass_start e.0 leg.back)
         (leg_below (length p.junctions) p.edges leg.place e.0 leg.back kept.ends e.1).0 ready);
-    begins = λ h. rw is_walk (begins_on (first_line p.lines) old.walk (pass_home p.lines leg ∷ []) h);
+    begins = λ h. rw is_walk (begins_on (first_line p.lines) old.walk (leg_return p.lines leg ∷ []) h);
     first = λ h. h;
   };
   less = rw is_out
-      (more (sum_by (λ (n : ℕ). n) old.ends.last.items) (back_less (2 * count_left old.passed.items) out.items leg));
+      (more (sum_by (λ (n : ℕ). n) old.ends.last.items) (back_less (2 * remaining_count old.passed.items) out.items leg));
 }
   where
     e : (e : Edge) × (slice_get p.edges leg.place ≡ Some e)
     e = leg_edge p.edges out.items leg (rw is_out at keeps.legs)
 
-    is_next : at ≡ start_of e.0 leg.back
-    is_next = is_at ∙ ap (λ (x : Edge). start_of x leg.back) (found_at p.edges leg.place e.0 e.1)
+    is_next : at ≡ pass_start e.0 leg.back
+    is_next = is_at ∙ ap (λ (x : Edge). pass_start x leg.back) (found_at p.edges leg.place e.0 e.1)
 
     more : {m n : ℕ} (k : ℕ) → m < n → m + k < n + k
     more k h = omega arith
 
 -- home, with a double walk
-pub finished : (p : PieceValue) (old new : Outing) → KeepsPiece p → IsOuting p old → IsHome p old new → IsDouble p new.walk
+pub finished : (p : PieceValue) (old new : Traversal) → IsValidPiece p → IsTraversal p old → IsTraversalDone p old new → IsDouble p new.walk
 finished p old new kept was home =
     home_double p new.walk new.passed.items new.at kept (rw home.empty at home.on.keeps) home.spent (home.on.begins was.begins)
     (home.on.first was.first)
 
 -- that costs twice the piece
-pub finished_cost : (p : PieceValue) (old new : Outing) → KeepsPiece p → IsOuting p old → IsHome p old new
+pub finished_cost : (p : PieceValue) (old new : Traversal) → IsValidPiece p → IsTraversal p old → IsTraversalDone p old new
     → walk_cost p new.walk ≡ 2 * piece_cost p
 finished_cost p old new kept was home =
     home_cost p new.walk new.passed.items new.at kept (rw home.empty at home.on.keeps) home.spent (home.on.first was.first)

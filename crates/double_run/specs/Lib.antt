@@ -2,5 +2,5 @@
 pub mod DoubleWalks
 -- The modules of the algorithm: cursors over line ends, and the traversal.
 pub mod Cursors
-pub mod Outings
-pub mod OutingSteps
+pub mod Traversals
+pub mod TraversalSteps

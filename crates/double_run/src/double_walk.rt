@@ -1,9 +1,9 @@
 ghost use Rattle.std.specs.Prelude.{◌≡◌, ◌*◌, IfOk, true};
-ghost use Rattle.double_run.specs.DoubleWalks.{IsDouble, unbound};
-ghost use Rattle.line_graph.specs.CutPieces.{graph_of};
-ghost use Rattle.line_graph.specs.PieceWalks.{fits, piece_cost, walk_cost};
+ghost use Rattle.double_run.specs.DoubleWalks.{IsDouble, without_ends};
+ghost use Rattle.line_graph.specs.PiecesOfDrawings.{graph_of};
+ghost use Rattle.line_graph.specs.PieceWalks.{is_fitting_walk, piece_cost, walk_cost};
 
-use crate::outing::{set_out, step};
+use crate::traversal::{begin_traversal, step};
 use design_model::Memory;
 use line_graph::{Piece, Walk};
 use std::alloc::Global;
@@ -15,10 +15,10 @@ use std::alloc::Global;
 /// only error is out of memory.
 pub fn double(alloc: Global, p: &Piece) -> Result<Walk, Memory>
     ensures double { IfOk result (IsDouble (graph_of p.now)) }
-    ensures fits { IfOk result (λ walk. fits (unbound (graph_of p.now)) walk ≡ true) }
+    ensures fits { IfOk result (λ walk. is_fitting_walk (without_ends (graph_of p.now)) walk ≡ true) }
     ensures cost { IfOk result (λ walk. walk_cost (graph_of p.now) walk ≡ 2 * piece_cost (graph_of p.now)) }
 {
-    let mut o = set_out(alloc, p)?;
+    let mut o = begin_traversal(alloc, p)?;
     while step(&mut o, p)? {}
     Ok(o.walk)
 }

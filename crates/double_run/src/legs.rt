@@ -1,23 +1,23 @@
 ghost use Rattle.std.specs.Prelude.{◌≡◌, ◌/◌, ◌<◌, length, not};
-ghost use Rattle.double_run.specs.Outings.{pass_along};
+ghost use Rattle.double_run.specs.Traversals.{leg_pass};
 ghost use Rattle.line_graph.specs.PieceGraphs.{is_odd};
-ghost use Rattle.line_graph.specs.PieceWalks.{end_of, start_of};
+ghost use Rattle.line_graph.specs.PieceWalks.{pass_end, pass_start};
 
 use line_graph::{Edge, Pass};
 
 /// A line by its index among those of a piece, forwards or backwards.
 #[derive(Clone, Copy)]
-pub struct Leg {
+pub struct DirectedLeg {
     pub place: u32,
     pub back: bool,
 }
 
-impl Leg {
+impl DirectedLeg {
     /// Returns the same line in the other direction.
-    pub fn turned(self) -> Leg
+    pub fn turned(self) -> DirectedLeg
         ensures { result ≡ record { place = self.place; back = not self.back } }
     {
-        Leg {
+        DirectedLeg {
             place: self.place,
             back: !self.back,
         }
@@ -26,7 +26,7 @@ impl Leg {
     /// Returns the pass along the leg.
     pub fn pass(self, lines: &[u32]) -> Pass
         requires { self.place < length lines.now }
-        ensures { result ≡ pass_along lines.now self }
+        ensures { result ≡ leg_pass lines.now self }
     {
         Pass {
             line: lines[self.place as usize],
@@ -36,10 +36,10 @@ impl Leg {
 }
 
 /// Returns the leg that starts at a line end.
-pub fn leg_from(end: u32) -> Leg
+pub fn leg_from(end: u32) -> DirectedLeg
     ensures { result ≡ record { place = end / 2; back = is_odd end } }
 {
-    Leg {
+    DirectedLeg {
         place: end / 2,
         back: end % 2 == 1,
     }
@@ -47,14 +47,14 @@ pub fn leg_from(end: u32) -> Leg
 
 /// Returns the junction where a line starts, in a direction.
 pub fn start_of_leg(edge: Edge, back: bool) -> u32
-    ensures { result ≡ start_of edge back }
+    ensures { result ≡ pass_start edge back }
 {
     if back { edge.b } else { edge.a }
 }
 
 /// Returns the junction where a line ends, in a direction.
 pub fn end_of_leg(edge: Edge, back: bool) -> u32
-    ensures { result ≡ end_of edge back }
+    ensures { result ≡ pass_end edge back }
 {
     if back { edge.a } else { edge.b }
 }

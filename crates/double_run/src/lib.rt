@@ -3,8 +3,8 @@
 
 mod double_walk;
 mod legs;
-mod outing;
 #[cfg(test)]
 mod tests;
+mod traversal;
 
 pub use double_walk::double;

@@ -7,9 +7,9 @@ use Rattle.line_graph.specs.declared.draw_kind.DrawKind.{DrawKind}
 use Rattle.line_graph.specs.declared.draw_kind.DrawKind.TheVariants as kind
 use Rattle.line_graph.specs.Drawings.{DrawingValue}
 use Rattle.drawing_text.specs.declared.limits.TheConstants.{MAX_TEXT}
-use Rattle.drawing_text.specs.DrawingText.{drawing_as2, drawing_of, told_at}
-use Rattle.drawing_text.specs.Words.{text_lines, without_return, words_in}
-use Rattle.drawing_text.proofs.SpellingFacts.{place}
+use Rattle.drawing_text.specs.DrawingText.{drawing_as2, drawing_of, located_fault}
+use Rattle.drawing_text.specs.Words.{text_lines, line_without_return, words_of_line}
+use Rattle.drawing_text.proofs.CanonicalTextFacts.{place}
 
 -- the longest text that is read, in bytes
 pub known_limit : MAX_TEXT ≡ 67108864
@@ -27,11 +27,11 @@ pub known_ended_lines : text_lines (codes "a" ++ 10 ∷ []) ≡ codes "a" ∷ []
 known_ended_lines = refl
 
 -- of two carriage returns one stays
-pub known_return : without_return (97 ∷ 13 ∷ 13 ∷ []) ≡ 97 ∷ 13 ∷ []
+pub known_return : line_without_return (97 ∷ 13 ∷ 13 ∷ []) ≡ 97 ∷ 13 ∷ []
 known_return = refl
 
 -- spaces and tabs stand between words, and may stand at both ends
-pub known_words : words_in (32 ∷ 9 ∷ 97 ∷ 98 ∷ 32 ∷ 32 ∷ 99 ∷ 9 ∷ []) ≡ codes "ab" ∷ codes "c" ∷ []
+pub known_words : words_of_line (32 ∷ 9 ∷ 97 ∷ 98 ∷ 32 ∷ 32 ∷ 99 ∷ 9 ∷ []) ≡ codes "ab" ∷ codes "c" ∷ []
 known_words = refl
 
 -- a square, and a line forth and back, in two blocks, with comments and signs as they may stand
@@ -179,5 +179,5 @@ pub known_cost : Faults (codes "step 1" ∷ codes "color 1" ∷ codes "line 0 0 
 known_cost = refl
 
 -- want of memory has no line
-pub known_memory : told_at 7 3 kind.Memory ≡ record { number = 0; kind = kind.Memory }
+pub known_memory : located_fault 7 3 kind.Memory ≡ record { number = 0; kind = kind.Memory }
 known_memory = refl

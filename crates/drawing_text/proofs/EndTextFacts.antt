@@ -7,7 +7,7 @@ use Rattle.line_graph.specs.declared.draw_kind.DrawKind.{DrawKind}
 use Rattle.line_graph.specs.declared.draw_kind.DrawKind.TheVariants as kind
 use Rattle.line_graph.specs.Drawings.{DrawingValue}
 use Rattle.drawing_text.specs.DrawingText.{drawing_as2, drawing_of}
-use Rattle.drawing_text.proofs.SpellingFacts.{place}
+use Rattle.drawing_text.proofs.CanonicalTextFacts.{place}
 
 -- a text of that version: lines of a block with a cross at 10 0, and further lines
 abbrev text : List ℕ → List (List ℕ) → List ℕ

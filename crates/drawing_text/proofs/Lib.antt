@@ -1,11 +1,11 @@
 mod Shapes
-mod SpellingFacts
+mod CanonicalTextFacts
 mod WordLemmas
 mod PointWordLemmas
-mod SpelledWords
-mod SpelledNumbers
-mod SpelledBlocks
-mod SpelledLines
-mod SpelledDrawings
+mod PrintedWords
+mod PrintedNumbers
+mod PrintedBlocks
+mod PrintedLines
+mod PrintedDrawings
 mod DrawingTextFacts
 mod EndTextFacts

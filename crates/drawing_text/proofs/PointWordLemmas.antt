@@ -5,11 +5,11 @@ use Rattle.std.proofs.lemmas.Bool.Decides.{nat_tests}
 use Rattle.std.proofs.lemmas.List.Elements.{All-push}
 use Rattle.design_model.specs.declared.point.TheConstants.{NEEDLE_LIMIT}
 use Rattle.step_splitter.specs.Chains.{IsNeedlePoint}
-use Rattle.design_model.specs.WholeNumbers.{whole_of}
+use Rattle.design_model.specs.WholeNumbers.{parsed_whole}
 use Rattle.line_graph.specs.declared.draw_kind.DrawKind.{DrawKind}
-use Rattle.line_graph.specs.Growing.{and_then}
-use Rattle.drawing_text.specs.TextLines.{coordinate_in, points_in}
-use Rattle.drawing_text.specs.Words.{words_in}
+use Rattle.line_graph.specs.GrowingDrawings.{and_then}
+use Rattle.drawing_text.specs.TextLines.{parsed_coordinate, parsed_points}
+use Rattle.drawing_text.specs.Words.{words_of_line}
 
 -- these points, and then those that come
 abbrev pub behind : List Point → Result (List Point) DrawKind → Result (List Point) DrawKind
@@ -23,16 +23,16 @@ behind_one points p (Err why) = refl
 
 -- the words so far denote these points, and the rest is read after them
 pub record GoesOn (words rest : List ℕ) (points : List Point) : Type 0 where
-  pub spelled : points_in (words_in words) ≡ behind points (points_in (words_in rest))
+  pub spelled : parsed_points (words_of_line words) ≡ behind points (parsed_points (words_of_line rest))
 
 -- two words more are one point more
 pub point_read : (words rest after more x y : List ℕ) (points : List Point) (across down : ℤ) → GoesOn words rest points
-    → words_in rest ≡ x ∷ words_in after → words_in after ≡ y ∷ words_in more
-    → coordinate_in (whole_of x) ≡ Ok across → coordinate_in (whole_of y) ≡ Ok down
+    → words_of_line rest ≡ x ∷ words_of_line after → words_of_line after ≡ y ∷ words_of_line more
+    → parsed_coordinate (parsed_whole x) ≡ Ok across → parsed_coordinate (parsed_whole y) ≡ Ok down
     → GoesOn words more (points ++ record { x = across; y = down } ∷ [])
 point_read words rest after more x y points across down goes first second left right = record {
   spelled = goes.spelled ∙ (rw (first, second, left, right) (behind_one points (record { x = across; y = down })
-      (points_in (words_in more))));
+      (parsed_points (words_of_line more))));
 }
 
 -- and a needle may go down there

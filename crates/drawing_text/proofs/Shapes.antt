@@ -5,9 +5,9 @@ use Rattle.std.proofs.lemmas.Bool.{and_parts}
 use Rattle.std.proofs.lemmas.Bool.Decides.{nat_tests, Decides-int_eq}
 use Rattle.std.specs.Ordering.{int_eq}
 use Rattle.design_model.specs.declared.point.Point.{Point}
-use Rattle.design_model.specs.Points.{is_same_point, is_within}
+use Rattle.design_model.specs.Points.{is_same_point, is_point_within}
 use Rattle.line_graph.specs.Drawings.{DrawingValue}
-use Rattle.line_graph.specs.Growing.{is_last_empty, is_used}
+use Rattle.line_graph.specs.GrowingDrawings.{is_last_empty, is_used}
 
 -- equal coordinates are those of equal points
 same_point : (p q : Point) → p.x ≡ q.x → p.y ≡ q.y → p ≡ q
@@ -21,7 +21,7 @@ same_is p q found =
     same_point p q ((Decides-int_eq p.x q.x).0 both.0) ((Decides-int_eq p.y q.y).0 both.1)
 
 -- a point is within a limit where both its coordinates are
-pub within_parts : (limit : ℕ) (p : Point) → IsTrue (is_within limit p)
+pub within_parts : (limit : ℕ) (p : Point) → IsTrue (is_point_within limit p)
     → (unsigned_abs p.x ≤ limit) × (unsigned_abs p.y ≤ limit)
 within_parts limit p within = grind (arith, nat_tests)
 

@@ -3,7 +3,7 @@ use Rattle.std.proofs.Common.{◌≡◌, ◌≢◌, ℕ, suc, ◌+◌, ◌<◌, 
 use Rattle.std.proofs.lemmas.Bool.Decides.{nat_tests}
 use Rattle.std.proofs.lemmas.List.{nil_from_length}
 use Rattle.std.specs.List.{position_or_len, slice_split}
-use Rattle.drawing_text.specs.Words.{is_blank, is_filled, is_line_feed, is_solid, text_lines, without_return, words_in}
+use Rattle.drawing_text.specs.Words.{is_blank_byte, is_filled, is_line_feed, is_word_byte, text_lines, line_without_return, words_of_line}
 
 -- one place more takes and drops one byte more
 take_next : (n b : ℕ) (rest : List ℕ) → take (1 + n) (b ∷ rest) ≡ b ∷ take n rest
@@ -40,17 +40,17 @@ some_line (b ∷ rest) some = line_by (is_line_feed b) b rest refl (some_line re
 -- the bytes before the first blank are the first part of a line; those after it have the other words
 record Parts (line : List ℕ) : Type 0 where
   more : List (List ℕ)
-  split : slice_split is_blank line ≡ take (position_or_len is_blank line) line ∷ more
-  words : filter is_filled more ≡ words_in (drop (position_or_len is_blank line) line)
+  split : slice_split is_blank_byte line ≡ take (position_or_len is_blank_byte line) line ∷ more
+  words : filter is_filled more ≡ words_of_line (drop (position_or_len is_blank_byte line) line)
 
-parts_by : (t : Bool) (b : ℕ) (rest : List ℕ) → is_blank b ≡ t → Parts rest → Parts (b ∷ rest)
+parts_by : (t : Bool) (b : ℕ) (rest : List ℕ) → is_blank_byte b ≡ t → Parts rest → Parts (b ∷ rest)
 parts_by true b rest test parts = record {
-  more = slice_split is_blank rest;
+  more = slice_split is_blank_byte rest;
   split = rw test refl;
   words = rw (test, test);
 }
 parts_by false b rest test parts =
-    let end = position_or_len is_blank rest in
+    let end = position_or_len is_blank_byte rest in
     record {
       more = parts.more;
       split = rw (test, take_next end b rest, parts.split);
@@ -59,33 +59,33 @@ parts_by false b rest test parts =
 
 parts_of : (line : List ℕ) → Parts line
 parts_of [] = record { more = []; split = refl; words = refl }
-parts_of (b ∷ rest) = parts_by (is_blank b) b rest refl (parts_of rest)
+parts_of (b ∷ rest) = parts_by (is_blank_byte b) b rest refl (parts_of rest)
 
 -- a line that begins with a byte of a word has the word first that ends before the first blank
 abbrev FirstWord : List ℕ → Type 0
-FirstWord line = let end = position_or_len is_blank line in
-    (words_in line ≡ take end line ∷ words_in (drop end line)) × (1 ≤ end)
+FirstWord line = let end = position_or_len is_blank_byte line in
+    (words_of_line line ≡ take end line ∷ words_of_line (drop end line)) × (1 ≤ end)
 
-first_word : (b : ℕ) (rest : List ℕ) → is_blank b ≡ false → FirstWord (b ∷ rest)
+first_word : (b : ℕ) (rest : List ℕ) → is_blank_byte b ≡ false → FirstWord (b ∷ rest)
 first_word b rest test =
     let parts = parts_of rest in
-    let end = position_or_len is_blank rest in
+    let end = position_or_len is_blank_byte rest in
     (rw (test, parts.split, take_next end b rest, drop_next end b rest, parts.words), rw test (omega arith))
 
 -- the bytes before the first byte of a word have no word
 abbrev pub start_of : List ℕ → ℕ
-start_of line = position_or_len is_solid line
+start_of line = position_or_len is_word_byte line
 
-words_by : (t : Bool) (b : ℕ) (rest : List ℕ) → is_blank b ≡ t → words_in rest ≡ words_in (drop (start_of rest) rest)
-    → words_in (b ∷ rest) ≡ words_in (drop (start_of (b ∷ rest)) (b ∷ rest))
+words_by : (t : Bool) (b : ℕ) (rest : List ℕ) → is_blank_byte b ≡ t → words_of_line rest ≡ words_of_line (drop (start_of rest) rest)
+    → words_of_line (b ∷ rest) ≡ words_of_line (drop (start_of (b ∷ rest)) (b ∷ rest))
 words_by true b rest test words = rw (test, drop_next (start_of rest) b rest) words
 words_by false b rest test words = rw (test, test)
 
-pub words_skipped : (line : List ℕ) → words_in line ≡ words_in (drop (start_of line) line)
+pub words_skipped : (line : List ℕ) → words_of_line line ≡ words_of_line (drop (start_of line) line)
 words_skipped [] = refl
-words_skipped (b ∷ rest) = words_by (is_blank b) b rest refl (words_skipped rest)
+words_skipped (b ∷ rest) = words_by (is_blank_byte b) b rest refl (words_skipped rest)
 
-word_by : (t : Bool) (b : ℕ) (rest : List ℕ) → is_blank b ≡ t
+word_by : (t : Bool) (b : ℕ) (rest : List ℕ) → is_blank_byte b ≡ t
     → (drop (start_of rest) rest ≢ [] → FirstWord (drop (start_of rest) rest))
     → drop (start_of (b ∷ rest)) (b ∷ rest) ≢ [] → FirstWord (drop (start_of (b ∷ rest)) (b ∷ rest))
 word_by true b rest test next = rw (test, drop_next (start_of rest) b rest) next
@@ -93,35 +93,35 @@ word_by false b rest test next = rw test (λ some. first_word b rest test)
 
 pub some_word : (line : List ℕ) → drop (start_of line) line ≢ [] → FirstWord (drop (start_of line) line)
 some_word [] some = absurd (some refl)
-some_word (b ∷ rest) some = word_by (is_blank b) b rest refl (some_word rest) some
+some_word (b ∷ rest) some = word_by (is_blank_byte b) b rest refl (some_word rest) some
 
 -- after the blanks there is nothing, or a word
 pub no_word : (line from : List ℕ) (start : ℕ) → start ≡ start_of line → from ≡ drop start line → length from ≡ 0
-    → words_in line ≡ []
+    → words_of_line line ≡ []
 no_word line from start starts are none =
     let empty : drop (start_of line) line ≡ [] = nil_from_length _ (rw (← starts, ← are) none) in
-    words_skipped line ∙ ap words_in empty
+    words_skipped line ∙ ap words_of_line empty
 
 -- a word at the beginning of a line, and what follows it
 pub record Taken (line word rest : List ℕ) : Type 0 where
-  pub words : words_in line ≡ word ∷ words_in rest
+  pub words : words_of_line line ≡ word ∷ words_of_line rest
   pub shorter : length rest < length line
 
 pub word_taken : (line from word rest : List ℕ) (start end : ℕ) → start ≡ start_of line → from ≡ drop start line
-    → length from ≢ 0 → end ≡ position_or_len is_blank from → word ≡ take end from → rest ≡ drop end from
+    → length from ≢ 0 → end ≡ position_or_len is_blank_byte from → word ≡ take end from → rest ≡ drop end from
     → Taken line word rest
 word_taken line from word rest start end starts are some ends taken left =
     let same : from ≡ drop (start_of line) line = rw (← starts) are in
     let First : List ℕ → Type 0 = λ bytes. FirstWord bytes in
     let first : FirstWord from = subst First (sym same) (some_word line (λ none. some (ap length (same ∙ none)))) in
     record {
-      words = words_skipped line ∙ (ap words_in (sym same) ∙ rw (taken, left, ends) first.0);
+      words = words_skipped line ∙ (ap words_of_line (sym same) ∙ rw (taken, left, ends) first.0);
       shorter = omega (arith, first.1, ap length left, length-drop end from, ap length are, length-drop start line);
     }
 
 -- a line ends with a carriage return, or with another byte
 pub return_dropped : (line : List ℕ) → get_or line (length line - 1) 0 ≡ 13
-    → take (length line - 1) line ≡ without_return line
+    → take (length line - 1) line ≡ line_without_return line
 return_dropped [] ends = refl
 return_dropped (b ∷ []) ends = let test : (b == 13) ≡ true = eq-eqb b 13 ends in rw test refl
 return_dropped (b ∷ c ∷ rest) ends =
@@ -129,7 +129,7 @@ return_dropped (b ∷ c ∷ rest) ends =
     let Ends : ℕ → Type 0 = λ n. get_or (b ∷ c ∷ rest) n 0 ≡ 13 in
     rw before (ap (λ more. b ∷ more) (return_dropped (c ∷ rest) (subst Ends before ends)))
 
-pub no_return : (line : List ℕ) → get_or line (length line - 1) 0 ≢ 13 → line ≡ without_return line
+pub no_return : (line : List ℕ) → get_or line (length line - 1) 0 ≢ 13 → line ≡ line_without_return line
 no_return [] ends = refl
 no_return (b ∷ []) ends = let test : (b == 13) ≡ false = grind (arith, nat_tests) in rw test refl
 no_return (b ∷ c ∷ rest) ends =

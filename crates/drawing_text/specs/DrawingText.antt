@@ -1,21 +1,21 @@
 -- The drawing that a text describes, or the first fault of the text. Own format: lines of words,
 -- each of which is read in the light of the lines before it. Lines of the text are numbered from 1.
 use Rattle.std.specs.Prelude.{◌≡◌, ℕ, ◌+◌, ◌==◌, ◌&&◌, Bool, true, List, [], ◌∷◌, Option, Some, None, Result, Ok, Err, bytes_eq, codes, if◌then◌else◌}
-use Rattle.design_model.specs.WantOfMemory.{IsSaid}
+use Rattle.design_model.specs.OutOfMemory.{IsSpecified}
 use Rattle.line_graph.specs.declared.draw_kind.DrawKind.{DrawKind}
 use Rattle.line_graph.specs.declared.draw_kind.DrawKind.TheVariants as kind
-use Rattle.line_graph.specs.Drawings.{DrawingValue, KeepsDrawing}
-use Rattle.line_graph.specs.Growing.{and_then, finished, wants_memory}
+use Rattle.line_graph.specs.Drawings.{DrawingValue, KeepsDrawingLimits}
+use Rattle.line_graph.specs.GrowingDrawings.{and_then, finished_drawing, draw_is_out_of_memory}
 use Rattle.line_graph.specs.JoinedDrawings.{is_joined, joined_drawing}
 use Rattle.line_graph.specs.WalkEnds.{HasNoEnds, walk_end_added}
-use Rattle.drawing_text.specs.declared.draft.Draft.{Draft}
+use Rattle.drawing_text.specs.declared.draft.DrawingDraft.{DrawingDraft}
 use Rattle.drawing_text.specs.declared.draw_fault.DrawFault.{DrawFault}
 use Rattle.drawing_text.specs.declared.version.Version.{Version}
 use Rattle.drawing_text.specs.declared.walk_end.WalkEnd.{WalkEnd}
 use Rattle.drawing_text.specs.declared.version.Version.TheVariants as version
-use Rattle.drawing_text.specs.Spelling.{plain_spelling, plain_spelling2}
-use Rattle.drawing_text.specs.TextLines.{first_draft, judged}
-use Rattle.drawing_text.specs.Words.{is_passed_over, words_by_line}
+use Rattle.drawing_text.specs.CanonicalTexts.{canonical_text, canonical_text2}
+use Rattle.drawing_text.specs.TextLines.{empty_draft, draft_after_words}
+use Rattle.drawing_text.specs.Words.{is_ignored_line, words_by_line}
 
 -- The number of the text line at which a fault is reported. An empty block is reported at the line
 -- that opened it, out of memory at 0, and any other fault at the line that has it.
@@ -25,57 +25,59 @@ line_of_fault number opened kind.Memory = 0
 line_of_fault number opened other = number
 
 -- A fault with the number of the text line at which it is reported.
-abbrev pub told_at : (number opened : ℕ) → DrawKind → DrawFault
-told_at number opened why = record { number = line_of_fault number opened why; kind = why }
+abbrev pub located_fault : (number opened : ℕ) → DrawKind → DrawFault
+located_fault number opened why = record { number = line_of_fault number opened why; kind = why }
 
 -- A result whose fault gets the number of its text line.
 abbrev pub at_line : {A : Type 0} → (number opened : ℕ) → Result A DrawKind → Result A DrawFault
 at_line number opened (Ok a) = Ok a
-at_line number opened (Err why) = Err (told_at number opened why)
+at_line number opened (Err why) = Err (located_fault number opened why)
 
 -- The joined drawing of a draft, or its fault, where the text ends before the line of the given
 -- number.
-abbrev pub joined_at : ℕ → Draft → Result DrawingValue DrawFault
+abbrev pub joined_at : ℕ → DrawingDraft → Result DrawingValue DrawFault
 joined_at number draft =
-    at_line number draft.opened (and_then (finished draft.drawing) joined_drawing)
+    at_line number draft.opened (and_then (finished_drawing draft.drawing) joined_drawing)
 
 -- The drawing with the given starts and ends, or the first fault of one of them, at the text line
 -- that names it.
-abbrev pub with_ends : DrawingValue → List WalkEnd → Result DrawingValue DrawFault
-with_ends d [] = Ok d
-with_ends d (end ∷ rest) =
+abbrev pub drawing_with_ends : DrawingValue → List WalkEnd → Result DrawingValue DrawFault
+drawing_with_ends d [] = Ok d
+drawing_with_ends d (end ∷ rest) =
     and_then (at_line end.number 0 (walk_end_added end.is_start d end.spot)) (λ next.
-    with_ends next rest)
+    drawing_with_ends next rest)
 
 -- The drawing of a complete draft, by the version of the text, which ends before the line of the
 -- given number. Faults of starts and ends come after all others.
-abbrev pub meant_by : Version → ℕ → Draft → Result DrawingValue DrawFault
-meant_by version.One number draft = at_line number draft.opened (finished draft.drawing)
-meant_by version.Two number draft = joined_at number draft
-meant_by version.Three number draft =
-    and_then (joined_at number draft) (λ d. with_ends d draft.ends)
+abbrev pub drawing_of_draft : Version → ℕ → DrawingDraft → Result DrawingValue DrawFault
+drawing_of_draft version.One number draft = at_line number draft.opened
+    (finished_drawing draft.drawing)
+drawing_of_draft version.Two number draft = joined_at number draft
+drawing_of_draft version.Three number draft =
+    and_then (joined_at number draft) (λ d. drawing_with_ends d draft.ends)
 
 -- The drawing of a draft and the remaining text lines, from the line of the given number on, or the
 -- first fault.
-abbrev pub drawn_after : Version → ℕ → Draft → List (List (List ℕ)) → Result DrawingValue DrawFault
-drawn_after version number draft [] = meant_by version number draft
-drawn_after version number draft (words ∷ rest) =
-    and_then (at_line number draft.opened (judged version number draft words)) (λ next.
-    drawn_after version (number + 1) next rest)
+abbrev pub drawing_after_lines : Version → ℕ → DrawingDraft → List (List (List ℕ))
+    → Result DrawingValue DrawFault
+drawing_after_lines version number draft [] = drawing_of_draft version number draft
+drawing_after_lines version number draft (words ∷ rest) =
+    and_then (at_line number draft.opened (draft_after_words version number draft words)) (λ next.
+    drawing_after_lines version (number + 1) next rest)
 
 -- The version that a word names, if it names one.
-abbrev pub version_in : List ℕ → Option Version
-version_in word =
+abbrev pub parsed_version : List ℕ → Option Version
+parsed_version word =
     if bytes_eq word (codes "1") then Some version.One
     else if bytes_eq word (codes "2") then Some version.Two
     else if bytes_eq word (codes "3") then Some version.Three
     else None
 
 -- The version of a drawing text, if the words are its header.
-abbrev pub header_in : List (List ℕ) → Option Version
-header_in (first ∷ second ∷ []) =
-    if bytes_eq first (codes "redwork") then version_in second else None
-header_in words = None
+abbrev pub parsed_header : List (List ℕ) → Option Version
+parsed_header (first ∷ second ∷ []) =
+    if bytes_eq first (codes "redwork") then parsed_version second else None
+parsed_header words = None
 
 -- The fault that the line of the given number is no header.
 abbrev pub bad_header : ℕ → DrawFault
@@ -90,66 +92,67 @@ pub record Body : Type 0 where
 
 -- The text after the header, whose line has the given number, or the fault that the line is no
 -- header.
-abbrev pub body_behind : ℕ → Option Version → List (List (List ℕ)) → Result Body DrawFault
-body_behind number None rest = Err (bad_header number)
-body_behind number (Some version) rest =
+abbrev pub body_after_header : ℕ → Option Version → List (List (List ℕ)) → Result Body DrawFault
+body_after_header number None rest = Err (bad_header number)
+body_after_header number (Some version) rest =
     Ok (record { version = version; header = number; lines = rest })
 
 -- The header and the text after it, where all lines before the given number are empty or comments.
 abbrev pub body_from : ℕ → List (List (List ℕ)) → Result Body DrawFault
 body_from number [] = Err (bad_header number)
 body_from number (words ∷ rest) =
-    if is_passed_over words then body_from (number + 1) rest
-    else body_behind number (header_in words) rest
+    if is_ignored_line words then body_from (number + 1) rest
+    else body_after_header number (parsed_header words) rest
 
 -- The drawing that a text describes in a version, or its first fault.
-abbrev pub said_in : Version → Body → Result DrawingValue DrawFault
-said_in version body = drawn_after version (body.header + 1) first_draft body.lines
+abbrev pub drawing_in_version : Version → Body → Result DrawingValue DrawFault
+drawing_in_version version body = drawing_after_lines version (body.header + 1) empty_draft
+    body.lines
 
 -- The header of a text and the lines after it, or the fault that there is no header.
-abbrev pub body_of : List ℕ → Result Body DrawFault
-body_of text = body_from 1 (words_by_line text)
+abbrev pub body_of_text : List ℕ → Result Body DrawFault
+body_of_text text = body_from 1 (words_by_line text)
 
 -- The drawing that a text describes, in the version that its header names, or its first fault.
 abbrev pub drawing_of : List ℕ → Result DrawingValue DrawFault
-drawing_of text = and_then (body_of text) (λ body. said_in body.version body)
+drawing_of text = and_then (body_of_text text) (λ body. drawing_in_version body.version body)
 
 -- The drawing that a text describes in version 2, whether its header names version 1 or 2. A header
 -- of version 3 is a fault.
-abbrev pub said_as2 : Version → Body → Result DrawingValue DrawFault
-said_as2 version.Three body = Err (bad_header body.header)
-said_as2 earlier body = said_in version.Two body
+abbrev pub drawing_of_body_as2 : Version → Body → Result DrawingValue DrawFault
+drawing_of_body_as2 version.Three body = Err (bad_header body.header)
+drawing_of_body_as2 earlier body = drawing_in_version version.Two body
 
 -- The drawing that a text of version 1 or 2 describes when it is read as version 2, or its first
 -- fault.
 abbrev pub drawing_as2 : List ℕ → Result DrawingValue DrawFault
-drawing_as2 text = and_then (body_of text) (λ body. said_as2 body.version body)
+drawing_as2 text = and_then (body_of_text text) (λ body. drawing_of_body_as2 body.version body)
 
 -- A fault is out of memory, which is reported at line 0.
-abbrev pub is_unplaced : DrawFault → Bool
-is_unplaced fault = wants_memory fault.kind && fault.number == 0
+abbrev pub draw_fault_is_out_of_memory : DrawFault → Bool
+draw_fault_is_out_of_memory fault = draw_is_out_of_memory fault.kind && fault.number == 0
 
 -- The result of a reader equals the specified one, or is out of memory.
-abbrev pub Reads : Result DrawingValue DrawFault → Result DrawingValue DrawFault → Type 0
-Reads said result = IsSaid is_unplaced said result
+abbrev pub ReadsDrawing : Result DrawingValue DrawFault → Result DrawingValue DrawFault → Type 0
+ReadsDrawing said result = IsSpecified draw_fault_is_out_of_memory said result
 
 -- A joined drawing without starts and ends.
-pub record IsWhole (d : DrawingValue) : Type 0 where
+pub record IsJoinedWithoutEnds (d : DrawingValue) : Type 0 where
   pub joined : is_joined d ≡ true
   pub unended : HasNoEnds d
 
 -- A drawing that is read from a text of version 2 is joined and has no starts and ends.
-abbrev pub IsMeant : Version → DrawingValue → Type 0
-IsMeant version.Two d = IsWhole d
-IsMeant other d = Unit {0}
+abbrev pub IsDrawingOfVersion : Version → DrawingValue → Type 0
+IsDrawingOfVersion version.Two d = IsJoinedWithoutEnds d
+IsDrawingOfVersion other d = Unit {0}
 
 -- The canonical text of a drawing without starts and ends is read as that drawing.
-abbrev pub PlainSpellingSays : Type 0
-PlainSpellingSays = (d : DrawingValue) → KeepsDrawing d → HasNoEnds d
-    → drawing_of (plain_spelling d) ≡ Ok d
+abbrev pub CanonicalTextIsRead : Type 0
+CanonicalTextIsRead = (d : DrawingValue) → KeepsDrawingLimits d → HasNoEnds d
+    → drawing_of (canonical_text d) ≡ Ok d
 
 -- The canonical text, in version 2, of a joined drawing without starts and ends is read as that
 -- drawing.
-abbrev pub PlainSpelling2Says : Type 0
-PlainSpelling2Says = (d : DrawingValue) → KeepsDrawing d → IsWhole d
-    → drawing_of (plain_spelling2 d) ≡ Ok d
+abbrev pub CanonicalText2IsRead : Type 0
+CanonicalText2IsRead = (d : DrawingValue) → KeepsDrawingLimits d → IsJoinedWithoutEnds d
+    → drawing_of (canonical_text2 d) ≡ Ok d

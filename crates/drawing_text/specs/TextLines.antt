@@ -5,103 +5,106 @@ use Rattle.design_model.specs.declared.point.Point.{Point}
 use Rattle.design_model.specs.declared.point.TheConstants.{NEEDLE_LIMIT}
 use Rattle.design_model.specs.declared.whole_number.Whole.{Whole}
 use Rattle.design_model.specs.declared.whole_number.Whole.TheVariants as whole
-use Rattle.design_model.specs.WholeNumbers.{whole_of}
+use Rattle.design_model.specs.WholeNumbers.{parsed_whole}
 use Rattle.step_splitter.specs.declared.segment.TheConstants.{MAX_STEP}
 use Rattle.line_graph.specs.declared.draw_kind.DrawKind.{DrawKind}
 use Rattle.line_graph.specs.declared.draw_kind.DrawKind.TheVariants as kind
 use Rattle.line_graph.specs.Drawings.{DrawingValue}
-use Rattle.line_graph.specs.Growing.{and_then, block_added, drawing_begun, is_label_word, line_added}
-use Rattle.drawing_text.specs.declared.draft.Draft.{Draft}
+use Rattle.line_graph.specs.GrowingDrawings.{and_then, block_added, empty_drawing, is_drawing_label, line_added}
+use Rattle.drawing_text.specs.declared.draft.DrawingDraft.{DrawingDraft}
 use Rattle.drawing_text.specs.declared.version.Version.{Version}
 use Rattle.drawing_text.specs.declared.version.Version.TheVariants as version
-use Rattle.drawing_text.specs.Words.{is_comment, only_word}
+use Rattle.drawing_text.specs.Words.{begins_comment, single_word}
 
 -- A number from low to high, or the fault that it is out of range.
-abbrev pub count_from : ℕ → ℕ → ℤ → Result ℕ DrawKind
-count_from low high (pos n) = if nat_le low n && nat_le n high then Ok n else Err kind.OutOfRange
-count_from low high (negsuc n) = Err kind.OutOfRange
+abbrev pub count_in_range : ℕ → ℕ → ℤ → Result ℕ DrawKind
+count_in_range low high (pos n) = if nat_le low n && nat_le n high then Ok n else Err
+    kind.OutOfRange
+count_in_range low high (negsuc n) = Err kind.OutOfRange
 
 -- The number from low to high that a word denotes, or its fault.
-abbrev pub count_in : ℕ → ℕ → Whole → Result ℕ DrawKind
-count_in low high whole.NotANumber = Err kind.BadNumber
-count_in low high whole.Outside = Err kind.OutOfRange
-count_in low high (whole.Value n) = count_from low high n
+abbrev pub parsed_count : ℕ → ℕ → Whole → Result ℕ DrawKind
+parsed_count low high whole.NotANumber = Err kind.BadNumber
+parsed_count low high whole.Outside = Err kind.OutOfRange
+parsed_count low high (whole.Value n) = count_in_range low high n
 
 -- The coordinate of a needle point that a word denotes, or its fault.
-abbrev pub coordinate_in : Whole → Result ℤ DrawKind
-coordinate_in whole.NotANumber = Err kind.BadNumber
-coordinate_in whole.Outside = Err kind.OutOfRange
-coordinate_in (whole.Value n) = if nat_le (unsigned_abs n) NEEDLE_LIMIT then Ok n
+abbrev pub parsed_coordinate : Whole → Result ℤ DrawKind
+parsed_coordinate whole.NotANumber = Err kind.BadNumber
+parsed_coordinate whole.Outside = Err kind.OutOfRange
+parsed_coordinate (whole.Value n) = if nat_le (unsigned_abs n) NEEDLE_LIMIT then Ok n
     else Err kind.OutOfRange
 
 -- The points that words denote, each by two coordinates, x before y, or the first fault. A single
 -- coordinate at the end is the fault `FewPoints`.
-abbrev pub points_in : List (List ℕ) → Result (List Point) DrawKind
-points_in [] = Ok []
-points_in (x ∷ []) = and_then (coordinate_in (whole_of x)) (λ across. Err kind.FewPoints)
-points_in (x ∷ y ∷ rest) =
-    and_then (coordinate_in (whole_of x)) (λ across.
-    and_then (coordinate_in (whole_of y)) (λ down.
-    and_then (points_in rest) (λ points. Ok (record { x = across; y = down } ∷ points))))
+abbrev pub parsed_points : List (List ℕ) → Result (List Point) DrawKind
+parsed_points [] = Ok []
+parsed_points (x ∷ []) = and_then (parsed_coordinate (parsed_whole x))
+    (λ across. Err kind.FewPoints)
+parsed_points (x ∷ y ∷ rest) =
+    and_then (parsed_coordinate (parsed_whole x)) (λ across.
+    and_then (parsed_coordinate (parsed_whole y)) (λ down.
+    and_then (parsed_points rest) (λ points. Ok (record { x = across; y = down } ∷ points))))
 
 -- The point that two words denote by its coordinates, x before y, or the fault.
-abbrev pub point_in : List (List ℕ) → Result Point DrawKind
-point_in (x ∷ y ∷ []) =
-    and_then (coordinate_in (whole_of x)) (λ across.
-    and_then (coordinate_in (whole_of y)) (λ down. Ok (record { x = across; y = down })))
-point_in words = Err kind.BadWord
+abbrev pub parsed_point : List (List ℕ) → Result Point DrawKind
+parsed_point (x ∷ y ∷ []) =
+    and_then (parsed_coordinate (parsed_whole x)) (λ across.
+    and_then (parsed_coordinate (parsed_whole y)) (λ down. Ok (record { x = across; y = down })))
+parsed_point words = Err kind.BadWord
 
 -- The drawing of an empty text, without blocks and with the longest step 25.
-abbrev pub blank_drawing : DrawingValue
-blank_drawing = drawing_begun [] 25
+abbrev pub default_drawing : DrawingValue
+default_drawing = empty_drawing [] 25
 
 -- The draft after the header.
-abbrev pub first_draft : Draft
-first_draft =
-    record { drawing = blank_drawing; named = false; stepped = false; opened = 0; ends = [] }
+abbrev pub empty_draft : DrawingDraft
+empty_draft =
+    record { drawing = default_drawing; named = false; stepped = false; opened = 0; ends = [] }
 
 -- A draft has no block yet.
-abbrev pub is_before_blocks : Draft → Bool
+abbrev pub is_before_blocks : DrawingDraft → Bool
 is_before_blocks draft = length draft.drawing.threads == 0
 
 -- The draft after a line with the keyword "name" and the given word, or the fault of that line.
-abbrev pub named : Draft → Option (List ℕ) → Result Draft DrawKind
-named draft None = Err kind.BadWord
-named draft (Some word) =
-    if is_label_word word && (not draft.named && is_before_blocks draft)
+abbrev pub with_name_line : DrawingDraft → Option (List ℕ) → Result DrawingDraft DrawKind
+with_name_line draft None = Err kind.BadWord
+with_name_line draft (Some word) =
+    if is_drawing_label word && (not draft.named && is_before_blocks draft)
     then Ok (record draft { named = true; drawing = record draft.drawing { label = word } })
     else Err kind.BadWord
 
 -- The draft after a line with the keyword "step" and the given word, or the fault of that line.
-abbrev pub stepped : Draft → Option (List ℕ) → Result Draft DrawKind
-stepped draft None = Err kind.BadWord
-stepped draft (Some word) =
+abbrev pub with_step_line : DrawingDraft → Option (List ℕ) → Result DrawingDraft DrawKind
+with_step_line draft None = Err kind.BadWord
+with_step_line draft (Some word) =
     if draft.stepped || not (is_before_blocks draft) then Err kind.BadWord
-    else and_then (count_in 1 MAX_STEP (whole_of word)) (λ step.
+    else and_then (parsed_count 1 MAX_STEP (parsed_whole word)) (λ step.
     Ok (record draft { stepped = true; drawing = record draft.drawing { step = step } }))
 
 -- The draft after the text line of the given number, with the keyword "color" and the given word,
 -- or the fault of that line.
-abbrev pub coloured : ℕ → Draft → Option (List ℕ) → Result Draft DrawKind
-coloured number draft None = Err kind.BadWord
-coloured number draft (Some word) =
-    and_then (count_in 0 255 (whole_of word)) (λ thread.
+abbrev pub with_color_line : ℕ → DrawingDraft → Option (List ℕ) → Result DrawingDraft DrawKind
+with_color_line number draft None = Err kind.BadWord
+with_color_line number draft (Some word) =
+    and_then (parsed_count 0 255 (parsed_whole word)) (λ thread.
     and_then (block_added draft.drawing thread) (λ drawing.
     Ok (record draft { opened = number; drawing = drawing })))
 
 -- The draft after a line with the keyword "line" and the given words, or the fault of that line.
-abbrev pub lined : Draft → List (List ℕ) → Result Draft DrawKind
-lined draft words =
+abbrev pub with_points_line : DrawingDraft → List (List ℕ) → Result DrawingDraft DrawKind
+with_points_line draft words =
     if is_before_blocks draft then Err kind.NoBlock
-    else and_then (points_in words) (λ points.
+    else and_then (parsed_points words) (λ points.
     and_then (line_added draft.drawing points) (λ drawing. Ok (record draft { drawing = drawing })))
 
 -- The draft after the text line of the given number, with the keyword "start" or "end" and the
 -- given words, or the fault of that line. A start or an end belongs to the last block.
-abbrev pub ended : ℕ → Bool → Draft → List (List ℕ) → Result Draft DrawKind
-ended number is_start draft words =
+abbrev pub with_walk_end_line : ℕ → Bool → DrawingDraft → List (List ℕ)
+    → Result DrawingDraft DrawKind
+with_walk_end_line number is_start draft words =
     if is_before_blocks draft then Err kind.NoBlock
-    else and_then (point_in words) (λ at. Ok (record draft {
+    else and_then (parsed_point words) (λ at. Ok (record draft {
       ends = draft.ends ++ record {
         number = number;
         is_start = is_start;
@@ -110,21 +113,22 @@ ended number is_start draft words =
     }))
 
 -- Texts of the version may name starts and ends.
-abbrev pub has_ends : Version → Bool
-has_ends version.Three = true
-has_ends earlier = false
+abbrev pub allows_ends : Version → Bool
+allows_ends version.Three = true
+allows_ends earlier = false
 
 -- The draft after the text line of the given number with the given words, or the fault of that
 -- line.
-abbrev pub judged : Version → ℕ → Draft → List (List ℕ) → Result Draft DrawKind
-judged version number draft [] = Ok draft
-judged version number draft (word ∷ rest) =
-    if is_comment word then Ok draft
-    else if bytes_eq word (codes "name") then named draft (only_word rest)
-    else if bytes_eq word (codes "step") then stepped draft (only_word rest)
-    else if bytes_eq word (codes "color") then coloured number draft (only_word rest)
-    else if bytes_eq word (codes "line") then lined draft rest
-    else if not (has_ends version) then Err kind.BadWord
-    else if bytes_eq word (codes "start") then ended number true draft rest
-    else if bytes_eq word (codes "end") then ended number false draft rest
+abbrev pub draft_after_words : Version → ℕ → DrawingDraft → List (List ℕ)
+    → Result DrawingDraft DrawKind
+draft_after_words version number draft [] = Ok draft
+draft_after_words version number draft (word ∷ rest) =
+    if begins_comment word then Ok draft
+    else if bytes_eq word (codes "name") then with_name_line draft (single_word rest)
+    else if bytes_eq word (codes "step") then with_step_line draft (single_word rest)
+    else if bytes_eq word (codes "color") then with_color_line number draft (single_word rest)
+    else if bytes_eq word (codes "line") then with_points_line draft rest
+    else if not (allows_ends version) then Err kind.BadWord
+    else if bytes_eq word (codes "start") then with_walk_end_line number true draft rest
+    else if bytes_eq word (codes "end") then with_walk_end_line number false draft rest
     else Err kind.BadWord

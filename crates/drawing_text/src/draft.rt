@@ -1,13 +1,13 @@
 ghost use Rattle.std.specs.Prelude.{◌≡◌, IfOk};
-ghost use Rattle.design_model.specs.WantOfMemory.{IsSaid};
-ghost use Rattle.line_graph.specs.Growing.{Changes, and_then, finished, wants_memory};
+ghost use Rattle.design_model.specs.OutOfMemory.{IsSpecified};
+ghost use Rattle.line_graph.specs.GrowingDrawings.{ChangesAsSpecified, and_then, finished_drawing, draw_is_out_of_memory};
 ghost use Rattle.line_graph.specs.JoinedDrawings.{joined_drawing};
 ghost use Rattle.drawing_text.specs.declared.version.Version.TheVariants as version;
-ghost use Rattle.drawing_text.specs.DrawingText.{IsMeant, IsWhole, Reads, at_line, joined_at, meant_by};
-ghost use Rattle.drawing_text.specs.TextLines.{coloured, ended, first_draft, has_ends as has_start_lines, judged, lined, named, stepped};
-ghost use Rattle.drawing_text.specs.Words.{only_word as only_of_words, words_in};
+ghost use Rattle.drawing_text.specs.DrawingText.{IsDrawingOfVersion, IsJoinedWithoutEnds, ReadsDrawing, at_line, joined_at, drawing_of_draft};
+ghost use Rattle.drawing_text.specs.TextLines.{with_color_line, with_walk_end_line, empty_draft, allows_ends, draft_after_words, with_points_line, with_name_line, with_step_line};
+ghost use Rattle.drawing_text.specs.Words.{single_word, words_of_line};
 
-use crate::draw_fault::{DrawFault, told_at};
+use crate::draw_fault::{DrawFault, fault_with_line};
 use crate::ending::with_ends;
 use crate::number_words::count_in;
 use crate::point_words::{point_of_words, points_of_words};
@@ -17,7 +17,7 @@ use crate::walk_end::{WalkEnd, WalkEnds};
 use line_graph::{DrawKind, Drawing, DrawingMaker, Spot, is_label_word, join};
 use std::alloc::Global;
 use step_splitter::MAX_STEP;
-use text_parts::spells;
+use text_parts::equals_text;
 
 /// The longest step of a drawing whose text names none, in tenths of a millimetre.
 const DEFAULT_STEP: u32 = 25;
@@ -25,7 +25,7 @@ const DEFAULT_STEP: u32 = 25;
 /// A draft: the drawing of the text lines so far, and its starts and ends. `named` and `stepped` record
 /// whether a name and a step were given, `opened` is the number of the line that opened the last block.
 #[derive(Debug, Drop)]
-pub struct Draft {
+pub struct DrawingDraft {
     pub drawing: DrawingMaker,
     pub named: bool,
     pub stepped: bool,
@@ -33,12 +33,12 @@ pub struct Draft {
     pub ends: WalkEnds,
 }
 
-impl Draft {
+impl DrawingDraft {
     /// Returns the draft after the header.
     pub fn new(alloc: Global) -> Self
-        ensures { result ≡ first_draft }
+        ensures { result ≡ empty_draft }
     {
-        Draft {
+        DrawingDraft {
             drawing: DrawingMaker::new(alloc, b"", DEFAULT_STEP),
             named: false,
             stepped: false,
@@ -55,7 +55,8 @@ impl Draft {
         number: u32,
         line: &[u8],
     ) -> Result<(), DrawKind>
-        ensures { Changes (judged version number self.old (words_in line.now)) self.old result
+        ensures { ChangesAsSpecified
+            (draft_after_words version number self.old (words_of_line line.now)) self.old result
             self.new }
     {
         let Some((word, rest)) = next_word(line) else {
@@ -64,32 +65,33 @@ impl Draft {
         if is_comment(word) {
             return Ok(());
         }
-        if spells(word, "name") {
+        if equals_text(word, "name") {
             return self.take_name(rest);
         }
-        if spells(word, "step") {
+        if equals_text(word, "step") {
             return self.take_step(rest);
         }
-        if spells(word, "color") {
+        if equals_text(word, "color") {
             return self.take_color(number, rest);
         }
-        if spells(word, "line") {
+        if equals_text(word, "line") {
             return self.take_points(alloc, rest);
         }
         if !has_ends(version) {
             return Err(DrawKind::BadWord);
         }
-        if spells(word, "start") {
+        if equals_text(word, "start") {
             return self.take_end(number, true, rest);
         }
-        if spells(word, "end") {
+        if equals_text(word, "end") {
             return self.take_end(number, false, rest);
         }
         Err(DrawKind::BadWord)
     }
 
     fn take_name(&mut self, rest: &[u8]) -> Result<(), DrawKind>
-        ensures { Changes (named self.old (only_of_words (words_in rest.now))) self.old result
+        ensures { ChangesAsSpecified (with_name_line self.old (single_word (words_of_line rest.now)))
+            self.old result
             self.new }
     {
         let Some(word) = only_word(rest) else {
@@ -104,7 +106,8 @@ impl Draft {
     }
 
     fn take_step(&mut self, rest: &[u8]) -> Result<(), DrawKind>
-        ensures { Changes (stepped self.old (only_of_words (words_in rest.now))) self.old result
+        ensures { ChangesAsSpecified (with_step_line self.old (single_word (words_of_line rest.now)))
+            self.old result
             self.new }
     {
         let Some(word) = only_word(rest) else {
@@ -120,7 +123,8 @@ impl Draft {
     }
 
     fn take_color(&mut self, number: u32, rest: &[u8]) -> Result<(), DrawKind>
-        ensures { Changes (coloured number self.old (only_of_words (words_in rest.now)))
+        ensures { ChangesAsSpecified
+            (with_color_line number self.old (single_word (words_of_line rest.now)))
             self.old result self.new }
     {
         let Some(word) = only_word(rest) else {
@@ -133,7 +137,8 @@ impl Draft {
     }
 
     fn take_points(&mut self, alloc: Global, rest: &[u8]) -> Result<(), DrawKind>
-        ensures { Changes (lined self.old (words_in rest.now)) self.old result self.new }
+        ensures { ChangesAsSpecified (with_points_line self.old (words_of_line rest.now)) self.old
+            result self.new }
     {
         if self.drawing.block_count() == 0 {
             return Err(DrawKind::NoBlock);
@@ -144,7 +149,8 @@ impl Draft {
     }
 
     fn take_end(&mut self, number: u32, is_start: bool, rest: &[u8]) -> Result<(), DrawKind>
-        ensures { Changes (ended number is_start self.old (words_in rest.now)) self.old result
+        ensures { ChangesAsSpecified
+            (with_walk_end_line number is_start self.old (words_of_line rest.now)) self.old result
             self.new }
     {
         let blocks = self.drawing.block_count();
@@ -166,8 +172,8 @@ impl Draft {
 
     /// Returns the drawing in the given version, where the text ends before the line of the given number.
     pub fn finish(self, alloc: Global, version: Version, number: u32) -> Result<Drawing, DrawFault>
-        ensures answer { Reads (meant_by version number self) result }
-        ensures meant { IfOk result (IsMeant version) }
+        ensures answer { ReadsDrawing (drawing_of_draft version number self) result }
+        ensures meant { IfOk result (IsDrawingOfVersion version) }
     {
         match version {
             Version::One => self.drawn(number),
@@ -178,32 +184,32 @@ impl Draft {
 
     /// Returns the drawing of the lines as they are.
     fn drawn(self, number: u32) -> Result<Drawing, DrawFault>
-        ensures { Reads (at_line number self.opened (finished self.drawing)) result }
+        ensures { ReadsDrawing (at_line number self.opened (finished_drawing self.drawing)) result }
     {
         let opened = self.opened;
         match self.drawing.finish() {
             Ok(drawing) => Ok(drawing),
-            Err(kind) => Err(told_at(number, opened, kind)),
+            Err(kind) => Err(fault_with_line(number, opened, kind)),
         }
     }
 
     /// Returns the drawing of the sections of the lines.
     fn joined(self, alloc: Global, number: u32) -> Result<Drawing, DrawFault>
-        ensures answer { Reads (joined_at number self) result }
-        ensures whole { IfOk result IsWhole }
+        ensures answer { ReadsDrawing (joined_at number self) result }
+        ensures whole { IfOk result IsJoinedWithoutEnds }
     {
         let opened = self.opened;
         match joined_lines(alloc, self.drawing) {
             Ok(drawing) => Ok(drawing),
-            Err(kind) => Err(told_at(number, opened, kind)),
+            Err(kind) => Err(fault_with_line(number, opened, kind)),
         }
     }
 
     /// Returns the drawing of the sections of the lines, with the starts and ends.
     fn ended(self, alloc: Global, number: u32) -> Result<Drawing, DrawFault>
-        ensures { Reads (meant_by version.Three number self) result }
+        ensures { ReadsDrawing (drawing_of_draft version.Three number self) result }
     {
-        let Draft {
+        let DrawingDraft {
             drawing,
             opened,
             ends,
@@ -211,22 +217,23 @@ impl Draft {
         } = self;
         match joined_lines(alloc, drawing) {
             Ok(drawing) => with_ends(alloc, drawing, ends.as_slice()),
-            Err(kind) => Err(told_at(number, opened, kind)),
+            Err(kind) => Err(fault_with_line(number, opened, kind)),
         }
     }
 }
 
 /// Returns the finished drawing, with its lines replaced by their sections.
 fn joined_lines(alloc: Global, drawing: DrawingMaker) -> Result<Drawing, DrawKind>
-    ensures answer { IsSaid wants_memory (and_then (finished drawing) joined_drawing) result }
-    ensures whole { IfOk result IsWhole }
+    ensures answer { IsSpecified draw_is_out_of_memory
+        (and_then (finished_drawing drawing) joined_drawing) result }
+    ensures whole { IfOk result IsJoinedWithoutEnds }
 {
     let drawn = drawing.finish()?;
     join(alloc, &drawn)
 }
 
 fn has_ends(version: Version) -> bool
-    ensures { result ≡ has_start_lines version }
+    ensures { result ≡ allows_ends version }
 {
     match version {
         Version::One | Version::Two => false,

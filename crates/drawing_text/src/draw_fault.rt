@@ -1,5 +1,5 @@
 ghost use Rattle.std.specs.Prelude.{◌≡◌};
-ghost use Rattle.drawing_text.specs.DrawingText.{told_at as fault_told_at};
+ghost use Rattle.drawing_text.specs.DrawingText.{located_fault};
 
 use line_graph::DrawKind;
 
@@ -12,8 +12,8 @@ pub struct DrawFault {
 }
 
 /// Returns the fault with the number of the text line at which it is reported.
-pub fn told_at(number: u32, opened: u32, kind: DrawKind) -> DrawFault
-    ensures { result ≡ fault_told_at number opened kind }
+pub fn fault_with_line(number: u32, opened: u32, kind: DrawKind) -> DrawFault
+    ensures { result ≡ located_fault number opened kind }
 {
     let number = match kind {
         DrawKind::EmptyBlock => opened,

@@ -1,10 +1,10 @@
 ghost use Rattle.std.specs.Prelude.{◌≡◌, true};
-ghost use Rattle.line_graph.specs.Growing.{Changes};
+ghost use Rattle.line_graph.specs.GrowingDrawings.{ChangesAsSpecified};
 ghost use Rattle.line_graph.specs.JoinedDrawings.{is_joined};
 ghost use Rattle.line_graph.specs.WalkEnds.{HasNoEnds, walk_end_added};
-ghost use Rattle.drawing_text.specs.DrawingText.{Reads, with_ends as the_drawing_with_ends};
+ghost use Rattle.drawing_text.specs.DrawingText.{ReadsDrawing, drawing_with_ends};
 
-use crate::draw_fault::{DrawFault, told_at};
+use crate::draw_fault::{DrawFault, fault_with_line};
 use crate::walk_end::WalkEnd;
 use line_graph::{DrawKind, Drawing, EndsMaker};
 use std::alloc::Global;
@@ -14,16 +14,16 @@ use std::alloc::Global;
 pub fn with_ends(alloc: Global, drawing: Drawing, ends: &[WalkEnd]) -> Result<Drawing, DrawFault>
     requires joined { is_joined drawing ≡ true }
     requires unended { HasNoEnds drawing }
-    ensures { Reads (the_drawing_with_ends drawing ends.now) result }
+    ensures { ReadsDrawing (drawing_with_ends drawing ends.now) result }
 {
     let mut maker = match EndsMaker::new(alloc, drawing) {
         Ok(maker) => maker,
-        Err(_) => return Err(told_at(0, 0, DrawKind::Memory)),
+        Err(_) => return Err(fault_with_line(0, 0, DrawKind::Memory)),
     };
     let mut rest = ends;
     while let [end, after @ ..] = rest {
         if let Err(kind) = add(&mut maker, *end) {
-            return Err(told_at(end.number, 0, kind));
+            return Err(fault_with_line(end.number, 0, kind));
         }
         rest = after;
     }
@@ -31,7 +31,8 @@ pub fn with_ends(alloc: Global, drawing: Drawing, ends: &[WalkEnd]) -> Result<Dr
 }
 
 fn add(maker: &mut EndsMaker, end: WalkEnd) -> Result<(), DrawKind>
-    ensures { Changes (walk_end_added end.is_start maker.old end.spot) maker.old result maker.new }
+    ensures { ChangesAsSpecified (walk_end_added end.is_start maker.old end.spot) maker.old result
+        maker.new }
 {
     if end.is_start {
         maker.add_start(end.spot)

@@ -5,20 +5,20 @@
 mod draft;
 mod draw_fault;
 mod ending;
-mod laws;
 mod limits;
 mod number_words;
 mod point_words;
+mod printing;
 mod reading;
-mod spelling;
 #[cfg(test)]
 mod tests;
 mod text_words;
+mod theorems;
 mod version;
 mod walk_end;
 
 pub use draw_fault::DrawFault;
-pub use laws::{the_plain_spelling_says, the_plain_spelling2_says};
 pub use limits::MAX_TEXT;
+pub use printing::{print_drawing, print_drawing2};
 pub use reading::{read_as2, read_drawing};
-pub use spelling::{print_drawing, print_drawing2};
+pub use theorems::{canonical_text_is_read, canonical_text2_is_read};

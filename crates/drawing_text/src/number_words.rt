@@ -1,7 +1,7 @@
 ghost use Rattle.std.specs.Prelude.{◌≡◌, IfOk, ◌≤◌, unsigned_abs};
 ghost use Rattle.design_model.specs.declared.point.TheConstants.{NEEDLE_LIMIT as needle_limit};
-ghost use Rattle.design_model.specs.WholeNumbers.{whole_of};
-ghost use Rattle.drawing_text.specs.TextLines.{coordinate_in, count_from as number_from, count_in as number_in};
+ghost use Rattle.design_model.specs.WholeNumbers.{parsed_whole};
+ghost use Rattle.drawing_text.specs.TextLines.{parsed_coordinate, count_in_range, parsed_count};
 
 use design_model::{NEEDLE_LIMIT, Whole, parse_whole};
 use line_graph::DrawKind;
@@ -9,7 +9,7 @@ use line_graph::DrawKind;
 /// Returns the number from `low` to `high` that a word denotes. Errors: `BadNumber` where it is no number,
 /// `OutOfRange`.
 pub fn count_in(low: u32, high: u32, word: &[u8]) -> Result<u32, DrawKind>
-    ensures value { result ≡ number_in low high (whole_of word.now) }
+    ensures value { result ≡ parsed_count low high (parsed_whole word.now) }
     ensures low { IfOk result (λ n. low ≤ n) }
     ensures high { IfOk result (λ n. n ≤ high) }
 {
@@ -21,7 +21,7 @@ pub fn count_in(low: u32, high: u32, word: &[u8]) -> Result<u32, DrawKind>
 }
 
 fn count_from(low: u32, high: u32, n: i32) -> Result<u32, DrawKind>
-    ensures value { result ≡ number_from low high n }
+    ensures value { result ≡ count_in_range low high n }
     ensures low { IfOk result (λ n. low ≤ n) }
     ensures high { IfOk result (λ n. n ≤ high) }
 {
@@ -34,7 +34,7 @@ fn count_from(low: u32, high: u32, n: i32) -> Result<u32, DrawKind>
 /// Returns the coordinate of a needle point that a word denotes, in tenths of a millimetre. Errors:
 /// `BadNumber` where it is no number, `OutOfRange`.
 pub fn coordinate(word: &[u8]) -> Result<i32, DrawKind>
-    ensures value { result ≡ coordinate_in (whole_of word.now) }
+    ensures value { result ≡ parsed_coordinate (parsed_whole word.now) }
     ensures within { IfOk result (λ n. unsigned_abs n ≤ needle_limit) }
 {
     match parse_whole(word) {

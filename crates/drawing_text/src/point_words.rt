@@ -1,9 +1,9 @@
 ghost use Rattle.std.specs.Prelude.{◌≡◌, All, IfOk};
 ghost use Rattle.step_splitter.specs.Chains.{IsNeedlePoint};
-ghost use Rattle.design_model.specs.WantOfMemory.{IsSaid};
-ghost use Rattle.line_graph.specs.Growing.{wants_memory};
-ghost use Rattle.drawing_text.specs.TextLines.{point_in, points_in};
-ghost use Rattle.drawing_text.specs.Words.{words_in};
+ghost use Rattle.design_model.specs.OutOfMemory.{IsSpecified};
+ghost use Rattle.line_graph.specs.GrowingDrawings.{draw_is_out_of_memory};
+ghost use Rattle.drawing_text.specs.TextLines.{parsed_point, parsed_points};
+ghost use Rattle.drawing_text.specs.Words.{words_of_line};
 
 use crate::number_words::coordinate;
 use crate::text_words::{next_word, only_word};
@@ -13,7 +13,7 @@ use std::alloc::Global;
 
 /// Returns the point whose coordinates are the only two words of a line.
 pub fn point_of_words(words: &[u8]) -> Result<Point, DrawKind>
-    ensures { result ≡ point_in (words_in words.now) }
+    ensures { result ≡ parsed_point (words_of_line words.now) }
 {
     let Some((x, after)) = next_word(words) else {
         return Err(DrawKind::BadWord);
@@ -28,7 +28,7 @@ pub fn point_of_words(words: &[u8]) -> Result<Point, DrawKind>
 
 /// Returns the points whose coordinates are the words of a line.
 pub fn points_of_words(alloc: Global, words: &[u8]) -> Result<Points, DrawKind>
-    ensures value { IsSaid wants_memory (points_in (words_in words.now)) result }
+    ensures value { IsSpecified draw_is_out_of_memory (parsed_points (words_of_line words.now)) result }
     ensures in_range { IfOk result (λ points. All IsNeedlePoint points) }
 {
     let mut points = Points::new(alloc);

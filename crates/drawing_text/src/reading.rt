@@ -1,22 +1,22 @@
 ghost use Rattle.std.specs.Prelude.{◌≡◌, ◌+◌, ◌≤◌, Ok, Err, length, IfOk, IfErr};
-ghost use Rattle.drawing_text.specs.DrawingText.{IsMeant, IsWhole, Reads, body_of, drawing_as2, drawing_of, drawn_after, header_in, version_in};
-ghost use Rattle.drawing_text.specs.TextLines.{first_draft};
-ghost use Rattle.drawing_text.specs.Words.{is_passed_over as has_no_words, words_by_line, words_in};
+ghost use Rattle.drawing_text.specs.DrawingText.{IsDrawingOfVersion, IsJoinedWithoutEnds, ReadsDrawing, body_of_text, drawing_as2, drawing_of, drawing_after_lines, parsed_header, parsed_version};
+ghost use Rattle.drawing_text.specs.TextLines.{empty_draft};
+ghost use Rattle.drawing_text.specs.Words.{is_ignored_line, words_by_line, words_of_line};
 
-use crate::draft::Draft;
-use crate::draw_fault::{DrawFault, told_at};
+use crate::draft::DrawingDraft;
+use crate::draw_fault::{DrawFault, fault_with_line};
 use crate::limits::MAX_TEXT;
 use crate::text_words::{is_comment, next_line, next_word, only_word, without_return};
 use crate::version::Version;
 use line_graph::{DrawKind, Drawing};
 use std::alloc::Global;
-use text_parts::spells;
+use text_parts::equals_text;
 
 /// Returns the drawing that a text describes in the version that its header names, or the first fault in
 /// the order of its lines.
 pub fn read_drawing(alloc: Global, bytes: &[u8]) -> Result<Drawing, DrawFault>
     requires { length bytes.now ≤ MAX_TEXT }
-    ensures { Reads (drawing_of bytes.now) result }
+    ensures { ReadsDrawing (drawing_of bytes.now) result }
 {
     let (version, header, text) = find_body(bytes)?;
     read_body(alloc, version, header + 1, text)
@@ -26,11 +26,11 @@ pub fn read_drawing(alloc: Global, bytes: &[u8]) -> Result<Drawing, DrawFault>
 /// fault. A text of version 3 is rejected at its header, with `BadHeader`.
 pub fn read_as2(alloc: Global, bytes: &[u8]) -> Result<Drawing, DrawFault>
     requires { length bytes.now ≤ MAX_TEXT }
-    ensures answer { Reads (drawing_as2 bytes.now) result }
-    ensures whole { IfOk result IsWhole }
+    ensures answer { ReadsDrawing (drawing_as2 bytes.now) result }
+    ensures whole { IfOk result IsJoinedWithoutEnds }
 {
     match find_body(bytes)? {
-        (Version::Three, header, _) => Err(told_at(header, 0, DrawKind::BadHeader)),
+        (Version::Three, header, _) => Err(fault_with_line(header, 0, DrawKind::BadHeader)),
         (_, header, text) => read_body(alloc, Version::Two, header + 1, text),
     }
 }
@@ -39,9 +39,10 @@ pub fn read_as2(alloc: Global, bytes: &[u8]) -> Result<Drawing, DrawFault>
 fn find_body(bytes: &[u8]) -> Result<(Version, u32, &[u8]), DrawFault>
     requires { length bytes.now ≤ MAX_TEXT }
     ensures ok { IfOk result (λ r.
-        body_of bytes.now ≡ Ok (record { version = r.0; header = r.1; lines = words_by_line r.2.now })) }
+        body_of_text bytes.now ≡ Ok
+        (record { version = r.0; header = r.1; lines = words_by_line r.2.now })) }
     ensures early { IfOk result (λ r. r.1 + length r.2.now ≤ MAX_TEXT) }
-    ensures err { IfErr result (λ fault. body_of bytes.now ≡ Err fault) }
+    ensures err { IfErr result (λ fault. body_of_text bytes.now ≡ Err fault) }
 {
     let mut passed: u32 = 0;
     let mut rest = bytes;
@@ -50,17 +51,17 @@ fn find_body(bytes: &[u8]) -> Result<(Version, u32, &[u8]), DrawFault>
         if !is_passed_over(line) {
             return match version_named(line) {
                 Some(version) => Ok((version, passed + 1, after)),
-                None => Err(told_at(passed + 1, 0, DrawKind::BadHeader)),
+                None => Err(fault_with_line(passed + 1, 0, DrawKind::BadHeader)),
             };
         }
         passed += 1;
         rest = after;
     }
-    Err(told_at(passed + 1, 0, DrawKind::BadHeader))
+    Err(fault_with_line(passed + 1, 0, DrawKind::BadHeader))
 }
 
 fn is_passed_over(line: &[u8]) -> bool
-    ensures { result ≡ has_no_words (words_in line.now) }
+    ensures { result ≡ is_ignored_line (words_of_line line.now) }
 {
     match next_word(line) {
         Some((word, _)) => is_comment(word),
@@ -70,26 +71,26 @@ fn is_passed_over(line: &[u8]) -> bool
 
 /// Returns the version that a line names, if the line is a header.
 fn version_named(line: &[u8]) -> Option<Version>
-    ensures { result ≡ header_in (words_in line.now) }
+    ensures { result ≡ parsed_header (words_of_line line.now) }
 {
     let (first, rest) = next_word(line)?;
     let second = only_word(rest)?;
-    if !spells(first, "redwork") {
+    if !equals_text(first, "redwork") {
         return None;
     }
-    version_spelled(second)
+    version_of_word(second)
 }
 
-fn version_spelled(word: &[u8]) -> Option<Version>
-    ensures { result ≡ version_in word.now }
+fn version_of_word(word: &[u8]) -> Option<Version>
+    ensures { result ≡ parsed_version word.now }
 {
-    if spells(word, "1") {
+    if equals_text(word, "1") {
         return Some(Version::One);
     }
-    if spells(word, "2") {
+    if equals_text(word, "2") {
         return Some(Version::Two);
     }
-    if spells(word, "3") {
+    if equals_text(word, "3") {
         return Some(Version::Three);
     }
     None
@@ -97,16 +98,17 @@ fn version_spelled(word: &[u8]) -> Option<Version>
 
 fn read_body(alloc: Global, version: Version, first: u32, text: &[u8]) -> Result<Drawing, DrawFault>
     requires { first + length text.now ≤ MAX_TEXT + 1 }
-    ensures answer { Reads (drawn_after version first first_draft (words_by_line text.now)) result }
-    ensures meant { IfOk result (IsMeant version) }
+    ensures answer { ReadsDrawing (drawing_after_lines version first empty_draft
+        (words_by_line text.now)) result }
+    ensures meant { IfOk result (IsDrawingOfVersion version) }
 {
-    let mut draft = Draft::new(alloc);
+    let mut draft = DrawingDraft::new(alloc);
     let mut number = first;
     let mut rest = text;
     while let Some((line, after)) = next_line(rest) {
         match draft.take_line(alloc, version, number, without_return(line)) {
             Ok(()) => {}
-            Err(kind) => return Err(told_at(number, draft.opened, kind)),
+            Err(kind) => return Err(fault_with_line(number, draft.opened, kind)),
         }
         number += 1;
         rest = after;

@@ -1,6 +1,6 @@
 ghost use Rattle.std.specs.Prelude.{◌≡◌, ◌<◌, ◌≤◌, ◌∷◌, [], None, drop, length, IfSome, IfNone};
 ghost use Rattle.std.specs.List.{position_or_len};
-ghost use Rattle.drawing_text.specs.Words.{is_blank as is_a_blank, is_comment as begins_comment, is_line_feed, is_solid, only_word as only_of_words, text_lines, without_return as line_without_return, words_in};
+ghost use Rattle.drawing_text.specs.Words.{is_blank_byte, begins_comment, is_line_feed, is_word_byte, single_word, text_lines, line_without_return, words_of_line};
 
 /// Returns the first line of a text without its end, and the text after it.
 pub fn next_line(text: &[u8]) -> Option<(&[u8], &[u8])>
@@ -12,7 +12,7 @@ pub fn next_line(text: &[u8]) -> Option<(&[u8], &[u8])>
         return None;
     }
     let (line, after) = text.split_at(line_end(text));
-    Some((line, behind_first(after)))
+    Some((line, after_first(after)))
 }
 
 fn line_end(text: &[u8]) -> usize
@@ -27,7 +27,7 @@ fn line_end(text: &[u8]) -> usize
     text.len()
 }
 
-fn behind_first(bytes: &[u8]) -> &[u8]
+fn after_first(bytes: &[u8]) -> &[u8]
     ensures { result.now ≡ drop 1 bytes.now }
 {
     match bytes {
@@ -48,9 +48,9 @@ pub fn without_return(line: &[u8]) -> &[u8]
 
 /// Returns the first word of a line, and the line after it.
 pub fn next_word(line: &[u8]) -> Option<(&[u8], &[u8])>
-    ensures some { IfSome result (λ r. words_in line.now ≡ r.0.now ∷ words_in r.1.now) }
+    ensures some { IfSome result (λ r. words_of_line line.now ≡ r.0.now ∷ words_of_line r.1.now) }
     ensures shorter { IfSome result (λ r. length r.1.now < length line.now) }
-    ensures none { IfNone result (words_in line.now ≡ []) }
+    ensures none { IfNone result (words_of_line line.now ≡ []) }
 {
     let (_, from) = line.split_at(word_start(line));
     if from.is_empty() {
@@ -61,7 +61,7 @@ pub fn next_word(line: &[u8]) -> Option<(&[u8], &[u8])>
 }
 
 fn word_start(line: &[u8]) -> usize
-    ensures value { result ≡ position_or_len is_solid line.now }
+    ensures value { result ≡ position_or_len is_word_byte line.now }
     ensures within { result ≤ length line.now }
 {
     for (index, byte) in line.iter().enumerate() {
@@ -73,7 +73,7 @@ fn word_start(line: &[u8]) -> usize
 }
 
 fn word_end(from: &[u8]) -> usize
-    ensures value { result ≡ position_or_len is_a_blank from.now }
+    ensures value { result ≡ position_or_len is_blank_byte from.now }
     ensures within { result ≤ length from.now }
 {
     for (index, byte) in from.iter().enumerate() {
@@ -85,15 +85,15 @@ fn word_end(from: &[u8]) -> usize
 }
 
 fn is_blank(byte: u8) -> bool
-    ensures { result ≡ is_a_blank byte }
+    ensures { result ≡ is_blank_byte byte }
 {
     byte == b' ' || byte == b'\t'
 }
 
 /// Returns the only word of a line, if it has exactly one.
 pub fn only_word(line: &[u8]) -> Option<&[u8]>
-    ensures some { IfSome result (λ word. words_in line.now ≡ word.now ∷ []) }
-    ensures none { IfNone result (only_of_words (words_in line.now) ≡ None) }
+    ensures some { IfSome result (λ word. words_of_line line.now ≡ word.now ∷ []) }
+    ensures none { IfNone result (single_word (words_of_line line.now) ≡ None) }
 {
     let (word, rest) = next_word(line)?;
     match next_word(rest) {

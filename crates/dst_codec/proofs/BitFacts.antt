@@ -2,9 +2,9 @@
 use Rattle.std.proofs.Common.{◌≡◌, ℕ, ℤ, pos, negsuc, List, [], ◌∷◌, map, arith, refl}
 use Rattle.design_model.specs.declared.point.Point.{Point}
 use Rattle.dst_codec.specs.declared.record_kind.RecordKind.TheVariants as kind
-use Rattle.dst_codec.specs.Bits.{move_in, kind_of}
-use Rattle.dst_codec.specs.OneSpelling.{IsPlainByte, IsPlainThird}
-use Rattle.dst_codec.specs.Spelling.{stitch_record}
+use Rattle.dst_codec.specs.Bits.{dst_move_in, kind_of}
+use Rattle.dst_codec.specs.OneEncoding.{IsCanonicalByte, IsCanonicalThird}
+use Rattle.dst_codec.specs.MoveEncoding.{dst_stitch_record}
 
 -- a move along one axis
 abbrev across : ℤ → Point
@@ -25,10 +25,10 @@ abbrev right : List (List ℕ)
 right = (0x01 ∷ 0x00 ∷ 0x03 ∷ []) ∷ (0x00 ∷ 0x01 ∷ 0x03 ∷ []) ∷ (0x04 ∷ 0x00 ∷ 0x03 ∷ [])
     ∷ (0x00 ∷ 0x04 ∷ 0x03 ∷ []) ∷ (0x00 ∷ 0x00 ∷ 0x07 ∷ []) ∷ []
 
-pub known_right_read : map move_in right ≡ map across forth
+pub known_right_read : map dst_move_in right ≡ map across forth
 known_right_read = refl
 
-pub known_right_written : map (λ z. stitch_record (across z)) forth ≡ right
+pub known_right_written : map (λ z. dst_stitch_record (across z)) forth ≡ right
 known_right_written = refl
 
 -- the records of 1, 3, 9, 27 and 81 to the left
@@ -36,10 +36,10 @@ abbrev left : List (List ℕ)
 left = (0x02 ∷ 0x00 ∷ 0x03 ∷ []) ∷ (0x00 ∷ 0x02 ∷ 0x03 ∷ []) ∷ (0x08 ∷ 0x00 ∷ 0x03 ∷ [])
     ∷ (0x00 ∷ 0x08 ∷ 0x03 ∷ []) ∷ (0x00 ∷ 0x00 ∷ 0x0B ∷ []) ∷ []
 
-pub known_left_read : map move_in left ≡ map across back
+pub known_left_read : map dst_move_in left ≡ map across back
 known_left_read = refl
 
-pub known_left_written : map (λ z. stitch_record (across z)) back ≡ left
+pub known_left_written : map (λ z. dst_stitch_record (across z)) back ≡ left
 known_left_written = refl
 
 -- the records of 1, 3, 9, 27 and 81 downwards, which a file calls minus
@@ -47,10 +47,10 @@ abbrev down : List (List ℕ)
 down = (0x40 ∷ 0x00 ∷ 0x03 ∷ []) ∷ (0x00 ∷ 0x40 ∷ 0x03 ∷ []) ∷ (0x10 ∷ 0x00 ∷ 0x03 ∷ [])
     ∷ (0x00 ∷ 0x10 ∷ 0x03 ∷ []) ∷ (0x00 ∷ 0x00 ∷ 0x13 ∷ []) ∷ []
 
-pub known_down_read : map move_in down ≡ map along forth
+pub known_down_read : map dst_move_in down ≡ map along forth
 known_down_read = refl
 
-pub known_down_written : map (λ z. stitch_record (along z)) forth ≡ down
+pub known_down_written : map (λ z. dst_stitch_record (along z)) forth ≡ down
 known_down_written = refl
 
 -- the records of 1, 3, 9, 27 and 81 upwards
@@ -58,14 +58,14 @@ abbrev up : List (List ℕ)
 up = (0x80 ∷ 0x00 ∷ 0x03 ∷ []) ∷ (0x00 ∷ 0x80 ∷ 0x03 ∷ []) ∷ (0x20 ∷ 0x00 ∷ 0x03 ∷ [])
     ∷ (0x00 ∷ 0x20 ∷ 0x03 ∷ []) ∷ (0x00 ∷ 0x00 ∷ 0x23 ∷ []) ∷ []
 
-pub known_up_read : map move_in up ≡ map along back
+pub known_up_read : map dst_move_in up ≡ map along back
 known_up_read = refl
 
-pub known_up_written : map (λ z. stitch_record (along z)) back ≡ up
+pub known_up_written : map (λ z. dst_stitch_record (along z)) back ≡ up
 known_up_written = refl
 
 -- the two low bits of the third byte and its flags move nothing
-pub known_no_move : map move_in ((0 ∷ 0 ∷ 0x03 ∷ []) ∷ (0 ∷ 0 ∷ 0xC3 ∷ []) ∷ []) ≡ across (pos 0) ∷ along (pos 0) ∷ []
+pub known_no_move : map dst_move_in ((0 ∷ 0 ∷ 0x03 ∷ []) ∷ (0 ∷ 0 ∷ 0xC3 ∷ []) ∷ []) ≡ across (pos 0) ∷ along (pos 0) ∷ []
 known_no_move = refl
 
 -- with both low bits the end has all of the other four high bits, a stop both flags, and a sequin and a jump one
@@ -93,7 +93,7 @@ pub known_no_low_bit : map kind_of (0x80 ∷ 0xC0 ∷ 0xF0 ∷ 0x40 ∷ []) ≡ 
 known_no_low_bit = refl
 
 -- bytes with all moves to the left and upwards have one encoding
-pub known_plain : IsPlainByte 0xAA
+pub known_plain : IsCanonicalByte 0xAA
 known_plain = record {
   small = omega arith;
   x_lesser = omega arith;
@@ -102,5 +102,5 @@ known_plain = record {
   y_lesser = omega arith;
 }
 
-pub known_plain_third : IsPlainThird 0x2B
+pub known_plain_third : IsCanonicalThird 0x2B
 known_plain_third = record { small = omega arith; set = refl; x = omega arith; y = omega arith }

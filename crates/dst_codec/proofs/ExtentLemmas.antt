@@ -10,62 +10,64 @@ use Rattle.design_model.specs.declared.act.Act.{Act}
 use Rattle.design_model.specs.declared.act.Act.TheVariants as act
 use Rattle.design_model.specs.declared.act.NumberedAct.{NumberedAct}
 use Rattle.design_model.specs.declared.point.Point.{Point}
-use Rattle.design_model.specs.ActKinds.{point_of}
-use Rattle.design_model.specs.Extents.{extent_of_points, needle_points}
+use Rattle.design_model.specs.ActKinds.{act_point}
+use Rattle.design_model.specs.Extents.{extent_of_points, needle_points_of_acts}
 use Rattle.dst_codec.specs.declared.header.Extents.{Extents}
-use Rattle.dst_codec.specs.Header.{above, below, extents_of, greatest, measured}
-use Rattle.dst_codec.specs.Steps.{reached}
+use Rattle.dst_codec.specs.Header.{size_above_zero, size_below_zero, extents_of, max_measure, needle_measure}
+use Rattle.dst_codec.specs.Steps.{extents_from_origin}
 
-above_rises : (a b : ℤ) → a ≤ℤ b → above a ≤ above b
+above_rises : (a b : ℤ) → a ≤ℤ b → size_above_zero a ≤ size_above_zero b
 above_rises (pos a) (pos b) le = omega (arith, ints)
 above_rises (pos a) (negsuc b) le = omega (arith, ints)
 above_rises (negsuc a) (pos b) le = omega arith
 above_rises (negsuc a) (negsuc b) le = omega arith
 
-below_falls : (a b : ℤ) → a ≤ℤ b → below b ≤ below a
+below_falls : (a b : ℤ) → a ≤ℤ b → size_below_zero b ≤ size_below_zero a
 below_falls (pos a) (pos b) le = omega arith
 below_falls (pos a) (negsuc b) le = omega (arith, ints)
 below_falls (negsuc a) (pos b) le = omega arith
 below_falls (negsuc a) (negsuc b) le = omega (arith, ints)
 
-above_max : (a b : ℤ) → above (int_max a b) ≡ max (above a) (above b)
+above_max : (a b : ℤ) → size_above_zero (int_max a b) ≡ max (size_above_zero a) (size_above_zero b)
 above_max a b = by (int_lt b a) refl
   where
-    by : (t : Bool) → int_lt b a ≡ t → above (if t then a else b) ≡ max (above a) (above b)
+    by : (t : Bool) → int_lt b a ≡ t → size_above_zero (if t then a else b) ≡ max (size_above_zero a) (size_above_zero b)
     by true is = let le : b ≤ℤ a = omega (arith, ints) in omega (arith, above_rises b a le)
     by false is = let le : a ≤ℤ b = omega (arith, ints) in omega (arith, above_rises a b le)
 
-below_min : (a b : ℤ) → below (int_min a b) ≡ max (below a) (below b)
+below_min : (a b : ℤ) → size_below_zero (int_min a b) ≡ max (size_below_zero a) (size_below_zero b)
 below_min a b = by (int_lt b a) refl
   where
-    by : (t : Bool) → int_lt b a ≡ t → below (if t then b else a) ≡ max (below a) (below b)
+    by : (t : Bool) → int_lt b a ≡ t → size_below_zero (if t then b else a) ≡ max (size_below_zero a) (size_below_zero b)
     by true is = let le : b ≤ℤ a = omega (arith, ints) in omega (arith, below_falls b a le)
     by false is = let le : a ≤ℤ b = omega (arith, ints) in omega (arith, below_falls a b le)
 
 -- the greatest number of a coordinate, begun with another
 above_along : (f : Point → ℤ) (z : ℤ) (acts : List NumberedAct)
-    → above (fold int_max z (map f (needle_points acts))) ≡ max (above z) (greatest (λ p. above (f p)) acts)
+    → size_above_zero (fold int_max z (map f (needle_points_of_acts acts)))
+    ≡ max (size_above_zero z) (max_measure (λ p. size_above_zero (f p)) acts)
 above_along f z [] = omega arith
 above_along f z (a ∷ rest) = step a.act (λ z. above_along f z rest)
   where
-    step : (a : Act) → ((z : ℤ) → above (fold int_max z (map f (needle_points rest)))
-        ≡ max (above z) (greatest (λ p. above (f p)) rest))
-        → above (fold int_max z (map f (cons_option (point_of a) (needle_points rest))))
-        ≡ max (above z) (max (measured (λ p. above (f p)) a) (greatest (λ p. above (f p)) rest))
+    step : (a : Act) → ((z : ℤ) → size_above_zero (fold int_max z (map f (needle_points_of_acts rest)))
+        ≡ max (size_above_zero z) (max_measure (λ p. size_above_zero (f p)) rest))
+        → size_above_zero (fold int_max z (map f (cons_option (act_point a) (needle_points_of_acts rest))))
+        ≡ max (size_above_zero z) (max (needle_measure (λ p. size_above_zero (f p)) a) (max_measure (λ p. size_above_zero (f p)) rest))
     step (act.Needle p float) more = omega (arith, more (int_max z (f p)), above_max z (f p))
     step act.Trim more = omega (arith, more z)
     step act.Stop more = omega (arith, more z)
 
 -- and the least
 below_along : (f : Point → ℤ) (z : ℤ) (acts : List NumberedAct)
-    → below (fold int_min z (map f (needle_points acts))) ≡ max (below z) (greatest (λ p. below (f p)) acts)
+    → size_below_zero (fold int_min z (map f (needle_points_of_acts acts)))
+    ≡ max (size_below_zero z) (max_measure (λ p. size_below_zero (f p)) acts)
 below_along f z [] = omega arith
 below_along f z (a ∷ rest) = step a.act (λ z. below_along f z rest)
   where
-    step : (a : Act) → ((z : ℤ) → below (fold int_min z (map f (needle_points rest)))
-        ≡ max (below z) (greatest (λ p. below (f p)) rest))
-        → below (fold int_min z (map f (cons_option (point_of a) (needle_points rest))))
-        ≡ max (below z) (max (measured (λ p. below (f p)) a) (greatest (λ p. below (f p)) rest))
+    step : (a : Act) → ((z : ℤ) → size_below_zero (fold int_min z (map f (needle_points_of_acts rest)))
+        ≡ max (size_below_zero z) (max_measure (λ p. size_below_zero (f p)) rest))
+        → size_below_zero (fold int_min z (map f (cons_option (act_point a) (needle_points_of_acts rest))))
+        ≡ max (size_below_zero z) (max (needle_measure (λ p. size_below_zero (f p)) a) (max_measure (λ p. size_below_zero (f p)) rest))
     step (act.Needle p float) more = omega (arith, more (int_min z (f p)), below_min z (f p))
     step act.Trim more = omega (arith, more z)
     step act.Stop more = omega (arith, more z)
@@ -73,19 +75,19 @@ below_along f z (a ∷ rest) = step a.act (λ z. below_along f z rest)
 -- the extents with an act before the others
 abbrev with_act : Act → List NumberedAct → Extents
 with_act a rest = record {
-  right = max (measured (λ p. above p.x) a) (greatest (λ p. above p.x) rest);
-  left = max (measured (λ p. below p.x) a) (greatest (λ p. below p.x) rest);
-  up = max (measured (λ p. below p.y) a) (greatest (λ p. below p.y) rest);
-  down = max (measured (λ p. above p.y) a) (greatest (λ p. above p.y) rest);
+  right = max (needle_measure (λ p. size_above_zero p.x) a) (max_measure (λ p. size_above_zero p.x) rest);
+  left = max (needle_measure (λ p. size_below_zero p.x) a) (max_measure (λ p. size_below_zero p.x) rest);
+  up = max (needle_measure (λ p. size_below_zero p.y) a) (max_measure (λ p. size_below_zero p.y) rest);
+  down = max (needle_measure (λ p. size_above_zero p.y) a) (max_measure (λ p. size_above_zero p.y) rest);
 }
 
 -- the extent of the needles reaches as far as they do
-pub reached_extent : (acts : List NumberedAct) → reached (extent_of_points (needle_points acts)) ≡ extents_of acts
+pub reached_extent : (acts : List NumberedAct) → extents_from_origin (extent_of_points (needle_points_of_acts acts)) ≡ extents_of acts
 reached_extent [] = refl
 reached_extent (a ∷ rest) = step a.act (reached_extent rest)
   where
-    step : (a : Act) → reached (extent_of_points (needle_points rest)) ≡ extents_of rest
-        → reached (extent_of_points (cons_option (point_of a) (needle_points rest))) ≡ with_act a rest
+    step : (a : Act) → extents_from_origin (extent_of_points (needle_points_of_acts rest)) ≡ extents_of rest
+        → extents_from_origin (extent_of_points (cons_option (act_point a) (needle_points_of_acts rest))) ≡ with_act a rest
     step (act.Needle p float) is = rw (
       above_along (λ q. q.x) p.x rest,
       below_along (λ q. q.x) p.x rest,

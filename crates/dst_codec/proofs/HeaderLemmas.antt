@@ -10,27 +10,27 @@ use Rattle.design_model.specs.declared.act.NumberedAct.{NumberedAct}
 use Rattle.design_model.specs.declared.design.TheConstants.{MAX_LABEL}
 use Rattle.design_model.specs.declared.point.Point.{Point}
 use Rattle.design_model.specs.declared.point.TheConstants.{NEEDLE_LIMIT}
-use Rattle.design_model.specs.Points.{is_within, origin}
-use Rattle.format_traits.specs.LabelFields.{filled_left, filled_right, label_field}
-use Rattle.design_model.specs.ActPlaces.{is_act_in_range, place_along, place_after}
+use Rattle.design_model.specs.Points.{is_point_within, origin}
+use Rattle.format_traits.specs.LabelFields.{padded_left, padded_right, label_field}
+use Rattle.design_model.specs.ActPositions.{is_act_in_range, needle_position_along, needle_position_after}
 use Rattle.format_traits.specs.Refusals.{stops_of}
 use Rattle.dst_codec.specs.declared.header.HeaderNumbers.{HeaderNumbers}
 use Rattle.dst_codec.specs.declared.header.TheConstants.{HEADER_LENGTH}
-use Rattle.dst_codec.specs.Header.{FitsPlaces, above, below, greatest, measured, field, number_field, signed_field, sign_of, fields_of, header_of, numbers_of}
-use Rattle.dst_codec.proofs.SpellingLemmas.{within_parts}
+use Rattle.dst_codec.specs.Header.{FitsFields, size_above_zero, size_below_zero, max_measure, needle_measure, field, number_field, signed_field, sign_code, fields_of, dst_header_of, numbers_of}
+use Rattle.dst_codec.proofs.MoveEncodingLemmas.{within_parts}
 
 -- the points of acts are in a needle's range
 abbrev pub are_in_range : List NumberedAct → Bool
 are_in_range acts = list_all (λ a. is_act_in_range a.act) acts
 
-length-filled_left : (places : ℕ) (text : List ℕ) → length text ≤ places → length (filled_left places text) ≡ places
-length-filled_left places text fits =
+length-padded_left : (places : ℕ) (text : List ℕ) → length text ≤ places → length (padded_left places text) ≡ places
+length-padded_left places text fits =
     let spaces = length-replicate {A = ℕ} (places - length text) 32 in
     let all = length-append (replicate (places - length text) 32) text in
     omega (arith, spaces, all, fits)
 
-pub length-filled_right : (places : ℕ) (text : List ℕ) → length text ≤ places → length (filled_right places text) ≡ places
-length-filled_right places text fits =
+pub length-padded_right : (places : ℕ) (text : List ℕ) → length text ≤ places → length (padded_right places text) ≡ places
+length-padded_right places text fits =
     let spaces = length-replicate {A = ℕ} (places - length text) 32 in
     let all = length-append text (replicate (places - length text) 32) in
     omega (arith, spaces, all, fits)
@@ -44,15 +44,15 @@ length-field name contents n m is are =
 
 length-number_field : (name : List ℕ) (places n : ℕ) → length name ≡ 3 → 0 < places
     → n < 10 ^ places → n < 2 ^ 64 → length (number_field name places n) ≡ 3 + places + 1
-length-number_field name places n is some fits small = length-field name (filled_left places (decimal n)) 3 places is
-    (length-filled_left places (decimal n) (length-decimal-le places n some fits small))
+length-number_field name places n is some fits small = length-field name (padded_left places (decimal n)) 3 places is
+    (length-padded_left places (decimal n) (length-decimal-le places n some fits small))
 
 length-signed_field : (name : List ℕ) (z : ℤ) → length name ≡ 3 → unsigned_abs z < 10 ^ 5
     → length (signed_field name z) ≡ 10
 length-signed_field name z is fits =
-    let digits = length-filled_left 5 (decimal (unsigned_abs z))
+    let digits = length-padded_left 5 (decimal (unsigned_abs z))
     (length-decimal-le 5 (unsigned_abs z) (lit< tt) fits (omega (arith, fits))) in
-    length-field name (sign_of z ∷ filled_left 5 (decimal (unsigned_abs z))) 3 6 is (ap suc digits)
+    length-field name (sign_code z ∷ padded_left 5 (decimal (unsigned_abs z))) 3 6 is (ap suc digits)
 
 size_of_opposite : (z : ℤ) → unsigned_abs (neg_ℤ z) ≡ unsigned_abs z
 size_of_opposite (pos zero) = refl
@@ -67,7 +67,7 @@ lengths a b c d e f g h i j k l ha hb hc hd he hf hg hh hi hj hk hl = simp lengt
     (omega (arith, ha, hb, hc, hd, he, hf, hg, hh, hi, hj, hk, hl))
 
 pub length-fields_of : (label : List ℕ) (numbers : HeaderNumbers) → length label ≤ MAX_LABEL
-    → FitsPlaces numbers → length (fields_of label numbers) ≡ 124
+    → FitsFields numbers → length (fields_of label numbers) ≡ 124
 length-fields_of label numbers short fits = lengths
     (field (codes "LA:") (label_field label))
     (number_field (codes "ST:") 7 numbers.records)
@@ -81,7 +81,7 @@ length-fields_of label numbers short fits = lengths
     (signed_field (codes "MX:") (pos 0))
     (signed_field (codes "MY:") (pos 0))
     (field (codes "PD:") (codes "******"))
-    (length-field (codes "LA:") (label_field label) 3 MAX_LABEL refl (length-filled_right MAX_LABEL label short))
+    (length-field (codes "LA:") (label_field label) 3 MAX_LABEL refl (length-padded_right MAX_LABEL label short))
     (length-number_field (codes "ST:") 7 numbers.records refl (lit< tt) fits.records (omega (arith, fits.records)))
     (length-number_field (codes "CO:") 3 numbers.stops refl (lit< tt) fits.stops (omega (arith, fits.stops)))
     (length-number_field (codes "+X:") 5 numbers.extents.right refl (lit< tt) fits.right (omega (arith, fits.right)))
@@ -94,62 +94,66 @@ length-fields_of label numbers short fits = lengths
     (length-signed_field (codes "MY:") (pos 0) refl (lit< tt))
     refl
 
-pub length-header_of : (label : List ℕ) (numbers : HeaderNumbers) → length label ≤ MAX_LABEL
-    → FitsPlaces numbers → length (header_of label numbers) ≡ HEADER_LENGTH
-length-header_of label numbers short fits =
+pub length-dst_header_of : (label : List ℕ) (numbers : HeaderNumbers) → length label ≤ MAX_LABEL
+    → FitsFields numbers → length (dst_header_of label numbers) ≡ HEADER_LENGTH
+length-dst_header_of label numbers short fits =
     let fields = length-fields_of label numbers short fits in
     let all = length-append (fields_of label numbers) (26 ∷ []) in
-    length-filled_right HEADER_LENGTH (fields_of label numbers ++ 26 ∷ []) (omega (arith, fields, all))
+    length-padded_right HEADER_LENGTH (fields_of label numbers ++ 26 ∷ []) (omega (arith, fields, all))
 
 -- a measure of needles in range is at most their limit
 greatest_small : (measure : Point → ℕ)
-    → ((p : Point) → IsTrue (is_within NEEDLE_LIMIT p) → measure p ≤ NEEDLE_LIMIT)
-    → (acts : List NumberedAct) → IsTrue (are_in_range acts) → greatest measure acts ≤ NEEDLE_LIMIT
+    → ((p : Point) → IsTrue (is_point_within NEEDLE_LIMIT p) → measure p ≤ NEEDLE_LIMIT)
+    → (acts : List NumberedAct) → IsTrue (are_in_range acts) → max_measure measure acts ≤ NEEDLE_LIMIT
 greatest_small measure small [] all = omega arith
 greatest_small measure small (a ∷ rest) all =
     let both = and_parts (is_act_in_range a.act) (are_in_range rest) all in
-    let one : measured measure a.act ≤ NEEDLE_LIMIT = measured_small measure small a.act both.0 in
+    let one : needle_measure measure a.act ≤ NEEDLE_LIMIT = measured_small measure small a.act both.0 in
     let more = greatest_small measure small rest both.1 in
     omega (arith, one, more)
   where
     measured_small : (measure : Point → ℕ)
-        → ((p : Point) → IsTrue (is_within NEEDLE_LIMIT p) → measure p ≤ NEEDLE_LIMIT)
-        → (a : Act) → IsTrue (is_act_in_range a) → measured measure a ≤ NEEDLE_LIMIT
+        → ((p : Point) → IsTrue (is_point_within NEEDLE_LIMIT p) → measure p ≤ NEEDLE_LIMIT)
+        → (a : Act) → IsTrue (is_act_in_range a) → needle_measure measure a ≤ NEEDLE_LIMIT
     measured_small measure small (act.Needle p float) here = small p here
     measured_small measure small act.Trim here = omega arith
     measured_small measure small act.Stop here = omega arith
 
-above_small : (z : ℤ) (limit : ℕ) → unsigned_abs z ≤ limit → above z ≤ limit
+above_small : (z : ℤ) (limit : ℕ) → unsigned_abs z ≤ limit → size_above_zero z ≤ limit
 above_small (pos n) limit small = small
 above_small (negsuc n) limit small = omega arith
 
-below_small : (z : ℤ) (limit : ℕ) → unsigned_abs z ≤ limit → below z ≤ limit
+below_small : (z : ℤ) (limit : ℕ) → unsigned_abs z ≤ limit → size_below_zero z ≤ limit
 below_small (pos n) limit small = omega arith
 below_small (negsuc n) limit small = omega (arith, small)
 
 -- the place after acts in range is in range
-place_in_range : (place : Point) (acts : List NumberedAct) → IsTrue (is_within NEEDLE_LIMIT place)
-    → IsTrue (are_in_range acts) → IsTrue (is_within NEEDLE_LIMIT (place_along place acts))
+place_in_range : (place : Point) (acts : List NumberedAct) → IsTrue (is_point_within NEEDLE_LIMIT place)
+    → IsTrue (are_in_range acts) → IsTrue (is_point_within NEEDLE_LIMIT (needle_position_along place acts))
 place_in_range place [] here all = here
 place_in_range place (a ∷ rest) here all =
     let both = and_parts (is_act_in_range a.act) (are_in_range rest) all in
-    place_in_range (place_after place a.act) rest (after place a.act here both.0) both.1
+    place_in_range (needle_position_after place a.act) rest (after place a.act here both.0) both.1
   where
-    after : (place : Point) (a : Act) → IsTrue (is_within NEEDLE_LIMIT place) → IsTrue (is_act_in_range a)
-        → IsTrue (is_within NEEDLE_LIMIT (place_after place a))
+    after : (place : Point) (a : Act) → IsTrue (is_point_within NEEDLE_LIMIT place) → IsTrue (is_act_in_range a)
+        → IsTrue (is_point_within NEEDLE_LIMIT (needle_position_after place a))
     after place (act.Needle p float) here there = there
     after place act.Trim here there = here
     after place act.Stop here there = here
 
 -- the numbers of acts in range fit, where there are not too many records and stops
 pub numbers_fit : (acts : List NumberedAct) (count : ℕ) → IsTrue (are_in_range acts)
-    → count < 10 ^ 7 → stops_of acts < 10 ^ 3 → FitsPlaces (numbers_of acts count)
+    → count < 10 ^ 7 → stops_of acts < 10 ^ 3 → FitsFields (numbers_of acts count)
 numbers_fit acts count all few few_stops =
-    let last = within_parts NEEDLE_LIMIT (place_along origin acts) (place_in_range origin acts refl all) in
-    let right = greatest_small (λ p. above p.x) (λ p here. above_small p.x NEEDLE_LIMIT (within_parts NEEDLE_LIMIT p here).0) acts all in
-    let left = greatest_small (λ p. below p.x) (λ p here. below_small p.x NEEDLE_LIMIT (within_parts NEEDLE_LIMIT p here).0) acts all in
-    let up = greatest_small (λ p. below p.y) (λ p here. below_small p.y NEEDLE_LIMIT (within_parts NEEDLE_LIMIT p here).1) acts all in
-    let down = greatest_small (λ p. above p.y) (λ p here. above_small p.y NEEDLE_LIMIT (within_parts NEEDLE_LIMIT p here).1) acts all in
+    let last = within_parts NEEDLE_LIMIT (needle_position_along origin acts) (place_in_range origin acts refl all) in
+    let right = greatest_small (λ p. size_above_zero p.x) (λ p here. above_small p.x NEEDLE_LIMIT (within_parts NEEDLE_LIMIT p here).0) acts
+    all in
+    let left = greatest_small (λ p. size_below_zero p.x) (λ p here. below_small p.x NEEDLE_LIMIT (within_parts NEEDLE_LIMIT p here).0) acts
+    all in
+    let up = greatest_small (λ p. size_below_zero p.y) (λ p here. below_small p.y NEEDLE_LIMIT (within_parts NEEDLE_LIMIT p here).1) acts
+    all in
+    let down = greatest_small (λ p. size_above_zero p.y) (λ p here. above_small p.y NEEDLE_LIMIT (within_parts NEEDLE_LIMIT p here).1) acts
+    all in
     record {
       records = few;
       stops = few_stops;

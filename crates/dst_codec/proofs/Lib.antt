@@ -2,13 +2,13 @@ pub mod ExtentLemmas
 pub mod HeaderLemmas
 mod BitFacts
 mod LimitFacts
-pub mod OneSpellingLemmas
+pub mod OneEncodingLemmas
 mod ReadingFacts
 pub mod ReadingLemmas
 pub mod RecordCountLemmas
 pub mod RunLemmas
-mod SpellingFacts
-pub mod SpellingLemmas
+mod MoveEncodingFacts
+pub mod MoveEncodingLemmas
 pub mod TableLemmas
 mod WritingFacts
 pub mod WritingLemmas

@@ -2,9 +2,9 @@
 use Rattle.std.proofs.Common.{◌≡◌, codes, refl}
 use Rattle.dst_codec.specs.declared.dst.TheConstants.{LIMIT, MAX_FLOAT_HOPS, MAX_STOPS}
 use Rattle.dst_codec.specs.declared.header.TheConstants.{HEADER_LENGTH}
-use Rattle.dst_codec.specs.Format.{dst}
+use Rattle.dst_codec.specs.Format.{dst_meaning}
 
-pub known_format : (dst.ending ≡ codes "dst") × (dst.limit ≡ 121)
+pub known_format : (dst_meaning.ending ≡ codes "dst") × (dst_meaning.limit ≡ 121)
 known_format = (refl, refl)
 
 -- how far a record moves on each axis

@@ -6,7 +6,7 @@ use Rattle.design_model.specs.declared.point.Point.{Point}
 use Rattle.format_traits.specs.declared.fault.ReadFault.{ReadFault}
 use Rattle.format_traits.specs.declared.fault.ReadFault.TheVariants as fault
 use Rattle.format_traits.specs.declared.loaded.Loaded.{Loaded}
-use Rattle.dst_codec.specs.Reading.{reads, moves, label_of}
+use Rattle.dst_codec.specs.Reading.{dst_reads, dst_moves, dst_label_of}
 
 abbrev pub point : ℤ → ℤ → Point
 point x y = record { x = x; y = y }
@@ -23,20 +23,20 @@ plain commands = Ok (record {
 })
 
 -- three jumps in a run read as two jumps, a trim and a jump
-pub known_three_jumps : reads (file (0 ∷ 0 ∷ 0x03 ∷ 0 ∷ 0 ∷ 0x83 ∷ 0 ∷ 0 ∷ 0x83 ∷ 0 ∷ 0 ∷ 0x83
+pub known_three_jumps : dst_reads (file (0 ∷ 0 ∷ 0x03 ∷ 0 ∷ 0 ∷ 0x83 ∷ 0 ∷ 0 ∷ 0x83 ∷ 0 ∷ 0 ∷ 0x83
     ∷ 0 ∷ 0 ∷ 0x03 ∷ 0 ∷ 0 ∷ 0xF3 ∷ []))
     ≡ plain (Stitch (point (pos 0) (pos 0)) ∷ Jump (point (pos 0) (pos 0)) ∷ Jump (point (pos 0) (pos 0))
     ∷ Trim ∷ Jump (point (pos 0) (pos 0)) ∷ Stitch (point (pos 0) (pos 0)) ∷ [])
 known_three_jumps = refl
 
 -- two jumps read as two jumps
-pub known_two_jumps : reads (file (0 ∷ 0 ∷ 0x03 ∷ 0 ∷ 0 ∷ 0x83 ∷ 0 ∷ 0 ∷ 0x83 ∷ 0 ∷ 0 ∷ 0x03 ∷ 0 ∷ 0 ∷ 0xF3 ∷ []))
+pub known_two_jumps : dst_reads (file (0 ∷ 0 ∷ 0x03 ∷ 0 ∷ 0 ∷ 0x83 ∷ 0 ∷ 0 ∷ 0x83 ∷ 0 ∷ 0 ∷ 0x03 ∷ 0 ∷ 0 ∷ 0xF3 ∷ []))
     ≡ plain (Stitch (point (pos 0) (pos 0)) ∷ Jump (point (pos 0) (pos 0)) ∷ Jump (point (pos 0) (pos 0))
     ∷ Stitch (point (pos 0) (pos 0)) ∷ [])
 known_two_jumps = refl
 
 -- a stop with a move is a jump besides, which no run counts; the fourth jump of a run is a jump
-pub known_stop : reads (file (0x01 ∷ 0 ∷ 0x83 ∷ 0 ∷ 0 ∷ 0xC3 ∷ 0x01 ∷ 0 ∷ 0xC3 ∷ 0x01 ∷ 0 ∷ 0x83 ∷ 0x01 ∷ 0 ∷ 0x83
+pub known_stop : dst_reads (file (0x01 ∷ 0 ∷ 0x83 ∷ 0 ∷ 0 ∷ 0xC3 ∷ 0x01 ∷ 0 ∷ 0xC3 ∷ 0x01 ∷ 0 ∷ 0x83 ∷ 0x01 ∷ 0 ∷ 0x83
     ∷ 0x01 ∷ 0 ∷ 0x83 ∷ 0x01 ∷ 0 ∷ 0x83 ∷ 0 ∷ 0 ∷ 0xF3 ∷ 1 ∷ 2 ∷ 3 ∷ 4 ∷ []))
     ≡ plain (Jump (point (pos 1) (pos 0)) ∷ Stop ∷ Stop ∷ Jump (point (pos 2) (pos 0))
     ∷ Jump (point (pos 3) (pos 0)) ∷ Jump (point (pos 4) (pos 0)) ∷ Trim ∷ Jump (point (pos 5) (pos 0))
@@ -44,7 +44,7 @@ pub known_stop : reads (file (0x01 ∷ 0 ∷ 0x83 ∷ 0 ∷ 0 ∷ 0xC3 ∷ 0x01 
 known_stop = refl
 
 -- a stitch breaks a run of jumps
-pub known_broken_run : reads (file (0 ∷ 0 ∷ 0x83 ∷ 0 ∷ 0 ∷ 0x83 ∷ 0x01 ∷ 0 ∷ 0x03 ∷ 0 ∷ 0 ∷ 0x83 ∷ 0 ∷ 0 ∷ 0x83 ∷ 0 ∷ 0 ∷ 0xF3 ∷ []))
+pub known_broken_run : dst_reads (file (0 ∷ 0 ∷ 0x83 ∷ 0 ∷ 0 ∷ 0x83 ∷ 0x01 ∷ 0 ∷ 0x03 ∷ 0 ∷ 0 ∷ 0x83 ∷ 0 ∷ 0 ∷ 0x83 ∷ 0 ∷ 0 ∷ 0xF3 ∷ []))
     ≡ plain (Jump (point (pos 0) (pos 0)) ∷ Jump (point (pos 0) (pos 0)) ∷ Stitch (point (pos 1) (pos 0))
     ∷ Jump (point (pos 1) (pos 0)) ∷ Jump (point (pos 1) (pos 0)) ∷ [])
 known_broken_run = refl
@@ -57,19 +57,19 @@ unended commands = Ok (record {
 })
 
 -- a file that is cut off in a record has the commands before, and has not ended
-pub known_cut_off : reads (file (0x00 ∷ 0x05 ∷ 0x03 ∷ 0x00 ∷ 0x05 ∷ [])) ≡ unended (Stitch (point (pos 30) (pos 0)) ∷ [])
+pub known_cut_off : dst_reads (file (0x00 ∷ 0x05 ∷ 0x03 ∷ 0x00 ∷ 0x05 ∷ [])) ≡ unended (Stitch (point (pos 30) (pos 0)) ∷ [])
 known_cut_off = refl
 
 -- nor has one that is cut off after a record, or after its header
-pub known_no_end : map (λ bytes. reads (file bytes)) ((0x00 ∷ 0x05 ∷ 0x03 ∷ []) ∷ [] ∷ [])
+pub known_no_end : map (λ bytes. dst_reads (file bytes)) ((0x00 ∷ 0x05 ∷ 0x03 ∷ []) ∷ [] ∷ [])
     ≡ unended (Stitch (point (pos 30) (pos 0)) ∷ []) ∷ unended [] ∷ []
 known_no_end = refl
 
 -- a sequin is refused at its record, and a short file at its length
-pub known_sequin : reads (file (0 ∷ 0 ∷ 0x03 ∷ 0 ∷ 0 ∷ 0x43 ∷ [])) ≡ Err (fault.Sequin 515)
+pub known_sequin : dst_reads (file (0 ∷ 0 ∷ 0x03 ∷ 0 ∷ 0 ∷ 0x43 ∷ [])) ≡ Err (fault.Sequin 515)
 known_sequin = refl
 
-pub known_short : reads (replicate 511 32) ≡ Err (fault.Short 511)
+pub known_short : dst_reads (replicate 511 32) ≡ Err (fault.Short 511)
 known_short = refl
 
 -- n records of a stitch by 121 to the right
@@ -78,25 +78,25 @@ join zero = []
 join (suc n) = 0x05 ∷ 0x05 ∷ 0x07 ∷ join n
 
 -- the needle of record 248 would be at 30008
-pub known_range : reads (file (join 248)) ≡ Err (fault.Range 1253)
+pub known_range : dst_reads (file (join 248)) ≡ Err (fault.Range 1253)
 known_range = refl
 
 -- the moves before a refusal, and before the end
-pub known_moves : moves (file (0x01 ∷ 0 ∷ 0x03 ∷ 0 ∷ 0 ∷ 0x43 ∷ [])) ≡ point (pos 1) (pos 0) ∷ []
+pub known_moves : dst_moves (file (0x01 ∷ 0 ∷ 0x03 ∷ 0 ∷ 0 ∷ 0x43 ∷ [])) ≡ point (pos 1) (pos 0) ∷ []
 known_moves = refl
 
-pub known_moves_to_end : moves (file (0x01 ∷ 0 ∷ 0x03 ∷ 0x02 ∷ 0 ∷ 0x83 ∷ 0 ∷ 0 ∷ 0xF3 ∷ 0x01 ∷ 0 ∷ 0x03 ∷ []))
+pub known_moves_to_end : dst_moves (file (0x01 ∷ 0 ∷ 0x03 ∷ 0x02 ∷ 0 ∷ 0x83 ∷ 0 ∷ 0 ∷ 0xF3 ∷ 0x01 ∷ 0 ∷ 0x03 ∷ []))
     ≡ point (pos 1) (pos 0) ∷ point (negsuc 0) (pos 0) ∷ []
 known_moves_to_end = refl
 
 -- a label ends before its spaces, and stands only after its name
-pub known_label : label_of (codes "LA:Rose 1          " ++ 13 ∷ []) ≡ codes "Rose 1"
+pub known_label : dst_label_of (codes "LA:Rose 1          " ++ 13 ∷ []) ≡ codes "Rose 1"
 known_label = refl
 
-pub known_no_label : map label_of (codes "XX:Rose 1          " ∷ codes "LA;Rose 1          " ∷ codes "la:Rose 1          "
+pub known_no_label : map dst_label_of (codes "XX:Rose 1          " ∷ codes "LA;Rose 1          " ∷ codes "la:Rose 1          "
     ∷ codes " LA:Rose 1         " ∷ []) ≡ [] ∷ [] ∷ [] ∷ [] ∷ []
 known_no_label = refl
 
 -- it has sixteen places
-pub known_long_label : label_of (codes "LA:Roses of Damascus") ≡ codes "Roses of Damascu"
+pub known_long_label : dst_label_of (codes "LA:Roses of Damascus") ≡ codes "Roses of Damascu"
 known_long_label = refl

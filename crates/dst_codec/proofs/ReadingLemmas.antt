@@ -3,27 +3,27 @@ use Rattle.std.proofs.Common.{◌≡◌, ℕ, ◌≤◌, List, [], ◌++◌, len
 use Rattle.std.proofs.Math.Seq.{drop-append_seam}
 use Rattle.std.proofs.lemmas.Bool.{le-ltb}
 use Rattle.format_traits.specs.Readings.{loaded_with}
-use Rattle.format_traits.specs.Records.{course_of}
+use Rattle.format_traits.specs.Records.{file_commands}
 use Rattle.dst_codec.specs.declared.header.TheConstants.{HEADER_LENGTH}
-use Rattle.dst_codec.specs.Reading.{reads, records_from, records_in, label_of}
+use Rattle.dst_codec.specs.Reading.{dst_reads, dst_records_from, dst_records_in, dst_label_of}
 
 -- a file that is not too short reads as its label and its records
-pub reads-long : (bytes : List ℕ) → HEADER_LENGTH ≤ length bytes
-    → reads bytes ≡ loaded_with (label_of bytes) [] (course_of (records_in bytes))
-reads-long bytes long = rw (le-ltb (length bytes) HEADER_LENGTH long) refl
+pub dst_reads-long : (bytes : List ℕ) → HEADER_LENGTH ≤ length bytes
+    → dst_reads bytes ≡ loaded_with (dst_label_of bytes) [] (file_commands (dst_records_in bytes))
+dst_reads-long bytes long = rw (le-ltb (length bytes) HEADER_LENGTH long) refl
 
 drop-header : (head body : List ℕ) → length head ≡ HEADER_LENGTH → drop HEADER_LENGTH (head ++ body) ≡ body
 drop-header head body is = subst (λ n. drop n (head ++ body) ≡ body) is (drop-append_seam head body)
 
 -- the records of a file are those after its header
-pub records_in-file : (head body : List ℕ) → length head ≡ HEADER_LENGTH
-    → records_in (head ++ body) ≡ records_from 0 HEADER_LENGTH body
-records_in-file head body is = ap (records_from 0 HEADER_LENGTH) (drop-header head body is)
+pub dst_records_in-file : (head body : List ℕ) → length head ≡ HEADER_LENGTH
+    → dst_records_in (head ++ body) ≡ dst_records_from 0 HEADER_LENGTH body
+dst_records_in-file head body is = ap (dst_records_from 0 HEADER_LENGTH) (drop-header head body is)
 
 -- a file reads as its label and these
-pub reads-file : (head body : List ℕ) → length head ≡ HEADER_LENGTH
-    → reads (head ++ body) ≡ loaded_with (label_of (head ++ body)) [] (course_of (records_from 0 HEADER_LENGTH body))
-reads-file head body is =
+pub dst_reads-file : (head body : List ℕ) → length head ≡ HEADER_LENGTH
+    → dst_reads (head ++ body) ≡ loaded_with (dst_label_of (head ++ body)) [] (file_commands (dst_records_from 0 HEADER_LENGTH body))
+dst_reads-file head body is =
     let long : HEADER_LENGTH ≤ length (head ++ body) = omega (arith, is, length-append head body) in
-    reads-long (head ++ body) long
-    ∙ ap (λ records. loaded_with (label_of (head ++ body)) [] (course_of records)) (records_in-file head body is)
+    dst_reads-long (head ++ body) long
+    ∙ ap (λ records. loaded_with (dst_label_of (head ++ body)) [] (file_commands records)) (dst_records_in-file head body is)

@@ -8,14 +8,14 @@ use Rattle.design_model.specs.declared.act.Act.TheVariants as act
 use Rattle.design_model.specs.declared.act.NumberedAct.{NumberedAct}
 use Rattle.design_model.specs.declared.point.Point.{Point}
 use Rattle.design_model.specs.Points.{origin, move_between}
-use Rattle.format_traits.specs.declared.standing.Standing.{Standing}
-use Rattle.format_traits.specs.Placing.{hops, part_of, parts, parts_from}
-use Rattle.format_traits.specs.Refusals.{standing_after}
-use Rattle.format_traits.specs.Rooms.{act_room, needle_room, room_from}
-use Rattle.format_traits.specs.Spellings.{records_from, records_of_act, needle_records, hop_records, stitched_records}
+use Rattle.format_traits.specs.declared.encoder_state.EncoderState.{EncoderState}
+use Rattle.format_traits.specs.MoveHops.{hops_of, part_end, part_moves, part_moves_from}
+use Rattle.format_traits.specs.Refusals.{encoder_state_after}
+use Rattle.format_traits.specs.Rooms.{room_of_act, room_of_needle, room_from}
+use Rattle.format_traits.specs.RecordEncodings.{records_of_acts_from, records_of_act, needle_records, hop_records, stitched_hop_records}
 use Rattle.dst_codec.specs.declared.dst.TheConstants.{LIMIT}
-use Rattle.dst_codec.specs.Spelling.{jump_record, stitch_record}
-use Rattle.dst_codec.specs.Writing.{reach, spelling}
+use Rattle.dst_codec.specs.MoveEncoding.{dst_jump_record, dst_stitch_record}
+use Rattle.dst_codec.specs.Writing.{dst_write_limits, dst_encoding}
 
 -- all bytes of records, three for each
 abbrev AreTriples : List (List ℕ) → Type 0
@@ -26,56 +26,57 @@ joined xs ys of_xs of_ys =
     let bytes = ap length (concat-append xs ys) ∙ length-append (concat xs) (concat ys) in
     omega (arith, bytes, length-append xs ys, of_xs, of_ys)
 
-jumps : (m : Point) (n done count : ℕ) → AreTriples (map jump_record (parts_from m n done count))
+jumps : (m : Point) (n done count : ℕ) → AreTriples (map dst_jump_record (part_moves_from m n done count))
 jumps m n done zero = refl
 jumps m n done (suc count) = omega (arith, jumps m n (done + 1) count)
 
-hops_triples : (count : ℕ) (m : Point) → AreTriples (hop_records spelling count m)
-hops_triples count m = joined (map jump_record (parts m count)) (stitch_record origin ∷ []) (jumps m count 0 count) refl
+hops_triples : (count : ℕ) (m : Point) → AreTriples (hop_records dst_encoding count m)
+hops_triples count m = joined (map dst_jump_record (part_moves m count)) (dst_stitch_record origin ∷ []) (jumps m count 0 count) refl
 
-stitched_triples : (count : ℕ) (m : Point) → AreTriples (stitched_records spelling count m)
-stitched_triples count m = joined (map jump_record (parts_from m count 0 (count - 1)))
-    (stitch_record (move_between (part_of m count (count - 1)) m) ∷ []) (jumps m count 0 (count - 1)) refl
+stitched_triples : (count : ℕ) (m : Point) → AreTriples (stitched_hop_records dst_encoding count m)
+stitched_triples count m = joined (map dst_jump_record (part_moves_from m count 0 (count - 1)))
+    (dst_stitch_record (move_between (part_end m count (count - 1)) m) ∷ []) (jumps m count 0 (count - 1)) refl
 
 -- the records of a float, whether its jumps are three or not
 float_triples : (three : Bool) (count : ℕ) (m : Point)
-    → AreTriples (if three then stitched_records spelling count m else hop_records spelling count m)
+    → AreTriples (if three then stitched_hop_records dst_encoding count m else hop_records dst_encoding count m)
 float_triples true count m = stitched_triples count m
 float_triples false count m = hops_triples count m
 
-needle_triples : (loose float : Bool) (m : Point) → AreTriples (needle_records spelling reach loose float m)
-needle_triples true float m = hops_triples (hops LIMIT m) m
-needle_triples false true m = float_triples (max 1 (hops LIMIT m) == 3) (max 1 (hops LIMIT m)) m
+needle_triples : (loose float : Bool) (m : Point) → AreTriples (needle_records dst_encoding dst_write_limits loose float m)
+needle_triples true float m = hops_triples (hops_of LIMIT m) m
+needle_triples false true m = float_triples (max 1 (hops_of LIMIT m) == 3) (max 1 (hops_of LIMIT m)) m
 needle_triples false false m = refl
 
-act_triples : (s : Standing) (a : Act) → AreTriples (records_of_act spelling reach s a)
+act_triples : (s : EncoderState) (a : Act) → AreTriples (records_of_act dst_encoding dst_write_limits s a)
 act_triples s (act.Needle p float) = needle_triples s.loose float (move_between s.place p)
 act_triples s act.Trim = refl
 act_triples s act.Stop = refl
 
 -- the records of acts have three bytes each
-pub records_triples : (s : Standing) (acts : List NumberedAct)
-    → length (concat (records_from spelling reach s acts)) ≡ 3 * length (records_from spelling reach s acts)
+pub records_triples : (s : EncoderState) (acts : List NumberedAct)
+    → length (concat (records_of_acts_from dst_encoding dst_write_limits s acts))
+    ≡ 3 * length (records_of_acts_from dst_encoding dst_write_limits s acts)
 records_triples s [] = refl
 records_triples s (a ∷ rest) =
-    let after = standing_after LIMIT s a.act in
-    joined (records_of_act spelling reach s a.act) (records_from spelling reach after rest)
+    let after = encoder_state_after LIMIT s a.act in
+    joined (records_of_act dst_encoding dst_write_limits s a.act) (records_of_acts_from dst_encoding dst_write_limits after rest)
     (act_triples s a.act) (records_triples after rest)
 
-length-parts_from : (m : Point) (n done count : ℕ) → length (parts_from m n done count) ≡ count
-length-parts_from m n done zero = refl
-length-parts_from m n done (suc count) = ap suc (length-parts_from m n (done + 1) count)
+length-part_moves_from : (m : Point) (n done count : ℕ) → length (part_moves_from m n done count) ≡ count
+length-part_moves_from m n done zero = refl
+length-part_moves_from m n done (suc count) = ap suc (length-part_moves_from m n (done + 1) count)
 
-length-jumps : (m : Point) (n count : ℕ) → length (map jump_record (parts_from m n 0 count)) ≡ count
-length-jumps m n count = length-map (parts_from m n 0 count) jump_record ∙ length-parts_from m n 0 count
+length-jumps : (m : Point) (n count : ℕ) → length (map dst_jump_record (part_moves_from m n 0 count)) ≡ count
+length-jumps m n count = length-map (part_moves_from m n 0 count) dst_jump_record ∙ length-part_moves_from m n 0 count
 
-length-hop_records : (count : ℕ) (m : Point) → length (hop_records spelling count m) ≡ count + 1
-length-hop_records count m = length-append (map jump_record (parts m count)) (stitch_record origin ∷ [])
+length-hop_records : (count : ℕ) (m : Point) → length (hop_records dst_encoding count m) ≡ count + 1
+length-hop_records count m = length-append (map dst_jump_record (part_moves m count)) (dst_stitch_record origin ∷ [])
     ∙ ap (λ n. n + 1) (length-jumps m count count)
 
-length-stitched_records : (count : ℕ) (m : Point) → length (stitched_records spelling count m) ≡ count - 1 + 1
-length-stitched_records count m = length-append (map jump_record (parts_from m count 0 (count - 1)))
-    (stitch_record (move_between (part_of m count (count - 1)) m) ∷ [])
+length-stitched_hop_records : (count : ℕ) (m : Point) → length (stitched_hop_records dst_encoding count m) ≡ count - 1 + 1
+length-stitched_hop_records count m = length-append (map dst_jump_record (part_moves_from m count 0 (count - 1)))
+    (dst_stitch_record (move_between (part_end m count (count - 1)) m) ∷ [])
     ∙ ap (λ n. n + 1) (length-jumps m count (count - 1))
 
 loose_small : (few : Bool) (count : ℕ) → count + 1 ≤ (if few then count + 1 else count + 2)
@@ -83,27 +84,28 @@ loose_small true count = omega arith
 loose_small false count = omega arith
 
 float_small : (three : Bool) (count : ℕ) (m : Point)
-    → length (if three then stitched_records spelling count m else hop_records spelling count m) ≤ max 1 count + 1
-float_small true count m = omega (arith, length-stitched_records count m)
+    → length (if three then stitched_hop_records dst_encoding count m else hop_records dst_encoding count m) ≤ max 1 count + 1
+float_small true count m = omega (arith, length-stitched_hop_records count m)
 float_small false count m = omega (arith, length-hop_records count m)
 
 needle_small : (loose float : Bool) (m : Point)
-    → length (needle_records spelling reach loose float m) ≤ needle_room LIMIT loose float m
+    → length (needle_records dst_encoding dst_write_limits loose float m) ≤ room_of_needle LIMIT loose float m
 needle_small true float m =
-    omega (arith, length-hop_records (hops LIMIT m) m, loose_small (nat_le (hops LIMIT m) 2) (hops LIMIT m))
-needle_small false true m = omega (arith, float_small (max 1 (hops LIMIT m) == 3) (max 1 (hops LIMIT m)) m)
+    omega (arith, length-hop_records (hops_of LIMIT m) m, loose_small (nat_le (hops_of LIMIT m) 2) (hops_of LIMIT m))
+needle_small false true m = omega (arith, float_small (max 1 (hops_of LIMIT m) == 3) (max 1 (hops_of LIMIT m)) m)
 needle_small false false m = omega arith
 
-act_small : (s : Standing) (a : Act) → length (records_of_act spelling reach s a) ≤ act_room LIMIT s.loose s.place a
+act_small : (s : EncoderState) (a : Act) → length (records_of_act dst_encoding dst_write_limits s a) ≤ room_of_act LIMIT s.loose s.place a
 act_small s (act.Needle p float) = needle_small s.loose float (move_between s.place p)
 act_small s act.Trim = omega arith
 act_small s act.Stop = omega arith
 
 -- acts have at most as many records as their room
-pub records_small : (s : Standing) (acts : List NumberedAct)
-    → length (records_from spelling reach s acts) ≤ room_from LIMIT s.loose s.place acts
+pub records_small : (s : EncoderState) (acts : List NumberedAct)
+    → length (records_of_acts_from dst_encoding dst_write_limits s acts) ≤ room_from LIMIT s.loose s.place acts
 records_small s [] = omega arith
 records_small s (a ∷ rest) =
-    let after = standing_after LIMIT s a.act in
-    let all = length-append (records_of_act spelling reach s a.act) (records_from spelling reach after rest) in
+    let after = encoder_state_after LIMIT s a.act in
+    let all = length-append (records_of_act dst_encoding dst_write_limits s a.act)
+    (records_of_acts_from dst_encoding dst_write_limits after rest) in
     omega (arith, all, act_small s a.act, records_small after rest)

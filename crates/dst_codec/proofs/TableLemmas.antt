@@ -6,8 +6,8 @@ use Rattle.std.specs.List.{range_with_len}
 use mir.Val.{Fits}
 use Rattle.dst_codec.specs.declared.reading_tables.TheConstants.{X_OF_FIRST, X_OF_SECOND, X_OF_THIRD, Y_OF_FIRST, Y_OF_SECOND, Y_OF_THIRD}
 use Rattle.dst_codec.specs.declared.writing_tables.TheConstants.{FIRST_OF_X, SECOND_OF_X, THIRD_OF_X, FIRST_OF_Y, SECOND_OF_Y, THIRD_OF_Y}
-use Rattle.dst_codec.specs.Bits.{bit, sum_along, rightwards, leftwards, upwards, downwards}
-use Rattle.dst_codec.specs.Spelling.{shifted, plus, minus, x_signs, y_signs}
+use Rattle.dst_codec.specs.Bits.{bit_of_byte, sum_along, rightwards, leftwards, upwards, downwards}
+use Rattle.dst_codec.specs.MoveEncoding.{biased_number, plus_bit, minus_bit, x_signs, y_signs}
 
 -- the entry of a table that holds a function's values
 entry : (f : ℕ → ℕ) (table : List ℕ) (count n : ℕ) → table ≡ map f (range_with_len 0 count) → n < count → get_or table n 0 ≡ f n
@@ -17,7 +17,7 @@ entry f table count n is there =
 -- the sum of two parts plus, less that of two parts minus, counted from that base
 abbrev parts : ℕ → ℕ → ℕ → ℕ → ℕ → ℕ → ℕ → ℕ → ℕ
 parts base lesser greater p q r s byte =
-    base + (lesser * bit byte p + greater * bit byte r) - (lesser * bit byte q + greater * bit byte s)
+    base + (lesser * bit_of_byte byte p + greater * bit_of_byte byte r) - (lesser * bit_of_byte byte q + greater * bit_of_byte byte s)
 
 -- the tables of the first, the second and the third byte
 x_first_is : X_OF_FIRST ≡ map (parts 10 1 9 1 2 4 8) (range_with_len 0 256)
@@ -39,7 +39,7 @@ y_third_is : Y_OF_THIRD ≡ map (parts 81 0 81 64 128 16 32) (range_with_len 0 2
 y_third_is = refl
 
 -- a bit is 0 or 1
-bit_small : (byte worth : ℕ) → bit byte worth ≤ 1
+bit_small : (byte worth : ℕ) → bit_of_byte byte worth ≤ 1
 bit_small byte worth = omega arith
 
 -- entries of three tables, which count from the least, and their sum
@@ -66,8 +66,9 @@ axis : (one one' nine nine' a b c x y z : ℕ)
     → z ≡ parts 81 0 81 one one' nine nine' c
     → Sums x y z (sum_along one nine a b c) (sum_along one' nine' a b c)
 axis one one' nine nine' a b c x y z of_x of_y of_z =
-    sums_of x y z (bit a one) (bit a one') (bit a nine) (bit a nine') (bit b one) (bit b one') (bit b nine) (bit b nine')
-    (bit c one) (bit c one') (bit c nine) (bit c nine')
+    sums_of x y z (bit_of_byte a one) (bit_of_byte a one') (bit_of_byte a nine) (bit_of_byte a nine') (bit_of_byte b one)
+    (bit_of_byte b one') (bit_of_byte b nine) (bit_of_byte b nine')
+    (bit_of_byte c one) (bit_of_byte c one') (bit_of_byte c nine) (bit_of_byte c nine')
     (bit_small a one) (bit_small a one') (bit_small a nine) (bit_small a nine')
     (bit_small b one) (bit_small b one') (bit_small b nine) (bit_small b nine')
     (bit_small c nine) (bit_small c nine') of_x of_y of_z
@@ -141,31 +142,31 @@ shares x y of_x of_y most x_is y_is small = record {
 }
 
 -- the entry of a table at a number's place
-at_number : (f : ℕ → ℕ) (table : List ℕ) (z : ℤ) (n : ℕ) → table ≡ map f (range_with_len 0 243) → n ≡ shifted z → n ≤ 242
-    → get_or table n 0 ≡ f (shifted z)
+at_number : (f : ℕ → ℕ) (table : List ℕ) (z : ℤ) (n : ℕ) → table ≡ map f (range_with_len 0 243) → n ≡ biased_number z → n ≤ 242
+    → get_or table n 0 ≡ f (biased_number z)
 at_number f table z n is of_z there = entry f table 243 n is (omega (arith, there)) ∙ ap f of_z
 
-pub first_shares : (x y : ℤ) (i j : ℕ) → i ≡ shifted x → j ≡ shifted y → i ≤ 242 → j ≤ 242
+pub first_shares : (x y : ℤ) (i j : ℕ) → i ≡ biased_number x → j ≡ biased_number y → i ≤ 242 → j ≤ 242
     → Shares (get_or FIRST_OF_X i 0) (get_or FIRST_OF_Y j 0) (x_signs 1 9 x) (16 * y_signs 1 9 y) 255
 first_shares x y i j of_x of_y small_x small_y = shares _ _ _ _ 255
     (at_number (half 1 9) FIRST_OF_X x i first_of_x_is of_x small_x)
     (at_number (λ n. 16 * half 9 1 n) FIRST_OF_Y y j first_of_y_is of_y small_y)
-    (omega (arith, half_small 1 9 (shifted x), half_small 9 1 (shifted y)))
+    (omega (arith, half_small 1 9 (biased_number x), half_small 9 1 (biased_number y)))
 
-pub second_shares : (x y : ℤ) (i j : ℕ) → i ≡ shifted x → j ≡ shifted y → i ≤ 242 → j ≤ 242
+pub second_shares : (x y : ℤ) (i j : ℕ) → i ≡ biased_number x → j ≡ biased_number y → i ≤ 242 → j ≤ 242
     → Shares (get_or SECOND_OF_X i 0) (get_or SECOND_OF_Y j 0) (x_signs 3 27 x) (16 * y_signs 3 27 y) 255
 second_shares x y i j of_x of_y small_x small_y = shares _ _ _ _ 255
     (at_number (half 3 27) SECOND_OF_X x i second_of_x_is of_x small_x)
     (at_number (λ n. 16 * half 27 3 n) SECOND_OF_Y y j second_of_y_is of_y small_y)
-    (omega (arith, half_small 3 27 (shifted x), half_small 27 3 (shifted y)))
+    (omega (arith, half_small 3 27 (biased_number x), half_small 27 3 (biased_number y)))
 
-pub third_shares : (x y : ℤ) (i j : ℕ) → i ≡ shifted x → j ≡ shifted y → i ≤ 242 → j ≤ 242
+pub third_shares : (x y : ℤ) (i j : ℕ) → i ≡ biased_number x → j ≡ biased_number y → i ≤ 242 → j ≤ 242
     → Shares (get_or THIRD_OF_X i 0) (get_or THIRD_OF_Y j 0)
-    (3 + 4 * plus 81 x + 8 * minus 81 x) (16 * plus 81 y + 32 * minus 81 y) 63
+    (3 + 4 * plus_bit 81 x + 8 * minus_bit 81 x) (16 * plus_bit 81 y + 32 * minus_bit 81 y) 63
 third_shares x y i j of_x of_y small_x small_y = shares _ _ _ _ 63
     (at_number (λ n. 3 + 4 * plus_at 81 n + 8 * minus_at 81 n) THIRD_OF_X x i third_of_x_is of_x small_x)
     (at_number (λ n. 16 * plus_at 81 n + 32 * minus_at 81 n) THIRD_OF_Y y j third_of_y_is of_y small_y)
-    (omega (arith, third_small (shifted x), third_small (shifted y)))
+    (omega (arith, third_small (biased_number x), third_small (biased_number y)))
 
 -- the third byte with its flags
 pub with_flags : (sum p q r s flags : ℕ) → sum ≡ (3 + 4 * p + 8 * q) + (16 * r + 32 * s)

@@ -9,9 +9,9 @@ use Rattle.design_model.specs.Acts.{acts_along}
 use Rattle.design_model.specs.Designs.{DesignValue}
 use Rattle.format_traits.specs.declared.fault.WriteFault.TheVariants as fault
 use Rattle.dst_codec.specs.Header.{extents_of, header_fields}
-use Rattle.dst_codec.specs.Samples.{square, square_commands}
-use Rattle.dst_codec.specs.Steps.{reached}
-use Rattle.dst_codec.specs.Writing.{records_of, writes}
+use Rattle.dst_codec.specs.Samples.{square_design, square_commands}
+use Rattle.dst_codec.specs.Steps.{extents_from_origin}
+use Rattle.dst_codec.specs.Writing.{dst_records_of, dst_writes}
 
 abbrev pub point : ℤ → ℤ → Point
 point x y = record { x = x; y = y }
@@ -24,7 +24,7 @@ abbrev square_records : List ℕ
 square_records = 0x00 ∷ 0x00 ∷ 0x03 ∷ 0x00 ∷ 0x05 ∷ 0x03 ∷ 0x00 ∷ 0x50 ∷ 0x03 ∷ 0x00 ∷ 0x0A ∷ 0x03 ∷ 0x00 ∷ 0xA0 ∷ 0x03
     ∷ 0x82 ∷ 0x41 ∷ 0x83 ∷ 0x82 ∷ 0x82 ∷ 0x83 ∷ 0x82 ∷ 0x41 ∷ 0x83 ∷ []
 
-pub known_square_records : concat (records_of (acts_along square_commands)) ≡ square_records
+pub known_square_records : concat (dst_records_of (acts_along square_commands)) ≡ square_records
 known_square_records = refl
 
 -- the fields of the square, which take 124 bytes
@@ -73,38 +73,39 @@ pub known_one_side : extents_of (acts_along (Stitch (point (negsuc 11) (negsuc 3
 known_one_side = refl
 
 -- how far an extent reaches to each side of the origin; one to the right of it and below it reaches to two only
-pub known_reached : reached (Some (record { min = point (negsuc 4) (negsuc 5); max = point (pos 12) (pos 34) }))
+pub known_reached : extents_from_origin (Some (record { min = point (negsuc 4) (negsuc 5); max = point (pos 12) (pos 34) }))
     ≡ record { right = 12; left = 5; up = 6; down = 34 }
 known_reached = refl
 
-pub known_reached_beyond : reached (Some (record { min = point (pos 3) (pos 4); max = point (pos 12) (pos 34) }))
+pub known_reached_beyond : extents_from_origin (Some (record { min = point (pos 3) (pos 4); max = point (pos 12) (pos 34) }))
     ≡ record { right = 12; left = 0; up = 0; down = 34 }
 known_reached_beyond = refl
 
 -- the whole file of the square has its header of 512 bytes, its records and the end
-pub known_square_file : writes square ≡ Ok (square_fields ++ 26 ∷ (replicate 387 32 ++ (square_records ++ 0x00 ∷ 0x00 ∷ 0xF3 ∷ [])))
+pub known_square_file : dst_writes square_design
+    ≡ Ok (square_fields ++ 26 ∷ (replicate 387 32 ++ (square_records ++ 0x00 ∷ 0x00 ∷ 0xF3 ∷ [])))
 unfolding digits
 known_square_file = refl
 
 -- a needle of a new colour block is reached by jumps, and a stop has its record
-pub known_second_block : concat (records_of (acts_along (Stitch (point (pos 0) (pos 0)) ∷ Stop
+pub known_second_block : concat (dst_records_of (acts_along (Stitch (point (pos 0) (pos 0)) ∷ Stop
     ∷ Stitch (point (pos 300) (pos 0)) ∷ [])))
     ≡ 0x00 ∷ 0x00 ∷ 0x03 ∷ 0x00 ∷ 0x00 ∷ 0xC3 ∷ 0x09 ∷ 0x04 ∷ 0x87 ∷ 0x09 ∷ 0x04 ∷ 0x87 ∷ 0x09 ∷ 0x04 ∷ 0x87
     ∷ 0x00 ∷ 0x00 ∷ 0x03 ∷ []
 known_second_block = refl
 
 -- a float of three hops is two jumps and a stitch; a float of no length is a jump without a move
-pub known_floats : concat (records_of (acts_along (Stitch (point (pos 0) (pos 0)) ∷ Jump (point (pos 300) (pos 0))
+pub known_floats : concat (dst_records_of (acts_along (Stitch (point (pos 0) (pos 0)) ∷ Jump (point (pos 300) (pos 0))
     ∷ Stitch (point (pos 300) (pos 0)) ∷ Jump (point (pos 300) (pos 0)) ∷ Stitch (point (pos 300) (pos 0)) ∷ [])))
     ≡ 0x00 ∷ 0x00 ∷ 0x03 ∷ 0x09 ∷ 0x04 ∷ 0x87 ∷ 0x09 ∷ 0x04 ∷ 0x87 ∷ 0x09 ∷ 0x04 ∷ 0x07
     ∷ 0x00 ∷ 0x00 ∷ 0x83 ∷ 0x00 ∷ 0x00 ∷ 0x03 ∷ []
 known_floats = refl
 
 -- a stitch of 122 is refused, and so is a float of 400
-pub known_long_stitch : writes (sewn (Stitch (point (pos 0) (pos 0)) ∷ Stitch (point (pos 122) (pos 0)) ∷ []))
+pub known_long_stitch : dst_writes (sewn (Stitch (point (pos 0) (pos 0)) ∷ Stitch (point (pos 122) (pos 0)) ∷ []))
     ≡ Err (fault.StitchTooLong 2)
 known_long_stitch = refl
 
-pub known_long_float : writes (sewn (Stitch (point (pos 0) (pos 0)) ∷ Jump (point (pos 400) (pos 0))
+pub known_long_float : dst_writes (sewn (Stitch (point (pos 0) (pos 0)) ∷ Jump (point (pos 400) (pos 0))
     ∷ Stitch (point (pos 400) (pos 0)) ∷ [])) ≡ Err (fault.FloatTooLong 3)
 known_long_float = refl

@@ -12,14 +12,14 @@ use Rattle.dst_codec.specs.declared.record_kind.RecordKind.{RecordKind}
 use Rattle.dst_codec.specs.declared.record_kind.RecordKind.TheVariants as kind
 
 -- One bit of a byte, as 0 or 1, by its worth: 1, 2, 4 up to 128.
-abbrev pub bit : ℕ → ℕ → ℕ
-bit byte worth = byte / worth % 2
+abbrev pub bit_of_byte : ℕ → ℕ → ℕ
+bit_of_byte byte worth = byte / worth % 2
 
 -- The sum of the set bits of one direction. The bit of the worth `one` counts 1 and 3, the bit of
 -- the worth `nine` counts 9, 27 and 81.
 abbrev pub sum_along : ℕ → ℕ → ℕ → ℕ → ℕ → ℕ
-sum_along one nine first second third = bit first one + 3 * bit second one
-    + 9 * bit first nine + 27 * bit second nine + 81 * bit third nine
+sum_along one nine first second third = bit_of_byte first one + 3 * bit_of_byte second one
+    + 9 * bit_of_byte first nine + 27 * bit_of_byte second nine + 81 * bit_of_byte third nine
 
 -- The sum of the set bits of moves to the right.
 abbrev pub rightwards : ℕ → ℕ → ℕ → ℕ
@@ -38,16 +38,16 @@ abbrev pub downwards : ℕ → ℕ → ℕ → ℕ
 downwards first second third = sum_along 64 16 first second third
 
 -- The move of a record by its three bytes, in a design's axes.
-abbrev pub move_of : ℕ → ℕ → ℕ → Point
-move_of first second third = record {
+abbrev pub dst_move_of : ℕ → ℕ → ℕ → Point
+dst_move_of first second third = record {
   x = pos (rightwards first second third) -ℤ pos (leftwards first second third);
   y = pos (downwards first second third) -ℤ pos (upwards first second third);
 }
 
 -- The move of a record at the beginning of bytes.
-abbrev pub move_in : List ℕ → Point
-move_in (first ∷ second ∷ third ∷ rest) = move_of first second third
-move_in _ = origin
+abbrev pub dst_move_in : List ℕ → Point
+dst_move_in (first ∷ second ∷ third ∷ rest) = dst_move_of first second third
+dst_move_in _ = origin
 
 -- The kind of a record by its third byte. All bits but 2 and 3 are set in the end record. Where the
 -- two low bits are set, the two flags give the kind. Any other record is a stitch.

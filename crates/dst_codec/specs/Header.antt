@@ -6,33 +6,33 @@ use Rattle.design_model.specs.declared.act.Act.TheVariants.{Needle, Trim, Stop}
 use Rattle.design_model.specs.declared.act.NumberedAct.{NumberedAct}
 use Rattle.design_model.specs.declared.point.Point.{Point}
 use Rattle.design_model.specs.Points.{origin}
-use Rattle.format_traits.specs.LabelFields.{filled_left, filled_right, label_field}
-use Rattle.design_model.specs.ActPlaces.{place_along}
+use Rattle.format_traits.specs.LabelFields.{padded_left, padded_right, label_field}
+use Rattle.design_model.specs.ActPositions.{needle_position_along}
 use Rattle.format_traits.specs.Refusals.{stops_of}
 use Rattle.dst_codec.specs.declared.header.Extents.{Extents}
 use Rattle.dst_codec.specs.declared.header.HeaderNumbers.{HeaderNumbers}
 use Rattle.dst_codec.specs.declared.header.TheConstants.{HEADER_LENGTH}
 
 -- A number that is above 0; else 0.
-abbrev pub above : ℤ → ℕ
-above (pos n) = n
-above (negsuc n) = 0
+abbrev pub size_above_zero : ℤ → ℕ
+size_above_zero (pos n) = n
+size_above_zero (negsuc n) = 0
 
 -- The size of a number that is below 0; else 0.
-abbrev pub below : ℤ → ℕ
-below (pos n) = 0
-below (negsuc n) = suc n
+abbrev pub size_below_zero : ℤ → ℕ
+size_below_zero (pos n) = 0
+size_below_zero (negsuc n) = suc n
 
 -- A measure of a needle; 0 for any other act.
-abbrev pub measured : (Point → ℕ) → Act → ℕ
-measured measure (Needle p float) = measure p
-measured measure Trim = 0
-measured measure Stop = 0
+abbrev pub needle_measure : (Point → ℕ) → Act → ℕ
+needle_measure measure (Needle p float) = measure p
+needle_measure measure Trim = 0
+needle_measure measure Stop = 0
 
 -- The greatest measure of a needle among acts; 0 without a needle.
-abbrev pub greatest : (Point → ℕ) → List NumberedAct → ℕ
-greatest measure [] = 0
-greatest measure (a ∷ rest) = max (measured measure a.act) (greatest measure rest)
+abbrev pub max_measure : (Point → ℕ) → List NumberedAct → ℕ
+max_measure measure [] = 0
+max_measure measure (a ∷ rest) = max (needle_measure measure a.act) (max_measure measure rest)
 
 -- A field of the header: its name, its contents and a carriage return.
 abbrev pub field : List ℕ → List ℕ → List ℕ
@@ -40,24 +40,24 @@ field name contents = name ++ contents ++ 13 ∷ []
 
 -- A field of a number, padded with spaces at its left to `places` bytes.
 abbrev pub number_field : List ℕ → ℕ → ℕ → List ℕ
-number_field name places n = field name (filled_left places (decimal n))
+number_field name places n = field name (padded_left places (decimal n))
 
 -- The code of the sign of a number: + or -.
-abbrev pub sign_of : ℤ → ℕ
-sign_of (pos n) = 43
-sign_of (negsuc n) = 45
+abbrev pub sign_code : ℤ → ℕ
+sign_code (pos n) = 43
+sign_code (negsuc n) = 45
 
 -- A field of a sign and of a number, padded to five bytes.
 abbrev pub signed_field : List ℕ → ℤ → List ℕ
-signed_field name z = field name (sign_of z ∷ filled_left 5 (decimal (unsigned_abs z)))
+signed_field name z = field name (sign_code z ∷ padded_left 5 (decimal (unsigned_abs z)))
 
 -- The greatest distances of needles from the origin, in four directions.
 abbrev pub extents_of : List NumberedAct → Extents
 extents_of acts = record {
-  right = greatest (λ p. above p.x) acts;
-  left = greatest (λ p. below p.x) acts;
-  up = greatest (λ p. below p.y) acts;
-  down = greatest (λ p. above p.y) acts;
+  right = max_measure (λ p. size_above_zero p.x) acts;
+  left = max_measure (λ p. size_below_zero p.x) acts;
+  up = max_measure (λ p. size_below_zero p.y) acts;
+  down = max_measure (λ p. size_above_zero p.y) acts;
 }
 
 -- The numbers of a header: the number of records, and those that are computed from the acts.
@@ -66,11 +66,11 @@ numbers_of acts count = record {
   records = count;
   stops = stops_of acts;
   extents = extents_of acts;
-  last = place_along origin acts;
+  last = needle_position_along origin acts;
 }
 
 -- Each number of a header fits its field.
-pub record FitsPlaces (numbers : HeaderNumbers) : Type 0 where
+pub record FitsFields (numbers : HeaderNumbers) : Type 0 where
   pub records : numbers.records < 10 ^ 7
   pub stops : numbers.stops < 10 ^ 3
   pub right : numbers.extents.right < 10 ^ 5
@@ -100,9 +100,9 @@ abbrev pub header_fields : List ℕ → List NumberedAct → ℕ → List ℕ
 header_fields label acts count = fields_of label (numbers_of acts count)
 
 -- The header of 512 bytes, by a label and numbers.
-abbrev pub header_of : List ℕ → HeaderNumbers → List ℕ
-header_of label numbers = filled_right HEADER_LENGTH (fields_of label numbers ++ 26 ∷ [])
+abbrev pub dst_header_of : List ℕ → HeaderNumbers → List ℕ
+dst_header_of label numbers = padded_right HEADER_LENGTH (fields_of label numbers ++ 26 ∷ [])
 
 -- The header of 512 bytes, by a label, acts and the number of records.
 abbrev pub header : List ℕ → List NumberedAct → ℕ → List ℕ
-header label acts count = header_of label (numbers_of acts count)
+header label acts count = dst_header_of label (numbers_of acts count)

@@ -1,11 +1,11 @@
 pub mod Bits
-pub mod Spelling
-pub mod OneSpelling
+pub mod MoveEncoding
+pub mod OneEncoding
 pub mod Header
 -- read these first: what a file reads as, and what a design is written as
 pub mod Reading
 pub mod Writing
-pub mod Cuts
+pub mod KindDecoding
 pub mod Steps
 pub mod Format
 pub mod Laws

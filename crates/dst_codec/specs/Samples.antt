@@ -12,5 +12,5 @@ square_commands = Stitch (record { x = pos 0; y = pos 0 })
     ∷ Stitch (record { x = pos 0; y = pos 0 }) ∷ Trim ∷ []
 
 -- A design of one square, without a label and threads.
-abbrev pub square : DesignValue
-square = record { label = []; threads = []; commands = square_commands }
+abbrev pub square_design : DesignValue
+square_design = record { label = []; threads = []; commands = square_commands }

@@ -4,38 +4,38 @@ use Rattle.std.specs.List.{concat}
 use Rattle.design_model.specs.declared.bounds.Extent.{Extent}
 use Rattle.design_model.specs.Acts.{acts_of}
 use Rattle.design_model.specs.Designs.{DesignValue}
-use Rattle.format_traits.specs.declared.standing.Standing.{Standing}
-use Rattle.format_traits.specs.Refusals.{beginning, first_refusal}
-use Rattle.format_traits.specs.Spellings.{standing_along}
+use Rattle.format_traits.specs.declared.encoder_state.EncoderState.{EncoderState}
+use Rattle.format_traits.specs.Refusals.{initial_encoder_state, first_refusal}
+use Rattle.format_traits.specs.RecordEncodings.{encoder_state_after_acts}
 use Rattle.dst_codec.specs.declared.dst.TheConstants.{LIMIT}
 use Rattle.dst_codec.specs.declared.header.Extents.{Extents}
 use Rattle.dst_codec.specs.declared.header.HeaderNumbers.{HeaderNumbers}
 use Rattle.dst_codec.specs.declared.header.TheConstants.{HEADER_LENGTH}
-use Rattle.dst_codec.specs.Header.{above, below, numbers_of}
-use Rattle.dst_codec.specs.Spelling.{end_record}
-use Rattle.dst_codec.specs.Writing.{reach, records_of}
+use Rattle.dst_codec.specs.Header.{size_above_zero, size_below_zero, numbers_of}
+use Rattle.dst_codec.specs.MoveEncoding.{dst_end_record}
+use Rattle.dst_codec.specs.Writing.{dst_write_limits, dst_records_of}
 
 -- The records of a design's acts, and the end record.
-abbrev pub body_of : DesignValue → List ℕ
-body_of d = concat (records_of (acts_of d)) ++ end_record
+abbrev pub dst_body_of : DesignValue → List ℕ
+dst_body_of d = concat (dst_records_of (acts_of d)) ++ dst_end_record
 
 -- The numbers of a design's header, whose number of records includes the end record.
-abbrev pub header_numbers : DesignValue → HeaderNumbers
-header_numbers d = numbers_of (acts_of d) (length (records_of (acts_of d)) + 1)
+abbrev pub header_numbers_of : DesignValue → HeaderNumbers
+header_numbers_of d = numbers_of (acts_of d) (length (dst_records_of (acts_of d)) + 1)
 
 -- The distances of an extent from the origin, in four directions; all are 0 without an extent.
-abbrev pub reached : Option Extent → Extents
-reached None = record { right = 0; left = 0; up = 0; down = 0 }
-reached (Some extent) = record {
-  right = above extent.max.x;
-  left = below extent.min.x;
-  up = below extent.min.y;
-  down = above extent.max.y;
+abbrev pub extents_from_origin : Option Extent → Extents
+extents_from_origin None = record { right = 0; left = 0; up = 0; down = 0 }
+extents_from_origin (Some extent) = record {
+  right = size_above_zero extent.max.x;
+  left = size_below_zero extent.min.x;
+  up = size_below_zero extent.min.y;
+  down = size_above_zero extent.max.y;
 }
 
 -- The design was not refused, `state` is the encoder's state after its acts, and `count` is the
 -- length of its file.
-pub record IsWritten (d : DesignValue) (standing : Standing) (count : ℕ) : Type 0 where
-  pub passed : first_refusal reach (acts_of d) ≡ None
-  pub stands : standing ≡ standing_along LIMIT beginning (acts_of d)
-  pub long : count ≡ HEADER_LENGTH + length (body_of d)
+pub record IsWritten (d : DesignValue) (state : EncoderState) (count : ℕ) : Type 0 where
+  pub passed : first_refusal dst_write_limits (acts_of d) ≡ None
+  pub stands : state ≡ encoder_state_after_acts LIMIT initial_encoder_state (acts_of d)
+  pub long : count ≡ HEADER_LENGTH + length (dst_body_of d)

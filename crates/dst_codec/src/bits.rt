@@ -1,7 +1,7 @@
 ghost use Rattle.std.specs.Prelude.{◌≡◌, ◌+◌, ◌%◌, ◌≤◌, ◌-ℤ◌, ℕ, IsTrue, pos, unsigned_abs};
-ghost use Rattle.design_model.specs.Points.{is_within};
+ghost use Rattle.design_model.specs.Points.{is_point_within};
 ghost use Rattle.dst_codec.specs.declared.dst.TheConstants.{LIMIT};
-ghost use Rattle.dst_codec.specs.Bits.{kind_of, move_in, rightwards, leftwards, upwards, downwards};
+ghost use Rattle.dst_codec.specs.Bits.{kind_of, dst_move_in, rightwards, leftwards, upwards, downwards};
 
 use crate::reading_tables::{
     X_OF_FIRST, X_OF_SECOND, X_OF_THIRD, Y_OF_FIRST, Y_OF_SECOND, Y_OF_THIRD,
@@ -11,8 +11,8 @@ use design_model::Point;
 
 /// Returns the move of a record in tenths of a millimetre; `y` counts downwards.
 pub fn decode_move(bytes: [u8; 3]) -> Point
-    ensures value { result ≡ move_in bytes }
-    ensures within { IsTrue (is_within LIMIT result) }
+    ensures value { result ≡ dst_move_in bytes }
+    ensures within { IsTrue (is_point_within LIMIT result) }
 {
     let [first, second, third] = bytes;
     Point {

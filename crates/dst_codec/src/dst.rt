@@ -1,8 +1,8 @@
-use crate::runs::Run;
+use crate::jump_runs::JumpRun;
 use crate::writing::write_file;
 use design_model::{Bytes, Command, Design, Memory};
 use format_traits::{
-    Fed, Feed, Format, Loaded, Reach, ReadFault, RecordDecoder, WriteFault, decode_whole,
+    Fed, Feed, Format, Loaded, ReadFault, RecordDecoder, WriteFault, WriteLimits, decode_whole,
 };
 use std::alloc::Global;
 
@@ -16,7 +16,7 @@ pub const MAX_FLOAT_HOPS: u32 = 3;
 pub const MAX_STOPS: u32 = 999;
 
 /// The limits of what a file can contain.
-pub const REACH: Reach = Reach {
+pub const WRITE_LIMITS: WriteLimits = WriteLimits {
     limit: LIMIT,
     float_hops: Some(MAX_FLOAT_HOPS),
     stops: Some(MAX_STOPS),
@@ -25,16 +25,16 @@ pub const REACH: Reach = Reach {
 /// The DST format.
 #[derive(Drop)]
 pub struct Dst {
-    feed: Feed<RecordDecoder<Run>>,
+    feed: Feed<RecordDecoder<JumpRun>>,
 }
 
 impl Dst {
-    ghost use Rattle.dst_codec.specs.Reading.{reads, shown};
-    ghost use Rattle.format_traits.specs.Feeding.{IsFresh};
+    ghost use Rattle.dst_codec.specs.Reading.{dst_reads, dst_shown};
+    ghost use Rattle.format_traits.specs.Feeding.{HasNothingFed};
 
     /// Returns a format object to which nothing was fed. Allocates nothing.
     pub fn new(alloc: Global) -> Dst
-        ensures { IsFresh reads shown (⟦<Dst as Format>⟧.feeding result) }
+        ensures { HasNothingFed dst_reads dst_shown (⟦<Dst as Format>⟧.feed_state result) }
     {
         Dst {
             feed: Feed::new(decoder(alloc)),
@@ -43,11 +43,11 @@ impl Dst {
 }
 
 impl Format for Dst {
-    ghost use Rattle.dst_codec.specs.Format.{dst as dst_meaning};
+    ghost use Rattle.dst_codec.specs.Format.{dst_meaning};
 
     ghost meaning = { λ _. dst_meaning };
 
-    ghost feeding = { λ d. ⟦<Feed<RecordDecoder<Run>> as Fed>⟧.feeding d.feed };
+    ghost feed_state = { λ d. ⟦<Feed<RecordDecoder<JumpRun>> as Fed>⟧.feed_state d.feed };
 
     fn ext(&self) -> &str {
         "dst"
@@ -86,6 +86,6 @@ impl Format for Dst {
     }
 }
 
-fn decoder(alloc: Global) -> RecordDecoder<Run> {
-    RecordDecoder::new(alloc, Run { jumps: 0 })
+fn decoder(alloc: Global) -> RecordDecoder<JumpRun> {
+    RecordDecoder::new(alloc, JumpRun { jumps: 0 })
 }

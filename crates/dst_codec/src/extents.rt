@@ -1,7 +1,7 @@
 ghost use Rattle.std.specs.Prelude.{◌≡◌};
 ghost use Rattle.design_model.specs.Acts.{acts_of};
-ghost use Rattle.dst_codec.specs.Header.{above as above_of, below as below_of, extents_of};
-ghost use Rattle.dst_codec.specs.Steps.{reached};
+ghost use Rattle.dst_codec.specs.Header.{size_above_zero, size_below_zero, extents_of};
+ghost use Rattle.dst_codec.specs.Steps.{extents_from_origin};
 
 use crate::header::Extents;
 use design_model::{Design, Extent, extent};
@@ -14,7 +14,7 @@ pub fn needle_extents(design: &Design) -> Extents
 }
 
 fn extents_within(extent: Option<Extent>) -> Extents
-    ensures { result ≡ reached extent }
+    ensures { result ≡ extents_from_origin extent }
 {
     match extent {
         Some(Extent { min, max }) => Extents {
@@ -34,14 +34,14 @@ fn extents_within(extent: Option<Extent>) -> Extents
 
 /// Returns a number that is above 0; else 0.
 fn above(number: i32) -> u32
-    ensures { result ≡ above_of number }
+    ensures { result ≡ size_above_zero number }
 {
     if number < 0 { 0 } else { number.unsigned_abs() }
 }
 
 /// Returns the size of a number that is below 0; else 0.
 fn below(number: i32) -> u32
-    ensures { result ≡ below_of number }
+    ensures { result ≡ size_below_zero number }
 {
     if number < 0 { number.unsigned_abs() } else { 0 }
 }

@@ -1,8 +1,8 @@
 ghost use Rattle.std.specs.Prelude.{◌≡◌, ◌++◌, ◌<◌, ◌≤◌, ◌^◌, [], length, decimal, neg_ℤ, codes, OnOk, IfOk, unsigned_abs};
 ghost use Rattle.design_model.specs.declared.design.TheConstants.{MAX_LABEL};
-ghost use Rattle.format_traits.specs.LabelFields.{filled_left, label_field};
+ghost use Rattle.format_traits.specs.LabelFields.{padded_left, label_field};
 ghost use Rattle.dst_codec.specs.declared.header.TheConstants.{HEADER_LENGTH};
-ghost use Rattle.dst_codec.specs.Header.{FitsPlaces, field, number_field, signed_field, fields_of, header_of, sign_of as sign_code};
+ghost use Rattle.dst_codec.specs.Header.{FitsFields, field, number_field, signed_field, fields_of, dst_header_of, sign_code};
 
 use design_model::{Bytes, MAX_LABEL, Memory, Point};
 use format_traits::{put_label, put_spaces};
@@ -34,8 +34,8 @@ pub struct HeaderNumbers {
 /// Returns the header of a file.
 pub fn new_header(alloc: Global, label: &[u8], numbers: &HeaderNumbers) -> Result<Bytes, Memory>
     requires label { length label.now ≤ MAX_LABEL }
-    requires fits { FitsPlaces numbers.now }
-    ensures value { IfOk result (λ header. header ≡ header_of label.now numbers.now) }
+    requires fits { FitsFields numbers.now }
+    ensures value { IfOk result (λ header. header ≡ dst_header_of label.now numbers.now) }
     ensures length { IfOk result (λ header. length header ≡ HEADER_LENGTH) }
 {
     let mut header = Bytes::new(alloc);
@@ -54,7 +54,7 @@ fn put_fields(
 ) -> Result<(), Memory>
     requires start { out.old ≡ [] }
     requires label { length label.now ≤ MAX_LABEL }
-    requires fits { FitsPlaces numbers.now }
+    requires fits { FitsFields numbers.now }
     ensures { OnOk result (out.new ≡ fields_of label.now numbers.now) }
 {
     put_label_field(out, label)?;
@@ -119,7 +119,7 @@ fn put_number(
 }
 
 fn put_digits(alloc: Global, out: &mut Bytes, places: usize, number: u32) -> Result<(), Memory>
-    ensures { OnOk result (out.new ≡ out.old ++ filled_left places (decimal number)) }
+    ensures { OnOk result (out.new ≡ out.old ++ padded_left places (decimal number)) }
 {
     let digits = number.to_string(alloc)?;
     put_spaces(out, places.saturating_sub(digits.len()))?;

@@ -6,21 +6,21 @@ mod bits;
 mod dst;
 mod extents;
 mod header;
-mod promises;
+mod jump_runs;
+mod move_encoding;
 mod reading;
 mod reading_tables;
 mod record_kind;
 mod records;
-mod runs;
-mod spelling;
 #[cfg(test)]
 mod tests;
+mod theorems;
 mod writing;
 mod writing_tables;
 
 pub use bits::decode_move;
 pub use dst::{Dst, LIMIT, MAX_FLOAT_HOPS, MAX_STOPS};
-pub use promises::{
-    label_reads_again, moves_have_one_spelling, read_is_within_reach, written_reads_again,
+pub use move_encoding::encode_move;
+pub use theorems::{
+    label_round_trips, moves_have_one_encoding, read_moves_are_writable, written_reads_again,
 };
-pub use spelling::encode_move;

@@ -1,7 +1,7 @@
 ghost use Rattle.std.specs.Prelude.{◌≡◌, ◌++◌, ℕ, List, [], length};
 ghost use Rattle.design_model.specs.Designs.{empty_design};
 ghost use Rattle.dst_codec.specs.declared.header.TheConstants.{HEADER_LENGTH};
-ghost use Rattle.dst_codec.specs.Reading.{label_of};
+ghost use Rattle.dst_codec.specs.Reading.{dst_label_of};
 
 use design_model::{Design, MAX_LABEL};
 use format_traits::read_label;
@@ -11,7 +11,7 @@ pub fn read_header(design: &mut Design, header: &[u8])
     requires length { length header.now ≡ HEADER_LENGTH }
     requires empty { design.old ≡ empty_design }
     ensures { (more : List ℕ) → design.new ≡ record {
-      label = label_of (header.now ++ more);
+      label = dst_label_of (header.now ++ more);
       threads = [];
       commands = [];
     } }

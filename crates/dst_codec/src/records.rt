@@ -1,12 +1,12 @@
 ghost use Rattle.std.specs.Prelude.{◌≡◌, ◌≤◌, ◌++◌, IsTrue, OnOk};
-ghost use Rattle.design_model.specs.Points.{is_within};
+ghost use Rattle.design_model.specs.Points.{is_point_within};
 ghost use Rattle.dst_codec.specs.declared.dst.TheConstants.{LIMIT};
-ghost use Rattle.dst_codec.specs.Spelling.{record_of};
+ghost use Rattle.dst_codec.specs.MoveEncoding.{record_of};
 
-use crate::dst::REACH;
-use crate::spelling::{JUMP, spell};
+use crate::dst::WRITE_LIMITS;
+use crate::move_encoding::{JUMP, encode_record};
 use design_model::{Bytes, Memory, Point};
-use format_traits::{Reach, RecordWriter};
+use format_traits::{RecordWriter, WriteLimits};
 
 /// The records of a trim: three jumps that lead back to where they began.
 const TRIM: [u8; 9] = [0x82, 0x41, 0x83, 0x82, 0x82, 0x83, 0x82, 0x41, 0x83];
@@ -19,14 +19,14 @@ const STOP: [u8; 3] = [0, 0, 0xC3];
 pub struct DstWriter;
 
 impl RecordWriter for DstWriter {
-    ghost use Rattle.dst_codec.specs.Writing.{spelling as spelling_of_dst, reach as reach_of_dst};
+    ghost use Rattle.dst_codec.specs.Writing.{dst_encoding, dst_write_limits};
 
-    ghost spelling = { λ _. spelling_of_dst };
+    ghost encoding = { λ _. dst_encoding };
 
-    ghost reach = { λ _. reach_of_dst };
+    ghost write_limits = { λ _. dst_write_limits };
 
-    fn reach(&self) -> Reach {
-        REACH
+    fn write_limits(&self) -> WriteLimits {
+        WRITE_LIMITS
     }
 
     fn put_stitch(&self, out: &mut Bytes, step: Point) -> Result<(), Memory> {
@@ -48,10 +48,10 @@ impl RecordWriter for DstWriter {
 
 /// Appends the record of a move with its flags.
 fn put_step(out: &mut Bytes, step: Point, flags: u8) -> Result<(), Memory>
-    requires step { IsTrue (is_within LIMIT step) }
+    requires step { IsTrue (is_point_within LIMIT step) }
     requires flags { flags ≤ 192 }
     ensures { OnOk result (out.new ≡ out.old ++ record_of flags step) }
 {
-    out.append(&spell(step, flags))?;
+    out.append(&encode_record(step, flags))?;
     Ok(())
 }

@@ -1,5 +1,5 @@
 ghost use Rattle.std.specs.Prelude.{◌≡◌, IfOk, IsOk, false};
-ghost use Rattle.dst_codec.specs.Samples.{square as square_value};
+ghost use Rattle.dst_codec.specs.Samples.{square_design};
 
 use crate::{Dst, decode_move, encode_move};
 use design_model::{Command, Design, Memory, ModelFault, Point, counts};
@@ -13,7 +13,7 @@ const SIZES: [usize; 9] = [1, 2, 3, 5, 511, 512, 513, 4_096, 1_000_000];
 
 /// Feeds a chunk.
 fn feed(rt: &impl Abort, format: &mut Dst, piece: &[u8]) -> Result<(), Memory>
-    ensures { IsOk result → (⟦<Dst as Format>⟧.feeding format.new).spoiled ≡ false }
+    ensures { IsOk result → (⟦<Dst as Format>⟧.feed_state format.new).spoiled ≡ false }
 {
     assert!(rt; format.taken().saturating_add(piece.len() as u64) <= MAX_FED);
     format.feed(piece)
@@ -52,7 +52,7 @@ fn read(rt: &impl Abort, alloc: Global, bytes: &[u8]) -> Result<Loaded, ReadFaul
 
 /// A closed square of 30 from the origin to the right and downwards.
 fn square(alloc: Global) -> Result<Design, ModelFault>
-    ensures { IfOk result (λ d. d ≡ square_value) }
+    ensures { IfOk result (λ d. d ≡ square_design) }
 {
     let mut design = Design::new(alloc);
     design.push(Command::Stitch(Point { x: 0, y: 0 }))?;

@@ -4,10 +4,10 @@ use Rattle.std.proofs.lemmas.Grind.{get_or_default_zero}
 use Rattle.std.proofs.lemmas.Bool.{and_from, and_parts, cases_eq}
 use Rattle.std.proofs.lemmas.Bool.Decides.{nat_tests}
 use Rattle.line_graph.specs.declared.edge.Edge.{Edge}
-use Rattle.line_graph.specs.KeptPieces.{all_below}
-use Rattle.euler_tour.specs.LeftLines.{IsCursor, ends_at, ends_left, less_at}
+use Rattle.line_graph.specs.ValidPieces.{all_below}
+use Rattle.euler_tour.specs.RemainingLines.{IsTourCursor, edge_ends_at, remaining_ends, decremented_at}
 use Rattle.euler_tour.specs.LineEnds.{AreBefore, AreLast, IsLast, junction_at}
-use Rattle.euler_tour.specs.Trips.{AreReady}
+use Rattle.euler_tour.specs.PartialTours.{AreTourTables}
 use Rattle.euler_tour.proofs.EndLemmas.{end_a, end_b, end_within, half, half_more}
 use Rattle.euler_tour.proofs.LeftLemmas.{ends_none, less_length, less_none}
 use Rattle.euler_tour.proofs.WalkLemmas.{same}
@@ -16,7 +16,7 @@ use Rattle.euler_tour.proofs.WalkLemmas.{same}
 
 -- the last end of all is a cursor
 pub cursor_first : (edges : List Edge) (left : List ℕ) (j number : ℕ) → IsLast edges j (2 * length edges) number
-    → IsCursor edges left j number
+    → IsTourCursor edges left j number
 cursor_first edges left j number last = record {
   within = last.within;
   there = last.there;
@@ -24,8 +24,8 @@ cursor_first edges left j number last = record {
 }
 
 -- so is the one before an end whose line isn't left
-pub cursor_back : (edges : List Edge) (left : List ℕ) (j end number : ℕ) → IsCursor edges left j (end + 1) → get_or left (end / 2) 0 ≡ 0
-    → IsLast edges j end number → IsCursor edges left j number
+pub cursor_back : (edges : List Edge) (left : List ℕ) (j end number : ℕ) → IsTourCursor edges left j (end + 1) → get_or left (end / 2) 0 ≡ 0
+    → IsLast edges j end number → IsTourCursor edges left j number
 cursor_back edges left j end number cursor none last = record {
   within = low number end (2 * length edges) last.within cursor.within;
   there = last.there;
@@ -52,8 +52,8 @@ cursor_back edges left j end number cursor none last = record {
     by_place other above there (inr differs) = by_order other above there differs (nat_lt other end) refl
 
 -- a cursor stays one where a line is taken
-pub cursor_less : (edges : List Edge) (left : List ℕ) (j number place : ℕ) → IsCursor edges left j number
-    → IsCursor edges (less_at left place) j number
+pub cursor_less : (edges : List Edge) (left : List ℕ) (j number place : ℕ) → IsTourCursor edges left j number
+    → IsTourCursor edges (decremented_at left place) j number
 cursor_less edges left j number place cursor = record {
   within = cursor.within;
   there = cursor.there;
@@ -61,18 +61,18 @@ cursor_less edges left j number place cursor = record {
 }
 
 -- no end remains where the cursor is 0
-pub cursor_none : (edges : List Edge) (left : List ℕ) (j : ℕ) → IsCursor edges left j 0 → ends_left edges left j ≡ 0
+pub cursor_none : (edges : List Edge) (left : List ℕ) (j : ℕ) → IsTourCursor edges left j 0 → remaining_ends edges left j ≡ 0
 cursor_none edges left j cursor = ends_none edges left j (λ k. λ e. λ is. by_a k e is (e.a == j) refl)
   where
     at_k : (k end : ℕ) → end / 2 ≡ k → junction_at edges end ≡ Some j → get_or left k 0 ≡ 0
     at_k k end is there = subst (λ (n : ℕ). get_or left n 0 ≡ 0) is (cursor.over end (omega arith) there)
 
     by_b : (k : ℕ) (e : Edge) → slice_get edges k ≡ Some e → (e.a == j) ≡ false → (t : Bool) → (e.b == j) ≡ t
-        → (get_or left k 0 ≡ 0) ⊎ (ends_at j e ≡ 0)
+        → (get_or left k 0 ≡ 0) ⊎ (edge_ends_at j e ≡ 0)
     by_b k e is not_a true at_b = inl (at_k k (2 * k + 1) (half_more k) (end_b edges k e is ∙ ap (λ (n : ℕ). Some n) (same e.b j at_b)))
     by_b k e is not_a false not_b = inr (rw (not_a, not_b) refl)
 
-    by_a : (k : ℕ) (e : Edge) → slice_get edges k ≡ Some e → (t : Bool) → (e.a == j) ≡ t → (get_or left k 0 ≡ 0) ⊎ (ends_at j e ≡ 0)
+    by_a : (k : ℕ) (e : Edge) → slice_get edges k ≡ Some e → (t : Bool) → (e.a == j) ≡ t → (get_or left k 0 ≡ 0) ⊎ (edge_ends_at j e ≡ 0)
     by_a k e is true at_a = inl (at_k k (2 * k) (half k) (end_a edges k e is ∙ ap (λ (n : ℕ). Some n) (same e.a j at_a)))
     by_a k e is false not_a = by_b k e is not_a (e.b == j) refl
 
@@ -105,7 +105,7 @@ below_parts n (y ∷ xs) x all =
 pub begins_ready : (edges : List Edge) (count : ℕ) (left last before out : List ℕ) (at : ℕ) → length left ≡ length edges
     → length last ≡ count
     → length before ≡ 2 * length edges → out ≡ [] → at < count → AreBefore edges before → AreLast edges (2 * length edges) last
-    → AreReady edges count left last before out at
+    → AreTourTables edges count left last before out at
 begins_ready edges count left last before out at is_left is_last is_before is_out below linked are = record {
   left_beside = is_left;
   last_beside = is_last;
@@ -119,8 +119,8 @@ begins_ready edges count left last before out at is_left is_last is_before is_ou
 -- the tables after an end is skipped
 pub over_ready : (edges : List Edge) (count : ℕ) (left last last2 before out : List ℕ) (at end : ℕ)
     → last2 ≡ set last at (get_or before end 0)
-    → get_or last at 0 ≡ end + 1 → get_or left (end / 2) 0 ≡ 0 → AreReady edges count left last before out at
-    → AreReady edges count left last2 before out at
+    → get_or last at 0 ≡ end + 1 → get_or left (end / 2) 0 ≡ 0 → AreTourTables edges count left last before out at
+    → AreTourTables edges count left last2 before out at
 over_ready edges count left last last2 before out at end is_last here none ready = rw is_last record {
   left_beside = ready.left_beside;
   last_beside = length-set last at (get_or before end 0) ∙ ready.last_beside;
@@ -131,16 +131,16 @@ over_ready edges count left last last2 before out at end is_last here none ready
   cursors = λ j. λ low. by_junction j low (cases_eq j at);
 }
   where
-    cursor : IsCursor edges left at (end + 1)
-    cursor = subst (λ (n : ℕ). IsCursor edges left at n) here (ready.cursors at ready.below)
+    cursor : IsTourCursor edges left at (end + 1)
+    cursor = subst (λ (n : ℕ). IsTourCursor edges left at n) here (ready.cursors at ready.below)
 
     number : IsLast edges at end (get_or before end 0)
     number = ready.linked end at (subst (λ (n : ℕ). end < n) (sym ready.before_beside) (end_within edges end at (cursor.there end refl)))
         (cursor.there end refl)
 
-    by_junction : (j : ℕ) → j < count → (j ≡ at) ⊎ (j ≡ at → ⊥) → IsCursor edges left j (get_or (set last at (get_or before end 0)) j 0)
+    by_junction : (j : ℕ) → j < count → (j ≡ at) ⊎ (j ≡ at → ⊥) → IsTourCursor edges left j (get_or (set last at (get_or before end 0)) j 0)
     by_junction j low (inl is) =
-        subst (λ (n : ℕ). IsCursor edges left n (get_or (set last at (get_or before end 0)) n 0)) (sym is)
+        subst (λ (n : ℕ). IsTourCursor edges left n (get_or (set last at (get_or before end 0)) n 0)) (sym is)
         (rw (get_or-set_same last at (get_or before end 0) 0 (subst (λ (n : ℕ). at < n) (sym ready.last_beside) ready.below))
         (cursor_back edges left at end (get_or before end 0) cursor none number))
     by_junction j low (inr other) =
@@ -148,9 +148,9 @@ over_ready edges count left last last2 before out at end is_last here none ready
 
 -- the tables after a step out
 pub out_ready : (edges : List Edge) (count : ℕ) (left left2 last before out out2 : List ℕ) (at end next : ℕ)
-    → left2 ≡ less_at left (end / 2)
-    → out2 ≡ out ++ end ∷ [] → end < 2 * length edges → next < count → AreReady edges count left last before out at
-    → AreReady edges count left2 last before out2 next
+    → left2 ≡ decremented_at left (end / 2)
+    → out2 ≡ out ++ end ∷ [] → end < 2 * length edges → next < count → AreTourTables edges count left last before out at
+    → AreTourTables edges count left2 last before out2 next
 out_ready edges count left left2 last before out out2 at end next is_left is_out within below ready = rw (is_left, is_out) record {
   left_beside = less_length left (end / 2) ∙ ready.left_beside;
   last_beside = ready.last_beside;
@@ -163,7 +163,7 @@ out_ready edges count left left2 last before out out2 at end next is_left is_out
 
 -- the tables after a step back
 pub back_ready : (edges : List Edge) (count : ℕ) (left last before out xs : List ℕ) (at end from : ℕ) → out ≡ xs ++ end ∷ [] → from < count
-    → AreReady edges count left last before out at → AreReady edges count left last before xs from
+    → AreTourTables edges count left last before out at → AreTourTables edges count left last before xs from
 back_ready edges count left last before out xs at end from is_out below ready = record {
   left_beside = ready.left_beside;
   last_beside = ready.last_beside;
@@ -175,8 +175,8 @@ back_ready edges count left last before out xs at end from is_out below ready = 
 }
 
 -- the tables after the first line is passed
-pub first_ready : (edges : List Edge) (count : ℕ) (left left2 last before out : List ℕ) (at : ℕ) → left2 ≡ less_at left 0
-    → AreReady edges count left last before out at → AreReady edges count left2 last before out at
+pub first_ready : (edges : List Edge) (count : ℕ) (left left2 last before out : List ℕ) (at : ℕ) → left2 ≡ decremented_at left 0
+    → AreTourTables edges count left last before out at → AreTourTables edges count left2 last before out at
 first_ready edges count left left2 last before out at is_left ready = rw is_left record {
   left_beside = less_length left 0 ∙ ready.left_beside;
   last_beside = ready.last_beside;
@@ -189,9 +189,10 @@ first_ready edges count left left2 last before out at is_left ready = rw is_left
 
 -- the end before another has a lesser number
 pub before_less : (edges : List Edge) (count : ℕ) (left last before out : List ℕ) (at end : ℕ) → get_or last at 0 ≡ end + 1
-    → AreReady edges count left last before out at → get_or before end 0 < end + 1
+    → AreTourTables edges count left last before out at → get_or before end 0 < end + 1
 before_less edges count left last before out at end here ready =
-    let cursor : IsCursor edges left at (end + 1) = subst (λ (n : ℕ). IsCursor edges left at n) here (ready.cursors at ready.below) in
+    let cursor : IsTourCursor edges left at (end + 1) = subst (λ (n : ℕ). IsTourCursor edges left at n) here
+    (ready.cursors at ready.below) in
     let there : junction_at edges end ≡ Some at = cursor.there end refl in
     more _ end (ready.linked end at (subst (λ (n : ℕ). end < n) (sym ready.before_beside) (end_within edges end at there)) there).within
   where
@@ -200,7 +201,7 @@ before_less edges count left last before out at end here ready =
 
 -- the cursor as the code reads it
 pub read_cursor : (edges : List Edge) (count : ℕ) (left last before out : List ℕ) (at number : ℕ) → number ≡ get_or last at number
-    → AreReady edges count left last before out at → get_or last at 0 ≡ number
+    → AreTourTables edges count left last before out at → get_or last at 0 ≡ number
 read_cursor edges count left last before out at number is ready =
     sym (is ∙ get_or_default_zero last at number (subst (λ (n : ℕ). at < n) (sym ready.last_beside) ready.below))
 
@@ -210,7 +211,7 @@ cursor_end zero some = absurd (some refl)
 cursor_end (suc number) some = omega arith
 
 pub cursor_place : (edges : List Edge) (count : ℕ) (left last before out : List ℕ) (at end : ℕ) → get_or last at 0 ≡ end + 1
-    → AreReady edges count left last before out at → end / 2 < length left
+    → AreTourTables edges count left last before out at → end / 2 < length left
 cursor_place edges count left last before out at end here ready =
     halved end (length edges) (length left) (subst (λ (n : ℕ). n ≤ 2 * length edges) here (ready.cursors at ready.below).within)
     ready.left_beside

@@ -6,16 +6,16 @@ use Rattle.std.proofs.lemmas.List.{get_or_append_left, get_or_push, get_or-repli
 use Rattle.std.proofs.lemmas.Option.{slice_get_within}
 use Rattle.line_graph.specs.declared.edge.Edge.{Edge}
 use Rattle.line_graph.specs.PieceGraphs.{is_odd}
-use Rattle.line_graph.specs.KeptPieces.{ends_below}
-use Rattle.line_graph.specs.PieceWalks.{edge_start, start_of}
+use Rattle.line_graph.specs.ValidPieces.{ends_below}
+use Rattle.line_graph.specs.PieceWalks.{pass_start_on, pass_start}
 use Rattle.euler_tour.specs.LineEnds.{AreBefore, AreLast, IsLast, junction_at}
 use Rattle.euler_tour.proofs.WalkLemmas.{some_same}
 
 -- the edge that starts at a junction
-pub started : (found : Option Edge) (back : Bool) (j : ℕ) → edge_start found back ≡ Some j
-    → (e : Edge) × (found ≡ Some e) × (start_of e back ≡ j)
+pub started : (found : Option Edge) (back : Bool) (j : ℕ) → pass_start_on found back ≡ Some j
+    → (e : Edge) × (found ≡ Some e) × (pass_start e back ≡ j)
 started None back j is = absurd (cc)
-started (Some e) back j is = (e, refl, some_same (start_of e back) j is)
+started (Some e) back j is = (e, refl, some_same (pass_start e back) j is)
 
 -- an end that is somewhere is that of a line
 pub end_within : (edges : List Edge) (end j : ℕ) → junction_at edges end ≡ Some j → end < 2 * length edges
@@ -192,21 +192,21 @@ ends_are_below n (x ∷ edges) (suc k) e all is =
 
 -- so is where an end is, and where the other end of its line is
 pub junction_below : (n : ℕ) (edges : List Edge) (end j : ℕ) → ends_below n edges ≡ true
-    → edge_start (slice_get edges (end / 2)) (is_odd end) ≡ Some j → j < n
+    → pass_start_on (slice_get edges (end / 2)) (is_odd end) ≡ Some j → j < n
 junction_below n edges end j all is =
     let e = started (slice_get edges (end / 2)) (is_odd end) j is in
     subst (λ (m : ℕ). m < n) e.2 (either e.0 (is_odd end) (ends_are_below n edges (end / 2) e.0 all e.1))
   where
-    either : (e : Edge) (back : Bool) → (e.a < n) × (e.b < n) → start_of e back < n
+    either : (e : Edge) (back : Bool) → (e.a < n) × (e.b < n) → pass_start e back < n
     either e true both = both.1
     either e false both = both.0
 
 pub across_below : (n : ℕ) (edges : List Edge) (end j : ℕ) → ends_below n edges ≡ true
-    → edge_start (slice_get edges (end / 2)) (not (is_odd end)) ≡ Some j → j < n
+    → pass_start_on (slice_get edges (end / 2)) (not (is_odd end)) ≡ Some j → j < n
 across_below n edges end j all is =
     let e = started (slice_get edges (end / 2)) (not (is_odd end)) j is in
     subst (λ (m : ℕ). m < n) e.2 (either e.0 (not (is_odd end)) (ends_are_below n edges (end / 2) e.0 all e.1))
   where
-    either : (e : Edge) (back : Bool) → (e.a < n) × (e.b < n) → start_of e back < n
+    either : (e : Edge) (back : Bool) → (e.a < n) × (e.b < n) → pass_start e back < n
     either e true both = both.1
     either e false both = both.0

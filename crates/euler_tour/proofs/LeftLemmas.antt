@@ -4,27 +4,27 @@ use Rattle.std.proofs.lemmas.Bool.Decides.{nat_tests}
 use Rattle.std.proofs.lemmas.Bool.{and_from}
 use Rattle.std.proofs.lemmas.List.Sums.{sum_by-cons}
 use Rattle.line_graph.specs.declared.edge.Edge.{Edge}
-use Rattle.line_graph.specs.PieceGraphs.{bit}
-use Rattle.line_graph.specs.KeptPieces.{all_below}
-use Rattle.line_graph.specs.PieceWalks.{cost_of, edge_sum, rises}
-use Rattle.euler_tour.specs.LeftLines.{ends_at, ends_left, left_sum, less_at, one_of, times_of}
+use Rattle.line_graph.specs.PieceGraphs.{one_if}
+use Rattle.line_graph.specs.ValidPieces.{all_below}
+use Rattle.line_graph.specs.PieceWalks.{edge_cost, edge_sum, is_strictly_increasing}
+use Rattle.euler_tour.specs.RemainingLines.{edge_ends_at, remaining_ends, remaining_sum, decremented_at, one_of, pass_counts}
 use Rattle.euler_tour.specs.Tours.{copies_cost, pass_count, pass_ends}
 use Rattle.euler_tour.proofs.WalkLemmas.{differs, differs_back, eq_self, first_less, rest_rises}
 
 -- taking a line as the code does it
-pub less_is : (left : List ℕ) (place : ℕ) → slice_set left place (get_or left place 0 - 1) ≡ less_at left place
+pub less_is : (left : List ℕ) (place : ℕ) → slice_set left place (get_or left place 0 - 1) ≡ decremented_at left place
 less_is [] place = refl
 less_is (n ∷ left) zero = refl
 less_is (n ∷ left) (suc place) = ap (λ (t : List ℕ). n ∷ t) (less_is left place)
 
 -- the number of indexes stays
-pub less_length : (left : List ℕ) (place : ℕ) → length (less_at left place) ≡ length left
+pub less_length : (left : List ℕ) (place : ℕ) → length (decremented_at left place) ≡ length left
 less_length [] place = refl
 less_length (n ∷ left) zero = refl
 less_length (n ∷ left) (suc place) = ap (λ (k : ℕ). suc k) (less_length left place)
 
 -- what isn't left stays so
-pub less_none : (left : List ℕ) (place k : ℕ) → get_or left k 0 ≡ 0 → get_or (less_at left place) k 0 ≡ 0
+pub less_none : (left : List ℕ) (place k : ℕ) → get_or left k 0 ≡ 0 → get_or (decremented_at left place) k 0 ≡ 0
 less_none [] place k none = none
 less_none (n ∷ left) zero zero none = rw none refl
 less_none (n ∷ left) zero (suc k) none = none
@@ -34,13 +34,13 @@ less_none (n ∷ left) (suc place) (suc k) none = less_none left place k none
 -- a sum over the lines left, where one is taken
 pub left_less : (f : Edge → ℕ) (edges : List Edge) (left : List ℕ) (place : ℕ) (e : Edge) → slice_get edges place ≡ Some e
     → 1 ≤ get_or left place 0
-    → left_sum f edges (less_at left place) + f e ≡ left_sum f edges left
+    → remaining_sum f edges (decremented_at left place) + f e ≡ remaining_sum f edges left
 left_less f [] left place e is some = absurd (cc)
 left_less f (x ∷ edges) [] place e is some = absurd (omega arith)
 left_less f (x ∷ edges) (n ∷ left) zero e is some =
     let here : x ≡ e = cc in
-    subst (λ (y : Edge). ((n - 1) * f x + left_sum f edges left) + f y ≡ n * f x + left_sum f edges left) here
-    (one_less n (f x) (left_sum f edges left) some)
+    subst (λ (y : Edge). ((n - 1) * f x + remaining_sum f edges left) + f y ≡ n * f x + remaining_sum f edges left) here
+    (one_less n (f x) (remaining_sum f edges left) some)
   where
     split : (n : ℕ) → 1 ≤ n → n ≡ 1 + (n - 1)
     split n some = omega arith
@@ -57,13 +57,13 @@ left_less f (x ∷ edges) (n ∷ left) (suc place) e is some =
     after m u k v h = omega arith
 
 -- nothing is left of a line with an end at a junction where no end is left
-pub none_left : (edges : List Edge) (left : List ℕ) (place : ℕ) (e : Edge) (j : ℕ) → slice_get edges place ≡ Some e → 1 ≤ ends_at j e
-    → ends_left edges left j ≡ 0 → get_or left place 0 ≡ 0
+pub none_left : (edges : List Edge) (left : List ℕ) (place : ℕ) (e : Edge) (j : ℕ) → slice_get edges place ≡ Some e → 1 ≤ edge_ends_at j e
+    → remaining_ends edges left j ≡ 0 → get_or left place 0 ≡ 0
 none_left [] left place e j is meets none = absurd (cc)
 none_left (x ∷ edges) [] place e j is meets none = refl
 none_left (x ∷ edges) (n ∷ left) zero e j is meets none =
     let here : x ≡ e = cc in
-    nothing n (ends_at j x) (ends_left edges left j) (subst (λ (y : Edge). 1 ≤ ends_at j y) (sym here) meets) none
+    nothing n (edge_ends_at j x) (remaining_ends edges left j) (subst (λ (y : Edge). 1 ≤ edge_ends_at j y) (sym here) meets) none
   where
     nothing : (n k u : ℕ) → 1 ≤ k → n * k + u ≡ 0 → n ≡ 0
     nothing n k u least none =
@@ -73,11 +73,11 @@ none_left (x ∷ edges) (n ∷ left) (suc place) e j is meets none = none_left e
 
 -- no end is left at a junction if of each line with an end there nothing is left
 pub ends_none : (edges : List Edge) (left : List ℕ) (j : ℕ)
-    → ((k : ℕ) (e : Edge) → slice_get edges k ≡ Some e → (get_or left k 0 ≡ 0) ⊎ (ends_at j e ≡ 0)) → ends_left edges left j ≡ 0
+    → ((k : ℕ) (e : Edge) → slice_get edges k ≡ Some e → (get_or left k 0 ≡ 0) ⊎ (edge_ends_at j e ≡ 0)) → remaining_ends edges left j ≡ 0
 ends_none [] left j each = refl
 ends_none (e ∷ edges) [] j each = refl
 ends_none (e ∷ edges) (n ∷ left) j each =
-    both n (ends_at j e) _ (each 0 e refl) (ends_none edges left j (λ k. λ x. λ is. each (suc k) x is))
+    both n (edge_ends_at j e) _ (each 0 e refl) (ends_none edges left j (λ k. λ x. λ is. each (suc k) x is))
   where
     nothing : (k : ℕ) → 0 * k + 0 ≡ 0
     nothing k = omega arith
@@ -90,9 +90,9 @@ ends_none (e ∷ edges) (n ∷ left) j each =
     both n k u (inr none) rest = rw (none, rest) (no_times n)
 
 -- what is left and what is passed, where one line is taken
-pub count_step : (lines left : List ℕ) (place k : ℕ) → rises lines ≡ true → place < length lines → k < length lines
+pub count_step : (lines left : List ℕ) (place k : ℕ) → is_strictly_increasing lines ≡ true → place < length lines → k < length lines
     → 1 ≤ get_or left place 0
-    → bit (get_or lines place 0 == get_or lines k 0) + get_or (less_at left place) k 0 ≡ get_or left k 0
+    → one_if (get_or lines place 0 == get_or lines k 0) + get_or (decremented_at left place) k 0 ≡ get_or left k 0
 count_step [] left place k up bp bk some = absurd (omega arith)
 count_step (n ∷ lines) [] place k up bp bk some = absurd (omega arith)
 count_step (n ∷ lines) (m ∷ left) zero zero up bp bk some = rw (eq_self n) (back m some)
@@ -114,7 +114,7 @@ count_step (n ∷ lines) (m ∷ left) (suc place) (suc k) up bp bk some =
 
 -- nothing left adds up to nothing
 pub sum_none : (f : Edge → ℕ) (edges : List Edge) (left : List ℕ) → ((k : ℕ) → k < length edges → get_or left k 0 ≡ 0)
-    → left_sum f edges left ≡ 0
+    → remaining_sum f edges left ≡ 0
 sum_none f [] left each = refl
 sum_none f (e ∷ edges) [] each = refl
 sum_none f (e ∷ edges) (n ∷ left) each =
@@ -129,36 +129,36 @@ sum_none f (e ∷ edges) (n ∷ left) each =
 -- ---- each line once, and once more for each of its copies
 
 -- there are as many times as copies
-pub times_length : (copies : List ℕ) → length (times_of copies) ≡ length copies
+pub times_length : (copies : List ℕ) → length (pass_counts copies) ≡ length copies
 times_length [] = refl
 times_length (c ∷ copies) = ap (λ (k : ℕ). suc k) (times_length copies)
 
 -- each is one more
-pub times_at : (copies : List ℕ) (k : ℕ) → k < length copies → get_or (times_of copies) k 0 ≡ get_or copies k 0 + 1
+pub times_at : (copies : List ℕ) (k : ℕ) → k < length copies → get_or (pass_counts copies) k 0 ≡ get_or copies k 0 + 1
 times_at [] k below = absurd (omega arith)
 times_at (c ∷ copies) zero below = refl
 times_at (c ∷ copies) (suc k) below = times_at copies k (omega arith)
 
 -- the ends that are left at the beginning are those of all passes
-pub times_ends : (edges : List Edge) (copies : List ℕ) (j : ℕ) → ends_left edges (times_of copies) j ≡ pass_ends edges copies j
+pub times_ends : (edges : List Edge) (copies : List ℕ) (j : ℕ) → remaining_ends edges (pass_counts copies) j ≡ pass_ends edges copies j
 times_ends [] copies j = refl
 times_ends (e ∷ edges) [] j = refl
 times_ends (e ∷ edges) (c ∷ copies) j = rw (times_ends edges copies j) refl
 
 -- what is left at the beginning costs as much as the lines and their copies
 pub times_cost : (edges : List Edge) (copies : List ℕ) → length copies ≡ length edges
-    → left_sum cost_of edges (times_of copies) ≡ edge_sum cost_of edges + copies_cost edges copies
+    → remaining_sum edge_cost edges (pass_counts copies) ≡ edge_sum edge_cost edges + copies_cost edges copies
 times_cost [] copies beside = refl
 times_cost (e ∷ edges) [] beside = absurd (omega arith)
 times_cost (e ∷ edges) (c ∷ copies) beside =
-    rw (times_cost edges copies (omega arith)) (split c e.cost (edge_sum cost_of edges) (copies_cost edges copies))
+    rw (times_cost edges copies (omega arith)) (split c e.cost (edge_sum edge_cost edges) (copies_cost edges copies))
   where
     split : (c k u v : ℕ) → (c + 1) * k + (u + v) ≡ (k + u) + (c * k + v)
     split c k u v = omega arith
 
 -- and it is as many passes
 pub times_count : (edges : List Edge) (copies : List ℕ) → length copies ≡ length edges
-    → left_sum one_of edges (times_of copies) ≡ pass_count copies
+    → remaining_sum one_of edges (pass_counts copies) ≡ pass_count copies
 times_count [] [] beside = refl
 times_count [] (c ∷ copies) beside = absurd (omega arith)
 times_count (e ∷ edges) [] beside = absurd (omega arith)

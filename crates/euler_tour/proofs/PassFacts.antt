@@ -1,10 +1,10 @@
 -- Worked values of the ends of lines, and of lines that remain.
 use Rattle.std.proofs.Common.{◌≡◌, true, false, [], ◌∷◌, None, Some, refl}
-use Rattle.euler_tour.specs.LeftLines.{ends_left, left_sum, less_at, one_of, times_of}
+use Rattle.euler_tour.specs.RemainingLines.{remaining_ends, remaining_sum, decremented_at, one_of, pass_counts}
 use Rattle.euler_tour.specs.LineEnds.{junction_across, junction_at, pass_from, pass_to}
 use Rattle.euler_tour.proofs.TourFacts.{edge, others_again}
 use Rattle.line_graph.specs.declared.edge.Edge.{Edge}
-use Rattle.line_graph.specs.PieceWalks.{cost_of}
+use Rattle.line_graph.specs.PieceWalks.{edge_cost}
 use Rattle.std.proofs.Common.{List}
 
 -- a line from junction 4 to junction 7, one from there to junction 5
@@ -35,20 +35,20 @@ pub known_pass_to : pass_to (20 ∷ 31 ∷ []) 3 ≡ record { line = 31; back = 
 known_pass_to = refl
 
 -- what is left of lines and ends
-pub known_times : times_of others_again ≡ 1 ∷ 4 ∷ 3 ∷ []
+pub known_times : pass_counts others_again ≡ 1 ∷ 4 ∷ 3 ∷ []
 known_times = refl
 
-pub known_less : less_at (1 ∷ 4 ∷ 3 ∷ []) 1 ≡ 1 ∷ 3 ∷ 3 ∷ []
+pub known_less : decremented_at (1 ∷ 4 ∷ 3 ∷ []) 1 ≡ 1 ∷ 3 ∷ 3 ∷ []
 known_less = refl
 
-pub known_ends_left : ends_left path (2 ∷ 1 ∷ []) 7 ≡ 3
+pub known_ends_left : remaining_ends path (2 ∷ 1 ∷ []) 7 ≡ 3
 known_ends_left = refl
 
-pub known_ends_left_at_one : ends_left path (2 ∷ 1 ∷ []) 4 ≡ 2
+pub known_ends_left_at_one : remaining_ends path (2 ∷ 1 ∷ []) 4 ≡ 2
 known_ends_left_at_one = refl
 
-pub known_cost_left : left_sum cost_of path (2 ∷ 1 ∷ []) ≡ 16
+pub known_cost_left : remaining_sum edge_cost path (2 ∷ 1 ∷ []) ≡ 16
 known_cost_left = refl
 
-pub known_count_left : left_sum one_of path (2 ∷ 1 ∷ []) ≡ 3
+pub known_count_left : remaining_sum one_of path (2 ∷ 1 ∷ []) ≡ 3
 known_count_left = refl

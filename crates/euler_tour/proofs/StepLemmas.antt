@@ -2,15 +2,15 @@
 use Rattle.std.proofs.Common.{◌≡◌, ◌≤◌, ◌<◌, ℕ, ◌+◌, ◌*◌, ◌/◌, List, [], ◌∷◌, ◌++◌, length, get_or, set, slice_get, sum_by, false, Option, None, Some, Vec, Global, arith, ap, ◌∙◌, subst, sym}
 use Rattle.line_graph.specs.declared.edge.Edge.{Edge}
 use Rattle.line_graph.specs.declared.pass.Pass.{Pass}
-use Rattle.line_graph.specs.KeptPieces.{KeepsPiece}
-use Rattle.line_graph.specs.PieceGraphs.{PieceValue, from_of}
+use Rattle.line_graph.specs.ValidPieces.{IsValidPiece}
+use Rattle.line_graph.specs.PieceGraphs.{PieceValue, given_start}
 use Rattle.line_graph.specs.Pieces.{first_line}
 use Rattle.euler_tour.specs.declared.line_ends.LineEnds.{LineEnds}
-use Rattle.euler_tour.specs.declared.trip.Trip.{Trip}
-use Rattle.euler_tour.specs.LeftLines.{ends_left, left_sum, less_at, one_of, times_of}
+use Rattle.euler_tour.specs.declared.partial_tour.PartialTour.{PartialTour}
+use Rattle.euler_tour.specs.RemainingLines.{remaining_ends, remaining_sum, decremented_at, one_of, pass_counts}
 use Rattle.euler_tour.specs.LineEnds.{AreBefore, AreLast, junction_across, junction_at, pass_to}
 use Rattle.euler_tour.specs.Tours.{CanPass}
-use Rattle.euler_tour.specs.Trips.{BeginsOn, IsFresh, IsReady, IsStep, first_a, first_b, goal_of, head_of, or_first}
+use Rattle.euler_tour.specs.PartialTours.{BeginsTour, IsEmptyTour, HasTourTables, IsTourStep, first_edge_start, first_edge_end, tour_end, tour_start, or_first_start}
 use Rattle.euler_tour.proofs.CursorLemmas.{back_ready, begins_ready, before_less, out_ready, over_ready}
 use Rattle.euler_tour.proofs.EndLemmas.{across_below, end_within, junction_below}
 use Rattle.euler_tour.proofs.LeftLemmas.{times_at, times_length}
@@ -18,20 +18,20 @@ use Rattle.euler_tour.proofs.TourLemmas.{begins_on, begins_with, first_edge, fir
 use Rattle.euler_tour.proofs.TripLemmas.{back_kept, back_less, first_kept, out_kept, out_less, over_less}
 
 -- the sum of the cursors of a partial tour
-abbrev cursor_sum : Trip → ℕ
+abbrev cursor_sum : PartialTour → ℕ
 cursor_sum t = sum_by (λ n. n) t.ends.last.items
 
 -- a step out along the line with an end
-pub out_step : (p : PieceValue) (t : Trip) (left out : Vec ℕ Global) (end next : ℕ) → KeepsPiece p → IsReady p t
+pub out_step : (p : PieceValue) (t : PartialTour) (left out : Vec ℕ Global) (end next : ℕ) → IsValidPiece p → HasTourTables p t
     → get_or t.ends.last.items t.at 0 ≡ end + 1 → 1 ≤ get_or t.left.items (end / 2) 0
-    → left.items ≡ less_at t.left.items (end / 2) → out.items ≡ t.out.items ++ end ∷ [] → junction_across p.edges end ≡ Some next
-    → IsStep p t (record { left = left; ends = t.ends; out = out; home = t.home; at = next; tail = t.tail })
+    → left.items ≡ decremented_at t.left.items (end / 2) → out.items ≡ t.out.items ++ end ∷ [] → junction_across p.edges end ≡ Some next
+    → IsTourStep p t (record { left = left; ends = t.ends; out = out; home = t.home; at = next; tail = t.tail })
 out_step p t left out end next kept ready here some is_left is_out beyond = record {
   ready = out_ready p.edges (length p.junctions) t.left.items left.items t.ends.last.items t.ends.before.items t.out.items out.items
       t.at end next is_left is_out (end_within p.edges end t.at there) (across_below (length p.junctions) p.edges end next kept.ends beyond)
       ready;
   keeps = λ copies. λ k. record {
-    keeps = out_kept p.lines p.edges (times_of copies) t.left.items left.items t.out.items out.items t.home (head_of p) (goal_of p)
+    keeps = out_kept p.lines p.edges (pass_counts copies) t.left.items left.items t.out.items out.items t.home (tour_start p) (tour_end p)
         t.at t.tail end next is_left is_out kept.rising kept.beside some there beyond k.keeps;
     begins = k.begins;
   };
@@ -42,25 +42,28 @@ out_step p t left out end next kept ready here some is_left is_out beyond = reco
     there = (ready.cursors t.at ready.below).there end here
 
 -- a step back to an end, and home along its line
-pub back_step : (p : PieceValue) (t : Trip) (out : Vec ℕ Global) (home : List Pass) (end from : ℕ) → KeepsPiece p → IsReady p t
-    → ends_left p.edges t.left.items t.at ≡ 0 → t.out.items ≡ out.items ++ end ∷ [] → home ≡ t.home ++ pass_to p.lines end ∷ []
+pub back_step : (p : PieceValue) (t : PartialTour) (out : Vec ℕ Global) (home : List Pass) (end from : ℕ) → IsValidPiece p
+    → HasTourTables p t
+    → remaining_ends p.edges t.left.items t.at ≡ 0 → t.out.items ≡ out.items ++ end ∷ [] → home ≡ t.home ++ pass_to p.lines end ∷ []
     → junction_at p.edges end ≡ Some from
-    → IsStep p t (record { left = t.left; ends = t.ends; out = out; home = home; at = from; tail = from })
+    → IsTourStep p t (record { left = t.left; ends = t.ends; out = out; home = home; at = from; tail = from })
 back_step p t out home end from kept ready stuck is_out is_home starts = record {
   ready = back_ready p.edges (length p.junctions) t.left.items t.ends.last.items t.ends.before.items t.out.items out.items t.at end from
       is_out (junction_below (length p.junctions) p.edges end from kept.ends starts) ready;
   keeps = λ copies. λ k. record {
-    keeps = back_kept p.lines p.edges (times_of copies) t.left.items t.out.items out.items t.home home (head_of p) (goal_of p) t.at t.tail
+    keeps = back_kept p.lines p.edges (pass_counts copies) t.left.items t.out.items out.items t.home home (tour_start p) (tour_end p) t.at
+        t.tail
         from end is_out is_home kept.rising kept.beside starts stuck k.keeps;
     begins = λ none. rw is_home (begins_on (first_line p.lines) t.home (pass_to p.lines end ∷ []) (k.begins none));
   };
-  less = back_less (left_sum one_of p.edges t.left.items) (cursor_sum t) t.out.items out.items end is_out;
+  less = back_less (remaining_sum one_of p.edges t.left.items) (cursor_sum t) t.out.items out.items end is_out;
 }
 
 -- an end whose line doesn't remain is skipped
-pub over_step : (p : PieceValue) (t : Trip) (last : Vec ℕ Global) (end : ℕ) → IsReady p t → get_or t.ends.last.items t.at 0 ≡ end + 1
+pub over_step : (p : PieceValue) (t : PartialTour) (last : Vec ℕ Global) (end : ℕ) → HasTourTables p t
+    → get_or t.ends.last.items t.at 0 ≡ end + 1
     → get_or t.left.items (end / 2) 0 ≡ 0 → last.items ≡ set t.ends.last.items t.at (get_or t.ends.before.items end 0)
-    → IsStep p t (record {
+    → IsTourStep p t (record {
       left = t.left;
       ends = record { last = last; before = t.ends.before };
       out = t.out;
@@ -72,17 +75,17 @@ over_step p t last end ready here none is_last = record {
   ready = over_ready p.edges (length p.junctions) t.left.items t.ends.last.items last.items t.ends.before.items t.out.items t.at end is_last
       here none ready;
   keeps = λ copies. λ k. record { keeps = k.keeps; begins = k.begins };
-  less = over_less (2 * left_sum one_of p.edges t.left.items + length t.out.items) t.ends.last.items last.items t.at end
+  less = over_less (2 * remaining_sum one_of p.edges t.left.items + length t.out.items) t.ends.last.items last.items t.at end
       (get_or t.ends.before.items end 0) is_last (subst (λ (n : ℕ). t.at < n) (sym ready.last_beside) ready.below) here
       (before_less p.edges (length p.junctions) t.left.items t.ends.last.items t.ends.before.items t.out.items t.at end here ready);
 }
 
 -- the partial tour before its first step
 pub begins_fresh : (p : PieceValue) (copies : List ℕ) (left out : Vec ℕ Global) (ends : LineEnds) (home : List Pass) (at tail : ℕ)
-    → KeepsPiece p → CanPass p copies → left.items ≡ times_of copies → AreLast p.edges (2 * length p.edges) ends.last.items
+    → IsValidPiece p → CanPass p copies → left.items ≡ pass_counts copies → AreLast p.edges (2 * length p.edges) ends.last.items
     → AreBefore p.edges ends.before.items → length ends.last.items ≡ length p.junctions
-    → length ends.before.items ≡ 2 * length p.edges → out.items ≡ [] → home ≡ [] → at ≡ goal_of p
-    → IsFresh p (record { left = left; ends = ends; out = out; home = home; at = at; tail = tail })
+    → length ends.before.items ≡ 2 * length p.edges → out.items ≡ [] → home ≡ [] → at ≡ tour_end p
+    → IsEmptyTour p (record { left = left; ends = ends; out = out; home = home; at = at; tail = tail })
 begins_fresh p copies left out ends home at tail kept can is_left are_last are_before last_beside before_beside is_out is_home
     is_at = record {
       ready = begins_ready p.edges (length p.junctions) left.items ends.last.items ends.before.items out.items at left_beside last_beside
@@ -99,20 +102,21 @@ begins_fresh p copies left out ends home at tail kept can is_left are_last are_b
     some n = omega arith
 
 -- and after the first line is passed
-pub begins_on_first : (p : PieceValue) (t : Trip) (left : Vec ℕ Global) (home : List Pass) (pass : Pass) (tail : ℕ) → KeepsPiece p
-    → IsFresh p t
-    → from_of p ≡ None → left.items ≡ less_at t.left.items 0 → home ≡ t.home ++ pass ∷ []
-    → pass ≡ record { line = first_line p.lines; back = false } → tail ≡ first_b p.edges
-    → BeginsOn p t (record { left = left; ends = t.ends; out = t.out; home = home; at = t.at; tail = tail })
+pub begins_on_first : (p : PieceValue) (t : PartialTour) (left : Vec ℕ Global) (home : List Pass) (pass : Pass) (tail : ℕ) → IsValidPiece p
+    → IsEmptyTour p t
+    → given_start p ≡ None → left.items ≡ decremented_at t.left.items 0 → home ≡ t.home ++ pass ∷ []
+    → pass ≡ record { line = first_line p.lines; back = false } → tail ≡ first_edge_end p.edges
+    → BeginsTour p t (record { left = left; ends = t.ends; out = t.out; home = home; at = t.at; tail = tail })
 begins_on_first p t left home pass tail kept fresh closed is_left is_home is_pass is_tail = λ copies. λ k. record {
-  keeps = first_kept p.lines p.edges (times_of copies) t.left.items left.items t.out.items t.home home (head_of p) (goal_of p) t.at t.tail
+  keeps = first_kept p.lines p.edges (pass_counts copies) t.left.items left.items t.out.items t.home home (tour_start p) (tour_end p) t.at
+      t.tail
       tail e.0 is_left fresh.out fresh.home (rw (is_pass, first_is p.lines) at is_home) kept.rising kept.beside e.1 fresh.some
       (ap at_first closed ∙ e.2) (ap at_first (none_said p.start p.end closed) ∙ e.2) (is_tail ∙ e.3) k;
   begins = λ none. begins_with t.home home pass (first_line p.lines) fresh.home is_home is_pass;
 }
   where
-    e : (e : Edge) × (slice_get p.edges 0 ≡ Some e) × (first_a p.edges ≡ e.a) × (first_b p.edges ≡ e.b)
+    e : (e : Edge) × (slice_get p.edges 0 ≡ Some e) × (first_edge_start p.edges ≡ e.a) × (first_edge_end p.edges ≡ e.b)
     e = first_edge p.edges (subst (λ (n : ℕ). 1 ≤ n) kept.beside kept.some)
 
     at_first : Option ℕ → ℕ
-    at_first junction = or_first junction p.edges
+    at_first junction = or_first_start junction p.edges

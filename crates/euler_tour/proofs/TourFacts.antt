@@ -4,9 +4,9 @@ use Rattle.design_model.specs.declared.point.Point.{Point}
 use Rattle.design_model.specs.Points.{is_same_point}
 use Rattle.line_graph.specs.declared.edge.Edge.{Edge}
 use Rattle.line_graph.specs.declared.pass.Pass.{Pass}
-use Rattle.line_graph.specs.KeptPieces.{KeepsPiece, is_below}
-use Rattle.line_graph.specs.PieceGraphs.{PieceValue, bit, degree}
-use Rattle.line_graph.specs.PieceWalks.{leads, passes}
+use Rattle.line_graph.specs.ValidPieces.{IsValidPiece, is_below}
+use Rattle.line_graph.specs.PieceGraphs.{PieceValue, one_if, degree}
+use Rattle.line_graph.specs.PieceWalks.{is_walk_start_to_end, passes}
 use Rattle.euler_tour.specs.Tours.{CanPass, IsTour, copies_cost, pass_count, pass_ends}
 
 abbrev pub edge : (a b cost : ℕ) → Edge
@@ -32,7 +32,7 @@ between start end = record {
 }
 
 -- it keeps what each piece keeps
-pub keeps_between : (start end : Option ℕ) → is_below 2 start ≡ true → is_below 2 end ≡ true → KeepsPiece (between start end)
+pub keeps_between : (start end : Option ℕ) → is_below 2 start ≡ true → is_below 2 end ≡ true → IsValidPiece (between start end)
 keeps_between start end start_below end_below = record {
   some = omega arith;
   few = omega arith;
@@ -124,7 +124,7 @@ known_count_of_others = refl
 pub known_can : CanPass closed first_again
 known_can = record {
   beside = refl;
-  even = λ j. four (bit (0 == j)) (bit (1 == j));
+  even = λ j. four (one_if (0 == j)) (one_if (1 == j));
   few = omega arith;
 }
   where
@@ -151,7 +151,7 @@ known_tour = record {
 pub known_can_between : CanPass (between (Some 0) (Some 1)) none_again
 known_can_between = record {
   beside = refl;
-  even = λ j. four (bit (0 == j)) (bit (1 == j));
+  even = λ j. four (one_if (0 == j)) (one_if (1 == j));
   few = omega arith;
 }
   where
@@ -171,20 +171,20 @@ known_cannot can = odd _ refl (can.even 0)
     odd : (n : ℕ) → n ≡ 1 → n ≡ 0 → ⊥
     odd n one none = omega (arith, one, none)
 
-pub known_open : leads closed (forth 0 ∷ back 1 ∷ forth 2 ∷ []) ≡ false
+pub known_open : is_walk_start_to_end closed (forth 0 ∷ back 1 ∷ forth 2 ∷ []) ≡ false
 known_open = refl
 
-pub known_way : leads (between (Some 0) (Some 1)) (forth 0 ∷ back 1 ∷ forth 2 ∷ []) ≡ true
+pub known_way : is_walk_start_to_end (between (Some 0) (Some 1)) (forth 0 ∷ back 1 ∷ forth 2 ∷ []) ≡ true
 known_way = refl
 
-pub known_way_back : leads (between (Some 1) (Some 0)) (forth 0 ∷ back 1 ∷ forth 2 ∷ []) ≡ false
+pub known_way_back : is_walk_start_to_end (between (Some 1) (Some 0)) (forth 0 ∷ back 1 ∷ forth 2 ∷ []) ≡ false
 known_way_back = refl
 
 -- a single required junction is both start and end
-pub known_start : leads (between (Some 1) None) (back 0 ∷ forth 1 ∷ back 2 ∷ forth 0 ∷ []) ≡ true
+pub known_start : is_walk_start_to_end (between (Some 1) None) (back 0 ∷ forth 1 ∷ back 2 ∷ forth 0 ∷ []) ≡ true
 known_start = refl
 
-pub known_end : leads (between None (Some 1)) (forth 0 ∷ back 1 ∷ forth 2 ∷ back 0 ∷ []) ≡ false
+pub known_end : is_walk_start_to_end (between None (Some 1)) (forth 0 ∷ back 1 ∷ forth 2 ∷ back 0 ∷ []) ≡ false
 known_end = refl
 
 -- a tour passes each line the given number of times, and begins with the first line, forwards

@@ -5,14 +5,14 @@ use Rattle.std.proofs.lemmas.Option.{slice_get_within}
 use Rattle.std.specs.Option.{option_or}
 use Rattle.line_graph.specs.declared.edge.Edge.{Edge}
 use Rattle.line_graph.specs.declared.pass.Pass.{Pass}
-use Rattle.line_graph.specs.KeptPieces.{AreJoined, KeepsPiece, ends_below, is_below}
-use Rattle.line_graph.specs.PieceGraphs.{PieceValue, bit, closing, degree, from_of, to_of}
+use Rattle.line_graph.specs.ValidPieces.{IsConnectedGraph, IsValidPiece, ends_below, is_below}
+use Rattle.line_graph.specs.PieceGraphs.{PieceValue, one_if, closing_edge, degree, given_start, given_end}
 use Rattle.line_graph.specs.Pieces.{first_line}
-use Rattle.line_graph.specs.PieceWalks.{BeginsWith, after_edge, cost_of, edge_of, edge_start, first_start, leads, of_edge, pass_sum, passes, walk_on}
-use Rattle.euler_tour.specs.LeftLines.{ends_at, ends_left, left_sum, one_of, times_of}
+use Rattle.line_graph.specs.PieceWalks.{BeginsWith, after_edge, edge_cost, edge_of, pass_start_on, walk_start, is_walk_start_to_end, edge_value, pass_sum, passes, walk_end_from}
+use Rattle.euler_tour.specs.RemainingLines.{edge_ends_at, remaining_ends, remaining_sum, one_of, pass_counts}
 use Rattle.euler_tour.specs.LineEnds.{pass_from}
 use Rattle.euler_tour.specs.Tours.{CanPass, IsTour, pass_ends}
-use Rattle.euler_tour.specs.Trips.{IsDone, Keeps, first_a, first_b, goal_of, head_of, or_first}
+use Rattle.euler_tour.specs.PartialTours.{IsExhausted, IsTourInvariant, first_edge_start, first_edge_end, tour_end, tour_start, or_first_start}
 use Rattle.euler_tour.proofs.EndLemmas.{ends_are_below}
 use Rattle.euler_tour.proofs.LeftLemmas.{none_left, sum_none, times_at, times_cost, times_count, times_ends}
 use Rattle.euler_tour.proofs.TripLemmas.{met}
@@ -22,7 +22,7 @@ use Rattle.euler_tour.proofs.WalkLemmas.{all_covered, bit_self, eq_self, nowhere
 
 -- the first edge
 pub first_edge : (edges : List Edge) → 1 ≤ length edges
-    → (e : Edge) × (slice_get edges 0 ≡ Some e) × (first_a edges ≡ e.a) × (first_b edges ≡ e.b)
+    → (e : Edge) × (slice_get edges 0 ≡ Some e) × (first_edge_start edges ≡ e.a) × (first_edge_end edges ≡ e.b)
 first_edge [] some = absurd (omega arith)
 first_edge (e ∷ edges) some = (e, refl, refl, refl)
 
@@ -39,8 +39,8 @@ none_said (Some a) other is = absurd (cc)
 
 -- both ends of the way are junctions of the piece
 said_below : (one other : Option ℕ) (edges : List Edge) (count : ℕ) → is_below count one ≡ true → is_below count other ≡ true
-    → first_a edges < count
-    → or_first (option_or one other) edges < count
+    → first_edge_start edges < count
+    → or_first_start (option_or one other) edges < count
 said_below (Some a) other edges count is_one is_other first = less a count is_one
   where
     less : (m n : ℕ) → nat_lt m n ≡ true → m < n
@@ -52,16 +52,17 @@ said_below None (Some b) edges count is_one is_other first = less b count is_oth
 said_below None None edges count is_one is_other first = first
 
 -- so is where the walk is to end
-pub goal_below : (p : PieceValue) → KeepsPiece p → goal_of p < length p.junctions
+pub goal_below : (p : PieceValue) → IsValidPiece p → tour_end p < length p.junctions
 goal_below p kept =
     let e = first_edge p.edges (subst (λ (n : ℕ). 1 ≤ n) kept.beside kept.some) in
     said_below p.end p.start p.edges (length p.junctions) kept.end_below kept.start_below
     (subst (λ (n : ℕ). n < length p.junctions) (sym e.2) (ends_are_below (length p.junctions) p.edges 0 e.0 kept.ends e.1).0)
 
 -- with the line back, each junction has an even number of ends
-said_even : (edges : List Edge) (one other : Option ℕ) (j n : ℕ) → (degree (closing (option_or one other) (option_or other one)) j + n) % 2
+said_even : (edges : List Edge) (one other : Option ℕ) (j n : ℕ)
+    → (degree (closing_edge (option_or one other) (option_or other one)) j + n) % 2
     ≡ 0
-    → ((n + bit (or_first (option_or other one) edges == j)) + bit (or_first (option_or one other) edges == j)) % 2 ≡ 0
+    → ((n + one_if (or_first_start (option_or other one) edges == j)) + one_if (or_first_start (option_or one other) edges == j)) % 2 ≡ 0
 said_even edges (Some a) (Some b) j n even = turned _ _ n even
   where
     turned : (x y n : ℕ) → (((x + y) + 0) + n) % 2 ≡ 0 → ((n + x) + y) % 2 ≡ 0
@@ -81,7 +82,7 @@ said_even edges None None j n even = twice _ n even
 
 -- as the tour in the making begins
 pub begins_even : (p : PieceValue) (copies : List ℕ) → CanPass p copies → (j : ℕ)
-    → ((ends_left p.edges (times_of copies) j + bit (goal_of p == j)) + bit (head_of p == j)) % 2 ≡ 0
+    → ((remaining_ends p.edges (pass_counts copies) j + one_if (tour_end p == j)) + one_if (tour_start p == j)) % 2 ≡ 0
 begins_even p copies can j =
     rw (times_ends p.edges copies j) (said_even p.edges p.start p.end j (pass_ends p.edges copies j) (can.even j))
 
@@ -109,80 +110,81 @@ bare : (n : ℕ) → n ≡ 0 → (n == 0) ≡ true
 bare n is = grind (arith, nat_tests)
 
 -- where nothing is left at the goal, nothing is left at what is done
-all_done : (edges : List Edge) (left : List ℕ) (goal tail j : ℕ) → ends_left edges left goal ≡ 0 → tail ≡ goal
-    → IsDone edges left goal tail j
-    → ends_left edges left j ≡ 0
+all_done : (edges : List Edge) (left : List ℕ) (goal tail j : ℕ) → remaining_ends edges left goal ≡ 0 → tail ≡ goal
+    → IsExhausted edges left goal tail j
+    → remaining_ends edges left j ≡ 0
 all_done edges left goal tail j stuck meets (inl none) = none
-all_done edges left goal tail j stuck meets (inr (inl is)) = subst (λ (n : ℕ). ends_left edges left n ≡ 0) (sym is) stuck
-all_done edges left goal tail j stuck meets (inr (inr is)) = subst (λ (n : ℕ). ends_left edges left n ≡ 0) (sym (is ∙ meets)) stuck
+all_done edges left goal tail j stuck meets (inr (inl is)) = subst (λ (n : ℕ). remaining_ends edges left n ≡ 0) (sym is) stuck
+all_done edges left goal tail j stuck meets (inr (inr is)) = subst (λ (n : ℕ). remaining_ends edges left n ≡ 0) (sym (is ∙ meets)) stuck
 
 -- an edge has an end at either of its ends
-meets_a : (e : Edge) → 1 ≤ ends_at e.a e
-meets_a e = rw (bit_self e.a) (least (bit (e.b == e.a)))
+meets_a : (e : Edge) → 1 ≤ edge_ends_at e.a e
+meets_a e = rw (bit_self e.a) (least (one_if (e.b == e.a)))
   where
     least : (k : ℕ) → 1 ≤ 1 + k
     least k = omega arith
 
-meets_b : (e : Edge) → 1 ≤ ends_at e.b e
-meets_b e = rw (bit_self e.b) (least (bit (e.a == e.b)))
+meets_b : (e : Edge) → 1 ≤ edge_ends_at e.b e
+meets_b e = rw (bit_self e.b) (least (one_if (e.a == e.b)))
   where
     least : (k : ℕ) → 1 ≤ k + 1
     least k = omega arith
 
 -- a line of which nothing is left is passed, and so nothing is left at its ends; as lines join all junctions,
 -- nothing is left anywhere
-all_passed : (edges : List Edge) (left : List ℕ) (count goal tail : ℕ) → AreJoined edges count → ends_below count edges ≡ true
+all_passed : (edges : List Edge) (left : List ℕ) (count goal tail : ℕ) → IsConnectedGraph edges count → ends_below count edges ≡ true
     → goal < count
-    → ends_left edges left goal ≡ 0 → tail ≡ goal
-    → ((k : ℕ) (e : Edge) → slice_get edges k ≡ Some e → get_or left k 0 ≡ 0 → IsDone edges left goal tail e.a × IsDone edges left goal
+    → remaining_ends edges left goal ≡ 0 → tail ≡ goal
+    → ((k : ℕ) (e : Edge) → slice_get edges k ≡ Some e → get_or left k 0 ≡ 0 → IsExhausted edges left goal tail e.a
+    × IsExhausted edges left goal
     tail e.b)
     → (k : ℕ) (e : Edge) → slice_get edges k ≡ Some e → get_or left k 0 ≡ 0
 all_passed edges left count goal tail joined ends below stuck meets over k e is =
-    none_left edges left k e e.a is (meets_a e) (same (ends_left edges left e.a) 0
-    (sym (joined is_bare leaves goal e.a below (ends_are_below count edges k e ends is).0) ∙ bare (ends_left edges left goal) stuck))
+    none_left edges left k e e.a is (meets_a e) (same (remaining_ends edges left e.a) 0
+    (sym (joined is_bare leaves goal e.a below (ends_are_below count edges k e ends is).0) ∙ bare (remaining_ends edges left goal) stuck))
   where
     is_bare : ℕ → Bool
-    is_bare j = ends_left edges left j == 0
+    is_bare j = remaining_ends edges left j == 0
 
-    from_a : (k : ℕ) (e : Edge) → slice_get edges k ≡ Some e → (ends_left edges left e.a == 0) ≡ true
-        → (ends_left edges left e.b == 0) ≡ true
+    from_a : (k : ℕ) (e : Edge) → slice_get edges k ≡ Some e → (remaining_ends edges left e.a == 0) ≡ true
+        → (remaining_ends edges left e.b == 0) ≡ true
     from_a k e is h =
-        bare (ends_left edges left e.b) (all_done edges left goal tail e.b stuck meets
-        (over k e is (none_left edges left k e e.a is (meets_a e) (same (ends_left edges left e.a) 0 h))).1)
+        bare (remaining_ends edges left e.b) (all_done edges left goal tail e.b stuck meets
+        (over k e is (none_left edges left k e e.a is (meets_a e) (same (remaining_ends edges left e.a) 0 h))).1)
 
-    from_b : (k : ℕ) (e : Edge) → slice_get edges k ≡ Some e → (ends_left edges left e.b == 0) ≡ true
-        → (ends_left edges left e.a == 0) ≡ true
+    from_b : (k : ℕ) (e : Edge) → slice_get edges k ≡ Some e → (remaining_ends edges left e.b == 0) ≡ true
+        → (remaining_ends edges left e.a == 0) ≡ true
     from_b k e is h =
-        bare (ends_left edges left e.a) (all_done edges left goal tail e.a stuck meets
-        (over k e is (none_left edges left k e e.b is (meets_b e) (same (ends_left edges left e.b) 0 h))).0)
+        bare (remaining_ends edges left e.a) (all_done edges left goal tail e.a stuck meets
+        (over k e is (none_left edges left k e e.b is (meets_b e) (same (remaining_ends edges left e.b) 0 h))).0)
 
     leaves : (k : ℕ) (e : Edge) → slice_get edges k ≡ Some e → is_bare e.a ≡ is_bare e.b
     leaves k e is = equal_tests (is_bare e.a) (is_bare e.b) (from_a k e is) (from_b k e is)
 
 -- where a walk begins
 begins_at : (lines : List ℕ) (edges : List Edge) (walk : List Pass) (from : Option ℕ) → 1 ≤ length lines → length lines ≡ length edges
-    → (from ≡ None → BeginsWith (first_line lines) walk) → option_or from (first_start lines edges walk) ≡ Some (or_first from edges)
+    → (from ≡ None → BeginsWith (first_line lines) walk) → option_or from (walk_start lines edges walk) ≡ Some (or_first_start from edges)
 begins_at lines edges walk (Some j) some beside begins = refl
 begins_at [] edges walk None some beside begins = absurd (omega arith)
 begins_at (n ∷ lines) [] walk None some beside begins = absurd (omega arith)
 begins_at (n ∷ lines) (e ∷ edges) [] None some beside begins = absurd (begins refl)
 begins_at (n ∷ lines) (e ∷ edges) (pass ∷ walk) None some beside begins =
-    ap (λ (x : Pass). edge_start (edge_of (n ∷ lines) (e ∷ edges) x.line) x.back) (begins refl) ∙ rw (eq_self n) refl
+    ap (λ (x : Pass). pass_start_on (edge_of (n ∷ lines) (e ∷ edges) x.line) x.back) (begins refl) ∙ rw (eq_self n) refl
 
 -- the walk leads as it is to
-leads_on : (p : PieceValue) (walk : List Pass) (tail : ℕ) → KeepsPiece p → (from_of p ≡ None → BeginsWith (first_line p.lines) walk)
-    → walk_on p.lines p.edges (Some (head_of p)) walk ≡ Some tail → tail ≡ goal_of p → leads p walk ≡ true
+leads_on : (p : PieceValue) (walk : List Pass) (tail : ℕ) → IsValidPiece p → (given_start p ≡ None → BeginsWith (first_line p.lines) walk)
+    → walk_end_from p.lines p.edges (Some (tour_start p)) walk ≡ Some tail → tail ≡ tour_end p → is_walk_start_to_end p walk ≡ true
 leads_on p walk tail kept begins goes meets =
     rw (
-      begins_at p.lines p.edges walk (from_of p) kept.some kept.beside begins,
+      begins_at p.lines p.edges walk (given_start p) kept.some kept.beside begins,
       goes,
-      begins_at p.lines p.edges walk (to_of p) kept.some kept.beside (λ none. begins (none_said p.end p.start none)),
+      begins_at p.lines p.edges walk (given_end p) kept.some kept.beside (λ none. begins (none_said p.end p.start none)),
       meets,
     )
-    (eq_self (goal_of p))
+    (eq_self (tour_end p))
 
 -- a walk that leads somewhere has a pass for each edge that it counts
-counted : (lines : List ℕ) (edges : List Edge) (walk : List Pass) (at : Option ℕ) (to : ℕ) → walk_on lines edges at walk ≡ Some to
+counted : (lines : List ℕ) (edges : List Edge) (walk : List Pass) (at : Option ℕ) (to : ℕ) → walk_end_from lines edges at walk ≡ Some to
     → pass_sum lines edges one_of walk ≡ length walk
 counted lines edges [] at to is = refl
 counted lines edges (pass ∷ walk) None to is = absurd (nowhere lines edges walk to is)
@@ -192,8 +194,8 @@ counted lines edges (pass ∷ walk) (Some at) to is =
     one_more : (n : ℕ) → 1 + n ≡ suc n
     one_more n = omega arith
 
-    by_edge : (found : Option Edge) → walk_on lines edges (after_edge found pass.back at) walk ≡ Some to
-        → pass_sum lines edges one_of walk ≡ length walk → of_edge one_of found + pass_sum lines edges one_of walk ≡ suc (length walk)
+    by_edge : (found : Option Edge) → walk_end_from lines edges (after_edge found pass.back at) walk ≡ Some to
+        → pass_sum lines edges one_of walk ≡ length walk → edge_value one_of found + pass_sum lines edges one_of walk ≡ suc (length walk)
     by_edge None is rest = absurd (nowhere lines edges walk to is)
     by_edge (Some e) is rest = rw rest (one_more (length walk))
 
@@ -204,32 +206,32 @@ got (e ∷ edges) zero below = (e, refl)
 got (e ∷ edges) (suc k) below = got edges k (omega arith)
 
 -- the way out is empty, and nothing is left where it began: the walk home is a tour
-pub finished : (p : PieceValue) (copies left out : List ℕ) (home : List Pass) (at tail : ℕ) → KeepsPiece p → CanPass p copies → out ≡ []
-    → ends_left p.edges left at ≡ 0
-    → Keeps p.lines p.edges (times_of copies) left (map (pass_from p.lines) out) home (head_of p) (goal_of p) at tail
-    → (from_of p ≡ None → BeginsWith (first_line p.lines) home) → IsTour p copies home
+pub finished : (p : PieceValue) (copies left out : List ℕ) (home : List Pass) (at tail : ℕ) → IsValidPiece p → CanPass p copies → out ≡ []
+    → remaining_ends p.edges left at ≡ 0
+    → IsTourInvariant p.lines p.edges (pass_counts copies) left (map (pass_from p.lines) out) home (tour_start p) (tour_end p) at tail
+    → (given_start p ≡ None → BeginsWith (first_line p.lines) home) → IsTour p copies home
 finished p copies left out home at tail kept can is_out stuck k begins = record {
   led = leads_on p home tail kept begins k.goes_home meets;
   covered = all_covered p.lines home (λ i. λ below. more _ _ (counts i below));
   counts = counts;
   begins = begins;
-  costs = whole _ _ _ (sums cost_of) (none cost_of) ∙ times_cost p.edges copies beside;
-  long = sym (counted p.lines p.edges home (Some (head_of p)) tail k.goes_home) ∙ whole _ _ _ (sums one_of) (none one_of)
+  costs = whole _ _ _ (sums edge_cost) (none edge_cost) ∙ times_cost p.edges copies beside;
+  long = sym (counted p.lines p.edges home (Some (tour_start p)) tail k.goes_home) ∙ whole _ _ _ (sums one_of) (none one_of)
       ∙ times_count p.edges copies beside;
 }
   where
     beside : length copies ≡ length p.edges
     beside = can.beside ∙ kept.beside
 
-    back : at ≡ goal_of p
-    back = sym (some_same (goal_of p) at (ap (λ (ends : List ℕ). walk_on p.lines p.edges (Some (goal_of p))
+    back : at ≡ tour_end p
+    back = sym (some_same (tour_end p) at (ap (λ (ends : List ℕ). walk_end_from p.lines p.edges (Some (tour_end p))
         (map (pass_from p.lines) ends)) (sym is_out) ∙ k.goes_out))
 
-    meets : tail ≡ goal_of p
-    meets = met (ends_left p.edges left at) at tail stuck (k.even at) ∙ back
+    meets : tail ≡ tour_end p
+    meets = met (remaining_ends p.edges left at) at tail stuck (k.even at) ∙ back
 
-    bare_goal : ends_left p.edges left (goal_of p) ≡ 0
-    bare_goal = subst (λ (n : ℕ). ends_left p.edges left n ≡ 0) back stuck
+    bare_goal : remaining_ends p.edges left (tour_end p) ≡ 0
+    bare_goal = subst (λ (n : ℕ). remaining_ends p.edges left n ≡ 0) back stuck
 
     within : (i : ℕ) → i < length p.lines → i < length p.edges
     within i below = subst (λ (n : ℕ). i < n) kept.beside below
@@ -237,7 +239,7 @@ finished p copies left out home at tail kept can is_out stuck k begins = record 
     back_within : (i : ℕ) (e : Edge) → slice_get p.edges i ≡ Some e → i < length p.lines
     back_within i e is = subst (λ (n : ℕ). i < n) (sym kept.beside) (slice_get_within p.edges i e is)
 
-    times : (i : ℕ) → i < length p.lines → get_or (times_of copies) i 0 ≡ get_or copies i 0 + 1
+    times : (i : ℕ) → i < length p.lines → get_or (pass_counts copies) i 0 ≡ get_or copies i 0 + 1
     times i below = times_at copies i (subst (λ (n : ℕ). i < n) (sym can.beside) below)
 
     passed : (i : ℕ) → i < length p.lines → (0 + passes (get_or p.lines i 0) home) + get_or left i 0 ≡ get_or copies i 0 + 1
@@ -250,13 +252,13 @@ finished p copies left out home at tail kept can is_out stuck k begins = record 
     least n l c sum empty = omega arith
 
     all : (i : ℕ) (e : Edge) → slice_get p.edges i ≡ Some e → get_or left i 0 ≡ 0
-    all = all_passed p.edges left (length p.junctions) (goal_of p) tail kept.joined kept.ends (goal_below p kept) bare_goal meets
+    all = all_passed p.edges left (length p.junctions) (tour_end p) tail kept.joined kept.ends (goal_below p kept) bare_goal meets
         (λ i. λ e. λ is. λ empty. k.done i e is (least _ _ _ (passed i (back_within i e is)) empty))
 
     nothing : (i : ℕ) → i < length p.edges → get_or left i 0 ≡ 0
     nothing i below = let e = got p.edges i below in all i e.0 e.1
 
-    none : (f : Edge → ℕ) → left_sum f p.edges left ≡ 0
+    none : (f : Edge → ℕ) → remaining_sum f p.edges left ≡ 0
     none f = sum_none f p.edges left nothing
 
     whole : (n l t : ℕ) → (0 + n) + l ≡ t → l ≡ 0 → n ≡ t
@@ -268,8 +270,10 @@ finished p copies left out home at tail kept can is_out stuck k begins = record 
     counts : (i : ℕ) → i < length p.lines → passes (get_or p.lines i 0) home ≡ get_or copies i 0 + 1
     counts i below = whole _ _ _ (passed i below) (nothing i (within i below))
 
-    sums : (f : Edge → ℕ) → (0 + pass_sum p.lines p.edges f home) + left_sum f p.edges left ≡ left_sum f p.edges (times_of copies)
+    sums : (f : Edge → ℕ) → (0 + pass_sum p.lines p.edges f home) + remaining_sum f p.edges left
+        ≡ remaining_sum f p.edges (pass_counts copies)
     sums f =
-        ap (λ (ends : List ℕ). (pass_sum p.lines p.edges f (map (pass_from p.lines) ends) + pass_sum p.lines p.edges f home) + left_sum f
+        ap (λ (ends : List ℕ). (pass_sum p.lines p.edges f (map (pass_from p.lines) ends) + pass_sum p.lines p.edges f home)
+        + remaining_sum f
         p.edges left) (sym is_out)
         ∙ k.sums f

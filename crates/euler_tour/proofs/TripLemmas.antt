@@ -5,11 +5,11 @@ use Rattle.std.proofs.lemmas.List.Sums.{sum_by-set}
 use Rattle.std.proofs.lemmas.Option.{slice_get_within}
 use Rattle.line_graph.specs.declared.edge.Edge.{Edge}
 use Rattle.line_graph.specs.declared.pass.Pass.{Pass}
-use Rattle.line_graph.specs.PieceGraphs.{bit, is_odd}
-use Rattle.line_graph.specs.PieceWalks.{after_edge, after_pass, edge_of, edge_start, end_of, of_edge, pass_sum, passes, rises, start_of, walk_on}
-use Rattle.euler_tour.specs.LeftLines.{ends_at, ends_left, left_sum, less_at, one_of}
+use Rattle.line_graph.specs.PieceGraphs.{one_if, is_odd}
+use Rattle.line_graph.specs.PieceWalks.{after_edge, after_pass, edge_of, pass_start_on, pass_end, edge_value, pass_sum, passes, is_strictly_increasing, pass_start, walk_end_from}
+use Rattle.euler_tour.specs.RemainingLines.{edge_ends_at, remaining_ends, remaining_sum, decremented_at, one_of}
 use Rattle.euler_tour.specs.LineEnds.{junction_across, junction_at, pass_from, pass_to}
-use Rattle.euler_tour.specs.Trips.{IsDone, Keeps}
+use Rattle.euler_tour.specs.PartialTours.{IsExhausted, IsTourInvariant}
 use Rattle.euler_tour.proofs.EndLemmas.{started}
 use Rattle.euler_tour.proofs.LeftLemmas.{count_step, left_less}
 use Rattle.euler_tour.proofs.WalkLemmas.{bit_self, edge_at, eq_self, pass_sum_push, passes_push, same, some_same, walk_append}
@@ -17,30 +17,31 @@ use Rattle.euler_tour.proofs.WalkLemmas.{bit_self, edge_at, eq_self, pass_sum_pu
 -- ---- a step out
 
 -- the pass along an edge from where it starts
-led : (found : Option Edge) (e : Edge) (back : Bool) (at next : ℕ) → found ≡ Some e → start_of e back ≡ at → start_of e (not back) ≡ next
+led : (found : Option Edge) (e : Edge) (back : Bool) (at next : ℕ) → found ≡ Some e → pass_start e back ≡ at
+    → pass_start e (not back) ≡ next
     → after_edge found back at ≡ Some next
 led found e back at next is starts ends = rw (is, ← starts, ← ends) (along e back)
   where
-    along : (e : Edge) (back : Bool) → after_edge (Some e) back (start_of e back) ≡ Some (start_of e (not back))
+    along : (e : Edge) (back : Bool) → after_edge (Some e) back (pass_start e back) ≡ Some (pass_start e (not back))
     along e true = rw (eq_self e.b) refl
     along e false = rw (eq_self e.a) refl
 
 -- its two ends
-two_ends : (e : Edge) (back : Bool) (at next j : ℕ) → start_of e back ≡ at → start_of e (not back) ≡ next
-    → bit (at == j) + bit (next == j) ≡ ends_at j e
+two_ends : (e : Edge) (back : Bool) (at next j : ℕ) → pass_start e back ≡ at → pass_start e (not back) ≡ next
+    → one_if (at == j) + one_if (next == j) ≡ edge_ends_at j e
 two_ends e back at next j starts ends = rw (← starts, ← ends) (by_way e back)
   where
     turned : (x y : ℕ) → x + y ≡ y + x
     turned x y = omega arith
 
-    by_way : (e : Edge) (back : Bool) → bit (start_of e back == j) + bit (start_of e (not back) == j) ≡ ends_at j e
-    by_way e true = turned (bit (e.b == j)) (bit (e.a == j))
+    by_way : (e : Edge) (back : Bool) → one_if (pass_start e back == j) + one_if (pass_start e (not back) == j) ≡ edge_ends_at j e
+    by_way e true = turned (one_if (e.b == j)) (one_if (e.a == j))
     by_way e false = refl
 
 -- what is done stays so where a line is taken
 still : (edges : List Edge) (left : List ℕ) (goal tail place j : ℕ) (e : Edge) → slice_get edges place ≡ Some e → 1 ≤ get_or left place 0
-    → IsDone edges left goal tail j → IsDone edges (less_at left place) goal tail j
-still edges left goal tail place j e is some (inl none) = inl (less_zero _ _ _ (left_less (ends_at j) edges left place e is some) none)
+    → IsExhausted edges left goal tail j → IsExhausted edges (decremented_at left place) goal tail j
+still edges left goal tail place j e is some (inl none) = inl (less_zero _ _ _ (left_less (edge_ends_at j) edges left place e is some) none)
   where
     less_zero : (u k v : ℕ) → u + k ≡ v → v ≡ 0 → u ≡ 0
     less_zero u k v h none = omega arith
@@ -49,20 +50,21 @@ still edges left goal tail place j e is some (inr there) = inr there
 -- a step out along the edge at an index
 out_core : (lines : List ℕ) (edges : List Edge) (times left : List ℕ) (out home : List Pass) (head goal at tail place next : ℕ)
     (back : Bool) (e : Edge)
-    → rises lines ≡ true → length lines ≡ length edges → slice_get edges place ≡ Some e → 1 ≤ get_or left place 0
-    → start_of e back ≡ at → start_of e (not back) ≡ next → Keeps lines edges times left out home head goal at tail
-    → Keeps lines edges times (less_at left place) (out ++ record { line = get_or lines place 0; back = back } ∷ []) home head goal next
+    → is_strictly_increasing lines ≡ true → length lines ≡ length edges → slice_get edges place ≡ Some e → 1 ≤ get_or left place 0
+    → pass_start e back ≡ at → pass_start e (not back) ≡ next → IsTourInvariant lines edges times left out home head goal at tail
+    → IsTourInvariant lines edges times (decremented_at left place) (out ++ record { line = get_or lines place 0; back = back } ∷ []) home
+    head goal next
     tail
 out_core lines edges times left out home head goal at tail place next back e rising beside is some starts ends k = record {
   counted = λ i. λ below. summed _ _ _ _ _ _ _ (passes_push (get_or lines i 0) out pass)
       (count_step lines left place i rising within below some) (k.counted i below);
   sums = λ f. summed _ _ _ _ _ _ _ (pass_sum_push lines edges f out pass ∙ ap
-      (λ (x : Option Edge). pass_sum lines edges f out + of_edge f x) found)
+      (λ (x : Option Edge). pass_sum lines edges f out + edge_value f x) found)
       (turned _ _ _ (left_less f edges left place e is some)) (k.sums f);
   goes_out = walk_append lines edges (Some goal) out (pass ∷ []) ∙ ap (λ (x : Option ℕ). after_pass lines edges pass x) k.goes_out
       ∙ led (edge_of lines edges (get_or lines place 0)) e back at next found starts ends;
   goes_home = k.goes_home;
-  even = λ j. evened _ _ _ _ _ _ (left_less (ends_at j) edges left place e is some) (two_ends e back at next j starts ends) (k.even j);
+  even = λ j. evened _ _ _ _ _ _ (left_less (edge_ends_at j) edges left place e is some) (two_ends e back at next j starts ends) (k.even j);
   done = λ i. λ x. λ here. λ least. (
     still edges left goal tail place x.a e is some (k.done i x here least).0,
     still edges left goal tail place x.b e is some (k.done i x here least).1,
@@ -89,10 +91,10 @@ out_core lines edges times left out home head goal at tail place next back e ris
 
 -- a step out from an end
 pub out_kept : (lines : List ℕ) (edges : List Edge) (times left left2 out out2 : List ℕ) (home : List Pass) (head goal at tail end next : ℕ)
-    → left2 ≡ less_at left (end / 2) → out2 ≡ out ++ end ∷ [] → rises lines ≡ true → length lines ≡ length edges
+    → left2 ≡ decremented_at left (end / 2) → out2 ≡ out ++ end ∷ [] → is_strictly_increasing lines ≡ true → length lines ≡ length edges
     → 1 ≤ get_or left (end / 2) 0 → junction_at edges end ≡ Some at → junction_across edges end ≡ Some next
-    → Keeps lines edges times left (map (pass_from lines) out) home head goal at tail
-    → Keeps lines edges times left2 (map (pass_from lines) out2) home head goal next tail
+    → IsTourInvariant lines edges times left (map (pass_from lines) out) home head goal at tail
+    → IsTourInvariant lines edges times left2 (map (pass_from lines) out2) home head goal next tail
 out_kept lines edges times left left2 out out2 home head goal at tail end next is_left is_out rising beside some starts ends k =
     let e = started (slice_get edges (end / 2)) (is_odd end) at starts in
     rw (is_left, is_out, map-append (pass_from lines) out (end ∷ []))
@@ -100,14 +102,15 @@ out_kept lines edges times left left2 out out2 home head goal at tail end next i
     some e.2
     (other e.0 (slice_get edges (end / 2)) (not (is_odd end)) next e.1 ends) k)
   where
-    other : (e : Edge) (found : Option Edge) (back : Bool) (next : ℕ) → found ≡ Some e → edge_start found back ≡ Some next
-        → start_of e back ≡ next
-    other e found back next is ends = some_same (start_of e back) next (sym (ap (λ (x : Option Edge). edge_start x back) is) ∙ ends)
+    other : (e : Edge) (found : Option Edge) (back : Bool) (next : ℕ) → found ≡ Some e → pass_start_on found back ≡ Some next
+        → pass_start e back ≡ next
+    other e found back next is ends = some_same (pass_start e back) next (sym (ap (λ (x : Option Edge). pass_start_on x back) is) ∙ ends)
 
 -- the rank decreases
-pub out_less : (edges : List Edge) (left left2 out out2 : List ℕ) (sum end at : ℕ) → left2 ≡ less_at left (end / 2) → out2 ≡ out ++ end ∷ []
+pub out_less : (edges : List Edge) (left left2 out out2 : List ℕ) (sum end at : ℕ) → left2 ≡ decremented_at left (end / 2)
+    → out2 ≡ out ++ end ∷ []
     → 1 ≤ get_or left (end / 2) 0 → junction_at edges end ≡ Some at
-    → (2 * left_sum one_of edges left2 + length out2) + sum < (2 * left_sum one_of edges left + length out) + sum
+    → (2 * remaining_sum one_of edges left2 + length out2) + sum < (2 * remaining_sum one_of edges left + length out) + sum
 out_less edges left left2 out out2 sum end at is_left is_out some starts =
     let e = started (slice_get edges (end / 2)) (is_odd end) at starts in
     rw (is_left, is_out, length-append out (end ∷ [])) (less _ _ _ sum (left_less one_of edges left (end / 2) e.0 e.1 some))
@@ -120,64 +123,64 @@ out_less edges left left2 out out2 sum end at is_left is_out some starts =
 -- where a pass came from
 came : (found : Option Edge) (e : Edge) (back : Bool) (x : Option ℕ) (at : ℕ) → found ≡ Some e
     → elim x as (λ y. Option ℕ) [ None ↦ None | Some k ↦ after_edge found back k ] ≡ Some at
-    → (x ≡ Some (start_of e back)) × (end_of e back ≡ at)
+    → (x ≡ Some (pass_start e back)) × (pass_end e back ≡ at)
 came found e back None at is leads = absurd (cc)
 came found e back (Some k) at is leads =
-    by_test (start_of e back == k) refl (ap (λ (y : Option Edge). after_edge y back k) (sym is) ∙ leads)
+    by_test (pass_start e back == k) refl (ap (λ (y : Option Edge). after_edge y back k) (sym is) ∙ leads)
   where
-    by_test : (t : Bool) → (start_of e back == k) ≡ t → cond t (Some (end_of e back)) None ≡ Some at
-        → (Some k ≡ Some (start_of e back)) × (end_of e back ≡ at)
-    by_test true test leads = (ap (λ (n : ℕ). Some n) (sym (same (start_of e back) k test)), some_same (end_of e back) at leads)
+    by_test : (t : Bool) → (pass_start e back == k) ≡ t → cond t (Some (pass_end e back)) None ≡ Some at
+        → (Some k ≡ Some (pass_start e back)) × (pass_end e back ≡ at)
+    by_test true test leads = (ap (λ (n : ℕ). Some n) (sym (same (pass_start e back) k test)), some_same (pass_end e back) at leads)
     by_test false test leads = absurd (cc)
 
 -- the pass that was turned round
-homed : (found : Option Edge) (e : Edge) (back : Bool) (at from : ℕ) → found ≡ Some e → start_of e back ≡ from → end_of e back ≡ at
+homed : (found : Option Edge) (e : Edge) (back : Bool) (at from : ℕ) → found ≡ Some e → pass_start e back ≡ from → pass_end e back ≡ at
     → after_edge found (not back) at ≡ Some from
 homed found e back at from is begins ends = rw (is, ← begins, ← ends) (home_edge e back)
   where
-    home_edge : (e : Edge) (back : Bool) → after_edge (Some e) (not back) (end_of e back) ≡ Some (start_of e back)
+    home_edge : (e : Edge) (back : Bool) → after_edge (Some e) (not back) (pass_end e back) ≡ Some (pass_start e back)
     home_edge e true = rw (eq_self e.a) refl
     home_edge e false = rw (eq_self e.b) refl
 
 -- where nothing is left the walk home ends
-pub met : (u at tail : ℕ) → u ≡ 0 → ((u + bit (at == at)) + bit (tail == at)) % 2 ≡ 0 → tail ≡ at
+pub met : (u at tail : ℕ) → u ≡ 0 → ((u + one_if (at == at)) + one_if (tail == at)) % 2 ≡ 0 → tail ≡ at
 met u at tail none even = by_test (tail == at) refl (rw (bit_self at) at even)
   where
-    by_test : (t : Bool) → (tail == at) ≡ t → ((u + 1) + bit t) % 2 ≡ 0 → tail ≡ at
+    by_test : (t : Bool) → (tail == at) ≡ t → ((u + 1) + one_if t) % 2 ≡ 0 → tail ≡ at
     by_test true is even = same tail at is
     by_test false is even = absurd (omega arith)
 
 -- what was done stays so where the walk home goes on
-now_done : (edges : List Edge) (left : List ℕ) (goal tail from at j : ℕ) → tail ≡ at → ends_left edges left at ≡ 0
-    → IsDone edges left goal tail j
-    → IsDone edges left goal from j
+now_done : (edges : List Edge) (left : List ℕ) (goal tail from at j : ℕ) → tail ≡ at → remaining_ends edges left at ≡ 0
+    → IsExhausted edges left goal tail j
+    → IsExhausted edges left goal from j
 now_done edges left goal tail from at j meets stuck (inl none) = inl none
 now_done edges left goal tail from at j meets stuck (inr (inl is)) = inr (inl is)
 now_done edges left goal tail from at j meets stuck (inr (inr is)) = inl
-    (subst (λ (n : ℕ). ends_left edges left n ≡ 0) (sym (is ∙ meets)) stuck)
+    (subst (λ (n : ℕ). remaining_ends edges left n ≡ 0) (sym (is ∙ meets)) stuck)
 
 -- both ends of the line that was passed
-edge_done : (edges : List Edge) (left : List ℕ) (goal from at : ℕ) (e : Edge) (back : Bool) → ends_left edges left at ≡ 0
-    → start_of e back ≡ from
-    → end_of e back ≡ at → IsDone edges left goal from e.a × IsDone edges left goal from e.b
+edge_done : (edges : List Edge) (left : List ℕ) (goal from at : ℕ) (e : Edge) (back : Bool) → remaining_ends edges left at ≡ 0
+    → pass_start e back ≡ from
+    → pass_end e back ≡ at → IsExhausted edges left goal from e.a × IsExhausted edges left goal from e.b
 edge_done edges left goal from at e true stuck begins ends = (
-  inl (subst (λ (n : ℕ). ends_left edges left n ≡ 0) (sym ends) stuck),
+  inl (subst (λ (n : ℕ). remaining_ends edges left n ≡ 0) (sym ends) stuck),
   inr
       (inr begins),
 )
 edge_done edges left goal from at e false stuck begins ends = (
   inr (inr begins),
   inl
-      (subst (λ (n : ℕ). ends_left edges left n ≡ 0) (sym ends) stuck),
+      (subst (λ (n : ℕ). remaining_ends edges left n ≡ 0) (sym ends) stuck),
 )
 
 -- a step back along the edge at an index
 back_core : (lines : List ℕ) (edges : List Edge) (times left : List ℕ) (xs home : List Pass) (head goal at tail from place : ℕ)
     (back : Bool) (e : Edge)
-    → rises lines ≡ true → length lines ≡ length edges → slice_get edges place ≡ Some e → start_of e back ≡ from
-    → ends_left edges left at ≡ 0
-    → Keeps lines edges times left (xs ++ record { line = get_or lines place 0; back = back } ∷ []) home head goal at tail
-    → Keeps lines edges times left xs (home ++ record { line = get_or lines place 0; back = not back } ∷ []) head goal from from
+    → is_strictly_increasing lines ≡ true → length lines ≡ length edges → slice_get edges place ≡ Some e → pass_start e back ≡ from
+    → remaining_ends edges left at ≡ 0
+    → IsTourInvariant lines edges times left (xs ++ record { line = get_or lines place 0; back = back } ∷ []) home head goal at tail
+    → IsTourInvariant lines edges times left xs (home ++ record { line = get_or lines place 0; back = not back } ∷ []) head goal from from
 back_core lines edges times left xs home head goal at tail from place back e rising beside is starts stuck k = record {
   counted = λ i. λ below. summed _ _ _ _ _ _ _ (passes_push (get_or lines i 0) xs out) (passes_push (get_or lines i 0) home turned)
       (k.counted i below);
@@ -186,7 +189,8 @@ back_core lines edges times left xs home head goal at tail from place back e ris
   goes_home = walk_append lines edges (Some head) home (turned ∷ [])
       ∙ ap (λ (x : Option ℕ). after_pass lines edges turned x) (k.goes_home ∙ ap (λ (n : ℕ). Some n) meets)
       ∙ homed (edge_of lines edges (get_or lines place 0)) e back at from found starts c.1;
-  even = λ j. evened _ _ _ (subst (λ (n : ℕ). ((ends_left edges left j + bit (at == j)) + bit (n == j)) % 2 ≡ 0) meets (k.even j));
+  even = λ j. evened _ _ _ (subst (λ (n : ℕ). ((remaining_ends edges left j + one_if (at == j)) + one_if (n == j)) % 2 ≡ 0) meets
+      (k.even j));
   done = λ i. λ x. λ here. λ least.
       by_times i x here (passes (get_or lines i 0) home) refl (rw (passes_push (get_or lines i 0) home turned) at least);
 }
@@ -198,7 +202,7 @@ back_core lines edges times left xs home head goal at tail from place back e ris
     turned = record { line = get_or lines place 0; back = not back }
 
     meets : tail ≡ at
-    meets = met (ends_left edges left at) at tail stuck (k.even at)
+    meets = met (remaining_ends edges left at) at tail stuck (k.even at)
 
     inside : (k : ℕ) (x : Edge) → slice_get edges k ≡ Some x → k < length lines
     inside k x here = subst (λ (n : ℕ). k < n) (sym beside) (slice_get_within edges k x here)
@@ -206,8 +210,8 @@ back_core lines edges times left xs home head goal at tail from place back e ris
     found : edge_of lines edges (get_or lines place 0) ≡ Some e
     found = edge_at lines edges place e rising (inside place e is) is
 
-    c : (walk_on lines edges (Some goal) xs ≡ Some (start_of e back)) × (end_of e back ≡ at)
-    c = came (edge_of lines edges (get_or lines place 0)) e back (walk_on lines edges (Some goal) xs) at found
+    c : (walk_end_from lines edges (Some goal) xs ≡ Some (pass_start e back)) × (pass_end e back ≡ at)
+    c = came (edge_of lines edges (get_or lines place 0)) e back (walk_end_from lines edges (Some goal) xs) at found
         (sym (walk_append lines edges (Some goal) xs (out ∷ [])) ∙ k.goes_out)
 
     summed : (po o b ph h l t : ℕ) → po ≡ o + b → ph ≡ h + b → (po + h) + l ≡ t → (o + ph) + l ≡ t
@@ -217,17 +221,17 @@ back_core lines edges times left xs home head goal at tail from place back e ris
     evened u v w even = omega arith
 
     by_line : (i : ℕ) (x : Edge) → slice_get edges i ≡ Some x → (t : Bool) → (get_or lines place 0 == get_or lines i 0) ≡ t
-        → 1 ≤ 0 + bit t → x ≡ e
+        → 1 ≤ 0 + one_if t → x ≡ e
     by_line i x here true test least =
         some_same x e (sym (edge_at lines edges i x rising (inside i x here) here)
         ∙ ap (λ (n : ℕ). edge_of lines edges n) (sym (same (get_or lines place 0) (get_or lines i 0) test)) ∙ found)
     by_line i x here false test least = absurd (omega arith)
 
     by_times : (i : ℕ) (x : Edge) → slice_get edges i ≡ Some x → (n : ℕ) → passes (get_or lines i 0) home ≡ n
-        → 1 ≤ n + bit (get_or lines place 0 == get_or lines i 0)
-        → IsDone edges left goal from x.a × IsDone edges left goal from x.b
+        → 1 ≤ n + one_if (get_or lines place 0 == get_or lines i 0)
+        → IsExhausted edges left goal from x.a × IsExhausted edges left goal from x.b
     by_times i x here zero times least =
-        subst (λ (y : Edge). IsDone edges left goal from y.a × IsDone edges left goal from y.b)
+        subst (λ (y : Edge). IsExhausted edges left goal from y.a × IsExhausted edges left goal from y.b)
         (sym (by_line i x here (get_or lines place 0 == get_or lines i 0) refl least))
         (edge_done edges left goal from at e back stuck starts c.1)
     by_times i x here (suc n) times least =
@@ -236,15 +240,15 @@ back_core lines edges times left xs home head goal at tail from place back e ris
 
 -- a step back to an end
 pub back_kept : (lines : List ℕ) (edges : List Edge) (times left out xs : List ℕ) (home home2 : List Pass) (head goal at tail from end : ℕ)
-    → out ≡ xs ++ end ∷ [] → home2 ≡ home ++ pass_to lines end ∷ [] → rises lines ≡ true → length lines ≡ length edges
-    → junction_at edges end ≡ Some from → ends_left edges left at ≡ 0
-    → Keeps lines edges times left (map (pass_from lines) out) home head goal at tail
-    → Keeps lines edges times left (map (pass_from lines) xs) home2 head goal from from
+    → out ≡ xs ++ end ∷ [] → home2 ≡ home ++ pass_to lines end ∷ [] → is_strictly_increasing lines ≡ true → length lines ≡ length edges
+    → junction_at edges end ≡ Some from → remaining_ends edges left at ≡ 0
+    → IsTourInvariant lines edges times left (map (pass_from lines) out) home head goal at tail
+    → IsTourInvariant lines edges times left (map (pass_from lines) xs) home2 head goal from from
 back_kept lines edges times left out xs home home2 head goal at tail from end is_out is_home rising beside starts stuck k =
     let e = started (slice_get edges (end / 2)) (is_odd end) from starts in
     rw is_home (back_core lines edges times left (map (pass_from lines) xs) home head goal at tail from (end / 2) (is_odd end) e.0 rising
     beside e.1 e.2 stuck
-    (subst (λ (ps : List Pass). Keeps lines edges times left ps home head goal at tail)
+    (subst (λ (ps : List Pass). IsTourInvariant lines edges times left ps home head goal at tail)
     (ap (λ (ends : List ℕ). map (pass_from lines) ends) is_out ∙ map-append (pass_from lines) xs (end ∷ [])) k))
 
 -- the rank decreases
@@ -272,11 +276,11 @@ over_less u last last2 at end number is there here low =
 -- nothing is passed
 pub begun : (lines : List ℕ) (edges : List Edge) (times left out : List ℕ) (home : List Pass) (head goal : ℕ) → left ≡ times → out ≡ []
     → home ≡ []
-    → ((j : ℕ) → ((ends_left edges times j + bit (goal == j)) + bit (head == j)) % 2 ≡ 0)
-    → Keeps lines edges times left (map (pass_from lines) out) home head goal goal head
+    → ((j : ℕ) → ((remaining_ends edges times j + one_if (goal == j)) + one_if (head == j)) % 2 ≡ 0)
+    → IsTourInvariant lines edges times left (map (pass_from lines) out) home head goal goal head
 begun lines edges times left out home head goal is_left is_out is_home even = rw (is_left, is_out, is_home) record {
   counted = λ k. λ below. nothing (get_or times k 0);
-  sums = λ f. nothing (left_sum f edges times);
+  sums = λ f. nothing (remaining_sum f edges times);
   goes_out = refl;
   goes_home = refl;
   even = even;
@@ -289,23 +293,23 @@ begun lines edges times left out home head goal is_left is_out is_home even = rw
 -- the first line is passed
 pub first_kept : (lines : List ℕ) (edges : List Edge) (times left left2 out : List ℕ) (home home2 : List Pass)
     (head goal at tail next : ℕ) (e : Edge)
-    → left2 ≡ less_at left 0 → out ≡ [] → home ≡ [] → home2 ≡ home ++ record { line = get_or lines 0 0; back = false } ∷ []
-    → rises lines ≡ true → length lines ≡ length edges → slice_get edges 0 ≡ Some e → 1 ≤ get_or left 0 0
+    → left2 ≡ decremented_at left 0 → out ≡ [] → home ≡ [] → home2 ≡ home ++ record { line = get_or lines 0 0; back = false } ∷ []
+    → is_strictly_increasing lines ≡ true → length lines ≡ length edges → slice_get edges 0 ≡ Some e → 1 ≤ get_or left 0 0
     → head ≡ e.a → goal ≡ e.a → next ≡ e.b
-    → Keeps lines edges times left (map (pass_from lines) out) home head goal at tail
-    → Keeps lines edges times left2 (map (pass_from lines) out) home2 head goal at next
+    → IsTourInvariant lines edges times left (map (pass_from lines) out) home head goal at tail
+    → IsTourInvariant lines edges times left2 (map (pass_from lines) out) home2 head goal at next
 first_kept lines edges times left left2 out home home2 head goal at tail next e is_left is_out is_home is_home2 rising beside is some
     is_head is_goal is_next k =
     rw (is_left, is_home2, is_home) record {
       counted = λ i. λ below. summed _ _ _ _ _ _ (ap (λ (ps : List Pass). passes (get_or lines i 0) ps) is_home)
           (count_step lines left 0 i rising within below some) (k.counted i below);
       sums = λ f. summed _ _ _ _ _ _ (ap (λ (ps : List Pass). pass_sum lines edges f ps) is_home)
-          (ap (λ (x : Option Edge). of_edge f x + left_sum f edges (less_at left 0)) found ∙ turned _ _ _
+          (ap (λ (x : Option Edge). edge_value f x + remaining_sum f edges (decremented_at left 0)) found ∙ turned _ _ _
           (left_less f edges left 0 e is some)) (k.sums f);
       goes_out = k.goes_out;
       goes_home = led (edge_of lines edges (get_or lines 0 0)) e false head next found (sym is_head) (sym is_next);
-      even = λ j. evened _ _ _ _ _ _ _ (left_less (ends_at j) edges left 0 e is some)
-          (ap (λ (n : ℕ). bit (n == j)) tail_is) (ap (λ (n : ℕ). bit (n == j)) is_next) (k.even j);
+      even = λ j. evened _ _ _ _ _ _ _ (left_less (edge_ends_at j) edges left 0 e is some)
+          (ap (λ (n : ℕ). one_if (n == j)) tail_is) (ap (λ (n : ℕ). one_if (n == j)) is_next) (k.even j);
       done = λ i. λ x. λ here. λ least. by_line i x here (get_or lines 0 0 == get_or lines i 0) refl least;
     }
   where
@@ -316,7 +320,8 @@ first_kept lines edges times left left2 out home home2 head goal at tail next e 
     found = edge_at lines edges 0 e rising within is
 
     tail_is : tail ≡ e.a
-    tail_is = sym (some_same head tail (sym (ap (λ (ps : List Pass). walk_on lines edges (Some head) ps) is_home) ∙ k.goes_home)) ∙ is_head
+    tail_is = sym (some_same head tail (sym (ap (λ (ps : List Pass). walk_end_from lines edges (Some head) ps) is_home) ∙ k.goes_home))
+        ∙ is_head
 
     turned : (u k v : ℕ) → u + k ≡ v → k + u ≡ v
     turned u k v h = omega arith
@@ -327,8 +332,8 @@ first_kept lines edges times left left2 out home home2 head goal at tail next e 
     evened : (u x y v w t n : ℕ) → u + (x + y) ≡ v → t ≡ x → n ≡ y → ((v + w) + t) % 2 ≡ 0 → ((u + w) + n) % 2 ≡ 0
     evened u x y v w t n less is_x is_y even = omega arith
 
-    by_line : (i : ℕ) (x : Edge) → slice_get edges i ≡ Some x → (t : Bool) → (get_or lines 0 0 == get_or lines i 0) ≡ t → 1 ≤ bit t + 0
-        → IsDone edges (less_at left 0) goal next x.a × IsDone edges (less_at left 0) goal next x.b
+    by_line : (i : ℕ) (x : Edge) → slice_get edges i ≡ Some x → (t : Bool) → (get_or lines 0 0 == get_or lines i 0) ≡ t → 1 ≤ one_if t + 0
+        → IsExhausted edges (decremented_at left 0) goal next x.a × IsExhausted edges (decremented_at left 0) goal next x.b
     by_line i x here true test least =
         let one : e ≡ x = some_same e x (sym found ∙ ap (λ (n : ℕ). edge_of lines edges n) (same (get_or lines 0 0) (get_or lines i 0) test)
         ∙ edge_at lines edges i x rising (subst (λ (n : ℕ). i < n) (sym beside) (slice_get_within edges i x here)) here) in

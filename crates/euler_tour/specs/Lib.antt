@@ -3,5 +3,5 @@ pub mod Tours
 -- The ends of lines, for any walk.
 pub mod LineEnds
 -- The modules of the algorithm: lines that remain, and partial tours.
-pub mod LeftLines
-pub mod Trips
+pub mod RemainingLines
+pub mod PartialTours

@@ -5,16 +5,16 @@ use Rattle.std.specs.Prelude.{◌≡◌, ℕ, ◌+◌, ◌/◌, ◌<◌, ◌≤�
 use Rattle.line_graph.specs.declared.edge.Edge.{Edge}
 use Rattle.line_graph.specs.declared.pass.Pass.{Pass}
 use Rattle.line_graph.specs.PieceGraphs.{is_odd}
-use Rattle.line_graph.specs.PieceWalks.{edge_start}
+use Rattle.line_graph.specs.PieceWalks.{pass_start_on}
 use Rattle.euler_tour.specs.declared.line_ends.LineEnds.{LineEnds}
 
 -- The junction where an end is.
 abbrev pub junction_at : List Edge → ℕ → Option ℕ
-junction_at edges end = edge_start (slice_get edges (end / 2)) (is_odd end)
+junction_at edges end = pass_start_on (slice_get edges (end / 2)) (is_odd end)
 
 -- The junction where the other end of the line is.
 abbrev pub junction_across : List Edge → ℕ → Option ℕ
-junction_across edges end = edge_start (slice_get edges (end / 2)) (not (is_odd end))
+junction_across edges end = pass_start_on (slice_get edges (end / 2)) (not (is_odd end))
 
 -- The pass that starts at an end.
 abbrev pub pass_from : List ℕ → ℕ → Pass

@@ -1,8 +1,8 @@
 ghost use Rattle.std.specs.Prelude.{IfOk};
 ghost use Rattle.euler_tour.specs.Tours.{CanPass, IsTour};
-ghost use Rattle.line_graph.specs.CutPieces.{graph_of};
+ghost use Rattle.line_graph.specs.PiecesOfDrawings.{graph_of};
 
-use crate::trip::{begin, step};
+use crate::partial_tour::{begin, step};
 use design_model::Memory;
 use line_graph::{Piece, Walk};
 use std::alloc::Global;

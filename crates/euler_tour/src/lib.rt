@@ -3,11 +3,11 @@
 #![tactic(auto)]
 
 mod closed_walk;
-mod left_lines;
 mod line_ends;
+mod partial_tour;
+mod remaining_lines;
 #[cfg(test)]
 mod tests;
-mod trip;
 
 pub use closed_walk::tour;
 pub use line_ends::{LineEnds, chain, put_number};

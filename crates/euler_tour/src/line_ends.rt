@@ -1,6 +1,6 @@
 ghost use Rattle.std.specs.Prelude.{◌≡◌, ◌+◌, ◌*◌, ◌/◌, ◌<◌, true, Some, length, set, IfOk, OnOk};
 ghost use Rattle.euler_tour.specs.LineEnds.{AddsEnd, junction_at, junction_across, pass_to, AreBefore, AreLast};
-ghost use Rattle.line_graph.specs.KeptPieces.{ends_below};
+ghost use Rattle.line_graph.specs.ValidPieces.{ends_below};
 ghost use Rattle.line_graph.specs.PieceGraphs.{is_odd as odd};
 
 use design_model::Memory;
@@ -45,7 +45,7 @@ pub fn put_number(last: &mut Vec<u32>, junction: u32, number: u32)
 }
 
 /// Returns the index of the line with an end.
-pub fn place_of(end: u32) -> usize
+pub fn line_index_of(end: u32) -> usize
     ensures { result ≡ end / 2 }
 {
     (end / 2) as usize
@@ -56,7 +56,7 @@ pub fn junction_of(edges: &[Edge], end: u32) -> u32
     requires { end < 2 * length edges.now }
     ensures { junction_at edges.now end ≡ Some result }
 {
-    let edge = edges[place_of(end)];
+    let edge = edges[line_index_of(end)];
     if is_odd(end) { edge.b } else { edge.a }
 }
 
@@ -65,7 +65,7 @@ pub fn junction_beyond(edges: &[Edge], end: u32) -> u32
     requires { end < 2 * length edges.now }
     ensures { junction_across edges.now end ≡ Some result }
 {
-    let edge = edges[place_of(end)];
+    let edge = edges[line_index_of(end)];
     if is_odd(end) { edge.a } else { edge.b }
 }
 
@@ -75,7 +75,7 @@ pub fn pass_back(lines: &[u32], end: u32) -> Pass
     ensures { result ≡ pass_to lines.now end }
 {
     Pass {
-        line: lines[place_of(end)],
+        line: lines[line_index_of(end)],
         back: !is_odd(end),
     }
 }

@@ -1,4 +1,4 @@
 mod UnitFacts
 pub mod UnitLemmas
-pub mod Rereading
+pub mod RoundTrip
 mod WritingFacts

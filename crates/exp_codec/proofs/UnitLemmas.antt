@@ -4,20 +4,20 @@ use Rattle.std.proofs.lemmas.Bool.{ne_eqb, eq-eqb, le-ltb}
 use Rattle.std.proofs.lemmas.List.{take_all, length-drop}
 use Rattle.format_traits.specs.declared.event.Event.TheVariants as event
 use Rattle.format_traits.specs.Readings.{loaded_with}
-use Rattle.format_traits.specs.Records.{course_of, next}
-use Rattle.exp_codec.specs.Reading.{reads}
-use Rattle.exp_codec.specs.Units.{units_from, asked, control_event, move_of}
+use Rattle.format_traits.specs.Records.{file_commands, next}
+use Rattle.exp_codec.specs.Reading.{exp_reads}
+use Rattle.exp_codec.specs.Units.{units_from, record_or_refusal, event_of_control, exp_move_of}
 
 -- a unit of two bytes, whatever stands after it
 two_at : (at a b : ℕ) (behind : List ℕ) → a ≢ 0x80
-    → units_from at (a ∷ b ∷ behind) ≡ next at (event.Stitch (move_of a b)) (units_from (at + 2) behind)
+    → units_from at (a ∷ b ∷ behind) ≡ next at (event.Stitch (exp_move_of a b)) (units_from (at + 2) behind)
 two_at at a b [] other = rw (ne_eqb a 0x80 other) refl
 two_at at a b (c ∷ []) other = rw (ne_eqb a 0x80 other) refl
 two_at at a b (c ∷ d ∷ rest) other = rw (ne_eqb a 0x80 other) refl
 
 pub two_bytes : (at : ℕ) (bytes more : List ℕ) → 2 ≤ length bytes → get_or bytes 0 0 ≢ 0x80
     → units_from at (bytes ++ more)
-    ≡ next at (event.Stitch (move_of (get_or bytes 0 0) (get_or bytes 1 0))) (units_from (at + 2) (drop 2 bytes ++ more))
+    ≡ next at (event.Stitch (exp_move_of (get_or bytes 0 0) (get_or bytes 1 0))) (units_from (at + 2) (drop 2 bytes ++ more))
 two_bytes at [] more some other = absurd (let no : ⊥ = omega (arith, some) in no)
 two_bytes at (a ∷ []) more some other = absurd (let no : ⊥ = omega (arith, some) in no)
 two_bytes at (a ∷ b ∷ rest) more some other = two_at at a b (rest ++ more) other
@@ -29,16 +29,17 @@ behind_two bytes = let left = length-drop 2 bytes in take_all (length bytes - 2)
 -- a unit of four bytes
 pub four_bytes : (at : ℕ) (bytes behind more : List ℕ) → behind ≡ drop 2 bytes → 2 ≤ length bytes → 2 ≤ length behind
     → get_or bytes 0 0 ≡ 0x80
-    → units_from at (bytes ++ more) ≡ asked at (control_event (get_or bytes 1 0) (move_of (get_or behind 0 0) (get_or behind 1 0)))
+    → units_from at (bytes ++ more) ≡ record_or_refusal at
+    (event_of_control (get_or bytes 1 0) (exp_move_of (get_or behind 0 0) (get_or behind 1 0)))
     (units_from (at + 4) (drop 4 bytes ++ more))
 four_bytes at bytes behind more same some longer is =
-    subst (λ behind. units_from at (bytes ++ more) ≡ asked at (control_event (get_or bytes 1 0)
-    (move_of (get_or behind 0 0) (get_or behind 1 0))) (units_from (at + 4) (drop 4 bytes ++ more)))
+    subst (λ behind. units_from at (bytes ++ more) ≡ record_or_refusal at (event_of_control (get_or bytes 1 0)
+    (exp_move_of (get_or behind 0 0) (get_or behind 1 0))) (units_from (at + 4) (drop 4 bytes ++ more)))
     (sym same) (by_bytes bytes some (subst (λ behind. 2 ≤ length behind) same longer) is)
   where
     by_bytes : (bytes : List ℕ) → 2 ≤ length bytes → 2 ≤ length (drop 2 bytes) → get_or bytes 0 0 ≡ 0x80
-        → units_from at (bytes ++ more) ≡ asked at (control_event (get_or bytes 1 0)
-        (move_of (get_or (drop 2 bytes) 0 0) (get_or (drop 2 bytes) 1 0))) (units_from (at + 4) (drop 4 bytes ++ more))
+        → units_from at (bytes ++ more) ≡ record_or_refusal at (event_of_control (get_or bytes 1 0)
+        (exp_move_of (get_or (drop 2 bytes) 0 0) (get_or (drop 2 bytes) 1 0))) (units_from (at + 4) (drop 4 bytes ++ more))
     by_bytes [] some longer is = absurd (let no : ⊥ = omega (arith, some) in no)
     by_bytes (a ∷ []) some longer is = absurd (let no : ⊥ = omega (arith, some) in no)
     by_bytes (a ∷ b ∷ []) some longer is = absurd (let no : ⊥ = omega (arith, longer) in no)
@@ -46,5 +47,5 @@ four_bytes at bytes behind more same some longer is =
     by_bytes (a ∷ b ∷ c ∷ d ∷ rest) some longer is = rw (eq-eqb a 0x80 is) refl
 
 -- a file is its units
-pub reads_units : (bytes : List ℕ) → reads bytes ≡ loaded_with [] [] (course_of (units_from 0 bytes))
+pub reads_units : (bytes : List ℕ) → exp_reads bytes ≡ loaded_with [] [] (file_commands (units_from 0 bytes))
 reads_units bytes = rw (le-ltb (length bytes) 0 (let some : 0 ≤ length bytes = omega arith in some)) refl

@@ -2,16 +2,16 @@
 use Rattle.std.specs.Prelude.{codes}
 use Rattle.format_traits.specs.Meanings.{Meaning}
 use Rattle.exp_codec.specs.declared.exp.TheConstants.{LIMIT}
-use Rattle.exp_codec.specs.Reading.{reads, moves, shown}
-use Rattle.exp_codec.specs.Writing.{writes}
+use Rattle.exp_codec.specs.Reading.{exp_reads, exp_moves, exp_shown}
+use Rattle.exp_codec.specs.Writing.{exp_writes}
 
 -- The meaning of the EXP format: ending, limit, reading, writing and moves.
-abbrev pub exp : Meaning
-exp = record {
+abbrev pub exp_meaning : Meaning
+exp_meaning = record {
   ending = codes "exp";
   limit = LIMIT;
-  reads = reads;
-  writes = writes;
-  moves = moves;
-  shown = shown;
+  reads = exp_reads;
+  writes = exp_writes;
+  moves = exp_moves;
+  shown = exp_shown;
 }

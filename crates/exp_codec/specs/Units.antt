@@ -9,17 +9,17 @@ use Rattle.format_traits.specs.declared.fault.ReadFault.TheVariants as fault
 use Rattle.format_traits.specs.Records.{Records, over, refused, next}
 
 -- A byte as a signed number, from -128 to 127.
-abbrev pub signed : ℕ → ℤ
-signed byte = if nat_lt byte 128 then pos byte else neg_ℤ (pos (256 - byte))
+abbrev pub signed_byte : ℕ → ℤ
+signed_byte byte = if nat_lt byte 128 then pos byte else neg_ℤ (pos (256 - byte))
 
 -- The move of two bytes, in a design's axes.
-abbrev pub move_of : ℕ → ℕ → Point
-move_of a b = record { x = signed a; y = neg_ℤ (signed b) }
+abbrev pub exp_move_of : ℕ → ℕ → Point
+exp_move_of a b = record { x = signed_byte a; y = neg_ℤ (signed_byte b) }
 
 -- The event of a unit of four bytes, by its control byte and its move; none for an unknown control
 -- byte.
-abbrev pub control_event : ℕ → Point → Option Event
-control_event control m =
+abbrev pub event_of_control : ℕ → Point → Option Event
+event_of_control control m =
     if control == 0x01 then Some (event.StopBy m)
     else (if control == 0x02 then Some (event.Stitch m)
     else (if control == 0x04 then Some (event.Jump m)
@@ -27,20 +27,20 @@ control_event control m =
     else None)))
 
 -- A unit of four bytes and the records after it; a unit without an event is refused.
-abbrev pub asked : ℕ → Option Event → (behind : Records) → Records
-asked at (Some event) behind = next at event behind
-asked at None behind = refused (fault.Control at)
+abbrev pub record_or_refusal : ℕ → Option Event → (behind : Records) → Records
+record_or_refusal at (Some event) behind = next at event behind
+record_or_refusal at None behind = refused (fault.Control at)
 
 -- The records from a unit on: the unit has four bytes where the first is 80, else two.
 abbrev pub unit : ℕ → (a b c d : ℕ) → (behind_four behind_two : Records) → Records
 unit at a b c d behind_four behind_two =
-    if a == 0x80 then asked at (control_event b (move_of c d)) behind_four
-    else next at (event.Stitch (move_of a b)) behind_two
+    if a == 0x80 then record_or_refusal at (event_of_control b (exp_move_of c d)) behind_four
+    else next at (event.Stitch (exp_move_of a b)) behind_two
 
 -- The records from a unit on, where fewer than four bytes are left.
 abbrev pub short_unit : ℕ → (a b : ℕ) → (behind_two : Records) → Records
 short_unit at a b behind_two =
-    if a == 0x80 then over false else next at (event.Stitch (move_of a b)) behind_two
+    if a == 0x80 then over false else next at (event.Stitch (exp_move_of a b)) behind_two
 
 -- The units from an offset on. The file has an end where no byte of an incomplete unit is left.
 abbrev pub units_from : ℕ → List ℕ → Records

@@ -16,12 +16,12 @@ pub struct Exp {
 }
 
 impl Exp {
-    ghost use Rattle.exp_codec.specs.Reading.{reads, shown};
-    ghost use Rattle.format_traits.specs.Feeding.{IsFresh};
+    ghost use Rattle.exp_codec.specs.Reading.{exp_reads, exp_shown};
+    ghost use Rattle.format_traits.specs.Feeding.{HasNothingFed};
 
     /// Returns a format object to which nothing was fed. Allocates nothing.
     pub fn new(alloc: Global) -> Exp
-        ensures { IsFresh reads shown (⟦<Exp as Format>⟧.feeding result) }
+        ensures { HasNothingFed exp_reads exp_shown (⟦<Exp as Format>⟧.feed_state result) }
     {
         Exp {
             feed: Feed::new(decoder(alloc)),
@@ -30,11 +30,11 @@ impl Exp {
 }
 
 impl Format for Exp {
-    ghost use Rattle.exp_codec.specs.Format.{exp as exp_meaning};
+    ghost use Rattle.exp_codec.specs.Format.{exp_meaning};
 
     ghost meaning = { λ _. exp_meaning };
 
-    ghost feeding = { λ d. ⟦<Feed<RecordDecoder<Units>> as Fed>⟧.feeding d.feed };
+    ghost feed_state = { λ d. ⟦<Feed<RecordDecoder<Units>> as Fed>⟧.feed_state d.feed };
 
     fn ext(&self) -> &str {
         "exp"

@@ -3,12 +3,12 @@
 #![tactic(auto)]
 
 mod exp;
-mod promises;
-mod spelling;
 #[cfg(test)]
 mod tests;
+mod theorems;
+mod unit_writer;
 mod units;
 mod writing;
 
 pub use exp::{Exp, LIMIT};
-pub use promises::written_reads_again;
+pub use theorems::written_reads_again;

@@ -1,9 +1,9 @@
 ghost use Rattle.std.specs.Prelude.{◌≡◌, ◌≤◌, neg_ℤ, unsigned_abs, IsTrue, IfSome};
 ghost use Rattle.std.specs.List.{list_all};
-ghost use Rattle.design_model.specs.Points.{is_within};
-ghost use Rattle.format_traits.specs.declared.record_reader.TheConstants.{GREATEST_STEP};
-ghost use Rattle.format_traits.specs.Records.{moves_in};
-ghost use Rattle.exp_codec.specs.Units.{control_event as event_of_control, signed as signed_of, move_of as move_of_bytes};
+ghost use Rattle.design_model.specs.Points.{is_point_within};
+ghost use Rattle.format_traits.specs.declared.record_reader.TheConstants.{MAX_RECORD_MOVE};
+ghost use Rattle.format_traits.specs.Records.{moves_of_event};
+ghost use Rattle.exp_codec.specs.Units.{event_of_control, signed_byte, exp_move_of};
 
 use design_model::{Design, Point};
 use format_traits::{Event, NextRecord, ReadFault, RecordReader};
@@ -28,7 +28,7 @@ pub const TRIM: u8 = 0x80;
 pub struct Units;
 
 impl RecordReader for Units {
-    ghost use Rattle.exp_codec.specs.Reading.{layout as exp_layout};
+    ghost use Rattle.exp_codec.specs.Reading.{exp_layout};
     ghost use Rattle.exp_codec.specs.Units.{units_from};
 
     ghost layout = { exp_layout };
@@ -47,7 +47,7 @@ impl RecordReader for Units {
 
     fn next(&mut self, at: u64, bytes: &[u8]) -> NextRecord {
         let [first, second, behind @ ..] = bytes else {
-            return NextRecord::Wants {
+            return NextRecord::Incomplete {
                 ended: bytes.is_empty(),
             };
         };
@@ -58,7 +58,7 @@ impl RecordReader for Units {
             };
         }
         let [x, y, ..] = behind else {
-            return NextRecord::Wants { ended: false };
+            return NextRecord::Incomplete { ended: false };
         };
         match control_event(*second, move_of(*x, *y)) {
             Some(event) => NextRecord::Record { event, size: 4 },
@@ -69,10 +69,10 @@ impl RecordReader for Units {
 
 /// Returns the event of a unit of four bytes, by its control byte and its move.
 fn control_event(control: u8, step: Point) -> Option<Event>
-    requires { IsTrue (is_within GREATEST_STEP step) }
+    requires { IsTrue (is_point_within MAX_RECORD_MOVE step) }
     ensures value { result ≡ event_of_control control step }
     ensures small { IfSome result
-        (λ event. IsTrue (list_all (λ move. is_within GREATEST_STEP move) (moves_in event))) }
+        (λ event. IsTrue (list_all (λ move. is_point_within MAX_RECORD_MOVE move) (moves_of_event event))) }
 {
     match control {
         STOP => Some(Event::StopBy(step)),
@@ -85,8 +85,8 @@ fn control_event(control: u8, step: Point) -> Option<Event>
 
 /// Returns the move of two bytes; `y` counts downwards.
 fn move_of(x: u8, y: u8) -> Point
-    ensures value { result ≡ move_of_bytes x y }
-    ensures small { IsTrue (is_within GREATEST_STEP result) }
+    ensures value { result ≡ exp_move_of x y }
+    ensures small { IsTrue (is_point_within MAX_RECORD_MOVE result) }
 {
     Point {
         x: signed(x),
@@ -96,7 +96,7 @@ fn move_of(x: u8, y: u8) -> Point
 
 /// Returns a byte as a signed number.
 fn signed(byte: u8) -> i32
-    ensures value { result ≡ signed_of byte }
+    ensures value { result ≡ signed_byte byte }
     ensures small { unsigned_abs result ≤ 128 }
 {
     if byte < 0x80 {

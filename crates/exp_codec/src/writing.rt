@@ -1,17 +1,17 @@
-ghost use Rattle.format_traits.specs.Laws.{KeepsLaws, Writes};
-ghost use Rattle.exp_codec.specs.Format.{exp};
-ghost use Rattle.exp_codec.specs.Writing.{writes};
+ghost use Rattle.format_traits.specs.Laws.{KeepsLaws, EncodesTo};
+ghost use Rattle.exp_codec.specs.Format.{exp_meaning};
+ghost use Rattle.exp_codec.specs.Writing.{exp_writes};
 
-use crate::promises::written_reads_again;
-use crate::spelling::UnitWriter;
+use crate::theorems::written_reads_again;
+use crate::unit_writer::UnitWriter;
 use design_model::{Bytes, Design};
 use format_traits::{WriteFault, put_acts};
 use std::alloc::Global;
 
 /// Writes a design as a file.
 pub fn write_file(alloc: Global, design: &Design) -> Result<Bytes, WriteFault>
-    ensures value { Writes (writes design.now) result }
-    ensures laws { KeepsLaws exp design.now }
+    ensures value { EncodesTo (exp_writes design.now) result }
+    ensures laws { KeepsLaws exp_meaning design.now }
 {
     written_reads_again();
     let mut file = Bytes::new(alloc);

@@ -1,17 +1,17 @@
 -- Worked values of the lookup of a name's format.
 use Rattle.std.proofs.Common.{◌≡◌, ℕ, true, false, List, [], ◌∷◌, map, Some, None, Ok, refl, codes}
-use Rattle.format_traits.specs.Endings.{ending_in, found_in}
+use Rattle.format_traits.specs.Endings.{ending_in, format_index}
 use Rattle.format_traits.specs.Laws.{is_ending_byte}
 use Rattle.format_traits.specs.Meanings.{Meaning}
 use Rattle.format_traits.specs.Readings.{loaded_with}
-use Rattle.format_traits.specs.Records.{over, course_of}
+use Rattle.format_traits.specs.Records.{over, file_commands}
 
 -- a format with that ending, of no further interest
 abbrev pub named : List ℕ → Meaning
 named ending = record {
   ending = ending;
   limit = 121;
-  reads = λ bytes. loaded_with [] [] (course_of (over true));
+  reads = λ bytes. loaded_with [] [] (file_commands (over true));
   writes = λ d. Ok [];
   moves = λ bytes. [];
   shown = λ bytes. [];
@@ -28,22 +28,22 @@ pub known_bare_name : ending_in (codes "dst") ≡ None
 known_bare_name = refl
 
 -- capitals are read as small letters, the first of two equal endings is found, and no other ending is
-pub known_found : found_in (named (codes "exp") ∷ named (codes "dst") ∷ named (codes "dst") ∷ []) (codes "sq.DST") ≡ Some 1
+pub known_found : format_index (named (codes "exp") ∷ named (codes "dst") ∷ named (codes "dst") ∷ []) (codes "sq.DST") ≡ Some 1
 known_found = refl
 
-pub known_found_after_dots : found_in (named (codes "dst") ∷ []) (codes "a.b.dst") ≡ Some 0
+pub known_found_after_dots : format_index (named (codes "dst") ∷ []) (codes "a.b.dst") ≡ Some 0
 known_found_after_dots = refl
 
-pub known_found_alone : found_in (named (codes "dst") ∷ []) (codes ".dst") ≡ Some 0
+pub known_found_alone : format_index (named (codes "dst") ∷ []) (codes ".dst") ≡ Some 0
 known_found_alone = refl
 
-pub known_not_found : found_in (named (codes "dst") ∷ []) (codes "a.jef") ≡ None
+pub known_not_found : format_index (named (codes "dst") ∷ []) (codes "a.jef") ≡ None
 known_not_found = refl
 
-pub known_not_found_without_dot : found_in (named (codes "dst") ∷ []) (codes "dst") ≡ None
+pub known_not_found_without_dot : format_index (named (codes "dst") ∷ []) (codes "dst") ≡ None
 known_not_found_without_dot = refl
 
-pub known_not_found_at_end : found_in (named (codes "dst") ∷ []) (codes "a.") ≡ None
+pub known_not_found_at_end : format_index (named (codes "dst") ∷ []) (codes "a.") ≡ None
 known_not_found_at_end = refl
 
 -- a, z, 0 and 9 may stand in an ending, and what lies next to them and capitals may not

@@ -9,39 +9,40 @@ use Rattle.format_traits.specs.declared.fault.ReadFault.TheVariants as read
 use Rattle.format_traits.specs.declared.fault.WriteFault.{WriteFault}
 use Rattle.format_traits.specs.declared.fault.WriteFault.TheVariants as write
 use Rattle.format_traits.specs.declared.loaded.Loaded.{Loaded}
-use Rattle.format_traits.specs.Laws.{IsAgain, IsEnding, MovesWithin, Reads, Writes}
+use Rattle.format_traits.specs.Laws.{HasSameActs, IsFileEnding, MovesWithin, DecodesTo, EncodesTo}
 use Rattle.format_traits.specs.Meanings.{Meaning}
-use Rattle.format_traits.specs.Spellings.{RefusedAs}
+use Rattle.format_traits.specs.RecordEncodings.{IsSpecifiedRefusal}
 use Rattle.format_traits.proofs.EndingFacts.{named}
 
 -- an ending has a byte, and no capital
-pub known_ending : IsEnding (codes "m4")
+pub known_ending : IsFileEnding (codes "m4")
 known_ending = record { some = omega arith; spelled = refl }
 
-pub known_no_ending : IsEnding [] → ⊥
+pub known_no_ending : IsFileEnding [] → ⊥
 known_no_ending ending = omega (arith, ending.some)
 
-pub known_capital : IsEnding (codes "dsT") → ⊥
+pub known_capital : IsFileEnding (codes "dsT") → ⊥
 known_capital ending = true≢false (sym ending.spelled)
 
 -- no result except out of memory is allowed in place of the specified one
 abbrev want : Result Loaded ReadFault
 want = Err read.Memory
 
-pub known_reads : (Reads want (Err (read.Short 7)) → ⊥) × (Reads want (Err (read.Signature 7)) → ⊥) × (Reads want (Err (read.Sequin 7)) → ⊥)
-    × (Reads want (Err (read.Control 7)) → ⊥) × (Reads want (Err (read.Range 7)) → ⊥) × (Reads want (Err (read.TooMany 7)) → ⊥)
+pub known_reads : (DecodesTo want (Err (read.Short 7)) → ⊥) × (DecodesTo want (Err (read.Signature 7)) → ⊥)
+    × (DecodesTo want (Err (read.Sequin 7)) → ⊥)
+    × (DecodesTo want (Err (read.Control 7)) → ⊥) × (DecodesTo want (Err (read.Range 7)) → ⊥) × (DecodesTo want (Err (read.TooMany 7)) → ⊥)
 known_reads = (λ is. cc, λ is. cc, λ is. cc, λ is. cc, λ is. cc, λ is. cc)
 
 abbrev unwritten : Result (List ℕ) WriteFault
 unwritten = Err write.Memory
 
-pub known_writes : (Writes unwritten (Ok []) → ⊥) × (Writes unwritten (Err (write.StitchTooLong 7)) → ⊥)
-    × (Writes unwritten (Err (write.FloatTooLong 7)) → ⊥) × (Writes unwritten (Err (write.TooManyStops 7)) → ⊥)
-    × (Writes unwritten (Err (write.TooLong 7)) → ⊥)
+pub known_writes : (EncodesTo unwritten (Ok []) → ⊥) × (EncodesTo unwritten (Err (write.StitchTooLong 7)) → ⊥)
+    × (EncodesTo unwritten (Err (write.FloatTooLong 7)) → ⊥) × (EncodesTo unwritten (Err (write.TooManyStops 7)) → ⊥)
+    × (EncodesTo unwritten (Err (write.TooLong 7)) → ⊥)
 known_writes = (λ is. cc, λ is. cc, λ is. cc, λ is. cc, λ is. cc)
 
-pub known_refused : (RefusedAs None (write.StitchTooLong 7) → ⊥) × (RefusedAs None (write.FloatTooLong 7) → ⊥)
-    × (RefusedAs None (write.TooManyStops 7) → ⊥) × (RefusedAs None (write.TooLong 7) → ⊥)
+pub known_refused : (IsSpecifiedRefusal None (write.StitchTooLong 7) → ⊥) × (IsSpecifiedRefusal None (write.FloatTooLong 7) → ⊥)
+    × (IsSpecifiedRefusal None (write.TooManyStops 7) → ⊥) × (IsSpecifiedRefusal None (write.TooLong 7) → ⊥)
 known_refused = (λ is. cc, λ is. cc, λ is. cc, λ is. cc)
 
 -- one stitch, and the same with a trim
@@ -52,13 +53,13 @@ abbrev trimmed : DesignValue
 trimmed = record { label = []; threads = []; commands = Stitch origin ∷ Trim ∷ [] }
 
 -- what reads back has all acts, and an end
-pub known_lost : IsAgain trimmed (record { design = stitch; ended = true }) → ⊥
+pub known_lost : HasSameActs trimmed (record { design = stitch; ended = true }) → ⊥
 known_lost again = fewer again.acts
   where
     fewer : act.Needle origin false ∷ [] ≡ act.Needle origin false ∷ act.Trim ∷ [] → ⊥
     fewer is = cc
 
-pub known_unended : IsAgain stitch (record { design = stitch; ended = false }) → ⊥
+pub known_unended : HasSameActs stitch (record { design = stitch; ended = false }) → ⊥
 known_unended again = true≢false (sym again.ended)
 
 -- a format with the limit 121 whose files move by 121, or farther

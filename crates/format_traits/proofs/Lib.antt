@@ -1,14 +1,14 @@
 mod EndingFacts
-pub mod KeepingLemmas
+pub mod CommandAddingLemmas
 pub mod LabelLemmas
 pub mod EndingLemmas
 pub mod PointLemmas
 mod LawFacts
 mod LimitFacts
-mod PlacingFacts
-pub mod StreamLemmas
+mod MoveHopFacts
+pub mod DecoderStateLemmas
 pub mod FeedLemmas
 mod RecordFacts
-mod RereadingFacts
+mod RoundTripFacts
 pub mod WriterLemmas
 pub mod rereading

@@ -5,10 +5,10 @@ use Rattle.std.proofs.lemmas.Int.{ints}
 use Rattle.std.proofs.lemmas.Bool.Decides.{Decides-int_eq}
 use Rattle.std.specs.Ordering.{int_eq}
 use Rattle.design_model.specs.declared.point.Point.{Point}
-use Rattle.design_model.specs.Points.{is_within, is_same_point, origin, size_of}
-use Rattle.format_traits.specs.Placing.{moved}
+use Rattle.design_model.specs.Points.{is_point_within, is_same_point, origin, move_size}
+use Rattle.format_traits.specs.MoveHops.{position_after_move}
 
-pub within_parts : (limit : ℕ) (m : Point) → IsTrue (is_within limit m)
+pub within_parts : (limit : ℕ) (m : Point) → IsTrue (is_point_within limit m)
     → (unsigned_abs m.x ≤ limit) × (unsigned_abs m.y ≤ limit)
 within_parts limit m within =
     let both = and_parts (nat_le (unsigned_abs m.x) limit) (nat_le (unsigned_abs m.y) limit) within in
@@ -16,17 +16,17 @@ within_parts limit m within =
 
 -- a point is within a limit where both coordinates are
 pub within_from : (limit : ℕ) (m : Point) → unsigned_abs m.x ≤ limit → unsigned_abs m.y ≤ limit
-    → IsTrue (is_within limit m)
+    → IsTrue (is_point_within limit m)
 within_from limit m x y = and_from (nat_le (unsigned_abs m.x) limit) (nat_le (unsigned_abs m.y) limit)
     (le-leb (unsigned_abs m.x) limit x) (le-leb (unsigned_abs m.y) limit y)
 
-pub within_more : (limit more : ℕ) (m : Point) → limit ≤ more → IsTrue (is_within limit m) → IsTrue (is_within more m)
+pub within_more : (limit more : ℕ) (m : Point) → limit ≤ more → IsTrue (is_point_within limit m) → IsTrue (is_point_within more m)
 within_more limit more m less here =
     let parts = within_parts limit m here in
     within_from more m (omega (arith, parts.0, less)) (omega (arith, parts.1, less))
 
 -- a move whose size is at most the limit is within it
-pub within-size : (limit : ℕ) (m : Point) → size_of m ≤ limit → IsTrue (is_within limit m)
+pub within-size : (limit : ℕ) (m : Point) → move_size m ≤ limit → IsTrue (is_point_within limit m)
 within-size limit m small = within_from limit m (omega (arith, small)) (omega (arith, small))
 
 -- points are equal where their coordinates are
@@ -42,8 +42,8 @@ same_points p q same =
     let y : p.y ≡ q.y = (Decides-int_eq p.y q.y).0 both.1 in
     same_point x y
 
-pub moved-none : (place : Point) → moved place origin ≡ place
-moved-none place = same_point (none place.x) (none place.y)
+pub position_after_move-none : (place : Point) → position_after_move place origin ≡ place
+position_after_move-none place = same_point (none place.x) (none place.y)
   where
     none : (x : ℤ) → x +ℤ pos 0 ≡ x
     none x = omega (arith, ints)

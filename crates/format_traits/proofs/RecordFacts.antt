@@ -6,10 +6,10 @@ use Rattle.design_model.specs.declared.point.Point.{Point}
 use Rattle.design_model.specs.Acts.{numbered}
 use Rattle.format_traits.specs.declared.event.Event.TheVariants as event
 use Rattle.format_traits.specs.declared.fault.ReadFault.TheVariants as fault
-use Rattle.format_traits.specs.declared.standing.Reach.{Reach}
-use Rattle.format_traits.specs.Layouts.{Layout, given_by, reads_by}
-use Rattle.format_traits.specs.Records.{Records, over, refused, next, course_of, cuts, given_from, given_of, moves_from, moves_of, reads_from}
-use Rattle.format_traits.specs.Spellings.{Spelling, records_of}
+use Rattle.format_traits.specs.declared.encoder_state.WriteLimits.{WriteLimits}
+use Rattle.format_traits.specs.Layouts.{Layout, layout_decoded, layout_reads}
+use Rattle.format_traits.specs.Records.{Records, over, refused, next, file_commands, trims_or_stops, decoded_commands_from, decoded_commands, moves_of_records_from, moves_of_records, file_commands_from}
+use Rattle.format_traits.specs.RecordEncodings.{RecordEncoding, records_of_acts}
 
 abbrev pub point : ℤ → ℤ → Point
 point x y = record { x = x; y = y }
@@ -20,7 +20,7 @@ all_kinds = next 0 (event.Stitch (point (pos 1) (pos 0))) (next 2 (event.Jump (p
     (next 4 (event.TrimmedJump (point (pos 1) (pos 1))) (next 6 event.Trim (next 8 event.Stop
     (next 10 (event.StopBy (point (pos 0) (pos 0))) (next 12 (event.StopBy (point (negsuc 1) (pos 0))) (over true)))))))
 
-pub known_course : course_of all_kinds ≡ Ok (record {
+pub known_course : file_commands all_kinds ≡ Ok (record {
   commands = Stitch (point (pos 1) (pos 0)) ∷ Jump (point (pos 1) (pos 2)) ∷ Trim ∷ Jump (point (pos 2) (pos 3))
       ∷ Trim ∷ Stop ∷ Stop ∷ Stop ∷ Jump (point (pos 0) (pos 3)) ∷ [];
   ended = true;
@@ -28,7 +28,7 @@ pub known_course : course_of all_kinds ≡ Ok (record {
 known_course = refl
 
 -- a trim and a stop have no move
-pub known_moves : moves_of all_kinds ≡ point (pos 1) (pos 0) ∷ point (pos 0) (pos 2) ∷ point (pos 1) (pos 1)
+pub known_moves : moves_of_records all_kinds ≡ point (pos 1) (pos 0) ∷ point (pos 0) (pos 2) ∷ point (pos 1) (pos 1)
     ∷ point (pos 0) (pos 0) ∷ point (negsuc 1) (pos 0) ∷ []
 known_moves = refl
 
@@ -36,10 +36,10 @@ known_moves = refl
 abbrev pub too_far : Records
 too_far = next 7 (event.Jump (point (pos 30001) (pos 0))) (next 9 (event.Stitch (point (pos 0) (pos 0))) (refused (fault.Sequin 11)))
 
-pub known_range : course_of too_far ≡ Err (fault.Range 9)
+pub known_range : file_commands too_far ≡ Err (fault.Range 9)
 known_range = refl
 
-pub known_moves_before : moves_of too_far ≡ point (pos 30001) (pos 0) ∷ []
+pub known_moves_before : moves_of_records too_far ≡ point (pos 30001) (pos 0) ∷ []
 known_moves_before = refl
 
 -- where 999,999 commands are kept one more is taken and no second; each command of a record is judged for its
@@ -47,39 +47,41 @@ known_moves_before = refl
 abbrev pub cut_to : ℤ → Records
 cut_to x = next 7 (event.TrimmedJump (point x (pos 0))) (over true)
 
-pub known_last : reads_from 999999 (point (pos 0) (pos 0)) (next 7 event.Trim (over true))
+pub known_last : file_commands_from 999999 (point (pos 0) (pos 0)) (next 7 event.Trim (over true))
     ≡ Ok (record { commands = Trim ∷ []; ended = true })
 known_last = refl
 
-pub known_too_many : reads_from 999999 (point (pos 0) (pos 0)) (cut_to (pos 32767)) ≡ Err (fault.TooMany 7)
+pub known_too_many : file_commands_from 999999 (point (pos 0) (pos 0)) (cut_to (pos 32767)) ≡ Err (fault.TooMany 7)
 known_too_many = refl
 
-pub known_second_range : reads_from 999999 (point (pos 0) (pos 0)) (cut_to (pos 32768)) ≡ Err (fault.Range 7)
+pub known_second_range : file_commands_from 999999 (point (pos 0) (pos 0)) (cut_to (pos 32768)) ≡ Err (fault.Range 7)
 known_second_range = refl
 
-pub known_first_too_many : reads_from 1000000 (point (pos 0) (pos 0)) (cut_to (pos 32768)) ≡ Err (fault.TooMany 7)
+pub known_first_too_many : file_commands_from 1000000 (point (pos 0) (pos 0)) (cut_to (pos 32768)) ≡ Err (fault.TooMany 7)
 known_first_too_many = refl
 
-pub known_range_first : reads_from 1000000 (point (pos 0) (pos 0)) (next 7 (event.Jump (point (pos 0) (negsuc 32767))) (over true))
+pub known_range_first : file_commands_from 1000000 (point (pos 0) (pos 0)) (next 7 (event.Jump (point (pos 0) (negsuc 32767))) (over true))
     ≡ Err (fault.Range 7)
 known_range_first = refl
 
 -- the move of a refused record is left out
-pub known_moves_kept : moves_from 999998 (point (pos 0) (pos 0)) (cut_to (pos 5)) ≡ point (pos 5) (pos 0) ∷ []
+pub known_moves_kept : moves_of_records_from 999998 (point (pos 0) (pos 0)) (cut_to (pos 5)) ≡ point (pos 5) (pos 0) ∷ []
 known_moves_kept = refl
 
-pub known_moves_refused : moves_from 999999 (point (pos 0) (pos 0)) (cut_to (pos 5)) ≡ []
+pub known_moves_refused : moves_of_records_from 999999 (point (pos 0) (pos 0)) (cut_to (pos 5)) ≡ []
 known_moves_refused = refl
 
 -- the commands before a refusal are given, and of a record those before the one that is refused
-pub known_given : given_of all_kinds ≡ Stitch (point (pos 1) (pos 0)) ∷ Jump (point (pos 1) (pos 2)) ∷ Trim ∷ Jump (point (pos 2) (pos 3))
+pub known_given : decoded_commands all_kinds ≡ Stitch (point (pos 1) (pos 0)) ∷ Jump (point (pos 1) (pos 2)) ∷ Trim
+    ∷ Jump (point (pos 2) (pos 3))
     ∷ Trim ∷ Stop ∷ Stop ∷ Stop ∷ Jump (point (pos 0) (pos 3)) ∷ []
 known_given = refl
 
-pub known_given_before : map given_of (too_far ∷ cut_to (pos 32768) ∷ []) ≡ (Jump (point (pos 30001) (pos 0)) ∷ []) ∷ (Trim ∷ []) ∷ []
+pub known_given_before : map decoded_commands (too_far ∷ cut_to (pos 32768) ∷ []) ≡ (Jump (point (pos 30001) (pos 0)) ∷ []) ∷ (Trim ∷ [])
+    ∷ []
 known_given_before = refl
 
-pub known_given_room : map (λ count. given_from count (point (pos 0) (pos 0)) (cut_to (pos 5))) (999998 ∷ 999999 ∷ 1000000 ∷ [])
+pub known_given_room : map (λ count. decoded_commands_from count (point (pos 0) (pos 0)) (cut_to (pos 5))) (999998 ∷ 999999 ∷ 1000000 ∷ [])
     ≡ (Trim ∷ Jump (point (pos 5) (pos 0)) ∷ []) ∷ (Trim ∷ []) ∷ [] ∷ []
 known_given_room = refl
 
@@ -87,12 +89,13 @@ known_given_room = refl
 abbrev two_records : Records
 two_records = next 7 event.Trim (next 8 (event.Jump (point (pos 5) (pos 0))) (over true))
 
-pub known_counted : (reads_from 999999 (point (pos 0) (pos 0)) two_records ≡ Err (fault.TooMany 8))
-    × (given_from 999999 (point (pos 0) (pos 0)) two_records ≡ Trim ∷ []) × (moves_from 999999 (point (pos 0) (pos 0)) two_records ≡ [])
+pub known_counted : (file_commands_from 999999 (point (pos 0) (pos 0)) two_records ≡ Err (fault.TooMany 8))
+    × (decoded_commands_from 999999 (point (pos 0) (pos 0)) two_records ≡ Trim ∷ [])
+    × (moves_of_records_from 999999 (point (pos 0) (pos 0)) two_records ≡ [])
 known_counted = (refl, refl, refl)
 
 -- which events trim or stop
-pub known_cuts : map cuts (event.Stitch (point (pos 0) (pos 0)) ∷ event.Jump (point (pos 0) (pos 0))
+pub known_cuts : map trims_or_stops (event.Stitch (point (pos 0) (pos 0)) ∷ event.Jump (point (pos 0) (pos 0))
     ∷ event.TrimmedJump (point (pos 0) (pos 0)) ∷ event.Trim ∷ event.Stop ∷ event.StopBy (point (pos 0) (pos 0)) ∷ [])
     ≡ false ∷ false ∷ true ∷ true ∷ true ∷ true ∷ []
 known_cuts = refl
@@ -107,22 +110,22 @@ two_bytes = record {
 }
 
 -- the header is short, alone, and before a byte at the offset 7
-pub known_layout : map (reads_by two_bytes 5) ((65 ∷ []) ∷ (65 ∷ 9 ∷ []) ∷ (65 ∷ 9 ∷ 1 ∷ []) ∷ [])
+pub known_layout : map (layout_reads two_bytes 5) ((65 ∷ []) ∷ (65 ∷ 9 ∷ []) ∷ (65 ∷ 9 ∷ 1 ∷ []) ∷ [])
     ≡ Err (fault.Short 6)
     ∷ Ok (record { design = record { label = 65 ∷ []; threads = 9 ∷ []; commands = Stitch (point (pos 0) (pos 7)) ∷ [] }; ended = false })
     ∷ Ok (record { design = record { label = 65 ∷ []; threads = 9 ∷ []; commands = Stitch (point (pos 1) (pos 7)) ∷ [] }; ended = false })
     ∷ []
 known_layout = refl
 
-pub known_layout_given : map (given_by two_bytes 5) ((65 ∷ []) ∷ (65 ∷ 9 ∷ []) ∷ []) ≡ [] ∷ (Stitch (point (pos 0) (pos 7)) ∷ []) ∷ []
+pub known_layout_given : map (layout_decoded two_bytes 5) ((65 ∷ []) ∷ (65 ∷ 9 ∷ []) ∷ []) ≡ [] ∷ (Stitch (point (pos 0) (pos 7)) ∷ []) ∷ []
 known_layout_given = refl
 
 -- a refusal by a format
-pub known_refusal : course_of (next 0 event.Trim (refused (fault.Control 4))) ≡ Err (fault.Control 4)
+pub known_refusal : file_commands (next 0 event.Trim (refused (fault.Control 4))) ≡ Err (fault.Control 4)
 known_refusal = refl
 
 -- records that are encoded by their kind, and numbers of stops as they are
-abbrev pub plain_spelling : Spelling
+abbrev pub plain_spelling : RecordEncoding
 plain_spelling = record {
   stitch = λ m. 1 ∷ [];
   jump = λ m. 2 ∷ [];
@@ -131,11 +134,11 @@ plain_spelling = record {
 }
 
 -- a format with the limit 121 and a maximum of hops of a float
-abbrev pub with_most : ℕ → Reach
+abbrev pub with_most : ℕ → WriteLimits
 with_most most = record { limit = 121; float_hops = Some most; stops = None }
 
 -- two hops to a loose needle, a trim, two stops, a loose needle in place, a float of 300 and one of no length
-pub known_records : records_of plain_spelling (with_most 4) (numbered 1 (Needle (point (pos 200) (pos 0)) false)
+pub known_records : records_of_acts plain_spelling (with_most 4) (numbered 1 (Needle (point (pos 200) (pos 0)) false)
     ∷ numbered 2 TrimAct ∷ numbered 3 StopAct ∷ numbered 4 StopAct ∷ numbered 5 (Needle (point (pos 200) (pos 0)) false)
     ∷ numbered 7 (Needle (point (pos 500) (pos 0)) true) ∷ numbered 9 (Needle (point (pos 500) (pos 0)) true) ∷ [])
     ≡ (2 ∷ []) ∷ (2 ∷ []) ∷ (1 ∷ []) ∷ (3 ∷ []) ∷ (3 ∷ []) ∷ (4 ∷ 0 ∷ []) ∷ (4 ∷ 1 ∷ []) ∷ (1 ∷ [])
@@ -143,7 +146,7 @@ pub known_records : records_of plain_spelling (with_most 4) (numbered 1 (Needle 
 known_records = refl
 
 -- the longest float that is allowed ends in a stitch in the place of its last jump
-pub known_longest_float : records_of plain_spelling (with_most 3) (numbered 1 (Needle (point (pos 0) (pos 0)) false)
+pub known_longest_float : records_of_acts plain_spelling (with_most 3) (numbered 1 (Needle (point (pos 0) (pos 0)) false)
     ∷ numbered 3 (Needle (point (pos 300) (pos 0)) true) ∷ [])
     ≡ (1 ∷ []) ∷ (2 ∷ []) ∷ (2 ∷ []) ∷ (1 ∷ []) ∷ []
 known_longest_float = refl

@@ -16,20 +16,21 @@ ending_in [] = None
 ending_in (byte ∷ rest) = after_dot byte rest (ending_in rest)
 
 -- The index of the first format with the ending, where the first format of the list has index n.
-abbrev pub found_from : ℕ → List ℕ → List Meaning → Option ℕ
-found_from n ending [] = None
-found_from n ending (m ∷ more) =
-    if bytes_eq m.ending ending then Some n else found_from (n + 1) ending more
+abbrev pub ending_index_from : ℕ → List ℕ → List Meaning → Option ℕ
+ending_index_from n ending [] = None
+ending_index_from n ending (m ∷ more) =
+    if bytes_eq m.ending ending then Some n else ending_index_from (n + 1) ending more
 
 -- The index of the first format with the ending of a name, if the name has one.
-abbrev pub found_for : List Meaning → Option (List ℕ) → Option ℕ
-found_for meanings (Some ending) = found_from 0 (str_to_ascii_lowercase ending) meanings
-found_for meanings None = None
+abbrev pub ending_index : List Meaning → Option (List ℕ) → Option ℕ
+ending_index meanings (Some ending) = ending_index_from 0 (str_to_ascii_lowercase ending) meanings
+ending_index meanings None = None
 
 -- The index of the format of a file name: the first whose ending is the name's.
-abbrev pub found_in : List Meaning → List ℕ → Option ℕ
-found_in meanings name = found_for meanings (ending_in name)
+abbrev pub format_index : List Meaning → List ℕ → Option ℕ
+format_index meanings name = ending_index meanings (ending_in name)
 
 -- The format of a file name: the first whose ending is the name's.
 abbrev pub format_of : List Meaning → List ℕ → Option Meaning
-format_of formats name = option_and_then (λ place. slice_get formats place) (found_in formats name)
+format_of formats name = option_and_then (λ place. slice_get formats place)
+    (format_index formats name)

@@ -6,11 +6,11 @@ use Rattle.format_traits.specs.declared.fault.WriteFault.{WriteFault}
 use Rattle.format_traits.specs.declared.fault.WriteFault.TheVariants as write
 
 -- True for the fault of reading that reports out of memory.
-abbrev pub read_wants : ReadFault → Bool
-read_wants read.Memory = true
-read_wants other = false
+abbrev pub read_is_out_of_memory : ReadFault → Bool
+read_is_out_of_memory read.Memory = true
+read_is_out_of_memory other = false
 
 -- True for the fault of writing that reports out of memory.
-abbrev pub write_wants : WriteFault → Bool
-write_wants write.Memory = true
-write_wants other = false
+abbrev pub write_is_out_of_memory : WriteFault → Bool
+write_is_out_of_memory write.Memory = true
+write_is_out_of_memory other = false

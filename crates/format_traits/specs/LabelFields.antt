@@ -4,41 +4,41 @@ use Rattle.design_model.specs.declared.design.TheConstants.{MAX_LABEL}
 use Rattle.design_model.specs.Labels.{IsLabel}
 
 -- A text padded with spaces at its right to `places` bytes.
-abbrev pub filled_right : ℕ → List ℕ → List ℕ
-filled_right places text = text ++ replicate (places - length text) 32
+abbrev pub padded_right : ℕ → List ℕ → List ℕ
+padded_right places text = text ++ replicate (places - length text) 32
 
 -- A text padded with spaces at its left to `places` bytes.
-abbrev pub filled_left : ℕ → List ℕ → List ℕ
-filled_left places text = replicate (places - length text) 32 ++ text
+abbrev pub padded_left : ℕ → List ℕ → List ℕ
+padded_left places text = replicate (places - length text) 32 ++ text
 
 -- The field of a label: the label padded with spaces at its right.
 abbrev pub label_field : List ℕ → List ℕ
-label_field label = filled_right MAX_LABEL label
+label_field label = padded_right MAX_LABEL label
 
 -- A byte as it is read in a label: a byte that no label may contain is read as a question mark.
-abbrev pub shown : ℕ → ℕ
-shown byte = if nat_le 32 byte && nat_le byte 126 then byte else 63
+abbrev pub printable_byte : ℕ → ℕ
+printable_byte byte = if nat_le 32 byte && nat_le byte 126 then byte else 63
 
 -- A byte before a text without spaces at its end: a space before the empty text is dropped.
-abbrev pub before_trimmed : ℕ → List ℕ → List ℕ
-before_trimmed byte [] = if byte == 32 then [] else byte ∷ []
-before_trimmed byte (next ∷ rest) = byte ∷ next ∷ rest
+abbrev pub byte_unless_end_space : ℕ → List ℕ → List ℕ
+byte_unless_end_space byte [] = if byte == 32 then [] else byte ∷ []
+byte_unless_end_space byte (next ∷ rest) = byte ∷ next ∷ rest
 
 -- A text without the spaces at its end.
-abbrev pub trimmed : List ℕ → List ℕ
-trimmed [] = []
-trimmed (byte ∷ rest) = before_trimmed byte (trimmed rest)
+abbrev pub without_end_spaces : List ℕ → List ℕ
+without_end_spaces [] = []
+without_end_spaces (byte ∷ rest) = byte_unless_end_space byte (without_end_spaces rest)
 
 -- The label that a field contains: unprintable bytes become question marks, and spaces at the end
 -- are dropped.
 abbrev pub label_in : List ℕ → List ℕ
-label_in field = trimmed (map shown field)
+label_in field = without_end_spaces (map printable_byte field)
 
 -- A label field has its 16 bytes, and the label is read back from it.
-pub record IsReadBack (label : List ℕ) : Type 0 where
+pub record LabelFieldRoundTrips (label : List ℕ) : Type 0 where
   pub places : length (label_field label) ≡ MAX_LABEL
   pub back : label_in (label_field label) ≡ label
 
 -- Theorem: each label is read back from its field.
-abbrev pub LabelFieldsReadBack : Type 0
-LabelFieldsReadBack = (label : List ℕ) → IsLabel label → IsReadBack label
+abbrev pub LabelFieldsRoundTrip : Type 0
+LabelFieldsRoundTrip = (label : List ℕ) → IsLabel label → LabelFieldRoundTrips label

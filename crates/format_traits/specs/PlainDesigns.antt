@@ -7,8 +7,8 @@ use Rattle.design_model.specs.declared.design.TheConstants.{MAX_COMMANDS}
 use Rattle.design_model.specs.declared.point.Point.{Point}
 use Rattle.design_model.specs.Acts.{acts_of}
 use Rattle.design_model.specs.Designs.{DesignValue}
-use Rattle.design_model.specs.Points.{is_within, origin, move_between}
-use Rattle.design_model.specs.ActPlaces.{place_after, is_loose_after}
+use Rattle.design_model.specs.Points.{is_point_within, origin, move_between}
+use Rattle.design_model.specs.ActPositions.{needle_position_after, leaves_thread_loose}
 use Rattle.format_traits.specs.Refusals.{stops_of}
 use Rattle.format_traits.specs.Rooms.{room_of}
 
@@ -16,7 +16,7 @@ use Rattle.format_traits.specs.Rooms.{room_of}
 -- the needle before unless the thread is loose.
 abbrev pub is_plain_act : ℕ → Bool → Point → Act → Bool
 is_plain_act limit loose place (act.Needle p float) =
-    not float && (loose || is_within limit (move_between place p))
+    not float && (loose || is_point_within limit (move_between place p))
 is_plain_act limit loose place act.Trim = true
 is_plain_act limit loose place act.Stop = true
 
@@ -24,7 +24,7 @@ is_plain_act limit loose place act.Stop = true
 abbrev pub are_plain_from : ℕ → Bool → Point → List NumberedAct → Bool
 are_plain_from limit loose place [] = true
 are_plain_from limit loose place (a ∷ rest) = is_plain_act limit loose place a.act
-    && are_plain_from limit (is_loose_after a.act) (place_after place a.act) rest
+    && are_plain_from limit (leaves_thread_loose a.act) (needle_position_after place a.act) rest
 
 -- A plain design for a limit: no float, no stitch beyond the limit, at most 254 stops, and room for
 -- its acts.

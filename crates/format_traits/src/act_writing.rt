@@ -3,19 +3,19 @@ ghost use Rattle.std.specs.List.{concat, list_all};
 ghost use Rattle.design_model.specs.declared.design.TheConstants.{MAX_COMMANDS};
 ghost use Rattle.design_model.specs.declared.point.TheConstants.{NEEDLE_LIMIT};
 ghost use Rattle.design_model.specs.Acts.{acts_along};
-ghost use Rattle.design_model.specs.ActPlaces.{is_act_in_range};
-ghost use Rattle.design_model.specs.Commands.{is_in_range};
-ghost use Rattle.design_model.specs.Points.{is_within, size_of as size};
-ghost use Rattle.format_traits.specs.declared.placing.TheConstants.{GREATEST_MOVE, MOST_HOPS};
-ghost use Rattle.format_traits.specs.Placing.{parts_from};
-ghost use Rattle.format_traits.specs.Spellings.{IsAccepted, IsSound, PutsAct, PutsActs, float_records, hop_records, is_most as is_most_of, needle_records, records_of_act, stitched_records};
+ghost use Rattle.design_model.specs.ActPositions.{is_act_in_range};
+ghost use Rattle.design_model.specs.Commands.{is_command_in_range};
+ghost use Rattle.design_model.specs.Points.{is_point_within, move_size};
+ghost use Rattle.format_traits.specs.declared.move_hops.TheConstants.{MAX_MOVE, MAX_HOPS};
+ghost use Rattle.format_traits.specs.MoveHops.{part_moves_from};
+ghost use Rattle.format_traits.specs.RecordEncodings.{IsAcceptedAct, IsEncoderStateInRange, AppendsActRecords, AppendsRecords, float_records, hop_records, is_at_max, needle_records, records_of_act, stitched_hop_records};
 
+use crate::encoder_state::EncoderState;
 use crate::fault::WriteFault;
-use crate::placing::{GREATEST_MOVE, MOST_HOPS, hops, move_between, part_move};
+use crate::move_hops::{MAX_HOPS, MAX_MOVE, hops, move_between, part_move};
 use crate::record_writer::RecordWriter;
-use crate::standing::Standing;
 use design_model::{
-    Act, ActWalk, Bytes, Command, MAX_COMMANDS, Memory, NEEDLE_LIMIT, NumberedAct, Point,
+    Act, ActScanner, Bytes, Command, MAX_COMMANDS, Memory, NEEDLE_LIMIT, NumberedAct, Point,
 };
 
 /// Appends the records of a design's acts, and returns the encoder's state after them. An act that the format
@@ -24,23 +24,23 @@ pub fn put_acts<W: RecordWriter>(
     writer: &W,
     out: &mut Bytes,
     commands: &[Command],
-) -> Result<Standing, WriteFault>
+) -> Result<EncoderState, WriteFault>
     requires count { length commands.now ≤ MAX_COMMANDS }
-    requires in_range { IsTrue (list_all is_in_range commands.now) }
-    ensures { PutsActs (W.spelling writer.now) (W.reach writer.now) (acts_along commands.now)
+    requires in_range { IsTrue (list_all is_command_in_range commands.now) }
+    ensures { AppendsRecords (W.encoding writer.now) (W.write_limits writer.now) (acts_along commands.now)
         out.old result out.new }
 {
-    let mut standing = Standing::new();
-    let mut walk = ActWalk::new();
+    let mut state = EncoderState::new();
+    let mut walk = ActScanner::new();
     for command in commands {
         let Some(act) = walk.next(*command) else {
             continue;
         };
-        if let Err(fault) = put_act(writer, out, &mut standing, act) {
+        if let Err(fault) = put_act(writer, out, &mut state, act) {
             return Err(fault);
         }
     }
-    Ok(standing)
+    Ok(state)
 }
 
 /// Appends the records of an act and updates the encoder state, or reports why the format cannot write the
@@ -51,20 +51,20 @@ pub fn put_acts<W: RecordWriter>(
 fn put_act<W: RecordWriter>(
     writer: &W,
     out: &mut Bytes,
-    standing: &mut Standing,
+    state: &mut EncoderState,
     act: NumberedAct,
 ) -> Result<(), WriteFault>
-    requires sound { IsSound standing.old }
+    requires sound { IsEncoderStateInRange state.old }
     requires act { IsTrue (is_act_in_range act.act) }
-    ensures value { PutsAct (W.spelling writer.now) (W.reach writer.now) standing.old act
-        out.old result standing.new out.new }
-    ensures sound { OnOk result (IsSound standing.new) }
+    ensures value { AppendsActRecords (W.encoding writer.now) (W.write_limits writer.now) state.old act
+        out.old result state.new out.new }
+    ensures sound { OnOk result (IsEncoderStateInRange state.new) }
 {
     match act.act {
-        Act::Needle { float: false, .. } if !standing.loose => {
-            put_act_here(writer, out, standing, act)
+        Act::Needle { float: false, .. } if !state.loose => {
+            put_act_here(writer, out, state, act)
         }
-        _ => put_act_copied(writer, out, standing, act),
+        _ => put_act_copied(writer, out, state, act),
     }
 }
 
@@ -74,22 +74,22 @@ fn put_act<W: RecordWriter>(
 fn put_act_copied<W: RecordWriter>(
     writer: &W,
     out: &mut Bytes,
-    standing: &mut Standing,
+    state: &mut EncoderState,
     act: NumberedAct,
 ) -> Result<(), WriteFault>
-    requires sound { IsSound standing.old }
+    requires sound { IsEncoderStateInRange state.old }
     requires act { IsTrue (is_act_in_range act.act) }
-    ensures value { PutsAct (W.spelling writer.now) (W.reach writer.now) standing.old act
-        out.old result standing.new out.new }
-    ensures sound { OnOk result (IsSound standing.new) }
+    ensures value { AppendsActRecords (W.encoding writer.now) (W.write_limits writer.now) state.old act
+        out.old result state.new out.new }
+    ensures sound { OnOk result (IsEncoderStateInRange state.new) }
 {
     let copy = NumberedAct {
         number: act.number,
         act: act.act,
     };
-    let mut after = *standing;
+    let mut after = *state;
     put_act_apart(writer, out, &mut after, copy)?;
-    *standing = after;
+    *state = after;
     Ok(())
 }
 
@@ -100,19 +100,19 @@ fn put_act_copied<W: RecordWriter>(
 fn put_act_apart<W: RecordWriter>(
     writer: &W,
     out: &mut Bytes,
-    standing: &mut Standing,
+    state: &mut EncoderState,
     act: NumberedAct,
 ) -> Result<(), WriteFault>
-    requires sound { IsSound standing.old }
+    requires sound { IsEncoderStateInRange state.old }
     requires act { IsTrue (is_act_in_range act.act) }
-    ensures value { PutsAct (W.spelling writer.now) (W.reach writer.now) standing.old act
-        out.old result standing.new out.new }
-    ensures sound { OnOk result (IsSound standing.new) }
+    ensures value { AppendsActRecords (W.encoding writer.now) (W.write_limits writer.now) state.old act
+        out.old result state.new out.new }
+    ensures sound { OnOk result (IsEncoderStateInRange state.new) }
 {
     match act.act {
-        Act::Needle { .. } if standing.loose => put_act_here(writer, out, standing, act),
-        Act::Stop => put_act_here(writer, out, standing, act),
-        _ => put_act_here(writer, out, standing, act),
+        Act::Needle { .. } if state.loose => put_act_here(writer, out, state, act),
+        Act::Stop => put_act_here(writer, out, state, act),
+        _ => put_act_here(writer, out, state, act),
     }
 }
 
@@ -120,22 +120,22 @@ fn put_act_apart<W: RecordWriter>(
 fn put_act_here<W: RecordWriter>(
     writer: &W,
     out: &mut Bytes,
-    standing: &mut Standing,
+    state: &mut EncoderState,
     act: NumberedAct,
 ) -> Result<(), WriteFault>
-    requires sound { IsSound standing.old }
+    requires sound { IsEncoderStateInRange state.old }
     requires act { IsTrue (is_act_in_range act.act) }
-    ensures value { PutsAct (W.spelling writer.now) (W.reach writer.now) standing.old act
-        out.old result standing.new out.new }
-    ensures sound { OnOk result (IsSound standing.new) }
+    ensures value { AppendsActRecords (W.encoding writer.now) (W.write_limits writer.now) state.old act
+        out.old result state.new out.new }
+    ensures sound { OnOk result (IsEncoderStateInRange state.new) }
 {
-    let before = *standing;
-    let reach = writer.reach();
-    if let Some(fault) = reach.refusal(&before, act.number, act.act) {
+    let before = *state;
+    let write_limits = writer.write_limits();
+    if let Some(fault) = write_limits.refusal(&before, act.number, act.act) {
         return Err(fault);
     }
     put_act_records(writer, out, &before, act.act)?;
-    *standing = before.after(reach.limit, act.act);
+    *state = before.after(write_limits.limit, act.act);
     Ok(())
 }
 
@@ -144,14 +144,14 @@ fn put_act_here<W: RecordWriter>(
 fn put_act_records<W: RecordWriter>(
     writer: &W,
     out: &mut Bytes,
-    before: &Standing,
+    before: &EncoderState,
     act: Act,
 ) -> Result<(), Memory>
-    requires place { IsTrue (is_within NEEDLE_LIMIT before.now.place) }
+    requires place { IsTrue (is_point_within NEEDLE_LIMIT before.now.place) }
     requires act { IsTrue (is_act_in_range act) }
-    requires accepted { IsAccepted (W.reach writer.now) before.now act }
+    requires accepted { IsAcceptedAct (W.write_limits writer.now) before.now act }
     ensures { OnOk result (out.new ≡ out.old
-        ++ concat (records_of_act (W.spelling writer.now) (W.reach writer.now) before.now act)) }
+        ++ concat (records_of_act (W.encoding writer.now) (W.write_limits writer.now) before.now act)) }
 {
     match act {
         Act::Needle { at, float } => put_needle(
@@ -174,16 +174,21 @@ fn put_needle<W: RecordWriter>(
     float: bool,
     step: Point,
 ) -> Result<(), Memory>
-    requires size { size step ≤ GREATEST_MOVE }
-    requires accepted { IsTrue (loose || float || is_within (W.reach writer.now).limit step) }
+    requires size { move_size step ≤ MAX_MOVE }
+    requires accepted { IsTrue (loose || float || is_point_within (W.write_limits writer.now).limit step) }
     ensures { OnOk result (out.new ≡ out.old
-        ++ concat (needle_records (W.spelling writer.now) (W.reach writer.now) loose float step)) }
+        ++ concat (needle_records (W.encoding writer.now) (W.write_limits writer.now) loose float step)) }
 {
     if loose {
-        return put_hops(writer, out, hops(writer.reach().limit, step), step);
+        return put_hops(writer, out, hops(writer.write_limits().limit, step), step);
     }
     if float {
-        return put_float(writer, out, hops(writer.reach().limit, step).max(1), step);
+        return put_float(
+            writer,
+            out,
+            hops(writer.write_limits().limit, step).max(1),
+            step,
+        );
     }
     writer.put_stitch(out, step)
 }
@@ -195,22 +200,22 @@ fn put_float<W: RecordWriter>(
     count: u32,
     step: Point,
 ) -> Result<(), Memory>
-    requires size { size step ≤ GREATEST_MOVE }
+    requires size { move_size step ≤ MAX_MOVE }
     requires some { 0 < count }
-    requires most { count ≤ MOST_HOPS }
-    requires enough { size step ≤ (W.reach writer.now).limit * count }
+    requires most { count ≤ MAX_HOPS }
+    requires enough { move_size step ≤ (W.write_limits writer.now).limit * count }
     ensures { OnOk result (out.new ≡ out.old
-        ++ concat (float_records (W.spelling writer.now) (W.reach writer.now) count step)) }
+        ++ concat (float_records (W.encoding writer.now) (W.write_limits writer.now) count step)) }
 {
-    if is_most(writer.reach().float_hops, count) {
+    if equals_max(writer.write_limits().float_hops, count) {
         return put_stitched(writer, out, count, step);
     }
     put_hops(writer, out, count, step)
 }
 
 /// Returns whether a number is the maximum, if there is one.
-fn is_most(most: Option<u32>, number: u32) -> bool
-    ensures { result ≡ is_most_of most number }
+fn equals_max(most: Option<u32>, number: u32) -> bool
+    ensures { result ≡ is_at_max most number }
 {
     match most {
         Some(most) => number == most,
@@ -225,12 +230,12 @@ fn put_stitched<W: RecordWriter>(
     count: u32,
     step: Point,
 ) -> Result<(), Memory>
-    requires size { size step ≤ GREATEST_MOVE }
+    requires size { move_size step ≤ MAX_MOVE }
     requires some { 0 < count }
-    requires most { count ≤ MOST_HOPS }
-    requires enough { size step ≤ (W.reach writer.now).limit * count }
+    requires most { count ≤ MAX_HOPS }
+    requires enough { move_size step ≤ (W.write_limits writer.now).limit * count }
     ensures { OnOk result (out.new ≡ out.old
-        ++ concat (stitched_records (W.spelling writer.now) count step)) }
+        ++ concat (stitched_hop_records (W.encoding writer.now) count step)) }
 {
     put_jumps(writer, out, count, count - 1, step)?;
     writer.put_stitch(out, part_move(step, count, count - 1))?;
@@ -244,11 +249,11 @@ fn put_hops<W: RecordWriter>(
     count: u32,
     step: Point,
 ) -> Result<(), Memory>
-    requires size { size step ≤ GREATEST_MOVE }
-    requires most { count ≤ MOST_HOPS }
-    requires enough { size step ≤ (W.reach writer.now).limit * count }
+    requires size { move_size step ≤ MAX_MOVE }
+    requires most { count ≤ MAX_HOPS }
+    requires enough { move_size step ≤ (W.write_limits writer.now).limit * count }
     ensures { OnOk result (out.new ≡ out.old ++ concat
-        (hop_records (W.spelling writer.now) count step)) }
+        (hop_records (W.encoding writer.now) count step)) }
 {
     put_jumps(writer, out, count, count, step)?;
     writer.put_stitch(out, Point { x: 0, y: 0 })?;
@@ -263,12 +268,12 @@ fn put_jumps<W: RecordWriter>(
     wanted: u32,
     step: Point,
 ) -> Result<(), Memory>
-    requires size { size step ≤ GREATEST_MOVE }
+    requires size { move_size step ≤ MAX_MOVE }
     requires wanted { wanted ≤ count }
-    requires most { count ≤ MOST_HOPS }
-    requires enough { size step ≤ (W.reach writer.now).limit * count }
+    requires most { count ≤ MAX_HOPS }
+    requires enough { move_size step ≤ (W.write_limits writer.now).limit * count }
     ensures { OnOk result (out.new ≡ out.old
-        ++ concat (map (W.spelling writer.now).jump (parts_from step count 0 wanted))) }
+        ++ concat (map (W.encoding writer.now).jump (part_moves_from step count 0 wanted))) }
 {
     for done in 0..wanted {
         writer.put_jump(out, part_move(step, count, done))?;

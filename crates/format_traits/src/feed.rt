@@ -1,10 +1,10 @@
 ghost use Rattle.std.specs.Prelude.{◌≤◌, length};
 ghost use Rattle.format_traits.specs.declared.feed.TheConstants.{MAX_FED as most_fed};
 
-use crate::decoder::{Decoder, MOST_PENDING};
+use crate::chunk_passing::pass_on;
+use crate::decoder::{Decoder, MAX_PENDING};
 use crate::fault::ReadFault;
 use crate::loaded::Loaded;
-use crate::passing::pass_on;
 use arrayvec::ArrayVec;
 use design_model::{Command, Memory};
 
@@ -19,7 +19,7 @@ pub struct Feed<D: Decoder + Drop> {
     pub start: u32,
     /// The number of bytes fed.
     pub taken: u64,
-    pub pending: ArrayVec<u8, MOST_PENDING>,
+    pub pending: ArrayVec<u8, MAX_PENDING>,
     /// Whether memory ran out.
     pub spoiled: bool,
     ghost fits: { length pending.items ≤ taken },
@@ -27,28 +27,29 @@ pub struct Feed<D: Decoder + Drop> {
 
 /// An object that is fed a file in chunks.
 pub trait Fed {
-    ghost use Rattle.format_traits.specs.Feeding.{Feeding};
+    ghost use Rattle.format_traits.specs.Feeding.{FeedState};
 
     /// The bytes fed, and the file's result and commands as functions of the remaining bytes.
-    ghost feeding: { Self → Feeding };
+    ghost feed_state: { Self → FeedState };
 }
 
 impl<D: Decoder + Drop> Fed for Feed<D> {
-    ghost use Rattle.format_traits.specs.Feeds.{feeding_of};
+    ghost use Rattle.format_traits.specs.FeedStates.{feed_state_of};
 
-    ghost feeding = { λ f. feeding_of (D.stream f.decoder) (D.so_far f.decoder) f.start f.taken f.pending.items
+    ghost feed_state = { λ f. feed_state_of (D.decoder_state f.decoder) (D.so_far f.decoder) f.start
+        f.taken f.pending.items
         f.spoiled };
 }
 
 impl<D: Decoder + Drop> Feed<D> {
     ghost use Rattle.std.specs.Prelude.{◌≡◌, ◌+◌, ◌≤◌, [], false, length};
     ghost use Rattle.format_traits.specs.declared.feed.TheConstants.{MAX_FED as most_fed};
-    ghost use Rattle.format_traits.specs.Feeding.{Feeds, Finishes, IsFresh};
+    ghost use Rattle.format_traits.specs.Feeding.{Feeds, Finishes, HasNothingFed};
 
     /// Returns a feed of a file whose first byte has the offset 0. Allocates nothing.
     pub fn new(decoder: D) -> Self
-        ensures { IsFresh (D.fresh.rest 0) (D.fresh.given 0)
-            (⟦<Feed<D> as Fed>⟧.feeding result) }
+        ensures { HasNothingFed (D.fresh.rest 0) (D.fresh.decoded 0)
+            (⟦<Feed<D> as Fed>⟧.feed_state result) }
     {
         let mut decoder = decoder;
         decoder.begin(0);
@@ -63,8 +64,8 @@ impl<D: Decoder + Drop> Feed<D> {
 
     /// Discards all that was fed. The first byte of the next file has the offset `start`.
     pub fn begin(&mut self, start: u32)
-        ensures { IsFresh (D.fresh.rest start) (D.fresh.given start)
-            (⟦<Feed<D> as Fed>⟧.feeding self.new) }
+        ensures { HasNothingFed (D.fresh.rest start) (D.fresh.decoded start)
+            (⟦<Feed<D> as Fed>⟧.feed_state self.new) }
     {
         self.decoder.begin(start as u64);
         self.start = start;
@@ -78,8 +79,8 @@ impl<D: Decoder + Drop> Feed<D> {
     pub fn feed(&mut self, piece: &[u8]) -> Result<(), Memory>
         requires { self.old.taken + length piece.now ≤ most_fed }
         ensures { Feeds
-            (⟦<Feed<D> as Fed>⟧.feeding self.old) piece.now result
-            (⟦<Feed<D> as Fed>⟧.feeding self.new) }
+            (⟦<Feed<D> as Fed>⟧.feed_state self.old) piece.now result
+            (⟦<Feed<D> as Fed>⟧.feed_state self.new) }
     {
         let at = self.start as u64 + (self.taken - self.pending.len() as u64);
         self.taken += piece.len() as u64;
@@ -101,9 +102,9 @@ impl<D: Decoder + Drop> Feed<D> {
 
     /// Returns the result of the file that was fed. The next file may be fed then, from the offset 0 on.
     pub fn finish(&mut self) -> Result<Loaded, ReadFault>
-        ensures { Finishes (D.fresh.rest 0) (D.fresh.given 0)
-            (⟦<Feed<D> as Fed>⟧.feeding self.old) result
-            (⟦<Feed<D> as Fed>⟧.feeding self.new) }
+        ensures { Finishes (D.fresh.rest 0) (D.fresh.decoded 0)
+            (⟦<Feed<D> as Fed>⟧.feed_state self.old) result
+            (⟦<Feed<D> as Fed>⟧.feed_state self.new) }
     {
         if self.spoiled {
             return Err(ReadFault::Memory);
@@ -122,7 +123,7 @@ impl<D: Decoder + Drop> Feed<D> {
 
     /// Returns the commands read so far.
     pub fn so_far(&self) -> &[Command]
-        ensures { result.now ≡ (⟦<Feed<D> as Fed>⟧.feeding self.now).given [] }
+        ensures { result.now ≡ (⟦<Feed<D> as Fed>⟧.feed_state self.now).decoded [] }
     {
         self.decoder.so_far()
     }

@@ -1,7 +1,7 @@
 ghost use Rattle.std.specs.Prelude.{◌≡◌, ◌++◌, ◌≤◌, length, replicate, OnOk};
 ghost use Rattle.design_model.specs.declared.design.TheConstants.{MAX_LABEL};
 ghost use Rattle.design_model.specs.Designs.{with_label};
-ghost use Rattle.format_traits.specs.LabelFields.{label_field, label_in, shown as shown_as, trimmed as trimmed_text};
+ghost use Rattle.format_traits.specs.LabelFields.{label_field, label_in, printable_byte, without_end_spaces};
 
 use arrayvec::ArrayVec;
 use design_model::{Bytes, Design, MAX_LABEL, Memory};
@@ -40,7 +40,7 @@ pub fn read_label(design: &mut Design, field: &[u8])
 }
 
 fn shown(byte: u8) -> u8
-    ensures { result ≡ shown_as byte }
+    ensures { result ≡ printable_byte byte }
 {
     if 32 <= byte && byte <= 126 {
         byte
@@ -51,7 +51,7 @@ fn shown(byte: u8) -> u8
 
 /// Returns a text without the spaces at its end.
 fn trimmed(text: &[u8]) -> &[u8]
-    ensures { result.now ≡ trimmed_text text.now }
+    ensures { result.now ≡ without_end_spaces text.now }
 {
     let mut rest = text;
     while let [before @ .., last] = rest {

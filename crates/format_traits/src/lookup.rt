@@ -1,6 +1,6 @@
 ghost use Rattle.std.specs.Prelude.{◌≡◌, ◌<◌, length, IfSome, map, option_map, bytes_eq};
 ghost use Rattle.std.specs.Str.{str_to_ascii_lowercase};
-ghost use Rattle.format_traits.specs.Endings.{found_from, found_in, ending_in};
+ghost use Rattle.format_traits.specs.Endings.{ending_index_from, format_index, ending_in};
 
 use crate::boxed::ext_of;
 use crate::format_object::Format;
@@ -8,7 +8,7 @@ use crate::format_object::Format;
 /// Returns the index of the first format whose ending is the part of `name` after its last `.`, with ASCII
 /// capitals read as small letters.
 pub fn find(formats: &[Box<dyn Format>], name: &str) -> Option<usize>
-    ensures value { result ≡ found_in (map (λ f. meaning f) formats.now) name.now }
+    ensures value { result ≡ format_index (map (λ f. meaning f) formats.now) name.now }
     ensures there { IfSome result (λ place. place < length formats.now) }
 {
     match ending_of(name.as_bytes()) {
@@ -19,11 +19,11 @@ pub fn find(formats: &[Box<dyn Format>], name: &str) -> Option<usize>
 
 fn find_ending(formats: &[Box<dyn Format>], ending: &[u8]) -> Option<usize>
     ensures value { result
-        ≡ found_from 0 (str_to_ascii_lowercase ending.now) (map (λ f. meaning f) formats.now) }
+        ≡ ending_index_from 0 (str_to_ascii_lowercase ending.now) (map (λ f. meaning f) formats.now) }
     ensures there { IfSome result (λ place. place < length formats.now) }
 {
     for (index, format) in formats.iter().enumerate() {
-        if is_spelled(ending, ext_of(format).as_bytes()) {
+        if is_lowercase_of(ending, ext_of(format).as_bytes()) {
             return Some(index);
         }
     }
@@ -46,7 +46,7 @@ fn ending_of(name: &[u8]) -> Option<&[u8]>
 }
 
 /// Returns whether a text, in small letters, equals `ending`.
-fn is_spelled(text: &[u8], ending: &[u8]) -> bool
+fn is_lowercase_of(text: &[u8], ending: &[u8]) -> bool
     ensures { result ≡ bytes_eq ending.now (str_to_ascii_lowercase text.now) }
 {
     let mut left = text;

@@ -1,13 +1,13 @@
 ghost use Rattle.std.specs.Prelude.{◌≡◌, true};
 ghost use Rattle.design_model.specs.declared.point.TheConstants.{JUMP_LIMIT};
-ghost use Rattle.design_model.specs.Points.{is_within};
+ghost use Rattle.design_model.specs.Points.{is_point_within};
 
 use crate::decoder::Decoder;
 use crate::fault::ReadFault;
 use crate::loaded::Loaded;
 use crate::record_loop::read_records;
 use crate::record_reader::RecordReader;
-use crate::stage::Stage;
+use crate::record_stage::RecordStage;
 use design_model::{Command, Design, Memory, Point};
 use std::alloc::Global;
 use std::mem::replace;
@@ -19,16 +19,16 @@ pub struct RecordDecoder<R: RecordReader + Drop> {
     reader: R,
     design: Design,
     place: Point,
-    stage: Stage,
-    ghost near: { is_within JUMP_LIMIT place ≡ true },
+    stage: RecordStage,
+    ghost near: { is_point_within JUMP_LIMIT place ≡ true },
 }
 
 impl<R: RecordReader + Drop> RecordDecoder<R> {
     ghost use Rattle.std.specs.Prelude.{◌≡◌, ◌+◌, ◌<◌, ◌^◌, ℕ, [], false, IfOk, length};
-    ghost use Rattle.format_traits.specs.declared.stage.Stage.TheVariants as stage;
-    ghost use Rattle.format_traits.specs.Layouts.{stream_by};
-    ghost use Rattle.format_traits.specs.RecordStreams.{so_far_at, stream_at};
-    ghost use Rattle.format_traits.specs.Streams.{ComesOn, IsSettled, Takes};
+    ghost use Rattle.format_traits.specs.declared.record_stage.RecordStage.TheVariants as stage;
+    ghost use Rattle.format_traits.specs.Layouts.{layout_state};
+    ghost use Rattle.format_traits.specs.RecordStates.{record_so_far_at, record_state_at};
+    ghost use Rattle.format_traits.specs.DecoderStates.{ContinuesAs, IsAtRecordBoundary, TakesBytes};
 
     /// Returns a decoder, which must begin before it takes bytes.
     pub fn new(alloc: Global, reader: R) -> Self {
@@ -37,7 +37,7 @@ impl<R: RecordReader + Drop> RecordDecoder<R> {
             reader,
             design: Design::new(alloc),
             place: Point { x: 0, y: 0 },
-            stage: Stage::Over,
+            stage: RecordStage::Over,
         }
     }
 
@@ -45,12 +45,14 @@ impl<R: RecordReader + Drop> RecordDecoder<R> {
     /// end.
     fn enter(&mut self, header: &[u8]) -> bool
         requires { length header.now ≡ R.layout.header }
-        ensures on { (at : ℕ) → ComesOn (stream_by R.layout)
-            (stream_at R.layout (R.records self.new.reader) self.new.design self.new.place (stage.Records false))
+        ensures on { (at : ℕ) → ContinuesAs (layout_state R.layout)
+            (record_state_at R.layout (R.records self.new.reader) self.new.design self.new.place
+            (stage.Records false))
             at (at + R.layout.header) header.now [] }
-        ensures settled { (at : ℕ) → IsSettled
-            (stream_at R.layout (R.records self.new.reader) self.new.design self.new.place (stage.Records result))
-            (so_far_at self.new.design (stage.Records result)) at [] }
+        ensures settled { (at : ℕ) → IsAtRecordBoundary
+            (record_state_at R.layout (R.records self.new.reader) self.new.design self.new.place
+            (stage.Records result))
+            (record_so_far_at self.new.design (stage.Records result)) at [] }
     {
         self.design = Design::new(self.alloc);
         self.reader.read_header(&mut self.design, header);
@@ -61,13 +63,14 @@ impl<R: RecordReader + Drop> RecordDecoder<R> {
     /// Takes the header once it is complete, and the complete records after it.
     fn take_header(&mut self, at: u64, bytes: &[u8]) -> Result<usize, Memory>
         requires { at + length bytes.now < 2 ^ 64 }
-        ensures { IfOk result (λ size. Takes (stream_by R.layout)
-            (stream_at R.layout (R.records self.new.reader) self.new.design self.new.place self.new.stage)
-            (so_far_at self.new.design self.new.stage) at bytes.now size) }
+        ensures { IfOk result (λ size. TakesBytes (layout_state R.layout)
+            (record_state_at R.layout (R.records self.new.reader) self.new.design self.new.place
+            self.new.stage)
+            (record_so_far_at self.new.design self.new.stage) at bytes.now size) }
     {
         let length = self.reader.header_length();
         if bytes.len() < length {
-            self.stage = Stage::Header(at + bytes.len() as u64);
+            self.stage = RecordStage::Header(at + bytes.len() as u64);
             return Ok(0);
         }
         let (header, behind) = bytes.split_at(length);
@@ -79,10 +82,12 @@ impl<R: RecordReader + Drop> RecordDecoder<R> {
     /// Takes the complete records.
     fn take_records(&mut self, at: u64, bytes: &[u8]) -> Result<usize, Memory>
         requires { at + length bytes.now < 2 ^ 64 }
-        ensures { IfOk result (λ size. Takes
-            (stream_at R.layout (R.records self.old.reader) self.old.design self.old.place (stage.Records false))
-            (stream_at R.layout (R.records self.new.reader) self.new.design self.new.place self.new.stage)
-            (so_far_at self.new.design self.new.stage) at bytes.now size) }
+        ensures { IfOk result (λ size. TakesBytes
+            (record_state_at R.layout (R.records self.old.reader) self.old.design self.old.place
+            (stage.Records false))
+            (record_state_at R.layout (R.records self.new.reader) self.new.design self.new.place
+            self.new.stage)
+            (record_so_far_at self.new.design self.new.stage) at bytes.now size) }
     {
         let reached = read_records(&mut self.reader, &mut self.design, self.place, at, bytes)?;
         self.place = reached.place;
@@ -92,38 +97,38 @@ impl<R: RecordReader + Drop> RecordDecoder<R> {
 }
 
 impl<R: RecordReader + Drop> Decoder for RecordDecoder<R> {
-    ghost use Rattle.format_traits.specs.Layouts.{stream_by};
-    ghost use Rattle.format_traits.specs.RecordStreams.{so_far_at, stream_at};
+    ghost use Rattle.format_traits.specs.Layouts.{layout_state};
+    ghost use Rattle.format_traits.specs.RecordStates.{record_so_far_at, record_state_at};
 
-    ghost fresh = { stream_by R.layout };
+    ghost fresh = { layout_state R.layout };
 
-    ghost stream = { λ d. stream_at R.layout (R.records d.reader) d.design d.place d.stage };
+    ghost decoder_state = { λ d. record_state_at R.layout (R.records d.reader) d.design d.place d.stage };
 
-    ghost so_far = { λ d. so_far_at d.design d.stage };
+    ghost so_far = { λ d. record_so_far_at d.design d.stage };
 
     fn begin(&mut self, at: u64) {
         if self.reader.header_length() == 0 {
-            self.stage = Stage::Records(self.enter(&[]));
+            self.stage = RecordStage::Records(self.enter(&[]));
         } else {
             self.design = Design::new(self.alloc);
-            self.stage = Stage::Header(at);
+            self.stage = RecordStage::Header(at);
         }
     }
 
     fn take(&mut self, at: u64, bytes: &[u8]) -> Result<usize, Memory> {
         match self.stage {
-            Stage::Header(_) => self.take_header(at, bytes),
-            Stage::Records(_) => self.take_records(at, bytes),
-            Stage::Over | Stage::Refused(_) => Ok(bytes.len()),
+            RecordStage::Header(_) => self.take_header(at, bytes),
+            RecordStage::Records(_) => self.take_records(at, bytes),
+            RecordStage::Over | RecordStage::Refused(_) => Ok(bytes.len()),
         }
     }
 
     fn finish(&mut self) -> Result<Loaded, ReadFault> {
         let ended = match self.stage {
-            Stage::Header(at) => return Err(ReadFault::Short { at }),
-            Stage::Refused(fault) => return Err(fault),
-            Stage::Records(ended) => ended,
-            Stage::Over => true,
+            RecordStage::Header(at) => return Err(ReadFault::Short { at }),
+            RecordStage::Refused(fault) => return Err(fault),
+            RecordStage::Records(ended) => ended,
+            RecordStage::Over => true,
         };
         let design = replace(&mut self.design, Design::new(self.alloc));
         Ok(Loaded { design, ended })
@@ -131,7 +136,7 @@ impl<R: RecordReader + Drop> Decoder for RecordDecoder<R> {
 
     fn so_far(&self) -> &[Command] {
         match self.stage {
-            Stage::Header(_) => &[],
+            RecordStage::Header(_) => &[],
             _ => self.design.commands(),
         }
     }

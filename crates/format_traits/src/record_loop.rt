@@ -1,14 +1,14 @@
 ghost use Rattle.std.specs.Prelude.{◌≡◌, ◌+◌, ◌<◌, ◌^◌, IfOk, IsTrue, true, false, length};
 ghost use Rattle.design_model.specs.declared.point.TheConstants.{JUMP_LIMIT};
-ghost use Rattle.design_model.specs.Points.{is_within};
-ghost use Rattle.format_traits.specs.declared.stage.Stage.TheVariants as stage;
-ghost use Rattle.format_traits.specs.RecordStreams.{so_far_at, stream_at};
-ghost use Rattle.format_traits.specs.Streams.{Takes};
+ghost use Rattle.design_model.specs.Points.{is_point_within};
+ghost use Rattle.format_traits.specs.declared.record_stage.RecordStage.TheVariants as stage;
+ghost use Rattle.format_traits.specs.RecordStates.{record_so_far_at, record_state_at};
+ghost use Rattle.format_traits.specs.DecoderStates.{TakesBytes};
 
-use crate::event_keeping::keep_event;
+use crate::event_adding::keep_event;
 use crate::fault::ReadFault;
 use crate::record_reader::{NextRecord, RecordReader};
-use crate::stage::Stage;
+use crate::record_stage::RecordStage;
 use design_model::{Design, Memory, Point};
 
 /// How far a reader of records read: the number of bytes, the hoop's position, and the stage.
@@ -16,7 +16,7 @@ use design_model::{Design, Memory, Point};
 pub struct Reached {
     pub size: usize,
     pub place: Point,
-    pub stage: Stage,
+    pub stage: RecordStage,
 }
 
 /// Adds the commands of the complete records in the bytes at an offset, from a position of the hoop on.
@@ -27,13 +27,13 @@ pub fn read_records<R: RecordReader>(
     start: u64,
     bytes: &[u8],
 ) -> Result<Reached, Memory>
-    requires place { IsTrue (is_within JUMP_LIMIT place) }
+    requires place { IsTrue (is_point_within JUMP_LIMIT place) }
     requires start { start + length bytes.now < 2 ^ 64 }
-    ensures takes { IfOk result (λ r. Takes
-        (stream_at R.layout (R.records reader.old) design.old place (stage.Records false))
-        (stream_at R.layout (R.records reader.new) design.new r.place r.stage)
-        (so_far_at design.new r.stage) start bytes.now r.size) }
-    ensures place { IfOk result (λ r. IsTrue (is_within JUMP_LIMIT r.place)) }
+    ensures takes { IfOk result (λ r. TakesBytes
+        (record_state_at R.layout (R.records reader.old) design.old place (stage.Records false))
+        (record_state_at R.layout (R.records reader.new) design.new r.place r.stage)
+        (record_so_far_at design.new r.stage) start bytes.now r.size) }
+    ensures place { IfOk result (λ r. IsTrue (is_point_within JUMP_LIMIT r.place)) }
 {
     let mut at = start;
     let mut place = place;
@@ -47,23 +47,27 @@ pub fn read_records<R: RecordReader>(
                     rest = &rest[size..];
                 }
                 Err(ReadFault::Memory) => return Err(Memory),
-                Err(fault) => return Ok(stopped(bytes, place, Stage::Refused(fault))),
+                Err(fault) => return Ok(stopped(bytes, place, RecordStage::Refused(fault))),
             },
-            NextRecord::Wants { ended } => {
+            NextRecord::Incomplete { ended } => {
                 return Ok(Reached {
                     size: bytes.len() - rest.len(),
                     place,
-                    stage: Stage::Records(ended),
+                    stage: RecordStage::Records(ended),
                 });
             }
-            NextRecord::End => return Ok(stopped(bytes, place, Stage::Over)),
-            NextRecord::Refused(fault) => return Ok(stopped(bytes, place, Stage::Refused(fault))),
+            NextRecord::End => return Ok(stopped(bytes, place, RecordStage::Over)),
+            NextRecord::Refused(fault) => return Ok(stopped(
+                bytes,
+                place,
+                RecordStage::Refused(fault),
+            )),
         }
     }
 }
 
 /// Returns the end of reading: all bytes count as read.
-fn stopped(bytes: &[u8], place: Point, stage: Stage) -> Reached
+fn stopped(bytes: &[u8], place: Point, stage: RecordStage) -> Reached
     ensures { result ≡ record { size = length bytes.now; place = place; stage = stage } }
 {
     Reached {

@@ -3,10 +3,10 @@ use crate::fault::ReadFault;
 use design_model::Design;
 
 /// The greatest move of a record on each axis that a format may read, in tenths of a millimetre.
-pub const GREATEST_STEP: u32 = 2048;
+pub const MAX_RECORD_MOVE: u32 = 2048;
 
 /// Each record of a format has fewer bytes than this.
-pub const MOST_RECORD: usize = 5;
+pub const MAX_RECORD: usize = 5;
 
 /// The next record in the remaining bytes of a file.
 #[derive(Clone, Copy, Debug, PartialEq, Eq)]
@@ -14,7 +14,7 @@ pub enum NextRecord {
     /// The end of the file's records.
     End,
     /// Too few bytes for a record; `ended` is true where a file that ends here is complete.
-    Wants { ended: bool },
+    Incomplete { ended: bool },
     /// The refusal of the file.
     Refused(ReadFault),
     /// A record of `size` bytes.
@@ -27,10 +27,10 @@ pub enum NextRecord {
 pub trait RecordReader {
     ghost use Rattle.std.specs.Prelude.{ℕ, List, [], ◌≡◌, ◌++◌, ◌≤◌, length};
     ghost use Rattle.design_model.specs.Designs.{empty_design};
-    ghost use Rattle.format_traits.specs.declared.decoder.TheConstants.{MOST_PENDING};
+    ghost use Rattle.format_traits.specs.declared.decoder.TheConstants.{MAX_PENDING};
     ghost use Rattle.format_traits.specs.Layouts.{Layout};
     ghost use Rattle.format_traits.specs.Records.{Records, over};
-    ghost use Rattle.format_traits.specs.Cutting.{Cuts};
+    ghost use Rattle.format_traits.specs.RecordDecoding.{DecodesRecord};
 
     /// The layout of the format: its header and the records after it.
     ghost layout: { Layout };
@@ -41,7 +41,7 @@ pub trait RecordReader {
     /// Returns the number of bytes of the header.
     fn header_length(&self) -> usize
         ensures value { result ≡ layout.header }
-        ensures fits { result ≤ MOST_PENDING };
+        ensures fits { result ≤ MAX_PENDING };
 
     /// Sets the label and the threads of an empty design to those of a header.
     fn read_header(&self, design: &mut Design, header: &[u8])
@@ -60,5 +60,5 @@ pub trait RecordReader {
 
     /// Decodes the record at the beginning of the bytes, which are at the offset `at`.
     fn next(&mut self, at: u64, bytes: &[u8]) -> NextRecord
-        ensures { Cuts (records self.old) (records self.new) at bytes.now result };
+        ensures { DecodesRecord (records self.old) (records self.new) at bytes.now result };
 }

@@ -2,7 +2,7 @@
 -- not count, and a design that fits either way is upright.
 use Rattle.std.specs.Prelude.{ℕ, ◌-◌, ◌&&◌, nat_le, if◌then◌else◌}
 use Rattle.design_model.specs.Designs.{DesignValue}
-use Rattle.design_model.specs.Extents.{extent_of, height_of, width_of}
+use Rattle.design_model.specs.Extents.{extent_of, extent_height, extent_width}
 use Rattle.hoop_check.specs.declared.fitting.Fit.{Fit}
 use Rattle.hoop_check.specs.declared.fitting.Fit.TheVariants as fit
 
@@ -16,4 +16,4 @@ fit_of_size width height w h =
 
 -- The fit of a design in a hoop of w by h.
 abbrev pub fit_of : DesignValue → ℕ → ℕ → Fit
-fit_of d w h = fit_of_size (width_of (extent_of d)) (height_of (extent_of d)) w h
+fit_of d w h = fit_of_size (extent_width (extent_of d)) (extent_height (extent_of d)) w h

@@ -4,19 +4,19 @@ use Rattle.std.proofs.lemmas.List.Elements.{All-cons, All-head, All-nil, All-tai
 use Rattle.std.specs.List.{slice_get}
 use Rattle.line_sections.specs.Lines.{LineValue}
 use Rattle.line_graph.specs.declared.piece.Piece.{Piece}
-use Rattle.line_graph.specs.CutPieces.{graph_of}
-use Rattle.line_graph.specs.Drawings.{DrawingValue, KeepsDrawing, block_in, block_of}
-use Rattle.line_graph.specs.PieceGraphs.{PieceValue, piece_of}
+use Rattle.line_graph.specs.PiecesOfDrawings.{graph_of}
+use Rattle.line_graph.specs.Drawings.{DrawingValue, KeepsDrawingLimits, optional_line_block, block_of}
+use Rattle.line_graph.specs.PieceGraphs.{PieceValue, piece_graph}
 use Rattle.line_graph.specs.Pieces.{first_line}
 
 -- a block of a drawing is one of few
-block_few : (d : DrawingValue) (line : ℕ) → KeepsDrawing d → block_of d line < 255
+block_few : (d : DrawingValue) (line : ℕ) → KeepsDrawingLimits d → block_of d line < 255
 block_few d line keeps = of_line (slice_get d.lines line) refl
   where
     of_line : (found : Option LineValue) → slice_get d.lines line ≡ found → block_of d line < 255
-    of_line None is = let same : block_of d line ≡ 0 = ap block_in is in omega (arith, same)
+    of_line None is = let same : block_of d line ≡ 0 = ap optional_line_block is in omega (arith, same)
     of_line (Some l) is =
-        let same : block_of d line ≡ l.block = ap block_in is in
+        let same : block_of d line ≡ l.block = ap optional_line_block is in
         let less : l.block < length d.threads = there d.lines line l is keeps.there in
         omega (arith, same, less, keeps.blocks_to)
       where
@@ -34,13 +34,13 @@ block_few d line keeps = of_line (slice_get d.lines line) refl
             there rest k l is (All-tail (λ (x : LineValue). x.block < length d.threads) first rest all)
 
 -- so is the block of each piece that is cut from it
-pub blocks_few : (d : DrawingValue) (pieces : List Piece) → KeepsDrawing d
-    → All (λ (p : Piece). graph_of p ≡ piece_of d p.lines) pieces → All (λ (p : Piece). p.block < 255) pieces
+pub blocks_few : (d : DrawingValue) (pieces : List Piece) → KeepsDrawingLimits d
+    → All (λ (p : Piece). graph_of p ≡ piece_graph d p.lines) pieces → All (λ (p : Piece). p.block < 255) pieces
 blocks_few d [] keeps cut = All-nil (λ (p : Piece). p.block < 255)
 blocks_few d (p ∷ pieces) keeps cut =
-    let is : graph_of p ≡ piece_of d p.lines = All-head (λ (q : Piece). graph_of q ≡ piece_of d q.lines) p pieces cut in
+    let is : graph_of p ≡ piece_graph d p.lines = All-head (λ (q : Piece). graph_of q ≡ piece_graph d q.lines) p pieces cut in
     let same : p.block ≡ block_of d (first_line p.lines) = ap (λ (g : PieceValue). g.block) is in
     let few : block_of d (first_line p.lines) < 255 = block_few d (first_line p.lines) keeps in
     let here : p.block < 255 = omega (arith, same, few) in
     All-cons (λ (q : Piece). q.block < 255) p pieces here
-    (blocks_few d pieces keeps (All-tail (λ (q : Piece). graph_of q ≡ piece_of d q.lines) p pieces cut))
+    (blocks_few d pieces keeps (All-tail (λ (q : Piece). graph_of q ≡ piece_graph d q.lines) p pieces cut))

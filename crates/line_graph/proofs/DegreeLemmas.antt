@@ -5,8 +5,8 @@ use Rattle.std.proofs.lemmas.Bool.Decides.{nat_tests}
 use Rattle.std.proofs.lemmas.List.{get_or-set_other, get_or-set_same, length-take, take_more}
 use Rattle.std.proofs.lemmas.List.Elements.{All-cons, All-nil}
 use Rattle.line_graph.specs.declared.edge.Edge.{Edge}
-use Rattle.line_graph.specs.KeptPieces.{ends_below}
-use Rattle.line_graph.specs.PieceGraphs.{bit, degree, degrees_from}
+use Rattle.line_graph.specs.ValidPieces.{ends_below}
+use Rattle.line_graph.specs.PieceGraphs.{one_if, degree, degrees_from}
 use Rattle.line_graph.proofs.LabelLemmas.{not_same}
 use Rattle.line_graph.proofs.PieceLimits.{same}
 
@@ -32,38 +32,39 @@ table_same f g same at (suc n) = ap (λ (k : ℕ). k ∷ table f (at + 1) n) (sa
 
 -- one more at one place
 table_more : (f : ℕ → ℕ) (at n k : ℕ) → k < n
-    → set (table f at n) k (get_or (table f at n) k 0 + 1) ≡ table (λ j. f j + bit (at + k == j)) at n
+    → set (table f at n) k (get_or (table f at n) k 0 + 1) ≡ table (λ j. f j + one_if (at + k == j)) at n
 table_more f at zero k below = absurd (omega (arith, below))
 table_more f at (suc n) zero below =
     ap (λ (x : ℕ). x ∷ table f (at + 1) n) (here (f at) at)
-    ∙ ap (λ (ks : List ℕ). (f at + bit (at + 0 == at)) ∷ ks) (later (at + 1) n (omega arith))
+    ∙ ap (λ (ks : List ℕ). (f at + one_if (at + 0 == at)) ∷ ks) (later (at + 1) n (omega arith))
   where
-    here : (x at : ℕ) → x + 1 ≡ x + bit (at + 0 == at)
+    here : (x at : ℕ) → x + 1 ≡ x + one_if (at + 0 == at)
     here x at = let t : (at + 0 == at) ≡ true = grind (arith, nat_tests) in rw t refl
 
-    apart : (x k : ℕ) → at < k → x ≡ x + bit (at + 0 == k)
+    apart : (x k : ℕ) → at < k → x ≡ x + one_if (at + 0 == k)
     apart x k less = let t : (at + 0 == k) ≡ false = grind (arith, nat_tests) in rw t (omega arith)
 
-    later : (k n : ℕ) → at < k → table f k n ≡ table (λ j. f j + bit (at + 0 == j)) k n
+    later : (k n : ℕ) → at < k → table f k n ≡ table (λ j. f j + one_if (at + 0 == j)) k n
     later k zero less = refl
     later k (suc n) less = ap (λ (x : ℕ). x ∷ table f (k + 1) n) (apart (f k) k less)
-        ∙ ap (λ (ks : List ℕ). (f k + bit (at + 0 == k)) ∷ ks) (later (k + 1) n (omega (arith, less)))
+        ∙ ap (λ (ks : List ℕ). (f k + one_if (at + 0 == k)) ∷ ks) (later (k + 1) n (omega (arith, less)))
 table_more f at (suc n) (suc k) below =
     ap (λ (x : ℕ). x ∷ set (table f (at + 1) n) k (get_or (table f (at + 1) n) k 0 + 1)) (apart (f at))
-    ∙ ap (λ (ks : List ℕ). (f at + bit (at + suc k == at)) ∷ ks) (table_more f (at + 1) n k (omega (arith, below))
-    ∙ table_same (λ j. f j + bit ((at + 1) + k == j)) (λ j. f j + bit (at + suc k == j))
-    (λ j. ap (λ (m : ℕ). f j + bit (m == j)) (omega arith)) (at + 1) n)
+    ∙ ap (λ (ks : List ℕ). (f at + one_if (at + suc k == at)) ∷ ks) (table_more f (at + 1) n k (omega (arith, below))
+    ∙ table_same (λ j. f j + one_if ((at + 1) + k == j)) (λ j. f j + one_if (at + suc k == j))
+    (λ j. ap (λ (m : ℕ). f j + one_if (m == j)) (omega arith)) (at + 1) n)
   where
-    apart : (x : ℕ) → x ≡ x + bit (at + suc k == at)
+    apart : (x : ℕ) → x ≡ x + one_if (at + suc k == at)
     apart x = let t : (at + suc k == at) ≡ false = grind (arith, nat_tests) in rw t (omega arith)
 
 -- from the first on
-table_counts : (f : ℕ → ℕ) (n k : ℕ) → k < n → set (table f 0 n) k (get_or (table f 0 n) k 0 + 1) ≡ table (λ j. f j + bit (k == j)) 0 n
+table_counts : (f : ℕ → ℕ) (n k : ℕ) → k < n → set (table f 0 n) k (get_or (table f 0 n) k 0 + 1) ≡ table (λ j. f j + one_if (k == j)) 0 n
 table_counts f n k below = table_more f 0 n k below
-    ∙ table_same (λ j. f j + bit (0 + k == j)) (λ j. f j + bit (k == j)) (λ j. ap (λ (m : ℕ). f j + bit (m == j)) (omega arith)) 0 n
+    ∙ table_same (λ j. f j + one_if (0 + k == j)) (λ j. f j + one_if (k == j)) (λ j. ap (λ (m : ℕ). f j + one_if (m == j)) (omega arith)) 0
+    n
 
 -- one more edge adds its ends
-degree_more : (es : List Edge) (e : Edge) (j : ℕ) → degree (es ++ e ∷ []) j ≡ (degree es j + bit (e.a == j)) + bit (e.b == j)
+degree_more : (es : List Edge) (e : Edge) (j : ℕ) → degree (es ++ e ∷ []) j ≡ (degree es j + one_if (e.a == j)) + one_if (e.b == j)
 degree_more [] e j = omega arith
 degree_more (x ∷ es) e j = omega (arith, degree_more es e j)
 
@@ -71,11 +72,11 @@ degree_more (x ∷ es) e j = omega (arith, degree_more es e j)
 both_ends : (es : List Edge) (e : Edge) (n : ℕ) (ds once twice : List ℕ) → e.a < n → e.b < n → ds ≡ degrees_from es 0 n
     → once ≡ set ds e.a (get_or ds e.a 0 + 1) → twice ≡ set once e.b (get_or once e.b 0 + 1) → twice ≡ degrees_from (es ++ e ∷ []) 0 n
 both_ends es e n ds once twice a_below b_below is one two =
-    let f : ℕ → ℕ = λ j. degree es j + bit (e.a == j) in
+    let f : ℕ → ℕ = λ j. degree es j + one_if (e.a == j) in
     let first : once ≡ table f 0 n = one ∙ ap (λ (xs : List ℕ). set xs e.a (get_or xs e.a 0 + 1)) (is ∙ degrees_table es 0 n)
     ∙ table_counts (degree es) n e.a a_below in
     two ∙ ap (λ (xs : List ℕ). set xs e.b (get_or xs e.b 0 + 1)) first ∙ table_counts f n e.b b_below
-    ∙ table_same (λ j. f j + bit (e.b == j)) (degree (es ++ e ∷ [])) (λ j. sym (degree_more es e j)) 0 n
+    ∙ table_same (λ j. f j + one_if (e.b == j)) (degree (es ++ e ∷ [])) (λ j. sym (degree_more es e j)) 0 n
     ∙ sym (degrees_table (es ++ e ∷ []) 0 n)
 
 -- and so along the edges
@@ -93,7 +94,7 @@ degree_few : (es : List Edge) (j : ℕ) → degree es j ≤ 2 * length es
 degree_few [] j = omega arith
 degree_few (e ∷ es) j = omega (arith, degree_few es j, bit_few (e.a == j), bit_few (e.b == j))
   where
-    bit_few : (b : Bool) → bit b ≤ 1
+    bit_few : (b : Bool) → one_if b ≤ 1
     bit_few true = omega arith
     bit_few false = omega arith
 

@@ -7,9 +7,9 @@ use Rattle.line_sections.specs.Lines.{LineValue}
 use Rattle.line_graph.specs.declared.draw_kind.DrawKind.TheVariants as kind
 use Rattle.line_graph.specs.Drawings.{DrawingValue}
 use Rattle.line_graph.specs.declared.pass.Pass.{Pass}
-use Rattle.line_graph.specs.PieceGraphs.{odd_junctions, piece_of}
-use Rattle.line_graph.specs.PieceWalks.{fits}
-use Rattle.line_graph.specs.WalkEnds.{are_joined, end_added, is_junction, start_added, walk_end_added}
+use Rattle.line_graph.specs.PieceGraphs.{odd_junctions, piece_graph}
+use Rattle.line_graph.specs.PieceWalks.{is_fitting_walk}
+use Rattle.line_graph.specs.WalkEnds.{are_connected_spots, end_added, is_junction, start_added, walk_end_added}
 
 abbrev at : ℕ → ℕ → Point
 at x y = record { x = pos x; y = pos y }
@@ -42,13 +42,13 @@ pub known_other_block : is_junction (drawn [] []).lines (spot 1 30 0) ≡ false
 known_other_block = refl
 
 -- the angle connects its three ends, and not the strokes
-pub known_joined : are_joined (drawn [] []).lines (spot 0 10 10) (spot 0 0 0) ≡ true
+pub known_joined : are_connected_spots (drawn [] []).lines (spot 0 10 10) (spot 0 0 0) ≡ true
 known_joined = refl
 
-pub known_apart : are_joined (drawn [] []).lines (spot 0 10 10) (spot 0 40 0) ≡ false
+pub known_apart : are_connected_spots (drawn [] []).lines (spot 0 10 10) (spot 0 40 0) ≡ false
 known_apart = refl
 
-pub known_blocks_apart : are_joined (drawn [] []).lines (spot 0 10 0) (spot 1 10 0) ≡ false
+pub known_blocks_apart : are_connected_spots (drawn [] []).lines (spot 0 10 0) (spot 1 10 0) ≡ false
 known_blocks_apart = refl
 
 -- a start at a junction, and none elsewhere
@@ -86,7 +86,7 @@ pub known_which_end : walk_end_added false (drawn [] []) (spot 0 0 0) ≡ Ok (dr
 known_which_end = refl
 
 -- a piece has the start and the end that are its own, by their numbers
-pub known_piece : piece_of (drawn (spot 1 0 0 ∷ spot 0 10 10 ∷ []) (spot 0 30 0 ∷ spot 0 0 0 ∷ [])) (0 ∷ 2 ∷ []) ≡ record {
+pub known_piece : piece_graph (drawn (spot 1 0 0 ∷ spot 0 10 10 ∷ []) (spot 0 30 0 ∷ spot 0 0 0 ∷ [])) (0 ∷ 2 ∷ []) ≡ record {
   block = 0;
   lines = 0 ∷ 2 ∷ [];
   junctions = at 0 0 ∷ at 10 0 ∷ at 10 10 ∷ [];
@@ -98,12 +98,12 @@ pub known_piece : piece_of (drawn (spot 1 0 0 ∷ spot 0 10 10 ∷ []) (spot 0 3
 known_piece = refl
 
 -- and none where no other is its own
-pub known_stroke : (piece_of (drawn (spot 0 0 0 ∷ []) []) (3 ∷ [])).start ≡ None
+pub known_stroke : (piece_graph (drawn (spot 0 0 0 ∷ []) []) (3 ∷ [])).start ≡ None
 known_stroke = refl
 
 -- the angle and the stroke at its end with those starts and ends, and whether a walk fits it
 abbrev goes : List Spot → List Spot → List Pass → Bool
-goes starts ends walk = fits (piece_of (drawn starts ends) (0 ∷ 2 ∷ [])) walk
+goes starts ends walk = is_fitting_walk (piece_graph (drawn starts ends) (0 ∷ 2 ∷ [])) walk
 
 abbrev pass : ℕ → Bool → Pass
 pass line back = record { line = line; back = back }
@@ -133,11 +133,11 @@ pub known_closed : (goes [] [] (out ++ home) ≡ true) × (goes [] [] out ≡ fa
 known_closed = (refl, refl)
 
 -- start and end change from odd to even or back where both are given and differ
-pub known_odd : (odd_junctions (piece_of (drawn (spot 0 10 10 ∷ []) (spot 0 0 0 ∷ [])) (0 ∷ 2 ∷ [])) ≡ [])
-    × (odd_junctions (piece_of (drawn (spot 0 10 10 ∷ []) (spot 0 10 0 ∷ [])) (0 ∷ 2 ∷ [])) ≡ 0 ∷ 1 ∷ [])
-    × (odd_junctions (piece_of (drawn (spot 0 10 10 ∷ []) []) (0 ∷ 2 ∷ [])) ≡ 0 ∷ 2 ∷ [])
+pub known_odd : (odd_junctions (piece_graph (drawn (spot 0 10 10 ∷ []) (spot 0 0 0 ∷ [])) (0 ∷ 2 ∷ [])) ≡ [])
+    × (odd_junctions (piece_graph (drawn (spot 0 10 10 ∷ []) (spot 0 10 0 ∷ [])) (0 ∷ 2 ∷ [])) ≡ 0 ∷ 1 ∷ [])
+    × (odd_junctions (piece_graph (drawn (spot 0 10 10 ∷ []) []) (0 ∷ 2 ∷ [])) ≡ 0 ∷ 2 ∷ [])
 known_odd = (refl, refl, refl)
 
 -- the spot of another block has the number of no junction here
-pub known_other : (piece_of (drawn (spot 1 0 0 ∷ []) []) (0 ∷ 2 ∷ [])).start ≡ None
+pub known_other : (piece_graph (drawn (spot 1 0 0 ∷ []) []) (0 ∷ 2 ∷ [])).start ≡ None
 known_other = refl

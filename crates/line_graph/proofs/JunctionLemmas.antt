@@ -6,12 +6,12 @@ use Rattle.std.proofs.lemmas.List.Concat.{flat_map-cons}
 use Rattle.std.specs.List.{flat_map, list_any, position_or_len}
 use Rattle.design_model.specs.declared.point.Point.{Point}
 use Rattle.design_model.specs.Points.{is_same_point}
-use Rattle.step_splitter.specs.Chains.{last_from}
+use Rattle.step_splitter.specs.Chains.{last_point_or}
 use Rattle.line_graph.specs.declared.edge.Edge.{Edge}
-use Rattle.line_graph.specs.Drawings.{DrawingValue, first_of, last_of, points_of}
-use Rattle.line_graph.specs.PieceGraphs.{edge_between, junctions_of, number_of, seen_after, with_point}
-use Rattle.line_graph.specs.PieceParts.{AddsEdge}
-use Rattle.line_graph.specs.Pieces.{ends_of}
+use Rattle.line_graph.specs.Drawings.{DrawingValue, first_point, last_point, points_of}
+use Rattle.line_graph.specs.PieceGraphs.{edge_between, junctions_of, junction_number, with_points, with_point}
+use Rattle.line_graph.specs.PieceLabels.{AddsEdge}
+use Rattle.line_graph.specs.Pieces.{endpoints}
 use Rattle.line_graph.specs.Walks.{cost_of_line}
 use Rattle.line_graph.proofs.MakerLemmas.{same_found}
 
@@ -90,19 +90,19 @@ put_keeps_number test points p found = by_test (list_any (is_same_point p) point
 
 -- so a number stays whatever points follow
 pub number_stays : (test : Point → Bool) (points more : List Point) → list_any test points ≡ true
-    → position_or_len test (seen_after points more) ≡ position_or_len test points
+    → position_or_len test (with_points points more) ≡ position_or_len test points
 number_stays test points [] found = refl
 number_stays test points (p ∷ more) found =
     number_stays test (with_point points p) more (put_keeps test points p found) ∙ put_keeps_number test points p found
 
 -- and it is found whatever points follow
 pub seen_keeps : (test : Point → Bool) (points more : List Point) → list_any test points ≡ true
-    → list_any test (seen_after points more) ≡ true
+    → list_any test (with_points points more) ≡ true
 seen_keeps test points [] found = found
 seen_keeps test points (p ∷ more) found = seen_keeps test (with_point points p) more (put_keeps test points p found)
 
 -- points that follow are seen one part after another
-pub seen_on : (points first then : List Point) → seen_after points (first ++ then) ≡ seen_after (seen_after points first) then
+pub seen_on : (points first then : List Point) → with_points points (first ++ then) ≡ with_points (with_points points first) then
 seen_on points [] then = refl
 seen_on points (p ∷ first) then = seen_on (with_point points p) first then
 
@@ -115,23 +115,24 @@ put_few points p = by_test (list_any (is_same_point p) points)
     by_test false = omega (arith, length-append points (p ∷ []))
 
 -- the ends of a line by its first point and its last
-pub ends_by : (points : List Point) (p q : Point) → first_of points ≡ Some p → last_of points ≡ Some q → ends_of points ≡ p ∷ q ∷ []
+pub ends_by : (points : List Point) (p q : Point) → first_point points ≡ Some p → last_point points ≡ Some q → endpoints points ≡ p ∷ q ∷ []
 ends_by [] p q first last = absurd (cc)
 ends_by (x ∷ rest) p q first last =
     let one : x ≡ p = some_same x p first in
-    let other : last_from x rest ≡ q = some_same (last_from x rest) q last in
-    ap (λ (y : Point). y ∷ last_from x rest ∷ []) one ∙ ap (λ (y : Point). p ∷ y ∷ []) other
+    let other : last_point_or x rest ≡ q = some_same (last_point_or x rest) q last in
+    ap (λ (y : Point). y ∷ last_point_or x rest ∷ []) one ∙ ap (λ (y : Point). p ∷ y ∷ []) other
   where
     some_same : (a b : Point) → Some a ≡ Some b → a ≡ b
     some_same a b is = cc
 
 -- the edge of a line whose ends were numbered
-pub edge_added : (d : DrawingValue) (line : ℕ) (p q : Point) (k0 k1 k2 : List Point) (a b cost : ℕ) → first_of (points_of d line) ≡ Some p
-    → last_of (points_of d line) ≡ Some q → a ≡ position_or_len (is_same_point p) k0 → k1 ≡ with_point k0 p
+pub edge_added : (d : DrawingValue) (line : ℕ) (p q : Point) (k0 k1 k2 : List Point) (a b cost : ℕ)
+    → first_point (points_of d line) ≡ Some p
+    → last_point (points_of d line) ≡ Some q → a ≡ position_or_len (is_same_point p) k0 → k1 ≡ with_point k0 p
     → b ≡ position_or_len (is_same_point q) k1 → k2 ≡ with_point k1 q → cost ≡ cost_of_line d line
     → AddsEdge d line k0 k2 (record { a = a; b = b; cost = cost })
 edge_added d line p q k0 k1 k2 a b cost first last a_is k1_is b_is k2_is cost_is = record {
-  seen = k2_is ∙ ap (λ (ks : List Point). with_point ks q) k1_is ∙ ap (seen_after k0) (sym (ends_by (points_of d line) p q first last));
+  seen = k2_is ∙ ap (λ (ks : List Point). with_point ks q) k1_is ∙ ap (with_points k0) (sym (ends_by (points_of d line) p q first last));
   few = omega (arith, put_few k0 p, put_few k1 q, ap length k1_is, ap length k2_is);
   is = λ more. λ i. record { a = at_a more i; b = at_b more i; cost = cost_is i };
 }
@@ -142,23 +143,23 @@ edge_added d line p q k0 k1 k2 a b cost first last a_is k1_is b_is k2_is cost_is
     here_q : list_any (is_same_point q) k2 ≡ true
     here_q = ap (list_any (is_same_point q)) k2_is ∙ put_found k1 q
 
-    at_a : (more : List Point) → a ≡ number_of (seen_after k2 more) (first_of (points_of d line))
+    at_a : (more : List Point) → a ≡ junction_number (with_points k2 more) (first_point (points_of d line))
     at_a more =
         let then : position_or_len (is_same_point p) k2 ≡ position_or_len (is_same_point p) k1 =
         ap (position_or_len (is_same_point p)) k2_is ∙ put_keeps_number (is_same_point p) k1 q here_p in
         let before : position_or_len (is_same_point p) k1 ≡ a = ap (position_or_len (is_same_point p)) k1_is ∙ put_number k0 p ∙ sym a_is in
         let found : list_any (is_same_point p) k2 ≡ true = ap (list_any (is_same_point p)) k2_is
         ∙ put_keeps (is_same_point p) k1 q here_p in
-        sym (ap (number_of (seen_after k2 more)) first ∙ number_stays (is_same_point p) k2 more found ∙ then ∙ before)
+        sym (ap (junction_number (with_points k2 more)) first ∙ number_stays (is_same_point p) k2 more found ∙ then ∙ before)
 
-    at_b : (more : List Point) → b ≡ number_of (seen_after k2 more) (last_of (points_of d line))
+    at_b : (more : List Point) → b ≡ junction_number (with_points k2 more) (last_point (points_of d line))
     at_b more =
         let before : position_or_len (is_same_point q) k2 ≡ b = ap (position_or_len (is_same_point q)) k2_is ∙ put_number k1 q ∙ sym b_is in
-        sym (ap (number_of (seen_after k2 more)) last ∙ number_stays (is_same_point q) k2 more here_q ∙ before)
+        sym (ap (junction_number (with_points k2 more)) last ∙ number_stays (is_same_point q) k2 more here_q ∙ before)
 
 -- edges so far, and those of the lines that are left
 pub record AreEdges (d : DrawingValue) (lines : List ℕ) (at : ℕ) (junctions : List Point) (edges : List Edge) : Type 0 where
-  pub seen : seen_after junctions (flat_map (λ line. ends_of (points_of d line)) (drop at lines)) ≡ junctions_of d lines
+  pub seen : with_points junctions (flat_map (λ line. endpoints (points_of d line)) (drop at lines)) ≡ junctions_of d lines
   pub built : edges ++ map (edge_between d (junctions_of d lines)) (drop at lines) ≡ map (edge_between d (junctions_of d lines)) lines
   pub few : length junctions ≤ 2 * at
 
@@ -166,14 +167,14 @@ pub record AreEdges (d : DrawingValue) (lines : List ℕ) (at : ℕ) (junctions 
 pub next_edge : (d : DrawingValue) (lines : List ℕ) (at x : ℕ) (old new : List Point) (edges : List Edge) (edge : Edge) → at < length lines
     → AreEdges d lines at old edges → AddsEdge d (get_or lines at x) old new edge → AreEdges d lines (at + 1) new (edges ++ edge ∷ [])
 next_edge d lines at x old new edges edge below so_far adds =
-    let ends : ℕ → List Point = λ line. ends_of (points_of d line) in
+    let ends : ℕ → List Point = λ line. endpoints (points_of d line) in
     let line : ℕ = get_or lines at x in
     let js : List Point = junctions_of d lines in
     let rest : List ℕ = drop (at + 1) lines in
-    let seen : seen_after new (flat_map ends rest) ≡ js =
-    ap (λ (ks : List Point). seen_after ks (flat_map ends rest)) adds.seen ∙ sym (seen_on old (ends line) (flat_map ends rest))
-    ∙ sym (ap (seen_after old) (flat_map-cons ends line rest))
-    ∙ sym (at_drop_more (λ (ls : List ℕ). seen_after old (flat_map ends ls)) lines at x below) ∙ so_far.seen in
+    let seen : with_points new (flat_map ends rest) ≡ js =
+    ap (λ (ks : List Point). with_points ks (flat_map ends rest)) adds.seen ∙ sym (seen_on old (ends line) (flat_map ends rest))
+    ∙ sym (ap (with_points old) (flat_map-cons ends line rest))
+    ∙ sym (at_drop_more (λ (ls : List ℕ). with_points old (flat_map ends ls)) lines at x below) ∙ so_far.seen in
     let is : edge ≡ edge_between d js line = adds.is (flat_map ends rest) ∙ ap (λ (ks : List Point). edge_between d ks line) seen in
     record {
       seen = seen;

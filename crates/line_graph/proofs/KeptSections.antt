@@ -8,11 +8,11 @@ use Rattle.std.specs.List.{flat_map}
 use Rattle.std.specs.List.Sorted.{IsNonDecreasing}
 use Rattle.design_model.specs.declared.point.Point.{Point}
 use Rattle.line_sections.specs.Lines.{LineValue}
-use Rattle.line_sections.specs.Sections.{SectionsHaveSegments, SectionsKeepSegments, WholeLinesStay, all_sections, are_whole, is_shared, line_sections, lines_through, sections_of}
-use Rattle.line_graph.specs.Drawings.{DrawingValue, IsLine, KeepsDrawing}
-use Rattle.line_graph.specs.Growing.{point_count}
-use Rattle.line_graph.specs.JoinedDrawings.{JoinedStay, is_joined}
-use Rattle.line_graph.specs.WalkEnds.{HasNoEnds, KeepsAll, KeepsEnds}
+use Rattle.line_sections.specs.Sections.{SectionsHaveSegments, SectionsKeepSegments, WholeLinesStay, all_sections, are_whole_lines, is_shared_point, line_sections, lines_through, sections_of}
+use Rattle.line_graph.specs.Drawings.{DrawingValue, IsLine, KeepsDrawingLimits}
+use Rattle.line_graph.specs.GrowingDrawings.{point_count}
+use Rattle.line_graph.specs.JoinedDrawings.{JoinedDrawingsStay, is_joined}
+use Rattle.line_graph.specs.WalkEnds.{HasNoEnds, IsValidDrawing, HasValidEnds}
 use Rattle.line_graph.proofs.MakerLemmas.{unended}
 use Rattle.line_graph.proofs.SectionCosts.{AreSome, cost_kept, sections_sew, some_sections}
 
@@ -106,13 +106,13 @@ line_of block points = record { block = block; points = points }
 -- a section is in the block of its line
 in_block : (lines : List LineValue) (line : LineValue) → All (λ (l : LineValue). l.block ≡ line.block) (line_sections lines line)
 in_block lines line = All-map (λ (l : LineValue). l.block ≡ line.block) (line_of line.block)
-    (sections_of (is_shared lines line.block) line.points) (λ i d there. refl)
+    (sections_of (is_shared_point lines line.block) line.points) (λ i d there. refl)
 
 -- and each line has one
 has_section : SectionsKeepSegments → (lines : List LineValue) (line : LineValue) → IsLine line.points
     → Contains (map (λ (l : LineValue). l.block) (line_sections lines line)) line.block
-has_section keep lines line able = from_some (sections_of (is_shared lines line.block) line.points)
-    (some_sections keep (is_shared lines line.block) line.points able)
+has_section keep lines line able = from_some (sections_of (is_shared_point lines line.block) line.points)
+    (some_sections keep (is_shared_point lines line.block) line.points able)
   where
     from_some : (sections : List (List Point)) → AreSome sections
         → Contains (map (λ (l : LineValue). l.block) (lines_through line.block sections)) line.block
@@ -122,9 +122,9 @@ has_section keep lines line able = from_some (sections_of (is_shared lines line.
         none_some first others is = cc
     from_some (section ∷ rest) some = (0, omega arith, refl)
 
-keeps_joined : SectionsKeepSegments → SectionsHaveSegments → (d : DrawingValue) → KeepsDrawing d
+keeps_joined : SectionsKeepSegments → SectionsHaveSegments → (d : DrawingValue) → KeepsDrawingLimits d
     → nat_lt 1024 (length (all_sections d.lines)) ≡ false
-    → nat_lt 65536 (point_count (all_sections d.lines)) ≡ false → KeepsDrawing (record d { lines = all_sections d.lines })
+    → nat_lt 65536 (point_count (all_sections d.lines)) ≡ false → KeepsDrawingLimits (record d { lines = all_sections d.lines })
 keeps_joined keep have d keeps few short = record {
   label = keeps.label;
   one_word = keeps.one_word;
@@ -143,8 +143,8 @@ keeps_joined keep have d keeps few short = record {
       (rises_flat (line_sections d.lines) (in_block d.lines) d.lines (rises_of d.lines keeps.ordered));
   lines = all_flat (line_sections d.lines) (λ (l : LineValue). IsLine l.points) (λ (l : LineValue). IsLine l.points)
       (λ line able. All-map (λ (l : LineValue). IsLine l.points) (line_of line.block)
-      (sections_of (is_shared d.lines line.block) line.points)
-      (sections_sew keep have (is_shared d.lines line.block) line.points able)) d.lines keeps.lines;
+      (sections_of (is_shared_point d.lines line.block) line.points)
+      (sections_sew keep have (is_shared_point d.lines line.block) line.points able)) d.lines keeps.lines;
   line_count = grind (arith, nat_tests, few);
   point_count = grind (arith, nat_tests, short);
   cost = omega (arith, cost_kept keep d.step d.lines, keeps.cost);
@@ -152,23 +152,23 @@ keeps_joined keep have d keeps few short = record {
 
 -- the same of sections that were made
 keeps_sections : SectionsKeepSegments → SectionsHaveSegments → (d : DrawingValue) (lines sections slice : List LineValue)
-    → KeepsDrawing d → lines ≡ d.lines → sections ≡ all_sections lines → slice ≡ sections → length sections ≤ 1024
-    → nat_lt 65536 (point_count slice) ≡ false → KeepsDrawing (record d { lines = sections })
+    → KeepsDrawingLimits d → lines ≡ d.lines → sections ≡ all_sections lines → slice ≡ sections → length sections ≤ 1024
+    → nat_lt 65536 (point_count slice) ≡ false → KeepsDrawingLimits (record d { lines = sections })
 keeps_sections keep have d lines sections slice keeps same are slice_is few short =
     let is : sections ≡ all_sections d.lines = are ∙ ap all_sections same in
-    subst (λ (s : List LineValue). KeepsDrawing (record d { lines = s })) (sym is)
+    subst (λ (s : List LineValue). KeepsDrawingLimits (record d { lines = s })) (sym is)
     (keeps_joined keep have d keeps (ap (λ (s : List LineValue). nat_lt 1024 (length s)) (sym is) ∙ grind (arith, nat_tests, few))
     (ap (λ (s : List LineValue). nat_lt 65536 (point_count s)) (sym is ∙ sym slice_is) ∙ short))
 
 -- lines that are whole are their own sections, since each has a point
 joined_same : WholeLinesStay → (lines : List LineValue) → All (λ (line : LineValue). IsLine line.points) lines
-    → are_whole lines ≡ true → all_sections lines ≡ lines
+    → are_whole_lines lines ≡ true → all_sections lines ≡ lines
 joined_same stay lines able =
     stay lines (All-weaker (λ (line : LineValue). IsLine line.points) (λ (line : LineValue). 1 ≤ length line.points)
     (λ line is. omega (arith, is.long)) lines able)
 
 -- and so a drawing that is joined stays as it is
-pub joined_stay : WholeLinesStay → JoinedStay
+pub joined_stay : WholeLinesStay → JoinedDrawingsStay
 joined_stay stay d keeps joined =
     let is = joined_same stay d.lines keeps.lines joined in
     let few : nat_lt 1024 (length d.lines) ≡ false = grind (arith, nat_tests, keeps.line_count) in
@@ -176,21 +176,22 @@ joined_stay stay d keeps joined =
     rw (is, few, short) refl
 
 -- and its starts and ends stay
-ends_kept : WholeLinesStay → (d : DrawingValue) (sections : List LineValue) → KeepsDrawing d → KeepsEnds d → sections ≡ all_sections d.lines
-    → KeepsEnds (record d { lines = sections })
+ends_kept : WholeLinesStay → (d : DrawingValue) (sections : List LineValue) → KeepsDrawingLimits d → HasValidEnds d
+    → sections ≡ all_sections d.lines
+    → HasValidEnds (record d { lines = sections })
 ends_kept stay d sections keeps ends are = by_joined ends.joined
   where
-    by_joined : HasNoEnds d ⊎ (is_joined d ≡ true) → KeepsEnds (record d { lines = sections })
+    by_joined : HasNoEnds d ⊎ (is_joined d ≡ true) → HasValidEnds (record d { lines = sections })
     by_joined (inl none) = unended (record d { lines = sections }) (record { starts = none.starts; ends = none.ends })
     by_joined (inr joined) =
-        subst (λ (s : List LineValue). KeepsEnds (record d { lines = s })) (sym (are ∙ joined_same stay d.lines keeps.lines joined))
+        subst (λ (s : List LineValue). HasValidEnds (record d { lines = s })) (sym (are ∙ joined_same stay d.lines keeps.lines joined))
         (record { starts = ends.starts; ends = ends.ends; joined = inr joined })
 
 -- so all is kept
 pub all_kept : SectionsKeepSegments → SectionsHaveSegments → WholeLinesStay → (d : DrawingValue)
-    (lines sections slice : List LineValue) → KeepsDrawing d → KeepsEnds d → lines ≡ d.lines
+    (lines sections slice : List LineValue) → KeepsDrawingLimits d → HasValidEnds d → lines ≡ d.lines
     → sections ≡ all_sections lines → slice ≡ sections → length sections ≤ 1024 → nat_lt 65536 (point_count slice) ≡ false
-    → KeepsAll (record d { lines = sections })
+    → IsValidDrawing (record d { lines = sections })
 all_kept keep have stay d lines sections slice keeps ends same are slice_is few short = record {
   limits = keeps_sections keep have d lines sections slice keeps same are slice_is few short;
   ends = ends_kept stay d sections keeps ends (are ∙ ap all_sections same);

@@ -14,16 +14,16 @@ use Rattle.std.specs.Ordering.{int_eq}
 use Rattle.std.specs.List.Sorted.{IsNonDecreasing}
 use Rattle.design_model.specs.declared.point.Point.{Point}
 use Rattle.design_model.specs.Labels.{IsLabel, IsPrintable}
-use Rattle.design_model.specs.Points.{is_same_point, is_within}
-use Rattle.step_splitter.specs.Chains.{IsNeedlePoint, KeepsMoving}
+use Rattle.design_model.specs.Points.{is_same_point, is_point_within}
+use Rattle.step_splitter.specs.Chains.{IsNeedlePoint, HasNoRepeatAfter}
 use Rattle.line_sections.specs.Lines.{LineValue}
 use Rattle.line_graph.specs.declared.draw_kind.DrawKind.{DrawKind}
 use Rattle.line_graph.specs.declared.draw_kind.DrawKind.TheVariants as kind
-use Rattle.line_graph.specs.Drawings.{DrawingValue, HasNoRepeat, IsLine, KeepsDrawing}
-use Rattle.line_graph.specs.Growing.{are_in_range, has_repeat, is_label_word, is_last_empty, is_used, point_count, repeats_after, step_count, steps_with, with_block, with_line}
-use Rattle.line_graph.specs.Making.{AreBlocks, IsMade}
-use Rattle.line_graph.specs.Needles.{line_steps}
-use Rattle.line_graph.specs.WalkEnds.{AreApart, HasNoEnds, KeepsAll, KeepsEnds, is_junction}
+use Rattle.line_graph.specs.Drawings.{DrawingValue, HasNoRepeat, IsLine, KeepsDrawingLimits}
+use Rattle.line_graph.specs.GrowingDrawings.{all_in_needle_range, has_repeated_point, is_drawing_label, is_last_empty, is_used, point_count, repeats_after, step_count, steps_with_line, with_new_block, with_new_line}
+use Rattle.line_graph.specs.DrawingMakerInvariants.{AreBlocks, IsMakerState}
+use Rattle.line_graph.specs.Needles.{steps_of_line}
+use Rattle.line_graph.specs.WalkEnds.{AreInDifferentPieces, HasNoEnds, IsValidDrawing, HasValidEnds, is_junction}
 
 -- the same points are found to be the same
 pub same_found : (p q : Point) → p ≡ q → is_same_point p q ≡ true
@@ -33,21 +33,21 @@ same_found p q same =
     rw (x, y) refl
 
 -- where no repeat is found, none is there
-keeps_moving : (p : Point) (rest : List Point) → repeats_after p rest ≡ false → KeepsMoving p rest
+keeps_moving : (p : Point) (rest : List Point) → repeats_after p rest ≡ false → HasNoRepeatAfter p rest
 keeps_moving p [] none = tt
 keeps_moving p (q ∷ rest) none =
     let both = or_parts (is_same_point p q) (repeats_after q rest) none in
     (λ same. both_ways (is_same_point p q) both.0 (same_found p q same), keeps_moving q rest both.1)
 
-pub no_repeat : (points : List Point) → has_repeat points ≡ false → HasNoRepeat points
+pub no_repeat : (points : List Point) → has_repeated_point points ≡ false → HasNoRepeat points
 no_repeat [] none = tt
 no_repeat (p ∷ rest) none = keeps_moving p rest none
 
 -- where all points are found in range, needles may go down at them
-pub all_in_range : (points : List Point) → are_in_range points ≡ true → All IsNeedlePoint points
-all_in_range points test = AllPass-from_list_all (is_within 30000) points test
+pub all_in_range : (points : List Point) → all_in_needle_range points ≡ true → All IsNeedlePoint points
+all_in_range points test = AllPass-from_list_all (is_point_within 30000) points test
 
-pub line_of : (points : List Point) → 2 ≤ length points → has_repeat points ≡ false → All IsNeedlePoint points
+pub line_of : (points : List Point) → 2 ≤ length points → has_repeated_point points ≡ false → All IsNeedlePoint points
     → IsLine points
 line_of points long none in_range = record { long = long; moving = no_repeat points none; in_range = in_range }
 
@@ -63,7 +63,7 @@ all_ink : (word : List ℕ) → list_all is_ascii_graphic word ≡ true → All 
 all_ink word test =
     All-weaker (λ byte. is_ascii_graphic byte ≡ true) IsInk ink word (AllPass-from_list_all is_ascii_graphic word test)
 
-label_of : (word : List ℕ) → is_label_word word ≡ true → IsLabel word × All (λ byte. byte ≢ 32) word
+label_of : (word : List ℕ) → is_drawing_label word ≡ true → IsLabel word × All (λ byte. byte ≢ 32) word
 label_of word test =
     let both = and_parts (nat_le (length word) 16) (list_all is_ascii_graphic word) test in
     let inked = all_ink word both.1 in
@@ -81,8 +81,8 @@ label_of word test =
     )
 
 -- with another label
-pub label_set : (d : DrawingValue) (word : List ℕ) (empty : Bool) (points steps : ℕ) → IsMade d empty points steps
-    → is_label_word word ≡ true → IsMade (record d { label = word }) empty points steps
+pub label_set : (d : DrawingValue) (word : List ℕ) (empty : Bool) (points steps : ℕ) → IsMakerState d empty points steps
+    → is_drawing_label word ≡ true → IsMakerState (record d { label = word }) empty points steps
 label_set d word empty points steps made test =
     let labelled = label_of word test in
     record {
@@ -108,8 +108,8 @@ no_lines threads (line ∷ rest) there none =
     absurd (omega (arith, All-head (λ l. l.block < length threads) line rest there))
 
 -- and another step may be set
-pub step_set : (d : DrawingValue) (step : ℕ) (empty : Bool) (points steps : ℕ) → IsMade d empty points steps
-    → 1 ≤ step → step ≤ 2047 → length d.threads ≡ 0 → IsMade (record d { step = step }) empty points steps
+pub step_set : (d : DrawingValue) (step : ℕ) (empty : Bool) (points steps : ℕ) → IsMakerState d empty points steps
+    → 1 ≤ step → step ≤ 2047 → length d.threads ≡ 0 → IsMakerState (record d { step = step }) empty points steps
 step_set d step empty points steps made low high none =
     let unlined = no_lines d.threads d.lines made.blocks.there none in
     let before : step_count d.step d.lines ≡ 0 = ap (step_count d.step) unlined in
@@ -188,8 +188,8 @@ used_all d blocks filled block there =
     used_at d block (block + 1 == length d.threads) blocks filled there refl
 
 -- with one block more
-pub block_put : (d : DrawingValue) (thread points steps : ℕ) → IsMade d false points steps → thread < 256
-    → length d.threads ≢ 255 → IsMade (with_block d thread) true points steps
+pub block_put : (d : DrawingValue) (thread points steps : ℕ) → IsMakerState d false points steps → thread < 256
+    → length d.threads ≢ 255 → IsMakerState (with_new_block d thread) true points steps
 block_put d thread points steps made fits few =
     let longer = length-append d.threads (thread ∷ []) in
     record {
@@ -205,7 +205,7 @@ block_put d thread points steps made fits few =
       };
       lines = made.lines;
       unended = record { starts = made.unended.starts; ends = made.unended.ends };
-      last_is = sym (last_by (with_block d thread) (length d.threads) false longer
+      last_is = sym (last_by (with_new_block d thread) (length d.threads) false longer
           (unused (length d.threads) d.lines made.blocks.there));
       points_are = made.points_are;
       steps_are = made.steps_are;
@@ -235,7 +235,7 @@ pub record MayCome (d : DrawingValue) (points : List Point) (steps : ℕ) : Type
   pub line : IsLine points
   pub room : length d.lines ≢ 1024
   pub few : point_count d.lines + length points ≤ 65536
-  pub steps_are : steps ≡ step_count d.step d.lines + line_steps d.step points
+  pub steps_are : steps ≡ step_count d.step d.lines + steps_of_line d.step points
   pub cost : steps ≤ 200000
 
 -- a test that refuses nothing came out false
@@ -245,14 +245,14 @@ passed true why rest steps is = absurd cc
 passed false why rest steps is = (refl, is)
 
 pub may_come : (d : DrawingValue) (points : List Point) (steps : ℕ) → All IsNeedlePoint points
-    → steps_with d points ≡ Ok steps → MayCome d points steps
+    → steps_with_line d points ≡ Ok steps → MayCome d points steps
 may_come d points steps in_range is =
     let long = passed (nat_lt (length points) 2) kind.FewPoints _ steps is in
-    let moving = passed (has_repeat points) kind.RepeatedPoint _ steps long.1 in
+    let moving = passed (has_repeated_point points) kind.RepeatedPoint _ steps long.1 in
     let room = passed (length d.lines == 1024) kind.TooManyLines _ steps moving.1 in
     let few = passed (nat_lt 65536 (point_count d.lines + length points)) kind.TooManyPoints _ steps room.1 in
-    let cost = passed (nat_lt 200000 (step_count d.step d.lines + line_steps d.step points)) kind.TooMuchCost _ steps few.1 in
-    let same : step_count d.step d.lines + line_steps d.step points ≡ steps = cc (cost.1) in
+    let cost = passed (nat_lt 200000 (step_count d.step d.lines + steps_of_line d.step points)) kind.TooMuchCost _ steps few.1 in
+    let same : step_count d.step d.lines + steps_of_line d.step points ≡ steps = cc (cost.1) in
     record {
       line = line_of points (grind (arith, nat_tests, long.0)) moving.0 in_range;
       room = grind (arith, nat_tests, room.0);
@@ -263,8 +263,8 @@ may_come d points steps in_range is =
 
 -- with one line more
 pub line_put : (d : DrawingValue) (line : List Point) (empty : Bool) (points steps more : ℕ)
-    → IsMade d empty points steps
-    → 1 ≤ length d.threads → MayCome d line more → IsMade (with_line d line) false (points + length line) more
+    → IsMakerState d empty points steps
+    → 1 ≤ length d.threads → MayCome d line more → IsMakerState (with_new_line d line) false (points + length line) more
 line_put d points empty count steps more made some comes =
     let line : LineValue = record { block = length d.threads - 1; points = points } in
     let last : length d.threads ≡ line.block + 1 = omega arith in
@@ -272,7 +272,7 @@ line_put d points empty count steps more made some comes =
     let Ordered : List ℕ → Type 0 = λ numbers. IsNonDecreasing numbers in
     let lines_are = length-append d.lines (line ∷ []) in
     let points_are = sum_by-append (λ (l : LineValue). length l.points) d.lines (line ∷ []) in
-    let steps_are = sum_by-append (λ (l : LineValue). line_steps d.step l.points) d.lines (line ∷ []) in
+    let steps_are = sum_by-append (λ (l : LineValue). steps_of_line d.step l.points) d.lines (line ∷ []) in
     record {
       head = made.head;
       blocks = record {
@@ -294,13 +294,13 @@ line_put d points empty count steps more made some comes =
         cost = omega (arith, steps_are, comes.steps_are, comes.cost);
       };
       unended = record { starts = made.unended.starts; ends = made.unended.ends };
-      last_is = sym (last_by (with_line d points) line.block true last (found_last d.lines line));
+      last_is = sym (last_by (with_new_line d points) line.block true last (found_last d.lines line));
       points_are = omega (arith, points_are, made.points_are);
       steps_are = omega (arith, steps_are, comes.steps_are);
     }
 
 -- at its end
-drawn : (d : DrawingValue) (points steps : ℕ) → IsMade d false points steps → length d.threads ≢ 0 → KeepsDrawing d
+drawn : (d : DrawingValue) (points steps : ℕ) → IsMakerState d false points steps → length d.threads ≢ 0 → KeepsDrawingLimits d
 drawn d points steps made some = record {
   label = made.head.label_ok;
   one_word = made.head.one_word;
@@ -319,19 +319,19 @@ drawn d points steps made some = record {
 }
 
 -- where there is no start and no end, all is kept of them
-pub unended : (d : DrawingValue) → HasNoEnds d → KeepsEnds d
+pub unended : (d : DrawingValue) → HasNoEnds d → HasValidEnds d
 unended d none = record {
-  starts = subst (AreApart d.lines) (sym none.starts) nothing;
-  ends = subst (AreApart d.lines) (sym none.ends) nothing;
+  starts = subst (AreInDifferentPieces d.lines) (sym none.starts) nothing;
+  ends = subst (AreInDifferentPieces d.lines) (sym none.ends) nothing;
   joined = inl none;
 }
   where
-    nothing : AreApart d.lines []
+    nothing : AreInDifferentPieces d.lines []
     nothing = record {
       there = All-nil (λ spot. is_junction d.lines spot ≡ true);
       apart = λ i. λ j. λ s. λ less. λ below. absurd (omega (arith, below));
     }
 
 -- at its end it is a drawing
-pub drawn_all : (d : DrawingValue) (points steps : ℕ) → IsMade d false points steps → length d.threads ≢ 0 → KeepsAll d
+pub drawn_all : (d : DrawingValue) (points steps : ℕ) → IsMakerState d false points steps → length d.threads ≢ 0 → IsValidDrawing d
 drawn_all d points steps made some = record { limits = drawn d points steps made some; ends = unended d made.unended }

@@ -5,36 +5,36 @@ use Rattle.std.proofs.lemmas.List.Elements.{All-append, All-cons, All-head, All-
 use Rattle.std.proofs.lemmas.List.FromFn.{length-map-range_with_len}
 use Rattle.std.proofs.lemmas.List.Sums.{get_or-le-sum_by, sum_by-take-le, sum_by_more}
 use Rattle.design_model.specs.declared.point.Point.{Point}
-use Rattle.step_splitter.specs.Chains.{IsNeedlePoint, KeepsClose, KeepsMoving, LeadsTo, SplitPointsLead, last_from}
-use Rattle.step_splitter.specs.Steps.{point_at, split_points, steps_of}
+use Rattle.step_splitter.specs.Chains.{IsNeedlePoint, AreCloseAfter, HasNoRepeatAfter, LeadsBySteps, SplitPointsLead, last_point_or}
+use Rattle.step_splitter.specs.Steps.{point_on_segment, split_points, steps_of}
 use Rattle.std.proofs.lemmas.Option.{slice_get-get_or}
 use Rattle.line_sections.specs.Lines.{LineValue}
-use Rattle.line_graph.specs.Drawings.{DrawingValue, HasNoRepeat, IsLine, KeepsDrawing, first_of, last_of, points_in, points_of}
-use Rattle.line_graph.specs.Laws.{AreClose, AreNeedlesOf, LeadAlong}
-use Rattle.line_graph.specs.Growing.{step_count}
-use Rattle.line_graph.specs.Walks.{cost_of_line, needles_of}
-use Rattle.line_graph.specs.Needles.{line_steps, needle_points, segment_points, segment_steps}
+use Rattle.line_graph.specs.Drawings.{DrawingValue, HasNoRepeat, IsLine, KeepsDrawingLimits, first_point, last_point, optional_line_points, points_of}
+use Rattle.line_graph.specs.LineNeedles.{AreClose, AreNeedlesOf, LeadAlong}
+use Rattle.line_graph.specs.GrowingDrawings.{step_count}
+use Rattle.line_graph.specs.Walks.{cost_of_line, needles_of_line}
+use Rattle.line_graph.specs.Needles.{steps_of_line, needle_points, segment_points, segment_steps}
 
 -- the points lead from the first one to that point, by steps within the longest step
 pub record ComesTo (step : ℕ) (first : Option Point) (before : Point) (points : List Point) : Type 0 where
-  pub first_is : first_of points ≡ first
-  pub last : last_of points ≡ Some before
+  pub first_is : first_point points ≡ first
+  pub last : last_point points ≡ Some before
   pub in_range : All IsNeedlePoint points
   pub close : AreClose step points
   pub moving : HasNoRepeat points
 
 -- a chain continues where another one begins at its last point
-pub last_from-append : (p : Point) (xs ys : List Point) → last_from p (xs ++ ys) ≡ last_from (last_from p xs) ys
-last_from-append p [] ys = refl
-last_from-append p (x ∷ xs) ys = last_from-append x xs ys
+pub last_point_or-append : (p : Point) (xs ys : List Point) → last_point_or p (xs ++ ys) ≡ last_point_or (last_point_or p xs) ys
+last_point_or-append p [] ys = refl
+last_point_or-append p (x ∷ xs) ys = last_point_or-append x xs ys
 
-pub close_on : (step : ℕ) (p : Point) (xs ys : List Point) → KeepsClose step p xs
-    → KeepsClose step (last_from p xs) ys → KeepsClose step p (xs ++ ys)
+pub close_on : (step : ℕ) (p : Point) (xs ys : List Point) → AreCloseAfter step p xs
+    → AreCloseAfter step (last_point_or p xs) ys → AreCloseAfter step p (xs ++ ys)
 close_on step p [] ys near more = more
 close_on step p (x ∷ xs) ys near more = (near.0, close_on step x xs ys near.1 more)
 
-moving_on : (p : Point) (xs ys : List Point) → KeepsMoving p xs → KeepsMoving (last_from p xs) ys
-    → KeepsMoving p (xs ++ ys)
+moving_on : (p : Point) (xs ys : List Point) → HasNoRepeatAfter p xs → HasNoRepeatAfter (last_point_or p xs) ys
+    → HasNoRepeatAfter p (xs ++ ys)
 moving_on p [] ys apart more = more
 moving_on p (x ∷ xs) ys apart more = (apart.0, moving_on x xs ys apart.1 more)
 
@@ -47,16 +47,16 @@ some_same is = cc
 
 -- the ends of a segment's steps bring the points to the segment's end
 pub segment_comes : (step : ℕ) (first : Option Point) (before next : Point) (points ends : List Point)
-    → ComesTo step first before points → LeadsTo before next step ends
+    → ComesTo step first before points → LeadsBySteps before next step ends
     → ComesTo step first next (points ++ ends)
 segment_comes step first before next [] ends comes leads = absurd (nothing_comes comes.last)
 segment_comes step first before next (p ∷ points) ends comes leads =
-    let at : last_from p points ≡ before = some_same comes.last in
-    let Close : Point → Type 0 = λ q. KeepsClose step q ends in
-    let Moving : Point → Type 0 = λ q. KeepsMoving q ends in
+    let at : last_point_or p points ≡ before = some_same comes.last in
+    let Close : Point → Type 0 = λ q. AreCloseAfter step q ends in
+    let Moving : Point → Type 0 = λ q. HasNoRepeatAfter q ends in
     record {
       first_is = comes.first_is;
-      last = ap (λ q. Some q) (last_from-append p points ends ∙ (ap (λ q. last_from q ends) at ∙ leads.last));
+      last = ap (λ q. Some q) (last_point_or-append p points ends ∙ (ap (λ q. last_point_or q ends) at ∙ leads.last));
       in_range = All-append IsNeedlePoint (p ∷ points) ends comes.in_range leads.in_range;
       close = close_on step p points ends comes.close (subst Close (sym at) leads.close);
       moving = moving_on p points ends comes.moving (subst Moving (sym at) leads.moving);
@@ -66,9 +66,9 @@ segment_comes step first before next (p ∷ points) ends comes leads =
 pub record IsSewn (step : ℕ) (line : List Point) (before : Point) (rest needles : List Point) : Type 0 where
   pub in_range : IsNeedlePoint before
   pub rest_in_range : All IsNeedlePoint rest
-  pub moving : KeepsMoving before rest
-  pub ends : last_of line ≡ Some (last_from before rest)
-  pub comes : ComesTo step (first_of line) before needles
+  pub moving : HasNoRepeatAfter before rest
+  pub ends : last_point line ≡ Some (last_point_or before rest)
+  pub comes : ComesTo step (first_point line) before needles
   pub sewn : needles ++ segment_points step before rest ≡ needle_points step line
 
 -- at the first point
@@ -96,7 +96,7 @@ first_sewn step line first rest is able =
 -- one segment on
 pub segment_sewn : (step : ℕ) (line : List Point) (before next : Point) (rest after needles ends : List Point)
     → IsSewn step line before rest needles → rest ≡ next ∷ after → ends ≡ split_points before next step
-    → LeadsTo before next step ends → IsSewn step line next after (needles ++ ends)
+    → LeadsBySteps before next step ends → IsSewn step line next after (needles ++ ends)
 segment_sewn step line before next rest after needles ends sewn is split leads =
     let Sewn : List Point → Type 0 = λ r. IsSewn step line before r needles in
     let whole : IsSewn step line before (next ∷ after) needles = subst Sewn is sewn in
@@ -105,7 +105,7 @@ segment_sewn step line before next rest after needles ends sewn is split leads =
       rest_in_range = All-tail IsNeedlePoint next after whole.rest_in_range;
       moving = whole.moving.1;
       ends = whole.ends;
-      comes = segment_comes step (first_of line) before next needles ends sewn.comes leads;
+      comes = segment_comes step (first_point line) before next needles ends sewn.comes leads;
       sewn = append_assoc needles ends (segment_points step next after)
           ∙ (ap (λ e. needles ++ (e ++ segment_points step next after)) split ∙ whole.sewn);
     }
@@ -114,7 +114,7 @@ segment_sewn step line before next rest after needles ends sewn is split leads =
 pub next_segment : (step : ℕ) (line : List Point) (before next : Point) (rest after needles : List Point)
     → IsSewn step line before rest needles → rest ≡ next ∷ after → (before ≢ next) × IsNeedlePoint next
 next_segment step line before next rest after needles sewn is =
-    let Moving : List Point → Type 0 = λ r. KeepsMoving before r in
+    let Moving : List Point → Type 0 = λ r. HasNoRepeatAfter before r in
     let Able : List Point → Type 0 = λ r. All IsNeedlePoint r in
     ((subst Moving is sewn.moving).0, All-head IsNeedlePoint next after (subst Able is sewn.rest_in_range))
 
@@ -141,7 +141,7 @@ segment_count : (step : ℕ) (p : Point) (points : List Point)
 segment_count step p [] = refl
 segment_count step p (q ∷ rest) =
     let n : ℕ = steps_of p q step in
-    let one : length (split_points p q step) ≡ n = length-map-range_with_len (λ i. point_at p q n i) 1 n in
+    let one : length (split_points p q step) ≡ n = length-map-range_with_len (λ i. point_on_segment p q n i) 1 n in
     omega (
       arith,
       length-append (split_points p q step) (segment_points step q rest),
@@ -151,30 +151,30 @@ segment_count step p (q ∷ rest) =
 
 -- those of a line are one more
 pub needle_count : (step : ℕ) (points : List Point) → 1 ≤ length points
-    → length (needle_points step points) ≡ line_steps step points + 1
+    → length (needle_points step points) ≡ steps_of_line step points + 1
 needle_count step [] some = omega arith
 needle_count step (p ∷ rest) some = omega (arith, segment_count step p rest)
 
 -- a line of a drawing can be sewn, and costs no more than the entire drawing may
-module _ (d : DrawingValue) (line : ℕ) (there : line < length d.lines) (keeps : KeepsDrawing d) where
+module _ (d : DrawingValue) (line : ℕ) (there : line < length d.lines) (keeps : KeepsDrawingLimits d) where
   none : LineValue
   none = record { block = 0; points = [] }
 
   points_are : points_of d line ≡ (get_or d.lines line none).points
-  points_are = ap points_in (slice_get-get_or d.lines line none there)
+  points_are = ap optional_line_points (slice_get-get_or d.lines line none there)
 
   pub line_there : IsLine (points_of d line)
   line_there = let Line : List Point → Type 0 = λ points. IsLine points in
       subst Line (sym points_are) (keeps.lines line none there)
 
-  pub cost_is : length (needles_of d line) ≡ line_steps d.step (points_of d line) + 1
+  pub cost_is : length (needles_of_line d line) ≡ steps_of_line d.step (points_of d line) + 1
   cost_is = needle_count d.step (points_of d line) (omega (arith, line_there.long))
 
-  pub cost_few : line_steps d.step (points_of d line) ≤ 200000
+  pub cost_few : steps_of_line d.step (points_of d line) ≤ 200000
   cost_few =
-      let part = get_or-le-sum_by (λ l. line_steps d.step l.points) d.lines line none there in
-      let same : line_steps d.step (points_of d line) ≡ line_steps d.step ((get_or d.lines line none).points) =
-      ap (line_steps d.step) points_are in
+      let part = get_or-le-sum_by (λ l. steps_of_line d.step l.points) d.lines line none there in
+      let same : steps_of_line d.step (points_of d line) ≡ steps_of_line d.step ((get_or d.lines line none).points) =
+      ap (steps_of_line d.step) points_are in
       omega (arith, keeps.cost)
 
   pub few_points : length (points_of d line) ≤ 65536
@@ -184,7 +184,7 @@ module _ (d : DrawingValue) (line : ℕ) (there : line < length d.lines) (keeps 
 
 -- what holds of a line's needle points
 pub needles_sound : (d : DrawingValue) (line : ℕ) (points : List Point) → line < length d.lines
-    → KeepsDrawing d → points ≡ needles_of d line → LeadAlong d.step (points_of d line) points
+    → KeepsDrawingLimits d → points ≡ needles_of_line d line → LeadAlong d.step (points_of d line) points
     → AreNeedlesOf d line points
 needles_sound d line points there keeps is along = record {
   count = omega (arith, cost_is d line there keeps, ap length is);
@@ -213,25 +213,25 @@ line_leads lead step low (p ∷ rest) able =
     segments_lead lead step low (p ∷ rest) p rest (p ∷ []) (first_sewn step (p ∷ rest) p rest refl able)
 
 -- and so do those of a line of a drawing
-pub needles_lead : SplitPointsLead → (d : DrawingValue) (line : ℕ) → KeepsDrawing d → line < length d.lines
-    → AreNeedlesOf d line (needles_of d line)
+pub needles_lead : SplitPointsLead → (d : DrawingValue) (line : ℕ) → KeepsDrawingLimits d → line < length d.lines
+    → AreNeedlesOf d line (needles_of_line d line)
 needles_lead lead d line keeps there =
-    needles_sound d line (needles_of d line) there keeps refl
+    needles_sound d line (needles_of_line d line) there keeps refl
     (line_leads lead d.step keeps.step_from (points_of d line) (line_there d line there keeps))
 
 -- the cost of lines, one after another
-pub next_cost : (d : DrawingValue) (line cost next : ℕ) → KeepsDrawing d → line < length d.lines
+pub next_cost : (d : DrawingValue) (line cost next : ℕ) → KeepsDrawingLimits d → line < length d.lines
     → cost ≡ step_count d.step (take line d.lines) → next ≡ cost_of_line d line
     → (cost + next ≡ step_count d.step (take (line + 1) d.lines)) × (cost + next ≤ 200000)
 next_cost d line cost next keeps there so_far is =
-    let count : LineValue → ℕ = λ l. line_steps d.step l.points in
+    let count : LineValue → ℕ = λ l. steps_of_line d.step l.points in
     let none : LineValue = record { block = 0; points = [] } in
     let more = sum_by_more count d.lines line none there in
     let within = sum_by-take-le count d.lines (line + 1) in
-    let steps : cost_of_line d line ≡ line_steps d.step (points_of d line) = omega (arith, cost_is d line there keeps) in
+    let steps : cost_of_line d line ≡ steps_of_line d.step (points_of d line) = omega (arith, cost_is d line there keeps) in
     let here : next ≡ count (get_or d.lines line none) =
     is ∙ (steps ∙ ap points_cost (slice_get-get_or d.lines line none there)) in
     (omega (arith, so_far, more, here), omega (arith, so_far, more, here, within, keeps.cost))
   where
     points_cost : Option LineValue → ℕ
-    points_cost l = line_steps d.step (points_in l)
+    points_cost l = steps_of_line d.step (optional_line_points l)

@@ -5,11 +5,11 @@ use Rattle.line_sections.specs.Lines.{LineValue}
 use Rattle.line_graph.specs.declared.edge.Edge.{Edge}
 use Rattle.line_graph.specs.declared.pass.Pass.{Pass}
 use Rattle.line_graph.specs.Drawings.{DrawingValue}
-use Rattle.line_graph.specs.PieceGraphs.{degree, odd_junctions, piece_of}
-use Rattle.line_graph.specs.PieceParts.{labelled, parts_of}
-use Rattle.line_graph.specs.KeptPieces.{all_below, all_cost, ends_below, is_below}
-use Rattle.line_graph.specs.PieceWalks.{fits, passes, piece_cost, rises, walk_cost}
-use Rattle.line_graph.specs.Runs.{block_of_walk}
+use Rattle.line_graph.specs.PieceGraphs.{degree, odd_junctions, piece_graph}
+use Rattle.line_graph.specs.PieceLabels.{lines_labelled, pieces_by_label}
+use Rattle.line_graph.specs.ValidPieces.{all_below, all_costs_positive, ends_below, is_below}
+use Rattle.line_graph.specs.PieceWalks.{is_fitting_walk, passes, piece_cost, is_strictly_increasing, walk_cost}
+use Rattle.line_graph.specs.Runs.{block_of_passes}
 use Rattle.line_graph.proofs.WalkFacts.{at}
 
 -- a line through these points in a block
@@ -39,7 +39,7 @@ triangles = of_lines (line 0 (at 0 0 ∷ at 50 0 ∷ []) ∷ line 0 (at 50 0 ∷
     ∷ line 0 (at 90 0 ∷ at 50 0 ∷ []) ∷ line 0 (at 50 0 ∷ at 90 20 ∷ []) ∷ line 0 (at 90 20 ∷ at 90 0 ∷ []) ∷ [])
 
 -- the corner that they share has four line ends
-pub known_triangles : piece_of triangles (0 ∷ 1 ∷ 2 ∷ 3 ∷ 4 ∷ 5 ∷ []) ≡ record {
+pub known_triangles : piece_graph triangles (0 ∷ 1 ∷ 2 ∷ 3 ∷ 4 ∷ 5 ∷ []) ≡ record {
   block = 0;
   lines = 0 ∷ 1 ∷ 2 ∷ 3 ∷ 4 ∷ 5 ∷ [];
   junctions = at 0 0 ∷ at 50 0 ∷ at 0 30 ∷ at 90 0 ∷ at 90 20 ∷ [];
@@ -51,11 +51,11 @@ pub known_triangles : piece_of triangles (0 ∷ 1 ∷ 2 ∷ 3 ∷ 4 ∷ 5 ∷ []
 known_triangles = refl
 
 -- no junction is odd
-pub known_none_odd : odd_junctions (piece_of triangles (0 ∷ 1 ∷ 2 ∷ 3 ∷ 4 ∷ 5 ∷ [])) ≡ []
+pub known_none_odd : odd_junctions (piece_graph triangles (0 ∷ 1 ∷ 2 ∷ 3 ∷ 4 ∷ 5 ∷ [])) ≡ []
 known_none_odd = refl
 
 -- each triangle once is a closed walk, and passes each line
-pub known_round : fits (piece_of triangles (0 ∷ 1 ∷ 2 ∷ 3 ∷ 4 ∷ 5 ∷ []))
+pub known_round : is_fitting_walk (piece_graph triangles (0 ∷ 1 ∷ 2 ∷ 3 ∷ 4 ∷ 5 ∷ []))
     (forth 0 ∷ forth 4 ∷ forth 5 ∷ forth 3 ∷ forth 1 ∷ forth 2 ∷ []) ≡ true
 known_round = refl
 
@@ -65,7 +65,7 @@ lollipop = of_lines (line 0 (at 0 0 ∷ at 20 0 ∷ []) ∷ line 1 (at 20 0 ∷ 
     (at 0 0 ∷ at 20 0 ∷ []) ∷ [])
 
 -- the closed line and the stick are a piece of block 1
-pub known_lollipop : piece_of lollipop (1 ∷ 2 ∷ []) ≡ record {
+pub known_lollipop : piece_graph lollipop (1 ∷ 2 ∷ []) ≡ record {
   block = 1;
   lines = 1 ∷ 2 ∷ [];
   junctions = at 20 0 ∷ at 0 0 ∷ [];
@@ -77,7 +77,7 @@ pub known_lollipop : piece_of lollipop (1 ∷ 2 ∷ []) ≡ record {
 known_lollipop = refl
 
 -- its junctions are both odd
-pub known_lollipop_odd : odd_junctions (piece_of lollipop (1 ∷ 2 ∷ [])) ≡ 0 ∷ 1 ∷ []
+pub known_lollipop_odd : odd_junctions (piece_graph lollipop (1 ∷ 2 ∷ [])) ≡ 0 ∷ 1 ∷ []
 known_lollipop_odd = refl
 
 -- a line that ends where it begins has both ends there
@@ -85,15 +85,15 @@ pub known_loop_degree : degree (edge 3 3 4 ∷ edge 5 3 1 ∷ []) 3 ≡ 3
 known_loop_degree = refl
 
 -- the stick is passed forth and back
-pub known_lick : fits (piece_of lollipop (1 ∷ 2 ∷ [])) (forth 1 ∷ back 2 ∷ forth 2 ∷ []) ≡ true
+pub known_lick : is_fitting_walk (piece_graph lollipop (1 ∷ 2 ∷ [])) (forth 1 ∷ back 2 ∷ forth 2 ∷ []) ≡ true
 known_lick = refl
 
 -- and costs twice its two steps
-pub known_lick_cost : walk_cost (piece_of lollipop (1 ∷ 2 ∷ [])) (forth 1 ∷ back 2 ∷ forth 2 ∷ []) ≡ 10
+pub known_lick_cost : walk_cost (piece_graph lollipop (1 ∷ 2 ∷ [])) (forth 1 ∷ back 2 ∷ forth 2 ∷ []) ≡ 10
 known_lick_cost = refl
 
 -- each line of the piece once
-pub known_lollipop_cost : piece_cost (piece_of lollipop (1 ∷ 2 ∷ [])) ≡ 8
+pub known_lollipop_cost : piece_cost (piece_graph lollipop (1 ∷ 2 ∷ [])) ≡ 8
 known_lollipop_cost = refl
 
 -- the stick is passed twice, in whichever direction
@@ -101,11 +101,11 @@ pub known_passes : (passes 2 (forth 1 ∷ back 2 ∷ forth 2 ∷ []) ≡ 2) × (
 known_passes = (refl, refl)
 
 -- a walk is sewn in the block of its first line
-pub known_block_of_walk : block_of_walk lollipop (back 2 ∷ forth 0 ∷ []) ≡ 1
+pub known_block_of_walk : block_of_passes lollipop (back 2 ∷ forth 0 ∷ []) ≡ 1
 known_block_of_walk = refl
 
 -- a line of another piece is no part of it
-pub known_stray : fits (piece_of lollipop (1 ∷ 2 ∷ [])) (forth 1 ∷ back 0 ∷ forth 2 ∷ []) ≡ false
+pub known_stray : is_fitting_walk (piece_graph lollipop (1 ∷ 2 ∷ [])) (forth 1 ∷ back 0 ∷ forth 2 ∷ []) ≡ false
 known_stray = refl
 
 -- three lines between two junctions, the second drawn back
@@ -114,7 +114,7 @@ theta = of_lines (line 0 (at 0 0 ∷ at 10 0 ∷ []) ∷ line 0 (at 10 0 ∷ at 
     ∷ line 0 (at 0 0 ∷ at 0 25 ∷ at 10 25 ∷ at 10 0 ∷ []) ∷ [])
 
 -- each junction has three line ends
-pub known_theta : piece_of theta (0 ∷ 1 ∷ 2 ∷ []) ≡ record {
+pub known_theta : piece_graph theta (0 ∷ 1 ∷ 2 ∷ []) ≡ record {
   block = 0;
   lines = 0 ∷ 1 ∷ 2 ∷ [];
   junctions = at 0 0 ∷ at 10 0 ∷ [];
@@ -126,23 +126,24 @@ pub known_theta : piece_of theta (0 ∷ 1 ∷ 2 ∷ []) ≡ record {
 known_theta = refl
 
 -- one line is passed twice, so that the walk comes home
-pub known_home : fits (piece_of theta (0 ∷ 1 ∷ 2 ∷ [])) (forth 0 ∷ forth 1 ∷ forth 2 ∷ back 0 ∷ []) ≡ true
+pub known_home : is_fitting_walk (piece_graph theta (0 ∷ 1 ∷ 2 ∷ [])) (forth 0 ∷ forth 1 ∷ forth 2 ∷ back 0 ∷ []) ≡ true
 known_home = refl
 
 -- a walk that ends elsewhere doesn't fit
-pub known_open : fits (piece_of theta (0 ∷ 1 ∷ 2 ∷ [])) (forth 0 ∷ forth 1 ∷ forth 2 ∷ []) ≡ false
+pub known_open : is_fitting_walk (piece_graph theta (0 ∷ 1 ∷ 2 ∷ [])) (forth 0 ∷ forth 1 ∷ forth 2 ∷ []) ≡ false
 known_open = refl
 
 -- nor one whose line does not start where the one before ended
-pub known_broken : fits (piece_of theta (0 ∷ 1 ∷ 2 ∷ [])) (forth 0 ∷ back 1 ∷ forth 2 ∷ back 0 ∷ []) ≡ false
+pub known_broken : is_fitting_walk (piece_graph theta (0 ∷ 1 ∷ 2 ∷ [])) (forth 0 ∷ back 1 ∷ forth 2 ∷ back 0 ∷ []) ≡ false
 known_broken = refl
 
 -- nor one that omits a line
-pub known_uncovered : fits (piece_of theta (0 ∷ 1 ∷ 2 ∷ [])) (forth 0 ∷ forth 1 ∷ []) ≡ false
+pub known_uncovered : is_fitting_walk (piece_graph theta (0 ∷ 1 ∷ 2 ∷ [])) (forth 0 ∷ forth 1 ∷ []) ≡ false
 known_uncovered = refl
 
 -- numbers that rise repeat none
-pub known_rising : (rises (1 ∷ 3 ∷ 4 ∷ []) ≡ true) × (rises (1 ∷ 3 ∷ 3 ∷ []) ≡ false) × (rises (2 ∷ 3 ∷ 1 ∷ []) ≡ false)
+pub known_rising : (is_strictly_increasing (1 ∷ 3 ∷ 4 ∷ []) ≡ true) × (is_strictly_increasing (1 ∷ 3 ∷ 3 ∷ []) ≡ false)
+    × (is_strictly_increasing (2 ∷ 3 ∷ 1 ∷ []) ≡ false)
 known_rising = (refl, refl, refl)
 
 -- what is below a number is less, and both ends of an edge are tested
@@ -153,13 +154,13 @@ pub known_below : (all_below 3 (2 ∷ 0 ∷ []) ≡ true) × (all_below 3 (0 ∷
 known_below = (refl, refl, refl, refl, refl, refl, refl, refl)
 
 -- one step is a cost, and none isn't
-pub known_costs : (all_cost (edge 0 1 1 ∷ edge 1 2 3 ∷ []) ≡ true) × (all_cost (edge 0 1 1 ∷ edge 1 2 0 ∷ []) ≡ false)
+pub known_costs : (all_costs_positive (edge 0 1 1 ∷ edge 1 2 3 ∷ []) ≡ true) × (all_costs_positive (edge 0 1 1 ∷ edge 1 2 0 ∷ []) ≡ false)
 known_costs = (refl, refl)
 
 -- the lines with a label
-pub known_labelled : labelled (0 ∷ 1 ∷ 0 ∷ 1 ∷ 4 ∷ 1 ∷ []) 1 ≡ 1 ∷ 3 ∷ 5 ∷ []
+pub known_labelled : lines_labelled (0 ∷ 1 ∷ 0 ∷ 1 ∷ 4 ∷ 1 ∷ []) 1 ≡ 1 ∷ 3 ∷ 5 ∷ []
 known_labelled = refl
 
 -- the lines with each label
-pub known_parts : parts_of (0 ∷ 1 ∷ 0 ∷ 1 ∷ 4 ∷ 1 ∷ []) ≡ (0 ∷ 2 ∷ []) ∷ (1 ∷ 3 ∷ 5 ∷ []) ∷ (4 ∷ []) ∷ []
+pub known_parts : pieces_by_label (0 ∷ 1 ∷ 0 ∷ 1 ∷ 4 ∷ 1 ∷ []) ≡ (0 ∷ 2 ∷ []) ∷ (1 ∷ 3 ∷ 5 ∷ []) ∷ (4 ∷ []) ∷ []
 known_parts = refl

@@ -9,7 +9,7 @@ use Rattle.design_model.specs.Points.{is_same_point}
 use Rattle.line_sections.specs.Lines.{LineValue}
 use Rattle.line_graph.proofs.MakerLemmas.{same_found}
 use Rattle.line_graph.proofs.PointLemmas.{same_point}
-use Rattle.line_graph.specs.Pieces.{ends_of, shares_point, touches}
+use Rattle.line_graph.specs.Pieces.{endpoints, shares_point, touches}
 
 -- a test that passes where another does
 any_more : {X : Type 0} (f g : X → Bool) → ((x : X) → f x ≡ true → g x ≡ true) → (xs : List X)
@@ -43,6 +43,6 @@ shares_turned (p ∷ ps) qs shared =
 
 pub touch_turned : (a b : LineValue) → touches a b ≡ true → touches b a ≡ true
 touch_turned a b touch =
-    let both = and_parts (a.block == b.block) (shares_point (ends_of a.points) (ends_of b.points)) touch in
+    let both = and_parts (a.block == b.block) (shares_point (endpoints a.points) (endpoints b.points)) touch in
     let block : (b.block == a.block) ≡ true = grind (arith, nat_tests, both.0) in
-    rw (block, shares_turned (ends_of a.points) (ends_of b.points) both.1) refl
+    rw (block, shares_turned (endpoints a.points) (endpoints b.points) both.1) refl

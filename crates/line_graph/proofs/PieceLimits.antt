@@ -11,12 +11,12 @@ use Rattle.std.specs.List.{AllZip, concat}
 use Rattle.std.specs.List.Sorted.{IsStrictlyIncreasing}
 use Rattle.line_sections.specs.Lines.{LineValue}
 use Rattle.line_graph.specs.declared.pass.Pass.{Pass}
-use Rattle.line_graph.specs.Drawings.{DrawingValue, KeepsDrawing, block_in, block_of, points_in}
-use Rattle.line_graph.specs.Needles.{line_steps}
-use Rattle.line_graph.specs.PieceGraphs.{edge_between, junctions_of, piece_of}
-use Rattle.line_graph.specs.Pieces.{Joined, Leads, TouchAt, first_line, shares_point, ends_of}
-use Rattle.line_graph.specs.PieceWalks.{cost_of, edge_sum, piece_cost}
-use Rattle.line_graph.specs.Runs.{block_of_walk, runs_of, stops_after}
+use Rattle.line_graph.specs.Drawings.{DrawingValue, KeepsDrawingLimits, optional_line_block, block_of, optional_line_points}
+use Rattle.line_graph.specs.Needles.{steps_of_line}
+use Rattle.line_graph.specs.PieceGraphs.{edge_between, junctions_of, piece_graph}
+use Rattle.line_graph.specs.Pieces.{AreConnected, IsPathOfLines, LinesTouch, first_line, shares_point, endpoints}
+use Rattle.line_graph.specs.PieceWalks.{edge_cost, edge_sum, piece_cost}
+use Rattle.line_graph.specs.Runs.{block_of_passes, runs_of, stops_after}
 use Rattle.line_graph.specs.SewnWalks.{GoesAlong, PiecesKeepLimits}
 use Rattle.line_graph.specs.Walks.{cost_of_line}
 use Rattle.line_graph.proofs.NeedleLemmas.{cost_is}
@@ -123,64 +123,65 @@ sum_once f n xs below few =
     at_most (suc (suc a)) k h = absurd (omega arith)
 
 -- chains lead on and back
-pub leads_on : (d : DrawingValue) (i j k : ℕ) (first then : List ℕ) → Leads d i first j → Leads d j then k → Leads d i (first ++ then) k
-leads_on d i j k [] then is on = subst (λ (n : ℕ). Leads d n then k) (sym is) on
+pub leads_on : (d : DrawingValue) (i j k : ℕ) (first then : List ℕ) → IsPathOfLines d i first j → IsPathOfLines d j then k
+    → IsPathOfLines d i (first ++ then) k
+leads_on d i j k [] then is on = subst (λ (n : ℕ). IsPathOfLines d n then k) (sym is) on
 leads_on d i j k (m ∷ first) then is on = (is.0, leads_on d m j k first then is.1 on)
 
-pub leads_back : (d : DrawingValue) (i j : ℕ) (chain : List ℕ) → Leads d i chain j → Joined d j i
+pub leads_back : (d : DrawingValue) (i j : ℕ) (chain : List ℕ) → IsPathOfLines d i chain j → AreConnected d j i
 leads_back d i j [] is = ([], sym is)
 leads_back d i j (k ∷ chain) is =
     let back = leads_back d k j chain is.1 in
     (back.0 ++ i ∷ [], leads_on d j k i back.0 (i ∷ []) back.1 (turned is.0, refl))
   where
-    turned : TouchAt d i k → TouchAt d k i
+    turned : LinesTouch d i k → LinesTouch d k i
     turned t = record { one = t.other; other = t.one; one_is = t.other_is; other_is = t.one_is; touch = touch_turned t.one t.other t.touch }
 
 -- connected lines are in one block
-one_block : (d : DrawingValue) (i j : ℕ) (chain : List ℕ) → Leads d i chain j → block_of d i ≡ block_of d j
+one_block : (d : DrawingValue) (i j : ℕ) (chain : List ℕ) → IsPathOfLines d i chain j → block_of d i ≡ block_of d j
 one_block d i j [] is = ap (block_of d) is
 one_block d i j (k ∷ chain) is = step is.0 ∙ one_block d k j chain is.1
   where
-    step : TouchAt d i k → block_of d i ≡ block_of d k
+    step : LinesTouch d i k → block_of d i ≡ block_of d k
     step t =
         let block = same t.one.block t.other.block (and_parts (t.one.block == t.other.block)
-        (shares_point (ends_of t.one.points) (ends_of t.other.points)) t.touch).0 in
-        ap block_in t.one_is ∙ block ∙ sym (ap block_in t.other_is)
+        (shares_point (endpoints t.one.points) (endpoints t.other.points)) t.touch).0 in
+        ap optional_line_block t.one_is ∙ block ∙ sym (ap optional_line_block t.other_is)
 
 -- no line is in two pieces
-apart : (d : DrawingValue) (a b : List ℕ) (n : ℕ) → All (Joined d (first_line a)) a → All (Joined d (first_line b)) b
-    → (Joined d (first_line a) (first_line b) → ⊥) → Contains a n → Contains b n → ⊥
+apart : (d : DrawingValue) (a b : List ℕ) (n : ℕ) → All (AreConnected d (first_line a)) a → All (AreConnected d (first_line b)) b
+    → (AreConnected d (first_line a) (first_line b) → ⊥) → Contains a n → Contains b n → ⊥
 apart d a b n joins_a joins_b other in_a in_b =
-    let to = All-contains (Joined d (first_line a)) a n joins_a in_a in
-    let from = All-contains (Joined d (first_line b)) b n joins_b in_b in
+    let to = All-contains (AreConnected d (first_line a)) a n joins_a in_a in
+    let from = All-contains (AreConnected d (first_line b)) b n joins_b in_b in
     let back = leads_back d (first_line b) n from.0 from.1 in
     other (to.0 ++ back.0, leads_on d (first_line a) n (first_line b) to.0 back.0 to.1 back.1)
 
 -- the pieces from one on
 record Rest (d : DrawingValue) (pieces : List (List ℕ)) : Type 0 where
-  joined : All (λ piece. All (Joined d (first_line piece)) piece) pieces
-  apart_all : AllPairs (λ a b. Joined d (first_line a) (first_line b) → ⊥) pieces
+  joined : All (λ piece. All (AreConnected d (first_line piece)) piece) pieces
+  apart_all : AllPairs (λ a b. AreConnected d (first_line a) (first_line b) → ⊥) pieces
   rising : All IsStrictlyIncreasing pieces
 
 rest_of : (d : DrawingValue) (a : List ℕ) (pieces : List (List ℕ)) → Rest d (a ∷ pieces) → Rest d pieces
 rest_of d a pieces r = record {
-  joined = All-tail (λ piece. All (Joined d (first_line piece)) piece) a pieces r.joined;
+  joined = All-tail (λ piece. All (AreConnected d (first_line piece)) piece) a pieces r.joined;
   apart_all = λ i. λ j. λ x. λ less. λ below. r.apart_all (suc i) (suc j) x (omega (arith, less)) (omega (arith, below));
   rising = All-tail IsStrictlyIncreasing a pieces r.rising;
 }
 
-none_in : (d : DrawingValue) (a : List ℕ) (n : ℕ) → Contains a n → All (Joined d (first_line a)) a → (pieces : List (List ℕ))
-    → All (λ piece. All (Joined d (first_line piece)) piece) pieces
-    → ((j : ℕ) → j < length pieces → Joined d (first_line a) (first_line (get_or pieces j [])) → ⊥) → often n (concat pieces) ≡ 0
+none_in : (d : DrawingValue) (a : List ℕ) (n : ℕ) → Contains a n → All (AreConnected d (first_line a)) a → (pieces : List (List ℕ))
+    → All (λ piece. All (AreConnected d (first_line piece)) piece) pieces
+    → ((j : ℕ) → j < length pieces → AreConnected d (first_line a) (first_line (get_or pieces j [])) → ⊥) → often n (concat pieces) ≡ 0
 none_in d a n in_a joins [] all other = refl
 none_in d a n in_a joins (b ∷ pieces) all other =
-    let rest = none_in d a n in_a joins pieces (All-tail (λ piece. All (Joined d (first_line piece)) piece) b pieces all)
+    let rest = none_in d a n in_a joins pieces (All-tail (λ piece. All (AreConnected d (first_line piece)) piece) b pieces all)
     (λ j. λ below. other (suc j) (omega (arith, below))) in
     omega (arith, often_append n b (concat pieces), rest, by_number (often n b) refl)
   where
     by_number : (k : ℕ) → often n b ≡ k → often n b ≡ 0
     by_number zero is = is
-    by_number (suc k) is = absurd (apart d a b n joins (All-head (λ piece. All (Joined d (first_line piece)) piece) b pieces all)
+    by_number (suc k) is = absurd (apart d a b n joins (All-head (λ piece. All (AreConnected d (first_line piece)) piece) b pieces all)
         (other 0 (omega arith)) in_a
         (there n b (omega (arith, is))))
 
@@ -193,8 +194,8 @@ each_once d (a ∷ pieces) r n = by_number (often n a) refl
     by_number zero is few rest = omega (arith, often_append n a (concat pieces), is, rest)
     by_number (suc k) is few rest =
         let none = none_in d a n (there n a (omega (arith, is)))
-        (All-head (λ piece. All (Joined d (first_line piece)) piece) a pieces r.joined) pieces
-        (All-tail (λ piece. All (Joined d (first_line piece)) piece) a pieces r.joined)
+        (All-head (λ piece. All (AreConnected d (first_line piece)) piece) a pieces r.joined) pieces
+        (All-tail (λ piece. All (AreConnected d (first_line piece)) piece) a pieces r.joined)
         (λ j. λ below. r.apart_all 0 (suc j) [] (omega arith) (omega (arith, below))) in
         omega (arith, often_append n a (concat pieces), few, none)
 
@@ -203,18 +204,18 @@ sum_append f [] ys = omega arith
 sum_append f (x ∷ xs) ys = omega (arith, sum_by-cons f x (xs ++ ys), sum_by-cons f x xs, sum_append f xs ys)
 
 -- what a piece costs is what its lines cost
-pub cost_of_piece : (d : DrawingValue) (js : List _) (lines : List ℕ) → edge_sum cost_of (map (edge_between d js) lines)
+pub cost_of_piece : (d : DrawingValue) (js : List _) (lines : List ℕ) → edge_sum edge_cost (map (edge_between d js) lines)
     ≡ sum_by (cost_of_line d) lines
 cost_of_piece d js [] = refl
 cost_of_piece d js (line ∷ lines) = omega (arith, cost_of_piece d js lines, sum_by-cons (cost_of_line d) line lines)
 
-pieces_cost : (d : DrawingValue) (pieces : List (List ℕ)) → sum_by (λ lines. piece_cost (piece_of d lines)) pieces
+pieces_cost : (d : DrawingValue) (pieces : List (List ℕ)) → sum_by (λ lines. piece_cost (piece_graph d lines)) pieces
     ≡ sum_by (cost_of_line d) (concat pieces)
 pieces_cost d [] = refl
 pieces_cost d (lines ∷ pieces) =
     omega (
       arith,
-      sum_by-cons (λ lines. piece_cost (piece_of d lines)) lines pieces,
+      sum_by-cons (λ lines. piece_cost (piece_graph d lines)) lines pieces,
       cost_of_piece d (junctions_of d lines) lines,
       pieces_cost d pieces,
       sum_append (cost_of_line d) lines (concat pieces),
@@ -258,15 +259,15 @@ over_items g f (x ∷ items) at is =
     next at k = omega arith
 
 -- what a line of a drawing costs is its steps
-line_cost : (d : DrawingValue) → KeepsDrawing d → (k : ℕ) (x : LineValue) → slice_get d.lines k ≡ Some x → cost_of_line d k
-    ≡ line_steps d.step x.points
+line_cost : (d : DrawingValue) → KeepsDrawingLimits d → (k : ℕ) (x : LineValue) → slice_get d.lines k ≡ Some x → cost_of_line d k
+    ≡ steps_of_line d.step x.points
 line_cost d keeps k x here =
     let counted = cost_is d k (slice_get_within d.lines k x here) keeps in
-    omega (arith, counted, ap (λ (o : Option LineValue). line_steps d.step (points_in o)) here)
+    omega (arith, counted, ap (λ (o : Option LineValue). steps_of_line d.step (optional_line_points o)) here)
 
-pub lines_cost : (d : DrawingValue) → KeepsDrawing d → sum_over (cost_of_line d) 0 (length d.lines)
-    ≡ sum_by (λ (line : LineValue). line_steps d.step line.points) d.lines
-lines_cost d keeps = over_items (λ (line : LineValue). line_steps d.step line.points) (cost_of_line d) d.lines 0
+pub lines_cost : (d : DrawingValue) → KeepsDrawingLimits d → sum_over (cost_of_line d) 0 (length d.lines)
+    ≡ sum_by (λ (line : LineValue). steps_of_line d.step line.points) d.lines
+lines_cost d keeps = over_items (λ (line : LineValue). steps_of_line d.step line.points) (cost_of_line d) d.lines 0
     (λ k. λ x. λ here. ap (cost_of_line d) (none k) ∙ line_cost d keeps k x here)
   where
     none : (k : ℕ) → 0 + k ≡ k
@@ -276,14 +277,14 @@ lines_cost d keeps = over_items (λ (line : LineValue). line_steps d.step line.p
 block_at : (d : DrawingValue) (i : ℕ) → i < length d.lines → block_of d i ≡ get_or (map (λ (line : LineValue). line.block) d.lines) i 0
 block_at d i below = at d.lines i below
   where
-    at : (lines : List LineValue) (i : ℕ) → i < length lines → block_in (slice_get lines i)
+    at : (lines : List LineValue) (i : ℕ) → i < length lines → optional_line_block (slice_get lines i)
         ≡ get_or (map (λ (line : LineValue). line.block) lines) i 0
     at [] i below = absurd (omega arith)
     at (x ∷ lines) zero below = refl
     at (x ∷ lines) (suc i) below = at lines i (omega arith)
 
 -- later lines stand in later blocks, or in the same one
-blocks_rise : (d : DrawingValue) → KeepsDrawing d → (i j : ℕ) → i ≤ j → j < length d.lines → block_of d i ≤ block_of d j
+blocks_rise : (d : DrawingValue) → KeepsDrawingLimits d → (i j : ℕ) → i ≤ j → j < length d.lines → block_of d i ≤ block_of d j
 blocks_rise d keeps i j less below =
     let wide : length (map (λ (line : LineValue). line.block) d.lines) ≡ length d.lines =
     length-map d.lines (λ (line : LineValue). line.block) in
@@ -294,16 +295,16 @@ blocks_rise d keeps i j less below =
 record Blocks (d : DrawingValue) (block : ℕ) (pieces : List (List ℕ)) : Type 0 where
   filled : All (λ piece. piece ≢ []) pieces
   below : All (λ line. line < length d.lines) (concat pieces)
-  joined : All (λ piece. All (Joined d (first_line piece)) piece) pieces
+  joined : All (λ piece. All (AreConnected d (first_line piece)) piece) pieces
   rising : All (λ piece. block ≤ block_of d (first_line piece)) pieces
   ordered : AllPairs (λ a b. first_line a < first_line b) pieces
 
 -- the block of a walk along a piece
-walk_block : (d : DrawingValue) (piece : List ℕ) (walk : List Pass) → All (Joined d (first_line piece)) piece → GoesAlong piece walk
-    → block_of_walk d walk ≡ block_of d (first_line piece)
+walk_block : (d : DrawingValue) (piece : List ℕ) (walk : List Pass) → All (AreConnected d (first_line piece)) piece → GoesAlong piece walk
+    → block_of_passes d walk ≡ block_of d (first_line piece)
 walk_block d piece [] joins along = absurd (omega (arith, along.some))
 walk_block d piece (p ∷ walk) joins along =
-    let to = All-contains (Joined d (first_line piece)) piece p.line joins
+    let to = All-contains (AreConnected d (first_line piece)) piece p.line joins
     (All-head (λ (pass : Pass). Contains piece pass.line) p walk along.there) in
     sym (one_block d (first_line piece) p.line to.0 to.1)
 
@@ -312,26 +313,28 @@ first_there : (d : DrawingValue) (a : List ℕ) (pieces : List (List ℕ)) → a
 first_there d [] pieces filled below = absurd (filled refl)
 first_there d (n ∷ a) pieces filled below = All-head (λ line. line < length d.lines) n (a ++ concat pieces) below
 
-few_stops : (d : DrawingValue) → KeepsDrawing d → (block : ℕ) → block < length d.threads → (pieces : List (List ℕ)) → Blocks d block pieces
+few_stops : (d : DrawingValue) → KeepsDrawingLimits d → (block : ℕ) → block < length d.threads → (pieces : List (List ℕ))
+    → Blocks d block pieces
     → (walks : List (List Pass)) → AllZip GoesAlong pieces walks → stops_after block (runs_of d walks) + block + 1 ≤ length d.threads
 few_stops d keeps block within [] b [] along = omega (arith, within)
 few_stops d keeps block within [] b (walk ∷ walks) along = absurd along
 few_stops d keeps block within (a ∷ pieces) b [] along = absurd along
 few_stops d keeps block within (a ∷ pieces) b (walk ∷ walks) along =
-    let here = walk_block d a walk (All-head (λ piece. All (Joined d (first_line piece)) piece) a pieces b.joined) along.0 in
+    let here = walk_block d a walk (All-head (λ piece. All (AreConnected d (first_line piece)) piece) a pieces b.joined) along.0 in
     let first = first_there d a pieces (All-head (λ piece. piece ≢ []) a pieces b.filled) b.below in
     let up = All-head (λ piece. block ≤ block_of d (first_line piece)) a pieces b.rising in
     let rest = few_stops d keeps (block_of d (first_line a)) (block_within d keeps (first_line a) first) pieces (record {
       filled = All-tail (λ piece. piece ≢ []) a pieces b.filled;
       below = All-behind (λ line. line < length d.lines) a (concat pieces) b.below;
-      joined = All-tail (λ piece. All (Joined d (first_line piece)) piece) a pieces b.joined;
+      joined = All-tail (λ piece. All (AreConnected d (first_line piece)) piece) a pieces b.joined;
       rising = λ k. λ x. λ below_k. blocks_rise d keeps (first_line a) (first_line (get_or pieces k x))
           (less_or_same (b.ordered 0 (suc k) x (omega arith) (omega (arith, below_k))))
           (first_at d pieces k x below_k (All-tail (λ piece. piece ≢ []) a pieces b.filled)
           (All-behind (λ line. line < length d.lines) a (concat pieces) b.below));
       ordered = λ i. λ j. λ x. λ less. λ below_j. b.ordered (suc i) (suc j) x (omega (arith, less)) (omega (arith, below_j));
     }) walks along.1 in
-    stop (block_of_walk d walk) (block_of d (first_line a)) block (length d.threads) (stops_after (block_of_walk d walk) (runs_of d walks))
+    stop (block_of_passes d walk) (block_of d (first_line a)) block (length d.threads)
+    (stops_after (block_of_passes d walk) (runs_of d walks))
     (stops_after (block_of d (first_line a)) (runs_of d walks)) here (ap (λ (n : ℕ). stops_after n (runs_of d walks)) here) up rest
   where
     less_or_same : {m n : ℕ} → m < n → m ≤ n
@@ -352,11 +355,11 @@ few_stops d keeps block within (a ∷ pieces) b (walk ∷ walks) along =
         first_at d pieces k x (omega arith) (All-tail (λ piece. piece ≢ []) a pieces filled)
         (All-behind (λ line. line < length d.lines) a (concat pieces) all)
 
-    block_within : (d : DrawingValue) → KeepsDrawing d → (line : ℕ) → line < length d.lines → block_of d line < length d.threads
+    block_within : (d : DrawingValue) → KeepsDrawingLimits d → (line : ℕ) → line < length d.lines → block_of d line < length d.threads
     block_within d keeps line below = at d.lines line below keeps.there
       where
         at : (lines : List LineValue) (i : ℕ) → i < length lines → All (λ (line : LineValue). line.block < length d.threads) lines
-            → block_in (slice_get lines i) < length d.threads
+            → optional_line_block (slice_get lines i) < length d.threads
         at [] i below all = absurd (omega arith)
         at (x ∷ lines) zero below all = All-head (λ (line : LineValue). line.block < length d.threads) x lines all
         at (x ∷ lines) (suc i) below all = at lines i (omega arith)

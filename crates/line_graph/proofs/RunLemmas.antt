@@ -6,12 +6,12 @@ use Rattle.design_model.specs.declared.act.Act.TheVariants as act
 use Rattle.design_model.specs.declared.command.Command.{Command}
 use Rattle.design_model.specs.declared.command.Command.TheVariants.{Stitch, Stop}
 use Rattle.design_model.specs.declared.point.Point.{Point}
-use Rattle.design_model.specs.Acts.{acts_from, bare}
-use Rattle.line_graph.specs.Runs.{HasNeedle, Run, acts_after, commands_after}
+use Rattle.design_model.specs.Acts.{acts_from, acts_without_numbers}
+use Rattle.line_graph.specs.Runs.{HasNeedle, Run, sewn_acts_after, commands_after}
 
 -- with no jump so far the commands have these acts, whatever number they begin at
 abbrev Come : Bool → List Command → List Act → Type 0
-Come loose commands acts = (n : ℕ) → bare (acts_from n loose false commands) ≡ acts
+Come loose commands acts = (n : ℕ) → acts_without_numbers (acts_from n loose false commands) ≡ acts
 
 -- stop commands are read as stops
 stops_come : (k : ℕ) (rest : List Command) (acts : List Act) → Come true rest acts
@@ -34,7 +34,7 @@ some_come (p ∷ points) rest acts some come n =
     ap (λ more. act.Needle p false ∷ more) (stitches_come points rest acts come (n + 1))
 
 -- the commands that sew runs have the acts that sew them
-pub runs_come : (block : ℕ) (runs : List Run) → All HasNeedle runs → Come true (commands_after block runs) (acts_after block runs)
+pub runs_come : (block : ℕ) (runs : List Run) → All HasNeedle runs → Come true (commands_after block runs) (sewn_acts_after block runs)
 runs_come block [] some = λ n. refl
 runs_come block (run ∷ rest) some =
     stops_come (run.block - block) _ _

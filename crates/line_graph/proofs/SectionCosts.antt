@@ -6,13 +6,13 @@ use Rattle.std.proofs.lemmas.List.Folds.{flat_map-map}
 use Rattle.std.proofs.lemmas.List.Sums.{sum_by-append, sum_by-cons}
 use Rattle.std.specs.List.{flat_map}
 use Rattle.design_model.specs.declared.point.Point.{Point}
-use Rattle.step_splitter.specs.Chains.{IsNeedlePoint, KeepsMoving}
+use Rattle.step_splitter.specs.Chains.{IsNeedlePoint, HasNoRepeatAfter}
 use Rattle.step_splitter.specs.Steps.{steps_of}
 use Rattle.line_sections.specs.Lines.{LineValue}
-use Rattle.line_sections.specs.Sections.{SectionsHaveSegments, SectionsKeepSegments, all_sections, is_shared, line_sections, sections_of, segments_from, segments_of}
+use Rattle.line_sections.specs.Sections.{SectionsHaveSegments, SectionsKeepSegments, all_sections, is_shared_point, line_sections, sections_of, segments_from, segments_of}
 use Rattle.line_graph.specs.Drawings.{IsLine}
-use Rattle.line_graph.specs.Growing.{step_count}
-use Rattle.line_graph.specs.Needles.{line_steps, segment_steps}
+use Rattle.line_graph.specs.GrowingDrawings.{step_count}
+use Rattle.line_graph.specs.Needles.{steps_of_line, segment_steps}
 
 -- the steps of a segment
 abbrev steps_along : ℕ → Point × Point → ℕ
@@ -23,7 +23,7 @@ steps_from : (step : ℕ) (p : Point) (rest : List Point) → segment_steps step
 steps_from step p [] = refl
 steps_from step p (q ∷ rest) = omega (arith, steps_from step q rest, sum_by-cons (steps_along step) (p, q) (segments_from q rest))
 
-steps_of_points : (step : ℕ) (points : List Point) → line_steps step points ≡ sum_by (steps_along step) (segments_of points)
+steps_of_points : (step : ℕ) (points : List Point) → steps_of_line step points ≡ sum_by (steps_along step) (segments_of points)
 steps_of_points step [] = refl
 steps_of_points step (p ∷ rest) = steps_from step p rest
 
@@ -35,7 +35,7 @@ steps_of_lines step [] = refl
 steps_of_lines step (line ∷ rest) =
     omega (
       arith,
-      sum_by-cons (λ (l : LineValue). line_steps step l.points) line rest,
+      sum_by-cons (λ (l : LineValue). steps_of_line step l.points) line rest,
       steps_of_points step line.points,
       steps_of_lines step rest,
       ap (sum_by (steps_along step)) (flat_map-cons segments_along line rest),
@@ -47,11 +47,11 @@ sections_along : SectionsKeepSegments → (all lines : List LineValue)
     → flat_map segments_along (flat_map (line_sections all) lines) ≡ flat_map segments_along lines
 sections_along keep all [] = refl
 sections_along keep all (line ∷ rest) =
-    let parts : List (List Point) = sections_of (is_shared all line.block) line.points in
+    let parts : List (List Point) = sections_of (is_shared_point all line.block) line.points in
     let more : List LineValue = flat_map (line_sections all) rest in
     let here : flat_map segments_along (line_sections all line) ≡ segments_of line.points =
     flat_map-map segments_along (λ points. record { block = line.block; points = points }) parts
-    ∙ keep (is_shared all line.block) line.points in
+    ∙ keep (is_shared_point all line.block) line.points in
     ap (flat_map segments_along) (flat_map-cons (line_sections all) line rest)
     ∙ (flat_map-append segments_along (line_sections all line) more
     ∙ (ap (λ (first : List (Point × Point)). first ++ flat_map segments_along more) here
@@ -69,7 +69,7 @@ cost_kept keep step lines =
 abbrev CanSew : Point × Point → Type 0
 CanSew segment = (segment.0 ≢ segment.1) × IsNeedlePoint segment.0 × IsNeedlePoint segment.1
 
-segments_sew : (p : Point) (rest : List Point) → KeepsMoving p rest → All IsNeedlePoint (p ∷ rest) → All CanSew (segments_from p rest)
+segments_sew : (p : Point) (rest : List Point) → HasNoRepeatAfter p rest → All IsNeedlePoint (p ∷ rest) → All CanSew (segments_from p rest)
 segments_sew p [] moving able = All-nil CanSew
 segments_sew p (q ∷ rest) moving able =
     let later = All-tail IsNeedlePoint p (q ∷ rest) able in
@@ -83,7 +83,7 @@ line_sews (p ∷ rest) line = segments_sew p rest line.moving line.in_range
 
 -- a line can be sewn where its segments can
 points_sew : (p q : Point) (rest : List Point) → All CanSew (segments_from p (q ∷ rest))
-    → KeepsMoving p (q ∷ rest) × All IsNeedlePoint (p ∷ q ∷ rest)
+    → HasNoRepeatAfter p (q ∷ rest) × All IsNeedlePoint (p ∷ q ∷ rest)
 points_sew p q [] sew =
     let here = All-head CanSew (p, q) [] sew in (
       (here.0, tt),

@@ -9,18 +9,18 @@ use Rattle.std.proofs.lemmas.List.Recursion.{is_position_or_len}
 use Rattle.std.specs.List.{flat_map, position_or_len}
 use Rattle.design_model.specs.declared.point.Point.{Point}
 use Rattle.design_model.specs.Points.{is_same_point}
-use Rattle.step_splitter.specs.Chains.{IsNeedlePoint, KeepsClose}
+use Rattle.step_splitter.specs.Chains.{IsNeedlePoint, AreCloseAfter}
 use Rattle.line_graph.specs.declared.edge.Edge.{Edge}
 use Rattle.line_graph.specs.declared.pass.Pass.{Pass}
-use Rattle.line_graph.specs.Drawings.{DrawingValue, KeepsDrawing, first_of, last_of, points_of}
-use Rattle.line_graph.specs.KeptPieces.{ends_below}
-use Rattle.line_graph.specs.Laws.{AreNeedlesOf}
-use Rattle.line_graph.specs.PieceGraphs.{edge_between, junctions_of, number_of, piece_of}
-use Rattle.line_graph.specs.PieceWalks.{after_edge, are_one, begin_of, cost_of, covers, edge_of, end_of, finish_of, leads, of_edge, pass_sum, start_of, walk_on}
+use Rattle.line_graph.specs.Drawings.{DrawingValue, KeepsDrawingLimits, first_point, last_point, points_of}
+use Rattle.line_graph.specs.ValidPieces.{ends_below}
+use Rattle.line_graph.specs.LineNeedles.{AreNeedlesOf}
+use Rattle.line_graph.specs.PieceGraphs.{edge_between, junctions_of, junction_number, piece_graph}
+use Rattle.line_graph.specs.PieceWalks.{after_edge, are_same_junction, required_start, edge_cost, covers, edge_of, pass_end, required_end, is_walk_start_to_end, edge_value, pass_sum, pass_start, walk_end_from}
 use Rattle.line_graph.specs.Runs.{AreNear}
-use Rattle.line_graph.specs.Laws.{NeedlesLeadAlong}
+use Rattle.line_graph.specs.LineNeedles.{NeedlesLeadAlong}
 use Rattle.line_graph.specs.SewnWalks.{FittingWalksAreSewable, IsSewable}
-use Rattle.line_graph.specs.Walks.{needles_of, needles_of_pass, needles_of_walk}
+use Rattle.line_graph.specs.Walks.{needles_of_line, needles_of_pass, needles_of_walk}
 use Rattle.line_graph.proofs.NeedleLemmas.{close_on}
 use Rattle.line_graph.proofs.PieceLemmas.{same_is}
 use Rattle.line_graph.proofs.TrailLemmas.{Trail, trail_back, trail_of}
@@ -45,7 +45,7 @@ place_holds x (y ∷ ys) below = by_test (is_same_point x y) refl below (λ h. p
         less m n h = omega arith
 
 -- a junction's number leads to its point
-junction_at : (js : List Point) (o : Option Point) → number_of js o < length js → slice_get js (number_of js o) ≡ o
+junction_at : (js : List Point) (o : Option Point) → junction_number js o < length js → slice_get js (junction_number js o) ≡ o
 junction_at js None below = absurd (omega arith)
 junction_at js (Some x) below =
     let is : place_of x js ≡ position_or_len (is_same_point x) js =
@@ -102,7 +102,7 @@ ends_at n (m ∷ lines) (x ∷ es) line e below is =
         subst (λ (y : Edge). (y.a < n) × (y.b < n)) same (less x.a n ends.0, less x.b n ends.1)
     by_test false is ends rest = rest is
 
-lost : (ns : List ℕ) (es : List Edge) (ps : List Pass) (to : ℕ) → walk_on ns es None ps ≡ Some to → ⊥
+lost : (ns : List ℕ) (es : List Edge) (ps : List Pass) (to : ℕ) → walk_end_from ns es None ps ≡ Some to → ⊥
 lost ns es [] to is = cc
 lost ns es (p ∷ ps) to is = lost ns es ps to is
 
@@ -113,16 +113,16 @@ later d walk = flat_map (λ (next : Pass). drop 1 (needles_of_pass d next)) walk
 -- what a walk is as needles, from a junction at a point on
 record Sewn (d : DrawingValue) (lines : List ℕ) (js : List Point) (at : Point) (walk : List Pass) : Type 0 where
   held : All (λ (pass : Pass). Contains lines pass.line) walk
-  close : KeepsClose d.step at (later d walk)
+  close : AreCloseAfter d.step at (later d walk)
   in_range : All IsNeedlePoint (later d walk)
-  count : length (later d walk) ≡ pass_sum lines (map (edge_between d js) lines) cost_of walk
+  count : length (later d walk) ≡ pass_sum lines (map (edge_between d js) lines) edge_cost walk
 
 -- a pass as needles
 record Passed (d : DrawingValue) (js : List Point) (pass : Pass) (e : Edge) : Type 0 where
   from : Point
   to : Point
-  from_is : slice_get js (start_of e pass.back) ≡ Some from
-  to_is : slice_get js (end_of e pass.back) ≡ Some to
+  from_is : slice_get js (pass_start e pass.back) ≡ Some from
+  to_is : slice_get js (pass_end e pass.back) ≡ Some to
   trail : Trail d.step from to (needles_of_pass d pass)
   count : length (needles_of_pass d pass) ≡ e.cost + 1
 
@@ -130,8 +130,8 @@ record Passed (d : DrawingValue) (js : List Point) (pass : Pass) (e : Edge) : Ty
 record Way (step : ℕ) (js : List Point) (e : Edge) (needles : List Point) (back : Bool) : Type 0 where
   from : Point
   to : Point
-  from_is : slice_get js (start_of e back) ≡ Some from
-  to_is : slice_get js (end_of e back) ≡ Some to
+  from_is : slice_get js (pass_start e back) ≡ Some from
+  to_is : slice_get js (pass_end e back) ≡ Some to
   trail : Trail step from to (cond back (reverse needles) needles)
   count : length (cond back (reverse needles) needles) ≡ e.cost + 1
 
@@ -154,7 +154,7 @@ way step js e needles a b at_a at_b trail count false = record {
   count = count;
 }
 
-passed : (d : DrawingValue) → KeepsDrawing d → NeedlesLeadAlong d → (lines : List ℕ) → All (λ line. line < length d.lines) lines
+passed : (d : DrawingValue) → KeepsDrawingLimits d → NeedlesLeadAlong d → (lines : List ℕ) → All (λ line. line < length d.lines) lines
     → (js : List Point) → ends_below (length js) (map (edge_between d js) lines) ≡ true
     → (pass : Pass) (e : Edge) → edge_of lines (map (edge_between d js) lines) pass.line ≡ Some e → Passed d js pass e
 passed d keeps law lines there js ends pass e at =
@@ -162,28 +162,32 @@ passed d keeps law lines there js ends pass e at =
     let below = ends_at (length js) lines (map (edge_between d js) lines) pass.line e ends at in
     let a_below = subst (λ (x : Edge). x.a < length js) f.is below.0 in
     let b_below = subst (λ (x : Edge). x.b < length js) f.is below.1 in
-    let at_a = junction_at js (first_of (points_of d pass.line)) a_below in
-    let at_b = junction_at js (last_of (points_of d pass.line)) b_below in
+    let at_a = junction_at js (first_point (points_of d pass.line)) a_below in
+    let at_b = junction_at js (last_point (points_of d pass.line)) b_below in
     let needles = law pass.line keeps (All-contains (λ line. line < length d.lines) lines pass.line there f.held) in
-    by_ends f.is needles (first_of (points_of d pass.line)) refl at_a a_below (last_of (points_of d pass.line)) refl at_b b_below
+    by_ends f.is needles (first_point (points_of d pass.line)) refl at_a a_below (last_point (points_of d pass.line)) refl at_b b_below
   where
-    made : (w : Way d.step js e (needles_of d pass.line) pass.back) → Passed d js pass e
+    made : (w : Way d.step js e (needles_of_line d pass.line) pass.back) → Passed d js pass e
     made w = record { from = w.from; to = w.to; from_is = w.from_is; to_is = w.to_is; trail = w.trail; count = w.count }
 
     nowhere : (n : ℕ) → n < n → ⊥
     nowhere n h = omega arith
 
-    by_ends : e ≡ edge_between d js pass.line → AreNeedlesOf d pass.line (needles_of d pass.line)
-        → (x : Option Point) → first_of (points_of d pass.line) ≡ x → slice_get js (number_of js x) ≡ x → number_of js x < length js
-        → (y : Option Point) → last_of (points_of d pass.line) ≡ y → slice_get js (number_of js y) ≡ y → number_of js y < length js
+    by_ends : e ≡ edge_between d js pass.line → AreNeedlesOf d pass.line (needles_of_line d pass.line)
+        → (x : Option Point) → first_point (points_of d pass.line) ≡ x → slice_get js (junction_number js x) ≡ x
+        → junction_number js x < length js
+        → (y : Option Point) → last_point (points_of d pass.line) ≡ y → slice_get js (junction_number js y) ≡ y
+        → junction_number js y < length js
         → Passed d js pass e
     by_ends is needles None first at_a a_below y last at_b b_below = absurd (nowhere (length js) a_below)
     by_ends is needles (Some a) first at_a a_below None last at_b b_below = absurd (nowhere (length js) b_below)
     by_ends is needles (Some a) first at_a a_below (Some b) last at_b b_below =
-        made (way d.step js e (needles_of d pass.line) a b
-        (subst (λ (x : Edge). slice_get js x.a ≡ Some a) (sym is) (ap (λ (o : Option Point). slice_get js (number_of js o)) first ∙ at_a))
-        (subst (λ (x : Edge). slice_get js x.b ≡ Some b) (sym is) (ap (λ (o : Option Point). slice_get js (number_of js o)) last ∙ at_b))
-        (trail_of d.step a b (needles_of d pass.line) (needles.along.first ∙ first)
+        made (way d.step js e (needles_of_line d pass.line) a b
+        (subst (λ (x : Edge). slice_get js x.a ≡ Some a) (sym is) (ap (λ (o : Option Point). slice_get js (junction_number js o)) first
+        ∙ at_a))
+        (subst (λ (x : Edge). slice_get js x.b ≡ Some b) (sym is) (ap (λ (o : Option Point). slice_get js (junction_number js o)) last
+        ∙ at_b))
+        (trail_of d.step a b (needles_of_line d pass.line) (needles.along.first ∙ first)
         (needles.along.last ∙ last) needles.along.close needles.along.in_range)
         (needles.count ∙ ap (λ (x : Edge). x.cost + 1) (sym is)) pass.back)
 
@@ -197,17 +201,17 @@ sewn_more : (d : DrawingValue) (lines : List ℕ) (js : List Point) (pass : Pass
     → Sewn d lines js p.to rest → Sewn d lines js p.from (pass ∷ rest)
 sewn_more d lines js pass rest e at held p more = record {
   held = All-cons (λ (x : Pass). Contains lines x.line) pass rest held more.held;
-  close = subst (λ (ps : List Point). KeepsClose d.step p.from ps) (sym is)
+  close = subst (λ (ps : List Point). AreCloseAfter d.step p.from ps) (sym is)
       (close_on d.step p.from p.trail.rest (later d rest) p.trail.close
-      (subst (λ (q : Point). KeepsClose d.step q (later d rest)) (sym p.trail.last) more.close));
+      (subst (λ (q : Point). AreCloseAfter d.step q (later d rest)) (sym p.trail.last) more.close));
   in_range = subst (λ (ps : List Point). All IsNeedlePoint ps) (sym is)
       (All-append IsNeedlePoint p.trail.rest (later d rest) (All-tail IsNeedlePoint p.from p.trail.rest p.trail.in_range) more.in_range);
   count = counted (length (later d (pass ∷ rest))) (length p.trail.rest) (length (later d rest)) (length (needles_of_pass d pass)) e.cost
-      (pass_sum lines (map (edge_between d js) lines) cost_of rest)
-      (of_edge cost_of (edge_of lines (map (edge_between d js) lines) pass.line))
+      (pass_sum lines (map (edge_between d js) lines) edge_cost rest)
+      (edge_value edge_cost (edge_of lines (map (edge_between d js) lines) pass.line))
       (ap (λ (ps : List Point). length ps) is ∙ length-append p.trail.rest (later d rest))
       (ap (λ (ps : List Point). length ps) p.trail.is) p.count more.count
-      (ap (of_edge cost_of) at);
+      (ap (edge_value edge_cost) at);
 }
   where
     is : later d (pass ∷ rest) ≡ p.trail.rest ++ later d rest
@@ -226,9 +230,10 @@ sewn_none d lines js at = record {
 }
 
 -- a walk from a junction at a point on
-sewn : (d : DrawingValue) → KeepsDrawing d → NeedlesLeadAlong d → (lines : List ℕ) → All (λ line. line < length d.lines) lines
+sewn : (d : DrawingValue) → KeepsDrawingLimits d → NeedlesLeadAlong d → (lines : List ℕ) → All (λ line. line < length d.lines) lines
     → (js : List Point) → ends_below (length js) (map (edge_between d js) lines) ≡ true
-    → (walk : List Pass) (j to : ℕ) (at : Point) → slice_get js j ≡ Some at → walk_on lines (map (edge_between d js) lines) (Some j) walk
+    → (walk : List Pass) (j to : ℕ) (at : Point) → slice_get js j ≡ Some at
+    → walk_end_from lines (map (edge_between d js) lines) (Some j) walk
     ≡ Some to
     → Sewn d lines js at walk
 sewn d keeps law lines there js ends [] j to at here is = sewn_none d lines js at
@@ -242,28 +247,30 @@ sewn d keeps law lines there js ends (pass ∷ rest) j to at here is =
     one_point : (p q : Point) → Some p ≡ Some q → p ≡ q
     one_point p q is = cc
 
-    by_start : (e : Edge) → edge_of lines (map (edge_between d js) lines) pass.line ≡ Some e → (t : Bool) → (start_of e pass.back == j) ≡ t
-        → walk_on lines (map (edge_between d js) lines) (cond t (Some (end_of e pass.back)) None) rest ≡ Some to
-        → ((m : ℕ) (q : Point) → slice_get js m ≡ Some q → walk_on lines (map (edge_between d js) lines) (Some m) rest ≡ Some to
+    by_start : (e : Edge) → edge_of lines (map (edge_between d js) lines) pass.line ≡ Some e → (t : Bool)
+        → (pass_start e pass.back == j) ≡ t
+        → walk_end_from lines (map (edge_between d js) lines) (cond t (Some (pass_end e pass.back)) None) rest ≡ Some to
+        → ((m : ℕ) (q : Point) → slice_get js m ≡ Some q → walk_end_from lines (map (edge_between d js) lines) (Some m) rest ≡ Some to
         → Sewn d lines js q rest)
         → Sewn d lines js at (pass ∷ rest)
     by_start e found_e false test is more = absurd (lost lines (map (edge_between d js) lines) rest to is)
     by_start e found_e true test is more =
         let p = passed d keeps law lines there js ends pass e found_e in
-        let from : p.from ≡ at = one_point p.from at (sym p.from_is ∙ ap (slice_get js) (same (start_of e pass.back) j test) ∙ here) in
+        let from : p.from ≡ at = one_point p.from at (sym p.from_is ∙ ap (slice_get js) (same (pass_start e pass.back) j test) ∙ here) in
         subst (λ (q : Point). Sewn d lines js q (pass ∷ rest)) from
-        (sewn_more d lines js pass rest e found_e (found d js lines pass.line e found_e).held p (more (end_of e pass.back) p.to p.to_is is))
+        (sewn_more d lines js pass rest e found_e (found d js lines pass.line e found_e).held p
+        (more (pass_end e pass.back) p.to p.to_is is))
 
     by_edge : (o : Option Edge) → edge_of lines (map (edge_between d js) lines) pass.line ≡ o
-        → walk_on lines (map (edge_between d js) lines) (after_edge o pass.back j) rest ≡ Some to
-        → ((m : ℕ) (q : Point) → slice_get js m ≡ Some q → walk_on lines (map (edge_between d js) lines) (Some m) rest ≡ Some to
+        → walk_end_from lines (map (edge_between d js) lines) (after_edge o pass.back j) rest ≡ Some to
+        → ((m : ℕ) (q : Point) → slice_get js m ≡ Some q → walk_end_from lines (map (edge_between d js) lines) (Some m) rest ≡ Some to
         → Sewn d lines js q rest)
         → Sewn d lines js at (pass ∷ rest)
     by_edge None found_e is more = absurd (lost lines (map (edge_between d js) lines) rest to is)
-    by_edge (Some e) found_e is more = by_start e found_e (start_of e pass.back == j) refl is more
+    by_edge (Some e) found_e is more = by_start e found_e (pass_start e pass.back == j) refl is more
 
 -- where a fitting walk goes from
-goes_from : (x y : Option ℕ) → are_one x y ≡ true → (to : ℕ) × (x ≡ Some to)
+goes_from : (x y : Option ℕ) → are_same_junction x y ≡ true → (to : ℕ) × (x ≡ Some to)
 goes_from None y is = absurd (cc)
 goes_from (Some a) y is = (a, refl)
 
@@ -275,23 +282,24 @@ record Leading (d : DrawingValue) (lines : List ℕ) (js : List Point) (walk : L
   e : Edge
   at : edge_of lines (map (edge_between d js) lines) pass.line ≡ Some e
   to : ℕ
-  goes : walk_on lines (map (edge_between d js) lines) (Some (end_of e pass.back)) rest ≡ Some to
+  goes : walk_end_from lines (map (edge_between d js) lines) (Some (pass_end e pass.back)) rest ≡ Some to
 
 leading : (d : DrawingValue) (lines : List ℕ) (js : List Point) (begin : Option ℕ) (walk : List Pass) (to : ℕ) → 1 ≤ length walk
-    → walk_on lines (map (edge_between d js) lines) begin walk ≡ Some to → Leading d lines js walk
+    → walk_end_from lines (map (edge_between d js) lines) begin walk ≡ Some to → Leading d lines js walk
 leading d lines js begin [] to some is = absurd (omega arith)
 leading d lines js None (p ∷ ps) to some is = absurd (lost lines (map (edge_between d js) lines) ps to is)
 leading d lines js (Some j) (p ∷ ps) to some is = by_edge (edge_of lines (map (edge_between d js) lines) p.line) refl is
   where
     by_start : (e : Edge) → edge_of lines (map (edge_between d js) lines) p.line ≡ Some e → (t : Bool)
-        → walk_on lines (map (edge_between d js) lines) (cond t (Some (end_of e p.back)) None) ps ≡ Some to → Leading d lines js (p ∷ ps)
+        → walk_end_from lines (map (edge_between d js) lines) (cond t (Some (pass_end e p.back)) None) ps ≡ Some to
+        → Leading d lines js (p ∷ ps)
     by_start e at false is = absurd (lost lines (map (edge_between d js) lines) ps to is)
     by_start e at true is = record { pass = p; rest = ps; is = refl; e = e; at = at; to = to; goes = is }
 
     by_edge : (o : Option Edge) → edge_of lines (map (edge_between d js) lines) p.line ≡ o
-        → walk_on lines (map (edge_between d js) lines) (after_edge o p.back j) ps ≡ Some to → Leading d lines js (p ∷ ps)
+        → walk_end_from lines (map (edge_between d js) lines) (after_edge o p.back j) ps ≡ Some to → Leading d lines js (p ∷ ps)
     by_edge None at is = absurd (lost lines (map (edge_between d js) lines) ps to is)
-    by_edge (Some e) at is = by_start e at (start_of e p.back == j) is
+    by_edge (Some e) at is = by_start e at (pass_start e p.back == j) is
 
 -- a walk that covers a line has a pass
 covers_some : (lines : List ℕ) (walk : List Pass) → 1 ≤ length lines → covers lines walk ≡ true → 1 ≤ length walk
@@ -331,16 +339,17 @@ sewable d lines pass rest e p s =
 
 pub fitting_walks_are_sewable : ((d : DrawingValue) → NeedlesLeadAlong d) → FittingWalksAreSewable
 fitting_walks_are_sewable law d lines walk keeps there kept fit =
-    let parts = and_parts (leads (piece_of d lines) walk) (covers lines walk) fit in
+    let parts = and_parts (is_walk_start_to_end (piece_graph d lines) walk) (covers lines walk) fit in
     let some = covers_some lines walk kept.some parts.1 in
-    let g = goes_from (walk_on lines (map (edge_between d (junctions_of d lines)) lines) (begin_of (piece_of d lines) walk) walk)
-    (finish_of (piece_of d lines) walk) parts.0 in
-    led (leading d lines (junctions_of d lines) (begin_of (piece_of d lines) walk) walk g.0 some g.1)
+    let g = goes_from (walk_end_from lines (map (edge_between d (junctions_of d lines)) lines) (required_start (piece_graph d lines) walk)
+    walk)
+    (required_end (piece_graph d lines) walk) parts.0 in
+    led (leading d lines (junctions_of d lines) (required_start (piece_graph d lines) walk) walk g.0 some g.1)
   where
     led : Leading d lines (junctions_of d lines) walk → IsSewable d lines walk
     led l =
         let p = passed d keeps (law d) lines there (junctions_of d lines) kept.ends l.pass l.e l.at in
         let s = sewn_more d lines (junctions_of d lines) l.pass l.rest l.e l.at
         (found d (junctions_of d lines) lines l.pass.line l.e l.at).held p
-        (sewn d keeps (law d) lines there (junctions_of d lines) kept.ends l.rest (end_of l.e l.pass.back) l.to p.to p.to_is l.goes) in
+        (sewn d keeps (law d) lines there (junctions_of d lines) kept.ends l.rest (pass_end l.e l.pass.back) l.to p.to p.to_is l.goes) in
         subst (λ (w : List Pass). IsSewable d lines w) (sym l.is) (sewable d lines l.pass l.rest l.e p s)

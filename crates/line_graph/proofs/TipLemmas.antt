@@ -8,11 +8,11 @@ use Rattle.std.proofs.lemmas.List.Sums.{position_or_len_is}
 use Rattle.std.specs.List.{flat_map, list_any, position_or_len}
 use Rattle.design_model.specs.declared.point.Point.{Point}
 use Rattle.design_model.specs.Points.{is_same_point}
-use Rattle.step_splitter.specs.Chains.{last_from}
+use Rattle.step_splitter.specs.Chains.{last_point_or}
 use Rattle.line_graph.specs.declared.edge.Edge.{Edge}
-use Rattle.line_graph.specs.Drawings.{DrawingValue, KeepsDrawing, first_of, last_of, points_of}
-use Rattle.line_graph.specs.PieceGraphs.{edge_between, junctions_of, number_of, seen_after, with_point}
-use Rattle.line_graph.specs.Pieces.{ends_of}
+use Rattle.line_graph.specs.Drawings.{DrawingValue, KeepsDrawingLimits, first_point, last_point, points_of}
+use Rattle.line_graph.specs.PieceGraphs.{edge_between, junctions_of, junction_number, with_points, with_point}
+use Rattle.line_graph.specs.Pieces.{endpoints}
 use Rattle.line_graph.proofs.JunctionLemmas.{put_found, put_keeps, seen_keeps, seen_on}
 use Rattle.line_graph.proofs.MakerLemmas.{same_found}
 use Rattle.line_graph.proofs.NeedleLemmas.{line_there}
@@ -20,7 +20,7 @@ use Rattle.line_graph.proofs.PieceLemmas.{same_is}
 
 -- a point is the first of a list, or the last
 abbrev pub IsTip : List Point → Point → Type 0
-IsTip points x = (first_of points ≡ Some x) ⊎ (last_of points ≡ Some x)
+IsTip points x = (first_point points ≡ Some x) ⊎ (last_point points ≡ Some x)
 
 -- a point is an end of one of the lines
 pub record IsTipOf (d : DrawingValue) (lines : List ℕ) (x : Point) : Type 0 where
@@ -29,45 +29,45 @@ pub record IsTipOf (d : DrawingValue) (lines : List ℕ) (x : Point) : Type 0 wh
   pub at_end : IsTip (points_of d line) x
 
 -- tips are seen among the ends
-tip_seen : (seen points : List Point) (x : Point) → IsTip points x → list_any (is_same_point x) (seen_after seen (ends_of points)) ≡ true
+tip_seen : (seen points : List Point) (x : Point) → IsTip points x → list_any (is_same_point x) (with_points seen (endpoints points)) ≡ true
 tip_seen seen [] x (inl is) = absurd (cc)
 tip_seen seen [] x (inr is) = absurd (cc)
 tip_seen seen (p ∷ rest) x (inl is) =
     let one : p ≡ x = cc in
-    put_keeps (is_same_point x) (with_point seen p) (last_from p rest)
+    put_keeps (is_same_point x) (with_point seen p) (last_point_or p rest)
     (subst (λ (y : Point). list_any (is_same_point y) (with_point seen p) ≡ true) one (put_found seen p))
 tip_seen seen (p ∷ rest) x (inr is) =
-    let one : last_from p rest ≡ x = cc in
-    subst (λ (y : Point). list_any (is_same_point y) (with_point (with_point seen p) (last_from p rest)) ≡ true) one
-    (put_found (with_point seen p) (last_from p rest))
+    let one : last_point_or p rest ≡ x = cc in
+    subst (λ (y : Point). list_any (is_same_point y) (with_point (with_point seen p) (last_point_or p rest)) ≡ true) one
+    (put_found (with_point seen p) (last_point_or p rest))
 
 -- and so is each end of each of the lines
 tips_seen : (d : DrawingValue) (lines : List ℕ) (seen : List Point) (line : ℕ) → Contains lines line → (x : Point)
     → IsTip (points_of d line) x
-    → list_any (is_same_point x) (seen_after seen (flat_map (λ line. ends_of (points_of d line)) lines)) ≡ true
+    → list_any (is_same_point x) (with_points seen (flat_map (λ line. endpoints (points_of d line)) lines)) ≡ true
 tips_seen d lines seen line among x tip =
     All-contains (λ (k : ℕ). (y : Point) → IsTip (points_of d k) y
-    → list_any (is_same_point y) (seen_after seen (flat_map ends lines)) ≡ true)
+    → list_any (is_same_point y) (with_points seen (flat_map ends lines)) ≡ true)
     lines line (each lines seen) among x tip
   where
     ends : ℕ → List Point
-    ends line = ends_of (points_of d line)
+    ends line = endpoints (points_of d line)
 
     each : (lines : List ℕ) (seen : List Point) → All (λ (k : ℕ). (y : Point) → IsTip (points_of d k) y
-        → list_any (is_same_point y) (seen_after seen (flat_map ends lines)) ≡ true) lines
+        → list_any (is_same_point y) (with_points seen (flat_map ends lines)) ≡ true) lines
     each [] seen = λ k. λ x. λ below. absurd (omega (arith, below))
     each (line ∷ lines) seen =
-        let whole : seen_after seen (flat_map ends (line ∷ lines)) ≡ seen_after (seen_after seen (ends line)) (flat_map ends lines) =
-        ap (seen_after seen) (flat_map-cons ends line lines) ∙ seen_on seen (ends line) (flat_map ends lines) in
+        let whole : with_points seen (flat_map ends (line ∷ lines)) ≡ with_points (with_points seen (ends line)) (flat_map ends lines) =
+        ap (with_points seen) (flat_map-cons ends line lines) ∙ seen_on seen (ends line) (flat_map ends lines) in
         All-cons (λ (k : ℕ). (y : Point) → IsTip (points_of d k) y
-        → list_any (is_same_point y) (seen_after seen (flat_map ends (line ∷ lines))) ≡ true) line lines
+        → list_any (is_same_point y) (with_points seen (flat_map ends (line ∷ lines))) ≡ true) line lines
         (λ y. λ tip. ap (list_any (is_same_point y)) whole
-        ∙ seen_keeps (is_same_point y) (seen_after seen (ends line)) (flat_map ends lines) (tip_seen seen (points_of d line) y tip))
+        ∙ seen_keeps (is_same_point y) (with_points seen (ends line)) (flat_map ends lines) (tip_seen seen (points_of d line) y tip))
         (All-weaker (λ (k : ℕ). (y : Point) → IsTip (points_of d k) y
-        → list_any (is_same_point y) (seen_after (seen_after seen (ends line)) (flat_map ends lines)) ≡ true)
+        → list_any (is_same_point y) (with_points (with_points seen (ends line)) (flat_map ends lines)) ≡ true)
         (λ (k : ℕ). (y : Point) → IsTip (points_of d k) y
-        → list_any (is_same_point y) (seen_after seen (flat_map ends (line ∷ lines))) ≡ true)
-        (λ k. λ found. λ y. λ tip. ap (list_any (is_same_point y)) whole ∙ found y tip) lines (each lines (seen_after seen (ends line))))
+        → list_any (is_same_point y) (with_points seen (flat_map ends (line ∷ lines))) ≡ true)
+        (λ k. λ found. λ y. λ tip. ap (list_any (is_same_point y)) whole ∙ found y tip) lines (each lines (with_points seen (ends line))))
 
 -- what is found has a number below the count
 found_below : (test : Point → Bool) (xs : List Point) → list_any test xs ≡ true → position_or_len test xs < length xs
@@ -80,28 +80,29 @@ found_below test (x ∷ xs) found = by_test (test x) refl found (λ later. found
     by_test false is found rest = rw is (omega (arith, rest found))
 
 -- both ends of each edge are junctions
-edge_within : (d : DrawingValue) → KeepsDrawing d → (lines : List ℕ) (line : ℕ) → line < length d.lines → Contains lines line
-    → (number_of (junctions_of d lines) (first_of (points_of d line)) < length (junctions_of d lines))
-    × (number_of (junctions_of d lines) (last_of (points_of d line)) < length (junctions_of d lines))
+edge_within : (d : DrawingValue) → KeepsDrawingLimits d → (lines : List ℕ) (line : ℕ) → line < length d.lines → Contains lines line
+    → (junction_number (junctions_of d lines) (first_point (points_of d line)) < length (junctions_of d lines))
+    × (junction_number (junctions_of d lines) (last_point (points_of d line)) < length (junctions_of d lines))
 edge_within d keeps lines line there among = by_points (points_of d line) refl (line_there d line there keeps).long
   where
     js : List Point
     js = junctions_of d lines
 
-    at : (o : Option Point) (x : Point) → o ≡ Some x → list_any (is_same_point x) js ≡ true → number_of js o < length js
-    at o x is found = subst (λ (o : Option Point). number_of js o < length js) (sym is) (found_below (is_same_point x) js found)
+    at : (o : Option Point) (x : Point) → o ≡ Some x → list_any (is_same_point x) js ≡ true → junction_number js o < length js
+    at o x is found = subst (λ (o : Option Point). junction_number js o < length js) (sym is) (found_below (is_same_point x) js found)
 
     by_points : (points : List Point) → points_of d line ≡ points → 2 ≤ length (points_of d line)
-        → (number_of js (first_of (points_of d line)) < length js) × (number_of js (last_of (points_of d line)) < length js)
+        → (junction_number js (first_point (points_of d line)) < length js)
+        × (junction_number js (last_point (points_of d line)) < length js)
     by_points [] is long = absurd (omega (arith, long, ap length is))
     by_points (p ∷ rest) is long = (
-      at (first_of (points_of d line)) p (ap first_of is) (tips_seen d lines [] line among p (inl (ap first_of is))),
-      at (last_of (points_of d line)) (last_from p rest) (ap last_of is)
-          (tips_seen d lines [] line among (last_from p rest) (inr (ap last_of is))),
+      at (first_point (points_of d line)) p (ap first_point is) (tips_seen d lines [] line among p (inl (ap first_point is))),
+      at (last_point (points_of d line)) (last_point_or p rest) (ap last_point is)
+          (tips_seen d lines [] line among (last_point_or p rest) (inr (ap last_point is))),
     )
 
 -- and so for all edges
-pub edges_within : (d : DrawingValue) → KeepsDrawing d → (lines : List ℕ) → All (λ line. line < length d.lines) lines
+pub edges_within : (d : DrawingValue) → KeepsDrawingLimits d → (lines : List ℕ) → All (λ line. line < length d.lines) lines
     → All (λ (e : Edge). (e.a < length (junctions_of d lines))
     × (e.b < length (junctions_of d lines))) (map (edge_between d (junctions_of d lines)) lines)
 edges_within d keeps lines there =
@@ -129,7 +130,7 @@ none_found test (x ∷ xs) none = by_test (test x) refl none (λ later. none_fou
 
 -- junctions differ
 points_differ : (points more : List Point) → AllPairs (λ a b. is_same_point a b ≡ false) points
-    → AllPairs (λ a b. is_same_point a b ≡ false) (seen_after points more)
+    → AllPairs (λ a b. is_same_point a b ≡ false) (with_points points more)
 points_differ points [] differ = differ
 points_differ points (p ∷ more) differ = points_differ (with_point points p) more (by_test (list_any (is_same_point p) points) refl)
   where
@@ -142,10 +143,10 @@ points_differ points (p ∷ more) differ = points_differ (with_point points p) m
 -- so all junctions of a piece differ
 pub junctions_differ : (d : DrawingValue) (lines : List ℕ) → AllPairs (λ a b. is_same_point a b ≡ false) (junctions_of d lines)
 junctions_differ d lines =
-    points_differ [] (flat_map (λ line. ends_of (points_of d line)) lines) (λ i. λ j. λ x. λ less. λ below. absurd (omega (arith, below)))
+    points_differ [] (flat_map (λ line. endpoints (points_of d line)) lines) (λ i. λ j. λ x. λ less. λ below. absurd (omega (arith, below)))
 
 -- each junction is an end of one of the lines
-seen_tips : (P : Point → Type 0) (points more : List Point) → All P points → All P more → All P (seen_after points more)
+seen_tips : (P : Point → Type 0) (points more : List Point) → All P points → All P more → All P (with_points points more)
 seen_tips P points [] all rest = all
 seen_tips P points (p ∷ more) all rest =
     seen_tips P (with_point points p) more (by_test (list_any (is_same_point p) points)) (All-tail P p more rest)
@@ -157,19 +158,20 @@ seen_tips P points (p ∷ more) all rest =
 -- of a piece
 pub junction_tips : (d : DrawingValue) (lines : List ℕ) → All (IsTipOf d lines) (junctions_of d lines)
 junction_tips d lines =
-    seen_tips (IsTipOf d lines) [] (flat_map (λ line. ends_of (points_of d line)) lines) (All-nil (IsTipOf d lines))
+    seen_tips (IsTipOf d lines) [] (flat_map (λ line. endpoints (points_of d line)) lines) (All-nil (IsTipOf d lines))
     (each lines (All-contains_itself lines))
   where
     ends : ℕ → List Point
-    ends line = ends_of (points_of d line)
+    ends line = endpoints (points_of d line)
 
-    of_line : (line : ℕ) → Contains lines line → (points : List Point) → points_of d line ≡ points → All (IsTipOf d lines) (ends_of points)
+    of_line : (line : ℕ) → Contains lines line → (points : List Point) → points_of d line ≡ points
+        → All (IsTipOf d lines) (endpoints points)
     of_line line among [] is = All-nil (IsTipOf d lines)
     of_line line among (p ∷ rest) is =
-        let first : IsTipOf d lines p = record { line = line; among = among; at_end = inl (ap first_of is) } in
-        let last : IsTipOf d lines (last_from p rest) = record { line = line; among = among; at_end = inr (ap last_of is) } in
-        All-cons (IsTipOf d lines) p (last_from p rest ∷ []) first
-        (All-cons (IsTipOf d lines) (last_from p rest) [] last (All-nil (IsTipOf d lines)))
+        let first : IsTipOf d lines p = record { line = line; among = among; at_end = inl (ap first_point is) } in
+        let last : IsTipOf d lines (last_point_or p rest) = record { line = line; among = among; at_end = inr (ap last_point is) } in
+        All-cons (IsTipOf d lines) p (last_point_or p rest ∷ []) first
+        (All-cons (IsTipOf d lines) (last_point_or p rest) [] last (All-nil (IsTipOf d lines)))
 
     each : (some : List ℕ) → All (Contains lines) some → All (IsTipOf d lines) (flat_map ends some)
     each [] all = All-nil (IsTipOf d lines)

@@ -4,23 +4,23 @@ use Rattle.std.proofs.lemmas.Int.{ints}
 use Rattle.std.proofs.lemmas.List.Elements.{All-cons, All-head, All-nil, All-tail}
 use mathlib.Core.List.{reverse_aux}
 use Rattle.design_model.specs.declared.point.Point.{Point}
-use Rattle.design_model.specs.Points.{is_within, move_between}
-use Rattle.step_splitter.specs.Chains.{IsNeedlePoint, KeepsClose, last_from}
-use Rattle.line_graph.specs.Drawings.{first_of, last_of}
-use Rattle.line_graph.specs.Laws.{AreClose}
+use Rattle.design_model.specs.Points.{is_point_within, move_between}
+use Rattle.step_splitter.specs.Chains.{IsNeedlePoint, AreCloseAfter, last_point_or}
+use Rattle.line_graph.specs.Drawings.{first_point, last_point}
+use Rattle.line_graph.specs.LineNeedles.{AreClose}
 
 -- points from one to another
 pub record Trail (step : ℕ) (from to : Point) (points : List Point) : Type 0 where
   pub rest : List Point
   pub is : points ≡ from ∷ rest
-  pub last : last_from from rest ≡ to
-  pub close : KeepsClose step from rest
+  pub last : last_point_or from rest ≡ to
+  pub close : AreCloseAfter step from rest
   pub in_range : All IsNeedlePoint (from ∷ rest)
 
 some_same : (p q : Point) → Some p ≡ Some q → p ≡ q
 some_same p q is = cc
 
-pub trail_of : (step : ℕ) (from to : Point) (points : List Point) → first_of points ≡ Some from → last_of points ≡ Some to
+pub trail_of : (step : ℕ) (from to : Point) (points : List Point) → first_point points ≡ Some from → last_point points ≡ Some to
     → AreClose step points → All IsNeedlePoint points → Trail step from to points
 trail_of step from to [] first last close in_range = absurd (cc)
 trail_of step from to (p ∷ rest) first last close in_range =
@@ -28,28 +28,28 @@ trail_of step from to (p ∷ rest) first last close in_range =
     record {
       rest = rest;
       is = ap (λ (q : Point). q ∷ rest) here;
-      last = ap (λ (q : Point). last_from q rest) (sym here) ∙ some_same _ _ last;
-      close = subst (λ (q : Point). KeepsClose step q rest) here close;
+      last = ap (λ (q : Point). last_point_or q rest) (sym here) ∙ some_same _ _ last;
+      close = subst (λ (q : Point). AreCloseAfter step q rest) here close;
       in_range = subst (λ (q : Point). All IsNeedlePoint (q ∷ rest)) here in_range;
     }
 
 -- a step is as long the other way
-turned : (limit : ℕ) (p q : Point) → IsTrue (is_within limit (move_between p q)) → IsTrue (is_within limit (move_between q p))
+turned : (limit : ℕ) (p q : Point) → IsTrue (is_point_within limit (move_between p q)) → IsTrue (is_point_within limit (move_between q p))
 turned limit p q within = rw (same_size q.x p.x, same_size q.y p.y) within
   where
     same_size : (a b : ℤ) → unsigned_abs (b -ℤ a) ≡ unsigned_abs (a -ℤ b)
     same_size a b = omega (arith, ints)
 
-close_back : (step : ℕ) (p : Point) (xs r : List Point) → KeepsClose step p xs → KeepsClose step p r
+close_back : (step : ℕ) (p : Point) (xs r : List Point) → AreCloseAfter step p xs → AreCloseAfter step p r
     → AreClose step (reverse_aux xs (p ∷ r))
 close_back step p [] r forth back = back
 close_back step p (x ∷ xs) r forth back = close_back step x xs (p ∷ r) forth.1 (turned step p x forth.0, back)
 
-first_back : (p : Point) (xs r : List Point) → first_of (reverse_aux xs (p ∷ r)) ≡ Some (last_from p xs)
+first_back : (p : Point) (xs r : List Point) → first_point (reverse_aux xs (p ∷ r)) ≡ Some (last_point_or p xs)
 first_back p [] r = refl
 first_back p (x ∷ xs) r = first_back x xs (p ∷ r)
 
-last_back : (p : Point) (xs r : List Point) → last_of (reverse_aux xs (p ∷ r)) ≡ Some (last_from p r)
+last_back : (p : Point) (xs r : List Point) → last_point (reverse_aux xs (p ∷ r)) ≡ Some (last_point_or p r)
 last_back p [] r = refl
 last_back p (x ∷ xs) r = last_back x xs (p ∷ r)
 

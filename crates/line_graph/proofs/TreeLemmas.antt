@@ -2,8 +2,8 @@
 use Rattle.std.proofs.Common.{◌≡◌, ◌<◌, ◌≤◌, ℕ, zero, suc, ◌+◌, ◌==◌, Bool, true, false, cond, List, [], ◌∷◌, length, slice_get, Some, arith, refl, sym, ◌∙◌, ap, subst}
 use Rattle.std.proofs.lemmas.Bool.Decides.{nat_tests}
 use Rattle.line_graph.specs.declared.edge.Edge.{Edge}
-use Rattle.line_graph.specs.KeptPieces.{AreJoined}
-use Rattle.line_graph.specs.PieceGraphs.{bit}
+use Rattle.line_graph.specs.ValidPieces.{IsConnectedGraph}
+use Rattle.line_graph.specs.PieceGraphs.{one_if}
 use Rattle.line_graph.proofs.PieceLimits.{same}
 
 -- who leads what that number led, once another follows a first
@@ -18,19 +18,19 @@ leader (e ∷ es) j = led (leader es e.a) (leader es e.b) (leader es j)
 -- how many junctions lead themselves
 abbrev leaders : (ℕ → ℕ) → ℕ → ℕ
 leaders f zero = 0
-leaders f (suc n) = bit (f n == n) + leaders f n
+leaders f (suc n) = one_if (f n == n) + leaders f n
 
 -- how often a number is below another
 abbrev marks : ℕ → ℕ → ℕ
 marks c zero = 0
-marks c (suc n) = bit (n == c) + marks c n
+marks c (suc n) = one_if (n == c) + marks c n
 
 -- a number is found to be itself
 self : (n : ℕ) → (n == n) ≡ true
 self n = grind (arith, nat_tests)
 
 -- one at most
-bit_few : (b : Bool) → bit b ≤ 1
+bit_few : (b : Bool) → one_if b ≤ 1
 bit_few true = omega arith
 bit_few false = omega arith
 
@@ -47,9 +47,9 @@ marks_few : (c n : ℕ) → marks c n ≤ 1
 marks_few c zero = omega arith
 marks_few c (suc n) = by_test (n == c) refl (marks_few c n)
   where
-    by_test : (t : Bool) → (n == c) ≡ t → marks c n ≤ 1 → bit (n == c) + marks c n ≤ 1
+    by_test : (t : Bool) → (n == c) ≡ t → marks c n ≤ 1 → one_if (n == c) + marks c n ≤ 1
     by_test true is rest = omega (arith, marks_none c n (omega (arith, same n c is)), bit_few (n == c))
-    by_test false is rest = omega (arith, ap bit is, rest)
+    by_test false is rest = omega (arith, ap one_if is, rest)
 
 -- both ends of an edge have one leader
 leader_keeps : (es : List Edge) (i : ℕ) (e : Edge) → slice_get es i ≡ Some e → leader es e.a ≡ leader es e.b
@@ -74,19 +74,19 @@ leader_falls f first other (suc n) =
     omega (arith, leader_falls f first other n, by_test (f n == n) refl (f n == other) refl)
   where
     by_test : (t : Bool) → (f n == n) ≡ t → (u : Bool) → (f n == other) ≡ u
-        → bit (f n == n) ≤ bit (led first other (f n) == n) + bit (n == other)
+        → one_if (f n == n) ≤ one_if (led first other (f n) == n) + one_if (n == other)
     by_test true here true follows =
         let is : (n == other) ≡ true = grind (arith, nat_tests) in
-        omega (arith, ap bit is, bit_few (f n == n))
+        omega (arith, ap one_if is, bit_few (f n == n))
     by_test true here false follows =
         let is : (led first other (f n) == n) ≡ true = ap (λ (u : Bool). cond u first (f n) == n) follows ∙ here in
-        omega (arith, ap bit is, bit_few (f n == n))
-    by_test false here u follows = omega (arith, ap bit here)
+        omega (arith, ap one_if is, bit_few (f n == n))
+    by_test false here u follows = omega (arith, ap one_if here)
 
 -- without edges each junction leads itself
 all_lead : (n : ℕ) → leaders (λ j. j) n ≡ n
 all_lead zero = refl
-all_lead (suc n) = omega (arith, ap bit (self n), all_lead n)
+all_lead (suc n) = omega (arith, ap one_if (self n), all_lead n)
 
 -- with n edges there remain at least this many representatives
 leaders_left : (es : List Edge) (n : ℕ) → n ≤ leaders (leader es) n + length es
@@ -100,15 +100,15 @@ one_leader f c zero all = omega arith
 one_leader f c (suc n) all =
     omega (arith, one_leader f c n (λ j. λ below. all j (omega (arith, below))), by_test (f n == n) refl)
   where
-    by_test : (t : Bool) → (f n == n) ≡ t → bit (f n == n) ≤ bit (n == c)
+    by_test : (t : Bool) → (f n == n) ≡ t → one_if (f n == n) ≤ one_if (n == c)
     by_test true here =
         let at : f n ≡ c = all n (omega arith) in
         let is : (n == c) ≡ true = grind (arith, nat_tests) in
-        omega (arith, ap bit is, bit_few (f n == n))
-    by_test false here = omega (arith, ap bit here)
+        omega (arith, ap one_if is, bit_few (f n == n))
+    by_test false here = omega (arith, ap one_if here)
 
 -- a connected graph has at least as many edges as junctions, less one
-pub junctions_few : (es : List Edge) (n : ℕ) → AreJoined es n → n ≤ length es + 1
+pub junctions_few : (es : List Edge) (n : ℕ) → IsConnectedGraph es n → n ≤ length es + 1
 junctions_few es zero joined = omega arith
 junctions_few es (suc n) joined =
     let all = one_leader (leader es) (leader es 0) (suc n) (λ j. λ below. follows j below) in

@@ -4,9 +4,9 @@ use Rattle.design_model.specs.declared.command.Command.TheVariants.{Stitch, Trim
 use Rattle.design_model.specs.declared.point.Point.{Point}
 use Rattle.line_graph.specs.declared.pass.Pass.{Pass}
 use Rattle.line_graph.specs.Drawings.{DrawingValue}
-use Rattle.line_graph.specs.Needles.{line_steps}
+use Rattle.line_graph.specs.Needles.{steps_of_line}
 use Rattle.line_graph.specs.Runs.{commands_after, runs_of}
-use Rattle.line_graph.specs.Walks.{cost_of_line, needles_of, needles_of_walk}
+use Rattle.line_graph.specs.Walks.{cost_of_line, needles_of_line, needles_of_walk}
 
 abbrev pub at : ℕ → ℕ → Point
 at x y = record { x = pos x; y = pos y }
@@ -36,14 +36,14 @@ abbrev pub back : Pass
 back = record { line = 0; back = true }
 
 -- a side of the square is one step
-pub known_square : needles_of square 0 ≡ at 0 0 ∷ at 30 0 ∷ at 30 30 ∷ at 0 30 ∷ at 0 0 ∷ []
+pub known_square : needles_of_line square 0 ≡ at 0 0 ∷ at 30 0 ∷ at 30 30 ∷ at 0 30 ∷ at 0 0 ∷ []
 known_square = refl
 
 pub known_square_cost : cost_of_line square 0 ≡ 4
 known_square_cost = refl
 
 -- three steps across and two down, each segment by itself
-pub known_steps : line_steps 10 (at 0 0 ∷ at 30 0 ∷ at 30 15 ∷ []) ≡ 5
+pub known_steps : steps_of_line 10 (at 0 0 ∷ at 30 0 ∷ at 30 15 ∷ []) ≡ 5
 known_steps = refl
 
 -- a stroke forth and back takes its far end once

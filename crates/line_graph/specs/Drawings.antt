@@ -6,11 +6,11 @@ use Rattle.std.specs.List.Sorted.{IsNonDecreasing}
 use Rattle.design_model.specs.declared.point.Point.{Point}
 use Rattle.design_model.specs.Labels.{IsLabel}
 use Rattle.step_splitter.specs.declared.segment.TheConstants.{MAX_STEP}
-use Rattle.step_splitter.specs.Chains.{IsNeedlePoint, KeepsMoving, last_from}
+use Rattle.step_splitter.specs.Chains.{IsNeedlePoint, HasNoRepeatAfter, last_point_or}
 use Rattle.line_sections.specs.declared.spot.Spot.{Spot}
 use Rattle.line_sections.specs.Lines.{LineValue}
 use Rattle.line_graph.specs.declared.limits.TheConstants.{MAX_BLOCKS, MAX_COST, MAX_LINES, MAX_POINTS}
-use Rattle.line_graph.specs.Needles.{line_steps}
+use Rattle.line_graph.specs.Needles.{steps_of_line}
 
 -- A drawing: its label, its longest step, the thread number of each block, and its lines in the
 -- order of their blocks. The starts and ends are the junctions where the walks over pieces must
@@ -24,37 +24,37 @@ pub record DrawingValue : Type 0 where
   pub ends : List Spot
 
 -- The points of a line, or none where there is no line.
-abbrev pub points_in : Option LineValue → List Point
-points_in (Some line) = line.points
-points_in None = []
+abbrev pub optional_line_points : Option LineValue → List Point
+optional_line_points (Some line) = line.points
+optional_line_points None = []
 
 -- The block of a line, or 0 where there is no line.
-abbrev pub block_in : Option LineValue → ℕ
-block_in (Some line) = line.block
-block_in None = 0
+abbrev pub optional_line_block : Option LineValue → ℕ
+optional_line_block (Some line) = line.block
+optional_line_block None = 0
 
 -- The points of the line with the given index.
 abbrev pub points_of : DrawingValue → ℕ → List Point
-points_of d line = points_in (slice_get d.lines line)
+points_of d line = optional_line_points (slice_get d.lines line)
 
 -- The block of the line with the given index.
 abbrev pub block_of : DrawingValue → ℕ → ℕ
-block_of d line = block_in (slice_get d.lines line)
+block_of d line = optional_line_block (slice_get d.lines line)
 
 -- The first point of a list, if it has one.
-abbrev pub first_of : List Point → Option Point
-first_of [] = None
-first_of (p ∷ rest) = Some p
+abbrev pub first_point : List Point → Option Point
+first_point [] = None
+first_point (p ∷ rest) = Some p
 
 -- The last point of a list, if it has one.
-abbrev pub last_of : List Point → Option Point
-last_of [] = None
-last_of (p ∷ rest) = Some (last_from p rest)
+abbrev pub last_point : List Point → Option Point
+last_point [] = None
+last_point (p ∷ rest) = Some (last_point_or p rest)
 
 -- Each point of a list differs from the point before it.
 abbrev pub HasNoRepeat : List Point → Type 0
 HasNoRepeat [] = Unit {0}
-HasNoRepeat (p ∷ rest) = KeepsMoving p rest
+HasNoRepeat (p ∷ rest) = HasNoRepeatAfter p rest
 
 -- A line that can be sewn: it has a segment, no point repeats the one before, and the needle can
 -- reach each point.
@@ -64,7 +64,7 @@ pub record IsLine (points : List Point) : Type 0 where
   pub in_range : All IsNeedlePoint points
 
 -- The limits of a drawing. Each block has a line, and the lines are in the order of their blocks.
-pub record KeepsDrawing (d : DrawingValue) : Type 0 where
+pub record KeepsDrawingLimits (d : DrawingValue) : Type 0 where
   pub label : IsLabel d.label
   pub one_word : All (λ byte. byte ≢ 32) d.label
   pub step_from : 1 ≤ d.step
@@ -79,4 +79,4 @@ pub record KeepsDrawing (d : DrawingValue) : Type 0 where
   pub lines : All (λ line. IsLine line.points) d.lines
   pub line_count : length d.lines ≤ MAX_LINES
   pub point_count : sum_by (λ line. length line.points) d.lines ≤ MAX_POINTS
-  pub cost : sum_by (λ line. line_steps d.step line.points) d.lines ≤ MAX_COST
+  pub cost : sum_by (λ line. steps_of_line d.step line.points) d.lines ≤ MAX_COST

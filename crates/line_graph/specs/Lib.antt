@@ -11,21 +11,21 @@ pub mod Pieces
 -- Read these two first: the graph of a piece, and the fitting and least walks over it.
 pub mod PieceGraphs
 pub mod PieceWalks
-pub mod KeptPieces
-pub mod CutPieces
+pub mod ValidPieces
+pub mod PiecesOfDrawings
 pub mod Runs
 pub mod SewnWalks
-pub mod OnePieces
-pub mod Laws
-pub mod Growing
+pub mod UniquePieces
+pub mod LineNeedles
+pub mod GrowingDrawings
 pub mod JoinedDrawings
 -- The junctions where walks must start and end.
 pub mod WalkEnds
 -- Used only inside this crate: the maker of drawings.
-pub mod Making
+pub mod DrawingMakerInvariants
 -- Used only inside this crate: the pieces.
 pub mod LineLabels
 pub mod FirstLines
-pub mod PieceParts
+pub mod PieceLabels
 -- Used only inside this crate: starts and ends.
-pub mod Choosing
+pub mod EndsMakerInvariants

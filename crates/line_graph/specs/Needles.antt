@@ -20,6 +20,6 @@ segment_steps step p [] = 0
 segment_steps step p (q ∷ rest) = steps_of p q step + segment_steps step q rest
 
 -- The number of steps of a line: the sum over its segments.
-abbrev pub line_steps : ℕ → List Point → ℕ
-line_steps step [] = 0
-line_steps step (p ∷ rest) = segment_steps step p rest
+abbrev pub steps_of_line : ℕ → List Point → ℕ
+steps_of_line step [] = 0
+steps_of_line step (p ∷ rest) = segment_steps step p rest

@@ -5,14 +5,14 @@ use Rattle.std.specs.List.{concat, list_any}
 use Rattle.std.specs.List.Sorted.{IsStrictlyIncreasing}
 use Rattle.design_model.specs.declared.point.Point.{Point}
 use Rattle.design_model.specs.Points.{is_same_point}
-use Rattle.step_splitter.specs.Chains.{last_from}
+use Rattle.step_splitter.specs.Chains.{last_point_or}
 use Rattle.line_sections.specs.Lines.{LineValue}
 use Rattle.line_graph.specs.Drawings.{DrawingValue}
 
 -- The endpoints of a line: its first point and its last point.
-abbrev pub ends_of : List Point → List Point
-ends_of [] = []
-ends_of (p ∷ rest) = p ∷ last_from p rest ∷ []
+abbrev pub endpoints : List Point → List Point
+endpoints [] = []
+endpoints (p ∷ rest) = p ∷ last_point_or p rest ∷ []
 
 -- Two lists of points have a point in common.
 abbrev pub shares_point : List Point → List Point → Bool
@@ -20,10 +20,10 @@ shares_point ps qs = list_any (λ p. list_any (is_same_point p) qs) ps
 
 -- Two lines touch: they are in one block, and an end of one is an end of the other.
 abbrev pub touches : LineValue → LineValue → Bool
-touches a b = a.block == b.block && shares_point (ends_of a.points) (ends_of b.points)
+touches a b = a.block == b.block && shares_point (endpoints a.points) (endpoints b.points)
 
 -- The lines with indexes i and j exist and touch.
-pub record TouchAt (d : DrawingValue) (i j : ℕ) : Type 0 where
+pub record LinesTouch (d : DrawingValue) (i j : ℕ) : Type 0 where
   pub one : LineValue
   pub other : LineValue
   pub one_is : slice_get d.lines i ≡ Some one
@@ -31,13 +31,13 @@ pub record TouchAt (d : DrawingValue) (i j : ℕ) : Type 0 where
   pub touch : touches one other ≡ true
 
 -- A path of lines from line i to line j: each line of the chain touches the next.
-abbrev pub Leads : DrawingValue → ℕ → List ℕ → ℕ → Type 0
-Leads d i [] j = i ≡ j
-Leads d i (k ∷ rest) j = TouchAt d i k × Leads d k rest j
+abbrev pub IsPathOfLines : DrawingValue → ℕ → List ℕ → ℕ → Type 0
+IsPathOfLines d i [] j = i ≡ j
+IsPathOfLines d i (k ∷ rest) j = LinesTouch d i k × IsPathOfLines d k rest j
 
 -- Two lines are connected: a path of touching lines leads from one to the other.
-abbrev pub Joined : DrawingValue → ℕ → ℕ → Type 0
-Joined d i j = (chain : List ℕ) × Leads d i chain j
+abbrev pub AreConnected : DrawingValue → ℕ → ℕ → Type 0
+AreConnected d i j = (chain : List ℕ) × IsPathOfLines d i chain j
 
 -- The first line of a piece, or 0 for an empty list.
 abbrev pub first_line : List ℕ → ℕ
@@ -50,7 +50,7 @@ pub record ArePieces (d : DrawingValue) (pieces : List (List ℕ)) : Type 0 wher
   pub filled : All (λ piece. piece ≢ []) pieces
   pub there : All (λ line. line < length d.lines) (concat pieces)
   pub covered : (line : ℕ) → line < length d.lines → Contains (concat pieces) line
-  pub joined : All (λ piece. All (Joined d (first_line piece)) piece) pieces
-  pub apart : AllPairs (λ a b. Joined d (first_line a) (first_line b) → ⊥) pieces
+  pub joined : All (λ piece. All (AreConnected d (first_line piece)) piece) pieces
+  pub apart : AllPairs (λ a b. AreConnected d (first_line a) (first_line b) → ⊥) pieces
   pub rising : All IsStrictlyIncreasing pieces
   pub ordered : IsStrictlyIncreasing (map first_line pieces)

@@ -7,13 +7,13 @@ use Rattle.design_model.specs.declared.act.NumberedAct.{NumberedAct}
 use Rattle.design_model.specs.declared.command.Command.{Command}
 use Rattle.design_model.specs.declared.command.Command.TheVariants.{Stitch, Trim, Stop}
 use Rattle.design_model.specs.declared.point.Point.{Point}
-use Rattle.design_model.specs.Acts.{acts_of, bare}
+use Rattle.design_model.specs.Acts.{acts_of, acts_without_numbers}
 use Rattle.design_model.specs.Designs.{DesignValue}
 use Rattle.step_splitter.specs.Chains.{IsNeedlePoint}
 use Rattle.line_graph.specs.declared.limits.TheConstants.{MAX_BLOCKS, MAX_COST, MAX_LINES}
 use Rattle.line_graph.specs.declared.pass.Pass.{Pass}
 use Rattle.line_graph.specs.Drawings.{DrawingValue, block_of}
-use Rattle.line_graph.specs.Laws.{AreClose}
+use Rattle.line_graph.specs.LineNeedles.{AreClose}
 use Rattle.line_graph.specs.Walks.{needles_of_walk}
 
 -- A run: the block in which it is sewn, and its needle points in order.
@@ -24,15 +24,15 @@ pub record Run : Type 0 where
 -- The acts that sew runs, where the run before was in the given block. A run has as many stops as
 -- its block is above the one before, a needle act at each of its points, and a trim. No needle act
 -- is a float.
-abbrev pub acts_after : ℕ → List Run → List Act
-acts_after block [] = []
-acts_after block (run ∷ rest) =
+abbrev pub sewn_acts_after : ℕ → List Run → List Act
+sewn_acts_after block [] = []
+sewn_acts_after block (run ∷ rest) =
     replicate (run.block - block) act.Stop
-    ++ (map (λ p. act.Needle p false) run.needles ++ act.Trim ∷ acts_after run.block rest)
+    ++ (map (λ p. act.Needle p false) run.needles ++ act.Trim ∷ sewn_acts_after run.block rest)
 
 -- The acts that sew runs in order, from block 0 on.
 abbrev pub sewn_acts : List Run → List Act
-sewn_acts runs = acts_after 0 runs
+sewn_acts runs = sewn_acts_after 0 runs
 
 -- The commands that sew runs, one for each act, where the run before was in the given block.
 abbrev pub commands_after : ℕ → List Run → List Command
@@ -42,13 +42,13 @@ commands_after block (run ∷ rest) =
     ++ (map (λ p. Stitch p) run.needles ++ Trim ∷ commands_after run.block rest)
 
 -- The block of a walk: that of the line of its first pass.
-abbrev pub block_of_walk : DrawingValue → List Pass → ℕ
-block_of_walk d [] = 0
-block_of_walk d (pass ∷ rest) = block_of d pass.line
+abbrev pub block_of_passes : DrawingValue → List Pass → ℕ
+block_of_passes d [] = 0
+block_of_passes d (pass ∷ rest) = block_of d pass.line
 
 -- The run along a walk: the walk's block and its needle points.
 abbrev pub run_of : DrawingValue → List Pass → Run
-run_of d walk = record { block = block_of_walk d walk; needles = needles_of_walk d walk }
+run_of d walk = record { block = block_of_passes d walk; needles = needles_of_walk d walk }
 
 -- The runs along walks, in order.
 abbrev pub runs_of : DrawingValue → List (List Pass) → List Run
@@ -56,7 +56,7 @@ runs_of d walks = map (run_of d) walks
 
 -- A design's acts sew the drawing by the given walks. The command numbers of the acts don't matter.
 abbrev pub Sews : DrawingValue → List (List Pass) → List NumberedAct → Type 0
-Sews d walks acts = bare acts ≡ sewn_acts (runs_of d walks)
+Sews d walks acts = acts_without_numbers acts ≡ sewn_acts (runs_of d walks)
 
 -- The design of runs: the drawing's label, the threads of its blocks, and the commands that sew the
 -- runs.
@@ -79,7 +79,7 @@ HasNeedle run = run.needles ≢ []
 -- The design of runs sews the runs, where each has a needle point.
 abbrev pub RunsAreSewn : Type 0
 RunsAreSewn = (d : DrawingValue) (runs : List Run) → All HasNeedle runs
-    → bare (acts_of (design_of_runs d runs)) ≡ sewn_acts runs
+    → acts_without_numbers (acts_of (design_of_runs d runs)) ≡ sewn_acts runs
 
 -- Needle points of a run: there is one, the needle can reach all, and each lies within the step of
 -- the one before on both axes.

@@ -7,17 +7,17 @@ use Rattle.line_graph.specs.Drawings.{DrawingValue, points_of}
 use Rattle.line_graph.specs.Needles.{needle_points}
 
 -- The needle points of a line, at the drawing's longest step.
-abbrev pub needles_of : DrawingValue → ℕ → List Point
-needles_of d line = needle_points d.step (points_of d line)
+abbrev pub needles_of_line : DrawingValue → ℕ → List Point
+needles_of_line d line = needle_points d.step (points_of d line)
 
 -- The cost of a line: the number of its needle points less one.
 abbrev pub cost_of_line : DrawingValue → ℕ → ℕ
-cost_of_line d line = length (needles_of d line) - 1
+cost_of_line d line = length (needles_of_line d line) - 1
 
 -- The needle points of a pass: those of its line, in reverse order where the pass goes backwards.
 abbrev pub needles_of_pass : DrawingValue → Pass → List Point
-needles_of_pass d pass = if pass.back then reverse (needles_of d pass.line)
-    else needles_of d pass.line
+needles_of_pass d pass = if pass.back then reverse (needles_of_line d pass.line)
+    else needles_of_line d pass.line
 
 -- The needle points of a walk: those of its passes in order. A point that ends one pass and starts
 -- the next is taken once.

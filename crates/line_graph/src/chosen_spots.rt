@@ -1,11 +1,11 @@
 ghost use Rattle.std.specs.Prelude.{◌≡◌, ◌≤◌, ◌∷◌, [], IfOk, length};
 ghost use Rattle.std.specs.List.{list_any, position_or_len};
 ghost use Rattle.design_model.specs.Points.{is_same_point};
-ghost use Rattle.line_graph.specs.Choosing.{AreChosen};
-ghost use Rattle.line_graph.specs.Growing.{Changes};
-ghost use Rattle.line_graph.specs.PieceParts.{AreLabels};
-ghost use Rattle.line_graph.specs.Pieces.{ends_of};
-ghost use Rattle.line_graph.specs.WalkEnds.{meets as line_meets, spot_added};
+ghost use Rattle.line_graph.specs.EndsMakerInvariants.{AreChosen};
+ghost use Rattle.line_graph.specs.GrowingDrawings.{ChangesAsSpecified};
+ghost use Rattle.line_graph.specs.PieceLabels.{ArePieceLabels};
+ghost use Rattle.line_graph.specs.Pieces.{endpoints};
+ghost use Rattle.line_graph.specs.WalkEnds.{has_end_at_spot, spot_added};
 
 use crate::draw_kind::DrawKind;
 use crate::drawing::Drawing;
@@ -36,9 +36,9 @@ impl ChosenSpots {
     /// Adds a junction. Errors, in this order: `NoJunction` where the spot is no junction, `EndRepeated`
     /// where its piece has one, and `Memory`. An error leaves the table unchanged.
     pub fn add(&mut self, d: &Drawing, labels: &[u32], spot: Spot) -> Result<(), DrawKind>
-        requires labels { AreLabels d.now labels.now }
+        requires labels { ArePieceLabels d.now labels.now }
         requires chosen { AreChosen d.now.lines labels.now self.old }
-        ensures answer { Changes (spot_added d.now.lines self.old.spots.items spot)
+        ensures answer { ChangesAsSpecified (spot_added d.now.lines self.old.spots.items spot)
             self.old.spots.items result self.new.spots.items }
         ensures chosen { AreChosen d.now.lines labels.now self.new }
     {
@@ -58,7 +58,7 @@ impl ChosenSpots {
 
 /// Returns the index of the first line that has an end at the spot, or the number of lines.
 fn line_at(lines: &[Line], spot: Spot) -> usize
-    ensures value { result ≡ position_or_len (line_meets spot) lines.now }
+    ensures value { result ≡ position_or_len (has_end_at_spot spot) lines.now }
     ensures within { result ≤ length lines.now }
 {
     for (index, line) in lines.iter().enumerate() {
@@ -70,13 +70,13 @@ fn line_at(lines: &[Line], spot: Spot) -> usize
 }
 
 fn meets(line: &Line, spot: Spot) -> bool
-    ensures { result ≡ line_meets spot line.now }
+    ensures { result ≡ has_end_at_spot spot line.now }
 {
     line.block() == spot.block && has_end(line.points(), spot.at)
 }
 
 fn has_end(points: &[Point], at: Point) -> bool
-    ensures { result ≡ list_any (is_same_point at) (ends_of points.now) }
+    ensures { result ≡ list_any (is_same_point at) (endpoints points.now) }
 {
     if points.is_empty() {
         return false;

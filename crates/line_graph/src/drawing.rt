@@ -24,7 +24,7 @@ pub struct Drawing {
 
 impl Model for Drawing {
     ghost use Rattle.line_graph.specs.Drawings.{DrawingValue};
-    ghost use Rattle.line_graph.specs.WalkEnds.{KeepsAll};
+    ghost use Rattle.line_graph.specs.WalkEnds.{IsValidDrawing};
 
     ghost Value = { DrawingValue };
 
@@ -37,7 +37,7 @@ impl Model for Drawing {
       ends = d.ends.items;
     } };
 
-    ghost invariant = { λ d. KeepsAll (record {
+    ghost invariant = { λ d. IsValidDrawing (record {
       label = d.label.items;
       step = d.step;
       threads = d.threads.items;
@@ -49,8 +49,8 @@ impl Model for Drawing {
 
 impl Drawing {
     ghost use Rattle.design_model.specs.Labels.{IsLabel};
-    ghost use Rattle.line_graph.specs.Drawings.{KeepsDrawing, points_of, block_of};
-    ghost use Rattle.line_graph.specs.WalkEnds.{KeepsAll, KeepsEnds};
+    ghost use Rattle.line_graph.specs.Drawings.{KeepsDrawingLimits, points_of, block_of};
+    ghost use Rattle.line_graph.specs.WalkEnds.{IsValidDrawing, HasValidEnds};
 
     /// Returns the drawing with the given parts.
     pub(crate) fn of_parts(
@@ -61,7 +61,7 @@ impl Drawing {
         starts: Vec<Spot>,
         ends: Vec<Spot>,
     ) -> Drawing
-        requires { KeepsAll (record {
+        requires { IsValidDrawing (record {
           label = label.items;
           step = step;
           threads = threads.items;
@@ -90,7 +90,7 @@ impl Drawing {
 
     /// Returns a copy of the drawing with other lines.
     pub(crate) fn with_lines(&self, alloc: Global, lines: Vec<Line>) -> Result<Drawing, Memory>
-        requires { KeepsAll (record self.now { lines = lines.items }) }
+        requires { IsValidDrawing (record self.now { lines = lines.items }) }
         ensures { IfOk result (λ d. d ≡ record self.now { lines = lines.items }) }
     {
         let mut label: ArrayVec<u8, MAX_LABEL> = ArrayVec::new();
@@ -106,7 +106,7 @@ impl Drawing {
 
     /// Returns the drawing with other starts and ends.
     pub(crate) fn with_ends(self, starts: Vec<Spot>, ends: Vec<Spot>) -> Drawing
-        requires { KeepsAll (record self { starts = starts.items; ends = ends.items }) }
+        requires { IsValidDrawing (record self { starts = starts.items; ends = ends.items }) }
         ensures { result ≡ record self { starts = starts.items; ends = ends.items } }
     {
         let Drawing {
@@ -121,8 +121,8 @@ impl Drawing {
 
     /// Theorem: a drawing is within its limits. A function whose proof needs this calls it.
     pub fn keeps_limits(&self)
-        ensures limits { KeepsDrawing self.now }
-        ensures ends { KeepsEnds self.now }
+        ensures limits { KeepsDrawingLimits self.now }
+        ensures ends { HasValidEnds self.now }
     {
         self.step();
     }
@@ -130,8 +130,8 @@ impl Drawing {
     /// Returns the longest step on each axis, in tenths of a millimetre.
     pub fn step(&self) -> u32
         ensures value { result ≡ self.now.step }
-        ensures limits { KeepsDrawing self.now }
-        ensures ends { KeepsEnds self.now }
+        ensures limits { KeepsDrawingLimits self.now }
+        ensures ends { HasValidEnds self.now }
     {
         self.step
     }

@@ -6,7 +6,7 @@ ghost use Rattle.step_splitter.specs.declared.segment.TheConstants.{MAX_STEP as 
 ghost use Rattle.step_splitter.specs.Chains.{IsNeedlePoint};
 ghost use Rattle.line_graph.specs.declared.draw_kind.DrawKind.TheVariants as kind;
 ghost use Rattle.line_graph.specs.declared.limits.TheConstants.{MAX_BLOCKS as max_blocks};
-ghost use Rattle.line_graph.specs.Growing.{Changes, block_added, drawing_begun, finished, is_label_word as is_a_label_word, line_added, steps_with as steps_of_lines_with};
+ghost use Rattle.line_graph.specs.GrowingDrawings.{ChangesAsSpecified, block_added, empty_drawing, finished_drawing, is_drawing_label, line_added, steps_with_line};
 ghost use Rattle.line_graph.specs.WalkEnds.{HasNoEnds};
 
 use crate::draw_kind::DrawKind;
@@ -38,7 +38,7 @@ pub struct DrawingMaker {
 
 impl Model for DrawingMaker {
     ghost use Rattle.line_graph.specs.Drawings.{DrawingValue};
-    ghost use Rattle.line_graph.specs.Making.{IsMade};
+    ghost use Rattle.line_graph.specs.DrawingMakerInvariants.{IsMakerState};
 
     ghost Value = { DrawingValue };
 
@@ -51,7 +51,7 @@ impl Model for DrawingMaker {
       ends = d.ends.items;
     } };
 
-    ghost invariant = { λ d. IsMade (record {
+    ghost invariant = { λ d. IsMakerState (record {
       label = d.label.items;
       step = d.step;
       threads = d.threads.items;
@@ -69,7 +69,7 @@ impl DrawingMaker {
         requires one_word { All (λ byte. byte ≢ 32) label.now }
         requires low { 1 ≤ step }
         requires high { step ≤ max_step }
-        ensures { result ≡ drawing_begun label.now step }
+        ensures { result ≡ empty_drawing label.now step }
     {
         let mut kept: ArrayVec<u8, MAX_LABEL> = ArrayVec::new();
         kept.try_extend_from_slice(label).unwrap();
@@ -88,7 +88,7 @@ impl DrawingMaker {
 
     /// Sets the label, which must be a word that may be a label.
     pub fn set_label(&mut self, word: &[u8])
-        requires { is_a_label_word word.now ≡ true }
+        requires { is_drawing_label word.now ≡ true }
         ensures { self.new ≡ record self.old { label = word.now } }
     {
         self.label.clear();
@@ -116,7 +116,7 @@ impl DrawingMaker {
     /// Adds a block at the end, with the given thread number. Errors, in this order: `EmptyBlock` where the
     /// last block has no line, `TooManyBlocks`. An error leaves the drawing unchanged.
     pub fn add_block(&mut self, thread: u8) -> Result<(), DrawKind>
-        ensures answer { Changes (block_added self.old thread) self.old result self.new }
+        ensures answer { ChangesAsSpecified (block_added self.old thread) self.old result self.new }
         ensures memory { IsErrOf result kind.Memory → IsOk (block_added self.old thread) }
     {
         if self.is_last_empty {
@@ -135,7 +135,7 @@ impl DrawingMaker {
     /// `RepeatedPoint`, `TooManyLines`, `TooManyPoints`, `TooMuchCost`, `Memory`. An error leaves the
     /// drawing unchanged.
     pub fn add_line(&mut self, points: Points) -> Result<(), DrawKind>
-        ensures answer { Changes (line_added self.old points) self.old result self.new }
+        ensures answer { ChangesAsSpecified (line_added self.old points) self.old result self.new }
         ensures memory { IsErrOf result kind.Memory → IsOk (line_added self.old points) }
     {
         if self.threads.is_empty() {
@@ -158,7 +158,7 @@ impl DrawingMaker {
     /// line.
     fn steps_with(&self, points: &[Point]) -> Result<u32, DrawKind>
         requires { All IsNeedlePoint points.now }
-        ensures { result ≡ steps_of_lines_with self.now points.now }
+        ensures { result ≡ steps_with_line self.now points.now }
     {
         if points.len() < 2 {
             return Err(DrawKind::FewPoints);
@@ -182,7 +182,7 @@ impl DrawingMaker {
     /// Returns the finished drawing, without starts and ends. Errors, in this order: `NoBlock` where there
     /// is no block, `EmptyBlock` where the last block has no line.
     pub fn finish(self) -> Result<Drawing, DrawKind>
-        ensures value { result ≡ finished self }
+        ensures value { result ≡ finished_drawing self }
         ensures unended { IfOk result HasNoEnds }
     {
         if self.threads.is_empty() {
@@ -206,7 +206,7 @@ impl DrawingMaker {
 
 /// Returns whether a word may be a label.
 pub fn is_label_word(word: &[u8]) -> bool
-    ensures { result ≡ is_a_label_word word.now }
+    ensures { result ≡ is_drawing_label word.now }
 {
     word.len() <= MAX_LABEL && are_graphic(word)
 }

@@ -1,7 +1,7 @@
 ghost use Rattle.std.specs.Prelude.{◌≡◌, ◌<◌, ◌≤◌, Some, length};
 ghost use Rattle.line_graph.specs.declared.limits.TheConstants.{MAX_POINTS};
-ghost use Rattle.line_graph.specs.Drawings.{IsLine, first_of, last_of, points_of};
-ghost use Rattle.line_graph.specs.Growing.{step_count};
+ghost use Rattle.line_graph.specs.Drawings.{IsLine, first_point, last_point, points_of};
+ghost use Rattle.line_graph.specs.GrowingDrawings.{step_count};
 ghost use Rattle.line_graph.specs.Walks.{cost_of_line};
 
 use crate::drawing::Drawing;
@@ -11,8 +11,8 @@ use design_model::Point;
 /// Returns the first and the last point of a line.
 pub fn line_ends(d: &Drawing, line: u32) -> (Point, Point)
     requires { line < length d.now.lines }
-    ensures first { first_of (points_of d.now line) ≡ Some result.0 }
-    ensures last { last_of (points_of d.now line) ≡ Some result.1 }
+    ensures first { first_point (points_of d.now line) ≡ Some result.0 }
+    ensures last { last_point (points_of d.now line) ≡ Some result.1 }
 {
     let points = points_to_sew(d, line);
     (points[0], points[points.len() - 1])

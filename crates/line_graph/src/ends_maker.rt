@@ -1,5 +1,5 @@
 ghost use Rattle.std.specs.Prelude.{◌≡◌, true, IfOk};
-ghost use Rattle.line_graph.specs.Growing.{Changes};
+ghost use Rattle.line_graph.specs.GrowingDrawings.{ChangesAsSpecified};
 ghost use Rattle.line_graph.specs.JoinedDrawings.{is_joined};
 ghost use Rattle.line_graph.specs.WalkEnds.{HasNoEnds, end_added, start_added};
 
@@ -23,7 +23,7 @@ pub struct EndsMaker {
 }
 
 impl Model for EndsMaker {
-    ghost use Rattle.line_graph.specs.Choosing.{IsEnding};
+    ghost use Rattle.line_graph.specs.EndsMakerInvariants.{IsEndsMakerState};
     ghost use Rattle.line_graph.specs.Drawings.{DrawingValue};
 
     ghost Value = { DrawingValue };
@@ -33,7 +33,7 @@ impl Model for EndsMaker {
       ends = m.ends.spots.items;
     } };
 
-    ghost invariant = { λ m. IsEnding m.drawing m.labels.items m.starts m.ends };
+    ghost invariant = { λ m. IsEndsMakerState m.drawing m.labels.items m.starts m.ends };
 }
 
 impl EndsMaker {
@@ -58,7 +58,7 @@ impl EndsMaker {
     /// Adds a start. Errors, in this order: `NoJunction` where no line of the block has an end at the spot,
     /// `EndRepeated` where its piece has a start, `Memory`. An error leaves the drawing unchanged.
     pub fn add_start(&mut self, spot: Spot) -> Result<(), DrawKind>
-        ensures { Changes (start_added self.old spot) self.old result self.new }
+        ensures { ChangesAsSpecified (start_added self.old spot) self.old result self.new }
     {
         self.starts.add(&self.drawing, self.labels.as_slice(), spot)
     }
@@ -66,7 +66,7 @@ impl EndsMaker {
     /// Adds an end. Errors, in this order: `NoJunction` where no line of the block has an end at the spot,
     /// `EndRepeated` where its piece has an end, `Memory`. An error leaves the drawing unchanged.
     pub fn add_end(&mut self, spot: Spot) -> Result<(), DrawKind>
-        ensures { Changes (end_added self.old spot) self.old result self.new }
+        ensures { ChangesAsSpecified (end_added self.old spot) self.old result self.new }
     {
         self.ends.add(&self.drawing, self.labels.as_slice(), spot)
     }

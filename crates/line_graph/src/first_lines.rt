@@ -1,18 +1,18 @@
 ghost use Rattle.std.specs.Prelude.{◌≡◌, ◌<◌, ◌+◌, IfOk, OnOk, length};
 ghost use Rattle.std.specs.HashMap.{get};
 ghost use Rattle.line_sections.specs.Spots.{is_same_spot};
-ghost use Rattle.line_graph.specs.FirstLines.{AddsLink, AreLinks, IsLinking, TakesSpot};
+ghost use Rattle.line_graph.specs.FirstLines.{AddsLink, AreLinks, AreLinkedBelow, RecordsFirstLine};
 
 use crate::drawing::Drawing;
 use crate::drawn_lines::line_ends;
-use crate::line_labels::Link;
+use crate::line_labels::LineLink;
 use design_model::Memory;
 use line_sections::Spot;
 use std::alloc::Global;
 use std::collections::HashMap;
 
 /// Returns two links for each line: from the line to the first line at each of its ends.
-pub fn links(alloc: Global, d: &Drawing) -> Result<Vec<Link>, Memory>
+pub fn links(alloc: Global, d: &Drawing) -> Result<Vec<LineLink>, Memory>
     ensures { IfOk result (λ links. AreLinks d.now links.items) }
 {
     let mut firsts = HashMap::new(alloc);
@@ -28,12 +28,12 @@ fn link_line(
     d: &Drawing,
     line: u32,
     firsts: &mut HashMap<Spot, u32>,
-    links: &mut Vec<Link>,
+    links: &mut Vec<LineLink>,
 ) -> Result<(), Memory>
     requires there { line < length d.now.lines }
-    requires linking { IsLinking d.now line (get is_same_spot firsts.old) links.old.items }
+    requires linking { AreLinkedBelow d.now line (get is_same_spot firsts.old) links.old.items }
     ensures { OnOk result
-        (IsLinking d.now (line + 1) (get is_same_spot firsts.new) links.new.items) }
+        (AreLinkedBelow d.now (line + 1) (get is_same_spot firsts.new) links.new.items) }
 {
     let block = d.line_block(line);
     let (first, last) = line_ends(d, line);
@@ -44,7 +44,7 @@ fn link_line(
 
 fn add_link(
     firsts: &mut HashMap<Spot, u32>,
-    links: &mut Vec<Link>,
+    links: &mut Vec<LineLink>,
     spot: Spot,
     line: u32,
 ) -> Result<(), Memory>
@@ -52,13 +52,13 @@ fn add_link(
         (get is_same_spot firsts.new) links.old.items links.new.items) }
 {
     let first = first_line_at(firsts, spot, line)?;
-    links.push(Link { line, first })?;
+    links.push(LineLink { line, first })?;
     Ok(())
 }
 
 /// Returns the first line at a spot. The given line becomes the first where there is none yet.
 fn first_line_at(firsts: &mut HashMap<Spot, u32>, spot: Spot, line: u32) -> Result<u32, Memory>
-    ensures { IfOk result (TakesSpot spot line (get is_same_spot firsts.old)
+    ensures { IfOk result (RecordsFirstLine spot line (get is_same_spot firsts.old)
         (get is_same_spot firsts.new)) }
 {
     match known_line_at(firsts, spot) {

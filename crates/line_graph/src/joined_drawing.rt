@@ -1,7 +1,7 @@
 ghost use Rattle.std.specs.Prelude.{◌≡◌, IfOk, true, nat_lt};
 ghost use Rattle.line_graph.specs.declared.limits.TheConstants.{MAX_POINTS as max_points};
-ghost use Rattle.design_model.specs.WantOfMemory.{IsSaid};
-ghost use Rattle.line_graph.specs.Growing.{point_count, wants_memory};
+ghost use Rattle.design_model.specs.OutOfMemory.{IsSpecified};
+ghost use Rattle.line_graph.specs.GrowingDrawings.{point_count, draw_is_out_of_memory};
 ghost use Rattle.line_graph.specs.JoinedDrawings.{is_joined, joined_drawing};
 
 use crate::draw_kind::DrawKind;
@@ -22,7 +22,7 @@ pub fn joined(d: &Drawing) -> bool
 /// that its block lists at another place too. Errors, in this order: `TooManyLines`, `TooManyPoints`; or
 /// `Memory`.
 pub fn join(alloc: Global, d: &Drawing) -> Result<Drawing, DrawKind>
-    ensures answer { IsSaid wants_memory (joined_drawing d.now) result }
+    ensures answer { IsSpecified draw_is_out_of_memory (joined_drawing d.now) result }
     ensures joined { IfOk result (λ whole. is_joined whole ≡ true) }
 {
     d.keeps_limits();

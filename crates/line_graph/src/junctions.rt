@@ -3,7 +3,7 @@ ghost use Rattle.std.specs.List.{position_or_len};
 ghost use Rattle.design_model.specs.Points.{is_same_point};
 ghost use Rattle.line_graph.specs.declared.limits.TheConstants.{MAX_LINES};
 ghost use Rattle.line_graph.specs.PieceGraphs.{edge_between, junctions_of, with_point};
-ghost use Rattle.line_graph.specs.PieceParts.{AddsEdge};
+ghost use Rattle.line_graph.specs.PieceLabels.{AddsEdge};
 
 use crate::drawing::Drawing;
 use crate::drawn_lines::{line_cost, line_ends};

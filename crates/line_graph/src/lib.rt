@@ -3,6 +3,7 @@
 #![tactic(auto)]
 
 mod chosen_spots;
+mod connected_lines;
 mod degrees;
 mod draw_kind;
 mod drawing;
@@ -12,9 +13,7 @@ mod edge;
 mod ends_maker;
 mod first_lines;
 mod joined_drawing;
-mod joined_lines;
 mod junctions;
-mod laws;
 mod limits;
 mod line_labels;
 mod line_shape;
@@ -25,8 +24,10 @@ mod piece_lines;
 mod piece_terms;
 #[cfg(test)]
 mod tests;
-mod walk_laws;
+mod theorems;
+mod walk_theorems;
 
+pub use connected_lines::pieces;
 pub use draw_kind::DrawKind;
 pub use drawing::Drawing;
 pub use drawing_maker::{DrawingMaker, is_label_word};
@@ -34,14 +35,14 @@ pub use drawn_lines::drawing_cost;
 pub use edge::{Edge, Edges};
 pub use ends_maker::EndsMaker;
 pub use joined_drawing::{join, joined};
-pub use joined_lines::pieces;
-pub use laws::{joined_drawings_stay, needles_lead_along, sections_keep_cost};
 pub use limits::{MAX_BLOCKS, MAX_COST, MAX_LINES, MAX_POINTS};
 pub use line_sections::{Line, Spot};
 pub use needle_points::needles;
 pub use pass::{Pass, Walk};
 pub use piece::{Piece, Pieces};
 pub use step_splitter::MAX_STEP;
-pub use walk_laws::{
-    fitting_walks_are_sewable, pieces_are_one, pieces_keep_limits, runs_are_sewn, spots_are_joined,
+pub use theorems::{joined_drawings_stay, needles_lead_along, sections_keep_cost};
+pub use walk_theorems::{
+    fitting_walks_are_sewable, pieces_are_unique, pieces_keep_limits, runs_are_sewn,
+    spots_are_connected,
 };

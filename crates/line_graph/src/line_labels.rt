@@ -1,21 +1,21 @@
 ghost use Rattle.std.specs.Prelude.{◌≡◌, ◌≤◌, ◌<◌, ◌||◌, ◌∷◌, [], IfOk, get_or, length};
-ghost use Rattle.line_graph.specs.LineLabels.{AreLow, AreOwn, AreSettled, AreWithin, Labels, Lowered, Lowers};
+ghost use Rattle.line_graph.specs.LineLabels.{AreAtMostIndex, AreOwnIndexes, AreFinalLabels, AreLinksBelow, AreLabelsOfLinks, LowersOneLabel, LowersLabels};
 
 use design_model::Memory;
 use std::alloc::Global;
 
 /// A link between a line and the first line that has one of its ends.
 #[derive(Clone, Copy, Debug, PartialEq, Eq)]
-pub struct Link {
+pub struct LineLink {
     pub line: u32,
     pub first: u32,
 }
 
 /// Returns a label for each line: the index of a connected line that is no later. Linked lines have equal
 /// labels.
-pub fn labels(alloc: Global, links: &[Link], count: u32) -> Result<Vec<u32>, Memory>
-    requires { AreWithin count links.now }
-    ensures value { IfOk result (λ labels. Labels links.now labels.items) }
+pub fn labels(alloc: Global, links: &[LineLink], count: u32) -> Result<Vec<u32>, Memory>
+    requires { AreLinksBelow count links.now }
+    ensures value { IfOk result (λ labels. AreLabelsOfLinks links.now labels.items) }
     ensures sized { IfOk result (λ labels. length labels.items ≡ count) }
 {
     let mut labels = own_labels(alloc, count)?;
@@ -25,7 +25,7 @@ pub fn labels(alloc: Global, links: &[Link], count: u32) -> Result<Vec<u32>, Mem
 
 /// Returns the initial labels: each line's own index.
 fn own_labels(alloc: Global, count: u32) -> Result<Vec<u32>, Memory>
-    ensures { IfOk result (λ labels. AreOwn count labels.items) }
+    ensures { IfOk result (λ labels. AreOwnIndexes count labels.items) }
 {
     let mut labels = Vec::new(alloc);
     for line in 0..count {
@@ -35,19 +35,19 @@ fn own_labels(alloc: Global, count: u32) -> Result<Vec<u32>, Memory>
 }
 
 /// Lowers labels until linked lines have equal labels.
-fn settle(labels: &mut Vec<u32>, links: &[Link])
-    requires low { AreLow labels.old.items }
-    requires within { AreWithin (length labels.old.items) links.now }
-    ensures { AreSettled links.now labels.old.items labels.new.items }
+fn settle(labels: &mut Vec<u32>, links: &[LineLink])
+    requires low { AreAtMostIndex labels.old.items }
+    requires within { AreLinksBelow (length labels.old.items) links.now }
+    ensures { AreFinalLabels links.now labels.old.items labels.new.items }
 {
     while sweep(labels, links) {}
 }
 
 /// Lowers the labels at each link, and returns whether any changed.
-fn sweep(labels: &mut Vec<u32>, links: &[Link]) -> bool
-    requires low { AreLow labels.old.items }
-    requires within { AreWithin (length labels.old.items) links.now }
-    ensures { Lowers links.now labels.old.items labels.new.items result }
+fn sweep(labels: &mut Vec<u32>, links: &[LineLink]) -> bool
+    requires low { AreAtMostIndex labels.old.items }
+    requires within { AreLinksBelow (length labels.old.items) links.now }
+    ensures { LowersLabels links.now labels.old.items labels.new.items result }
 {
     let mut changed = false;
     for link in links {
@@ -58,11 +58,11 @@ fn sweep(labels: &mut Vec<u32>, links: &[Link]) -> bool
 
 /// Lowers the labels of two linked lines, and of the lines that are these labels, to the lesser label of
 /// the latter two. Since labels of labels fall too, few sweeps are enough.
-fn join(labels: &mut Vec<u32>, link: Link) -> bool
-    requires low { AreLow labels.old.items }
+fn join(labels: &mut Vec<u32>, link: LineLink) -> bool
+    requires low { AreAtMostIndex labels.old.items }
     requires line { link.line < length labels.old.items }
     requires first { link.first < length labels.old.items }
-    ensures { Lowers (link ∷ []) labels.old.items labels.new.items result }
+    ensures { LowersLabels (link ∷ []) labels.old.items labels.new.items result }
 {
     let line = label_at(labels, link.line);
     let first = label_at(labels, link.first);
@@ -77,7 +77,7 @@ fn join(labels: &mut Vec<u32>, link: Link) -> bool
 /// Lowers a line's label to the given one if that is less, and returns whether it did.
 fn lower(labels: &mut Vec<u32>, line: u32, label: u32) -> bool
     requires { line < length labels.old.items }
-    ensures { Lowered line label labels.old.items labels.new.items result }
+    ensures { LowersOneLabel line label labels.old.items labels.new.items result }
 {
     if label < labels[line as usize] {
         labels[line as usize] = label;
@@ -88,7 +88,7 @@ fn lower(labels: &mut Vec<u32>, line: u32, label: u32) -> bool
 
 fn label_at(labels: &Vec<u32>, line: u32) -> u32
     requires there { line < length labels.now.items }
-    requires low { AreLow labels.now.items }
+    requires low { AreAtMostIndex labels.now.items }
     ensures value { result ≡ get_or labels.now.items line 0 }
     ensures low { result ≤ line }
 {

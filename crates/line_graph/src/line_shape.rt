@@ -1,15 +1,15 @@
 ghost use Rattle.std.specs.Prelude.{◌≡◌, ◌≤◌, length};
 ghost use Rattle.line_graph.specs.declared.limits.TheConstants.{MAX_POINTS};
 ghost use Rattle.line_graph.specs.Drawings.{IsLine};
-ghost use Rattle.line_graph.specs.Growing.{are_in_range as all_in_range, has_repeat as has_a_repeat};
-ghost use Rattle.line_graph.specs.Needles.{line_steps as steps_of_line};
+ghost use Rattle.line_graph.specs.GrowingDrawings.{all_in_needle_range, has_repeated_point};
+ghost use Rattle.line_graph.specs.Needles.{steps_of_line};
 
 use design_model::{NEEDLE_LIMIT, Point};
 use step_splitter::{MAX_STEP, steps};
 
 /// Returns whether the needle can reach all of the points.
 pub fn are_in_range(points: &[Point]) -> bool
-    ensures { result ≡ all_in_range points.now }
+    ensures { result ≡ all_in_needle_range points.now }
 {
     let mut rest = points;
     while let [p, after @ ..] = rest {
@@ -23,7 +23,7 @@ pub fn are_in_range(points: &[Point]) -> bool
 
 /// Returns whether some point equals the one before it.
 pub fn has_repeat(points: &[Point]) -> bool
-    ensures { result ≡ has_a_repeat points.now }
+    ensures { result ≡ has_repeated_point points.now }
 {
     let [first, after @ ..] = points else {
         return false;

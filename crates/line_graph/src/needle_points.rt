@@ -1,9 +1,9 @@
 ghost use Rattle.std.specs.Prelude.{◌≡◌, ◌<◌, ◌≤◌, length, IfOk};
 ghost use Rattle.step_splitter.specs.declared.segment.TheConstants.{MAX_STEP as max_step};
 ghost use Rattle.line_graph.specs.Drawings.{IsLine};
-ghost use Rattle.line_graph.specs.Laws.{AreNeedlesOf, LeadAlong};
+ghost use Rattle.line_graph.specs.LineNeedles.{AreNeedlesOf, LeadAlong};
 ghost use Rattle.line_graph.specs.Needles.{needle_points};
-ghost use Rattle.line_graph.specs.Walks.{needles_of};
+ghost use Rattle.line_graph.specs.Walks.{needles_of_line};
 
 use crate::drawing::Drawing;
 use design_model::{Memory, Point, Points};
@@ -15,7 +15,7 @@ use step_splitter::split;
 /// its segments are split at.
 pub fn needles(alloc: Global, d: &Drawing, line: u32) -> Result<Points, Memory>
     requires there { line < length d.now.lines }
-    ensures value { IfOk result (λ points. points ≡ needles_of d.now line) }
+    ensures value { IfOk result (λ points. points ≡ needles_of_line d.now line) }
     ensures sound { IfOk result (AreNeedlesOf d.now line) }
 {
     let step = d.step();

@@ -1,4 +1,4 @@
-ghost use Rattle.line_graph.specs.KeptPieces.{KeepsPiece};
+ghost use Rattle.line_graph.specs.ValidPieces.{IsValidPiece};
 
 use crate::edge::Edges;
 use design_model::{Items, Numbers, Points};
@@ -20,7 +20,7 @@ pub struct Piece {
     pub degrees: Numbers,
     pub start: Option<u32>,
     pub end: Option<u32>,
-    pub ghost kept: { KeepsPiece (record {
+    pub ghost kept: { IsValidPiece (record {
       block = block;
       lines = lines;
       junctions = junctions;

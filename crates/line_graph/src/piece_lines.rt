@@ -1,8 +1,8 @@
 ghost use Rattle.std.specs.Prelude.{◌≡◌, ◌<◌, ◌≤◌, IfOk, length};
-ghost use Rattle.line_graph.specs.CutPieces.{graph_of};
-ghost use Rattle.line_graph.specs.KeptPieces.{KeepsPiece};
-ghost use Rattle.line_graph.specs.PieceGraphs.{number_among as the_number_among, number_at as the_number_at, piece_of as the_piece_of};
-ghost use Rattle.line_graph.specs.PieceParts.{IsPart, labelled};
+ghost use Rattle.line_graph.specs.PiecesOfDrawings.{graph_of};
+ghost use Rattle.line_graph.specs.ValidPieces.{IsValidPiece};
+ghost use Rattle.line_graph.specs.PieceGraphs.{first_junction_among, junction_at_spot, piece_graph};
+ghost use Rattle.line_graph.specs.PieceLabels.{IsPiece, lines_labelled};
 ghost use Rattle.line_graph.specs.Pieces.{first_line};
 
 use crate::degrees::degrees;
@@ -17,8 +17,8 @@ use step_splitter::split_points_lead;
 
 /// Returns the piece that consists of the given lines.
 pub fn piece_of(alloc: Global, d: &Drawing, lines: Numbers) -> Result<Piece, Memory>
-    requires { IsPart d.now lines }
-    ensures { IfOk result (λ piece. graph_of piece ≡ the_piece_of d.now lines) }
+    requires { IsPiece d.now lines }
+    ensures { IfOk result (λ piece. graph_of piece ≡ piece_graph d.now lines) }
 {
     are_kept(d, lines.as_slice());
     let mut seen = IndexSet::new(alloc);
@@ -43,7 +43,7 @@ pub fn piece_of(alloc: Global, d: &Drawing, lines: Numbers) -> Result<Piece, Mem
 /// Returns the number of the first spot that is a junction of the block, if there is one.
 fn number_among(block: u32, junctions: &IndexSet<Point>, spots: &[Spot]) -> Option<u32>
     requires { length junctions.now.keys ≤ 4294967295 }
-    ensures { result ≡ the_number_among block junctions.now.keys spots.now }
+    ensures { result ≡ first_junction_among block junctions.now.keys spots.now }
 {
     let mut rest = spots;
     while let [spot, after @ ..] = rest {
@@ -58,7 +58,7 @@ fn number_among(block: u32, junctions: &IndexSet<Point>, spots: &[Spot]) -> Opti
 /// Returns the number of the junction at a spot, if the block has one there.
 fn number_at(block: u32, junctions: &IndexSet<Point>, spot: Spot) -> Option<u32>
     requires { length junctions.now.keys ≤ 4294967295 }
-    ensures { result ≡ the_number_at block junctions.now.keys spot }
+    ensures { result ≡ junction_at_spot block junctions.now.keys spot }
 {
     if spot.block != block {
         return None;
@@ -69,8 +69,8 @@ fn number_at(block: u32, junctions: &IndexSet<Point>, spot: Spot) -> Option<u32>
 
 /// Lemma: the graph of the given lines is a valid piece.
 fn are_kept(d: &Drawing, lines: &[u32])
-    requires { IsPart d.now lines.now }
-    ensures { KeepsPiece (the_piece_of d.now lines.now) }
+    requires { IsPiece d.now lines.now }
+    ensures { IsValidPiece (piece_graph d.now lines.now) }
 {
     d.keeps_limits();
     split_points_lead();
@@ -87,7 +87,7 @@ fn first(lines: &[u32]) -> u32
 pub fn lines_with(alloc: Global, labels: &[u32], label: u32) -> Result<Numbers, Memory>
     requires small { length labels.now ≤ 4294967295 }
     requires there { label < length labels.now }
-    ensures { IfOk result (λ lines. lines ≡ labelled labels.now label) }
+    ensures { IfOk result (λ lines. lines ≡ lines_labelled labels.now label) }
 {
     let mut lines = Numbers::new(alloc);
     for line in label..labels.len() as u32 {

@@ -1,8 +1,8 @@
 ghost use Rattle.std.specs.Prelude.{◌≡◌, ◌≤◌};
 ghost use Rattle.line_graph.specs.declared.limits.TheConstants.{MAX_COST};
-ghost use Rattle.line_graph.specs.CutPieces.{graph_of};
-ghost use Rattle.line_graph.specs.PieceGraphs.{from_of, to_of};
-ghost use Rattle.line_graph.specs.PieceWalks.{cost_of, edge_sum, piece_cost};
+ghost use Rattle.line_graph.specs.PiecesOfDrawings.{graph_of};
+ghost use Rattle.line_graph.specs.PieceGraphs.{given_start, given_end};
+ghost use Rattle.line_graph.specs.PieceWalks.{edge_cost, edge_sum, piece_cost};
 
 use crate::edge::Edge;
 use crate::piece::Piece;
@@ -11,14 +11,14 @@ use crate::piece::Piece;
 impl Piece {
     /// Returns the junction where a walk must start, if one is given: the piece's start, else its end.
     pub fn from(&self) -> Option<u32>
-        ensures { result ≡ from_of (graph_of self.now) }
+        ensures { result ≡ given_start (graph_of self.now) }
     {
         self.start.or(self.end)
     }
 
     /// Returns the junction where a walk must end, if one is given: the piece's end, else its start.
     pub fn to(&self) -> Option<u32>
-        ensures { result ≡ to_of (graph_of self.now) }
+        ensures { result ≡ given_end (graph_of self.now) }
     {
         self.end.or(self.start)
     }
@@ -33,8 +33,8 @@ impl Piece {
 }
 
 fn cost_of_edges(edges: &[Edge]) -> u32
-    requires { edge_sum cost_of edges.now ≤ MAX_COST }
-    ensures { result ≡ edge_sum cost_of edges.now }
+    requires { edge_sum edge_cost edges.now ≤ MAX_COST }
+    ensures { result ≡ edge_sum edge_cost edges.now }
 {
     let mut cost = 0;
     for edge in edges {

@@ -8,14 +8,14 @@ use std::test::Fail;
 
 /// A part of a drawing in the making: a block of the given thread, or a line through the given places.
 #[derive(Clone, Copy)]
-enum Part {
+enum DrawingPart {
     Block(u8),
     Line(&'static [(i32, i32)]),
 }
 
-use Part::{Block, Line};
+use DrawingPart::{Block, Line};
 
-const SQUARES: [Part; 4] = [
+const SQUARES: [DrawingPart; 4] = [
     Block(3),
     Line(&[(0, 0), (30, 0), (30, 30), (0, 30), (0, 0)]),
     Block(9),
@@ -30,7 +30,7 @@ fn points(alloc: Global, places: &[(i32, i32)]) -> Result<Points, DrawKind> {
     Ok(points)
 }
 
-fn grown(alloc: Global, step: u32, parts: &[Part]) -> Result<Drawing, DrawKind> {
+fn grown(alloc: Global, step: u32, parts: &[DrawingPart]) -> Result<Drawing, DrawKind> {
     if step == 0 || step > MAX_STEP {
         return Err(DrawKind::OutOfRange);
     }
@@ -44,7 +44,7 @@ fn grown(alloc: Global, step: u32, parts: &[Part]) -> Result<Drawing, DrawKind> 
     maker.finish()
 }
 
-fn fault(alloc: Global, step: u32, parts: &[Part]) -> Option<DrawKind> {
+fn fault(alloc: Global, step: u32, parts: &[DrawingPart]) -> Option<DrawKind> {
     grown(alloc, step, parts).err()
 }
 
@@ -82,7 +82,7 @@ fn a_label_is_a_word_of_sixteen_signs_or_fewer(rt: HostRuntime) {
 
 #[test]
 fn the_first_fault_is_told(rt: HostRuntime) {
-    let table: [(&[Part], Option<DrawKind>); 10] = [
+    let table: [(&[DrawingPart], Option<DrawKind>); 10] = [
         (&[], Some(DrawKind::NoBlock)),
         (&[Line(&[(30_001, 0)])], Some(DrawKind::NoBlock)),
         (&[Block(1)], Some(DrawKind::EmptyBlock)),

@@ -9,8 +9,8 @@ use Rattle.design_model.specs.Points.{is_same_point}
 use Rattle.line_sections.specs.declared.spot.Spot.{Spot}
 use Rattle.line_sections.specs.Lines.{LineValue}
 use Rattle.line_sections.specs.Spots.{is_same_spot}
-use Rattle.line_sections.specs.ListedPoints.{AreMarked, Marks, MarksSpot, TellCuts, TellSpots, cuts_by, is_again, mark_of, sections_by, sections_on, spot_at, spots_of}
-use Rattle.line_sections.specs.Sections.{but_last, has_points, is_shared, line_sections, lines_through, sections_from, sections_of}
+use Rattle.line_sections.specs.ListedPoints.{AreMarked, Marks, MarksSpot, AreCutMarks, AreMarksOf, is_cut_by, is_listed_again, mark_of, sections_by, sections_continued, spot_at, spots_of}
+use Rattle.line_sections.specs.Sections.{but_last, has_points, is_shared_point, line_sections, lines_through, sections_from, sections_of}
 use Rattle.line_sections.proofs.WholeLemmas.{counted, listed_counts}
 use Rattle.line_sections.proofs.SpotLemmas.{same_spot, spot_found}
 use Rattle.line_sections.proofs.SectionLemmas.{along}
@@ -33,9 +33,9 @@ next_mark (suc (suc n)) = sym (ap mark_of (later n))
     later : (n : ℕ) → suc (suc n) + 1 ≡ suc (suc (suc n))
     later n = omega arith
 
-told_next : (spot : Spot) (spots : List Spot) (old new : Marks) → TellSpots spots old
+told_next : (spot : Spot) (spots : List Spot) (old new : Marks) → AreMarksOf spots old
     → ((other : Spot) → new other ≡ cond (is_same_spot spot other) (Some (is_some (old spot))) (old other))
-    → TellSpots (spots ++ spot ∷ []) new
+    → AreMarksOf (spots ++ spot ∷ []) new
 told_next spot spots old new told updates other = by_test (is_same_spot spot other) refl
   where
     count : ℕ
@@ -117,16 +117,16 @@ spot_counts block p (line ∷ rest) =
     in_line points = by_test points (line.block == block) (equal_turned block line.block (line.block == block) refl)
 
 -- the marks of all points decide where lines are cut
-again_is : (n : ℕ) → is_again (mark_of n) ≡ nat_le 2 n
+again_is : (n : ℕ) → is_listed_again (mark_of n) ≡ nat_le 2 n
 again_is zero = refl
 again_is (suc zero) = refl
 again_is (suc (suc n)) = sym (grind (arith, nat_tests))
 
-pub all_marked : (lines : List LineValue) (marks : Marks) → AreMarked (flat_map spots_of lines) [] marks → TellCuts lines marks
+pub all_marked : (lines : List LineValue) (marks : Marks) → AreMarked (flat_map spots_of lines) [] marks → AreCutMarks lines marks
 all_marked lines marks marked = record {
   cut = λ block p.
       let all : marked.before ≡ flat_map spots_of lines = sym (append-nil marked.before) ∙ marked.split in
-      ap is_again (marked.told (spot_at block p))
+      ap is_listed_again (marked.told (spot_at block p))
       ∙ (again_is (count_by (is_same_spot (spot_at block p)) marked.before)
       ∙ ap (nat_le 2) (ap (count_by (is_same_spot (spot_at block p))) all
       ∙ (spot_counts block p lines ∙ sym (listed_counts (is_same_point p) block lines))));
@@ -142,12 +142,12 @@ module _ (f g : Point → Bool) (agree : (p : Point) → f p ≡ g p) where
   line_same [] = refl
   line_same (p ∷ rest) = sections_same p rest
 
-pub sections_told : (all : List LineValue) (marks : Marks) → TellCuts all marks → (lines : List LineValue)
+pub sections_told : (all : List LineValue) (marks : Marks) → AreCutMarks all marks → (lines : List LineValue)
     → flat_map (sections_by marks) lines ≡ flat_map (line_sections all) lines
 sections_told all marks tell [] = refl
 sections_told all marks tell (line ∷ rest) =
     let here : sections_by marks line ≡ line_sections all line = ap (lines_through line.block)
-    (line_same (cuts_by marks line.block) (is_shared all line.block) (tell.cut line.block) line.points) in
+    (line_same (is_cut_by marks line.block) (is_shared_point all line.block) (tell.cut line.block) line.points) in
     flat_map-cons (sections_by marks) line rest
     ∙ (ap (λ (first : List LineValue). first ++ flat_map (sections_by marks) rest) here
     ∙ (ap (λ (more : List LineValue). line_sections all line ++ more) (sections_told all marks tell rest)
@@ -165,34 +165,34 @@ put_none (section ∷ rest) = refl
 -- sections that go on are those of the line
 module _ (is_cut : Point → Bool) where
   abbrev GoOn : Point → List Point → List (List Point) → Type 0
-  GoOn p rest sections = (begun : List Point) → sections_on is_cut (begun ++ p ∷ []) rest ≡ put_before begun sections
+  GoOn p rest sections = (begun : List Point) → sections_continued is_cut (begun ++ p ∷ []) rest ≡ put_before begun sections
 
   go_on : (p : Point) (rest : List Point) → GoOn p rest (sections_from is_cut p rest)
   go_on = along is_cut GoOn (λ p begun. refl)
       (λ p q rest behind more cut here begun.
-      rw (more, cut) (ap (λ (first : List Point). first ∷ sections_on is_cut (q ∷ []) rest) (append_assoc begun (p ∷ []) (q ∷ []))
+      rw (more, cut) (ap (λ (first : List Point). first ∷ sections_continued is_cut (q ∷ []) rest) (append_assoc begun (p ∷ []) (q ∷ []))
       ∙ ap (λ (others : List (List Point)). (begun ++ p ∷ q ∷ []) ∷ others) (here [] ∙ put_none behind)))
       (λ p q rest first others test is here begun.
       rw test (here (begun ++ p ∷ [])
       ∙ ap (λ (section : List Point). section ∷ others) (append_assoc begun (p ∷ []) (q ∷ first))))
 
-  pub from_first : (p : Point) (rest : List Point) → sections_on is_cut (p ∷ []) rest ≡ sections_from is_cut p rest
+  pub from_first : (p : Point) (rest : List Point) → sections_continued is_cut (p ∷ []) rest ≡ sections_from is_cut p rest
   from_first p rest = go_on p rest [] ∙ put_none (sections_from is_cut p rest)
 
 -- with the first point of a line begun
 pub line_begun : (marks : Marks) (line : LineValue) (block : ℕ) (first : Point) (after points section : List Point)
     (sections : List LineValue) → block ≡ line.block → points ≡ line.points → points ≡ first ∷ after → section ≡ first ∷ []
-    → sections ++ lines_through block (sections_on (cuts_by marks block) section after) ≡ sections ++ sections_by marks line
+    → sections ++ lines_through block (sections_continued (is_cut_by marks block) section after) ≡ sections ++ sections_by marks line
 line_begun marks line block first after points section sections in_block same are begun =
-    let parts : sections_on (cuts_by marks block) section after ≡ sections_of (cuts_by marks block) line.points =
-    ap (λ (s : List Point). sections_on (cuts_by marks block) s after) begun
-    ∙ (from_first (cuts_by marks block) first after ∙ ap (sections_of (cuts_by marks block)) (sym are ∙ same)) in
+    let parts : sections_continued (is_cut_by marks block) section after ≡ sections_of (is_cut_by marks block) line.points =
+    ap (λ (s : List Point). sections_continued (is_cut_by marks block) s after) begun
+    ∙ (from_first (is_cut_by marks block) first after ∙ ap (sections_of (is_cut_by marks block)) (sym are ∙ same)) in
     ap (λ (more : List (List Point)). sections ++ lines_through block more) parts
-    ∙ ap (λ (b : ℕ). sections ++ lines_through b (sections_of (cuts_by marks b) line.points)) in_block
+    ∙ ap (λ (b : ℕ). sections ++ lines_through b (sections_of (is_cut_by marks b) line.points)) in_block
 
 -- once no line is left
 pub none_left : (lines left : List LineValue) (marks : Marks) → AreMarked (flat_map spots_of lines) (flat_map spots_of left) marks
-    → length left < 1 → TellCuts lines marks
+    → length left < 1 → AreCutMarks lines marks
 none_left lines [] marks marked none = all_marked lines marks marked
 none_left lines (line ∷ left) marks marked none = absurd (omega (arith, none))
 

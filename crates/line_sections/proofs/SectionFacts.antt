@@ -2,8 +2,8 @@
 use Rattle.std.proofs.Common.{◌≡◌, ℕ, ◌≤◌, pos, Bool, true, false, List, [], ◌∷◌, ◌++◌, length, map, All, None, Some, refl, arith}
 use Rattle.design_model.specs.declared.point.Point.{Point}
 use Rattle.line_sections.specs.Lines.{LineValue}
-use Rattle.line_sections.specs.ListedPoints.{is_again, mark_of}
-use Rattle.line_sections.specs.Sections.{SectionsHaveSegments, WholeLinesStay, all_sections, are_whole, lines_through, sections_of, segments_of}
+use Rattle.line_sections.specs.ListedPoints.{is_listed_again, mark_of}
+use Rattle.line_sections.specs.Sections.{SectionsHaveSegments, WholeLinesStay, all_sections, are_whole_lines, lines_through, sections_of, segments_of}
 use Rattle.line_sections.specs.Spots.{is_same_spot}
 
 abbrev at : ℕ → ℕ → Point
@@ -23,18 +23,18 @@ crossed = lines_through 0 ((at 0 10 ∷ at 10 10 ∷ []) ∷ (at 10 10 ∷ at 20
 pub known_crossing : AreCut crossing crossed
 known_crossing = refl
 
-pub known_crossing_whole : (are_whole crossing ≡ false) × (are_whole crossed ≡ true)
+pub known_crossing_whole : (are_whole_lines crossing ≡ false) × (are_whole_lines crossed ≡ true)
 known_crossing_whole = (refl, refl)
 
 -- a point that only a line of another block lists cuts nothing
 abbrev apart : List LineValue
 apart = lines_through 0 ((at 0 10 ∷ at 10 10 ∷ at 20 10 ∷ []) ∷ []) ++ lines_through 1 ((at 10 0 ∷ at 10 10 ∷ at 10 20 ∷ []) ∷ [])
 
-pub known_blocks : AreCut apart apart × (are_whole apart ≡ true)
+pub known_blocks : AreCut apart apart × (are_whole_lines apart ≡ true)
 known_blocks = (refl, refl)
 
 -- lines that cross where neither has a point stay whole
-pub known_unlisted : are_whole (lines_through 0 ((at 0 10 ∷ at 20 10 ∷ []) ∷ (at 10 0 ∷ at 10 20 ∷ []) ∷ [])) ≡ true
+pub known_unlisted : are_whole_lines (lines_through 0 ((at 0 10 ∷ at 20 10 ∷ []) ∷ (at 10 0 ∷ at 10 20 ∷ []) ∷ [])) ≡ true
 known_unlisted = refl
 
 -- a point inside a line that another one ends at: the one is cut, and the other has no inside there
@@ -58,7 +58,7 @@ pub known_closed : AreCut
 known_closed = refl
 
 -- where a closed line is the only one, it stays whole
-pub known_loop : are_whole (lines_through 0 ((at 0 0 ∷ at 3 0 ∷ at 3 3 ∷ at 0 0 ∷ []) ∷ [])) ≡ true
+pub known_loop : are_whole_lines (lines_through 0 ((at 0 0 ∷ at 3 0 ∷ at 3 3 ∷ at 0 0 ∷ []) ∷ [])) ≡ true
 known_loop = refl
 
 -- segments by their ends
@@ -80,7 +80,7 @@ known_spots = refl
 pub known_marks : map mark_of (0 ∷ 1 ∷ 2 ∷ 3 ∷ []) ≡ None ∷ Some false ∷ Some true ∷ Some true ∷ []
 known_marks = refl
 
-pub known_again : map is_again (None ∷ Some false ∷ Some true ∷ []) ≡ false ∷ false ∷ true ∷ []
+pub known_again : map is_listed_again (None ∷ Some false ∷ Some true ∷ []) ≡ false ∷ false ∷ true ∷ []
 known_again = refl
 
 -- the theorem on segments is about lines of two points, and that on whole lines about lines of one point
@@ -89,5 +89,5 @@ pub known_two_points : SectionsHaveSegments → (is_cut : Point → Bool) (p q :
 known_two_points law is_cut p q = law is_cut (p ∷ q ∷ []) (omega arith)
 
 pub known_one_point : WholeLinesStay → (lines : List LineValue) → All (λ line. 1 ≤ length line.points) lines
-    → are_whole lines ≡ true → AreCut lines lines
+    → are_whole_lines lines ≡ true → AreCut lines lines
 known_one_point law = law

@@ -6,7 +6,7 @@ use Rattle.std.proofs.lemmas.List.Elements.{All-cons, All-head, All-nil, All-tai
 use Rattle.std.proofs.lemmas.List.Sums.{sum_by-cons}
 use Rattle.std.specs.List.{count_by, flat_map, list_any}
 use Rattle.design_model.specs.declared.point.Point.{Point}
-use Rattle.line_sections.specs.Sections.{but_last, has_points, inner_points, led_from, sections_from, sections_of, segments_from, segments_of}
+use Rattle.line_sections.specs.Sections.{but_last, has_points, inner_points, sections_with_first, sections_from, sections_of, segments_from, segments_of}
 
 -- sections the first of which begins at p
 record Begin (p : Point) (sections : List (List Point)) : Type 0 where
@@ -14,13 +14,13 @@ record Begin (p : Point) (sections : List (List Point)) : Type 0 where
   others : List (List Point)
   is : sections ≡ (p ∷ first) ∷ others
 
-led_begin : (p q : Point) (behind : List (List Point)) → Begin q behind → Begin p (led_from p behind)
-led_begin p q behind begin = record { first = q ∷ begin.first; others = begin.others; is = ap (led_from p) begin.is }
+led_begin : (p q : Point) (behind : List (List Point)) → Begin q behind → Begin p (sections_with_first p behind)
+led_begin p q behind begin = record { first = q ∷ begin.first; others = begin.others; is = ap (sections_with_first p) begin.is }
 
 -- the sections from p on begin at p
 module _ (is_cut : Point → Bool) where
   cut_begin : (p q : Point) (rest : List Point) (behind : List (List Point)) → Begin q behind → (t : Bool)
-      → Begin p (cond t ((p ∷ q ∷ []) ∷ behind) (led_from p behind))
+      → Begin p (cond t ((p ∷ q ∷ []) ∷ behind) (sections_with_first p behind))
   cut_begin p q rest behind begin true = record { first = q ∷ []; others = behind; is = refl }
   cut_begin p q rest behind begin false = led_begin p q behind begin
 
@@ -45,14 +45,14 @@ module _ (is_cut : Point → Bool) where
       behind : List (List Point)
       behind = sections_from is_cut q rest
 
-      led : Has q rest behind → Begin q behind → (has_points rest && is_cut q) ≡ false → Has p (q ∷ rest) (led_from p behind)
+      led : Has q rest behind → Begin q behind → (has_points rest && is_cut q) ≡ false → Has p (q ∷ rest) (sections_with_first p behind)
       led here begin test =
-          let same : led_from p behind ≡ (p ∷ q ∷ begin.first) ∷ begin.others = ap (led_from p) begin.is in
+          let same : sections_with_first p behind ≡ (p ∷ q ∷ begin.first) ∷ begin.others = ap (sections_with_first p) begin.is in
           subst (λ (s : List (List Point)). Has p (q ∷ rest) s) (sym same)
           (leads p q rest begin.first begin.others test begin.is (subst (λ (s : List (List Point)). Has q rest s) begin.is here))
 
       by_test : Has q rest behind → (t : Bool) → (has_points rest && is_cut q) ≡ t
-          → Has p (q ∷ rest) (cond t ((p ∷ q ∷ []) ∷ behind) (led_from p behind))
+          → Has p (q ∷ rest) (cond t ((p ∷ q ∷ []) ∷ behind) (sections_with_first p behind))
       by_test here true test =
           let both = and_parts (has_points rest) (is_cut q) test in cuts p q rest behind both.0 both.1 here
       by_test here false test = led here (sections_begin q rest) test
@@ -134,7 +134,7 @@ module _ (is_cut : Point → Bool) where
       → sections_from is_cut p rest ≡ (p ∷ rest) ∷ []
   sections_whole = along (λ p rest sections. list_any is_cut (but_last rest) ≡ false → sections ≡ (p ∷ rest) ∷ []) (λ p none. refl)
       (λ p q rest behind more cut here none. absurd (inside_cut q rest more cut none))
-      (λ p q rest first others test is here none. ap (led_from p) (here (inside_later q rest none)))
+      (λ p q rest first others test is here none. ap (sections_with_first p) (here (inside_later q rest none)))
     where
       inside_cut : (q : Point) (rest : List Point) → has_points rest ≡ true → is_cut q ≡ true
           → list_any is_cut (but_last (q ∷ rest)) ≡ false → ⊥

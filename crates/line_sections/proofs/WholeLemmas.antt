@@ -8,7 +8,7 @@ use Rattle.std.specs.List.{count_by, flat_map, list_all, list_any}
 use Rattle.design_model.specs.declared.point.Point.{Point}
 use Rattle.design_model.specs.Points.{is_same_point}
 use Rattle.line_sections.specs.Lines.{LineValue}
-use Rattle.line_sections.specs.Sections.{all_sections, are_whole, inner_points, is_shared, is_whole, line_sections, lines_through, listed_in, sections_of}
+use Rattle.line_sections.specs.Sections.{all_sections, are_whole_lines, inner_points, is_shared_point, is_whole_line, line_sections, lines_through, listed_in, sections_of}
 use Rattle.line_sections.proofs.SectionLemmas.{IsUncut, line_counts, line_uncut, line_whole}
 use Rattle.line_sections.proofs.SpotLemmas.{same, same_is}
 
@@ -91,7 +91,7 @@ module _ (lines : List LineValue) where
   sections = all_sections lines
 
   abbrev cuts : ℕ → Point → Bool
-  cuts block = is_shared lines block
+  cuts block = is_shared_point lines block
 
   -- a point that is no cut is listed as often after as before
   apart_from : (block : ℕ) (p : Point) → cuts block p ≡ false → (q : Point) → cuts block q ≡ true → is_same_point p q ≡ false
@@ -123,7 +123,7 @@ module _ (lines : List LineValue) where
           line_counts (cuts line.block) (is_same_point p) (apart_from line.block p here) line.points
       by_test false is = nothing (sections_of (cuts line.block) line.points)
 
-  listed_kept : (block : ℕ) (p : Point) → cuts block p ≡ false → is_shared sections block p ≡ false
+  listed_kept : (block : ℕ) (p : Point) → cuts block p ≡ false → is_shared_point sections block p ≡ false
   listed_kept block p uncut =
       let count : LineValue → ℕ = counted (is_same_point p) block in
       let times : count_by (is_same_point p) (listed_in sections block) ≡ count_by (is_same_point p) (listed_in lines block) =
@@ -133,15 +133,15 @@ module _ (lines : List LineValue) where
 
   -- and so no line of the sections is cut
   none_later : (block : ℕ) (points : List Point) → list_any (cuts block) points ≡ false
-      → list_any (is_shared sections block) points ≡ false
+      → list_any (is_shared_point sections block) points ≡ false
   none_later block [] none = refl
   none_later block (p ∷ rest) none =
       let parts = or_parts (cuts block p) (list_any (cuts block) rest) none in
       rw (listed_kept block p parts.0, none_later block rest parts.1) refl
 
-  all_whole : All (λ (line : LineValue). is_whole sections line ≡ true) sections
+  all_whole : All (λ (line : LineValue). is_whole_line sections line ≡ true) sections
   all_whole =
-      let Whole : LineValue → Type 0 = λ line. is_whole sections line ≡ true in
+      let Whole : LineValue → Type 0 = λ line. is_whole_line sections line ≡ true in
       all_flat (line_sections lines) (λ (line : LineValue). Unit {0}) Whole
       (λ line have. All-map Whole (line_of line.block) (sections_of (cuts line.block) line.points)
       (All-weaker (IsUncut (cuts line.block)) (λ (points : List Point). Whole (line_of line.block points))
@@ -149,11 +149,11 @@ module _ (lines : List LineValue) where
       (sections_of (cuts line.block) line.points) (line_uncut (cuts line.block) line.points)))
       lines (λ i d there. tt)
 
-  pub sections_whole : are_whole sections ≡ true
-  sections_whole = list_all-from_AllPass (is_whole sections) sections all_whole
+  pub sections_whole : are_whole_lines sections ≡ true
+  sections_whole = list_all-from_AllPass (is_whole_line sections) sections all_whole
 
   -- lines that are whole are their own sections
-  own_section : (line : LineValue) → 1 ≤ length line.points → is_whole lines line ≡ true → line_sections lines line ≡ line ∷ []
+  own_section : (line : LineValue) → 1 ≤ length line.points → is_whole_line lines line ≡ true → line_sections lines line ≡ line ∷ []
   own_section line able whole =
       ap (lines_through line.block) (from_points line.points (list_any (cuts line.block) (inner_points line.points)) refl able whole)
     where
@@ -163,16 +163,17 @@ module _ (lines : List LineValue) where
       from_points (p ∷ rest) true is able whole = absurd cc
       from_points (p ∷ rest) false is able whole = line_whole (cuts line.block) p rest is
 
-  own_sections : (some : List LineValue) → All (λ (line : LineValue). 1 ≤ length line.points) some → list_all (is_whole lines) some ≡ true
+  own_sections : (some : List LineValue) → All (λ (line : LineValue). 1 ≤ length line.points) some
+      → list_all (is_whole_line lines) some ≡ true
       → flat_map (line_sections lines) some ≡ some
   own_sections [] able whole = refl
   own_sections (line ∷ rest) able whole =
-      let both = and_parts (is_whole lines line) (list_all (is_whole lines) rest) whole in
+      let both = and_parts (is_whole_line lines line) (list_all (is_whole_line lines) rest) whole in
       let here = own_section line (All-head (λ (l : LineValue). 1 ≤ length l.points) line rest able) both.0 in
       let later = own_sections rest (All-tail (λ (l : LineValue). 1 ≤ length l.points) line rest able) both.1 in
       flat_map-cons (line_sections lines) line rest
       ∙ (ap (λ (first : List LineValue). first ++ flat_map (line_sections lines) rest) here
       ∙ ap (λ (more : List LineValue). line ∷ more) later)
 
-  pub whole_same : All (λ (line : LineValue). 1 ≤ length line.points) lines → are_whole lines ≡ true → sections ≡ lines
+  pub whole_same : All (λ (line : LineValue). 1 ≤ length line.points) lines → are_whole_lines lines ≡ true → sections ≡ lines
   whole_same = own_sections lines

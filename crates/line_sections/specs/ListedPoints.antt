@@ -6,7 +6,7 @@ use Rattle.design_model.specs.declared.point.Point.{Point}
 use Rattle.line_sections.specs.declared.spot.Spot.{Spot}
 use Rattle.line_sections.specs.Lines.{LineValue}
 use Rattle.line_sections.specs.Spots.{is_same_spot}
-use Rattle.line_sections.specs.Sections.{is_shared, has_points, lines_through, sections_of}
+use Rattle.line_sections.specs.Sections.{is_shared_point, has_points, lines_through, sections_of}
 
 -- The mark of each spot: absent where the spot isn't listed, false where it is listed once, true
 -- where it is listed again.
@@ -28,14 +28,14 @@ abbrev pub spots_of : LineValue → List Spot
 spots_of line = map (spot_at line.block) line.points
 
 -- Marks of listed spots: each spot has the mark for the number of times that it is listed.
-abbrev pub TellSpots : List Spot → Marks → Type 0
-TellSpots spots marks = (spot : Spot) → marks spot ≡ mark_of (count_by (is_same_spot spot) spots)
+abbrev pub AreMarksOf : List Spot → Marks → Type 0
+AreMarksOf spots marks = (spot : Spot) → marks spot ≡ mark_of (count_by (is_same_spot spot) spots)
 
 -- A list of spots that is marked in part: the first ones are marked, and the others are left.
 pub record AreMarked (all left : List Spot) (marks : Marks) : Type 0 where
   pub before : List Spot
   pub split : before ++ left ≡ all
-  pub told : TellSpots before marks
+  pub told : AreMarksOf before marks
 
 -- A step from old marks to new ones marks one more spot, the next of those left.
 abbrev pub MarksSpot : Spot → Marks → Marks → Type 0
@@ -48,27 +48,27 @@ MarksLine line old new =
     (all left : List Spot) → AreMarked all (spots_of line ++ left) old → AreMarked all left new
 
 -- A mark records that its spot is listed again.
-abbrev pub is_again : Option Bool → Bool
-is_again None = false
-is_again (Some again) = again
+abbrev pub is_listed_again : Option Bool → Bool
+is_listed_again None = false
+is_listed_again (Some again) = again
 
 -- A line of the block is cut at a point, according to the marks.
-abbrev pub cuts_by : Marks → ℕ → Point → Bool
-cuts_by marks block p = is_again (marks (spot_at block p))
+abbrev pub is_cut_by : Marks → ℕ → Point → Bool
+is_cut_by marks block p = is_listed_again (marks (spot_at block p))
 
 -- Marks that decide where lines are cut: at the shared points of each block.
-pub record TellCuts (lines : List LineValue) (marks : Marks) : Type 0 where
-  pub cut : (block : ℕ) (p : Point) → cuts_by marks block p ≡ is_shared lines block p
+pub record AreCutMarks (lines : List LineValue) (marks : Marks) : Type 0 where
+  pub cut : (block : ℕ) (p : Point) → is_cut_by marks block p ≡ is_shared_point lines block p
 
 -- The sections of a line, according to the marks.
 abbrev pub sections_by : Marks → LineValue → List LineValue
 sections_by marks line =
-    lines_through line.block (sections_of (cuts_by marks line.block) line.points)
+    lines_through line.block (sections_of (is_cut_by marks line.block) line.points)
 
 -- The sections of a line, where the points `begun` are already in the first section and the other
 -- points are left.
-abbrev pub sections_on : (Point → Bool) → List Point → List Point → List (List Point)
-sections_on is_cut begun [] = begun ∷ []
-sections_on is_cut begun (q ∷ rest) =
-    if has_points rest && is_cut q then (begun ++ q ∷ []) ∷ sections_on is_cut (q ∷ []) rest
-    else sections_on is_cut (begun ++ q ∷ []) rest
+abbrev pub sections_continued : (Point → Bool) → List Point → List Point → List (List Point)
+sections_continued is_cut begun [] = begun ∷ []
+sections_continued is_cut begun (q ∷ rest) =
+    if has_points rest && is_cut q then (begun ++ q ∷ []) ∷ sections_continued is_cut (q ∷ []) rest
+    else sections_continued is_cut (begun ++ q ∷ []) rest

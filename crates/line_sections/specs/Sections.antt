@@ -11,8 +11,8 @@ abbrev pub listed_in : List LineValue → ℕ → List Point
 listed_in lines block = flat_map (λ line. line.points) (filter (λ line. line.block == block) lines)
 
 -- A point is shared: the block lists it more than once.
-abbrev pub is_shared : List LineValue → ℕ → Point → Bool
-is_shared lines block p = nat_le 2 (count_by (is_same_point p) (listed_in lines block))
+abbrev pub is_shared_point : List LineValue → ℕ → Point → Bool
+is_shared_point lines block p = nat_le 2 (count_by (is_same_point p) (listed_in lines block))
 
 -- A list has a point.
 abbrev pub has_points : List Point → Bool
@@ -30,17 +30,18 @@ inner_points [] = []
 inner_points (p ∷ rest) = but_last rest
 
 -- A line is whole: no point inside it is shared, and so it isn't cut.
-abbrev pub is_whole : List LineValue → LineValue → Bool
-is_whole lines line = not (list_any (is_shared lines line.block) (inner_points line.points))
+abbrev pub is_whole_line : List LineValue → LineValue → Bool
+is_whole_line lines line = not (list_any (is_shared_point lines line.block)
+    (inner_points line.points))
 
 -- All lines are whole, and so they meet only at their ends.
-abbrev pub are_whole : List LineValue → Bool
-are_whole lines = list_all (is_whole lines) lines
+abbrev pub are_whole_lines : List LineValue → Bool
+are_whole_lines lines = list_all (is_whole_line lines) lines
 
 -- The sections with one more point at the start of the first one.
-abbrev pub led_from : Point → List (List Point) → List (List Point)
-led_from p [] = (p ∷ []) ∷ []
-led_from p (section ∷ rest) = (p ∷ section) ∷ rest
+abbrev pub sections_with_first : Point → List (List Point) → List (List Point)
+sections_with_first p [] = (p ∷ []) ∷ []
+sections_with_first p (section ∷ rest) = (p ∷ section) ∷ rest
 
 -- The sections of the points p and those after it. A line is cut at each point inside it for which
 -- the test holds.
@@ -48,7 +49,7 @@ abbrev pub sections_from : (Point → Bool) → Point → List Point → List (L
 sections_from is_cut p [] = (p ∷ []) ∷ []
 sections_from is_cut p (q ∷ rest) =
     let behind = sections_from is_cut q rest in
-    if has_points rest && is_cut q then (p ∷ q ∷ []) ∷ behind else led_from p behind
+    if has_points rest && is_cut q then (p ∷ q ∷ []) ∷ behind else sections_with_first p behind
 
 -- The sections of a line in order. A point where the line is cut ends one section and starts the
 -- next.
@@ -63,7 +64,7 @@ lines_through block sections = map (λ points. record { block = block; points = 
 -- The sections of a line of a drawing, cut at the shared points inside it.
 abbrev pub line_sections : List LineValue → LineValue → List LineValue
 line_sections lines line =
-    lines_through line.block (sections_of (is_shared lines line.block) line.points)
+    lines_through line.block (sections_of (is_shared_point lines line.block) line.points)
 
 -- The sections of all lines, in the order of the lines.
 abbrev pub all_sections : List LineValue → List LineValue
@@ -93,4 +94,4 @@ SectionsHaveSegments = (is_cut : Point → Bool) (points : List Point) → 2 ≤
 -- The sections of whole lines are these lines, if each line has a point.
 abbrev pub WholeLinesStay : Type 0
 WholeLinesStay = (lines : List LineValue) → All (λ line. 1 ≤ length line.points) lines
-    → are_whole lines ≡ true → all_sections lines ≡ lines
+    → are_whole_lines lines ≡ true → all_sections lines ≡ lines

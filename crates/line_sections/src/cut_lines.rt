@@ -2,8 +2,8 @@ ghost use Rattle.std.specs.Prelude.{◌≡◌, ◌&&◌, ◌++◌, ◌∷◌, []
 ghost use Rattle.std.specs.HashMap.{get};
 ghost use Rattle.std.specs.List.{flat_map};
 ghost use Rattle.line_sections.specs.Spots.{is_same_spot};
-ghost use Rattle.line_sections.specs.ListedPoints.{cuts_by, sections_by};
-ghost use Rattle.line_sections.specs.Sections.{all_sections, are_whole, has_points};
+ghost use Rattle.line_sections.specs.ListedPoints.{is_cut_by, sections_by};
+ghost use Rattle.line_sections.specs.Sections.{all_sections, are_whole_lines, has_points};
 
 use crate::line::Line;
 use crate::listed_points::{is_cut, listed_points};
@@ -17,7 +17,7 @@ use std::collections::HashMap;
 /// at another place too.
 pub fn sections(alloc: Global, lines: &[Line]) -> Result<Vec<Line>, Memory>
     ensures value { IfOk result (λ sections. sections.items ≡ all_sections lines.now) }
-    ensures whole { IfOk result (λ sections. are_whole sections.items ≡ true) }
+    ensures whole { IfOk result (λ sections. are_whole_lines sections.items ≡ true) }
 {
     let marks = listed_points(alloc, lines)?;
     let sections = marked_sections(alloc, lines, &marks)?;
@@ -69,7 +69,7 @@ fn put_sections(
 
 /// Returns whether a section ends at a point, after which the given points are left.
 fn ends_section(marks: &HashMap<Spot, bool>, block: u32, at: Point, after: &[Point]) -> bool
-    ensures { result ≡ (has_points after.now && cuts_by (get is_same_spot marks.now) block at) }
+    ensures { result ≡ (has_points after.now && is_cut_by (get is_same_spot marks.now) block at) }
 {
     match after {
         [_, ..] => is_cut(marks, block, at),

@@ -3,18 +3,18 @@
 #![tactic(auto)]
 
 mod cut_lines;
-mod laws;
 mod line;
 mod listed_points;
 mod points;
 mod spot;
 #[cfg(test)]
 mod tests;
+mod theorems;
 mod whole_lines;
 
 pub use cut_lines::sections;
-pub use laws::{sections_keep_segments, whole_lines_stay};
 pub use line::Line;
 pub use points::first_point;
 pub use spot::Spot;
+pub use theorems::{sections_keep_segments, whole_lines_stay};
 pub use whole_lines::are_whole;

@@ -1,7 +1,7 @@
 ghost use Rattle.std.specs.Prelude.{◌≡◌, IfOk, OnOk, is_some};
 ghost use Rattle.std.specs.HashMap.{get};
 ghost use Rattle.line_sections.specs.Spots.{is_same_spot};
-ghost use Rattle.line_sections.specs.ListedPoints.{MarksLine, MarksSpot, TellCuts, cuts_by, spot_at};
+ghost use Rattle.line_sections.specs.ListedPoints.{MarksLine, MarksSpot, AreCutMarks, is_cut_by, spot_at};
 
 use crate::line::Line;
 use crate::spot::Spot;
@@ -11,7 +11,7 @@ use std::collections::HashMap;
 
 /// Returns for each spot that a block lists whether it lists the spot again.
 pub fn listed_points(alloc: Global, lines: &[Line]) -> Result<HashMap<Spot, bool>, Memory>
-    ensures { IfOk result (λ marks. TellCuts lines.now (get is_same_spot marks)) }
+    ensures { IfOk result (λ marks. AreCutMarks lines.now (get is_same_spot marks)) }
 {
     let mut marks = HashMap::new(alloc);
     let mut rest = lines;
@@ -52,7 +52,7 @@ fn is_listed(marks: &HashMap<Spot, bool>, spot: Spot) -> bool
 
 /// Returns whether a line of the block is cut at a point inside it.
 pub fn is_cut(marks: &HashMap<Spot, bool>, block: u32, at: Point) -> bool
-    ensures { result ≡ cuts_by (get is_same_spot marks.now) block at }
+    ensures { result ≡ is_cut_by (get is_same_spot marks.now) block at }
 {
     match marks.get(&Spot { block, at }) {
         Some(again) => *again,

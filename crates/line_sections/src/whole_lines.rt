@@ -1,7 +1,7 @@
 ghost use Rattle.std.specs.Prelude.{◌≡◌, ◌≤◌, ◌&&◌};
 ghost use Rattle.std.specs.List.{count_by, list_all};
 ghost use Rattle.design_model.specs.Points.{is_same_point};
-ghost use Rattle.line_sections.specs.Sections.{are_whole as all_are_whole, has_points, is_shared as is_shared_among, is_whole as is_whole_among, listed_in};
+ghost use Rattle.line_sections.specs.Sections.{are_whole_lines, has_points, is_shared_point, is_whole_line, listed_in};
 
 use crate::line::Line;
 use crate::points::first_point;
@@ -10,13 +10,13 @@ use design_model::Point;
 /// Returns whether the lines meet only at their ends: no point inside a line is listed at another place of
 /// its block. Allocates no memory, and therefore compares each such point with all others of the block.
 pub fn are_whole(lines: &[Line]) -> bool
-    ensures { result ≡ all_are_whole lines.now }
+    ensures { result ≡ are_whole_lines lines.now }
 {
     are_whole_among(lines, lines)
 }
 
 fn are_whole_among(lines: &[Line], some: &[Line]) -> bool
-    ensures { result ≡ list_all (is_whole_among lines.now) some.now }
+    ensures { result ≡ list_all (is_whole_line lines.now) some.now }
 {
     let mut rest = some;
     while let [line, after @ ..] = rest {
@@ -29,7 +29,7 @@ fn are_whole_among(lines: &[Line], some: &[Line]) -> bool
 }
 
 fn is_whole(lines: &[Line], line: &Line) -> bool
-    ensures { result ≡ is_whole_among lines.now line.now }
+    ensures { result ≡ is_whole_line lines.now line.now }
 {
     let block = line.block();
     let Some((_, after)) = first_point(line.points()) else {
@@ -47,7 +47,7 @@ fn is_whole(lines: &[Line], line: &Line) -> bool
 
 /// Returns whether a line of the block is cut at a point, after which the given points are left.
 fn is_cut(lines: &[Line], block: u32, at: Point, after: &[Point]) -> bool
-    ensures { result ≡ (has_points after.now && is_shared_among lines.now block at) }
+    ensures { result ≡ (has_points after.now && is_shared_point lines.now block at) }
 {
     match after {
         [_, ..] => is_shared(lines, block, at),
@@ -56,7 +56,7 @@ fn is_cut(lines: &[Line], block: u32, at: Point, after: &[Point]) -> bool
 }
 
 fn is_shared(lines: &[Line], block: u32, at: Point) -> bool
-    ensures { result ≡ is_shared_among lines.now block at }
+    ensures { result ≡ is_shared_point lines.now block at }
 {
     let mut wanted = 2;
     let mut rest = lines;

@@ -3,7 +3,7 @@ use Rattle.std.proofs.Common.{◌≡◌, ◌==◌, ℕ, suc, zero, ◌+◌, ◌*
 use Rattle.std.proofs.lemmas.Bool.{cond_both, eq-eqb, lt-ltb, ltb-false, ltb-true, ne_eqb}
 use Rattle.std.proofs.lemmas.List.Sums.{get_or-le-sum_by, sum_by-cons, sum_by-le}
 use Rattle.blossom_match.specs.declared.matching.Pair.{Pair}
-use Rattle.blossom_match.specs.Matchings.{cost_of, ends_at, PairsEach}
+use Rattle.blossom_match.specs.Matchings.{pairs_cost, pair_ends_at, IsPerfectMatching}
 use Rattle.blossom_match.specs.Tables.{entry, IsTable}
 use Rattle.blossom_match.specs.TableValue.{TableValue}
 use Rattle.matching_checks.specs.Ends.{EndsBelow}
@@ -22,24 +22,24 @@ b_end : (p : Pair) → 1 ≤ (if p.b == p.a then 1 else 0) + (if p.b == p.b then
 b_end p = rw (eq-eqb p.b p.b refl) (omega arith)
 
 -- where each place is an end once, and no other number is, all ends are places
-pub ends_below : (n : ℕ) (pairs : List Pair) → PairsEach n pairs → EndsBelow n pairs
+pub ends_below : (n : ℕ) (pairs : List Pair) → IsPerfectMatching n pairs → EndsBelow n pairs
 ends_below n pairs each k d low =
     let p : Pair = get_or pairs k d in
     let ends = λ (x : ℕ). get_or-le-sum_by (λ (q : Pair). (if x == q.a then 1 else 0) + (if x == q.b then 1 else 0)) pairs k d low in
     (end_low n p.a _ (each p.a) (omega (arith, a_end p, ends p.a)), end_low n p.b _ (each p.b) (omega (arith, b_end p, ends p.b)))
 
 -- no end is a place from n on
-none_beyond : (n x : ℕ) (pairs : List Pair) → EndsBelow n pairs → n ≤ x → ends_at pairs x ≡ 0
+none_beyond : (n x : ℕ) (pairs : List Pair) → EndsBelow n pairs → n ≤ x → pair_ends_at pairs x ≡ 0
 none_beyond n x pairs below far =
     let none = sum_by-le (λ (p : Pair). (if x == p.a then 1 else 0) + (if x == p.b then 1 else 0)) 0 pairs
     (λ k d low. let b = below k d low in grind arith) in
     omega arith
 
 -- where each place is an end once, and no other number is
-pub ends_each : (n x : ℕ) (pairs : List Pair) → EndsBelow n pairs → ((z : ℕ) → z < n → ends_at pairs z ≡ 1)
-    → ends_at pairs x ≡ (if nat_lt x n then 1 else 0)
+pub ends_each : (n x : ℕ) (pairs : List Pair) → EndsBelow n pairs → ((z : ℕ) → z < n → pair_ends_at pairs z ≡ 1)
+    → pair_ends_at pairs x ≡ (if nat_lt x n then 1 else 0)
 ends_each n x pairs below once =
-    cond_both (nat_lt x n) 1 0 (λ (k : ℕ). ends_at pairs x ≡ k) (λ is. once x (ltb-true x n is))
+    cond_both (nat_lt x n) 1 0 (λ (k : ℕ). pair_ends_at pairs x ≡ k) (λ is. once x (ltb-true x n is))
     (λ is. none_beyond n x pairs below (ltb-false x n is))
 
 -- how many of the numbers below n are a
@@ -59,7 +59,7 @@ hit_once a (suc n) low = grind (arith, hit_none a n, hit_once a n)
 -- the ends at places below n
 abbrev ends_to : ℕ → List Pair → ℕ
 ends_to zero pairs = 0
-ends_to (suc n) pairs = ends_at pairs n + ends_to n pairs
+ends_to (suc n) pairs = pair_ends_at pairs n + ends_to n pairs
 
 -- no pair has no end, and one more pair has its two
 ends_none : (n : ℕ) → ends_to n [] ≡ 0
@@ -80,18 +80,18 @@ ends_twice n (p ∷ ps) below =
     omega (arith, ends_more n p ps, hit_once p.a n here.0, hit_once p.b n here.1, others)
 
 -- one for each place
-ends_all : (n m : ℕ) (pairs : List Pair) → m ≤ n → PairsEach n pairs → ends_to m pairs ≡ m
+ends_all : (n m : ℕ) (pairs : List Pair) → m ≤ n → IsPerfectMatching n pairs → ends_to m pairs ≡ m
 ends_all n zero pairs low each = refl
 ends_all n (suc m) pairs low each =
     let one = rw (lt-ltb m n (omega arith)) at (each m) in
     omega (arith, one, ends_all n m pairs (omega arith) each)
 
 -- there are half as many pairs as places
-pairs_count : (n : ℕ) (pairs : List Pair) → PairsEach n pairs → 2 * length pairs ≡ n
+pairs_count : (n : ℕ) (pairs : List Pair) → IsPerfectMatching n pairs → 2 * length pairs ≡ n
 pairs_count n pairs each = omega (arith, ends_twice n pairs (ends_below n pairs each), ends_all n n pairs (omega arith) each)
 
 -- the cost is far below what fits
-pub cost_fits : (t : TableValue) (pairs : List Pair) → IsTable t → PairsEach t.places pairs → cost_of t pairs ≤ 1024 * 200000
+pub cost_fits : (t : TableValue) (pairs : List Pair) → IsTable t → IsPerfectMatching t.places pairs → pairs_cost t pairs ≤ 1024 * 200000
 cost_fits t pairs table each =
     let below = ends_below t.places pairs each in
     let most = sum_by-le (λ (p : Pair). entry t p.a p.b) 200000 pairs

@@ -1,12 +1,12 @@
 ghost use Rattle.std.specs.Prelude.{◌≡◌, ◌==◌, ◌↔◌, ◌+◌, ◌-◌, ◌^◌, IsTrue, if◌then◌else◌, min};
-ghost use Rattle.blossom_match.specs.Matchings.{ends_at, PairsEach};
+ghost use Rattle.blossom_match.specs.Matchings.{pair_ends_at, IsPerfectMatching};
 ghost use Rattle.matching_checks.specs.Ends.{EndsBelow};
 
 use blossom_match::Pair;
 
 /// Returns whether each place is an end of exactly one pair, and no other number is an end.
 pub fn pairs_each(n: u32, pairs: &[Pair]) -> bool
-    ensures { IsTrue result ↔ PairsEach n pairs.now }
+    ensures { IsTrue result ↔ IsPerfectMatching n pairs.now }
 {
     if !are_below(n, pairs) {
         return false;
@@ -28,7 +28,7 @@ fn are_below(n: u32, pairs: &[Pair]) -> bool
 
 /// Returns the number of pairs' ends that a place is, at most the maximum of 64 bits.
 fn ends(pairs: &[Pair], x: u32) -> u64
-    ensures { result ≡ min (ends_at pairs.now x) (2 ^ 64 - 1) }
+    ensures { result ≡ min (pair_ends_at pairs.now x) (2 ^ 64 - 1) }
 {
     let mut count: u64 = 0;
     for p in pairs {

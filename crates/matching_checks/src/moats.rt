@@ -1,13 +1,13 @@
 ghost use Rattle.std.specs.Prelude.{◌≡◌, ◌≢◌, ◌↔◌, ◌*◌, ◌-◌, ◌^◌, ◌<◌, ◌≤◌, ℕ, All, IsTrue, false, true, if◌then◌else◌, min};
 ghost use Rattle.std.specs.List.{AllPairs};
-ghost use Rattle.blossom_match.specs.Matchings.{AreLaminar, crosses, holds, IsOddMoat, KeepsLoads, LiesBeside, LiesIn, load_on, width_of};
+ghost use Rattle.blossom_match.specs.Matchings.{AreLaminar, crosses_moat, moat_holds, IsOddMoat, KeepsMoatLoads, IsDisjointFrom, IsNestedIn, moat_load, width_of};
 ghost use Rattle.blossom_match.specs.Tables.{entry};
 
 use blossom_match::{DistTable, Moat};
 
 /// Returns whether a place is a member of a moat.
 fn has(m: &Moat, x: u32) -> bool
-    ensures { result ≡ holds m.now x }
+    ensures { result ≡ moat_holds m.now x }
 {
     m.members.as_slice().contains(&x)
 }
@@ -78,8 +78,8 @@ fn are_laminar(m: &Moat, k: &Moat) -> bool
 
 /// Returns whether each member of the first moat is a member of the second.
 fn lies_in(m: &Moat, k: &Moat) -> bool
-    ensures yes { IsTrue result → LiesIn m.now k.now }
-    ensures no { result ≡ false → (x : ℕ) × (holds m.now x ≡ true) × (holds k.now x ≡ false) }
+    ensures yes { IsTrue result → IsNestedIn m.now k.now }
+    ensures no { result ≡ false → (x : ℕ) × (moat_holds m.now x ≡ true) × (moat_holds k.now x ≡ false) }
 {
     for x in m.members.as_slice() {
         if !has(k, *x) {
@@ -91,7 +91,7 @@ fn lies_in(m: &Moat, k: &Moat) -> bool
 
 /// Returns whether two moats have no common member.
 fn lies_beside(m: &Moat, k: &Moat) -> bool
-    ensures { IsTrue result ↔ LiesBeside m.now k.now }
+    ensures { IsTrue result ↔ IsDisjointFrom m.now k.now }
 {
     for x in m.members.as_slice() {
         if has(k, *x) {
@@ -103,7 +103,7 @@ fn lies_beside(m: &Moat, k: &Moat) -> bool
 
 /// Returns whether no two places have a load above two halves for each step between them.
 pub fn keeps_loads(t: &DistTable, moats: &[Moat]) -> bool
-    ensures { IsTrue result ↔ KeepsLoads t.now moats.now }
+    ensures { IsTrue result ↔ KeepsMoatLoads t.now moats.now }
 {
     for a in 0..t.places() {
         if !keeps_loads_from(t, moats, a) {
@@ -117,7 +117,7 @@ pub fn keeps_loads(t: &DistTable, moats: &[Moat]) -> bool
 fn keeps_loads_from(t: &DistTable, moats: &[Moat], a: u32) -> bool
     requires { a < t.now.places }
     ensures { IsTrue result
-        ↔ ((b : ℕ) → b < t.now.places → load_on moats.now a b ≤ 2 * entry t.now a b) }
+        ↔ ((b : ℕ) → b < t.now.places → moat_load moats.now a b ≤ 2 * entry t.now a b) }
 {
     for b in 0..t.places() {
         if load(moats, a, b) > 2 * t.get(a, b) as u64 {
@@ -130,7 +130,7 @@ fn keeps_loads_from(t: &DistTable, moats: &[Moat], a: u32) -> bool
 /// Returns the widths of the moats that hold exactly one of two places, added up, at most the maximum of 64
 /// bits.
 fn load(moats: &[Moat], a: u32, b: u32) -> u64
-    ensures { result ≡ min (load_on moats.now a b) (2 ^ 64 - 1) }
+    ensures { result ≡ min (moat_load moats.now a b) (2 ^ 64 - 1) }
 {
     let mut sum: u64 = 0;
     for moat in moats {
@@ -141,7 +141,7 @@ fn load(moats: &[Moat], a: u32, b: u32) -> u64
 
 /// Returns the width of a moat that holds exactly one of two places, else 0.
 fn share(m: &Moat, a: u32, b: u32) -> u64
-    ensures { result ≡ (if crosses a b m.now then m.now.width else 0) }
+    ensures { result ≡ (if crosses_moat a b m.now then m.now.width else 0) }
 {
     if has(m, a) == has(m, b) {
         return 0;

@@ -1,5 +1,5 @@
 ghost use Rattle.std.specs.Prelude.{◌≡◌, ◌↔◌, ◌-◌, ◌^◌, ◌<◌, [], min};
-ghost use Rattle.blossom_match.specs.Matchings.{cost_of, IsMatching, PairsEach};
+ghost use Rattle.blossom_match.specs.Matchings.{pairs_cost, IsOptimalMatching, IsPerfectMatching};
 ghost use Rattle.blossom_match.specs.Tables.{entry};
 
 use crate::ends::pairs_each;
@@ -16,8 +16,8 @@ pub(crate) fn distance(t: &DistTable, a: u32, b: u32) -> u32
 
 /// Returns the total distance of all pairs, in steps, at most the maximum of 64 bits.
 pub fn cost(t: &DistTable, m: &Matching) -> u64
-    ensures { PairsEach t.now.places m.now.pairs
-        → result ≡ min (cost_of t.now m.now.pairs) (2 ^ 64 - 1) }
+    ensures { IsPerfectMatching t.now.places m.now.pairs
+        → result ≡ min (pairs_cost t.now m.now.pairs) (2 ^ 64 - 1) }
 {
     let mut sum: u64 = 0;
     for p in m.pairs.as_slice() {
@@ -28,7 +28,7 @@ pub fn cost(t: &DistTable, m: &Matching) -> u64
 
 /// Returns the first property that doesn't hold, as a text; the empty text where all five hold.
 pub fn fault(t: &DistTable, m: &Matching) -> &'static str
-    ensures { (result.now ≡ []) ↔ IsMatching t.now m.now.pairs m.now.moats }
+    ensures { (result.now ≡ []) ↔ IsOptimalMatching t.now m.now.pairs m.now.moats }
 {
     if !pairs_each(t.places(), m.pairs.as_slice()) {
         return "a place is not in exactly one pair";

@@ -1,11 +1,11 @@
 ghost use Rattle.std.specs.Prelude.{◌<◌, ◌↔◌, ℕ, IsTrue};
-ghost use Rattle.blossom_match.specs.Tables.{IsNoShorterBy, KeepsTriangles};
+ghost use Rattle.blossom_match.specs.Tables.{HasNoShortcutBy, HasTriangleInequality};
 
 use blossom_match::DistTable;
 
 /// Returns whether a table satisfies the triangle inequality.
 pub fn keeps_triangles(t: &DistTable) -> bool
-    ensures { IsTrue result ↔ KeepsTriangles t.now }
+    ensures { IsTrue result ↔ HasTriangleInequality t.now }
 {
     for a in 0..t.places() {
         if !keeps_from(t, a) {
@@ -18,7 +18,7 @@ pub fn keeps_triangles(t: &DistTable) -> bool
 /// Returns whether the triangle inequality holds for all paths from a place.
 fn keeps_from(t: &DistTable, a: u32) -> bool
     requires { a < t.now.places }
-    ensures { IsTrue result ↔ ((b : ℕ) → b < t.now.places → IsNoShorterBy t.now a b) }
+    ensures { IsTrue result ↔ ((b : ℕ) → b < t.now.places → HasNoShortcutBy t.now a b) }
 {
     for b in 0..t.places() {
         if !keeps_by(t, a, b) {
@@ -32,7 +32,7 @@ fn keeps_from(t: &DistTable, a: u32) -> bool
 fn keeps_by(t: &DistTable, a: u32, b: u32) -> bool
     requires a_in { a < t.now.places }
     requires b_in { b < t.now.places }
-    ensures { IsTrue result ↔ IsNoShorterBy t.now a b }
+    ensures { IsTrue result ↔ HasNoShortcutBy t.now a b }
 {
     for c in 0..t.places() {
         if t.get(a, c) > t.get(a, b) + t.get(b, c) {

@@ -3,10 +3,10 @@ use Rattle.std.proofs.Common.{◌≡◌, ℕ, ◌+◌, ◌-◌, ◌<◌, ◌≤�
 use Rattle.std.proofs.lemmas.Bool.{cases_lt}
 use Rattle.std.specs.Prelude.{slice_get, slice_index}
 use Rattle.line_graph.specs.declared.edge.Edge.{Edge}
-use Rattle.line_graph.specs.PieceWalks.{cost_of, edge_sum}
+use Rattle.line_graph.specs.PieceWalks.{edge_cost, edge_sum}
 use Rattle.odd_paths.proofs.PlaceLemmas.{none_is, some_is}
-use Rattle.odd_paths.specs.PlaceWalks.{Links, IsPlaceWalk}
-use Rattle.odd_paths.specs.Sweeps.{IsSettled}
+use Rattle.odd_paths.specs.EdgeWalks.{Connects, IsEdgeWalk}
+use Rattle.odd_paths.specs.Sweeps.{IsFullyRelaxed}
 
 -- the range of an edge: from the lesser of the numbers at its ends to the greater
 abbrev low : List ℕ → Edge → ℕ
@@ -25,7 +25,7 @@ spans row x y [] = 0
 spans row x y (e ∷ es) = (min (high row e) y - max (low row e) x) + spans row x y es
 
 -- an edge whose first end is no higher and whose second end is higher crosses the height
-crosses : (row : List ℕ) (e : Edge) (i m h : ℕ) → Links e i m → slice_index row i ≤ h → h < slice_index row m
+crosses : (row : List ℕ) (e : Edge) (i m h : ℕ) → Connects e i m → slice_index row i ≤ h → h < slice_index row m
     → (low row e ≤ h) × (h < high row e)
 crosses row e i m h (inl p) under over =
     let one = ap (λ (x : ℕ). slice_index row x) p.0 in
@@ -37,7 +37,7 @@ crosses row e i m h (inr p) under over =
     (omega arith, omega arith)
 
 -- so a walk that rises above a height has an edge that crosses it
-crossed : (row : List ℕ) (es : List Edge) (i j h : ℕ) (ks : List ℕ) → IsPlaceWalk es i j ks → slice_index row i ≤ h
+crossed : (row : List ℕ) (es : List Edge) (i j h : ℕ) (ks : List ℕ) → IsEdgeWalk es i j ks → slice_index row i ≤ h
     → h < slice_index row j → Crossed row es h
 crossed row es i j h [] w under over = absurd (omega (arith, ap (λ (x : ℕ). slice_index row x) w))
 crossed row es i j h (k ∷ ks) w under over = elim (cases_lt h (slice_index row w.1)) [
@@ -82,7 +82,7 @@ covered row (e ∷ es) x y f =
     whole lo hi x y a b c le h k l = omega arith
 
 -- in a settled row the range of an edge is no more than its cost
-spans_fit : (row : List ℕ) (x y : ℕ) (es : List Edge) → IsSettled row es → spans row x y es ≤ edge_sum cost_of es
+spans_fit : (row : List ℕ) (x y : ℕ) (es : List Edge) → IsFullyRelaxed row es → spans row x y es ≤ edge_sum edge_cost es
 spans_fit row x y [] s = omega arith
 spans_fit row x y (e ∷ es) s =
     sums _ _ _ _ (one (slice_index row e.a) (slice_index row e.b) e.cost x y s.0.forth s.0.back) (spans_fit row x y es s.1)
@@ -94,8 +94,8 @@ spans_fit row x y (e ∷ es) s =
     sums a b c d h k = omega arith
 
 -- a walk rises by no more than all lines cost
-pub rises_within : (row : List ℕ) (es : List Edge) (i j : ℕ) (ks : List ℕ) → IsSettled row es → IsPlaceWalk es i j ks
-    → slice_index row j - slice_index row i ≤ edge_sum cost_of es
+pub rises_within : (row : List ℕ) (es : List Edge) (i j : ℕ) (ks : List ℕ) → IsFullyRelaxed row es → IsEdgeWalk es i j ks
+    → slice_index row j - slice_index row i ≤ edge_sum edge_cost es
 rises_within row es i j ks s w =
     let one = covered row es (slice_index row i) (slice_index row j) (λ h a b. crossed row es i j h ks w a b) in
     let two = spans_fit row (slice_index row i) (slice_index row j) es s in

@@ -9,41 +9,41 @@ use Rattle.std.specs.Prelude.{nat_lt, cond}
 use Rattle.std.specs.Option.{option_or}
 use Rattle.line_graph.specs.declared.edge.Edge.{Edge}
 use Rattle.line_graph.specs.declared.limits.TheConstants.{MAX_LINES}
-use Rattle.line_graph.specs.KeptPieces.{KeepsPiece, ends_below, is_below}
-use Rattle.line_graph.specs.PieceGraphs.{PieceValue, bit, closed_edges, closing, degree, degrees_from, from_of, is_odd, odd_junctions, to_of}
-use Rattle.odd_paths.specs.ClosedDegrees.{back_ends, odds_from, only_if}
+use Rattle.line_graph.specs.ValidPieces.{IsValidPiece, ends_below, is_below}
+use Rattle.line_graph.specs.PieceGraphs.{PieceValue, one_if, edges_with_closing, closing_edge, degree, degrees_from, given_start, is_odd, odd_junctions, given_end}
+use Rattle.odd_paths.specs.ClosedDegrees.{closing_ends, odds_from, singleton_if}
 
 -- the line back adds its ends
 degree_closed : (from to : Option ℕ) (es : List Edge) (j : ℕ)
-    → degree (closing from to ++ es) j ≡ back_ends from to j + degree es j
+    → degree (closing_edge from to ++ es) j ≡ closing_ends from to j + degree es j
 degree_closed (Some f) (Some t) es j = refl
 degree_closed (Some f) None es j = omega arith
 degree_closed None to es j = omega arith
 
-only_kept : (test : Bool) (at : ℕ) (rest : List ℕ) → only_if test at ++ rest ≡ cond test (at ∷ rest) rest
+only_kept : (test : Bool) (at : ℕ) (rest : List ℕ) → singleton_if test at ++ rest ≡ cond test (at ∷ rest) rest
 only_kept true at rest = refl
 only_kept false at rest = refl
 
 odds_kept : (from to : Option ℕ) (es : List Edge) (at n : ℕ)
     → odds_from from to at (degrees_from es at n)
-    ≡ filter (λ j. is_odd (degree (closing from to ++ es) j)) (range_with_len at n)
+    ≡ filter (λ j. is_odd (degree (closing_edge from to ++ es) j)) (range_with_len at n)
 odds_kept from to es at zero = refl
 odds_kept from to es at (suc n) =
     rw (degree_closed from to es at, ← odds_kept from to es (at + 1) n)
-    (only_kept (is_odd (back_ends from to at + degree es at)) at (odds_from from to (at + 1) (degrees_from es (at + 1) n)))
+    (only_kept (is_odd (closing_ends from to at + degree es at)) at (odds_from from to (at + 1) (degrees_from es (at + 1) n)))
 
 -- the degrees give the odd junctions
-pub odds_told : (p : PieceValue) → KeepsPiece p
-    → odds_from (from_of p) (to_of p) 0 p.degrees ≡ odd_junctions p
+pub odds_told : (p : PieceValue) → IsValidPiece p
+    → odds_from (given_start p) (given_end p) 0 p.degrees ≡ odd_junctions p
 odds_told p keeps =
-    ap (λ degrees. odds_from (from_of p) (to_of p) 0 degrees) keeps.counted
-    ∙ odds_kept (from_of p) (to_of p) p.edges 0 (length p.junctions)
+    ap (λ degrees. odds_from (given_start p) (given_end p) 0 degrees) keeps.counted
+    ∙ odds_kept (given_start p) (given_end p) p.edges 0 (length p.junctions)
 
 length-degrees_from : (es : List Edge) (at n : ℕ) → length (degrees_from es at n) ≡ n
 length-degrees_from es at zero = refl
 length-degrees_from es at (suc n) = omega (arith, length-degrees_from es (at + 1) n)
 
-pub degrees_few : (p : PieceValue) → KeepsPiece p → length p.degrees ≤ MAX_LINES + 1
+pub degrees_few : (p : PieceValue) → IsValidPiece p → length p.degrees ≤ MAX_LINES + 1
 degrees_few p keeps =
     let count = ap (λ (degrees : List ℕ). length degrees) keeps.counted ∙ length-degrees_from p.edges 0 (length p.junctions) in
     omega (arith, count, keeps.junctions_few, keeps.few)
@@ -79,13 +79,13 @@ sum_added f g at zero = refl
 sum_added f g at (suc n) = omega (arith, sum_added f g (at + 1) n)
 
 -- each end of a line is at one junction
-end_below : (a at n : ℕ) → a < at → sum_over (λ j. bit (a == j)) at n ≡ 0
+end_below : (a at n : ℕ) → a < at → sum_over (λ j. one_if (a == j)) at n ≡ 0
 end_below a at zero low = refl
 end_below a at (suc n) low =
     let other : (a == at) ≡ false = grind (arith, nat_tests) in
     rw other (omega (arith, end_below a (at + 1) n (omega arith)))
 
-end_once : (a at n : ℕ) → at ≤ a → a < at + n → sum_over (λ j. bit (a == j)) at n ≡ 1
+end_once : (a at n : ℕ) → at ≤ a → a < at + n → sum_over (λ j. one_if (a == j)) at n ≡ 1
 end_once a at zero low high = absurd (omega arith)
 end_once a at (suc n) low high = elim (cases_eq a at) [
   | inl same ↦
@@ -104,9 +104,9 @@ degrees_sum (e ∷ es) n below =
     let ends = and_parts (nat_lt e.a n) (nat_lt e.b n) both.0 in
     let a_there : e.a < n = grind (arith, nat_tests) in
     let b_there : e.b < n = grind (arith, nat_tests) in
-    let whole : sum_over (degree (e ∷ es)) 0 n ≡ sum_over (λ j. bit (e.a == j) + bit (e.b == j)) 0 n + sum_over (degree es) 0 n
-    = sum_added (λ j. bit (e.a == j) + bit (e.b == j)) (degree es) 0 n in
-    let line = sum_added (λ j. bit (e.a == j)) (λ j. bit (e.b == j)) 0 n in
+    let whole : sum_over (degree (e ∷ es)) 0 n ≡ sum_over (λ j. one_if (e.a == j) + one_if (e.b == j)) 0 n + sum_over (degree es) 0 n
+    = sum_added (λ j. one_if (e.a == j) + one_if (e.b == j)) (degree es) 0 n in
+    let line = sum_added (λ j. one_if (e.a == j)) (λ j. one_if (e.b == j)) 0 n in
     let a_once = end_once e.a 0 n (omega arith) (omega arith) in
     let b_once = end_once e.b 0 n (omega arith) (omega arith) in
     omega (arith, whole, line, a_once, b_once, degrees_sum es n both.1)
@@ -117,19 +117,19 @@ or_else_below n (Some a) other one two = one
 or_else_below n None other one two = two
 
 closed_below : (n : ℕ) (from to : Option ℕ) (es : List Edge) → is_below n from ≡ true → is_below n to ≡ true
-    → ends_below n es ≡ true → ends_below n (closing from to ++ es) ≡ true
+    → ends_below n es ≡ true → ends_below n (closing_edge from to ++ es) ≡ true
 closed_below n (Some f) (Some t) es one two below =
     and_from (nat_lt t n && nat_lt f n) (ends_below n es) (and_from (nat_lt t n) (nat_lt f n) two one) below
 closed_below n (Some f) None es one two below = below
 closed_below n None to es one two below = below
 
 -- the odd junctions are even in number, and few
-pub even_few : (p : PieceValue) → KeepsPiece p
+pub even_few : (p : PieceValue) → IsValidPiece p
     → (length (odd_junctions p) % 2 ≡ 0) × (length (odd_junctions p) ≤ MAX_LINES)
 even_few p keeps =
     let n = length p.junctions in
-    let es = closed_edges p in
-    let below = closed_below n (from_of p) (to_of p) p.edges
+    let es = edges_with_closing p in
+    let below = closed_below n (given_start p) (given_end p) p.edges
     (or_else_below n p.start p.end keeps.start_below keeps.end_below)
     (or_else_below n p.end p.start keeps.end_below keeps.start_below) keeps.ends in
     let count : length (odd_junctions p) % 2 ≡ sum_over (degree es) 0 n % 2 = odd_count (degree es) 0 n in

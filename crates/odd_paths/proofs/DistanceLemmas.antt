@@ -2,46 +2,47 @@
 use Rattle.std.proofs.Common.{◌≡◌, ◌≢◌, ℕ, ◌+◌, ◌≤◌, List, [], ◌∷◌, ◌++◌, true, Some, inl, inr, refl, ap, arith}
 use Rattle.std.specs.Prelude.{slice_get}
 use Rattle.line_graph.specs.declared.edge.Edge.{Edge}
-use Rattle.line_graph.specs.KeptPieces.{KeepsPiece, all_cost}
+use Rattle.line_graph.specs.ValidPieces.{IsValidPiece, all_costs_positive}
 use Rattle.line_graph.specs.PieceGraphs.{PieceValue}
-use Rattle.line_graph.specs.PieceWalks.{cost_of, of_edge}
+use Rattle.line_graph.specs.PieceWalks.{edge_cost, edge_value}
 use Rattle.odd_paths.proofs.LastLemmas.{more_at}
 use Rattle.odd_paths.proofs.PassLemmas.{over_places}
 use Rattle.odd_paths.proofs.PlaceLemmas.{cost_append, cost_one, walk_append, walk_back, walk_one}
-use Rattle.odd_paths.specs.CostLaws.{AreDistances}
-use Rattle.odd_paths.specs.PlaceWalks.{IsLeastOf, IsPlaceWalk, Links, place_cost}
+use Rattle.odd_paths.specs.CostTheorems.{AreDistances}
+use Rattle.odd_paths.specs.EdgeWalks.{IsLeastEdgeCost, IsEdgeWalk, Connects, edge_walk_cost}
 
-home : (es : List Edge) (i d : ℕ) → IsLeastOf es i i d → d ≡ 0
+home : (es : List Edge) (i d : ℕ) → IsLeastEdgeCost es i i d → d ≡ 0
 home es i d least = let none : d ≤ 0 = least.least [] refl in omega arith
 
 -- a walk between different junctions has an edge, and each edge costs a step
-some_cost : (es : List Edge) (i j : ℕ) (ks : List ℕ) → all_cost es ≡ true → i ≢ j → IsPlaceWalk es i j ks → 1 ≤ place_cost es ks
+some_cost : (es : List Edge) (i j : ℕ) (ks : List ℕ) → all_costs_positive es ≡ true → i ≢ j → IsEdgeWalk es i j ks
+    → 1 ≤ edge_walk_cost es ks
 some_cost es i j [] costs differ walk = absurd (differ walk)
 some_cost es i j (k ∷ ks) costs differ walk =
     let first = more_at es k walk.0 costs walk.2 in
-    let at_place = ap (of_edge cost_of) walk.2 in
+    let at_place = ap (edge_value edge_cost) walk.2 in
     omega arith
 
-apart : (es : List Edge) (i j d : ℕ) → all_cost es ≡ true → i ≢ j → IsLeastOf es i j d → 1 ≤ d
+apart : (es : List Edge) (i j d : ℕ) → all_costs_positive es ≡ true → i ≢ j → IsLeastEdgeCost es i j d → 1 ≤ d
 apart es i j d costs differ least =
     let there = least.there in
     omega (arith, some_cost es i j there.0 costs differ there.1, there.2)
 
 -- the way back is no dearer
-no_dearer : (es : List Edge) (i j d f : ℕ) → IsLeastOf es i j d → IsLeastOf es j i f → d ≤ f
+no_dearer : (es : List Edge) (i j d f : ℕ) → IsLeastEdgeCost es i j d → IsLeastEdgeCost es j i f → d ≤ f
 no_dearer es i j d f one other =
     let walk = other.there in
     let turned = walk_back es j i walk.0 walk.1 in
     omega (arith, one.least turned.0 turned.1, turned.2, walk.2)
 
-along : (es : List Edge) (t i j k d f : ℕ) (e : Edge) → slice_get es k ≡ Some e → Links e i j → IsLeastOf es t i d
-    → IsLeastOf es t j f → f ≤ d + e.cost
+along : (es : List Edge) (t i j k d f : ℕ) (e : Edge) → slice_get es k ≡ Some e → Connects e i j → IsLeastEdgeCost es t i d
+    → IsLeastEdgeCost es t j f → f ≤ d + e.cost
 along es t i j k d f e got links near far =
     let walk = near.there in
     let longer = walk_append es t i j walk.0 (k ∷ []) walk.1 (walk_one es i j k e got links) in
     omega (arith, far.least (walk.0 ++ k ∷ []) longer, cost_append es walk.0 (k ∷ []), cost_one es k e got, walk.2)
 
-through : (es : List Edge) (i m j d f g : ℕ) → IsLeastOf es i j d → IsLeastOf es i m f → IsLeastOf es m j g → d ≤ f + g
+through : (es : List Edge) (i m j d f g : ℕ) → IsLeastEdgeCost es i j d → IsLeastEdgeCost es i m f → IsLeastEdgeCost es m j g → d ≤ f + g
 through es i m j d f g whole one two =
     let first = one.there in
     let second = two.there in
@@ -49,7 +50,7 @@ through es i m j d f g whole one two =
     omega (arith, whole.least (first.0 ++ second.0) joined, cost_append es first.0 second.0, first.2, second.2)
 
 -- two ways that meet
-meeting : (es : List Edge) (i m j d f g : ℕ) → IsLeastOf es i j d → IsLeastOf es i m f → IsLeastOf es j m g → d ≤ f + g
+meeting : (es : List Edge) (i m j d f g : ℕ) → IsLeastEdgeCost es i j d → IsLeastEdgeCost es i m f → IsLeastEdgeCost es j m g → d ≤ f + g
 meeting es i m j d f g whole one other =
     let first = one.there in
     let second = other.there in
@@ -57,7 +58,7 @@ meeting es i m j d f g whole one other =
     let joined = walk_append es i m j first.0 turned.0 first.1 turned.1 in
     omega (arith, whole.least (first.0 ++ turned.0) joined, cost_append es first.0 turned.0, first.2, turned.2, second.2)
 
-pub are_distances : (p : PieceValue) → KeepsPiece p → AreDistances p
+pub are_distances : (p : PieceValue) → IsValidPiece p → AreDistances p
 are_distances p keeps = record {
   home = λ i d least. home p.edges i d (over_places p keeps i i d least);
   apart = λ i j d differ least. apart p.edges i j d keeps.costs differ (over_places p keeps i j d least);

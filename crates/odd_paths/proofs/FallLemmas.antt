@@ -6,24 +6,24 @@ use Rattle.std.proofs.lemmas.List.Sums.{sum_by-set}
 use Rattle.std.specs.Prelude.{◌||◌, slice_index}
 use Rattle.line_graph.specs.declared.edge.Edge.{Edge}
 use Rattle.odd_paths.proofs.PlaceLemmas.{still_within}
-use Rattle.odd_paths.specs.PlaceWalks.{AreWithin}
-use Rattle.odd_paths.specs.Sweeps.{changes, is_lower, lowered, relaxed, relaxes, swept}
+use Rattle.odd_paths.specs.EdgeWalks.{EndsAreBelow}
+use Rattle.odd_paths.specs.Sweeps.{changes, is_lower, lowered_row, relaxed, relaxes, swept}
 
 -- the length stays
-lowered_length : (row : List ℕ) (a b c : ℕ) → length (lowered row a b c) ≡ length row
+lowered_length : (row : List ℕ) (a b c : ℕ) → length (lowered_row row a b c) ≡ length row
 lowered_length row a b c = elim (cases_Bool (is_lower row a b c)) [
   | inl is ↦ rw is (length-set row b (slice_index row a + c))
   | inr isnt ↦ rw isnt refl
 ]
 
 -- where a number is lowered, the sum falls
-lowered_less : (row : List ℕ) (a b c : ℕ) → b < length row → is_lower row a b c ≡ true → sum (lowered row a b c) < sum row
+lowered_less : (row : List ℕ) (a b c : ℕ) → b < length row → is_lower row a b c ≡ true → sum (lowered_row row a b c) < sum row
 lowered_less row a b c lt is =
     let less : slice_index row a + c < slice_index row b = ltb-true _ _ is in
     let e = sum_by-set (λ (x : ℕ). x) row b (slice_index row a + c) 0 lt in
     rw is (omega arith)
 
-lowered_most : (row : List ℕ) (a b c : ℕ) → b < length row → sum (lowered row a b c) ≤ sum row
+lowered_most : (row : List ℕ) (a b c : ℕ) → b < length row → sum (lowered_row row a b c) ≤ sum row
 lowered_most row a b c lt = elim (cases_Bool (is_lower row a b c)) [
   | inl is ↦ let h = lowered_less row a b c lt is in omega arith
   | inr isnt ↦ rw isnt (omega arith)
@@ -34,32 +34,32 @@ or_true true y h = inl refl
 or_true false y h = inr h
 
 relaxed_length : (row : List ℕ) (e : Edge) → length (relaxed row e) ≡ length row
-relaxed_length row e = lowered_length (lowered row e.a e.b e.cost) e.b e.a e.cost ∙ lowered_length row e.a e.b e.cost
+relaxed_length row e = lowered_length (lowered_row row e.a e.b e.cost) e.b e.a e.cost ∙ lowered_length row e.a e.b e.cost
 
 relaxed_most : (row : List ℕ) (e : Edge) → e.a < length row → e.b < length row → sum (relaxed row e) ≤ sum row
 relaxed_most row e in_a in_b =
     let size = lowered_length row e.a e.b e.cost in
-    omega (arith, lowered_most row e.a e.b e.cost in_b, lowered_most (lowered row e.a e.b e.cost) e.b e.a e.cost (omega arith))
+    omega (arith, lowered_most row e.a e.b e.cost in_b, lowered_most (lowered_row row e.a e.b e.cost) e.b e.a e.cost (omega arith))
 
 relaxed_less : (row : List ℕ) (e : Edge) → e.a < length row → e.b < length row → relaxes row e ≡ true → sum (relaxed row e) < sum row
 relaxed_less row e in_a in_b h =
     let size = lowered_length row e.a e.b e.cost in
-    elim (or_true (is_lower row e.a e.b e.cost) (is_lower (lowered row e.a e.b e.cost) e.b e.a e.cost) h) [
+    elim (or_true (is_lower row e.a e.b e.cost) (is_lower (lowered_row row e.a e.b e.cost) e.b e.a e.cost) h) [
       | inl one ↦
-          let second = lowered_most (lowered row e.a e.b e.cost) e.b e.a e.cost (omega arith) in
+          let second = lowered_most (lowered_row row e.a e.b e.cost) e.b e.a e.cost (omega arith) in
           omega (arith, lowered_less row e.a e.b e.cost in_b one, second)
       | inr two ↦
-          let second = lowered_less (lowered row e.a e.b e.cost) e.b e.a e.cost (omega arith) two in
+          let second = lowered_less (lowered_row row e.a e.b e.cost) e.b e.a e.cost (omega arith) two in
           omega (arith, lowered_most row e.a e.b e.cost in_b, second)
     ]
 
-swept_most : (row : List ℕ) (es : List Edge) → AreWithin (length row) es → sum (swept row es) ≤ sum row
+swept_most : (row : List ℕ) (es : List Edge) → EndsAreBelow (length row) es → sum (swept row es) ≤ sum row
 swept_most row [] ends = omega arith
 swept_most row (e ∷ es) ends =
     let ends_on = still_within es _ _ (sym (relaxed_length row e)) ends.2 in
     omega (arith, relaxed_most row e ends.0 ends.1, swept_most (relaxed row e) es ends_on)
 
-pub swept_less : (row : List ℕ) (es : List Edge) → AreWithin (length row) es → changes row es ≡ true → sum (swept row es) < sum row
+pub swept_less : (row : List ℕ) (es : List Edge) → EndsAreBelow (length row) es → changes row es ≡ true → sum (swept row es) < sum row
 swept_less row [] ends h = absurd (both_ways false refl h)
 swept_less row (e ∷ es) ends h =
     let ends_on = still_within es _ _ (sym (relaxed_length row e)) ends.2 in
@@ -68,7 +68,7 @@ swept_less row (e ∷ es) ends h =
       | inr two ↦ omega (arith, relaxed_most row e ends.0 ends.1, swept_less (relaxed row e) es ends_on two)
     ]
 
-pub smaller_new : (es : List Edge) (n : ℕ) (row new : List ℕ) → AreWithin n es → length row ≡ n → new ≡ swept row es
+pub smaller_new : (es : List Edge) (n : ℕ) (row new : List ℕ) → EndsAreBelow n es → length row ≡ n → new ≡ swept row es
     → changes row es ≡ true → sum new < sum row
 smaller_new es n row new ends size value h =
     subst (λ (r : List ℕ). sum r < sum row) (sym value) (swept_less row es (still_within es n (length row) (sym size) ends) h)

@@ -9,18 +9,18 @@ use Rattle.odd_paths.specs.declared.sweeps.TheConstants.{FAR}
 use Rattle.line_graph.specs.declared.edge.Edge.{Edge}
 use Rattle.odd_paths.proofs.RowLemmas.{is_row}
 use Rattle.odd_paths.proofs.SoundLemmas.{at_other, at_same, begun, get_replicate, most_set}
-use Rattle.odd_paths.specs.Lanes.{AddsColumns, AddsRows, AreColumns, HaveBegun, IsCapped, KeepsCosts, column, columns_of}
-use Rattle.odd_paths.specs.PlaceWalks.{HaveRows, IsGraph, IsRow}
-use Rattle.odd_paths.specs.Sweeps.{IsSettled, IsSound, is_lower, lowered}
+use Rattle.odd_paths.specs.Lanes.{AddsColumns, AddsRows, AreLeastColumns, HaveStarts, IsCapped, KeepsCosts, lane_column, terminal_columns}
+use Rattle.odd_paths.specs.EdgeWalks.{AreLeastRows, IsGraph, IsLeastRow}
+use Rattle.odd_paths.specs.Sweeps.{IsFullyRelaxed, AreWalkCosts, is_lower, lowered_row}
 
 -- the number of a column
-pub column_at : (i j : ℕ) (table : List (List ℕ)) → slice_index (column i table) j ≡ slice_index (get_or table j []) i
+pub column_at : (i j : ℕ) (table : List (List ℕ)) → slice_index (lane_column i table) j ≡ slice_index (get_or table j []) i
 column_at i j [] = refl
 column_at i zero (lane ∷ table) = refl
 column_at i (suc j) (lane ∷ table) = column_at i j table
 
 -- no lowered number is greater
-pub lowered_low : (row : List ℕ) (a b c j : ℕ) → b < length row → slice_index (lowered row a b c) j ≤ slice_index row j
+pub lowered_low : (row : List ℕ) (a b c j : ℕ) → b < length row → slice_index (lowered_row row a b c) j ≤ slice_index row j
 lowered_low row a b c j there = elim (cases_Bool (is_lower row a b c)) [
   | inl is ↦ rw is (set_low row b (slice_index row a + c) j there (ltb-true _ _ is))
   | inr isnt ↦ rw isnt (omega arith)
@@ -35,15 +35,15 @@ lowered_low row a b c j there = elim (cases_Bool (is_lower row a b c)) [
 -- a lane that is lowered lowers each column
 pub lane_lowered : (i a b cost : ℕ) (lane : List ℕ) (table : List (List ℕ))
     → slice_index lane i ≡ min (slice_index (get_or table a []) i + cost) (slice_index (get_or table b []) i)
-    → column i (slice_set table b lane) ≡ lowered (column i table) a b cost
+    → lane_column i (slice_set table b lane) ≡ lowered_row (lane_column i table) a b cost
 lane_lowered i a b cost lane table is =
     let at_a = column_at i a table in
     let at_b = column_at i b table in
-    elim (cases_Bool (is_lower (column i table) a b cost)) [
+    elim (cases_Bool (is_lower (lane_column i table) a b cost)) [
       | inl lower ↦
           let less = ltb-true _ _ lower in
-          let value : slice_index lane i ≡ slice_index (column i table) a + cost = omega arith in
-          rw lower (map-set (λ (l : List ℕ). slice_index l i) table b lane ∙ ap (λ (v : ℕ). slice_set (column i table) b v) value)
+          let value : slice_index lane i ≡ slice_index (lane_column i table) a + cost = omega arith in
+          rw lower (map-set (λ (l : List ℕ). slice_index l i) table b lane ∙ ap (λ (v : ℕ). slice_set (lane_column i table) b v) value)
       | inr high ↦
           let more = ltb-false _ _ high in
           let value : slice_index lane i ≡ slice_index (get_or table b []) i = omega arith in
@@ -55,30 +55,30 @@ capped_lane table a i capped there = omega (arith, capped i there a, column_at i
 
 -- so no number comes above FAR
 pub capped_lowered : (table new : List (List ℕ)) (a b cost : ℕ) → b < length table → IsCapped table
-    → ((i : ℕ) → i < LANES → column i new ≡ lowered (column i table) a b cost) → IsCapped new
+    → ((i : ℕ) → i < LANES → lane_column i new ≡ lowered_row (lane_column i table) a b cost) → IsCapped new
 capped_lowered table new a b cost there capped value i in_i j =
     let count = length-map table (λ (lane : List ℕ). slice_index lane i) in
-    let low = lowered_low (column i table) a b cost j (omega (arith, count)) in
+    let low = lowered_low (lane_column i table) a b cost j (omega (arith, count)) in
     let same = ap (λ (row : List ℕ). slice_index row j) (value i in_i) in
     omega (arith, low, same, capped i in_i j)
 
 -- a lane that is reached begins its column
 pub lane_reached : (i t : ℕ) (lane : List ℕ) (table : List (List ℕ)) → slice_index lane i ≡ 0
-    → column i (slice_set table t lane) ≡ slice_set (column i table) t 0
+    → lane_column i (slice_set table t lane) ≡ slice_set (lane_column i table) t 0
 lane_reached i t lane table here =
-    map-set (λ (l : List ℕ). slice_index l i) table t lane ∙ ap (λ (v : ℕ). slice_set (column i table) t v) here
+    map-set (λ (l : List ℕ). slice_index l i) table t lane ∙ ap (λ (v : ℕ). slice_set (lane_column i table) t v) here
 
 pub lane_kept : (k t : ℕ) (lane : List ℕ) (table : List (List ℕ)) → slice_index lane k ≡ slice_index (get_or table t []) k
-    → column k (slice_set table t lane) ≡ column k table
+    → lane_column k (slice_set table t lane) ≡ lane_column k table
 lane_kept k t lane table same = map-set_same (λ (l : List ℕ). slice_index l k) table t lane [] same
 
 pub capped_begun : (table new : List (List ℕ)) (t i : ℕ) → t < length table → IsCapped table
-    → column i new ≡ slice_set (column i table) t 0 → ((k : ℕ) → k ≢ i → column k new ≡ column k table) → IsCapped new
+    → lane_column i new ≡ slice_set (lane_column i table) t 0 → ((k : ℕ) → k ≢ i → lane_column k new ≡ lane_column k table) → IsCapped new
 capped_begun table new t i there capped here others k in_k j = elim (cases_eq k i) [
   | inl same ↦
       let count = length-map table (λ (lane : List ℕ). slice_index lane k) in
-      let begun : column k new ≡ slice_set (column k table) t 0 = rw same here in
-      let most = most_set (column k table) t 0 FAR (omega (arith, count)) (omega arith) (λ m. capped k in_k m) j in
+      let begun : lane_column k new ≡ slice_set (lane_column k table) t 0 = rw same here in
+      let most = most_set (lane_column k table) t 0 FAR (omega (arith, count)) (omega arith) (λ m. capped k in_k m) j in
       rw begun most
   | inr other ↦ rw (others k other) (capped k in_k j)
 ]
@@ -88,48 +88,50 @@ map_replicate : (f : List ℕ → ℕ) (n : ℕ) (lane : List ℕ) → map f (re
 map_replicate f zero lane = refl
 map_replicate f (suc n) lane = ap (λ (rest : List ℕ). f lane ∷ rest) (map_replicate f n lane)
 
-column_blank : (n i : ℕ) → i < LANES → column i (replicate n (replicate LANES FAR)) ≡ replicate n FAR
+column_blank : (n i : ℕ) → i < LANES → lane_column i (replicate n (replicate LANES FAR)) ≡ replicate n FAR
 column_blank n i there =
     map_replicate (λ (lane : List ℕ). slice_index lane i) n (replicate LANES FAR)
     ∙ ap (λ (v : ℕ). replicate n v) (get_or-replicate LANES i FAR 0 there)
 
 pub capped_blank : (n : ℕ) (table : List (List ℕ)) → table ≡ replicate n (replicate LANES FAR) → IsCapped table
 capped_blank n table blank i there j =
-    let column_is = ap (λ (t : List (List ℕ)). column i t) blank ∙ column_blank n i there in
+    let column_is = ap (λ (t : List (List ℕ)). lane_column i t) blank ∙ column_blank n i there in
     rw column_is (get_replicate n j FAR)
 
 -- a table that has begun and then settled has the rows of the terminals as its columns
 pub columns_settled : (es : List Edge) (n : ℕ) (ts : List ℕ) (old between new : List (List ℕ)) → old ≡ replicate n (replicate LANES FAR)
     → IsGraph es n → length ts ≤ LANES → All (λ t. t < n) ts
-    → length between ≡ length old → HaveBegun ts old between → KeepsCosts es between new
-    → ((i : ℕ) → i < LANES → IsSettled (column i new) es) → AreColumns es n ts new
+    → length between ≡ length old → HaveStarts ts old between → KeepsCosts es between new
+    → ((i : ℕ) → i < LANES → IsFullyRelaxed (lane_column i new) es) → AreLeastColumns es n ts new
 columns_settled es n ts old between new blank graph few there size started keeps flat i in_i =
     let in_lanes : i < LANES = omega (arith, few, in_i) in
     let from : ℕ = slice_index ts i in
-    let column_is = ap (λ (t : List (List ℕ)). column i t) blank ∙ column_blank n i in_lanes in
+    let column_is = ap (λ (t : List (List ℕ)). lane_column i t) blank ∙ column_blank n i in_lanes in
     let count : length between ≡ n = size ∙ (ap (λ (t : List (List ℕ)). length t) blank ∙ length-replicate n (replicate LANES FAR)) in
-    let is : column i between ≡ slice_set (replicate n FAR) from 0 =
+    let is : lane_column i between ≡ slice_set (replicate n FAR) from 0 =
     started i in_i ∙ ap (λ (row : List ℕ). slice_set row from 0) column_is in
-    let first : IsSound es (length between) from (column i between) = rw (is, count) (begun es n from (there i 0 in_i)) in
-    let last : IsSound es n from (column i new) =
-    subst (λ m. IsSound es m from (column i new)) count (keeps.sound i from in_lanes first) in
-    is_row es n from (column i new) last (flat i in_lanes) graph (there i 0 in_i)
+    let first : AreWalkCosts es (length between) from (lane_column i between) = rw (is, count) (begun es n from (there i 0 in_i)) in
+    let last : AreWalkCosts es n from (lane_column i new) =
+    subst (λ m. AreWalkCosts es m from (lane_column i new)) count (keeps.sound i from in_lanes first) in
+    is_row es n from (lane_column i new) last (flat i in_lanes) graph (there i 0 in_i)
 
 -- these columns are rows
 rows_from : (es : List Edge) (n at : ℕ) (ts : List ℕ) (table : List (List ℕ))
-    → ((i k : ℕ) → k ≡ at + i → i < length ts → IsRow es n (slice_index ts i) (column k table)) → HaveRows es n ts
-    (columns_of table at ts)
+    → ((i k : ℕ) → k ≡ at + i → i < length ts → IsLeastRow es n (slice_index ts i) (lane_column k table)) → AreLeastRows es n ts
+    (terminal_columns table at ts)
 rows_from es n at [] table each = tt
 rows_from es n at (t ∷ ts) table each = (
   each 0 at (omega arith) (omega arith),
   rows_from es n (at + 1) ts table (λ i k is there. each (suc i) k (omega (arith, is)) (omega (arith, there))),
 )
 
-pub are_added : (es : List Edge) (n : ℕ) (ts : List ℕ) (table : List (List ℕ)) (old new : List (Vec ℕ Global)) → AreColumns es n ts table
+pub are_added : (es : List Edge) (n : ℕ) (ts : List ℕ) (table : List (List ℕ)) (old new : List (Vec ℕ Global))
+    → AreLeastColumns es n ts table
     → AddsColumns table ts old new → AddsRows es n ts old new
 are_added es n ts table old new each is = record {
-  more = columns_of table 0 ts;
+  more = terminal_columns table 0 ts;
   rows = rows_from es n 0 ts table (λ i k same there.
-      let eq : k ≡ i = omega (arith, same) in subst (λ (m : ℕ). IsRow es n (slice_index ts i) (column m table)) (sym eq) (each i there));
+      let eq : k ≡ i = omega (arith, same) in subst (λ (m : ℕ). IsLeastRow es n (slice_index ts i) (lane_column m table)) (sym eq)
+      (each i there));
   is = is;
 }

@@ -2,14 +2,14 @@
 use Rattle.std.proofs.Common.{◌≡◌, ℕ, ◌+◌, ◌<◌, ◌≤◌, Bool, false, List, Some, length, refl, sym, ◌∙◌, subst, arith}
 use Rattle.std.specs.Prelude.{slice_get}
 use Rattle.line_graph.specs.declared.edge.Edge.{Edge}
-use Rattle.line_graph.specs.PieceGraphs.{bit}
+use Rattle.line_graph.specs.PieceGraphs.{one_if}
 use Rattle.odd_paths.specs.declared.lanes.TheConstants.{LANES}
 use Rattle.odd_paths.proofs.PlaceLemmas.{below_at}
 use Rattle.odd_paths.proofs.RowLemmas.{settled_new}
 use Rattle.odd_paths.proofs.SoundLemmas.{relaxed_sound, swept_sound}
-use Rattle.odd_paths.specs.Lanes.{IsCapped, KeepsCosts, column, weight}
-use Rattle.odd_paths.specs.PlaceWalks.{AreWithin}
-use Rattle.odd_paths.specs.Sweeps.{IsSettled, IsSound, changes, relaxed, swept}
+use Rattle.odd_paths.specs.Lanes.{IsCapped, KeepsCosts, lane_column, weight}
+use Rattle.odd_paths.specs.EdgeWalks.{EndsAreBelow}
+use Rattle.odd_paths.specs.Sweeps.{IsFullyRelaxed, AreWalkCosts, changes, relaxed, swept}
 
 -- no pass at all
 pub keeps_itself : (es : List Edge) (table : List (List ℕ)) → IsCapped table → KeepsCosts es table table
@@ -27,39 +27,40 @@ keeps_on es old between new one two = record {
   size = two.size ∙ one.size;
   capped = two.capped;
   sound = λ i from there s. (
-      let Sound : ℕ → List (List ℕ) → Type 0 = λ n table. IsSound es n from (column i table) in
+      let Sound : ℕ → List (List ℕ) → Type 0 = λ n table. AreWalkCosts es n from (lane_column i table) in
       subst (λ n. Sound n new) one.size (two.sound i from there (subst (λ n. Sound n between) (sym one.size)
       (one.sound i from there s))));
   most = omega (arith, one.most, two.most);
 }
 
 -- one edge
-pub relax_keeps : (es : List Edge) (k : ℕ) (e : Edge) (old new : List (List ℕ)) (told : Bool) → AreWithin (length old) es
+pub relax_keeps : (es : List Edge) (k : ℕ) (e : Edge) (old new : List (List ℕ)) (told : Bool) → EndsAreBelow (length old) es
     → slice_get es k ≡ Some e → length new ≡ length old → IsCapped new
-    → ((i : ℕ) → i < LANES → column i new ≡ relaxed (column i old) e) → weight new + bit told ≤ weight old → KeepsCosts es old new
+    → ((i : ℕ) → i < LANES → lane_column i new ≡ relaxed (lane_column i old) e) → weight new + one_if told ≤ weight old
+    → KeepsCosts es old new
 relax_keeps es k e old new told ends got size capped value less = record {
   size = size;
   capped = capped;
   sound = λ i from there s. (
       let both = below_at (length old) es k e ends got in
-      subst (λ (row : List ℕ). IsSound es (length old) from row) (sym (value i there))
-      (relaxed_sound es (length old) from k e (column i old) s got both.0 both.1));
+      subst (λ (row : List ℕ). AreWalkCosts es (length old) from row) (sym (value i there))
+      (relaxed_sound es (length old) from k e (lane_column i old) s got both.0 both.1));
   most = omega (arith, less);
 }
 
 -- all edges in their order
-pub sweep_keeps : (es : List Edge) (old new : List (List ℕ)) (told : Bool) → AreWithin (length old) es → length new ≡ length old
-    → IsCapped new → ((i : ℕ) → i < LANES → column i new ≡ swept (column i old) es) → weight new + bit told ≤ weight old
+pub sweep_keeps : (es : List Edge) (old new : List (List ℕ)) (told : Bool) → EndsAreBelow (length old) es → length new ≡ length old
+    → IsCapped new → ((i : ℕ) → i < LANES → lane_column i new ≡ swept (lane_column i old) es) → weight new + one_if told ≤ weight old
     → KeepsCosts es old new
 sweep_keeps es old new told ends size capped value less = record {
   size = size;
   capped = capped;
   sound = λ i from there s. (
-      subst (λ (row : List ℕ). IsSound es (length old) from row) (sym (value i there))
-      (swept_sound es (length old) from (column i old) ends s));
+      subst (λ (row : List ℕ). AreWalkCosts es (length old) from row) (sym (value i there))
+      (swept_sound es (length old) from (lane_column i old) ends s));
   most = omega (arith, less);
 }
 
-pub sweep_settles : (es : List Edge) (old new : List (List ℕ)) → ((i : ℕ) → i < LANES → column i new ≡ swept (column i old) es)
-    → ((i : ℕ) → i < LANES → changes (column i old) es ≡ false) → (i : ℕ) → i < LANES → IsSettled (column i new) es
-sweep_settles es old new value same i there = settled_new es (column i old) (column i new) (value i there) (same i there)
+pub sweep_settles : (es : List Edge) (old new : List (List ℕ)) → ((i : ℕ) → i < LANES → lane_column i new ≡ swept (lane_column i old) es)
+    → ((i : ℕ) → i < LANES → changes (lane_column i old) es ≡ false) → (i : ℕ) → i < LANES → IsFullyRelaxed (lane_column i new) es
+sweep_settles es old new value same i there = settled_new es (lane_column i old) (lane_column i new) (value i there) (same i there)

@@ -7,12 +7,12 @@ use Rattle.std.proofs.lemmas.Option.{slice_get_within}
 use Rattle.std.specs.Prelude.{nat_lt, slice_get, if◌then◌else◌}
 use Rattle.line_graph.specs.declared.edge.Edge.{Edge}
 use Rattle.line_graph.specs.declared.pass.Pass.{Pass}
-use Rattle.line_graph.specs.KeptPieces.{KeepsPiece}
+use Rattle.line_graph.specs.ValidPieces.{IsValidPiece}
 use Rattle.line_graph.specs.PieceGraphs.{PieceValue}
-use Rattle.line_graph.specs.PieceWalks.{above, after_edge, cost_of, edge_of, of_edge, pass_sum, rises, walk_on}
+use Rattle.line_graph.specs.PieceWalks.{all_greater, after_edge, edge_cost, edge_of, edge_value, pass_sum, is_strictly_increasing, walk_end_from}
 use Rattle.odd_paths.proofs.PlaceLemmas.{none_is, some_is}
 use Rattle.odd_paths.specs.LeastRows.{IsLeastCost}
-use Rattle.odd_paths.specs.PlaceWalks.{IsLeastOf, IsPlaceWalk, Links, place_cost}
+use Rattle.odd_paths.specs.EdgeWalks.{IsLeastEdgeCost, IsEdgeWalk, Connects, edge_walk_cost}
 
 -- the edge of a line is at some index
 placed : (lines : List ℕ) (es : List Edge) (line : ℕ) (e : Edge) → edge_of lines es line ≡ Some e
@@ -26,7 +26,7 @@ placed (n ∷ lines) (x ∷ es) line e is = go (placed lines es line e) (line ==
     go later true is = (0, is)
     go later false is = let more = later is in (suc more.0, more.1)
 
-stuck : (lines : List ℕ) (es : List Edge) (walk : List Pass) → walk_on lines es None walk ≡ None
+stuck : (lines : List ℕ) (es : List Edge) (walk : List Pass) → walk_end_from lines es None walk ≡ None
 stuck lines es [] = refl
 stuck lines es (pass ∷ rest) = stuck lines es rest
 
@@ -35,43 +35,43 @@ test_some true x m is = (refl, some_is x m is)
 test_some false x m is = absurd (none_is m is)
 
 -- a pass that leads on goes along an edge
-links_by : (back : Bool) (e : Edge) (i m : ℕ) → after_edge (Some e) back i ≡ Some m → Links e i m
+links_by : (back : Bool) (e : Edge) (i m : ℕ) → after_edge (Some e) back i ≡ Some m → Connects e i m
 links_by false e i m is = let both = test_some (e.a == i) e.b m is in inl (eqb-true _ _ both.0, both.1)
 links_by true e i m is = let both = test_some (e.b == i) e.a m is in inr (eqb-true _ _ both.0, both.1)
 
 along_edge : (found : Option Edge) (back : Bool) (i m : ℕ) → after_edge found back i ≡ Some m
-    → (e : Edge) × (found ≡ Some e) × Links e i m
+    → (e : Edge) × (found ≡ Some e) × Connects e i m
 along_edge None back i m is = absurd (none_is m is)
 along_edge (Some e) back i m is = (e, refl, links_by back e i m is)
 
 -- a walk of passes is a walk of edge indexes, at the same cost
-to_places : (lines : List ℕ) (es : List Edge) (i j : ℕ) (walk : List Pass) → walk_on lines es (Some i) walk ≡ Some j
-    → (ks : List ℕ) × IsPlaceWalk es i j ks × (place_cost es ks ≡ pass_sum lines es cost_of walk)
+to_places : (lines : List ℕ) (es : List Edge) (i j : ℕ) (walk : List Pass) → walk_end_from lines es (Some i) walk ≡ Some j
+    → (ks : List ℕ) × IsEdgeWalk es i j ks × (edge_walk_cost es ks ≡ pass_sum lines es edge_cost walk)
 to_places lines es i j [] leads = ([], some_is i j leads, refl)
 to_places lines es i j (pass ∷ rest) leads =
     go (λ m on. to_places lines es m j rest on) (after_edge (edge_of lines es pass.line) pass.back i) refl leads
   where
-    go : ((m : ℕ) → walk_on lines es (Some m) rest ≡ Some j
-        → (ks : List ℕ) × IsPlaceWalk es m j ks × (place_cost es ks ≡ pass_sum lines es cost_of rest))
-        → (next : Option ℕ) → after_edge (edge_of lines es pass.line) pass.back i ≡ next → walk_on lines es next rest ≡ Some j
-        → (ks : List ℕ) × IsPlaceWalk es i j ks × (place_cost es ks ≡ pass_sum lines es cost_of (pass ∷ rest))
+    go : ((m : ℕ) → walk_end_from lines es (Some m) rest ≡ Some j
+        → (ks : List ℕ) × IsEdgeWalk es m j ks × (edge_walk_cost es ks ≡ pass_sum lines es edge_cost rest))
+        → (next : Option ℕ) → after_edge (edge_of lines es pass.line) pass.back i ≡ next → walk_end_from lines es next rest ≡ Some j
+        → (ks : List ℕ) × IsEdgeWalk es i j ks × (edge_walk_cost es ks ≡ pass_sum lines es edge_cost (pass ∷ rest))
     go later None is on = absurd (none_is j (sym (stuck lines es rest) ∙ on))
     go later (Some m) is on =
         let e = along_edge (edge_of lines es pass.line) pass.back i m is in
         let k = placed lines es pass.line e.0 e.1 in
         let more = later m on in
-        let at_place = ap (of_edge cost_of) k.1 in
-        let of_line = ap (of_edge cost_of) e.1 in
+        let at_place = ap (edge_value edge_cost) k.1 in
+        let of_line = ap (edge_value edge_cost) e.1 in
         (k.0 ∷ more.0, (e.0, m, k.1, e.2, more.1), omega (arith, at_place, of_line, more.2))
 
 -- in rising lines each line appears once, and the edge at an index is that of the line there
-above_at : (n : ℕ) (ms : List ℕ) (k : ℕ) → above n ms ≡ true → k < length ms → n < get_or ms k 0
+above_at : (n : ℕ) (ms : List ℕ) (k : ℕ) → all_greater n ms ≡ true → k < length ms → n < get_or ms k 0
 above_at n [] k rising there = absurd (omega arith)
 above_at n (m ∷ ms) zero rising there =
-    let both = and_parts (nat_lt n m) (above n ms) rising in grind (arith, nat_tests)
-above_at n (m ∷ ms) (suc k) rising there = above_at n ms k (and_parts (nat_lt n m) (above n ms) rising).1 (omega arith)
+    let both = and_parts (nat_lt n m) (all_greater n ms) rising in grind (arith, nat_tests)
+above_at n (m ∷ ms) (suc k) rising there = above_at n ms k (and_parts (nat_lt n m) (all_greater n ms) rising).1 (omega arith)
 
-edge_at : (lines : List ℕ) (es : List Edge) (k : ℕ) (e : Edge) → rises lines ≡ true → length lines ≡ length es
+edge_at : (lines : List ℕ) (es : List Edge) (k : ℕ) (e : Edge) → is_strictly_increasing lines ≡ true → length lines ≡ length es
     → slice_get es k ≡ Some e → edge_of lines es (get_or lines k 0) ≡ Some e
 edge_at [] es k e rising beside got = absurd (omega (arith, slice_get_within es k e got, beside))
 edge_at (n ∷ lines) [] k e rising beside got = absurd (none_is e got)
@@ -79,21 +79,21 @@ edge_at (n ∷ lines) (x ∷ es) zero e rising beside got =
     let same : (n == n) ≡ true = eq-eqb n n refl in
     rw same got
 edge_at (n ∷ lines) (x ∷ es) (suc k) e rising beside got =
-    let both = and_parts (above n lines) (rises lines) rising in
+    let both = and_parts (all_greater n lines) (is_strictly_increasing lines) rising in
     let there : k < length lines = omega (arith, slice_get_within es k e got, beside) in
     let less = above_at n lines k both.0 there in
     let other : (get_or lines k 0 == n) ≡ false = grind (arith, nat_tests) in
     rw other (edge_at lines es k e both.1 (omega (arith, beside)) got)
 
-along_pass : (e : Edge) (i m : ℕ) → Links e i m → (back : Bool) × (after_edge (Some e) back i ≡ Some m)
+along_pass : (e : Edge) (i m : ℕ) → Connects e i m → (back : Bool) × (after_edge (Some e) back i ≡ Some m)
 along_pass e i m (inl both) = (false, rw (eq-eqb _ _ both.0) (ap (λ (n : ℕ). Some n) both.1))
 along_pass e i m (inr both) = (true, rw (eq-eqb _ _ both.0) (ap (λ (n : ℕ). Some n) both.1))
 
 -- the passes along edges given by index
 pub record HasPasses (lines : List ℕ) (es : List Edge) (i j : ℕ) (ks : List ℕ) : Type 0 where
   pub walk : List Pass
-  pub leads : walk_on lines es (Some i) walk ≡ Some j
-  pub costs : pass_sum lines es cost_of walk ≡ place_cost es ks
+  pub leads : walk_end_from lines es (Some i) walk ≡ Some j
+  pub costs : pass_sum lines es edge_cost walk ≡ edge_walk_cost es ks
   pub along : map (λ (pass : Pass). pass.line) walk ≡ map (λ k. get_or lines k 0) ks
   pub there : All (λ k. k < length lines) ks
 
@@ -104,18 +104,18 @@ passed_first : (lines : List ℕ) (es : List Edge) (i m j k : ℕ) (ks : List �
 passed_first lines es i m j k ks e got at back onward there more =
     let goes_on : after_edge (edge_of lines es (get_or lines k 0)) back i ≡ Some m
     = ap (λ (found : Option Edge). after_edge found back i) at ∙ onward in
-    let at_place = ap (of_edge cost_of) got in
-    let of_line = ap (of_edge cost_of) at in
+    let at_place = ap (edge_value edge_cost) got in
+    let of_line = ap (edge_value edge_cost) at in
     record {
       walk = record { line = get_or lines k 0; back = back } ∷ more.walk;
-      leads = ap (λ (next : Option ℕ). walk_on lines es next more.walk) goes_on ∙ more.leads;
+      leads = ap (λ (next : Option ℕ). walk_end_from lines es next more.walk) goes_on ∙ more.leads;
       costs = omega (arith, at_place, of_line, more.costs);
       along = ap (λ (rest : List ℕ). get_or lines k 0 ∷ rest) more.along;
       there = All-cons (λ n. n < length lines) k ks there more.there;
     }
 
-pub to_passes : (lines : List ℕ) (es : List Edge) (i j : ℕ) (ks : List ℕ) → rises lines ≡ true → length lines ≡ length es
-    → IsPlaceWalk es i j ks → HasPasses lines es i j ks
+pub to_passes : (lines : List ℕ) (es : List Edge) (i j : ℕ) (ks : List ℕ) → is_strictly_increasing lines ≡ true → length lines ≡ length es
+    → IsEdgeWalk es i j ks → HasPasses lines es i j ks
 to_passes lines es i j [] rising beside walk = record {
   walk = [];
   leads = ap (λ (n : ℕ). Some n) walk;
@@ -129,7 +129,7 @@ to_passes lines es i j (k ∷ ks) rising beside walk =
     (omega (arith, slice_get_within es k walk.0 walk.2, beside)) (to_passes lines es walk.1 j ks rising beside walk.4)
 
 -- least costs over edge indexes are those over passes
-pub over_passes : (p : PieceValue) → KeepsPiece p → (i j d : ℕ) → IsLeastOf p.edges i j d → IsLeastCost p i j d
+pub over_passes : (p : PieceValue) → IsValidPiece p → (i j d : ℕ) → IsLeastEdgeCost p.edges i j d → IsLeastCost p i j d
 over_passes p keeps i j d least =
     let there = least.there in
     let passes = to_passes p.lines p.edges i j there.0 keeps.rising keeps.beside there.1 in
@@ -141,7 +141,7 @@ over_passes p keeps i j d least =
           omega (arith, least.least walk.0 walk.1, walk.2));
     }
 
-pub over_places : (p : PieceValue) → KeepsPiece p → (i j d : ℕ) → IsLeastCost p i j d → IsLeastOf p.edges i j d
+pub over_places : (p : PieceValue) → IsValidPiece p → (i j d : ℕ) → IsLeastCost p i j d → IsLeastEdgeCost p.edges i j d
 over_places p keeps i j d least =
     let walk = to_places p.lines p.edges i j least.walk least.leads in
     record {

@@ -5,9 +5,9 @@ use Rattle.design_model.specs.declared.point.Point.{Point}
 use Rattle.line_graph.specs.declared.edge.Edge.{Edge}
 use Rattle.line_graph.specs.declared.pass.Pass.{Pass}
 use Rattle.line_graph.specs.PieceGraphs.{PieceValue, odd_junctions}
-use Rattle.line_graph.specs.PieceWalks.{piece_cost, walk_cost, walk_on}
+use Rattle.line_graph.specs.PieceWalks.{piece_cost, walk_cost, walk_end_from}
 use Rattle.odd_paths.specs.ClosedDegrees.{odds_from}
-use Rattle.odd_paths.specs.LeastRows.{IsPath, RowsValue, cost_at, lines_at, row_length, terminal_of}
+use Rattle.odd_paths.specs.LeastRows.{IsPath, RowsValue, cost_at, lines_at_indexes, row_length, terminal_of}
 
 abbrev place : ℕ → Point
 place x = record { x = pos x; y = pos 0 }
@@ -104,7 +104,7 @@ known_terminals = (refl, refl)
 pub known_piece_cost : piece_cost (theta None None) ≡ 19
 known_piece_cost = refl
 
-pub known_lines : lines_at (path None None) (1 ∷ 0 ∷ 1 ∷ []) ≡ 7 ∷ 4 ∷ 7 ∷ []
+pub known_lines : lines_at_indexes (path None None) (1 ∷ 0 ∷ 1 ∷ []) ≡ 7 ∷ 4 ∷ 7 ∷ []
 known_lines = refl
 
 -- from the far end back to the first junction; the reversed indexes are no walk
@@ -120,7 +120,7 @@ known_path = record {
   costs = refl;
 }
 
-pub known_astray : walk_on (4 ∷ 7 ∷ []) (path None None).edges (Some 2) (pass 4 true ∷ pass 7 true ∷ []) ≡ None
+pub known_astray : walk_end_from (4 ∷ 7 ∷ []) (path None None).edges (Some 2) (pass 4 true ∷ pass 7 true ∷ []) ≡ None
 known_astray = refl
 
 pub known_walk_cost : walk_cost (star None None) (pass 1 true ∷ pass 5 true ∷ []) ≡ 4

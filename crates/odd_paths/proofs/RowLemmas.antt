@@ -5,15 +5,15 @@ use Rattle.std.proofs.Math.Seq.{take-append_seam}
 use Rattle.std.specs.Prelude.{nat_lt, slice_index, slice_set}
 use Rattle.line_graph.specs.declared.edge.Edge.{Edge}
 use Rattle.line_graph.specs.declared.limits.TheConstants.{MAX_COST}
-use Rattle.line_graph.specs.KeptPieces.{NoneLeaves}
-use Rattle.line_graph.specs.PieceWalks.{cost_of, edge_sum}
+use Rattle.line_graph.specs.ValidPieces.{NoEdgeLeaves}
+use Rattle.line_graph.specs.PieceWalks.{edge_cost, edge_sum}
 use Rattle.odd_paths.specs.declared.sweeps.TheConstants.{FAR}
 use Rattle.odd_paths.proofs.CoverLemmas.{rises_within}
 use Rattle.odd_paths.proofs.PlaceLemmas.{below_at, cost_within}
 use Rattle.odd_paths.proofs.SoundLemmas.{begun, swept_sound}
 use Rattle.odd_paths.proofs.SweepLemmas.{flat_at, no_less, settled}
-use Rattle.odd_paths.specs.PlaceWalks.{AreWithin, IsGraph, IsRow}
-use Rattle.odd_paths.specs.Sweeps.{IsSettled, IsSound, StaysSound, changes, swept}
+use Rattle.odd_paths.specs.EdgeWalks.{EndsAreBelow, IsGraph, IsLeastRow}
+use Rattle.odd_paths.specs.Sweeps.{IsFullyRelaxed, AreWalkCosts, KeepsWalkCosts, changes, swept}
 
 -- where the edges join all junctions, each has a number below FAR
 same_test : (p q : Bool) → (p ≡ true → q ≡ true) → (q ≡ true → p ≡ true) → p ≡ q
@@ -21,22 +21,23 @@ same_test true q f g = sym (f refl)
 same_test false true f g = g refl
 same_test false false f g = refl
 
-near_most : (es : List Edge) (n from : ℕ) (row : List ℕ) → IsSound es n from row → IsSettled row es
-    → (i : ℕ) → i < n → slice_index row i < FAR → slice_index row i ≤ edge_sum cost_of es
+near_most : (es : List Edge) (n from : ℕ) (row : List ℕ) → AreWalkCosts es n from row → IsFullyRelaxed row es
+    → (i : ℕ) → i < n → slice_index row i < FAR → slice_index row i ≤ edge_sum edge_cost es
 near_most es n from row s flat i there near =
     let walk = s.walks i there near in
     omega (arith, rises_within row es from i walk.0 flat walk.1, s.start)
 
 -- an edge from such a junction leads to such a junction
-pass_on : (es : List Edge) (n from : ℕ) (row : List ℕ) → IsSound es n from row → IsSettled row es → edge_sum cost_of es ≤ MAX_COST
-    → (i j c : ℕ) → i < n → c ≤ edge_sum cost_of es → slice_index row j ≤ slice_index row i + c
+pass_on : (es : List Edge) (n from : ℕ) (row : List ℕ) → AreWalkCosts es n from row → IsFullyRelaxed row es
+    → edge_sum edge_cost es ≤ MAX_COST
+    → (i j c : ℕ) → i < n → c ≤ edge_sum edge_cost es → slice_index row j ≤ slice_index row i + c
     → nat_lt (slice_index row i) FAR ≡ true → nat_lt (slice_index row j) FAR ≡ true
 pass_on es n from row s flat small i j c there within rise near =
     let low = near_most es n from row s flat i there (ltb-true _ _ near) in
     lt-ltb _ _ (omega arith)
 
-none_leaves : (es : List Edge) (n from : ℕ) (row : List ℕ) → IsSound es n from row → IsSettled row es → AreWithin n es
-    → edge_sum cost_of es ≤ MAX_COST → NoneLeaves es (λ i. nat_lt (slice_index row i) FAR)
+none_leaves : (es : List Edge) (n from : ℕ) (row : List ℕ) → AreWalkCosts es n from row → IsFullyRelaxed row es → EndsAreBelow n es
+    → edge_sum edge_cost es ≤ MAX_COST → NoEdgeLeaves es (λ i. nat_lt (slice_index row i) FAR)
 none_leaves es n from row s flat within small k e got =
     let ends = below_at n es k e within got in
     let cost = cost_within es k e got in
@@ -45,7 +46,7 @@ none_leaves es n from row s flat within small k e got =
     (pass_on es n from row s flat small e.a e.b e.cost ends.0 cost level.forth)
     (pass_on es n from row s flat small e.b e.a e.cost ends.1 cost level.back)
 
-reached : (es : List Edge) (n from : ℕ) (row : List ℕ) → IsSound es n from row → IsSettled row es → IsGraph es n
+reached : (es : List Edge) (n from : ℕ) (row : List ℕ) → AreWalkCosts es n from row → IsFullyRelaxed row es → IsGraph es n
     → from < n → (j : ℕ) → j < n → slice_index row j < FAR
 reached es n from row s flat graph in_n j in_j =
     let closed = none_leaves es n from row s flat graph.ends graph.cost in
@@ -54,8 +55,8 @@ reached es n from row s flat graph in_n j in_j =
     ltb-true _ _ (sym all ∙ start)
 
 -- the row at the end
-pub is_row : (es : List Edge) (n from : ℕ) (row : List ℕ) → IsSound es n from row → IsSettled row es → IsGraph es n
-    → from < n → IsRow es n from row
+pub is_row : (es : List Edge) (n from : ℕ) (row : List ℕ) → AreWalkCosts es n from row → IsFullyRelaxed row es → IsGraph es n
+    → from < n → IsLeastRow es n from row
 is_row es n from row s flat graph in_n = record {
   size = s.size;
   least = λ j in_j. record {
@@ -66,15 +67,15 @@ is_row es n from row s flat graph in_n = record {
 }
 
 -- what a call of the sweep gives
-pub settled_row : (es : List Edge) (row : List ℕ) → changes row es ≡ false → IsSettled (swept row es) es
-settled_row es row h = let p = settled row es h in subst (λ (r : List ℕ). IsSettled r es) (sym p.0) p.1
+pub settled_row : (es : List Edge) (row : List ℕ) → changes row es ≡ false → IsFullyRelaxed (swept row es) es
+settled_row es row h = let p = settled row es h in subst (λ (r : List ℕ). IsFullyRelaxed r es) (sym p.0) p.1
 
-pub after_sweep : (es : List Edge) (n from : ℕ) (row new : List ℕ) → AreWithin n es → new ≡ swept row es → IsSound es n from row
-    → IsSound es n from new
-after_sweep es n from row new ends value s = subst (λ (r : List ℕ). IsSound es n from r) (sym value) (swept_sound es n from row ends s)
+pub after_sweep : (es : List Edge) (n from : ℕ) (row new : List ℕ) → EndsAreBelow n es → new ≡ swept row es → AreWalkCosts es n from row
+    → AreWalkCosts es n from new
+after_sweep es n from row new ends value s = subst (λ (r : List ℕ). AreWalkCosts es n from r) (sym value) (swept_sound es n from row ends s)
 
-pub settled_new : (es : List Edge) (row new : List ℕ) → new ≡ swept row es → changes row es ≡ false → IsSettled new es
-settled_new es row new value h = subst (λ (r : List ℕ). IsSettled r es) (sym value) (settled_row es row h)
+pub settled_new : (es : List Edge) (row new : List ℕ) → new ≡ swept row es → changes row es ≡ false → IsFullyRelaxed new es
+settled_new es row new value h = subst (λ (r : List ℕ). IsFullyRelaxed r es) (sym value) (settled_row es row h)
 
 -- a row after a call on its slice
 pub written : (len : ℕ) (new old : List ℕ) → length new ≡ len → take len (new ++ drop (length new) old) ≡ new
@@ -82,12 +83,12 @@ written len new old h = subst (λ (n : ℕ). take n (new ++ drop (length new) ol
 
 pub last_row : (es : List Edge) (n from len : ℕ) (now new row : List ℕ) → IsGraph es n → from < n
     → now ≡ slice_set row from 0 → row ≡ replicate n FAR → len ≡ n → length new ≡ length now
-    → StaysSound es now new → IsSettled new es → IsRow es n from (take len (new ++ drop (length new) (slice_set row from 0)))
+    → KeepsWalkCosts es now new → IsFullyRelaxed new es → IsLeastRow es n from (take len (new ++ drop (length new) (slice_set row from 0)))
 last_row es n from len now new row graph lt is row_is len_is size kept flat =
     let first : now ≡ slice_set (replicate n FAR) from 0 = is ∙ ap (λ (r : List ℕ). slice_set r from 0) row_is in
-    let at_start : IsSound es n from now = subst (λ (r : List ℕ). IsSound es n from r) (sym first) (begun es n from lt) in
+    let at_start : AreWalkCosts es n from now = subst (λ (r : List ℕ). AreWalkCosts es n from r) (sym first) (begun es n from lt) in
     let whole : length now ≡ n = at_start.size in
-    let before : IsSound es (length now) from now = subst (λ (m : ℕ). IsSound es m from now) (sym whole) at_start in
-    let sound : IsSound es n from new = subst (λ (m : ℕ). IsSound es m from new) whole (kept from before) in
-    subst (λ (r : List ℕ). IsRow es n from r) (sym (written len new (slice_set row from 0) (size ∙ whole ∙ sym len_is)))
+    let before : AreWalkCosts es (length now) from now = subst (λ (m : ℕ). AreWalkCosts es m from now) (sym whole) at_start in
+    let sound : AreWalkCosts es n from new = subst (λ (m : ℕ). AreWalkCosts es m from new) whole (kept from before) in
+    subst (λ (r : List ℕ). IsLeastRow es n from r) (sym (written len new (slice_set row from 0) (size ∙ whole ∙ sym len_is)))
     (is_row es n from new sound flat graph lt)

@@ -6,14 +6,14 @@ use Rattle.std.specs.Prelude.{slice_get, slice_index, slice_set}
 use Rattle.line_graph.specs.declared.edge.Edge.{Edge}
 use Rattle.odd_paths.specs.declared.sweeps.TheConstants.{FAR}
 use Rattle.odd_paths.proofs.PlaceLemmas.{cost_append, cost_one, walk_append, walk_one}
-use Rattle.odd_paths.specs.PlaceWalks.{AreWithin, Links, place_cost}
-use Rattle.odd_paths.specs.Sweeps.{IsCost, IsSound, is_lower, lowered, relaxed, swept}
+use Rattle.odd_paths.specs.EdgeWalks.{EndsAreBelow, Connects, edge_walk_cost}
+use Rattle.odd_paths.specs.Sweeps.{IsCost, AreWalkCosts, is_lower, lowered_row, relaxed, swept}
 
 -- one more edge at the end of a walk
-longer : (es : List Edge) (i j m d k : ℕ) (e : Edge) → IsCost es i j d → slice_get es k ≡ Some e → Links e j m
+longer : (es : List Edge) (i j m d k : ℕ) (e : Edge) → IsCost es i j d → slice_get es k ≡ Some e → Connects e j m
     → IsCost es i m (d + e.cost)
 longer es i j m d k e w got joins =
-    let costs : place_cost es (w.0 ++ k ∷ []) ≡ d + e.cost =
+    let costs : edge_walk_cost es (w.0 ++ k ∷ []) ≡ d + e.cost =
     omega (arith, cost_append es w.0 (k ∷ []), cost_one es k e got, w.2) in
     (w.0 ++ k ∷ [], walk_append es i j m w.0 (k ∷ []) w.1 (walk_one es j m k e got joins), costs)
 
@@ -44,9 +44,9 @@ walks_set es n from row b v lt w f j within near = elim (cases_eq j b) [
 ]
 
 -- one number is lowered
-lowered_one : (es : List Edge) (n from k a b : ℕ) (e : Edge) (row : List ℕ) → IsSound es n from row → slice_get es k ≡ Some e
-    → Links e a b → a < n → b < n → slice_index row a + e.cost < slice_index row b
-    → IsSound es n from (slice_set row b (slice_index row a + e.cost))
+lowered_one : (es : List Edge) (n from k a b : ℕ) (e : Edge) (row : List ℕ) → AreWalkCosts es n from row → slice_get es k ≡ Some e
+    → Connects e a b → a < n → b < n → slice_index row a + e.cost < slice_index row b
+    → AreWalkCosts es n from (slice_set row b (slice_index row a + e.cost))
 lowered_one es n from k a b e row s got joins in_a in_b less =
     let top = s.most b in
     let size = s.size in
@@ -64,29 +64,30 @@ lowered_one es n from k a b e row s got joins in_a in_b less =
     apart less start same = omega (arith, ap (λ (x : ℕ). slice_index row x) same)
 
 -- where a number is lowered along an edge
-lowered_sound : (es : List Edge) (n from k a b : ℕ) (e : Edge) (row : List ℕ) → IsSound es n from row → slice_get es k ≡ Some e
-    → Links e a b → a < n → b < n → IsSound es n from (lowered row a b e.cost)
+lowered_sound : (es : List Edge) (n from k a b : ℕ) (e : Edge) (row : List ℕ) → AreWalkCosts es n from row → slice_get es k ≡ Some e
+    → Connects e a b → a < n → b < n → AreWalkCosts es n from (lowered_row row a b e.cost)
 lowered_sound es n from k a b e row s got joins in_a in_b = elim (cases_Bool (is_lower row a b e.cost)) [
   | inl is ↦ rw is (lowered_one es n from k a b e row s got joins in_a in_b (ltb-true _ _ is))
   | inr isnt ↦ rw isnt s
 ]
 
-pub relaxed_sound : (es : List Edge) (n from k : ℕ) (e : Edge) (row : List ℕ) → IsSound es n from row → slice_get es k ≡ Some e
-    → e.a < n → e.b < n → IsSound es n from (relaxed row e)
+pub relaxed_sound : (es : List Edge) (n from k : ℕ) (e : Edge) (row : List ℕ) → AreWalkCosts es n from row → slice_get es k ≡ Some e
+    → e.a < n → e.b < n → AreWalkCosts es n from (relaxed row e)
 relaxed_sound es n from k e row s got in_a in_b =
     let forth = lowered_sound es n from k e.a e.b e row s got (inl (refl, refl)) in_a in_b in
-    lowered_sound es n from k e.b e.a e (lowered row e.a e.b e.cost) forth got (inr (refl, refl)) in_b in_a
+    lowered_sound es n from k e.b e.a e (lowered_row row e.a e.b e.cost) forth got (inr (refl, refl)) in_b in_a
 
 -- and along all edges
 swept_on : (es : List Edge) (n from : ℕ) (row : List ℕ) (ls : List Edge)
-    → ((e : Edge) (i : ℕ) → slice_get ls i ≡ Some e → (k : ℕ) × (slice_get es k ≡ Some e)) → AreWithin n ls
-    → IsSound es n from row → IsSound es n from (swept row ls)
+    → ((e : Edge) (i : ℕ) → slice_get ls i ≡ Some e → (k : ℕ) × (slice_get es k ≡ Some e)) → EndsAreBelow n ls
+    → AreWalkCosts es n from row → AreWalkCosts es n from (swept row ls)
 swept_on es n from row [] f ends s = s
 swept_on es n from row (e ∷ ls) f ends s =
     let p = f e 0 refl in
     swept_on es n from (relaxed row e) ls (λ x i h. f x (suc i) h) ends.2 (relaxed_sound es n from p.0 e row s p.1 ends.0 ends.1)
 
-pub swept_sound : (es : List Edge) (n from : ℕ) (row : List ℕ) → AreWithin n es → IsSound es n from row → IsSound es n from (swept row es)
+pub swept_sound : (es : List Edge) (n from : ℕ) (row : List ℕ) → EndsAreBelow n es → AreWalkCosts es n from row
+    → AreWalkCosts es n from (swept row es)
 swept_sound es n from row ends s = swept_on es n from row es (λ e i h. (i, h)) ends s
 
 -- the row with which a search begins
@@ -96,7 +97,7 @@ get_replicate n j v = elim (cases_lt j n) [
   | inr more ↦ omega (arith, get_or_past (replicate n v) j 0 (let h = length-replicate n v in omega arith))
 ]
 
-pub begun : (es : List Edge) (n from : ℕ) → from < n → IsSound es n from (slice_set (replicate n FAR) from 0)
+pub begun : (es : List Edge) (n from : ℕ) → from < n → AreWalkCosts es n from (slice_set (replicate n FAR) from 0)
 begun es n from lt =
     let size : length (replicate n FAR) ≡ n = length-replicate n FAR in
     let within : from < length (replicate n FAR) = omega arith in

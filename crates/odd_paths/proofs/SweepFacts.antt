@@ -2,10 +2,10 @@
 use Rattle.std.proofs.Common.{◌≡◌, ℕ, true, false, List, [], ◌∷◌, Some, None, refl}
 use Rattle.line_graph.specs.declared.edge.Edge.{Edge}
 use Rattle.odd_paths.specs.declared.sweeps.TheConstants.{FAR}
-use Rattle.odd_paths.specs.Lanes.{column, columns_of, lesser, weight}
-use Rattle.odd_paths.specs.LastEdges.{last_from}
-use Rattle.odd_paths.specs.PlaceWalks.{place_cost}
-use Rattle.odd_paths.specs.Sweeps.{changes, lowered, swept}
+use Rattle.odd_paths.specs.Lanes.{lane_column, terminal_columns, relaxed_cost, weight}
+use Rattle.odd_paths.specs.LastEdges.{last_edge_from}
+use Rattle.odd_paths.specs.EdgeWalks.{edge_walk_cost}
+use Rattle.odd_paths.specs.Sweeps.{changes, lowered_row, swept}
 
 abbrev edge : ℕ → ℕ → ℕ → Edge
 edge a b cost = record { a = a; b = b; cost = cost }
@@ -28,26 +28,26 @@ pub known_changes : (changes (0 ∷ 3 ∷ FAR ∷ []) back ≡ true) × (changes
 known_changes = (refl, refl)
 
 -- an equal cost lowers nothing
-pub known_lowered : (lowered (2 ∷ 9 ∷ []) 0 1 6 ≡ 2 ∷ 8 ∷ []) × (lowered (2 ∷ 9 ∷ []) 0 1 7 ≡ 2 ∷ 9 ∷ [])
+pub known_lowered : (lowered_row (2 ∷ 9 ∷ []) 0 1 6 ≡ 2 ∷ 8 ∷ []) × (lowered_row (2 ∷ 9 ∷ []) 0 1 7 ≡ 2 ∷ 9 ∷ [])
 known_lowered = (refl, refl)
 
 -- the last edge of a walk, and its other end; there is none for the terminal
-pub known_last : (last_from (0 ∷ 3 ∷ 8 ∷ []) 2 0 forth ≡ Some (1, 1)) × (last_from (0 ∷ 3 ∷ 8 ∷ []) 1 0 back ≡ Some (1, 0))
-    × (last_from (0 ∷ 3 ∷ 8 ∷ []) 0 0 back ≡ None)
+pub known_last : (last_edge_from (0 ∷ 3 ∷ 8 ∷ []) 2 0 forth ≡ Some (1, 1)) × (last_edge_from (0 ∷ 3 ∷ 8 ∷ []) 1 0 back ≡ Some (1, 0))
+    × (last_edge_from (0 ∷ 3 ∷ 8 ∷ []) 0 0 back ≡ None)
 known_last = (refl, refl, refl)
 
-pub known_place_cost : place_cost forth (1 ∷ 0 ∷ 1 ∷ []) ≡ 13
+pub known_place_cost : edge_walk_cost forth (1 ∷ 0 ∷ 1 ∷ []) ≡ 13
 known_place_cost = refl
 
 -- two lanes of three numbers
 abbrev lanes : List (List ℕ)
 lanes = (1 ∷ 2 ∷ 3 ∷ []) ∷ (4 ∷ 5 ∷ 6 ∷ []) ∷ []
 
-pub known_columns : (column 1 lanes ≡ 2 ∷ 5 ∷ []) × (columns_of lanes 1 (7 ∷ 9 ∷ []) ≡ (2 ∷ 5 ∷ []) ∷ (3 ∷ 6 ∷ []) ∷ [])
+pub known_columns : (lane_column 1 lanes ≡ 2 ∷ 5 ∷ []) × (terminal_columns lanes 1 (7 ∷ 9 ∷ []) ≡ (2 ∷ 5 ∷ []) ∷ (3 ∷ 6 ∷ []) ∷ [])
 known_columns = (refl, refl)
 
 pub known_weight : weight lanes ≡ 21
 known_weight = refl
 
-pub known_lesser : (lesser (1 ∷ 4 ∷ []) (6 ∷ 9 ∷ []) 4 0 ≡ 5) × (lesser (1 ∷ 4 ∷ []) (6 ∷ 7 ∷ []) 4 1 ≡ 7)
+pub known_lesser : (relaxed_cost (1 ∷ 4 ∷ []) (6 ∷ 9 ∷ []) 4 0 ≡ 5) × (relaxed_cost (1 ∷ 4 ∷ []) (6 ∷ 7 ∷ []) 4 1 ≡ 7)
 known_lesser = (refl, refl)

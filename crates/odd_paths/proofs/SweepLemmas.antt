@@ -3,28 +3,28 @@ use Rattle.std.proofs.Common.{◌≡◌, ℕ, ◌+◌, ◌≤◌, List, [], ◌�
 use Rattle.std.proofs.lemmas.Bool.{both_ways, ltb-false}
 use Rattle.std.specs.Prelude.{slice_get, slice_index, ◌||◌}
 use Rattle.line_graph.specs.declared.edge.Edge.{Edge}
-use Rattle.line_graph.specs.PieceWalks.{cost_of, of_edge}
+use Rattle.line_graph.specs.PieceWalks.{edge_cost, edge_value}
 use Rattle.odd_paths.proofs.PlaceLemmas.{none_is, some_is}
-use Rattle.odd_paths.specs.PlaceWalks.{Links, IsPlaceWalk, place_cost}
-use Rattle.odd_paths.specs.Sweeps.{IsFlat, IsSettled, is_lower, lowered, relaxes, relaxed, changes, swept}
+use Rattle.odd_paths.specs.EdgeWalks.{Connects, IsEdgeWalk, edge_walk_cost}
+use Rattle.odd_paths.specs.Sweeps.{IsRelaxedAt, IsFullyRelaxed, is_lower, lowered_row, relaxes, relaxed, changes, swept}
 
 or_false : (x y : Bool) → (x || y) ≡ false → (x ≡ false) × (y ≡ false)
 or_false false y h = (refl, h)
 or_false true y h = absurd (both_ways true h refl)
 
-not_lowered : (row : List ℕ) (a b c : ℕ) → is_lower row a b c ≡ false → lowered row a b c ≡ row
+not_lowered : (row : List ℕ) (a b c : ℕ) → is_lower row a b c ≡ false → lowered_row row a b c ≡ row
 not_lowered row a b c h = rw h refl
 
-not_relaxed : (row : List ℕ) (e : Edge) → relaxes row e ≡ false → (relaxed row e ≡ row) × IsFlat row e
+not_relaxed : (row : List ℕ) (e : Edge) → relaxes row e ≡ false → (relaxed row e ≡ row) × IsRelaxedAt row e
 not_relaxed row e h =
     let p = or_false _ _ h in
-    let one : lowered row e.a e.b e.cost ≡ row = not_lowered row e.a e.b e.cost p.0 in
+    let one : lowered_row row e.a e.b e.cost ≡ row = not_lowered row e.a e.b e.cost p.0 in
     let second : is_lower row e.b e.a e.cost ≡ false = subst (λ (r : List ℕ). is_lower r e.b e.a e.cost ≡ false) one p.1 in (
-      ap (λ (r : List ℕ). lowered r e.b e.a e.cost) one ∙ not_lowered row e.b e.a e.cost second,
+      ap (λ (r : List ℕ). lowered_row r e.b e.a e.cost) one ∙ not_lowered row e.b e.a e.cost second,
       record { forth = ltb-false _ _ p.0; back = ltb-false _ _ second },
     )
 
-pub settled : (row : List ℕ) (es : List Edge) → changes row es ≡ false → (swept row es ≡ row) × IsSettled row es
+pub settled : (row : List ℕ) (es : List Edge) → changes row es ≡ false → (swept row es ≡ row) × IsFullyRelaxed row es
 settled row [] h = (refl, tt)
 settled row (e ∷ es) h =
     let p = or_false _ _ h in
@@ -33,20 +33,20 @@ settled row (e ∷ es) h =
     let more = settled row es rest in
     (ap (λ (r : List ℕ). swept r es) one.0 ∙ more.0, (one.1, more.1))
 
-pub flat_at : (row : List ℕ) (es : List Edge) (k : ℕ) (e : Edge) → IsSettled row es → slice_get es k ≡ Some e → IsFlat row e
+pub flat_at : (row : List ℕ) (es : List Edge) (k : ℕ) (e : Edge) → IsFullyRelaxed row es → slice_get es k ≡ Some e → IsRelaxedAt row e
 flat_at row [] k e s got = absurd (none_is e got)
-flat_at row (x ∷ xs) zero e s got = subst (λ (z : Edge). IsFlat row z) (some_is x e got) s.0
+flat_at row (x ∷ xs) zero e s got = subst (λ (z : Edge). IsRelaxedAt row z) (some_is x e got) s.0
 flat_at row (x ∷ xs) (suc k) e s got = flat_at row xs k e s.1 got
 
-pub flat_join : (row : List ℕ) (e : Edge) (i m : ℕ) → IsFlat row e → Links e i m → slice_index row m ≤ slice_index row i + e.cost
+pub flat_join : (row : List ℕ) (e : Edge) (i m : ℕ) → IsRelaxedAt row e → Connects e i m → slice_index row m ≤ slice_index row i + e.cost
 flat_join row e i m f (inl p) = rw (← p.0, ← p.1) f.forth
 flat_join row e i m f (inr p) = rw (← p.0, ← p.1) f.back
 
-pub no_less : (row : List ℕ) (es : List Edge) (i j : ℕ) (ks : List ℕ) → IsSettled row es → IsPlaceWalk es i j ks
-    → slice_index row j ≤ slice_index row i + place_cost es ks
+pub no_less : (row : List ℕ) (es : List Edge) (i j : ℕ) (ks : List ℕ) → IsFullyRelaxed row es → IsEdgeWalk es i j ks
+    → slice_index row j ≤ slice_index row i + edge_walk_cost es ks
 no_less row es i j [] s w = omega (arith, ap (λ (x : ℕ). slice_index row x) w)
 no_less row es i j (k ∷ ks) s w =
     let here : slice_index row w.1 ≤ slice_index row i + w.0.cost = flat_join row w.0 i w.1 (flat_at row es k w.0 s w.2) w.3 in
     let more = no_less row es w.1 j ks s w.4 in
-    let cost : of_edge cost_of (slice_get es k) ≡ w.0.cost = ap (of_edge cost_of) w.2 in
+    let cost : edge_value edge_cost (slice_get es k) ≡ w.0.cost = ap (edge_value edge_cost) w.2 in
     omega arith

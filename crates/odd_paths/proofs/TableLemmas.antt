@@ -7,18 +7,18 @@ use Rattle.std.proofs.lemmas.List.Elements.{All-cons, All-nil}
 use Rattle.std.proofs.lemmas.Option.{slice_get_within}
 use Rattle.std.specs.Prelude.{◌&&◌, Option, nat_lt, slice_get, slice_index}
 use Rattle.line_graph.specs.declared.edge.Edge.{Edge}
-use Rattle.line_graph.specs.KeptPieces.{KeepsPiece, ends_below}
+use Rattle.line_graph.specs.ValidPieces.{IsValidPiece, ends_below}
 use Rattle.line_graph.specs.PieceGraphs.{PieceValue}
 use Rattle.line_graph.specs.PieceWalks.{piece_cost}
 use Rattle.odd_paths.proofs.PassLemmas.{over_passes, over_places, to_passes}
 use Rattle.odd_paths.proofs.PlaceLemmas.{none_is, some_is, still_within}
-use Rattle.odd_paths.specs.LastEdges.{AreLeast, IsRowFrom}
+use Rattle.odd_paths.specs.LastEdges.{IsLeastEdgeWalk, IsRowFrom}
 use Rattle.odd_paths.specs.LeastRows.{AreRows, AreTerminals, IsLeastCost, IsPath, RowsValue, cost_at, cost_in, terminal_of}
 use Rattle.odd_paths.specs.Lanes.{AddsRows, lists_of}
-use Rattle.odd_paths.specs.PlaceWalks.{AreWithin, HaveRows, IsGraph, IsRow}
+use Rattle.odd_paths.specs.EdgeWalks.{EndsAreBelow, AreLeastRows, IsGraph, IsLeastRow}
 
 -- the ends of the edges of a piece
-within : (n : ℕ) (es : List Edge) → ends_below n es ≡ true → AreWithin n es
+within : (n : ℕ) (es : List Edge) → ends_below n es ≡ true → EndsAreBelow n es
 within n [] below = tt
 within n (e ∷ es) below =
     let both = and_parts (nat_lt e.a n && nat_lt e.b n) (ends_below n es) below in
@@ -28,7 +28,7 @@ within n (e ∷ es) below =
     (a_there, b_there, within n es both.1)
 
 -- a piece is a graph
-pub is_graph : (p : PieceValue) → KeepsPiece p → IsGraph p.edges (length p.junctions)
+pub is_graph : (p : PieceValue) → IsValidPiece p → IsGraph p.edges (length p.junctions)
 is_graph p keeps = record {
   ends = within (length p.junctions) p.edges keeps.ends;
   joined = keeps.joined;
@@ -37,38 +37,38 @@ is_graph p keeps = record {
 }
 
 -- the rows of some terminals and of those that follow
-rows_append : (es : List Edge) (n : ℕ) (ts us : List ℕ) (rows more : List (List ℕ)) → HaveRows es n ts rows
-    → HaveRows es n us more → HaveRows es n (ts ++ us) (rows ++ more)
+rows_append : (es : List Edge) (n : ℕ) (ts us : List ℕ) (rows more : List (List ℕ)) → AreLeastRows es n ts rows
+    → AreLeastRows es n us more → AreLeastRows es n (ts ++ us) (rows ++ more)
 rows_append es n [] us [] more all others = others
 rows_append es n [] us (r ∷ rows) more all others = absurd all
 rows_append es n (t ∷ ts) us [] more all others = absurd all
 rows_append es n (t ∷ ts) us (r ∷ rows) more all others = (all.0, rows_append es n ts us rows more all.1 others)
 
 pub goes_on : (es : List Edge) (n : ℕ) (all block after rest : List ℕ) (old new : List (Vec ℕ Global)) → AddsRows es n block old new
-    → rest ≡ block ++ after → ((more : List (List ℕ)) → HaveRows es n rest more → HaveRows es n all (lists_of old ++ more))
-    → (more : List (List ℕ)) → HaveRows es n after more → HaveRows es n all (lists_of new ++ more)
+    → rest ≡ block ++ after → ((more : List (List ℕ)) → AreLeastRows es n rest more → AreLeastRows es n all (lists_of old ++ more))
+    → (more : List (List ℕ)) → AreLeastRows es n after more → AreLeastRows es n all (lists_of new ++ more)
 goes_on es n all block after rest old new added whole before more later =
-    let others : HaveRows es n rest (added.more ++ more) =
+    let others : AreLeastRows es n rest (added.more ++ more) =
     rw whole (rows_append es n block after added.more more added.rows later) in
-    let Have : List (List ℕ) → Type 0 = λ rows. HaveRows es n all rows in
+    let Have : List (List ℕ) → Type 0 = λ rows. AreLeastRows es n all rows in
     rw added.is (subst Have (sym (append_assoc (lists_of old) added.more more)) (before (added.more ++ more) others))
 
 -- and where none follow, these are all
 pub none_left : (es : List Edge) (n : ℕ) (all rest : List ℕ) (rows : List (List ℕ)) → (length rest == 0) ≡ true
-    → ((more : List (List ℕ)) → HaveRows es n rest more → HaveRows es n all (rows ++ more)) → HaveRows es n all rows
+    → ((more : List (List ℕ)) → AreLeastRows es n rest more → AreLeastRows es n all (rows ++ more)) → AreLeastRows es n all rows
 none_left es n all [] rows none before =
-    let Have : List (List ℕ) → Type 0 = λ list. HaveRows es n all list in
+    let Have : List (List ℕ) → Type 0 = λ list. AreLeastRows es n all list in
     subst Have (append-nil rows) (before [] tt)
 none_left es n all (t ∷ rest) rows none before = absurd (grind (arith, nat_tests, none))
 
 -- the rows of a table are those of a piece
-sized : (es : List Edge) (n : ℕ) (ts : List ℕ) (rows : List (List ℕ)) → HaveRows es n ts rows → length rows ≡ length ts
+sized : (es : List Edge) (n : ℕ) (ts : List ℕ) (rows : List (List ℕ)) → AreLeastRows es n ts rows → length rows ≡ length ts
 sized es n [] [] all = refl
 sized es n [] (r ∷ rows) all = absurd all
 sized es n (s ∷ ts) [] all = absurd all
 sized es n (s ∷ ts) (r ∷ rows) all = omega (arith, sized es n ts rows all.1)
 
-wide : (es : List Edge) (n : ℕ) (ts : List ℕ) (rows : List (List ℕ)) → HaveRows es n ts rows
+wide : (es : List Edge) (n : ℕ) (ts : List ℕ) (rows : List (List ℕ)) → AreLeastRows es n ts rows
     → All (λ (row : List ℕ). length row ≡ n) rows
 wide es n [] [] all = All-nil (λ (row : List ℕ). length row ≡ n)
 wide es n [] (r ∷ rows) all = absurd all
@@ -76,15 +76,15 @@ wide es n (s ∷ ts) [] all = absurd all
 wide es n (s ∷ ts) (r ∷ rows) all = All-cons (λ (row : List ℕ). length row ≡ n) r rows all.0.size (wide es n ts rows all.1)
 
 -- the row with that index
-row_at : (es : List Edge) (n t : ℕ) (ts : List ℕ) (rows : List (List ℕ)) → HaveRows es n ts rows → t < length ts
-    → (row : List ℕ) × (slice_get rows t ≡ Some row) × IsRow es n (slice_index ts t) row
+row_at : (es : List Edge) (n t : ℕ) (ts : List ℕ) (rows : List (List ℕ)) → AreLeastRows es n ts rows → t < length ts
+    → (row : List ℕ) × (slice_get rows t ≡ Some row) × IsLeastRow es n (slice_index ts t) row
 row_at es n t [] rows all there = absurd (omega arith)
 row_at es n t (s ∷ ts) [] all there = absurd all
 row_at es n zero (s ∷ ts) (r ∷ rows) all there = (r, refl, all.0)
 row_at es n (suc t) (s ∷ ts) (r ∷ rows) all there = row_at es n t ts rows all.1 (omega arith)
 
-pub are_rows : (p : PieceValue) (rows : RowsValue) → KeepsPiece p → AreTerminals p rows.terminals
-    → HaveRows p.edges (length p.junctions) rows.terminals rows.table → AreRows p rows
+pub are_rows : (p : PieceValue) (rows : RowsValue) → IsValidPiece p → AreTerminals p rows.terminals
+    → AreLeastRows p.edges (length p.junctions) rows.terminals rows.table → AreRows p rows
 are_rows p rows keeps terminals all = record {
   terminals = terminals;
   sized = sized p.edges (length p.junctions) rows.terminals rows.table all;
@@ -108,8 +108,8 @@ row_of n t rows row all got = let within = slice_get_within rows t row got in
     get_or_is (r ∷ rows) zero row got = some_is r row got
     get_or_is (r ∷ rows) (suc t) row got = get_or_is rows t row got
 
-pub is_a_row : (p : PieceValue) (rows : RowsValue) (t : ℕ) (row : List ℕ) → KeepsPiece p → AreRows p rows
-    → t < length rows.terminals → slice_get rows.table t ≡ Some row → IsRow p.edges (length p.junctions) (terminal_of rows t) row
+pub is_a_row : (p : PieceValue) (rows : RowsValue) (t : ℕ) (row : List ℕ) → IsValidPiece p → AreRows p rows
+    → t < length rows.terminals → slice_get rows.table t ≡ Some row → IsLeastRow p.edges (length p.junctions) (terminal_of rows t) row
 is_a_row p rows t row keeps all there got = record {
   size = row_of (length p.junctions) t rows.table row all.wide got;
   least = λ j in_j. over_places p keeps (terminal_of rows t) j (slice_index row j)
@@ -119,14 +119,14 @@ is_a_row p rows t row keeps all there got = record {
 }
 
 -- likewise for the argument of a call
-pub is_this_row : (p : PieceValue) (rows : RowsValue) (t : ℕ) (row : List ℕ) (es : List Edge) (from : ℕ) → KeepsPiece p → AreRows p rows
+pub is_this_row : (p : PieceValue) (rows : RowsValue) (t : ℕ) (row : List ℕ) (es : List Edge) (from : ℕ) → IsValidPiece p → AreRows p rows
     → t < length rows.terminals → slice_get rows.table t ≡ Some row → es ≡ p.edges → from ≡ terminal_of rows t
     → IsRowFrom es from row
 is_this_row p rows t row es from keeps all there got edges terminal =
     let is = is_a_row p rows t row keeps all there got in
     let size : length p.junctions ≡ length row = sym is.size in
     let this : IsRowFrom p.edges (terminal_of rows t) row = record {
-      least = subst (λ (n : ℕ). IsRow p.edges n (terminal_of rows t) row) size is;
+      least = subst (λ (n : ℕ). IsLeastRow p.edges n (terminal_of rows t) row) size is;
       ends = still_within p.edges (length p.junctions) (length row) size (within (length p.junctions) p.edges keeps.ends);
       costs = keeps.costs;
       few = omega (arith, keeps.few, keeps.beside);
@@ -139,8 +139,8 @@ pub is_wide : (p : PieceValue) (rows : RowsValue) (t : ℕ) (row : List ℕ) →
 is_wide p rows t row all got = row_of (length p.junctions) t rows.table row all.wide got
 
 -- the indexes of edges that lead there, at the cost in the row, are a path
-pub is_path : (p : PieceValue) (rows : RowsValue) (t j : ℕ) (row places : List ℕ) → KeepsPiece p → slice_get rows.table t ≡ Some row
-    → AreLeast p.edges row (terminal_of rows t) j places → IsPath p (terminal_of rows t) j (cost_at rows t j) places
+pub is_path : (p : PieceValue) (rows : RowsValue) (t j : ℕ) (row places : List ℕ) → IsValidPiece p → slice_get rows.table t ≡ Some row
+    → IsLeastEdgeWalk p.edges row (terminal_of rows t) j places → IsPath p (terminal_of rows t) j (cost_at rows t j) places
 is_path p rows t j row places keeps got least =
     let passes = to_passes p.lines p.edges (terminal_of rows t) j places keeps.rising keeps.beside least.walk in
     record {

@@ -2,19 +2,19 @@
 use Rattle.std.specs.Prelude.{◌≡◌, ◌≢◌, ℕ, ◌<◌, ◌≤◌, List, Option, Some, None, length, map, get_or, slice_get, slice_index, All, AllPairs}
 use Rattle.line_graph.specs.declared.pass.Pass.{Pass}
 use Rattle.line_graph.specs.PieceGraphs.{PieceValue}
-use Rattle.line_graph.specs.PieceWalks.{piece_cost, walk_cost, walk_on}
+use Rattle.line_graph.specs.PieceWalks.{piece_cost, walk_cost, walk_end_from}
 
 -- A walk leads from junction i to junction j.
-abbrev pub LeadsFrom : PieceValue → ℕ → ℕ → List Pass → Type 0
-LeadsFrom p i j walk = walk_on p.lines p.edges (Some i) walk ≡ Some j
+abbrev pub WalkLeads : PieceValue → ℕ → ℕ → List Pass → Type 0
+WalkLeads p i j walk = walk_end_from p.lines p.edges (Some i) walk ≡ Some j
 
 -- The least cost of a walk from junction i to junction j. The empty walk leads from each junction
 -- to itself.
 pub record IsLeastCost (p : PieceValue) (i j cost : ℕ) : Type 0 where
   pub walk : List Pass
-  pub leads : LeadsFrom p i j walk
+  pub leads : WalkLeads p i j walk
   pub costs : walk_cost p walk ≡ cost
-  pub least : (other : List Pass) → LeadsFrom p i j other → cost ≤ walk_cost p other
+  pub least : (other : List Pass) → WalkLeads p i j other → cost ≤ walk_cost p other
 
 -- Rows of least costs: the terminals, and for each a row with a number for each junction.
 pub record RowsValue : Type 0 where
@@ -60,14 +60,14 @@ pub record AreRows (p : PieceValue) (rows : RowsValue) : Type 0 where
       → cost_at rows t j ≤ piece_cost p
 
 -- The lines of a piece at the given indexes.
-abbrev pub lines_at : PieceValue → List ℕ → List ℕ
-lines_at p places = map (λ k. get_or p.lines k 0) places
+abbrev pub lines_at_indexes : PieceValue → List ℕ → List ℕ
+lines_at_indexes p places = map (λ k. get_or p.lines k 0) places
 
 -- The indexes of the lines of a walk of the given cost from junction i to junction j, in the order
 -- of the walk.
 pub record IsPath (p : PieceValue) (i j cost : ℕ) (places : List ℕ) : Type 0 where
   pub there : All (λ k. k < length p.lines) places
   pub walk : List Pass
-  pub leads : LeadsFrom p i j walk
-  pub along : map (λ (pass : Pass). pass.line) walk ≡ lines_at p places
+  pub leads : WalkLeads p i j walk
+  pub along : map (λ (pass : Pass). pass.line) walk ≡ lines_at_indexes p places
   pub costs : walk_cost p walk ≡ cost

@@ -1,9 +1,9 @@
 pub mod OddJunctions
 -- Read this one first: least costs between the junctions of a piece.
 pub mod LeastRows
-pub mod CostLaws
+pub mod CostTheorems
 pub mod ClosedDegrees
-pub mod PlaceWalks
+pub mod EdgeWalks
 pub mod Sweeps
 pub mod LastEdges
 pub mod Lanes

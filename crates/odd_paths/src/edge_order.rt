@@ -1,19 +1,19 @@
 ghost use Rattle.std.specs.Prelude.{◌≡◌, ◌<◌, ◌≤◌, IfOk, length};
 ghost use Rattle.line_graph.specs.declared.limits.TheConstants.{MAX_LINES};
-ghost use Rattle.odd_paths.specs.declared.edge_order.TheConstants.{PLACES};
-ghost use Rattle.odd_paths.specs.PlaceWalks.{AreWithin};
+ghost use Rattle.odd_paths.specs.declared.edge_order.TheConstants.{INDEXES};
+ghost use Rattle.odd_paths.specs.EdgeWalks.{EndsAreBelow};
 
 use design_model::Memory;
 use line_graph::Edge;
 use std::alloc::Global;
 
 /// A number above all indexes of edges.
-const PLACES: u64 = 2_048;
+const INDEXES: u64 = 2_048;
 
 /// Returns the edges ordered by the distance of their ends in a row, nearest first. Each number holds the
 /// index of an edge. The only error is out of memory.
 pub fn order_by(alloc: Global, edges: &[Edge], row: &[u32]) -> Result<Vec<u64>, Memory>
-    requires ends { AreWithin (length row.now) edges.now }
+    requires ends { EndsAreBelow (length row.now) edges.now }
     requires few { length edges.now ≤ MAX_LINES }
     ensures { IfOk result (λ order. length order.items ≡ length edges.now) }
 {
@@ -24,7 +24,7 @@ pub fn order_by(alloc: Global, edges: &[Edge], row: &[u32]) -> Result<Vec<u64>, 
 
 /// Returns a sort key for each edge: the distance of its ends, then its index.
 fn keys(alloc: Global, edges: &[Edge], row: &[u32]) -> Result<Vec<u64>, Memory>
-    requires ends { AreWithin (length row.now) edges.now }
+    requires ends { EndsAreBelow (length row.now) edges.now }
     requires few { length edges.now ≤ MAX_LINES }
     ensures { IfOk result (λ keys. length keys.items ≡ length edges.now) }
 {
@@ -33,7 +33,7 @@ fn keys(alloc: Global, edges: &[Edge], row: &[u32]) -> Result<Vec<u64>, Memory>
     let mut rest = edges;
     while let [e, after @ ..] = rest {
         let far = row[e.a as usize] as u64 + row[e.b as usize] as u64;
-        keys.push(far * PLACES + place)?;
+        keys.push(far * INDEXES + place)?;
         place += 1;
         rest = after;
     }
@@ -41,8 +41,8 @@ fn keys(alloc: Global, edges: &[Edge], row: &[u32]) -> Result<Vec<u64>, Memory>
 }
 
 /// Returns the index of the edge that a sort key holds.
-pub fn place_in(key: u64) -> usize
-    ensures { result < PLACES }
+pub fn index_in(key: u64) -> usize
+    ensures { result < INDEXES }
 {
-    (key % PLACES) as usize
+    (key % INDEXES) as usize
 }

@@ -1,9 +1,9 @@
 ghost use Rattle.std.specs.Prelude.{◌≡◌, ◌+◌, ◌<◌, ◌≤◌, ◌||◌, false, length, slice_index, sum};
 ghost use Rattle.line_graph.specs.declared.limits.TheConstants.{MAX_COST};
-ghost use Rattle.line_graph.specs.PieceGraphs.{bit};
+ghost use Rattle.line_graph.specs.PieceGraphs.{one_if};
 ghost use Rattle.odd_paths.specs.declared.sweeps.TheConstants.{FAR};
-ghost use Rattle.odd_paths.specs.Lanes.{EachLane, IsCapped, IsNoLower, Suits, column, lesser, weight};
-ghost use Rattle.odd_paths.specs.Sweeps.{changes, is_lower, lowered, relaxed, relaxes, swept};
+ghost use Rattle.odd_paths.specs.Lanes.{EachLane, IsCapped, IsNoLower, CanRelax, lane_column, relaxed_cost, weight};
+ghost use Rattle.odd_paths.specs.Sweeps.{changes, is_lower, lowered_row, relaxed, relaxes, swept};
 
 use line_graph::Edge;
 
@@ -12,11 +12,11 @@ pub const LANES: usize = 16;
 
 /// Relaxes all edges in order, and returns whether a number was lowered.
 pub fn sweep(table: &mut [[u32; LANES]], edges: &[Edge]) -> bool
-    requires { Suits edges.now table.old }
-    ensures value { EachLane (λ i. column i table.new ≡ swept (column i table.old) edges.now) }
-    ensures told { result ≡ false → EachLane (λ i. changes (column i table.old) edges.now ≡ false) }
+    requires { CanRelax edges.now table.old }
+    ensures value { EachLane (λ i. lane_column i table.new ≡ swept (lane_column i table.old) edges.now) }
+    ensures told { result ≡ false → EachLane (λ i. changes (lane_column i table.old) edges.now ≡ false) }
     ensures capped { IsCapped table.new }
-    ensures weight { weight table.new + bit result ≤ weight table.old }
+    ensures weight { weight table.new + one_if result ≤ weight table.old }
 {
     let mut changed = false;
     let mut rest = edges;
@@ -34,10 +34,10 @@ pub fn relax(table: &mut [[u32; LANES]], e: Edge) -> bool
     requires b { e.b < length table.old }
     requires cost { e.cost ≤ MAX_COST }
     requires capped { IsCapped table.old }
-    ensures value { EachLane (λ i. column i table.new ≡ relaxed (column i table.old) e) }
-    ensures told { result ≡ false → EachLane (λ i. relaxes (column i table.old) e ≡ false) }
+    ensures value { EachLane (λ i. lane_column i table.new ≡ relaxed (lane_column i table.old) e) }
+    ensures told { result ≡ false → EachLane (λ i. relaxes (lane_column i table.old) e ≡ false) }
     ensures capped { IsCapped table.new }
-    ensures weight { weight table.new + bit result ≤ weight table.old }
+    ensures weight { weight table.new + one_if result ≤ weight table.old }
 {
     let forth = lower(table, e.a, e.b, e.cost);
     let back = lower(table, e.b, e.a, e.cost);
@@ -57,10 +57,11 @@ fn lower(table: &mut [[u32; LANES]], a: u32, b: u32, cost: u32) -> bool
     requires b { b < length table.old }
     requires cost { cost ≤ MAX_COST }
     requires capped { IsCapped table.old }
-    ensures value { EachLane (λ i. column i table.new ≡ lowered (column i table.old) a b cost) }
-    ensures told { result ≡ false → EachLane (λ i. is_lower (column i table.old) a b cost ≡ false) }
+    ensures value { EachLane (λ i. lane_column i table.new
+        ≡ lowered_row (lane_column i table.old) a b cost) }
+    ensures told { result ≡ false → EachLane (λ i. is_lower (lane_column i table.old) a b cost ≡ false) }
     ensures capped { IsCapped table.new }
-    ensures weight { weight table.new + bit result ≤ weight table.old }
+    ensures weight { weight table.new + one_if result ≤ weight table.old }
 {
     let near = table[a as usize];
     lower_lane(&mut table[b as usize], near, cost)
@@ -70,9 +71,9 @@ fn lower(table: &mut [[u32; LANES]], a: u32, b: u32, cost: u32) -> bool
 fn lower_lane(lane: &mut [u32; LANES], near: [u32; LANES], cost: u32) -> bool
     requires capped { EachLane (λ i. slice_index near i ≤ FAR) }
     requires cost { cost ≤ MAX_COST }
-    ensures value { EachLane (λ i. slice_index lane.new i ≡ lesser near lane.old cost i) }
+    ensures value { EachLane (λ i. slice_index lane.new i ≡ relaxed_cost near lane.old cost i) }
     ensures told { result ≡ false → EachLane (λ i. IsNoLower near lane.old cost i) }
-    ensures weight { sum lane.new + bit result ≤ sum lane.old }
+    ensures weight { sum lane.new + one_if result ≤ sum lane.old }
 {
     let mut changed = false;
     for i in 0..LANES {

@@ -1,8 +1,8 @@
 ghost use Rattle.std.specs.Prelude.{◌≡◌, ◌<◌, ◌≤◌, All, IfOk, length};
-ghost use Rattle.line_graph.specs.CutPieces.{graph_of};
+ghost use Rattle.line_graph.specs.PiecesOfDrawings.{graph_of};
 ghost use Rattle.odd_paths.specs.LeastRows.{AreRows, AreTerminals};
 ghost use Rattle.odd_paths.specs.Lanes.{lists_of};
-ghost use Rattle.odd_paths.specs.PlaceWalks.{HaveRows, IsGraph};
+ghost use Rattle.odd_paths.specs.EdgeWalks.{AreLeastRows, IsGraph};
 
 use crate::edge_order::order_by;
 use crate::lanes::LANES;
@@ -34,7 +34,7 @@ fn table_of(
 ) -> Result<Vec<Vec<u32>>, Memory>
     requires graph { IsGraph edges.now n }
     requires there { All (λ t. t < n) terminals.now }
-    ensures { IfOk result (λ table. HaveRows edges.now n terminals.now (lists_of table.items)) }
+    ensures { IfOk result (λ table. AreLeastRows edges.now n terminals.now (lists_of table.items)) }
 {
     let mut table = Vec::new(alloc);
     let mut order = first_order(alloc, edges, n, terminals)?;

@@ -1,7 +1,7 @@
 //! The odd junctions of a piece, least costs between its junctions, and walks of least cost.
 #![tactic(auto)]
 
-mod cost_laws;
+mod cost_theorems;
 mod edge_order;
 mod lanes;
 mod least_rows;
@@ -13,7 +13,7 @@ mod sweeps;
 mod terminal_blocks;
 mod walk_back;
 
-pub use cost_laws::least_costs_are_distances;
+pub use cost_theorems::least_costs_are_distances;
 pub use least_rows::rows;
 pub use odd_junctions::{is_odd_at, odd, odds_are_even};
 pub use row_table::Rows;

@@ -1,8 +1,8 @@
 ghost use Rattle.std.specs.Prelude.{◌≡◌, ◌+◌, ◌++◌, ◌≤◌, IfOk, OnOk, length};
 ghost use Rattle.line_graph.specs.declared.limits.TheConstants.{MAX_LINES};
-ghost use Rattle.line_graph.specs.CutPieces.{graph_of};
-ghost use Rattle.line_graph.specs.PieceGraphs.{bit as bit_of, is_odd, odd_junctions};
-ghost use Rattle.odd_paths.specs.ClosedDegrees.{back_ends as ends_back, odds_from, only_if};
+ghost use Rattle.line_graph.specs.PiecesOfDrawings.{graph_of};
+ghost use Rattle.line_graph.specs.PieceGraphs.{one_if, is_odd, odd_junctions};
+ghost use Rattle.odd_paths.specs.ClosedDegrees.{closing_ends, odds_from, singleton_if};
 ghost use Rattle.odd_paths.specs.OddJunctions.{OddsAreEven};
 
 use design_model::{Memory, Numbers};
@@ -44,7 +44,7 @@ fn odds_in(
 
 /// Appends a junction where it is odd.
 fn push_odd(odds: &mut Numbers, at: u32, is_odd: bool) -> Result<(), Memory>
-    ensures { OnOk result (odds.new ≡ odds.old ++ only_if is_odd at) }
+    ensures { OnOk result (odds.new ≡ odds.old ++ singleton_if is_odd at) }
 {
     if is_odd {
         odds.push(at)?;
@@ -55,14 +55,14 @@ fn push_odd(odds: &mut Numbers, at: u32, is_odd: bool) -> Result<(), Memory>
 /// Returns whether the junction at an index is odd, given its degree, where a closing line leads from `to` to
 /// `from`.
 pub fn is_odd_at(at: u32, degree: u32, from: Option<u32>, to: Option<u32>) -> bool
-    ensures { result ≡ is_odd (ends_back from to at + degree) }
+    ensures { result ≡ is_odd (closing_ends from to at + degree) }
 {
     (back_ends(at, from, to) + degree % 2) % 2 == 1
 }
 
 /// Returns the number of ends of the closing line at a junction.
 fn back_ends(at: u32, from: Option<u32>, to: Option<u32>) -> u32
-    ensures value { result ≡ ends_back from to at }
+    ensures value { result ≡ closing_ends from to at }
     ensures most { result ≤ 2 }
 {
     match from {
@@ -76,7 +76,7 @@ fn back_ends(at: u32, from: Option<u32>, to: Option<u32>) -> u32
 
 /// Returns 1 for true and 0 for false.
 fn bit(is: bool) -> u32
-    ensures value { result ≡ bit_of is }
+    ensures value { result ≡ one_if is }
     ensures most { result ≤ 1 }
 {
     if is { 1 } else { 0 }

@@ -1,5 +1,5 @@
 ghost use Rattle.std.specs.Prelude.{◌<◌, IfOk};
-ghost use Rattle.odd_paths.specs.PlaceWalks.{IsGraph, IsRow};
+ghost use Rattle.odd_paths.specs.EdgeWalks.{IsGraph, IsLeastRow};
 
 use crate::sweeps::{FAR, settle};
 use design_model::Memory;
@@ -10,7 +10,7 @@ use std::alloc::Global;
 pub fn least_row(alloc: Global, edges: &[Edge], n: usize, from: u32) -> Result<Vec<u32>, Memory>
     requires graph { IsGraph edges.now n }
     requires from { from < n }
-    ensures { IfOk result (λ row. IsRow edges.now n from row.items) }
+    ensures { IfOk result (λ row. IsLeastRow edges.now n from row.items) }
 {
     let mut row = vec![in alloc; FAR; n]?;
     row[from as usize] = 0;

@@ -1,6 +1,6 @@
 ghost use Rattle.std.specs.Prelude.{◌≡◌, ◌<◌, length};
-ghost use Rattle.odd_paths.specs.PlaceWalks.{AreWithin};
-ghost use Rattle.odd_paths.specs.Sweeps.{IsSettled, StaysSound, changes, is_lower, lowered, relaxed, relaxes, swept};
+ghost use Rattle.odd_paths.specs.EdgeWalks.{EndsAreBelow};
+ghost use Rattle.odd_paths.specs.Sweeps.{IsFullyRelaxed, KeepsWalkCosts, changes, is_lower, lowered_row, relaxed, relaxes, swept};
 
 use line_graph::Edge;
 
@@ -9,9 +9,9 @@ pub const FAR: u32 = 2_147_483_648;
 
 /// Relaxes all edges in order until nothing changes.
 pub fn settle(row: &mut [u32], edges: &[Edge])
-    requires { AreWithin (length row.old) edges.now }
-    ensures sound { StaysSound edges.now row.old row.new }
-    ensures settled { IsSettled row.new edges.now }
+    requires { EndsAreBelow (length row.old) edges.now }
+    ensures sound { KeepsWalkCosts edges.now row.old row.new }
+    ensures settled { IsFullyRelaxed row.new edges.now }
 {
     loop {
         if !sweep(row, edges) {
@@ -22,7 +22,7 @@ pub fn settle(row: &mut [u32], edges: &[Edge])
 
 /// Relaxes all edges in order, and returns whether a number was lowered.
 fn sweep(row: &mut [u32], edges: &[Edge]) -> bool
-    requires { AreWithin (length row.old) edges.now }
+    requires { EndsAreBelow (length row.old) edges.now }
     ensures told { result ≡ changes row.old edges.now }
     ensures value { row.new ≡ swept row.old edges.now }
 {
@@ -53,7 +53,7 @@ fn lower(row: &mut [u32], a: u32, b: u32, cost: u32) -> bool
     requires a { a < length row.old }
     requires b { b < length row.old }
     ensures told { result ≡ is_lower row.old a b cost }
-    ensures value { row.new ≡ lowered row.old a b cost }
+    ensures value { row.new ≡ lowered_row row.old a b cost }
 {
     let near = row[a as usize] as u64 + cost as u64;
     if near < row[b as usize] as u64 {

@@ -1,8 +1,8 @@
 ghost use Rattle.std.specs.Prelude.{ℕ, ◌≡◌, ◌≢◌, ◌++◌, ◌<◌, ◌≤◌, false, All, IfOk, OnOk, length, replicate, slice_index, slice_set};
 ghost use Rattle.line_graph.specs.declared.limits.TheConstants.{MAX_LINES};
 ghost use Rattle.odd_paths.specs.declared.sweeps.TheConstants.{FAR};
-ghost use Rattle.odd_paths.specs.Lanes.{AddsColumns, AddsRows, AreColumns, HaveBegun, IsCapped, column as column_of};
-ghost use Rattle.odd_paths.specs.PlaceWalks.{AreWithin, IsGraph};
+ghost use Rattle.odd_paths.specs.Lanes.{AddsColumns, AddsRows, AreLeastColumns, HaveStarts, IsCapped, lane_column};
+ghost use Rattle.odd_paths.specs.EdgeWalks.{EndsAreBelow, IsGraph};
 
 use crate::edge_order::order_by;
 use crate::lanes::LANES;
@@ -41,7 +41,7 @@ fn next_order(
     order: Vec<u64>,
     slow: bool,
 ) -> Result<Vec<u64>, Memory>
-    requires ends { AreWithin (length table.now) edges.now }
+    requires ends { EndsAreBelow (length table.now) edges.now }
     requires lines { length edges.now ≤ MAX_LINES }
     ensures { slow ≡ false → IfOk result (λ next. next.items ≡ order.items) }
 {
@@ -63,7 +63,7 @@ fn columns(
     requires graph { IsGraph edges.now n }
     requires few { length terminals.now ≤ LANES }
     requires there { All (λ t. t < n) terminals.now }
-    ensures columns { IfOk result (λ answer. AreColumns edges.now n terminals.now answer.0.items) }
+    ensures columns { IfOk result (λ answer. AreLeastColumns edges.now n terminals.now answer.0.items) }
     ensures size { IfOk result (λ answer. length answer.0.items ≡ n) }
 {
     let mut table = blank(alloc, n)?;
@@ -94,7 +94,7 @@ fn fill(
     requires graph { IsGraph edges.now n }
     requires few { length terminals.now ≤ LANES }
     requires there { All (λ t. t < n) terminals.now }
-    ensures { AreColumns edges.now n terminals.now table.new }
+    ensures { AreLeastColumns edges.now n terminals.now table.new }
 {
     begin(table, terminals);
     settle(table, edges, order)
@@ -105,7 +105,7 @@ fn begin(table: &mut [[u32; LANES]], terminals: &[u32])
     requires few { length terminals.now ≤ LANES }
     requires there { All (λ t. t < length table.old) terminals.now }
     requires capped { IsCapped table.old }
-    ensures begun { HaveBegun terminals.now table.old table.new }
+    ensures begun { HaveStarts terminals.now table.old table.new }
     ensures capped { IsCapped table.new }
 {
     for i in 0..terminals.len() {
@@ -118,8 +118,8 @@ fn begin_at(table: &mut [[u32; LANES]], t: u32, i: usize)
     requires lane { i < LANES }
     requires there { t < length table.old }
     requires capped { IsCapped table.old }
-    ensures here { column_of i table.new ≡ slice_set (column_of i table.old) t 0 }
-    ensures others { (k : ℕ) → k ≢ i → column_of k table.new ≡ column_of k table.old }
+    ensures here { lane_column i table.new ≡ slice_set (lane_column i table.old) t 0 }
+    ensures others { (k : ℕ) → k ≢ i → lane_column k table.new ≡ lane_column k table.old }
     ensures capped { IsCapped table.new }
 {
     reach(&mut table[t as usize], i);
@@ -157,7 +157,7 @@ fn push_columns(
 /// Returns the column at an index.
 fn column(alloc: Global, table: &[[u32; LANES]], i: usize) -> Result<Vec<u32>, Memory>
     requires { i < LANES }
-    ensures { IfOk result (λ row. row.items ≡ column_of i table.now) }
+    ensures { IfOk result (λ row. row.items ≡ lane_column i table.now) }
 {
     let mut row = Vec::with_capacity(alloc, table.len())?;
     for lane in table {

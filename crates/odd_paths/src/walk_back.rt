@@ -1,6 +1,6 @@
 ghost use Rattle.std.specs.Prelude.{◌≡◌, ◌<◌, IfOk, length, reverse};
-ghost use Rattle.odd_paths.specs.LastEdges.{AreLeast, IsRowFrom, comes as is_last, last_from};
-ghost use Rattle.odd_paths.specs.PlaceWalks.{AreWithin};
+ghost use Rattle.odd_paths.specs.LastEdges.{IsLeastEdgeWalk, IsRowFrom, is_last_edge, last_edge_from};
+ghost use Rattle.odd_paths.specs.EdgeWalks.{EndsAreBelow};
 
 use design_model::Memory;
 use line_graph::Edge;
@@ -16,7 +16,7 @@ pub fn places(
 ) -> Result<Vec<u32>, Memory>
     requires row { IsRowFrom edges.now from row.now }
     requires j { j < length row.now }
-    ensures { IfOk result (λ places. AreLeast edges.now row.now from j places.items) }
+    ensures { IfOk result (λ places. IsLeastEdgeWalk edges.now row.now from j places.items) }
 {
     let mut places = places_back(alloc, row, edges, from, j)?;
     places.reverse();
@@ -33,7 +33,7 @@ fn places_back(
 ) -> Result<Vec<u32>, Memory>
     requires row { IsRowFrom edges.now from row.now }
     requires j { j < length row.now }
-    ensures { IfOk result (λ places. AreLeast edges.now row.now from j (reverse places.items)) }
+    ensures { IfOk result (λ places. IsLeastEdgeWalk edges.now row.now from j (reverse places.items)) }
 {
     let mut places = Vec::new(alloc);
     let mut at = j;
@@ -51,17 +51,17 @@ fn places_back(
 
 /// Returns the index of an edge that is the last of a least walk to `j`, and its other end.
 fn last_edge(row: &[u32], edges: &[Edge], j: u32) -> Option<(usize, u32)>
-    requires ends { AreWithin (length row.now) edges.now }
+    requires ends { EndsAreBelow (length row.now) edges.now }
     requires j { j < length row.now }
-    ensures { result ≡ last_from row.now j 0 edges.now }
+    ensures { result ≡ last_edge_from row.now j 0 edges.now }
 {
     let mut place = 0;
     let mut rest = edges;
     while let [e, after @ ..] = rest {
-        if comes(row, e.a, e.b, e.cost, j) {
+        if ends_walk(row, e.a, e.b, e.cost, j) {
             return Some((place, e.a));
         }
-        if comes(row, e.b, e.a, e.cost, j) {
+        if ends_walk(row, e.b, e.a, e.cost, j) {
             return Some((place, e.b));
         }
         place += 1;
@@ -71,10 +71,10 @@ fn last_edge(row: &[u32], edges: &[Edge], j: u32) -> Option<(usize, u32)>
 }
 
 /// Returns whether an edge from `a` to `b` is the last of a least walk to `j`.
-fn comes(row: &[u32], a: u32, b: u32, cost: u32, j: u32) -> bool
+fn ends_walk(row: &[u32], a: u32, b: u32, cost: u32, j: u32) -> bool
     requires a { a < length row.now }
     requires j { j < length row.now }
-    ensures { result ≡ is_last row.now a b cost j }
+    ensures { result ≡ is_last_edge row.now a b cost j }
 {
     b == j && row[a as usize] as u64 + cost as u64 == row[j as usize] as u64
 }

@@ -2,11 +2,11 @@
 use Rattle.std.proofs.Common.{◌≡◌, ◌≢◌, ℕ, ◌∷◌, [], List, Bool, true, false, Some, refl, sym, ◌∙◌, ap, subst, cond}
 use Rattle.std.proofs.lemmas.Slice.Eq.{bytes_eq-Decides}
 use Rattle.std.specs.Str.{bytes_eq}
-use Rattle.outside_io.specs.Files.{Files, WhereTold}
-use Rattle.outside_io.specs.MemEntries.{EntryValue, entry_in, file_in, put_in, with_content, with_file, with_room}
+use Rattle.outside_io.specs.Files.{Files, WhereVisible}
+use Rattle.outside_io.specs.MemEntries.{EntryValue, entry_in, file_in, with_entry, with_content, with_file, with_room}
 
 -- A fact of visible files holds wherever they are visible.
-pub where_told : (P : Files → Type 0) (files : Files) → P files → WhereTold (Some files) P
+pub where_told : (P : Files → Type 0) (files : Files) → P files → WhereVisible (Some files) P
 where_told P files holds told is = let same : files ≡ told = cc in subst P same holds
 
 -- a test's two cases
@@ -23,17 +23,17 @@ told_apart : (a b : List ℕ) → a ≡ b → bytes_eq a b ≡ false → ⊥
 told_apart a b same differs = let test : bytes_eq a b ≡ true = (bytes_eq-Decides a b).1 same in cc
 
 -- the entry that was put is the one of its name
-pub entry_in-put_in : (entries : List EntryValue) (entry : EntryValue) →
-    entry_in (put_in entries entry) entry.name ≡ Some entry
-entry_in-put_in [] entry = rw ((bytes_eq-Decides entry.name entry.name).1 refl)
-entry_in-put_in (e ∷ rest) entry =
+pub entry_in-with_entry : (entries : List EntryValue) (entry : EntryValue) →
+    entry_in (with_entry entries entry) entry.name ≡ Some entry
+entry_in-with_entry [] entry = rw ((bytes_eq-Decides entry.name entry.name).1 refl)
+entry_in-with_entry (e ∷ rest) entry =
     by_test (bytes_eq e.name entry.name)
     (λ is. rw (is, (bytes_eq-Decides entry.name entry.name).1 refl))
-    (λ is. rw (is, is) (entry_in-put_in rest entry))
+    (λ is. rw (is, is) (entry_in-with_entry rest entry))
 
 -- the entries of other names stay
 pub entry_in-put_in_other : (entries : List EntryValue) (entry : EntryValue) (other : List ℕ) → other ≢ entry.name →
-    entry_in (put_in entries entry) other ≡ entry_in entries other
+    entry_in (with_entry entries entry) other ≡ entry_in entries other
 entry_in-put_in_other [] entry other differs =
     by_test (bytes_eq entry.name other)
     (λ is. absurd (differs (sym ((bytes_eq-Decides entry.name other).0 is))))
@@ -46,19 +46,19 @@ entry_in-put_in_other (e ∷ rest) entry other differs =
     (λ is. rw is (ap (λ r. cond (bytes_eq e.name other) (Some e) r) (entry_in-put_in_other rest entry other differs)))
 
 -- the file of the name that was put
-pub file_in-put_in : (entries : List EntryValue) (entry : EntryValue) (name : List ℕ) → entry.name ≡ name →
-    file_in (put_in entries entry) name ≡ entry.content
-file_in-put_in entries entry name same = rw (← same) (rw (entry_in-put_in entries entry))
+pub file_in-with_entry : (entries : List EntryValue) (entry : EntryValue) (name : List ℕ) → entry.name ≡ name →
+    file_in (with_entry entries entry) name ≡ entry.content
+file_in-with_entry entries entry name same = rw (← same) (rw (entry_in-with_entry entries entry))
 
 -- the files of other names stay
 pub file_in-put_in_other : (entries : List EntryValue) (entry : EntryValue) (other : List ℕ) → other ≢ entry.name →
-    file_in (put_in entries entry) other ≡ file_in entries other
+    file_in (with_entry entries entry) other ≡ file_in entries other
 file_in-put_in_other entries entry other differs = rw (entry_in-put_in_other entries entry other differs)
 
 -- The file whose content was set contains it.
 pub file_in-with_content : (entries before : List EntryValue) (name content : List ℕ) →
     entries ≡ with_content before name content → file_in entries name ≡ Some content
-file_in-with_content entries before name content is = rw is (file_in-put_in before _ name refl)
+file_in-with_content entries before name content is = rw is (file_in-with_entry before _ name refl)
 
 -- the other files stay where a content was set
 pub file_in-with_content_other : (entries before : List EntryValue) (name content other : List ℕ) →
@@ -69,7 +69,7 @@ file_in-with_content_other entries before name content other is differs =
 -- the file that was put is there
 pub file_in-with_file : (entries before : List EntryValue) (name content : List ℕ) →
     entries ≡ with_file before name content → file_in entries name ≡ Some content
-file_in-with_file entries before name content is = rw is (file_in-put_in before _ name refl)
+file_in-with_file entries before name content is = rw is (file_in-with_entry before _ name refl)
 
 -- the other files stay where a file was put
 pub file_in-with_file_other : (entries before : List EntryValue) (name content other : List ℕ) →
@@ -84,5 +84,5 @@ file_in-with_room entries before name room other is =
     by_test (bytes_eq other name)
     (λ same.
     let here : other ≡ name = (bytes_eq-Decides other name).0 same in
-    rw (is, here) (file_in-put_in before _ name refl))
+    rw (is, here) (file_in-with_entry before _ name refl))
     (λ other_name. rw is (file_in-put_in_other before _ other (λ same. absurd (told_apart other name same other_name))))

@@ -6,14 +6,14 @@ use Rattle.std.proofs.lemmas.Option.{slice_get-get_or}
 use Rattle.std.proofs.lemmas.Slice.Eq.{bytes_eq-Decides}
 use Rattle.std.specs.List.{slice_get}
 use Rattle.std.specs.Str.{bytes_eq}
-use Rattle.outside_io.specs.MemEntries.{EntryValue, entry_in, put_in}
-use Rattle.outside_io.specs.Places.{IsPlace}
+use Rattle.outside_io.specs.MemEntries.{EntryValue, entry_in, with_entry}
+use Rattle.outside_io.specs.EntryIndexes.{IsEntryIndex}
 
 -- none of the first entries has that name
 pub record Passed (entries : List EntryValue) (name : List ℕ) (place : ℕ) : Type 0 where
   pub found : entry_in entries name ≡ entry_in (drop place entries) name
   pub replaced : (entry : EntryValue) → entry.name ≡ name →
-      put_in entries entry ≡ take place entries ++ put_in (drop place entries) entry
+      with_entry entries entry ≡ take place entries ++ with_entry (drop place entries) entry
 
 -- An entry of that name at index 0 is found there.
 found-here : (entry : EntryValue) (rest : List EntryValue) (name : List ℕ) →
@@ -21,7 +21,7 @@ found-here : (entry : EntryValue) (rest : List EntryValue) (name : List ℕ) →
 found-here entry rest name is = rw is
 
 replaced-here : (entry new : EntryValue) (rest : List EntryValue) (name : List ℕ) →
-    bytes_eq entry.name name ≡ true → new.name ≡ name → put_in (entry ∷ rest) new ≡ new ∷ rest
+    bytes_eq entry.name name ≡ true → new.name ≡ name → with_entry (entry ∷ rest) new ≡ new ∷ rest
 replaced-here entry new rest name is same =
     let test : bytes_eq entry.name new.name ≡ true = ap (λ n. bytes_eq entry.name n) same ∙ is in
     rw test
@@ -29,7 +29,7 @@ replaced-here entry new rest name is same =
 -- the search ends at the first entry of that name
 pub passed-here : (entries : List EntryValue) (name : List ℕ) (place : ℕ) (entry : EntryValue) →
     Passed entries name place → place < length entries → entry ≡ get_or entries place entry →
-    bytes_eq entry.name name ≡ true → IsPlace entries name place
+    bytes_eq entry.name name ≡ true → IsEntryIndex entries name place
 passed-here entries name place entry passed within here is =
     let left : drop place entries ≡ entry ∷ drop (suc place) entries =
     drop-cons entries place entry within ∙ ap (λ e. e ∷ drop (suc place) entries) (sym here) in
@@ -43,7 +43,7 @@ passed-here entries name place entry passed within here is =
       replaced =
           λ new same.
           passed.replaced new same
-          ∙ ap (λ es. take place entries ++ put_in es new) left
+          ∙ ap (λ es. take place entries ++ with_entry es new) left
           ∙ ap (λ es. take place entries ++ es) (replaced-here entry new (drop (suc place) entries) name is same)
           ∙ sym (set_split entries place new within);
     }

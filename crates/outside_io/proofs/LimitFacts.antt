@@ -1,7 +1,7 @@
 -- The limits of names and of files, in bytes.
 use Rattle.std.proofs.Common.{◌≡◌, true, false, [], ◌∷◌, codes, map, replicate, refl}
 use Rattle.outside_io.specs.declared.limits.TheConstants.{MAX_FILE, MAX_NAME}
-use Rattle.outside_io.specs.Files.{is_name}
+use Rattle.outside_io.specs.Files.{is_file_name}
 
 -- how long a file that is read may be: 64 times 2 to the 20th
 pub known_file : MAX_FILE ≡ 67108864
@@ -12,5 +12,5 @@ pub known_name : MAX_NAME ≡ 4096
 known_name = refl
 
 -- a name has from 1 to 4,096 bytes
-pub known_names : map is_name (codes "a" ∷ [] ∷ replicate 4096 97 ∷ replicate 4097 97 ∷ []) ≡ true ∷ false ∷ true ∷ false ∷ []
+pub known_names : map is_file_name (codes "a" ∷ [] ∷ replicate 4096 97 ∷ replicate 4097 97 ∷ []) ≡ true ∷ false ∷ true ∷ false ∷ []
 known_names = refl

@@ -2,9 +2,9 @@
 -- three, and the name `b` (98) has room for two bytes and no file.
 use Rattle.std.proofs.Common.{◌≡◌, ℕ, List, [], ◌∷◌, Some, None, Ok, Err, true, false, refl, ap, arith, true≢false}
 use Rattle.outside_io.specs.declared.store.Failed.{Failed}
-use Rattle.outside_io.specs.MemSinks.{MemPuts, MemSinkValue, empty_sink, refuses}
-use Rattle.outside_io.specs.MemEntries.{EntryValue, file_in, room_in, overflows, with_added, with_content, with_file, with_room}
-use Rattle.outside_io.specs.MemStores.{MemCreates, MemReads, MemStoreValue, empty_store, is_listed}
+use Rattle.outside_io.specs.MemSinks.{MemPuts, MemSinkValue, empty_sink, put_fails}
+use Rattle.outside_io.specs.MemEntries.{EntryValue, file_in, room_in, exceeds_room, with_bytes_appended, with_content, with_file, with_room}
+use Rattle.outside_io.specs.MemStores.{MemCreates, MemReads, MemStoreValue, empty_store, is_next_call_listed}
 
 pub two : List EntryValue
 two =
@@ -30,11 +30,11 @@ unfolding two
 known_no_room = refl
 
 -- one byte more fills the room of `a`, and two pass it
-pub known_fit : overflows two (97 ∷ []) (5 ∷ []) ≡ false
+pub known_fit : exceeds_room two (97 ∷ []) (5 ∷ []) ≡ false
 unfolding two
 known_fit = refl
 
-pub known_overflow : overflows two (97 ∷ []) (5 ∷ 6 ∷ []) ≡ true
+pub known_overflow : exceeds_room two (97 ∷ []) (5 ∷ 6 ∷ []) ≡ true
 unfolding two
 known_overflow = refl
 
@@ -63,7 +63,7 @@ unfolding two
 known_emptied = refl
 
 -- Bytes are appended to the file, and the other name keeps its room and has no file.
-pub known_added : file_in (with_added two (97 ∷ []) (5 ∷ [])) (97 ∷ []) ≡ Some (1 ∷ 2 ∷ 5 ∷ [])
+pub known_added : file_in (with_bytes_appended two (97 ∷ []) (5 ∷ [])) (97 ∷ []) ≡ Some (1 ∷ 2 ∷ 5 ∷ [])
 unfolding two
 known_added = refl
 
@@ -76,36 +76,36 @@ unfolding two
 known_larger_room = refl
 
 -- calls are numbered from 1: after two, the next is the third
-pub known_listed : is_listed (3 ∷ []) 2 ≡ true
+pub known_listed : is_next_call_listed (3 ∷ []) 2 ≡ true
 known_listed = refl
 
-pub known_not_listed : is_listed (2 ∷ 4 ∷ []) 2 ≡ false
+pub known_not_listed : is_next_call_listed (2 ∷ 4 ∷ []) 2 ≡ false
 known_not_listed = refl
 
 -- a sink of two bytes in a room of three, whose second put is to fail
 pub sink : ℕ → MemSinkValue
 sink calls = record { bytes = 1 ∷ 2 ∷ []; room = 3; failing = 2 ∷ []; calls = calls; faults = 0 }
 
-pub known_taken : refuses (sink 2) (5 ∷ []) ≡ false
+pub known_taken : put_fails (sink 2) (5 ∷ []) ≡ false
 unfolding sink
 known_taken = refl
 
-pub known_full : refuses (sink 2) (5 ∷ 6 ∷ []) ≡ true
+pub known_full : put_fails (sink 2) (5 ∷ 6 ∷ []) ≡ true
 unfolding sink
 known_full = refl
 
-pub known_refused : refuses (sink 1) (5 ∷ []) ≡ true
+pub known_refused : put_fails (sink 1) (5 ∷ []) ≡ true
 unfolding sink
 known_refused = refl
 
 -- the first call of a new store and the first put of a new sink have the number 1, and the sink has its room
-pub known_first : is_listed (1 ∷ []) empty_store.calls ≡ true
+pub known_first : is_next_call_listed (1 ∷ []) empty_store.calls ≡ true
 known_first = refl
 
-pub known_first_put : refuses (record (empty_sink 2) { failing = 1 ∷ [] }) [] ≡ true
+pub known_first_put : put_fails (record (empty_sink 2) { failing = 1 ∷ [] }) [] ≡ true
 known_first_put = refl
 
-pub known_room_of_sink : (refuses (empty_sink 2) (5 ∷ 6 ∷ []) ≡ false) × (refuses (empty_sink 2) (5 ∷ 6 ∷ 7 ∷ []) ≡ true)
+pub known_room_of_sink : (put_fails (empty_sink 2) (5 ∷ 6 ∷ []) ≡ false) × (put_fails (empty_sink 2) (5 ∷ 6 ∷ 7 ∷ []) ≡ true)
 known_room_of_sink = (refl, refl)
 
 -- the put that fails is counted

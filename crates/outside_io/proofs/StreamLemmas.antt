@@ -2,15 +2,15 @@
 use Rattle.std.proofs.Common.{◌≡◌, ℕ, List, [], ◌++◌, Option, refl, sym, ap, subst, ◌∙◌, append_assoc, append-nil, take, drop, take-append-drop}
 use Rattle.std.proofs.KnownBytes.{Appends-nil, Appends-trans, Appends-kept}
 use Rattle.std.specs.Io.KnownBytes.{Appends, Keeps}
-use Rattle.outside_io.specs.Streams.{AddsUpTo}
+use Rattle.outside_io.specs.Streams.{AddsPrefix}
 
 -- at first nothing was added
-pub adds_none : (held : Option (List ℕ)) (bytes : List ℕ) → AddsUpTo held held bytes bytes
+pub adds_none : (held : Option (List ℕ)) (bytes : List ℕ) → AddsPrefix held held bytes bytes
 adds_none held bytes = record { first = []; parts = refl; added = Appends-nil held }
 
 -- some of the bytes that were left are added
-pub adds_more : (old before new : Option (List ℕ)) (bytes left rest : List ℕ) (count : ℕ) → AddsUpTo old before bytes left
-    → Appends before new (take count left) → rest ≡ drop count left → AddsUpTo old new bytes rest
+pub adds_more : (old before new : Option (List ℕ)) (bytes left rest : List ℕ) (count : ℕ) → AddsPrefix old before bytes left
+    → Appends before new (take count left) → rest ≡ drop count left → AddsPrefix old new bytes rest
 adds_more old before new bytes left rest count so_far more is = record {
   first = so_far.first ++ take count left;
   parts =
@@ -22,8 +22,8 @@ adds_more old before new bytes left rest count so_far more is = record {
 }
 
 -- a write that fails adds nothing
-pub adds_no_more : (old before new : Option (List ℕ)) (bytes left : List ℕ) → AddsUpTo old before bytes left
-    → Keeps before new → AddsUpTo old new bytes left
+pub adds_no_more : (old before new : Option (List ℕ)) (bytes left : List ℕ) → AddsPrefix old before bytes left
+    → Keeps before new → AddsPrefix old new bytes left
 adds_no_more old before new bytes left so_far kept = record {
   first = so_far.first;
   parts = so_far.parts;
@@ -31,6 +31,6 @@ adds_no_more old before new bytes left so_far kept = record {
 }
 
 -- where none are left, all were added
-pub adds_all : (old new : Option (List ℕ)) (bytes : List ℕ) → AddsUpTo old new bytes [] → Appends old new bytes
+pub adds_all : (old new : Option (List ℕ)) (bytes : List ℕ) → AddsPrefix old new bytes [] → Appends old new bytes
 adds_all old new bytes so_far =
     subst (λ l. Appends old new l) (sym (append-nil so_far.first) ∙ so_far.parts) so_far.added

@@ -3,35 +3,35 @@ use Rattle.std.proofs.Common.{◌≡◌, ℕ, ◌≤◌, List, length, Some, Non
 use Rattle.std.specs.Bool.{nat_le}
 use Rattle.outside_io.specs.declared.whole_files.GetFault.{GetFault}
 use Rattle.outside_io.specs.declared.whole_files.GetFault.TheVariants as fault
-use Rattle.design_model.specs.WantOfMemory.{IsSaid}
-use Rattle.outside_io.specs.Causes.{ReadsWhole, wants_memory, whole_answer, IsLonger}
-use Rattle.outside_io.specs.Counts.{Rose, IsQuiet}
-use Rattle.outside_io.specs.Files.{WhereTold}
-use Rattle.outside_io.specs.Sights.{StoreSight}
+use Rattle.design_model.specs.OutOfMemory.{IsSpecified}
+use Rattle.outside_io.specs.Causes.{ReadsWholeFile, get_is_out_of_memory, whole_file_result, IsFileLonger}
+use Rattle.outside_io.specs.Counts.{Rose, IsFaultless}
+use Rattle.outside_io.specs.Files.{WhereVisible}
+use Rattle.outside_io.specs.Views.{StoreView}
 
 -- a count that is quiet didn't rise
-quiet : (before now : ℕ) → IsQuiet before now → Rose before now → ⊥
+quiet : (before now : ℕ) → IsFaultless before now → Rose before now → ⊥
 quiet before now still (inl rose) = omega (arith, still.same)
 quiet before now still (inr greatest) = still.below greatest
 
 -- a short file is given whole
-short_answer : (bytes : List ℕ) (limit : ℕ) → length bytes ≤ limit → whole_answer (Some bytes) limit ≡ Ok bytes
+short_answer : (bytes : List ℕ) (limit : ℕ) → length bytes ≤ limit → whole_file_result (Some bytes) limit ≡ Ok bytes
 short_answer bytes limit short = let test : nat_le (length bytes) limit ≡ true = grind arith in rw test
 
 -- a longer file is refused
-longer_answer : (file : Option (List ℕ)) (limit : ℕ) → IsLonger file limit → whole_answer file limit ≡ Err fault.TooLong
+longer_answer : (file : Option (List ℕ)) (limit : ℕ) → IsFileLonger file limit → whole_file_result file limit ≡ Err fault.TooLong
 longer_answer None limit longer = absurd longer
 longer_answer (Some content) limit longer =
     let test : nat_le (length content) limit ≡ false = grind arith in rw test
 
 -- Each possible result is then that of the file, or out of memory.
-pub decided : (name : List ℕ) (limit : ℕ) (old new : StoreSight) (result : Result (List ℕ) GetFault) →
-    ReadsWhole name limit old new result → IsQuiet old.faults new.faults →
-    WhereTold old.files (λ told. IsSaid wants_memory (whole_answer (told name) limit) result)
+pub decided : (name : List ℕ) (limit : ℕ) (old new : StoreView) (result : Result (List ℕ) GetFault) →
+    ReadsWholeFile name limit old new result → IsFaultless old.faults new.faults →
+    WhereVisible old.files (λ told. IsSpecified get_is_out_of_memory (whole_file_result (told name) limit) result)
 decided name limit old new (Ok bytes) reads still told is =
-    ap (λ file. whole_answer file limit) (reads.1 told is) ∙ short_answer bytes limit reads.0
+    ap (λ file. whole_file_result file limit) (reads.1 told is) ∙ short_answer bytes limit reads.0
 decided name limit old new (Err fault.Missing) reads still told is =
-    ap (λ file. whole_answer file limit) (reads.0.missing told is)
+    ap (λ file. whole_file_result file limit) (reads.0.missing told is)
 decided name limit old new (Err fault.Failed) reads still told is = absurd (quiet old.faults new.faults still reads.rose)
 decided name limit old new (Err fault.TooLong) reads still told is =
     longer_answer (told name) limit (reads.0 told is)

@@ -2,18 +2,18 @@
 use Rattle.std.specs.Prelude.{◌≡◌, ◌≢◌, ℕ, ◌+◌, ◌<◌, ◌⊎◌, min}
 
 -- The maximum of a count: the largest 64-bit number.
-abbrev pub GREATEST_COUNT : ℕ
-GREATEST_COUNT = 18446744073709551615
+abbrev pub MAX_COUNT : ℕ
+MAX_COUNT = 18446744073709551615
 
 -- The count after one more.
-abbrev pub counted_on : ℕ → ℕ
-counted_on count = min (count + 1) GREATEST_COUNT
+abbrev pub next_count : ℕ → ℕ
+next_count count = min (count + 1) MAX_COUNT
 
 -- A count that rose, or has reached its maximum.
 abbrev pub Rose : ℕ → ℕ → Type 0
-Rose before now = (before < now) ⊎ (now ≡ GREATEST_COUNT)
+Rose before now = (before < now) ⊎ (now ≡ MAX_COUNT)
 
 -- A count with no new fault: it is unchanged, and below its maximum.
-pub record IsQuiet (before now : ℕ) : Type 0 where
+pub record IsFaultless (before now : ℕ) : Type 0 where
   pub same : now ≡ before
-  pub below : now ≢ GREATEST_COUNT
+  pub below : now ≢ MAX_COUNT

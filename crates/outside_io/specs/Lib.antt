@@ -1,12 +1,13 @@
 pub mod Counts
 pub mod Blames
--- Read Files, Views and Causes first: files, the views of stores and sinks, and the results of calls.
+-- Read Files, Views and Causes first: files, the views of stores and sinks, and the results of
+-- calls.
 pub mod Files
-pub mod Sights
+pub mod Views
 pub mod Causes
 pub mod FileParts
 pub mod MemEntries
 pub mod MemStores
-pub mod Places
+pub mod EntryIndexes
 pub mod MemSinks
 pub mod Streams

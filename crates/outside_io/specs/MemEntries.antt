@@ -20,18 +20,19 @@ abbrev pub room_in : List EntryValue → List ℕ → Option ℕ
 room_in entries name = option_map (λ e. e.room) (entry_in entries name)
 
 -- The entries with one entry replaced by name, or added at the end.
-abbrev pub put_in : List EntryValue → EntryValue → List EntryValue
-put_in [] entry = entry ∷ []
-put_in (e ∷ rest) entry = if bytes_eq e.name entry.name then entry ∷ rest else e ∷ put_in rest entry
+abbrev pub with_entry : List EntryValue → EntryValue → List EntryValue
+with_entry [] entry = entry ∷ []
+with_entry (e ∷ rest) entry = if bytes_eq e.name entry.name then entry ∷ rest else e
+    ∷ with_entry rest entry
 
 -- The room raised to at least a minimum.
-abbrev pub raised : Option ℕ → ℕ → ℕ
-raised room least = max (unwrap_or room 0) least
+abbrev pub raised_room : Option ℕ → ℕ → ℕ
+raised_room room least = max (unwrap_or room 0) least
 
 -- The entries in which the named file has this content, and its room is unchanged.
 abbrev pub with_content : List EntryValue → List ℕ → List ℕ → List EntryValue
 with_content entries name content =
-    put_in entries (record {
+    with_entry entries (record {
       name = name;
       content = Some content;
       room =
@@ -39,32 +40,32 @@ with_content entries name content =
     })
 
 -- The entries in which these bytes are appended to the named file.
-abbrev pub with_added : List EntryValue → List ℕ → List ℕ → List EntryValue
-with_added entries name bytes = with_content entries name
+abbrev pub with_bytes_appended : List EntryValue → List ℕ → List ℕ → List EntryValue
+with_bytes_appended entries name bytes = with_content entries name
     (unwrap_or (file_in entries name) [] ++ bytes)
 
 -- The entries in which the named file has this content, and room for it.
 abbrev pub with_file : List EntryValue → List ℕ → List ℕ → List EntryValue
 with_file entries name content =
-    put_in entries (record {
+    with_entry entries (record {
       name = name;
       content = Some content;
       room =
-          raised (room_in entries name) (length content);
+          raised_room (room_in entries name) (length content);
     })
 
 -- The entries in which the name has at least that room.
 abbrev pub with_room : List EntryValue → List ℕ → ℕ → List EntryValue
 with_room entries name room =
-    put_in entries (record {
+    with_entry entries (record {
       name = name;
       content = file_in entries name;
       room =
-          raised (room_in entries name) room;
+          raised_room (room_in entries name) room;
     })
 
 -- The test whether the bytes exceed the room of the named file.
-abbrev pub overflows : List EntryValue → List ℕ → List ℕ → Bool
-overflows entries name bytes =
+abbrev pub exceeds_room : List EntryValue → List ℕ → List ℕ → Bool
+exceeds_room entries name bytes =
     nat_lt (unwrap_or (room_in entries name) 0)
     (length (unwrap_or (file_in entries name) []) + length bytes)

@@ -2,9 +2,9 @@
 -- the counts of puts and faults.
 use Rattle.std.specs.Prelude.{◌≡◌, ℕ, ◌+◌, Bool, true, false, ◌||◌, List, [], ◌++◌, length, Some, Result, Ok, Err, nat_lt}
 use Rattle.outside_io.specs.declared.store.Failed.{Failed}
-use Rattle.outside_io.specs.Counts.{counted_on}
-use Rattle.outside_io.specs.MemStores.{is_listed}
-use Rattle.outside_io.specs.Sights.{SinkSight}
+use Rattle.outside_io.specs.Counts.{next_count}
+use Rattle.outside_io.specs.MemStores.{is_next_call_listed}
+use Rattle.outside_io.specs.Views.{SinkView}
 
 -- A sink: the bytes and their room, the numbers of the puts that shall fail, and the counts of puts
 -- and faults.
@@ -16,23 +16,24 @@ pub record MemSinkValue : Type 0 where
   pub faults : ℕ
 
 -- The view of a sink: all its bytes, and its fault count.
-abbrev pub sink_seen : MemSinkValue → SinkSight
-sink_seen sink = record { taken = Some sink.bytes; faults = sink.faults }
+abbrev pub sink_view : MemSinkValue → SinkView
+sink_view sink = record { taken = Some sink.bytes; faults = sink.faults }
 
 -- The sink without bytes, faults and puts that shall fail.
 abbrev pub empty_sink : ℕ → MemSinkValue
 empty_sink room = record { bytes = []; room = room; failing = []; calls = 0; faults = 0 }
 
 -- The test whether the next put fails: its number is listed, or the bytes exceed the room.
-abbrev pub refuses : MemSinkValue → List ℕ → Bool
-refuses sink bytes =
-    is_listed sink.failing sink.calls || nat_lt sink.room (length sink.bytes + length bytes)
+abbrev pub put_fails : MemSinkValue → List ℕ → Bool
+put_fails sink bytes =
+    is_next_call_listed sink.failing sink.calls
+    || nat_lt sink.room (length sink.bytes + length bytes)
 
 -- The results of a put. A failed put adds nothing.
 abbrev pub MemPuts : {T : Type 0} → MemSinkValue → MemSinkValue → List ℕ → Result T Failed → Type 0
 MemPuts old new bytes (Ok _) =
-    (refuses old bytes ≡ false)
-    × (new ≡ record old { bytes = old.bytes ++ bytes; calls = counted_on old.calls })
+    (put_fails old bytes ≡ false)
+    × (new ≡ record old { bytes = old.bytes ++ bytes; calls = next_count old.calls })
 MemPuts old new bytes (Err _) =
-    (refuses old bytes ≡ true)
-    × (new ≡ record old { calls = counted_on old.calls; faults = counted_on old.faults })
+    (put_fails old bytes ≡ true)
+    × (new ≡ record old { calls = next_count old.calls; faults = next_count old.faults })

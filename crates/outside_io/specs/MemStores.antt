@@ -5,11 +5,11 @@ use Rattle.std.specs.List.{list_any}
 use Rattle.outside_io.specs.declared.store.Failed.{Failed}
 use Rattle.outside_io.specs.declared.store.ReadStop.{ReadStop}
 use Rattle.outside_io.specs.declared.store.ReadStop.TheVariants as stop
-use Rattle.outside_io.specs.Blames.{Blame, read_of, write_of}
-use Rattle.outside_io.specs.Counts.{counted_on}
+use Rattle.outside_io.specs.Blames.{Blame, read_call, write_call}
+use Rattle.outside_io.specs.Counts.{next_count}
 use Rattle.outside_io.specs.Files.{Files}
-use Rattle.outside_io.specs.MemEntries.{EntryValue, file_in, overflows, room_in, with_added, with_content, with_file, with_room}
-use Rattle.outside_io.specs.Sights.{StoreSight}
+use Rattle.outside_io.specs.MemEntries.{EntryValue, file_in, exceeds_room, room_in, with_bytes_appended, with_content, with_file, with_room}
+use Rattle.outside_io.specs.Views.{StoreView}
 
 -- A store: the entries, the numbers of the calls that shall fail, and the counts of calls and
 -- faults.
@@ -29,20 +29,24 @@ abbrev pub files_of : MemStoreValue → Files
 files_of store name = file_in store.entries name
 
 -- The files of a store, all of which are visible.
-abbrev pub told_by : MemStoreValue → Option Files
-told_by store = Some (files_of store)
+abbrev pub visible_files : MemStoreValue → Option Files
+visible_files store = Some (files_of store)
 
 -- The view of a store: its files, its fault count and its blamed call.
-abbrev pub store_seen : MemStoreValue → StoreSight
-store_seen store = record { files = told_by store; faults = store.faults; blame = store.blame }
+abbrev pub store_view : MemStoreValue → StoreView
+store_view store = record {
+  files = visible_files store;
+  faults = store.faults;
+  blame = store.blame;
+}
 
 -- The room of each name.
 abbrev pub rooms_of : MemStoreValue → List ℕ → Option ℕ
 rooms_of store name = room_in store.entries name
 
 -- The test whether the next call is one of those that shall fail.
-abbrev pub is_listed : List ℕ → ℕ → Bool
-is_listed failing calls = list_any (λ n. n == counted_on calls) failing
+abbrev pub is_next_call_listed : List ℕ → ℕ → Bool
+is_next_call_listed failing calls = list_any (λ n. n == next_count calls) failing
 
 -- The store after its named file was set.
 abbrev pub file_set : MemStoreValue → List ℕ → List ℕ → MemStoreValue
@@ -54,13 +58,13 @@ room_raised store name room = record store { entries = with_room store.entries n
 
 -- The store after a successful call that resulted in these entries.
 abbrev pub after_call : MemStoreValue → List EntryValue → MemStoreValue
-after_call store entries = record store { entries = entries; calls = counted_on store.calls }
+after_call store entries = record store { entries = entries; calls = next_count store.calls }
 
 -- The store after a failed call.
 abbrev pub after_fault : MemStoreValue → Blame → MemStoreValue
 after_fault store call = record store {
-  calls = counted_on store.calls;
-  faults = counted_on store.faults;
+  calls = next_count store.calls;
+  faults = next_count store.faults;
   blame = Some call;
 }
 
@@ -69,35 +73,35 @@ after_fault store call = record store {
 abbrev pub MemReads : MemStoreValue → MemStoreValue → List ℕ → ℕ → (before after : List ℕ)
     → Result ℕ ReadStop → Type 0
 MemReads old new name offset before after (Ok count) =
-    (is_listed old.failing old.calls ≡ false) × (new ≡ after_call old old.entries)
+    (is_next_call_listed old.failing old.calls ≡ false) × (new ≡ after_call old old.entries)
     × (is_some (files_of old name) ≡ true)
     × (count ≡ min (length before) (length (drop offset (unwrap_or (files_of old name) []))))
     × (after ≡ take count (drop offset (unwrap_or (files_of old name) [])) ++ drop count before)
 MemReads old new name offset before after (Err stop.Missing) =
-    (is_listed old.failing old.calls ≡ false) × (new ≡ after_call old old.entries)
+    (is_next_call_listed old.failing old.calls ≡ false) × (new ≡ after_call old old.entries)
     × (files_of old name ≡ None)
     × (after ≡ before)
 MemReads old new name offset before after (Err stop.Failed) =
-    (is_listed old.failing old.calls ≡ true) × (new ≡ after_fault old (read_of name))
+    (is_next_call_listed old.failing old.calls ≡ true) × (new ≡ after_fault old (read_call name))
     × (after ≡ before)
 
 -- The results of a create. A create fails exactly if its number is listed or the name has no room.
 abbrev pub MemCreates : {T : Type 0} → MemStoreValue → MemStoreValue → List ℕ → Result T Failed
     → Type 0
 MemCreates old new name (Ok _) =
-    ((is_listed old.failing old.calls || not (is_some (rooms_of old name))) ≡ false)
+    ((is_next_call_listed old.failing old.calls || not (is_some (rooms_of old name))) ≡ false)
     × (new ≡ after_call old (with_content old.entries name []))
 MemCreates old new name (Err _) =
-    ((is_listed old.failing old.calls || not (is_some (rooms_of old name))) ≡ true)
-    × (new ≡ after_fault old (write_of name))
+    ((is_next_call_listed old.failing old.calls || not (is_some (rooms_of old name))) ≡ true)
+    × (new ≡ after_fault old (write_call name))
 
 -- The results of an append. An append fails exactly if its number is listed or the room is too
 -- small.
 abbrev pub MemAppends : {T : Type 0} → MemStoreValue → MemStoreValue → List ℕ → List ℕ
     → Result T Failed → Type 0
 MemAppends old new name bytes (Ok _) =
-    ((is_listed old.failing old.calls || overflows old.entries name bytes) ≡ false)
-    × (new ≡ after_call old (with_added old.entries name bytes))
+    ((is_next_call_listed old.failing old.calls || exceeds_room old.entries name bytes) ≡ false)
+    × (new ≡ after_call old (with_bytes_appended old.entries name bytes))
 MemAppends old new name bytes (Err _) =
-    ((is_listed old.failing old.calls || overflows old.entries name bytes) ≡ true)
-    × (new ≡ after_fault old (write_of name))
+    ((is_next_call_listed old.failing old.calls || exceeds_room old.entries name bytes) ≡ true)
+    × (new ≡ after_fault old (write_call name))

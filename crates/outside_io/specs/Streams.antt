@@ -2,7 +2,7 @@
 use Rattle.std.specs.Prelude.{◌≡◌, ℕ, List, ◌++◌, Option, Result, Ok, Err}
 use Rattle.std.specs.Io.KnownBytes.{Appends}
 use Rattle.outside_io.specs.declared.store.Failed.{Failed}
-use Rattle.outside_io.specs.Counts.{counted_on}
+use Rattle.outside_io.specs.Counts.{next_count}
 
 -- A stream: the bytes that its writer has taken, if they are known, and the number of failed puts.
 pub record StreamValue : Type 0 where
@@ -10,7 +10,7 @@ pub record StreamValue : Type 0 where
   pub faults : ℕ
 
 -- A prefix of the bytes was added; the rest was not.
-pub record AddsUpTo (old new : Option (List ℕ)) (bytes left : List ℕ) : Type 0 where
+pub record AddsPrefix (old new : Option (List ℕ)) (bytes left : List ℕ) : Type 0 where
   pub first : List ℕ
   pub parts : first ++ left ≡ bytes
   pub added : Appends old new first
@@ -19,4 +19,5 @@ pub record AddsUpTo (old new : Option (List ℕ)) (bytes left : List ℕ) : Type
 abbrev pub StreamPuts : {T : Type 0} → StreamValue → StreamValue → List ℕ → Result T Failed → Type 0
 StreamPuts old new bytes (Ok _) = Appends old.held new.held bytes × (new.faults ≡ old.faults)
 StreamPuts old new bytes (Err _) =
-    ((left : List ℕ) × AddsUpTo old.held new.held bytes left) × (new.faults ≡ counted_on old.faults)
+    ((left : List ℕ) × AddsPrefix old.held new.held bytes left)
+    × (new.faults ≡ next_count old.faults)

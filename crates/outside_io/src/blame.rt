@@ -1,7 +1,7 @@
 ghost use Rattle.std.specs.Prelude.{◌≡◌, ◌≤◌, length};
-ghost use Rattle.outside_io.specs.Blames.{call_of, no_faults, noted};
-ghost use Rattle.outside_io.specs.Causes.{Faults};
-ghost use Rattle.outside_io.specs.Sights.{untold_files};
+ghost use Rattle.outside_io.specs.Blames.{store_call, no_faults, with_failed_call};
+ghost use Rattle.outside_io.specs.Causes.{CallFailed};
+ghost use Rattle.outside_io.specs.Views.{hidden_files};
 
 use crate::limits::MAX_NAME;
 use arrayvec::ArrayVec;
@@ -9,7 +9,7 @@ use std::marker::Model;
 
 /// The kind of a call to a store.
 #[derive(Clone, Copy, Debug, PartialEq, Eq)]
-pub enum Kind {
+pub enum CallKind {
     /// A `read_at`.
     Read,
     /// A `create` or an `append`.
@@ -20,14 +20,14 @@ pub enum Kind {
 #[derive(Drop)]
 pub(crate) struct FaultLog {
     count: u64,
-    kind: Option<Kind>,
+    kind: Option<CallKind>,
     name: ArrayVec<u8, MAX_NAME>,
 }
 
 impl Model for FaultLog {
-    ghost use Rattle.outside_io.specs.Blames.{FaultsSoFar, blame_of};
+    ghost use Rattle.outside_io.specs.Blames.{FaultLogValue, blame_of};
 
-    ghost Value = { FaultsSoFar };
+    ghost Value = { FaultLogValue };
 
     ghost view = { λ log. record {
       count = log.count;
@@ -48,11 +48,11 @@ impl FaultLog {
     }
 
     /// Records a failed call of that kind on that file name.
-    pub(crate) fn note(&mut self, kind: Kind, name: &str)
+    pub(crate) fn note(&mut self, kind: CallKind, name: &str)
         requires { length name.now ≤ MAX_NAME }
-        ensures value { self.new ≡ noted self.old (call_of kind name.now) }
-        ensures cause { Faults (untold_files self.old) (untold_files self.new)
-            (call_of kind name.now) }
+        ensures value { self.new ≡ with_failed_call self.old (store_call kind name.now) }
+        ensures cause { CallFailed (hidden_files self.old) (hidden_files self.new)
+            (store_call kind name.now) }
     {
         self.count = self.count.saturating_add(1);
         self.kind = Some(kind);

@@ -1,10 +1,10 @@
 ghost use Rattle.std.specs.Prelude.{◌≡◌, ◌≤◌, [], length, IfOk, OnOk};
-ghost use Rattle.outside_io.specs.Blames.{Notes, no_faults, read_of, write_of};
-ghost use Rattle.outside_io.specs.Causes.{ReadCause, ReadGives, WriteCause};
-ghost use Rattle.outside_io.specs.Files.{Adds, ChangesOnly, HoldsNow, IsName, IsThere};
-ghost use Rattle.outside_io.specs.Sights.{untold_files};
+ghost use Rattle.outside_io.specs.Blames.{LogsFailedCall, no_faults, read_call, write_call};
+ghost use Rattle.outside_io.specs.Causes.{ReadCause, IsReadResult, WriteCause};
+ghost use Rattle.outside_io.specs.Files.{AppendsToFile, ChangesOnlyFile, FileHolds, IsFileName, FileExists};
+ghost use Rattle.outside_io.specs.Views.{hidden_files};
 
-use crate::blame::{FaultLog, Kind};
+use crate::blame::{CallKind, FaultLog};
 use crate::limits::{MAX_FILE, MAX_NAME};
 use crate::new_file::{NewFile, begin};
 use crate::store::{Failed, ReadStop, Store};
@@ -20,7 +20,7 @@ use std::{fs, io};
 
 /// An open file that was read from its beginning up to an offset, where reading can continue.
 #[derive(Drop)]
-struct Opened<F: Drop> {
+struct OpenedFile<F: Drop> {
     name: ArrayVec<u8, MAX_NAME>,
     file: F,
     at: u64,
@@ -33,15 +33,15 @@ struct Opened<F: Drop> {
 pub struct DirStore<'a, R: Files> {
     alloc: Global,
     rt: &'a R,
-    opened: Option<Opened<R::File>>,
+    opened: Option<OpenedFile<R::File>>,
     begun: Option<NewFile<R::File>>,
     log: FaultLog,
 }
 
 impl<'a, R: Files> Model for DirStore<'a, R> {
-    ghost use Rattle.outside_io.specs.Blames.{FaultsSoFar};
+    ghost use Rattle.outside_io.specs.Blames.{FaultLogValue};
 
-    ghost Value = { FaultsSoFar };
+    ghost Value = { FaultLogValue };
 
     ghost view = { λ s. s.log };
 }
@@ -62,62 +62,62 @@ impl<'a, R: Files> DirStore<'a, R> {
 }
 
 impl<'a, R: Files> Store for DirStore<'a, R> {
-    ghost use Rattle.outside_io.specs.Sights.{untold_files};
+    ghost use Rattle.outside_io.specs.Views.{hidden_files};
 
-    ghost sight = { untold_files };
+    ghost view = { hidden_files };
 
     fn read_at(&mut self, name: &str, at: u64, buf: &mut [u8]) -> Result<usize, ReadStop>
-        requires name { IsName name.now }
+        requires name { IsFileName name.now }
         requires offset { at ≤ MAX_FILE }
-        ensures same { (untold_files self.new).files ≡ (untold_files self.old).files }
+        ensures same { (hidden_files self.new).files ≡ (hidden_files self.old).files }
         ensures bound { IfOk result (λ count. count ≤ length buf.new) }
-        ensures gives { ReadGives (untold_files self.old).files name.now at buf.new result }
-        ensures cause { ReadCause name.now (untold_files self.old) (untold_files self.new) result }
-        ensures exact { Notes (read_of name.now) self.old self.new result }
+        ensures gives { IsReadResult (hidden_files self.old).files name.now at buf.new result }
+        ensures cause { ReadCause name.now (hidden_files self.old) (hidden_files self.new) result }
+        ensures exact { LogsFailedCall (read_call name.now) self.old self.new result }
     {
         match read_next(self.rt, &mut self.begun, &mut self.opened, name, at, buf) {
             Ok(count) => Ok(count),
             Err(_) => {
                 self.opened = None;
-                self.log.note(Kind::Read, name);
+                self.log.note(CallKind::Read, name);
                 Err(ReadStop::Failed)
             }
         }
     }
 
     fn create(&mut self, name: &str) -> Result<(), Failed>
-        requires name { IsName name.now }
-        ensures empty { OnOk result (HoldsNow (untold_files self.new).files name.now []) }
-        ensures others { ChangesOnly (untold_files self.old).files
-            (untold_files self.new).files name.now }
-        ensures cause { WriteCause name.now (untold_files self.old) (untold_files self.new) result }
-        ensures exact { Notes (write_of name.now) self.old self.new result }
+        requires name { IsFileName name.now }
+        ensures empty { OnOk result (FileHolds (hidden_files self.new).files name.now []) }
+        ensures others { ChangesOnlyFile (hidden_files self.old).files
+            (hidden_files self.new).files name.now }
+        ensures cause { WriteCause name.now (hidden_files self.old) (hidden_files self.new) result }
+        ensures exact { LogsFailedCall (write_call name.now) self.old self.new result }
     {
         self.opened = None;
         match begin_next(self.alloc, self.rt, &mut self.begun, name) {
             Ok(()) => Ok(()),
             Err(_) => {
-                self.log.note(Kind::Write, name);
+                self.log.note(CallKind::Write, name);
                 Err(Failed)
             }
         }
     }
 
     fn append(&mut self, name: &str, bytes: &[u8]) -> Result<(), Failed>
-        requires name { IsName name.now }
-        requires there { IsThere (untold_files self.old).files name.now }
-        ensures added { OnOk result (Adds (untold_files self.old).files
-            (untold_files self.new).files name.now bytes.now) }
-        ensures others { ChangesOnly (untold_files self.old).files
-            (untold_files self.new).files name.now }
-        ensures cause { WriteCause name.now (untold_files self.old) (untold_files self.new) result }
-        ensures exact { Notes (write_of name.now) self.old self.new result }
+        requires name { IsFileName name.now }
+        requires there { FileExists (hidden_files self.old).files name.now }
+        ensures added { OnOk result (AppendsToFile (hidden_files self.old).files
+            (hidden_files self.new).files name.now bytes.now) }
+        ensures others { ChangesOnlyFile (hidden_files self.old).files
+            (hidden_files self.new).files name.now }
+        ensures cause { WriteCause name.now (hidden_files self.old) (hidden_files self.new) result }
+        ensures exact { LogsFailedCall (write_call name.now) self.old self.new result }
     {
         self.opened = None;
         match add_next(self.rt, &mut self.begun, name, bytes) {
             Ok(()) => Ok(()),
             Err(_) => {
-                self.log.note(Kind::Write, name);
+                self.log.note(CallKind::Write, name);
                 Err(Failed)
             }
         }
@@ -128,7 +128,7 @@ impl<'a, R: Files> Store for DirStore<'a, R> {
 fn read_next<R: Files>(
     rt: &R,
     begun: &mut Option<NewFile<R::File>>,
-    opened: &mut Option<Opened<R::File>>,
+    opened: &mut Option<OpenedFile<R::File>>,
     name: &str,
     at: u64,
     buf: &mut [u8],
@@ -181,7 +181,7 @@ fn settle<R: Files>(rt: &R, begun: &mut Option<NewFile<R::File>>) -> io::Result<
 /// kept open.
 fn read_from<R: Files>(
     rt: &R,
-    opened: &mut Option<Opened<R::File>>,
+    opened: &mut Option<OpenedFile<R::File>>,
     name: &str,
     at: u64,
     buf: &mut [u8],
@@ -203,7 +203,7 @@ fn read_from<R: Files>(
 }
 
 /// Reads from the current offset of an open file.
-fn read_on<F: Read + Drop>(reading: &mut Opened<F>, buf: &mut [u8]) -> io::Result<usize>
+fn read_on<F: Read + Drop>(reading: &mut OpenedFile<F>, buf: &mut [u8]) -> io::Result<usize>
     ensures { IfOk result (λ count. count ≤ length buf.new) }
 {
     let count = read_some(&mut reading.file, buf)?;
@@ -211,7 +211,7 @@ fn read_on<F: Read + Drop>(reading: &mut Opened<F>, buf: &mut [u8]) -> io::Resul
     Ok(count)
 }
 
-fn open_at<R: Files>(rt: &R, name: &str, at: u64) -> io::Result<Opened<R::File>>
+fn open_at<R: Files>(rt: &R, name: &str, at: u64) -> io::Result<OpenedFile<R::File>>
     requires { length name.now ≤ MAX_NAME }
 {
     let mut file = fs::open(rt, name)?;
@@ -220,7 +220,7 @@ fn open_at<R: Files>(rt: &R, name: &str, at: u64) -> io::Result<Opened<R::File>>
     }
     let mut kept = ArrayVec::new();
     kept.try_extend_from_slice(name.as_bytes()).unwrap();
-    Ok(Opened {
+    Ok(OpenedFile {
         name: kept,
         file,
         at,

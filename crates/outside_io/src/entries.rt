@@ -1,16 +1,16 @@
 ghost use Rattle.std.specs.Prelude.{◌≡◌, [], not, IfSome, IfNone, OnOk, OnErr, is_some, IsSome};
 ghost use Rattle.std.specs.Bool.{OnTrue, OnFalse};
-ghost use Rattle.outside_io.specs.MemEntries.{file_in, overflows, room_in, with_added, with_content, with_file, with_room};
-ghost use Rattle.outside_io.specs.Places.{IsFree, IsPlace};
+ghost use Rattle.outside_io.specs.MemEntries.{file_in, exceeds_room, room_in, with_bytes_appended, with_content, with_file, with_room};
+ghost use Rattle.outside_io.specs.EntryIndexes.{HasNoEntry, IsEntryIndex};
 
 use crate::entry::Entry;
 use design_model::Memory;
 use std::alloc::Global;
 
 /// Returns the index of the entry of that name.
-fn place_of(entries: &[Entry], name: &[u8]) -> Option<usize>
-    ensures some { IfSome result (λ place. IsPlace entries.now name.now place) }
-    ensures none { IfNone result (IsFree entries.now name.now) }
+fn entry_index(entries: &[Entry], name: &[u8]) -> Option<usize>
+    ensures some { IfSome result (λ place. IsEntryIndex entries.now name.now place) }
+    ensures none { IfNone result (HasNoEntry entries.now name.now) }
 {
     for (place, entry) in entries.iter().enumerate() {
         if entry.is_named(name) {
@@ -25,7 +25,7 @@ pub(crate) fn content_of<'a>(entries: &'a [Entry], name: &[u8]) -> Option<&'a [u
     ensures some { IfSome result (λ content. file_in entries.now name.now ≡ Some content.now) }
     ensures none { IfNone result (file_in entries.now name.now ≡ None) }
 {
-    match place_of(entries, name) {
+    match entry_index(entries, name) {
         Some(place) => entries[place].content(),
         None => None,
     }
@@ -37,7 +37,7 @@ pub(crate) fn make_file(entries: &mut Vec<Entry>, name: &[u8]) -> bool
     ensures made { OnTrue result (entries.new.items ≡ with_content entries.old.items name.now []) }
     ensures kept { OnFalse result (entries.new.items ≡ entries.old.items) }
 {
-    match place_of(entries, name) {
+    match entry_index(entries, name) {
         Some(place) => {
             let entry = &mut entries[place];
             entry.make();
@@ -50,12 +50,12 @@ pub(crate) fn make_file(entries: &mut Vec<Entry>, name: &[u8]) -> bool
 /// Appends bytes to the named file if they fit, and returns whether they do.
 pub(crate) fn add_to_file(entries: &mut Vec<Entry>, name: &[u8], bytes: &[u8]) -> bool
     requires { IsSome (file_in entries.old.items name.now) }
-    ensures fits { result ≡ not (overflows entries.old.items name.now bytes.now) }
+    ensures fits { result ≡ not (exceeds_room entries.old.items name.now bytes.now) }
     ensures added { OnTrue result (entries.new.items
-        ≡ with_added entries.old.items name.now bytes.now) }
+        ≡ with_bytes_appended entries.old.items name.now bytes.now) }
     ensures kept { OnFalse result (entries.new.items ≡ entries.old.items) }
 {
-    match place_of(entries, name) {
+    match entry_index(entries, name) {
         Some(place) => {
             let entry = &mut entries[place];
             if !entry.fits(bytes) {
@@ -78,7 +78,7 @@ pub(crate) fn raise_room(
     ensures ok { OnOk result (entries.new.items ≡ with_room entries.old.items name.now room) }
     ensures err { OnErr result (entries.new.items ≡ entries.old.items) }
 {
-    match place_of(entries, name) {
+    match entry_index(entries, name) {
         Some(place) => {
             let entry = &mut entries[place];
             entry.raise(room)
@@ -100,7 +100,7 @@ pub(crate) fn set_file(
     ensures ok { OnOk result (entries.new.items ≡ with_file entries.old.items name.now bytes.now) }
     ensures err { OnErr result (entries.new.items ≡ entries.old.items) }
 {
-    match place_of(entries, name) {
+    match entry_index(entries, name) {
         Some(place) => {
             let entry = &mut entries[place];
             entry.raise(bytes.len())?;

@@ -1,11 +1,11 @@
 ghost use Rattle.std.specs.Prelude.{◌≡◌};
-ghost use Rattle.outside_io.specs.Files.{is_name as may_be_name};
+ghost use Rattle.outside_io.specs.Files.{is_file_name};
 
 use crate::limits::MAX_NAME;
 
 /// Returns whether an argument can be a file name.
 pub fn is_name(word: &str) -> bool
-    ensures { result ≡ may_be_name word.now }
+    ensures { result ≡ is_file_name word.now }
 {
     1 <= word.len() && word.len() <= MAX_NAME
 }

@@ -23,7 +23,7 @@ mod whole_files;
 mod writing;
 
 pub use arguments::program_words;
-pub use blame::Kind;
+pub use blame::CallKind;
 pub use dir_store::DirStore;
 pub use file_names::is_name;
 pub use limits::{MAX_FILE, MAX_NAME};

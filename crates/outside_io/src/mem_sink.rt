@@ -1,7 +1,7 @@
 ghost use Rattle.std.specs.Prelude.{◌≡◌, ◌∷◌, ◌++◌, [], OnOk, OnErr, IfOk};
-ghost use Rattle.outside_io.specs.Causes.{PutCause, Took};
-ghost use Rattle.outside_io.specs.Counts.{counted_on};
-ghost use Rattle.outside_io.specs.MemSinks.{MemPuts, empty_sink, refuses, sink_seen};
+ghost use Rattle.outside_io.specs.Causes.{PutCause, TookBytes};
+ghost use Rattle.outside_io.specs.Counts.{next_count};
+ghost use Rattle.outside_io.specs.MemSinks.{MemPuts, empty_sink, put_fails, sink_view};
 
 use crate::sink::Sink;
 use crate::store::Failed;
@@ -71,8 +71,8 @@ impl MemSink {
 
     /// Counts a put, and returns whether it shall fail.
     fn begins_to_refuse(&mut self, bytes: &[u8]) -> bool
-        ensures refused { result ≡ refuses self.old bytes.now }
-        ensures counted { self.new ≡ record self.old { calls = counted_on self.old.calls } }
+        ensures refused { result ≡ put_fails self.old bytes.now }
+        ensures counted { self.new ≡ record self.old { calls = next_count self.old.calls } }
     {
         self.calls = self.calls.saturating_add(1);
         self.failing.contains(&self.calls) || bytes.len() > self.room - self.bytes.len()
@@ -80,14 +80,14 @@ impl MemSink {
 }
 
 impl Sink for MemSink {
-    ghost use Rattle.outside_io.specs.MemSinks.{sink_seen};
+    ghost use Rattle.outside_io.specs.MemSinks.{sink_view};
 
-    ghost sight = { sink_seen };
+    ghost view = { sink_view };
 
     /// Adds the bytes, without allocating.
     fn put(&mut self, bytes: &[u8]) -> Result<(), Failed>
-        ensures took { Took (sink_seen self.old) (sink_seen self.new) bytes.now result }
-        ensures cause { PutCause (sink_seen self.old) (sink_seen self.new) result }
+        ensures took { TookBytes (sink_view self.old) (sink_view self.new) bytes.now result }
+        ensures cause { PutCause (sink_view self.old) (sink_view self.new) result }
         ensures exact { MemPuts self.old self.new bytes.now result }
     {
         if self.begins_to_refuse(bytes) {

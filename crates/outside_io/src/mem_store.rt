@@ -1,10 +1,10 @@
 ghost use Rattle.std.specs.Prelude.{◌≡◌, ℕ, ◌≤◌, List, [], ◌∷◌, ◌++◌, length, IfOk, IfSome, IfNone, OnOk, OnErr, min, take, drop};
-ghost use Rattle.outside_io.specs.Causes.{ReadCause, ReadGives, WriteCause};
-ghost use Rattle.outside_io.specs.Counts.{counted_on};
-ghost use Rattle.outside_io.specs.Files.{Adds, ChangesOnly, HoldsNow, IsName, IsThere};
-ghost use Rattle.outside_io.specs.MemStores.{MemAppends, MemCreates, MemReads, empty_store, file_set, files_of, is_listed, room_raised, store_seen, told_by};
+ghost use Rattle.outside_io.specs.Causes.{ReadCause, IsReadResult, WriteCause};
+ghost use Rattle.outside_io.specs.Counts.{next_count};
+ghost use Rattle.outside_io.specs.Files.{AppendsToFile, ChangesOnlyFile, FileHolds, IsFileName, FileExists};
+ghost use Rattle.outside_io.specs.MemStores.{MemAppends, MemCreates, MemReads, empty_store, file_set, files_of, is_next_call_listed, room_raised, store_view, visible_files};
 
-use crate::blame::{FaultLog, Kind};
+use crate::blame::{CallKind, FaultLog};
 use crate::entries::{add_to_file, content_of, make_file, raise_room, set_file};
 use crate::entry::Entry;
 use crate::limits::MAX_FILE;
@@ -57,7 +57,7 @@ impl MemStore {
     pub fn put_file(&mut self, name: &str, bytes: &[u8]) -> Result<(), Memory>
         ensures ok { OnOk result (self.new ≡ file_set self.old name.now bytes.now) }
         ensures file { OnOk result (files_of self.new name.now ≡ Some bytes.now) }
-        ensures others { ChangesOnly (told_by self.old) (told_by self.new) name.now }
+        ensures others { ChangesOnlyFile (visible_files self.old) (visible_files self.new) name.now }
         ensures err { OnErr result (self.new ≡ self.old) }
     {
         set_file(self.alloc, &mut self.entries, name.as_bytes(), bytes)?;
@@ -100,8 +100,8 @@ impl MemStore {
 
     /// Counts a call, and returns whether its number is listed.
     fn begins_to_fail(&mut self) -> bool
-        ensures listed { result ≡ is_listed self.old.failing self.old.calls }
-        ensures counted { self.new ≡ record self.old { calls = counted_on self.old.calls } }
+        ensures listed { result ≡ is_next_call_listed self.old.failing self.old.calls }
+        ensures counted { self.new ≡ record self.old { calls = next_count self.old.calls } }
     {
         self.calls = self.calls.saturating_add(1);
         self.failing.contains(&self.calls)
@@ -109,22 +109,22 @@ impl MemStore {
 }
 
 impl Store for MemStore {
-    ghost use Rattle.outside_io.specs.MemStores.{store_seen};
+    ghost use Rattle.outside_io.specs.MemStores.{store_view};
 
-    ghost sight = { store_seen };
+    ghost view = { store_view };
 
     /// Reads as many bytes as fit into the buffer or remain in the file, whichever is fewer.
     fn read_at(&mut self, name: &str, at: u64, buf: &mut [u8]) -> Result<usize, ReadStop>
-        requires name { IsName name.now }
+        requires name { IsFileName name.now }
         requires offset { at ≤ MAX_FILE }
-        ensures same { (store_seen self.new).files ≡ (store_seen self.old).files }
+        ensures same { (store_view self.new).files ≡ (store_view self.old).files }
         ensures bound { IfOk result (λ count. count ≤ length buf.new) }
-        ensures gives { ReadGives (store_seen self.old).files name.now at buf.new result }
-        ensures cause { ReadCause name.now (store_seen self.old) (store_seen self.new) result }
+        ensures gives { IsReadResult (store_view self.old).files name.now at buf.new result }
+        ensures cause { ReadCause name.now (store_view self.old) (store_view self.new) result }
         ensures exact { MemReads self.old self.new name.now at buf.old buf.new result }
     {
         if self.begins_to_fail() {
-            self.log.note(Kind::Read, name);
+            self.log.note(CallKind::Read, name);
             return Err(ReadStop::Failed);
         }
         match content_of(self.entries.as_slice(), name.as_bytes()) {
@@ -135,15 +135,15 @@ impl Store for MemStore {
 
     /// Makes the file empty, if the name has room.
     fn create(&mut self, name: &str) -> Result<(), Failed>
-        requires name { IsName name.now }
-        ensures empty { OnOk result (HoldsNow (store_seen self.new).files name.now []) }
-        ensures others { ChangesOnly (store_seen self.old).files
-            (store_seen self.new).files name.now }
-        ensures cause { WriteCause name.now (store_seen self.old) (store_seen self.new) result }
+        requires name { IsFileName name.now }
+        ensures empty { OnOk result (FileHolds (store_view self.new).files name.now []) }
+        ensures others { ChangesOnlyFile (store_view self.old).files
+            (store_view self.new).files name.now }
+        ensures cause { WriteCause name.now (store_view self.old) (store_view self.new) result }
         ensures exact { MemCreates self.old self.new name.now result }
     {
         if self.begins_to_fail() || !make_file(&mut self.entries, name.as_bytes()) {
-            self.log.note(Kind::Write, name);
+            self.log.note(CallKind::Write, name);
             return Err(Failed);
         }
         Ok(())
@@ -151,17 +151,17 @@ impl Store for MemStore {
 
     /// Appends the bytes, if they fit into the room of the name.
     fn append(&mut self, name: &str, bytes: &[u8]) -> Result<(), Failed>
-        requires name { IsName name.now }
-        requires there { IsThere (store_seen self.old).files name.now }
-        ensures added { OnOk result (Adds (store_seen self.old).files
-            (store_seen self.new).files name.now bytes.now) }
-        ensures others { ChangesOnly (store_seen self.old).files
-            (store_seen self.new).files name.now }
-        ensures cause { WriteCause name.now (store_seen self.old) (store_seen self.new) result }
+        requires name { IsFileName name.now }
+        requires there { FileExists (store_view self.old).files name.now }
+        ensures added { OnOk result (AppendsToFile (store_view self.old).files
+            (store_view self.new).files name.now bytes.now) }
+        ensures others { ChangesOnlyFile (store_view self.old).files
+            (store_view self.new).files name.now }
+        ensures cause { WriteCause name.now (store_view self.old) (store_view self.new) result }
         ensures exact { MemAppends self.old self.new name.now bytes.now result }
     {
         if self.begins_to_fail() || !add_to_file(&mut self.entries, name.as_bytes(), bytes) {
-            self.log.note(Kind::Write, name);
+            self.log.note(CallKind::Write, name);
             return Err(Failed);
         }
         Ok(())

@@ -20,13 +20,13 @@ const MAX_BESIDE: u32 = 10_000;
 pub(crate) struct NewFile<F: Drop> {
     name: ArrayVec<u8, MAX_NAME>,
     file: F,
-    to: Option<Move>,
+    to: Option<Replacement>,
 }
 
 /// The replacement of a file: a new file beside it is renamed to its path once the bytes are on disk. Until
 /// then the old file is unchanged.
 #[derive(Drop)]
-struct Move {
+struct Replacement {
     beside: PathBuf,
     place: PathBuf,
 }
@@ -54,7 +54,7 @@ fn begin_in_place<R: Files>(rt: &R, name: &str) -> io::Result<NewFile<R::File>>
     Ok(named(name, file, None))
 }
 
-fn named<F: Drop>(name: &str, file: F, to: Option<Move>) -> NewFile<F>
+fn named<F: Drop>(name: &str, file: F, to: Option<Replacement>) -> NewFile<F>
     requires { length name.now ≤ MAX_NAME }
 {
     let mut kept = ArrayVec::new();
@@ -79,7 +79,7 @@ fn begin_beside<R: Files>(alloc: Global, rt: &R, name: &str) -> io::Result<Optio
     };
     let old = old_file(rt, place.as_str())?;
     let (beside, file) = file_beside(alloc, rt, place.as_path())?;
-    let new = named(name, file, Some(Move { beside, place }));
+    let new = named(name, file, Some(Replacement { beside, place }));
     match new.takes_after(old) {
         Ok(true) => Ok(Some(new)),
         Ok(false) => {

@@ -1,5 +1,5 @@
-ghost use Rattle.outside_io.specs.Causes.{PutCause, Took};
-ghost use Rattle.outside_io.specs.Sights.{SinkSight};
+ghost use Rattle.outside_io.specs.Causes.{PutCause, TookBytes};
+ghost use Rattle.outside_io.specs.Views.{SinkView};
 
 use crate::store::Failed;
 
@@ -7,10 +7,10 @@ use crate::store::Failed;
 pub trait Sink {
     /// The view of the sink: the bytes taken, if visible, and the number of failed puts, up to the largest
     /// 64-bit number.
-    ghost sight: { Self → SinkSight };
+    ghost view: { Self → SinkView };
 
     /// Adds all the bytes. An error means that a prefix of them was added.
     fn put(&mut self, bytes: &[u8]) -> Result<(), Failed>
-        ensures took { Took (sight self.old) (sight self.new) bytes.now result }
-        ensures cause { PutCause (sight self.old) (sight self.new) result };
+        ensures took { TookBytes (view self.old) (view self.new) bytes.now result }
+        ensures cause { PutCause (view self.old) (view self.new) result };
 }

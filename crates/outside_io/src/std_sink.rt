@@ -1,6 +1,6 @@
 ghost use Rattle.std.specs.Prelude.{◌≡◌};
-ghost use Rattle.outside_io.specs.Causes.{PutCause, Took};
-ghost use Rattle.outside_io.specs.Sights.{untold_bytes};
+ghost use Rattle.outside_io.specs.Causes.{PutCause, TookBytes};
+ghost use Rattle.outside_io.specs.Views.{hidden_bytes};
 ghost use Rattle.outside_io.specs.Streams.{StreamPuts};
 
 use crate::sink::Sink;
@@ -35,15 +35,15 @@ impl<W: Write + Drop> StdSink<W> {
 }
 
 impl<W: Write + Drop> Sink for StdSink<W> {
-    ghost use Rattle.outside_io.specs.Sights.{untold_bytes};
+    ghost use Rattle.outside_io.specs.Views.{hidden_bytes};
 
-    ghost sight = { λ s. untold_bytes s.faults };
+    ghost view = { λ s. hidden_bytes s.faults };
 
     fn put(&mut self, bytes: &[u8]) -> Result<(), Failed>
-        ensures took { Took (untold_bytes self.old.faults)
-            (untold_bytes self.new.faults) bytes.now result }
-        ensures cause { PutCause (untold_bytes self.old.faults)
-            (untold_bytes self.new.faults) result }
+        ensures took { TookBytes (hidden_bytes self.old.faults)
+            (hidden_bytes self.new.faults) bytes.now result }
+        ensures cause { PutCause (hidden_bytes self.old.faults)
+            (hidden_bytes self.new.faults) result }
         ensures exact { StreamPuts self.old self.new bytes.now result }
     {
         if write_all(&mut self.writer, bytes) {

@@ -1,7 +1,7 @@
 ghost use Rattle.std.specs.Prelude.{◌≡◌, ◌≤◌, [], length, IfOk, OnOk};
-ghost use Rattle.outside_io.specs.Causes.{ReadCause, ReadGives, WriteCause};
-ghost use Rattle.outside_io.specs.Files.{Adds, ChangesOnly, HoldsNow, IsName, IsThere};
-ghost use Rattle.outside_io.specs.Sights.{StoreSight};
+ghost use Rattle.outside_io.specs.Causes.{ReadCause, IsReadResult, WriteCause};
+ghost use Rattle.outside_io.specs.Files.{AppendsToFile, ChangesOnlyFile, FileHolds, IsFileName, FileExists};
+ghost use Rattle.outside_io.specs.Views.{StoreView};
 
 use crate::limits::MAX_FILE;
 
@@ -22,31 +22,31 @@ pub enum ReadStop {
 pub trait Store {
     /// The view of the store: its files, if visible, the number of failed calls, up to the largest 64-bit
     /// number, and the last failed call.
-    ghost sight: { Self → StoreSight };
+    ghost view: { Self → StoreView };
 
     /// Reads bytes from the offset `at` on into the buffer, and returns their number; 0 is the end of the
     /// file. After an error the content of the buffer is unspecified.
     fn read_at(&mut self, name: &str, at: u64, buf: &mut [u8]) -> Result<usize, ReadStop>
-        requires name { IsName name.now }
+        requires name { IsFileName name.now }
         requires offset { at ≤ MAX_FILE }
-        ensures same { (sight self.new).files ≡ (sight self.old).files }
+        ensures same { (view self.new).files ≡ (view self.old).files }
         ensures bound { IfOk result (λ count. count ≤ length buf.new) }
-        ensures gives { ReadGives (sight self.old).files name.now at buf.new result }
-        ensures cause { ReadCause name.now (sight self.old) (sight self.new) result };
+        ensures gives { IsReadResult (view self.old).files name.now at buf.new result }
+        ensures cause { ReadCause name.now (view self.old) (view self.new) result };
 
     /// Makes the named file empty, whether or not it existed.
     fn create(&mut self, name: &str) -> Result<(), Failed>
-        requires name { IsName name.now }
-        ensures empty { OnOk result (HoldsNow (sight self.new).files name.now []) }
-        ensures others { ChangesOnly (sight self.old).files (sight self.new).files name.now }
-        ensures cause { WriteCause name.now (sight self.old) (sight self.new) result };
+        requires name { IsFileName name.now }
+        ensures empty { OnOk result (FileHolds (view self.new).files name.now []) }
+        ensures others { ChangesOnlyFile (view self.old).files (view self.new).files name.now }
+        ensures cause { WriteCause name.now (view self.old) (view self.new) result };
 
     /// Appends all the bytes to the named file, which exists.
     fn append(&mut self, name: &str, bytes: &[u8]) -> Result<(), Failed>
-        requires name { IsName name.now }
-        requires there { IsThere (sight self.old).files name.now }
-        ensures added { OnOk result (Adds (sight self.old).files
-            (sight self.new).files name.now bytes.now) }
-        ensures others { ChangesOnly (sight self.old).files (sight self.new).files name.now }
-        ensures cause { WriteCause name.now (sight self.old) (sight self.new) result };
+        requires name { IsFileName name.now }
+        requires there { FileExists (view self.old).files name.now }
+        ensures added { OnOk result (AppendsToFile (view self.old).files
+            (view self.new).files name.now bytes.now) }
+        ensures others { ChangesOnlyFile (view self.old).files (view self.new).files name.now }
+        ensures cause { WriteCause name.now (view self.old) (view self.new) result };
 }

@@ -1,9 +1,9 @@
 ghost use Rattle.std.specs.Prelude.{◌≡◌, ◌<◌, ◌≤◌, OnOk, length};
-ghost use Rattle.design_model.specs.WantOfMemory.{IsSaid};
-ghost use Rattle.outside_io.specs.Causes.{ReadsWhole, WriteCause, wants_memory, whole_answer};
-ghost use Rattle.outside_io.specs.Counts.{IsQuiet};
-ghost use Rattle.outside_io.specs.FileParts.{ReadsNext};
-ghost use Rattle.outside_io.specs.Files.{ChangesOnly, HoldsNow, IsName, WhereTold};
+ghost use Rattle.design_model.specs.OutOfMemory.{IsSpecified};
+ghost use Rattle.outside_io.specs.Causes.{ReadsWholeFile, WriteCause, get_is_out_of_memory, whole_file_result};
+ghost use Rattle.outside_io.specs.Counts.{IsFaultless};
+ghost use Rattle.outside_io.specs.FileParts.{ReadsNextPart};
+ghost use Rattle.outside_io.specs.Files.{ChangesOnlyFile, FileHolds, IsFileName, WhereVisible};
 
 use crate::limits::MAX_FILE;
 use crate::store::{Failed, ReadStop, Store};
@@ -44,14 +44,14 @@ pub fn read_whole<S: Store>(
     name: &str,
     limit: u64,
 ) -> Result<Bytes, GetFault>
-    requires name { IsName name.now }
+    requires name { IsFileName name.now }
     requires limit { limit ≤ MAX_FILE }
-    ensures reads { ReadsWhole name.now limit (S.sight store.old) (S.sight store.new) result }
-    ensures same { (S.sight store.new).files ≡ (S.sight store.old).files }
+    ensures reads { ReadsWholeFile name.now limit (S.view store.old) (S.view store.new) result }
+    ensures same { (S.view store.new).files ≡ (S.view store.old).files }
     // If no fault is counted, the file determines the result, or the call is out of memory.
-    ensures decided { IsQuiet (S.sight store.old).faults (S.sight store.new).faults →
-        WhereTold (S.sight store.old).files
-        (λ told. IsSaid wants_memory (whole_answer (told name.now) limit) result) }
+    ensures decided { IsFaultless (S.view store.old).faults (S.view store.new).faults →
+        WhereVisible (S.view store.old).files
+        (λ visible. IsSpecified get_is_out_of_memory (whole_file_result (visible name.now) limit) result) }
 {
     read_in_order(alloc, store, name, limit)
 }
@@ -62,10 +62,10 @@ fn read_in_order<S: Store>(
     name: &str,
     limit: u64,
 ) -> Result<Bytes, GetFault>
-    requires name { IsName name.now }
+    requires name { IsFileName name.now }
     requires limit { limit ≤ MAX_FILE }
-    ensures reads { ReadsWhole name.now limit (S.sight store.old) (S.sight store.new) result }
-    ensures same { (S.sight store.new).files ≡ (S.sight store.old).files }
+    ensures reads { ReadsWholeFile name.now limit (S.view store.old) (S.view store.new) result }
+    ensures same { (S.view store.new).files ≡ (S.view store.old).files }
 {
     let mut bytes = Bytes::new(alloc);
     let mut buffer = [0u8; READ_SIZE];
@@ -87,12 +87,13 @@ pub fn read_next<S: Store>(
     limit: u64,
     buffer: &mut [u8],
 ) -> Result<usize, GetFault>
-    requires name { IsName name.now }
+    requires name { IsFileName name.now }
     requires limit { limit ≤ MAX_FILE }
     requires at { at ≤ limit }
     requires room { 0 < length buffer.old }
-    ensures reads { ReadsNext name.now at limit (S.sight store.old) (S.sight store.new) buffer.new result }
-    ensures same { (S.sight store.new).files ≡ (S.sight store.old).files }
+    ensures reads { ReadsNextPart name.now at limit (S.view store.old) (S.view store.new) buffer.new
+        result }
+    ensures same { (S.view store.new).files ≡ (S.view store.old).files }
 {
     let count = match store.read_at(name, at, buffer) {
         Ok(count) => count,
@@ -107,10 +108,10 @@ pub fn read_next<S: Store>(
 
 /// Writes an entire file: makes it empty, and appends all the bytes at once.
 pub fn write_whole<S: Store>(store: &mut S, name: &str, bytes: &[u8]) -> Result<(), Failed>
-    requires { IsName name.now }
-    ensures holds { OnOk result (HoldsNow (S.sight store.new).files name.now bytes.now) }
-    ensures others { ChangesOnly (S.sight store.old).files (S.sight store.new).files name.now }
-    ensures cause { WriteCause name.now (S.sight store.old) (S.sight store.new) result }
+    requires { IsFileName name.now }
+    ensures holds { OnOk result (FileHolds (S.view store.new).files name.now bytes.now) }
+    ensures others { ChangesOnlyFile (S.view store.old).files (S.view store.new).files name.now }
+    ensures cause { WriteCause name.now (S.view store.old) (S.view store.new) result }
 {
     store.create(name)?;
     store.append(name, bytes)?;

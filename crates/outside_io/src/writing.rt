@@ -1,7 +1,7 @@
 ghost use Rattle.std.specs.Prelude.{ℕ, List};
 ghost use Rattle.std.specs.Bool.{OnFalse, OnTrue};
 ghost use Rattle.std.specs.Io.KnownBytes.{Appends};
-ghost use Rattle.outside_io.specs.Streams.{AddsUpTo};
+ghost use Rattle.outside_io.specs.Streams.{AddsPrefix};
 
 use crate::turns::write_some;
 use std::io::Write;
@@ -13,7 +13,7 @@ pub(crate) fn write_all<W: Write>(writer: &mut W, bytes: &[u8]) -> bool
     ensures all { OnTrue result
         (Appends (W.contents writer.old) (W.contents writer.new) bytes.now) }
     ensures some { OnFalse result ((left : List ℕ)
-        × AddsUpTo (W.contents writer.old) (W.contents writer.new) bytes.now left) }
+        × AddsPrefix (W.contents writer.old) (W.contents writer.new) bytes.now left) }
 {
     let mut rest = bytes;
     while !rest.is_empty() {

@@ -10,9 +10,9 @@ use Rattle.design_model.specs.declared.command.Command.TheVariants.{Stitch, Jump
 use Rattle.design_model.specs.declared.point.Point.{Point}
 use Rattle.design_model.specs.declared.point.TheConstants.{NEEDLE_LIMIT}
 use Rattle.design_model.specs.Acts.{acts_from}
-use Rattle.design_model.specs.Commands.{is_in_range}
-use Rattle.design_model.specs.Extents.{Bounds, columns, height_of, needle_points, rows, width_of}
-use Rattle.design_model.specs.Points.{is_within}
+use Rattle.design_model.specs.Commands.{is_command_in_range}
+use Rattle.design_model.specs.Extents.{IsExtentOrNone, x_coordinates, extent_height, needle_points_of_acts, y_coordinates, extent_width}
+use Rattle.design_model.specs.Points.{is_point_within}
 
 -- a coordinate of a needle
 abbrev IsNear : ℤ → Type 0
@@ -20,26 +20,26 @@ IsNear z = unsigned_abs z ≤ NEEDLE_LIMIT
 
 -- the coordinates of all needles are near
 pub record AreNear (points : List Point) : Type 0 where
-  pub columns : All IsNear (columns points)
-  pub rows : All IsNear (rows points)
+  pub columns : All IsNear (x_coordinates points)
+  pub rows : All IsNear (y_coordinates points)
 
-near-cons : (p : Point) (points : List Point) → IsTrue (is_within NEEDLE_LIMIT p) → AreNear points → AreNear (p ∷ points)
+near-cons : (p : Point) (points : List Point) → IsTrue (is_point_within NEEDLE_LIMIT p) → AreNear points → AreNear (p ∷ points)
 near-cons p points within rest =
     let both = and_parts (nat_le (unsigned_abs p.x) NEEDLE_LIMIT) (nat_le (unsigned_abs p.y) NEEDLE_LIMIT) within in
     record {
-      columns = All-cons IsNear p.x (columns points) (leb-true _ _ both.0) rest.columns;
-      rows = All-cons IsNear p.y (rows points) (leb-true _ _ both.1) rest.rows;
+      columns = All-cons IsNear p.x (x_coordinates points) (leb-true _ _ both.0) rest.columns;
+      rows = All-cons IsNear p.y (y_coordinates points) (leb-true _ _ both.1) rest.rows;
     }
 
 -- the needles of commands in range are near
 pub needles_near : (n : ℕ) (loose jumped : Bool) (commands : List Command)
-    → IsTrue (list_all is_in_range commands) → AreNear (needle_points (acts_from n loose jumped commands))
+    → IsTrue (list_all is_command_in_range commands) → AreNear (needle_points_of_acts (acts_from n loose jumped commands))
 needles_near n loose jumped [] all = record { columns = All-nil IsNear; rows = All-nil IsNear }
 needles_near n loose jumped (Stitch p ∷ rest) all =
-    let both = and_parts (is_in_range (Stitch p)) (list_all is_in_range rest) all in
-    near-cons p (needle_points (acts_from (n + 1) false false rest)) both.0 (needles_near (n + 1) false false rest both.1)
+    let both = and_parts (is_command_in_range (Stitch p)) (list_all is_command_in_range rest) all in
+    near-cons p (needle_points_of_acts (acts_from (n + 1) false false rest)) both.0 (needles_near (n + 1) false false rest both.1)
 needles_near n loose jumped (Jump p ∷ rest) all = needles_near (n + 1) loose true rest
-    (and_parts (is_in_range (Jump p)) (list_all is_in_range rest) all).1
+    (and_parts (is_command_in_range (Jump p)) (list_all is_command_in_range rest) all).1
 needles_near n true jumped (Trim ∷ rest) all = needles_near (n + 1) true jumped rest all
 needles_near n false jumped (Trim ∷ rest) all = needles_near (n + 1) true false rest all
 needles_near n loose jumped (Stop ∷ rest) all = needles_near (n + 1) true false rest all
@@ -51,16 +51,16 @@ near_one z zs all (k, below, is) = subst IsNear is (all k z below)
 difference : (y z : ℤ) → IsNear y → IsNear z → unsigned_abs (y -ℤ z) < 2 ^ 16
 difference y z near_y near_z = omega (arith, ints, near_y, near_z)
 
-pub narrow : (points : List Point) (extent : Option Extent) → AreNear points → Bounds points extent
-    → width_of extent < 2 ^ 16
+pub narrow : (points : List Point) (extent : Option Extent) → AreNear points → IsExtentOrNone points extent
+    → extent_width extent < 2 ^ 16
 narrow points None near bounds = omega arith
 narrow points (Some e) near bounds = difference e.max.x e.min.x
-    (near_one e.max.x (columns points) near.columns bounds.right.reached)
-    (near_one e.min.x (columns points) near.columns bounds.left.reached)
+    (near_one e.max.x (x_coordinates points) near.columns bounds.right.reached)
+    (near_one e.min.x (x_coordinates points) near.columns bounds.left.reached)
 
-pub low : (points : List Point) (extent : Option Extent) → AreNear points → Bounds points extent
-    → height_of extent < 2 ^ 16
+pub low : (points : List Point) (extent : Option Extent) → AreNear points → IsExtentOrNone points extent
+    → extent_height extent < 2 ^ 16
 low points None near bounds = omega arith
 low points (Some e) near bounds = difference e.max.y e.min.y
-    (near_one e.max.y (rows points) near.rows bounds.bottom.reached)
-    (near_one e.min.y (rows points) near.rows bounds.top.reached)
+    (near_one e.max.y (y_coordinates points) near.rows bounds.bottom.reached)
+    (near_one e.min.y (y_coordinates points) near.rows bounds.top.reached)

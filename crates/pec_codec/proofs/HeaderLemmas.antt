@@ -5,9 +5,9 @@ use Rattle.std.proofs.lemmas.List.FromFn.{length-map-range_with_len, map-range_w
 use Rattle.design_model.specs.declared.design.TheConstants.{MAX_LABEL}
 use Rattle.design_model.specs.Designs.{DesignValue, thread_of}
 use Rattle.design_model.specs.Extents.{extent_of}
-use Rattle.format_traits.specs.LabelFields.{filled_right, label_field}
+use Rattle.format_traits.specs.LabelFields.{padded_right, label_field}
 use Rattle.pec_codec.specs.declared.block.TheConstants.{HEADER_LENGTH, LABELS_LENGTH, MAX_STOPS}
-use Rattle.pec_codec.specs.Header.{distance_field, header_of, labels_of, size_fields, threads_of}
+use Rattle.pec_codec.specs.Header.{distance_field, pec_header_of, labels_of, size_fields, threads_of}
 
 -- the threads of one block more
 pub threads_more : (d : DesignValue) (count thread : ℕ) (start out more : List ℕ) → thread ≡ thread_of d count
@@ -18,8 +18,8 @@ threads_more d count thread start out more of_thread of_out of_more =
     ∙ ap (λ byte. start ++ (threads_of d count ++ byte ∷ [])) of_thread
     ∙ ap (λ bytes. start ++ bytes) (sym one)
 
-pub length-filled_right : (places : ℕ) (text : List ℕ) → length text ≤ places → length (filled_right places text) ≡ places
-length-filled_right places text short = omega (
+pub length-padded_right : (places : ℕ) (text : List ℕ) → length text ≤ places → length (padded_right places text) ≡ places
+length-padded_right places text short = omega (
   arith,
   length-append text (replicate (places - length text) 32),
   length-replicate {A = ℕ} (places - length text) 32,
@@ -31,7 +31,7 @@ pub labels_fit : (d : DesignValue) (stops : ℕ) → length d.label ≤ MAX_LABE
 labels_fit d stops short few = omega (
   arith,
   parts (label_field d.label) (threads_of d (stops + 1)) stops,
-  length-filled_right MAX_LABEL d.label short,
+  length-padded_right MAX_LABEL d.label short,
   length-map-range_with_len (thread_of d) 0 (stops + 1),
 )
   where
@@ -41,13 +41,13 @@ labels_fit d stops short few = omega (
     parts label threads stops = simp length-append (omega arith)
 
 -- a header has all its bytes
-pub length-header_of : (d : DesignValue) (stops distance : ℕ) → length (labels_of d stops) ≤ LABELS_LENGTH
-    → length (header_of d stops distance) ≡ HEADER_LENGTH
-length-header_of d stops distance room =
-    let labels = filled_right LABELS_LENGTH (labels_of d stops) in
+pub length-pec_header_of : (d : DesignValue) (stops distance : ℕ) → length (labels_of d stops) ≤ LABELS_LENGTH
+    → length (pec_header_of d stops distance) ≡ HEADER_LENGTH
+length-pec_header_of d stops distance room =
+    let labels = padded_right LABELS_LENGTH (labels_of d stops) in
     omega (
       arith,
       length-append (labels ++ distance_field distance) (size_fields (extent_of d)),
       length-append labels (distance_field distance),
-      length-filled_right LABELS_LENGTH (labels_of d stops) room,
+      length-padded_right LABELS_LENGTH (labels_of d stops) room,
     )

@@ -11,9 +11,9 @@ use Rattle.design_model.specs.Extents.{extent_of}
 use Rattle.format_traits.specs.LabelFields.{label_field, label_in}
 use Rattle.format_traits.specs.Refusals.{stops_of}
 use Rattle.pec_codec.specs.declared.block.TheConstants.{LABELS_LENGTH, MAX_STOPS}
-use Rattle.pec_codec.specs.Header.{distance_field, label_of, labels_of, size_fields, threads_after, threads_in, threads_of}
-use Rattle.pec_codec.specs.Writing.{block_of, body_of, distance_over, thumbnails_of}
-use Rattle.pec_codec.proofs.HeaderLemmas.{length-filled_right}
+use Rattle.pec_codec.specs.Header.{distance_field, pec_label_of, labels_of, size_fields, threads_after, threads_in, threads_of}
+use Rattle.pec_codec.specs.Writing.{pec_block_of, pec_body_of, thumbnail_distance, thumbnails_of}
+use Rattle.pec_codec.proofs.HeaderLemmas.{length-padded_right}
 
 -- the bytes between the label and the number of blocks
 abbrev between : List ℕ
@@ -23,18 +23,18 @@ between = 13 ∷ replicate 12 32 ++ 255 ∷ 0 ∷ 6 ∷ 38 ∷ replicate 12 32
 abbrev behind : DesignValue → List ℕ
 behind d = let stops = stops_of (acts_of d) in
     replicate (LABELS_LENGTH - length (labels_of d stops)) 32
-    ++ (distance_field (distance_over (body_of d)) ++ (size_fields (extent_of d)
-    ++ (body_of d ++ thumbnails_of stops)))
+    ++ (distance_field (thumbnail_distance (pec_body_of d)) ++ (size_fields (extent_of d)
+    ++ (pec_body_of d ++ thumbnails_of stops)))
 
 -- a block by its label and its threads
-pub block_parts : (d : DesignValue) → block_of d
+pub block_parts : (d : DesignValue) → pec_block_of d
     ≡ (codes "LA:" ++ (label_field d.label ++ between))
     ++ stops_of (acts_of d) ∷ (threads_of d (stops_of (acts_of d) + 1) ++ behind d)
 block_parts d =
     let stops = stops_of (acts_of d) in
     parts (label_field d.label) (threads_of d (stops + 1))
-    (replicate (LABELS_LENGTH - length (labels_of d stops)) 32) (distance_field (distance_over (body_of d)))
-    (size_fields (extent_of d)) (body_of d) (thumbnails_of stops) stops
+    (replicate (LABELS_LENGTH - length (labels_of d stops)) 32) (distance_field (thumbnail_distance (pec_body_of d)))
+    (size_fields (extent_of d)) (pec_body_of d) (thumbnails_of stops) stops
   where
     parts : (label threads pad distance sizes body thumbnails : List ℕ) (stops : ℕ)
         → codes "LA:" ++ label ++ 13 ∷ replicate 12 32 ++ 255 ∷ 0 ∷ 6 ∷ 38 ∷ replicate 12 32 ++ stops ∷ threads
@@ -43,9 +43,9 @@ block_parts d =
     parts label threads pad distance sizes body thumbnails stops = simp append_assoc
 
 -- the label that a block holds
-label_of-parts : (label rest : List ℕ) → length label ≡ MAX_LABEL
-    → label_of ((codes "LA:" ++ (label ++ between)) ++ rest) ≡ label_in label
-label_of-parts label rest is =
+pec_label_of-parts : (label rest : List ℕ) → length label ≡ MAX_LABEL
+    → pec_label_of ((codes "LA:" ++ (label ++ between)) ++ rest) ≡ label_in label
+pec_label_of-parts label rest is =
     ap label_in (ap (take MAX_LABEL) (append_assoc label between rest) ∙ take_at label (between ++ rest) MAX_LABEL is)
 
 -- the threads that it names
@@ -64,15 +64,15 @@ threads_in-parts front threads rest stops of_front few of_threads =
     ∙ rw (ne_eqb stops 255 other) (take_at threads rest (stops + 1) of_threads)
 
 length-label_field : (label : List ℕ) → length label ≤ MAX_LABEL → length (label_field label) ≡ MAX_LABEL
-length-label_field label short = length-filled_right MAX_LABEL label short
+length-label_field label short = length-padded_right MAX_LABEL label short
 
-pub label_of-block : (d : DesignValue) → length d.label ≤ MAX_LABEL
-    → label_of (block_of d) ≡ label_in (label_field d.label)
-label_of-block d short = ap label_of (block_parts d)
-    ∙ label_of-parts (label_field d.label) _ (length-label_field d.label short)
+pub pec_label_of-block : (d : DesignValue) → length d.label ≤ MAX_LABEL
+    → pec_label_of (pec_block_of d) ≡ label_in (label_field d.label)
+pec_label_of-block d short = ap pec_label_of (block_parts d)
+    ∙ pec_label_of-parts (label_field d.label) _ (length-label_field d.label short)
 
 pub threads_in-block : (d : DesignValue) → length d.label ≤ MAX_LABEL → stops_of (acts_of d) ≤ MAX_STOPS
-    → threads_in (block_of d) ≡ threads_of d (stops_of (acts_of d) + 1)
+    → threads_in (pec_block_of d) ≡ threads_of d (stops_of (acts_of d) + 1)
 threads_in-block d short few =
     let stops = stops_of (acts_of d) in
     let front = codes "LA:" ++ (label_field d.label ++ between) in

@@ -4,7 +4,7 @@ use Rattle.design_model.specs.declared.command.Command.TheVariants.{Stitch, Stop
 use Rattle.design_model.specs.Designs.{DesignValue}
 use Rattle.design_model.specs.Points.{origin}
 use Rattle.format_traits.specs.declared.loaded.Loaded.{Loaded}
-use Rattle.pec_codec.specs.Laws.{Restores}
+use Rattle.pec_codec.specs.Laws.{RestoresDesign}
 
 -- the two numbers are not the same
 abbrev Differ : ℕ → ℕ → Type 0
@@ -18,13 +18,13 @@ abbrev loaded : List ℕ → List ℕ → Loaded
 loaded label threads = record { design = design label threads; ended = true }
 
 -- the last block has the thread 5 and no other
-pub known_last_thread : Restores (design [] (9 ∷ 5 ∷ [])) (loaded [] (9 ∷ 6 ∷ [])) → ⊥
+pub known_last_thread : RestoresDesign (design [] (9 ∷ 5 ∷ [])) (loaded [] (9 ∷ 6 ∷ [])) → ⊥
 known_last_thread restored = other (restored.threads 1 (omega arith))
   where
     other : Differ 6 5
     other is = omega (arith, is)
 
-pub known_other_label : Restores (design (codes "a") []) (loaded [] []) → ⊥
+pub known_other_label : RestoresDesign (design (codes "a") []) (loaded [] []) → ⊥
 known_other_label restored = other restored.label
   where
     other : ◌≡◌ {A = List ℕ} [] (97 ∷ []) → ⊥

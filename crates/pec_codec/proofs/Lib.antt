@@ -1,4 +1,4 @@
-pub mod BackLemmas
+pub mod BlockRoundTrip
 mod CoordinateFacts
 pub mod ExtentLemmas
 pub mod HeaderLemmas
@@ -9,7 +9,7 @@ pub mod ReadingLemmas
 pub mod ThreadLemmas
 mod RecordFacts
 pub mod RecordLemmas
-pub mod RereadingLemmas
-pub mod SpellingLemmas
+pub mod RoundTripLemmas
+pub mod RecordByteLemmas
 mod WritingFacts
 pub mod WritingLemmas

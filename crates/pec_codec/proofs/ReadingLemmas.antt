@@ -2,27 +2,28 @@
 use Rattle.std.proofs.Common.{◌≡◌, ℕ, ◌+◌, ◌≤◌, List, length, drop, ap, arith}
 use Rattle.std.proofs.lemmas.Bool.{le-ltb}
 use Rattle.std.proofs.lemmas.List.{drop-drop, length-drop}
-use Rattle.format_traits.specs.Layouts.{reads_by}
+use Rattle.format_traits.specs.Layouts.{layout_reads}
 use Rattle.format_traits.specs.Readings.{loaded_with}
-use Rattle.format_traits.specs.Records.{course_of}
+use Rattle.format_traits.specs.Records.{file_commands}
 use Rattle.pec_codec.specs.declared.block.TheConstants.{HEADER_LENGTH}
-use Rattle.pec_codec.specs.Header.{label_of, threads_in}
-use Rattle.pec_codec.specs.Reading.{layout, reads_at, records_at}
+use Rattle.pec_codec.specs.Header.{pec_label_of, threads_in}
+use Rattle.pec_codec.specs.Reading.{pec_block_layout, pec_block_reads, pec_block_records}
 use Rattle.pec_codec.specs.Records.{pec_records}
 
 -- a file that reaches to the block
 pub reads_there : (at : ℕ) (bytes block : List ℕ) → block ≡ drop at bytes → at ≤ length bytes
-    → reads_by layout at block ≡ reads_at at bytes
-reads_there at bytes block is there = rw (le-ltb (length bytes) at there) (ap (reads_by layout at) is)
+    → layout_reads pec_block_layout at block ≡ pec_block_reads at bytes
+reads_there at bytes block is there = rw (le-ltb (length bytes) at there) (ap (layout_reads pec_block_layout at) is)
 
 -- a file that reaches to the records
 pub reads-long : (at : ℕ) (bytes : List ℕ) → at + HEADER_LENGTH ≤ length bytes
-    → reads_at at bytes ≡ loaded_with (label_of (drop at bytes)) (threads_in (drop at bytes)) (course_of (records_at at bytes))
+    → pec_block_reads at bytes ≡ loaded_with (pec_label_of (drop at bytes)) (threads_in (drop at bytes))
+    (file_commands (pec_block_records at bytes))
 reads-long at bytes there =
     let block = drop at bytes in
     let left = length-drop at bytes in
     let begun : at ≤ length bytes = omega (arith, there) in
     let long : HEADER_LENGTH ≤ length block = omega (arith, there, left) in
     rw (le-ltb (length bytes) at begun, le-ltb (length block) HEADER_LENGTH long)
-    (ap (λ rest. loaded_with (label_of block) (threads_in block) (course_of (pec_records (at + HEADER_LENGTH) rest)))
+    (ap (λ rest. loaded_with (pec_label_of block) (threads_in block) (file_commands (pec_records (at + HEADER_LENGTH) rest)))
     (drop-drop HEADER_LENGTH at bytes))

@@ -5,7 +5,7 @@ use Rattle.design_model.specs.declared.command.Command.TheVariants as command
 use Rattle.format_traits.specs.declared.event.Event.TheVariants.{Jump, Stitch, Stop, TrimmedJump}
 use Rattle.format_traits.specs.declared.fault.ReadFault.TheVariants as fault
 use Rattle.format_traits.specs.Records.{next, over}
-use Rattle.pec_codec.specs.Reading.{moves_at, reads_at, shown_at}
+use Rattle.pec_codec.specs.Reading.{pec_block_moves, pec_block_reads, pec_block_shown}
 use Rattle.pec_codec.specs.Records.{pec_records}
 
 abbrev point : ℤ → ℤ → Point
@@ -51,14 +51,14 @@ pub known_incomplete : map (pec_records 0) ([] ∷ (0x05 ∷ []) ∷ (0x05 ∷ 0
 known_incomplete = refl
 
 -- a file that ends before its block, where that begins, and in its header
-pub known_short : (reads_at 4 (7 ∷ 7 ∷ []) ≡ Err (fault.Short 2)) × (reads_at 2 (7 ∷ 7 ∷ []) ≡ Err (fault.Short 2))
-    × (reads_at 2 (7 ∷ 7 ∷ 7 ∷ []) ≡ Err (fault.Short 3)) × (shown_at 4 (7 ∷ 7 ∷ []) ≡ [])
+pub known_short : (pec_block_reads 4 (7 ∷ 7 ∷ []) ≡ Err (fault.Short 2)) × (pec_block_reads 2 (7 ∷ 7 ∷ []) ≡ Err (fault.Short 2))
+    × (pec_block_reads 2 (7 ∷ 7 ∷ 7 ∷ []) ≡ Err (fault.Short 3)) × (pec_block_shown 4 (7 ∷ 7 ∷ []) ≡ [])
 known_short = (refl, refl, refl, refl)
 
 -- a block after one byte
 abbrev behind_one : List ℕ
 behind_one = 7 ∷ (replicate 528 32 ++ 0x05 ∷ 0x07 ∷ 0xFF ∷ [])
 
-pub known_behind : (moves_at 1 behind_one ≡ point (pos 5) (pos 7) ∷ [])
-    × (shown_at 1 behind_one ≡ command.Stitch (point (pos 5) (pos 7)) ∷ [])
+pub known_behind : (pec_block_moves 1 behind_one ≡ point (pos 5) (pos 7) ∷ [])
+    × (pec_block_shown 1 behind_one ≡ command.Stitch (point (pos 5) (pos 7)) ∷ [])
 known_behind = (refl, refl)

@@ -6,8 +6,8 @@ use Rattle.design_model.specs.declared.point.Point.{Point}
 use Rattle.design_model.specs.Designs.{DesignValue}
 use Rattle.design_model.specs.Extents.{extent_of}
 use Rattle.format_traits.specs.declared.fault.WriteFault.TheVariants as fault
-use Rattle.pec_codec.specs.Header.{distance_field, label_of, labels_of, size_fields, threads_in}
-use Rattle.pec_codec.specs.Writing.{block_of, body_of, distance_over, thumbnails_of, writes}
+use Rattle.pec_codec.specs.Header.{distance_field, pec_label_of, labels_of, size_fields, threads_in}
+use Rattle.pec_codec.specs.Writing.{pec_block_of, pec_body_of, thumbnail_distance, thumbnails_of, pec_block_writes}
 
 abbrev point : ℤ → ℤ → Point
 point x y = record { x = x; y = y }
@@ -26,11 +26,11 @@ abbrev blocks : DesignValue
 blocks = sewn (Stitch (point (pos 0) (pos 0)) ∷ Stitch (point (pos 62) (negsuc 62)) ∷ Stitch (point (pos 125) (negsuc 62))
     ∷ Stop ∷ Stitch (point (pos 125) (negsuc 62)) ∷ Stop ∷ Stitch (point (pos 125) (negsuc 62)) ∷ [])
 
-pub known_square_body : body_of square ≡ 0x00 ∷ 0x00 ∷ 0x1E ∷ 0x00 ∷ 0x00 ∷ 0x1E ∷ 0x62 ∷ 0x00 ∷ 0x00 ∷ 0x62
+pub known_square_body : pec_body_of square ≡ 0x00 ∷ 0x00 ∷ 0x1E ∷ 0x00 ∷ 0x00 ∷ 0x1E ∷ 0x62 ∷ 0x00 ∷ 0x00 ∷ 0x62
     ∷ 0xA0 ∷ 0x00 ∷ 0xA0 ∷ 0x00 ∷ 0xFF ∷ []
 known_square_body = refl
 
-pub known_square_distance : distance_field (distance_over (body_of square))
+pub known_square_distance : distance_field (thumbnail_distance (pec_body_of square))
     ≡ 0x00 ∷ 0x00 ∷ 0x1F ∷ 0x00 ∷ 0x00 ∷ 0x31 ∷ 0xFF ∷ 0xF0 ∷ []
 known_square_distance = refl
 
@@ -40,11 +40,11 @@ known_square_sizes = refl
 pub known_no_sizes : size_fields (extent_of (sewn [])) ≡ 0x00 ∷ 0x00 ∷ 0x00 ∷ 0x00 ∷ 0xE0 ∷ 0x01 ∷ 0xB0 ∷ 0x01 ∷ []
 known_no_sizes = refl
 
-pub known_blocks_body : body_of blocks ≡ 0x00 ∷ 0x00 ∷ 0x3E ∷ 0x41 ∷ 0x80 ∷ 0x3F ∷ 0x80 ∷ 0x00 ∷ 0xFE ∷ 0xB0 ∷ 0x02
+pub known_blocks_body : pec_body_of blocks ≡ 0x00 ∷ 0x00 ∷ 0x3E ∷ 0x41 ∷ 0x80 ∷ 0x3F ∷ 0x80 ∷ 0x00 ∷ 0xFE ∷ 0xB0 ∷ 0x02
     ∷ 0x00 ∷ 0x00 ∷ 0xFE ∷ 0xB0 ∷ 0x01 ∷ 0x00 ∷ 0x00 ∷ 0xFF ∷ []
 known_blocks_body = refl
 
-pub known_blocks_distance : distance_over (body_of blocks) ≡ 0x23
+pub known_blocks_distance : thumbnail_distance (pec_body_of blocks) ≡ 0x23
 known_blocks_distance = refl
 
 -- from -5 to 7 the width is 12, and from -6 to 300 the height is 306
@@ -69,15 +69,15 @@ known_no_threads = refl
 pub known_threads : threads_in (codes "                                                " ++ 1 ∷ 7 ∷ 8 ∷ 9 ∷ []) ≡ 7 ∷ 8 ∷ []
 known_threads = refl
 
-pub known_label : label_of (codes "LA:Rose " ++ 1 ∷ codes "           ") ≡ codes "Rose ?"
+pub known_label : pec_label_of (codes "LA:Rose " ++ 1 ∷ codes "           ") ≡ codes "Rose ?"
 known_label = refl
 
-pub known_no_label : map label_of (codes "LB:Rose            " ∷ codes "LA;Rose            " ∷ codes "la:Rose            "
+pub known_no_label : map pec_label_of (codes "LB:Rose            " ∷ codes "LA;Rose            " ∷ codes "la:Rose            "
     ∷ codes " LA:Rose           " ∷ []) ≡ [] ∷ [] ∷ [] ∷ [] ∷ []
 known_no_label = refl
 
 -- it has sixteen places
-pub known_long_label : label_of (codes "LA:Roses of Damascus") ≡ codes "Roses of Damascu"
+pub known_long_label : pec_label_of (codes "LA:Roses of Damascus") ≡ codes "Roses of Damascu"
 known_long_label = refl
 
 -- blank thumbnails of the whole and of two blocks
@@ -85,20 +85,20 @@ pub known_thumbnails : thumbnails_of 1 ≡ replicate 684 0
 known_thumbnails = refl
 
 -- a whole block: its header, its records and its thumbnails
-pub known_length : length (block_of blocks) ≡ 528 + 19 + 4 * 228
+pub known_length : length (pec_block_of blocks) ≡ 528 + 19 + 4 * 228
 known_length = refl
 
-pub known_square_block : block_of square ≡ labels_of square 0 ++ (replicate 462 32
-    ++ (distance_field 31 ++ (size_fields (extent_of square) ++ (body_of square ++ replicate 456 0))))
+pub known_square_block : pec_block_of square ≡ labels_of square 0 ++ (replicate 462 32
+    ++ (distance_field 31 ++ (size_fields (extent_of square) ++ (pec_body_of square ++ replicate 456 0))))
 known_square_block = refl
 
 -- a stitch of 2048 is refused
-pub known_long_stitch : writes (sewn (Stitch (point (pos 0) (pos 0)) ∷ Stitch (point (pos 2048) (pos 0)) ∷ []))
+pub known_long_stitch : pec_block_writes (sewn (Stitch (point (pos 0) (pos 0)) ∷ Stitch (point (pos 2048) (pos 0)) ∷ []))
     ≡ Err (fault.StitchTooLong 2)
 known_long_stitch = refl
 
 -- a float of 4000 is two jumps and a stitch without a move
-pub known_float : body_of (sewn (Stitch (point (pos 0) (pos 0)) ∷ Jump (point (pos 0) (pos 4000))
+pub known_float : pec_body_of (sewn (Stitch (point (pos 0) (pos 0)) ∷ Jump (point (pos 0) (pos 4000))
     ∷ Stitch (point (pos 0) (pos 4000)) ∷ []))
     ≡ 0x00 ∷ 0x00 ∷ 0x90 ∷ 0x00 ∷ 0x97 ∷ 0xD0 ∷ 0x90 ∷ 0x00 ∷ 0x97 ∷ 0xD0 ∷ 0x00 ∷ 0x00 ∷ 0xFF ∷ []
 known_float = refl

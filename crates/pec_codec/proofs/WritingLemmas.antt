@@ -11,23 +11,23 @@ use Rattle.design_model.specs.declared.point.Point.{Point}
 use Rattle.design_model.specs.Acts.{acts_along, acts_of}
 use Rattle.design_model.specs.Designs.{DesignValue, KeepsLimits}
 use Rattle.design_model.specs.Points.{origin, move_between}
-use Rattle.format_traits.specs.declared.standing.Standing.{Standing}
-use Rattle.format_traits.specs.Accepted.{AcceptedIsSmall}
-use Rattle.format_traits.specs.Placing.{hops, parts, parts_from}
-use Rattle.format_traits.specs.Refusals.{beginning, standing_after, stops_of}
-use Rattle.format_traits.specs.Rooms.{act_room, needle_room, room_from}
-use Rattle.format_traits.specs.Spellings.{PutsActs, hop_records, needle_records, records_from, records_of_act, standing_along}
+use Rattle.format_traits.specs.declared.encoder_state.EncoderState.{EncoderState}
+use Rattle.format_traits.specs.Accepted.{AcceptedIsWithinLimits}
+use Rattle.format_traits.specs.MoveHops.{hops_of, part_moves, part_moves_from}
+use Rattle.format_traits.specs.Refusals.{initial_encoder_state, encoder_state_after, stops_of}
+use Rattle.format_traits.specs.Rooms.{room_of_act, room_of_needle, room_from}
+use Rattle.format_traits.specs.RecordEncodings.{AppendsRecords, hop_records, needle_records, records_of_acts_from, records_of_act, encoder_state_after_acts}
 use Rattle.pec_codec.specs.declared.block.TheConstants.{LIMIT, MAX_STOPS, THUMBNAIL_LENGTH}
-use Rattle.pec_codec.specs.Coordinates.{is_short, short_bytes}
-use Rattle.pec_codec.specs.Spelling.{jump_record, long_record, stitch_record}
-use Rattle.pec_codec.specs.Writing.{body_of, reach, spelling}
-use Rattle.pec_codec.specs.Steps.{PutsBody}
+use Rattle.pec_codec.specs.Coordinates.{is_short_number, short_bytes}
+use Rattle.pec_codec.specs.RecordBytes.{pec_jump_record, long_record, pec_stitch_record}
+use Rattle.pec_codec.specs.Writing.{pec_body_of, pec_write_limits, pec_encoding}
+use Rattle.pec_codec.specs.Steps.{AppendsBody}
 
 -- the stops after all acts
-pub stops_along : (limit : ℕ) (before : Standing) (acts : List NumberedAct)
-    → (standing_along limit before acts).stops ≡ before.stops + stops_of acts
+pub stops_along : (limit : ℕ) (before : EncoderState) (acts : List NumberedAct)
+    → (encoder_state_after_acts limit before acts).stops ≡ before.stops + stops_of acts
 stops_along limit before [] = omega arith
-stops_along limit before (a ∷ rest) = stops_along limit (standing_after limit before a.act) rest ∙ omega arith
+stops_along limit before (a ∷ rest) = stops_along limit (encoder_state_after limit before a.act) rest ∙ omega arith
 
 length-concat-append : (xs ys : List (List ℕ)) → length (concat (xs ++ ys)) ≡ length (concat xs) + length (concat ys)
 length-concat-append [] ys = omega arith
@@ -41,17 +41,17 @@ stitch_length : (short : Bool) (m : Point)
 stitch_length true m = omega arith
 stitch_length false m = omega arith
 
-length-stitch : (m : Point) → length (stitch_record m) ≤ 4
-length-stitch m = stitch_length (is_short m.x && is_short m.y) m
+length-stitch : (m : Point) → length (pec_stitch_record m) ≤ 4
+length-stitch m = stitch_length (is_short_number m.x && is_short_number m.y) m
 
-length-jumps : (m : Point) (n done count : ℕ) → length (concat (map jump_record (parts_from m n done count))) ≡ 4 * count
+length-jumps : (m : Point) (n done count : ℕ) → length (concat (map pec_jump_record (part_moves_from m n done count))) ≡ 4 * count
 length-jumps m n done zero = refl
 length-jumps m n done (suc count) = omega (arith, length-jumps m n (done + 1) count)
 
-length-hops : (count : ℕ) (m : Point) → length (concat (hop_records spelling count m)) ≤ 4 * (count + 1)
-length-hops count m = omega (
+length-hops_of : (count : ℕ) (m : Point) → length (concat (hop_records pec_encoding count m)) ≤ 4 * (count + 1)
+length-hops_of count m = omega (
   arith,
-  length-concat-append (map jump_record (parts m count)) (stitch_record origin ∷ []),
+  length-concat-append (map pec_jump_record (part_moves m count)) (pec_stitch_record origin ∷ []),
   length-jumps m count 0 count,
 )
 
@@ -60,31 +60,31 @@ loose_room_most true jumps = omega arith
 loose_room_most false jumps = omega arith
 
 needle_length : (loose float : Bool) (m : Point)
-    → length (concat (needle_records spelling reach loose float m)) ≤ 4 * needle_room LIMIT loose float m
+    → length (concat (needle_records pec_encoding pec_write_limits loose float m)) ≤ 4 * room_of_needle LIMIT loose float m
 needle_length true float m =
-    let jumps = hops LIMIT m in
-    omega (arith, length-hops jumps m, loose_room_most (nat_le jumps 2) jumps)
-needle_length false true m = length-hops (max 1 (hops LIMIT m)) m
+    let jumps = hops_of LIMIT m in
+    omega (arith, length-hops_of jumps m, loose_room_most (nat_le jumps 2) jumps)
+needle_length false true m = length-hops_of (max 1 (hops_of LIMIT m)) m
 needle_length false false m =
-    omega (arith, length-stitch m, length-append (stitch_record m) [])
+    omega (arith, length-stitch m, length-append (pec_stitch_record m) [])
 
 -- the records of an act take at most four bytes for each command of its room
-act_length : (before : Standing) (a : Act)
-    → length (concat (records_of_act spelling reach before a)) ≤ 4 * act_room LIMIT before.loose before.place a
+act_length : (before : EncoderState) (a : Act)
+    → length (concat (records_of_act pec_encoding pec_write_limits before a)) ≤ 4 * room_of_act LIMIT before.loose before.place a
 act_length before (act.Needle p float) = needle_length before.loose float (move_between before.place p)
 act_length before act.Trim = omega arith
 act_length before act.Stop = omega arith
 
 -- and so do those of all acts
-pub records_length : (before : Standing) (acts : List NumberedAct)
-    → length (concat (records_from spelling reach before acts)) ≤ 4 * room_from LIMIT before.loose before.place acts
+pub records_length : (before : EncoderState) (acts : List NumberedAct)
+    → length (concat (records_of_acts_from pec_encoding pec_write_limits before acts)) ≤ 4 * room_from LIMIT before.loose before.place acts
 records_length before [] = omega arith
 records_length before (a ∷ rest) = omega (
   arith,
-  length-concat-append (records_of_act spelling reach before a.act)
-      (records_from spelling reach (standing_after LIMIT before a.act) rest),
+  length-concat-append (records_of_act pec_encoding pec_write_limits before a.act)
+      (records_of_acts_from pec_encoding pec_write_limits (encoder_state_after LIMIT before a.act) rest),
   act_length before a.act,
-  records_length (standing_after LIMIT before a.act) rest,
+  records_length (encoder_state_after LIMIT before a.act) rest,
 )
 
 -- one thumbnail more
@@ -98,31 +98,31 @@ thumbnail_more start out more count of_out of_more =
     ∙ ap (λ n. start ++ replicate n 0) all
 
 -- the records of all acts, and the end
-pub body_put : (d : DesignValue) (commands : List Command) (out middle new : List ℕ) (standing : Standing)
-    → commands ≡ d.commands → PutsActs spelling reach (acts_along commands) out (Ok standing) middle
-    → new ≡ middle ++ 255 ∷ [] → PutsBody d out (Ok standing.stops) new
-body_put d commands out middle new standing of_commands puts of_new =
-    let all : PutsActs spelling reach (acts_of d) out (Ok standing) middle =
-    subst (λ cs. PutsActs spelling reach (acts_along cs) out (Ok standing) middle) of_commands puts in (
+pub body_put : (d : DesignValue) (commands : List Command) (out middle new : List ℕ) (state : EncoderState)
+    → commands ≡ d.commands → AppendsRecords pec_encoding pec_write_limits (acts_along commands) out (Ok state) middle
+    → new ≡ middle ++ 255 ∷ [] → AppendsBody d out (Ok state.stops) new
+body_put d commands out middle new state of_commands puts of_new =
+    let all : AppendsRecords pec_encoding pec_write_limits (acts_of d) out (Ok state) middle =
+    subst (λ cs. AppendsRecords pec_encoding pec_write_limits (acts_along cs) out (Ok state) middle) of_commands puts in (
       all.0,
       of_new ∙ ap (λ bytes. bytes ++ 255 ∷ []) all.1
-          ∙ append_assoc out (concat (records_from spelling reach beginning (acts_of d))) (255 ∷ []),
-      ap (λ s. s.stops) all.2 ∙ stops_along LIMIT beginning (acts_of d) ∙ omega arith,
+          ∙ append_assoc out (concat (records_of_acts_from pec_encoding pec_write_limits initial_encoder_state (acts_of d))) (255 ∷ []),
+      ap (λ s. s.stops) all.2 ∙ stops_along LIMIT initial_encoder_state (acts_of d) ∙ omega arith,
     )
 
 -- the stops of a design that is not refused
-pub body_stops : (d : DesignValue) (out new : List ℕ) (stops : ℕ) → AcceptedIsSmall → KeepsLimits d
-    → PutsBody d out (Ok stops) new → stops ≤ MAX_STOPS
+pub body_stops : (d : DesignValue) (out new : List ℕ) (stops : ℕ) → AcceptedIsWithinLimits → KeepsLimits d
+    → AppendsBody d out (Ok stops) new → stops ≤ MAX_STOPS
 body_stops d out new stops accepted limits puts =
-    let most = (accepted reach d limits puts.0).stops MAX_STOPS refl in
+    let most = (accepted pec_write_limits d limits puts.0).stops MAX_STOPS refl in
     omega (arith, most, puts.2)
 
 -- and its records
-pub body_short : (d : DesignValue) (out new : List ℕ) (stops : ℕ) → AcceptedIsSmall → KeepsLimits d
-    → PutsBody d out (Ok stops) new → length (body_of d) ≤ 4 * MAX_COMMANDS + 1
+pub body_short : (d : DesignValue) (out new : List ℕ) (stops : ℕ) → AcceptedIsWithinLimits → KeepsLimits d
+    → AppendsBody d out (Ok stops) new → length (pec_body_of d) ≤ 4 * MAX_COMMANDS + 1
 body_short d out new stops accepted limits puts = omega (
   arith,
-  length-append (concat (records_from spelling reach beginning (acts_of d))) (255 ∷ []),
-  records_length beginning (acts_of d),
-  (accepted reach d limits puts.0).room,
+  length-append (concat (records_of_acts_from pec_encoding pec_write_limits initial_encoder_state (acts_of d))) (255 ∷ []),
+  records_length initial_encoder_state (acts_of d),
+  (accepted pec_write_limits d limits puts.0).room,
 )

@@ -9,27 +9,32 @@ use Rattle.std.specs.Int.{int_rem_euclid}
 use Rattle.pec_codec.specs.declared.coordinate.Coordinate.{Coordinate}
 
 -- A number below twice the half, read as two's complement: from the half on, it is negative.
-abbrev pub signed : ℕ → ℕ → ℤ
-signed half n = if nat_lt n half then pos n else pos n -ℤ pos (2 * half)
+abbrev pub from_twos_complement : ℕ → ℕ → ℤ
+from_twos_complement half n = if nat_lt n half then pos n else pos n -ℤ pos (2 * half)
 
 -- A number from minus the half to below the half, encoded as two's complement.
-abbrev pub unsigned : ℕ → ℤ → ℕ
-unsigned half z = unsigned_abs (int_rem_euclid z (pos (2 * half)))
+abbrev pub to_twos_complement : ℕ → ℤ → ℕ
+to_twos_complement half z = unsigned_abs (int_rem_euclid z (pos (2 * half)))
 
 -- True for the numbers that the writer encodes in one byte.
-abbrev pub is_short : ℤ → Bool
-is_short (pos n) = nat_le n 62
-is_short (negsuc n) = nat_le n 62
+abbrev pub is_short_number : ℤ → Bool
+is_short_number (pos n) = nat_le n 62
+is_short_number (negsuc n) = nat_le n 62
 
 -- A coordinate of one byte, which has no marks.
-abbrev pub short_coordinate : ℕ → Coordinate
-short_coordinate byte = record { size = 1; number = signed 64 byte; trims = false; jumps = false }
+abbrev pub coordinate_of_byte : ℕ → Coordinate
+coordinate_of_byte byte = record {
+  size = 1;
+  number = from_twos_complement 64 byte;
+  trims = false;
+  jumps = false;
+}
 
 -- A coordinate of two bytes.
-abbrev pub long_coordinate : ℕ → ℕ → Coordinate
-long_coordinate first second = record {
+abbrev pub coordinate_of_two_bytes : ℕ → ℕ → Coordinate
+coordinate_of_two_bytes first second = record {
   size = 2;
-  number = signed 2048 (first % 16 * 256 + second);
+  number = from_twos_complement 2048 (first % 16 * 256 + second);
   trims = first / 32 % 2 == 1;
   jumps = first / 16 % 2 == 1;
 }
@@ -37,18 +42,19 @@ long_coordinate first second = record {
 -- A coordinate of two bytes, where the second byte is there.
 abbrev pub long_coordinate_in : ℕ → List ℕ → Option Coordinate
 long_coordinate_in first [] = None
-long_coordinate_in first (second ∷ rest) = Some (long_coordinate first second)
+long_coordinate_in first (second ∷ rest) = Some (coordinate_of_two_bytes first second)
 
 -- The coordinate at the beginning of bytes, unless the bytes end before it does.
-abbrev pub coordinate_in : List ℕ → Option Coordinate
-coordinate_in [] = None
-coordinate_in (first ∷ rest) =
-    if nat_lt first 128 then Some (short_coordinate first) else long_coordinate_in first rest
+abbrev pub leading_coordinate : List ℕ → Option Coordinate
+leading_coordinate [] = None
+leading_coordinate (first ∷ rest) =
+    if nat_lt first 128 then Some (coordinate_of_byte first) else long_coordinate_in first rest
 
 -- The encoding of a number in one byte.
 abbrev pub short_bytes : ℤ → List ℕ
-short_bytes z = unsigned 64 z ∷ []
+short_bytes z = to_twos_complement 64 z ∷ []
 
 -- The encoding of a number in two bytes, with its marks in the first: 32 for a trim, 16 for a jump.
-abbrev pub long_bytes : ℕ → ℤ → List ℕ
-long_bytes marks z = (128 + marks + unsigned 2048 z / 256) ∷ unsigned 2048 z % 256 ∷ []
+abbrev pub long_bytes_of : ℕ → ℤ → List ℕ
+long_bytes_of marks z = (128 + marks + to_twos_complement 2048 z / 256) ∷ to_twos_complement 2048 z
+    % 256 ∷ []

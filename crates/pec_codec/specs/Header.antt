@@ -7,8 +7,8 @@ use Rattle.byteorder.specs.Endian.{little_bytes}
 use Rattle.design_model.specs.declared.bounds.Extent.{Extent}
 use Rattle.design_model.specs.declared.design.TheConstants.{MAX_LABEL}
 use Rattle.design_model.specs.Designs.{DesignValue, thread_of}
-use Rattle.design_model.specs.Extents.{extent_of, height_of, width_of}
-use Rattle.format_traits.specs.LabelFields.{filled_right, label_field, label_in}
+use Rattle.design_model.specs.Extents.{extent_of, extent_height, extent_width}
+use Rattle.format_traits.specs.LabelFields.{padded_right, label_field, label_in}
 use Rattle.pec_codec.specs.declared.block.TheConstants.{LABELS_LENGTH}
 
 -- The threads of the first `count` colour blocks.
@@ -27,18 +27,18 @@ distance_field distance = 0 ∷ 0 ∷ little_bytes 3 distance ++ 49 ∷ 255 ∷ 
 
 -- The fields of the size of the design and of the hoop.
 abbrev pub size_fields : Option Extent → List ℕ
-size_fields extent = little_bytes 2 (width_of extent) ++ little_bytes 2 (height_of extent)
+size_fields extent = little_bytes 2 (extent_width extent) ++ little_bytes 2 (extent_height extent)
     ++ little_bytes 2 480 ++ little_bytes 2 432
 
 -- The header of a design, by the number of its stops and the distance to the thumbnails.
-abbrev pub header_of : DesignValue → ℕ → ℕ → List ℕ
-header_of d stops distance =
-    filled_right LABELS_LENGTH (labels_of d stops) ++ distance_field distance
+abbrev pub pec_header_of : DesignValue → ℕ → ℕ → List ℕ
+pec_header_of d stops distance =
+    padded_right LABELS_LENGTH (labels_of d stops) ++ distance_field distance
     ++ size_fields (extent_of d)
 
 -- The label of a block that begins with `LA:`; else no label.
-abbrev pub label_of : List ℕ → List ℕ
-label_of block =
+abbrev pub pec_label_of : List ℕ → List ℕ
+pec_label_of block =
     if starts_with nat_eq block (codes "LA:") then label_in (take MAX_LABEL (drop 3 block)) else []
 
 -- The threads at the beginning of bytes, one more than the number; no thread where the number is

@@ -1,5 +1,5 @@
 pub mod Coordinates
-pub mod Spelling
+pub mod RecordBytes
 pub mod Records
 pub mod Header
 -- read these first: what a block reads as, and what a design is written as

@@ -8,74 +8,74 @@ use Rattle.format_traits.specs.declared.record_reader.NextRecord.{NextRecord}
 use Rattle.format_traits.specs.declared.record_reader.NextRecord.TheVariants as cut
 use Rattle.format_traits.specs.Records.{Records, over, refused, next}
 use Rattle.pec_codec.specs.declared.coordinate.Coordinate.{Coordinate}
-use Rattle.pec_codec.specs.Coordinates.{coordinate_in}
+use Rattle.pec_codec.specs.Coordinates.{leading_coordinate}
 
 -- The move of two coordinates.
-abbrev pub move_of : Coordinate → Coordinate → Point
-move_of x y = record { x = x.number; y = y.number }
+abbrev pub pec_move_of : Coordinate → Coordinate → Point
+pec_move_of x y = record { x = x.number; y = y.number }
 
 -- The event of a move: a mark in either coordinate counts, and the mark of a jump is tested before
 -- that of a trim.
-abbrev pub event_of : Coordinate → Coordinate → Event
-event_of x y =
-    if x.jumps || y.jumps then event.Jump (move_of x y)
-    else (if x.trims || y.trims then event.TrimmedJump (move_of x y)
-    else event.Stitch (move_of x y))
+abbrev pub event_of_pair : Coordinate → Coordinate → Event
+event_of_pair x y =
+    if x.jumps || y.jumps then event.Jump (pec_move_of x y)
+    else (if x.trims || y.trims then event.TrimmedJump (pec_move_of x y)
+    else event.Stitch (pec_move_of x y))
 
 -- The record of two coordinates, where the second is complete.
-abbrev pub cut_pair : Coordinate → Option Coordinate → NextRecord
-cut_pair x None = cut.Wants false
-cut_pair x (Some y) = cut.Record (event_of x y) (x.size + y.size)
+abbrev pub pair_record_in : Coordinate → Option Coordinate → NextRecord
+pair_record_in x None = cut.Incomplete false
+pair_record_in x (Some y) = cut.Record (event_of_pair x y) (x.size + y.size)
 
 -- The record of a move at the beginning of bytes, where both coordinates are complete.
-abbrev pub cut_move : Option Coordinate → List ℕ → NextRecord
-cut_move None bytes = cut.Wants false
-cut_move (Some x) bytes = cut_pair x (coordinate_in (drop x.size bytes))
+abbrev pub move_record_in : Option Coordinate → List ℕ → NextRecord
+move_record_in None bytes = cut.Incomplete false
+move_record_in (Some x) bytes = pair_record_in x (leading_coordinate (drop x.size bytes))
 
 -- The record of a stop at the beginning of bytes. The third byte may be any.
-abbrev pub cut_stop : List ℕ → NextRecord
-cut_stop (first ∷ second ∷ third ∷ rest) = cut.Record event.Stop 3
-cut_stop _ = cut.Wants false
+abbrev pub stop_record_in : List ℕ → NextRecord
+stop_record_in (first ∷ second ∷ third ∷ rest) = cut.Record event.Stop 3
+stop_record_in _ = cut.Incomplete false
 
 -- True where bytes begin with the two bytes of a stop.
-abbrev pub begins_stop : List ℕ → Bool
-begins_stop (first ∷ second ∷ rest) = first == 254 && second == 176
-begins_stop _ = false
+abbrev pub starts_with_stop : List ℕ → Bool
+starts_with_stop (first ∷ second ∷ rest) = first == 254 && second == 176
+starts_with_stop _ = false
 
 -- True where bytes begin with the byte of the end.
-abbrev pub begins_end : List ℕ → Bool
-begins_end [] = false
-begins_end (first ∷ rest) = first == 255
+abbrev pub starts_with_end : List ℕ → Bool
+starts_with_end [] = false
+starts_with_end (first ∷ rest) = first == 255
 
 -- The record at the beginning of bytes.
-abbrev pub cut_of : List ℕ → NextRecord
-cut_of bytes =
-    if begins_end bytes then cut.End
-    else (if begins_stop bytes then cut_stop bytes
-    else cut_move (coordinate_in bytes) bytes)
+abbrev pub next_record_in : List ℕ → NextRecord
+next_record_in bytes =
+    if starts_with_end bytes then cut.End
+    else (if starts_with_stop bytes then stop_record_in bytes
+    else move_record_in (leading_coordinate bytes) bytes)
 
 -- The number of bytes of a record after its first.
-abbrev pub length_behind : NextRecord → ℕ
-length_behind cut.End = 0
-length_behind (cut.Wants ended) = 0
-length_behind (cut.Refused f) = 0
-length_behind (cut.Record event size) = size - 1
+abbrev pub length_after_first : NextRecord → ℕ
+length_after_first cut.End = 0
+length_after_first (cut.Incomplete ended) = 0
+length_after_first (cut.Refused f) = 0
+length_after_first (cut.Record event size) = size - 1
 
 -- A record at an offset, and the records after it.
-abbrev pub cut_before : NextRecord → ℕ → Records → Records
-cut_before cut.End at rest = over true
-cut_before (cut.Wants ended) at rest = over ended
-cut_before (cut.Refused f) at rest = refused f
-cut_before (cut.Record event size) at rest = next at event rest
+abbrev pub with_next_record : NextRecord → ℕ → Records → Records
+with_next_record cut.End at rest = over true
+with_next_record (cut.Incomplete ended) at rest = over ended
+with_next_record (cut.Refused f) at rest = refused f
+with_next_record (cut.Record event size) at rest = next at event rest
 
 -- The records from an offset on, where the first `behind` bytes belong to the record before.
-abbrev pub records_behind : ℕ → ℕ → List ℕ → Records
-records_behind behind at [] = over false
-records_behind (suc behind) at (byte ∷ rest) = records_behind behind (at + 1) rest
-records_behind zero at (byte ∷ rest) =
-    let cut = cut_of (byte ∷ rest) in
-    cut_before cut at (records_behind (length_behind cut) (at + 1) rest)
+abbrev pub records_after_skip : ℕ → ℕ → List ℕ → Records
+records_after_skip behind at [] = over false
+records_after_skip (suc behind) at (byte ∷ rest) = records_after_skip behind (at + 1) rest
+records_after_skip zero at (byte ∷ rest) =
+    let cut = next_record_in (byte ∷ rest) in
+    with_next_record cut at (records_after_skip (length_after_first cut) (at + 1) rest)
 
 -- The records from an offset on.
 abbrev pub pec_records : ℕ → List ℕ → Records
-pec_records at bytes = records_behind 0 at bytes
+pec_records at bytes = records_after_skip 0 at bytes

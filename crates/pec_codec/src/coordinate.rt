@@ -1,6 +1,6 @@
 ghost use Rattle.std.specs.Prelude.{◌≡◌, ◌<◌, ◌≤◌, ◌*◌, length, unsigned_abs, IfNone, IfSome};
-ghost use Rattle.format_traits.specs.declared.record_reader.TheConstants.{GREATEST_STEP};
-ghost use Rattle.pec_codec.specs.Coordinates.{coordinate_in as coordinate_of, long_coordinate as long_of, short_coordinate as short_of, signed as signed_of};
+ghost use Rattle.format_traits.specs.declared.record_reader.TheConstants.{MAX_RECORD_MOVE};
+ghost use Rattle.pec_codec.specs.Coordinates.{leading_coordinate, coordinate_of_two_bytes, coordinate_of_byte, from_twos_complement};
 
 /// A coordinate of a record.
 #[derive(Clone, Copy, Debug, PartialEq, Eq)]
@@ -15,12 +15,12 @@ pub struct Coordinate {
 
 /// Returns the coordinate at the beginning of bytes, unless the bytes end before it does.
 pub fn coordinate_in(bytes: &[u8]) -> Option<Coordinate>
-    ensures value { result ≡ coordinate_of bytes.now }
+    ensures value { result ≡ leading_coordinate bytes.now }
     ensures some { IfSome result (λ c. 0 < c.size) }
     ensures most { IfSome result (λ c. c.size ≤ 2) }
     ensures none { IfNone result (length bytes.now < 2) }
     ensures size { IfSome result (λ c. c.size ≤ length bytes.now) }
-    ensures small { IfSome result (λ c. unsigned_abs c.number ≤ GREATEST_STEP) }
+    ensures small { IfSome result (λ c. unsigned_abs c.number ≤ MAX_RECORD_MOVE) }
 {
     match bytes {
         [first, ..] if *first < 128 => Some(short_coordinate(*first)),
@@ -31,8 +31,8 @@ pub fn coordinate_in(bytes: &[u8]) -> Option<Coordinate>
 
 fn short_coordinate(byte: u8) -> Coordinate
     requires { byte < 128 }
-    ensures value { result ≡ short_of byte }
-    ensures small { unsigned_abs result.number ≤ GREATEST_STEP }
+    ensures value { result ≡ coordinate_of_byte byte }
+    ensures small { unsigned_abs result.number ≤ MAX_RECORD_MOVE }
 {
     Coordinate {
         size: 1,
@@ -43,8 +43,8 @@ fn short_coordinate(byte: u8) -> Coordinate
 }
 
 fn long_coordinate(first: u8, second: u8) -> Coordinate
-    ensures value { result ≡ long_of first second }
-    ensures small { unsigned_abs result.number ≤ GREATEST_STEP }
+    ensures value { result ≡ coordinate_of_two_bytes first second }
+    ensures small { unsigned_abs result.number ≤ MAX_RECORD_MOVE }
 {
     Coordinate {
         size: 2,
@@ -58,8 +58,8 @@ fn long_coordinate(first: u8, second: u8) -> Coordinate
 fn signed(half: u32, number: u32) -> i32
     requires half { half ≤ 2048 }
     requires number { number < 2 * half }
-    ensures value { result ≡ signed_of half number }
-    ensures small { unsigned_abs result ≤ GREATEST_STEP }
+    ensures value { result ≡ from_twos_complement half number }
+    ensures small { unsigned_abs result ≤ MAX_RECORD_MOVE }
 {
     if number < half {
         number as i32

@@ -4,10 +4,10 @@ ghost use Rattle.design_model.specs.declared.design.TheConstants.{MAX_THREADS};
 ghost use Rattle.design_model.specs.Designs.{empty_design, with_label};
 ghost use Rattle.design_model.specs.Extents.{extent_of};
 ghost use Rattle.pec_codec.specs.declared.block.TheConstants.{HEADER_LENGTH, LABELS_LENGTH, MAX_STOPS};
-ghost use Rattle.pec_codec.specs.Header.{header_of, label_of, labels_of, distance_field, size_fields, threads_in, threads_of};
+ghost use Rattle.pec_codec.specs.Header.{pec_header_of, pec_label_of, labels_of, distance_field, size_fields, threads_in, threads_of};
 
 use crate::block::{HEADER_LENGTH, LABELS_LENGTH, MAX_STOPS};
-use crate::laws::designs_keep_limits;
+use crate::theorems::designs_keep_limits;
 use byteorder::{ByteOrder, LittleEndian};
 use design_model::{Bytes, Design, MAX_LABEL, Memory, extent, height, width};
 use format_traits::{put_label, put_spaces, read_label};
@@ -28,7 +28,7 @@ pub fn new_header(
 ) -> Result<Bytes, Memory>
     requires stops { stops ≤ MAX_STOPS }
     requires distance { distance < 2 ^ 24 }
-    ensures value { IfOk result (λ header. header ≡ header_of design.now stops distance) }
+    ensures value { IfOk result (λ header. header ≡ pec_header_of design.now stops distance) }
     ensures length { IfOk result (λ header. length header ≡ HEADER_LENGTH) }
 {
     let mut header = Bytes::new(alloc);
@@ -116,7 +116,7 @@ pub fn read_header(design: &mut Design, header: &[u8])
     requires length { length header.now ≡ HEADER_LENGTH }
     requires empty { design.old ≡ empty_design }
     ensures { (more : List ℕ) → design.new ≡ record {
-      label = label_of (header.now ++ more);
+      label = pec_label_of (header.now ++ more);
       threads = threads_in (header.now ++ more);
       commands = [];
     } }
@@ -128,7 +128,8 @@ pub fn read_header(design: &mut Design, header: &[u8])
 fn keep_label(design: &mut Design, header: &[u8])
     requires length { length header.now ≡ HEADER_LENGTH }
     requires fresh { design.old.label ≡ [] }
-    ensures label { (more : List ℕ) → design.new ≡ with_label design.old (label_of (header.now ++ more)) }
+    ensures label { (more : List ℕ)
+        → design.new ≡ with_label design.old (pec_label_of (header.now ++ more)) }
     ensures threads { design.new.threads ≡ design.old.threads }
 {
     if header.starts_with(b"LA:") {

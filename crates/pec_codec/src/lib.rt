@@ -6,18 +6,18 @@ mod block;
 mod block_reader;
 mod coordinate;
 mod header;
-mod laws;
 mod pec_records;
 mod reading;
-mod record_cuts;
-mod spelling;
+mod record_decoding;
+mod record_encoding;
 #[cfg(test)]
 mod tests;
+mod theorems;
 mod writing;
 
 pub use block::{HEADER_LENGTH, LABELS_LENGTH, LIMIT, MAX_STOPS, THUMBNAIL_LENGTH};
 pub use block_reader::{BlockReader, block_decoder};
-pub use laws::blocks_read_back;
 pub use pec_records::PecRecords;
 pub use reading::read_block;
+pub use theorems::blocks_read_back;
 pub use writing::write_block;

@@ -1,19 +1,19 @@
 use crate::block::{HEADER_LENGTH, LIMIT, MAX_STOPS};
 use crate::header::read_header;
-use crate::record_cuts::cut;
-use crate::spelling::{put_jump, put_stitch, put_stop, put_trim};
+use crate::record_decoding::decode_record;
+use crate::record_encoding::{put_jump, put_stitch, put_stop, put_trim};
 use design_model::{Bytes, Design, Memory, Point};
-use format_traits::{NextRecord, Reach, RecordReader, RecordWriter};
+use format_traits::{NextRecord, RecordReader, RecordWriter, WriteLimits};
 
 /// The reader and writer of the records of a block.
 #[derive(Clone, Copy, Debug, PartialEq, Eq)]
 pub struct PecRecords;
 
 impl RecordReader for PecRecords {
-    ghost use Rattle.pec_codec.specs.Reading.{layout as pec_layout};
+    ghost use Rattle.pec_codec.specs.Reading.{pec_block_layout};
     ghost use Rattle.pec_codec.specs.Records.{pec_records};
 
-    ghost layout = { pec_layout };
+    ghost layout = { pec_block_layout };
 
     ghost records = { λ _. pec_records };
 
@@ -31,19 +31,19 @@ impl RecordReader for PecRecords {
 
     #[tactic(auto, using(crate::proofs::RecordLemmas::cuts_record))]
     fn next(&mut self, _at: u64, bytes: &[u8]) -> NextRecord {
-        cut(bytes)
+        decode_record(bytes)
     }
 }
 
 impl RecordWriter for PecRecords {
-    ghost use Rattle.pec_codec.specs.Writing.{reach as pec_reach, spelling as pec_spelling};
+    ghost use Rattle.pec_codec.specs.Writing.{pec_write_limits, pec_encoding};
 
-    ghost spelling = { λ _. pec_spelling };
+    ghost encoding = { λ _. pec_encoding };
 
-    ghost reach = { λ _. pec_reach };
+    ghost write_limits = { λ _. pec_write_limits };
 
-    fn reach(&self) -> Reach {
-        Reach {
+    fn write_limits(&self) -> WriteLimits {
+        WriteLimits {
             limit: LIMIT,
             float_hops: None,
             stops: Some(MAX_STOPS),

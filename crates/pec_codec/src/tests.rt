@@ -15,7 +15,7 @@ const SIZES: [usize; 9] = [1, 2, 3, 5, 511, 512, 513, 4_096, 1_000_000];
 struct Counted {
     reader: BlockReader,
     taken: u64,
-    ghost counts: { (⟦<BlockReader as Fed>⟧.feeding reader).taken ≡ taken },
+    ghost counts: { (⟦<BlockReader as Fed>⟧.feed_state reader).taken ≡ taken },
 }
 
 impl Counted {
@@ -32,7 +32,7 @@ impl Counted {
     }
 
     fn feed(&mut self, rt: &impl Abort, piece: &[u8]) -> Result<(), Memory>
-        ensures { IsOk result → (⟦<BlockReader as Fed>⟧.feeding self.new.reader).spoiled ≡ false }
+        ensures { IsOk result → (⟦<BlockReader as Fed>⟧.feed_state self.new.reader).spoiled ≡ false }
     {
         let taken = self.taken.saturating_add(piece.len() as u64);
         assert!(rt; taken <= MAX_FED);

@@ -1,18 +1,18 @@
 ghost use Rattle.std.specs.Prelude.{◌≡◌, ◌<◌, ◌≤◌, ◌+◌, ◌-◌, ◌*◌, ◌^◌, ◌++◌, length, drop, OnOk, IfOk};
 ghost use Rattle.design_model.specs.declared.design.TheConstants.{MAX_COMMANDS};
-ghost use Rattle.format_traits.specs.Laws.{Writes};
+ghost use Rattle.format_traits.specs.Laws.{EncodesTo};
 ghost use Rattle.pec_codec.specs.declared.block.TheConstants.{HEADER_LENGTH, LABELS_LENGTH, MAX_STOPS};
-ghost use Rattle.pec_codec.specs.Header.{header_of};
+ghost use Rattle.pec_codec.specs.Header.{pec_header_of};
 ghost use Rattle.pec_codec.specs.Laws.{KeepsBlockLaws};
-ghost use Rattle.pec_codec.specs.Steps.{PutsBody};
-ghost use Rattle.pec_codec.specs.Writing.{body_of, thumbnails_of, writes};
+ghost use Rattle.pec_codec.specs.Steps.{AppendsBody};
+ghost use Rattle.pec_codec.specs.Writing.{pec_body_of, thumbnails_of, pec_block_writes};
 
 use crate::block::{HEADER_LENGTH, LABELS_LENGTH, THUMBNAIL_LENGTH};
 use crate::header::new_header;
-use crate::laws::{blocks_read_back, designs_keep_limits};
 use crate::pec_records::PecRecords;
+use crate::theorems::{blocks_read_back, designs_keep_limits};
 use design_model::{Bytes, Design, Memory};
-use format_traits::{WriteFault, an_accepted_design_is_small, put_acts, put_spaces, with_front};
+use format_traits::{WriteFault, accepted_designs_are_small, put_acts, put_spaces, with_front};
 use std::alloc::Global;
 
 /// The end of the records.
@@ -24,7 +24,7 @@ const BLANK: [u8; THUMBNAIL_LENGTH] = [0; THUMBNAIL_LENGTH];
 /// Writes a design as a block. The acts are judged in order, and the first refusal is reported; at one act
 /// the refusals are tested in the order of `WriteFault`. A written block reads back at any offset of a file.
 pub fn write_block(alloc: Global, design: &Design) -> Result<Bytes, WriteFault>
-    ensures value { Writes (writes design.now) result }
+    ensures value { EncodesTo (pec_block_writes design.now) result }
     ensures laws { KeepsBlockLaws design.now }
 {
     blocks_read_back();
@@ -34,7 +34,7 @@ pub fn write_block(alloc: Global, design: &Design) -> Result<Bytes, WriteFault>
 
 /// Returns the block of a design. The header is filled last, since it contains the length of the records.
 fn new_block(alloc: Global, design: &Design) -> Result<Bytes, WriteFault>
-    ensures { Writes (writes design.now) result }
+    ensures { EncodesTo (pec_block_writes design.now) result }
 {
     let mut body = Bytes::new(alloc);
     put_spaces(&mut body, HEADER_LENGTH)?;
@@ -46,15 +46,15 @@ fn new_block(alloc: Global, design: &Design) -> Result<Bytes, WriteFault>
 
 /// Appends the records of a design and their end, and returns the number of its stops.
 fn put_body(out: &mut Bytes, design: &Design) -> Result<u32, WriteFault>
-    ensures value { PutsBody design.now out.old result out.new }
+    ensures value { AppendsBody design.now out.old result out.new }
     ensures stops { IfOk result (λ stops. stops ≤ MAX_STOPS) }
-    ensures short { OnOk result (length (body_of design.now) ≤ 4 * MAX_COMMANDS + 1) }
+    ensures short { OnOk result (length (pec_body_of design.now) ≤ 4 * MAX_COMMANDS + 1) }
 {
-    an_accepted_design_is_small();
+    accepted_designs_are_small();
     let commands = design.commands();
-    let standing = put_acts(&PecRecords, out, commands)?;
+    let state = put_acts(&PecRecords, out, commands)?;
     out.push(END)?;
-    Ok(standing.stops)
+    Ok(state.stops)
 }
 
 /// Returns the block of a design with its header written over the first bytes.
@@ -63,7 +63,7 @@ fn with_header(alloc: Global, block: Bytes, design: &Design, stops: u32) -> Resu
     requires room { HEADER_LENGTH ≤ length block }
     requires short { length block < 2 ^ 24 }
     ensures { IfOk result (λ headed. headed
-        ≡ header_of design.now stops (length block - LABELS_LENGTH) ++ drop HEADER_LENGTH block) }
+        ≡ pec_header_of design.now stops (length block - LABELS_LENGTH) ++ drop HEADER_LENGTH block) }
 {
     let distance = (block.len() - LABELS_LENGTH) as u32;
     let header = new_header(alloc, design, stops, distance)?;

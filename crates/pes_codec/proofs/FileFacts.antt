@@ -5,9 +5,9 @@ use Rattle.design_model.specs.declared.point.Point.{Point}
 use Rattle.design_model.specs.Designs.{DesignValue}
 use Rattle.design_model.specs.Points.{origin}
 use Rattle.format_traits.specs.declared.fault.ReadFault.TheVariants as fault
-use Rattle.pes_codec.specs.declared.front.TheConstants.{OFFSET_END, PEC_BLOCK}
-use Rattle.pes_codec.specs.Files.{block_offset, pec_front, pes_front}
-use Rattle.pes_codec.specs.Formats.{pec, pes}
+use Rattle.pes_codec.specs.declared.front.TheConstants.{OFFSET_END, PEC_BLOCK_OFFSET}
+use Rattle.pes_codec.specs.Files.{block_offset_in, pec_front, pes_front}
+use Rattle.pes_codec.specs.Formats.{pec_meaning, pes_meaning}
 use Rattle.pes_codec.specs.Reading.{pec_moves, pec_reads, pec_shown, pes_moves, pes_reads, pes_shown}
 use Rattle.pes_codec.specs.Writing.{pec_writes, pes_writes}
 
@@ -15,7 +15,8 @@ use Rattle.pes_codec.specs.Writing.{pec_writes, pes_writes}
 abbrev stitch : DesignValue
 stitch = record { label = []; threads = []; commands = Stitch origin ∷ [] }
 
-pub known_formats : (pec.ending ≡ codes "pec") × (pes.ending ≡ codes "pes") × (pec.limit ≡ 2047) × (pes.limit ≡ 2047)
+pub known_formats : (pec_meaning.ending ≡ codes "pec") × (pes_meaning.ending ≡ codes "pes") × (pec_meaning.limit ≡ 2047)
+    × (pes_meaning.limit ≡ 2047)
 known_formats = (refl, refl, refl, refl)
 
 pub known_pes_front : pes_front ≡ 0x23 ∷ 0x50 ∷ 0x45 ∷ 0x53 ∷ 0x30 ∷ 0x30 ∷ 0x30 ∷ 0x31 ∷ 0x16 ∷ 0x00 ∷ 0x00 ∷ 0x00
@@ -37,7 +38,7 @@ pub known_pec_front : pec_front ≡ 0x23 ∷ 0x50 ∷ 0x45 ∷ 0x43 ∷ 0x30 ∷
 known_pec_front = refl
 
 -- where the block of a PEC file stands, and where the offset of a PES file ends
-pub known_block : PEC_BLOCK ≡ 8
+pub known_block : PEC_BLOCK_OFFSET ≡ 8
 known_block = refl
 
 pub known_offset_end : OFFSET_END ≡ 12
@@ -67,7 +68,7 @@ pub known_small : pes_reads (codes "#pes0001") ≡ Err (fault.Signature 0)
 known_small = refl
 
 -- the offset is a word of 32 bits, the low byte first
-pub known_offset : block_offset (codes "#PES0060" ++ 0x01 ∷ 0x02 ∷ 0x03 ∷ 0x80 ∷ []) ≡ 2147680769
+pub known_offset : block_offset_in (codes "#PES0060" ++ 0x01 ∷ 0x02 ∷ 0x03 ∷ 0x80 ∷ []) ≡ 2147680769
 known_offset = refl
 
 pub known_signature : pec_reads (codes "#PAC0001") ≡ Err (fault.Signature 0)

@@ -6,77 +6,82 @@ use Rattle.std.proofs.lemmas.List.{drop-append-le, drop-drop, drop_all, length-d
 use Rattle.design_model.specs.declared.memory.Memory.{Memory}
 use Rattle.format_traits.specs.declared.fault.ReadFault.{ReadFault}
 use Rattle.format_traits.specs.declared.fault.ReadFault.TheVariants as fault
-use Rattle.format_traits.specs.Layouts.{given_by, reads_by, stream_by}
-use Rattle.format_traits.specs.Streams.{IsSameStream, SoFar, Stream, Takes}
-use Rattle.pec_codec.specs.Reading.{layout}
+use Rattle.format_traits.specs.Layouts.{layout_decoded, layout_reads, layout_state}
+use Rattle.format_traits.specs.DecoderStates.{IsSameDecoderState, DecodedSoFar, DecoderState, TakesBytes}
+use Rattle.pec_codec.specs.Reading.{pec_block_layout}
 use Rattle.pes_codec.specs.declared.file_stage.FileStage.TheVariants as stage
-use Rattle.pes_codec.specs.FileStreams.{so_far_at, stream_at, stream_behind, stream_from}
-use Rattle.pes_codec.specs.Openings.{Opening, front_fault, given_behind, given_from, reads_behind, reads_from}
+use Rattle.pes_codec.specs.FileStates.{file_so_far_at, file_state_at, file_state_before_block, file_start_state}
+use Rattle.pes_codec.specs.Fronts.{FrontLayout, front_fault, decoded_after_skip, file_decoded_from, reads_after_skip, file_reads_from}
 
 -- the front is not whole
-short_reads : (opening : Opening) (at : ℕ) (bytes : List ℕ) → length bytes < opening.length
-    → reads_from opening at bytes ≡ Err (front_fault opening at bytes)
-short_reads opening at bytes short = by_known (opening.known bytes)
+short_reads : (front_layout : FrontLayout) (at : ℕ) (bytes : List ℕ) → length bytes < front_layout.length
+    → file_reads_from front_layout at bytes ≡ Err (front_fault front_layout at bytes)
+short_reads front_layout at bytes short = by_known (front_layout.known bytes)
   where
     by_known : (known : Bool)
-        → (if known then (if nat_lt (length bytes) opening.length then Err (fault.Short (at + length bytes))
-        else reads_behind (opening.block bytes) at bytes) else Err (fault.Signature at))
+        → (if known then (if nat_lt (length bytes) front_layout.length then Err (fault.Short (at + length bytes))
+        else reads_after_skip (front_layout.block bytes) at bytes) else Err (fault.Signature at))
         ≡ Err (if known then fault.Short (at + length bytes) else fault.Signature at)
-    by_known true = rw (lt-ltb (length bytes) opening.length short) refl
+    by_known true = rw (lt-ltb (length bytes) front_layout.length short) refl
     by_known false = refl
 
-short_given : (opening : Opening) (at : ℕ) (bytes : List ℕ) → length bytes < opening.length → given_from opening at bytes ≡ []
-short_given opening at bytes short = by_known (opening.known bytes)
+short_given : (front_layout : FrontLayout) (at : ℕ) (bytes : List ℕ) → length bytes < front_layout.length
+    → file_decoded_from front_layout at bytes ≡ []
+short_given front_layout at bytes short = by_known (front_layout.known bytes)
   where
-    by_known : (known : Bool) → (if known then (if nat_lt (length bytes) opening.length then []
-        else given_behind (opening.block bytes) at bytes) else []) ≡ []
-    by_known true = rw (lt-ltb (length bytes) opening.length short) refl
+    by_known : (known : Bool) → (if known then (if nat_lt (length bytes) front_layout.length then []
+        else decoded_after_skip (front_layout.block bytes) at bytes) else []) ≡ []
+    by_known true = rw (lt-ltb (length bytes) front_layout.length short) refl
     by_known false = refl
 
-pub front_short : (opening : Opening) (block : Stream) (so_far : SoFar) (at told : ℕ) (bytes : List ℕ) (f : ReadFault)
-    → length bytes < told → told ≡ opening.length → told < 528 → f ≡ front_fault opening at bytes
-    → Takes (stream_from opening) (stream_at opening block (stage.Front f)) (so_far_at so_far (stage.Front f)) at bytes 0
-front_short opening block so_far at told bytes f short is few of_fault =
+pub front_short : (front_layout : FrontLayout) (block : DecoderState) (so_far : DecodedSoFar) (at told : ℕ) (bytes : List ℕ) (f : ReadFault)
+    → length bytes < told → told ≡ front_layout.length → told < 528 → f ≡ front_fault front_layout at bytes
+    → TakesBytes (file_start_state front_layout) (file_state_at front_layout block (stage.Front f)) (file_so_far_at so_far (stage.Front f))
+    at bytes 0
+front_short front_layout block so_far at told bytes f short is few of_fault =
     let here : at + 0 ≡ at = omega arith in
-    let less : length bytes < opening.length = omega (arith, short, is) in
+    let less : length bytes < front_layout.length = omega (arith, short, is) in
     record {
       there = omega arith;
       few = omega (arith, short, few);
       on = record {
-        rest = λ more. ap (λ n. reads_from opening n (bytes ++ more)) (sym here);
-        given = λ more. ap (λ n. given_from opening n (bytes ++ more)) (sym here);
+        rest = λ more. ap (λ n. file_reads_from front_layout n (bytes ++ more)) (sym here);
+        decoded = λ more. ap (λ n. file_decoded_from front_layout n (bytes ++ more)) (sym here);
       };
       settled = record {
-        answer = ap (λ n. reads_from opening n bytes) here ∙ short_reads opening at bytes less ∙ ap Err (sym of_fault);
-        commands = ap (λ n. given_from opening n bytes) here ∙ short_given opening at bytes less;
+        answer = ap (λ n. file_reads_from front_layout n bytes) here ∙ short_reads front_layout at bytes less ∙ ap Err (sym of_fault);
+        commands = ap (λ n. file_decoded_from front_layout n bytes) here ∙ short_given front_layout at bytes less;
       };
     }
 
 -- the front is whole and known
-known_reads : (opening : Opening) (at skip : ℕ) (bytes : List ℕ) → opening.known bytes ≡ true → opening.length ≤ length bytes
-    → opening.block bytes ≡ skip → reads_from opening at bytes ≡ reads_behind skip at bytes
-known_reads opening at skip bytes known long is = rw (known, le-ltb (length bytes) opening.length long)
-    (ap (λ skip. reads_behind skip at bytes) is)
+known_reads : (front_layout : FrontLayout) (at skip : ℕ) (bytes : List ℕ) → front_layout.known bytes ≡ true
+    → front_layout.length ≤ length bytes
+    → front_layout.block bytes ≡ skip → file_reads_from front_layout at bytes ≡ reads_after_skip skip at bytes
+known_reads front_layout at skip bytes known long is = rw (known, le-ltb (length bytes) front_layout.length long)
+    (ap (λ skip. reads_after_skip skip at bytes) is)
 
-known_given : (opening : Opening) (at skip : ℕ) (bytes : List ℕ) → opening.known bytes ≡ true → opening.length ≤ length bytes
-    → opening.block bytes ≡ skip → given_from opening at bytes ≡ given_behind skip at bytes
-known_given opening at skip bytes known long is = rw (known, le-ltb (length bytes) opening.length long)
-    (ap (λ skip. given_behind skip at bytes) is)
+known_given : (front_layout : FrontLayout) (at skip : ℕ) (bytes : List ℕ) → front_layout.known bytes ≡ true
+    → front_layout.length ≤ length bytes
+    → front_layout.block bytes ≡ skip → file_decoded_from front_layout at bytes ≡ decoded_after_skip skip at bytes
+known_given front_layout at skip bytes known long is = rw (known, le-ltb (length bytes) front_layout.length long)
+    (ap (λ skip. decoded_after_skip skip at bytes) is)
 
-pub front_known : (opening : Opening) (new : Stream) (so_far : SoFar) (at skip : ℕ) (bytes : List ℕ) (result : Result ℕ Memory)
-    → opening.length ≤ length bytes → ((more : List ℕ) → opening.known (bytes ++ more) ≡ true)
-    → ((more : List ℕ) → opening.block (bytes ++ more) ≡ skip)
-    → IfOk result (λ size. Takes (stream_behind skip) new so_far at bytes size)
-    → IfOk result (λ size. Takes (stream_from opening) new so_far at bytes size)
-front_known opening new so_far at skip bytes (Err f) long known is takes = tt
-front_known opening new so_far at skip bytes (Ok size) long known is takes =
-    let longer : (more : List ℕ) → opening.length ≤ length (bytes ++ more) = λ more. omega (arith, long, length-append bytes more) in
+pub front_known : (front_layout : FrontLayout) (new : DecoderState) (so_far : DecodedSoFar) (at skip : ℕ) (bytes : List ℕ)
+    (result : Result ℕ Memory)
+    → front_layout.length ≤ length bytes → ((more : List ℕ) → front_layout.known (bytes ++ more) ≡ true)
+    → ((more : List ℕ) → front_layout.block (bytes ++ more) ≡ skip)
+    → IfOk result (λ size. TakesBytes (file_state_before_block skip) new so_far at bytes size)
+    → IfOk result (λ size. TakesBytes (file_start_state front_layout) new so_far at bytes size)
+front_known front_layout new so_far at skip bytes (Err f) long known is takes = tt
+front_known front_layout new so_far at skip bytes (Ok size) long known is takes =
+    let longer : (more : List ℕ) → front_layout.length ≤ length (bytes ++ more) = λ more. omega (arith, long, length-append bytes more) in
     record {
       there = takes.there;
       few = takes.few;
       on = record {
-        rest = λ more. known_reads opening at skip (bytes ++ more) (known more) (longer more) (is more) ∙ takes.on.rest more;
-        given = λ more. known_given opening at skip (bytes ++ more) (known more) (longer more) (is more) ∙ takes.on.given more;
+        rest = λ more. known_reads front_layout at skip (bytes ++ more) (known more) (longer more) (is more) ∙ takes.on.rest more;
+        decoded = λ more. known_given front_layout at skip (bytes ++ more) (known more) (longer more) (is more) ∙ takes.on.decoded more;
       };
       settled = takes.settled;
     }
@@ -90,7 +95,7 @@ test_on l m skip less = by_test (nat_lt m (skip - l)) refl
     by_test false is = let above = ltb-false m (skip - l) is in le-ltb (l + m) skip (omega (arith, above, less)) ∙ sym is
 
 before_on : (at skip : ℕ) (bytes more : List ℕ) → length bytes < skip
-    → reads_behind skip at (bytes ++ more) ≡ reads_behind (skip - length bytes) (at + length bytes) more
+    → reads_after_skip skip at (bytes ++ more) ≡ reads_after_skip (skip - length bytes) (at + length bytes) more
 before_on at skip bytes more less =
     let l = length bytes in
     let both : length (bytes ++ more) ≡ l + length more = length-append bytes more in
@@ -101,15 +106,17 @@ before_on at skip bytes more less =
     let place : at + skip ≡ (at + l) + (skip - l) = omega (arith, less) in
     let left : drop skip (bytes ++ more) ≡ drop (skip - l) more =
     ap (λ n. drop n (bytes ++ more)) (sym parts) ∙ drop-append-add bytes more (skip - l) in
-    ap (λ b. if b then Err (fault.Short (at + length (bytes ++ more))) else reads_by layout (at + skip) (drop skip (bytes ++ more))) test
-    ∙ ap (λ n. if nat_lt (length more) (skip - l) then Err (fault.Short n) else reads_by layout (at + skip) (drop skip (bytes ++ more))) end
+    ap (λ b. if b then Err (fault.Short (at + length (bytes ++ more))) else layout_reads pec_block_layout (at + skip)
+    (drop skip (bytes ++ more))) test
+    ∙ ap (λ n. if nat_lt (length more) (skip - l) then Err (fault.Short n) else layout_reads pec_block_layout (at + skip)
+    (drop skip (bytes ++ more))) end
     ∙ ap (λ n. if nat_lt (length more) (skip - l) then Err (fault.Short ((at + l) + length more))
-    else reads_by layout n (drop skip (bytes ++ more))) place
+    else layout_reads pec_block_layout n (drop skip (bytes ++ more))) place
     ∙ ap (λ rest. if nat_lt (length more) (skip - l) then Err (fault.Short ((at + l) + length more))
-    else reads_by layout ((at + l) + (skip - l)) rest) left
+    else layout_reads pec_block_layout ((at + l) + (skip - l)) rest) left
 
 before_gives : (at skip : ℕ) (bytes more : List ℕ) → length bytes < skip
-    → given_behind skip at (bytes ++ more) ≡ given_behind (skip - length bytes) (at + length bytes) more
+    → decoded_after_skip skip at (bytes ++ more) ≡ decoded_after_skip (skip - length bytes) (at + length bytes) more
 before_gives at skip bytes more less =
     let l = length bytes in
     let both : length (bytes ++ more) ≡ l + length more = length-append bytes more in
@@ -119,14 +126,15 @@ before_gives at skip bytes more less =
     let place : at + skip ≡ (at + l) + (skip - l) = omega (arith, less) in
     let left : drop skip (bytes ++ more) ≡ drop (skip - l) more =
     ap (λ n. drop n (bytes ++ more)) (sym parts) ∙ drop-append-add bytes more (skip - l) in
-    ap (λ b. if b then [] else given_by layout (at + skip) (drop skip (bytes ++ more))) test
-    ∙ ap (λ n. if nat_lt (length more) (skip - l) then [] else given_by layout n (drop skip (bytes ++ more))) place
-    ∙ ap (λ rest. if nat_lt (length more) (skip - l) then [] else given_by layout ((at + l) + (skip - l)) rest) left
+    ap (λ b. if b then [] else layout_decoded pec_block_layout (at + skip) (drop skip (bytes ++ more))) test
+    ∙ ap (λ n. if nat_lt (length more) (skip - l) then [] else layout_decoded pec_block_layout n (drop skip (bytes ++ more))) place
+    ∙ ap (λ rest. if nat_lt (length more) (skip - l) then [] else layout_decoded pec_block_layout ((at + l) + (skip - l)) rest) left
 
-pub before_short : (opening : Opening) (block : Stream) (so_far : SoFar) (at skip : ℕ) (bytes : List ℕ) → length bytes < skip
+pub before_short : (front_layout : FrontLayout) (block : DecoderState) (so_far : DecodedSoFar) (at skip : ℕ) (bytes : List ℕ)
+    → length bytes < skip
     → let far = stage.Before (skip - length bytes) (at + length bytes) in
-    Takes (stream_behind skip) (stream_at opening block far) (so_far_at so_far far) at bytes (length bytes)
-before_short opening block so_far at skip bytes less =
+    TakesBytes (file_state_before_block skip) (file_state_at front_layout block far) (file_so_far_at so_far far) at bytes (length bytes)
+before_short front_layout block so_far at skip bytes less =
     let l = length bytes in
     let none : drop l bytes ≡ [] = drop_all l bytes (omega arith) in
     let some : 0 < skip - l = omega (arith, less) in
@@ -135,24 +143,28 @@ before_short opening block so_far at skip bytes less =
       there = omega arith;
       few = omega arith;
       on = record {
-        rest = λ more. before_on at skip bytes more less ∙ ap (λ left. reads_behind (skip - l) (at + l) (left ++ more)) (sym none);
-        given = λ more. before_gives at skip bytes more less ∙ ap (λ left. given_behind (skip - l) (at + l) (left ++ more)) (sym none);
+        rest = λ more. before_on at skip bytes more less ∙ ap (λ left. reads_after_skip (skip - l) (at + l) (left ++ more)) (sym none);
+        decoded = λ more. before_gives at skip bytes more less
+            ∙ ap (λ left. decoded_after_skip (skip - l) (at + l) (left ++ more)) (sym none);
       };
       settled = record {
-        answer = ap (reads_behind (skip - l) (at + l)) none
-            ∙ ap (λ b. if b then Err (fault.Short ((at + l) + 0)) else reads_by layout ((at + l) + (skip - l)) (drop (skip - l) []))
+        answer = ap (reads_after_skip (skip - l) (at + l)) none
+            ∙ ap (λ b. if b then Err (fault.Short ((at + l) + 0)) else layout_reads pec_block_layout ((at + l) + (skip - l))
+            (drop (skip - l) []))
             (lt-ltb 0 (skip - l) some) ∙ ap (λ n. Err (fault.Short n)) end;
-        commands = ap (given_behind (skip - l) (at + l)) none
-            ∙ ap (λ b. if b then [] else given_by layout ((at + l) + (skip - l)) (drop (skip - l) [])) (lt-ltb 0 (skip - l) some);
+        commands = ap (decoded_after_skip (skip - l) (at + l)) none
+            ∙ ap (λ b. if b then [] else layout_decoded pec_block_layout ((at + l) + (skip - l)) (drop (skip - l) []))
+            (lt-ltb 0 (skip - l) some);
       };
     }
 
 -- bytes that reach to the block
-pub before_long : (opening : Opening) (begun new : Stream) (so_far : SoFar) (at skip size : ℕ) (bytes back : List ℕ)
-    → skip ≤ length bytes → back ≡ drop skip bytes → IsSameStream begun (stream_by layout)
-    → Takes begun new so_far (at + skip) back size
-    → Takes (stream_behind skip) (stream_at opening new stage.Block) (so_far_at so_far stage.Block) at bytes (skip + size)
-before_long opening begun new so_far at skip size bytes back there of_back same takes =
+pub before_long : (front_layout : FrontLayout) (begun new : DecoderState) (so_far : DecodedSoFar) (at skip size : ℕ) (bytes back : List ℕ)
+    → skip ≤ length bytes → back ≡ drop skip bytes → IsSameDecoderState begun (layout_state pec_block_layout)
+    → TakesBytes begun new so_far (at + skip) back size
+    → TakesBytes (file_state_before_block skip) (file_state_at front_layout new stage.Block) (file_so_far_at so_far stage.Block) at bytes
+    (skip + size)
+before_long front_layout begun new so_far at skip size bytes back there of_back same takes =
     let left : length back ≡ length bytes - skip = ap length of_back ∙ length-drop skip bytes in
     let in_back = takes.there in
     let few = takes.few in
@@ -166,18 +178,20 @@ before_long opening begun new so_far at skip size bytes back there of_back same 
       there = omega (arith, left, in_back, there);
       few = omega (arith, left, few, there);
       on = record {
-        rest = λ more. ap (λ b. if b then Err (fault.Short (at + length (bytes ++ more))) else reads_by layout (at + skip) (drop skip
+        rest = λ more. ap (λ b. if b then Err (fault.Short (at + length (bytes ++ more))) else layout_reads pec_block_layout (at + skip)
+            (drop skip
             (bytes ++ more))) (test more)
-            ∙ ap (reads_by layout (at + skip)) (behind more) ∙ sym (same.rest (at + skip) (back ++ more)) ∙ takes.on.rest more
+            ∙ ap (layout_reads pec_block_layout (at + skip)) (behind more) ∙ sym (same.rest (at + skip) (back ++ more)) ∙ takes.on.rest more
             ∙ ap (λ n. new.rest n (drop size back ++ more)) far ∙ ap (λ gone. new.rest (at + (skip + size)) (gone ++ more)) gone;
-        given = λ more. ap (λ b. if b then [] else given_by layout (at + skip) (drop skip (bytes ++ more))) (test more)
-            ∙ ap (given_by layout (at + skip)) (behind more) ∙ sym (same.given (at + skip) (back ++ more)) ∙ takes.on.given more
-            ∙ ap (λ n. new.given n (drop size back ++ more)) far ∙ ap (λ gone. new.given (at + (skip + size)) (gone ++ more)) gone;
+        decoded = λ more. ap (λ b. if b then [] else layout_decoded pec_block_layout (at + skip) (drop skip (bytes ++ more))) (test more)
+            ∙ ap (layout_decoded pec_block_layout (at + skip)) (behind more) ∙ sym (same.decoded (at + skip) (back ++ more))
+            ∙ takes.on.decoded more
+            ∙ ap (λ n. new.decoded n (drop size back ++ more)) far ∙ ap (λ gone. new.decoded (at + (skip + size)) (gone ++ more)) gone;
       };
       settled = record {
         answer = ap (λ gone. new.rest (at + (skip + size)) gone) (sym gone) ∙ ap (λ n. new.rest n (drop size back)) (sym far)
             ∙ takes.settled.answer;
-        commands = ap (λ gone. new.given (at + (skip + size)) gone) (sym gone) ∙ ap (λ n. new.given n (drop size back)) (sym far)
+        commands = ap (λ gone. new.decoded (at + (skip + size)) gone) (sym gone) ∙ ap (λ n. new.decoded n (drop size back)) (sym far)
             ∙ takes.settled.commands;
       };
     }

@@ -1,3 +1,3 @@
-pub mod BehindLemmas
+pub mod FrontLemmas
 mod FileFacts
 pub mod FileLemmas

@@ -14,8 +14,8 @@ abbrev pub is_pes_file : List ℕ → Bool
 is_pes_file bytes = starts_with nat_eq bytes (codes "#PES")
 
 -- The offset of the block in a PES file, which the file contains.
-abbrev pub block_offset : List ℕ → ℕ
-block_offset bytes = little_number 4 (drop 8 bytes)
+abbrev pub block_offset_in : List ℕ → ℕ
+block_offset_in bytes = little_number 4 (drop 8 bytes)
 
 -- The front of a PEC file: its signature and version.
 abbrev pub pec_front : List ℕ

@@ -6,8 +6,8 @@ use Rattle.pes_codec.specs.Reading.{pec_moves, pec_reads, pec_shown, pes_moves, 
 use Rattle.pes_codec.specs.Writing.{pec_writes, pes_writes}
 
 -- The meaning of the PEC format: ending, limit, reading, writing and moves.
-abbrev pub pec : Meaning
-pec = record {
+abbrev pub pec_meaning : Meaning
+pec_meaning = record {
   ending = codes "pec";
   limit = LIMIT;
   reads = pec_reads;
@@ -17,8 +17,8 @@ pec = record {
 }
 
 -- The meaning of the PES format: ending, limit, reading, writing and moves.
-abbrev pub pes : Meaning
-pes = record {
+abbrev pub pes_meaning : Meaning
+pes_meaning = record {
   ending = codes "pes";
   limit = LIMIT;
   reads = pes_reads;

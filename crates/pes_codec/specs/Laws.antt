@@ -2,9 +2,9 @@
 use Rattle.std.specs.Prelude.{ℕ, List, IsOkAnd}
 use Rattle.design_model.specs.Designs.{DesignValue}
 use Rattle.format_traits.specs.Meanings.{Meaning}
-use Rattle.pec_codec.specs.Laws.{Restores}
+use Rattle.pec_codec.specs.Laws.{RestoresDesign}
 
 -- Round trip: the bytes read as a design with the same acts, the same label and the same thread of
 -- each block.
-abbrev pub ReadsWhole : Meaning → DesignValue → List ℕ → Type 0
-ReadsWhole m d bytes = IsOkAnd (m.reads bytes) (λ loaded. Restores d loaded)
+abbrev pub RoundTripsWithThreads : Meaning → DesignValue → List ℕ → Type 0
+RoundTripsWithThreads m d bytes = IsOkAnd (m.reads bytes) (λ loaded. RestoresDesign d loaded)

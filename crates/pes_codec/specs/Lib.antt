@@ -1,6 +1,6 @@
 pub mod Files
-pub mod Openings
-pub mod FileStreams
+pub mod Fronts
+pub mod FileStates
 pub mod Reading
 pub mod Writing
 -- read this one first: what the two formats mean

@@ -2,18 +2,18 @@
 use Rattle.std.specs.Prelude.{ℕ, List, ◌++◌, Result, Ok, Err}
 use Rattle.design_model.specs.Designs.{DesignValue}
 use Rattle.format_traits.specs.declared.fault.WriteFault.{WriteFault}
-use Rattle.pec_codec.specs.Writing.{writes}
+use Rattle.pec_codec.specs.Writing.{pec_block_writes}
 use Rattle.pes_codec.specs.Files.{pec_front, pes_front}
 
 -- A block after the front of a file; a refusal stays.
-abbrev pub behind : List ℕ → Result (List ℕ) WriteFault → Result (List ℕ) WriteFault
-behind front (Ok block) = Ok (front ++ block)
-behind front (Err f) = Err f
+abbrev pub after_front : List ℕ → Result (List ℕ) WriteFault → Result (List ℕ) WriteFault
+after_front front (Ok block) = Ok (front ++ block)
+after_front front (Err f) = Err f
 
 -- The result of writing a design as a PEC file.
 abbrev pub pec_writes : DesignValue → Result (List ℕ) WriteFault
-pec_writes d = behind pec_front (writes d)
+pec_writes d = after_front pec_front (pec_block_writes d)
 
 -- The result of writing a design as a PES file.
 abbrev pub pes_writes : DesignValue → Result (List ℕ) WriteFault
-pes_writes d = behind pes_front (writes d)
+pes_writes d = after_front pes_front (pec_block_writes d)

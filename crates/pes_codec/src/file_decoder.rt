@@ -15,9 +15,9 @@ pub struct FileDecoder<F: FileFront + Drop> {
 
 impl<F: FileFront + Drop> FileDecoder<F> {
     ghost use Rattle.std.specs.Prelude.{◌≡◌, ◌+◌, ◌<◌, ◌^◌, IfOk, length};
-    ghost use Rattle.format_traits.specs.Streams.{Takes};
-    ghost use Rattle.pes_codec.specs.FileStreams.{so_far_at, stream_at, stream_behind, stream_from};
-    ghost use Rattle.pes_codec.specs.Openings.{front_fault};
+    ghost use Rattle.format_traits.specs.DecoderStates.{TakesBytes};
+    ghost use Rattle.pes_codec.specs.FileStates.{file_so_far_at, file_state_at, file_state_before_block, file_start_state};
+    ghost use Rattle.pes_codec.specs.Fronts.{front_fault};
 
     /// Returns a decoder, which must begin before it takes bytes.
     pub fn new(alloc: Global, front: F) -> Self {
@@ -31,7 +31,7 @@ impl<F: FileFront + Drop> FileDecoder<F> {
     /// Returns the refusal of a file that ends in its front.
     fn front_fault(&self, at: u64, bytes: &[u8]) -> ReadFault
         requires { at + length bytes.now < 2 ^ 64 }
-        ensures { result ≡ front_fault F.opening at bytes.now }
+        ensures { result ≡ front_fault F.front_layout at bytes.now }
     {
         if self.front.is_known(bytes) {
             ReadFault::Short {
@@ -44,9 +44,10 @@ impl<F: FileFront + Drop> FileDecoder<F> {
 
     fn take_front(&mut self, at: u64, bytes: &[u8]) -> Result<usize, Memory>
         requires { at + length bytes.now < 2 ^ 64 }
-        ensures { IfOk result (λ size. Takes (stream_from F.opening)
-            (stream_at F.opening (⟦<RecordDecoder<PecRecords> as Decoder>⟧.stream self.new.block) self.new.stage)
-            (so_far_at (⟦<RecordDecoder<PecRecords> as Decoder>⟧.so_far self.new.block) self.new.stage)
+        ensures { IfOk result (λ size. TakesBytes (file_start_state F.front_layout)
+            (file_state_at F.front_layout
+            (⟦<RecordDecoder<PecRecords> as Decoder>⟧.decoder_state self.new.block) self.new.stage)
+            (file_so_far_at (⟦<RecordDecoder<PecRecords> as Decoder>⟧.so_far self.new.block) self.new.stage)
             at bytes.now size) }
     {
         if bytes.len() < self.front.length() {
@@ -64,9 +65,10 @@ impl<F: FileFront + Drop> FileDecoder<F> {
     /// Continues to the block, which begins after `skip` bytes, and takes its complete records.
     fn take_before(&mut self, at: u64, skip: u64, bytes: &[u8]) -> Result<usize, Memory>
         requires { at + length bytes.now < 2 ^ 64 }
-        ensures { IfOk result (λ size. Takes (stream_behind skip)
-            (stream_at F.opening (⟦<RecordDecoder<PecRecords> as Decoder>⟧.stream self.new.block) self.new.stage)
-            (so_far_at (⟦<RecordDecoder<PecRecords> as Decoder>⟧.so_far self.new.block) self.new.stage)
+        ensures { IfOk result (λ size. TakesBytes (file_state_before_block skip)
+            (file_state_at F.front_layout
+            (⟦<RecordDecoder<PecRecords> as Decoder>⟧.decoder_state self.new.block) self.new.stage)
+            (file_so_far_at (⟦<RecordDecoder<PecRecords> as Decoder>⟧.so_far self.new.block) self.new.stage)
             at bytes.now size) }
     {
         let length = bytes.len() as u64;
@@ -86,13 +88,15 @@ impl<F: FileFront + Drop> FileDecoder<F> {
 }
 
 impl<F: FileFront + Drop> Decoder for FileDecoder<F> {
-    ghost use Rattle.pes_codec.specs.FileStreams.{so_far_at, stream_at, stream_from};
+    ghost use Rattle.pes_codec.specs.FileStates.{file_so_far_at, file_state_at, file_start_state};
 
-    ghost fresh = { stream_from F.opening };
+    ghost fresh = { file_start_state F.front_layout };
 
-    ghost stream = { λ d. stream_at F.opening (⟦<RecordDecoder<PecRecords> as Decoder>⟧.stream d.block) d.stage };
+    ghost decoder_state = { λ d. file_state_at F.front_layout
+        (⟦<RecordDecoder<PecRecords> as Decoder>⟧.decoder_state d.block) d.stage };
 
-    ghost so_far = { λ d. so_far_at (⟦<RecordDecoder<PecRecords> as Decoder>⟧.so_far d.block) d.stage };
+    ghost so_far = { λ d. file_so_far_at (⟦<RecordDecoder<PecRecords> as Decoder>⟧.so_far d.block)
+        d.stage };
 
     fn begin(&mut self, at: u64) {
         self.stage = FileStage::Front(self.front_fault(at, &[]));

@@ -10,6 +10,6 @@ mod pes;
 #[cfg(test)]
 mod tests;
 
-pub use front::{OFFSET_END, PEC_BLOCK};
+pub use front::{OFFSET_END, PEC_BLOCK_OFFSET};
 pub use pec::Pec;
 pub use pes::Pes;

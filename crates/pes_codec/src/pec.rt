@@ -1,12 +1,12 @@
 ghost use Rattle.std.specs.Prelude.{IfOk};
-ghost use Rattle.format_traits.specs.Laws.{Reads, KeepsLaws, Writes};
-ghost use Rattle.pes_codec.specs.Formats.{pec};
-ghost use Rattle.pes_codec.specs.Laws.{ReadsWhole};
+ghost use Rattle.format_traits.specs.Laws.{DecodesTo, KeepsLaws, EncodesTo};
+ghost use Rattle.pes_codec.specs.Formats.{pec_meaning};
+ghost use Rattle.pes_codec.specs.Laws.{RoundTripsWithThreads};
 ghost use Rattle.pes_codec.specs.Reading.{pec_reads};
 
 use crate::file_decoder::FileDecoder;
 use crate::file_front::FileFront;
-use crate::front::{PEC_BLOCK, write_behind};
+use crate::front::{PEC_BLOCK_OFFSET, write_after_front};
 use design_model::{Bytes, Command, Design, Memory};
 use format_traits::{Fed, Feed, Format, Loaded, ReadFault, WriteFault, decode_whole};
 use pec_codec::LIMIT;
@@ -17,12 +17,12 @@ use std::alloc::Global;
 struct PecFront;
 
 impl FileFront for PecFront {
-    ghost use Rattle.pes_codec.specs.Openings.{pec_opening};
+    ghost use Rattle.pes_codec.specs.Fronts.{pec_front_layout};
 
-    ghost opening = { pec_opening };
+    ghost front_layout = { pec_front_layout };
 
     fn length(&self) -> usize {
-        PEC_BLOCK
+        PEC_BLOCK_OFFSET
     }
 
     fn is_known(&self, bytes: &[u8]) -> bool {
@@ -30,7 +30,7 @@ impl FileFront for PecFront {
     }
 
     fn block(&self, _bytes: &[u8]) -> u32 {
-        PEC_BLOCK as u32
+        PEC_BLOCK_OFFSET as u32
     }
 }
 
@@ -41,12 +41,12 @@ pub struct Pec {
 }
 
 impl Pec {
-    ghost use Rattle.format_traits.specs.Feeding.{IsFresh};
+    ghost use Rattle.format_traits.specs.Feeding.{HasNothingFed};
     ghost use Rattle.pes_codec.specs.Reading.{pec_reads, pec_shown};
 
     /// Returns a format object to which nothing was fed. Allocates nothing.
     pub fn new(alloc: Global) -> Pec
-        ensures { IsFresh pec_reads pec_shown (⟦<Pec as Format>⟧.feeding result) }
+        ensures { HasNothingFed pec_reads pec_shown (⟦<Pec as Format>⟧.feed_state result) }
     {
         Pec {
             feed: Feed::new(FileDecoder::new(alloc, PecFront)),
@@ -56,14 +56,14 @@ impl Pec {
 
 impl Format for Pec {
     ghost use Rattle.std.specs.Prelude.{IfOk, IsOk};
-    ghost use Rattle.format_traits.specs.Laws.{MovesWithin, ReadsAgain, Writes};
+    ghost use Rattle.format_traits.specs.Laws.{MovesWithin, RoundTrips, EncodesTo};
     ghost use Rattle.format_traits.specs.PlainDesigns.{IsPlain};
-    ghost use Rattle.pes_codec.specs.Formats.{pec as pec_meaning};
-    ghost use Rattle.pes_codec.specs.Laws.{ReadsWhole};
+    ghost use Rattle.pes_codec.specs.Formats.{pec_meaning};
+    ghost use Rattle.pes_codec.specs.Laws.{RoundTripsWithThreads};
 
     ghost meaning = { λ _. pec_meaning };
 
-    ghost feeding = { λ f. ⟦<Feed<FileDecoder<PecFront>> as Fed>⟧.feeding f.feed };
+    ghost feed_state = { λ f. ⟦<Feed<FileDecoder<PecFront>> as Fed>⟧.feed_state f.feed };
 
     fn ext(&self) -> &str {
         "pec"
@@ -78,14 +78,14 @@ impl Format for Pec {
     }
 
     fn encode(&self, alloc: Global, design: &Design) -> Result<Bytes, WriteFault>
-        ensures value { Writes (pec_meaning.writes design.now) result }
-        ensures again { IfOk result (λ bytes. ReadsAgain pec_meaning design.now bytes) }
+        ensures value { EncodesTo (pec_meaning.writes design.now) result }
+        ensures again { IfOk result (λ bytes. RoundTrips pec_meaning design.now bytes) }
         ensures within { IfOk result (λ bytes. MovesWithin pec_meaning bytes) }
         ensures plain { IsPlain pec_meaning.limit design.now
             → IsOk (pec_meaning.writes design.now) }
 
         // The label and the thread of each colour block are read back too.
-        ensures whole { IfOk result (λ bytes. ReadsWhole pec_meaning design.now bytes) }
+        ensures whole { IfOk result (λ bytes. RoundTripsWithThreads pec_meaning design.now bytes) }
     {
         write_file(alloc, design)
     }
@@ -112,9 +112,10 @@ impl Format for Pec {
 }
 
 fn write_file(alloc: Global, design: &Design) -> Result<Bytes, WriteFault>
-    ensures value { Writes (pec.writes design.now) result }
-    ensures laws { KeepsLaws pec design.now }
-    ensures whole { IfOk (pec.writes design.now) (λ bytes. ReadsWhole pec design.now bytes) }
+    ensures value { EncodesTo (pec_meaning.writes design.now) result }
+    ensures laws { KeepsLaws pec_meaning design.now }
+    ensures whole { IfOk (pec_meaning.writes design.now)
+        (λ bytes. RoundTripsWithThreads pec_meaning design.now bytes) }
 {
-    write_behind(alloc, b"#PEC0001", design)
+    write_after_front(alloc, b"#PEC0001", design)
 }

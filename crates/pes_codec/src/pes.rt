@@ -1,14 +1,14 @@
 ghost use Rattle.std.specs.Prelude.{◌≡◌, ◌≤◌, length, IfOk};
-ghost use Rattle.format_traits.specs.Laws.{Reads, KeepsLaws, Writes};
+ghost use Rattle.format_traits.specs.Laws.{DecodesTo, KeepsLaws, EncodesTo};
 ghost use Rattle.pes_codec.specs.declared.front.TheConstants.{OFFSET_END};
-ghost use Rattle.pes_codec.specs.Files.{block_offset as block_offset_of};
-ghost use Rattle.pes_codec.specs.Formats.{pes};
-ghost use Rattle.pes_codec.specs.Laws.{ReadsWhole};
+ghost use Rattle.pes_codec.specs.Files.{block_offset_in};
+ghost use Rattle.pes_codec.specs.Formats.{pes_meaning};
+ghost use Rattle.pes_codec.specs.Laws.{RoundTripsWithThreads};
 ghost use Rattle.pes_codec.specs.Reading.{pes_reads};
 
 use crate::file_decoder::FileDecoder;
 use crate::file_front::FileFront;
-use crate::front::{OFFSET_END, write_behind};
+use crate::front::{OFFSET_END, write_after_front};
 use byteorder::{ByteOrder, LittleEndian};
 use design_model::{Bytes, Command, Design, Memory};
 use format_traits::{Fed, Feed, Format, Loaded, ReadFault, WriteFault, decode_whole};
@@ -20,9 +20,9 @@ use std::alloc::Global;
 struct PesFront;
 
 impl FileFront for PesFront {
-    ghost use Rattle.pes_codec.specs.Openings.{pes_opening};
+    ghost use Rattle.pes_codec.specs.Fronts.{pes_front_layout};
 
-    ghost opening = { pes_opening };
+    ghost front_layout = { pes_front_layout };
 
     fn length(&self) -> usize {
         OFFSET_END
@@ -44,12 +44,12 @@ pub struct Pes {
 }
 
 impl Pes {
-    ghost use Rattle.format_traits.specs.Feeding.{IsFresh};
+    ghost use Rattle.format_traits.specs.Feeding.{HasNothingFed};
     ghost use Rattle.pes_codec.specs.Reading.{pes_reads, pes_shown};
 
     /// Returns a format object to which nothing was fed. Allocates nothing.
     pub fn new(alloc: Global) -> Pes
-        ensures { IsFresh pes_reads pes_shown (⟦<Pes as Format>⟧.feeding result) }
+        ensures { HasNothingFed pes_reads pes_shown (⟦<Pes as Format>⟧.feed_state result) }
     {
         Pes {
             feed: Feed::new(FileDecoder::new(alloc, PesFront)),
@@ -59,14 +59,14 @@ impl Pes {
 
 impl Format for Pes {
     ghost use Rattle.std.specs.Prelude.{IfOk, IsOk};
-    ghost use Rattle.format_traits.specs.Laws.{MovesWithin, ReadsAgain, Writes};
+    ghost use Rattle.format_traits.specs.Laws.{MovesWithin, RoundTrips, EncodesTo};
     ghost use Rattle.format_traits.specs.PlainDesigns.{IsPlain};
-    ghost use Rattle.pes_codec.specs.Formats.{pes as pes_meaning};
-    ghost use Rattle.pes_codec.specs.Laws.{ReadsWhole};
+    ghost use Rattle.pes_codec.specs.Formats.{pes_meaning};
+    ghost use Rattle.pes_codec.specs.Laws.{RoundTripsWithThreads};
 
     ghost meaning = { λ _. pes_meaning };
 
-    ghost feeding = { λ f. ⟦<Feed<FileDecoder<PesFront>> as Fed>⟧.feeding f.feed };
+    ghost feed_state = { λ f. ⟦<Feed<FileDecoder<PesFront>> as Fed>⟧.feed_state f.feed };
 
     fn ext(&self) -> &str {
         "pes"
@@ -81,14 +81,14 @@ impl Format for Pes {
     }
 
     fn encode(&self, alloc: Global, design: &Design) -> Result<Bytes, WriteFault>
-        ensures value { Writes (pes_meaning.writes design.now) result }
-        ensures again { IfOk result (λ bytes. ReadsAgain pes_meaning design.now bytes) }
+        ensures value { EncodesTo (pes_meaning.writes design.now) result }
+        ensures again { IfOk result (λ bytes. RoundTrips pes_meaning design.now bytes) }
         ensures within { IfOk result (λ bytes. MovesWithin pes_meaning bytes) }
         ensures plain { IsPlain pes_meaning.limit design.now
             → IsOk (pes_meaning.writes design.now) }
 
         // The label and the thread of each colour block are read back too.
-        ensures whole { IfOk result (λ bytes. ReadsWhole pes_meaning design.now bytes) }
+        ensures whole { IfOk result (λ bytes. RoundTripsWithThreads pes_meaning design.now bytes) }
     {
         write_file(alloc, design)
     }
@@ -115,11 +115,12 @@ impl Format for Pes {
 }
 
 fn write_file(alloc: Global, design: &Design) -> Result<Bytes, WriteFault>
-    ensures value { Writes (pes.writes design.now) result }
-    ensures laws { KeepsLaws pes design.now }
-    ensures whole { IfOk (pes.writes design.now) (λ bytes. ReadsWhole pes design.now bytes) }
+    ensures value { EncodesTo (pes_meaning.writes design.now) result }
+    ensures laws { KeepsLaws pes_meaning design.now }
+    ensures whole { IfOk (pes_meaning.writes design.now)
+        (λ bytes. RoundTripsWithThreads pes_meaning design.now bytes) }
 {
-    write_behind(
+    write_after_front(
         alloc,
         b"#PES0001\x16\x00\x00\x00\x00\x00\x00\x00\x00\x00\x00\x00\x00\x00",
         design,

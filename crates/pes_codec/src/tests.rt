@@ -12,7 +12,7 @@ const SIZES: [usize; 9] = [1, 2, 3, 5, 511, 512, 513, 4_096, 1_000_000];
 
 /// Feeds a chunk.
 fn feed<F: Format>(rt: &impl Abort, format: &mut F, piece: &[u8]) -> Result<(), Memory>
-    ensures { IsOk result → (F.feeding format.new).spoiled ≡ false }
+    ensures { IsOk result → (F.feed_state format.new).spoiled ≡ false }
 {
     assert!(rt; format.taken().saturating_add(piece.len() as u64) <= MAX_FED);
     format.feed(piece)

@@ -6,7 +6,7 @@ use Rattle.design_model.specs.declared.command.Command.TheVariants.{Stitch, Jump
 use Rattle.design_model.specs.declared.point.Point.{Point}
 use Rattle.design_model.specs.Counts.{counts_of}
 use Rattle.design_model.specs.Designs.{DesignValue, empty_design}
-use Rattle.design_model.specs.TextLines.{line_end}
+use Rattle.design_model.specs.TextLines.{newline}
 use Rattle.program_texts.specs.DesignReports.{written_report, show_report}
 
 abbrev place : ℤ → ℤ → Point
@@ -32,32 +32,32 @@ two_blocks = record {
 }
 
 pub known_square : show_report (codes "dst") (record { design = square; ended = true })
-    ≡ codes "format dst" ++ (line_end ++ (codes "label []" ++ (line_end ++ (codes "commands 9" ++ (line_end
-    ++ (codes "needles 5" ++ (line_end ++ (codes "trims 1" ++ (line_end ++ (codes "stops 0" ++ (line_end
-    ++ (codes "extent 0 0 30 30" ++ (line_end ++ (codes "ended yes" ++ (line_end
-    ++ (codes "block 1 thread 1 needles 5" ++ line_end))))))))))))))))
+    ≡ codes "format dst" ++ (newline ++ (codes "label []" ++ (newline ++ (codes "commands 9" ++ (newline
+    ++ (codes "needles 5" ++ (newline ++ (codes "trims 1" ++ (newline ++ (codes "stops 0" ++ (newline
+    ++ (codes "extent 0 0 30 30" ++ (newline ++ (codes "ended yes" ++ (newline
+    ++ (codes "block 1 thread 1 needles 5" ++ newline))))))))))))))))
 unfolding digits
 known_square = refl
 
 pub known_two_blocks : show_report (codes "pes") (record { design = two_blocks; ended = false })
-    ≡ codes "format pes" ++ (line_end ++ (codes "label [AB]" ++ (line_end ++ (codes "commands 6" ++ (line_end
-    ++ (codes "needles 3" ++ (line_end ++ (codes "trims 1" ++ (line_end ++ (codes "stops 1" ++ (line_end
-    ++ (codes "extent -5 0 10 25" ++ (line_end ++ (codes "ended no" ++ (line_end
-    ++ (codes "block 1 thread 20 needles 2" ++ (line_end
-    ++ (codes "block 2 thread 2 needles 1" ++ line_end))))))))))))))))))
+    ≡ codes "format pes" ++ (newline ++ (codes "label [AB]" ++ (newline ++ (codes "commands 6" ++ (newline
+    ++ (codes "needles 3" ++ (newline ++ (codes "trims 1" ++ (newline ++ (codes "stops 1" ++ (newline
+    ++ (codes "extent -5 0 10 25" ++ (newline ++ (codes "ended no" ++ (newline
+    ++ (codes "block 1 thread 20 needles 2" ++ (newline
+    ++ (codes "block 2 thread 2 needles 1" ++ newline))))))))))))))))))
 unfolding digits
 known_two_blocks = refl
 
 -- a design without commands has one block, and no extent
 pub known_nothing : show_report (codes "exp") (record { design = empty_design; ended = true })
-    ≡ codes "format exp" ++ (line_end ++ (codes "label []" ++ (line_end ++ (codes "commands 0" ++ (line_end
-    ++ (codes "needles 0" ++ (line_end ++ (codes "trims 0" ++ (line_end ++ (codes "stops 0" ++ (line_end
-    ++ (codes "extent none" ++ (line_end ++ (codes "ended yes" ++ (line_end
-    ++ (codes "block 1 thread 1 needles 0" ++ line_end))))))))))))))))
+    ≡ codes "format exp" ++ (newline ++ (codes "label []" ++ (newline ++ (codes "commands 0" ++ (newline
+    ++ (codes "needles 0" ++ (newline ++ (codes "trims 0" ++ (newline ++ (codes "stops 0" ++ (newline
+    ++ (codes "extent none" ++ (newline ++ (codes "ended yes" ++ (newline
+    ++ (codes "block 1 thread 1 needles 0" ++ newline))))))))))))))))
 unfolding digits
 known_nothing = refl
 
 -- the report on a design that was written
-pub known_written : written_report (counts_of two_blocks) ≡ codes "needles 3 trims 1 stops 1" ++ line_end
+pub known_written : written_report (counts_of two_blocks) ≡ codes "needles 3 trims 1 stops 1" ++ newline
 unfolding digits
 known_written = refl

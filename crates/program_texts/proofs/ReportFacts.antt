@@ -6,7 +6,7 @@ use Rattle.program_texts.specs.declared.reports.PieceReport.{PieceReport}
 use Rattle.program_texts.specs.declared.summary.Summary.{Summary}
 use Rattle.program_texts.specs.DoubleReports.{double_report}
 use Rattle.program_texts.specs.Reports.{migrate_report, route_report, summary_text}
-use Rattle.design_model.specs.TextLines.{line_end}
+use Rattle.design_model.specs.TextLines.{newline}
 
 -- two pieces, of which each walk makes twelve and five steps, and then four more and none
 abbrev pieces : List PieceReport
@@ -15,18 +15,18 @@ pieces = record { block = 1; piece = 1; lines = 3; cost = 12; retraced = 4 }
 
 -- the needle goes down once more often than a walk makes steps
 pub known_route : route_report pieces
-    ≡ codes "block 1 piece 1 lines 3 cost 12 retraced 4 penetrations 17" ++ (line_end
-    ++ (codes "block 2 piece 2 lines 1 cost 5 retraced 0 penetrations 6" ++ (line_end
-    ++ (codes "pieces 2 penetrations 23" ++ line_end))))
+    ≡ codes "block 1 piece 1 lines 3 cost 12 retraced 4 penetrations 17" ++ (newline
+    ++ (codes "block 2 piece 2 lines 1 cost 5 retraced 0 penetrations 6" ++ (newline
+    ++ (codes "pieces 2 penetrations 23" ++ newline))))
 unfolding digits
 known_route = refl
 
 -- the needle goes down once more often than twice the cost
 pub known_double : double_report (record { block = 1; piece = 1; lines = 3; cost = 12; retraced = 12 }
     ∷ record { block = 2; piece = 2; lines = 1; cost = 4; retraced = 4 } ∷ [])
-    ≡ codes "block 1 piece 1 lines 3 cost 12 penetrations 25" ++ (line_end
-    ++ (codes "block 2 piece 2 lines 1 cost 4 penetrations 9" ++ (line_end
-    ++ (codes "pieces 2 penetrations 34" ++ line_end))))
+    ≡ codes "block 1 piece 1 lines 3 cost 12 penetrations 25" ++ (newline
+    ++ (codes "block 2 piece 2 lines 1 cost 4 penetrations 9" ++ (newline
+    ++ (codes "pieces 2 penetrations 34" ++ newline))))
 unfolding digits
 known_double = refl
 
@@ -45,14 +45,14 @@ sample = record {
 }
 
 pub known_sample : summary_text sample
-    ≡ codes "sample 7" ++ (line_end
-    ++ (codes "lines 4" ++ (line_end ++ (codes "junctions 3" ++ (line_end
-    ++ (codes "odd 2" ++ (line_end ++ (codes "pieces 1" ++ (line_end
-    ++ (codes "cost 13" ++ (line_end ++ (codes "retraced 5" ++ (line_end
-    ++ (codes "penetrations 19" ++ (line_end ++ (codes "cuts 10" ++ line_end))))))))))))))))
+    ≡ codes "sample 7" ++ (newline
+    ++ (codes "lines 4" ++ (newline ++ (codes "junctions 3" ++ (newline
+    ++ (codes "odd 2" ++ (newline ++ (codes "pieces 1" ++ (newline
+    ++ (codes "cost 13" ++ (newline ++ (codes "retraced 5" ++ (newline
+    ++ (codes "penetrations 19" ++ (newline ++ (codes "cuts 10" ++ newline))))))))))))))))
 unfolding digits
 known_sample = refl
 
-pub known_migration : migrate_report 30 2 405 ≡ codes "lines 30 pieces 2 cost 405" ++ line_end
+pub known_migration : migrate_report 30 2 405 ≡ codes "lines 30 pieces 2 cost 405" ++ newline
 unfolding digits
 known_migration = refl

@@ -4,10 +4,10 @@ use Rattle.std.specs.Fmt.{digits}
 use Rattle.std.specs.Prelude.{codes}
 use Rattle.design_model.specs.declared.point.Point.{Point}
 use Rattle.line_graph.specs.Drawings.{DrawingValue}
-use Rattle.design_model.specs.TextLines.{line_end}
+use Rattle.design_model.specs.TextLines.{newline}
 use Rattle.program_texts.specs.TracingReports.{traced_line, tracing_report}
 
-pub known_line : traced_line 2 30 405 ≡ codes "blocks 2 lines 30 links 405" ++ line_end
+pub known_line : traced_line 2 30 405 ≡ codes "blocks 2 lines 30 links 405" ++ newline
 unfolding digits
 known_line = refl
 
@@ -27,6 +27,6 @@ traced = record {
   ends = [];
 }
 
-pub known_report : tracing_report traced ≡ codes "blocks 2 lines 3 links 5" ++ line_end
+pub known_report : tracing_report traced ≡ codes "blocks 2 lines 3 links 5" ++ newline
 unfolding digits
 known_report = refl

@@ -5,7 +5,7 @@ use Rattle.line_graph.specs.PieceGraphs.{PieceValue}
 use Rattle.line_graph.specs.PieceWalks.{piece_cost}
 use Rattle.program_texts.specs.declared.reports.PieceReport.{PieceReport}
 use Rattle.line_graph.specs.declared.piece.Piece.{Piece}
-use Rattle.line_graph.specs.CutPieces.{graph_of}
+use Rattle.line_graph.specs.PiecesOfDrawings.{graph_of}
 
 -- The data of the line about a piece with that number.
 abbrev pub piece_report : PieceValue → ℕ → PieceCert → PieceReport

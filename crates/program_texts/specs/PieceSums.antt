@@ -2,36 +2,36 @@
 -- step.
 use Rattle.std.specs.Prelude.{ℕ, ◌*◌, List, length, sum_by}
 use Rattle.line_graph.specs.declared.piece.Piece.{Piece}
-use Rattle.line_graph.specs.CutPieces.{graph_of}
+use Rattle.line_graph.specs.PiecesOfDrawings.{graph_of}
 use Rattle.line_graph.specs.PieceGraphs.{PieceValue, odd_junctions}
 use Rattle.program_texts.specs.declared.reports.PieceReport.{PieceReport}
 use Rattle.program_texts.specs.declared.summary.Summary.{Summary}
 use Rattle.program_texts.specs.Reports.{penetrations_of}
 
 -- The number of junctions of a piece.
-abbrev pub junction_count : PieceValue → ℕ
-junction_count p = length p.junctions
+abbrev pub junctions_of_piece : PieceValue → ℕ
+junctions_of_piece p = length p.junctions
 
 -- The number of odd junctions of a piece.
-abbrev pub odd_count : PieceValue → ℕ
-odd_count p = length (odd_junctions p)
+abbrev pub odd_junctions_of_piece : PieceValue → ℕ
+odd_junctions_of_piece p = length (odd_junctions p)
 
 -- The total number of junctions of pieces.
-abbrev pub junction_sum : List Piece → ℕ
-junction_sum pieces = sum_by (λ p. junction_count (graph_of p)) pieces
+abbrev pub total_junctions : List Piece → ℕ
+total_junctions pieces = sum_by (λ p. junctions_of_piece (graph_of p)) pieces
 
 -- The total number of odd junctions of pieces.
-abbrev pub odd_sum : List Piece → ℕ
-odd_sum pieces = sum_by (λ p. odd_count (graph_of p)) pieces
+abbrev pub total_odd_junctions : List Piece → ℕ
+total_odd_junctions pieces = sum_by (λ p. odd_junctions_of_piece (graph_of p)) pieces
 
 -- The summary of a sample drawing with that number of lines, computed from its pieces and their
 -- reports.
-abbrev pub summed : (number lines : ℕ) → List Piece → List PieceReport → Summary
-summed number lines pieces reports = record {
+abbrev pub sample_summary : (number lines : ℕ) → List Piece → List PieceReport → Summary
+sample_summary number lines pieces reports = record {
   number = number;
   lines = lines;
-  junctions = junction_sum pieces;
-  odd = odd_sum pieces;
+  junctions = total_junctions pieces;
+  odd = total_odd_junctions pieces;
   pieces = length pieces;
   cost = sum_by (λ r. r.cost) reports;
   retraced = sum_by (λ r. r.retraced) reports;

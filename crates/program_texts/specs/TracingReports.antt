@@ -2,12 +2,12 @@
 use Rattle.std.specs.Prelude.{ℕ, List, ◌++◌, codes, decimal, length, sum_by}
 use Rattle.line_sections.specs.Sections.{segments_of}
 use Rattle.line_graph.specs.Drawings.{DrawingValue}
-use Rattle.design_model.specs.TextLines.{line_end}
+use Rattle.design_model.specs.TextLines.{newline}
 
 -- The line of a tracing: the number of blocks, of lines and of links.
 abbrev pub traced_line : (blocks lines links : ℕ) → List ℕ
 traced_line blocks lines links = codes "blocks " ++ (decimal blocks ++ (codes " lines "
-    ++ (decimal lines ++ (codes " links " ++ (decimal links ++ line_end)))))
+    ++ (decimal lines ++ (codes " links " ++ (decimal links ++ newline)))))
 
 -- The number of segments of the lines of a drawing.
 abbrev pub segment_count : DrawingValue → ℕ

@@ -1,7 +1,7 @@
 ghost use Rattle.std.specs.Prelude.{◌≡◌, ◌++◌, ◌+◌, ◌≤◌, ◌^◌, ◌<◌, IfOk, OnOk, decimal, length};
 ghost use Rattle.std.specs.Fmt.{signed_decimal};
 ghost use Rattle.design_model.specs.declared.design.TheConstants.{MAX_COMMANDS};
-ghost use Rattle.program_texts.specs.DesignReports.{written_report, block_line, block_lines, count_lines, ended_line, extent_line, number_line, number_text, point_text, show_report, title_lines};
+ghost use Rattle.program_texts.specs.DesignReports.{written_report, block_report_line, block_lines, count_lines, ended_line, extent_line, labelled_number_line, labelled_number, coordinates_text, show_report, title_lines};
 
 use design_model::{Bytes, Counts, Design, Extent, Memory, Point, block_counts, counts, extent};
 use format_traits::Loaded;
@@ -96,7 +96,7 @@ fn put_blocks(text: &mut Bytes, design: &Design, needles: &[u32]) -> Result<(), 
 }
 
 fn put_block(text: &mut Bytes, number: u32, thread: u8, needles: u32) -> Result<(), Memory>
-    ensures { OnOk result (text.new ≡ text.old ++ block_line number thread needles) }
+    ensures { OnOk result (text.new ≡ text.old ++ block_report_line number thread needles) }
 {
     put_number(text, b"block ", number)?;
     put_number(text, b" thread ", u32::from(thread))?;
@@ -105,7 +105,7 @@ fn put_block(text: &mut Bytes, number: u32, thread: u8, needles: u32) -> Result<
 }
 
 fn put_point(text: &mut Bytes, point: Point) -> Result<(), Memory>
-    ensures { OnOk result (text.new ≡ text.old ++ point_text point) }
+    ensures { OnOk result (text.new ≡ text.old ++ coordinates_text point) }
 {
     put_signed(text, point.x)?;
     text.append(b" ")?;
@@ -115,7 +115,7 @@ fn put_point(text: &mut Bytes, point: Point) -> Result<(), Memory>
 
 /// Appends a line of a label and a number.
 fn put_number_line(text: &mut Bytes, word: &[u8], number: u32) -> Result<(), Memory>
-    ensures { OnOk result (text.new ≡ text.old ++ number_line word.now number) }
+    ensures { OnOk result (text.new ≡ text.old ++ labelled_number_line word.now number) }
 {
     put_number(text, word, number)?;
     text.append(b"\n")?;
@@ -123,7 +123,7 @@ fn put_number_line(text: &mut Bytes, word: &[u8], number: u32) -> Result<(), Mem
 }
 
 fn put_number(text: &mut Bytes, word: &[u8], number: u32) -> Result<(), Memory>
-    ensures { OnOk result (text.new ≡ text.old ++ number_text word.now number) }
+    ensures { OnOk result (text.new ≡ text.old ++ labelled_number word.now number) }
 {
     let mut buffer = Buffer::new();
     text.append(word)?;

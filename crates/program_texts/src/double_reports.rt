@@ -1,6 +1,6 @@
 ghost use Rattle.std.specs.Prelude.{◌≡◌, ◌<◌, ◌≤◌, ◌^◌, All, IfOk, length, string_bytes, sum_by};
 ghost use Rattle.line_graph.specs.declared.limits.TheConstants.{MAX_BLOCKS, MAX_LINES};
-ghost use Rattle.program_texts.specs.DoubleReports.{double_cost as double_cost_text, double_report};
+ghost use Rattle.program_texts.specs.DoubleReports.{double_cost_text, double_report};
 ghost use Rattle.program_texts.specs.Reports.{penetrations_of};
 ghost use Rattle.program_texts.specs.PieceReports.{reports_from};
 

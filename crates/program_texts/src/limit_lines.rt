@@ -1,34 +1,35 @@
 ghost use Rattle.std.specs.Prelude.{decimal};
 ghost use Rattle.program_texts.specs.declared.status.Status.TheVariants as status;
-ghost use Rattle.program_texts.specs.Puts.{Tells};
-ghost use Rattle.program_texts.specs.LimitLines.{large_text, long_text, place_text, step_text};
+ghost use Rattle.program_texts.specs.Puts.{ReportsLineWithStatus};
+ghost use Rattle.program_texts.specs.LimitLines.{too_large_line, long_stitch_line, no_colour_place_line, step_limit_line};
 
-use crate::putting::tell;
+use crate::putting::report_text;
 use crate::status::Status;
 use itoa::Buffer;
 use outside_io::Sink;
 
 /// Reports that the step of a drawing exceeds the limit of a format, both in tenths of a millimetre.
-pub fn tell_step<E: Sink>(err: &mut E, name: &str, step: u32, limit: u32, ending: &[u8]) -> Status
-    ensures { Tells (step_text name.now (decimal step) (decimal limit) ending.now) status.Refused
-        (E.sight err.old) (E.sight err.new) result }
+pub fn report_step<E: Sink>(err: &mut E, name: &str, step: u32, limit: u32, ending: &[u8]) -> Status
+    ensures { ReportsLineWithStatus (step_limit_line name.now (decimal step) (decimal limit) ending.now)
+        status.Refused
+        (E.view err.old) (E.view err.new) result }
 {
     let mut step_buffer = Buffer::new();
     let mut limit_buffer = Buffer::new();
     let steps = step_buffer.format(step).as_bytes();
     let most = limit_buffer.format(limit).as_bytes();
-    tell_step_digits(err, name, steps, most, ending)
+    report_step_digits(err, name, steps, most, ending)
 }
 
-fn tell_step_digits<E: Sink>(
+fn report_step_digits<E: Sink>(
     err: &mut E,
     name: &str,
     step: &[u8],
     limit: &[u8],
     ending: &[u8],
 ) -> Status
-    ensures { Tells (step_text name.now step.now limit.now ending.now) status.Refused
-        (E.sight err.old) (E.sight err.new) result }
+    ensures { ReportsLineWithStatus (step_limit_line name.now step.now limit.now ending.now) status.Refused
+        (E.view err.old) (E.view err.new) result }
 {
     let pieces: [&[u8]; 9] = [
         b"stitch: ",
@@ -41,24 +42,31 @@ fn tell_step_digits<E: Sink>(
         ending,
         b"\n",
     ];
-    tell(err, &pieces, Status::Refused)
+    report_text(err, &pieces, Status::Refused)
 }
 
 /// Reports that a command of a design, numbered from 1, is a stitch too long for a format.
-pub(crate) fn tell_long_stitch<E: Sink>(err: &mut E, name: &str, number: u32, limit: u32) -> Status
-    ensures { Tells (long_text name.now (decimal number) (decimal limit)) status.Refused
-        (E.sight err.old) (E.sight err.new) result }
+pub(crate) fn report_long_stitch<E: Sink>(
+    err: &mut E,
+    name: &str,
+    number: u32,
+    limit: u32,
+) -> Status
+    ensures { ReportsLineWithStatus (long_stitch_line name.now (decimal number) (decimal limit))
+        status.Refused
+        (E.view err.old) (E.view err.new) result }
 {
     let mut number_buffer = Buffer::new();
     let mut limit_buffer = Buffer::new();
     let digits = number_buffer.format(number).as_bytes();
     let most = limit_buffer.format(limit).as_bytes();
-    tell_long_digits(err, name.as_bytes(), digits, most)
+    report_long_digits(err, name.as_bytes(), digits, most)
 }
 
-fn tell_long_digits<E: Sink>(err: &mut E, name: &[u8], number: &[u8], limit: &[u8]) -> Status
-    ensures { Tells (long_text name.now number.now limit.now) status.Refused (E.sight err.old)
-        (E.sight err.new) result }
+fn report_long_digits<E: Sink>(err: &mut E, name: &[u8], number: &[u8], limit: &[u8]) -> Status
+    ensures { ReportsLineWithStatus (long_stitch_line name.now number.now limit.now) status.Refused
+        (E.view err.old)
+        (E.view err.new) result }
 {
     let pieces: [&[u8]; 7] = [
         b"stitch: ",
@@ -69,24 +77,26 @@ fn tell_long_digits<E: Sink>(err: &mut E, name: &[u8], number: &[u8], limit: &[u
         limit,
         b"\n",
     ];
-    tell(err, &pieces, Status::Refused)
+    report_text(err, &pieces, Status::Refused)
 }
 
 /// Reports a colour place, numbered from 1, that a design does not have, and the number of its places.
-pub fn tell_no_place<E: Sink>(err: &mut E, name: &str, place: u32, count: u32) -> Status
-    ensures { Tells (place_text name.now (decimal place) (decimal count)) status.Refused
-        (E.sight err.old) (E.sight err.new) result }
+pub fn report_no_place<E: Sink>(err: &mut E, name: &str, place: u32, count: u32) -> Status
+    ensures { ReportsLineWithStatus (no_colour_place_line name.now (decimal place) (decimal count))
+        status.Refused
+        (E.view err.old) (E.view err.new) result }
 {
     let mut place_buffer = Buffer::new();
     let mut count_buffer = Buffer::new();
     let wanted = place_buffer.format(place).as_bytes();
     let there = count_buffer.format(count).as_bytes();
-    tell_place_digits(err, name.as_bytes(), wanted, there)
+    report_place_digits(err, name.as_bytes(), wanted, there)
 }
 
-fn tell_place_digits<E: Sink>(err: &mut E, name: &[u8], place: &[u8], count: &[u8]) -> Status
-    ensures { Tells (place_text name.now place.now count.now) status.Refused (E.sight err.old)
-        (E.sight err.new) result }
+fn report_place_digits<E: Sink>(err: &mut E, name: &[u8], place: &[u8], count: &[u8]) -> Status
+    ensures { ReportsLineWithStatus (no_colour_place_line name.now place.now count.now) status.Refused
+        (E.view err.old)
+        (E.view err.new) result }
 {
     let pieces: [&[u8]; 7] = [
         b"stitch: ",
@@ -97,25 +107,25 @@ fn tell_place_digits<E: Sink>(err: &mut E, name: &[u8], place: &[u8], count: &[u
         count,
         b"\n",
     ];
-    tell(err, &pieces, Status::Refused)
+    report_text(err, &pieces, Status::Refused)
 }
 
 /// Reports by how many tenths of a millimetre a design exceeds a hoop.
-pub fn tell_too_large<E: Sink>(err: &mut E, x: u32, y: u32) -> Status
-    ensures { Tells (large_text (decimal x) (decimal y)) status.Refused (E.sight err.old)
-        (E.sight err.new) result }
+pub fn report_too_large<E: Sink>(err: &mut E, x: u32, y: u32) -> Status
+    ensures { ReportsLineWithStatus (too_large_line (decimal x) (decimal y)) status.Refused (E.view err.old)
+        (E.view err.new) result }
 {
     let mut x_buffer = Buffer::new();
     let mut y_buffer = Buffer::new();
     let over_x = x_buffer.format(x).as_bytes();
     let over_y = y_buffer.format(y).as_bytes();
-    tell_large_digits(err, over_x, over_y)
+    report_large_digits(err, over_x, over_y)
 }
 
-fn tell_large_digits<E: Sink>(err: &mut E, x: &[u8], y: &[u8]) -> Status
-    ensures { Tells (large_text x.now y.now) status.Refused (E.sight err.old)
-        (E.sight err.new) result }
+fn report_large_digits<E: Sink>(err: &mut E, x: &[u8], y: &[u8]) -> Status
+    ensures { ReportsLineWithStatus (too_large_line x.now y.now) status.Refused (E.view err.old)
+        (E.view err.new) result }
 {
     let pieces: [&[u8]; 5] = [b"stitch: too large by ", x, b" ", y, b"\n"];
-    tell(err, &pieces, Status::Refused)
+    report_text(err, &pieces, Status::Refused)
 }

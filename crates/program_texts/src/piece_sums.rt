@@ -1,8 +1,8 @@
 ghost use Rattle.std.specs.Prelude.{◌≡◌, ◌+◌, ◌<◌, ◌≤◌, ◌^◌, All, IfOk, length, sum_by};
 ghost use Rattle.line_graph.specs.declared.limits.TheConstants.{MAX_BLOCKS, MAX_LINES};
-ghost use Rattle.line_graph.specs.CutPieces.{graph_of};
+ghost use Rattle.line_graph.specs.PiecesOfDrawings.{graph_of};
 ghost use Rattle.program_texts.specs.PieceReports.{reports_from};
-ghost use Rattle.program_texts.specs.PieceSums.{junction_count as junction_count_value, junction_sum as junction_sum_value, odd_count as odd_count_value, odd_sum as odd_sum_value, summed};
+ghost use Rattle.program_texts.specs.PieceSums.{junctions_of_piece, total_junctions, odd_junctions_of_piece, total_odd_junctions, sample_summary};
 ghost use Rattle.program_texts.specs.Reports.{penetrations_of};
 
 use crate::reports::{PieceReport, reports_of};
@@ -25,7 +25,7 @@ pub fn summary_of(
     requires blocks { All (λ p. p.block < MAX_BLOCKS) pieces.now }
     requires most { length pieces.now ≤ MAX_LINES }
     requires few { sum_by penetrations_of (reports_from 1 pieces.now certs.now) < 2 ^ 32 }
-    ensures { IfOk result (λ s. s ≡ summed number lines pieces.now
+    ensures { IfOk result (λ s. s ≡ sample_summary number lines pieces.now
         (reports_from 1 pieces.now certs.now)) }
 {
     let reports = reports_of(alloc, pieces, certs)?;
@@ -71,7 +71,7 @@ fn penetration_sum(reports: &[PieceReport]) -> u32
 
 fn junction_sum(pieces: &[Piece]) -> u32
     requires { length pieces.now ≤ MAX_LINES }
-    ensures { result ≡ junction_sum_value pieces.now }
+    ensures { result ≡ total_junctions pieces.now }
 {
     let mut sum = 0;
     for piece in pieces {
@@ -81,7 +81,7 @@ fn junction_sum(pieces: &[Piece]) -> u32
 }
 
 fn junction_count(p: &Piece) -> u32
-    ensures value { result ≡ junction_count_value (graph_of p.now) }
+    ensures value { result ≡ junctions_of_piece (graph_of p.now) }
     ensures few { result ≤ MAX_LINES + 1 }
 {
     p.junctions.len() as u32
@@ -89,7 +89,7 @@ fn junction_count(p: &Piece) -> u32
 
 fn odd_sum(alloc: Global, pieces: &[Piece]) -> Result<u32, Memory>
     requires { length pieces.now ≤ MAX_LINES }
-    ensures { IfOk result (λ n. n ≡ odd_sum_value pieces.now) }
+    ensures { IfOk result (λ n. n ≡ total_odd_junctions pieces.now) }
 {
     let mut sum = 0;
     for piece in pieces {
@@ -99,7 +99,7 @@ fn odd_sum(alloc: Global, pieces: &[Piece]) -> Result<u32, Memory>
 }
 
 fn odd_count(alloc: Global, p: &Piece) -> Result<u32, Memory>
-    ensures value { IfOk result (λ n. n ≡ odd_count_value (graph_of p.now)) }
+    ensures value { IfOk result (λ n. n ≡ odd_junctions_of_piece (graph_of p.now)) }
     ensures few { IfOk result (λ n. n ≤ MAX_LINES) }
 {
     odds_are_even();

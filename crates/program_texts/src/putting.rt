@@ -2,7 +2,7 @@ ghost use Rattle.std.specs.Prelude.{◌≡◌, ◌++◌, OnErr, OnOk, map};
 ghost use Rattle.std.specs.List.{concat};
 ghost use Rattle.program_texts.specs.declared.status.Status.TheVariants as status;
 ghost use Rattle.program_texts.specs.PutSteps.{Gathers};
-ghost use Rattle.program_texts.specs.Puts.{Tells, Puts};
+ghost use Rattle.program_texts.specs.Puts.{ReportsLineWithStatus, Puts};
 
 use crate::status::Status;
 use arrayvec::ArrayVec;
@@ -13,7 +13,7 @@ const LINE_ROOM: usize = 4_608;
 
 /// Puts one text.
 pub fn put_one<E: Sink>(err: &mut E, text: &[u8]) -> Result<(), Failed>
-    ensures { Puts text.now (E.sight err.old) (E.sight err.new) result }
+    ensures { Puts text.now (E.view err.old) (E.view err.new) result }
 {
     err.put(text)?;
     Ok(())
@@ -21,8 +21,8 @@ pub fn put_one<E: Sink>(err: &mut E, text: &[u8]) -> Result<(), Failed>
 
 /// Puts the pieces of a text, in one put if they fit into the line buffer.
 fn put_all<E: Sink>(err: &mut E, pieces: &[&[u8]]) -> Result<(), Failed>
-    ensures { Puts (concat (map (λ piece. piece.now) pieces.now)) (E.sight err.old)
-        (E.sight err.new) result }
+    ensures { Puts (concat (map (λ piece. piece.now) pieces.now)) (E.view err.old)
+        (E.view err.new) result }
 {
     let mut line = ArrayVec::new();
     for piece in pieces {
@@ -37,8 +37,8 @@ fn gather<E: Sink>(
     line: &mut ArrayVec<u8, LINE_ROOM>,
     piece: &[u8],
 ) -> Result<(), Failed>
-    ensures { Gathers (line.old.items ++ piece.now) line.new.items (E.sight err.old)
-        (E.sight err.new) result }
+    ensures { Gathers (line.old.items ++ piece.now) line.new.items (E.view err.old)
+        (E.view err.new) result }
 {
     match line.try_extend_from_slice(piece) {
         Ok(()) => Ok(()),
@@ -52,8 +52,8 @@ fn put_both<E: Sink>(
     line: &mut ArrayVec<u8, LINE_ROOM>,
     piece: &[u8],
 ) -> Result<(), Failed>
-    ensures { Gathers (line.old.items ++ piece.now) line.new.items (E.sight err.old)
-        (E.sight err.new) result }
+    ensures { Gathers (line.old.items ++ piece.now) line.new.items (E.view err.old)
+        (E.view err.new) result }
 {
     put_one(err, line.as_slice())?;
     line.clear();
@@ -61,16 +61,16 @@ fn put_both<E: Sink>(
 }
 
 /// Puts the pieces of a text, and returns the planned status, or `Fault` if a put failed.
-pub(crate) fn tell<E: Sink>(err: &mut E, pieces: &[&[u8]], planned: Status) -> Status
-    ensures { Tells (concat (map (λ piece. piece.now) pieces.now)) planned
-        (E.sight err.old) (E.sight err.new) result }
+pub(crate) fn report_text<E: Sink>(err: &mut E, pieces: &[&[u8]], planned: Status) -> Status
+    ensures { ReportsLineWithStatus (concat (map (λ piece. piece.now) pieces.now)) planned
+        (E.view err.old) (E.view err.new) result }
 {
     let put = put_all(err, pieces);
-    told(put, planned)
+    reported(put, planned)
 }
 
 /// Returns the planned status, or `Fault` if the put failed.
-fn told(put: Result<(), Failed>, planned: Status) -> Status
+fn reported(put: Result<(), Failed>, planned: Status) -> Status
     ensures ok { OnOk put (result ≡ planned) }
     ensures err { OnErr put (result ≡ status.Fault) }
 {

@@ -1,29 +1,30 @@
 ghost use Rattle.std.specs.Prelude.{[], codes, decimal};
 ghost use Rattle.program_texts.specs.declared.status.Status.TheVariants as status;
-ghost use Rattle.program_texts.specs.Puts.{Tells};
-ghost use Rattle.program_texts.specs.Reasons.{act_no, counts_no, cuts_no, one_no, plain_no, three_no, two_no, walk_no};
+ghost use Rattle.program_texts.specs.Puts.{ReportsLineWithStatus};
+ghost use Rattle.program_texts.specs.Reasons.{act_differs_line, piece_counts_line, cut_fault_line, one_number_fault_line, plain_fault_line, three_number_fault_line, two_number_fault_line, walk_fault_line};
 
-use crate::putting::tell;
+use crate::putting::report_text;
 use crate::status::Status;
 use cut_certificate::{CutFault, WalkFault};
 use itoa::Buffer;
 use outside_io::Sink;
 
 /// Reports the number of pieces of a certificate, and that of the drawing.
-pub fn tell_counts<E: Sink>(err: &mut E, found: u32, drawn: u32) -> Status
-    ensures { Tells (counts_no (decimal found) (decimal drawn)) status.Refused (E.sight err.old)
-        (E.sight err.new) result }
+pub fn report_counts<E: Sink>(err: &mut E, found: u32, drawn: u32) -> Status
+    ensures { ReportsLineWithStatus (piece_counts_line (decimal found) (decimal drawn)) status.Refused
+        (E.view err.old)
+        (E.view err.new) result }
 {
     let mut found_buffer = Buffer::new();
     let mut drawn_buffer = Buffer::new();
     let has = found_buffer.format(found).as_bytes();
     let wanted = drawn_buffer.format(drawn).as_bytes();
-    tell_count_digits(err, has, wanted)
+    report_count_digits(err, has, wanted)
 }
 
-fn tell_count_digits<E: Sink>(err: &mut E, found: &[u8], drawn: &[u8]) -> Status
-    ensures { Tells (counts_no found.now drawn.now) status.Refused (E.sight err.old)
-        (E.sight err.new) result }
+fn report_count_digits<E: Sink>(err: &mut E, found: &[u8], drawn: &[u8]) -> Status
+    ensures { ReportsLineWithStatus (piece_counts_line found.now drawn.now) status.Refused (E.view err.old)
+        (E.view err.new) result }
 {
     let pieces: [&[u8]; 5] = [
         b"stitch: no: certificate has ",
@@ -32,54 +33,55 @@ fn tell_count_digits<E: Sink>(err: &mut E, found: &[u8], drawn: &[u8]) -> Status
         drawn,
         b"\n",
     ];
-    tell(err, &pieces, Status::Refused)
+    report_text(err, &pieces, Status::Refused)
 }
 
 /// Reports an act of a design, numbered from 1, that differs from the sewn walks.
-pub fn tell_act<E: Sink>(err: &mut E, number: u32) -> Status
-    ensures { Tells (act_no (decimal number)) status.Refused (E.sight err.old)
-        (E.sight err.new) result }
+pub fn report_act<E: Sink>(err: &mut E, number: u32) -> Status
+    ensures { ReportsLineWithStatus (act_differs_line (decimal number)) status.Refused (E.view err.old)
+        (E.view err.new) result }
 {
     let mut buffer = Buffer::new();
     let digits = buffer.format(number).as_bytes();
-    tell_act_digits(err, digits)
+    report_act_digits(err, digits)
 }
 
-fn tell_act_digits<E: Sink>(err: &mut E, number: &[u8]) -> Status
-    ensures { Tells (act_no number.now) status.Refused (E.sight err.old) (E.sight err.new) result }
+fn report_act_digits<E: Sink>(err: &mut E, number: &[u8]) -> Status
+    ensures { ReportsLineWithStatus (act_differs_line number.now) status.Refused (E.view err.old)
+        (E.view err.new) result }
 {
     let pieces: [&[u8]; 3] = [b"stitch: no: act ", number, b" differs\n"];
-    tell(err, &pieces, Status::Refused)
+    report_text(err, &pieces, Status::Refused)
 }
 
 /// Reports a fault in the walk of a piece.
-pub fn tell_walk<E: Sink>(err: &mut E, piece: u32, fault: WalkFault) -> Status
-    ensures { Tells (walk_no piece fault) status.Refused (E.sight err.old)
-        (E.sight err.new) result }
+pub fn report_walk<E: Sink>(err: &mut E, piece: u32, fault: WalkFault) -> Status
+    ensures { ReportsLineWithStatus (walk_fault_line piece fault) status.Refused (E.view err.old)
+        (E.view err.new) result }
 {
     match fault {
         WalkFault::Stranger { pass } => {
-            tell_one(err, piece, b": pass ", pass, b" is not a line of the piece")
+            report_one(err, piece, b": pass ", pass, b" is not a line of the piece")
         }
-        WalkFault::Broken { pass } => tell_one(
+        WalkFault::Broken { pass } => report_one(
             err,
             piece,
             b": pass ",
             pass,
             b" does not start where the one before ends",
         ),
-        WalkFault::WrongStart => tell_plain(err, piece, b": walk does not begin at its start"),
-        WalkFault::WrongEnd => tell_plain(err, piece, b": walk does not end at its end"),
-        WalkFault::Open => tell_plain(err, piece, b": walk is not closed"),
-        WalkFault::Missing { line } => tell_one(err, piece, b": line ", line, b" is not sewn"),
+        WalkFault::WrongStart => report_plain(err, piece, b": walk does not begin at its start"),
+        WalkFault::WrongEnd => report_plain(err, piece, b": walk does not end at its end"),
+        WalkFault::Open => report_plain(err, piece, b": walk is not closed"),
+        WalkFault::Missing { line } => report_one(err, piece, b": line ", line, b" is not sewn"),
     }
 }
 
 /// Reports the retraced cost of a piece, as stated by the certificate and as computed from its walk, in
 /// steps.
-pub fn tell_retraced<E: Sink>(err: &mut E, piece: u32, said: u32, found: u64) -> Status
-    ensures { Tells (two_no (decimal piece) (codes ": retraced ") (decimal said)
-        (codes " said, ") (decimal found) (codes " found")) status.Refused (E.sight err.old) (E.sight err.new) result }
+pub fn report_retraced<E: Sink>(err: &mut E, piece: u32, said: u32, found: u64) -> Status
+    ensures { ReportsLineWithStatus (two_number_fault_line (decimal piece) (codes ": retraced ") (decimal said)
+        (codes " said, ") (decimal found) (codes " found")) status.Refused (E.view err.old) (E.view err.new) result }
 {
     let mut piece_buffer = Buffer::new();
     let mut said_buffer = Buffer::new();
@@ -87,29 +89,29 @@ pub fn tell_retraced<E: Sink>(err: &mut E, piece: u32, said: u32, found: u64) ->
     let number = piece_buffer.format(piece).as_bytes();
     let one = said_buffer.format(said).as_bytes();
     let two = found_buffer.format(found).as_bytes();
-    tell_two_digits(err, number, b": retraced ", one, b" said, ", two, b" found")
+    report_two_digits(err, number, b": retraced ", one, b" said, ", two, b" found")
 }
 
 /// Reports a fault in the cuts of a piece.
-pub fn tell_cuts<E: Sink>(err: &mut E, piece: u32, fault: CutFault) -> Status
-    ensures { Tells (cuts_no piece fault) status.Refused (E.sight err.old)
-        (E.sight err.new) result }
+pub fn report_cuts<E: Sink>(err: &mut E, piece: u32, fault: CutFault) -> Status
+    ensures { ReportsLineWithStatus (cut_fault_line piece fault) status.Refused (E.view err.old)
+        (E.view err.new) result }
 {
     match fault {
-        CutFault::Stranger { cut, junction } => tell_stranger(err, piece, cut, junction),
-        CutFault::EvenCut { cut, odd } => tell_even(err, piece, cut, odd),
+        CutFault::Stranger { cut, junction } => report_stranger(err, piece, cut, junction),
+        CutFault::EvenCut { cut, odd } => report_even_cut(err, piece, cut, odd),
         CutFault::Overload {
             line,
             load,
             allowed,
-        } => tell_overload(err, piece, line, load, allowed),
-        CutFault::Total { sum, needed } => tell_total(err, piece, sum, needed),
+        } => report_overload(err, piece, line, load, allowed),
+        CutFault::Total { sum, needed } => report_total(err, piece, sum, needed),
     }
 }
 
-fn tell_stranger<E: Sink>(err: &mut E, piece: u32, cut: u32, junction: u32) -> Status
-    ensures { Tells (two_no (decimal piece) (codes ": cut ") (decimal cut)
-        (codes " names junction ") (decimal junction) []) status.Refused (E.sight err.old) (E.sight err.new) result }
+fn report_stranger<E: Sink>(err: &mut E, piece: u32, cut: u32, junction: u32) -> Status
+    ensures { ReportsLineWithStatus (two_number_fault_line (decimal piece) (codes ": cut ") (decimal cut)
+        (codes " names junction ") (decimal junction) []) status.Refused (E.view err.old) (E.view err.new) result }
 {
     let mut piece_buffer = Buffer::new();
     let mut cut_buffer = Buffer::new();
@@ -117,12 +119,12 @@ fn tell_stranger<E: Sink>(err: &mut E, piece: u32, cut: u32, junction: u32) -> S
     let number = piece_buffer.format(piece).as_bytes();
     let one = cut_buffer.format(cut).as_bytes();
     let two = junction_buffer.format(junction).as_bytes();
-    tell_two_digits(err, number, b": cut ", one, b" names junction ", two, b"")
+    report_two_digits(err, number, b": cut ", one, b" names junction ", two, b"")
 }
 
-fn tell_even<E: Sink>(err: &mut E, piece: u32, cut: u32, odd: u32) -> Status
-    ensures { Tells (two_no (decimal piece) (codes ": cut ") (decimal cut)
-        (codes " holds ") (decimal odd) (codes " odd junctions")) status.Refused (E.sight err.old) (E.sight err.new) result }
+fn report_even_cut<E: Sink>(err: &mut E, piece: u32, cut: u32, odd: u32) -> Status
+    ensures { ReportsLineWithStatus (two_number_fault_line (decimal piece) (codes ": cut ") (decimal cut)
+        (codes " holds ") (decimal odd) (codes " odd junctions")) status.Refused (E.view err.old) (E.view err.new) result }
 {
     let mut piece_buffer = Buffer::new();
     let mut cut_buffer = Buffer::new();
@@ -130,7 +132,7 @@ fn tell_even<E: Sink>(err: &mut E, piece: u32, cut: u32, odd: u32) -> Status
     let number = piece_buffer.format(piece).as_bytes();
     let one = cut_buffer.format(cut).as_bytes();
     let two = odd_buffer.format(odd).as_bytes();
-    tell_two_digits(
+    report_two_digits(
         err,
         number,
         b": cut ",
@@ -141,9 +143,9 @@ fn tell_even<E: Sink>(err: &mut E, piece: u32, cut: u32, odd: u32) -> Status
     )
 }
 
-fn tell_total<E: Sink>(err: &mut E, piece: u32, sum: u64, needed: u64) -> Status
-    ensures { Tells (two_no (decimal piece) (codes ": cuts give ") (decimal sum)
-        (codes " halves, needed ") (decimal needed) []) status.Refused (E.sight err.old) (E.sight err.new) result }
+fn report_total<E: Sink>(err: &mut E, piece: u32, sum: u64, needed: u64) -> Status
+    ensures { ReportsLineWithStatus (two_number_fault_line (decimal piece) (codes ": cuts give ") (decimal sum)
+        (codes " halves, needed ") (decimal needed) []) status.Refused (E.view err.old) (E.view err.new) result }
 {
     let mut piece_buffer = Buffer::new();
     let mut sum_buffer = Buffer::new();
@@ -151,7 +153,7 @@ fn tell_total<E: Sink>(err: &mut E, piece: u32, sum: u64, needed: u64) -> Status
     let number = piece_buffer.format(piece).as_bytes();
     let one = sum_buffer.format(sum).as_bytes();
     let two = needed_buffer.format(needed).as_bytes();
-    tell_two_digits(
+    report_two_digits(
         err,
         number,
         b": cuts give ",
@@ -162,9 +164,9 @@ fn tell_total<E: Sink>(err: &mut E, piece: u32, sum: u64, needed: u64) -> Status
     )
 }
 
-fn tell_overload<E: Sink>(err: &mut E, piece: u32, line: u32, load: u64, allowed: u64) -> Status
-    ensures { Tells (three_no (decimal piece) (codes ": line ") (decimal line) (codes " carries ")
-        (decimal load) (codes " halves, allowed ") (decimal allowed)) status.Refused (E.sight err.old) (E.sight err.new) result }
+fn report_overload<E: Sink>(err: &mut E, piece: u32, line: u32, load: u64, allowed: u64) -> Status
+    ensures { ReportsLineWithStatus (three_number_fault_line (decimal piece) (codes ": line ") (decimal line) (codes " carries ")
+        (decimal load) (codes " halves, allowed ") (decimal allowed)) status.Refused (E.view err.old) (E.view err.new) result }
 {
     let mut piece_buffer = Buffer::new();
     let mut line_buffer = Buffer::new();
@@ -174,18 +176,18 @@ fn tell_overload<E: Sink>(err: &mut E, piece: u32, line: u32, load: u64, allowed
     let one = line_buffer.format(line).as_bytes();
     let two = load_buffer.format(load).as_bytes();
     let three = allowed_buffer.format(allowed).as_bytes();
-    tell_load_digits(err, number, one, two, three)
+    report_load_digits(err, number, one, two, three)
 }
 
-fn tell_load_digits<E: Sink>(
+fn report_load_digits<E: Sink>(
     err: &mut E,
     piece: &[u8],
     line: &[u8],
     load: &[u8],
     allowed: &[u8],
 ) -> Status
-    ensures { Tells (three_no piece.now (codes ": line ") line.now (codes " carries ") load.now
-        (codes " halves, allowed ") allowed.now) status.Refused (E.sight err.old) (E.sight err.new) result }
+    ensures { ReportsLineWithStatus (three_number_fault_line piece.now (codes ": line ") line.now (codes " carries ") load.now
+        (codes " halves, allowed ") allowed.now) status.Refused (E.view err.old) (E.view err.new) result }
 {
     let pieces: [&[u8]; 9] = [
         b"stitch: no: piece ",
@@ -198,55 +200,58 @@ fn tell_load_digits<E: Sink>(
         allowed,
         b"\n",
     ];
-    tell(err, &pieces, Status::Refused)
+    report_text(err, &pieces, Status::Refused)
 }
 
 /// Reports a fault in a piece.
-fn tell_plain<E: Sink>(err: &mut E, piece: u32, text: &[u8]) -> Status
-    ensures { Tells (plain_no (decimal piece) text.now) status.Refused (E.sight err.old)
-        (E.sight err.new) result }
+fn report_plain<E: Sink>(err: &mut E, piece: u32, text: &[u8]) -> Status
+    ensures { ReportsLineWithStatus (plain_fault_line (decimal piece) text.now) status.Refused
+        (E.view err.old)
+        (E.view err.new) result }
 {
     let mut buffer = Buffer::new();
     let digits = buffer.format(piece).as_bytes();
-    tell_plain_digits(err, digits, text)
+    report_plain_digits(err, digits, text)
 }
 
-fn tell_plain_digits<E: Sink>(err: &mut E, piece: &[u8], text: &[u8]) -> Status
-    ensures { Tells (plain_no piece.now text.now) status.Refused (E.sight err.old)
-        (E.sight err.new) result }
+fn report_plain_digits<E: Sink>(err: &mut E, piece: &[u8], text: &[u8]) -> Status
+    ensures { ReportsLineWithStatus (plain_fault_line piece.now text.now) status.Refused (E.view err.old)
+        (E.view err.new) result }
 {
     let pieces: [&[u8]; 4] = [b"stitch: no: piece ", piece, text, b"\n"];
-    tell(err, &pieces, Status::Refused)
+    report_text(err, &pieces, Status::Refused)
 }
 
 /// Reports a fault in a piece, with one further number.
-fn tell_one<E: Sink>(err: &mut E, piece: u32, before: &[u8], number: u32, after: &[u8]) -> Status
-    ensures { Tells (one_no (decimal piece) before.now (decimal number) after.now) status.Refused
-        (E.sight err.old) (E.sight err.new) result }
+fn report_one<E: Sink>(err: &mut E, piece: u32, before: &[u8], number: u32, after: &[u8]) -> Status
+    ensures { ReportsLineWithStatus (one_number_fault_line (decimal piece) before.now (decimal number)
+        after.now) status.Refused
+        (E.view err.old) (E.view err.new) result }
 {
     let mut piece_buffer = Buffer::new();
     let mut number_buffer = Buffer::new();
     let digits = piece_buffer.format(piece).as_bytes();
     let one = number_buffer.format(number).as_bytes();
-    tell_one_digits(err, digits, before, one, after)
+    report_one_digits(err, digits, before, one, after)
 }
 
-fn tell_one_digits<E: Sink>(
+fn report_one_digits<E: Sink>(
     err: &mut E,
     piece: &[u8],
     before: &[u8],
     number: &[u8],
     after: &[u8],
 ) -> Status
-    ensures { Tells (one_no piece.now before.now number.now after.now) status.Refused
-        (E.sight err.old) (E.sight err.new) result }
+    ensures { ReportsLineWithStatus (one_number_fault_line piece.now before.now number.now after.now)
+        status.Refused
+        (E.view err.old) (E.view err.new) result }
 {
     let pieces: [&[u8]; 6] = [b"stitch: no: piece ", piece, before, number, after, b"\n"];
-    tell(err, &pieces, Status::Refused)
+    report_text(err, &pieces, Status::Refused)
 }
 
 /// Reports a fault in a piece, with two further numbers.
-fn tell_two_digits<E: Sink>(
+fn report_two_digits<E: Sink>(
     err: &mut E,
     piece: &[u8],
     before: &[u8],
@@ -255,8 +260,9 @@ fn tell_two_digits<E: Sink>(
     two: &[u8],
     after: &[u8],
 ) -> Status
-    ensures { Tells (two_no piece.now before.now one.now between.now two.now after.now)
-        status.Refused (E.sight err.old) (E.sight err.new) result }
+    ensures { ReportsLineWithStatus (two_number_fault_line piece.now before.now one.now between.now
+        two.now after.now)
+        status.Refused (E.view err.old) (E.view err.new) result }
 {
     let pieces: [&[u8]; 8] = [
         b"stitch: no: piece ",
@@ -268,5 +274,5 @@ fn tell_two_digits<E: Sink>(
         after,
         b"\n",
     ];
-    tell(err, &pieces, Status::Refused)
+    report_text(err, &pieces, Status::Refused)
 }

@@ -1,8 +1,8 @@
 ghost use Rattle.std.specs.Prelude.{◌≡◌, ◌<◌, ◌≤◌, ◌^◌, All, IfOk, length, string_bytes, sum_by};
 ghost use Rattle.line_graph.specs.declared.limits.TheConstants.{MAX_BLOCKS, MAX_LINES};
-ghost use Rattle.line_graph.specs.CutPieces.{graph_of};
+ghost use Rattle.line_graph.specs.PiecesOfDrawings.{graph_of};
 ghost use Rattle.program_texts.specs.PieceReports.{reports_from, piece_report};
-ghost use Rattle.program_texts.specs.Reports.{cost_text, penetrations_of, piece_place as piece_place_text, migrate_report, route_report, totals_line as totals_text};
+ghost use Rattle.program_texts.specs.Reports.{cost_text, penetrations_of, piece_position_text, migrate_report, route_report, totals_text};
 
 use cut_certificate::{PieceCert, first_lent};
 use design_model::{Bytes, Items, Memory};
@@ -89,7 +89,7 @@ fn print_report(alloc: Global, pieces: &[PieceReport]) -> Result<Bytes, Memory>
 
 /// Returns the numbers of a block and a piece, and the number of lines of the piece.
 pub(crate) fn piece_place(alloc: Global, report: PieceReport) -> Result<String, Memory>
-    ensures { IfOk result (λ text. string_bytes text ≡ piece_place_text report) }
+    ensures { IfOk result (λ text. string_bytes text ≡ piece_position_text report) }
 {
     let block = report.block;
     let piece = report.piece;

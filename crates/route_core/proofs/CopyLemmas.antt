@@ -2,31 +2,32 @@
 use Rattle.std.proofs.Common.{◌≡◌, ◌≤◌, ◌<◌, ℕ, zero, suc, ◌+◌, ◌-◌, ◌*◌, ◌^◌, List, [], ◌∷◌, length, get_or, slice_get, slice_set, All, arith, refl, ap, subst}
 use Rattle.std.proofs.lemmas.List.Elements.{All-head, All-tail}
 use Rattle.line_graph.specs.declared.edge.Edge.{Edge}
-use Rattle.line_graph.specs.PieceWalks.{of_edge}
-use Rattle.route_core.specs.Copies.{AddsPlaces, add_up, copies_sum, more_at, place_sum}
+use Rattle.line_graph.specs.PieceWalks.{edge_value}
+use Rattle.route_core.specs.Copies.{AddsCopies, total_copies, copies_sum, incremented_at, index_sum}
 
-pub more_is : (cs : List ℕ) (k : ℕ) → slice_set cs k (get_or cs k 0 + 1) ≡ more_at cs k
+pub more_is : (cs : List ℕ) (k : ℕ) → slice_set cs k (get_or cs k 0 + 1) ≡ incremented_at cs k
 more_is [] k = refl
 more_is (c ∷ cs) zero = refl
 more_is (c ∷ cs) (suc k) = ap (λ (t : List ℕ). c ∷ t) (more_is cs k)
 
-pub get_within : (cs : List ℕ) (k : ℕ) → get_or cs k 0 ≤ add_up cs
+pub get_within : (cs : List ℕ) (k : ℕ) → get_or cs k 0 ≤ total_copies cs
 get_within [] k = omega arith
 get_within (c ∷ cs) zero = omega arith
-get_within (c ∷ cs) (suc k) = let rest : get_or cs k 0 ≤ add_up cs = get_within cs k in omega arith
+get_within (c ∷ cs) (suc k) = let rest : get_or cs k 0 ≤ total_copies cs = get_within cs k in omega arith
 
-pub more_length : (cs : List ℕ) (k : ℕ) → length (more_at cs k) ≡ length cs
+pub more_length : (cs : List ℕ) (k : ℕ) → length (incremented_at cs k) ≡ length cs
 more_length [] k = refl
 more_length (c ∷ cs) zero = refl
 more_length (c ∷ cs) (suc k) = ap (λ (n : ℕ). suc n) (more_length cs k)
 
-pub more_up : (cs : List ℕ) (k : ℕ) → k < length cs → add_up (more_at cs k) ≡ add_up cs + 1
+pub more_up : (cs : List ℕ) (k : ℕ) → k < length cs → total_copies (incremented_at cs k) ≡ total_copies cs + 1
 more_up [] k below = absurd (omega arith)
 more_up (c ∷ cs) zero below = omega arith
-more_up (c ∷ cs) (suc k) below = let rest : add_up (more_at cs k) ≡ add_up cs + 1 = more_up cs k (omega arith) in omega arith
+more_up (c ∷ cs) (suc k) below = let rest : total_copies (incremented_at cs k)
+    ≡ total_copies cs + 1 = more_up cs k (omega arith) in omega arith
 
 pub more_sum : (f : Edge → ℕ) (edges : List Edge) (cs : List ℕ) (k : ℕ) → k < length cs → length edges ≡ length cs
-    → copies_sum f edges (more_at cs k) ≡ copies_sum f edges cs + of_edge f (slice_get edges k)
+    → copies_sum f edges (incremented_at cs k) ≡ copies_sum f edges cs + edge_value f (slice_get edges k)
 more_sum f [] [] k below same = absurd (omega arith)
 more_sum f [] (c ∷ cs) k below same = absurd (omega arith)
 more_sum f (e ∷ edges) [] k below same = absurd (omega arith)
@@ -35,30 +36,30 @@ more_sum f (e ∷ edges) (c ∷ cs) zero below same = once c (f e) (copies_sum f
     once : (c k u : ℕ) → (c + 1) * k + u ≡ (c * k + u) + k
     once c k u = omega arith
 more_sum f (e ∷ edges) (c ∷ cs) (suc k) below same =
-    later (c * f e) (copies_sum f edges (more_at cs k)) (copies_sum f edges cs) (of_edge f (slice_get edges k))
+    later (c * f e) (copies_sum f edges (incremented_at cs k)) (copies_sum f edges cs) (edge_value f (slice_get edges k))
     (more_sum f edges cs k (omega arith) (omega arith))
   where
     later : (m u v k : ℕ) → u ≡ v + k → m + u ≡ (m + v) + k
     later m u v k h = omega arith
 
-pub adds_none : (cs places : List ℕ) → places ≡ [] → AddsPlaces cs places cs
+pub adds_none : (cs places : List ℕ) → places ≡ [] → AddsCopies cs places cs
 adds_none cs places is = rw is (record { sized = refl; up = omega arith; sums = λ f. λ edges. λ same. nothing (copies_sum f edges cs) })
   where
     nothing : (k : ℕ) → k ≡ k + 0
     nothing k = omega arith
 
-pub adds_one : (cs next places rest new : List ℕ) (k : ℕ) → places ≡ k ∷ rest → next ≡ more_at cs k → k < length cs
-    → AddsPlaces next rest new → AddsPlaces cs places new
+pub adds_one : (cs next places rest new : List ℕ) (k : ℕ) → places ≡ k ∷ rest → next ≡ incremented_at cs k → k < length cs
+    → AddsCopies next rest new → AddsCopies cs places new
 adds_one cs next places rest new k is more below adds = rw is (record {
   sized = omega (arith, a.sized, more_length cs k);
   up = omega (arith, a.up, more_up cs k below);
   sums = λ f. λ edges. λ same.
-      added (copies_sum f edges new) (copies_sum f edges (more_at cs k)) (copies_sum f edges cs) (of_edge f (slice_get edges k))
-      (place_sum f edges rest)
+      added (copies_sum f edges new) (copies_sum f edges (incremented_at cs k)) (copies_sum f edges cs) (edge_value f (slice_get edges k))
+      (index_sum f edges rest)
       (a.sums f edges (omega (arith, same, more_length cs k))) (more_sum f edges cs k below same);
 })
   where
-    a : AddsPlaces (more_at cs k) rest new
+    a : AddsCopies (incremented_at cs k) rest new
     a = rw (← more) adds
 
     added : (n m o k p : ℕ) → n ≡ m + p → m ≡ o + k → n ≡ o + (k + p)
@@ -67,10 +68,10 @@ adds_one cs next places rest new k is more below adds = rw is (record {
 -- what is left to add, after one place
 pub record Left (cs places : List ℕ) : Type 0 where
   pub there : All (λ k. k < length cs) places
-  pub few : add_up cs + length places < 2 ^ 32
+  pub few : total_copies cs + length places < 2 ^ 32
 
-pub left_one : (cs next places rest : List ℕ) (k : ℕ) → places ≡ k ∷ rest → next ≡ more_at cs k
-    → All (λ k. k < length cs) places → add_up cs + length places < 2 ^ 32 → Left next rest
+pub left_one : (cs next places rest : List ℕ) (k : ℕ) → places ≡ k ∷ rest → next ≡ incremented_at cs k
+    → All (λ k. k < length cs) places → total_copies cs + length places < 2 ^ 32 → Left next rest
 left_one cs next places rest k is more there few =
     let here = subst (λ (ps : List ℕ). All (λ k. k < length cs) ps) is there in
     let below = All-head (λ k. k < length cs) k rest here in
@@ -79,7 +80,7 @@ left_one cs next places rest k is more there few =
       few = omega (arith, more_up cs k below, ap length is, few);
     })
 
-pub has_room : (cs places rest : List ℕ) (k : ℕ) → places ≡ k ∷ rest → add_up cs + length places < 2 ^ 32 → get_or cs k 0 < 2 ^ 32 - 1
+pub has_room : (cs places rest : List ℕ) (k : ℕ) → places ≡ k ∷ rest → total_copies cs + length places < 2 ^ 32 → get_or cs k 0 < 2 ^ 32 - 1
 has_room cs places rest k is few = omega (arith, get_within cs k, ap length is, few)
 
 pub first_below : (cs places rest : List ℕ) (k : ℕ) → places ≡ k ∷ rest → All (λ k. k < length cs) places → k < length cs

@@ -4,7 +4,7 @@ use Rattle.std.proofs.lemmas.Bool.Decides.{nat_tests}
 use Rattle.blossom_match.specs.Tables.{EntriesAre, after_set, entry}
 use Rattle.blossom_match.specs.TableValue.{TableValue}
 use Rattle.odd_paths.specs.LeastRows.{RowsValue, cost_at, terminal_of}
-use Rattle.route_core.specs.Distances.{HasDistances, IsFilled, filled}
+use Rattle.route_core.specs.Distances.{HasDistances, HasFilledEntries, is_filled_entry}
 
 same : (m n : ℕ) → (m == n) ≡ true → m ≡ n
 same m n is = grind (arith, nat_tests)
@@ -15,7 +15,7 @@ differs m n h = grind (arith, nat_tests)
 differs_back : (m n : ℕ) → m < n → (n == m) ≡ false
 differs_back m n h = grind (arith, nat_tests)
 
-none_below : (b x y : ℕ) → filled b 0 x y ≡ false
+none_below : (b x y : ℕ) → is_filled_entry b 0 x y ≡ false
 none_below b x y = by_test (y == b) (less x)
   where
     less : (x : ℕ) → nat_lt x 0 ≡ false
@@ -25,7 +25,7 @@ none_below b x y = by_test (y == b) (less x)
     by_test true h = h
     by_test false h = refl
 
-pub filled_none : (rows : RowsValue) (b : ℕ) (t : TableValue) → IsFilled rows b 0 t t
+pub filled_none : (rows : RowsValue) (b : ℕ) (t : TableValue) → HasFilledEntries rows b 0 t t
 filled_none rows b t = record {
   places = refl;
   entries = λ x. λ y. λ less. λ below. rw (none_below b x y) refl;
@@ -40,8 +40,8 @@ not_back a b x y ab xy = by_test (x == b) refl
     by_test false is = refl
 
 -- the entry of x and y once that of a and b is set
-entry_after : (a b x y d k e now : ℕ) → a < b → x < y → (x ≡ a → d ≡ k) → now ≡ cond (filled b a x y) k e
-    → cond ((x == a && y == b) || (x == b && y == a)) d now ≡ cond (filled b (a + 1) x y) k e
+entry_after : (a b x y d k e now : ℕ) → a < b → x < y → (x ≡ a → d ≡ k) → now ≡ cond (is_filled_entry b a x y) k e
+    → cond ((x == a && y == b) || (x == b && y == a)) d now ≡ cond (is_filled_entry b (a + 1) x y) k e
 entry_after a b x y d k e now ab xy value is = by_tests (x == a) refl (y == b) refl
   where
     next : (x a : ℕ) → (x == a) ≡ true → nat_lt x (a + 1) ≡ true
@@ -80,7 +80,7 @@ itself_after a b x d now ab = by_test (x == a) refl
         by_other false h = rw (is, h) refl
 
 pub filled_more : (rows : RowsValue) (a b d : ℕ) (old t new : TableValue) → a < b → b < old.places → d ≡ cost_at rows a (terminal_of rows b)
-    → IsFilled rows b a old t → new.places ≡ t.places → EntriesAre new (after_set t a b d) → IsFilled rows b (a + 1) old new
+    → HasFilledEntries rows b a old t → new.places ≡ t.places → EntriesAre new (after_set t a b d) → HasFilledEntries rows b (a + 1) old new
 filled_more rows a b d old t new ab within value so_far places entries = record {
   places = places ∙ so_far.places;
   entries = λ x. λ y. λ xy. λ below.
@@ -105,7 +105,7 @@ columns_none rows n t places entries = record {
   none = λ x. λ below. entries x x (omega (arith, places, below)) (omega (arith, places, below));
 }
 
-pub columns_more : (rows : RowsValue) (n b : ℕ) (t new : TableValue) → b < n → HasColumns rows n b t → IsFilled rows b b t new
+pub columns_more : (rows : RowsValue) (n b : ℕ) (t new : TableValue) → b < n → HasColumns rows n b t → HasFilledEntries rows b b t new
     → HasColumns rows n (b + 1) new
 columns_more rows n b t new within so_far fill = record {
   places = fill.places ∙ so_far.places;

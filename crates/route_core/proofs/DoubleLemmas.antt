@@ -5,20 +5,20 @@ use Rattle.std.proofs.lemmas.List.Elements.{All-cons, All-contains, All-head, Al
 use Rattle.std.specs.List.{AllZip, concat}
 use Rattle.cut_certificate.specs.declared.certificate.PieceCert.{PieceCert}
 use Rattle.cut_certificate.specs.declared.cut.Cut.{Cut}
-use Rattle.cut_certificate.specs.Certificates.{CanBeSpelled}
+use Rattle.cut_certificate.specs.Certificates.{HasCanonicalText}
 use Rattle.cut_certificate.specs.Packings.{IsPlainCut}
-use Rattle.double_run.specs.DoubleWalks.{unbound}
+use Rattle.double_run.specs.DoubleWalks.{without_ends}
 use Rattle.line_graph.specs.declared.pass.Pass.{Pass}
 use Rattle.line_graph.specs.declared.piece.Piece.{Piece}
-use Rattle.line_graph.specs.CutPieces.{AreCutFrom, graph_of, lines_of_pieces}
-use Rattle.line_graph.specs.Drawings.{DrawingValue, KeepsDrawing}
-use Rattle.line_graph.specs.KeptPieces.{KeepsPiece}
-use Rattle.line_graph.specs.PieceGraphs.{PieceValue, piece_of}
-use Rattle.line_graph.specs.PieceWalks.{BeginsWith, fits}
+use Rattle.line_graph.specs.PiecesOfDrawings.{ArePiecesOf, graph_of, lines_of_pieces}
+use Rattle.line_graph.specs.Drawings.{DrawingValue, KeepsDrawingLimits}
+use Rattle.line_graph.specs.ValidPieces.{IsValidPiece}
+use Rattle.line_graph.specs.PieceGraphs.{PieceValue, piece_graph}
+use Rattle.line_graph.specs.PieceWalks.{BeginsWith, is_fitting_walk}
 use Rattle.line_graph.specs.Runs.{AreWritable, commands_after, runs_of, sewn_design}
 use Rattle.line_graph.specs.SewnWalks.{FittingWalksAreSewable, IsSewable, PiecesKeepLimits}
 use Rattle.route_core.specs.declared.routed.Routed.{Routed}
-use Rattle.route_core.specs.Doubles.{AreDoubled, IsDoubleOver, IsDoubled, RunsDouble}
+use Rattle.route_core.specs.Doubles.{AreDoubled, IsDoubleOver, IsDoubled, IsDoubleCert}
 use Rattle.route_core.specs.Routes.{walks_of}
 use Rattle.route_core.specs.SewingSteps.{AllDrawn}
 use Rattle.route_core.proofs.SewnPieces.{Sewn, able, behind, front}
@@ -28,7 +28,7 @@ pub record LeftDoubles (pieces : List Piece) (certs : List PieceCert) (rest : Li
   pub whole : (more : List PieceCert) → AreDoubled rest more → AreDoubled pieces (certs ++ more)
 
 pub doubles_on : (pieces left rest : List Piece) (certs next : List PieceCert) (piece : Piece) (cert : PieceCert) → left ≡ piece ∷ rest
-    → next ≡ certs ++ cert ∷ [] → RunsDouble (graph_of piece) cert → LeftDoubles pieces certs left
+    → next ≡ certs ++ cert ∷ [] → IsDoubleCert (graph_of piece) cert → LeftDoubles pieces certs left
     → LeftDoubles pieces next rest
 doubles_on pieces left rest certs next piece cert is put double l = record {
   whole = λ more. λ doubled.
@@ -42,9 +42,9 @@ doubled_all pieces left certs is l =
     subst (AreDoubled pieces) (append-nil certs) (l.whole [] (subst (λ (ps : List Piece). AreDoubled ps []) (sym is) tt))
 
 -- a double walk and no cuts can be printed
-doubles_spelled : (d : DrawingValue) (lines : List ℕ) (cert : PieceCert) (first : ℕ) → KeepsDrawing d
+doubles_spelled : (d : DrawingValue) (lines : List ℕ) (cert : PieceCert) (first : ℕ) → KeepsDrawingLimits d
     → All (λ line. line < length d.lines) lines
-    → IsSewable d lines cert.walk → BeginsWith first cert.walk → cert.cuts ≡ [] → CanBeSpelled cert
+    → IsSewable d lines cert.walk → BeginsWith first cert.walk → cert.cuts ≡ [] → HasCanonicalText cert
 doubles_spelled d lines cert first keeps below sewable begins none = record {
   some = λ is. subst (BeginsWith first) is begins;
   passes = few cert.walk sewable.there;
@@ -70,7 +70,7 @@ doubles_spelled d lines cert first keeps below sewable begins none = record {
 abbrev unended : DrawingValue → DrawingValue
 unended d = record d { starts = []; ends = [] }
 
-unended_keeps : (d : DrawingValue) → KeepsDrawing d → KeepsDrawing (unended d)
+unended_keeps : (d : DrawingValue) → KeepsDrawingLimits d → KeepsDrawingLimits (unended d)
 unended_keeps d keeps = record {
   label = keeps.label;
   one_word = keeps.one_word;
@@ -88,7 +88,7 @@ unended_keeps d keeps = record {
   cost = keeps.cost;
 }
 
-unended_kept : (d : DrawingValue) (lines : List ℕ) → KeepsPiece (piece_of d lines) → KeepsPiece (piece_of (unended d) lines)
+unended_kept : (d : DrawingValue) (lines : List ℕ) → IsValidPiece (piece_graph d lines) → IsValidPiece (piece_graph (unended d) lines)
 unended_kept d lines kept = record {
   some = kept.some;
   few = kept.few;
@@ -108,8 +108,9 @@ unended_kept d lines kept = record {
 }
 
 -- a walk that fits a piece without them can be sewn
-sewable_so : (d : DrawingValue) (lines : List ℕ) (walk : List Pass) → KeepsDrawing d → FittingWalksAreSewable
-    → All (λ line. line < length d.lines) lines → KeepsPiece (piece_of d lines) → fits (unbound (piece_of d lines)) walk ≡ true
+sewable_so : (d : DrawingValue) (lines : List ℕ) (walk : List Pass) → KeepsDrawingLimits d → FittingWalksAreSewable
+    → All (λ line. line < length d.lines) lines → IsValidPiece (piece_graph d lines)
+    → is_fitting_walk (without_ends (piece_graph d lines)) walk ≡ true
     → IsSewable d lines walk
 sewable_so d lines walk keeps sews below kept fit =
     let s = sews (unended d) lines walk (unended_keeps d keeps) below (unended_kept d lines kept) fit in
@@ -120,11 +121,12 @@ record Good (d : DrawingValue) (lines : List ℕ) (cert : PieceCert) : Type 0 wh
   doubled : IsDoubled d lines cert
   sewn : Sewn d lines cert
 
-good : (d : DrawingValue) → KeepsDrawing d → FittingWalksAreSewable → (p : Piece) (cert : PieceCert)
-    → All (λ line. line < length d.lines) p.lines → graph_of p ≡ piece_of d p.lines → RunsDouble (graph_of p) cert → Good d p.lines cert
+good : (d : DrawingValue) → KeepsDrawingLimits d → FittingWalksAreSewable → (p : Piece) (cert : PieceCert)
+    → All (λ line. line < length d.lines) p.lines → graph_of p ≡ piece_graph d p.lines → IsDoubleCert (graph_of p) cert
+    → Good d p.lines cert
 good d keeps sews p cert below is run =
-    let double : RunsDouble (piece_of d p.lines) cert = subst (λ (g : PieceValue). RunsDouble g cert) is run in
-    let sewable = sewable_so d p.lines cert.walk keeps sews below (subst KeepsPiece is p.kept) double.fitting in
+    let double : IsDoubleCert (piece_graph d p.lines) cert = subst (λ (g : PieceValue). IsDoubleCert g cert) is run in
+    let sewable = sewable_so d p.lines cert.walk keeps sews below (subst IsValidPiece is p.kept) double.fitting in
     record {
       doubled = record {
         double = double.double;
@@ -143,17 +145,17 @@ good d keeps sews p cert below is run =
     same : (m n : ℕ) → m ≡ n → m ≤ n
     same m n is = omega arith
 
-all_good : (d : DrawingValue) → KeepsDrawing d → FittingWalksAreSewable → (pieces : List Piece) (certs : List PieceCert)
-    → All (λ line. line < length d.lines) (concat (lines_of_pieces pieces)) → All (λ (p : Piece). graph_of p ≡ piece_of d p.lines) pieces
+all_good : (d : DrawingValue) → KeepsDrawingLimits d → FittingWalksAreSewable → (pieces : List Piece) (certs : List PieceCert)
+    → All (λ line. line < length d.lines) (concat (lines_of_pieces pieces)) → All (λ (p : Piece). graph_of p ≡ piece_graph d p.lines) pieces
     → AreDoubled pieces certs → AllZip (Good d) (lines_of_pieces pieces) certs
 all_good d keeps sews [] [] below each doubled = tt
 all_good d keeps sews [] (c ∷ certs) below each doubled = absurd doubled
 all_good d keeps sews (p ∷ pieces) [] below each doubled = absurd doubled
 all_good d keeps sews (p ∷ pieces) (c ∷ certs) below each doubled = (
   good d keeps sews p c (front (length d.lines) p.lines (concat (lines_of_pieces pieces)) below)
-      (All-head (λ (p : Piece). graph_of p ≡ piece_of d p.lines) p pieces each) doubled.0,
+      (All-head (λ (p : Piece). graph_of p ≡ piece_graph d p.lines) p pieces each) doubled.0,
   all_good d keeps sews pieces certs (behind (length d.lines) p.lines (concat (lines_of_pieces pieces)) below)
-      (All-tail (λ (p : Piece). graph_of p ≡ piece_of d p.lines) p pieces each) doubled.1,
+      (All-tail (λ (p : Piece). graph_of p ≡ piece_graph d p.lines) p pieces each) doubled.1,
 )
 
 doubled_of : (d : DrawingValue) (pieces : List (List ℕ)) (certs : List PieceCert) → AllZip (Good d) pieces certs
@@ -177,8 +179,8 @@ pub record DoubleReady (d : DrawingValue) (pieces : List Piece) (certs : List Pi
   pub over : (routed : Routed) → routed.cert.pieces ≡ certs → routed.design ≡ sewn_design d (walks_of certs)
       → IsDoubleOver d (lines_of_pieces pieces) routed
 
-pub double_ready : (d : DrawingValue) → KeepsDrawing d → FittingWalksAreSewable → PiecesKeepLimits
-    → (pieces : List Piece) (certs : List PieceCert) → AreCutFrom d pieces → AreDoubled pieces certs → DoubleReady d pieces certs
+pub double_ready : (d : DrawingValue) → KeepsDrawingLimits d → FittingWalksAreSewable → PiecesKeepLimits
+    → (pieces : List Piece) (certs : List PieceCert) → ArePiecesOf d pieces → AreDoubled pieces certs → DoubleReady d pieces certs
 double_ready d keeps sews limits pieces certs cut doubled =
     let all = all_good d keeps sews pieces certs cut.are.there cut.each doubled in
     let is = able d keeps limits (lines_of_pieces pieces) certs cut.are (sewn_of d (lines_of_pieces pieces) certs all) in
@@ -188,7 +190,7 @@ double_ready d keeps sews limits pieces certs cut doubled =
       over = λ r. λ same. λ design. record {
         pieces_are = cut.are;
         each = subst (AllZip (IsDoubled d) (lines_of_pieces pieces)) (sym same) (doubled_of d (lines_of_pieces pieces) certs all);
-        spelled = subst (All CanBeSpelled) (sym same) is.spelled;
+        spelled = subst (All HasCanonicalText) (sym same) is.spelled;
         writable = subst (λ (cs : List PieceCert). AreWritable d.step (runs_of d (walks_of cs))) (sym same) is.writable;
         design = design ∙ ap (λ (cs : List PieceCert). sewn_design d (walks_of cs)) (sym same);
       };

@@ -1,17 +1,17 @@
 -- Least costs are the same both ways, and none is more than those of a way round.
 use Rattle.std.proofs.Common.{◌≡◌, ◌≤◌, ◌<◌, ℕ, ◌+◌, ◌*◌, ◌==◌, Bool, true, false, cond, not, nat_lt, List, [], ◌∷◌, ◌++◌, min, max, slice_index, Option, Some, None, arith, refl, sym, ◌∙◌, ap, subst}
 use Rattle.std.proofs.lemmas.Bool.Decides.{nat_tests}
-use Rattle.blossom_match.specs.Tables.{KeepsTriangles, entry}
+use Rattle.blossom_match.specs.Tables.{HasTriangleInequality, entry}
 use Rattle.blossom_match.specs.TableValue.{TableValue}
 use Rattle.line_graph.specs.declared.edge.Edge.{Edge}
 use Rattle.line_graph.specs.declared.pass.Pass.{Pass}
 use Rattle.line_graph.specs.PieceGraphs.{PieceValue}
-use Rattle.line_graph.specs.PieceWalks.{after_edge, after_pass, cost_of, edge_of, end_of, of_edge, pass_sum, start_of, walk_cost, walk_on}
+use Rattle.line_graph.specs.PieceWalks.{after_edge, after_pass, edge_cost, edge_of, pass_end, edge_value, pass_sum, pass_start, walk_cost, walk_end_from}
 use Rattle.odd_paths.specs.LeastRows.{IsLeastCost, RowsValue, cost_at, terminal_of}
 use Rattle.route_core.specs.Distances.{IsTableOf}
 
-walk_append : (ns : List ℕ) (es : List Edge) (at : Option ℕ) (xs ys : List Pass) → walk_on ns es at (xs ++ ys)
-    ≡ walk_on ns es (walk_on ns es at xs) ys
+walk_append : (ns : List ℕ) (es : List Edge) (at : Option ℕ) (xs ys : List Pass) → walk_end_from ns es at (xs ++ ys)
+    ≡ walk_end_from ns es (walk_end_from ns es at xs) ys
 walk_append ns es at [] ys = refl
 walk_append ns es at (x ∷ xs) ys = walk_append ns es (after_pass ns es x at) xs ys
 
@@ -21,7 +21,7 @@ sum_append ns es f [] ys = none (pass_sum ns es f ys)
   where
     none : (k : ℕ) → k ≡ 0 + k
     none k = omega arith
-sum_append ns es f (x ∷ xs) ys = rw (sum_append ns es f xs ys) (regroup (of_edge f (edge_of ns es x.line)) (pass_sum ns es f xs)
+sum_append ns es f (x ∷ xs) ys = rw (sum_append ns es f xs ys) (regroup (edge_value f (edge_of ns es x.line)) (pass_sum ns es f xs)
     (pass_sum ns es f ys))
   where
     regroup : (x u v : ℕ) → x + (u + v) ≡ (x + u) + v
@@ -30,7 +30,7 @@ sum_append ns es f (x ∷ xs) ys = rw (sum_append ns es f xs ys) (regroup (of_ed
 abbrev flipped : Pass → Pass
 flipped p = record { line = p.line; back = not p.back }
 
-lost : (ns : List ℕ) (es : List Edge) (ps : List Pass) (k : ℕ) → walk_on ns es None ps ≡ Some k → ⊥
+lost : (ns : List ℕ) (es : List Edge) (ps : List Pass) (k : ℕ) → walk_end_from ns es None ps ≡ Some k → ⊥
 lost ns es [] k is = cc
 lost ns es (p ∷ ps) k is = lost ns es ps k is
 
@@ -43,34 +43,34 @@ eq_self n = grind (arith, nat_tests)
 -- an edge leads back from where it leads to
 flip_edge : (found : Option Edge) (back : Bool) (j m : ℕ) → after_edge found back j ≡ Some m → after_edge found (not back) m ≡ Some j
 flip_edge None back j m is = absurd (cc)
-flip_edge (Some e) back j m is = by_test (start_of e back == j) refl is
+flip_edge (Some e) back j m is = by_test (pass_start e back == j) refl is
   where
-    turned : (e : Edge) (back : Bool) → after_edge (Some e) (not back) (end_of e back) ≡ Some (start_of e back)
+    turned : (e : Edge) (back : Bool) → after_edge (Some e) (not back) (pass_end e back) ≡ Some (pass_start e back)
     turned e true = rw (eq_self e.a) refl
     turned e false = rw (eq_self e.b) refl
 
-    by_test : (t : Bool) → (start_of e back == j) ≡ t → cond t (Some (end_of e back)) None ≡ Some m → after_edge (Some e) (not back) m
+    by_test : (t : Bool) → (pass_start e back == j) ≡ t → cond t (Some (pass_end e back)) None ≡ Some m → after_edge (Some e) (not back) m
         ≡ Some j
     by_test true test is =
-        let to : end_of e back ≡ m = cc in
-        rw (← to, ← same (start_of e back) j test) (turned e back)
+        let to : pass_end e back ≡ m = cc in
+        rw (← to, ← same (pass_start e back) j test) (turned e back)
     by_test false test is = absurd (cc)
 
 -- a walk from one junction to another, and what it costs
 record Way (ns : List ℕ) (es : List Edge) (from to cost : ℕ) : Type 0 where
   walk : List Pass
-  leads : walk_on ns es (Some from) walk ≡ Some to
-  costs : pass_sum ns es cost_of walk ≡ cost
+  leads : walk_end_from ns es (Some from) walk ≡ Some to
+  costs : pass_sum ns es edge_cost walk ≡ cost
 
 -- a walk leads back for the same cost
-way_back : (ns : List ℕ) (es : List Edge) (from to : ℕ) (ps : List Pass) → walk_on ns es (Some from) ps ≡ Some to
-    → Way ns es to from (pass_sum ns es cost_of ps)
+way_back : (ns : List ℕ) (es : List Edge) (from to : ℕ) (ps : List Pass) → walk_end_from ns es (Some from) ps ≡ Some to
+    → Way ns es to from (pass_sum ns es edge_cost ps)
 way_back ns es from to [] is = record { walk = []; leads = sym is; costs = refl }
 way_back ns es from to (p ∷ ps) is = by_next (after_pass ns es p (Some from)) refl is (λ m. λ h. way_back ns es m to ps h)
   where
-    by_next : (x : Option ℕ) → after_pass ns es p (Some from) ≡ x → walk_on ns es x ps ≡ Some to
-        → ((m : ℕ) → walk_on ns es (Some m) ps ≡ Some to → Way ns es to m (pass_sum ns es cost_of ps))
-        → Way ns es to from (of_edge cost_of (edge_of ns es p.line) + pass_sum ns es cost_of ps)
+    by_next : (x : Option ℕ) → after_pass ns es p (Some from) ≡ x → walk_end_from ns es x ps ≡ Some to
+        → ((m : ℕ) → walk_end_from ns es (Some m) ps ≡ Some to → Way ns es to m (pass_sum ns es edge_cost ps))
+        → Way ns es to from (edge_value edge_cost (edge_of ns es p.line) + pass_sum ns es edge_cost ps)
     by_next None next on rest = absurd (lost ns es ps to on)
     by_next (Some m) next on rest =
         let r = rest m on in
@@ -78,8 +78,8 @@ way_back ns es from to (p ∷ ps) is = by_next (after_pass ns es p (Some from)) 
           walk = r.walk ++ flipped p ∷ [];
           leads = walk_append ns es (Some to) r.walk (flipped p ∷ []) ∙ ap (λ (x : Option ℕ). after_pass ns es (flipped p) x) r.leads
               ∙ flip_edge (edge_of ns es p.line) p.back from m next;
-          costs = sum_append ns es cost_of r.walk (flipped p ∷ [])
-              ∙ turned (pass_sum ns es cost_of r.walk) (of_edge cost_of (edge_of ns es p.line)) _ r.costs;
+          costs = sum_append ns es edge_cost r.walk (flipped p ∷ [])
+              ∙ turned (pass_sum ns es edge_cost r.walk) (edge_value edge_cost (edge_of ns es p.line)) _ r.costs;
         }
       where
         turned : (r k u : ℕ) → r ≡ u → r + (k + 0) ≡ k + u
@@ -110,10 +110,10 @@ least_self p i = record { walk = []; leads = refl; costs = refl; least = λ othe
 
 least_round : (p : PieceValue) (i j k c d e : ℕ) → IsLeastCost p i j c → IsLeastCost p j k d → IsLeastCost p i k e → e ≤ c + d
 least_round p i j k c d e l m n =
-    subst (λ (x : ℕ). e ≤ x) (sum_append p.lines p.edges cost_of l.walk m.walk
+    subst (λ (x : ℕ). e ≤ x) (sum_append p.lines p.edges edge_cost l.walk m.walk
     ∙ both (walk_cost p l.walk) (walk_cost p m.walk) c d l.costs m.costs)
     (n.least (l.walk ++ m.walk) (walk_append p.lines p.edges (Some i) l.walk m.walk
-    ∙ ap (λ (x : Option ℕ). walk_on p.lines p.edges x m.walk) l.leads ∙ m.leads))
+    ∙ ap (λ (x : Option ℕ). walk_end_from p.lines p.edges x m.walk) l.leads ∙ m.leads))
   where
     both : (x y c d : ℕ) → x ≡ c → y ≡ d → x + y ≡ c + d
     both x y c d h g = omega arith
@@ -157,7 +157,7 @@ entry_least p rows t j a b a_in b_in = by_test (nat_lt a b) refl (nat_lt b a) re
         (subst (IsLeastCost p (terminal_of rows a) (terminal_of rows a)) (sym (j.distances.none a a_in))
         (least_self p (terminal_of rows a)))
 
-pub triangles : (p : PieceValue) (rows : RowsValue) (t : TableValue) → IsTableOf p rows t → KeepsTriangles t
+pub triangles : (p : PieceValue) (rows : RowsValue) (t : TableValue) → IsTableOf p rows t → HasTriangleInequality t
 triangles p rows t j a b a_in b_in c c_in =
     least_round p (terminal_of rows a) (terminal_of rows b) (terminal_of rows c) (entry t a b) (entry t b c) (entry t a c)
     (entry_least p rows t j a b a_in b_in) (entry_least p rows t j b c b_in c_in) (entry_least p rows t j a c a_in c_in)

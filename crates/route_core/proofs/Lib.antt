@@ -5,7 +5,7 @@ mod DistanceLemmas
 mod LeastLemmas
 mod MatchLemmas
 mod PassLemmas
-mod ProvedLemmas
+mod LeastCertLemmas
 mod SewLemmas
 mod SewnPieces
 mod RouteLemmas

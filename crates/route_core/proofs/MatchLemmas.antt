@@ -6,7 +6,7 @@ use Rattle.std.proofs.lemmas.List.Sums.{get_or-le-sum_by, sum_by-cons}
 use Rattle.blossom_match.specs.declared.matching.Moat.{Moat}
 use Rattle.blossom_match.specs.declared.matching.Pair.{Pair}
 use Rattle.blossom_match.specs.declared.table.TheConstants.{MAX_DISTANCE}
-use Rattle.blossom_match.specs.Matchings.{IsMatching, IsOddMoat, PairsEach, cost_of as matching_cost, ends_at as ends_of_pairs, load_on, width_of}
+use Rattle.blossom_match.specs.Matchings.{IsOptimalMatching, IsOddMoat, IsPerfectMatching, pairs_cost, pair_ends_at, moat_load, width_of}
 use Rattle.blossom_match.specs.Tables.{IsTable, entry}
 use Rattle.blossom_match.specs.TableValue.{TableValue}
 use Rattle.line_graph.specs.PieceGraphs.{PieceValue}
@@ -14,7 +14,7 @@ use Rattle.odd_paths.specs.LeastRows.{RowsValue}
 use Rattle.route_core.proofs.LeastLemmas.{entry_is}
 use Rattle.route_core.specs.Copies.{IsPairOf, pair_costs}
 use Rattle.route_core.specs.Distances.{HasDistances, IsTableOf}
-use Rattle.route_core.specs.Matched.{AreOddRows, IsMatched}
+use Rattle.route_core.specs.OddPairs.{AreOddRows, AreOddPairs}
 
 -- how often a pair ends at a place
 abbrev ends_in : ℕ → Pair → ℕ
@@ -27,7 +27,7 @@ met : (n : ℕ) → 1 ≤ cond (n == n) 1 0
 met n = rw (eq_self n) (omega arith)
 
 -- a number that is an end of a pair is a place
-within : (n : ℕ) (pairs : List Pair) → PairsEach n pairs → (x : ℕ) → 1 ≤ ends_of_pairs pairs x → x < n
+within : (n : ℕ) (pairs : List Pair) → IsPerfectMatching n pairs → (x : ℕ) → 1 ≤ pair_ends_at pairs x → x < n
 within n pairs each x some = by_test (nat_lt x n) refl
   where
     less : (m n : ℕ) → nat_lt m n ≡ true → m < n
@@ -41,12 +41,12 @@ within n pairs each x some = by_test (nat_lt x n) refl
     by_test true is = less x n is
     by_test false is = absurd (omega (arith, some, each x, none (nat_lt x n) is))
 
-pairs_within : (rows : RowsValue) (pairs : List Pair) → PairsEach (length rows.terminals) pairs → All (IsPairOf rows) pairs
+pairs_within : (rows : RowsValue) (pairs : List Pair) → IsPerfectMatching (length rows.terminals) pairs → All (IsPairOf rows) pairs
 pairs_within rows pairs each = All-from_get_or (IsPairOf rows) pairs (record { a = 0; b = 0 })
     (λ i. λ below. let q = get_or pairs i (record { a = 0; b = 0 }) in record {
-      a_in = within (length rows.terminals) pairs each q.a (first q (ends_of_pairs pairs q.a)
+      a_in = within (length rows.terminals) pairs each q.a (first q (pair_ends_at pairs q.a)
           (get_or-le-sum_by (ends_in q.a) pairs i (record { a = 0; b = 0 }) below));
-      b_in = within (length rows.terminals) pairs each q.b (second q (ends_of_pairs pairs q.b)
+      b_in = within (length rows.terminals) pairs each q.b (second q (pair_ends_at pairs q.b)
           (get_or-le-sum_by (ends_in q.b) pairs i (record { a = 0; b = 0 }) below));
     })
   where
@@ -58,7 +58,7 @@ pairs_within rows pairs each = All-from_get_or (IsPairOf rows) pairs (record { a
 
 -- what walks between the pairs cost is what the pairs cost in the table
 costs_are : (p : PieceValue) (rows : RowsValue) (t : TableValue) → IsTableOf p rows t → (pairs : List Pair) → All (IsPairOf rows) pairs
-    → pair_costs rows pairs ≡ matching_cost t pairs
+    → pair_costs rows pairs ≡ pairs_cost t pairs
 costs_are p rows t table [] there = refl
 costs_are p rows t table (q ∷ pairs) there =
     let here = All-head (IsPairOf rows) q pairs there in
@@ -94,18 +94,18 @@ over_few : (f : ℕ → ℕ) (at n : ℕ) → ((y : ℕ) → f y ≤ 1) → sum_
 over_few f at zero few = omega arith
 over_few f at (suc n) few = let rest = over_few f (at + 1) n few in omega (arith, few at, rest)
 
-pairs_under : (n : ℕ) (pairs : List Pair) → All (λ (q : Pair). q.a < n) pairs → length pairs ≤ sum_over (ends_of_pairs pairs) 0 n
+pairs_under : (n : ℕ) (pairs : List Pair) → All (λ (q : Pair). q.a < n) pairs → length pairs ≤ sum_over (pair_ends_at pairs) 0 n
 pairs_under n [] there = omega arith
 pairs_under n (q ∷ pairs) there =
     let one = over_at q.a 0 n (omega arith) (omega (arith, All-head (λ (q : Pair). q.a < n) q pairs there)) in
     let rest = pairs_under n pairs (All-tail (λ (q : Pair). q.a < n) q pairs there) in
-    let more = over_more q (ends_of_pairs pairs) (ends_of_pairs (q ∷ pairs)) (λ y. sum_by-cons (ends_in y) q pairs) 0 n in
+    let more = over_more q (pair_ends_at pairs) (pair_ends_at (q ∷ pairs)) (λ y. sum_by-cons (ends_in y) q pairs) 0 n in
     omega (arith, one, rest, more)
 
-pairs_few : (n : ℕ) (pairs : List Pair) → PairsEach n pairs → All (λ (q : Pair). q.a < n) pairs → length pairs ≤ n
+pairs_few : (n : ℕ) (pairs : List Pair) → IsPerfectMatching n pairs → All (λ (q : Pair). q.a < n) pairs → length pairs ≤ n
 pairs_few n pairs each there =
     let under = pairs_under n pairs there in
-    let few = over_few (ends_of_pairs pairs) 0 n (λ y. subst (λ (k : ℕ). k ≤ 1) (sym (each y)) (bit_few (nat_lt y n))) in
+    let few = over_few (pair_ends_at pairs) 0 n (λ y. subst (λ (k : ℕ). k ≤ 1) (sym (each y)) (bit_few (nat_lt y n))) in
     omega (arith, under, few)
   where
     bit_few : (t : Bool) → cond t 1 0 ≤ 1
@@ -121,7 +121,7 @@ moats_under n (m ∷ moats) odd =
 
 -- the cost of all pairs is at most the greatest distance for each
 costs_few : (t : TableValue) → IsTable t → (pairs : List Pair) → All (λ (q : Pair). (q.a < t.places) × (q.b < t.places)) pairs
-    → matching_cost t pairs ≤ length pairs * MAX_DISTANCE
+    → pairs_cost t pairs ≤ length pairs * MAX_DISTANCE
 costs_few t table [] there = omega arith
 costs_few t table (q ∷ pairs) there =
     let here = All-head (λ (q : Pair). (q.a < t.places) × (q.b < t.places)) q pairs there in
@@ -145,9 +145,9 @@ few_enough moats width cost pairs places a b c d e = omega arith
 
 -- a matching of the table's places is one of the odd junctions
 pub is_matched : (p : PieceValue) (rows : RowsValue) (t : TableValue) → AreOddRows p rows → IsTableOf p rows t → IsTable t
-    → (pairs : List Pair) (moats : List Moat) → IsMatching t pairs moats → IsMatched p rows pairs moats
+    → (pairs : List Pair) (moats : List Moat) → IsOptimalMatching t pairs moats → AreOddPairs p rows pairs moats
 is_matched p rows t odd_rows table is_table pairs moats m =
-    let each = subst (λ (n : ℕ). PairsEach n pairs) table.places m.paired in
+    let each = subst (λ (n : ℕ). IsPerfectMatching n pairs) table.places m.paired in
     let there = pairs_within rows pairs each in
     let ends = ends_within rows t.places table.places pairs there in
     record {
@@ -159,9 +159,9 @@ is_matched p rows t odd_rows table is_table pairs moats m =
         loads = λ x. λ y. λ x_in. λ y_in.
             let a : x < t.places = omega (arith, table.places, x_in) in
             let b : y < t.places = omega (arith, table.places, y_in) in
-            subst (λ (k : ℕ). load_on moats x y ≤ 2 * k) (entry_is p rows t table x y a b) (m.loads x y a b);
+            subst (λ (k : ℕ). moat_load moats x y ≤ 2 * k) (entry_is p rows t table x y a b) (m.loads x y a b);
       };
-      few = few_enough (length moats) (width_of moats) (matching_cost t pairs) (length pairs) t.places
+      few = few_enough (length moats) (width_of moats) (pairs_cost t pairs) (length pairs) t.places
           (moats_under t.places moats m.odd) m.paid
           (costs_few t is_table pairs ends) (pairs_few t.places pairs m.paired (firsts_within t.places pairs ends)) is_table.few;
       pairs_are = there;

@@ -5,7 +5,7 @@ use Rattle.std.proofs.lemmas.List.{length-replicate}
 use Rattle.blossom_match.specs.declared.matching.Pair.{Pair}
 use Rattle.line_graph.specs.declared.edge.Edge.{Edge}
 use Rattle.line_graph.specs.PieceGraphs.{PieceValue}
-use Rattle.line_graph.specs.PieceWalks.{cost_of}
+use Rattle.line_graph.specs.PieceWalks.{edge_cost}
 use Rattle.odd_paths.specs.LeastRows.{RowsValue}
 use Rattle.route_core.proofs.PathLemmas.{adds_more, adds_no_pairs}
 use Rattle.route_core.specs.Copies.{AddsPairs, IsPairOf, copies_sum, pair_costs}
@@ -14,7 +14,7 @@ use Rattle.route_core.specs.Copies.{AddsPairs, IsPairOf, copies_sum, pair_costs}
 pub record LeftPairs (p : PieceValue) (rows : RowsValue) (pairs : List Pair) (cs : List ℕ) (rest : List Pair) : Type 0 where
   pub there : All (IsPairOf rows) rest
   pub sized : length cs ≡ length p.edges
-  pub few : copies_sum cost_of p.edges cs + pair_costs rows rest < 2 ^ 32
+  pub few : copies_sum edge_cost p.edges cs + pair_costs rows rest < 2 ^ 32
   pub whole : (new : List ℕ) → AddsPairs p rows rest cs new → AddsPairs p rows pairs (replicate (length p.edges) 0) new
 
 pub none_cost : (f : Edge → ℕ) (es : List Edge) (n : ℕ) → copies_sum f es (replicate n 0) ≡ 0
@@ -30,7 +30,7 @@ pub begun : (p : PieceValue) (rows : RowsValue) (pairs : List Pair) (cs : List �
 begun p rows pairs cs is there few = record {
   there = there;
   sized = ap length is ∙ length-replicate (length p.edges) 0;
-  few = omega (arith, ap (copies_sum cost_of p.edges) is, none_cost cost_of p.edges (length p.edges), few);
+  few = omega (arith, ap (copies_sum edge_cost p.edges) is, none_cost edge_cost p.edges (length p.edges), few);
   whole = λ new. λ adds. subst (λ (xs : List ℕ). AddsPairs p rows pairs xs new) is adds;
 }
 
@@ -39,7 +39,7 @@ first_pair rows pairs rest q is there = All-head (IsPairOf rows) q rest (subst (
 
 pub room_for_pair : (p : PieceValue) (rows : RowsValue) (pairs : List Pair) (cs : List ℕ) (left rest : List Pair) (q : Pair) → left
     ≡ q ∷ rest
-    → LeftPairs p rows pairs cs left → copies_sum cost_of p.edges cs + pair_costs rows (q ∷ []) < 2 ^ 32
+    → LeftPairs p rows pairs cs left → copies_sum edge_cost p.edges cs + pair_costs rows (q ∷ []) < 2 ^ 32
 room_for_pair p rows pairs cs left rest q is l = omega (arith, l.few, ap (pair_costs rows) is)
 
 pub goes_on : (p : PieceValue) (rows : RowsValue) (pairs : List Pair) (cs next : List ℕ) (left rest : List Pair) (q : Pair) → left

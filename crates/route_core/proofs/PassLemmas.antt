@@ -8,19 +8,19 @@ use Rattle.std.proofs.lemmas.List.Sums.{sum_by-cons}
 use Rattle.std.specs.List.{range_with_len}
 use Rattle.std.specs.Option.{option_or}
 use Rattle.blossom_match.specs.declared.matching.Pair.{Pair}
-use Rattle.blossom_match.specs.Matchings.{PairsEach, ends_at as ends_of_pairs}
+use Rattle.blossom_match.specs.Matchings.{IsPerfectMatching, pair_ends_at}
 use Rattle.euler_tour.specs.Tours.{CanPass, IsTour, copies_cost, pass_count, pass_ends}
 use Rattle.line_graph.specs.declared.edge.Edge.{Edge}
 use Rattle.line_graph.specs.declared.limits.TheConstants.{MAX_COST}
 use Rattle.line_graph.specs.declared.pass.Pass.{Pass}
-use Rattle.line_graph.specs.KeptPieces.{KeepsPiece, ends_below, is_below}
-use Rattle.line_graph.specs.PieceGraphs.{PieceValue, bit, closed_edges, closing, degree, from_of, is_odd, is_odd_junction, to_of}
-use Rattle.line_graph.specs.PieceWalks.{cost_of, piece_cost, walk_cost}
+use Rattle.line_graph.specs.ValidPieces.{IsValidPiece, ends_below, is_below}
+use Rattle.line_graph.specs.PieceGraphs.{PieceValue, one_if, edges_with_closing, closing_edge, degree, given_start, is_odd, is_odd_junction, given_end}
+use Rattle.line_graph.specs.PieceWalks.{edge_cost, piece_cost, walk_cost}
 use Rattle.odd_paths.specs.LeastRows.{AreTerminals, RowsValue, terminal_of}
 use Rattle.route_core.proofs.PairLemmas.{none_cost}
 use Rattle.route_core.proofs.PathLemmas.{up_within}
-use Rattle.route_core.specs.Copies.{AddsPairs, IsPairOf, add_up, copies_sum, ends_at, pair_costs, pair_ends}
-use Rattle.route_core.specs.Matched.{AreOddRows, IsWalkBy}
+use Rattle.route_core.specs.Copies.{AddsPairs, IsPairOf, total_copies, copies_sum, edge_end_count, pair_costs, pair_ends}
+use Rattle.route_core.specs.OddPairs.{AreOddRows, IsWalkBy}
 
 same : (m n : ℕ) → (m == n) ≡ true → m ≡ n
 same m n is = grind (arith, nat_tests)
@@ -90,7 +90,7 @@ passes_test o at (suc n) a below = by_test (o at) refl a below (λ b. λ h. pass
 -- how often pairs end at a terminal
 ends_at_terminal : (p : PieceValue) (rows : RowsValue) → AreTerminals p rows.terminals → (x : ℕ) → x < length rows.terminals
     → (pairs : List Pair)
-    → All (IsPairOf rows) pairs → pair_ends rows (terminal_of rows x) pairs ≡ ends_of_pairs pairs x
+    → All (IsPairOf rows) pairs → pair_ends rows (terminal_of rows x) pairs ≡ pair_ends_at pairs x
 ends_at_terminal p rows ts x x_in [] there = refl
 ends_at_terminal p rows ts x x_in (q ∷ pairs) there =
     let here = All-head (IsPairOf rows) q pairs there in
@@ -109,12 +109,12 @@ ends_at_terminal p rows ts x x_in (q ∷ pairs) there =
     differ a a_in other false is =
         apart (terminal_of rows a) (terminal_of rows x) (λ h. ts.different x a 0 (less a x other is) a_in (sym h))
 
-    by_test : (a : ℕ) → a < length rows.terminals → (t : Bool) → (x == a) ≡ t → bit (terminal_of rows a == terminal_of rows x)
+    by_test : (a : ℕ) → a < length rows.terminals → (t : Bool) → (x == a) ≡ t → one_if (terminal_of rows a == terminal_of rows x)
         ≡ cond (x == a) 1 0
     by_test a a_in true is = rw (is, ← same x a is, eq_self (terminal_of rows x)) refl
     by_test a a_in false is = rw (is, differ a a_in is (nat_lt a x) refl) refl
 
-    is_end : (a : ℕ) → a < length rows.terminals → bit (terminal_of rows a == terminal_of rows x) ≡ cond (x == a) 1 0
+    is_end : (a : ℕ) → a < length rows.terminals → one_if (terminal_of rows a == terminal_of rows x) ≡ cond (x == a) 1 0
     is_end a a_in = by_test a a_in (x == a) refl
 
 -- pairs end nowhere else
@@ -134,7 +134,7 @@ degree_append [] ys v = none (degree ys v)
   where
     none : (k : ℕ) → k ≡ 0 + k
     none k = omega arith
-degree_append (x ∷ xs) ys v = rw (degree_append xs ys v) (regroup (bit (x.a == v) + bit (x.b == v)) (degree xs v) (degree ys v))
+degree_append (x ∷ xs) ys v = rw (degree_append xs ys v) (regroup (one_if (x.a == v) + one_if (x.b == v)) (degree xs v) (degree ys v))
   where
     regroup : (x u v : ℕ) → x + (u + v) ≡ (x + u) + v
     regroup x u v = omega arith
@@ -149,7 +149,8 @@ degree_beyond (e ∷ es) n v below beyond =
     other : (a n : ℕ) → nat_lt a n ≡ true → n ≤ v → (a == v) ≡ false
     other a n is beyond = grind (arith, nat_tests)
 
-closing_beyond : (n v : ℕ) (from to : Option ℕ) → is_below n from ≡ true → is_below n to ≡ true → n ≤ v → degree (closing from to) v ≡ 0
+closing_beyond : (n v : ℕ) (from to : Option ℕ) → is_below n from ≡ true → is_below n to ≡ true → n ≤ v
+    → degree (closing_edge from to) v ≡ 0
 closing_beyond n v None to f t beyond = refl
 closing_beyond n v (Some a) None f t beyond = refl
 closing_beyond n v (Some a) (Some b) f t beyond = rw (other a f beyond, other b t beyond) refl
@@ -163,26 +164,26 @@ or_below n None y f t = t
 
 -- the ends of passes are those of the lines, and those of the copies
 ends_are : (es : List Edge) (copies : List ℕ) (v : ℕ) → length copies ≡ length es → pass_ends es copies v
-    ≡ degree es v + copies_sum (ends_at v) es copies
+    ≡ degree es v + copies_sum (edge_end_count v) es copies
 ends_are [] copies v sized = refl
 ends_are (e ∷ es) [] v sized = absurd (omega arith)
 ends_are (e ∷ es) (c ∷ copies) v sized = rw (ends_are es copies v (omega arith))
-    (regroup c (bit (e.a == v) + bit (e.b == v)) (degree es v) (copies_sum (ends_at v) es copies))
+    (regroup c (one_if (e.a == v) + one_if (e.b == v)) (degree es v) (copies_sum (edge_end_count v) es copies))
   where
     regroup : (c k u w : ℕ) → (c + 1) * k + (u + w) ≡ (k + u) + (c * k + w)
     regroup c k u w = omega arith
 
-cost_is : (es : List Edge) (copies : List ℕ) → copies_cost es copies ≡ copies_sum cost_of es copies
+cost_is : (es : List Edge) (copies : List ℕ) → copies_cost es copies ≡ copies_sum edge_cost es copies
 cost_is [] copies = refl
 cost_is (e ∷ es) [] = refl
 cost_is (e ∷ es) (c ∷ copies) = rw (cost_is es copies) refl
 
-count_is : (copies : List ℕ) → pass_count copies ≡ add_up copies + length copies
+count_is : (copies : List ℕ) → pass_count copies ≡ total_copies copies + length copies
 count_is [] = refl
 count_is (c ∷ copies) = omega (arith, sum_by-cons (λ (c : ℕ). c + 1) c copies, count_is copies)
 
 -- an odd number of line ends, or an even one
-parity : (d : ℕ) → (t : Bool) → is_odd d ≡ t → d % 2 ≡ bit t
+parity : (d : ℕ) → (t : Bool) → is_odd d ≡ t → d % 2 ≡ one_if t
 parity d true is = grind (arith, nat_tests)
 parity d false is = even d is
   where
@@ -193,8 +194,8 @@ parity d false is = even d is
     even d is = grind (arith, nat_tests)
 
 -- the pairs end at a junction as its parity requires
-pairs_parity : (p : PieceValue) → KeepsPiece p → (rows : RowsValue) → AreOddRows p rows → (pairs : List Pair) → All (IsPairOf rows) pairs
-    → PairsEach (length rows.terminals) pairs → (v : ℕ) → (degree (closed_edges p) v + pair_ends rows v pairs) % 2 ≡ 0
+pairs_parity : (p : PieceValue) → IsValidPiece p → (rows : RowsValue) → AreOddRows p rows → (pairs : List Pair) → All (IsPairOf rows) pairs
+    → IsPerfectMatching (length rows.terminals) pairs → (v : ℕ) → (degree (edges_with_closing p) v + pair_ends rows v pairs) % 2 ≡ 0
 pairs_parity p kept rows odd_rows pairs there each v = by_range (nat_lt v (length p.junctions)) refl
   where
     less : (m n : ℕ) → nat_lt m n ≡ true → m < n
@@ -228,51 +229,54 @@ pairs_parity p kept rows odd_rows pairs there each v = by_range (nat_lt v (lengt
     not_terminal even x below is = true_false (is_odd_junction p v)
         (subst (λ (k : ℕ). is_odd_junction p k ≡ true) is (terminal_odd x below)) even
 
-    by_odd : v < length p.junctions → (t : Bool) → is_odd_junction p v ≡ t → (degree (closed_edges p) v + pair_ends rows v pairs) % 2 ≡ 0
+    by_odd : v < length p.junctions → (t : Bool) → is_odd_junction p v ≡ t
+        → (degree (edges_with_closing p) v + pair_ends rows v pairs) % 2 ≡ 0
     by_odd below true is =
         let f = found (is_odd_junction p) 0 (length p.junctions) v (omega arith) (omega (arith, below)) is in
         let x_in : f.0 < length rows.terminals = subst (λ (ts : List ℕ). f.0 < length ts) (sym odd_rows.terminals) f.1 in
         let at : terminal_of rows f.0 ≡ v = subst (λ (ts : List ℕ). get_or ts f.0 0 ≡ v) (sym odd_rows.terminals) f.2 in
-        added (degree (closed_edges p) v) (pair_ends rows v pairs) (parity (degree (closed_edges p) v) true is)
+        added (degree (edges_with_closing p) v) (pair_ends rows v pairs) (parity (degree (edges_with_closing p) v) true is)
         (ap (λ (k : ℕ). pair_ends rows k pairs) (sym at) ∙ ends_at_terminal p rows odd_rows.rows_are.terminals f.0 x_in pairs there
-        ∙ one_each (length rows.terminals) f.0 (ends_of_pairs pairs f.0) x_in (each f.0))
+        ∙ one_each (length rows.terminals) f.0 (pair_ends_at pairs f.0) x_in (each f.0))
     by_odd below false is =
-        none (degree (closed_edges p) v) (pair_ends rows v pairs) (parity (degree (closed_edges p) v) false is)
+        none (degree (edges_with_closing p) v) (pair_ends rows v pairs) (parity (degree (edges_with_closing p) v) false is)
         (ends_elsewhere rows v (not_terminal is) pairs there)
 
-    by_range : (s : Bool) → nat_lt v (length p.junctions) ≡ s → (degree (closed_edges p) v + pair_ends rows v pairs) % 2 ≡ 0
+    by_range : (s : Bool) → nat_lt v (length p.junctions) ≡ s → (degree (edges_with_closing p) v + pair_ends rows v pairs) % 2 ≡ 0
     by_range true is = by_odd (less v (length p.junctions) is) (is_odd_junction p v) refl
     by_range false is =
         let far = beyond v (length p.junctions) is in
-        let zero_degree : degree (closed_edges p) v ≡ 0
-        = degree_append (closing (from_of p) (to_of p)) p.edges v ∙ both (degree (closing (from_of p) (to_of p)) v) (degree p.edges v)
-        (closing_beyond (length p.junctions) v (from_of p) (to_of p) (or_below _ p.start p.end kept.start_below kept.end_below)
+        let zero_degree : degree (edges_with_closing p) v ≡ 0
+        = degree_append (closing_edge (given_start p) (given_end p)) p.edges v
+        ∙ both (degree (closing_edge (given_start p) (given_end p)) v) (degree p.edges v)
+        (closing_beyond (length p.junctions) v (given_start p) (given_end p) (or_below _ p.start p.end kept.start_below kept.end_below)
         (or_below _ p.end p.start kept.end_below kept.start_below) far)
         (degree_beyond p.edges (length p.junctions) v kept.ends far) in
-        none (degree (closed_edges p) v) (pair_ends rows v pairs) (ap (λ (k : ℕ). k % 2) zero_degree)
+        none (degree (edges_with_closing p) v) (pair_ends rows v pairs) (ap (λ (k : ℕ). k % 2) zero_degree)
         (ends_elsewhere rows v (not_terminal (ap is_odd zero_degree)) pairs there)
       where
         both : (x y : ℕ) → x ≡ 0 → y ≡ 0 → x + y ≡ 0
         both x y h g = omega arith
 
 -- the lines with their copies can be passed
-pub can_pass : (p : PieceValue) → KeepsPiece p → (rows : RowsValue) → AreOddRows p rows → (pairs : List Pair) → All (IsPairOf rows) pairs
-    → PairsEach (length rows.terminals) pairs → pair_costs rows pairs ≤ MAX_COST → (copies : List ℕ)
+pub can_pass : (p : PieceValue) → IsValidPiece p → (rows : RowsValue) → AreOddRows p rows → (pairs : List Pair) → All (IsPairOf rows) pairs
+    → IsPerfectMatching (length rows.terminals) pairs → pair_costs rows pairs ≤ MAX_COST → (copies : List ℕ)
     → AddsPairs p rows pairs (replicate (length p.edges) 0) copies → CanPass p copies
 can_pass p kept rows odd_rows pairs there each few copies adds =
     let sized : length copies ≡ length p.edges = adds.sized ∙ length-replicate (length p.edges) 0 in
     let up = up_within p.edges copies kept.costs sized in
     record {
       beside = sized ∙ sym kept.beside;
-      even = λ v. even (degree (closing (from_of p) (to_of p)) v) (degree p.edges v) (degree (closed_edges p) v)
+      even = λ v. even (degree (closing_edge (given_start p) (given_end p)) v) (degree p.edges v) (degree (edges_with_closing p) v)
           (pass_ends p.edges copies v)
-          (copies_sum (ends_at v) p.edges copies) (copies_sum (ends_at v) p.edges (replicate (length p.edges) 0)) (pair_ends rows v pairs)
-          (degree_append (closing (from_of p) (to_of p)) p.edges v) (ends_are p.edges copies v sized)
-          (none_cost (ends_at v) p.edges (length p.edges)) (adds.ends v) (pairs_parity p kept rows odd_rows pairs there each v);
-      few = few_passes (pass_count copies) (add_up copies) (length copies) (length p.edges) (length p.lines)
-          (copies_sum cost_of p.edges copies)
-          (copies_sum cost_of p.edges (replicate (length p.edges) 0)) (pair_costs rows pairs)
-          (count_is copies) up sized kept.beside kept.few adds.costs (none_cost cost_of p.edges (length p.edges)) few;
+          (copies_sum (edge_end_count v) p.edges copies) (copies_sum (edge_end_count v) p.edges (replicate (length p.edges) 0))
+          (pair_ends rows v pairs)
+          (degree_append (closing_edge (given_start p) (given_end p)) p.edges v) (ends_are p.edges copies v sized)
+          (none_cost (edge_end_count v) p.edges (length p.edges)) (adds.ends v) (pairs_parity p kept rows odd_rows pairs there each v);
+      few = few_passes (pass_count copies) (total_copies copies) (length copies) (length p.edges) (length p.lines)
+          (copies_sum edge_cost p.edges copies)
+          (copies_sum edge_cost p.edges (replicate (length p.edges) 0)) (pair_costs rows pairs)
+          (count_is copies) up sized kept.beside kept.few adds.costs (none_cost edge_cost p.edges (length p.edges)) few;
     }
   where
     even : (c d k e s z q : ℕ) → k ≡ c + d → e ≡ d + s → z ≡ 0 → ((s + z) + q) % 2 ≡ 0 → (k + q) % 2 ≡ 0 → (c + e) % 2 ≡ 0
@@ -284,17 +288,17 @@ can_pass p kept rows odd_rows pairs there each few copies adds =
     few_passes n up len edges lines sum z cost a b c d e f g h = omega arith
 
 -- and a tour over them is a walk by the pairs
-pub walk_is : (p : PieceValue) → KeepsPiece p → (rows : RowsValue) (pairs : List Pair) (copies : List ℕ) (walk : List Pass)
+pub walk_is : (p : PieceValue) → IsValidPiece p → (rows : RowsValue) (pairs : List Pair) (copies : List ℕ) (walk : List Pass)
     → AddsPairs p rows pairs (replicate (length p.edges) 0) copies → IsTour p copies walk → IsWalkBy p rows pairs walk
 walk_is p kept rows pairs copies walk adds tour = record {
   fitting = rw (tour.led, tour.covered) refl;
   begins = tour.begins;
-  some = some (length walk) (pass_count copies) (add_up copies) (length copies) (length p.edges) (length p.lines) tour.long
+  some = some (length walk) (pass_count copies) (total_copies copies) (length copies) (length p.edges) (length p.lines) tour.long
       (count_is copies)
       (adds.sized ∙ length-replicate (length p.edges) 0) kept.beside kept.some;
-  costs = costs (walk_cost p walk) (piece_cost p) (copies_cost p.edges copies) (copies_sum cost_of p.edges copies)
-      (copies_sum cost_of p.edges (replicate (length p.edges) 0)) (pair_costs rows pairs)
-      tour.costs (cost_is p.edges copies) adds.costs (none_cost cost_of p.edges (length p.edges));
+  costs = costs (walk_cost p walk) (piece_cost p) (copies_cost p.edges copies) (copies_sum edge_cost p.edges copies)
+      (copies_sum edge_cost p.edges (replicate (length p.edges) 0)) (pair_costs rows pairs)
+      tour.costs (cost_is p.edges copies) adds.costs (none_cost edge_cost p.edges (length p.edges));
 }
   where
     some : (w n up len edges lines : ℕ) → w ≡ n → n ≡ up + len → len ≡ edges → lines ≡ edges → 1 ≤ lines → 1 ≤ w

@@ -7,31 +7,31 @@ use native.Mathlib.Nat.{le-mul_of_pos_right}
 use Rattle.blossom_match.specs.declared.matching.Pair.{Pair}
 use Rattle.line_graph.specs.declared.edge.Edge.{Edge}
 use Rattle.line_graph.specs.declared.pass.Pass.{Pass}
-use Rattle.line_graph.specs.KeptPieces.{KeepsPiece, all_cost}
-use Rattle.line_graph.specs.PieceGraphs.{PieceValue, bit}
-use Rattle.line_graph.specs.PieceWalks.{above, after_edge, cost_of, edge_of, end_of, of_edge, pass_sum, rises, start_of, walk_on}
-use Rattle.odd_paths.specs.LeastRows.{IsPath, RowsValue, cost_at, lines_at, terminal_of}
-use Rattle.route_core.specs.Copies.{AddsPairs, AddsPlaces, add_up, copies_sum, ends_at, pair_ends, place_sum}
+use Rattle.line_graph.specs.ValidPieces.{IsValidPiece, all_costs_positive}
+use Rattle.line_graph.specs.PieceGraphs.{PieceValue, one_if}
+use Rattle.line_graph.specs.PieceWalks.{all_greater, after_edge, edge_cost, edge_of, pass_end, edge_value, pass_sum, is_strictly_increasing, pass_start, walk_end_from}
+use Rattle.odd_paths.specs.LeastRows.{IsPath, RowsValue, cost_at, lines_at_indexes, terminal_of}
+use Rattle.route_core.specs.Copies.{AddsPairs, AddsCopies, total_copies, copies_sum, edge_end_count, pair_ends, index_sum}
 
-above_at : (n : ℕ) (ns : List ℕ) (i : ℕ) → above n ns ≡ true → i < length ns → n < get_or ns i 0
+above_at : (n : ℕ) (ns : List ℕ) (i : ℕ) → all_greater n ns ≡ true → i < length ns → n < get_or ns i 0
 above_at n [] i up below = absurd (omega arith)
-above_at n (m ∷ ns) zero up below = less n m (and_parts (nat_lt n m) (above n ns) up).0
+above_at n (m ∷ ns) zero up below = less n m (and_parts (nat_lt n m) (all_greater n ns) up).0
   where
     less : (n m : ℕ) → nat_lt n m ≡ true → n < m
     less n m is = grind (arith, nat_tests)
-above_at n (m ∷ ns) (suc i) up below = above_at n ns i (and_parts (nat_lt n m) (above n ns) up).1 (omega arith)
+above_at n (m ∷ ns) (suc i) up below = above_at n ns i (and_parts (nat_lt n m) (all_greater n ns) up).1 (omega arith)
 
 eq_self : (n : ℕ) → (n == n) ≡ true
 eq_self n = grind (arith, nat_tests)
 
 -- the edge of the line at a place
-pub edge_at : (ns : List ℕ) (es : List Edge) (k : ℕ) → rises ns ≡ true → length ns ≡ length es → k < length ns
+pub edge_at : (ns : List ℕ) (es : List Edge) (k : ℕ) → is_strictly_increasing ns ≡ true → length ns ≡ length es → k < length ns
     → edge_of ns es (get_or ns k 0) ≡ slice_get es k
 edge_at [] es k up same below = absurd (omega arith)
 edge_at (n ∷ ns) [] k up same below = absurd (omega arith)
 edge_at (n ∷ ns) (e ∷ es) zero up same below = rw (eq_self n) refl
 edge_at (n ∷ ns) (e ∷ es) (suc k) up same below =
-    let parts = and_parts (above n ns) (rises ns) up in
+    let parts = and_parts (all_greater n ns) (is_strictly_increasing ns) up in
     let other : (get_or ns k 0 == n) ≡ false = differs n (get_or ns k 0) (above_at n ns k parts.0 (omega arith)) in
     rw other (edge_at ns es k parts.1 (omega arith) (omega arith))
   where
@@ -39,31 +39,31 @@ edge_at (n ∷ ns) (e ∷ es) (suc k) up same below =
     differs m n h = grind (arith, nat_tests)
 
 -- a sum over the passes of a walk is a sum over the places of its lines
-pub path_sum : (p : PieceValue) → KeepsPiece p → (f : Edge → ℕ) (walk : List Pass) (places : List ℕ)
-    → map (λ (pass : Pass). pass.line) walk ≡ lines_at p places → All (λ k. k < length p.lines) places
-    → pass_sum p.lines p.edges f walk ≡ place_sum f p.edges places
+pub path_sum : (p : PieceValue) → IsValidPiece p → (f : Edge → ℕ) (walk : List Pass) (places : List ℕ)
+    → map (λ (pass : Pass). pass.line) walk ≡ lines_at_indexes p places → All (λ k. k < length p.lines) places
+    → pass_sum p.lines p.edges f walk ≡ index_sum f p.edges places
 path_sum p kept f [] [] along there = refl
 path_sum p kept f [] (k ∷ places) along there = absurd (cc)
 path_sum p kept f (pass ∷ walk) [] along there = absurd (cc)
 path_sum p kept f (pass ∷ walk) (k ∷ places) along there =
     let first : pass.line ≡ get_or p.lines k 0 = cc in
-    let rest : map (λ (pass : Pass). pass.line) walk ≡ lines_at p places = cc in
+    let rest : map (λ (pass : Pass). pass.line) walk ≡ lines_at_indexes p places = cc in
     rw (
       first,
       edge_at p.lines p.edges k kept.rising kept.beside (All-head (λ k. k < length p.lines) k places there),
       path_sum p kept f walk places rest (All-tail (λ k. k < length p.lines) k places there),
     ) refl
 
-lost : (ns : List ℕ) (es : List Edge) (ps : List Pass) (to : ℕ) → walk_on ns es None ps ≡ Some to → ⊥
+lost : (ns : List ℕ) (es : List Edge) (ps : List Pass) (to : ℕ) → walk_end_from ns es None ps ≡ Some to → ⊥
 lost ns es [] to is = cc
 lost ns es (p ∷ ps) to is = lost ns es ps to is
 
 -- a junction is an end of an even number of passes, its ends of the walk counted with them
-pub walk_ends : (ns : List ℕ) (es : List Edge) (v : ℕ) (ps : List Pass) (at to : ℕ) → walk_on ns es (Some at) ps ≡ Some to
-    → ((pass_sum ns es (ends_at v) ps + bit (at == v)) + bit (to == v)) % 2 ≡ 0
+pub walk_ends : (ns : List ℕ) (es : List Edge) (v : ℕ) (ps : List Pass) (at to : ℕ) → walk_end_from ns es (Some at) ps ≡ Some to
+    → ((pass_sum ns es (edge_end_count v) ps + one_if (at == v)) + one_if (to == v)) % 2 ≡ 0
 walk_ends ns es v [] at to is =
     let same : at ≡ to = cc in
-    subst (λ (k : ℕ). ((0 + bit (at == v)) + bit (k == v)) % 2 ≡ 0) same (twice (bit (at == v)))
+    subst (λ (k : ℕ). ((0 + one_if (at == v)) + one_if (k == v)) % 2 ≡ 0) same (twice (one_if (at == v)))
   where
     twice : (k : ℕ) → ((0 + k) + k) % 2 ≡ 0
     twice k = omega arith
@@ -75,37 +75,41 @@ walk_ends ns es v (p ∷ ps) at to is = by_edge (edge_of ns es p.line) is (λ k.
     joined_back : (s i j t : ℕ) → ((s + j) + t) % 2 ≡ 0 → ((((j + i) + s) + i) + t) % 2 ≡ 0
     joined_back s i j t rest = omega arith
 
-    passed : (e : Edge) (back : Bool) → ((pass_sum ns es (ends_at v) ps + bit (end_of e back == v)) + bit (to == v)) % 2 ≡ 0
-        → (((ends_at v e + pass_sum ns es (ends_at v) ps) + bit (start_of e back == v)) + bit (to == v)) % 2 ≡ 0
-    passed e false rest = joined (pass_sum ns es (ends_at v) ps) (bit (e.a == v)) (bit (e.b == v)) (bit (to == v)) rest
-    passed e true rest = joined_back (pass_sum ns es (ends_at v) ps) (bit (e.b == v)) (bit (e.a == v)) (bit (to == v)) rest
+    passed : (e : Edge) (back : Bool) → ((pass_sum ns es (edge_end_count v) ps + one_if (pass_end e back == v)) + one_if (to == v)) % 2 ≡ 0
+        → (((edge_end_count v e + pass_sum ns es (edge_end_count v) ps) + one_if (pass_start e back == v)) + one_if (to == v)) % 2 ≡ 0
+    passed e false rest = joined (pass_sum ns es (edge_end_count v) ps) (one_if (e.a == v)) (one_if (e.b == v)) (one_if (to == v)) rest
+    passed e true rest = joined_back (pass_sum ns es (edge_end_count v) ps) (one_if (e.b == v)) (one_if (e.a == v)) (one_if (to == v)) rest
 
     same : (m n : ℕ) → (m == n) ≡ true → m ≡ n
     same m n is = grind (arith, nat_tests)
 
-    by_start : (e : Edge) (t : Bool) → (start_of e p.back == at) ≡ t → walk_on ns es (cond t (Some (end_of e p.back)) None) ps ≡ Some to
-        → ((k : ℕ) → walk_on ns es (Some k) ps ≡ Some to → ((pass_sum ns es (ends_at v) ps + bit (k == v)) + bit (to == v)) % 2 ≡ 0)
-        → (((ends_at v e + pass_sum ns es (ends_at v) ps) + bit (at == v)) + bit (to == v)) % 2 ≡ 0
+    by_start : (e : Edge) (t : Bool) → (pass_start e p.back == at) ≡ t
+        → walk_end_from ns es (cond t (Some (pass_end e p.back)) None) ps ≡ Some to
+        → ((k : ℕ) → walk_end_from ns es (Some k) ps ≡ Some to
+        → ((pass_sum ns es (edge_end_count v) ps + one_if (k == v)) + one_if (to == v)) % 2 ≡ 0)
+        → (((edge_end_count v e + pass_sum ns es (edge_end_count v) ps) + one_if (at == v)) + one_if (to == v)) % 2 ≡ 0
     by_start e true test is rest =
-        subst (λ (k : ℕ). (((ends_at v e + pass_sum ns es (ends_at v) ps) + bit (k == v)) + bit (to == v)) % 2 ≡ 0)
-        (same (start_of e p.back) at test)
-        (passed e p.back (rest (end_of e p.back) is))
+        subst (λ (k : ℕ). (((edge_end_count v e + pass_sum ns es (edge_end_count v) ps) + one_if (k == v)) + one_if (to == v)) % 2 ≡ 0)
+        (same (pass_start e p.back) at test)
+        (passed e p.back (rest (pass_end e p.back) is))
     by_start e false test is rest = absurd (lost ns es ps to is)
 
-    by_edge : (found : Option Edge) → walk_on ns es (after_edge found p.back at) ps ≡ Some to
-        → ((k : ℕ) → walk_on ns es (Some k) ps ≡ Some to → ((pass_sum ns es (ends_at v) ps + bit (k == v)) + bit (to == v)) % 2 ≡ 0)
-        → (((of_edge (ends_at v) found + pass_sum ns es (ends_at v) ps) + bit (at == v)) + bit (to == v)) % 2 ≡ 0
+    by_edge : (found : Option Edge) → walk_end_from ns es (after_edge found p.back at) ps ≡ Some to
+        → ((k : ℕ) → walk_end_from ns es (Some k) ps ≡ Some to
+        → ((pass_sum ns es (edge_end_count v) ps + one_if (k == v)) + one_if (to == v)) % 2 ≡ 0)
+        → (((edge_value (edge_end_count v) found + pass_sum ns es (edge_end_count v) ps) + one_if (at == v)) + one_if (to == v)) % 2 ≡ 0
     by_edge None is rest = absurd (lost ns es ps to is)
-    by_edge (Some e) is rest = by_start e (start_of e p.back == at) refl is rest
+    by_edge (Some e) is rest = by_start e (pass_start e p.back == at) refl is rest
 
 -- copies are no more than they cost
-pub up_within : (es : List Edge) (cs : List ℕ) → all_cost es ≡ true → length cs ≡ length es → add_up cs ≤ copies_sum cost_of es cs
+pub up_within : (es : List Edge) (cs : List ℕ) → all_costs_positive es ≡ true → length cs ≡ length es
+    → total_copies cs ≤ copies_sum edge_cost es cs
 up_within [] [] costs same = omega arith
 up_within [] (c ∷ cs) costs same = absurd (omega arith)
 up_within (e ∷ es) [] costs same = absurd (omega arith)
 up_within (e ∷ es) (c ∷ cs) costs same =
-    let parts = and_parts (nat_le 1 e.cost) (all_cost es) costs in
-    added c e.cost (add_up cs) (copies_sum cost_of es cs) (some e.cost parts.0) (up_within es cs parts.1 (omega arith))
+    let parts = and_parts (nat_le 1 e.cost) (all_costs_positive es) costs in
+    added c e.cost (total_copies cs) (copies_sum edge_cost es cs) (some e.cost parts.0) (up_within es cs parts.1 (omega arith))
   where
     some : (k : ℕ) → nat_le 1 k ≡ true → 1 ≤ k
     some k is = grind (arith, nat_tests)
@@ -116,17 +120,17 @@ up_within (e ∷ es) (c ∷ cs) costs same =
     added : (c k u v : ℕ) → 1 ≤ k → u ≤ v → c + u ≤ c * k + v
     added c k u v one rest = let more : c ≤ c * k = times c k one in omega arith
 
-cost_at_place : (es : List Edge) (k : ℕ) → all_cost es ≡ true → k < length es → 1 ≤ of_edge cost_of (slice_get es k)
+cost_at_place : (es : List Edge) (k : ℕ) → all_costs_positive es ≡ true → k < length es → 1 ≤ edge_value edge_cost (slice_get es k)
 cost_at_place [] k costs below = absurd (omega arith)
-cost_at_place (e ∷ es) zero costs below = some e.cost (and_parts (nat_le 1 e.cost) (all_cost es) costs).0
+cost_at_place (e ∷ es) zero costs below = some e.cost (and_parts (nat_le 1 e.cost) (all_costs_positive es) costs).0
   where
     some : (k : ℕ) → nat_le 1 k ≡ true → 1 ≤ k
     some k is = grind (arith, nat_tests)
-cost_at_place (e ∷ es) (suc k) costs below = cost_at_place es k (and_parts (nat_le 1 e.cost) (all_cost es) costs).1 (omega arith)
+cost_at_place (e ∷ es) (suc k) costs below = cost_at_place es k (and_parts (nat_le 1 e.cost) (all_costs_positive es) costs).1 (omega arith)
 
 -- places are no more than their lines cost
-pub places_within : (es : List Edge) (places : List ℕ) → all_cost es ≡ true → All (λ k. k < length es) places
-    → length places ≤ place_sum cost_of es places
+pub places_within : (es : List Edge) (places : List ℕ) → all_costs_positive es ≡ true → All (λ k. k < length es) places
+    → length places ≤ index_sum edge_cost es places
 places_within es [] costs there = omega arith
 places_within es (k ∷ places) costs there =
     let one = cost_at_place es k costs (All-head (λ k. k < length es) k places there) in
@@ -134,32 +138,33 @@ places_within es (k ∷ places) costs there =
     omega (arith, one, rest)
 
 -- the places of a path are there for its copies
-pub path_there : (p : PieceValue) → KeepsPiece p → (i j cost : ℕ) (places cs : List ℕ) → length cs ≡ length p.edges
+pub path_there : (p : PieceValue) → IsValidPiece p → (i j cost : ℕ) (places cs : List ℕ) → length cs ≡ length p.edges
     → IsPath p i j cost places → All (λ k. k < length cs) places
 path_there p kept i j cost places cs sized path = subst (λ (n : ℕ). All (λ k. k < n) places) (kept.beside ∙ sym sized) path.there
 
 -- and there is room for them
-pub path_room : (p : PieceValue) → KeepsPiece p → (i j cost : ℕ) (places cs : List ℕ) → length cs ≡ length p.edges
-    → IsPath p i j cost places → copies_sum cost_of p.edges cs + (cost + 0) < 2 ^ 32 → add_up cs + length places < 2 ^ 32
+pub path_room : (p : PieceValue) → IsValidPiece p → (i j cost : ℕ) (places cs : List ℕ) → length cs ≡ length p.edges
+    → IsPath p i j cost places → copies_sum edge_cost p.edges cs + (cost + 0) < 2 ^ 32 → total_copies cs + length places < 2 ^ 32
 path_room p kept i j cost places cs sized path few =
     let there : All (λ k. k < length p.edges) places = subst (λ (n : ℕ). All (λ k. k < n) places) kept.beside path.there in
     let up = up_within p.edges cs kept.costs sized in
     let long = places_within p.edges places kept.costs there in
-    let sum = path_sum p kept cost_of path.walk places path.along path.there in
+    let sum = path_sum p kept edge_cost path.walk places path.along path.there in
     omega (arith, up, long, sum, path.costs, few)
 
 -- copies for one pair
-pub adds_pair : (p : PieceValue) → KeepsPiece p → (rows : RowsValue) (q : Pair) (old new places : List ℕ) → length old ≡ length p.edges
+pub adds_pair : (p : PieceValue) → IsValidPiece p → (rows : RowsValue) (q : Pair) (old new places : List ℕ) → length old ≡ length p.edges
     → IsPath p (terminal_of rows q.a) (terminal_of rows q.b) (cost_at rows q.a (terminal_of rows q.b)) places
-    → AddsPlaces old places new → AddsPairs p rows (q ∷ []) old new
+    → AddsCopies old places new → AddsPairs p rows (q ∷ []) old new
 adds_pair p kept rows q old new places sized path adds = record {
   sized = adds.sized;
-  costs = costs (copies_sum cost_of p.edges new) (copies_sum cost_of p.edges old) (place_sum cost_of p.edges places)
+  costs = costs (copies_sum edge_cost p.edges new) (copies_sum edge_cost p.edges old) (index_sum edge_cost p.edges places)
       (cost_at rows q.a (terminal_of rows q.b))
-      (adds.sums cost_of p.edges (sym sized)) (sym (path_sum p kept cost_of path.walk places path.along path.there) ∙ path.costs);
-  ends = λ v. ends (copies_sum (ends_at v) p.edges new) (copies_sum (ends_at v) p.edges old) (place_sum (ends_at v) p.edges places)
-      (pass_sum p.lines p.edges (ends_at v) path.walk) (bit (terminal_of rows q.a == v)) (bit (terminal_of rows q.b == v))
-      (adds.sums (ends_at v) p.edges (sym sized)) (path_sum p kept (ends_at v) path.walk places path.along path.there)
+      (adds.sums edge_cost p.edges (sym sized)) (sym (path_sum p kept edge_cost path.walk places path.along path.there) ∙ path.costs);
+  ends = λ v. ends (copies_sum (edge_end_count v) p.edges new) (copies_sum (edge_end_count v) p.edges old)
+      (index_sum (edge_end_count v) p.edges places)
+      (pass_sum p.lines p.edges (edge_end_count v) path.walk) (one_if (terminal_of rows q.a == v)) (one_if (terminal_of rows q.b == v))
+      (adds.sums (edge_end_count v) p.edges (sym sized)) (path_sum p kept (edge_end_count v) path.walk places path.along path.there)
       (walk_ends p.lines p.edges v path.walk (terminal_of rows q.a) (terminal_of rows q.b) path.leads);
 }
   where
@@ -175,8 +180,9 @@ pub adds_more : (p : PieceValue) (rows : RowsValue) (q : Pair) (pairs : List Pai
 adds_more p rows q pairs old next new one rest = record {
   sized = rest.sized ∙ one.sized;
   costs = costs _ _ _ _ _ one.costs rest.costs;
-  ends = λ v. ends (copies_sum (ends_at v) p.edges new) (copies_sum (ends_at v) p.edges next) (copies_sum (ends_at v) p.edges old)
-      (bit (terminal_of rows q.a == v) + bit (terminal_of rows q.b == v)) (pair_ends rows v pairs) (one.ends v) (rest.ends v);
+  ends = λ v. ends (copies_sum (edge_end_count v) p.edges new) (copies_sum (edge_end_count v) p.edges next)
+      (copies_sum (edge_end_count v) p.edges old)
+      (one_if (terminal_of rows q.a == v) + one_if (terminal_of rows q.b == v)) (pair_ends rows v pairs) (one.ends v) (rest.ends v);
 }
   where
     costs : (n m o k u : ℕ) → m ≡ o + (k + 0) → n ≡ m + u → n ≡ o + (k + u)
@@ -186,7 +192,7 @@ adds_more p rows q pairs old next new one rest = record {
     ends n m o k u one rest = omega arith
 
 pub adds_no_pairs : (p : PieceValue) (rows : RowsValue) (cs : List ℕ) → AddsPairs p rows [] cs cs
-adds_no_pairs p rows cs = record { sized = refl; costs = omega arith; ends = λ v. even (copies_sum (ends_at v) p.edges cs) }
+adds_no_pairs p rows cs = record { sized = refl; costs = omega arith; ends = λ v. even (copies_sum (edge_end_count v) p.edges cs) }
   where
     even : (k : ℕ) → ((k + k) + 0) % 2 ≡ 0
     even k = omega arith

@@ -4,21 +4,21 @@ use Rattle.std.proofs.lemmas.List.{append-nil, append_assoc}
 use Rattle.std.proofs.lemmas.List.Elements.{All-head, All-tail}
 use Rattle.std.specs.List.{AllZip, concat}
 use Rattle.cut_certificate.specs.declared.certificate.PieceCert.{PieceCert}
-use Rattle.cut_certificate.specs.Bounds.{KeepsTotal}
-use Rattle.cut_certificate.specs.Certificates.{CanBeSpelled}
-use Rattle.cut_certificate.specs.Cuts.{total_of}
+use Rattle.cut_certificate.specs.PackingBounds.{BoundsTotal}
+use Rattle.cut_certificate.specs.Certificates.{HasCanonicalText}
+use Rattle.cut_certificate.specs.Cuts.{total_weight}
 use Rattle.line_graph.specs.declared.piece.Piece.{Piece}
-use Rattle.line_graph.specs.CutPieces.{AreCutFrom, graph_of, lines_of_pieces}
-use Rattle.line_graph.specs.Drawings.{DrawingValue, KeepsDrawing}
-use Rattle.line_graph.specs.KeptPieces.{KeepsPiece}
-use Rattle.line_graph.specs.PieceGraphs.{PieceValue, piece_of}
+use Rattle.line_graph.specs.PiecesOfDrawings.{ArePiecesOf, graph_of, lines_of_pieces}
+use Rattle.line_graph.specs.Drawings.{DrawingValue, KeepsDrawingLimits}
+use Rattle.line_graph.specs.ValidPieces.{IsValidPiece}
+use Rattle.line_graph.specs.PieceGraphs.{PieceValue, piece_graph}
 use Rattle.line_graph.specs.PieceWalks.{piece_cost, walk_cost}
 use Rattle.line_graph.specs.Runs.{AreWritable, commands_after, runs_of, sewn_design}
 use Rattle.line_graph.specs.SewnWalks.{FittingWalksAreSewable, PiecesKeepLimits}
 use Rattle.route_core.specs.declared.routed.Routed.{Routed}
-use Rattle.route_core.specs.PieceRoutes.{Proves}
-use Rattle.route_core.specs.RoutedPieces.{AreRouted, IsRouted}
-use Rattle.route_core.specs.Routes.{IsBest, IsRouteOver, walks_of}
+use Rattle.route_core.specs.PieceCertificates.{CertifiesLeastWalk}
+use Rattle.route_core.specs.RoutedPieceCertificates.{AreRouted, IsRoutedPiece}
+use Rattle.route_core.specs.Routes.{IsLeastPieceRoute, IsRouteOver, walks_of}
 use Rattle.route_core.specs.SewingSteps.{AllDrawn}
 use Rattle.route_core.proofs.SewnPieces.{Sewn, able, behind, front}
 
@@ -27,7 +27,7 @@ pub record LeftPieces (pieces : List Piece) (certs : List PieceCert) (rest : Lis
   pub whole : (more : List PieceCert) → AreRouted rest more → AreRouted pieces (certs ++ more)
 
 pub routes_on : (pieces left rest : List Piece) (certs next : List PieceCert) (piece : Piece) (cert : PieceCert) → left ≡ piece ∷ rest
-    → next ≡ certs ++ cert ∷ [] → Proves (graph_of piece) cert → CanBeSpelled cert → LeftPieces pieces certs left
+    → next ≡ certs ++ cert ∷ [] → CertifiesLeastWalk (graph_of piece) cert → HasCanonicalText cert → LeftPieces pieces certs left
     → LeftPieces pieces next rest
 routes_on pieces left rest certs next piece cert is put proved spelled l = record {
   whole = λ more. λ routed.
@@ -42,15 +42,15 @@ routed_all pieces left certs is l =
 
 -- all that is known of a piece and its certificate
 record Good (d : DrawingValue) (lines : List ℕ) (cert : PieceCert) : Type 0 where
-  best : IsBest d lines cert
+  best : IsLeastPieceRoute d lines cert
   sewn : Sewn d lines cert
 
-good : (d : DrawingValue) → KeepsDrawing d → FittingWalksAreSewable → KeepsTotal → (p : Piece) (cert : PieceCert)
+good : (d : DrawingValue) → KeepsDrawingLimits d → FittingWalksAreSewable → BoundsTotal → (p : Piece) (cert : PieceCert)
     → All (λ line. line < length d.lines) p.lines
-    → graph_of p ≡ piece_of d p.lines → IsRouted p cert → Good d p.lines cert
+    → graph_of p ≡ piece_graph d p.lines → IsRoutedPiece p cert → Good d p.lines cert
 good d keeps sews keeps_total p cert below is routed =
-    let proved = subst (λ (g : PieceValue). Proves g cert) is routed.proved in
-    let kept = subst KeepsPiece is p.kept in
+    let proved = subst (λ (g : PieceValue). CertifiesLeastWalk g cert) is routed.proved in
+    let kept = subst IsValidPiece is p.kept in
     let sewable = sews d p.lines cert.walk keeps below kept proved.fitting in
     record {
       best = record { proved = proved; penetrations = sewable.penetrations };
@@ -58,29 +58,30 @@ good d keeps sews keeps_total p cert below is routed =
         spelled = routed.spelled;
         sewable = sewable;
         below = below;
-        costs = few (total_of cert.cuts) cert.retraced (piece_cost (piece_of d p.lines)) (walk_cost (piece_of d p.lines) cert.walk)
-            (keeps_total (piece_of d p.lines) cert.cuts kept proved.packing) proved.total proved.retraced;
+        costs = few (total_weight cert.cuts) cert.retraced (piece_cost (piece_graph d p.lines))
+            (walk_cost (piece_graph d p.lines) cert.walk)
+            (keeps_total (piece_graph d p.lines) cert.cuts kept proved.packing) proved.total proved.retraced;
       };
     }
   where
     few : (t r c w : ℕ) → t ≤ 2 * c → t ≡ 2 * r → w ≡ c + r → w ≤ 2 * c
     few t r c w most is costs = omega arith
 
-all_good : (d : DrawingValue) → KeepsDrawing d → FittingWalksAreSewable → KeepsTotal → (pieces : List Piece) (certs : List PieceCert)
-    → All (λ line. line < length d.lines) (concat (lines_of_pieces pieces)) → All (λ (p : Piece). graph_of p ≡ piece_of d p.lines) pieces
+all_good : (d : DrawingValue) → KeepsDrawingLimits d → FittingWalksAreSewable → BoundsTotal → (pieces : List Piece) (certs : List PieceCert)
+    → All (λ line. line < length d.lines) (concat (lines_of_pieces pieces)) → All (λ (p : Piece). graph_of p ≡ piece_graph d p.lines) pieces
     → AreRouted pieces certs → AllZip (Good d) (lines_of_pieces pieces) certs
 all_good d keeps sews keeps_total [] [] below each routed = tt
 all_good d keeps sews keeps_total [] (c ∷ certs) below each routed = absurd routed
 all_good d keeps sews keeps_total (p ∷ pieces) [] below each routed = absurd routed
 all_good d keeps sews keeps_total (p ∷ pieces) (c ∷ certs) below each routed = (
   good d keeps sews keeps_total p c (front (length d.lines) p.lines (concat (lines_of_pieces pieces)) below)
-      (All-head (λ (p : Piece). graph_of p ≡ piece_of d p.lines) p pieces each) routed.0,
+      (All-head (λ (p : Piece). graph_of p ≡ piece_graph d p.lines) p pieces each) routed.0,
   all_good d keeps sews keeps_total pieces certs (behind (length d.lines) p.lines (concat (lines_of_pieces pieces)) below)
-      (All-tail (λ (p : Piece). graph_of p ≡ piece_of d p.lines) p pieces each) routed.1,
+      (All-tail (λ (p : Piece). graph_of p ≡ piece_graph d p.lines) p pieces each) routed.1,
 )
 
 best_of : (d : DrawingValue) (pieces : List (List ℕ)) (certs : List PieceCert) → AllZip (Good d) pieces certs
-    → AllZip (IsBest d) pieces certs
+    → AllZip (IsLeastPieceRoute d) pieces certs
 best_of d [] [] all = tt
 best_of d [] (c ∷ certs) all = absurd all
 best_of d (p ∷ pieces) [] all = absurd all
@@ -100,9 +101,9 @@ pub record Ready (d : DrawingValue) (pieces : List Piece) (certs : List PieceCer
   pub route : (routed : Routed) → routed.cert.pieces ≡ certs → routed.design ≡ sewn_design d (walks_of certs)
       → IsRouteOver d (lines_of_pieces pieces) routed
 
-pub ready : (d : DrawingValue) → KeepsDrawing d → FittingWalksAreSewable → PiecesKeepLimits → KeepsTotal
+pub ready : (d : DrawingValue) → KeepsDrawingLimits d → FittingWalksAreSewable → PiecesKeepLimits → BoundsTotal
     → (pieces : List Piece) (certs : List PieceCert)
-    → AreCutFrom d pieces → AreRouted pieces certs → Ready d pieces certs
+    → ArePiecesOf d pieces → AreRouted pieces certs → Ready d pieces certs
 ready d keeps sews limits keeps_total pieces certs cut routed =
     let all = all_good d keeps sews keeps_total pieces certs cut.are.there cut.each routed in
     let is = able d keeps limits (lines_of_pieces pieces) certs cut.are (sewn_of d (lines_of_pieces pieces) certs all) in
@@ -111,8 +112,8 @@ ready d keeps sews limits keeps_total pieces certs cut routed =
       room = is.room;
       route = λ r. λ same. λ design. record {
         pieces_are = cut.are;
-        best = subst (AllZip (IsBest d) (lines_of_pieces pieces)) (sym same) (best_of d (lines_of_pieces pieces) certs all);
-        spelled = subst (All CanBeSpelled) (sym same) is.spelled;
+        best = subst (AllZip (IsLeastPieceRoute d) (lines_of_pieces pieces)) (sym same) (best_of d (lines_of_pieces pieces) certs all);
+        spelled = subst (All HasCanonicalText) (sym same) is.spelled;
         writable = subst (λ (cs : List PieceCert). AreWritable d.step (runs_of d (walks_of cs))) (sym same) is.writable;
         design = design ∙ ap (λ (cs : List PieceCert). sewn_design d (walks_of cs)) (sym same);
       };

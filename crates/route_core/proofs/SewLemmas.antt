@@ -11,10 +11,10 @@ use Rattle.design_model.specs.declared.point.Point.{Point}
 use Rattle.design_model.specs.Designs.{DesignValue}
 use Rattle.line_graph.specs.Chains.{IsNeedlePoint}
 use Rattle.line_graph.specs.declared.pass.Pass.{Pass}
-use Rattle.line_graph.specs.Drawings.{DrawingValue, KeepsDrawing}
-use Rattle.line_graph.specs.Runs.{block_of_walk, commands_after, runs_of}
-use Rattle.line_graph.specs.Laws.{NeedlesLeadAlong}
-use Rattle.line_graph.specs.Walks.{needles_of, needles_of_pass, needles_of_walk}
+use Rattle.line_graph.specs.Drawings.{DrawingValue, KeepsDrawingLimits}
+use Rattle.line_graph.specs.Runs.{block_of_passes, commands_after, runs_of}
+use Rattle.line_graph.specs.LineNeedles.{NeedlesLeadAlong}
+use Rattle.line_graph.specs.Walks.{needles_of_line, needles_of_pass, needles_of_walk}
 use Rattle.route_core.specs.Routes.{walks_of}
 use Rattle.design_model.specs.LongerDesigns.{with_commands}
 use Rattle.route_core.specs.SewingSteps.{AllDrawn, AreDrawn, later_needles, run_commands}
@@ -49,11 +49,11 @@ dropped : (ps : List Point) → All IsNeedlePoint ps → All IsNeedlePoint (drop
 dropped [] all = all
 dropped (p ∷ ps) all = All-tail IsNeedlePoint p ps all
 
-pass_in_range : (d : DrawingValue) → KeepsDrawing d → NeedlesLeadAlong d → (pass : Pass) → pass.line < length d.lines
+pass_in_range : (d : DrawingValue) → KeepsDrawingLimits d → NeedlesLeadAlong d → (pass : Pass) → pass.line < length d.lines
     → All IsNeedlePoint (needles_of_pass d pass)
-pass_in_range d keeps law pass below = either (needles_of d pass.line) pass.back (law pass.line keeps below).along.in_range
+pass_in_range d keeps law pass below = either (needles_of_line d pass.line) pass.back (law pass.line keeps below).along.in_range
 
-later_in_range : (d : DrawingValue) → KeepsDrawing d → NeedlesLeadAlong d → (walk : List Pass) → AreDrawn d walk
+later_in_range : (d : DrawingValue) → KeepsDrawingLimits d → NeedlesLeadAlong d → (walk : List Pass) → AreDrawn d walk
     → All IsNeedlePoint (later_needles d walk)
 later_in_range d keeps law [] drawn = All-nil IsNeedlePoint
 later_in_range d keeps law (pass ∷ walk) drawn =
@@ -63,7 +63,7 @@ later_in_range d keeps law (pass ∷ walk) drawn =
     (later_in_range d keeps law walk (All-tail (λ (p : Pass). p.line < length d.lines) pass walk drawn)))
 
 -- the needles of walks along a drawing's lines are in range
-pub walk_in_range : (d : DrawingValue) → KeepsDrawing d → NeedlesLeadAlong d → (walk : List Pass) → AreDrawn d walk
+pub walk_in_range : (d : DrawingValue) → KeepsDrawingLimits d → NeedlesLeadAlong d → (walk : List Pass) → AreDrawn d walk
     → All IsNeedlePoint (needles_of_walk d walk)
 walk_in_range d keeps law [] drawn = All-nil IsNeedlePoint
 walk_in_range d keeps law (pass ∷ walk) drawn =
@@ -82,11 +82,11 @@ pub record Left (d : DrawingValue) (pieces : List PieceCert) (begun design : Des
 -- the commands of one walk, and those of the walks after it
 walk_first : (d : DrawingValue) (before : ℕ) (piece : PieceCert) (rest : List PieceCert)
     → commands_after before (runs_of d (walks_of (piece ∷ rest)))
-    ≡ run_commands before (block_of_walk d piece.walk) (needles_of_walk d piece.walk)
-    ++ commands_after (block_of_walk d piece.walk) (runs_of d (walks_of rest))
+    ≡ run_commands before (block_of_passes d piece.walk) (needles_of_walk d piece.walk)
+    ++ commands_after (block_of_passes d piece.walk) (runs_of d (walks_of rest))
 walk_first d before piece rest =
-    let later : List Command = commands_after (block_of_walk d piece.walk) (runs_of d (walks_of rest)) in
-    let stops : List Command = replicate (block_of_walk d piece.walk - before) Stop in
+    let later : List Command = commands_after (block_of_passes d piece.walk) (runs_of d (walks_of rest)) in
+    let stops : List Command = replicate (block_of_passes d piece.walk - before) Stop in
     let stitches : List Command = map (λ p. Stitch p) (needles_of_walk d piece.walk) in
     sym (append_assoc stops (stitches ++ Trim ∷ []) later
     ∙ ap (λ (cs : List Command). stops ++ cs) (append_assoc stitches (Trim ∷ []) later))
@@ -94,25 +94,25 @@ walk_first d before piece rest =
 pub room_for : (d : DrawingValue) (pieces : List PieceCert) (begun design : DesignValue) (before : ℕ) (left rest : List PieceCert)
     (piece : PieceCert) → left ≡ piece ∷ rest
     → Left d pieces begun design before left
-    → length design.commands + length (run_commands before (block_of_walk d piece.walk) (needles_of_walk d piece.walk)) ≤ 1000000
+    → length design.commands + length (run_commands before (block_of_passes d piece.walk) (needles_of_walk d piece.walk)) ≤ 1000000
 room_for d pieces begun design before left rest piece is l =
     omega (
       arith,
       l.room,
       ap (λ (ps : List PieceCert). length (commands_after before (runs_of d (walks_of ps)))) is,
       ap (λ (cs : List Command). length cs) (walk_first d before piece rest),
-      length-append (run_commands before (block_of_walk d piece.walk) (needles_of_walk d piece.walk))
-          (commands_after (block_of_walk d piece.walk) (runs_of d (walks_of rest))),
+      length-append (run_commands before (block_of_passes d piece.walk) (needles_of_walk d piece.walk))
+          (commands_after (block_of_passes d piece.walk) (runs_of d (walks_of rest))),
     )
 
 pub sews_on : (d : DrawingValue) (pieces : List PieceCert) (begun design next : DesignValue) (before block : ℕ) (left rest : List PieceCert)
     (piece : PieceCert) → left ≡ piece ∷ rest
-    → block ≡ block_of_walk d piece.walk
-    → next ≡ with_commands design (run_commands before (block_of_walk d piece.walk) (needles_of_walk d piece.walk))
+    → block ≡ block_of_passes d piece.walk
+    → next ≡ with_commands design (run_commands before (block_of_passes d piece.walk) (needles_of_walk d piece.walk))
     → Left d pieces begun design before left → Left d pieces begun next block rest
 sews_on d pieces begun design next before block left rest piece is at put l =
-    let run = run_commands before (block_of_walk d piece.walk) (needles_of_walk d piece.walk) in
-    let later = commands_after (block_of_walk d piece.walk) (runs_of d (walks_of rest)) in
+    let run = run_commands before (block_of_passes d piece.walk) (needles_of_walk d piece.walk) in
+    let later = commands_after (block_of_passes d piece.walk) (runs_of d (walks_of rest)) in
     let all : commands_after before (runs_of d (walks_of left)) ≡ run ++ later
     = ap (λ (ps : List PieceCert). commands_after before (runs_of d (walks_of ps))) is ∙ walk_first d before piece rest in
     rw (at, put) (record {

@@ -5,12 +5,12 @@ use Rattle.std.proofs.lemmas.List.Elements.{All-cons, All-contains, All-head, Al
 use Rattle.std.proofs.lemmas.List.Sums.{sum_by-cons}
 use Rattle.std.specs.List.{AllZip}
 use Rattle.cut_certificate.specs.declared.certificate.PieceCert.{PieceCert}
-use Rattle.cut_certificate.specs.Certificates.{CanBeSpelled}
+use Rattle.cut_certificate.specs.Certificates.{HasCanonicalText}
 use Rattle.design_model.specs.declared.command.Command.TheVariants.{Stitch, Stop, Trim}
 use Rattle.design_model.specs.declared.point.Point.{Point}
 use Rattle.line_graph.specs.declared.pass.Pass.{Pass}
-use Rattle.line_graph.specs.Drawings.{DrawingValue, KeepsDrawing}
-use Rattle.line_graph.specs.PieceGraphs.{piece_of}
+use Rattle.line_graph.specs.Drawings.{DrawingValue, KeepsDrawingLimits}
+use Rattle.line_graph.specs.PieceGraphs.{piece_graph}
 use Rattle.line_graph.specs.Pieces.{ArePieces}
 use Rattle.line_graph.specs.PieceWalks.{piece_cost, walk_cost}
 use Rattle.line_graph.specs.Runs.{AreNear, AreWritable, Run, commands_after, run_of, runs_of, stops_after}
@@ -21,10 +21,10 @@ use Rattle.route_core.specs.SewingSteps.{AllDrawn, AreDrawn}
 
 -- the walk of a piece can be sewn and printed, and costs no more than the lines twice
 pub record Sewn (d : DrawingValue) (lines : List ℕ) (cert : PieceCert) : Type 0 where
-  pub spelled : CanBeSpelled cert
+  pub spelled : HasCanonicalText cert
   pub sewable : IsSewable d lines cert.walk
   pub below : All (λ line. line < length d.lines) lines
-  pub costs : walk_cost (piece_of d lines) cert.walk ≤ 2 * piece_cost (piece_of d lines)
+  pub costs : walk_cost (piece_graph d lines) cert.walk ≤ 2 * piece_cost (piece_graph d lines)
 
 -- the lines of the first piece, and of those after it
 pub front : (n : ℕ) (xs ys : List ℕ) → All (λ line. line < n) (xs ++ ys) → All (λ line. line < n) xs
@@ -37,11 +37,12 @@ pub behind : (n : ℕ) (xs ys : List ℕ) → All (λ line. line < n) (xs ++ ys)
 behind n [] ys all = all
 behind n (x ∷ xs) ys all = behind n xs ys (All-tail (λ line. line < n) x (xs ++ ys) all)
 
-spelled_of : (d : DrawingValue) (pieces : List (List ℕ)) (certs : List PieceCert) → AllZip (Sewn d) pieces certs → All CanBeSpelled certs
-spelled_of d [] [] all = All-nil CanBeSpelled
+spelled_of : (d : DrawingValue) (pieces : List (List ℕ)) (certs : List PieceCert) → AllZip (Sewn d) pieces certs
+    → All HasCanonicalText certs
+spelled_of d [] [] all = All-nil HasCanonicalText
 spelled_of d [] (c ∷ certs) all = absurd all
 spelled_of d (p ∷ pieces) [] all = absurd all
-spelled_of d (p ∷ pieces) (c ∷ certs) all = All-cons CanBeSpelled c certs all.0.spelled (spelled_of d pieces certs all.1)
+spelled_of d (p ∷ pieces) (c ∷ certs) all = All-cons HasCanonicalText c certs all.0.spelled (spelled_of d pieces certs all.1)
 
 along_of : (d : DrawingValue) (pieces : List (List ℕ)) (certs : List PieceCert) → AllZip (Sewn d) pieces certs
     → AllZip GoesAlong pieces (walks_of certs)
@@ -81,19 +82,19 @@ drawn_of d (p ∷ pieces) (c ∷ certs) all =
 -- the needles are at most twice the cost of the lines, and one for each piece
 needles_few : (d : DrawingValue) (pieces : List (List ℕ)) (certs : List PieceCert) → AllZip (Sewn d) pieces certs
     → sum_by (λ (run : Run). length run.needles) (runs_of d (walks_of certs))
-    ≤ 2 * sum_by (λ lines. piece_cost (piece_of d lines)) pieces + length pieces
+    ≤ 2 * sum_by (λ lines. piece_cost (piece_graph d lines)) pieces + length pieces
 needles_few d [] [] all = omega arith
 needles_few d [] (c ∷ certs) all = absurd all
 needles_few d (p ∷ pieces) [] all = absurd all
 needles_few d (p ∷ pieces) (c ∷ certs) all =
-    added (length (needles_of_walk d c.walk)) (walk_cost (piece_of d p) c.walk) (piece_cost (piece_of d p))
-    (sum_by (λ (run : Run). length run.needles) (runs_of d (walks_of certs))) (sum_by (λ lines. piece_cost (piece_of d lines)) pieces)
+    added (length (needles_of_walk d c.walk)) (walk_cost (piece_graph d p) c.walk) (piece_cost (piece_graph d p))
+    (sum_by (λ (run : Run). length run.needles) (runs_of d (walks_of certs))) (sum_by (λ lines. piece_cost (piece_graph d lines)) pieces)
     (length pieces)
     (sum_by (λ (run : Run). length run.needles) (runs_of d (walks_of (c ∷ certs))))
-    (sum_by (λ lines. piece_cost (piece_of d lines)) (p ∷ pieces))
+    (sum_by (λ lines. piece_cost (piece_graph d lines)) (p ∷ pieces))
     all.0.sewable.penetrations all.0.costs (needles_few d pieces certs all.1)
     (sum_by-cons (λ (run : Run). length run.needles) (run_of d c.walk) (runs_of d (walks_of certs)))
-    (sum_by-cons (λ lines. piece_cost (piece_of d lines)) p pieces)
+    (sum_by-cons (λ lines. piece_cost (piece_graph d lines)) p pieces)
   where
     added : (n w c s t k u v : ℕ) → n ≡ w + 1 → w ≤ 2 * c → s ≤ 2 * t + k → u ≡ n + s → v ≡ c + t → u ≤ 2 * v + suc k
     added n w c s t k u v a b d e f = omega arith
@@ -105,7 +106,7 @@ runs_count d [] (c ∷ certs) all = absurd all
 runs_count d (p ∷ pieces) [] all = absurd all
 runs_count d (p ∷ pieces) (c ∷ certs) all = ap (λ (n : ℕ). suc n) (runs_count d pieces certs all.1)
 
-writable : (d : DrawingValue) → KeepsDrawing d → (pieces : List (List ℕ)) (certs : List PieceCert) → ArePiecesWithin d pieces
+writable : (d : DrawingValue) → KeepsDrawingLimits d → (pieces : List (List ℕ)) (certs : List PieceCert) → ArePiecesWithin d pieces
     → AllZip (Sewn d) pieces certs
     → AreWritable d.step (runs_of d (walks_of certs))
 writable d keeps pieces certs within all = record {
@@ -134,10 +135,11 @@ commands_count block (run ∷ rest) =
 pub record Able (d : DrawingValue) (certs : List PieceCert) : Type 0 where
   pub drawn : AllDrawn d certs
   pub room : length (commands_after 0 (runs_of d (walks_of certs))) ≤ 1000000
-  pub spelled : All CanBeSpelled certs
+  pub spelled : All HasCanonicalText certs
   pub writable : AreWritable d.step (runs_of d (walks_of certs))
 
-pub able : (d : DrawingValue) → KeepsDrawing d → PiecesKeepLimits → (pieces : List (List ℕ)) (certs : List PieceCert) → ArePieces d pieces
+pub able : (d : DrawingValue) → KeepsDrawingLimits d → PiecesKeepLimits → (pieces : List (List ℕ)) (certs : List PieceCert)
+    → ArePieces d pieces
     → AllZip (Sewn d) pieces certs → Able d certs
 able d keeps limits pieces certs are all =
     let is : AreWritable d.step (runs_of d (walks_of certs)) = writable d keeps pieces certs (limits d pieces keeps are) all in

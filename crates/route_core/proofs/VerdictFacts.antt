@@ -15,7 +15,7 @@ use Rattle.line_graph.specs.Drawings.{DrawingValue}
 use Rattle.route_core.specs.declared.verdict.Reason.TheVariants as reason
 use Rattle.route_core.specs.declared.verdict.Verdict.{Verdict}
 use Rattle.route_core.specs.declared.verdict.Verdict.TheVariants as verdict
-use Rattle.route_core.specs.ActOrder.{first_difference}
+use Rattle.route_core.specs.ActOrder.{first_differing_act}
 use Rattle.route_core.specs.Verdicts.{verdict_of}
 
 abbrev at : ℕ → Point
@@ -25,34 +25,34 @@ at x = record { x = pos x; y = pos 0 }
 abbrev needle : ℕ → Act
 needle x = act.Needle (at x) false
 
-pub known_same : first_difference 1 (needle 3 ∷ act.Trim ∷ act.Stop ∷ []) (needle 3 ∷ act.Trim ∷ act.Stop ∷ []) ≡ None
+pub known_same : first_differing_act 1 (needle 3 ∷ act.Trim ∷ act.Stop ∷ []) (needle 3 ∷ act.Trim ∷ act.Stop ∷ []) ≡ None
 known_same = refl
 
-pub known_point : first_difference 1 (needle 3 ∷ needle 4 ∷ []) (needle 3 ∷ needle 5 ∷ []) ≡ Some 2
+pub known_point : first_differing_act 1 (needle 3 ∷ needle 4 ∷ []) (needle 3 ∷ needle 5 ∷ []) ≡ Some 2
 known_point = refl
 
-pub known_float : first_difference 1 (act.Needle (at 3) true ∷ []) (needle 3 ∷ []) ≡ Some 1
+pub known_float : first_differing_act 1 (act.Needle (at 3) true ∷ []) (needle 3 ∷ []) ≡ Some 1
 known_float = refl
 
-pub known_sewn : first_difference 1 (needle 3 ∷ []) (act.Needle (at 3) true ∷ []) ≡ Some 1
+pub known_sewn : first_differing_act 1 (needle 3 ∷ []) (act.Needle (at 3) true ∷ []) ≡ Some 1
 known_sewn = refl
 
-pub known_floats : first_difference 1 (act.Needle (at 3) true ∷ []) (act.Needle (at 3) true ∷ []) ≡ None
+pub known_floats : first_differing_act 1 (act.Needle (at 3) true ∷ []) (act.Needle (at 3) true ∷ []) ≡ None
 known_floats = refl
 
 -- no two of the three kinds are the same
 abbrev alone : Act → Act → Option ℕ
-alone a b = first_difference 1 (a ∷ []) (b ∷ [])
+alone a b = first_differing_act 1 (a ∷ []) (b ∷ [])
 
 pub known_kinds : alone (needle 3) act.Trim ∷ alone (needle 3) act.Stop ∷ alone act.Trim (needle 3) ∷ alone act.Trim act.Stop
     ∷ alone act.Stop (needle 3) ∷ alone act.Stop act.Trim ∷ [] ≡ replicate 6 (Some 1)
 known_kinds = refl
 
 -- the act after the shorter list
-pub known_short : first_difference 1 (needle 3 ∷ []) (needle 3 ∷ act.Trim ∷ []) ≡ Some 2
+pub known_short : first_differing_act 1 (needle 3 ∷ []) (needle 3 ∷ act.Trim ∷ []) ≡ Some 2
 known_short = refl
 
-pub known_long : first_difference 1 (needle 3 ∷ act.Trim ∷ act.Stop ∷ []) (needle 3 ∷ act.Trim ∷ []) ≡ Some 3
+pub known_long : first_differing_act 1 (needle 3 ∷ act.Trim ∷ act.Stop ∷ []) (needle 3 ∷ act.Trim ∷ []) ≡ Some 3
 known_long = refl
 
 -- a stroke of four steps

@@ -7,22 +7,22 @@ use Rattle.std.specs.List.{AllZip, concat}
 use Rattle.cut_certificate.specs.declared.certificate.PieceCert.{PieceCert}
 use Rattle.cut_certificate.specs.declared.faults.CutFault.{CutFault}
 use Rattle.cut_certificate.specs.declared.faults.WalkFault.{WalkFault}
-use Rattle.cut_certificate.specs.Bounds.{BoundsWalks, ProvesLeast}
+use Rattle.cut_certificate.specs.PackingBounds.{BoundsWalks, ProvesLeast}
 use Rattle.cut_certificate.specs.CutFaults.{cuts_fault}
-use Rattle.cut_certificate.specs.Cuts.{total_of}
-use Rattle.cut_certificate.specs.FaultLaws.{CutFaultsAreExact, WalkFaultsAreExact}
+use Rattle.cut_certificate.specs.Cuts.{total_weight}
+use Rattle.cut_certificate.specs.FaultTheorems.{CutFaultsAreExact, WalkFaultsAreExact}
 use Rattle.cut_certificate.specs.Faults.{first_fault}
 use Rattle.cut_certificate.specs.Packings.{IsOddCut}
 use Rattle.cut_certificate.specs.WalkFaults.{walk_fault}
-use Rattle.design_model.specs.Acts.{acts_of, bare}
+use Rattle.design_model.specs.Acts.{acts_of, acts_without_numbers}
 use Rattle.design_model.specs.Designs.{DesignValue}
 use Rattle.line_graph.specs.declared.pass.Pass.{Pass}
 use Rattle.line_graph.specs.declared.piece.Piece.{Piece}
-use Rattle.line_graph.specs.CutPieces.{AreCutFrom, graph_of, lines_of_pieces}
-use Rattle.line_graph.specs.Drawings.{DrawingValue, KeepsDrawing}
-use Rattle.line_graph.specs.KeptPieces.{KeepsPiece}
-use Rattle.line_graph.specs.PieceGraphs.{PieceValue, piece_of}
-use Rattle.line_graph.specs.PieceWalks.{IsLeast, fits, piece_cost, walk_cost}
+use Rattle.line_graph.specs.PiecesOfDrawings.{ArePiecesOf, graph_of, lines_of_pieces}
+use Rattle.line_graph.specs.Drawings.{DrawingValue, KeepsDrawingLimits}
+use Rattle.line_graph.specs.ValidPieces.{IsValidPiece}
+use Rattle.line_graph.specs.PieceGraphs.{PieceValue, piece_graph}
+use Rattle.line_graph.specs.PieceWalks.{IsLeastWalk, is_fitting_walk, piece_cost, walk_cost}
 use Rattle.line_graph.specs.Runs.{runs_of, sewn_acts}
 use Rattle.line_graph.specs.SewnWalks.{ArePiecesWithin, FittingWalksAreSewable, PiecesKeepLimits}
 use Rattle.route_core.specs.declared.verdict.Reason.{Reason}
@@ -32,7 +32,7 @@ use Rattle.route_core.specs.declared.verdict.Verdict.TheVariants as verdict
 use Rattle.route_core.proofs.SameActs.{no_difference, none_with_itself}
 use Rattle.route_core.specs.Routes.{walks_of}
 use Rattle.route_core.specs.SewingSteps.{AllDrawn, AreDrawn}
-use Rattle.route_core.specs.Verdicts.{AreRight, IsRight, IsShort, IsVerdictOver, SewsLeast, acts_reason, cost_above, count_reason, cuts_reason, difference_of, piece_reason, pieces_reason, reason_of, retraced_reason, verdict_by, walk_reason}
+use Rattle.route_core.specs.Verdicts.{IsCorrectRoute, IsCorrectPieceCert, HasShortLists, IsVerdictOver, SewsLeast, acts_reason, cost_above, count_reason, cuts_reason, difference_of, piece_reason, pieces_reason, reason_of, retraced_reason, verdict_of_reason, walk_reason}
 
 -- one piece on
 pub reasons_next : (pieces rest : List Piece) (certs more : List PieceCert) (p : Piece) (cert : PieceCert) (number : ℕ)
@@ -48,11 +48,11 @@ pub reasons_found : (pieces rest : List Piece) (certs more : List PieceCert) (p 
     → piece_reason (graph_of p) number cert ≡ Some found → whole ≡ Some found
 reasons_found pieces rest certs more p cert number whole found is are told some = sym (rw (is, are, some) at told)
 
-pub short_rest : (certs more : List PieceCert) (cert : PieceCert) → certs ≡ cert ∷ more → All IsShort certs → All IsShort more
-short_rest certs more cert is all = All-tail IsShort cert more (subst (All IsShort) is all)
+pub short_rest : (certs more : List PieceCert) (cert : PieceCert) → certs ≡ cert ∷ more → All HasShortLists certs → All HasShortLists more
+short_rest certs more cert is all = All-tail HasShortLists cert more (subst (All HasShortLists) is all)
 
-pub short_first : (certs more : List PieceCert) (cert : PieceCert) → certs ≡ cert ∷ more → All IsShort certs → IsShort cert
-short_first certs more cert is all = All-head IsShort cert more (subst (All IsShort) is all)
+pub short_first : (certs more : List PieceCert) (cert : PieceCert) → certs ≡ cert ∷ more → All HasShortLists certs → HasShortLists cert
+short_first certs more cert is all = All-head HasShortLists cert more (subst (All HasShortLists) is all)
 
 -- two are none where neither is one
 both_none : {F : Type 0} (first rest : Option F) → first_fault first rest ≡ None → (first ≡ None) × (rest ≡ None)
@@ -82,7 +82,7 @@ tested : (m n : ℕ) → m ≡ n → (m == n) ≡ true
 tested m n is = grind (arith, nat_tests)
 
 -- a fitting walk costs no less than the lines
-costs_more : BoundsWalks → (p : PieceValue) (cert : PieceCert) → KeepsPiece p → fits p cert.walk ≡ true
+costs_more : BoundsWalks → (p : PieceValue) (cert : PieceCert) → IsValidPiece p → is_fitting_walk p cert.walk ≡ true
     → piece_cost p ≤ walk_cost p cert.walk
 costs_more bounds p cert keeps fit =
     half (piece_cost p) (walk_cost p cert.walk) (bounds p [] cert.walk keeps
@@ -92,15 +92,15 @@ costs_more bounds p cert keeps fit =
     half m n h = omega arith
 
 -- a piece without a reason is right
-piece_right : WalkFaultsAreExact → CutFaultsAreExact → BoundsWalks → (p : PieceValue) → KeepsPiece p → (number : ℕ) (cert : PieceCert)
-    → piece_reason p number cert ≡ None → IsRight p cert
+piece_right : WalkFaultsAreExact → CutFaultsAreExact → BoundsWalks → (p : PieceValue) → IsValidPiece p → (number : ℕ) (cert : PieceCert)
+    → piece_reason p number cert ≡ None → IsCorrectPieceCert p cert
 piece_right walks cuts bounds p keeps number cert none =
     let first = both_none (walk_reason number (walk_fault p cert.walk))
     (first_fault (retraced_reason number cert.retraced (cost_above p cert))
     (cuts_reason number (cuts_fault p cert.retraced cert.cuts))) none in
     let second = both_none (retraced_reason number cert.retraced (cost_above p cert))
     (cuts_reason number (cuts_fault p cert.retraced cert.cuts)) first.1 in
-    let fit : fits p cert.walk ≡ true = (walks p cert.walk keeps).0 (walk_none number (walk_fault p cert.walk) first.0) in
+    let fit : is_fitting_walk p cert.walk ≡ true = (walks p cert.walk keeps).0 (walk_none number (walk_fault p cert.walk) first.0) in
     let packing = (cuts p cert.retraced cert.cuts keeps).0 (cuts_none number (cuts_fault p cert.retraced cert.cuts) second.1) in
     let said : cert.retraced ≡ cost_above p cert = equal cert.retraced (cost_above p cert)
     (test_none (cert.retraced == cost_above p cert) (reason.Retraced number cert.retraced (cost_above p cert)) second.0) in
@@ -115,8 +115,8 @@ piece_right walks cuts bounds p keeps number cert none =
     above w c r less is = omega arith
 
 -- and a right one has none
-piece_told : WalkFaultsAreExact → CutFaultsAreExact → (p : PieceValue) → KeepsPiece p → (number : ℕ) (cert : PieceCert)
-    → IsRight p cert → piece_reason p number cert ≡ None
+piece_told : WalkFaultsAreExact → CutFaultsAreExact → (p : PieceValue) → IsValidPiece p → (number : ℕ) (cert : PieceCert)
+    → IsCorrectPieceCert p cert → piece_reason p number cert ≡ None
 piece_told walks cuts p keeps number cert right =
     let said : (cert.retraced == cost_above p cert) ≡ true = tested cert.retraced (cost_above p cert)
     (below (walk_cost p cert.walk) (piece_cost p) cert.retraced right.retraced) in
@@ -127,7 +127,7 @@ piece_told walks cuts p keeps number cert right =
 
 -- the certificate of the piece is correct
 abbrev RightOf : Piece → PieceCert → Type 0
-RightOf p cert = IsRight (graph_of p) cert
+RightOf p cert = IsCorrectPieceCert (graph_of p) cert
 
 pieces_right : WalkFaultsAreExact → CutFaultsAreExact → BoundsWalks → (pieces : List Piece) (certs : List PieceCert) (number : ℕ)
     → length certs ≡ length pieces → pieces_reason number (map graph_of pieces) certs ≡ None → AllZip RightOf pieces certs
@@ -151,12 +151,12 @@ pieces_told walks cuts (p ∷ pieces) (c ∷ certs) number right =
 
 -- each walk of right pieces is least
 least_of : ProvesLeast → (pieces : List Piece) (certs : List PieceCert) → AllZip RightOf pieces certs
-    → AllZip (λ (p : Piece) (cert : PieceCert). IsLeast (graph_of p) cert.walk) pieces certs
+    → AllZip (λ (p : Piece) (cert : PieceCert). IsLeastWalk (graph_of p) cert.walk) pieces certs
 least_of proves [] [] right = tt
 least_of proves [] (c ∷ certs) right = absurd right
 least_of proves (p ∷ pieces) [] right = absurd right
 least_of proves (p ∷ pieces) (c ∷ certs) right = (
-  proves (graph_of p) c.cuts c.walk p.kept right.0.packing (twice (total_of c.cuts) c.retraced (piece_cost (graph_of p))
+  proves (graph_of p) c.cuts c.walk p.kept right.0.packing (twice (total_weight c.cuts) c.retraced (piece_cost (graph_of p))
       (walk_cost (graph_of p) c.walk) right.0.total right.0.retraced),
   least_of proves pieces certs right.1,
 )
@@ -166,11 +166,11 @@ least_of proves (p ∷ pieces) (c ∷ certs) right = (
 
 -- a piece of a drawing is the graph of its lines
 abbrev IsCut : DrawingValue → Piece → Type 0
-IsCut d p = graph_of p ≡ piece_of d p.lines
+IsCut d p = graph_of p ≡ piece_graph d p.lines
 
 to_lines : (d : DrawingValue) (R : PieceValue → PieceCert → Type 0) (pieces : List Piece) (certs : List PieceCert) → All (IsCut d) pieces
     → AllZip (λ (p : Piece) cert. R (graph_of p) cert) pieces certs
-    → AllZip (λ lines cert. R (piece_of d lines) cert) (lines_of_pieces pieces) certs
+    → AllZip (λ lines cert. R (piece_graph d lines) cert) (lines_of_pieces pieces) certs
 to_lines d R [] [] each all = tt
 to_lines d R [] (c ∷ certs) each all = absurd all
 to_lines d R (p ∷ pieces) [] each all = absurd all
@@ -182,7 +182,7 @@ to_lines d R (p ∷ pieces) (c ∷ certs) each all = (
 
 from_lines : (d : DrawingValue) (R : PieceValue → PieceCert → Type 0) (pieces : List Piece) (certs : List PieceCert)
     → All (IsCut d) pieces
-    → AllZip (λ lines cert. R (piece_of d lines) cert) (lines_of_pieces pieces) certs
+    → AllZip (λ lines cert. R (piece_graph d lines) cert) (lines_of_pieces pieces) certs
     → AllZip (λ (p : Piece) cert. R (graph_of p) cert) pieces certs
 from_lines d R [] [] each all = tt
 from_lines d R [] (c ∷ certs) each all = absurd all
@@ -193,11 +193,11 @@ from_lines d R (p ∷ pieces) (c ∷ certs) each all = (
 )
 
 graphs_are : (d : DrawingValue) (pieces : List Piece) → All (IsCut d) pieces
-    → map graph_of pieces ≡ map (piece_of d) (lines_of_pieces pieces)
+    → map graph_of pieces ≡ map (piece_graph d) (lines_of_pieces pieces)
 graphs_are d [] each = refl
 graphs_are d (p ∷ pieces) each =
     ap (λ (g : PieceValue). g ∷ map graph_of pieces) (All-head (IsCut d) p pieces each)
-    ∙ ap (λ (gs : List PieceValue). piece_of d p.lines ∷ gs) (graphs_are d pieces (All-tail (IsCut d) p pieces each))
+    ∙ ap (λ (gs : List PieceValue). piece_graph d p.lines ∷ gs) (graphs_are d pieces (All-tail (IsCut d) p pieces each))
 
 -- right walks go along lines of the drawing
 along : (d : DrawingValue) (p : Piece) (walk : List Pass) → All (λ line. line < length d.lines) p.lines
@@ -209,7 +209,7 @@ along d p (q ∷ walk) below there =
     (All-head (λ (pass : Pass). Contains p.lines pass.line) q walk there))
     (along d p walk below (All-tail (λ (pass : Pass). Contains p.lines pass.line) q walk there))
 
-all_along : (d : DrawingValue) → KeepsDrawing d → FittingWalksAreSewable → WalkFaultsAreExact
+all_along : (d : DrawingValue) → KeepsDrawingLimits d → FittingWalksAreSewable → WalkFaultsAreExact
     → (pieces : List Piece) (certs : List PieceCert) (number : ℕ)
     → All (λ line. line < length d.lines) (concat (lines_of_pieces pieces)) → All (IsCut d) pieces
     → length certs ≡ length pieces → pieces_reason number (map graph_of pieces) certs ≡ None → AllDrawn d certs
@@ -221,11 +221,11 @@ all_along d keeps sews walks (p ∷ pieces) (c ∷ certs) number below each long
     let first = both_none (walk_reason number (walk_fault (graph_of p) c.walk))
     (first_fault (retraced_reason number c.retraced (cost_above (graph_of p) c))
     (cuts_reason number (cuts_fault (graph_of p) c.retraced c.cuts))) both.0 in
-    let fit : fits (graph_of p) c.walk ≡ true = (walks (graph_of p) c.walk p.kept).0
+    let fit : is_fitting_walk (graph_of p) c.walk ≡ true = (walks (graph_of p) c.walk p.kept).0
     (walk_none number (walk_fault (graph_of p) c.walk) first.0) in
     let is = All-head (IsCut d) p pieces each in
-    let sewable = sews d p.lines c.walk keeps (front p.lines (concat (lines_of_pieces pieces)) below) (subst KeepsPiece is p.kept)
-    (subst (λ (g : PieceValue). fits g c.walk ≡ true) is fit) in
+    let sewable = sews d p.lines c.walk keeps (front p.lines (concat (lines_of_pieces pieces)) below) (subst IsValidPiece is p.kept)
+    (subst (λ (g : PieceValue). is_fitting_walk g c.walk ≡ true) is fit) in
     All-cons (λ (piece : PieceCert). AreDrawn d piece.walk) c certs
     (along d p c.walk (front p.lines (concat (lines_of_pieces pieces)) below) sewable.there)
     (all_along d keeps sews walks pieces certs (number + 1) (behind p.lines (concat (lines_of_pieces pieces)) below)
@@ -245,15 +245,16 @@ count_none : (found drawn : ℕ) → count_reason found drawn ≡ None → found
 count_none found drawn is = equal found drawn (test_none (found == drawn) (reason.Pieces found drawn) is)
 
 -- certificates without a fault of a piece have walks along the drawing's lines
-pub drawn_right : (d : DrawingValue) (pieces : List Piece) (certs : List PieceCert) → KeepsDrawing d → FittingWalksAreSewable
+pub drawn_right : (d : DrawingValue) (pieces : List Piece) (certs : List PieceCert) → KeepsDrawingLimits d → FittingWalksAreSewable
     → WalkFaultsAreExact
-    → AreCutFrom d pieces → count_reason (length certs) (length pieces) ≡ None → pieces_reason 1 (map graph_of pieces) certs ≡ None
+    → ArePiecesOf d pieces → count_reason (length certs) (length pieces) ≡ None → pieces_reason 1 (map graph_of pieces) certs ≡ None
     → AllDrawn d certs
 drawn_right d pieces certs keeps sews walks cut count none =
     all_along d keeps sews walks pieces certs 1 cut.are.there cut.each (count_none (length certs) (length pieces) count) none
 
 -- a drawing has few pieces
-pub pieces_few : (d : DrawingValue) (pieces : List Piece) → KeepsDrawing d → PiecesKeepLimits → AreCutFrom d pieces → length pieces ≤ 1024
+pub pieces_few : (d : DrawingValue) (pieces : List Piece) → KeepsDrawingLimits d → PiecesKeepLimits → ArePiecesOf d pieces
+    → length pieces ≤ 1024
 pieces_few d pieces keeps limits cut =
     let within : ArePiecesWithin d (lines_of_pieces pieces) = limits d (lines_of_pieces pieces) keeps cut.are in
     omega (arith, within.count, length-map pieces (λ (p : Piece). p.lines))
@@ -261,21 +262,21 @@ pieces_few d pieces keeps limits cut =
 -- the verdict by the first reason is that over the pieces of the drawing
 pub verdict_right : (d : DrawingValue) (pieces : List Piece) (design : DesignValue) (certs : List PieceCert) (found : Option Reason)
     (given : Verdict)
-    → WalkFaultsAreExact → CutFaultsAreExact → BoundsWalks → ProvesLeast → AreCutFrom d pieces
-    → found ≡ reason_of d (map graph_of pieces) design certs → given ≡ verdict_by found
+    → WalkFaultsAreExact → CutFaultsAreExact → BoundsWalks → ProvesLeast → ArePiecesOf d pieces
+    → found ≡ reason_of d (map graph_of pieces) design certs → given ≡ verdict_of_reason found
     → IsVerdictOver d (lines_of_pieces pieces) design certs given
 verdict_right d pieces design certs found given walks cuts bounds proves cut found_is given_is = record {
   pieces_are = cut.are;
-  is = given_is ∙ ap (λ r. verdict_by r) found_is ∙ ap (λ (gs : List PieceValue). verdict_by (reason_of d gs design certs))
+  is = given_is ∙ ap (λ r. verdict_of_reason r) found_is ∙ ap (λ (gs : List PieceValue). verdict_of_reason (reason_of d gs design certs))
       (graphs_are d pieces cut.each);
-  exact = (λ said. right (none said), λ all. given_is ∙ ap (λ r. verdict_by r) (found_is ∙ no_reason all));
-  least = λ said. to_lines d (λ p cert. IsLeast p cert.walk) pieces certs cut.each (least_of proves pieces certs (each (none said)));
+  exact = (λ said. right (none said), λ all. given_is ∙ ap (λ r. verdict_of_reason r) (found_is ∙ no_reason all));
+  least = λ said. to_lines d (λ p cert. IsLeastWalk p cert.walk) pieces certs cut.each (least_of proves pieces certs (each (none said)));
 }
   where
     graphs : List PieceValue
     graphs = map graph_of pieces
 
-    yes_none : (r : Option Reason) → verdict_by r ≡ verdict.Yes → r ≡ None
+    yes_none : (r : Option Reason) → verdict_of_reason r ≡ verdict.Yes → r ≡ None
     yes_none None is = refl
     yes_none (Some wrong) is = absurd (cc)
 
@@ -292,19 +293,19 @@ verdict_right d pieces design certs found given walks cuts bounds proves cut fou
         pieces_right walks cuts bounds pieces certs 1 (count_none (length certs) (length graphs) first.0
         ∙ length-map pieces graph_of) second.0
 
-    right : reason_of d graphs design certs ≡ None → AreRight d (lines_of_pieces pieces) design certs
+    right : reason_of d graphs design certs ≡ None → IsCorrectRoute d (lines_of_pieces pieces) design certs
     right is =
         let first = both_none (count_reason (length certs) (length graphs)) later is in
         let second = both_none (pieces_reason 1 graphs certs) (acts_reason (difference_of d design certs)) first.1 in
         record {
-          each = to_lines d IsRight pieces certs cut.each (each is);
-          sews = no_difference 1 (bare (acts_of design)) (sewn_acts (runs_of d (walks_of certs)))
+          each = to_lines d IsCorrectPieceCert pieces certs cut.each (each is);
+          sews = no_difference 1 (acts_without_numbers (acts_of design)) (sewn_acts (runs_of d (walks_of certs)))
               (acts_none (difference_of d design certs) second.1);
         }
 
-    no_reason : AreRight d (lines_of_pieces pieces) design certs → reason_of d graphs design certs ≡ None
+    no_reason : IsCorrectRoute d (lines_of_pieces pieces) design certs → reason_of d graphs design certs ≡ None
     no_reason all =
-        let told = pieces_told walks cuts pieces certs 1 (from_lines d IsRight pieces certs cut.each all.each) in
+        let told = pieces_told walks cuts pieces certs 1 (from_lines d IsCorrectPieceCert pieces certs cut.each all.each) in
         let same : difference_of d design certs ≡ None = rw all.sews (none_with_itself 1 (sewn_acts (runs_of d (walks_of certs)))) in
         let count : (length certs == length graphs) ≡ true = tested (length certs) (length graphs)
         (told.0 ∙ sym (length-map pieces graph_of)) in

@@ -3,8 +3,8 @@
 use Rattle.std.specs.Prelude.{◌≡◌, ℕ, zero, suc, ◌+◌, ◌*◌, ◌%◌, ◌<◌, ◌==◌, List, [], ◌∷◌, length, slice_get}
 use Rattle.blossom_match.specs.declared.matching.Pair.{Pair}
 use Rattle.line_graph.specs.declared.edge.Edge.{Edge}
-use Rattle.line_graph.specs.PieceGraphs.{PieceValue, bit}
-use Rattle.line_graph.specs.PieceWalks.{cost_of, of_edge}
+use Rattle.line_graph.specs.PieceGraphs.{PieceValue, one_if}
+use Rattle.line_graph.specs.PieceWalks.{edge_cost, edge_value}
 use Rattle.odd_paths.specs.LeastRows.{RowsValue, cost_at, terminal_of}
 
 -- The sum of a function of edges over all copies.
@@ -14,37 +14,38 @@ copies_sum f (e ∷ edges) [] = 0
 copies_sum f (e ∷ edges) (c ∷ copies) = c * f e + copies_sum f edges copies
 
 -- The sum of a function over the edges with the given indexes.
-abbrev pub place_sum : (Edge → ℕ) → List Edge → List ℕ → ℕ
-place_sum f edges [] = 0
-place_sum f edges (k ∷ places) = of_edge f (slice_get edges k) + place_sum f edges places
+abbrev pub index_sum : (Edge → ℕ) → List Edge → List ℕ → ℕ
+index_sum f edges [] = 0
+index_sum f edges (k ∷ places) = edge_value f (slice_get edges k) + index_sum f edges places
 
 -- The number of ends of an edge at a junction: 0, 1 or 2.
-abbrev pub ends_at : ℕ → Edge → ℕ
-ends_at v e = bit (e.a == v) + bit (e.b == v)
+abbrev pub edge_end_count : ℕ → Edge → ℕ
+edge_end_count v e = one_if (e.a == v) + one_if (e.b == v)
 
 -- The total number of copies.
-abbrev pub add_up : List ℕ → ℕ
-add_up [] = 0
-add_up (c ∷ copies) = c + add_up copies
+abbrev pub total_copies : List ℕ → ℕ
+total_copies [] = 0
+total_copies (c ∷ copies) = c + total_copies copies
 
 -- The numbers of copies, with one more at the given index.
-abbrev pub more_at : List ℕ → ℕ → List ℕ
-more_at [] k = []
-more_at (c ∷ copies) zero = (c + 1) ∷ copies
-more_at (c ∷ copies) (suc k) = c ∷ more_at copies k
+abbrev pub incremented_at : List ℕ → ℕ → List ℕ
+incremented_at [] k = []
+incremented_at (c ∷ copies) zero = (c + 1) ∷ copies
+incremented_at (c ∷ copies) (suc k) = c ∷ incremented_at copies k
 
 -- One copy is added at each of the given indexes.
-pub record AddsPlaces (old places new : List ℕ) : Type 0 where
+pub record AddsCopies (old places new : List ℕ) : Type 0 where
   pub sized : length new ≡ length old
-  pub up : add_up new ≡ add_up old + length places
+  pub up : total_copies new ≡ total_copies old + length places
   pub sums : (f : Edge → ℕ) (edges : List Edge) → length edges ≡ length old
-      → copies_sum f edges new ≡ copies_sum f edges old + place_sum f edges places
+      → copies_sum f edges new ≡ copies_sum f edges old + index_sum f edges places
 
 -- The number of ends of pairs at a junction.
 abbrev pub pair_ends : RowsValue → ℕ → List Pair → ℕ
 pair_ends rows v [] = 0
 pair_ends rows v (q ∷ pairs) =
-    (bit (terminal_of rows q.a == v) + bit (terminal_of rows q.b == v)) + pair_ends rows v pairs
+    (one_if (terminal_of rows q.a == v) + one_if (terminal_of rows q.b == v))
+    + pair_ends rows v pairs
 
 -- The cost of least walks between the pairs.
 abbrev pub pair_costs : RowsValue → List Pair → ℕ
@@ -61,7 +62,8 @@ pub record IsPairOf (rows : RowsValue) (q : Pair) : Type 0 where
 pub record AddsPairs (p : PieceValue) (rows : RowsValue) (pairs : List Pair)
     (old new : List ℕ) : Type 0 where
   pub sized : length new ≡ length old
-  pub costs : copies_sum cost_of p.edges new ≡ copies_sum cost_of p.edges old
+  pub costs : copies_sum edge_cost p.edges new ≡ copies_sum edge_cost p.edges old
       + pair_costs rows pairs
-  pub ends : (v : ℕ) → ((copies_sum (ends_at v) p.edges new + copies_sum (ends_at v) p.edges old)
+  pub ends : (v : ℕ) → ((copies_sum (edge_end_count v) p.edges new + copies_sum (edge_end_count v)
+      p.edges old)
       + pair_ends rows v pairs) % 2 ≡ 0

@@ -19,13 +19,13 @@ pub record IsTableOf (p : PieceValue) (rows : RowsValue) (t : TableValue) : Type
   pub distances : HasDistances rows t
 
 -- The entry of x and y is that of b with a terminal before a.
-abbrev pub filled : (b a x y : ℕ) → Bool
-filled b a x y = y == b && nat_lt x a
+abbrev pub is_filled_entry : (b a x y : ℕ) → Bool
+is_filled_entry b a x y = y == b && nat_lt x a
 
 -- The entries of b with the terminals before a are set, and no other entry has changed.
-pub record IsFilled (rows : RowsValue) (b a : ℕ) (old new : TableValue) : Type 0 where
+pub record HasFilledEntries (rows : RowsValue) (b a : ℕ) (old new : TableValue) : Type 0 where
   pub places : new.places ≡ old.places
   pub entries : (x y : ℕ) → x < y → y < old.places
-      → entry new x y ≡ (if filled b a x y then cost_at rows x (terminal_of rows b)
+      → entry new x y ≡ (if is_filled_entry b a x y then cost_at rows x (terminal_of rows b)
       else entry old x y)
   pub none : (x : ℕ) → x < old.places → entry new x x ≡ entry old x x

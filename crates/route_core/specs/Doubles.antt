@@ -3,14 +3,14 @@
 use Rattle.std.specs.Prelude.{◌≡◌, ℕ, ◌+◌, ◌*◌, true, List, [], length, All}
 use Rattle.std.specs.List.{AllZip}
 use Rattle.cut_certificate.specs.declared.certificate.PieceCert.{PieceCert}
-use Rattle.cut_certificate.specs.Certificates.{CanBeSpelled}
-use Rattle.double_run.specs.DoubleWalks.{IsDouble, unbound}
+use Rattle.cut_certificate.specs.Certificates.{HasCanonicalText}
+use Rattle.double_run.specs.DoubleWalks.{IsDouble, without_ends}
 use Rattle.line_graph.specs.declared.piece.Piece.{Piece}
-use Rattle.line_graph.specs.CutPieces.{graph_of}
+use Rattle.line_graph.specs.PiecesOfDrawings.{graph_of}
 use Rattle.line_graph.specs.Drawings.{DrawingValue}
-use Rattle.line_graph.specs.PieceGraphs.{PieceValue, piece_of}
+use Rattle.line_graph.specs.PieceGraphs.{PieceValue, piece_graph}
 use Rattle.line_graph.specs.Pieces.{ArePieces}
-use Rattle.line_graph.specs.PieceWalks.{fits, piece_cost, walk_cost}
+use Rattle.line_graph.specs.PieceWalks.{is_fitting_walk, piece_cost, walk_cost}
 use Rattle.line_graph.specs.Runs.{AreWritable, runs_of, sewn_design}
 use Rattle.line_graph.specs.Walks.{needles_of_walk}
 use Rattle.route_core.specs.declared.routed.Routed.{Routed}
@@ -19,10 +19,10 @@ use Rattle.route_core.specs.Routes.{walks_of}
 -- A certificate with a double walk over the piece of the given lines, without cuts. The retraced
 -- cost is the cost of the lines. There is one needle point more than the walk costs steps.
 pub record IsDoubled (d : DrawingValue) (lines : List ℕ) (cert : PieceCert) : Type 0 where
-  pub double : IsDouble (piece_of d lines) cert.walk
-  pub retraced : cert.retraced ≡ piece_cost (piece_of d lines)
+  pub double : IsDouble (piece_graph d lines) cert.walk
+  pub retraced : cert.retraced ≡ piece_cost (piece_graph d lines)
   pub cuts : cert.cuts ≡ []
-  pub penetrations : length (needles_of_walk d cert.walk) ≡ 2 * piece_cost (piece_of d lines) + 1
+  pub penetrations : length (needles_of_walk d cert.walk) ≡ 2 * piece_cost (piece_graph d lines) + 1
 
 -- The double run over the pieces of a drawing: a double walk over each piece in order, and the
 -- design that sews these walks. A format can write the design if its limit is at least the
@@ -30,14 +30,14 @@ pub record IsDoubled (d : DrawingValue) (lines : List ℕ) (cert : PieceCert) : 
 pub record IsDoubleOver (d : DrawingValue) (pieces : List (List ℕ)) (routed : Routed) : Type 0 where
   pub pieces_are : ArePieces d pieces
   pub each : AllZip (IsDoubled d) pieces routed.cert.pieces
-  pub spelled : All CanBeSpelled routed.cert.pieces
+  pub spelled : All HasCanonicalText routed.cert.pieces
   pub writable : AreWritable d.step (runs_of d (walks_of routed.cert.pieces))
   pub design : routed.design ≡ sewn_design d (walks_of routed.cert.pieces)
 
 -- A certificate with a double walk over a piece, without cuts. Used only inside this crate.
-pub record RunsDouble (p : PieceValue) (cert : PieceCert) : Type 0 where
+pub record IsDoubleCert (p : PieceValue) (cert : PieceCert) : Type 0 where
   pub double : IsDouble p cert.walk
-  pub fitting : fits (unbound p) cert.walk ≡ true
+  pub fitting : is_fitting_walk (without_ends p) cert.walk ≡ true
   pub cost : walk_cost p cert.walk ≡ 2 * piece_cost p
   pub retraced : cert.retraced ≡ piece_cost p
   pub cuts : cert.cuts ≡ []
@@ -45,4 +45,4 @@ pub record RunsDouble (p : PieceValue) (cert : PieceCert) : Type 0 where
 -- Certificates with double walks, one for each piece in order.
 abbrev pub AreDoubled : List Piece → List PieceCert → Type 0
 AreDoubled pieces certs =
-    AllZip (λ (p : Piece) (cert : PieceCert). RunsDouble (graph_of p) cert) pieces certs
+    AllZip (λ (p : Piece) (cert : PieceCert). IsDoubleCert (graph_of p) cert) pieces certs

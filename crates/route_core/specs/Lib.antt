@@ -5,10 +5,10 @@ pub use Rattle.line_graph.specs.Runs
 -- Used only inside this crate.
 pub mod Distances
 pub mod Copies
-pub mod Matched
+pub mod OddPairs
 pub mod SewingSteps
-pub mod PieceRoutes
-pub mod RoutedPieces
+pub mod PieceCertificates
+pub mod RoutedPieceCertificates
 -- Read this one first: the route of a drawing.
 pub mod Routes
 pub mod Doubles

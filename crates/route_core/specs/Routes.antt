@@ -3,16 +3,16 @@
 use Rattle.std.specs.Prelude.{◌≡◌, ℕ, ◌+◌, List, length, map, All}
 use Rattle.std.specs.List.{AllZip}
 use Rattle.cut_certificate.specs.declared.certificate.PieceCert.{PieceCert}
-use Rattle.cut_certificate.specs.Certificates.{CanBeSpelled}
+use Rattle.cut_certificate.specs.Certificates.{HasCanonicalText}
 use Rattle.line_graph.specs.declared.pass.Pass.{Pass}
 use Rattle.line_graph.specs.Drawings.{DrawingValue}
-use Rattle.line_graph.specs.PieceGraphs.{piece_of}
+use Rattle.line_graph.specs.PieceGraphs.{piece_graph}
 use Rattle.line_graph.specs.Pieces.{ArePieces}
 use Rattle.line_graph.specs.PieceWalks.{walk_cost}
 use Rattle.line_graph.specs.Runs.{AreWritable, runs_of, sewn_design}
 use Rattle.line_graph.specs.Walks.{needles_of_walk}
 use Rattle.route_core.specs.declared.routed.Routed.{Routed}
-use Rattle.route_core.specs.PieceRoutes.{Proves}
+use Rattle.route_core.specs.PieceCertificates.{CertifiesLeastWalk}
 
 -- The walks of the certificates of pieces.
 abbrev pub walks_of : List PieceCert → List (List Pass)
@@ -20,18 +20,18 @@ walks_of certs = map (λ (cert : PieceCert). cert.walk) certs
 
 -- A certificate with a least walk over the piece of the given lines. There is one needle point more
 -- than the walk costs steps.
-pub record IsBest (d : DrawingValue) (lines : List ℕ) (cert : PieceCert) : Type 0 where
-  pub proved : Proves (piece_of d lines) cert
+pub record IsLeastPieceRoute (d : DrawingValue) (lines : List ℕ) (cert : PieceCert) : Type 0 where
+  pub proved : CertifiesLeastWalk (piece_graph d lines) cert
   pub penetrations : length (needles_of_walk d cert.walk)
-      ≡ walk_cost (piece_of d lines) cert.walk + 1
+      ≡ walk_cost (piece_graph d lines) cert.walk + 1
 
 -- The route over the given pieces: a certificate with a least walk over each piece in order, and
 -- the design that sews these walks. A format can write the design if its limit is at least the
 -- drawing's step.
 pub record IsRouteOver (d : DrawingValue) (pieces : List (List ℕ)) (routed : Routed) : Type 0 where
   pub pieces_are : ArePieces d pieces
-  pub best : AllZip (IsBest d) pieces routed.cert.pieces
-  pub spelled : All CanBeSpelled routed.cert.pieces
+  pub best : AllZip (IsLeastPieceRoute d) pieces routed.cert.pieces
+  pub spelled : All HasCanonicalText routed.cert.pieces
   pub writable : AreWritable d.step (runs_of d (walks_of routed.cert.pieces))
   pub design : routed.design ≡ sewn_design d (walks_of routed.cert.pieces)
 

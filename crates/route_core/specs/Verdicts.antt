@@ -5,23 +5,23 @@ use Rattle.std.specs.List.{AllZip}
 use Rattle.cut_certificate.specs.declared.certificate.PieceCert.{PieceCert}
 use Rattle.cut_certificate.specs.declared.faults.CutFault.{CutFault}
 use Rattle.cut_certificate.specs.declared.faults.WalkFault.{WalkFault}
-use Rattle.cut_certificate.specs.CutFaults.{AreNumbered, cuts_fault}
-use Rattle.cut_certificate.specs.Cuts.{total_of}
+use Rattle.cut_certificate.specs.CutFaults.{HaveNumberedMembers, cuts_fault}
+use Rattle.cut_certificate.specs.Cuts.{total_weight}
 use Rattle.cut_certificate.specs.Faults.{first_fault}
 use Rattle.cut_certificate.specs.Packings.{IsPacking}
 use Rattle.cut_certificate.specs.WalkFaults.{walk_fault}
-use Rattle.design_model.specs.Acts.{acts_of, bare}
+use Rattle.design_model.specs.Acts.{acts_of, acts_without_numbers}
 use Rattle.design_model.specs.Designs.{DesignValue}
 use Rattle.line_graph.specs.Drawings.{DrawingValue}
-use Rattle.line_graph.specs.PieceGraphs.{PieceValue, piece_of}
+use Rattle.line_graph.specs.PieceGraphs.{PieceValue, piece_graph}
 use Rattle.line_graph.specs.Pieces.{ArePieces}
-use Rattle.line_graph.specs.PieceWalks.{IsLeast, fits, piece_cost, walk_cost}
+use Rattle.line_graph.specs.PieceWalks.{IsLeastWalk, is_fitting_walk, piece_cost, walk_cost}
 use Rattle.line_graph.specs.Runs.{Sews, runs_of, sewn_acts}
 use Rattle.route_core.specs.declared.verdict.Reason.{Reason}
 use Rattle.route_core.specs.declared.verdict.Reason.TheVariants as reason
 use Rattle.route_core.specs.declared.verdict.Verdict.{Verdict}
 use Rattle.route_core.specs.declared.verdict.Verdict.TheVariants as verdict
-use Rattle.route_core.specs.ActOrder.{first_difference}
+use Rattle.route_core.specs.ActOrder.{first_differing_act}
 use Rattle.route_core.specs.Routes.{walks_of}
 
 -- The reason that the certificate has another number of pieces than the drawing, if it has.
@@ -70,7 +70,8 @@ acts_reason (Some number) = Some (reason.Acts number)
 -- The number of the first act of a design that isn't the one that sews the walks.
 abbrev pub difference_of : DrawingValue → DesignValue → List PieceCert → Option ℕ
 difference_of d design certs =
-    first_difference 1 (bare (acts_of design)) (sewn_acts (runs_of d (walks_of certs)))
+    first_differing_act 1 (acts_without_numbers (acts_of design))
+    (sewn_acts (runs_of d (walks_of certs)))
 
 -- The first fault: in the number of pieces, in the certificate of a piece, or in an act of the
 -- design.
@@ -79,26 +80,27 @@ reason_of d pieces design certs = first_fault (count_reason (length certs) (leng
     (first_fault (pieces_reason 1 pieces certs) (acts_reason (difference_of d design certs)))
 
 -- The verdict: no with a reason if there is one, else yes.
-abbrev pub verdict_by : Option Reason → Verdict
-verdict_by None = verdict.Yes
-verdict_by (Some wrong) = verdict.No wrong
+abbrev pub verdict_of_reason : Option Reason → Verdict
+verdict_of_reason None = verdict.Yes
+verdict_of_reason (Some wrong) = verdict.No wrong
 
 -- The verdict on a design and certificates, over the pieces of a drawing.
 abbrev pub verdict_of : DrawingValue → List (List ℕ) → DesignValue → List PieceCert → Verdict
-verdict_of d pieces design certs = verdict_by (reason_of d (map (piece_of d) pieces) design certs)
+verdict_of d pieces design certs = verdict_of_reason
+    (reason_of d (map (piece_graph d) pieces) design certs)
 
 -- A correct certificate of a piece. The walk is a fitting walk. The retraced cost is the cost of
 -- the walk above that of the lines, and the cuts are a packing whose total is twice that.
-pub record IsRight (p : PieceValue) (cert : PieceCert) : Type 0 where
-  pub fitting : fits p cert.walk ≡ true
+pub record IsCorrectPieceCert (p : PieceValue) (cert : PieceCert) : Type 0 where
+  pub fitting : is_fitting_walk p cert.walk ≡ true
   pub retraced : walk_cost p cert.walk ≡ piece_cost p + cert.retraced
   pub packing : IsPacking p cert.cuts
-  pub total : total_of cert.cuts ≡ 2 * cert.retraced
+  pub total : total_weight cert.cuts ≡ 2 * cert.retraced
 
 -- The certificates of all pieces are correct, and the design sews the drawing by their walks.
-pub record AreRight (d : DrawingValue) (pieces : List (List ℕ)) (design : DesignValue)
+pub record IsCorrectRoute (d : DrawingValue) (pieces : List (List ℕ)) (design : DesignValue)
     (certs : List PieceCert) : Type 0 where
-  pub each : AllZip (λ lines cert. IsRight (piece_of d lines) cert) pieces certs
+  pub each : AllZip (λ lines cert. IsCorrectPieceCert (piece_graph d lines) cert) pieces certs
   pub sews : Sews d (walks_of certs) (acts_of design)
 
 -- The verdict over the pieces of a drawing. The verdict is yes exactly where all is correct, and
@@ -107,9 +109,9 @@ pub record IsVerdictOver (d : DrawingValue) (pieces : List (List ℕ)) (design :
     (certs : List PieceCert) (given : Verdict) : Type 0 where
   pub pieces_are : ArePieces d pieces
   pub is : given ≡ verdict_of d pieces design certs
-  pub exact : (given ≡ verdict.Yes) ↔ AreRight d pieces design certs
+  pub exact : (given ≡ verdict.Yes) ↔ IsCorrectRoute d pieces design certs
   pub least : given ≡ verdict.Yes
-      → AllZip (λ lines cert. IsLeast (piece_of d lines) cert.walk) pieces certs
+      → AllZip (λ lines cert. IsLeastWalk (piece_graph d lines) cert.walk) pieces certs
 
 -- The verdict on a design and certificates: the verdict over the pieces of the drawing.
 pub record IsVerdict (d : DrawingValue) (design : DesignValue) (certs : List PieceCert)
@@ -122,12 +124,12 @@ pub record SewsLeast (d : DrawingValue) (design : DesignValue)
     (certs : List PieceCert) : Type 0 where
   pub pieces : List (List ℕ)
   pub pieces_are : ArePieces d pieces
-  pub right : AllZip (λ lines cert. IsRight (piece_of d lines) cert) pieces certs
-  pub least : AllZip (λ lines cert. IsLeast (piece_of d lines) cert.walk) pieces certs
+  pub right : AllZip (λ lines cert. IsCorrectPieceCert (piece_graph d lines) cert) pieces certs
+  pub least : AllZip (λ lines cert. IsLeastWalk (piece_graph d lines) cert.walk) pieces certs
   pub sews : Sews d (walks_of certs) (acts_of design)
 
 -- The lists of a certificate are not too long, and no member of a cut is the greatest index.
-pub record IsShort (cert : PieceCert) : Type 0 where
+pub record HasShortLists (cert : PieceCert) : Type 0 where
   pub walk : length cert.walk < 2 ^ 32 - 1
   pub cuts : length cert.cuts < 2 ^ 32 - 1
-  pub numbered : AreNumbered cert.cuts
+  pub numbered : HaveNumberedMembers cert.cuts

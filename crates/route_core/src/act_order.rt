@@ -1,15 +1,15 @@
 ghost use Rattle.std.specs.Prelude.{◌≡◌, ◌+◌, ◌≤◌, ◌∷◌, IfOk, [], drop, false, length, map, replicate};
 ghost use Rattle.design_model.specs.declared.act.Act.TheVariants as act;
 ghost use Rattle.design_model.specs.declared.design.TheConstants.{MAX_COMMANDS};
-ghost use Rattle.design_model.specs.Acts.{bare};
+ghost use Rattle.design_model.specs.Acts.{acts_without_numbers};
 ghost use Rattle.line_graph.specs.Runs.{runs_of, sewn_acts};
-ghost use Rattle.route_core.specs.ActOrder.{first_difference as difference, is_same_act};
-ghost use Rattle.route_core.specs.ActSteps.{Passes, begins_with, run_acts};
+ghost use Rattle.route_core.specs.ActOrder.{first_differing_act, is_same_act};
+ghost use Rattle.route_core.specs.ActSteps.{ComparesActs, begins_with_act, run_acts};
 ghost use Rattle.route_core.specs.Routes.{walks_of};
 ghost use Rattle.route_core.specs.SewingSteps.{AllDrawn};
 
 use crate::sewing::block_of_walk;
-use crate::slices::first_of;
+use crate::slices::first_and_rest;
 use crate::walk_needles::walk_needles;
 use cut_certificate::{PieceCert, first_lent};
 use design_model::{Act, Memory, NumberedAct, Point};
@@ -27,7 +27,8 @@ pub(crate) fn first_difference(
     requires there { AllDrawn d.now certs.now }
     requires few { length acts.now ≤ MAX_COMMANDS }
     ensures { IfOk result (λ found. found
-        ≡ difference 1 (bare acts.now) (sewn_acts (runs_of d.now (walks_of certs.now)))) }
+        ≡ first_differing_act 1 (acts_without_numbers acts.now)
+        (sewn_acts (runs_of d.now (walks_of certs.now)))) }
 {
     let mut at = 0;
     let mut before = 0;
@@ -48,7 +49,7 @@ pub(crate) fn first_difference(
 /// Returns the number of the act at an index, if there is one.
 fn end_of_acts(acts: &[NumberedAct], at: u32) -> Option<u32>
     requires few { length acts.now ≤ MAX_COMMANDS }
-    ensures { result ≡ difference (at + 1) (bare (drop at acts.now)) [] }
+    ensures { result ≡ first_differing_act (at + 1) (acts_without_numbers (drop at acts.now)) [] }
 {
     if (at as usize) < acts.len() {
         Some(at + 1)
@@ -62,7 +63,7 @@ fn end_of_acts(acts: &[NumberedAct], at: u32) -> Option<u32>
 fn pass_run(acts: &[NumberedAct], at: u32, stops: u32, points: &[Point]) -> Result<u32, u32>
     requires few { length acts.now ≤ MAX_COMMANDS }
     requires there { at ≤ length acts.now }
-    ensures { Passes acts.now at (run_acts stops points.now) result }
+    ensures { ComparesActs acts.now at (run_acts stops points.now) result }
 {
     let at = pass_stops(acts, at, stops)?;
     let at = pass_needles(acts, at, points)?;
@@ -72,7 +73,7 @@ fn pass_run(acts: &[NumberedAct], at: u32, stops: u32, points: &[Point]) -> Resu
 fn pass_stops(acts: &[NumberedAct], at: u32, count: u32) -> Result<u32, u32>
     requires few { length acts.now ≤ MAX_COMMANDS }
     requires there { at ≤ length acts.now }
-    ensures { Passes acts.now at (replicate count act.Stop) result }
+    ensures { ComparesActs acts.now at (replicate count act.Stop) result }
 {
     let mut next = at;
     let mut left = count;
@@ -86,11 +87,11 @@ fn pass_stops(acts: &[NumberedAct], at: u32, count: u32) -> Result<u32, u32>
 fn pass_needles(acts: &[NumberedAct], at: u32, points: &[Point]) -> Result<u32, u32>
     requires few { length acts.now ≤ MAX_COMMANDS }
     requires there { at ≤ length acts.now }
-    ensures { Passes acts.now at (map (λ p. act.Needle p false) points.now) result }
+    ensures { ComparesActs acts.now at (map (λ p. act.Needle p false) points.now) result }
 {
     let mut next = at;
     let mut rest = points;
-    while let Some((point, after)) = first_of(rest) {
+    while let Some((point, after)) = first_and_rest(rest) {
         next = pass(
             acts,
             next,
@@ -109,7 +110,7 @@ fn pass_needles(acts: &[NumberedAct], at: u32, points: &[Point]) -> Result<u32, 
 fn pass(acts: &[NumberedAct], at: u32, expected: Act) -> Result<u32, u32>
     requires few { length acts.now ≤ MAX_COMMANDS }
     requires there { at ≤ length acts.now }
-    ensures { Passes acts.now at (expected ∷ []) result }
+    ensures { ComparesActs acts.now at (expected ∷ []) result }
 {
     if has_act(acts, at as usize, expected) {
         Ok(at + 1)
@@ -119,7 +120,7 @@ fn pass(acts: &[NumberedAct], at: u32, expected: Act) -> Result<u32, u32>
 }
 
 fn has_act(acts: &[NumberedAct], at: usize, expected: Act) -> bool
-    ensures { result ≡ begins_with (bare (drop at acts.now)) expected }
+    ensures { result ≡ begins_with_act (acts_without_numbers (drop at acts.now)) expected }
 {
     at < acts.len() && is_same(acts[at].act, expected)
 }

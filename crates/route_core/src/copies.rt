@@ -1,11 +1,11 @@
 ghost use Rattle.std.specs.Prelude.{◌≡◌, ◌<◌, ◌+◌, ◌-◌, ◌∷◌, ◌^◌, All, IfOk, OnOk, [], get_or, length, replicate};
-ghost use Rattle.line_graph.specs.CutPieces.{graph_of};
+ghost use Rattle.line_graph.specs.PiecesOfDrawings.{graph_of};
 ghost use Rattle.odd_paths.specs.LeastRows.{AreRows, IsPath, cost_at, terminal_of};
-ghost use Rattle.route_core.specs.Copies.{AddsPairs, AddsPlaces, IsPairOf, add_up, more_at, pair_costs};
-ghost use Rattle.line_graph.specs.PieceWalks.{cost_of};
+ghost use Rattle.route_core.specs.Copies.{AddsPairs, AddsCopies, IsPairOf, total_copies, incremented_at, pair_costs};
+ghost use Rattle.line_graph.specs.PieceWalks.{edge_cost};
 ghost use Rattle.route_core.specs.Copies.{copies_sum};
 
-use crate::slices::first_of;
+use crate::slices::first_and_rest;
 use blossom_match::Pair;
 use design_model::{Memory, Numbers};
 use line_graph::Piece;
@@ -29,7 +29,7 @@ pub(crate) fn copies_of(
 {
     let mut copies = vec![in alloc; 0; p.edges.len()]?;
     let mut rest = pairs;
-    while let Some((pair, after)) = first_of(rest) {
+    while let Some((pair, after)) = first_and_rest(rest) {
         add_pair(alloc, &mut copies, p, rows, terminals, pair)?;
         rest = after;
     }
@@ -49,7 +49,7 @@ fn add_pair(
     requires terminals { rows.now.terminals ≡ terminals.now }
     requires pair { IsPairOf rows.now pair }
     requires sized { length copies.old.items ≡ length p.now.edges }
-    requires few { copies_sum cost_of p.now.edges copies.old.items + pair_costs rows.now (pair ∷ [])
+    requires few { copies_sum edge_cost p.now.edges copies.old.items + pair_costs rows.now (pair ∷ [])
         < 2 ^ 32 }
     ensures { OnOk result (AddsPairs (graph_of p.now) rows.now
         (pair ∷ []) copies.old.items copies.new.items) }
@@ -81,11 +81,11 @@ fn path_between(
 /// Adds a copy at each of the indexes.
 fn add_places(copies: &mut Vec<u32>, places: &[u32])
     requires there { All (λ k. k < length copies.old.items) places.now }
-    requires few { add_up copies.old.items + length places.now < 2 ^ 32 }
-    ensures { AddsPlaces copies.old.items places.now copies.new.items }
+    requires few { total_copies copies.old.items + length places.now < 2 ^ 32 }
+    ensures { AddsCopies copies.old.items places.now copies.new.items }
 {
     let mut rest = places;
-    while let Some((k, after)) = first_of(rest) {
+    while let Some((k, after)) = first_and_rest(rest) {
         add_one(copies, k as usize);
         rest = after;
     }
@@ -95,7 +95,7 @@ fn add_places(copies: &mut Vec<u32>, places: &[u32])
 fn add_one(copies: &mut Vec<u32>, k: usize)
     requires there { k < length copies.old.items }
     requires few { get_or copies.old.items k 0 < 2 ^ 32 - 1 }
-    ensures { copies.new.items ≡ more_at copies.old.items k }
+    ensures { copies.new.items ≡ incremented_at copies.old.items k }
 {
     raise(copies, k);
 }
@@ -103,7 +103,7 @@ fn add_one(copies: &mut Vec<u32>, k: usize)
 fn raise(copies: &mut [u32], k: usize)
     requires there { k < length copies.old }
     requires few { get_or copies.old k 0 < 2 ^ 32 - 1 }
-    ensures { copies.new ≡ more_at copies.old k }
+    ensures { copies.new ≡ incremented_at copies.old k }
 {
     copies[k] += 1;
 }

@@ -1,8 +1,8 @@
 ghost use Rattle.std.specs.Prelude.{◌≡◌, ◌<◌, ◌≤◌, IfOk, length};
 ghost use Rattle.blossom_match.specs.declared.table.TheConstants.{MAX_DISTANCE, MAX_PLACES};
-ghost use Rattle.line_graph.specs.CutPieces.{graph_of};
+ghost use Rattle.line_graph.specs.PiecesOfDrawings.{graph_of};
 ghost use Rattle.odd_paths.specs.LeastRows.{AreRows, cost_at, terminal_of};
-ghost use Rattle.route_core.specs.Distances.{HasDistances, IsFilled};
+ghost use Rattle.route_core.specs.Distances.{HasDistances, HasFilledEntries};
 
 use blossom_match::DistTable;
 use design_model::Memory;
@@ -36,7 +36,7 @@ fn fill(table: &mut DistTable, p: &Piece, rows: &Rows, b: u32, terminal: u32)
     requires places { table.old.places ≡ length rows.now.terminals }
     requires there { b < length rows.now.terminals }
     requires terminal { terminal ≡ terminal_of rows.now b }
-    ensures { IsFilled rows.now b b table.old table.new }
+    ensures { HasFilledEntries rows.now b b table.old table.new }
 {
     for a in 0..b {
         let d = distance(p, rows, a, terminal);

@@ -1,6 +1,6 @@
 ghost use Rattle.std.specs.Prelude.{IfOk};
-ghost use Rattle.line_graph.specs.CutPieces.{AreCutFrom, graph_of, lines_of_pieces};
-ghost use Rattle.route_core.specs.Doubles.{AreDoubled, IsDoubleOver, RunsDouble};
+ghost use Rattle.line_graph.specs.PiecesOfDrawings.{ArePiecesOf, graph_of, lines_of_pieces};
+ghost use Rattle.route_core.specs.Doubles.{AreDoubled, IsDoubleOver, IsDoubleCert};
 
 use crate::routed::Routed;
 use crate::sewing::sew;
@@ -13,7 +13,7 @@ use std::alloc::Global;
 /// Returns the double run of a drawing whose pieces are given, with the design that sews it. A double run
 /// has for each piece a walk that passes each line once forwards and once backwards, and no cuts.
 pub fn double_pieces(alloc: Global, d: &Drawing, pieces: &[Piece]) -> Result<Routed, Memory>
-    requires { AreCutFrom d.now pieces.now }
+    requires { ArePiecesOf d.now pieces.now }
     ensures { IfOk result (IsDoubleOver d.now (lines_of_pieces pieces.now)) }
 {
     d.keeps_limits();
@@ -41,7 +41,7 @@ fn double_certs(alloc: Global, pieces: &[Piece]) -> Result<PieceCerts, Memory>
 
 /// Returns a certificate with a double walk over a piece. The retraced cost is the cost of its lines.
 fn double_cert(alloc: Global, p: &Piece) -> Result<PieceCert, Memory>
-    ensures { IfOk result (RunsDouble (graph_of p.now)) }
+    ensures { IfOk result (IsDoubleCert (graph_of p.now)) }
 {
     Ok(PieceCert {
         retraced: p.cost(),

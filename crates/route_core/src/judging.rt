@@ -1,6 +1,6 @@
 ghost use Rattle.std.specs.Prelude.{◌≡◌, ◌-◌, ◌<◌, ◌^◌, All, IfOk, length, map};
-ghost use Rattle.line_graph.specs.CutPieces.{AreCutFrom, graph_of, lines_of_pieces};
-ghost use Rattle.route_core.specs.Verdicts.{IsShort, IsVerdict, IsVerdictOver, SewsLeast, reason_of, difference_of, acts_reason, verdict_by as verdict_for};
+ghost use Rattle.line_graph.specs.PiecesOfDrawings.{ArePiecesOf, graph_of, lines_of_pieces};
+ghost use Rattle.route_core.specs.Verdicts.{HasShortLists, IsVerdict, IsVerdictOver, SewsLeast, reason_of, difference_of, acts_reason, verdict_of_reason};
 ghost use Rattle.route_core.specs.SewingSteps.{AllDrawn};
 ghost use Rattle.route_core.specs.declared.verdict.Verdict.TheVariants as verdict;
 
@@ -21,7 +21,7 @@ use std::alloc::Global;
 /// walk, its retraced cost and its cuts; the first act that differs. The only error is `Memory`.
 pub fn judge(alloc: Global, d: &Drawing, design: &Design, cert: &Cert) -> Result<Verdict, Memory>
     requires few { length cert.now.pieces < 2 ^ 32 - 1 }
-    requires short { All IsShort cert.now.pieces }
+    requires short { All HasShortLists cert.now.pieces }
     ensures verdict { IfOk result (IsVerdict d.now design.now cert.now.pieces) }
     ensures least { IfOk result (λ given. given ≡ verdict.Yes
         → SewsLeast d.now design.now cert.now.pieces) }
@@ -40,9 +40,9 @@ pub fn judge_pieces(
     design: &Design,
     cert: &Cert,
 ) -> Result<Verdict, Memory>
-    requires pieces { AreCutFrom d.now pieces.now }
+    requires pieces { ArePiecesOf d.now pieces.now }
     requires few { length cert.now.pieces < 2 ^ 32 - 1 }
-    requires short { All IsShort cert.now.pieces }
+    requires short { All HasShortLists cert.now.pieces }
     ensures { IfOk result
         (IsVerdictOver d.now (lines_of_pieces pieces.now) design.now cert.now.pieces) }
 {
@@ -55,7 +55,7 @@ pub fn judge_pieces(
 }
 
 fn verdict_by(reason: Option<Reason>) -> Verdict
-    ensures { result ≡ verdict_for reason }
+    ensures { result ≡ verdict_of_reason reason }
 {
     match reason {
         None => Verdict::Yes,
@@ -71,9 +71,9 @@ fn first_reason(
     design: &Design,
     certs: &[PieceCert],
 ) -> Result<Option<Reason>, Memory>
-    requires pieces { AreCutFrom d.now pieces.now }
+    requires pieces { ArePiecesOf d.now pieces.now }
     requires few { length certs.now < 2 ^ 32 - 1 }
-    requires short { All IsShort certs.now }
+    requires short { All HasShortLists certs.now }
     ensures { IfOk result (λ reason. reason
         ≡ reason_of d.now (map graph_of pieces.now) design.now certs.now) }
 {

@@ -1,7 +1,7 @@
 ghost use Rattle.std.specs.Prelude.{◌≡◌, ◌+◌, ◌-◌, ◌<◌, ◌≤◌, ◌^◌, All, length, map};
-ghost use Rattle.line_graph.specs.CutPieces.{graph_of};
+ghost use Rattle.line_graph.specs.PiecesOfDrawings.{graph_of};
 ghost use Rattle.line_graph.specs.PieceWalks.{piece_cost};
-ghost use Rattle.route_core.specs.Verdicts.{IsShort, count_reason, piece_reason, pieces_reason};
+ghost use Rattle.route_core.specs.Verdicts.{HasShortLists, count_reason, piece_reason, pieces_reason};
 ghost use Rattle.line_graph.specs.declared.limits.TheConstants.{MAX_COST, MAX_LINES};
 
 use crate::verdict::Reason;
@@ -26,7 +26,7 @@ pub(crate) fn wrong_count(certs: &[PieceCert], pieces: &[Piece]) -> Option<Reaso
 /// Returns the first fault in the certificates of the pieces.
 pub(crate) fn wrong_piece(pieces: &[Piece], certs: &[PieceCert]) -> Option<Reason>
     requires few { length pieces.now ≤ MAX_LINES }
-    requires short { All IsShort certs.now }
+    requires short { All HasShortLists certs.now }
     ensures { result ≡ pieces_reason 1 (map graph_of pieces.now) certs.now }
 {
     let mut number = 1;
@@ -48,7 +48,7 @@ pub(crate) fn wrong_piece(pieces: &[Piece], certs: &[PieceCert]) -> Option<Reaso
 
 /// Returns the first fault in the certificate of the piece with the given number.
 fn wrong_with(p: &Piece, number: u32, cert: &PieceCert) -> Option<Reason>
-    requires { IsShort cert.now }
+    requires { HasShortLists cert.now }
     ensures { result ≡ piece_reason (graph_of p.now) number cert.now }
 {
     let cost = match check_walk(p, cert.walk.as_slice()) {

@@ -1,17 +1,17 @@
 ghost use Rattle.std.specs.Prelude.{◌≡◌, ◌%◌, ◌<◌, ◌≤◌, ◌∷◌, ◌^◌, All, IfOk, []};
-ghost use Rattle.cut_certificate.specs.Certificates.{CanBeSpelled};
+ghost use Rattle.cut_certificate.specs.Certificates.{HasCanonicalText};
 ghost use Rattle.line_graph.specs.declared.limits.TheConstants.{MAX_COST, MAX_LINES};
-ghost use Rattle.line_graph.specs.CutPieces.{graph_of};
+ghost use Rattle.line_graph.specs.PiecesOfDrawings.{graph_of};
 ghost use Rattle.odd_paths.specs.LeastRows.{AreRows};
 ghost use Rattle.route_core.specs.Copies.{IsPairOf, pair_costs};
-ghost use Rattle.route_core.specs.Matched.{AreOddRows, IsMatched, IsWalkBy};
-ghost use Rattle.route_core.specs.PieceRoutes.{Proves};
-ghost use Rattle.blossom_match.specs.Matchings.{PairsEach};
+ghost use Rattle.route_core.specs.OddPairs.{AreOddRows, AreOddPairs, IsWalkBy};
+ghost use Rattle.route_core.specs.PieceCertificates.{CertifiesLeastWalk};
+ghost use Rattle.blossom_match.specs.Matchings.{IsPerfectMatching};
 ghost use Rattle.std.specs.Prelude.{length};
 
 use crate::copies::copies_of;
 use crate::distances::{distance, distances};
-use crate::slices::first_of;
+use crate::slices::first_and_rest;
 use blossom_match::{Matching, Pair, match_all};
 use cut_certificate::{PieceCert, lift, packings_keep_their_total, packings_prove_least};
 use design_model::Memory;
@@ -22,8 +22,8 @@ use std::alloc::Global;
 
 /// Returns a certificate with a least walk over a piece, its retraced cost, and cuts that prove it least.
 pub(crate) fn route_piece(alloc: Global, p: &Piece) -> Result<PieceCert, Memory>
-    ensures proves { IfOk result (Proves (graph_of p.now)) }
-    ensures spelled { IfOk result CanBeSpelled }
+    ensures proves { IfOk result (CertifiesLeastWalk (graph_of p.now)) }
+    ensures spelled { IfOk result HasCanonicalText }
 {
     packings_keep_their_total();
     packings_prove_least();
@@ -48,7 +48,7 @@ fn match_odds(alloc: Global, p: &Piece, rows: &Rows, odds: &[u32]) -> Result<Mat
     requires odds { rows.now.terminals ≡ odds.now }
     requires even { length odds.now % 2 ≡ 0 }
     requires few { length odds.now ≤ MAX_LINES }
-    ensures { IfOk result (λ m. IsMatched (graph_of p.now) rows.now m.pairs m.moats) }
+    ensures { IfOk result (λ m. AreOddPairs (graph_of p.now) rows.now m.pairs m.moats) }
 {
     let table = distances(alloc, p, rows, odds)?;
     let matching = match_all(alloc, &table)?;
@@ -66,7 +66,7 @@ fn walk_by(
     requires rows { AreOddRows (graph_of p.now) rows.now }
     requires odds { rows.now.terminals ≡ odds.now }
     requires pairs { All (IsPairOf rows.now) pairs.now }
-    requires each { PairsEach (length rows.now.terminals) pairs.now }
+    requires each { IsPerfectMatching (length rows.now.terminals) pairs.now }
     requires few { pair_costs rows.now pairs.now ≤ MAX_COST }
     ensures { IfOk result (IsWalkBy (graph_of p.now) rows.now pairs.now) }
 {
@@ -85,7 +85,7 @@ fn cost_of_pairs(p: &Piece, rows: &Rows, odds: &[u32], pairs: &[Pair]) -> u32
 {
     let mut cost = 0;
     let mut rest = pairs;
-    while let Some((pair, after)) = first_of(rest) {
+    while let Some((pair, after)) = first_and_rest(rest) {
         cost += cost_of_pair(p, rows, odds, pair);
         rest = after;
     }

@@ -1,6 +1,6 @@
 ghost use Rattle.std.specs.Prelude.{IfOk};
-ghost use Rattle.line_graph.specs.CutPieces.{AreCutFrom, lines_of_pieces};
-ghost use Rattle.route_core.specs.RoutedPieces.{AreRouted};
+ghost use Rattle.line_graph.specs.PiecesOfDrawings.{ArePiecesOf, lines_of_pieces};
+ghost use Rattle.route_core.specs.RoutedPieceCertificates.{AreRouted};
 ghost use Rattle.route_core.specs.Routes.{IsRoute, IsRouteOver};
 
 use crate::piece_route::route_piece;
@@ -22,7 +22,7 @@ pub fn route(alloc: Global, d: &Drawing) -> Result<Routed, Memory>
 
 /// Returns the route of a drawing whose pieces are given. The only error is `Memory`.
 pub fn route_pieces(alloc: Global, d: &Drawing, pieces: &[Piece]) -> Result<Routed, Memory>
-    requires { AreCutFrom d.now pieces.now }
+    requires { ArePiecesOf d.now pieces.now }
     ensures { IfOk result (IsRouteOver d.now (lines_of_pieces pieces.now)) }
 {
     d.keeps_limits();

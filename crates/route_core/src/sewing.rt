@@ -1,16 +1,16 @@
 ghost use Rattle.std.specs.Prelude.{◌≡◌, ◌<◌, ◌≤◌, ◌+◌, ◌-◌, All, IfOk, OnOk, [], length, map, replicate, true};
 ghost use Rattle.design_model.specs.declared.command.Command.TheVariants.{Stitch, Stop};
 ghost use Rattle.design_model.specs.declared.design.TheConstants.{MAX_COMMANDS};
-ghost use Rattle.design_model.specs.Commands.{is_in_range};
+ghost use Rattle.design_model.specs.Commands.{is_command_in_range};
 ghost use Rattle.design_model.specs.Designs.{with_command};
-ghost use Rattle.line_graph.specs.Runs.{block_of_walk as block_of_a_walk, commands_after, runs_of, sewn_design};
+ghost use Rattle.line_graph.specs.Runs.{block_of_passes, commands_after, runs_of, sewn_design};
 ghost use Rattle.line_graph.specs.Walks.{needles_of_walk};
 ghost use Rattle.route_core.specs.Routes.{walks_of};
 ghost use Rattle.design_model.specs.LongerDesigns.{with_commands};
 ghost use Rattle.route_core.specs.SewingSteps.{AllDrawn, AreDrawn, run_commands};
 ghost use Rattle.line_graph.specs.Chains.{IsNeedlePoint};
 
-use crate::slices::first_of;
+use crate::slices::first_and_rest;
 use crate::walk_needles::walk_needles;
 use cut_certificate::{Cert, PieceCert, first_lent};
 use design_model::{Command, Design, Memory, ModelFault, Point};
@@ -80,10 +80,11 @@ fn sew_walk(
 ) -> Result<u32, Memory>
     requires there { AreDrawn d.now walk.now }
     requires room { length design.old.commands
-        + length (run_commands before (block_of_a_walk d.now walk.now) (needles_of_walk d.now walk.now)) ≤ MAX_COMMANDS }
-    ensures block { IfOk result (λ block. block ≡ block_of_a_walk d.now walk.now) }
+        + length (run_commands before (block_of_passes d.now walk.now) (needles_of_walk d.now walk.now))
+        ≤ MAX_COMMANDS }
+    ensures block { IfOk result (λ block. block ≡ block_of_passes d.now walk.now) }
     ensures sewn { OnOk result (design.new ≡ with_commands design.old
-        (run_commands before (block_of_a_walk d.now walk.now) (needles_of_walk d.now walk.now))) }
+        (run_commands before (block_of_passes d.now walk.now) (needles_of_walk d.now walk.now))) }
 {
     d.keeps_limits();
     needles_lead_along();
@@ -96,9 +97,9 @@ fn sew_walk(
 /// Returns the block of a walk's first line.
 pub(crate) fn block_of_walk(d: &Drawing, walk: &[Pass]) -> u32
     requires { AreDrawn d.now walk.now }
-    ensures { result ≡ block_of_a_walk d.now walk.now }
+    ensures { result ≡ block_of_passes d.now walk.now }
 {
-    match first_of(walk) {
+    match first_and_rest(walk) {
         Some((pass, _)) => d.line_block(pass.line),
         None => 0,
     }
@@ -142,7 +143,7 @@ fn add_stitches(design: &mut Design, points: &[Point]) -> Result<(), Memory>
 }
 
 fn add(design: &mut Design, command: Command) -> Result<(), Memory>
-    requires in_range { is_in_range command ≡ true }
+    requires in_range { is_command_in_range command ≡ true }
     requires room { length design.old.commands < MAX_COMMANDS }
     ensures { OnOk result (design.new ≡ with_command design.old command) }
 {

@@ -1,7 +1,7 @@
 ghost use Rattle.std.specs.Prelude.{◌≡◌, ◌∷◌, IfNone, IfSome, []};
 
 /// Returns the first item of a slice, and those after it.
-pub(crate) fn first_of<T: Copy>(items: &[T]) -> Option<(T, &[T])>
+pub(crate) fn first_and_rest<T: Copy>(items: &[T]) -> Option<(T, &[T])>
     ensures some { IfSome result (λ r. items.now ≡ r.0 ∷ r.1.now) }
     ensures none { IfNone result (items.now ≡ []) }
 {

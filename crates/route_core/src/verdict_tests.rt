@@ -1,5 +1,5 @@
 ghost use Rattle.std.specs.Prelude.{◌≤◌, ◌<◌, ◌+◌, ◌-◌, ◌^◌, All, IfOk, length};
-ghost use Rattle.route_core.specs.Verdicts.{IsShort};
+ghost use Rattle.route_core.specs.Verdicts.{HasShortLists};
 
 use crate::{Reason, Verdict, judge};
 use cut_certificate::{Cert, Cut, CutFault, Cuts, PieceCert, PieceCerts, WalkFault};
@@ -35,10 +35,10 @@ fn stitch(x: i32) -> Command {
 
 /// The certificate of a piece: the retraced cost, two passes by line number (negative for backwards), and
 /// the weight and the junctions of one cut, by number. The number 0 stands for none.
-type Said = (u32, [i8; 2], u32, [u8; 2]);
+type PieceClaim = (u32, [i8; 2], u32, [u8; 2]);
 
-fn cert_of(alloc: Global, said: &Said) -> Result<PieceCert, Memory>
-    ensures { IfOk result IsShort }
+fn cert_of(alloc: Global, said: &PieceClaim) -> Result<PieceCert, Memory>
+    ensures { IfOk result HasShortLists }
 {
     let (retraced, passes, weight, numbers) = *said;
     let walk = walk_of(alloc, passes)?;
@@ -87,8 +87,8 @@ fn members_of(alloc: Global, numbers: &[u8]) -> Result<Numbers, Memory>
     Ok(members)
 }
 
-fn certs_of(alloc: Global, table: &[Said]) -> Result<PieceCerts, Memory>
-    ensures short { IfOk result (All IsShort) }
+fn certs_of(alloc: Global, table: &[PieceClaim]) -> Result<PieceCerts, Memory>
+    ensures short { IfOk result (All HasShortLists) }
     ensures few { IfOk result (λ certs. length certs ≤ length table.now) }
 {
     let mut certs = PieceCerts::new(alloc);
@@ -98,7 +98,12 @@ fn certs_of(alloc: Global, table: &[Said]) -> Result<PieceCerts, Memory>
     Ok(certs)
 }
 
-fn verdict(alloc: Global, d: &Drawing, design: &Design, table: &[Said]) -> Result<Verdict, Memory>
+fn verdict(
+    alloc: Global,
+    d: &Drawing,
+    design: &Design,
+    table: &[PieceClaim],
+) -> Result<Verdict, Memory>
     requires { length table.now ≤ 2 }
 {
     let cert = Cert {

@@ -2,7 +2,7 @@ ghost use Rattle.std.specs.Prelude.{◌≡◌, ◌<◌, ◌++◌, IfOk, OnOk, dr
 ghost use Rattle.line_graph.specs.Walks.{needles_of_pass, needles_of_walk};
 ghost use Rattle.route_core.specs.SewingSteps.{AreDrawn, later_needles};
 
-use crate::slices::first_of;
+use crate::slices::first_and_rest;
 use design_model::{Memory, Point, Points};
 use line_graph::{Drawing, Pass, needles};
 use std::alloc::Global;
@@ -13,7 +13,7 @@ pub(crate) fn walk_needles(alloc: Global, d: &Drawing, walk: &[Pass]) -> Result<
     requires { AreDrawn d.now walk.now }
     ensures { IfOk result (λ points. points ≡ needles_of_walk d.now walk.now) }
 {
-    let Some((first, after)) = first_of(walk) else {
+    let Some((first, after)) = first_and_rest(walk) else {
         return Ok(Points::new(alloc));
     };
     let mut points = pass_needles(alloc, d, first)?;
@@ -27,9 +27,9 @@ fn add_later(alloc: Global, points: &mut Points, d: &Drawing, walk: &[Pass]) -> 
     ensures { OnOk result (points.new ≡ points.old ++ later_needles d.now walk.now) }
 {
     let mut rest = walk;
-    while let Some((pass, after)) = first_of(rest) {
+    while let Some((pass, after)) = first_and_rest(rest) {
         let needles = pass_needles(alloc, d, pass)?;
-        points.append(behind_first(needles.as_slice()))?;
+        points.append(after_first(needles.as_slice()))?;
         rest = after;
     }
     Ok(())
@@ -68,7 +68,7 @@ fn turn(points: &mut [Point])
     points.reverse();
 }
 
-fn behind_first(points: &[Point]) -> &[Point]
+fn after_first(points: &[Point]) -> &[Point]
     ensures { result.now ≡ drop 1 points.now }
 {
     match points {

@@ -5,8 +5,8 @@ use Rattle.std.proofs.lemmas.List.FromFn.{get_or-map-range_with_len, length-map-
 use Rattle.std.proofs.lemmas.Nat.{div-add-mod', div-mul-add, mod-mul-add, mul-add-lt}
 use Rattle.design_model.specs.declared.point.Point.{Point}
 use Rattle.sample_drawings.specs.Draws.{next_state, state_after}
-use Rattle.sample_drawings.specs.Grids.{by_place, in_square, moved_junction}
-use Rattle.sample_drawings.specs.Samples.{cell_count, cell_kind, junction, junction_count, junction_draws}
+use Rattle.sample_drawings.specs.Grids.{by_index, in_square, moved_junction}
+use Rattle.sample_drawings.specs.Samples.{cells_per_side, cell_kind, grid_junction, junctions_per_side, junction_draws}
 
 -- the state after one draw more
 state_one : (number draws : ℕ) → state_after number (draws + 1) ≡ next_state (state_after number draws)
@@ -31,35 +31,35 @@ state_told number before place state after at is =
 
 -- the junction of a place is drawn after those of all places before it
 pub junction_drawn : (number place : ℕ)
-    → moved_junction (state_after number (2 * place)) (place % junction_count number) (place / junction_count number)
-    ≡ junction number (place % junction_count number) (place / junction_count number)
+    → moved_junction (state_after number (2 * place)) (place % junctions_per_side number) (place / junctions_per_side number)
+    ≡ grid_junction number (place % junctions_per_side number) (place / junctions_per_side number)
 junction_drawn number place =
-    let w = junction_count number in
+    let w = junctions_per_side number in
     rw (div-add-mod' place w, state_one number (2 * place), state_two number (2 * place)) refl
 
 -- and the kind of a cell after those of all places before it
 pub kind_drawn : (number place : ℕ)
     → next_state (state_after number (junction_draws number + place)) % 4
-    ≡ cell_kind number (place % cell_count number) (place / cell_count number)
+    ≡ cell_kind number (place % cells_per_side number) (place / cells_per_side number)
 kind_drawn number place =
     let before = junction_draws number in
-    rw (div-add-mod' place (cell_count number), state_one number (before + place)) refl
+    rw (div-add-mod' place (cells_per_side number), state_one number (before + place)) refl
 
 -- so is the junction that is drawn next
-pub junction_next : (number columns place state : ℕ) (p : Point) → columns ≡ junction_count number
+pub junction_next : (number columns place state : ℕ) (p : Point) → columns ≡ junctions_per_side number
     → state ≡ state_after number (2 * place) → p ≡ moved_junction state (place % columns) (place / columns)
-    → p ≡ junction number (place % junction_count number) (place / junction_count number)
+    → p ≡ grid_junction number (place % junctions_per_side number) (place / junctions_per_side number)
 junction_next number columns place state p wide at is = rw (wide, at) at is ∙ junction_drawn number place
 
 -- and the kind that is drawn next
 pub kind_next : (number place state kind : ℕ)
     → state ≡ state_after number (junction_draws number + place)
-    → kind ≡ next_state state % 4 → kind ≡ cell_kind number (place % cell_count number) (place / cell_count number)
+    → kind ≡ next_state state % 4 → kind ≡ cell_kind number (place % cells_per_side number) (place / cells_per_side number)
 kind_next number place state kind at is = rw at at is ∙ kind_drawn number place
 
 -- one place more
-pub place_added : {T : Type 0} (columns n : ℕ) (make : ℕ → ℕ → T) (xs ys : List T) (x : T) → xs ≡ by_place columns make n
-    → x ≡ make (n % columns) (n / columns) → ys ≡ xs ++ x ∷ [] → ys ≡ by_place columns make (n + 1)
+pub place_added : {T : Type 0} (columns n : ℕ) (make : ℕ → ℕ → T) (xs ys : List T) (x : T) → xs ≡ by_index columns make n
+    → x ≡ make (n % columns) (n / columns) → ys ≡ xs ++ x ∷ [] → ys ≡ by_index columns make (n + 1)
 place_added columns n make xs ys x are is pushed =
     pushed
     ∙ (ap₂ (λ zs z. zs ++ z ∷ []) are is

@@ -2,4 +2,4 @@ pub mod SampleFacts
 pub mod DrawLemmas
 pub mod RowLemmas
 pub mod ShortLines
-pub mod TakingLemmas
+pub mod SampleRoomLemmas

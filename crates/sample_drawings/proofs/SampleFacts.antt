@@ -3,10 +3,10 @@
 use Rattle.std.proofs.Common.{◌≡◌, ◌+◌, ◌*◌, ◌∷◌, [], ℕ, codes, length, map, pos, refl}
 use Rattle.design_model.specs.declared.point.Point.{Point}
 use Rattle.line_sections.specs.Lines.{LineValue}
-use Rattle.line_graph.specs.Needles.{line_steps}
+use Rattle.line_graph.specs.Needles.{steps_of_line}
 use Rattle.sample_drawings.specs.declared.segment.Segment.{Segment}
-use Rattle.sample_drawings.specs.Draws.{drawn, state_after}
-use Rattle.sample_drawings.specs.Samples.{cell_count, cell_kind, junction, row_by_row, sample_of, segments}
+use Rattle.sample_drawings.specs.Draws.{drawn_number, state_after}
+use Rattle.sample_drawings.specs.Samples.{cells_per_side, cell_kind, grid_junction, row_by_row, sample_drawing_of, sample_segments}
 
 -- a place on the sheet
 abbrev at : ℕ → ℕ → Point
@@ -26,11 +26,11 @@ pub known_first_draw : state_after 999999 1 ≡ 25671
 known_first_draw = refl
 
 -- draw 2 is computed from the state after two draws
-pub known_draw : (drawn 75 2 50 ≡ 27) × (drawn 75 9 4 ≡ 3)
+pub known_draw : (drawn_number 75 2 50 ≡ 27) × (drawn_number 75 9 4 ≡ 3)
 known_draw = (refl, refl)
 
 -- fifteen sizes, the first one of one cell
-pub known_sizes : map cell_count (1 ∷ 14 ∷ 15 ∷ 16 ∷ 75 ∷ 999999 ∷ []) ≡ 2 ∷ 15 ∷ 1 ∷ 2 ∷ 1 ∷ 10 ∷ []
+pub known_sizes : map cells_per_side (1 ∷ 14 ∷ 15 ∷ 16 ∷ 75 ∷ 999999 ∷ []) ≡ 2 ∷ 15 ∷ 1 ∷ 2 ∷ 1 ∷ 10 ∷ []
 known_sizes = refl
 
 -- columns first, then rows
@@ -38,13 +38,13 @@ pub known_rows : row_by_row 2 3 (λ i j. (10 * i + j) ∷ []) ≡ 0 ∷ 10 ∷ 1
 known_rows = refl
 
 -- of each junction the draw to the right comes before the draw down, and those of its row before those of the next
-pub known_junctions : (junction 75 0 0 ≡ at 49 27) × (junction 75 1 0 ≡ at 106 45) × (junction 75 0 1 ≡ at 1 141)
-    × (junction 75 1 1 ≡ at 126 149)
+pub known_junctions : (grid_junction 75 0 0 ≡ at 49 27) × (grid_junction 75 1 0 ≡ at 106 45) × (grid_junction 75 0 1 ≡ at 1 141)
+    × (grid_junction 75 1 1 ≡ at 126 149)
 known_junctions = (refl, refl, refl, refl)
 
-pub known_more_junctions : (junction 1 0 0 ≡ at 49 49) × (junction 1 1 0 ≡ at 105 44) × (junction 1 2 0 ≡ at 233 19)
-    × (junction 1 0 1 ≡ at 13 139) × (junction 1 1 1 ≡ at 122 101) × (junction 1 2 1 ≡ at 242 136)
-    × (junction 1 0 2 ≡ at 32 206) × (junction 1 1 2 ≡ at 128 244) × (junction 1 2 2 ≡ at 200 232)
+pub known_more_junctions : (grid_junction 1 0 0 ≡ at 49 49) × (grid_junction 1 1 0 ≡ at 105 44) × (grid_junction 1 2 0 ≡ at 233 19)
+    × (grid_junction 1 0 1 ≡ at 13 139) × (grid_junction 1 1 1 ≡ at 122 101) × (grid_junction 1 2 1 ≡ at 242 136)
+    × (grid_junction 1 0 2 ≡ at 32 206) × (grid_junction 1 1 2 ≡ at 128 244) × (grid_junction 1 2 2 ≡ at 200 232)
 known_more_junctions = (refl, refl, refl, refl, refl, refl, refl, refl, refl)
 
 -- the cells are drawn after all junctions, row by row
@@ -53,20 +53,20 @@ pub known_kinds : (cell_kind 75 0 0 ≡ 3) × (cell_kind 15 0 0 ≡ 0) × (cell_
 known_kinds = (refl, refl, refl, refl, refl, refl)
 
 -- a cell of kind 3 has both diagonals, the one that falls to the right first
-pub known_lines : segments 75
+pub known_lines : sample_segments 75
     ≡ line (at 49 27) (at 106 45) ∷ line (at 1 141) (at 126 149)
     ∷ line (at 49 27) (at 1 141) ∷ line (at 106 45) (at 126 149)
     ∷ line (at 49 27) (at 126 149) ∷ line (at 106 45) (at 1 141) ∷ []
 known_lines = refl
 
 -- a cell of kind 0 has none
-pub known_bare_cell : segments 15
+pub known_bare_cell : sample_segments 15
     ≡ line (at 49 12) (at 125 11) ∷ line (at 23 148) (at 100 145)
     ∷ line (at 49 12) (at 23 148) ∷ line (at 125 11) (at 100 145) ∷ []
 known_bare_cell = refl
 
 -- six lines across, six down, and the diagonals of cells of the kinds 2, 1, 2 and 1
-pub known_more_lines : segments 1
+pub known_more_lines : sample_segments 1
     ≡ line (at 49 49) (at 105 44) ∷ line (at 105 44) (at 233 19)
     ∷ line (at 13 139) (at 122 101) ∷ line (at 122 101) (at 242 136)
     ∷ line (at 32 206) (at 128 244) ∷ line (at 128 244) (at 200 232)
@@ -80,7 +80,7 @@ known_more_lines = refl
 abbrev drawn_line : Point → Point → LineValue
 drawn_line p q = record { block = 0; points = p ∷ q ∷ [] }
 
-pub known_sample : sample_of 75 ≡ record {
+pub known_sample : sample_drawing_of 75 ≡ record {
   label = codes "sample";
   step = 25;
   threads = 1 ∷ [];
@@ -93,9 +93,9 @@ pub known_sample : sample_of 75 ≡ record {
 known_sample = refl
 
 -- the costs of its lines
-pub known_costs : map (λ l. line_steps (sample_of 75).step l.points) (sample_of 75).lines ≡ 3 ∷ 5 ∷ 5 ∷ 5 ∷ 5 ∷ 5 ∷ []
+pub known_costs : map (λ l. steps_of_line (sample_drawing_of 75).step l.points) (sample_drawing_of 75).lines ≡ 3 ∷ 5 ∷ 5 ∷ 5 ∷ 5 ∷ 5 ∷ []
 known_costs = refl
 
 -- the size of 14 is the largest
-pub known_count : length (segments 14) ≡ 710
+pub known_count : length (sample_segments 14) ≡ 710
 known_count = refl

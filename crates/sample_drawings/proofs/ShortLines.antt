@@ -9,11 +9,11 @@ use Rattle.std.proofs.lemmas.List.Elements.{All-append, All-cons, All-nil}
 use Rattle.std.specs.Int.{div_ceil}
 use Rattle.std.specs.Ordering.{int_eq}
 use Rattle.design_model.specs.declared.point.Point.{Point}
-use Rattle.design_model.specs.Points.{is_same_point, is_within}
+use Rattle.design_model.specs.Points.{is_same_point, is_point_within}
 use Rattle.sample_drawings.specs.declared.segment.Segment.{Segment}
-use Rattle.sample_drawings.specs.Draws.{drawn}
-use Rattle.sample_drawings.specs.Samples.{across, between, cell_count, cell_kind, diagonals, down, falls_left, falls_right, junction_count, only_if, place_in, row_by_row, segments}
-use Rattle.sample_drawings.specs.Taking.{IsShort}
+use Rattle.sample_drawings.specs.Draws.{drawn_number}
+use Rattle.sample_drawings.specs.Samples.{line_across, segment_between, cells_per_side, cell_kind, diagonals, line_down, falls_left, falls_right, junctions_per_side, segment_if, row_major_index, row_by_row, sample_segments}
+use Rattle.sample_drawings.specs.SampleRoom.{IsShortSegment}
 use Rattle.sample_drawings.proofs.RowLemmas.{all_rows, few_rows}
 
 -- a place on a sheet
@@ -34,8 +34,8 @@ few_steps : (size : ℕ) → size ≤ 149 → div_ceil size 25 + 0 ≤ 6
 few_steps size small = let times = div_ceil_times size 25 (omega arith) in omega (arith, times.1)
 
 -- a place on the sheet is in range
-in_range : (x y : ℕ) → x ≤ 30000 → y ≤ 30000 → is_within 30000 (at x y) ≡ true
-in_range x y across down = grind (arith, nat_tests)
+in_range : (x y : ℕ) → x ≤ 30000 → y ≤ 30000 → is_point_within 30000 (at x y) ≡ true
+in_range x y line_across line_down = grind (arith, nat_tests)
 
 -- places that differ are found to differ
 found_apart : (same : Bool) (a b c d : ℕ) → (a ≡ c → b ≡ d → ⊥) → is_same_point (at a b) (at c d) ≡ same → same ≡ false
@@ -48,7 +48,7 @@ found_apart true a b c d differ is =
 
 -- a line between places on the sheet that are near each other
 short_line : (a b c d : ℕ) → a ≤ 30000 → b ≤ 30000 → c ≤ 30000 → d ≤ 30000 → IsNear a c → IsNear b d
-    → (a ≡ c → b ≡ d → ⊥) → IsShort (record { from = at a b; to = at c d })
+    → (a ≡ c → b ≡ d → ⊥) → IsShortSegment (record { from = at a b; to = at c d })
 short_line a b c d ax by cx dy near_x near_y differ = record {
   from = in_range a b ax by;
   to = in_range c d cx dy;
@@ -58,11 +58,11 @@ short_line a b c d ax by cx dy near_x near_y differ = record {
 }
 
 -- the result of a draw
-below_50 : (number draw : ℕ) → drawn number draw 50 < 50
+below_50 : (number draw : ℕ) → drawn_number number draw 50 < 50
 below_50 number draw = mod-lt _ (omega arith)
 
 -- so few cells there are
-few_cells : (number : ℕ) → cell_count number ≤ 15
+few_cells : (number : ℕ) → cells_per_side number ≤ 15
 few_cells number = let rest : number % 15 < 15 = mod-lt number (omega arith) in omega (arith, rest)
 
 -- numbers of columns or rows that are the same, or one after the other
@@ -80,14 +80,14 @@ near_places i k a c next from to = record {
 }
 
 -- a line between junctions of such columns and rows
-short_between : (number i j k l : ℕ) → AreNext i k → AreNext j l → (i ≡ k → j ≡ l → ⊥) → IsShort (between number i j k l)
+short_between : (number i j k l : ℕ) → AreNext i k → AreNext j l → (i ≡ k → j ≡ l → ⊥) → IsShortSegment (segment_between number i j k l)
 short_between number i j k l columns rows differ =
-    let from = 2 * place_in (junction_count number) i j in
-    let to = 2 * place_in (junction_count number) k l in
-    let a = drawn number (from + 1) 50 in
-    let b = drawn number (from + 2) 50 in
-    let c = drawn number (to + 1) 50 in
-    let d = drawn number (to + 2) 50 in
+    let from = 2 * row_major_index (junctions_per_side number) i j in
+    let to = 2 * row_major_index (junctions_per_side number) k l in
+    let a = drawn_number number (from + 1) 50 in
+    let b = drawn_number number (from + 2) 50 in
+    let c = drawn_number number (to + 1) 50 in
+    let d = drawn_number number (to + 2) 50 in
     let a_low : a < 50 = below_50 number (from + 1) in
     let b_low : b < 50 = below_50 number (from + 2) in
     let c_low : c < 50 = below_50 number (to + 1) in
@@ -98,16 +98,16 @@ short_between number i j k l columns rows differ =
     (λ x y. differ (omega (arith, x)) (omega (arith, y)))
 
 -- one line alone
-short_one : (line : Segment) → IsShort line → All IsShort (line ∷ [])
-short_one line short = All-cons IsShort line [] short (All-nil IsShort)
+short_one : (line : Segment) → IsShortSegment line → All IsShortSegment (line ∷ [])
+short_one line short = All-cons IsShortSegment line [] short (All-nil IsShortSegment)
 
 -- one line, or none
-short_if : (there : Bool) (line : Segment) → IsShort line → All IsShort (only_if there line)
+short_if : (there : Bool) (line : Segment) → IsShortSegment line → All IsShortSegment (segment_if there line)
 short_if true line short = short_one line short
-short_if false line short = All-nil IsShort
+short_if false line short = All-nil IsShortSegment
 
 -- that is one line at most
-few_if : (there : Bool) (line : Segment) → length (only_if there line) ≤ 1
+few_if : (there : Bool) (line : Segment) → length (segment_if there line) ≤ 1
 few_if true line = omega arith
 few_if false line = omega arith
 
@@ -124,12 +124,12 @@ alike : (i : ℕ) → i ≤ 15 → AreNext i i
 alike i there = record { first = there; second = there; low = omega arith; high = omega arith }
 
 -- the diagonals of a cell are short
-short_diagonals : (number i j : ℕ) → i < 15 → j < 15 → All IsShort (diagonals number i j)
+short_diagonals : (number i j : ℕ) → i < 15 → j < 15 → All IsShortSegment (diagonals number i j)
 short_diagonals number i j column row =
     let kind = cell_kind number i j in
-    let right = between number i j (i + 1) (j + 1) in
-    let left = between number (i + 1) j i (j + 1) in
-    All-append IsShort (only_if (falls_right kind) right) (only_if (falls_left kind) left)
+    let right = segment_between number i j (i + 1) (j + 1) in
+    let left = segment_between number (i + 1) j i (j + 1) in
+    All-append IsShortSegment (segment_if (falls_right kind) right) (segment_if (falls_left kind) left)
     (short_if (falls_right kind) right
     (short_between number i j (i + 1) (j + 1) (next i column) (next j row) (λ x y. absurd (omega (arith, x)))))
     (short_if (falls_left kind) left
@@ -139,44 +139,44 @@ short_diagonals number i j column row =
 few_diagonals : (number i j : ℕ) → length (diagonals number i j) ≤ 2
 few_diagonals number i j =
     let kind = cell_kind number i j in
-    let right = only_if (falls_right kind) (between number i j (i + 1) (j + 1)) in
-    let left = only_if (falls_left kind) (between number (i + 1) j i (j + 1)) in
+    let right = segment_if (falls_right kind) (segment_between number i j (i + 1) (j + 1)) in
+    let left = segment_if (falls_left kind) (segment_between number (i + 1) j i (j + 1)) in
     omega (
       arith,
       length-append right left,
-      few_if (falls_right kind) (between number i j (i + 1) (j + 1)),
-      few_if (falls_left kind) (between number (i + 1) j i (j + 1)),
+      few_if (falls_right kind) (segment_between number i j (i + 1) (j + 1)),
+      few_if (falls_left kind) (segment_between number (i + 1) j i (j + 1)),
     )
 
 -- all lines of a sample are short
-pub all_short : (number : ℕ) → All IsShort (segments number)
+pub all_short : (number : ℕ) → All IsShortSegment (sample_segments number)
 all_short number =
-    let cells = cell_count number in
+    let cells = cells_per_side number in
     let few = few_cells number in
-    let lying = all_rows IsShort cells (cells + 1) (across number)
-    (λ i j column row. short_one (between number i j (i + 1) j)
+    let lying = all_rows IsShortSegment cells (cells + 1) (line_across number)
+    (λ i j column row. short_one (segment_between number i j (i + 1) j)
     (short_between number i j (i + 1) j (next i (omega (arith, few, column))) (alike j (omega (arith, few, row)))
     (λ x y. absurd (omega (arith, x))))) in
-    let standing = all_rows IsShort (cells + 1) cells (down number)
-    (λ i j column row. short_one (between number i j i (j + 1))
+    let standing = all_rows IsShortSegment (cells + 1) cells (line_down number)
+    (λ i j column row. short_one (segment_between number i j i (j + 1))
     (short_between number i j i (j + 1) (alike i (omega (arith, few, column))) (next j (omega (arith, few, row)))
     (λ x y. absurd (omega (arith, y))))) in
-    let leaning = all_rows IsShort cells cells (diagonals number)
+    let leaning = all_rows IsShortSegment cells cells (diagonals number)
     (λ i j column row. short_diagonals number i j (omega (arith, few, column)) (omega (arith, few, row))) in
-    let downwards = row_by_row (cells + 1) cells (down number) in
+    let downwards = row_by_row (cells + 1) cells (line_down number) in
     let diagonal = row_by_row cells cells (diagonals number) in
-    let beside = row_by_row cells (cells + 1) (across number) in
-    All-append IsShort (beside ++ downwards) diagonal (All-append IsShort beside downwards lying standing) leaning
+    let beside = row_by_row cells (cells + 1) (line_across number) in
+    All-append IsShortSegment (beside ++ downwards) diagonal (All-append IsShortSegment beside downwards lying standing) leaning
 
 -- there are 930 at most
-pub few_lines : (number : ℕ) → length (segments number) ≤ 930
+pub few_lines : (number : ℕ) → length (sample_segments number) ≤ 930
 few_lines number =
-    let cells = cell_count number in
+    let cells = cells_per_side number in
     let few = few_cells number in
-    let lying = few_rows cells (cells + 1) 1 15 16 (across number) (λ i j. omega arith) few (omega (arith, few)) in
-    let standing = few_rows (cells + 1) cells 1 16 15 (down number) (λ i j. omega arith) (omega (arith, few)) few in
+    let lying = few_rows cells (cells + 1) 1 15 16 (line_across number) (λ i j. omega arith) few (omega (arith, few)) in
+    let standing = few_rows (cells + 1) cells 1 16 15 (line_down number) (λ i j. omega arith) (omega (arith, few)) few in
     let leaning = few_rows cells cells 2 15 15 (diagonals number) (few_diagonals number) few few in
-    let downwards = row_by_row (cells + 1) cells (down number) in
+    let downwards = row_by_row (cells + 1) cells (line_down number) in
     let diagonal = row_by_row cells cells (diagonals number) in
-    let beside = row_by_row cells (cells + 1) (across number) in
+    let beside = row_by_row cells (cells + 1) (line_across number) in
     omega (arith, length-append (beside ++ downwards) diagonal, length-append beside downwards, lying, standing, leaning)

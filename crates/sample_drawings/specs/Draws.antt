@@ -12,5 +12,5 @@ state_after number (suc draws) = next_state (state_after number draws)
 
 -- The number below the limit that the draw of the given number results in. Draws are numbered from
 -- 1.
-abbrev pub drawn : ℕ → ℕ → ℕ → ℕ
-drawn number draw limit = state_after number draw % limit
+abbrev pub drawn_number : ℕ → ℕ → ℕ → ℕ
+drawn_number number draw limit = state_after number draw % limit

@@ -4,23 +4,23 @@ use Rattle.std.specs.Prelude.{ℕ, pos, ◌+◌, ◌*◌, ◌/◌, ◌%◌, List
 use Rattle.std.specs.List.{range_with_len}
 use Rattle.design_model.specs.declared.point.Point.{Point}
 use Rattle.sample_drawings.specs.Draws.{next_state}
-use Rattle.sample_drawings.specs.Samples.{cell_count, cell_kind, junction, junction_count}
+use Rattle.sample_drawings.specs.Samples.{cells_per_side, cell_kind, grid_junction, junctions_per_side}
 
 -- A list with the value for each column and row, row by row, up to the given number of items.
-abbrev pub by_place : {T : Type 0} → ℕ → (ℕ → ℕ → T) → ℕ → List T
-by_place columns make count = map (λ n. make (n % columns) (n / columns)) (range_with_len 0 count)
+abbrev pub by_index : {T : Type 0} → ℕ → (ℕ → ℕ → T) → ℕ → List T
+by_index columns make count = map (λ n. make (n % columns) (n / columns)) (range_with_len 0 count)
 
 -- A list with the value for each column and row of a square grid, row by row.
 abbrev pub in_square : {T : Type 0} → ℕ → (ℕ → ℕ → T) → List T
-in_square columns make = by_place columns make (columns * columns)
+in_square columns make = by_index columns make (columns * columns)
 
 -- The junctions of a grid, row by row.
-abbrev pub junctions_of : ℕ → List Point
-junctions_of number = in_square (junction_count number) (junction number)
+abbrev pub grid_junctions : ℕ → List Point
+grid_junctions number = in_square (junctions_per_side number) (grid_junction number)
 
 -- The kinds of the cells of a grid, row by row.
 abbrev pub kinds_of : ℕ → List ℕ
-kinds_of number = in_square (cell_count number) (cell_kind number)
+kinds_of number = in_square (cells_per_side number) (cell_kind number)
 
 -- The junction at a column and a row, drawn from the given state of the generator.
 abbrev pub moved_junction : ℕ → ℕ → ℕ → Point

@@ -3,5 +3,5 @@ pub mod Draws
 pub mod Samples
 -- Used only inside this crate.
 pub mod Grids
-pub mod Courses
-pub mod Taking
+pub mod GridLines
+pub mod SampleRoom

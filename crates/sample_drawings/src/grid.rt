@@ -2,8 +2,8 @@ ghost use Rattle.std.specs.Prelude.{◌≡◌, ◌+◌, ◌*◌, ◌<◌, ◌≤
 ghost use Rattle.sample_drawings.specs.declared.draws.TheConstants.{MAX_NUMBER};
 ghost use Rattle.sample_drawings.specs.declared.grid.TheConstants.{SIZES};
 ghost use Rattle.sample_drawings.specs.Draws.{next_state, state_after};
-ghost use Rattle.sample_drawings.specs.Grids.{junctions_of, kinds_of, moved_junction};
-ghost use Rattle.sample_drawings.specs.Samples.{between as line_between, cell_count as cells_in, cell_kind, junction as junction_at, junction_count as junctions_in, junction_draws};
+ghost use Rattle.sample_drawings.specs.Grids.{grid_junctions, kinds_of, moved_junction};
+ghost use Rattle.sample_drawings.specs.Samples.{segment_between, cells_per_side, cell_kind, grid_junction, junctions_per_side, junction_draws};
 
 use crate::draws::Generator;
 use crate::segment::Segment;
@@ -28,7 +28,7 @@ pub struct Grid {
     pub number: u32,
     junctions: Points,
     kinds: Numbers,
-    ghost junctions_are: { junctions ≡ junctions_of number },
+    ghost junctions_are: { junctions ≡ grid_junctions number },
     ghost kinds_are: { kinds ≡ kinds_of number },
 }
 
@@ -50,20 +50,20 @@ impl Grid {
 
     /// Returns the junction of column `i` in row `j`, in tenths of a millimetre.
     pub fn junction(&self, i: u32, j: u32) -> Point
-        requires column { i < junctions_in self.now.number }
-        requires row { j < junctions_in self.now.number }
-        ensures { result ≡ junction_at self.now.number i j }
+        requires column { i < junctions_per_side self.now.number }
+        requires row { j < junctions_per_side self.now.number }
+        ensures { result ≡ grid_junction self.now.number i j }
     {
         self.junctions.as_slice()[(j * junction_count(self.number) + i) as usize]
     }
 
     /// Returns the line from the junction of column `i` in row `j` to that of column `to_i` in row `to_j`.
     pub fn between(&self, i: u32, j: u32, to_i: u32, to_j: u32) -> Segment
-        requires column { i < junctions_in self.now.number }
-        requires row { j < junctions_in self.now.number }
-        requires to_column { to_i < junctions_in self.now.number }
-        requires to_row { to_j < junctions_in self.now.number }
-        ensures { result ≡ line_between self.now.number i j to_i to_j }
+        requires column { i < junctions_per_side self.now.number }
+        requires row { j < junctions_per_side self.now.number }
+        requires to_column { to_i < junctions_per_side self.now.number }
+        requires to_row { to_j < junctions_per_side self.now.number }
+        ensures { result ≡ segment_between self.now.number i j to_i to_j }
     {
         Segment {
             from: self.junction(i, j),
@@ -73,8 +73,8 @@ impl Grid {
 
     /// Returns the kind of the cell of column `i` in row `j`.
     pub fn kind(&self, i: u32, j: u32) -> u32
-        requires column { i < cells_in self.now.number }
-        requires row { j < cells_in self.now.number }
+        requires column { i < cells_per_side self.now.number }
+        requires row { j < cells_per_side self.now.number }
         ensures { result ≡ cell_kind self.now.number i j }
     {
         self.kinds.as_slice()[(j * cell_count(self.number) + i) as usize]
@@ -83,7 +83,7 @@ impl Grid {
 
 /// Returns the number of cells in each row and in each column.
 pub fn cell_count(number: u32) -> u32
-    ensures value { result ≡ cells_in number }
+    ensures value { result ≡ cells_per_side number }
     ensures few { result ≤ SIZES }
 {
     1 + number % SIZES
@@ -91,7 +91,7 @@ pub fn cell_count(number: u32) -> u32
 
 /// Returns the number of junctions in each row and in each column.
 pub fn junction_count(number: u32) -> u32
-    ensures value { result ≡ junctions_in number }
+    ensures value { result ≡ junctions_per_side number }
     ensures few { result ≤ SIZES + 1 }
 {
     cell_count(number) + 1
@@ -99,7 +99,7 @@ pub fn junction_count(number: u32) -> u32
 
 fn junctions(alloc: Global, number: u32, generator: &mut Generator) -> Result<Points, Memory>
     requires { generator.old.state ≡ number }
-    ensures value { IfOk result (λ junctions. junctions ≡ junctions_of number) }
+    ensures value { IfOk result (λ junctions. junctions ≡ grid_junctions number) }
     ensures state { OnOk result (generator.new.state ≡ state_after number (junction_draws number)) }
 {
     let columns = junction_count(number);

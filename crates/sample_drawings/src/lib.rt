@@ -1,9 +1,9 @@
 //! Sample drawings: for each number a grid of lines, between junctions that are moved at random.
 #![tactic(auto)]
 
-mod courses;
 mod draws;
 mod grid;
+mod grid_lines;
 mod sample;
 mod segment;
 #[cfg(test)]

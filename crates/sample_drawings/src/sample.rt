@@ -2,11 +2,11 @@ ghost use Rattle.std.specs.Prelude.{◌≡◌, ◌≤◌, ◌∷◌, [], All, If
 ghost use Rattle.line_graph.specs.declared.draw_kind.DrawKind.TheVariants as kind;
 ghost use Rattle.line_graph.specs.WalkEnds.{HasNoEnds};
 ghost use Rattle.sample_drawings.specs.declared.draws.TheConstants.{MAX_NUMBER};
-ghost use Rattle.sample_drawings.specs.Samples.{sample_of};
-ghost use Rattle.sample_drawings.specs.Taking.{HasRoom, IsShort, first_block, with_segments};
+ghost use Rattle.sample_drawings.specs.Samples.{sample_drawing_of};
+ghost use Rattle.sample_drawings.specs.SampleRoom.{HasRoom, IsShortSegment, first_block, with_segments};
 
-use crate::courses::segments;
 use crate::grid::Grid;
+use crate::grid_lines::segments;
 use crate::segment::Segment;
 use design_model::{Memory, Points};
 use line_graph::{DrawKind, Drawing, DrawingMaker};
@@ -23,7 +23,7 @@ const THREAD: u8 = 1;
 pub fn sample_drawing(alloc: Global, number: u32) -> Result<Drawing, Memory>
     requires low { 1 ≤ number }
     requires high { number ≤ MAX_NUMBER }
-    ensures value { IfOk result (λ drawing. drawing ≡ sample_of number) }
+    ensures value { IfOk result (λ drawing. drawing ≡ sample_drawing_of number) }
     ensures unended { IfOk result HasNoEnds }
 {
     let grid = Grid::of_number(alloc, number)?;
@@ -43,13 +43,13 @@ fn begun(alloc: Global) -> Result<DrawingMaker, Memory>
     let mut maker = DrawingMaker::new(alloc, b"sample", STEP);
     match maker.add_block(THREAD) {
         Ok(()) => Ok(maker),
-        Err(fault) => Err(want_of_memory(fault)),
+        Err(fault) => Err(memory_fault(fault)),
     }
 }
 
 fn add_lines(alloc: Global, maker: &mut DrawingMaker, lines: &[Segment]) -> Result<(), Memory>
     requires room { HasRoom maker.old (length lines.now) }
-    requires short { All IsShort lines.now }
+    requires short { All IsShortSegment lines.now }
     ensures { OnOk result (maker.new ≡ with_segments maker.old lines.now) }
 {
     for line in lines {
@@ -60,19 +60,19 @@ fn add_lines(alloc: Global, maker: &mut DrawingMaker, lines: &[Segment]) -> Resu
 
 fn add_line(alloc: Global, maker: &mut DrawingMaker, line: Segment) -> Result<(), Memory>
     requires room { HasRoom maker.old 1 }
-    requires short { IsShort line }
+    requires short { IsShortSegment line }
     ensures { OnOk result (maker.new ≡ with_segments maker.old (line ∷ [])) }
 {
     let mut points = Points::new(alloc);
     points.append([line.from, line.to].as_slice())?;
     match maker.add_line(points) {
         Ok(()) => Ok(()),
-        Err(fault) => Err(want_of_memory(fault)),
+        Err(fault) => Err(memory_fault(fault)),
     }
 }
 
 /// Returns the fault of a drawing whose only possible fault is `Memory`.
-fn want_of_memory(fault: DrawKind) -> Memory
+fn memory_fault(fault: DrawKind) -> Memory
     requires { fault ≡ kind.Memory }
 {
     match fault {

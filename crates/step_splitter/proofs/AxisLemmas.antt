@@ -4,7 +4,7 @@ use Rattle.std.proofs.Math.IntN.{neg_ℤ}
 use Rattle.std.proofs.lemmas.Int.{ints, by_lt_z}
 use Rattle.std.proofs.Math.Nat.{div-eq_of_lt, zero-div}
 use Rattle.step_splitter.proofs.QuotientLemmas.{div-more, part_last, part_moves, part_rises, part_rises_little, part_within}
-use Rattle.step_splitter.specs.Steps.{floor_quotient, number_at}
+use Rattle.step_splitter.specs.Steps.{floor_quotient, coordinate_on_segment}
 
 -- a product with a number that isn't negative, over n
 pub floor_up : (i n : ℕ) (z : ℤ) → pos 0 ≤ℤ z → floor_quotient (pos i *ℤ z) n ≡ pos (i * unsigned_abs z / n)
@@ -30,15 +30,15 @@ floor_down i n (pos d) some below = absurd (omega (arith, ints))
 floor_down i n (negsuc d) some below = floor_negated (i * suc d) n some
 
 -- up the axis, the parts are added
-pub number_at-up : (from to : ℤ) (n i : ℕ) → from ≤ℤ to
-    → number_at from to n i ≡ from +ℤ pos (i * unsigned_abs (to -ℤ from) / n)
-number_at-up from to n i up =
+pub coordinate_on_segment-up : (from to : ℤ) (n i : ℕ) → from ≤ℤ to
+    → coordinate_on_segment from to n i ≡ from +ℤ pos (i * unsigned_abs (to -ℤ from) / n)
+coordinate_on_segment-up from to n i up =
     let f = floor_up i n (to -ℤ from) (omega (arith, ints)) in grind arith
 
 -- down the axis, the parts are taken off, rounded up
-pub number_at-down : (from to : ℤ) (n i : ℕ) → 1 ≤ n → to <ℤ from
-    → number_at from to n i ≡ from -ℤ pos ((i * unsigned_abs (to -ℤ from) + (n - 1)) / n)
-number_at-down from to n i some down =
+pub coordinate_on_segment-down : (from to : ℤ) (n i : ℕ) → 1 ≤ n → to <ℤ from
+    → coordinate_on_segment from to n i ≡ from -ℤ pos ((i * unsigned_abs (to -ℤ from) + (n - 1)) / n)
+coordinate_on_segment-down from to n i some down =
     let f = floor_down i n (to -ℤ from) some (omega (arith, ints)) in
     omega (arith, ints)
 
@@ -95,47 +95,47 @@ within_down from to a limit down from_in to_in near = grind (arith, ints)
 
 -- one part of the way is at most the step
 pub axis_close : (from to : ℤ) (n i step : ℕ) → 1 ≤ n → unsigned_abs (to -ℤ from) ≤ n * step
-    → unsigned_abs (number_at from to n (i + 1) -ℤ number_at from to n i) ≤ step
+    → unsigned_abs (coordinate_on_segment from to n (i + 1) -ℤ coordinate_on_segment from to n i) ≤ step
 axis_close from to n i step some covers =
     by_lt_z to from
-    (λ down. rw (number_at-down from to n (i + 1) some down, number_at-down from to n i some down)
+    (λ down. rw (coordinate_on_segment-down from to n (i + 1) some down, coordinate_on_segment-down from to n i some down)
     (between_down from _ _ step (part_rises i _ (n - 1) n some)
     (part_rises_little i _ (n - 1) n step some covers)))
-    (λ up. rw (number_at-up from to n (i + 1) up, number_at-up from to n i up)
+    (λ up. rw (coordinate_on_segment-up from to n (i + 1) up, coordinate_on_segment-up from to n i up)
     (between_up from _ _ step (whole_rises i _ n some) (whole_rises_little i _ n step some covers)))
 
 -- no part of the way is empty where there are no more parts than the distance
 pub axis_moves : (from to : ℤ) (n i : ℕ) → 1 ≤ n → n ≤ unsigned_abs (to -ℤ from)
-    → number_at from to n i ≢ number_at from to n (i + 1)
+    → coordinate_on_segment from to n i ≢ coordinate_on_segment from to n (i + 1)
 axis_moves from to n i some far =
     by_lt_z to from
-    (λ down. rw (number_at-down from to n (i + 1) some down, number_at-down from to n i some down)
+    (λ down. rw (coordinate_on_segment-down from to n (i + 1) some down, coordinate_on_segment-down from to n i some down)
     (apart_down from _ _ (part_moves i _ (n - 1) n some far)))
-    (λ up. rw (number_at-up from to n (i + 1) up, number_at-up from to n i up)
+    (λ up. rw (coordinate_on_segment-up from to n (i + 1) up, coordinate_on_segment-up from to n i up)
     (apart_up from _ _ (whole_moves i _ n some far)))
 
 -- the way begins at the one number and ends at the other
-pub axis_first : (from to : ℤ) (n : ℕ) → 1 ≤ n → number_at from to n 0 ≡ from
+pub axis_first : (from to : ℤ) (n : ℕ) → 1 ≤ n → coordinate_on_segment from to n 0 ≡ from
 axis_first from to n some =
     by_lt_z to from
-    (λ down. rw (number_at-down from to n 0 some down, none_down _ n some) (omega (arith, ints)))
-    (λ up. rw (number_at-up from to n 0 up, none_up _ n) (omega (arith, ints)))
+    (λ down. rw (coordinate_on_segment-down from to n 0 some down, none_down _ n some) (omega (arith, ints)))
+    (λ up. rw (coordinate_on_segment-up from to n 0 up, none_up _ n) (omega (arith, ints)))
 
-pub axis_last : (from to : ℤ) (n : ℕ) → 1 ≤ n → number_at from to n n ≡ to
+pub axis_last : (from to : ℤ) (n : ℕ) → 1 ≤ n → coordinate_on_segment from to n n ≡ to
 axis_last from to n some =
     by_lt_z to from
     (λ down. rw (
-      number_at-down from to n n some down,
+      coordinate_on_segment-down from to n n some down,
       part_last (unsigned_abs (to -ℤ from)) (n - 1) n (omega arith),
     ) (grind (arith, ints)))
-    (λ up. rw (number_at-up from to n n up, whole_last (unsigned_abs (to -ℤ from)) n some) (grind (arith, ints)))
+    (λ up. rw (coordinate_on_segment-up from to n n up, whole_last (unsigned_abs (to -ℤ from)) n some) (grind (arith, ints)))
 
 -- and stays within the limit of both
 pub axis_within : (from to : ℤ) (n i limit : ℕ) → 1 ≤ n → i ≤ n → unsigned_abs from ≤ limit
-    → unsigned_abs to ≤ limit → unsigned_abs (number_at from to n i) ≤ limit
+    → unsigned_abs to ≤ limit → unsigned_abs (coordinate_on_segment from to n i) ≤ limit
 axis_within from to n i limit some there from_in to_in =
     by_lt_z to from
-    (λ down. rw (number_at-down from to n i some down)
+    (λ down. rw (coordinate_on_segment-down from to n i some down)
     (within_down from to _ limit down from_in to_in (part_within i _ (n - 1) n (omega arith) there)))
-    (λ up. rw (number_at-up from to n i up)
+    (λ up. rw (coordinate_on_segment-up from to n i up)
     (within_up from to _ limit up from_in to_in (whole_within i _ n some there)))

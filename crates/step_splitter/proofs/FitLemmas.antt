@@ -7,42 +7,42 @@ use Rattle.std.specs.List.{list_all}
 use Rattle.design_model.specs.declared.act.Act.{Act}
 use Rattle.design_model.specs.declared.act.Act.TheVariants as act
 use Rattle.design_model.specs.declared.point.Point.{Point}
-use Rattle.design_model.specs.Points.{is_within, move_between, origin, size_of}
+use Rattle.design_model.specs.Points.{is_point_within, move_between, origin, move_size}
 use Rattle.step_splitter.proofs.ChainLemmas.{comes_close}
 use Rattle.step_splitter.specs.declared.refitting.RefitMode.{RefitMode}
 use Rattle.step_splitter.specs.declared.refitting.RefitMode.TheVariants as mode
-use Rattle.step_splitter.specs.Chains.{KeepsClose, last_from}
-use Rattle.step_splitter.specs.Refits.{Fits, KeepsNear, is_no_float, needles_at, refitted_acts, refitted_from}
+use Rattle.step_splitter.specs.Chains.{AreCloseAfter, last_point_or}
+use Rattle.step_splitter.specs.Refits.{MeetsRefitGoal, AreNearActs, is_no_float, needles_at, refitted_acts, refitted_from}
 use Rattle.step_splitter.specs.Steps.{split_points}
 
 -- a move beyond a limit has a size
-size_far : (limit : ℕ) (m : Point) → is_within limit m ≡ false → 1 ≤ size_of m
+size_far : (limit : ℕ) (m : Point) → is_point_within limit m ≡ false → 1 ≤ move_size m
 size_far limit m far = grind (arith, nat_tests, le-max_left, le-max_right)
 
 -- needles that keep close keep near
-near_along : (limit : ℕ) (place : Point) (points : List Point) (rest : List Act) → KeepsClose limit place points
-    → KeepsNear limit false (last_from place points) rest → KeepsNear limit false place (needles_at points ++ rest)
+near_along : (limit : ℕ) (place : Point) (points : List Point) (rest : List Act) → AreCloseAfter limit place points
+    → AreNearActs limit false (last_point_or place points) rest → AreNearActs limit false place (needles_at points ++ rest)
 near_along limit place [] rest close near = near
 near_along limit place (p ∷ points) rest close near = (close.0, near_along limit p points rest close.1 near)
 
 -- a needle that is split if it is too far
 near_split : (limit : ℕ) (loose within : Bool) (place p : Point) (rest : List Act) → 1 ≤ limit
-    → is_within limit (move_between place p) ≡ within → KeepsNear limit false p rest
-    → KeepsNear limit loose place
+    → is_point_within limit (move_between place p) ≡ within → AreNearActs limit false p rest
+    → AreNearActs limit loose place
     ((if not loose && not within then needles_at (split_points place p limit) else act.Needle p false ∷ []) ++ rest)
 near_split limit true within place p rest low is near = (refl, near)
 near_split limit false true place p rest low is near = (is, near)
 near_split limit false false place p rest low is near =
     let come = comes_close place p limit (size_far limit (move_between place p) is) low in
     near_along limit place (split_points place p limit) rest come.0
-    (subst (λ q. KeepsNear limit false q rest) (sym come.1) near)
+    (subst (λ q. AreNearActs limit false q rest) (sym come.1) near)
 
 near_refitted : (limit : ℕ) (loose : Bool) (place : Point) (acts : List Act) → 1 ≤ limit
-    → KeepsNear limit loose place (refitted_from mode.Split limit loose place acts)
+    → AreNearActs limit loose place (refitted_from mode.Split limit loose place acts)
 near_refitted limit loose place [] low = tt
 near_refitted limit loose place (act.Needle p true ∷ rest) low = (refl, near_refitted limit false p rest low)
 near_refitted limit loose place (act.Needle p false ∷ rest) low =
-    near_split limit loose (is_within limit (move_between place p)) place p
+    near_split limit loose (is_point_within limit (move_between place p)) place p
     (refitted_from mode.Split limit false p rest) low refl (near_refitted limit false p rest low)
 near_refitted limit loose place (act.Trim ∷ rest) low = (refl, near_refitted limit true place rest low)
 near_refitted limit loose place (act.Stop ∷ rest) low = (refl, near_refitted limit true place rest low)
@@ -57,8 +57,8 @@ no_float_refitted limit loose place (act.Stop ∷ rest) = no_float_refitted limi
 
 -- the acts of a refit fit
 pub refitted_fits : (m : RefitMode) (limit : ℕ) (acts refitted : List Act) → 1 ≤ limit
-    → refitted ≡ refitted_acts m limit acts → Fits m limit refitted
+    → refitted ≡ refitted_acts m limit acts → MeetsRefitGoal m limit refitted
 refitted_fits mode.Split limit acts refitted low is =
-    subst (λ xs. Fits mode.Split limit xs) (sym is) (near_refitted limit true origin acts low)
+    subst (λ xs. MeetsRefitGoal mode.Split limit xs) (sym is) (near_refitted limit true origin acts low)
 refitted_fits mode.Cut limit acts refitted low is =
-    subst (λ xs. Fits mode.Cut limit xs) (sym is) (no_float_refitted limit true origin acts)
+    subst (λ xs. MeetsRefitGoal mode.Cut limit xs) (sym is) (no_float_refitted limit true origin acts)

@@ -5,5 +5,5 @@ mod PointLemmas
 mod ChainLemmas
 mod RefitFacts
 pub mod RefitLemmas
-pub mod ToldLemmas
+pub mod RefittedActLemmas
 pub mod FitLemmas

@@ -3,7 +3,7 @@ use Rattle.std.proofs.Common.{◌≡◌, ℤ, pos, negsuc, [], ◌∷◌, refl}
 use Rattle.design_model.specs.declared.point.Point.{Point}
 use Rattle.design_model.specs.Points.{origin}
 use Rattle.step_splitter.specs.declared.segment.TheConstants.{MAX_STEP}
-use Rattle.step_splitter.specs.Chains.{last_from}
+use Rattle.step_splitter.specs.Chains.{last_point_or}
 use Rattle.step_splitter.specs.Steps.{floor_quotient, split_points, steps_of}
 
 -- the point at those numbers
@@ -43,6 +43,6 @@ pub known_split : split_points origin (at (negsuc 6) (pos 3)) 3
 known_split = refl
 
 -- the last of some points, and of none the point before
-pub known_last : (last_from origin (at (pos 1) (pos 2) ∷ at (pos 3) (pos 4) ∷ []) ≡ at (pos 3) (pos 4))
-    × (last_from (at (pos 5) (pos 6)) [] ≡ at (pos 5) (pos 6))
+pub known_last : (last_point_or origin (at (pos 1) (pos 2) ∷ at (pos 3) (pos 4) ∷ []) ≡ at (pos 3) (pos 4))
+    × (last_point_or (at (pos 5) (pos 6)) [] ≡ at (pos 5) (pos 6))
 known_last = (refl, refl)

@@ -10,10 +10,10 @@ use Rattle.design_model.specs.declared.command.Command.{Command}
 use Rattle.design_model.specs.declared.command.Command.TheVariants as command
 use Rattle.design_model.specs.declared.design.TheConstants.{MAX_COMMANDS}
 use Rattle.design_model.specs.declared.point.Point.{Point}
-use Rattle.design_model.specs.ActPlaces.{is_loose_after, place_after}
-use Rattle.design_model.specs.Acts.{acts_of, bare}
+use Rattle.design_model.specs.ActPositions.{leaves_thread_loose, needle_position_after}
+use Rattle.design_model.specs.Acts.{acts_of, acts_without_numbers}
 use Rattle.design_model.specs.Designs.{DesignValue}
-use Rattle.design_model.specs.Points.{is_within, move_between, origin}
+use Rattle.design_model.specs.Points.{is_point_within, move_between, origin}
 use Rattle.step_splitter.specs.declared.refitting.RefitFault.{RefitFault}
 use Rattle.step_splitter.specs.declared.refitting.RefitFault.TheVariants as fault
 use Rattle.step_splitter.specs.declared.refitting.RefitMode.{RefitMode}
@@ -21,8 +21,8 @@ use Rattle.step_splitter.specs.declared.refitting.RefitMode.TheVariants as mode
 use Rattle.step_splitter.specs.Steps.{split_points}
 
 -- Two points are farther apart than the limit, on some axis.
-abbrev pub is_far : ℕ → Point → Point → Bool
-is_far limit p q = not (is_within limit (move_between p q))
+abbrev pub is_beyond_limit : ℕ → Point → Point → Bool
+is_beyond_limit limit p q = not (is_point_within limit (move_between p q))
 
 -- Needle acts at the given points, none of them a float.
 abbrev pub needles_at : List Point → List Act
@@ -33,7 +33,7 @@ needles_at points = map (λ p. act.Needle p false) points
 abbrev pub split_needle : ℕ → Bool → Point → Point → Bool → List Act
 split_needle limit loose place p true = act.Needle p true ∷ []
 split_needle limit loose place p false =
-    if not loose && is_far limit place p then needles_at (split_points place p limit)
+    if not loose && is_beyond_limit limit place p then needles_at (split_points place p limit)
     else act.Needle p false ∷ []
 
 -- The acts for one needle act, where floats are replaced: a float becomes a trim and a needle act.
@@ -57,7 +57,7 @@ refitted_act m limit loose place act.Stop = act.Stop ∷ []
 abbrev pub refitted_from : RefitMode → ℕ → Bool → Point → List Act → List Act
 refitted_from m limit loose place [] = []
 refitted_from m limit loose place (a ∷ rest) = refitted_act m limit loose place a
-    ++ refitted_from m limit (is_loose_after a) (place_after place a) rest
+    ++ refitted_from m limit (leaves_thread_loose a) (needle_position_after place a) rest
 
 -- The acts of a refitted design, for the acts of the design.
 abbrev pub refitted_acts : RefitMode → ℕ → List Act → List Act
@@ -66,17 +66,18 @@ refitted_acts m limit acts = refitted_from m limit true origin acts
 -- A needle act that is neither loose nor a float is within the limit of the one before.
 abbrev pub is_near_act : ℕ → Bool → Point → Act → Bool
 is_near_act limit loose place (act.Needle p true) = true
-is_near_act limit loose place (act.Needle p false) = loose || is_within limit (move_between place p)
+is_near_act limit loose place (act.Needle p false) = loose || is_point_within limit
+    (move_between place p)
 is_near_act limit loose place act.Trim = true
 is_near_act limit loose place act.Stop = true
 
 -- Each needle act of a list that is neither loose nor a float is within the limit of the one
 -- before.
-abbrev pub KeepsNear : ℕ → Bool → Point → List Act → Type 0
-KeepsNear limit loose place [] = Unit {0}
-KeepsNear limit loose place (a ∷ rest) =
-    IsTrue (is_near_act limit loose place a) × KeepsNear limit (is_loose_after a)
-    (place_after place a) rest
+abbrev pub AreNearActs : ℕ → Bool → Point → List Act → Type 0
+AreNearActs limit loose place [] = Unit {0}
+AreNearActs limit loose place (a ∷ rest) =
+    IsTrue (is_near_act limit loose place a) × AreNearActs limit (leaves_thread_loose a)
+    (needle_position_after place a) rest
 
 -- An act is no float.
 abbrev pub is_no_float : Act → Bool
@@ -85,9 +86,9 @@ is_no_float act.Trim = true
 is_no_float act.Stop = true
 
 -- The purpose of a refit, by its mode: no stitch is longer than the limit, or no act is a float.
-abbrev pub Fits : RefitMode → ℕ → List Act → Type 0
-Fits mode.Split limit acts = KeepsNear limit true origin acts
-Fits mode.Cut limit acts = IsTrue (list_all is_no_float acts)
+abbrev pub MeetsRefitGoal : RefitMode → ℕ → List Act → Type 0
+MeetsRefitGoal mode.Split limit acts = AreNearActs limit true origin acts
+MeetsRefitGoal mode.Cut limit acts = IsTrue (list_all is_no_float acts)
 
 -- The commands of an act: a jump and a stitch for a float, one command for each other act.
 abbrev pub commands_of_act : Act → List Command
@@ -97,13 +98,14 @@ commands_of_act act.Trim = command.Trim ∷ []
 commands_of_act act.Stop = command.Stop ∷ []
 
 -- The commands of a list of acts.
-abbrev pub commands_of : List Act → List Command
-commands_of [] = []
-commands_of (a ∷ rest) = commands_of_act a ++ commands_of rest
+abbrev pub commands_of_acts : List Act → List Command
+commands_of_acts [] = []
+commands_of_acts (a ∷ rest) = commands_of_act a ++ commands_of_acts rest
 
 -- The commands of a refitted design, for the acts of the design.
 abbrev pub refitted_commands : RefitMode → ℕ → List NumberedAct → List Command
-refitted_commands m limit acts = commands_of (refitted_acts m limit (bare acts))
+refitted_commands m limit acts = commands_of_acts
+    (refitted_acts m limit (acts_without_numbers acts))
 
 -- The refitted design: the same design with the commands of its refitted acts.
 abbrev pub refitted_design : RefitMode → ℕ → DesignValue → DesignValue
@@ -111,7 +113,7 @@ refitted_design m limit d = record d { commands = refitted_commands m limit (act
 
 -- The act of the command with the given number is the first with which a refitted design would have
 -- too many commands.
-pub record IsFirstPast (m : RefitMode) (limit : ℕ) (acts : List NumberedAct)
+pub record IsFirstOverLimit (m : RefitMode) (limit : ℕ) (acts : List NumberedAct)
     (number : ℕ) : Type 0 where
   pub before : List NumberedAct
   pub act : NumberedAct
@@ -128,5 +130,5 @@ Refits m limit d (Ok refitted) = (length (refitted_commands m limit (acts_of d))
     × (refitted ≡ refitted_design m limit d)
 Refits m limit d (Err (fault.TooMany number)) =
     (MAX_COMMANDS < length (refitted_commands m limit (acts_of d)))
-    × IsFirstPast m limit (acts_of d) number
+    × IsFirstOverLimit m limit (acts_of d) number
 Refits m limit d (Err fault.Memory) = Unit {0}

@@ -2,14 +2,14 @@
 //! suit a format.
 #![tactic(auto)]
 
-mod laws;
-mod refit_progress;
+mod refit_state;
 mod refitting;
 mod segment;
+mod segment_points;
 #[cfg(test)]
 mod tests;
-mod way;
+mod theorems;
 
-pub use laws::split_points_lead;
 pub use refitting::{RefitFault, RefitMode, refit};
 pub use segment::{MAX_STEP, split, steps};
+pub use theorems::split_points_lead;

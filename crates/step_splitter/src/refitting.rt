@@ -1,14 +1,14 @@
 ghost use Rattle.std.specs.Prelude.{◌≡◌, ◌≤◌, [], length, IfOk, IsTrue};
 ghost use Rattle.std.specs.List.{list_all};
 ghost use Rattle.design_model.specs.declared.design.TheConstants.{MAX_COMMANDS};
-ghost use Rattle.design_model.specs.Acts.{acts_along, acts_of, bare};
-ghost use Rattle.design_model.specs.Commands.{is_in_range};
+ghost use Rattle.design_model.specs.Acts.{acts_along, acts_of, acts_without_numbers};
+ghost use Rattle.design_model.specs.Commands.{is_command_in_range};
 ghost use Rattle.step_splitter.specs.declared.segment.TheConstants.{MAX_STEP};
-ghost use Rattle.step_splitter.specs.Refits.{Fits, Refits, refitted_acts};
+ghost use Rattle.step_splitter.specs.Refits.{MeetsRefitGoal, Refits, refitted_acts};
 ghost use Rattle.step_splitter.specs.RefitSteps.{RefitsAll};
 
-use crate::refit_progress::Progress;
-use design_model::{ActWalk, Command, Design, Memory};
+use crate::refit_state::RefitState;
+use design_model::{ActScanner, Command, Design, Memory};
 use std::alloc::Global;
 
 /// The change that a refit makes.
@@ -44,7 +44,7 @@ impl From<Memory> for RefitFault {
 /// the longest stitch on each axis, in tenths of a millimetre. A float has two commands, a jump and a
 /// stitch, and each other act has one. Errors: `TooMany` at the first act with a command too many; or
 /// `Memory`.
-#[tactic(auto, using(crate::proofs::ToldLemmas::refitted_told, crate::proofs::FitLemmas::refitted_fits))]
+#[tactic(auto, using(crate::proofs::RefittedActLemmas::refitted_told, crate::proofs::FitLemmas::refitted_fits))]
 pub fn refit(
     alloc: Global,
     design: &Design,
@@ -55,8 +55,10 @@ pub fn refit(
     requires high { limit ≤ MAX_STEP }
     ensures value { Refits mode limit design.now result }
     ensures acts { IfOk result (λ refitted.
-        bare (acts_of refitted) ≡ refitted_acts mode limit (bare (acts_of design.now))) }
-    ensures fits { IfOk result (λ refitted. Fits mode limit (bare (acts_of refitted))) }
+        acts_without_numbers (acts_of refitted)
+        ≡ refitted_acts mode limit (acts_without_numbers (acts_of design.now))) }
+    ensures fits { IfOk result (λ refitted. MeetsRefitGoal mode limit
+        (acts_without_numbers (acts_of refitted))) }
 {
     let mut refitted = design.without_commands(alloc);
     refit_commands(alloc, &mut refitted, design.commands(), limit, mode)?;
@@ -73,12 +75,12 @@ fn refit_commands(
     requires low { 1 ≤ limit }
     requires high { limit ≤ MAX_STEP }
     requires count { length commands.now ≤ MAX_COMMANDS }
-    requires in_range { IsTrue (list_all is_in_range commands.now) }
+    requires in_range { IsTrue (list_all is_command_in_range commands.now) }
     requires empty { out.old.commands ≡ [] }
     ensures { RefitsAll mode limit (acts_along commands.now) out.old result out.new }
 {
-    let mut walk = ActWalk::new();
-    let mut progress = Progress::new();
+    let mut walk = ActScanner::new();
+    let mut progress = RefitState::new();
     for command in commands {
         let next = walk.next(*command);
         if let Err(fault) = progress.put_next(alloc, out, limit, mode, next) {

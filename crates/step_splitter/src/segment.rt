@@ -1,9 +1,9 @@
 ghost use Rattle.std.specs.Prelude.{◌≡◌, ◌≢◌, ◌*◌, ◌≤◌, IfOk};
 ghost use Rattle.design_model.specs.declared.point.TheConstants.{NEEDLE_LIMIT};
-ghost use Rattle.step_splitter.specs.Chains.{IsNeedlePoint, LeadsTo};
+ghost use Rattle.step_splitter.specs.Chains.{IsNeedlePoint, LeadsBySteps};
 ghost use Rattle.step_splitter.specs.Steps.{split_points, steps_of};
 
-use crate::way::point_at;
+use crate::segment_points::point_at;
 use design_model::{Memory, Point, Points};
 use std::alloc::Global;
 
@@ -34,7 +34,7 @@ pub fn split(alloc: Global, p: Point, q: Point, step: u32) -> Result<Points, Mem
     requires low { 1 ≤ step }
     requires high { step ≤ MAX_STEP }
     ensures value { IfOk result (λ points. points ≡ split_points p q step) }
-    ensures leads { IfOk result (LeadsTo p q step) }
+    ensures leads { IfOk result (LeadsBySteps p q step) }
 {
     let points = points_between(alloc, p, q, step)?;
     Ok(points)

@@ -11,7 +11,7 @@ use outside_io::{DirStore, StdSink, program_words};
 use pes_codec::{Pec, Pes};
 use std::alloc::AllocError;
 use std::process::ExitCode;
-use stitch_cli::{Status, out_of_memory, run};
+use stitch_cli::{Status, report_out_of_memory, run};
 use stitch_text::List;
 
 fn main(rt: HostRuntime) -> ExitCode {
@@ -21,7 +21,7 @@ fn main(rt: HostRuntime) -> ExitCode {
 fn status_of(rt: &HostRuntime) -> Status {
     match start(rt) {
         Ok(status) => status,
-        Err(_) => tell_memory(rt),
+        Err(_) => report_memory(rt),
     }
 }
 
@@ -40,6 +40,6 @@ fn start(rt: &HostRuntime) -> Result<Status, AllocError> {
     Ok(run(alloc, &words, &mut formats, &mut store, &mut out, &mut err))
 }
 
-fn tell_memory(rt: &HostRuntime) -> Status {
-    out_of_memory(&mut StdSink::new(rt.stderr()))
+fn report_memory(rt: &HostRuntime) -> Status {
+    report_out_of_memory(&mut StdSink::new(rt.stderr()))
 }

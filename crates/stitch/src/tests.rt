@@ -1,3 +1,4 @@
+mod cases;
 mod drawings;
 mod feeding;
 mod files;
@@ -6,5 +7,4 @@ mod lists;
 mod outside;
 mod prefixes;
 mod rewrites;
-mod rows;
 mod words;

@@ -11,7 +11,7 @@ use Rattle.design_changes.specs.ChangedDesigns.{Becomes, BecomesAll, RefitsTo}
 use Rattle.stitch_cli.specs.OrderNames.{RewriteOrder}
 use Rattle.stitch_cli.specs.Products.{ProductValue}
 use Rattle.stitch_cli.specs.Refusals.{RefusalValue}
-use Rattle.stitch_cli.specs.Rewrites.{RewriteOf, not_changed, not_written}
+use Rattle.stitch_cli.specs.Rewrites.{IsRewriteResult, not_changed, not_written}
 
 -- one value is one design, and not a refusal
 same_value : (r : Result DesignValue ChangeFault) (a b : DesignValue) → Ok a ≡ r → Ok b ≡ r → a ≡ b
@@ -70,7 +70,7 @@ all_not_both limit (change ∷ later) d a why (inr (other, first, is)) refused =
 
 -- a design that is rewritten is not refused
 pub rewritten_not_both : (order : RewriteOrder) (loaded : Loaded) (product : ProductValue) (why : RefusalValue)
-    → RewriteOf order loaded (Ok product) → RewriteOf order loaded (Err why) → ⊥
+    → IsRewriteResult order loaded (Ok product) → IsRewriteResult order loaded (Err why) → ⊥
 rewritten_not_both order loaded product why is (not_changed fault same refused) =
     all_not_both order.target.limit order.changes loaded.design is.design fault is.becomes refused
 rewritten_not_both order loaded product why is (not_written design fault same becomes refuses) =

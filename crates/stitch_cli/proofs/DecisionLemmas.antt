@@ -4,7 +4,7 @@ use Rattle.std.specs.Prelude.{nat_lt}
 use Rattle.cut_certificate.specs.declared.certificate.PieceCert.{PieceCert}
 use Rattle.certificate_text.specs.ReadCertificates.{cert_of}
 use Rattle.design_model.specs.Designs.{DesignValue}
-use Rattle.design_model.specs.WantOfMemory.{UnlessMemory}
+use Rattle.design_model.specs.OutOfMemory.{UnlessOutOfMemory}
 use Rattle.drawing_text.specs.declared.draw_fault.DrawFault.{DrawFault}
 use Rattle.drawing_text.specs.DrawingText.{drawing_as2, drawing_of}
 use Rattle.format_traits.specs.declared.fault.ReadFault.{ReadFault}
@@ -14,21 +14,21 @@ use Rattle.hoop_check.specs.declared.fitting.Fit.{Fit}
 use Rattle.hoop_check.specs.declared.fitting.Fit.TheVariants as fit
 use Rattle.hoop_check.specs.Fits.{fit_of}
 use Rattle.line_graph.specs.Drawings.{DrawingValue}
-use Rattle.line_graph.specs.OnePieces.{PiecesAreOne}
-use Rattle.outside_io.specs.Causes.{IsLonger}
-use Rattle.outside_io.specs.Counts.{IsQuiet, Rose}
-use Rattle.outside_io.specs.Files.{Files, HoldsNow, Lacks}
+use Rattle.line_graph.specs.UniquePieces.{PiecesAreUnique}
+use Rattle.outside_io.specs.Causes.{IsFileLonger}
+use Rattle.outside_io.specs.Counts.{IsFaultless, Rose}
+use Rattle.outside_io.specs.Files.{Files, FileHolds, LacksFile}
 use Rattle.outside_io.specs.declared.limits.TheConstants.{MAX_FILE}
 use Rattle.route_core.specs.declared.verdict.Verdict.TheVariants as verdict
 use Rattle.route_core.specs.Verdicts.{verdict_of}
-use Rattle.stitch_cli.specs.declared.halt.Halt.{Halt}
-use Rattle.stitch_cli.specs.declared.halt.Halt.TheVariants as halt
+use Rattle.stitch_cli.specs.declared.failure.Failure.{Failure}
+use Rattle.stitch_cli.specs.declared.failure.Failure.TheVariants as failure
 use Rattle.program_texts.specs.declared.status.Status.{Status}
 use Rattle.program_texts.specs.declared.status.Status.TheVariants as status
-use Rattle.stitch_cli.specs.Checks.{IsDisproved, IsProved, check_cert, check_design, check_drawing}
+use Rattle.stitch_cli.specs.Checks.{IsCheckFailed, IsCheckPassed, check_cert, check_design, check_drawing}
 use Rattle.stitch_cli.specs.Commands.{plan_of}
 use Rattle.stitch_cli.specs.DoubleRuns.{IsDoubleRun}
-use Rattle.stitch_cli.specs.Endings.{Ends, Halts, OrderEnds, all, but_report, halted, made, status_of, up_to}
+use Rattle.stitch_cli.specs.StepOutcomes.{IsRunOutcome, IsFailureOf, IsOrderOutcome, all, but_report, halted, made, status_of, up_to}
 use Rattle.stitch_cli.specs.Hoops.{hoop_fitted, hoop_read}
 use Rattle.stitch_cli.specs.Migrations.{migrate_read}
 use Rattle.stitch_cli.specs.OrderNames.{CheckOrder, HoopOrder, MigrateOrder, RewriteOrder, RouteOrder, ShowOrder, TraceOrder}
@@ -36,24 +36,24 @@ use Rattle.stitch_cli.specs.Orders.{Order, checking, doubling, hooping, migratin
 use Rattle.stitch_cli.specs.Tracings.{trace_made, trace_read}
 use Rattle.stitch_trace.specs.declared.trace_fault.TraceFault.{TraceFault}
 use Rattle.stitch_trace.specs.Traces.{traced}
-use Rattle.stitch_cli.specs.Plans.{ComesTo, IsAccepted, IsInput, IsTooLong, Makes, Misses, Plan, Refuses, accepts, decides, reads, refuses}
+use Rattle.stitch_cli.specs.Plans.{AttemptsRead, IsAccepted, IsInputContent, IsInputTooLong, Makes, LacksInput, Plan, Refuses, accepts, satisfies, reads, refuses}
 use Rattle.stitch_cli.specs.Products.{ProductValue}
-use Rattle.stitch_cli.specs.Refusals.{RefusalValue, refusal_of}
+use Rattle.stitch_cli.specs.Refusals.{RefusalValue, refusal_value}
 use Rattle.stitch_cli.specs.Rewrites.{rewrite_read}
 use Rattle.stitch_cli.specs.Routes.{IsRouted}
-use Rattle.stitch_cli.specs.Sewings.{sewing_above, sewing_read}
-use Rattle.stitch_cli.specs.RunSights.{IsQuietRun, Sights}
-use Rattle.stitch_cli.specs.Runs.{AsksFor, IsDecided, IsOrMemory, wants_memory}
+use Rattle.stitch_cli.specs.Sewings.{sewing_by_limit, sewing_read}
+use Rattle.stitch_cli.specs.RunViews.{IsFaultlessRun, Views}
+use Rattle.stitch_cli.specs.Runs.{IsRequested, IsDecided, IsOrOutOfMemory, status_is_out_of_memory}
 use Rattle.stitch_cli.specs.Shows.{show_read}
 use Rattle.stitch_cli.proofs.ChangeLemmas.{rewritten_not_both}
 
 -- where the count is quiet it did not rise
-no_rise : (before after : ℕ) → IsQuiet before after → Rose before after → ⊥
+no_rise : (before after : ℕ) → IsFaultless before after → Rose before after → ⊥
 no_rise before after quiet (inl more) = let same : after ≡ before = quiet.same in omega (arith, same, more)
 no_rise before after quiet (inr greatest) = quiet.below greatest
 
 -- A visible file has one content.
-one_content : (files : Option Files) (name a b : List ℕ) → IsSome files → HoldsNow files name a → HoldsNow files name b → a ≡ b
+one_content : (files : Option Files) (name a b : List ℕ) → IsSome files → FileHolds files name a → FileHolds files name b → a ≡ b
 one_content None name a b told first second = cc
 one_content (Some files) name a b told first second = same_content (files name) a b (first files refl) (second files refl)
   where
@@ -61,31 +61,31 @@ one_content (Some files) name a b told first second = same_content (files name) 
     same_content content a b first second = cc
 
 -- a file that is there isn't missing
-not_missing : (files : Option Files) (name bytes : List ℕ) → Lacks files name → HoldsNow files name bytes → ⊥
-not_missing None name bytes lacks holds = cc (lacks.told)
+not_missing : (files : Option Files) (name bytes : List ℕ) → LacksFile files name → FileHolds files name bytes → ⊥
+not_missing None name bytes lacks holds = cc (lacks.visible)
 not_missing (Some files) name bytes lacks holds = gone (files name) (lacks.missing files refl) (holds files refl)
   where
     gone : (content : Option (List ℕ)) → content ≡ None → content ≡ Some bytes → ⊥
     gone content none some = cc
 
 -- a file is not both longer than the limit and within it
-not_longer : (files : Option Files) (name bytes : List ℕ) → IsSome files → HoldsNow files name bytes → length bytes ≤ MAX_FILE
-    → IsTooLong files name → ⊥
+not_longer : (files : Option Files) (name bytes : List ℕ) → IsSome files → FileHolds files name bytes → length bytes ≤ MAX_FILE
+    → IsInputTooLong files name → ⊥
 not_longer None name bytes told holds short longer = cc
 not_longer (Some files) name bytes told holds short longer = less (files name) (holds files refl) (longer files refl)
   where
-    less : (content : Option (List ℕ)) → content ≡ Some bytes → IsLonger content MAX_FILE → ⊥
+    less : (content : Option (List ℕ)) → content ≡ Some bytes → IsFileLonger content MAX_FILE → ⊥
     less None is more = more
     less (Some held) is more = let same : held ≡ bytes = cc in let count : length held ≡ length bytes = ap length same
         in omega (arith, count, more, short)
 
 -- a file that is too long is there
-longer_is_there : (files : Option Files) (name : List ℕ) → IsTooLong files name
-    → Lacks files name → ⊥
-longer_is_there None name longer lacks = cc (lacks.told)
+longer_is_there : (files : Option Files) (name : List ℕ) → IsInputTooLong files name
+    → LacksFile files name → ⊥
+longer_is_there None name longer lacks = cc (lacks.visible)
 longer_is_there (Some files) name longer lacks = none (files name) (lacks.missing files refl) (longer files refl)
   where
-    none : (content : Option (List ℕ)) → content ≡ None → IsLonger content MAX_FILE → ⊥
+    none : (content : Option (List ℕ)) → content ≡ None → IsFileLonger content MAX_FILE → ⊥
     none None is more = more
     none (Some held) is more = cc
 
@@ -94,36 +94,37 @@ abbrev IsExact : Plan → Type 0
 IsExact (reads name next) = (bytes : List ℕ) → IsExact (next bytes)
 IsExact (refuses why) = Unit {0}
 IsExact (accepts Is) = Unit {0}
-IsExact (decides Is) = (product : ProductValue) (why : RefusalValue) → Is (Ok product) → Is (Err why) → ⊥
+IsExact (satisfies Is) = (product : ProductValue) (why : RefusalValue) → Is (Ok product) → Is (Err why) → ⊥
 
 sewing_exact : (Sewn : Meaning → DrawingValue → (bytes cert report : List ℕ) → Type 0)
     (order : RouteOrder) (read : Result DrawingValue DrawFault)
     → IsExact (sewing_read Sewn order read)
 sewing_exact Sewn order (Ok d) = above (nat_lt order.format.limit d.step)
   where
-    above : (b : Bool) → IsExact (sewing_above Sewn order d b)
+    above : (b : Bool) → IsExact (sewing_by_limit Sewn order d b)
     above true = tt
     above false = tt
 sewing_exact Sewn order (Err fault) = tt
 
 -- a verdict is not both yes and no: there is one list of the pieces
-not_proved : PiecesAreOne → (d : DrawingValue) (design : DesignValue) (certs : List PieceCert) (product : ProductValue) (why : RefusalValue)
-    → IsProved d design certs product → IsDisproved d design certs why → ⊥
-not_proved one d design certs product why proved disproved =
+not_proved : PiecesAreUnique → (d : DrawingValue) (design : DesignValue) (certs : List PieceCert) (product : ProductValue)
+    (why : RefusalValue)
+    → IsCheckPassed d design certs product → IsCheckFailed d design certs why → ⊥
+not_proved one d design certs product why proved check_failed =
     let yes = proved.verdict.is in
-    let no = disproved.verdict.is in
-    let same : proved.verdict.pieces ≡ disproved.verdict.pieces =
-    one d proved.verdict.pieces disproved.verdict.pieces yes.pieces_are no.pieces_are in
-    let over : verdict_of d proved.verdict.pieces design certs ≡ verdict_of d disproved.verdict.pieces design certs =
+    let no = check_failed.verdict.is in
+    let same : proved.verdict.pieces ≡ check_failed.verdict.pieces =
+    one d proved.verdict.pieces check_failed.verdict.pieces yes.pieces_are no.pieces_are in
+    let over : verdict_of d proved.verdict.pieces design certs ≡ verdict_of d check_failed.verdict.pieces design certs =
     ap (λ pieces. verdict_of d pieces design certs) same in
-    let both : verdict.Yes ≡ verdict.No disproved.reason = yes.is ∙ over ∙ sym no.is in
+    let both : verdict.Yes ≡ verdict.No check_failed.reason = yes.is ∙ over ∙ sym no.is in
     cc
 
-check_exact : PiecesAreOne → (order : CheckOrder) (read : Result DrawingValue DrawFault) → IsExact (check_drawing order read)
+check_exact : PiecesAreUnique → (order : CheckOrder) (read : Result DrawingValue DrawFault) → IsExact (check_drawing order read)
 check_exact one order (Ok d) = λ bytes. checked (order.format.reads bytes)
   where
     certified : (design : DesignValue) (said : Result (List PieceCert) ℕ) → IsExact (check_cert order d design said)
-    certified design (Ok certs) = λ product why proved disproved. not_proved one d design certs product why proved disproved
+    certified design (Ok certs) = λ product why proved check_failed. not_proved one d design certs product why proved check_failed
     certified design (Err number) = tt
 
     checked : (read : Result Loaded ReadFault) → IsExact (check_design order d read)
@@ -161,7 +162,7 @@ hoop_exact order (Ok loaded) = fitted (fit_of loaded.design order.width order.he
 hoop_exact order (Err fault) = tt
 
 -- The plan of each order has this property.
-order_exact : PiecesAreOne → (order : Order) → IsExact (plan_of order)
+order_exact : PiecesAreUnique → (order : Order) → IsExact (plan_of order)
 order_exact one (routing order) = λ bytes. sewing_exact IsRouted order (drawing_of bytes)
 order_exact one (checking order) = λ bytes. check_exact one order (drawing_of bytes)
 order_exact one (sampling order) = tt
@@ -177,10 +178,10 @@ made_accepted : (plan : Plan) (files : Option Files) (product : ProductValue) �
 made_accepted (reads name next) files product (bytes, input, makes) = (bytes, input, made_accepted (next bytes) files product makes)
 made_accepted (refuses why) files product never = never
 made_accepted (accepts Is) files product makes = tt
-made_accepted (decides Is) files product makes = (product, makes)
+made_accepted (satisfies Is) files product makes = (product, makes)
 
 -- one file is one input
-same_input : (files : Option Files) (name a b : List ℕ) → IsSome files → IsInput files name a → IsInput files name b → a ≡ b
+same_input : (files : Option Files) (name a b : List ℕ) → IsSome files → IsInputContent files name a → IsInputContent files name b → a ≡ b
 same_input files name a b told one other = one_content files name a b told one.held other.held
 
 -- what is accepted isn't refused
@@ -193,53 +194,55 @@ not_refused (reads name next) files why exact told (bytes, input, accepted) (inr
     (subst (λ (b : List ℕ). Refuses (next b) files why) (same_input files name other bytes told again input) refused)
 not_refused (refuses reason) files why exact told never refused = never
 not_refused (accepts Is) files why exact told accepted never = never
-not_refused (decides Is) files why exact told (product, makes) refused = exact product why makes refused
+not_refused (satisfies Is) files why exact told (product, makes) refused = exact product why makes refused
 
 -- A plan that attempts to read a missing file is not accepted.
-not_accepted : (plan : Plan) (files : Option Files) (name : List ℕ) → IsAccepted plan files → ComesTo plan files name
-    → Lacks files name → ⊥
+not_accepted : (plan : Plan) (files : Option Files) (name : List ℕ) → IsAccepted plan files → AttemptsRead plan files name
+    → LacksFile files name → ⊥
 not_accepted (reads name next) files missing (bytes, input, accepted) (inl is) lacks =
-    not_missing files name bytes (subst (λ (n : List ℕ). Lacks files n) is lacks) input.held
-not_accepted (reads name next) files missing (bytes, input, accepted) (inr (other, again, comes)) lacks =
+    not_missing files name bytes (subst (λ (n : List ℕ). LacksFile files n) is lacks) input.held
+not_accepted (reads name next) files missing (bytes, input, accepted) (inr (other, again, attempted)) lacks =
     not_accepted (next bytes) files missing accepted
-    (subst (λ (b : List ℕ). ComesTo (next b) files missing) (same_input files name other bytes lacks.told again input) comes) lacks
+    (subst (λ (b : List ℕ). AttemptsRead (next b) files missing) (same_input files name other bytes lacks.visible again input) attempted)
+    lacks
 not_accepted (refuses reason) files missing accepted never lacks = never
 not_accepted (accepts Is) files missing accepted never lacks = never
-not_accepted (decides Is) files missing accepted never lacks = never
+not_accepted (satisfies Is) files missing accepted never lacks = never
 
 -- nor is it refused
 not_both : (plan : Plan) (files : Option Files) (why : RefusalValue) (name : List ℕ) → Refuses plan files why
-    → ComesTo plan files name → Lacks files name → ⊥
+    → AttemptsRead plan files name → LacksFile files name → ⊥
 not_both (reads name next) files why missing (inl (is, long)) (inl same) lacks =
-    longer_is_there files name long (subst (λ (n : List ℕ). Lacks files n) same lacks)
-not_both (reads name next) files why missing (inl (is, long)) (inr (bytes, input, comes)) lacks =
-    not_longer files name bytes lacks.told input.held input.short long
+    longer_is_there files name long (subst (λ (n : List ℕ). LacksFile files n) same lacks)
+not_both (reads name next) files why missing (inl (is, long)) (inr (bytes, input, attempted)) lacks =
+    not_longer files name bytes lacks.visible input.held input.short long
 not_both (reads name next) files why missing (inr (bytes, input, refused)) (inl same) lacks =
-    not_missing files name bytes (subst (λ (n : List ℕ). Lacks files n) same lacks) input.held
-not_both (reads name next) files why missing (inr (bytes, input, refused)) (inr (other, again, comes)) lacks =
+    not_missing files name bytes (subst (λ (n : List ℕ). LacksFile files n) same lacks) input.held
+not_both (reads name next) files why missing (inr (bytes, input, refused)) (inr (other, again, attempted)) lacks =
     not_both (next bytes) files why missing refused
-    (subst (λ (b : List ℕ). ComesTo (next b) files missing) (same_input files name other bytes lacks.told again input) comes) lacks
+    (subst (λ (b : List ℕ). AttemptsRead (next b) files missing) (same_input files name other bytes lacks.visible again input) attempted)
+    lacks
 not_both (refuses reason) files why missing refused never lacks = never
 not_both (accepts Is) files why missing refused never lacks = never
-not_both (decides Is) files why missing refused never lacks = never
+not_both (satisfies Is) files why missing refused never lacks = never
 
 -- The result of a plan, if no fault is counted.
 data Came (plan : Plan) (files : Option Files) (s : Status) : Type 0 where
   came_done : IsAccepted plan files → s ≡ status.Done → Came plan files s
   came_refused : (why : RefusalValue) → Refuses plan files why → s ≡ status.Refused → Came plan files s
-  came_missing : (name : List ℕ) → Misses plan files name → s ≡ status.Fault → Came plan files s
+  came_missing : (name : List ℕ) → LacksInput plan files name → s ≡ status.Fault → Came plan files s
   came_memory : s ≡ status.Memory → Came plan files s
 
 -- A failed plan, if no fault is counted.
-halt_came : (plan : Plan) (before after : Sights) (s : Status) (why : Halt) → IsQuietRun before after
-    → Halts plan before.store after.store why → s ≡ status_of why → Came plan before.store.files s
-halt_came plan before after s halt.Unasked quiet never is = absurd never
-halt_came plan before after s (halt.Missing name) quiet (misses, store) is = came_missing name.now misses is
-halt_came plan before after s (halt.NotRead name) quiet (comes, fault, files) is = absurd (no_rise _ _ quiet.store fault.rose)
-halt_came plan before after s (halt.Refused why) quiet (refused, store) is = came_refused (refusal_of why) refused is
-halt_came plan before after s halt.Memory quiet same is = came_memory is
+halt_came : (plan : Plan) (before after : Views) (s : Status) (why : Failure) → IsFaultlessRun before after
+    → IsFailureOf plan before.store after.store why → s ≡ status_of why → Came plan before.store.files s
+halt_came plan before after s failure.BadArguments quiet never is = absurd never
+halt_came plan before after s (failure.MissingInput name) quiet (misses, store) is = came_missing name.now misses is
+halt_came plan before after s (failure.ReadFailed name) quiet (attempted, fault, files) is = absurd (no_rise _ _ quiet.store fault.rose)
+halt_came plan before after s (failure.Refused why) quiet (refused, store) is = came_refused (refusal_value why) refused is
+halt_came plan before after s failure.Memory quiet same is = came_memory is
 
-came : (order : Order) (before after : Sights) (s : Status) → IsQuietRun before after → OrderEnds order before after s
+came : (order : Order) (before after : Views) (s : Status) → IsFaultlessRun before after → IsOrderOutcome order before after s
     → Came (plan_of order) before.store.files s
 came order before after s quiet (made product makes (all is wrote report err)) =
     came_done (made_accepted (plan_of order) before.store.files product makes) is
@@ -249,61 +252,62 @@ came order before after s quiet (halted why halts out (inl (is, told))) = halt_c
 came order before after s quiet (halted why halts out (inr (is, broke))) = absurd (no_rise _ _ quiet.err broke.rose)
 
 -- The planned status, and the one for out of memory.
-or_memory : (wanted : Bool) (fact : Type 0) → fact → UnlessMemory wanted fact
+or_memory : (wanted : Bool) (fact : Type 0) → fact → UnlessOutOfMemory wanted fact
 or_memory true fact holds = tt
 or_memory false fact holds = holds
 
-memory_came : (s planned : Status) → s ≡ status.Memory → IsOrMemory s planned
+memory_came : (s planned : Status) → s ≡ status.Memory → IsOrOutOfMemory s planned
 memory_came s planned is = rw is tt
 
 -- how a plan is decided
 done_or_memory : (plan : Plan) (files : Option Files) (s : Status) → IsExact plan → Came plan files s → IsSome files
-    → IsAccepted plan files → IsOrMemory s status.Done
-done_or_memory plan files s exact (came_done other is) told accepted = or_memory (wants_memory s) (s ≡ status.Done) is
+    → IsAccepted plan files → IsOrOutOfMemory s status.Done
+done_or_memory plan files s exact (came_done other is) told accepted = or_memory (status_is_out_of_memory s) (s ≡ status.Done) is
 done_or_memory plan files s exact (came_refused why refused is) told accepted =
     absurd (not_refused plan files why exact told accepted refused)
 done_or_memory plan files s exact (came_missing name misses is) told accepted =
-    absurd (not_accepted plan files name accepted misses.comes misses.lacks)
+    absurd (not_accepted plan files name accepted misses.attempted misses.lacks)
 done_or_memory plan files s exact (came_memory is) told accepted = memory_came s status.Done is
 
 refused_or_memory : (plan : Plan) (files : Option Files) (s : Status) (why : RefusalValue) → IsExact plan → Came plan files s
-    → IsSome files → Refuses plan files why → IsOrMemory s status.Refused
+    → IsSome files → Refuses plan files why → IsOrOutOfMemory s status.Refused
 refused_or_memory plan files s why exact (came_done accepted is) told refused =
     absurd (not_refused plan files why exact told accepted refused)
-refused_or_memory plan files s why exact (came_refused other others is) told refused = or_memory (wants_memory s) (s ≡ status.Refused) is
+refused_or_memory plan files s why exact (came_refused other others is) told refused = or_memory (status_is_out_of_memory s) (s
+    ≡ status.Refused) is
 refused_or_memory plan files s why exact (came_missing name misses is) told refused =
-    absurd (not_both plan files why name refused misses.comes misses.lacks)
+    absurd (not_both plan files why name refused misses.attempted misses.lacks)
 refused_or_memory plan files s why exact (came_memory is) told refused = memory_came s status.Refused is
 
-fault_or_memory : (plan : Plan) (files : Option Files) (s : Status) (name : List ℕ) → Came plan files s → Misses plan files name
-    → IsOrMemory s status.Fault
+fault_or_memory : (plan : Plan) (files : Option Files) (s : Status) (name : List ℕ) → Came plan files s → LacksInput plan files name
+    → IsOrOutOfMemory s status.Fault
 fault_or_memory plan files s name (came_done accepted is) misses =
-    absurd (not_accepted plan files name accepted misses.comes misses.lacks)
+    absurd (not_accepted plan files name accepted misses.attempted misses.lacks)
 fault_or_memory plan files s name (came_refused why refused is) misses =
-    absurd (not_both plan files why name refused misses.comes misses.lacks)
-fault_or_memory plan files s name (came_missing other others is) misses = or_memory (wants_memory s) (s ≡ status.Fault) is
+    absurd (not_both plan files why name refused misses.attempted misses.lacks)
+fault_or_memory plan files s name (came_missing other others is) misses = or_memory (status_is_out_of_memory s) (s ≡ status.Fault) is
 fault_or_memory plan files s name (came_memory is) misses = memory_came s status.Fault is
 
 -- Arguments that request no order have the status `Usage`.
-usage_told : (before after : Sights) (s : Status) → IsQuietRun before after → Ends None before after s → s ≡ status.Usage
+usage_told : (before after : Views) (s : Status) → IsFaultlessRun before after → IsRunOutcome None before after s → s ≡ status.Usage
 usage_told before after s quiet (store, out, inl (is, told)) = is
 usage_told before after s quiet (store, out, inr (is, broke)) = absurd (no_rise _ _ quiet.err broke.rose)
 
 -- The requested order has an outcome.
-order_came : (asked : Option Order) (order : Order) (before after : Sights) (s : Status) → AsksFor asked order
-    → IsQuietRun before after → Ends asked before after s → Came (plan_of order) before.store.files s
-order_came asked order before after s asks quiet ends =
-    came order before after s quiet (subst (λ (o : Option Order). Ends o before after s) asks ends)
+order_came : (requested : Option Order) (order : Order) (before after : Views) (s : Status) → IsRequested requested order
+    → IsFaultlessRun before after → IsRunOutcome requested before after s → Came (plan_of order) before.store.files s
+order_came requested order before after s is_requested quiet ends =
+    came order before after s quiet (subst (λ (o : Option Order). IsRunOutcome o before after s) is_requested ends)
 
 -- If no fault is counted, the arguments and the files determine the status.
-pub decided : PiecesAreOne → (asked : Option Order) (before after : Sights) (s : Status) → Ends asked before after s
-    → IsQuietRun before after → IsDecided asked before.store.files s
-decided one asked before after s ends quiet = record {
-  usage = λ none. usage_told before after s quiet (subst (λ (o : Option Order). Ends o before after s) none ends);
-  done = λ order asks told accepted. done_or_memory (plan_of order) before.store.files s (order_exact one order)
-      (order_came asked order before after s asks quiet ends) told accepted;
-  refused = λ order why asks told refused. refused_or_memory (plan_of order) before.store.files s why (order_exact one order)
-      (order_came asked order before after s asks quiet ends) told refused;
-  missing = λ order name asks misses. fault_or_memory (plan_of order) before.store.files s name
-      (order_came asked order before after s asks quiet ends) misses;
+pub decided : PiecesAreUnique → (requested : Option Order) (before after : Views) (s : Status) → IsRunOutcome requested before after s
+    → IsFaultlessRun before after → IsDecided requested before.store.files s
+decided one requested before after s ends quiet = record {
+  usage = λ none. usage_told before after s quiet (subst (λ (o : Option Order). IsRunOutcome o before after s) none ends);
+  done = λ order is_requested told accepted. done_or_memory (plan_of order) before.store.files s (order_exact one order)
+      (order_came requested order before after s is_requested quiet ends) told accepted;
+  refused = λ order why is_requested told refused. refused_or_memory (plan_of order) before.store.files s why (order_exact one order)
+      (order_came requested order before after s is_requested quiet ends) told refused;
+  missing = λ order name is_requested misses. fault_or_memory (plan_of order) before.store.files s name
+      (order_came requested order before after s is_requested quiet ends) misses;
 }

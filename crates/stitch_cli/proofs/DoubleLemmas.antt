@@ -7,10 +7,10 @@ use Rattle.cut_certificate.specs.declared.certificate.PieceCert.{PieceCert}
 use Rattle.certificate_text.specs.CertificateTexts.{certificate_text}
 use Rattle.format_traits.specs.PlainDesigns.{IsPlain}
 use Rattle.line_graph.specs.declared.piece.Piece.{Piece}
-use Rattle.line_graph.specs.CutPieces.{AreCutFrom, lines_of_pieces}
+use Rattle.line_graph.specs.PiecesOfDrawings.{ArePiecesOf, lines_of_pieces}
 use Rattle.line_graph.specs.Drawings.{DrawingValue}
-use Rattle.line_graph.specs.PieceGraphs.{piece_of}
-use Rattle.line_graph.specs.Runs.{Run, block_of_walk, runs_of}
+use Rattle.line_graph.specs.PieceGraphs.{piece_graph}
+use Rattle.line_graph.specs.Runs.{Run, block_of_passes, runs_of}
 use Rattle.line_graph.specs.Walks.{needles_of_walk}
 use Rattle.route_core.specs.declared.routed.Routed.{Routed}
 use Rattle.route_core.specs.Doubles.{IsDoubleOver, IsDoubled}
@@ -18,10 +18,10 @@ use Rattle.route_core.specs.Routes.{walks_of}
 use Rattle.program_texts.specs.DoubleReports.{double_report}
 use Rattle.stitch_cli.specs.DoubleRuns.{IsDoubleRun}
 use Rattle.stitch_cli.specs.OrderNames.{RouteOrder}
-use Rattle.stitch_cli.specs.Products.{ProductValue, two_outputs}
+use Rattle.stitch_cli.specs.Products.{ProductValue, two_file_product}
 use Rattle.program_texts.specs.Reports.{penetrations_of}
 use Rattle.program_texts.specs.PieceReports.{reports_from, piece_report}
-use Rattle.stitch_cli.specs.Sewings.{SewnMakes, SewsIn, piece_reports}
+use Rattle.stitch_cli.specs.Sewings.{IsSewnProduct, IsSewnFile, piece_reports}
 use Rattle.stitch_cli.proofs.ReportLemmas.{reports_are}
 use Rattle.stitch_cli.proofs.RouteLemmas.{lines_count}
 use Rattle.stitch_cli.proofs.SewnDesigns.{runs_are_plain}
@@ -60,13 +60,13 @@ penetrations_are d number [] (cert ∷ certs) each = absurd each
 penetrations_are d number (lines ∷ pieces) [] each = absurd each
 penetrations_are d number (lines ∷ pieces) (cert ∷ certs) each =
     let later = penetrations_are d (number + 1) pieces certs each.1 in
-    let here = sum_by-cons penetrations_of (piece_report (piece_of d lines) number cert) (piece_reports d (number + 1) pieces certs) in
+    let here = sum_by-cons penetrations_of (piece_report (piece_graph d lines) number cert) (piece_reports d (number + 1) pieces certs) in
     let there = sum_by-cons (λ (run : Run). length run.needles)
-    (record { block = block_of_walk d cert.walk; needles = needles_of_walk d cert.walk }) (runs_of d (walks_of certs)) in
+    (record { block = block_of_passes d cert.walk; needles = needles_of_walk d cert.walk }) (runs_of d (walks_of certs)) in
     omega (arith, later, here, there, each.0.penetrations, each.0.retraced)
 
 -- and not too often for the report
-pub needles_few : (d : DrawingValue) (pieces : List Piece) (routed : Routed) → AreCutFrom d pieces
+pub needles_few : (d : DrawingValue) (pieces : List Piece) (routed : Routed) → ArePiecesOf d pieces
     → IsDoubleOver d (lines_of_pieces pieces) routed
     → sum_by penetrations_of (reports_from 1 pieces routed.cert.pieces) < 2 ^ 32
 needles_few d pieces routed cut over =
@@ -78,14 +78,14 @@ needles_few d pieces routed cut over =
 
 -- a double run makes its certificate, its design and its report
 pub double_makes : (order : RouteOrder) (d : DrawingValue) (pieces : List Piece) (routed : Routed) (design cert report : List ℕ)
-    (product : ProductValue) → AreCutFrom d pieces → IsDoubleOver d (lines_of_pieces pieces) routed
-    → SewsIn order.format d (walks_of routed.cert.pieces) design → cert ≡ certificate_text routed.cert.pieces
+    (product : ProductValue) → ArePiecesOf d pieces → IsDoubleOver d (lines_of_pieces pieces) routed
+    → IsSewnFile order.format d (walks_of routed.cert.pieces) design → cert ≡ certificate_text routed.cert.pieces
     → report ≡ double_report (reports_from 1 pieces routed.cert.pieces)
-    → product ≡ two_outputs (record { name = order.cert; content = cert }) (record { name = order.out; content = design }) report
-    → SewnMakes IsDoubleRun order d product
+    → product ≡ two_file_product (record { name = order.cert; content = cert }) (record { name = order.out; content = design }) report
+    → IsSewnProduct IsDoubleRun order d product
 double_makes order d pieces routed design cert report product cut over sewn certified reported made = record {
-  design = design;
-  cert = cert;
+  design_file = design;
+  cert_text = cert;
   report = report;
   sewn = record {
     pieces = lines_of_pieces pieces;

@@ -2,15 +2,15 @@
 use Rattle.std.proofs.Common.{◌≡◌, ℕ, zero, suc, ◌<◌, false, List, [], ◌∷◌, length, map, Option, Some, Result, bytes_eq, slice_get, refl, ap, sym, ◌∙◌, arith}
 use Rattle.std.specs.Option.{option_and_then}
 use Rattle.command_words.specs.Changes.{Change}
-use Rattle.format_traits.specs.Endings.{found_in}
+use Rattle.format_traits.specs.Endings.{format_index}
 use Rattle.format_traits.specs.Meanings.{Meaning}
-use Rattle.outside_io.specs.Sights.{StoreSight}
-use Rattle.stitch_cli.specs.declared.halt.Halt.{Halt}
+use Rattle.outside_io.specs.Views.{StoreView}
+use Rattle.stitch_cli.specs.declared.failure.Failure.{Failure}
 use Rattle.stitch_cli.specs.declared.product.Product.{Product}
-use Rattle.stitch_cli.specs.Endings.{Answers, Prepares}
+use Rattle.stitch_cli.specs.StepOutcomes.{RunsRequest, RunsPlan}
 use Rattle.stitch_cli.specs.OrderNames.{RewriteOrder}
 use Rattle.format_traits.specs.Endings.{format_of}
-use Rattle.stitch_cli.specs.Orders.{rewriting_by}
+use Rattle.stitch_cli.specs.Orders.{complete_rewrite}
 use Rattle.stitch_cli.specs.Rewrites.{rewrite_plan}
 
 -- The element at an index of a list.
@@ -23,17 +23,17 @@ at_place f (x ∷ xs) (suc place) there = at_place f xs place (omega (arith, the
 -- The format at an index is the requested one, also in another list of the same formats.
 pub same_format : (formats formats' : List Meaning) (place : ℕ) (here m : Meaning) → formats' ≡ formats
     → slice_get formats' place ≡ Some here → slice_get formats place ≡ Some m → here ≡ m
-same_format formats formats' place here m same is asked =
-    let both : Some here ≡ Some m = sym is ∙ ap (λ (ms : List Meaning). slice_get ms place) same ∙ asked in cc
+same_format formats formats' place here m same is requested =
+    let both : Some here ≡ Some m = sym is ∙ ap (λ (ms : List Meaning). slice_get ms place) same ∙ requested in cc
 
 -- both formats of a rewriting are found
 pub rewriting_found : {A : Type 0} (f : A → Meaning) (xs : List A) (input output : List ℕ) (changes : List Change)
-    (source target : ℕ) (store store' : StoreSight) (result : Result Product Halt) → found_in (map f xs) input ≡ Some source
-    → found_in (map f xs) output ≡ Some target → source < length xs → target < length xs → bytes_eq input output ≡ false
+    (source target : ℕ) (store store' : StoreView) (result : Result Product Failure) → format_index (map f xs) input ≡ Some source
+    → format_index (map f xs) output ≡ Some target → source < length xs → target < length xs → bytes_eq input output ≡ false
     → ((s t : Meaning) → slice_get (map f xs) source ≡ Some s → slice_get (map f xs) target ≡ Some t
     → let order : RewriteOrder = record { input = input; output = output; source = s; target = t; changes = changes } in
-    Prepares (rewrite_plan order) store store' result)
-    → Answers (rewriting_by input output changes (format_of (map f xs) input) (format_of (map f xs) output)) store store' result
+    RunsPlan (rewrite_plan order) store store' result)
+    → RunsRequest (complete_rewrite input output changes (format_of (map f xs) input) (format_of (map f xs) output)) store store' result
 rewriting_found f xs input output changes source target store store' result found_source found_target in_source in_target apart prepares =
     let s = at_place f xs source in_source in
     let t = at_place f xs target in_target in

@@ -5,7 +5,7 @@ use Rattle.format_traits.specs.Meanings.{Meaning}
 use Rattle.line_graph.specs.Drawings.{DrawingValue}
 use Rattle.stitch_cli.specs.Checks.{check_design, check_drawing, check_plan}
 use Rattle.stitch_cli.specs.OrderNames.{CheckOrder, RouteOrder}
-use Rattle.stitch_cli.specs.Plans.{ComesTo, IsAccepted, Refuses}
+use Rattle.stitch_cli.specs.Plans.{AttemptsRead, IsAccepted, Refuses}
 use Rattle.stitch_cli.specs.Refusals.{step_too_long}
 use Rattle.stitch_cli.specs.Routes.{IsRouted}
 use Rattle.stitch_cli.specs.Sewings.{sewing_drawing}
@@ -15,14 +15,14 @@ abbrev checked : Meaning → CheckOrder
 checked format = record { drawing = codes "a"; file = codes "b"; cert = codes "c"; format = format }
 
 -- the drawing is read first, then the design, then the certificate
-pub known_drawing_first : (m : Meaning) → ComesTo (check_plan (checked m)) None (codes "a")
+pub known_drawing_first : (m : Meaning) → AttemptsRead (check_plan (checked m)) None (codes "a")
 known_drawing_first m = inl refl
 
-pub known_design_next : (m : Meaning) (d : DrawingValue) → ComesTo (check_drawing (checked m) (Ok d)) None (codes "b")
+pub known_design_next : (m : Meaning) (d : DrawingValue) → AttemptsRead (check_drawing (checked m) (Ok d)) None (codes "b")
 known_design_next m d = inl refl
 
 pub known_certificate_last : (m : Meaning) (d : DrawingValue) (loaded : Loaded)
-    → ComesTo (check_design (checked m) d (Ok loaded)) None (codes "c")
+    → AttemptsRead (check_design (checked m) d (Ok loaded)) None (codes "c")
 known_certificate_last m d loaded = inl refl
 
 -- a route to a format whose limit is 121

@@ -2,24 +2,24 @@
 use Rattle.std.proofs.Common.{◌≡◌, ℕ, Result, Ok, Err, refl, subst, sym}
 use Rattle.design_model.specs.Designs.{DesignValue}
 use Rattle.format_traits.specs.declared.loaded.Loaded.{Loaded}
-use Rattle.outside_io.specs.Sights.{StoreSight}
-use Rattle.design_changes.specs.declared.change_faults.Unchanged.{Unchanged}
-use Rattle.design_changes.specs.declared.change_faults.Unchanged.TheVariants as unchanged
-use Rattle.stitch_cli.specs.declared.halt.Halt.{Halt}
-use Rattle.stitch_cli.specs.declared.halt.Halt.TheVariants as halt
+use Rattle.outside_io.specs.Views.{StoreView}
+use Rattle.design_changes.specs.declared.change_faults.ChangeFailure.{ChangeFailure}
+use Rattle.design_changes.specs.declared.change_faults.ChangeFailure.TheVariants as change_failure
+use Rattle.stitch_cli.specs.declared.failure.Failure.{Failure}
+use Rattle.stitch_cli.specs.declared.failure.Failure.TheVariants as failure
 use Rattle.stitch_cli.specs.declared.product.Product.{Product}
-use Rattle.stitch_cli.specs.Endings.{IsPrepared, Settles}
+use Rattle.stitch_cli.specs.StepOutcomes.{IsPlanResult, RunsPurePlan}
 use Rattle.stitch_cli.specs.OrderNames.{RewriteOrder}
-use Rattle.stitch_cli.specs.Plans.{decides}
-use Rattle.design_changes.specs.Changings.{ChangesTo}
-use Rattle.stitch_cli.specs.RewriteSteps.{IsUnchangedFor, WriteOf}
-use Rattle.stitch_cli.specs.Rewrites.{RewriteOf, not_changed, not_written}
+use Rattle.stitch_cli.specs.Plans.{satisfies}
+use Rattle.design_changes.specs.AppliedChanges.{IsChangesResult}
+use Rattle.stitch_cli.specs.RewriteSteps.{IsChangeFailure, IsEncodeResult}
+use Rattle.stitch_cli.specs.Rewrites.{IsRewriteResult, not_changed, not_written}
 
 -- a changed design is written, or can't be
 written_of : (order : RewriteOrder) (loaded : Loaded) (d : DesignValue)
-    (store store' : StoreSight) (result : Result Product Halt) → ChangesTo order.target.limit order.changes loaded.design (Ok d)
-    → IsPrepared (decides (WriteOf order.output order.target d)) store store' result
-    → IsPrepared (decides (RewriteOf order loaded)) store store' result
+    (store store' : StoreView) (result : Result Product Failure) → IsChangesResult order.target.limit order.changes loaded.design (Ok d)
+    → IsPlanResult (satisfies (IsEncodeResult order.output order.target d)) store store' result
+    → IsPlanResult (satisfies (IsRewriteResult order loaded)) store store' result
 written_of order loaded d store store' (Ok product) becomes (is, fit, same) = (
   record {
     design = d;
@@ -33,40 +33,41 @@ written_of order loaded d store store' (Ok product) becomes (is, fit, same) = (
   fit,
   same,
 )
-written_of order loaded d store store' (Err halt.Unasked) becomes never = never
-written_of order loaded d store store' (Err (halt.Missing name)) becomes (misses, same) = absurd (misses.comes)
-written_of order loaded d store store' (Err (halt.NotRead name)) becomes (never, fault, files) = absurd never
-written_of order loaded d store store' (Err (halt.Refused why)) becomes (is, same) =
+written_of order loaded d store store' (Err failure.BadArguments) becomes never = never
+written_of order loaded d store store' (Err (failure.MissingInput name)) becomes (misses, same) = absurd (misses.attempted)
+written_of order loaded d store store' (Err (failure.ReadFailed name)) becomes (never, fault, files) = absurd never
+written_of order loaded d store store' (Err (failure.Refused why)) becomes (is, same) =
     (not_written d is.fault is.is becomes is.refuses, same)
-written_of order loaded d store store' (Err halt.Memory) becomes same = same
+written_of order loaded d store store' (Err failure.Memory) becomes same = same
 
 pub settles_written : (order : RewriteOrder) (loaded : Loaded) (d : DesignValue)
-    (limit : ℕ) (result : Result Product Halt) → limit ≡ order.target.limit → ChangesTo limit order.changes loaded.design (Ok d)
-    → Settles (decides (WriteOf order.output order.target d)) result
-    → Settles (decides (RewriteOf order loaded)) result
+    (limit : ℕ) (result : Result Product Failure) → limit ≡ order.target.limit → IsChangesResult limit order.changes loaded.design (Ok d)
+    → RunsPurePlan (satisfies (IsEncodeResult order.output order.target d)) result
+    → RunsPurePlan (satisfies (IsRewriteResult order loaded)) result
 settles_written order loaded d limit result at becomes settles = record {
   at = λ store. written_of order loaded d store store result
-      (subst (λ (n : ℕ). ChangesTo n order.changes loaded.design (Ok d)) at becomes) (settles.at store);
+      (subst (λ (n : ℕ). IsChangesResult n order.changes loaded.design (Ok d)) at becomes) (settles.at store);
 }
 
 -- a design was not changed
-unchanged_of : (order : RewriteOrder) (loaded : Loaded) (fault : Unchanged) (store : StoreSight)
-    (why : Halt) → ChangesTo order.target.limit order.changes loaded.design (Err fault) → IsUnchangedFor order.input order.output fault why
-    → IsPrepared (decides (RewriteOf order loaded)) store store (Err why)
-unchanged_of order loaded unchanged.Memory store why becomes is =
-    subst (λ (w : Halt). IsPrepared (decides (RewriteOf order loaded)) store store (Err w)) (sym is) refl
-unchanged_of order loaded (unchanged.For fault) store halt.Unasked becomes never = absurd never
-unchanged_of order loaded (unchanged.For fault) store (halt.Missing name) becomes never = absurd never
-unchanged_of order loaded (unchanged.For fault) store (halt.NotRead name) becomes never = absurd never
-unchanged_of order loaded (unchanged.For fault) store (halt.Refused why) becomes is =
+unchanged_of : (order : RewriteOrder) (loaded : Loaded) (fault : ChangeFailure) (store : StoreView)
+    (why : Failure) → IsChangesResult order.target.limit order.changes loaded.design (Err fault)
+    → IsChangeFailure order.input order.output fault why
+    → IsPlanResult (satisfies (IsRewriteResult order loaded)) store store (Err why)
+unchanged_of order loaded change_failure.Memory store why becomes is =
+    subst (λ (w : Failure). IsPlanResult (satisfies (IsRewriteResult order loaded)) store store (Err w)) (sym is) refl
+unchanged_of order loaded (change_failure.Refused fault) store failure.BadArguments becomes never = absurd never
+unchanged_of order loaded (change_failure.Refused fault) store (failure.MissingInput name) becomes never = absurd never
+unchanged_of order loaded (change_failure.Refused fault) store (failure.ReadFailed name) becomes never = absurd never
+unchanged_of order loaded (change_failure.Refused fault) store (failure.Refused why) becomes is =
     (not_changed fault is becomes, refl)
-unchanged_of order loaded (unchanged.For fault) store halt.Memory becomes never = absurd never
+unchanged_of order loaded (change_failure.Refused fault) store failure.Memory becomes never = absurd never
 
-pub settles_unchanged : (order : RewriteOrder) (loaded : Loaded) (fault : Unchanged)
-    (limit : ℕ) (why : Halt) → limit ≡ order.target.limit → ChangesTo limit order.changes loaded.design (Err fault)
-    → IsUnchangedFor order.input order.output fault why
-    → Settles (decides (RewriteOf order loaded)) (Err why)
+pub settles_unchanged : (order : RewriteOrder) (loaded : Loaded) (fault : ChangeFailure)
+    (limit : ℕ) (why : Failure) → limit ≡ order.target.limit → IsChangesResult limit order.changes loaded.design (Err fault)
+    → IsChangeFailure order.input order.output fault why
+    → RunsPurePlan (satisfies (IsRewriteResult order loaded)) (Err why)
 settles_unchanged order loaded fault limit why at becomes is = record {
   at = λ store. unchanged_of order loaded fault store why
-      (subst (λ (n : ℕ). ChangesTo n order.changes loaded.design (Err fault)) at becomes) is;
+      (subst (λ (n : ℕ). IsChangesResult n order.changes loaded.design (Err fault)) at becomes) is;
 }

@@ -3,7 +3,7 @@ use Rattle.std.proofs.Common.{◌≡◌, ℕ, pos, [], ◌∷◌, ◌++◌, refl
 use Rattle.std.specs.Fmt.{digits}
 use Rattle.std.specs.Prelude.{codes}
 use Rattle.cut_certificate.specs.declared.certificate.PieceCert.{PieceCert}
-use Rattle.design_model.specs.TextLines.{line_end}
+use Rattle.design_model.specs.TextLines.{newline}
 use Rattle.design_model.specs.declared.point.Point.{Point}
 use Rattle.line_graph.specs.Drawings.{DrawingValue}
 use Rattle.stitch_cli.specs.Sewings.{piece_reports}
@@ -31,8 +31,8 @@ retraced cost = record { retraced = cost; walk = []; cuts = [] }
 -- each stroke there and back; pieces are counted through the whole drawing, and the needle goes
 -- down once more often than it makes steps
 pub known_report : route_report (piece_reports strokes 1 ((0 ∷ []) ∷ (1 ∷ 2 ∷ []) ∷ []) (retraced 4 ∷ retraced 5 ∷ []))
-    ≡ codes "block 1 piece 1 lines 1 cost 4 retraced 4 penetrations 9" ++ (line_end
-    ++ (codes "block 2 piece 2 lines 2 cost 5 retraced 5 penetrations 11" ++ (line_end
-    ++ (codes "pieces 2 penetrations 20" ++ line_end))))
+    ≡ codes "block 1 piece 1 lines 1 cost 4 retraced 4 penetrations 9" ++ (newline
+    ++ (codes "block 2 piece 2 lines 2 cost 5 retraced 5 penetrations 11" ++ (newline
+    ++ (codes "pieces 2 penetrations 20" ++ newline))))
 unfolding digits
 known_report = refl

@@ -6,16 +6,16 @@ use Rattle.cut_certificate.specs.declared.certificate.PieceCert.{PieceCert}
 use Rattle.certificate_text.specs.CertificateTexts.{certificate_text}
 use Rattle.format_traits.specs.PlainDesigns.{IsPlain}
 use Rattle.line_graph.specs.declared.piece.Piece.{Piece}
-use Rattle.line_graph.specs.CutPieces.{AreCutFrom, lines_of_pieces}
+use Rattle.line_graph.specs.PiecesOfDrawings.{ArePiecesOf, lines_of_pieces}
 use Rattle.line_graph.specs.Drawings.{DrawingValue}
 use Rattle.line_graph.specs.Runs.{runs_of}
 use Rattle.route_core.specs.declared.routed.Routed.{Routed}
-use Rattle.route_core.specs.Routes.{IsBest, IsRouteOver, walks_of}
+use Rattle.route_core.specs.Routes.{IsLeastPieceRoute, IsRouteOver, walks_of}
 use Rattle.stitch_cli.specs.OrderNames.{RouteOrder}
-use Rattle.stitch_cli.specs.Products.{ProductValue, two_outputs}
+use Rattle.stitch_cli.specs.Products.{ProductValue, two_file_product}
 use Rattle.program_texts.specs.PieceReports.{reports_from}
 use Rattle.stitch_cli.specs.Routes.{IsRouted}
-use Rattle.stitch_cli.specs.Sewings.{SewnMakes, SewsIn, piece_reports}
+use Rattle.stitch_cli.specs.Sewings.{IsSewnProduct, IsSewnFile, piece_reports}
 use Rattle.program_texts.specs.Reports.{penetrations_of, route_report}
 use Rattle.stitch_cli.proofs.ReportLemmas.{penetrations_are, reports_are}
 use Rattle.stitch_cli.proofs.SewnDesigns.{runs_are_plain}
@@ -28,7 +28,7 @@ routed_plain d lines routed limit route least within =
     (runs_are_plain d (runs_of d (walks_of routed.cert.pieces)) d.step limit route.writable least within)
 
 -- there are as many walks as pieces
-walks_count : (d : DrawingValue) (lines : List (List ℕ)) (certs : List PieceCert) → AllZip (IsBest d) lines certs
+walks_count : (d : DrawingValue) (lines : List (List ℕ)) (certs : List PieceCert) → AllZip (IsLeastPieceRoute d) lines certs
     → length lines ≡ length (runs_of d (walks_of certs))
 walks_count d [] [] best = refl
 walks_count d [] (cert ∷ certs) best = absurd best
@@ -49,7 +49,7 @@ pieces_few d pieces slice routed is route =
     omega (arith, count, same, lines_count slice, route.writable.runs_to)
 
 -- and the needle goes down not too often for the report
-pub penetrations_few : (d : DrawingValue) (pieces : List Piece) (routed : Routed) → AreCutFrom d pieces
+pub penetrations_few : (d : DrawingValue) (pieces : List Piece) (routed : Routed) → ArePiecesOf d pieces
     → IsRouteOver d (lines_of_pieces pieces) routed
     → sum_by penetrations_of (reports_from 1 pieces routed.cert.pieces) < 2 ^ 32
 penetrations_few d pieces routed cut route =
@@ -61,14 +61,14 @@ penetrations_few d pieces routed cut route =
 
 -- a route makes its certificate, its design and its report
 pub route_makes : (order : RouteOrder) (d : DrawingValue) (pieces : List Piece) (routed : Routed) (design cert report : List ℕ)
-    (product : ProductValue) → AreCutFrom d pieces → IsRouteOver d (lines_of_pieces pieces) routed
-    → SewsIn order.format d (walks_of routed.cert.pieces) design → cert ≡ certificate_text routed.cert.pieces
+    (product : ProductValue) → ArePiecesOf d pieces → IsRouteOver d (lines_of_pieces pieces) routed
+    → IsSewnFile order.format d (walks_of routed.cert.pieces) design → cert ≡ certificate_text routed.cert.pieces
     → report ≡ route_report (reports_from 1 pieces routed.cert.pieces)
-    → product ≡ two_outputs (record { name = order.cert; content = cert }) (record { name = order.out; content = design }) report
-    → SewnMakes IsRouted order d product
+    → product ≡ two_file_product (record { name = order.cert; content = cert }) (record { name = order.out; content = design }) report
+    → IsSewnProduct IsRouted order d product
 route_makes order d pieces routed design cert report product cut route sewn certified reported made = record {
-  design = design;
-  cert = cert;
+  design_file = design;
+  cert_text = cert;
   report = report;
   sewn = record {
     pieces = lines_of_pieces pieces;

@@ -3,7 +3,7 @@ use Rattle.std.proofs.Common.{◌≡◌, ℤ, pos, negsuc, [], ◌∷◌, ◌++�
 use Rattle.std.specs.Fmt.{digits}
 use Rattle.std.specs.Prelude.{codes}
 use Rattle.cut_certificate.specs.declared.certificate.PieceCert.{PieceCert}
-use Rattle.design_model.specs.TextLines.{line_end}
+use Rattle.design_model.specs.TextLines.{newline}
 use Rattle.design_model.specs.declared.point.Point.{Point}
 use Rattle.line_graph.specs.Drawings.{DrawingValue}
 use Rattle.stitch_cli.specs.Samples.{summary_of}
@@ -39,10 +39,10 @@ again = record {
 
 -- Distinct numbers, which cannot be exchanged unnoticed.
 pub known_summary : summary_text (summary_of 7 kite ((0 ∷ 1 ∷ 2 ∷ 3 ∷ []) ∷ []) (again ∷ []))
-    ≡ codes "sample 7" ++ (line_end
-    ++ (codes "lines 4" ++ (line_end ++ (codes "junctions 3" ++ (line_end
-    ++ (codes "odd 2" ++ (line_end ++ (codes "pieces 1" ++ (line_end
-    ++ (codes "cost 13" ++ (line_end ++ (codes "retraced 5" ++ (line_end
-    ++ (codes "penetrations 19" ++ (line_end ++ (codes "cuts 10" ++ line_end))))))))))))))))
+    ≡ codes "sample 7" ++ (newline
+    ++ (codes "lines 4" ++ (newline ++ (codes "junctions 3" ++ (newline
+    ++ (codes "odd 2" ++ (newline ++ (codes "pieces 1" ++ (newline
+    ++ (codes "cost 13" ++ (newline ++ (codes "retraced 5" ++ (newline
+    ++ (codes "penetrations 19" ++ (newline ++ (codes "cuts 10" ++ newline))))))))))))))))
 unfolding digits
 known_summary = refl

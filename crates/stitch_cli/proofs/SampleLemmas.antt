@@ -5,60 +5,61 @@ use Rattle.std.proofs.lemmas.List.Sums.{sum_by-cons}
 use Rattle.std.specs.List.{AllZip}
 use Rattle.std.specs.Prelude.{sum_by}
 use Rattle.cut_certificate.specs.declared.certificate.PieceCert.{PieceCert}
-use Rattle.cut_certificate.specs.Cuts.{total_of}
-use Rattle.drawing_text.specs.Spelling.{plain_spelling}
+use Rattle.cut_certificate.specs.Cuts.{total_weight}
+use Rattle.drawing_text.specs.CanonicalTexts.{canonical_text}
 use Rattle.line_graph.specs.declared.piece.Piece.{Piece}
-use Rattle.line_graph.specs.CutPieces.{AreCutFrom, graph_of, lines_of_pieces}
+use Rattle.line_graph.specs.PiecesOfDrawings.{ArePiecesOf, graph_of, lines_of_pieces}
 use Rattle.line_graph.specs.Drawings.{DrawingValue}
-use Rattle.line_graph.specs.PieceGraphs.{PieceValue, piece_of}
+use Rattle.line_graph.specs.PieceGraphs.{PieceValue, piece_graph}
 use Rattle.line_graph.specs.PieceWalks.{piece_cost}
 use Rattle.route_core.specs.declared.routed.Routed.{Routed}
-use Rattle.route_core.specs.Routes.{IsBest, IsRouteOver}
+use Rattle.route_core.specs.Routes.{IsLeastPieceRoute, IsRouteOver}
 use Rattle.program_texts.specs.declared.reports.PieceReport.{PieceReport}
 use Rattle.program_texts.specs.declared.summary.Summary.{Summary}
 use Rattle.stitch_cli.specs.OrderNames.{SampleOrder}
-use Rattle.stitch_cli.specs.Products.{ProductValue, one_output}
+use Rattle.stitch_cli.specs.Products.{ProductValue, one_file_product}
 use Rattle.program_texts.specs.PieceReports.{reports_from, piece_report}
 use Rattle.stitch_cli.specs.Sewings.{piece_reports}
-use Rattle.program_texts.specs.PieceSums.{junction_count, odd_count, summed}
-use Rattle.stitch_cli.specs.Samples.{TellsOf, cut_sum, over_pieces, retraced_sum, summary_of}
+use Rattle.program_texts.specs.PieceSums.{junctions_of_piece, odd_junctions_of_piece, sample_summary}
+use Rattle.stitch_cli.specs.Samples.{IsSampleProduct, cut_sum, sum_over_pieces, retraced_sum, summary_of}
 use Rattle.program_texts.specs.Reports.{penetrations_of, summary_text}
 use Rattle.stitch_cli.proofs.ReportLemmas.{reports_are}
 
 -- a sum over pieces that are cut from a drawing is one over their lines
-sums_are : (count : PieceValue → ℕ) (d : DrawingValue) (pieces : List Piece) → All (λ (p : Piece). graph_of p ≡ piece_of d p.lines) pieces
-    → sum_by (λ (p : Piece). count (graph_of p)) pieces ≡ over_pieces count d (lines_of_pieces pieces)
+sums_are : (count : PieceValue → ℕ) (d : DrawingValue) (pieces : List Piece)
+    → All (λ (p : Piece). graph_of p ≡ piece_graph d p.lines) pieces
+    → sum_by (λ (p : Piece). count (graph_of p)) pieces ≡ sum_over_pieces count d (lines_of_pieces pieces)
 sums_are count d [] cut = refl
 sums_are count d (p ∷ pieces) cut =
     let here = sum_by-cons (λ (q : Piece). count (graph_of q)) p pieces in
-    let there = sum_by-cons (λ (lines : List ℕ). count (piece_of d lines)) p.lines (lines_of_pieces pieces) in
-    let same : count (graph_of p) ≡ count (piece_of d p.lines) =
-    ap count (All-head (λ (q : Piece). graph_of q ≡ piece_of d q.lines) p pieces cut) in
-    let later = sums_are count d pieces (All-tail (λ (q : Piece). graph_of q ≡ piece_of d q.lines) p pieces cut) in
+    let there = sum_by-cons (λ (lines : List ℕ). count (piece_graph d lines)) p.lines (lines_of_pieces pieces) in
+    let same : count (graph_of p) ≡ count (piece_graph d p.lines) =
+    ap count (All-head (λ (q : Piece). graph_of q ≡ piece_graph d q.lines) p pieces cut) in
+    let later = sums_are count d pieces (All-tail (λ (q : Piece). graph_of q ≡ piece_graph d q.lines) p pieces cut) in
     omega (arith, here, there, same, later)
 
 -- the sums of the report of a route, and those of its pieces and certificates
 record ReportSums (d : DrawingValue) (pieces : List (List ℕ)) (certs : List PieceCert) (reports : List PieceReport) : Type 0 where
-  pub cost : sum_by (λ (r : PieceReport). r.cost) reports ≡ over_pieces piece_cost d pieces
+  pub cost : sum_by (λ (r : PieceReport). r.cost) reports ≡ sum_over_pieces piece_cost d pieces
   pub retraced : sum_by (λ (r : PieceReport). r.retraced) reports ≡ retraced_sum certs
   pub cuts : cut_sum certs ≡ 2 * retraced_sum certs
-  pub penetrations : sum_by penetrations_of reports ≡ (over_pieces piece_cost d pieces + retraced_sum certs) + length pieces
+  pub penetrations : sum_by penetrations_of reports ≡ (sum_over_pieces piece_cost d pieces + retraced_sum certs) + length pieces
 
-report_sums : (d : DrawingValue) (number : ℕ) (pieces : List (List ℕ)) (certs : List PieceCert) → AllZip (IsBest d) pieces certs
+report_sums : (d : DrawingValue) (number : ℕ) (pieces : List (List ℕ)) (certs : List PieceCert) → AllZip (IsLeastPieceRoute d) pieces certs
     → ReportSums d pieces certs (piece_reports d number pieces certs)
 report_sums d number [] [] best = record { cost = refl; retraced = refl; cuts = refl; penetrations = refl }
 report_sums d number [] (cert ∷ certs) best = absurd best
 report_sums d number (lines ∷ pieces) [] best = absurd best
 report_sums d number (lines ∷ pieces) (cert ∷ certs) best =
     let rest = piece_reports d (number + 1) pieces certs in
-    let first : PieceReport = piece_report (piece_of d lines) number cert in
+    let first : PieceReport = piece_report (piece_graph d lines) number cert in
     let later = report_sums d (number + 1) pieces certs best.1 in
     let costs = sum_by-cons (λ (r : PieceReport). r.cost) first rest in
     let retraces = sum_by-cons (λ (r : PieceReport). r.retraced) first rest in
     let needles = sum_by-cons penetrations_of first rest in
-    let over = sum_by-cons (λ (ls : List ℕ). piece_cost (piece_of d ls)) lines pieces in
+    let over = sum_by-cons (λ (ls : List ℕ). piece_cost (piece_graph d ls)) lines pieces in
     let said = sum_by-cons (λ (c : PieceCert). c.retraced) cert certs in
-    let weights = sum_by-cons (λ (c : PieceCert). total_of c.cuts) cert certs in
+    let weights = sum_by-cons (λ (c : PieceCert). total_weight c.cuts) cert certs in
     record {
       cost = omega (arith, costs, over, later.cost);
       retraced = omega (arith, retraces, said, later.retraced);
@@ -90,28 +91,29 @@ all_same number lines junctions odd pieces cost retraced penetrations cuts =
     rw (junctions, odd, pieces, cost, retraced, penetrations, cuts) refl
 
 -- The summary that the steps compute is the specified one.
-summary_is : (number : ℕ) (d : DrawingValue) (pieces : List Piece) (certs : List PieceCert) → AreCutFrom d pieces
-    → AllZip (IsBest d) (lines_of_pieces pieces) certs
-    → summed number (length d.lines) pieces (reports_from 1 pieces certs) ≡ summary_of number d (lines_of_pieces pieces) certs
+summary_is : (number : ℕ) (d : DrawingValue) (pieces : List Piece) (certs : List PieceCert) → ArePiecesOf d pieces
+    → AllZip (IsLeastPieceRoute d) (lines_of_pieces pieces) certs
+    → sample_summary number (length d.lines) pieces (reports_from 1 pieces certs) ≡ summary_of number d (lines_of_pieces pieces) certs
 summary_is number d pieces certs cut best =
     let told = report_sums d 1 (lines_of_pieces pieces) certs best in
     let same : reports_from 1 pieces certs ≡ piece_reports d 1 (lines_of_pieces pieces) certs = reports_are d 1 pieces certs cut.each in
-    ap (summed number (length d.lines) pieces) same
-    ∙ all_same number (length d.lines) (sums_are junction_count d pieces cut.each) (sums_are odd_count d pieces cut.each)
+    ap (sample_summary number (length d.lines) pieces) same
+    ∙ all_same number (length d.lines) (sums_are junctions_of_piece d pieces cut.each) (sums_are odd_junctions_of_piece d pieces cut.each)
     (lines_count pieces)
     told.cost told.retraced told.penetrations (ap (λ (n : ℕ). 2 * n) told.retraced ∙ sym told.cuts)
 
 -- The product of a sample is the canonical text of its drawing and the summary.
 pub sample_makes : (order : SampleOrder) (d : DrawingValue) (pieces : List Piece) (routed : Routed) (s : Summary) (text report : List ℕ)
-    (product : ProductValue) → AreCutFrom d pieces → IsRouteOver d (lines_of_pieces pieces) routed
-    → s ≡ summed order.number (length d.lines) pieces (reports_from 1 pieces routed.cert.pieces)
-    → text ≡ plain_spelling d → report ≡ summary_text s → product ≡ one_output order.drawing text report → TellsOf order d product
+    (product : ProductValue) → ArePiecesOf d pieces → IsRouteOver d (lines_of_pieces pieces) routed
+    → s ≡ sample_summary order.number (length d.lines) pieces (reports_from 1 pieces routed.cert.pieces)
+    → text ≡ canonical_text d → report ≡ summary_text s → product ≡ one_file_product order.drawing text report
+    → IsSampleProduct order d product
 sample_makes order d pieces routed s text report product cut route told spelled reported made = record {
   pieces = lines_of_pieces pieces;
   certs = routed.cert.pieces;
   pieces_are = route.pieces_are;
   best = route.best;
-  made = made ∙ ap (λ (t : List ℕ). one_output order.drawing t report) spelled
-      ∙ ap (one_output order.drawing (plain_spelling d)) (reported
+  made = made ∙ ap (λ (t : List ℕ). one_file_product order.drawing t report) spelled
+      ∙ ap (one_file_product order.drawing (canonical_text d)) (reported
       ∙ ap summary_text (told ∙ summary_is order.number d pieces routed.cert.pieces cut route.best));
 }

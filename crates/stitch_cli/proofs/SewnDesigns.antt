@@ -9,20 +9,20 @@ use Rattle.std.specs.Prelude.{sum_by}
 use Rattle.design_model.specs.declared.command.Command.TheVariants.{Stitch, Stop, Trim}
 use Rattle.design_model.specs.declared.command.Command.{Command}
 use Rattle.design_model.specs.declared.point.Point.{Point}
-use Rattle.design_model.specs.Acts.{acts_from, acts_of, bare}
+use Rattle.design_model.specs.Acts.{acts_from, acts_of, acts_without_numbers}
 use Rattle.design_model.specs.Designs.{DesignValue}
-use Rattle.design_model.specs.Points.{is_within, move_between, origin, size_of}
+use Rattle.design_model.specs.Points.{is_point_within, move_between, origin, move_size}
 use Rattle.format_traits.specs.declared.fault.ReadFault.{ReadFault}
 use Rattle.format_traits.specs.declared.loaded.Loaded.{Loaded}
-use Rattle.format_traits.specs.Laws.{IsAgain}
+use Rattle.format_traits.specs.Laws.{HasSameActs}
 use Rattle.format_traits.specs.PlainDesigns.{IsPlain, are_plain_from}
-use Rattle.format_traits.specs.Placing.{hops}
+use Rattle.format_traits.specs.MoveHops.{hops_of}
 use Rattle.format_traits.specs.Refusals.{stops_of}
-use Rattle.format_traits.specs.Rooms.{loose_room, room_from}
+use Rattle.format_traits.specs.Rooms.{room_of_loose, room_from}
 use Rattle.line_graph.specs.declared.pass.Pass.{Pass}
 use Rattle.line_graph.specs.Drawings.{DrawingValue}
 use Rattle.line_graph.specs.Runs.{AreNear, AreWritable, Run, RunsAreSewn, Sews, commands_after, design_of_runs, runs_of, sewn_design, stops_after}
-use Rattle.step_splitter.specs.Chains.{IsNeedlePoint, KeepsClose}
+use Rattle.step_splitter.specs.Chains.{IsNeedlePoint, AreCloseAfter}
 
 -- both of two tests hold, or either alone
 both : (a b : Bool) → a ≡ true → b ≡ true → (a && b) ≡ true
@@ -41,7 +41,7 @@ right false b here = cc
 le_more : (n small large : ℕ) → small ≤ large → nat_le n small ≡ true → nat_le n large ≡ true
 le_more n small large more within = grind (arith, nat_tests)
 
-within_more : (small large : ℕ) (m : Point) → small ≤ large → IsTrue (is_within small m) → IsTrue (is_within large m)
+within_more : (small large : ℕ) (m : Point) → small ≤ large → IsTrue (is_point_within small m) → IsTrue (is_point_within large m)
 within_more small large m more within = both _ _
     (le_more (unsigned_abs m.x) small large more (left _ (nat_le (unsigned_abs m.y) small) within))
     (le_more (unsigned_abs m.y) small large more (right (nat_le (unsigned_abs m.x) small) _ within))
@@ -62,7 +62,7 @@ needle_x p within = is_le _ 30000 (left _ (nat_le (unsigned_abs p.y) 30000) with
 needle_y : (p : Point) → IsNeedlePoint p → unsigned_abs p.y ≤ 30000
 needle_y p within = is_le _ 30000 (right (nat_le (unsigned_abs p.x) 30000) _ within)
 
-far_few : (p q : Point) → IsNeedlePoint p → IsNeedlePoint q → size_of (move_between p q) ≤ 60000
+far_few : (p q : Point) → IsNeedlePoint p → IsNeedlePoint q → move_size (move_between p q) ≤ 60000
 far_few p q one other = max_few _ _ 60000 (apart_few p.x q.x (needle_x p one) (needle_x q other))
     (apart_few p.y q.y (needle_y p one) (needle_y q other))
 
@@ -75,14 +75,14 @@ quotient_few limit size least few =
     omega (arith, is)
 
 hops_few : (limit : ℕ) (p q : Point) → 121 ≤ limit → IsNeedlePoint p → IsNeedlePoint q
-    → hops limit (move_between p q) ≤ 496
-hops_few limit p q least one other = quotient_few limit (size_of (move_between p q)) least (far_few p q one other)
+    → hops_of limit (move_between p q) ≤ 496
+hops_few limit p q least one other = quotient_few limit (move_size (move_between p q)) least (far_few p q one other)
 
 by_test : (b : Bool) (jumps : ℕ) → (if b then jumps + 1 else jumps + 2) ≤ jumps + 2
 by_test true jumps = omega arith
 by_test false jumps = omega arith
 
-loose_few : (jumps : ℕ) → loose_room jumps ≤ jumps + 2
+loose_few : (jumps : ℕ) → room_of_loose jumps ≤ jumps + 2
 loose_few jumps = by_test (nat_le jumps 2) jumps
 
 -- The acts of commands are plain whatever their first number: with n stops, and within that room.
@@ -122,7 +122,7 @@ trim_goes limit place rest stops room goes = record {
 
 -- Each stitch within the limit of the one before takes one command.
 stitches_go : (step limit : ℕ) (place : Point) (points : List Point) (rest : List Command) (stops room : ℕ) → step ≤ limit
-    → All IsNeedlePoint (place ∷ points) → KeepsClose step place points → GoesOn limit rest stops room
+    → All IsNeedlePoint (place ∷ points) → AreCloseAfter step place points → GoesOn limit rest stops room
     → Goes limit false place (map (λ q. Stitch q) points ++ Trim ∷ rest) stops (length points + (4 + room))
 stitches_go step limit place [] rest stops room more in_range close on =
     let later = trim_goes limit place rest stops room (on place (All-head IsNeedlePoint place [] in_range)) in
@@ -148,7 +148,7 @@ walk_goes step limit [] rest stops room least more near on place in_range = absu
 walk_goes step limit (p ∷ points) rest stops room least more near on place in_range =
     let later = stitches_go step limit p points rest stops room more near.in_range near.close on in
     let far = hops_few limit place p least in_range (All-head IsNeedlePoint p points near.in_range) in
-    let few = loose_few (hops limit (move_between place p)) in
+    let few = loose_few (hops_of limit (move_between place p)) in
     record {
       needles = λ n. later.needles (n + 1);
       stops_are = λ n. omega (arith, later.stops_are (n + 1));
@@ -193,7 +193,7 @@ runs_are_plain d runs step limit able least more =
 
 -- what reads again as a design sews what the design sews
 pub sews_again : (d : DrawingValue) (walks : List (List Pass)) (design : DesignValue) (read : Result Loaded ReadFault)
-    → Sews d walks (acts_of design) → IsOkAnd read (λ loaded. IsAgain design loaded)
+    → Sews d walks (acts_of design) → IsOkAnd read (λ loaded. HasSameActs design loaded)
     → IsOkAnd read (λ loaded. (loaded.ended ≡ true) × Sews d walks (acts_of loaded.design))
 sews_again d walks design (Ok loaded) sews again = (again.ended, again.acts ∙ sews)
 sews_again d walks design (Err f) sews again = absurd again
@@ -202,4 +202,4 @@ sews_again d walks design (Err f) sews again = absurd again
 pub sewn_sews : RunsAreSewn → (d : DrawingValue) (walks : List (List Pass)) (design : DesignValue) (step : ℕ)
     → design ≡ sewn_design d walks → AreWritable step (runs_of d walks) → Sews d walks (acts_of design)
 sewn_sews law d walks design step is able =
-    ap (λ (one : DesignValue). bare (acts_of one)) is ∙ law d (runs_of d walks) (λ k run less. (able.near k run less).some)
+    ap (λ (one : DesignValue). acts_without_numbers (acts_of one)) is ∙ law d (runs_of d walks) (λ k run less. (able.near k run less).some)

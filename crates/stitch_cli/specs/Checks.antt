@@ -2,7 +2,7 @@
 -- certificate prove that no walks cost less?
 use Rattle.std.specs.Prelude.{◌≡◌, ℕ, List, ◌++◌, Result, Ok, Err, codes}
 use Rattle.cut_certificate.specs.declared.certificate.PieceCert.{PieceCert}
-use Rattle.design_model.specs.TextLines.{line_end}
+use Rattle.design_model.specs.TextLines.{newline}
 use Rattle.certificate_text.specs.ReadCertificates.{cert_of}
 use Rattle.design_model.specs.Designs.{DesignValue}
 use Rattle.drawing_text.specs.declared.draw_fault.DrawFault.{DrawFault}
@@ -14,50 +14,51 @@ use Rattle.route_core.specs.declared.verdict.Reason.{Reason}
 use Rattle.route_core.specs.declared.verdict.Verdict.TheVariants as verdict
 use Rattle.route_core.specs.Verdicts.{IsVerdict, SewsLeast}
 use Rattle.stitch_cli.specs.OrderNames.{CheckOrder}
-use Rattle.stitch_cli.specs.Plans.{Plan, decides, reads, refuses}
-use Rattle.stitch_cli.specs.Products.{ProductValue, only_report}
-use Rattle.stitch_cli.specs.Refusals.{RefusalValue, disproved, uncertified, undrawn, unread}
+use Rattle.stitch_cli.specs.Plans.{Plan, satisfies, reads, refuses}
+use Rattle.stitch_cli.specs.Products.{ProductValue, report_product}
+use Rattle.stitch_cli.specs.Refusals.{RefusalValue, check_failed, bad_certificate, bad_drawing, bad_file}
 
 -- A passed check: the verdict is yes, and the design sews each piece of the drawing by a fitting
 -- walk of the least cost. The report is the line `yes`.
-pub record IsProved (d : DrawingValue) (design : DesignValue) (certs : List PieceCert)
+pub record IsCheckPassed (d : DrawingValue) (design : DesignValue) (certs : List PieceCert)
     (product : ProductValue) : Type 0 where
   pub verdict : IsVerdict d design certs verdict.Yes
   pub least : SewsLeast d design certs
-  pub made : product ≡ only_report (codes "yes" ++ line_end)
+  pub made : product ≡ report_product (codes "yes" ++ newline)
 
 -- A failed check: the verdict is no, for a reason.
-pub record IsDisproved (d : DrawingValue) (design : DesignValue) (certs : List PieceCert)
+pub record IsCheckFailed (d : DrawingValue) (design : DesignValue) (certs : List PieceCert)
     (why : RefusalValue) : Type 0 where
   pub reason : Reason
   pub verdict : IsVerdict d design certs (verdict.No reason)
-  pub is : why ≡ disproved reason
+  pub is : why ≡ check_failed reason
 
 -- The result of checking a design and a certificate against a drawing.
-abbrev pub CheckOf : DrawingValue → DesignValue → List PieceCert → Result ProductValue RefusalValue
+abbrev pub IsCheckResult : DrawingValue → DesignValue → List PieceCert
+    → Result ProductValue RefusalValue
     → Type 0
-CheckOf d design certs (Ok product) = IsProved d design certs product
-CheckOf d design certs (Err why) = IsDisproved d design certs why
+IsCheckResult d design certs (Ok product) = IsCheckPassed d design certs product
+IsCheckResult d design certs (Err why) = IsCheckFailed d design certs why
 
 -- The plan for the result of reading the certificate text: a certificate is checked, and a bad line
 -- is refused.
 abbrev pub check_cert : CheckOrder → DrawingValue → DesignValue → Result (List PieceCert) ℕ → Plan
-check_cert order d design (Ok certs) = decides (CheckOf d design certs)
-check_cert order d design (Err number) = refuses (uncertified order.cert number)
+check_cert order d design (Ok certs) = satisfies (IsCheckResult d design certs)
+check_cert order d design (Err number) = refuses (bad_certificate order.cert number)
 
 -- The plan for the result of reading the design: next the certificate is read, and a fault is
 -- refused.
 abbrev pub check_design : CheckOrder → DrawingValue → Result Loaded ReadFault → Plan
 check_design order d (Ok loaded) = reads order.cert
     (λ bytes. check_cert order d loaded.design (cert_of bytes))
-check_design order d (Err fault) = refuses (unread order.file fault)
+check_design order d (Err fault) = refuses (bad_file order.file fault)
 
 -- The plan for the result of reading the drawing text: next the design is read, and a fault is
 -- refused.
 abbrev pub check_drawing : CheckOrder → Result DrawingValue DrawFault → Plan
 check_drawing order (Ok d) = reads order.file
     (λ bytes. check_design order d (order.format.reads bytes))
-check_drawing order (Err fault) = refuses (undrawn order.drawing fault)
+check_drawing order (Err fault) = refuses (bad_drawing order.drawing fault)
 
 -- The plan of `check`: read the drawing, the design and the certificate, in this order.
 abbrev pub check_plan : CheckOrder → Plan

@@ -12,18 +12,18 @@ use Rattle.route_core.specs.Doubles.{IsDoubled}
 use Rattle.route_core.specs.Routes.{walks_of}
 use Rattle.stitch_cli.specs.OrderNames.{RouteOrder}
 use Rattle.stitch_cli.specs.Plans.{Plan}
-use Rattle.stitch_cli.specs.Sewings.{SewsIn, piece_reports, sewing_plan}
+use Rattle.stitch_cli.specs.Sewings.{IsSewnFile, piece_reports, sewing_plan}
 
 -- The result of a double run over a drawing: the file of the design, the text of the certificate,
 -- and the report. The certificate has no cuts.
 pub record IsDoubleRun (format : Meaning) (d : DrawingValue)
-    (bytes cert report : List ℕ) : Type 0 where
+    (design_file cert_text report : List ℕ) : Type 0 where
   pub pieces : List (List ℕ)
   pub certs : List PieceCert
   pub pieces_are : ArePieces d pieces
   pub doubled : AllZip (IsDoubled d) pieces certs
-  pub sewn : SewsIn format d (walks_of certs) bytes
-  pub cert_is : cert ≡ certificate_text certs
+  pub sewn : IsSewnFile format d (walks_of certs) design_file
+  pub cert_is : cert_text ≡ certificate_text certs
   pub report_is : report ≡ double_report (piece_reports d 1 pieces certs)
 
 -- The plan of `double`.

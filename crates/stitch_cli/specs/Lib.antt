@@ -35,9 +35,9 @@ pub mod Shows
 pub mod Hoops
 pub mod Rewrites
 pub mod Commands
-pub mod RunSights
+pub mod RunViews
 pub mod RunFailures
 pub mod Runs
-pub mod Endings
+pub mod StepOutcomes
 pub mod RewriteSteps
 pub mod SewingSteps

@@ -2,7 +2,7 @@
 -- `Meaning` (format_traits) is a format: how it reads and writes designs.
 use Rattle.std.specs.Prelude.{ℕ, List}
 use Rattle.command_words.specs.declared.requests.CheckNames.{CheckNames}
-use Rattle.command_words.specs.declared.requests.Names.{Names}
+use Rattle.command_words.specs.declared.requests.RewriteNames.{RewriteNames}
 use Rattle.command_words.specs.declared.requests.RouteNames.{RouteNames}
 use Rattle.command_words.specs.Changes.{Change}
 use Rattle.format_traits.specs.Meanings.{Meaning}
@@ -96,7 +96,7 @@ abbrev pub show_order : List ℕ → Meaning → ShowOrder
 show_order file format = record { file = file; format = format }
 
 -- The order of `convert` or `edit`, from its names, the formats and the changes.
-abbrev pub rewrite_order : Names → Meaning → Meaning → List Change → RewriteOrder
+abbrev pub rewrite_order : RewriteNames → Meaning → Meaning → List Change → RewriteOrder
 rewrite_order names source target changes = record {
   input = names.input.now;
   output = names.output.now;

@@ -7,21 +7,21 @@ use Rattle.format_traits.specs.Meanings.{Meaning}
 use Rattle.line_graph.specs.Drawings.{DrawingValue}
 use Rattle.line_graph.specs.Pieces.{ArePieces}
 use Rattle.program_texts.specs.Reports.{route_report}
-use Rattle.route_core.specs.Routes.{IsBest, walks_of}
+use Rattle.route_core.specs.Routes.{IsLeastPieceRoute, walks_of}
 use Rattle.stitch_cli.specs.OrderNames.{RouteOrder}
 use Rattle.stitch_cli.specs.Plans.{Plan}
-use Rattle.stitch_cli.specs.Sewings.{SewsIn, piece_reports, sewing_plan}
+use Rattle.stitch_cli.specs.Sewings.{IsSewnFile, piece_reports, sewing_plan}
 
 -- The result of routing a drawing: the file of the design, the text of the certificate, and the
 -- report. Each piece has a best walk: one of the least cost, with a certificate that proves it.
 pub record IsRouted (format : Meaning) (d : DrawingValue)
-    (bytes cert report : List ℕ) : Type 0 where
+    (design_file cert_text report : List ℕ) : Type 0 where
   pub pieces : List (List ℕ)
   pub certs : List PieceCert
   pub pieces_are : ArePieces d pieces
-  pub best : AllZip (IsBest d) pieces certs
-  pub sewn : SewsIn format d (walks_of certs) bytes
-  pub cert_is : cert ≡ certificate_text certs
+  pub best : AllZip (IsLeastPieceRoute d) pieces certs
+  pub sewn : IsSewnFile format d (walks_of certs) design_file
+  pub cert_is : cert_text ≡ certificate_text certs
   pub report_is : report ≡ route_report (piece_reports d 1 pieces certs)
 
 -- The plan of `route`.

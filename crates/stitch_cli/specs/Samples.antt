@@ -3,24 +3,24 @@
 use Rattle.std.specs.Prelude.{◌≡◌, ℕ, ◌+◌, List, length, sum_by}
 use Rattle.std.specs.List.{AllZip}
 use Rattle.cut_certificate.specs.declared.certificate.PieceCert.{PieceCert}
-use Rattle.cut_certificate.specs.Cuts.{total_of}
-use Rattle.drawing_text.specs.Spelling.{plain_spelling}
+use Rattle.cut_certificate.specs.Cuts.{total_weight}
+use Rattle.drawing_text.specs.CanonicalTexts.{canonical_text}
 use Rattle.line_graph.specs.Drawings.{DrawingValue}
-use Rattle.line_graph.specs.PieceGraphs.{PieceValue, piece_of}
+use Rattle.line_graph.specs.PieceGraphs.{PieceValue, piece_graph}
 use Rattle.line_graph.specs.Pieces.{ArePieces}
 use Rattle.line_graph.specs.PieceWalks.{piece_cost}
-use Rattle.route_core.specs.Routes.{IsBest}
-use Rattle.sample_drawings.specs.Samples.{sample_of}
+use Rattle.route_core.specs.Routes.{IsLeastPieceRoute}
+use Rattle.sample_drawings.specs.Samples.{sample_drawing_of}
 use Rattle.program_texts.specs.declared.summary.Summary.{Summary}
 use Rattle.stitch_cli.specs.OrderNames.{SampleOrder}
 use Rattle.stitch_cli.specs.Plans.{Plan, accepts}
-use Rattle.stitch_cli.specs.Products.{ProductValue, one_output}
-use Rattle.program_texts.specs.PieceSums.{junction_count, odd_count}
+use Rattle.stitch_cli.specs.Products.{ProductValue, one_file_product}
+use Rattle.program_texts.specs.PieceSums.{junctions_of_piece, odd_junctions_of_piece}
 use Rattle.program_texts.specs.Reports.{summary_text}
 
 -- The sum of a number over pieces of a drawing.
-abbrev pub over_pieces : (PieceValue → ℕ) → DrawingValue → List (List ℕ) → ℕ
-over_pieces count d pieces = sum_by (λ lines. count (piece_of d lines)) pieces
+abbrev pub sum_over_pieces : (PieceValue → ℕ) → DrawingValue → List (List ℕ) → ℕ
+sum_over_pieces count d pieces = sum_by (λ lines. count (piece_graph d lines)) pieces
 
 -- The total cost that the walks retrace.
 abbrev pub retraced_sum : List PieceCert → ℕ
@@ -28,7 +28,7 @@ retraced_sum certs = sum_by (λ cert. cert.retraced) certs
 
 -- The total weight of all cuts.
 abbrev pub cut_sum : List PieceCert → ℕ
-cut_sum certs = sum_by (λ cert. total_of cert.cuts) certs
+cut_sum certs = sum_by (λ cert. total_weight cert.cuts) certs
 
 -- The summary of a drawing and a route over its pieces. The needle penetrates once more per walk
 -- than the walk costs.
@@ -36,25 +36,26 @@ abbrev pub summary_of : ℕ → DrawingValue → List (List ℕ) → List PieceC
 summary_of number d pieces certs = record {
   number = number;
   lines = length d.lines;
-  junctions = over_pieces junction_count d pieces;
-  odd = over_pieces odd_count d pieces;
+  junctions = sum_over_pieces junctions_of_piece d pieces;
+  odd = sum_over_pieces odd_junctions_of_piece d pieces;
   pieces = length pieces;
-  cost = over_pieces piece_cost d pieces;
+  cost = sum_over_pieces piece_cost d pieces;
   retraced = retraced_sum certs;
-  penetrations = (over_pieces piece_cost d pieces + retraced_sum certs) + length pieces;
+  penetrations = (sum_over_pieces piece_cost d pieces + retraced_sum certs) + length pieces;
   cuts = cut_sum certs;
 }
 
 -- The product of `sample`: the drawing is written as its canonical text, and the report is the
 -- summary of best walks.
-pub record TellsOf (order : SampleOrder) (d : DrawingValue) (product : ProductValue) : Type 0 where
+pub record IsSampleProduct (order : SampleOrder) (d : DrawingValue) (product : ProductValue) : Type
+    0 where
   pub pieces : List (List ℕ)
   pub certs : List PieceCert
   pub pieces_are : ArePieces d pieces
-  pub best : AllZip (IsBest d) pieces certs
-  pub made : product ≡ one_output order.drawing (plain_spelling d)
+  pub best : AllZip (IsLeastPieceRoute d) pieces certs
+  pub made : product ≡ one_file_product order.drawing (canonical_text d)
       (summary_text (summary_of order.number d pieces certs))
 
 -- The plan of `sample`: every number is accepted.
 abbrev pub sample_plan : SampleOrder → Plan
-sample_plan order = accepts (TellsOf order (sample_of order.number))
+sample_plan order = accepts (IsSampleProduct order (sample_drawing_of order.number))

@@ -7,7 +7,7 @@ use Rattle.format_traits.specs.Laws.{MovesWithin}
 use Rattle.format_traits.specs.Meanings.{Meaning}
 use Rattle.line_graph.specs.declared.pass.Pass.{Pass}
 use Rattle.line_graph.specs.Drawings.{DrawingValue}
-use Rattle.line_graph.specs.PieceGraphs.{piece_of}
+use Rattle.line_graph.specs.PieceGraphs.{piece_graph}
 use Rattle.line_graph.specs.Runs.{Sews, sewn_design}
 use Rattle.drawing_text.specs.declared.draw_fault.DrawFault.{DrawFault}
 use Rattle.drawing_text.specs.DrawingText.{drawing_of}
@@ -15,12 +15,12 @@ use Rattle.program_texts.specs.declared.reports.PieceReport.{PieceReport}
 use Rattle.program_texts.specs.PieceReports.{piece_report}
 use Rattle.stitch_cli.specs.OrderNames.{RouteOrder}
 use Rattle.stitch_cli.specs.Plans.{Plan, accepts, reads, refuses}
-use Rattle.stitch_cli.specs.Products.{ProductValue, two_outputs}
-use Rattle.stitch_cli.specs.Refusals.{step_too_long, undrawn}
+use Rattle.stitch_cli.specs.Products.{ProductValue, two_file_product}
+use Rattle.stitch_cli.specs.Refusals.{step_too_long, bad_drawing}
 
 -- The file of a sewn design: the bytes that the format writes for it. Read again, the file has an
 -- end and sews the drawing by the walks, and no record moves farther than the limit of the format.
-pub record SewsIn (format : Meaning) (d : DrawingValue) (walks : List (List Pass))
+pub record IsSewnFile (format : Meaning) (d : DrawingValue) (walks : List (List Pass))
     (bytes : List ℕ) : Type 0 where
   pub written : format.writes (sewn_design d walks) ≡ Ok bytes
   pub read : IsOkAnd (format.reads bytes)
@@ -33,39 +33,42 @@ abbrev pub piece_reports : DrawingValue → ℕ → List (List ℕ) → List Pie
 piece_reports d number [] certs = []
 piece_reports d number (lines ∷ pieces) [] = []
 piece_reports d number (lines ∷ pieces) (cert ∷ certs) =
-    piece_report (piece_of d lines) number cert ∷ piece_reports d (number + 1) pieces certs
+    piece_report (piece_graph d lines) number cert ∷ piece_reports d (number + 1) pieces certs
 
 -- The product of a sewn drawing: the certificate, which is written first, the file of the design,
 -- and the report. The three satisfy the relation `Sewn`.
-pub record SewnMakes (Sewn : Meaning → DrawingValue → (bytes cert report : List ℕ) → Type 0)
+pub record IsSewnProduct (Sewn : Meaning → DrawingValue → (design_file cert_text report : List ℕ)
+    → Type 0)
     (order : RouteOrder) (d : DrawingValue) (product : ProductValue) : Type 0 where
-  pub design : List ℕ
-  pub cert : List ℕ
+  pub design_file : List ℕ
+  pub cert_text : List ℕ
   pub report : List ℕ
-  pub sewn : Sewn order.format d design cert report
-  pub made : product ≡ two_outputs (record { name = order.cert; content = cert })
-      (record { name = order.out; content = design }) report
+  pub sewn : Sewn order.format d design_file cert_text report
+  pub made : product ≡ two_file_product (record { name = order.cert; content = cert_text })
+      (record { name = order.out; content = design_file }) report
 
 -- The plan for a drawing, given whether its step exceeds the limit of the format: then it is
 -- refused, else accepted.
-abbrev pub sewing_above : (Meaning → DrawingValue → (bytes cert report : List ℕ) → Type 0)
+abbrev pub sewing_by_limit : (Meaning → DrawingValue → (design_file cert_text report : List ℕ)
+    → Type 0)
     → RouteOrder → DrawingValue → Bool → Plan
-sewing_above Sewn order d true =
+sewing_by_limit Sewn order d true =
     refuses (step_too_long order.drawing d.step order.format.limit order.format.ending)
-sewing_above Sewn order d false = accepts (SewnMakes Sewn order d)
+sewing_by_limit Sewn order d false = accepts (IsSewnProduct Sewn order d)
 
 -- The plan for a drawing: its step is compared with the limit of the format.
-abbrev pub sewing_drawing : (Meaning → DrawingValue → (bytes cert report : List ℕ) → Type 0)
+abbrev pub sewing_drawing : (Meaning → DrawingValue → (design_file cert_text report : List ℕ)
+    → Type 0)
     → RouteOrder → DrawingValue → Plan
-sewing_drawing Sewn order d = sewing_above Sewn order d (nat_lt order.format.limit d.step)
+sewing_drawing Sewn order d = sewing_by_limit Sewn order d (nat_lt order.format.limit d.step)
 
 -- The plan for the result of reading the drawing text: a drawing is sewn, and a fault is refused.
-abbrev pub sewing_read : (Meaning → DrawingValue → (bytes cert report : List ℕ) → Type 0)
+abbrev pub sewing_read : (Meaning → DrawingValue → (design_file cert_text report : List ℕ) → Type 0)
     → RouteOrder → Result DrawingValue DrawFault → Plan
 sewing_read Sewn order (Ok d) = sewing_drawing Sewn order d
-sewing_read Sewn order (Err fault) = refuses (undrawn order.drawing fault)
+sewing_read Sewn order (Err fault) = refuses (bad_drawing order.drawing fault)
 
 -- The plan of `route` or `double`: read the drawing file, then sew the drawing.
-abbrev pub sewing_plan : (Meaning → DrawingValue → (bytes cert report : List ℕ) → Type 0)
+abbrev pub sewing_plan : (Meaning → DrawingValue → (design_file cert_text report : List ℕ) → Type 0)
     → RouteOrder → Plan
 sewing_plan Sewn order = reads order.drawing (λ bytes. sewing_read Sewn order (drawing_of bytes))

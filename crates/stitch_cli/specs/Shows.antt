@@ -5,14 +5,14 @@ use Rattle.format_traits.specs.declared.loaded.Loaded.{Loaded}
 use Rattle.program_texts.specs.DesignReports.{show_report}
 use Rattle.stitch_cli.specs.OrderNames.{ShowOrder}
 use Rattle.stitch_cli.specs.Plans.{Plan, accepts, reads, refuses}
-use Rattle.stitch_cli.specs.Products.{only_report}
-use Rattle.stitch_cli.specs.Refusals.{unread}
+use Rattle.stitch_cli.specs.Products.{report_product}
+use Rattle.stitch_cli.specs.Refusals.{bad_file}
 
 -- The plan for the result of reading the design: its report is printed, and a fault is refused.
 abbrev pub show_read : ShowOrder → Result Loaded ReadFault → Plan
 show_read order (Ok loaded) = accepts (λ product. product
-    ≡ only_report (show_report order.format.ending loaded))
-show_read order (Err fault) = refuses (unread order.file fault)
+    ≡ report_product (show_report order.format.ending loaded))
+show_read order (Err fault) = refuses (bad_file order.file fault)
 
 -- The plan of `show`: read the design, then print its report.
 abbrev pub show_plan : ShowOrder → Plan

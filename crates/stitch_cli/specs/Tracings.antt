@@ -1,6 +1,6 @@
 -- The command `trace`: the drawing of what a design sews.
 use Rattle.std.specs.Prelude.{◌≡◌, ℕ, List, Result, Ok, Err}
-use Rattle.drawing_text.specs.Spelling.{plain_spelling2}
+use Rattle.drawing_text.specs.CanonicalTexts.{canonical_text2}
 use Rattle.format_traits.specs.declared.fault.ReadFault.{ReadFault}
 use Rattle.format_traits.specs.declared.loaded.Loaded.{Loaded}
 use Rattle.line_graph.specs.Drawings.{DrawingValue}
@@ -9,23 +9,24 @@ use Rattle.stitch_trace.specs.declared.trace_fault.TraceFault.{TraceFault}
 use Rattle.stitch_trace.specs.Traces.{traced}
 use Rattle.stitch_cli.specs.OrderNames.{TraceOrder}
 use Rattle.stitch_cli.specs.Plans.{Plan, accepts, reads, refuses}
-use Rattle.stitch_cli.specs.Products.{ProductValue, one_output}
-use Rattle.stitch_cli.specs.Refusals.{unread, untraced}
+use Rattle.stitch_cli.specs.Products.{ProductValue, one_file_product}
+use Rattle.stitch_cli.specs.Refusals.{bad_file, not_traceable}
 
 -- The product of `trace`: the canonical text of version 2, and a report with the number of blocks,
 -- lines and segments.
 abbrev pub IsTraced : List ℕ → DrawingValue → ProductValue → Type 0
-IsTraced drawing d product = product ≡ one_output drawing (plain_spelling2 d) (tracing_report d)
+IsTraced drawing d product = product
+    ≡ one_file_product drawing (canonical_text2 d) (tracing_report d)
 
 -- The plan for the result of tracing a design: a drawing is accepted, and a fault is refused.
 abbrev pub trace_made : TraceOrder → Result DrawingValue TraceFault → Plan
 trace_made order (Ok d) = accepts (IsTraced order.drawing d)
-trace_made order (Err fault) = refuses (untraced order.file fault)
+trace_made order (Err fault) = refuses (not_traceable order.file fault)
 
 -- The plan for the result of reading the design: a design is traced, and a fault is refused.
 abbrev pub trace_read : TraceOrder → Result Loaded ReadFault → Plan
 trace_read order (Ok loaded) = trace_made order (traced loaded.design)
-trace_read order (Err fault) = refuses (unread order.file fault)
+trace_read order (Err fault) = refuses (bad_file order.file fault)
 
 -- The plan of `trace`: read the design, then trace it.
 abbrev pub trace_plan : TraceOrder → Plan

@@ -1,17 +1,17 @@
 ghost use Rattle.std.specs.Prelude.{◌≡◌, ◌<◌, ◌-◌, ◌≤◌, ◌^◌, All, Ok, Some, length, map, slice_get};
-ghost use Rattle.command_words.specs.SoundRequests.{AreCheckNames};
+ghost use Rattle.command_words.specs.ValidRequests.{AreCheckNames};
 ghost use Rattle.certificate_text.specs.ReadCertificates.{cert_of};
 ghost use Rattle.format_traits.specs.Meanings.{Meaning};
 ghost use Rattle.outside_io.specs.declared.limits.TheConstants.{MAX_FILE};
-ghost use Rattle.route_core.specs.Verdicts.{IsShort};
-ghost use Rattle.stitch_cli.specs.Checks.{CheckOf, check_cert, check_design, check_drawing, check_plan};
-ghost use Rattle.stitch_cli.specs.Endings.{Prepares, Settles};
+ghost use Rattle.route_core.specs.Verdicts.{HasShortLists};
+ghost use Rattle.stitch_cli.specs.Checks.{IsCheckResult, check_cert, check_design, check_drawing, check_plan};
+ghost use Rattle.stitch_cli.specs.StepOutcomes.{RunsPlan, RunsPurePlan};
 ghost use Rattle.stitch_cli.specs.OrderNames.{check_order};
-ghost use Rattle.stitch_cli.specs.Plans.{decides};
+ghost use Rattle.stitch_cli.specs.Plans.{satisfies};
 
 use crate::drawing_inputs::drawing_in;
-use crate::format_places::load_at;
-use crate::halt::{Halt, Refusal};
+use crate::failure::{Failure, Refusal};
+use crate::format_indexes::load_at;
 use crate::product::{Product, only_report};
 use crate::reading::read_input;
 use certificate_text::{CertFault, read_cert};
@@ -34,11 +34,11 @@ pub(crate) fn check<'a, S: Store>(
     formats: &mut [Box<dyn Format>],
     place: usize,
     store: &mut S,
-) -> Result<Product<'a>, Halt<'a>>
+) -> Result<Product<'a>, Failure<'a>>
     requires names { AreCheckNames names }
     requires place { place < length formats.old }
     ensures prepares { (m : Meaning) → slice_get (map (λ f. meaning f) formats.old) place ≡ Some m
-        → Prepares (check_plan (check_order names.entry m)) (S.sight store.old) (S.sight store.new) result }
+        → RunsPlan (check_plan (check_order names.entry m)) (S.view store.old) (S.view store.new) result }
     ensures same { map (λ f. meaning f) formats.new ≡ map (λ f. meaning f) formats.old }
 {
     let drawing = drawing_in(alloc, store, names.drawing)?;
@@ -52,12 +52,12 @@ fn check_file<'a, S: Store>(
     place: usize,
     drawing: &Drawing,
     store: &mut S,
-) -> Result<Product<'a>, Halt<'a>>
+) -> Result<Product<'a>, Failure<'a>>
     requires names { AreCheckNames names }
     requires place { place < length formats.old }
     ensures prepares { (m : Meaning) → slice_get (map (λ f. meaning f) formats.old) place ≡ Some m
-        → Prepares (check_drawing (check_order names.entry m) (Ok drawing.now))
-        (S.sight store.old) (S.sight store.new) result }
+        → RunsPlan (check_drawing (check_order names.entry m) (Ok drawing.now))
+        (S.view store.old) (S.view store.new) result }
     ensures same { map (λ f. meaning f) formats.new ≡ map (λ f. meaning f) formats.old }
 {
     let loaded = load_at(formats, place, store, names.file)?;
@@ -70,32 +70,32 @@ fn check_loaded<'a, S: Store>(
     drawing: &Drawing,
     loaded: &Loaded,
     store: &mut S,
-) -> Result<Product<'a>, Halt<'a>>
+) -> Result<Product<'a>, Failure<'a>>
     requires names { AreCheckNames names }
-    ensures { (m : Meaning) → Prepares (check_design (check_order names.entry m) drawing.now
+    ensures { (m : Meaning) → RunsPlan (check_design (check_order names.entry m) drawing.now
         (Ok loaded.now))
-        (S.sight store.old) (S.sight store.new) result }
+        (S.view store.old) (S.view store.new) result }
 {
     let bytes = read_input(alloc, store, names.cert)?;
-    check_words(alloc, names, drawing, &loaded.design, bytes.as_slice())
+    check_text(alloc, names, drawing, &loaded.design, bytes.as_slice())
 }
 
-fn check_words<'a>(
+fn check_text<'a>(
     alloc: Global,
     names: CheckNames<'a>,
     drawing: &Drawing,
     design: &Design,
     bytes: &[u8],
-) -> Result<Product<'a>, Halt<'a>>
+) -> Result<Product<'a>, Failure<'a>>
     requires short { length bytes.now ≤ MAX_FILE }
-    ensures { (m : Meaning) → Settles (check_cert (check_order names.entry m) drawing.now
+    ensures { (m : Meaning) → RunsPurePlan (check_cert (check_order names.entry m) drawing.now
         design.now
         (cert_of bytes.now)) result }
 {
     match read_cert(alloc, bytes) {
         Ok(cert) => judged(alloc, drawing, design, &cert),
-        Err(CertFault::Memory) => Err(Halt::Memory),
-        Err(CertFault::BadLine { number }) => Err(Halt::Refused(Refusal::Uncertified {
+        Err(CertFault::Memory) => Err(Failure::Memory),
+        Err(CertFault::BadLine { number }) => Err(Failure::Refused(Refusal::BadCertificate {
             name: names.cert,
             number,
         })),
@@ -108,16 +108,16 @@ fn judged<'a>(
     drawing: &Drawing,
     design: &Design,
     cert: &Cert,
-) -> Result<Product<'a>, Halt<'a>>
+) -> Result<Product<'a>, Failure<'a>>
     requires few { length cert.now.pieces < 2 ^ 32 - 1 }
-    requires short { All IsShort cert.now.pieces }
-    ensures { Settles (decides (CheckOf drawing.now design.now cert.now.pieces)) result }
+    requires short { All HasShortLists cert.now.pieces }
+    ensures { RunsPurePlan (satisfies (IsCheckResult drawing.now design.now cert.now.pieces)) result }
 {
     match judge(alloc, drawing, design, cert)? {
         Verdict::Yes => {
             let report = bytes_of(alloc, b"yes\n")?;
             Ok(only_report(alloc, report))
         }
-        Verdict::No(why) => Err(Halt::Refused(Refusal::Disproved(why))),
+        Verdict::No(why) => Err(Failure::Refused(Refusal::CheckFailed(why))),
     }
 }

@@ -1,38 +1,38 @@
 ghost use Rattle.std.specs.Prelude.{◌≡◌, ◌≢◌, map, string_bytes};
 ghost use Rattle.std.specs.Bool.{OnTrue};
-ghost use Rattle.command_words.specs.SoundRequests.{AreCheckNames, AreNames, BothAreNames};
-ghost use Rattle.outside_io.specs.Files.{IsName};
-ghost use Rattle.stitch_cli.specs.Endings.{Answers};
+ghost use Rattle.command_words.specs.ValidRequests.{AreCheckNames, AreRouteNames, AreRewriteNames};
+ghost use Rattle.outside_io.specs.Files.{IsFileName};
+ghost use Rattle.stitch_cli.specs.StepOutcomes.{RunsRequest};
 ghost use Rattle.format_traits.specs.Endings.{format_of};
-ghost use Rattle.stitch_cli.specs.Orders.{are_apart as names_are_apart, checking_by, doubling_to, hooping_by, migrating_to, order_of, rewriting_by, routing_to, showing_by, tracing_to};
-ghost use Rattle.design_changes.specs.Changings.{AreSound, changes_by};
+ghost use Rattle.stitch_cli.specs.Orders.{names_differ, complete_check, complete_double, complete_hoop, complete_migrate, order_of, complete_rewrite, complete_route, complete_show, complete_trace};
+ghost use Rattle.design_changes.specs.AppliedChanges.{AreValidChanges, change_list};
 
 use crate::checking::check;
-use crate::format_places::format_at;
-use crate::halt::Halt;
+use crate::failure::Failure;
+use crate::format_indexes::format_at;
 use crate::hooping::hoop;
 use crate::migrating::migrate;
 use crate::product::Product;
-use crate::rewriting::{Places, rewrite};
+use crate::rewriting::{FormatIndexes, rewrite};
 use crate::sampling::sample;
-use crate::sewing::{Way, sew};
+use crate::sewing::{WalkKind, sew};
 use crate::showing::show;
 use crate::tracing::trace_file;
-use command_words::{CheckNames, Names, Request, RouteNames, request};
+use command_words::{CheckNames, Request, RewriteNames, RouteNames, request};
 use design_changes::Changes;
 use format_traits::{Format, find};
 use outside_io::Store;
 use std::alloc::Global;
 
 /// Makes the product that the arguments request. Reads the inputs from the store, and writes nothing.
-pub(crate) fn make<'a, S: Store>(
+pub(crate) fn make_product<'a, S: Store>(
     alloc: Global,
     words: &'a [String],
     formats: &mut [Box<dyn Format>],
     store: &mut S,
-) -> Result<Product<'a>, Halt<'a>>
-    ensures answers { Answers (order_of (map (λ f. meaning f) formats.old) (map string_bytes words.now))
-        (S.sight store.old) (S.sight store.new) result }
+) -> Result<Product<'a>, Failure<'a>>
+    ensures answers { RunsRequest (order_of (map (λ f. meaning f) formats.old) (map string_bytes words.now))
+        (S.view store.old) (S.view store.new) result }
     ensures same { map (λ f. meaning f) formats.new ≡ map (λ f. meaning f) formats.old }
 {
     match request(words) {
@@ -63,7 +63,7 @@ pub(crate) fn make<'a, S: Store>(
         Some(Request::Migrate { input, output }) => make_migration(alloc, input, output, store),
         Some(Request::Trace { file, drawing }) => make_trace(alloc, file, drawing, formats, store),
         Some(Request::Double(names)) => make_double(alloc, names, formats, store),
-        None => Err(Halt::Unasked),
+        None => Err(Failure::BadArguments),
     }
 }
 
@@ -72,19 +72,26 @@ fn make_route<'a, S: Store>(
     names: RouteNames<'a>,
     formats: &mut [Box<dyn Format>],
     store: &mut S,
-) -> Result<Product<'a>, Halt<'a>>
-    requires { AreNames names }
-    ensures answers { Answers (routing_to names.entry.drawing.now names.entry.out.now names.entry.cert.now
+) -> Result<Product<'a>, Failure<'a>>
+    requires { AreRouteNames names }
+    ensures answers { RunsRequest (complete_route names.entry.drawing.now names.entry.out.now
+        names.entry.cert.now
         (format_of (map (λ f. meaning f) formats.old) names.entry.out.now))
-        (S.sight store.old) (S.sight store.new) result }
+        (S.view store.old) (S.view store.new) result }
     ensures same { map (λ f. meaning f) formats.new ≡ map (λ f. meaning f) formats.old }
 {
     if !are_apart(names) {
-        return Err(Halt::Unasked);
+        return Err(Failure::BadArguments);
     }
     match find(formats, names.out) {
-        Some(place) => sew(alloc, Way::Least, names, format_at(formats, place), store),
-        None => Err(Halt::Unasked),
+        Some(place) => sew(
+            alloc,
+            WalkKind::Least,
+            names,
+            format_at(formats, place),
+            store,
+        ),
+        None => Err(Failure::BadArguments),
     }
 }
 
@@ -93,45 +100,46 @@ fn make_check<'a, S: Store>(
     names: CheckNames<'a>,
     formats: &mut [Box<dyn Format>],
     store: &mut S,
-) -> Result<Product<'a>, Halt<'a>>
+) -> Result<Product<'a>, Failure<'a>>
     requires { AreCheckNames names }
-    ensures answers { Answers (checking_by names.entry.drawing.now names.entry.file.now names.entry.cert.now
+    ensures answers { RunsRequest (complete_check names.entry.drawing.now names.entry.file.now
+        names.entry.cert.now
         (format_of (map (λ f. meaning f) formats.old) names.entry.file.now))
-        (S.sight store.old) (S.sight store.new) result }
+        (S.view store.old) (S.view store.new) result }
     ensures same { map (λ f. meaning f) formats.new ≡ map (λ f. meaning f) formats.old }
 {
     match find(formats, names.file) {
         Some(place) => check(alloc, names, formats, place, store),
-        None => Err(Halt::Unasked),
+        None => Err(Failure::BadArguments),
     }
 }
 
 fn make_rewrite<'a, S: Store>(
     alloc: Global,
-    names: Names<'a>,
+    names: RewriteNames<'a>,
     changes: &Changes<'_>,
     formats: &mut [Box<dyn Format>],
     store: &mut S,
-) -> Result<Product<'a>, Halt<'a>>
-    requires names { BothAreNames names }
-    requires changes { AreSound changes.now }
-    ensures answers { Answers (rewriting_by names.entry.input.now names.entry.output.now
-        (changes_by changes.now)
+) -> Result<Product<'a>, Failure<'a>>
+    requires names { AreRewriteNames names }
+    requires changes { AreValidChanges changes.now }
+    ensures answers { RunsRequest (complete_rewrite names.entry.input.now names.entry.output.now
+        (change_list changes.now)
         (format_of (map (λ f. meaning f) formats.old) names.entry.input.now)
         (format_of (map (λ f. meaning f) formats.old) names.entry.output.now))
-        (S.sight store.old) (S.sight store.new) result }
+        (S.view store.old) (S.view store.new) result }
     ensures same { map (λ f. meaning f) formats.new ≡ map (λ f. meaning f) formats.old }
 {
     if names.input == names.output {
-        return Err(Halt::Unasked);
+        return Err(Failure::BadArguments);
     }
     let Some(source) = find(formats, names.input) else {
-        return Err(Halt::Unasked);
+        return Err(Failure::BadArguments);
     };
     let Some(target) = find(formats, names.output) else {
-        return Err(Halt::Unasked);
+        return Err(Failure::BadArguments);
     };
-    let places = Places { source, target };
+    let places = FormatIndexes { source, target };
     rewrite(alloc, names, formats, places, changes, store)
 }
 
@@ -140,15 +148,16 @@ fn make_show<'a, S: Store>(
     file: &'a str,
     formats: &mut [Box<dyn Format>],
     store: &mut S,
-) -> Result<Product<'a>, Halt<'a>>
-    requires { IsName file.now }
-    ensures answers { Answers (showing_by file.now (format_of (map (λ f. meaning f) formats.old) file.now))
-        (S.sight store.old) (S.sight store.new) result }
+) -> Result<Product<'a>, Failure<'a>>
+    requires { IsFileName file.now }
+    ensures answers { RunsRequest (complete_show file.now
+        (format_of (map (λ f. meaning f) formats.old) file.now))
+        (S.view store.old) (S.view store.new) result }
     ensures same { map (λ f. meaning f) formats.new ≡ map (λ f. meaning f) formats.old }
 {
     match find(formats, file) {
         Some(place) => show(alloc, file, formats, place, store),
-        None => Err(Halt::Unasked),
+        None => Err(Failure::BadArguments),
     }
 }
 
@@ -159,16 +168,16 @@ fn make_hoop<'a, S: Store>(
     height: u32,
     formats: &mut [Box<dyn Format>],
     store: &mut S,
-) -> Result<Product<'a>, Halt<'a>>
-    requires { IsName file.now }
-    ensures answers { Answers (hooping_by file.now width height
+) -> Result<Product<'a>, Failure<'a>>
+    requires { IsFileName file.now }
+    ensures answers { RunsRequest (complete_hoop file.now width height
         (format_of (map (λ f. meaning f) formats.old) file.now))
-        (S.sight store.old) (S.sight store.new) result }
+        (S.view store.old) (S.view store.new) result }
     ensures same { map (λ f. meaning f) formats.new ≡ map (λ f. meaning f) formats.old }
 {
     match find(formats, file) {
         Some(place) => hoop(alloc, file, formats, place, width, height, store),
-        None => Err(Halt::Unasked),
+        None => Err(Failure::BadArguments),
     }
 }
 
@@ -177,14 +186,14 @@ fn make_migration<'a, S: Store>(
     input: &'a str,
     output: &'a str,
     store: &mut S,
-) -> Result<Product<'a>, Halt<'a>>
-    requires input { IsName input.now }
-    requires output { IsName output.now }
-    ensures { Answers (migrating_to input.now output.now) (S.sight store.old)
-        (S.sight store.new) result }
+) -> Result<Product<'a>, Failure<'a>>
+    requires input { IsFileName input.now }
+    requires output { IsFileName output.now }
+    ensures { RunsRequest (complete_migrate input.now output.now) (S.view store.old)
+        (S.view store.new) result }
 {
     if input == output {
-        return Err(Halt::Unasked);
+        return Err(Failure::BadArguments);
     }
     migrate(alloc, input, output, store)
 }
@@ -195,20 +204,20 @@ fn make_trace<'a, S: Store>(
     drawing: &'a str,
     formats: &mut [Box<dyn Format>],
     store: &mut S,
-) -> Result<Product<'a>, Halt<'a>>
-    requires file { IsName file.now }
-    requires drawing { IsName drawing.now }
-    ensures answers { Answers (tracing_to file.now drawing.now
+) -> Result<Product<'a>, Failure<'a>>
+    requires file { IsFileName file.now }
+    requires drawing { IsFileName drawing.now }
+    ensures answers { RunsRequest (complete_trace file.now drawing.now
         (format_of (map (λ f. meaning f) formats.old) file.now))
-        (S.sight store.old) (S.sight store.new) result }
+        (S.view store.old) (S.view store.new) result }
     ensures same { map (λ f. meaning f) formats.new ≡ map (λ f. meaning f) formats.old }
 {
     if file == drawing {
-        return Err(Halt::Unasked);
+        return Err(Failure::BadArguments);
     }
     match find(formats, file) {
         Some(place) => trace_file(alloc, file, drawing, formats, place, store),
-        None => Err(Halt::Unasked),
+        None => Err(Failure::BadArguments),
     }
 }
 
@@ -217,24 +226,31 @@ fn make_double<'a, S: Store>(
     names: RouteNames<'a>,
     formats: &mut [Box<dyn Format>],
     store: &mut S,
-) -> Result<Product<'a>, Halt<'a>>
-    requires { AreNames names }
-    ensures answers { Answers (doubling_to names.entry.drawing.now names.entry.out.now names.entry.cert.now
+) -> Result<Product<'a>, Failure<'a>>
+    requires { AreRouteNames names }
+    ensures answers { RunsRequest (complete_double names.entry.drawing.now names.entry.out.now
+        names.entry.cert.now
         (format_of (map (λ f. meaning f) formats.old) names.entry.out.now))
-        (S.sight store.old) (S.sight store.new) result }
+        (S.view store.old) (S.view store.new) result }
     ensures same { map (λ f. meaning f) formats.new ≡ map (λ f. meaning f) formats.old }
 {
     if !are_apart(names) {
-        return Err(Halt::Unasked);
+        return Err(Failure::BadArguments);
     }
     match find(formats, names.out) {
-        Some(place) => sew(alloc, Way::Double, names, format_at(formats, place), store),
-        None => Err(Halt::Unasked),
+        Some(place) => sew(
+            alloc,
+            WalkKind::Double,
+            names,
+            format_at(formats, place),
+            store,
+        ),
+        None => Err(Failure::BadArguments),
     }
 }
 
 fn are_apart(names: RouteNames<'_>) -> bool
-    ensures value { result ≡ names_are_apart names.entry.drawing.now names.entry.out.now
+    ensures value { result ≡ names_differ names.entry.drawing.now names.entry.out.now
         names.entry.cert.now }
     ensures written { OnTrue result (names.entry.cert.now ≢ names.entry.out.now) }
 {

@@ -1,13 +1,13 @@
 ghost use Rattle.std.specs.Prelude.{ℕ, Err, IfOk, List, Ok, Result};
 ghost use Rattle.drawing_text.specs.declared.draw_fault.DrawFault.{DrawFault};
-ghost use Rattle.drawing_text.specs.DrawingText.{IsWhole, Reads, drawing_as2, drawing_of};
+ghost use Rattle.drawing_text.specs.DrawingText.{IsJoinedWithoutEnds, ReadsDrawing, drawing_as2, drawing_of};
 ghost use Rattle.line_graph.specs.Drawings.{DrawingValue};
-ghost use Rattle.outside_io.specs.Files.{IsName};
-ghost use Rattle.outside_io.specs.Sights.{StoreSight};
-ghost use Rattle.stitch_cli.specs.Endings.{ReadsInput, TakesInput};
-ghost use Rattle.stitch_cli.specs.Refusals.{undrawn as undrawn_input};
+ghost use Rattle.outside_io.specs.Files.{IsFileName};
+ghost use Rattle.outside_io.specs.Views.{StoreView};
+ghost use Rattle.stitch_cli.specs.StepOutcomes.{ReadsInput, ParsesInput};
+ghost use Rattle.stitch_cli.specs.Refusals.{bad_drawing};
 
-use crate::halt::{Halt, Refusal};
+use crate::failure::{Failure, Refusal};
 use crate::reading::read_input;
 use drawing_text::{DrawFault, read_as2, read_drawing};
 use line_graph::{DrawKind, Drawing};
@@ -19,15 +19,15 @@ pub(crate) fn drawing_in<'a, S: Store>(
     alloc: Global,
     store: &mut S,
     name: &'a str,
-) -> Result<Drawing, Halt<'a>>
-    requires { IsName name.now }
-    ensures { TakesInput drawing_of (undrawn_input name.now) name.now (S.sight store.old)
-        (S.sight store.new) result }
+) -> Result<Drawing, Failure<'a>>
+    requires { IsFileName name.now }
+    ensures { ParsesInput drawing_of (bad_drawing name.now) name.now (S.view store.old)
+        (S.view store.new) result }
 {
     let bytes = read_input(alloc, store, name)?;
     match read_drawing(alloc, bytes.as_slice()) {
         Ok(drawing) => Ok(drawing),
-        Err(fault) => Err(undrawn(name, fault)),
+        Err(fault) => Err(drawing_failure(name, fault)),
     }
 }
 
@@ -36,30 +36,30 @@ pub(crate) fn drawing_as2_in<'a, S: Store>(
     alloc: Global,
     store: &mut S,
     name: &'a str,
-) -> Result<Drawing, Halt<'a>>
-    requires { IsName name.now }
-    ensures takes { TakesInput drawing_as2 (undrawn_input name.now) name.now (S.sight store.old)
-        (S.sight store.new) result }
-    ensures whole { IfOk result IsWhole }
+) -> Result<Drawing, Failure<'a>>
+    requires { IsFileName name.now }
+    ensures takes { ParsesInput drawing_as2 (bad_drawing name.now) name.now (S.view store.old)
+        (S.view store.new) result }
+    ensures whole { IfOk result IsJoinedWithoutEnds }
 {
     let bytes = read_input(alloc, store, name)?;
     match read_as2(alloc, bytes.as_slice()) {
         Ok(drawing) => Ok(drawing),
-        Err(fault) => Err(undrawn(name, fault)),
+        Err(fault) => Err(drawing_failure(name, fault)),
     }
 }
 
 /// Returns the failure for an input file that is not a drawing.
-fn undrawn<'a>(name: &'a str, fault: DrawFault) -> Halt<'a>
-    ensures { (says : List ℕ → Result DrawingValue DrawFault) (bytes : List ℕ) (old new : StoreSight)
-        → ReadsInput name.now old new (Ok bytes) → Reads (says bytes) (Err fault)
-        → TakesInput says (undrawn_input name.now) name.now old new (Err result) }
+fn drawing_failure<'a>(name: &'a str, fault: DrawFault) -> Failure<'a>
+    ensures { (says : List ℕ → Result DrawingValue DrawFault) (bytes : List ℕ) (old new : StoreView)
+        → ReadsInput name.now old new (Ok bytes) → ReadsDrawing (says bytes) (Err fault)
+        → ParsesInput says (bad_drawing name.now) name.now old new (Err result) }
 {
     match fault {
         DrawFault {
             kind: DrawKind::Memory,
             number: _,
-        } => Halt::Memory,
-        fault => Halt::Refused(Refusal::Undrawn { name, fault }),
+        } => Failure::Memory,
+        fault => Failure::Refused(Refusal::BadDrawing { name, fault }),
     }
 }

@@ -1,12 +1,12 @@
 ghost use Rattle.std.specs.Prelude.{◌≡◌, ◌<◌, Some, length, map, slice_get};
 ghost use Rattle.format_traits.specs.Meanings.{Meaning};
-ghost use Rattle.outside_io.specs.Files.{IsName};
-ghost use Rattle.stitch_cli.specs.Endings.{Prepares, Settles};
+ghost use Rattle.outside_io.specs.Files.{IsFileName};
+ghost use Rattle.stitch_cli.specs.StepOutcomes.{RunsPlan, RunsPurePlan};
 ghost use Rattle.stitch_cli.specs.Hoops.{hoop_fitted, hoop_plan};
 ghost use Rattle.stitch_cli.specs.OrderNames.{hoop_order};
 
-use crate::format_places::load_at;
-use crate::halt::{Halt, Refusal};
+use crate::failure::{Failure, Refusal};
+use crate::format_indexes::load_at;
 use crate::product::{Product, only_report};
 use format_traits::Format;
 use hoop_check::{Fit, fits};
@@ -24,11 +24,11 @@ pub(crate) fn hoop<'a, S: Store>(
     width: u32,
     height: u32,
     store: &mut S,
-) -> Result<Product<'a>, Halt<'a>>
-    requires name { IsName file.now }
+) -> Result<Product<'a>, Failure<'a>>
+    requires name { IsFileName file.now }
     requires place { place < length formats.old }
     ensures prepares { (m : Meaning) → slice_get (map (λ f. meaning f) formats.old) place ≡ Some m
-        → Prepares (hoop_plan (hoop_order file.now m width height)) (S.sight store.old) (S.sight store.new)
+        → RunsPlan (hoop_plan (hoop_order file.now m width height)) (S.view store.old) (S.view store.new)
         result }
     ensures same { map (λ f. meaning f) formats.new ≡ map (λ f. meaning f) formats.old }
 {
@@ -36,8 +36,8 @@ pub(crate) fn hoop<'a, S: Store>(
     fitted(alloc, fits(&loaded.design, width, height))
 }
 
-fn fitted<'a>(alloc: Global, fit: Fit) -> Result<Product<'a>, Halt<'a>>
-    ensures { Settles (hoop_fitted fit) result }
+fn fitted<'a>(alloc: Global, fit: Fit) -> Result<Product<'a>, Failure<'a>>
+    ensures { RunsPurePlan (hoop_fitted fit) result }
 {
     match fit {
         Fit::Upright => {
@@ -48,7 +48,7 @@ fn fitted<'a>(alloc: Global, fit: Fit) -> Result<Product<'a>, Halt<'a>>
             let report = bytes_of(alloc, b"fits turned\n")?;
             Ok(only_report(alloc, report))
         }
-        Fit::No { over_x, over_y } => Err(Halt::Refused(Refusal::TooLarge {
+        Fit::No { over_x, over_y } => Err(Failure::Refused(Refusal::TooLarge {
             x: over_x,
             y: over_y,
         })),

@@ -1,13 +1,13 @@
 ghost use Rattle.std.specs.Prelude.{IfOk};
-ghost use Rattle.drawing_text.specs.DrawingText.{IsWhole};
-ghost use Rattle.outside_io.specs.Files.{IsName};
-ghost use Rattle.stitch_cli.specs.Endings.{Prepares};
+ghost use Rattle.drawing_text.specs.DrawingText.{IsJoinedWithoutEnds};
+ghost use Rattle.outside_io.specs.Files.{IsFileName};
+ghost use Rattle.stitch_cli.specs.StepOutcomes.{RunsPlan};
 ghost use Rattle.stitch_cli.specs.Migrations.{IsMigrated, migrate_plan};
 ghost use Rattle.stitch_cli.specs.OrderNames.{migrate_order};
-ghost use Rattle.stitch_cli.specs.Products.{product_of};
+ghost use Rattle.stitch_cli.specs.Products.{product_value};
 
 use crate::drawing_inputs::drawing_as2_in;
-use crate::halt::Halt;
+use crate::failure::Failure;
 use crate::product::{Output, Product, one_output};
 use design_model::Memory;
 use drawing_text::print_drawing2;
@@ -22,11 +22,11 @@ pub(crate) fn migrate<'a, S: Store>(
     input: &'a str,
     output: &'a str,
     store: &mut S,
-) -> Result<Product<'a>, Halt<'a>>
-    requires input { IsName input.now }
-    requires output { IsName output.now }
-    ensures { Prepares (migrate_plan (migrate_order input.now output.now))
-        (S.sight store.old) (S.sight store.new) result }
+) -> Result<Product<'a>, Failure<'a>>
+    requires input { IsFileName input.now }
+    requires output { IsFileName output.now }
+    ensures { RunsPlan (migrate_plan (migrate_order input.now output.now))
+        (S.view store.old) (S.view store.new) result }
 {
     let drawing = drawing_as2_in(alloc, store, input)?;
     let product = migrated(alloc, output, &drawing)?;
@@ -34,8 +34,8 @@ pub(crate) fn migrate<'a, S: Store>(
 }
 
 fn migrated<'a>(alloc: Global, output: &'a str, drawing: &Drawing) -> Result<Product<'a>, Memory>
-    requires { IsWhole drawing.now }
-    ensures { IfOk result (λ product. IsMigrated output.now drawing.now (product_of product)) }
+    requires { IsJoinedWithoutEnds drawing.now }
+    ensures { IfOk result (λ product. IsMigrated output.now drawing.now (product_value product)) }
 {
     let pieces = pieces(alloc, drawing)?;
     let report = print_migration(

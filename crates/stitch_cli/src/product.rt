@@ -1,5 +1,5 @@
 ghost use Rattle.std.specs.Prelude.{◌≡◌, ◌∷◌, [], IfOk};
-ghost use Rattle.stitch_cli.specs.Products.{one_output as one_output_value, only_report as only_report_value, product_of, two_outputs as two_outputs_value, written_as};
+ghost use Rattle.stitch_cli.specs.Products.{one_file_product, report_product, product_value, two_file_product, output_value};
 
 use design_model::{Bytes, Items, Memory};
 use std::alloc::Global;
@@ -20,7 +20,7 @@ pub struct Product<'a> {
 
 /// Returns a product that writes no file.
 pub(crate) fn only_report<'a>(alloc: Global, report: Bytes) -> Product<'a>
-    ensures { product_of result ≡ only_report_value report }
+    ensures { product_value result ≡ report_product report }
 {
     Product {
         outputs: Items::new(alloc),
@@ -34,8 +34,8 @@ pub(crate) fn one_output<'a>(
     output: Output<'a>,
     report: Bytes,
 ) -> Result<Product<'a>, Memory>
-    ensures { IfOk result (λ product. product_of product
-        ≡ one_output_value output.entry.name.now output.entry.content report) }
+    ensures { IfOk result (λ product. product_value product
+        ≡ one_file_product output.entry.name.now output.entry.content report) }
 {
     let mut outputs = Items::new(alloc);
     outputs.push(output)?;
@@ -49,8 +49,8 @@ pub(crate) fn two_outputs<'a>(
     second: Output<'a>,
     report: Bytes,
 ) -> Result<Product<'a>, Memory>
-    ensures { IfOk result (λ product. product_of product
-        ≡ two_outputs_value (written_as first.entry) (written_as second.entry) report) }
+    ensures { IfOk result (λ product. product_value product
+        ≡ two_file_product (output_value first.entry) (output_value second.entry) report) }
 {
     let mut outputs = Items::new(alloc);
     outputs.push(first)?;

@@ -1,14 +1,14 @@
 ghost use Rattle.std.specs.Prelude.{◌≡◌, map, string_bytes};
-ghost use Rattle.stitch_cli.specs.Endings.{Ends};
+ghost use Rattle.stitch_cli.specs.StepOutcomes.{IsRunOutcome};
 ghost use Rattle.stitch_cli.specs.Orders.{order_of};
-ghost use Rattle.stitch_cli.specs.RunSights.{seen};
+ghost use Rattle.stitch_cli.specs.RunViews.{views_of};
 ghost use Rattle.stitch_cli.specs.Runs.{RunEnds};
 
-use crate::commands::make;
+use crate::commands::make_product;
 use crate::delivery::deliver;
-use crate::messages::tell_halt;
+use crate::messages::report_failure;
 use format_traits::Format;
-use line_graph::pieces_are_one;
+use line_graph::pieces_are_unique;
 use outside_io::{Sink, Store};
 use program_texts::Status;
 use std::alloc::Global;
@@ -28,11 +28,11 @@ pub fn run<S: Store, O: Sink, E: Sink>(
     err: &mut E,
 ) -> Status
     ensures ends { RunEnds (order_of (map (λ f. meaning f) formats.old) (map string_bytes words.now))
-        (seen (S.sight store.old) (O.sight out.old) (E.sight err.old))
-        (seen (S.sight store.new) (O.sight out.new) (E.sight err.new)) result }
+        (views_of (S.view store.old) (O.view out.old) (E.view err.old))
+        (views_of (S.view store.new) (O.view out.new) (E.view err.new)) result }
     ensures formats { map (λ f. meaning f) formats.new ≡ map (λ f. meaning f) formats.old }
 {
-    pieces_are_one();
+    pieces_are_unique();
     run_once(alloc, words, formats, store, out, err)
 }
 
@@ -44,13 +44,13 @@ fn run_once<S: Store, O: Sink, E: Sink>(
     out: &mut O,
     err: &mut E,
 ) -> Status
-    ensures ends { Ends (order_of (map (λ f. meaning f) formats.old) (map string_bytes words.now))
-        (seen (S.sight store.old) (O.sight out.old) (E.sight err.old))
-        (seen (S.sight store.new) (O.sight out.new) (E.sight err.new)) result }
+    ensures ends { IsRunOutcome (order_of (map (λ f. meaning f) formats.old) (map string_bytes words.now))
+        (views_of (S.view store.old) (O.view out.old) (E.view err.old))
+        (views_of (S.view store.new) (O.view out.new) (E.view err.new)) result }
     ensures same { map (λ f. meaning f) formats.new ≡ map (λ f. meaning f) formats.old }
 {
-    match make(alloc, words, formats, store) {
+    match make_product(alloc, words, formats, store) {
         Ok(product) => deliver(&product, store, out, err),
-        Err(why) => tell_halt(err, why),
+        Err(why) => report_failure(err, why),
     }
 }

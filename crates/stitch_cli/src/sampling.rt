@@ -1,14 +1,14 @@
 ghost use Rattle.std.specs.Prelude.{◌≤◌, IfOk};
 ghost use Rattle.line_graph.specs.WalkEnds.{HasNoEnds};
-ghost use Rattle.outside_io.specs.Files.{IsName};
+ghost use Rattle.outside_io.specs.Files.{IsFileName};
 ghost use Rattle.sample_drawings.specs.declared.draws.TheConstants.{MAX_NUMBER};
-ghost use Rattle.sample_drawings.specs.Samples.{sample_of};
-ghost use Rattle.stitch_cli.specs.Endings.{Settles};
+ghost use Rattle.sample_drawings.specs.Samples.{sample_drawing_of};
+ghost use Rattle.stitch_cli.specs.StepOutcomes.{RunsPurePlan};
 ghost use Rattle.stitch_cli.specs.OrderNames.{sample_order};
-ghost use Rattle.stitch_cli.specs.Products.{product_of};
-ghost use Rattle.stitch_cli.specs.Samples.{TellsOf, sample_plan};
+ghost use Rattle.stitch_cli.specs.Products.{product_value};
+ghost use Rattle.stitch_cli.specs.Samples.{IsSampleProduct, sample_plan};
 
-use crate::halt::Halt;
+use crate::failure::Failure;
 use crate::product::{Output, Product, one_output};
 use design_model::Memory;
 use drawing_text::print_drawing;
@@ -19,11 +19,15 @@ use sample_drawings::sample_drawing;
 use std::alloc::Global;
 
 /// Makes the sample drawing of a number, and a summary of a route of it.
-pub(crate) fn sample<'a>(alloc: Global, number: u32, name: &'a str) -> Result<Product<'a>, Halt<'a>>
+pub(crate) fn sample<'a>(
+    alloc: Global,
+    number: u32,
+    name: &'a str,
+) -> Result<Product<'a>, Failure<'a>>
     requires low { 1 ≤ number }
     requires high { number ≤ MAX_NUMBER }
-    requires name { IsName name.now }
-    ensures { Settles (sample_plan (sample_order number name.now)) result }
+    requires name { IsFileName name.now }
+    ensures { RunsPurePlan (sample_plan (sample_order number name.now)) result }
 {
     let product = sampled(alloc, number, name)?;
     Ok(product)
@@ -32,23 +36,24 @@ pub(crate) fn sample<'a>(alloc: Global, number: u32, name: &'a str) -> Result<Pr
 fn sampled<'a>(alloc: Global, number: u32, name: &'a str) -> Result<Product<'a>, Memory>
     requires low { 1 ≤ number }
     requires high { number ≤ MAX_NUMBER }
-    ensures { IfOk result (λ product. TellsOf (sample_order number name.now) (sample_of number)
-        (product_of product)) }
+    ensures { IfOk result (λ product. IsSampleProduct (sample_order number name.now)
+        (sample_drawing_of number)
+        (product_value product)) }
 {
     let drawing = sample_drawing(alloc, number)?;
-    told(alloc, number, name, &drawing)
+    reported(alloc, number, name, &drawing)
 }
 
 /// Returns the product of a sample drawing: its canonical text, and the summary under that number.
-fn told<'a>(
+fn reported<'a>(
     alloc: Global,
     number: u32,
     name: &'a str,
     drawing: &Drawing,
 ) -> Result<Product<'a>, Memory>
     requires { HasNoEnds drawing.now }
-    ensures { IfOk result (λ product. TellsOf (sample_order number name.now) drawing.now
-        (product_of product)) }
+    ensures { IfOk result (λ product. IsSampleProduct (sample_order number name.now) drawing.now
+        (product_value product)) }
 {
     let pieces = pieces(alloc, drawing)?;
     let routed = route_pieces(alloc, drawing, pieces.as_slice())?;

@@ -1,19 +1,19 @@
 ghost use Rattle.std.specs.Prelude.{◌≡◌, ◌≢◌, ◌≤◌, IfOk};
-ghost use Rattle.command_words.specs.SoundRequests.{AreNames};
-ghost use Rattle.format_traits.specs.declared.format_object.TheConstants.{LEAST_LIMIT};
+ghost use Rattle.command_words.specs.ValidRequests.{AreRouteNames};
+ghost use Rattle.format_traits.specs.declared.format_object.TheConstants.{MIN_LIMIT};
 ghost use Rattle.format_traits.specs.PlainDesigns.{IsPlain};
 ghost use Rattle.line_graph.specs.Runs.{AreWritable, runs_of, sewn_design};
 ghost use Rattle.route_core.specs.Routes.{walks_of};
 ghost use Rattle.stitch_cli.specs.DoubleRuns.{IsDoubleRun};
-ghost use Rattle.stitch_cli.specs.Endings.{Prepares, Settles};
+ghost use Rattle.stitch_cli.specs.StepOutcomes.{RunsPlan, RunsPurePlan};
 ghost use Rattle.stitch_cli.specs.OrderNames.{route_order};
-ghost use Rattle.stitch_cli.specs.Products.{product_of, two_outputs as sewn_outputs};
+ghost use Rattle.stitch_cli.specs.Products.{product_value, two_file_product};
 ghost use Rattle.stitch_cli.specs.Routes.{IsRouted};
 ghost use Rattle.stitch_cli.specs.SewingSteps.{IsSewnBy};
-ghost use Rattle.stitch_cli.specs.Sewings.{SewnMakes, SewsIn, sewing_drawing, sewing_plan};
+ghost use Rattle.stitch_cli.specs.Sewings.{IsSewnProduct, IsSewnFile, sewing_drawing, sewing_plan};
 
 use crate::drawing_inputs::drawing_in;
-use crate::halt::{Halt, Refusal};
+use crate::failure::{Failure, Refusal};
 use crate::product::{Output, Product, two_outputs};
 use certificate_text::print_cert;
 use command_words::RouteNames;
@@ -27,7 +27,7 @@ use std::alloc::Global;
 
 /// The kind of walks that sew the pieces of a drawing.
 #[derive(Clone, Copy, Debug, PartialEq, Eq)]
-pub(crate) enum Way {
+pub(crate) enum WalkKind {
     /// Walks of the least cost.
     Least,
     /// Double walks, whose certificate has no cuts.
@@ -37,37 +37,37 @@ pub(crate) enum Way {
 /// Sews a drawing: makes its certificate, the file of the design that sews it, and the report.
 pub(crate) fn sew<'a, S: Store>(
     alloc: Global,
-    way: Way,
+    way: WalkKind,
     names: RouteNames<'a>,
     format: &Box<dyn Format>,
     store: &mut S,
-) -> Result<Product<'a>, Halt<'a>>
-    requires names { AreNames names }
+) -> Result<Product<'a>, Failure<'a>>
+    requires names { AreRouteNames names }
     requires apart { names.cert.now ≢ names.out.now }
-    ensures { Prepares (sewing_plan (IsSewnBy way) (route_order names.entry (meaning format.now)))
-        (S.sight store.old) (S.sight store.new) result }
+    ensures { RunsPlan (sewing_plan (IsSewnBy way) (route_order names.entry (meaning format.now)))
+        (S.view store.old) (S.view store.new) result }
 {
     let drawing = drawing_in(alloc, store, names.drawing)?;
-    sew_drawn(alloc, way, names, format, &drawing)
+    sew_drawing(alloc, way, names, format, &drawing)
 }
 
-fn sew_drawn<'a>(
+fn sew_drawing<'a>(
     alloc: Global,
-    way: Way,
+    way: WalkKind,
     names: RouteNames<'a>,
     format: &Box<dyn Format>,
     drawing: &Drawing,
-) -> Result<Product<'a>, Halt<'a>>
-    requires names { AreNames names }
+) -> Result<Product<'a>, Failure<'a>>
+    requires names { AreRouteNames names }
     requires apart { names.cert.now ≢ names.out.now }
-    ensures { Settles (sewing_drawing (IsSewnBy way) (route_order names.entry (meaning format.now))
+    ensures { RunsPurePlan (sewing_drawing (IsSewnBy way) (route_order names.entry (meaning format.now))
         drawing.now) result }
 {
     let step = drawing.step();
     let limit = limit_of(format);
     if limit < step {
         let ending = bytes_of(alloc, ext_of(format).as_bytes())?;
-        return Err(Halt::Refused(Refusal::StepTooLong {
+        return Err(Failure::Refused(Refusal::StepTooLong {
             name: names.drawing,
             step,
             limit,
@@ -81,20 +81,20 @@ fn sew_drawn<'a>(
 /// Returns the product of a drawing whose step is within the limit of the format.
 fn sewn<'a>(
     alloc: Global,
-    way: Way,
+    way: WalkKind,
     names: RouteNames<'a>,
     format: &Box<dyn Format>,
     drawing: &Drawing,
 ) -> Result<Product<'a>, Memory>
-    requires limit { LEAST_LIMIT ≤ (meaning format.now).limit }
+    requires limit { MIN_LIMIT ≤ (meaning format.now).limit }
     requires step { drawing.now.step ≤ (meaning format.now).limit }
-    ensures { IfOk result (λ product. SewnMakes (IsSewnBy way)
+    ensures { IfOk result (λ product. IsSewnProduct (IsSewnBy way)
         (route_order names.entry (meaning format.now)) drawing.now
-        (product_of product)) }
+        (product_value product)) }
 {
     match way {
-        Way::Least => routed(alloc, names, format, drawing),
-        Way::Double => doubled(alloc, names, format, drawing),
+        WalkKind::Least => routed(alloc, names, format, drawing),
+        WalkKind::Double => doubled(alloc, names, format, drawing),
     }
 }
 
@@ -105,18 +105,18 @@ fn routed<'a>(
     format: &Box<dyn Format>,
     drawing: &Drawing,
 ) -> Result<Product<'a>, Memory>
-    requires limit { LEAST_LIMIT ≤ (meaning format.now).limit }
+    requires limit { MIN_LIMIT ≤ (meaning format.now).limit }
     requires step { drawing.now.step ≤ (meaning format.now).limit }
-    ensures { IfOk result (λ product. SewnMakes IsRouted
+    ensures { IfOk result (λ product. IsSewnProduct IsRouted
         (route_order names.entry (meaning format.now)) drawing.now
-        (product_of product)) }
+        (product_value product)) }
 {
     let pieces = pieces(alloc, drawing)?;
     let routed = route_pieces(alloc, drawing, pieces.as_slice())?;
-    let design = encoded(alloc, format, drawing, &routed)?;
-    let cert = print_cert(alloc, &routed.cert)?;
+    let design_file = encoded(alloc, format, drawing, &routed)?;
+    let cert_text = print_cert(alloc, &routed.cert)?;
     let report = print_route(alloc, pieces.as_slice(), routed.cert.pieces.as_slice())?;
-    let product = sewn_product(alloc, names, cert, design, report)?;
+    let product = sewn_product(alloc, names, cert_text, design_file, report)?;
     Ok(product)
 }
 
@@ -127,18 +127,18 @@ fn doubled<'a>(
     format: &Box<dyn Format>,
     drawing: &Drawing,
 ) -> Result<Product<'a>, Memory>
-    requires limit { LEAST_LIMIT ≤ (meaning format.now).limit }
+    requires limit { MIN_LIMIT ≤ (meaning format.now).limit }
     requires step { drawing.now.step ≤ (meaning format.now).limit }
-    ensures { IfOk result (λ product. SewnMakes IsDoubleRun
+    ensures { IfOk result (λ product. IsSewnProduct IsDoubleRun
         (route_order names.entry (meaning format.now)) drawing.now
-        (product_of product)) }
+        (product_value product)) }
 {
     let pieces = pieces(alloc, drawing)?;
     let routed = double_pieces(alloc, drawing, pieces.as_slice())?;
-    let design = encoded(alloc, format, drawing, &routed)?;
-    let cert = print_cert(alloc, &routed.cert)?;
+    let design_file = encoded(alloc, format, drawing, &routed)?;
+    let cert_text = print_cert(alloc, &routed.cert)?;
     let report = print_double(alloc, pieces.as_slice(), routed.cert.pieces.as_slice())?;
-    let product = sewn_product(alloc, names, cert, design, report)?;
+    let product = sewn_product(alloc, names, cert_text, design_file, report)?;
     Ok(product)
 }
 
@@ -146,23 +146,23 @@ fn doubled<'a>(
 fn sewn_product<'a>(
     alloc: Global,
     names: RouteNames<'a>,
-    cert: Bytes,
-    design: Bytes,
+    cert_text: Bytes,
+    design_file: Bytes,
     report: Bytes,
 ) -> Result<Product<'a>, Memory>
-    ensures { IfOk result (λ product. product_of product ≡ sewn_outputs (record {
+    ensures { IfOk result (λ product. product_value product ≡ two_file_product (record {
       name = names.entry.cert.now;
-      content = cert;
+      content = cert_text;
     })
-        (record { name = names.entry.out.now; content = design }) report) }
+        (record { name = names.entry.out.now; content = design_file }) report) }
 {
     let first = Output {
         name: names.cert,
-        content: cert,
+        content: cert_text,
     };
     let second = Output {
         name: names.out,
-        content: design,
+        content: design_file,
     };
     let product = two_outputs(alloc, first, second, report)?;
     Ok(product)
@@ -179,7 +179,7 @@ fn encoded(
     requires sewn { routed.now.design ≡ sewn_design drawing.now (walks_of routed.now.cert.pieces) }
     requires writable { AreWritable drawing.now.step
         (runs_of drawing.now (walks_of routed.now.cert.pieces)) }
-    ensures { IfOk result (SewsIn (meaning format.now) drawing.now
+    ensures { IfOk result (IsSewnFile (meaning format.now) drawing.now
         (walks_of routed.now.cert.pieces)) }
 {
     runs_are_sewn();

@@ -1,12 +1,12 @@
 ghost use Rattle.std.specs.Prelude.{◌≡◌, ◌<◌, Ok, Some, length, map, slice_get};
 ghost use Rattle.format_traits.specs.Meanings.{Meaning};
-ghost use Rattle.outside_io.specs.Files.{IsName};
-ghost use Rattle.stitch_cli.specs.Endings.{Prepares, Settles};
+ghost use Rattle.outside_io.specs.Files.{IsFileName};
+ghost use Rattle.stitch_cli.specs.StepOutcomes.{RunsPlan, RunsPurePlan};
 ghost use Rattle.stitch_cli.specs.OrderNames.{show_order};
 ghost use Rattle.stitch_cli.specs.Shows.{show_plan, show_read};
 
-use crate::format_places::{format_at, load_at};
-use crate::halt::Halt;
+use crate::failure::Failure;
+use crate::format_indexes::{format_at, load_at};
 use crate::product::{Product, only_report};
 use format_traits::{Format, Loaded, ext_of};
 use outside_io::Store;
@@ -20,11 +20,11 @@ pub(crate) fn show<'a, S: Store>(
     formats: &mut [Box<dyn Format>],
     place: usize,
     store: &mut S,
-) -> Result<Product<'a>, Halt<'a>>
-    requires name { IsName file.now }
+) -> Result<Product<'a>, Failure<'a>>
+    requires name { IsFileName file.now }
     requires place { place < length formats.old }
     ensures prepares { (m : Meaning) → slice_get (map (λ f. meaning f) formats.old) place ≡ Some m
-        → Prepares (show_plan (show_order file.now m)) (S.sight store.old) (S.sight store.new) result }
+        → RunsPlan (show_plan (show_order file.now m)) (S.view store.old) (S.view store.new) result }
     ensures same { map (λ f. meaning f) formats.new ≡ map (λ f. meaning f) formats.old }
 {
     let loaded = load_at(formats, place, store, file)?;
@@ -36,8 +36,8 @@ fn shown<'a>(
     file: &'a str,
     format: &Box<dyn Format>,
     loaded: &Loaded,
-) -> Result<Product<'a>, Halt<'a>>
-    ensures { Settles (show_read (show_order file.now (meaning format.now)) (Ok loaded.now)) result }
+) -> Result<Product<'a>, Failure<'a>>
+    ensures { RunsPurePlan (show_read (show_order file.now (meaning format.now)) (Ok loaded.now)) result }
 {
     let report = print_loaded(alloc, ext_of(format), loaded)?;
     Ok(only_report(alloc, report))

@@ -1,15 +1,15 @@
 ghost use Rattle.std.specs.Prelude.{◌≡◌, ◌<◌, IfOk, Some, length, map, slice_get};
 ghost use Rattle.format_traits.specs.Meanings.{Meaning};
-ghost use Rattle.drawing_text.specs.DrawingText.{IsWhole};
-ghost use Rattle.outside_io.specs.Files.{IsName};
+ghost use Rattle.drawing_text.specs.DrawingText.{IsJoinedWithoutEnds};
+ghost use Rattle.outside_io.specs.Files.{IsFileName};
 ghost use Rattle.stitch_trace.specs.Traces.{traced};
-ghost use Rattle.stitch_cli.specs.Endings.{Prepares, Settles};
+ghost use Rattle.stitch_cli.specs.StepOutcomes.{RunsPlan, RunsPurePlan};
 ghost use Rattle.stitch_cli.specs.OrderNames.{trace_order};
-ghost use Rattle.stitch_cli.specs.Products.{product_of};
+ghost use Rattle.stitch_cli.specs.Products.{product_value};
 ghost use Rattle.stitch_cli.specs.Tracings.{IsTraced, trace_made, trace_plan};
 
-use crate::format_places::load_at;
-use crate::halt::{Halt, Refusal};
+use crate::failure::{Failure, Refusal};
+use crate::format_indexes::load_at;
 use crate::product::{Output, Product, one_output};
 use design_model::{Design, Memory};
 use drawing_text::print_drawing2;
@@ -29,12 +29,12 @@ pub(crate) fn trace_file<'a, S: Store>(
     formats: &mut [Box<dyn Format>],
     place: usize,
     store: &mut S,
-) -> Result<Product<'a>, Halt<'a>>
-    requires file { IsName file.now }
-    requires drawing { IsName drawing.now }
+) -> Result<Product<'a>, Failure<'a>>
+    requires file { IsFileName file.now }
+    requires drawing { IsFileName drawing.now }
     requires place { place < length formats.old }
     ensures prepares { (m : Meaning) → slice_get (map (λ f. meaning f) formats.old) place ≡ Some m
-        → Prepares (trace_plan (trace_order file.now drawing.now m)) (S.sight store.old) (S.sight store.new)
+        → RunsPlan (trace_plan (trace_order file.now drawing.now m)) (S.view store.old) (S.view store.new)
         result }
     ensures same { map (λ f. meaning f) formats.new ≡ map (λ f. meaning f) formats.old }
 {
@@ -47,9 +47,10 @@ fn trace_design<'a>(
     file: &'a str,
     drawing: &'a str,
     design: &Design,
-) -> Result<Product<'a>, Halt<'a>>
-    requires { IsName drawing.now }
-    ensures { (m : Meaning) → Settles (trace_made (trace_order file.now drawing.now m) (traced design.now))
+) -> Result<Product<'a>, Failure<'a>>
+    requires { IsFileName drawing.now }
+    ensures { (m : Meaning) → RunsPurePlan
+        (trace_made (trace_order file.now drawing.now m) (traced design.now))
         result }
 {
     match trace(alloc, design) {
@@ -57,8 +58,8 @@ fn trace_design<'a>(
             let product = traced_product(alloc, drawing, &lines)?;
             Ok(product)
         }
-        Err(TraceFault::Memory) => Err(Halt::Memory),
-        Err(fault) => Err(Halt::Refused(Refusal::Untraced { name: file, fault })),
+        Err(TraceFault::Memory) => Err(Failure::Memory),
+        Err(fault) => Err(Failure::Refused(Refusal::NotTraceable { name: file, fault })),
     }
 }
 
@@ -67,8 +68,8 @@ fn traced_product<'a>(
     name: &'a str,
     drawing: &Drawing,
 ) -> Result<Product<'a>, Memory>
-    requires { IsWhole drawing.now }
-    ensures { IfOk result (λ product. IsTraced name.now drawing.now (product_of product)) }
+    requires { IsJoinedWithoutEnds drawing.now }
+    ensures { IfOk result (λ product. IsTraced name.now drawing.now (product_value product)) }
 {
     let report = print_tracing(alloc, drawing)?;
     let content = print_drawing2(alloc, drawing)?;

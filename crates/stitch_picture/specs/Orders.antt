@@ -2,53 +2,57 @@
 use Rattle.std.specs.Prelude.{ℕ, ◌-◌, Bool, ◌&&◌, not, List, [], ◌∷◌, Option, Some, None, bytes_eq, codes, drop, length, if◌then◌else◌}
 use Rattle.format_traits.specs.Endings.{format_of}
 use Rattle.format_traits.specs.Meanings.{Meaning}
-use Rattle.outside_io.specs.Files.{is_name}
-use Rattle.stitch_picture.specs.declared.names.Names.{Names}
+use Rattle.outside_io.specs.Files.{is_file_name}
+use Rattle.stitch_picture.specs.declared.names.PictureNames.{PictureNames}
 
 -- The test whether a name has the ending of a picture.
-abbrev pub is_svg : List ℕ → Bool
-is_svg word = bytes_eq (drop (length word - 4) word) (codes ".svg")
+abbrev pub has_svg_ending : List ℕ → Bool
+has_svg_ending word = bytes_eq (drop (length word - 4) word) (codes ".svg")
 
 -- The names of the input and of the picture.
-pub record NamesValue : Type 0 where
+pub record PictureNamesValue : Type 0 where
   pub input : List ℕ
   pub output : List ℕ
 
 -- The names of the program, as bytes.
-abbrev pub names_value : Names → NamesValue
-names_value names = record { input = names.input.now; output = names.output.now }
+abbrev pub picture_names_value : PictureNames → PictureNamesValue
+picture_names_value names = record { input = names.input.now; output = names.output.now }
 
 -- The two names, if both are file names, the second is that of a picture, and they differ.
-abbrev pub names_by : List ℕ → List ℕ → Option NamesValue
-names_by input output =
-    if is_name input && is_name output && is_svg output && not (bytes_eq input output)
+abbrev pub picture_names_if_valid : List ℕ → List ℕ → Option PictureNamesValue
+picture_names_if_valid input output =
+    if is_file_name input && is_file_name output && has_svg_ending output
+    && not (bytes_eq input output)
     then Some (record { input = input; output = output }) else None
 
 -- The names that the arguments represent, if they are two valid names.
-abbrev pub names_of : List (List ℕ) → Option NamesValue
-names_of (input ∷ output ∷ []) = names_by input output
-names_of _ = None
+abbrev pub picture_names : List (List ℕ) → Option PictureNamesValue
+picture_names (input ∷ output ∷ []) = picture_names_if_valid input output
+picture_names _ = None
 
 -- An order: the names of the input and of the picture, and the format of the input.
-pub record Order : Type 0 where
+pub record PictureOrder : Type 0 where
   pub format : Meaning
   pub input : List ℕ
   pub output : List ℕ
 
 -- The order of two names, if the format is known.
-abbrev pub with_format : List ℕ → List ℕ → Option Meaning → Option Order
-with_format input output None = None
-with_format input output (Some m) = Some (record { format = m; input = input; output = output })
+abbrev pub picture_order_with : List ℕ → List ℕ → Option Meaning → Option PictureOrder
+picture_order_with input output None = None
+picture_order_with input output (Some m) = Some
+    (record { format = m; input = input; output = output })
 
 -- The order of two names, if the format of the first is known.
-abbrev pub order_by : List Meaning → List ℕ → List ℕ → Option Order
-order_by formats input output = with_format input output (format_of formats input)
+abbrev pub picture_order_of_names : List Meaning → List ℕ → List ℕ → Option PictureOrder
+picture_order_of_names formats input output = picture_order_with input output
+    (format_of formats input)
 
 -- The order of optional names.
-abbrev pub order_from : List Meaning → Option NamesValue → Option Order
-order_from formats None = None
-order_from formats (Some names) = order_by formats names.input names.output
+abbrev pub picture_order_if_named : List Meaning → Option PictureNamesValue → Option PictureOrder
+picture_order_if_named formats None = None
+picture_order_if_named formats (Some names) = picture_order_of_names formats names.input
+    names.output
 
 -- The order that the arguments request, or none.
-abbrev pub order_of : List Meaning → List (List ℕ) → Option Order
-order_of formats words = order_from formats (names_of words)
+abbrev pub picture_order : List Meaning → List (List ℕ) → Option PictureOrder
+picture_order formats words = picture_order_if_named formats (picture_names words)

@@ -1,12 +1,12 @@
 ghost use Rattle.std.specs.Prelude.{◌≡◌, ◌⊎◌};
-ghost use Rattle.stitch_picture.specs.declared.finish.Status.TheVariants as status;
-ghost use Rattle.stitch_picture.specs.Runs.{Tells};
+ghost use Rattle.stitch_picture.specs.declared.finish.PictureStatus.TheVariants as status;
+ghost use Rattle.stitch_picture.specs.Runs.{IsReportedStatus};
 
 use outside_io::{Failed, Sink};
 
 /// The exit status of the program.
 #[derive(Clone, Copy, Debug, PartialEq, Eq)]
-pub enum Status {
+pub enum PictureStatus {
     /// The picture is written.
     Done = 0,
     /// The input file is too long, or does not conform to its format. No file was changed.
@@ -21,9 +21,9 @@ pub enum Status {
 
 /// Why no picture was made.
 #[derive(Clone, Copy, Debug, PartialEq, Eq)]
-pub enum Halt {
+pub enum PictureFailure {
     /// The input file does not exist, or a read failed.
-    NotRead,
+    ReadFailed,
     /// The input file is too long, or does not conform to its format.
     Refused,
     /// Out of memory.
@@ -31,33 +31,43 @@ pub enum Halt {
 }
 
 /// Reports a failure on one line.
-pub(crate) fn tell_halt<E: Sink>(err: &mut E, why: Halt, name: &str) -> Status
-    ensures { Tells why result }
+pub(crate) fn report_failure<E: Sink>(err: &mut E, why: PictureFailure, name: &str) -> PictureStatus
+    ensures { IsReportedStatus why result }
 {
     match why {
-        Halt::NotRead => tell(err, Status::Fault, b"cannot read ", name),
-        Halt::Refused => tell(err, Status::Refused, b"no design of its format: ", name),
-        Halt::Memory => tell(err, Status::Memory, b"out of memory", ""),
+        PictureFailure::ReadFailed => report_line(err, PictureStatus::Fault, b"cannot read ", name),
+        PictureFailure::Refused => report_line(
+            err,
+            PictureStatus::Refused,
+            b"no design of its format: ",
+            name,
+        ),
+        PictureFailure::Memory => report_line(err, PictureStatus::Memory, b"out of memory", ""),
     }
 }
 
 /// Reports the usage text.
-pub(crate) fn tell_usage<E: Sink>(err: &mut E) -> Status
+pub(crate) fn report_usage<E: Sink>(err: &mut E) -> PictureStatus
     ensures { (result ≡ status.Usage) ⊎ (result ≡ status.Fault) }
 {
     match err.put(b"usage: stitch_picture IN OUT.svg\n") {
-        Ok(()) => Status::Usage,
-        Err(Failed) => Status::Fault,
+        Ok(()) => PictureStatus::Usage,
+        Err(Failed) => PictureStatus::Fault,
     }
 }
 
 /// Reports a line about a name, and returns the planned status, or `Fault` if a put failed.
-pub(crate) fn tell<E: Sink>(err: &mut E, planned: Status, what: &[u8], name: &str) -> Status
+pub(crate) fn report_line<E: Sink>(
+    err: &mut E,
+    planned: PictureStatus,
+    what: &[u8],
+    name: &str,
+) -> PictureStatus
     ensures { (result ≡ planned) ⊎ (result ≡ status.Fault) }
 {
     match put_line(err, what, name) {
         Ok(()) => planned,
-        Err(Failed) => Status::Fault,
+        Err(Failed) => PictureStatus::Fault,
     }
 }
 

@@ -7,7 +7,7 @@ mod names;
 mod reading;
 mod running;
 
-use crate::finish::{Status, tell};
+use crate::finish::{PictureStatus, report_line};
 use crate::running::run;
 use dst_codec::Dst;
 use exp_codec::Exp;
@@ -22,14 +22,14 @@ fn main(rt: HostRuntime) -> ExitCode {
     ExitCode::from(status_of(&rt) as u8)
 }
 
-fn status_of(rt: &HostRuntime) -> Status {
+fn status_of(rt: &HostRuntime) -> PictureStatus {
     match start(rt) {
         Ok(status) => status,
-        Err(_) => tell_memory(rt),
+        Err(_) => report_out_of_memory(rt),
     }
 }
 
-fn start(rt: &HostRuntime) -> Result<Status, AllocError> {
+fn start(rt: &HostRuntime) -> Result<PictureStatus, AllocError> {
     let alloc = rt.alloc();
     let words = program_words(rt)?;
     let mut formats: Vec<Box<dyn Format>> = Vec::new(alloc);
@@ -43,7 +43,7 @@ fn start(rt: &HostRuntime) -> Result<Status, AllocError> {
     Ok(run(alloc, &words, &mut formats, &mut store, &mut err))
 }
 
-fn tell_memory(rt: &HostRuntime) -> Status {
+fn report_out_of_memory(rt: &HostRuntime) -> PictureStatus {
     let mut err = StdSink::new(rt.stderr());
-    tell(&mut err, Status::Memory, b"out of memory", "")
+    report_line(&mut err, PictureStatus::Memory, b"out of memory", "")
 }

@@ -1,11 +1,11 @@
 ghost use Rattle.std.specs.Prelude.{◌≡◌, map, string_bytes};
-ghost use Rattle.outside_io.specs.Files.{IsName};
-ghost use Rattle.stitch_picture.specs.Orders.{order_by, order_of};
-ghost use Rattle.stitch_picture.specs.Runs.{Ends, OrderEnds};
-ghost use Rattle.stitch_picture.specs.declared.finish.Status.TheVariants as status;
+ghost use Rattle.outside_io.specs.Files.{IsFileName};
+ghost use Rattle.stitch_picture.specs.Orders.{picture_order_of_names, picture_order};
+ghost use Rattle.stitch_picture.specs.Runs.{IsPictureRunOutcome, IsPictureOutcome};
+ghost use Rattle.stitch_picture.specs.declared.finish.PictureStatus.TheVariants as status;
 
-use crate::finish::{Status, tell, tell_halt, tell_usage};
-use crate::names::{Names, names_in};
+use crate::finish::{PictureStatus, report_failure, report_line, report_usage};
+use crate::names::{PictureNames, names_in};
 use crate::reading::picture_in;
 use format_traits::{Format, find};
 use outside_io::{Failed, Sink, Store, write_whole};
@@ -19,27 +19,29 @@ pub fn run<S: Store, E: Sink>(
     formats: &mut [Box<dyn Format>],
     store: &mut S,
     err: &mut E,
-) -> Status
-    ensures { Ends (order_of (map (λ f. meaning f) formats.old) (map string_bytes words.now))
-        (S.sight store.old).files (S.sight store.new).files result }
+) -> PictureStatus
+    ensures { IsPictureRunOutcome (picture_order (map (λ f. meaning f) formats.old)
+        (map string_bytes words.now))
+        (S.view store.old).files (S.view store.new).files result }
 {
     match names_in(words) {
         Some(names) => run_named(alloc, names, formats, store, err),
-        None => tell_usage(err),
+        None => report_usage(err),
     }
 }
 
 fn run_named<S: Store, E: Sink>(
     alloc: Global,
-    names: Names<'_>,
+    names: PictureNames<'_>,
     formats: &mut [Box<dyn Format>],
     store: &mut S,
     err: &mut E,
-) -> Status
-    requires input { IsName names.input.now }
-    requires output { IsName names.output.now }
-    ensures { Ends (order_by (map (λ f. meaning f) formats.old) names.entry.input.now
-        names.entry.output.now) (S.sight store.old).files (S.sight store.new).files result }
+) -> PictureStatus
+    requires input { IsFileName names.input.now }
+    requires output { IsFileName names.output.now }
+    ensures { IsPictureRunOutcome (picture_order_of_names (map (λ f. meaning f) formats.old)
+        names.entry.input.now
+        names.entry.output.now) (S.view store.old).files (S.view store.new).files result }
 {
     match find(formats, names.input) {
         Some(place) => run_with(
@@ -50,7 +52,7 @@ fn run_named<S: Store, E: Sink>(
             store,
             err,
         ),
-        None => tell_usage(err),
+        None => report_usage(err),
     }
 }
 
@@ -61,23 +63,23 @@ fn run_with<S: Store, E: Sink>(
     format: &mut Box<dyn Format>,
     store: &mut S,
     err: &mut E,
-) -> Status
-    requires input { IsName input.now }
-    requires output { IsName output.now }
-    ensures { OrderEnds (meaning format.old) input.now output.now
-        (S.sight store.old).files (S.sight store.new).files result }
+) -> PictureStatus
+    requires input { IsFileName input.now }
+    requires output { IsFileName output.now }
+    ensures { IsPictureOutcome (meaning format.old) input.now output.now
+        (S.view store.old).files (S.view store.new).files result }
 {
     match picture_in(alloc, input, format, store) {
         Ok(text) => match write_whole(store, output, text.as_slice()) {
-            Ok(()) => Status::Done,
-            Err(Failed) => tell_fault(err, output),
+            Ok(()) => PictureStatus::Done,
+            Err(Failed) => report_write_fault(err, output),
         },
-        Err(why) => tell_halt(err, why, input),
+        Err(why) => report_failure(err, why, input),
     }
 }
 
-fn tell_fault<E: Sink>(err: &mut E, output: &str) -> Status
+fn report_write_fault<E: Sink>(err: &mut E, output: &str) -> PictureStatus
     ensures { result ≡ status.Fault }
 {
-    tell(err, Status::Fault, b"cannot write ", output)
+    report_line(err, PictureStatus::Fault, b"cannot write ", output)
 }

@@ -10,27 +10,27 @@ use Rattle.design_model.specs.declared.command.Command.{Command}
 use Rattle.design_model.specs.declared.command.Command.TheVariants.{Stitch, Jump, Trim, Stop}
 use Rattle.design_model.specs.declared.design.TheConstants.{MAX_COMMANDS}
 use Rattle.design_model.specs.declared.point.Point.{Point}
-use Rattle.design_model.specs.ActPlaces.{is_loose_after, place_after}
-use Rattle.design_model.specs.Acts.{acts_from, bare, numbered}
-use Rattle.design_model.specs.Points.{is_within, move_between, size_of}
+use Rattle.design_model.specs.ActPositions.{leaves_thread_loose, needle_position_after}
+use Rattle.design_model.specs.Acts.{acts_from, acts_without_numbers, numbered}
+use Rattle.design_model.specs.Points.{is_point_within, move_between, move_size}
 use Rattle.format_traits.specs.declared.fault.ReadFault.TheVariants as read
 use Rattle.format_traits.specs.declared.fault.WriteFault.{WriteFault}
 use Rattle.format_traits.specs.declared.fault.WriteFault.TheVariants as fault
-use Rattle.format_traits.specs.declared.standing.Standing.{Standing}
-use Rattle.format_traits.specs.Refusals.{needle_refusal, or_else, own_refusal, passes, refusal_at, refusal_from, refused_where, standing_after}
+use Rattle.format_traits.specs.declared.encoder_state.EncoderState.{EncoderState}
+use Rattle.format_traits.specs.Refusals.{refusal_of_needle, or_else, refusal_before_room, is_above_max, refusal_of_act, first_refusal_from, refusal_if, encoder_state_after}
 use Rattle.stitch_text.specs.declared.stitch_list.TheConstants.{LIMIT}
-use Rattle.stitch_text.specs.Judging.{act_fault, commands_of, told_as, wants_thread}
-use Rattle.stitch_text.specs.Readings.{straight_move, straight_moves}
-use Rattle.stitch_text.specs.StitchLists.{reach}
+use Rattle.stitch_text.specs.Judging.{fault_of_act, list_commands_of, as_read_fault, needs_held_thread}
+use Rattle.stitch_text.specs.Readings.{stitch_move_of, stitch_moves_of}
+use Rattle.stitch_text.specs.StitchLists.{list_write_limits}
 
 -- an act that the fold over commands can give: no float of a loose thread, and no trim of one
 abbrev pub is_told : Bool → Act → Bool
-is_told loose a = not (loose && wants_thread a)
+is_told loose a = not (loose && needs_held_thread a)
 
 -- all acts are so
 abbrev pub are_told : Bool → List NumberedAct → Bool
 are_told loose [] = true
-are_told loose (a ∷ rest) = is_told loose a.act && are_told (is_loose_after a.act) rest
+are_told loose (a ∷ rest) = is_told loose a.act && are_told (leaves_thread_loose a.act) rest
 
 -- the fold over commands gives no other acts
 pub told : (n : ℕ) (loose jumped : Bool) (commands : List Command)
@@ -48,17 +48,17 @@ told n false jumped (Stop ∷ rest) = told (n + 1) true false rest
 -- the commands of acts
 abbrev pub commands_along : List NumberedAct → List Command
 commands_along [] = []
-commands_along (a ∷ rest) = commands_of a.act ++ commands_along rest
+commands_along (a ∷ rest) = list_commands_of a.act ++ commands_along rest
 
 -- the commands that are written for acts have the same acts
 pub acts_again : (acts : List NumberedAct) (n : ℕ) (loose : Bool) → IsTrue (are_told loose acts)
-    → bare (acts_from n loose false (commands_along acts)) ≡ bare acts
+    → acts_without_numbers (acts_from n loose false (commands_along acts)) ≡ acts_without_numbers acts
 acts_again [] n loose told = refl
 acts_again (a ∷ rest) n loose told = by_act (λ n loose told. acts_again rest n loose told) a.act loose told where
   by_act : ((n : ℕ) (loose : Bool) → IsTrue (are_told loose rest)
-      → bare (acts_from n loose false (commands_along rest)) ≡ bare rest) → (b : Act) (loose : Bool)
-      → IsTrue (is_told loose b && are_told (is_loose_after b) rest)
-      → bare (acts_from n loose false (commands_of b ++ commands_along rest)) ≡ b ∷ bare rest
+      → acts_without_numbers (acts_from n loose false (commands_along rest)) ≡ acts_without_numbers rest) → (b : Act) (loose : Bool)
+      → IsTrue (is_told loose b && are_told (leaves_thread_loose b) rest)
+      → acts_without_numbers (acts_from n loose false (list_commands_of b ++ commands_along rest)) ≡ b ∷ acts_without_numbers rest
   by_act again (act.Needle p false) true told = ap (λ acts. act.Needle p false ∷ acts) (again (n + 1) false told)
   by_act again (act.Needle p false) false told = ap (λ acts. act.Needle p false ∷ acts) (again (n + 1) false told)
   by_act again (act.Needle p true) true told = cc
@@ -69,11 +69,11 @@ acts_again (a ∷ rest) n loose told = by_act (λ n loose told. acts_again rest 
   by_act again act.Stop false told = ap (λ acts. act.Stop ∷ acts) (again (n + 1) true told)
 
 -- what is left of the refusals, where there is none
-pub not_refused : (b : Bool) (f : WriteFault) → refused_where b f ≡ None → b ≡ false
+pub not_refused : (b : Bool) (f : WriteFault) → refusal_if b f ≡ None → b ≡ false
 not_refused true f none = cc
 not_refused false f none = refl
 
-pub refused_not : (b : Bool) (f : WriteFault) → b ≡ false → refused_where b f ≡ None
+pub refused_not : (b : Bool) (f : WriteFault) → b ≡ false → refusal_if b f ≡ None
 refused_not true f is = cc
 refused_not false f is = refl
 
@@ -85,41 +85,43 @@ pub or_else_both : (one other : Option WriteFault) → one ≡ None → other �
 or_else_both one other first second = ap (λ r. or_else r other) first ∙ second
 
 -- whether an act is refused has nothing to do with its number
-refused_again : (b : Bool) (f g : WriteFault) → refused_where b f ≡ None → refused_where b g ≡ None
+refused_again : (b : Bool) (f g : WriteFault) → refusal_if b f ≡ None → refusal_if b g ≡ None
 refused_again b f g none = refused_not b g (not_refused b f none)
 
-own_again : (s : Standing) (m n : ℕ) (a : Act) → own_refusal reach s a m ≡ None → own_refusal reach s a n ≡ None
+own_again : (s : EncoderState) (m n : ℕ) (a : Act) → refusal_before_room list_write_limits s a m ≡ None
+    → refusal_before_room list_write_limits s a n ≡ None
 own_again s m n (act.Needle p float) none = by_kind s.loose float none where
-  by_kind : (loose float : Bool) → needle_refusal reach loose float (move_between s.place p) m ≡ None
-      → needle_refusal reach loose float (move_between s.place p) n ≡ None
+  by_kind : (loose float : Bool) → refusal_of_needle list_write_limits loose float (move_between s.place p) m ≡ None
+      → refusal_of_needle list_write_limits loose float (move_between s.place p) n ≡ None
   by_kind true float none = refl
   by_kind false true none = refl
   by_kind false false none =
-      refused_again (nat_lt LIMIT (size_of (move_between s.place p))) (fault.StitchTooLong m) (fault.StitchTooLong n) none
+      refused_again (nat_lt LIMIT (move_size (move_between s.place p))) (fault.StitchTooLong m) (fault.StitchTooLong n) none
 own_again s m n act.Trim none = refl
 own_again s m n act.Stop none =
-    refused_again (passes reach.stops (s.stops + 1)) (fault.TooManyStops m) (fault.TooManyStops n) none
+    refused_again (is_above_max list_write_limits.stops (s.stops + 1)) (fault.TooManyStops m) (fault.TooManyStops n) none
 
-pub refusal_again : (s : Standing) (m n : ℕ) (a : Act) → refusal_at reach s (numbered m a) ≡ None
-    → refusal_at reach s (numbered n a) ≡ None
+pub refusal_again : (s : EncoderState) (m n : ℕ) (a : Act) → refusal_of_act list_write_limits s (numbered m a) ≡ None
+    → refusal_of_act list_write_limits s (numbered n a) ≡ None
 refusal_again s m n a none =
-    let full : Bool = nat_lt MAX_COMMANDS (standing_after LIMIT s a).room in
-    let both = or_else_none (own_refusal reach s a m) (refused_where full (fault.TooLong m)) none in
-    or_else_both (own_refusal reach s a n) (refused_where full (fault.TooLong n)) (own_again s m n a both.0)
+    let full : Bool = nat_lt MAX_COMMANDS (encoder_state_after LIMIT s a).room in
+    let both = or_else_none (refusal_before_room list_write_limits s a m) (refusal_if full (fault.TooLong m)) none in
+    or_else_both (refusal_before_room list_write_limits s a n) (refusal_if full (fault.TooLong n)) (own_again s m n a both.0)
     (refused_again full (fault.TooLong m) (fault.TooLong n) both.1)
 
 -- an act that isn't refused may be read
-pub no_fault : (at n : ℕ) (s : Standing) (a : Act) → IsTrue (is_told s.loose a) → refusal_at reach s (numbered n a) ≡ None
-    → act_fault at s a ≡ None
+pub no_fault : (at n : ℕ) (s : EncoderState) (a : Act) → IsTrue (is_told s.loose a)
+    → refusal_of_act list_write_limits s (numbered n a) ≡ None
+    → fault_of_act at s a ≡ None
 no_fault at n s a told none =
-    let loose : (s.loose && wants_thread a) ≡ false = not-true (s.loose && wants_thread a) told in
-    rw loose (ap (told_as at) (refusal_again s n 0 a none))
+    let loose : (s.loose && needs_held_thread a) ≡ false = not-true (s.loose && needs_held_thread a) told in
+    rw loose (ap (as_read_fault at) (refusal_again s n 0 a none))
 
 -- and the other way round
-pub no_refusal : (at n : ℕ) (s : Standing) (a : Act) → act_fault at s a ≡ None
-    → IsTrue (is_told s.loose a) × (refusal_at reach s (numbered n a) ≡ None)
-no_refusal at n s a none = by_test (s.loose && wants_thread a) none where
-  not_told : (r : Option WriteFault) → told_as at r ≡ None → r ≡ None
+pub no_refusal : (at n : ℕ) (s : EncoderState) (a : Act) → fault_of_act at s a ≡ None
+    → IsTrue (is_told s.loose a) × (refusal_of_act list_write_limits s (numbered n a) ≡ None)
+no_refusal at n s a none = by_test (s.loose && needs_held_thread a) none where
+  not_told : (r : Option WriteFault) → as_read_fault at r ≡ None → r ≡ None
   not_told None none = refl
   not_told (Some (fault.StitchTooLong number)) none = cc
   not_told (Some (fault.FloatTooLong number)) none = cc
@@ -127,53 +129,54 @@ no_refusal at n s a none = by_test (s.loose && wants_thread a) none where
   not_told (Some (fault.TooLong number)) none = cc
   not_told (Some fault.Memory) none = cc
 
-  by_test : (b : Bool) → (if b then Some (read.Control at) else told_as at (refusal_at reach s (numbered 0 a))) ≡ None
-      → IsTrue (not b) × (refusal_at reach s (numbered n a) ≡ None)
+  by_test : (b : Bool) → (if b then Some (read.Control at) else as_read_fault at (refusal_of_act list_write_limits s (numbered 0 a))) ≡ None
+      → IsTrue (not b) × (refusal_of_act list_write_limits s (numbered n a) ≡ None)
   by_test true none = absurd (let no : ⊥ = cc in no)
-  by_test false none = (refl, refusal_again s 0 n a (not_told (refusal_at reach s (numbered 0 a)) none))
+  by_test false none = (refl, refusal_again s 0 n a (not_told (refusal_of_act list_write_limits s (numbered 0 a)) none))
 
 -- the moves of acts that aren't refused are within the limit
-pub moves_within : (acts : List NumberedAct) (s : Standing) → refusal_from reach s acts ≡ None
-    → IsTrue (list_all (λ move. is_within LIMIT move) (straight_moves s.loose s.place (bare acts)))
+pub moves_within : (acts : List NumberedAct) (s : EncoderState) → first_refusal_from list_write_limits s acts ≡ None
+    → IsTrue (list_all (λ move. is_point_within LIMIT move) (stitch_moves_of s.loose s.place (acts_without_numbers acts)))
 moves_within [] s none = refl
 moves_within (a ∷ rest) s none =
-    let after = standing_after LIMIT s a.act in
-    let first = or_else_none (refusal_at reach s a) (refusal_from reach after rest) none in
-    let own = or_else_none (own_refusal reach s a.act a.number)
-    (refused_where (nat_lt MAX_COMMANDS after.room) (fault.TooLong a.number)) first.0 in
+    let after = encoder_state_after LIMIT s a.act in
+    let first = or_else_none (refusal_of_act list_write_limits s a) (first_refusal_from list_write_limits after rest) none in
+    let own = or_else_none (refusal_before_room list_write_limits s a.act a.number)
+    (refusal_if (nat_lt MAX_COMMANDS after.room) (fault.TooLong a.number)) first.0 in
     by_act a.act own.0 (moves_within rest after first.1) where
-      far : (m : Point) (f : WriteFault) → refused_where (nat_lt LIMIT (size_of m)) f ≡ None → IsTrue (is_within LIMIT m)
+      far : (m : Point) (f : WriteFault) → refusal_if (nat_lt LIMIT (move_size m)) f ≡ None → IsTrue (is_point_within LIMIT m)
       far m f none =
-          let test = not_refused (nat_lt LIMIT (size_of m)) f none in
-          let small : size_of m ≤ 2047 = grind (arith, nat_tests, test) in
+          let test = not_refused (nat_lt LIMIT (move_size m)) f none in
+          let small : move_size m ≤ 2047 = grind (arith, nat_tests, test) in
           and_from (nat_le (unsigned_abs m.x) LIMIT) (nat_le (unsigned_abs m.y) LIMIT)
           (grind (arith, nat_tests, small)) (grind (arith, nat_tests, small))
 
-      by_act : (b : Act) → own_refusal reach s b a.number ≡ None
-          → IsTrue (list_all (λ move. is_within LIMIT move) (straight_moves (is_loose_after b) (place_after s.place b) (bare rest)))
-          → IsTrue (list_all (λ move. is_within LIMIT move) (straight_move s.loose s.place b
-          ++ straight_moves (is_loose_after b) (place_after s.place b) (bare rest)))
+      by_act : (b : Act) → refusal_before_room list_write_limits s b a.number ≡ None
+          → IsTrue (list_all (λ move. is_point_within LIMIT move)
+          (stitch_moves_of (leaves_thread_loose b) (needle_position_after s.place b) (acts_without_numbers rest)))
+          → IsTrue (list_all (λ move. is_point_within LIMIT move) (stitch_move_of s.loose s.place b
+          ++ stitch_moves_of (leaves_thread_loose b) (needle_position_after s.place b) (acts_without_numbers rest)))
       by_act (act.Needle p true) none rest_within = by_loose s.loose where
-        by_loose : (loose : Bool) → IsTrue (list_all (λ move. is_within LIMIT move) (straight_move loose s.place (act.Needle p true)
-            ++ straight_moves false p (bare rest)))
+        by_loose : (loose : Bool) → IsTrue (list_all (λ move. is_point_within LIMIT move) (stitch_move_of loose s.place (act.Needle p true)
+            ++ stitch_moves_of false p (acts_without_numbers rest)))
         by_loose true = rest_within
         by_loose false = rest_within
       by_act (act.Needle p false) none rest_within = by_loose s.loose none where
-        by_loose : (loose : Bool) → needle_refusal reach loose false (move_between s.place p) a.number ≡ None
-            → IsTrue (list_all (λ move. is_within LIMIT move) (straight_move loose s.place (act.Needle p false)
-            ++ straight_moves false p (bare rest)))
+        by_loose : (loose : Bool) → refusal_of_needle list_write_limits loose false (move_between s.place p) a.number ≡ None
+            → IsTrue (list_all (λ move. is_point_within LIMIT move) (stitch_move_of loose s.place (act.Needle p false)
+            ++ stitch_moves_of false p (acts_without_numbers rest)))
         by_loose true none = rest_within
         by_loose false none =
-            and_from (is_within LIMIT (move_between s.place p))
-            (list_all (λ move. is_within LIMIT move) (straight_moves false p (bare rest)))
+            and_from (is_point_within LIMIT (move_between s.place p))
+            (list_all (λ move. is_point_within LIMIT move) (stitch_moves_of false p (acts_without_numbers rest)))
             (far (move_between s.place p) (fault.StitchTooLong a.number) none) rest_within
       by_act act.Trim none rest_within = by_loose s.loose where
-        by_loose : (loose : Bool) → IsTrue (list_all (λ move. is_within LIMIT move) (straight_move loose s.place act.Trim
-            ++ straight_moves true s.place (bare rest)))
+        by_loose : (loose : Bool) → IsTrue (list_all (λ move. is_point_within LIMIT move) (stitch_move_of loose s.place act.Trim
+            ++ stitch_moves_of true s.place (acts_without_numbers rest)))
         by_loose true = rest_within
         by_loose false = rest_within
       by_act act.Stop none rest_within = by_loose s.loose where
-        by_loose : (loose : Bool) → IsTrue (list_all (λ move. is_within LIMIT move) (straight_move loose s.place act.Stop
-            ++ straight_moves true s.place (bare rest)))
+        by_loose : (loose : Bool) → IsTrue (list_all (λ move. is_point_within LIMIT move) (stitch_move_of loose s.place act.Stop
+            ++ stitch_moves_of true s.place (acts_without_numbers rest)))
         by_loose true = rest_within
         by_loose false = rest_within

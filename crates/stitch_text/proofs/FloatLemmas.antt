@@ -5,14 +5,14 @@ use Rattle.design_model.specs.declared.act.Act.TheVariants as act
 use Rattle.design_model.specs.declared.act.NumberedAct.{NumberedAct}
 use Rattle.design_model.specs.declared.design.TheConstants.{MAX_COMMANDS}
 use Rattle.design_model.specs.Acts.{acts_of}
-use Rattle.design_model.specs.Points.{move_between, size_of}
+use Rattle.design_model.specs.Points.{move_between, move_size}
 use Rattle.format_traits.specs.declared.fault.WriteFault.{WriteFault}
 use Rattle.format_traits.specs.declared.fault.WriteFault.TheVariants as fault
-use Rattle.format_traits.specs.declared.standing.Standing.{Standing}
-use Rattle.format_traits.specs.Refusals.{beginning, first_refusal, needle_refusal, or_else, own_refusal, passes, refusal_at, refusal_from, refused_where, standing_after, unless_refused}
+use Rattle.format_traits.specs.declared.encoder_state.EncoderState.{EncoderState}
+use Rattle.format_traits.specs.Refusals.{initial_encoder_state, first_refusal, refusal_of_needle, or_else, refusal_before_room, is_above_max, refusal_of_act, first_refusal_from, refusal_if, encoder_state_after, unless_refused}
 use Rattle.stitch_text.specs.declared.stitch_list.TheConstants.{LIMIT}
 use Rattle.stitch_text.specs.Laws.{NoFloatIsTooLong}
-use Rattle.stitch_text.specs.StitchLists.{list_of, reach}
+use Rattle.stitch_text.specs.StitchLists.{list_of, list_write_limits}
 
 -- the refusal is not that of a float
 abbrev is_other : Option WriteFault → Bool
@@ -23,36 +23,37 @@ either_other : (one other : Option WriteFault) → is_other one ≡ true → is_
 either_other None other first second = second
 either_other (Some f) other first second = first
 
-where_other : (b : Bool) (f : WriteFault) → is_other (Some f) ≡ true → is_other (refused_where b f) ≡ true
+where_other : (b : Bool) (f : WriteFault) → is_other (Some f) ≡ true → is_other (refusal_if b f) ≡ true
 where_other true f is = is
 where_other false f is = refl
 
-own_other : (s : Standing) (a : Act) (number : ℕ) → is_other (own_refusal reach s a number) ≡ true
+own_other : (s : EncoderState) (a : Act) (number : ℕ) → is_other (refusal_before_room list_write_limits s a number) ≡ true
 own_other s (act.Needle p float) number = by_kind s.loose float where
-  by_kind : (loose float : Bool) → is_other (needle_refusal reach loose float (move_between s.place p) number) ≡ true
+  by_kind : (loose float : Bool) → is_other (refusal_of_needle list_write_limits loose float (move_between s.place p) number) ≡ true
   by_kind true float = refl
   by_kind false true = refl
-  by_kind false false = where_other (nat_lt LIMIT (size_of (move_between s.place p))) (fault.StitchTooLong number) refl
+  by_kind false false = where_other (nat_lt LIMIT (move_size (move_between s.place p))) (fault.StitchTooLong number) refl
 own_other s act.Trim number = refl
-own_other s act.Stop number = where_other (passes reach.stops (s.stops + 1)) (fault.TooManyStops number) refl
+own_other s act.Stop number = where_other (is_above_max list_write_limits.stops (s.stops + 1)) (fault.TooManyStops number) refl
 
 -- none of any acts is
-all_other : (acts : List NumberedAct) (s : Standing) → is_other (refusal_from reach s acts) ≡ true
+all_other : (acts : List NumberedAct) (s : EncoderState) → is_other (first_refusal_from list_write_limits s acts) ≡ true
 all_other [] s = refl
 all_other (a ∷ rest) s =
-    let after = standing_after LIMIT s a.act in
-    either_other (refusal_at reach s a) (refusal_from reach after rest)
-    (either_other (own_refusal reach s a.act a.number)
-    (refused_where (nat_lt MAX_COMMANDS after.room) (fault.TooLong a.number)) (own_other s a.act a.number)
+    let after = encoder_state_after LIMIT s a.act in
+    either_other (refusal_of_act list_write_limits s a) (first_refusal_from list_write_limits after rest)
+    (either_other (refusal_before_room list_write_limits s a.act a.number)
+    (refusal_if (nat_lt MAX_COMMANDS after.room) (fault.TooLong a.number)) (own_other s a.act a.number)
     (where_other (nat_lt MAX_COMMANDS after.room) (fault.TooLong a.number) refl))
     (all_other rest after)
 
 pub no_float_is_too_long : NoFloatIsTooLong
-no_float_is_too_long d number is = by_refusal (first_refusal reach (acts_of d)) (all_other (acts_of d) beginning) is where
-  by_refusal : (r : Option WriteFault) → is_other r ≡ true → unless_refused r (list_of d) ≡ Err (fault.FloatTooLong number) → ⊥
-  by_refusal None other is = cc
-  by_refusal (Some (fault.StitchTooLong n)) other is = cc
-  by_refusal (Some (fault.FloatTooLong n)) other is = cc
-  by_refusal (Some (fault.TooManyStops n)) other is = cc
-  by_refusal (Some (fault.TooLong n)) other is = cc
-  by_refusal (Some fault.Memory) other is = cc
+no_float_is_too_long d number is = by_refusal (first_refusal list_write_limits (acts_of d)) (all_other (acts_of d) initial_encoder_state) is
+  where
+    by_refusal : (r : Option WriteFault) → is_other r ≡ true → unless_refused r (list_of d) ≡ Err (fault.FloatTooLong number) → ⊥
+    by_refusal None other is = cc
+    by_refusal (Some (fault.StitchTooLong n)) other is = cc
+    by_refusal (Some (fault.FloatTooLong n)) other is = cc
+    by_refusal (Some (fault.TooManyStops n)) other is = cc
+    by_refusal (Some (fault.TooLong n)) other is = cc
+    by_refusal (Some fault.Memory) other is = cc

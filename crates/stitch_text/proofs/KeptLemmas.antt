@@ -8,13 +8,13 @@ use Rattle.design_model.specs.Acts.{acts_of}
 use Rattle.design_model.specs.Designs.{DesignValue, thread_of}
 use Rattle.format_traits.specs.declared.fault.WriteFault.{WriteFault}
 use Rattle.format_traits.specs.declared.loaded.Loaded.{Loaded}
-use Rattle.format_traits.specs.Accepted.{AcceptedIsSmall}
+use Rattle.format_traits.specs.Accepted.{AcceptedIsWithinLimits}
 use Rattle.format_traits.specs.Refusals.{first_refusal, stops_in, stops_of, unless_refused}
-use Rattle.stitch_text.specs.Laws.{IsKept, KeepsLabelAndThreads}
-use Rattle.stitch_text.specs.Readings.{loaded_from, reads}
-use Rattle.stitch_text.specs.StitchLists.{list_of, reach, writes}
+use Rattle.stitch_text.specs.Laws.{HasLabelAndThreads, LabelAndThreadsRoundTrip}
+use Rattle.stitch_text.specs.Readings.{loaded_of_parsed, list_reads}
+use Rattle.stitch_text.specs.StitchLists.{list_of, list_write_limits, list_writes}
 use Rattle.stitch_text.proofs.ActLemmas.{commands_along}
-use Rattle.stitch_text.proofs.Rereading.{list_said, threads_along, threads_in, threads_told}
+use Rattle.stitch_text.proofs.RoundTrip.{list_said, threads_along, threads_in, threads_told}
 
 -- the thread at a later place
 told_at : (thread : ℕ → ℕ) (acts : List NumberedAct) (stops k : ℕ) → k < stops_of acts
@@ -56,35 +56,37 @@ byte_of (t ∷ threads) (suc block) other all small =
 
 -- what was written is the list
 record IsWritten (d : DesignValue) (text : List ℕ) : Type 0 where
-  none : first_refusal reach (acts_of d) ≡ None
+  none : first_refusal list_write_limits (acts_of d) ≡ None
   is : list_of d ≡ text
 
-is_written : (d : DesignValue) (text : List ℕ) → writes d ≡ Ok text → IsWritten d text
-is_written d text written = by_refusal (first_refusal reach (acts_of d)) refl written where
+is_written : (d : DesignValue) (text : List ℕ) → list_writes d ≡ Ok text → IsWritten d text
+is_written d text written = by_refusal (first_refusal list_write_limits (acts_of d)) refl written where
   ok : List ℕ → Result (List ℕ) WriteFault
   ok bytes = Ok bytes
 
   same_bytes : (one other : List ℕ) → ok one ≡ ok other → one ≡ other
   same_bytes one other same = cc
 
-  by_refusal : (r : Option WriteFault) → first_refusal reach (acts_of d) ≡ r → unless_refused r (list_of d) ≡ ok text → IsWritten d text
+  by_refusal : (r : Option WriteFault) → first_refusal list_write_limits (acts_of d) ≡ r → unless_refused r (list_of d) ≡ ok text
+      → IsWritten d text
   by_refusal None is says = record { none = is; is = same_bytes (list_of d) text says }
   by_refusal (Some f) is says = absurd (let no : ⊥ = cc in no)
 
 -- label and threads are kept
-pub keeps_label_and_threads : AcceptedIsSmall → KeepsLabelAndThreads
+pub keeps_label_and_threads : AcceptedIsWithinLimits → LabelAndThreadsRoundTrip
 keeps_label_and_threads small d text limits bytes written =
     let is = is_written d text written in
     let loaded : Loaded = record {
       design = record { label = d.label; threads = threads_told d; commands = commands_along (acts_of d) };
       ended = true;
     } in
-    let kept : IsKept d loaded = record {
+    let kept : HasLabelAndThreads d loaded = record {
       label = refl;
       threads = λ block there.
           let byte = byte_of d.threads block (1 + block % 64) bytes (omega arith) in
           let same : thread_of d block % 256 ≡ thread_of d block = omega (arith, byte) in
           ap (λ o. unwrap_or o (1 + block % 64)) (told_of d block there) ∙ same;
     } in
-    subst (λ (bytes : List ℕ). IsOkAnd (reads bytes) (λ loaded. IsKept d loaded)) is.is
-    (subst (λ said. IsOkAnd (loaded_from said) (λ loaded. IsKept d loaded)) (sym (list_said small d limits is.none)) kept)
+    subst (λ (bytes : List ℕ). IsOkAnd (list_reads bytes) (λ loaded. HasLabelAndThreads d loaded)) is.is
+    (subst (λ parsed. IsOkAnd (loaded_of_parsed parsed) (λ loaded. HasLabelAndThreads d loaded)) (sym (list_said small d limits is.none))
+    kept)

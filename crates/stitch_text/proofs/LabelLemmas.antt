@@ -8,9 +8,9 @@ use Rattle.std.proofs.lemmas.Slice.Eq.{bytes_eq-Decides}
 use Rattle.std.proofs.Math.Seq.{take-append_seam}
 use Rattle.std.specs.List.{list_all}
 use Rattle.design_model.specs.Labels.{IsLabel, IsPrintable}
-use Rattle.stitch_text.specs.ListLines.{in_brackets, label_said}
+use Rattle.stitch_text.specs.ListLines.{in_brackets, parsed_label}
 use Rattle.stitch_text.specs.StitchLists.{label_line}
-use Rattle.stitch_text.specs.Words.{ends_with_space, is_label, is_printable}
+use Rattle.stitch_text.specs.Words.{has_trailing_space, is_valid_label, is_printable}
 
 -- what stands between the brackets of a label's line is the label
 between : (label : List ℕ) → in_brackets (label_line label) ≡ label
@@ -21,33 +21,33 @@ between label =
 
 -- the line of a label is judged by the label
 pub said_by_label : (line label : List ℕ) → line ≡ label_line label
-    → label_said line ≡ (if is_label label then Some label else None)
+    → parsed_label line ≡ (if is_valid_label label then Some label else None)
 said_by_label line label is =
     let same : in_brackets line ≡ label = ap in_brackets is ∙ between label in
     let found : bytes_eq line (label_line (in_brackets line)) ≡ true =
     (bytes_eq-Decides line (label_line (in_brackets line))).1 (is ∙ ap label_line (sym same)) in
-    ap (λ (b : Bool). if b && is_label (in_brackets line) then Some (in_brackets line) else None) found
-    ∙ ap (λ one. if is_label one then Some one else None) same
+    ap (λ (b : Bool). if b && is_valid_label (in_brackets line) then Some (in_brackets line) else None) found
+    ∙ ap (λ one. if is_valid_label one then Some one else None) same
 
 -- the same, where the label is one and where it isn't
-pub label_yes : (line label : List ℕ) → line ≡ label_line label → is_label label ≡ true → label_said line ≡ Some label
+pub label_yes : (line label : List ℕ) → line ≡ label_line label → is_valid_label label ≡ true → parsed_label line ≡ Some label
 label_yes line label is good =
     said_by_label line label is ∙ ap (λ (b : Bool). if b then Some label else None) good
 
-pub label_no : (line label : List ℕ) → line ≡ label_line label → is_label label ≡ false → label_said line ≡ None
+pub label_no : (line label : List ℕ) → line ≡ label_line label → is_valid_label label ≡ false → parsed_label line ≡ None
 label_no line label is bad =
     said_by_label line label is ∙ ap (λ (b : Bool). if b then Some label else None) bad
 
 -- another line has none
-pub no_label : (line : List ℕ) → ((label : List ℕ) → line ≡ label_line label → ⊥) → label_said line ≡ None
+pub no_label : (line : List ℕ) → ((label : List ℕ) → line ≡ label_line label → ⊥) → parsed_label line ≡ None
 no_label line other = by_test (bytes_eq line (label_line (in_brackets line))) refl where
   by_test : (b : Bool) → bytes_eq line (label_line (in_brackets line)) ≡ b
-      → (if b && is_label (in_brackets line) then Some (in_brackets line) else None) ≡ None
+      → (if b && is_valid_label (in_brackets line) then Some (in_brackets line) else None) ≡ None
   by_test true is = absurd (other (in_brackets line) ((bytes_eq-Decides line (label_line (in_brackets line))).0 is))
   by_test false is = refl
 
 -- the byte at the end
-last_space : (label : List ℕ) → slice_get label (length label - 1) ≡ Some 32 → ends_with_space label ≡ true
+last_space : (label : List ℕ) → slice_get label (length label - 1) ≡ Some 32 → has_trailing_space label ≡ true
 last_space label is =
     let last = get_or_from_slice_get label (length label - 1) 32 0 is in grind (arith, nat_tests, last)
 
@@ -64,33 +64,33 @@ false_true : false ≡ true → ⊥
 false_true is = cc
 
 -- the meaning of the test of a label
-pub label_from : (label : List ℕ) → is_label label ≡ true → IsLabel label
+pub label_from : (label : List ℕ) → is_valid_label label ≡ true → IsLabel label
 label_from label is =
-    let outer = and_parts (nat_le (length label) 16) (list_all is_printable label && not (ends_with_space label)) is in
-    let inner = and_parts (list_all is_printable label) (not (ends_with_space label)) outer.1 in
+    let outer = and_parts (nat_le (length label) 16) (list_all is_printable label && not (has_trailing_space label)) is in
+    let inner = and_parts (list_all is_printable label) (not (has_trailing_space label)) outer.1 in
     let all = AllPass-from_list_all is_printable label inner.0 in
     record {
       short = grind (arith, nat_tests, outer.0);
       printable = λ k d there. printable_from (get_or label k d) (all k d there);
-      trimmed = λ space. false_true (sym (not-true (ends_with_space label) inner.1) ∙ last_space label space);
+      trimmed = λ space. false_true (sym (not-true (has_trailing_space label) inner.1) ∙ last_space label space);
     }
 
 -- and what it takes
-pub label_to : (label : List ℕ) → IsLabel label → is_label label ≡ true
+pub label_to : (label : List ℕ) → IsLabel label → is_valid_label label ≡ true
 label_to label is =
-    and_from (nat_le (length label) 16) (list_all is_printable label && not (ends_with_space label))
+    and_from (nat_le (length label) 16) (list_all is_printable label && not (has_trailing_space label))
     (grind (arith, nat_tests, is.short))
-    (and_from (list_all is_printable label) (not (ends_with_space label))
+    (and_from (list_all is_printable label) (not (has_trailing_space label))
     (list_all-from_AllPass is_printable label (λ k d there. printable_to (get_or label k d) (is.printable k d there)))
-    (by_end (ends_with_space label) refl)) where
-      last_is : (label : List ℕ) → ends_with_space label ≡ true → slice_get label (length label - 1) ≡ Some 32
+    (by_end (has_trailing_space label) refl)) where
+      last_is : (label : List ℕ) → has_trailing_space label ≡ true → slice_get label (length label - 1) ≡ Some 32
       last_is [] space = absurd (false_true space)
       last_is (b ∷ label) space =
           let there : length (b ∷ label) - 1 < length (b ∷ label) = omega arith in
           let last : get_or (b ∷ label) (length (b ∷ label) - 1) 0 ≡ 32 = grind (arith, nat_tests, space) in
           slice_get-get_or (b ∷ label) (length (b ∷ label) - 1) 0 there ∙ ap (λ x. Some x) last
 
-      by_end : (b : Bool) → ends_with_space label ≡ b → not b ≡ true
+      by_end : (b : Bool) → has_trailing_space label ≡ b → not b ≡ true
       by_end false is_not = refl
       by_end true space = absurd (is.trimmed (last_is label space))
 
@@ -104,15 +104,15 @@ before_last bytes (Some x) says = says
 -- the meaning of the label of a line
 pub record HasLabel (line label : List ℕ) : Type 0 where
   pub is : line ≡ label_line label
-  pub good : is_label label ≡ true
+  pub good : is_valid_label label ≡ true
 
-pub label_is : (line label : List ℕ) → label_said line ≡ Some label → HasLabel line label
+pub label_is : (line label : List ℕ) → parsed_label line ≡ Some label → HasLabel line label
 label_is line label says =
-    by_tests (bytes_eq line (label_line (in_brackets line))) (is_label (in_brackets line)) refl refl says where
+    by_tests (bytes_eq line (label_line (in_brackets line))) (is_valid_label (in_brackets line)) refl refl says where
       none_label : None ≡ Some label → ⊥
       none_label same = cc
 
-      by_tests : (same good : Bool) → bytes_eq line (label_line (in_brackets line)) ≡ same → is_label (in_brackets line) ≡ good
+      by_tests : (same good : Bool) → bytes_eq line (label_line (in_brackets line)) ≡ same → is_valid_label (in_brackets line) ≡ good
           → (if same && good then Some (in_brackets line) else None) ≡ Some label → HasLabel line label
       by_tests false good is fine says = absurd (none_label says)
       by_tests true false is fine says = absurd (none_label says)

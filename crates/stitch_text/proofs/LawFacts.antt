@@ -5,16 +5,16 @@ use Rattle.design_model.specs.declared.command.Command.TheVariants.{Stitch, Stop
 use Rattle.design_model.specs.Designs.{DesignValue, KeepsLimits}
 use Rattle.design_model.specs.Points.{origin}
 use Rattle.format_traits.specs.declared.loaded.Loaded.{Loaded}
-use Rattle.stitch_text.specs.Format.{stitch_list}
-use Rattle.stitch_text.specs.Laws.{IsKept, IsTextOf, KeepsLabelAndThreads}
-use Rattle.stitch_text.specs.Readings.{reads}
-use Rattle.stitch_text.specs.StitchLists.{writes}
+use Rattle.stitch_text.specs.Format.{list_meaning}
+use Rattle.stitch_text.specs.Laws.{HasLabelAndThreads, IsTextOf, LabelAndThreadsRoundTrip}
+use Rattle.stitch_text.specs.Readings.{list_reads}
+use Rattle.stitch_text.specs.StitchLists.{list_writes}
 
 -- the two numbers are not the same
 abbrev Differ : ℕ → ℕ → Type 0
 Differ m n = m ≡ n → ⊥
 
-pub known_format : (stitch_list.ending ≡ codes "lst") × (stitch_list.limit ≡ 2047)
+pub known_format : (list_meaning.ending ≡ codes "lst") × (list_meaning.limit ≡ 2047)
 known_format = (refl, refl)
 
 -- two blocks of one stitch under a label, in these threads
@@ -25,21 +25,22 @@ abbrev loaded : List ℕ → List ℕ → Loaded
 loaded label threads = record { design = design label threads; ended = true }
 
 -- the last block has the thread 5 and no other
-pub known_last_thread : IsKept (design [] (9 ∷ 5 ∷ [])) (loaded [] (9 ∷ 6 ∷ [])) → ⊥
+pub known_last_thread : HasLabelAndThreads (design [] (9 ∷ 5 ∷ [])) (loaded [] (9 ∷ 6 ∷ [])) → ⊥
 known_last_thread kept = other (kept.threads 1 (omega arith))
   where
     other : Differ 6 5
     other is = omega (arith, is)
 
-pub known_other_label : IsKept (design (codes "a") []) (loaded [] []) → ⊥
+pub known_other_label : HasLabelAndThreads (design (codes "a") []) (loaded [] []) → ⊥
 known_other_label kept = other kept.label
   where
     other : ◌≡◌ {A = List ℕ} [] (97 ∷ []) → ⊥
     other is = cc
 
 -- the greatest byte is a thread
-pub known_byte : KeepsLabelAndThreads → (d : DesignValue) (text : List ℕ) → d.threads ≡ 255 ∷ [] → KeepsLimits d → writes d ≡ Ok text
-    → IsOkAnd (reads text) (λ loaded. IsKept d loaded)
+pub known_byte : LabelAndThreadsRoundTrip → (d : DesignValue) (text : List ℕ) → d.threads ≡ 255 ∷ [] → KeepsLimits d
+    → list_writes d ≡ Ok text
+    → IsOkAnd (list_reads text) (λ loaded. HasLabelAndThreads d loaded)
 known_byte law d text is limits written = law d text limits
     (subst (All (λ thread. thread < 256)) (sym is) (byte 255 (omega arith))) written
   where

@@ -2,13 +2,13 @@ mod PartLemmas
 mod ReadingLemmas
 mod LabelLemmas
 mod StageLemmas
-mod ListStreamLemmas
+mod ListStateLemmas
 mod NumberLemmas
 mod LineLemmas
 mod ActLemmas
-pub mod Rereading
-mod Continuing
-pub mod OneText
+pub mod RoundTrip
+mod ActContinuations
+pub mod CanonicalText
 pub mod KeptLemmas
 mod FloatLemmas
 mod WriterLemmas

@@ -15,13 +15,13 @@ use Rattle.design_model.specs.declared.point.Point.{Point}
 use Rattle.design_model.specs.declared.point.TheConstants.{NEEDLE_LIMIT}
 use Rattle.design_model.specs.declared.whole_number.Whole.{Whole}
 use Rattle.design_model.specs.declared.whole_number.Whole.TheVariants as whole
-use Rattle.design_model.specs.Points.{is_within}
+use Rattle.design_model.specs.Points.{is_point_within}
 use Rattle.stitch_text.specs.declared.list_line.ListLine.{ListLine}
 use Rattle.stitch_text.specs.declared.list_line.ListLine.TheVariants as line
 use Rattle.stitch_text.specs.declared.list_line.TheConstants.{MAX_LINE}
-use Rattle.stitch_text.specs.ListLines.{block_said, line_said, needle_said, word_said, words_said}
+use Rattle.stitch_text.specs.ListLines.{parsed_block, parsed_list_line, parsed_needle, parsed_list_word, parsed_list_words}
 use Rattle.stitch_text.specs.StitchLists.{needle_line, point_line}
-use Rattle.stitch_text.specs.Words.{number_in}
+use Rattle.stitch_text.specs.Words.{canonical_number_of}
 use Rattle.text_parts.specs.Parts.{words_in}
 use Rattle.stitch_text.proofs.NumberLemmas.{is_inner, number_is, number_read, signed_inner}
 
@@ -62,13 +62,13 @@ kept_apart word rest inner kept = list_all-append is_kept word (32 ∷ rest)
     ∙ and_from (list_all is_kept word) (list_all is_kept rest) (inner_kept word inner) kept
 
 -- a line that isn't long is read by its words
-short_said : (bytes : List ℕ) → length bytes ≤ 32 → line_said bytes ≡ words_said (words_in bytes)
+short_said : (bytes : List ℕ) → length bytes ≤ 32 → parsed_list_line bytes ≡ parsed_list_words (words_in bytes)
 short_said bytes short =
     let test : nat_lt MAX_LINE (length bytes) ≡ false = grind (arith, nat_tests, short) in rw test refl
 
 -- the text of a line is parsed as the line, and has no end of a line in it
 pub record IsLine (bytes : List ℕ) (l : ListLine) : Type 0 where
-  pub said : line_said bytes ≡ Some l
+  pub parsed : parsed_list_line bytes ≡ Some l
   pub kept : Lacks bytes
 
 -- the coordinates of a needle
@@ -76,7 +76,7 @@ pub record IsNear (z : ℤ) : Type 0 where
   pub size : unsigned_abs z ≤ 30000
   pub inner : list_all is_inner (signed_decimal z) ≡ true
   pub short : length (signed_decimal z) ≤ 6
-  pub read : number_in (signed_decimal z) ≡ whole.Value z
+  pub read : canonical_number_of (signed_decimal z) ≡ whole.Value z
 
 near : (z : ℤ) → unsigned_abs z ≤ 30000 → IsNear z
 near z small = record {
@@ -89,18 +89,18 @@ near z small = record {
   by_sign (pos n) small = length_signed_le 5 (pos n) (omega (arith, small)) (omega (arith, small))
   by_sign (negsuc n) small = length_signed_le 5 (negsuc n) (omega (arith, small)) (omega (arith, small))
 
-pub near_both : (p : Point) → IsTrue (is_within NEEDLE_LIMIT p) → IsNear p.x × IsNear p.y
+pub near_both : (p : Point) → IsTrue (is_point_within NEEDLE_LIMIT p) → IsNear p.x × IsNear p.y
 near_both p within =
     let both = and_parts (nat_le (unsigned_abs p.x) NEEDLE_LIMIT) (nat_le (unsigned_abs p.y) NEEDLE_LIMIT) within in
     (near p.x (grind (arith, nat_tests, both.0)), near p.y (grind (arith, nat_tests, both.1)))
 
 -- the words of a line with a point
 record HasPoint (word : List ℕ) (p : Point) : Type 0 where
-  said : line_said (point_line word p) ≡ words_said (word ∷ signed_decimal p.x ∷ signed_decimal p.y ∷ [])
+  parsed : parsed_list_line (point_line word p) ≡ parsed_list_words (word ∷ signed_decimal p.x ∷ signed_decimal p.y ∷ [])
   kept : Lacks (point_line word p)
 
 has_point : (word : List ℕ) (p : Point) → list_all is_inner word ≡ true → length word ≤ 6
-    → IsTrue (is_within NEEDLE_LIMIT p) → HasPoint word p
+    → IsTrue (is_point_within NEEDLE_LIMIT p) → HasPoint word p
 has_point word p inner few within =
     let both = near_both p within in
     let x = signed_decimal p.x in
@@ -109,8 +109,8 @@ has_point word p inner few within =
     let inside = length-append x (32 ∷ y) in
     let short : length (point_line word p) ≤ 32 = omega (arith, outer, inside, few, both.0.short, both.1.short) in
     record {
-      said = short_said (point_line word p) short
-          ∙ ap words_said (word_apart word (x ++ 32 ∷ y) inner
+      parsed = short_said (point_line word p) short
+          ∙ ap parsed_list_words (word_apart word (x ++ 32 ∷ y) inner
           ∙ ap (λ words. word ∷ words) (word_apart x y both.0.inner ∙ ap (λ words. x ∷ words) (word_last y both.1.inner)));
       kept = lacks_from (point_line word p) (kept_apart word (x ++ 32 ∷ y) inner
           (kept_apart x y both.0.inner (inner_kept y both.1.inner)));
@@ -118,19 +118,20 @@ has_point word p inner few within =
 
 -- a needle act
 said_point : (float : Bool) (p : Point) → IsNear p.x → IsNear p.y
-    → needle_said float (number_in (signed_decimal p.x)) (number_in (signed_decimal p.y)) ≡ Some (line.Needle p float)
+    → parsed_needle float (canonical_number_of (signed_decimal p.x)) (canonical_number_of (signed_decimal p.y)) ≡ Some (line.Needle p float)
 said_point float p x y =
-    ap (λ one. needle_said float one (number_in (signed_decimal p.y))) x.read ∙ ap (needle_said float (whole.Value p.x)) y.read
+    ap (λ one. parsed_needle float one (canonical_number_of (signed_decimal p.y))) x.read
+    ∙ ap (parsed_needle float (whole.Value p.x)) y.read
 
-pub needle_is : (float : Bool) (p : Point) → IsTrue (is_within NEEDLE_LIMIT p) → IsLine (needle_line float p) (line.Needle p float)
+pub needle_is : (float : Bool) (p : Point) → IsTrue (is_point_within NEEDLE_LIMIT p) → IsLine (needle_line float p) (line.Needle p float)
 needle_is true p within =
     let has = has_point (codes "float") p refl (omega arith) within in
     let both = near_both p within in
-    record { said = has.said ∙ said_point true p both.0 both.1; kept = has.kept }
+    record { parsed = has.parsed ∙ said_point true p both.0 both.1; kept = has.kept }
 needle_is false p within =
     let has = has_point (codes "needle") p refl (omega arith) within in
     let both = near_both p within in
-    record { said = has.said ∙ said_point false p both.0 both.1; kept = has.kept }
+    record { parsed = has.parsed ∙ said_point false p both.0 both.1; kept = has.kept }
 
 -- the beginning of a block
 pub block_is : (thread : ℕ) → thread < 256 → IsLine (codes "block " ++ decimal thread) (line.Block thread)
@@ -140,14 +141,14 @@ block_is thread small =
     let bytes = codes "block " ++ decimal thread in
     let short : length bytes ≤ 32 = omega (arith, one.short) in
     record {
-      said = short_said bytes short ∙ ap words_said (word_apart (codes "block") (decimal thread) refl
+      parsed = short_said bytes short ∙ ap parsed_list_words (word_apart (codes "block") (decimal thread) refl
           ∙ ap (λ words. codes "block" ∷ words) (word_last (decimal thread) one.inner))
-          ∙ ap block_said one.read ∙ ap (λ (b : Bool). if b then Some (line.Block thread) else None) test;
+          ∙ ap parsed_block one.read ∙ ap (λ (b : Bool). if b then Some (line.Block thread) else None) test;
       kept = lacks_from bytes (kept_apart (codes "block") (decimal thread) refl (inner_kept (decimal thread) one.inner));
     }
 
 pub trim_is : IsLine (codes "trim") line.Trim
-trim_is = record { said = refl; kept = lacks_from (codes "trim") refl }
+trim_is = record { parsed = refl; kept = lacks_from (codes "trim") refl }
 
 -- the bytes that are parsed as a line
 abbrev pub SaysLine : List ℕ → ListLine → Type 0
@@ -165,14 +166,14 @@ same_word word text found = (bytes_eq-Decides word text).0 found
 is_said : (bytes : List ℕ) (one l : ListLine) → Some one ≡ Some l → SaysLine bytes one → SaysLine bytes l
 is_said bytes one l same says = subst (λ l. SaysLine bytes l) (same_Some one l same) says
 
-word_are : (word : List ℕ) (l : ListLine) → word_said word ≡ Some l → SaysLine word l
+word_are : (word : List ℕ) (l : ListLine) → parsed_list_word word ≡ Some l → SaysLine word l
 word_are word l says = by_tests (bytes_eq word (codes "trim")) (bytes_eq word (codes "end")) refl refl where
   by_tests : (trim end : Bool) → bytes_eq word (codes "trim") ≡ trim → bytes_eq word (codes "end") ≡ end → SaysLine word l
   by_tests true end is ends = is_said word line.Trim l (rw is at says) (same_word word (codes "trim") is)
   by_tests false true is ends = is_said word line.End l (rw (is, ends) at says) (same_word word (codes "end") ends)
   by_tests false false is ends = absurd (none-some l (rw (is, ends) at says))
 
-number_are : (number : List ℕ) (w : Whole) (l : ListLine) → number_in number ≡ w → block_said w ≡ Some l
+number_are : (number : List ℕ) (w : Whole) (l : ListLine) → canonical_number_of number ≡ w → parsed_block w ≡ Some l
     → SaysLine (codes "block " ++ number) l
 number_are number whole.NotANumber l read says = absurd (none-some l says)
 number_are number whole.Outside l read says = absurd (none-some l says)
@@ -185,7 +186,7 @@ number_are number (whole.Value (pos n)) l read says = by_test (nat_le n 255) ref
 
 point_are : (float : Bool) (word x y : List ℕ) (v w : Whole) (l : ListLine)
     → ((p : Point) → word ++ 32 ∷ (signed_decimal p.x ++ 32 ∷ signed_decimal p.y) ≡ needle_line float p)
-    → number_in x ≡ v → number_in y ≡ w → needle_said float v w ≡ Some l → SaysLine (word ++ 32 ∷ (x ++ 32 ∷ y)) l
+    → canonical_number_of x ≡ v → canonical_number_of y ≡ w → parsed_needle float v w ≡ Some l → SaysLine (word ++ 32 ∷ (x ++ 32 ∷ y)) l
 point_are float word x y whole.NotANumber w l kind across down says = absurd (none-some l says)
 point_are float word x y whole.Outside whole.NotANumber l kind across down says = absurd (none-some l says)
 point_are float word x y whole.Outside whole.Outside l kind across down says =
@@ -201,26 +202,26 @@ point_are float word x y (whole.Value u) (whole.Value v) l kind across down says
     (ap (λ (x : List ℕ). word ++ 32 ∷ (x ++ 32 ∷ y)) (sym (number_is x u across).is)
     ∙ ap (λ (y : List ℕ). word ++ 32 ∷ (signed_decimal u ++ 32 ∷ y)) (sym (number_is y v down).is) ∙ kind p)
 
-two_words : (word number : List ℕ) (l : ListLine) → words_said (word ∷ number ∷ []) ≡ Some l → SaysLine (word ++ 32 ∷ number) l
+two_words : (word number : List ℕ) (l : ListLine) → parsed_list_words (word ∷ number ∷ []) ≡ Some l → SaysLine (word ++ 32 ∷ number) l
 two_words word number l says = by_test (bytes_eq word (codes "block")) refl where
   by_test : (b : Bool) → bytes_eq word (codes "block") ≡ b → SaysLine (word ++ 32 ∷ number) l
   by_test true is = subst (λ (w : List ℕ). SaysLine (w ++ 32 ∷ number) l) (sym (same_word word (codes "block") is))
-      (number_are number (number_in number) l refl (rw is at says))
+      (number_are number (canonical_number_of number) l refl (rw is at says))
   by_test false is = absurd (none-some l (rw is at says))
 
-three_words : (word x y : List ℕ) (l : ListLine) → words_said (word ∷ x ∷ y ∷ []) ≡ Some l → SaysLine (word ++ 32 ∷ (x ++ 32 ∷ y)) l
+three_words : (word x y : List ℕ) (l : ListLine) → parsed_list_words (word ∷ x ∷ y ∷ []) ≡ Some l → SaysLine (word ++ 32 ∷ (x ++ 32 ∷ y)) l
 three_words word x y l says = by_tests (bytes_eq word (codes "needle")) (bytes_eq word (codes "float")) refl refl where
   by_tests : (needle float : Bool) → bytes_eq word (codes "needle") ≡ needle → bytes_eq word (codes "float") ≡ float
       → SaysLine (word ++ 32 ∷ (x ++ 32 ∷ y)) l
   by_tests true float is floats =
       subst (λ (w : List ℕ). SaysLine (w ++ 32 ∷ (x ++ 32 ∷ y)) l) (sym (same_word word (codes "needle") is))
-      (point_are false (codes "needle") x y (number_in x) (number_in y) l (λ p. refl) refl refl (rw is at says))
+      (point_are false (codes "needle") x y (canonical_number_of x) (canonical_number_of y) l (λ p. refl) refl refl (rw is at says))
   by_tests false true is floats =
       subst (λ (w : List ℕ). SaysLine (w ++ 32 ∷ (x ++ 32 ∷ y)) l) (sym (same_word word (codes "float") floats))
-      (point_are true (codes "float") x y (number_in x) (number_in y) l (λ p. refl) refl refl (rw (is, floats) at says))
+      (point_are true (codes "float") x y (canonical_number_of x) (canonical_number_of y) l (λ p. refl) refl refl (rw (is, floats) at says))
   by_tests false false is floats = absurd (none-some l (rw (is, floats) at says))
 
-words_are : (words : List (List ℕ)) (l : ListLine) → words_said words ≡ Some l → SaysLine (join_with_byte 32 words) l
+words_are : (words : List (List ℕ)) (l : ListLine) → parsed_list_words words ≡ Some l → SaysLine (join_with_byte 32 words) l
 words_are [] l says = absurd (none-some l says)
 words_are (word ∷ []) l says = word_are word l says
 words_are (word ∷ number ∷ []) l says = two_words word number l says
@@ -228,7 +229,7 @@ words_are (word ∷ x ∷ y ∷ []) l says = three_words word x y l says
 words_are (word ∷ x ∷ y ∷ more ∷ rest) l says = absurd (none-some l says)
 
 -- bytes that are parsed as a line are its canonical text
-pub line_is : (bytes : List ℕ) (l : ListLine) → line_said bytes ≡ Some l → SaysLine bytes l
+pub line_is : (bytes : List ℕ) (l : ListLine) → parsed_list_line bytes ≡ Some l → SaysLine bytes l
 line_is bytes l says = by_test (nat_lt MAX_LINE (length bytes)) refl where
   by_test : (b : Bool) → nat_lt MAX_LINE (length bytes) ≡ b → SaysLine bytes l
   by_test true is = absurd (none-some l (rw is at says))

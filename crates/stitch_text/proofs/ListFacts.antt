@@ -8,10 +8,10 @@ use Rattle.design_model.specs.declared.point.Point.{Point}
 use Rattle.design_model.specs.Acts.{numbered}
 use Rattle.design_model.specs.Designs.{DesignValue}
 use Rattle.format_traits.specs.declared.fault.WriteFault.TheVariants as fault
-use Rattle.format_traits.specs.declared.standing.Standing.{Standing}
-use Rattle.format_traits.specs.Refusals.{refusal_at}
+use Rattle.format_traits.specs.declared.encoder_state.EncoderState.{EncoderState}
+use Rattle.format_traits.specs.Refusals.{refusal_of_act}
 use Rattle.stitch_text.specs.declared.stitch_list.TheConstants.{LIMIT, MAX_STOPS}
-use Rattle.stitch_text.specs.StitchLists.{reach, writes}
+use Rattle.stitch_text.specs.StitchLists.{list_write_limits, list_writes}
 
 abbrev pub point : ℤ → ℤ → Point
 point x y = record { x = x; y = y }
@@ -37,20 +37,20 @@ abbrev pub square : DesignValue
 square = sewn (5 ∷ []) (Stitch (point (pos 0) (pos 0)) ∷ Stitch (point (pos 30) (pos 0)) ∷ Stitch (point (pos 30) (pos 30))
     ∷ Stitch (point (pos 0) (pos 30)) ∷ Stitch (point (pos 0) (pos 0)) ∷ Trim ∷ [])
 
-pub known_square : writes square ≡ Ok (lines (codes "stitch-list 1" ∷ codes "label []" ∷ codes "block 5" ∷ codes "needle 0 0"
+pub known_square : list_writes square ≡ Ok (lines (codes "stitch-list 1" ∷ codes "label []" ∷ codes "block 5" ∷ codes "needle 0 0"
     ∷ codes "needle 30 0" ∷ codes "needle 30 30" ∷ codes "needle 0 30" ∷ codes "needle 0 0" ∷ codes "trim" ∷ codes "end" ∷ []))
 unfolding digits
 known_square = refl
 
 -- an uncut jump of 400 is a float, whatever jumps it takes; a block has a thread though none is kept
-pub known_float : writes (sewn [] (Stitch (point (pos 0) (pos 0)) ∷ Jump (point (pos 100) (pos 0)) ∷ Jump (point (pos 400) (pos 0))
+pub known_float : list_writes (sewn [] (Stitch (point (pos 0) (pos 0)) ∷ Jump (point (pos 100) (pos 0)) ∷ Jump (point (pos 400) (pos 0))
     ∷ Stitch (point (pos 400) (pos 0)) ∷ []))
     ≡ Ok (lines (codes "stitch-list 1" ∷ codes "label []" ∷ codes "block 1" ∷ codes "needle 0 0" ∷ codes "float 400 0" ∷ codes "end" ∷ []))
 unfolding digits
 known_float = refl
 
 -- a label with a bracket, a loose needle far off to the left and downwards, a trim of a loose thread, which is none, and blocks
-pub known_blocks : writes (record {
+pub known_blocks : list_writes (record {
   label = codes "a] b";
   threads = 255 ∷ [];
   commands = Jump (point (pos 9) (pos 9)) ∷ Stitch (point (negsuc 29999) (pos 30000)) ∷ Stop ∷ Trim ∷ Stop ∷ [];
@@ -60,33 +60,33 @@ unfolding digits
 known_blocks = refl
 
 -- the longest stitch, and one that is longer
-pub known_longest : writes (sewn (5 ∷ []) (Stitch (point (pos 0) (pos 0)) ∷ Stitch (point (pos 2047) (negsuc 2046)) ∷ []))
+pub known_longest : list_writes (sewn (5 ∷ []) (Stitch (point (pos 0) (pos 0)) ∷ Stitch (point (pos 2047) (negsuc 2046)) ∷ []))
     ≡ Ok (lines (codes "stitch-list 1" ∷ codes "label []" ∷ codes "block 5" ∷ codes "needle 0 0"
     ∷ codes "needle 2047 -2047" ∷ codes "end" ∷ []))
 unfolding digits
 known_longest = refl
 
-pub known_long : writes (sewn (5 ∷ []) (Stitch (point (pos 0) (pos 0)) ∷ Stitch (point (pos 5) (negsuc 2047)) ∷ []))
+pub known_long : list_writes (sewn (5 ∷ []) (Stitch (point (pos 0) (pos 0)) ∷ Stitch (point (pos 5) (negsuc 2047)) ∷ []))
     ≡ Err (fault.StitchTooLong 2)
 known_long = refl
 
 -- a float of any length is written
-pub known_far : writes (sewn (5 ∷ []) (Stitch (point (pos 0) (pos 0)) ∷ Jump (point (pos 0) (pos 0))
+pub known_far : list_writes (sewn (5 ∷ []) (Stitch (point (pos 0) (pos 0)) ∷ Jump (point (pos 0) (pos 0))
     ∷ Stitch (point (pos 9000) (pos 0)) ∷ []))
     ≡ Ok (lines (codes "stitch-list 1" ∷ codes "label []" ∷ codes "block 5" ∷ codes "needle 0 0" ∷ codes "float 9000 0" ∷ codes "end" ∷ []))
 unfolding digits
 known_far = refl
 
 -- a state after n stops, with the room of the acts so far
-abbrev pub standing : ℕ → ℕ → Standing
-standing stops room = record { loose = true; place = point (pos 0) (pos 0); stops = stops; room = room }
+abbrev pub state : ℕ → ℕ → EncoderState
+state stops room = record { loose = true; place = point (pos 0) (pos 0); stops = stops; room = room }
 
 -- stop 254, stop 255, and a stop without room
-pub known_last_stop : refusal_at reach (standing 253 999999) (numbered 7 act.Stop) ≡ None
+pub known_last_stop : refusal_of_act list_write_limits (state 253 999999) (numbered 7 act.Stop) ≡ None
 known_last_stop = refl
 
-pub known_many_stops : refusal_at reach (standing 254 1000000) (numbered 7 act.Stop) ≡ Some (fault.TooManyStops 7)
+pub known_many_stops : refusal_of_act list_write_limits (state 254 1000000) (numbered 7 act.Stop) ≡ Some (fault.TooManyStops 7)
 known_many_stops = refl
 
-pub known_no_room : refusal_at reach (standing 253 1000000) (numbered 7 act.Stop) ≡ Some (fault.TooLong 7)
+pub known_no_room : refusal_of_act list_write_limits (state 253 1000000) (numbered 7 act.Stop) ≡ Some (fault.TooLong 7)
 known_no_room = refl

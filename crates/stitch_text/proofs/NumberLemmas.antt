@@ -11,8 +11,8 @@ use Rattle.std.specs.List.{list_all}
 use Rattle.std.specs.Str.{all_ascii_digits}
 use Rattle.std.specs.Str.Parse.{digits_value}
 use Rattle.design_model.specs.declared.whole_number.Whole.TheVariants as whole
-use Rattle.design_model.specs.WholeNumbers.{is_numeral, signed, signed_whole, whole_of}
-use Rattle.stitch_text.specs.Words.{begins_with_zero, is_plain, number_in}
+use Rattle.design_model.specs.WholeNumbers.{is_digit_string, signed_number, parsed_digits, parsed_whole}
+use Rattle.stitch_text.specs.Words.{has_leading_zero, is_canonical_number, canonical_number_of}
 
 -- std's view of decimal digits
 own : IsNumeralModel (λ ds. all_ascii_digits ds ≡ true) (digits_value 10)
@@ -40,18 +40,18 @@ minus_first (pos n) here = absurd (true≢false (sym (leb-zero n) ∙ here))
 minus_first (negsuc n) here = refl
 
 -- digits are parsed as the number that was written
-numeral_some : (ds : List ℕ) → 0 < length ds → all_ascii_digits ds ≡ true → is_numeral ds ≡ true
+numeral_some : (ds : List ℕ) → 0 < length ds → all_ascii_digits ds ≡ true → is_digit_string ds ≡ true
 numeral_some [] some digits = absurd (omega arith)
 numeral_some (b ∷ ds) some digits = digits
 
-digits_read : (minus : Bool) (ds : List ℕ) (n : ℕ) → is_numeral ds ≡ true → digits_value 10 ds ≡ n → n ≤ 999999999
-    → signed_whole minus ds ≡ whole.Value (signed minus n)
+digits_read : (minus : Bool) (ds : List ℕ) (n : ℕ) → is_digit_string ds ≡ true → digits_value 10 ds ≡ n → n ≤ 999999999
+    → parsed_digits minus ds ≡ whole.Value (signed_number minus n)
 digits_read minus ds n numeral value small =
     let test : nat_le n 999999999 ≡ true = grind (arith, nat_tests) in
     rw (numeral, value, test) refl
 
 -- digits begin with no minus sign
-no_minus : (ds : List ℕ) → all_ascii_digits ds ≡ true → 0 < length ds → whole_of ds ≡ signed_whole false ds
+no_minus : (ds : List ℕ) → all_ascii_digits ds ≡ true → 0 < length ds → parsed_whole ds ≡ parsed_digits false ds
 no_minus [] digits some = absurd (omega arith)
 no_minus (b ∷ ds) digits some =
     let both = and_parts (is_ascii_digit b) (all_ascii_digits ds) digits in
@@ -59,7 +59,7 @@ no_minus (b ∷ ds) digits some =
     rw test refl
 
 -- the canonical text of a number is parsed as that number
-signed_read : (z : ℤ) → unsigned_abs z ≤ 999999999 → whole_of (signed_decimal z) ≡ whole.Value z
+signed_read : (z : ℤ) → unsigned_abs z ≤ 999999999 → parsed_whole (signed_decimal z) ≡ whole.Value z
 signed_read (pos n) small =
     let fits : n < 2 ^ 64 = omega (arith, small) in
     let digits = digits_decimal own n fits in
@@ -73,11 +73,11 @@ signed_read (negsuc n) small =
     digits_read true (decimal (suc n)) (suc n) (numeral_some (decimal (suc n)) some digits) (digits_value-decimal own (suc n) fits) small
 
 -- digits that begin above zero
-above_zero : (ds : List ℕ) → 48 < get_or ds 0 0 → begins_with_zero ds ≡ false
+above_zero : (ds : List ℕ) → 48 < get_or ds 0 0 → has_leading_zero ds ≡ false
 above_zero [] more = refl
 above_zero (b ∷ ds) more = grind (arith, nat_tests, more)
 
-plain_above_zero : (ds : List ℕ) → 48 < get_or ds 0 0 → is_plain ds ≡ true
+plain_above_zero : (ds : List ℕ) → 48 < get_or ds 0 0 → is_canonical_number ds ≡ true
 plain_above_zero [] more = absurd (omega (arith, more))
 plain_above_zero (b ∷ ds) more =
     let minus : (b == 45) ≡ false = grind (arith, nat_tests, more) in
@@ -85,7 +85,7 @@ plain_above_zero (b ∷ ds) more =
     rw (minus, lead) refl
 
 -- the canonical text of a number has no leading zero
-signed_plain : (z : ℤ) → unsigned_abs z ≤ 999999999 → is_plain (signed_decimal z) ≡ true
+signed_plain : (z : ℤ) → unsigned_abs z ≤ 999999999 → is_canonical_number (signed_decimal z) ≡ true
 signed_plain (pos n) small = elim (cases_order n 0) [
   | inl none ↦ rw (none, decimal_digit 0 (omega arith)) refl
   | inr (inl less) ↦ absurd (omega (arith, less))
@@ -95,9 +95,9 @@ signed_plain (negsuc n) small =
     ap not (above_zero (decimal (suc n)) (first_decimal (suc n) (omega arith) (omega (arith, small))))
 
 -- a number is read from its canonical text
-pub number_read : (z : ℤ) → unsigned_abs z ≤ 999999999 → number_in (signed_decimal z) ≡ whole.Value z
+pub number_read : (z : ℤ) → unsigned_abs z ≤ 999999999 → canonical_number_of (signed_decimal z) ≡ whole.Value z
 number_read z small =
-    ap (λ (plain : Bool). if plain then whole_of (signed_decimal z) else whole.NotANumber) (signed_plain z small) ∙ signed_read z small
+    ap (λ (plain : Bool). if plain then parsed_whole (signed_decimal z) else whole.NotANumber) (signed_plain z small) ∙ signed_read z small
 
 -- a word that is parsed as this number
 pub record Spells (word : List ℕ) (z : ℤ) : Type 0 where
@@ -116,44 +116,44 @@ same_value y z is = cc
 
 -- what digits that are read stand on
 record AreRead (minus : Bool) (ds : List ℕ) (z : ℤ) : Type 0 where
-  numeral : is_numeral ds ≡ true
+  numeral : is_digit_string ds ≡ true
   small : digits_value 10 ds ≤ 999999999
-  value : signed minus (digits_value 10 ds) ≡ z
+  value : signed_number minus (digits_value 10 ds) ≡ z
 
-digits_are : (minus : Bool) (ds : List ℕ) (z : ℤ) → signed_whole minus ds ≡ whole.Value z → AreRead minus ds z
-digits_are minus ds z says = by_tests (is_numeral ds) (nat_le (digits_value 10 ds) 999999999) refl refl where
-  by_tests : (numeral small : Bool) → is_numeral ds ≡ numeral → nat_le (digits_value 10 ds) 999999999 ≡ small → AreRead minus ds z
+digits_are : (minus : Bool) (ds : List ℕ) (z : ℤ) → parsed_digits minus ds ≡ whole.Value z → AreRead minus ds z
+digits_are minus ds z says = by_tests (is_digit_string ds) (nat_le (digits_value 10 ds) 999999999) refl refl where
+  by_tests : (numeral small : Bool) → is_digit_string ds ≡ numeral → nat_le (digits_value 10 ds) 999999999 ≡ small → AreRead minus ds z
   by_tests false small is fits = absurd (no_value z (rw is at says))
   by_tests true false is fits = absurd (outside_value z (rw (is, fits) at says))
   by_tests true true is fits = record {
     numeral = is;
     small = grind (arith, nat_tests, fits);
-    value = same_value (signed minus (digits_value 10 ds)) z (rw (is, fits) at says);
+    value = same_value (signed_number minus (digits_value 10 ds)) z (rw (is, fits) at says);
   }
 
 -- digits without a leading zero are the canonical text of their number
-digits_spelled : (ds : List ℕ) → is_numeral ds ≡ true → (get_or ds 0 0 ≡ 48 → length ds ≡ 1) → digits_value 10 ds ≤ 999999999
+digits_spelled : (ds : List ℕ) → is_digit_string ds ≡ true → (get_or ds 0 0 ≡ 48 → length ds ≡ 1) → digits_value 10 ds ≤ 999999999
     → decimal (digits_value 10 ds) ≡ ds
 digits_spelled [] numeral lead small = absurd (let no : ⊥ = cc in no)
 digits_spelled (b ∷ ds) numeral lead small =
     decimal-digits_value own (b ∷ ds) numeral (omega arith) lead (omega (arith, small))
 
 -- a number after a minus sign
-minus_is : (ds : List ℕ) (z : ℤ) → begins_with_zero ds ≡ false → AreRead true ds z → Spells (45 ∷ ds) z
+minus_is : (ds : List ℕ) (z : ℤ) → has_leading_zero ds ≡ false → AreRead true ds z → Spells (45 ∷ ds) z
 minus_is ds z lead read =
     let text = digits_spelled ds read.numeral (λ first. absurd (no_zero ds read.numeral lead first)) read.small in
     by_value (digits_value 10 ds) text read.value read.small where
-      no_zero : (ds : List ℕ) → is_numeral ds ≡ true → begins_with_zero ds ≡ false → get_or ds 0 0 ≡ 48 → ⊥
+      no_zero : (ds : List ℕ) → is_digit_string ds ≡ true → has_leading_zero ds ≡ false → get_or ds 0 0 ≡ 48 → ⊥
       no_zero [] numeral lead first = cc
       no_zero (b ∷ ds) numeral lead first = grind (arith, nat_tests, lead, first)
 
-      zero_first : (ds : List ℕ) → decimal 0 ≡ ds → begins_with_zero ds ≡ true
-      zero_first ds is = sym (ap begins_with_zero (sym (decimal_digit 0 (omega arith)) ∙ is))
+      zero_first : (ds : List ℕ) → decimal 0 ≡ ds → has_leading_zero ds ≡ true
+      zero_first ds is = sym (ap has_leading_zero (sym (decimal_digit 0 (omega arith)) ∙ is))
 
       false_true : false ≡ true → ⊥
       false_true is = cc
 
-      by_value : (n : ℕ) → decimal n ≡ ds → signed true n ≡ z → n ≤ 999999999 → Spells (45 ∷ ds) z
+      by_value : (n : ℕ) → decimal n ≡ ds → signed_number true n ≡ z → n ≤ 999999999 → Spells (45 ∷ ds) z
       by_value zero is value small = absurd (false_true (sym lead ∙ zero_first ds is))
       by_value (suc n) is value small =
           subst (λ z. Spells (45 ∷ ds) z) value (record { is = ap (λ (ds : List ℕ). 45 ∷ ds) is; small = small })
@@ -166,17 +166,17 @@ plus_is b ds z lead read =
     subst (λ z. Spells (b ∷ ds) z) read.value (record { is = text; small = read.small })
 
 -- a word is the canonical text of the number that is read from it
-pub number_is : (word : List ℕ) (z : ℤ) → number_in word ≡ whole.Value z → Spells word z
+pub number_is : (word : List ℕ) (z : ℤ) → canonical_number_of word ≡ whole.Value z → Spells word z
 number_is [] z says = absurd (no_value z says)
-number_is (b ∷ ds) z says = by_tests (is_plain (b ∷ ds)) (b == 45) refl refl where
-  by_tests : (plain minus : Bool) → is_plain (b ∷ ds) ≡ plain → (b == 45) ≡ minus → Spells (b ∷ ds) z
+number_is (b ∷ ds) z says = by_tests (is_canonical_number (b ∷ ds)) (b == 45) refl refl where
+  by_tests : (plain minus : Bool) → is_canonical_number (b ∷ ds) ≡ plain → (b == 45) ≡ minus → Spells (b ∷ ds) z
   by_tests false minus is sign = absurd (no_value z (rw is at says))
   by_tests true true is sign =
       let first : b ≡ 45 = grind (arith, nat_tests, sign) in
-      let lead : not (begins_with_zero ds) ≡ true = rw sign at is in
-      let read : signed_whole true ds ≡ whole.Value z = rw (is, sign) at says in
-      subst (λ (b : ℕ). Spells (b ∷ ds) z) (sym first) (minus_is ds z (not-true (begins_with_zero ds) lead) (digits_are true ds z read))
+      let lead : not (has_leading_zero ds) ≡ true = rw sign at is in
+      let read : parsed_digits true ds ≡ whole.Value z = rw (is, sign) at says in
+      subst (λ (b : ℕ). Spells (b ∷ ds) z) (sym first) (minus_is ds z (not-true (has_leading_zero ds) lead) (digits_are true ds z read))
   by_tests true false is sign =
       let lead : (not (b == 48) || length ds == 0) ≡ true = rw sign at is in
-      let read : signed_whole false (b ∷ ds) ≡ whole.Value z = rw (is, sign) at says in
+      let read : parsed_digits false (b ∷ ds) ≡ whole.Value z = rw (is, sign) at says in
       plus_is b ds z lead (digits_are false (b ∷ ds) z read)

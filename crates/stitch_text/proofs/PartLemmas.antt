@@ -2,10 +2,10 @@
 use Rattle.std.proofs.Common.{◌≡◌, ◌≢◌, ℕ, ◌==◌, Bool, true, false, cond, List, [], ◌∷◌, ◌++◌, length, ap, sym, refl, ◌∙◌, arith}
 use Rattle.std.proofs.lemmas.List.Splits.{length-slice_split}
 use Rattle.std.specs.List.{onto_first}
-use Rattle.text_parts.specs.Parts.{parted}
+use Rattle.text_parts.specs.Parts.{parts_between}
 
 -- there is a part at least
-pub some_part : (mark : ℕ) (bytes : List ℕ) → parted mark bytes ≢ []
+pub some_part : (mark : ℕ) (bytes : List ℕ) → parts_between mark bytes ≢ []
 some_part mark bytes none =
     absurd (omega (arith, length-slice_split (λ (b : ℕ). b == mark) bytes, ap length none))
 
@@ -30,27 +30,28 @@ before_parts b false (part ∷ []) (next ∷ behind) some more = refl
 before_parts b false (part ∷ other ∷ parts) (next ∷ behind) some more = refl
 
 -- the parts of bytes one after another
-parts_on : (mark : ℕ) (bytes more : List ℕ) → parted mark (bytes ++ more) ≡ onto_last (parted mark bytes) (parted mark more)
-parts_on mark [] more = behind_none (parted mark more) (some_part mark more) where
+parts_on : (mark : ℕ) (bytes more : List ℕ) → parts_between mark (bytes ++ more)
+    ≡ onto_last (parts_between mark bytes) (parts_between mark more)
+parts_on mark [] more = behind_none (parts_between mark more) (some_part mark more) where
   behind_none : (parts : List (List ℕ)) → parts ≢ [] → parts ≡ onto_part [] parts
   behind_none [] some = absurd (some refl)
   behind_none (part ∷ parts) some = refl
 parts_on mark (b ∷ bytes) more =
     ap (λ parts. cond (b == mark) ([] ∷ parts) (onto_first b parts)) (parts_on mark bytes more)
-    ∙ sym (before_parts b (b == mark) (parted mark bytes) (parted mark more) (some_part mark bytes) (some_part mark more))
+    ∙ sym (before_parts b (b == mark) (parts_between mark bytes) (parts_between mark more) (some_part mark bytes) (some_part mark more))
 
 -- a part that has ended stays, whatever bytes follow
-pub ended_part : (mark : ℕ) (bytes line after more : List ℕ) → parted mark bytes ≡ line ∷ parted mark after
-    → parted mark (bytes ++ more) ≡ line ∷ parted mark (after ++ more)
+pub ended_part : (mark : ℕ) (bytes line after more : List ℕ) → parts_between mark bytes ≡ line ∷ parts_between mark after
+    → parts_between mark (bytes ++ more) ≡ line ∷ parts_between mark (after ++ more)
 ended_part mark bytes line after more are =
-    parts_on mark bytes more ∙ ap (λ parts. onto_last parts (parted mark more)) are
-    ∙ behind (parted mark after) (some_part mark after) ∙ ap (λ parts. line ∷ parts) (sym (parts_on mark after more)) where
+    parts_on mark bytes more ∙ ap (λ parts. onto_last parts (parts_between mark more)) are
+    ∙ behind (parts_between mark after) (some_part mark after) ∙ ap (λ parts. line ∷ parts) (sym (parts_on mark after more)) where
       behind : (parts : List (List ℕ)) → parts ≢ []
-          → onto_last (line ∷ parts) (parted mark more) ≡ line ∷ onto_last parts (parted mark more)
+          → onto_last (line ∷ parts) (parts_between mark more) ≡ line ∷ onto_last parts (parts_between mark more)
       behind [] some = absurd (some refl)
       behind (part ∷ parts) some = refl
 
 -- a part that hasn't ended goes on
-pub open_part : (mark : ℕ) (part more : List ℕ) → parted mark part ≡ part ∷ []
-    → parted mark (part ++ more) ≡ onto_part part (parted mark more)
-open_part mark part more is = parts_on mark part more ∙ ap (λ parts. onto_last parts (parted mark more)) is
+pub open_part : (mark : ℕ) (part more : List ℕ) → parts_between mark part ≡ part ∷ []
+    → parts_between mark (part ++ more) ≡ onto_part part (parts_between mark more)
+open_part mark part more is = parts_on mark part more ∙ ap (λ parts. onto_last parts (parts_between mark more)) is

@@ -2,90 +2,95 @@
 use Rattle.std.proofs.Common.{◌≡◌, ◌≢◌, ℕ, ◌+◌, List, [], ◌∷◌, Option, Bool, false, Result, bytes_eq, codes, length, if◌then◌else◌, ap, sym, refl, ◌∙◌}
 use Rattle.design_model.specs.Designs.{DesignValue}
 use Rattle.format_traits.specs.declared.fault.ReadFault.{ReadFault}
-use Rattle.stitch_text.specs.declared.draft.Draft.{Draft}
+use Rattle.stitch_text.specs.declared.list_draft.ListDraft.{ListDraft}
 use Rattle.stitch_text.specs.declared.list_line.ListLine.{ListLine}
-use Rattle.stitch_text.specs.ListLines.{label_said, line_said, words_said}
-use Rattle.stitch_text.specs.Judging.{judged}
-use Rattle.stitch_text.specs.Readings.{Said, acts_said, block_first, by_block, by_label, by_signature, ended, goes_on, is_end, label_first, next_line, on_line, signature_first, thread_said}
-use Rattle.stitch_text.specs.StitchLists.{first_line}
-use Rattle.text_parts.specs.Parts.{parted, words_in}
+use Rattle.stitch_text.specs.ListLines.{parsed_label, parsed_list_line, parsed_list_words}
+use Rattle.stitch_text.specs.Judging.{draft_after_line}
+use Rattle.stitch_text.specs.Readings.{ParsedList, parsed_acts, parsed_from_block, after_block_line, after_label_line, after_signature_line, ended_list, continued_with, is_end_line, parsed_from_label, with_next_line, parsed_end_or_line, parsed_from_signature, parsed_thread}
+use Rattle.stitch_text.specs.StitchLists.{signature_line}
+use Rattle.text_parts.specs.Parts.{parts_between, words_in}
 use Rattle.stitch_text.proofs.PartLemmas.{some_part}
 
 -- a line that has an end
-next_of_more : (at : ℕ) (d : DesignValue) (line : List ℕ) (rest : List (List ℕ)) (f : List ℕ → List (List ℕ) → Said)
-    → rest ≢ [] → next_line at d (line ∷ rest) f ≡ f line rest
+next_of_more : (at : ℕ) (d : DesignValue) (line : List ℕ) (rest : List (List ℕ)) (f : List ℕ → List (List ℕ) → ParsedList)
+    → rest ≢ [] → with_next_line at d (line ∷ rest) f ≡ f line rest
 next_of_more at d line [] f some = absurd (some refl)
 next_of_more at d line (next ∷ rest) f some = refl
 
-pub next_is : (at : ℕ) (d : DesignValue) (text line after : List ℕ) (f : List ℕ → List (List ℕ) → Said)
-    → parted 10 text ≡ line ∷ parted 10 after → next_line at d (parted 10 text) f ≡ f line (parted 10 after)
+pub next_is : (at : ℕ) (d : DesignValue) (text line after : List ℕ) (f : List ℕ → List (List ℕ) → ParsedList)
+    → parts_between 10 text ≡ line ∷ parts_between 10 after
+    → with_next_line at d (parts_between 10 text) f ≡ f line (parts_between 10 after)
 next_is at d text line after f are =
-    ap (λ parts. next_line at d parts f) are ∙ next_of_more at d line (parted 10 after) f (some_part 10 after)
+    ap (λ parts. with_next_line at d parts f) are ∙ next_of_more at d line (parts_between 10 after) f (some_part 10 after)
 
 -- the same of a line of acts
-acts_of_more : (at : ℕ) (draft : Draft) (line : List ℕ) (rest : List (List ℕ)) → rest ≢ []
-    → acts_said at draft (line ∷ rest)
-    ≡ on_line at draft (line_said line) (ended (at + length line + 1) draft.design rest)
-    (λ new. acts_said (at + length line + 1) new rest)
+acts_of_more : (at : ℕ) (draft : ListDraft) (line : List ℕ) (rest : List (List ℕ)) → rest ≢ []
+    → parsed_acts at draft (line ∷ rest)
+    ≡ parsed_end_or_line at draft (parsed_list_line line) (ended_list (at + length line + 1) draft.design rest)
+    (λ new. parsed_acts (at + length line + 1) new rest)
 acts_of_more at draft line [] some = absurd (some refl)
 acts_of_more at draft line (next ∷ rest) some = refl
 
-pub acts_are : (at : ℕ) (draft : Draft) (text line after : List ℕ) → parted 10 text ≡ line ∷ parted 10 after
-    → acts_said at draft (parted 10 text)
-    ≡ on_line at draft (line_said line) (ended (at + length line + 1) draft.design (parted 10 after))
-    (λ new. acts_said (at + length line + 1) new (parted 10 after))
+pub acts_are : (at : ℕ) (draft : ListDraft) (text line after : List ℕ) → parts_between 10 text ≡ line ∷ parts_between 10 after
+    → parsed_acts at draft (parts_between 10 text)
+    ≡ parsed_end_or_line at draft (parsed_list_line line) (ended_list (at + length line + 1) draft.design (parts_between 10 after))
+    (λ new. parsed_acts (at + length line + 1) new (parts_between 10 after))
 acts_are at draft text line after are =
-    ap (acts_said at draft) are ∙ acts_of_more at draft line (parted 10 after) (some_part 10 after)
+    ap (parsed_acts at draft) are ∙ acts_of_more at draft line (parts_between 10 after) (some_part 10 after)
 
 -- four words and more are no line
-four_words : (word x y : List ℕ) (words : List (List ℕ)) → words ≢ [] → words_said (word ∷ x ∷ y ∷ words) ≡ words_said []
+four_words : (word x y : List ℕ) (words : List (List ℕ)) → words ≢ [] → parsed_list_words (word ∷ x ∷ y ∷ words) ≡ parsed_list_words []
 four_words word x y [] some = absurd (some refl)
 four_words word x y (next ∷ words) some = refl
 
 pub many_words : (word x behind y rest : List ℕ) → words_in behind ≡ y ∷ words_in rest
-    → words_said (word ∷ x ∷ words_in behind) ≡ words_said []
+    → parsed_list_words (word ∷ x ∷ words_in behind) ≡ parsed_list_words []
 many_words word x behind y rest are =
-    ap (λ words. words_said (word ∷ x ∷ words)) are ∙ four_words word x y (words_in rest) (some_part 32 rest)
+    ap (λ words. parsed_list_words (word ∷ x ∷ words)) are ∙ four_words word x y (words_in rest) (some_part 32 rest)
 
 -- another word before two or more is no line
 pub other_word : (word x : List ℕ) (words : List (List ℕ)) → words ≢ [] → bytes_eq word (codes "needle") ≡ false
-    → bytes_eq word (codes "float") ≡ false → words_said (word ∷ x ∷ words) ≡ words_said []
+    → bytes_eq word (codes "float") ≡ false → parsed_list_words (word ∷ x ∷ words) ≡ parsed_list_words []
 other_word word x [] some sewn float = absurd (some refl)
 other_word word x (y ∷ []) some sewn float = rw (sewn, float) refl
 other_word word x (y ∷ next ∷ words) some sewn float = refl
 
 -- a line that is judged
-pub acts_judged : (at : ℕ) (draft : Draft) (text line after : List ℕ) (said : Option ListLine)
-    (judgement : Result Draft ReadFault) (total : Said)
-    → acts_said at draft (parted 10 text) ≡ total → parted 10 text ≡ line ∷ parted 10 after → said ≡ line_said line
-    → is_end said ≡ false → judged at draft said ≡ judgement
-    → goes_on draft judgement (λ new. acts_said (at + length line + 1) new (parted 10 after)) ≡ total
-acts_judged at draft text line after said judgement total whole are is other so =
-    let more = λ (new : Draft). acts_said (at + length line + 1) new (parted 10 after) in
-    let over = ended (at + length line + 1) draft.design (parted 10 after) in
+pub acts_judged : (at : ℕ) (draft : ListDraft) (text line after : List ℕ) (parsed : Option ListLine)
+    (judgement : Result ListDraft ReadFault) (total : ParsedList)
+    → parsed_acts at draft (parts_between 10 text) ≡ total → parts_between 10 text ≡ line ∷ parts_between 10 after
+    → parsed ≡ parsed_list_line line
+    → is_end_line parsed ≡ false → draft_after_line at draft parsed ≡ judgement
+    → continued_with draft judgement (λ new. parsed_acts (at + length line + 1) new (parts_between 10 after)) ≡ total
+acts_judged at draft text line after parsed judgement total whole are is other so =
+    let more = λ (new : ListDraft). parsed_acts (at + length line + 1) new (parts_between 10 after) in
+    let over = ended_list (at + length line + 1) draft.design (parts_between 10 after) in
     sym (acts_are at draft text line after are
-    ∙ ap (λ said. on_line at draft said over more) (sym is)
-    ∙ ap (λ (b : Bool). if b then over else goes_on draft (judged at draft said) more) other
-    ∙ ap (λ j. goes_on draft j more) so) ∙ whole
+    ∙ ap (λ parsed. parsed_end_or_line at draft parsed over more) (sym is)
+    ∙ ap (λ (b : Bool). if b then over else continued_with draft (draft_after_line at draft parsed) more) other
+    ∙ ap (λ j. continued_with draft j more) so) ∙ whole
 
 -- the first block
-pub block_is : (at : ℕ) (d : DesignValue) (text line after : List ℕ) (thread : Option ℕ) → parted 10 text ≡ line ∷ parted 10 after
-    → thread ≡ thread_said (line_said line)
-    → block_first at d (parted 10 text) ≡ by_block at d line thread (parted 10 after)
+pub block_is : (at : ℕ) (d : DesignValue) (text line after : List ℕ) (thread : Option ℕ)
+    → parts_between 10 text ≡ line ∷ parts_between 10 after
+    → thread ≡ parsed_thread (parsed_list_line line)
+    → parsed_from_block at d (parts_between 10 text) ≡ after_block_line at d line thread (parts_between 10 after)
 block_is at d text line after thread are is =
-    next_is at d text line after (λ bytes rest. by_block at d bytes (thread_said (line_said bytes)) rest) are
-    ∙ ap (λ one. by_block at d line one (parted 10 after)) (sym is)
+    next_is at d text line after (λ bytes rest. after_block_line at d bytes (parsed_thread (parsed_list_line bytes)) rest) are
+    ∙ ap (λ one. after_block_line at d line one (parts_between 10 after)) (sym is)
 
 -- the label
-pub label_is : (at : ℕ) (d : DesignValue) (text line after : List ℕ) (label : Option (List ℕ)) → parted 10 text ≡ line ∷ parted 10 after
-    → label_said line ≡ label → label_first at d (parted 10 text) ≡ by_label at d line label (parted 10 after)
+pub label_is : (at : ℕ) (d : DesignValue) (text line after : List ℕ) (label : Option (List ℕ))
+    → parts_between 10 text ≡ line ∷ parts_between 10 after
+    → parsed_label line ≡ label → parsed_from_label at d (parts_between 10 text) ≡ after_label_line at d line label (parts_between 10 after)
 label_is at d text line after label are is =
-    next_is at d text line after (λ bytes rest. by_label at d bytes (label_said bytes) rest) are
-    ∙ ap (λ one. by_label at d line one (parted 10 after)) is
+    next_is at d text line after (λ bytes rest. after_label_line at d bytes (parsed_label bytes) rest) are
+    ∙ ap (λ one. after_label_line at d line one (parts_between 10 after)) is
 
 -- the first line
-pub first_is : (at : ℕ) (d : DesignValue) (text line after : List ℕ) (first : Bool) → parted 10 text ≡ line ∷ parted 10 after
-    → bytes_eq line first_line ≡ first → signature_first at d (parted 10 text) ≡ by_signature at d first line (parted 10 after)
+pub first_is : (at : ℕ) (d : DesignValue) (text line after : List ℕ) (first : Bool) → parts_between 10 text ≡ line ∷ parts_between 10 after
+    → bytes_eq line signature_line ≡ first → parsed_from_signature at d (parts_between 10 text)
+    ≡ after_signature_line at d first line (parts_between 10 after)
 first_is at d text line after first are is =
-    next_is at d text line after (λ bytes rest. by_signature at d (bytes_eq bytes first_line) bytes rest) are
-    ∙ ap (λ one. by_signature at d one line (parted 10 after)) is
+    next_is at d text line after (λ bytes rest. after_signature_line at d (bytes_eq bytes signature_line) bytes rest) are
+    ∙ ap (λ one. after_signature_line at d one line (parts_between 10 after)) is

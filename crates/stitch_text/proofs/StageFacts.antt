@@ -6,10 +6,10 @@ use Rattle.design_model.specs.declared.point.Point.{Point}
 use Rattle.design_model.specs.Designs.{DesignValue}
 use Rattle.format_traits.specs.declared.fault.ReadFault.{ReadFault}
 use Rattle.format_traits.specs.declared.fault.ReadFault.TheVariants as fault
-use Rattle.stitch_text.specs.declared.draft.Draft.{Draft}
+use Rattle.stitch_text.specs.declared.list_draft.ListDraft.{ListDraft}
 use Rattle.stitch_text.specs.declared.list_stage.ListStage.TheVariants as stage
-use Rattle.stitch_text.specs.ListStages.{beyond, blank, fault_at, is_at_acts, is_before_acts, most_waiting, parts_said}
-use Rattle.stitch_text.specs.Readings.{Said}
+use Rattle.stitch_text.specs.ListStages.{stage_after_long_line, blank_draft, fault_at_end, is_at_acts, is_before_acts, max_waiting_in, parsed_parts}
+use Rattle.stitch_text.specs.Readings.{ParsedList}
 
 abbrev pub place : Point
 place = record { x = pos 3; y = pos 4 }
@@ -18,67 +18,69 @@ abbrev pub design : List Command → DesignValue
 design commands = record { label = codes "a"; threads = 5 ∷ []; commands = commands }
 
 -- a needle was read
-abbrev pub begun : Draft
-begun = record { design = design (Stitch place ∷ []); standing = record { loose = false; place = place; stops = 0; room = 2 } }
+abbrev pub begun : ListDraft
+begun = record { design = design (Stitch place ∷ []); state = record { loose = false; place = place; stops = 0; room = 2 } }
 
-abbrev pub said : List Command → Option ReadFault → Said
-said commands f = record { design = design commands; fault = f }
+abbrev pub parsed : List Command → Option ReadFault → ParsedList
+parsed commands f = record { design = design commands; fault = f }
 
 -- a list that begins at the offset 5, and one whose first line is another
-pub known_first : (parts_said blank stage.First 5 (codes "stitch-list 1" ∷ codes "lab" ∷ [])).fault ≡ Some (fault.Short 22)
+pub known_first : (parsed_parts blank_draft stage.First 5 (codes "stitch-list 1" ∷ codes "lab" ∷ [])).fault ≡ Some (fault.Short 22)
 known_first = refl
 
-pub known_signature : (parts_said blank stage.First 5 (codes "stitch-list 2" ∷ codes "lab" ∷ [])).fault ≡ Some (fault.Signature 5)
+pub known_signature : (parsed_parts blank_draft stage.First 5 (codes "stitch-list 2" ∷ codes "lab" ∷ [])).fault ≡ Some (fault.Signature 5)
 known_signature = refl
 
 -- the label and the first block
-pub known_label : (parts_said blank stage.Label 19 (codes "label [a]" ∷ codes "block 5" ∷ codes "end" ∷ [] ∷ [])) ≡ said [] None
+pub known_label : (parsed_parts blank_draft stage.Label 19 (codes "label [a]" ∷ codes "block 5" ∷ codes "end" ∷ [] ∷ [])) ≡ parsed [] None
 known_label = refl
 
-pub known_block : (parts_said blank stage.Block 29 (codes "block 256" ∷ [] ∷ [])).fault ≡ Some (fault.Control 29)
+pub known_block : (parsed_parts blank_draft stage.Block 29 (codes "block 256" ∷ [] ∷ [])).fault ≡ Some (fault.Control 29)
 known_block = refl
 
 -- acts after the needle
-pub known_acts : parts_said begun stage.Acts 50 (codes "trim" ∷ codes "trim" ∷ [] ∷ [])
-    ≡ said (Stitch place ∷ Trim ∷ []) (Some (fault.Control 55))
+pub known_acts : parsed_parts begun stage.Acts 50 (codes "trim" ∷ codes "trim" ∷ [] ∷ [])
+    ≡ parsed (Stitch place ∷ Trim ∷ []) (Some (fault.Control 55))
 known_acts = refl
 
 -- in a line that is too long, which ends or doesn't
-pub known_long : parts_said begun (stage.Long (fault.Control 50)) 90 (codes "12" ∷ codes "end" ∷ [] ∷ [])
-    ≡ said (Stitch place ∷ []) (Some (fault.Control 50))
+pub known_long : parsed_parts begun (stage.Long (fault.Control 50)) 90 (codes "12" ∷ codes "end" ∷ [] ∷ [])
+    ≡ parsed (Stitch place ∷ []) (Some (fault.Control 50))
 known_long = refl
 
-pub known_long_open : parts_said begun (stage.Long (fault.Control 50)) 90 (codes "12" ∷ [])
-    ≡ said (Stitch place ∷ []) (Some (fault.Short 92))
+pub known_long_open : parsed_parts begun (stage.Long (fault.Control 50)) 90 (codes "12" ∷ [])
+    ≡ parsed (Stitch place ∷ []) (Some (fault.Short 92))
 known_long_open = refl
 
 -- after the last line, and after a refusal
-pub known_ended : parts_said begun stage.Ended 54 ([] ∷ []) ≡ said (Stitch place ∷ []) None
+pub known_ended : parsed_parts begun stage.Ended 54 ([] ∷ []) ≡ parsed (Stitch place ∷ []) None
 known_ended = refl
 
-pub known_behind : parts_said begun stage.Ended 54 ([] ∷ [] ∷ []) ≡ said (Stitch place ∷ []) (Some (fault.Control 54))
+pub known_behind : parsed_parts begun stage.Ended 54 ([] ∷ [] ∷ []) ≡ parsed (Stitch place ∷ []) (Some (fault.Control 54))
 known_behind = refl
 
-pub known_refused : parts_said begun (stage.Refused (fault.Range 31)) 54 (codes "end" ∷ [] ∷ [])
-    ≡ said (Stitch place ∷ []) (Some (fault.Range 31))
+pub known_refused : parsed_parts begun (stage.Refused (fault.Range 31)) 54 (codes "end" ∷ [] ∷ [])
+    ≡ parsed (Stitch place ∷ []) (Some (fault.Range 31))
 known_refused = refl
 
 -- a list that ends at the offset 54
-pub known_faults : fault_at 54 stage.First ∷ fault_at 54 stage.Label ∷ fault_at 54 stage.Block ∷ fault_at 54 stage.Acts
-    ∷ fault_at 54 (stage.Long (fault.Control 20)) ∷ fault_at 54 stage.Ended ∷ fault_at 54 (stage.Refused (fault.Range 31)) ∷ []
+pub known_faults : fault_at_end 54 stage.First ∷ fault_at_end 54 stage.Label ∷ fault_at_end 54 stage.Block ∷ fault_at_end 54 stage.Acts
+    ∷ fault_at_end 54 (stage.Long (fault.Control 20)) ∷ fault_at_end 54 stage.Ended ∷ fault_at_end 54 (stage.Refused (fault.Range 31)) ∷ []
     ≡ Some (fault.Short 54) ∷ Some (fault.Short 54) ∷ Some (fault.Short 54) ∷ Some (fault.Short 54)
     ∷ Some (fault.Short 54) ∷ None ∷ Some (fault.Range 31) ∷ []
 known_faults = refl
 
 -- the bytes of a line that are kept
-pub known_waiting : most_waiting stage.First ∷ most_waiting stage.Label ∷ most_waiting stage.Block ∷ most_waiting stage.Acts
-    ∷ most_waiting (stage.Long (fault.Control 20)) ∷ most_waiting stage.Ended ∷ most_waiting (stage.Refused (fault.Range 31)) ∷ []
+pub known_waiting : max_waiting_in stage.First ∷ max_waiting_in stage.Label ∷ max_waiting_in stage.Block ∷ max_waiting_in stage.Acts
+    ∷ max_waiting_in (stage.Long (fault.Control 20)) ∷ max_waiting_in stage.Ended ∷ max_waiting_in (stage.Refused (fault.Range 31)) ∷ []
     ≡ 32 ∷ 32 ∷ 32 ∷ 32 ∷ 0 ∷ 0 ∷ 0 ∷ []
 known_waiting = refl
 
 -- after more bytes than these of a line at the offset 20
-pub known_beyond : beyond 20 stage.First ∷ beyond 20 stage.Label ∷ beyond 20 stage.Block ∷ beyond 20 stage.Acts
-    ∷ beyond 20 (stage.Long (fault.Control 7)) ∷ beyond 20 stage.Ended ∷ beyond 20 (stage.Refused (fault.Range 7)) ∷ []
+pub known_beyond : stage_after_long_line 20 stage.First ∷ stage_after_long_line 20 stage.Label ∷ stage_after_long_line 20 stage.Block
+    ∷ stage_after_long_line 20 stage.Acts
+    ∷ stage_after_long_line 20 (stage.Long (fault.Control 7)) ∷ stage_after_long_line 20 stage.Ended
+    ∷ stage_after_long_line 20 (stage.Refused (fault.Range 7)) ∷ []
     ≡ stage.Long (fault.Signature 20) ∷ stage.Long (fault.Control 20) ∷ stage.Long (fault.Control 20) ∷ stage.Long (fault.Control 20)
     ∷ stage.Long (fault.Control 7) ∷ stage.Refused (fault.Control 20) ∷ stage.Refused (fault.Range 7) ∷ []
 known_beyond = refl

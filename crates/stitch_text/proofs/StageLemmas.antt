@@ -4,27 +4,27 @@ use Rattle.std.proofs.lemmas.Bool.{lt-ltb}
 use Rattle.std.proofs.lemmas.Slice.Eq.{bytes_eq-Decides}
 use Rattle.design_model.specs.Designs.{DesignValue}
 use Rattle.format_traits.specs.declared.fault.ReadFault.TheVariants as read
-use Rattle.stitch_text.specs.declared.draft.Draft.{Draft}
+use Rattle.stitch_text.specs.declared.list_draft.ListDraft.{ListDraft}
 use Rattle.stitch_text.specs.declared.list_stage.ListStage.{ListStage}
 use Rattle.stitch_text.specs.declared.list_stage.ListStage.TheVariants as stage
-use Rattle.stitch_text.specs.ListLines.{label_said, line_said, words_said}
-use Rattle.stitch_text.specs.ListStages.{beyond, fault_at, most_waiting, parts_said}
-use Rattle.stitch_text.specs.Readings.{acts_said, by_block, by_label, by_signature, ended, on_line, refused, thread_said}
-use Rattle.stitch_text.specs.StitchLists.{first_line}
+use Rattle.stitch_text.specs.ListLines.{parsed_label, parsed_list_line, parsed_list_words}
+use Rattle.stitch_text.specs.ListStages.{stage_after_long_line, fault_at_end, max_waiting_in, parsed_parts}
+use Rattle.stitch_text.specs.Readings.{parsed_acts, after_block_line, after_label_line, after_signature_line, ended_list, parsed_end_or_line, refused_list, parsed_thread}
+use Rattle.stitch_text.specs.StitchLists.{signature_line}
 use Rattle.text_parts.specs.Parts.{words_in}
 use Rattle.stitch_text.proofs.LabelLemmas.{label_from, label_is}
 use Rattle.stitch_text.proofs.PartLemmas.{onto_part}
 
 -- no first line is so long, no line of a label, and no other line
-long_first : (line : List ℕ) → 32 < length line → bytes_eq line first_line ≡ false
-long_first line long = by_test (bytes_eq line first_line) refl where
-  by_test : (b : Bool) → bytes_eq line first_line ≡ b → bytes_eq line first_line ≡ false
-  by_test true is = absurd (let same = ap length ((bytes_eq-Decides line first_line).0 is) in omega (arith, same, long))
+long_first : (line : List ℕ) → 32 < length line → bytes_eq line signature_line ≡ false
+long_first line long = by_test (bytes_eq line signature_line) refl where
+  by_test : (b : Bool) → bytes_eq line signature_line ≡ b → bytes_eq line signature_line ≡ false
+  by_test true is = absurd (let same = ap length ((bytes_eq-Decides line signature_line).0 is) in omega (arith, same, long))
   by_test false is = is
 
-long_label : (line : List ℕ) → 32 < length line → label_said line ≡ None
-long_label line long = by_label_said (label_said line) refl where
-  by_label_said : (o : Option (List ℕ)) → label_said line ≡ o → label_said line ≡ None
+long_label : (line : List ℕ) → 32 < length line → parsed_label line ≡ None
+long_label line long = by_label_said (parsed_label line) refl where
+  by_label_said : (o : Option (List ℕ)) → parsed_label line ≡ o → parsed_label line ≡ None
   by_label_said None is = is
   by_label_said (Some label) is =
       let has = label_is line label is in
@@ -33,26 +33,30 @@ long_label line long = by_label_said (label_said line) refl where
       let same = ap length has.is in
       absurd (omega (arith, size, same, few, long))
 
-long_line : (line : List ℕ) → 32 < length line → line_said line ≡ None
-long_line line long = ap (λ (b : Bool). if b then None else words_said (words_in line)) (lt-ltb 32 (length line) long)
+long_line : (line : List ℕ) → 32 < length line → parsed_list_line line ≡ None
+long_line line long = ap (λ (b : Bool). if b then None else parsed_list_words (words_in line)) (lt-ltb 32 (length line) long)
 
 -- a line that is too long to be right, with what may end it
-pub goes_beyond : (draft : Draft) (stage : ListStage) (at : ℕ) (part : List ℕ) (parts : List (List ℕ)) → most_waiting stage < length part
-    → parts ≢ [] → parts_said draft stage at (onto_part part parts) ≡ parts_said draft (beyond at stage) (at + length part) parts
+pub goes_beyond : (draft : ListDraft) (stage : ListStage) (at : ℕ) (part : List ℕ) (parts : List (List ℕ))
+    → max_waiting_in stage < length part
+    → parts ≢ [] → parsed_parts draft stage at (onto_part part parts)
+    ≡ parsed_parts draft (stage_after_long_line at stage) (at + length part) parts
 goes_beyond draft s at part [] long some = absurd (some refl)
 goes_beyond draft s at part (end ∷ []) long some = by_stage s long where
   there : at + length (part ++ end) ≡ at + length part + length end
   there = omega (arith, length-append part end)
 
-  short : refused draft.design (read.Short (at + length (part ++ end))) ≡ refused draft.design (read.Short (at + length part + length end))
-  short = ap (λ n. refused draft.design (read.Short n)) there
+  short : refused_list draft.design (read.Short (at + length (part ++ end)))
+      ≡ refused_list draft.design (read.Short (at + length part + length end))
+  short = ap (λ n. refused_list draft.design (read.Short n)) there
 
-  behind_end : (bytes : List ℕ) → 0 < length bytes → ended at draft.design ((bytes ++ end) ∷ []) ≡ refused draft.design (read.Control at)
+  behind_end : (bytes : List ℕ) → 0 < length bytes
+      → ended_list at draft.design ((bytes ++ end) ∷ []) ≡ refused_list draft.design (read.Control at)
   behind_end [] some = absurd (omega (arith, some))
   behind_end (b ∷ bytes) some = refl
 
-  by_stage : (s : ListStage) → most_waiting s < length part
-      → parts_said draft s at ((part ++ end) ∷ []) ≡ parts_said draft (beyond at s) (at + length part) (end ∷ [])
+  by_stage : (s : ListStage) → max_waiting_in s < length part
+      → parsed_parts draft s at ((part ++ end) ∷ []) ≡ parsed_parts draft (stage_after_long_line at s) (at + length part) (end ∷ [])
   by_stage stage.First long = short
   by_stage stage.Label long = short
   by_stage stage.Block long = short
@@ -73,24 +77,25 @@ goes_beyond draft s at part (end ∷ next ∷ more) long some = by_stage s long 
   rest : List (List ℕ)
   rest = next ∷ more
 
-  behind_end : (bytes : List ℕ) → 0 < length bytes → ended at d ((bytes ++ end) ∷ next ∷ more) ≡ refused d (read.Control at)
+  behind_end : (bytes : List ℕ) → 0 < length bytes → ended_list at d ((bytes ++ end) ∷ next ∷ more) ≡ refused_list d (read.Control at)
   behind_end [] some = absurd (omega (arith, some))
   behind_end (b ∷ bytes) some = refl
 
-  by_stage : (s : ListStage) → most_waiting s < length part
-      → parts_said draft s at ((part ++ end) ∷ next ∷ more) ≡ parts_said draft (beyond at s) (at + length part) (end ∷ next ∷ more)
-  by_stage stage.First long = ap (λ (b : Bool). by_signature at d b line rest) (long_first line (longer long))
-  by_stage stage.Label long = ap (λ o. by_label at d line o rest) (long_label line (longer long))
-  by_stage stage.Block long = ap (λ o. by_block at d line (thread_said o) rest) (long_line line (longer long))
-  by_stage stage.Acts long = ap (λ o. on_line at draft o (ended (at + length line + 1) d rest)
-      (λ new. acts_said (at + length line + 1) new rest)) (long_line line (longer long))
+  by_stage : (s : ListStage) → max_waiting_in s < length part
+      → parsed_parts draft s at ((part ++ end) ∷ next ∷ more)
+      ≡ parsed_parts draft (stage_after_long_line at s) (at + length part) (end ∷ next ∷ more)
+  by_stage stage.First long = ap (λ (b : Bool). after_signature_line at d b line rest) (long_first line (longer long))
+  by_stage stage.Label long = ap (λ o. after_label_line at d line o rest) (long_label line (longer long))
+  by_stage stage.Block long = ap (λ o. after_block_line at d line (parsed_thread o) rest) (long_line line (longer long))
+  by_stage stage.Acts long = ap (λ o. parsed_end_or_line at draft o (ended_list (at + length line + 1) d rest)
+      (λ new. parsed_acts (at + length line + 1) new rest)) (long_line line (longer long))
   by_stage (stage.Long f) long = refl
   by_stage stage.Ended long = behind_end part long
   by_stage (stage.Refused f) long = refl
 
 -- the parsed list of a text that ends in a line
-pub ends_here : (draft : Draft) (stage : ListStage) (at : ℕ) (part : List ℕ) → length part ≤ most_waiting stage
-    → parts_said draft stage at (part ∷ []) ≡ record { design = draft.design; fault = fault_at (at + length part) stage }
+pub ends_here : (draft : ListDraft) (stage : ListStage) (at : ℕ) (part : List ℕ) → length part ≤ max_waiting_in stage
+    → parsed_parts draft stage at (part ∷ []) ≡ record { design = draft.design; fault = fault_at_end (at + length part) stage }
 ends_here draft stage.First at part few = refl
 ends_here draft stage.Label at part few = refl
 ends_here draft stage.Block at part few = refl

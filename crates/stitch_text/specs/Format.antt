@@ -2,16 +2,16 @@
 use Rattle.std.specs.Prelude.{codes}
 use Rattle.format_traits.specs.Meanings.{Meaning}
 use Rattle.stitch_text.specs.declared.stitch_list.TheConstants.{LIMIT}
-use Rattle.stitch_text.specs.Readings.{moves, reads, shown}
-use Rattle.stitch_text.specs.StitchLists.{writes}
+use Rattle.stitch_text.specs.Readings.{list_moves, list_reads, list_shown}
+use Rattle.stitch_text.specs.StitchLists.{list_writes}
 
 -- The meaning of the stitch list: ending, limit, reading, writing and moves.
-abbrev pub stitch_list : Meaning
-stitch_list = record {
+abbrev pub list_meaning : Meaning
+list_meaning = record {
   ending = codes "lst";
   limit = LIMIT;
-  reads = reads;
-  writes = writes;
-  moves = moves;
-  shown = shown;
+  reads = list_reads;
+  writes = list_writes;
+  moves = list_moves;
+  shown = list_shown;
 }

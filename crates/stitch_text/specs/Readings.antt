@@ -6,140 +6,149 @@ use Rattle.design_model.specs.declared.act.Act.{Act}
 use Rattle.design_model.specs.declared.act.Act.TheVariants as act
 use Rattle.design_model.specs.declared.command.Command.{Command}
 use Rattle.design_model.specs.declared.point.Point.{Point}
-use Rattle.design_model.specs.Acts.{acts_of, bare}
+use Rattle.design_model.specs.Acts.{acts_of, acts_without_numbers}
 use Rattle.design_model.specs.Designs.{DesignValue, empty_design, with_label, with_thread}
-use Rattle.design_model.specs.ActPlaces.{place_after, is_loose_after}
+use Rattle.design_model.specs.ActPositions.{needle_position_after, leaves_thread_loose}
 use Rattle.design_model.specs.Points.{move_between, origin}
 use Rattle.format_traits.specs.declared.fault.ReadFault.{ReadFault}
 use Rattle.format_traits.specs.declared.fault.ReadFault.TheVariants as read
 use Rattle.format_traits.specs.declared.loaded.Loaded.{Loaded}
-use Rattle.format_traits.specs.Refusals.{beginning}
-use Rattle.stitch_text.specs.declared.draft.Draft.{Draft}
+use Rattle.format_traits.specs.Refusals.{initial_encoder_state}
+use Rattle.stitch_text.specs.declared.list_draft.ListDraft.{ListDraft}
 use Rattle.stitch_text.specs.declared.list_line.ListLine.{ListLine}
 use Rattle.stitch_text.specs.declared.list_line.ListLine.TheVariants as line
-use Rattle.stitch_text.specs.Judging.{judged}
-use Rattle.stitch_text.specs.ListLines.{label_said, line_said}
-use Rattle.stitch_text.specs.StitchLists.{first_line}
-use Rattle.text_parts.specs.Parts.{parted}
+use Rattle.stitch_text.specs.Judging.{draft_after_line}
+use Rattle.stitch_text.specs.ListLines.{parsed_label, parsed_list_line}
+use Rattle.stitch_text.specs.StitchLists.{signature_line}
+use Rattle.text_parts.specs.Parts.{parts_between}
 
 -- A parsed list: the design so far, and the refusal where there is one.
-pub record Said : Type 0 where
+pub record ParsedList : Type 0 where
   pub design : DesignValue
   pub fault : Option ReadFault
 
 -- A parsed list that is refused after the design so far.
-abbrev pub refused : DesignValue → ReadFault → Said
-refused d f = record { design = d; fault = Some f }
+abbrev pub refused_list : DesignValue → ReadFault → ParsedList
+refused_list d f = record { design = d; fault = Some f }
 
 -- The parsed list after its last line: nothing may follow.
-abbrev pub ended : ℕ → DesignValue → List (List ℕ) → Said
-ended at d ([] ∷ []) = record { design = d; fault = None }
-ended at d parts = refused d (read.Control at)
+abbrev pub ended_list : ℕ → DesignValue → List (List ℕ) → ParsedList
+ended_list at d ([] ∷ []) = record { design = d; fault = None }
+ended_list at d parts = refused_list d (read.Control at)
 
 -- A parsed list that continues after a line that was judged, unless the line was refused.
-abbrev pub goes_on : Draft → Result Draft ReadFault → (Draft → Said) → Said
-goes_on draft (Ok new) more = more new
-goes_on draft (Err f) more = refused draft.design f
+abbrev pub continued_with : ListDraft → Result ListDraft ReadFault → (ListDraft → ParsedList)
+    → ParsedList
+continued_with draft (Ok new) more = more new
+continued_with draft (Err f) more = refused_list draft.design f
 
 -- True for the last line of a list.
-abbrev pub is_end : Option ListLine → Bool
-is_end (Some line.End) = true
-is_end other = false
+abbrev pub is_end_line : Option ListLine → Bool
+is_end_line (Some line.End) = true
+is_end_line other = false
 
 -- A parsed list from one line on: the line is the last one, or it is judged.
-abbrev pub on_line : ℕ → Draft → Option ListLine → Said → (Draft → Said) → Said
-on_line at draft said over more =
-    if is_end said then over else goes_on draft (judged at draft said) more
+abbrev pub parsed_end_or_line : ℕ → ListDraft → Option ListLine → ParsedList
+    → (ListDraft → ParsedList) → ParsedList
+parsed_end_or_line at draft parsed over more =
+    if is_end_line parsed then over else continued_with draft (draft_after_line at draft parsed)
+    more
 
 -- The parsed list from the lines of acts on, after the third line.
-abbrev pub acts_said : ℕ → Draft → List (List ℕ) → Said
-acts_said at draft [] = refused draft.design (read.Short at)
-acts_said at draft (rest ∷ []) = refused draft.design (read.Short (at + length rest))
-acts_said at draft (bytes ∷ next ∷ more) =
-    on_line at draft (line_said bytes)
-    (ended (at + length bytes + 1) draft.design (next ∷ more))
-    (λ new. acts_said (at + length bytes + 1) new (next ∷ more))
+abbrev pub parsed_acts : ℕ → ListDraft → List (List ℕ) → ParsedList
+parsed_acts at draft [] = refused_list draft.design (read.Short at)
+parsed_acts at draft (rest ∷ []) = refused_list draft.design (read.Short (at + length rest))
+parsed_acts at draft (bytes ∷ next ∷ more) =
+    parsed_end_or_line at draft (parsed_list_line bytes)
+    (ended_list (at + length bytes + 1) draft.design (next ∷ more))
+    (λ new. parsed_acts (at + length bytes + 1) new (next ∷ more))
 
 -- A parsed list computed by `f` from the next line and the parts after it; refused where the line
 -- has no end.
-abbrev pub next_line : ℕ → DesignValue → List (List ℕ) → (List ℕ → List (List ℕ) → Said) → Said
-next_line at d [] f = refused d (read.Short at)
-next_line at d (rest ∷ []) f = refused d (read.Short (at + length rest))
-next_line at d (bytes ∷ next ∷ more) f = f bytes (next ∷ more)
+abbrev pub with_next_line : ℕ → DesignValue → List (List ℕ) → (List ℕ → List (List ℕ) → ParsedList)
+    → ParsedList
+with_next_line at d [] f = refused_list d (read.Short at)
+with_next_line at d (rest ∷ []) f = refused_list d (read.Short (at + length rest))
+with_next_line at d (bytes ∷ next ∷ more) f = f bytes (next ∷ more)
 
 -- The draft of a label and of the thread of the first block.
-abbrev pub begun : DesignValue → ℕ → Draft
-begun d thread = record { design = with_thread d thread; standing = beginning }
+abbrev pub begun_draft : DesignValue → ℕ → ListDraft
+begun_draft d thread = record { design = with_thread d thread; state = initial_encoder_state }
 
 -- The thread of a line that begins a block.
-abbrev pub thread_said : Option ListLine → Option ℕ
-thread_said (Some (line.Block thread)) = Some thread
-thread_said other = None
+abbrev pub parsed_thread : Option ListLine → Option ℕ
+parsed_thread (Some (line.Block thread)) = Some thread
+parsed_thread other = None
 
 -- The parsed list after the third line, which must have the thread of the first block.
-abbrev pub by_block : ℕ → DesignValue → List ℕ → Option ℕ → List (List ℕ) → Said
-by_block at d bytes (Some thread) rest = acts_said (at + length bytes + 1) (begun d thread) rest
-by_block at d bytes None rest = refused d (read.Control at)
+abbrev pub after_block_line : ℕ → DesignValue → List ℕ → Option ℕ → List (List ℕ) → ParsedList
+after_block_line at d bytes (Some thread) rest = parsed_acts (at + length bytes + 1)
+    (begun_draft d thread) rest
+after_block_line at d bytes None rest = refused_list d (read.Control at)
 
 -- The parsed list from the third line on.
-abbrev pub block_first : ℕ → DesignValue → List (List ℕ) → Said
-block_first at d parts =
-    next_line at d parts (λ bytes rest. by_block at d bytes (thread_said (line_said bytes)) rest)
+abbrev pub parsed_from_block : ℕ → DesignValue → List (List ℕ) → ParsedList
+parsed_from_block at d parts =
+    with_next_line at d parts (λ bytes rest. after_block_line at d bytes
+    (parsed_thread (parsed_list_line bytes)) rest)
 
 -- The parsed list after the second line, which must have a label.
-abbrev pub by_label : ℕ → DesignValue → List ℕ → Option (List ℕ) → List (List ℕ) → Said
-by_label at d bytes (Some label) rest =
-    block_first (at + length bytes + 1) (with_label d label) rest
-by_label at d bytes None rest = refused d (read.Control at)
+abbrev pub after_label_line : ℕ → DesignValue → List ℕ → Option (List ℕ) → List (List ℕ)
+    → ParsedList
+after_label_line at d bytes (Some label) rest =
+    parsed_from_block (at + length bytes + 1) (with_label d label) rest
+after_label_line at d bytes None rest = refused_list d (read.Control at)
 
 -- The parsed list from the second line on.
-abbrev pub label_first : ℕ → DesignValue → List (List ℕ) → Said
-label_first at d parts =
-    next_line at d parts (λ bytes rest. by_label at d bytes (label_said bytes) rest)
+abbrev pub parsed_from_label : ℕ → DesignValue → List (List ℕ) → ParsedList
+parsed_from_label at d parts =
+    with_next_line at d parts (λ bytes rest. after_label_line at d bytes (parsed_label bytes) rest)
 
 -- The parsed list after the first line, which must be the signature.
-abbrev pub by_signature : ℕ → DesignValue → Bool → List ℕ → List (List ℕ) → Said
-by_signature at d true bytes rest = label_first (at + length bytes + 1) d rest
-by_signature at d false bytes rest = refused d (read.Signature at)
+abbrev pub after_signature_line : ℕ → DesignValue → Bool → List ℕ → List (List ℕ) → ParsedList
+after_signature_line at d true bytes rest = parsed_from_label (at + length bytes + 1) d rest
+after_signature_line at d false bytes rest = refused_list d (read.Signature at)
 
 -- The parsed list from the first line on.
-abbrev pub signature_first : ℕ → DesignValue → List (List ℕ) → Said
-signature_first at d parts =
-    next_line at d parts (λ bytes rest. by_signature at d (bytes_eq bytes first_line) bytes rest)
+abbrev pub parsed_from_signature : ℕ → DesignValue → List (List ℕ) → ParsedList
+parsed_from_signature at d parts =
+    with_next_line at d parts (λ bytes rest. after_signature_line at d
+    (bytes_eq bytes signature_line) bytes rest)
 
 -- The parsed list of a text.
-abbrev pub text_said : List ℕ → Said
-text_said text = signature_first 0 empty_design (parted 10 text)
+abbrev pub parsed_text : List ℕ → ParsedList
+parsed_text text = parsed_from_signature 0 empty_design (parts_between 10 text)
 
 -- The loaded design, or the refusal where there is one. A list that is accepted has an end.
-abbrev pub loaded_by : DesignValue → Option ReadFault → Result Loaded ReadFault
-loaded_by d None = Ok (record { design = d; ended = true })
-loaded_by d (Some f) = Err f
+abbrev pub loaded_unless_fault : DesignValue → Option ReadFault → Result Loaded ReadFault
+loaded_unless_fault d None = Ok (record { design = d; ended = true })
+loaded_unless_fault d (Some f) = Err f
 
 -- The result of a parsed list.
-abbrev pub loaded_from : Said → Result Loaded ReadFault
-loaded_from said = loaded_by said.design said.fault
+abbrev pub loaded_of_parsed : ParsedList → Result Loaded ReadFault
+loaded_of_parsed parsed = loaded_unless_fault parsed.design parsed.fault
 
 -- The result of reading a text.
-abbrev pub reads : List ℕ → Result Loaded ReadFault
-reads text = loaded_from (text_said text)
+abbrev pub list_reads : List ℕ → Result Loaded ReadFault
+list_reads text = loaded_of_parsed (parsed_text text)
 
 -- The commands of the complete lines of a text, before its end or its first refusal.
-abbrev pub shown : List ℕ → List Command
-shown text = (text_said text).design.commands
+abbrev pub list_shown : List ℕ → List Command
+list_shown text = (parsed_text text).design.commands
 
 -- The move of a needle that is neither loose nor a float, as a list that is empty for any other
 -- act.
-abbrev pub straight_move : Bool → Point → Act → List Point
-straight_move false place (act.Needle p false) = move_between place p ∷ []
-straight_move loose place other = []
+abbrev pub stitch_move_of : Bool → Point → Act → List Point
+stitch_move_of false place (act.Needle p false) = move_between place p ∷ []
+stitch_move_of loose place other = []
 
 -- The moves of needles that are neither loose nor floats, in order, from a position on.
-abbrev pub straight_moves : Bool → Point → List Act → List Point
-straight_moves loose place [] = []
-straight_moves loose place (a ∷ rest) = straight_move loose place a
-    ++ straight_moves (is_loose_after a) (place_after place a) rest
+abbrev pub stitch_moves_of : Bool → Point → List Act → List Point
+stitch_moves_of loose place [] = []
+stitch_moves_of loose place (a ∷ rest) = stitch_move_of loose place a
+    ++ stitch_moves_of (leaves_thread_loose a) (needle_position_after place a) rest
 
 -- The moves of a text's needles, before its end or its first refusal.
-abbrev pub moves : List ℕ → List Point
-moves text = straight_moves true origin (bare (acts_of (text_said text).design))
+abbrev pub list_moves : List ℕ → List Point
+list_moves text = stitch_moves_of true origin
+    (acts_without_numbers (acts_of (parsed_text text).design))

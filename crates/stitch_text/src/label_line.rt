@@ -1,15 +1,15 @@
 ghost use Rattle.std.specs.Prelude.{◌≡◌, ◌∷◌, ◌++◌, [], List, ℕ, None, Some, IfNone, IfSome};
 ghost use Rattle.design_model.specs.Labels.{IsLabel};
-ghost use Rattle.stitch_text.specs.ListLines.{label_said};
+ghost use Rattle.stitch_text.specs.ListLines.{parsed_label};
 ghost use Rattle.stitch_text.specs.StitchLists.{label_line};
 
 use crate::words::is_label;
 
 /// Returns the label of the second line, if it has one.
 pub(crate) fn label_of(line: &[u8]) -> Option<&[u8]>
-    ensures some { IfSome result (λ label. label_said line.now ≡ Some label.now) }
+    ensures some { IfSome result (λ label. parsed_label line.now ≡ Some label.now) }
     ensures label { IfSome result (λ label. IsLabel label.now) }
-    ensures none { IfNone result (label_said line.now ≡ None) }
+    ensures none { IfNone result (parsed_label line.now ≡ None) }
 {
     let Some(label) = in_brackets(line) else {
         return None;

@@ -8,21 +8,21 @@
 //! list that is fed in chunks has its own decoder, which takes it line by line.
 #![tactic(auto)]
 
-mod draft;
 mod label_line;
 mod list_decoder;
+mod list_draft;
 mod list_line;
 mod list_stage;
 mod point_line;
-mod promises;
 mod stitch_list;
 #[cfg(test)]
 mod tests;
+mod theorems;
 mod words;
 mod writing;
 
-pub use promises::{
-    floats_are_never_too_long, lists_alone_are_read, lists_keep_label_and_threads,
-    what_is_read_is_written_so, written_reads_again,
-};
 pub use stitch_list::{LIMIT, List, MAX_STOPS};
+pub use theorems::{
+    floats_are_never_too_long, lists_alone_are_read, lists_keep_label_and_threads,
+    read_texts_are_canonical, written_reads_again,
+};

@@ -1,12 +1,12 @@
 ghost use Rattle.std.specs.Prelude.{◌≡◌, ◌∷◌, ◌++◌, [], Some, codes, false, IfSome};
 ghost use Rattle.stitch_text.specs.declared.list_line.ListLine.TheVariants as line_of_list;
-ghost use Rattle.stitch_text.specs.ListLines.{block_said, line_said, needle_said, needle_word, word_said, words_said};
-ghost use Rattle.stitch_text.specs.Readings.{is_end as is_last, thread_said};
+ghost use Rattle.stitch_text.specs.ListLines.{parsed_block, parsed_list_line, parsed_needle, needle_word, parsed_list_word, parsed_list_words};
+ghost use Rattle.stitch_text.specs.Readings.{is_end_line, parsed_thread};
 ghost use Rattle.text_parts.specs.Parts.{words_in};
 
 use crate::words::number_in;
 use design_model::{Point, Whole};
-use text_parts::{spells, split_first};
+use text_parts::{equals_text, split_first};
 
 /// The most bytes of a line, without the byte that ends it.
 pub const MAX_LINE: usize = 32;
@@ -28,7 +28,7 @@ pub enum ListLine {
 
 /// Returns the line that the bytes are parsed as, if there is one.
 pub(crate) fn line_of(line: &[u8]) -> Option<ListLine>
-    ensures { result ≡ line_said line.now }
+    ensures { result ≡ parsed_list_line line.now }
 {
     if line.len() > MAX_LINE {
         return None;
@@ -43,7 +43,7 @@ pub(crate) fn line_of(line: &[u8]) -> Option<ListLine>
 /// Returns the point of a line of a needle that is sewn on, as nearly all lines are.
 #[inline(always)]
 pub(crate) fn sewn_at(line: &[u8]) -> Option<Point>
-    ensures { IfSome result (λ p. line_said line.now ≡ Some (line_of_list.Needle p false)) }
+    ensures { IfSome result (λ p. parsed_list_line line.now ≡ Some (line_of_list.Needle p false)) }
 {
     match after_needle(line) {
         Some(rest) if line.len() <= MAX_LINE => point_said(rest),
@@ -64,7 +64,7 @@ fn after_needle(line: &[u8]) -> Option<&[u8]>
 #[inline(always)]
 fn point_said(rest: &[u8]) -> Option<Point>
     ensures { IfSome result
-        (λ p. words_said (codes "needle" ∷ words_in rest.now) ≡ Some (line_of_list.Needle p false)) }
+        (λ p. parsed_list_words (codes "needle" ∷ words_in rest.now) ≡ Some (line_of_list.Needle p false)) }
 {
     let Some((x, behind)) = split_first(rest, b' ') else {
         return None;
@@ -76,39 +76,39 @@ fn point_said(rest: &[u8]) -> Option<Point>
 }
 
 /// Returns the thread of a line that begins a block.
-pub(crate) fn thread_of(said: Option<ListLine>) -> Option<u8>
-    ensures { result ≡ thread_said said }
+pub(crate) fn thread_of(parsed: Option<ListLine>) -> Option<u8>
+    ensures { result ≡ parsed_thread parsed }
 {
-    match said {
+    match parsed {
         Some(ListLine::Block(thread)) => Some(thread),
         _ => None,
     }
 }
 
 /// Returns whether a line is the last one.
-pub(crate) fn is_end(said: Option<ListLine>) -> bool
-    ensures { result ≡ is_last said }
+pub(crate) fn is_end(parsed: Option<ListLine>) -> bool
+    ensures { result ≡ is_end_line parsed }
 {
-    match said {
+    match parsed {
         Some(ListLine::End) => true,
         _ => false,
     }
 }
 
 fn line_of_word(word: &[u8]) -> Option<ListLine>
-    ensures { result ≡ word_said word.now }
+    ensures { result ≡ parsed_list_word word.now }
 {
-    if spells(word, "trim") {
+    if equals_text(word, "trim") {
         return Some(ListLine::Trim);
     }
-    if spells(word, "end") {
+    if equals_text(word, "end") {
         return Some(ListLine::End);
     }
     None
 }
 
 fn line_of_words(word: &[u8], rest: &[u8]) -> Option<ListLine>
-    ensures { result ≡ words_said (word.now ∷ words_in rest.now) }
+    ensures { result ≡ parsed_list_words (word.now ∷ words_in rest.now) }
 {
     match split_first(rest, b' ') {
         Some((x, behind)) => line_of_more(word, x, behind),
@@ -117,21 +117,21 @@ fn line_of_words(word: &[u8], rest: &[u8]) -> Option<ListLine>
 }
 
 fn line_of_more(word: &[u8], x: &[u8], behind: &[u8]) -> Option<ListLine>
-    ensures { result ≡ words_said (word.now ∷ x.now ∷ words_in behind.now) }
+    ensures { result ≡ parsed_list_words (word.now ∷ x.now ∷ words_in behind.now) }
 {
-    if spells(word, "needle") {
+    if equals_text(word, "needle") {
         return needle_line(false, x, behind);
     }
-    if spells(word, "float") {
+    if equals_text(word, "float") {
         return needle_line(true, x, behind);
     }
     None
 }
 
 fn block_line(word: &[u8], number: &[u8]) -> Option<ListLine>
-    ensures { result ≡ words_said (word.now ∷ number.now ∷ []) }
+    ensures { result ≡ parsed_list_words (word.now ∷ number.now ∷ []) }
 {
-    if spells(word, "block") {
+    if equals_text(word, "block") {
         block_of(number_in(number))
     } else {
         None
@@ -139,7 +139,7 @@ fn block_line(word: &[u8], number: &[u8]) -> Option<ListLine>
 }
 
 fn block_of(number: Whole) -> Option<ListLine>
-    ensures { result ≡ block_said number }
+    ensures { result ≡ parsed_block number }
 {
     match number {
         Whole::Value(thread) => match u8::try_from(thread) {
@@ -152,7 +152,7 @@ fn block_of(number: Whole) -> Option<ListLine>
 
 #[inline(always)]
 fn needle_line(float: bool, x: &[u8], behind: &[u8]) -> Option<ListLine>
-    ensures { result ≡ words_said (needle_word float ∷ x.now ∷ words_in behind.now) }
+    ensures { result ≡ parsed_list_words (needle_word float ∷ x.now ∷ words_in behind.now) }
 {
     match split_first(behind, b' ') {
         Some(_) => None,
@@ -162,7 +162,7 @@ fn needle_line(float: bool, x: &[u8], behind: &[u8]) -> Option<ListLine>
 
 #[inline(always)]
 fn needle(float: bool, x: Whole, y: Whole) -> Option<ListLine>
-    ensures { result ≡ needle_said float x y }
+    ensures { result ≡ parsed_needle float x y }
 {
     match x {
         Whole::NotANumber => None,

@@ -1,5 +1,5 @@
 ghost use Rattle.std.specs.Prelude.{◌≡◌};
-ghost use Rattle.stitch_text.specs.ListStages.{beyond as beyond_stage, fault_at, most_waiting as most_to_wait};
+ghost use Rattle.stitch_text.specs.ListStages.{stage_after_long_line, fault_at_end, max_waiting_in};
 
 use crate::list_line::MAX_LINE;
 use format_traits::ReadFault;
@@ -25,8 +25,8 @@ pub enum ListStage {
 
 impl ListStage {
     /// Returns the most bytes of a line that are kept until it ends.
-    pub(crate) fn most_waiting(self) -> usize
-        ensures { result ≡ most_to_wait self }
+    pub(crate) fn max_waiting(self) -> usize
+        ensures { result ≡ max_waiting_in self }
     {
         match self {
             ListStage::First | ListStage::Label | ListStage::Block | ListStage::Acts => MAX_LINE,
@@ -35,8 +35,8 @@ impl ListStage {
     }
 
     /// Returns the stage after more bytes than a valid line has, in the line at an offset.
-    pub(crate) fn beyond(self, at: u64) -> ListStage
-        ensures { result ≡ beyond_stage at self }
+    pub(crate) fn after_long_line(self, at: u64) -> ListStage
+        ensures { result ≡ stage_after_long_line at self }
     {
         match self {
             ListStage::First => ListStage::Long(ReadFault::Signature { at }),
@@ -50,7 +50,7 @@ impl ListStage {
 
     /// Returns the refusal of a list that ends at an offset, if any.
     pub(crate) fn fault(self, end: u64) -> Option<ReadFault>
-        ensures { result ≡ fault_at end self }
+        ensures { result ≡ fault_at_end end self }
     {
         match self {
             ListStage::Ended => None,

@@ -1,10 +1,10 @@
 ghost use Rattle.std.specs.Prelude.{◌≡◌};
-ghost use Rattle.stitch_text.specs.StitchLists.{reach as reach_of_list};
+ghost use Rattle.stitch_text.specs.StitchLists.{list_write_limits};
 
 use crate::list_decoder::ListDecoder;
 use crate::writing::write_file;
 use design_model::{Bytes, Command, Design, Memory};
-use format_traits::{Fed, Feed, Format, Loaded, Reach, ReadFault, WriteFault, decode_whole};
+use format_traits::{Fed, Feed, Format, Loaded, ReadFault, WriteFault, WriteLimits, decode_whole};
 use std::alloc::Global;
 
 /// The greatest move of a stitch on each axis, in tenths of a millimetre.
@@ -14,10 +14,10 @@ pub const LIMIT: u32 = 2047;
 pub const MAX_STOPS: u32 = 254;
 
 /// Returns the limits of what a list can contain.
-pub(crate) fn reach() -> Reach
-    ensures { result ≡ reach_of_list }
+pub(crate) fn write_limits() -> WriteLimits
+    ensures { result ≡ list_write_limits }
 {
-    Reach {
+    WriteLimits {
         limit: LIMIT,
         float_hops: None,
         stops: Some(MAX_STOPS),
@@ -31,12 +31,12 @@ pub struct List {
 }
 
 impl List {
-    ghost use Rattle.format_traits.specs.Feeding.{IsFresh};
-    ghost use Rattle.stitch_text.specs.Readings.{reads, shown};
+    ghost use Rattle.format_traits.specs.Feeding.{HasNothingFed};
+    ghost use Rattle.stitch_text.specs.Readings.{list_reads, list_shown};
 
     /// Returns a format object to which nothing was fed. Allocates nothing.
     pub fn new(alloc: Global) -> List
-        ensures { IsFresh reads shown (⟦<List as Format>⟧.feeding result) }
+        ensures { HasNothingFed list_reads list_shown (⟦<List as Format>⟧.feed_state result) }
     {
         List {
             feed: Feed::new(ListDecoder::new(alloc)),
@@ -45,11 +45,11 @@ impl List {
 }
 
 impl Format for List {
-    ghost use Rattle.stitch_text.specs.Format.{stitch_list as list_meaning};
+    ghost use Rattle.stitch_text.specs.Format.{list_meaning};
 
     ghost meaning = { λ _. list_meaning };
 
-    ghost feeding = { λ l. ⟦<Feed<ListDecoder> as Fed>⟧.feeding l.feed };
+    ghost feed_state = { λ l. ⟦<Feed<ListDecoder> as Fed>⟧.feed_state l.feed };
 
     fn ext(&self) -> &str {
         "lst"

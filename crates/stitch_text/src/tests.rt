@@ -1,4 +1,4 @@
-mod pieces;
+mod chunks;
 
 use crate::List;
 use design_model::{Bytes, Command, Design, Memory, ModelFault, Point, counts};

@@ -1,12 +1,12 @@
 ghost use Rattle.std.specs.Prelude.{◌≡◌};
 ghost use Rattle.std.specs.List.{list_all};
-ghost use Rattle.stitch_text.specs.Words.{begins_with_zero as zero_first, ends_with_space as space_last, is_label as is_a_label, is_plain as is_plain_word, is_printable, number_in as number_spelled};
+ghost use Rattle.stitch_text.specs.Words.{has_leading_zero, has_trailing_space, is_valid_label, is_canonical_number, is_printable, canonical_number_of};
 
 use design_model::{MAX_LABEL, Whole, parse_whole};
 
 /// Returns the number of a word of any length, if the word is the canonical text of a number.
 pub(crate) fn number_in(word: &[u8]) -> Whole
-    ensures { result ≡ number_spelled word.now }
+    ensures { result ≡ canonical_number_of word.now }
 {
     if is_plain(word) {
         parse_whole(word)
@@ -16,7 +16,7 @@ pub(crate) fn number_in(word: &[u8]) -> Whole
 }
 
 fn is_plain(word: &[u8]) -> bool
-    ensures { result ≡ is_plain_word word.now }
+    ensures { result ≡ is_canonical_number word.now }
 {
     match word {
         [] => false,
@@ -31,7 +31,7 @@ fn is_plain(word: &[u8]) -> bool
 }
 
 fn begins_with_zero(digits: &[u8]) -> bool
-    ensures { result ≡ zero_first digits.now }
+    ensures { result ≡ has_leading_zero digits.now }
 {
     match digits {
         [] => false,
@@ -41,7 +41,7 @@ fn begins_with_zero(digits: &[u8]) -> bool
 
 /// Returns whether a design may have the label.
 pub(crate) fn is_label(text: &[u8]) -> bool
-    ensures { result ≡ is_a_label text.now }
+    ensures { result ≡ is_valid_label text.now }
 {
     text.len() <= MAX_LABEL && are_printable(text) && !ends_with_space(text)
 }
@@ -58,7 +58,7 @@ fn are_printable(bytes: &[u8]) -> bool
 }
 
 fn ends_with_space(text: &[u8]) -> bool
-    ensures { result ≡ space_last text.now }
+    ensures { result ≡ has_trailing_space text.now }
 {
     !text.is_empty() && text[text.len() - 1] == b' '
 }

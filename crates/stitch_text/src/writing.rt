@@ -2,26 +2,26 @@ ghost use Rattle.std.specs.Prelude.{◌≡◌, ◌≤◌, ◌∷◌, ◌++◌, [
 ghost use Rattle.design_model.specs.declared.design.TheConstants.{MAX_COMMANDS};
 ghost use Rattle.design_model.specs.declared.point.TheConstants.{NEEDLE_LIMIT};
 ghost use Rattle.design_model.specs.Acts.{acts_of};
-ghost use Rattle.design_model.specs.ActPlaces.{is_act_in_range};
+ghost use Rattle.design_model.specs.ActPositions.{is_act_in_range};
 ghost use Rattle.design_model.specs.Designs.{thread_of};
-ghost use Rattle.design_model.specs.Points.{is_within};
-ghost use Rattle.format_traits.specs.Laws.{KeepsLaws, Writes};
-ghost use Rattle.stitch_text.specs.Format.{stitch_list};
-ghost use Rattle.stitch_text.specs.StitchLists.{act_line, block_line, headed, writes};
+ghost use Rattle.design_model.specs.Points.{is_point_within};
+ghost use Rattle.format_traits.specs.Laws.{KeepsLaws, EncodesTo};
+ghost use Rattle.stitch_text.specs.Format.{list_meaning};
+ghost use Rattle.stitch_text.specs.StitchLists.{act_line, list_block_line, with_head_lines, list_writes};
 ghost use Rattle.stitch_text.specs.Steps.{PutsLine, PutsLines};
 
 use crate::point_line::put_point;
-use crate::promises::written_reads_again;
-use crate::stitch_list::{LIMIT, reach};
-use design_model::{Act, ActWalk, Bytes, Design, Memory, NumberedAct};
-use format_traits::{Standing, WriteFault};
+use crate::stitch_list::{LIMIT, write_limits};
+use crate::theorems::written_reads_again;
+use design_model::{Act, ActScanner, Bytes, Design, Memory, NumberedAct};
+use format_traits::{EncoderState, WriteFault};
 use itoa::Buffer;
 use std::alloc::Global;
 
 /// Writes a design as a list.
 pub fn write_file(alloc: Global, design: &Design) -> Result<Bytes, WriteFault>
-    ensures value { Writes (writes design.now) result }
-    ensures laws { KeepsLaws stitch_list design.now }
+    ensures value { EncodesTo (list_writes design.now) result }
+    ensures laws { KeepsLaws list_meaning design.now }
 {
     written_reads_again();
     design.keeps_limits();
@@ -29,7 +29,7 @@ pub fn write_file(alloc: Global, design: &Design) -> Result<Bytes, WriteFault>
 }
 
 fn put_list(alloc: Global, design: &Design) -> Result<Bytes, WriteFault>
-    ensures { Writes (writes design.now) result }
+    ensures { EncodesTo (list_writes design.now) result }
 {
     let mut text = Bytes::new(alloc);
     put_head(&mut text, design)?;
@@ -40,7 +40,7 @@ fn put_list(alloc: Global, design: &Design) -> Result<Bytes, WriteFault>
 /// Appends the first three lines.
 fn put_head(text: &mut Bytes, design: &Design) -> Result<(), Memory>
     ensures { OnOk result (text.new
-        ≡ text.old ++ headed design.now.label (thread_of design.now 0) []) }
+        ≡ text.old ++ with_head_lines design.now.label (thread_of design.now 0) []) }
 {
     text.append(b"stitch-list 1\nlabel [")?;
     text.append(design.label())?;
@@ -55,13 +55,13 @@ fn put_head(text: &mut Bytes, design: &Design) -> Result<(), Memory>
 fn put_lines(text: &mut Bytes, design: &Design) -> Result<(), WriteFault>
     ensures { PutsLines (thread_of design.now) (acts_of design.now) text.old result text.new }
 {
-    let mut standing = Standing::new();
-    let mut walk = ActWalk::new();
+    let mut state = EncoderState::new();
+    let mut walk = ActScanner::new();
     for command in design.commands() {
         let Some(act) = walk.next(*command) else {
             continue;
         };
-        if let Err(fault) = put_act(text, &mut standing, design, act) {
+        if let Err(fault) = put_act(text, &mut state, design, act) {
             return Err(fault);
         }
     }
@@ -75,56 +75,56 @@ fn put_lines(text: &mut Bytes, design: &Design) -> Result<(), WriteFault>
 #[inline(always)]
 fn put_act(
     text: &mut Bytes,
-    standing: &mut Standing,
+    state: &mut EncoderState,
     design: &Design,
     act: NumberedAct,
 ) -> Result<(), WriteFault>
-    requires place { IsTrue (is_within NEEDLE_LIMIT standing.old.place) }
+    requires place { IsTrue (is_point_within NEEDLE_LIMIT state.old.place) }
     requires act { IsTrue (is_act_in_range act.act) }
-    requires room { standing.old.room ≤ MAX_COMMANDS }
-    requires stops { standing.old.stops ≤ standing.old.room }
-    ensures value { PutsLine (thread_of design.now) standing.old act text.old result
-        standing.new text.new }
+    requires room { state.old.room ≤ MAX_COMMANDS }
+    requires stops { state.old.stops ≤ state.old.room }
+    ensures value { PutsLine (thread_of design.now) state.old act text.old result
+        state.new text.new }
 
     // The requirements hold for the new state too.
-    ensures place { OnOk result (IsTrue (is_within NEEDLE_LIMIT standing.new.place)) }
-    ensures room { OnOk result (standing.new.room ≤ MAX_COMMANDS) }
-    ensures stops { OnOk result (standing.new.stops ≤ standing.new.room) }
+    ensures place { OnOk result (IsTrue (is_point_within NEEDLE_LIMIT state.new.place)) }
+    ensures room { OnOk result (state.new.room ≤ MAX_COMMANDS) }
+    ensures stops { OnOk result (state.new.stops ≤ state.new.room) }
 {
     match act.act {
-        Act::Needle { float: false, .. } if !standing.loose => {
-            put_act_here(text, standing, design, act)
+        Act::Needle { float: false, .. } if !state.loose => {
+            put_act_here(text, state, design, act)
         }
-        _ => put_act_copied(text, standing, design, act),
+        _ => put_act_copied(text, state, design, act),
     }
 }
 
 #[inline(always)]
 fn put_act_copied(
     text: &mut Bytes,
-    standing: &mut Standing,
+    state: &mut EncoderState,
     design: &Design,
     act: NumberedAct,
 ) -> Result<(), WriteFault>
-    requires place { IsTrue (is_within NEEDLE_LIMIT standing.old.place) }
+    requires place { IsTrue (is_point_within NEEDLE_LIMIT state.old.place) }
     requires act { IsTrue (is_act_in_range act.act) }
-    requires room { standing.old.room ≤ MAX_COMMANDS }
-    requires stops { standing.old.stops ≤ standing.old.room }
-    ensures value { PutsLine (thread_of design.now) standing.old act text.old result
-        standing.new text.new }
+    requires room { state.old.room ≤ MAX_COMMANDS }
+    requires stops { state.old.stops ≤ state.old.room }
+    ensures value { PutsLine (thread_of design.now) state.old act text.old result
+        state.new text.new }
 
     // The requirements hold for the new state too.
-    ensures place { OnOk result (IsTrue (is_within NEEDLE_LIMIT standing.new.place)) }
-    ensures room { OnOk result (standing.new.room ≤ MAX_COMMANDS) }
-    ensures stops { OnOk result (standing.new.stops ≤ standing.new.room) }
+    ensures place { OnOk result (IsTrue (is_point_within NEEDLE_LIMIT state.new.place)) }
+    ensures room { OnOk result (state.new.room ≤ MAX_COMMANDS) }
+    ensures stops { OnOk result (state.new.stops ≤ state.new.room) }
 {
     let copy = NumberedAct {
         number: act.number,
         act: act.act,
     };
-    let mut after = *standing;
+    let mut after = *state;
     put_act_apart(text, &mut after, design, copy)?;
-    *standing = after;
+    *state = after;
     Ok(())
 }
 
@@ -132,50 +132,50 @@ fn put_act_copied(
 #[inline(never)]
 fn put_act_apart(
     text: &mut Bytes,
-    standing: &mut Standing,
+    state: &mut EncoderState,
     design: &Design,
     act: NumberedAct,
 ) -> Result<(), WriteFault>
-    requires place { IsTrue (is_within NEEDLE_LIMIT standing.old.place) }
+    requires place { IsTrue (is_point_within NEEDLE_LIMIT state.old.place) }
     requires act { IsTrue (is_act_in_range act.act) }
-    requires room { standing.old.room ≤ MAX_COMMANDS }
-    requires stops { standing.old.stops ≤ standing.old.room }
-    ensures value { PutsLine (thread_of design.now) standing.old act text.old result
-        standing.new text.new }
+    requires room { state.old.room ≤ MAX_COMMANDS }
+    requires stops { state.old.stops ≤ state.old.room }
+    ensures value { PutsLine (thread_of design.now) state.old act text.old result
+        state.new text.new }
 
     // The requirements hold for the new state too.
-    ensures place { OnOk result (IsTrue (is_within NEEDLE_LIMIT standing.new.place)) }
-    ensures room { OnOk result (standing.new.room ≤ MAX_COMMANDS) }
-    ensures stops { OnOk result (standing.new.stops ≤ standing.new.room) }
+    ensures place { OnOk result (IsTrue (is_point_within NEEDLE_LIMIT state.new.place)) }
+    ensures room { OnOk result (state.new.room ≤ MAX_COMMANDS) }
+    ensures stops { OnOk result (state.new.stops ≤ state.new.room) }
 {
-    put_act_here(text, standing, design, act)
+    put_act_here(text, state, design, act)
 }
 
 #[inline(always)]
 fn put_act_here(
     text: &mut Bytes,
-    standing: &mut Standing,
+    state: &mut EncoderState,
     design: &Design,
     act: NumberedAct,
 ) -> Result<(), WriteFault>
-    requires place { IsTrue (is_within NEEDLE_LIMIT standing.old.place) }
+    requires place { IsTrue (is_point_within NEEDLE_LIMIT state.old.place) }
     requires act { IsTrue (is_act_in_range act.act) }
-    requires room { standing.old.room ≤ MAX_COMMANDS }
-    requires stops { standing.old.stops ≤ standing.old.room }
-    ensures value { PutsLine (thread_of design.now) standing.old act text.old result
-        standing.new text.new }
+    requires room { state.old.room ≤ MAX_COMMANDS }
+    requires stops { state.old.stops ≤ state.old.room }
+    ensures value { PutsLine (thread_of design.now) state.old act text.old result
+        state.new text.new }
 
     // The requirements hold for the new state too.
-    ensures place { OnOk result (IsTrue (is_within NEEDLE_LIMIT standing.new.place)) }
-    ensures room { OnOk result (standing.new.room ≤ MAX_COMMANDS) }
-    ensures stops { OnOk result (standing.new.stops ≤ standing.new.room) }
+    ensures place { OnOk result (IsTrue (is_point_within NEEDLE_LIMIT state.new.place)) }
+    ensures room { OnOk result (state.new.room ≤ MAX_COMMANDS) }
+    ensures stops { OnOk result (state.new.stops ≤ state.new.room) }
 {
-    let before = *standing;
-    if let Some(fault) = reach().refusal(&before, act.number, act.act) {
+    let before = *state;
+    if let Some(fault) = write_limits().refusal(&before, act.number, act.act) {
         return Err(fault);
     }
     put_line(text, design, before.stops, act.act)?;
-    *standing = before.after(LIMIT, act.act);
+    *state = before.after(LIMIT, act.act);
     Ok(())
 }
 
@@ -199,7 +199,7 @@ fn put_line(text: &mut Bytes, design: &Design, stops: u32, act: Act) -> Result<(
 }
 
 fn put_block(text: &mut Bytes, thread: u8) -> Result<(), Memory>
-    ensures { OnOk result (text.new ≡ text.old ++ block_line thread) }
+    ensures { OnOk result (text.new ≡ text.old ++ list_block_line thread) }
 {
     let mut buffer = Buffer::new();
     text.append(b"block ")?;

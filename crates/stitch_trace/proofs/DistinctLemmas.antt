@@ -9,42 +9,43 @@ use Rattle.design_model.specs.declared.act.NumberedAct.{NumberedAct}
 use Rattle.design_model.specs.declared.point.Point.{Point}
 use Rattle.design_model.specs.Points.{is_same_point}
 use Rattle.stitch_trace.specs.declared.links.Link.{Link}
-use Rattle.stitch_trace.specs.declared.needle_moves.Move.{Move}
-use Rattle.stitch_trace.specs.declared.needle_moves.Move.TheVariants.{Stay, Gap, Sewn}
+use Rattle.stitch_trace.specs.declared.needle_moves.NeedleMove.{NeedleMove}
+use Rattle.stitch_trace.specs.declared.needle_moves.NeedleMove.TheVariants.{Stay, Gap, Sewn}
 use Rattle.stitch_trace.specs.Chains.{is_sewn, new_moves}
-use Rattle.stitch_trace.specs.Laws.{NewLinksAreDistinct, are_distinct}
-use Rattle.stitch_trace.specs.Links.{has_ends, is_same_link, links_in, moves_along, turned}
+use Rattle.stitch_trace.specs.TraceTheorems.{NewLinksAreDistinct, are_distinct}
+use Rattle.stitch_trace.specs.Links.{is_same_directed_link, is_same_link, links_in, needle_moves_of, reversed_link}
 use Rattle.stitch_trace.proofs.LinkedLemmas.{same_is}
 
 same_found : (p : Point) → is_same_point p p ≡ true
 same_found p = rw ((Decides-int_eq p.x p.x).1 refl, (Decides-int_eq p.y p.y).1 refl) refl
 
 -- a link has its own ends
-ends_found : (a : Link) → has_ends a a ≡ true
+ends_found : (a : Link) → is_same_directed_link a a ≡ true
 ends_found a = rw (same_found a.from, same_found a.to) refl
 
-ends_same : (a b : Link) → has_ends a b ≡ true → a ≡ b
+ends_same : (a b : Link) → is_same_directed_link a b ≡ true → a ≡ b
 ends_same a b found =
     let both = and_parts (is_same_point a.from b.from) (is_same_point a.to b.to) found in
     ap₂ (λ from to. record { from = from; to = to }) (same_is a.from b.from both.0) (same_is a.to b.to both.1)
 
 link_found : (a : Link) → is_same_link a a ≡ true
-link_found a = or_left (has_ends a a) (has_ends (turned a) a) (ends_found a)
+link_found a = or_left (is_same_directed_link a a) (is_same_directed_link (reversed_link a) a) (ends_found a)
 
 -- a link is the same as one turned
-turned_found : (a b : Link) → is_same_link a b ≡ true → is_same_link a (turned b) ≡ true
-turned_found a b same = elim (or_cases (has_ends a b) (has_ends (turned a) b) same) [
-  | inl ends ↦ or_right (has_ends a (turned b)) (has_ends (turned a) (turned b))
-      (subst (λ (c : Link). has_ends (turned a) (turned c) ≡ true) (ends_same a b ends) (ends_found (turned a)))
-  | inr ends ↦ or_left (has_ends a (turned b)) (has_ends (turned a) (turned b))
-      (subst (λ (c : Link). has_ends a (turned c) ≡ true) (ends_same (turned a) b ends) (ends_found a))
+turned_found : (a b : Link) → is_same_link a b ≡ true → is_same_link a (reversed_link b) ≡ true
+turned_found a b same = elim (or_cases (is_same_directed_link a b) (is_same_directed_link (reversed_link a) b) same) [
+  | inl ends ↦ or_right (is_same_directed_link a (reversed_link b)) (is_same_directed_link (reversed_link a) (reversed_link b))
+      (subst (λ (c : Link). is_same_directed_link (reversed_link a) (reversed_link c) ≡ true) (ends_same a b ends)
+      (ends_found (reversed_link a)))
+  | inr ends ↦ or_left (is_same_directed_link a (reversed_link b)) (is_same_directed_link (reversed_link a) (reversed_link b))
+      (subst (λ (c : Link). is_same_directed_link a (reversed_link c) ≡ true) (ends_same (reversed_link a) b ends) (ends_found a))
 ]
 
 -- what is the same as one of two that are the same is the same as the other
 same_on : (a b c : Link) → is_same_link a b ≡ true → is_same_link b c ≡ true → is_same_link a c ≡ true
-same_on a b c one two = elim (or_cases (has_ends b c) (has_ends (turned b) c) two) [
+same_on a b c one two = elim (or_cases (is_same_directed_link b c) (is_same_directed_link (reversed_link b) c) two) [
   | inl ends ↦ subst (λ (d : Link). is_same_link a d ≡ true) (ends_same b c ends) one
-  | inr ends ↦ subst (λ (d : Link). is_same_link a d ≡ true) (ends_same (turned b) c ends) (turned_found a b one)
+  | inr ends ↦ subst (λ (d : Link). is_same_link a d ≡ true) (ends_same (reversed_link b) c ends) (turned_found a b one)
 ]
 
 sewn_on : (before : List Link) (b c : Link) → is_sewn before b ≡ true → is_same_link b c ≡ true → is_sewn before c ≡ true
@@ -55,7 +56,7 @@ sewn_on (a ∷ before) b c sewn same = elim (or_cases (is_same_link a b) (is_sew
 ]
 
 -- no link is new that is the same as one before
-none_again : (a : Link) (before : List Link) (moves : List Move) → ((b : Link) → is_sewn before b ≡ false → is_same_link a b ≡ false)
+none_again : (a : Link) (before : List Link) (moves : List NeedleMove) → ((b : Link) → is_sewn before b ≡ false → is_same_link a b ≡ false)
     → list_any (is_same_link a) (links_in (new_moves before moves)) ≡ false
 none_again a before [] other = refl
 none_again a before (Stay ∷ rest) other = none_again a before rest other
@@ -69,7 +70,7 @@ none_again a before (Sewn number link ∷ rest) other =
     by_test true is later = later
     by_test false is later = rw (other link is, later) refl
 
-all_distinct : (before : List Link) (moves : List Move) → are_distinct (links_in (new_moves before moves)) ≡ true
+all_distinct : (before : List Link) (moves : List NeedleMove) → are_distinct (links_in (new_moves before moves)) ≡ true
 all_distinct before [] = refl
 all_distinct before (Stay ∷ rest) = all_distinct before rest
 all_distinct before (Gap ∷ rest) = all_distinct before rest
@@ -92,7 +93,7 @@ all_more f g more [] all = refl
 all_more f g more (x ∷ xs) all =
     let both = and_parts (f x) (list_all f xs) all in rw (more x both.0, all_more f g more xs both.1) refl
 
-all_known : (before : List Link) (moves : List Move)
+all_known : (before : List Link) (moves : List NeedleMove)
     → list_all (known before (links_in (new_moves before moves))) (links_in moves) ≡ true
 all_known before [] = refl
 all_known before (Stay ∷ rest) = all_known before rest
@@ -135,6 +136,6 @@ all_known before (Sewn number link ∷ rest) = by_test (is_sewn before link) ref
 
 pub distinct_links : NewLinksAreDistinct
 distinct_links acts = record {
-  distinct = all_distinct [] (moves_along acts);
-  all = all_known [] (moves_along acts);
+  distinct = all_distinct [] (needle_moves_of acts);
+  all = all_known [] (needle_moves_of acts);
 }

@@ -9,19 +9,19 @@ use Rattle.design_model.specs.Acts.{acts_of}
 use Rattle.design_model.specs.Blocks.{blocks_of}
 use Rattle.design_model.specs.Designs.{DesignValue, thread_of}
 use Rattle.line_sections.specs.Lines.{LineValue}
-use Rattle.line_sections.specs.Sections.{SectionsKeepSegments, all_sections, is_shared, line_sections, lines_through, sections_of, segments_of}
+use Rattle.line_sections.specs.Sections.{SectionsKeepSegments, all_sections, is_shared_point, line_sections, lines_through, sections_of, segments_of}
 use Rattle.line_graph.specs.declared.draw_kind.DrawKind.{DrawKind}
 use Rattle.line_graph.specs.declared.draw_kind.DrawKind.TheVariants as kind
 use Rattle.line_graph.specs.Drawings.{DrawingValue}
-use Rattle.line_graph.specs.Growing.{and_then, are_in_range, block_added, drawing_begun, finished, is_last_empty, line_added, point_count, steps_with, with_block, with_line}
+use Rattle.line_graph.specs.GrowingDrawings.{and_then, all_in_needle_range, block_added, empty_drawing, finished_drawing, is_last_empty, line_added, point_count, steps_with_line, with_new_block, with_new_line}
 use Rattle.line_graph.specs.JoinedDrawings.{joined_drawing}
 use Rattle.stitch_trace.specs.declared.links.Link.{Link}
 use Rattle.stitch_trace.specs.declared.strands.Strand.{Strand}
 use Rattle.stitch_trace.specs.declared.trace_fault.TraceFault.{TraceFault}
 use Rattle.stitch_trace.specs.Chains.{chains_of, has_links, new_links_of}
-use Rattle.stitch_trace.specs.Laws.{BlockLink, LinksAreDrawn, block_for, drawn_links, in_block, link_between, links_along, sewn_links}
-use Rattle.stitch_trace.specs.Links.{moves_along}
-use Rattle.stitch_trace.specs.Traces.{chains_added, drawing_through, first_word, limited, once, step_by, strand_added, strand_of, strands_added, strands_from, strands_of, traced}
+use Rattle.stitch_trace.specs.TraceTheorems.{BlockLink, LinksAreDrawn, drawn_block_count, drawn_links, in_block, link_between, links_along, sewn_links}
+use Rattle.stitch_trace.specs.Links.{needle_moves_of}
+use Rattle.stitch_trace.specs.Traces.{chains_added, drawing_with_strands, label_first_word, with_limit_fault, and_then_trace, trace_step, strand_added, strand_of, strands_added, strands_from, strands_of, traced}
 use Rattle.stitch_trace.proofs.LinkedLemmas.{chains_links, chains_where_links, has_chains}
 
 -- what is Ok is one thing, and no Err
@@ -40,26 +40,27 @@ goes_on (Ok a) next b is = record { mid = a; first = refl; then = is }
 goes_on (Err why) next b is = absurd cc
 
 -- a line more
-pub line_is : (d e : DrawingValue) (points : List Point) → line_added d points ≡ Ok e → e ≡ with_line d points
-line_is d e points is = by_tests (length d.threads == 0) (not (are_in_range points)) (steps_with d points) is
+pub line_is : (d e : DrawingValue) (points : List Point) → line_added d points ≡ Ok e → e ≡ with_new_line d points
+line_is d e points is = by_tests (length d.threads == 0) (not (all_in_needle_range points)) (steps_with_line d points) is
   where
     by_tests : (none out : Bool) (steps : Result ℕ DrawKind)
-        → cond none (Err kind.NoBlock) (cond out (Err kind.OutOfRange) (and_then steps (λ steps. Ok (with_line d points)))) ≡ Ok e
-        → e ≡ with_line d points
+        → cond none (Err kind.NoBlock) (cond out (Err kind.OutOfRange) (and_then steps (λ steps. Ok (with_new_line d points)))) ≡ Ok e
+        → e ≡ with_new_line d points
     by_tests true out steps is = absurd cc
     by_tests false true steps is = absurd cc
     by_tests false false (Err why) is = absurd cc
-    by_tests false false (Ok steps) is = sym (ok_same (with_line d points) e is)
+    by_tests false false (Ok steps) is = sym (ok_same (with_new_line d points) e is)
 
 -- a block more
-pub block_is : (d e : DrawingValue) (thread : ℕ) → block_added d thread ≡ Ok e → e ≡ with_block d thread
+pub block_is : (d e : DrawingValue) (thread : ℕ) → block_added d thread ≡ Ok e → e ≡ with_new_block d thread
 block_is d e thread is = by_tests (is_last_empty d) (length d.threads == 255) is
   where
-    by_tests : (empty full : Bool) → cond empty (Err kind.EmptyBlock) (cond full (Err kind.TooManyBlocks) (Ok (with_block d thread))) ≡ Ok e
-        → e ≡ with_block d thread
+    by_tests : (empty full : Bool) → cond empty (Err kind.EmptyBlock) (cond full (Err kind.TooManyBlocks) (Ok (with_new_block d thread)))
+        ≡ Ok e
+        → e ≡ with_new_block d thread
     by_tests true full is = absurd cc
     by_tests false true is = absurd cc
-    by_tests false false is = sym (ok_same (with_block d thread) e is)
+    by_tests false false is = sym (ok_same (with_new_block d thread) e is)
 
 -- what chains add
 record HasChains (d e : DrawingValue) (chains : List (List Point)) : Type 0 where
@@ -76,11 +77,11 @@ chains_drawn d e (chain ∷ rest) is = onwards (goes_on (line_added d chain) (λ
     onwards : GoesOn (line_added d chain) (λ more. chains_added more rest) e
         → ((mid : DrawingValue) → chains_added mid rest ≡ Ok e → HasChains mid e rest) → HasChains d e (chain ∷ rest)
     onwards steps later =
-        let is_line : steps.mid ≡ with_line d chain = line_is d steps.mid chain steps.first in
-        let has : HasChains (with_line d chain) e rest =
+        let is_line : steps.mid ≡ with_new_line d chain = line_is d steps.mid chain steps.first in
+        let has : HasChains (with_new_line d chain) e rest =
         subst (λ (mid : DrawingValue). HasChains mid e rest) is_line (later steps.mid steps.then) in
         let block : ℕ = length d.threads - 1 in
-        let here : drawn_links (with_line d chain).lines ≡ drawn_links d.lines ++ in_block block (links_along chain) =
+        let here : drawn_links (with_new_line d chain).lines ≡ drawn_links d.lines ++ in_block block (links_along chain) =
         flat_map-append (λ (line : LineValue). in_block line.block (links_along line.points)) d.lines
         (record { block = block; points = chain } ∷ [])
         ∙ ap (λ (links : List BlockLink). drawn_links d.lines ++ links) (append-nil (in_block block (links_along chain))) in
@@ -111,8 +112,8 @@ strands_drawn d e (strand ∷ rest) is = onwards (goes_on (strand_added d strand
         → drawn_links e.lines ≡ drawn_links d.lines ++ strand_links (length d.threads) (strand ∷ rest)
     onwards steps later =
         let inner = goes_on (block_added d strand.thread) (λ more. chains_added more strand.chains) steps.mid steps.first in
-        let is_block : inner.mid ≡ with_block d strand.thread = block_is d inner.mid strand.thread inner.first in
-        let has : HasChains (with_block d strand.thread) steps.mid strand.chains =
+        let is_block : inner.mid ≡ with_new_block d strand.thread = block_is d inner.mid strand.thread inner.first in
+        let has : HasChains (with_new_block d strand.thread) steps.mid strand.chains =
         subst (λ (mid : DrawingValue). HasChains mid steps.mid strand.chains) is_block
         (chains_drawn inner.mid steps.mid strand.chains inner.then) in
         let more : length (d.threads ++ strand.thread ∷ []) ≡ length d.threads + 1 = omega (
@@ -131,7 +132,7 @@ strands_drawn d e (strand ∷ rest) is = onwards (goes_on (strand_added d strand
 -- the links of a design's strands are its new links
 one_strand : (block thread : ℕ) (chains : List (List Point)) (links : List Link) (later : List Strand) (sewn : ℕ → List BlockLink)
     → flat_map links_along chains ≡ links → has_chains chains ≡ has_links links → ((b : ℕ) → strand_links b later ≡ sewn b)
-    → strand_links block (strand_of thread chains ++ later) ≡ in_block block links ++ sewn (block + block_for links)
+    → strand_links block (strand_of thread chains ++ later) ≡ in_block block links ++ sewn (block + drawn_block_count links)
 one_strand block thread [] links later sewn are some rest =
     let none : block + 0 ≡ block = omega arith in
     rest block ∙ (ap sewn (sym none)
@@ -164,8 +165,8 @@ sections_drawn keep all (line ∷ rest) =
     let block_links : LineValue → List BlockLink = λ one. in_block one.block (links_along one.points) in
     flat_map-append block_links (line_sections all line) (flat_map (line_sections all) rest)
     ∙ ap₂ (λ (first later : List BlockLink). first ++ later)
-    (through_links line.block (sections_of (is_shared all line.block) line.points)
-    ∙ ap (λ (ends : List (Point × Point)). in_block line.block (map link_between ends)) (keep (is_shared all line.block) line.points))
+    (through_links line.block (sections_of (is_shared_point all line.block) line.points)
+    ∙ ap (λ (ends : List (Point × Point)). in_block line.block (map link_between ends)) (keep (is_shared_point all line.block) line.points))
     (sections_drawn keep all rest)
 
 joined_links : SectionsKeepSegments → (d e : DrawingValue) → joined_drawing d ≡ Ok e → drawn_links e.lines ≡ drawn_links d.lines
@@ -180,7 +181,7 @@ joined_links keep d e is = by_tests (nat_lt 1024 (length (all_sections d.lines))
         ap (λ (f : DrawingValue). drawn_links f.lines) (sym (ok_same (record d { lines = all_sections d.lines }) e is))
         ∙ sections_drawn keep d.lines d.lines
 
-pub finished_is : (d e : DrawingValue) → finished d ≡ Ok e → d ≡ e
+pub finished_is : (d e : DrawingValue) → finished_drawing d ≡ Ok e → d ≡ e
 finished_is d e is = by_tests (length d.threads == 0) (is_last_empty d) is
   where
     by_tests : (none empty : Bool) → cond none (Err kind.NoBlock) (cond empty (Err kind.EmptyBlock) (Ok d)) ≡ Ok e → d ≡ e
@@ -190,26 +191,27 @@ finished_is d e is = by_tests (length d.threads == 0) (is_last_empty d) is
 
 -- a traced drawing has the new links
 through_drawn : SectionsKeepSegments → (d : DesignValue) (step : ℕ) (e : DrawingValue)
-    → drawing_through d.label step (strands_of d) ≡ Ok e → drawn_links e.lines ≡ sewn_links 0 (blocks_of (acts_of d))
+    → drawing_with_strands d.label step (strands_of d) ≡ Ok e → drawn_links e.lines ≡ sewn_links 0 (blocks_of (acts_of d))
 through_drawn keep d step e is =
-    let begun : DrawingValue = drawing_begun (first_word d.label) step in
-    let outer = goes_on (and_then (strands_added begun (strands_of d)) finished) joined_drawing e is in
-    let inner = goes_on (strands_added begun (strands_of d)) finished outer.mid outer.first in
+    let begun : DrawingValue = empty_drawing (label_first_word d.label) step in
+    let outer = goes_on (and_then (strands_added begun (strands_of d)) finished_drawing) joined_drawing e is in
+    let inner = goes_on (strands_added begun (strands_of d)) finished_drawing outer.mid outer.first in
     joined_links keep outer.mid e outer.then
     ∙ (ap (λ (f : DrawingValue). drawn_links f.lines) (sym (finished_is inner.mid outer.mid inner.then))
     ∙ (strands_drawn begun inner.mid (strands_of d) inner.first ∙ strands_sewn d 0 0 (blocks_of (acts_of d))))
 
 pub links_drawn : SectionsKeepSegments → LinksAreDrawn
-links_drawn keep d drawing is = by_step (step_by (moves_along (acts_of d))) is
+links_drawn keep d drawing is = by_step (trace_step (needle_moves_of (acts_of d))) is
   where
-    unlimited : (step : ℕ) (said : Result DrawingValue DrawKind) → drawing_through d.label step (strands_of d) ≡ said
-        → limited said ≡ Ok drawing → drawn_links drawing.lines ≡ sewn_links 0 (blocks_of (acts_of d))
+    unlimited : (step : ℕ) (said : Result DrawingValue DrawKind) → drawing_with_strands d.label step (strands_of d) ≡ said
+        → with_limit_fault said ≡ Ok drawing → drawn_links drawing.lines ≡ sewn_links 0 (blocks_of (acts_of d))
     unlimited step (Ok e) through is =
         subst (λ (f : DrawingValue). drawn_links f.lines ≡ sewn_links 0 (blocks_of (acts_of d))) (ok_same e drawing is)
         (through_drawn keep d step e through)
     unlimited step (Err why) through is = absurd cc
 
-    by_step : (said : Result ℕ TraceFault) → once said (λ step. limited (drawing_through d.label step (strands_of d))) ≡ Ok drawing
+    by_step : (said : Result ℕ TraceFault) → and_then_trace said
+        (λ step. with_limit_fault (drawing_with_strands d.label step (strands_of d))) ≡ Ok drawing
         → drawn_links drawing.lines ≡ sewn_links 0 (blocks_of (acts_of d))
-    by_step (Ok step) is = unlimited step (drawing_through d.label step (strands_of d)) refl is
+    by_step (Ok step) is = unlimited step (drawing_with_strands d.label step (strands_of d)) refl is
     by_step (Err why) is = absurd cc

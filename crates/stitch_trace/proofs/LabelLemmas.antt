@@ -6,20 +6,20 @@ use Rattle.std.proofs.lemmas.List.{length-take}
 use Rattle.std.proofs.lemmas.Option.{get_or_from_slice_get, slice_get_within}
 use Rattle.std.specs.List.{position_or_len}
 use Rattle.design_model.specs.Labels.{IsLabel, IsPrintable}
-use Rattle.stitch_trace.specs.Traces.{first_word, is_space}
+use Rattle.stitch_trace.specs.Traces.{label_first_word, is_space}
 
 -- the first word of a label has no space
-pub no_space : (label : List ℕ) → All (λ byte. byte ≢ 32) (first_word label)
+pub no_space : (label : List ℕ) → All (λ byte. byte ≢ 32) (label_first_word label)
 no_space [] = All-nil (λ (byte : ℕ). byte ≢ 32)
 no_space (byte ∷ rest) = by_test (no_space rest) (is_space byte) refl
   where
-    by_test : All (λ byte. byte ≢ 32) (first_word rest) → (t : Bool) → is_space byte ≡ t
-        → All (λ byte. byte ≢ 32) (first_word (byte ∷ rest))
+    by_test : All (λ byte. byte ≢ 32) (label_first_word rest) → (t : Bool) → is_space byte ≡ t
+        → All (λ byte. byte ≢ 32) (label_first_word (byte ∷ rest))
     by_test later true is = rw is (All-nil (λ (byte : ℕ). byte ≢ 32))
     by_test later false is =
         let other : byte ≢ 32 = λ (same : byte ≡ 32). absurd (grind (arith, nat_tests)) in
         let next : 1 + position_or_len is_space rest ≡ suc (position_or_len is_space rest) = omega arith in
-        rw (is, next) (All-cons (λ (byte : ℕ). byte ≢ 32) byte (first_word rest) other later)
+        rw (is, next) (All-cons (λ (byte : ℕ). byte ≢ 32) byte (label_first_word rest) other later)
 
 none_at : (bytes : List ℕ) → All (λ byte. byte ≢ 32) bytes → (i : ℕ) → slice_get bytes i ≢ Some 32
 none_at bytes none i = by_place (λ (there : i < length bytes). none i 0 there)
@@ -28,7 +28,7 @@ none_at bytes none i = by_place (λ (there : i < length bytes). none i 0 there)
     by_place other = λ (is : slice_get bytes i ≡ Some 32). other (slice_get_within bytes i 32 is) (get_or_from_slice_get bytes i 32 0 is)
 
 -- and may be a label
-pub word_label : (label word : List ℕ) (n : ℕ) → word ≡ first_word label → word ≡ take n label → n ≤ length label → IsLabel label
+pub word_label : (label word : List ℕ) (n : ℕ) → word ≡ label_first_word label → word ≡ take n label → n ≤ length label → IsLabel label
     → IsLabel word
 word_label label word n is taken within keeps = record {
   short = omega (arith, keeps.short, within, ap length taken, length-take n label);

@@ -7,28 +7,28 @@ use Rattle.std.proofs.lemmas.List.Sums.{sum_by-append}
 use Rattle.std.specs.List.{list_all, list_any}
 use Rattle.design_model.specs.declared.act.NumberedAct.{NumberedAct}
 use Rattle.design_model.specs.declared.point.Point.{Point}
-use Rattle.design_model.specs.ActKinds.{is_stop, needle_point, point_of}
+use Rattle.design_model.specs.ActKinds.{is_stop, needle_point, act_point}
 use Rattle.design_model.specs.Acts.{acts_of}
-use Rattle.design_model.specs.Blocks.{blocks_of, in_first}
+use Rattle.design_model.specs.Blocks.{blocks_of, with_act_in_first_block}
 use Rattle.design_model.specs.Designs.{DesignValue, KeepsLimits, thread_of}
 use Rattle.line_sections.specs.Lines.{LineValue}
 use Rattle.line_sections.specs.Sections.{all_sections}
 use Rattle.line_graph.specs.declared.draw_kind.DrawKind.{DrawKind}
 use Rattle.line_graph.specs.declared.draw_kind.DrawKind.TheVariants as kind
 use Rattle.line_graph.specs.Drawings.{DrawingValue}
-use Rattle.line_graph.specs.Growing.{and_then, are_in_range, block_added, drawing_begun, finished, is_last_empty, is_used, line_added, point_count, step_count, with_block, with_line}
-use Rattle.line_graph.specs.Needles.{line_steps}
+use Rattle.line_graph.specs.GrowingDrawings.{and_then, all_in_needle_range, block_added, empty_drawing, finished_drawing, is_last_empty, is_used, line_added, point_count, step_count, with_new_block, with_new_line}
+use Rattle.line_graph.specs.Needles.{steps_of_line}
 use Rattle.line_graph.specs.JoinedDrawings.{joined_drawing}
 use Rattle.stitch_trace.specs.declared.links.Link.{Link}
-use Rattle.stitch_trace.specs.declared.needle_moves.Move.{Move}
-use Rattle.stitch_trace.specs.declared.needle_moves.Move.TheVariants.{Stay, Gap, Sewn}
+use Rattle.stitch_trace.specs.declared.needle_moves.NeedleMove.{NeedleMove}
+use Rattle.stitch_trace.specs.declared.needle_moves.NeedleMove.TheVariants.{Stay, Gap, Sewn}
 use Rattle.stitch_trace.specs.declared.strands.Strand.{Strand}
 use Rattle.stitch_trace.specs.declared.trace_fault.TraceFault.{TraceFault}
 use Rattle.stitch_trace.specs.declared.trace_fault.TraceFault.TheVariants as fault
 use Rattle.stitch_trace.specs.Chains.{chains_of, has_links, is_sewn, new_links_of}
-use Rattle.stitch_trace.specs.Laws.{CountsAreLimits, IsCount}
-use Rattle.stitch_trace.specs.Links.{first_long, links_in, longest, move_by, moves_along, moves_from}
-use Rattle.stitch_trace.specs.Traces.{chains_added, drawing_through, first_word, limited, once, step_by, step_past, strand_added, strand_of, strands_added, strands_from, strands_of, traced}
+use Rattle.stitch_trace.specs.TraceTheorems.{CountsAreLimits, IsCountLimit}
+use Rattle.stitch_trace.specs.Links.{first_too_long, links_in, longest, move_to_act, needle_moves_of, needle_moves_from}
+use Rattle.stitch_trace.specs.Traces.{chains_added, drawing_with_strands, label_first_word, with_limit_fault, and_then_trace, trace_step, step_or_fault, strand_added, strand_of, strands_added, strands_from, strands_of, traced}
 use Rattle.stitch_trace.proofs.DistinctLemmas.{distinct_links}
 use Rattle.stitch_trace.proofs.DrawnLemmas.{GoesOn, block_is, goes_on, line_is, ok_same}
 use Rattle.stitch_trace.proofs.FitLemmas.{AllFit, BlockSteps, Fits, acts_in_range, block_fits, each_block_steps, moves_are_steps}
@@ -39,8 +39,8 @@ err_same : {A F : Type 0} (a b : F) → ◌≡◌ {A = Result A F} (Err a) (Err 
 err_same a b is = cc
 
 -- a count, where it is what refuses
-pub counted : {A : Type 0} (a b : DrawKind) → IsCount a → ◌≡◌ {A = Result A DrawKind} (Err a) (Err b) → IsCount b
-counted a b count is = subst IsCount (err_same a b is) count
+pub counted : {A : Type 0} (a b : DrawKind) → IsCountLimit a → ◌≡◌ {A = Result A DrawKind} (Err a) (Err b) → IsCountLimit b
+counted a b count is = subst IsCountLimit (err_same a b is) count
 
 -- a drawing of that step, with no more steps than points
 pub record IsReady (step : ℕ) (d : DrawingValue) : Type 0 where
@@ -49,37 +49,37 @@ pub record IsReady (step : ℕ) (d : DrawingValue) : Type 0 where
 
 -- a line is refused for a count alone
 line_refused : (step : ℕ) (d : DrawingValue) (points : List Point) (why : DrawKind) → (length d.threads == 0) ≡ false
-    → IsReady step d → Fits step points → line_added d points ≡ Err why → IsCount why
+    → IsReady step d → Fits step points → line_added d points ≡ Err why → IsCountLimit why
 line_refused step d points why some ready fits is =
     by_tests (length d.lines == 1024) (nat_lt 65536 (point_count d.lines + length points)) refl (sym tests ∙ is)
   where
     steps : ℕ
-    steps = step_count d.step d.lines + line_steps d.step points
+    steps = step_count d.step d.lines + steps_of_line d.step points
 
     tests : line_added d points ≡ and_then (cond (length d.lines == 1024) (Err kind.TooManyLines)
         (cond (nat_lt 65536 (point_count d.lines + length points)) (Err kind.TooManyPoints)
-        (cond (nat_lt 200000 steps) (Err kind.TooMuchCost) (Ok steps)))) (λ steps. Ok (with_line d points))
+        (cond (nat_lt 200000 steps) (Err kind.TooMuchCost) (Ok steps)))) (λ steps. Ok (with_new_line d points))
     tests =
         let long : nat_lt (length points) 2 ≡ false = grind (arith, nat_tests, fits.long) in
         rw (some, fits.in_range, long, fits.still) refl
 
     by_tests : (many full : Bool) → nat_lt 65536 (point_count d.lines + length points) ≡ full
         → and_then (cond many (Err kind.TooManyLines) (cond full (Err kind.TooManyPoints)
-        (cond (nat_lt 200000 steps) (Err kind.TooMuchCost) (Ok steps)))) (λ steps. Ok (with_line d points)) ≡ Err why → IsCount why
+        (cond (nat_lt 200000 steps) (Err kind.TooMuchCost) (Ok steps)))) (λ steps. Ok (with_new_line d points)) ≡ Err why → IsCountLimit why
     by_tests true full room is = counted kind.TooManyLines why tt is
     by_tests false true room is = counted kind.TooManyPoints why tt is
     by_tests false false room is =
         let low : step_count d.step d.lines ≤ point_count d.lines = rw ready.stepped ready.cost in
-        let more : line_steps d.step points ≤ length points = rw ready.stepped fits.cost in
+        let more : steps_of_line d.step points ≤ length points = rw ready.stepped fits.cost in
         let cheap : nat_lt 200000 steps ≡ false = grind (arith, nat_tests, low, more, room) in
-        let fine : and_then (cond (nat_lt 200000 steps) (Err kind.TooMuchCost) (Ok steps)) (λ steps. Ok (with_line d points))
-        ≡ Ok (with_line d points) = rw cheap refl in
+        let fine : and_then (cond (nat_lt 200000 steps) (Err kind.TooMuchCost) (Ok steps)) (λ steps. Ok (with_new_line d points))
+        ≡ Ok (with_new_line d points) = rw cheap refl in
         absurd (never (sym fine ∙ is))
       where
-        never : Ok (with_line d points) ≡ Err why → ⊥
+        never : Ok (with_new_line d points) ≡ Err why → ⊥
         never is = cc
 
-line_ready : (step : ℕ) (d : DrawingValue) (points : List Point) → IsReady step d → Fits step points → IsReady step (with_line d points)
+line_ready : (step : ℕ) (d : DrawingValue) (points : List Point) → IsReady step d → Fits step points → IsReady step (with_new_line d points)
 line_ready step d points ready fits =
     let line : LineValue = record { block = length d.threads - 1; points = points } in
     record {
@@ -88,7 +88,7 @@ line_ready step d points ready fits =
         arith,
         ready.cost,
         fits.cost,
-        sum_by-append (λ (l : LineValue). line_steps step l.points) d.lines (line ∷ []),
+        sum_by-append (λ (l : LineValue). steps_of_line step l.points) d.lines (line ∷ []),
         sum_by-append (λ (l : LineValue). length l.points) d.lines (line ∷ []),
       );
     }
@@ -97,12 +97,12 @@ and_false : (t : Bool) → (t && false) ≡ false
 and_false true = refl
 and_false false = refl
 
-line_used : (d : DrawingValue) (points : List Point) → is_last_empty (with_line d points) ≡ false
+line_used : (d : DrawingValue) (points : List Point) → is_last_empty (with_new_line d points) ≡ false
 line_used d points =
     let block : ℕ = length d.threads - 1 in
     let line : LineValue = record { block = block; points = points } in
     let same : (block == block) ≡ true = grind (arith, nat_tests) in
-    let used : is_used (with_line d points) block ≡ true =
+    let used : is_used (with_new_line d points) block ≡ true =
     list_any-append (λ (l : LineValue). l.block == block) d.lines (line ∷ [])
     ∙ (ap (λ (t : Bool). list_any (λ (l : LineValue). l.block == block) d.lines || (t || false)) same
     ∙ or_true (list_any (λ (l : LineValue). l.block == block) d.lines)) in
@@ -114,13 +114,13 @@ line_used d points =
 
 -- chains are refused for a count alone
 chains_refused : (step : ℕ) (d : DrawingValue) (chains : List (List Point)) (why : DrawKind) → (length d.threads == 0) ≡ false
-    → IsReady step d → AllFit step chains → chains_added d chains ≡ Err why → IsCount why
+    → IsReady step d → AllFit step chains → chains_added d chains ≡ Err why → IsCountLimit why
 chains_refused step d [] why some ready fit is = absurd cc
 chains_refused step d (chain ∷ rest) why some ready fit is = by_line (line_added d chain) refl is
-    (λ later. chains_refused step (with_line d chain) rest why some (line_ready step d chain ready fit.0) fit.1 later)
+    (λ later. chains_refused step (with_new_line d chain) rest why some (line_ready step d chain ready fit.0) fit.1 later)
   where
     by_line : (said : Result DrawingValue DrawKind) → line_added d chain ≡ said → and_then said (λ more. chains_added more rest) ≡ Err why
-        → (chains_added (with_line d chain) rest ≡ Err why → IsCount why) → IsCount why
+        → (chains_added (with_new_line d chain) rest ≡ Err why → IsCountLimit why) → IsCountLimit why
     by_line (Ok mid) line is later =
         later (subst (λ (e : DrawingValue). chains_added e rest ≡ Err why) (line_is d mid chain line) is)
     by_line (Err other) line is later = counted other why (line_refused step d chain other some ready fit.0 line) is
@@ -137,10 +137,10 @@ after_chains step d e [] ready fit used is =
     subst (IsAfter step d) (ok_same d e is) (record { threads = refl; ready = ready; used = used })
 after_chains step d e (chain ∷ rest) ready fit used is =
     onwards (goes_on (line_added d chain) (λ more. chains_added more rest) e is)
-    (λ later. after_chains step (with_line d chain) e rest (line_ready step d chain ready fit.0) fit.1 (line_used d chain) later)
+    (λ later. after_chains step (with_new_line d chain) e rest (line_ready step d chain ready fit.0) fit.1 (line_used d chain) later)
   where
     onwards : GoesOn (line_added d chain) (λ more. chains_added more rest) e
-        → (chains_added (with_line d chain) rest ≡ Ok e → IsAfter step (with_line d chain) e) → IsAfter step d e
+        → (chains_added (with_new_line d chain) rest ≡ Ok e → IsAfter step (with_new_line d chain) e) → IsAfter step d e
     onwards steps later =
         let after = later (subst (λ (mid : DrawingValue). chains_added mid rest ≡ Ok e)
         (line_is d steps.mid chain steps.first) steps.then) in
@@ -151,17 +151,18 @@ some_after : (step : ℕ) (d e : DrawingValue) (chains : List (List Point)) → 
 some_after step d e [] some ready fit is = absurd cc
 some_after step d e (chain ∷ rest) some ready fit is =
     let steps = goes_on (line_added d chain) (λ more. chains_added more rest) e is in
-    let after = after_chains step (with_line d chain) e rest (line_ready step d chain ready fit.0) fit.1 (line_used d chain)
+    let after = after_chains step (with_new_line d chain) e rest (line_ready step d chain ready fit.0) fit.1 (line_used d chain)
     (subst (λ (mid : DrawingValue). chains_added mid rest ≡ Ok e) (line_is d steps.mid chain steps.first) steps.then) in
     record { threads = after.threads; ready = after.ready; used = after.used }
 
-block_refused : (d : DrawingValue) (thread : ℕ) (why : DrawKind) → is_last_empty d ≡ false → block_added d thread ≡ Err why → IsCount why
+block_refused : (d : DrawingValue) (thread : ℕ) (why : DrawKind) → is_last_empty d ≡ false → block_added d thread ≡ Err why
+    → IsCountLimit why
 block_refused d thread why used is = by_test (length d.threads == 255) (sym test ∙ is)
   where
-    test : block_added d thread ≡ cond (length d.threads == 255) (Err kind.TooManyBlocks) (Ok (with_block d thread))
+    test : block_added d thread ≡ cond (length d.threads == 255) (Err kind.TooManyBlocks) (Ok (with_new_block d thread))
     test = rw used refl
 
-    by_test : (full : Bool) → cond full (Err kind.TooManyBlocks) (Ok (with_block d thread)) ≡ Err why → IsCount why
+    by_test : (full : Bool) → cond full (Err kind.TooManyBlocks) (Ok (with_new_block d thread)) ≡ Err why → IsCountLimit why
     by_test true is = counted kind.TooManyBlocks why tt is
     by_test false is = absurd cc
 
@@ -171,41 +172,41 @@ StrandsFit step [] = Unit {0}
 StrandsFit step (strand ∷ rest) = (has_chains strand.chains ≡ true) × AllFit step strand.chains × StrandsFit step rest
 
 module _ (step : ℕ) where
-  block_ready : (d : DrawingValue) (thread : ℕ) → IsReady step d → IsReady step (with_block d thread)
+  block_ready : (d : DrawingValue) (thread : ℕ) → IsReady step d → IsReady step (with_new_block d thread)
   block_ready d thread ready = record { stepped = ready.stepped; cost = ready.cost }
 
-  block_some : (d : DrawingValue) (thread : ℕ) → (length (with_block d thread).threads == 0) ≡ false
+  block_some : (d : DrawingValue) (thread : ℕ) → (length (with_new_block d thread).threads == 0) ≡ false
   block_some d thread = grind (arith, nat_tests, length-append d.threads (thread ∷ []))
 
   strand_refused : (d : DrawingValue) (strand : Strand) (why : DrawKind) → is_last_empty d ≡ false → IsReady step d
-      → AllFit step strand.chains → strand_added d strand ≡ Err why → IsCount why
+      → AllFit step strand.chains → strand_added d strand ≡ Err why → IsCountLimit why
   strand_refused d strand why used ready fit is = by_block (block_added d strand.thread) refl is
     where
       by_block : (said : Result DrawingValue DrawKind) → block_added d strand.thread ≡ said
-          → and_then said (λ more. chains_added more strand.chains) ≡ Err why → IsCount why
+          → and_then said (λ more. chains_added more strand.chains) ≡ Err why → IsCountLimit why
       by_block (Ok mid) block is =
-          chains_refused step (with_block d strand.thread) strand.chains why (block_some d strand.thread)
+          chains_refused step (with_new_block d strand.thread) strand.chains why (block_some d strand.thread)
           (block_ready d strand.thread ready) fit
           (subst (λ (e : DrawingValue). chains_added e strand.chains ≡ Err why) (block_is d mid strand.thread block) is)
       by_block (Err other) block is = counted other why (block_refused d strand.thread other used block) is
 
   strand_after : (d e : DrawingValue) (strand : Strand) → IsReady step d → has_chains strand.chains ≡ true → AllFit step strand.chains
-      → strand_added d strand ≡ Ok e → IsAfter step (with_block d strand.thread) e
+      → strand_added d strand ≡ Ok e → IsAfter step (with_new_block d strand.thread) e
   strand_after d e strand ready some fit is =
       let steps = goes_on (block_added d strand.thread) (λ more. chains_added more strand.chains) e is in
-      some_after step (with_block d strand.thread) e strand.chains some (block_ready d strand.thread ready) fit
+      some_after step (with_new_block d strand.thread) e strand.chains some (block_ready d strand.thread ready) fit
       (subst (λ (mid : DrawingValue). chains_added mid strand.chains ≡ Ok e) (block_is d steps.mid strand.thread steps.first) steps.then)
 
   pub strands_refused : (d : DrawingValue) (strands : List Strand) (why : DrawKind) → is_last_empty d ≡ false → IsReady step d
-      → StrandsFit step strands → strands_added d strands ≡ Err why → IsCount why
+      → StrandsFit step strands → strands_added d strands ≡ Err why → IsCountLimit why
   strands_refused d [] why used ready fit is = absurd cc
   strands_refused d (strand ∷ rest) why used ready fit is = by_strand (strand_added d strand) refl is
       (λ mid after. strands_refused mid rest why (IsAfter.used after) (IsAfter.ready after) fit.2)
     where
       by_strand : (said : Result DrawingValue DrawKind) → strand_added d strand ≡ said
           → and_then said (λ more. strands_added more rest) ≡ Err why
-          → ((mid : DrawingValue) → IsAfter step (with_block d strand.thread) mid → strands_added mid rest ≡ Err why → IsCount why)
-          → IsCount why
+          → ((mid : DrawingValue) → IsAfter step (with_new_block d strand.thread) mid → strands_added mid rest ≡ Err why → IsCountLimit why)
+          → IsCountLimit why
       by_strand (Ok mid) added is later = later mid (strand_after d mid strand ready fit.0 fit.1 added) is
       by_strand (Err other) added is later = counted other why (strand_refused d strand other used ready fit.1 added) is
 
@@ -223,7 +224,7 @@ module _ (step : ℕ) where
       (λ mid after. strands_end mid e rest (IsAfter.used after) (IsAfter.ready after) fit.2)
     where
       onwards : GoesOn (strand_added d strand) (λ more. strands_added more rest) e
-          → ((mid : DrawingValue) → IsAfter step (with_block d strand.thread) mid → strands_added mid rest ≡ Ok e → MayEnd mid e rest)
+          → ((mid : DrawingValue) → IsAfter step (with_new_block d strand.thread) mid → strands_added mid rest ≡ Ok e → MayEnd mid e rest)
           → MayEnd d e (strand ∷ rest)
       onwards steps later =
           let after = strand_after d steps.mid strand ready fit.0 fit.1 steps.first in

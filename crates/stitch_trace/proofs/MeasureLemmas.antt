@@ -10,26 +10,26 @@ use Rattle.design_model.specs.declared.act.Act.TheVariants as act
 use Rattle.design_model.specs.declared.act.NumberedAct.{NumberedAct}
 use Rattle.design_model.specs.declared.point.Point.{Point}
 use Rattle.design_model.specs.ActKinds.{needle_point}
-use Rattle.design_model.specs.Points.{is_same_point, move_between, size_of}
+use Rattle.design_model.specs.Points.{is_same_point, move_between, move_size}
 use Rattle.stitch_trace.specs.declared.links.Link.{Link}
-use Rattle.stitch_trace.specs.declared.needle_moves.Move.{Move}
-use Rattle.stitch_trace.specs.declared.needle_moves.Move.TheVariants.{Stay, Gap, Sewn}
+use Rattle.stitch_trace.specs.declared.needle_moves.NeedleMove.{NeedleMove}
+use Rattle.stitch_trace.specs.declared.needle_moves.NeedleMove.TheVariants.{Stay, Gap, Sewn}
 use Rattle.stitch_trace.specs.declared.trace_fault.TraceFault.{TraceFault}
 use Rattle.stitch_trace.specs.declared.trace_fault.TraceFault.TheVariants as fault
-use Rattle.stitch_trace.specs.Links.{first_long, is_long, link_size, links_in, longest, move_by, moves_along, moves_from}
-use Rattle.stitch_trace.specs.Traces.{step_by, step_past}
-use Rattle.stitch_trace.specs.Tracing.{measured_on}
+use Rattle.stitch_trace.specs.Links.{first_too_long, is_too_long, link_size, links_in, longest, move_to_act, needle_moves_of, needle_moves_from}
+use Rattle.stitch_trace.specs.Traces.{trace_step, step_or_fault}
+use Rattle.stitch_trace.specs.Tracing.{max_size_after}
 
 -- a number that differs by nothing is the same
 no_difference : (a b : ℤ) → unsigned_abs (b -ℤ a) ≤ 0 → a ≡ b
 no_difference a b none = grind (arith, ints)
 
 -- points that aren't found to be the same are apart
-pub size_apart : (p q : Point) → is_same_point p q ≡ false → 1 ≤ size_of (move_between p q)
+pub size_apart : (p q : Point) → is_same_point p q ≡ false → 1 ≤ move_size (move_between p q)
 size_apart p q differ =
     let across = le-max_left (unsigned_abs (q.x -ℤ p.x)) (unsigned_abs (q.y -ℤ p.y)) in
     let down = le-max_right (unsigned_abs (q.x -ℤ p.x)) (unsigned_abs (q.y -ℤ p.y)) in
-    let not_none : size_of (move_between p q) ≤ 0 → ⊥ = λ none.
+    let not_none : move_size (move_between p q) ≤ 0 → ⊥ = λ none.
     let x : int_eq p.x q.x ≡ true = (Decides-int_eq p.x q.x).1 (no_difference p.x q.x (omega arith)) in
     let y : int_eq p.y q.y ≡ true = (Decides-int_eq p.y q.y).1 (no_difference p.y q.y (omega arith)) in
     both_ways (is_same_point p q) differ (rw (x, y) refl) in
@@ -49,48 +49,50 @@ abbrev comes_to : ℕ → Option ℕ → List Link → Result ℕ TraceFault
 comes_to longest (Some number) links = Err (fault.LinkTooLong number)
 comes_to longest None links = cond (greatest longest links == 0) (Err fault.NoLinks) (Ok (greatest longest links))
 
-measured_to : (longest : ℕ) (moves : List Move) → measured_on longest moves ≡ comes_to longest (first_long moves) (links_in moves)
+measured_to : (longest : ℕ) (moves : List NeedleMove)
+    → max_size_after longest moves ≡ comes_to longest (first_too_long moves) (links_in moves)
 measured_to longest [] = refl
 measured_to longest (Stay ∷ rest) = measured_to longest rest
 measured_to longest (Gap ∷ rest) = measured_to longest rest
-measured_to longest (Sewn number link ∷ rest) = by_test (measured_to (max longest (link_size link)) rest) (is_long link) refl
+measured_to longest (Sewn number link ∷ rest) = by_test (measured_to (max longest (link_size link)) rest) (is_too_long link) refl
   where
     on : (found : Option ℕ) → comes_to (max longest (link_size link)) found (links_in rest)
         ≡ comes_to longest found (link ∷ links_in rest)
     on (Some number) = refl
     on None = refl
 
-    by_test : measured_on (max longest (link_size link)) rest ≡ comes_to (max longest (link_size link)) (first_long rest) (links_in rest)
-        → (t : Bool) → is_long link ≡ t → measured_on longest (Sewn number link ∷ rest)
-        ≡ comes_to longest (first_long (Sewn number link ∷ rest)) (link ∷ links_in rest)
+    by_test : max_size_after (max longest (link_size link)) rest
+        ≡ comes_to (max longest (link_size link)) (first_too_long rest) (links_in rest)
+        → (t : Bool) → is_too_long link ≡ t → max_size_after longest (Sewn number link ∷ rest)
+        ≡ comes_to longest (first_too_long (Sewn number link ∷ rest)) (link ∷ links_in rest)
     by_test later true is = rw is refl
-    by_test later false is = rw is (later ∙ on (first_long rest))
+    by_test later false is = rw is (later ∙ on (first_too_long rest))
 
 -- the first of the links, if there is one, has a size
 abbrev pub FirstHasSize : List Link → Type 0
 FirstHasSize [] = Unit {0}
 FirstHasSize (link ∷ rest) = 1 ≤ link_size link
 
-after_link : (p q : Point) (number : ℕ) (later : List Move) → FirstHasSize (links_in later) → (t : Bool) → is_same_point p q ≡ t
+after_link : (p q : Point) (number : ℕ) (later : List NeedleMove) → FirstHasSize (links_in later) → (t : Bool) → is_same_point p q ≡ t
     → (float : Bool)
     → FirstHasSize (links_in (cond t Stay (cond float Gap (Sewn number (record { from = p; to = q }))) ∷ later))
 after_link p q number later first true same float = first
 after_link p q number later first false same true = first
 after_link p q number later first false same false = size_apart p q same
 
-after_act : (p : Point) (number : ℕ) (what : Act) (later : List Move) → FirstHasSize (links_in later)
-    → FirstHasSize (links_in (move_by (Some p) number what ∷ later))
+after_act : (p : Point) (number : ℕ) (what : Act) (later : List NeedleMove) → FirstHasSize (links_in later)
+    → FirstHasSize (links_in (move_to_act (Some p) number what ∷ later))
 after_act p number act.Trim later first = first
 after_act p number act.Stop later first = first
 after_act p number (act.Needle q float) later first = after_link p q number later first (is_same_point p q) refl float
 
-pub first_has_size : (before : Option Point) (acts : List NumberedAct) → FirstHasSize (links_in (moves_from before acts))
+pub first_has_size : (before : Option Point) (acts : List NumberedAct) → FirstHasSize (links_in (needle_moves_from before acts))
 first_has_size before [] = tt
 first_has_size None (a ∷ rest) = first_has_size (needle_point a) rest
 first_has_size (Some p) (a ∷ rest) =
-    after_act p a.number a.act (moves_from (needle_point a) rest) (first_has_size (needle_point a) rest)
+    after_act p a.number a.act (needle_moves_from (needle_point a) rest) (first_has_size (needle_point a) rest)
 
-past_is : (found : Option ℕ) (links : List Link) → FirstHasSize links → comes_to 0 found links ≡ step_past found links
+past_is : (found : Option ℕ) (links : List Link) → FirstHasSize links → comes_to 0 found links ≡ step_or_fault found links
 past_is (Some number) links first = refl
 past_is None [] first = refl
 past_is None (link ∷ rest) first =
@@ -99,7 +101,7 @@ past_is None (link ∷ rest) first =
     rw some refl
 
 -- measuring acts returns the step
-pub step_is : (acts : List NumberedAct) → measured_on 0 (moves_along acts) ≡ step_by (moves_along acts)
+pub step_is : (acts : List NumberedAct) → max_size_after 0 (needle_moves_of acts) ≡ trace_step (needle_moves_of acts)
 step_is acts =
-    measured_to 0 (moves_along acts)
-    ∙ past_is (first_long (moves_along acts)) (links_in (moves_along acts)) (first_has_size None acts)
+    measured_to 0 (needle_moves_of acts)
+    ∙ past_is (first_too_long (needle_moves_of acts)) (links_in (needle_moves_of acts)) (first_has_size None acts)

@@ -14,18 +14,18 @@ use Rattle.line_sections.specs.Sections.{SectionsKeepSegments, all_sections}
 use Rattle.line_graph.specs.declared.draw_kind.DrawKind.{DrawKind}
 use Rattle.line_graph.specs.declared.draw_kind.DrawKind.TheVariants as kind
 use Rattle.line_graph.specs.Drawings.{DrawingValue}
-use Rattle.line_graph.specs.Growing.{and_then, block_added, drawing_begun, finished, line_added, point_count}
+use Rattle.line_graph.specs.GrowingDrawings.{and_then, block_added, empty_drawing, finished_drawing, line_added, point_count}
 use Rattle.line_graph.specs.JoinedDrawings.{joined_drawing}
 use Rattle.step_splitter.specs.Steps.{steps_of}
 use Rattle.stitch_trace.specs.declared.links.Link.{Link}
-use Rattle.stitch_trace.specs.declared.needle_moves.Move.{Move}
-use Rattle.stitch_trace.specs.declared.needle_moves.Move.TheVariants.{Stay, Gap, Sewn}
+use Rattle.stitch_trace.specs.declared.needle_moves.NeedleMove.{NeedleMove}
+use Rattle.stitch_trace.specs.declared.needle_moves.NeedleMove.TheVariants.{Stay, Gap, Sewn}
 use Rattle.stitch_trace.specs.declared.strands.Strand.{Strand}
 use Rattle.stitch_trace.specs.declared.trace_fault.TraceFault.{TraceFault}
 use Rattle.stitch_trace.specs.Chains.{new_links_of, new_moves_of}
-use Rattle.stitch_trace.specs.Laws.{BlockLink, LinksAreSteps, block_for, drawn_links, in_block, is_one_step, sewn_links}
-use Rattle.stitch_trace.specs.Links.{first_long, link_size, links_in, moves_along}
-use Rattle.stitch_trace.specs.Traces.{chains_added, drawing_through, first_word, limited, once, step_by, strand_added, strands_added, strands_of, traced}
+use Rattle.stitch_trace.specs.TraceTheorems.{BlockLink, LinksAreSteps, drawn_block_count, drawn_links, in_block, is_one_step, sewn_links}
+use Rattle.stitch_trace.specs.Links.{first_too_long, link_size, links_in, needle_moves_of}
+use Rattle.stitch_trace.specs.Traces.{chains_added, drawing_with_strands, label_first_word, with_limit_fault, and_then_trace, trace_step, strand_added, strands_added, strands_of, traced}
 use Rattle.stitch_trace.proofs.CountLemmas.{least_step, step_parts}
 use Rattle.stitch_trace.proofs.DrawnLemmas.{GoesOn, block_is, finished_is, goes_on, line_is, links_drawn, ok_same}
 use Rattle.stitch_trace.proofs.FitLemmas.{AreSteps, BlockSteps, IsStep, acts_in_range, each_block_steps, moves_are_steps, new_are_steps, one_step}
@@ -44,7 +44,7 @@ one_exactly step link some is =
     exactly : (n : ℕ) → n ≡ 1 → (n == 1) ≡ true
     exactly n is = grind (arith, nat_tests)
 
-steps_in_block : (step : ℕ) → 1 ≤ step → (block : ℕ) (moves : List Move) → AreSteps step moves
+steps_in_block : (step : ℕ) → 1 ≤ step → (block : ℕ) (moves : List NeedleMove) → AreSteps step moves
     → list_all (is_one_step step) (in_block block (links_in moves)) ≡ true
 steps_in_block step some block [] are = refl
 steps_in_block step some block (Stay ∷ rest) are = steps_in_block step some block rest are
@@ -56,10 +56,10 @@ sewn_steps : (step : ℕ) → 1 ≤ step → (block : ℕ) (blocks : List (List 
     → list_all (is_one_step step) (sewn_links block blocks) ≡ true
 sewn_steps step some block [] are = refl
 sewn_steps step some block (acts ∷ later) are =
-    let next : ℕ = block + block_for (new_links_of acts) in
+    let next : ℕ = block + drawn_block_count (new_links_of acts) in
     list_all-append (is_one_step step) (in_block block (new_links_of acts)) (sewn_links next later)
     ∙ both (list_all (is_one_step step) (in_block block (new_links_of acts))) (list_all (is_one_step step) (sewn_links next later))
-    (steps_in_block step some block (new_moves_of acts) (new_are_steps step [] (moves_along acts) are.0))
+    (steps_in_block step some block (new_moves_of acts) (new_are_steps step [] (needle_moves_of acts) are.0))
     (sewn_steps step some next later are.1)
   where
     both : (a b : Bool) → a ≡ true → b ≡ true → (a && b) ≡ true
@@ -91,35 +91,35 @@ joined_step d e is = by_tests (nat_lt 1024 (length (all_sections d.lines))) (nat
     by_tests false true is = absurd cc
     by_tests false false is = ap (λ (f : DrawingValue). f.step) (sym (ok_same (record d { lines = all_sections d.lines }) e is))
 
-through_step : (d : DesignValue) (step : ℕ) (e : DrawingValue) → drawing_through d.label step (strands_of d) ≡ Ok e → e.step ≡ step
+through_step : (d : DesignValue) (step : ℕ) (e : DrawingValue) → drawing_with_strands d.label step (strands_of d) ≡ Ok e → e.step ≡ step
 through_step d step e is =
-    let begun : DrawingValue = drawing_begun (first_word d.label) step in
-    let outer = goes_on (and_then (strands_added begun (strands_of d)) finished) joined_drawing e is in
-    let inner = goes_on (strands_added begun (strands_of d)) finished outer.mid outer.first in
+    let begun : DrawingValue = empty_drawing (label_first_word d.label) step in
+    let outer = goes_on (and_then (strands_added begun (strands_of d)) finished_drawing) joined_drawing e is in
+    let inner = goes_on (strands_added begun (strands_of d)) finished_drawing outer.mid outer.first in
     joined_step outer.mid e outer.then
     ∙ (ap (λ (f : DrawingValue). f.step) (sym (finished_is inner.mid outer.mid inner.then))
     ∙ strands_step begun inner.mid (strands_of d) inner.first)
 
 pub links_steps : SectionsKeepSegments → LinksAreSteps
 links_steps keep d drawing keeps is =
-    rw (links_drawn keep d drawing is) (by_step (step_by (moves_along (acts_of d))) refl is)
+    rw (links_drawn keep d drawing is) (by_step (trace_step (needle_moves_of (acts_of d))) refl is)
   where
-    unlimited : (step : ℕ) (said : Result DrawingValue DrawKind) → drawing_through d.label step (strands_of d) ≡ said
-        → limited said ≡ Ok drawing → drawing.step ≡ step
+    unlimited : (step : ℕ) (said : Result DrawingValue DrawKind) → drawing_with_strands d.label step (strands_of d) ≡ said
+        → with_limit_fault said ≡ Ok drawing → drawing.step ≡ step
     unlimited step (Ok e) through is =
         subst (λ (f : DrawingValue). f.step ≡ step) (ok_same e drawing is) (through_step d step e through)
     unlimited step (Err why) through is = absurd cc
 
-    by_step : (said : Result ℕ TraceFault) → step_by (moves_along (acts_of d)) ≡ said
-        → once said (λ step. limited (drawing_through d.label step (strands_of d))) ≡ Ok drawing
+    by_step : (said : Result ℕ TraceFault) → trace_step (needle_moves_of (acts_of d)) ≡ said
+        → and_then_trace said (λ step. with_limit_fault (drawing_with_strands d.label step (strands_of d))) ≡ Ok drawing
         → list_all (is_one_step drawing.step) (sewn_links 0 (blocks_of (acts_of d))) ≡ true
     by_step (Ok step) measured is =
-        let links : List Link = links_in (moves_along (acts_of d)) in
-        let parts = step_parts (first_long (moves_along (acts_of d))) links step measured in
+        let links : List Link = links_in (needle_moves_of (acts_of d)) in
+        let parts = step_parts (first_too_long (needle_moves_of (acts_of d))) links step measured in
         let least : 1 ≤ step = omega (arith, parts.1, least_step links (first_has_size None (acts_of d)) parts.0) in
         let steps = moves_are_steps step 0 None (acts_of d) tt (acts_in_range 1 true false d.commands keeps.in_range)
         (omega (arith, parts.1)) in
         let all = sewn_steps step least 0 (blocks_of (acts_of d)) (each_block_steps step (acts_of d) steps) in
         subst (λ (s : ℕ). list_all (is_one_step s) (sewn_links 0 (blocks_of (acts_of d))) ≡ true)
-        (sym (unlimited step (drawing_through d.label step (strands_of d)) refl is)) all
+        (sym (unlimited step (drawing_with_strands d.label step (strands_of d)) refl is)) all
     by_step (Err why) measured is = absurd cc

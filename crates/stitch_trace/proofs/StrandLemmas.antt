@@ -5,7 +5,7 @@ use Rattle.std.proofs.lemmas.List.{take-append-drop, take_all}
 use Rattle.std.specs.List.{position_or_len}
 use Rattle.design_model.specs.declared.act.NumberedAct.{NumberedAct}
 use Rattle.design_model.specs.ActKinds.{is_stop}
-use Rattle.design_model.specs.Blocks.{blocks_of, in_first}
+use Rattle.design_model.specs.Blocks.{blocks_of, with_act_in_first_block}
 
 -- the blocks after the first stop
 abbrev after_stop : List NumberedAct → List (List NumberedAct)
@@ -23,7 +23,7 @@ blocks_at (a ∷ rest) = by_test (blocks_at rest) (is_stop a) refl
     by_test later true is = rw is refl
     by_test later false is =
         let next : 1 + position_or_len is_stop rest ≡ suc (position_or_len is_stop rest) = omega arith in
-        rw (is, next) (ap (in_first a) later)
+        rw (is, next) (ap (with_act_in_first_block a) later)
 
 -- what follows the stop
 stop_passed : (behind : List NumberedAct) → 1 ≤ length behind

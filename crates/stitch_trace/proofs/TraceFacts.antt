@@ -11,8 +11,8 @@ use Rattle.stitch_trace.specs.declared.trace_fault.TraceFault.TheVariants as fau
 use Rattle.design_model.specs.Acts.{acts_of}
 use Rattle.design_model.specs.Blocks.{blocks_of}
 use Rattle.stitch_trace.specs.declared.links.Link.{Link}
-use Rattle.stitch_trace.specs.Laws.{BlockLink, IsCount, are_distinct, drawn_links, is_one_step, sewn_links}
-use Rattle.stitch_trace.specs.Traces.{first_word, traced}
+use Rattle.stitch_trace.specs.TraceTheorems.{BlockLink, IsCountLimit, are_distinct, drawn_links, is_one_step, sewn_links}
+use Rattle.stitch_trace.specs.Traces.{label_first_word, traced}
 
 -- a place on the cloth
 abbrev at : ℕ → ℕ → Point
@@ -82,7 +82,7 @@ pub known_long : (traced (sewing (stitch 0 0 ∷ stitch 0 2047 ∷ [])) ≡ Ok (
 known_long = (refl, refl)
 
 -- a label up to its first space
-pub known_words : (first_word (codes "rose") ≡ codes "rose") × (first_word (codes " rose") ≡ []) × (first_word [] ≡ [])
+pub known_words : (label_first_word (codes "rose") ≡ codes "rose") × (label_first_word (codes " rose") ≡ []) × (label_first_word [] ≡ [])
 known_words = (refl, refl, refl)
 
 abbrev link : Point → Point → Link
@@ -114,5 +114,6 @@ pub known_distinct : (are_distinct (link (at 0 0) (at 7 0) ∷ link (at 7 0) (at
 known_distinct = (refl, refl, refl)
 
 -- the theorem on limits is about blocks, lines and points, and not about cost
-pub known_counts : IsCount kind.TooManyBlocks × IsCount kind.TooManyLines × IsCount kind.TooManyPoints × (IsCount kind.TooMuchCost → ⊥)
+pub known_counts : IsCountLimit kind.TooManyBlocks × IsCountLimit kind.TooManyLines × IsCountLimit kind.TooManyPoints
+    × (IsCountLimit kind.TooMuchCost → ⊥)
 known_counts = (tt, tt, tt, λ count. count)

@@ -3,6 +3,6 @@ pub mod Links
 pub mod Chains
 pub mod Traces
 -- Theorems about traced drawings.
-pub mod Laws
+pub mod TraceTheorems
 -- Used only inside this crate.
 pub mod Tracing

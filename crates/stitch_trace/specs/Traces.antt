@@ -10,14 +10,14 @@ use Rattle.design_model.specs.Designs.{DesignValue, thread_of}
 use Rattle.line_graph.specs.declared.draw_kind.DrawKind.{DrawKind}
 use Rattle.line_graph.specs.declared.draw_kind.DrawKind.TheVariants as kind
 use Rattle.line_graph.specs.Drawings.{DrawingValue}
-use Rattle.line_graph.specs.Growing.{and_then, block_added, drawing_begun, finished, line_added}
+use Rattle.line_graph.specs.GrowingDrawings.{and_then, block_added, empty_drawing, finished_drawing, line_added}
 use Rattle.line_graph.specs.JoinedDrawings.{joined_drawing}
-use Rattle.stitch_trace.specs.declared.needle_moves.Move.{Move}
+use Rattle.stitch_trace.specs.declared.needle_moves.NeedleMove.{NeedleMove}
 use Rattle.stitch_trace.specs.declared.links.Link.{Link}
 use Rattle.stitch_trace.specs.declared.strands.Strand.{Strand}
 use Rattle.stitch_trace.specs.declared.trace_fault.TraceFault.{TraceFault}
 use Rattle.stitch_trace.specs.declared.trace_fault.TraceFault.TheVariants as fault
-use Rattle.stitch_trace.specs.Links.{first_long, links_in, longest, moves_along}
+use Rattle.stitch_trace.specs.Links.{first_too_long, links_in, longest, needle_moves_of}
 use Rattle.stitch_trace.specs.Chains.{chains_of}
 
 -- The strand of a block: its thread and its chains, if it has any.
@@ -40,8 +40,8 @@ abbrev pub is_space : ℕ → Bool
 is_space byte = byte == 32
 
 -- A label up to its first space.
-abbrev pub first_word : List ℕ → List ℕ
-first_word label = before_first is_space label
+abbrev pub label_first_word : List ℕ → List ℕ
+label_first_word label = before_first is_space label
 
 -- The drawing with chains as more lines of its last block, or the first fault.
 abbrev pub chains_added : DrawingValue → List (List Point) → Result DrawingValue DrawKind
@@ -61,37 +61,38 @@ strands_added d (strand ∷ rest) =
 
 -- The joined drawing of strands, with the first word of a label and the given longest step, or the
 -- first fault.
-abbrev pub drawing_through : List ℕ → ℕ → List Strand → Result DrawingValue DrawKind
-drawing_through label step strands =
-    and_then (and_then (strands_added (drawing_begun (first_word label) step) strands) finished)
+abbrev pub drawing_with_strands : List ℕ → ℕ → List Strand → Result DrawingValue DrawKind
+drawing_with_strands label step strands =
+    and_then (and_then (strands_added (empty_drawing (label_first_word label) step) strands)
+    finished_drawing)
     joined_drawing
 
 -- The longest step of a traced drawing: the size of its longest link. The fault is `LinkTooLong` at
 -- the given number if there is one, or `NoLinks` without links.
-abbrev pub step_past : Option ℕ → List Link → Result ℕ TraceFault
-step_past (Some number) links = Err (fault.LinkTooLong number)
-step_past None [] = Err fault.NoLinks
-step_past None (link ∷ rest) = Ok (longest (link ∷ rest))
+abbrev pub step_or_fault : Option ℕ → List Link → Result ℕ TraceFault
+step_or_fault (Some number) links = Err (fault.LinkTooLong number)
+step_or_fault None [] = Err fault.NoLinks
+step_or_fault None (link ∷ rest) = Ok (longest (link ∷ rest))
 
 -- The longest step of the drawing traced from moves, or the fault.
-abbrev pub step_by : List Move → Result ℕ TraceFault
-step_by moves = step_past (first_long moves) (links_in moves)
+abbrev pub trace_step : List NeedleMove → Result ℕ TraceFault
+trace_step moves = step_or_fault (first_too_long moves) (links_in moves)
 
 -- A result whose fault becomes the fault `Limit` of a trace.
-abbrev pub limited : {A : Type 0} → Result A DrawKind → Result A TraceFault
-limited (Ok a) = Ok a
-limited (Err why) = Err (fault.Limit why)
+abbrev pub with_limit_fault : {A : Type 0} → Result A DrawKind → Result A TraceFault
+with_limit_fault (Ok a) = Ok a
+with_limit_fault (Err why) = Err (fault.Limit why)
 
 -- The result of a second step on the value of a first one, or the fault of the first.
-abbrev pub once : {A B : Type 0} → Result A TraceFault → (A → Result B TraceFault)
+abbrev pub and_then_trace : {A B : Type 0} → Result A TraceFault → (A → Result B TraceFault)
     → Result B TraceFault
-once (Ok a) next = next a
-once (Err why) next = Err why
+and_then_trace (Ok a) next = next a
+and_then_trace (Err why) next = Err why
 
 -- The traced drawing of a design, or its fault.
 abbrev pub traced : DesignValue → Result DrawingValue TraceFault
-traced d = once (step_by (moves_along (acts_of d)))
-    (λ step. limited (drawing_through d.label step (strands_of d)))
+traced d = and_then_trace (trace_step (needle_moves_of (acts_of d)))
+    (λ step. with_limit_fault (drawing_with_strands d.label step (strands_of d)))
 
 -- The fault of a trace for a fault of its drawing.
 abbrev pub IsRefusalOf : DrawKind → TraceFault → Type 0
@@ -99,6 +100,6 @@ IsRefusalOf kind.Memory why = why ≡ fault.Memory
 IsRefusalOf other why = why ≡ fault.Limit other
 
 -- A fault is `Memory`: memory could not be allocated.
-abbrev pub wants_memory : TraceFault → Bool
-wants_memory fault.Memory = true
-wants_memory other = false
+abbrev pub trace_is_out_of_memory : TraceFault → Bool
+trace_is_out_of_memory fault.Memory = true
+trace_is_out_of_memory other = false

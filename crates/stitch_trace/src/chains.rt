@@ -1,10 +1,10 @@
 ghost use Rattle.std.specs.Prelude.{◌≡◌, ◌∷◌, ◌++◌, [], List, IfOk, OnOk};
-ghost use Rattle.stitch_trace.specs.declared.needle_moves.Move.{Move as MoveValue};
+ghost use Rattle.stitch_trace.specs.declared.needle_moves.NeedleMove.{NeedleMove as MoveValue};
 ghost use Rattle.stitch_trace.specs.Chains.{chains_of};
-ghost use Rattle.stitch_trace.specs.Tracing.{chain_begun, chains_by, led_through};
+ghost use Rattle.stitch_trace.specs.Tracing.{chain_if_any, chains_after, extended_chain};
 
 use crate::links::Link;
-use crate::needle_moves::{Move, move_to, needle_point};
+use crate::needle_moves::{NeedleMove, move_to, needle_point};
 use crate::new_links::new_move;
 use crate::strands::Chains;
 use design_model::{Memory, NumberedAct, Points};
@@ -31,22 +31,22 @@ pub fn chains(alloc: Global, acts: &[NumberedAct]) -> Result<Chains, Memory>
 /// Extends the chain by a link, or ends it at a gap.
 fn take_move(
     alloc: Global,
-    step: Move,
+    step: NeedleMove,
     chain: &mut Points,
     chains: &mut Chains,
 ) -> Result<(), Memory>
     ensures { OnOk result ((rest : List MoveValue) →
-        chains.new ++ chains_by chain.new rest ≡ chains.old ++ chains_by chain.old (step ∷ rest)) }
+        chains.new ++ chains_after chain.new rest ≡ chains.old ++ chains_after chain.old (step ∷ rest)) }
 {
     match step {
-        Move::Stay => Ok(()),
-        Move::Gap => end_chain(alloc, chain, chains),
-        Move::Sewn { link, .. } => lead_through(chain, link),
+        NeedleMove::Stay => Ok(()),
+        NeedleMove::Gap => end_chain(alloc, chain, chains),
+        NeedleMove::Sewn { link, .. } => extend_chain(chain, link),
     }
 }
 
-fn lead_through(chain: &mut Points, link: Link) -> Result<(), Memory>
-    ensures { OnOk result (chain.new ≡ led_through chain.old link) }
+fn extend_chain(chain: &mut Points, link: Link) -> Result<(), Memory>
+    ensures { OnOk result (chain.new ≡ extended_chain chain.old link) }
 {
     if chain.is_empty() {
         chain.push(link.from)?;
@@ -57,7 +57,7 @@ fn lead_through(chain: &mut Points, link: Link) -> Result<(), Memory>
 
 /// Adds the chain to the others, if it has points, and begins the next one.
 fn end_chain(alloc: Global, chain: &mut Points, chains: &mut Chains) -> Result<(), Memory>
-    ensures put { OnOk result (chains.new ≡ chains.old ++ chain_begun chain.old) }
+    ensures put { OnOk result (chains.new ≡ chains.old ++ chain_if_any chain.old) }
     ensures next { OnOk result (chain.new ≡ []) }
 {
     if chain.is_empty() {

@@ -3,13 +3,13 @@ ghost use Rattle.std.specs.List.{position_or_len};
 ghost use Rattle.design_model.specs.Labels.{IsLabel};
 ghost use Rattle.design_model.specs.declared.point.Point.{Point as PointValue};
 ghost use Rattle.step_splitter.specs.declared.segment.TheConstants.{MAX_STEP};
-ghost use Rattle.design_model.specs.WantOfMemory.{IsSaid};
-ghost use Rattle.line_graph.specs.Growing.{and_then, drawing_begun, finished, wants_memory};
+ghost use Rattle.design_model.specs.OutOfMemory.{IsSpecified};
+ghost use Rattle.line_graph.specs.GrowingDrawings.{and_then, empty_drawing, finished_drawing, draw_is_out_of_memory};
 ghost use Rattle.line_graph.specs.JoinedDrawings.{is_joined, joined_drawing};
 ghost use Rattle.line_graph.specs.WalkEnds.{HasNoEnds};
 ghost use Rattle.stitch_trace.specs.declared.strands.Strand.{Strand as StrandValue};
-ghost use Rattle.stitch_trace.specs.Traces.{chains_added, drawing_through, first_word as the_first_word, strand_added, is_space, strands_added};
-ghost use Rattle.stitch_trace.specs.Tracing.{Adds};
+ghost use Rattle.stitch_trace.specs.Traces.{chains_added, drawing_with_strands, label_first_word, strand_added, is_space, strands_added};
+ghost use Rattle.stitch_trace.specs.Tracing.{GrowsAsSpecified};
 
 use crate::strands::{Chains, Strand};
 use design_model::{Point, Points};
@@ -26,7 +26,8 @@ pub fn drawing_of(
     requires label { IsLabel label.now }
     requires low { 1 ≤ step }
     requires high { step ≤ MAX_STEP }
-    ensures answer { IsSaid wants_memory (drawing_through label.now step strands.now) result }
+    ensures answer { IsSpecified draw_is_out_of_memory (drawing_with_strands label.now step strands.now)
+        result }
     ensures joined { IfOk result (λ whole. is_joined whole ≡ true) }
     ensures unended { IfOk result HasNoEnds }
 {
@@ -38,7 +39,7 @@ pub fn drawing_of(
 }
 
 fn add_strands(alloc: Global, maker: &mut DrawingMaker, strands: &[Strand]) -> Result<(), DrawKind>
-    ensures { Adds (strands_added maker.old strands.now) result maker.new }
+    ensures { GrowsAsSpecified (strands_added maker.old strands.now) result maker.new }
 {
     for strand in strands {
         add_strand(alloc, maker, strand)?;
@@ -47,7 +48,7 @@ fn add_strands(alloc: Global, maker: &mut DrawingMaker, strands: &[Strand]) -> R
 }
 
 fn add_strand(alloc: Global, maker: &mut DrawingMaker, strand: &Strand) -> Result<(), DrawKind>
-    ensures { Adds (strand_added maker.old strand.now) result maker.new }
+    ensures { GrowsAsSpecified (strand_added maker.old strand.now) result maker.new }
 {
     maker.add_block(strand.thread)?;
     add_chains(alloc, maker, &strand.chains)?;
@@ -55,7 +56,7 @@ fn add_strand(alloc: Global, maker: &mut DrawingMaker, strand: &Strand) -> Resul
 }
 
 fn add_chains(alloc: Global, maker: &mut DrawingMaker, chains: &Chains) -> Result<(), DrawKind>
-    ensures { Adds (chains_added maker.old chains.now) result maker.new }
+    ensures { GrowsAsSpecified (chains_added maker.old chains.now) result maker.new }
 {
     for chain in chains.as_slice() {
         let points = copied(alloc, chain.as_slice())?;
@@ -65,7 +66,7 @@ fn add_chains(alloc: Global, maker: &mut DrawingMaker, chains: &Chains) -> Resul
 }
 
 fn copied(alloc: Global, points: &[Point]) -> Result<Points, DrawKind>
-    ensures { IsSaid wants_memory (Ok points.now) result }
+    ensures { IsSpecified draw_is_out_of_memory (Ok points.now) result }
 {
     let mut copy = Points::new(alloc);
     copy.append(points)?;
@@ -75,7 +76,7 @@ fn copied(alloc: Global, points: &[Point]) -> Result<Points, DrawKind>
 /// Returns the label up to its first space.
 fn first_word(label: &[u8]) -> &[u8]
     requires { IsLabel label.now }
-    ensures value { result.now ≡ the_first_word label.now }
+    ensures value { result.now ≡ label_first_word label.now }
     ensures label { IsLabel result.now }
     ensures one_word { All (λ byte. byte ≢ 32) result.now }
 {

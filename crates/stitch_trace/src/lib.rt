@@ -4,19 +4,19 @@
 
 mod chains;
 mod drawing_of_strands;
-mod laws;
 mod links;
 mod needle_moves;
 mod new_links;
 mod strands;
 #[cfg(test)]
 mod tests;
+mod theorems;
 mod trace_fault;
 mod traced_drawing;
 
-pub use laws::{counts_are_limits, links_are_drawn, new_links_are_distinct};
 pub use links::Link;
-pub use needle_moves::Move;
+pub use needle_moves::NeedleMove;
 pub use strands::{Chains, Strand};
+pub use theorems::{counts_are_limits, links_are_drawn, new_links_are_distinct};
 pub use trace_fault::TraceFault;
 pub use traced_drawing::trace;

@@ -1,5 +1,5 @@
 ghost use Rattle.std.specs.Prelude.{◌≡◌};
-ghost use Rattle.stitch_trace.specs.Links.{link_size, turned as the_turned};
+ghost use Rattle.stitch_trace.specs.Links.{link_size, reversed_link};
 
 use design_model::Point;
 
@@ -13,7 +13,7 @@ pub struct Link {
 impl Link {
     /// Returns the link in the opposite direction.
     pub(crate) fn turned(self) -> Link
-        ensures { result ≡ the_turned self }
+        ensures { result ≡ reversed_link self }
     {
         Link {
             from: self.to,

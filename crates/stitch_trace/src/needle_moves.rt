@@ -1,14 +1,14 @@
 ghost use Rattle.std.specs.Prelude.{◌≡◌, Some};
 ghost use Rattle.design_model.specs.declared.act.Act.TheVariants as act;
 ghost use Rattle.design_model.specs.ActKinds.{needle_point as the_needle_point};
-ghost use Rattle.stitch_trace.specs.Links.{move_by};
+ghost use Rattle.stitch_trace.specs.Links.{move_to_act};
 
 use crate::links::Link;
 use design_model::{Act, NumberedAct, Point};
 
 /// The move of the needle from one act of a design to the next.
 #[derive(Clone, Copy, Debug, PartialEq, Eq)]
-pub enum Move {
+pub enum NeedleMove {
     /// The needle goes down where it went down before.
     Stay,
     /// Nothing is sewn from there: the thread was loose or carried over, or the act is no needle act.
@@ -18,28 +18,28 @@ pub enum Move {
 }
 
 /// Returns the move of the needle to an act, from the needle point of the act before, if there is one.
-pub fn move_to(before: Option<Point>, a: NumberedAct) -> Move
-    ensures { result ≡ move_by before a.number a.act }
+pub fn move_to(before: Option<Point>, a: NumberedAct) -> NeedleMove
+    ensures { result ≡ move_to_act before a.number a.act }
 {
     let Some(from) = before else {
-        return Move::Gap;
+        return NeedleMove::Gap;
     };
     match a.act {
         Act::Needle { at, float } => move_between(from, at, float, a.number),
-        Act::Trim | Act::Stop => Move::Gap,
+        Act::Trim | Act::Stop => NeedleMove::Gap,
     }
 }
 
-fn move_between(from: Point, to: Point, float: bool, number: u32) -> Move
-    ensures { result ≡ move_by (Some from) number (act.Needle to float) }
+fn move_between(from: Point, to: Point, float: bool, number: u32) -> NeedleMove
+    ensures { result ≡ move_to_act (Some from) number (act.Needle to float) }
 {
     if from == to {
-        return Move::Stay;
+        return NeedleMove::Stay;
     }
     if float {
-        return Move::Gap;
+        return NeedleMove::Gap;
     }
-    Move::Sewn {
+    NeedleMove::Sewn {
         number,
         link: Link { from, to },
     }

@@ -1,33 +1,37 @@
 ghost use Rattle.std.specs.Prelude.{◌≡◌, ◌||◌, ◌∷◌, List, not, IfOk, OnOk};
 ghost use Rattle.std.specs.HashSet.{contains};
 ghost use Rattle.stitch_trace.specs.declared.links.Link.{Link as LinkValue};
-ghost use Rattle.stitch_trace.specs.declared.needle_moves.Move.{Move as MoveValue};
-ghost use Rattle.stitch_trace.specs.Links.{has_ends, is_same_link};
-ghost use Rattle.stitch_trace.specs.Tracing.{new_by};
+ghost use Rattle.stitch_trace.specs.declared.needle_moves.NeedleMove.{NeedleMove as MoveValue};
+ghost use Rattle.stitch_trace.specs.Links.{is_same_directed_link, is_same_link};
+ghost use Rattle.stitch_trace.specs.Tracing.{new_moves_by};
 
 use crate::links::Link;
-use crate::needle_moves::Move;
+use crate::needle_moves::NeedleMove;
 use design_model::Memory;
 use std::collections::HashSet;
 
 /// Returns the move, or a gap where its link was sewn before in either direction.
-pub fn new_move(sewn: &mut HashSet<Link>, step: Move) -> Result<Move, Memory>
+pub fn new_move(sewn: &mut HashSet<Link>, step: NeedleMove) -> Result<NeedleMove, Memory>
     ensures { IfOk result (λ fresh. (rest : List MoveValue) →
-        new_by (contains has_ends sewn.old) (step ∷ rest)
-        ≡ fresh ∷ new_by (contains has_ends sewn.new) rest) }
+        new_moves_by (contains is_same_directed_link sewn.old) (step ∷ rest)
+        ≡ fresh ∷ new_moves_by (contains is_same_directed_link sewn.new) rest) }
 {
-    let Move::Sewn { link, .. } = step else {
+    let NeedleMove::Sewn { link, .. } = step else {
         return Ok(step);
     };
     let is_new = sew(sewn, link)?;
-    if is_new { Ok(step) } else { Ok(Move::Gap) }
+    if is_new {
+        Ok(step)
+    } else {
+        Ok(NeedleMove::Gap)
+    }
 }
 
 /// Returns whether the link is new, and stores it in both directions.
 fn sew(sewn: &mut HashSet<Link>, link: Link) -> Result<bool, Memory>
-    ensures new { IfOk result (λ is_new. is_new ≡ not (contains has_ends sewn.old link)) }
-    ensures kept { OnOk result ((other : LinkValue) → contains has_ends sewn.new other
-        ≡ (is_same_link link other || contains has_ends sewn.old other)) }
+    ensures new { IfOk result (λ is_new. is_new ≡ not (contains is_same_directed_link sewn.old link)) }
+    ensures kept { OnOk result ((other : LinkValue) → contains is_same_directed_link sewn.new other
+        ≡ (is_same_link link other || contains is_same_directed_link sewn.old other)) }
 {
     let is_new = sewn.insert(link)?;
     sewn.insert(link.turned())?;

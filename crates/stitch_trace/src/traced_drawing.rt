@@ -1,15 +1,15 @@
 ghost use Rattle.std.specs.Prelude.{◌≡◌, ◌≤◌, true, IfOk};
 ghost use Rattle.design_model.specs.declared.act.NumberedAct.{NumberedAct as NumberedActValue};
-ghost use Rattle.design_model.specs.WantOfMemory.{IsSaid};
+ghost use Rattle.design_model.specs.OutOfMemory.{IsSpecified};
 ghost use Rattle.line_graph.specs.JoinedDrawings.{is_joined};
 ghost use Rattle.line_graph.specs.WalkEnds.{HasNoEnds};
 ghost use Rattle.step_splitter.specs.declared.segment.TheConstants.{MAX_STEP as max_step};
-ghost use Rattle.stitch_trace.specs.Links.{moves_along};
-ghost use Rattle.stitch_trace.specs.Traces.{step_by, traced, wants_memory};
-ghost use Rattle.stitch_trace.specs.Tracing.{Measures, measured_on};
+ghost use Rattle.stitch_trace.specs.Links.{needle_moves_of};
+ghost use Rattle.stitch_trace.specs.Traces.{trace_step, traced, trace_is_out_of_memory};
+ghost use Rattle.stitch_trace.specs.Tracing.{MeasuresMove, max_size_after};
 
 use crate::drawing_of_strands::drawing_of;
-use crate::needle_moves::{Move, move_to, needle_point};
+use crate::needle_moves::{NeedleMove, move_to, needle_point};
 use crate::strands::strands;
 use crate::trace_fault::{TraceFault, refusal_of};
 use design_model::{Design, NumberedAct, acts};
@@ -21,7 +21,7 @@ use std::alloc::Global;
 /// many blocks, lines or points. The limits are tested in this order at the first chain that exceeds one,
 /// and then for the sections. The error is `Memory` where memory runs out.
 pub fn trace(alloc: Global, d: &Design) -> Result<Drawing, TraceFault>
-    ensures answer { IsSaid wants_memory (traced d.now) result }
+    ensures answer { IsSpecified trace_is_out_of_memory (traced d.now) result }
     ensures joined { IfOk result (λ drawing. is_joined drawing ≡ true) }
     ensures unended { IfOk result HasNoEnds }
 {
@@ -37,7 +37,7 @@ pub fn trace(alloc: Global, d: &Design) -> Result<Drawing, TraceFault>
 /// Returns the size of the longest link, if there is a link and none is too long.
 #[tactic(auto, using(crate::proofs::MeasureLemmas::step_is))]
 fn longest_link(acts: &[NumberedAct]) -> Result<u32, TraceFault>
-    ensures value { result ≡ step_by (moves_along acts.now) }
+    ensures value { result ≡ trace_step (needle_moves_of acts.now) }
     ensures low { IfOk result (λ step. 1 ≤ step) }
     ensures high { IfOk result (λ step. step ≤ max_step) }
 {
@@ -45,7 +45,7 @@ fn longest_link(acts: &[NumberedAct]) -> Result<u32, TraceFault>
 }
 
 fn measured(acts: &[NumberedAct]) -> Result<u32, TraceFault>
-    ensures value { result ≡ measured_on 0 (moves_along acts.now) }
+    ensures value { result ≡ max_size_after 0 (needle_moves_of acts.now) }
     ensures low { IfOk result (λ step. 1 ≤ step) }
     ensures high { IfOk result (λ step. step ≤ max_step) }
 {
@@ -62,12 +62,12 @@ fn measured(acts: &[NumberedAct]) -> Result<u32, TraceFault>
 }
 
 /// Returns the size of the longest link after one more move.
-fn longest_with(longest: u32, step: Move) -> Result<u32, TraceFault>
+fn longest_with(longest: u32, step: NeedleMove) -> Result<u32, TraceFault>
     requires { longest ≤ max_step }
-    ensures value { Measures longest step result }
+    ensures value { MeasuresMove longest step result }
     ensures high { IfOk result (λ more. more ≤ max_step) }
 {
-    let Move::Sewn { number, link } = step else {
+    let NeedleMove::Sewn { number, link } = step else {
         return Ok(longest);
     };
     let size = link.size();

@@ -1,12 +1,12 @@
 -- Worked values of the parts of texts.
 use Rattle.std.proofs.Common.{◌≡◌, [], ◌∷◌, codes, refl}
-use Rattle.text_parts.specs.Parts.{parted, words_in}
+use Rattle.text_parts.specs.Parts.{parts_between, words_in}
 
 -- one part more than marks, and an empty one beside a mark at an end
-pub known_parts : parted 44 (codes "12,,-7,") ≡ codes "12" ∷ [] ∷ codes "-7" ∷ [] ∷ []
+pub known_parts : parts_between 44 (codes "12,,-7,") ≡ codes "12" ∷ [] ∷ codes "-7" ∷ [] ∷ []
 known_parts = refl
 
-pub known_nothing : parted 44 [] ≡ [] ∷ []
+pub known_nothing : parts_between 44 [] ≡ [] ∷ []
 known_nothing = refl
 
 -- two spaces have an empty word between them, and a tab parts no words

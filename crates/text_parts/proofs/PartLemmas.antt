@@ -7,7 +7,7 @@ use Rattle.std.proofs.lemmas.List.Sums.{fails_before_first, position_or_len_is}
 use Rattle.memchr.specs.Find.{IsFirstByte, is_byte}
 use Rattle.std.specs.List.{position_or_len}
 use Rattle.std.specs.Option.{unwrap_or}
-use Rattle.text_parts.specs.Parts.{parted}
+use Rattle.text_parts.specs.Parts.{parts_between}
 
 -- one byte more is left out
 drop_one : (place : ℕ) (bytes : List ℕ) → drop 1 (drop place bytes) ≡ drop (place + 1) bytes
@@ -29,7 +29,7 @@ place_found mark bytes (Some place) found =
 
 -- bytes without a mark are one part
 pub one_part : (mark : ℕ) (bytes from : List ℕ) (place : ℕ) → place ≡ position_or_len (λ b. b == mark) bytes
-    → place ≤ length bytes → from ≡ drop place bytes → length from ≡ 0 → parted mark bytes ≡ bytes ∷ []
+    → place ≤ length bytes → from ≡ drop place bytes → length from ≡ 0 → parts_between mark bytes ≡ bytes ∷ []
 one_part mark bytes from place is within are none =
     slice_split_none (λ (b : ℕ). b == mark) bytes (λ k d there.
     fails_before_first (λ (b : ℕ). b == mark) bytes k d
@@ -39,7 +39,7 @@ one_part mark bytes from place is within are none =
 pub first_part : (mark : ℕ) (bytes before from behind : List ℕ) (place : ℕ)
     → place ≡ position_or_len (λ b. b == mark) bytes → before ≡ take place bytes
     → from ≡ drop place bytes → length from ≢ 0 → behind ≡ drop 1 from
-    → parted mark bytes ≡ before ∷ parted mark behind
+    → parts_between mark bytes ≡ before ∷ parts_between mark behind
 first_part mark bytes before from behind place is front are some rest =
     let test : ℕ → Bool = λ b. b == mark in
     let there : position_or_len test bytes < length bytes =

@@ -4,9 +4,9 @@ use Rattle.std.specs.Prelude.{ℕ, ◌==◌, List}
 use Rattle.std.specs.List.{slice_split}
 
 -- The parts of bytes between marks: one part more than there are marks.
-abbrev pub parted : ℕ → List ℕ → List (List ℕ)
-parted mark bytes = slice_split (λ b. b == mark) bytes
+abbrev pub parts_between : ℕ → List ℕ → List (List ℕ)
+parts_between mark bytes = slice_split (λ b. b == mark) bytes
 
 -- The words of a line. A word is empty beside a space that does not separate two others.
 abbrev pub words_in : List ℕ → List (List ℕ)
-words_in line = parted 32 line
+words_in line = parts_between 32 line

@@ -5,4 +5,4 @@ mod splits;
 mod words;
 
 pub use splits::{split_first, split_line};
-pub use words::spells;
+pub use words::equals_text;

@@ -1,28 +1,29 @@
 ghost use Rattle.std.specs.Prelude.{◌≡◌, ◌≤◌, ◌∷◌, ◌+◌, ◌==◌, [], drop, length, IfNone, IfSome};
 ghost use Rattle.std.specs.List.{position_or_len};
-ghost use Rattle.text_parts.specs.Parts.{parted};
+ghost use Rattle.text_parts.specs.Parts.{parts_between};
 
 use memchr::memchr;
 
 /// Returns the bytes before the first mark and those after it, if there is a mark.
 pub fn split_first(bytes: &[u8], mark: u8) -> Option<(&[u8], &[u8])>
-    ensures some { IfSome result (λ r. parted mark bytes.now ≡ r.0.now ∷ parted mark r.1.now) }
+    ensures some { IfSome result (λ r. parts_between mark bytes.now
+        ≡ r.0.now ∷ parts_between mark r.1.now) }
     ensures rest { IfSome result (λ r. r.1.now ≡ drop (length r.0.now + 1) bytes.now) }
     ensures sizes { IfSome result
         (λ r. length r.0.now + 1 + length r.1.now ≡ length bytes.now) }
-    ensures none { IfNone result (parted mark bytes.now ≡ bytes.now ∷ []) }
+    ensures none { IfNone result (parts_between mark bytes.now ≡ bytes.now ∷ []) }
 {
-    split_around(bytes, mark, first_place(bytes, mark))
+    split_around(bytes, mark, first_index(bytes, mark))
 }
 
 /// Returns the bytes before the first end of a line (10) and those after it, if there is one.
 #[inline]
 pub fn split_line(bytes: &[u8]) -> Option<(&[u8], &[u8])>
-    ensures some { IfSome result (λ r. parted 10 bytes.now ≡ r.0.now ∷ parted 10 r.1.now) }
+    ensures some { IfSome result (λ r. parts_between 10 bytes.now ≡ r.0.now ∷ parts_between 10 r.1.now) }
     ensures rest { IfSome result (λ r. r.1.now ≡ drop (length r.0.now + 1) bytes.now) }
     ensures sizes { IfSome result
         (λ r. length r.0.now + 1 + length r.1.now ≡ length bytes.now) }
-    ensures none { IfNone result (parted 10 bytes.now ≡ bytes.now ∷ []) }
+    ensures none { IfNone result (parts_between 10 bytes.now ≡ bytes.now ∷ []) }
 {
     split_around(bytes, b'\n', line_length(bytes))
 }
@@ -31,11 +32,12 @@ pub fn split_line(bytes: &[u8]) -> Option<(&[u8], &[u8])>
 fn split_around(bytes: &[u8], mark: u8, place: usize) -> Option<(&[u8], &[u8])>
     requires value { place ≡ position_or_len (λ b. b == mark) bytes.now }
     requires within { place ≤ length bytes.now }
-    ensures some { IfSome result (λ r. parted mark bytes.now ≡ r.0.now ∷ parted mark r.1.now) }
+    ensures some { IfSome result (λ r. parts_between mark bytes.now
+        ≡ r.0.now ∷ parts_between mark r.1.now) }
     ensures rest { IfSome result (λ r. r.1.now ≡ drop (length r.0.now + 1) bytes.now) }
     ensures sizes { IfSome result
         (λ r. length r.0.now + 1 + length r.1.now ≡ length bytes.now) }
-    ensures none { IfNone result (parted mark bytes.now ≡ bytes.now ∷ []) }
+    ensures none { IfNone result (parts_between mark bytes.now ≡ bytes.now ∷ []) }
 {
     let (before, from) = bytes.split_at(place);
     if from.is_empty() {
@@ -46,7 +48,7 @@ fn split_around(bytes: &[u8], mark: u8, place: usize) -> Option<(&[u8], &[u8])>
 }
 
 // A word is short, and searched byte by byte; a line is not.
-fn first_place(bytes: &[u8], mark: u8) -> usize
+fn first_index(bytes: &[u8], mark: u8) -> usize
     ensures value { result ≡ position_or_len (λ b. b == mark) bytes.now }
     ensures within { result ≤ length bytes.now }
 {

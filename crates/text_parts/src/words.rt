@@ -1,7 +1,7 @@
 ghost use Rattle.std.specs.Prelude.{◌≡◌, bytes_eq};
 
 /// Returns whether a word equals a text.
-pub fn spells(word: &[u8], text: &str) -> bool
+pub fn equals_text(word: &[u8], text: &str) -> bool
     ensures { result ≡ bytes_eq word.now text.now }
 {
     word == text.as_bytes()

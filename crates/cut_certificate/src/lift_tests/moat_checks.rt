@@ -1,8 +1,8 @@
 //! Plain checks of the conditions that lifting has on moats.
 ghost use Rattle.std.specs.Prelude.{◌≡◌, ◌≢◌, ◌<◌, All, AllPairs, IsTrue, false, length};
-ghost use Rattle.blossom_match.specs.Matchings.{AreLaminar, IsOddMoat, LiesBeside, LiesIn, holds, load_on};
-ghost use Rattle.cut_certificate.specs.Cuts.{holds as is_held};
-ghost use Rattle.cut_certificate.specs.MoatFits.{KeepsLoads, KeepsLoadsFrom, LiesOut};
+ghost use Rattle.blossom_match.specs.Matchings.{AreLaminar, IsOddMoat, IsDisjointFrom, IsNestedIn, moat_holds, moat_load};
+ghost use Rattle.cut_certificate.specs.Cuts.{has_member};
+ghost use Rattle.cut_certificate.specs.MoatTests.{KeepsTestLoads, KeepsTestLoadsFrom, IsNotNestedIn};
 
 use crate::slices::first_lent;
 use blossom_match::Moat;
@@ -61,7 +61,7 @@ fn are_different(numbers: &[u32]) -> bool
 
 /// Returns whether a list has a number.
 fn is_among(numbers: &[u32], x: u32) -> bool
-    ensures { result ≡ is_held numbers.now x }
+    ensures { result ≡ has_member numbers.now x }
 {
     numbers.contains(&x)
 }
@@ -104,8 +104,8 @@ fn is_laminar(m: &Moat, k: &Moat) -> bool
 
 /// Returns whether each member of the first moat is a member of the second.
 fn lies_in(m: &Moat, k: &Moat) -> bool
-    ensures told { IsTrue result → LiesIn m.now k.now }
-    ensures other { result ≡ false → LiesOut m.now k.now }
+    ensures told { IsTrue result → IsNestedIn m.now k.now }
+    ensures other { result ≡ false → IsNotNestedIn m.now k.now }
 {
     let members = m.members.as_slice();
     for x in members {
@@ -118,7 +118,7 @@ fn lies_in(m: &Moat, k: &Moat) -> bool
 
 /// Returns whether two moats have no common member.
 fn lies_beside(m: &Moat, k: &Moat) -> bool
-    ensures { IsTrue result → LiesBeside m.now k.now }
+    ensures { IsTrue result → IsDisjointFrom m.now k.now }
 {
     let members = m.members.as_slice();
     for x in members {
@@ -133,7 +133,7 @@ fn lies_beside(m: &Moat, k: &Moat) -> bool
 pub fn keep_loads(rows: &Rows, terminals: &[u32], moats: &[Moat]) -> bool
     requires sized { length rows.now.table ≡ length terminals.now }
     requires few { length moats.now < 1000 }
-    ensures { IsTrue result → KeepsLoads rows.now terminals.now moats.now }
+    ensures { IsTrue result → KeepsTestLoads rows.now terminals.now moats.now }
 {
     for t in 0..terminals.len() {
         if !keep_loads_from(rows, terminals, moats, t) {
@@ -147,7 +147,7 @@ pub fn keep_loads(rows: &Rows, terminals: &[u32], moats: &[Moat]) -> bool
 fn keep_loads_from(rows: &Rows, terminals: &[u32], moats: &[Moat], t: usize) -> bool
     requires there { t < length rows.now.table }
     requires few { length moats.now < 1000 }
-    ensures { IsTrue result → KeepsLoadsFrom rows.now terminals.now moats.now t }
+    ensures { IsTrue result → KeepsTestLoadsFrom rows.now terminals.now moats.now t }
 {
     for u in 0..terminals.len() {
         let Some(cost) = rows.row(t).get(terminals[u] as usize) else {
@@ -163,7 +163,7 @@ fn keep_loads_from(rows: &Rows, terminals: &[u32], moats: &[Moat], t: usize) -> 
 /// Returns the widths of the moats that hold exactly one of two terminals, added up.
 fn load(moats: &[Moat], t: usize, u: usize) -> u64
     requires { length moats.now < 1000 }
-    ensures { result ≡ load_on moats.now t u }
+    ensures { result ≡ moat_load moats.now t u }
 {
     let mut sum = 0;
     for m in moats {
@@ -176,7 +176,7 @@ fn load(moats: &[Moat], t: usize, u: usize) -> u64
 
 /// Returns whether a moat holds a terminal.
 fn holds_at(m: &Moat, place: usize) -> bool
-    ensures { result ≡ holds m.now place }
+    ensures { result ≡ moat_holds m.now place }
 {
     let members = m.members.as_slice();
     for x in members {

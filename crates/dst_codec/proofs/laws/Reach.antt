@@ -10,26 +10,26 @@ use Rattle.design_model.specs.declared.command.Command.TheVariants.{Stitch, Jump
 use Rattle.design_model.specs.declared.design.TheConstants.{MAX_COMMANDS}
 use Rattle.design_model.specs.declared.point.Point.{Point}
 use Rattle.design_model.specs.Acts.{acts_from, acts_along, numbered}
-use Rattle.design_model.specs.Commands.{is_in_range}
-use Rattle.design_model.specs.Points.{origin, move_between, size_of, is_same_point}
+use Rattle.design_model.specs.Commands.{is_command_in_range}
+use Rattle.design_model.specs.Points.{origin, move_between, move_size, is_same_point}
 use Rattle.format_traits.specs.declared.event.Event.TheVariants as event
 use Rattle.format_traits.specs.declared.fault.ReadFault.{ReadFault}
 use Rattle.format_traits.specs.declared.fault.ReadFault.TheVariants as read
 use Rattle.format_traits.specs.declared.fault.WriteFault.{WriteFault}
 use Rattle.format_traits.specs.declared.fault.WriteFault.TheVariants as fault
-use Rattle.format_traits.specs.declared.standing.Standing.{Standing}
-use Rattle.format_traits.specs.Placing.{moved, hops}
-use Rattle.format_traits.specs.Readings.{Course, after_commands, tried, tries, loaded_with}
-use Rattle.format_traits.specs.Records.{Records, next, reads_from, course_of}
-use Rattle.format_traits.specs.Refusals.{beginning, standing_after, passes, refused_where, needle_refusal, own_refusal, or_else, refusal_at, refusal_from, first_refusal, unless_refused}
+use Rattle.format_traits.specs.declared.encoder_state.EncoderState.{EncoderState}
+use Rattle.format_traits.specs.MoveHops.{position_after_move, hops_of}
+use Rattle.format_traits.specs.Readings.{FileCommands, with_commands_before, checked_command, checked_commands, loaded_with}
+use Rattle.format_traits.specs.Records.{Records, next, file_commands_from, file_commands}
+use Rattle.format_traits.specs.Refusals.{initial_encoder_state, encoder_state_after, is_above_max, refusal_if, refusal_of_needle, refusal_before_room, or_else, refusal_of_act, first_refusal_from, first_refusal, unless_refused}
 use Rattle.dst_codec.specs.declared.dst.TheConstants.{LIMIT}
 use Rattle.dst_codec.specs.declared.header.TheConstants.{HEADER_LENGTH}
 use Rattle.dst_codec.specs.declared.record_kind.RecordKind.{RecordKind}
 use Rattle.dst_codec.specs.declared.record_kind.RecordKind.TheVariants as kind
-use Rattle.dst_codec.specs.Bits.{move_of, kind_of, rightwards, leftwards, upwards, downwards}
-use Rattle.dst_codec.specs.Laws.{ReadIsWithinReach}
-use Rattle.dst_codec.specs.Reading.{record_as, run_after, records_from, records_in, label_of}
-use Rattle.dst_codec.specs.Writing.{reach, file_of, writes}
+use Rattle.dst_codec.specs.Bits.{dst_move_of, kind_of, rightwards, leftwards, upwards, downwards}
+use Rattle.dst_codec.specs.Laws.{ReadMovesAreWritable}
+use Rattle.dst_codec.specs.Reading.{record_of_kind, run_after_kind, dst_records_from, dst_records_in, dst_label_of}
+use Rattle.dst_codec.specs.Writing.{dst_write_limits, dst_file_of, dst_writes}
 
 -- the refusal of a long stitch or a long float
 abbrev pub is_long : Option WriteFault → Bool
@@ -45,20 +45,20 @@ long-or_else : (one other : Option WriteFault) → is_long one ≡ false → is_
 long-or_else None other first second = second
 long-or_else (Some f) other first second = first
 
-long-stops : (b : Bool) (number : ℕ) → is_long (refused_where b (fault.TooManyStops number)) ≡ false
+long-stops : (b : Bool) (number : ℕ) → is_long (refusal_if b (fault.TooManyStops number)) ≡ false
 long-stops true number = refl
 long-stops false number = refl
 
-long-room : (b : Bool) (number : ℕ) → is_long (refused_where b (fault.TooLong number)) ≡ false
+long-room : (b : Bool) (number : ℕ) → is_long (refusal_if b (fault.TooLong number)) ≡ false
 long-room true number = refl
 long-room false number = refl
 
-long-none : (b : Bool) (f : WriteFault) → b ≡ false → is_long (refused_where b f) ≡ false
+long-none : (b : Bool) (f : WriteFault) → b ≡ false → is_long (refusal_if b f) ≡ false
 long-none true f is = cc
 long-none false f is = refl
 
 -- a record's move is within the limit
-move_small : (a b c : ℕ) → (unsigned_abs (move_of a b c).x ≤ LIMIT) × (unsigned_abs (move_of a b c).y ≤ LIMIT)
+move_small : (a b c : ℕ) → (unsigned_abs (dst_move_of a b c).x ≤ LIMIT) × (unsigned_abs (dst_move_of a b c).y ≤ LIMIT)
 move_small a b c = (
   apart (rightwards a b c) (leftwards a b c) (sum_small a b c 1 4) (sum_small a b c 2 8),
   apart (downwards a b c) (upwards a b c) (sum_small a b c 64 16) (sum_small a b c 128 32),
@@ -92,87 +92,89 @@ at_needle p = record { few = omega arith; still = λ same. refl; x = none p.x; y
     none x = omega (arith, ints)
 
 -- no act of the commands is refused as long
-abbrev IsWithin : Bool → Standing → List Command → Type 0
-IsWithin jumped s commands = (n : ℕ) → is_long (refusal_from reach s (acts_from n s.loose jumped commands)) ≡ false
+abbrev IsWithin : Bool → EncoderState → List Command → Type 0
+IsWithin jumped s commands = (n : ℕ) → is_long (first_refusal_from dst_write_limits s (acts_from n s.loose jumped commands)) ≡ false
 
 -- an act and those after it
-one_more : (s : Standing) (a : NumberedAct) (rest : List NumberedAct) → is_long (own_refusal reach s a.act a.number) ≡ false
-    → is_long (refusal_from reach (standing_after LIMIT s a.act) rest) ≡ false
-    → is_long (refusal_from reach s (a ∷ rest)) ≡ false
+one_more : (s : EncoderState) (a : NumberedAct) (rest : List NumberedAct)
+    → is_long (refusal_before_room dst_write_limits s a.act a.number) ≡ false
+    → is_long (first_refusal_from dst_write_limits (encoder_state_after LIMIT s a.act) rest) ≡ false
+    → is_long (first_refusal_from dst_write_limits s (a ∷ rest)) ≡ false
 one_more s a rest own more =
-    long-or_else (refusal_at reach s a) (refusal_from reach (standing_after LIMIT s a.act) rest)
-    (long-or_else (own_refusal reach s a.act a.number)
-    (refused_where (nat_lt MAX_COMMANDS (standing_after LIMIT s a.act).room) (fault.TooLong a.number)) own
-    (long-room (nat_lt MAX_COMMANDS (standing_after LIMIT s a.act).room) a.number))
+    long-or_else (refusal_of_act dst_write_limits s a) (first_refusal_from dst_write_limits (encoder_state_after LIMIT s a.act) rest)
+    (long-or_else (refusal_before_room dst_write_limits s a.act a.number)
+    (refusal_if (nat_lt MAX_COMMANDS (encoder_state_after LIMIT s a.act).room) (fault.TooLong a.number)) own
+    (long-room (nat_lt MAX_COMMANDS (encoder_state_after LIMIT s a.act).room) a.number))
     more
 
 -- a needle after the next record
 long-needle : (loose jumped : Bool) (m : Point) (run number : ℕ)
-    → (loose ≡ false → (run ≤ 2) × (jumped ≡ false → run ≡ 0) × (size_of m ≤ (run + 1) * LIMIT))
-    → is_long (needle_refusal reach loose (jumped && not loose) m number) ≡ false
+    → (loose ≡ false → (run ≤ 2) × (jumped ≡ false → run ≡ 0) × (move_size m ≤ (run + 1) * LIMIT))
+    → is_long (refusal_of_needle dst_write_limits loose (jumped && not loose) m number) ≡ false
 long-needle true true m run number near = refl
 long-needle true false m run number near = refl
 long-needle false true m run number near =
     let few = near refl in
-    long-none (nat_lt 3 (hops LIMIT m)) (fault.FloatTooLong number)
-    (le-ltb 3 (hops LIMIT m) (hops_few (size_of m) run few.0 few.2))
+    long-none (nat_lt 3 (hops_of LIMIT m)) (fault.FloatTooLong number)
+    (le-ltb 3 (hops_of LIMIT m) (hops_few (move_size m) run few.0 few.2))
   where
     hops_few : (size run : ℕ) → run ≤ 2 → size ≤ (run + 1) * LIMIT → (size + (LIMIT - 1)) / LIMIT ≤ 3
     hops_few size run few small = omega (arith, few, small)
 long-needle false false m run number near =
     let few = near refl in
     let none : run ≡ 0 = few.1 refl in
-    long-none (nat_lt LIMIT (size_of m)) (fault.StitchTooLong number) (le-ltb LIMIT (size_of m) (omega (arith, few.2, none)))
+    long-none (nat_lt LIMIT (move_size m)) (fault.StitchTooLong number) (le-ltb LIMIT (move_size m) (omega (arith, few.2, none)))
 
 -- a stitch by a record's move
-within-stitch : (s : Standing) (jumped : Bool) (run : ℕ) (place m : Point) (commands : List Command)
+within-stitch : (s : EncoderState) (jumped : Bool) (run : ℕ) (place m : Point) (commands : List Command)
     → (s.loose ≡ false → IsNear s.place run place jumped)
     → (unsigned_abs m.x ≤ LIMIT) × (unsigned_abs m.y ≤ LIMIT)
-    → ((s' : Standing) → s'.loose ≡ false → s'.place ≡ moved place m → IsWithin false s' commands)
-    → IsWithin jumped s (Stitch (moved place m) ∷ commands)
+    → ((s' : EncoderState) → s'.loose ≡ false → s'.place ≡ position_after_move place m → IsWithin false s' commands)
+    → IsWithin jumped s (Stitch (position_after_move place m) ∷ commands)
 within-stitch s jumped run place m commands near small more = λ n.
-    let a = numbered n (act.Needle (moved place m) (jumped && not s.loose)) in
+    let a = numbered n (act.Needle (position_after_move place m) (jumped && not s.loose)) in
     one_more s a (acts_from (n + 1) false false commands)
-    (long-needle s.loose jumped (move_between s.place (moved place m)) run n (λ tied.
+    (long-needle s.loose jumped (move_between s.place (position_after_move place m)) run n (λ tied.
     let is = near tied in
     let x = farther place.x m.x s.place.x run is.x small.0 in
     let y = farther place.y m.y s.place.y run is.y small.1 in
     (is.few, is.still, omega (arith, x, y))))
-    (more (standing_after LIMIT s a.act) refl refl (n + 1))
+    (more (encoder_state_after LIMIT s a.act) refl refl (n + 1))
 
-within-jump : (s : Standing) (jumped : Bool) (there : Point) (commands : List Command)
+within-jump : (s : EncoderState) (jumped : Bool) (there : Point) (commands : List Command)
     → IsWithin true s commands → IsWithin jumped s (Jump there ∷ commands)
 within-jump s jumped there commands more = λ n. more (n + 1)
 
 -- the third jump of a run
-within-third : (loose : Bool) (s : Standing) (jumped : Bool) (there : Point) (commands : List Command) → s.loose ≡ loose
-    → ((s' : Standing) → s'.loose ≡ true → IsWithin true s' commands)
+within-third : (loose : Bool) (s : EncoderState) (jumped : Bool) (there : Point) (commands : List Command) → s.loose ≡ loose
+    → ((s' : EncoderState) → s'.loose ≡ true → IsWithin true s' commands)
     → IsWithin jumped s (Trim ∷ Jump there ∷ commands)
 within-third true s jumped there commands is more = λ n.
-    subst (λ l. is_long (refusal_from reach s (acts_from n l jumped (Trim ∷ Jump there ∷ commands))) ≡ false) (sym is)
-    (subst (λ l. is_long (refusal_from reach s (acts_from (n + 1 + 1) l true commands)) ≡ false) is (more s is (n + 1 + 1)))
+    subst (λ l. is_long (first_refusal_from dst_write_limits s (acts_from n l jumped (Trim ∷ Jump there ∷ commands))) ≡ false) (sym is)
+    (subst (λ l. is_long (first_refusal_from dst_write_limits s (acts_from (n + 1 + 1) l true commands)) ≡ false) is
+    (more s is (n + 1 + 1)))
 within-third false s jumped there commands is more = λ n.
-    subst (λ l. is_long (refusal_from reach s (acts_from n l jumped (Trim ∷ Jump there ∷ commands))) ≡ false) (sym is)
+    subst (λ l. is_long (first_refusal_from dst_write_limits s (acts_from n l jumped (Trim ∷ Jump there ∷ commands))) ≡ false) (sym is)
     (one_more s (numbered n act.Trim) (acts_from (n + 1 + 1) true true commands) refl
-    (more (standing_after LIMIT s act.Trim) refl (n + 1 + 1)))
+    (more (encoder_state_after LIMIT s act.Trim) refl (n + 1 + 1)))
 
 -- a stop
-within-stop : (s : Standing) (jumped : Bool) (commands : List Command)
-    → ((s' : Standing) → s'.loose ≡ true → IsWithin false s' commands)
+within-stop : (s : EncoderState) (jumped : Bool) (commands : List Command)
+    → ((s' : EncoderState) → s'.loose ≡ true → IsWithin false s' commands)
     → IsWithin jumped s (Stop ∷ commands)
 within-stop s jumped commands more = λ n.
     one_more s (numbered n act.Stop) (acts_from (n + 1) true false commands)
-    (long-stops (passes reach.stops (s.stops + 1)) n)
-    (more (standing_after LIMIT s act.Stop) refl (n + 1))
+    (long-stops (is_above_max dst_write_limits.stops (s.stops + 1)) n)
+    (more (encoder_state_after LIMIT s act.Stop) refl (n + 1))
 
 -- a command that is tried
-tried_ok : (at count : ℕ) (command : Command) (rest : Result Course ReadFault) (P : List Command → Type 0)
+tried_ok : (at count : ℕ) (command : Command) (rest : Result FileCommands ReadFault) (P : List Command → Type 0)
     → IfOk rest (λ course. P (command ∷ course.commands))
-    → IfOk (tried at count command rest) (λ course. P course.commands)
-tried_ok at count command rest P ok = by_tests (not (is_in_range command)) (nat_le MAX_COMMANDS count) rest ok
+    → IfOk (checked_command at count command rest) (λ course. P course.commands)
+tried_ok at count command rest P ok = by_tests (not (is_command_in_range command)) (nat_le MAX_COMMANDS count) rest ok
   where
-    by_tests : (b c : Bool) (rest : Result Course ReadFault) → IfOk rest (λ course. P (command ∷ course.commands))
-        → IfOk (if b then Err (read.Range at) else (if c then Err (read.TooMany at) else after_commands (command ∷ []) rest))
+    by_tests : (b c : Bool) (rest : Result FileCommands ReadFault) → IfOk rest (λ course. P (command ∷ course.commands))
+        → IfOk (if b then Err (read.Range at) else (if c then Err (read.TooMany at) else with_commands_before (command ∷ []) rest))
         (λ course. P course.commands)
     by_tests true c rest ok = tt
     by_tests false true rest ok = tt
@@ -180,54 +182,54 @@ tried_ok at count command rest P ok = by_tests (not (is_in_range command)) (nat_
     by_tests false false (Err f) ok = tt
 
 -- the result of the rest, whatever is before it
-abbrev RestIsWithin : ℕ → Point → Result Course ReadFault → Type 0
-RestIsWithin run place rest = (s : Standing) (jumped : Bool) → (s.loose ≡ false → IsNear s.place run place jumped)
+abbrev RestIsWithin : ℕ → Point → Result FileCommands ReadFault → Type 0
+RestIsWithin run place rest = (s : EncoderState) (jumped : Bool) → (s.loose ≡ false → IsNear s.place run place jumped)
     → IfOk rest (λ course. IsWithin jumped s course.commands)
 
 -- a loose thread has no condition
-loose_free : (P : Type 0) (s : Standing) → s.loose ≡ true → s.loose ≡ false → P
+loose_free : (P : Type 0) (s : EncoderState) → s.loose ≡ true → s.loose ≡ false → P
 loose_free P s loose tied = absurd (let no : ⊥ = cc in no)
 
-stitch_ok : (s : Standing) (jumped : Bool) (run : ℕ) (place m : Point) (rest : Result Course ReadFault)
+stitch_ok : (s : EncoderState) (jumped : Bool) (run : ℕ) (place m : Point) (rest : Result FileCommands ReadFault)
     → (unsigned_abs m.x ≤ LIMIT) × (unsigned_abs m.y ≤ LIMIT)
-    → (s.loose ≡ false → IsNear s.place run place jumped) → RestIsWithin 0 (moved place m) rest
-    → IfOk rest (λ course. IsWithin jumped s (Stitch (moved place m) ∷ course.commands))
+    → (s.loose ≡ false → IsNear s.place run place jumped) → RestIsWithin 0 (position_after_move place m) rest
+    → IfOk rest (λ course. IsWithin jumped s (Stitch (position_after_move place m) ∷ course.commands))
 stitch_ok s jumped run place m (Err f) small near on = tt
 stitch_ok s jumped run place m (Ok course) small near on =
     within-stitch s jumped run place m course.commands near small
     (λ s' loose here. on s' false (λ tied.
-    subst (λ q. IsNear q 0 (moved place m) false) (sym here) (at_needle (moved place m))))
+    subst (λ q. IsNear q 0 (position_after_move place m) false) (sym here) (at_needle (position_after_move place m))))
 
-jump_ok : (s : Standing) (jumped : Bool) (run : ℕ) (place m : Point) (rest : Result Course ReadFault)
+jump_ok : (s : EncoderState) (jumped : Bool) (run : ℕ) (place m : Point) (rest : Result FileCommands ReadFault)
     → (unsigned_abs m.x ≤ LIMIT) × (unsigned_abs m.y ≤ LIMIT) → run ≢ 2
-    → (s.loose ≡ false → IsNear s.place run place jumped) → RestIsWithin (min (run + 1) 3) (moved place m) rest
-    → IfOk rest (λ course. IsWithin jumped s (Jump (moved place m) ∷ course.commands))
+    → (s.loose ≡ false → IsNear s.place run place jumped) → RestIsWithin (min (run + 1) 3) (position_after_move place m) rest
+    → IfOk rest (λ course. IsWithin jumped s (Jump (position_after_move place m) ∷ course.commands))
 jump_ok s jumped run place m (Err f) small other near on = tt
 jump_ok s jumped run place m (Ok course) small other near on =
-    within-jump s jumped (moved place m) course.commands (on s true (λ tied.
+    within-jump s jumped (position_after_move place m) course.commands (on s true (λ tied.
     let is = near tied in
     let longer : run + 1 ≡ min (run + 1) 3 = omega (arith, is.few) in
-    subst (λ n. IsNear s.place n (moved place m) true) longer (record {
+    subst (λ n. IsNear s.place n (position_after_move place m) true) longer (record {
       few = omega (arith, is.few, other);
       still = λ same. absurd (let no : ⊥ = cc in no);
       x = farther place.x m.x s.place.x run is.x small.0;
       y = farther place.y m.y s.place.y run is.y small.1;
     })))
 
-third_ok : (s : Standing) (jumped : Bool) (run : ℕ) (there : Point) (rest : Result Course ReadFault)
+third_ok : (s : EncoderState) (jumped : Bool) (run : ℕ) (there : Point) (rest : Result FileCommands ReadFault)
     → RestIsWithin run there rest
     → IfOk rest (λ course. IsWithin jumped s (Trim ∷ Jump there ∷ course.commands))
 third_ok s jumped run there (Err f) on = tt
 third_ok s jumped run there (Ok course) on = within-third s.loose s jumped there course.commands refl
     (λ s' loose. on s' true (loose_free (IsNear s'.place run there true) s' loose))
 
-stop_ok : (s : Standing) (jumped : Bool) (there : Point) (rest : Result Course ReadFault) → RestIsWithin 0 there rest
+stop_ok : (s : EncoderState) (jumped : Bool) (there : Point) (rest : Result FileCommands ReadFault) → RestIsWithin 0 there rest
     → IfOk rest (λ course. IsWithin jumped s (Stop ∷ course.commands))
 stop_ok s jumped there (Err f) on = tt
 stop_ok s jumped there (Ok course) on = within-stop s jumped course.commands
     (λ s' loose. on s' false (loose_free (IsNear s'.place 0 there false) s' loose))
 
-stop_jump_ok : (s : Standing) (jumped : Bool) (there : Point) (rest : Result Course ReadFault) → RestIsWithin 0 there rest
+stop_jump_ok : (s : EncoderState) (jumped : Bool) (there : Point) (rest : Result FileCommands ReadFault) → RestIsWithin 0 there rest
     → IfOk rest (λ course. IsWithin jumped s (Stop ∷ Jump there ∷ course.commands))
 stop_jump_ok s jumped there (Err f) on = tt
 stop_jump_ok s jumped there (Ok course) on = within-stop s jumped (Jump there ∷ course.commands)
@@ -236,65 +238,65 @@ stop_jump_ok s jumped there (Ok course) on = within-stop s jumped (Jump there �
 
 -- the result of records, whatever is before them
 abbrev RecordsAreWithin : ℕ → Point → Records → Type 0
-RecordsAreWithin run place records = (count : ℕ) → RestIsWithin run place (reads_from count place records)
+RecordsAreWithin run place records = (count : ℕ) → RestIsWithin run place (file_commands_from count place records)
 
 -- a jump record, by whether it is the third of its run
-jumps_ok : (third : Bool) (at count run : ℕ) (place m : Point) (s : Standing) (jumped : Bool) (rest : Records)
+jumps_ok : (third : Bool) (at count run : ℕ) (place m : Point) (s : EncoderState) (jumped : Bool) (rest : Records)
     → (run == 2) ≡ third → (unsigned_abs m.x ≤ LIMIT) × (unsigned_abs m.y ≤ LIMIT)
-    → (s.loose ≡ false → IsNear s.place run place jumped) → RecordsAreWithin (min (run + 1) 3) (moved place m) rest
-    → IfOk (reads_from count place (next at (if third then event.TrimmedJump m else event.Jump m) rest))
+    → (s.loose ≡ false → IsNear s.place run place jumped) → RecordsAreWithin (min (run + 1) 3) (position_after_move place m) rest
+    → IfOk (file_commands_from count place (next at (if third then event.TrimmedJump m else event.Jump m) rest))
     (λ course. IsWithin jumped s course.commands)
 jumps_ok true at count run place m s jumped rest is small near on =
-    let after = reads_from (count + 2) (moved place m) rest in
-    tried_ok at count Trim (tried at (count + 1) (Jump (moved place m)) after) (IsWithin jumped s)
-    (tried_ok at (count + 1) (Jump (moved place m)) after (λ commands. IsWithin jumped s (Trim ∷ commands))
-    (third_ok s jumped (min (run + 1) 3) (moved place m) after (on (count + 2))))
+    let after = file_commands_from (count + 2) (position_after_move place m) rest in
+    tried_ok at count Trim (checked_command at (count + 1) (Jump (position_after_move place m)) after) (IsWithin jumped s)
+    (tried_ok at (count + 1) (Jump (position_after_move place m)) after (λ commands. IsWithin jumped s (Trim ∷ commands))
+    (third_ok s jumped (min (run + 1) 3) (position_after_move place m) after (on (count + 2))))
 jumps_ok false at count run place m s jumped rest is small near on =
-    let after = reads_from (count + 1) (moved place m) rest in
-    tried_ok at count (Jump (moved place m)) after (IsWithin jumped s)
+    let after = file_commands_from (count + 1) (position_after_move place m) rest in
+    tried_ok at count (Jump (position_after_move place m)) after (IsWithin jumped s)
     (jump_ok s jumped run place m after small (eqb-false run 2 is) near (on (count + 1)))
 
 -- a stop record, by whether it moves
-stops_ok : (still : Bool) (at count : ℕ) (there : Point) (s : Standing) (jumped : Bool) (rest : Records)
+stops_ok : (still : Bool) (at count : ℕ) (there : Point) (s : EncoderState) (jumped : Bool) (rest : Records)
     → RecordsAreWithin 0 there rest
-    → IfOk (tries at count (if still then Stop ∷ [] else Stop ∷ Jump there ∷ [])
-    (reads_from (count + length (if still then Stop ∷ [] else Stop ∷ Jump there ∷ [])) there rest))
+    → IfOk (checked_commands at count (if still then Stop ∷ [] else Stop ∷ Jump there ∷ [])
+    (file_commands_from (count + length (if still then Stop ∷ [] else Stop ∷ Jump there ∷ [])) there rest))
     (λ course. IsWithin jumped s course.commands)
 stops_ok true at count there s jumped rest on =
-    let after = reads_from (count + 1) there rest in
+    let after = file_commands_from (count + 1) there rest in
     tried_ok at count Stop after (IsWithin jumped s) (stop_ok s jumped there after (on (count + 1)))
 stops_ok false at count there s jumped rest on =
-    let after = reads_from (count + 2) there rest in
-    tried_ok at count Stop (tried at (count + 1) (Jump there) after) (IsWithin jumped s)
+    let after = file_commands_from (count + 2) there rest in
+    tried_ok at count Stop (checked_command at (count + 1) (Jump there) after) (IsWithin jumped s)
     (tried_ok at (count + 1) (Jump there) after (λ commands. IsWithin jumped s (Stop ∷ commands))
     (stop_jump_ok s jumped there after (on (count + 2))))
 
 -- a record of each kind
-record_ok : (k : RecordKind) (at count run : ℕ) (place m : Point) (s : Standing) (jumped : Bool)
+record_ok : (k : RecordKind) (at count run : ℕ) (place m : Point) (s : EncoderState) (jumped : Bool)
     → (unsigned_abs m.x ≤ LIMIT) × (unsigned_abs m.y ≤ LIMIT)
     → (s.loose ≡ false → IsNear s.place run place jumped)
-    → (rest : Records) → RecordsAreWithin (run_after k run) (moved place m) rest
-    → IfOk (reads_from count place (record_as k at run m rest)) (λ course. IsWithin jumped s course.commands)
+    → (rest : Records) → RecordsAreWithin (run_after_kind k run) (position_after_move place m) rest
+    → IfOk (file_commands_from count place (record_of_kind k at run m rest)) (λ course. IsWithin jumped s course.commands)
 record_ok kind.Stitch at count run place m s jumped small near rest on =
-    let after = reads_from (count + 1) (moved place m) rest in
-    tried_ok at count (Stitch (moved place m)) after (IsWithin jumped s)
+    let after = file_commands_from (count + 1) (position_after_move place m) rest in
+    tried_ok at count (Stitch (position_after_move place m)) after (IsWithin jumped s)
     (stitch_ok s jumped run place m after small near (on (count + 1)))
 record_ok kind.Jump at count run place m s jumped small near rest on =
     jumps_ok (run == 2) at count run place m s jumped rest refl small near on
 record_ok kind.Stop at count run place m s jumped small near rest on =
-    stops_ok (is_same_point m origin) at count (moved place m) s jumped rest on
+    stops_ok (is_same_point m origin) at count (position_after_move place m) s jumped rest on
 record_ok kind.Sequin at count run place m s jumped small near rest on = tt
 record_ok kind.End at count run place m s jumped small near rest on = λ n. refl
 
 -- the records from a place on
-records_ok : (bytes : List ℕ) (at run : ℕ) (place : Point) → RecordsAreWithin run place (records_from run at bytes)
+records_ok : (bytes : List ℕ) (at run : ℕ) (place : Point) → RecordsAreWithin run place (dst_records_from run at bytes)
 records_ok [] at run place = λ count s jumped near. λ n. refl
 records_ok (a ∷ []) at run place = λ count s jumped near. λ n. refl
 records_ok (a ∷ b ∷ []) at run place = λ count s jumped near. λ n. refl
 records_ok (a ∷ b ∷ c ∷ rest) at run place = λ count s jumped near.
-    record_ok (kind_of c) at count run place (move_of a b c) s jumped (move_small a b c) near
-    (records_from (run_after (kind_of c) run) (at + 3) rest)
-    (records_ok rest (at + 3) (run_after (kind_of c) run) (moved place (move_of a b c)))
+    record_ok (kind_of c) at count run place (dst_move_of a b c) s jumped (move_small a b c) near
+    (dst_records_from (run_after_kind (kind_of c) run) (at + 3) rest)
+    (records_ok rest (at + 3) (run_after_kind (kind_of c) run) (position_after_move place (dst_move_of a b c)))
 
 -- a refusal that is not long
 not_long : (r : Option WriteFault) (bytes : List ℕ) (number : ℕ) → is_long r ≡ false
@@ -307,17 +309,17 @@ not_long (Some (fault.TooLong n)) bytes number short = (λ same. cc, λ same. cc
 not_long (Some fault.Memory) bytes number short = (λ same. cc, λ same. cc)
 
 -- what was read is not refused for a long stitch or a long float
-pub read_is_within_reach : ReadIsWithinReach
+pub read_is_within_reach : ReadMovesAreWritable
 read_is_within_reach bytes = by_length (nat_lt (length bytes) HEADER_LENGTH)
-    (course_of (records_in bytes))
-    (records_ok (drop HEADER_LENGTH bytes) HEADER_LENGTH 0 origin 0 beginning false
-    (loose_free (IsNear origin 0 origin false) beginning refl))
+    (file_commands (dst_records_in bytes))
+    (records_ok (drop HEADER_LENGTH bytes) HEADER_LENGTH 0 origin 0 initial_encoder_state false
+    (loose_free (IsNear origin 0 origin false) initial_encoder_state refl))
   where
-    by_length : (b : Bool) (course : Result Course ReadFault) → IfOk course (λ c. IsWithin false beginning c.commands)
-        → IfOk (if b then Err (read.Short (0 + length bytes)) else loaded_with (label_of bytes) [] course) (λ loaded. (number : ℕ)
-        → (writes loaded.design ≢ Err (fault.StitchTooLong number)) × (writes loaded.design ≢ Err (fault.FloatTooLong number)))
+    by_length : (b : Bool) (course : Result FileCommands ReadFault) → IfOk course (λ c. IsWithin false initial_encoder_state c.commands)
+        → IfOk (if b then Err (read.Short (0 + length bytes)) else loaded_with (dst_label_of bytes) [] course) (λ loaded. (number : ℕ)
+        → (dst_writes loaded.design ≢ Err (fault.StitchTooLong number)) × (dst_writes loaded.design ≢ Err (fault.FloatTooLong number)))
     by_length true course within = tt
     by_length false (Err f) within = tt
     by_length false (Ok c) within = λ number.
-        not_long (first_refusal reach (acts_along c.commands))
-        (file_of (label_of bytes) (acts_along c.commands)) number (within 1)
+        not_long (first_refusal dst_write_limits (acts_along c.commands))
+        (dst_file_of (dst_label_of bytes) (acts_along c.commands)) number (within 1)

@@ -2,26 +2,26 @@
 use Rattle.std.proofs.Common.{◌≡◌, ◌≢◌, ℕ, ◌+◌, min, pos, negsuc, Bool, true, false, IsTrue, List, [], ◌∷◌, ◌++◌, Some, inr, ◌==◌, if◌then◌else◌, refl, ap, ◌∙◌, arith}
 use Rattle.std.proofs.lemmas.Bool.{eq-eqb, ne_eqb, eqb-true, eqb-false}
 use Rattle.design_model.specs.declared.point.Point.{Point}
-use Rattle.design_model.specs.Points.{is_within, origin}
+use Rattle.design_model.specs.Points.{is_point_within, origin}
 use Rattle.format_traits.specs.declared.event.Event.TheVariants as event
 use Rattle.format_traits.specs.Records.{Records, over, next}
-use Rattle.format_traits.specs.Rereading.{Taken, RereadsSpelling}
+use Rattle.format_traits.specs.RoundTrip.{EncodedEvents, DecodesEncoding}
 use Rattle.dst_codec.specs.declared.dst.TheConstants.{LIMIT}
 use Rattle.dst_codec.specs.declared.record_kind.RecordKind.TheVariants as kind
-use Rattle.dst_codec.specs.Reading.{records_from}
-use Rattle.dst_codec.specs.Spelling.{stitch_record, jump_record, end_record}
-use Rattle.dst_codec.specs.Writing.{spelling, reach}
+use Rattle.dst_codec.specs.Reading.{dst_records_from}
+use Rattle.dst_codec.specs.MoveEncoding.{dst_stitch_record, dst_jump_record, dst_end_record}
+use Rattle.dst_codec.specs.Writing.{dst_encoding, dst_write_limits}
 use Rattle.dst_codec.proofs.RunLemmas.{record_reads}
-use Rattle.dst_codec.proofs.SpellingLemmas.{byte_of, third_of, move_of-record, kind_of-stitch, kind_of-jump}
+use Rattle.dst_codec.proofs.MoveEncodingLemmas.{byte_of, third_of, dst_move_of-record, kind_of-stitch, kind_of-jump}
 
 -- the records of a reader after n jump records
 abbrev pub read_after : ℕ → ℕ → List ℕ → Records
-read_after run = records_from (min run 3)
+read_after run = dst_records_from (min run 3)
 
-stitch_reads : (run at : ℕ) (m : Point) (rest : List ℕ) → IsTrue (is_within LIMIT m)
-    → records_from run at (stitch_record m ++ rest) ≡ next at (event.Stitch m) (records_from 0 (at + 3) rest)
+stitch_reads : (run at : ℕ) (m : Point) (rest : List ℕ) → IsTrue (is_point_within LIMIT m)
+    → dst_records_from run at (dst_stitch_record m ++ rest) ≡ next at (event.Stitch m) (dst_records_from 0 (at + 3) rest)
 stitch_reads run at m rest near = record_reads run at (byte_of 1 9 m) (byte_of 3 27 m) (third_of 0 m) rest kind.Stitch m
-    (kind_of-stitch m) (move_of-record 0 0 m refl near)
+    (kind_of-stitch m) (dst_move_of-record 0 0 m refl near)
 
 -- a run that is counted up to three is at two where it is
 at_two : (run : ℕ) → (min run 3 == 2) ≡ (run == 2)
@@ -36,16 +36,16 @@ at_two run = by_test (run == 2) refl
         let other : run ≢ 2 = eqb-false run 2 is in
         ne_eqb (min run 3) 2 (λ two. other (let same : run ≡ 2 = omega (arith, two) in same))
 
-jump_reads : (run at : ℕ) (m : Point) (rest : List ℕ) → IsTrue (is_within LIMIT m)
-    → read_after run at (jump_record m ++ rest)
+jump_reads : (run at : ℕ) (m : Point) (rest : List ℕ) → IsTrue (is_point_within LIMIT m)
+    → read_after run at (dst_jump_record m ++ rest)
     ≡ next at (if run == 2 then event.TrimmedJump m else event.Jump m) (read_after (run + 1) (at + 3) rest)
 jump_reads run at m rest near =
     let longer : min (min run 3 + 1) 3 ≡ min (run + 1) 3 = omega arith in
     record_reads (min run 3) at (byte_of 1 9 m) (byte_of 3 27 m) (third_of 128 m) rest kind.Jump m
-    (kind_of-jump m) (move_of-record 128 2 m refl near)
-    ∙ ap (λ b. next at (if b then event.TrimmedJump m else event.Jump m) (records_from (min (min run 3 + 1) 3) (at + 3) rest))
+    (kind_of-jump m) (dst_move_of-record 128 2 m refl near)
+    ∙ ap (λ b. next at (if b then event.TrimmedJump m else event.Jump m) (dst_records_from (min (min run 3 + 1) 3) (at + 3) rest))
     (at_two run)
-    ∙ ap (λ n. next at (if run == 2 then event.TrimmedJump m else event.Jump m) (records_from n (at + 3) rest)) longer
+    ∙ ap (λ n. next at (if run == 2 then event.TrimmedJump m else event.Jump m) (dst_records_from n (at + 3) rest)) longer
 
 -- the first two jumps of a trim, and the third
 abbrev forth : Point
@@ -55,15 +55,15 @@ abbrev back : Point
 back = record { x = negsuc 3; y = negsuc 3 }
 
 -- the third jump record of a run is decoded as a trim too, and a written trim is such a run
-abbrev pub taken : Taken
+abbrev pub taken : EncodedEvents
 taken = record {
-  most_jumps = Some 2;
+  max_jumps = Some 2;
   trim = event.Jump forth ∷ event.Jump back ∷ event.TrimmedJump forth ∷ [];
   run = 3;
   stop = event.StopBy origin;
 }
 
-pub rereads : RereadsSpelling read_after spelling reach taken
+pub rereads : DecodesEncoding read_after dst_encoding dst_write_limits taken
 rereads = record {
   stitch = λ run at m rest near. stitch_reads (min run 3) at m rest near;
   jump = λ run at m rest near. jump_reads run at m rest near;
@@ -79,7 +79,7 @@ rereads = record {
         at + 3 + 3,
         _,
         refl,
-        ap (λ n. records_from 3 n rest) (let nine : at + 3 + 3 + 3 ≡ at + 9 = omega arith in nine),
+        ap (λ n. dst_records_from 3 n rest) (let nine : at + 3 + 3 + 3 ≡ at + 9 = omega arith in nine),
       ),
     ),
   );
@@ -93,5 +93,5 @@ rereads = record {
 }
 
 -- the end is one after any run
-pub ends : (run at : ℕ) → read_after run at end_record ≡ over true
+pub ends : (run at : ℕ) → read_after run at dst_end_record ≡ over true
 ends run at = refl

@@ -2,50 +2,52 @@
 use Rattle.std.proofs.Common.{◌≡◌, ℕ, List, true, false, Option, Some, None, IfOk, IsOk, refl, sym, subst, arith}
 use Rattle.design_model.specs.Acts.{acts_of}
 use Rattle.design_model.specs.Designs.{DesignValue}
-use Rattle.format_traits.specs.declared.standing.Reach.{Reach}
+use Rattle.format_traits.specs.declared.encoder_state.WriteLimits.{WriteLimits}
 use Rattle.format_traits.specs.declared.fault.WriteFault.{WriteFault}
-use Rattle.format_traits.specs.Accepted.{AcceptedIsSmall}
-use Rattle.format_traits.specs.Laws.{ReadsAgain, MovesWithin, CodecsKeepLaws}
+use Rattle.format_traits.specs.Accepted.{AcceptedIsWithinLimits}
+use Rattle.format_traits.specs.Laws.{RoundTrips, MovesWithin, CodecsKeepLaws}
 use Rattle.format_traits.specs.PlainDesigns.{IsPlain}
-use Rattle.format_traits.specs.Refusals.{beginning, first_refusal, unless_refused}
-use Rattle.format_traits.specs.Rereading.{SpelledActsReadAgain}
+use Rattle.format_traits.specs.Refusals.{initial_encoder_state, first_refusal, unless_refused}
+use Rattle.format_traits.specs.RoundTrip.{EncodedActsRoundTrip}
 use Rattle.format_traits.proofs.rereading.Acts.{goes_acts, broken}
 use Rattle.format_traits.proofs.rereading.Rooms.{told, acts_in_range, plain_passes, few_stops, small_room}
 
 -- the records of acts that are not refused decode to these acts
-pub spelled_acts_read_again : SpelledActsReadAgain
-spelled_acts_read_again read spelling reach taken b d limits passed at rest ends =
-    let goes = goes_acts read spelling reach taken b rest ends (acts_of d) beginning at 0 0 false
-    (broken taken.most_jumps) (told 1 true false d.commands) refl
+pub spelled_acts_read_again : EncodedActsRoundTrip
+spelled_acts_read_again read encoding write_limits taken b d limits passed at rest ends =
+    let goes = goes_acts read encoding write_limits taken b rest ends (acts_of d) initial_encoder_state at 0 0 false
+    (broken taken.max_jumps) (told 1 true false d.commands) refl
     (acts_in_range 1 true false d.commands limits.in_range) passed (omega arith) in
     record { commands = goes.commands; course = goes.read; again = goes.told 1; within = goes.within }
 
 -- what holds of the file of a design that is not refused, holds of what is written
-of_written : (reach : Reach) (d : DesignValue) (file : List ℕ) (P : List ℕ → Type 0) → (r : Option WriteFault)
-    → first_refusal reach (acts_of d) ≡ r → (first_refusal reach (acts_of d) ≡ None → P file)
+of_written : (write_limits : WriteLimits) (d : DesignValue) (file : List ℕ) (P : List ℕ → Type 0) → (r : Option WriteFault)
+    → first_refusal write_limits (acts_of d) ≡ r → (first_refusal write_limits (acts_of d) ≡ None → P file)
     → IfOk (unless_refused r file) P
-of_written reach d file P None is holds = holds is
-of_written reach d file P (Some f) is holds = tt
+of_written write_limits d file P None is holds = holds is
+of_written write_limits d file P (Some f) is holds = tt
 
 -- a format whose files read back and move within the limit keeps the laws
 pub codecs_keep_laws : CodecsKeepLaws
-codecs_keep_laws m reach file codec d limits = record {
-  again = subst (λ result. IfOk result (λ bytes. ReadsAgain m d bytes)) (sym (codec.writes d))
-      (of_written reach d (file d) (λ bytes. ReadsAgain m d bytes) (first_refusal reach (acts_of d)) refl (codec.again d limits));
+codecs_keep_laws m write_limits file codec d limits = record {
+  again = subst (λ result. IfOk result (λ bytes. RoundTrips m d bytes)) (sym (codec.writes d))
+      (of_written write_limits d (file d) (λ bytes. RoundTrips m d bytes) (first_refusal write_limits (acts_of d)) refl
+      (codec.again d limits));
   within = subst (λ result. IfOk result (λ bytes. MovesWithin m bytes)) (sym (codec.writes d))
-      (of_written reach d (file d) (λ bytes. MovesWithin m bytes) (first_refusal reach (acts_of d)) refl (codec.within d limits));
+      (of_written write_limits d (file d) (λ bytes. MovesWithin m bytes) (first_refusal write_limits (acts_of d)) refl
+      (codec.within d limits));
   plain = λ plain.
       let of_reach = subst (λ limit. IsPlain limit d) codec.limit plain in
-      let passed = plain_passes reach 254 codec.stops (acts_of d) beginning of_reach.needles
+      let passed = plain_passes write_limits 254 codec.stops (acts_of d) initial_encoder_state of_reach.needles
       (omega (arith, of_reach.stops)) (omega (arith, of_reach.room)) in
       subst (λ result. IsOk result) (sym (codec.writes d))
       (subst (λ r. IsOk (unless_refused r (file d))) (sym passed) refl);
 }
 
 -- acts that are not refused have little room and few stops
-pub accepted_is_small : AcceptedIsSmall
-accepted_is_small reach d limits passed = record {
+pub accepted_is_small : AcceptedIsWithinLimits
+accepted_is_small write_limits d limits passed = record {
   in_range = acts_in_range 1 true false d.commands limits.in_range;
-  room = let small = small_room reach (acts_of d) beginning passed (omega arith) in omega (arith, small);
-  stops = λ most is. let few = few_stops reach most is (acts_of d) beginning passed (omega arith) in omega (arith, few);
+  room = let small = small_room write_limits (acts_of d) initial_encoder_state passed (omega arith) in omega (arith, small);
+  stops = λ most is. let few = few_stops write_limits most is (acts_of d) initial_encoder_state passed (omega arith) in omega (arith, few);
 }

@@ -8,62 +8,64 @@ use Rattle.design_model.specs.declared.act.Act.TheVariants as act
 use Rattle.design_model.specs.declared.design.TheConstants.{MAX_COMMANDS}
 use Rattle.design_model.specs.declared.point.Point.{Point}
 use Rattle.design_model.specs.declared.point.TheConstants.{NEEDLE_LIMIT, JUMP_LIMIT}
-use Rattle.design_model.specs.Points.{is_within, origin, size_of}
+use Rattle.design_model.specs.Points.{is_point_within, origin, move_size}
 use Rattle.format_traits.specs.declared.event.Event.{Event}
 use Rattle.format_traits.specs.declared.event.Event.TheVariants as event
-use Rattle.format_traits.specs.Placing.{moved}
+use Rattle.format_traits.specs.MoveHops.{position_after_move}
 use Rattle.format_traits.specs.Records.{Records}
-use Rattle.format_traits.specs.Rereading.{Ask, IsTrim, are_jumps, cuts_once, moved_along, moves_along, way_of}
-use Rattle.format_traits.proofs.PointLemmas.{within_parts, within_from, within_more, same_point, moved-none}
+use Rattle.format_traits.specs.RoundTrip.{BeginWithEvents, IsTrimSequence, are_jumps, trims_once, position_after_moves, moves_of_events, length_of_moves}
+use Rattle.format_traits.proofs.PointLemmas.{within_parts, within_from, within_more, same_point, position_after_move-none}
 use Rattle.format_traits.proofs.rereading.Runs.{goes_as}
 use Rattle.format_traits.proofs.rereading.Steps.{GoesOn, goes_jump, goes_trimmed_jump, goes_trim}
 
-moved-moved : (p q m : Point) → moved (moved p q) m ≡ moved p (moved q m)
+moved-moved : (p q m : Point) → position_after_move (position_after_move p q) m ≡ position_after_move p (position_after_move q m)
 moved-moved p q m = same_point (turned p.x q.x m.x) (turned p.y q.y m.y)
   where
     turned : (a b c : ℤ) → (a +ℤ b) +ℤ c ≡ a +ℤ (b +ℤ c)
     turned a b c = omega (arith, ints)
 
-moved_along-moved : (p q : Point) (ms : List Point) → moved_along (moved p q) ms ≡ moved p (moved_along q ms)
+moved_along-moved : (p q : Point) (ms : List Point)
+    → position_after_moves (position_after_move p q) ms ≡ position_after_move p (position_after_moves q ms)
 moved_along-moved p q [] = refl
-moved_along-moved p q (m ∷ ms) = ap (λ r. moved_along r ms) (moved-moved p q m) ∙ moved_along-moved p (moved q m) ms
+moved_along-moved p q (m ∷ ms) = ap (λ r. position_after_moves r ms) (moved-moved p q m) ∙ moved_along-moved p (position_after_move q m) ms
 
 -- moves that lead back to the origin lead back to any place
-back_to : (place : Point) (ms : List Point) → moved_along origin ms ≡ origin → moved_along place ms ≡ place
-back_to place ms back = ap (λ r. moved_along r ms) (sym (moved-none place)) ∙ moved_along-moved place origin ms
-    ∙ ap (moved place) back ∙ moved-none place
+back_to : (place : Point) (ms : List Point) → position_after_moves origin ms ≡ origin → position_after_moves place ms ≡ place
+back_to place ms back = ap (λ r. position_after_moves r ms) (sym (position_after_move-none place)) ∙ moved_along-moved place origin ms
+    ∙ ap (position_after_move place) back ∙ position_after_move-none place
 
 -- a place after a move is at most so much farther
-farther : (far : ℕ) (place m : Point) → IsTrue (is_within far place) → IsTrue (is_within (far + size_of m) (moved place m))
+farther : (far : ℕ) (place m : Point) → IsTrue (is_point_within far place)
+    → IsTrue (is_point_within (far + move_size m) (position_after_move place m))
 farther far place m here =
     let parts = within_parts far place here in
-    within_from (far + size_of m) (moved place m)
-    (sum place.x m.x (size_of m) parts.0 (omega arith)) (sum place.y m.y (size_of m) parts.1 (omega arith))
+    within_from (far + move_size m) (position_after_move place m)
+    (sum place.x m.x (move_size m) parts.0 (omega arith)) (sum place.y m.y (move_size m) parts.1 (omega arith))
   where
     sum : (x z : ℤ) (size : ℕ) → unsigned_abs x ≤ far → unsigned_abs z ≤ size → unsigned_abs (x +ℤ z) ≤ far + size
     sum x z size small less = omega (arith, ints)
 
-in_jump_range : (far : ℕ) (place m : Point) (more : ℕ) → IsTrue (is_within far place) → far + (size_of m + more) ≤ JUMP_LIMIT
-    → IsTrue (is_within JUMP_LIMIT (moved place m))
+in_jump_range : (far : ℕ) (place m : Point) (more : ℕ) → IsTrue (is_point_within far place) → far + (move_size m + more) ≤ JUMP_LIMIT
+    → IsTrue (is_point_within JUMP_LIMIT (position_after_move place m))
 in_jump_range far place m more here room =
-    within_more (far + size_of m) JUMP_LIMIT (moved place m) (omega (arith, room)) (farther far place m here)
+    within_more (far + move_size m) JUMP_LIMIT (position_after_move place m) (omega (arith, room)) (farther far place m here)
 
 -- jumps of a loose thread
 goes_jumps : (events : List Event) (limit far count most : ℕ) (place : Point) (records rest : Records) (jumped : Bool)
-    (acts : List Act) → IsTrue (are_jumps events) → Ask events records rest
-    → IsTrue (list_all (λ move. is_within limit move) (moves_along events)) → IsTrue (is_within far place)
-    → far + way_of (moves_along events) ≤ JUMP_LIMIT → count + length events ≤ most → most ≤ MAX_COMMANDS
+    (acts : List Act) → IsTrue (are_jumps events) → BeginWithEvents events records rest
+    → IsTrue (list_all (λ move. is_point_within limit move) (moves_of_events events)) → IsTrue (is_point_within far place)
+    → far + length_of_moves (moves_of_events events) ≤ JUMP_LIMIT → count + length events ≤ most → most ≤ MAX_COMMANDS
     → ((count' : ℕ) (jumped' : Bool) → count' ≤ most
-    → GoesOn limit count' (moved_along place (moves_along events)) rest true jumped' acts)
+    → GoesOn limit count' (position_after_moves place (moves_of_events events)) rest true jumped' acts)
     → GoesOn limit count place records true jumped acts
 goes_jumps [] limit far count most place records rest jumped acts are asks near here room few small on =
     goes_as asks (on count jumped (omega (arith, few)))
 goes_jumps (event.Jump m ∷ more) limit far count most place records rest jumped acts are asks near here room few small on =
-    let within = and_parts (is_within limit m) (list_all (λ move. is_within limit move) (moves_along more)) near in
+    let within = and_parts (is_point_within limit m) (list_all (λ move. is_point_within limit move) (moves_of_events more)) near in
     goes_as asks.2
-    (goes_jump limit asks.0 count place m (moved place m) asks.1 true jumped acts within.0 refl
-    (in_jump_range far place m (way_of (moves_along more)) here room) (omega (arith, few, small))
-    (goes_jumps more limit (far + size_of m) (count + 1) most (moved place m) asks.1 rest true acts are asks.3 within.1
+    (goes_jump limit asks.0 count place m (position_after_move place m) asks.1 true jumped acts within.0 refl
+    (in_jump_range far place m (length_of_moves (moves_of_events more)) here room) (omega (arith, few, small))
+    (goes_jumps more limit (far + move_size m) (count + 1) most (position_after_move place m) asks.1 rest true acts are asks.3 within.1
     (farther far place m here) (omega (arith, room)) (omega (arith, few)) small on))
 goes_jumps (event.Stitch m ∷ more) limit far count most place records rest jumped acts are asks near here room few small on = cc
 goes_jumps (event.TrimmedJump m ∷ more) limit far count most place records rest jumped acts are asks near here room few small on = cc
@@ -73,26 +75,26 @@ goes_jumps (event.StopBy m ∷ more) limit far count most place records rest jum
 
 -- a cut among jumps
 goes_cut : (events : List Event) (limit far count most : ℕ) (place : Point) (records rest : Records) (jumped : Bool)
-    (acts : List Act) → IsTrue (cuts_once events) → Ask events records rest
-    → IsTrue (list_all (λ move. is_within limit move) (moves_along events)) → IsTrue (is_within far place)
-    → far + way_of (moves_along events) ≤ JUMP_LIMIT → count + length events < most → most ≤ MAX_COMMANDS
+    (acts : List Act) → IsTrue (trims_once events) → BeginWithEvents events records rest
+    → IsTrue (list_all (λ move. is_point_within limit move) (moves_of_events events)) → IsTrue (is_point_within far place)
+    → far + length_of_moves (moves_of_events events) ≤ JUMP_LIMIT → count + length events < most → most ≤ MAX_COMMANDS
     → ((count' : ℕ) (jumped' : Bool) → count' ≤ most
-    → GoesOn limit count' (moved_along place (moves_along events)) rest true jumped' acts)
+    → GoesOn limit count' (position_after_moves place (moves_of_events events)) rest true jumped' acts)
     → GoesOn limit count place records false jumped (act.Trim ∷ acts)
 goes_cut [] limit far count most place records rest jumped acts cuts asks near here room few small on = cc
 goes_cut (event.Jump m ∷ more) limit far count most place records rest jumped acts cuts asks near here room few small on =
-    let within = and_parts (is_within limit m) (list_all (λ move. is_within limit move) (moves_along more)) near in
+    let within = and_parts (is_point_within limit m) (list_all (λ move. is_point_within limit move) (moves_of_events more)) near in
     goes_as asks.2
-    (goes_jump limit asks.0 count place m (moved place m) asks.1 false jumped (act.Trim ∷ acts) within.0 refl
-    (in_jump_range far place m (way_of (moves_along more)) here room) (omega (arith, few, small))
-    (goes_cut more limit (far + size_of m) (count + 1) most (moved place m) asks.1 rest true acts cuts asks.3 within.1
+    (goes_jump limit asks.0 count place m (position_after_move place m) asks.1 false jumped (act.Trim ∷ acts) within.0 refl
+    (in_jump_range far place m (length_of_moves (moves_of_events more)) here room) (omega (arith, few, small))
+    (goes_cut more limit (far + move_size m) (count + 1) most (position_after_move place m) asks.1 rest true acts cuts asks.3 within.1
     (farther far place m here) (omega (arith, room)) (omega (arith, few)) small on))
 goes_cut (event.TrimmedJump m ∷ more) limit far count most place records rest jumped acts cuts asks near here room few small on =
-    let within = and_parts (is_within limit m) (list_all (λ move. is_within limit move) (moves_along more)) near in
+    let within = and_parts (is_point_within limit m) (list_all (λ move. is_point_within limit move) (moves_of_events more)) near in
     goes_as asks.2
-    (goes_trimmed_jump limit asks.0 count place m (moved place m) asks.1 false jumped acts within.0 refl
-    (in_jump_range far place m (way_of (moves_along more)) here room) (omega (arith, few, small))
-    (goes_jumps more limit (far + size_of m) (count + 2) most (moved place m) asks.1 rest true acts cuts asks.3 within.1
+    (goes_trimmed_jump limit asks.0 count place m (position_after_move place m) asks.1 false jumped acts within.0 refl
+    (in_jump_range far place m (length_of_moves (moves_of_events more)) here room) (omega (arith, few, small))
+    (goes_jumps more limit (far + move_size m) (count + 2) most (position_after_move place m) asks.1 rest true acts cuts asks.3 within.1
     (farther far place m here) (omega (arith, room)) (omega (arith, few)) small on))
 goes_cut (event.Trim ∷ more) limit far count most place records rest jumped acts cuts asks near here room few small on =
     goes_as asks.2
@@ -105,7 +107,7 @@ goes_cut (event.StopBy m ∷ more) limit far count most place records rest jumpe
 
 -- the records of a trim
 pub goes_trimmed : (events : List Event) (limit count room : ℕ) (place : Point) (records rest : Records) (jumped : Bool)
-    (acts : List Act) → IsTrim limit events → Ask events records rest → IsTrue (is_within NEEDLE_LIMIT place)
+    (acts : List Act) → IsTrimSequence limit events → BeginWithEvents events records rest → IsTrue (is_point_within NEEDLE_LIMIT place)
     → count ≤ room → room + 4 ≤ MAX_COMMANDS
     → ((count' : ℕ) (jumped' : Bool) → count' ≤ room + 4 → GoesOn limit count' place rest true jumped' acts)
     → GoesOn limit count place records false jumped (act.Trim ∷ acts)
@@ -113,4 +115,4 @@ goes_trimmed events limit count room place records rest jumped acts trim asks he
     goes_cut events limit NEEDLE_LIMIT count (room + 4) place records rest jumped acts trim.cuts asks trim.within here
     (omega (arith, trim.short)) (omega (arith, few, trim.few)) small
     (λ count' jumped' counted. subst (λ q. GoesOn limit count' q rest true jumped' acts)
-    (sym (back_to place (moves_along events) trim.back)) (on count' jumped' counted))
+    (sym (back_to place (moves_of_events events) trim.back)) (on count' jumped' counted))

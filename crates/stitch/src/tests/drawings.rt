@@ -1,5 +1,5 @@
-use super::rows::play;
-use row_tables::{
+use super::cases::play;
+use case_tables::{
     CLOSED, DOUBLED, ENDED, JUDGED, MEETING, NOT_MIGRATED, NOT_ROUTED, PATTERN, SAMPLED, TRACED,
     VERSIONS,
 };

@@ -1,5 +1,5 @@
 //! A stitch file is fed to its format part by part, and not decoded as a whole.
-use crate::tests::rows::behind;
+use crate::tests::cases::behind;
 use design_model::{Bytes, Command, Design, Memory};
 use dst_codec::Dst;
 use format_traits::{Format, Loaded, ReadFault, WriteFault};
@@ -15,11 +15,11 @@ struct FedAlone {
 }
 
 impl Format for FedAlone {
-    ghost use Rattle.dst_codec.specs.Format.{dst as dst_meaning};
+    ghost use Rattle.dst_codec.specs.Format.{dst_meaning};
 
     ghost meaning = { λ _. dst_meaning };
 
-    ghost feeding = { λ f. ⟦<Dst as Format>⟧.feeding f.dst };
+    ghost feed_state = { λ f. ⟦<Dst as Format>⟧.feed_state f.dst };
 
     fn ext(&self) -> &str {
         self.dst.ext()

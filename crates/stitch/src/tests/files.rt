@@ -1,12 +1,12 @@
-use super::rows::play;
-use row_tables::{Holds, Row, done, records, refused};
+use super::cases::play;
+use case_tables::{Case, FileContent, done, records, refused};
 use std::test::Fail;
 
 const SHOW: &[&str] = &["show", "a.dst"];
 
 /// A file cut off in its second record; three jumps, which are read as a trim; two jumps; only a stop.
-static SHOWN: &[Row] = &[
-    Row {
+static SHOWN: &[Case] = &[
+    Case {
         before: &[("a.dst", records!(&[0x00, 0x05, 0x03, 0x00, 0x05]))],
         steps: &[done!(
             SHOW,
@@ -14,7 +14,7 @@ static SHOWN: &[Row] = &[
             &[],
         )],
     },
-    Row {
+    Case {
         before: &[(
             "a.dst",
             records!(&[
@@ -27,7 +27,7 @@ static SHOWN: &[Row] = &[
             &[],
         )],
     },
-    Row {
+    Case {
         before: &[(
             "a.dst",
             records!(&[0, 0, 0x03, 0, 0, 0x83, 0, 0, 0x83, 0, 0, 0x03, 0, 0, 0xF3]),
@@ -38,7 +38,7 @@ static SHOWN: &[Row] = &[
             &[],
         )],
     },
-    Row {
+    Case {
         before: &[("a.dst", records!(&[0, 0, 0xC3, 0, 0, 0xF3]))],
         steps: &[done!(
             SHOW,
@@ -49,35 +49,38 @@ static SHOWN: &[Row] = &[
 ];
 
 /// Files that do not conform to their format; the last has too many commands.
-static NOT_SHOWN: &[Row] = &[
-    Row {
-        before: &[("a.dst", Holds::Behind(b"", 511, 0, b""))],
+static NOT_SHOWN: &[Case] = &[
+    Case {
+        before: &[("a.dst", FileContent::Padded(b"", 511, 0, b""))],
         steps: &[refused!(SHOW, "stitch: a.dst: byte 511: file too short\n")],
     },
-    Row {
+    Case {
         before: &[("a.dst", records!(&[0x00, 0x00, 0x43]))],
         steps: &[refused!(SHOW, "stitch: a.dst: byte 512: sequin\n")],
     },
-    Row {
-        before: &[("a.dst", Holds::Behind(b"", 512, 248, &[0x05, 0x05, 0x07]))],
+    Case {
+        before: &[(
+            "a.dst",
+            FileContent::Padded(b"", 512, 248, &[0x05, 0x05, 0x07]),
+        )],
         steps: &[refused!(SHOW, "stitch: a.dst: byte 1253: point out of range\n")],
     },
-    Row {
-        before: &[("a.exp", Holds::Bytes(&[0x80, 0x05, 0x00, 0x00]))],
+    Case {
+        before: &[("a.exp", FileContent::Bytes(&[0x80, 0x05, 0x00, 0x00]))],
         steps: &[refused!(
             &["show", "a.exp"],
             "stitch: a.exp: byte 0: control code not known\n",
         )],
     },
-    Row {
-        before: &[("a.pec", Holds::Bytes(b"#PAC0001"))],
+    Case {
+        before: &[("a.pec", FileContent::Bytes(b"#PAC0001"))],
         steps: &[refused!(
             &["show", "a.pec"],
             "stitch: a.pec: byte 0: signature not known\n",
         )],
     },
-    Row {
-        before: &[("a.exp", Holds::Behind(b"", 0, 2_000_002, &[0]))],
+    Case {
+        before: &[("a.exp", FileContent::Padded(b"", 0, 2_000_002, &[0]))],
         steps: &[refused!(
             &["show", "a.exp"],
             "stitch: a.exp: byte 2000000: more than 1000000 commands\n",
@@ -85,9 +88,12 @@ static NOT_SHOWN: &[Row] = &[
     },
 ];
 
-static HOOPS: &[Row] = &[
-    Row {
-        before: &[("a.exp", Holds::Bytes(&[0x00, 0x00, 0x1E, 0x00, 0x00, 0xE2]))],
+static HOOPS: &[Case] = &[
+    Case {
+        before: &[(
+            "a.exp",
+            FileContent::Bytes(&[0x00, 0x00, 0x1E, 0x00, 0x00, 0xE2]),
+        )],
         steps: &[
             done!(&["hoop", "a.exp", "30", "0030"], "fits upright\n", &[]),
             refused!(
@@ -96,8 +102,8 @@ static HOOPS: &[Row] = &[
             ),
         ],
     },
-    Row {
-        before: &[("a.exp", Holds::Bytes(&[0x00, 0x00, 0x1E, 0x00]))],
+    Case {
+        before: &[("a.exp", FileContent::Bytes(&[0x00, 0x00, 0x1E, 0x00]))],
         steps: &[done!(&["hoop", "a.exp", "10", "30"], "fits turned\n", &[])],
     },
 ];

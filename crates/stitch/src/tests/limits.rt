@@ -1,5 +1,5 @@
-use super::rows::play;
-use row_tables::{Holds, Row, Says, refused, step};
+use super::cases::play;
+use case_tables::{Case, ExpectedText, FileContent, refused, step};
 use std::test::Fail;
 
 const TO_PES: &[&str] = &["route", "a.rw", "b.pes", "b.cert"];
@@ -13,15 +13,15 @@ const LINES: &[u8] = b"color 1\nline 0 0 10 0 0 0\n";
 /// A drawing text of a head of that length and n times a middle, and the step that routes it.
 macro_rules! routed {
     ($head:expr, $length:expr, $times:expr, $middle:expr, $step:expr) => {
-        Row {
-            before: &[("a.rw", Holds::Behind($head, $length, $times, $middle))],
+        Case {
+            before: &[("a.rw", FileContent::Padded($head, $length, $times, $middle))],
             steps: &[$step],
         }
     };
 }
 
 /// Drawings at a limit and above it: blocks, points and the step.
-static DRAWINGS: &[Row] = &[
+static DRAWINGS: &[Case] = &[
     routed!(
         HEAD,
         10,
@@ -30,7 +30,7 @@ static DRAWINGS: &[Row] = &[
         step!(
             TO_PES,
             0,
-            Says::Last("\npieces 255 penetrations 765\n"),
+            ExpectedText::EndsWith("\npieces 255 penetrations 765\n"),
             "",
             &[]
         )
@@ -50,7 +50,7 @@ static DRAWINGS: &[Row] = &[
         step!(
             TO_EXP,
             0,
-            Says::Last("\npieces 1 penetrations 131071\n"),
+            ExpectedText::EndsWith("\npieces 1 penetrations 131071\n"),
             "",
             &[]
         )
@@ -72,65 +72,65 @@ static DRAWINGS: &[Row] = &[
 ];
 
 /// A text that is not a certificate, and the line that `check` reports.
-macro_rules! unread {
+macro_rules! bad_file {
     ($text:expr, $line:expr) => {
-        Row {
+        Case {
             before: &[
                 (
                     "a.rw",
-                    Holds::Bytes(b"redwork 1\nstep 30\ncolor 5\nline 0 0 30 0 30 30 0 30 0 0\n"),
+                    FileContent::Bytes(b"redwork 1\nstep 30\ncolor 5\nline 0 0 30 0 30 30 0 30 0 0\n"),
                 ),
-                ("b.dst", Holds::Behind(b"", 512, 0, b"")),
-                ("c.cert", Holds::Bytes($text)),
+                ("b.dst", FileContent::Padded(b"", 512, 0, b"")),
+                ("c.cert", FileContent::Bytes($text)),
             ],
             steps: &[refused!(&["check", "a.rw", "b.dst", "c.cert"], $line)],
         }
     };
 }
 
-static CERTIFICATES: &[Row] = &[
-    unread!(b"", "stitch: c.cert: line 1: not a certificate\n"),
-    unread!(
+static CERTIFICATES: &[Case] = &[
+    bad_file!(b"", "stitch: c.cert: line 1: not a certificate\n"),
+    bad_file!(
         b"redwork-certificate 1",
         "stitch: c.cert: line 1: not a certificate\n"
     ),
-    unread!(
+    bad_file!(
         b"redwork-certificate 1\nend\n",
         "stitch: no: certificate has 0 pieces, drawing has 1\n"
     ),
-    unread!(
+    bad_file!(
         b"redwork-certificate 1\npiece 01\nwalk 1\nend\n",
         "stitch: c.cert: line 2: not a certificate\n"
     ),
-    unread!(
+    bad_file!(
         b"redwork-certificate 1\npiece 4294967296\nwalk 1\nend\n",
         "stitch: c.cert: line 2: not a certificate\n"
     ),
-    unread!(
+    bad_file!(
         b"redwork-certificate 1\npiece 0\nwalk\nend\n",
         "stitch: c.cert: line 3: not a certificate\n"
     ),
-    unread!(
+    bad_file!(
         b"redwork-certificate 1\npiece 0\nwalk 0\nend\n",
         "stitch: c.cert: line 3: not a certificate\n"
     ),
-    unread!(
+    bad_file!(
         b"redwork-certificate 1\npiece 0\nwalk 1\ncut 0 1\nend\n",
         "stitch: c.cert: line 4: not a certificate\n"
     ),
-    unread!(
+    bad_file!(
         b"redwork-certificate 1\npiece 0\nwalk 1\ncut 1 2 1\nend\n",
         "stitch: c.cert: line 4: not a certificate\n"
     ),
-    unread!(
+    bad_file!(
         b"redwork-certificate 1\npiece 0\nwalk 1\ncut 1 1 1\nend\n",
         "stitch: c.cert: line 4: not a certificate\n"
     ),
-    unread!(
+    bad_file!(
         b"redwork-certificate 1\npiece 0\nwalk 1\n",
         "stitch: c.cert: line 4: not a certificate\n"
     ),
-    unread!(
+    bad_file!(
         b"redwork-certificate 1\npiece 0\nwalk 1\nend\n ",
         "stitch: c.cert: line 5: not a certificate\n"
     ),

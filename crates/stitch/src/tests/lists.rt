@@ -1,13 +1,13 @@
-use super::rows::play;
-use row_tables::{Holds, Row, done, refused};
+use super::cases::play;
+use case_tables::{Case, FileContent, done, refused};
 use std::test::Fail;
 
 /// Designs written as stitch lists, lists read as designs, and texts that are not lists.
-static LISTS: &[Row] = &[
-    Row {
+static LISTS: &[Case] = &[
+    Case {
         before: &[(
             "a.rw",
-            Holds::Bytes(b"redwork 1\nstep 30\ncolor 5\nline 0 0 30 0 30 30 0 30 0 0\n"),
+            FileContent::Bytes(b"redwork 1\nstep 30\ncolor 5\nline 0 0 30 0 30 30 0 30 0 0\n"),
         )],
         steps: &[
             done!(
@@ -20,7 +20,7 @@ static LISTS: &[Row] = &[
                 "block 1 piece 1 lines 1 cost 4 retraced 0 penetrations 5\npieces 1 penetrations 5\n",
                 &[(
                     "b.lst",
-                    Holds::Bytes(
+                    FileContent::Bytes(
                         b"stitch-list 1\nlabel []\nblock 5\nneedle 0 0\nneedle 30 0\nneedle 30 30\nneedle 0 30\nneedle 0 0\ntrim\nend\n",
                     ),
                 )],
@@ -29,15 +29,15 @@ static LISTS: &[Row] = &[
             done!(
                 &["convert", "b.lst", "c.dst"],
                 "needles 5 trims 1 stops 0\n",
-                &[("c.dst", Holds::Same("b.dst"))],
+                &[("c.dst", FileContent::SameAs("b.dst"))],
             ),
         ],
     },
     // A float in four jumps is one line of the list.
-    Row {
+    Case {
         before: &[(
             "a.exp",
-            Holds::Bytes(&[
+            FileContent::Bytes(&[
                 0x00, 0x00, 0x80, 0x04, 0x64, 0x00, 0x80, 0x04, 0x64, 0x00, 0x80, 0x04, 0x64, 0x00,
                 0x80, 0x04, 0x64, 0x00, 0x00, 0x00,
             ]),
@@ -47,19 +47,21 @@ static LISTS: &[Row] = &[
             "needles 2 trims 0 stops 0\n",
             &[(
                 "b.lst",
-                Holds::Bytes(b"stitch-list 1\nlabel []\nblock 1\nneedle 0 0\nfloat 400 0\nend\n",),
+                FileContent::Bytes(
+                    b"stitch-list 1\nlabel []\nblock 1\nneedle 0 0\nfloat 400 0\nend\n",
+                ),
             )],
         )],
     },
-    Row {
+    Case {
         before: &[
             (
                 "a.lst",
-                Holds::Bytes(b"stitch-list 1\nlabel []\nblock 5\ntrim\nend\n"),
+                FileContent::Bytes(b"stitch-list 1\nlabel []\nblock 5\ntrim\nend\n"),
             ),
             (
                 "short.lst",
-                Holds::Bytes(b"stitch-list 1\nlabel []\nblock 5\n"),
+                FileContent::Bytes(b"stitch-list 1\nlabel []\nblock 5\n"),
             ),
         ],
         steps: &[

@@ -1,5 +1,5 @@
-use super::rows::play;
-use row_tables::{Calls, Holds, Row, Says, Step};
+use super::cases::play;
+use case_tables::{Case, CaseStep, ExpectedText, FailingCalls, FileContent};
 use std::test::Fail;
 
 const SQUARE: &[u8] = b"redwork 1\nstep 30\ncolor 5\nline 0 0 30 0 30 30 0 30 0 0\n";
@@ -19,9 +19,9 @@ const FLOAT: [u8; 20] = [
     0x64, 0x00, 0x00, 0x00,
 ];
 
-const DRAWN: &[(&str, Holds)] = &[
-    ("a.rw", Holds::Bytes(SQUARE)),
-    ("a.exp", Holds::Bytes(&FLOAT)),
+const DRAWN: &[(&str, FileContent)] = &[
+    ("a.rw", FileContent::Bytes(SQUARE)),
+    ("a.exp", FileContent::Bytes(&FLOAT)),
 ];
 
 const READ: &str = "stitch: cannot read a.rw\n";
@@ -33,17 +33,17 @@ const WRITE_DESIGN: &str = "stitch: cannot write b.dst\n";
 /// A command that fails over these files if these calls fail; it prints nothing.
 macro_rules! fault {
     ($before:expr, $words:expr, ($store:expr, $out:expr, $err:expr), $line:expr, $after:expr) => {
-        Row {
+        Case {
             before: $before,
-            steps: &[Step {
+            steps: &[CaseStep {
                 words: $words,
-                fails: Calls {
+                fails: FailingCalls {
                     store: $store,
                     out: $out,
                     err: $err,
                 },
                 status: 3,
-                out: Says::All(""),
+                out: ExpectedText::Exactly(""),
                 err: $line,
                 after: $after,
             }],
@@ -65,26 +65,42 @@ macro_rules! stopped {
 }
 
 /// A fault names its file. Files written before it are unchanged. The name d.dst has no room.
-static FAULTS: &[Row] = &[
-    stopped!(1, READ, Holds::Nothing, Holds::Nothing),
-    stopped!(2, READ, Holds::Nothing, Holds::Nothing),
-    stopped!(3, WRITE_CERT, Holds::Nothing, Holds::Nothing),
-    stopped!(4, WRITE_CERT, Holds::Bytes(b""), Holds::Nothing),
-    stopped!(5, WRITE_DESIGN, Holds::Bytes(CERT), Holds::Nothing),
-    stopped!(6, WRITE_DESIGN, Holds::Bytes(CERT), Holds::Bytes(b"")),
+static FAULTS: &[Case] = &[
+    stopped!(1, READ, FileContent::Missing, FileContent::Missing),
+    stopped!(2, READ, FileContent::Missing, FileContent::Missing),
+    stopped!(3, WRITE_CERT, FileContent::Missing, FileContent::Missing),
+    stopped!(4, WRITE_CERT, FileContent::Bytes(b""), FileContent::Missing),
+    stopped!(
+        5,
+        WRITE_DESIGN,
+        FileContent::Bytes(CERT),
+        FileContent::Missing
+    ),
+    stopped!(
+        6,
+        WRITE_DESIGN,
+        FileContent::Bytes(CERT),
+        FileContent::Bytes(b"")
+    ),
     fault!(
         &[],
         ROUTE,
         (9, 2, 2),
         READ,
-        &[("b.cert", Holds::Nothing), ("b.dst", Holds::Nothing)]
+        &[
+            ("b.cert", FileContent::Missing),
+            ("b.dst", FileContent::Missing)
+        ]
     ),
     fault!(
         DRAWN,
         &["route", "a.rw", "d.dst", "b.cert"],
         (9, 2, 2),
         "stitch: cannot write d.dst\n",
-        &[("b.cert", Holds::Bytes(CERT)), ("d.dst", Holds::Nothing)]
+        &[
+            ("b.cert", FileContent::Bytes(CERT)),
+            ("d.dst", FileContent::Missing)
+        ]
     ),
     fault!(
         DRAWN,
@@ -92,8 +108,8 @@ static FAULTS: &[Row] = &[
         (9, 1, 2),
         "stitch: cannot print\n",
         &[
-            ("b.cert", Holds::Bytes(CERT)),
-            ("b.dst", Holds::At(539, 0, b""))
+            ("b.cert", FileContent::Bytes(CERT)),
+            ("b.dst", FileContent::PartAt(539, 0, b""))
         ]
     ),
     fault!(
@@ -101,12 +117,12 @@ static FAULTS: &[Row] = &[
         CONVERT,
         (4, 2, 2),
         WRITE_DESIGN,
-        &[("b.dst", Holds::Bytes(b""))]
+        &[("b.dst", FileContent::Bytes(b""))]
     ),
 ];
 
 /// A line is one put; a failed put is a fault.
-static LINES: &[Row] = &[
+static LINES: &[Case] = &[
     fault!(&[], &[], (0, 1, 1), "", &[]),
     fault!(
         &[],
@@ -121,17 +137,17 @@ static LINES: &[Row] = &[
 /// and none on standard error.
 macro_rules! within {
     ($words:expr, $call:expr, $out:expr) => {
-        Row {
+        Case {
             before: DRAWN,
-            steps: &[Step {
+            steps: &[CaseStep {
                 words: $words,
-                fails: Calls {
+                fails: FailingCalls {
                     store: $call,
                     out: 2,
                     err: 1,
                 },
                 status: 0,
-                out: Says::All($out),
+                out: ExpectedText::Exactly($out),
                 err: "",
                 after: &[],
             }],
@@ -139,7 +155,7 @@ macro_rules! within {
     };
 }
 
-static CALLS: &[Row] = &[
+static CALLS: &[Case] = &[
     within!(ROUTE, 7, REPORT),
     within!(CONVERT, 5, "needles 2 trims 1 stops 0\n"),
     within!(

@@ -1,14 +1,14 @@
-use super::rows::{answer, stocked};
+use super::cases::{answer, stocked};
+use case_tables::FileContent;
 use outside_io::{MemSink, MemStore};
-use row_tables::Holds;
 use std::alloc::Global;
 use std::process::Abort;
 use std::test::Fail;
 use stitch_cli::Status;
 
-const SQUARE: &[(&str, Holds)] = &[(
+const SQUARE: &[(&str, FileContent)] = &[(
     "a.rw",
-    Holds::Bytes(b"redwork 1\nstep 30\ncolor 5\nline 0 0 30 0 30 30 0 30 0 0\n"),
+    FileContent::Bytes(b"redwork 1\nstep 30\ncolor 5\nline 0 0 30 0 30 30 0 30 0 0\n"),
 )];
 
 /// The position of the end of file in a prefix.

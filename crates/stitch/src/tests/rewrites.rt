@@ -1,5 +1,5 @@
-use super::rows::play;
-use row_tables::{Holds, Row, done, records, refused};
+use super::cases::play;
+use case_tables::{Case, FileContent, done, records, refused};
 use std::test::Fail;
 
 /// In EXP: a stitch, four jumps of 100 to the right, and a stitch.
@@ -44,10 +44,10 @@ const THREE_WRITTEN: &[u8] = &[
     0x80, 0x04, 0x05, 0x05, 0x00, 0x00,
 ];
 
-static REFITS: &[Row] = &[
+static REFITS: &[Case] = &[
     // A stitch of 122 is too long for DST, one of (-5, 128) for EXP.
-    Row {
-        before: &[("a.exp", Holds::Bytes(&[0x00, 0x00, 0x7A, 0x00]))],
+    Case {
+        before: &[("a.exp", FileContent::Bytes(&[0x00, 0x00, 0x7A, 0x00]))],
         steps: &[
             refused!(
                 &["convert", "a.exp", "b.dst"],
@@ -65,8 +65,8 @@ static REFITS: &[Row] = &[
             ),
         ],
     },
-    Row {
-        before: &[("a.exp", Holds::Bytes(&[0x00, 0x00, 0xFB, 0x80]))],
+    Case {
+        before: &[("a.exp", FileContent::Bytes(&[0x00, 0x00, 0xFB, 0x80]))],
         steps: &[
             refused!(
                 &["convert", "a.exp", "b.exp"],
@@ -75,13 +75,16 @@ static REFITS: &[Row] = &[
             done!(
                 &["convert", "a.exp", "b.exp", "--split"],
                 "needles 3 trims 0 stops 0\n",
-                &[("b.exp", Holds::Bytes(&[0x00, 0x00, 0xFD, 0xC0, 0xFE, 0xC0]))],
+                &[(
+                    "b.exp",
+                    FileContent::Bytes(&[0x00, 0x00, 0xFD, 0xC0, 0xFE, 0xC0])
+                )],
             ),
         ],
     },
     // A float of 400 is too long for DST; if it is cut, the jumps follow a trim.
-    Row {
-        before: &[("a.exp", Holds::Bytes(&FLOAT))],
+    Case {
+        before: &[("a.exp", FileContent::Bytes(&FLOAT))],
         steps: &[
             refused!(
                 &["convert", "a.exp", "b.dst"],
@@ -102,51 +105,60 @@ const FIVE_REPORT: &str = "needles 5 trims 0 stops 2\n";
 
 const ONE_REPORT: &str = "needles 1 trims 0 stops 0\n";
 
-static WRITTEN: &[Row] = &[
-    Row {
-        before: &[("a.exp", Holds::Bytes(FIVE))],
+static WRITTEN: &[Case] = &[
+    Case {
+        before: &[("a.exp", FileContent::Bytes(FIVE))],
         steps: &[
             done!(
                 CONVERT,
                 FIVE_REPORT,
-                &[("b.pec", Holds::At(1_467, 536, FIVE_RECORDS))],
+                &[("b.pec", FileContent::PartAt(1_467, 536, FIVE_RECORDS))],
             ),
             done!(
                 CONVERT,
                 FIVE_REPORT,
-                &[("b.pec", Holds::At(1_467, 522, &[0x23, 0x00, 0x00]))],
+                &[(
+                    "b.pec",
+                    FileContent::PartAt(1_467, 522, &[0x23, 0x00, 0x00])
+                )],
             ),
             done!(
                 CONVERT,
                 FIVE_REPORT,
-                &[("b.pec", Holds::At(1_467, 56, &[0x02, 0x01, 0x02, 0x03]))],
+                &[(
+                    "b.pec",
+                    FileContent::PartAt(1_467, 56, &[0x02, 0x01, 0x02, 0x03])
+                )],
             ),
         ],
     },
-    Row {
-        before: &[("a.exp", Holds::Bytes(&[0x00, 0x00]))],
+    Case {
+        before: &[("a.exp", FileContent::Bytes(&[0x00, 0x00]))],
         steps: &[
             done!(
                 CONVERT,
                 ONE_REPORT,
-                &[("b.pec", Holds::At(995, 536, &[0x00, 0x00, 0xFF]))],
+                &[("b.pec", FileContent::PartAt(995, 536, &[0x00, 0x00, 0xFF]))],
             ),
             done!(
                 CONVERT,
                 ONE_REPORT,
-                &[("b.pec", Holds::At(995, 522, &[0x13, 0x00, 0x00]))],
+                &[("b.pec", FileContent::PartAt(995, 522, &[0x13, 0x00, 0x00]))],
             ),
             done!(
                 &["convert", "a.exp", "b.pes"],
                 ONE_REPORT,
-                &[("b.pes", Holds::At(1_009, 0, b"#PES0001\x16\x00\x00\x00"))],
+                &[(
+                    "b.pes",
+                    FileContent::PartAt(1_009, 0, b"#PES0001\x16\x00\x00\x00")
+                )],
             ),
         ],
     },
-    Row {
+    Case {
         before: &[(
             "a.pec",
-            Holds::Behind(
+            FileContent::Padded(
                 b"#PEC0001",
                 536,
                 1,
@@ -165,10 +177,10 @@ static WRITTEN: &[Row] = &[
             ),
         ],
     },
-    Row {
+    Case {
         before: &[(
             "a.pec",
-            Holds::Behind(
+            FileContent::Padded(
                 b"#PEC0001",
                 536,
                 1,
@@ -178,23 +190,23 @@ static WRITTEN: &[Row] = &[
         steps: &[done!(
             &["convert", "a.pec", "b.exp"],
             "needles 2 trims 0 stops 0\n",
-            &[("b.exp", Holds::Bytes(&[0x00, 0x00, 0x81, 0x00]))],
+            &[("b.exp", FileContent::Bytes(&[0x00, 0x00, 0x81, 0x00]))],
         )],
     },
 ];
 
-static EDITS: &[Row] = &[
+static EDITS: &[Case] = &[
     // A quarter turn maps the right to the bottom.
-    Row {
-        before: &[("a.exp", Holds::Bytes(&[0x00, 0x00, 0x1E, 0x00]))],
+    Case {
+        before: &[("a.exp", FileContent::Bytes(&[0x00, 0x00, 0x1E, 0x00]))],
         steps: &[done!(
             &["edit", "a.exp", "b.exp", "turn=1"],
             "needles 2 trims 0 stops 0\n",
-            &[("b.exp", Holds::Bytes(&[0x00, 0x00, 0x00, 0xE2]))],
+            &[("b.exp", FileContent::Bytes(&[0x00, 0x00, 0x00, 0xE2]))],
         )],
     },
-    Row {
-        before: &[("a.exp", Holds::Bytes(&[0x01, 0x00]))],
+    Case {
+        before: &[("a.exp", FileContent::Bytes(&[0x01, 0x00]))],
         steps: &[
             refused!(
                 &["edit", "a.exp", "b.exp", "shift=30000,0"],
@@ -219,7 +231,10 @@ static EDITS: &[Row] = &[
             done!(
                 &["edit", "a.exp", "b.exp", "shift=-1,5", "mirror=y"],
                 "needles 1 trims 0 stops 0\n",
-                &[("b.exp", Holds::Bytes(&[0x80, 0x04, 0x00, 0x05, 0x00, 0x00]))],
+                &[(
+                    "b.exp",
+                    FileContent::Bytes(&[0x80, 0x04, 0x00, 0x05, 0x00, 0x00])
+                )],
             ),
             done!(
                 &["edit", "a.exp", "b.pes", "shift=29999,0"],
@@ -247,10 +262,10 @@ static EDITS: &[Row] = &[
 
 const THREE_REPORT: &str = "needles 3 trims 1 stops 1\n";
 
-const BACK: &[(&str, Holds)] = &[("c.exp", Holds::Bytes(THREE_WRITTEN))];
+const BACK: &[(&str, FileContent)] = &[("c.exp", FileContent::Bytes(THREE_WRITTEN))];
 
-static THERE_AND_BACK: &[Row] = &[Row {
-    before: &[("a.exp", Holds::Bytes(THREE))],
+static THERE_AND_BACK: &[Case] = &[Case {
+    before: &[("a.exp", FileContent::Bytes(THREE))],
     steps: &[
         done!(&["convert", "a.exp", "b.dst"], THREE_REPORT, &[]),
         done!(&["convert", "b.dst", "c.exp"], THREE_REPORT, BACK),

@@ -1,5 +1,5 @@
-use super::rows::play;
-use row_tables::{Row, Says, step};
+use super::cases::play;
+use case_tables::{Case, ExpectedText, step};
 use std::test::Fail;
 use stitch_cli::Status;
 
@@ -18,11 +18,11 @@ const USAGE: &str = "usage: stitch route DRAWING OUT CERT
 /// A step whose arguments request nothing.
 macro_rules! unasked {
     ($words:expr) => {
-        step!($words, 2, Says::All(""), USAGE, &[])
+        step!($words, 2, ExpectedText::Exactly(""), USAGE, &[])
     };
 }
 
-static UNASKED: &[Row] = &[Row {
+static UNASKED: &[Case] = &[Case {
     before: &[],
     steps: &[
         unasked!(&[]),

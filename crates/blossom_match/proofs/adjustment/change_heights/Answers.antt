@@ -1,5 +1,5 @@
 use Rattle.std.proofs.Common.{arith, ap, ℕ, List, [], ◌*◌}
-use Rattle.blossom_match.specs.Bands.{count}
+use Rattle.blossom_match.specs.DualSets.{count}
 use Rattle.blossom_match.specs.Slots.{branches_in, set_in}
 use Rattle.blossom_match.specs.Trees.{outer_sets}
 use Rattle.blossom_match.proofs.TreeLemmas.{base_in}

@@ -1,7 +1,7 @@
 use Rattle.std.proofs.Common.{arith, ap, List, ℕ}
-use Rattle.blossom_match.specs.Bands.{count}
+use Rattle.blossom_match.specs.DualSets.{count}
 use Rattle.blossom_match.specs.Slots.{parts_in}
-use Rattle.blossom_match.proofs.RowLemmas.{row_is}
+use Rattle.blossom_match.proofs.SlackRowLemmas.{row_is}
 use Rattle.blossom_match.proofs.blossom.fill.Goals as goal
 
 pub put-requires : goal.put-requires

@@ -1,11 +1,11 @@
 use Rattle.std.proofs.Common.{◌≡◌, ◌<◌, ℕ, get_or, length, take}
-use Rattle.blossom_match.specs.BlossomRows.{least_of}
+use Rattle.blossom_match.specs.BlossomSlacks.{least_part_slack}
 use Rattle.blossom_match.specs.Slots.{parts_in}
 use Rattle.blossom_match.proofs.blossom.merge_all.Given as goal
 
 -- the parts so far
 abbrev pub invariant-loop-p : goal.invariant-loop-p
 invariant-loop-p l = record {
-  done : (x : ℕ) → x < length l.fn.cells → get_or l.cells x 0 ≡ least_of (take l.p-index (parts_in l.sets l.parts)) x;
+  done : (x : ℕ) → x < length l.fn.cells → get_or l.cells x 0 ≡ least_part_slack (take l.p-index (parts_in l.sets l.parts)) x;
   size : length l.cells ≡ length l.fn.cells;
 }

@@ -2,7 +2,7 @@ use Rattle.std.proofs.Common.{get_or}
 use Rattle.blossom_match.proofs.BlossomLemmas.{held_later, holds_here}
 use Rattle.blossom_match.specs.Slots.{part_in, parts_in}
 use Rattle.blossom_match.proofs.ListLemmas.{mapped_item, mapped_low}
-use Rattle.blossom_match.proofs.SeatLemmas.{no_part}
+use Rattle.blossom_match.proofs.HandleLemmas.{no_part}
 use Rattle.blossom_match.proofs.blossom.part_with.Goals as goal
 
 pub loop-i-preserved : goal.loop-i-preserved

@@ -1,5 +1,5 @@
 use Rattle.std.proofs.Common.{◌≤◌, drop}
-use Rattle.blossom_match.specs.Bands.{count}
+use Rattle.blossom_match.specs.DualSets.{count}
 use Rattle.blossom_match.specs.Blossoms.{members_in}
 use Rattle.blossom_match.specs.Slots.{parts_in}
 use Rattle.blossom_match.proofs.blossom.part_with.Given as goal

@@ -1,12 +1,12 @@
 use Rattle.std.proofs.Common.{arith, ap, get_or, length, List, ℕ, subst, sym, ◌∙◌}
-use Rattle.blossom_match.specs.BlossomRows.{row_for, HaveRows}
+use Rattle.blossom_match.specs.BlossomSlacks.{blossom_slacks_of, HaveSlacks}
 use Rattle.blossom_match.specs.Slots.{parts_in}
 use Rattle.blossom_match.proofs.ListLemmas.{written}
 use Rattle.blossom_match.proofs.blossom.row_for.Goals as goal
 
 pub fill-requires-clause-rows : goal.fill-requires-clause-rows
 fill-requires-clause-rows c =
-    subst (λ (k : ℕ). HaveRows k (parts_in c.args.sets.now c.args.parts.now)) (sym
+    subst (λ (k : ℕ). HaveSlacks k (parts_in c.args.sets.now c.args.parts.now)) (sym
     (ap (λ (ks : List ℕ). length ks) c.deref_mut.ensures.value
     ∙ c.in_ok-row.ensures.size)) c.requires.rows
 
@@ -18,6 +18,6 @@ fill-requires-clause-far c = λ x lx.
 pub returns : goal.returns
 returns c =
     written c.in_ok-row.row.len c.fill.new.cells c.in_ok-row.row.items (omega (arith, c.fill.auto.cells, c.deref_mut.ensures.len))
-    ∙ c.fill.ensures ∙ ap (λ (k : ℕ). row_for k (parts_in c.args.sets.now c.args.parts.now))
+    ∙ c.fill.ensures ∙ ap (λ (k : ℕ). blossom_slacks_of k (parts_in c.args.sets.now c.args.parts.now))
     (ap (λ (ks : List ℕ). length ks) c.deref_mut.ensures.value
     ∙ c.in_ok-row.ensures.size)

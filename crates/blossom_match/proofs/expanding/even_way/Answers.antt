@@ -1,10 +1,10 @@
 use Rattle.std.proofs.Common.{arith, List, length, ◌<◌, ap, subst}
-use Rattle.blossom_match.specs.Bands.{count}
-use Rattle.blossom_match.specs.Blossoms.{members_in, HoldsAt}
+use Rattle.blossom_match.specs.DualSets.{count}
+use Rattle.blossom_match.specs.Blossoms.{members_in, PartHoldsAt}
 use Rattle.blossom_match.specs.Slots.{part_in, parts_in}
-use Rattle.blossom_match.specs.declared.nest.Part.{Part}
+use Rattle.blossom_match.specs.declared.odd_set.BlossomPart.{BlossomPart}
 use Rattle.blossom_match.proofs.ListLemmas.{mapped_low}
-use Rattle.blossom_match.proofs.MirrorLemmas.{goes_on, goes_back, turned_places}
+use Rattle.blossom_match.proofs.ReversalLemmas.{goes_on, goes_back, turned_places}
 use Rattle.blossom_match.proofs.expanding.even_way.Goals as goal
 
 pub part_with-end-requires : goal.part_with-end-requires
@@ -12,7 +12,7 @@ part_with-end-requires c =
     omega (
       arith,
       c.requires.exit_in,
-      ap (λ (qs : List Part). count c.args.exit (members_in (parts_in c.args.sets.now qs))) c.deref.ensures.value,
+      ap (λ (qs : List BlossomPart). count c.args.exit (members_in (parts_in c.args.sets.now qs))) c.deref.ensures.value,
       turned_places
           c.args.exit (parts_in c.args.sets.now c.args.parts.items) (parts_in c.args.sets.now c.turned_to-blossom.result.items)
           c.turned_to-blossom.ensures.turned,
@@ -24,8 +24,8 @@ returns-then-end-eq0 c =
     (parts_in c.args.sets.now c.turned_to-blossom.result.items) c.part_with-end.result c.requires.blossom
     c.turned_to-blossom.ensures.turned c.turned_to-blossom.ensures.first
     (mapped_low (part_in c.args.sets.now) c.turned_to-blossom.result.items c.part_with-end.result
-    (subst (λ (qs : List Part). c.part_with-end.result < length qs) c.deref.ensures.value c.part_with-end.ensures.within))
-    (subst (λ (qs : List Part). HoldsAt c.args.exit (parts_in c.args.sets.now qs) c.part_with-end.result) c.deref.ensures.value
+    (subst (λ (qs : List BlossomPart). c.part_with-end.result < length qs) c.deref.ensures.value c.part_with-end.ensures.within))
+    (subst (λ (qs : List BlossomPart). PartHoldsAt c.args.exit (parts_in c.args.sets.now qs) c.part_with-end.result) c.deref.ensures.value
     c.part_with-end.ensures.there)
     c.if-end-eq0.true
 
@@ -35,7 +35,7 @@ returns-in_ok-back c =
     (parts_in c.args.sets.now c.turned_to-blossom.result.items) (parts_in c.args.sets.now c.in_ok-back.back.items) c.part_with-end.result
     c.requires.blossom c.turned_to-blossom.ensures.turned c.turned_to-blossom.ensures.first
     (mapped_low (part_in c.args.sets.now) c.turned_to-blossom.result.items c.part_with-end.result
-    (subst (λ (qs : List Part). c.part_with-end.result < length qs) c.deref.ensures.value c.part_with-end.ensures.within))
-    (subst (λ (qs : List Part). HoldsAt c.args.exit (parts_in c.args.sets.now qs) c.part_with-end.result) c.deref.ensures.value
+    (subst (λ (qs : List BlossomPart). c.part_with-end.result < length qs) c.deref.ensures.value c.part_with-end.ensures.within))
+    (subst (λ (qs : List BlossomPart). PartHoldsAt c.args.exit (parts_in c.args.sets.now qs) c.part_with-end.result) c.deref.ensures.value
     c.part_with-end.ensures.there)
     (omega (arith, c.if-end-eq0.false)) (c.in_ok-back.ensures c.args.sets.now)

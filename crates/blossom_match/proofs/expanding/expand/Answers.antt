@@ -37,8 +37,8 @@ even_way-requires-clause-exit_in c =
     c.remove-slot.ensures.updates in
     omega (arith, s.pair_from, places_stay f c.in-Some.b.pair.from)
 
-pub lay-requires : goal.lay-requires
-lay-requires c =
+pub split_blossom-requires : goal.split_blossom-requires
+split_blossom-requires c =
     let s = split_slots c.args.sets.now c.args.root c.args.tree.now.items c.pop.new.self.items c.in_ok-later.later.items c.in-Some.b
     c.args.rest.now.items c.split_off.new.self.items c.args.at c.requires.can c.in_ok-later.ensures.items c.in_ok-later.ensures.tail
     c.in-Some.ensures.items in

@@ -1,5 +1,5 @@
 use Rattle.std.proofs.Common.{◌≡◌, ◌+◌, ◌*◌, ◌≤◌, ◌<◌, ℕ, drop, get_or, length}
-use Rattle.blossom_match.specs.Bands.{count}
+use Rattle.blossom_match.specs.DualSets.{count}
 use Rattle.blossom_match.specs.Trees.{inner_members}
 use Rattle.blossom_match.specs.Slots.{branches_in}
 use Rattle.blossom_match.proofs.heights.lower_inners.Given as goal

@@ -1,5 +1,5 @@
 use Rattle.std.proofs.Common.{◌≡◌, ◌+◌, ◌*◌, ℕ, drop, get_or}
-use Rattle.blossom_match.specs.Bands.{count}
+use Rattle.blossom_match.specs.DualSets.{count}
 use Rattle.blossom_match.proofs.heights.raise.Given as goal
 
 -- the places that are left are still to rise

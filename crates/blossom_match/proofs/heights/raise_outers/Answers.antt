@@ -1,9 +1,9 @@
 use Rattle.std.proofs.Common.{get_or, arith, ap, ℕ, ◌*◌, List}
-use Rattle.blossom_match.specs.Bands.{count}
+use Rattle.blossom_match.specs.DualSets.{count}
 use Rattle.blossom_match.proofs.RaisedLemmas.{outer_places, more_by}
 use Rattle.blossom_match.specs.Slots.{branch_in, branches_in}
 use Rattle.blossom_match.proofs.ListLemmas.{mapped_item, mapped_low}
-use Rattle.blossom_match.proofs.SeatLemmas.{no_branch}
+use Rattle.blossom_match.proofs.HandleLemmas.{no_branch}
 use Rattle.blossom_match.proofs.heights.raise_outers.Goals as goal
 
 pub raise-requires-clause-within : goal.raise-requires-clause-within

@@ -1,5 +1,5 @@
 use Rattle.std.proofs.Common.{◌≡◌, ◌+◌, ◌*◌, ◌≤◌, ◌<◌, ℕ, [], drop, get_or, length}
-use Rattle.blossom_match.specs.Bands.{count}
+use Rattle.blossom_match.specs.DualSets.{count}
 use Rattle.blossom_match.specs.Trees.{outer_members}
 use Rattle.blossom_match.specs.Slots.{branches_in}
 use Rattle.blossom_match.proofs.heights.raise_outers.Given as goal

@@ -1,40 +1,42 @@
 use Rattle.std.proofs.Common.{◌≡◌, ◌≤◌, ℕ, List, ap, get_or, length, subst, sym, ◌∙◌}
-use Rattle.blossom_match.specs.Bands.{count}
-use Rattle.blossom_match.specs.Matches.{match_members}
-use Rattle.blossom_match.specs.Searches.{height_at, outers}
-use Rattle.blossom_match.specs.Bounds.{CanSearch, Narrows}
-use Rattle.blossom_match.specs.Reaches.{Reaches, SearchReaches}
-use Rattle.blossom_match.specs.Aims.{Aims, AimsAt}
-use Rattle.blossom_match.specs.Masks.{AimsShown, SearchMasks}
+use Rattle.blossom_match.specs.DualSets.{count}
+use Rattle.blossom_match.specs.MatchedSets.{match_members}
+use Rattle.blossom_match.specs.Searches.{stored_height, outer_vertices}
+use Rattle.blossom_match.specs.LeastChanges.{CanSearch, IsLesserChange}
+use Rattle.blossom_match.specs.OuterSlacks.{AreOuterSlacks, AreSearchSlacks}
+use Rattle.blossom_match.specs.Candidates.{IsBestCandidate, IsCandidateAmong}
+use Rattle.blossom_match.specs.Masks.{IsBestShown, IsSearchMask}
 use Rattle.blossom_match.specs.Slots.{branches_in}
 use Rattle.blossom_match.specs.States.{search_value}
 use Rattle.blossom_match.specs.TableValue.{TableValue}
 use Rattle.blossom_match.specs.Tables.{IsTable}
 use Rattle.blossom_match.specs.Values.{SearchValue}
 use Rattle.blossom_match.specs.declared.branches.Branch.{Branch}
-use Rattle.blossom_match.specs.declared.least.Aim.{Aim}
-use Rattle.blossom_match.specs.declared.least.Kind.TheVariants as kind
+use Rattle.blossom_match.specs.declared.least.Candidate.{Candidate}
+use Rattle.blossom_match.specs.declared.least.EdgeKind.TheVariants as kind
 use Rattle.blossom_match.proofs.BoundLemmas.{bounds_of, free_near, leads_on, IsAimedAt}
 use Rattle.blossom_match.proofs.least.least_at.Goals as goal
 
-pub first_aim-first-requires-clause-near : goal.first_aim-first-requires-clause-near
-first_aim-first-requires-clause-near c = λ b hb.
-    free_near c.args.t.now (height_at (search_value c.args.s.now)) (search_value c.args.s.now) c.args.s.now.heights.items c.args.reach.now
+pub first_candidate-first-requires-clause-near : goal.first_candidate-first-requires-clause-near
+first_candidate-first-requires-clause-near c = λ b hb.
+    free_near c.args.t.now (stored_height (search_value c.args.s.now)) (search_value c.args.s.now) c.args.s.now.heights.items
+    c.args.reach.now
     b c.requires.table
     c.requires.can.search c.requires.reaches (subst (λ (ks : List ℕ). 1 ≤ count b ks) c.deref.ensures.value hb)
 
 -- what is known of the aims, by the search's own lists
-aims_at : (t : TableValue) (s : SearchValue) (hs reach mask free : List ℕ) (first met grown crossed : Aim) → IsTable t → CanSearch t s
-    → hs ≡ s.heights → SearchReaches t s reach → SearchMasks t s mask → free ≡ s.free → AimsAt hs reach kind.Meet free first
-    → Aims hs reach kind.Meet s.free first met → AimsShown hs reach mask met grown → Aims hs reach kind.Shrink (outers s) grown crossed
-    → IsAimedAt t (height_at s) s hs reach first met grown crossed
+aims_at : (t : TableValue) (s : SearchValue) (hs reach mask free : List ℕ) (first met grown crossed : Candidate) → IsTable t → CanSearch t s
+    → hs ≡ s.heights → AreSearchSlacks t s reach → IsSearchMask t s mask → free ≡ s.free → IsCandidateAmong hs reach kind.Augment free first
+    → IsBestCandidate hs reach kind.Augment s.free first met → IsBestShown hs reach mask met grown
+    → IsBestCandidate hs reach kind.Shrink (outer_vertices s) grown crossed
+    → IsAimedAt t (stored_height s) s hs reach first met grown crossed
 aims_at t s hs reach mask free first met grown crossed is can same reaches m free_is at_first at_met at_grown at_crossed = record {
   table = is;
   search = can.search;
   heights = λ x. ap (λ (ks : List ℕ). get_or ks x 0) same;
   size = ap (λ (ks : List ℕ). length ks) same ∙ can.size;
-  reaches = subst (λ (ks : List ℕ). Reaches t ks s.root s.tree reach) (sym same) reaches;
-  at_first = subst (λ (ks : List ℕ). AimsAt hs reach kind.Meet ks first) free_is at_first;
+  reaches = subst (λ (ks : List ℕ). AreOuterSlacks t ks s.root s.tree reach) (sym same) reaches;
+  at_first = subst (λ (ks : List ℕ). IsCandidateAmong hs reach kind.Augment ks first) free_is at_first;
   at_met = at_met;
   at_grown = at_grown (match_members s.rest) m.masks;
   at_crossed = at_crossed;
@@ -45,13 +47,14 @@ change_to-change-requires c =
     let s = search_value c.args.s.now in
     let hs = c.args.heights.now in
     let r = c.args.reach.now in
-    let first = c.first_aim-first.result in
-    let met = c.aim_at-met.result in
-    leads_on c.args.t.now (height_at s) s hs r first met c.aim_at_shown-grown.result c.aim_at_outers-crossed.result
-    (aims_at c.args.t.now s hs r c.args.mask.now c.deref.result.now first met c.aim_at_shown-grown.result c.aim_at_outers-crossed.result
-    c.requires.table c.requires.can c.requires.heights c.requires.reaches c.requires.masks c.deref.ensures.value c.first_aim-first.ensures
-    (subst (λ (ks : List ℕ). Aims hs r kind.Meet ks first met) c.deref-2.ensures.value c.aim_at-met.ensures)
-    c.aim_at_shown-grown.ensures c.aim_at_outers-crossed.ensures)
+    let first = c.first_candidate-first.result in
+    let met = c.best_candidate-met.result in
+    leads_on c.args.t.now (stored_height s) s hs r first met c.best_shown-grown.result c.best_outer-crossed.result
+    (aims_at c.args.t.now s hs r c.args.mask.now c.deref.result.now first met c.best_shown-grown.result c.best_outer-crossed.result
+    c.requires.table c.requires.can c.requires.heights c.requires.reaches c.requires.masks c.deref.ensures.value
+    c.first_candidate-first.ensures
+    (subst (λ (ks : List ℕ). IsBestCandidate hs r kind.Augment ks first met) c.deref-2.ensures.value c.best_candidate-met.ensures)
+    c.best_shown-grown.ensures c.best_outer-crossed.ensures)
 
 pub returns : goal.returns
 returns c =
@@ -59,15 +62,16 @@ returns c =
     let sets = c.args.s.now.sets in
     let hs = c.args.heights.now in
     let r = c.args.reach.now in
-    let first = c.first_aim-first.result in
-    let met = c.aim_at-met.result in
-    let grown = c.aim_at_shown-grown.result in
-    let crossed = c.aim_at_outers-crossed.result in
+    let first = c.first_candidate-first.result in
+    let met = c.best_candidate-met.result in
+    let grown = c.best_shown-grown.result in
+    let crossed = c.best_outer-crossed.result in
     let change = c.change_to-change.result in
-    bounds_of c.args.t.now (height_at s) s hs r first met grown crossed change c.scan_blossoms.result
+    bounds_of c.args.t.now (stored_height s) s hs r first met grown crossed change c.scan_blossoms.result
     (aims_at c.args.t.now s hs r c.args.mask.now c.deref.result.now first met grown crossed
-    c.requires.table c.requires.can c.requires.heights c.requires.reaches c.requires.masks c.deref.ensures.value c.first_aim-first.ensures
-    (subst (λ (ks : List ℕ). Aims hs r kind.Meet ks first met) c.deref-2.ensures.value c.aim_at-met.ensures)
-    c.aim_at_shown-grown.ensures c.aim_at_outers-crossed.ensures) c.change_to-change.ensures
-    (subst (λ (ks : List Branch). Narrows (branches_in sets ks) change c.scan_blossoms.result) c.deref-3.ensures.value
+    c.requires.table c.requires.can c.requires.heights c.requires.reaches c.requires.masks c.deref.ensures.value
+    c.first_candidate-first.ensures
+    (subst (λ (ks : List ℕ). IsBestCandidate hs r kind.Augment ks first met) c.deref-2.ensures.value c.best_candidate-met.ensures)
+    c.best_shown-grown.ensures c.best_outer-crossed.ensures) c.change_to-change.ensures
+    (subst (λ (ks : List Branch). IsLesserChange (branches_in sets ks) change c.scan_blossoms.result) c.deref-3.ensures.value
     c.scan_blossoms.ensures)

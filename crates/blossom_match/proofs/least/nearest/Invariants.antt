@@ -1,6 +1,6 @@
 use Rattle.std.proofs.Common.{drop}
 use Rattle.blossom_match.specs.Slots.{branches_in}
-use Rattle.blossom_match.proofs.AimLemmas.{IsBelow}
+use Rattle.blossom_match.proofs.CandidateLemmas.{IsBelow}
 use Rattle.blossom_match.proofs.least.nearest.Given as goal
 
 -- an outer vertex of the remaining branches has that slack

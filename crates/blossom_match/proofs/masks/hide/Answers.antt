@@ -1,7 +1,7 @@
 use Rattle.std.proofs.Common.{arith, ap, List, ℕ, subst}
-use Rattle.blossom_match.specs.Bands.{count}
+use Rattle.blossom_match.specs.DualSets.{count}
 use Rattle.blossom_match.specs.Masks.{branch_members}
-use Rattle.blossom_match.specs.Rows.{Puts}
+use Rattle.blossom_match.specs.SlackRows.{SetsCells}
 use Rattle.blossom_match.specs.Slots.{branch_in}
 use Rattle.blossom_match.specs.declared.table.TheConstants.{FAR}
 use Rattle.blossom_match.proofs.MaskLemmas.{puts_join}
@@ -37,5 +37,5 @@ returns c =
     let b = branch_in c.args.sets.now c.args.b in
     puts_join FAR b.inner.members b.outer.members (branch_members b) c.args.mask.now c.put.new.cells c.put-2.new.cells
     (λ x. count-append x b.inner.members b.outer.members)
-    (subst (λ (ks : List ℕ). Puts FAR ks c.args.mask.now c.put.new.cells) c.members.ensures c.put.ensures)
-    (subst (λ (ks : List ℕ). Puts FAR ks c.put.new.cells c.put-2.new.cells) c.members-2.ensures c.put-2.ensures)
+    (subst (λ (ks : List ℕ). SetsCells FAR ks c.args.mask.now c.put.new.cells) c.members.ensures c.put.ensures)
+    (subst (λ (ks : List ℕ). SetsCells FAR ks c.put.new.cells c.put-2.new.cells) c.members-2.ensures c.put-2.ensures)

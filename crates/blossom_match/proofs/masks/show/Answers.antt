@@ -1,10 +1,10 @@
 use Rattle.std.proofs.Common.{arith, ap, get_or, List, ℕ, subst}
-use Rattle.blossom_match.specs.Bands.{count}
-use Rattle.blossom_match.specs.Rows.{Puts}
+use Rattle.blossom_match.specs.DualSets.{count}
+use Rattle.blossom_match.specs.SlackRows.{SetsCells}
 use Rattle.blossom_match.specs.Slots.{match_in, matches_in}
 use Rattle.blossom_match.proofs.ListLemmas.{mapped_item, mapped_low}
 use Rattle.blossom_match.proofs.MaskLemmas.{match_within, puts_match}
-use Rattle.blossom_match.proofs.SeatLemmas.{no_match}
+use Rattle.blossom_match.proofs.HandleLemmas.{no_match}
 use Rattle.blossom_match.proofs.masks.show.Goals as goal
 
 pub put-requires : goal.put-requires
@@ -50,8 +50,8 @@ loop-c-preserved c =
           (match_in sets (get_or c.args.matches.now c.loop-c.c-index no_match)) c.args.mask.now c.loop-c.mask c.put.new.cells
           c.put-in-loop-c.new.cells (mapped_low (match_in sets) c.args.matches.now c.loop-c.c-index c.loop-c-test.true)
           (mapped_item (match_in sets) c.args.matches.now c.loop-c.c-index no_match) c.loop-c.invariant.puts
-          (subst (λ (ks : List ℕ). Puts 0 ks c.loop-c.mask c.put.new.cells) c.members.ensures c.put.ensures)
-          (subst (λ (ks : List ℕ). Puts 0 ks c.put.new.cells c.put-in-loop-c.new.cells) c.members-in-loop-c.ensures
+          (subst (λ (ks : List ℕ). SetsCells 0 ks c.loop-c.mask c.put.new.cells) c.members.ensures c.put.ensures)
+          (subst (λ (ks : List ℕ). SetsCells 0 ks c.put.new.cells c.put-in-loop-c.new.cells) c.members-in-loop-c.ensures
           c.put-in-loop-c.ensures);
       size = omega (arith, c.put.auto.cells, c.put-in-loop-c.auto.cells, c.loop-c.invariant.size);
     }

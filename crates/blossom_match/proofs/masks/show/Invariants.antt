@@ -1,12 +1,12 @@
 use Rattle.std.proofs.Common.{◌≡◌, length, take}
-use Rattle.blossom_match.specs.Matches.{match_members}
-use Rattle.blossom_match.specs.Rows.{Puts}
+use Rattle.blossom_match.specs.MatchedSets.{match_members}
+use Rattle.blossom_match.specs.SlackRows.{SetsCells}
 use Rattle.blossom_match.specs.Slots.{matches_in}
 use Rattle.blossom_match.proofs.masks.show.Given as goal
 
 -- the matches so far
 abbrev pub invariant-loop-c : goal.invariant-loop-c
 invariant-loop-c l = record {
-  puts : Puts 0 (match_members (take l.c-index (matches_in l.sets l.matches))) l.fn.mask l.mask;
+  puts : SetsCells 0 (match_members (take l.c-index (matches_in l.sets l.matches))) l.fn.mask l.mask;
   size : length l.mask ≡ length l.fn.mask;
 }

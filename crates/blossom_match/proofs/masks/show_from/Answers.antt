@@ -1,8 +1,8 @@
 use Rattle.std.proofs.Common.{ap, arith, drop, length, List, ◌≤◌, ◌-◌, ◌∙◌, subst, sym}
 use Rattle.std.proofs.lemmas.List.{length-drop, take_all}
-use Rattle.blossom_match.specs.Bands.{count}
-use Rattle.blossom_match.specs.Matches.{match_members}
-use Rattle.blossom_match.specs.Rows.{Puts}
+use Rattle.blossom_match.specs.DualSets.{count}
+use Rattle.blossom_match.specs.MatchedSets.{match_members}
+use Rattle.blossom_match.specs.SlackRows.{SetsCells}
 use Rattle.blossom_match.specs.Slots.{match_in, matches_in}
 use Rattle.blossom_match.specs.Values.{MatchValue}
 use Rattle.blossom_match.specs.declared.matches.Match.{Match}
@@ -23,7 +23,7 @@ pub returns : goal.returns
 returns c =
     let sets = c.args.s.now.sets in
     let all = c.deref.result.now in
-    subst (λ (cs : List MatchValue). Puts 0 (match_members cs) c.args.mask.now c.show.new.mask)
+    subst (λ (cs : List MatchValue). SetsCells 0 (match_members cs) c.args.mask.now c.show.new.mask)
     (ap (λ (ks : List Match). matches_in sets ks)
     (take_all (length all - c.args.at) (drop c.args.at all) (omega (arith, length-drop c.args.at all)))
     ∙ sym (mapped_drop (match_in sets) c.args.at all)

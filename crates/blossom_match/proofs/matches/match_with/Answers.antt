@@ -2,7 +2,7 @@ use Rattle.std.proofs.Common.{arith, get_or}
 use Rattle.blossom_match.proofs.MatchLemmas.{match_holds, match_later}
 use Rattle.blossom_match.specs.Slots.{match_in, matches_in}
 use Rattle.blossom_match.proofs.ListLemmas.{mapped_item, mapped_low}
-use Rattle.blossom_match.proofs.SeatLemmas.{no_match}
+use Rattle.blossom_match.proofs.HandleLemmas.{no_match}
 use Rattle.blossom_match.proofs.matches.match_with.Goals.{then-holds-via-then-holds, then-holds-via-else-holds+then-holds-2}
 use Rattle.blossom_match.proofs.matches.match_with.Goals as goal
 

@@ -1,6 +1,6 @@
 use Rattle.std.proofs.Common.{◌≤◌, drop}
-use Rattle.blossom_match.specs.Bands.{count}
-use Rattle.blossom_match.specs.Matches.{match_members}
+use Rattle.blossom_match.specs.DualSets.{count}
+use Rattle.blossom_match.specs.MatchedSets.{match_members}
 use Rattle.blossom_match.specs.Slots.{matches_in}
 use Rattle.blossom_match.proofs.matches.match_with.Given as goal
 

@@ -1,6 +1,6 @@
 use Rattle.std.proofs.Common.{◌≡◌, ◌++◌, length}
 use Rattle.std.specs.Vec.Iter.{into_iter_items}
-use Rattle.blossom_match.specs.Matches.{matches_along}
+use Rattle.blossom_match.specs.MatchedSets.{matches_along}
 use Rattle.blossom_match.specs.Slots.{matches_in, parts_in, Slots}
 use Rattle.blossom_match.proofs.matches.pair_off.Given as goal
 

@@ -1,5 +1,5 @@
 use Rattle.std.proofs.Common.{List, length, ◌<◌, subst}
-use Rattle.blossom_match.specs.Matches.{MatchHolds}
+use Rattle.blossom_match.specs.MatchedSets.{MatchHolds}
 use Rattle.blossom_match.specs.Slots.{match_in, matches_in}
 use Rattle.blossom_match.specs.declared.matches.Match.{Match}
 use Rattle.blossom_match.proofs.MatchLemmas.{taken_out}

@@ -1,6 +1,6 @@
 use Rattle.std.proofs.Common.{List, [], subst}
 use Rattle.blossom_match.specs.Slots.{matches_in}
-use Rattle.blossom_match.specs.Taken.{TakesMatches}
+use Rattle.blossom_match.specs.Taken.{TakesApartMatches}
 use Rattle.blossom_match.specs.declared.matching.Moat.{Moat}
 use Rattle.blossom_match.specs.declared.matching.Pair.{Pair}
 use Rattle.blossom_match.proofs.EndLemmas.{matched, once_each}
@@ -17,9 +17,10 @@ pub returns : goal.returns
 returns c =
     matched c.args.t.now (matches_in c.in_ok-sets.field-0.sets c.in_ok-sets.field-0.matches.items) c.take_matches.new.pairs
     c.take_matches.new.moats c.in_ok-sets.ensures
-    (subst (λ (ps : List Pair). TakesMatches (matches_in c.in_ok-sets.field-0.sets c.in_ok-sets.field-0.matches.items) ps
+    (subst (λ (ps : List Pair). TakesApartMatches (matches_in c.in_ok-sets.field-0.sets c.in_ok-sets.field-0.matches.items) ps
     c.take_matches.new.pairs [] c.take_matches.new.moats)
     c.new-pairs.ensures
-    (subst (λ (ms : List Moat). TakesMatches (matches_in c.in_ok-sets.field-0.sets c.in_ok-sets.field-0.matches.items) c.new-pairs.result
+    (subst (λ (ms : List Moat). TakesApartMatches (matches_in c.in_ok-sets.field-0.sets c.in_ok-sets.field-0.matches.items)
+    c.new-pairs.result
     c.take_matches.new.pairs ms
     c.take_matches.new.moats) c.new-moats.ensures c.in_ok-take_matches.ensures))

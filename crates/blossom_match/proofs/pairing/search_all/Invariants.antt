@@ -1,12 +1,12 @@
 use Rattle.std.proofs.Common.{◌≡◌, ◌%◌, length}
-use Rattle.blossom_match.specs.Phases.{Stands}
+use Rattle.blossom_match.specs.Phases.{IsPartialWithHeights}
 use Rattle.blossom_match.specs.Slots.{matches_in}
 use Rattle.blossom_match.proofs.pairing.search_all.Given as goal
 
 -- matches and an even number of free places
 abbrev pub invariant-loop-place : goal.invariant-loop-place
 invariant-loop-place l = record {
-  stands : Stands l.t (matches_in l.now.sets l.now.matches.items) l.now.free.items l.now.heights.items;
+  stands : IsPartialWithHeights l.t (matches_in l.now.sets l.now.matches.items) l.now.free.items l.now.heights.items;
   even : length l.now.free.items % 2 ≡ 0;
   size : length l.reach.items ≡ l.t.places;
   masked : length l.mask.items ≡ l.t.places;

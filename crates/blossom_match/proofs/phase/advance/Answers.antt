@@ -17,9 +17,9 @@ take_step-requires-clause-step c = can_step c.args.t.now (search_value c.args.s)
 pub take_step-requires-clause-reaches : goal.take_step-requires-clause-reaches
 take_step-requires-clause-reaches c =
     still_reaches c.args.t.now c.least-change.result.by (search_value c.args.s) (search_value c.adjust-adjusted.result) c.args.reach.now
-    c.lower_reach.new.reach
-    c.requires.metric.table c.requires.search.search c.adjust-adjusted.ensures.changes c.requires.reaches c.lower_reach.auto.reach
-    c.lower_reach.ensures
+    c.lower_slacks.new.reach
+    c.requires.metric.table c.requires.search.search c.adjust-adjusted.ensures.changes c.requires.reaches c.lower_slacks.auto.reach
+    c.lower_slacks.ensures
 
 pub take_step-requires-clause-masks : goal.take_step-requires-clause-masks
 take_step-requires-clause-masks c =

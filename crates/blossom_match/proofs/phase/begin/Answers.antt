@@ -1,10 +1,10 @@
 use Rattle.std.proofs.Common.{List, ℕ, ap, arith, get_or, refl, ◌∙◌}
-use Rattle.blossom_match.specs.Bands.{NestValue}
-use Rattle.blossom_match.specs.Matches.{match_bands}
-use Rattle.blossom_match.specs.Blossoms.{single_of}
+use Rattle.blossom_match.specs.DualSets.{OddSetValue}
+use Rattle.blossom_match.specs.MatchedSets.{match_dual_sets}
+use Rattle.blossom_match.specs.Blossoms.{vertex_set}
 use Rattle.blossom_match.specs.Slots.{branches_in, matches_in, set_in}
 use Rattle.blossom_match.specs.declared.branches.Branch.{Branch}
-use Rattle.blossom_match.proofs.StandLemmas.{begun_sets, matches_stay}
+use Rattle.blossom_match.proofs.PartialMatchingLemmas.{begun_sets, matches_stay}
 use Rattle.blossom_match.proofs.phase.begin.Goals as goal
 
 pub invariant_of-result : goal.invariant_of-result
@@ -15,8 +15,8 @@ invariant_of-result c =
     let old = matches_in from.sets from.matches.items in
     record {
       stand = begun_sets from.sets sets (set_in sets c.in_ok-root.root) (branches_in sets c.new.result.items) old _ ins
-          (ap (λ (v : NestValue). v.below) c.in_ok-root.ensures.is) (ap (λ (ks : List Branch). branches_in sets ks) c.new.ensures.items)
-          (matches_stay from.sets sets c.in_ok-root.root.key (match_bands old) from.matches.items ins from.stand (λ k. omega arith))
+          (ap (λ (v : OddSetValue). v.below) c.in_ok-root.ensures.is) (ap (λ (ks : List Branch). branches_in sets ks) c.new.ensures.items)
+          (matches_stay from.sets sets c.in_ok-root.root.key (match_dual_sets old) from.matches.items ins from.stand (λ k. omega arith))
           from.stand;
     }
 
@@ -27,11 +27,12 @@ returns c =
     let old = matches_in from.sets from.matches.items in
     record {
       table = c.in_ok-root.ensures.table;
-      root = c.in_ok-root.ensures.is ∙ ap (λ (hs : List ℕ). single_of c.in_ok-root.root.key c.args.t.now c.args.place
+      root = c.in_ok-root.ensures.is ∙ ap (λ (hs : List ℕ). vertex_set c.in_ok-root.root.key c.args.t.now c.args.place
           (get_or hs c.args.place 0)) c.deref.ensures.value;
       heights = refl;
       tree = ap (λ (ks : List Branch). branches_in sets ks) c.new.ensures.items;
-      rest = matches_stay from.sets sets c.in_ok-root.root.key (match_bands old) from.matches.items c.in_ok-root.ensures.inserts from.stand
+      rest = matches_stay from.sets sets c.in_ok-root.root.key (match_dual_sets old) from.matches.items c.in_ok-root.ensures.inserts
+          from.stand
           (λ k. omega arith);
       free = refl;
     }

@@ -1,6 +1,6 @@
 use Rattle.std.proofs.Common.{◌≡◌, arith, length}
-use Rattle.blossom_match.specs.Matches.{match_members}
-use Rattle.blossom_match.specs.Searches.{height_at}
+use Rattle.blossom_match.specs.MatchedSets.{match_members}
+use Rattle.blossom_match.specs.Searches.{stored_height}
 use Rattle.blossom_match.specs.Slots.{matches_in}
 use Rattle.blossom_match.specs.States.{search_value}
 use Rattle.blossom_match.proofs.EndLemmas.{begins, place_there}
@@ -23,8 +23,8 @@ begin-requires-clause-within c =
           c.requires.stands,
     )
 
-pub reach_anew-requires : goal.reach_anew-requires
-reach_anew-requires c =
+pub refill_slacks-requires : goal.refill_slacks-requires
+refill_slacks-requires c =
     let s = begins c.args.t.now c.args.place (matches_in c.args.from.sets c.args.from.matches.items) c.args.from.free.items
     c.args.from.heights.items (search_value c.in_ok-now.now)
     c.requires.stands c.requires.some c.in_ok-now.ensures in
@@ -35,7 +35,7 @@ show_from-requires-clause-cells c =
     let r = search_value c.in_ok-now.now in
     let s = begins c.args.t.now c.args.place (matches_in c.args.from.sets c.args.from.matches.items) c.args.from.free.items
     c.args.from.heights.items r c.requires.stands c.requires.some c.in_ok-now.ensures in
-    have_cells c.args.t.now (height_at r) r 0 c.reset.new.reach s.search (omega (arith, c.reset.auto.reach, c.requires.masked))
+    have_cells c.args.t.now (stored_height r) r 0 c.reset.new.reach s.search (omega (arith, c.reset.auto.reach, c.requires.masked))
 
 pub steps-init : goal.steps-init
 steps-init c =
@@ -48,13 +48,13 @@ steps-init c =
     record {
       search = s;
       free = c.in_ok-now.ensures.free;
-      reaches = c.reach_anew.ensures c.args.t.now c.in_ok-now.now.heights.items (searched c.args.t.now (search_value c.in_ok-now.now)
+      reaches = c.refill_slacks.ensures c.args.t.now c.in_ok-now.now.heights.items (searched c.args.t.now (search_value c.in_ok-now.now)
           s.search)
-          (omega (arith, c.reach_anew.auto.reach, c.requires.size));
+          (omega (arith, c.refill_slacks.auto.reach, c.requires.size));
       masks = record {
         size = masked;
         masks = masks_anew (match_members r.rest) c.reset.new.reach c.show_from.new.mask
-            (have_cells c.args.t.now (height_at r) r 0 c.show_from.new.mask s.search masked) c.show_from.auto.mask c.reset.ensures
+            (have_cells c.args.t.now (stored_height r) r 0 c.show_from.new.mask s.search masked) c.show_from.auto.mask c.reset.ensures
             c.show_from.ensures;
       };
     }

@@ -1,13 +1,13 @@
-use Rattle.blossom_match.specs.declared.search.Step.TheVariants as step
+use Rattle.blossom_match.specs.declared.search.SearchStep.TheVariants as step
 use Rattle.std.proofs.Common.{arith, ap, List, [], ◌∷◌, ℕ, ◌-◌, drop, length, length-append, subst, sym, take}
 use Rattle.std.proofs.lemmas.List.{length-map}
-use Rattle.blossom_match.specs.Reaches.{ReachesOn}
+use Rattle.blossom_match.specs.OuterSlacks.{AddsOuterSlacks}
 use Rattle.blossom_match.specs.Slots.{branch_in, branches_in, match_in, matches_in}
 use Rattle.blossom_match.specs.States.{search_value}
 use Rattle.blossom_match.specs.Values.{BranchValue, MatchValue}
-use Rattle.blossom_match.specs.Searches.{height_at, Advances}
-use Rattle.blossom_match.specs.declared.search.Step.{Step}
-use Rattle.blossom_match.proofs.ReachLemmas.{grown_past, grown_size}
+use Rattle.blossom_match.specs.Searches.{stored_height, Advances}
+use Rattle.blossom_match.specs.declared.search.SearchStep.{SearchStep}
+use Rattle.blossom_match.proofs.OuterSlackLemmas.{grown_past, grown_size}
 use Rattle.blossom_match.proofs.LoweredLemmas.{anew, apart_more, is_reachable, one_more, steps_at}
 use Rattle.blossom_match.proofs.MaskLemmas.{have_cells, hides_there, masks_apart, masks_hung, masks_same, newest_is, next_search}
 use Rattle.blossom_match.proofs.phase.take_step.Goals as goal
@@ -15,14 +15,14 @@ use Rattle.blossom_match.proofs.phase.take_step.Goals as goal
 pub grow_to-requires : goal.grow_to-requires
 grow_to-requires c = steps_at c.args.t.now (search_value c.args.s) c.args.step (step.Grow c.in-Grow.link) c.in-Grow.is c.requires.step
 
-pub reach_from-requires-clause-can : goal.reach_from-requires-clause-can
-reach_from-requires-clause-can c =
+pub add_slacks_from-requires-clause-can : goal.add_slacks_from-requires-clause-can
+add_slacks_from-requires-clause-can c =
     is_reachable c.args.t.now (search_value c.args.s) (search_value c.in_ok-grown-in-Grow.grown) c.args.step (step.Grow c.in-Grow.link)
     c.args.reach.now c.in-Grow.is
     c.requires.step c.in_ok-grown-in-Grow.ensures.advances c.requires.reaches
 
-pub reach_from-requires-clause-within : goal.reach_from-requires-clause-within
-reach_from-requires-clause-within c =
+pub add_slacks_from-requires-clause-within : goal.add_slacks_from-requires-clause-within
+add_slacks_from-requires-clause-within c =
     let s = c.args.s in
     let r = c.in_ok-grown-in-Grow.grown in
     let hangs = c.in_ok-grown-in-Grow.ensures.hangs in
@@ -39,10 +39,11 @@ pub returns-in_ok-grown-in-Grow-clause-reaches : goal.returns-in_ok-grown-in-Gro
 returns-in_ok-grown-in-Grow-clause-reaches c =
     let s = search_value c.args.s in
     one_more c.args.t.now s (search_value c.in_ok-grown-in-Grow.grown) c.args.step (step.Grow c.in-Grow.link) c.args.reach.now
-    c.reach_from.new.reach c.in-Grow.is c.requires.step c.in_ok-grown-in-Grow.ensures.advances c.in_ok-grown-in-Grow.ensures.hangs
+    c.add_slacks_from.new.reach c.in-Grow.is c.requires.step c.in_ok-grown-in-Grow.ensures.advances c.in_ok-grown-in-Grow.ensures.hangs
     c.requires.reaches
-    (subst (λ (n : ℕ). ReachesOn (take 1 (drop n (search_value c.in_ok-grown-in-Grow.grown).tree)) c.args.reach.now c.reach_from.new.reach)
-    (omega (arith, c.len-before.ensures, length-map c.args.s.tree.items (branch_in c.args.s.sets))) c.reach_from.ensures)
+    (subst (λ (n : ℕ). AddsOuterSlacks (take 1 (drop n (search_value c.in_ok-grown-in-Grow.grown).tree)) c.args.reach.now
+    c.add_slacks_from.new.reach)
+    (omega (arith, c.len-before.ensures, length-map c.args.s.tree.items (branch_in c.args.s.sets))) c.add_slacks_from.ensures)
 
 pub index-requires : goal.index-requires
 index-requires c =
@@ -103,7 +104,7 @@ pub show_from-requires-clause-cells : goal.show_from-requires-clause-cells
 show_from-requires-clause-cells c =
     let s = search_value c.args.s in
     let r = search_value c.in_ok-expanded-in-Expand.expanded in
-    have_cells c.args.t.now (height_at s) r c.len-matched.result c.args.mask.now
+    have_cells c.args.t.now (stored_height s) r c.len-matched.result c.args.mask.now
     (next_search c.args.t.now s r c.args.step (step.Expand c.in-Expand.at) c.in-Expand.is c.requires.step
     c.in_ok-expanded-in-Expand.ensures.advances) c.requires.masks.size
 
@@ -111,14 +112,14 @@ pub returns-in_ok-expanded-in-Expand-clause-masks : goal.returns-in_ok-expanded-
 returns-in_ok-expanded-in-Expand-clause-masks c =
     let s = search_value c.args.s in
     let r = search_value c.in_ok-expanded-in-Expand.expanded in
-    masks_apart c.args.t.now (height_at s) s r c.in-Expand.at c.len-matched.result c.args.mask.now c.show_from.new.mask
+    masks_apart c.args.t.now (stored_height s) s r c.in-Expand.at c.len-matched.result c.args.mask.now c.show_from.new.mask
     (next_search c.args.t.now s r c.args.step (step.Expand c.in-Expand.at) c.in-Expand.is c.requires.step
     c.in_ok-expanded-in-Expand.ensures.advances) c.in_ok-expanded-in-Expand.ensures.apart
     (omega (arith, c.len-matched.ensures, length-map c.args.s.rest.items (match_in c.args.s.sets))) c.requires.masks
     c.show_from.auto.mask c.show_from.ensures
 
-pub reach_anew-requires : goal.reach_anew-requires
-reach_anew-requires c =
+pub refill_slacks-requires : goal.refill_slacks-requires
+refill_slacks-requires c =
     is_reachable c.args.t.now (search_value c.args.s) (search_value c.in_ok-shrunk-in-Shrink.shrunk) c.args.step
     (step.Shrink c.in-Shrink.link) c.args.reach.now
     c.in-Shrink.is c.requires.step c.in_ok-shrunk-in-Shrink.ensures.advances c.requires.reaches
@@ -127,11 +128,11 @@ pub returns-in_ok-shrunk-in-Shrink-clause-reaches : goal.returns-in_ok-shrunk-in
 returns-in_ok-shrunk-in-Shrink-clause-reaches c =
     anew c.args.t.now (search_value c.args.s) (search_value c.in_ok-shrunk-in-Shrink.shrunk) c.args.step (step.Shrink c.in-Shrink.link)
     c.args.reach.now
-    c.reach_anew.new.reach c.in-Shrink.is c.requires.step c.in_ok-shrunk-in-Shrink.ensures.advances c.requires.reaches
-    c.reach_anew.auto.reach c.reach_anew.ensures
+    c.refill_slacks.new.reach c.in-Shrink.is c.requires.step c.in_ok-shrunk-in-Shrink.ensures.advances c.requires.reaches
+    c.refill_slacks.auto.reach c.refill_slacks.ensures
 
-pub reach_from-requires-in-Expand-clause-can : goal.reach_from-requires-in-Expand-clause-can
-reach_from-requires-in-Expand-clause-can c =
+pub add_slacks_from-requires-in-Expand-clause-can : goal.add_slacks_from-requires-in-Expand-clause-can
+add_slacks_from-requires-in-Expand-clause-can c =
     is_reachable c.args.t.now (search_value c.args.s) (search_value c.in_ok-expanded-in-Expand.expanded) c.args.step
     (step.Expand c.in-Expand.at) c.args.reach.now
     c.in-Expand.is c.requires.step c.in_ok-expanded-in-Expand.ensures.advances c.requires.reaches
@@ -149,8 +150,8 @@ overflow_sub-len c =
       grown_size c.in-Expand.at (search_value s).tree (search_value r).tree c.in_ok-expanded-in-Expand.ensures.apart.grows,
     )
 
-pub reach_from-requires-in-Expand-clause-within : goal.reach_from-requires-in-Expand-clause-within
-reach_from-requires-in-Expand-clause-within c =
+pub add_slacks_from-requires-in-Expand-clause-within : goal.add_slacks_from-requires-in-Expand-clause-within
+add_slacks_from-requires-in-Expand-clause-within c =
     let s = c.args.s in
     let r = c.in_ok-expanded-in-Expand.expanded in
     omega (
@@ -166,7 +167,7 @@ pub returns-in_ok-expanded-in-Expand-clause-reaches : goal.returns-in_ok-expande
 returns-in_ok-expanded-in-Expand-clause-reaches c =
     let apart = c.in_ok-expanded-in-Expand.ensures.apart in
     apart_more c.args.t.now (search_value c.args.s) (search_value c.in_ok-expanded-in-Expand.expanded) c.args.step c.in-Expand.at
-    (c.len.result - c.len-before.result) c.args.reach.now c.reach_from-in-Expand.new.reach c.in-Expand.is c.requires.step
+    (c.len.result - c.len-before.result) c.args.reach.now c.add_slacks_from-in-Expand.new.reach c.in-Expand.is c.requires.step
     c.in_ok-expanded-in-Expand.ensures.advances apart
     (omega (
       arith,
@@ -176,9 +177,9 @@ returns-in_ok-expanded-in-Expand-clause-reaches c =
       length-map c.in_ok-expanded-in-Expand.expanded.tree.items (branch_in c.in_ok-expanded-in-Expand.expanded.sets),
       grown_size c.in-Expand.at (search_value c.args.s).tree
           (search_value c.in_ok-expanded-in-Expand.expanded).tree apart.grows,
-    )) c.requires.reaches c.reach_from-in-Expand.ensures
+    )) c.requires.reaches c.add_slacks_from-in-Expand.ensures
 
 pub returns-in_ok-expanded-in-Expand-clause-leads : goal.returns-in_ok-expanded-in-Expand-clause-leads
 returns-in_ok-expanded-in-Expand-clause-leads c =
-    subst (λ (st : Step). Advances (search_value c.args.s) st (search_value c.in_ok-expanded-in-Expand.expanded)) (sym c.in-Expand.is)
+    subst (λ (st : SearchStep). Advances (search_value c.args.s) st (search_value c.in_ok-expanded-in-Expand.expanded)) (sym c.in-Expand.is)
     c.in_ok-expanded-in-Expand.ensures.advances

@@ -1,9 +1,9 @@
 use Rattle.std.proofs.Common.{refl}
 use Rattle.blossom_match.specs.Slots.{branches_in, match_in, matches_in, set_in}
 use Rattle.blossom_match.specs.States.{search_value}
-use Rattle.blossom_match.specs.Trees.{hung_by}
+use Rattle.blossom_match.specs.Trees.{branch_by_edge}
 use Rattle.blossom_match.proofs.SearchLemmas.{hung}
-use Rattle.blossom_match.proofs.StandLemmas.{grown_sets}
+use Rattle.blossom_match.proofs.PartialMatchingLemmas.{grown_sets}
 use Rattle.blossom_match.proofs.search.grow_to.Goals as goal
 
 pub returns-clause-advances : goal.returns-clause-advances
@@ -13,7 +13,7 @@ returns-clause-advances c =
 
 pub returns-clause-hangs : goal.returns-clause-hangs
 returns-clause-hangs c = record {
-  branch = hung_by c.args.link (match_in c.args.s.sets c.take_match-matched.result);
+  branch = branch_by_edge c.args.link (match_in c.args.s.sets c.take_match-matched.result);
   tree = c.in_ok-grow.ensures;
   root = refl;
 }

@@ -1,9 +1,9 @@
 use Rattle.std.proofs.Common.{arith, ap, length, ◌≡◌, List, refl, subst}
 use Rattle.std.proofs.lemmas.List.{length-map}
 use Rattle.blossom_match.specs.Shrinks.{Shrinks}
-use Rattle.blossom_match.specs.Slots.{branch_in, branches_in, parts_in, set_in, Inserts, Slots}
+use Rattle.blossom_match.specs.Slots.{branch_in, branches_in, parts_in, set_in, InsertsSet, Slots}
 use Rattle.blossom_match.specs.declared.branches.Branch.{Branch}
-use Rattle.blossom_match.specs.declared.nest.Part.{Part}
+use Rattle.blossom_match.specs.declared.odd_set.BlossomPart.{BlossomPart}
 use Rattle.blossom_match.proofs.ChainLemmas.{chaining_start}
 use Rattle.blossom_match.proofs.ListLemmas.{mapped_last}
 use Rattle.blossom_match.proofs.ShrinkLemmas.{closable, closable_root}
@@ -18,7 +18,7 @@ loop-b-init c =
       can = c.requires.can;
       stand = c.requires.sets;
       goes = chaining_start c.args.link (set_in sets c.args.root) (branches_in sets c.args.tree.now.items) _ _ c.requires.can
-          (ap (λ (ps : List Part). parts_in sets ps) c.new.ensures.items)
+          (ap (λ (ps : List BlossomPart). parts_in sets ps) c.new.ensures.items)
           (ap (λ (ks : List Branch). branches_in sets ks) c.new-aside.ensures.items);
     }
 
@@ -54,13 +54,13 @@ returns-then-ends_in c =
     (branch_in sets c.in-Some.b) _ _ _ _ i.can i.goes e ends.0 ends.1 in
     let key = c.in_ok-outer.outer.key in (
       key,
-      subst (λ (s : Slots). Inserts s c.close.new.sets key) i.same c.in_ok-outer.ensures.inserts,
+      subst (λ (s : Slots). InsertsSet s c.close.new.sets key) i.same c.in_ok-outer.ensures.inserts,
       subst (λ (s : Slots). Shrinks key c.args.link (set_in s c.args.root) (set_in c.close.new.sets c.args.root)
-          (branches_in s c.args.tree.now.items) (branches_in c.close.new.sets c.give_back.new.tree.items)) i.same
+          (branches_in s c.args.tree.now.items) (branches_in c.close.new.sets c.put_back.new.tree.items)) i.same
           (shrunk_inside sets c.close.new.sets c.args.link c.args.root c.args.tree.now.items c.loop-b.tree.items c.pop.new.self.items
           c.loop-b.aside.items c.loop-b.chain.parts.items c.loop-b.chain.way c.loop-b.chain.to c.in_ok-outer.outer c.in-Some.b _ _
           i.can i.goes e cl i.stand c.in_ok-outer.ensures.inserts c.in_ok-outer.ensures.is c.in_ok-push.ensures.items
-          c.in_ok-give_back.ensures),
+          c.in_ok-put_back.ensures),
     )
 
 pub loop-b-preserved : goal.loop-b-preserved
@@ -100,12 +100,12 @@ returns c =
     omega (arith, c.in_default.ensures.cases, length-map c.loop-b.tree.items (branch_in sets)) in
     let key = c.in_ok-blossom.blossom.key in (
       key,
-      subst (λ (s : Slots). Inserts s c.close-2.new.sets key) i.same c.in_ok-blossom.ensures.inserts,
+      subst (λ (s : Slots). InsertsSet s c.close-2.new.sets key) i.same c.in_ok-blossom.ensures.inserts,
       subst (λ (s : Slots). Shrinks key c.args.link (set_in s c.args.root) (set_in c.close-2.new.sets c.in_ok-blossom.blossom)
-          (branches_in s c.args.tree.now.items) (branches_in c.close-2.new.sets c.give_back-2.new.tree.items)) i.same
+          (branches_in s c.args.tree.now.items) (branches_in c.close-2.new.sets c.put_back-2.new.tree.items)) i.same
           (shrunk_root sets c.close-2.new.sets c.args.link c.args.root c.args.tree.now.items c.loop-b.tree.items c.pop.new.self.items
           c.loop-b.aside.items c.loop-b.chain.parts.items c.loop-b.chain.way c.loop-b.chain.to c.in_ok-blossom.blossom c.pop.new.self.items
           _ _
           i.can i.goes none i.stand c.in_ok-blossom.ensures.inserts c.in_ok-blossom.ensures.is c.in_default.ensures.items
-          c.in_ok-give_back-2.ensures),
+          c.in_ok-put_back-2.ensures),
     )

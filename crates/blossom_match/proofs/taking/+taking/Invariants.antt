@@ -1,24 +1,25 @@
 use Rattle.std.proofs.Common.{◌+◌, ◌*◌, length}
 use Rattle.std.specs.Vec.Iter.{into_iter_items}
-use Rattle.blossom_match.specs.Bands.{bands}
-use Rattle.blossom_match.specs.Matches.{match_bands}
-use Rattle.blossom_match.specs.Taken.{Taking}
+use Rattle.blossom_match.specs.DualSets.{dual_sets}
+use Rattle.blossom_match.specs.MatchedSets.{match_dual_sets}
+use Rattle.blossom_match.specs.Taken.{IsTakingApart}
 use Rattle.blossom_match.specs.Slots.{matches_in, set_in, AreSets}
 use Rattle.blossom_match.proofs.taking.+taking.Given as goal
 
 abbrev pub decreases-take_matches : goal.decreases-take_matches
-decreases-take_matches l = 2 * length (match_bands (matches_in l.sets.now l.matches.items)) + 1
+decreases-take_matches l = 2 * length (match_dual_sets (matches_in l.sets.now l.matches.items)) + 1
 
-abbrev pub decreases-take_nest : goal.decreases-take_nest
-decreases-take_nest l = 2 * length (bands (set_in l.sets.now l.s))
+abbrev pub decreases-take_apart : goal.decreases-take_apart
+decreases-take_apart l = 2 * length (dual_sets (set_in l.sets.now l.s))
 
 -- the pairs and moats so far, and the matches that are left
 abbrev pub invariant-take_matches-loop-c : goal.invariant-take_matches-loop-c
 invariant-take_matches-loop-c l =
     record {
-      taking : Taking (matches_in l.sets l.fn.matches.items) (matches_in l.sets (into_iter_items l.rest)) l.fn.pairs l.pairs l.fn.moats
+      taking : IsTakingApart (matches_in l.sets l.fn.matches.items) (matches_in l.sets (into_iter_items l.rest)) l.fn.pairs l.pairs
+          l.fn.moats
           l.moats;
-      sets : AreSets l.sets (match_bands (matches_in l.sets (into_iter_items l.rest)));
+      sets : AreSets l.sets (match_dual_sets (matches_in l.sets (into_iter_items l.rest)));
     }
 
 abbrev pub decreases-take_matches-loop-c : goal.decreases-take_matches-loop-c

@@ -1,4 +1,4 @@
-use Rattle.certificate_text.proofs.OneText.{one_text, said_spelled}
+use Rattle.certificate_text.proofs.UniqueTexts.{one_text, said_spelled}
 use Rattle.certificate_text.proofs.TextLengths.{are_few}
 use Rattle.certificate_text.proofs.reading.read_cert.Goals as goal
 

@@ -1,6 +1,6 @@
 use Rattle.std.proofs.Common.{◌≡◌, None, length, sym, ◌∙◌}
 use Rattle.cut_certificate.specs.CutFaults.{stranger_fault}
-use Rattle.line_graph.specs.CutPieces.{graph_of}
+use Rattle.line_graph.specs.PiecesOfDrawings.{graph_of}
 use Rattle.cut_certificate.proofs.ParityLemmas.{count_told, cut_even, cut_right, parities_few}
 use Rattle.cut_certificate.proofs.cut_check.check_cut.Goals as goal
 

@@ -1,4 +1,4 @@
-use Rattle.line_graph.specs.CutPieces.{graph_of}
+use Rattle.line_graph.specs.PiecesOfDrawings.{graph_of}
 use Rattle.cut_certificate.proofs.ExactCuts.{exact_cuts}
 use Rattle.cut_certificate.proofs.cut_check.check_cuts.Goals as goal
 

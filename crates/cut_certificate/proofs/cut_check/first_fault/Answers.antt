@@ -1,4 +1,4 @@
-use Rattle.line_graph.specs.CutPieces.{graph_of}
+use Rattle.line_graph.specs.PiecesOfDrawings.{graph_of}
 use Rattle.cut_certificate.proofs.LoadLemmas.{loads_found, told_on, total_found}
 use Rattle.cut_certificate.proofs.cut_check.first_fault.Goals as goal
 

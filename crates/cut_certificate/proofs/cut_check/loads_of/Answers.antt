@@ -2,7 +2,7 @@ use Rattle.std.proofs.Common.{◌*◌, refl, arith}
 use Rattle.cut_certificate.specs.Cuts.{load_on}
 use Rattle.cut_certificate.proofs.LoadLemmas.{loads_blank, loads_next, no_load, cuts_end, next_numbered, cuts_next, faults_next, load_end}
 use Rattle.cut_certificate.proofs.TableLemmas.{ends_few}
-use Rattle.line_graph.specs.CutPieces.{graph_of}
+use Rattle.line_graph.specs.PiecesOfDrawings.{graph_of}
 use Rattle.line_graph.specs.declared.limits.TheConstants.{MAX_LINES}
 use Rattle.cut_certificate.proofs.cut_check.loads_of.Goals as goal
 

@@ -1,17 +1,17 @@
 use Rattle.std.proofs.Common.{◌≡◌, ℕ, ◌+◌, ◌-◌, ◌*◌, ◌^◌, length, get_or, slice_get, Some}
 use Rattle.cut_certificate.specs.CheckTables.{AreAtMost}
-use Rattle.cut_certificate.specs.CutFaults.{AreNumbered, cut_faults}
+use Rattle.cut_certificate.specs.CutFaults.{HaveNumberedMembers, cut_faults}
 use Rattle.cut_certificate.specs.Cuts.{load_on}
 use Rattle.cut_certificate.proofs.LoadLemmas.{load_with}
 use Rattle.line_graph.specs.declared.edge.Edge.{Edge}
-use Rattle.line_graph.specs.CutPieces.{graph_of}
+use Rattle.line_graph.specs.PiecesOfDrawings.{graph_of}
 use Rattle.cut_certificate.proofs.cut_check.loads_of.Given as goal
 
 -- the cuts so far have no fault, and what they load with those that are left is what all cuts load
 abbrev pub invariant-loop-cut : goal.invariant-loop-cut
 invariant-loop-cut l = record {
   count : l.number + length l.rest ≡ length l.cuts + 1;
-  numbered : AreNumbered l.rest;
+  numbered : HaveNumberedMembers l.rest;
   faults : cut_faults (graph_of l.p) l.number l.rest ≡ cut_faults (graph_of l.p) 1 l.cuts;
   loads : (i : ℕ) (e : Edge) → slice_get l.p.edges i ≡ Some e → load_with (get_or l.loads i 0) l.rest e ≡ load_on l.cuts e;
   most : AreAtMost ((2 ^ 32 - 1) * l.number) l.loads;

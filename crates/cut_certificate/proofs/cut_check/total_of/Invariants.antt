@@ -1,5 +1,5 @@
 use Rattle.std.proofs.Common.{◌≡◌, ◌≤◌, ◌+◌, ◌-◌, ◌*◌, ◌^◌, length}
-use Rattle.cut_certificate.specs.Cuts.{total_of}
+use Rattle.cut_certificate.specs.Cuts.{total_weight}
 use Rattle.cut_certificate.proofs.LoadLemmas.{total_with}
 use Rattle.cut_certificate.proofs.cut_check.total_of.Given as goal
 
@@ -7,7 +7,7 @@ use Rattle.cut_certificate.proofs.cut_check.total_of.Given as goal
 abbrev pub invariant-loop-rest : goal.invariant-loop-rest
 invariant-loop-rest l = record {
   few : l.sum + (2 ^ 32 - 1) * length l.rest ≤ (2 ^ 32 - 1) * length l.cuts;
-  sum : total_with l.sum l.rest ≡ total_of l.cuts;
+  sum : total_with l.sum l.rest ≡ total_weight l.cuts;
 }
 
 abbrev pub decreases-loop-rest : goal.decreases-loop-rest

@@ -1,7 +1,7 @@
 use Rattle.std.proofs.Common.{List, refl, subst, sym, ℕ, ◌∙◌}
-use Rattle.line_graph.specs.CutPieces.{graph_of}
+use Rattle.line_graph.specs.PiecesOfDrawings.{graph_of}
 use Rattle.odd_paths.specs.LeastRows.{AreTerminals}
-use Rattle.cut_certificate.proofs.MoatFitLemmas.{moats_are, odds_are_terminals}
+use Rattle.cut_certificate.proofs.MoatTestLemmas.{moats_are, odds_are_terminals}
 use Rattle.cut_certificate.proofs.lift_tests.lifted.Goals as goal
 
 pub rows-requires : goal.rows-requires

@@ -1,7 +1,7 @@
 use Rattle.std.proofs.Common.{◌≡◌, length, true}
 use Rattle.cut_certificate.specs.WalkFaults.{missing_fault}
 use Rattle.line_graph.specs.declared.limits.TheConstants.{MAX_LINES}
-use Rattle.line_graph.specs.KeptPieces.{all_below}
+use Rattle.line_graph.specs.ValidPieces.{all_below}
 use Rattle.cut_certificate.proofs.walk_check.check_lines.Given as goal
 
 -- the lines so far are passed

@@ -1,4 +1,4 @@
-use Rattle.line_graph.specs.CutPieces.{graph_of}
+use Rattle.line_graph.specs.PiecesOfDrawings.{graph_of}
 use Rattle.cut_certificate.proofs.ExactWalks.{exact_walks}
 use Rattle.cut_certificate.proofs.walk_check.check_walk.Goals as goal
 

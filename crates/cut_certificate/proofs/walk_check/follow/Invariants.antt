@@ -1,6 +1,6 @@
 use Rattle.std.proofs.Common.{◌≡◌, ◌≤◌, ◌+◌, ◌-◌, ◌*◌, ◌^◌, length, Some}
 use Rattle.cut_certificate.specs.WalkFaults.{faults_from}
-use Rattle.line_graph.specs.PieceWalks.{cost_of, pass_sum, walk_on}
+use Rattle.line_graph.specs.PieceWalks.{edge_cost, pass_sum, walk_end_from}
 use Rattle.cut_certificate.proofs.walk_check.follow.Given as goal
 
 -- the passes so far have no fault, and the remaining ones start where they lead
@@ -9,8 +9,8 @@ invariant-loop-rest l = record {
   count : l.number + length l.rest ≡ length l.walk + 1;
   few : l.cost + (2 ^ 32 - 1) ≤ (2 ^ 32 - 1) * l.number;
   faults : faults_from l.p.lines l.p.edges l.number l.at l.rest ≡ faults_from l.p.lines l.p.edges 1 l.start l.walk;
-  leads : walk_on l.p.lines l.p.edges (Some l.at) l.rest ≡ walk_on l.p.lines l.p.edges (Some l.start) l.walk;
-  costs : l.cost + pass_sum l.p.lines l.p.edges cost_of l.rest ≡ pass_sum l.p.lines l.p.edges cost_of l.walk;
+  leads : walk_end_from l.p.lines l.p.edges (Some l.at) l.rest ≡ walk_end_from l.p.lines l.p.edges (Some l.start) l.walk;
+  costs : l.cost + pass_sum l.p.lines l.p.edges edge_cost l.rest ≡ pass_sum l.p.lines l.p.edges edge_cost l.walk;
 }
 
 abbrev pub decreases-loop-rest : goal.decreases-loop-rest

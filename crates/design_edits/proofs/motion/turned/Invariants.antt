@@ -1,6 +1,6 @@
 use Rattle.std.proofs.Common.{◌≡◌, IsTrue}
 use Rattle.design_model.specs.declared.point.TheConstants.{JUMP_LIMIT}
-use Rattle.design_model.specs.Points.{is_within}
+use Rattle.design_model.specs.Points.{is_point_within}
 use Rattle.design_edits.specs.Moves.{turn_point}
 use Rattle.design_edits.proofs.motion.turned.Given as goal
 
@@ -8,5 +8,5 @@ use Rattle.design_edits.proofs.motion.turned.Given as goal
 abbrev pub invariant-loop : goal.invariant-loop
 invariant-loop l = record {
   turned : l.turned ≡ turn_point l.counter l.fn.point;
-  within : IsTrue (is_within JUMP_LIMIT l.turned);
+  within : IsTrue (is_point_within JUMP_LIMIT l.turned);
 }

@@ -1,5 +1,5 @@
 use Rattle.std.proofs.Common.{◌≡◌, ◌++◌, drop, take, map}
-use Rattle.design_edits.specs.Motions.{moved}
+use Rattle.design_edits.specs.Motions.{motion_map}
 use Rattle.design_edits.specs.Moves.{with_mapped_point}
 use Rattle.design_edits.proofs.moving.move_points.Given as goal
 
@@ -8,5 +8,5 @@ abbrev pub invariant-loop-index : goal.invariant-loop-index
 invariant-loop-index l =
     l.design ≡ record l.fn.design {
       commands =
-          map (with_mapped_point (moved l.motion)) (take l.index l.fn.design.commands) ++ drop l.index l.fn.design.commands;
+          map (with_mapped_point (motion_map l.motion)) (take l.index l.fn.design.commands) ++ drop l.index l.fn.design.commands;
     }

@@ -1,5 +1,5 @@
 use Rattle.std.proofs.Common.{◌≡◌, ◌-◌, ◌+◌, ◌≤◌, length}
-use Rattle.outside_io.specs.Causes.{Stays}
+use Rattle.outside_io.specs.Causes.{HasNoNewFault}
 use Rattle.design_files.proofs.LoadLemmas.{IsPartFed}
 use Rattle.design_files.proofs.loading.feed_file.Given as goal
 
@@ -9,13 +9,13 @@ invariant-loop-count g l =
     let here = goal.Format-dyn g (l.format.vtable, l.format.value) in
     let first = goal.Format-dyn g (l.fn.format.vtable, l.fn.format.value) in
     record {
-      files : (g.S.Store.sight l.store).files ≡ (g.S.Store.sight l.fn.store).files;
-      stays : Stays (g.S.Store.sight l.fn.store) (g.S.Store.sight l.store);
+      files : (g.S.Store.view l.store).files ≡ (g.S.Store.view l.fn.store).files;
+      stays : HasNoNewFault (g.S.Store.view l.fn.store) (g.S.Store.view l.store);
       near : l.at ≤ 67108864;
       room : length l.buffer ≡ 16384;
       same : here.meaning l.format.value ≡ first.meaning l.fn.format.value;
-      fed : IsPartFed (first.meaning l.fn.format.value).reads (g.S.Store.sight l.fn.store).files l.name l.at
-          (here.feeding l.format.value);
+      fed : IsPartFed (first.meaning l.fn.format.value).reads (g.S.Store.view l.fn.store).files l.name l.at
+          (here.feed_state l.format.value);
     }
 
 abbrev pub decreases-loop-count : goal.decreases-loop-count

@@ -1,13 +1,14 @@
 use Rattle.std.proofs.Common.{◌≡◌, ◌+◌, ◌≤◌, length}
-use Rattle.drawing_text.specs.DrawingText.{drawn_after}
-use Rattle.drawing_text.specs.TextLines.{first_draft}
+use Rattle.drawing_text.specs.DrawingText.{drawing_after_lines}
+use Rattle.drawing_text.specs.TextLines.{empty_draft}
 use Rattle.drawing_text.specs.Words.{words_by_line}
 use Rattle.drawing_text.proofs.reading.read_body.Given as goal
 
 -- the draft is that of the lines so far, and the result depends on it and on those that are left
 abbrev pub invariant-loop-line : goal.invariant-loop-line
 invariant-loop-line l = record {
-  read : drawn_after l.version l.first first_draft (words_by_line l.text) ≡ drawn_after l.version l.number l.draft (words_by_line l.rest);
+  read : drawing_after_lines l.version l.first empty_draft (words_by_line l.text)
+      ≡ drawing_after_lines l.version l.number l.draft (words_by_line l.rest);
   early : l.number + length l.rest ≤ 67108865;
 }
 

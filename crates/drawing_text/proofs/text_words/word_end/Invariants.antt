@@ -1,8 +1,8 @@
 use Rattle.std.proofs.Common.{◌≡◌, ◌+◌, drop}
 use Rattle.std.specs.List.{position_or_len}
-use Rattle.drawing_text.specs.Words.{is_blank}
+use Rattle.drawing_text.specs.Words.{is_blank_byte}
 use Rattle.drawing_text.proofs.text_words.word_end.Given as goal
 
 -- the first place is among the bytes that are left
 abbrev pub invariant-loop-index : goal.invariant-loop-index
-invariant-loop-index l = l.index + position_or_len is_blank (drop l.index l.from) ≡ position_or_len is_blank l.from
+invariant-loop-index l = l.index + position_or_len is_blank_byte (drop l.index l.from) ≡ position_or_len is_blank_byte l.from

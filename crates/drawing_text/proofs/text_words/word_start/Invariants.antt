@@ -1,8 +1,8 @@
 use Rattle.std.proofs.Common.{◌≡◌, ◌+◌, drop}
 use Rattle.std.specs.List.{position_or_len}
-use Rattle.drawing_text.specs.Words.{is_solid}
+use Rattle.drawing_text.specs.Words.{is_word_byte}
 use Rattle.drawing_text.proofs.text_words.word_start.Given as goal
 
 -- the first place is among the bytes that are left
 abbrev pub invariant-loop-index : goal.invariant-loop-index
-invariant-loop-index l = l.index + position_or_len is_solid (drop l.index l.line) ≡ position_or_len is_solid l.line
+invariant-loop-index l = l.index + position_or_len is_word_byte (drop l.index l.line) ≡ position_or_len is_word_byte l.line

@@ -1,14 +1,14 @@
 use Rattle.std.proofs.Common.{◌≡◌, ◌+◌, ◌∷◌, ◌++◌, drop, option_to_list, arith, ap, ◌∙◌}
 use Rattle.std.proofs.lemmas.List.{at_drop_more}
-use Rattle.design_model.specs.ActWalks.{acts_after}
+use Rattle.design_model.specs.ActScanners.{acts_after}
 use Rattle.format_traits.proofs.WriterLemmas.{written_rest, refusal_rest, stands_rest}
 use Rattle.format_traits.proofs.act_writing.put_acts.Goals as goal
 
 pub loop-command-preserved : goal.loop-command-preserved
 loop-command-preserved g c =
     let w = g.W.RecordWriter in
-    let spelling = w.spelling c.args.writer.now in
-    let reach = w.reach c.args.writer.now in
+    let encoding = w.encoding c.args.writer.now in
+    let write_limits = w.write_limits c.args.writer.now in
     let now = c.loop-command in
     let left = drop (now.command-index + 1) c.args.commands.now in
     let is : acts_after now.walk (drop now.command-index c.args.commands.now) ≡ c.in-Some.act ∷ acts_after c.next.new.self left =
@@ -18,7 +18,7 @@ loop-command-preserved g c =
     record {
       number = omega (arith, c.next.ensures.number, now.invariant.number);
       sound = c.in_default-put_act.ensures.sound;
-      refusal = refusal_rest reach now.standing _ c.in-Some.act _ _ _ is puts.0 puts.2 now.invariant.refusal;
-      written = written_rest spelling reach now.standing _ c.in-Some.act _ _ _ _ _ is puts.2 puts.1 now.invariant.written;
-      stands = stands_rest reach now.standing _ c.in-Some.act _ _ _ is puts.2 now.invariant.stands;
+      refusal = refusal_rest write_limits now.state _ c.in-Some.act _ _ _ is puts.0 puts.2 now.invariant.refusal;
+      written = written_rest encoding write_limits now.state _ c.in-Some.act _ _ _ _ _ is puts.2 puts.1 now.invariant.written;
+      stands = stands_rest write_limits now.state _ c.in-Some.act _ _ _ is puts.2 now.invariant.stands;
     }

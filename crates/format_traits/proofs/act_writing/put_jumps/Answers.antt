@@ -4,7 +4,7 @@ use Rattle.format_traits.proofs.act_writing.put_jumps.Goals as goal
 
 pub loop-done-preserved : goal.loop-done-preserved
 loop-done-preserved g c =
-    let jump = (g.W.RecordWriter.spelling c.args.writer.now).jump in
+    let jump = (g.W.RecordWriter.encoding c.args.writer.now).jump in
     jump_more jump c.loop-done.out c.put_jump.new.out _ c.args.step c.args.count c.loop-done.done c.args.wanted
     c.loop-done-test.true
     (c.in_ok-put_jump.ensures ∙ ap (λ m. c.loop-done.out ++ jump m) c.part_move.ensures.value)

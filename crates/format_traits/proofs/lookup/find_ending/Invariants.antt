@@ -1,12 +1,12 @@
 use Rattle.std.proofs.Common.{◌≡◌, drop, map}
 use Rattle.std.specs.Str.{str_to_ascii_lowercase}
-use Rattle.format_traits.specs.Endings.{found_from}
+use Rattle.format_traits.specs.Endings.{ending_index_from}
 use Rattle.format_traits.proofs.lookup.find_ending.Given as goal
 
 -- no format before the index has that ending
 abbrev pub invariant-loop-index : goal.invariant-loop-index
 invariant-loop-index g l =
-    found_from 0 (str_to_ascii_lowercase l.ending)
+    ending_index_from 0 (str_to_ascii_lowercase l.ending)
     (map (λ f. (goal.Format-dyn g (f.vtable, f.value)).meaning f.value) l.formats)
-    ≡ found_from l.index (str_to_ascii_lowercase l.ending)
+    ≡ ending_index_from l.index (str_to_ascii_lowercase l.ending)
     (map (λ f. (goal.Format-dyn g (f.vtable, f.value)).meaning f.value) (drop l.index l.formats))

@@ -1,8 +1,9 @@
 use Rattle.std.proofs.Common.{◌≡◌, ◌+◌, drop}
 use Rattle.std.specs.List.{position_or_len}
-use Rattle.line_graph.specs.WalkEnds.{meets}
+use Rattle.line_graph.specs.WalkEnds.{has_end_at_spot}
 use Rattle.line_graph.proofs.chosen_spots.line_at.Given as goal
 
 -- the first place is among the lines that are left
 abbrev pub invariant-loop-index : goal.invariant-loop-index
-invariant-loop-index l = l.index + position_or_len (meets l.spot) (drop l.index l.lines) ≡ position_or_len (meets l.spot) l.lines
+invariant-loop-index l = l.index + position_or_len (has_end_at_spot l.spot) (drop l.index l.lines)
+    ≡ position_or_len (has_end_at_spot l.spot) l.lines

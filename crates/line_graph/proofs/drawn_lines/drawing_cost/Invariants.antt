@@ -1,5 +1,5 @@
 use Rattle.std.proofs.Common.{◌≡◌, take}
-use Rattle.line_graph.specs.Growing.{step_count}
+use Rattle.line_graph.specs.GrowingDrawings.{step_count}
 use Rattle.line_graph.proofs.drawn_lines.drawing_cost.Given as goal
 
 -- the cost of the lines so far

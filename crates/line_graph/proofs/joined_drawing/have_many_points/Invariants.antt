@@ -1,5 +1,5 @@
 use Rattle.std.proofs.Common.{◌≡◌, ◌+◌, length}
-use Rattle.line_graph.specs.Growing.{point_count}
+use Rattle.line_graph.specs.GrowingDrawings.{point_count}
 use Rattle.line_graph.proofs.joined_drawing.have_many_points.Given as goal
 
 -- what the lines so far have left of the room

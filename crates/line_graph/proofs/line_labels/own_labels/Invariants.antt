@@ -1,6 +1,6 @@
-use Rattle.line_graph.specs.LineLabels.{AreOwn}
+use Rattle.line_graph.specs.LineLabels.{AreOwnIndexes}
 use Rattle.line_graph.proofs.line_labels.own_labels.Given as goal
 
 -- each line so far has its own label
 abbrev pub invariant-loop-line : goal.invariant-loop-line
-invariant-loop-line l = AreOwn l.line l.labels.items
+invariant-loop-line l = AreOwnIndexes l.line l.labels.items

@@ -1,4 +1,4 @@
-use Rattle.line_graph.proofs.KeptLemmas.{part_kept}
+use Rattle.line_graph.proofs.ValidPieceLemmas.{part_kept}
 use Rattle.line_graph.proofs.piece_lines.are_kept.Goals as goal
 
 pub returns : goal.returns

@@ -1,5 +1,5 @@
 use Rattle.std.proofs.Common.{◌<◌, length, arith}
-use Rattle.line_graph.proofs.PartLemmas.{labels_skip, labels_take}
+use Rattle.line_graph.proofs.PieceLabelLemmas.{labels_skip, labels_take}
 use Rattle.line_graph.proofs.piece_lines.lines_with.Goals as goal
 
 pub loop-line-preserved-then-labels-line : goal.loop-line-preserved-then-labels-line

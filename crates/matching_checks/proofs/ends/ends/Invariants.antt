@@ -1,7 +1,7 @@
 use Rattle.std.proofs.Common.{◌≡◌, ◌-◌, ◌^◌, min, take}
-use Rattle.blossom_match.specs.Matchings.{ends_at}
+use Rattle.blossom_match.specs.Matchings.{pair_ends_at}
 use Rattle.matching_checks.proofs.ends.ends.Given as goal
 
 -- the count so far
 abbrev pub invariant-loop-p : goal.invariant-loop-p
-invariant-loop-p l = l.count ≡ min (ends_at (take l.p-index l.pairs) l.x) (2 ^ 64 - 1)
+invariant-loop-p l = l.count ≡ min (pair_ends_at (take l.p-index l.pairs) l.x) (2 ^ 64 - 1)

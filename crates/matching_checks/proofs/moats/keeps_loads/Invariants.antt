@@ -1,8 +1,8 @@
 use Rattle.std.proofs.Common.{ℕ, ◌*◌, ◌<◌, ◌≤◌}
-use Rattle.blossom_match.specs.Matchings.{load_on}
+use Rattle.blossom_match.specs.Matchings.{moat_load}
 use Rattle.blossom_match.specs.Tables.{entry}
 use Rattle.matching_checks.proofs.moats.keeps_loads.Given as goal
 
 -- no load of the places so far is too much
 abbrev pub invariant-loop-a : goal.invariant-loop-a
-invariant-loop-a l = (z : ℕ) → z < l.a → (b : ℕ) → b < l.t.places → load_on l.moats z b ≤ 2 * entry l.t z b
+invariant-loop-a l = (z : ℕ) → z < l.a → (b : ℕ) → b < l.t.places → moat_load l.moats z b ≤ 2 * entry l.t z b

@@ -1,7 +1,7 @@
 use Rattle.std.proofs.Common.{◌≡◌, All, true, take}
-use Rattle.blossom_match.specs.Matchings.{holds}
+use Rattle.blossom_match.specs.Matchings.{moat_holds}
 use Rattle.matching_checks.proofs.moats.lies_in.Given as goal
 
 -- the members so far are members of the other
 abbrev pub invariant-loop-x : goal.invariant-loop-x
-invariant-loop-x l = All (λ x. holds l.k x ≡ true) (take l.x-index l.m.members)
+invariant-loop-x l = All (λ x. moat_holds l.k x ≡ true) (take l.x-index l.m.members)

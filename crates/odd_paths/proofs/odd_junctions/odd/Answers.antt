@@ -1,5 +1,5 @@
 use Rattle.std.proofs.Common.{◌≡◌}
-use Rattle.line_graph.specs.CutPieces.{graph_of}
+use Rattle.line_graph.specs.PiecesOfDrawings.{graph_of}
 use Rattle.line_graph.specs.PieceGraphs.{odd_junctions}
 use Rattle.odd_paths.proofs.DegreeLemmas.{degrees_few, odds_told}
 use Rattle.odd_paths.proofs.odd_junctions.odd.Goals as goal

@@ -1,11 +1,11 @@
 use Rattle.std.proofs.Common.{◌≡◌, length, ◌||◌}
-use Rattle.odd_paths.specs.PlaceWalks.{AreWithin}
+use Rattle.odd_paths.specs.EdgeWalks.{EndsAreBelow}
 use Rattle.odd_paths.specs.Sweeps.{changes, swept}
 use Rattle.odd_paths.proofs.sweeps.sweep.Given as goal
 
 abbrev pub invariant-loop-rest : goal.invariant-loop-rest
 invariant-loop-rest l = record {
-  ends : AreWithin (length l.row) l.rest;
+  ends : EndsAreBelow (length l.row) l.rest;
   told : (l.changed || changes l.row l.rest) ≡ changes l.fn.row l.edges;
   value : swept l.row l.rest ≡ swept l.fn.row l.edges;
 }

@@ -1,12 +1,12 @@
 use Rattle.std.proofs.Common.{◌≡◌, ℕ, ◌<◌, ◌≤◌}
 use Rattle.std.specs.Prelude.{slice_index, slice_set}
-use Rattle.odd_paths.specs.Lanes.{IsCapped, column}
+use Rattle.odd_paths.specs.Lanes.{IsCapped, lane_column}
 use Rattle.odd_paths.proofs.terminal_blocks.begin.Given as goal
 
 -- the columns so far have begun, the others are as they were
 abbrev pub invariant-loop-i : goal.invariant-loop-i
 invariant-loop-i l = record {
-  begun : (k : ℕ) → k < l.i → column k l.table ≡ slice_set (column k l.fn.table) (slice_index l.terminals k) 0;
-  rest : (k : ℕ) → l.i ≤ k → column k l.table ≡ column k l.fn.table;
+  begun : (k : ℕ) → k < l.i → lane_column k l.table ≡ slice_set (lane_column k l.fn.table) (slice_index l.terminals k) 0;
+  rest : (k : ℕ) → l.i ≤ k → lane_column k l.table ≡ lane_column k l.fn.table;
   capped : IsCapped l.table;
 }

@@ -1,13 +1,13 @@
 use Rattle.std.proofs.Common.{◌≡◌, ◌+◌, length}
-use Rattle.odd_paths.specs.PlaceWalks.{AreWithin}
-use Rattle.odd_paths.specs.LastEdges.{last_from}
+use Rattle.odd_paths.specs.EdgeWalks.{EndsAreBelow}
+use Rattle.odd_paths.specs.LastEdges.{last_edge_from}
 use Rattle.odd_paths.proofs.walk_back.last_edge.Given as goal
 
 abbrev pub invariant-loop-rest : goal.invariant-loop-rest
 invariant-loop-rest l = record {
-  ends : AreWithin (length l.row) l.rest;
+  ends : EndsAreBelow (length l.row) l.rest;
   count : l.place + length l.rest ≡ length l.edges;
-  same : last_from l.row l.j l.place l.rest ≡ last_from l.row l.j 0 l.edges;
+  same : last_edge_from l.row l.j l.place l.rest ≡ last_edge_from l.row l.j 0 l.edges;
 }
 
 abbrev pub decreases-loop-rest : goal.decreases-loop-rest

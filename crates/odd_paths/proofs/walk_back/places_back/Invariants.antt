@@ -1,13 +1,13 @@
 use Rattle.std.proofs.Common.{◌≡◌, ◌+◌, ◌<◌, length, reverse}
 use Rattle.std.specs.Prelude.{slice_index}
-use Rattle.odd_paths.specs.PlaceWalks.{IsPlaceWalk, place_cost}
+use Rattle.odd_paths.specs.EdgeWalks.{IsEdgeWalk, edge_walk_cost}
 use Rattle.odd_paths.proofs.walk_back.places_back.Given as goal
 
 abbrev pub invariant-loop-at : goal.invariant-loop-at
 invariant-loop-at l = record {
   inside : l.at < length l.row;
-  walk : IsPlaceWalk l.edges l.at l.j (reverse l.places.items);
-  cost : place_cost l.edges (reverse l.places.items) + slice_index l.row l.at ≡ slice_index l.row l.j;
+  walk : IsEdgeWalk l.edges l.at l.j (reverse l.places.items);
+  cost : edge_walk_cost l.edges (reverse l.places.items) + slice_index l.row l.at ≡ slice_index l.row l.j;
 }
 
 abbrev pub decreases-loop-at : goal.decreases-loop-at

@@ -1,6 +1,6 @@
 use Rattle.std.proofs.Common.{◌≡◌, ◌≤◌, ◌+◌, ℕ, List, ◌++◌, ◌∙◌, length, take, ap, sym, subst, arith, length-append, rules}
 use Rattle.std.proofs.lemmas.List.{length-take-le}
-use Rattle.outside_io.specs.FileParts.{Begins}
+use Rattle.outside_io.specs.FileParts.{IsContentPrefix}
 use Rattle.outside_io.proofs.WholeFiles.{stays_on}
 use Rattle.outside_io.proofs.whole_files.read_in_order.Goals as goal
 
@@ -21,5 +21,5 @@ loop-bytes-preserved g c =
       stays = stays_on kept.stays reads.0;
       short = omega (arith, both, place, reads.1);
       room = search rules;
-      begins = λ told is. subst (λ (b : List ℕ). Begins (told c.args.name.now) b) (sym added) (next.on told (kept.same ∙ is));
+      begins = λ told is. subst (λ (b : List ℕ). IsContentPrefix (told c.args.name.now) b) (sym added) (next.on told (kept.same ∙ is));
     }

@@ -1,16 +1,16 @@
 use Rattle.std.proofs.Common.{◌≡◌, ℕ, ◌≤◌, List, Some, ◌+◌, ◌-◌, length, take}
-use Rattle.outside_io.specs.Causes.{Stays}
-use Rattle.outside_io.specs.FileParts.{IsBegun}
+use Rattle.outside_io.specs.Causes.{HasNoNewFault}
+use Rattle.outside_io.specs.FileParts.{IsFilePrefix}
 use Rattle.outside_io.proofs.whole_files.read_in_order.Given as goal
 
 -- The bytes read so far are a prefix of the file, if it is visible.
 abbrev pub invariant-loop-bytes : goal.invariant-loop-bytes
 invariant-loop-bytes g l = record {
-  same : (g.S.Store.sight l.store).files ≡ (g.S.Store.sight l.fn.store).files;
-  stays : Stays (g.S.Store.sight l.fn.store) (g.S.Store.sight l.store);
+  same : (g.S.Store.view l.store).files ≡ (g.S.Store.view l.fn.store).files;
+  stays : HasNoNewFault (g.S.Store.view l.fn.store) (g.S.Store.view l.store);
   short : length l.bytes ≤ l.limit;
   room : length l.buffer ≡ 16384;
-  begins : IsBegun (g.S.Store.sight l.fn.store).files l.name l.bytes;
+  begins : IsFilePrefix (g.S.Store.view l.fn.store).files l.name l.bytes;
 }
 
 abbrev pub decreases-loop-bytes : goal.decreases-loop-bytes

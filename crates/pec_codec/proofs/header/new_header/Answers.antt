@@ -1,9 +1,9 @@
 use Rattle.std.proofs.Common.{◌≡◌, ap, ◌∙◌, length, rules}
-use Rattle.pec_codec.specs.Header.{header_of}
-use Rattle.pec_codec.proofs.HeaderLemmas.{length-header_of}
+use Rattle.pec_codec.specs.Header.{pec_header_of}
+use Rattle.pec_codec.proofs.HeaderLemmas.{length-pec_header_of}
 use Rattle.pec_codec.proofs.header.new_header.Goals as goal
 
 pub returns-clause-length : goal.returns-clause-length
 returns-clause-length c =
-    let is : c.put_sizes.new.out ≡ header_of c.args.design.now c.args.stops c.args.distance = search rules in
-    ap length is ∙ length-header_of c.args.design.now c.args.stops c.args.distance c.in_ok-put_labels.ensures.short
+    let is : c.put_sizes.new.out ≡ pec_header_of c.args.design.now c.args.stops c.args.distance = search rules in
+    ap length is ∙ length-pec_header_of c.args.design.now c.args.stops c.args.distance c.in_ok-put_labels.ensures.short

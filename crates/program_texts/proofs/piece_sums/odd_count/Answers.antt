@@ -1,6 +1,6 @@
 use Rattle.std.proofs.Common.{◌≤◌, ℕ, List, length, subst, sym, ◌∙◌}
 use Rattle.line_graph.specs.declared.limits.TheConstants.{MAX_LINES}
-use Rattle.line_graph.specs.CutPieces.{graph_of}
+use Rattle.line_graph.specs.PiecesOfDrawings.{graph_of}
 use Rattle.program_texts.proofs.piece_sums.odd_count.Goals as goal
 
 pub count_of-requires : goal.count_of-requires

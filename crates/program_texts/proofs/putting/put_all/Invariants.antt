@@ -7,4 +7,4 @@ use Rattle.program_texts.proofs.putting.put_all.Given as goal
 abbrev pub invariant-loop-piece : goal.invariant-loop-piece
 invariant-loop-piece g l = PutsOn (concat (map (λ piece. piece.now) l.pieces))
     (l.line.items ++ concat (map (λ piece. piece.now) (drop l.piece-index l.pieces)))
-    (g.E.Sink.sight l.fn.err) (g.E.Sink.sight l.err)
+    (g.E.Sink.view l.fn.err) (g.E.Sink.view l.err)

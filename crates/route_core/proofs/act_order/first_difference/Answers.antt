@@ -1,6 +1,6 @@
 use Rattle.std.proofs.Common.{◌∙◌, Err, List, Ok, ap, subst, sym}
 use Rattle.line_graph.specs.declared.pass.Pass.{Pass}
-use Rattle.line_graph.specs.Runs.{block_of_walk}
+use Rattle.line_graph.specs.Runs.{block_of_passes}
 use Rattle.route_core.specs.SewingSteps.{AreDrawn}
 use Rattle.route_core.proofs.ActOrderLemmas.{LeftRuns, drawn_next, run_is, runs_differ, runs_on}
 use Rattle.route_core.proofs.act_order.first_difference.Goals as goal
@@ -26,7 +26,7 @@ returns-in-Err c = sym (runs_differ c.args.d.now c.args.acts.now c.args.certs.no
 
 pub loop-cert-preserved : goal.loop-cert-preserved
 loop-cert-preserved c = subst (λ block. LeftRuns c.args.d.now c.args.acts.now c.args.certs.now c.in-Ok.next block c.in-Some.after.now)
-    (sym (c.block_of_walk-block.ensures ∙ ap (block_of_walk c.args.d.now) c.as_slice-in-Some.ensures))
+    (sym (c.block_of_walk-block.ensures ∙ ap (block_of_passes c.args.d.now) c.as_slice-in-Some.ensures))
     (runs_on c.args.d.now c.args.acts.now c.args.certs.now c.loop-cert.at c.loop-cert.before c.in-Ok.next
     c.loop-cert.rest.now c.in-Some.after.now c.in-Some.cert.now c.in-Some.ensures.some c.loop-cert.invariant
     (run_is c.args.d.now c.args.acts.now c.loop-cert.at c.loop-cert.before c.block_of_walk-block.result c.saturating_sub.result

@@ -1,5 +1,5 @@
 use Rattle.std.proofs.Common.{◌∙◌, ap, replicate, ℕ}
-use Rattle.line_graph.specs.CutPieces.{graph_of}
+use Rattle.line_graph.specs.PiecesOfDrawings.{graph_of}
 use Rattle.route_core.proofs.PairLemmas.{begun, ended, first_pair, goes_on, room_for_pair}
 use Rattle.route_core.proofs.copies.copies_of.Goals as goal
 

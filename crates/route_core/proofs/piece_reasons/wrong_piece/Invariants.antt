@@ -1,13 +1,13 @@
 use Rattle.std.proofs.Common.{◌≡◌, ◌+◌, All, length, map}
-use Rattle.line_graph.specs.CutPieces.{graph_of}
-use Rattle.route_core.specs.Verdicts.{IsShort, pieces_reason}
+use Rattle.line_graph.specs.PiecesOfDrawings.{graph_of}
+use Rattle.route_core.specs.Verdicts.{HasShortLists, pieces_reason}
 use Rattle.route_core.proofs.piece_reasons.wrong_piece.Given as goal
 
 -- the pieces so far are right, so all depends on those that are left
 abbrev pub invariant-loop-piece : goal.invariant-loop-piece
 invariant-loop-piece l = record {
   count : l.number + length l.left ≡ length l.pieces + 1;
-  short : All IsShort l.said;
+  short : All HasShortLists l.said;
   reasons : pieces_reason l.number (map graph_of l.left) l.said ≡ pieces_reason 1 (map graph_of l.pieces) l.certs;
 }
 

@@ -1,7 +1,7 @@
 use Rattle.std.proofs.Common.{List, All, subst}
 use Rattle.std.proofs.lemmas.List.Elements.{All-tail}
 use Rattle.blossom_match.specs.declared.matching.Pair.{Pair}
-use Rattle.route_core.proofs.ProvedLemmas.{cost_goes_on}
+use Rattle.route_core.proofs.LeastCertLemmas.{cost_goes_on}
 use Rattle.route_core.specs.Copies.{IsPairOf}
 use Rattle.route_core.proofs.piece_route.cost_of_pairs.Goals as goal
 

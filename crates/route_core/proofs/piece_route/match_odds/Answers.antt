@@ -1,6 +1,6 @@
 use Rattle.std.proofs.Common.{◌%◌, subst, sym, ℕ, ◌≡◌}
 use Rattle.blossom_match.specs.Tables.{IsTable}
-use Rattle.line_graph.specs.CutPieces.{graph_of}
+use Rattle.line_graph.specs.PiecesOfDrawings.{graph_of}
 use Rattle.route_core.proofs.LeastLemmas.{triangles}
 use Rattle.route_core.proofs.MatchLemmas.{is_matched, table_is}
 use Rattle.route_core.proofs.piece_route.match_odds.Goals as goal

@@ -11,6 +11,6 @@ loop-pass-preserved c = record {
       c.in-Some.ensures.some
       c.in_ok-needles.needles c.in_ok-needles.ensures
       (c.in_ok-append.ensures.ok ∙ ap (λ (ps : List Point). c.loop-pass.points ++ ps)
-      (c.behind_first.ensures ∙ ap (λ (ps : List Point). drop 1 ps) c.as_slice.ensures))
+      (c.after_first.ensures ∙ ap (λ (ps : List Point). drop 1 ps) c.as_slice.ensures))
       ∙ c.loop-pass.invariant.whole;
 }

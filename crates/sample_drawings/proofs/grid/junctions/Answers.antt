@@ -1,4 +1,4 @@
-use Rattle.sample_drawings.specs.Samples.{junction, junction_count}
+use Rattle.sample_drawings.specs.Samples.{grid_junction, junctions_per_side}
 use Rattle.sample_drawings.proofs.DrawLemmas.{junction_next, place_added, state_moved}
 use Rattle.sample_drawings.proofs.grid.junctions.Goals as goal
 
@@ -7,7 +7,7 @@ loop-place-preserved c =
     let number = c.args.number in
     let now = c.loop-place in
     record {
-      junctions = place_added (junction_count number) now.place (junction number) now.junctions _ _
+      junctions = place_added (junctions_per_side number) now.place (grid_junction number) now.junctions _ _
           now.invariant.junctions
           (junction_next number _ now.place _ _ c.junction_count-columns.ensures.value now.invariant.state
           c.draw_junction.ensures.value)

@@ -1,9 +1,9 @@
 use Rattle.std.proofs.Common.{◌≡◌, ◌≤◌, drop, length}
 use Rattle.design_model.specs.declared.design.TheConstants.{MAX_COMMANDS}
 use Rattle.design_model.specs.Acts.{acts_along}
-use Rattle.design_model.specs.ActWalks.{acts_after}
+use Rattle.design_model.specs.ActScanners.{acts_after}
 use Rattle.step_splitter.specs.Chains.{IsNeedlePoint}
-use Rattle.step_splitter.specs.RefitSteps.{GoesOn}
+use Rattle.step_splitter.specs.RefitSteps.{IsRefitState}
 use Rattle.step_splitter.proofs.refitting.refit_commands.Given as goal
 
 -- the commands of the acts so far, and how the acts that are left go on from them
@@ -13,6 +13,6 @@ invariant-loop-command l = record {
   place : IsNeedlePoint l.progress.place;
   room : length l.out.commands ≤ MAX_COMMANDS;
   others : l.out ≡ record l.fn.out { commands = l.out.commands };
-  acts : GoesOn l.mode l.limit (acts_along l.commands) l.out.commands l.progress.loose l.progress.place
+  acts : IsRefitState l.mode l.limit (acts_along l.commands) l.out.commands l.progress.loose l.progress.place
       (acts_after l.walk (drop l.command-index l.commands));
 }

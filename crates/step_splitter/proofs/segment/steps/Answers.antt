@@ -1,7 +1,7 @@
 use Rattle.std.proofs.Common.{◌≡◌, rules, arith}
 use Rattle.step_splitter.proofs.PointLemmas.{size_some, size_few}
 use Rattle.step_splitter.proofs.QuotientLemmas.{div_ceil_some, div_ceil_few}
-use Rattle.design_model.specs.Points.{move_between, size_of}
+use Rattle.design_model.specs.Points.{move_between, move_size}
 use Rattle.step_splitter.specs.Steps.{steps_of}
 use Rattle.step_splitter.proofs.segment.steps.Goals as goal
 
@@ -15,6 +15,6 @@ returns-clause-few c =
     let value : c.div_ceil.result ≡ steps_of c.args.p c.args.q c.args.step = search rules in
     omega (
       arith,
-      div_ceil_few (size_of (move_between c.args.p c.args.q)) c.args.step c.requires.low,
+      div_ceil_few (move_size (move_between c.args.p c.args.q)) c.args.step c.requires.low,
       size_few c.args.p c.args.q c.requires.from c.requires.to,
     )

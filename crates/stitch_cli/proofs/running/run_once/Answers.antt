@@ -5,4 +5,4 @@ pub returns-in-Ok-clause-ends : goal.returns-in-Ok-clause-ends
 returns-in-Ok-clause-ends g c = ends_made _ _ _ _ _ _ _ _ c.in-Ok.ensures.answers c.deliver.ensures
 
 pub returns-in-Err-clause-ends : goal.returns-in-Err-clause-ends
-returns-in-Err-clause-ends g c = ends_halted _ _ _ _ _ _ _ _ c.in-Err.ensures.answers c.tell_halt.ensures
+returns-in-Err-clause-ends g c = ends_halted _ _ _ _ _ _ _ _ c.in-Err.ensures.answers c.report_failure.ensures

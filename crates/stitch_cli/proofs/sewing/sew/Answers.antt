@@ -6,4 +6,4 @@ use Rattle.stitch_cli.proofs.sewing.sew.Goals as goal
 
 pub returns : goal.returns
 returns g c = settles_taken _ _ (sewing_read (IsSewnBy c.args.way) (route_order c.args.names _)) _ _ _ _
-    c.in_ok-drawing.ensures c.sew_drawn.ensures
+    c.in_ok-drawing.ensures c.sew_drawing.ensures

@@ -1,6 +1,6 @@
 use Rattle.std.proofs.Common.{Ok, subst}
 use Rattle.format_traits.specs.Meanings.{Meaning}
-use Rattle.stitch_cli.specs.Endings.{Settles}
+use Rattle.stitch_cli.specs.StepOutcomes.{RunsPurePlan}
 use Rattle.stitch_cli.specs.OrderNames.{show_order}
 use Rattle.stitch_cli.specs.Shows.{show_read}
 use Rattle.stitch_cli.proofs.FormatLemmas.{same_format}
@@ -10,5 +10,5 @@ use Rattle.stitch_cli.proofs.showing.show.Goals as goal
 pub returns-clause-prepares : goal.returns-clause-prepares
 returns-clause-prepares g c = λ m is.
     settles_taken _ m.reads (show_read (show_order c.args.file.now m)) _ _ _ _ (c.in_ok-loaded.ensures.loads m is)
-    (subst (λ (here : Meaning). Settles (show_read (show_order c.args.file.now here) (Ok c.in_ok-loaded.loaded)) c.shown.result)
+    (subst (λ (here : Meaning). RunsPurePlan (show_read (show_order c.args.file.now here) (Ok c.in_ok-loaded.loaded)) c.shown.result)
     (same_format _ _ c.args.place _ m c.in_ok-loaded.ensures.same c.format_at.ensures is) c.shown.ensures)

@@ -1,9 +1,10 @@
 use Rattle.std.specs.HashSet.{contains}
-use Rattle.stitch_trace.specs.Links.{has_ends}
+use Rattle.stitch_trace.specs.Links.{is_same_directed_link}
 use Rattle.stitch_trace.proofs.MoveLemmas.{kept_both}
 use Rattle.stitch_trace.proofs.new_links.sew.Goals as goal
 
 pub returns-clause-kept : goal.returns-clause-kept
 returns-clause-kept c =
-    kept_both c.args.link c.turned.result (contains has_ends c.args.sewn.now) (contains has_ends c.insert.new.self)
-    (contains has_ends c.insert-2.new.self) c.turned.ensures c.in_ok-is_new.ensures.updates.0 c.in_ok-insert.ensures.updates.0
+    kept_both c.args.link c.turned.result (contains is_same_directed_link c.args.sewn.now)
+    (contains is_same_directed_link c.insert.new.self)
+    (contains is_same_directed_link c.insert-2.new.self) c.turned.ensures c.in_ok-is_new.ensures.updates.0 c.in_ok-insert.ensures.updates.0

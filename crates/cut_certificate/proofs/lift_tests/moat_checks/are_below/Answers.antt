@@ -1,6 +1,6 @@
 use Rattle.std.proofs.Common.{◌<◌}
 use Rattle.std.proofs.lemmas.List.Elements.{All-more}
-use Rattle.cut_certificate.proofs.MoatFitLemmas.{all_done}
+use Rattle.cut_certificate.proofs.MoatTestLemmas.{all_done}
 use Rattle.cut_certificate.proofs.lift_tests.moat_checks.are_below.Goals as goal
 
 pub loop-x-preserved : goal.loop-x-preserved

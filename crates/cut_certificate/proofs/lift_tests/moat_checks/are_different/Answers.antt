@@ -1,5 +1,5 @@
 use Rattle.std.proofs.Common.{sym, ◌∙◌}
-use Rattle.cut_certificate.proofs.MoatFitLemmas.{different_done, different_next}
+use Rattle.cut_certificate.proofs.MoatTestLemmas.{different_done, different_next}
 use Rattle.cut_certificate.proofs.lift_tests.moat_checks.are_different.Goals as goal
 
 pub loop-x-preserved : goal.loop-x-preserved

@@ -1,5 +1,5 @@
 use Rattle.std.proofs.Common.{refl}
-use Rattle.cut_certificate.proofs.MoatFitLemmas.{laminar_done, laminar_next}
+use Rattle.cut_certificate.proofs.MoatTestLemmas.{laminar_done, laminar_next}
 use Rattle.cut_certificate.proofs.lift_tests.moat_checks.are_laminar.Goals as goal
 
 pub loop-m-preserved : goal.loop-m-preserved

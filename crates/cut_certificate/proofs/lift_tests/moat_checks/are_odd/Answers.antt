@@ -1,6 +1,6 @@
 use Rattle.std.proofs.Common.{refl}
 use Rattle.blossom_match.specs.Matchings.{IsOddMoat}
-use Rattle.cut_certificate.proofs.MoatFitLemmas.{all_done, all_next}
+use Rattle.cut_certificate.proofs.MoatTestLemmas.{all_done, all_next}
 use Rattle.cut_certificate.proofs.lift_tests.moat_checks.are_odd.Goals as goal
 
 pub loop-m-preserved : goal.loop-m-preserved

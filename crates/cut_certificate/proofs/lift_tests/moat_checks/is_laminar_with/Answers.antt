@@ -1,6 +1,6 @@
 use Rattle.std.proofs.Common.{refl}
 use Rattle.blossom_match.specs.Matchings.{AreLaminar}
-use Rattle.cut_certificate.proofs.MoatFitLemmas.{all_done, all_next}
+use Rattle.cut_certificate.proofs.MoatTestLemmas.{all_done, all_next}
 use Rattle.cut_certificate.proofs.lift_tests.moat_checks.is_laminar_with.Goals as goal
 
 pub loop-k-preserved : goal.loop-k-preserved

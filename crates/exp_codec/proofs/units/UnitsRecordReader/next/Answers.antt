@@ -1,11 +1,11 @@
 use Rattle.std.proofs.Common.{◌≤◌, ◌+◌, ◌++◌, true, length, get_or, drop, refl, sym, ap, ◌∙◌, subst, arith}
 use Rattle.std.proofs.lemmas.Bool.{and_from}
 use Rattle.std.proofs.lemmas.List.{length-drop}
-use Rattle.design_model.specs.Points.{is_within}
+use Rattle.design_model.specs.Points.{is_point_within}
 use Rattle.format_traits.specs.declared.event.Event.TheVariants as event
-use Rattle.format_traits.specs.declared.record_reader.TheConstants.{GREATEST_STEP}
+use Rattle.format_traits.specs.declared.record_reader.TheConstants.{MAX_RECORD_MOVE}
 use Rattle.format_traits.specs.Records.{next}
-use Rattle.exp_codec.specs.Units.{units_from, asked, control_event}
+use Rattle.exp_codec.specs.Units.{units_from, record_or_refusal, event_of_control}
 use Rattle.exp_codec.proofs.UnitLemmas.{two_bytes, four_bytes, behind_two}
 use Rattle.exp_codec.proofs.units.UnitsRecordReader.next.Goals as goal
 
@@ -16,7 +16,7 @@ returns-then-first c = record {
   is = λ more. two_bytes c.args.at c.args.bytes.now more c.in-len2-up.len_at_least c.if-first.true
       ∙ ap (λ m. next c.args.at (event.Stitch m) (units_from (c.args.at + 2) (drop 2 c.args.bytes.now ++ more)))
       (sym c.move_of.ensures.value);
-  small = and_from (is_within GREATEST_STEP c.move_of.result) true c.move_of.ensures.small refl;
+  small = and_from (is_point_within MAX_RECORD_MOVE c.move_of.result) true c.move_of.ensures.small refl;
 }
 
 pub returns-in-Some : goal.returns-in-Some
@@ -30,7 +30,7 @@ returns-in-Some c =
       some = omega arith;
       there = omega (arith, left, shorter);
       is = λ more. four_bytes c.args.at bytes _ more behind c.in-len2-up.len_at_least some c.if-first.false
-          ∙ ap (λ event. asked c.args.at event (units_from (c.args.at + 4) (drop 4 bytes ++ more)))
-          (ap (control_event (get_or bytes 1 0)) (sym c.move_of-2.ensures.value) ∙ sym c.control_event.ensures.value ∙ c.in-Some.is);
+          ∙ ap (λ event. record_or_refusal c.args.at event (units_from (c.args.at + 4) (drop 4 bytes ++ more)))
+          (ap (event_of_control (get_or bytes 1 0)) (sym c.move_of-2.ensures.value) ∙ sym c.control_event.ensures.value ∙ c.in-Some.is);
       small = c.in-Some.ensures.small;
     }

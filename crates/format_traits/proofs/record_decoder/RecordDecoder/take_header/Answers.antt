@@ -1,5 +1,5 @@
 use Rattle.std.proofs.Common.{◌≡◌, ◌++◌, length, sym, rules}
-use Rattle.format_traits.proofs.StreamLemmas.{takes_behind}
+use Rattle.format_traits.proofs.DecoderStateLemmas.{takes_behind}
 use Rattle.format_traits.proofs.record_decoder.RecordDecoder.take_header.Goals as goal
 
 pub returns : goal.returns

@@ -1,5 +1,5 @@
 use Rattle.std.proofs.Common.{sym, ◌∙◌}
-use Rattle.format_traits.proofs.StreamLemmas.{same_behind}
+use Rattle.format_traits.proofs.DecoderStateLemmas.{same_behind}
 use Rattle.format_traits.proofs.record_decoder.RecordDecoderDecoder.begin.Goals as goal
 
 pub returns-then-header_length-eq0-clause-same : goal.returns-then-header_length-eq0-clause-same

@@ -1,5 +1,5 @@
 use Rattle.std.proofs.Common.{refl}
-use Rattle.line_graph.proofs.ChoosingLemmas.{more_chosen, none_there, one_added, one_there}
+use Rattle.line_graph.proofs.ChosenSpotLemmas.{more_chosen, none_there, one_added, one_there}
 use Rattle.line_graph.proofs.chosen_spots.ChosenSpots.add.Goals as goal
 
 pub returns-then-line-lines-clause-answer : goal.returns-then-line-lines-clause-answer

@@ -1,7 +1,7 @@
 use Rattle.std.proofs.Common.{arith}
-use Rattle.line_graph.specs.CutPieces.{graph_of}
+use Rattle.line_graph.specs.PiecesOfDrawings.{graph_of}
 use Rattle.odd_paths.proofs.TableLemmas.{is_path, is_this_row, is_wide}
-use Rattle.odd_paths.specs.LastEdges.{AreLeast}
+use Rattle.odd_paths.specs.LastEdges.{IsLeastEdgeWalk}
 use Rattle.odd_paths.specs.LeastRows.{terminal_of}
 use Rattle.odd_paths.proofs.row_table.Rows.path.Goals as goal
 
@@ -17,7 +17,8 @@ places-requires-clause-j c =
 
 pub returns : goal.returns
 returns c =
-    let least : AreLeast c.args.p.now.edges c.row.result.now (terminal_of c.args.self.now c.args.t) c.args.j c.in_ok-places.places.items =
+    let least : IsLeastEdgeWalk c.args.p.now.edges c.row.result.now (terminal_of c.args.self.now c.args.t) c.args.j
+    c.in_ok-places.places.items =
     rw (← c.as_slice.ensures, ← c.terminal.ensures) c.in_ok-places.ensures in
     rw c.from_vec.ensures
     (is_path (graph_of c.args.p.now) c.args.self.now c.args.t c.args.j c.row.result.now c.in_ok-places.places.items

@@ -1,5 +1,5 @@
 use Rattle.std.proofs.Common.{arith}
-use Rattle.stitch_text.proofs.ListStreamLemmas.{left_of, line_on}
+use Rattle.stitch_text.proofs.ListStateLemmas.{left_of, line_on}
 use Rattle.stitch_text.proofs.list_decoder.ListDecoder.take_lines.Goals as goal
 
 pub loop-line-preserved : goal.loop-line-preserved

@@ -1,6 +1,6 @@
 use Rattle.std.proofs.Common.{◌≡◌, ◌+◌, ◌-◌, ◌≤◌, length, drop}
-use Rattle.format_traits.specs.Streams.{ComesOn}
-use Rattle.stitch_text.specs.ListStages.{stream_at}
+use Rattle.format_traits.specs.DecoderStates.{ContinuesAs}
+use Rattle.stitch_text.specs.ListStages.{list_state_at}
 use Rattle.stitch_text.proofs.list_decoder.ListDecoder.take_lines.Given as goal
 
 -- the remaining lines have the same result as all lines
@@ -9,7 +9,7 @@ invariant-loop-line l = record {
   at : l.at + length l.rest ≡ l.start + length l.bytes;
   there : length l.rest ≤ length l.bytes;
   left : l.rest ≡ drop (length l.bytes - length l.rest) l.bytes;
-  on : ComesOn (stream_at l.fn.self.draft l.fn.self.stage) (stream_at l.self.draft l.self.stage) l.start l.at l.bytes l.rest;
+  on : ContinuesAs (list_state_at l.fn.self.draft l.fn.self.stage) (list_state_at l.self.draft l.self.stage) l.start l.at l.bytes l.rest;
 }
 
 abbrev pub decreases-loop-line : goal.decreases-loop-line

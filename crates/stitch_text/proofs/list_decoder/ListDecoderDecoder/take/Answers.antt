@@ -1,4 +1,4 @@
-use Rattle.stitch_text.proofs.ListStreamLemmas.{takes_lines}
+use Rattle.stitch_text.proofs.ListStateLemmas.{takes_lines}
 use Rattle.stitch_text.proofs.list_decoder.ListDecoderDecoder.take.Goals as goal
 
 pub returns : goal.returns

@@ -1,0 +1,30 @@
+use Rattle.std.proofs.Common.{arith, ap, drop, length, List, ℕ, ◌+◌, ◌-◌, ◌∙◌, subst, sym, take}
+use Rattle.blossom_match.specs.Lists.{Each}
+use Rattle.blossom_match.specs.OuterSlacks.{HasSlacks, AddsOuterSlacks}
+use Rattle.blossom_match.specs.Slots.{branch_in, branches_in}
+use Rattle.blossom_match.specs.States.{search_value}
+use Rattle.blossom_match.specs.Values.{BranchValue}
+use Rattle.blossom_match.specs.declared.branches.Branch.{Branch}
+use Rattle.blossom_match.proofs.ListLemmas.{each-drop, each-take, mapped_cut}
+use Rattle.blossom_match.proofs.OuterSlackLemmas.{have_outer_rows}
+use Rattle.blossom_match.proofs.outer_slacks.add_slacks_from.Goals as goal
+
+pub add_branch_slacks-requires : goal.add_branch_slacks-requires
+add_branch_slacks-requires c =
+    let s = search_value c.args.s.now in
+    let n = (c.args.at + c.args.more) - c.args.at in
+    let row = λ (b : BranchValue). HasSlacks (length c.args.reach.now) b.outer in
+    subst (λ (ks : List BranchValue). Each row ks)
+    (sym (mapped_cut (branch_in c.args.s.now.sets) n c.args.at c.deref.result.now
+    ∙ ap (λ (ks : List Branch). take n (drop c.args.at (branches_in c.args.s.now.sets ks))) c.deref.ensures.value))
+    (each-take row n (drop c.args.at s.tree) (each-drop row c.args.at s.tree (have_outer_rows s c.args.reach.now c.requires.can)))
+
+pub returns : goal.returns
+returns c =
+    let s = search_value c.args.s.now in
+    let n = (c.args.at + c.args.more) - c.args.at in
+    subst (λ (k : ℕ). AddsOuterSlacks (take k (drop c.args.at s.tree)) c.args.reach.now c.add_branch_slacks.new.reach) (omega arith)
+    (subst (λ (ks : List BranchValue). AddsOuterSlacks ks c.args.reach.now c.add_branch_slacks.new.reach)
+    (mapped_cut (branch_in c.args.s.now.sets) n c.args.at c.deref.result.now
+    ∙ ap (λ (ks : List Branch). take n (drop c.args.at (branches_in c.args.s.now.sets ks))) c.deref.ensures.value)
+    c.add_branch_slacks.ensures)

@@ -1,0 +1,42 @@
+/// A DST file of these records after any header; the header is filled with spaces.
+#[macro_export]
+macro_rules! records {
+    ($bytes:expr) => {
+        $crate::FileContent::Padded(b"", 512, 1, $bytes)
+    };
+}
+
+/// A step in which no call fails.
+#[macro_export]
+macro_rules! step {
+    ($words:expr, $status:expr, $out:expr, $err:expr, $after:expr) => {
+        $crate::CaseStep {
+            words: $words,
+            fails: $crate::FailingCalls {
+                store: 0,
+                out: 0,
+                err: 0,
+            },
+            status: $status,
+            out: $out,
+            err: $err,
+            after: $after,
+        }
+    };
+}
+
+/// A step that is done, with its report and the files that it writes.
+#[macro_export]
+macro_rules! done {
+    ($words:expr, $out:expr, $after:expr $(,)?) => {
+        $crate::step!($words, 0, $crate::ExpectedText::Exactly($out), "", $after)
+    };
+}
+
+/// A step that is refused, with its line; it writes nothing.
+#[macro_export]
+macro_rules! refused {
+    ($words:expr, $err:expr $(,)?) => {
+        $crate::step!($words, 1, $crate::ExpectedText::Exactly(""), $err, &[])
+    };
+}

@@ -1,0 +1,7 @@
+use Rattle.cut_certificate.specs.Levels.{lift_input}
+use Rattle.cut_certificate.specs.MoatDistances.{IsProgress}
+use Rattle.cut_certificate.proofs.moat_distances.add_sized.Given as goal
+
+-- the moats with that number of members before the index were processed
+abbrev pub invariant-loop-index : goal.invariant-loop-index
+invariant-loop-index l = IsProgress (lift_input l.rows l.size l.moats) l.members l.index l.progress.stands.items l.progress.reaches.items

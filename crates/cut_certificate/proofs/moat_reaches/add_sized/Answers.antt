@@ -1,9 +1,0 @@
-use Rattle.cut_certificate.specs.Levels.{site_of}
-use Rattle.cut_certificate.proofs.ProgressLemmas.{all_odd, next_size}
-use Rattle.cut_certificate.proofs.moat_reaches.add_sized.Goals as goal
-
-pub returns : goal.returns
-returns c =
-    next_size (site_of c.args.rows.now c.args.size c.args.moats.now) c.args.members c.loop-index.index c.loop-index.progress.stands.items
-    c.loop-index.progress.reaches.items
-    c.requires.odd (all_odd c.args.rows.now c.args.size c.args.moats.now c.requires.can) c.loop-index-test.false c.loop-index.invariant

@@ -1,8 +1,0 @@
-use Rattle.std.proofs.Common.{◌+◌, ◌*◌}
-use Rattle.cut_certificate.specs.Levels.{site_of}
-use Rattle.cut_certificate.specs.Reaches.{IsProgress}
-use Rattle.cut_certificate.proofs.moat_reaches.reaches.Given as goal
-
--- the moats with fewer members were gone through
-abbrev pub invariant-loop-half : goal.invariant-loop-half
-invariant-loop-half l = IsProgress (site_of l.rows l.size l.moats) (2 * l.half + 1) 0 l.progress.stands.items l.progress.reaches.items

@@ -1,6 +1,0 @@
-use Rattle.line_graph.specs.CutPieces.{graph_of}
-use Rattle.double_run.proofs.StepLemmas.{set_off}
-use Rattle.double_run.proofs.outing.set_out.Goals as goal
-
-pub returns : goal.returns
-returns c = set_off (graph_of c.args.p.now) _ _ c.in_ok-o.ensures.blank c.in_ok-go_out.ensures

@@ -1,0 +1,338 @@
+-- The canonical text of a drawing is read as that drawing.
+use Rattle.std.proofs.Common.{◌≡◌, ◌≢◌, ℕ, zero, suc, ◌+◌, ◌-◌, ◌<◌, ◌≤◌, ◌==◌, Bool, true, false, not, nat_lt, List, [], ◌∷◌, ◌++◌, Result, Ok, length, codes, sum_by, All, ap, sym, subst, ◌∙◌, refl, append_assoc, append-nil, length-append, arith}
+use Rattle.std.proofs.Math.Path.{ap₂}
+use Rattle.std.proofs.lemmas.Bool.Decides.{nat_tests}
+use Rattle.std.proofs.lemmas.List.Concat.{flat_map-cons}
+use Rattle.std.proofs.lemmas.List.Elements.{All-filter, All-head, All-tail, All-weaker, filter_passes}
+use Rattle.std.proofs.lemmas.List.Filters.{length-filter_both, sum_by-filter_both}
+use Rattle.std.proofs.lemmas.List.Sums.{sum_by-append, sum_by-cons}
+use Rattle.std.specs.Fmt.{decimal}
+use Rattle.std.specs.List.{flat_map, list_any}
+use Rattle.design_model.specs.Labels.{IsLabel}
+use Rattle.line_sections.specs.declared.spot.Spot.{Spot}
+use Rattle.line_sections.specs.Lines.{LineValue}
+use Rattle.line_graph.specs.Drawings.{DrawingValue, IsLine, KeepsDrawingLimits}
+use Rattle.line_graph.specs.GrowingDrawings.{and_then, finished_drawing, is_last_empty, point_count, step_count, with_new_block, with_new_line}
+use Rattle.line_graph.specs.Needles.{steps_of_line}
+use Rattle.line_graph.specs.JoinedDrawings.{JoinedDrawingsStay, joined_drawing}
+use Rattle.line_graph.specs.WalkEnds.{HasNoEnds}
+use Rattle.line_graph.specs.declared.draw_kind.DrawKind.{DrawKind}
+use Rattle.drawing_text.proofs.Shapes.{last_by}
+use Rattle.drawing_text.proofs.PrintedBlocks.{all_below, found_used, last_found, lines_below, next_lines, none_first}
+use Rattle.drawing_text.proofs.PrintedLines.{HasRoom, color_says, coordinates, coordinates_are, draft_of, is_color, is_line, is_name, is_step, label_word, line_judged, line_says, name_says, points_spelled, step_says}
+use Rattle.drawing_text.proofs.PrintedNumbers.{decimal_word}
+use Rattle.drawing_text.proofs.PrintedWords.{line_read, tail_of}
+use Rattle.drawing_text.specs.declared.draft.DrawingDraft.{DrawingDraft}
+use Rattle.drawing_text.specs.declared.draw_fault.DrawFault.{DrawFault}
+use Rattle.drawing_text.specs.declared.version.Version.{Version}
+use Rattle.drawing_text.specs.declared.version.Version.TheVariants as version
+use Rattle.drawing_text.specs.DrawingText.{IsJoinedWithoutEnds, at_line, body_from, drawing_of, drawing_after_lines, drawing_of_draft, drawing_in_version}
+use Rattle.drawing_text.specs.CanonicalTexts.{blocks_text, label_text, line_text, lines_of_block, number_line_text, canonical_text, canonical_text2, points_text}
+use Rattle.drawing_text.specs.TextLines.{default_drawing, empty_draft}
+use Rattle.drawing_text.specs.Words.{words_by_line}
+
+-- whatever number a text begins at, it is read as d after the drawing so far
+abbrev ReadsOn : Version → DrawingValue → DrawingValue → List ℕ → Type 0
+ReadsOn version d so_far text = (number opened : ℕ) (named : Bool)
+    → drawing_after_lines version number (draft_of named opened so_far) (words_by_line text) ≡ Ok d
+
+-- the drawing has room for n more lines in the last block
+record MayFollow (d : DrawingValue) (lines : List LineValue) : Type 0 where
+  block : 1 ≤ length d.threads
+  inside : All (λ line. line.block ≡ length d.threads - 1) lines
+  able : All (λ line. IsLine line.points) lines
+  count : length d.lines + length lines ≤ 1024
+  points_to : point_count d.lines + point_count lines ≤ 65536
+  steps_to : step_count d.step d.lines + step_count d.step lines ≤ 200000
+
+-- the drawing with these lines
+abbrev with_lines : DrawingValue → List LineValue → DrawingValue
+with_lines d lines = record d { lines = d.lines ++ lines }
+
+-- the first of them may come, and then the others
+first_room : (d : DrawingValue) (line : LineValue) (lines : List LineValue) → MayFollow d (line ∷ lines)
+    → HasRoom d line.points
+first_room d line lines may = record {
+  block = may.block;
+  lines = omega (arith, may.count);
+  points_to = omega (arith, may.points_to, sum_by-cons (λ (l : LineValue). length l.points) line lines);
+  steps_to = omega (arith, may.steps_to, sum_by-cons (λ (l : LineValue). steps_of_line d.step l.points) line lines);
+}
+
+others_follow : (d : DrawingValue) (line : LineValue) (lines : List LineValue) → MayFollow d (line ∷ lines)
+    → MayFollow (with_lines d (line ∷ [])) lines
+others_follow d line lines may = record {
+  block = may.block;
+  inside = All-tail (λ (l : LineValue). l.block ≡ length d.threads - 1) line lines may.inside;
+  able = All-tail (λ (l : LineValue). IsLine l.points) line lines may.able;
+  count = omega (arith, may.count, length-append d.lines (line ∷ []));
+  points_to = omega (
+    arith,
+    may.points_to,
+    sum_by-cons (λ (l : LineValue). length l.points) line lines,
+    sum_by-append (λ (l : LineValue). length l.points) d.lines (line ∷ []),
+  );
+  steps_to = omega (
+    arith,
+    may.steps_to,
+    sum_by-cons (λ (l : LineValue). steps_of_line d.step l.points) line lines,
+    sum_by-append (λ (l : LineValue). steps_of_line d.step l.points) d.lines (line ∷ []),
+  );
+}
+
+-- the line of a block that is the last is put there
+same_line : (d : DrawingValue) (line : LineValue) → line.block ≡ length d.threads - 1
+    → with_new_line d line.points ≡ with_lines d (line ∷ [])
+same_line d line is = ap (λ (block : ℕ). with_lines d (record { block = block; points = line.points } ∷ [])) (sym is)
+
+-- printed lines are read, and then what follows them
+lines_read : (version : Version) (d so_far : DrawingValue) (lines : List LineValue) (rest : List ℕ) → MayFollow so_far lines
+    → ReadsOn version d (with_lines so_far lines) rest → ReadsOn version d so_far (flat_map line_text lines ++ rest)
+lines_read version d so_far [] rest may on number opened named =
+    let same : with_lines so_far [] ≡ so_far = ap (λ (lines : List LineValue). record so_far { lines = lines }) (append-nil so_far.lines) in
+    let Reads : DrawingValue → Type 0 = λ e. ReadsOn version d e rest in
+    subst Reads same on number opened named
+lines_read version d so_far (line ∷ lines) rest may on number opened named =
+    let one : DrawingValue = with_lines so_far (line ∷ []) in
+    let able : IsLine line.points = All-head (λ (l : LineValue). IsLine l.points) line lines may.able in
+    let inside : line.block ≡ length so_far.threads - 1 =
+    All-head (λ (l : LineValue). l.block ≡ length so_far.threads - 1) line lines may.inside in
+    let more : with_lines one lines ≡ with_lines so_far (line ∷ lines) =
+    ap (λ (all : List LineValue). record so_far { lines = all }) (append_assoc so_far.lines (line ∷ []) lines) in
+    let Reads : DrawingValue → Type 0 = λ e. ReadsOn version d e rest in
+    let next : ReadsOn version d one (flat_map line_text lines ++ rest) =
+    lines_read version d one lines rest (others_follow so_far line lines may) (subst Reads (sym more) on) in
+    let says = line_says version number opened named so_far line.points able (first_room so_far line lines may)
+    ∙ ap (λ (e : DrawingValue). Ok (draft_of named opened e)) (same_line so_far line inside) in
+    let text : flat_map line_text (line ∷ lines) ++ rest
+    ≡ codes "line" ++ (tail_of (coordinates line.points) ++ (flat_map line_text lines ++ rest)) =
+    ap (λ (all : List ℕ). all ++ rest) (flat_map-cons line_text line lines)
+    ∙ (append_assoc (line_text line) (flat_map line_text lines) rest
+    ∙ (append_assoc (codes "line") (points_text line.points) (flat_map line_text lines ++ rest)
+    ∙ ap (λ (tail : List ℕ). codes "line" ++ (tail ++ (flat_map line_text lines ++ rest))) (points_spelled line.points))) in
+    ap (λ (all : List ℕ). drawing_after_lines version number (draft_of named opened so_far) (words_by_line all)) text
+    ∙ (line_judged version number (draft_of named opened so_far) (draft_of named opened one) (codes "line") (coordinates line.points)
+    (flat_map line_text lines ++ rest) is_line (coordinates_are line.points able.in_range) says
+    ∙ next (number + 1) opened named)
+
+-- the drawing before its block of that index
+abbrev so_far : DrawingValue → List ℕ → ℕ → DrawingValue
+so_far d before block = record {
+  label = d.label;
+  step = d.step;
+  threads = before;
+  lines = lines_below block d.lines;
+  starts = [];
+  ends = [];
+}
+
+-- what passes a filter passes its test
+passes : (block : ℕ) (lines : List LineValue) → All (λ line. line.block ≡ block) (lines_of_block block lines)
+passes block lines = All-weaker (λ (l : LineValue). (l.block == block) ≡ true) (λ (l : LineValue). l.block ≡ block)
+    (λ l test. grind (arith, nat_tests, test)) (lines_of_block block lines)
+    (filter_passes (λ (l : LineValue). l.block == block) lines)
+
+-- what holds of all holds of one in the middle
+all_middle : (P : ℕ → Type 0) (before : List ℕ) (thread : ℕ) (left : List ℕ)
+    → All P (before ++ thread ∷ left) → P thread
+all_middle P [] thread left all = All-head P thread left all
+all_middle P (x ∷ before) thread left all =
+    all_middle P before thread left (All-tail P x (before ++ thread ∷ left) all)
+
+-- a list with an item is not empty
+filled : (b : ℕ) (rest : List ℕ) → b ∷ rest ≢ []
+filled b rest none = cc
+
+-- the drawing of text lines, the header among them
+abbrev said : List (List (List ℕ)) → Result DrawingValue DrawFault
+said lines = and_then (body_from 1 lines) (λ body. drawing_in_version body.version body)
+
+-- the last block of a drawing has a line
+last_filled : (d : DrawingValue) → KeepsDrawingLimits d → is_last_empty d ≡ false
+last_filled d keeps = last_by d (length d.threads - 1) true (omega (arith, keeps.blocks_from))
+    (found_used d.lines (length d.threads - 1) (keeps.used (length d.threads - 1) (omega (arith, keeps.blocks_from))))
+
+finished_whole : (d : DrawingValue) → KeepsDrawingLimits d → finished_drawing d ≡ Ok d
+finished_whole d keeps =
+    let some : (length d.threads == 0) ≡ false = grind (arith, nat_tests, keeps.blocks_from) in
+    rw (last_filled d keeps, some) refl
+
+-- a draft of the drawing means it
+abbrev Means : Version → DrawingValue → Type 0
+Means version d = (number opened : ℕ) (named : Bool) → drawing_of_draft version number (draft_of named opened d) ≡ Ok d
+
+-- a drawing that means itself
+module _ (version : Version) (d : DrawingValue) (keeps : KeepsDrawingLimits d) (unended : HasNoEnds d) (means : Means version d) where
+  -- at each block before the last one the block before has a line
+  filled_before : (before : List ℕ) (block : ℕ) → length before ≡ block → block < length d.threads
+      → is_last_empty (so_far d before block) ≡ false
+  filled_before before zero count there =
+      let none : (length before == 0) ≡ true = grind (arith, nat_tests, count) in
+      rw none refl
+  filled_before before (suc block) count there =
+      let next : suc block ≡ block + 1 = omega arith in
+      let used : list_any (λ (l : LineValue). l.block == block) (lines_below (suc block) d.lines) ≡ true =
+      ap (λ (n : ℕ). list_any (λ (l : LineValue). l.block == block) (lines_below n d.lines)) next
+      ∙ last_found d block keeps (omega (arith, there)) in
+      last_by (so_far d before (suc block)) block true (count ∙ next) used
+
+  -- the lines of the next block may come
+  fewer_lines : (block : ℕ) → length (lines_below block d.lines) ≤ length d.lines
+  fewer_lines block =
+      let test : LineValue → Bool = λ line. nat_lt line.block block in
+      omega (arith, length-filter_both test (λ line. not (test line)) (λ line. refl) d.lines)
+
+  fewer_by : (count : LineValue → ℕ) (block : ℕ) → sum_by count (lines_below block d.lines) ≤ sum_by count d.lines
+  fewer_by count block =
+      let test : LineValue → Bool = λ line. nat_lt line.block block in
+      omega (arith, sum_by-filter_both test (λ line. not (test line)) (λ line. refl) count d.lines)
+
+  block_follows : (before : List ℕ) (block thread : ℕ) → length before ≡ block
+      → MayFollow (with_new_block (so_far d before block) thread) (lines_of_block block d.lines)
+  block_follows before block thread count =
+      let longer = length-append before (thread ∷ []) in
+      let next = next_lines d block keeps in
+      let points : LineValue → ℕ = λ line. length line.points in
+      let steps : LineValue → ℕ = λ line. steps_of_line d.step line.points in
+      record {
+        block = omega (arith, longer);
+        inside = All-weaker (λ (l : LineValue). l.block ≡ block) (λ (l : LineValue). l.block ≡ length (before ++ thread ∷ []) - 1)
+            (λ l is. omega (arith, is, longer, count)) (lines_of_block block d.lines) (passes block d.lines);
+        able = All-filter (λ (l : LineValue). l.block == block) (λ (l : LineValue). IsLine l.points) d.lines keeps.lines;
+        count = omega (
+          arith,
+          ap (λ (lines : List LineValue). length lines) next,
+          length-append (lines_below block d.lines) (lines_of_block block d.lines),
+          fewer_lines (block + 1),
+          keeps.line_count,
+        );
+        points_to = omega (
+          arith,
+          ap (sum_by points) next,
+          sum_by-append points (lines_below block d.lines) (lines_of_block block d.lines),
+          fewer_by points (block + 1),
+          keeps.point_count,
+        );
+        steps_to = omega (
+          arith,
+          ap (sum_by steps) next,
+          sum_by-append steps (lines_below block d.lines) (lines_of_block block d.lines),
+          fewer_by steps (block + 1),
+          keeps.cost,
+        );
+      }
+
+  -- after the last block the drawing is complete
+  whole : (before : List ℕ) (block : ℕ) → length before ≡ block → before ++ [] ≡ d.threads → so_far d before block ≡ d
+  whole before block count are =
+      let threads : before ≡ d.threads = sym (append-nil before) ∙ are in
+      let all : block ≡ length d.threads = sym count ∙ ap (λ (list : List ℕ). length list) threads in
+      let Below : ℕ → Type 0 = λ n. All (λ (l : LineValue). l.block < n) d.lines in
+      let lines : lines_below block d.lines ≡ d.lines = all_below block d.lines (subst Below (sym all) keeps.there) in
+      ap (λ (list : List ℕ). so_far d list block) threads
+      ∙ (ap (λ (list : List LineValue). record d { lines = list; starts = []; ends = [] }) lines
+      ∙ ap₂ (λ (starts ends : List Spot). record d { starts = starts; ends = ends }) (sym unended.starts) (sym unended.ends))
+
+  -- printed blocks are read
+  blocks_read : (left before : List ℕ) (block : ℕ) → length before ≡ block → before ++ left ≡ d.threads
+      → ReadsOn version d (so_far d before block) (blocks_text block left d.lines)
+  blocks_read [] before block count are number opened named =
+      ap (λ (e : DrawingValue). drawing_of_draft version number (draft_of named opened e)) (whole before block count are)
+      ∙ means number opened named
+  blocks_read (thread ∷ left) before block count are number opened named =
+      let Threads : List ℕ → Type 0 = λ list. All (λ (t : ℕ). t < 256) list in
+      let fits : thread < 256 =
+      all_middle (λ (t : ℕ). t < 256) before thread left (subst Threads (sym are) keeps.threads) in
+      let size = ap (λ (list : List ℕ). length list) are in
+      let longer = length-append before (thread ∷ left) in
+      let there : block < length d.threads = omega (arith, size, longer, count) in
+      let filled = filled_before before block count there in
+      let room : length before < 255 = omega (arith, count, there, keeps.blocks_to) in
+      let next : List ℕ = before ++ thread ∷ [] in
+      let one : DrawingValue = with_new_block (so_far d before block) thread in
+      let behind : List ℕ = blocks_text (block + 1) left d.lines in
+      let after : ReadsOn version d (so_far d next (block + 1)) behind =
+      blocks_read left next (block + 1) (length-append before (thread ∷ []) ∙ omega (arith, count))
+      (append_assoc before (thread ∷ []) left ∙ are) in
+      let lines : so_far d next (block + 1) ≡ with_lines one (lines_of_block block d.lines) =
+      ap (λ (list : List LineValue). record (so_far d next block) { lines = list }) (next_lines d block keeps) in
+      let Reads : DrawingValue → Type 0 = λ e. ReadsOn version d e behind in
+      let inside : ReadsOn version d one (flat_map line_text (lines_of_block block d.lines) ++ behind) =
+      lines_read version d one (lines_of_block block d.lines) behind (block_follows before block thread count) (subst Reads lines after) in
+      let text : blocks_text block (thread ∷ left) d.lines
+      ≡ codes "color" ++ (tail_of (decimal thread ∷ []) ++ (flat_map line_text (lines_of_block block d.lines) ++ behind)) =
+      append_assoc (number_line_text (codes "color ") thread) (flat_map line_text (lines_of_block block d.lines)) behind in
+      ap (λ (all : List ℕ). drawing_after_lines version number (draft_of named opened (so_far d before block)) (words_by_line all)) text
+      ∙ (line_judged version number (draft_of named opened (so_far d before block)) (draft_of named number one) (codes "color")
+      (decimal thread ∷ []) (flat_map line_text (lines_of_block block d.lines) ++ behind) is_color
+      (decimal_word thread (omega (arith, fits)), tt) (color_says version number opened named
+      (so_far d before block) thread fits filled room)
+      ∙ inside (number + 1) number named)
+
+  -- the step, and then the blocks
+  abbrev step_text : List ℕ
+  step_text = number_line_text (codes "step ") d.step ++ blocks_text 0 d.threads d.lines
+
+  step_read : (number : ℕ) (named : Bool)
+      → drawing_after_lines version number (record empty_draft { named = named; drawing = record default_drawing { label = d.label } })
+      (words_by_line step_text)
+      ≡ Ok d
+  step_read number named =
+      let start : record default_drawing { label = d.label; step = d.step } ≡ so_far d [] 0 =
+      ap (λ (list : List LineValue). record (so_far d [] 0) { lines = list }) (sym (none_first d.lines)) in
+      let Reads : DrawingValue → Type 0 = λ e. ReadsOn version d e (blocks_text 0 d.threads d.lines) in
+      let blocks = subst Reads (sym start) (blocks_read d.threads [] 0 refl refl) in
+      let draft : DrawingDraft = record empty_draft { named = named; drawing = record default_drawing { label = d.label } } in
+      line_judged version number draft (draft_of named 0 (record default_drawing { label = d.label; step = d.step })) (codes "step")
+      (decimal d.step ∷ []) (blocks_text 0 d.threads d.lines) is_step
+      (decimal_word d.step (omega (arith, keeps.step_to)), tt) (step_says version number named d.label d.step keeps.step_from keeps.step_to)
+      ∙ blocks (number + 1) 0 named
+
+  -- the label, where there is one, and then the step
+  label_read : (label : List ℕ) → label ≡ d.label
+      → drawing_after_lines version 2 empty_draft (words_by_line (label_text label ++ step_text)) ≡ Ok d
+  label_read [] is =
+      let Reads : List ℕ → Type 0 = λ list. drawing_after_lines version 2
+      (record empty_draft { named = false; drawing = record default_drawing { label = list } }) (words_by_line step_text) ≡ Ok d in
+      subst Reads (sym is) (step_read 2 false)
+  label_read (b ∷ label) is =
+      let Label : List ℕ → Type 0 = λ list. IsLabel list in
+      let OneWord : List ℕ → Type 0 = λ list. All (λ (byte : ℕ). byte ≢ 32) list in
+      let allowed = subst Label (sym is) keeps.label in
+      let one_word = subst OneWord (sym is) keeps.one_word in
+      let some : (length (b ∷ label) == 0) ≡ false = grind (arith, nat_tests) in
+      let text : label_text (b ∷ label) ++ step_text ≡ codes "name" ++ (tail_of ((b ∷ label) ∷ []) ++ step_text) =
+      rw some refl in
+      let Reads : List ℕ → Type 0 = λ list. drawing_after_lines version 3
+      (record empty_draft { named = true; drawing = record default_drawing { label = list } }) (words_by_line step_text) ≡ Ok d in
+      ap (λ (all : List ℕ). drawing_after_lines version 2 empty_draft (words_by_line all)) text
+      ∙ (line_judged version 2 empty_draft (record empty_draft { named = true; drawing = record default_drawing { label = b ∷ label } })
+      (codes "name") ((b ∷ label) ∷ []) step_text is_name (label_word (b ∷ label) allowed one_word (filled b label), tt)
+      (name_says version (b ∷ label) allowed one_word)
+      ∙ subst Reads (sym is) (step_read 3 true))
+
+  -- and the header before them
+  body_read : (text : List ℕ) → drawing_of text
+      ≡ drawing_after_lines version 2 empty_draft (words_by_line (label_text d.label ++ step_text))
+      → drawing_of text ≡ Ok d
+  body_read text is = is ∙ label_read d.label refl
+
+-- in version 1 a drawing means itself, and in version 2 where its lines meet at ends alone
+pub spelling_read : (d : DrawingValue) → KeepsDrawingLimits d → HasNoEnds d → drawing_of (canonical_text d) ≡ Ok d
+spelling_read d keeps unended = body_read version.One d keeps unended means (canonical_text d)
+    (ap said (line_read (codes "redwork") (codes "1" ∷ []) (label_text d.label ++ step_text version.One d keeps unended means)
+    (record { filled = refl; inner = refl }) (record { filled = refl; inner = refl }, tt)))
+  where
+    means : Means version.One d
+    means number opened named = ap (at_line number opened) (finished_whole d keeps)
+
+pub spelling2_read : JoinedDrawingsStay → (d : DrawingValue) → KeepsDrawingLimits d → IsJoinedWithoutEnds d
+    → drawing_of (canonical_text2 d) ≡ Ok d
+spelling2_read stay d keeps is = body_read version.Two d keeps is.unended means (canonical_text2 d)
+    (ap said (line_read (codes "redwork") (codes "2" ∷ []) (label_text d.label ++ step_text version.Two d keeps is.unended means)
+    (record { filled = refl; inner = refl }) (record { filled = refl; inner = refl }, tt)))
+  where
+    means : Means version.Two d
+    means number opened named =
+        ap (λ (r : Result DrawingValue DrawKind). at_line number opened (and_then r joined_drawing)) (finished_whole d keeps)
+        ∙ ap (at_line number opened) (stay d keeps is.joined)

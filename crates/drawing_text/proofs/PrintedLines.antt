@@ -1,0 +1,188 @@
+-- The drafts after the lines of a canonical text.
+use Rattle.std.proofs.Common.{◌≡◌, ◌≢◌, ℕ, ◌+◌, ◌<◌, ◌≤◌, ◌==◌, Bool, true, false, nat_le, nat_lt, unsigned_abs, List, [], ◌∷◌, ◌++◌, Result, Ok, length, codes, All, ap, ◌∙◌, refl, append_assoc, arith}
+use Rattle.std.proofs.lemmas.Bool.{and_from, and_parts, false_from_ne_true, or_from}
+use Rattle.std.proofs.lemmas.Bool.Decides.{nat_tests}
+use Rattle.std.proofs.lemmas.List.Elements.{All-head, All-tail}
+use Rattle.std.proofs.lemmas.List.Sums.{list_all-from_AllPass}
+use Rattle.std.specs.Char.{is_ascii_graphic}
+use Rattle.std.specs.Fmt.{decimal, signed_decimal}
+use Rattle.std.specs.List.{list_all}
+use Rattle.design_model.specs.declared.point.Point.{Point}
+use Rattle.design_model.specs.Labels.{IsLabel, IsPrintable}
+use Rattle.design_model.specs.Points.{is_same_point, is_point_within}
+use Rattle.step_splitter.specs.Chains.{IsNeedlePoint, HasNoRepeatAfter}
+use Rattle.line_graph.specs.declared.draw_kind.DrawKind.{DrawKind}
+use Rattle.line_graph.specs.Drawings.{DrawingValue, HasNoRepeat, IsLine}
+use Rattle.line_graph.specs.GrowingDrawings.{and_then, all_in_needle_range, has_repeated_point, is_last_empty, point_count, repeats_after, step_count, with_new_block, with_new_line}
+use Rattle.line_graph.specs.Needles.{steps_of_line}
+use Rattle.drawing_text.proofs.Shapes.{same_is, within_parts}
+use Rattle.drawing_text.proofs.PrintedNumbers.{decimal_read, signed_read, signed_word}
+use Rattle.drawing_text.proofs.PrintedWords.{AreWords, IsWord, is_inner, line_read, tail_of}
+use Rattle.drawing_text.specs.declared.draft.DrawingDraft.{DrawingDraft}
+use Rattle.drawing_text.specs.DrawingText.{at_line, drawing_after_lines}
+use Rattle.drawing_text.specs.declared.version.Version.{Version}
+use Rattle.drawing_text.specs.CanonicalTexts.{points_text}
+use Rattle.drawing_text.specs.TextLines.{default_drawing, empty_draft, draft_after_words, parsed_points}
+use Rattle.drawing_text.specs.Words.{words_by_line}
+
+-- the next line is read, and then those after it
+pub line_judged : (version : Version) (number : ℕ) (draft next : DrawingDraft) (word : List ℕ) (words : List (List ℕ)) (rest : List ℕ)
+    → IsWord word
+    → AreWords words → draft_after_words version number draft (word ∷ words) ≡ Ok next
+    → drawing_after_lines version number draft (words_by_line (word ++ (tail_of words ++ rest)))
+    ≡ drawing_after_lines version (number + 1) next (words_by_line rest)
+line_judged version number draft next word words rest is are says =
+    ap (drawing_after_lines version number draft) (line_read word words rest is are)
+    ∙ ap (λ (answer : Result DrawingDraft DrawKind). and_then (at_line number draft.opened answer)
+    (λ (after : DrawingDraft). drawing_after_lines version (number + 1) after (words_by_line rest))) says
+
+-- a draft whose step was given
+abbrev pub draft_of : Bool → ℕ → DrawingValue → DrawingDraft
+draft_of named opened d = record { drawing = d; named = named; stepped = true; opened = opened; ends = [] }
+
+-- the words of the text
+pub is_name : IsWord (codes "name")
+is_name = record { filled = refl; inner = refl }
+
+pub is_step : IsWord (codes "step")
+is_step = record { filled = refl; inner = refl }
+
+pub is_color : IsWord (codes "color")
+is_color = record { filled = refl; inner = refl }
+
+pub is_line : IsWord (codes "line")
+is_line = record { filled = refl; inner = refl }
+
+-- the coordinates of points, as words
+abbrev pub coordinates : List Point → List (List ℕ)
+coordinates [] = []
+coordinates (p ∷ rest) = signed_decimal p.x ∷ signed_decimal p.y ∷ coordinates rest
+
+pub points_spelled : (points : List Point) → points_text points ≡ tail_of (coordinates points)
+points_spelled [] = refl
+points_spelled (p ∷ rest) =
+    append_assoc (32 ∷ signed_decimal p.x) (32 ∷ signed_decimal p.y) (points_text rest)
+    ∙ ap (λ more. 32 ∷ (signed_decimal p.x ++ (32 ∷ (signed_decimal p.y ++ more)))) (points_spelled rest)
+
+pub coordinates_are : (points : List Point) → All IsNeedlePoint points → AreWords (coordinates points)
+coordinates_are [] in_range = tt
+coordinates_are (p ∷ rest) in_range =
+    let within = within_parts 30000 p (All-head IsNeedlePoint p rest in_range) in (
+      signed_word p.x (omega (arith, within.0)),
+      (signed_word p.y (omega (arith, within.1)), coordinates_are rest (All-tail IsNeedlePoint p rest in_range)),
+    )
+
+-- they are read as the points
+pub points_read : (points : List Point) → All IsNeedlePoint points → parsed_points (coordinates points) ≡ Ok points
+points_read [] in_range = refl
+points_read (p ∷ rest) in_range =
+    let within = within_parts 30000 p (All-head IsNeedlePoint p rest in_range) in
+    let x : nat_le (unsigned_abs p.x) 30000 ≡ true = grind (arith, nat_tests, within.0) in
+    let y : nat_le (unsigned_abs p.y) 30000 ≡ true = grind (arith, nat_tests, within.1) in
+    rw (
+      signed_read p.x (omega (arith, within.0)),
+      x,
+      signed_read p.y (omega (arith, within.1)),
+      y,
+      points_read rest (All-tail IsNeedlePoint p rest in_range),
+    ) refl
+
+-- a line that moves repeats no point
+repeats_none : (p : Point) (rest : List Point) → HasNoRepeatAfter p rest → repeats_after p rest ≡ false
+repeats_none p [] moving = refl
+repeats_none p (q ∷ rest) moving =
+    or_from (is_same_point p q) (repeats_after q rest)
+    (false_from_ne_true (is_same_point p q) (λ found. moving.0 (same_is p q found))) (repeats_none q rest moving.1)
+
+no_repeat_found : (points : List Point) → HasNoRepeat points → has_repeated_point points ≡ false
+no_repeat_found [] moving = refl
+no_repeat_found (p ∷ rest) moving = repeats_none p rest moving
+
+-- points at which needles may go down are found in range
+in_range_found : (points : List Point) → All IsNeedlePoint points → all_in_needle_range points ≡ true
+in_range_found points in_range = list_all-from_AllPass (is_point_within 30000) points in_range
+
+-- there is room for a line
+pub record HasRoom (d : DrawingValue) (points : List Point) : Type 0 where
+  pub block : 1 ≤ length d.threads
+  pub lines : length d.lines < 1024
+  pub points_to : point_count d.lines + length points ≤ 65536
+  pub steps_to : step_count d.step d.lines + steps_of_line d.step points ≤ 200000
+
+-- the line of a text line is added to the drawing
+pub line_says : (version : Version) (number opened : ℕ) (named : Bool) (d : DrawingValue) (points : List Point) → IsLine points
+    → HasRoom d points
+    → draft_after_words version number (draft_of named opened d) (codes "line" ∷ coordinates points)
+    ≡ Ok (draft_of named opened (with_new_line d points))
+line_says version number opened named d points able room =
+    let begun : (length d.threads == 0) ≡ false = grind (arith, nat_tests, room.block) in
+    let long : nat_lt (length points) 2 ≡ false = grind (arith, nat_tests, able.long) in
+    let lines : (length d.lines == 1024) ≡ false = grind (arith, nat_tests, room.lines) in
+    let few : nat_lt 65536 (point_count d.lines + length points) ≡ false = grind (arith, nat_tests, room.points_to) in
+    let cheap : nat_lt 200000 (step_count d.step d.lines + steps_of_line d.step points) ≡ false =
+    grind (arith, nat_tests, room.steps_to) in
+    rw (
+      begun,
+      points_read points able.in_range,
+      in_range_found points able.in_range,
+      long,
+      no_repeat_found points able.moving,
+      lines,
+      few,
+      cheap,
+    ) refl
+
+-- the block of a text is added to the drawing
+pub color_says : (version : Version) (number opened : ℕ) (named : Bool) (d : DrawingValue) (thread : ℕ) → thread < 256
+    → is_last_empty d ≡ false
+    → length d.threads < 255
+    → draft_after_words version number (draft_of named opened d) (codes "color" ∷ decimal thread ∷ []) ≡ Ok (draft_of named number
+    (with_new_block d thread))
+color_says version number opened named d thread fits filled room =
+    let low : nat_le 0 thread ≡ true = grind (arith, nat_tests) in
+    let high : nat_le thread 255 ≡ true = grind (arith, nat_tests, fits) in
+    let few : (length d.threads == 255) ≡ false = grind (arith, nat_tests, room) in
+    rw (decimal_read thread (omega (arith, fits)), low, high, filled, few) refl
+
+-- a label is a word that may be one
+label_inner : (label : List ℕ) → list_all is_ascii_graphic label ≡ true → list_all is_inner label ≡ true
+label_inner [] graphic = refl
+label_inner (b ∷ label) graphic =
+    let both = and_parts (is_ascii_graphic b) (list_all is_ascii_graphic label) graphic in
+    and_from (is_inner b) (list_all is_inner label) (grind (arith, nat_tests, both.0)) (label_inner label both.1)
+
+label_graphic : (label : List ℕ) → All IsPrintable label → All (λ byte. byte ≢ 32) label
+    → list_all is_ascii_graphic label ≡ true
+label_graphic [] printable one_word = refl
+label_graphic (b ∷ label) printable one_word =
+    let here : IsPrintable b = All-head IsPrintable b label printable in
+    let no_space : b ≢ 32 = All-head (λ (byte : ℕ). byte ≢ 32) b label one_word in
+    and_from (is_ascii_graphic b) (list_all is_ascii_graphic label)
+    (grind (arith, nat_tests, here.from_space, here.to_tilde, no_space))
+    (label_graphic label (All-tail IsPrintable b label printable) (All-tail (λ (byte : ℕ). byte ≢ 32) b label one_word))
+
+-- a label that isn't empty is a word
+pub label_word : (label : List ℕ) → IsLabel label → All (λ byte. byte ≢ 32) label → label ≢ [] → IsWord label
+label_word [] is one_word some = absurd (some refl)
+label_word (b ∷ label) is one_word some = record {
+  filled = refl;
+  inner = label_inner (b ∷ label) (label_graphic (b ∷ label) is.printable one_word);
+}
+
+-- and it is set
+pub name_says : (version : Version) (label : List ℕ) → IsLabel label → All (λ byte. byte ≢ 32) label
+    → draft_after_words version 2 empty_draft (codes "name" ∷ label ∷ [])
+    ≡ Ok (record empty_draft { named = true; drawing = record default_drawing { label = label } })
+name_says version label is one_word =
+    let short : nat_le (length label) 16 ≡ true = grind (arith, nat_tests, is.short) in
+    rw (short, label_graphic label is.printable one_word) refl
+
+-- a step is set
+pub step_says : (version : Version) (number : ℕ) (named : Bool) (label : List ℕ) (step : ℕ) → 1 ≤ step → step ≤ 2047
+    → draft_after_words version number (record empty_draft { named = named; drawing = record default_drawing { label = label } })
+    (codes "step" ∷ decimal step ∷ [])
+    ≡ Ok (draft_of named 0 (record default_drawing { label = label; step = step }))
+step_says version number named label step from to =
+    let low : nat_le 1 step ≡ true = grind (arith, nat_tests, from) in
+    let high : nat_le step 2047 ≡ true = grind (arith, nat_tests, to) in
+    rw (decimal_read step (omega (arith, to)), low, high) refl

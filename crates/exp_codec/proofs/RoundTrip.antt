@@ -1,0 +1,106 @@
+-- What is written reads back.
+use Rattle.std.proofs.Common.{◌≡◌, ℕ, suc, ◌+◌, ◌-◌, ◌<◌, ◌≤◌, ◌≢◌, ℤ, pos, negsuc, neg_ℤ, unsigned_abs, nat_le, true, IsTrue, IsOkAnd, List, [], ◌∷◌, ◌++◌, None, refl, ap, sym, ◌∙◌, subst, arith}
+use Rattle.std.proofs.lemmas.Bool.{and_parts, leb-true, lt-ltb, le-ltb, ne_eqb}
+use Rattle.std.proofs.lemmas.Int.{ints}
+use Rattle.std.proofs.lemmas.List.{append-nil}
+use Rattle.design_model.specs.declared.point.Point.{Point}
+use Rattle.design_model.specs.Acts.{acts_of}
+use Rattle.design_model.specs.Designs.{DesignValue, KeepsLimits}
+use Rattle.design_model.specs.Points.{is_point_within, origin}
+use Rattle.format_traits.specs.declared.event.Event.TheVariants as event
+use Rattle.format_traits.specs.declared.loaded.Loaded.{Loaded}
+use Rattle.format_traits.specs.Laws.{HasSameActs, IsCodec}
+use Rattle.format_traits.specs.Readings.{loaded_with}
+use Rattle.format_traits.specs.Records.{next}
+use Rattle.format_traits.specs.Refusals.{first_refusal}
+use Rattle.format_traits.specs.RoundTrip.{EncodedEvents, DecodesEncoding, DecodeToActs, EncodedActsRoundTrip}
+use Rattle.exp_codec.proofs.UnitLemmas.{reads_units}
+use Rattle.exp_codec.specs.declared.exp.TheConstants.{LIMIT}
+use Rattle.exp_codec.specs.Format.{exp_meaning}
+use Rattle.exp_codec.specs.Units.{signed_byte, exp_move_of, units_from}
+use Rattle.exp_codec.specs.Writing.{byte_of_number, bytes_of_move, exp_encoding, exp_write_limits, exp_file_of}
+
+-- a number is decoded as it was encoded, and no encoded number is 80
+signed_byte-byte_of_number : (z : ℤ) → unsigned_abs z ≤ LIMIT → (signed_byte (byte_of_number z) ≡ z) × (byte_of_number z ≢ 0x80)
+signed_byte-byte_of_number (pos n) small =
+    let low : n < 128 = omega (arith, small) in
+    (rw (lt-ltb n 128 low) refl, λ is. omega (arith, is, low))
+signed_byte-byte_of_number (negsuc n) small =
+    let high : 128 ≤ 255 - n = omega (arith, small) in
+    let back : 256 - (255 - n) ≡ suc n = omega (arith, small) in
+    (rw (le-ltb (255 - n) 128 high) (ap (λ k. neg_ℤ (pos k)) back), λ is. omega (arith, is, small))
+
+opposite_twice : (z : ℤ) → neg_ℤ (neg_ℤ z) ≡ z
+opposite_twice z = omega (arith, ints)
+
+opposite_small : (z : ℤ) → unsigned_abs z ≤ LIMIT → unsigned_abs (neg_ℤ z) ≤ LIMIT
+opposite_small z small = omega (arith, ints, small)
+
+same_point : {x x' y y' : ℤ} → x ≡ x' → y ≡ y'
+    → (let p : Point = record { x = x; y = y } in p) ≡ (let q : Point = record { x = x'; y = y' } in q)
+same_point x y = cc
+
+-- the bytes of a move have it, and the first of them is not 80
+exp_move_of-step : (m : Point) → IsTrue (is_point_within LIMIT m)
+    → (exp_move_of (byte_of_number m.x) (byte_of_number (neg_ℤ m.y)) ≡ m) × (byte_of_number m.x ≢ 0x80)
+exp_move_of-step m near =
+    let parts = and_parts (nat_le (unsigned_abs m.x) LIMIT) (nat_le (unsigned_abs m.y) LIMIT) near in
+    let x = signed_byte-byte_of_number m.x (leb-true _ _ parts.0) in
+    let y = signed_byte-byte_of_number (neg_ℤ m.y) (opposite_small m.y (leb-true _ _ parts.1)) in
+    (same_point x.0 (ap neg_ℤ y.0 ∙ opposite_twice m.y), x.1)
+
+-- a stitch and what stands after it
+stitch_reads : (at : ℕ) (m : Point) (rest : List ℕ) → IsTrue (is_point_within LIMIT m)
+    → units_from at (bytes_of_move m ++ rest) ≡ next at (event.Stitch m) (units_from (at + 2) rest)
+stitch_reads at m rest near =
+    let step = exp_move_of-step m near in
+    two_behind at (byte_of_number m.x) (byte_of_number (neg_ℤ m.y)) rest step.1
+    ∙ ap (λ m. next at (event.Stitch m) (units_from (at + 2) rest)) step.0
+  where
+    two_behind : (at a b : ℕ) (rest : List ℕ) → a ≢ 0x80
+        → units_from at (a ∷ b ∷ rest) ≡ next at (event.Stitch (exp_move_of a b)) (units_from (at + 2) rest)
+    two_behind at a b [] other = rw (ne_eqb a 0x80 other) refl
+    two_behind at a b (c ∷ []) other = rw (ne_eqb a 0x80 other) refl
+    two_behind at a b (c ∷ d ∷ rest) other = rw (ne_eqb a 0x80 other) refl
+
+-- what the units are taken for
+abbrev taken : EncodedEvents
+taken = record { max_jumps = None; trim = event.Trim ∷ []; run = 0; stop = event.StopBy origin }
+
+rereads : DecodesEncoding (λ run. units_from) exp_encoding exp_write_limits taken
+rereads = record {
+  stitch = λ run at m rest near. stitch_reads at m rest near;
+  jump = λ run at m rest near. ap (λ m. next at (event.Jump m) (units_from (at + 4) rest)) (exp_move_of-step m near).0;
+  trim = λ at rest. (at, units_from (at + 4) rest, refl, refl);
+  stop = λ run at before rest. refl;
+  is_trim = record { cuts = refl; few = omega arith; back = refl; short = omega arith; within = refl };
+  is_stop = refl;
+  late = tt;
+  past = tt;
+  hops = refl;
+  limit = omega arith;
+}
+
+-- the file of a design decodes to its acts
+tells : EncodedActsRoundTrip → (d : DesignValue) → KeepsLimits d → first_refusal exp_write_limits (acts_of d) ≡ None
+    → DecodeToActs (units_from 0 (exp_file_of d)) (acts_of d) LIMIT
+tells law d limits passed = subst (λ bytes. DecodeToActs (units_from 0 bytes) (acts_of d) LIMIT) (append-nil (exp_file_of d))
+    (law (λ run. units_from) exp_encoding exp_write_limits taken rereads d limits passed 0 [] (λ run at. refl))
+
+-- EXP is a codec
+pub exp_is_codec : EncodedActsRoundTrip → IsCodec exp_meaning exp_write_limits exp_file_of
+exp_is_codec law = record {
+  limit = refl;
+  stops = λ count few. refl;
+  writes = λ d. refl;
+  again = λ d limits passed.
+      let t = tells law d limits passed in
+      let loaded : Loaded = record {
+        design = record { label = []; threads = []; commands = t.commands };
+        ended = true;
+      } in
+      let again : HasSameActs d loaded = record { acts = t.again; ended = refl } in
+      subst (λ result. IsOkAnd result (λ loaded. HasSameActs d loaded)) (sym (reads_units (exp_file_of d)))
+      (subst (λ result. IsOkAnd (loaded_with [] [] result) (λ loaded. HasSameActs d loaded)) (sym t.course) again);
+  within = λ d limits passed. (tells law d limits passed).within;
+}

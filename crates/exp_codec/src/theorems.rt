@@ -1,0 +1,13 @@
+ghost use Rattle.format_traits.specs.Laws.{KeepsAllLaws};
+ghost use Rattle.exp_codec.specs.Format.{exp_meaning};
+
+use format_traits::{codecs_keep_the_laws, encoded_acts_round_trip};
+
+/// Theorem: a written design reads back as the same acts, to its end, and moves within the limit; any plain
+/// design is written.
+pub fn written_reads_again()
+    ensures { KeepsAllLaws exp_meaning }
+{
+    encoded_acts_round_trip();
+    codecs_keep_the_laws();
+}

@@ -1,0 +1,92 @@
+-- The results of bytes that a decoder takes part by part.
+use Rattle.std.proofs.Common.{◌≡◌, ℕ, ◌+◌, ◌-◌, ◌≤◌, List, [], ◌++◌, length, drop, ap, sym, ◌∙◌, subst, arith, length-append, append_assoc, append-nil}
+use Rattle.std.proofs.Math.Seq.{drop-append-add}
+use Rattle.std.proofs.lemmas.List.{length-drop}
+use Rattle.format_traits.specs.DecoderStates.{ContinuesAs, IsSameDecoderState, IsAtRecordBoundary, PassesChunk, DecodedSoFar, DecoderState, TakesBytes}
+
+-- after no header is the whole file
+pub same_behind : (fresh new : DecoderState) (header : ℕ) → header ≡ 0 → ((at : ℕ) → ContinuesAs fresh new at (at + header) [] [])
+    → IsSameDecoderState new fresh
+same_behind fresh new header none on =
+    let here : (at : ℕ) → at + header ≡ at = λ at. omega (arith, none) in
+    record {
+      rest = λ at bytes. sym ((on at).rest bytes ∙ ap (λ n. new.rest n bytes) (here at));
+      decoded = λ at bytes. sym ((on at).decoded bytes ∙ ap (λ n. new.decoded n bytes) (here at));
+    }
+
+-- what is taken after a header that is whole
+pub takes_behind : (fresh middle new : DecoderState) (so_far : DecodedSoFar) (at least header size : ℕ) (bytes front back : List ℕ)
+    → bytes ≡ front ++ back → length front ≡ header → least ≡ header → ContinuesAs fresh middle at (at + least) front []
+    → TakesBytes middle new so_far (at + header) back size → TakesBytes fresh new so_far at bytes (header + size)
+takes_behind fresh middle new so_far at least header size bytes front back whole of_header of_least entered takes =
+    let on : ContinuesAs fresh middle at (at + header) front [] =
+    subst (λ n. ContinuesAs fresh middle at (at + n) front []) of_least entered in
+    let parts : length bytes ≡ header + length back =
+    ap length whole ∙ length-append front back ∙ ap (λ n. n + length back) of_header in
+    let there = takes.there in
+    let few = takes.few in
+    let far : at + (header + size) ≡ (at + header) + size = omega arith in
+    let left : drop (header + size) bytes ≡ drop size back =
+    ap (drop (header + size)) whole ∙ ap (λ n. drop (n + size) (front ++ back)) (sym of_header) ∙ drop-append-add front back size in
+    record {
+      there = omega (arith, parts, there);
+      few = omega (arith, parts, few);
+      on = record {
+        rest = λ more. ap (λ bytes. fresh.rest at (bytes ++ more)) whole ∙ ap (fresh.rest at) (append_assoc front back more)
+            ∙ on.rest (back ++ more) ∙ takes.on.rest more
+            ∙ ap (λ n. new.rest n (drop size back ++ more)) (sym far)
+            ∙ ap (λ left. new.rest (at + (header + size)) (left ++ more)) (sym left);
+        decoded = λ more. ap (λ bytes. fresh.decoded at (bytes ++ more)) whole ∙ ap (fresh.decoded at) (append_assoc front back more)
+            ∙ on.decoded (back ++ more) ∙ takes.on.decoded more
+            ∙ ap (λ n. new.decoded n (drop size back ++ more)) (sym far)
+            ∙ ap (λ left. new.decoded (at + (header + size)) (left ++ more)) (sym left);
+      };
+      settled = subst (λ n. IsAtRecordBoundary new so_far n (drop (header + size) bytes)) (sym far)
+          (subst (λ left. IsAtRecordBoundary new so_far ((at + header) + size) left) (sym left) takes.settled);
+    }
+
+-- bytes are taken off those that are pending, and others stand after them
+pub passes_on : {old middle new : DecoderState} {so_far : DecodedSoFar} (start at size : ℕ) (whole pending rest left behind : List ℕ)
+    → ContinuesAs old middle start at whole (pending ++ rest) → TakesBytes middle new so_far at pending size
+    → left ++ behind ≡ drop size pending ++ rest → ContinuesAs old new start (at + size) whole (left ++ behind)
+passes_on {old} {middle} {new} start at size whole pending rest left behind on takes same = record {
+  rest = λ more. on.rest more ∙ ap (middle.rest at) (append_assoc pending rest more) ∙ takes.on.rest (rest ++ more)
+      ∙ ap (new.rest (at + size)) (sym (append_assoc (drop size pending) rest more))
+      ∙ ap (λ bytes. new.rest (at + size) (bytes ++ more)) (sym same);
+  decoded = λ more. on.decoded more ∙ ap (middle.decoded at) (append_assoc pending rest more) ∙ takes.on.decoded (rest ++ more)
+      ∙ ap (new.decoded (at + size)) (sym (append_assoc (drop size pending) rest more))
+      ∙ ap (λ bytes. new.decoded (at + size) (bytes ++ more)) (sym same);
+}
+
+-- nothing stands after what is left
+pub passes_end : {old middle new : DecoderState} {so_far : DecodedSoFar} (start at size : ℕ) (before piece pending rest left : List ℕ)
+    → ContinuesAs old middle start at (before ++ piece) (pending ++ rest) → TakesBytes middle new so_far at pending size
+    → rest ≡ [] → left ≡ drop size pending → (at + length pending) + length rest ≡ (start + length before) + length piece
+    → start ≤ at → PassesChunk old new so_far start before piece left
+passes_end {old} {middle} {new} {so_far} start at size before piece pending rest left on takes none of_left sum up =
+    let no_more : length rest ≡ 0 = ap length none in
+    let there = takes.there in
+    let fewer : length left ≡ length pending - size = ap length of_left ∙ length-drop size pending in
+    let on_left : ContinuesAs old new start (at + size) (before ++ piece) left =
+    subst (λ bytes. ContinuesAs old new start (at + size) (before ++ piece) bytes) (append-nil left)
+    (passes_on start at size (before ++ piece) pending rest left [] on takes
+    (ap (λ bytes. bytes ++ []) of_left ∙ ap (λ bytes. drop size pending ++ bytes) (sym none))) in
+    let here : (there : ℕ) → there + length left ≡ (start + length before) + length piece → at + size ≡ there =
+    λ there is. omega (arith, is, sum, no_more, fewer, takes.there) in
+    record {
+      few = omega (arith, sum, no_more, fewer, there, up);
+      on = λ there is. subst (λ n. ContinuesAs old new start n (before ++ piece) left) (here there is) on_left;
+      settled = λ there is. subst (λ n. IsAtRecordBoundary new so_far n left) (here there is)
+          (subst (λ bytes. IsAtRecordBoundary new so_far (at + size) bytes) (sym of_left) takes.settled);
+    }
+
+-- no byte is lost between those that are left and those that are added
+pub passes_sum : (start at size : ℕ) (before piece pending rest left behind : List ℕ)
+    → (at + length pending) + length rest ≡ (start + length before) + length piece → size ≤ length pending
+    → left ++ behind ≡ drop size pending ++ rest
+    → ((at + size) + length left) + length behind ≡ (start + length before) + length piece
+passes_sum start at size before piece pending rest left behind sum there same =
+    let parts : length left + length behind ≡ length (drop size pending) + length rest =
+    sym (length-append left behind) ∙ ap length same ∙ length-append (drop size pending) rest in
+    let fewer = length-drop size pending in
+    omega (arith, sum, there, parts, fewer)

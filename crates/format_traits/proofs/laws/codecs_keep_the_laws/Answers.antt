@@ -1,5 +1,0 @@
-use Rattle.format_traits.proofs.rereading.Again.{codecs_keep_laws}
-use Rattle.format_traits.proofs.laws.codecs_keep_the_laws.Goals as goal
-
-pub returns : goal.returns
-returns c = codecs_keep_laws

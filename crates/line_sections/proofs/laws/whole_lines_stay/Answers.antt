@@ -1,5 +1,0 @@
-use Rattle.line_sections.proofs.WholeLemmas.{whole_same}
-use Rattle.line_sections.proofs.laws.whole_lines_stay.Goals as goal
-
-pub returns : goal.returns
-returns c = whole_same

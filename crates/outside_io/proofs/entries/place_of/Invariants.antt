@@ -1,5 +1,0 @@
-use Rattle.outside_io.proofs.EntryPlaces.{Passed}
-use Rattle.outside_io.proofs.entries.place_of.Given as goal
-
-abbrev pub invariant-loop-place : goal.invariant-loop-place
-invariant-loop-place l = Passed l.entries l.name l.place

@@ -1,0 +1,106 @@
+-- Formats whose files are a front and a block.
+use Rattle.std.proofs.Common.{◌≡◌, ℕ, ◌≤◌, true, false, drop, IsTrue, nat_lt, List, [], ◌++◌, length, Result, Ok, Err, IfOk, IsOk, IsOkAnd, if◌then◌else◌, refl, ap, sym, subst, arith, length-append}
+use Rattle.std.proofs.lemmas.Bool.{le-ltb}
+use Rattle.std.specs.List.{list_all}
+use Rattle.design_model.specs.Designs.{DesignValue}
+use Rattle.design_model.specs.Points.{is_point_within}
+use Rattle.format_traits.specs.declared.fault.ReadFault.{ReadFault}
+use Rattle.format_traits.specs.declared.fault.WriteFault.{WriteFault}
+use Rattle.format_traits.specs.declared.loaded.Loaded.{Loaded}
+use Rattle.format_traits.specs.Laws.{HasSameActs, KeepsLaws, MovesWithin, RoundTrips}
+use Rattle.format_traits.specs.Layouts.{layout_reads}
+use Rattle.format_traits.specs.Meanings.{Meaning}
+use Rattle.format_traits.specs.PlainDesigns.{IsPlain}
+use Rattle.pec_codec.specs.declared.block.TheConstants.{LIMIT}
+use Rattle.pec_codec.specs.Laws.{RestoresDesign, KeepsBlockLaws, BlockRoundTrips}
+use Rattle.pec_codec.specs.Reading.{pec_block_layout, pec_block_moves, pec_block_reads}
+use Rattle.pec_codec.specs.Writing.{pec_block_writes}
+use Rattle.pes_codec.specs.declared.front.TheConstants.{OFFSET_END}
+use Rattle.pes_codec.specs.Files.{pec_front, pes_front}
+use Rattle.pes_codec.specs.Formats.{pec_meaning, pes_meaning}
+use Rattle.pes_codec.specs.Laws.{RoundTripsWithThreads}
+use Rattle.pes_codec.specs.Fronts.{FrontLayout, pec_front_layout, pes_front_layout, file_reads_from}
+use Rattle.pes_codec.specs.Writing.{after_front}
+
+-- the files of a format are a front and a block, and read as the block
+pub record IsBehind (m : Meaning) (front : List ℕ) : Type 0 where
+  pub limit : m.limit ≡ LIMIT
+  pub writes : (d : DesignValue) → m.writes d ≡ after_front front (pec_block_writes d)
+  pub reads : (block : List ℕ) → m.reads (front ++ block) ≡ pec_block_reads (length front) (front ++ block)
+  pub moves : (block : List ℕ) → m.moves (front ++ block) ≡ pec_block_moves (length front) (front ++ block)
+
+-- what holds of a block that is written, holds of its file
+if_behind : (front : List ℕ) (P Q : List ℕ → Type 0) → ((block : List ℕ) → Q block → P (front ++ block))
+    → (r : Result (List ℕ) WriteFault) → IfOk r Q → IfOk (after_front front r) P
+if_behind front P Q holds (Ok block) is = holds block is
+if_behind front P Q holds (Err f) is = tt
+
+ok_behind : (front : List ℕ) (r : Result (List ℕ) WriteFault) → IsOk r → IsOk (after_front front r)
+ok_behind front (Ok block) ok = ok
+ok_behind front (Err f) ok = ok
+
+again_from : (d : DesignValue) (result : Result Loaded ReadFault) → IsOkAnd result (λ loaded. RestoresDesign d loaded)
+    → IsOkAnd result (λ loaded. HasSameActs d loaded)
+again_from d (Ok loaded) back = back.again
+again_from d (Err f) back = back
+
+-- what a block reads as, its file does
+whole_file : (m : Meaning) (front : List ℕ) → IsBehind m front → (d : DesignValue) (block : List ℕ)
+    → ((before : List ℕ) → BlockRoundTrips d block before)
+    → RoundTripsWithThreads m d (front ++ block)
+whole_file m front is d block back =
+    subst (λ result. IsOkAnd result (λ loaded. RestoresDesign d loaded)) (sym (is.reads block)) (back front).read
+
+pub keeps_laws : (m : Meaning) (front : List ℕ) → IsBehind m front → (d : DesignValue) → KeepsBlockLaws d → KeepsLaws m d
+keeps_laws m front is d laws = record {
+  again = subst (λ r. IfOk r (λ bytes. RoundTrips m d bytes)) (sym (is.writes d))
+      (if_behind front (λ bytes. RoundTrips m d bytes) (λ block. (before : List ℕ) → BlockRoundTrips d block before)
+      (λ block back. again_from d (m.reads (front ++ block)) (whole_file m front is d block back)) (pec_block_writes d) laws.back);
+  within = subst (λ r. IfOk r (λ bytes. MovesWithin m bytes)) (sym (is.writes d))
+      (if_behind front (λ bytes. MovesWithin m bytes) (λ block. (before : List ℕ) → BlockRoundTrips d block before)
+      (λ block back.
+      subst (λ limit. IsTrue (list_all (λ move. is_point_within limit move) (m.moves (front ++ block)))) (sym is.limit)
+      (subst (λ moves. IsTrue (list_all (λ move. is_point_within LIMIT move) moves)) (sym (is.moves block)) (back front).within))
+      (pec_block_writes d) laws.back);
+  plain = λ plain. subst (λ r. IsOk r) (sym (is.writes d))
+      (ok_behind front (pec_block_writes d) (laws.plain (subst (λ limit. IsPlain limit d) is.limit plain)));
+}
+
+pub reads_whole : (m : Meaning) (front : List ℕ) → IsBehind m front → (d : DesignValue) → KeepsBlockLaws d
+    → IfOk (m.writes d) (λ bytes. RoundTripsWithThreads m d bytes)
+reads_whole m front is d laws =
+    subst (λ r. IfOk r (λ bytes. RoundTripsWithThreads m d bytes)) (sym (is.writes d))
+    (if_behind front (λ bytes. RoundTripsWithThreads m d bytes)
+    (λ block. (before : List ℕ) → BlockRoundTrips d block before) (whole_file m front is d) (pec_block_writes d) laws.back)
+
+-- a front that is known, and the block after it
+behind_front : (front_layout : FrontLayout) (front block : List ℕ) → front_layout.known (front ++ block) ≡ true
+    → front_layout.length ≤ length front → front_layout.block (front ++ block) ≡ length front
+    → file_reads_from front_layout 0 (front ++ block) ≡ pec_block_reads (length front) (front ++ block)
+behind_front front_layout front block known long is =
+    let bytes = front ++ block in
+    let both = length-append front block in
+    let whole : front_layout.length ≤ length bytes = omega (arith, long, both) in
+    let there : length front ≤ length bytes = omega (arith, both) in
+    rw (known, le-ltb (length bytes) front_layout.length whole, is, le-ltb (length bytes) (length front) there)
+    (ap (λ n. layout_reads pec_block_layout n (drop (length front) bytes)) (omega arith))
+
+pub pec_is_behind : IsBehind pec_meaning pec_front
+pec_is_behind = record {
+  limit = refl;
+  writes = λ d. refl;
+  reads = λ block. behind_front pec_front_layout pec_front block refl (omega arith) refl;
+  moves = λ block. refl;
+}
+
+-- a written PES file contains the offset of its block
+long_front : (block : List ℕ) → nat_lt (length (pes_front ++ block)) OFFSET_END ≡ false
+long_front block = le-ltb (length (pes_front ++ block)) OFFSET_END (omega (arith, length-append pes_front block))
+
+pub pes_is_behind : IsBehind pes_meaning pes_front
+pes_is_behind = record {
+  limit = refl;
+  writes = λ d. refl;
+  reads = λ block. behind_front pes_front_layout pes_front block refl (omega arith) refl;
+  moves = λ block. ap (λ short. if short then [] else pec_block_moves 22 (pes_front ++ block)) (long_front block);
+}

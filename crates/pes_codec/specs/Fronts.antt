@@ -1,0 +1,65 @@
+-- The front of a file: the bytes by which its format is recognised, and which contain the offset of
+-- its block.
+use Rattle.std.specs.Prelude.{ℕ, ◌+◌, List, [], Bool, length, drop, nat_lt, Result, Err, if◌then◌else◌}
+use Rattle.design_model.specs.declared.command.Command.{Command}
+use Rattle.format_traits.specs.declared.fault.ReadFault.{ReadFault}
+use Rattle.format_traits.specs.declared.fault.ReadFault.TheVariants as fault
+use Rattle.format_traits.specs.declared.loaded.Loaded.{Loaded}
+use Rattle.format_traits.specs.Layouts.{layout_decoded, layout_reads}
+use Rattle.pec_codec.specs.Reading.{pec_block_layout}
+use Rattle.pes_codec.specs.declared.front.TheConstants.{OFFSET_END, PEC_BLOCK_OFFSET}
+use Rattle.pes_codec.specs.Files.{block_offset_in, is_pec_file, is_pes_file}
+
+-- The layout of a front: its length, the test that recognises the format, and the offset of the
+-- block.
+pub record FrontLayout : Type 0 where
+  pub length : ℕ
+  pub known : List ℕ → Bool
+  pub block : List ℕ → ℕ
+
+-- The front of a PEC file, whose block has a fixed offset.
+abbrev pub pec_front_layout : FrontLayout
+pec_front_layout = record {
+  length = PEC_BLOCK_OFFSET;
+  known = is_pec_file;
+  block = λ bytes.
+      PEC_BLOCK_OFFSET;
+}
+
+-- The front of a PES file, which contains the offset of the block. The block may begin within the
+-- front.
+abbrev pub pes_front_layout : FrontLayout
+pes_front_layout = record { length = OFFSET_END; known = is_pes_file; block = block_offset_in }
+
+-- The result of bytes at an offset, of which the first `skip` are before the block.
+abbrev pub reads_after_skip : ℕ → ℕ → List ℕ → Result Loaded ReadFault
+reads_after_skip skip at bytes =
+    if nat_lt (length bytes) skip then Err (fault.Short (at + length bytes))
+    else layout_reads pec_block_layout (at + skip) (drop skip bytes)
+
+-- The commands of bytes at an offset, of which the first `skip` are before the block.
+abbrev pub decoded_after_skip : ℕ → ℕ → List ℕ → List Command
+decoded_after_skip skip at bytes =
+    if nat_lt (length bytes) skip then [] else layout_decoded pec_block_layout (at + skip)
+    (drop skip bytes)
+
+-- The result of a file whose first byte has the offset `at`.
+abbrev pub file_reads_from : FrontLayout → ℕ → List ℕ → Result Loaded ReadFault
+file_reads_from front_layout at bytes =
+    if front_layout.known bytes
+    then (if nat_lt (length bytes) front_layout.length then Err (fault.Short (at + length bytes))
+    else reads_after_skip (front_layout.block bytes) at bytes)
+    else Err (fault.Signature at)
+
+-- The commands of a file whose first byte has the offset `at`.
+abbrev pub file_decoded_from : FrontLayout → ℕ → List ℕ → List Command
+file_decoded_from front_layout at bytes =
+    if front_layout.known bytes
+    then (if nat_lt (length bytes) front_layout.length then []
+    else decoded_after_skip (front_layout.block bytes) at bytes)
+    else []
+
+-- The refusal of a file that ends in its front.
+abbrev pub front_fault : FrontLayout → ℕ → List ℕ → ReadFault
+front_fault front_layout at bytes =
+    if front_layout.known bytes then fault.Short (at + length bytes) else fault.Signature at

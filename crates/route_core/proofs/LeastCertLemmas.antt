@@ -1,0 +1,146 @@
+-- The certificate that is made for a piece proves its walk least, and can be printed.
+use Rattle.std.proofs.Common.{◌≡◌, ◌≢◌, ◌≤◌, ◌<◌, ℕ, ◌+◌, ◌*◌, ◌^◌, ◌==◌, Bool, true, false, cond, nat_lt, List, [], ◌∷◌, length, get_or, Option, Some, None, All, arith, refl, sym, ◌∙◌, ap, subst}
+use Rattle.std.proofs.lemmas.Bool.Decides.{nat_tests}
+use Rattle.std.proofs.lemmas.Bool.{and_parts}
+use Rattle.std.proofs.lemmas.List.Elements.{All-cons, All-filter, All-from_get_or, All-get_or}
+use Rattle.std.proofs.lemmas.List.FromFn.{get_or-range_with_len, length-range_with_len}
+use Rattle.std.proofs.lemmas.List.Kept.{AllPairs-filter}
+use Rattle.std.specs.List.{range_with_len}
+use Rattle.blossom_match.specs.declared.matching.Moat.{Moat}
+use Rattle.blossom_match.specs.declared.matching.Pair.{Pair}
+use Rattle.blossom_match.specs.Matchings.{width_of}
+use Rattle.cut_certificate.specs.declared.certificate.PieceCert.{PieceCert}
+use Rattle.cut_certificate.specs.declared.cut.Cut.{Cut}
+use Rattle.cut_certificate.specs.PackingBounds.{BoundsTotal, ProvesLeast}
+use Rattle.cut_certificate.specs.Certificates.{HasCanonicalText}
+use Rattle.cut_certificate.specs.Cuts.{total_weight}
+use Rattle.cut_certificate.specs.Lifts.{IsLifted}
+use Rattle.cut_certificate.specs.Packings.{IsOddCut}
+use Rattle.line_graph.specs.declared.edge.Edge.{Edge}
+use Rattle.line_graph.specs.declared.limits.TheConstants.{MAX_COST, MAX_LINES}
+use Rattle.line_graph.specs.declared.pass.Pass.{Pass}
+use Rattle.line_graph.specs.ValidPieces.{IsValidPiece, all_below}
+use Rattle.line_graph.specs.PieceGraphs.{PieceValue, is_odd_junction, odd_junctions}
+use Rattle.line_graph.specs.PieceWalks.{after_edge, are_same_junction, required_start, covers, edge_of, required_end, is_walk_start_to_end, piece_cost, walk_cost, walk_end_from}
+use Rattle.odd_paths.specs.LeastRows.{AreTerminals, RowsValue}
+use Rattle.route_core.specs.Copies.{pair_costs}
+use Rattle.route_core.specs.OddPairs.{AreOddPairs, IsWalkBy}
+use Rattle.route_core.specs.PieceCertificates.{CertifiesLeastWalk}
+
+-- the odd junctions are different junctions
+pub odds_are_terminals : (p : PieceValue) → AreTerminals p (odd_junctions p)
+odds_are_terminals p = record {
+  different = AllPairs-filter (λ (t u : ℕ). t ≢ u) (is_odd_junction p) (range_with_len 0 (length p.junctions))
+      (λ i. λ j. λ d. λ less. λ below.
+      differ (length p.junctions) i j d less (subst (λ (n : ℕ). j < n) (length-range_with_len 0 (length p.junctions)) below));
+  there = All-filter (is_odd_junction p) (λ (t : ℕ). t < length p.junctions) (range_with_len 0 (length p.junctions))
+      (All-from_get_or (λ (t : ℕ). t < length p.junctions) (range_with_len 0 (length p.junctions)) 0 (λ i. λ below.
+      let within = subst (λ (n : ℕ). i < n) (length-range_with_len 0 (length p.junctions)) below in
+      omega (arith, get_or-range_with_len 0 (length p.junctions) i 0 within, within)));
+}
+  where
+    differ : (n i j d : ℕ) → i < j → j < n → get_or (range_with_len 0 n) i d ≢ get_or (range_with_len 0 n) j d
+    differ n i j d less below same =
+        omega (arith, less, get_or-range_with_len 0 n i d (omega (arith, less, below)), get_or-range_with_len 0 n j d below, same)
+
+-- least walks between the pairs cost no more than the lines
+pub pairs_cost_few : (p : PieceValue) → IsValidPiece p → BoundsTotal
+    → (rows : RowsValue) (pairs : List Pair) (moats : List Moat) (cuts : List Cut)
+    → AreOddPairs p rows pairs moats → IsLifted p moats cuts → pair_costs rows pairs ≤ MAX_COST
+pairs_cost_few p kept law rows pairs moats cuts matched lifted =
+    few (total_weight cuts) (width_of moats) (pair_costs rows pairs) (piece_cost p)
+    (law p cuts kept lifted.packing) lifted.total matched.paid kept.cost_few
+  where
+    few : (t w k c : ℕ) → t ≤ 2 * c → t ≡ w → w ≡ 2 * k → c ≤ 200000 → k ≤ 200000
+    few t w k c a b d e = omega arith
+
+pub proves : (p : PieceValue) → IsValidPiece p → ProvesLeast → (rows : RowsValue) (pairs : List Pair) (moats : List Moat) (cert : PieceCert)
+    → AreOddPairs p rows pairs moats → IsLifted p moats cert.cuts → IsWalkBy p rows pairs cert.walk → cert.retraced ≡ pair_costs rows pairs
+    → CertifiesLeastWalk p cert
+proves p kept law rows pairs moats cert matched lifted walk retraced = record {
+  fitting = walk.fitting;
+  begins = walk.begins;
+  retraced = walk.costs ∙ ap (λ (k : ℕ). piece_cost p + k) (sym retraced);
+  packing = lifted.packing;
+  total = lifted.total ∙ matched.paid ∙ ap (λ (k : ℕ). 2 * k) (sym retraced);
+  least = law p cert.cuts cert.walk kept lifted.packing
+      (twice (total_weight cert.cuts) (width_of moats) (pair_costs rows pairs) (piece_cost p)
+      (walk_cost p cert.walk) lifted.total matched.paid walk.costs);
+}
+  where
+    twice : (t w k c v : ℕ) → t ≡ w → w ≡ 2 * k → v ≡ c + k → t + 2 * c ≡ 2 * v
+    twice t w k c v a b d = omega arith
+
+-- the line of an edge is one of the lines
+line_below : (n : ℕ) (ns : List ℕ) (es : List Edge) (line : ℕ) (e : Edge) → all_below n ns ≡ true → edge_of ns es line ≡ Some e → line < n
+line_below n [] es line e below is = absurd (cc)
+line_below n (m ∷ ns) [] line e below is = absurd (cc)
+line_below n (m ∷ ns) (x ∷ es) line e below is =
+    let parts = and_parts (nat_lt m n) (all_below n ns) below in
+    by_test (line == m) refl is (λ h. line_below n ns es line e parts.1 h)
+  where
+    less : (line m n : ℕ) → (line == m) ≡ true → nat_lt m n ≡ true → line < n
+    less line m n is below = grind (arith, nat_tests)
+
+    by_test : (t : Bool) → (line == m) ≡ t → cond t (Some x) (edge_of ns es line) ≡ Some e → (edge_of ns es line ≡ Some e → line < n)
+        → line < n
+    by_test true here is more = less line m n here (and_parts (nat_lt m n) (all_below n ns) below).0
+    by_test false other is more = more is
+
+lost : (ns : List ℕ) (es : List Edge) (ps : List Pass) (to : ℕ) → walk_end_from ns es None ps ≡ Some to → ⊥
+lost ns es [] to is = cc
+lost ns es (p ∷ ps) to is = lost ns es ps to is
+
+-- the passes of a walk go along lines of the piece
+passes_below : (n : ℕ) (ns : List ℕ) (es : List Edge) → all_below n ns ≡ true → (at : Option ℕ) (ps : List Pass) (to : ℕ)
+    → walk_end_from ns es at ps ≡ Some to
+    → All (λ (pass : Pass). pass.line < n) ps
+passes_below n ns es below at [] to is = λ i. λ d. λ none. absurd (omega (arith, none))
+passes_below n ns es below None (p ∷ ps) to is = absurd (lost ns es ps to is)
+passes_below n ns es below (Some at) (p ∷ ps) to is = by_edge (edge_of ns es p.line) refl is
+    (λ next. λ h. passes_below n ns es below next ps to h)
+  where
+    by_edge : (found : Option Edge) → edge_of ns es p.line ≡ found → walk_end_from ns es (after_edge found p.back at) ps ≡ Some to
+        → ((next : Option ℕ) → walk_end_from ns es next ps ≡ Some to → All (λ (pass : Pass). pass.line < n) ps)
+        → All (λ (pass : Pass). pass.line < n) (p ∷ ps)
+    by_edge None here is more = absurd (lost ns es ps to is)
+    by_edge (Some e) here is more =
+        All-cons (λ (pass : Pass). pass.line < n) p ps (line_below n ns es p.line e below here) (more (after_edge (Some e) p.back at) is)
+
+somewhere : (x y : Option ℕ) → are_same_junction x y ≡ true → (to : ℕ) × (x ≡ Some to)
+somewhere None y is = absurd (cc)
+somewhere (Some a) y is = (a, refl)
+
+pub spelled : (p : PieceValue) → IsValidPiece p → (rows : RowsValue) (pairs : List Pair) (moats : List Moat) (cert : PieceCert)
+    → IsLifted p moats cert.cuts → IsWalkBy p rows pairs cert.walk → HasCanonicalText cert
+spelled p kept rows pairs moats cert lifted walk = record {
+  some = some cert.walk walk.some;
+  passes = few_passes cert.walk (passes_below MAX_LINES p.lines p.edges kept.lines_below (required_start p cert.walk) cert.walk there.0
+      there.1);
+  plain = lifted.plain;
+  members = All-from_get_or (λ (cut : Cut). All (λ j. j + 1 < 2 ^ 32) cut.members) cert.cuts (record { weight = 0; members = [] })
+      (λ i. λ below.
+      let cut = All-get_or (IsOddCut p) cert.cuts i (record { weight = 0; members = [] }) below lifted.packing.odd in
+      few_members (length p.junctions) (length p.lines) (get_or cert.cuts i (record { weight = 0; members = [] })).members
+      kept.junctions_few kept.few cut.there);
+}
+  where
+    there : (to : ℕ) × (walk_end_from p.lines p.edges (required_start p cert.walk) cert.walk ≡ Some to)
+    there = somewhere (walk_end_from p.lines p.edges (required_start p cert.walk) cert.walk) (required_end p cert.walk)
+        (and_parts (is_walk_start_to_end p cert.walk) (covers p.lines cert.walk) walk.fitting).0
+
+    some : (ps : List Pass) → 1 ≤ length ps → ps ≢ []
+    some [] h is = omega arith
+    some (p ∷ ps) h is = cc
+
+    few_passes : (ps : List Pass) → All (λ (pass : Pass). pass.line < 1024) ps → All (λ (pass : Pass). pass.line + 1 < 2 ^ 32) ps
+    few_passes ps few = λ i. λ d. λ below. omega (arith, few i d below)
+
+    few_members : (n lines : ℕ) (js : List ℕ) → n ≤ lines + 1 → lines ≤ 1024 → All (λ j. j < n) js → All (λ j. j + 1 < 2 ^ 32) js
+    few_members n lines js a b few = λ i. λ d. λ below. omega (arith, few i d below, a, b)
+
+-- what is left of the pairs costs what is left
+pub cost_goes_on : (rows : RowsValue) (pairs left rest : List Pair) (q : Pair) (cost one : ℕ) → left ≡ q ∷ rest → one
+    ≡ pair_costs rows (q ∷ [])
+    → cost + pair_costs rows left ≡ pair_costs rows pairs → cost + one + pair_costs rows rest ≡ pair_costs rows pairs
+cost_goes_on rows pairs left rest q cost one is cost_is whole = omega (arith, ap (pair_costs rows) is, cost_is, whole)

@@ -1,0 +1,17 @@
+-- The certificates of the pieces of a drawing. Used only inside this crate.
+use Rattle.std.specs.Prelude.{List}
+use Rattle.std.specs.List.{AllZip}
+use Rattle.cut_certificate.specs.declared.certificate.PieceCert.{PieceCert}
+use Rattle.cut_certificate.specs.Certificates.{HasCanonicalText}
+use Rattle.line_graph.specs.declared.piece.Piece.{Piece}
+use Rattle.line_graph.specs.PiecesOfDrawings.{graph_of}
+use Rattle.route_core.specs.PieceCertificates.{CertifiesLeastWalk}
+
+-- A certificate with a least walk over a piece, which can be printed.
+pub record IsRoutedPiece (p : Piece) (cert : PieceCert) : Type 0 where
+  pub proved : CertifiesLeastWalk (graph_of p) cert
+  pub spelled : HasCanonicalText cert
+
+-- Certificates with least walks, one for each piece in order.
+abbrev pub AreRouted : List Piece → List PieceCert → Type 0
+AreRouted pieces certs = AllZip IsRoutedPiece pieces certs

@@ -1,9 +1,0 @@
-use Rattle.std.proofs.Common.{◌≡◌, ◌++◌, flat_map}
-use Rattle.std.specs.List.{range_with_len}
-use Rattle.sample_drawings.specs.Courses.{lines_at}
-use Rattle.sample_drawings.proofs.courses.push_row.Given as goal
-
--- the lines of the columns so far
-abbrev pub invariant-loop-i : goal.invariant-loop-i
-invariant-loop-i l = l.lines
-    ≡ l.fn.lines ++ flat_map (λ i. lines_at l.grid.number l.course i l.j) (range_with_len 0 l.i)

@@ -1,9 +1,0 @@
-use Rattle.std.proofs.Common.{◌≡◌, ◌++◌, flat_map}
-use Rattle.std.specs.List.{range_with_len}
-use Rattle.sample_drawings.specs.Courses.{row_of}
-use Rattle.sample_drawings.proofs.courses.push_rows.Given as goal
-
--- the lines of the rows so far
-abbrev pub invariant-loop-j : goal.invariant-loop-j
-invariant-loop-j l =
-    l.lines ≡ l.fn.lines ++ flat_map (row_of l.grid.number l.course) (range_with_len 0 l.j)

@@ -1,5 +1,0 @@
-use Rattle.step_splitter.proofs.ChainLemmas.{leads}
-use Rattle.step_splitter.proofs.laws.split_points_lead.Goals as goal
-
-pub returns : goal.returns
-returns c = leads

@@ -1,0 +1,18 @@
+use Rattle.stitch_cli.proofs.RouteLemmas.{penetrations_few, pieces_few}
+use Rattle.stitch_cli.proofs.SampleLemmas.{sample_makes}
+use Rattle.stitch_cli.proofs.sampling.reported.Goals as goal
+
+pub summary_of-requires-clause-blocks : goal.summary_of-requires-clause-blocks
+summary_of-requires-clause-blocks c = rw c.as_slice-2.ensures c.in_ok-pieces.ensures.blocks
+
+pub summary_of-requires-clause-most : goal.summary_of-requires-clause-most
+summary_of-requires-clause-most c = rw c.as_slice-2.ensures (pieces_few _ _ _ _ c.as_slice.ensures c.in_ok-routed.ensures)
+
+pub summary_of-requires-clause-few : goal.summary_of-requires-clause-few
+summary_of-requires-clause-few c = rw (c.as_slice-2.ensures, c.as_slice-3.ensures)
+    (penetrations_few _ _ _ c.in_ok-pieces.ensures.cut (rw c.as_slice.ensures at c.in_ok-routed.ensures))
+
+pub returns : goal.returns
+returns c = sample_makes _ _ _ _ _ _ _ _ c.in_ok-pieces.ensures.cut (rw c.as_slice.ensures at c.in_ok-routed.ensures)
+    (rw (c.as_slice-2.ensures, c.as_slice-3.ensures, c.line_count.ensures.value) at c.in_ok-summary.ensures)
+    c.in_ok-print_drawing.ensures.value c.in_ok-report.ensures c.in_ok-product.ensures

@@ -1,5 +1,0 @@
-use Rattle.stitch_text.proofs.KeptLemmas.{keeps_label_and_threads}
-use Rattle.stitch_text.proofs.promises.lists_keep_label_and_threads.Goals as goal
-
-pub returns : goal.returns
-returns c = keeps_label_and_threads c.an_accepted_design_is_small.ensures
