@@ -13,13 +13,13 @@ use Rattle.blossom_match.specs.LeastChanges.{step_of, IsLeastChange, IsReadyAfte
 use Rattle.blossom_match.specs.OuterSlacks.{AreOuterSlacks}
 use Rattle.blossom_match.specs.Candidates.{change_at, target_vertices, IsBestCandidate, IsCandidateAmong, CanFindEdge, IsCandidate, IsCandidateChange}
 use Rattle.blossom_match.specs.declared.table.TheConstants.{FAR}
-use Rattle.blossom_match.specs.declared.least.Candidate.{Candidate}
-use Rattle.blossom_match.specs.declared.least.EdgeKind.{EdgeKind}
+use Rattle.blossom_match.specs.declared.least.Target.{Target}
+use Rattle.blossom_match.specs.declared.least.Kind.{Kind}
 use Rattle.blossom_match.specs.declared.table.TheConstants.{MAX_DISTANCE}
 use Rattle.blossom_match.specs.Values.{BranchValue, MatchValue, SearchValue}
 use Rattle.blossom_match.specs.declared.search.SearchStep.{SearchStep}
 use Rattle.blossom_match.specs.declared.least.DualChange.{DualChange}
-use Rattle.blossom_match.specs.declared.least.EdgeKind.TheVariants as kind
+use Rattle.blossom_match.specs.declared.least.Kind.TheVariants as kind
 use Rattle.blossom_match.proofs.SlackRowLemmas.{far_is}
 use Rattle.blossom_match.proofs.SumLemmas.{count-append, height-append, dual_load-append, load_across, load_along, low, some_member}
 use Rattle.blossom_match.proofs.ScanLemmas.{around_none}
@@ -194,22 +194,22 @@ height_limit t h s x f is i hf = high_case (count x (outer_vertices s) + count x
 due_blossom : (t : TableValue) (h : ℕ → ℕ) (s : SearchValue) (c : DualChange) → IsBlossomDual s.tree c → IsReadyAfter t h s c.by c.step
 due_blossom t h s c f = subst (λ (st : SearchStep). IsReadyAfter t h s c.by st) (sym f.step) f.due
 
-aimed_case : (s : SearchValue) (hs reach : List ℕ) (k : EdgeKind) (aim : Candidate) → IsCandidateAmong hs reach k (target_vertices s k) aim
+aimed_case : (s : SearchValue) (hs reach : List ℕ) (k : Kind) (aim : Target) → IsCandidateAmong hs reach k (target_vertices s k) aim
     → IsCandidate s hs reach aim
 aimed_case s hs reach k aim a = record {
-  there = subst (λ (j : EdgeKind). 1 ≤ count aim.to (target_vertices s j)) (sym a.kind) a.there;
+  there = subst (λ (j : Kind). 1 ≤ count aim.to (target_vertices s j)) (sym a.kind) a.there;
   near = a.near;
-  by = subst (λ (j : EdgeKind). aim.by ≡ change_at hs reach j aim.to) (sym a.kind) a.by;
+  by = subst (λ (j : Kind). aim.by ≡ change_at hs reach j aim.to) (sym a.kind) a.by;
 }
 
 -- the lesser of two aims leads to such a place too
-still_aimed : (s : SearchValue) (hs reach : List ℕ) (k : EdgeKind) (old new : Candidate) → IsCandidate s hs reach old
+still_aimed : (s : SearchValue) (hs reach : List ℕ) (k : Kind) (old new : Target) → IsCandidate s hs reach old
     → (new ≡ old) ⊎ IsCandidateAmong hs reach k (target_vertices s k) new → IsCandidate s hs reach new
-still_aimed s hs reach k old new a (inl e) = subst (λ (aim : Candidate). IsCandidate s hs reach aim) (sym e) a
+still_aimed s hs reach k old new a (inl e) = subst (λ (aim : Target). IsCandidate s hs reach aim) (sym e) a
 still_aimed s hs reach k old new a (inr b) = aimed_case s hs reach k new b
 
 -- what is known of the aims of a search
-pub record IsAimedAt (t : TableValue) (h : ℕ → ℕ) (s : SearchValue) (hs reach : List ℕ) (first met grown crossed : Candidate) : Type 0 where
+pub record IsAimedAt (t : TableValue) (h : ℕ → ℕ) (s : SearchValue) (hs reach : List ℕ) (first met grown crossed : Target) : Type 0 where
   pub table : IsTable t
   pub search : IsSearch t h s
   pub heights : HeightsAre hs h
@@ -220,7 +220,7 @@ pub record IsAimedAt (t : TableValue) (h : ℕ → ℕ) (s : SearchValue) (hs re
   pub at_grown : IsBestCandidate hs reach kind.Grow (match_members s.rest) met grown
   pub at_crossed : IsBestCandidate hs reach kind.Shrink (outer_vertices s) grown crossed
 
-pub aimed : (t : TableValue) (h : ℕ → ℕ) (s : SearchValue) (hs reach : List ℕ) (first met grown crossed : Candidate)
+pub aimed : (t : TableValue) (h : ℕ → ℕ) (s : SearchValue) (hs reach : List ℕ) (first met grown crossed : Target)
     → IsAimedAt t h s hs reach first met grown crossed → IsCandidate s hs reach crossed
 aimed t h s hs reach first met grown crossed a =
     still_aimed s hs reach kind.Shrink grown crossed
@@ -228,14 +228,14 @@ aimed t h s hs reach first met grown crossed a =
     (still_aimed s hs reach kind.Augment first met (aimed_case s hs reach kind.Augment first a.at_first) a.at_met.is) a.at_grown.is)
     a.at_crossed.is
 
-goal_there : (k : EdgeKind) (t : TableValue) (h : ℕ → ℕ) (s : SearchValue) (x : ℕ) → IsSearch t h s → 1 ≤ count x (target_vertices s k)
+goal_there : (k : Kind) (t : TableValue) (h : ℕ → ℕ) (s : SearchValue) (x : ℕ) → IsSearch t h s → 1 ≤ count x (target_vertices s k)
     → x < t.places
 goal_there kind.Augment t h s x i here = place_in t x (omega (arith, i.places x, here))
 goal_there kind.Grow t h s x i here = place_in t x (omega (arith, i.places x, here))
 goal_there kind.Shrink t h s x i here = place_in t x (omega (arith, i.places x, here))
 
 -- an outer vertex has the slack of the last candidate
-pub leads_on : (t : TableValue) (h : ℕ → ℕ) (s : SearchValue) (hs reach : List ℕ) (first met grown crossed : Candidate)
+pub leads_on : (t : TableValue) (h : ℕ → ℕ) (s : SearchValue) (hs reach : List ℕ) (first met grown crossed : Target)
     → IsAimedAt t h s hs reach first met grown crossed → CanFindEdge t hs s.root s.tree reach crossed
 leads_on t h s hs reach first met grown crossed a =
     let i = a.search in
@@ -267,7 +267,7 @@ free_near t h s hs reach b is i r hb =
     (is_near t h s hs reach a.0 b is i r (set_in_root s a.0 a.1) (place_in t b (omega (arith, i.places b, hb)))
     (not_both s a.0 b (omega (arith, i.places b, is_one t b, hb)))).0
 
-due_case : (k : EdgeKind) (t : TableValue) (h : ℕ → ℕ) (s : SearchValue) (hs reach : List ℕ) (from to by : ℕ) → IsSearch t h s
+due_case : (k : Kind) (t : TableValue) (h : ℕ → ℕ) (s : SearchValue) (hs reach : List ℕ) (from to by : ℕ) → IsSearch t h s
     → HeightsAre hs h
     → 1 ≤ count from (outer_vertices s) → search_holding_both from to s ≡ 0 → get_or reach to 0 ≡ 2 * entry t from to - get_or hs from 0
     → 1 ≤ count to (target_vertices s k) → by ≡ change_at hs reach k to
@@ -291,7 +291,7 @@ due_case kind.Shrink t h s hs reach from to by i at here apart exact there is = 
   ),
 )
 
-due_aimed : (t : TableValue) (h : ℕ → ℕ) (s : SearchValue) (hs reach : List ℕ) (aim : Candidate) (c : DualChange) → IsSearch t h s
+due_aimed : (t : TableValue) (h : ℕ → ℕ) (s : SearchValue) (hs reach : List ℕ) (aim : Target) (c : DualChange) → IsSearch t h s
     → HeightsAre hs h
     → IsCandidate s hs reach aim → IsCandidateChange t hs s.root s.tree reach aim c → IsReadyAfter t h s c.by c.step
 due_aimed t h s hs reach aim c i at is l =
@@ -304,7 +304,7 @@ due_now t h s old new due (inl e) = subst (λ (c : DualChange). IsReadyAfter t h
 due_now t h s old new due (inr f) = due_blossom t h s new f
 
 -- after the least of all changes no slack is negative, and its step can be made
-pub bounds_of : (t : TableValue) (h : ℕ → ℕ) (s : SearchValue) (hs reach : List ℕ) (first met grown crossed : Candidate)
+pub bounds_of : (t : TableValue) (h : ℕ → ℕ) (s : SearchValue) (hs reach : List ℕ) (first met grown crossed : Target)
     (c new : DualChange)
     → IsAimedAt t h s hs reach first met grown crossed → IsCandidateChange t hs s.root s.tree reach crossed c
     → IsLesserChange s.tree c new → IsLeastChange t h s new

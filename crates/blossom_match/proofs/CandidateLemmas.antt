@@ -9,8 +9,8 @@ use Rattle.blossom_match.specs.Candidates.{change_at, IsBestCandidate, IsCandida
 use Rattle.blossom_match.specs.TableValue.{TableValue}
 use Rattle.blossom_match.specs.declared.table.TheConstants.{FAR}
 use Rattle.blossom_match.specs.Values.{BranchValue}
-use Rattle.blossom_match.specs.declared.least.Candidate.{Candidate}
-use Rattle.blossom_match.specs.declared.least.EdgeKind.{EdgeKind}
+use Rattle.blossom_match.specs.declared.least.Target.{Target}
+use Rattle.blossom_match.specs.declared.least.Kind.{Kind}
 use Rattle.blossom_match.proofs.ListLemmas.{drop_here, number_here, take_here}
 use Rattle.blossom_match.proofs.SumLemmas.{count-append, members-append, members_push}
 use Rattle.blossom_match.proofs.RaisedLemmas.{outer_places}
@@ -19,16 +19,16 @@ use Rattle.blossom_match.proofs.ChainLemmas.{around_append}
 use Rattle.blossom_match.proofs.TreeLemmas.{base_in}
 use Rattle.blossom_match.proofs.OuterSlackLemmas.{around_first}
 
-aims_in : (hs reach : List ℕ) (k : EdgeKind) (xs zs : List ℕ) (aim : Candidate) → ((x : ℕ) → count x xs ≤ count x zs)
+aims_in : (hs reach : List ℕ) (k : Kind) (xs zs : List ℕ) (aim : Target) → ((x : ℕ) → count x xs ≤ count x zs)
     → IsCandidateAmong hs reach k xs aim
     → IsCandidateAmong hs reach k zs aim
 aims_in hs reach k xs zs aim more a = record { kind = a.kind; there = omega (arith, a.there, more aim.to); near = a.near; by = a.by }
 
-aims_is : (hs reach : List ℕ) (k : EdgeKind) (xs ys zs : List ℕ) (o m n : Candidate) → ((x : ℕ) → count x zs ≡ count x xs + count x ys)
+aims_is : (hs reach : List ℕ) (k : Kind) (xs ys zs : List ℕ) (o m n : Target) → ((x : ℕ) → count x zs ≡ count x xs + count x ys)
     → (m ≡ o) ⊎ IsCandidateAmong hs reach k xs m → (n ≡ m) ⊎ IsCandidateAmong hs reach k ys n → (n ≡ o) ⊎ IsCandidateAmong hs reach k zs n
 aims_is hs reach k xs ys zs o m n all (inl e) (inl f) = inl (f ∙ e)
 aims_is hs reach k xs ys zs o m n all (inr a) (inl f) =
-    inr (subst (λ (c : Candidate). IsCandidateAmong hs reach k zs c) (sym f) (aims_in hs reach k xs zs m (λ x. omega (arith, all x)) a))
+    inr (subst (λ (c : Target). IsCandidateAmong hs reach k zs c) (sym f) (aims_in hs reach k xs zs m (λ x. omega (arith, all x)) a))
 aims_is hs reach k xs ys zs o m n all e (inr a) = inr (aims_in hs reach k ys zs n (λ x. omega (arith, all x)) a)
 
 either : (P : Type 0) (n m : ℕ) → (1 ≤ n → P) → (1 ≤ m → P) → 1 ≤ n + m → P
@@ -36,7 +36,7 @@ either P zero m p q some = q (omega arith)
 either P (suc n) m p q some = p (omega arith)
 
 -- the places of two lists
-pub aims_join : (hs reach : List ℕ) (k : EdgeKind) (xs ys zs : List ℕ) (o m n : Candidate)
+pub aims_join : (hs reach : List ℕ) (k : Kind) (xs ys zs : List ℕ) (o m n : Target)
     → ((x : ℕ) → count x zs ≡ count x xs + count x ys)
     → IsBestCandidate hs reach k xs o m → IsBestCandidate hs reach k ys m n → IsBestCandidate hs reach k zs o n
 aims_join hs reach k xs ys zs o m n all one two = record {
@@ -47,7 +47,7 @@ aims_join hs reach k xs ys zs o m n all one two = record {
 }
 
 -- one place more
-pub aims_next : (hs reach : List ℕ) (k : EdgeKind) (ys : List ℕ) (i : ℕ) (o m n : Candidate) → i < length ys
+pub aims_next : (hs reach : List ℕ) (k : Kind) (ys : List ℕ) (i : ℕ) (o m n : Target) → i < length ys
     → IsBestCandidate hs reach k (take i ys) o m
     → IsBestCandidate hs reach k (get_or ys i 0 ∷ []) m n → IsBestCandidate hs reach k (take (i + 1) ys) o n
 aims_next hs reach k ys i o m n low one two =
@@ -55,7 +55,7 @@ aims_next hs reach k ys i o m n low one two =
     (λ x. ap (λ (zs : List ℕ). count x zs) (number_here ys i low) ∙ count-append x (take i ys) (get_or ys i 0 ∷ [])) one two
 
 -- one outer set more
-pub aims_outer : (hs reach : List ℕ) (k : EdgeKind) (base : List ℕ) (tree : List BranchValue) (i : ℕ) (b : BranchValue) (o m n : Candidate)
+pub aims_outer : (hs reach : List ℕ) (k : Kind) (base : List ℕ) (tree : List BranchValue) (i : ℕ) (b : BranchValue) (o m n : Target)
     → i < length tree → b ≡ get_or tree i b → IsBestCandidate hs reach k (outer_members base (take i tree)) o m
     → IsBestCandidate hs reach k b.outer.members m n → IsBestCandidate hs reach k (outer_members base (take (i + 1) tree)) o n
 aims_outer hs reach k base tree i b o m n low is one two =
@@ -69,7 +69,7 @@ reached_case t hs root tree x left near (inl far) = absurd (omega (arith, near, 
 reached_case t hs root tree x left near (inr r) = r
 
 -- the aim is reached
-pub reached : (t : TableValue) (hs : List ℕ) (root : OddSetValue) (tree : List BranchValue) (reach : List ℕ) (aim : Candidate)
+pub reached : (t : TableValue) (hs : List ℕ) (root : OddSetValue) (tree : List BranchValue) (reach : List ℕ) (aim : Target)
     → CanFindEdge t hs root tree reach aim → IsOuterSlack t hs root tree aim.to (get_or reach aim.to 0)
 reached t hs root tree reach aim c =
     reached_case t hs root tree aim.to (get_or reach aim.to 0) c.near (c.reaches.is aim.to c.within)

@@ -8,34 +8,34 @@ use Rattle.blossom_match.specs.OuterSlacks.{slack_from, HasOuterCells, IsSlackFr
 use Rattle.blossom_match.specs.Searches.{outer_vertices}
 use Rattle.blossom_match.specs.TableValue.{TableValue}
 use Rattle.blossom_match.specs.Values.{BranchValue, SearchValue}
-use Rattle.blossom_match.specs.declared.least.Candidate.{Candidate}
+use Rattle.blossom_match.specs.declared.least.Target.{Target}
 use Rattle.blossom_match.specs.declared.least.DualChange.{DualChange}
-use Rattle.blossom_match.specs.declared.least.EdgeKind.{EdgeKind}
-use Rattle.blossom_match.specs.declared.least.EdgeKind.TheVariants as kind
+use Rattle.blossom_match.specs.declared.least.Kind.{Kind}
+use Rattle.blossom_match.specs.declared.least.Kind.TheVariants as kind
 use Rattle.blossom_match.specs.declared.table.TheConstants.{FAR}
 
 -- The change of duals that uses up a slack. Between two outer sets it is half the slack, as both
 -- ends rise.
-abbrev pub change_of : EdgeKind → ℕ → ℕ
+abbrev pub change_of : Kind → ℕ → ℕ
 change_of kind.Augment slack = slack
 change_of kind.Grow slack = slack
 change_of kind.Shrink slack = slack / 2
 
 -- The change of duals that uses up the slack to a vertex.
-abbrev pub change_at : List ℕ → List ℕ → EdgeKind → ℕ → ℕ
+abbrev pub change_at : List ℕ → List ℕ → Kind → ℕ → ℕ
 change_at hs reach k b = change_of k (slice_index reach b - slice_index hs b)
 
 -- A candidate at one of the given vertices.
-pub record IsCandidateAmong (hs reach : List ℕ) (k : EdgeKind) (ys : List ℕ)
-    (aim : Candidate) : Type 0 where
+pub record IsCandidateAmong (hs reach : List ℕ) (k : Kind) (ys : List ℕ)
+    (aim : Target) : Type 0 where
   pub kind : aim.kind ≡ k
   pub there : 1 ≤ count aim.to ys
   pub near : slice_index reach aim.to < FAR
   pub by : aim.by ≡ change_at hs reach k aim.to
 
 -- The lesser of a candidate and the best of the given vertices.
-pub record IsBestCandidate (hs reach : List ℕ) (k : EdgeKind) (ys : List ℕ)
-    (old new : Candidate) : Type 0 where
+pub record IsBestCandidate (hs reach : List ℕ) (k : Kind) (ys : List ℕ)
+    (old new : Target) : Type 0 where
   pub less : new.by ≤ old.by
   pub wide : (b : ℕ) → 1 ≤ count b ys → slice_index reach b < FAR
       → new.by ≤ change_at hs reach k b
@@ -43,7 +43,7 @@ pub record IsBestCandidate (hs reach : List ℕ) (k : EdgeKind) (ys : List ℕ)
 
 -- An outer vertex has the slack of the candidate.
 pub record CanFindEdge (t : TableValue) (hs : List ℕ) (root : OddSetValue) (tree : List BranchValue)
-    (reach : List ℕ) (aim : Candidate) : Type 0 where
+    (reach : List ℕ) (aim : Target) : Type 0 where
   pub can : HasOuterCells t hs root tree
   pub reaches : AreOuterSlacks t hs root tree reach
   pub within : aim.to < t.places
@@ -52,7 +52,7 @@ pub record CanFindEdge (t : TableValue) (hs : List ℕ) (root : OddSetValue) (tr
 -- The change of a candidate, with the edge from an outer vertex that has its slack.
 pub record IsCandidateChange (t : TableValue) (hs : List ℕ) (root : OddSetValue)
     (tree : List BranchValue)
-    (reach : List ℕ) (aim : Candidate) (c : DualChange) : Type 0 where
+    (reach : List ℕ) (aim : Target) (c : DualChange) : Type 0 where
   pub from : ℕ
   pub here : 1 ≤ count from (outer_members root.members tree)
   pub apart : count_holding_both from aim.to root tree ≡ 0
@@ -78,13 +78,13 @@ FindsSlackInSet t hs s x left None = count x s.members ≡ 0 → IsSlackFromOne 
     → ⊥
 
 -- The vertices that an edge of a kind leads to.
-abbrev pub target_vertices : SearchValue → EdgeKind → List ℕ
+abbrev pub target_vertices : SearchValue → Kind → List ℕ
 target_vertices s kind.Augment = s.free
 target_vertices s kind.Grow = match_members s.rest
 target_vertices s kind.Shrink = outer_vertices s
 
 -- A candidate at one of the vertices that its kind leads to.
-pub record IsCandidate (s : SearchValue) (hs reach : List ℕ) (aim : Candidate) : Type 0 where
+pub record IsCandidate (s : SearchValue) (hs reach : List ℕ) (aim : Target) : Type 0 where
   pub there : 1 ≤ count aim.to (target_vertices s aim.kind)
   pub near : slice_index reach aim.to < FAR
   pub by : aim.by ≡ change_at hs reach aim.kind aim.to

@@ -12,11 +12,11 @@ use Rattle.blossom_match.specs.Values.{BranchValue, SearchValue}
 use Rattle.blossom_match.specs.declared.search.SearchStep.{SearchStep}
 use Rattle.blossom_match.specs.declared.search.SearchStep.TheVariants.{Augment, Grow, Shrink, Expand}
 use Rattle.blossom_match.specs.declared.least.DualChange.{DualChange}
-use Rattle.blossom_match.specs.declared.least.EdgeKind.{EdgeKind}
-use Rattle.blossom_match.specs.declared.least.EdgeKind.TheVariants as kind
+use Rattle.blossom_match.specs.declared.least.Kind.{Kind}
+use Rattle.blossom_match.specs.declared.least.Kind.TheVariants as kind
 
 -- The step that an edge of a kind makes possible.
-abbrev pub step_of : EdgeKind → TightEdge → SearchStep
+abbrev pub step_of : Kind → TightEdge → SearchStep
 step_of kind.Augment link = Augment link
 step_of kind.Grow link = Grow link
 step_of kind.Shrink link = Shrink link

@@ -6,8 +6,8 @@ use Rattle.blossom_match.specs.SlackRows.{lowered_slack}
 use Rattle.blossom_match.specs.Candidates.{IsBestCandidate}
 use Rattle.blossom_match.specs.TableValue.{TableValue}
 use Rattle.blossom_match.specs.Values.{BranchValue, SearchValue}
-use Rattle.blossom_match.specs.declared.least.Candidate.{Candidate}
-use Rattle.blossom_match.specs.declared.least.EdgeKind.TheVariants as kind
+use Rattle.blossom_match.specs.declared.least.Target.{Target}
+use Rattle.blossom_match.specs.declared.least.Kind.TheVariants as kind
 use Rattle.blossom_match.specs.declared.table.TheConstants.{FAR}
 
 -- A mask shows the given vertices alone.
@@ -37,6 +37,6 @@ pub record IsMaskedSlack (hs reach mask : List ℕ) (slack : ℕ) : Type 0 where
   pub exact : slack ≡ masked_slack hs reach mask place
 
 -- The lesser of a candidate and the best of the vertices that the mask shows.
-abbrev pub IsBestShown : List ℕ → List ℕ → List ℕ → Candidate → Candidate → Type 0
+abbrev pub IsBestShown : List ℕ → List ℕ → List ℕ → Target → Target → Type 0
 IsBestShown hs reach mask old new =
     (places : List ℕ) → IsMask places mask → IsBestCandidate hs reach kind.Grow places old new

@@ -11,7 +11,7 @@ use Rattle.blossom_match.specs.Values.{MatchValue, SearchValue}
 use Rattle.blossom_match.specs.Slots.{matches_in}
 use Rattle.blossom_match.specs.States.{search_value, partial_value}
 use Rattle.blossom_match.specs.declared.search.SearchStep.{SearchStep}
-use Rattle.blossom_match.specs.declared.state.PartialMatching.{PartialMatching}
+use Rattle.blossom_match.specs.declared.state.Pairing.{Pairing}
 use Rattle.blossom_match.specs.declared.phase.StepResult.{StepResult}
 use Rattle.blossom_match.specs.declared.phase.StepResult.TheVariants.{More, Done}
 
@@ -22,7 +22,7 @@ pub record IsPartialWithHeights (t : TableValue) (matches : List MatchValue)
   pub size : length heights ≡ t.places
 
 -- A dual feasible partial matching between two searches.
-abbrev pub IsPartialState : TableValue → PartialMatching → Type 0
+abbrev pub IsPartialState : TableValue → Pairing → Type 0
 IsPartialState t s = IsPartialWithHeights t (matches_in s.sets s.matches.items) s.free.items
     s.heights.items
 

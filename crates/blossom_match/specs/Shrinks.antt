@@ -48,11 +48,13 @@ pub record CanShrink (link : TightEdge) (root : OddSetValue) (tree : List Branch
     pub from : 1 ≤ count link.from (outer_members root.members tree)
     pub to : 1 ≤ count link.to (outer_members root.members tree)
     pub apart : one_if_both link.from link.to root + outer_with_both link.from link.to tree ≡ 0
-    pub once : (x : ℕ) → count x (outer_members root.members tree) + count x (inner_members tree) ≤ 1
+    pub once : (x : ℕ) → count x (outer_members root.members tree) + count x (inner_members tree)
+        ≤ 1
     pub t : TableValue
     pub h : ℕ → ℕ
     pub within : (x : ℕ)
-        → 1 ≤ count x (outer_members root.members tree) + count x (inner_members tree) → x < t.places
+        → 1 ≤ count x (outer_members root.members tree) + count x (inner_members tree)
+        → x < t.places
     pub symmetric : IsSymmetric t
     pub tight : IsTight t h link
     pub sound : IsSoundSet t h root

@@ -2,7 +2,7 @@
 use Rattle.blossom_match.specs.Slots.{matches_in, branches_in, set_in}
 use Rattle.blossom_match.specs.Values.{SearchValue, PartialMatchingValue}
 use Rattle.blossom_match.specs.declared.state.Search.{Search}
-use Rattle.blossom_match.specs.declared.state.PartialMatching.{PartialMatching}
+use Rattle.blossom_match.specs.declared.state.Pairing.{Pairing}
 
 -- The value of a search.
 abbrev pub search_value : Search → SearchValue
@@ -15,7 +15,7 @@ search_value s = record {
 }
 
 -- The value of a partial matching.
-abbrev pub partial_value : PartialMatching → PartialMatchingValue
+abbrev pub partial_value : Pairing → PartialMatchingValue
 partial_value s = record {
   matches = matches_in s.sets s.matches.items;
   free = s.free.items;

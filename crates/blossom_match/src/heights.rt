@@ -31,8 +31,7 @@ fn lower(members: &[u32], by: u32, heights: &mut [u32])
 
 /// Raises the vertices of all outer sets but the root.
 pub fn raise_outers(sets: &Sets, tree: &[Branch], by: u32, heights: &mut [u32])
-    requires within { HasCells (λ x. count x (outer_members [] (branches_in sets.now tree.now)))
-        heights.old }
+    requires within { HasCells (λ x. count x (outer_members [] (branches_in sets.now tree.now))) heights.old }
     requires fits { CanRise (λ x. by * count x (outer_members [] (branches_in sets.now tree.now)))
         heights.old }
     ensures { Rises (λ x. by * count x (outer_members [] (branches_in sets.now tree.now)))
@@ -46,8 +45,7 @@ pub fn raise_outers(sets: &Sets, tree: &[Branch], by: u32, heights: &mut [u32])
 /// Lowers the vertices of all inner sets.
 pub fn lower_inners(sets: &Sets, tree: &[Branch], by: u32, heights: &mut [u32])
     requires within { HasCells (λ x. count x (inner_members (branches_in sets.now tree.now))) heights.old }
-    requires fits { CanFall (λ x. by * count x (inner_members (branches_in sets.now tree.now)))
-        heights.old }
+    requires fits { CanFall (λ x. by * count x (inner_members (branches_in sets.now tree.now))) heights.old }
     ensures { Falls (λ x. by * count x (inner_members (branches_in sets.now tree.now)))
         heights.old heights.new }
 {

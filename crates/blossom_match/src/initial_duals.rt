@@ -8,8 +8,8 @@ ghost use Rattle.blossom_match.specs.declared.table.TheConstants.{MAX_DISTANCE};
 
 use crate::odd_set::{TightEdge, times};
 use crate::phase::begin;
-use crate::search::{augment_to, take_place};
-use crate::state::PartialMatching;
+use crate::search::{finish, take_place};
+use crate::state::Pairing;
 use crate::table::{DistTable, MAX_DISTANCE};
 use design_model::Memory;
 use slab::Slab;
@@ -17,7 +17,7 @@ use std::alloc::Global;
 
 /// Returns initial duals, as high as the distances allow, and a greedy matching of free vertices along tight
 /// edges.
-pub fn initial_matching(alloc: Global, t: &DistTable, n: u32) -> Result<PartialMatching, Memory>
+pub fn initial_matching(alloc: Global, t: &DistTable, n: u32) -> Result<Pairing, Memory>
     requires { n ≡ t.now.places }
     ensures stands { IfOk result (λ r. IsPartialState t.now r) }
     ensures even { IfOk result (λ r. length r.free.items % 2 ≡ t.now.places % 2) }
@@ -30,14 +30,14 @@ pub fn initial_matching(alloc: Global, t: &DistTable, n: u32) -> Result<PartialM
 }
 
 /// Returns all vertices free, each with half of its least slack as initial dual.
-fn half_matching(alloc: Global, t: &DistTable) -> Result<PartialMatching, Memory>
+fn half_matching(alloc: Global, t: &DistTable) -> Result<Pairing, Memory>
     ensures stands { IfOk result (λ r. IsPartialState t.now r) }
     ensures even { IfOk result (λ r. length r.free.items % 2 ≡ t.now.places % 2) }
 {
     let sets = Slab::with_capacity(alloc, t.places() as usize)?;
     let heights = halves(alloc, t)?;
     let free = all_places(alloc, t.places())?;
-    Ok(PartialMatching {
+    Ok(Pairing {
         sets,
         matches: Vec::new(alloc),
         free,
@@ -103,12 +103,7 @@ fn lesser(t: &DistTable, heights: &[u32], place: u32, other: u32, best: u32) -> 
 }
 
 /// Raises the initial dual of a free vertex, and matches it with a free one where the edge becomes tight.
-fn settle(
-    alloc: Global,
-    t: &DistTable,
-    place: u32,
-    from: PartialMatching,
-) -> Result<PartialMatching, Memory>
+fn settle(alloc: Global, t: &DistTable, place: u32, from: Pairing) -> Result<Pairing, Memory>
     requires stands { IsPartialState t.now from }
     requires within { place < t.now.places }
     ensures stands { IfOk result (λ r. IsPartialState t.now r) }
@@ -128,7 +123,7 @@ fn settle(
 }
 
 /// Raises the initial dual of a free vertex as far as the distances allow.
-fn raise_dual(t: &DistTable, place: u32, from: PartialMatching) -> PartialMatching
+fn raise_dual(t: &DistTable, place: u32, from: Pairing) -> Pairing
     requires stands { IsPartialState t.now from }
     requires here { 1 ≤ count place from.free.items }
     ensures stands { IsPartialState t.now result }
@@ -141,7 +136,7 @@ fn raise_dual(t: &DistTable, place: u32, from: PartialMatching) -> PartialMatchi
 }
 
 /// Returns another free vertex with a tight edge to the given one, if there is one.
-fn tight_with(t: &DistTable, place: u32, s: &PartialMatching) -> Option<u32>
+fn tight_with(t: &DistTable, place: u32, s: &Pairing) -> Option<u32>
     requires stands { IsPartialState t.now s.now }
     requires here { 1 ≤ count place s.now.free.items }
     ensures { IfSome result (λ other. FindsTight t.now s.now.heights.items s.now.free.items place other) }
@@ -177,13 +172,7 @@ fn is_tight(t: &DistTable, heights: &[u32], place: u32, other: u32) -> bool
 }
 
 /// Matches two free vertices: a search from one meets the other at once.
-fn pair(
-    alloc: Global,
-    t: &DistTable,
-    place: u32,
-    to: u32,
-    from: PartialMatching,
-) -> Result<PartialMatching, Memory>
+fn pair(alloc: Global, t: &DistTable, place: u32, to: u32, from: Pairing) -> Result<Pairing, Memory>
     requires { CanPair t.now place to (partial_value from) }
     ensures { IfOk result (λ r. PairsFree t.now (partial_value from) (partial_value r)) }
 {
@@ -191,6 +180,6 @@ fn pair(
     take_place(&mut alone.free, place);
     let search = begin(alloc, t, place, alone)?;
     let link = TightEdge { from: place, to };
-    let met = augment_to(alloc, t, search, link)?;
+    let met = finish(alloc, t, search, link)?;
     Ok(met)
 }

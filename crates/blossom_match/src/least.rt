@@ -10,7 +10,7 @@ ghost use Rattle.blossom_match.specs.Slots.{branch_in, branches_in, set_in};
 ghost use Rattle.blossom_match.specs.Masks.{masked_slack, IsBestShown, IsMaskedSlack, IsSearchMask};
 ghost use Rattle.blossom_match.specs.States.{search_value};
 ghost use Rattle.blossom_match.specs.Candidates.{change_of, IsBestCandidate, IsCandidateAmong, CanFindEdge, IsCandidateChange, FindsSlackInSet, FindsSlackIn};
-ghost use Rattle.blossom_match.specs.declared.least.EdgeKind.TheVariants as kind;
+ghost use Rattle.blossom_match.specs.declared.least.Kind.TheVariants as kind;
 ghost use Rattle.blossom_match.specs.declared.table.TheConstants.{FAR, MAX_PLACES};
 
 use crate::branches::Branch;
@@ -29,7 +29,7 @@ pub struct DualChange {
 
 /// The kind of an edge from an outer set: to a free vertex, to a match, or to another outer set.
 #[derive(Clone, Copy, Drop)]
-enum EdgeKind {
+enum Kind {
     Augment,
     Grow,
     Shrink,
@@ -37,9 +37,9 @@ enum EdgeKind {
 
 /// A candidate: a vertex that an edge leads to, and the change of duals after which the edge is tight.
 #[derive(Clone, Copy, Drop)]
-struct Candidate {
+struct Target {
     by: u32,
-    kind: EdgeKind,
+    kind: Kind,
     to: u32,
 }
 
@@ -63,8 +63,8 @@ fn least_at(t: &DistTable, heights: &[u32], reach: &[u32], mask: &[u32], s: &Sea
     requires heights { heights.now ≡ s.now.heights.items }
     ensures { IsLeastChange t.now (stored_height (search_value s.now)) (search_value s.now) result }
 {
-    let first = first_candidate(heights, reach, &s.free);
-    let met = best_candidate(heights, reach, &s.free, EdgeKind::Augment, first);
+    let first = first_target(heights, reach, &s.free);
+    let met = best_target(heights, reach, &s.free, Kind::Augment, first);
     let grown = best_shown(heights, reach, mask, met);
     let crossed = best_outer(heights, reach, s, grown);
     let change = change_to(t, heights, reach, s, crossed);
@@ -72,29 +72,29 @@ fn least_at(t: &DistTable, heights: &[u32], reach: &[u32], mask: &[u32], s: &Sea
 }
 
 /// Returns the change of duals that uses up a slack.
-fn change_for(kind: EdgeKind, slack: u32) -> u32
+fn change_for(kind: Kind, slack: u32) -> u32
     ensures { result ≡ change_of kind slack }
 {
     match kind {
-        EdgeKind::Augment => slack,
-        EdgeKind::Grow => slack,
-        EdgeKind::Shrink => slack / 2,
+        Kind::Augment => slack,
+        Kind::Grow => slack,
+        Kind::Shrink => slack / 2,
     }
 }
 
 /// Returns the step that an edge of a kind makes possible.
-fn step_for(kind: EdgeKind, link: TightEdge) -> SearchStep
+fn step_for(kind: Kind, link: TightEdge) -> SearchStep
     ensures { result ≡ step_of kind link }
 {
     match kind {
-        EdgeKind::Augment => SearchStep::Augment(link),
-        EdgeKind::Grow => SearchStep::Grow(link),
-        EdgeKind::Shrink => SearchStep::Shrink(link),
+        Kind::Augment => SearchStep::Augment(link),
+        Kind::Grow => SearchStep::Grow(link),
+        Kind::Shrink => SearchStep::Shrink(link),
     }
 }
 
 /// Returns the candidate at the first free vertex.
-fn first_candidate(heights: &[u32], reach: &[u32], free: &[u32]) -> Candidate
+fn first_target(heights: &[u32], reach: &[u32], free: &[u32]) -> Target
     requires cells { length heights.now ≡ length reach.now }
     requires some { 1 ≤ length free.now }
     requires within { (b : ℕ) → 1 ≤ count b free.now → b < length reach.now }
@@ -102,15 +102,15 @@ fn first_candidate(heights: &[u32], reach: &[u32], free: &[u32]) -> Candidate
     ensures { IsCandidateAmong heights.now reach.now kind.Augment free.now result }
 {
     let to = free[0];
-    Candidate {
+    Target {
         by: reach[to as usize].saturating_sub(heights[to as usize]),
-        kind: EdgeKind::Augment,
+        kind: Kind::Augment,
         to,
     }
 }
 
 /// Returns the lesser of a candidate and the one at the given vertex.
-fn nearer(heights: &[u32], reach: &[u32], to: u32, kind: EdgeKind, best: Candidate) -> Candidate
+fn nearer(heights: &[u32], reach: &[u32], to: u32, kind: Kind, best: Target) -> Target
     requires cells { length heights.now ≡ length reach.now }
     requires within { to < length reach.now }
     ensures { IsBestCandidate heights.now reach.now kind (to ∷ []) best result }
@@ -121,20 +121,14 @@ fn nearer(heights: &[u32], reach: &[u32], to: u32, kind: EdgeKind, best: Candida
     }
     let by = change_for(kind, left.saturating_sub(heights[to as usize]));
     if by < best.by {
-        Candidate { by, kind, to }
+        Target { by, kind, to }
     } else {
         best
     }
 }
 
 /// Returns the least of a candidate and those at the given vertices.
-fn best_candidate(
-    heights: &[u32],
-    reach: &[u32],
-    ys: &[u32],
-    kind: EdgeKind,
-    best: Candidate,
-) -> Candidate
+fn best_target(heights: &[u32], reach: &[u32], ys: &[u32], kind: Kind, best: Target) -> Target
     requires cells { length heights.now ≡ length reach.now }
     requires within { (b : ℕ) → 1 ≤ count b ys.now → b < length reach.now }
     ensures { IsBestCandidate heights.now reach.now kind ys.now best result }
@@ -147,7 +141,7 @@ fn best_candidate(
 }
 
 /// Returns the least of a candidate and those at the vertices that the mask shows.
-fn best_shown(heights: &[u32], reach: &[u32], mask: &[u32], best: Candidate) -> Candidate
+fn best_shown(heights: &[u32], reach: &[u32], mask: &[u32], best: Target) -> Target
     requires cells { length heights.now ≡ length reach.now }
     requires masked { length mask.now ≡ length reach.now }
     requires few { length reach.now ≤ MAX_PLACES }
@@ -159,15 +153,14 @@ fn best_shown(heights: &[u32], reach: &[u32], mask: &[u32], best: Candidate) -> 
         return best;
     }
     let to = place_shown(heights, reach, mask, slack);
-    nearer(heights, reach, to, EdgeKind::Grow, best)
+    nearer(heights, reach, to, Kind::Grow, best)
 }
 
 /// Returns the least slack to a vertex that the mask shows; FAR where there is none.
 fn least_shown(heights: &[u32], reach: &[u32], mask: &[u32]) -> u32
     requires cells { length heights.now ≡ length reach.now }
     requires masked { length mask.now ≡ length reach.now }
-    ensures least { (x : ℕ) → x < length reach.now
-        → result ≤ masked_slack heights.now reach.now mask.now x }
+    ensures least { (x : ℕ) → x < length reach.now → result ≤ masked_slack heights.now reach.now mask.now x }
     ensures is { result < FAR → IsMaskedSlack heights.now reach.now mask.now result }
 {
     let mut least = FAR;
@@ -195,30 +188,18 @@ fn place_shown(heights: &[u32], reach: &[u32], mask: &[u32], slack: u32) -> u32
 }
 
 /// Returns the least of a candidate and those at the outer vertices.
-fn best_outer(heights: &[u32], reach: &[u32], s: &Search, best: Candidate) -> Candidate
+fn best_outer(heights: &[u32], reach: &[u32], s: &Search, best: Target) -> Target
     requires cells { length heights.now ≡ length reach.now }
     requires within { HasCells (λ b. count b (outer_vertices (search_value s.now))) reach.now }
     ensures { IsBestCandidate heights.now reach.now kind.Shrink (outer_vertices (search_value s.now))
         best result }
 {
-    let rooted = best_candidate(
-        heights,
-        reach,
-        s.root.members(&s.sets),
-        EdgeKind::Shrink,
-        best,
-    );
-    best_in_branches(&s.sets, heights, reach, &s.tree, rooted)
+    let rooted = best_target(heights, reach, s.root.members(&s.sets), Kind::Shrink, best);
+    best_branch(&s.sets, heights, reach, &s.tree, rooted)
 }
 
 /// Returns the least of a candidate and those at the outer vertices of the branches.
-fn best_in_branches(
-    sets: &Sets,
-    heights: &[u32],
-    reach: &[u32],
-    tree: &[Branch],
-    best: Candidate,
-) -> Candidate
+fn best_branch(sets: &Sets, heights: &[u32], reach: &[u32], tree: &[Branch], best: Target) -> Target
     requires cells { length heights.now ≡ length reach.now }
     requires within { HasCells (λ b. count b (outer_members [] (branches_in sets.now tree.now))) reach.now }
     ensures { IsBestCandidate heights.now reach.now kind.Shrink
@@ -227,25 +208,13 @@ fn best_in_branches(
 {
     let mut least = best;
     for b in tree {
-        least = best_candidate(
-            heights,
-            reach,
-            b.outer.members(sets),
-            EdgeKind::Shrink,
-            least,
-        );
+        least = best_target(heights, reach, b.outer.members(sets), Kind::Shrink, least);
     }
     least
 }
 
 /// Returns the change of a candidate, with the edge from an outer vertex that has its slack.
-fn change_to(
-    t: &DistTable,
-    heights: &[u32],
-    reach: &[u32],
-    s: &Search,
-    aim: Candidate,
-) -> DualChange
+fn change_to(t: &DistTable, heights: &[u32], reach: &[u32], s: &Search, aim: Target) -> DualChange
     requires { CanFindEdge t.now heights.now (search_value s.now).root (search_value s.now).tree
         reach.now aim }
     ensures { IsCandidateChange t.now heights.now (search_value s.now).root (search_value s.now).tree
@@ -282,8 +251,7 @@ fn nearest(
         (branches_in sets.now tree.now) to left }
     ensures here { 1 ≤ count result
         (outer_members (set_in sets.now root).members (branches_in sets.now tree.now)) }
-    ensures apart { count_holding_both result to (set_in sets.now root) (branches_in sets.now tree.now)
-        ≡ 0 }
+    ensures apart { count_holding_both result to (set_in sets.now root) (branches_in sets.now tree.now) ≡ 0 }
     ensures exact { left ≡ slack_from t.now heights.now result to }
 {
     if let Some(a) = vertex_with_slack(sets, t, heights, root, to, left) {

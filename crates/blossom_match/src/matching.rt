@@ -3,7 +3,7 @@ ghost use Rattle.blossom_match.specs.Tables.{HasTriangleInequality};
 ghost use Rattle.blossom_match.specs.Matchings.{IsOptimalMatching};
 
 use crate::pairing::find_matches;
-use crate::state::PartialMatching;
+use crate::state::Pairing;
 use crate::table::DistTable;
 use crate::taking::take_matches;
 use design_model::{Items, Memory, Numbers};
@@ -42,7 +42,7 @@ pub fn match_all(alloc: Global, t: &DistTable) -> Result<Matching, Memory>
     requires triangles { HasTriangleInequality t.now }
     ensures { IfOk result (λ m. IsOptimalMatching t.now m.pairs m.moats) }
 {
-    let PartialMatching {
+    let Pairing {
         sets,
         matches,
         free: _,

@@ -6,13 +6,13 @@ ghost use Rattle.blossom_match.specs.Slots.{matches_in};
 use crate::initial_duals::initial_matching;
 use crate::phase::pair_up;
 use crate::slack_rows::far_cells;
-use crate::state::PartialMatching;
+use crate::state::Pairing;
 use crate::table::DistTable;
 use design_model::Memory;
 use std::alloc::Global;
 
 /// Returns matched sets that hold all vertices.
-pub fn find_matches(alloc: Global, t: &DistTable) -> Result<PartialMatching, Memory>
+pub fn find_matches(alloc: Global, t: &DistTable) -> Result<Pairing, Memory>
     requires even { t.now.places % 2 ≡ 0 }
     requires triangles { HasTriangleInequality t.now }
     ensures { IfOk result (λ r. MatchesAll t.now (matches_in r.sets r.matches.items)) }
@@ -22,11 +22,7 @@ pub fn find_matches(alloc: Global, t: &DistTable) -> Result<PartialMatching, Mem
 }
 
 /// Searches from each free vertex in turn.
-fn search_all(
-    alloc: Global,
-    t: &DistTable,
-    from: PartialMatching,
-) -> Result<PartialMatching, Memory>
+fn search_all(alloc: Global, t: &DistTable, from: Pairing) -> Result<Pairing, Memory>
     requires metric { IsMetric t.now }
     requires stands { IsPartialState t.now from }
     requires even { length from.free.items % 2 ≡ 0 }

@@ -13,8 +13,8 @@ use crate::least::least;
 use crate::masks::{hide, show_from};
 use crate::odd_set::single;
 use crate::outer_slacks::{add_slacks_from, lower_slacks, refill_slacks, reset};
-use crate::search::{SearchStep, augment_to, expand_at, grow_to, shrink_by};
-use crate::state::{PartialMatching, Search};
+use crate::search::{SearchStep, expand_at, finish, grow_to, shrink_by};
+use crate::state::{Pairing, Search};
 use crate::table::DistTable;
 use design_model::Memory;
 use std::alloc::Global;
@@ -23,7 +23,7 @@ use std::alloc::Global;
 #[derive(Drop)]
 enum StepResult {
     More(Search),
-    Done(PartialMatching),
+    Done(Pairing),
 }
 
 /// Searches from a free vertex until it is matched.
@@ -31,10 +31,10 @@ pub fn pair_up(
     alloc: Global,
     t: &DistTable,
     place: u32,
-    from: PartialMatching,
+    from: Pairing,
     reach: &mut [u32],
     mask: &mut [u32],
-) -> Result<PartialMatching, Memory>
+) -> Result<Pairing, Memory>
     requires metric { IsMetric t.now }
     requires size { length reach.old ≡ t.now.places }
     requires masked { length mask.old ≡ t.now.places }
@@ -57,18 +57,13 @@ pub fn pair_up(
 }
 
 /// Returns a search whose tree is a single free vertex, the root.
-pub fn begin(
-    alloc: Global,
-    t: &DistTable,
-    place: u32,
-    from: PartialMatching,
-) -> Result<Search, Memory>
+pub fn begin(alloc: Global, t: &DistTable, place: u32, from: Pairing) -> Result<Search, Memory>
     requires cell { place < length from.heights.items }
     requires within { place < t.now.places }
     ensures { IfOk result (λ s. BeginsSearch t.now place (matches_in from.sets from.matches.items)
         from.free.items from.heights.items (search_value s)) }
 {
-    let PartialMatching {
+    let Pairing {
         sets,
         matches,
         free,
@@ -129,7 +124,7 @@ fn take_step(
     let matched = s.rest.len();
     match step {
         SearchStep::Augment(link) => {
-            let standing = augment_to(alloc, t, s, link)?;
+            let standing = finish(alloc, t, s, link)?;
             Ok(StepResult::Done(standing))
         }
         SearchStep::Grow(link) => {

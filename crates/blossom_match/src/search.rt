@@ -9,7 +9,7 @@ use crate::expanding::expand;
 use crate::matches::take_match;
 use crate::odd_set::{TightEdge, single};
 use crate::shrinking::shrink;
-use crate::state::{PartialMatching, Search};
+use crate::state::{Pairing, Search};
 use crate::table::DistTable;
 use design_model::Memory;
 use std::alloc::Global;
@@ -108,12 +108,7 @@ pub fn expand_at(alloc: Global, s: Search, at: usize) -> Result<Search, Memory>
 }
 
 /// Augments along the path to the free vertex that an edge leads to: all sets of the tree are matched.
-pub fn augment_to(
-    alloc: Global,
-    t: &DistTable,
-    s: Search,
-    link: TightEdge,
-) -> Result<PartialMatching, Memory>
+pub fn finish(alloc: Global, t: &DistTable, s: Search, link: TightEdge) -> Result<Pairing, Memory>
     requires { CanStepAt t.now (search_value s) (step.Augment link) }
     ensures { IfOk result (λ r. EndsSearch t.now (search_value s) (step.Augment link) (partial_value r)) }
 {
@@ -131,7 +126,7 @@ pub fn augment_to(
     let met = single(alloc, &mut slots, t, link.to, &heights)?;
     let mut matches = rest;
     augment(&slots, root, tree, link, met, &mut matches)?;
-    Ok(PartialMatching {
+    Ok(Pairing {
         sets: slots,
         matches,
         free: left,

@@ -115,8 +115,7 @@ impl Chain {
 
     /// Returns the blossom of the parts and the set that both ends are in.
     fn close(self, alloc: Global, sets: &mut Sets, top: Handle) -> Result<Handle, Memory>
-        requires can { CanClose (set_in sets.old top) self.way (parts_in sets.old self.parts.items)
-            self.to }
+        requires can { CanClose (set_in sets.old top) self.way (parts_in sets.old self.parts.items) self.to }
         requires kept { IsOddSet (set_in sets.old top) }
         requires sets { AreSets sets.old (dual_sets_in (part_with_edge (set_in sets.old top) self.way
             ∷ parts_in sets.old self.parts.items)) }

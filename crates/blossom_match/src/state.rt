@@ -12,7 +12,7 @@ use crate::odd_set::{Handle, Sets};
 /// the duals of the sets that hold the vertex, or the initial dual of a free one. Each set has a slot of its
 /// own.
 #[derive(Drop)]
-pub struct PartialMatching {
+pub struct Pairing {
     pub sets: Sets,
     pub matches: Vec<Match>,
     pub free: Vec<u32>,

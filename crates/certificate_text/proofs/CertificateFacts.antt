@@ -2,7 +2,7 @@
 use Rattle.std.proofs.Common.{◌≡◌, ℕ, true, false, List, [], ◌∷◌, ◌++◌, None, Some, Ok, Err, codes, refl}
 use Rattle.std.specs.Fmt.{digits}
 use Rattle.std.specs.List.{flat_map}
-use Rattle.cut_certificate.specs.declared.certificate.PieceCert.{PieceCert}
+use Rattle.odd_cuts.specs.declared.certificate.PieceCert.{PieceCert}
 use Rattle.certificate_text.specs.declared.reading.TheConstants.{MAX_CERT}
 use Rattle.certificate_text.specs.CertificateLines.{parsed_cert_number, parsed_pass}
 use Rattle.text_parts.specs.Parts.{words_in}

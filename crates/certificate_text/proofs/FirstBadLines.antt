@@ -6,7 +6,7 @@ use Rattle.std.proofs.lemmas.Option.{same_Some}
 use Rattle.std.specs.List.{flat_map, onto_first}
 use Rattle.std.specs.Option.{option_and_then}
 use Rattle.line_graph.specs.declared.pass.Pass.{Pass}
-use Rattle.cut_certificate.specs.declared.certificate.PieceCert.{PieceCert}
+use Rattle.odd_cuts.specs.declared.certificate.PieceCert.{PieceCert}
 use Rattle.certificate_text.specs.declared.draft.CertDraft.{CertDraft}
 use Rattle.certificate_text.specs.declared.draft.CertDraft.TheVariants as draft
 use Rattle.certificate_text.specs.declared.lines.CertLine.{CertLine}

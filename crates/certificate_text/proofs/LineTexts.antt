@@ -7,11 +7,11 @@ use Rattle.std.specs.List.{flat_map, join_with_byte}
 use Rattle.line_graph.specs.declared.pass.Pass.{Pass}
 use Rattle.certificate_text.specs.declared.lines.CertLine.{CertLine}
 use Rattle.certificate_text.specs.declared.lines.CertLine.TheVariants as line
-use Rattle.cut_certificate.specs.declared.cut.Cut.{Cut}
+use Rattle.odd_cuts.specs.declared.cut.Cut.{Cut}
 use Rattle.certificate_text.specs.CertificateLines.{parsed_cut, parsed_cert_line, parsed_members_after, parsed_number_above, parsed_cert_number, only_number, parsed_passes, parsed_walk, parsed_cert_words}
 use Rattle.text_parts.specs.Parts.{words_in}
 use Rattle.certificate_text.specs.CertificateTexts.{member_text, passes_text}
-use Rattle.cut_certificate.specs.Packings.{IsPlainCut}
+use Rattle.odd_cuts.specs.Packings.{IsPlainCut}
 use Rattle.certificate_text.proofs.ItemWords.{HasMember, HasPass, members_are, members_spaced, passes_are, passes_spaced}
 use Rattle.certificate_text.proofs.NumberWords.{above_is, map_some, number_is, pass_word, spaced, then_some}
 

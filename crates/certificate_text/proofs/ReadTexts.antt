@@ -12,18 +12,18 @@ use Rattle.std.specs.List.{flat_map, list_all}
 use Rattle.std.specs.Option.{option_and_then}
 use Rattle.std.specs.Str.{all_ascii_digits}
 use Rattle.line_graph.specs.declared.pass.Pass.{Pass}
-use Rattle.cut_certificate.specs.declared.certificate.PieceCert.{PieceCert}
+use Rattle.odd_cuts.specs.declared.certificate.PieceCert.{PieceCert}
 use Rattle.certificate_text.specs.declared.draft.CertDraft.{CertDraft}
 use Rattle.certificate_text.specs.declared.draft.CertDraft.TheVariants as draft
 use Rattle.certificate_text.specs.declared.lines.CertLine.{CertLine}
 use Rattle.certificate_text.specs.declared.lines.CertLine.TheVariants as line
-use Rattle.cut_certificate.specs.declared.cut.Cut.{Cut}
+use Rattle.odd_cuts.specs.declared.cut.Cut.{Cut}
 use Rattle.certificate_text.specs.CertificateLines.{parsed_cut, parsed_cert_line, parsed_walk, parsed_cert_words}
 use Rattle.text_parts.specs.Parts.{parts_between, words_in}
-use Rattle.cut_certificate.specs.Certificates.{HasCanonicalText}
+use Rattle.odd_cuts.specs.Certificates.{HasCanonicalText}
 use Rattle.certificate_text.specs.CertificateTexts.{certificate_text, cut_line_text, member_text, passes_text, piece_text}
 use Rattle.design_model.specs.TextLines.{newline}
-use Rattle.cut_certificate.specs.Packings.{IsPlainCut}
+use Rattle.odd_cuts.specs.Packings.{IsPlainCut}
 use Rattle.certificate_text.specs.ReadCertificates.{HasSmallNumbers, cert_of, draft_with_text_line, draft_with_line, pieces_after_lines, with_cut}
 use Rattle.certificate_text.proofs.ItemWords.{HasMember, HasPass, member_word, members_read, members_spaced, passes_read, passes_spaced, reach_all}
 use Rattle.certificate_text.proofs.LineTexts.{HasCut, HasLine, line_bytes}

@@ -2,7 +2,7 @@
 use Rattle.std.proofs.Common.{◌≡◌, ◌≢◌, ℕ, ◌+◌, List, [], ◌∷◌, Option, None, Some, Result, Err, ap, sym, refl, ◌∙◌}
 use Rattle.std.specs.Option.{ok_or}
 use Rattle.line_graph.specs.GrowingDrawings.{and_then}
-use Rattle.cut_certificate.specs.declared.certificate.PieceCert.{PieceCert}
+use Rattle.odd_cuts.specs.declared.certificate.PieceCert.{PieceCert}
 use Rattle.certificate_text.specs.declared.draft.CertDraft.{CertDraft}
 use Rattle.text_parts.specs.Parts.{parts_between}
 use Rattle.certificate_text.specs.ReadCertificates.{cert_of, draft_with_text_line, pieces_after_lines}

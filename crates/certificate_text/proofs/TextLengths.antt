@@ -4,8 +4,8 @@ use Rattle.std.proofs.lemmas.List.{length-append}
 use Rattle.std.proofs.lemmas.List.Folds.{length-flat_map-take}
 use Rattle.std.specs.List.{flat_map}
 use Rattle.line_graph.specs.declared.pass.Pass.{Pass}
-use Rattle.cut_certificate.specs.declared.certificate.PieceCert.{PieceCert}
-use Rattle.cut_certificate.specs.declared.cut.Cut.{Cut}
+use Rattle.odd_cuts.specs.declared.certificate.PieceCert.{PieceCert}
+use Rattle.odd_cuts.specs.declared.cut.Cut.{Cut}
 use Rattle.certificate_text.specs.CertificateTexts.{certificate_text, cut_line_text, member_text, pass_text, passes_text, piece_text}
 use Rattle.design_model.specs.TextLines.{newline}
 use Rattle.certificate_text.specs.ReadCertificates.{AreFew, HasFewItems}

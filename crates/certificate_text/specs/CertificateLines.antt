@@ -8,7 +8,7 @@ use Rattle.std.specs.Str.{all_ascii_digits}
 use Rattle.std.specs.Str.Parse.{digits_value}
 use Rattle.certificate_text.specs.declared.lines.CertLine.{CertLine}
 use Rattle.certificate_text.specs.declared.lines.CertLine.TheVariants as line
-use Rattle.cut_certificate.specs.declared.cut.Cut.{Cut}
+use Rattle.odd_cuts.specs.declared.cut.Cut.{Cut}
 use Rattle.line_graph.specs.declared.pass.Pass.{Pass}
 use Rattle.text_parts.specs.Parts.{words_in}
 

@@ -3,8 +3,8 @@
 -- without leading zeros.
 use Rattle.std.specs.Prelude.{ℕ, ◌+◌, List, ◌++◌, codes, decimal, if◌then◌else◌}
 use Rattle.std.specs.List.{flat_map}
-use Rattle.cut_certificate.specs.declared.certificate.PieceCert.{PieceCert}
-use Rattle.cut_certificate.specs.declared.cut.Cut.{Cut}
+use Rattle.odd_cuts.specs.declared.certificate.PieceCert.{PieceCert}
+use Rattle.odd_cuts.specs.declared.cut.Cut.{Cut}
 use Rattle.design_model.specs.TextLines.{newline}
 use Rattle.line_graph.specs.declared.pass.Pass.{Pass}
 

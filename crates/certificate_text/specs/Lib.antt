@@ -1,5 +1,5 @@
 -- Definitions of a lower crate that public clauses cite.
-pub use Rattle.cut_certificate.specs.Certificates
+pub use Rattle.odd_cuts.specs.Certificates
 -- Read this one first: the text of a certificate.
 pub mod CertificateTexts
 pub mod CertificateLines

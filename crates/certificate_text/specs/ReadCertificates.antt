@@ -4,18 +4,18 @@
 use Rattle.std.specs.Prelude.{◌≡◌, ℕ, ◌+◌, ◌-◌, ◌<◌, ◌≤◌, ◌^◌, List, [], ◌∷◌, ◌++◌, Option, Some, None, Result, Ok, Err, All, length, take}
 use Rattle.std.specs.List.{flat_map}
 use Rattle.std.specs.Option.{ok_or, option_and_then}
-use Rattle.cut_certificate.specs.declared.certificate.Cert.{Cert}
-use Rattle.cut_certificate.specs.declared.certificate.PieceCert.{PieceCert}
+use Rattle.odd_cuts.specs.declared.certificate.Cert.{Cert}
+use Rattle.odd_cuts.specs.declared.certificate.PieceCert.{PieceCert}
 use Rattle.certificate_text.specs.declared.draft.CertDraft.{CertDraft}
 use Rattle.certificate_text.specs.declared.draft.CertDraft.TheVariants as draft
 use Rattle.certificate_text.specs.declared.lines.CertLine.{CertLine}
 use Rattle.certificate_text.specs.declared.lines.CertLine.TheVariants as line
 use Rattle.certificate_text.specs.declared.reading.CertFault.{CertFault}
 use Rattle.certificate_text.specs.declared.reading.CertFault.TheVariants as fault
-use Rattle.cut_certificate.specs.declared.cut.Cut.{Cut}
+use Rattle.odd_cuts.specs.declared.cut.Cut.{Cut}
 use Rattle.certificate_text.specs.CertificateLines.{parsed_cert_line}
 use Rattle.text_parts.specs.Parts.{parts_between}
-use Rattle.cut_certificate.specs.Certificates.{HasCanonicalText}
+use Rattle.odd_cuts.specs.Certificates.{HasCanonicalText}
 use Rattle.certificate_text.specs.CertificateTexts.{certificate_text}
 use Rattle.line_graph.specs.GrowingDrawings.{and_then}
 

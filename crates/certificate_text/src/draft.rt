@@ -3,9 +3,9 @@ ghost use Rattle.certificate_text.specs.declared.lines.CertLine.TheVariants as l
 ghost use Rattle.certificate_text.specs.ReadCertificates.{draft_with_text_line, draft_with_line};
 
 use crate::lines::{CertLine, line_of};
-use cut_certificate::{Cut, Cuts, PieceCert, PieceCerts};
 use design_model::Memory;
 use line_graph::Walk;
+use odd_cuts::{Cut, Cuts, PieceCert, PieceCerts};
 use std::alloc::Global;
 
 /// A draft: the certificate of the text lines so far.

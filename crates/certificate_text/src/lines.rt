@@ -4,9 +4,9 @@ ghost use Rattle.certificate_text.specs.CertificateLines.{parsed_cut, parsed_cer
 ghost use Rattle.text_parts.specs.Parts.{words_in};
 
 use crate::words::number_in;
-use cut_certificate::Cut;
 use design_model::{Memory, Numbers};
 use line_graph::{Pass, Walk};
+use odd_cuts::Cut;
 use std::alloc::Global;
 use text_parts::{equals_text, split_first};
 

@@ -1,13 +1,13 @@
 ghost use Rattle.std.specs.Prelude.{◌≡◌, ◌+◌, ◌++◌, ◌<◌, ◌^◌, All, IfOk, Ok, OnOk, decimal};
 ghost use Rattle.std.specs.List.{flat_map};
 ghost use Rattle.certificate_text.specs.ReadCertificates.{HasSmallNumbers, cert_of};
-ghost use Rattle.cut_certificate.specs.Certificates.{HasCanonicalText};
+ghost use Rattle.odd_cuts.specs.Certificates.{HasCanonicalText};
 ghost use Rattle.certificate_text.specs.CertificateTexts.{certificate_text, cut_line_text, member_text, pass_text, passes_text, piece_text};
 
-use cut_certificate::{Cert, Cut, PieceCert};
 use design_model::{Bytes, Memory};
 use itoa::Buffer;
 use line_graph::Pass;
+use odd_cuts::{Cert, Cut, PieceCert};
 use std::alloc::Global;
 
 /// Returns the text of a certificate. Reading the text returns the certificate.

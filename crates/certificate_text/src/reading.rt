@@ -1,11 +1,11 @@
 ghost use Rattle.std.specs.Prelude.{◌≡◌, ◌≤◌, All, IfOk, length};
-ghost use Rattle.cut_certificate.specs.Certificates.{HasCanonicalText};
+ghost use Rattle.odd_cuts.specs.Certificates.{HasCanonicalText};
 ghost use Rattle.certificate_text.specs.CertificateTexts.{certificate_text};
 ghost use Rattle.certificate_text.specs.ReadCertificates.{AreFew, ReadsCert, cert_of};
 
 use crate::draft::CertDraft;
-use cut_certificate::Cert;
 use design_model::Memory;
+use odd_cuts::Cert;
 use std::alloc::Global;
 use text_parts::split_line;
 

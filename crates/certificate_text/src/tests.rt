@@ -1,10 +1,10 @@
 ghost use Rattle.std.specs.Prelude.{All, IfOk};
-ghost use Rattle.cut_certificate.specs.Certificates.{HasCanonicalText};
+ghost use Rattle.odd_cuts.specs.Certificates.{HasCanonicalText};
 
 use crate::{CertFault, MAX_CERT, print_cert, read_cert};
-use cut_certificate::Cert;
 use design_model::{Bytes, Memory};
 use line_graph::Pass;
+use odd_cuts::Cert;
 use std::alloc::Global;
 use std::process::Abort;
 use std::test::Fail;

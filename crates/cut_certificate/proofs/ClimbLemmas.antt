@@ -2,7 +2,7 @@
 use Rattle.std.proofs.Common.{◌≡◌, ℕ, ◌+◌, ◌-◌, ◌*◌, ◌<◌, ◌≤◌, ◌⊎◌, List, [], ◌∷◌, true, arith, inl, inr, refl, ap}
 use Rattle.std.proofs.lemmas.Bool.{cases_lt}
 use Rattle.blossom_match.specs.declared.matching.Moat.{Moat}
-use Rattle.cut_certificate.specs.Cuts.{has_member}
+use Rattle.odd_cuts.specs.Cuts.{has_member}
 use Rattle.cut_certificate.specs.Levels.{LiftInput, depth, level, width_sum}
 use Rattle.cut_certificate.proofs.LevelLemmas.{IsBest, best, inner_full, level_by, level_most}
 use Rattle.cut_certificate.proofs.MoatLemmas.{Apart, Disjoint, Fits, IsOf, not_in, parts, reach, related}

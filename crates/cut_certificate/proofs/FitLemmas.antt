@@ -14,12 +14,12 @@ use Rattle.line_graph.specs.ValidPieces.{IsValidPiece, ends_below}
 use Rattle.line_graph.specs.PieceGraphs.{PieceValue}
 use Rattle.odd_paths.specs.CostTheorems.{AreDistances}
 use Rattle.odd_paths.specs.LeastRows.{RowsValue, cost_at, length_in, terminal_of}
-use Rattle.cut_certificate.specs.declared.cut.Cut.{Cut}
-use Rattle.cut_certificate.specs.Cuts.{has_member, load_on}
+use Rattle.odd_cuts.specs.declared.cut.Cut.{Cut}
+use Rattle.odd_cuts.specs.Cuts.{has_member, load_on}
 use Rattle.cut_certificate.specs.Levels.{LiftInput, lift_input, width_sum}
 use Rattle.cut_certificate.specs.Lifts.{AreLiftableMoats, IsLifted}
 use Rattle.cut_certificate.specs.MoatCuts.{AddsCuts, AreCutsTo}
-use Rattle.cut_certificate.specs.Packings.{IsOddCut, IsPlainCut}
+use Rattle.odd_cuts.specs.Packings.{IsOddCut, IsPlainCut}
 use Rattle.cut_certificate.specs.MoatDistances.{AreAllMoatDistances, HasRowsForMoats, AreDistancesFrom}
 use Rattle.cut_certificate.proofs.ClimbLemmas.{IsLine, carries}
 use Rattle.cut_certificate.proofs.HeldLemmas.{as_many}

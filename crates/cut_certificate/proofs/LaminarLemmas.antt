@@ -6,7 +6,7 @@ use Rattle.std.proofs.lemmas.List.Folds.{list_any_none}
 use Rattle.std.specs.Prelude.{◌==◌}
 use Rattle.blossom_match.specs.declared.matching.Moat.{Moat}
 use Rattle.blossom_match.specs.Matchings.{AreLaminar, IsOddMoat, IsDisjointFrom, IsNestedIn}
-use Rattle.cut_certificate.specs.Cuts.{has_member}
+use Rattle.odd_cuts.specs.Cuts.{has_member}
 use Rattle.cut_certificate.proofs.HeldLemmas.{Below, Differ, apart}
 use Rattle.cut_certificate.proofs.MoatLemmas.{Apart, ApartFromAll, IsOf, Laminar}
 

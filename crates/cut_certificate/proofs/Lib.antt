@@ -1,8 +1,3 @@
-mod Sums
-mod Crossing
-mod Degrees
-mod Duality
-mod Totals
 mod MoatLemmas
 mod LevelLemmas
 mod OverlapLemmas
@@ -20,12 +15,3 @@ mod LevelFacts
 mod MoatCutFacts
 mod TreeFacts
 mod MoatTestLemmas
-mod TableLemmas
-mod PlaceLemmas
-mod ParityLemmas
-mod LoadLemmas
-mod ExactWalks
-mod ExactCuts
-mod WalkFaultFacts
-mod CutFaultFacts
-mod PieceExamples

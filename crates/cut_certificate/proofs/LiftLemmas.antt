@@ -9,8 +9,8 @@ use Rattle.blossom_match.specs.declared.matching.Moat.{Moat}
 use Rattle.blossom_match.specs.Matchings.{width_of}
 use Rattle.line_graph.specs.declared.edge.Edge.{Edge}
 use Rattle.line_graph.specs.PieceWalks.{is_strictly_increasing}
-use Rattle.cut_certificate.specs.declared.cut.Cut.{Cut}
-use Rattle.cut_certificate.specs.Cuts.{crosses, has_member, load_on, total_weight}
+use Rattle.odd_cuts.specs.declared.cut.Cut.{Cut}
+use Rattle.odd_cuts.specs.Cuts.{crosses, has_member, load_on, total_weight}
 use Rattle.cut_certificate.specs.Levels.{LiftInput, level}
 use Rattle.cut_certificate.specs.MoatCuts.{AddsCuts, AreCutsTo, IsLevelCut, distance_between}
 use Rattle.cut_certificate.specs.MoatDistances.{AreDistancesFrom}

@@ -6,8 +6,8 @@ use Rattle.std.proofs.lemmas.List.Sums.{sum_by_push}
 use Rattle.std.specs.Prelude.{if◌then◌else◌, slice_index}
 use Rattle.line_graph.specs.declared.edge.Edge.{Edge}
 use Rattle.line_graph.specs.PieceWalks.{all_greater, is_strictly_increasing}
-use Rattle.cut_certificate.specs.declared.cut.Cut.{Cut}
-use Rattle.cut_certificate.specs.Cuts.{crosses, has_member, load_on}
+use Rattle.odd_cuts.specs.declared.cut.Cut.{Cut}
+use Rattle.odd_cuts.specs.Cuts.{crosses, has_member, load_on}
 use Rattle.cut_certificate.specs.MoatCuts.{AddsCuts, AreCutsTo, IsLevelCut, distance_between, members_from}
 
 none_before : (k h j : ℕ) (es : List ℕ) → j < k → has_member (members_from k h es) j ≡ false

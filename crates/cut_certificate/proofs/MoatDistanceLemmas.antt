@@ -6,7 +6,7 @@ use Rattle.std.specs.Prelude.{◌==◌, ◌||◌, if◌then◌else◌, slice_ind
 use Rattle.blossom_match.specs.declared.matching.Moat.{Moat}
 use Rattle.cut_certificate.specs.declared.terminal_state.TerminalState.{TerminalState}
 use Rattle.cut_certificate.specs.declared.terminal_state.TerminalState.TheVariants as stand
-use Rattle.cut_certificate.specs.Cuts.{has_member}
+use Rattle.odd_cuts.specs.Cuts.{has_member}
 use Rattle.cut_certificate.specs.Levels.{LiftInput, distance_beyond, depth, is_inner, level, width_sum}
 use Rattle.cut_certificate.specs.MoatDistances.{IsProgress, AreDistancesFrom, lesser_of, lowered_distance, distance_from, distance_past}
 use Rattle.cut_certificate.specs.TerminalStates.{IsProcessed, IsUncovered, IsOutermost}

@@ -11,7 +11,7 @@ use Rattle.blossom_match.specs.declared.matching.Moat.{Moat}
 use Rattle.blossom_match.specs.Matchings.{AreLaminar, IsOddMoat}
 use Rattle.line_graph.specs.PieceGraphs.{PieceValue, is_odd_junction, odd_junctions}
 use Rattle.odd_paths.specs.LeastRows.{AreRows, AreTerminals, RowsValue}
-use Rattle.cut_certificate.specs.Cuts.{has_member}
+use Rattle.odd_cuts.specs.Cuts.{has_member}
 use Rattle.cut_certificate.specs.Lifts.{AreLiftableMoats}
 use Rattle.cut_certificate.specs.MoatTests.{KeepsTestLoads}
 

@@ -8,7 +8,7 @@ use Rattle.blossom_match.specs.declared.matching.Moat.{Moat}
 use Rattle.blossom_match.specs.Matchings.{AreLaminar, IsOddMoat}
 use Rattle.cut_certificate.specs.declared.terminal_state.TerminalState.{TerminalState}
 use Rattle.cut_certificate.specs.declared.terminal_state.TerminalState.TheVariants as stand
-use Rattle.cut_certificate.specs.Cuts.{has_member}
+use Rattle.odd_cuts.specs.Cuts.{has_member}
 use Rattle.cut_certificate.specs.Levels.{LiftInput, lift_input}
 use Rattle.cut_certificate.specs.MoatDistances.{AreAllMoatDistances, IsProgress, HasRowsForMoats, IsNextMoat, AreDistancesFrom}
 use Rattle.cut_certificate.specs.TerminalStates.{IsProcessed, IsOutermost, surrounded}

@@ -6,7 +6,7 @@ use Rattle.std.specs.Prelude.{◌==◌, slice_index}
 use Rattle.blossom_match.specs.declared.matching.Moat.{Moat}
 use Rattle.cut_certificate.specs.declared.terminal_state.TerminalState.{TerminalState}
 use Rattle.cut_certificate.specs.declared.terminal_state.TerminalState.TheVariants as stand
-use Rattle.cut_certificate.specs.Cuts.{has_member}
+use Rattle.odd_cuts.specs.Cuts.{has_member}
 use Rattle.cut_certificate.specs.TerminalStates.{AreTerminalStates, IsProcessed, IsFirst, IsUncovered, IsOutermost, covered, surrounded}
 use Rattle.cut_certificate.proofs.MoatLemmas.{Apart, IsOf, Laminar, related}
 

@@ -3,7 +3,7 @@
 -- steps.
 use Rattle.std.specs.Prelude.{ℕ, ◌+◌, ◌-◌, ◌*◌, min, List, [], ◌∷◌, Bool, length, nat_lt, ◌&&◌, if◌then◌else◌}
 use Rattle.blossom_match.specs.declared.matching.Moat.{Moat}
-use Rattle.cut_certificate.specs.Cuts.{has_member}
+use Rattle.odd_cuts.specs.Cuts.{has_member}
 use Rattle.odd_paths.specs.LeastRows.{RowsValue, cost_at, terminal_of}
 
 -- The input of lifting: the numbers of terminals and junctions, the junction of each terminal, the

@@ -4,9 +4,9 @@ use Rattle.std.specs.Prelude.{◌≡◌, ℕ, ◌*◌, ◌<◌, ◌≤◌, List,
 use Rattle.std.specs.List.{All, AllPairs}
 use Rattle.blossom_match.specs.declared.matching.Moat.{Moat}
 use Rattle.blossom_match.specs.Matchings.{AreLaminar, IsOddMoat, moat_load, width_of}
-use Rattle.cut_certificate.specs.declared.cut.Cut.{Cut}
-use Rattle.cut_certificate.specs.Cuts.{total_weight}
-use Rattle.cut_certificate.specs.Packings.{IsPacking, IsPlainCut}
+use Rattle.odd_cuts.specs.declared.cut.Cut.{Cut}
+use Rattle.odd_cuts.specs.Cuts.{total_weight}
+use Rattle.odd_cuts.specs.Packings.{IsPacking, IsPlainCut}
 use Rattle.line_graph.specs.PieceGraphs.{PieceValue, odd_junctions}
 use Rattle.odd_paths.specs.LeastRows.{AreRows, RowsValue, cost_at, terminal_of}
 

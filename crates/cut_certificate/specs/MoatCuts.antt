@@ -1,7 +1,7 @@
 -- The cuts of one moat, by the levels of the junctions. Weights and levels count halves of a step.
 use Rattle.std.specs.Prelude.{◌≡◌, ℕ, ◌+◌, ◌-◌, ◌<◌, ◌≤◌, ◌⊎◌, min, List, [], ◌∷◌, ◌++◌, All, length, nat_le, slice_index, if◌then◌else◌}
-use Rattle.cut_certificate.specs.declared.cut.Cut.{Cut}
-use Rattle.cut_certificate.specs.Cuts.{load_on, total_weight}
+use Rattle.odd_cuts.specs.declared.cut.Cut.{Cut}
+use Rattle.odd_cuts.specs.Cuts.{load_on, total_weight}
 use Rattle.line_graph.specs.declared.edge.Edge.{Edge}
 
 -- The junctions whose level is at most a limit, where the first of the levels is that of junction

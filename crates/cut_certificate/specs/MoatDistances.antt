@@ -8,7 +8,7 @@ use Rattle.blossom_match.specs.Matchings.{AreLaminar, IsOddMoat}
 use Rattle.cut_certificate.specs.declared.terminal_state.TerminalState.{TerminalState}
 use Rattle.cut_certificate.specs.declared.terminal_state.TerminalState.TheVariants as stand
 use Rattle.cut_certificate.specs.declared.moat_distances.LiftProgress.{LiftProgress}
-use Rattle.cut_certificate.specs.Cuts.{has_member}
+use Rattle.odd_cuts.specs.Cuts.{has_member}
 use Rattle.cut_certificate.specs.Levels.{LiftInput, distance_beyond, lift_input}
 use Rattle.cut_certificate.specs.TerminalStates.{AreTerminalStates, IsProcessed}
 use Rattle.line_graph.specs.declared.limits.TheConstants.{MAX_COST}

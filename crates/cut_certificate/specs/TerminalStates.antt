@@ -4,7 +4,7 @@ use Rattle.std.specs.Prelude.{◌≡◌, ℕ, ◌<◌, ◌≤◌, ◌⊎◌, Lis
 use Rattle.blossom_match.specs.declared.matching.Moat.{Moat}
 use Rattle.cut_certificate.specs.declared.terminal_state.TerminalState.{TerminalState}
 use Rattle.cut_certificate.specs.declared.terminal_state.TerminalState.TheVariants as stand
-use Rattle.cut_certificate.specs.Cuts.{has_member}
+use Rattle.odd_cuts.specs.Cuts.{has_member}
 
 -- A moat was processed: it has fewer members than the limit, or as many and a lower index.
 abbrev pub IsProcessed : (members before i : ℕ) → Moat → Type 0

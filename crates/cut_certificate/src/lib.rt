@@ -1,34 +1,15 @@
-//! Packings of odd cuts, which prove walks least, and the certificates that contain them.
+//! Moats over the odd junctions of a piece, lifted to a packing of odd cuts with the same total.
 #![tactic(auto)]
 
-mod certificate;
-#[cfg(test)]
-mod check_tests;
-mod cut;
-mod cut_check;
-mod fault_theorems;
-mod faults;
-mod held_junctions;
 #[cfg(test)]
 mod lift_tests;
 mod lifting;
-mod line_indexes;
-mod line_loads;
 mod moat_cuts;
 mod moat_distances;
-mod passed_lines;
 mod single_moat;
-mod slices;
 mod terminal_state;
-mod theorems;
-mod walk_check;
 
-pub use certificate::{Cert, PieceCert, PieceCerts};
-pub use cut::{Cut, Cuts};
-pub use cut_check::check_cuts;
-pub use fault_theorems::{cut_faults_are_exact, walk_faults_are_exact};
-pub use faults::{CutFault, WalkFault};
 pub use lifting::lift;
-pub use slices::first_lent;
-pub use theorems::{packings_bound_walks, packings_keep_their_total, packings_prove_least};
-pub use walk_check::check_walk;
+pub use odd_cuts::{
+    Cert, Cut, CutFault, Cuts, PieceCert, PieceCerts, WalkFault, check_cuts, check_walk,
+};

@@ -2,12 +2,12 @@ ghost use Rattle.std.specs.Prelude.{◌<◌, ◌^◌, IfOk, length};
 ghost use Rattle.cut_certificate.specs.Lifts.{AreLiftableMoats, IsLifted};
 ghost use Rattle.line_graph.specs.PiecesOfDrawings.{graph_of};
 
-use crate::cut::Cuts;
 use crate::moat_cuts::add_cuts;
 use crate::moat_distances::reaches;
 use blossom_match::Moats;
 use design_model::Memory;
 use line_graph::Piece;
+use odd_cuts::Cuts;
 use odd_paths::{Rows, least_costs_are_distances};
 use std::alloc::Global;
 

@@ -2,8 +2,8 @@ ghost use Rattle.std.specs.Prelude.{◌≡◌, ◌+◌, ◌<◌, ◌≤◌, IfOk
 ghost use Rattle.cut_certificate.specs.MoatCuts.{AddsCuts, AreCutsTo, NoneBetween, members_from};
 ghost use Rattle.line_graph.specs.declared.limits.TheConstants.{MAX_LINES};
 
-use crate::cut::{Cut, Cuts};
 use design_model::{Memory, Numbers};
+use odd_cuts::{Cut, Cuts};
 use std::alloc::Global;
 
 /// Appends the cuts of a moat, whose junctions enter them at the given levels.

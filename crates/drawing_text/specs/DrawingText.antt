@@ -33,31 +33,28 @@ abbrev pub at_line : {A : Type 0} → (number opened : ℕ) → Result A DrawKin
 at_line number opened (Ok a) = Ok a
 at_line number opened (Err why) = Err (located_fault number opened why)
 
--- The joined drawing of a draft, or its fault, where the text ends before the line of the given
--- number.
+-- The joined drawing of a draft, or its fault, where the text ends before line `number`.
 abbrev pub joined_at : ℕ → DrawingDraft → Result DrawingValue DrawFault
 joined_at number draft =
     at_line number draft.opened (and_then (finished_drawing draft.drawing) joined_drawing)
 
--- The drawing with the given starts and ends, or the first fault of one of them, at the text line
--- that names it.
+-- The drawing with the given starts and ends, or the first fault of one, at its text line.
 abbrev pub drawing_with_ends : DrawingValue → List WalkEnd → Result DrawingValue DrawFault
 drawing_with_ends d [] = Ok d
 drawing_with_ends d (end ∷ rest) =
     and_then (at_line end.number 0 (walk_end_added end.is_start d end.spot)) (λ next.
     drawing_with_ends next rest)
 
--- The drawing of a complete draft, by the version of the text, which ends before the line of the
--- given number. Faults of starts and ends come after all others.
+-- The drawing of a complete draft, by the version of the text, which ends before line `number`.
+-- Faults of starts and ends come after all others.
 abbrev pub drawing_of_draft : Version → ℕ → DrawingDraft → Result DrawingValue DrawFault
-drawing_of_draft version.One number draft = at_line number draft.opened
-    (finished_drawing draft.drawing)
+drawing_of_draft version.One number draft =
+    at_line number draft.opened (finished_drawing draft.drawing)
 drawing_of_draft version.Two number draft = joined_at number draft
 drawing_of_draft version.Three number draft =
     and_then (joined_at number draft) (λ d. drawing_with_ends d draft.ends)
 
--- The drawing of a draft and the remaining text lines, from the line of the given number on, or the
--- first fault.
+-- The drawing of a draft and the remaining text lines, from line `number` on, or the first fault.
 abbrev pub drawing_after_lines : Version → ℕ → DrawingDraft → List (List (List ℕ))
     → Result DrawingValue DrawFault
 drawing_after_lines version number draft [] = drawing_of_draft version number draft
@@ -83,15 +80,13 @@ parsed_header words = None
 abbrev pub bad_header : ℕ → DrawFault
 bad_header number = record { number = number; kind = kind.BadHeader }
 
--- A text after its header: the version that the header names, the number of the header's line, and
--- the words of the lines after it.
+-- A text after its header: its version, the number of the header's line, and the words after it.
 pub record Body : Type 0 where
   pub version : Version
   pub header : ℕ
   pub lines : List (List (List ℕ))
 
--- The text after the header, whose line has the given number, or the fault that the line is no
--- header.
+-- The text after the header in line `number`, or the fault that the line is no header.
 abbrev pub body_after_header : ℕ → Option Version → List (List (List ℕ)) → Result Body DrawFault
 body_after_header number None rest = Err (bad_header number)
 body_after_header number (Some version) rest =
@@ -117,14 +112,12 @@ body_of_text text = body_from 1 (words_by_line text)
 abbrev pub drawing_of : List ℕ → Result DrawingValue DrawFault
 drawing_of text = and_then (body_of_text text) (λ body. drawing_in_version body.version body)
 
--- The drawing that a text describes in version 2, whether its header names version 1 or 2. A header
--- of version 3 is a fault.
+-- The drawing that a text of version 1 or 2 describes in version 2. Version 3 is a fault.
 abbrev pub drawing_of_body_as2 : Version → Body → Result DrawingValue DrawFault
 drawing_of_body_as2 version.Three body = Err (bad_header body.header)
 drawing_of_body_as2 earlier body = drawing_in_version version.Two body
 
--- The drawing that a text of version 1 or 2 describes when it is read as version 2, or its first
--- fault.
+-- The drawing that a text of version 1 or 2 describes as version 2, or its first fault.
 abbrev pub drawing_as2 : List ℕ → Result DrawingValue DrawFault
 drawing_as2 text = and_then (body_of_text text) (λ body. drawing_of_body_as2 body.version body)
 
@@ -151,8 +144,7 @@ abbrev pub CanonicalTextIsRead : Type 0
 CanonicalTextIsRead = (d : DrawingValue) → KeepsDrawingLimits d → HasNoEnds d
     → drawing_of (canonical_text d) ≡ Ok d
 
--- The canonical text, in version 2, of a joined drawing without starts and ends is read as that
--- drawing.
+-- The canonical text 2 of a joined drawing without starts and ends is read as that drawing.
 abbrev pub CanonicalText2IsRead : Type 0
 CanonicalText2IsRead = (d : DrawingValue) → KeepsDrawingLimits d → IsJoinedWithoutEnds d
     → drawing_of (canonical_text2 d) ≡ Ok d

@@ -91,8 +91,7 @@ impl DrawingDraft {
 
     fn take_name(&mut self, rest: &[u8]) -> Result<(), DrawKind>
         ensures { ChangesAsSpecified (with_name_line self.old (single_word (words_of_line rest.now)))
-            self.old result
-            self.new }
+            self.old result self.new }
     {
         let Some(word) = only_word(rest) else {
             return Err(DrawKind::BadWord);
@@ -107,8 +106,7 @@ impl DrawingDraft {
 
     fn take_step(&mut self, rest: &[u8]) -> Result<(), DrawKind>
         ensures { ChangesAsSpecified (with_step_line self.old (single_word (words_of_line rest.now)))
-            self.old result
-            self.new }
+            self.old result self.new }
     {
         let Some(word) = only_word(rest) else {
             return Err(DrawKind::BadWord);

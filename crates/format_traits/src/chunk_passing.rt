@@ -19,8 +19,7 @@ pub(crate) fn pass_on<D: Decoder>(
 ) -> Result<(), Memory>
     requires { start + length pending.old.items + length piece.now < 2 ^ 64 }
     ensures { OnOk result (PassesChunk (D.decoder_state decoder.old) (D.decoder_state decoder.new)
-        (D.so_far decoder.new)
-        start pending.old.items piece.now pending.new.items) }
+        (D.so_far decoder.new) start pending.old.items piece.now pending.new.items) }
 {
     let mut at = start;
     let mut rest = piece;

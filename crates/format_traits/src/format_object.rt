@@ -57,8 +57,7 @@ pub trait Format: Drop {
     fn encode(&self, alloc: Global, design: &Design) -> Result<Bytes, WriteFault>
         ensures value { EncodesTo ((meaning self.now).writes design.now) result }
 
-        // A written file reads back as the same acts and moves within the limit; a plain design is not
-        // refused.
+        // A written file reads back as the same acts, within the limit; a plain design is not refused.
         ensures again { IfOk result (λ bytes. RoundTrips (meaning self.now) design.now bytes) }
         ensures within { IfOk result (λ bytes. MovesWithin (meaning self.now) bytes) }
         ensures plain { IsPlain (meaning self.now).limit design.now
@@ -80,8 +79,7 @@ pub trait Format: Drop {
     fn finish(&mut self) -> Result<Loaded, ReadFault>
         ensures same { meaning self.new ≡ meaning self.old }
         ensures told { Finishes (meaning self.new).reads (meaning self.new).shown (feed_state self.old)
-            result
-            (feed_state self.new) };
+            result (feed_state self.new) };
 
     /// Returns the commands read so far.
     fn so_far(&self) -> &[Command]

@@ -47,8 +47,7 @@ impl<R: RecordReader + Drop> RecordDecoder<R> {
         requires { length header.now ≡ R.layout.header }
         ensures on { (at : ℕ) → ContinuesAs (layout_state R.layout)
             (record_state_at R.layout (R.records self.new.reader) self.new.design self.new.place
-            (stage.Records false))
-            at (at + R.layout.header) header.now [] }
+            (stage.Records false)) at (at + R.layout.header) header.now [] }
         ensures settled { (at : ℕ) → IsAtRecordBoundary
             (record_state_at R.layout (R.records self.new.reader) self.new.design self.new.place
             (stage.Records result))
@@ -65,8 +64,7 @@ impl<R: RecordReader + Drop> RecordDecoder<R> {
         requires { at + length bytes.now < 2 ^ 64 }
         ensures { IfOk result (λ size. TakesBytes (layout_state R.layout)
             (record_state_at R.layout (R.records self.new.reader) self.new.design self.new.place
-            self.new.stage)
-            (record_so_far_at self.new.design self.new.stage) at bytes.now size) }
+            self.new.stage) (record_so_far_at self.new.design self.new.stage) at bytes.now size) }
     {
         let length = self.reader.header_length();
         if bytes.len() < length {
@@ -86,8 +84,7 @@ impl<R: RecordReader + Drop> RecordDecoder<R> {
             (record_state_at R.layout (R.records self.old.reader) self.old.design self.old.place
             (stage.Records false))
             (record_state_at R.layout (R.records self.new.reader) self.new.design self.new.place
-            self.new.stage)
-            (record_so_far_at self.new.design self.new.stage) at bytes.now size) }
+            self.new.stage) (record_so_far_at self.new.design self.new.stage) at bytes.now size) }
     {
         let reached = read_records(&mut self.reader, &mut self.design, self.place, at, bytes)?;
         self.place = reached.place;

@@ -10,6 +10,7 @@ pub mod Walks
 pub mod Pieces
 -- Read these two first: the graph of a piece, and the fitting and least walks over it.
 pub mod PieceGraphs
+pub mod ClosedDegrees
 pub mod PieceWalks
 pub mod ValidPieces
 pub mod PiecesOfDrawings

@@ -3,6 +3,7 @@
 #![tactic(auto)]
 
 mod chosen_spots;
+mod closed_degrees;
 mod connected_lines;
 mod degrees;
 mod draw_kind;
@@ -27,6 +28,7 @@ mod tests;
 mod theorems;
 mod walk_theorems;
 
+pub use closed_degrees::is_odd_at;
 pub use connected_lines::pieces;
 pub use draw_kind::DrawKind;
 pub use drawing::Drawing;

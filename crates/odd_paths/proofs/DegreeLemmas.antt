@@ -11,7 +11,8 @@ use Rattle.line_graph.specs.declared.edge.Edge.{Edge}
 use Rattle.line_graph.specs.declared.limits.TheConstants.{MAX_LINES}
 use Rattle.line_graph.specs.ValidPieces.{IsValidPiece, ends_below, is_below}
 use Rattle.line_graph.specs.PieceGraphs.{PieceValue, one_if, edges_with_closing, closing_edge, degree, degrees_from, given_start, is_odd, odd_junctions, given_end}
-use Rattle.odd_paths.specs.ClosedDegrees.{closing_ends, odds_from, singleton_if}
+use Rattle.line_graph.specs.ClosedDegrees.{closing_ends}
+use Rattle.odd_paths.specs.OddDegrees.{odds_from, singleton_if}
 
 -- the line back adds its ends
 degree_closed : (from to : Option ℕ) (es : List Edge) (j : ℕ)

@@ -6,7 +6,7 @@ use Rattle.line_graph.specs.declared.edge.Edge.{Edge}
 use Rattle.line_graph.specs.declared.pass.Pass.{Pass}
 use Rattle.line_graph.specs.PieceGraphs.{PieceValue, odd_junctions}
 use Rattle.line_graph.specs.PieceWalks.{piece_cost, walk_cost, walk_end_from}
-use Rattle.odd_paths.specs.ClosedDegrees.{odds_from}
+use Rattle.odd_paths.specs.OddDegrees.{odds_from}
 use Rattle.odd_paths.specs.LeastRows.{IsPath, RowsValue, cost_at, lines_at_indexes, row_length, terminal_of}
 
 abbrev place : ℕ → Point

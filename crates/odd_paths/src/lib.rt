@@ -15,5 +15,5 @@ mod walk_back;
 
 pub use cost_theorems::least_costs_are_distances;
 pub use least_rows::rows;
-pub use odd_junctions::{is_odd_at, odd, odds_are_even};
+pub use odd_junctions::{odd, odds_are_even};
 pub use row_table::Rows;

@@ -95,8 +95,7 @@ impl Entry {
         requires made { IsSome self.old.content }
         requires fits { length (unwrap_or self.old.content []) + length bytes.now ≤ self.old.room }
         ensures { self.new ≡ record self.old {
-          content =
-              Some (unwrap_or self.old.content [] ++ bytes.now);
+          content = Some (unwrap_or self.old.content [] ++ bytes.now);
         } }
     {
         self.content.extend_from_slice(bytes).unwrap();

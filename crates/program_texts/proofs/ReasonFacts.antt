@@ -2,8 +2,8 @@
 use Rattle.std.proofs.Common.{◌≡◌, ◌++◌, refl}
 use Rattle.std.specs.Fmt.{digits}
 use Rattle.std.specs.Prelude.{codes}
-use Rattle.cut_certificate.specs.declared.faults.CutFault.TheVariants as cut
-use Rattle.cut_certificate.specs.declared.faults.WalkFault.TheVariants as walk
+use Rattle.odd_cuts.specs.declared.faults.CutFault.TheVariants as cut
+use Rattle.odd_cuts.specs.declared.faults.WalkFault.TheVariants as walk
 use Rattle.design_model.specs.TextLines.{newline}
 use Rattle.program_texts.specs.Reasons.{act_differs_line, piece_counts_line, cut_fault_line, walk_fault_line}
 

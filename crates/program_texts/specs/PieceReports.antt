@@ -1,6 +1,6 @@
 -- The data of the lines about pieces, each with its certificate. Costs count steps.
 use Rattle.std.specs.Prelude.{ℕ, ◌+◌, List, [], ◌∷◌, length}
-use Rattle.cut_certificate.specs.declared.certificate.PieceCert.{PieceCert}
+use Rattle.odd_cuts.specs.declared.certificate.PieceCert.{PieceCert}
 use Rattle.line_graph.specs.PieceGraphs.{PieceValue}
 use Rattle.line_graph.specs.PieceWalks.{piece_cost}
 use Rattle.program_texts.specs.declared.reports.PieceReport.{PieceReport}

@@ -1,10 +1,10 @@
 -- The lines for a failed check. Pieces, passes, cuts, junctions, lines and acts are numbered from
 -- 1; numbers are given as digits.
 use Rattle.std.specs.Prelude.{ℕ, List, [], ◌++◌, codes, decimal}
-use Rattle.cut_certificate.specs.declared.faults.CutFault.{CutFault}
-use Rattle.cut_certificate.specs.declared.faults.CutFault.TheVariants as cut
-use Rattle.cut_certificate.specs.declared.faults.WalkFault.{WalkFault}
-use Rattle.cut_certificate.specs.declared.faults.WalkFault.TheVariants as walk
+use Rattle.odd_cuts.specs.declared.faults.CutFault.{CutFault}
+use Rattle.odd_cuts.specs.declared.faults.CutFault.TheVariants as cut
+use Rattle.odd_cuts.specs.declared.faults.WalkFault.{WalkFault}
+use Rattle.odd_cuts.specs.declared.faults.WalkFault.TheVariants as walk
 use Rattle.design_model.specs.TextLines.{newline}
 
 -- A text, a number and a further text.

@@ -5,9 +5,9 @@ ghost use Rattle.program_texts.specs.Reports.{penetrations_of};
 ghost use Rattle.program_texts.specs.PieceReports.{reports_from};
 
 use crate::reports::{PieceReport, piece_place, reports_of, totals_line};
-use cut_certificate::PieceCert;
 use design_model::{Bytes, Memory};
 use line_graph::Piece;
+use odd_cuts::PieceCert;
 use std::alloc::Global;
 
 /// Returns the report of double walks over pieces, each with its certificate.

@@ -11,8 +11,7 @@ use outside_io::Sink;
 /// Reports that the step of a drawing exceeds the limit of a format, both in tenths of a millimetre.
 pub fn report_step<E: Sink>(err: &mut E, name: &str, step: u32, limit: u32, ending: &[u8]) -> Status
     ensures { ReportsLineWithStatus (step_limit_line name.now (decimal step) (decimal limit) ending.now)
-        status.Refused
-        (E.view err.old) (E.view err.new) result }
+        status.Refused (E.view err.old) (E.view err.new) result }
 {
     let mut step_buffer = Buffer::new();
     let mut limit_buffer = Buffer::new();
@@ -53,8 +52,7 @@ pub(crate) fn report_long_stitch<E: Sink>(
     limit: u32,
 ) -> Status
     ensures { ReportsLineWithStatus (long_stitch_line name.now (decimal number) (decimal limit))
-        status.Refused
-        (E.view err.old) (E.view err.new) result }
+        status.Refused (E.view err.old) (E.view err.new) result }
 {
     let mut number_buffer = Buffer::new();
     let mut limit_buffer = Buffer::new();
@@ -65,8 +63,7 @@ pub(crate) fn report_long_stitch<E: Sink>(
 
 fn report_long_digits<E: Sink>(err: &mut E, name: &[u8], number: &[u8], limit: &[u8]) -> Status
     ensures { ReportsLineWithStatus (long_stitch_line name.now number.now limit.now) status.Refused
-        (E.view err.old)
-        (E.view err.new) result }
+        (E.view err.old) (E.view err.new) result }
 {
     let pieces: [&[u8]; 7] = [
         b"stitch: ",
@@ -83,8 +80,7 @@ fn report_long_digits<E: Sink>(err: &mut E, name: &[u8], number: &[u8], limit: &
 /// Reports a colour place, numbered from 1, that a design does not have, and the number of its places.
 pub fn report_no_place<E: Sink>(err: &mut E, name: &str, place: u32, count: u32) -> Status
     ensures { ReportsLineWithStatus (no_colour_place_line name.now (decimal place) (decimal count))
-        status.Refused
-        (E.view err.old) (E.view err.new) result }
+        status.Refused (E.view err.old) (E.view err.new) result }
 {
     let mut place_buffer = Buffer::new();
     let mut count_buffer = Buffer::new();
@@ -95,8 +91,7 @@ pub fn report_no_place<E: Sink>(err: &mut E, name: &str, place: u32, count: u32)
 
 fn report_place_digits<E: Sink>(err: &mut E, name: &[u8], place: &[u8], count: &[u8]) -> Status
     ensures { ReportsLineWithStatus (no_colour_place_line name.now place.now count.now) status.Refused
-        (E.view err.old)
-        (E.view err.new) result }
+        (E.view err.old) (E.view err.new) result }
 {
     let pieces: [&[u8]; 7] = [
         b"stitch: ",

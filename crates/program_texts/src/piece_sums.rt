@@ -7,9 +7,9 @@ ghost use Rattle.program_texts.specs.Reports.{penetrations_of};
 
 use crate::reports::{PieceReport, reports_of};
 use crate::summary::Summary;
-use cut_certificate::PieceCert;
 use design_model::Memory;
 use line_graph::Piece;
+use odd_cuts::PieceCert;
 use odd_paths::{odd, odds_are_even};
 use std::alloc::Global;
 

@@ -5,15 +5,14 @@ ghost use Rattle.program_texts.specs.Reasons.{act_differs_line, piece_counts_lin
 
 use crate::putting::report_text;
 use crate::status::Status;
-use cut_certificate::{CutFault, WalkFault};
 use itoa::Buffer;
+use odd_cuts::{CutFault, WalkFault};
 use outside_io::Sink;
 
 /// Reports the number of pieces of a certificate, and that of the drawing.
 pub fn report_counts<E: Sink>(err: &mut E, found: u32, drawn: u32) -> Status
     ensures { ReportsLineWithStatus (piece_counts_line (decimal found) (decimal drawn)) status.Refused
-        (E.view err.old)
-        (E.view err.new) result }
+        (E.view err.old) (E.view err.new) result }
 {
     let mut found_buffer = Buffer::new();
     let mut drawn_buffer = Buffer::new();
@@ -80,8 +79,9 @@ pub fn report_walk<E: Sink>(err: &mut E, piece: u32, fault: WalkFault) -> Status
 /// Reports the retraced cost of a piece, as stated by the certificate and as computed from its walk, in
 /// steps.
 pub fn report_retraced<E: Sink>(err: &mut E, piece: u32, said: u32, found: u64) -> Status
-    ensures { ReportsLineWithStatus (two_number_fault_line (decimal piece) (codes ": retraced ") (decimal said)
-        (codes " said, ") (decimal found) (codes " found")) status.Refused (E.view err.old) (E.view err.new) result }
+    ensures { ReportsLineWithStatus (two_number_fault_line (decimal piece) (codes ": retraced ")
+        (decimal said) (codes " said, ") (decimal found) (codes " found")) status.Refused
+        (E.view err.old) (E.view err.new) result }
 {
     let mut piece_buffer = Buffer::new();
     let mut said_buffer = Buffer::new();
@@ -144,8 +144,9 @@ fn report_even_cut<E: Sink>(err: &mut E, piece: u32, cut: u32, odd: u32) -> Stat
 }
 
 fn report_total<E: Sink>(err: &mut E, piece: u32, sum: u64, needed: u64) -> Status
-    ensures { ReportsLineWithStatus (two_number_fault_line (decimal piece) (codes ": cuts give ") (decimal sum)
-        (codes " halves, needed ") (decimal needed) []) status.Refused (E.view err.old) (E.view err.new) result }
+    ensures { ReportsLineWithStatus (two_number_fault_line (decimal piece) (codes ": cuts give ")
+        (decimal sum) (codes " halves, needed ") (decimal needed) []) status.Refused
+        (E.view err.old) (E.view err.new) result }
 {
     let mut piece_buffer = Buffer::new();
     let mut sum_buffer = Buffer::new();
@@ -165,8 +166,9 @@ fn report_total<E: Sink>(err: &mut E, piece: u32, sum: u64, needed: u64) -> Stat
 }
 
 fn report_overload<E: Sink>(err: &mut E, piece: u32, line: u32, load: u64, allowed: u64) -> Status
-    ensures { ReportsLineWithStatus (three_number_fault_line (decimal piece) (codes ": line ") (decimal line) (codes " carries ")
-        (decimal load) (codes " halves, allowed ") (decimal allowed)) status.Refused (E.view err.old) (E.view err.new) result }
+    ensures { ReportsLineWithStatus (three_number_fault_line (decimal piece) (codes ": line ")
+        (decimal line) (codes " carries ") (decimal load) (codes " halves, allowed ") (decimal allowed))
+        status.Refused (E.view err.old) (E.view err.new) result }
 {
     let mut piece_buffer = Buffer::new();
     let mut line_buffer = Buffer::new();
@@ -186,8 +188,9 @@ fn report_load_digits<E: Sink>(
     load: &[u8],
     allowed: &[u8],
 ) -> Status
-    ensures { ReportsLineWithStatus (three_number_fault_line piece.now (codes ": line ") line.now (codes " carries ") load.now
-        (codes " halves, allowed ") allowed.now) status.Refused (E.view err.old) (E.view err.new) result }
+    ensures { ReportsLineWithStatus (three_number_fault_line piece.now (codes ": line ") line.now
+        (codes " carries ") load.now (codes " halves, allowed ") allowed.now) status.Refused
+        (E.view err.old) (E.view err.new) result }
 {
     let pieces: [&[u8]; 9] = [
         b"stitch: no: piece ",
@@ -206,8 +209,7 @@ fn report_load_digits<E: Sink>(
 /// Reports a fault in a piece.
 fn report_plain<E: Sink>(err: &mut E, piece: u32, text: &[u8]) -> Status
     ensures { ReportsLineWithStatus (plain_fault_line (decimal piece) text.now) status.Refused
-        (E.view err.old)
-        (E.view err.new) result }
+        (E.view err.old) (E.view err.new) result }
 {
     let mut buffer = Buffer::new();
     let digits = buffer.format(piece).as_bytes();
@@ -225,8 +227,7 @@ fn report_plain_digits<E: Sink>(err: &mut E, piece: &[u8], text: &[u8]) -> Statu
 /// Reports a fault in a piece, with one further number.
 fn report_one<E: Sink>(err: &mut E, piece: u32, before: &[u8], number: u32, after: &[u8]) -> Status
     ensures { ReportsLineWithStatus (one_number_fault_line (decimal piece) before.now (decimal number)
-        after.now) status.Refused
-        (E.view err.old) (E.view err.new) result }
+        after.now) status.Refused (E.view err.old) (E.view err.new) result }
 {
     let mut piece_buffer = Buffer::new();
     let mut number_buffer = Buffer::new();
@@ -243,8 +244,7 @@ fn report_one_digits<E: Sink>(
     after: &[u8],
 ) -> Status
     ensures { ReportsLineWithStatus (one_number_fault_line piece.now before.now number.now after.now)
-        status.Refused
-        (E.view err.old) (E.view err.new) result }
+        status.Refused (E.view err.old) (E.view err.new) result }
 {
     let pieces: [&[u8]; 6] = [b"stitch: no: piece ", piece, before, number, after, b"\n"];
     report_text(err, &pieces, Status::Refused)
@@ -261,8 +261,7 @@ fn report_two_digits<E: Sink>(
     after: &[u8],
 ) -> Status
     ensures { ReportsLineWithStatus (two_number_fault_line piece.now before.now one.now between.now
-        two.now after.now)
-        status.Refused (E.view err.old) (E.view err.new) result }
+        two.now after.now) status.Refused (E.view err.old) (E.view err.new) result }
 {
     let pieces: [&[u8]; 8] = [
         b"stitch: no: piece ",

@@ -4,9 +4,9 @@ ghost use Rattle.line_graph.specs.PiecesOfDrawings.{graph_of};
 ghost use Rattle.program_texts.specs.PieceReports.{reports_from, piece_report};
 ghost use Rattle.program_texts.specs.Reports.{cost_text, penetrations_of, piece_position_text, migrate_report, route_report, totals_text};
 
-use cut_certificate::{PieceCert, first_lent};
 use design_model::{Bytes, Items, Memory};
 use line_graph::Piece;
+use odd_cuts::{PieceCert, first_lent};
 use std::alloc::Global;
 
 /// The data of the line about a piece: the numbers of its block and its own, both from 1, and its number of

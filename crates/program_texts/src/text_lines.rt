@@ -45,8 +45,7 @@ pub(crate) fn report_at<E: Sink>(
     text: &[u8],
 ) -> Status
     ensures { ReportsLineWithStatus (line_at name.now word.now digits.now text.now) status.Refused
-        (E.view err.old)
-        (E.view err.new) result }
+        (E.view err.old) (E.view err.new) result }
 {
     let pieces: [&[u8]; 7] = [
         b"stitch: ",

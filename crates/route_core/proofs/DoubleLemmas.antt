@@ -3,10 +3,10 @@ use Rattle.std.proofs.Common.{◌≡◌, ◌≤◌, ◌<◌, ◌^◌, ℕ, ◌+�
 use Rattle.std.proofs.lemmas.List.{append-nil, append_assoc}
 use Rattle.std.proofs.lemmas.List.Elements.{All-cons, All-contains, All-head, All-nil, All-tail}
 use Rattle.std.specs.List.{AllZip, concat}
-use Rattle.cut_certificate.specs.declared.certificate.PieceCert.{PieceCert}
-use Rattle.cut_certificate.specs.declared.cut.Cut.{Cut}
-use Rattle.cut_certificate.specs.Certificates.{HasCanonicalText}
-use Rattle.cut_certificate.specs.Packings.{IsPlainCut}
+use Rattle.odd_cuts.specs.declared.certificate.PieceCert.{PieceCert}
+use Rattle.odd_cuts.specs.declared.cut.Cut.{Cut}
+use Rattle.odd_cuts.specs.Certificates.{HasCanonicalText, walks_of}
+use Rattle.odd_cuts.specs.Packings.{IsPlainCut}
 use Rattle.double_run.specs.DoubleWalks.{without_ends}
 use Rattle.line_graph.specs.declared.pass.Pass.{Pass}
 use Rattle.line_graph.specs.declared.piece.Piece.{Piece}
@@ -19,8 +19,7 @@ use Rattle.line_graph.specs.Runs.{AreWritable, commands_after, runs_of, sewn_des
 use Rattle.line_graph.specs.SewnWalks.{FittingWalksAreSewable, IsSewable, PiecesKeepLimits}
 use Rattle.route_core.specs.declared.routed.Routed.{Routed}
 use Rattle.route_core.specs.Doubles.{AreDoubled, IsDoubleOver, IsDoubled, IsDoubleCert}
-use Rattle.route_core.specs.Routes.{walks_of}
-use Rattle.route_core.specs.SewingSteps.{AllDrawn}
+use Rattle.route_verdict.specs.SewingSteps.{AllDrawn}
 use Rattle.route_core.proofs.SewnPieces.{Sewn, able, behind, front}
 
 -- what doubles the pieces that are left has doubled all

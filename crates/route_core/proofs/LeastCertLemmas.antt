@@ -9,13 +9,13 @@ use Rattle.std.specs.List.{range_with_len}
 use Rattle.blossom_match.specs.declared.matching.Moat.{Moat}
 use Rattle.blossom_match.specs.declared.matching.Pair.{Pair}
 use Rattle.blossom_match.specs.Matchings.{width_of}
-use Rattle.cut_certificate.specs.declared.certificate.PieceCert.{PieceCert}
-use Rattle.cut_certificate.specs.declared.cut.Cut.{Cut}
-use Rattle.cut_certificate.specs.PackingBounds.{BoundsTotal, ProvesLeast}
-use Rattle.cut_certificate.specs.Certificates.{HasCanonicalText}
-use Rattle.cut_certificate.specs.Cuts.{total_weight}
+use Rattle.odd_cuts.specs.declared.certificate.PieceCert.{PieceCert}
+use Rattle.odd_cuts.specs.declared.cut.Cut.{Cut}
+use Rattle.odd_cuts.specs.PackingBounds.{BoundsTotal, ProvesLeast}
+use Rattle.odd_cuts.specs.Certificates.{HasCanonicalText}
+use Rattle.odd_cuts.specs.Cuts.{total_weight}
 use Rattle.cut_certificate.specs.Lifts.{IsLifted}
-use Rattle.cut_certificate.specs.Packings.{IsOddCut}
+use Rattle.odd_cuts.specs.Packings.{IsOddCut}
 use Rattle.line_graph.specs.declared.edge.Edge.{Edge}
 use Rattle.line_graph.specs.declared.limits.TheConstants.{MAX_COST, MAX_LINES}
 use Rattle.line_graph.specs.declared.pass.Pass.{Pass}

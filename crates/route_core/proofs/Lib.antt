@@ -6,11 +6,6 @@ mod LeastLemmas
 mod MatchLemmas
 mod PassLemmas
 mod LeastCertLemmas
-mod SewLemmas
 mod SewnPieces
 mod RouteLemmas
 mod DoubleLemmas
-mod ActOrderLemmas
-mod SameActs
-mod VerdictLemmas
-mod VerdictFacts

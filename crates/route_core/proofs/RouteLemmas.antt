@@ -3,10 +3,10 @@ use Rattle.std.proofs.Common.{◌≡◌, ◌≤◌, ◌<◌, ℕ, ◌+◌, ◌*�
 use Rattle.std.proofs.lemmas.List.{append-nil, append_assoc}
 use Rattle.std.proofs.lemmas.List.Elements.{All-head, All-tail}
 use Rattle.std.specs.List.{AllZip, concat}
-use Rattle.cut_certificate.specs.declared.certificate.PieceCert.{PieceCert}
-use Rattle.cut_certificate.specs.PackingBounds.{BoundsTotal}
-use Rattle.cut_certificate.specs.Certificates.{HasCanonicalText}
-use Rattle.cut_certificate.specs.Cuts.{total_weight}
+use Rattle.odd_cuts.specs.declared.certificate.PieceCert.{PieceCert}
+use Rattle.odd_cuts.specs.PackingBounds.{BoundsTotal}
+use Rattle.odd_cuts.specs.Certificates.{HasCanonicalText, walks_of}
+use Rattle.odd_cuts.specs.Cuts.{total_weight}
 use Rattle.line_graph.specs.declared.piece.Piece.{Piece}
 use Rattle.line_graph.specs.PiecesOfDrawings.{ArePiecesOf, graph_of, lines_of_pieces}
 use Rattle.line_graph.specs.Drawings.{DrawingValue, KeepsDrawingLimits}
@@ -18,8 +18,8 @@ use Rattle.line_graph.specs.SewnWalks.{FittingWalksAreSewable, PiecesKeepLimits}
 use Rattle.route_core.specs.declared.routed.Routed.{Routed}
 use Rattle.route_core.specs.PieceCertificates.{CertifiesLeastWalk}
 use Rattle.route_core.specs.RoutedPieceCertificates.{AreRouted, IsRoutedPiece}
-use Rattle.route_core.specs.Routes.{IsLeastPieceRoute, IsRouteOver, walks_of}
-use Rattle.route_core.specs.SewingSteps.{AllDrawn}
+use Rattle.route_core.specs.Routes.{IsLeastPieceRoute, IsRouteOver}
+use Rattle.route_verdict.specs.SewingSteps.{AllDrawn}
 use Rattle.route_core.proofs.SewnPieces.{Sewn, able, behind, front}
 
 -- what routes the pieces that are left has routed all

@@ -4,8 +4,8 @@ use Rattle.std.proofs.lemmas.List.{length-append, length-map, length-replicate}
 use Rattle.std.proofs.lemmas.List.Elements.{All-cons, All-contains, All-head, All-nil, All-tail}
 use Rattle.std.proofs.lemmas.List.Sums.{sum_by-cons}
 use Rattle.std.specs.List.{AllZip}
-use Rattle.cut_certificate.specs.declared.certificate.PieceCert.{PieceCert}
-use Rattle.cut_certificate.specs.Certificates.{HasCanonicalText}
+use Rattle.odd_cuts.specs.declared.certificate.PieceCert.{PieceCert}
+use Rattle.odd_cuts.specs.Certificates.{HasCanonicalText, walks_of}
 use Rattle.design_model.specs.declared.command.Command.TheVariants.{Stitch, Stop, Trim}
 use Rattle.design_model.specs.declared.point.Point.{Point}
 use Rattle.line_graph.specs.declared.pass.Pass.{Pass}
@@ -16,8 +16,7 @@ use Rattle.line_graph.specs.PieceWalks.{piece_cost, walk_cost}
 use Rattle.line_graph.specs.Runs.{AreNear, AreWritable, Run, commands_after, run_of, runs_of, stops_after}
 use Rattle.line_graph.specs.SewnWalks.{ArePiecesWithin, GoesAlong, IsSewable, PiecesKeepLimits}
 use Rattle.line_graph.specs.Walks.{needles_of_walk}
-use Rattle.route_core.specs.Routes.{walks_of}
-use Rattle.route_core.specs.SewingSteps.{AllDrawn, AreDrawn}
+use Rattle.route_verdict.specs.SewingSteps.{AllDrawn, AreDrawn}
 
 -- the walk of a piece can be sewn and printed, and costs no more than the lines twice
 pub record Sewn (d : DrawingValue) (lines : List ℕ) (cert : PieceCert) : Type 0 where

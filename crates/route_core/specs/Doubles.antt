@@ -2,8 +2,8 @@
 -- Costs count steps.
 use Rattle.std.specs.Prelude.{◌≡◌, ℕ, ◌+◌, ◌*◌, true, List, [], length, All}
 use Rattle.std.specs.List.{AllZip}
-use Rattle.cut_certificate.specs.declared.certificate.PieceCert.{PieceCert}
-use Rattle.cut_certificate.specs.Certificates.{HasCanonicalText}
+use Rattle.odd_cuts.specs.declared.certificate.PieceCert.{PieceCert}
+use Rattle.odd_cuts.specs.Certificates.{HasCanonicalText, walks_of}
 use Rattle.double_run.specs.DoubleWalks.{IsDouble, without_ends}
 use Rattle.line_graph.specs.declared.piece.Piece.{Piece}
 use Rattle.line_graph.specs.PiecesOfDrawings.{graph_of}
@@ -14,7 +14,6 @@ use Rattle.line_graph.specs.PieceWalks.{is_fitting_walk, piece_cost, walk_cost}
 use Rattle.line_graph.specs.Runs.{AreWritable, runs_of, sewn_design}
 use Rattle.line_graph.specs.Walks.{needles_of_walk}
 use Rattle.route_core.specs.declared.routed.Routed.{Routed}
-use Rattle.route_core.specs.Routes.{walks_of}
 
 -- A certificate with a double walk over the piece of the given lines, without cuts. The retraced
 -- cost is the cost of the lines. There is one needle point more than the walk costs steps.

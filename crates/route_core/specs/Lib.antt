@@ -1,18 +1,13 @@
 -- Definitions of lower crates that public clauses cite.
-pub use Rattle.cut_certificate.specs.Packings
+pub use Rattle.odd_cuts.specs.Packings
 pub use Rattle.line_graph.specs.PieceWalks
 pub use Rattle.line_graph.specs.Runs
 -- Used only inside this crate.
 pub mod Distances
 pub mod Copies
 pub mod OddPairs
-pub mod SewingSteps
 pub mod PieceCertificates
 pub mod RoutedPieceCertificates
 -- Read this one first: the route of a drawing.
 pub mod Routes
 pub mod Doubles
-pub mod ActSteps
--- Read this one next: the first fault of a certificate or a design.
-pub mod ActOrder
-pub mod Verdicts

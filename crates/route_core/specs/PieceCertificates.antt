@@ -1,9 +1,9 @@
 -- The certificate of a piece: it shows that the walk over the piece is least. Weights of cuts count
 -- halves of a step, costs count steps.
 use Rattle.std.specs.Prelude.{◌≡◌, ◌+◌, ◌*◌, true, None}
-use Rattle.cut_certificate.specs.declared.certificate.PieceCert.{PieceCert}
-use Rattle.cut_certificate.specs.Cuts.{total_weight}
-use Rattle.cut_certificate.specs.Packings.{IsPacking}
+use Rattle.odd_cuts.specs.declared.certificate.PieceCert.{PieceCert}
+use Rattle.odd_cuts.specs.Cuts.{total_weight}
+use Rattle.odd_cuts.specs.Packings.{IsPacking}
 use Rattle.line_graph.specs.PieceGraphs.{PieceValue, given_start}
 use Rattle.line_graph.specs.Pieces.{first_line}
 use Rattle.line_graph.specs.PieceWalks.{BeginsWith, IsLeastWalk, is_fitting_walk, piece_cost, walk_cost}

@@ -2,8 +2,8 @@
 -- design that sews these walks. Weights of cuts count halves of a step, costs count steps.
 use Rattle.std.specs.Prelude.{◌≡◌, ℕ, ◌+◌, List, length, map, All}
 use Rattle.std.specs.List.{AllZip}
-use Rattle.cut_certificate.specs.declared.certificate.PieceCert.{PieceCert}
-use Rattle.cut_certificate.specs.Certificates.{HasCanonicalText}
+use Rattle.odd_cuts.specs.declared.certificate.PieceCert.{PieceCert}
+use Rattle.odd_cuts.specs.Certificates.{HasCanonicalText, walks_of}
 use Rattle.line_graph.specs.declared.pass.Pass.{Pass}
 use Rattle.line_graph.specs.Drawings.{DrawingValue}
 use Rattle.line_graph.specs.PieceGraphs.{piece_graph}
@@ -13,10 +13,6 @@ use Rattle.line_graph.specs.Runs.{AreWritable, runs_of, sewn_design}
 use Rattle.line_graph.specs.Walks.{needles_of_walk}
 use Rattle.route_core.specs.declared.routed.Routed.{Routed}
 use Rattle.route_core.specs.PieceCertificates.{CertifiesLeastWalk}
-
--- The walks of the certificates of pieces.
-abbrev pub walks_of : List PieceCert → List (List Pass)
-walks_of certs = map (λ (cert : PieceCert). cert.walk) certs
 
 -- A certificate with a least walk over the piece of the given lines. There is one needle point more
 -- than the walk costs steps.

@@ -5,10 +5,10 @@ ghost use Rattle.route_core.specs.Copies.{AddsPairs, AddsCopies, IsPairOf, total
 ghost use Rattle.line_graph.specs.PieceWalks.{edge_cost};
 ghost use Rattle.route_core.specs.Copies.{copies_sum};
 
-use crate::slices::first_and_rest;
 use blossom_match::Pair;
 use design_model::{Memory, Numbers};
 use line_graph::Piece;
+use odd_cuts::first_and_rest;
 use odd_paths::Rows;
 use std::alloc::Global;
 

@@ -3,11 +3,11 @@ ghost use Rattle.line_graph.specs.PiecesOfDrawings.{ArePiecesOf, graph_of, lines
 ghost use Rattle.route_core.specs.Doubles.{AreDoubled, IsDoubleOver, IsDoubleCert};
 
 use crate::routed::Routed;
-use crate::sewing::sew;
-use cut_certificate::{Cert, Cuts, PieceCert, PieceCerts, first_lent};
 use design_model::Memory;
 use double_run::double;
 use line_graph::{Drawing, Piece, fitting_walks_are_sewable, pieces_keep_limits};
+use odd_cuts::{Cert, Cuts, PieceCert, PieceCerts, first_lent};
+use route_verdict::sew;
 use std::alloc::Global;
 
 /// Returns the double run of a drawing whose pieces are given, with the design that sews it. A double run

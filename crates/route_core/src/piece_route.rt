@@ -1,5 +1,5 @@
 ghost use Rattle.std.specs.Prelude.{◌≡◌, ◌%◌, ◌<◌, ◌≤◌, ◌∷◌, ◌^◌, All, IfOk, []};
-ghost use Rattle.cut_certificate.specs.Certificates.{HasCanonicalText};
+ghost use Rattle.odd_cuts.specs.Certificates.{HasCanonicalText};
 ghost use Rattle.line_graph.specs.declared.limits.TheConstants.{MAX_COST, MAX_LINES};
 ghost use Rattle.line_graph.specs.PiecesOfDrawings.{graph_of};
 ghost use Rattle.odd_paths.specs.LeastRows.{AreRows};
@@ -11,12 +11,12 @@ ghost use Rattle.std.specs.Prelude.{length};
 
 use crate::copies::copies_of;
 use crate::distances::{distance, distances};
-use crate::slices::first_and_rest;
 use blossom_match::{Matching, Pair, match_all};
-use cut_certificate::{PieceCert, lift, packings_keep_their_total, packings_prove_least};
+use cut_certificate::lift;
 use design_model::Memory;
 use euler_tour::tour;
 use line_graph::{Piece, Walk};
+use odd_cuts::{PieceCert, first_and_rest, packings_keep_their_total, packings_prove_least};
 use odd_paths::{Rows, odd, odds_are_even, rows};
 use std::alloc::Global;
 

@@ -1,5 +1,5 @@
-use cut_certificate::Cert;
 use design_model::Design;
+use odd_cuts::Cert;
 
 /// The route of a drawing: the design that sews it, and the certificate of its walks.
 #[derive(Debug, Drop)]

@@ -5,10 +5,10 @@ ghost use Rattle.route_core.specs.Routes.{IsRoute, IsRouteOver};
 
 use crate::piece_route::route_piece;
 use crate::routed::Routed;
-use crate::sewing::sew;
-use cut_certificate::{Cert, PieceCerts, first_lent, packings_keep_their_total};
 use design_model::Memory;
 use line_graph::{Drawing, Piece, fitting_walks_are_sewable, pieces, pieces_keep_limits};
+use odd_cuts::{Cert, PieceCerts, first_lent, packings_keep_their_total};
+use route_verdict::sew;
 use std::alloc::Global;
 
 /// Returns the route of a drawing. A route has for each piece a least walk over all its lines, with cuts

@@ -141,8 +141,7 @@ fn put_split(
     requires room { length out.old.commands ≤ MAX_COMMANDS }
     ensures { AddsRefitCommands number
         (commands_of_acts (split_needle limit before.now.loose before.now.place at
-        float))
-        out.old result out.new }
+        float)) out.old result out.new }
 {
     if float {
         return put_two(out, Command::Jump(at), Command::Stitch(at), number);
@@ -170,8 +169,7 @@ fn put_steps(
     requires differ { from ≢ to }
     requires room { length out.old.commands ≤ MAX_COMMANDS }
     ensures { AddsRefitCommands number (commands_of_acts (needles_at (split_points from to limit)))
-        out.old result
-        out.new }
+        out.old result out.new }
 {
     let points = split(alloc, from, to, limit)?;
     put_stitches(out, points.as_slice(), number)

@@ -1,7 +1,7 @@
 -- If no fault is counted, the arguments and the files determine the status.
 use Rattle.std.proofs.Common.{◌≡◌, ℕ, Bool, true, false, ◌≤◌, inl, inr, List, Option, Some, None, Ok, Err, Result, IsSome, length, ap, refl, subst, sym, ◌∙◌, arith}
 use Rattle.std.specs.Prelude.{nat_lt}
-use Rattle.cut_certificate.specs.declared.certificate.PieceCert.{PieceCert}
+use Rattle.odd_cuts.specs.declared.certificate.PieceCert.{PieceCert}
 use Rattle.certificate_text.specs.ReadCertificates.{cert_of}
 use Rattle.design_model.specs.Designs.{DesignValue}
 use Rattle.design_model.specs.OutOfMemory.{UnlessOutOfMemory}
@@ -19,8 +19,8 @@ use Rattle.outside_io.specs.Causes.{IsFileLonger}
 use Rattle.outside_io.specs.Counts.{IsFaultless, Rose}
 use Rattle.outside_io.specs.Files.{Files, FileHolds, LacksFile}
 use Rattle.outside_io.specs.declared.limits.TheConstants.{MAX_FILE}
-use Rattle.route_core.specs.declared.verdict.Verdict.TheVariants as verdict
-use Rattle.route_core.specs.Verdicts.{verdict_of}
+use Rattle.route_verdict.specs.declared.verdict.Verdict.TheVariants as verdict
+use Rattle.route_verdict.specs.Verdicts.{verdict_of}
 use Rattle.stitch_cli.specs.declared.failure.Failure.{Failure}
 use Rattle.stitch_cli.specs.declared.failure.Failure.TheVariants as failure
 use Rattle.program_texts.specs.declared.status.Status.{Status}

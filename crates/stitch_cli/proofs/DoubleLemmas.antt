@@ -2,9 +2,10 @@
 use Rattle.std.proofs.Common.{◌≡◌, ℕ, ◌+◌, ◌<◌, ◌≤◌, ◌^◌, List, [], ◌∷◌, length, refl, sym, ap, subst, ◌∙◌, arith}
 use Rattle.std.proofs.lemmas.List.Sums.{sum_by-cons}
 use Rattle.std.specs.List.{AllZip}
-use Rattle.std.specs.Prelude.{sum_by}
-use Rattle.cut_certificate.specs.declared.certificate.PieceCert.{PieceCert}
+use Rattle.std.specs.Prelude.{sum_by, Ok}
+use Rattle.odd_cuts.specs.declared.certificate.PieceCert.{PieceCert}
 use Rattle.certificate_text.specs.CertificateTexts.{certificate_text}
+use Rattle.certificate_text.specs.ReadCertificates.{cert_of}
 use Rattle.format_traits.specs.PlainDesigns.{IsPlain}
 use Rattle.line_graph.specs.declared.piece.Piece.{Piece}
 use Rattle.line_graph.specs.PiecesOfDrawings.{ArePiecesOf, lines_of_pieces}
@@ -14,7 +15,7 @@ use Rattle.line_graph.specs.Runs.{Run, block_of_passes, runs_of}
 use Rattle.line_graph.specs.Walks.{needles_of_walk}
 use Rattle.route_core.specs.declared.routed.Routed.{Routed}
 use Rattle.route_core.specs.Doubles.{IsDoubleOver, IsDoubled}
-use Rattle.route_core.specs.Routes.{walks_of}
+use Rattle.odd_cuts.specs.Certificates.{walks_of}
 use Rattle.program_texts.specs.DoubleReports.{double_report}
 use Rattle.stitch_cli.specs.DoubleRuns.{IsDoubleRun}
 use Rattle.stitch_cli.specs.OrderNames.{RouteOrder}
@@ -80,10 +81,11 @@ needles_few d pieces routed cut over =
 pub double_makes : (order : RouteOrder) (d : DrawingValue) (pieces : List Piece) (routed : Routed) (design cert report : List ℕ)
     (product : ProductValue) → ArePiecesOf d pieces → IsDoubleOver d (lines_of_pieces pieces) routed
     → IsSewnFile order.format d (walks_of routed.cert.pieces) design → cert ≡ certificate_text routed.cert.pieces
+    → cert_of cert ≡ Ok routed.cert.pieces
     → report ≡ double_report (reports_from 1 pieces routed.cert.pieces)
     → product ≡ two_file_product (record { name = order.cert; content = cert }) (record { name = order.out; content = design }) report
     → IsSewnProduct IsDoubleRun order d product
-double_makes order d pieces routed design cert report product cut over sewn certified reported made = record {
+double_makes order d pieces routed design cert report product cut over sewn certified again reported made = record {
   design_file = design;
   cert_text = cert;
   report = report;
@@ -94,6 +96,7 @@ double_makes order d pieces routed design cert report product cut over sewn cert
     doubled = over.each;
     sewn = sewn;
     cert_is = certified;
+    cert_reads = again;
     report_is = reported ∙ ap double_report (reports_are d 1 pieces routed.cert.pieces cut.each);
   };
   made = made;

@@ -2,10 +2,10 @@
 use Rattle.std.proofs.Common.{◌≡◌, ◌++◌, refl}
 use Rattle.std.specs.Fmt.{digits}
 use Rattle.std.specs.Prelude.{codes}
-use Rattle.cut_certificate.specs.declared.faults.CutFault.TheVariants as cut
-use Rattle.cut_certificate.specs.declared.faults.WalkFault.TheVariants as walk
+use Rattle.odd_cuts.specs.declared.faults.CutFault.TheVariants as cut
+use Rattle.odd_cuts.specs.declared.faults.WalkFault.TheVariants as walk
 use Rattle.design_model.specs.TextLines.{newline}
-use Rattle.route_core.specs.declared.verdict.Reason.TheVariants as reason
+use Rattle.route_verdict.specs.declared.verdict.Reason.TheVariants as reason
 use Rattle.stitch_cli.specs.Refusals.{check_failed, bad_certificate}
 use Rattle.stitch_cli.specs.Texts.{refusal_line}
 

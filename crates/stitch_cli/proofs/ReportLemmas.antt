@@ -4,14 +4,15 @@ use Rattle.std.proofs.lemmas.List.Elements.{All-head, All-tail}
 use Rattle.std.proofs.lemmas.List.Sums.{sum_by-cons}
 use Rattle.std.specs.List.{AllZip}
 use Rattle.std.specs.Prelude.{sum_by}
-use Rattle.cut_certificate.specs.declared.certificate.PieceCert.{PieceCert}
+use Rattle.odd_cuts.specs.declared.certificate.PieceCert.{PieceCert}
 use Rattle.line_graph.specs.declared.piece.Piece.{Piece}
 use Rattle.line_graph.specs.PiecesOfDrawings.{graph_of, lines_of_pieces}
 use Rattle.line_graph.specs.Drawings.{DrawingValue}
 use Rattle.line_graph.specs.PieceGraphs.{PieceValue, piece_graph}
 use Rattle.line_graph.specs.Runs.{Run, block_of_passes, runs_of}
 use Rattle.line_graph.specs.Walks.{needles_of_walk}
-use Rattle.route_core.specs.Routes.{IsLeastPieceRoute, walks_of}
+use Rattle.route_core.specs.Routes.{IsLeastPieceRoute}
+use Rattle.odd_cuts.specs.Certificates.{walks_of}
 use Rattle.program_texts.specs.declared.reports.PieceReport.{PieceReport}
 use Rattle.program_texts.specs.PieceReports.{reports_from, piece_report}
 use Rattle.stitch_cli.specs.Sewings.{piece_reports}

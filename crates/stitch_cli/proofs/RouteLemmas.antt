@@ -1,16 +1,18 @@
 -- What a route makes, from what its steps make.
 use Rattle.std.proofs.Common.{◌≡◌, ℕ, ◌<◌, ◌≤◌, ◌^◌, List, [], ◌∷◌, length, refl, sym, ap, subst, ◌∙◌, arith}
 use Rattle.std.specs.List.{AllZip}
-use Rattle.std.specs.Prelude.{sum_by}
-use Rattle.cut_certificate.specs.declared.certificate.PieceCert.{PieceCert}
+use Rattle.std.specs.Prelude.{Ok, sum_by}
+use Rattle.odd_cuts.specs.declared.certificate.PieceCert.{PieceCert}
 use Rattle.certificate_text.specs.CertificateTexts.{certificate_text}
+use Rattle.certificate_text.specs.ReadCertificates.{cert_of}
 use Rattle.format_traits.specs.PlainDesigns.{IsPlain}
 use Rattle.line_graph.specs.declared.piece.Piece.{Piece}
 use Rattle.line_graph.specs.PiecesOfDrawings.{ArePiecesOf, lines_of_pieces}
 use Rattle.line_graph.specs.Drawings.{DrawingValue}
 use Rattle.line_graph.specs.Runs.{runs_of}
 use Rattle.route_core.specs.declared.routed.Routed.{Routed}
-use Rattle.route_core.specs.Routes.{IsLeastPieceRoute, IsRouteOver, walks_of}
+use Rattle.route_core.specs.Routes.{IsLeastPieceRoute, IsRouteOver}
+use Rattle.odd_cuts.specs.Certificates.{walks_of}
 use Rattle.stitch_cli.specs.OrderNames.{RouteOrder}
 use Rattle.stitch_cli.specs.Products.{ProductValue, two_file_product}
 use Rattle.program_texts.specs.PieceReports.{reports_from}
@@ -63,10 +65,11 @@ penetrations_few d pieces routed cut route =
 pub route_makes : (order : RouteOrder) (d : DrawingValue) (pieces : List Piece) (routed : Routed) (design cert report : List ℕ)
     (product : ProductValue) → ArePiecesOf d pieces → IsRouteOver d (lines_of_pieces pieces) routed
     → IsSewnFile order.format d (walks_of routed.cert.pieces) design → cert ≡ certificate_text routed.cert.pieces
+    → cert_of cert ≡ Ok routed.cert.pieces
     → report ≡ route_report (reports_from 1 pieces routed.cert.pieces)
     → product ≡ two_file_product (record { name = order.cert; content = cert }) (record { name = order.out; content = design }) report
     → IsSewnProduct IsRouted order d product
-route_makes order d pieces routed design cert report product cut route sewn certified reported made = record {
+route_makes order d pieces routed design cert report product cut route sewn certified again reported made = record {
   design_file = design;
   cert_text = cert;
   report = report;
@@ -77,6 +80,7 @@ route_makes order d pieces routed design cert report product cut route sewn cert
     best = route.best;
     sewn = sewn;
     cert_is = certified;
+    cert_reads = again;
     report_is = reported ∙ ap route_report (reports_are d 1 pieces routed.cert.pieces cut.each);
   };
   made = made;

@@ -1,7 +1,7 @@
 -- The command `check`: does a design sew a drawing by the walks of a certificate, and does the
 -- certificate prove that no walks cost less?
 use Rattle.std.specs.Prelude.{◌≡◌, ℕ, List, ◌++◌, Result, Ok, Err, codes}
-use Rattle.cut_certificate.specs.declared.certificate.PieceCert.{PieceCert}
+use Rattle.odd_cuts.specs.declared.certificate.PieceCert.{PieceCert}
 use Rattle.design_model.specs.TextLines.{newline}
 use Rattle.certificate_text.specs.ReadCertificates.{cert_of}
 use Rattle.design_model.specs.Designs.{DesignValue}
@@ -10,9 +10,9 @@ use Rattle.drawing_text.specs.DrawingText.{drawing_of}
 use Rattle.format_traits.specs.declared.fault.ReadFault.{ReadFault}
 use Rattle.format_traits.specs.declared.loaded.Loaded.{Loaded}
 use Rattle.line_graph.specs.Drawings.{DrawingValue}
-use Rattle.route_core.specs.declared.verdict.Reason.{Reason}
-use Rattle.route_core.specs.declared.verdict.Verdict.TheVariants as verdict
-use Rattle.route_core.specs.Verdicts.{IsVerdict, SewsLeast}
+use Rattle.route_verdict.specs.declared.verdict.Reason.{Reason}
+use Rattle.route_verdict.specs.declared.verdict.Verdict.TheVariants as verdict
+use Rattle.route_verdict.specs.Verdicts.{IsVerdict, SewsLeast}
 use Rattle.stitch_cli.specs.OrderNames.{CheckOrder}
 use Rattle.stitch_cli.specs.Plans.{Plan, satisfies, reads, refuses}
 use Rattle.stitch_cli.specs.Products.{ProductValue, report_product}

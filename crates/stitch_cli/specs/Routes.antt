@@ -1,19 +1,22 @@
 -- The command `route`: a drawing is sewn by walks of the least cost. Costs count steps.
-use Rattle.std.specs.Prelude.{◌≡◌, ℕ, List}
+use Rattle.std.specs.Prelude.{◌≡◌, ℕ, List, Ok}
 use Rattle.std.specs.List.{AllZip}
-use Rattle.cut_certificate.specs.declared.certificate.PieceCert.{PieceCert}
+use Rattle.odd_cuts.specs.declared.certificate.PieceCert.{PieceCert}
 use Rattle.certificate_text.specs.CertificateTexts.{certificate_text}
+use Rattle.certificate_text.specs.ReadCertificates.{cert_of}
 use Rattle.format_traits.specs.Meanings.{Meaning}
 use Rattle.line_graph.specs.Drawings.{DrawingValue}
 use Rattle.line_graph.specs.Pieces.{ArePieces}
 use Rattle.program_texts.specs.Reports.{route_report}
-use Rattle.route_core.specs.Routes.{IsLeastPieceRoute, walks_of}
+use Rattle.route_core.specs.Routes.{IsLeastPieceRoute}
+use Rattle.odd_cuts.specs.Certificates.{walks_of}
 use Rattle.stitch_cli.specs.OrderNames.{RouteOrder}
 use Rattle.stitch_cli.specs.Plans.{Plan}
 use Rattle.stitch_cli.specs.Sewings.{IsSewnFile, piece_reports, sewing_plan}
 
 -- The result of routing a drawing: the file of the design, the text of the certificate, and the
--- report. Each piece has a best walk: one of the least cost, with a certificate that proves it.
+-- report. Each piece has a best walk: one of the least cost, with a certificate that proves it. The
+-- text is read as these certificates.
 pub record IsRouted (format : Meaning) (d : DrawingValue)
     (design_file cert_text report : List ℕ) : Type 0 where
   pub pieces : List (List ℕ)
@@ -22,6 +25,7 @@ pub record IsRouted (format : Meaning) (d : DrawingValue)
   pub best : AllZip (IsLeastPieceRoute d) pieces certs
   pub sewn : IsSewnFile format d (walks_of certs) design_file
   pub cert_is : cert_text ≡ certificate_text certs
+  pub cert_reads : cert_of cert_text ≡ Ok certs
   pub report_is : report ≡ route_report (piece_reports d 1 pieces certs)
 
 -- The plan of `route`.

@@ -2,8 +2,8 @@
 -- weights of cuts halves of a step.
 use Rattle.std.specs.Prelude.{◌≡◌, ℕ, ◌+◌, List, length, sum_by}
 use Rattle.std.specs.List.{AllZip}
-use Rattle.cut_certificate.specs.declared.certificate.PieceCert.{PieceCert}
-use Rattle.cut_certificate.specs.Cuts.{total_weight}
+use Rattle.odd_cuts.specs.declared.certificate.PieceCert.{PieceCert}
+use Rattle.odd_cuts.specs.Cuts.{total_weight}
 use Rattle.drawing_text.specs.CanonicalTexts.{canonical_text}
 use Rattle.line_graph.specs.Drawings.{DrawingValue}
 use Rattle.line_graph.specs.PieceGraphs.{PieceValue, piece_graph}

@@ -1,7 +1,7 @@
 -- The commands `route` and `double`, which sew a drawing by walks over its pieces. Costs count
 -- steps.
 use Rattle.std.specs.Prelude.{◌≡◌, ℕ, ◌+◌, nat_lt, Bool, true, false, List, [], ◌∷◌, Result, Ok, Err, IsOkAnd}
-use Rattle.cut_certificate.specs.declared.certificate.PieceCert.{PieceCert}
+use Rattle.odd_cuts.specs.declared.certificate.PieceCert.{PieceCert}
 use Rattle.design_model.specs.Acts.{acts_of}
 use Rattle.format_traits.specs.Laws.{MovesWithin}
 use Rattle.format_traits.specs.Meanings.{Meaning}

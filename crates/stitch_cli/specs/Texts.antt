@@ -5,8 +5,8 @@ use Rattle.design_changes.specs.declared.change_faults.ChangeFault.TheVariants a
 use Rattle.stitch_cli.specs.declared.failure.Failure.{Failure}
 use Rattle.stitch_cli.specs.declared.failure.Failure.TheVariants as failure
 use Rattle.stitch_cli.specs.Refusals.{RefusalValue, check_failed, refusal_value, step_too_long, too_large, too_long, bad_certificate, change_refused, bad_drawing, bad_file, not_traceable, not_encodable}
-use Rattle.route_core.specs.declared.verdict.Reason.{Reason}
-use Rattle.route_core.specs.declared.verdict.Reason.TheVariants as reason
+use Rattle.route_verdict.specs.declared.verdict.Reason.{Reason}
+use Rattle.route_verdict.specs.declared.verdict.Reason.TheVariants as reason
 use Rattle.program_texts.specs.TextLines.{line_about, line_at, command_line}
 use Rattle.program_texts.specs.Messages.{out_of_memory_line, cannot_read_line}
 use Rattle.program_texts.specs.LimitLines.{step_limit_line, no_colour_place_line, too_large_line}

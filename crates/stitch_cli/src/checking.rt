@@ -3,7 +3,7 @@ ghost use Rattle.command_words.specs.ValidRequests.{AreCheckNames};
 ghost use Rattle.certificate_text.specs.ReadCertificates.{cert_of};
 ghost use Rattle.format_traits.specs.Meanings.{Meaning};
 ghost use Rattle.outside_io.specs.declared.limits.TheConstants.{MAX_FILE};
-ghost use Rattle.route_core.specs.Verdicts.{HasShortLists};
+ghost use Rattle.route_verdict.specs.Verdicts.{HasShortLists};
 ghost use Rattle.stitch_cli.specs.Checks.{IsCheckResult, check_cert, check_design, check_drawing, check_plan};
 ghost use Rattle.stitch_cli.specs.StepOutcomes.{RunsPlan, RunsPurePlan};
 ghost use Rattle.stitch_cli.specs.OrderNames.{check_order};
@@ -16,13 +16,13 @@ use crate::product::{Product, only_report};
 use crate::reading::read_input;
 use certificate_text::{CertFault, read_cert};
 use command_words::CheckNames;
-use cut_certificate::Cert;
 use design_model::Design;
 use format_traits::{Format, Loaded};
 use line_graph::Drawing;
+use odd_cuts::Cert;
 use outside_io::Store;
 use program_texts::bytes_of;
-use route_core::{Verdict, judge};
+use route_verdict::{Verdict, judge};
 use std::alloc::Global;
 
 /// Checks whether a design sews a drawing by the walks of a certificate, and the certificate proves them
@@ -73,8 +73,7 @@ fn check_loaded<'a, S: Store>(
 ) -> Result<Product<'a>, Failure<'a>>
     requires names { AreCheckNames names }
     ensures { (m : Meaning) → RunsPlan (check_design (check_order names.entry m) drawing.now
-        (Ok loaded.now))
-        (S.view store.old) (S.view store.new) result }
+        (Ok loaded.now)) (S.view store.old) (S.view store.new) result }
 {
     let bytes = read_input(alloc, store, names.cert)?;
     check_text(alloc, names, drawing, &loaded.design, bytes.as_slice())
@@ -89,8 +88,7 @@ fn check_text<'a>(
 ) -> Result<Product<'a>, Failure<'a>>
     requires short { length bytes.now ≤ MAX_FILE }
     ensures { (m : Meaning) → RunsPurePlan (check_cert (check_order names.entry m) drawing.now
-        design.now
-        (cert_of bytes.now)) result }
+        design.now (cert_of bytes.now)) result }
 {
     match read_cert(alloc, bytes) {
         Ok(cert) => judged(alloc, drawing, design, &cert),

@@ -75,8 +75,7 @@ fn make_route<'a, S: Store>(
 ) -> Result<Product<'a>, Failure<'a>>
     requires { AreRouteNames names }
     ensures answers { RunsRequest (complete_route names.entry.drawing.now names.entry.out.now
-        names.entry.cert.now
-        (format_of (map (λ f. meaning f) formats.old) names.entry.out.now))
+        names.entry.cert.now (format_of (map (λ f. meaning f) formats.old) names.entry.out.now))
         (S.view store.old) (S.view store.new) result }
     ensures same { map (λ f. meaning f) formats.new ≡ map (λ f. meaning f) formats.old }
 {
@@ -103,8 +102,7 @@ fn make_check<'a, S: Store>(
 ) -> Result<Product<'a>, Failure<'a>>
     requires { AreCheckNames names }
     ensures answers { RunsRequest (complete_check names.entry.drawing.now names.entry.file.now
-        names.entry.cert.now
-        (format_of (map (λ f. meaning f) formats.old) names.entry.file.now))
+        names.entry.cert.now (format_of (map (λ f. meaning f) formats.old) names.entry.file.now))
         (S.view store.old) (S.view store.new) result }
     ensures same { map (λ f. meaning f) formats.new ≡ map (λ f. meaning f) formats.old }
 {
@@ -229,8 +227,7 @@ fn make_double<'a, S: Store>(
 ) -> Result<Product<'a>, Failure<'a>>
     requires { AreRouteNames names }
     ensures answers { RunsRequest (complete_double names.entry.drawing.now names.entry.out.now
-        names.entry.cert.now
-        (format_of (map (λ f. meaning f) formats.old) names.entry.out.now))
+        names.entry.cert.now (format_of (map (λ f. meaning f) formats.old) names.entry.out.now))
         (S.view store.old) (S.view store.new) result }
     ensures same { map (λ f. meaning f) formats.new ≡ map (λ f. meaning f) formats.old }
 {

@@ -6,7 +6,7 @@ use design_model::{Bytes, Memory};
 use drawing_text::DrawFault;
 use format_traits::{ReadFault, WriteFault};
 use program_texts::Status;
-use route_core::Reason;
+use route_verdict::Reason;
 use stitch_trace::TraceFault;
 
 /// Why an order is refused, with the name of the file in its line. Limits and steps are in tenths of a

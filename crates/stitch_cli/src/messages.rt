@@ -14,7 +14,7 @@ use program_texts::{
     report_read_fault, report_retraced, report_step, report_too_large, report_trace_fault,
     report_usage, report_walk, report_write_fault,
 };
-use route_core::Reason;
+use route_verdict::Reason;
 
 /// Reports a failure on one line, or the usage text. Allocates nothing.
 pub(crate) fn report_failure<E: Sink>(err: &mut E, why: Failure<'_>) -> Status
@@ -55,8 +55,7 @@ fn report_refusal<E: Sink>(err: &mut E, why: Refusal<'_>) -> Status
 
 fn report_change_fault<E: Sink>(err: &mut E, names: RewriteNames<'_>, fault: ChangeFault) -> Status
     ensures { ReportsLineWithStatus (change_line names.entry.input.now names.entry.output.now fault)
-        status.Refused
-        (E.view err.old) (E.view err.new) result }
+        status.Refused (E.view err.old) (E.view err.new) result }
 {
     match fault {
         ChangeFault::RefitTooMany { number } => {

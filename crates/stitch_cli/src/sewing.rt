@@ -3,7 +3,7 @@ ghost use Rattle.command_words.specs.ValidRequests.{AreRouteNames};
 ghost use Rattle.format_traits.specs.declared.format_object.TheConstants.{MIN_LIMIT};
 ghost use Rattle.format_traits.specs.PlainDesigns.{IsPlain};
 ghost use Rattle.line_graph.specs.Runs.{AreWritable, runs_of, sewn_design};
-ghost use Rattle.route_core.specs.Routes.{walks_of};
+ghost use Rattle.odd_cuts.specs.Certificates.{walks_of};
 ghost use Rattle.stitch_cli.specs.DoubleRuns.{IsDoubleRun};
 ghost use Rattle.stitch_cli.specs.StepOutcomes.{RunsPlan, RunsPurePlan};
 ghost use Rattle.stitch_cli.specs.OrderNames.{route_order};

@@ -51,8 +51,8 @@ is_end_line other = false
 abbrev pub parsed_end_or_line : ℕ → ListDraft → Option ListLine → ParsedList
     → (ListDraft → ParsedList) → ParsedList
 parsed_end_or_line at draft parsed over more =
-    if is_end_line parsed then over else continued_with draft (draft_after_line at draft parsed)
-    more
+    if is_end_line parsed then over
+    else continued_with draft (draft_after_line at draft parsed) more
 
 -- The parsed list from the lines of acts on, after the third line.
 abbrev pub parsed_acts : ℕ → ListDraft → List (List ℕ) → ParsedList
@@ -63,8 +63,7 @@ parsed_acts at draft (bytes ∷ next ∷ more) =
     (ended_list (at + length bytes + 1) draft.design (next ∷ more))
     (λ new. parsed_acts (at + length bytes + 1) new (next ∷ more))
 
--- A parsed list computed by `f` from the next line and the parts after it; refused where the line
--- has no end.
+-- A parsed list that `f` computes from the next line and the rest; refused if the line has no end.
 abbrev pub with_next_line : ℕ → DesignValue → List (List ℕ) → (List ℕ → List (List ℕ) → ParsedList)
     → ParsedList
 with_next_line at d [] f = refused_list d (read.Short at)
@@ -88,9 +87,8 @@ after_block_line at d bytes None rest = refused_list d (read.Control at)
 
 -- The parsed list from the third line on.
 abbrev pub parsed_from_block : ℕ → DesignValue → List (List ℕ) → ParsedList
-parsed_from_block at d parts =
-    with_next_line at d parts (λ bytes rest. after_block_line at d bytes
-    (parsed_thread (parsed_list_line bytes)) rest)
+parsed_from_block at d parts = with_next_line at d parts
+    (λ bytes rest. after_block_line at d bytes (parsed_thread (parsed_list_line bytes)) rest)
 
 -- The parsed list after the second line, which must have a label.
 abbrev pub after_label_line : ℕ → DesignValue → List ℕ → Option (List ℕ) → List (List ℕ)
@@ -111,9 +109,8 @@ after_signature_line at d false bytes rest = refused_list d (read.Signature at)
 
 -- The parsed list from the first line on.
 abbrev pub parsed_from_signature : ℕ → DesignValue → List (List ℕ) → ParsedList
-parsed_from_signature at d parts =
-    with_next_line at d parts (λ bytes rest. after_signature_line at d
-    (bytes_eq bytes signature_line) bytes rest)
+parsed_from_signature at d parts = with_next_line at d parts
+    (λ bytes rest. after_signature_line at d (bytes_eq bytes signature_line) bytes rest)
 
 -- The parsed list of a text.
 abbrev pub parsed_text : List ℕ → ParsedList
@@ -136,8 +133,7 @@ list_reads text = loaded_of_parsed (parsed_text text)
 abbrev pub list_shown : List ℕ → List Command
 list_shown text = (parsed_text text).design.commands
 
--- The move of a needle that is neither loose nor a float, as a list that is empty for any other
--- act.
+-- The move of a needle that is neither loose nor a float, as a list; empty for any other act.
 abbrev pub stitch_move_of : Bool → Point → Act → List Point
 stitch_move_of false place (act.Needle p false) = move_between place p ∷ []
 stitch_move_of loose place other = []

@@ -1,11 +1,11 @@
 //! Plain checks of the conditions that lifting has on moats.
 ghost use Rattle.std.specs.Prelude.{◌≡◌, ◌≢◌, ◌<◌, All, AllPairs, IsTrue, false, length};
 ghost use Rattle.blossom_match.specs.Matchings.{AreLaminar, IsOddMoat, IsDisjointFrom, IsNestedIn, moat_holds, moat_load};
-ghost use Rattle.cut_certificate.specs.Cuts.{has_member};
+ghost use Rattle.odd_cuts.specs.Cuts.{has_member};
 ghost use Rattle.cut_certificate.specs.MoatTests.{KeepsTestLoads, KeepsTestLoadsFrom, IsNotNestedIn};
 
-use crate::slices::first_lent;
 use blossom_match::Moat;
+use odd_cuts::first_lent;
 use odd_paths::Rows;
 
 /// Returns whether each moat has an odd number of different members below `places`, and a width.

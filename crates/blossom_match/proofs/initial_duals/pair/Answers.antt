@@ -2,8 +2,8 @@ use Rattle.blossom_match.specs.States.{search_value, partial_value}
 use Rattle.blossom_match.proofs.InitialDualLemmas.{pair_step, paired}
 use Rattle.blossom_match.proofs.initial_duals.pair.Goals as goal
 
-pub augment_to-requires : goal.augment_to-requires
-augment_to-requires c = pair_step c.args.t.now c.args.place c.args.to (partial_value c.args.from) c.take_place.new.places.items
+pub finish-requires : goal.finish-requires
+finish-requires c = pair_step c.args.t.now c.args.place c.args.to (partial_value c.args.from) c.take_place.new.places.items
     (search_value c.in_ok-search.search)
     c.requires
     c.take_place.ensures.counts c.in_ok-search.ensures

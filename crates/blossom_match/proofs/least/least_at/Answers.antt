@@ -12,20 +12,20 @@ use Rattle.blossom_match.specs.TableValue.{TableValue}
 use Rattle.blossom_match.specs.Tables.{IsTable}
 use Rattle.blossom_match.specs.Values.{SearchValue}
 use Rattle.blossom_match.specs.declared.branches.Branch.{Branch}
-use Rattle.blossom_match.specs.declared.least.Candidate.{Candidate}
-use Rattle.blossom_match.specs.declared.least.EdgeKind.TheVariants as kind
+use Rattle.blossom_match.specs.declared.least.Target.{Target}
+use Rattle.blossom_match.specs.declared.least.Kind.TheVariants as kind
 use Rattle.blossom_match.proofs.BoundLemmas.{bounds_of, free_near, leads_on, IsAimedAt}
 use Rattle.blossom_match.proofs.least.least_at.Goals as goal
 
-pub first_candidate-first-requires-clause-near : goal.first_candidate-first-requires-clause-near
-first_candidate-first-requires-clause-near c = λ b hb.
+pub first_target-first-requires-clause-near : goal.first_target-first-requires-clause-near
+first_target-first-requires-clause-near c = λ b hb.
     free_near c.args.t.now (stored_height (search_value c.args.s.now)) (search_value c.args.s.now) c.args.s.now.heights.items
     c.args.reach.now
     b c.requires.table
     c.requires.can.search c.requires.reaches (subst (λ (ks : List ℕ). 1 ≤ count b ks) c.deref.ensures.value hb)
 
 -- what is known of the aims, by the search's own lists
-aims_at : (t : TableValue) (s : SearchValue) (hs reach mask free : List ℕ) (first met grown crossed : Candidate) → IsTable t → CanSearch t s
+aims_at : (t : TableValue) (s : SearchValue) (hs reach mask free : List ℕ) (first met grown crossed : Target) → IsTable t → CanSearch t s
     → hs ≡ s.heights → AreSearchSlacks t s reach → IsSearchMask t s mask → free ≡ s.free → IsCandidateAmong hs reach kind.Augment free first
     → IsBestCandidate hs reach kind.Augment s.free first met → IsBestShown hs reach mask met grown
     → IsBestCandidate hs reach kind.Shrink (outer_vertices s) grown crossed
@@ -47,13 +47,13 @@ change_to-change-requires c =
     let s = search_value c.args.s.now in
     let hs = c.args.heights.now in
     let r = c.args.reach.now in
-    let first = c.first_candidate-first.result in
-    let met = c.best_candidate-met.result in
+    let first = c.first_target-first.result in
+    let met = c.best_target-met.result in
     leads_on c.args.t.now (stored_height s) s hs r first met c.best_shown-grown.result c.best_outer-crossed.result
     (aims_at c.args.t.now s hs r c.args.mask.now c.deref.result.now first met c.best_shown-grown.result c.best_outer-crossed.result
     c.requires.table c.requires.can c.requires.heights c.requires.reaches c.requires.masks c.deref.ensures.value
-    c.first_candidate-first.ensures
-    (subst (λ (ks : List ℕ). IsBestCandidate hs r kind.Augment ks first met) c.deref-2.ensures.value c.best_candidate-met.ensures)
+    c.first_target-first.ensures
+    (subst (λ (ks : List ℕ). IsBestCandidate hs r kind.Augment ks first met) c.deref-2.ensures.value c.best_target-met.ensures)
     c.best_shown-grown.ensures c.best_outer-crossed.ensures)
 
 pub returns : goal.returns
@@ -62,16 +62,16 @@ returns c =
     let sets = c.args.s.now.sets in
     let hs = c.args.heights.now in
     let r = c.args.reach.now in
-    let first = c.first_candidate-first.result in
-    let met = c.best_candidate-met.result in
+    let first = c.first_target-first.result in
+    let met = c.best_target-met.result in
     let grown = c.best_shown-grown.result in
     let crossed = c.best_outer-crossed.result in
     let change = c.change_to-change.result in
     bounds_of c.args.t.now (stored_height s) s hs r first met grown crossed change c.scan_blossoms.result
     (aims_at c.args.t.now s hs r c.args.mask.now c.deref.result.now first met grown crossed
     c.requires.table c.requires.can c.requires.heights c.requires.reaches c.requires.masks c.deref.ensures.value
-    c.first_candidate-first.ensures
-    (subst (λ (ks : List ℕ). IsBestCandidate hs r kind.Augment ks first met) c.deref-2.ensures.value c.best_candidate-met.ensures)
+    c.first_target-first.ensures
+    (subst (λ (ks : List ℕ). IsBestCandidate hs r kind.Augment ks first met) c.deref-2.ensures.value c.best_target-met.ensures)
     c.best_shown-grown.ensures c.best_outer-crossed.ensures) c.change_to-change.ensures
     (subst (λ (ks : List Branch). IsLesserChange (branches_in sets ks) change c.scan_blossoms.result) c.deref-3.ensures.value
     c.scan_blossoms.ensures)

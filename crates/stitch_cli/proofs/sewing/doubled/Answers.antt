@@ -17,5 +17,6 @@ print_double-requires-clause-few g c = rw (c.as_slice-2.ensures, c.as_slice-3.en
 
 pub returns : goal.returns
 returns g c = double_makes _ _ _ _ _ _ _ _ c.in_ok-pieces.ensures.cut (rw c.as_slice.ensures at c.in_ok-routed.ensures)
-    c.in_ok-design_file.ensures c.in_ok-cert_text.ensures.value (rw (c.as_slice-2.ensures, c.as_slice-3.ensures) at c.in_ok-report.ensures)
+    c.in_ok-design_file.ensures c.in_ok-cert_text.ensures.value c.in_ok-cert_text.ensures.again
+    (rw (c.as_slice-2.ensures, c.as_slice-3.ensures) at c.in_ok-report.ensures)
     c.in_ok-product.ensures

@@ -1,7 +1,7 @@
 use Rattle.std.proofs.Common.{false, get_or, subst, sym, List, ℕ, All, ap, ◌≡◌, ◌∙◌}
 use Rattle.std.proofs.lemmas.List.Elements.{All-more}
 use Rattle.blossom_match.specs.Matchings.{moat_holds}
-use Rattle.cut_certificate.specs.Cuts.{has_member}
+use Rattle.odd_cuts.specs.Cuts.{has_member}
 use Rattle.cut_certificate.proofs.MoatTestLemmas.{all_done, of_held}
 use Rattle.cut_certificate.proofs.lift_tests.moat_checks.lies_beside.Goals as goal
 

@@ -1,7 +1,7 @@
 use Rattle.std.proofs.Common.{true, subst, sym, List, ℕ, All, ap, get_or, refl, ◌≡◌, ◌∙◌}
 use Rattle.std.proofs.lemmas.List.Elements.{All-more}
 use Rattle.blossom_match.specs.Matchings.{moat_holds}
-use Rattle.cut_certificate.specs.Cuts.{has_member}
+use Rattle.odd_cuts.specs.Cuts.{has_member}
 use Rattle.cut_certificate.proofs.MoatTestLemmas.{all_done, lies_out, of_held}
 use Rattle.cut_certificate.proofs.lift_tests.moat_checks.lies_in.Goals as goal
 

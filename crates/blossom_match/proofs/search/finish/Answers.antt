@@ -1,0 +1,45 @@
+use Rattle.std.proofs.Common.{ℕ, List, ap, get_or, refl, ◌∙◌}
+use Rattle.blossom_match.specs.DualSets.{OddSetValue}
+use Rattle.blossom_match.specs.Blossoms.{vertex_set}
+use Rattle.blossom_match.specs.Slots.{matches_in, set_in}
+use Rattle.blossom_match.specs.States.{search_value}
+use Rattle.blossom_match.proofs.FreeLemmas.{met}
+use Rattle.blossom_match.proofs.PartialMatchingLemmas.{all_stay, augmenting_new, augments_old, can_augment, met_sets}
+use Rattle.blossom_match.proofs.search.finish.Goals as goal
+
+pub augment-requires : goal.augment-requires
+augment-requires c =
+    let s = c.args.s in
+    let m = set_in c.single.new.sets c.in_ok-met.met in
+    augmenting_new s.sets c.single.new.sets s.root s.tree.items s.rest.items m c.args.link
+    (all_stay s.sets c.single.new.sets c.in_ok-met.met.key s.root s.tree.items s.rest.items c.in_ok-met.ensures.inserts s.stand)
+    (can_augment c.args.t.now c.args.link (search_value s) m c.requires (ap (λ (v : OddSetValue). v.members) c.in_ok-met.ensures.is))
+
+pub returns : goal.returns
+returns c =
+    let s = c.args.s in
+    let m = set_in c.single.new.sets c.in_ok-met.met in
+    met c.args.t.now c.args.link (search_value s) _ m c.requires
+    (augments_old s.sets c.single.new.sets s.root s.tree.items s.rest.items m c.args.link
+    (matches_in c.single.new.sets c.augment.new.rest.items)
+    (all_stay s.sets c.single.new.sets c.in_ok-met.met.key s.root s.tree.items s.rest.items c.in_ok-met.ensures.inserts s.stand)
+    c.in_ok-augment.ensures)
+    c.in_ok-met.ensures.table
+    (c.in_ok-met.ensures.is ∙ ap (λ (hs : List ℕ). vertex_set m.key c.args.t.now c.args.link.to (get_or hs c.args.link.to 0))
+    c.deref.ensures.value)
+    c.take_place.ensures.counts c.take_place.ensures.fewer refl
+
+pub invariant_of-result : goal.invariant_of-result
+invariant_of-result c =
+    let s = c.args.s in
+    let v = search_value s in
+    let m = set_in c.single.new.sets c.in_ok-met.met in
+    record {
+      stand = met_sets s.sets c.single.new.sets c.args.link v.root m v.tree v.rest
+          (matches_in c.single.new.sets c.augment.new.rest.items) c.in_ok-met.ensures.inserts
+          (ap (λ (n : OddSetValue). n.below) c.in_ok-met.ensures.is)
+          (augments_old s.sets c.single.new.sets s.root s.tree.items s.rest.items m c.args.link
+          (matches_in c.single.new.sets c.augment.new.rest.items)
+          (all_stay s.sets c.single.new.sets c.in_ok-met.met.key s.root s.tree.items s.rest.items c.in_ok-met.ensures.inserts s.stand)
+          c.in_ok-augment.ensures) s.stand;
+    }

@@ -1,7 +1,0 @@
-use Rattle.line_graph.specs.PiecesOfDrawings.{graph_of}
-use Rattle.cut_certificate.proofs.ExactCuts.{exact_cuts}
-use Rattle.cut_certificate.proofs.cut_check.check_cuts.Goals as goal
-
-pub returns-clause-exact : goal.returns-clause-exact
-returns-clause-exact c =
-    exact_cuts (graph_of c.args.p.now) c.args.retraced c.args.cuts.now c.first_fault.result c.args.p.now.kept.beside c.first_fault.ensures

@@ -1,8 +1,0 @@
-use Rattle.cut_certificate.proofs.TableLemmas.{below_at}
-use Rattle.line_graph.specs.declared.limits.TheConstants.{MAX_LINES}
-use Rattle.cut_certificate.proofs.line_loads.check_loads.Goals as goal
-
-pub check_load-requires : goal.check_load-requires
-check_load-requires c =
-    below_at MAX_LINES c.as_slice-lines.result.now c.loop-at.at 0
-    (rw c.as_slice-lines.ensures c.args.p.now.kept.lines_below) c.loop-at-test.true

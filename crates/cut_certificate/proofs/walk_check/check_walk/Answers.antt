@@ -1,7 +1,0 @@
-use Rattle.line_graph.specs.PiecesOfDrawings.{graph_of}
-use Rattle.cut_certificate.proofs.ExactWalks.{exact_walks}
-use Rattle.cut_certificate.proofs.walk_check.check_walk.Goals as goal
-
-pub returns-clause-exact : goal.returns-clause-exact
-returns-clause-exact c =
-    exact_walks (graph_of c.args.p.now) c.args.walk.now c.cost_or_fault.result c.args.p.now.kept.some c.cost_or_fault.ensures

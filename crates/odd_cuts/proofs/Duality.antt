@@ -1,0 +1,212 @@
+-- The bound: a walk crosses each cut once more than the lines do, and the loads bound the extra crossings.
+use Rattle.std.proofs.Common.{◌≡◌, ◌≤◌, ℕ, ◌+◌, ◌*◌, ◌%◌, ◌==◌, Bool, true, false, cond, not, List, [], ◌∷◌, ◌++◌, length, Option, Some, None, All, arith, refl, sym, ◌∙◌, ap}
+use Rattle.std.proofs.lemmas.Bool.Decides.{nat_tests}
+use Rattle.std.proofs.lemmas.Bool.{and_parts}
+use Rattle.std.proofs.lemmas.List.Elements.{All-head, All-tail}
+use Rattle.std.proofs.lemmas.List.Sums.{sum_by-cons}
+use Rattle.std.specs.Option.{option_or}
+use native.Mathlib.Nat.{mul-le-mul_left, le-mul_of_pos_right}
+use Rattle.line_graph.specs.declared.edge.Edge.{Edge}
+use Rattle.line_graph.specs.declared.pass.Pass.{Pass}
+use Rattle.line_graph.specs.ValidPieces.{IsValidPiece, ends_below, is_below}
+use Rattle.line_graph.specs.PieceGraphs.{PieceValue, one_if, edges_with_closing, closing_edge}
+use Rattle.line_graph.specs.PieceWalks.{are_same_junction, edge_cost, covers, edge_sum, walk_start, is_fitting_walk, is_walk_start_to_end, pass_sum, piece_cost, walk_cost, walk_end_from}
+use Rattle.odd_cuts.specs.declared.cut.Cut.{Cut}
+use Rattle.odd_cuts.specs.PackingBounds.{BoundsWalks, ProvesLeast}
+use Rattle.odd_cuts.specs.Cuts.{crosses, has_member, load_on, total_weight}
+use Rattle.odd_cuts.specs.Packings.{IsOddCut, odd_held}
+use Rattle.odd_cuts.proofs.Crossing.{crossing, inside, walk_even}
+use Rattle.odd_cuts.proofs.Degrees.{odd_counted, odd_crossing}
+use Rattle.odd_cuts.proofs.Sums.{exchange, more, once_and_more, weigh}
+
+-- what the first of the cuts adds
+load_cons : (c : Cut) (cs : List Cut) (e : Edge) → load_on (c ∷ cs) e ≡ cond (crosses c.members e) c.weight 0 + load_on cs e
+load_cons c cs e = sum_by-cons (λ (cut : Cut). cond (crosses cut.members e) cut.weight 0) c cs
+
+total_cons : (c : Cut) (cs : List Cut) → total_weight (c ∷ cs) ≡ c.weight + total_weight cs
+total_cons c cs = sum_by-cons (λ (cut : Cut). cut.weight) c cs
+
+no_load : (ns : List ℕ) (es : List Edge) (y : ℕ → ℕ) → weigh ns es y (load_on []) ≡ 0
+no_load [] es y = refl
+no_load (n ∷ ns) [] y = refl
+no_load (n ∷ ns) (e ∷ es) y = rw (no_load ns es y) (nothing (y n))
+  where
+    nothing : (k : ℕ) → k * 0 + 0 ≡ 0
+    nothing k = omega arith
+
+load_step : (ns : List ℕ) (es : List Edge) (y : ℕ → ℕ) (c : Cut) (cs : List Cut)
+    → weigh ns es y (load_on (c ∷ cs)) ≡ c.weight * weigh ns es y (crossing (has_member c.members)) + weigh ns es y (load_on cs)
+load_step [] es y c cs = none c.weight
+  where
+    none : (w : ℕ) → 0 ≡ w * 0 + 0
+    none w = omega arith
+load_step (n ∷ ns) [] y c cs = none c.weight
+  where
+    none : (w : ℕ) → 0 ≡ w * 0 + 0
+    none w = omega arith
+load_step (n ∷ ns) (e ∷ es) y c cs =
+    rw (load_step ns es y c cs, load_cons c cs e) (regroup (crosses c.members e) (y n) c.weight (load_on cs e)
+    (weigh ns es y (crossing (has_member c.members))) (weigh ns es y (load_on cs)))
+  where
+    regroup : (t : Bool) (k w l u v : ℕ) → k * (cond t w 0 + l) + (w * u + v) ≡ w * (k * one_if t + u) + (k * l + v)
+    regroup true k w l u v = omega arith
+    regroup false k w l u v = omega arith
+
+-- where each cut is crossed, the total is at most the load that is crossed
+pub total_loads : (ns : List ℕ) (es : List Edge) (y : ℕ → ℕ) (p : PieceValue) (cuts : List Cut) → All (IsOddCut p) cuts
+    → ((c : Cut) → IsOddCut p c → 1 ≤ weigh ns es y (crossing (has_member c.members)))
+    → total_weight cuts ≤ weigh ns es y (load_on cuts)
+total_loads ns es y p [] odd each = omega arith
+total_loads ns es y p (c ∷ cs) odd each =
+    rw (load_step ns es y c cs, total_cons c cs) (added c.weight (weigh ns es y (crossing (has_member c.members))) (total_weight cs)
+    (weigh ns es y (load_on cs))
+    (each c (All-head (IsOddCut p) c cs odd)) (total_loads ns es y p cs (All-tail (IsOddCut p) c cs odd) each))
+  where
+    added : (w u t v : ℕ) → 1 ≤ u → t ≤ v → w + t ≤ w * u + v
+    added w u t v least rest =
+        let more : w ≤ w * u = le-mul_of_pos_right w least in
+        omega arith
+
+-- no line carries more than two halves for each of its steps
+abbrev Fits : List Cut → Edge → Type 0
+Fits cuts e = load_on cuts e ≤ 2 * e.cost
+
+-- where each line carries at most twice its cost
+pub loads_cost : (ns : List ℕ) (es : List Edge) (y : ℕ → ℕ) (cuts : List Cut) → All (λ (e : Edge). load_on cuts e ≤ 2 * e.cost) es
+    → weigh ns es y (load_on cuts) ≤ 2 * weigh ns es y edge_cost
+loads_cost [] es y cuts is_fitting_walk = omega arith
+loads_cost (n ∷ ns) [] y cuts is_fitting_walk = omega arith
+loads_cost (n ∷ ns) (e ∷ es) y cuts is_fitting_walk =
+    added (y n) (load_on cuts e) e.cost (weigh ns es y (load_on cuts)) (weigh ns es y edge_cost)
+    (All-head (Fits cuts) e es is_fitting_walk) (loads_cost ns es y cuts (All-tail (Fits cuts) e es is_fitting_walk))
+  where
+    added : (k l c u v : ℕ) → l ≤ 2 * c → u ≤ 2 * v → k * l + u ≤ 2 * (k * c + v)
+    added k l c u v first rest =
+        let times : k * l ≤ k * (2 * c) = mul-le-mul_left k first in
+        let turned : k * (2 * c) ≡ 2 * (k * c) = omega arith in
+        omega arith
+
+-- where a fitting walk leads, and that the line back crosses a set as its two ends do
+record Led (ns : List ℕ) (es : List Edge) (walk : List Pass) (back : List Edge) : Type 0 where
+  at : ℕ
+  to : ℕ
+  goes : walk_end_from ns es (Some at) walk ≡ Some to
+  even : (s : ℕ → Bool) → ((edge_sum (crossing s) back + inside s at) + inside s to) % 2 ≡ 0
+
+same_place : (x : Option ℕ) (b : ℕ) → are_same_junction x (Some b) ≡ true → x ≡ Some b
+same_place None b is = absurd (cc)
+same_place (Some a) b is = ap (λ (n : ℕ). Some n) (same a b is)
+  where
+    same : (m n : ℕ) → (m == n) ≡ true → m ≡ n
+    same m n is = grind (arith, nat_tests)
+
+nowhere : (x : Option ℕ) → are_same_junction x None ≡ true → ⊥
+nowhere None is = cc
+nowhere (Some a) is = cc
+
+line_back : (s : ℕ → Bool) (a b : ℕ) → ((edge_sum (crossing s) (closing_edge (Some a) (Some b)) + inside s a) + inside s b) % 2 ≡ 0
+line_back s a b = by_tests (s a) (s b)
+  where
+    by_tests : (x y : Bool) → (((one_if (cond y (not x) x) + 0) + one_if x) + one_if y) % 2 ≡ 0
+    by_tests true true = refl
+    by_tests true false = refl
+    by_tests false true = refl
+    by_tests false false = refl
+
+no_line : (k : ℕ) → ((0 + k) + k) % 2 ≡ 0
+no_line k = omega arith
+
+led_between : (ns : List ℕ) (es : List Edge) (walk : List Pass) (a b : ℕ)
+    → are_same_junction (walk_end_from ns es (Some a) walk) (Some b) ≡ true
+    → Led ns es walk (closing_edge (Some a) (Some b))
+led_between ns es walk a b is = record {
+  at = a;
+  to = b;
+  goes = same_place (walk_end_from ns es (Some a) walk) b is;
+  even = λ s. line_back s a b;
+}
+
+led : (ns : List ℕ) (es : List Edge) (walk : List Pass) (start end first : Option ℕ)
+    → are_same_junction (walk_end_from ns es (option_or (option_or start end) first) walk) (option_or (option_or end start) first) ≡ true
+    → Led ns es walk (closing_edge (option_or start end) (option_or end start))
+led ns es walk (Some a) (Some b) first is = led_between ns es walk a b is
+led ns es walk (Some a) None first is = led_between ns es walk a a is
+led ns es walk None (Some b) first is = led_between ns es walk b b is
+led ns es walk None None None is = absurd (nowhere (walk_end_from ns es None walk) is)
+led ns es walk None None (Some a) is = record {
+  at = a;
+  to = a;
+  goes = same_place (walk_end_from ns es (Some a) walk) a is;
+  even = λ s. no_line (inside s a);
+}
+
+sum_append : (f : Edge → ℕ) (xs ys : List Edge) → edge_sum f (xs ++ ys) ≡ edge_sum f xs + edge_sum f ys
+sum_append f [] ys = none (edge_sum f ys)
+  where
+    none : (k : ℕ) → k ≡ 0 + k
+    none k = omega arith
+sum_append f (x ∷ xs) ys = rw (sum_append f xs ys) (regroup (f x) (edge_sum f xs) (edge_sum f ys))
+  where
+    regroup : (x u v : ℕ) → x + (u + v) ≡ (x + u) + v
+    regroup x u v = omega arith
+
+ends_of_back : (n : ℕ) (from to : Option ℕ) (es : List Edge) → is_below n from ≡ true → is_below n to ≡ true
+    → ends_below n es ≡ true → ends_below n (closing_edge from to ++ es) ≡ true
+ends_of_back n None to es f t within = within
+ends_of_back n (Some a) None es f t within = within
+ends_of_back n (Some a) (Some b) es f t within = rw (f, t, within) refl
+
+or_below : (n : ℕ) (x y : Option ℕ) → is_below n x ≡ true → is_below n y ≡ true → is_below n (option_or x y) ≡ true
+or_below n (Some a) y f t = f
+or_below n None y f t = t
+
+-- both ends of each edge of a piece, and of the line back, are junctions
+pub closed_ends : (p : PieceValue) → IsValidPiece p → ends_below (length p.junctions) (edges_with_closing p) ≡ true
+closed_ends p kept =
+    ends_of_back (length p.junctions) (option_or p.start p.end) (option_or p.end p.start) p.edges
+    (or_below _ p.start p.end kept.start_below kept.end_below) (or_below _ p.end p.start kept.end_below kept.start_below) kept.ends
+
+-- the odd junctions that a set holds, and the lines that cross it, the line back among them
+pub held_crossing : (p : PieceValue) → IsValidPiece p → (members : List ℕ)
+    → odd_held p members % 2 ≡ edge_sum (crossing (has_member members)) (edges_with_closing p) % 2
+held_crossing p kept members =
+    ap (λ (k : ℕ). k % 2) (odd_counted (has_member members) (edges_with_closing p) 0 (length p.junctions))
+    ∙ odd_crossing (has_member members) (edges_with_closing p) (length p.junctions) (closed_ends p kept)
+
+-- a fitting walk crosses an odd cut once more than the lines do
+crossed_more : (p : PieceValue) (walk : List Pass) → IsValidPiece p → covers p.lines walk ≡ true
+    → Led p.lines p.edges walk (closing_edge (option_or p.start p.end) (option_or p.end p.start))
+    → (c : Cut) → IsOddCut p c → 1 ≤ weigh p.lines p.edges (more walk) (crossing (has_member c.members))
+crossed_more p walk kept all led c odd =
+    let s = has_member c.members in
+    left (pass_sum p.lines p.edges (crossing s) walk) (edge_sum (crossing s) p.edges) (weigh p.lines p.edges (more walk) (crossing s))
+    (edge_sum (crossing s) (closing_edge (option_or p.start p.end) (option_or p.end p.start))) (inside s led.at) (inside s led.to)
+    (exchange p.lines p.edges (crossing s) walk kept.rising ∙ once_and_more p.lines p.edges (crossing s) walk kept.beside all)
+    (walk_even p.lines p.edges s walk led.at led.to led.goes)
+    (led.even s)
+    (ap (λ (k : ℕ). k % 2) (sym (sum_append (crossing s) (closing_edge (option_or p.start p.end) (option_or p.end p.start)) p.edges))
+    ∙ sym (held_crossing p kept c.members) ∙ odd.odd)
+  where
+    left : (w b m k i t : ℕ) → w ≡ b + m → ((w + i) + t) % 2 ≡ 0 → ((k + i) + t) % 2 ≡ 0 → (k + b) % 2 ≡ 1 → 1 ≤ m
+    left w b m k i t is walked back odd = omega arith
+
+pub bounds_walks : BoundsWalks
+bounds_walks p cuts walk kept packing fit =
+    let parts = and_parts (is_walk_start_to_end p walk) (covers p.lines walk) fit in
+    let there = led p.lines p.edges walk p.start p.end (walk_start p.lines p.edges walk) parts.0 in
+    let cost : walk_cost p walk ≡ piece_cost p + weigh p.lines p.edges (more walk) edge_cost
+    = exchange p.lines p.edges edge_cost walk kept.rising ∙ once_and_more p.lines p.edges edge_cost walk kept.beside parts.1 in
+    let most = total_loads p.lines p.edges (more walk) p cuts packing.odd (crossed_more p walk kept parts.1 there) in
+    let most_cost = loads_cost p.lines p.edges (more walk) cuts packing.loads in
+    added (total_weight cuts) (walk_cost p walk) (piece_cost p) (weigh p.lines p.edges (more walk) edge_cost)
+    (weigh p.lines p.edges (more walk) (load_on cuts)) cost most most_cost
+  where
+    added : (t w c m l : ℕ) → w ≡ c + m → t ≤ l → l ≤ 2 * m → t + 2 * c ≤ 2 * w
+    added t w c m l is most is_fitting_walk = omega arith
+
+pub proves_least : ProvesLeast
+proves_least p cuts walk kept packing full other fit =
+    half (total_weight cuts) (walk_cost p walk) (walk_cost p other) (piece_cost p) full (bounds_walks p cuts other kept packing fit)
+  where
+    half : (t w v c : ℕ) → t + 2 * c ≡ 2 * w → t + 2 * c ≤ 2 * v → w ≤ v
+    half t w v c full most = omega arith

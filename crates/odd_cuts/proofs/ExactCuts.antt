@@ -1,0 +1,152 @@
+-- The check of cuts accepts exactly the packings with the total that is needed.
+use Rattle.std.proofs.Common.{◌≡◌, ◌≤◌, ◌<◌, ℕ, ◌+◌, ◌*◌, ◌%◌, ◌==◌, Bool, true, false, cond, nat_lt, nat_le, List, [], ◌∷◌, length, All, Option, Some, None, Result, Ok, Err, IsOk, arith, refl, sym, ◌∙◌}
+use Rattle.std.proofs.lemmas.Bool.Decides.{nat_tests}
+use Rattle.std.proofs.lemmas.List.Elements.{All-cons, All-head, All-nil, All-tail}
+use Rattle.line_graph.specs.declared.edge.Edge.{Edge}
+use Rattle.line_graph.specs.ValidPieces.{IsValidPiece}
+use Rattle.line_graph.specs.PieceGraphs.{PieceValue, is_odd}
+use Rattle.odd_cuts.specs.declared.cut.Cut.{Cut}
+use Rattle.odd_cuts.specs.declared.faults.CutFault.{CutFault}
+use Rattle.odd_cuts.specs.declared.faults.CutFault.TheVariants as fault
+use Rattle.odd_cuts.specs.CutFaults.{cut_fault, cut_faults, cuts_fault, even_fault, load_fault, load_faults, stranger_fault, total_fault}
+use Rattle.odd_cuts.specs.Cuts.{load_on, total_weight}
+use Rattle.odd_cuts.specs.Faults.{ReportsFault, first_fault}
+use Rattle.odd_cuts.specs.Packings.{IsOddCut, IsPacking, odd_held}
+
+-- two faults are none where neither is one
+first_right : {F : Type 0} (first rest : Option F) → first_fault first rest ≡ None → (first ≡ None) × (rest ≡ None)
+first_right (Some found) rest is = absurd (cc)
+first_right None rest is = (refl, is)
+
+test_right : {F : Type 0} (test : Bool) (found : F) → cond test None (Some found) ≡ None → test ≡ true
+test_right true found is = refl
+test_right false found is = absurd (cc)
+
+-- all members are junctions where none is a stranger
+members_right : (count number : ℕ) (members : List ℕ) → stranger_fault count number members ≡ None → All (λ j. j < count) members
+members_right count number [] is = All-nil (λ j. j < count)
+members_right count number (j ∷ members) is = by_test (nat_lt j count) refl is (λ h. members_right count number members h)
+  where
+    less : (m n : ℕ) → nat_lt m n ≡ true → m < n
+    less m n h = grind (arith, nat_tests)
+
+    by_test : (t : Bool) → nat_lt j count ≡ t → cond t (stranger_fault count number members) (Some (fault.Stranger number (j + 1))) ≡ None
+        → (stranger_fault count number members ≡ None → All (λ j. j < count) members) → All (λ j. j < count) (j ∷ members)
+    by_test true there is rest = All-cons (λ j. j < count) j members (less j count there) (rest is)
+    by_test false there is rest = absurd (cc)
+
+no_stranger : (count number : ℕ) (members : List ℕ) → All (λ j. j < count) members → stranger_fault count number members ≡ None
+no_stranger count number [] are = refl
+no_stranger count number (j ∷ members) are =
+    let there : nat_lt j count ≡ true = test j count (All-head (λ j. j < count) j members are) in
+    rw (there, no_stranger count number members (All-tail (λ j. j < count) j members are)) refl
+  where
+    test : (m n : ℕ) → m < n → nat_lt m n ≡ true
+    test m n h = grind (arith, nat_tests)
+
+cut_right : (p : PieceValue) (number : ℕ) (cut : Cut) → cut_fault p number cut ≡ None → IsOddCut p cut
+cut_right p number cut is =
+    let parts = first_right (stranger_fault (length p.junctions) number cut.members) (even_fault number (odd_held p cut.members)) is in
+    record {
+      there = members_right (length p.junctions) number cut.members parts.0;
+      odd = one (odd_held p cut.members)
+          (test_right (is_odd (odd_held p cut.members)) (fault.EvenCut number (odd_held p cut.members)) parts.1);
+    }
+  where
+    one : (k : ℕ) → (k % 2 == 1) ≡ true → k % 2 ≡ 1
+    one k h = grind (arith, nat_tests)
+
+no_cut_fault : (p : PieceValue) (number : ℕ) (cut : Cut) → IsOddCut p cut → cut_fault p number cut ≡ None
+no_cut_fault p number cut is =
+    let odd : is_odd (odd_held p cut.members) ≡ true = test (odd_held p cut.members) is.odd in
+    rw (no_stranger (length p.junctions) number cut.members is.there, odd) refl
+  where
+    test : (k : ℕ) → k % 2 ≡ 1 → (k % 2 == 1) ≡ true
+    test k h = grind (arith, nat_tests)
+
+-- each cut is odd where none has a fault
+cuts_right : (p : PieceValue) (number : ℕ) (cuts : List Cut) → cut_faults p number cuts ≡ None → All (IsOddCut p) cuts
+cuts_right p number [] is = All-nil (IsOddCut p)
+cuts_right p number (cut ∷ rest) is =
+    let parts = first_right (cut_fault p number cut) (cut_faults p (number + 1) rest) is in
+    All-cons (IsOddCut p) cut rest (cut_right p number cut parts.0) (cuts_right p (number + 1) rest parts.1)
+
+no_cut_faults : (p : PieceValue) (number : ℕ) (cuts : List Cut) → All (IsOddCut p) cuts → cut_faults p number cuts ≡ None
+no_cut_faults p number [] are = refl
+no_cut_faults p number (cut ∷ rest) are =
+    rw (
+      no_cut_fault p number cut (All-head (IsOddCut p) cut rest are),
+      no_cut_faults p (number + 1) rest (All-tail (IsOddCut p) cut rest are),
+    ) refl
+
+-- the edge carries no more than it may
+abbrev Fits : List Cut → Edge → Type 0
+Fits cuts e = load_on cuts e ≤ 2 * e.cost
+
+-- each edge does where no line carries too much
+loads_right : (cuts : List Cut) (ns : List ℕ) (es : List Edge) → length ns ≡ length es → load_faults cuts ns es ≡ None → All (Fits cuts) es
+loads_right cuts [] [] beside is = All-nil (Fits cuts)
+loads_right cuts [] (e ∷ es) beside is = absurd (omega (arith, beside))
+loads_right cuts (n ∷ ns) [] beside is = absurd (omega (arith, beside))
+loads_right cuts (n ∷ ns) (e ∷ es) beside is =
+    let parts = first_right (load_fault n (load_on cuts e) e.cost) (load_faults cuts ns es) is in
+    All-cons (Fits cuts) e es
+    (less (load_on cuts e) (2 * e.cost)
+    (test_right (nat_le (load_on cuts e) (2 * e.cost)) (fault.Overload (n + 1) (load_on cuts e) (2 * e.cost)) parts.0))
+    (loads_right cuts ns es (omega (arith, beside)) parts.1)
+  where
+    less : (m n : ℕ) → nat_le m n ≡ true → m ≤ n
+    less m n h = grind (arith, nat_tests)
+
+no_load_faults : (cuts : List Cut) (ns : List ℕ) (es : List Edge) → All (Fits cuts) es → load_faults cuts ns es ≡ None
+no_load_faults cuts [] es fit = refl
+no_load_faults cuts (n ∷ ns) [] fit = refl
+no_load_faults cuts (n ∷ ns) (e ∷ es) fit =
+    let here : nat_le (load_on cuts e) (2 * e.cost) ≡ true = test (load_on cuts e) (2 * e.cost) (All-head (Fits cuts) e es fit) in
+    rw (here, no_load_faults cuts ns es (All-tail (Fits cuts) e es fit)) refl
+  where
+    test : (m n : ℕ) → m ≤ n → nat_le m n ≡ true
+    test m n h = grind (arith, nat_tests)
+
+-- cuts without a fault are a packing with that total
+packing_right : (p : PieceValue) (retraced : ℕ) (cuts : List Cut) → length p.lines ≡ length p.edges
+    → cuts_fault p retraced cuts ≡ None → IsPacking p cuts × (total_weight cuts ≡ 2 * retraced)
+packing_right p retraced cuts beside is =
+    let odd = first_right (cut_faults p 1 cuts)
+    (first_fault (load_faults cuts p.lines p.edges) (total_fault (total_weight cuts) (2 * retraced))) is in
+    let loads = first_right (load_faults cuts p.lines p.edges) (total_fault (total_weight cuts) (2 * retraced)) odd.1 in (
+      record { odd = cuts_right p 1 cuts odd.0; loads = loads_right cuts p.lines p.edges beside loads.0 },
+      equal (total_weight cuts) (2 * retraced)
+          (test_right (total_weight cuts == 2 * retraced) (fault.Total (total_weight cuts) (2 * retraced)) loads.1),
+    )
+  where
+    equal : (m n : ℕ) → (m == n) ≡ true → m ≡ n
+    equal m n h = grind (arith, nat_tests)
+
+-- and such a packing has none
+no_fault_found : (p : PieceValue) (retraced : ℕ) (cuts : List Cut) → IsPacking p cuts → total_weight cuts ≡ 2 * retraced
+    → cuts_fault p retraced cuts ≡ None
+no_fault_found p retraced cuts are total =
+    let equal : (total_weight cuts == 2 * retraced) ≡ true = test (total_weight cuts) (2 * retraced) total in
+    rw (no_cut_faults p 1 cuts are.odd, no_load_faults cuts p.lines p.edges are.loads, equal) refl
+  where
+    test : (m n : ℕ) → m ≡ n → (m == n) ≡ true
+    test m n h = grind (arith, nat_tests)
+
+-- so the check answers right exactly there
+pub exact_cuts : {T : Type 0} (p : PieceValue) (retraced : ℕ) (cuts : List Cut) (r : Result T CutFault) → length p.lines ≡ length p.edges
+    → ReportsFault (cuts_fault p retraced cuts) r
+    → (IsOk r → IsPacking p cuts × (total_weight cuts ≡ 2 * retraced)) × (IsPacking p cuts × (total_weight cuts ≡ 2 * retraced) → IsOk r)
+exact_cuts p retraced cuts (Ok x) beside is = (λ ok. packing_right p retraced cuts beside is, λ are. refl)
+exact_cuts p retraced cuts (Err found) beside is =
+    (λ ok. absurd (cc), λ are. absurd (differ (sym (no_fault_found p retraced cuts are.0 are.1) ∙ is)))
+  where
+    differ : None ≡ Some found → ⊥
+    differ h = cc
+
+-- no fault is found exactly where the cuts are a packing with that total
+pub cuts_exact : (p : PieceValue) (retraced : ℕ) (cuts : List Cut) → IsValidPiece p
+    → (cuts_fault p retraced cuts ≡ None → IsPacking p cuts × (total_weight cuts ≡ 2 * retraced))
+    × (IsPacking p cuts × (total_weight cuts ≡ 2 * retraced) → cuts_fault p retraced cuts ≡ None)
+cuts_exact p retraced cuts keeps =
+    (λ none. packing_right p retraced cuts keeps.beside none, λ are. no_fault_found p retraced cuts are.0 are.1)

@@ -1,0 +1,14 @@
+mod Sums
+mod Crossing
+mod Degrees
+mod Duality
+mod Totals
+mod TableLemmas
+mod PlaceLemmas
+mod ParityLemmas
+mod LoadLemmas
+mod ExactWalks
+mod ExactCuts
+mod WalkFaultFacts
+mod CutFaultFacts
+mod PieceExamples

@@ -1,0 +1,101 @@
+-- The total of a packing is at most twice the cost of the lines, since each odd cut is crossed by a line.
+use Rattle.std.proofs.Common.{◌≡◌, ◌≤◌, ◌<◌, ℕ, zero, suc, ◌+◌, ◌*◌, ◌%◌, Bool, true, false, cond, not, List, [], ◌∷◌, length, Some, arith, refl, ◌∙◌, ap, subst}
+use Rattle.line_graph.specs.declared.edge.Edge.{Edge}
+use Rattle.line_graph.specs.ValidPieces.{IsValidPiece, NoEdgeLeaves}
+use Rattle.line_graph.specs.PieceGraphs.{PieceValue, one_if, edges_with_closing, degrees_from}
+use Rattle.line_graph.specs.PieceWalks.{edge_cost, edge_sum, piece_cost}
+use Rattle.odd_cuts.specs.declared.cut.Cut.{Cut}
+use Rattle.odd_cuts.specs.PackingBounds.{BoundsTotal}
+use Rattle.odd_cuts.specs.Cuts.{has_member, load_on, total_weight}
+use Rattle.odd_cuts.specs.Packings.{IsOddCut, odd_held}
+use Rattle.odd_cuts.proofs.Crossing.{crossing}
+use Rattle.odd_cuts.proofs.Degrees.{odd_counted, odd_crossing, odd_in}
+use Rattle.odd_cuts.proofs.Duality.{closed_ends, loads_cost, total_loads}
+use Rattle.odd_cuts.proofs.Sums.{weigh}
+
+abbrev once : ℕ → ℕ
+once n = 1
+
+weigh_once : (ns : List ℕ) (es : List Edge) (f : Edge → ℕ) → length ns ≡ length es → weigh ns es once f ≡ edge_sum f es
+weigh_once [] [] f same = refl
+weigh_once [] (e ∷ es) f same = absurd (omega arith)
+weigh_once (n ∷ ns) [] f same = absurd (omega arith)
+weigh_once (n ∷ ns) (e ∷ es) f same = rw (weigh_once ns es f (omega arith)) (one (f e) (edge_sum f es))
+  where
+    one : (k v : ℕ) → 1 * k + v ≡ k + v
+    one k v = omega arith
+
+crosses_none : (s : ℕ → Bool) (e : Edge) → crossing s e ≡ 0 → s e.a ≡ s e.b
+crosses_none s e none = by_tests (s e.a) (s e.b) none
+  where
+    by_tests : (x y : Bool) → one_if (cond x (not y) y) ≡ 0 → x ≡ y
+    by_tests true true h = refl
+    by_tests true false h = absurd (cc)
+    by_tests false true h = absurd (cc)
+    by_tests false false h = refl
+
+none_leaves : (s : ℕ → Bool) (es : List Edge) → edge_sum (crossing s) es ≡ 0 → NoEdgeLeaves es s
+none_leaves s [] none i e at = absurd (cc)
+none_leaves s (x ∷ es) none zero e at = let is : x ≡ e = some_same x e at
+    in subst (λ (y : Edge). s y.a ≡ s y.b) is (crosses_none s x (omega arith))
+  where
+    some_same : (x y : Edge) → Some x ≡ Some y → x ≡ y
+    some_same x y h = cc
+none_leaves s (x ∷ es) none (suc i) e at = none_leaves s es (omega arith) i e at
+
+-- sets that agree on a range have the same odd junctions there
+agree : (s u : ℕ → Bool) (es : List Edge) (at n : ℕ) → ((j : ℕ) → at ≤ j → j < at + n → s j ≡ u j)
+    → odd_in s at (degrees_from es at n) ≡ odd_in u at (degrees_from es at n)
+agree s u es at zero same = refl
+agree s u es at (suc n) same =
+    let first : s at ≡ u at = same at (omega arith) (omega arith) in
+    rw (first, agree s u es (at + 1) n (λ j. λ from. λ to. same j (omega arith) (omega arith))) refl
+
+none_odd : (ds : List ℕ) (at : ℕ) → odd_in (λ j. false) at ds ≡ 0
+none_odd [] at = refl
+none_odd (d ∷ ds) at = rw (none_odd ds (at + 1)) refl
+
+never_crossed : (es : List Edge) → edge_sum (crossing (λ j. true)) es ≡ 0
+never_crossed [] = refl
+never_crossed (e ∷ es) = rw (never_crossed es) refl
+
+-- all or none of the odd junctions are an even number
+constant_even : (p : PieceValue) → IsValidPiece p → (t : Bool)
+    → odd_in (λ j. t) 0 (degrees_from (edges_with_closing p) 0 (length p.junctions)) % 2
+    ≡ 0
+constant_even p kept true = odd_crossing (λ j. true) (edges_with_closing p) (length p.junctions) (closed_ends p kept)
+    ∙ ap (λ (k : ℕ). k % 2) (never_crossed (edges_with_closing p))
+constant_even p kept false = ap (λ (k : ℕ). k % 2) (none_odd (degrees_from (edges_with_closing p) 0 (length p.junctions)) 0)
+
+crossed_once : (p : PieceValue) → IsValidPiece p → (c : Cut) → IsOddCut p c → 1 ≤ edge_sum (crossing (has_member c.members)) p.edges
+crossed_once p kept c odd = by_sum (edge_sum (crossing s) p.edges) refl
+  where
+    s : ℕ → Bool
+    s = has_member c.members
+
+    even : edge_sum (crossing (has_member c.members)) p.edges ≡ 0 → odd_held p c.members % 2 ≡ 0
+    even none =
+        ap (λ (k : ℕ). k % 2) (odd_counted (has_member c.members) (edges_with_closing p) 0 (length p.junctions)
+        ∙ agree (has_member c.members) (λ j. has_member c.members 0) (edges_with_closing p) 0 (length p.junctions)
+        (λ j. λ from. λ to. kept.joined (has_member c.members) (none_leaves (has_member c.members) p.edges none) j 0 (omega arith)
+        (omega arith)))
+        ∙ constant_even p kept (has_member c.members 0)
+
+    by_sum : (k : ℕ) → edge_sum (crossing (has_member c.members)) p.edges ≡ k → 1 ≤ edge_sum (crossing (has_member c.members)) p.edges
+    by_sum zero is = absurd (clash (odd_held p c.members % 2) odd.odd (even is))
+      where
+        clash : (k : ℕ) → k ≡ 1 → k ≡ 0 → ⊥
+        clash k one none = omega arith
+    by_sum (suc k) is = omega arith
+
+pub keeps_total : BoundsTotal
+keeps_total p cuts kept packing =
+    let most = total_loads p.lines p.edges once p cuts packing.odd
+    (λ c. λ odd. rw (weigh_once p.lines p.edges (crossing (has_member c.members)) kept.beside) (crossed_once p kept c odd)) in
+    let cost = loads_cost p.lines p.edges once cuts packing.loads in
+    let all = weigh_once p.lines p.edges edge_cost kept.beside in
+    added (total_weight cuts) (weigh p.lines p.edges once (load_on cuts)) (weigh p.lines p.edges once edge_cost) (piece_cost p) most cost
+    all
+  where
+    added : (t l w c : ℕ) → t ≤ l → l ≤ 2 * w → w ≡ c → t ≤ 2 * c
+    added t l w c most fits is = omega arith

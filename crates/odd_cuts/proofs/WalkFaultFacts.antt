@@ -1,0 +1,118 @@
+-- Worked values of the first fault of a walk.
+use Rattle.std.proofs.Common.{◌≡◌, ℕ, pos, true, false, List, [], ◌∷◌, Option, Some, None, refl}
+use Rattle.design_model.specs.declared.point.Point.{Point}
+use Rattle.line_graph.specs.declared.edge.Edge.{Edge}
+use Rattle.line_graph.specs.declared.pass.Pass.{Pass}
+use Rattle.line_graph.specs.PieceGraphs.{PieceValue}
+use Rattle.line_graph.specs.PieceWalks.{is_fitting_walk, walk_cost}
+use Rattle.odd_cuts.specs.declared.faults.WalkFault.TheVariants as fault
+use Rattle.odd_cuts.specs.WalkFaults.{walk_fault}
+
+abbrev pub corner : ℕ → ℕ → Point
+corner x y = record { x = pos x; y = pos y }
+
+abbrev pub edge : (a b cost : ℕ) → Edge
+edge a b cost = record { a = a; b = b; cost = cost }
+
+abbrev pub corners : List Point
+corners = corner 0 0 ∷ corner 30 0 ∷ corner 30 30 ∷ corner 0 30 ∷ []
+
+-- the lines 1, 3 and 6 from one junction, the last of them towards it
+abbrev pub star : (start end : Option ℕ) → PieceValue
+star start end = record {
+  block = 0;
+  lines = 0 ∷ 2 ∷ 5 ∷ [];
+  junctions = corners;
+  edges = edge 0 1 2 ∷ edge 0 2 3 ∷ edge 3 0 1 ∷ [];
+  degrees = 3 ∷ 1 ∷ 1 ∷ 1 ∷ [];
+  start = start;
+  end = end;
+}
+
+abbrev pub closed : PieceValue
+closed = star None None
+
+abbrev forth : ℕ → Pass
+forth line = record { line = line; back = false }
+
+abbrev back : ℕ → Pass
+back line = record { line = line; back = true }
+
+-- forth and back on each line costs twice the lines
+abbrev all_twice : List Pass
+all_twice = forth 0 ∷ back 0 ∷ forth 2 ∷ back 2 ∷ back 5 ∷ forth 5 ∷ []
+
+pub known_right : walk_fault closed all_twice ≡ None
+known_right = refl
+
+pub known_cost : walk_cost closed all_twice ≡ 12
+known_cost = refl
+
+pub known_fits : is_fitting_walk closed all_twice ≡ true
+known_fits = refl
+
+-- no line of the drawing but of the piece: the second line is none of it
+pub known_stranger : walk_fault closed (forth 0 ∷ back 0 ∷ forth 1 ∷ []) ≡ Some (fault.Stranger 3)
+known_stranger = refl
+
+pub known_first_stranger : walk_fault closed (forth 1 ∷ forth 2 ∷ []) ≡ Some (fault.Stranger 1)
+known_first_stranger = refl
+
+-- the line towards the middle is passed forth where it is to be passed back
+pub known_broken : walk_fault closed (forth 0 ∷ back 0 ∷ forth 2 ∷ back 2 ∷ forth 5 ∷ back 5 ∷ []) ≡ Some (fault.Broken 5)
+known_broken = refl
+
+-- the first pass with a fault is reported, and of one pass that it is along no line
+pub known_order : walk_fault closed (forth 0 ∷ forth 2 ∷ forth 1 ∷ []) ≡ Some (fault.Broken 2)
+known_order = refl
+
+pub known_other_order : walk_fault closed (forth 0 ∷ forth 1 ∷ forth 2 ∷ []) ≡ Some (fault.Stranger 2)
+known_other_order = refl
+
+-- the last pass is missing, so the walk is open, though each line is passed
+pub known_open : walk_fault closed (forth 0 ∷ back 0 ∷ forth 2 ∷ back 2 ∷ back 5 ∷ []) ≡ Some fault.Open
+known_open = refl
+
+pub known_no_fit : is_fitting_walk closed (forth 0 ∷ back 0 ∷ forth 2 ∷ back 2 ∷ back 5 ∷ []) ≡ false
+known_no_fit = refl
+
+pub known_empty : walk_fault closed [] ≡ Some fault.Open
+known_empty = refl
+
+-- the first line that isn't passed, by its number in the drawing
+pub known_missing : walk_fault closed (back 5 ∷ forth 5 ∷ []) ≡ Some (fault.Missing 1)
+known_missing = refl
+
+pub known_last_missing : walk_fault closed (forth 0 ∷ back 0 ∷ forth 2 ∷ back 2 ∷ []) ≡ Some (fault.Missing 6)
+known_last_missing = refl
+
+-- an open walk that omits a line is reported as open
+pub known_open_first : walk_fault closed (forth 0 ∷ []) ≡ Some fault.Open
+known_open_first = refl
+
+-- from the end of one line to that of another
+abbrev way : List Pass
+way = back 0 ∷ forth 2 ∷ back 2 ∷ back 5 ∷ []
+
+pub known_way : walk_fault (star (Some 1) (Some 3)) way ≡ None
+known_way = refl
+
+pub known_wrong_start : walk_fault (star (Some 3) (Some 1)) way ≡ Some fault.WrongStart
+known_wrong_start = refl
+
+pub known_wrong_end : walk_fault (star (Some 1) (Some 2)) way ≡ Some fault.WrongEnd
+known_wrong_end = refl
+
+-- a single required junction is both start and end
+pub known_wrong_return : walk_fault (star None (Some 1)) way ≡ Some fault.WrongEnd
+known_wrong_return = refl
+
+pub known_return : walk_fault (star (Some 0) None) all_twice ≡ None
+known_return = refl
+
+pub known_no_pass : walk_fault (star (Some 0) None) [] ≡ Some fault.WrongStart
+known_no_pass = refl
+
+-- a wrong end is reported before a missing line
+pub known_end_first : walk_fault (star (Some 0) (Some 2)) (forth 0 ∷ []) ≡ Some fault.WrongEnd
+known_end_first = refl

@@ -1,0 +1,26 @@
+//! Packings of odd cuts, which prove walks least; certificates that contain them; and the checks of both.
+#![tactic(auto)]
+
+mod certificate;
+#[cfg(test)]
+mod check_tests;
+mod cut;
+mod cut_check;
+mod fault_theorems;
+mod faults;
+mod held_junctions;
+mod line_indexes;
+mod line_loads;
+mod passed_lines;
+mod slices;
+mod theorems;
+mod walk_check;
+
+pub use certificate::{Cert, PieceCert, PieceCerts};
+pub use cut::{Cut, Cuts};
+pub use cut_check::check_cuts;
+pub use fault_theorems::{cut_faults_are_exact, walk_faults_are_exact};
+pub use faults::{CutFault, WalkFault};
+pub use slices::{first_and_rest, first_lent};
+pub use theorems::{packings_bound_walks, packings_keep_their_total, packings_prove_least};
+pub use walk_check::check_walk;

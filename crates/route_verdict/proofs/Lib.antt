@@ -1,0 +1,5 @@
+mod SewLemmas
+mod ActOrderLemmas
+mod SameActs
+mod VerdictLemmas
+mod VerdictFacts

@@ -1,0 +1,134 @@
+-- Walks sewn one after another.
+use Rattle.std.proofs.Common.{◌≡◌, ◌≤◌, ◌<◌, ℕ, ◌+◌, ◌-◌, Bool, true, false, cond, List, [], ◌∷◌, ◌++◌, length, map, drop, replicate, reverse, All, arith, sym, ◌∙◌, ap, subst}
+use mathlib.Core.List.{reverse_aux}
+use Rattle.std.proofs.lemmas.List.{append-nil, append_assoc, length-append}
+use Rattle.std.proofs.lemmas.List.Concat.{flat_map-cons}
+use Rattle.std.proofs.lemmas.List.Elements.{All-append, All-cons, All-head, All-nil, All-tail}
+use Rattle.odd_cuts.specs.declared.certificate.PieceCert.{PieceCert}
+use Rattle.design_model.specs.declared.command.Command.{Command}
+use Rattle.design_model.specs.declared.command.Command.TheVariants.{Stitch, Stop, Trim}
+use Rattle.design_model.specs.declared.point.Point.{Point}
+use Rattle.design_model.specs.Designs.{DesignValue}
+use Rattle.line_graph.specs.Chains.{IsNeedlePoint}
+use Rattle.line_graph.specs.declared.pass.Pass.{Pass}
+use Rattle.line_graph.specs.Drawings.{DrawingValue, KeepsDrawingLimits}
+use Rattle.line_graph.specs.Runs.{block_of_passes, commands_after, runs_of}
+use Rattle.line_graph.specs.LineNeedles.{NeedlesLeadAlong}
+use Rattle.line_graph.specs.Walks.{needles_of_line, needles_of_pass, needles_of_walk}
+use Rattle.odd_cuts.specs.Certificates.{walks_of}
+use Rattle.design_model.specs.LongerDesigns.{with_commands}
+use Rattle.route_verdict.specs.SewingSteps.{AllDrawn, AreDrawn, later_needles, run_commands}
+
+-- the needles of further passes, one pass on
+pub later_more : (d : DrawingValue) (old points : List Point) (left after : List Pass) (pass : Pass) → left ≡ pass ∷ after
+    → (needles : List Point) → needles ≡ needles_of_pass d pass → points ≡ old ++ drop 1 needles
+    → points ++ later_needles d after ≡ old ++ later_needles d left
+later_more d old points left after pass is needles are put =
+    ap (λ (ps : List Point). ps ++ later_needles d after) (put ∙ ap (λ (ps : List Point). old ++ drop 1 ps) are)
+    ∙ append_assoc old (drop 1 (needles_of_pass d pass)) (later_needles d after)
+    ∙ ap (λ (ps : List Point). old ++ ps) (sym (flat_map-cons (λ (next : Pass). drop 1 (needles_of_pass d next)) pass after)
+    ∙ ap (later_needles d) (sym is))
+
+pub drawn_first : (d : DrawingValue) (left after : List Pass) (pass : Pass) → left ≡ pass ∷ after → AreDrawn d left
+    → pass.line < length d.lines
+drawn_first d left after pass is drawn = All-head (λ (p : Pass). p.line < length d.lines) pass after (subst (AreDrawn d) is drawn)
+
+pub drawn_rest : (d : DrawingValue) (left after : List Pass) (pass : Pass) → left ≡ pass ∷ after → AreDrawn d left → AreDrawn d after
+drawn_rest d left after pass is drawn = All-tail (λ (p : Pass). p.line < length d.lines) pass after (subst (AreDrawn d) is drawn)
+
+range_back : (xs r : List Point) → All IsNeedlePoint xs → All IsNeedlePoint r → All IsNeedlePoint (reverse_aux xs r)
+range_back [] r forth back = back
+range_back (x ∷ xs) r forth back =
+    range_back xs (x ∷ r) (All-tail IsNeedlePoint x xs forth) (All-cons IsNeedlePoint x r (All-head IsNeedlePoint x xs forth) back)
+
+either : (ps : List Point) (back : Bool) → All IsNeedlePoint ps → All IsNeedlePoint (cond back (reverse ps) ps)
+either ps true all = range_back ps [] all (All-nil IsNeedlePoint)
+either ps false all = all
+
+dropped : (ps : List Point) → All IsNeedlePoint ps → All IsNeedlePoint (drop 1 ps)
+dropped [] all = all
+dropped (p ∷ ps) all = All-tail IsNeedlePoint p ps all
+
+pass_in_range : (d : DrawingValue) → KeepsDrawingLimits d → NeedlesLeadAlong d → (pass : Pass) → pass.line < length d.lines
+    → All IsNeedlePoint (needles_of_pass d pass)
+pass_in_range d keeps law pass below = either (needles_of_line d pass.line) pass.back (law pass.line keeps below).along.in_range
+
+later_in_range : (d : DrawingValue) → KeepsDrawingLimits d → NeedlesLeadAlong d → (walk : List Pass) → AreDrawn d walk
+    → All IsNeedlePoint (later_needles d walk)
+later_in_range d keeps law [] drawn = All-nil IsNeedlePoint
+later_in_range d keeps law (pass ∷ walk) drawn =
+    subst (All IsNeedlePoint) (sym (flat_map-cons (λ (next : Pass). drop 1 (needles_of_pass d next)) pass walk))
+    (All-append IsNeedlePoint (drop 1 (needles_of_pass d pass)) (later_needles d walk)
+    (dropped (needles_of_pass d pass) (pass_in_range d keeps law pass (All-head (λ (p : Pass). p.line < length d.lines) pass walk drawn)))
+    (later_in_range d keeps law walk (All-tail (λ (p : Pass). p.line < length d.lines) pass walk drawn)))
+
+-- the needles of walks along a drawing's lines are in range
+pub walk_in_range : (d : DrawingValue) → KeepsDrawingLimits d → NeedlesLeadAlong d → (walk : List Pass) → AreDrawn d walk
+    → All IsNeedlePoint (needles_of_walk d walk)
+walk_in_range d keeps law [] drawn = All-nil IsNeedlePoint
+walk_in_range d keeps law (pass ∷ walk) drawn =
+    All-append IsNeedlePoint (needles_of_pass d pass) (later_needles d walk)
+    (pass_in_range d keeps law pass (All-head (λ (p : Pass). p.line < length d.lines) pass walk drawn))
+    (later_in_range d keeps law walk (All-tail (λ (p : Pass). p.line < length d.lines) pass walk drawn))
+
+-- what is left to sew, after the walks so far
+pub record Left (d : DrawingValue) (pieces : List PieceCert) (begun design : DesignValue) (before : ℕ)
+    (rest : List PieceCert) : Type 0 where
+  pub drawn : AllDrawn d rest
+  pub room : length design.commands + length (commands_after before (runs_of d (walks_of rest))) ≤ 1000000
+  pub whole : with_commands design (commands_after before (runs_of d (walks_of rest)))
+      ≡ with_commands begun (commands_after 0 (runs_of d (walks_of pieces)))
+
+-- the commands of one walk, and those of the walks after it
+walk_first : (d : DrawingValue) (before : ℕ) (piece : PieceCert) (rest : List PieceCert)
+    → commands_after before (runs_of d (walks_of (piece ∷ rest)))
+    ≡ run_commands before (block_of_passes d piece.walk) (needles_of_walk d piece.walk)
+    ++ commands_after (block_of_passes d piece.walk) (runs_of d (walks_of rest))
+walk_first d before piece rest =
+    let later : List Command = commands_after (block_of_passes d piece.walk) (runs_of d (walks_of rest)) in
+    let stops : List Command = replicate (block_of_passes d piece.walk - before) Stop in
+    let stitches : List Command = map (λ p. Stitch p) (needles_of_walk d piece.walk) in
+    sym (append_assoc stops (stitches ++ Trim ∷ []) later
+    ∙ ap (λ (cs : List Command). stops ++ cs) (append_assoc stitches (Trim ∷ []) later))
+
+pub room_for : (d : DrawingValue) (pieces : List PieceCert) (begun design : DesignValue) (before : ℕ) (left rest : List PieceCert)
+    (piece : PieceCert) → left ≡ piece ∷ rest
+    → Left d pieces begun design before left
+    → length design.commands + length (run_commands before (block_of_passes d piece.walk) (needles_of_walk d piece.walk)) ≤ 1000000
+room_for d pieces begun design before left rest piece is l =
+    omega (
+      arith,
+      l.room,
+      ap (λ (ps : List PieceCert). length (commands_after before (runs_of d (walks_of ps)))) is,
+      ap (λ (cs : List Command). length cs) (walk_first d before piece rest),
+      length-append (run_commands before (block_of_passes d piece.walk) (needles_of_walk d piece.walk))
+          (commands_after (block_of_passes d piece.walk) (runs_of d (walks_of rest))),
+    )
+
+pub sews_on : (d : DrawingValue) (pieces : List PieceCert) (begun design next : DesignValue) (before block : ℕ) (left rest : List PieceCert)
+    (piece : PieceCert) → left ≡ piece ∷ rest
+    → block ≡ block_of_passes d piece.walk
+    → next ≡ with_commands design (run_commands before (block_of_passes d piece.walk) (needles_of_walk d piece.walk))
+    → Left d pieces begun design before left → Left d pieces begun next block rest
+sews_on d pieces begun design next before block left rest piece is at put l =
+    let run = run_commands before (block_of_passes d piece.walk) (needles_of_walk d piece.walk) in
+    let later = commands_after (block_of_passes d piece.walk) (runs_of d (walks_of rest)) in
+    let all : commands_after before (runs_of d (walks_of left)) ≡ run ++ later
+    = ap (λ (ps : List PieceCert). commands_after before (runs_of d (walks_of ps))) is ∙ walk_first d before piece rest in
+    rw (at, put) (record {
+      drawn = All-tail (λ (p : PieceCert). AreDrawn d p.walk) piece rest (subst (AllDrawn d) is l.drawn);
+      room = omega (arith, l.room, ap (λ (cs : List Command). length cs) all, length-append run later, length-append design.commands run);
+      whole = ap (λ (cs : List Command). record design { commands = cs })
+          (append_assoc design.commands run later ∙ ap (λ (cs : List Command). design.commands ++ cs) (sym all)) ∙ l.whole;
+    })
+
+pub sewn_all : (d : DrawingValue) (pieces : List PieceCert) (begun design : DesignValue) (before : ℕ) (left : List PieceCert) → left ≡ []
+    → Left d pieces begun design before left → design ≡ with_commands begun (commands_after 0 (runs_of d (walks_of pieces)))
+sewn_all d pieces begun design before left is l =
+    ap (λ (cs : List Command). record design { commands = cs }) (sym (append-nil design.commands))
+    ∙ subst (λ (ps : List PieceCert). with_commands design (commands_after before (runs_of d (walks_of ps)))
+    ≡ with_commands begun (commands_after 0 (runs_of d (walks_of pieces)))) is l.whole
+
+pub drawn_piece : (d : DrawingValue) (left rest : List PieceCert) (piece : PieceCert) → left ≡ piece ∷ rest → AllDrawn d left
+    → AreDrawn d piece.walk
+drawn_piece d left rest piece is drawn = All-head (λ (p : PieceCert). AreDrawn d p.walk) piece rest (subst (AllDrawn d) is drawn)

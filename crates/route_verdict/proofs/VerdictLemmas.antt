@@ -1,0 +1,319 @@
+-- Verdicts: no reason is found exactly where all is right, and then each walk is least.
+use Rattle.std.proofs.Common.{◌≡◌, ◌≤◌, ◌<◌, ℕ, ◌+◌, ◌-◌, ◌*◌, ◌==◌, Bool, true, false, cond, List, [], ◌∷◌, ◌++◌, Option, Some, None, length, map, All, Contains, arith, refl, sym, ◌∙◌, ap, subst}
+use Rattle.std.proofs.lemmas.Bool.Decides.{nat_tests}
+use Rattle.std.proofs.lemmas.List.{length-map}
+use Rattle.std.proofs.lemmas.List.Elements.{All-cons, All-contains, All-head, All-nil, All-tail}
+use Rattle.std.specs.List.{AllZip, concat}
+use Rattle.odd_cuts.specs.declared.certificate.PieceCert.{PieceCert}
+use Rattle.odd_cuts.specs.declared.faults.CutFault.{CutFault}
+use Rattle.odd_cuts.specs.declared.faults.WalkFault.{WalkFault}
+use Rattle.odd_cuts.specs.PackingBounds.{BoundsWalks, ProvesLeast}
+use Rattle.odd_cuts.specs.CutFaults.{cuts_fault}
+use Rattle.odd_cuts.specs.Cuts.{total_weight}
+use Rattle.odd_cuts.specs.FaultTheorems.{CutFaultsAreExact, WalkFaultsAreExact}
+use Rattle.odd_cuts.specs.Faults.{first_fault}
+use Rattle.odd_cuts.specs.Packings.{IsOddCut}
+use Rattle.odd_cuts.specs.WalkFaults.{walk_fault}
+use Rattle.design_model.specs.Acts.{acts_of, acts_without_numbers}
+use Rattle.design_model.specs.Designs.{DesignValue}
+use Rattle.line_graph.specs.declared.pass.Pass.{Pass}
+use Rattle.line_graph.specs.declared.piece.Piece.{Piece}
+use Rattle.line_graph.specs.PiecesOfDrawings.{ArePiecesOf, graph_of, lines_of_pieces}
+use Rattle.line_graph.specs.Drawings.{DrawingValue, KeepsDrawingLimits}
+use Rattle.line_graph.specs.ValidPieces.{IsValidPiece}
+use Rattle.line_graph.specs.PieceGraphs.{PieceValue, piece_graph}
+use Rattle.line_graph.specs.PieceWalks.{IsLeastWalk, is_fitting_walk, piece_cost, walk_cost}
+use Rattle.line_graph.specs.Runs.{runs_of, sewn_acts}
+use Rattle.line_graph.specs.SewnWalks.{ArePiecesWithin, FittingWalksAreSewable, PiecesKeepLimits}
+use Rattle.route_verdict.specs.declared.verdict.Reason.{Reason}
+use Rattle.route_verdict.specs.declared.verdict.Reason.TheVariants as reason
+use Rattle.route_verdict.specs.declared.verdict.Verdict.{Verdict}
+use Rattle.route_verdict.specs.declared.verdict.Verdict.TheVariants as verdict
+use Rattle.route_verdict.proofs.SameActs.{no_difference, none_with_itself}
+use Rattle.odd_cuts.specs.Certificates.{walks_of}
+use Rattle.route_verdict.specs.SewingSteps.{AllDrawn, AreDrawn}
+use Rattle.route_verdict.specs.Verdicts.{IsCorrectRoute, IsCorrectPieceCert, HasShortLists, IsVerdictOver, SewsLeast, acts_reason, cost_above, count_reason, cuts_reason, difference_of, piece_reason, pieces_reason, reason_of, retraced_reason, verdict_of_reason, walk_reason}
+
+-- one piece on
+pub reasons_next : (pieces rest : List Piece) (certs more : List PieceCert) (p : Piece) (cert : PieceCert) (number : ℕ)
+    (whole : Option Reason)
+    → pieces ≡ p ∷ rest → certs ≡ cert ∷ more → pieces_reason number (map graph_of pieces) certs ≡ whole
+    → piece_reason (graph_of p) number cert ≡ None → pieces_reason (number + 1) (map graph_of rest) more ≡ whole
+reasons_next pieces rest certs more p cert number whole is are told none = rw (is, are, none) at told
+
+-- or its reason
+pub reasons_found : (pieces rest : List Piece) (certs more : List PieceCert) (p : Piece) (cert : PieceCert) (number : ℕ)
+    (whole : Option Reason)
+    (found : Reason) → pieces ≡ p ∷ rest → certs ≡ cert ∷ more → pieces_reason number (map graph_of pieces) certs ≡ whole
+    → piece_reason (graph_of p) number cert ≡ Some found → whole ≡ Some found
+reasons_found pieces rest certs more p cert number whole found is are told some = sym (rw (is, are, some) at told)
+
+pub short_rest : (certs more : List PieceCert) (cert : PieceCert) → certs ≡ cert ∷ more → All HasShortLists certs → All HasShortLists more
+short_rest certs more cert is all = All-tail HasShortLists cert more (subst (All HasShortLists) is all)
+
+pub short_first : (certs more : List PieceCert) (cert : PieceCert) → certs ≡ cert ∷ more → All HasShortLists certs → HasShortLists cert
+short_first certs more cert is all = All-head HasShortLists cert more (subst (All HasShortLists) is all)
+
+-- two are none where neither is one
+both_none : {F : Type 0} (first rest : Option F) → first_fault first rest ≡ None → (first ≡ None) × (rest ≡ None)
+both_none (Some found) rest is = absurd (cc)
+both_none None rest is = (refl, is)
+
+walk_none : (number : ℕ) (found : Option WalkFault) → walk_reason number found ≡ None → found ≡ None
+walk_none number None is = refl
+walk_none number (Some fault) is = absurd (cc)
+
+cuts_none : (number : ℕ) (found : Option CutFault) → cuts_reason number found ≡ None → found ≡ None
+cuts_none number None is = refl
+cuts_none number (Some fault) is = absurd (cc)
+
+acts_none : (found : Option ℕ) → acts_reason found ≡ None → found ≡ None
+acts_none None is = refl
+acts_none (Some number) is = absurd (cc)
+
+test_none : {F : Type 0} (test : Bool) (found : F) → cond test None (Some found) ≡ None → test ≡ true
+test_none true found is = refl
+test_none false found is = absurd (cc)
+
+equal : (m n : ℕ) → (m == n) ≡ true → m ≡ n
+equal m n is = grind (arith, nat_tests)
+
+tested : (m n : ℕ) → m ≡ n → (m == n) ≡ true
+tested m n is = grind (arith, nat_tests)
+
+-- a fitting walk costs no less than the lines
+costs_more : BoundsWalks → (p : PieceValue) (cert : PieceCert) → IsValidPiece p → is_fitting_walk p cert.walk ≡ true
+    → piece_cost p ≤ walk_cost p cert.walk
+costs_more bounds p cert keeps fit =
+    half (piece_cost p) (walk_cost p cert.walk) (bounds p [] cert.walk keeps
+    (record { odd = All-nil (IsOddCut p); loads = λ k. λ d. λ less. omega arith }) fit)
+  where
+    half : (m n : ℕ) → 0 + 2 * m ≤ 2 * n → m ≤ n
+    half m n h = omega arith
+
+-- a piece without a reason is right
+piece_right : WalkFaultsAreExact → CutFaultsAreExact → BoundsWalks → (p : PieceValue) → IsValidPiece p → (number : ℕ) (cert : PieceCert)
+    → piece_reason p number cert ≡ None → IsCorrectPieceCert p cert
+piece_right walks cuts bounds p keeps number cert none =
+    let first = both_none (walk_reason number (walk_fault p cert.walk))
+    (first_fault (retraced_reason number cert.retraced (cost_above p cert))
+    (cuts_reason number (cuts_fault p cert.retraced cert.cuts))) none in
+    let second = both_none (retraced_reason number cert.retraced (cost_above p cert))
+    (cuts_reason number (cuts_fault p cert.retraced cert.cuts)) first.1 in
+    let fit : is_fitting_walk p cert.walk ≡ true = (walks p cert.walk keeps).0 (walk_none number (walk_fault p cert.walk) first.0) in
+    let packing = (cuts p cert.retraced cert.cuts keeps).0 (cuts_none number (cuts_fault p cert.retraced cert.cuts) second.1) in
+    let said : cert.retraced ≡ cost_above p cert = equal cert.retraced (cost_above p cert)
+    (test_none (cert.retraced == cost_above p cert) (reason.Retraced number cert.retraced (cost_above p cert)) second.0) in
+    record {
+      fitting = fit;
+      retraced = above (walk_cost p cert.walk) (piece_cost p) cert.retraced (costs_more bounds p cert keeps fit) said;
+      packing = packing.0;
+      total = packing.1;
+    }
+  where
+    above : (w c r : ℕ) → c ≤ w → r ≡ w - c → w ≡ c + r
+    above w c r less is = omega arith
+
+-- and a right one has none
+piece_told : WalkFaultsAreExact → CutFaultsAreExact → (p : PieceValue) → IsValidPiece p → (number : ℕ) (cert : PieceCert)
+    → IsCorrectPieceCert p cert → piece_reason p number cert ≡ None
+piece_told walks cuts p keeps number cert right =
+    let said : (cert.retraced == cost_above p cert) ≡ true = tested cert.retraced (cost_above p cert)
+    (below (walk_cost p cert.walk) (piece_cost p) cert.retraced right.retraced) in
+    rw ((walks p cert.walk keeps).1 right.fitting, said, (cuts p cert.retraced cert.cuts keeps).1 (right.packing, right.total)) refl
+  where
+    below : (w c r : ℕ) → w ≡ c + r → r ≡ w - c
+    below w c r is = omega arith
+
+-- the certificate of the piece is correct
+abbrev RightOf : Piece → PieceCert → Type 0
+RightOf p cert = IsCorrectPieceCert (graph_of p) cert
+
+pieces_right : WalkFaultsAreExact → CutFaultsAreExact → BoundsWalks → (pieces : List Piece) (certs : List PieceCert) (number : ℕ)
+    → length certs ≡ length pieces → pieces_reason number (map graph_of pieces) certs ≡ None → AllZip RightOf pieces certs
+pieces_right walks cuts bounds [] [] number long none = tt
+pieces_right walks cuts bounds [] (c ∷ certs) number long none = absurd (omega (arith, long))
+pieces_right walks cuts bounds (p ∷ pieces) [] number long none = absurd (omega (arith, long))
+pieces_right walks cuts bounds (p ∷ pieces) (c ∷ certs) number long none =
+    let both = both_none (piece_reason (graph_of p) number c) (pieces_reason (number + 1) (map graph_of pieces) certs) none in (
+      piece_right walks cuts bounds (graph_of p) p.kept number c both.0,
+      pieces_right walks cuts bounds pieces certs (number + 1) (omega (arith, long)) both.1,
+    )
+
+pieces_told : WalkFaultsAreExact → CutFaultsAreExact → (pieces : List Piece) (certs : List PieceCert) (number : ℕ)
+    → AllZip RightOf pieces certs → (length certs ≡ length pieces) × (pieces_reason number (map graph_of pieces) certs ≡ None)
+pieces_told walks cuts [] [] number right = (refl, refl)
+pieces_told walks cuts [] (c ∷ certs) number right = absurd right
+pieces_told walks cuts (p ∷ pieces) [] number right = absurd right
+pieces_told walks cuts (p ∷ pieces) (c ∷ certs) number right =
+    let rest = pieces_told walks cuts pieces certs (number + 1) right.1 in
+    (omega (arith, rest.0), rw (piece_told walks cuts (graph_of p) p.kept number c right.0, rest.1) refl)
+
+-- each walk of right pieces is least
+least_of : ProvesLeast → (pieces : List Piece) (certs : List PieceCert) → AllZip RightOf pieces certs
+    → AllZip (λ (p : Piece) (cert : PieceCert). IsLeastWalk (graph_of p) cert.walk) pieces certs
+least_of proves [] [] right = tt
+least_of proves [] (c ∷ certs) right = absurd right
+least_of proves (p ∷ pieces) [] right = absurd right
+least_of proves (p ∷ pieces) (c ∷ certs) right = (
+  proves (graph_of p) c.cuts c.walk p.kept right.0.packing (twice (total_weight c.cuts) c.retraced (piece_cost (graph_of p))
+      (walk_cost (graph_of p) c.walk) right.0.total right.0.retraced),
+  least_of proves pieces certs right.1,
+)
+  where
+    twice : (t r c w : ℕ) → t ≡ 2 * r → w ≡ c + r → t + 2 * c ≡ 2 * w
+    twice t r c w total above = omega arith
+
+-- a piece of a drawing is the graph of its lines
+abbrev IsCut : DrawingValue → Piece → Type 0
+IsCut d p = graph_of p ≡ piece_graph d p.lines
+
+to_lines : (d : DrawingValue) (R : PieceValue → PieceCert → Type 0) (pieces : List Piece) (certs : List PieceCert) → All (IsCut d) pieces
+    → AllZip (λ (p : Piece) cert. R (graph_of p) cert) pieces certs
+    → AllZip (λ lines cert. R (piece_graph d lines) cert) (lines_of_pieces pieces) certs
+to_lines d R [] [] each all = tt
+to_lines d R [] (c ∷ certs) each all = absurd all
+to_lines d R (p ∷ pieces) [] each all = absurd all
+to_lines d R (p ∷ pieces) (c ∷ certs) each all = (
+  subst (λ (g : PieceValue). R g c) (All-head (IsCut d) p pieces each) all.0,
+  to_lines d R pieces certs
+      (All-tail (IsCut d) p pieces each) all.1,
+)
+
+from_lines : (d : DrawingValue) (R : PieceValue → PieceCert → Type 0) (pieces : List Piece) (certs : List PieceCert)
+    → All (IsCut d) pieces
+    → AllZip (λ lines cert. R (piece_graph d lines) cert) (lines_of_pieces pieces) certs
+    → AllZip (λ (p : Piece) cert. R (graph_of p) cert) pieces certs
+from_lines d R [] [] each all = tt
+from_lines d R [] (c ∷ certs) each all = absurd all
+from_lines d R (p ∷ pieces) [] each all = absurd all
+from_lines d R (p ∷ pieces) (c ∷ certs) each all = (
+  subst (λ (g : PieceValue). R g c) (sym (All-head (IsCut d) p pieces each)) all.0,
+  from_lines d R pieces certs (All-tail (IsCut d) p pieces each) all.1,
+)
+
+graphs_are : (d : DrawingValue) (pieces : List Piece) → All (IsCut d) pieces
+    → map graph_of pieces ≡ map (piece_graph d) (lines_of_pieces pieces)
+graphs_are d [] each = refl
+graphs_are d (p ∷ pieces) each =
+    ap (λ (g : PieceValue). g ∷ map graph_of pieces) (All-head (IsCut d) p pieces each)
+    ∙ ap (λ (gs : List PieceValue). piece_graph d p.lines ∷ gs) (graphs_are d pieces (All-tail (IsCut d) p pieces each))
+
+-- right walks go along lines of the drawing
+along : (d : DrawingValue) (p : Piece) (walk : List Pass) → All (λ line. line < length d.lines) p.lines
+    → All (λ (pass : Pass). Contains p.lines pass.line) walk → AreDrawn d walk
+along d p [] below there = All-nil (λ (pass : Pass). pass.line < length d.lines)
+along d p (q ∷ walk) below there =
+    All-cons (λ (pass : Pass). pass.line < length d.lines) q walk
+    (All-contains (λ line. line < length d.lines) p.lines q.line below
+    (All-head (λ (pass : Pass). Contains p.lines pass.line) q walk there))
+    (along d p walk below (All-tail (λ (pass : Pass). Contains p.lines pass.line) q walk there))
+
+all_along : (d : DrawingValue) → KeepsDrawingLimits d → FittingWalksAreSewable → WalkFaultsAreExact
+    → (pieces : List Piece) (certs : List PieceCert) (number : ℕ)
+    → All (λ line. line < length d.lines) (concat (lines_of_pieces pieces)) → All (IsCut d) pieces
+    → length certs ≡ length pieces → pieces_reason number (map graph_of pieces) certs ≡ None → AllDrawn d certs
+all_along d keeps sews walks [] [] number below each long none = All-nil (λ (piece : PieceCert). AreDrawn d piece.walk)
+all_along d keeps sews walks [] (c ∷ certs) number below each long none = absurd (omega (arith, long))
+all_along d keeps sews walks (p ∷ pieces) [] number below each long none = absurd (omega (arith, long))
+all_along d keeps sews walks (p ∷ pieces) (c ∷ certs) number below each long none =
+    let both = both_none (piece_reason (graph_of p) number c) (pieces_reason (number + 1) (map graph_of pieces) certs) none in
+    let first = both_none (walk_reason number (walk_fault (graph_of p) c.walk))
+    (first_fault (retraced_reason number c.retraced (cost_above (graph_of p) c))
+    (cuts_reason number (cuts_fault (graph_of p) c.retraced c.cuts))) both.0 in
+    let fit : is_fitting_walk (graph_of p) c.walk ≡ true = (walks (graph_of p) c.walk p.kept).0
+    (walk_none number (walk_fault (graph_of p) c.walk) first.0) in
+    let is = All-head (IsCut d) p pieces each in
+    let sewable = sews d p.lines c.walk keeps (front p.lines (concat (lines_of_pieces pieces)) below) (subst IsValidPiece is p.kept)
+    (subst (λ (g : PieceValue). is_fitting_walk g c.walk ≡ true) is fit) in
+    All-cons (λ (piece : PieceCert). AreDrawn d piece.walk) c certs
+    (along d p c.walk (front p.lines (concat (lines_of_pieces pieces)) below) sewable.there)
+    (all_along d keeps sews walks pieces certs (number + 1) (behind p.lines (concat (lines_of_pieces pieces)) below)
+    (All-tail (IsCut d) p pieces each) (omega (arith, long)) both.1)
+  where
+    front : (xs ys : List ℕ) → All (λ line. line < length d.lines) (xs ++ ys) → All (λ line. line < length d.lines) xs
+    front [] ys all = All-nil (λ line. line < length d.lines)
+    front (x ∷ xs) ys all =
+        All-cons (λ line. line < length d.lines) x xs (All-head (λ line. line < length d.lines) x (xs ++ ys) all)
+        (front xs ys (All-tail (λ line. line < length d.lines) x (xs ++ ys) all))
+
+    behind : (xs ys : List ℕ) → All (λ line. line < length d.lines) (xs ++ ys) → All (λ line. line < length d.lines) ys
+    behind [] ys all = all
+    behind (x ∷ xs) ys all = behind xs ys (All-tail (λ line. line < length d.lines) x (xs ++ ys) all)
+
+count_none : (found drawn : ℕ) → count_reason found drawn ≡ None → found ≡ drawn
+count_none found drawn is = equal found drawn (test_none (found == drawn) (reason.Pieces found drawn) is)
+
+-- certificates without a fault of a piece have walks along the drawing's lines
+pub drawn_right : (d : DrawingValue) (pieces : List Piece) (certs : List PieceCert) → KeepsDrawingLimits d → FittingWalksAreSewable
+    → WalkFaultsAreExact
+    → ArePiecesOf d pieces → count_reason (length certs) (length pieces) ≡ None → pieces_reason 1 (map graph_of pieces) certs ≡ None
+    → AllDrawn d certs
+drawn_right d pieces certs keeps sews walks cut count none =
+    all_along d keeps sews walks pieces certs 1 cut.are.there cut.each (count_none (length certs) (length pieces) count) none
+
+-- a drawing has few pieces
+pub pieces_few : (d : DrawingValue) (pieces : List Piece) → KeepsDrawingLimits d → PiecesKeepLimits → ArePiecesOf d pieces
+    → length pieces ≤ 1024
+pieces_few d pieces keeps limits cut =
+    let within : ArePiecesWithin d (lines_of_pieces pieces) = limits d (lines_of_pieces pieces) keeps cut.are in
+    omega (arith, within.count, length-map pieces (λ (p : Piece). p.lines))
+
+-- the verdict by the first reason is that over the pieces of the drawing
+pub verdict_right : (d : DrawingValue) (pieces : List Piece) (design : DesignValue) (certs : List PieceCert) (found : Option Reason)
+    (given : Verdict)
+    → WalkFaultsAreExact → CutFaultsAreExact → BoundsWalks → ProvesLeast → ArePiecesOf d pieces
+    → found ≡ reason_of d (map graph_of pieces) design certs → given ≡ verdict_of_reason found
+    → IsVerdictOver d (lines_of_pieces pieces) design certs given
+verdict_right d pieces design certs found given walks cuts bounds proves cut found_is given_is = record {
+  pieces_are = cut.are;
+  is = given_is ∙ ap (λ r. verdict_of_reason r) found_is ∙ ap (λ (gs : List PieceValue). verdict_of_reason (reason_of d gs design certs))
+      (graphs_are d pieces cut.each);
+  exact = (λ said. right (none said), λ all. given_is ∙ ap (λ r. verdict_of_reason r) (found_is ∙ no_reason all));
+  least = λ said. to_lines d (λ p cert. IsLeastWalk p cert.walk) pieces certs cut.each (least_of proves pieces certs (each (none said)));
+}
+  where
+    graphs : List PieceValue
+    graphs = map graph_of pieces
+
+    yes_none : (r : Option Reason) → verdict_of_reason r ≡ verdict.Yes → r ≡ None
+    yes_none None is = refl
+    yes_none (Some wrong) is = absurd (cc)
+
+    none : given ≡ verdict.Yes → reason_of d graphs design certs ≡ None
+    none said = sym found_is ∙ yes_none found (sym given_is ∙ said)
+
+    later : Option Reason
+    later = first_fault (pieces_reason 1 graphs certs) (acts_reason (difference_of d design certs))
+
+    each : reason_of d graphs design certs ≡ None → AllZip RightOf pieces certs
+    each is =
+        let first = both_none (count_reason (length certs) (length graphs)) later is in
+        let second = both_none (pieces_reason 1 graphs certs) (acts_reason (difference_of d design certs)) first.1 in
+        pieces_right walks cuts bounds pieces certs 1 (count_none (length certs) (length graphs) first.0
+        ∙ length-map pieces graph_of) second.0
+
+    right : reason_of d graphs design certs ≡ None → IsCorrectRoute d (lines_of_pieces pieces) design certs
+    right is =
+        let first = both_none (count_reason (length certs) (length graphs)) later is in
+        let second = both_none (pieces_reason 1 graphs certs) (acts_reason (difference_of d design certs)) first.1 in
+        record {
+          each = to_lines d IsCorrectPieceCert pieces certs cut.each (each is);
+          sews = no_difference 1 (acts_without_numbers (acts_of design)) (sewn_acts (runs_of d (walks_of certs)))
+              (acts_none (difference_of d design certs) second.1);
+        }
+
+    no_reason : IsCorrectRoute d (lines_of_pieces pieces) design certs → reason_of d graphs design certs ≡ None
+    no_reason all =
+        let told = pieces_told walks cuts pieces certs 1 (from_lines d IsCorrectPieceCert pieces certs cut.each all.each) in
+        let same : difference_of d design certs ≡ None = rw all.sews (none_with_itself 1 (sewn_acts (runs_of d (walks_of certs)))) in
+        let count : (length certs == length graphs) ≡ true = tested (length certs) (length graphs)
+        (told.0 ∙ sym (length-map pieces graph_of)) in
+        rw (count, told.1, same) refl
+
+-- a design that the verdict takes sews least walks
+pub sews_least : (d : DrawingValue) (pieces : List (List ℕ)) (design : DesignValue) (certs : List PieceCert) (given : Verdict)
+    → IsVerdictOver d pieces design certs given → given ≡ verdict.Yes → SewsLeast d design certs
+sews_least d pieces design certs given is said =
+    let right = is.exact.0 said in
+    record { pieces = pieces; pieces_are = is.pieces_are; right = right.each; least = is.least said; sews = right.sews }

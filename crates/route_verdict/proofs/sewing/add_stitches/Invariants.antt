@@ -1,0 +1,8 @@
+use Rattle.std.proofs.Common.{◌≡◌, map, take}
+use Rattle.design_model.specs.declared.command.Command.TheVariants.{Stitch}
+use Rattle.design_model.specs.LongerDesigns.{with_commands}
+use Rattle.route_verdict.proofs.sewing.add_stitches.Given as goal
+
+-- the stitches so far
+abbrev pub invariant-loop-point : goal.invariant-loop-point
+invariant-loop-point l = l.design ≡ with_commands l.fn.design (map (λ p. Stitch p) (take l.point-index l.points))

@@ -1,0 +1,15 @@
+//! The design that sews the walks of a certificate, and the verdict on a drawing, a design and a certificate.
+#![tactic(auto)]
+
+mod act_order;
+mod judging;
+mod piece_reasons;
+mod sewing;
+mod verdict;
+#[cfg(test)]
+mod verdict_tests;
+mod walk_needles;
+
+pub use judging::{judge, judge_pieces};
+pub use sewing::sew;
+pub use verdict::{Reason, Verdict};

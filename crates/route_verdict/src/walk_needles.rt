@@ -1,0 +1,78 @@
+ghost use Rattle.std.specs.Prelude.{◌≡◌, ◌<◌, ◌++◌, IfOk, OnOk, drop, if◌then◌else◌, length, reverse};
+ghost use Rattle.line_graph.specs.Walks.{needles_of_pass, needles_of_walk};
+ghost use Rattle.route_verdict.specs.SewingSteps.{AreDrawn, later_needles};
+
+use design_model::{Memory, Point, Points};
+use line_graph::{Drawing, Pass, needles};
+use odd_cuts::first_and_rest;
+use std::alloc::Global;
+
+/// Returns the needle points of a walk: those of its passes in order. A point that ends one pass and starts
+/// the next is taken once.
+pub(crate) fn walk_needles(alloc: Global, d: &Drawing, walk: &[Pass]) -> Result<Points, Memory>
+    requires { AreDrawn d.now walk.now }
+    ensures { IfOk result (λ points. points ≡ needles_of_walk d.now walk.now) }
+{
+    let Some((first, after)) = first_and_rest(walk) else {
+        return Ok(Points::new(alloc));
+    };
+    let mut points = pass_needles(alloc, d, first)?;
+    add_later(alloc, &mut points, d, after)?;
+    Ok(points)
+}
+
+/// Adds the needle points of further passes, each without its first.
+fn add_later(alloc: Global, points: &mut Points, d: &Drawing, walk: &[Pass]) -> Result<(), Memory>
+    requires { AreDrawn d.now walk.now }
+    ensures { OnOk result (points.new ≡ points.old ++ later_needles d.now walk.now) }
+{
+    let mut rest = walk;
+    while let Some((pass, after)) = first_and_rest(rest) {
+        let needles = pass_needles(alloc, d, pass)?;
+        points.append(after_first(needles.as_slice()))?;
+        rest = after;
+    }
+    Ok(())
+}
+
+/// Returns the needle points of a pass.
+fn pass_needles(alloc: Global, d: &Drawing, pass: Pass) -> Result<Points, Memory>
+    requires { pass.line < length d.now.lines }
+    ensures { IfOk result (λ points. points ≡ needles_of_pass d.now pass) }
+{
+    let points = directed(needles(alloc, d, pass.line)?, pass.back);
+    Ok(points)
+}
+
+/// Returns the points, in reverse order if `back` is set.
+fn directed(points: Points, back: bool) -> Points
+    ensures { result ≡ (if back then reverse points else points) }
+{
+    if !back {
+        return points;
+    }
+    let mut turned = points.into_vec();
+    turn_all(&mut turned);
+    Points::from_vec(turned)
+}
+
+fn turn_all(points: &mut Vec<Point>)
+    ensures { points.new.items ≡ reverse points.old.items }
+{
+    turn(points);
+}
+
+fn turn(points: &mut [Point])
+    ensures { points.new ≡ reverse points.old }
+{
+    points.reverse();
+}
+
+fn after_first(points: &[Point]) -> &[Point]
+    ensures { result.now ≡ drop 1 points.now }
+{
+    match points {
+        [_, after @ ..] => after,
+        [] => points,
+    }
+}
