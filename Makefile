@@ -1,4 +1,4 @@
-# make install PREFIX=/usr/local: the two programs, which run alone, a manual page and completions.
+# make install PREFIX=/usr/local installs the two programs, which run by themselves, a manual page and completions.
 VERSION = 0.3.0
 PREFIX ?= /usr/local
 BIN = $(DESTDIR)$(PREFIX)/bin
