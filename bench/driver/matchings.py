@@ -91,7 +91,7 @@ def power(low, high):
 
 
 def growth_table(matchings):
-    """The power of n by which the time grows from 256 places to 1,024."""
+    """The power of n by which the time grows from 256 vertices to 1,024."""
     sides = {(each.kind, each.places): each.sides for each in matchings}
     rows = []
     for kind in KINDS:
@@ -122,5 +122,5 @@ def report(kinds, sizes):
         say(f"matchings, round {turn + 1} of {ROUNDS}: all totals are equal")
     parts = [first, table(HEADS, [matching.row() for matching in matchings])]
     if LARGEST in sizes:
-        parts += ["Growth from 256 places to 1,024, as a power of n:", growth_table(matchings)]
+        parts += ["Growth from 256 vertices to 1,024, as a power of n:", growth_table(matchings)]
     return "\n\n".join(parts) + "\n"

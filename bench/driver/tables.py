@@ -1,11 +1,11 @@
-"""The Markdown that tells what was measured."""
+"""The Markdown with what was measured."""
 
 from cases import FORMATS
 
 HIGHEST_RATIO = 1.2
 HIGHEST_GROWTH = 12.0
 HIGHEST_START = 2.0
-# A jump through a table that is taken less than once in so many commands costs nothing that can be measured.
+# A jump through a table that is taken less than once in this number of commands costs nothing that can be measured.
 COMMANDS_A_JUMP = 10
 
 
@@ -86,7 +86,7 @@ def input_table(sizes, commands_of):
 
 def start_table(starts):
     rows = [[name, marked(median, HIGHEST_START), f"{least:.2f}"] for name, (median, least) in starts]
-    return table(["Start, without words", "median ms", "least ms"], rows)
+    return table(["Start, without arguments", "median ms", "least ms"], rows)
 
 
 def report(head, sizes, starts, measured, counts, commands_of):
