@@ -1,4 +1,4 @@
-//! The commands: each reads a file whole, and gives a report or a refusal.
+//! The commands: each reads an entire file, and returns a report or a refusal.
 
 use std::fmt::Write;
 use std::fs;

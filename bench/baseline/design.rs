@@ -4,7 +4,7 @@ pub const MAX_COMMANDS: usize = 1_000_000;
 pub const NEEDLE_REACH: i32 = 30_000;
 pub const JUMP_REACH: i32 = 32_767;
 
-/// A place in tenths of a millimetre; x grows to the right and y downwards.
+/// A point in tenths of a millimetre; x grows to the right and y downwards.
 #[derive(Clone, Copy, Debug, Default, PartialEq, Eq)]
 pub struct Point {
     pub x: i32,

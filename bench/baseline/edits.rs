@@ -8,7 +8,7 @@ pub enum Edit {
     Turn { quarters: i32 },
     MirrorX,
     MirrorY,
-    /// The place counts from 1.
+    /// The block's number counts from 1.
     Thread { place: usize, thread: u8 },
 }
 

@@ -72,7 +72,7 @@ fn label(line: &[u8]) -> Option<String> {
     is_label.then(|| text.iter().map(|&byte| byte as char).collect())
 }
 
-/// What the acts so far come to.
+/// The state after the acts so far.
 #[derive(Default)]
 struct Draft {
     design: Design,
@@ -142,7 +142,7 @@ impl Draft {
     }
 }
 
-/// The line at an offset, without its end, and the offset behind it.
+/// The line at an offset, without its end, and the offset after it.
 fn next_line(bytes: &[u8], at: usize) -> Result<(&[u8], usize), ReadFault> {
     match bytes[at..].iter().position(|byte| *byte == b'\n') {
         Some(length) => Ok((&bytes[at..at + length], at + length + 1)),

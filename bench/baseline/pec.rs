@@ -65,7 +65,7 @@ pub fn read_block(bytes: &[u8], start: usize) -> Result<Loaded, ReadFault> {
     Ok(reader.finish(ended))
 }
 
-/// Reads records from an offset on, and tells whether the end was met.
+/// Reads records from an offset on, and returns whether the end was met.
 fn read_records(bytes: &[u8], start: usize, reader: &mut Reader) -> Result<bool, ReadFault> {
     reader.at = start;
     loop {

@@ -24,7 +24,7 @@ pub fn refuse<T>(at: usize, text: &'static str) -> Result<T, ReadFault> {
     Err(ReadFault { at, text })
 }
 
-/// The design so far, the needle's place, and the offset of the record that is read.
+/// The design so far, the needle's position, and the offset of the record that is read.
 #[derive(Default)]
 pub struct Reader {
     pub design: Design,

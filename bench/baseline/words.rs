@@ -1,4 +1,4 @@
-//! What the words of the command line ask for.
+//! The request in the arguments of the command line.
 
 use crate::edits::Edit;
 use crate::formats::Format;
@@ -83,7 +83,7 @@ fn edit(word: &str) -> Option<Edit> {
     }
 }
 
-/// A number in a range, spelled as an optional minus and digits.
+/// A number in a range, written as an optional minus and digits.
 fn number(word: &str, least: i32, greatest: i32) -> Option<i32> {
     let digits = word.strip_prefix('-').unwrap_or(word);
     if digits.is_empty() || !digits.bytes().all(|byte| byte.is_ascii_digit()) {

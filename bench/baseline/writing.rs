@@ -31,7 +31,7 @@ pub fn steps(dx: i32, dy: i32, limit: i32) -> i32 {
     (distance + limit - 1) / limit
 }
 
-/// The place after the first `i` of `n` equal steps, rounded down.
+/// The point after the first `i` of `n` equal steps, rounded down.
 pub fn part(i: i32, n: i32, d: i32) -> i32 {
     (i * d).div_euclid(n)
 }

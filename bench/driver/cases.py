@@ -1,4 +1,4 @@
-"""The cases: the words of each, and the file that it writes."""
+"""The cases: the arguments of each, and the file that it writes."""
 
 from dataclasses import dataclass
 from typing import Optional

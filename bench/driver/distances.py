@@ -1,5 +1,5 @@
-"""Tables of distances to match, the same at each run: points, stars, clusters and graphs. No way round by a
-third place is shorter. A table is a list of rows: for each place its distances to those before it."""
+"""Tables of distances to match, the same at each run: points, stars, clusters and graphs. The triangle
+inequality holds. A table is a list of rows: for each vertex its distances to those before it."""
 
 import heapq
 import math
@@ -7,7 +7,7 @@ import random
 
 
 def rows_of(places, distance):
-    """The table of a function of two places."""
+    """The table of a function of two vertices."""
     return [[distance(a, b) for b in range(a)] for a in range(places)]
 
 
@@ -117,5 +117,5 @@ KINDS = {
 
 
 def table_of(kind, places):
-    """The table of a kind with so many places."""
+    """The table of a kind with the given number of vertices."""
     return KINDS[kind](random.Random(f"{kind} {places}"), places)

@@ -15,7 +15,7 @@ def text_of(lines, step):
 
 
 def star(lines, least, greatest):
-    """Strokes of so many steps that meet in the middle, each to a point of its own."""
+    """Strokes of the given numbers of steps that meet in the middle, each to a point of its own."""
     chance = random.Random(1)
     return [[(0, 0), (10 * chance.randint(least, greatest), i - lines // 2)] for i in range(lines)]
 
@@ -54,7 +54,7 @@ def planar(lines):
 
 
 def spanning(nodes, pairs):
-    """Those of the pairs that join parts which those before didn't join."""
+    """The pairs that connect parts which earlier pairs didn't connect."""
     part = {node: node for node in nodes}
 
     def root(node):

@@ -1,4 +1,4 @@
-"""Builds a program that is kept here, over copies of the crates that it stands on.
+"""Builds a program that is kept here, over copies of the crates that it needs.
 
 The gate reads each .rt and .antt file of the repository as a crate's, so these have other endings here."""
 
@@ -13,14 +13,14 @@ CRATES = REPOSITORY / "crates"
 
 
 def stands_on():
-    """What each crate of the repository stands on, lowest first."""
+    """The crates that each crate of the repository needs, lowest first."""
     rows = [line.split("#")[0] for line in (REPOSITORY / "crates.txt").read_text().splitlines()]
     parts = [row.split(":") for row in rows if row.strip()]
     return {name.strip(): libraries.split() for name, libraries in parts}
 
 
 def all_below(libraries, rows):
-    """These and all that they stand on, of the crates of the repository, lowest first."""
+    """These crates of the repository and all that they need, lowest first."""
     wanted = set(libraries)
     for name in reversed(rows):
         if name in wanted:
@@ -66,7 +66,7 @@ def built(source, libraries):
     copy_kept(source, top / "crates" / name)
     lines = [f"{crate}: {' '.join(parts)}\n" for crate, parts in {**below, name: libraries}.items()]
     (top / "crates.txt").write_text("".join(lines))
-    # without words nothing is begun, and the status says so
+    # without arguments nothing is begun, and the status shows that
     run = subprocess.run(["rt", "run"], cwd=top / "crates" / name, stdin=subprocess.DEVNULL, capture_output=True)
     if not program.exists():
         raise SystemExit(f"bench: {name} is not proved or not built:\n{run.stdout.decode()}{run.stderr.decode()}")

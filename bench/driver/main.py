@@ -1,4 +1,4 @@
-"""Builds, makes inputs, measures, and tells the numbers."""
+"""Builds, makes inputs, measures, and prints the numbers."""
 
 import argparse
 import sys

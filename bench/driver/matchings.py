@@ -34,14 +34,14 @@ def build():
 
 
 class Side:
-    """One program with one table: what it took to read it alone, and to match it so often besides."""
+    """One program with one table: the cost of reading it alone, and of also matching it the given number of times."""
 
     def __init__(self, times):
         self.times = times
         self.reading, self.whole = Cost(), Cost()
 
     def measure(self, program, file):
-        """What the pairs cost."""
+        """The cost of the pairs."""
         run(program, (file, "0"), self.reading)
         return int(run(program, (file, str(self.times)), self.whole)[0])
 

@@ -1,4 +1,4 @@
-"""Runs both programs in turns, compares what they leave, and keeps what they took."""
+"""Runs both programs in turns, compares their results, and keeps their costs."""
 
 import subprocess
 from dataclasses import dataclass
@@ -6,8 +6,8 @@ from dataclasses import dataclass
 from building import say
 from places import BIN, INPUTS
 
-# Rounds of a case in one pass over all cases. Passes lie apart in time, so that other work of the
-# machine, which comes and goes, doesn't fall on all rounds of a case.
+# Rounds of a case in one pass over all cases. Passes are apart in time, so that other work of the
+# machine, which begins and ends, doesn't fall on all rounds of a case.
 ROUNDS = 3
 PASSES = 5
 # A case that takes more cpu seconds than this has one pass.
@@ -39,7 +39,7 @@ class Cost:
 
 
 class Different(Exception):
-    """The two programs leave different things."""
+    """The two programs have different results."""
 
 
 def meter(program, words):
@@ -51,7 +51,7 @@ def meter(program, words):
 
 
 def run_once(program, case, cost):
-    """What a run leaves; what it took goes into its cost."""
+    """The result of a run; the time and memory go into its cost."""
     written = INPUTS / case.output if case.output else None
     if written:
         written.unlink(missing_ok=True)
@@ -116,7 +116,7 @@ def median(numbers):
 
 
 def starts_of(programs, times=20):
-    """The median and the least wall time of a start without words, in milliseconds, in turns."""
+    """The median and the least wall time of a start without arguments, in milliseconds, in turns."""
     walls = [[] for _ in programs]
     for _ in range(times):
         for program, kept in zip(programs, walls):

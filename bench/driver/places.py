@@ -1,4 +1,4 @@
-"""Where things stand."""
+"""Where things are."""
 
 from pathlib import Path
 

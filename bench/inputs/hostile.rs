@@ -16,7 +16,7 @@ pub fn stops(count: usize) -> Vec<u8> {
         .collect()
 }
 
-/// As much of a right beginning as a reader asks for before it reads records.
+/// As much of a right beginning as a reader requires before it reads records.
 fn beginning(format: Format) -> Vec<u8> {
     match format {
         Format::Dst => [b"LA:hostile".as_slice(), &[b' '; 502]].concat(),

@@ -1,6 +1,6 @@
 //! Makes the benchmark's inputs: `inputs FOLDER SIZES STOPS BYTES`, where SIZES are numbers of
 //! commands with commas between, STOPS is the length of the file of stops, and BYTES that of each
-//! hostile file. The same words always make the same files.
+//! hostile file. The same arguments always make the same files.
 //!
 //! The records are written by the baseline's writers.
 

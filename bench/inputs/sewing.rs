@@ -66,7 +66,7 @@ impl Machine {
         Point { x: self.random.within(-FIELD, FIELD), y: self.random.within(-FIELD, FIELD) }
     }
 
-    /// A place within reach on each axis, rather towards the middle.
+    /// A point within reach on each axis, rather towards the middle.
     fn near(&mut self, reach: i32) -> Point {
         Point {
             x: self.place.x - self.place.x.signum() * self.random.within(-reach / 3, reach),

@@ -1,4 +1,4 @@
-// Matches the places of a table so often over LEMON, and prints what the pairs cost: `lemon_table TABLE TIMES`.
+// Matches the vertices of a table TIMES times over LEMON, and prints the cost of the pairs: `lemon_table TABLE TIMES`.
 // The table is a file of numbers of four bytes, as match_table reads it; with 0 times it is read alone.
 
 #include <lemon/full_graph.h>

@@ -1,4 +1,4 @@
-//! Runs a program and tells what it took: `meter OUT ERR PROGRAM WORD...` keeps the program's
+//! Runs a program and reports its cost: `meter OUT ERR PROGRAM WORD...` keeps the program's
 //! output and errors in the files OUT and ERR, and prints its status, cpu time in microseconds,
 //! peak memory in KiB and wall time in microseconds.
 //!
@@ -57,7 +57,7 @@ fn main() {
     let child = command.spawn().expect("the program starts");
     let mut word = 0;
     let mut usage = Usage::default();
-    // The kernel fills both places, which live until the call is back.
+    // The kernel fills both variables, which live until the call returns.
     let pid = unsafe { wait4(child.id() as i32, &mut word, 0, &mut usage) };
     let wall = begin.elapsed().as_micros();
 

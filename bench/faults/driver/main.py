@@ -1,4 +1,4 @@
-"""Refuses each call of the outside and each growth of memory in turn, and compares what is left."""
+"""Refuses each call of the outside and each growth of memory in turn, and compares the results."""
 import argparse
 import os
 import shutil
@@ -46,7 +46,7 @@ def built_over_memory():
     os.makedirs(os.path.join(crate, "src"), exist_ok=True)
     # The gate reads each .rt file of the repository as a crate's, so this one has another ending here.
     shutil.copy(os.path.join(HERE, "over_memory.rattle"), os.path.join(crate, "src", "main.rt"))
-    # without words nothing is begun, and the status says so
+    # without arguments nothing is begun, and the status shows that
     subprocess.run(["rt", "run"], cwd=crate, stdin=subprocess.DEVNULL)
     return os.path.join(crate, "out", "over_memory")
 
@@ -59,7 +59,7 @@ def shim():
 
 
 def make_all(tally, program, folder):
-    """Runs all commands in order where nothing fails, and answers what they make."""
+    """Runs all commands in order where nothing fails, and returns what they make."""
     tally.begin("no fault")
     made = dict(rows.FIRST_FILES)
     for command in rows.COMMANDS:

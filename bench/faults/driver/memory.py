@@ -97,7 +97,7 @@ def growths(tally, program, folder, made, shim, place):
 
 
 def real_growths(tally, program, folder, made, shim, place):
-    """Each growth refused in turn, over real files: what is wanted to make a file beside is the store's."""
+    """Each growth refused in turn, over real files: memory for making a file beside is the store's."""
     tally.begin("growths of the program")
     for command in rows.COMMANDS:
         before = before_of(command, True)

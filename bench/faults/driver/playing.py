@@ -1,4 +1,4 @@
-"""Runs of a program in a folder of its own, and what they leave."""
+"""Runs of a program in a folder of its own, and their results."""
 import os
 import subprocess
 from dataclasses import dataclass
@@ -8,7 +8,7 @@ OLD = b"an old file\n" * 300
 
 @dataclass
 class Left:
-    """What a run left: its status, its streams, and the files of the names that it may write."""
+    """The result of a run: its status, its streams, and the files of the names that it may write."""
     status: int
     out: bytes
     err: bytes
@@ -16,7 +16,7 @@ class Left:
 
 
 class Tally:
-    """Counts runs, and prints those that differ from what is wanted."""
+    """Counts runs, and prints those that differ from what is expected."""
 
     def __init__(self):
         self.runs = 0
@@ -37,7 +37,7 @@ class Tally:
 
 
 def lay(folder, files):
-    """Makes a folder hold these files alone; None stands for no file."""
+    """Makes a folder hold these files alone; None means no file."""
     for name in os.listdir(folder):
         os.unlink(os.path.join(folder, name))
     for name, content in files.items():
@@ -55,7 +55,7 @@ def content(folder, name):
 
 
 def play(folder, args, names, env=None, **more):
-    """Runs a program in the folder, and tells what it left of these names."""
+    """Runs a program in the folder, and returns its result for these names."""
     given = dict(stdin=subprocess.DEVNULL, stdout=subprocess.PIPE, stderr=subprocess.PIPE)
     given.update(more)
     done = subprocess.run(args, cwd=folder, env={**os.environ, **(env or {})}, timeout=120, **given)
@@ -64,5 +64,5 @@ def play(folder, args, names, env=None, **more):
 
 
 def is_clean(folder, known):
-    """Nothing stands in the folder but what is known."""
+    """The folder contains only known files."""
     return set(os.listdir(folder)) <= set(known)

@@ -1,4 +1,4 @@
-"""The commands that faults are tried on: their files, and what each leaves where nothing fails."""
+"""The commands that faults are tried on: their files, and the result of each where nothing fails."""
 from dataclasses import dataclass, field
 
 SQUARE = b"redwork 1\nstep 30\ncolor 5\nline 0 0 30 0 30 30 0 30 0 0\n"
@@ -11,7 +11,7 @@ SQUARE_RECORDS = bytes.fromhex(
 SQUARE_REPORT = (b"block 1 piece 1 lines 1 cost 4 retraced 0 penetrations 5\n"
                  b"pieces 1 penetrations 5\n")
 
-# four junctions, each joined with each
+# four junctions, each connected with each
 FOUR = (b"redwork 1\nstep 30\ncolor 1\nline 0 0 30 0\nline 0 0 30 30\nline 0 0 0 30\n"
         b"line 30 0 30 30\nline 30 0 0 30\nline 30 30 0 30\n")
 
@@ -41,7 +41,7 @@ DONE, REFUSED, USAGE, FAULT, MEMORY = range(5)
 
 @dataclass
 class Command:
-    """A command: its words, the files that it reads in order, those that it writes in order, and its end."""
+    """A command: its arguments, the files that it reads in order, those that it writes in order, and its end."""
     words: list
     inputs: list
     outputs: list

@@ -8,7 +8,7 @@ import playing
 import rows
 import wanted
 
-# what a call of the system answers, and whether it is made again
+# the result of a call of the system, and whether it is made again
 ANSWERS = {
     "openat": ["EIO", "ENOSPC", "EMFILE"],
     "statx": ["EIO"],
@@ -73,7 +73,7 @@ def limited(size):
 
 
 def sizes(tally, program, folder, made):
-    """Files that may not grow beyond each size: an output is the old one or the whole new one."""
+    """Files that may not grow beyond each size: an output is the old one or the entire new one."""
     tally.begin("sizes of files")
     for command in rows.COMMANDS:
         if command.status != rows.DONE or not command.outputs:
@@ -222,7 +222,7 @@ def playing_new(program, folder, made, words):
 
 
 def lines(tally, program, folder, times):
-    """Two programs in one shell: each line on their one standard error stands whole."""
+    """Two programs in one shell: each line on their one standard error is complete."""
     tally.begin("lines of two programs")
     playing.lay(folder, {})
     one, two = "o" * 200 + ".dst", "t" * 3000 + "/.dst"

@@ -1,9 +1,9 @@
-"""What a command may leave where a call of the outside fails or memory is refused."""
+"""The results that a command may have where a call of the outside fails or memory is refused."""
 import rows
 
 
 def whole(command, made):
-    """The files of a command that is done: what is fixed stands, and the rest is what was made."""
+    """The files of a command that is done: fixed contents, and for the rest what was made."""
     return {name: made[name] for name in command.outputs}
 
 
@@ -26,7 +26,7 @@ def after_call(command, number, made, before):
 
 def real_faults(command, made, before):
     """The lines and files with which a fault may end over real files: each output is the old file or the
-    whole new one, those before the one that failed are new and those after it old."""
+    entire new one, those before the one that failed are new and those after it old."""
     ends = [(rows.unread(name), dict(before), b"") for name in command.inputs]
     if command.status != rows.DONE:
         return ends
@@ -46,13 +46,13 @@ def is_end(command, left, made, before):
 
 
 def is_fault(command, left, made, before):
-    """The run ended with a fault, whose line says what failed, and left what it may."""
+    """The run ended with a fault, whose line reports what failed, with a permitted result."""
     return left.status == rows.FAULT and any(
         left.err == line and left.files == files and report.startswith(left.out)
         for line, files, report in real_faults(command, made, before))
 
 
 def is_memory(left, before):
-    """The run ended for want of memory: nothing was written or printed."""
+    """The run ended out of memory: nothing was written or printed."""
     return (left.status, left.out, left.err, left.files) == (
         rows.MEMORY, b"", rows.NO_MEMORY, before)

@@ -1,5 +1,5 @@
-/* Refuses one growth of memory: the one whose number stands in REFUSE_AT, counted from 1. How many were
-   asked for is written to the file that REFUSE_COUNT names, at the program's end. */
+/* Refuses one growth of memory: the one whose number is in REFUSE_AT, counted from 1. How many were
+   requested is written to the file that REFUSE_COUNT names, at the program's end. */
 #define _GNU_SOURCE
 #include <dlfcn.h>
 #include <errno.h>
