@@ -271,7 +271,7 @@ piece_before said done piece text pieces awaits has rest =
     let cuts : List ℕ = flat_map cut_line_text piece.cuts in
     let begun : PieceCert = record { retraced = piece.retraced; walk = piece.walk; cuts = [] } in
     let have : All HasCut piece.cuts =
-    cuts_have piece.cuts has.spelled.plain has.spelled.members has.small.weights in
+    cuts_have piece.cuts has.canonical.plain has.canonical.members has.small.weights in
     let parts : piece_text piece ++ text
     ≡ line_bytes (line.Piece piece.retraced) ++ 10 ∷ (line_bytes (line.Walk piece.walk) ++ 10 ∷ (cuts ++ text)) =
     ap (λ (more : List ℕ). codes "piece " ++ more) (append_assoc cost (10 ∷ (codes "walk" ++ (passes ++ 10 ∷ cuts))) text
@@ -280,7 +280,7 @@ piece_before said done piece text pieces awaits has rest =
     cuts_before piece.cuts done begun text pieces have rest in
     let walked : SayOn (draft.AwaitingWalk done piece.retraced) (line_bytes (line.Walk piece.walk) ++ 10 ∷ (cuts ++ text)) pieces =
     line_before (draft.AwaitingWalk done piece.retraced) (draft.InPiece done begun) (line.Walk piece.walk) (cuts ++ text) pieces
-    (has.spelled.some, has.spelled.passes) refl behind in
+    (has.canonical.some, has.canonical.passes) refl behind in
     subst (λ (bytes : List ℕ). SayOn said bytes pieces) (sym parts)
     (line_before said (draft.AwaitingWalk done piece.retraced) (line.Piece piece.retraced) _ pieces
     has.small.retraced (awaits.opens piece.retraced) walked)
@@ -308,5 +308,5 @@ pub text_says : (pieces : List PieceCert) → All HasCanonicalText pieces → Al
 text_says pieces spelled small =
     let rest : List ℕ = flat_map piece_text pieces ++ (codes "end" ++ newline) in
     let next : Awaits draft.Headed [] = record { opens = λ retraced. refl; ends = refl } in
-    let have : All HasText pieces = λ k d there. record { spelled = spelled k d there; small = small k d there } in
+    let have : All HasText pieces = λ k d there. record { canonical = spelled k d there; small = small k d there } in
     line_before draft.Empty draft.Headed line.Head rest pieces tt refl (pieces_say pieces draft.Headed [] next have) 1

@@ -26,7 +26,7 @@ use Rattle.certificate_text.proofs.NumberWords.{then_some}
 
 -- a piece that has a text
 pub record HasText (piece : PieceCert) : Type 0 where
-  pub spelled : HasCanonicalText piece
+  pub canonical : HasCanonicalText piece
   pub small : HasSmallNumbers piece
 
 -- the first line and the texts of these pieces
@@ -92,7 +92,7 @@ walk_bytes retraced walk = ap (λ (text : List ℕ). codes "piece " ++ text)
 has_walk : (retraced : ℕ) (walk : List Pass) → retraced < 2 ^ 32 → HasLine (line.Walk walk)
     → HasText (record { retraced = retraced; walk = walk; cuts = [] })
 has_walk retraced walk small has = record {
-  spelled = record {
+  canonical = record {
     some = has.0;
     passes = has.1;
     plain = All-nil IsPlainCut;
@@ -104,11 +104,11 @@ has_walk retraced walk small has = record {
 -- a piece with a cut more has a text too
 has_cut : (piece : PieceCert) (cut : Cut) → HasText piece → HasCut cut → HasText (with_cut piece cut)
 has_cut piece cut all one = record {
-  spelled = record {
-    some = all.spelled.some;
-    passes = all.spelled.passes;
-    plain = All-push IsPlainCut piece.cuts cut all.spelled.plain one.plain;
-    members = All-push (λ (c : Cut). All HasMember c.members) piece.cuts cut all.spelled.members one.members;
+  canonical = record {
+    some = all.canonical.some;
+    passes = all.canonical.passes;
+    plain = All-push IsPlainCut piece.cuts cut all.canonical.plain one.plain;
+    members = All-push (λ (c : Cut). All HasMember c.members) piece.cuts cut all.canonical.members one.members;
   };
   small = record {
     retraced = all.small.retraced;
@@ -216,6 +216,6 @@ pub said_spelled : (text : List ℕ) (pieces : List PieceCert) → cert_of text 
     → All HasCanonicalText pieces × All HasSmallNumbers pieces
 said_spelled text pieces says =
     let all = (whole text pieces says).has tt in (
-      All-weaker HasText HasCanonicalText (λ piece has. has.spelled) pieces all,
+      All-weaker HasText HasCanonicalText (λ piece has. has.canonical) pieces all,
       All-weaker HasText HasSmallNumbers (λ piece has. has.small) pieces all,
     )

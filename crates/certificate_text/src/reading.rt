@@ -37,7 +37,7 @@ pub fn read_cert(alloc: Global, bytes: &[u8]) -> Result<Cert, CertFault>
     requires { length bytes.now ≤ MAX_CERT }
     ensures value { ReadsCert (cert_of bytes.now) result }
     ensures text { IfOk result (λ cert. bytes.now ≡ certificate_text cert.pieces) }
-    ensures spelled { IfOk result (λ cert. All HasCanonicalText cert.pieces) }
+    ensures canonical { IfOk result (λ cert. All HasCanonicalText cert.pieces) }
     ensures few { IfOk result (λ cert. AreFew cert.pieces) }
 {
     let cert = read_lines(alloc, bytes)?;

@@ -9,12 +9,12 @@ use Rattle.design_changes.specs.ChangedDesigns.{Becomes, BecomesAll}
 
 -- The result of the remaining edits on the current design is that of all edits on the first design.
 pub record GoesOn (words left : List (List ℕ)) (first now : DesignValue) : Type 0 where
-  pub spelled : IsSome (parsed_edits left)
+  pub parsed : IsSome (parsed_edits left)
   pub rest : (limit : ℕ) (r : Result DesignValue ChangeFault) → BecomesAll limit (unwrap_or (parsed_edits left) []) now r
       → BecomesAll limit (unwrap_or (parsed_edits words) []) first r
 
 pub goes_first : (words : List (List ℕ)) (d : DesignValue) → IsSome (parsed_edits words) → GoesOn words words d d
-goes_first words d spelled = record { spelled = spelled; rest = λ limit r becomes. becomes }
+goes_first words d spelled = record { parsed = spelled; rest = λ limit r becomes. becomes }
 
 -- The edits of a list of arguments: the first, followed by the others.
 first_spelled : (first : Option Change) (later : Option (List Change)) → IsSome (with_first_edit first later) → IsSome first
@@ -30,7 +30,7 @@ later_spelled None None some = some
 pub next_spelled : (words left : List (List ℕ)) (word : List ℕ) (more : List (List ℕ)) (first now : DesignValue)
     → GoesOn words left first now → left ≡ word ∷ more → IsSome (parsed_edit word)
 next_spelled words left word more first now goes is = first_spelled (parsed_edit word) (parsed_edits more)
-    (subst (λ (ws : List (List ℕ)). IsSome (parsed_edits ws)) is goes.spelled)
+    (subst (λ (ws : List (List ℕ)). IsSome (parsed_edits ws)) is goes.parsed)
 
 -- the first edit is made, and what the others make of that they make of the whole
 made_first : (limit : ℕ) (first : Option Change) (later : Option (List Change)) (old new : DesignValue)
@@ -56,10 +56,10 @@ goes_on words left word more first now next goes is becomes =
   where
     step : GoesOn words (word ∷ more) first now → GoesOn words more first next
     step on = record {
-      spelled = later_spelled (parsed_edit word) (parsed_edits more) on.spelled;
+      parsed = later_spelled (parsed_edit word) (parsed_edits more) on.parsed;
       rest = λ limit r rest. on.rest limit r (made_first limit (parsed_edit word) (parsed_edits more) now next r
-          (first_spelled (parsed_edit word) (parsed_edits more) on.spelled)
-          (later_spelled (parsed_edit word) (parsed_edits more) on.spelled) (becomes limit) rest);
+          (first_spelled (parsed_edit word) (parsed_edits more) on.parsed)
+          (later_spelled (parsed_edit word) (parsed_edits more) on.parsed) (becomes limit) rest);
     }
 
 pub goes_refused : (words left : List (List ℕ)) (word : List ℕ) (more : List (List ℕ)) (first now : DesignValue) (why : ChangeFault)
@@ -71,8 +71,8 @@ goes_refused words left word more first now why goes is becomes limit =
   where
     step : GoesOn words (word ∷ more) first now → BecomesAll limit (unwrap_or (parsed_edits words) []) first (Err why)
     step on = on.rest limit (Err why) (refused_first limit (parsed_edit word) (parsed_edits more) now why
-        (first_spelled (parsed_edit word) (parsed_edits more) on.spelled)
-        (later_spelled (parsed_edit word) (parsed_edits more) on.spelled) (becomes limit))
+        (first_spelled (parsed_edit word) (parsed_edits more) on.parsed)
+        (later_spelled (parsed_edit word) (parsed_edits more) on.parsed) (becomes limit))
 
 pub goes_done : (words left : List (List ℕ)) (first now : DesignValue) → GoesOn words left first now → left ≡ []
     → (limit : ℕ) → BecomesAll limit (unwrap_or (parsed_edits words) []) first (Ok now)

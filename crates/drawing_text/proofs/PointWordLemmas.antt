@@ -23,7 +23,7 @@ behind_one points p (Err why) = refl
 
 -- the words so far denote these points, and the rest is read after them
 pub record GoesOn (words rest : List ℕ) (points : List Point) : Type 0 where
-  pub spelled : parsed_points (words_of_line words) ≡ behind points (parsed_points (words_of_line rest))
+  pub parsed : parsed_points (words_of_line words) ≡ behind points (parsed_points (words_of_line rest))
 
 -- two words more are one point more
 pub point_read : (words rest after more x y : List ℕ) (points : List Point) (across down : ℤ) → GoesOn words rest points
@@ -31,7 +31,7 @@ pub point_read : (words rest after more x y : List ℕ) (points : List Point) (a
     → parsed_coordinate (parsed_whole x) ≡ Ok across → parsed_coordinate (parsed_whole y) ≡ Ok down
     → GoesOn words more (points ++ record { x = across; y = down } ∷ [])
 point_read words rest after more x y points across down goes first second left right = record {
-  spelled = goes.spelled ∙ (rw (first, second, left, right) (behind_one points (record { x = across; y = down })
+  parsed = goes.parsed ∙ (rw (first, second, left, right) (behind_one points (record { x = across; y = down })
       (parsed_points (words_of_line more))));
 }
 

@@ -328,8 +328,8 @@ spelling_read d keeps unended = body_read version.One d keeps unended means (can
 
 pub spelling2_read : JoinedDrawingsStay → (d : DrawingValue) → KeepsDrawingLimits d → IsJoinedWithoutEnds d
     → drawing_of (canonical_text2 d) ≡ Ok d
-spelling2_read stay d keeps is = body_read version.Two d keeps is.unended means (canonical_text2 d)
-    (ap said (line_read (codes "redwork") (codes "2" ∷ []) (label_text d.label ++ step_text version.Two d keeps is.unended means)
+spelling2_read stay d keeps is = body_read version.Two d keeps is.no_ends means (canonical_text2 d)
+    (ap said (line_read (codes "redwork") (codes "2" ∷ []) (label_text d.label ++ step_text version.Two d keeps is.no_ends means)
     (record { filled = refl; inner = refl }) (record { filled = refl; inner = refl }, tt)))
   where
     means : Means version.Two d

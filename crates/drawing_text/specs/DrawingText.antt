@@ -132,7 +132,7 @@ ReadsDrawing said result = IsSpecified draw_fault_is_out_of_memory said result
 -- A joined drawing without starts and ends.
 pub record IsJoinedWithoutEnds (d : DrawingValue) : Type 0 where
   pub joined : is_joined d ≡ true
-  pub unended : HasNoEnds d
+  pub no_ends : HasNoEnds d
 
 -- A drawing that is read from a text of version 2 is joined and has no starts and ends.
 abbrev pub IsDrawingOfVersion : Version → DrawingValue → Type 0

@@ -13,7 +13,7 @@ use std::alloc::Global;
 /// that names it.
 pub fn with_ends(alloc: Global, drawing: Drawing, ends: &[WalkEnd]) -> Result<Drawing, DrawFault>
     requires joined { is_joined drawing ≡ true }
-    requires unended { HasNoEnds drawing }
+    requires no_ends { HasNoEnds drawing }
     ensures { ReadsDrawing (drawing_with_ends drawing ends.now) result }
 {
     let mut maker = match EndsMaker::new(alloc, drawing) {

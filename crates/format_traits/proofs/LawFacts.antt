@@ -16,13 +16,13 @@ use Rattle.format_traits.proofs.EndingFacts.{named}
 
 -- an ending has a byte, and no capital
 pub known_ending : IsFileEnding (codes "m4")
-known_ending = record { some = omega arith; spelled = refl }
+known_ending = record { some = omega arith; letters = refl }
 
 pub known_no_ending : IsFileEnding [] → ⊥
 known_no_ending ending = omega (arith, ending.some)
 
 pub known_capital : IsFileEnding (codes "dsT") → ⊥
-known_capital ending = true≢false (sym ending.spelled)
+known_capital ending = true≢false (sym ending.letters)
 
 -- no result except out of memory is allowed in place of the specified one
 abbrev want : Result Loaded ReadFault

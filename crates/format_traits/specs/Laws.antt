@@ -22,7 +22,7 @@ is_ending_byte byte = (nat_le 97 byte && nat_le byte 122) || (nat_le 48 byte && 
 -- A non-empty ending of a format's file names, of small letters and digits.
 pub record IsFileEnding (ending : List ℕ) : Type 0 where
   pub some : 0 < length ending
-  pub spelled : IsTrue (list_all is_ending_byte ending)
+  pub letters : IsTrue (list_all is_ending_byte ending)
 
 -- Meaning of an answer of `encode`: the result equals the specified one, or is out of memory.
 abbrev pub EncodesTo : Result (List ℕ) WriteFault → Result (List ℕ) WriteFault → Type 0

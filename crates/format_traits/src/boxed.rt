@@ -14,7 +14,7 @@ use std::alloc::Global;
 /// Returns the ending of a boxed format's file names.
 pub fn ext_of(format: &Box<dyn Format>) -> &str
     ensures value { result.now ≡ (meaning format.now).ending }
-    ensures spelled { IsFileEnding result.now }
+    ensures letters { IsFileEnding result.now }
 {
     format.ext()
 }
@@ -71,7 +71,7 @@ pub fn feed_by(format: &mut Box<dyn Format>, piece: &[u8]) -> Result<(), Memory>
 /// Returns the result of reading the file that was fed to a boxed format.
 pub fn finish_by(format: &mut Box<dyn Format>) -> Result<Loaded, ReadFault>
     ensures same { meaning format.new ≡ meaning format.old }
-    ensures told { Finishes (meaning format.old).reads (meaning format.old).shown
+    ensures finished { Finishes (meaning format.old).reads (meaning format.old).shown
         (feed_state format.old) result
         (feed_state format.new) }
 {

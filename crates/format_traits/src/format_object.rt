@@ -44,7 +44,7 @@ pub trait Format: Drop {
     /// Returns the ending of the format's file names: small letters and digits of ASCII.
     fn ext(&self) -> &str
         ensures value { result.now ≡ (meaning self.now).ending }
-        ensures spelled { IsFileEnding result.now };
+        ensures letters { IsFileEnding result.now };
 
     /// Returns the greatest move of a stitch on each axis, in tenths of a millimetre.
     fn limit(&self) -> u32
@@ -78,7 +78,7 @@ pub trait Format: Drop {
     /// Returns the result of the file that was fed. The next file may be fed then.
     fn finish(&mut self) -> Result<Loaded, ReadFault>
         ensures same { meaning self.new ≡ meaning self.old }
-        ensures told { Finishes (meaning self.new).reads (meaning self.new).shown (feed_state self.old)
+        ensures finished { Finishes (meaning self.new).reads (meaning self.new).shown (feed_state self.old)
             result (feed_state self.new) };
 
     /// Returns the commands read so far.

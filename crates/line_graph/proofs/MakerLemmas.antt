@@ -94,7 +94,7 @@ label_set d word empty points steps made test =
       };
       blocks = made.blocks;
       lines = made.lines;
-      unended = record { starts = made.unended.starts; ends = made.unended.ends };
+      no_ends = record { starts = made.no_ends.starts; ends = made.no_ends.ends };
       last_is = made.last_is;
       points_are = made.points_are;
       steps_are = made.steps_are;
@@ -128,7 +128,7 @@ step_set d step empty points steps made low high none =
         points_to = made.lines.points_to;
         cost = omega (arith, after);
       };
-      unended = record { starts = made.unended.starts; ends = made.unended.ends };
+      no_ends = record { starts = made.no_ends.starts; ends = made.no_ends.ends };
       last_is = made.last_is;
       points_are = made.points_are;
       steps_are = made.steps_are ∙ (before ∙ sym after);
@@ -204,7 +204,7 @@ block_put d thread points steps made fits few =
         ordered = made.blocks.ordered;
       };
       lines = made.lines;
-      unended = record { starts = made.unended.starts; ends = made.unended.ends };
+      no_ends = record { starts = made.no_ends.starts; ends = made.no_ends.ends };
       last_is = sym (last_by (with_new_block d thread) (length d.threads) false longer
           (unused (length d.threads) d.lines made.blocks.there));
       points_are = made.points_are;
@@ -293,7 +293,7 @@ line_put d points empty count steps more made some comes =
         points_to = omega (arith, points_are, comes.few);
         cost = omega (arith, steps_are, comes.steps_are, comes.cost);
       };
-      unended = record { starts = made.unended.starts; ends = made.unended.ends };
+      no_ends = record { starts = made.no_ends.starts; ends = made.no_ends.ends };
       last_is = sym (last_by (with_new_line d points) line.block true last (found_last d.lines line));
       points_are = omega (arith, points_are, made.points_are);
       steps_are = omega (arith, steps_are, comes.steps_are);
@@ -334,4 +334,4 @@ unended d none = record {
 
 -- at its end it is a drawing
 pub drawn_all : (d : DrawingValue) (points steps : ℕ) → IsMakerState d false points steps → length d.threads ≢ 0 → IsValidDrawing d
-drawn_all d points steps made some = record { limits = drawn d points steps made some; ends = unended d made.unended }
+drawn_all d points steps made some = record { limits = drawn d points steps made some; ends = unended d made.no_ends }

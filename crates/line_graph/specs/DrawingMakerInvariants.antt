@@ -39,7 +39,7 @@ pub record IsMakerState (d : DrawingValue) (empty : Bool) (points steps : ℕ) :
   pub head : IsHead d.label d.step
   pub blocks : AreBlocks d.threads d.lines
   pub lines : AreLines d.step d.lines
-  pub unended : HasNoEnds d
+  pub no_ends : HasNoEnds d
   pub last_is : empty ≡ is_last_empty d
   pub points_are : points ≡ point_count d.lines
   pub steps_are : steps ≡ step_count d.step d.lines

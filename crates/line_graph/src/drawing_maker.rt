@@ -183,7 +183,7 @@ impl DrawingMaker {
     /// is no block, `EmptyBlock` where the last block has no line.
     pub fn finish(self) -> Result<Drawing, DrawKind>
         ensures value { result ≡ finished_drawing self }
-        ensures unended { IfOk result HasNoEnds }
+        ensures no_ends { IfOk result HasNoEnds }
     {
         if self.threads.is_empty() {
             return Err(DrawKind::NoBlock);

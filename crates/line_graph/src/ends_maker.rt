@@ -40,7 +40,7 @@ impl EndsMaker {
     /// Returns a maker for a joined drawing that has no start and no end yet.
     pub fn new(alloc: Global, drawing: Drawing) -> Result<EndsMaker, Memory>
         requires joined { is_joined drawing ≡ true }
-        requires unended { HasNoEnds drawing }
+        requires no_ends { HasNoEnds drawing }
         ensures { IfOk result (λ maker. maker ≡ drawing) }
     {
         let links = links(alloc, &drawing)?;

@@ -66,13 +66,13 @@ pub spot_marked : (spot : Spot) (again : Bool) (old new : Marks) → again ≡ i
 spot_marked spot again old new is updates all left marked = record {
   before = marked.before ++ spot ∷ [];
   split = append_assoc marked.before (spot ∷ []) left ∙ marked.split;
-  told = told_next spot marked.before old new marked.told
+  marked = told_next spot marked.before old new marked.marked
       (λ other. updates other ∙ ap (λ (b : Bool). cond (is_same_spot spot other) (Some b) (old other)) is);
 }
 
 -- before the first spot
 pub none_marked : (all : List Spot) (marks : Marks) → ((spot : Spot) → marks spot ≡ None) → AreMarked all all marks
-none_marked all marks none = record { before = []; split = refl; told = none }
+none_marked all marks none = record { before = []; split = refl; marked = none }
 
 -- the number of points of a block at a spot, line by line
 spot_counts : (block : ℕ) (p : Point) (lines : List LineValue)
@@ -126,7 +126,7 @@ pub all_marked : (lines : List LineValue) (marks : Marks) → AreMarked (flat_ma
 all_marked lines marks marked = record {
   cut = λ block p.
       let all : marked.before ≡ flat_map spots_of lines = sym (append-nil marked.before) ∙ marked.split in
-      ap is_listed_again (marked.told (spot_at block p))
+      ap is_listed_again (marked.marked (spot_at block p))
       ∙ (again_is (count_by (is_same_spot (spot_at block p)) marked.before)
       ∙ ap (nat_le 2) (ap (count_by (is_same_spot (spot_at block p))) all
       ∙ (spot_counts block p lines ∙ sym (listed_counts (is_same_point p) block lines))));

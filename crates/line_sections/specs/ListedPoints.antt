@@ -35,7 +35,7 @@ AreMarksOf spots marks = (spot : Spot) → marks spot ≡ mark_of (count_by (is_
 pub record AreMarked (all left : List Spot) (marks : Marks) : Type 0 where
   pub before : List Spot
   pub split : before ++ left ≡ all
-  pub told : AreMarksOf before marks
+  pub marked : AreMarksOf before marks
 
 -- A step from old marks to new ones marks one more spot, the next of those left.
 abbrev pub MarksSpot : Spot → Marks → Marks → Type 0

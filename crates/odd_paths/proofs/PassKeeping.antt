@@ -34,11 +34,11 @@ keeps_on es old between new one two = record {
 }
 
 -- one edge
-pub relax_keeps : (es : List Edge) (k : ℕ) (e : Edge) (old new : List (List ℕ)) (told : Bool) → EndsAreBelow (length old) es
+pub relax_keeps : (es : List Edge) (k : ℕ) (e : Edge) (old new : List (List ℕ)) (reported : Bool) → EndsAreBelow (length old) es
     → slice_get es k ≡ Some e → length new ≡ length old → IsCapped new
-    → ((i : ℕ) → i < LANES → lane_column i new ≡ relaxed (lane_column i old) e) → weight new + one_if told ≤ weight old
+    → ((i : ℕ) → i < LANES → lane_column i new ≡ relaxed (lane_column i old) e) → weight new + one_if reported ≤ weight old
     → KeepsCosts es old new
-relax_keeps es k e old new told ends got size capped value less = record {
+relax_keeps es k e old new reported ends got size capped value less = record {
   size = size;
   capped = capped;
   sound = λ i from there s. (
@@ -49,10 +49,10 @@ relax_keeps es k e old new told ends got size capped value less = record {
 }
 
 -- all edges in their order
-pub sweep_keeps : (es : List Edge) (old new : List (List ℕ)) (told : Bool) → EndsAreBelow (length old) es → length new ≡ length old
-    → IsCapped new → ((i : ℕ) → i < LANES → lane_column i new ≡ swept (lane_column i old) es) → weight new + one_if told ≤ weight old
+pub sweep_keeps : (es : List Edge) (old new : List (List ℕ)) (reported : Bool) → EndsAreBelow (length old) es → length new ≡ length old
+    → IsCapped new → ((i : ℕ) → i < LANES → lane_column i new ≡ swept (lane_column i old) es) → weight new + one_if reported ≤ weight old
     → KeepsCosts es old new
-sweep_keeps es old new told ends size capped value less = record {
+sweep_keeps es old new reported ends size capped value less = record {
   size = size;
   capped = capped;
   sound = λ i from there s. (

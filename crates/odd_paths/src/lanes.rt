@@ -14,7 +14,8 @@ pub const LANES: usize = 16;
 pub fn sweep(table: &mut [[u32; LANES]], edges: &[Edge]) -> bool
     requires { CanRelax edges.now table.old }
     ensures value { EachLane (λ i. lane_column i table.new ≡ swept (lane_column i table.old) edges.now) }
-    ensures told { result ≡ false → EachLane (λ i. changes (lane_column i table.old) edges.now ≡ false) }
+    ensures reported { result ≡ false
+        → EachLane (λ i. changes (lane_column i table.old) edges.now ≡ false) }
     ensures capped { IsCapped table.new }
     ensures weight { weight table.new + one_if result ≤ weight table.old }
 {
@@ -35,7 +36,7 @@ pub fn relax(table: &mut [[u32; LANES]], e: Edge) -> bool
     requires cost { e.cost ≤ MAX_COST }
     requires capped { IsCapped table.old }
     ensures value { EachLane (λ i. lane_column i table.new ≡ relaxed (lane_column i table.old) e) }
-    ensures told { result ≡ false → EachLane (λ i. relaxes (lane_column i table.old) e ≡ false) }
+    ensures reported { result ≡ false → EachLane (λ i. relaxes (lane_column i table.old) e ≡ false) }
     ensures capped { IsCapped table.new }
     ensures weight { weight table.new + one_if result ≤ weight table.old }
 {
@@ -59,7 +60,8 @@ fn lower(table: &mut [[u32; LANES]], a: u32, b: u32, cost: u32) -> bool
     requires capped { IsCapped table.old }
     ensures value { EachLane (λ i. lane_column i table.new
         ≡ lowered_row (lane_column i table.old) a b cost) }
-    ensures told { result ≡ false → EachLane (λ i. is_lower (lane_column i table.old) a b cost ≡ false) }
+    ensures reported { result ≡ false
+        → EachLane (λ i. is_lower (lane_column i table.old) a b cost ≡ false) }
     ensures capped { IsCapped table.new }
     ensures weight { weight table.new + one_if result ≤ weight table.old }
 {
@@ -72,7 +74,7 @@ fn lower_lane(lane: &mut [u32; LANES], near: [u32; LANES], cost: u32) -> bool
     requires capped { EachLane (λ i. slice_index near i ≤ FAR) }
     requires cost { cost ≤ MAX_COST }
     ensures value { EachLane (λ i. slice_index lane.new i ≡ relaxed_cost near lane.old cost i) }
-    ensures told { result ≡ false → EachLane (λ i. IsNoLower near lane.old cost i) }
+    ensures reported { result ≡ false → EachLane (λ i. IsNoLower near lane.old cost i) }
     ensures weight { sum lane.new + one_if result ≤ sum lane.old }
 {
     let mut changed = false;

@@ -23,7 +23,7 @@ pub fn settle(row: &mut [u32], edges: &[Edge])
 /// Relaxes all edges in order, and returns whether a number was lowered.
 fn sweep(row: &mut [u32], edges: &[Edge]) -> bool
     requires { EndsAreBelow (length row.old) edges.now }
-    ensures told { result ≡ changes row.old edges.now }
+    ensures reported { result ≡ changes row.old edges.now }
     ensures value { row.new ≡ swept row.old edges.now }
 {
     let mut changed = false;
@@ -40,7 +40,7 @@ fn sweep(row: &mut [u32], edges: &[Edge]) -> bool
 fn relax(row: &mut [u32], e: Edge) -> bool
     requires a { e.a < length row.old }
     requires b { e.b < length row.old }
-    ensures told { result ≡ relaxes row.old e }
+    ensures reported { result ≡ relaxes row.old e }
     ensures value { row.new ≡ relaxed row.old e }
 {
     let forth = lower(row, e.a, e.b, e.cost);
@@ -52,7 +52,7 @@ fn relax(row: &mut [u32], e: Edge) -> bool
 fn lower(row: &mut [u32], a: u32, b: u32, cost: u32) -> bool
     requires a { a < length row.old }
     requires b { b < length row.old }
-    ensures told { result ≡ is_lower row.old a b cost }
+    ensures reported { result ≡ is_lower row.old a b cost }
     ensures value { row.new ≡ lowered_row row.old a b cost }
 {
     let near = row[a as usize] as u64 + cost as u64;

@@ -134,7 +134,7 @@ good d keeps sews p cert below is run =
         penetrations = sewable.penetrations ∙ ap (λ (n : ℕ). n + 1) double.cost;
       };
       sewn = record {
-        spelled = doubles_spelled d p.lines cert _ keeps below sewable double.double.begins double.cuts;
+        canonical = doubles_spelled d p.lines cert _ keeps below sewable double.double.begins double.cuts;
         sewable = sewable;
         below = below;
         costs = same _ _ double.cost;
@@ -189,7 +189,7 @@ double_ready d keeps sews limits pieces certs cut doubled =
       over = λ r. λ same. λ design. record {
         pieces_are = cut.are;
         each = subst (AllZip (IsDoubled d) (lines_of_pieces pieces)) (sym same) (doubled_of d (lines_of_pieces pieces) certs all);
-        spelled = subst (All HasCanonicalText) (sym same) is.spelled;
+        canonical = subst (All HasCanonicalText) (sym same) is.canonical;
         writable = subst (λ (cs : List PieceCert). AreWritable d.step (runs_of d (walks_of cs))) (sym same) is.writable;
         design = design ∙ ap (λ (cs : List PieceCert). sewn_design d (walks_of cs)) (sym same);
       };

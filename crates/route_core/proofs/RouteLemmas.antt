@@ -33,7 +33,7 @@ routes_on pieces left rest certs next piece cert is put proved spelled l = recor
   whole = λ more. λ routed.
       subst (AreRouted pieces) (sym (ap (λ (cs : List PieceCert). cs ++ more) put ∙ append_assoc certs (cert ∷ []) more))
       (l.whole (cert ∷ more) (subst (λ (ps : List Piece). AreRouted ps (cert ∷ more)) (sym is)
-      (record { proved = proved; spelled = spelled }, routed)));
+      (record { proved = proved; canonical = spelled }, routed)));
 }
 
 pub routed_all : (pieces left : List Piece) (certs : List PieceCert) → left ≡ [] → LeftPieces pieces certs left → AreRouted pieces certs
@@ -55,7 +55,7 @@ good d keeps sews keeps_total p cert below is routed =
     record {
       best = record { proved = proved; penetrations = sewable.penetrations };
       sewn = record {
-        spelled = routed.spelled;
+        canonical = routed.canonical;
         sewable = sewable;
         below = below;
         costs = few (total_weight cert.cuts) cert.retraced (piece_cost (piece_graph d p.lines))
@@ -113,7 +113,7 @@ ready d keeps sews limits keeps_total pieces certs cut routed =
       route = λ r. λ same. λ design. record {
         pieces_are = cut.are;
         best = subst (AllZip (IsLeastPieceRoute d) (lines_of_pieces pieces)) (sym same) (best_of d (lines_of_pieces pieces) certs all);
-        spelled = subst (All HasCanonicalText) (sym same) is.spelled;
+        canonical = subst (All HasCanonicalText) (sym same) is.canonical;
         writable = subst (λ (cs : List PieceCert). AreWritable d.step (runs_of d (walks_of cs))) (sym same) is.writable;
         design = design ∙ ap (λ (cs : List PieceCert). sewn_design d (walks_of cs)) (sym same);
       };

@@ -20,7 +20,7 @@ use Rattle.route_verdict.specs.SewingSteps.{AllDrawn, AreDrawn}
 
 -- the walk of a piece can be sewn and printed, and costs no more than the lines twice
 pub record Sewn (d : DrawingValue) (lines : List ℕ) (cert : PieceCert) : Type 0 where
-  pub spelled : HasCanonicalText cert
+  pub canonical : HasCanonicalText cert
   pub sewable : IsSewable d lines cert.walk
   pub below : All (λ line. line < length d.lines) lines
   pub costs : walk_cost (piece_graph d lines) cert.walk ≤ 2 * piece_cost (piece_graph d lines)
@@ -41,7 +41,7 @@ spelled_of : (d : DrawingValue) (pieces : List (List ℕ)) (certs : List PieceCe
 spelled_of d [] [] all = All-nil HasCanonicalText
 spelled_of d [] (c ∷ certs) all = absurd all
 spelled_of d (p ∷ pieces) [] all = absurd all
-spelled_of d (p ∷ pieces) (c ∷ certs) all = All-cons HasCanonicalText c certs all.0.spelled (spelled_of d pieces certs all.1)
+spelled_of d (p ∷ pieces) (c ∷ certs) all = All-cons HasCanonicalText c certs all.0.canonical (spelled_of d pieces certs all.1)
 
 along_of : (d : DrawingValue) (pieces : List (List ℕ)) (certs : List PieceCert) → AllZip (Sewn d) pieces certs
     → AllZip GoesAlong pieces (walks_of certs)
@@ -49,7 +49,7 @@ along_of d [] [] all = tt
 along_of d [] (c ∷ certs) all = absurd all
 along_of d (p ∷ pieces) [] all = absurd all
 along_of d (p ∷ pieces) (c ∷ certs) all =
-    (record { some = some c.walk all.0.spelled.some; there = all.0.sewable.there }, along_of d pieces certs all.1)
+    (record { some = some c.walk all.0.canonical.some; there = all.0.sewable.there }, along_of d pieces certs all.1)
   where
     some : (walk : List Pass) → walk ≢ [] → 1 ≤ length walk
     some [] filled = absurd (filled refl)
@@ -134,7 +134,7 @@ commands_count block (run ∷ rest) =
 pub record Able (d : DrawingValue) (certs : List PieceCert) : Type 0 where
   pub drawn : AllDrawn d certs
   pub room : length (commands_after 0 (runs_of d (walks_of certs))) ≤ 1000000
-  pub spelled : All HasCanonicalText certs
+  pub canonical : All HasCanonicalText certs
   pub writable : AreWritable d.step (runs_of d (walks_of certs))
 
 pub able : (d : DrawingValue) → KeepsDrawingLimits d → PiecesKeepLimits → (pieces : List (List ℕ)) (certs : List PieceCert)
@@ -145,6 +145,6 @@ able d keeps limits pieces certs are all =
     record {
       drawn = drawn_of d pieces certs all;
       room = omega (arith, commands_count 0 (runs_of d (walks_of certs)), is.stops_to, is.needles_to, is.runs_to);
-      spelled = spelled_of d pieces certs all;
+      canonical = spelled_of d pieces certs all;
       writable = is;
     }

@@ -29,7 +29,7 @@ pub record IsDoubled (d : DrawingValue) (lines : List ℕ) (cert : PieceCert) : 
 pub record IsDoubleOver (d : DrawingValue) (pieces : List (List ℕ)) (routed : Routed) : Type 0 where
   pub pieces_are : ArePieces d pieces
   pub each : AllZip (IsDoubled d) pieces routed.cert.pieces
-  pub spelled : All HasCanonicalText routed.cert.pieces
+  pub canonical : All HasCanonicalText routed.cert.pieces
   pub writable : AreWritable d.step (runs_of d (walks_of routed.cert.pieces))
   pub design : routed.design ≡ sewn_design d (walks_of routed.cert.pieces)
 

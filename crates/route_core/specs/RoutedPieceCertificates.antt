@@ -10,7 +10,7 @@ use Rattle.route_core.specs.PieceCertificates.{CertifiesLeastWalk}
 -- A certificate with a least walk over a piece, which can be printed.
 pub record IsRoutedPiece (p : Piece) (cert : PieceCert) : Type 0 where
   pub proved : CertifiesLeastWalk (graph_of p) cert
-  pub spelled : HasCanonicalText cert
+  pub canonical : HasCanonicalText cert
 
 -- Certificates with least walks, one for each piece in order.
 abbrev pub AreRouted : List Piece → List PieceCert → Type 0

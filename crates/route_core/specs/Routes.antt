@@ -27,7 +27,7 @@ pub record IsLeastPieceRoute (d : DrawingValue) (lines : List ℕ) (cert : Piece
 pub record IsRouteOver (d : DrawingValue) (pieces : List (List ℕ)) (routed : Routed) : Type 0 where
   pub pieces_are : ArePieces d pieces
   pub best : AllZip (IsLeastPieceRoute d) pieces routed.cert.pieces
-  pub spelled : All HasCanonicalText routed.cert.pieces
+  pub canonical : All HasCanonicalText routed.cert.pieces
   pub writable : AreWritable d.step (runs_of d (walks_of routed.cert.pieces))
   pub design : routed.design ≡ sewn_design d (walks_of routed.cert.pieces)
 

@@ -23,7 +23,7 @@ use std::alloc::Global;
 /// Returns a certificate with a least walk over a piece, its retraced cost, and cuts that prove it least.
 pub(crate) fn route_piece(alloc: Global, p: &Piece) -> Result<PieceCert, Memory>
     ensures proves { IfOk result (CertifiesLeastWalk (graph_of p.now)) }
-    ensures spelled { IfOk result HasCanonicalText }
+    ensures canonical { IfOk result HasCanonicalText }
 {
     packings_keep_their_total();
     packings_prove_least();

@@ -24,7 +24,7 @@ pub fn sample_drawing(alloc: Global, number: u32) -> Result<Drawing, Memory>
     requires low { 1 ≤ number }
     requires high { number ≤ MAX_NUMBER }
     ensures value { IfOk result (λ drawing. drawing ≡ sample_drawing_of number) }
-    ensures unended { IfOk result HasNoEnds }
+    ensures no_ends { IfOk result HasNoEnds }
 {
     let grid = Grid::of_number(alloc, number)?;
     let lines = segments(alloc, &grid)?;

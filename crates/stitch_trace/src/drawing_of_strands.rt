@@ -29,7 +29,7 @@ pub fn drawing_of(
     ensures answer { IsSpecified draw_is_out_of_memory (drawing_with_strands label.now step strands.now)
         result }
     ensures joined { IfOk result (λ whole. is_joined whole ≡ true) }
-    ensures unended { IfOk result HasNoEnds }
+    ensures no_ends { IfOk result HasNoEnds }
 {
     let mut maker = DrawingMaker::new(alloc, first_word(label), step);
     add_strands(alloc, &mut maker, strands)?;

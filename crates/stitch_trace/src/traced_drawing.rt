@@ -23,7 +23,7 @@ use std::alloc::Global;
 pub fn trace(alloc: Global, d: &Design) -> Result<Drawing, TraceFault>
     ensures answer { IsSpecified trace_is_out_of_memory (traced d.now) result }
     ensures joined { IfOk result (λ drawing. is_joined drawing ≡ true) }
-    ensures unended { IfOk result HasNoEnds }
+    ensures no_ends { IfOk result HasNoEnds }
 {
     let acts = acts(alloc, d)?;
     let step = longest_link(acts.as_slice())?;

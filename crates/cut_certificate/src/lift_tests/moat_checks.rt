@@ -104,7 +104,7 @@ fn is_laminar(m: &Moat, k: &Moat) -> bool
 
 /// Returns whether each member of the first moat is a member of the second.
 fn lies_in(m: &Moat, k: &Moat) -> bool
-    ensures told { IsTrue result → IsNestedIn m.now k.now }
+    ensures nested { IsTrue result → IsNestedIn m.now k.now }
     ensures other { result ≡ false → IsNotNestedIn m.now k.now }
 {
     let members = m.members.as_slice();

@@ -15,7 +15,7 @@ invariant-loop-rest l = record {
   cost : edge_sum edge_cost l.rest ≤ MAX_COST;
   capped : IsCapped l.table;
   value : (i : ℕ) → i < LANES → swept (lane_column i l.table) l.rest ≡ swept (lane_column i l.fn.table) l.edges;
-  told : l.changed ≡ false → (i : ℕ) → i < LANES → changes (lane_column i l.table) l.rest ≡ changes (lane_column i l.fn.table) l.edges;
+  reported : l.changed ≡ false → (i : ℕ) → i < LANES → changes (lane_column i l.table) l.rest ≡ changes (lane_column i l.fn.table) l.edges;
   weight : weight l.table + one_if l.changed ≤ weight l.fn.table;
 }
 

@@ -10,7 +10,7 @@ odds_in-requires c = rw c.as_slice.ensures (degrees_few (graph_of c.args.p.now) 
 
 pub returns : goal.returns
 returns c =
-    let told : odds_from c.from.result c.to.result 0 c.as_slice.result.now
+    let reported : odds_from c.from.result c.to.result 0 c.as_slice.result.now
     ≡ odd_junctions (graph_of c.args.p.now) =
     rw (c.from.ensures, c.to.ensures, c.as_slice.ensures) (odds_told (graph_of c.args.p.now) c.args.p.now.kept) in
-    rw (← told) c.odds_in.ensures
+    rw (← reported) c.odds_in.ensures

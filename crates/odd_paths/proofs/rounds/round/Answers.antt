@@ -13,4 +13,4 @@ returns-clause-keeps c =
 
 pub returns-clause-settled : goal.returns-clause-settled
 returns-clause-settled c = λ none.
-    sweep_settles c.args.edges.now c.forwards.new.table c.sweep.new.table c.sweep.ensures.value (c.sweep.ensures.told none)
+    sweep_settles c.args.edges.now c.forwards.new.table c.sweep.new.table c.sweep.ensures.value (c.sweep.ensures.reported none)

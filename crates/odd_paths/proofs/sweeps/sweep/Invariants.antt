@@ -6,7 +6,7 @@ use Rattle.odd_paths.proofs.sweeps.sweep.Given as goal
 abbrev pub invariant-loop-rest : goal.invariant-loop-rest
 invariant-loop-rest l = record {
   ends : EndsAreBelow (length l.row) l.rest;
-  told : (l.changed || changes l.row l.rest) ≡ changes l.fn.row l.edges;
+  reported : (l.changed || changes l.row l.rest) ≡ changes l.fn.row l.edges;
   value : swept l.row l.rest ≡ swept l.fn.row l.edges;
 }
 

@@ -54,8 +54,8 @@ returns-clause-proves c =
     c.in_ok-walk.ensures)
     (c.cost_of_pairs-retraced.ensures ∙ ap (pair_costs c.in_ok-rows.rows) c.as_slice-pairs.ensures)
 
-pub returns-clause-spelled : goal.returns-clause-spelled
-returns-clause-spelled c =
+pub returns-clause-canonical : goal.returns-clause-canonical
+returns-clause-canonical c =
     spelled (graph_of c.args.p.now) c.args.p.now.kept c.in_ok-rows.rows c.in_ok-matching.matching.pairs
     c.in_ok-matching.matching.moats (record {
       retraced = c.cost_of_pairs-retraced.result;

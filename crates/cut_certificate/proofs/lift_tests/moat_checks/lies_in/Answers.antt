@@ -19,8 +19,8 @@ loop-x-preserved c =
     (ap (λ (l : List ℕ). has_member l (get_or c.as_slice-members.result.now c.loop-x.x-index 0)) (sym c.as_slice.ensures) ∙ sym
     c.is_among.ensures ∙ c.if-not-is_among.false)
 
-pub returns-clause-told : goal.returns-clause-told
-returns-clause-told c = λ is x has.
+pub returns-clause-nested : goal.returns-clause-nested
+returns-clause-nested c = λ is x has.
     of_held (λ y. moat_holds c.args.k.now y ≡ true) c.args.m.now.members x
     (subst (λ (l : List ℕ). All (λ y. moat_holds c.args.k.now y ≡ true) l) c.as_slice-members.ensures
     (all_done (λ y. moat_holds c.args.k.now y ≡ true) c.as_slice-members.result.now c.loop-x.x-index c.loop-x-test.false
