@@ -37,7 +37,7 @@ impl Act {
 }
 
 /// An act with the number of the command from which it is computed, counted from 1.
-#[derive(Clone, Copy, Debug, PartialEq, Eq)]
+#[derive(Clone, Copy, Debug, PartialEq)]
 pub struct NumberedAct {
     pub number: u32,
     pub act: Act,

@@ -10,7 +10,7 @@ use crate::command::Command;
 use crate::thread_state::ThreadState;
 
 /// A scanner over the commands of a design, which computes their acts one by one.
-#[derive(Clone, Copy, Debug, PartialEq, Eq)]
+#[derive(Clone, Copy)]
 pub struct ActScanner {
     /// The number of commands read.
     pub number: u32,

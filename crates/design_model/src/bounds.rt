@@ -5,7 +5,7 @@ use crate::point::Point;
 
 /// The corners of the smallest upright rectangle that contains some points, in tenths of a millimetre: `min`
 /// has the minimum x and y, and `max` the maximum.
-#[derive(Clone, Copy, Debug, PartialEq, Eq)]
+#[derive(Clone, Copy, Debug, PartialEq)]
 pub struct Extent {
     pub min: Point,
     pub max: Point,

@@ -4,7 +4,7 @@ ghost use Rattle.design_model.specs.Commands.{is_command_in_range, command_with_
 use crate::point::{JUMP_LIMIT, NEEDLE_LIMIT, Point};
 
 /// A command to the machine. Points are absolute.
-#[derive(Clone, Copy, Debug, PartialEq, Eq)]
+#[derive(Clone, Copy, Debug, PartialEq)]
 pub enum Command {
     /// The needle goes down at this point.
     Stitch(Point),

@@ -20,7 +20,7 @@ pub const MAX_THREADS: usize = 255;
 pub const MAX_COMMANDS: usize = 1_000_000;
 
 /// Why a design rejected a command.
-#[derive(Clone, Copy, Debug, PartialEq, Eq)]
+#[derive(Clone, Copy, Debug, PartialEq)]
 pub enum ModelFault {
     /// The point is out of its range.
     Range,
@@ -43,7 +43,7 @@ impl<T: Drop> From<AllocFailed<T>> for ModelFault {
 /// An embroidery design: a label, the thread numbers of the first blocks, and the commands.
 ///
 /// A design has one colour block more than it has `Stop` commands. Blocks count from 0.
-#[derive(Debug, Drop)]
+#[derive(Drop)]
 pub struct Design {
     label: ArrayVec<u8, MAX_LABEL>,
     threads: ArrayVec<u8, MAX_THREADS>,

@@ -1,5 +1,5 @@
 /// The number of commands of a design, and of its acts of each kind.
-#[derive(Clone, Copy, Debug, PartialEq, Eq)]
+#[derive(Clone, Copy)]
 pub struct Counts {
     pub commands: u32,
     pub needles: u32,

@@ -1,6 +1,6 @@
 use crate::{
-    Act, Acts, Bytes, Command, Counts, Design, Extent, Memory, ModelFault, NumberedAct, Point,
-    Whole, acts, block_counts, counts, extent, height, parse_whole, width,
+    Act, Acts, Bytes, Command, Design, Extent, Memory, ModelFault, NumberedAct, Point, Whole, acts,
+    block_counts, counts, extent, height, parse_whole, width,
 };
 use std::alloc::Global;
 use std::test::Fail;
@@ -127,15 +127,14 @@ fn a_design_is_counted_measured_and_parted_into_blocks(rt: HostRuntime) -> Resul
         ),
         (BARE.as_slice(), [4, 0, 0, 2], None, [0, 0, 0].as_slice()),
     ];
-    for (commands, [all, needles, trims, stops], corners, blocks) in cases {
+    for (commands, numbers, corners, blocks) in cases {
         let design = filled(&rt, commands)?;
-        let expected = Counts {
-            commands: all,
-            needles,
-            trims,
-            stops,
-        };
-        assert_eq!(rt; counts(&design), expected, "{commands:?}");
+        let told = counts(&design);
+        assert_eq!(rt;
+            [told.commands, told.needles, told.trims, told.stops],
+            numbers,
+            "{commands:?}"
+        );
         assert_eq!(rt; extent(&design), corners, "{commands:?}");
         assert_eq!(rt;
             block_counts(rt.alloc(), &design)?.as_slice(),

@@ -8,7 +8,7 @@ use crate::command::Command;
 
 /// The state that determines the acts of the next commands: whether the thread is loose, and whether a jump
 /// followed the last act.
-#[derive(Clone, Copy, Debug, PartialEq, Eq)]
+#[derive(Clone, Copy)]
 pub struct ThreadState {
     pub loose: bool,
     pub jumped: bool,

@@ -8,7 +8,7 @@ ghost use Rattle.design_model.specs.WholeNumbers.{is_digit_string, signed_number
 pub const MAX_WHOLE: u32 = 999_999_999;
 
 /// The result of reading a text as a whole number.
-#[derive(Clone, Copy, Debug, PartialEq, Eq)]
+#[derive(Clone, Copy, Debug, PartialEq)]
 pub enum Whole {
     /// The text is not an optional `-` and then one or more digits.
     NotANumber,
