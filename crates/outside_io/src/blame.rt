@@ -8,7 +8,7 @@ use arrayvec::ArrayVec;
 use std::marker::Model;
 
 /// The kind of a call to a store.
-#[derive(Clone, Copy, Debug, PartialEq, Eq)]
+#[derive(Clone, Copy)]
 pub enum CallKind {
     /// A `read_at`.
     Read,

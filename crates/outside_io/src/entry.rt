@@ -5,7 +5,7 @@ use std::alloc::Global;
 use std::marker::Model;
 
 /// A name with room for a file, and the file, once it was created. Memory for the room is allocated.
-#[derive(Debug, Drop)]
+#[derive(Drop)]
 pub(crate) struct Entry {
     name: Vec<u8>,
     content: Vec<u8>,

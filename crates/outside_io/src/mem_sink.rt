@@ -11,7 +11,7 @@ use std::marker::Model;
 
 /// Bytes in memory, which are visible to contracts. The sink counts its puts from 1 and fails those whose
 /// numbers are listed. A put allocates nothing: the bytes stay within the room. A failed put adds nothing.
-#[derive(Debug, Drop)]
+#[derive(Drop)]
 pub struct MemSink {
     bytes: Vec<u8>,
     room: usize,

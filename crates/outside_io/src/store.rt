@@ -6,11 +6,11 @@ ghost use Rattle.outside_io.specs.Views.{StoreView};
 use crate::limits::MAX_FILE;
 
 /// A call to a store or a sink failed.
-#[derive(Clone, Copy, Debug, PartialEq, Eq)]
+#[derive(Clone, Copy, Debug, PartialEq)]
 pub struct Failed;
 
 /// Why a read returned no bytes.
-#[derive(Clone, Copy, Debug, PartialEq, Eq)]
+#[derive(Clone, Copy, Debug, PartialEq)]
 pub enum ReadStop {
     /// No file has the name. Only a store with visible files returns this.
     Missing,

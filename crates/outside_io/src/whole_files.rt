@@ -14,7 +14,7 @@ use std::alloc::Global;
 pub const READ_SIZE: usize = 16_384;
 
 /// Why a file was not read.
-#[derive(Clone, Copy, Debug, PartialEq, Eq)]
+#[derive(Clone, Copy, Debug, PartialEq)]
 pub enum GetFault {
     /// No file has the name.
     Missing,
