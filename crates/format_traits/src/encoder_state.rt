@@ -15,7 +15,7 @@ use crate::move_hops::{MAX_MOVE, hops, move_between, size_of};
 use design_model::{Act, MAX_COMMANDS, NEEDLE_LIMIT, Point};
 
 /// The limits of what a format can write.
-#[derive(Clone, Copy, Debug, PartialEq, Eq)]
+#[derive(Clone, Copy)]
 pub struct WriteLimits {
     /// The greatest move of a stitch on each axis, in tenths of a millimetre.
     pub limit: u32,
@@ -27,7 +27,7 @@ pub struct WriteLimits {
 
 /// The encoder's state between two acts: whether the thread is loose, the position of the last needle, and
 /// the stops and the room of the acts so far.
-#[derive(Clone, Copy, Debug, PartialEq, Eq)]
+#[derive(Clone, Copy)]
 pub struct EncoderState {
     pub loose: bool,
     pub place: Point,

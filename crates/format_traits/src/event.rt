@@ -1,7 +1,7 @@
 use design_model::Point;
 
 /// What one record of a file stands for. A move begins at the hoop's position after the records before.
-#[derive(Clone, Copy, Debug, PartialEq, Eq)]
+#[derive(Clone, Copy)]
 pub enum Event {
     /// The needle goes down after the move.
     Stitch(Point),

@@ -53,7 +53,7 @@ fn keep_here(design: &mut Design, at: u64, place: Point, event: Event) -> Result
 }
 
 /// An event, and the offset of its record.
-#[derive(Clone, Copy, Debug, PartialEq, Eq)]
+#[derive(Clone, Copy)]
 struct EventAt {
     at: u64,
     event: Event,

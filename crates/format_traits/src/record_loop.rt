@@ -12,7 +12,7 @@ use crate::record_stage::RecordStage;
 use design_model::{Design, Memory, Point};
 
 /// How far a reader of records read: the number of bytes, the hoop's position, and the stage.
-#[derive(Clone, Copy, Debug, PartialEq, Eq)]
+#[derive(Clone, Copy)]
 pub struct Reached {
     pub size: usize,
     pub place: Point,

@@ -9,7 +9,7 @@ pub const MAX_RECORD_MOVE: u32 = 2048;
 pub const MAX_RECORD: usize = 5;
 
 /// The next record in the remaining bytes of a file.
-#[derive(Clone, Copy, Debug, PartialEq, Eq)]
+#[derive(Clone, Copy)]
 pub enum NextRecord {
     /// The end of the file's records.
     End,

@@ -1,7 +1,7 @@
 use crate::fault::ReadFault;
 
 /// The stage of a reader of records in its file.
-#[derive(Clone, Copy, Debug, PartialEq, Eq)]
+#[derive(Clone, Copy)]
 pub enum RecordStage {
     /// Before the end of the header; the number is the offset of the end of the bytes that were read.
     Header(u64),
