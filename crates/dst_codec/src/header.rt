@@ -12,7 +12,7 @@ use std::alloc::Global;
 pub const HEADER_LENGTH: usize = 512;
 
 /// The greatest distances of a design's needles from the origin, in tenths of a millimetre.
-#[derive(Clone, Copy, Debug, PartialEq, Eq)]
+#[derive(Clone, Copy)]
 pub struct Extents {
     pub right: u32,
     pub left: u32,
@@ -21,7 +21,7 @@ pub struct Extents {
 }
 
 /// The numbers in a header.
-#[derive(Clone, Copy, Debug, PartialEq, Eq)]
+#[derive(Clone, Copy)]
 pub struct HeaderNumbers {
     /// The number of records, including the end record.
     pub records: u32,

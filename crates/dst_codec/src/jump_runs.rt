@@ -12,7 +12,7 @@ use design_model::{Design, Point};
 use format_traits::{Event, NextRecord, ReadFault, RecordReader};
 
 /// The number of jump records in the unbroken run before the next record, counted up to three.
-#[derive(Clone, Copy, Debug, PartialEq, Eq)]
+#[derive(Clone, Copy)]
 pub struct JumpRun {
     pub jumps: u8,
 }

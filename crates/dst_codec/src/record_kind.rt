@@ -1,5 +1,5 @@
 /// The kind of a record of three bytes, by the flags of its third byte.
-#[derive(Clone, Copy, Debug, PartialEq, Eq)]
+#[derive(Clone, Copy)]
 pub enum RecordKind {
     /// The needle goes down after the move.
     Stitch,
