@@ -9,7 +9,7 @@ use design_model::{Bytes, Memory, Point};
 use format_traits::{RecordWriter, WriteLimits};
 
 /// The writer of the units of a file.
-#[derive(Clone, Copy, Debug, PartialEq, Eq)]
+#[derive(Clone, Copy)]
 pub struct UnitWriter;
 
 impl RecordWriter for UnitWriter {

@@ -24,7 +24,7 @@ pub const JUMP: u8 = 0x04;
 pub const TRIM: u8 = 0x80;
 
 /// The reader of the units of a file.
-#[derive(Clone, Copy, Debug, PartialEq, Eq)]
+#[derive(Clone, Copy)]
 pub struct Units;
 
 impl RecordReader for Units {
