@@ -3,7 +3,7 @@ ghost use Rattle.format_traits.specs.declared.record_reader.TheConstants.{MAX_RE
 ghost use Rattle.pec_codec.specs.Coordinates.{leading_coordinate, coordinate_of_two_bytes, coordinate_of_byte, from_twos_complement};
 
 /// A coordinate of a record.
-#[derive(Clone, Copy, Debug, PartialEq, Eq)]
+#[derive(Clone, Copy)]
 pub struct Coordinate {
     /// The number of its bytes.
     pub size: usize,

@@ -6,7 +6,7 @@ use design_model::{Bytes, Design, Memory, Point};
 use format_traits::{NextRecord, RecordReader, RecordWriter, WriteLimits};
 
 /// The reader and writer of the records of a block.
-#[derive(Clone, Copy, Debug, PartialEq, Eq)]
+#[derive(Clone, Copy)]
 pub struct PecRecords;
 
 impl RecordReader for PecRecords {
