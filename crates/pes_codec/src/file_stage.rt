@@ -1,7 +1,7 @@
 use format_traits::ReadFault;
 
 /// The stage of a reader in its file.
-#[derive(Clone, Copy, Debug, PartialEq, Eq)]
+#[derive(Clone, Copy)]
 pub enum FileStage {
     /// In the front. The fault is that of a file that ends here.
     Front(ReadFault),

@@ -13,7 +13,7 @@ use pec_codec::LIMIT;
 use std::alloc::Global;
 
 /// The front of a PEC file.
-#[derive(Clone, Copy, Debug, PartialEq, Eq)]
+#[derive(Clone, Copy)]
 struct PecFront;
 
 impl FileFront for PecFront {

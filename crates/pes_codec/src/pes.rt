@@ -16,7 +16,7 @@ use pec_codec::LIMIT;
 use std::alloc::Global;
 
 /// The front of a PES file.
-#[derive(Clone, Copy, Debug, PartialEq, Eq)]
+#[derive(Clone, Copy)]
 struct PesFront;
 
 impl FileFront for PesFront {
