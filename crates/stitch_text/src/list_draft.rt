@@ -19,7 +19,7 @@ use format_traits::{EncoderState, ReadFault, WriteFault};
 use std::alloc::Global;
 
 /// The design of the lines that were read, and the encoder's state after its acts.
-#[derive(Debug, Drop)]
+#[derive(Drop)]
 pub struct ListDraft {
     pub design: Design,
     pub state: EncoderState,

@@ -12,7 +12,7 @@ use text_parts::{equals_text, split_first};
 pub const MAX_LINE: usize = 32;
 
 /// A line that is neither the first one nor the label's.
-#[derive(Clone, Copy, Debug, PartialEq, Eq)]
+#[derive(Clone, Copy)]
 pub enum ListLine {
     /// A block begins, with its thread.
     Block(u8),

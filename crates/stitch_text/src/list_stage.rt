@@ -5,7 +5,7 @@ use crate::list_line::MAX_LINE;
 use format_traits::ReadFault;
 
 /// The stage of a reader of lists.
-#[derive(Clone, Copy, Debug, PartialEq, Eq)]
+#[derive(Clone, Copy)]
 pub enum ListStage {
     /// Before the first line.
     First,
