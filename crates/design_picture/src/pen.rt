@@ -4,7 +4,7 @@ ghost use Rattle.design_picture.specs.Pictures.{pen_after};
 use design_model::{Act, Point};
 
 /// The state of the polyline that is drawn.
-#[derive(Clone, Copy, Debug, PartialEq, Eq)]
+#[derive(Clone, Copy)]
 pub enum PenLine {
     /// No needle was drawn yet.
     Unbegun,
@@ -15,7 +15,7 @@ pub enum PenLine {
 }
 
 /// The state of a picture that is drawn: the stops so far, and the polyline.
-#[derive(Clone, Copy, Debug, PartialEq, Eq)]
+#[derive(Clone, Copy)]
 pub struct Pen {
     pub stops: u32,
     pub line: PenLine,
