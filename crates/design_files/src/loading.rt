@@ -8,7 +8,7 @@ use format_traits::{Format, Loaded, ReadFault, begin_by, feed_by, finish_by};
 use outside_io::{GetFault, MAX_FILE, READ_SIZE, Store, read_next};
 
 /// Why no design was loaded.
-#[derive(Clone, Copy, Debug, PartialEq, Eq)]
+#[derive(Clone, Copy)]
 pub enum LoadFault {
     /// The file was not read, or memory ran out.
     Get(GetFault),
