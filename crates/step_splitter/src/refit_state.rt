@@ -18,7 +18,7 @@ use design_model::{Act, Command, Design, ModelFault, NumberedAct, Point};
 use std::alloc::Global;
 
 /// The state of a refit between two acts: whether the thread is loose, and where the last needle act was.
-#[derive(Clone, Copy, Debug, PartialEq, Eq)]
+#[derive(Clone, Copy)]
 pub struct RefitState {
     pub loose: bool,
     pub place: Point,

@@ -12,7 +12,7 @@ use design_model::{ActScanner, Command, Design, Memory};
 use std::alloc::Global;
 
 /// The change that a refit makes.
-#[derive(Clone, Copy, Debug, PartialEq, Eq)]
+#[derive(Clone, Copy)]
 pub enum RefitMode {
     /// A needle act too far from the one before becomes needle acts at the ends of the steps to it. A
     /// needle act with loose thread and a float stay.
@@ -22,7 +22,7 @@ pub enum RefitMode {
 }
 
 /// The reason why a design was not refitted.
-#[derive(Clone, Copy, Debug, PartialEq, Eq)]
+#[derive(Clone, Copy, Debug, PartialEq)]
 pub enum RefitFault {
     /// The design would have too many commands with the act of the command of this number, counted from 1.
     TooMany { number: u32 },
