@@ -4,7 +4,7 @@ use design_model::{Point, Points};
 use std::marker::Model;
 
 /// A line of a drawing: the index of its block, and its points.
-#[derive(Debug, Drop)]
+#[derive(Drop)]
 pub struct Line {
     block: u32,
     points: Points,

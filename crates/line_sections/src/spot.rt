@@ -1,7 +1,7 @@
 use design_model::Point;
 
 /// A spot: a point in a colour block, as the block's index and a point in tenths of a millimetre.
-#[derive(Clone, Copy, Debug, PartialEq, Eq, Hash)]
+#[derive(Clone, Copy, PartialEq, Eq, Hash)]
 pub struct Spot {
     pub block: u32,
     pub at: Point,
