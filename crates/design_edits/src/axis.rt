@@ -1,5 +1,5 @@
 /// An axis of coordinates: `X` to the right, `Y` downwards.
-#[derive(Clone, Copy, Debug, PartialEq, Eq)]
+#[derive(Clone, Copy)]
 pub enum Axis {
     X,
     Y,

@@ -11,7 +11,7 @@ use design_model::Point;
 pub const MAX_SHIFT: u32 = 60_000;
 
 /// A move of all points of a design.
-#[derive(Clone, Copy, Debug, PartialEq, Eq)]
+#[derive(Clone, Copy)]
 pub enum Motion {
     Shift { dx: i32, dy: i32 },
     Turn { quarters: u32 },
