@@ -4,7 +4,7 @@ ghost use Rattle.hoop_check.specs.Fits.{fit_of, fit_of_size};
 use design_model::{Design, extent, height, width};
 
 /// The fit of a design in a hoop.
-#[derive(Clone, Copy, Debug, PartialEq, Eq)]
+#[derive(Clone, Copy, Debug, PartialEq)]
 pub enum Fit {
     /// Fits as it is.
     Upright,
