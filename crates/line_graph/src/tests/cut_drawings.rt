@@ -1,6 +1,6 @@
 ghost use Rattle.std.specs.Prelude.{◌<◌};
 
-use super::Part::{self, Block, Line};
+use super::DrawingPart::{self, Block, Line};
 use super::{grown, points};
 use crate::{DrawKind, Drawing, DrawingMaker, Edge, Edges, Piece, pieces};
 use design_model::{Numbers, Point};
@@ -17,7 +17,7 @@ struct Wanted {
     degrees: &'static [u32],
 }
 
-const TRIANGLES: [Part; 7] = [
+const TRIANGLES: [DrawingPart; 7] = [
     Block(1),
     Line(&[(0, 0), (50, 0)]),
     Line(&[(50, 0), (0, 30)]),
@@ -28,7 +28,7 @@ const TRIANGLES: [Part; 7] = [
 ];
 
 /// A stick and a closed line at its end, in a block after one with the same stick.
-const LOLLIPOP: [Part; 5] = [
+const LOLLIPOP: [DrawingPart; 5] = [
     Block(1),
     Line(&[(0, 0), (20, 0)]),
     Block(2),
@@ -36,7 +36,7 @@ const LOLLIPOP: [Part; 5] = [
     Line(&[(0, 0), (20, 0)]),
 ];
 
-const THETA: [Part; 4] = [
+const THETA: [DrawingPart; 4] = [
     Block(1),
     Line(&[(0, 0), (10, 0)]),
     Line(&[(10, 0), (5, 10), (0, 0)]),
@@ -45,7 +45,7 @@ const THETA: [Part; 4] = [
 
 /// Two lines that cross where both have a point, one that ends inside the first, and one that connects the
 /// ends of the other two.
-const CROSSING: [Part; 5] = [
+const CROSSING: [DrawingPart; 5] = [
     Block(1),
     Line(&[(0, 0), (10, 10), (20, 20)]),
     Line(&[(20, 0), (10, 10), (0, 20)]),
@@ -53,7 +53,7 @@ const CROSSING: [Part; 5] = [
     Line(&[(0, 20), (20, 20)]),
 ];
 
-const TABLE: [(&[Part], &[Wanted]); 4] = [
+const TABLE: [(&[DrawingPart], &[Wanted]); 4] = [
     (
         &TRIANGLES,
         &[Wanted {

@@ -1,4 +1,4 @@
-use super::Part::{Block, Line};
+use super::DrawingPart::{Block, Line};
 use super::grown;
 use crate::{DrawKind, Drawing, DrawingMaker, join, joined};
 use design_model::{Point, Points};
