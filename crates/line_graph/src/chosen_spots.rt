@@ -15,7 +15,7 @@ use std::alloc::Global;
 
 /// Chosen junctions, at most one in each piece. `taken` records for the label of each line whether its
 /// piece has one.
-#[derive(Debug, Drop)]
+#[derive(Drop)]
 pub struct ChosenSpots {
     pub spots: Vec<Spot>,
     pub taken: Vec<bool>,

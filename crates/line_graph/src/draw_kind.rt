@@ -4,7 +4,7 @@ use design_model::Memory;
 use std::alloc::AllocFailed;
 
 /// What is wrong with a drawing or a drawing text.
-#[derive(Clone, Copy, Debug, PartialEq, Eq)]
+#[derive(Clone, Copy, PartialEq)]
 pub enum DrawKind {
     /// The text does not begin with the words `redwork 1`, `redwork 2` or `redwork 3`.
     BadHeader,

@@ -12,7 +12,7 @@ use std::marker::Model;
 ///
 /// Blocks and lines count from 0. Each block has a line, and the lines are in the order of their blocks. A
 /// piece may have a start and an end: junctions where its walk must start and end.
-#[derive(Debug, Drop)]
+#[derive(Drop)]
 pub struct Drawing {
     label: ArrayVec<u8, MAX_LABEL>,
     step: u32,

@@ -23,7 +23,7 @@ use std::marker::Model;
 ///
 /// A drawing in the making is within the limits of a drawing at each moment. `finish` checks only that each
 /// block has a line.
-#[derive(Debug, Drop)]
+#[derive(Drop)]
 pub struct DrawingMaker {
     label: ArrayVec<u8, MAX_LABEL>,
     step: u32,

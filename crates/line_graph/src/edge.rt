@@ -2,7 +2,7 @@ use design_model::Items;
 
 /// An edge: a line of a piece, between two of its junctions. `a` is the junction at the line's first point,
 /// `b` the one at its last. `cost` counts steps.
-#[derive(Clone, Copy, Debug, PartialEq, Eq)]
+#[derive(Clone, Copy, PartialEq)]
 pub struct Edge {
     pub a: u32,
     pub b: u32,

@@ -14,7 +14,7 @@ use std::alloc::Global;
 use std::marker::Model;
 
 /// Adds starts and ends to a joined drawing, one by one.
-#[derive(Debug, Drop)]
+#[derive(Drop)]
 pub struct EndsMaker {
     drawing: Drawing,
     labels: Vec<u32>,

@@ -5,7 +5,7 @@ use design_model::Memory;
 use std::alloc::Global;
 
 /// A link between a line and the first line that has one of its ends.
-#[derive(Clone, Copy, Debug, PartialEq, Eq)]
+#[derive(Clone, Copy)]
 pub struct LineLink {
     pub line: u32,
     pub first: u32,

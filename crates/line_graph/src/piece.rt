@@ -11,7 +11,7 @@ use design_model::{Items, Numbers, Points};
 /// an entry for each line in the same order, and `degrees` the number of line ends at each junction.
 /// `start` and `end` are indexes of junctions: where a walk over the piece must start and end, if the
 /// drawing names them.
-#[derive(Debug, Drop)]
+#[derive(Drop)]
 pub struct Piece {
     pub block: u32,
     pub lines: Numbers,
