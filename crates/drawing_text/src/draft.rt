@@ -24,7 +24,7 @@ const DEFAULT_STEP: u32 = 25;
 
 /// A draft: the drawing of the text lines so far, and its starts and ends. `named` and `stepped` record
 /// whether a name and a step were given, `opened` is the number of the line that opened the last block.
-#[derive(Debug, Drop)]
+#[derive(Drop)]
 pub struct DrawingDraft {
     pub drawing: DrawingMaker,
     pub named: bool,

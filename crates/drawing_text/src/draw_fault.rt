@@ -5,7 +5,7 @@ use line_graph::DrawKind;
 
 /// The first fault of a drawing text, and the number of the text line at which it is reported. Text lines
 /// are numbered from 1. With `Memory` the number is 0.
-#[derive(Clone, Copy, Debug, PartialEq, Eq)]
+#[derive(Clone, Copy)]
 pub struct DrawFault {
     pub number: u32,
     pub kind: DrawKind,

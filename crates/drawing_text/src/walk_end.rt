@@ -2,7 +2,7 @@ use line_graph::Spot;
 
 /// A text line that names a start or an end: the number of the text line, which of the two it is, and the
 /// spot.
-#[derive(Clone, Copy, Debug, PartialEq, Eq)]
+#[derive(Clone, Copy)]
 pub struct WalkEnd {
     pub number: u32,
     pub is_start: bool,
