@@ -4,7 +4,7 @@ ghost use Rattle.stitch_trace.specs.Links.{link_size, reversed_link};
 use design_model::Point;
 
 /// A link: what is sewn from one needle point to the next, in tenths of a millimetre.
-#[derive(Clone, Copy, Debug, PartialEq, Eq, Hash)]
+#[derive(Clone, Copy, PartialEq, Eq, Hash)]
 pub struct Link {
     pub from: Point,
     pub to: Point,

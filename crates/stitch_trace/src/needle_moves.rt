@@ -7,7 +7,7 @@ use crate::links::Link;
 use design_model::{Act, NumberedAct, Point};
 
 /// The move of the needle from one act of a design to the next.
-#[derive(Clone, Copy, Debug, PartialEq, Eq)]
+#[derive(Clone, Copy)]
 pub enum NeedleMove {
     /// The needle goes down where it went down before.
     Stay,

@@ -14,7 +14,7 @@ use std::alloc::Global;
 pub type Chains = Items<Points>;
 
 /// A strand: the chains that one thread sews in a block.
-#[derive(Debug, Drop)]
+#[derive(Drop)]
 pub struct Strand {
     /// The thread number.
     pub thread: u8,

@@ -5,7 +5,7 @@ use design_model::Memory;
 use line_graph::DrawKind;
 
 /// The reason why a design has no traced drawing.
-#[derive(Clone, Copy, Debug, PartialEq, Eq)]
+#[derive(Clone, Copy)]
 pub enum TraceFault {
     /// The design has no link.
     NoLinks,
