@@ -7,7 +7,7 @@ pub const MAX_NUMBER: u32 = 999_999;
 
 /// The random number generator of the sample drawings. The first state is the drawing's number, and each
 /// draw replaces the state.
-#[derive(Clone, Copy, Debug)]
+#[derive(Clone, Copy)]
 pub struct Generator {
     pub state: u32,
     pub ghost small: { state ≤ MAX_NUMBER },

@@ -8,7 +8,7 @@ use design_model::Memory;
 use std::alloc::Global;
 
 /// The directions of the lines of a grid.
-#[derive(Clone, Copy, Debug, PartialEq, Eq)]
+#[derive(Clone, Copy)]
 pub enum LineDirection {
     Across,
     Down,

@@ -1,7 +1,7 @@
 use design_model::{Items, Point};
 
 /// A straight segment from one point to another, in tenths of a millimetre.
-#[derive(Clone, Copy, Debug, PartialEq, Eq)]
+#[derive(Clone, Copy)]
 pub struct Segment {
     pub from: Point,
     pub to: Point,
