@@ -9,7 +9,7 @@ use std::alloc::Global;
 use std::marker::Model;
 
 /// Least costs from some junctions of a piece, its terminals, to each of its junctions, in steps.
-#[derive(Debug, Drop)]
+#[derive(Drop)]
 pub struct Rows {
     terminals: Vec<u32>,
     table: Vec<Vec<u32>>,
