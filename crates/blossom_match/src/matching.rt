@@ -10,14 +10,14 @@ use design_model::{Items, Memory, Numbers};
 use std::alloc::Global;
 
 /// Two places that are matched.
-#[derive(Clone, Copy, Debug, PartialEq, Eq)]
+#[derive(Clone, Copy)]
 pub struct Pair {
     pub a: u32,
     pub b: u32,
 }
 
 /// An odd set of places and its dual variable, the width, in halves of a step.
-#[derive(Debug, Drop)]
+#[derive(Drop)]
 pub struct Moat {
     pub members: Numbers,
     pub width: u32,
@@ -29,7 +29,7 @@ pub type Pairs = Items<Pair>;
 pub type Moats = Items<Moat>;
 
 /// All places in pairs, and the moats that prove the matching optimal.
-#[derive(Debug, Drop)]
+#[derive(Drop)]
 pub struct Matching {
     pub pairs: Pairs,
     pub moats: Moats,
