@@ -2,7 +2,7 @@ ghost use Rattle.std.specs.Prelude.{◌≡◌, ◌<◌, ◌≤◌, All, Some, le
 ghost use Rattle.cut_certificate.specs.TerminalStates.{covered, surrounded};
 
 /// The state of a terminal among the moats that were processed.
-#[derive(Clone, Copy, Debug, PartialEq, Eq)]
+#[derive(Clone, Copy)]
 pub enum TerminalState {
     /// No processed moat holds the terminal.
     Free,

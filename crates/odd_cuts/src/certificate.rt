@@ -4,7 +4,7 @@ use line_graph::Walk;
 
 /// The certificate of a piece. The fields are the cost in steps of its walk above that of its lines, the
 /// walk, and cuts that prove that no walk costs less.
-#[derive(Debug, Drop)]
+#[derive(Drop)]
 pub struct PieceCert {
     pub retraced: u32,
     pub walk: Walk,
@@ -15,7 +15,7 @@ pub struct PieceCert {
 pub type PieceCerts = Items<PieceCert>;
 
 /// The certificate of a route.
-#[derive(Debug, Drop)]
+#[derive(Drop)]
 pub struct Cert {
     pub pieces: PieceCerts,
 }

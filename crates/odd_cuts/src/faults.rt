@@ -1,5 +1,5 @@
 /// The first fault of a walk over a piece. Numbers count from 1; that of a line is its number in the drawing.
-#[derive(Clone, Copy, Debug, PartialEq, Eq)]
+#[derive(Clone, Copy, Debug, PartialEq)]
 pub enum WalkFault {
     /// A pass is along no line of the piece.
     Stranger { pass: u32 },
@@ -17,7 +17,7 @@ pub enum WalkFault {
 
 /// The first fault of cuts of a piece. Numbers count from 1; that of a line is its number in the drawing.
 /// Loads and sums count halves of a step.
-#[derive(Clone, Copy, Debug, PartialEq, Eq)]
+#[derive(Clone, Copy, Debug, PartialEq)]
 pub enum CutFault {
     /// A cut has a member that is no junction of the piece.
     Stranger { cut: u32, junction: u32 },
