@@ -9,7 +9,7 @@ use odd_cuts::{Cut, Cuts, PieceCert, PieceCerts};
 use std::alloc::Global;
 
 /// A draft: the certificate of the text lines so far.
-#[derive(Debug, Drop)]
+#[derive(Drop)]
 pub enum CertDraft {
     /// There is no line yet.
     Empty,

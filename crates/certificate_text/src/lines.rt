@@ -11,7 +11,7 @@ use std::alloc::Global;
 use text_parts::{equals_text, split_first};
 
 /// The meaning of one line of a certificate.
-#[derive(Debug, Drop)]
+#[derive(Drop)]
 pub enum CertLine {
     /// A certificate begins.
     Head,

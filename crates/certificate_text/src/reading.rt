@@ -13,7 +13,7 @@ use text_parts::split_line;
 pub const MAX_CERT: usize = 67_108_864;
 
 /// The reason why a text is no certificate. Lines of a text are numbered from 1.
-#[derive(Clone, Copy, Debug, PartialEq, Eq)]
+#[derive(Clone, Copy)]
 pub enum CertFault {
     /// The first line that may not follow the lines before it, or the missing line where the text ends too
     /// early.
