@@ -2,7 +2,7 @@ use odd_cuts::{CutFault, WalkFault};
 
 /// The first reason why a design and a certificate don't match a drawing. Numbers count from 1, costs count
 /// steps.
-#[derive(Clone, Copy, Debug, PartialEq, Eq)]
+#[derive(Clone, Copy, PartialEq)]
 pub enum Reason {
     /// The certificate has another number of pieces than the drawing.
     Pieces { found: u32, drawn: u32 },
@@ -18,7 +18,7 @@ pub enum Reason {
 
 /// The verdict on a design and a certificate: whether the design sews the drawing by the walks of the
 /// certificate, and the certificate proves them least.
-#[derive(Clone, Copy, Debug, PartialEq, Eq)]
+#[derive(Clone, Copy, PartialEq)]
 pub enum Verdict {
     Yes,
     No(Reason),

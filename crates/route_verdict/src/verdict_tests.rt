@@ -188,12 +188,12 @@ fn the_first_thing_that_is_wrong_is_told(rt: HostRuntime) -> Result<(), Fail> {
         let given = verdict(rt.alloc(), &d, &design, &[said])
             .ok()
             .ok_or("no memory")?;
-        assert_eq!(rt; given, says);
+        assert!(rt; given == says, "{said:?}");
     }
     let none = verdict(rt.alloc(), &d, &design, &[])
         .ok()
         .ok_or("no memory")?;
-    assert_eq!(rt; none, no(Reason::Pieces { found: 0, drawn: 1 }));
+    assert!(rt; none == no(Reason::Pieces { found: 0, drawn: 1 }));
     Ok(())
 }
 
@@ -239,7 +239,7 @@ fn the_first_act_that_differs_is_told(rt: HostRuntime) -> Result<(), Fail> {
         let given = verdict(rt.alloc(), &d, &design, &[said])
             .ok()
             .ok_or("no memory")?;
-        assert_eq!(rt; given, says);
+        assert!(rt; given == says, "{commands:?}");
     }
     Ok(())
 }
@@ -282,7 +282,7 @@ fn the_second_piece_is_judged_by_its_own_lines(rt: HostRuntime) -> Result<(), Fa
         let given = verdict(rt.alloc(), &d, &design, &[first, second])
             .ok()
             .ok_or("no memory")?;
-        assert_eq!(rt; given, says);
+        assert!(rt; given == says, "{second:?}");
     }
     Ok(())
 }
