@@ -11,7 +11,7 @@ use std::alloc::Global;
 
 /// The data of the line about a piece: the numbers of its block and its own, both from 1, and its number of
 /// lines. The cost of the lines and the retraced cost count steps.
-#[derive(Clone, Copy, Debug, PartialEq, Eq)]
+#[derive(Clone, Copy)]
 pub struct PieceReport {
     pub block: u32,
     pub piece: u32,

@@ -7,7 +7,7 @@ use std::alloc::Global;
 /// The summary of the sample drawing of a number, and of a route of it: the numbers of lines, junctions, odd
 /// junctions, pieces and penetrations, and three costs. The cost of the lines and the retraced cost are in
 /// steps, the total weight of all cuts in halves of a step.
-#[derive(Clone, Copy, Debug, PartialEq, Eq)]
+#[derive(Clone, Copy)]
 pub struct Summary {
     pub number: u32,
     pub lines: u32,
