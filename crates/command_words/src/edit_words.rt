@@ -8,7 +8,7 @@ use design_edits::{Axis, MAX_SHIFT};
 use design_model::Point;
 
 /// An edit of a design.
-#[derive(Clone, Copy, Debug, PartialEq, Eq)]
+#[derive(Clone, Copy)]
 pub enum Edit {
     /// Move all points, by tenths of a millimetre.
     Shift(Point),

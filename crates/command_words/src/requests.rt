@@ -1,5 +1,5 @@
 /// A request of the arguments. Each file name has from 1 to 4,096 bytes.
-#[derive(Clone, Copy, Debug)]
+#[derive(Clone, Copy)]
 pub enum Request<'a> {
     /// Sew a drawing as one running thread.
     Route(RouteNames<'a>),
@@ -44,7 +44,7 @@ pub enum Request<'a> {
 }
 
 /// The files of `route` and `double`: the drawing to read, the design and the certificate to write.
-#[derive(Clone, Copy, Debug)]
+#[derive(Clone, Copy)]
 pub struct RouteNames<'a> {
     pub drawing: &'a str,
     pub out: &'a str,
@@ -52,7 +52,7 @@ pub struct RouteNames<'a> {
 }
 
 /// The files of `check`, all of which are read: the drawing, the design and the certificate.
-#[derive(Clone, Copy, Debug)]
+#[derive(Clone, Copy)]
 pub struct CheckNames<'a> {
     pub drawing: &'a str,
     pub file: &'a str,
@@ -60,7 +60,7 @@ pub struct CheckNames<'a> {
 }
 
 /// The files of `convert` and `edit`: the design to read, and the design to write.
-#[derive(Clone, Copy, Debug)]
+#[derive(Clone, Copy)]
 pub struct RewriteNames<'a> {
     pub input: &'a str,
     pub output: &'a str,
