@@ -1,5 +1,5 @@
 /// Why a change of a design is refused.
-#[derive(Clone, Copy, Debug, PartialEq, Eq)]
+#[derive(Clone, Copy)]
 pub enum ChangeFault {
     /// A refit exceeds the maximum number of commands, at the act of that command.
     RefitTooMany { number: u32 },
@@ -10,7 +10,7 @@ pub enum ChangeFault {
 }
 
 /// Why a design was not changed.
-#[derive(Clone, Copy, Debug, PartialEq, Eq)]
+#[derive(Clone, Copy)]
 pub enum ChangeFailure {
     /// A change is refused.
     Refused(ChangeFault),

@@ -10,7 +10,7 @@ use std::alloc::Global;
 use step_splitter::MAX_STEP;
 
 /// The changes of a design between reading and writing.
-#[derive(Clone, Copy, Debug)]
+#[derive(Clone, Copy)]
 pub enum Changes<'a> {
     /// Split stitches beyond the limit of the output, and cut floats, as requested.
     Refits { splits: bool, cuts: bool },
