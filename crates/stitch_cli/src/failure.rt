@@ -11,7 +11,7 @@ use stitch_trace::TraceFault;
 
 /// Why an order is refused, with the name of the file in its line. Limits and steps are in tenths of a
 /// millimetre.
-#[derive(Debug, Drop)]
+#[derive(Drop)]
 pub enum Refusal<'a> {
     /// The input file has more than 64 MiB.
     TooLong {
@@ -66,7 +66,7 @@ pub enum Refusal<'a> {
 }
 
 /// Why an order made no product.
-#[derive(Debug, Drop)]
+#[derive(Drop)]
 pub enum Failure<'a> {
     /// The arguments request nothing that the program does.
     BadArguments,

@@ -5,14 +5,14 @@ use design_model::{Bytes, Items, Memory};
 use std::alloc::Global;
 
 /// A file that a command writes: its name, and its content.
-#[derive(Debug, Drop)]
+#[derive(Drop)]
 pub struct Output<'a> {
     pub name: &'a str,
     pub content: Bytes,
 }
 
 /// The product of a command: its outputs in the order in which they are written, and its report.
-#[derive(Debug, Drop)]
+#[derive(Drop)]
 pub struct Product<'a> {
     pub outputs: Items<Output<'a>>,
     pub report: Bytes,

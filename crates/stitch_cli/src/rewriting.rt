@@ -21,7 +21,7 @@ use program_texts::print_written;
 use std::alloc::Global;
 
 /// The indexes of the formats of an input and of an output in the list of formats.
-#[derive(Clone, Copy, Debug, PartialEq, Eq)]
+#[derive(Clone, Copy)]
 pub(crate) struct FormatIndexes {
     pub source: usize,
     pub target: usize,

@@ -26,7 +26,7 @@ use route_core::{Routed, double_pieces, route_pieces};
 use std::alloc::Global;
 
 /// The kind of walks that sew the pieces of a drawing.
-#[derive(Clone, Copy, Debug, PartialEq, Eq)]
+#[derive(Clone, Copy)]
 pub(crate) enum WalkKind {
     /// Walks of the least cost.
     Least,
