@@ -1,5 +1,5 @@
 /// The content of a file.
-#[derive(Clone, Copy, Debug)]
+#[derive(Clone, Copy)]
 pub enum FileContent {
     /// Exactly these bytes.
     Bytes(&'static [u8]),
@@ -14,7 +14,7 @@ pub enum FileContent {
 }
 
 /// The expected report.
-#[derive(Clone, Copy, Debug)]
+#[derive(Clone, Copy)]
 pub enum ExpectedText {
     /// Exactly this text.
     Exactly(&'static str),
@@ -24,7 +24,7 @@ pub enum ExpectedText {
 
 /// The calls that fail, by their numbers: calls of the store, counted over the entire case, and puts on
 /// standard output and on standard error. They count from 1: 0 means that none fails.
-#[derive(Clone, Copy, Debug)]
+#[derive(Clone, Copy)]
 pub struct FailingCalls {
     pub store: u64,
     pub out: u64,
@@ -32,7 +32,7 @@ pub struct FailingCalls {
 }
 
 /// A command with its exit status, and the expected results.
-#[derive(Clone, Copy, Debug)]
+#[derive(Clone, Copy)]
 pub struct CaseStep {
     pub words: &'static [&'static str],
     pub fails: FailingCalls,
@@ -43,7 +43,7 @@ pub struct CaseStep {
 }
 
 /// The files before, and commands one after another.
-#[derive(Clone, Copy, Debug)]
+#[derive(Clone, Copy)]
 pub struct Case {
     pub before: &'static [(&'static str, FileContent)],
     pub steps: &'static [CaseStep],
