@@ -5,7 +5,7 @@ ghost use Rattle.stitch_picture.specs.Runs.{IsReportedStatus};
 use outside_io::{Failed, Sink};
 
 /// The exit status of the program.
-#[derive(Clone, Copy, Debug, PartialEq, Eq)]
+#[derive(Clone, Copy)]
 pub enum PictureStatus {
     /// The picture is written.
     Done = 0,
@@ -20,7 +20,7 @@ pub enum PictureStatus {
 }
 
 /// Why no picture was made.
-#[derive(Clone, Copy, Debug, PartialEq, Eq)]
+#[derive(Clone, Copy)]
 pub enum PictureFailure {
     /// The input file does not exist, or a read failed.
     ReadFailed,

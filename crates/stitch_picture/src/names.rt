@@ -5,7 +5,7 @@ ghost use Rattle.stitch_picture.specs.Orders.{has_svg_ending, picture_names_if_v
 use outside_io::is_name;
 
 /// The names of the input file and of the picture file.
-#[derive(Clone, Copy, Debug)]
+#[derive(Clone, Copy)]
 pub struct PictureNames<'a> {
     pub input: &'a str,
     pub output: &'a str,
