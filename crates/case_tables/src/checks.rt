@@ -1,4 +1,4 @@
-use crate::{Case, FileContent, done, refused};
+use crate::{Case, ExpectedText, FileContent, done, refused, step};
 
 const TO_DST: &[&str] = &["route", "a.rw", "b.dst", "b.cert"];
 
@@ -111,39 +111,164 @@ pub static JUDGED: &[Case] = &[
             ),
         ],
     },
+    // By hand: the walk passes lines 1 and 6 twice, and the list has the points that it visits. One half
+    // around each junction is two halves on each line; with two around junction 1, line 1 carries three.
     Case {
         before: &[
             ("a.rw", FileContent::Bytes(FOUR)),
             (
+                "a.lst",
+                FileContent::Bytes(
+                    b"stitch-list 1\nlabel []\nblock 1\nneedle 0 0\nneedle 30 0\nneedle 30 30\nneedle 0 30\nneedle 30 30\nneedle 0 0\nneedle 0 30\nneedle 30 0\nneedle 0 0\ntrim\nend\n",
+                ),
+            ),
+            (
+                "four",
+                FileContent::Bytes(
+                    b"redwork-certificate 1\npiece 2\nwalk 1 4 6 -6 -2 3 -5 -1\ncut 1 1\ncut 1 2\ncut 1 3\ncut 1 4\nend\n",
+                ),
+            ),
+            (
                 "three",
                 FileContent::Bytes(
-                    b"redwork-certificate 1\npiece 2\nwalk 1 4 -5 3 -2 1 -1 6 -3\ncut 2 1\ncut 1 2\ncut 1 3\nend\n",
+                    b"redwork-certificate 1\npiece 2\nwalk 1 4 6 -6 -2 3 -5 -1\ncut 2 1\ncut 1 2\ncut 1 3\nend\n",
                 ),
             ),
         ],
-        steps: &[done!(TO_DST, FOUR_REPORT, &[]), done!(OF_DST, "yes\n", &[])],
+        steps: &[
+            done!(TO_DST, FOUR_REPORT, &[]),
+            done!(OF_DST, "yes\n", &[]),
+            done!(&["check", "a.rw", "a.lst", "four"], "yes\n", &[]),
+            refused!(
+                &["check", "a.rw", "a.lst", "three"],
+                "stitch: no: piece 1: line 1 carries 3 halves, allowed 2\n",
+            ),
+        ],
     },
 ];
 
-/// The sample drawing of number 75, whose four junctions are each connected to each other.
-pub static SAMPLED: &[Case] = &[Case {
-    before: &[],
-    steps: &[
-        done!(
-            &["sample", "75", "s.rw"],
-            "sample 75\nlines 6\njunctions 4\nodd 4\npieces 1\ncost 28\nretraced 8\npenetrations 37\ncuts 16\n",
-            &[(
-                "s.rw",
-                FileContent::Bytes(
-                    b"redwork 1\nname sample\nstep 25\ncolor 1\nline 49 27 106 45\nline 1 141 126 149\nline 49 27 1 141\nline 106 45 126 149\nline 49 27 126 149\nline 106 45 1 141\n",
-                ),
-            )],
-        ),
-        done!(
-            &["route", "s.rw", "b.pes", "b.cert"],
-            "block 1 piece 1 lines 6 cost 28 retraced 8 penetrations 37\npieces 1 penetrations 37\n",
-            &[],
-        ),
-        done!(&["check", "s.rw", "b.pes", "b.cert"], "yes\n", &[]),
-    ],
-}];
+const SAMPLE_TO_PES: &[&str] = &["route", "s.rw", "b.pes", "b.cert"];
+
+const SAMPLE_OF_PES: &[&str] = &["check", "s.rw", "b.pes", "b.cert"];
+
+const GRID_REPORT: &str =
+    "sample 14\nlines 710\njunctions 256\nodd 136\npieces 1\ncost 3280\nretraced 311\npenetrations 3592\ncuts 622\n";
+
+/// Sample drawings.
+pub static SAMPLED: &[Case] = &[
+    // Four junctions, each connected to each other by a line.
+    Case {
+        before: &[],
+        steps: &[
+            done!(
+                &["sample", "75", "s.rw"],
+                "sample 75\nlines 6\njunctions 4\nodd 4\npieces 1\ncost 28\nretraced 8\npenetrations 37\ncuts 16\n",
+                &[(
+                    "s.rw",
+                    FileContent::Bytes(
+                        b"redwork 1\nname sample\nstep 25\ncolor 1\nline 49 27 106 45\nline 1 141 126 149\nline 49 27 1 141\nline 106 45 126 149\nline 49 27 126 149\nline 106 45 1 141\n",
+                    ),
+                )],
+            ),
+            done!(
+                SAMPLE_TO_PES,
+                "block 1 piece 1 lines 6 cost 28 retraced 8 penetrations 37\npieces 1 penetrations 37\n",
+                &[],
+            ),
+            done!(SAMPLE_OF_PES, "yes\n", &[]),
+        ],
+    },
+    // A grid of 15 by 15 cells. An independent program computed its lines by the rule of the samples, and
+    // the retraced cost as the least matching of the odd junctions.
+    Case {
+        before: &[],
+        steps: &[
+            done!(
+                &["sample", "14", "s.rw"],
+                GRID_REPORT,
+                &[(
+                    "s.rw",
+                    FileContent::PartAt(
+                        15_822,
+                        0,
+                        b"redwork 1\nname sample\nstep 25\ncolor 1\nline 24 37 122 7\nline 122 7 231 25\n",
+                    ),
+                )],
+            ),
+            done!(
+                &["sample", "14", "s.rw"],
+                GRID_REPORT,
+                &[(
+                    "s.rw",
+                    FileContent::PartAt(
+                        15_822,
+                        15_772,
+                        b"line 1302 1410 1428 1532\nline 1512 1445 1428 1532\n",
+                    ),
+                )],
+            ),
+            done!(
+                SAMPLE_TO_PES,
+                "block 1 piece 1 lines 710 cost 3280 retraced 311 penetrations 3592\npieces 1 penetrations 3592\n",
+                &[],
+            ),
+            done!(SAMPLE_OF_PES, "yes\n", &[]),
+        ],
+    },
+];
+
+/// A DST file that is one byte too short.
+const SHORT: FileContent = FileContent::Padded(b"", 511, 0, b"");
+
+/// A DST file without records.
+const HEADER: FileContent = FileContent::Padded(b"", 512, 0, b"");
+
+const NO_LINE: FileContent = FileContent::Bytes(b"redwork 1\ncolor 1\n");
+
+const NO_PASS: FileContent = FileContent::Bytes(b"redwork-certificate 1\npiece 4\nwalk 1 0\nend\n");
+
+/// The inputs of `check` are read in the order of its arguments, and the first fault is reported.
+pub static READ_IN_ORDER: &[Case] = &[
+    // A drawing whose block has no line, beside files that don't exist, and beside bad ones.
+    Case {
+        before: &[("a.rw", NO_LINE)],
+        steps: &[refused!(OF_DST, "stitch: a.rw: line 2: block without a line\n")],
+    },
+    Case {
+        before: &[("a.rw", NO_LINE), ("b.dst", SHORT), ("b.cert", NO_PASS)],
+        steps: &[refused!(OF_DST, "stitch: a.rw: line 2: block without a line\n")],
+    },
+    // A drawing, beside a design file that doesn't exist.
+    Case {
+        before: &[("a.rw", FileContent::Bytes(LINE)), ("b.cert", NO_PASS)],
+        steps: &[step!(
+            OF_DST,
+            3,
+            ExpectedText::Exactly(""),
+            "stitch: cannot read b.dst\n",
+            &[]
+        )],
+    },
+    // A design file that is too short, beside a certificate that doesn't exist, and beside a bad one.
+    Case {
+        before: &[("a.rw", FileContent::Bytes(LINE)), ("b.dst", SHORT)],
+        steps: &[refused!(OF_DST, "stitch: b.dst: byte 511: file too short\n")],
+    },
+    Case {
+        before: &[
+            ("a.rw", FileContent::Bytes(LINE)),
+            ("b.dst", SHORT),
+            ("b.cert", NO_PASS),
+        ],
+        steps: &[refused!(OF_DST, "stitch: b.dst: byte 511: file too short\n")],
+    },
+    // No line has the number 0, so the first bad line is the walk.
+    Case {
+        before: &[
+            ("a.rw", FileContent::Bytes(LINE)),
+            ("b.dst", HEADER),
+            ("b.cert", NO_PASS),
+        ],
+        steps: &[refused!(OF_DST, "stitch: b.cert: line 3: not a certificate\n")],
+    },
+];

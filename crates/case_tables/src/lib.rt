@@ -12,7 +12,7 @@ mod traces;
 mod versions;
 
 pub use cases::{Case, CaseStep, ExpectedText, FailingCalls, FileContent};
-pub use checks::{JUDGED, SAMPLED};
+pub use checks::{JUDGED, READ_IN_ORDER, SAMPLED};
 pub use doubles::DOUBLED;
 pub use held_parts::has_part;
 pub use routes::{CLOSED, MEETING, NOT_ROUTED, PATTERN};

@@ -12,6 +12,10 @@ const TO_DST: &[&str] = &["route", "a.rw", "b.dst", "b.cert"];
 
 const TO_EXP: &[&str] = &["route", "a.rw", "b.exp", "b.cert"];
 
+const TO_PEC: &[&str] = &["route", "a.rw", "b.pec", "b.cert"];
+
+const OF_EXP: &[&str] = &["check", "a.rw", "b.exp", "b.cert"];
+
 /// The fields of the header for the square.
 const SQUARE_FIELDS: &[u8] =
     b"LA:                \rST:      9\rCO:  0\r+X:   30\r-X:    0\r+Y:    0\r-Y:   30\rAX:+    0\rAY:+    0\rMX:+    0\rMY:+    0\rPD:******\r\x1a   ";
@@ -19,6 +23,18 @@ const SQUARE_FIELDS: &[u8] =
 const SQUARE_RECORDS: [u8; 27] = [
     0x00, 0x00, 0x03, 0x00, 0x05, 0x03, 0x00, 0x50, 0x03, 0x00, 0x0a, 0x03, 0x00, 0xa0, 0x03, 0x82,
     0x41, 0x83, 0x82, 0x82, 0x83, 0x82, 0x41, 0x83, 0x00, 0x00, 0xf3,
+];
+
+/// The EXP file of the square: five stitches and a trim.
+const SQUARE_UNITS: [u8; 14] = [
+    0x00, 0x00, 0x1e, 0x00, 0x00, 0xe2, 0xe2, 0x00, 0x00, 0x1e, 0x80, 0x80, 0x07, 0x00,
+];
+
+/// In the PEC file of the square: the distance of 31 to the thumbnails, three bytes that are always the
+/// same, the width and the height of 30, 480 and 432, and the records.
+const SQUARE_BLOCK: [u8; 29] = [
+    0x1f, 0x00, 0x00, 0x31, 0xff, 0xf0, 0x1e, 0x00, 0x1e, 0x00, 0xe0, 0x01, 0xb0, 0x01, 0x00, 0x00,
+    0x1e, 0x00, 0x00, 0x1e, 0x62, 0x00, 0x00, 0x62, 0xa0, 0x00, 0xa0, 0x00, 0xff,
 ];
 
 /// A square and a trim, a stop, three jumps to the right, a square and a trim, and the end.
@@ -58,6 +74,22 @@ pub static CLOSED: &[Case] = &[
                 SQUARE_REPORT,
                 &[("b.dst", FileContent::PartAt(539, 0, SQUARE_FIELDS))],
             ),
+            done!(
+                TO_EXP,
+                SQUARE_REPORT,
+                &[("b.exp", FileContent::Bytes(&SQUARE_UNITS))],
+            ),
+            // One block, and its thread.
+            done!(
+                TO_PEC,
+                SQUARE_REPORT,
+                &[("b.pec", FileContent::PartAt(1_007, 56, &[0x00, 0x05]))],
+            ),
+            done!(
+                TO_PEC,
+                SQUARE_REPORT,
+                &[("b.pec", FileContent::PartAt(1_007, 522, &SQUARE_BLOCK))],
+            ),
         ],
     },
     Case {
@@ -95,11 +127,14 @@ pub static MEETING: &[Case] = &[
             "a.rw",
             FileContent::Bytes(b"redwork 1\nstep 10\ncolor 1\nline 0 0 40 0\n"),
         )],
-        steps: &[done!(
-            TO_EXP,
-            "block 1 piece 1 lines 1 cost 4 retraced 4 penetrations 9\npieces 1 penetrations 9\n",
-            &[],
-        )],
+        steps: &[
+            done!(
+                TO_EXP,
+                "block 1 piece 1 lines 1 cost 4 retraced 4 penetrations 9\npieces 1 penetrations 9\n",
+                &[]
+            ),
+            done!(OF_EXP, "yes\n", &[]),
+        ],
     },
     // Two junctions, connected by three lines.
     Case {
@@ -109,11 +144,14 @@ pub static MEETING: &[Case] = &[
                 b"redwork 1\nstep 10\ncolor 1\nline 0 0 10 0\nline 0 0 5 10 10 0\nline 0 0 0 -20 10 -20 10 0\n",
             ),
         )],
-        steps: &[done!(
-            TO_EXP,
-            "block 1 piece 1 lines 3 cost 8 retraced 1 penetrations 10\npieces 1 penetrations 10\n",
-            &[],
-        )],
+        steps: &[
+            done!(
+                TO_EXP,
+                "block 1 piece 1 lines 3 cost 8 retraced 1 penetrations 10\npieces 1 penetrations 10\n",
+                &[]
+            ),
+            done!(OF_EXP, "yes\n", &[]),
+        ],
     },
     // Two squares that share a corner.
     Case {
@@ -123,11 +161,14 @@ pub static MEETING: &[Case] = &[
                 b"redwork 1\nstep 10\ncolor 1\nline 0 0 10 0 10 10 0 10 0 0\nline 0 0 -10 0 -10 -10 0 -10 0 0\n",
             ),
         )],
-        steps: &[done!(
-            TO_EXP,
-            "block 1 piece 1 lines 2 cost 8 retraced 0 penetrations 9\npieces 1 penetrations 9\n",
-            &[],
-        )],
+        steps: &[
+            done!(
+                TO_EXP,
+                "block 1 piece 1 lines 2 cost 8 retraced 0 penetrations 9\npieces 1 penetrations 9\n",
+                &[]
+            ),
+            done!(OF_EXP, "yes\n", &[]),
+        ],
     },
     // Four junctions, each connected to each other by a line.
     Case {
@@ -137,11 +178,14 @@ pub static MEETING: &[Case] = &[
                 b"redwork 1\nstep 30\ncolor 1\nline 0 0 30 0\nline 0 0 30 30\nline 0 0 0 30\nline 30 0 30 30\nline 30 0 0 30\nline 30 30 0 30\n",
             ),
         )],
-        steps: &[done!(
-            TO_EXP,
-            "block 1 piece 1 lines 6 cost 6 retraced 2 penetrations 9\npieces 1 penetrations 9\n",
-            &[],
-        )],
+        steps: &[
+            done!(
+                TO_EXP,
+                "block 1 piece 1 lines 6 cost 6 retraced 2 penetrations 9\npieces 1 penetrations 9\n",
+                &[]
+            ),
+            done!(OF_EXP, "yes\n", &[]),
+        ],
     },
     // Two loops at the ends of a line.
     Case {
@@ -151,11 +195,14 @@ pub static MEETING: &[Case] = &[
                 b"redwork 1\nstep 10\ncolor 1\nline 0 0 -10 10 -10 -10 0 0\nline 0 0 30 0\nline 30 0 40 10 40 -10 30 0\n",
             ),
         )],
-        steps: &[done!(
-            TO_EXP,
-            "block 1 piece 1 lines 3 cost 11 retraced 3 penetrations 15\npieces 1 penetrations 15\n",
-            &[],
-        )],
+        steps: &[
+            done!(
+                TO_EXP,
+                "block 1 piece 1 lines 3 cost 11 retraced 3 penetrations 15\npieces 1 penetrations 15\n",
+                &[]
+            ),
+            done!(OF_EXP, "yes\n", &[]),
+        ],
     },
     // A loop at one end.
     Case {
@@ -165,11 +212,14 @@ pub static MEETING: &[Case] = &[
                 b"redwork 1\nstep 10\ncolor 1\nline 0 0 20 0\nline 20 0 30 10 30 -10 20 0\n",
             ),
         )],
-        steps: &[done!(
-            TO_EXP,
-            "block 1 piece 1 lines 2 cost 6 retraced 2 penetrations 9\npieces 1 penetrations 9\n",
-            &[],
-        )],
+        steps: &[
+            done!(
+                TO_EXP,
+                "block 1 piece 1 lines 2 cost 6 retraced 2 penetrations 9\npieces 1 penetrations 9\n",
+                &[]
+            ),
+            done!(OF_EXP, "yes\n", &[]),
+        ],
     },
     // Lines that cross between their ends, and one that ends inside another, don't meet.
     Case {
@@ -194,7 +244,7 @@ pub static MEETING: &[Case] = &[
                 "block 1 piece 1 lines 40 cost 40 retraced 40 penetrations 81\npieces 1 penetrations 81\n",
                 &[],
             ),
-            done!(&["check", "a.rw", "b.exp", "b.cert"], "yes\n", &[]),
+            done!(OF_EXP, "yes\n", &[]),
         ],
     },
 ];
@@ -235,13 +285,17 @@ pub static PATTERN: &[Case] = &[Case {
     ],
 }];
 
-/// A step of 125, which EXP accepts; texts that are not drawings; drawings that exceed their limits.
+/// A step of 125, which EXP and `check` accept; texts that are not drawings; drawings that exceed their
+/// limits.
 pub static NOT_ROUTED: &[Case] = &[
     Case {
-        before: &[(
-            "a.rw",
-            FileContent::Bytes(b"redwork 1\nstep 125\ncolor 5\nline 0 0 30 0 30 30 0 30 0 0\n"),
-        )],
+        before: &[
+            (
+                "a.rw",
+                FileContent::Bytes(b"redwork 1\nstep 125\ncolor 5\nline 0 0 30 0 30 30 0 30 0 0\n"),
+            ),
+            ("c.dst", records!(&SQUARE_RECORDS)),
+        ],
         steps: &[
             refused!(
                 &["route", "a.rw", "b.DST", "b.cert"],
@@ -252,6 +306,8 @@ pub static NOT_ROUTED: &[Case] = &[
                 SQUARE_REPORT,
                 &[("b.cert", FileContent::Bytes(SQUARE_CERT))],
             ),
+            // A side of 30 is one step, of at most 30 or of at most 125: the records are those of the square.
+            done!(&["check", "a.rw", "c.dst", "b.cert"], "yes\n", &[]),
         ],
     },
     Case {

@@ -4,6 +4,9 @@ const TO_DST: &[&str] = &["route", "a.rw", "b.dst", "b.cert"];
 
 const OF_DST: &[&str] = &["check", "a.rw", "b.dst", "b.cert"];
 
+const FROM_END_REPORT: &str =
+    "block 1 piece 1 lines 1 cost 4 retraced 4 penetrations 9\npieces 1 penetrations 9\n";
+
 /// Drawings with starts and ends of walks, and their faults.
 pub static ENDED: &[Case] = &[
     // From the start of a line to its end, and from its end back to its end.
@@ -26,18 +29,32 @@ pub static ENDED: &[Case] = &[
             done!(OF_DST, "yes\n", &[]),
         ],
     },
+    // The only walk of cost 8 from that end visits the points of the list. One cut of eight halves proves it.
     Case {
-        before: &[(
-            "a.rw",
-            FileContent::Bytes(b"redwork 3\nstep 10\ncolor 1\nline 0 0 40 0\nstart 40 0\n"),
-        )],
-        steps: &[
-            done!(
-                TO_DST,
-                "block 1 piece 1 lines 1 cost 4 retraced 4 penetrations 9\npieces 1 penetrations 9\n",
-                &[],
+        before: &[
+            (
+                "a.rw",
+                FileContent::Bytes(b"redwork 3\nstep 10\ncolor 1\nline 0 0 40 0\nstart 40 0\n"),
             ),
+            (
+                "given",
+                FileContent::Bytes(b"redwork-certificate 1\npiece 4\nwalk -1 1\ncut 8 1\nend\n"),
+            ),
+        ],
+        steps: &[
+            done!(TO_DST, FROM_END_REPORT, &[]),
             done!(OF_DST, "yes\n", &[]),
+            done!(&["check", "a.rw", "b.dst", "given"], "yes\n", &[]),
+            done!(
+                &["route", "a.rw", "b.lst", "b.cert"],
+                FROM_END_REPORT,
+                &[(
+                    "b.lst",
+                    FileContent::Bytes(
+                        b"stitch-list 1\nlabel []\nblock 1\nneedle 40 0\nneedle 30 0\nneedle 20 0\nneedle 10 0\nneedle 0 0\nneedle 10 0\nneedle 20 0\nneedle 30 0\nneedle 40 0\ntrim\nend\n",
+                    ),
+                )],
+            ),
         ],
     },
     // A square with both diagonals, from one corner to the one across.
@@ -92,11 +109,7 @@ pub static ENDED: &[Case] = &[
             ),
         ],
         steps: &[
-            done!(
-                &["route", "a.rw", "b.dst", "b.exp"],
-                "block 1 piece 1 lines 1 cost 4 retraced 4 penetrations 9\npieces 1 penetrations 9\n",
-                &[],
-            ),
+            done!(&["route", "a.rw", "b.dst", "b.exp"], FROM_END_REPORT, &[]),
             refused!(
                 OF_DST,
                 "stitch: no: piece 1: walk does not begin at its start\n"

@@ -125,7 +125,23 @@ pub static NOT_MIGRATED: &[Case] = &[
             refused!(TO_TWO, "stitch: a.rw: line 4: more than 1024 lines\n"),
         ],
     },
-    // As version 1 it has one line.
+    // One section of the first line, and 1,199 of the second, which lists each of two points 600 times.
+    Case {
+        before: &[(
+            "a.rw",
+            FileContent::Padded(
+                b"redwork 2\ncolor 1\nline 0 0 1 0\nline",
+                35,
+                600,
+                b" 0 0 1 0",
+            ),
+        )],
+        steps: &[
+            refused!(TO_DST, "stitch: a.rw: line 5: more than 1024 lines\n"),
+            refused!(TO_TWO, "stitch: a.rw: line 5: more than 1024 lines\n"),
+        ],
+    },
+    // As version 1 the line of 1,026 points is one line.
     Case {
         before: &[(
             "a.rw",

@@ -1,7 +1,7 @@
 use super::cases::play;
 use case_tables::{
-    CLOSED, DOUBLED, ENDED, JUDGED, MEETING, NOT_MIGRATED, NOT_ROUTED, PATTERN, SAMPLED, TRACED,
-    VERSIONS,
+    CLOSED, DOUBLED, ENDED, JUDGED, MEETING, NOT_MIGRATED, NOT_ROUTED, PATTERN, READ_IN_ORDER,
+    SAMPLED, TRACED, VERSIONS,
 };
 use std::test::Fail;
 
@@ -28,6 +28,11 @@ fn a_drawing_that_is_none_or_has_too_long_a_step_is_refused(rt: HostRuntime) -> 
 #[test]
 fn a_design_is_judged_by_what_its_certificate_says(rt: HostRuntime) -> Result<(), Fail> {
     play(&rt, rt.alloc(), JUDGED)
+}
+
+#[test]
+fn the_first_fault_in_the_inputs_of_a_check_is_reported(rt: HostRuntime) -> Result<(), Fail> {
+    play(&rt, rt.alloc(), READ_IN_ORDER)
 }
 
 #[test]

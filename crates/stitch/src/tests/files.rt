@@ -4,7 +4,8 @@ use std::test::Fail;
 
 const SHOW: &[&str] = &["show", "a.dst"];
 
-/// A file cut off in its second record; three jumps, which are read as a trim; two jumps; only a stop.
+/// A file cut off in its second record; three jumps, which are read as a trim; two jumps; only a stop. Then
+/// labels that are shorter than their field, and files without a needle.
 static SHOWN: &[Case] = &[
     Case {
         before: &[("a.dst", records!(&[0x00, 0x05, 0x03, 0x00, 0x05]))],
@@ -43,6 +44,57 @@ static SHOWN: &[Case] = &[
         steps: &[done!(
             SHOW,
             "format dst\nlabel []\ncommands 1\nneedles 0\ntrims 0\nstops 1\nextent none\nended yes\nblock 1 thread 1 needles 0\nblock 2 thread 2 needles 0\n",
+            &[],
+        )],
+    },
+    // The label is the 16 bytes from offset 3, here with the next field; `0D` becomes a question mark.
+    Case {
+        before: &[(
+            "a.dst",
+            FileContent::Padded(
+                b"LA:Rose\rST:      2\rCO:  0\r",
+                512,
+                1,
+                &[0, 0, 0x03, 0, 0, 0xF3],
+            ),
+        )],
+        steps: &[done!(
+            SHOW,
+            "format dst\nlabel [Rose?ST:      2?]\ncommands 1\nneedles 1\ntrims 0\nstops 0\nextent 0 0 0 0\nended yes\nblock 1 thread 1 needles 1\n",
+            &[],
+        )],
+    },
+    // A zero byte after the name becomes a question mark, and the spaces are dropped. The space at offset 57
+    // is thread 32.
+    Case {
+        before: &[(
+            "a.pec",
+            FileContent::Padded(b"#PEC0001LA:Rose\0", 536, 1, &[0x1E, 0x1E, 0xFF]),
+        )],
+        steps: &[done!(
+            &["show", "a.pec"],
+            "format pec\nlabel [Rose?]\ncommands 1\nneedles 1\ntrims 0\nstops 0\nextent 30 30 30 30\nended yes\nblock 1 thread 32 needles 1\n",
+            &[],
+        )],
+    },
+    // The first byte of the records is their end: no stitch is read from the bytes after it.
+    Case {
+        before: &[(
+            "a.pec",
+            FileContent::Padded(b"#PEC0001", 536, 1, &[0xFF, 0xCE, 0x1E, 0x1E, 0xFF]),
+        )],
+        steps: &[done!(
+            &["show", "a.pec"],
+            "format pec\nlabel []\ncommands 0\nneedles 0\ntrims 0\nstops 0\nextent none\nended yes\nblock 1 thread 32 needles 0\n",
+            &[],
+        )],
+    },
+    // An empty file has no needle, and no bytes are left over, so it has its end.
+    Case {
+        before: &[("a.exp", FileContent::Bytes(b""))],
+        steps: &[done!(
+            &["show", "a.exp"],
+            "format exp\nlabel []\ncommands 0\nneedles 0\ntrims 0\nstops 0\nextent none\nended yes\nblock 1 thread 1 needles 0\n",
             &[],
         )],
     },

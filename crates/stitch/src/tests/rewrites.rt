@@ -145,6 +145,15 @@ static WRITTEN: &[Case] = &[
                 ONE_REPORT,
                 &[("b.pec", FileContent::PartAt(995, 522, &[0x13, 0x00, 0x00]))],
             ),
+            // One block, its thread, and the spaces after it.
+            done!(
+                CONVERT,
+                ONE_REPORT,
+                &[(
+                    "b.pec",
+                    FileContent::PartAt(995, 56, &[0x00, 0x01, 0x20, 0x20])
+                )],
+            ),
             done!(
                 &["convert", "a.exp", "b.pes"],
                 ONE_REPORT,
@@ -195,7 +204,39 @@ static WRITTEN: &[Case] = &[
     },
 ];
 
+/// In DST: a stitch, and two floats of 363, to the right and downwards, without a trim.
+const TWO_FLOATS: &[u8] = &[
+    0x00, 0x00, 0x03, 0x05, 0x05, 0x87, 0x05, 0x05, 0x87, 0x05, 0x05, 0x07, 0x50, 0x50, 0x93, 0x50,
+    0x50, 0x93, 0x50, 0x50, 0x13, 0x00, 0x00, 0xF3,
+];
+
 static EDITS: &[Case] = &[
+    // The longest floats of DST are two jumps of 121 and a stitch of 121. A third jump would read as a trim.
+    Case {
+        before: &[("a.dst", records!(TWO_FLOATS))],
+        steps: &[
+            done!(
+                &["edit", "a.dst", "b.dst", "turn=0"],
+                "needles 3 trims 0 stops 0\n",
+                &[("b.dst", records!(TWO_FLOATS))],
+            ),
+            done!(
+                &["show", "b.dst"],
+                "format dst\nlabel []\ncommands 7\nneedles 3\ntrims 0\nstops 0\nextent 0 0 363 363\nended yes\nblock 1 thread 1 needles 3\n",
+                &[],
+            ),
+            done!(
+                &["convert", "b.dst", "b.lst"],
+                "needles 3 trims 0 stops 0\n",
+                &[(
+                    "b.lst",
+                    FileContent::Bytes(
+                        b"stitch-list 1\nlabel []\nblock 1\nneedle 0 0\nfloat 363 0\nfloat 363 363\nend\n",
+                    )
+                )],
+            ),
+        ],
+    },
     // A quarter turn maps the right to the bottom.
     Case {
         before: &[("a.exp", FileContent::Bytes(&[0x00, 0x00, 0x1E, 0x00]))],
@@ -235,6 +276,35 @@ static EDITS: &[Case] = &[
                     "b.exp",
                     FileContent::Bytes(&[0x80, 0x04, 0x00, 0x05, 0x00, 0x00])
                 )],
+            ),
+            // By hand: 30,000 is 237 hops of at most 127, and the first three end at 126, 253 and 379.
+            done!(
+                &["edit", "a.exp", "b.exp", "shift=29999,0"],
+                ONE_REPORT,
+                &[(
+                    "b.exp",
+                    FileContent::PartAt(
+                        950,
+                        0,
+                        &[
+                            0x80, 0x04, 0x7E, 0x00, 0x80, 0x04, 0x7F, 0x00, 0x80, 0x04, 0x7E, 0x00,
+                        ],
+                    )
+                )],
+            ),
+            // The last hop is from 29,873 to 30,000.
+            done!(
+                &["edit", "a.exp", "b.exp", "shift=29999,0"],
+                ONE_REPORT,
+                &[(
+                    "b.exp",
+                    FileContent::PartAt(950, 944, &[0x80, 0x04, 0x7F, 0x00, 0x00, 0x00])
+                )],
+            ),
+            done!(
+                &["show", "b.exp"],
+                "format exp\nlabel []\ncommands 238\nneedles 1\ntrims 0\nstops 0\nextent 30000 0 30000 0\nended yes\nblock 1 thread 1 needles 1\n",
+                &[],
             ),
             done!(
                 &["edit", "a.exp", "b.pes", "shift=29999,0"],
