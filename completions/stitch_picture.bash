@@ -1,0 +1,16 @@
+# Completions of stitch_picture for bash: a stitch file, and a picture to write. Folders are offered too.
+_stitch_picture() {
+    local word=${COMP_WORDS[COMP_CWORD]} file endings
+    compopt -o filenames 2>/dev/null
+    COMPREPLY=()
+    case $COMP_CWORD in
+        1) endings='[dD][sS][tT]|[eE][xX][pP]|[pP][eE][cCsS]|[lL][sS][tT]' ;;
+        2) endings=svg ;;
+        *) return ;;
+    esac
+    mapfile -t COMPREPLY < <(compgen -d -- "$word")
+    while IFS= read -r file; do
+        [[ $file =~ \.($endings)$ ]] && COMPREPLY+=("$file")
+    done < <(compgen -f -- "$word")
+}
+complete -F _stitch_picture stitch_picture
