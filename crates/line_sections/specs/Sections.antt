@@ -95,3 +95,7 @@ SectionsHaveSegments = (is_cut : Point → Bool) (points : List Point) → 2 ≤
 abbrev pub WholeLinesStay : Type 0
 WholeLinesStay = (lines : List LineValue) → All (λ line. 1 ≤ length line.points) lines
     → are_whole_lines lines ≡ true → all_sections lines ≡ lines
+
+-- The sections of lines are whole: they meet only at their ends.
+abbrev pub SectionsAreWhole : Type 0
+SectionsAreWhole = (lines : List LineValue) → are_whole_lines (all_sections lines) ≡ true

@@ -16,5 +16,5 @@ pub use cut_lines::sections;
 pub use line::Line;
 pub use points::first_point;
 pub use spot::Spot;
-pub use theorems::{sections_keep_segments, whole_lines_stay};
+pub use theorems::{sections_are_whole, sections_keep_segments, whole_lines_stay};
 pub use whole_lines::are_whole;
