@@ -27,6 +27,8 @@ mod PieceGraphFacts
 mod JoinedFacts
 mod SectionCosts
 mod KeptSections
+mod GrowingLimitLemmas
+mod GrowingLimitFacts
 mod ConnectedSpotLemmas
 mod ChosenSpotLemmas
 mod EndFacts

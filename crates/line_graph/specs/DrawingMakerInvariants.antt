@@ -1,5 +1,5 @@
--- Invariants of `DrawingMaker`, which makes a drawing block by block and line by line. No public
--- clause cites this file.
+-- Invariants of `DrawingMaker`, which makes a drawing block by block and line by line, and the
+-- limits of the parts of a growing drawing. Costs count steps.
 use Rattle.std.specs.Prelude.{◌≡◌, ℕ, ◌+◌, ◌<◌, ◌≤◌, ◌≢◌, Bool, List, length, map, All, Contains}
 use Rattle.std.specs.List.Sorted.{IsNonDecreasing}
 use Rattle.design_model.specs.Labels.{IsLabel}

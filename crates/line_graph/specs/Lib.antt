@@ -22,8 +22,9 @@ pub mod GrowingDrawings
 pub mod JoinedDrawings
 -- The junctions where walks must start and end.
 pub mod WalkEnds
--- Used only inside this crate: the maker of drawings.
+-- The maker of drawings, and that growing drawings keep their limits.
 pub mod DrawingMakerInvariants
+pub mod GrowingLimits
 -- Used only inside this crate: the pieces.
 pub mod LineLabels
 pub mod FirstLines

@@ -13,6 +13,7 @@ mod drawn_lines;
 mod edge;
 mod ends_maker;
 mod first_lines;
+mod growing_theorems;
 mod joined_drawing;
 mod junctions;
 mod limits;
@@ -36,6 +37,9 @@ pub use drawing_maker::{DrawingMaker, is_label_word};
 pub use drawn_lines::drawing_cost;
 pub use edge::{Edge, Edges};
 pub use ends_maker::EndsMaker;
+pub use growing_theorems::{
+    growing_drawings_keep_limits, joined_drawings_are_valid, walk_ends_keep_drawings_valid,
+};
 pub use joined_drawing::{join, joined};
 pub use limits::{MAX_BLOCKS, MAX_COST, MAX_LINES, MAX_POINTS};
 pub use line_sections::{Line, Spot};
