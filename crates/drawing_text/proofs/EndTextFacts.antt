@@ -14,10 +14,10 @@ abbrev text : List ℕ → List (List ℕ) → List ℕ
 text header more = flat_map (λ line. line ++ 10 ∷ []) (header ∷ codes "step 10" ∷ codes "color 1"
     ∷ codes "line 0 0 10 0 20 0" ∷ codes "line 10 5 10 0" ∷ more)
 
-abbrev spot : ℕ → ℕ → Spot
+abbrev pub spot : ℕ → ℕ → Spot
 spot x y = record { block = 0; at = place (pos x) (pos y) }
 
-abbrev crossed : List Spot → List Spot → DrawingValue
+abbrev pub crossed : List Spot → List Spot → DrawingValue
 crossed starts ends = record {
   label = [];
   step = 10;

@@ -9,3 +9,5 @@ mod PrintedLines
 mod PrintedDrawings
 mod DrawingTextFacts
 mod EndTextFacts
+mod ValidTextLemmas
+mod ValidTextFacts

@@ -1,6 +1,7 @@
 -- Definitions of a lower crate that public clauses cite.
 pub use Rattle.line_graph.specs.Drawings
 pub use Rattle.line_graph.specs.GrowingDrawings
+pub use Rattle.line_graph.specs.GrowingLimits
 pub use Rattle.line_graph.specs.JoinedDrawings
 pub use Rattle.line_graph.specs.WalkEnds
 pub mod Words
@@ -8,3 +9,4 @@ pub mod CanonicalTexts
 pub mod TextLines
 -- Read this one first: the drawing that a text describes, or its first fault.
 pub mod DrawingText
+pub mod ValidTexts

@@ -21,4 +21,4 @@ pub use draw_fault::DrawFault;
 pub use limits::MAX_TEXT;
 pub use printing::{print_drawing, print_drawing2};
 pub use reading::{read_as2, read_drawing};
-pub use theorems::{canonical_text_is_read, canonical_text2_is_read};
+pub use theorems::{canonical_text_is_read, canonical_text2_is_read, texts_define_valid_drawings};
