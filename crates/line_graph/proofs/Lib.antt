@@ -12,6 +12,7 @@ mod LimitFacts
 mod PieceFacts
 mod TrailLemmas
 mod SewnWalkLemmas
+mod DrawnWalkLemmas
 mod PieceLimits
 mod LabelLemmas
 mod LinkLemmas
@@ -23,6 +24,7 @@ mod ValidPieceLemmas
 mod PieceLabelLemmas
 mod BlockLemmas
 mod UniquePieceLemmas
+mod EveryPieceLemmas
 mod PieceGraphFacts
 mod JoinedFacts
 mod SectionCosts

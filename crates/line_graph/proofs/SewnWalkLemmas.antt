@@ -45,7 +45,7 @@ place_holds x (y ∷ ys) below = by_test (is_same_point x y) refl below (λ h. p
         less m n h = omega arith
 
 -- a junction's number leads to its point
-junction_at : (js : List Point) (o : Option Point) → junction_number js o < length js → slice_get js (junction_number js o) ≡ o
+pub junction_at : (js : List Point) (o : Option Point) → junction_number js o < length js → slice_get js (junction_number js o) ≡ o
 junction_at js None below = absurd (omega arith)
 junction_at js (Some x) below =
     let is : place_of x js ≡ position_or_len (is_same_point x) js =
@@ -57,11 +57,11 @@ junction_at js (Some x) below =
     one_more n = omega arith
 
 -- an edge that is found is that of its line
-record IsFound (d : DrawingValue) (js : List Point) (lines : List ℕ) (line : ℕ) (e : Edge) : Type 0 where
-  is : e ≡ edge_between d js line
-  held : Contains lines line
+pub record IsFound (d : DrawingValue) (js : List Point) (lines : List ℕ) (line : ℕ) (e : Edge) : Type 0 where
+  pub is : e ≡ edge_between d js line
+  pub held : Contains lines line
 
-found : (d : DrawingValue) (js : List Point) (lines : List ℕ) (line : ℕ) (e : Edge) → edge_of lines (map (edge_between d js) lines) line
+pub found : (d : DrawingValue) (js : List Point) (lines : List ℕ) (line : ℕ) (e : Edge) → edge_of lines (map (edge_between d js) lines) line
     ≡ Some e
     → IsFound d js lines line e
 found d js [] line e at = absurd (cc)
@@ -102,7 +102,7 @@ ends_at n (m ∷ lines) (x ∷ es) line e below is =
         subst (λ (y : Edge). (y.a < n) × (y.b < n)) same (less x.a n ends.0, less x.b n ends.1)
     by_test false is ends rest = rest is
 
-lost : (ns : List ℕ) (es : List Edge) (ps : List Pass) (to : ℕ) → walk_end_from ns es None ps ≡ Some to → ⊥
+pub lost : (ns : List ℕ) (es : List Edge) (ps : List Pass) (to : ℕ) → walk_end_from ns es None ps ≡ Some to → ⊥
 lost ns es [] to is = cc
 lost ns es (p ∷ ps) to is = lost ns es ps to is
 
@@ -118,13 +118,13 @@ record Sewn (d : DrawingValue) (lines : List ℕ) (js : List Point) (at : Point)
   count : length (later d walk) ≡ pass_sum lines (map (edge_between d js) lines) edge_cost walk
 
 -- a pass as needles
-record Passed (d : DrawingValue) (js : List Point) (pass : Pass) (e : Edge) : Type 0 where
-  from : Point
-  to : Point
-  from_is : slice_get js (pass_start e pass.back) ≡ Some from
-  to_is : slice_get js (pass_end e pass.back) ≡ Some to
-  trail : Trail d.step from to (needles_of_pass d pass)
-  count : length (needles_of_pass d pass) ≡ e.cost + 1
+pub record Passed (d : DrawingValue) (js : List Point) (pass : Pass) (e : Edge) : Type 0 where
+  pub from : Point
+  pub to : Point
+  pub from_is : slice_get js (pass_start e pass.back) ≡ Some from
+  pub to_is : slice_get js (pass_end e pass.back) ≡ Some to
+  pub trail : Trail d.step from to (needles_of_pass d pass)
+  pub count : length (needles_of_pass d pass) ≡ e.cost + 1
 
 -- a line's needles, forwards or back
 record Way (step : ℕ) (js : List Point) (e : Edge) (needles : List Point) (back : Bool) : Type 0 where
@@ -154,7 +154,7 @@ way step js e needles a b at_a at_b trail count false = record {
   count = count;
 }
 
-passed : (d : DrawingValue) → KeepsDrawingLimits d → NeedlesLeadAlong d → (lines : List ℕ) → All (λ line. line < length d.lines) lines
+pub passed : (d : DrawingValue) → KeepsDrawingLimits d → NeedlesLeadAlong d → (lines : List ℕ) → All (λ line. line < length d.lines) lines
     → (js : List Point) → ends_below (length js) (map (edge_between d js) lines) ≡ true
     → (pass : Pass) (e : Edge) → edge_of lines (map (edge_between d js) lines) pass.line ≡ Some e → Passed d js pass e
 passed d keeps law lines there js ends pass e at =

@@ -70,7 +70,7 @@ tips_seen d lines seen line among x tip =
         (λ k. λ found. λ y. λ tip. ap (list_any (is_same_point y)) whole ∙ found y tip) lines (each lines (with_points seen (ends line))))
 
 -- what is found has a number below the count
-found_below : (test : Point → Bool) (xs : List Point) → list_any test xs ≡ true → position_or_len test xs < length xs
+pub found_below : (test : Point → Bool) (xs : List Point) → list_any test xs ≡ true → position_or_len test xs < length xs
 found_below test [] found = absurd (cc)
 found_below test (x ∷ xs) found = by_test (test x) refl found (λ later. found_below test xs later)
   where

@@ -20,7 +20,7 @@ pairs_tail : {X : Type 0} (P : X → X → Type 0) (x : X) (xs : List X) → All
 pairs_tail P x xs pairs = λ i. λ j. λ d. λ less. λ below. pairs (suc i) (suc j) d (omega (arith, less)) (omega (arith, below))
 
 -- items of which neither order is a pair are one
-alike : {X : Type 0} (P : X → X → Type 0) (xs : List X) (x y : X) → AllPairs P xs → (P x y → ⊥) → (P y x → ⊥)
+pub alike : {X : Type 0} (P : X → X → Type 0) (xs : List X) (x y : X) → AllPairs P xs → (P x y → ⊥) → (P y x → ⊥)
     → Contains xs x → Contains xs y → x ≡ y
 alike P [] x y pairs never back (k, below, is) other = absurd (omega (arith, below))
 alike P (z ∷ xs) x y pairs never back (zero, below, is) (zero, within, at) = sym is ∙ at
@@ -67,13 +67,13 @@ lists_same f (x ∷ xs) (y ∷ ys) up rise to from =
     ap (λ z. z ∷ xs) same ∙ ap (λ zs. y ∷ zs) rest
 
 -- the piece that a line is in
-record IsAmong (pieces : List (List ℕ)) (line : ℕ) : Type 0 where
-  piece : List ℕ
-  there : Contains pieces piece
-  has : Contains piece line
+pub record IsAmong (pieces : List (List ℕ)) (line : ℕ) : Type 0 where
+  pub piece : List ℕ
+  pub there : Contains pieces piece
+  pub has : Contains piece line
 
 -- a line of all pieces is in one of them
-among : (pieces : List (List ℕ)) (line : ℕ) → Contains (concat pieces) line → IsAmong pieces line
+pub among : (pieces : List (List ℕ)) (line : ℕ) → Contains (concat pieces) line → IsAmong pieces line
 among [] line (k, below, is) = absurd (omega (arith, below))
 among (piece ∷ pieces) line has = elim (Contains-append_cases piece (concat pieces) line has) [
   | inl here ↦ record { piece = piece; there = (0, omega arith, refl); has = here }

@@ -16,6 +16,8 @@ pub mod ValidPieces
 pub mod PiecesOfDrawings
 pub mod Runs
 pub mod SewnWalks
+-- Walks as the needle sews them, without a graph.
+pub mod DrawnWalks
 pub mod UniquePieces
 pub mod LineNeedles
 pub mod GrowingDrawings

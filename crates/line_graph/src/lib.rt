@@ -49,6 +49,6 @@ pub use piece::{Piece, Pieces};
 pub use step_splitter::MAX_STEP;
 pub use theorems::{joined_drawings_stay, needles_lead_along, sections_keep_cost};
 pub use walk_theorems::{
-    fitting_walks_are_sewable, pieces_are_unique, pieces_keep_limits, runs_are_sewn,
-    spots_are_connected,
+    fitting_walks_are_sewable, fitting_walks_are_threads, given_points_are_junctions,
+    pieces_are_unique, pieces_are_valid, pieces_keep_limits, runs_are_sewn, spots_are_connected,
 };

@@ -1,9 +1,11 @@
+ghost use Rattle.line_graph.specs.DrawnWalks.{FittingWalksAreThreads, GivenPointsAreJunctions, PiecesAreValid};
 ghost use Rattle.line_graph.specs.UniquePieces.{PiecesAreUnique};
 ghost use Rattle.line_graph.specs.Runs.{RunsAreSewn};
 ghost use Rattle.line_graph.specs.SewnWalks.{FittingWalksAreSewable, PiecesKeepLimits};
 ghost use Rattle.line_graph.specs.WalkEnds.{SpotsAreConnected};
 
 use crate::theorems::needles_lead_along;
+use step_splitter::split_points_lead;
 
 /// Theorem: the design of runs sews the runs, where each has a needle point.
 pub fn runs_are_sewn()
@@ -16,6 +18,26 @@ pub fn fitting_walks_are_sewable()
     ensures { FittingWalksAreSewable }
 {
     needles_lead_along();
+}
+
+/// Theorem: the fitting walks over the graph of a piece are the threads over its lines: they follow its
+/// lines alone, from point to point, each at least once, from the given start to the given end.
+pub fn fitting_walks_are_threads()
+    ensures { FittingWalksAreThreads }
+{
+    needles_lead_along();
+}
+
+/// Theorem: the junctions that the graph of a piece has as start and end are those at the given points.
+pub fn given_points_are_junctions()
+    ensures { GivenPointsAreJunctions }
+{}
+
+/// Theorem: the graphs of the pieces of a drawing are valid.
+pub fn pieces_are_valid()
+    ensures { PiecesAreValid }
+{
+    split_points_lead();
 }
 
 /// Theorem: the pieces of a drawing are within its limits in cost and number. Walks that follow the pieces

@@ -2,6 +2,7 @@ mod Sums
 mod Crossing
 mod Degrees
 mod Duality
+mod DrawnCutLemmas
 mod Totals
 mod TableLemmas
 mod PlaceLemmas

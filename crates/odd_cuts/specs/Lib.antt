@@ -2,6 +2,8 @@ pub mod Cuts
 -- Read this one first: what a packing of odd cuts is.
 pub mod Packings
 pub mod PackingBounds
+-- Packings over the lines of a drawing, without a graph.
+pub mod DrawnCuts
 pub mod Certificates
 pub mod Faults
 pub mod WalkFaults

@@ -22,5 +22,7 @@ pub use cut_check::check_cuts;
 pub use fault_theorems::{cut_faults_are_exact, walk_faults_are_exact};
 pub use faults::{CutFault, WalkFault};
 pub use slices::{first_and_rest, first_lent};
-pub use theorems::{packings_bound_walks, packings_keep_their_total, packings_prove_least};
+pub use theorems::{
+    packings_are_over_lines, packings_bound_walks, packings_keep_their_total, packings_prove_least,
+};
 pub use walk_check::check_walk;

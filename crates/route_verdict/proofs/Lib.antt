@@ -2,4 +2,6 @@ mod SewLemmas
 mod ActOrderLemmas
 mod SameActs
 mod VerdictLemmas
+mod RedworkLemmas
 mod VerdictFacts
+mod RedworkFacts

@@ -20,6 +20,8 @@ use Rattle.line_graph.specs.declared.pass.Pass.{Pass}
 use Rattle.line_graph.specs.declared.piece.Piece.{Piece}
 use Rattle.line_graph.specs.PiecesOfDrawings.{ArePiecesOf, graph_of, lines_of_pieces}
 use Rattle.line_graph.specs.Drawings.{DrawingValue, KeepsDrawingLimits}
+use Rattle.line_graph.specs.DrawnWalks.{PiecesAreValid}
+use Rattle.line_graph.specs.Pieces.{ArePieces}
 use Rattle.line_graph.specs.ValidPieces.{IsValidPiece}
 use Rattle.line_graph.specs.PieceGraphs.{PieceValue, piece_graph}
 use Rattle.line_graph.specs.PieceWalks.{IsLeastWalk, is_fitting_walk, piece_cost, walk_cost}
@@ -29,10 +31,11 @@ use Rattle.route_verdict.specs.declared.verdict.Reason.{Reason}
 use Rattle.route_verdict.specs.declared.verdict.Reason.TheVariants as reason
 use Rattle.route_verdict.specs.declared.verdict.Verdict.{Verdict}
 use Rattle.route_verdict.specs.declared.verdict.Verdict.TheVariants as verdict
+use Rattle.route_verdict.specs.VerdictTheorems.{CorrectRoutesAreAccepted}
 use Rattle.route_verdict.proofs.SameActs.{no_difference, none_with_itself}
 use Rattle.odd_cuts.specs.Certificates.{walks_of}
 use Rattle.route_verdict.specs.SewingSteps.{AllDrawn, AreDrawn}
-use Rattle.route_verdict.specs.Verdicts.{IsCorrectRoute, IsCorrectPieceCert, HasShortLists, IsVerdictOver, SewsLeast, acts_reason, cost_above, count_reason, cuts_reason, difference_of, piece_reason, pieces_reason, reason_of, retraced_reason, verdict_of_reason, walk_reason}
+use Rattle.route_verdict.specs.Verdicts.{IsCorrectRoute, IsCorrectPieceCert, HasShortLists, IsVerdictOver, acts_reason, cost_above, count_reason, cuts_reason, difference_of, piece_reason, pieces_reason, reason_of, retraced_reason, verdict_of, verdict_of_reason, walk_reason}
 
 -- one piece on
 pub reasons_next : (pieces rest : List Piece) (certs more : List PieceCert) (p : Piece) (cert : PieceCert) (number : ℕ)
@@ -125,40 +128,37 @@ piece_told walks cuts p keeps number cert right =
     below : (w c r : ℕ) → w ≡ c + r → r ≡ w - c
     below w c r is = omega arith
 
--- the certificate of the piece is correct
-abbrev RightOf : Piece → PieceCert → Type 0
-RightOf p cert = IsCorrectPieceCert (graph_of p) cert
-
-pieces_right : WalkFaultsAreExact → CutFaultsAreExact → BoundsWalks → (pieces : List Piece) (certs : List PieceCert) (number : ℕ)
-    → length certs ≡ length pieces → pieces_reason number (map graph_of pieces) certs ≡ None → AllZip RightOf pieces certs
-pieces_right walks cuts bounds [] [] number long none = tt
-pieces_right walks cuts bounds [] (c ∷ certs) number long none = absurd (omega (arith, long))
-pieces_right walks cuts bounds (p ∷ pieces) [] number long none = absurd (omega (arith, long))
-pieces_right walks cuts bounds (p ∷ pieces) (c ∷ certs) number long none =
-    let both = both_none (piece_reason (graph_of p) number c) (pieces_reason (number + 1) (map graph_of pieces) certs) none in (
-      piece_right walks cuts bounds (graph_of p) p.kept number c both.0,
-      pieces_right walks cuts bounds pieces certs (number + 1) (omega (arith, long)) both.1,
+pieces_right : WalkFaultsAreExact → CutFaultsAreExact → BoundsWalks → (graphs : List PieceValue) (certs : List PieceCert) (number : ℕ)
+    → All IsValidPiece graphs → length certs ≡ length graphs → pieces_reason number graphs certs ≡ None → AllZip IsCorrectPieceCert graphs certs
+pieces_right walks cuts bounds [] [] number kept long none = tt
+pieces_right walks cuts bounds [] (c ∷ certs) number kept long none = absurd (omega (arith, long))
+pieces_right walks cuts bounds (p ∷ graphs) [] number kept long none = absurd (omega (arith, long))
+pieces_right walks cuts bounds (p ∷ graphs) (c ∷ certs) number kept long none =
+    let both = both_none (piece_reason p number c) (pieces_reason (number + 1) graphs certs) none in (
+      piece_right walks cuts bounds p (All-head IsValidPiece p graphs kept) number c both.0,
+      pieces_right walks cuts bounds graphs certs (number + 1) (All-tail IsValidPiece p graphs kept) (omega (arith, long)) both.1,
     )
 
-pieces_told : WalkFaultsAreExact → CutFaultsAreExact → (pieces : List Piece) (certs : List PieceCert) (number : ℕ)
-    → AllZip RightOf pieces certs → (length certs ≡ length pieces) × (pieces_reason number (map graph_of pieces) certs ≡ None)
-pieces_told walks cuts [] [] number right = (refl, refl)
-pieces_told walks cuts [] (c ∷ certs) number right = absurd right
-pieces_told walks cuts (p ∷ pieces) [] number right = absurd right
-pieces_told walks cuts (p ∷ pieces) (c ∷ certs) number right =
-    let rest = pieces_told walks cuts pieces certs (number + 1) right.1 in
-    (omega (arith, rest.0), rw (piece_told walks cuts (graph_of p) p.kept number c right.0, rest.1) refl)
+pieces_told : WalkFaultsAreExact → CutFaultsAreExact → (graphs : List PieceValue) (certs : List PieceCert) (number : ℕ)
+    → All IsValidPiece graphs → AllZip IsCorrectPieceCert graphs certs
+    → (length certs ≡ length graphs) × (pieces_reason number graphs certs ≡ None)
+pieces_told walks cuts [] [] number kept right = (refl, refl)
+pieces_told walks cuts [] (c ∷ certs) number kept right = absurd right
+pieces_told walks cuts (p ∷ graphs) [] number kept right = absurd right
+pieces_told walks cuts (p ∷ graphs) (c ∷ certs) number kept right =
+    let rest = pieces_told walks cuts graphs certs (number + 1) (All-tail IsValidPiece p graphs kept) right.1 in
+    (omega (arith, rest.0), rw (piece_told walks cuts p (All-head IsValidPiece p graphs kept) number c right.0, rest.1) refl)
 
 -- each walk of right pieces is least
-least_of : ProvesLeast → (pieces : List Piece) (certs : List PieceCert) → AllZip RightOf pieces certs
-    → AllZip (λ (p : Piece) (cert : PieceCert). IsLeastWalk (graph_of p) cert.walk) pieces certs
-least_of proves [] [] right = tt
-least_of proves [] (c ∷ certs) right = absurd right
-least_of proves (p ∷ pieces) [] right = absurd right
-least_of proves (p ∷ pieces) (c ∷ certs) right = (
-  proves (graph_of p) c.cuts c.walk p.kept right.0.packing (twice (total_weight c.cuts) c.retraced (piece_cost (graph_of p))
-      (walk_cost (graph_of p) c.walk) right.0.total right.0.retraced),
-  least_of proves pieces certs right.1,
+least_of : ProvesLeast → (graphs : List PieceValue) (certs : List PieceCert) → All IsValidPiece graphs → AllZip IsCorrectPieceCert graphs certs
+    → AllZip (λ p cert. IsLeastWalk p cert.walk) graphs certs
+least_of proves [] [] kept right = tt
+least_of proves [] (c ∷ certs) kept right = absurd right
+least_of proves (p ∷ graphs) [] kept right = absurd right
+least_of proves (p ∷ graphs) (c ∷ certs) kept right = (
+  proves p c.cuts c.walk (All-head IsValidPiece p graphs kept) right.0.packing (twice (total_weight c.cuts) c.retraced (piece_cost p)
+      (walk_cost p c.walk) right.0.total right.0.retraced),
+  least_of proves graphs certs (All-tail IsValidPiece p graphs kept) right.1,
 )
   where
     twice : (t r c w : ℕ) → t ≡ 2 * r → w ≡ c + r → t + 2 * c ≡ 2 * w
@@ -168,29 +168,20 @@ least_of proves (p ∷ pieces) (c ∷ certs) right = (
 abbrev IsCut : DrawingValue → Piece → Type 0
 IsCut d p = graph_of p ≡ piece_graph d p.lines
 
-to_lines : (d : DrawingValue) (R : PieceValue → PieceCert → Type 0) (pieces : List Piece) (certs : List PieceCert) → All (IsCut d) pieces
-    → AllZip (λ (p : Piece) cert. R (graph_of p) cert) pieces certs
-    → AllZip (λ lines cert. R (piece_graph d lines) cert) (lines_of_pieces pieces) certs
-to_lines d R [] [] each all = tt
-to_lines d R [] (c ∷ certs) each all = absurd all
-to_lines d R (p ∷ pieces) [] each all = absurd all
-to_lines d R (p ∷ pieces) (c ∷ certs) each all = (
-  subst (λ (g : PieceValue). R g c) (All-head (IsCut d) p pieces each) all.0,
-  to_lines d R pieces certs
-      (All-tail (IsCut d) p pieces each) all.1,
-)
+-- what holds of graphs and certificates holds of the lines of the pieces
+over_lines : (f : List ℕ → PieceValue) (R : PieceValue → PieceCert → Type 0) (pieces : List (List ℕ)) (certs : List PieceCert)
+    → AllZip R (map f pieces) certs → AllZip (λ lines cert. R (f lines) cert) pieces certs
+over_lines f R [] [] all = tt
+over_lines f R [] (c ∷ certs) all = absurd all
+over_lines f R (lines ∷ pieces) [] all = absurd all
+over_lines f R (lines ∷ pieces) (c ∷ certs) all = (all.0, over_lines f R pieces certs all.1)
 
-from_lines : (d : DrawingValue) (R : PieceValue → PieceCert → Type 0) (pieces : List Piece) (certs : List PieceCert)
-    → All (IsCut d) pieces
-    → AllZip (λ lines cert. R (piece_graph d lines) cert) (lines_of_pieces pieces) certs
-    → AllZip (λ (p : Piece) cert. R (graph_of p) cert) pieces certs
-from_lines d R [] [] each all = tt
-from_lines d R [] (c ∷ certs) each all = absurd all
-from_lines d R (p ∷ pieces) [] each all = absurd all
-from_lines d R (p ∷ pieces) (c ∷ certs) each all = (
-  subst (λ (g : PieceValue). R g c) (sym (All-head (IsCut d) p pieces each)) all.0,
-  from_lines d R pieces certs (All-tail (IsCut d) p pieces each) all.1,
-)
+over_graphs : (f : List ℕ → PieceValue) (R : PieceValue → PieceCert → Type 0) (pieces : List (List ℕ)) (certs : List PieceCert)
+    → AllZip (λ lines cert. R (f lines) cert) pieces certs → AllZip R (map f pieces) certs
+over_graphs f R [] [] all = tt
+over_graphs f R [] (c ∷ certs) all = absurd all
+over_graphs f R (lines ∷ pieces) [] all = absurd all
+over_graphs f R (lines ∷ pieces) (c ∷ certs) all = (all.0, over_graphs f R pieces certs all.1)
 
 graphs_are : (d : DrawingValue) (pieces : List Piece) → All (IsCut d) pieces
     → map graph_of pieces ≡ map (piece_graph d) (lines_of_pieces pieces)
@@ -198,6 +189,10 @@ graphs_are d [] each = refl
 graphs_are d (p ∷ pieces) each =
     ap (λ (g : PieceValue). g ∷ map graph_of pieces) (All-head (IsCut d) p pieces each)
     ∙ ap (λ (gs : List PieceValue). piece_graph d p.lines ∷ gs) (graphs_are d pieces (All-tail (IsCut d) p pieces each))
+
+graphs_kept : (pieces : List Piece) → All IsValidPiece (map graph_of pieces)
+graphs_kept [] = All-nil IsValidPiece
+graphs_kept (p ∷ pieces) = All-cons IsValidPiece (graph_of p) (map graph_of pieces) p.kept (graphs_kept pieces)
 
 -- right walks go along lines of the drawing
 along : (d : DrawingValue) (p : Piece) (walk : List Pass) → All (λ line. line < length d.lines) p.lines
@@ -259,61 +254,79 @@ pieces_few d pieces keeps limits cut =
     let within : ArePiecesWithin d (lines_of_pieces pieces) = limits d (lines_of_pieces pieces) keeps cut.are in
     omega (arith, within.count, length-map pieces (λ (p : Piece). p.lines))
 
+-- the verdict over the pieces of a drawing
+module _ (walks : WalkFaultsAreExact) (cuts : CutFaultsAreExact) (bounds : BoundsWalks) (proves : ProvesLeast) (d : DrawingValue)
+    (pieces : List (List ℕ)) (design : DesignValue) (certs : List PieceCert) (are : ArePieces d pieces)
+    (kept : All IsValidPiece (map (piece_graph d) pieces)) where
+  abbrev graphs : List PieceValue
+  graphs = map (piece_graph d) pieces
+
+  abbrev later : Option Reason
+  later = first_fault (pieces_reason 1 (map (piece_graph d) pieces) certs) (acts_reason (difference_of d design certs))
+
+  yes_none : (r : Option Reason) → verdict_of_reason r ≡ verdict.Yes → r ≡ None
+  yes_none None is = refl
+  yes_none (Some wrong) is = absurd (cc)
+
+  each : reason_of d graphs design certs ≡ None → AllZip IsCorrectPieceCert graphs certs
+  each is =
+      let first = both_none (count_reason (length certs) (length graphs)) later is in
+      let second = both_none (pieces_reason 1 graphs certs) (acts_reason (difference_of d design certs)) first.1 in
+      pieces_right walks cuts bounds graphs certs 1 kept (count_none (length certs) (length graphs) first.0) second.0
+
+  right : reason_of d graphs design certs ≡ None → IsCorrectRoute d pieces design certs
+  right is =
+      let first = both_none (count_reason (length certs) (length graphs)) later is in
+      let second = both_none (pieces_reason 1 graphs certs) (acts_reason (difference_of d design certs)) first.1 in
+      record {
+        each = over_lines (piece_graph d) IsCorrectPieceCert pieces certs (each is);
+        sews = no_difference 1 (acts_without_numbers (acts_of design)) (sewn_acts (runs_of d (walks_of certs)))
+            (acts_none (difference_of d design certs) second.1);
+      }
+
+  no_reason : IsCorrectRoute d pieces design certs → reason_of d graphs design certs ≡ None
+  no_reason all =
+      let told = pieces_told walks cuts graphs certs 1 kept (over_graphs (piece_graph d) IsCorrectPieceCert pieces certs all.each) in
+      let same : difference_of d design certs ≡ None = rw all.sews (none_with_itself 1 (sewn_acts (runs_of d (walks_of certs)))) in
+      rw (tested (length certs) (length graphs) told.0, told.1, same) refl
+
+  pub verdict_over : IsVerdictOver d pieces design certs (verdict_of d pieces design certs)
+  verdict_over = record {
+    pieces_are = are;
+    is = refl;
+    exact = (
+      λ said. right (yes_none (reason_of d graphs design certs) said),
+      λ all. ap (λ r. verdict_of_reason r) (no_reason all),
+    );
+    least = λ said. over_lines (piece_graph d) (λ p cert. IsLeastWalk p cert.walk) pieces certs
+        (least_of proves graphs certs kept (each (yes_none (reason_of d graphs design certs) said)));
+  }
+
 -- the verdict by the first reason is that over the pieces of the drawing
 pub verdict_right : (d : DrawingValue) (pieces : List Piece) (design : DesignValue) (certs : List PieceCert) (found : Option Reason)
     (given : Verdict)
     → WalkFaultsAreExact → CutFaultsAreExact → BoundsWalks → ProvesLeast → ArePiecesOf d pieces
     → found ≡ reason_of d (map graph_of pieces) design certs → given ≡ verdict_of_reason found
     → IsVerdictOver d (lines_of_pieces pieces) design certs given
-verdict_right d pieces design certs found given walks cuts bounds proves cut found_is given_is = record {
-  pieces_are = cut.are;
-  is = given_is ∙ ap (λ r. verdict_of_reason r) found_is ∙ ap (λ (gs : List PieceValue). verdict_of_reason (reason_of d gs design certs))
-      (graphs_are d pieces cut.each);
-  exact = (λ said. right (none said), λ all. given_is ∙ ap (λ r. verdict_of_reason r) (found_is ∙ no_reason all));
-  least = λ said. to_lines d (λ p cert. IsLeastWalk p cert.walk) pieces certs cut.each (least_of proves pieces certs (each (none said)));
-}
+verdict_right d pieces design certs found given walks cuts bounds proves cut found_is given_is =
+    let same = graphs_are d pieces cut.each in
+    subst (λ (v : Verdict). IsVerdictOver d (lines_of_pieces pieces) design certs v)
+    (sym (given_is ∙ ap (λ r. verdict_of_reason r) found_is ∙ ap (λ (gs : List PieceValue). verdict_of_reason (reason_of d gs design certs)) same))
+    (verdict_over walks cuts bounds proves d (lines_of_pieces pieces) design certs cut.are (subst (All IsValidPiece) same (graphs_kept pieces)))
+
+-- a correct route is judged yes
+pub correct_is_yes : WalkFaultsAreExact → CutFaultsAreExact → BoundsWalks → ProvesLeast → PiecesAreValid → CorrectRoutesAreAccepted
+correct_is_yes walks cuts bounds proves valid d pieces design certs keeps are all =
+    let kept = All-over (piece_graph d) pieces (valid d pieces keeps are) in
+    let over = verdict_over walks cuts bounds proves d pieces design certs are kept in
+    record {
+      pieces = pieces;
+      is = subst (λ (v : Verdict). IsVerdictOver d pieces design certs v) (over.exact.1 all) over;
+    }
   where
-    graphs : List PieceValue
-    graphs = map graph_of pieces
-
-    yes_none : (r : Option Reason) → verdict_of_reason r ≡ verdict.Yes → r ≡ None
-    yes_none None is = refl
-    yes_none (Some wrong) is = absurd (cc)
-
-    none : given ≡ verdict.Yes → reason_of d graphs design certs ≡ None
-    none said = sym found_is ∙ yes_none found (sym given_is ∙ said)
-
-    later : Option Reason
-    later = first_fault (pieces_reason 1 graphs certs) (acts_reason (difference_of d design certs))
-
-    each : reason_of d graphs design certs ≡ None → AllZip RightOf pieces certs
-    each is =
-        let first = both_none (count_reason (length certs) (length graphs)) later is in
-        let second = both_none (pieces_reason 1 graphs certs) (acts_reason (difference_of d design certs)) first.1 in
-        pieces_right walks cuts bounds pieces certs 1 (count_none (length certs) (length graphs) first.0
-        ∙ length-map pieces graph_of) second.0
-
-    right : reason_of d graphs design certs ≡ None → IsCorrectRoute d (lines_of_pieces pieces) design certs
-    right is =
-        let first = both_none (count_reason (length certs) (length graphs)) later is in
-        let second = both_none (pieces_reason 1 graphs certs) (acts_reason (difference_of d design certs)) first.1 in
-        record {
-          each = to_lines d IsCorrectPieceCert pieces certs cut.each (each is);
-          sews = no_difference 1 (acts_without_numbers (acts_of design)) (sewn_acts (runs_of d (walks_of certs)))
-              (acts_none (difference_of d design certs) second.1);
-        }
-
-    no_reason : IsCorrectRoute d (lines_of_pieces pieces) design certs → reason_of d graphs design certs ≡ None
-    no_reason all =
-        let told = pieces_told walks cuts pieces certs 1 (from_lines d IsCorrectPieceCert pieces certs cut.each all.each) in
-        let same : difference_of d design certs ≡ None = rw all.sews (none_with_itself 1 (sewn_acts (runs_of d (walks_of certs)))) in
-        let count : (length certs == length graphs) ≡ true = tested (length certs) (length graphs)
-        (told.0 ∙ sym (length-map pieces graph_of)) in
-        rw (count, told.1, same) refl
-
--- a design that the verdict takes sews least walks
-pub sews_least : (d : DrawingValue) (pieces : List (List ℕ)) (design : DesignValue) (certs : List PieceCert) (given : Verdict)
-    → IsVerdictOver d pieces design certs given → given ≡ verdict.Yes → SewsLeast d design certs
-sews_least d pieces design certs given is said =
-    let right = is.exact.0 said in
-    record { pieces = pieces; pieces_are = is.pieces_are; right = right.each; least = is.least said; sews = right.sews }
+    All-over : (f : List ℕ → PieceValue) (pieces : List (List ℕ)) → All (λ lines. IsValidPiece (f lines)) pieces
+        → All IsValidPiece (map f pieces)
+    All-over f [] all = All-nil IsValidPiece
+    All-over f (lines ∷ pieces) all =
+        All-cons IsValidPiece (f lines) (map f pieces) (All-head (λ lines. IsValidPiece (f lines)) lines pieces all)
+        (All-over f pieces (All-tail (λ lines. IsValidPiece (f lines)) lines pieces all))

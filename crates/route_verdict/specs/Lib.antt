@@ -7,5 +7,8 @@ pub mod SewingSteps
 pub mod ActSteps
 -- The first act of a design that differs from the sewn ones.
 pub mod ActOrder
--- Read this one first: the verdict on a drawing, a design and a certificate.
+-- Read this one first: what a yes means.
+pub mod LeastRedwork
+-- The verdict on a drawing, a design and a certificate.
 pub mod Verdicts
+pub mod VerdictTheorems

@@ -119,15 +119,6 @@ pub record IsVerdict (d : DrawingValue) (design : DesignValue) (certs : List Pie
   pub pieces : List (List ℕ)
   pub is : IsVerdictOver d pieces design certs given
 
--- A design sews each piece of a drawing by a least walk.
-pub record SewsLeast (d : DrawingValue) (design : DesignValue)
-    (certs : List PieceCert) : Type 0 where
-  pub pieces : List (List ℕ)
-  pub pieces_are : ArePieces d pieces
-  pub right : AllZip (λ lines cert. IsCorrectPieceCert (piece_graph d lines) cert) pieces certs
-  pub least : AllZip (λ lines cert. IsLeastWalk (piece_graph d lines) cert.walk) pieces certs
-  pub sews : Sews d (walks_of certs) (acts_of design)
-
 -- The lists of a certificate are not too long, and no member of a cut is the greatest index.
 pub record HasShortLists (cert : PieceCert) : Type 0 where
   pub walk : length cert.walk < 2 ^ 32 - 1

@@ -1,11 +1,13 @@
 ghost use Rattle.std.specs.Prelude.{◌≡◌, ◌-◌, ◌<◌, ◌^◌, All, IfOk, length, map};
 ghost use Rattle.line_graph.specs.PiecesOfDrawings.{ArePiecesOf, graph_of, lines_of_pieces};
-ghost use Rattle.route_verdict.specs.Verdicts.{HasShortLists, IsVerdict, IsVerdictOver, SewsLeast, reason_of, difference_of, acts_reason, verdict_of_reason};
+ghost use Rattle.route_verdict.specs.LeastRedwork.{IsLeastRedwork};
+ghost use Rattle.route_verdict.specs.Verdicts.{HasShortLists, IsVerdict, IsVerdictOver, reason_of, difference_of, acts_reason, verdict_of_reason};
 ghost use Rattle.route_verdict.specs.SewingSteps.{AllDrawn};
 ghost use Rattle.route_verdict.specs.declared.verdict.Verdict.TheVariants as verdict;
 
 use crate::act_order::first_difference;
 use crate::piece_reasons::{wrong_count, wrong_piece};
+use crate::theorems::yes_is_least_redwork;
 use crate::verdict::{Reason, Verdict};
 use design_model::{Design, Memory, acts};
 use line_graph::{Drawing, Piece, fitting_walks_are_sewable, pieces, pieces_keep_limits};
@@ -24,8 +26,10 @@ pub fn judge(alloc: Global, d: &Drawing, design: &Design, cert: &Cert) -> Result
     requires short { All HasShortLists cert.now.pieces }
     ensures verdict { IfOk result (IsVerdict d.now design.now cert.now.pieces) }
     ensures least { IfOk result (λ given. given ≡ verdict.Yes
-        → SewsLeast d.now design.now cert.now.pieces) }
+        → IsLeastRedwork d.now design.now cert.now.pieces) }
 {
+    d.keeps_limits();
+    yes_is_least_redwork();
     let pieces = pieces(alloc, d)?;
     let given = judge_pieces(alloc, d, pieces.as_slice(), design, cert)?;
     Ok(given)

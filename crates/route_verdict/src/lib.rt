@@ -5,6 +5,7 @@ mod act_order;
 mod judging;
 mod piece_reasons;
 mod sewing;
+mod theorems;
 mod verdict;
 #[cfg(test)]
 mod verdict_tests;
@@ -12,4 +13,5 @@ mod walk_needles;
 
 pub use judging::{judge, judge_pieces};
 pub use sewing::sew;
+pub use theorems::{correct_routes_are_accepted, yes_is_least_redwork};
 pub use verdict::{Reason, Verdict};
