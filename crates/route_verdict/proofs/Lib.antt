@@ -5,3 +5,4 @@ mod VerdictLemmas
 mod RedworkLemmas
 mod VerdictFacts
 mod RedworkFacts
+mod CorrectRouteFacts

@@ -1,18 +1,25 @@
 -- What the headline takes and refuses. Three lines lead from one point to another in one, two and two steps. A closed thread sews one of
 -- them again, and the first is the shortest: by hand 5 + 1 steps, so 7 needle points. With the second again it is one more.
-use Rattle.std.proofs.Common.{◌≡◌, ◌≤◌, ℕ, pos, negsuc, true, false, List, [], ◌∷◌, None, Some, length, map, Contains, arith, refl}
+use Rattle.std.proofs.Common.{◌≡◌, ◌≤◌, ℕ, ◌+◌, ◌*◌, pos, negsuc, true, false, List, [], ◌∷◌, None, Some, length, map, sum_by, Contains, IsTrue, arith, refl}
 use Rattle.std.proofs.lemmas.List.Elements.{All-cons, All-nil}
+use Rattle.std.specs.List.{AllZip, list_all}
 use Rattle.odd_cuts.specs.declared.certificate.PieceCert.{PieceCert}
 use Rattle.odd_cuts.specs.declared.cut.Cut.{Cut}
+use Rattle.odd_cuts.specs.Certificates.{walks_of}
+use Rattle.odd_cuts.specs.DrawnCuts.{IsPackingOver}
 use Rattle.design_model.specs.declared.point.Point.{Point}
+use Rattle.design_model.specs.Acts.{acts_of, acts_without_numbers}
 use Rattle.design_model.specs.Designs.{DesignValue}
+use Rattle.design_model.specs.Points.{is_point_within}
 use Rattle.line_graph.specs.declared.pass.Pass.{Pass}
 use Rattle.line_graph.specs.Drawings.{DrawingValue}
 use Rattle.line_graph.specs.DrawnWalks.{IsThreadOver}
 use Rattle.line_graph.specs.PieceGraphs.{piece_graph}
 use Rattle.line_graph.specs.PieceWalks.{is_fitting_walk}
-use Rattle.line_graph.specs.Walks.{needles_of_walk}
-use Rattle.route_verdict.specs.LeastRedwork.{IsLeastRoute, IsLeastThread}
+use Rattle.line_graph.specs.Pieces.{ArePieces}
+use Rattle.line_graph.specs.Runs.{runs_of, sewn_acts}
+use Rattle.line_graph.specs.Walks.{cost_of_line, needles_of_walk}
+use Rattle.route_verdict.specs.LeastRedwork.{IsLeastRedwork, IsLeastRoute, IsLeastThread}
 
 abbrev start_point : Point
 start_point = record { x = pos 0; y = pos 0 }
@@ -91,3 +98,30 @@ longer_isnt_least cuts is = one_more (is.least shortest shortest_is_thread)
 pub too_far : (d : DrawingValue) (design : DesignValue) (certs : List PieceCert)
     → IsLeastRoute d design certs 121 (record { x = pos 122; y = pos 0 } ∷ []) → ⊥
 too_far d design certs is = let far : false ≡ true = is.within in cc
+
+-- a thread over lines, of which no other has fewer needle points, with a packing of twice the steps that it sews again
+abbrev IsProvedLeast : DrawingValue → List ℕ → PieceCert → Type 0
+IsProvedLeast d lines c = IsThreadOver d lines c.walk
+    × ((other : List Pass) → IsThreadOver d lines other → length (needles_of_walk d c.walk) ≤ length (needles_of_walk d other))
+    × (length (needles_of_walk d c.walk) ≡ 1 + c.retraced + sum_by (cost_of_line d) lines)
+    × IsPackingOver d lines c.cuts × (sum_by (λ (cut : Cut). cut.weight) c.cuts ≡ c.retraced * 2)
+
+proved : (d : DrawingValue) (lines : List ℕ) (c : PieceCert) → IsLeastThread d lines c → IsProvedLeast d lines c
+proved d lines c is = (is.thread, is.least, omega (arith, is.penetrations), is.packing, omega (arith, is.total))
+
+all_proved : (d : DrawingValue) (pieces : List (List ℕ)) (certs : List PieceCert) → AllZip (IsLeastThread d) pieces certs
+    → AllZip (IsProvedLeast d) pieces certs
+all_proved d [] [] are = are
+all_proved d [] (c ∷ certs) are = are
+all_proved d (lines ∷ pieces) [] are = are
+all_proved d (lines ∷ pieces) (c ∷ certs) are = (proved d lines c are.0, all_proved d pieces certs are.1)
+
+-- the headline in other words: what is read of it, and that the acts are those of the threads
+pub known_meaning : (d : DrawingValue) (design : DesignValue) (certs : List PieceCert) (limit : ℕ) (moves : List Point)
+    → IsLeastRoute d design certs limit moves
+    → (pieces : List (List ℕ)) × ArePieces d pieces × AllZip (IsProvedLeast d) pieces certs
+    × (acts_without_numbers (acts_of design) ≡ sewn_acts (runs_of d (walks_of certs)))
+    × IsTrue (list_all (is_point_within limit) moves)
+known_meaning d design certs limit moves is =
+    let r = is.redwork in
+    (r.pieces, r.pieces_are, all_proved d r.pieces certs r.threads, r.sewn, is.within)
