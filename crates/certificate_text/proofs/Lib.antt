@@ -11,3 +11,4 @@ mod ReadTexts
 mod ItemPuts
 mod TextLengths
 mod FirstBadLines
+mod FirstBadLineFacts
