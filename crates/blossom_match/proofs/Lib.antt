@@ -38,3 +38,4 @@ pub mod LoweredLemmas
 pub mod EndLemmas
 pub mod AdjustmentLemmas
 pub mod InitialDualLemmas
+mod OptimalMatchingFacts
