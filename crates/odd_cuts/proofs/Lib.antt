@@ -13,3 +13,4 @@ mod ExactCuts
 mod WalkFaultFacts
 mod CutFaultFacts
 mod PieceExamples
+mod PackingFacts

@@ -103,6 +103,16 @@ known_wrong_start = refl
 pub known_wrong_end : walk_fault (star (Some 1) (Some 2)) way ≡ Some fault.WrongEnd
 known_wrong_end = refl
 
+-- the passes are judged before the ends
+pub known_passes_first : (walk_fault (star (Some 3) (Some 1)) (back 0 ∷ forth 1 ∷ []) ≡ Some (fault.Stranger 2))
+    × (walk_fault (star (Some 3) (Some 1)) (back 0 ∷ back 0 ∷ []) ≡ Some (fault.Broken 2))
+    × (walk_fault (star (Some 3) (Some 1)) (forth 1 ∷ []) ≡ Some (fault.Stranger 1))
+known_passes_first = (refl, refl, refl)
+
+-- the start is judged before the end
+pub known_start_first : walk_fault (star (Some 3) (Some 3)) (back 0 ∷ forth 2 ∷ []) ≡ Some fault.WrongStart
+known_start_first = refl
+
 -- a single required junction is both start and end
 pub known_wrong_return : walk_fault (star None (Some 1)) way ≡ Some fault.WrongEnd
 known_wrong_return = refl
