@@ -147,6 +147,13 @@ pub known_steps : Faults (codes "step" ∷ []) 2 kind.BadWord
     × Faults (codes "step 9999999999999999999x" ∷ []) 2 kind.BadNumber
 known_steps = (refl, refl, refl, refl, refl, refl, refl, refl)
 
+-- where there may be no step, its number isn't judged
+pub known_steps_first : Faults (codes "color 1" ∷ codes "step x" ∷ []) 3 kind.BadWord
+    × Faults (codes "color 1" ∷ codes "step 2048" ∷ []) 3 kind.BadWord
+    × Faults (codes "step 9" ∷ codes "step 0" ∷ []) 3 kind.BadWord
+    × Faults (codes "step x 9" ∷ []) 2 kind.BadWord
+known_steps_first = (refl, refl, refl, refl)
+
 -- an empty block is found at the next block or at the end, and reported where it was opened
 pub known_blocks : Faults (codes "color 1 2" ∷ []) 2 kind.BadWord
     × Faults (codes "color 256" ∷ []) 2 kind.OutOfRange

@@ -67,6 +67,17 @@ pub known_earlier : (drawing_of (text (codes "redwork 2") (codes "start 0 0" ∷
     × (drawing_of (text (codes "redwork 1") (codes "end 0 0" ∷ [])) ≡ Err (record { number = 6; kind = kind.BadWord }))
 known_earlier = (refl, refl)
 
+-- not even before any block, where version 3 reports that there is none
+pub known_earlier_first : (drawing_of (codes "redwork 2" ++ 10 ∷ codes "start 0 0") ≡ Err (record { number = 2; kind = kind.BadWord }))
+    × (drawing_of (codes "redwork 1" ++ 10 ∷ codes "end 0 0") ≡ Err (record { number = 2; kind = kind.BadWord }))
+    × (drawing_of (codes "redwork 3" ++ 10 ∷ codes "end x") ≡ Err (record { number = 2; kind = kind.NoBlock }))
+known_earlier_first = (refl, refl, refl)
+
+-- the number of words is judged before the words
+pub known_count_first : Faults (codes "start x" ∷ []) 6 kind.BadWord × Faults (codes "end 0 0 x" ∷ []) 6 kind.BadWord
+    × Faults (codes "start 40000" ∷ []) 6 kind.BadWord
+known_count_first = (refl, refl, refl)
+
 -- and version 3 isn't read as version 2
 pub known_as2 : drawing_as2 (text (codes "redwork 3") []) ≡ Err (record { number = 1; kind = kind.BadHeader })
 known_as2 = refl
