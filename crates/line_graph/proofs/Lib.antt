@@ -34,3 +34,8 @@ mod GrowingLimitFacts
 mod ConnectedSpotLemmas
 mod ChosenSpotLemmas
 mod EndFacts
+mod LeastWalkFacts
+mod PieceListFacts
+mod ValidDrawingFacts
+mod SewnWalkFacts
+mod LimitOrderFacts
