@@ -1,6 +1,6 @@
 -- What the headline takes and refuses. Three lines lead from one point to another in one, two and two steps. A closed thread sews one of
 -- them again, and the first is the shortest: by hand 5 + 1 steps, so 7 needle points. With the second again it is one more.
-use Rattle.std.proofs.Common.{◌≡◌, ◌≤◌, ℕ, ◌+◌, ◌*◌, pos, negsuc, true, false, List, [], ◌∷◌, None, Some, length, map, sum_by, Contains, IsTrue, arith, refl}
+use Rattle.std.proofs.Common.{◌≡◌, ◌≤◌, ℕ, ◌+◌, ◌*◌, pos, negsuc, true, false, List, [], ◌∷◌, Some, length, map, sum_by, Contains, IsTrue, arith, refl}
 use Rattle.std.proofs.lemmas.List.Elements.{All-cons, All-nil}
 use Rattle.std.specs.List.{AllZip, list_all}
 use Rattle.odd_cuts.specs.declared.certificate.PieceCert.{PieceCert}
@@ -19,7 +19,7 @@ use Rattle.line_graph.specs.PieceWalks.{is_fitting_walk}
 use Rattle.line_graph.specs.Pieces.{ArePieces}
 use Rattle.line_graph.specs.Runs.{runs_of, sewn_acts}
 use Rattle.line_graph.specs.Walks.{cost_of_line, needles_of_walk}
-use Rattle.route_verdict.specs.LeastRedwork.{IsLeastRedwork, IsLeastRoute, IsLeastThread}
+use Rattle.route_verdict.specs.LeastRedwork.{IsLeastRoute, IsLeastThread}
 
 abbrev start_point : Point
 start_point = record { x = pos 0; y = pos 0 }
@@ -113,8 +113,8 @@ all_proved : (d : DrawingValue) (pieces : List (List ℕ)) (certs : List PieceCe
     → AllZip (IsProvedLeast d) pieces certs
 all_proved d [] [] are = are
 all_proved d [] (c ∷ certs) are = are
-all_proved d (lines ∷ pieces) [] are = are
-all_proved d (lines ∷ pieces) (c ∷ certs) are = (proved d lines c are.0, all_proved d pieces certs are.1)
+all_proved d (some ∷ pieces) [] are = are
+all_proved d (some ∷ pieces) (c ∷ certs) are = (proved d some c are.0, all_proved d pieces certs are.1)
 
 -- the headline in other words: what is read of it, and that the acts are those of the threads
 pub known_meaning : (d : DrawingValue) (design : DesignValue) (certs : List PieceCert) (limit : ℕ) (moves : List Point)

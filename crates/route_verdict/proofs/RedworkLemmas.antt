@@ -1,15 +1,14 @@
 -- A design and certificates are judged yes exactly where they are least redwork.
-use Rattle.std.proofs.Common.{◌≡◌, ◌≤◌, ◌<◌, ℕ, ◌+◌, true, List, [], ◌∷◌, ◌++◌, length, map, All, sum_by, arith, refl, sym, ◌∙◌, ap}
+use Rattle.std.proofs.Common.{◌≡◌, ◌≤◌, ◌<◌, ℕ, ◌+◌, true, List, [], ◌∷◌, ◌++◌, length, map, All, sum_by, arith, refl}
 use Rattle.std.proofs.lemmas.List.Elements.{All-cons, All-head, All-nil, All-tail}
 use Rattle.std.proofs.lemmas.List.Sums.{sum_by-cons}
 use Rattle.std.specs.List.{AllZip, concat}
 use Rattle.odd_cuts.specs.declared.certificate.PieceCert.{PieceCert}
 use Rattle.odd_cuts.specs.DrawnCuts.{PackingsAreOverLines}
 use Rattle.design_model.specs.declared.point.Point.{Point}
-use Rattle.design_model.specs.Designs.{DesignValue}
 use Rattle.line_graph.specs.declared.pass.Pass.{Pass}
 use Rattle.line_graph.specs.Drawings.{DrawingValue, KeepsDrawingLimits}
-use Rattle.line_graph.specs.DrawnWalks.{FittingWalksAreThreads, IsThreadOver, PiecesAreValid}
+use Rattle.line_graph.specs.DrawnWalks.{FittingWalksAreThreads, PiecesAreValid}
 use Rattle.line_graph.specs.PieceGraphs.{edge_between, junctions_of, piece_graph}
 use Rattle.line_graph.specs.PieceWalks.{IsLeastWalk, edge_cost, edge_sum, is_fitting_walk, walk_cost}
 use Rattle.line_graph.specs.SewnWalks.{FittingWalksAreSewable, IsSewable}
