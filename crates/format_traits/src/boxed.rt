@@ -1,14 +1,14 @@
-ghost use Rattle.std.specs.Prelude.{◌≡◌, ◌+◌, ◌≤◌, [], false, length, IfOk, IsOk};
+ghost use Rattle.std.specs.Prelude.{◌≡◌, ◌+◌, ◌≤◌, length, IfOk, IsOk};
 ghost use Rattle.format_traits.specs.declared.feed.TheConstants.{MAX_FED};
 ghost use Rattle.format_traits.specs.declared.format_object.TheConstants.{MIN_LIMIT, MAX_LIMIT};
 ghost use Rattle.format_traits.specs.Feeding.{Feeds, Finishes, HasNothingFed};
 ghost use Rattle.format_traits.specs.PlainDesigns.{IsPlain};
-ghost use Rattle.format_traits.specs.Laws.{IsFileEnding, DecodesTo, EncodesTo, RoundTrips, MovesWithin};
+ghost use Rattle.format_traits.specs.Laws.{IsFileEnding, EncodesTo, RoundTrips, MovesWithin};
 
 use crate::fault::{ReadFault, WriteFault};
 use crate::format_object::Format;
 use crate::loaded::Loaded;
-use design_model::{Bytes, Command, Design, Memory};
+use design_model::{Bytes, Design, Memory};
 use std::alloc::Global;
 
 /// Returns the ending of a boxed format's file names.
@@ -26,13 +26,6 @@ pub fn limit_of(format: &Box<dyn Format>) -> u32
     ensures most { result ≤ MAX_LIMIT }
 {
     format.limit()
-}
-
-/// Reads a file's bytes by a boxed format.
-pub fn decode_by(alloc: Global, format: &Box<dyn Format>, bytes: &[u8]) -> Result<Loaded, ReadFault>
-    ensures { DecodesTo ((meaning format.now).reads bytes.now) result }
-{
-    format.decode(alloc, bytes)
 }
 
 /// Writes a design as a file by a boxed format.
@@ -76,19 +69,4 @@ pub fn finish_by(format: &mut Box<dyn Format>) -> Result<Loaded, ReadFault>
         (feed_state format.new) }
 {
     format.finish()
-}
-
-/// Returns the number of bytes fed to a boxed format.
-pub fn taken_by(format: &Box<dyn Format>) -> u64
-    ensures { result ≡ (feed_state format.now).taken }
-{
-    format.taken()
-}
-
-/// Returns the commands that a boxed format has read.
-pub fn so_far_by(format: &Box<dyn Format>) -> &[Command]
-    requires { (feed_state format.now).spoiled ≡ false }
-    ensures { result.now ≡ (feed_state format.now).decoded [] }
-{
-    format.so_far()
 }

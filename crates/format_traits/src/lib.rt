@@ -28,9 +28,7 @@ mod tests;
 mod theorems;
 
 pub use act_writing::put_acts;
-pub use boxed::{
-    begin_by, decode_by, encode_by, ext_of, feed_by, finish_by, limit_of, so_far_by, taken_by,
-};
+pub use boxed::{begin_by, encode_by, ext_of, feed_by, finish_by, limit_of};
 pub use chunk_passing::decode_whole;
 pub use decoder::{Decoder, MAX_PENDING};
 pub use encoder_state::{EncoderState, WriteLimits};

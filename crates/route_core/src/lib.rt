@@ -9,6 +9,6 @@ mod routed;
 mod routing;
 
 pub use doubling::double_pieces;
-pub use route_verdict::{Reason, Verdict, judge, judge_pieces, sew};
+pub use route_verdict::{Reason, Verdict, judge, sew};
 pub use routed::Routed;
 pub use routing::{route, route_pieces};

@@ -37,7 +37,7 @@ pub fn judge(alloc: Global, d: &Drawing, design: &Design, cert: &Cert) -> Result
 
 /// Returns the verdict on a design and a certificate, for a drawing whose pieces are given. The only error
 /// is `Memory`.
-pub fn judge_pieces(
+fn judge_pieces(
     alloc: Global,
     d: &Drawing,
     pieces: &[Piece],

@@ -11,7 +11,7 @@ mod verdict;
 mod verdict_tests;
 mod walk_needles;
 
-pub use judging::{judge, judge_pieces};
+pub use judging::judge;
 pub use sewing::sew;
 pub use theorems::{correct_routes_are_accepted, yes_is_least_redwork};
 pub use verdict::{Reason, Verdict};
