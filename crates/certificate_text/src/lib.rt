@@ -5,8 +5,6 @@ mod draft;
 mod lines;
 mod printing;
 mod reading;
-#[cfg(test)]
-mod tests;
 mod theorems;
 mod words;
 

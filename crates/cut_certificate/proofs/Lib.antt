@@ -13,5 +13,3 @@ mod LiftLemmas
 mod FitLemmas
 mod LevelFacts
 mod MoatCutFacts
-mod TreeFacts
-mod MoatTestLemmas

@@ -8,5 +8,3 @@ pub mod Levels
 pub mod TerminalStates
 pub mod MoatDistances
 pub mod MoatCuts
--- The conditions that the tests of lifting check.
-pub mod MoatTests

@@ -1,8 +1,6 @@
 //! Moats over the odd junctions of a piece, lifted to a packing of odd cuts with the same total.
 #![tactic(auto)]
 
-#[cfg(test)]
-mod lift_tests;
 mod lifting;
 mod moat_cuts;
 mod moat_distances;

@@ -7,8 +7,6 @@ mod edit_fault;
 mod inverses;
 mod motion;
 mod moving;
-#[cfg(test)]
-mod tests;
 
 pub use axis::Axis;
 pub use colours::recolour;

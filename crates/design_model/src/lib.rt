@@ -15,8 +15,6 @@ mod items;
 mod memory;
 mod point;
 mod tally;
-#[cfg(test)]
-mod tests;
 mod thread_state;
 mod whole_number;
 

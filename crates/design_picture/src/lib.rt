@@ -9,7 +9,5 @@ mod pen;
 mod shapes;
 mod sheet;
 mod showing;
-#[cfg(test)]
-mod tests;
 
 pub use showing::picture;

@@ -3,8 +3,6 @@
 
 mod double_walk;
 mod legs;
-#[cfg(test)]
-mod tests;
 mod traversal;
 
 pub use double_walk::double;

@@ -10,8 +10,6 @@ mod number_words;
 mod point_words;
 mod printing;
 mod reading;
-#[cfg(test)]
-mod tests;
 mod text_words;
 mod theorems;
 mod version;

@@ -12,8 +12,6 @@ mod reading;
 mod reading_tables;
 mod record_kind;
 mod records;
-#[cfg(test)]
-mod tests;
 mod theorems;
 mod writing;
 mod writing_tables;

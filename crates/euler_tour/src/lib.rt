@@ -6,8 +6,6 @@ mod closed_walk;
 mod line_ends;
 mod partial_tour;
 mod remaining_lines;
-#[cfg(test)]
-mod tests;
 
 pub use closed_walk::tour;
 pub use line_ends::{LineEnds, chain, put_number};

@@ -3,8 +3,6 @@
 #![tactic(auto)]
 
 mod exp;
-#[cfg(test)]
-mod tests;
 mod theorems;
 mod unit_writer;
 mod units;

@@ -23,8 +23,6 @@ mod record_loop;
 mod record_reader;
 mod record_stage;
 mod record_writer;
-#[cfg(test)]
-mod tests;
 mod theorems;
 
 pub use act_writing::put_acts;

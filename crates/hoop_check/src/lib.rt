@@ -2,7 +2,5 @@
 #![tactic(auto)]
 
 mod fitting;
-#[cfg(test)]
-mod tests;
 
 pub use fitting::{Fit, fits};

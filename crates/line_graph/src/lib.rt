@@ -24,8 +24,6 @@ mod pass;
 mod piece;
 mod piece_lines;
 mod piece_terms;
-#[cfg(test)]
-mod tests;
 mod theorems;
 mod walk_theorems;
 

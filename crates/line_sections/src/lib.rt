@@ -7,8 +7,6 @@ mod line;
 mod listed_points;
 mod points;
 mod spot;
-#[cfg(test)]
-mod tests;
 mod theorems;
 mod whole_lines;
 

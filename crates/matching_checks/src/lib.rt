@@ -9,5 +9,6 @@ mod properties;
 mod tests;
 mod triangles;
 
+pub use moats::{all_laminar, all_odd, load};
 pub use properties::{cost, fault};
 pub use triangles::keeps_triangles;

@@ -129,7 +129,7 @@ fn keeps_loads_from(t: &DistTable, moats: &[Moat], a: u32) -> bool
 
 /// Returns the widths of the moats that hold exactly one of two places, added up, at most the maximum of 64
 /// bits.
-fn load(moats: &[Moat], a: u32, b: u32) -> u64
+pub fn load(moats: &[Moat], a: u32, b: u32) -> u64
     ensures { result ≡ min (moat_load moats.now a b) (2 ^ 64 - 1) }
 {
     let mut sum: u64 = 0;

@@ -12,5 +12,4 @@ mod ExactWalks
 mod ExactCuts
 mod WalkFaultFacts
 mod CutFaultFacts
-mod PieceExamples
 mod PackingFacts

@@ -2,8 +2,6 @@
 #![tactic(auto)]
 
 mod certificate;
-#[cfg(test)]
-mod check_tests;
 mod cut;
 mod cut_check;
 mod fault_theorems;

@@ -16,8 +16,6 @@ mod new_file;
 mod sink;
 mod std_sink;
 mod store;
-#[cfg(test)]
-mod tests;
 mod turns;
 mod whole_files;
 mod writing;

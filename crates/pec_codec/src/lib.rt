@@ -10,8 +10,6 @@ mod pec_records;
 mod reading;
 mod record_decoding;
 mod record_encoding;
-#[cfg(test)]
-mod tests;
 mod theorems;
 mod writing;
 

@@ -7,8 +7,6 @@ mod file_stage;
 mod front;
 mod pec;
 mod pes;
-#[cfg(test)]
-mod tests;
 
 pub use front::{OFFSET_END, PEC_BLOCK_OFFSET};
 pub use pec::Pec;

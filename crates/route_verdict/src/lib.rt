@@ -7,8 +7,6 @@ mod piece_reasons;
 mod sewing;
 mod theorems;
 mod verdict;
-#[cfg(test)]
-mod verdict_tests;
 mod walk_needles;
 
 pub use judging::judge;

@@ -6,8 +6,6 @@ mod grid;
 mod grid_lines;
 mod sample;
 mod segment;
-#[cfg(test)]
-mod tests;
 
 pub use draws::MAX_NUMBER;
 pub use sample::sample_drawing;

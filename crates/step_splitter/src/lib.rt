@@ -6,8 +6,6 @@ mod refit_state;
 mod refitting;
 mod segment;
 mod segment_points;
-#[cfg(test)]
-mod tests;
 mod theorems;
 
 pub use refitting::{RefitFault, RefitMode, refit};

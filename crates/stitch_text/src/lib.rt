@@ -15,8 +15,6 @@ mod list_line;
 mod list_stage;
 mod point_line;
 mod stitch_list;
-#[cfg(test)]
-mod tests;
 mod theorems;
 mod words;
 mod writing;

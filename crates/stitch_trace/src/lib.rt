@@ -8,8 +8,6 @@ mod links;
 mod needle_moves;
 mod new_links;
 mod strands;
-#[cfg(test)]
-mod tests;
 mod theorems;
 mod trace_fault;
 mod traced_drawing;

@@ -1,7 +1,0 @@
-use Rattle.std.proofs.Common.{ℕ, ◌<◌, length}
-use Rattle.cut_certificate.specs.MoatTests.{KeepsTestLoad}
-use Rattle.cut_certificate.proofs.lift_tests.moat_checks.keep_loads.Given as goal
-
--- no load so far is too much
-abbrev pub invariant-loop-t : goal.invariant-loop-t
-invariant-loop-t l = (x : ℕ) → x < l.t → (u : ℕ) → u < length l.terminals → KeepsTestLoad l.rows l.terminals l.moats x u

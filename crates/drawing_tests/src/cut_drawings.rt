@@ -1,0 +1,238 @@
+ghost use Rattle.std.specs.Prelude.{◌<◌};
+
+use crate::drawings::DrawingPart::{self, Block, Line};
+use crate::drawings::grown;
+use crate::points_of;
+use design_model::{Numbers, Point};
+use line_graph::{DrawKind, Drawing, DrawingMaker, Edge, Edges, Piece, pieces};
+use std::alloc::Global;
+use std::test::Fail;
+
+/// An expected piece: its block, its lines, junctions, edges and degrees.
+#[derive(Clone, Copy)]
+struct Wanted {
+    block: u32,
+    lines: &'static [u32],
+    junctions: &'static [(i32, i32)],
+    edges: &'static [(u32, u32, u32)],
+    degrees: &'static [u32],
+}
+
+const TRIANGLES: [DrawingPart; 7] = [
+    Block(1),
+    Line(&[(0, 0), (50, 0)]),
+    Line(&[(50, 0), (0, 30)]),
+    Line(&[(0, 30), (0, 0)]),
+    Line(&[(90, 0), (50, 0)]),
+    Line(&[(50, 0), (90, 20)]),
+    Line(&[(90, 20), (90, 0)]),
+];
+
+/// A stick and a closed line at its end, in a block after one with the same stick.
+const LOLLIPOP: [DrawingPart; 5] = [
+    Block(1),
+    Line(&[(0, 0), (20, 0)]),
+    Block(2),
+    Line(&[(20, 0), (40, 0), (40, 20), (20, 0)]),
+    Line(&[(0, 0), (20, 0)]),
+];
+
+const THETA: [DrawingPart; 4] = [
+    Block(1),
+    Line(&[(0, 0), (10, 0)]),
+    Line(&[(10, 0), (5, 10), (0, 0)]),
+    Line(&[(0, 0), (0, -25), (10, -25), (10, 0)]),
+];
+
+/// Two lines that cross where both have a point, one that ends inside the first, and one that connects the
+/// ends of the other two.
+const CROSSING: [DrawingPart; 5] = [
+    Block(1),
+    Line(&[(0, 0), (10, 10), (20, 20)]),
+    Line(&[(20, 0), (10, 10), (0, 20)]),
+    Line(&[(10, 10), (15, 5)]),
+    Line(&[(0, 20), (20, 20)]),
+];
+
+const TABLE: [(&[DrawingPart], &[Wanted]); 4] = [
+    (
+        &TRIANGLES,
+        &[Wanted {
+            block: 0,
+            lines: &[0, 1, 2, 3, 4, 5],
+            junctions: &[(0, 0), (50, 0), (0, 30), (90, 0), (90, 20)],
+            edges: &[
+                (0, 1, 5),
+                (1, 2, 5),
+                (2, 0, 3),
+                (3, 1, 4),
+                (1, 4, 4),
+                (4, 3, 2),
+            ],
+            degrees: &[2, 4, 2, 2, 2],
+        }],
+    ),
+    (
+        &LOLLIPOP,
+        &[
+            Wanted {
+                block: 0,
+                lines: &[0],
+                junctions: &[(0, 0), (20, 0)],
+                edges: &[(0, 1, 2)],
+                degrees: &[1, 1],
+            },
+            Wanted {
+                block: 1,
+                lines: &[1, 2],
+                junctions: &[(20, 0), (0, 0)],
+                edges: &[(0, 0, 6), (1, 0, 2)],
+                degrees: &[3, 1],
+            },
+        ],
+    ),
+    (
+        &THETA,
+        &[Wanted {
+            block: 0,
+            lines: &[0, 1, 2],
+            junctions: &[(0, 0), (10, 0)],
+            edges: &[(0, 1, 1), (1, 0, 2), (0, 1, 7)],
+            degrees: &[3, 3],
+        }],
+    ),
+    (
+        &CROSSING,
+        &[
+            Wanted {
+                block: 0,
+                lines: &[0, 1, 3],
+                junctions: &[(0, 0), (20, 20), (20, 0), (0, 20)],
+                edges: &[(0, 1, 2), (2, 3, 2), (3, 1, 2)],
+                degrees: &[1, 2, 1, 2],
+            },
+            Wanted {
+                block: 0,
+                lines: &[2],
+                junctions: &[(10, 10), (15, 5)],
+                edges: &[(0, 1, 1)],
+                degrees: &[1, 1],
+            },
+        ],
+    ),
+];
+
+fn edges(alloc: Global, ends: &[(u32, u32, u32)]) -> Result<Edges, DrawKind> {
+    let mut edges = Edges::new(alloc);
+    for (a, b, cost) in ends {
+        edges.push(Edge {
+            a: *a,
+            b: *b,
+            cost: *cost,
+        })?;
+    }
+    Ok(edges)
+}
+
+/// Returns whether a piece is the expected one.
+fn is_wanted(alloc: Global, piece: &Piece, wanted: &Wanted) -> Result<bool, DrawKind> {
+    let junctions = points_of(alloc, wanted.junctions)?;
+    let edges = edges(alloc, wanted.edges)?;
+    Ok(
+        piece.block == wanted.block
+            && piece.lines.as_slice() == wanted.lines
+            && piece.junctions.as_slice() == junctions.as_slice()
+            && piece.edges.as_slice() == edges.as_slice()
+            && piece.degrees.as_slice() == wanted.degrees
+            && piece.start.is_none()
+            && piece.end.is_none(),
+    )
+}
+
+#[test]
+fn a_drawing_is_cut_into_pieces_with_their_graphs(rt: HostRuntime) -> Result<(), Fail> {
+    for (index, (parts, wanted)) in TABLE.into_iter().enumerate() {
+        let d = grown(rt.alloc(), 10, parts).ok().ok_or("a drawing")?;
+        let cut = pieces(rt.alloc(), &d).ok().ok_or("no memory")?;
+        assert_eq!(rt; cut.len(), wanted.len(), "{index}");
+        for (number, piece) in cut.as_slice().iter().enumerate() {
+            let Some(one) = wanted.get(number) else {
+                continue;
+            };
+            let same = is_wanted(rt.alloc(), piece, one).ok().ok_or("no memory")?;
+            assert!(rt; same, "{index} {number}");
+        }
+    }
+    Ok(())
+}
+
+/// One of twenty lines of a step each: five in each of four columns, which are drawn row by row, and
+/// every second row upwards.
+fn places(line: u32) -> [(i32, i32); 2] {
+    let (column, row) = (line % 4, line / 4);
+    let x = (column * 100) as i32;
+    let upper = (x, (row % 100 * 10) as i32);
+    let lower = (x, (row % 100 * 10 + 10) as i32);
+    if row % 2 == 0 {
+        [upper, lower]
+    } else {
+        [lower, upper]
+    }
+}
+
+/// Three blocks of the same twenty lines.
+fn columns(alloc: Global) -> Result<Drawing, DrawKind> {
+    let mut maker = DrawingMaker::new(alloc, b"columns", 10);
+    for block in 0..3_u8 {
+        maker.add_block(block)?;
+        for line in 0..20_u32 {
+            maker.add_line(points_of(alloc, places(line).as_slice())?)?;
+        }
+    }
+    maker.finish()
+}
+
+/// Returns whether a piece has the lines of a column: every fourth from the first on.
+fn is_column(alloc: Global, piece: &Piece, block: u32, first: u32) -> Result<bool, DrawKind>
+    requires { first < 60 }
+{
+    let ends = [(0, 1, 1), (2, 1, 1), (2, 3, 1), (4, 3, 1), (4, 5, 1)];
+    let edges = edges(alloc, ends.as_slice())?;
+    let mut lines = Numbers::new(alloc);
+    for row in 0..5_u32 {
+        lines.push(first + 4 * row)?;
+    }
+    Ok(
+        piece.block == block
+            && piece.lines.as_slice() == lines.as_slice()
+            && piece.edges.as_slice() == edges.as_slice()
+            && piece.degrees.as_slice() == [1, 2, 2, 2, 2, 1].as_slice(),
+    )
+}
+
+#[test]
+fn sixty_lines_in_three_blocks_are_cut_into_twelve_columns(rt: HostRuntime) -> Result<(), Fail> {
+    let d = columns(rt.alloc()).ok().ok_or("a drawing")?;
+    let cut = pieces(rt.alloc(), &d).ok().ok_or("no memory")?;
+    assert_eq!(rt; cut.len(), 12);
+    for (number, piece) in cut.as_slice().iter().enumerate() {
+        if number >= 12 {
+            continue;
+        }
+        let (block, column) = (number as u32 / 4, number as u32 % 4);
+        let first = block * 20 + column;
+        let same = is_column(rt.alloc(), piece, block, first)
+            .ok()
+            .ok_or("no memory")?;
+        assert!(rt; same, "{number}");
+        let lowest = Point {
+            x: (column * 100) as i32,
+            y: 50,
+        };
+        assert!(rt;
+            piece.junctions.as_slice().get(5) == Some(&lowest),
+            "{number}"
+        );
+    }
+    Ok(())
+}

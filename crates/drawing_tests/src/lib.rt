@@ -1,0 +1,20 @@
+//! Tests of drawings: lines cut into sections, drawings cut into pieces, their texts, samples and traces.
+#![tactic(auto)]
+
+#[cfg(test)]
+mod cut_drawings;
+#[cfg(test)]
+mod drawings;
+#[cfg(test)]
+mod joined_drawings;
+mod point_lists;
+#[cfg(test)]
+mod samples;
+#[cfg(test)]
+mod sections;
+#[cfg(test)]
+mod texts;
+#[cfg(test)]
+mod traces;
+
+pub use point_lists::points_of;

@@ -1,0 +1,207 @@
+use crate::feeding::{feed, read_all};
+use crate::large_designs::{compare_large, large};
+use crate::square;
+use design_model::{Bytes, Command, Design, Memory, Point};
+use design_tests::repeated;
+use dst_codec::{Dst, decode_move, encode_move};
+use format_traits::{Format, Loaded, ReadFault, WriteFault, find};
+use std::alloc::Global;
+use std::process::Abort;
+use std::test::Fail;
+
+fn read(rt: &impl Abort, alloc: Global, bytes: &[u8]) -> Result<Loaded, ReadFault> {
+    read_all(rt, &mut Dst::new(alloc), alloc, bytes)
+}
+
+/// The fields of the header of the square's file and the byte 1A, which spaces follow.
+const FIELDS: &[u8] = b"LA:                \rST:      9\rCO:  0\r\
+    +X:   30\r-X:    0\r+Y:    0\r-Y:   30\r\
+    AX:+    0\rAY:+    0\rMX:+    0\rMY:+    0\rPD:******\r\x1A";
+
+/// The records of the square, its trim and its end.
+const RECORDS: [u8; 27] = [
+    0x00, 0x00, 0x03, 0x00, 0x05, 0x03, 0x00, 0x50, 0x03, 0x00, 0x0A, 0x03, 0x00, 0xA0, 0x03, 0x82,
+    0x41, 0x83, 0x82, 0x82, 0x83, 0x82, 0x41, 0x83, 0x00, 0x00, 0xF3,
+];
+
+#[test]
+fn a_square_has_its_539_bytes(rt: HostRuntime) -> Result<(), Fail> {
+    let alloc = rt.alloc();
+    let design = square(alloc).ok().ok_or("no design")?;
+    let expected = repeated(alloc, FIELDS, b" ", 512 - 125, &RECORDS)?;
+    let file = Dst::new(alloc)
+        .encode(alloc, &design)
+        .ok()
+        .ok_or("not written")?;
+    assert_eq!(rt; file.as_slice(), expected.as_slice());
+    assert_eq!(rt; file.len(), 539);
+    Ok(())
+}
+
+/// Returns a header of spaces, and then records.
+fn file_of(alloc: Global, records: &[u8]) -> Result<Bytes, Memory> {
+    repeated(alloc, b"", b" ", 512, records)
+}
+
+#[test]
+fn a_square_reads_as_its_needles_and_a_trim(rt: HostRuntime) -> Result<(), Fail> {
+    let alloc = rt.alloc();
+    let design = square(alloc).ok().ok_or("no design")?;
+    let file = Dst::new(alloc)
+        .encode(alloc, &design)
+        .ok()
+        .ok_or("not written")?;
+    let loaded = read(&rt, alloc, file.as_slice()).ok().ok_or("not read")?;
+    assert_eq!(rt; loaded.ended, true);
+    let expected = [
+        Command::Stitch(Point { x: 0, y: 0 }),
+        Command::Stitch(Point { x: 30, y: 0 }),
+        Command::Stitch(Point { x: 30, y: 30 }),
+        Command::Stitch(Point { x: 0, y: 30 }),
+        Command::Stitch(Point { x: 0, y: 0 }),
+        Command::Jump(Point { x: 2, y: 2 }),
+        Command::Jump(Point { x: -2, y: -2 }),
+        Command::Trim,
+        Command::Jump(Point { x: 0, y: 0 }),
+    ];
+    assert_eq!(rt; loaded.design.commands(), expected.as_slice());
+    Ok(())
+}
+
+#[test]
+fn the_third_jump_of_a_run_reads_as_a_trim_too(rt: HostRuntime) -> Result<(), Fail> {
+    let alloc = rt.alloc();
+    for (jumps, commands) in [(2, 4), (3, 6), (4, 7), (7, 10)] {
+        let mut file = file_of(alloc, &[0, 0, 0x03])?;
+        for _ in 0..jumps {
+            file.append(&[0, 0, 0x83])?;
+        }
+        file.append(&[0, 0, 0x03, 0, 0, 0xF3])?;
+        let loaded = read(&rt, alloc, file.as_slice()).ok().ok_or("not read")?;
+        assert_eq!(rt; loaded.design.commands().len(), commands, "{jumps} jumps");
+    }
+    Ok(())
+}
+
+#[test]
+fn a_file_without_an_end_is_read(rt: HostRuntime) -> Result<(), Fail> {
+    let alloc = rt.alloc();
+    let file = file_of(alloc, &[0x00, 0x05, 0x03, 0x00, 0x05])?;
+    let loaded = read(&rt, alloc, file.as_slice()).ok().ok_or("not read")?;
+    assert_eq!(rt; loaded.ended, false);
+    assert_eq!(rt;
+        loaded.design.commands(),
+        [Command::Stitch(Point { x: 30, y: 0 })].as_slice()
+    );
+    Ok(())
+}
+
+#[test]
+fn a_file_is_refused_at_its_first_fault(rt: HostRuntime) -> Result<(), Fail> {
+    let alloc = rt.alloc();
+    let short = repeated(alloc, b"", b" ", 511, b"")?;
+    assert_eq!(rt;
+        read(&rt, alloc, short.as_slice()).err(),
+        Some(ReadFault::Short { at: 511 })
+    );
+    let file = file_of(alloc, [[0x05, 0x05, 0x07]; 248].as_flattened())?;
+    assert_eq!(rt;
+        read(&rt, alloc, file.as_slice()).err(),
+        Some(ReadFault::Range { at: 1253 })
+    );
+    let sequin = file_of(alloc, &[0x00, 0x00, 0x43])?;
+    assert_eq!(rt;
+        read(&rt, alloc, sequin.as_slice()).err(),
+        Some(ReadFault::Sequin { at: 512 })
+    );
+    Ok(())
+}
+
+#[test]
+fn a_command_is_told_once_its_record_is_whole(rt: HostRuntime) -> Result<(), Fail> {
+    let mut format = Dst::new(rt.alloc());
+    let header = file_of(rt.alloc(), &[])?;
+    for byte in header.as_slice() {
+        feed(&rt, &mut format, &[*byte])?;
+        assert_eq!(rt; format.so_far().len(), 0);
+    }
+    for (byte, told) in [
+        (0x00, 0),
+        (0x00, 0),
+        (0x03, 1),
+        (0x00, 1),
+        (0x05, 1),
+        (0x03, 2),
+        (0x00, 2),
+        (0x00, 2),
+        (0x43, 2),
+        (0x00, 2),
+        (0x50, 2),
+        (0x03, 2),
+    ] {
+        feed(&rt, &mut format, &[byte])?;
+        assert_eq!(rt; format.so_far().len(), told, "{} bytes", format.taken());
+    }
+    assert_eq!(rt; format.taken(), 524);
+    assert_eq!(rt; format.finish().err(), Some(ReadFault::Sequin { at: 518 }));
+    Ok(())
+}
+
+#[test]
+fn a_design_of_a_thousand_stops_is_refused_at_the_last(rt: HostRuntime) -> Result<(), Fail> {
+    let alloc = rt.alloc();
+    let mut design = Design::new(alloc);
+    for _ in 0..1000 {
+        design.push(Command::Stop).ok().ok_or("no stop")?;
+    }
+    assert_eq!(rt;
+        Dst::new(alloc).encode(alloc, &design).err(),
+        Some(WriteFault::TooManyStops { number: 1000 })
+    );
+    Ok(())
+}
+
+#[test]
+fn the_greatest_moves_have_their_one_spelling(rt: HostRuntime) {
+    assert_eq!(rt; decode_move([0x05, 0x05, 0x07]), Point { x: 121, y: 0 });
+    assert_eq!(rt; decode_move([0x50, 0x50, 0x13]), Point { x: 0, y: 121 });
+    assert_eq!(rt; decode_move([0x82, 0x41, 0x83]), Point { x: 2, y: 2 });
+    assert_eq!(rt; encode_move(121, 0), [0x05, 0x05, 0x07]);
+    assert_eq!(rt; encode_move(0, 121), [0x50, 0x50, 0x13]);
+    assert_eq!(rt; encode_move(-121, 0), [0x0A, 0x0A, 0x0B]);
+    assert_eq!(rt; encode_move(0, -121), [0xA0, 0xA0, 0x23]);
+    assert_eq!(rt; encode_move(100, 0), [0x09, 0x04, 0x07]);
+}
+
+#[test]
+fn a_name_finds_the_format_of_its_last_ending(rt: HostRuntime) -> Result<(), Fail> {
+    let mut formats: Vec<Box<dyn Format>> = Vec::new(rt.alloc());
+    formats.push(Box::new(rt.alloc(), Dst::new(rt.alloc()))?)?;
+    formats.push(Box::new(rt.alloc(), Dst::new(rt.alloc()))?)?;
+    for (name, found) in [
+        ("sq.DST", Some(0)),
+        ("a.b.dst", Some(0)),
+        (".dst", Some(0)),
+        ("dst", None),
+        ("a.", None),
+        ("a.jef", None),
+        ("a.dst.b", None),
+        ("", None),
+    ] {
+        assert_eq!(rt; find(&formats, name), found, "{name}");
+    }
+    Ok(())
+}
+
+#[test]
+fn a_large_design_reads_again(rt: HostRuntime) -> Result<(), Fail> {
+    let alloc = rt.alloc();
+    let design = large(alloc, 7)?;
+    let file = Dst::new(alloc)
+        .encode(alloc, &design)
+        .ok()
+        .ok_or("not written")?;
+    let loaded = read(&rt, alloc, file.as_slice()).ok().ok_or("not read")?;
+    compare_large(&rt, &loaded, b"Rose of Damascus", &[]);
+    Ok(())
+}

@@ -1,0 +1,52 @@
+ghost use Rattle.std.specs.Prelude.{◌≡◌, IsOk, false};
+
+use design_model::{Command, Memory};
+use format_traits::{Format, Loaded, MAX_FED, ReadFault};
+use std::alloc::Global;
+use std::process::Abort;
+
+/// The sizes in bytes of the chunks that files are fed in; each file has fewer bytes than the last.
+pub const SIZES: [usize; 9] = [1, 2, 3, 5, 511, 512, 513, 4_096, 1_000_000];
+
+/// Feeds a chunk.
+pub fn feed<F: Format>(rt: &impl Abort, format: &mut F, piece: &[u8]) -> Result<(), Memory>
+    ensures { IsOk result → (F.feed_state format.new).spoiled ≡ false }
+{
+    assert!(rt; format.taken().saturating_add(piece.len() as u64) <= MAX_FED);
+    format.feed(piece)
+}
+
+/// Returns the label, the threads, the commands and the end of a loaded design.
+pub fn parts(loaded: &Loaded) -> (&[u8], &[u8], &[Command], bool) {
+    let design = &loaded.design;
+    (
+        design.label(),
+        design.threads(),
+        design.commands(),
+        loaded.ended,
+    )
+}
+
+/// Reads a file by one object: at once, and then in chunks of each size.
+pub fn read_all<F: Format>(
+    rt: &impl Abort,
+    format: &mut F,
+    alloc: Global,
+    bytes: &[u8],
+) -> Result<Loaded, ReadFault> {
+    let whole = format.decode(alloc, bytes);
+    for size in SIZES {
+        assert!(rt; size > 0);
+        for piece in bytes.chunks(size) {
+            feed(rt, format, piece)?;
+        }
+        assert_eq!(rt; format.taken(), bytes.len() as u64);
+        let fed = format.finish();
+        assert_eq!(rt;
+            fed.as_ref().map(parts),
+            whole.as_ref().map(parts),
+            "pieces of {size}"
+        );
+    }
+    whole
+}

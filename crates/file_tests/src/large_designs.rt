@@ -1,0 +1,40 @@
+use design_model::{Command, Design, ModelFault, Point, counts};
+use format_traits::Loaded;
+use std::alloc::Global;
+use std::process::Abort;
+
+/// Returns a design as large as a real one: a label, three threads, and 10,000 commands in four blocks, with
+/// loose needles, floats and trims. The first of each two needles is at the given y.
+pub fn large(alloc: Global, y: i32) -> Result<Design, ModelFault> {
+    let mut design = Design::new(alloc);
+    design.set_label(b"Rose of Damascus");
+    design.push_thread(9);
+    design.push_thread(200);
+    design.push_thread(64);
+    for round in 0..2_500u32 {
+        let x = (round % 100) as i32;
+        design.push(Command::Stitch(Point { x, y }))?;
+        design.push(Command::Jump(Point { x, y: 50 }))?;
+        design.push(Command::Stitch(Point { x, y: 60 }))?;
+        design.push(last_of(round))?;
+    }
+    Ok(design)
+}
+
+/// Returns a trim, and after every seventh hundred of rounds a stop.
+fn last_of(round: u32) -> Command {
+    if round % 700 == 699 {
+        Command::Stop
+    } else {
+        Command::Trim
+    }
+}
+
+/// Compares what was read of a file of the large design with what the file keeps of it.
+pub fn compare_large(rt: &impl Abort, loaded: &Loaded, label: &[u8], threads: &[u8]) {
+    assert_eq!(rt; loaded.ended, true);
+    assert_eq!(rt; loaded.design.label(), label);
+    assert_eq!(rt; loaded.design.threads(), threads);
+    let all = counts(&loaded.design);
+    assert_eq!(rt; [all.needles, all.trims, all.stops], [5_000, 2_497, 3]);
+}

@@ -1,0 +1,227 @@
+ghost use Rattle.std.specs.Prelude.{◌≡◌, IsOk, false};
+
+use crate::feeding::{SIZES, parts};
+use crate::large_designs::{compare_large, large};
+use design_model::{Bytes, Command, Design, Memory, Point};
+use design_tests::{design_of, repeated};
+use format_traits::{Fed, Loaded, MAX_FED, ReadFault, WriteFault};
+use pec_codec::{BlockReader, read_block, write_block};
+use std::alloc::Global;
+use std::process::Abort;
+use std::test::Fail;
+
+/// A reader of blocks, and the number of bytes fed to it.
+#[derive(Drop)]
+struct Counted {
+    reader: BlockReader,
+    taken: u64,
+    ghost counts: { (⟦<BlockReader as Fed>⟧.feed_state reader).taken ≡ taken },
+}
+
+impl Counted {
+    fn new(alloc: Global) -> Counted {
+        Counted {
+            reader: BlockReader::new(alloc),
+            taken: 0,
+        }
+    }
+
+    fn begin(&mut self, at: u32) {
+        self.reader.begin(at as u64);
+        self.taken = 0;
+    }
+
+    fn feed(&mut self, rt: &impl Abort, piece: &[u8]) -> Result<(), Memory>
+        ensures { IsOk result → (⟦<BlockReader as Fed>⟧.feed_state self.new.reader).spoiled ≡ false }
+    {
+        let taken = self.taken.saturating_add(piece.len() as u64);
+        assert!(rt; taken <= MAX_FED);
+        self.taken = taken;
+        self.reader.feed(piece)
+    }
+
+    fn finish(&mut self) -> Result<Loaded, ReadFault> {
+        let told = self.reader.finish();
+        if !matches!(told, Err(ReadFault::Memory)) {
+            self.taken = 0;
+        }
+        told
+    }
+}
+
+/// Reads the block at an offset of a file: at once, and by one reader in chunks of each size.
+fn read(rt: &impl Abort, alloc: Global, bytes: &[u8], at: u32) -> Result<Loaded, ReadFault> {
+    let whole = read_block(alloc, bytes, at as u64);
+    let mut reader = Counted::new(alloc);
+    let (_, block) = bytes.split_at_checked(at as usize).unwrap_or((bytes, &[]));
+    for size in SIZES {
+        assert!(rt; size > 0);
+        reader.begin(at);
+        for piece in block.chunks(size) {
+            reader.feed(rt, piece)?;
+        }
+        let fed = reader.finish();
+        assert_eq!(rt;
+            fed.as_ref().map(parts),
+            whole.as_ref().map(parts),
+            "pieces of {size}"
+        );
+    }
+    whole
+}
+
+fn at(x: i32, y: i32) -> Command {
+    Command::Stitch(Point { x, y })
+}
+
+/// Returns a block of a blank header and records.
+fn block_of(alloc: Global, records: &[u8]) -> Result<Bytes, Memory> {
+    repeated(alloc, b"", b" ", 528, records)
+}
+
+/// Returns a file whose block begins at an offset.
+fn file_of(alloc: Global, start: u32, records: &[u8]) -> Result<Bytes, Memory> {
+    let block = block_of(alloc, records)?;
+    repeated(alloc, b"", b"\x07", start, block.as_slice())
+}
+
+#[test]
+fn a_design_of_three_blocks_is_written(rt: HostRuntime) -> Result<(), Fail> {
+    let alloc = rt.alloc();
+    let commands = [
+        at(0, 0),
+        at(62, -63),
+        at(125, -63),
+        Command::Stop,
+        at(125, -63),
+        Command::Stop,
+        at(125, -63),
+    ];
+    let design = design_of(alloc, &commands).ok().ok_or("no design")?;
+    let block = write_block(alloc, &design).ok().ok_or("not written")?;
+    let bytes = block.as_slice();
+    assert_eq!(rt; bytes.len(), 528 + 19 + 4 * 228);
+    assert_eq!(rt; &bytes[48..53], [2, 1, 2, 3, b' '].as_slice());
+    assert_eq!(rt; &bytes[514..517], [0x23, 0, 0].as_slice());
+    let records = [
+        0x00, 0x00, 0x3E, 0x41, 0x80, 0x3F, 0x80, 0x00, 0xFE, 0xB0, 0x02, 0x00, 0x00, 0xFE, 0xB0,
+        0x01, 0x00, 0x00, 0xFF,
+    ];
+    assert_eq!(rt; &bytes[528..547], records.as_slice());
+    Ok(())
+}
+
+#[test]
+fn a_block_is_read_at_its_offset(rt: HostRuntime) -> Result<(), Fail> {
+    let alloc = rt.alloc();
+    let file = file_of(alloc, 1, &[0x00, 0x00, 0x81, 0xF4, 0x80, 0x00, 0xFF])?;
+    let loaded = read(&rt, alloc, file.as_slice(), 1).ok().ok_or("not read")?;
+    assert_eq!(rt; loaded.ended, true);
+    assert_eq!(rt; loaded.design.commands(), [at(0, 0), at(500, 0)].as_slice());
+    assert_eq!(rt; loaded.design.threads().len(), 33);
+    assert_eq!(rt; loaded.design.label(), [].as_slice());
+    Ok(())
+}
+
+#[test]
+fn a_block_is_refused_at_its_first_fault(rt: HostRuntime) -> Result<(), Fail> {
+    let alloc = rt.alloc();
+    let bytes = block_of(alloc, &[0x87, 0xFF, 0x00])?;
+    for (start, short) in [
+        (3, None),
+        (4, Some(531)),
+        (18_446_744_073_709_551_615, Some(531)),
+    ] {
+        let fault = match short {
+            Some(at) => Some(ReadFault::Short { at }),
+            None => None,
+        };
+        assert_eq!(rt;
+            read_block(alloc, bytes.as_slice(), start).err(),
+            fault,
+            "{start}"
+        );
+    }
+    let far = block_of(alloc, [[0x87, 0xFF, 0x00]; 15].as_flattened())?;
+    assert_eq!(rt;
+        read(&rt, alloc, far.as_slice(), 0).err(),
+        Some(ReadFault::Range { at: 528 + 14 * 3 })
+    );
+    Ok(())
+}
+
+#[test]
+fn a_block_is_read_and_refused_wherever_it_begins(rt: HostRuntime) -> Result<(), Fail> {
+    let alloc = rt.alloc();
+    for start in [0, 8, 22] {
+        for (records, commands, ended) in [
+            ([0x00, 0x00, 0x81].as_slice(), [at(0, 0)].as_slice(), false),
+            (
+                &[0x00, 0x00, 0xFE, 0xB0, 0x02, 0x81, 0xF4, 0x80, 0x00, 0xFF],
+                &[at(0, 0), Command::Stop, at(500, 0)],
+                true,
+            ),
+        ] {
+            let file = file_of(alloc, start, records)?;
+            let loaded = read(&rt, alloc, file.as_slice(), start)?;
+            assert_eq!(rt; loaded.design.commands(), commands);
+            assert_eq!(rt; loaded.ended, ended);
+        }
+        let front = repeated(alloc, b"", b"\x07", start, b"")?;
+        let short = repeated(alloc, front.as_slice(), b" ", 527, b"")?;
+        assert_eq!(rt;
+            read(&rt, alloc, short.as_slice(), start).err(),
+            Some(ReadFault::Short {
+                at: start as u64 + 527
+            })
+        );
+    }
+    Ok(())
+}
+
+#[test]
+fn a_point_out_of_range_leaves_the_commands_before_it(rt: HostRuntime) -> Result<(), Fail> {
+    let alloc = rt.alloc();
+    let far = block_of(alloc, [[0x87, 0xFF, 0x00]; 15].as_flattened())?;
+    for start in [0, 8, 22] {
+        let mut reader = Counted::new(alloc);
+        reader.begin(start);
+        for piece in [far.as_slice(), &[0x00, 0x00, 0xFF]] {
+            reader.feed(&rt, piece)?;
+            assert_eq!(rt; reader.reader.so_far().len(), 14);
+        }
+        assert_eq!(rt;
+            reader.finish().err(),
+            Some(ReadFault::Range {
+                at: start as u64 + 570
+            })
+        );
+    }
+    Ok(())
+}
+
+#[test]
+fn a_design_of_255_stops_is_refused_at_the_last(rt: HostRuntime) -> Result<(), Fail> {
+    let alloc = rt.alloc();
+    let mut design = Design::new(alloc);
+    for _ in 0..255 {
+        design.push(Command::Stop).ok().ok_or("no stop")?;
+    }
+    assert_eq!(rt;
+        write_block(alloc, &design).err(),
+        Some(WriteFault::TooManyStops { number: 255 })
+    );
+    Ok(())
+}
+
+#[test]
+fn a_large_design_reads_again(rt: HostRuntime) -> Result<(), Fail> {
+    let alloc = rt.alloc();
+    let design = large(alloc, 7)?;
+    let block = write_block(alloc, &design).ok().ok_or("not written")?;
+    let loaded = read(&rt, alloc, block.as_slice(), 0)
+        .ok()
+        .ok_or("not read")?;
+    compare_large(&rt, &loaded, b"Rose of Damascus", &[9, 200, 64, 4]);
+    Ok(())
+}

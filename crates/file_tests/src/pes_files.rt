@@ -1,0 +1,194 @@
+use crate::feeding::{feed, read_all};
+use crate::large_designs::{compare_large, large};
+use crate::square;
+use design_model::{Bytes, Command, Design, Memory, ModelFault, Point};
+use design_tests::repeated;
+use format_traits::{Format, Loaded, ReadFault};
+use pes_codec::{Pec, Pes};
+use std::alloc::Global;
+use std::process::Abort;
+use std::test::Fail;
+
+fn read_pec(rt: &impl Abort, alloc: Global, bytes: &[u8]) -> Result<Loaded, ReadFault> {
+    read_all(rt, &mut Pec::new(alloc), alloc, bytes)
+}
+
+fn read_pes(rt: &impl Abort, alloc: Global, bytes: &[u8]) -> Result<Loaded, ReadFault> {
+    read_all(rt, &mut Pes::new(alloc), alloc, bytes)
+}
+
+/// The records of a square of 30, its trim and its end.
+const RECORDS: [u8; 15] = [
+    0x00, 0x00, 0x1E, 0x00, 0x00, 0x1E, 0x62, 0x00, 0x00, 0x62, 0xA0, 0x00, 0xA0, 0x00, 0xFF,
+];
+
+/// The commands of the records of the square.
+const READ: [Command; 7] = [
+    Command::Stitch(Point { x: 0, y: 0 }),
+    Command::Stitch(Point { x: 30, y: 0 }),
+    Command::Stitch(Point { x: 30, y: 30 }),
+    Command::Stitch(Point { x: 0, y: 30 }),
+    Command::Stitch(Point { x: 0, y: 0 }),
+    Command::Trim,
+    Command::Jump(Point { x: 0, y: 0 }),
+];
+
+fn at(x: i32, y: i32) -> Command {
+    Command::Stitch(Point { x, y })
+}
+
+/// The square in thread 5.
+fn square_in_5(alloc: Global) -> Result<Design, ModelFault> {
+    let mut design = square(alloc)?;
+    design.push_thread(5);
+    Ok(design)
+}
+
+#[test]
+fn a_square_is_written_and_read_as_pec(rt: HostRuntime) -> Result<(), Fail> {
+    let alloc = rt.alloc();
+    let design = square_in_5(alloc).ok().ok_or("no design")?;
+    let file = Pec::new(alloc)
+        .encode(alloc, &design)
+        .ok()
+        .ok_or("not written")?;
+    let bytes = file.as_slice();
+    assert_eq!(rt; bytes.len(), 1007);
+    assert_eq!(rt; &bytes[..11], b"#PEC0001LA:".as_slice());
+    assert_eq!(rt; &bytes[56..59], [0, 5, b' '].as_slice());
+    assert_eq!(rt; &bytes[522..525], [0x1F, 0, 0].as_slice());
+    assert_eq!(rt; &bytes[528..532], [0x1E, 0, 0x1E, 0].as_slice());
+    assert_eq!(rt; &bytes[536..551], RECORDS.as_slice());
+    let loaded = read_pec(&rt, alloc, bytes).ok().ok_or("not read")?;
+    assert_eq!(rt; loaded.ended, true);
+    assert_eq!(rt; loaded.design.threads(), [5].as_slice());
+    assert_eq!(rt; loaded.design.commands().len(), 7);
+    Ok(())
+}
+
+#[test]
+fn a_square_is_written_and_read_as_pes(rt: HostRuntime) -> Result<(), Fail> {
+    let alloc = rt.alloc();
+    let design = square_in_5(alloc).ok().ok_or("no design")?;
+    let file = Pes::new(alloc)
+        .encode(alloc, &design)
+        .ok()
+        .ok_or("not written")?;
+    let bytes = file.as_slice();
+    assert_eq!(rt; bytes.len(), 1021);
+    assert_eq!(rt; &bytes[..12], b"#PES0001\x16\x00\x00\x00".as_slice());
+    assert_eq!(rt; &bytes[550..565], RECORDS.as_slice());
+    let loaded = read_pes(&rt, alloc, bytes).ok().ok_or("not read")?;
+    assert_eq!(rt; loaded.ended, true);
+    assert_eq!(rt; loaded.design.threads(), [5].as_slice());
+    Ok(())
+}
+
+#[test]
+fn files_are_refused_by_signature_and_length(rt: HostRuntime) -> Result<(), Fail> {
+    let alloc = rt.alloc();
+    let cases = [
+        (b"#PAC0001".as_slice(), ReadFault::Signature { at: 0 }),
+        (b"#PE".as_slice(), ReadFault::Signature { at: 0 }),
+        (b"#PES0001".as_slice(), ReadFault::Short { at: 8 }),
+        (
+            b"#PES0001\xFF\xFF\xFF\xFF".as_slice(),
+            ReadFault::Short { at: 12 },
+        ),
+    ];
+    for (bytes, fault) in cases {
+        assert_eq!(rt; read_pes(&rt, alloc, bytes).err(), Some(fault), "{bytes:?}");
+    }
+    assert_eq!(rt;
+        read_pec(&rt, alloc, b"#PAC0001").err(),
+        Some(ReadFault::Signature { at: 0 })
+    );
+    assert_eq!(rt;
+        read_pec(&rt, alloc, b"#PEC0001").err(),
+        Some(ReadFault::Short { at: 8 })
+    );
+    Ok(())
+}
+
+/// Returns a file of some bytes of filler, a blank header of its block, and records.
+fn file_of(alloc: Global, front: &[u8], filler: u32, records: &[u8]) -> Result<Bytes, Memory> {
+    let filled = repeated(alloc, front, b"\xFF", filler, b"")?;
+    repeated(alloc, filled.as_slice(), b" ", 528, records)
+}
+
+/// A design that leaves its range by the last of these records.
+const FAR: [[u8; 3]; 15] = [[0x87, 0xFF, 0x00]; 15];
+
+#[test]
+fn a_block_is_read_and_refused_wherever_it_begins(rt: HostRuntime) -> Result<(), Fail> {
+    let alloc = rt.alloc();
+    for (front, filler, range) in [
+        (b"#PES0001\x16\x00\x00\x00".as_slice(), 10, 592),
+        (b"#PES0001\x58\x02\x00\x00".as_slice(), 588, 1_170),
+    ] {
+        let sound = file_of(alloc, front, filler, &RECORDS)?;
+        let loaded = read_pes(&rt, alloc, sound.as_slice())?;
+        assert_eq!(rt; loaded.design.commands(), READ.as_slice());
+        let faulty = file_of(alloc, front, filler, FAR.as_flattened())?;
+        let fault = read_pes(&rt, alloc, faulty.as_slice()).err();
+        assert_eq!(rt; fault, Some(ReadFault::Range { at: range }));
+    }
+    let cut = file_of(alloc, b"#PES0001\xE8\x03\x00\x00", 10, &RECORDS)?;
+    let fault = read_pes(&rt, alloc, cut.as_slice()).err();
+    assert_eq!(rt; fault, Some(ReadFault::Short { at: 565 }));
+    Ok(())
+}
+
+#[test]
+fn a_point_out_of_range_leaves_the_commands_before_it(rt: HostRuntime) -> Result<(), Fail> {
+    let front = b"#PES0001\x16\x00\x00\x00";
+    let file = file_of(rt.alloc(), front, 10, FAR.as_flattened())?;
+    let mut format = Pes::new(rt.alloc());
+    for (piece, taken) in [(file.as_slice(), 595), (&RECORDS, 610)] {
+        feed(&rt, &mut format, piece)?;
+        assert_eq!(rt; format.taken(), taken);
+        assert_eq!(rt; format.so_far().len(), 14);
+    }
+    Ok(())
+}
+
+#[test]
+fn a_block_may_begin_in_the_front_of_its_file(rt: HostRuntime) -> Result<(), Fail> {
+    let alloc = rt.alloc();
+    let front = b"#PES0001\x00\x00\x00\x00";
+    let file = repeated(alloc, front, b" ", 516, &[0x00, 0x00, 0xFF])?;
+    let loaded = read_pes(&rt, alloc, file.as_slice())
+        .ok()
+        .ok_or("not read")?;
+    assert_eq!(rt; loaded.design.commands(), [at(0, 0)].as_slice());
+    assert_eq!(rt; loaded.design.threads(), [32; 33].as_slice());
+    assert_eq!(rt; loaded.design.label(), [].as_slice());
+    assert_eq!(rt; loaded.ended, true);
+    Ok(())
+}
+
+#[test]
+fn a_large_design_reads_again_at_any_offset(rt: HostRuntime) -> Result<(), Fail> {
+    let alloc = rt.alloc();
+    let design = large(alloc, 7)?;
+    let pes = Pes::new(alloc)
+        .encode(alloc, &design)
+        .ok()
+        .ok_or("not written")?;
+    let pec = Pec::new(alloc)
+        .encode(alloc, &design)
+        .ok()
+        .ok_or("not written")?;
+    let block = pec.as_slice().get(8..).ok_or("no block")?;
+    let moved = repeated(alloc, b"#PES0060\x04\x03\x00\x00", b"\xFF", 760, block)?;
+    let other = repeated(alloc, b"#PEC____", b"", 0, block)?;
+    for loaded in [
+        read_pes(&rt, alloc, pes.as_slice())?,
+        read_pec(&rt, alloc, pec.as_slice())?,
+        read_pes(&rt, alloc, moved.as_slice())?,
+        read_pec(&rt, alloc, other.as_slice())?,
+    ] {
+        compare_large(&rt, &loaded, b"Rose of Damascus", &[9, 200, 64, 4]);
+    }
+    Ok(())
+}

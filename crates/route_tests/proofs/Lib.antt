@@ -1,0 +1,3 @@
+mod LensFacts
+mod LiftableMoats
+mod TreeFacts

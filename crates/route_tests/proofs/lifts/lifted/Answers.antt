@@ -1,0 +1,16 @@
+use Rattle.std.proofs.Common.{List, refl, subst, sym, ℕ, ◌∙◌}
+use Rattle.line_graph.specs.PiecesOfDrawings.{graph_of}
+use Rattle.odd_paths.specs.LeastRows.{AreTerminals}
+use Rattle.route_tests.proofs.LiftableMoats.{moats_are, odds_are_terminals}
+use Rattle.route_tests.proofs.lifts.lifted.Goals as goal
+
+pub rows-requires : goal.rows-requires
+rows-requires c =
+    subst (λ (ts : List ℕ). AreTerminals (graph_of c.args.p.now) ts) (sym (c.as_slice-places.ensures ∙ c.in_ok-odds.ensures))
+    (odds_are_terminals (graph_of c.args.p.now))
+
+pub lift-requires-clause-moats : goal.lift-requires-clause-moats
+lift-requires-clause-moats c =
+    moats_are (graph_of c.args.p.now) c.in_ok-rows.rows c.args.moats.now c.as_slice-all.result.now c.as_slice-places.result.now
+    c.in_ok-rows.ensures.rows c.in_ok-rows.ensures.terminals (c.as_slice-places.ensures ∙ c.in_ok-odds.ensures) c.as_slice-all.ensures
+    (c.if-not-all_odd.ensures.0 refl) (c.if-not-all_laminar.ensures.0 refl) (c.if-not-keep_loads.ensures refl)
