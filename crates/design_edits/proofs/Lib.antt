@@ -3,3 +3,4 @@ pub mod MoveLemmas
 pub mod LawLemmas
 mod ColourFacts
 pub mod ColourLemmas
+mod InverseFacts
