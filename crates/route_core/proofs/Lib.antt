@@ -9,3 +9,4 @@ mod LeastCertLemmas
 mod SewnPieces
 mod RouteLemmas
 mod DoubleLemmas
+mod RouteFacts
