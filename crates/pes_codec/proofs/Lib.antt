@@ -1,3 +1,4 @@
 pub mod FrontLemmas
 mod FileFacts
 pub mod FileLemmas
+mod FileLawFacts

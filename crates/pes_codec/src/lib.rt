@@ -7,7 +7,9 @@ mod file_stage;
 mod front;
 mod pec;
 mod pes;
+mod theorems;
 
 pub use front::{OFFSET_END, PEC_BLOCK_OFFSET};
 pub use pec::Pec;
 pub use pes::Pes;
+pub use theorems::{labels_and_threads_round_trip, written_reads_again};
