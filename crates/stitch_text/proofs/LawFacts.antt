@@ -1,12 +1,14 @@
 -- What keeps label and threads, and what does not.
-use Rattle.std.proofs.Common.{◌≡◌, ℕ, ◌<◌, ◌≤◌, true, List, [], ◌∷◌, All, Ok, IsOkAnd, codes, refl, arith, subst, sym}
+use Rattle.std.proofs.Common.{◌≡◌, ℕ, ◌<◌, ◌≤◌, true, List, [], ◌∷◌, All, Result, Ok, Err, IsOk, IsOkAnd, codes, refl, arith, subst, sym}
 use Rattle.std.proofs.lemmas.List.Elements.{All-cons, All-nil}
 use Rattle.design_model.specs.declared.command.Command.TheVariants.{Stitch, Stop}
 use Rattle.design_model.specs.Designs.{DesignValue, KeepsLimits}
 use Rattle.design_model.specs.Points.{origin}
+use Rattle.format_traits.specs.declared.fault.ReadFault.{ReadFault}
+use Rattle.format_traits.specs.declared.fault.WriteFault.TheVariants as fault
 use Rattle.format_traits.specs.declared.loaded.Loaded.{Loaded}
 use Rattle.stitch_text.specs.Format.{list_meaning}
-use Rattle.stitch_text.specs.Laws.{HasLabelAndThreads, IsTextOf, LabelAndThreadsRoundTrip}
+use Rattle.stitch_text.specs.Laws.{HasLabelAndThreads, IsTextOf, LabelAndThreadsRoundTrip, NoFloatIsTooLong, ReadsAsWritten, ReadsWhereWritten}
 use Rattle.stitch_text.specs.Readings.{list_reads}
 use Rattle.stitch_text.specs.StitchLists.{list_writes}
 
@@ -53,3 +55,26 @@ known_long_label text is = long is.limits.label.short
   where
     long : 17 ≤ 16 → ⊥
     long is = omega (arith, is)
+
+-- a text is read exactly where it is that of some design, and then as the design whose text it is
+pub known_canonical : ReadsWhereWritten → (text : List ℕ) (d : DesignValue) → IsTextOf text d → IsOk (list_reads text)
+known_canonical law text d is = (law text).1 (d, is)
+
+pub known_of_some : ReadsWhereWritten → (text : List ℕ) → IsOk (list_reads text) → (d : DesignValue) × KeepsLimits d
+    × (list_writes d ≡ Ok text)
+known_of_some law text is = let some = (law text).0 is in (some.0, some.1.limits, some.1.written)
+
+pub known_of_it : ReadsAsWritten → (text : List ℕ) (l : Loaded) → list_reads text ≡ Ok l
+    → KeepsLimits l.design × (list_writes l.design ≡ Ok text)
+known_of_it law text l is = ((law text l is).limits, (law text l is).written)
+
+-- no design is refused for a float
+pub known_floats : NoFloatIsTooLong → (d : DesignValue) (number : ℕ) → list_writes d ≡ Err (fault.FloatTooLong number) → ⊥
+known_floats law d number is = law d number is
+
+-- a list that is encoded is read again, with label and threads
+pub known_unread : LabelAndThreadsRoundTrip → (d : DesignValue) (text : List ℕ) (why : ReadFault) → KeepsLimits d
+    → All (λ thread. thread < 256) d.threads → list_writes d ≡ Ok text
+    → list_reads text ≡ Err why → ⊥
+known_unread law d text why limits threads written unread =
+    subst (λ (r : Result Loaded ReadFault). IsOkAnd r (λ loaded. HasLabelAndThreads d loaded)) unread (law d text limits threads written)
