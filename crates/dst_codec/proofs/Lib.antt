@@ -13,3 +13,4 @@ pub mod TableLemmas
 mod WritingFacts
 pub mod WritingLemmas
 pub mod laws
+mod TheoremFacts
