@@ -12,3 +12,4 @@ mod RecordFacts
 mod RoundTripFacts
 pub mod WriterLemmas
 pub mod rereading
+mod ThreeLawFacts

@@ -1,8 +1,17 @@
--- The limits of formats: moves in tenths of a millimetre, and hops.
+-- The limits of formats: moves in tenths of a millimetre, hops, and bytes.
 use Rattle.std.proofs.Common.{◌≡◌, refl}
+use Rattle.format_traits.specs.declared.decoder.TheConstants.{MAX_PENDING}
+use Rattle.format_traits.specs.declared.feed.TheConstants.{MAX_FED}
 use Rattle.format_traits.specs.declared.format_object.TheConstants.{MIN_LIMIT, MAX_LIMIT}
 use Rattle.format_traits.specs.declared.move_hops.TheConstants.{MAX_MOVE, MAX_HOPS}
 use Rattle.format_traits.specs.declared.record_reader.TheConstants.{MAX_RECORD_MOVE}
+
+-- the bytes that may wait for others, and those that may be fed
+pub known_pending : MAX_PENDING ≡ 528
+known_pending = refl
+
+pub known_fed : MAX_FED ≡ 67108864
+known_fed = refl
 
 -- the least and the greatest limit that one move of a format may have
 pub known_least : MIN_LIMIT ≡ 121
