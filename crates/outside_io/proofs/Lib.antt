@@ -8,3 +8,4 @@ pub mod EntryFiles
 pub mod WholeFiles
 pub mod WholeAnswers
 pub mod StreamLemmas
+mod ResultFacts

@@ -1,11 +1,16 @@
 -- The limits of names and of files, in bytes.
 use Rattle.std.proofs.Common.{◌≡◌, true, false, [], ◌∷◌, codes, map, replicate, refl}
 use Rattle.outside_io.specs.declared.limits.TheConstants.{MAX_FILE, MAX_NAME}
+use Rattle.outside_io.specs.declared.whole_files.TheConstants.{READ_SIZE}
 use Rattle.outside_io.specs.Files.{is_file_name}
 
 -- how long a file that is read may be: 64 times 2 to the 20th
 pub known_file : MAX_FILE ≡ 67108864
 known_file = refl
+
+-- how many bytes of a file are read at once
+pub known_read_size : READ_SIZE ≡ 16384
+known_read_size = refl
 
 -- how long a name may be
 pub known_name : MAX_NAME ≡ 4096

@@ -1,0 +1,196 @@
+-- What the results of calls on the outside exclude.
+use Rattle.std.proofs.Common.{◌≡◌, ◌≢◌, ℕ, ◌+◌, ◌<◌, ◌≤◌, List, [], ◌∷◌, ◌++◌, Option, None, Some, Ok, Err, length, take, refl, arith, ap, sym, ⊎_elim, true≢false}
+use Rattle.outside_io.specs.declared.store.Failed.{Failed}
+use Rattle.outside_io.specs.declared.store.ReadStop.TheVariants as stop
+use Rattle.outside_io.specs.declared.whole_files.GetFault.TheVariants as fault
+use Rattle.outside_io.specs.Blames.{Blame, FaultLogValue, LogsFailedCall, read_call, with_failed_call, write_call}
+use Rattle.outside_io.specs.Causes.{BufferMatches, CallFailed, HasNoNewFault, PutCause, ReadCause, ReadsWholeFile, TookBytes, WriteCause, with_bytes_taken}
+use Rattle.outside_io.specs.Counts.{IsFaultless, MAX_COUNT, Rose, next_count}
+use Rattle.outside_io.specs.FileParts.{IsNextPart, ReadsNextPart}
+use Rattle.outside_io.specs.Files.{ChangesOnlyFile, FileHolds, Files, IsFileName, LacksFile}
+use Rattle.outside_io.specs.MemSinks.{MemPuts, MemSinkValue}
+use Rattle.outside_io.specs.MemStores.{MemAppends, MemCreates, MemReads, MemStoreValue, after_fault}
+use Rattle.outside_io.specs.Streams.{AddsPrefix, StreamPuts, StreamValue}
+use Rattle.outside_io.specs.Views.{SinkView, StoreView}
+
+-- a store of these faults and this blame, whose files are hidden
+abbrev view : ℕ → Option Blame → StoreView
+view faults blame = record { files = None; faults = faults; blame = blame }
+
+abbrev Differ : ℕ → ℕ → Type 0
+Differ m n = m ≡ n → ⊥
+
+-- a call without a fault leaves count and blame, and one that failed raises the count and has the blame
+pub known_new_fault : HasNoNewFault (view 3 None) (view 4 None) → ⊥
+known_new_fault is = other is.count
+  where
+    other : Differ 4 3
+    other same = omega (arith, same)
+
+pub known_new_blame : HasNoNewFault (view 3 None) (view 3 (Some (read_call (97 ∷ [])))) → ⊥
+known_new_blame is = other is.blame
+  where
+    other : Some (read_call (97 ∷ [])) ≡ None → ⊥
+    other same = cc
+
+pub known_uncounted : (call : Blame) → CallFailed (view 3 None) (view 3 (Some call)) call → ⊥
+known_uncounted call is = ⊎_elim (λ above. more above) (λ most. other most) is.rose
+  where
+    more : 3 < 3 → ⊥
+    more less = omega (arith, less)
+
+    other : 3 ≡ MAX_COUNT → ⊥
+    other same = omega (arith, same)
+
+pub known_unblamed : (call : Blame) → CallFailed (view 3 None) (view 4 None) call → ⊥
+known_unblamed call is = other is.blame
+  where
+    other : ◌≡◌ {A = Option Blame} None (Some call) → ⊥
+    other same = cc
+
+-- a count never falls, not even to its maximum
+pub known_fallen : (call : Blame) (old : ℕ) → MAX_COUNT < old → CallFailed (view old None) (view MAX_COUNT (Some call)) call → ⊥
+known_fallen call old above is = omega (arith, above, is.kept)
+
+-- a count that rose, or is at its maximum
+pub known_rose : (before now : ℕ) → Rose before now → now ≡ before → now < 18446744073709551615 → ⊥
+known_rose before now rose same less = ⊎_elim (λ above. omega (arith, above, same)) (λ most. omega (arith, most, less)) rose
+
+pub known_faultless : (before now : ℕ) → IsFaultless before now → (now ≡ before) × (now ≢ 18446744073709551615)
+known_faultless before now is = (is.same, is.below)
+
+-- a missing file is no fault; a failed read and a failed write are
+pub known_missing : (name : List ℕ) (old new : StoreView) → ReadCause {T = ℕ} name old new (Err stop.Missing) → new.faults ≡ old.faults
+known_missing name old new cause = cause.count
+
+pub known_read_blame : (name : List ℕ) (old new : StoreView) → ReadCause {T = ℕ} name old new (Err stop.Failed)
+    → (new.blame ≡ Some (read_call name)) × Rose old.faults new.faults
+known_read_blame name old new cause = (cause.blame, cause.rose)
+
+pub known_write_blame : (name : List ℕ) (old new : StoreView) (f : Failed) → WriteCause {T = ℕ} name old new (Err f)
+    → (new.blame ≡ Some (write_call name)) × Rose old.faults new.faults
+known_write_blame name old new f cause = (cause.blame, cause.rose)
+
+pub known_written : (name : List ℕ) (old new : StoreView) (n : ℕ) → WriteCause {T = ℕ} name old new (Ok n)
+    → (new.blame ≡ old.blame) × (new.faults ≡ old.faults)
+known_written name old new n cause = (cause.blame, cause.count)
+
+-- the sum of bytes
+abbrev sum : List ℕ → ℕ
+sum [] = 0
+sum (byte ∷ rest) = byte + sum rest
+
+-- a buffer has the file's bytes, no more than there are, and some where there are some
+pub known_other_bytes : BufferMatches (7 ∷ 8 ∷ 9 ∷ []) 1 (8 ∷ 8 ∷ []) 2 → ⊥
+known_other_bytes is = other (ap (λ (bytes : List ℕ). sum bytes) is.bytes)
+  where
+    other : Differ 16 17
+    other same = omega (arith, same)
+
+pub known_too_many : BufferMatches (7 ∷ 8 ∷ 9 ∷ []) 2 (9 ∷ []) 2 → ⊥
+known_too_many is = more is.left
+  where
+    more : 2 ≤ 1 → ⊥
+    more less = omega (arith, less)
+
+pub known_none : BufferMatches (7 ∷ 8 ∷ 9 ∷ []) 2 (0 ∷ []) 0 → ⊥
+known_none is = none (is.some (omega arith) (omega arith))
+  where
+    none : 0 < 0 → ⊥
+    none less = omega (arith, less)
+
+-- a sink takes all bytes, or a prefix of them with a fault that is counted
+pub known_taken : (old new : SinkView) (bytes : List ℕ) (n : ℕ) → TookBytes {T = ℕ} old new bytes (Ok n)
+    → new.taken ≡ with_bytes_taken old.taken bytes
+known_taken old new bytes n took = took
+
+pub known_prefix : (old new : SinkView) (bytes : List ℕ) (f : Failed) → TookBytes {T = ℕ} old new bytes (Err f)
+    → (count : ℕ) × (new.taken ≡ with_bytes_taken old.taken (take count bytes))
+known_prefix old new bytes f took = took
+
+pub known_put : (old new : SinkView) (f : Failed) (n : ℕ) → (PutCause {T = ℕ} old new (Ok n) → new.faults ≡ old.faults)
+    × (PutCause {T = ℕ} old new (Err f) → Rose old.faults new.faults)
+known_put old new f n = (λ cause. cause, λ cause. cause.0)
+
+-- the parts of a prefix and what is left are the bytes; a fault is counted once
+pub known_parts : (old new : Option (List ℕ)) (bytes left : List ℕ) → AddsPrefix old new bytes left
+    → (first : List ℕ) × (first ++ left ≡ bytes)
+known_parts old new bytes left adds = (adds.first, adds.parts)
+
+pub known_stream : (old new : StreamValue) (bytes : List ℕ) (f : Failed) → StreamPuts {T = ℕ} old new bytes (Err f)
+    → new.faults ≡ next_count old.faults
+known_stream old new bytes f puts = puts.1
+
+pub known_stream_done : (old new : StreamValue) (bytes : List ℕ) (n : ℕ) → StreamPuts {T = ℕ} old new bytes (Ok n)
+    → new.faults ≡ old.faults
+known_stream_done old new bytes n puts = puts.1
+
+pub known_logged : (call : Blame) (old new : FaultLogValue) (f : Failed) (n : ℕ)
+    → (LogsFailedCall {T = ℕ} call old new (Err f) → new ≡ with_failed_call old call)
+    × (LogsFailedCall {T = ℕ} {E = Failed} call old new (Ok n) → new ≡ old)
+known_logged call old new f n = (λ logs. logs, λ logs. logs)
+
+-- a sink and a store in memory count each call once, and each fault once
+pub known_sink : (old new : MemSinkValue) (bytes : List ℕ) (f : Failed) (n : ℕ)
+    → (MemPuts {T = ℕ} old new bytes (Err f) → (new.faults ≡ next_count old.faults) × (new.bytes ≡ old.bytes))
+    × (MemPuts {T = ℕ} old new bytes (Ok n)
+    → (new.faults ≡ old.faults) × (new.calls ≡ next_count old.calls) × (new.bytes ≡ old.bytes ++ bytes))
+known_sink old new bytes f n = (
+  λ puts. (ap (λ (s : MemSinkValue). s.faults) puts.1, ap (λ (s : MemSinkValue). s.bytes) puts.1),
+  λ puts. (
+    ap (λ (s : MemSinkValue). s.faults) puts.1,
+    ap (λ (s : MemSinkValue). s.calls) puts.1,
+    ap (λ (s : MemSinkValue). s.bytes) puts.1,
+  ),
+)
+
+pub known_failed_read : (old new : MemStoreValue) (name before after : List ℕ) (at : ℕ)
+    → MemReads old new name at before after (Err stop.Failed)
+    → (new ≡ after_fault old (read_call name)) × (after ≡ before)
+known_failed_read old new name before after at reads = (reads.1, reads.2)
+
+pub known_failed_write : (old new : MemStoreValue) (name bytes : List ℕ) (f : Failed)
+    → (MemCreates {T = ℕ} old new name (Err f) → new ≡ after_fault old (write_call name))
+    × (MemAppends {T = ℕ} old new name bytes (Err f) → new ≡ after_fault old (write_call name))
+known_failed_write old new name bytes f = (λ creates. creates.1, λ appends. appends.1)
+
+-- an entire file is read within the limit; each refusal has its cause
+pub known_whole : (name bytes : List ℕ) (limit : ℕ) (old new : StoreView) → ReadsWholeFile name limit old new (Ok bytes)
+    → (length bytes ≡ limit + 1 → ⊥) × FileHolds old.files name bytes × HasNoNewFault old new
+known_whole name bytes limit old new reads = (λ more. omega (arith, more, reads.0), reads.1, reads.2)
+
+pub known_whole_missing : (name : List ℕ) (limit : ℕ) (old new : StoreView) → ReadsWholeFile name limit old new (Err fault.Missing)
+    → LacksFile old.files name × HasNoNewFault old new
+known_whole_missing name limit old new reads = (reads.0, reads.1)
+
+pub known_whole_failed : (name : List ℕ) (limit : ℕ) (old new : StoreView) → ReadsWholeFile name limit old new (Err fault.Failed)
+    → new.blame ≡ Some (read_call name)
+known_whole_failed name limit old new reads = reads.blame
+
+-- the next part follows the bytes before, within the limit, and an empty part is the end
+pub known_part : (name before buffer : List ℕ) (limit count : ℕ) (old new : StoreView)
+    → ReadsNextPart name (length before) limit old new buffer (Ok count)
+    → (length before + count ≡ limit + 1 → ⊥) × (count ≤ length buffer) × HasNoNewFault old new
+known_part name before buffer limit count old new reads = (λ more. omega (arith, more, reads.1), reads.2, reads.0)
+
+pub known_end : (files : Option Files) (name before buffer : List ℕ) → IsNextPart files name before buffer 0 → FileHolds files name before
+known_end files name before buffer is = is.end refl
+
+-- visible files stay visible, and only the named one changes
+pub known_hidden : (old new : Files) (name : List ℕ)
+    → (ChangesOnlyFile (Some old) None name → ⊥) × (ChangesOnlyFile None (Some new) name → ⊥)
+known_hidden old new name = (λ changes. changes, λ changes. changes)
+
+pub known_other_file : (old new : Files) (name other : List ℕ) → ChangesOnlyFile (Some old) (Some new) name
+    → other ≢ name → new other ≡ old other
+known_other_file old new name other changes differ = changes other differ
+
+-- a name has a byte and at most 4,096
+pub known_name : (name : List ℕ) → IsFileName name → (length name ≡ 0 → ⊥) × (length name ≡ 4097 → ⊥)
+known_name name is = (λ none. omega (arith, none, is.some), λ long. omega (arith, long, is.short))
+
+pub known_lacking : (visible : Files) (name : List ℕ) → LacksFile (Some visible) name → visible name ≡ None
+known_lacking visible name lacks = lacks.missing visible refl
+
+pub known_not_lacking : (name : List ℕ) → LacksFile None name → ⊥
+known_not_lacking name lacks = true≢false (sym lacks.visible)
