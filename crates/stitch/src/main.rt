@@ -1,9 +1,6 @@
 //! The program: creates the real files, streams and formats, and passes them with the arguments to `run`.
 #![tactic(auto)]
 
-#[cfg(test)]
-mod tests;
-
 use dst_codec::Dst;
 use exp_codec::Exp;
 use format_traits::Format;

@@ -1,5 +1,5 @@
 //! A stitch file is fed to its format part by part, and not decoded as a whole.
-use crate::tests::cases::behind;
+use crate::cases::behind;
 use design_model::{Bytes, Command, Design, Memory};
 use dst_codec::Dst;
 use format_traits::{Format, Loaded, ReadFault, WriteFault};

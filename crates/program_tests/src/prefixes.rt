@@ -1,4 +1,4 @@
-use super::cases::{answer, stocked};
+use crate::cases::{answer, stocked};
 use case_tables::FileContent;
 use outside_io::{MemSink, MemStore};
 use std::alloc::Global;

@@ -1,4 +1,4 @@
-use super::cases::play;
+use crate::cases::play;
 use case_tables::{Case, FileContent, done, records, refused};
 use std::test::Fail;
 

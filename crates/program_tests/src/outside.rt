@@ -1,4 +1,4 @@
-use super::cases::play;
+use crate::cases::play;
 use case_tables::{Case, CaseStep, ExpectedText, FailingCalls, FileContent};
 use std::test::Fail;
 

@@ -1,0 +1,23 @@
+//! Tests of entire commands: the cases of `case_tables`, run by `run` over a store in memory, and over real files.
+#![tactic(auto)]
+
+#[cfg(test)]
+mod cases;
+#[cfg(test)]
+mod drawings;
+#[cfg(test)]
+mod feeding;
+#[cfg(test)]
+mod files;
+#[cfg(test)]
+mod limits;
+#[cfg(test)]
+mod lists;
+#[cfg(test)]
+mod outside;
+#[cfg(test)]
+mod prefixes;
+#[cfg(test)]
+mod rewrites;
+#[cfg(test)]
+mod words;
