@@ -1,0 +1,88 @@
+-- Lemmas for the crates of programs: plans that read files one after another, and the end of a run.
+use Rattle.std.proofs.Common.{ℕ, List, Option, Some, None, Result, Ok, Err, inl, inr, sym, subst}
+use Rattle.outside_io.specs.Views.{SinkView, StoreView}
+use Rattle.program_shell.specs.declared.failure.Failure.{Failure}
+use Rattle.program_shell.specs.declared.failure.Failure.TheVariants as failure
+use Rattle.program_shell.specs.declared.product.Product.{Product}
+use Rattle.program_shell.specs.declared.status.Status.{Status}
+use Rattle.program_shell.specs.ExactPlans.{IsSoundProgram}
+use Rattle.program_shell.specs.Plans.{IsInputContent, Plan, reads}
+use Rattle.program_shell.specs.Programs.{Program}
+use Rattle.program_shell.specs.Runs.{RunEnds}
+use Rattle.program_shell.specs.RunViews.{Views, views_of}
+use Rattle.program_shell.specs.StepOutcomes.{CanFinish, Finishes, IsFailureOf, IsParsedInput, IsPlanResult, ParsesInput, ReadsInput, RunsPlan, RunsPurePlan, RunsRequest}
+use Rattle.program_shell.proofs.RunLemmas.{run_ends}
+use Rattle.program_shell.proofs.RunOutcomes.{finished}
+
+-- A failure of the rest of a plan is one of the plan.
+halts_next : (name bytes : List ℕ) (next : List ℕ → Plan) (store store' : StoreView) (why : Failure)
+    → IsInputContent store.files name bytes → IsFailureOf (next bytes) store store' why → IsFailureOf (reads name next) store store' why
+halts_next name bytes next store store' failure.BadArguments input never = never
+halts_next name bytes next store store' (failure.MissingInput missing) input (misses, same) =
+    (record { attempted = inr (bytes, input, misses.attempted); lacks = misses.lacks }, same)
+halts_next name bytes next store store' (failure.ReadFailed lost) input (attempted, fault, files) =
+    (inr (bytes, input, attempted), fault, files)
+halts_next name bytes next store store' (failure.Refused why) input (refuses, same) = (inr (bytes, input, refuses), same)
+halts_next name bytes next store store' failure.Memory input same = same
+
+-- A file is read, and the result of the plan is that of its rest.
+prepares_from : (name bytes : List ℕ) (next : List ℕ → Plan) (store store' : StoreView) (result : Result Product Failure)
+    → IsInputContent store.files name bytes → IsPlanResult (next bytes) store store' result
+    → IsPlanResult (reads name next) store store' result
+prepares_from name bytes next store store' (Ok product) input (makes, fit, same) = ((bytes, input, makes), fit, same)
+prepares_from name bytes next store store' (Err why) input halts = halts_next name bytes next store store' why input halts
+
+pub prepares_next : (name bytes : List ℕ) (next : List ℕ → Plan) (store mid store' : StoreView) (result : Result Product Failure)
+    → ReadsInput name store mid (Ok bytes) → RunsPlan (next bytes) mid store' result → RunsPlan (reads name next) store store' result
+prepares_next name bytes next store mid store' result (input, same) prepares = record {
+  is = prepares_from name bytes next store store' result input
+      (subst (λ (s : StoreView). IsPlanResult (next bytes) s store' result) same prepares.is);
+}
+
+-- A plan that reads one file, and then no other.
+pub settles_next : (name bytes : List ℕ) (next : List ℕ → Plan) (store store' : StoreView) (result : Result Product Failure)
+    → ReadsInput name store store' (Ok bytes) → RunsPurePlan (next bytes) result → RunsPlan (reads name next) store store' result
+settles_next name bytes next store store' result read settles =
+    prepares_next name bytes next store store' store' result read (record { is = settles.at store' })
+
+-- A file that is not read is not parsed.
+pub unread_takes : {V F : Type 0} (says : List ℕ → Result V F) (reason : F → List ℕ) (name : List ℕ) (store store' : StoreView)
+    (why : Failure) → ReadsInput name store store' (Err why) → ParsesInput says reason name store store' (Err why)
+unread_takes says reason name store store' failure.BadArguments read = read
+unread_takes says reason name store store' (failure.MissingInput missing) read = read
+unread_takes says reason name store store' (failure.ReadFailed lost) read = read
+unread_takes says reason name store store' (failure.Refused why) read = inl read
+unread_takes says reason name store store' failure.Memory read = read
+
+-- A file is parsed, and the result of the plan is that of its rest.
+pub takes_next : {V F : Type 0} (name : List ℕ) (says : List ℕ → Result V F) (next : Result V F → Plan)
+    (store mid store' : StoreView) (value : V) (result : Result Product Failure) → IsParsedInput says name store mid (Ok value)
+    → RunsPlan (next (Ok value)) mid store' result → RunsPlan (reads name (λ bytes. next (says bytes))) store store' result
+takes_next {V} {F} name says next store mid store' value result input prepares =
+    prepares_next name input.bytes (λ bytes. next (says bytes)) store mid store' result input.read
+    (record { is = subst (λ (r : Result V F). IsPlanResult (next r) mid store' result) (sym input.is) prepares.is })
+
+pub settles_taken : {V F : Type 0} (name : List ℕ) (says : List ℕ → Result V F) (next : Result V F → Plan)
+    (store store' : StoreView) (value : V) (result : Result Product Failure) → IsParsedInput says name store store' (Ok value)
+    → RunsPurePlan (next (Ok value)) result → RunsPlan (reads name (λ bytes. next (says bytes))) store store' result
+settles_taken name says next store store' value result input settles =
+    takes_next name says next store store' store' value result input (record { is = settles.at store' })
+
+-- The result of a request can be finished.
+pub can_finish : {Order : Type 0} (program : Program Order) (requested : Option Order) (store mid : StoreView)
+    (result : Result Product Failure) → RunsRequest program requested store mid result → CanFinish result
+can_finish program None store mid (Ok product) (never, same) = absurd (let no : ⊥ = cc in no)
+can_finish program (Some order) store mid (Ok product) runs = named runs.is
+  where
+    named : IsPlanResult (program.plan order) store mid (Ok product) → CanFinish (Ok product)
+    named (makes, fit, same) = fit
+can_finish program requested store mid (Err why) runs = tt
+
+-- A run that is finished with the result of its request ends as specified.
+pub ends : {Order : Type 0} (program : Program Order) → IsSoundProgram program → (requested : Option Order) (store mid : StoreView)
+    (out err : SinkView) (after : Views) (s : Status) (result : Result Product Failure) → RunsRequest program requested store mid result
+    → Finishes program.name program.usage result (views_of mid out err) after s
+    → RunEnds program requested (views_of store out err) after s
+ends program sound requested store mid out err after s result runs finishes =
+    run_ends program sound requested (views_of store out err) after s
+    (finished program requested store mid out err after s result runs finishes)

@@ -1,0 +1,145 @@
+-- Outputs written one after another.
+use Rattle.std.proofs.Common.{◌≡◌, ◌≤◌, ◌++◌, ◌∷◌, [], ℕ, List, Option, Some, None, refl, sym, ap, subst, ◌∙◌}
+use Rattle.outside_io.specs.Blames.{Blame, write_call}
+use Rattle.outside_io.specs.Causes.{CallFailed, HasNoNewFault}
+use Rattle.outside_io.specs.Counts.{Rose}
+use Rattle.outside_io.specs.Files.{ChangesOnlyFile, Files, FileHolds}
+use Rattle.outside_io.specs.Views.{StoreView}
+use Rattle.program_shell.specs.Products.{HaveDistinctNames, HaveFileNames, ChangesOnlyFiles, IsNoneOf, OutputValue, WroteAll, WroteUpTo, output_names}
+
+-- nothing is written where there are no outputs
+same_files : (files : Option Files) → ChangesOnlyFiles [] files files
+same_files None = tt
+same_files (Some files) = λ name none. refl
+
+wrote_none : (s : StoreView) → WroteAll [] s s
+wrote_none s = record { held = tt; others = same_files s.files; faults = refl; blame = refl }
+
+-- The content of a file is unchanged if only others change.
+holds_still : (old new : Option Files) (names : List (List ℕ)) (name content : List ℕ) → ChangesOnlyFiles names old new
+    → IsNoneOf names name → FileHolds old name content → FileHolds new name content
+holds_still None None names name content changes none holds = λ told is. cc
+holds_still (Some old) (Some new) names name content changes none holds = λ told is.
+    let same : new ≡ told = some_same new told is in
+    subst (λ (f : Files). f name ≡ Some content) same (changes name none ∙ holds old refl)
+  where
+    some_same : (a b : Files) → Some a ≡ Some b → a ≡ b
+    some_same a b is = cc
+holds_still None (Some new) names name content changes none holds = absurd changes
+holds_still (Some old) None names name content changes none holds = absurd changes
+
+-- what changes one file and then others changes these together
+changes_both : (old mid new : Option Files) (name : List ℕ) (names : List (List ℕ)) → ChangesOnlyFile old mid name
+    → ChangesOnlyFiles names mid new → ChangesOnlyFiles (name ∷ names) old new
+changes_both None None None name names first rest = tt
+changes_both (Some old) (Some mid) (Some new) name names first rest = λ other none. rest other none.1 ∙ first other none.0
+changes_both None None (Some new) name names first rest = absurd rest
+changes_both None (Some mid) new name names first rest = absurd first
+changes_both (Some old) None new name names first rest = absurd first
+changes_both (Some old) (Some mid) None name names first rest = absurd rest
+
+-- an output is written, and then the rest
+wrote_first : (o : OutputValue) (rest : List OutputValue) (s mid new : StoreView) → IsNoneOf (output_names rest) o.name
+    → FileHolds mid.files o.name o.content → ChangesOnlyFile s.files mid.files o.name
+    → HasNoNewFault s mid → WroteAll rest mid new → WroteAll (o ∷ rest) s new
+wrote_first o rest s mid new none holds changes stays wrote = record {
+  held = (holds_still mid.files new.files (output_names rest) o.name o.content wrote.others none holds, wrote.held);
+  others = changes_both s.files mid.files new.files o.name (output_names rest) changes wrote.others;
+  faults = wrote.faults ∙ stays.count;
+  blame = wrote.blame ∙ stays.blame;
+}
+
+-- the first output could not be written
+lost_first : (o : OutputValue) (rest : List OutputValue) (s new : StoreView) → ChangesOnlyFile s.files new.files o.name
+    → CallFailed s new (write_call o.name) → WroteUpTo (o ∷ rest) o.name s new
+lost_first o rest s new changes fault = record {
+  done = [];
+  lost = o;
+  left = rest;
+  split = refl;
+  same = refl;
+  fault = fault;
+  held = tt;
+  others = changes_both s.files new.files new.files o.name [] changes (same_files new.files);
+}
+
+-- the names of the outputs before one that is lost are names of all
+pub none_before : (done : List OutputValue) (lost : OutputValue) (left rest : List OutputValue) (name : List ℕ) → done ++ lost ∷ left ≡ rest
+    → IsNoneOf (output_names rest) name → IsNoneOf (output_names (done ++ lost ∷ [])) name
+none_before done lost left rest name split none =
+    shorter done (subst (λ (xs : List OutputValue). IsNoneOf (output_names xs) name) (sym split) none)
+  where
+    shorter : (done : List OutputValue) → IsNoneOf (output_names (done ++ lost ∷ left)) name
+        → IsNoneOf (output_names (done ++ lost ∷ [])) name
+    shorter [] none = (none.0, tt)
+    shorter (o ∷ more) none = (none.0, shorter more none.1)
+
+-- a fault after a call that left the count is one from before it
+later_fault : {s mid new : StoreView} {call : Blame} → mid.faults ≡ s.faults → CallFailed mid new call → CallFailed s new call
+later_fault {s} {mid} {new} same fault = record {
+  rose = subst (λ (n : ℕ). Rose n new.faults) same fault.rose;
+  kept = subst (λ (n : ℕ). n ≤ new.faults) same fault.kept;
+  blame = fault.blame;
+}
+
+-- an output is written, and then the rest up to one that is lost
+wrote_up_to : (o : OutputValue) (rest : List OutputValue) (name : List ℕ) (s mid new : StoreView)
+    → IsNoneOf (output_names rest) o.name → FileHolds mid.files o.name o.content → ChangesOnlyFile s.files mid.files o.name
+    → HasNoNewFault s mid → WroteUpTo rest name mid new → WroteUpTo (o ∷ rest) name s new
+wrote_up_to o rest name s mid new none holds changes stays wrote = record {
+  done = o ∷ wrote.done;
+  lost = wrote.lost;
+  left = wrote.left;
+  split = ap (λ (xs : List OutputValue). o ∷ xs) wrote.split;
+  same = wrote.same;
+  fault = later_fault stays.count wrote.fault;
+  held = (
+    holds_still mid.files new.files (output_names (wrote.done ++ wrote.lost ∷ [])) o.name o.content wrote.others
+        (none_before wrote.done wrote.lost wrote.left rest o.name wrote.split none) holds,
+    wrote.held,
+  );
+  others = changes_both s.files mid.files new.files o.name (output_names (wrote.done ++ wrote.lost ∷ [])) changes wrote.others;
+}
+
+-- Some outputs are written: all are once the remaining ones are, and a failed write of one of them is that of all.
+pub record WritesOn (outputs left : List OutputValue) (before now : StoreView) : Type 0 where
+  pub named : HaveFileNames left
+  pub apart : HaveDistinctNames left
+  pub done : (after : StoreView) → WroteAll left now after → WroteAll outputs before after
+  pub stops : (name : List ℕ) (after : StoreView) → WroteUpTo left name now after → WroteUpTo outputs name before after
+
+pub writes_first : (outputs : List OutputValue) (s : StoreView) → HaveFileNames outputs → HaveDistinctNames outputs
+    → WritesOn outputs outputs s s
+writes_first outputs s named apart = record {
+  named = named;
+  apart = apart;
+  done = λ after wrote. wrote;
+  stops = λ name after wrote. wrote;
+}
+
+pub writes_on : (outputs left : List OutputValue) (o : OutputValue) (rest : List OutputValue) (before now next : StoreView)
+    → WritesOn outputs left before now → left ≡ o ∷ rest → FileHolds next.files o.name o.content
+    → ChangesOnlyFile now.files next.files o.name → HasNoNewFault now next
+    → WritesOn outputs rest before next
+writes_on outputs left o rest before now next writes is holds changes stays =
+    step (subst (λ (ws : List OutputValue). WritesOn outputs ws before now) is writes)
+  where
+    step : WritesOn outputs (o ∷ rest) before now → WritesOn outputs rest before next
+    step on = record {
+      named = on.named.1;
+      apart = on.apart.1;
+      done = λ after wrote. on.done after (wrote_first o rest now next after on.apart.0 holds changes stays wrote);
+      stops = λ name after wrote. on.stops name after (wrote_up_to o rest name now next after on.apart.0 holds changes stays wrote);
+    }
+
+pub writes_up_to : (outputs left : List OutputValue) (o : OutputValue) (rest : List OutputValue) (before now next : StoreView)
+    → WritesOn outputs left before now → left ≡ o ∷ rest → ChangesOnlyFile now.files next.files o.name
+    → CallFailed now next (write_call o.name) → WroteUpTo outputs o.name before next
+writes_up_to outputs left o rest before now next writes is changes fault =
+    writes.stops o.name next (subst (λ (ws : List OutputValue). WroteUpTo ws o.name now next) (sym is)
+    (lost_first o rest now next changes fault))
+
+pub writes_all : (outputs left : List OutputValue) (before now : StoreView) → WritesOn outputs left before now → left ≡ []
+    → WroteAll outputs before now
+writes_all outputs left before now on none =
+    on.done now (subst (λ (ws : List OutputValue). WroteAll ws now now) (sym none) (wrote_none now))

@@ -1,0 +1,8 @@
+mod PutLemmas
+mod DeliveryLemmas
+mod RunOutcomes
+mod DecisionLemmas
+mod KeepLemmas
+mod RunLemmas
+pub mod CallerLemmas
+mod ShellFacts

@@ -1,0 +1,67 @@
+ghost use Rattle.std.specs.Prelude.{◌≡◌, ◌<◌, Some, length, map, slice_get};
+ghost use Rattle.format_traits.specs.Meanings.{Meaning};
+ghost use Rattle.outside_io.specs.Files.{IsFileName};
+ghost use Rattle.program_shell.specs.FileTexts.{read_fault_text};
+ghost use Rattle.program_shell.specs.StepOutcomes.{IsRefusalWith, ParsesInput};
+
+use crate::failure::Failure;
+use crate::file_texts::describe_read_fault;
+use crate::reading::read_failure;
+use design_files::{LoadFault, load};
+use design_model::Memory;
+use format_traits::{Format, Loaded, ReadFault};
+use outside_io::Store;
+use std::alloc::Global;
+
+/// Returns the format at an index.
+pub fn format_at(formats: &[Box<dyn Format>], place: usize) -> &Box<dyn Format>
+    requires { place < length formats.now }
+    ensures { slice_get (map (λ f. meaning f) formats.now) place ≡ Some (meaning result.now) }
+{
+    &formats[place]
+}
+
+/// Reads and decodes an input file by the format at an index. No meaning of a format changes.
+pub fn load_at<'a, S: Store>(
+    alloc: Global,
+    formats: &mut [Box<dyn Format>],
+    place: usize,
+    store: &mut S,
+    name: &'a str,
+) -> Result<Loaded, Failure<'a>>
+    requires place { place < length formats.old }
+    requires name { IsFileName name.now }
+    ensures loads { (m : Meaning) → slice_get (map (λ f. meaning f) formats.old) place ≡ Some m
+        → ParsesInput m.reads (read_fault_text name.now) name.now (S.view store.old) (S.view store.new) result }
+    ensures same { map (λ f. meaning f) formats.new ≡ map (λ f. meaning f) formats.old }
+{
+    load_input(alloc, &mut formats[place], store, name)
+}
+
+fn load_input<'a, S: Store>(
+    alloc: Global,
+    format: &mut Box<dyn Format>,
+    store: &mut S,
+    name: &'a str,
+) -> Result<Loaded, Failure<'a>>
+    requires { IsFileName name.now }
+    ensures loads { ParsesInput (meaning format.old).reads (read_fault_text name.now) name.now (S.view store.old)
+        (S.view store.new) result }
+    ensures same { meaning format.new ≡ meaning format.old }
+{
+    match load(store, name, format) {
+        Ok(loaded) => Ok(loaded),
+        Err(LoadFault::Get(fault)) => Err(read_failure(alloc, name, fault)),
+        Err(LoadFault::Read(fault)) => Err(bad_file(alloc, name, fault)),
+    }
+}
+
+/// Returns the refusal of an input file that does not conform to its format, or out of memory.
+fn bad_file<'a>(alloc: Global, name: &'a str, fault: ReadFault) -> Failure<'a>
+    ensures { IsRefusalWith (read_fault_text name.now fault) result }
+{
+    match describe_read_fault(alloc, name, fault) {
+        Ok(text) => Failure::Refused(text),
+        Err(Memory) => Failure::Memory,
+    }
+}

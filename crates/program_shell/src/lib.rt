@@ -1,0 +1,23 @@
+//! What all programs have in common: exit statuses, the reading of inputs, the writing of outputs, and the
+//! lines about what failed.
+#![tactic(auto)]
+
+mod delivery;
+mod failure;
+mod file_texts;
+mod finishing;
+mod format_indexes;
+mod messages;
+mod product;
+mod putting;
+mod reading;
+mod status;
+
+pub use failure::Failure;
+pub use file_texts::{describe_file, describe_part, describe_read_fault};
+pub use finishing::finish;
+pub use format_indexes::{format_at, load_at};
+pub use messages::report_out_of_memory;
+pub use product::{Output, Product, bytes_of, one_output, only_report, two_outputs};
+pub use reading::read_input;
+pub use status::Status;

@@ -1,0 +1,81 @@
+ghost use Rattle.std.specs.Prelude.{◌≡◌, ◌++◌, OnErr, OnOk, map};
+ghost use Rattle.std.specs.List.{concat};
+ghost use Rattle.program_shell.specs.declared.status.Status.TheVariants as status;
+ghost use Rattle.program_shell.specs.PutSteps.{Gathers};
+ghost use Rattle.program_shell.specs.Puts.{ReportsLineWithStatus, Puts};
+
+use crate::status::Status;
+use arrayvec::ArrayVec;
+use outside_io::{Failed, Sink};
+
+/// The size of the line buffer: the longest file name, and the rest of a line about it.
+const LINE_ROOM: usize = 4_608;
+
+/// Puts one text.
+pub fn put_one<E: Sink>(err: &mut E, text: &[u8]) -> Result<(), Failed>
+    ensures { Puts text.now (E.view err.old) (E.view err.new) result }
+{
+    err.put(text)?;
+    Ok(())
+}
+
+/// Puts the pieces of a text, in one put if they fit into the line buffer.
+fn put_all<E: Sink>(err: &mut E, pieces: &[&[u8]]) -> Result<(), Failed>
+    ensures { Puts (concat (map (λ piece. piece.now) pieces.now)) (E.view err.old)
+        (E.view err.new) result }
+{
+    let mut line = ArrayVec::new();
+    for piece in pieces {
+        gather(err, &mut line, piece)?;
+    }
+    put_one(err, line.as_slice())
+}
+
+/// Appends a piece to the line buffer. If it does not fit, puts the buffer, and then the piece.
+fn gather<E: Sink>(
+    err: &mut E,
+    line: &mut ArrayVec<u8, LINE_ROOM>,
+    piece: &[u8],
+) -> Result<(), Failed>
+    ensures { Gathers (line.old.items ++ piece.now) line.new.items (E.view err.old)
+        (E.view err.new) result }
+{
+    match line.try_extend_from_slice(piece) {
+        Ok(()) => Ok(()),
+        Err(_) => put_both(err, line, piece),
+    }
+}
+
+/// Puts the line buffer and then a piece, and empties the buffer.
+fn put_both<E: Sink>(
+    err: &mut E,
+    line: &mut ArrayVec<u8, LINE_ROOM>,
+    piece: &[u8],
+) -> Result<(), Failed>
+    ensures { Gathers (line.old.items ++ piece.now) line.new.items (E.view err.old)
+        (E.view err.new) result }
+{
+    put_one(err, line.as_slice())?;
+    line.clear();
+    put_one(err, piece)
+}
+
+/// Puts the pieces of a text, and returns the planned status, or `Fault` if a put failed.
+pub(crate) fn report_text<E: Sink>(err: &mut E, pieces: &[&[u8]], planned: Status) -> Status
+    ensures { ReportsLineWithStatus (concat (map (λ piece. piece.now) pieces.now)) planned
+        (E.view err.old) (E.view err.new) result }
+{
+    let put = put_all(err, pieces);
+    reported(put, planned)
+}
+
+/// Returns the planned status, or `Fault` if the put failed.
+fn reported(put: Result<(), Failed>, planned: Status) -> Status
+    ensures ok { OnOk put (result ≡ planned) }
+    ensures err { OnErr put (result ≡ status.Fault) }
+{
+    match put {
+        Ok(()) => planned,
+        Err(Failed) => Status::Fault,
+    }
+}
