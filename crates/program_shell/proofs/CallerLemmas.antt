@@ -10,7 +10,8 @@ use Rattle.program_shell.specs.Plans.{IsInputContent, Plan, reads}
 use Rattle.program_shell.specs.Programs.{Program}
 use Rattle.program_shell.specs.Runs.{RunEnds}
 use Rattle.program_shell.specs.RunViews.{Views, views_of}
-use Rattle.program_shell.specs.StepOutcomes.{CanFinish, Finishes, IsFailureOf, IsParsedInput, IsPlanResult, ParsesInput, ReadsInput, RunsPlan, RunsPurePlan, RunsRequest}
+use Rattle.program_shell.specs.FinishedRuns.{FinishesRun}
+use Rattle.program_shell.specs.StepOutcomes.{CanFinish, IsFailureOf, IsParsedInput, IsPlanResult, ParsesInput, ReadsInput, RunsPlan, RunsPurePlan, RunsRequest}
 use Rattle.program_shell.proofs.RunLemmas.{run_ends}
 use Rattle.program_shell.proofs.RunOutcomes.{finished}
 
@@ -81,7 +82,7 @@ can_finish program requested store mid (Err why) runs = tt
 -- A run that is finished with the result of its request ends as specified.
 pub ends : {Order : Type 0} (program : Program Order) → IsSoundProgram program → (requested : Option Order) (store mid : StoreView)
     (out err : SinkView) (after : Views) (s : Status) (result : Result Product Failure) → RunsRequest program requested store mid result
-    → Finishes program.name program.usage result (views_of mid out err) after s
+    → FinishesRun program.name program.usage result (views_of mid out err) after s
     → RunEnds program requested (views_of store out err) after s
 ends program sound requested store mid out err after s result runs finishes =
     run_ends program sound requested (views_of store out err) after s

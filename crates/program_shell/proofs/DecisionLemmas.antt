@@ -15,7 +15,8 @@ use Rattle.program_shell.specs.Programs.{Program}
 use Rattle.program_shell.specs.Puts.{ReportsLineWithStatus}
 use Rattle.program_shell.specs.RunViews.{IsFaultlessRun, Views}
 use Rattle.program_shell.specs.Runs.{IsRequested, IsDecided, IsOrOutOfMemory, status_is_out_of_memory}
-use Rattle.program_shell.specs.StepOutcomes.{IsFailureOf, ReportsFailure, all, but_report, status_of, up_to}
+use Rattle.program_shell.specs.FinishedRuns.{ReportsFailure, all, but_report, up_to}
+use Rattle.program_shell.specs.StepOutcomes.{IsFailureOf, status_of}
 use Rattle.program_shell.proofs.RunOutcomes.{IsPlanOutcome, IsRunOutcome, halted, made}
 use Rattle.program_shell.specs.ExactPlans.{IsExact}
 

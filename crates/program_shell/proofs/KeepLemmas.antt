@@ -10,7 +10,8 @@ use Rattle.program_shell.specs.Products.{ChangesOnlyFiles, IsNoneOf, ProductValu
 use Rattle.program_shell.specs.Programs.{Program}
 use Rattle.program_shell.specs.RunViews.{Views}
 use Rattle.program_shell.specs.Runs.{KeepsOtherFiles}
-use Rattle.program_shell.specs.StepOutcomes.{Delivers, IsFailureOf, all, but_report, up_to}
+use Rattle.program_shell.specs.FinishedRuns.{Delivers, all, but_report, up_to}
+use Rattle.program_shell.specs.StepOutcomes.{IsFailureOf}
 use Rattle.program_shell.proofs.DeliveryLemmas.{none_before}
 use Rattle.program_shell.proofs.RunOutcomes.{IsRunOutcome, halted, made}
 

@@ -6,3 +6,4 @@ mod KeepLemmas
 mod RunLemmas
 pub mod CallerLemmas
 mod ShellFacts
+mod OutcomeFacts

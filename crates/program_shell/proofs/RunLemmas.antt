@@ -13,7 +13,8 @@ use Rattle.program_shell.specs.Puts.{ReportsLineWithStatus}
 use Rattle.program_shell.specs.RunFailures.{missing, not_read, not_written, unprinted}
 use Rattle.program_shell.specs.Runs.{IsPlannedOutcome, IsDone, IsFault, IsMemory, IsRefused, IsUsage, RunEnds, failed, memory, refused, usage}
 use Rattle.program_shell.specs.RunViews.{Views}
-use Rattle.program_shell.specs.StepOutcomes.{Delivers, IsFailureOf, all, but_report, failure_line, status_of, up_to}
+use Rattle.program_shell.specs.FinishedRuns.{Delivers, all, but_report, failure_line, up_to}
+use Rattle.program_shell.specs.StepOutcomes.{IsFailureOf, status_of}
 use Rattle.program_shell.proofs.DecisionLemmas.{decided}
 use Rattle.program_shell.proofs.KeepLemmas.{keeps_others}
 use Rattle.program_shell.proofs.RunOutcomes.{IsRunOutcome, halted, made}
@@ -26,11 +27,13 @@ data ComesOut {Order : Type 0} (program : Program Order) (requested : Option Ord
 
 module _ {Order : Type 0} (program : Program Order) where
   -- A failed order.
-  halt_out : (order : Order) (before after : Views) (s : Status) (why : Failure) → IsFailureOf (program.plan order) before.store after.store why
+  halt_out : (order : Order) (before after : Views) (s : Status) (why : Failure)
+      → IsFailureOf (program.plan order) before.store after.store why
       → after.out ≡ before.out → ReportsLineWithStatus (failure_line program.name program.usage why) (status_of why) before.err after.err s
       → ComesOut program (Some order) before after s
   halt_out order before after s failure.BadArguments never out tells = absurd never
-  halt_out order before after s (failure.MissingInput name) (misses, store) out tells = calls_for status.Fault (cannot_read_line program.name name.now)
+  halt_out order before after s (failure.MissingInput name) (misses, store) out tells = calls_for status.Fault
+      (cannot_read_line program.name name.now)
       (failed order refl refl (missing name.now refl (record { misses = misses; untouched = record { store = store; out = out } }))) tells
   halt_out order before after s (failure.ReadFailed name) (attempted, fault, files) out tells = calls_for status.Fault
       (cannot_read_line program.name name.now)
@@ -43,7 +46,8 @@ module _ {Order : Type 0} (program : Program Order) where
 
   -- a product that was delivered, or not
   delivery_out : (order : Order) (product : ProductValue) (before after : Views) (s : Status)
-      → Makes (program.plan order) before.store.files product → Delivers program.name product before after s → ComesOut program (Some order) before after s
+      → Makes (program.plan order) before.store.files product → Delivers program.name product before after s
+      → ComesOut program (Some order) before after s
   delivery_out order product before after s makes (all done wrote report err) = is_done done (record {
     order = order;
     is_requested = refl;
@@ -68,7 +72,8 @@ module _ {Order : Type 0} (program : Program Order) where
   comes_out (Some order) before after s (halted why halts out tells) = halt_out order before after s why halts out tells
 
   -- what `Done` means
-  done_out : (requested : Option Order) (before after : Views) → ComesOut program requested before after status.Done → IsDone program requested before after
+  done_out : (requested : Option Order) (before after : Views) → ComesOut program requested before after status.Done
+      → IsDone program requested before after
   done_out requested before after (is_done is done) = done
   done_out requested before after (calls_for planned text calls (inr (is, broke))) = cc
   done_out requested before after (calls_for planned text (usage none is same kept) (inl (so, told))) = cc
@@ -88,14 +93,15 @@ module _ {Order : Type 0} (program : Program Order) where
   refused_out requested before after (is_done is done) = cc
   refused_out requested before after (calls_for planned text calls (inr (is, broke))) = cc
   refused_out requested before after (calls_for planned text (usage none is same kept) (inl (so, told))) = cc
-  refused_out requested before after (calls_for planned text (refused order why is_requested is same cause kept) (inl (so, told))) = record {
-    order = order;
-    is_requested = is_requested;
-    why = why;
-    cause = cause;
-    untouched = kept;
-    message = rw same at told;
-  }
+  refused_out requested before after (calls_for planned text (refused order why is_requested is same cause kept) (inl
+      (so, told))) = record {
+        order = order;
+        is_requested = is_requested;
+        why = why;
+        cause = cause;
+        untouched = kept;
+        message = rw same at told;
+      }
   refused_out requested before after (calls_for planned text (failed order is_requested is fails) (inl (so, told))) = cc
   refused_out requested before after (calls_for planned text (memory is same kept) (inl (so, told))) = cc
 
@@ -126,7 +132,8 @@ module _ {Order : Type 0} (program : Program Order) where
       (subst (λ (t : Status). IsRunOutcome program requested before after t) is ends))
 
   -- what `Memory` means
-  memory_out : (requested : Option Order) (before after : Views) → ComesOut program requested before after status.Memory → IsMemory program before after
+  memory_out : (requested : Option Order) (before after : Views) → ComesOut program requested before after status.Memory
+      → IsMemory program before after
   memory_out requested before after (is_done is done) = cc
   memory_out requested before after (calls_for planned text calls (inr (is, broke))) = cc
   memory_out requested before after (calls_for planned text (usage none is same kept) (inl (so, told))) = cc

@@ -10,7 +10,8 @@ use Rattle.program_shell.specs.Products.{ProductValue, product_value}
 use Rattle.program_shell.specs.Programs.{Program}
 use Rattle.program_shell.specs.Puts.{ReportsLineWithStatus}
 use Rattle.program_shell.specs.RunViews.{Views, views_of}
-use Rattle.program_shell.specs.StepOutcomes.{Delivers, Finishes, IsFailureOf, IsPlanResult, ReportsFailure, RunsRequest, failure_line, status_of}
+use Rattle.program_shell.specs.FinishedRuns.{Delivers, FinishesRun, ReportsFailure, failure_line}
+use Rattle.program_shell.specs.StepOutcomes.{IsFailureOf, IsPlanResult, RunsRequest, status_of}
 
 -- The outcome of a plan: a product of it is delivered, or a failure of it is reported.
 pub data IsPlanOutcome (program usage : List ℕ) (plan : Plan) (before after : Views) (s : Status) : Type 0 where
@@ -28,7 +29,7 @@ IsRunOutcome program (Some order) before after s = IsPlanOutcome program.name pr
 -- A run is finished with the result of its request.
 pub finished : {Order : Type 0} (program : Program Order) (requested : Option Order) (store mid : StoreView) (out err : SinkView)
     (after : Views) (s : Status) (result : Result Product Failure) → RunsRequest program requested store mid result
-    → Finishes program.name program.usage result (views_of mid out err) after s
+    → FinishesRun program.name program.usage result (views_of mid out err) after s
     → IsRunOutcome program requested (views_of store out err) after s
 finished program None store mid out err after s (Ok product) (never, same) finishes = absurd (let no : ⊥ = cc in no)
 finished program (Some order) store mid out err after s (Ok product) runs delivers = delivered runs.is

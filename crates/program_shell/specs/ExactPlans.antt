@@ -10,7 +10,9 @@ abbrev pub IsExact : Plan → Type 0
 IsExact (reads name next) = (bytes : List ℕ) → IsExact (next bytes)
 IsExact (refuses text) = Unit {0}
 IsExact (accepts Is) = Unit {0}
-IsExact (satisfies Is) = (product : ProductValue) (text : List ℕ) → Is (Ok product) → Is (Err text) → ⊥
+IsExact (satisfies Is) = (product : ProductValue) (text : List ℕ) → Is (Ok product)
+    → Is (Err text)
+    → ⊥
 
 -- The plan of each order decides, and the outputs of its products are the files that the order
 -- writes.

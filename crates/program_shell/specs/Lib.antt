@@ -9,5 +9,6 @@ pub mod RunFailures
 -- Read Runs first: what each exit status guarantees.
 pub mod Runs
 pub mod StepOutcomes
+pub mod FinishedRuns
 pub mod ExactPlans
 pub mod PutSteps

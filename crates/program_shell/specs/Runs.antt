@@ -71,7 +71,8 @@ pub record IsFailed {Order : Type 0} (program : Program Order) (requested : Opti
 -- The planned outcome of a run that is not done: the status, and the text for the standard error.
 pub data IsPlannedOutcome {Order : Type 0} (program : Program Order) (requested : Option Order)
     (before after : Views) (planned : Status) (text : List ℕ) : Type 0 where
-  usage : requested ≡ None → planned ≡ status.Usage → text ≡ program.usage → IsUntouched before after
+  usage : requested ≡ None → planned ≡ status.Usage → text ≡ program.usage
+      → IsUntouched before after
       → IsPlannedOutcome program requested before after planned text
   refused : (order : Order) (why : List ℕ) → IsRequested requested order
       → planned ≡ status.Refused
@@ -81,7 +82,8 @@ pub data IsPlannedOutcome {Order : Type 0} (program : Program Order) (requested 
   failed : (order : Order) → IsRequested requested order → planned ≡ status.Fault
       → IsOutsideFailure program.name (program.plan order) before after text
       → IsPlannedOutcome program requested before after planned text
-  memory : planned ≡ status.Memory → text ≡ out_of_memory_line program.name → IsUntouched before after
+  memory : planned ≡ status.Memory → text ≡ out_of_memory_line program.name
+      → IsUntouched before after
       → IsPlannedOutcome program requested before after planned text
 
 -- A lost report: the standard error failed while the text of the planned outcome was written.

@@ -1,5 +1,6 @@
 ghost use Rattle.std.specs.Prelude.{IfErr, OnOk};
-ghost use Rattle.program_shell.specs.StepOutcomes.{IsDeliverable, Delivers, PrintsReport};
+ghost use Rattle.program_shell.specs.FinishedRuns.{Delivers, PrintsReport};
+ghost use Rattle.program_shell.specs.StepOutcomes.{IsDeliverable};
 ghost use Rattle.program_shell.specs.Products.{HaveDistinctNames, HaveFileNames, WroteAll, WroteUpTo, output_values, product_value};
 ghost use Rattle.program_shell.specs.RunViews.{views_of};
 

@@ -1,5 +1,6 @@
 ghost use Rattle.program_shell.specs.RunViews.{views_of};
-ghost use Rattle.program_shell.specs.StepOutcomes.{CanFinish, Finishes};
+ghost use Rattle.program_shell.specs.FinishedRuns.{FinishesRun};
+ghost use Rattle.program_shell.specs.StepOutcomes.{CanFinish};
 
 use crate::delivery::deliver;
 use crate::failure::Failure;
@@ -8,7 +9,7 @@ use crate::product::Product;
 use crate::status::Status;
 use outside_io::{Sink, Store};
 
-/// Finishes a run of the program with that name and usage text. Writes the outputs of a product and prints its
+/// FinishesRun a run of the program with that name and usage text. Writes the outputs of a product and prints its
 /// report to `out`, or reports a failure on `err`. Returns the exit status.
 pub fn finish<S: Store, O: Sink, E: Sink>(
     program: &[u8],
@@ -19,7 +20,7 @@ pub fn finish<S: Store, O: Sink, E: Sink>(
     err: &mut E,
 ) -> Status
     requires { CanFinish made }
-    ensures { Finishes program.now usage.now made.entry
+    ensures { FinishesRun program.now usage.now made.entry
         (views_of (S.view store.old) (O.view out.old) (E.view err.old))
         (views_of (S.view store.new) (O.view out.new) (E.view err.new)) result }
 {

@@ -45,8 +45,8 @@ fn load_input<'a, S: Store>(
     name: &'a str,
 ) -> Result<Loaded, Failure<'a>>
     requires { IsFileName name.now }
-    ensures loads { ParsesInput (meaning format.old).reads (read_fault_text name.now) name.now (S.view store.old)
-        (S.view store.new) result }
+    ensures loads { ParsesInput (meaning format.old).reads (read_fault_text name.now) name.now
+        (S.view store.old) (S.view store.new) result }
     ensures same { meaning format.new ≡ meaning format.old }
 {
     match load(store, name, format) {

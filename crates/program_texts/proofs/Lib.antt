@@ -1,8 +1,4 @@
-mod PutLemmas
-mod ReportLemmas
 mod SegmentLemmas
 mod TextFacts
-mod ReasonFacts
-mod ReportFacts
 mod DesignFacts
 mod TracingFacts

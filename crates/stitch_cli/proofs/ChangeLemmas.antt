@@ -8,10 +8,8 @@ use Rattle.step_splitter.specs.declared.refitting.RefitMode.TheVariants as mode
 use Rattle.design_changes.specs.declared.change_faults.ChangeFault.{ChangeFault}
 use Rattle.design_changes.specs.declared.change_faults.ChangeFault.TheVariants as reason
 use Rattle.design_changes.specs.ChangedDesigns.{Becomes, BecomesAll, RefitsTo}
-use Rattle.stitch_cli.specs.OrderNames.{RewriteOrder}
-use Rattle.stitch_cli.specs.Products.{ProductValue}
-use Rattle.stitch_cli.specs.Refusals.{RefusalValue}
-use Rattle.stitch_cli.specs.Rewrites.{IsRewriteResult, not_changed, not_written}
+use Rattle.program_shell.specs.Products.{ProductValue}
+use Rattle.stitch_cli.specs.Rewrites.{IsRewriteResult, RewriteOrder, not_changed, not_written}
 
 -- one value is one design, and not a refusal
 same_value : (r : Result DesignValue ChangeFault) (a b : DesignValue) → Ok a ≡ r → Ok b ≡ r → a ≡ b
@@ -69,7 +67,7 @@ all_not_both limit (change ∷ later) d a why (inl (mid, first, rest)) (inr (oth
 all_not_both limit (change ∷ later) d a why (inr (other, first, is)) refused = absurd (let no : ⊥ = cc in no)
 
 -- a design that is rewritten is not refused
-pub rewritten_not_both : (order : RewriteOrder) (loaded : Loaded) (product : ProductValue) (why : RefusalValue)
+pub rewritten_not_both : (order : RewriteOrder) (loaded : Loaded) (product : ProductValue) (why : List ℕ)
     → IsRewriteResult order loaded (Ok product) → IsRewriteResult order loaded (Err why) → ⊥
 rewritten_not_both order loaded product why is (not_changed fault same refused) =
     all_not_both order.target.limit order.changes loaded.design is.design fault is.becomes refused

@@ -1,17 +1,17 @@
 -- Formats at places of a list.
 use Rattle.std.proofs.Common.{◌≡◌, ℕ, zero, suc, ◌<◌, false, List, [], ◌∷◌, length, map, Option, Some, Result, bytes_eq, slice_get, refl, ap, sym, ◌∙◌, arith}
 use Rattle.std.specs.Option.{option_and_then}
+use Rattle.std.specs.Prelude.{option_map}
 use Rattle.command_words.specs.Changes.{Change}
 use Rattle.format_traits.specs.Endings.{format_index}
 use Rattle.format_traits.specs.Meanings.{Meaning}
 use Rattle.outside_io.specs.Views.{StoreView}
-use Rattle.stitch_cli.specs.declared.failure.Failure.{Failure}
-use Rattle.stitch_cli.specs.declared.product.Product.{Product}
-use Rattle.stitch_cli.specs.StepOutcomes.{RunsRequest, RunsPlan}
-use Rattle.stitch_cli.specs.OrderNames.{RewriteOrder}
+use Rattle.program_shell.specs.declared.failure.Failure.{Failure}
+use Rattle.program_shell.specs.declared.product.Product.{Product}
+use Rattle.program_shell.specs.StepOutcomes.{RunsRequest, RunsPlan}
 use Rattle.format_traits.specs.Endings.{format_of}
-use Rattle.stitch_cli.specs.Orders.{complete_rewrite}
-use Rattle.stitch_cli.specs.Rewrites.{rewrite_plan}
+use Rattle.stitch_cli.specs.Commands.{rewriting, stitch}
+use Rattle.stitch_cli.specs.Rewrites.{RewriteOrder, complete_rewrite, rewrite_plan}
 
 -- The element at an index of a list.
 at_place : {A : Type 0} (f : A → Meaning) (xs : List A) (place : ℕ) → place < length xs
@@ -33,7 +33,8 @@ pub rewriting_found : {A : Type 0} (f : A → Meaning) (xs : List A) (input outp
     → ((s t : Meaning) → slice_get (map f xs) source ≡ Some s → slice_get (map f xs) target ≡ Some t
     → let order : RewriteOrder = record { input = input; output = output; source = s; target = t; changes = changes } in
     RunsPlan (rewrite_plan order) store store' result)
-    → RunsRequest (complete_rewrite input output changes (format_of (map f xs) input) (format_of (map f xs) output)) store store' result
+    → RunsRequest stitch (option_map (λ o. rewriting o)
+    (complete_rewrite input output changes (format_of (map f xs) input) (format_of (map f xs) output))) store store' result
 rewriting_found f xs input output changes source target store store' result found_source found_target in_source in_target apart prepares =
     let s = at_place f xs source in_source in
     let t = at_place f xs target in_target in

@@ -4,9 +4,9 @@ use Rattle.std.specs.Prelude.{codes}
 use Rattle.hoop_check.specs.declared.fitting.Fit.TheVariants as fit
 use Rattle.design_model.specs.TextLines.{newline}
 use Rattle.stitch_cli.specs.Hoops.{hoop_fitted}
-use Rattle.stitch_cli.specs.Plans.{Makes, Refuses}
-use Rattle.stitch_cli.specs.Products.{report_product}
-use Rattle.stitch_cli.specs.Refusals.{too_large}
+use Rattle.program_shell.specs.Plans.{Makes, Refuses}
+use Rattle.program_shell.specs.Products.{report_product}
+use Rattle.program_texts.specs.DesignTexts.{too_large_text}
 
 -- A design that fits is reported, and one that doesn't is refused with the excess.
 pub known_upright : Makes (hoop_fitted fit.Upright) None (report_product (codes "fits upright" ++ newline))
@@ -15,5 +15,5 @@ known_upright = refl
 pub known_turned : Makes (hoop_fitted fit.Turned) None (report_product (codes "fits turned" ++ newline))
 known_turned = refl
 
-pub known_too_large : Refuses (hoop_fitted (fit.No 40 7)) None (too_large 40 7)
+pub known_too_large : Refuses (hoop_fitted (fit.No 40 7)) None (too_large_text 40 7)
 known_too_large = refl

@@ -3,7 +3,8 @@ use Rattle.std.proofs.Common.{◌≡◌, ℕ, List, [], ◌∷◌, Some, None, r
 use Rattle.std.specs.Prelude.{codes}
 use Rattle.command_words.specs.Changes.{cut, split, turn}
 use Rattle.format_traits.specs.Meanings.{Meaning}
-use Rattle.stitch_cli.specs.Orders.{checking, doubling, hooping, migrating, order_of, outputs_of, rewriting, routing, sampling, showing, tracing}
+use Rattle.route_texts.specs.declared.sewing_reports.Sewing.TheVariants as ways
+use Rattle.stitch_cli.specs.Commands.{checking, hooping, migrating, order_of, outputs_of, rewriting, sampling, sewing, showing, tracing}
 
 -- a format with another ending
 abbrev ending_as : Meaning → List ℕ → Meaning
@@ -26,7 +27,7 @@ known_no_ending m = refl
 
 -- of a route the output alone has a format, and no two names are equal
 pub known_route : (m : Meaning) → order_of (dst_and_exp m) (codes "route" ∷ codes "a" ∷ codes "b.dst" ∷ codes "c" ∷ [])
-    ≡ Some (routing (record {
+    ≡ Some (sewing ways.Route (record {
       drawing = codes "a";
       out = codes "b.dst";
       cert = codes "c";
@@ -64,7 +65,7 @@ known_tracing_onto_itself m = refl
 
 -- a double run has the conditions of a route, and writes as it does
 pub known_double : (m : Meaning) → order_of (dst_and_exp m) (codes "double" ∷ codes "a" ∷ codes "b.exp" ∷ codes "c" ∷ [])
-    ≡ Some (doubling (record {
+    ≡ Some (sewing ways.Double (record {
       drawing = codes "a";
       out = codes "b.exp";
       cert = codes "c";
@@ -77,7 +78,7 @@ pub known_double_onto_drawing : (m : Meaning)
 known_double_onto_drawing m = refl
 
 pub known_double_outputs : (m : Meaning)
-    → outputs_of (doubling (record { drawing = codes "a"; out = codes "b"; cert = codes "c"; format = m }))
+    → outputs_of (sewing ways.Double (record { drawing = codes "a"; out = codes "b"; cert = codes "c"; format = m }))
     ≡ codes "c" ∷ codes "b" ∷ []
 known_double_outputs m = refl
 
@@ -158,7 +159,7 @@ known_sample_of_nothing m = refl
 
 -- the certificate of a route is written before its design; a sample writes its drawing
 pub known_route_outputs : (m : Meaning)
-    → outputs_of (routing (record { drawing = codes "a"; out = codes "b"; cert = codes "c"; format = m }))
+    → outputs_of (sewing ways.Route (record { drawing = codes "a"; out = codes "b"; cert = codes "c"; format = m }))
     ≡ codes "c" ∷ codes "b" ∷ []
 known_route_outputs m = refl
 

@@ -3,12 +3,11 @@ use Rattle.std.proofs.Common.{◌≡◌, ℕ, inl, List, [], ◌∷◌, None, Ok
 use Rattle.format_traits.specs.declared.loaded.Loaded.{Loaded}
 use Rattle.format_traits.specs.Meanings.{Meaning}
 use Rattle.line_graph.specs.Drawings.{DrawingValue}
-use Rattle.stitch_cli.specs.Checks.{check_design, check_drawing, check_plan}
-use Rattle.stitch_cli.specs.OrderNames.{CheckOrder, RouteOrder}
-use Rattle.stitch_cli.specs.Plans.{AttemptsRead, IsAccepted, Refuses}
-use Rattle.stitch_cli.specs.Refusals.{step_too_long}
+use Rattle.program_texts.specs.DrawingTexts.{step_limit_text}
+use Rattle.stitch_cli.specs.Checks.{CheckOrder, check_design, check_drawing, check_plan}
+use Rattle.program_shell.specs.Plans.{AttemptsRead, IsAccepted, Refuses}
 use Rattle.stitch_cli.specs.Routes.{IsRouted}
-use Rattle.stitch_cli.specs.Sewings.{sewing_drawing}
+use Rattle.stitch_cli.specs.Sewings.{SewingOrder, sewing_drawing}
 
 -- a check of three files
 abbrev checked : Meaning → CheckOrder
@@ -26,7 +25,7 @@ pub known_certificate_last : (m : Meaning) (d : DrawingValue) (loaded : Loaded)
 known_certificate_last m d loaded = inl refl
 
 -- a route to a format whose limit is 121
-abbrev routed : Meaning → RouteOrder
+abbrev routed : Meaning → SewingOrder
 routed format = record {
   drawing = codes "a";
   out = codes "b";
@@ -42,5 +41,5 @@ pub known_at_limit : (m : Meaning) → IsAccepted (sewing_drawing IsRouted (rout
 known_at_limit m = tt
 
 pub known_above_limit : (m : Meaning)
-    → Refuses (sewing_drawing IsRouted (routed m) (stepping 122)) None (step_too_long (codes "a") 122 121 (codes "dst"))
+    → Refuses (sewing_drawing IsRouted (routed m) (stepping 122)) None (step_limit_text (codes "a") 122 121 (codes "dst"))
 known_above_limit m = refl

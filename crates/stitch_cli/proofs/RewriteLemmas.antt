@@ -5,15 +5,14 @@ use Rattle.format_traits.specs.declared.loaded.Loaded.{Loaded}
 use Rattle.outside_io.specs.Views.{StoreView}
 use Rattle.design_changes.specs.declared.change_faults.ChangeFailure.{ChangeFailure}
 use Rattle.design_changes.specs.declared.change_faults.ChangeFailure.TheVariants as change_failure
-use Rattle.stitch_cli.specs.declared.failure.Failure.{Failure}
-use Rattle.stitch_cli.specs.declared.failure.Failure.TheVariants as failure
-use Rattle.stitch_cli.specs.declared.product.Product.{Product}
-use Rattle.stitch_cli.specs.StepOutcomes.{IsPlanResult, RunsPurePlan}
-use Rattle.stitch_cli.specs.OrderNames.{RewriteOrder}
-use Rattle.stitch_cli.specs.Plans.{satisfies}
+use Rattle.program_shell.specs.declared.failure.Failure.{Failure}
+use Rattle.program_shell.specs.declared.failure.Failure.TheVariants as failure
+use Rattle.program_shell.specs.declared.product.Product.{Product}
+use Rattle.program_shell.specs.StepOutcomes.{IsPlanResult, RunsPurePlan}
+use Rattle.program_shell.specs.Plans.{satisfies}
 use Rattle.design_changes.specs.AppliedChanges.{IsChangesResult}
 use Rattle.stitch_cli.specs.RewriteSteps.{IsChangeFailure, IsEncodeResult}
-use Rattle.stitch_cli.specs.Rewrites.{IsRewriteResult, not_changed, not_written}
+use Rattle.stitch_cli.specs.Rewrites.{IsRewriteResult, RewriteOrder, not_changed, not_written}
 
 -- a changed design is written, or can't be
 written_of : (order : RewriteOrder) (loaded : Loaded) (d : DesignValue)
@@ -61,7 +60,7 @@ unchanged_of order loaded (change_failure.Refused fault) store (failure.MissingI
 unchanged_of order loaded (change_failure.Refused fault) store (failure.ReadFailed name) becomes never = absurd never
 unchanged_of order loaded (change_failure.Refused fault) store (failure.Refused why) becomes is =
     (not_changed fault is becomes, refl)
-unchanged_of order loaded (change_failure.Refused fault) store failure.Memory becomes never = absurd never
+unchanged_of order loaded (change_failure.Refused fault) store failure.Memory becomes is = refl
 
 pub settles_unchanged : (order : RewriteOrder) (loaded : Loaded) (fault : ChangeFailure)
     (limit : ℕ) (why : Failure) → limit ≡ order.target.limit → IsChangesResult limit order.changes loaded.design (Err fault)

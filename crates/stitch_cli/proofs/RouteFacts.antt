@@ -7,7 +7,8 @@ use Rattle.design_model.specs.TextLines.{newline}
 use Rattle.design_model.specs.declared.point.Point.{Point}
 use Rattle.line_graph.specs.Drawings.{DrawingValue}
 use Rattle.stitch_cli.specs.Sewings.{piece_reports}
-use Rattle.program_texts.specs.Reports.{route_report}
+use Rattle.route_texts.specs.declared.sewing_reports.Sewing.TheVariants as ways
+use Rattle.route_texts.specs.SewingReports.{sewing_report}
 
 abbrev at : ℕ → ℕ → Point
 at x y = record { x = pos x; y = pos y }
@@ -30,7 +31,7 @@ retraced cost = record { retraced = cost; walk = []; cuts = [] }
 
 -- each stroke there and back; pieces are counted through the whole drawing, and the needle goes
 -- down once more often than it makes steps
-pub known_report : route_report (piece_reports strokes 1 ((0 ∷ []) ∷ (1 ∷ 2 ∷ []) ∷ []) (retraced 4 ∷ retraced 5 ∷ []))
+pub known_report : sewing_report ways.Route (piece_reports strokes 1 ((0 ∷ []) ∷ (1 ∷ 2 ∷ []) ∷ []) (retraced 4 ∷ retraced 5 ∷ []))
     ≡ codes "block 1 piece 1 lines 1 cost 4 retraced 4 penetrations 9" ++ (newline
     ++ (codes "block 2 piece 2 lines 2 cost 5 retraced 5 penetrations 11" ++ (newline
     ++ (codes "pieces 2 penetrations 20" ++ newline))))

@@ -7,7 +7,7 @@ use Rattle.design_model.specs.TextLines.{newline}
 use Rattle.design_model.specs.declared.point.Point.{Point}
 use Rattle.line_graph.specs.Drawings.{DrawingValue}
 use Rattle.stitch_cli.specs.Samples.{summary_of}
-use Rattle.program_texts.specs.Reports.{summary_text}
+use Rattle.route_texts.specs.Summaries.{summary_text}
 
 abbrev at : ℤ → ℤ → Point
 at x y = record { x = x; y = y }

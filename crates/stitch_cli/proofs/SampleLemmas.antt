@@ -14,16 +14,16 @@ use Rattle.line_graph.specs.PieceGraphs.{PieceValue, piece_graph}
 use Rattle.line_graph.specs.PieceWalks.{piece_cost}
 use Rattle.route_core.specs.declared.routed.Routed.{Routed}
 use Rattle.route_core.specs.Routes.{IsLeastPieceRoute, IsRouteOver}
-use Rattle.program_texts.specs.declared.reports.PieceReport.{PieceReport}
-use Rattle.program_texts.specs.declared.summary.Summary.{Summary}
-use Rattle.stitch_cli.specs.OrderNames.{SampleOrder}
-use Rattle.stitch_cli.specs.Products.{ProductValue, one_file_product}
-use Rattle.program_texts.specs.PieceReports.{reports_from, piece_report}
+use Rattle.route_texts.specs.declared.sewing_reports.PieceReport.{PieceReport}
+use Rattle.route_texts.specs.declared.summary.Summary.{Summary}
+use Rattle.program_shell.specs.Products.{ProductValue, one_file_product}
+use Rattle.route_texts.specs.PieceReports.{reports_from, piece_report}
 use Rattle.stitch_cli.specs.Sewings.{piece_reports}
-use Rattle.program_texts.specs.PieceSums.{junctions_of_piece, odd_junctions_of_piece, sample_summary}
-use Rattle.stitch_cli.specs.Samples.{IsSampleProduct, cut_sum, sum_over_pieces, retraced_sum, summary_of}
-use Rattle.program_texts.specs.Reports.{penetrations_of, summary_text}
-use Rattle.stitch_cli.proofs.ReportLemmas.{reports_are}
+use Rattle.route_texts.specs.PieceSums.{junctions_of_piece, odd_junctions_of_piece, sample_summary}
+use Rattle.stitch_cli.specs.Samples.{IsSampleProduct, SampleOrder, cut_sum, sum_over_pieces, retraced_sum, summary_of}
+use Rattle.route_texts.specs.SewingReports.{penetrations_of}
+use Rattle.route_texts.specs.Summaries.{summary_text}
+use Rattle.stitch_cli.proofs.SewingLemmas.{reports_are}
 
 -- a sum over pieces that are cut from a drawing is one over their lines
 sums_are : (count : PieceValue → ℕ) (d : DrawingValue) (pieces : List Piece)

@@ -4,8 +4,8 @@ use Rattle.line_graph.specs.GrowingDrawings.{draw_is_out_of_memory}
 use Rattle.line_graph.specs.declared.draw_kind.DrawKind.TheVariants as kind
 use Rattle.outside_io.specs.Causes.{get_is_out_of_memory}
 use Rattle.outside_io.specs.declared.whole_files.GetFault.TheVariants as get
-use Rattle.program_texts.specs.declared.status.Status.TheVariants as status
-use Rattle.stitch_cli.specs.Runs.{status_is_out_of_memory, IsOrOutOfMemory}
+use Rattle.program_shell.specs.declared.status.Status.TheVariants as status
+use Rattle.program_shell.specs.Runs.{status_is_out_of_memory, IsOrOutOfMemory}
 use Rattle.stitch_trace.specs.Traces.{trace_is_out_of_memory}
 use Rattle.stitch_trace.specs.declared.trace_fault.TraceFault.TheVariants as trace
 

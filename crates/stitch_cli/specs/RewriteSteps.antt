@@ -7,11 +7,12 @@ use Rattle.design_model.specs.Designs.{DesignValue}
 use Rattle.format_traits.specs.declared.fault.WriteFault.{WriteFault}
 use Rattle.format_traits.specs.Laws.{MovesWithin, RoundTrips}
 use Rattle.format_traits.specs.Meanings.{Meaning}
-use Rattle.stitch_cli.specs.declared.failure.Failure.{Failure}
-use Rattle.stitch_cli.specs.declared.failure.Failure.TheVariants as failure
-use Rattle.stitch_cli.specs.Products.{ProductValue, one_file_product}
-use Rattle.stitch_cli.specs.Refusals.{RefusalValue, refusal_value, not_encodable}
-use Rattle.stitch_cli.specs.Refusals as refused
+use Rattle.program_shell.specs.declared.failure.Failure.{Failure}
+use Rattle.program_shell.specs.declared.failure.Failure.TheVariants as failure
+use Rattle.program_shell.specs.Products.{ProductValue, one_file_product}
+use Rattle.program_shell.specs.StepOutcomes.{IsRefusalWith}
+use Rattle.program_texts.specs.DesignTexts.{write_fault_text}
+use Rattle.stitch_cli.specs.Rewrites.{change_text}
 use Rattle.program_texts.specs.DesignReports.{written_report}
 
 -- The product of encoding a design: its file, and the report on it.
@@ -25,24 +26,19 @@ pub record IsEncodedProduct (name : List ℕ) (target : Meaning) (d : DesignValu
 
 -- The reason for which a format cannot encode a design.
 pub record IsNotEncodable (name : List ℕ) (target : Meaning) (d : DesignValue)
-    (why : RefusalValue) : Type 0 where
+    (text : List ℕ) : Type 0 where
   pub fault : WriteFault
-  pub is : why ≡ not_encodable name target.limit fault
+  pub is : text ≡ write_fault_text name target.limit fault
   pub refuses : target.writes d ≡ Err fault
 
 -- The result of encoding a design.
-abbrev pub IsEncodeResult : List ℕ → Meaning → DesignValue → Result ProductValue RefusalValue
+abbrev pub IsEncodeResult : List ℕ → Meaning → DesignValue → Result ProductValue (List ℕ)
     → Type 0
 IsEncodeResult name target d (Ok product) = IsEncodedProduct name target d product
-IsEncodeResult name target d (Err why) = IsNotEncodable name target d why
-
--- A failure that is a refusal for that reason.
-abbrev pub IsRefusedAs : RefusalValue → Failure → Type 0
-IsRefusedAs reason (failure.Refused why) = refusal_value why ≡ reason
-IsRefusedAs reason _ = ⊥
+IsEncodeResult name target d (Err text) = IsNotEncodable name target d text
 
 -- The failure of an order whose changes failed.
 abbrev pub IsChangeFailure : (input output : List ℕ) → ChangeFailure → Failure → Type 0
 IsChangeFailure input output change_failure.Memory why = why ≡ failure.Memory
 IsChangeFailure input output (change_failure.Refused fault) why =
-    IsRefusedAs (refused.change_refused input output fault) why
+    IsRefusalWith (change_text input output fault) why

@@ -7,27 +7,20 @@ use Rattle.certificate_text.specs.ReadCertificates.{cert_of}
 use Rattle.format_traits.specs.Meanings.{Meaning}
 use Rattle.line_graph.specs.Drawings.{DrawingValue}
 use Rattle.line_graph.specs.Pieces.{ArePieces}
-use Rattle.program_texts.specs.Reports.{route_report}
-use Rattle.route_core.specs.Routes.{IsLeastPieceRoute}
 use Rattle.odd_cuts.specs.Certificates.{walks_of}
-use Rattle.stitch_cli.specs.OrderNames.{RouteOrder}
-use Rattle.stitch_cli.specs.Plans.{Plan}
-use Rattle.stitch_cli.specs.Sewings.{IsSewnFile, piece_reports, sewing_plan}
+use Rattle.route_core.specs.Routes.{IsLeastPieceRoute}
+use Rattle.route_texts.specs.declared.sewing_reports.Sewing.TheVariants as ways
+use Rattle.route_texts.specs.SewingReports.{sewing_report}
+use Rattle.stitch_cli.specs.Sewings.{IsSewnFile, SewnFiles, piece_reports}
 
--- The result of routing a drawing: the file of the design, the text of the certificate, and the
--- report. Each piece has a best walk: one of the least cost, with a certificate that proves it. The
--- text is read as these certificates.
-pub record IsRouted (format : Meaning) (d : DrawingValue)
-    (design_file cert_text report : List ℕ) : Type 0 where
+-- The result of routing a drawing. Each piece has a best walk: one of the least cost, with a
+-- certificate that proves it. The text of the certificate is read as these certificates.
+pub record IsRouted (format : Meaning) (d : DrawingValue) (files : SewnFiles) : Type 0 where
   pub pieces : List (List ℕ)
   pub certs : List PieceCert
   pub pieces_are : ArePieces d pieces
   pub best : AllZip (IsLeastPieceRoute d) pieces certs
-  pub sewn : IsSewnFile format d (walks_of certs) design_file
-  pub cert_is : cert_text ≡ certificate_text certs
-  pub cert_reads : cert_of cert_text ≡ Ok certs
-  pub report_is : report ≡ route_report (piece_reports d 1 pieces certs)
-
--- The plan of `route`.
-abbrev pub route_plan : RouteOrder → Plan
-route_plan order = sewing_plan IsRouted order
+  pub sewn : IsSewnFile format d (walks_of certs) files.design_file
+  pub cert_is : files.cert_text ≡ certificate_text certs
+  pub cert_reads : cert_of files.cert_text ≡ Ok certs
+  pub report_is : files.report ≡ sewing_report ways.Route (piece_reports d 1 pieces certs)

@@ -11,12 +11,20 @@ use Rattle.line_graph.specs.Pieces.{ArePieces}
 use Rattle.line_graph.specs.PieceWalks.{piece_cost}
 use Rattle.route_core.specs.Routes.{IsLeastPieceRoute}
 use Rattle.sample_drawings.specs.Samples.{sample_drawing_of}
-use Rattle.program_texts.specs.declared.summary.Summary.{Summary}
-use Rattle.stitch_cli.specs.OrderNames.{SampleOrder}
-use Rattle.stitch_cli.specs.Plans.{Plan, accepts}
-use Rattle.stitch_cli.specs.Products.{ProductValue, one_file_product}
-use Rattle.program_texts.specs.PieceSums.{junctions_of_piece, odd_junctions_of_piece}
-use Rattle.program_texts.specs.Reports.{summary_text}
+use Rattle.route_texts.specs.declared.summary.Summary.{Summary}
+use Rattle.program_shell.specs.Plans.{Plan, accepts}
+use Rattle.program_shell.specs.Products.{ProductValue, one_file_product}
+use Rattle.route_texts.specs.PieceSums.{junctions_of_piece, odd_junctions_of_piece}
+use Rattle.route_texts.specs.Summaries.{summary_text}
+
+-- The order of `sample`: the number of the sample drawing, and the file to write it to.
+pub record SampleOrder : Type 0 where
+  pub number : ℕ
+  pub drawing : List ℕ
+
+-- The order of `sample`, from the number and the name of its file.
+abbrev pub sample_order : ℕ → List ℕ → SampleOrder
+sample_order number drawing = record { number = number; drawing = drawing }
 
 -- The sum of a number over pieces of a drawing.
 abbrev pub sum_over_pieces : (PieceValue → ℕ) → DrawingValue → List (List ℕ) → ℕ

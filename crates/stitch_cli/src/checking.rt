@@ -1,34 +1,51 @@
-ghost use Rattle.std.specs.Prelude.{◌≡◌, ◌<◌, ◌-◌, ◌≤◌, ◌^◌, All, Ok, Some, length, map, slice_get};
+ghost use Rattle.std.specs.Prelude.{◌≡◌, ◌<◌, ◌-◌, ◌≤◌, ◌^◌, All, Ok, Some, length, map, option_map, slice_get};
 ghost use Rattle.command_words.specs.ValidRequests.{AreCheckNames};
 ghost use Rattle.certificate_text.specs.ReadCertificates.{cert_of};
 ghost use Rattle.format_traits.specs.Meanings.{Meaning};
 ghost use Rattle.outside_io.specs.declared.limits.TheConstants.{MAX_FILE};
 ghost use Rattle.route_verdict.specs.Verdicts.{HasShortLists};
-ghost use Rattle.stitch_cli.specs.Checks.{IsCheckResult, check_cert, check_design, check_drawing, check_plan};
-ghost use Rattle.stitch_cli.specs.StepOutcomes.{RunsPlan, RunsPurePlan};
-ghost use Rattle.stitch_cli.specs.OrderNames.{check_order};
-ghost use Rattle.stitch_cli.specs.Plans.{satisfies};
+ghost use Rattle.format_traits.specs.Endings.{format_of};
+ghost use Rattle.stitch_cli.specs.Commands.{checking, stitch};
+ghost use Rattle.stitch_cli.specs.Checks.{IsCheckResult, bad_line_text, check_cert, check_design, check_drawing, check_order, check_plan, complete_check};
+ghost use Rattle.program_shell.specs.StepOutcomes.{IsRefusalWith, RunsPlan, RunsPurePlan, RunsRequest};
+ghost use Rattle.program_shell.specs.Plans.{satisfies};
 
 use crate::drawing_inputs::drawing_in;
-use crate::failure::{Failure, Refusal};
-use crate::format_indexes::load_at;
-use crate::product::{Product, only_report};
-use crate::reading::read_input;
 use certificate_text::{CertFault, read_cert};
 use command_words::CheckNames;
-use design_model::Design;
-use format_traits::{Format, Loaded};
+use design_model::{Design, Memory};
+use format_traits::{Format, Loaded, find};
 use line_graph::Drawing;
 use odd_cuts::Cert;
 use outside_io::Store;
-use program_texts::bytes_of;
+use program_shell::{Failure, Product, bytes_of, describe_part, load_at, only_report, read_input};
+use route_texts::describe_reason;
 use route_verdict::{Verdict, judge};
 use std::alloc::Global;
 
 /// Checks whether a design sews a drawing by the walks of a certificate, and the certificate proves them
-/// least. Reads the drawing, the design and the certificate, in this order. `place` is the index of the
-/// format of the design.
+/// least. Reads the drawing, the design and the certificate, in this order.
 pub(crate) fn check<'a, S: Store>(
+    alloc: Global,
+    names: CheckNames<'a>,
+    formats: &mut [Box<dyn Format>],
+    store: &mut S,
+) -> Result<Product<'a>, Failure<'a>>
+    requires { AreCheckNames names }
+    ensures answers { RunsRequest stitch (option_map (λ o. checking o)
+        (complete_check names.entry.drawing.now names.entry.file.now names.entry.cert.now
+        (format_of (map (λ f. meaning f) formats.old) names.entry.file.now)))
+        (S.view store.old) (S.view store.new) result }
+    ensures same { map (λ f. meaning f) formats.new ≡ map (λ f. meaning f) formats.old }
+{
+    match find(formats, names.file) {
+        Some(place) => check_by(alloc, names, formats, place, store),
+        None => Err(Failure::BadArguments),
+    }
+}
+
+/// Checks by the format of the design, given by its index.
+fn check_by<'a, S: Store>(
     alloc: Global,
     names: CheckNames<'a>,
     formats: &mut [Box<dyn Format>],
@@ -60,7 +77,7 @@ fn check_file<'a, S: Store>(
         (S.view store.old) (S.view store.new) result }
     ensures same { map (λ f. meaning f) formats.new ≡ map (λ f. meaning f) formats.old }
 {
-    let loaded = load_at(formats, place, store, names.file)?;
+    let loaded = load_at(alloc, formats, place, store, names.file)?;
     check_loaded(alloc, names, drawing, &loaded, store)
 }
 
@@ -93,10 +110,17 @@ fn check_text<'a>(
     match read_cert(alloc, bytes) {
         Ok(cert) => judged(alloc, drawing, design, &cert),
         Err(CertFault::Memory) => Err(Failure::Memory),
-        Err(CertFault::BadLine { number }) => Err(Failure::Refused(Refusal::BadCertificate {
-            name: names.cert,
-            number,
-        })),
+        Err(CertFault::BadLine { number }) => Err(bad_line(alloc, names.cert, number)),
+    }
+}
+
+/// Returns the refusal of a text that is not a certificate from that line on, or out of memory.
+fn bad_line<'a>(alloc: Global, name: &str, number: u32) -> Failure<'a>
+    ensures { IsRefusalWith (bad_line_text name.now number) result }
+{
+    match describe_part(alloc, name, "line", u64::from(number), "not a certificate") {
+        Ok(text) => Failure::Refused(text),
+        Err(Memory) => Failure::Memory,
     }
 }
 
@@ -116,6 +140,9 @@ fn judged<'a>(
             let report = bytes_of(alloc, b"yes\n")?;
             Ok(only_report(alloc, report))
         }
-        Verdict::No(why) => Err(Failure::Refused(Refusal::CheckFailed(why))),
+        Verdict::No(why) => {
+            let text = describe_reason(alloc, why)?;
+            Err(Failure::Refused(text))
+        }
     }
 }

@@ -1,22 +1,41 @@
-ghost use Rattle.std.specs.Prelude.{◌≡◌, ◌<◌, Some, length, map, slice_get};
+ghost use Rattle.std.specs.Prelude.{◌≡◌, ◌<◌, Some, length, map, option_map, slice_get};
+ghost use Rattle.format_traits.specs.Endings.{format_of};
 ghost use Rattle.format_traits.specs.Meanings.{Meaning};
 ghost use Rattle.outside_io.specs.Files.{IsFileName};
-ghost use Rattle.stitch_cli.specs.StepOutcomes.{RunsPlan, RunsPurePlan};
-ghost use Rattle.stitch_cli.specs.Hoops.{hoop_fitted, hoop_plan};
-ghost use Rattle.stitch_cli.specs.OrderNames.{hoop_order};
+ghost use Rattle.program_shell.specs.StepOutcomes.{RunsPlan, RunsPurePlan, RunsRequest};
+ghost use Rattle.stitch_cli.specs.Commands.{hooping, stitch};
+ghost use Rattle.stitch_cli.specs.Hoops.{complete_hoop, hoop_fitted, hoop_order, hoop_plan};
 
-use crate::failure::{Failure, Refusal};
-use crate::format_indexes::load_at;
-use crate::product::{Product, only_report};
-use format_traits::Format;
+use format_traits::{Format, find};
 use hoop_check::{Fit, fits};
 use outside_io::Store;
-use program_texts::bytes_of;
+use program_shell::{Failure, Product, bytes_of, load_at, only_report};
+use program_texts::describe_too_large;
 use std::alloc::Global;
 
-/// Checks whether the design of a file fits a hoop, whose sides are in tenths of a millimetre. `place` is the
-/// index of the format of the file.
+/// Checks whether the design of a file fits a hoop, whose sides are in tenths of a millimetre.
 pub(crate) fn hoop<'a, S: Store>(
+    alloc: Global,
+    file: &'a str,
+    width: u32,
+    height: u32,
+    formats: &mut [Box<dyn Format>],
+    store: &mut S,
+) -> Result<Product<'a>, Failure<'a>>
+    requires { IsFileName file.now }
+    ensures answers { RunsRequest stitch (option_map (λ o. hooping o) (complete_hoop file.now width height
+        (format_of (map (λ f. meaning f) formats.old) file.now)))
+        (S.view store.old) (S.view store.new) result }
+    ensures same { map (λ f. meaning f) formats.new ≡ map (λ f. meaning f) formats.old }
+{
+    match find(formats, file) {
+        Some(place) => hoop_by(alloc, file, formats, place, width, height, store),
+        None => Err(Failure::BadArguments),
+    }
+}
+
+/// Compares a file with a hoop by its format, given by its index.
+fn hoop_by<'a, S: Store>(
     alloc: Global,
     file: &'a str,
     formats: &mut [Box<dyn Format>],
@@ -32,7 +51,7 @@ pub(crate) fn hoop<'a, S: Store>(
         result }
     ensures same { map (λ f. meaning f) formats.new ≡ map (λ f. meaning f) formats.old }
 {
-    let loaded = load_at(formats, place, store, file)?;
+    let loaded = load_at(alloc, formats, place, store, file)?;
     fitted(alloc, fits(&loaded.design, width, height))
 }
 
@@ -48,9 +67,9 @@ fn fitted<'a>(alloc: Global, fit: Fit) -> Result<Product<'a>, Failure<'a>>
             let report = bytes_of(alloc, b"fits turned\n")?;
             Ok(only_report(alloc, report))
         }
-        Fit::No { over_x, over_y } => Err(Failure::Refused(Refusal::TooLarge {
-            x: over_x,
-            y: over_y,
-        })),
+        Fit::No { over_x, over_y } => {
+            let text = describe_too_large(alloc, over_x, over_y)?;
+            Err(Failure::Refused(text))
+        }
     }
 }

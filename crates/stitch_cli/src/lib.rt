@@ -3,15 +3,9 @@
 
 mod checking;
 mod commands;
-mod delivery;
 mod drawing_inputs;
-mod failure;
-mod format_indexes;
 mod hooping;
-mod messages;
 mod migrating;
-mod product;
-mod reading;
 mod rewriting;
 mod running;
 mod sampling;
@@ -19,8 +13,8 @@ mod sewing;
 mod showing;
 mod tracing;
 
-pub use failure::{Failure, Refusal};
-pub use product::{Output, Product};
-pub use program_texts::{PieceReport, Status, Summary, USAGE, report_out_of_memory};
-pub use running::run;
+pub use program_shell::{Failure, Output, Product, Status};
+pub use program_texts::USAGE;
+pub use route_texts::{PieceReport, Summary};
+pub use running::{report_out_of_memory, run};
 pub use sample_drawings::sample_drawing;

@@ -1,23 +1,40 @@
-ghost use Rattle.std.specs.Prelude.{IfOk};
+ghost use Rattle.std.specs.Prelude.{IfOk, option_map};
 ghost use Rattle.drawing_text.specs.DrawingText.{IsJoinedWithoutEnds};
 ghost use Rattle.outside_io.specs.Files.{IsFileName};
-ghost use Rattle.stitch_cli.specs.StepOutcomes.{RunsPlan};
-ghost use Rattle.stitch_cli.specs.Migrations.{IsMigrated, migrate_plan};
-ghost use Rattle.stitch_cli.specs.OrderNames.{migrate_order};
-ghost use Rattle.stitch_cli.specs.Products.{product_value};
+ghost use Rattle.program_shell.specs.StepOutcomes.{RunsPlan, RunsRequest};
+ghost use Rattle.stitch_cli.specs.Commands.{migrating, stitch};
+ghost use Rattle.stitch_cli.specs.Migrations.{IsMigrated, complete_migrate, migrate_order, migrate_plan};
+ghost use Rattle.program_shell.specs.Products.{product_value};
 
 use crate::drawing_inputs::drawing_as2_in;
-use crate::failure::Failure;
-use crate::product::{Output, Product, one_output};
 use design_model::Memory;
 use drawing_text::print_drawing2;
 use line_graph::{Drawing, drawing_cost, pieces};
 use outside_io::Store;
+use program_shell::{Failure, Output, Product, one_output};
 use program_texts::print_migration;
 use std::alloc::Global;
 
 /// Rewrites a drawing as the canonical text of version 2, and reports on it.
 pub(crate) fn migrate<'a, S: Store>(
+    alloc: Global,
+    input: &'a str,
+    output: &'a str,
+    store: &mut S,
+) -> Result<Product<'a>, Failure<'a>>
+    requires input { IsFileName input.now }
+    requires output { IsFileName output.now }
+    ensures { RunsRequest stitch (option_map (λ o. migrating o) (complete_migrate input.now output.now))
+        (S.view store.old) (S.view store.new) result }
+{
+    if input == output {
+        return Err(Failure::BadArguments);
+    }
+    migrate_apart(alloc, input, output, store)
+}
+
+/// Rewrites a drawing to a file of another name.
+fn migrate_apart<'a, S: Store>(
     alloc: Global,
     input: &'a str,
     output: &'a str,

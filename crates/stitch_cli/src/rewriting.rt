@@ -1,35 +1,63 @@
-ghost use Rattle.std.specs.Prelude.{◌≡◌, ◌<◌, Some, length, map, slice_get};
+ghost use Rattle.std.specs.Prelude.{◌≡◌, ◌<◌, IfOk, Some, length, map, option_map, slice_get, string_bytes};
 ghost use Rattle.command_words.specs.ValidRequests.{AreRewriteNames};
+ghost use Rattle.format_traits.specs.Endings.{format_of};
 ghost use Rattle.format_traits.specs.Meanings.{Meaning};
 ghost use Rattle.outside_io.specs.Files.{IsFileName};
-ghost use Rattle.stitch_cli.specs.StepOutcomes.{RunsPlan, RunsPurePlan};
-ghost use Rattle.stitch_cli.specs.OrderNames.{rewrite_order};
+ghost use Rattle.program_shell.specs.StepOutcomes.{IsRefusalWith, RunsPlan, RunsPurePlan, RunsRequest};
+ghost use Rattle.stitch_cli.specs.Commands.{rewriting, stitch};
 ghost use Rattle.design_changes.specs.AppliedChanges.{AreValidChanges, change_list};
 ghost use Rattle.stitch_cli.specs.RewriteSteps.{IsChangeFailure, IsEncodeResult};
-ghost use Rattle.stitch_cli.specs.Rewrites.{IsRewriteResult, rewrite_plan};
-ghost use Rattle.stitch_cli.specs.Plans.{satisfies};
+ghost use Rattle.stitch_cli.specs.Rewrites.{IsRewriteResult, change_text, complete_rewrite, rewrite_order, rewrite_plan};
+ghost use Rattle.program_shell.specs.Plans.{satisfies};
 
-use crate::failure::{Failure, Refusal};
-use crate::format_indexes::{format_at, load_at};
-use crate::product::{Output, Product, one_output};
 use command_words::RewriteNames;
-use design_changes::{ChangeFailure, Changes, changed};
-use design_model::{Design, counts};
-use format_traits::{Format, Loaded, WriteFault, encode_by, limit_of};
+use design_changes::{ChangeFailure, ChangeFault, Changes, changed};
+use design_model::{Design, Memory, counts};
+use format_traits::{Format, Loaded, WriteFault, encode_by, find, limit_of};
 use outside_io::Store;
-use program_texts::print_written;
+use program_shell::{Failure, Output, Product, format_at, load_at, one_output};
+use program_texts::{describe_command, describe_no_place, describe_write_fault, print_written};
 use std::alloc::Global;
 
 /// The indexes of the formats of an input and of an output in the list of formats.
 #[derive(Clone, Copy)]
-pub(crate) struct FormatIndexes {
-    pub source: usize,
-    pub target: usize,
+struct FormatIndexes {
+    source: usize,
+    target: usize,
 }
 
-/// Reads the design of a file, changes it, and encodes it as another file. The two formats, given by index,
-/// may be one.
+/// Reads the design of a file, changes it, and encodes it as another file.
 pub(crate) fn rewrite<'a, S: Store>(
+    alloc: Global,
+    names: RewriteNames<'a>,
+    changes: &Changes<'_>,
+    formats: &mut [Box<dyn Format>],
+    store: &mut S,
+) -> Result<Product<'a>, Failure<'a>>
+    requires names { AreRewriteNames names }
+    requires changes { AreValidChanges changes.now }
+    ensures answers { RunsRequest stitch (option_map (λ o. rewriting o)
+        (complete_rewrite names.entry.input.now names.entry.output.now (change_list changes.now)
+        (format_of (map (λ f. meaning f) formats.old) names.entry.input.now)
+        (format_of (map (λ f. meaning f) formats.old) names.entry.output.now)))
+        (S.view store.old) (S.view store.new) result }
+    ensures same { map (λ f. meaning f) formats.new ≡ map (λ f. meaning f) formats.old }
+{
+    if names.input == names.output {
+        return Err(Failure::BadArguments);
+    }
+    let Some(source) = find(formats, names.input) else {
+        return Err(Failure::BadArguments);
+    };
+    let Some(target) = find(formats, names.output) else {
+        return Err(Failure::BadArguments);
+    };
+    let places = FormatIndexes { source, target };
+    rewrite_by(alloc, names, formats, places, changes, store)
+}
+
+/// Rewrites a file by the two formats, given by their indexes. They may be one.
+fn rewrite_by<'a, S: Store>(
     alloc: Global,
     names: RewriteNames<'a>,
     formats: &mut [Box<dyn Format>],
@@ -48,7 +76,7 @@ pub(crate) fn rewrite<'a, S: Store>(
         (S.view store.old) (S.view store.new) result }
     ensures same { map (λ f. meaning f) formats.new ≡ map (λ f. meaning f) formats.old }
 {
-    let loaded = load_at(formats, places.source, store, names.input)?;
+    let loaded = load_at(alloc, formats, places.source, store, names.input)?;
     rewrite_loaded(
         alloc,
         names,
@@ -74,16 +102,50 @@ fn rewrite_loaded<'a>(
     let Loaded { design, ended: _ } = loaded;
     match changed(alloc, design, limit_of(target), changes) {
         Ok(design) => encoded_product(alloc, names.output, target, &design),
-        Err(why) => Err(change_failure(names, why)),
+        Err(why) => Err(change_failure(alloc, names, why)),
     }
 }
 
-fn change_failure<'a>(names: RewriteNames<'a>, why: ChangeFailure) -> Failure<'a>
+fn change_failure<'a>(alloc: Global, names: RewriteNames<'_>, why: ChangeFailure) -> Failure<'a>
     ensures { IsChangeFailure names.entry.input.now names.entry.output.now why result }
 {
     match why {
-        ChangeFailure::Refused(fault) => Failure::Refused(Refusal::ChangeRefused { names, fault }),
+        ChangeFailure::Refused(fault) => change_refused(alloc, names, fault),
         ChangeFailure::Memory => Failure::Memory,
+    }
+}
+
+/// Returns the refusal of a change, or out of memory.
+fn change_refused<'a>(alloc: Global, names: RewriteNames<'_>, fault: ChangeFault) -> Failure<'a>
+    ensures { IsRefusalWith (change_text names.entry.input.now names.entry.output.now fault) result }
+{
+    match describe_change(alloc, names, fault) {
+        Ok(text) => Failure::Refused(text),
+        Err(Memory) => Failure::Memory,
+    }
+}
+
+fn describe_change(
+    alloc: Global,
+    names: RewriteNames<'_>,
+    fault: ChangeFault,
+) -> Result<String, Memory>
+    ensures { IfOk result (λ text. string_bytes text
+        ≡ change_text names.entry.input.now names.entry.output.now fault) }
+{
+    match fault {
+        ChangeFault::RefitTooMany { number } => {
+            describe_command(alloc, names.output, number, "too many commands")
+        }
+        ChangeFault::MovedOut { number } => {
+            describe_command(alloc, names.input, number, "moved out of range")
+        }
+        ChangeFault::NoPlace { place, count } => describe_no_place(
+            alloc,
+            names.input,
+            place,
+            count,
+        ),
     }
 }
 
@@ -104,10 +166,9 @@ fn encoded_product<'a>(
             Ok(product)
         }
         Err(WriteFault::Memory) => Err(Failure::Memory),
-        Err(fault) => Err(Failure::Refused(Refusal::NotEncodable {
-            name,
-            limit: limit_of(target),
-            fault,
-        })),
+        Err(fault) => {
+            let text = describe_write_fault(alloc, name, limit_of(target), fault)?;
+            Err(Failure::Refused(text))
+        }
     }
 }

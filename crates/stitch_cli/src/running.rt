@@ -1,16 +1,17 @@
-ghost use Rattle.std.specs.Prelude.{◌≡◌, map, string_bytes};
-ghost use Rattle.stitch_cli.specs.StepOutcomes.{IsRunOutcome};
-ghost use Rattle.stitch_cli.specs.Orders.{order_of};
-ghost use Rattle.stitch_cli.specs.RunViews.{views_of};
-ghost use Rattle.stitch_cli.specs.Runs.{RunEnds};
+ghost use Rattle.std.specs.Prelude.{◌≡◌, codes, map, string_bytes};
+ghost use Rattle.program_shell.specs.Messages.{out_of_memory_line};
+ghost use Rattle.program_shell.specs.Puts.{ReportsLineWithStatus};
+ghost use Rattle.program_shell.specs.Runs.{RunEnds};
+ghost use Rattle.program_shell.specs.RunViews.{views_of};
+ghost use Rattle.program_shell.specs.declared.status.Status.TheVariants as status;
+ghost use Rattle.stitch_cli.specs.Commands.{order_of, stitch};
 
 use crate::commands::make_product;
-use crate::delivery::deliver;
-use crate::messages::report_failure;
 use format_traits::Format;
 use line_graph::pieces_are_unique;
 use outside_io::{Sink, Store};
-use program_texts::Status;
+use program_shell::{Status, finish};
+use program_texts::usage;
 use std::alloc::Global;
 
 /// Runs the command that the arguments request, and returns its exit status. Reads the inputs from the store.
@@ -27,30 +28,28 @@ pub fn run<S: Store, O: Sink, E: Sink>(
     out: &mut O,
     err: &mut E,
 ) -> Status
-    ensures ends { RunEnds (order_of (map (λ f. meaning f) formats.old) (map string_bytes words.now))
+    ensures ends { RunEnds stitch
+        (order_of (map (λ f. meaning f) formats.old) (map string_bytes words.now))
         (views_of (S.view store.old) (O.view out.old) (E.view err.old))
         (views_of (S.view store.new) (O.view out.new) (E.view err.new)) result }
     ensures formats { map (λ f. meaning f) formats.new ≡ map (λ f. meaning f) formats.old }
 {
     pieces_are_unique();
-    run_once(alloc, words, formats, store, out, err)
+    let made = make_product(alloc, words, formats, store);
+    finish(name(), usage(), made, store, out, err)
 }
 
-fn run_once<S: Store, O: Sink, E: Sink>(
-    alloc: Global,
-    words: &[String],
-    formats: &mut [Box<dyn Format>],
-    store: &mut S,
-    out: &mut O,
-    err: &mut E,
-) -> Status
-    ensures ends { IsRunOutcome (order_of (map (λ f. meaning f) formats.old) (map string_bytes words.now))
-        (views_of (S.view store.old) (O.view out.old) (E.view err.old))
-        (views_of (S.view store.new) (O.view out.new) (E.view err.new)) result }
-    ensures same { map (λ f. meaning f) formats.new ≡ map (λ f. meaning f) formats.old }
+/// Reports out of memory on `err`, for a run that has not begun.
+pub fn report_out_of_memory<E: Sink>(err: &mut E) -> Status
+    ensures { ReportsLineWithStatus (out_of_memory_line (codes "stitch")) status.Memory (E.view err.old)
+        (E.view err.new) result }
 {
-    match make_product(alloc, words, formats, store) {
-        Ok(product) => deliver(&product, store, out, err),
-        Err(why) => report_failure(err, why),
-    }
+    program_shell::report_out_of_memory(err, name())
+}
+
+/// Returns the name of the program, with which each line on the standard error begins.
+fn name() -> &'static [u8]
+    ensures { result.now ≡ codes "stitch" }
+{
+    b"stitch"
 }

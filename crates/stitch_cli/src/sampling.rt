@@ -3,18 +3,16 @@ ghost use Rattle.line_graph.specs.WalkEnds.{HasNoEnds};
 ghost use Rattle.outside_io.specs.Files.{IsFileName};
 ghost use Rattle.sample_drawings.specs.declared.draws.TheConstants.{MAX_NUMBER};
 ghost use Rattle.sample_drawings.specs.Samples.{sample_drawing_of};
-ghost use Rattle.stitch_cli.specs.StepOutcomes.{RunsPurePlan};
-ghost use Rattle.stitch_cli.specs.OrderNames.{sample_order};
-ghost use Rattle.stitch_cli.specs.Products.{product_value};
-ghost use Rattle.stitch_cli.specs.Samples.{IsSampleProduct, sample_plan};
+ghost use Rattle.program_shell.specs.StepOutcomes.{RunsPurePlan};
+ghost use Rattle.program_shell.specs.Products.{product_value};
+ghost use Rattle.stitch_cli.specs.Samples.{IsSampleProduct, sample_order, sample_plan};
 
-use crate::failure::Failure;
-use crate::product::{Output, Product, one_output};
 use design_model::Memory;
 use drawing_text::print_drawing;
 use line_graph::{Drawing, pieces};
-use program_texts::{print_summary, summary_of};
+use program_shell::{Failure, Output, Product, one_output};
 use route_core::route_pieces;
+use route_texts::{print_summary, summary_of};
 use sample_drawings::sample_drawing;
 use std::alloc::Global;
 

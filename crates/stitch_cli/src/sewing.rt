@@ -1,50 +1,73 @@
-ghost use Rattle.std.specs.Prelude.{◌≡◌, ◌≢◌, ◌≤◌, IfOk};
+ghost use Rattle.std.specs.Prelude.{◌≡◌, ◌≢◌, ◌≤◌, IfOk, map, option_map};
+ghost use Rattle.std.specs.Bool.{OnTrue};
 ghost use Rattle.command_words.specs.ValidRequests.{AreRouteNames};
 ghost use Rattle.format_traits.specs.declared.format_object.TheConstants.{MIN_LIMIT};
+ghost use Rattle.format_traits.specs.Endings.{format_of};
 ghost use Rattle.format_traits.specs.PlainDesigns.{IsPlain};
+ghost use Rattle.line_graph.specs.PiecesOfDrawings.{ArePiecesOf, lines_of_pieces};
 ghost use Rattle.line_graph.specs.Runs.{AreWritable, runs_of, sewn_design};
 ghost use Rattle.odd_cuts.specs.Certificates.{walks_of};
-ghost use Rattle.stitch_cli.specs.DoubleRuns.{IsDoubleRun};
-ghost use Rattle.stitch_cli.specs.StepOutcomes.{RunsPlan, RunsPurePlan};
-ghost use Rattle.stitch_cli.specs.OrderNames.{route_order};
-ghost use Rattle.stitch_cli.specs.Products.{product_value, two_file_product};
-ghost use Rattle.stitch_cli.specs.Routes.{IsRouted};
-ghost use Rattle.stitch_cli.specs.SewingSteps.{IsSewnBy};
-ghost use Rattle.stitch_cli.specs.Sewings.{IsSewnProduct, IsSewnFile, sewing_drawing, sewing_plan};
+ghost use Rattle.program_shell.specs.Products.{product_value, two_file_product};
+ghost use Rattle.program_shell.specs.StepOutcomes.{RunsPlan, RunsPurePlan, RunsRequest};
+ghost use Rattle.stitch_cli.specs.Commands.{sewing, stitch};
+ghost use Rattle.stitch_cli.specs.Sewings.{IsSewnProduct, IsSewnFile, complete_sewing, names_differ, sewing_drawing, sewing_order, sewing_plan};
+ghost use Rattle.stitch_cli.specs.SewingWays.{IsSewnBy, IsSewnOver};
 
 use crate::drawing_inputs::drawing_in;
-use crate::failure::{Failure, Refusal};
-use crate::product::{Output, Product, two_outputs};
 use certificate_text::print_cert;
 use command_words::RouteNames;
 use design_model::{Bytes, Memory};
-use format_traits::{Format, WriteFault, encode_by, ext_of, limit_of};
-use line_graph::{Drawing, pieces, runs_are_sewn};
+use format_traits::{Format, WriteFault, encode_by, ext_of, find, limit_of};
+use line_graph::{Drawing, Piece, pieces, runs_are_sewn};
 use outside_io::Store;
-use program_texts::{bytes_of, print_double, print_route};
+use program_shell::{Failure, Output, Product, format_at, two_outputs};
+use program_texts::describe_step;
 use route_core::{Routed, double_pieces, route_pieces};
+use route_texts::{Sewing, print_sewing};
 use std::alloc::Global;
 
-/// The kind of walks that sew the pieces of a drawing.
-#[derive(Clone, Copy)]
-pub(crate) enum WalkKind {
-    /// Walks of the least cost.
-    Least,
-    /// Double walks, whose certificate has no cuts.
-    Double,
-}
-
-/// Sews a drawing: makes its certificate, the file of the design that sews it, and the report.
+/// Sews a drawing that way: makes its certificate, the file of the design that sews it, and the report.
 pub(crate) fn sew<'a, S: Store>(
     alloc: Global,
-    way: WalkKind,
+    way: Sewing,
+    names: RouteNames<'a>,
+    formats: &[Box<dyn Format>],
+    store: &mut S,
+) -> Result<Product<'a>, Failure<'a>>
+    requires { AreRouteNames names }
+    ensures { RunsRequest stitch (option_map (λ o. sewing way o)
+        (complete_sewing names.entry.drawing.now names.entry.out.now names.entry.cert.now
+        (format_of (map (λ f. meaning f) formats.now) names.entry.out.now)))
+        (S.view store.old) (S.view store.new) result }
+{
+    if !are_apart(names) {
+        return Err(Failure::BadArguments);
+    }
+    match find(formats, names.out) {
+        Some(place) => sew_by(alloc, way, names, format_at(formats, place), store),
+        None => Err(Failure::BadArguments),
+    }
+}
+
+fn are_apart(names: RouteNames<'_>) -> bool
+    ensures value { result ≡ names_differ names.entry.drawing.now names.entry.out.now
+        names.entry.cert.now }
+    ensures written { OnTrue result (names.entry.cert.now ≢ names.entry.out.now) }
+{
+    names.drawing != names.out && names.drawing != names.cert && names.out != names.cert
+}
+
+/// Reads the drawing, and sews it by a format.
+fn sew_by<'a, S: Store>(
+    alloc: Global,
+    way: Sewing,
     names: RouteNames<'a>,
     format: &Box<dyn Format>,
     store: &mut S,
 ) -> Result<Product<'a>, Failure<'a>>
     requires names { AreRouteNames names }
     requires apart { names.cert.now ≢ names.out.now }
-    ensures { RunsPlan (sewing_plan (IsSewnBy way) (route_order names.entry (meaning format.now)))
+    ensures { RunsPlan (sewing_plan (IsSewnBy way) (sewing_order names.entry (meaning format.now)))
         (S.view store.old) (S.view store.new) result }
 {
     let drawing = drawing_in(alloc, store, names.drawing)?;
@@ -53,26 +76,21 @@ pub(crate) fn sew<'a, S: Store>(
 
 fn sew_drawing<'a>(
     alloc: Global,
-    way: WalkKind,
+    way: Sewing,
     names: RouteNames<'a>,
     format: &Box<dyn Format>,
     drawing: &Drawing,
 ) -> Result<Product<'a>, Failure<'a>>
     requires names { AreRouteNames names }
     requires apart { names.cert.now ≢ names.out.now }
-    ensures { RunsPurePlan (sewing_drawing (IsSewnBy way) (route_order names.entry (meaning format.now))
+    ensures { RunsPurePlan (sewing_drawing (IsSewnBy way) (sewing_order names.entry (meaning format.now))
         drawing.now) result }
 {
     let step = drawing.step();
     let limit = limit_of(format);
     if limit < step {
-        let ending = bytes_of(alloc, ext_of(format).as_bytes())?;
-        return Err(Failure::Refused(Refusal::StepTooLong {
-            name: names.drawing,
-            step,
-            limit,
-            ending,
-        }));
+        let text = describe_step(alloc, names.drawing, step, limit, ext_of(format))?;
+        return Err(Failure::Refused(text));
     }
     let product = sewn(alloc, way, names, format, drawing)?;
     Ok(product)
@@ -81,7 +99,7 @@ fn sew_drawing<'a>(
 /// Returns the product of a drawing whose step is within the limit of the format.
 fn sewn<'a>(
     alloc: Global,
-    way: WalkKind,
+    way: Sewing,
     names: RouteNames<'a>,
     format: &Box<dyn Format>,
     drawing: &Drawing,
@@ -89,57 +107,32 @@ fn sewn<'a>(
     requires limit { MIN_LIMIT ≤ (meaning format.now).limit }
     requires step { drawing.now.step ≤ (meaning format.now).limit }
     ensures { IfOk result (λ product. IsSewnProduct (IsSewnBy way)
-        (route_order names.entry (meaning format.now)) drawing.now
+        (sewing_order names.entry (meaning format.now)) drawing.now
         (product_value product)) }
+{
+    let pieces = pieces(alloc, drawing)?;
+    let routed = walks_over(alloc, way, drawing, pieces.as_slice())?;
+    let design_file = encoded(alloc, format, drawing, &routed)?;
+    let cert_text = print_cert(alloc, &routed.cert)?;
+    let report = print_sewing(alloc, way, pieces.as_slice(), routed.cert.pieces.as_slice())?;
+    let product = sewn_product(alloc, names, cert_text, design_file, report)?;
+    Ok(product)
+}
+
+/// Returns the walks over the pieces of a drawing, that way, and the design that sews them.
+fn walks_over(
+    alloc: Global,
+    way: Sewing,
+    drawing: &Drawing,
+    pieces: &[Piece],
+) -> Result<Routed, Memory>
+    requires { ArePiecesOf drawing.now pieces.now }
+    ensures { IfOk result (IsSewnOver way drawing.now (lines_of_pieces pieces.now)) }
 {
     match way {
-        WalkKind::Least => routed(alloc, names, format, drawing),
-        WalkKind::Double => doubled(alloc, names, format, drawing),
+        Sewing::Route => route_pieces(alloc, drawing, pieces),
+        Sewing::Double => double_pieces(alloc, drawing, pieces),
     }
-}
-
-/// Returns the product of a drawing that is sewn by walks of the least cost.
-fn routed<'a>(
-    alloc: Global,
-    names: RouteNames<'a>,
-    format: &Box<dyn Format>,
-    drawing: &Drawing,
-) -> Result<Product<'a>, Memory>
-    requires limit { MIN_LIMIT ≤ (meaning format.now).limit }
-    requires step { drawing.now.step ≤ (meaning format.now).limit }
-    ensures { IfOk result (λ product. IsSewnProduct IsRouted
-        (route_order names.entry (meaning format.now)) drawing.now
-        (product_value product)) }
-{
-    let pieces = pieces(alloc, drawing)?;
-    let routed = route_pieces(alloc, drawing, pieces.as_slice())?;
-    let design_file = encoded(alloc, format, drawing, &routed)?;
-    let cert_text = print_cert(alloc, &routed.cert)?;
-    let report = print_route(alloc, pieces.as_slice(), routed.cert.pieces.as_slice())?;
-    let product = sewn_product(alloc, names, cert_text, design_file, report)?;
-    Ok(product)
-}
-
-/// Returns the product of a drawing that is sewn by double walks.
-fn doubled<'a>(
-    alloc: Global,
-    names: RouteNames<'a>,
-    format: &Box<dyn Format>,
-    drawing: &Drawing,
-) -> Result<Product<'a>, Memory>
-    requires limit { MIN_LIMIT ≤ (meaning format.now).limit }
-    requires step { drawing.now.step ≤ (meaning format.now).limit }
-    ensures { IfOk result (λ product. IsSewnProduct IsDoubleRun
-        (route_order names.entry (meaning format.now)) drawing.now
-        (product_value product)) }
-{
-    let pieces = pieces(alloc, drawing)?;
-    let routed = double_pieces(alloc, drawing, pieces.as_slice())?;
-    let design_file = encoded(alloc, format, drawing, &routed)?;
-    let cert_text = print_cert(alloc, &routed.cert)?;
-    let report = print_double(alloc, pieces.as_slice(), routed.cert.pieces.as_slice())?;
-    let product = sewn_product(alloc, names, cert_text, design_file, report)?;
-    Ok(product)
 }
 
 /// Returns the product of a certificate, which is written first, a design file and a report.

@@ -1,20 +1,38 @@
-ghost use Rattle.std.specs.Prelude.{◌≡◌, ◌<◌, Ok, Some, length, map, slice_get};
+ghost use Rattle.std.specs.Prelude.{◌≡◌, ◌<◌, Ok, Some, length, map, option_map, slice_get};
+ghost use Rattle.format_traits.specs.Endings.{format_of};
 ghost use Rattle.format_traits.specs.Meanings.{Meaning};
 ghost use Rattle.outside_io.specs.Files.{IsFileName};
-ghost use Rattle.stitch_cli.specs.StepOutcomes.{RunsPlan, RunsPurePlan};
-ghost use Rattle.stitch_cli.specs.OrderNames.{show_order};
-ghost use Rattle.stitch_cli.specs.Shows.{show_plan, show_read};
+ghost use Rattle.program_shell.specs.StepOutcomes.{RunsPlan, RunsPurePlan, RunsRequest};
+ghost use Rattle.stitch_cli.specs.Commands.{showing, stitch};
+ghost use Rattle.stitch_cli.specs.Shows.{complete_show, show_order, show_plan, show_read};
 
-use crate::failure::Failure;
-use crate::format_indexes::{format_at, load_at};
-use crate::product::{Product, only_report};
-use format_traits::{Format, Loaded, ext_of};
+use format_traits::{Format, Loaded, ext_of, find};
 use outside_io::Store;
+use program_shell::{Failure, Product, format_at, load_at, only_report};
 use program_texts::print_loaded;
 use std::alloc::Global;
 
-/// Makes the report on the contents of a file. `place` is the index of the format of the file.
+/// Makes the report on the contents of a file.
 pub(crate) fn show<'a, S: Store>(
+    alloc: Global,
+    file: &'a str,
+    formats: &mut [Box<dyn Format>],
+    store: &mut S,
+) -> Result<Product<'a>, Failure<'a>>
+    requires { IsFileName file.now }
+    ensures answers { RunsRequest stitch (option_map (λ o. showing o) (complete_show file.now
+        (format_of (map (λ f. meaning f) formats.old) file.now)))
+        (S.view store.old) (S.view store.new) result }
+    ensures same { map (λ f. meaning f) formats.new ≡ map (λ f. meaning f) formats.old }
+{
+    match find(formats, file) {
+        Some(place) => show_by(alloc, file, formats, place, store),
+        None => Err(Failure::BadArguments),
+    }
+}
+
+/// Reports on a file by its format, given by its index.
+fn show_by<'a, S: Store>(
     alloc: Global,
     file: &'a str,
     formats: &mut [Box<dyn Format>],
@@ -27,7 +45,7 @@ pub(crate) fn show<'a, S: Store>(
         → RunsPlan (show_plan (show_order file.now m)) (S.view store.old) (S.view store.new) result }
     ensures same { map (λ f. meaning f) formats.new ≡ map (λ f. meaning f) formats.old }
 {
-    let loaded = load_at(formats, place, store, file)?;
+    let loaded = load_at(alloc, formats, place, store, file)?;
     shown(alloc, file, format_at(formats, place), &loaded)
 }
 

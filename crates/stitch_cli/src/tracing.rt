@@ -1,28 +1,51 @@
-ghost use Rattle.std.specs.Prelude.{◌≡◌, ◌<◌, IfOk, Some, length, map, slice_get};
+ghost use Rattle.std.specs.Prelude.{◌≡◌, ◌<◌, IfOk, Some, length, map, option_map, slice_get};
+ghost use Rattle.format_traits.specs.Endings.{format_of};
 ghost use Rattle.format_traits.specs.Meanings.{Meaning};
 ghost use Rattle.drawing_text.specs.DrawingText.{IsJoinedWithoutEnds};
 ghost use Rattle.outside_io.specs.Files.{IsFileName};
+ghost use Rattle.program_texts.specs.DrawingTexts.{trace_fault_text};
 ghost use Rattle.stitch_trace.specs.Traces.{traced};
-ghost use Rattle.stitch_cli.specs.StepOutcomes.{RunsPlan, RunsPurePlan};
-ghost use Rattle.stitch_cli.specs.OrderNames.{trace_order};
-ghost use Rattle.stitch_cli.specs.Products.{product_value};
-ghost use Rattle.stitch_cli.specs.Tracings.{IsTraced, trace_made, trace_plan};
+ghost use Rattle.program_shell.specs.StepOutcomes.{IsRefusalWith, RunsPlan, RunsPurePlan, RunsRequest};
+ghost use Rattle.stitch_cli.specs.Commands.{stitch, tracing};
+ghost use Rattle.program_shell.specs.Products.{product_value};
+ghost use Rattle.stitch_cli.specs.Tracings.{IsTraced, complete_trace, trace_made, trace_order, trace_plan};
 
-use crate::failure::{Failure, Refusal};
-use crate::format_indexes::load_at;
-use crate::product::{Output, Product, one_output};
 use design_model::{Design, Memory};
 use drawing_text::print_drawing2;
-use format_traits::Format;
+use format_traits::{Format, find};
 use line_graph::Drawing;
 use outside_io::Store;
-use program_texts::print_tracing;
+use program_shell::{Failure, Output, Product, load_at, one_output};
+use program_texts::{describe_trace_fault, print_tracing};
 use std::alloc::Global;
 use stitch_trace::{TraceFault, trace};
 
-/// Traces the drawing of what a file sews: makes the canonical text of version 2, and a report on it. `place`
-/// is the index of the format of the file.
+/// Traces the drawing of what a file sews: makes the canonical text of version 2, and a report on it.
 pub(crate) fn trace_file<'a, S: Store>(
+    alloc: Global,
+    file: &'a str,
+    drawing: &'a str,
+    formats: &mut [Box<dyn Format>],
+    store: &mut S,
+) -> Result<Product<'a>, Failure<'a>>
+    requires file { IsFileName file.now }
+    requires drawing { IsFileName drawing.now }
+    ensures answers { RunsRequest stitch (option_map (λ o. tracing o) (complete_trace file.now drawing.now
+        (format_of (map (λ f. meaning f) formats.old) file.now)))
+        (S.view store.old) (S.view store.new) result }
+    ensures same { map (λ f. meaning f) formats.new ≡ map (λ f. meaning f) formats.old }
+{
+    if file == drawing {
+        return Err(Failure::BadArguments);
+    }
+    match find(formats, file) {
+        Some(place) => trace_by(alloc, file, drawing, formats, place, store),
+        None => Err(Failure::BadArguments),
+    }
+}
+
+/// Traces a file by its format, given by its index.
+fn trace_by<'a, S: Store>(
     alloc: Global,
     file: &'a str,
     drawing: &'a str,
@@ -38,7 +61,7 @@ pub(crate) fn trace_file<'a, S: Store>(
         result }
     ensures same { map (λ f. meaning f) formats.new ≡ map (λ f. meaning f) formats.old }
 {
-    let loaded = load_at(formats, place, store, file)?;
+    let loaded = load_at(alloc, formats, place, store, file)?;
     trace_design(alloc, file, drawing, &loaded.design)
 }
 
@@ -59,7 +82,17 @@ fn trace_design<'a>(
             Ok(product)
         }
         Err(TraceFault::Memory) => Err(Failure::Memory),
-        Err(fault) => Err(Failure::Refused(Refusal::NotTraceable { name: file, fault })),
+        Err(fault) => Err(not_traceable(alloc, file, fault)),
+    }
+}
+
+/// Returns the refusal of a design that has no traced drawing, or out of memory.
+fn not_traceable<'a>(alloc: Global, file: &str, fault: TraceFault) -> Failure<'a>
+    ensures { IsRefusalWith (trace_fault_text file.now fault) result }
+{
+    match describe_trace_fault(alloc, file, fault) {
+        Ok(text) => Failure::Refused(text),
+        Err(Memory) => Failure::Memory,
     }
 }
 

@@ -1,19 +1,11 @@
-use Rattle.std.proofs.Common.{subst}
-use Rattle.format_traits.specs.Meanings.{Meaning}
-use Rattle.stitch_cli.specs.StepOutcomes.{RunsPurePlan}
-use Rattle.stitch_cli.specs.OrderNames.{rewrite_order}
-use Rattle.stitch_cli.specs.Plans.{satisfies}
+use Rattle.std.proofs.Common.{◌≡◌, false, bytes_eq, sym, rules}
 use Rattle.design_changes.specs.AppliedChanges.{change_list}
-use Rattle.stitch_cli.specs.Rewrites.{IsRewriteResult, rewrite_read}
-use Rattle.stitch_cli.proofs.FormatLemmas.{same_format}
-use Rattle.stitch_cli.proofs.PlanLemmas.{settles_taken}
+use Rattle.stitch_cli.proofs.FormatLemmas.{rewriting_found}
 use Rattle.stitch_cli.proofs.rewriting.rewrite.Goals as goal
 
-pub returns-clause-prepares : goal.returns-clause-prepares
-returns-clause-prepares g c = λ s t of_source of_target.
-    settles_taken _ s.reads (rewrite_read (rewrite_order c.args.names s t (change_list c.args.changes.now))) _ _ _ _
-    (c.in_ok-loaded.ensures.loads s of_source)
-    (subst (λ (here : Meaning). RunsPurePlan (satisfies
-    (IsRewriteResult (rewrite_order c.args.names s here (change_list c.args.changes.now))
-    c.in_ok-loaded.loaded)) c.rewrite_loaded.result)
-    (same_format _ _ c.args.places.target _ t c.in_ok-loaded.ensures.same c.format_at.ensures of_target) (c.rewrite_loaded.ensures s))
+pub returns-clause-answers : goal.returns-clause-answers
+returns-clause-answers g c =
+    let apart : bytes_eq c.args.names.input.now c.args.names.output.now ≡ false = search rules in
+    rewriting_found _ c.args.formats.now c.args.names.input.now c.args.names.output.now (change_list c.args.changes.now) _ _ _ _ _
+    (sym c.in-Some.ensures.value) (sym c.in-Some-find.ensures.value) c.in-Some.ensures.there c.in-Some-find.ensures.there apart
+    c.rewrite_by.ensures.prepares

@@ -1,5 +1,12 @@
-use Rattle.stitch_cli.proofs.RunLemmas.{run_ends}
+use Rattle.std.proofs.Common.{subst}
+use Rattle.program_shell.proofs.CallerLemmas.{can_finish, ends}
+use Rattle.stitch_cli.specs.Commands.{stitch}
+use Rattle.stitch_cli.proofs.CommandLemmas.{stitch_sound}
 use Rattle.stitch_cli.proofs.running.run.Goals as goal
 
+pub finish-requires : goal.finish-requires
+finish-requires g c = can_finish stitch _ _ _ _ c.make_product-made.ensures.answers
+
 pub returns-clause-ends : goal.returns-clause-ends
-returns-clause-ends g c = run_ends c.pieces_are_unique.ensures _ _ _ _ c.run_once.ensures.ends
+returns-clause-ends g c = ends stitch (stitch_sound c.pieces_are_unique.ensures) _ _ _ _ _ _ _ _ c.make_product-made.ensures.answers
+    (rw (c.name.ensures, c.usage.ensures) at c.finish.ensures)

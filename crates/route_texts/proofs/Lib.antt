@@ -1,0 +1,4 @@
+mod ReportLemmas
+mod OddCountLemmas
+mod ReportFacts
+mod ReasonFacts

@@ -1,0 +1,132 @@
+ghost use Rattle.std.specs.Prelude.{◌≡◌, ◌+◌, ◌<◌, ◌≤◌, ◌^◌, All, IfOk, length, sum_by};
+ghost use Rattle.line_graph.specs.declared.limits.TheConstants.{MAX_BLOCKS, MAX_LINES};
+ghost use Rattle.line_graph.specs.PieceGraphs.{one_if};
+ghost use Rattle.line_graph.specs.PiecesOfDrawings.{graph_of};
+ghost use Rattle.route_texts.specs.OddCounts.{odd_number};
+ghost use Rattle.route_texts.specs.PieceReports.{reports_from};
+ghost use Rattle.route_texts.specs.PieceSums.{junctions_of_piece, total_junctions, odd_junctions_of_piece, total_odd_junctions, sample_summary};
+ghost use Rattle.route_texts.specs.SewingReports.{penetrations_of};
+
+use crate::sewing_reports::{PieceReport, reports_of};
+use crate::summary::Summary;
+use design_model::Memory;
+use line_graph::{Piece, is_odd_at};
+use odd_cuts::PieceCert;
+use std::alloc::Global;
+
+/// Returns the summary of the sample drawing of a number, given its number of lines and its pieces, each with
+/// its certificate.
+pub fn summary_of(
+    alloc: Global,
+    number: u32,
+    lines: u32,
+    pieces: &[Piece],
+    certs: &[PieceCert],
+) -> Result<Summary, Memory>
+    requires blocks { All (λ p. p.block < MAX_BLOCKS) pieces.now }
+    requires most { length pieces.now ≤ MAX_LINES }
+    requires few { sum_by penetrations_of (reports_from 1 pieces.now certs.now) < 2 ^ 32 }
+    ensures { IfOk result (λ s. s ≡ sample_summary number lines pieces.now
+        (reports_from 1 pieces.now certs.now)) }
+{
+    let reports = reports_of(alloc, pieces, certs)?;
+    let (cost, retraced) = cost_sums(reports.as_slice());
+    Ok(Summary {
+        number,
+        lines,
+        junctions: junction_sum(pieces),
+        odd: odd_sum(pieces),
+        pieces: pieces.len() as u32,
+        cost,
+        retraced,
+        penetrations: penetration_sum(reports.as_slice()),
+        cuts: 2 * retraced as u64,
+    })
+}
+
+/// Returns the total cost of the lines of pieces, and the total retraced cost.
+fn cost_sums(reports: &[PieceReport]) -> (u32, u32)
+    requires { sum_by penetrations_of reports.now < 2 ^ 32 }
+    ensures cost { result.0 ≡ sum_by (λ r. r.cost) reports.now }
+    ensures retraced { result.1 ≡ sum_by (λ r. r.retraced) reports.now }
+{
+    let mut cost = 0;
+    let mut retraced = 0;
+    for report in reports {
+        cost += report.cost;
+        retraced += report.retraced;
+    }
+    (cost, retraced)
+}
+
+fn penetration_sum(reports: &[PieceReport]) -> u32
+    requires { sum_by penetrations_of reports.now < 2 ^ 32 }
+    ensures { result ≡ sum_by penetrations_of reports.now }
+{
+    let mut sum = 0;
+    for report in reports {
+        sum += report.cost + report.retraced + 1;
+    }
+    sum
+}
+
+fn junction_sum(pieces: &[Piece]) -> u32
+    requires { length pieces.now ≤ MAX_LINES }
+    ensures { result ≡ total_junctions pieces.now }
+{
+    let mut sum = 0;
+    for piece in pieces {
+        sum += junction_count(piece);
+    }
+    sum
+}
+
+fn junction_count(p: &Piece) -> u32
+    ensures value { result ≡ junctions_of_piece (graph_of p.now) }
+    ensures few { result ≤ MAX_LINES + 1 }
+{
+    p.junctions.len() as u32
+}
+
+fn odd_sum(pieces: &[Piece]) -> u32
+    requires { length pieces.now ≤ MAX_LINES }
+    ensures { result ≡ total_odd_junctions pieces.now }
+{
+    let mut sum = 0;
+    for piece in pieces {
+        sum += odd_count(piece);
+    }
+    sum
+}
+
+fn odd_count(p: &Piece) -> u32
+    ensures value { result ≡ odd_junctions_of_piece (graph_of p.now) }
+    ensures few { result ≤ MAX_LINES + 1 }
+{
+    count_odd(p.degrees.as_slice(), p.from(), p.to())
+}
+
+/// Returns the number of odd junctions by their degrees, where a closing line leads from `to` to `from`.
+fn count_odd(degrees: &[u32], from: Option<u32>, to: Option<u32>) -> u32
+    requires { length degrees.now ≤ MAX_LINES + 1 }
+    ensures value { result ≡ odd_number from to 0 degrees.now }
+    ensures few { result ≤ MAX_LINES + 1 }
+{
+    let mut count = 0;
+    let mut at = 0;
+    let mut rest = degrees;
+    while let [degree, after @ ..] = rest {
+        count += one_for(is_odd_at(at, *degree, from, to));
+        at += 1;
+        rest = after;
+    }
+    count
+}
+
+/// Returns 1 for true and 0 for false.
+fn one_for(is: bool) -> u32
+    ensures value { result ≡ one_if is }
+    ensures most { result ≤ 1 }
+{
+    if is { 1 } else { 0 }
+}

@@ -1,8 +1,0 @@
-use Rattle.stitch_cli.specs.Checks.{check_drawing}
-use Rattle.stitch_cli.specs.OrderNames.{check_order}
-use Rattle.stitch_cli.proofs.PlanLemmas.{takes_next}
-use Rattle.stitch_cli.proofs.checking.check.Goals as goal
-
-pub returns-clause-prepares : goal.returns-clause-prepares
-returns-clause-prepares g c = λ m is.
-    takes_next _ _ (check_drawing (check_order c.args.names m)) _ _ _ _ _ c.in_ok-drawing.ensures (c.check_file.ensures.prepares m is)

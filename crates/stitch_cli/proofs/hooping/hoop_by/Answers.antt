@@ -1,0 +1,8 @@
+use Rattle.stitch_cli.specs.Hoops.{hoop_order, hoop_read}
+use Rattle.program_shell.proofs.CallerLemmas.{settles_taken}
+use Rattle.stitch_cli.proofs.hooping.hoop_by.Goals as goal
+
+pub returns-clause-prepares : goal.returns-clause-prepares
+returns-clause-prepares g c = λ m is.
+    settles_taken _ m.reads (hoop_read (hoop_order c.args.file.now m c.args.width c.args.height)) _ _ _ _
+    (c.in_ok-loaded.ensures.loads m is) (rw c.fits.ensures at c.fitted.ensures)

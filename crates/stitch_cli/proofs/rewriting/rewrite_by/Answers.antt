@@ -1,0 +1,18 @@
+use Rattle.std.proofs.Common.{subst}
+use Rattle.format_traits.specs.Meanings.{Meaning}
+use Rattle.program_shell.specs.StepOutcomes.{RunsPurePlan}
+use Rattle.program_shell.specs.Plans.{satisfies}
+use Rattle.design_changes.specs.AppliedChanges.{change_list}
+use Rattle.stitch_cli.specs.Rewrites.{IsRewriteResult, rewrite_order, rewrite_read}
+use Rattle.stitch_cli.proofs.FormatLemmas.{same_format}
+use Rattle.program_shell.proofs.CallerLemmas.{settles_taken}
+use Rattle.stitch_cli.proofs.rewriting.rewrite_by.Goals as goal
+
+pub returns-clause-prepares : goal.returns-clause-prepares
+returns-clause-prepares g c = λ s t of_source of_target.
+    settles_taken _ s.reads (rewrite_read (rewrite_order c.args.names s t (change_list c.args.changes.now))) _ _ _ _
+    (c.in_ok-loaded.ensures.loads s of_source)
+    (subst (λ (here : Meaning). RunsPurePlan (satisfies
+    (IsRewriteResult (rewrite_order c.args.names s here (change_list c.args.changes.now))
+    c.in_ok-loaded.loaded)) c.rewrite_loaded.result)
+    (same_format _ _ c.args.places.target _ t c.in_ok-loaded.ensures.same c.format_at.ensures of_target) (c.rewrite_loaded.ensures s))

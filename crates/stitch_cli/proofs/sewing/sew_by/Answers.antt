@@ -1,0 +1,8 @@
+use Rattle.program_shell.proofs.CallerLemmas.{settles_taken}
+use Rattle.stitch_cli.specs.SewingWays.{IsSewnBy}
+use Rattle.stitch_cli.specs.Sewings.{sewing_order, sewing_read}
+use Rattle.stitch_cli.proofs.sewing.sew_by.Goals as goal
+
+pub returns : goal.returns
+returns g c = settles_taken _ _ (sewing_read (IsSewnBy c.args.way) (sewing_order c.args.names _)) _ _ _ _
+    c.in_ok-drawing.ensures c.sew_drawing.ensures
