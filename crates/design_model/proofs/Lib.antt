@@ -10,3 +10,4 @@ pub mod BlockLemmas
 pub mod CommandLemmas
 mod WholeFacts
 pub mod WholeLemmas
+mod PushFacts
