@@ -7,3 +7,4 @@ mod RefitFacts
 pub mod RefitLemmas
 pub mod RefittedActLemmas
 pub mod FitLemmas
+mod RefitResultFacts
