@@ -44,6 +44,9 @@ const THREE_WRITTEN: &[u8] = &[
     0x80, 0x04, 0x05, 0x05, 0x00, 0x00,
 ];
 
+/// A stitch of 127 to the right, and one back.
+const FORTH_AND_BACK: &[u8] = &[0x7F, 0x00, 0x81, 0x00];
+
 static REFITS: &[Case] = &[
     // A stitch of 122 is too long for DST, one of (-5, 128) for EXP.
     Case {
@@ -96,6 +99,28 @@ static REFITS: &[Case] = &[
                 &[("b.dst", records!(&CUT_FLOAT))],
             ),
         ],
+    },
+    // Stitches of 127 forth and back, each split in two: 499,998 of them after 5 short ones are 1,000,001
+    // commands, one too many. After 6 short ones the last but one stitch just fits.
+    Case {
+        before: &[(
+            "a.exp",
+            FileContent::Padded(&[0; 10], 10, 249_999, FORTH_AND_BACK),
+        )],
+        steps: &[refused!(
+            &["convert", "a.exp", "b.dst", "--split"],
+            "stitch: b.dst: command 500003: too many commands\n",
+        )],
+    },
+    Case {
+        before: &[(
+            "a.exp",
+            FileContent::Padded(&[0; 12], 12, 249_999, FORTH_AND_BACK),
+        )],
+        steps: &[refused!(
+            &["convert", "a.exp", "b.dst", "--split"],
+            "stitch: b.dst: command 500004: too many commands\n",
+        )],
     },
 ];
 
