@@ -13,3 +13,5 @@ mod TextFacts
 mod SampleFacts
 mod WantFacts
 mod RefutedFacts
+mod HeadlineLemmas
+mod HeadlineFacts

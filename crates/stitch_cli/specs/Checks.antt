@@ -14,7 +14,8 @@ use Rattle.format_traits.specs.Meanings.{Meaning}
 use Rattle.line_graph.specs.Drawings.{DrawingValue}
 use Rattle.route_verdict.specs.declared.verdict.Reason.{Reason}
 use Rattle.route_verdict.specs.declared.verdict.Verdict.TheVariants as verdict
-use Rattle.route_verdict.specs.Verdicts.{IsVerdict, SewsLeast}
+use Rattle.route_verdict.specs.LeastRedwork.{IsLeastRedwork}
+use Rattle.route_verdict.specs.Verdicts.{IsVerdict}
 use Rattle.program_shell.specs.Plans.{Plan, satisfies, reads, refuses}
 use Rattle.program_shell.specs.Products.{ProductValue, report_product}
 use Rattle.program_shell.specs.FileTexts.{read_fault_text, text_at}
@@ -48,12 +49,11 @@ complete_check drawing file cert (Some format) =
 abbrev pub bad_line_text : List ℕ → ℕ → List ℕ
 bad_line_text name number = text_at name (codes "line") number (codes "not a certificate")
 
--- A passed check: the verdict is yes, and the design sews each piece of the drawing by a fitting
--- walk of the least cost. The report is the line `yes`.
+-- A passed check: the verdict is yes, and the design is least redwork. The report is the line `yes`.
 pub record IsCheckPassed (d : DrawingValue) (design : DesignValue) (certs : List PieceCert)
     (product : ProductValue) : Type 0 where
   pub verdict : IsVerdict d design certs verdict.Yes
-  pub least : SewsLeast d design certs
+  pub least : IsLeastRedwork d design certs
   pub made : product ≡ report_product (codes "yes" ++ newline)
 
 -- A failed check: the verdict is no, and the text names the reason.

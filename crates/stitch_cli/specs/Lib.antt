@@ -36,4 +36,6 @@ pub mod Shows
 pub mod Hoops
 pub mod Rewrites
 pub mod Commands
+-- What is left after `route`, and what a yes says.
+pub mod Headline
 pub mod RewriteSteps

@@ -4,6 +4,7 @@
 mod checking;
 mod commands;
 mod drawing_inputs;
+mod headline;
 mod hooping;
 mod migrating;
 mod rewriting;
@@ -13,6 +14,7 @@ mod sewing;
 mod showing;
 mod tracing;
 
+pub use headline::outcomes_mean_headline;
 pub use program_shell::{Failure, Output, Product, Status};
 pub use program_texts::USAGE;
 pub use route_texts::{PieceReport, Summary};

@@ -5,8 +5,10 @@ ghost use Rattle.program_shell.specs.Runs.{RunEnds};
 ghost use Rattle.program_shell.specs.RunViews.{views_of};
 ghost use Rattle.program_shell.specs.declared.status.Status.TheVariants as status;
 ghost use Rattle.stitch_cli.specs.Commands.{order_of, stitch};
+ghost use Rattle.stitch_cli.specs.Headline.{ChecksRightly, RoutesLeast};
 
 use crate::commands::make_product;
+use crate::headline::outcomes_mean_headline;
 use format_traits::Format;
 use line_graph::pieces_are_unique;
 use outside_io::{Sink, Store};
@@ -19,7 +21,8 @@ use std::alloc::Global;
 /// line, or the usage text, to `err`.
 ///
 /// The clauses refer to the order that the arguments request, given these formats. They compare the views of
-/// the store and the two sinks before and after the run.
+/// the store and the two sinks before and after the run. After a `route` that is done the files are a least
+/// route of the drawing (`routes`); a `check` that is done was of least redwork (`checks`).
 pub fn run<S: Store, O: Sink, E: Sink>(
     alloc: Global,
     words: &[String],
@@ -32,9 +35,17 @@ pub fn run<S: Store, O: Sink, E: Sink>(
         (order_of (map (λ f. meaning f) formats.old) (map string_bytes words.now))
         (views_of (S.view store.old) (O.view out.old) (E.view err.old))
         (views_of (S.view store.new) (O.view out.new) (E.view err.new)) result }
+    ensures routes { RoutesLeast
+        (order_of (map (λ f. meaning f) formats.old) (map string_bytes words.now))
+        (views_of (S.view store.old) (O.view out.old) (E.view err.old))
+        (views_of (S.view store.new) (O.view out.new) (E.view err.new)) result }
+    ensures checks { ChecksRightly
+        (order_of (map (λ f. meaning f) formats.old) (map string_bytes words.now))
+        (views_of (S.view store.old) (O.view out.old) (E.view err.old)) result }
     ensures formats { map (λ f. meaning f) formats.new ≡ map (λ f. meaning f) formats.old }
 {
     pieces_are_unique();
+    outcomes_mean_headline();
     let made = make_product(alloc, words, formats, store);
     finish(name(), usage(), made, store, out, err)
 }

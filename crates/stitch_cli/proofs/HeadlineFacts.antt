@@ -1,0 +1,32 @@
+-- The headline of files in other words: what is read of its two records.
+use Rattle.std.proofs.Common.{◌≡◌, ℕ, true, List, Option, Ok}
+use Rattle.odd_cuts.specs.declared.certificate.PieceCert.{PieceCert}
+use Rattle.certificate_text.specs.ReadCertificates.{cert_of}
+use Rattle.drawing_text.specs.DrawingText.{drawing_of}
+use Rattle.format_traits.specs.declared.loaded.Loaded.{Loaded}
+use Rattle.line_graph.specs.Drawings.{DrawingValue}
+use Rattle.outside_io.specs.Files.{Files, FileHolds}
+use Rattle.route_verdict.specs.LeastRedwork.{IsLeastRedwork, IsLeastRoute}
+use Rattle.stitch_cli.specs.Checks.{CheckOrder}
+use Rattle.stitch_cli.specs.Headline.{IsRouteLeft, IsYesRight}
+use Rattle.stitch_cli.specs.Sewings.{SewingOrder}
+
+pub known_left : (order : SewingOrder) (before after : Option Files) → IsRouteLeft order before after
+    → (drawing design cert : List ℕ) × FileHolds before order.drawing drawing × FileHolds after order.out design
+    × FileHolds after order.cert cert
+    × (d : DrawingValue) × (l : Loaded) × (certs : List PieceCert) × (drawing_of drawing ≡ Ok d) × (order.format.reads design ≡ Ok l)
+    × (cert_of cert ≡ Ok certs) × (l.ended ≡ true) × IsLeastRoute d l.design certs order.format.limit (order.format.moves design)
+known_left order before after is = (
+  is.drawing_file, is.design_file, is.cert_file, is.drawing_held, is.design_held, is.cert_held,
+  is.d, is.loaded, is.certs, is.say.drawn, is.say.read, is.say.certified, is.ended, is.least,
+)
+
+pub known_right : (order : CheckOrder) (files : Option Files) → IsYesRight order files
+    → (drawing design cert : List ℕ) × FileHolds files order.drawing drawing × FileHolds files order.file design
+    × FileHolds files order.cert cert
+    × (d : DrawingValue) × (l : Loaded) × (certs : List PieceCert) × (drawing_of drawing ≡ Ok d) × (order.format.reads design ≡ Ok l)
+    × (cert_of cert ≡ Ok certs) × IsLeastRedwork d l.design certs
+known_right order files is = (
+  is.drawing_file, is.design_file, is.cert_file, is.drawing_held, is.design_held, is.cert_held,
+  is.d, is.loaded, is.certs, is.say.drawn, is.say.read, is.say.certified, is.least,
+)
