@@ -13,3 +13,4 @@ mod LaneLemmas
 mod PassKeeping
 mod DistanceLemmas
 mod SweepFacts
+mod LeastCostFacts

@@ -19,7 +19,7 @@ abbrev pass : ℕ → Bool → Pass
 pass line back = record { line = line; back = back }
 
 -- the lines 4 and 7 lead from junction 0 over 1 to 2
-abbrev path : Option ℕ → Option ℕ → PieceValue
+abbrev pub path : Option ℕ → Option ℕ → PieceValue
 path start end = record {
   block = 0;
   lines = 4 ∷ 7 ∷ [];
