@@ -13,3 +13,4 @@ mod LiftLemmas
 mod FitLemmas
 mod LevelFacts
 mod MoatCutFacts
+mod LiftResultFacts
