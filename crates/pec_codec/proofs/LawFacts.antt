@@ -1,10 +1,17 @@
 -- What restores a design, and what does not.
-use Rattle.std.proofs.Common.{◌≡◌, ℕ, true, List, [], ◌∷◌, codes, arith}
+use Rattle.std.proofs.Common.{◌≡◌, ℕ, true, List, [], ◌∷◌, ◌++◌, length, Result, Ok, Err, IfOk, IsOk, IsOkAnd, codes, arith, subst, sym, true≢false}
+use Rattle.std.specs.List.{list_all}
 use Rattle.design_model.specs.declared.command.Command.TheVariants.{Stitch, Stop}
-use Rattle.design_model.specs.Designs.{DesignValue}
-use Rattle.design_model.specs.Points.{origin}
+use Rattle.design_model.specs.Acts.{acts_of, acts_without_numbers}
+use Rattle.design_model.specs.Designs.{DesignValue, KeepsLimits}
+use Rattle.design_model.specs.Points.{is_point_within, origin}
+use Rattle.format_traits.specs.declared.fault.ReadFault.{ReadFault}
+use Rattle.format_traits.specs.declared.fault.WriteFault.{WriteFault}
 use Rattle.format_traits.specs.declared.loaded.Loaded.{Loaded}
-use Rattle.pec_codec.specs.Laws.{RestoresDesign}
+use Rattle.format_traits.specs.PlainDesigns.{IsPlain}
+use Rattle.pec_codec.specs.Laws.{BlockRoundTrips, BlocksKeepLaws, RestoresDesign}
+use Rattle.pec_codec.specs.Reading.{pec_block_moves, pec_block_reads}
+use Rattle.pec_codec.specs.Writing.{pec_block_writes}
 
 -- the two numbers are not the same
 abbrev Differ : ℕ → ℕ → Type 0
@@ -29,3 +36,31 @@ known_other_label restored = other restored.label
   where
     other : ◌≡◌ {A = List ℕ} [] (97 ∷ []) → ⊥
     other is = cc
+
+-- a block that is encoded is read, after any bytes, with the label, the threads and the acts, to its end
+pub known_unread : BlocksKeepLaws → (d : DesignValue) (block before : List ℕ) (why : ReadFault) → KeepsLimits d
+    → pec_block_writes d ≡ Ok block → pec_block_reads (length before) (before ++ block) ≡ Err why
+    → ⊥
+known_unread law d block before why limits written unread =
+    subst (λ (r : Result Loaded ReadFault). IsOkAnd r (λ loaded. RestoresDesign d loaded)) unread (back law d block before limits written).read
+  where
+    back : BlocksKeepLaws → (d : DesignValue) (block before : List ℕ) → KeepsLimits d → pec_block_writes d ≡ Ok block
+        → BlockRoundTrips d block before
+    back law d block before limits written =
+        subst (λ (r : Result (List ℕ) WriteFault). IfOk r (λ block. (before : List ℕ) → BlockRoundTrips d block before)) written
+        (law d limits).back before
+
+-- its moves are within the limit, and a plain design isn't refused
+pub known_moves : (d : DesignValue) (block before : List ℕ) → BlockRoundTrips d block before
+    → list_all (λ move. is_point_within 2047 move) (pec_block_moves (length before) (before ++ block)) ≡ true
+known_moves d block before back = back.within
+
+pub known_plain : BlocksKeepLaws → (d : DesignValue) (why : WriteFault) → KeepsLimits d → IsPlain 2047 d → pec_block_writes d ≡ Err why
+    → ⊥
+known_plain law d why limits plain refused =
+    true≢false (sym (subst (λ (r : Result (List ℕ) WriteFault). IsOk r) refused ((law d limits).plain plain)))
+
+-- what restores a design has its acts, and an end
+pub known_restored : (d : DesignValue) (l : Loaded) → RestoresDesign d l
+    → (acts_without_numbers (acts_of l.design) ≡ acts_without_numbers (acts_of d)) × (l.ended ≡ true)
+known_restored d l restored = (restored.again.acts, restored.again.ended)
