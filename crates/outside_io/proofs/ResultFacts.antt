@@ -1,13 +1,13 @@
 -- What the results of calls on the outside exclude.
-use Rattle.std.proofs.Common.{◌≡◌, ◌≢◌, ℕ, ◌+◌, ◌<◌, ◌≤◌, List, [], ◌∷◌, ◌++◌, Option, None, Some, Ok, Err, length, take, refl, arith, ap, sym, ⊎_elim, true≢false}
+use Rattle.std.proofs.Common.{◌≡◌, ◌≢◌, ℕ, ◌+◌, ◌<◌, ◌≤◌, List, [], ◌∷◌, ◌++◌, Option, None, Some, Ok, Err, length, take, arith, ap, ⊎_elim}
 use Rattle.outside_io.specs.declared.store.Failed.{Failed}
 use Rattle.outside_io.specs.declared.store.ReadStop.TheVariants as stop
 use Rattle.outside_io.specs.declared.whole_files.GetFault.TheVariants as fault
 use Rattle.outside_io.specs.Blames.{Blame, FaultLogValue, LogsFailedCall, read_call, with_failed_call, write_call}
-use Rattle.outside_io.specs.Causes.{BufferMatches, CallFailed, HasNoNewFault, PutCause, ReadCause, ReadsWholeFile, TookBytes, WriteCause, with_bytes_taken}
+use Rattle.outside_io.specs.Causes.{BufferMatches, CallFailed, HasNoNewFault, ReadCause, ReadsWholeFile, TookBytes, WriteCause, with_bytes_taken}
 use Rattle.outside_io.specs.Counts.{IsFaultless, MAX_COUNT, Rose, next_count}
-use Rattle.outside_io.specs.FileParts.{IsNextPart, ReadsNextPart}
-use Rattle.outside_io.specs.Files.{ChangesOnlyFile, FileHolds, Files, IsFileName, LacksFile}
+use Rattle.outside_io.specs.FileParts.{ReadsNextPart}
+use Rattle.outside_io.specs.Files.{ChangesOnlyFile, Files, IsFileName}
 use Rattle.outside_io.specs.MemSinks.{MemPuts, MemSinkValue}
 use Rattle.outside_io.specs.MemStores.{MemAppends, MemCreates, MemReads, MemStoreValue, after_fault}
 use Rattle.outside_io.specs.Streams.{AddsPrefix, StreamPuts, StreamValue}
@@ -80,37 +80,17 @@ abbrev sum : List ℕ → ℕ
 sum [] = 0
 sum (byte ∷ rest) = byte + sum rest
 
--- a buffer has the file's bytes, no more than there are, and some where there are some
+-- a buffer has the file's bytes
 pub known_other_bytes : BufferMatches (7 ∷ 8 ∷ 9 ∷ []) 1 (8 ∷ 8 ∷ []) 2 → ⊥
 known_other_bytes is = other (ap (λ (bytes : List ℕ). sum bytes) is.bytes)
   where
     other : Differ 16 17
     other same = omega (arith, same)
 
-pub known_too_many : BufferMatches (7 ∷ 8 ∷ 9 ∷ []) 2 (9 ∷ []) 2 → ⊥
-known_too_many is = more is.left
-  where
-    more : 2 ≤ 1 → ⊥
-    more less = omega (arith, less)
-
-pub known_none : BufferMatches (7 ∷ 8 ∷ 9 ∷ []) 2 (0 ∷ []) 0 → ⊥
-known_none is = none (is.some (omega arith) (omega arith))
-  where
-    none : 0 < 0 → ⊥
-    none less = omega (arith, less)
-
--- a sink takes all bytes, or a prefix of them with a fault that is counted
-pub known_taken : (old new : SinkView) (bytes : List ℕ) (n : ℕ) → TookBytes {T = ℕ} old new bytes (Ok n)
-    → new.taken ≡ with_bytes_taken old.taken bytes
-known_taken old new bytes n took = took
-
+-- a failed put adds some first bytes
 pub known_prefix : (old new : SinkView) (bytes : List ℕ) (f : Failed) → TookBytes {T = ℕ} old new bytes (Err f)
     → (count : ℕ) × (new.taken ≡ with_bytes_taken old.taken (take count bytes))
 known_prefix old new bytes f took = took
-
-pub known_put : (old new : SinkView) (f : Failed) (n : ℕ) → (PutCause {T = ℕ} old new (Ok n) → new.faults ≡ old.faults)
-    × (PutCause {T = ℕ} old new (Err f) → Rose old.faults new.faults)
-known_put old new f n = (λ cause. cause, λ cause. cause.0)
 
 -- the parts of a prefix and what is left are the bytes; a fault is counted once
 pub known_parts : (old new : Option (List ℕ)) (bytes left : List ℕ) → AddsPrefix old new bytes left
@@ -154,43 +134,22 @@ pub known_failed_write : (old new : MemStoreValue) (name bytes : List ℕ) (f : 
     × (MemAppends {T = ℕ} old new name bytes (Err f) → new ≡ after_fault old (write_call name))
 known_failed_write old new name bytes f = (λ creates. creates.1, λ appends. appends.1)
 
--- an entire file is read within the limit; each refusal has its cause
-pub known_whole : (name bytes : List ℕ) (limit : ℕ) (old new : StoreView) → ReadsWholeFile name limit old new (Ok bytes)
-    → (length bytes ≡ limit + 1 → ⊥) × FileHolds old.files name bytes × HasNoNewFault old new
-known_whole name bytes limit old new reads = (λ more. omega (arith, more, reads.0), reads.1, reads.2)
-
-pub known_whole_missing : (name : List ℕ) (limit : ℕ) (old new : StoreView) → ReadsWholeFile name limit old new (Err fault.Missing)
-    → LacksFile old.files name × HasNoNewFault old new
-known_whole_missing name limit old new reads = (reads.0, reads.1)
-
+-- a failed read of an entire file is blamed on that file
 pub known_whole_failed : (name : List ℕ) (limit : ℕ) (old new : StoreView) → ReadsWholeFile name limit old new (Err fault.Failed)
     → new.blame ≡ Some (read_call name)
 known_whole_failed name limit old new reads = reads.blame
 
--- the next part follows the bytes before, within the limit, and an empty part is the end
+-- the next part is within the limit and the buffer
 pub known_part : (name before buffer : List ℕ) (limit count : ℕ) (old new : StoreView)
     → ReadsNextPart name (length before) limit old new buffer (Ok count)
     → (length before + count ≡ limit + 1 → ⊥) × (count ≤ length buffer) × HasNoNewFault old new
 known_part name before buffer limit count old new reads = (λ more. omega (arith, more, reads.1), reads.2, reads.0)
-
-pub known_end : (files : Option Files) (name before buffer : List ℕ) → IsNextPart files name before buffer 0 → FileHolds files name before
-known_end files name before buffer is = is.end refl
 
 -- visible files stay visible, and only the named one changes
 pub known_hidden : (old new : Files) (name : List ℕ)
     → (ChangesOnlyFile (Some old) None name → ⊥) × (ChangesOnlyFile None (Some new) name → ⊥)
 known_hidden old new name = (λ changes. changes, λ changes. changes)
 
-pub known_other_file : (old new : Files) (name other : List ℕ) → ChangesOnlyFile (Some old) (Some new) name
-    → other ≢ name → new other ≡ old other
-known_other_file old new name other changes differ = changes other differ
-
 -- a name has a byte and at most 4,096
 pub known_name : (name : List ℕ) → IsFileName name → (length name ≡ 0 → ⊥) × (length name ≡ 4097 → ⊥)
 known_name name is = (λ none. omega (arith, none, is.some), λ long. omega (arith, long, is.short))
-
-pub known_lacking : (visible : Files) (name : List ℕ) → LacksFile (Some visible) name → visible name ≡ None
-known_lacking visible name lacks = lacks.missing visible refl
-
-pub known_not_lacking : (name : List ℕ) → LacksFile None name → ⊥
-known_not_lacking name lacks = true≢false (sym lacks.visible)
