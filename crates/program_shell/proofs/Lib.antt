@@ -7,3 +7,4 @@ mod RunLemmas
 pub mod CallerLemmas
 mod ShellFacts
 mod OutcomeFacts
+mod PutFacts
