@@ -42,7 +42,8 @@ pub known_unread : BlocksKeepLaws → (d : DesignValue) (block before : List ℕ
     → pec_block_writes d ≡ Ok block → pec_block_reads (length before) (before ++ block) ≡ Err why
     → ⊥
 known_unread law d block before why limits written unread =
-    subst (λ (r : Result Loaded ReadFault). IsOkAnd r (λ loaded. RestoresDesign d loaded)) unread (back law d block before limits written).read
+    subst (λ (r : Result Loaded ReadFault). IsOkAnd r (λ loaded. RestoresDesign d loaded)) unread
+    (back law d block before limits written).read
   where
     back : BlocksKeepLaws → (d : DesignValue) (block before : List ℕ) → KeepsLimits d → pec_block_writes d ≡ Ok block
         → BlockRoundTrips d block before
