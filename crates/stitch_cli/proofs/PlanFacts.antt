@@ -1,5 +1,5 @@
 -- Worked values of plans: the file that each step reads, and a step of a drawing at the limit and above it.
-use Rattle.std.proofs.Common.{◌≡◌, ℕ, inl, List, [], ◌∷◌, None, Ok, codes, refl}
+use Rattle.std.proofs.Common.{ℕ, inl, [], None, Ok, codes, refl}
 use Rattle.format_traits.specs.declared.loaded.Loaded.{Loaded}
 use Rattle.format_traits.specs.Meanings.{Meaning}
 use Rattle.line_graph.specs.Drawings.{DrawingValue}

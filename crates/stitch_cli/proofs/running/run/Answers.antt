@@ -1,4 +1,3 @@
-use Rattle.std.proofs.Common.{subst}
 use Rattle.program_shell.proofs.CallerLemmas.{can_finish, ends}
 use Rattle.stitch_cli.specs.Commands.{stitch}
 use Rattle.stitch_cli.proofs.CommandLemmas.{stitch_sound}
