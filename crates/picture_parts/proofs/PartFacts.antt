@@ -1,0 +1,37 @@
+-- Worked values of parts, colours and lengths.
+use Rattle.std.proofs.Common.{◌≡◌, ℕ, ℤ, pos, negsuc, List, [], ◌∷◌, codes, map, refl}
+use Rattle.std.specs.Fmt.{digits}
+use Rattle.design_model.specs.declared.point.Point.{Point}
+use Rattle.picture_parts.specs.declared.sheet.Sheet.{Sheet}
+use Rattle.picture_parts.specs.Colours.{colour_of_thread}
+use Rattle.picture_parts.specs.Lengths.{length_of, square_of, whole_root}
+use Rattle.picture_parts.specs.Parts.{ended, escaped_text, joined, mm_text}
+use Rattle.picture_parts.specs.Sheets.{size_text, view_text}
+
+abbrev pub point : ℤ → ℤ → Point
+point x y = record { x = x; y = y }
+
+-- Red, Royal Purple, Leaf Green, Black and Applique, and two numbers beyond the palette.
+pub known_colours : map colour_of_thread (5 ∷ 22 ∷ 37 ∷ 20 ∷ 64 ∷ 0 ∷ 65 ∷ []) ≡ codes "#ed171f" ∷ codes "#770176"
+    ∷ codes "#66ba49" ∷ codes "#000000" ∷ codes "#ffc8c8" ∷ codes "#ffc8c8" ∷ codes "#0e1f7c" ∷ []
+unfolding colour_of_thread
+known_colours = refl
+
+-- 0.3 mm across and 0.4 mm down are 0.5 mm; the diagonal of a tenth is 0.141 mm.
+pub known_lengths : map (length_of (point (pos 0) (pos 0))) (point (pos 3) (negsuc 3) ∷ point (pos 1) (pos 1) ∷ []) ≡ 500 ∷ 141 ∷ []
+unfolding length_of square_of whole_root
+known_lengths = refl
+
+pub known_mm : map mm_text (1 ∷ 10000 ∷ []) ≡ codes "0.1" ∷ codes "1000.0" ∷ []
+unfolding digits
+known_mm = refl
+
+pub known_escapes : escaped_text (codes "A<B&C>") ≡ codes "A&lt;B&amp;C>"
+unfolding joined
+known_escapes = refl
+
+-- 30 mm by 26 mm, from 5 mm left of the origin
+pub known_view : view_text (record { corner = point (negsuc 49) (pos 7); width = 300; height = 260 })
+    ≡ ended (codes "mm' viewBox='-50,7,300,260'>")
+unfolding view_text joined digits
+known_view = refl

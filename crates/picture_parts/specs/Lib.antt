@@ -1,0 +1,5 @@
+-- read this one first: texts in parts
+pub mod Parts
+pub mod Colours
+pub mod Lengths
+pub mod Sheets

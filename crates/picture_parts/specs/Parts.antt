@@ -1,0 +1,39 @@
+-- SVG texts in parts. Points are in tenths of a millimetre, y downwards.
+use Rattle.std.specs.Prelude.{ℕ, ◌/◌, ◌%◌, ◌==◌, List, [], ◌∷◌, ◌++◌, codes, map, if◌then◌else◌}
+use Rattle.std.specs.Fmt.{decimal, signed_decimal}
+use Rattle.design_model.specs.declared.point.Point.{Point}
+use Rattle.picture_parts.specs.declared.parts.Part.{Part}
+use Rattle.picture_parts.specs.declared.parts.Part.TheVariants.{Text, Number, At, Mm}
+
+-- The text of parts in order.
+unfoldable pub joined : List (List ℕ) → List ℕ
+joined [] = []
+joined (part ∷ rest) = part ++ joined rest
+
+-- The text of a point.
+abbrev pub point_text : Point → List ℕ
+point_text p = signed_decimal p.x ++ (codes "," ++ signed_decimal p.y)
+
+-- The text of a length in millimetres, from tenths of a millimetre.
+abbrev pub mm_text : ℕ → List ℕ
+mm_text tenths = decimal (tenths / 10) ++ (codes "." ++ decimal (tenths % 10))
+
+-- The text of a part.
+abbrev pub part_text : Part → List ℕ
+part_text (Text bytes) = bytes.now
+part_text (Number n) = decimal n
+part_text (At p) = point_text p
+part_text (Mm tenths) = mm_text tenths
+
+-- A line of text, with its end.
+abbrev pub ended : List ℕ → List ℕ
+ended line = line ++ 10 ∷ []
+
+-- A character of a label in XML: `<` and `&` are escaped.
+abbrev pub escaped_byte : ℕ → List ℕ
+escaped_byte byte = if byte == 60 then codes "&lt;"
+    else (if byte == 38 then codes "&amp;" else byte ∷ [])
+
+-- A label in XML.
+abbrev pub escaped_text : List ℕ → List ℕ
+escaped_text label = joined (map escaped_byte label)

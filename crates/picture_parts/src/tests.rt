@@ -1,0 +1,47 @@
+use crate::{length_between, put_escaped, thread_colour};
+use design_model::{Bytes, Point};
+use std::test::Fail;
+
+#[test]
+fn lengths_are_those_of_right_triangles(rt: HostRuntime) -> Result<(), Fail> {
+    let table = [
+        (Point { x: 0, y: 0 }, 0),
+        (Point { x: 3, y: -4 }, 500),
+        (Point { x: 1, y: 1 }, 141),
+        (Point { x: -30_000, y: 0 }, 3_000_000),
+        (
+            Point {
+                x: 30_000,
+                y: 30_000,
+            },
+            4_242_640,
+        ),
+    ];
+    for (to, length) in table {
+        assert_eq!(rt; length_between(Point { x: 0, y: 0 }, to), length);
+    }
+    Ok(())
+}
+
+#[test]
+fn threads_have_the_colours_of_their_numbers(rt: HostRuntime) -> Result<(), Fail> {
+    let table: [(u8, &[u8]); 5] = [
+        (5, b"#ed171f"),
+        (22, b"#770176"),
+        (37, b"#66ba49"),
+        (64, b"#ffc8c8"),
+        (65, b"#0e1f7c"),
+    ];
+    for (thread, colour) in table {
+        assert!(rt; thread_colour(thread) == colour, "{thread}");
+    }
+    Ok(())
+}
+
+#[test]
+fn labels_are_escaped(rt: HostRuntime) -> Result<(), Fail> {
+    let mut text = Bytes::new(rt.alloc());
+    put_escaped(&mut text, b"A<B&C>")?;
+    assert!(rt; text.as_slice() == b"A&lt;B&amp;C>");
+    Ok(())
+}
