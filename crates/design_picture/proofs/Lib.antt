@@ -1,2 +1,3 @@
-mod TextLemmas
+mod StrokeLemmas
+mod ShownLemmas
 mod PictureFacts

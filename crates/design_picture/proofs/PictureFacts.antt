@@ -1,105 +1,102 @@
--- Worked values of pictures.
-use Rattle.std.proofs.Common.{◌≡◌, ℕ, ℤ, pos, negsuc, List, [], ◌∷◌, ◌++◌, Some, None, codes, map, refl}
+-- Worked values of strokes and of what is drawn of them, by hand.
+use Rattle.std.proofs.Common.{◌≡◌, ℕ, ℤ, pos, negsuc, List, [], ◌∷◌, ◌++◌, true, false, Some, None, codes, map, refl}
 use Rattle.std.specs.Fmt.{digits}
 use Rattle.design_model.specs.declared.command.Command.{Command}
-use Rattle.design_model.specs.declared.command.Command.TheVariants.{Stitch, Jump, Trim, Stop}
+use Rattle.design_model.specs.declared.command.Command.TheVariants.{Stitch, Jump}
+use Rattle.design_model.specs.declared.command.Command.TheVariants as command
 use Rattle.design_model.specs.declared.point.Point.{Point}
-use Rattle.design_model.specs.Acts.{acts_along}
-use Rattle.design_picture.specs.Captions.{caption, mm_text}
-use Rattle.design_picture.specs.Colours.{colour_of}
-use Rattle.design_picture.specs.Pictures.{acts_and_end_text, initial_pen}
-use Rattle.design_picture.specs.Sheets.{sheet_width_of, sheet_height_of, frame_text, picture_of}
+use Rattle.design_model.specs.Designs.{DesignValue}
+use Rattle.design_picture.specs.declared.hoop.Hoop.{Hoop}
+use Rattle.design_picture.specs.declared.layers.Layer.TheVariants as layer
+use Rattle.design_picture.specs.declared.pen.Pen.{Pen}
+use Rattle.design_picture.specs.declared.strokes.Stroke.{Stroke}
+use Rattle.design_picture.specs.declared.strokes.Stroke.TheVariants.{Begin, Float, Sewn, Trim, Stop}
+use Rattle.design_picture.specs.Hoops.{hoop_as_fits, hoop_edges, offset_text}
+use Rattle.design_picture.specs.Layers.{layer_text}
+use Rattle.design_picture.specs.Layouts.{area_of, sheet_of}
+use Rattle.design_picture.specs.Marks.{start_mark, piece_number, end_mark, stop_mark, trim_mark}
+use Rattle.design_picture.specs.Strokes.{pen_of, strokes_of}
+use Rattle.design_picture.specs.Threads.{arc_text, arrow_shape, colour_change_text, hole_shape, move_text, shape_end, straight_text, travel_shape}
+use Rattle.hoop_check.specs.declared.fitting.Fit.TheVariants as fit
+use Rattle.picture_parts.specs.Colours.{colour_of_thread}
+use Rattle.picture_parts.specs.Lengths.{length_of, square_of, whole_root}
+use Rattle.picture_parts.specs.Parts.{joined}
 
 abbrev pub point : ℤ → ℤ → Point
 point x y = record { x = x; y = y }
 
--- lines, each with its end
-abbrev pub ended : List (List ℕ) → List ℕ
-ended [] = []
-ended (line ∷ rest) = line ++ 10 ∷ ended rest
+-- Three needles 3 mm apart and back, a trim and a stop; then a needle, and a float to another.
+abbrev pub forth_and_back : DesignValue
+forth_and_back = record {
+  label = [];
+  threads = 5 ∷ [];
+  commands = Stitch (point (pos 0) (pos 0)) ∷ Stitch (point (pos 30) (pos 0)) ∷ Stitch (point (pos 0) (pos 0)) ∷ command.Trim ∷ command.Stop
+      ∷ Stitch (point (pos 3) (negsuc 3)) ∷ Jump (point (pos 9) (pos 9)) ∷ Stitch (point (pos 3) (pos 6)) ∷ [];
+}
 
--- two lines with a float between them, a trim, and the next needle; then a stop
-abbrev pub two_lines : List Command
-two_lines = Stitch (point (pos 0) (pos 0)) ∷ Stitch (point (pos 30) (pos 0)) ∷ Jump (point (pos 30) (pos 40))
-    ∷ Stitch (point (pos 30) (pos 40)) ∷ Trim ∷ Stitch (point (pos 0) (pos 40)) ∷ Stop ∷ []
+-- The stitch back was sewn before. It has the first arrow, since 5.5 mm of thread come before its needle.
+abbrev pub shown_strokes : List Stroke
+shown_strokes = Begin 1 true (point (pos 0) (pos 0)) (point (pos 0) (pos 0))
+    ∷ Sewn 0 false (point (pos 0) (pos 0)) (point (pos 30) (pos 0))
+    ∷ Sewn 1 true (point (pos 30) (pos 0)) (point (pos 0) (pos 0))
+    ∷ Trim (point (pos 0) (pos 0))
+    ∷ Stop (record { at = point (pos 0) (pos 0); block = 1; thread = 5; needles = 3; sewn = 6000 }) 2
+    ∷ Begin 2 true (point (pos 0) (pos 0)) (point (pos 3) (negsuc 3))
+    ∷ Float (point (pos 3) (negsuc 3)) (point (pos 3) (pos 6)) ∷ []
 
-abbrev pub two_lines_shown : List (List ℕ)
-two_lines_shown = codes "<polyline stroke='#c8102e' points='0,0 30,0'/>"
-    ∷ codes "<path class='travel' d='M30,0L30,40'/>"
-    ∷ codes "<polyline stroke='#c8102e' points='30,40'/>"
-    ∷ codes "<path class='trim' d='M30,40m-6,0a6,6,0,1,0,12,0a6,6,0,1,0,-12,0'/>"
-    ∷ codes "<path class='travel' d='M30,40L0,40'/>"
-    ∷ codes "<polyline stroke='#c8102e' points='0,40'/>"
-    ∷ codes "<path class='stop' d='M0,40m-9,-9h18v18h-18z'/>"
-    ∷ codes "</g>" ∷ codes "</svg>" ∷ []
+pub known_strokes : strokes_of forth_and_back ≡ shown_strokes
+unfolding length_of square_of whole_root
+known_strokes = refl
 
-pub known_lines : acts_and_end_text initial_pen (acts_along two_lines) ≡ ended two_lines_shown
-unfolding digits
-known_lines = refl
+-- 6 mm of thread and a float of 1 mm, and a travel of 0.5 mm
+pub known_pen : pen_of forth_and_back ≡ record {
+  stops = 1;
+  pieces = 2;
+  place = point (pos 3) (pos 6);
+  loose = false;
+  since = 3500;
+  needles = 2;
+  sewn = 1000;
+  thread = 7000;
+  travel = 500;
+}
+unfolding length_of square_of whole_root
+known_pen = refl
 
--- 3 mm to the right and 4 mm downwards: the sheet is as wide as the caption, and has a margin of 5 mm
-pub known_picture : picture_of (record { label = []; threads = []; commands = two_lines })
-    ≡ ended (codes "<svg xmlns='http://www.w3.org/2000/svg' width='30.0mm' height='26.0mm' viewBox='0 0 300 260'>"
-    ∷ (codes "<style>text{font:22px sans-serif;fill:#333;stroke:none}" ++ (codes ".travel{stroke:#777;stroke-width:1.5;"
-    ++ codes "stroke-dasharray:6 5}.trim,.stop{stroke:#000;stroke-width:1.5}</style>"))
-    ∷ codes "<g transform='translate(50,50)' fill='none' stroke-width='4'>"
-    ∷ codes "<text x='0' y='40' dy='80'>needles 4</text>"
-    ∷ codes "<text x='0' y='40' dy='105'>trims 1</text>"
-    ∷ codes "<text x='0' y='40' dy='130'>stops 1</text>"
-    ∷ codes "<text x='0' y='40' dy='155'>3.0 x 4.0 mm</text>"
-    ∷ two_lines_shown)
-unfolding digits
-known_picture = refl
+-- The second pass is an arc of 3 mm: 900 / 32 is 28, and 2 more.
+pub known_threads : layer_text layer.Threads shown_strokes ≡ (10 ∷ codes "M0,0L30,0A30,30,0,0,1,0,0'/>")
+    ++ (10 ∷ codes "<path class='thread' stroke='#0a55a3' d='") ++ (10 ∷ codes "M3,-4") ++ (10 ∷ codes "M3,6")
+unfolding joined digits move_text straight_text arc_text colour_change_text colour_of_thread square_of
+known_threads = refl
 
--- a stop that comes first is shown by the next colour alone; nothing leads to the first needle
-pub known_first_stop : acts_and_end_text initial_pen
-    (acts_along (Stop ∷ Stitch (point (negsuc 4) (pos 7)) ∷ Stitch (point (negsuc 0) (pos 8)) ∷ []))
-    ≡ ended (codes "<polyline stroke='#0057b7' points='-5,7 -1,8'/>" ∷ codes "</g>" ∷ codes "</svg>" ∷ [])
-unfolding digits
-known_first_stop = refl
+pub known_holes : layer_text layer.Holes shown_strokes ≡ codes "M0,0h0M30,0h0M0,0h0M3,-4h0M3,6h0"
+unfolding joined digits hole_shape
+known_holes = refl
 
--- without a needle nothing is shown
-pub known_nothing : acts_and_end_text initial_pen (acts_along (Stop ∷ Trim ∷ [])) ≡ ended (codes "</g>" ∷ codes "</svg>" ∷ [])
-known_nothing = refl
+pub known_seconds : layer_text layer.Seconds shown_strokes ≡ (10 ∷ codes "M30,0A30,30,0,0,1,0,0")
+unfolding joined digits move_text arc_text square_of
+known_seconds = refl
 
--- red, blue, green, orange, purple, teal, pink and brown, and red again for the ninth block
-pub known_colours : map colour_of (0 ∷ 1 ∷ 2 ∷ 3 ∷ 4 ∷ 5 ∷ 6 ∷ 7 ∷ 8 ∷ []) ≡ codes "#c8102e" ∷ codes "#0057b7"
-    ∷ codes "#00843d" ∷ codes "#e87722" ∷ codes "#7b2d8b" ∷ codes "#00a3ad" ∷ codes "#d6409f" ∷ codes "#6b4423" ∷ codes "#c8102e" ∷ []
-known_colours = refl
+pub known_arrows : layer_text layer.Arrows shown_strokes ≡ codes "<path class='arrow' d='M30,0A30,30,0,0,1,0,0'/>" ++ 10 ∷ []
+unfolding joined digits arrow_shape arc_text shape_end square_of
+known_arrows = refl
 
--- a trim and a stop one after the other have a mark each, and the way to the next needle begins where they stand
-pub known_two_marks : acts_and_end_text initial_pen
-    (acts_along (Stitch (point (pos 3) (pos 4)) ∷ Trim ∷ Stop ∷ Stitch (point (pos 8) (pos 9)) ∷ []))
-    ≡ ended (codes "<polyline stroke='#c8102e' points='3,4'/>"
-    ∷ codes "<path class='trim' d='M3,4m-6,0a6,6,0,1,0,12,0a6,6,0,1,0,-12,0'/>"
-    ∷ codes "<path class='stop' d='M3,4m-9,-9h18v18h-18z'/>"
-    ∷ codes "<path class='travel' d='M3,4L8,9'/>"
-    ∷ codes "<polyline stroke='#0057b7' points='8,9'/>" ∷ codes "</g>" ∷ codes "</svg>" ∷ [])
-unfolding digits
-known_two_marks = refl
+-- No way leads to the first piece.
+pub known_travels : layer_text layer.Travels shown_strokes ≡ codes "<path class='travel' d='M0,0L3,-4'/>"
+    ++ 10 ∷ codes "<path class='travel' d='M3,-4L3,6'/>" ++ 10 ∷ []
+unfolding joined digits travel_shape
+known_travels = refl
 
--- the corners and counts differ, so that none stands for another
-pub known_caption : caption (record { commands = 9; needles = 4; trims = 2; stops = 3 })
-    (Some (record { min = point (negsuc 4) (pos 7); max = point (pos 25) (pos 48) }))
-    ≡ ended (codes "<text x='-5' y='48' dy='80'>needles 4</text>" ∷ codes "<text x='-5' y='48' dy='105'>trims 2</text>"
-    ∷ codes "<text x='-5' y='48' dy='130'>stops 3</text>" ∷ codes "<text x='-5' y='48' dy='155'>3.0 x 4.1 mm</text>" ∷ [])
-unfolding digits
-known_caption = refl
+-- A hoop of 10 mm by 20 mm around 5 mm by 20.1 mm begins 2.5 mm to the left, and 0.05 mm below; it is turned where only that fits.
+pub known_offsets : offset_text 100 50 ++ (codes " " ++ offset_text 200 201) ≡ codes "-25.0 0.5"
+unfolding offset_text joined digits
+known_offsets = refl
 
-pub known_frame : frame_text (point (negsuc 4) (pos 7)) 300 261 ≡ codes " viewBox='-5 7 300 261'>" ++ 10 ∷ []
-unfolding digits
-known_frame = refl
+pub known_hoops : map (hoop_as_fits (record { width = 1; height = 2 })) (fit.Upright ∷ fit.Turned ∷ fit.No 3 4 ∷ [])
+    ≡ record { width = 1; height = 2 } ∷ record { width = 2; height = 1 } ∷ record { width = 1; height = 2 } ∷ []
+known_hoops = refl
 
--- a tenth of a millimetre, and a metre
-pub known_lengths : map mm_text (1 ∷ 10000 ∷ []) ≡ codes "0.1" ∷ codes "1000.0" ∷ []
-unfolding digits
-known_lengths = refl
-
--- a sheet holds the design, and the caption where that is wider
-pub known_sheets : map sheet_width_of (None ∷ Some (record { min = point (pos 0) (pos 0); max = point (pos 201) (pos 9) }) ∷ [])
-    ≡ 300 ∷ 301 ∷ []
-known_sheets = refl
-
-pub known_heights : map sheet_height_of (None ∷ Some (record { min = point (pos 0) (negsuc 9); max = point (pos 201) (pos 9) }) ∷ [])
-    ≡ 220 ∷ 239 ∷ []
-known_heights = refl
+-- 70 mm by 3 mm with two lines of legend: 6 mm around, and 19 mm and two lines of 2.8 mm below
+pub known_sheet : sheet_of (area_of (Some (record { min = point (negsuc 0) (pos 7); max = point (pos 699) (pos 37) }))
+    (record { width = 0; height = 0 }) 2) ≡ record { corner = point (negsuc 0) (pos 7); width = 820; height = 396 }
+known_sheet = refl

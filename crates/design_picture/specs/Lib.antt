@@ -1,6 +1,13 @@
 -- read this one first: what the picture of a design is
-pub mod Sheets
-pub mod Captions
 pub mod Pictures
-pub mod Shapes
-pub mod Colours
+pub mod Layouts
+pub mod Hoops
+pub mod Captions
+pub mod Layers
+pub mod Marks
+pub mod Threads
+-- The strokes of a design, which the layers show.
+pub mod Strokes
+pub mod Pens
+pub mod ShownActs
+pub mod Passes

@@ -1,67 +1,108 @@
--- The shapes of the acts of a design. Needles that are sewn one after another are one polyline. A
--- float, and the first needle after a trim or a stop, begin another polyline, to which a dashed
--- line leads.
-use Rattle.std.specs.Prelude.{ℕ, ◌+◌, Bool, true, false, List, [], ◌∷◌, ◌++◌, codes}
-use Rattle.design_model.specs.declared.act.Act.{Act}
-use Rattle.design_model.specs.declared.act.Act.TheVariants.{Needle, Trim, Stop}
-use Rattle.design_model.specs.declared.act.NumberedAct.{NumberedAct}
+-- The picture of a design: a text of SVG 1.1, the standard of the World Wide Web Consortium. The
+-- unit is a tenth of a millimetre, and the picture is shown in true size.
+use Rattle.std.specs.Prelude.{ℕ, ◌+◌, ◌*◌, ◌==◌, List, [], ◌∷◌, ◌++◌, Option, Some, None, codes, if◌then◌else◌}
 use Rattle.design_model.specs.declared.point.Point.{Point}
-use Rattle.design_picture.specs.declared.pen.PenLine.{PenLine}
-use Rattle.design_picture.specs.declared.pen.PenLine.TheVariants.{Unbegun, Open, Ended}
+use Rattle.design_model.specs.Counts.{counts_of}
+use Rattle.design_model.specs.Designs.{DesignValue, thread_of}
+use Rattle.design_model.specs.Extents.{extent_of, extent_height, extent_width}
+use Rattle.design_picture.specs.declared.hoop.Hoop.{Hoop}
+use Rattle.design_picture.specs.declared.layers.Layer.TheVariants as layer
+use Rattle.design_picture.specs.declared.layout.Area.{Area}
 use Rattle.design_picture.specs.declared.pen.Pen.{Pen}
-use Rattle.design_picture.specs.Shapes.{shape_end, polyline_start, svg_point_text, stop_mark, travel, trim_mark}
+use Rattle.design_picture.specs.declared.strokes.Stroke.{Stroke}
+use Rattle.design_picture.specs.Captions.{block_line, caption, group_end, legend_start, title_text}
+use Rattle.design_picture.specs.Hoops.{hoop_as_fits, hoop_text}
+use Rattle.design_picture.specs.Layers.{layer_text}
+use Rattle.design_picture.specs.Layouts.{area_of, below_start, corners, lower_left, opening_group, sheet_of}
+use Rattle.design_picture.specs.Marks.{end_mark}
+use Rattle.design_picture.specs.Strokes.{block_end, pen_of, strokes_of}
+use Rattle.design_picture.specs.Threads.{shape_end}
+use Rattle.hoop_check.specs.Fits.{fit_of}
+use Rattle.picture_parts.specs.Colours.{colour_of_thread}
+use Rattle.picture_parts.specs.Parts.{ended, joined, mm_text, point_text}
+use Rattle.picture_parts.specs.Sheets.{foot_text, head_text}
 
--- The pen before the first act.
-abbrev pub initial_pen : Pen
-initial_pen = record { stops = 0; line = Unbegun }
+-- The origin: a cross in a circle.
+unfoldable pub origin_mark : List ℕ
+origin_mark = joined ((codes "<path class='line' d='M-12,0h24M0,-12v24M-7,0"
+    ++ (codes "a7,7,0,1,0,14,0a7,7,0,1,0,-14,0'>"
+    ++ (codes "<title>origin</title></path>" ++ 10 ∷ []))) ∷ [])
 
--- The state of a polyline after a trim or a stop.
-abbrev pub loosened : PenLine → PenLine
-loosened Unbegun = Unbegun
-loosened (Open p) = Ended p
-loosened (Ended p) = Ended p
+-- The middle of what is sewn: a square on its corner.
+unfoldable pub middle_mark : Point → ℕ → ℕ → List ℕ
+middle_mark corner width height = joined (codes "<path class='line' d='M" ∷ point_text corner
+    ∷ codes "m" ∷ mm_text (width * 5) ∷ codes "," ∷ mm_text (height * 5)
+    ∷ ended (codes "m-9,0l9,-9l9,9l-9,9z'><title>middle</title></path>") ∷ [])
 
--- The pen after an act.
-abbrev pub pen_after : Pen → Act → Pen
-pen_after pen (Needle p float) = record pen { line = Open p }
-pen_after pen Trim = record pen { line = loosened pen.line }
-pen_after pen Stop = record { stops = pen.stops + 1; line = loosened pen.line }
+-- The hoop that is shown, or one without a size.
+abbrev pub shown_hoop : DesignValue → Option Hoop → Hoop
+shown_hoop d (Some hoop) = hoop_as_fits hoop (fit_of d hoop.width hoop.height)
+shown_hoop d None = record { width = 0; height = 0 }
 
--- The dashed line to a needle, and the start of a polyline there.
-abbrev pub travel_and_opening : ℕ → Point → Point → List ℕ
-travel_and_opening stops from p = travel from p ++ polyline_start stops p
+-- The outline of the hoop, if there is one.
+abbrev pub hoop_if_given : DesignValue → Option Hoop → List ℕ
+hoop_if_given d (Some hoop) = hoop_text (corners (extent_of d)) (shown_hoop d (Some hoop))
+    (fit_of d hoop.width hoop.height)
+hoop_if_given d None = []
 
--- The text of a needle after n stops, by the state of the polyline.
-abbrev pub needle_text : ℕ → PenLine → Bool → Point → List ℕ
-needle_text stops Unbegun float p = polyline_start stops p
-needle_text stops (Ended from) float p = travel_and_opening stops from p
-needle_text stops (Open from) true p = shape_end ++ travel_and_opening stops from p
-needle_text stops (Open from) false p = codes " " ++ svg_point_text p
+-- The origin, the middle and the hoop.
+unfoldable pub framed_text : DesignValue → Option Hoop → List ℕ
+framed_text d hoop = origin_mark ++ (middle_mark (corners (extent_of d)).min
+    (extent_width (extent_of d)) (extent_height (extent_of d)) ++ hoop_if_given d hoop)
 
--- The text of a trim or a stop: the end of an open polyline, and a mark at the last needle.
-abbrev pub thread_cut_text : (Point → List ℕ) → PenLine → List ℕ
-thread_cut_text mark Unbegun = []
-thread_cut_text mark (Ended p) = mark p
-thread_cut_text mark (Open p) = shape_end ++ mark p
+-- The area of a design: its legend has a line for each block.
+abbrev pub design_area : DesignValue → Option Hoop → Pen → Area
+design_area d hoop pen = area_of (extent_of d) (shown_hoop d hoop) (pen.stops + 1)
 
--- The text of an act.
-abbrev pub act_text : Pen → Act → List ℕ
-act_text pen (Needle p float) = needle_text pen.stops pen.line float p
-act_text pen Trim = thread_cut_text trim_mark pen.line
-act_text pen Stop = thread_cut_text stop_mark pen.line
+-- The text before the layers.
+unfoldable pub top_text : DesignValue → Option Hoop → Pen → List ℕ
+top_text d hoop pen = head_text (sheet_of (design_area d hoop pen)) ++ (title_text d.label
+    ++ (opening_group (design_area d hoop pen) ++ framed_text d hoop))
 
--- The last lines of a picture.
-abbrev pub last_lines : List ℕ
-last_lines = codes "</g>" ++ (10 ∷ (codes "</svg>" ++ 10 ∷ []))
+-- The beginning of the thread of the first block.
+unfoldable pub thread_start : List ℕ → List ℕ
+thread_start colour = joined (codes "<path class='thread' stroke='" ∷ colour ∷ codes "' d='" ∷ [])
 
--- The end of a picture, and of a polyline that is open.
-abbrev pub end_text : PenLine → List ℕ
-end_text Unbegun = last_lines
-end_text (Ended p) = last_lines
-end_text (Open p) = shape_end ++ last_lines
+-- The thread of all blocks.
+unfoldable pub thread_layer : ℕ → List Stroke → List ℕ
+thread_layer thread strokes = thread_start (colour_of_thread thread)
+    ++ (layer_text layer.Threads strokes ++ shape_end)
 
--- The text of acts in order, and the end of the picture.
-abbrev pub acts_and_end_text : Pen → List NumberedAct → List ℕ
-acts_and_end_text pen [] = end_text pen.line
-acts_and_end_text pen (a ∷ rest) = act_text pen a.act
-    ++ acts_and_end_text (pen_after pen a.act) rest
+-- The beginning of the needle holes.
+unfoldable pub hole_start : List ℕ
+hole_start = joined (codes "<path class='hole' d='" ∷ [])
+
+-- The needle holes.
+unfoldable pub hole_layer : List Stroke → List ℕ
+hole_layer strokes = hole_start ++ (layer_text layer.Holes strokes ++ shape_end)
+
+-- The mark where the last thread ends, if a needle was sewn.
+abbrev pub last_mark : Pen → List ℕ
+last_mark pen = if pen.pieces == 0 then [] else end_mark pen.place
+
+-- The layers of a design, from below.
+unfoldable pub layers_text : DesignValue → List Stroke → Pen → List ℕ
+layers_text d strokes pen = layer_text layer.Travels strokes
+    ++ (thread_layer (thread_of d 0) strokes ++ (hole_layer strokes
+    ++ (layer_text layer.Arrows strokes ++ (layer_text layer.Marks strokes ++ last_mark pen))))
+
+-- The legend: a line for each block.
+unfoldable pub legend : DesignValue → List Stroke → Pen → List ℕ
+legend d strokes pen = legend_start ++ (layer_text layer.Legend strokes
+    ++ (block_line (block_end d pen) ++ group_end))
+
+-- The text after the layers.
+unfoldable pub below_text : DesignValue → Option Hoop → List Stroke → Pen → List ℕ
+below_text d hoop strokes pen = below_start
+    (lower_left (design_area d hoop pen).corners) (design_area d hoop pen).above
+    ++ (caption d.label (extent_of d) (counts_of d) pen
+    ++ (legend d strokes pen ++ (group_end ++ group_end)))
+
+-- The picture of strokes that a design has.
+unfoldable pub picture_with : DesignValue → Option Hoop → List Stroke → Pen → List ℕ
+picture_with d hoop strokes pen = top_text d hoop pen ++ (layers_text d strokes pen
+    ++ (below_text d hoop strokes pen ++ foot_text))
+
+-- The picture of a design.
+abbrev pub picture_of : DesignValue → Option Hoop → List ℕ
+picture_of d hoop = picture_with d hoop (strokes_of d) (pen_of d)

@@ -1,13 +1,24 @@
-//! The picture of a design: an SVG text that a browser shows. The runs of needles are in the colours of their
-//! blocks, with the travel between them, and with marks at trims and stops.
+//! The picture of a design: an SVG text that a browser shows. It has the stitches in the colours of their threads,
+//! with what is sewn again beside what was sewn before, and marks where pieces, threads, trims and stops are.
 #![tactic(auto)]
 
+mod block_line;
 mod caption;
-mod colours;
-mod numbers;
+mod hoop;
+mod layers;
+mod layout;
+mod links;
+mod marks;
 mod pen;
-mod shapes;
-mod sheet;
 mod showing;
+mod strokes;
+mod theorems;
+mod threads;
 
+pub use hoop::Hoop;
+pub use layers::{Layer, put_layer};
+pub use layout::{Area, area_of};
+pub use pen::Pen;
 pub use showing::picture;
+pub use strokes::{BlockEnd, Stroke, Strokes, put_strokes};
+pub use theorems::strokes_show_acts;

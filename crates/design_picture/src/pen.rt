@@ -1,60 +1,166 @@
-ghost use Rattle.std.specs.Prelude.{◌≡◌, ◌+◌, ◌<◌, ◌≤◌, ◌^◌};
-ghost use Rattle.design_picture.specs.Pictures.{pen_after};
+ghost use Rattle.std.specs.Prelude.{◌≡◌, ◌+◌, ◌*◌, ◌<◌, ◌≤◌, ◌^◌};
+ghost use Rattle.design_picture.specs.Pens.{first_pen, needle_down, thread_cut, pen_after, HasCounted};
 
 use design_model::{Act, Point};
+use picture_parts::length_between;
 
-/// The state of the polyline that is drawn.
-#[derive(Clone, Copy)]
-pub enum PenLine {
-    /// No needle was drawn yet.
-    Unbegun,
-    /// A polyline is open, and its last point is this needle.
-    Open(Point),
-    /// The thread is loose since this needle.
-    Ended(Point),
-}
+/// The length of thread from one arrow to the next, in thousandths of a millimetre, at least.
+pub const ARROW_GAP: u128 = 5_000;
 
-/// The state of a picture that is drawn: the stops so far, and the polyline.
+/// What is sewn before an act. Lengths are in thousandths of a millimetre.
 #[derive(Clone, Copy)]
 pub struct Pen {
+    /// The stops so far.
     pub stops: u32,
-    pub line: PenLine,
+    /// The pieces begun so far: each begins where the thread is loose.
+    pub pieces: u32,
+    /// The last needle, or the origin.
+    pub place: Point,
+    /// Whether the thread is loose.
+    pub loose: bool,
+    /// The thread since the last arrow.
+    pub since: u128,
+    /// The needles of the block.
+    pub needles: u32,
+    /// The thread of the block.
+    pub sewn: u128,
+    /// The thread of all blocks.
+    pub thread: u128,
+    /// The moves of the loose thread between two pieces.
+    pub travel: u128,
 }
 
 impl Pen {
-    /// Returns the pen after an act.
-    pub(crate) fn after(self, act: Act) -> Pen
-        requires { self.stops + 1 < 2 ^ 32 }
-        ensures value { result ≡ pen_after self act }
-        ensures most { result.stops ≤ self.stops + 1 }
+    /// Returns the pen before the first act.
+    pub(crate) fn new() -> Pen
+        ensures value { result ≡ first_pen }
+        ensures counted { HasCounted 0 result }
     {
-        match act {
-            Act::Needle { at, .. } => Pen {
-                stops: self.stops,
-                line: PenLine::Open(at),
-            },
-            Act::Trim => Pen {
-                stops: self.stops,
-                line: self.line.loosened(),
-            },
-            Act::Stop => Pen {
-                stops: self.stops + 1,
-                line: self.line.loosened(),
-            },
+        Pen {
+            stops: 0,
+            pieces: 0,
+            place: Point { x: 0, y: 0 },
+            loose: true,
+            since: 0,
+            needles: 0,
+            sewn: 0,
+            thread: 0,
+            travel: 0,
         }
     }
-}
 
-impl PenLine {
-    ghost use Rattle.design_picture.specs.Pictures.{loosened};
-
-    /// Returns the state of the polyline after a trim or a stop.
-    fn loosened(self) -> PenLine
-        ensures { result ≡ loosened self }
+    /// Returns the pen after the act with the given index.
+    pub(crate) fn after(self, index: u32, act: Act) -> Pen
+        requires counted { HasCounted index self }
+        requires few { index + 1 < 2 ^ 32 }
+        ensures value { result ≡ pen_after self act }
+        ensures counted { HasCounted (index + 1) result }
     {
-        match self {
-            PenLine::Open(at) => PenLine::Ended(at),
-            PenLine::Unbegun | PenLine::Ended(_) => self,
+        match act {
+            Act::Needle { at, .. } => self.down(index, at),
+            Act::Trim => self.cut(index),
+            Act::Stop => self.stopped(index),
+        }
+    }
+
+    fn down(self, index: u32, at: Point) -> Pen
+        requires counted { HasCounted index self }
+        requires few { index + 1 < 2 ^ 32 }
+        ensures value { result ≡ needle_down self at }
+        ensures counted { HasCounted (index + 1) result }
+    {
+        let length = length_between(self.place, at);
+        if self.loose {
+            self.begun(index, at, length)
+        } else {
+            self.sewn_on(index, at, length)
+        }
+    }
+
+    ghost use Rattle.design_picture.specs.Pens.{piece_begun, thread_sewn, since_arrow, travel_more, block_stopped};
+
+    fn begun(self, index: u32, at: Point, length: u128) -> Pen
+        requires counted { HasCounted index self }
+        requires few { index + 1 < 2 ^ 32 }
+        requires short { length < 2 ^ 64 }
+        ensures value { result ≡ piece_begun self at length }
+        ensures counted { HasCounted (index + 1) result }
+    {
+        Pen {
+            pieces: self.pieces + 1,
+            place: at,
+            loose: false,
+            since: ARROW_GAP / 2,
+            needles: self.needles + 1,
+            travel: self.travel_with(index, length),
+            ..self
+        }
+    }
+
+    fn travel_with(self, index: u32, length: u128) -> u128
+        requires counted { HasCounted index self }
+        requires few { index + 1 < 2 ^ 32 }
+        requires short { length < 2 ^ 64 }
+        ensures value { result ≡ travel_more self length }
+        ensures most { result ≤ (index + 1) * 2 ^ 64 }
+    {
+        if self.pieces == 0 {
+            return self.travel;
+        }
+        self.travel + length
+    }
+
+    fn sewn_on(self, index: u32, at: Point, length: u128) -> Pen
+        requires counted { HasCounted index self }
+        requires few { index + 1 < 2 ^ 32 }
+        requires short { length < 2 ^ 64 }
+        ensures value { result ≡ thread_sewn self at length }
+        ensures counted { HasCounted (index + 1) result }
+    {
+        Pen {
+            place: at,
+            since: self.since_last() + length,
+            needles: self.needles + 1,
+            sewn: self.sewn + length,
+            thread: self.thread + length,
+            ..self
+        }
+    }
+
+    fn since_last(self) -> u128
+        ensures value { result ≡ since_arrow self }
+        ensures most { result < ARROW_GAP }
+    {
+        if self.since >= ARROW_GAP {
+            return 0;
+        }
+        self.since
+    }
+
+    fn cut(self, index: u32) -> Pen
+        requires counted { HasCounted index self }
+        requires few { index + 1 < 2 ^ 32 }
+        ensures value { result ≡ thread_cut self }
+        ensures counted { HasCounted (index + 1) result }
+    {
+        Pen {
+            loose: true,
+            ..self
+        }
+    }
+
+    fn stopped(self, index: u32) -> Pen
+        requires counted { HasCounted index self }
+        requires few { index + 1 < 2 ^ 32 }
+        ensures value { result ≡ block_stopped self }
+        ensures counted { HasCounted (index + 1) result }
+    {
+        Pen {
+            stops: self.stops + 1,
+            loose: true,
+            needles: 0,
+            sewn: 0,
+            ..self
         }
     }
 }

@@ -1,141 +1,236 @@
-ghost use Rattle.std.specs.Prelude.{◌≡◌, ◌++◌, IfOk, OnOk};
-ghost use Rattle.design_model.specs.Acts.{acts_of};
-ghost use Rattle.design_picture.specs.declared.pen.PenLine.TheVariants.{Open};
-ghost use Rattle.design_picture.specs.Pictures.{act_text, travel_and_opening, thread_cut_text, end_text, acts_and_end_text, needle_text, initial_pen};
-ghost use Rattle.design_picture.specs.Shapes.{stop_mark, trim_mark};
-ghost use Rattle.design_picture.specs.Sheets.{picture_of, top_text};
+ghost use Rattle.std.specs.Prelude.{◌≡◌, ◌++◌, IfOk, OnOk, ◌<◌, ◌^◌};
+ghost use Rattle.design_picture.specs.Pictures.{below_text, design_area, framed_text, hole_layer, hole_start, hoop_if_given, last_mark, layers_text, legend, middle_mark, origin_mark, picture_of, picture_with, shown_hoop, thread_layer, thread_start, top_text};
+ghost use Rattle.design_picture.specs.Pens.{HasCounted};
+ghost use Rattle.design_model.specs.declared.design.TheConstants.{MAX_COMMANDS};
 
-use crate::caption::put_caption;
-use crate::numbers::put_point;
-use crate::pen::{Pen, PenLine};
-use crate::shapes::{put_closing, put_opening, put_stop_mark, put_travel, put_trim_mark};
-use crate::sheet::put_head;
-use design_model::{Act, ActScanner, Bytes, Counts, Design, Extent, Memory, Point, counts, extent};
+use crate::block_line::put_block;
+use crate::caption::{put_caption, put_group_end, put_legend_start, put_title};
+use crate::hoop::{Hoop, as_fits, put_hoop};
+use crate::layers::{Layer, put_layer};
+use crate::layout::{
+    Area, area_of, corners_in, left_below, put_below_start, put_opening_group, sheet_of,
+};
+use crate::marks::put_end_mark;
+use crate::pen::Pen;
+use crate::strokes::{Stroke, Strokes, ended, put_strokes};
+use crate::threads::put_shape_end;
+use design_model::{Bytes, Design, Memory, Point, counts, extent, height, width};
+use hoop_check::fits;
+use picture_parts::{Part, put, put_foot, put_head, thread_colour};
 use std::alloc::Global;
 
-/// Returns the picture of a design, a text of SVG 1.1, the standard of the World Wide Web Consortium. A unit
-/// is a tenth of a millimetre.
-pub fn picture(alloc: Global, design: &Design) -> Result<Bytes, Memory>
-    ensures { IfOk result (λ text. text ≡ picture_of design.now) }
+/// Returns the picture of a design, a text of SVG 1.1, the standard of the World Wide Web Consortium. With a
+/// hoop it shows the hoop around the design.
+pub fn picture(alloc: Global, design: &Design, hoop: Option<Hoop>) -> Result<Bytes, Memory>
+    ensures { IfOk result (λ text. text ≡ picture_of design.now hoop) }
+{
+    let mut strokes = Strokes::new(alloc);
+    let pen = put_strokes(alloc, &mut strokes, design)?;
+    drawn(alloc, design, hoop, strokes.as_slice(), pen)
+}
+
+#[tactic(auto, unfolding(crate::specs::Pictures::picture_with))]
+fn drawn(
+    alloc: Global,
+    design: &Design,
+    hoop: Option<Hoop>,
+    strokes: &[Stroke],
+    pen: Pen,
+) -> Result<Bytes, Memory>
+    requires { HasCounted MAX_COMMANDS pen }
+    ensures { IfOk result (λ text. text ≡ picture_with design.now hoop strokes.now pen) }
 {
     let mut text = Bytes::new(alloc);
-    put_top(&mut text, counts(design), extent(design))?;
-    put_lines(&mut text, design)?;
+    put_top(&mut text, design, hoop, pen)?;
+    put_layers(&mut text, design, strokes, pen)?;
+    put_below(&mut text, design, hoop, strokes, pen)?;
+    put_foot(&mut text)?;
     Ok(text)
 }
 
-/// Appends the text before the acts.
-fn put_top(text: &mut Bytes, counts: Counts, extent: Option<Extent>) -> Result<(), Memory>
-    ensures { OnOk result (text.new ≡ text.old ++ top_text counts extent) }
+/// Appends what comes before the layers.
+#[tactic(auto, unfolding(crate::specs::Pictures::top_text))]
+fn put_top(text: &mut Bytes, design: &Design, hoop: Option<Hoop>, pen: Pen) -> Result<(), Memory>
+    requires { HasCounted MAX_COMMANDS pen }
+    ensures { OnOk result (text.new ≡ text.old ++ top_text design.now hoop pen) }
 {
-    put_head(text, extent)?;
-    put_caption(text, counts, extent)?;
+    let area = area_in(design, hoop, pen);
+    put_head(text, sheet_of(area))?;
+    put_title(text, design.label())?;
+    put_opening_group(text, area)?;
+    put_framed(text, design, hoop)?;
     Ok(())
 }
 
-/// Appends the shapes of the acts, and the end of the picture.
-fn put_lines(text: &mut Bytes, design: &Design) -> Result<(), Memory>
-    ensures { OnOk result (text.new ≡ text.old ++ acts_and_end_text initial_pen (acts_of design.now)) }
+fn area_in(design: &Design, hoop: Option<Hoop>, pen: Pen) -> Area
+    requires { HasCounted MAX_COMMANDS pen }
+    ensures value { result ≡ design_area design.now hoop pen }
+    ensures side { result.side < 2 ^ 32 }
+    ensures above { result.above < 2 ^ 32 }
 {
-    let mut pen = Pen {
-        stops: 0,
-        line: PenLine::Unbegun,
+    area_of(extent(design), hoop_shown(design, hoop), pen.stops + 1)
+}
+
+/// Appends the origin, the middle and the hoop.
+#[tactic(auto, unfolding(crate::specs::Pictures::framed_text))]
+fn put_framed(text: &mut Bytes, design: &Design, hoop: Option<Hoop>) -> Result<(), Memory>
+    ensures { OnOk result (text.new ≡ text.old ++ framed_text design.now hoop) }
+{
+    put_origin(text)?;
+    let shown = extent(design);
+    put_middle(text, corners_in(shown).min, width(shown), height(shown))?;
+    put_hoop_if_given(text, design, hoop)?;
+    Ok(())
+}
+
+#[tactic(auto, unfolding(crate::specs::Pictures::origin_mark))]
+fn put_origin(text: &mut Bytes) -> Result<(), Memory>
+    ensures { OnOk result (text.new ≡ text.old ++ origin_mark) }
+{
+    put(
+        text,
+        &[Part::Text(
+            b"<path class='line' d='M-12,0h24M0,-12v24M-7,0a7,7,0,1,0,14,0a7,7,0,1,0,-14,0'><title>origin</title></path>\n",
+        )],
+    )
+}
+
+#[tactic(auto, unfolding(crate::specs::Pictures::middle_mark))]
+fn put_middle(text: &mut Bytes, corner: Point, width: u32, height: u32) -> Result<(), Memory>
+    ensures { OnOk result (text.new ≡ text.old ++ middle_mark corner width height) }
+{
+    put(
+        text,
+        &[
+            Part::Text(b"<path class='line' d='M"),
+            Part::At(corner),
+            Part::Text(b"m"),
+            Part::Mm(width as u128 * 5),
+            Part::Text(b","),
+            Part::Mm(height as u128 * 5),
+            Part::Text(b"m-9,0l9,-9l9,9l-9,9z'><title>middle</title></path>\n"),
+        ],
+    )
+}
+
+fn hoop_shown(design: &Design, hoop: Option<Hoop>) -> Hoop
+    ensures { result ≡ shown_hoop design.now hoop }
+{
+    match hoop {
+        Some(hoop) => as_fits(hoop, fits(design, hoop.width, hoop.height)),
+        None => Hoop {
+            width: 0,
+            height: 0,
+        },
+    }
+}
+
+fn put_hoop_if_given(text: &mut Bytes, design: &Design, hoop: Option<Hoop>) -> Result<(), Memory>
+    ensures { OnOk result (text.new ≡ text.old ++ hoop_if_given design.now hoop) }
+{
+    let Some(given) = hoop else {
+        return Ok(());
     };
-    let mut walk = ActScanner::new();
-    for command in design.commands() {
-        let Some(act) = walk.next(*command) else {
-            continue;
-        };
-        put_act(text, pen, act.act)?;
-        pen = pen.after(act.act);
-    }
-    put_end(text, pen.line)?;
+    let fit = fits(design, given.width, given.height);
+    put_hoop(text, corners_in(extent(design)), as_fits(given, fit), fit)
+}
+
+/// Appends the layers of a design.
+#[tactic(auto, unfolding(crate::specs::Pictures::layers_text))]
+fn put_layers(text: &mut Bytes, design: &Design, strokes: &[Stroke], pen: Pen) -> Result<(), Memory>
+    ensures { OnOk result (text.new ≡ text.old ++ layers_text design.now strokes.now pen) }
+{
+    put_layer(text, Layer::Travels, strokes)?;
+    put_threads(text, design.thread(0), strokes)?;
+    put_holes(text, strokes)?;
+    put_layer(text, Layer::Arrows, strokes)?;
+    put_layer(text, Layer::Marks, strokes)?;
+    put_last_mark(text, pen)?;
     Ok(())
 }
 
-/// Appends the shapes of an act.
-fn put_act(text: &mut Bytes, pen: Pen, act: Act) -> Result<(), Memory>
-    ensures { OnOk result (text.new ≡ text.old ++ act_text pen act) }
+/// Appends the thread of all blocks.
+#[tactic(auto, unfolding(crate::specs::Pictures::thread_layer))]
+pub fn put_threads(text: &mut Bytes, thread: u8, strokes: &[Stroke]) -> Result<(), Memory>
+    ensures { OnOk result (text.new ≡ text.old ++ thread_layer thread strokes.now) }
 {
-    match act {
-        Act::Needle { at, float } => put_needle(text, pen, float, at)?,
-        Act::Trim => put_trim(text, pen.line)?,
-        Act::Stop => put_stop(text, pen.line)?,
-    }
+    put_thread_start(text, thread_colour(thread))?;
+    put_layer(text, Layer::Threads, strokes)?;
+    put_shape_end(text)?;
     Ok(())
 }
 
-fn put_needle(text: &mut Bytes, pen: Pen, float: bool, at: Point) -> Result<(), Memory>
-    ensures { OnOk result (text.new ≡ text.old ++ needle_text pen.stops pen.line float at) }
+#[tactic(auto, unfolding(crate::specs::Pictures::thread_start))]
+fn put_thread_start(text: &mut Bytes, colour: &[u8]) -> Result<(), Memory>
+    ensures { OnOk result (text.new ≡ text.old ++ thread_start colour.now) }
 {
-    match pen.line {
-        PenLine::Unbegun => put_opening(text, pen.stops, at)?,
-        PenLine::Ended(from) => put_begun(text, pen.stops, from, at)?,
-        PenLine::Open(from) => put_next(text, pen.stops, from, float, at)?,
-    }
+    put(
+        text,
+        &[
+            Part::Text(b"<path class='thread' stroke='"),
+            Part::Text(colour),
+            Part::Text(b"' d='"),
+        ],
+    )
+}
+
+/// Appends the needle holes.
+#[tactic(auto, unfolding(crate::specs::Pictures::hole_layer))]
+pub fn put_holes(text: &mut Bytes, strokes: &[Stroke]) -> Result<(), Memory>
+    ensures { OnOk result (text.new ≡ text.old ++ hole_layer strokes.now) }
+{
+    put_hole_start(text)?;
+    put_layer(text, Layer::Holes, strokes)?;
+    put_shape_end(text)?;
     Ok(())
 }
 
-/// Appends a needle after an open polyline.
-fn put_next(text: &mut Bytes, stops: u32, from: Point, float: bool, at: Point) -> Result<(), Memory>
-    ensures { OnOk result (text.new ≡ text.old ++ needle_text stops (Open from) float at) }
+#[tactic(auto, unfolding(crate::specs::Pictures::hole_start))]
+fn put_hole_start(text: &mut Bytes) -> Result<(), Memory>
+    ensures { OnOk result (text.new ≡ text.old ++ hole_start) }
 {
-    if float {
-        put_closing(text)?;
-        put_begun(text, stops, from, at)?;
+    put(text, &[Part::Text(b"<path class='hole' d='")])
+}
+
+/// Appends the mark where the last thread ends, if a needle was sewn.
+fn put_last_mark(text: &mut Bytes, pen: Pen) -> Result<(), Memory>
+    ensures { OnOk result (text.new ≡ text.old ++ last_mark pen) }
+{
+    if pen.pieces == 0 {
         return Ok(());
     }
-    text.append(b" ")?;
-    put_point(text, at)?;
+    put_end_mark(text, pen.place)
+}
+
+/// Appends the texts below the layers.
+#[tactic(auto, unfolding(crate::specs::Pictures::below_text))]
+fn put_below(
+    text: &mut Bytes,
+    design: &Design,
+    hoop: Option<Hoop>,
+    strokes: &[Stroke],
+    pen: Pen,
+) -> Result<(), Memory>
+    requires { HasCounted MAX_COMMANDS pen }
+    ensures { OnOk result (text.new ≡ text.old ++ below_text design.now hoop strokes.now pen) }
+{
+    let area = area_in(design, hoop, pen);
+    put_below_start(text, left_below(area.corners), area.above)?;
+    put_caption(text, design.label(), extent(design), counts(design), pen)?;
+    put_legend(text, design, strokes, pen)?;
+    put_group_end(text)?;
+    put_group_end(text)?;
     Ok(())
 }
 
-/// Appends the travel to a needle, and begins a polyline there.
-fn put_begun(text: &mut Bytes, stops: u32, from: Point, at: Point) -> Result<(), Memory>
-    ensures { OnOk result (text.new ≡ text.old ++ travel_and_opening stops from at) }
+#[tactic(auto, unfolding(crate::specs::Pictures::legend))]
+fn put_legend(text: &mut Bytes, design: &Design, strokes: &[Stroke], pen: Pen) -> Result<(), Memory>
+    requires { HasCounted MAX_COMMANDS pen }
+    ensures { OnOk result (text.new ≡ text.old ++ legend design.now strokes.now pen) }
 {
-    put_travel(text, from, at)?;
-    put_opening(text, stops, at)?;
-    Ok(())
-}
-
-fn put_trim(text: &mut Bytes, line: PenLine) -> Result<(), Memory>
-    ensures { OnOk result (text.new ≡ text.old ++ thread_cut_text trim_mark line) }
-{
-    match line {
-        PenLine::Unbegun => {}
-        PenLine::Ended(at) => put_trim_mark(text, at)?,
-        PenLine::Open(at) => {
-            put_closing(text)?;
-            put_trim_mark(text, at)?;
-        }
-    }
-    Ok(())
-}
-
-fn put_stop(text: &mut Bytes, line: PenLine) -> Result<(), Memory>
-    ensures { OnOk result (text.new ≡ text.old ++ thread_cut_text stop_mark line) }
-{
-    match line {
-        PenLine::Unbegun => {}
-        PenLine::Ended(at) => put_stop_mark(text, at)?,
-        PenLine::Open(at) => {
-            put_closing(text)?;
-            put_stop_mark(text, at)?;
-        }
-    }
-    Ok(())
-}
-
-/// Appends the end of the picture, and ends a polyline that is open.
-fn put_end(text: &mut Bytes, line: PenLine) -> Result<(), Memory>
-    ensures { OnOk result (text.new ≡ text.old ++ end_text line) }
-{
-    if let PenLine::Open(_) = line {
-        put_closing(text)?;
-        text.append(b"</g>\n</svg>\n")?;
-        return Ok(());
-    }
-    text.append(b"</g>\n</svg>\n")?;
+    put_legend_start(text)?;
+    put_layer(text, Layer::Legend, strokes)?;
+    put_block(text, ended(design, pen))?;
+    put_group_end(text)?;
     Ok(())
 }

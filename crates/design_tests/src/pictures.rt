@@ -1,44 +1,61 @@
 use crate::design_of;
 use design_model::{Command, Point};
-use design_picture::picture;
+use design_picture::{Hoop, picture};
 use std::test::Fail;
 
-fn at(x: i32, y: i32) -> Point {
-    Point { x, y }
+fn stitch(x: i32, y: i32) -> Command {
+    Command::Stitch(Point { x, y })
 }
 
 #[test]
 fn a_picture_shows_the_acts_in_order(rt: HostRuntime) -> Result<(), Fail> {
-    let stitch = Command::Stitch;
     let table = [
         (
-            [stitch(at(0, 0)), stitch(at(9, -9)), Command::Trim],
-            "points='0,0 9,-9'/>\n<path class='trim' d='M9,-9m",
+            [stitch(0, 0), stitch(9, -9), Command::Trim],
+            "d='\nM0,0L9,-9'/>\n<path class='hole' d='M0,0h0M9,-9h0'/>\n",
         ),
         (
-            [stitch(at(0, 0)), Command::Stop, stitch(at(4, 5))],
-            "d='M0,0L4,5'/>\n<polyline stroke='#0057b7' points='4,5'/>\n</g>\n</svg>\n",
+            [stitch(0, 0), Command::Stop, stitch(4, 5)],
+            "<path class='travel' d='M0,0L4,5'/>\n",
         ),
         (
-            [stitch(at(0, 0)), Command::Jump(at(1, 1)), stitch(at(7, 0))],
-            "dy='155'>0.7 x 0.0 mm</text>\n<polyline stroke='#c8102e' points='0,0'/>\n<path class='travel' d='M0,0L7,0'/>\n",
+            [stitch(0, 0), stitch(30, 0), stitch(0, 0)],
+            "\nM0,0L30,0A30,30,0,0,1,0,0'/>\n",
         ),
         (
             [Command::Stop, Command::Trim, Command::Stop],
-            "stops 2</text>\n<text x='0' y='0' dy='155'>0.0 x 0.0 mm</text>\n</g>\n</svg>\n",
-        ),
-        (
-            [
-                stitch(at(-30_000, -30_000)),
-                stitch(at(30_000, 30_000)),
-                Command::Stop,
-            ],
-            "<svg xmlns='http://\
-            www.w3.org/2000/svg' width='6010.0mm' height='6022.0mm' viewBox='-30000 -30000 60100 60220'>\n",
+            "needles 0, pieces 0, trims 0, stops 2</text>\n",
         ),
     ];
     for (commands, part) in table {
-        let text = picture(rt.alloc(), &design_of(rt.alloc(), &commands)?)?;
+        let text = picture(rt.alloc(), &design_of(rt.alloc(), &commands)?, None)?;
+        assert!(rt; has(text.as_slice(), part.as_bytes()), "{part}");
+    }
+    Ok(())
+}
+
+#[test]
+fn a_hoop_that_is_too_small_is_red(rt: HostRuntime) -> Result<(), Fail> {
+    let design = design_of(rt.alloc(), &[stitch(0, 0), stitch(300, 100)])?;
+    let table = [
+        (
+            300,
+            100,
+            "<path class='line' d='M0,0m-0.0,-0.0h300v100h-300z'/>",
+        ),
+        (
+            101,
+            301,
+            "<path class='line' d='M0,0m-0.5,-0.5h301v101h-301z'/>",
+        ),
+        (
+            299,
+            99,
+            "<path class='line over' d='M0,0m0.5,0.5h299v99h-299z'/>",
+        ),
+    ];
+    for (width, height, part) in table {
+        let text = picture(rt.alloc(), &design, Some(Hoop { width, height }))?;
         assert!(rt; has(text.as_slice(), part.as_bytes()), "{part}");
     }
     Ok(())

@@ -1,2 +1,4 @@
-mod RunLemmas
+mod FormatLemmas
+mod PictureLemmas
+mod WordLemmas
 mod WordFacts

@@ -1,41 +1,41 @@
--- Worked values of parsed arguments, and of the status if there is no picture.
+-- Worked values of requests, and of orders.
 use Rattle.std.proofs.Common.{◌≡◌, ℕ, List, true, false, [], ◌∷◌, Some, None, codes, map, replicate, refl}
 use Rattle.format_traits.specs.Meanings.{Meaning}
-use Rattle.stitch_picture.specs.declared.finish.PictureFailure.TheVariants as failure
-use Rattle.stitch_picture.specs.declared.finish.PictureStatus.TheVariants as status
-use Rattle.stitch_picture.specs.Orders.{has_svg_ending, picture_names, picture_order}
-use Rattle.stitch_picture.specs.Runs.{picture_status}
+use Rattle.stitch_picture.specs.Pictures.{picture_order}
+use Rattle.stitch_picture.specs.Words.{has_svg_ending, request_words, side_word}
 
--- a picture's name ends in `.svg`, in small letters
+-- A picture's name ends in `.svg`, in small letters.
 pub known_pictures : map has_svg_ending (codes "a.svg" ∷ codes "a.SVG" ∷ codes "svg" ∷ codes "a.svg.pes" ∷ codes "a.svgz" ∷ [])
     ≡ true ∷ false ∷ false ∷ false ∷ false ∷ []
 known_pictures = refl
 
--- Two names request a picture, the input first.
-pub known_two_names : picture_names (codes "a.pes" ∷ codes "b.svg" ∷ []) ≡ Some (record { input = codes "a.pes"; output = codes "b.svg" })
-known_two_names = refl
+-- Two names request a picture, the input first; with two sides it has a hoop, the width first.
+pub known_requests : map request_words ((codes "a.pes" ∷ codes "b.svg" ∷ []) ∷
+    (codes "a.pes" ∷ codes "b.svg" ∷ codes "1" ∷ codes "20" ∷ []) ∷ [])
+    ≡ Some (record { input = codes "a.pes"; output = codes "b.svg"; hoop = None })
+    ∷ Some (record { input = codes "a.pes"; output = codes "b.svg"; hoop = Some (record { width = 1; height = 20 }) }) ∷ []
+known_requests = refl
 
 -- No other number of arguments, no empty argument, no other ending and no repeated name requests a picture.
-pub known_no_names : map picture_names (
-    [] ∷ (codes "a.pes" ∷ []) ∷ (codes "a.pes" ∷ codes "b.svg" ∷ codes "c.svg" ∷ []) ∷ ([] ∷ codes "b.svg" ∷ [])
-    ∷ (codes "a.pes" ∷ [] ∷ []) ∷ (codes "a.svg" ∷ codes "b.pes" ∷ []) ∷ (codes "b.svg" ∷ codes "b.svg" ∷ []) ∷ [])
-    ≡ replicate 7 None
-known_no_names = refl
+pub known_no_requests : map request_words (
+    [] ∷ (codes "a.pes" ∷ []) ∷ (codes "a.pes" ∷ codes "b.svg" ∷ codes "9" ∷ []) ∷ ([] ∷ codes "b.svg" ∷ [])
+    ∷ (codes "a.pes" ∷ [] ∷ []) ∷ (codes "a.svg" ∷ codes "b.pes" ∷ []) ∷ (codes "b.svg" ∷ codes "b.svg" ∷ [])
+    ∷ (codes "a.pes" ∷ codes "b.svg" ∷ codes "9" ∷ codes "0" ∷ [])
+    ∷ (codes "a.pes" ∷ codes "b.svg" ∷ codes "9" ∷ codes "9" ∷ codes "9" ∷ []) ∷ [])
+    ≡ replicate 9 None
+known_no_requests = refl
+
+-- A side is a number from 1 to 100000.
+pub known_sides : map side_word (codes "1" ∷ codes "100000" ∷ codes "0" ∷ codes "100001" ∷ codes "-5" ∷ codes "x" ∷ codes "9999999999" ∷ [])
+    ≡ Some 1 ∷ Some 100000 ∷ None ∷ None ∷ None ∷ None ∷ None ∷ []
+known_sides = refl
 
 -- a format with another ending
 abbrev ending_as : Meaning → List ℕ → Meaning
 ending_as format ending = record format { ending = ending }
 
--- the format is that of the input's ending
-pub known_order : (m : Meaning)
-    → picture_order (ending_as m (codes "dst") ∷ ending_as m (codes "exp") ∷ []) (codes "a.exp" ∷ codes "b.svg" ∷ [])
-    ≡ Some (record { format = ending_as m (codes "exp"); input = codes "a.exp"; output = codes "b.svg" })
-known_order m = refl
-
-pub known_no_format : (m : Meaning) → picture_order (ending_as m (codes "dst") ∷ []) (codes "a.jef" ∷ codes "b.svg" ∷ []) ≡ None
-known_no_format m = refl
-
--- An input that can't be read is a fault; one that does not conform to its format is refused.
-pub known_statuses : map picture_status (failure.ReadFailed ∷ failure.Refused ∷ failure.Memory ∷ [])
-    ≡ status.Fault ∷ status.Refused ∷ status.Memory ∷ []
-known_statuses = refl
+-- The format is that of the input's ending, and a file of no format has no order.
+pub known_orders : (m : Meaning) → map (picture_order (ending_as m (codes "dst") ∷ ending_as m (codes "exp") ∷ []))
+    ((codes "a.exp" ∷ codes "b.svg" ∷ []) ∷ (codes "a.jef" ∷ codes "b.svg" ∷ []) ∷ [])
+    ≡ Some (record { format = ending_as m (codes "exp"); input = codes "a.exp"; output = codes "b.svg"; hoop = None }) ∷ None ∷ []
+known_orders m = refl

@@ -1,3 +1,3 @@
--- Read Runs first: the guarantees of each exit status.
-pub mod Runs
-pub mod Orders
+-- Read this one first: the orders of the program and their plans.
+pub mod Pictures
+pub mod Words

@@ -1,19 +1,20 @@
-//! A second program: draws the design of a stitch file as a picture. Creates the real files, standard error
-//! and formats, and passes them with the arguments to `run`.
+//! A second program: draws the design of a stitch file as a picture. Creates the real files, streams and
+//! formats, and passes them with the arguments to `run`.
 #![tactic(auto)]
 
-mod finish;
-mod names;
-mod reading;
+mod drawing;
 mod running;
+#[cfg(test)]
+mod tests;
+mod words;
 
-use crate::finish::{PictureStatus, report_line};
-use crate::running::run;
+use crate::running::{PROGRAM, run};
 use dst_codec::Dst;
 use exp_codec::Exp;
 use format_traits::Format;
 use outside_io::{DirStore, StdSink, program_words};
 use pes_codec::{Pec, Pes};
+use program_shell::{Status, report_out_of_memory};
 use std::alloc::AllocError;
 use std::process::ExitCode;
 use stitch_text::List;
@@ -22,14 +23,14 @@ fn main(rt: HostRuntime) -> ExitCode {
     ExitCode::from(status_of(&rt) as u8)
 }
 
-fn status_of(rt: &HostRuntime) -> PictureStatus {
+fn status_of(rt: &HostRuntime) -> Status {
     match start(rt) {
         Ok(status) => status,
-        Err(_) => report_out_of_memory(rt),
+        Err(_) => report_memory(rt),
     }
 }
 
-fn start(rt: &HostRuntime) -> Result<PictureStatus, AllocError> {
+fn start(rt: &HostRuntime) -> Result<Status, AllocError> {
     let alloc = rt.alloc();
     let words = program_words(rt)?;
     let mut formats: Vec<Box<dyn Format>> = Vec::new(alloc);
@@ -39,11 +40,11 @@ fn start(rt: &HostRuntime) -> Result<PictureStatus, AllocError> {
     formats.push(Box::new(alloc, Pes::new(alloc))?)?;
     formats.push(Box::new(alloc, List::new(alloc))?)?;
     let mut store = DirStore::new(alloc, rt);
+    let mut out = StdSink::new(rt.stdout());
     let mut err = StdSink::new(rt.stderr());
-    Ok(run(alloc, &words, &mut formats, &mut store, &mut err))
+    Ok(run(alloc, &words, &mut formats, &mut store, &mut out, &mut err))
 }
 
-fn report_out_of_memory(rt: &HostRuntime) -> PictureStatus {
-    let mut err = StdSink::new(rt.stderr());
-    report_line(&mut err, PictureStatus::Memory, b"out of memory", "")
+fn report_memory(rt: &HostRuntime) -> Status {
+    report_out_of_memory(&mut StdSink::new(rt.stderr()), PROGRAM)
 }

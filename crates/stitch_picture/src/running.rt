@@ -1,85 +1,72 @@
-ghost use Rattle.std.specs.Prelude.{◌≡◌, map, string_bytes};
-ghost use Rattle.outside_io.specs.Files.{IsFileName};
-ghost use Rattle.stitch_picture.specs.Orders.{picture_order_of_names, picture_order};
-ghost use Rattle.stitch_picture.specs.Runs.{IsPictureRunOutcome, IsPictureOutcome};
-ghost use Rattle.stitch_picture.specs.declared.finish.PictureStatus.TheVariants as status;
+ghost use Rattle.std.specs.Prelude.{◌≡◌, map, option_map, string_bytes};
+ghost use Rattle.format_traits.specs.Endings.{format_of};
+ghost use Rattle.program_shell.specs.Runs.{RunEnds};
+ghost use Rattle.program_shell.specs.RunViews.{views_of};
+ghost use Rattle.program_shell.specs.StepOutcomes.{RunsRequest};
+ghost use Rattle.stitch_picture.specs.Pictures.{order_with, picture_order, picture_program};
+ghost use Rattle.stitch_picture.specs.Words.{AreGoodNames, picture_request};
 
-use crate::finish::{PictureStatus, report_failure, report_line, report_usage};
-use crate::names::{PictureNames, names_in};
-use crate::reading::picture_in;
+use crate::drawing::draw;
+use crate::words::{PictureRequest, request};
 use format_traits::{Format, find};
-use outside_io::{Failed, Sink, Store, write_whole};
+use outside_io::{Sink, Store};
+use program_shell::{Failure, Product, Status, finish};
 use std::alloc::Global;
 
-/// Draws the design in the file of the first argument, and writes the picture to the file of the second.
-/// Otherwise prints one line to `err`.
-pub fn run<S: Store, E: Sink>(
+/// The name of the program.
+pub const PROGRAM: &[u8] = b"stitch_picture";
+
+/// What the program prints where the arguments request no picture.
+pub const USAGE: &[u8] = b"usage: stitch_picture IN OUT.svg [WIDTH HEIGHT]\n";
+
+/// Draws the picture that the arguments request, and returns the exit status. If nothing is refused, writes
+/// the picture to the store and prints nothing. Otherwise prints one line, or the usage text, to `err`.
+pub fn run<S: Store, O: Sink, E: Sink>(
     alloc: Global,
     words: &[String],
     formats: &mut [Box<dyn Format>],
     store: &mut S,
+    out: &mut O,
     err: &mut E,
-) -> PictureStatus
-    ensures { IsPictureRunOutcome (picture_order (map (λ f. meaning f) formats.old)
-        (map string_bytes words.now))
-        (S.view store.old).files (S.view store.new).files result }
+) -> Status
+    ensures { RunEnds picture_program
+        (picture_order (map (λ f. meaning f) formats.old) (map string_bytes words.now))
+        (views_of (S.view store.old) (O.view out.old) (E.view err.old))
+        (views_of (S.view store.new) (O.view out.new) (E.view err.new)) result }
 {
-    match names_in(words) {
-        Some(names) => run_named(alloc, names, formats, store, err),
-        None => report_usage(err),
-    }
+    let made = make(alloc, words, formats, store);
+    finish(PROGRAM, USAGE, made, store, out, err)
 }
 
-fn run_named<S: Store, E: Sink>(
+/// Makes the picture that the arguments request. Reads its inputs from the store, and writes nothing.
+fn make<'a, S: Store>(
     alloc: Global,
-    names: PictureNames<'_>,
+    words: &'a [String],
     formats: &mut [Box<dyn Format>],
     store: &mut S,
-    err: &mut E,
-) -> PictureStatus
-    requires input { IsFileName names.input.now }
-    requires output { IsFileName names.output.now }
-    ensures { IsPictureRunOutcome (picture_order_of_names (map (λ f. meaning f) formats.old)
-        names.entry.input.now
-        names.entry.output.now) (S.view store.old).files (S.view store.new).files result }
+) -> Result<Product<'a>, Failure<'a>>
+    ensures { RunsRequest picture_program (picture_order (map (λ f. meaning f) formats.old)
+        (map string_bytes words.now)) (S.view store.old) (S.view store.new) result }
 {
-    match find(formats, names.input) {
-        Some(place) => run_with(
-            alloc,
-            names.input,
-            names.output,
-            &mut formats[place],
-            store,
-            err,
-        ),
-        None => report_usage(err),
+    match request(words) {
+        Some(requested) => make_requested(alloc, requested, formats, store),
+        None => Err(Failure::BadArguments),
     }
 }
 
-fn run_with<S: Store, E: Sink>(
+fn make_requested<'a, S: Store>(
     alloc: Global,
-    input: &str,
-    output: &str,
-    format: &mut Box<dyn Format>,
+    requested: PictureRequest<'a>,
+    formats: &mut [Box<dyn Format>],
     store: &mut S,
-    err: &mut E,
-) -> PictureStatus
-    requires input { IsFileName input.now }
-    requires output { IsFileName output.now }
-    ensures { IsPictureOutcome (meaning format.old) input.now output.now
-        (S.view store.old).files (S.view store.new).files result }
+) -> Result<Product<'a>, Failure<'a>>
+    requires { AreGoodNames requested }
+    ensures { RunsRequest picture_program (order_with (picture_request requested.entry)
+        (format_of (map (λ f. meaning f) formats.old) requested.entry.input.now))
+        (S.view store.old) (S.view store.new) result }
 {
-    match picture_in(alloc, input, format, store) {
-        Ok(text) => match write_whole(store, output, text.as_slice()) {
-            Ok(()) => PictureStatus::Done,
-            Err(Failed) => report_write_fault(err, output),
-        },
-        Err(why) => report_failure(err, why, input),
+    match find(formats, requested.input) {
+        Some(place) => draw(alloc, requested, formats, place, store),
+        None => Err(Failure::BadArguments),
     }
-}
-
-fn report_write_fault<E: Sink>(err: &mut E, output: &str) -> PictureStatus
-    ensures { result ≡ status.Fault }
-{
-    report_line(err, PictureStatus::Fault, b"cannot write ", output)
 }

@@ -1,0 +1,37 @@
+-- The strokes of acts show the acts.
+use Rattle.std.proofs.Common.{◌≡◌, ℕ, Bool, true, false, List, [], ◌∷◌, map, None, refl, if◌then◌else◌}
+use Rattle.std.proofs.Math.Path.{ap₂}
+use Rattle.design_model.specs.declared.act.Act.{Act}
+use Rattle.design_model.specs.declared.act.Act.TheVariants as act
+use Rattle.design_model.specs.declared.act.NumberedAct.{NumberedAct}
+use Rattle.design_model.specs.declared.point.Point.{Point}
+use Rattle.design_model.specs.Acts.{acts_of}
+use Rattle.design_model.specs.Designs.{DesignValue}
+use Rattle.design_picture.specs.declared.pen.Pen.{Pen}
+use Rattle.design_picture.specs.declared.strokes.Stroke.{Stroke}
+use Rattle.design_picture.specs.declared.strokes.Stroke.TheVariants.{Begin, Float, Sewn}
+use Rattle.design_picture.specs.Passes.{earlier_passes}
+use Rattle.design_picture.specs.Pens.{first_pen, pen_after}
+use Rattle.design_picture.specs.ShownActs.{StrokesShowActs, plain_act, shown_act}
+use Rattle.design_picture.specs.Strokes.{StitchPasses, needle_stroke, passes_after, stroke_of_act, strokes_from}
+
+-- Each of the three strokes of a needle shows it.
+chosen : (loose float : Bool) (begin floated sewn : Stroke) (a : Act) → shown_act begin ≡ a → shown_act floated ≡ a → shown_act sewn ≡ a
+    → shown_act (if loose then begin else (if float then floated else sewn)) ≡ a
+chosen true float begin floated sewn a one two three = one
+chosen false true begin floated sewn a one two three = two
+chosen false false begin floated sewn a one two three = three
+
+shows : (d : DesignValue) (pen : Pen) (passes : StitchPasses) (a : Act) → shown_act (stroke_of_act d pen passes a) ≡ plain_act a
+shows d pen passes (act.Needle p float) = chosen pen.loose float _ _ _ (act.Needle p false) refl refl refl
+shows d pen passes act.Trim = refl
+shows d pen passes act.Stop = refl
+
+all_shown : (d : DesignValue) (pen : Pen) (passes : StitchPasses) (acts : List NumberedAct)
+    → map shown_act (strokes_from d pen passes acts) ≡ map (λ (a : NumberedAct). plain_act a.act) acts
+all_shown d pen passes [] = refl
+all_shown d pen passes (a ∷ rest) = ap₂ (λ (b : Act) (later : List Act). b ∷ later) (shows d pen passes a.act)
+    (all_shown d (pen_after pen a.act) (passes_after pen passes a.act) rest)
+
+pub strokes_shown : StrokesShowActs
+strokes_shown d = all_shown d first_pen (λ stitch. None) (acts_of d)

@@ -1,0 +1,23 @@
+-- The strokes of the acts that are left, and the pen after them, one act at a time.
+use Rattle.std.proofs.Common.{◌≡◌, List, ◌∷◌, ◌++◌, ap, sym, ◌∙◌}
+use Rattle.design_model.specs.declared.act.NumberedAct.{NumberedAct}
+use Rattle.design_model.specs.Designs.{DesignValue}
+use Rattle.design_picture.specs.declared.pen.Pen.{Pen}
+use Rattle.design_picture.specs.declared.strokes.Stroke.{Stroke}
+use Rattle.design_picture.specs.Pens.{pen_after}
+use Rattle.design_picture.specs.Strokes.{StitchPasses, pen_along, strokes_from}
+
+-- The stroke of the next act is added.
+pub shows_next : (d : DesignValue) (pen pen' : Pen) (passes passes' : StitchPasses) (a : NumberedAct) (acts rest : List NumberedAct)
+    (old new whole : List Stroke) → acts ≡ a ∷ rest → pen' ≡ pen_after pen a.act
+    → new ++ strokes_from d (pen_after pen a.act) passes' rest ≡ old ++ strokes_from d pen passes (a ∷ rest)
+    → old ++ strokes_from d pen passes acts ≡ whole → new ++ strokes_from d pen' passes' rest ≡ whole
+shows_next d pen pen' passes passes' a acts rest old new whole is after adds before =
+    ap (λ (p : Pen). new ++ strokes_from d p passes' rest) after ∙ adds
+    ∙ ap (λ (left : List NumberedAct). old ++ strokes_from d pen passes left) (sym is) ∙ before
+
+-- The pen goes on from the next act.
+pub moves_next : (pen pen' last : Pen) (a : NumberedAct) (acts rest : List NumberedAct) → acts ≡ a ∷ rest → pen' ≡ pen_after pen a.act
+    → pen_along pen acts ≡ last → pen_along pen' rest ≡ last
+moves_next pen pen' last a acts rest is after before =
+    ap (λ (p : Pen). pen_along p rest) after ∙ ap (pen_along pen) (sym is) ∙ before

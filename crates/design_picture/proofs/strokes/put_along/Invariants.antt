@@ -1,0 +1,18 @@
+use Rattle.std.proofs.Common.{◌≡◌, ◌++◌, None, drop}
+use Rattle.std.specs.HashMap.{get}
+use Rattle.design_model.specs.ActScanners.{acts_after}
+use Rattle.design_model.specs.Acts.{acts_along}
+use Rattle.design_picture.specs.Passes.{is_same_stitch}
+use Rattle.design_picture.specs.Pens.{HasCounted, first_pen}
+use Rattle.design_picture.specs.Strokes.{pen_along, strokes_from}
+use Rattle.design_picture.proofs.strokes.put_along.Given as goal
+
+-- the strokes so far and those of the acts that are left are all of them, and so is the last pen
+abbrev pub invariant-loop-command : goal.invariant-loop-command
+invariant-loop-command l = record {
+  number : l.scanner.number ≡ l.command-index;
+  counted : HasCounted l.command-index l.pen;
+  shown : l.strokes ++ strokes_from l.design l.pen (get is_same_stitch l.passes) (acts_after l.scanner (drop l.command-index l.commands))
+      ≡ l.fn.strokes ++ strokes_from l.fn.design first_pen (λ stitch. None) (acts_along l.fn.commands);
+  pen : pen_along l.pen (acts_after l.scanner (drop l.command-index l.commands)) ≡ pen_along first_pen (acts_along l.fn.commands);
+}

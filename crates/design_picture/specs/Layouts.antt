@@ -1,0 +1,55 @@
+-- Where the parts of a picture are: what is shown, with space around it, and texts below it.
+-- Lengths are in tenths of a millimetre.
+use Rattle.std.specs.Prelude.{ℕ, ◌+◌, ◌-◌, ◌*◌, ◌/◌, max, List, [], ◌∷◌, ◌++◌, Option, Some, None, codes}
+use Rattle.std.specs.Fmt.{decimal}
+use Rattle.design_model.specs.declared.bounds.Extent.{Extent}
+use Rattle.design_model.specs.declared.point.Point.{Point}
+use Rattle.design_model.specs.Extents.{extent_at, extent_height, extent_width}
+use Rattle.design_model.specs.Points.{origin}
+use Rattle.design_picture.specs.declared.block_line.TheConstants.{LINE_HEIGHT}
+use Rattle.design_picture.specs.declared.hoop.Hoop.{Hoop}
+use Rattle.design_picture.specs.declared.layout.Area.{Area}
+use Rattle.design_picture.specs.declared.layout.TheConstants.{MARGIN, MIN_WIDTH, TEXT_HEIGHT}
+use Rattle.picture_parts.specs.declared.sheet.Sheet.{Sheet}
+use Rattle.picture_parts.specs.Parts.{ended, joined, point_text}
+
+-- The corners of an extent; the origin for both without one.
+abbrev pub corners : Option Extent → Extent
+corners None = extent_at origin
+corners (Some extent) = extent
+
+-- The space at a side: half of what a hoop is longer than the design, and the margin.
+abbrev pub side_of : ℕ → ℕ → ℕ
+side_of hoop design = (hoop - design + 1) / 2 + MARGIN
+
+-- The area of an extent, with room for a hoop.
+abbrev pub area_of : Option Extent → Hoop → ℕ → Area
+area_of extent hoop lines = record {
+  corners = corners extent;
+  side = side_of hoop.width (extent_width extent);
+  above = side_of hoop.height (extent_height extent);
+  lines = lines;
+}
+
+-- The sheet of an area.
+abbrev pub sheet_of : Area → Sheet
+sheet_of area = record {
+  corner = area.corners.min;
+  width = max (extent_width (Some area.corners)) MIN_WIDTH + 2 * area.side;
+  height = extent_height (Some area.corners) + 2 * area.above + TEXT_HEIGHT
+      + LINE_HEIGHT * area.lines;
+}
+
+-- The group of what is shown, moved by the space around it.
+unfoldable pub opening_group : Area → List ℕ
+opening_group area = joined (codes "<g transform='translate(" ∷ decimal area.side ∷ codes ","
+    ∷ decimal area.above ∷ ended (codes ")'>") ∷ [])
+
+-- The lower left corner of what is shown.
+abbrev pub lower_left : Extent → Point
+lower_left corners = record { x = corners.min.x; y = corners.max.y }
+
+-- The group of the texts below what is shown.
+unfoldable pub below_start : Point → ℕ → List ℕ
+below_start corner above = joined (codes "<g transform='translate(" ∷ point_text corner
+    ∷ codes ") translate(0," ∷ decimal above ∷ ended (codes ")'>") ∷ [])

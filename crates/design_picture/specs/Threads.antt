@@ -1,0 +1,116 @@
+-- How a thread is drawn: a stitch is a straight line, and an arc beside it where it was sewn
+-- before.
+use Rattle.std.specs.Prelude.{ℕ, ◌+◌, ◌/◌, ◌==◌, ◌-ℤ◌, unsigned_abs, max, nat_le, Bool, List, [], ◌∷◌, ◌++◌, codes, if◌then◌else◌}
+use Rattle.std.specs.Fmt.{decimal}
+use Rattle.design_model.specs.declared.point.Point.{Point}
+use Rattle.design_picture.specs.declared.strokes.Stroke.{Stroke}
+use Rattle.design_picture.specs.declared.strokes.Stroke.TheVariants.{Begin, Float, Sewn, Trim, Stop}
+use Rattle.design_picture.specs.declared.threads.TheConstants.{MIN_SHOWN}
+use Rattle.picture_parts.specs.Colours.{colour_of_thread}
+use Rattle.picture_parts.specs.Lengths.{square_of}
+use Rattle.picture_parts.specs.Parts.{ended, joined, point_text}
+
+-- The end of a shape.
+unfoldable pub shape_end : List ℕ
+shape_end = joined (ended (codes "'/>") ∷ [])
+
+-- The thread begins again at a point.
+unfoldable pub move_text : Point → List ℕ
+move_text p = joined ((10 ∷ codes "M") ∷ point_text p ∷ [])
+
+-- A straight stitch to a point.
+unfoldable pub straight_text : Point → List ℕ
+straight_text p = joined (codes "L" ∷ point_text p ∷ [])
+
+-- A stitch to a point as an arc of a radius.
+unfoldable pub arc_text : ℕ → Point → List ℕ
+arc_text bow p = joined (codes "A" ∷ decimal bow ∷ codes "," ∷ decimal bow ∷ codes ",0,0,1,"
+    ∷ point_text p ∷ [])
+
+-- The radius of the arc of a stitch that was sewn once, twice or more often before, so that the arc
+-- is some 4, 8 or 12 tenths of a millimetre beside the straight line.
+abbrev pub bow_of : ℕ → Point → Point → ℕ
+bow_of pass p q = if pass == 1 then square_of p q / 32 + 2
+    else (if pass == 2 then square_of p q / 64 + 4 else square_of p q / 96 + 6)
+
+-- A stitch that was sewn a number of times before.
+abbrev pub sewn_text : ℕ → Point → Point → List ℕ
+sewn_text pass p q = if pass == 0 then straight_text q else arc_text (bow_of pass p q) q
+
+-- The thread of the next block.
+unfoldable pub colour_change_text : List ℕ → List ℕ
+colour_change_text colour = joined ((codes "'/>" ++ 10 ∷ codes "<path class='thread' stroke='")
+    ∷ colour ∷ codes "' d='" ∷ [])
+
+-- The thread of a stroke.
+abbrev pub thread_text : Stroke → List ℕ
+thread_text (Begin piece opens from p) = move_text p
+thread_text (Float from p) = move_text p
+thread_text (Sewn pass arrow from p) = sewn_text pass from p
+thread_text (Trim p) = []
+thread_text (Stop ended next) = colour_change_text (colour_of_thread next)
+
+-- A stitch that was sewn before, alone.
+abbrev pub second_shape : ℕ → Point → Point → List ℕ
+second_shape pass p q = if pass == 0 then [] else move_text p ++ arc_text (bow_of pass p q) q
+
+-- The stitch of a stroke, if it was sewn before.
+abbrev pub second_text : Stroke → List ℕ
+second_text (Begin piece opens from p) = []
+second_text (Float from p) = []
+second_text (Sewn pass arrow from p) = second_shape pass from p
+second_text (Trim p) = []
+second_text (Stop ended next) = []
+
+-- A stitch is long enough for its needle holes to be distinguished.
+abbrev pub is_long : Point → Point → Bool
+is_long p q = nat_le MIN_SHOWN (max (unsigned_abs (q.x -ℤ p.x)) (unsigned_abs (q.y -ℤ p.y)))
+
+-- A needle hole.
+unfoldable pub hole_shape : Point → List ℕ
+hole_shape p = joined (codes "M" ∷ point_text p ∷ codes "h0" ∷ [])
+
+-- The needle hole at the end of a stitch that is long enough.
+abbrev pub long_hole_text : Point → Point → List ℕ
+long_hole_text from p = if is_long from p then hole_shape p else []
+
+-- The needle hole of a stroke.
+abbrev pub hole_text : Stroke → List ℕ
+hole_text (Begin piece opens from p) = hole_shape p
+hole_text (Float from p) = hole_shape p
+hole_text (Sewn pass arrow from p) = long_hole_text from p
+hole_text (Trim p) = []
+hole_text (Stop ended next) = []
+
+-- The beginning of an arrow's stitch.
+unfoldable pub arrow_shape : Point → List ℕ
+arrow_shape p = joined (codes "<path class='arrow' d='M" ∷ point_text p ∷ [])
+
+-- The arrow at the end of a stitch that has one.
+abbrev pub arrow_if : Bool → ℕ → Point → Point → List ℕ
+arrow_if arrow pass p q = if arrow then arrow_shape p ++ (sewn_text pass p q ++ shape_end) else []
+
+-- The arrow of a stroke.
+abbrev pub arrow_text : Stroke → List ℕ
+arrow_text (Begin piece opens from p) = []
+arrow_text (Float from p) = []
+arrow_text (Sewn pass arrow from p) = arrow_if arrow pass from p
+arrow_text (Trim p) = []
+arrow_text (Stop ended next) = []
+
+-- The way from one needle to another without a stitch.
+unfoldable pub travel_shape : Point → Point → List ℕ
+travel_shape p q = joined (codes "<path class='travel' d='M" ∷ point_text p ∷ codes "L"
+    ∷ point_text q ∷ ended (codes "'/>") ∷ [])
+
+-- The way to a piece; none leads to the first.
+abbrev pub way_text : ℕ → Point → Point → List ℕ
+way_text piece p q = if piece == 1 then [] else travel_shape p q
+
+-- The way of a loose thread to a piece, or a float.
+abbrev pub travel_text : Stroke → List ℕ
+travel_text (Begin piece opens from p) = way_text piece from p
+travel_text (Float from p) = travel_shape from p
+travel_text (Sewn pass arrow from p) = []
+travel_text (Trim p) = []
+travel_text (Stop ended next) = []

@@ -1,0 +1,77 @@
+ghost use Rattle.std.specs.Prelude.{◌≡◌, ◌++◌, ◌<◌, ◌*◌, ◌^◌, OnOk};
+ghost use Rattle.design_picture.specs.Captions.{block_line, block_place, block_swatch, block_words, legend_text};
+
+use crate::strokes::{BlockEnd, Stroke};
+use design_model::{Bytes, Memory};
+use picture_parts::{Part, put, thread_colour};
+
+/// The height of a line of text below the picture, in tenths of a millimetre.
+pub const LINE_HEIGHT: u64 = 28;
+
+/// Appends the legend's line of a stroke that ends a block.
+pub(crate) fn put_block_line(text: &mut Bytes, stroke: Stroke) -> Result<(), Memory>
+    ensures { OnOk result (text.new ≡ text.old ++ legend_text stroke) }
+{
+    match stroke {
+        Stroke::Begin { .. } => Ok(()),
+        Stroke::Float { .. } => Ok(()),
+        Stroke::Sewn { .. } => Ok(()),
+        Stroke::Trim { .. } => Ok(()),
+        Stroke::Stop { ended, .. } => put_block(text, ended),
+    }
+}
+
+/// Appends the line of a block: its colour, its thread, its needles, and the thread that it takes.
+pub(crate) fn put_block(text: &mut Bytes, block: BlockEnd) -> Result<(), Memory>
+    ensures { OnOk result (text.new ≡ text.old ++ block_line block) }
+{
+    put_place(text, block.block)?;
+    put_swatch(text, thread_colour(block.thread), block.thread)?;
+    put_words(text, block)?;
+    Ok(())
+}
+
+#[tactic(auto, unfolding(crate::specs::Captions::block_place))]
+fn put_place(text: &mut Bytes, block: u32) -> Result<(), Memory>
+    ensures { OnOk result (text.new ≡ text.old ++ block_place block) }
+{
+    put(
+        text,
+        &[
+            Part::Text(b"<g transform='translate(0,"),
+            Part::Number((LINE_HEIGHT * block as u64) as u128),
+            Part::Text(b")'>"),
+        ],
+    )
+}
+
+#[tactic(auto, unfolding(crate::specs::Captions::block_swatch))]
+fn put_swatch(text: &mut Bytes, colour: &[u8], thread: u8) -> Result<(), Memory>
+    ensures { OnOk result (text.new ≡ text.old ++ block_swatch colour.now thread) }
+{
+    put(
+        text,
+        &[
+            Part::Text(b"<path stroke-width='14' d='M7,-7h26' stroke='"),
+            Part::Text(colour),
+            Part::Text(b"'/><text x='52'>thread "),
+            Part::Number(thread as u128),
+        ],
+    )
+}
+
+#[tactic(auto, unfolding(crate::specs::Captions::block_words))]
+fn put_words(text: &mut Bytes, block: BlockEnd) -> Result<(), Memory>
+    ensures { OnOk result (text.new ≡ text.old ++ block_words block) }
+{
+    put(
+        text,
+        &[
+            Part::Text(b"</text><text x='170'>needles "),
+            Part::Number(block.needles as u128),
+            Part::Text(b"</text><text x='350'>length "),
+            Part::Mm(block.sewn / 100),
+            Part::Text(b" mm</text></g>\n"),
+        ],
+    )
+}

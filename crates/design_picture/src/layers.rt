@@ -1,0 +1,51 @@
+ghost use Rattle.std.specs.Prelude.{◌≡◌, ◌++◌, OnOk};
+ghost use Rattle.design_picture.specs.Layers.{layer_text, stroke_text};
+
+use crate::block_line::put_block_line;
+use crate::marks::put_mark;
+use crate::strokes::Stroke;
+use crate::threads::{put_arrow, put_hole, put_second, put_thread, put_travel};
+use design_model::{Bytes, Memory};
+
+/// A layer of the picture, which has its text of each stroke.
+#[derive(Clone, Copy)]
+pub enum Layer {
+    /// The ways of loose thread, and floats.
+    Travels,
+    /// The thread.
+    Threads,
+    /// The stitches that were sewn before.
+    Seconds,
+    /// The needle holes.
+    Holes,
+    /// The arrows along the thread.
+    Arrows,
+    /// The marks of pieces, blocks, trims and stops.
+    Marks,
+    /// The lines of the legend.
+    Legend,
+}
+
+/// Appends a layer: the texts of the strokes in order.
+pub fn put_layer(text: &mut Bytes, layer: Layer, strokes: &[Stroke]) -> Result<(), Memory>
+    ensures { OnOk result (text.new ≡ text.old ++ layer_text layer strokes.now) }
+{
+    for stroke in strokes {
+        put_stroke(text, layer, *stroke)?;
+    }
+    Ok(())
+}
+
+fn put_stroke(text: &mut Bytes, layer: Layer, stroke: Stroke) -> Result<(), Memory>
+    ensures { OnOk result (text.new ≡ text.old ++ stroke_text layer stroke) }
+{
+    match layer {
+        Layer::Travels => put_travel(text, stroke),
+        Layer::Threads => put_thread(text, stroke),
+        Layer::Seconds => put_second(text, stroke),
+        Layer::Holes => put_hole(text, stroke),
+        Layer::Arrows => put_arrow(text, stroke),
+        Layer::Marks => put_mark(text, stroke),
+        Layer::Legend => put_block_line(text, stroke),
+    }
+}

@@ -1,0 +1,243 @@
+ghost use Rattle.std.specs.Prelude.{◌≡◌, ◌++◌, OnOk};
+ghost use Rattle.design_picture.specs.Threads.{arc_text, arrow_shape, arrow_text, colour_change_text, hole_shape, hole_text, move_text, is_long, bow_of, second_shape, second_text, sewn_text, straight_text, thread_text, travel_shape, travel_text, long_hole_text, arrow_if, shape_end, way_text};
+
+use crate::strokes::Stroke;
+use design_model::{Bytes, Memory, Point};
+use picture_parts::{Part, put, square_between, thread_colour};
+
+/// The shortest stitch whose needle hole is shown, in tenths of a millimetre on its longer axis.
+pub const MIN_SHOWN: u32 = 7;
+
+/// Appends the thread of a stroke.
+pub(crate) fn put_thread(text: &mut Bytes, stroke: Stroke) -> Result<(), Memory>
+    ensures { OnOk result (text.new ≡ text.old ++ thread_text stroke) }
+{
+    match stroke {
+        Stroke::Begin { at, .. } => put_move(text, at),
+        Stroke::Float { at, .. } => put_move(text, at),
+        Stroke::Sewn { pass, from, at, .. } => put_sewn(text, pass, from, at),
+        Stroke::Trim { .. } => Ok(()),
+        Stroke::Stop { next, .. } => put_colour_change(text, thread_colour(next)),
+    }
+}
+
+#[tactic(auto, unfolding(crate::specs::Threads::move_text))]
+fn put_move(text: &mut Bytes, at: Point) -> Result<(), Memory>
+    ensures { OnOk result (text.new ≡ text.old ++ move_text at) }
+{
+    put(text, &[Part::Text(b"\nM"), Part::At(at)])
+}
+
+/// Appends a stitch: a straight line, or an arc where it was sewn before.
+fn put_sewn(text: &mut Bytes, pass: u32, from: Point, at: Point) -> Result<(), Memory>
+    ensures { OnOk result (text.new ≡ text.old ++ sewn_text pass from at) }
+{
+    if pass == 0 {
+        put_straight(text, at)
+    } else {
+        put_arc(text, bow(pass, from, at), at)
+    }
+}
+
+#[tactic(auto, unfolding(crate::specs::Threads::straight_text))]
+fn put_straight(text: &mut Bytes, at: Point) -> Result<(), Memory>
+    ensures { OnOk result (text.new ≡ text.old ++ straight_text at) }
+{
+    put(text, &[Part::Text(b"L"), Part::At(at)])
+}
+
+#[tactic(auto, unfolding(crate::specs::Threads::arc_text))]
+fn put_arc(text: &mut Bytes, bow: u128, at: Point) -> Result<(), Memory>
+    ensures { OnOk result (text.new ≡ text.old ++ arc_text bow at) }
+{
+    put(
+        text,
+        &[
+            Part::Text(b"A"),
+            Part::Number(bow),
+            Part::Text(b","),
+            Part::Number(bow),
+            Part::Text(b",0,0,1,"),
+            Part::At(at),
+        ],
+    )
+}
+
+/// Returns the radius of the arc for a stitch that was sewn before. It differs from pass to pass.
+fn bow(pass: u32, from: Point, at: Point) -> u128
+    ensures { result ≡ bow_of pass from at }
+{
+    let square = square_between(from, at);
+    if pass == 1 {
+        return square / 32 + 2;
+    }
+    if pass == 2 {
+        return square / 64 + 4;
+    }
+    square / 96 + 6
+}
+
+#[tactic(auto, unfolding(crate::specs::Threads::colour_change_text))]
+fn put_colour_change(text: &mut Bytes, colour: &[u8]) -> Result<(), Memory>
+    ensures { OnOk result (text.new ≡ text.old ++ colour_change_text colour.now) }
+{
+    put(
+        text,
+        &[
+            Part::Text(b"'/>\n<path class='thread' stroke='"),
+            Part::Text(colour),
+            Part::Text(b"' d='"),
+        ],
+    )
+}
+
+/// Appends a stitch that was sewn before.
+pub(crate) fn put_second(text: &mut Bytes, stroke: Stroke) -> Result<(), Memory>
+    ensures { OnOk result (text.new ≡ text.old ++ second_text stroke) }
+{
+    if let Stroke::Sewn { pass, from, at, .. } = stroke {
+        return put_second_shape(text, pass, from, at);
+    }
+    Ok(())
+}
+
+fn put_second_shape(text: &mut Bytes, pass: u32, from: Point, at: Point) -> Result<(), Memory>
+    ensures { OnOk result (text.new ≡ text.old ++ second_shape pass from at) }
+{
+    if pass == 0 {
+        return Ok(());
+    }
+    put_move(text, from)?;
+    put_arc(text, bow(pass, from, at), at)?;
+    Ok(())
+}
+
+/// Appends the needle hole of a stroke.
+pub(crate) fn put_hole(text: &mut Bytes, stroke: Stroke) -> Result<(), Memory>
+    ensures { OnOk result (text.new ≡ text.old ++ hole_text stroke) }
+{
+    match stroke {
+        Stroke::Begin { at, .. } => put_hole_shape(text, at),
+        Stroke::Float { at, .. } => put_hole_shape(text, at),
+        Stroke::Sewn { from, at, .. } => put_long_hole(text, from, at),
+        Stroke::Trim { .. } => Ok(()),
+        Stroke::Stop { .. } => Ok(()),
+    }
+}
+
+fn put_long_hole(text: &mut Bytes, from: Point, at: Point) -> Result<(), Memory>
+    ensures { OnOk result (text.new ≡ text.old ++ long_hole_text from at) }
+{
+    if is_shown(from, at) {
+        return put_hole_shape(text, at);
+    }
+    Ok(())
+}
+
+fn is_shown(from: Point, at: Point) -> bool
+    ensures { result ≡ is_long from at }
+{
+    at.x.abs_diff(from.x).max(at.y.abs_diff(from.y)) >= MIN_SHOWN
+}
+
+#[tactic(auto, unfolding(crate::specs::Threads::hole_shape))]
+fn put_hole_shape(text: &mut Bytes, at: Point) -> Result<(), Memory>
+    ensures { OnOk result (text.new ≡ text.old ++ hole_shape at) }
+{
+    put(text, &[Part::Text(b"M"), Part::At(at), Part::Text(b"h0")])
+}
+
+/// Appends the arrow of a stitch that has one.
+pub(crate) fn put_arrow(text: &mut Bytes, stroke: Stroke) -> Result<(), Memory>
+    ensures { OnOk result (text.new ≡ text.old ++ arrow_text stroke) }
+{
+    if let Stroke::Sewn {
+        pass,
+        arrow,
+        from,
+        at,
+    } = stroke
+    {
+        return put_arrow_if(text, arrow, pass, from, at);
+    }
+    Ok(())
+}
+
+fn put_arrow_if(
+    text: &mut Bytes,
+    arrow: bool,
+    pass: u32,
+    from: Point,
+    at: Point,
+) -> Result<(), Memory>
+    ensures { OnOk result (text.new ≡ text.old ++ arrow_if arrow pass from at) }
+{
+    if !arrow {
+        return Ok(());
+    }
+    put_arrow_shape(text, from)?;
+    put_sewn(text, pass, from, at)?;
+    put_shape_end(text)?;
+    Ok(())
+}
+
+/// Ends a shape.
+#[tactic(auto, unfolding(crate::specs::Threads::shape_end))]
+pub(crate) fn put_shape_end(text: &mut Bytes) -> Result<(), Memory>
+    ensures { OnOk result (text.new ≡ text.old ++ shape_end) }
+{
+    put(text, &[Part::Text(b"'/>\n")])
+}
+
+#[tactic(auto, unfolding(crate::specs::Threads::arrow_shape))]
+fn put_arrow_shape(text: &mut Bytes, from: Point) -> Result<(), Memory>
+    ensures { OnOk result (text.new ≡ text.old ++ arrow_shape from) }
+{
+    put(
+        text,
+        &[Part::Text(b"<path class='arrow' d='M"), Part::At(from)],
+    )
+}
+
+/// Appends the way of a loose thread, or a float.
+pub(crate) fn put_travel(text: &mut Bytes, stroke: Stroke) -> Result<(), Memory>
+    ensures { OnOk result (text.new ≡ text.old ++ travel_text stroke) }
+{
+    match stroke {
+        Stroke::Begin {
+            piece,
+            from,
+            at,
+            ..
+        } => put_way(text, piece, from, at),
+        Stroke::Float { from, at } => put_travel_shape(text, from, at),
+        Stroke::Sewn { .. } => Ok(()),
+        Stroke::Trim { .. } => Ok(()),
+        Stroke::Stop { .. } => Ok(()),
+    }
+}
+
+fn put_way(text: &mut Bytes, piece: u32, from: Point, at: Point) -> Result<(), Memory>
+    ensures { OnOk result (text.new ≡ text.old ++ way_text piece from at) }
+{
+    if piece == 1 {
+        return Ok(());
+    }
+    put_travel_shape(text, from, at)
+}
+
+#[tactic(auto, unfolding(crate::specs::Threads::travel_shape))]
+fn put_travel_shape(text: &mut Bytes, from: Point, at: Point) -> Result<(), Memory>
+    ensures { OnOk result (text.new ≡ text.old ++ travel_shape from at) }
+{
+    put(
+        text,
+        &[
+            Part::Text(b"<path class='travel' d='M"),
+            Part::At(from),
+            Part::Text(b"L"),
+            Part::At(at),
+            Part::Text(b"'/>\n"),
+        ],
+    )
+}

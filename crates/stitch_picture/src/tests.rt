@@ -1,0 +1,118 @@
+//! Runs of the program over files in memory: their status, and the line or text on the standard error.
+use crate::running::run;
+use exp_codec::Exp;
+use format_traits::Format;
+use outside_io::{MemSink, MemStore};
+use program_shell::Status;
+use std::alloc::Global;
+use std::test::Fail;
+use stitch_text::List;
+
+/// Three needles 3 mm apart, and the same way back.
+const FORTH_AND_BACK: &[u8] =
+    b"stitch-list 1\nlabel []\nblock 5\nneedle 0 0\nneedle 30 0\nneedle 60 0\nneedle 30 0\nneedle 0 0\ntrim\nend\n";
+
+const TEXT_OF_USAGE: &str = "usage: stitch_picture IN OUT.svg [WIDTH HEIGHT]\n";
+
+/// Arguments, the status of their run, and what it prints on the standard error.
+type PictureCase = (&'static [&'static str], u8, &'static str);
+
+const CASES: [PictureCase; 11] = [
+    (&["a.lst", "a.svg"], 0, ""),
+    (&["a.lst", "a.svg", "700", "300"], 0, ""),
+    (&[], 2, TEXT_OF_USAGE),
+    (&["a.lst"], 2, TEXT_OF_USAGE),
+    (&["a.lst", "a.svg", "7"], 2, TEXT_OF_USAGE),
+    (&["a.lst", "a.svg", "0", "9"], 2, TEXT_OF_USAGE),
+    (&["a.jef", "a.svg"], 2, TEXT_OF_USAGE),
+    (&["a.lst", "a.lst"], 2, TEXT_OF_USAGE),
+    (
+        &["bad.exp", "a.svg"],
+        1,
+        "stitch_picture: bad.exp: byte 0: control code not known\n",
+    ),
+    (
+        &["none.lst", "a.svg"],
+        3,
+        "stitch_picture: cannot read none.lst\n",
+    ),
+    (
+        &["a.lst", "small.svg"],
+        3,
+        "stitch_picture: cannot write small.svg\n",
+    ),
+];
+
+#[test]
+fn each_run_prints_its_line_and_ends_with_its_status(rt: HostRuntime) -> Result<(), Fail> {
+    for (words, status, line) in CASES {
+        let mut store = stocked(rt.alloc())?;
+        let mut out = MemSink::new(rt.alloc(), 100)?;
+        let mut err = MemSink::new(rt.alloc(), 1_000)?;
+        let found = answer(rt.alloc(), words, &mut store, &mut out, &mut err)?;
+        assert_eq!(rt; err.taken(), line.as_bytes(), "{words:?}");
+        assert_eq!(rt; found as u8, status, "{words:?}");
+        assert!(rt; out.taken().is_empty(), "{words:?}");
+    }
+    Ok(())
+}
+
+#[test]
+fn what_is_sewn_again_is_drawn_beside_the_first(rt: HostRuntime) -> Result<(), Fail> {
+    let mut store = stocked(rt.alloc())?;
+    let mut out = MemSink::new(rt.alloc(), 100)?;
+    let mut err = MemSink::new(rt.alloc(), 1_000)?;
+    answer(
+        rt.alloc(),
+        &["a.lst", "a.svg"],
+        &mut store,
+        &mut out,
+        &mut err,
+    )?;
+    let parts: [&[u8]; 4] = [
+        b"<path class='thread' stroke='#ed171f' d='\nM0,0L30,0L60,0A30,30,0,0,1,30,0A30,30,0,0,1,0,0'/>\n",
+        b"<path class='hole' d='M0,0h0M30,0h0M60,0h0M30,0h0M0,0h0'/>\n",
+        b"needles 5, pieces 1, trims 1, stops 0</text>\n",
+        b"thread 5</text><text x='170'>needles 5</text><text x='350'>length 12.0 mm</text></g>\n",
+    ];
+    let picture = store.file("a.svg").unwrap_or(b"");
+    for part in parts {
+        assert!(rt; has(picture, part), "{part:?}");
+    }
+    Ok(())
+}
+
+fn has(text: &[u8], part: &[u8]) -> bool {
+    for start in 0..text.len() {
+        if text[start..].starts_with(part) {
+            return true;
+        }
+    }
+    false
+}
+
+/// Returns a store with a design, a file of no format, and room for pictures.
+fn stocked(alloc: Global) -> Result<MemStore, Fail> {
+    let mut store = MemStore::new(alloc);
+    store.put_file("a.lst", FORTH_AND_BACK)?;
+    store.put_file("bad.exp", b"\x80\x09\x00\x00")?;
+    store.prepare("a.svg", 100_000)?;
+    Ok(store)
+}
+
+fn answer(
+    alloc: Global,
+    words: &[&str],
+    store: &mut MemStore,
+    out: &mut MemSink,
+    err: &mut MemSink,
+) -> Result<Status, Fail> {
+    let mut owned = Vec::new(alloc);
+    for word in words {
+        owned.push(String::from_str(alloc, word)?)?;
+    }
+    let mut formats: Vec<Box<dyn Format>> = Vec::new(alloc);
+    formats.push(Box::new(alloc, Exp::new(alloc))?)?;
+    formats.push(Box::new(alloc, List::new(alloc))?)?;
+    Ok(run(alloc, &owned, &mut formats, store, out, err))
+}
