@@ -1,5 +1,5 @@
 -- The strokes of a design show its acts, each once and in order.
-use Rattle.std.specs.Prelude.{◌≡◌, false, List, map}
+use Rattle.std.specs.Prelude.{◌≡◌, false, map}
 use Rattle.design_model.specs.declared.act.Act.{Act}
 use Rattle.design_model.specs.declared.act.Act.TheVariants as act
 use Rattle.design_model.specs.declared.act.NumberedAct.{NumberedAct}

@@ -1,12 +1,11 @@
 -- Worked values of parts, colours and lengths.
-use Rattle.std.proofs.Common.{◌≡◌, ℕ, ℤ, pos, negsuc, List, [], ◌∷◌, codes, map, refl}
+use Rattle.std.proofs.Common.{◌≡◌, ℤ, pos, negsuc, [], ◌∷◌, codes, map, refl}
 use Rattle.std.specs.Fmt.{digits}
 use Rattle.design_model.specs.declared.point.Point.{Point}
-use Rattle.picture_parts.specs.declared.sheet.Sheet.{Sheet}
 use Rattle.picture_parts.specs.Colours.{colour_of_thread}
 use Rattle.picture_parts.specs.Lengths.{length_of, square_of, whole_root}
 use Rattle.picture_parts.specs.Parts.{ended, escaped_text, joined, mm_text}
-use Rattle.picture_parts.specs.Sheets.{size_text, view_text}
+use Rattle.picture_parts.specs.Sheets.{view_text}
 
 abbrev pub point : ℤ → ℤ → Point
 point x y = record { x = x; y = y }
