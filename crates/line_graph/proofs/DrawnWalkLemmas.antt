@@ -282,7 +282,8 @@ module _ (d : DrawingValue) (keeps : KeepsDrawingLimits d) (law : NeedlesLeadAlo
 
   -- a fitting walk runs between the given points
   fit_runs : (walk : List Pass) (start end first : Option ℕ) (s e : Option Point) → IsAt js start s → IsAt js end e
-      → are_same_junction (walk_end_from lines es (option_or (option_or start end) first) walk) (option_or (option_or end start) first) ≡ true
+      → are_same_junction (walk_end_from lines es (option_or (option_or start end) first) walk) (option_or (option_or end start) first)
+      ≡ true
       → Runs d lines walk s e
   fit_runs walk (Some a) (Some b) first (Some p) (Some q) at_a at_b is =
       let run = leads_on walk a b (reached (walk_end_from lines es (Some a) walk) b is) in
@@ -358,7 +359,14 @@ module _ (d : DrawingValue) (keeps : KeepsDrawingLimits d) (law : NeedlesLeadAlo
       let parts = and_parts (is_walk_start_to_end (piece_graph d lines) walk) (covers lines walk) fit in
       let run = fit_runs walk (piece_graph d lines).start (piece_graph d lines).end (walk_start lines es walk)
       (given_point d lines d.starts) (given_point d lines d.ends) (given_at d lines d.starts) (given_at d lines d.ends) parts.0 in
-      record { from = run.from; to = run.to; drawn = run.drawn; covered = covered_by lines walk parts.1; leads = run.leads; ends = run.ends }
+      record {
+        from = run.from;
+        to = run.to;
+        drawn = run.drawn;
+        covered = covered_by lines walk parts.1;
+        leads = run.leads;
+        ends = run.ends;
+      }
 
   thread_fits : (walk : List Pass) → IsThreadOver d lines walk → is_fitting_walk (piece_graph d lines) walk ≡ true
   thread_fits walk thread =

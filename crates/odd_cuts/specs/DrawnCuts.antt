@@ -14,7 +14,8 @@ use Rattle.line_graph.specs.Walks.{cost_of_line}
 -- A cut of a piece holds a point: the junction there is a member. The members are the numbers of
 -- junctions, in the order in which the lines of the piece name them.
 abbrev pub holds_point : DrawingValue → List ℕ → Cut → Option Point → Bool
-holds_point d lines cut p = list_any (λ m. junction_number (junctions_of d lines) p == m) cut.members
+holds_point d lines cut p =
+    list_any (λ m. junction_number (junctions_of d lines) p == m) cut.members
 
 -- A cut parts two points: it holds exactly one of them.
 abbrev pub parts : DrawingValue → List ℕ → Cut → Option Point → Option Point → Bool
@@ -34,17 +35,17 @@ given_apart d lines cut (Some start) None = 0
 given_apart d lines cut None end = 0
 
 -- An odd cut over lines: the number of lines that lead out is odd, where one more is counted if the
--- cut parts the given start and end. A thread that returns to where it began leaves the cut as often
--- as it comes back, so it passes some line that leads out twice. A thread that ends on the other
--- side leaves it once more, and the count is of the other parity.
+-- cut parts the given start and end. A thread that returns to where it began leaves the cut as
+-- often as it comes back, so it passes some line that leads out twice. A thread that ends on the
+-- other side leaves it once more, and the count is of the other parity.
 pub record IsOddOver (d : DrawingValue) (lines : List ℕ) (cut : Cut) : Type 0 where
   pub there : All (λ j. j < length (junctions_of d lines)) cut.members
   pub odd : (count_by (leads_out d lines cut) lines
       + given_apart d lines cut (given_point d lines d.starts)
       (given_point d lines d.ends)) % 2 ≡ 1
 
--- A packing over lines: each cut is odd, and the weights of the cuts that a line leads out of sum to
--- at most two halves for each step of the line.
+-- A packing over lines: each cut is odd, and the weights of the cuts that a line leads out of sum
+-- to at most two halves for each step of the line.
 pub record IsPackingOver (d : DrawingValue) (lines : List ℕ) (cuts : List Cut) : Type 0 where
   pub odd : All (IsOddOver d lines) cuts
   pub loads : All (λ line.

@@ -1,4 +1,5 @@
 //! Runs the cases of tests: commands one after another over one store.
+use crate::padded;
 use case_tables::{Case, CaseStep, ExpectedText, FileContent, has_part};
 use dst_codec::Dst;
 use exp_codec::Exp;
@@ -59,8 +60,7 @@ pub fn behind(
     times: usize,
     piece: &[u8],
 ) -> Result<Vec<u8>, Fail> {
-    let mut bytes = Vec::from_slice(alloc, text)?;
-    bytes.resize(length, b' ')?;
+    let mut bytes = padded(alloc, text, length)?;
     for _ in 0..times {
         bytes.extend_from_slice(piece)?;
     }

@@ -15,9 +15,12 @@ mod limits;
 mod lists;
 #[cfg(test)]
 mod outside;
+mod padded_text;
 #[cfg(test)]
 mod prefixes;
 #[cfg(test)]
 mod rewrites;
 #[cfg(test)]
 mod words;
+
+pub use padded_text::padded;

@@ -128,6 +128,7 @@ yes_is_redwork threads sewable packings valid accepted d design certs keeps = (t
 
     from : IsLeastRedwork d design certs → IsVerdict d design certs verdict.Yes
     from is = accepted d is.pieces design certs keeps is.pieces_are (record {
-      each = correct_certs threads sewable packings d keeps is.pieces certs is.pieces_are.there (valid d is.pieces keeps is.pieces_are) is.threads;
+      each = correct_certs threads sewable packings d keeps is.pieces certs is.pieces_are.there (valid d is.pieces keeps is.pieces_are)
+          is.threads;
       sews = is.sewn;
     })

@@ -129,7 +129,8 @@ piece_told walks cuts p keeps number cert right =
     below w c r is = omega arith
 
 pieces_right : WalkFaultsAreExact → CutFaultsAreExact → BoundsWalks → (graphs : List PieceValue) (certs : List PieceCert) (number : ℕ)
-    → All IsValidPiece graphs → length certs ≡ length graphs → pieces_reason number graphs certs ≡ None → AllZip IsCorrectPieceCert graphs certs
+    → All IsValidPiece graphs → length certs ≡ length graphs → pieces_reason number graphs certs ≡ None
+    → AllZip IsCorrectPieceCert graphs certs
 pieces_right walks cuts bounds [] [] number kept long none = tt
 pieces_right walks cuts bounds [] (c ∷ certs) number kept long none = absurd (omega (arith, long))
 pieces_right walks cuts bounds (p ∷ graphs) [] number kept long none = absurd (omega (arith, long))
@@ -150,7 +151,8 @@ pieces_told walks cuts (p ∷ graphs) (c ∷ certs) number kept right =
     (omega (arith, rest.0), rw (piece_told walks cuts p (All-head IsValidPiece p graphs kept) number c right.0, rest.1) refl)
 
 -- each walk of right pieces is least
-least_of : ProvesLeast → (graphs : List PieceValue) (certs : List PieceCert) → All IsValidPiece graphs → AllZip IsCorrectPieceCert graphs certs
+least_of : ProvesLeast → (graphs : List PieceValue) (certs : List PieceCert) → All IsValidPiece graphs
+    → AllZip IsCorrectPieceCert graphs certs
     → AllZip (λ p cert. IsLeastWalk p cert.walk) graphs certs
 least_of proves [] [] kept right = tt
 least_of proves [] (c ∷ certs) kept right = absurd right
@@ -311,8 +313,10 @@ pub verdict_right : (d : DrawingValue) (pieces : List Piece) (design : DesignVal
 verdict_right d pieces design certs found given walks cuts bounds proves cut found_is given_is =
     let same = graphs_are d pieces cut.each in
     subst (λ (v : Verdict). IsVerdictOver d (lines_of_pieces pieces) design certs v)
-    (sym (given_is ∙ ap (λ r. verdict_of_reason r) found_is ∙ ap (λ (gs : List PieceValue). verdict_of_reason (reason_of d gs design certs)) same))
-    (verdict_over walks cuts bounds proves d (lines_of_pieces pieces) design certs cut.are (subst (All IsValidPiece) same (graphs_kept pieces)))
+    (sym (given_is ∙ ap (λ r. verdict_of_reason r) found_is
+    ∙ ap (λ (gs : List PieceValue). verdict_of_reason (reason_of d gs design certs)) same))
+    (verdict_over walks cuts bounds proves d (lines_of_pieces pieces) design certs cut.are
+    (subst (All IsValidPiece) same (graphs_kept pieces)))
 
 -- a correct route is judged yes
 pub correct_is_yes : WalkFaultsAreExact → CutFaultsAreExact → BoundsWalks → ProvesLeast → PiecesAreValid → CorrectRoutesAreAccepted

@@ -18,10 +18,10 @@ use Rattle.line_graph.specs.Pieces.{ArePieces}
 use Rattle.line_graph.specs.Runs.{run_of, sewn_acts_after}
 use Rattle.line_graph.specs.Walks.{cost_of_line, needles_of_walk}
 
--- A piece of a drawing, given by its lines, with the certificate of its thread. The thread runs over
--- these lines alone and over each of them, from point to point. No thread over the piece has fewer
--- needle points. The reason is a packing of odd cuts, whose weights sum to twice the steps that the
--- thread sews again.
+-- A piece of a drawing, given by its lines, with the certificate of its thread. The thread runs
+-- over these lines alone and over each of them, from point to point. No thread over the piece has
+-- fewer needle points. The reason is a packing of odd cuts, whose weights sum to twice the steps
+-- that the thread sews again.
 pub record IsLeastThread (d : DrawingValue) (lines : List ℕ) (cert : PieceCert) : Type 0 where
   pub thread : IsThreadOver d lines cert.walk
   pub least : (other : List Pass) → IsThreadOver d lines other
@@ -32,8 +32,8 @@ pub record IsLeastThread (d : DrawingValue) (lines : List ℕ) (cert : PieceCert
   pub total : sum_by (λ (cut : Cut). cut.weight) cert.cuts ≡ 2 * cert.retraced
 
 -- A design sews a drawing as least redwork, by the walks of a certificate. Each connected piece of
--- the drawing has one thread, and it is least. The acts of the design are those that sew the threads
--- in order: a stop for each change of the block, the needle points, and a trim after each thread.
+-- the drawing has one thread, and it is least. The acts of the design are those that sew the
+-- threads in order: a stop for each further block, the needle points, and a trim after each thread.
 pub record IsLeastRedwork (d : DrawingValue) (design : DesignValue) (certs : List PieceCert)
     : Type 0 where
   pub pieces : List (List ℕ)

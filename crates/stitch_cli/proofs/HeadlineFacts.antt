@@ -17,8 +17,20 @@ pub known_left : (order : SewingOrder) (before after : Option Files) → IsRoute
     × (d : DrawingValue) × (l : Loaded) × (certs : List PieceCert) × (drawing_of drawing ≡ Ok d) × (order.format.reads design ≡ Ok l)
     × (cert_of cert ≡ Ok certs) × (l.ended ≡ true) × IsLeastRoute d l.design certs order.format.limit (order.format.moves design)
 known_left order before after is = (
-  is.drawing_file, is.design_file, is.cert_file, is.drawing_held, is.design_held, is.cert_held,
-  is.d, is.loaded, is.certs, is.say.drawn, is.say.read, is.say.certified, is.ended, is.least,
+  is.drawing_file,
+  is.design_file,
+  is.cert_file,
+  is.drawing_held,
+  is.design_held,
+  is.cert_held,
+  is.d,
+  is.loaded,
+  is.certs,
+  is.say.drawn,
+  is.say.read,
+  is.say.certified,
+  is.ended,
+  is.least,
 )
 
 pub known_right : (order : CheckOrder) (files : Option Files) → IsYesRight order files
@@ -27,6 +39,17 @@ pub known_right : (order : CheckOrder) (files : Option Files) → IsYesRight ord
     × (d : DrawingValue) × (l : Loaded) × (certs : List PieceCert) × (drawing_of drawing ≡ Ok d) × (order.format.reads design ≡ Ok l)
     × (cert_of cert ≡ Ok certs) × IsLeastRedwork d l.design certs
 known_right order files is = (
-  is.drawing_file, is.design_file, is.cert_file, is.drawing_held, is.design_held, is.cert_held,
-  is.d, is.loaded, is.certs, is.say.drawn, is.say.read, is.say.certified, is.least,
+  is.drawing_file,
+  is.design_file,
+  is.cert_file,
+  is.drawing_held,
+  is.design_held,
+  is.cert_held,
+  is.d,
+  is.loaded,
+  is.certs,
+  is.say.drawn,
+  is.say.read,
+  is.say.certified,
+  is.least,
 )

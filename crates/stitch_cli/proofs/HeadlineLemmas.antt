@@ -66,7 +66,8 @@ route_made : (order : SewingOrder) (files : Option Files) (product : ProductValu
     → Makes (plan_of (sewing ways.Route order)) files product → IsMadeRoute order files product
 route_made order files product (bytes, content, made) = by_text (drawing_of bytes) refl made
   where
-    by_limit : (d : DrawingValue) → drawing_of bytes ≡ Ok d → (t : Bool) → Makes (sewing_by_limit (IsSewnBy ways.Route) order d t) files product
+    by_limit : (d : DrawingValue) → drawing_of bytes ≡ Ok d → (t : Bool)
+        → Makes (sewing_by_limit (IsSewnBy ways.Route) order d t) files product
         → IsMadeRoute order files product
     by_limit d drawn true made = absurd made
     by_limit d drawn false made = record { bytes = bytes; content = content; d = d; drawn = drawn; sewn = made }
@@ -123,8 +124,10 @@ check_done order before after done =
     files : Option Files
     files = before.store.files
 
-    by_cert : (b f c : List ℕ) → IsInputContent files order.drawing b → IsInputContent files order.file f → IsInputContent files order.cert c
-        → (d : DrawingValue) → drawing_of b ≡ Ok d → (l : Loaded) → order.format.reads f ≡ Ok l → (r : Result (List PieceCert) ℕ) → cert_of c ≡ r
+    by_cert : (b f c : List ℕ) → IsInputContent files order.drawing b → IsInputContent files order.file f
+        → IsInputContent files order.cert c
+        → (d : DrawingValue) → drawing_of b ≡ Ok d → (l : Loaded) → order.format.reads f ≡ Ok l
+        → (r : Result (List PieceCert) ℕ) → cert_of c ≡ r
         → Makes (check_cert order d l.design r) files done.product → IsYesRight order files
     by_cert b f c b_is f_is c_is d drawn l read (Ok certs) certified made = record {
       drawing_file = b;

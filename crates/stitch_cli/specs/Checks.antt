@@ -49,7 +49,8 @@ complete_check drawing file cert (Some format) =
 abbrev pub bad_line_text : List ℕ → ℕ → List ℕ
 bad_line_text name number = text_at name (codes "line") number (codes "not a certificate")
 
--- A passed check: the verdict is yes, and the design is least redwork. The report is the line `yes`.
+-- A passed check: the verdict is yes, and the design is least redwork. The report is the line
+-- `yes`.
 pub record IsCheckPassed (d : DrawingValue) (design : DesignValue) (certs : List PieceCert)
     (product : ProductValue) : Type 0 where
   pub verdict : IsVerdict d design certs verdict.Yes
