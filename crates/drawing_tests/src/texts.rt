@@ -1,6 +1,8 @@
 use design_model::{Bytes, Point};
 use design_tests::repeated;
-use drawing_text::{DrawFault, MAX_TEXT, print_drawing, print_drawing2, read_as2, read_drawing};
+use drawing_text::{
+    DrawFault, MAX_TEXT, print_drawing, print_drawing2, read_as2, read_drawing, read_lines,
+};
 use line_graph::{DrawKind, Drawing};
 use std::alloc::Global;
 use std::test::Fail;
@@ -280,5 +282,15 @@ fn the_longest_text_is_read_in_one_pass(rt: HostRuntime) -> Result<(), Fail> {
         .ok_or("no memory")?;
     assert!(rt; text.len() > MAX_TEXT - 32);
     assert!(rt; fault(rt.alloc(), text.as_slice()) == (0, None));
+    Ok(())
+}
+
+#[test]
+fn lines_are_read_as_they_are_drawn(rt: HostRuntime) -> Result<(), Fail> {
+    let text = b"redwork 3\ncolor 1\nline 0 0 9 0 9 9\nline 9 -9 9 0\nend 5 5\n";
+    let drawn = read_lines(rt.alloc(), text).ok().ok_or("lines")?;
+    assert_eq!(rt; drawn.drawing.line_count(), 2);
+    assert_eq!(rt; drawn.ends.len(), 1);
+    assert_eq!(rt; fault(rt.alloc(), text).0, 5);
     Ok(())
 }

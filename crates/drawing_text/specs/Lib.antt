@@ -10,3 +10,5 @@ pub mod TextLines
 -- Read this one first: the drawing that a text describes, or its first fault.
 pub mod DrawingText
 pub mod ValidTexts
+-- The lines of a text as they are drawn.
+pub mod DrawnTexts

@@ -4,6 +4,7 @@
 
 mod draft;
 mod draw_fault;
+mod drawn_lines;
 mod ending;
 mod limits;
 mod number_words;
@@ -16,7 +17,10 @@ mod version;
 mod walk_end;
 
 pub use draw_fault::DrawFault;
+pub use drawn_lines::{DrawnLines, read_lines};
 pub use limits::MAX_TEXT;
 pub use printing::{print_drawing, print_drawing2};
 pub use reading::{read_as2, read_drawing};
 pub use theorems::{canonical_text_is_read, canonical_text2_is_read, texts_define_valid_drawings};
+pub use version::Version;
+pub use walk_end::{WalkEnd, WalkEnds};

@@ -36,7 +36,7 @@ pub fn read_as2(alloc: Global, bytes: &[u8]) -> Result<Drawing, DrawFault>
 }
 
 /// Returns the version that the header names, the number of its line, and the text after it.
-fn find_body(bytes: &[u8]) -> Result<(Version, u32, &[u8]), DrawFault>
+pub fn find_body(bytes: &[u8]) -> Result<(Version, u32, &[u8]), DrawFault>
     requires { length bytes.now ≤ MAX_TEXT }
     ensures ok { IfOk result (λ r.
         body_of_text bytes.now ≡ Ok

@@ -1,0 +1,16 @@
+use Rattle.std.proofs.Common.{◌≡◌, ◌+◌, ◌≤◌, length}
+use Rattle.drawing_text.specs.DrawnTexts.{lines_after}
+use Rattle.drawing_text.specs.TextLines.{empty_draft}
+use Rattle.drawing_text.specs.Words.{words_by_line}
+use Rattle.drawing_text.proofs.drawn_lines.lines_in.Given as goal
+
+-- the draft is that of the lines so far, and the result depends on it and on those that are left
+abbrev pub invariant-loop-line : goal.invariant-loop-line
+invariant-loop-line l = record {
+  read : lines_after l.version l.first empty_draft (words_by_line l.text)
+      ≡ lines_after l.version l.number l.draft (words_by_line l.rest);
+  early : l.number + length l.rest ≤ 67108865;
+}
+
+abbrev pub decreases-loop-line : goal.decreases-loop-line
+decreases-loop-line l = length l.rest

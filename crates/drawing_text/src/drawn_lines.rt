@@ -1,0 +1,75 @@
+ghost use Rattle.std.specs.Prelude.{◌≡◌, ◌+◌, ◌≤◌, length};
+ghost use Rattle.drawing_text.specs.DrawnTexts.{ReadsLines, lines_after, lines_of, lines_of_draft};
+ghost use Rattle.drawing_text.specs.TextLines.{empty_draft};
+ghost use Rattle.drawing_text.specs.Words.{words_by_line};
+
+use crate::draft::DrawingDraft;
+use crate::draw_fault::{DrawFault, fault_with_line};
+use crate::limits::MAX_TEXT;
+use crate::reading::find_body;
+use crate::text_words::{next_line, without_return};
+use crate::version::Version;
+use crate::walk_end::WalkEnds;
+use line_graph::Drawing;
+use std::alloc::Global;
+
+/// The lines of a text as they are drawn: none is cut where lines meet. Starts and ends are the spots that
+/// the text names, which may be no junctions.
+#[derive(Drop)]
+pub struct DrawnLines {
+    pub version: Version,
+    pub drawing: Drawing,
+    pub ends: WalkEnds,
+}
+
+/// Returns the lines that a text describes as they are drawn, or the first fault of its lines.
+pub fn read_lines(alloc: Global, bytes: &[u8]) -> Result<DrawnLines, DrawFault>
+    requires { length bytes.now ≤ MAX_TEXT }
+    ensures { ReadsLines (lines_of bytes.now) result }
+{
+    let (version, header, text) = find_body(bytes)?;
+    lines_in(alloc, version, header + 1, text)
+}
+
+fn lines_in(
+    alloc: Global,
+    version: Version,
+    first: u32,
+    text: &[u8],
+) -> Result<DrawnLines, DrawFault>
+    requires { first + length text.now ≤ MAX_TEXT + 1 }
+    ensures { ReadsLines (lines_after version first empty_draft (words_by_line text.now)) result }
+{
+    let mut draft = DrawingDraft::new(alloc);
+    let mut number = first;
+    let mut rest = text;
+    while let Some((line, after)) = next_line(rest) {
+        match draft.take_line(alloc, version, number, without_return(line)) {
+            Ok(()) => {}
+            Err(kind) => return Err(fault_with_line(number, draft.opened, kind)),
+        }
+        number += 1;
+        rest = after;
+    }
+    drawn(version, number, draft)
+}
+
+/// Returns the lines of a draft, where the text ends before the line of the given number.
+fn drawn(version: Version, number: u32, draft: DrawingDraft) -> Result<DrawnLines, DrawFault>
+    ensures { ReadsLines (lines_of_draft version number draft) result }
+{
+    let DrawingDraft {
+        drawing,
+        opened,
+        ends,
+        ..
+    } = draft;
+    match drawing.finish() {
+        Ok(drawing) => Ok(DrawnLines {
+            version,
+            drawing,
+            ends,
+        }),
+        Err(kind) => Err(fault_with_line(number, opened, kind)),
+    }
+}
