@@ -1,0 +1,4 @@
+mod ReviewFacts
+mod FrameLemmas
+mod GroupLemmas
+mod PlaceLemmas

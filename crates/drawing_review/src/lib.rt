@@ -1,0 +1,19 @@
+//! The places of a drawing that were probably not meant: loose ends, meetings that no line lists, crossings,
+//! repeated segments and points that are too near.
+#![tactic(auto)]
+
+mod frame;
+mod grid_point;
+mod group;
+mod line_segments;
+mod place;
+mod places;
+mod query;
+mod region;
+mod segment;
+mod sides;
+#[cfg(test)]
+mod tests;
+
+pub use place::{Place, PlaceKind, Places};
+pub use places::review;
