@@ -1,0 +1,54 @@
+-- What is proved of each command: its plan decides, and the outputs of its products are the files that it writes.
+use Rattle.std.proofs.Common.{◌≡◌, [], ℕ, List, Option, Ok, Err, Result, ap}
+use Rattle.drawing_text.specs.declared.draw_fault.DrawFault.{DrawFault}
+use Rattle.drawing_text.specs.declared.drawn_lines.DrawnLines.{DrawnLines}
+use Rattle.drawing_text.specs.DrawingText.{drawing_of}
+use Rattle.drawing_text.specs.DrawnTexts.{lines_of}
+use Rattle.line_graph.specs.Drawings.{DrawingValue}
+use Rattle.outside_io.specs.Files.{Files}
+use Rattle.program_shell.specs.ExactPlans.{IsExact, IsSoundProgram}
+use Rattle.program_shell.specs.Plans.{Makes, accepts}
+use Rattle.program_shell.specs.Products.{ProductValue, output_names}
+use Rattle.drawing_commands.specs.Commands.{drawing_outputs_of, drawing_plan_of, stitch_drawing}
+use Rattle.drawing_commands.specs.FaultTexts.{plan_after_reading}
+use Rattle.drawing_commands.specs.Looks.{IsLook, LookOrder}
+use Rattle.drawing_commands.specs.Requests.{DrawingOrder, looking}
+
+lines_exact : (file : List ℕ) (gap : ℕ) (d : DrawingValue) (read : Result DrawnLines DrawFault)
+    → IsExact (plan_after_reading file (λ drawn. accepts (IsLook gap d drawn)) read)
+lines_exact file gap d (Ok drawn) = tt
+lines_exact file gap d (Err fault) = tt
+
+look_exact : (file : List ℕ) (gap : ℕ) (lines : Result DrawnLines DrawFault) (read : Result DrawingValue DrawFault)
+    → IsExact (plan_after_reading file (λ d. plan_after_reading file (λ drawn. accepts (IsLook gap d drawn)) lines) read)
+look_exact file gap lines (Ok d) = lines_exact file gap d lines
+look_exact file gap lines (Err fault) = tt
+
+lines_outputs : (file : List ℕ) (gap : ℕ) (d : DrawingValue) (files : Option Files) (product : ProductValue)
+    (read : Result DrawnLines DrawFault)
+    → Makes (plan_after_reading file (λ drawn. accepts (IsLook gap d drawn)) read) files product
+    → output_names product.outputs ≡ []
+lines_outputs file gap d files product (Ok drawn) is = ap (λ (p : ProductValue). output_names p.outputs) is.made
+lines_outputs file gap d files product (Err fault) never = absurd never
+
+look_outputs : (file : List ℕ) (gap : ℕ) (files : Option Files) (product : ProductValue)
+    (lines : Result DrawnLines DrawFault) (read : Result DrawingValue DrawFault)
+    → Makes (plan_after_reading file (λ d. plan_after_reading file (λ drawn. accepts (IsLook gap d drawn)) lines) read) files product
+    → output_names product.outputs ≡ []
+look_outputs file gap files product lines (Ok d) makes = lines_outputs file gap d files product lines makes
+look_outputs file gap files product lines (Err fault) never = absurd never
+
+order_exact : (order : DrawingOrder) → IsExact (drawing_plan_of order)
+order_exact (looking order) = λ bytes. look_exact order.file order.gap (lines_of bytes) (drawing_of bytes)
+
+makes_outputs : (order : DrawingOrder) (files : Option Files) (product : ProductValue)
+    → Makes (drawing_plan_of order) files product → output_names product.outputs ≡ drawing_outputs_of order
+makes_outputs (looking order) files product (bytes, input, makes) =
+    look_outputs order.file order.gap files product (lines_of bytes) (drawing_of bytes) makes
+
+-- The program is sound.
+pub drawing_sound : IsSoundProgram stitch_drawing
+drawing_sound = record {
+  exact = λ order. order_exact order;
+  outputs = λ order files product makes. makes_outputs order files product makes;
+}

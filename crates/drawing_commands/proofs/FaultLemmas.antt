@@ -1,0 +1,30 @@
+-- A drawing that is not read is refused with the text about its fault.
+use Rattle.std.proofs.Common.{◌≡◌, ◌==◌, ℕ, List, Bool, true, false, Result, Ok, Err, refl, subst, sym}
+use Rattle.std.proofs.lemmas.Bool.{and_left}
+use Rattle.design_model.specs.OutOfMemory.{IsSpecified, UnlessOutOfMemory}
+use Rattle.drawing_text.specs.declared.draw_fault.DrawFault.{DrawFault}
+use Rattle.drawing_text.specs.DrawingText.{draw_fault_is_out_of_memory}
+use Rattle.line_graph.specs.GrowingDrawings.{draw_is_out_of_memory}
+use Rattle.outside_io.specs.Views.{StoreView}
+use Rattle.program_shell.specs.declared.failure.Failure.{Failure}
+use Rattle.program_shell.specs.declared.failure.Failure.TheVariants as failure
+use Rattle.program_shell.specs.Plans.{Plan}
+use Rattle.program_shell.specs.StepOutcomes.{RunsPurePlan}
+use Rattle.drawing_commands.specs.FaultTexts.{IsFaultFailure, plan_after_reading}
+
+pub refused : {V : Type 0} (name : List ℕ) (next : V → Plan) (said : Result V DrawFault) (fault : DrawFault) (why : Failure)
+    → IsSpecified draw_fault_is_out_of_memory said (Err fault) → IsFaultFailure name fault why
+    → RunsPurePlan (plan_after_reading name next said) (Err why)
+refused name next said fault failure.BadArguments spec never = absurd never
+refused name next said fault (failure.MissingInput missing) spec never = absurd never
+refused name next said fault (failure.ReadFailed lost) spec never = absurd never
+refused {V} name next said fault (failure.Refused text) spec (is, known) =
+    subst (λ (r : Result V DrawFault). RunsPurePlan (plan_after_reading name next r) (Err (failure.Refused text))) (sym here)
+    (record { at = λ (store : StoreView). (is, refl) })
+  where
+    not_memory : draw_fault_is_out_of_memory fault ≡ false
+    not_memory = and_left (draw_is_out_of_memory fault.kind) (fault.number == 0) known
+
+    here : said ≡ Err fault
+    here = subst (λ (b : Bool). UnlessOutOfMemory b (said ≡ Err fault)) not_memory spec
+refused name next said fault failure.Memory spec out = record { at = λ (store : StoreView). refl }

@@ -1,0 +1,9 @@
+-- Definitions of a lower crate that public clauses cite.
+pub use Rattle.program_shell.specs.Runs
+pub use Rattle.program_shell.specs.RunViews
+pub mod FaultTexts
+pub mod LookTexts
+pub mod Looks
+pub mod Requests
+-- Read this one first: the commands, their plans, and the program.
+pub mod Commands

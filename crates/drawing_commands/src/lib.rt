@@ -1,0 +1,13 @@
+//! The commands of `stitch_drawing`: their arguments, their plans, what they print, and `run`.
+#![tactic(auto)]
+
+mod commands;
+mod fault_texts;
+mod look_texts;
+mod looking;
+mod requests;
+mod running;
+
+pub use program_shell::Status;
+pub use requests::{DrawingRequest, MAX_GAP, drawing_request};
+pub use running::{report_out_of_memory, run};

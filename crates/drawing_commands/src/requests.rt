@@ -1,0 +1,77 @@
+ghost use Rattle.std.specs.Prelude.{◌≡◌, Some, IfSome, map, option_map, string_bytes};
+ghost use Rattle.design_model.specs.declared.whole_number.Whole.TheVariants as whole;
+ghost use Rattle.design_model.specs.WholeNumbers.{parsed_whole};
+ghost use Rattle.drawing_commands.specs.Requests.{HasFileNames, drawing_order_of, gap_of, look_with_gap, order_of_request, parsed_look};
+
+use design_model::{Whole, parse_whole};
+use outside_io::is_name;
+
+/// The gap where none is given, in tenths of a millimetre.
+const DEFAULT_GAP: u16 = 2;
+
+/// The greatest gap, in tenths of a millimetre.
+pub const MAX_GAP: u16 = 100;
+
+/// What the arguments request.
+#[derive(Clone, Copy)]
+pub enum DrawingRequest<'a> {
+    /// A report on a drawing, with a gap in tenths of a millimetre.
+    Look { file: &'a str, gap: u16 },
+}
+
+/// Parses the arguments: `look DRAWING [GAP]`. Returns `None` for other arguments. Allocates nothing.
+pub fn drawing_request(words: &[String]) -> Option<DrawingRequest<'_>>
+    ensures value { option_map order_of_request result
+        ≡ drawing_order_of (map (λ word. string_bytes word) words.now) }
+    ensures sound { IfSome result HasFileNames }
+{
+    match words {
+        [command, rest @ ..] if command.as_str() == "look" => look_request(rest),
+        _ => None,
+    }
+}
+
+fn look_request(words: &[String]) -> Option<DrawingRequest<'_>>
+    ensures value { option_map order_of_request result
+        ≡ parsed_look (map (λ word. string_bytes word) words.now) }
+    ensures sound { IfSome result HasFileNames }
+{
+    match words {
+        [file] => named_look(file.as_str(), DEFAULT_GAP),
+        [file, gap] => {
+            let gap = parse_gap(gap.as_bytes())?;
+            named_look(file.as_str(), gap)
+        }
+        _ => None,
+    }
+}
+
+fn named_look(file: &str, gap: u16) -> Option<DrawingRequest<'_>>
+    ensures value { option_map order_of_request result ≡ look_with_gap file.now (Some gap) }
+    ensures sound { IfSome result HasFileNames }
+{
+    if is_name(file) {
+        Some(DrawingRequest::Look { file, gap })
+    } else {
+        None
+    }
+}
+
+/// Parses a gap from 0 to 100.
+fn parse_gap(word: &[u8]) -> Option<u16>
+    ensures { result ≡ gap_of (parsed_whole word.now) }
+{
+    match parse_whole(word) {
+        Whole::Value(n) => gap_in_range(n),
+        Whole::Outside | Whole::NotANumber => None,
+    }
+}
+
+fn gap_in_range(n: i32) -> Option<u16>
+    ensures { result ≡ gap_of (whole.Value n) }
+{
+    match u16::try_from(n) {
+        Ok(n) if n <= MAX_GAP => Some(n),
+        _ => None,
+    }
+}
