@@ -1,4 +1,4 @@
-# make help lists the targets. The two programs run by themselves: they need the C library alone.
+# make help lists the targets. The three programs run by themselves: they need the C library alone.
 VERSION = 0.3.0
 PREFIX ?= /usr/local
 BIN = $(DESTDIR)$(PREFIX)/bin
@@ -7,21 +7,22 @@ MAN = $(SHARE)/man/man1
 BASH = $(SHARE)/bash-completion/completions
 ZSH = $(SHARE)/zsh/site-functions
 FISH = $(SHARE)/fish/vendor_completions.d
-PROGRAMS = crates/stitch/out/stitch crates/stitch_picture/out/stitch_picture
+NAMES = stitch stitch_picture stitch_drawing
+PROGRAMS = $(foreach name,$(NAMES),crates/$(name)/out/$(name))
 MAINTAINER = Kaouzbrel maintainers <maintainers@users.noreply.kaouzbrel.example>
 
 .PHONY: build built copy debian help install package test uninstall version
-build: ## prove and build both programs
+build: ## prove and build the programs
 	./build
 	./build stitch_picture
+	./build stitch_drawing
 
 install: built ## install them with manuals and completions below PREFIX, /usr/local if not given
 	$(MAKE) --no-print-directory copy
 
 uninstall: ## remove what install installed
-	rm -f $(BIN)/stitch $(BIN)/stitch_picture $(MAN)/stitch.1 $(MAN)/stitch_picture.1
-	rm -f $(BASH)/stitch $(BASH)/stitch_picture $(ZSH)/_stitch $(ZSH)/_stitch_picture
-	rm -f $(FISH)/stitch.fish $(FISH)/stitch_picture.fish
+	rm -f $(addprefix $(BIN)/,$(NAMES)) $(addprefix $(MAN)/,$(NAMES:=.1)) $(addprefix $(BASH)/,$(NAMES))
+	rm -f $(addprefix $(ZSH)/_,$(NAMES)) $(addprefix $(FISH)/,$(NAMES:=.fish))
 
 package: built ## write a tar file and, with dpkg-deb, a Debian package to out/, for users without the kit
 	rm -rf out/package out/stitch*
@@ -50,11 +51,10 @@ built:
 copy:
 	install -d $(BIN) $(MAN) $(BASH) $(ZSH) $(FISH)
 	install -m 755 $(PROGRAMS) $(BIN)
-	install -m 644 man/stitch.1 man/stitch_picture.1 $(MAN)
-	install -m 644 completions/stitch.bash $(BASH)/stitch
-	install -m 644 completions/stitch_picture.bash $(BASH)/stitch_picture
-	install -m 644 completions/_stitch completions/_stitch_picture $(ZSH)
-	install -m 644 completions/stitch.fish completions/stitch_picture.fish $(FISH)
+	install -m 644 $(NAMES:%=man/%.1) $(MAN)
+	for name in $(NAMES); do install -m 644 completions/$$name.bash $(BASH)/$$name; done
+	install -m 644 $(NAMES:%=completions/_%) $(ZSH)
+	install -m 644 $(NAMES:%=completions/%.fish) $(FISH)
 
 # The Debian package. It needs the C library of at least the version that the programs name.
 debian: TREE = out/package/debian
