@@ -38,6 +38,7 @@ impl Frame {
     }
 
     /// Returns whether no point is in both frames.
+    #[inline]
     pub fn is_apart(&self, other: &Frame) -> bool
         ensures { result ≡ are_apart self.now other.now }
     {

@@ -1,5 +1,6 @@
 ghost use Rattle.std.specs.Prelude.{◌≡◌, ◌++◌, [], IfOk, OnOk, if◌then◌else◌};
 ghost use Rattle.std.specs.List.{flat_map};
+ghost use Rattle.std.specs.List.Sorted.{IsPermutation};
 ghost use Rattle.drawing_review.specs.Places.{is_short_segment, place_if, places_at, places_inside, places_of_end, places_of_lines};
 
 use crate::grid_point::GridPoint;
@@ -18,9 +19,26 @@ pub fn review(alloc: Global, step: u32, gap: u16, lines: &[Line]) -> Result<Plac
     ensures { IfOk result (λ places. places ≡ places_of_lines step gap lines.now) }
 {
     let all = segments(alloc, lines)?;
-    let regions = regions(alloc, all.as_slice())?;
+    let placed = placed(alloc, all.as_slice())?;
+    let regions = regions(alloc, placed.as_slice())?;
     let places = places_in(alloc, step, gap, regions.as_slice(), all.as_slice())?;
     Ok(places)
+}
+
+/// Returns the segments in an order in which those near each other are mostly close.
+fn placed(alloc: Global, segments: &[LineSegment]) -> Result<Vec<LineSegment>, Memory>
+    ensures { IfOk result (λ placed. IsPermutation segments.now placed.items) }
+{
+    let mut placed = Vec::new(alloc);
+    placed.extend_from_slice(segments)?;
+    placed.sort_unstable_by_key(|s: &LineSegment| strip_key(s));
+    Ok(placed)
+}
+
+/// Returns the key by which segments are sorted: the strip of the plane in which they begin, then how far
+/// right.
+fn strip_key(s: &LineSegment) -> u32 {
+    (s.a.y / 128) as u32 * 65_536 + s.a.x as u32
 }
 
 fn places_in(
