@@ -12,8 +12,6 @@ mod query;
 mod region;
 mod segment;
 mod sides;
-#[cfg(test)]
-mod tests;
 
 pub use place::{Place, PlaceKind, Places};
 pub use places::review;

@@ -7,6 +7,8 @@ mod cut_drawings;
 mod drawings;
 #[cfg(test)]
 mod joined_drawings;
+#[cfg(test)]
+mod places;
 mod point_lists;
 #[cfg(test)]
 mod samples;

@@ -14,6 +14,8 @@ mod limits;
 #[cfg(test)]
 mod lists;
 #[cfg(test)]
+mod looks;
+#[cfg(test)]
 mod outside;
 mod padded_text;
 #[cfg(test)]

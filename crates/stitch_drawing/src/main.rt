@@ -2,9 +2,6 @@
 //! them with the arguments to `run`.
 #![tactic(auto)]
 
-#[cfg(test)]
-mod tests;
-
 use drawing_commands::{Status, report_out_of_memory, run};
 use outside_io::{DirStore, StdSink, program_words};
 use std::alloc::AllocError;

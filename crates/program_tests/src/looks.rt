@@ -1,4 +1,4 @@
-//! Runs of the program over files in memory.
+//! Runs of `stitch_drawing` over files in memory.
 use drawing_commands::run;
 use outside_io::{MemSink, MemStore};
 use std::alloc::Global;

@@ -1,5 +1,6 @@
-use crate::{PlaceKind, review};
-use design_model::{Memory, Point, Points};
+use crate::points_of;
+use design_model::{Memory, Point};
+use drawing_review::{PlaceKind, review};
 use line_sections::Line;
 use std::alloc::Global;
 use std::test::Fail;
@@ -84,11 +85,7 @@ const CASES: [Case; 9] = [
 fn lines(alloc: Global, drawn: Drawn) -> Result<Vec<Line>, Memory> {
     let mut lines = Vec::new(alloc);
     for (block, through) in drawn {
-        let mut points = Points::new(alloc);
-        for (x, y) in *through {
-            points.push(Point { x: *x, y: *y })?;
-        }
-        lines.push(Line::new(*block, points))?;
+        lines.push(Line::new(*block, points_of(alloc, through)?))?;
     }
     Ok(lines)
 }
