@@ -7,8 +7,6 @@ mod escapes;
 mod lengths;
 mod parts;
 mod sheet;
-#[cfg(test)]
-mod tests;
 
 pub use colours::thread_colour;
 pub use escapes::put_escaped;

@@ -1,5 +1,5 @@
-use crate::{length_between, put_escaped, thread_colour};
 use design_model::{Bytes, Point};
+use picture_parts::{length_between, put_escaped, thread_colour};
 use std::test::Fail;
 
 #[test]
@@ -42,6 +42,6 @@ fn threads_have_the_colours_of_their_numbers(rt: HostRuntime) -> Result<(), Fail
 fn labels_are_escaped(rt: HostRuntime) -> Result<(), Fail> {
     let mut text = Bytes::new(rt.alloc());
     put_escaped(&mut text, b"A<B&C>")?;
-    assert!(rt; text.as_slice() == b"A&lt;B&amp;C>");
+    assert!(rt; text.as_slice() == b"A&lt;B&amp;C>".as_slice());
     Ok(())
 }
