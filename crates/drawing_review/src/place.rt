@@ -5,13 +5,13 @@ use design_model::Point;
 pub enum PlaceKind {
     /// An end of a line within the gap of a segment that it doesn't meet.
     LooseEnd,
-    /// An end of a line that lies on a segment of another line, at no listed point.
+    /// An end of a line that lies on a segment of another line, at neither end of that segment.
     UnlistedMeeting,
     /// A segment that crosses an earlier one.
     Crossing,
     /// A segment that repeats an earlier one.
     RepeatedSegment,
-    /// A segment shorter than half a step.
+    /// A segment shorter than half a step on both axes.
     ShortSpacing,
 }
 

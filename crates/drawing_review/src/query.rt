@@ -6,8 +6,8 @@ use crate::grid_point::GridPoint;
 use crate::segment::LineSegment;
 use crate::sides::{comes_near, do_cross, do_repeat};
 
-/// A question about all segments of a drawing: whether there is one that a segment, or an end of a line,
-/// is not meant to be at.
+/// A question about all segments of a drawing: whether one of them is probably not meant to be where a segment,
+/// or an end of a line, is.
 #[derive(Clone, Copy)]
 pub enum Query {
     /// A segment of the block within the gap of an end, which it doesn't meet.

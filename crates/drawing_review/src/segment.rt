@@ -21,7 +21,7 @@ pub struct LineSegment {
     pub frame: Frame,
 }
 
-/// Where a segment stands: its block and its line by index, its number among all segments, and whether its
+/// Where a segment is among all: its block and its line by index, its number among all segments, and whether its
 /// line begins or ends with it.
 #[derive(Clone, Copy)]
 pub struct Position {

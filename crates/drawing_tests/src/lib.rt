@@ -1,4 +1,5 @@
-//! Tests of drawings: lines cut into sections, drawings cut into pieces, their texts, samples and traces.
+//! Tests of drawings: lines cut into sections, drawings cut into pieces, their texts, samples and traces, and
+//! places that were probably not meant.
 #![tactic(auto)]
 
 #[cfg(test)]

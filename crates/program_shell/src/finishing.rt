@@ -9,7 +9,7 @@ use crate::product::Product;
 use crate::status::Status;
 use outside_io::{Sink, Store};
 
-/// FinishesRun a run of the program with that name and usage text. Writes the outputs of a product and prints its
+/// Finishes a run of the program with that name and usage text. Writes the outputs of a product and prints its
 /// report to `out`, or reports a failure on `err`. Returns the exit status.
 pub fn finish<S: Store, O: Sink, E: Sink>(
     program: &[u8],

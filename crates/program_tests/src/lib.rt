@@ -1,4 +1,4 @@
-//! Tests of entire commands: the cases of `case_tables`, run by `run` over a store in memory, and over real files.
+//! Tests of entire commands, of `stitch` and `stitch_drawing`: cases over a store in memory, and over real files.
 #![tactic(auto)]
 
 #[cfg(test)]

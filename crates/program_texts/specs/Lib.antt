@@ -1,4 +1,4 @@
--- The texts of refusals.
+-- The texts of refusals. Read DrawingTexts first.
 pub mod DesignTexts
 pub mod DrawingTexts
 pub mod UsageText

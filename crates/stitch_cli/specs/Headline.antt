@@ -57,13 +57,13 @@ pub record IsYesRight (order : CheckOrder) (files : Option Files) : Type 0 where
   pub say : FilesSay order.format drawing_file design_file cert_file d loaded certs
   pub least : IsLeastRedwork d loaded.design certs
 
--- A run that is done, and that a `route` was requested of, leaves a least route.
+-- Where a `route` is requested and the run is done, it leaves a least route.
 abbrev pub RoutesLeast : Option Order → (before after : Views) → Status → Type 0
 RoutesLeast requested before after s = (order : SewingOrder)
     → requested ≡ Some (sewing ways.Route order) → s ≡ status.Done
     → IsRouteLeft order before.store.files after.store.files
 
--- A run that is done, and that a `check` was requested of, was of least redwork.
+-- Where a `check` is requested and the run is done, the three files were of least redwork.
 abbrev pub ChecksRightly : Option Order → (before : Views) → Status → Type 0
 ChecksRightly requested before s = (order : CheckOrder)
     → requested ≡ Some (checking order) → s ≡ status.Done

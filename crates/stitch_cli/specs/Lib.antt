@@ -11,7 +11,8 @@ pub use Rattle.program_shell.specs.Programs
 pub use Rattle.program_shell.specs.Puts
 pub use Rattle.program_shell.specs.RunViews
 pub use Rattle.program_shell.specs.RunFailures
--- Read Runs first, the guarantees of each exit status, then Commands and what it names.
+-- Read Headline first; then Runs of program_shell, the guarantees of each exit status; then
+-- Commands and what it names.
 pub use Rattle.program_shell.specs.Runs
 pub use Rattle.program_texts.specs.DesignReports
 pub use Rattle.program_texts.specs.DesignTexts

@@ -27,7 +27,7 @@ picture_request request = record {
   hoop = request.hoop;
 }
 
--- The names of a request are file names, and they differ.
+-- The names of a request are file names.
 pub record AreGoodNames (request : PictureRequest) : Type 0 where
   pub input : IsFileName request.input.now
   pub output : IsFileName request.output.now
