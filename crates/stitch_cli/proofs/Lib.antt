@@ -13,5 +13,6 @@ mod TextFacts
 mod SampleFacts
 mod WantFacts
 mod RefutedFacts
+mod ProductFacts
 mod HeadlineLemmas
 mod HeadlineFacts

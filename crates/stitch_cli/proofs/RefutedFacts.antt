@@ -191,7 +191,7 @@ no_cert P (piece ∷ pieces) each = absurd each
 pub known_passed_without_walk : (d : DrawingValue) (design : DesignValue) (product : ProductValue) → 0 < length d.lines
     → IsCheckPassed d design [] product → ⊥
 known_passed_without_walk d design product line is =
-    uncovered d is.least.pieces line is.least.pieces_are (no_cert _ is.least.pieces is.least.least)
+    uncovered d is.least.pieces line is.least.pieces_are (no_cert _ is.least.pieces is.least.threads)
 
 pub known_passed_in_silence : (d : DrawingValue) (design : DesignValue) (certs : List PieceCert)
     → IsCheckPassed d design certs nothing → ⊥

@@ -1,0 +1,61 @@
+-- What a product has, read of each record: its report, its verdict, what is sewn.
+use Rattle.std.proofs.Common.{◌≡◌, ℕ, List, Ok, Err, length, ap}
+use Rattle.design_model.specs.Designs.{DesignValue}
+use Rattle.format_traits.specs.declared.fault.WriteFault.TheVariants as write
+use Rattle.format_traits.specs.Meanings.{Meaning}
+use Rattle.line_graph.specs.Drawings.{DrawingValue}
+use Rattle.line_graph.specs.GrowingDrawings.{step_count}
+use Rattle.odd_cuts.specs.declared.certificate.PieceCert.{PieceCert}
+use Rattle.odd_cuts.specs.Certificates.{walks_of}
+use Rattle.program_shell.specs.Products.{ProductValue}
+use Rattle.program_texts.specs.MigrationReports.{migrate_report}
+use Rattle.route_texts.specs.Summaries.{summary_text}
+use Rattle.route_verdict.specs.declared.verdict.Verdict.TheVariants as verdict
+use Rattle.route_verdict.specs.Verdicts.{IsVerdict}
+use Rattle.stitch_cli.specs.Checks.{IsCheckFailed, IsCheckPassed}
+use Rattle.stitch_cli.specs.DoubleRuns.{IsDoubleRun}
+use Rattle.stitch_cli.specs.Migrations.{IsMigrated}
+use Rattle.stitch_cli.specs.Routes.{IsRouted}
+use Rattle.stitch_cli.specs.Samples.{IsSampleProduct, SampleOrder, summary_of}
+use Rattle.stitch_cli.specs.Sewings.{IsSewnFile, IsSewnProduct, SewingOrder, SewnFiles}
+
+-- the report of a migration has the numbers of lines and pieces, and the cost
+pub known_migrated_report : (output : List ℕ) (d : DrawingValue) (product : ProductValue) (is : IsMigrated output d product)
+    → product.report ≡ migrate_report (length d.lines) (length is.pieces) (step_count d.step d.lines)
+known_migrated_report output d product is = ap (λ (p : ProductValue). p.report) is.made
+
+-- the report of a sample is the summary of its walks
+pub known_sample_report : (order : SampleOrder) (d : DrawingValue) (product : ProductValue) (is : IsSampleProduct order d product)
+    → product.report ≡ summary_text (summary_of order.number d is.pieces is.certs)
+known_sample_report order d product is = ap (λ (p : ProductValue). p.report) is.made
+
+-- a passed check has the verdict yes, a failed one the verdict no with its reason
+pub known_passed_verdict : (d : DrawingValue) (design : DesignValue) (certs : List PieceCert) (product : ProductValue)
+    → IsCheckPassed d design certs product → IsVerdict d design certs verdict.Yes
+known_passed_verdict d design certs product is = is.verdict
+
+pub known_failed_verdict : (d : DrawingValue) (design : DesignValue) (certs : List PieceCert) (text : List ℕ)
+    (is : IsCheckFailed d design certs text) → IsVerdict d design certs (verdict.No is.reason)
+known_failed_verdict d design certs text is = is.verdict
+
+-- the design of a route and of a double run is written, read again and within the limit
+pub known_route_sewn : (m : Meaning) (d : DrawingValue) (files : SewnFiles) (is : IsRouted m d files)
+    → IsSewnFile m d (walks_of is.certs) files.design_file
+known_route_sewn m d files is = is.sewn
+
+pub known_double_sewn : (m : Meaning) (d : DrawingValue) (files : SewnFiles) (is : IsDoubleRun m d files)
+    → IsSewnFile m d (walks_of is.certs) files.design_file
+known_double_sewn m d files is = is.sewn
+
+-- no format, no files of a route
+pub known_route_unwritten : (m : Meaning) (d : DrawingValue) (files : SewnFiles)
+    → IsRouted (record m { writes = λ design. Err (write.FloatTooLong 1) }) d files → ⊥
+known_route_unwritten m d files is = no_bytes files.design_file is.sewn.written
+  where
+    no_bytes : (bytes : List ℕ) → Err (write.FloatTooLong 1) ≡ Ok bytes → ⊥
+    no_bytes bytes is = cc
+
+-- what is written is what was sewn
+pub known_sewn : (Sewn : Meaning → DrawingValue → SewnFiles → Type 0) (order : SewingOrder) (d : DrawingValue) (product : ProductValue)
+    (is : IsSewnProduct Sewn order d product) → Sewn order.format d is.files
+known_sewn Sewn order d product is = is.sewn
