@@ -1,4 +1,3 @@
-use crate::repeated;
 use outside_io::{
     DirStore, Failed, GetFault, MemSink, MemStore, ReadStop, Sink, StdSink, Store, read_whole,
 };
@@ -268,21 +267,6 @@ fn a_store_and_a_sink_take_as_much_as_a_real_file(rt: HostRuntime) -> Result<(),
         assert_eq!(rt; sink.put(piece.as_slice()), Ok(()));
     }
     assert_eq!(rt; sink.taken().len(), 200_000);
-    Ok(())
-}
-
-#[test]
-fn a_room_may_have_64_mebibytes(rt: HostRuntime) -> Result<(), Fail> {
-    let piece = repeated(rt.alloc(), b"", b"of sixteen bytes", 65_536, b"")?;
-    let mut store = MemStore::new(rt.alloc());
-    store.prepare("a", 67_108_864)?;
-    assert_eq!(rt; store.create("a"), Ok(()));
-    for _ in 0..64 {
-        assert_eq!(rt; store.append("a", piece.as_slice()), Ok(()));
-    }
-    assert_eq!(rt; store.append("a", b"x"), Err(Failed));
-    let file = store.file("a").ok_or("no file")?;
-    assert_eq!(rt; file.len(), 67_108_864);
     Ok(())
 }
 
