@@ -4,12 +4,14 @@ use Rattle.outside_io.specs.Blames.{Blame, read_call}
 use Rattle.outside_io.specs.Counts.{Rose}
 use Rattle.outside_io.specs.Files.{Files}
 use Rattle.outside_io.specs.Views.{SinkView, StoreView}
+use Rattle.program_shell.specs.declared.status.Status.{Status}
 use Rattle.program_shell.specs.declared.status.Status.TheVariants as status
-use Rattle.program_shell.specs.Plans.{Plan, accepts, refuses}
+use Rattle.program_shell.specs.Puts.{PutFailed, with_bytes_put}
+use Rattle.program_shell.specs.Plans.{LacksInput, Plan, accepts, refuses}
 use Rattle.program_shell.specs.Products.{AllFilesHold, ChangesOnlyFiles, OutputValue, ProductValue, WroteAll, WroteUpTo, output_names}
 use Rattle.program_shell.specs.Programs.{Program}
-use Rattle.program_shell.specs.RunFailures.{IsMissingInput, IsPrintFailure, IsReadFailure, IsWriteFailure}
-use Rattle.program_shell.specs.Runs.{IsDecided, IsDone, IsMemory, IsRefused, IsUsage, KeepsOtherFiles}
+use Rattle.program_shell.specs.RunFailures.{IsMissingInput, IsOutsideFailure, IsPrintFailure, IsReadFailure, IsWriteFailure}
+use Rattle.program_shell.specs.Runs.{IsDecided, IsDone, IsFailed, IsFault, IsMemory, IsPlannedOutcome, IsRefused, IsReportLost, IsUsage, KeepsOtherFiles, RunEnds}
 use Rattle.program_shell.specs.RunViews.{IsFaultlessRun, IsUntouched, Views, views_of}
 
 -- a sink that took these bytes
@@ -289,3 +291,63 @@ known_refused_done text files is = done_is (is.refused 0 text refl refl refl)
   where
     done_is : status.Done ≡ status.Refused → ⊥
     done_is is = cc
+
+-- A failed write is blamed on its file.
+pub known_unblamed_write : (plan : Plan) (name : List ℕ) (before : Views) (out err : SinkView)
+    → IsWriteFailure plan name before (views_of (storing no_file 1) out err) → ⊥
+known_unblamed_write plan name before out err is = not_blamed _ is.wrote.fault.blame
+
+-- A failed run was requested, and reported its line.
+pub known_failed_for_nothing : (plan : Plan) (before after : Views) → IsFailed (one_plan plan) None before after → ⊥
+known_failed_for_nothing plan before after is = none_is is.order is.is_requested
+  where
+    none_is : (order : ℕ) → None ≡ Some order → ⊥
+    none_is order is = cc
+
+pub known_failure : (plan : Plan) (requested : Option ℕ) (before after : Views) (is : IsFailed (one_plan plan) requested before after)
+    → IsOutsideFailure (codes "p") plan before after is.line × (after.err ≡ with_bytes_put before.err is.line)
+known_failure plan requested before after is = (is.fails, is.message)
+
+-- A report is lost only where the standard error failed.
+pub known_lost_report : (plan : Plan) (requested : Option ℕ) (before after : Views)
+    (is : IsReportLost (one_plan plan) requested before after)
+    → IsPlannedOutcome (one_plan plan) requested before after is.planned is.text × PutFailed before.err after.err is.text
+known_lost_report plan requested before after is = (is.calls, is.broke)
+
+pub known_report_lost_without_fault : (plan : Plan) (requested : Option ℕ) (s s' : StoreView) (out out' : SinkView) (bytes more : List ℕ)
+    → IsReportLost (one_plan plan) requested (views_of s out (took bytes)) (views_of s' out' (took more)) → ⊥
+known_report_lost_without_fault plan requested s s' out out' bytes more is = no_fault is.broke.rose
+
+-- A refused run was requested, and usage touches nothing.
+pub known_refused_for_nothing : (plan : Plan) (before after : Views) → IsRefused (one_plan plan) None before after → ⊥
+known_refused_for_nothing plan before after is = none_is is.order is.is_requested
+  where
+    none_is : (order : ℕ) → None ≡ Some order → ⊥
+    none_is order is = cc
+
+pub known_usage_with_output : (plan : Plan) (requested : Option ℕ) (s : StoreView) (err err' : SinkView)
+    → IsUsage (one_plan plan) requested (views_of s (took (1 ∷ [])) err) (views_of s (took []) err') → ⊥
+known_usage_with_output plan requested s err err' is = none_taken [] is.untouched.out
+
+-- An order whose input is missing is not done.
+pub known_missing_done : (files : Files) (name : List ℕ) (plan : Plan) → LacksInput plan (Some files) name
+    → IsDecided (one_plan plan) (Some 0) (Some files) status.Done → ⊥
+known_missing_done files name plan lacks is = done_is (is.missing 0 name refl lacks)
+  where
+    done_is : status.Done ≡ status.Fault → ⊥
+    done_is is = cc
+
+-- Each status has its own outcome.
+pub known_ends : (plan : Plan) (requested : Option ℕ) (before after : Views)
+    → (RunEnds (one_plan plan) requested before after status.Done → IsDone (one_plan plan) requested before after)
+    × (RunEnds (one_plan plan) requested before after status.Refused → IsRefused (one_plan plan) requested before after)
+    × (RunEnds (one_plan plan) requested before after status.Usage → IsUsage (one_plan plan) requested before after)
+    × (RunEnds (one_plan plan) requested before after status.Fault → IsFault (one_plan plan) requested before after)
+    × (RunEnds (one_plan plan) requested before after status.Memory → IsMemory (one_plan plan) before after)
+known_ends plan requested before after =
+    (λ ends. ends.done refl, λ ends. ends.refused refl, λ ends. ends.usage refl, λ ends. ends.fault refl, λ ends. ends.memory refl)
+
+pub known_run : (plan : Plan) (requested : Option ℕ) (before after : Views) (s : Status) → RunEnds (one_plan plan) requested before after s
+    → KeepsOtherFiles (one_plan plan) requested before after
+    × (IsFaultlessRun before after → IsDecided (one_plan plan) requested before.store.files s)
+known_run plan requested before after s ends = (ends.others, ends.decided)
