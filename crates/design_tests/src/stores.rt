@@ -1,3 +1,5 @@
+use crate::repeated;
+use design_model::{Bytes, Memory};
 use outside_io::{
     DirStore, Failed, GetFault, MemSink, MemStore, ReadStop, Sink, StdSink, Store, read_whole,
 };
@@ -268,6 +270,25 @@ fn a_store_and_a_sink_take_as_much_as_a_real_file(rt: HostRuntime) -> Result<(),
     }
     assert_eq!(rt; sink.taken().len(), 200_000);
     Ok(())
+}
+
+#[test]
+fn a_room_may_have_64_mebibytes(rt: HostRuntime) -> Result<(), Fail> {
+    let bytes = sixteens(rt.alloc(), 4_194_304)?;
+    let mut store = MemStore::new(rt.alloc());
+    store.prepare("a", 67_108_864)?;
+    assert_eq!(rt; store.create("a"), Ok(()));
+    assert_eq!(rt; store.append("a", bytes.as_slice()), Ok(()));
+    assert_eq!(rt; store.append("a", b"x"), Err(Failed));
+    let file = store.file("a").ok_or("no file")?;
+    assert_eq!(rt; file.len(), 67_108_864);
+    Ok(())
+}
+
+/// Returns the given number of times sixteen bytes.
+fn sixteens(alloc: Global, times: u32) -> Result<Bytes, Memory> {
+    let bytes = repeated(alloc, b"", b"of sixteen bytes", times, b"")?;
+    Ok(bytes)
 }
 
 /// A writer that takes three bytes a time, and none once it holds seven.
