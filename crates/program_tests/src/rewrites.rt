@@ -44,6 +44,11 @@ const THREE_WRITTEN: &[u8] = &[
     0x80, 0x04, 0x05, 0x05, 0x00, 0x00,
 ];
 
+/// In EXP: a stitch, a jump of 100 downwards, a stop, a jump of 100 upwards, and a stitch.
+const FRAME_OUT: &[u8] = &[
+    0x00, 0x00, 0x80, 0x04, 0x00, 0x9C, 0x80, 0x01, 0x00, 0x00, 0x80, 0x04, 0x00, 0x64, 0x00, 0x00,
+];
+
 /// A stitch of 127 to the right, and one back.
 const FORTH_AND_BACK: &[u8] = &[0x7F, 0x00, 0x81, 0x00];
 
@@ -99,6 +104,18 @@ static REFITS: &[Case] = &[
                 &[("b.dst", records!(&CUT_FLOAT))],
             ),
         ],
+    },
+    // The frame comes out before a stop and goes back after it. Neither move has a needle, and both are lost.
+    Case {
+        before: &[("a.exp", FileContent::Bytes(FRAME_OUT))],
+        steps: &[done!(
+            &["convert", "a.exp", "b.exp"],
+            "needles 2 trims 0 stops 1\n",
+            &[(
+                "b.exp",
+                FileContent::Bytes(&[0x00, 0x00, 0x80, 0x01, 0x00, 0x00, 0x00, 0x00])
+            )],
+        )],
     },
     // Stitches of 127 forth and back, each split in two: 499,998 of them after 5 short ones are 1,000,001
     // commands, one too many. After 6 short ones the last but one stitch just fits.
