@@ -43,7 +43,7 @@ module _ (p q : Point) (step n : ℕ) (some : 1 ≤ n) where
   first_point : point_on_segment p q n 0 ≡ p
   first_point = same_point _ p (axis_first p.x q.x n some) (axis_first p.y q.y n some)
 
-  last_point : point_on_segment p q n n ≡ q
+  pub last_point : point_on_segment p q n n ≡ q
   last_point = same_point _ q (axis_last p.x q.x n some) (axis_last p.y q.y n some)
 
   each_close : move_size (move_between p q) ≤ n * step

@@ -13,6 +13,11 @@ div_ceil_some s step some low = let t = div_ceil_times s step low in grind arith
 pub div_ceil_few : (s step : ℕ) → 1 ≤ step → div_ceil s step ≤ s
 div_ceil_few s step low = let t = div_ceil_times s step low in grind arith
 
+-- a number up to the other is one part
+pub div_ceil_one : (s step : ℕ) → 1 ≤ s → s ≤ step → div_ceil s step ≡ 1
+div_ceil_one s step some few =
+    let t = div_ceil_times s step (omega (arith, some, few)) in grind arith
+
 -- the number is at most the parts times the step
 pub div_ceil_covers : (s step : ℕ) → 1 ≤ step → s ≤ div_ceil s step * step
 div_ceil_covers s step low = (div_ceil_times s step low).0

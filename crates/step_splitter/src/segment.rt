@@ -22,6 +22,9 @@ pub fn steps(p: Point, q: Point, step: u32) -> u32
     ensures few { result ≤ 2 * NEEDLE_LIMIT }
 {
     let longer = q.x.abs_diff(p.x).max(q.y.abs_diff(p.y));
+    if longer <= step {
+        return 1;
+    }
     longer.div_ceil(step)
 }
 

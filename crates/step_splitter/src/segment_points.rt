@@ -20,6 +20,9 @@ pub fn point_at(p: Point, q: Point, count: u32, index: u32) -> Point
     requires there { index ≤ count }
     ensures { result ≡ point_on_segment p q count index }
 {
+    if index == count {
+        return q;
+    }
     let across = AxisSpan { from: p.x, to: q.x };
     let down = AxisSpan { from: p.y, to: q.y };
     Point {
