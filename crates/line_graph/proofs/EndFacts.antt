@@ -6,10 +6,12 @@ use Rattle.line_sections.specs.declared.spot.Spot.{Spot}
 use Rattle.line_sections.specs.Lines.{LineValue}
 use Rattle.line_graph.specs.declared.draw_kind.DrawKind.TheVariants as kind
 use Rattle.line_graph.specs.Drawings.{DrawingValue}
+use Rattle.line_graph.specs.FirstLines.{IsLineEnd}
 use Rattle.line_graph.specs.declared.pass.Pass.{Pass}
 use Rattle.line_graph.specs.PieceGraphs.{odd_junctions, piece_graph}
 use Rattle.line_graph.specs.PieceWalks.{is_fitting_walk}
-use Rattle.line_graph.specs.WalkEnds.{are_connected_spots, end_added, is_junction, start_added, walk_end_added}
+use Rattle.line_graph.specs.Pieces.{AreConnected}
+use Rattle.line_graph.specs.WalkEnds.{SpotsAreConnected, are_connected_spots, end_added, is_junction, start_added, walk_end_added}
 
 abbrev at : ℕ → ℕ → Point
 at x y = record { x = pos x; y = pos y }
@@ -50,6 +52,11 @@ known_apart = refl
 
 pub known_blocks_apart : are_connected_spots (drawn [] []).lines (spot 0 10 0) (spot 1 10 0) ≡ false
 known_blocks_apart = refl
+
+-- spots at ends of two lines are connected exactly where the lines are
+pub known_connected : SpotsAreConnected → (d : DrawingValue) (a b : Spot) (i j : ℕ) → IsLineEnd d i a → IsLineEnd d j b
+    → (are_connected_spots d.lines a b ≡ true → AreConnected d i j) × (AreConnected d i j → are_connected_spots d.lines a b ≡ true)
+known_connected law d a b i j at_a at_b = let is = law d a b i j at_a at_b in (is.led, is.found)
 
 -- a start at a junction, and none elsewhere
 pub known_start : start_added (drawn [] []) (spot 0 10 10) ≡ Ok (drawn (spot 0 10 10 ∷ []) [])
