@@ -22,6 +22,7 @@ mod TreeLemmas
 mod TipLemmas
 mod ValidPieceLemmas
 mod PieceLabelLemmas
+mod NextLineLemmas
 mod BlockLemmas
 mod UniquePieceLemmas
 mod EveryPieceLemmas

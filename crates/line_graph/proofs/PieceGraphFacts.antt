@@ -1,11 +1,12 @@
 -- Worked values of the graphs of pieces, and of walks that fit them. Costs count steps of at most 10.
-use Rattle.std.proofs.Common.{◌≡◌, ℕ, true, false, List, [], ◌∷◌, None, Some, refl}
+use Rattle.std.proofs.Common.{◌≡◌, ℕ, true, false, List, [], ◌∷◌, None, Some, refl, arith}
 use Rattle.design_model.specs.declared.point.Point.{Point}
 use Rattle.line_sections.specs.Lines.{LineValue}
 use Rattle.line_graph.specs.declared.edge.Edge.{Edge}
 use Rattle.line_graph.specs.declared.pass.Pass.{Pass}
 use Rattle.line_graph.specs.Drawings.{DrawingValue}
 use Rattle.line_graph.specs.PieceGraphs.{degree, odd_junctions, piece_graph}
+use Rattle.line_graph.specs.NextLines.{IsFirstLabelled, lines_labelled_from}
 use Rattle.line_graph.specs.PieceLabels.{lines_labelled, pieces_by_label}
 use Rattle.line_graph.specs.ValidPieces.{all_below, all_costs_positive, ends_below, is_below}
 use Rattle.line_graph.specs.PieceWalks.{is_fitting_walk, passes, piece_cost, is_strictly_increasing, walk_cost}
@@ -160,6 +161,13 @@ known_costs = (refl, refl)
 -- the lines with a label
 pub known_labelled : lines_labelled (0 ∷ 1 ∷ 0 ∷ 1 ∷ 4 ∷ 1 ∷ []) 1 ≡ 1 ∷ 3 ∷ 5 ∷ []
 known_labelled = refl
+
+-- those from the line 2 on, of which the line 3 is the first
+pub known_labelled_from : lines_labelled_from (0 ∷ 1 ∷ 0 ∷ 1 ∷ 4 ∷ 1 ∷ []) 1 2 ≡ 3 ∷ 5 ∷ []
+known_labelled_from = refl
+
+pub known_first_labelled : IsFirstLabelled (0 ∷ 1 ∷ 0 ∷ 1 ∷ 4 ∷ 1 ∷ []) 1 2 3
+known_first_labelled = record { from = omega arith; most = omega arith; has = λ below. refl; rest = refl }
 
 -- the lines with each label
 pub known_parts : pieces_by_label (0 ∷ 1 ∷ 0 ∷ 1 ∷ 4 ∷ 1 ∷ []) ≡ (0 ∷ 2 ∷ []) ∷ (1 ∷ 3 ∷ 5 ∷ []) ∷ (4 ∷ []) ∷ []

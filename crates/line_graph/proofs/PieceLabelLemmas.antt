@@ -248,14 +248,6 @@ module _ (d : DrawingValue) (labels : List ℕ) (are : ArePieceLabels d labels) 
           (first_line (get_or (pieces_by_label labels) j x)) joined.0 joined.1 in
           omega (arith, one, other, alike, firsts_rise (pieces_by_label labels) parts_rise i j x less below)
 
--- a line with another label is left out
-pub labels_skip : (labels : List ℕ) (label line : ℕ) (lines whole : List ℕ) → line < length labels → get_or labels line 0 ≢ label
-    → lines ++ filter (has_label labels label) (range_with_len line (length labels - line)) ≡ whole
-    → lines ++ filter (has_label labels label) (range_with_len (line + 1) (length labels - (line + 1))) ≡ whole
-labels_skip labels label line lines whole below test so_far =
-    ap (λ (rest : List ℕ). lines ++ rest) (sym (filter_skips (has_label labels label) line (length labels) below
-    (not_found (get_or labels line 0) label test))) ∙ so_far
-
 -- a line with the label is added after the others
 pub labels_take : (labels : List ℕ) (label line : ℕ) (lines more whole : List ℕ) → line < length labels → more ≡ lines ++ line ∷ []
     → get_or labels line 0 ≡ label → lines ++ filter (has_label labels label) (range_with_len line (length labels - line)) ≡ whole
@@ -295,6 +287,15 @@ one_cut d labels line pieces more p below test is more_is cut =
       each = subst (λ (ps : List Piece). All (λ (p : Piece). graph_of p ≡ piece_graph d p.lines) ps) (sym more_is)
           (All-push (λ (p : Piece). graph_of p ≡ piece_graph d p.lines) pieces p cut.each (is ∙ ap (piece_graph d) (sym lines)));
     }
+
+-- and any other line does not
+pub none_cut : (d : DrawingValue) (labels : List ℕ) (line : ℕ) (pieces : List Piece) → line < length labels → get_or labels line 0 ≢ line
+    → AreCut d labels line pieces → AreCut d labels (line + 1) pieces
+none_cut d labels line pieces below test cut = record {
+  parts = ap (λ (ls : List ℕ). lines_of_pieces pieces ++ map (lines_labelled labels) ls)
+      (sym (filter_skips (is_own_label labels) line (length labels) below (not_found (get_or labels line 0) line test))) ∙ cut.parts;
+  each = cut.each;
+}
 
 -- with no line left the pieces are those of the drawing
 pub all_cut : (d : DrawingValue) (labels : List ℕ) (line : ℕ) (pieces : List Piece) → ArePieceLabels d labels → length labels ≤ line

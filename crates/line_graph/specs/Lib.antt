@@ -31,5 +31,6 @@ pub mod GrowingLimits
 pub mod LineLabels
 pub mod FirstLines
 pub mod PieceLabels
+pub mod NextLines
 -- Used only inside this crate: starts and ends.
 pub mod EndsMakerInvariants

@@ -1,5 +1,6 @@
 ghost use Rattle.std.specs.Prelude.{◌≡◌, ◌<◌, All, IfOk, get_or, length};
 ghost use Rattle.line_graph.specs.declared.limits.TheConstants.{MAX_BLOCKS};
+ghost use Rattle.line_graph.specs.NextLines.{AreNextFrom};
 ghost use Rattle.line_graph.specs.PiecesOfDrawings.{ArePiecesOf, graph_of};
 ghost use Rattle.line_graph.specs.PieceGraphs.{piece_graph};
 ghost use Rattle.line_graph.specs.PieceLabels.{ArePieceLabels, lines_labelled};
@@ -7,8 +8,9 @@ ghost use Rattle.line_graph.specs.PieceLabels.{ArePieceLabels, lines_labelled};
 use crate::drawing::Drawing;
 use crate::first_lines::links;
 use crate::line_labels::labels;
+use crate::next_lines::{lines_with, next_lines};
 use crate::piece::{Piece, Pieces};
-use crate::piece_lines::{lines_with, piece_of};
+use crate::piece_lines::piece_of;
 use design_model::Memory;
 use std::alloc::Global;
 
@@ -29,26 +31,35 @@ fn labelled_pieces(alloc: Global, d: &Drawing, labels: &[u32]) -> Result<Pieces,
     requires { ArePieceLabels d.now labels.now }
     ensures { IfOk result (ArePiecesOf d.now) }
 {
+    d.keeps_limits();
+    let next = next_lines(alloc, labels)?;
     let mut pieces = Pieces::new(alloc);
     for line in 0..d.line_count() {
         if labels[line as usize] != line {
             continue;
         }
-        pieces.push(labelled_piece(alloc, d, labels, line)?)?;
+        pieces.push(labelled_piece(alloc, d, labels, next.as_slice(), line)?)?;
     }
     Ok(pieces)
 }
 
 /// Returns the piece of the lines with the given label.
-fn labelled_piece(alloc: Global, d: &Drawing, labels: &[u32], label: u32) -> Result<Piece, Memory>
+fn labelled_piece(
+    alloc: Global,
+    d: &Drawing,
+    labels: &[u32],
+    next: &[u32],
+    label: u32,
+) -> Result<Piece, Memory>
     requires labels { ArePieceLabels d.now labels.now }
+    requires next { AreNextFrom labels.now 0 next.now }
     requires there { label < length d.now.lines }
     requires first { get_or labels.now label 0 ≡ label }
     ensures { IfOk result (λ piece.
         graph_of piece ≡ piece_graph d.now (lines_labelled labels.now label)) }
 {
     d.keeps_limits();
-    let lines = lines_with(alloc, labels, label)?;
+    let lines = lines_with(alloc, labels, next, label)?;
     let piece = piece_of(alloc, d, lines)?;
     Ok(piece)
 }

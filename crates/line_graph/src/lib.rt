@@ -20,6 +20,7 @@ mod limits;
 mod line_labels;
 mod line_shape;
 mod needle_points;
+mod next_lines;
 mod pass;
 mod piece;
 mod piece_lines;

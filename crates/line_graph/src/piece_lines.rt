@@ -82,19 +82,3 @@ fn first(lines: &[u32]) -> u32
 {
     lines[0]
 }
-
-/// Returns the lines with the given label, in increasing order.
-pub fn lines_with(alloc: Global, labels: &[u32], label: u32) -> Result<Numbers, Memory>
-    requires small { length labels.now ≤ 4294967295 }
-    requires there { label < length labels.now }
-    ensures { IfOk result (λ lines. lines ≡ lines_labelled labels.now label) }
-{
-    let mut lines = Numbers::new(alloc);
-    for line in label..labels.len() as u32 {
-        if labels[line as usize] != label {
-            continue;
-        }
-        lines.push(line)?;
-    }
-    Ok(lines)
-}

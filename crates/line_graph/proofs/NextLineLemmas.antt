@@ -1,0 +1,132 @@
+-- Next lines with the same label are found from the last line to the first, and lead through all lines of a piece.
+use Rattle.std.proofs.Common.{◌≡◌, ◌≢◌, ◌<◌, ◌≤◌, ℕ, ◌+◌, ◌-◌, ◌==◌, Bool, true, false, List, [], ◌∷◌, ◌++◌, length, get_or, set, replicate, filter, arith, refl, sym, ◌∙◌, ap, subst}
+use Rattle.std.proofs.lemmas.List.{append-nil, get_or-replicate, get_or-set_other, length-replicate, length-set}
+use Rattle.std.proofs.lemmas.Grind.{get_or-set_at}
+use Rattle.std.specs.List.{range_with_len}
+use Rattle.line_graph.specs.LineLabels.{AreAtMostIndex}
+use Rattle.line_graph.specs.NextLines.{AreNextFrom, IsFirstLabelled, lines_labelled_from}
+use Rattle.line_graph.specs.PieceLabels.{has_label, lines_labelled}
+use Rattle.line_graph.proofs.LabelLemmas.{not_same}
+use Rattle.line_graph.proofs.PieceLabelLemmas.{filter_skips, labels_take}
+use Rattle.line_graph.proofs.PieceLimits.{same}
+
+-- before any line is seen, no label has a first line
+pub none_seen : (labels : List ℕ) → AreNextFrom labels (length labels) (replicate (length labels) (length labels))
+none_seen labels = record {
+  sized = length-replicate (length labels) (length labels);
+  early = λ label. λ below. subst (λ (first : ℕ). IsFirstLabelled labels label (length labels) first)
+      (sym (get_or-replicate (length labels) label (length labels) 0 below)) (none label);
+  late = λ line. λ from. λ below. absurd (omega (arith, from, below));
+}
+  where
+    none : (label : ℕ) → IsFirstLabelled labels label (length labels) (length labels)
+    none label = record { from = omega arith; most = omega arith; has = λ below. absurd (omega (arith, below)); rest = refl }
+
+module _ (labels next more : List ℕ) (line : ℕ) (below : line < length labels) (low : AreAtMostIndex labels)
+    (is : more ≡ set (set next (get_or labels line 0) line) line (get_or next (get_or labels line 0) 0))
+    (before : AreNextFrom labels (line + 1) next) where
+  abbrev label : ℕ
+  label = get_or labels line 0
+
+  abbrev marked : List ℕ
+  marked = set next label line
+
+  up_to : label ≤ line
+  up_to = low line below
+
+  at_line : get_or more line 0 ≡ get_or next label 0
+  at_line = ap (λ (ns : List ℕ). get_or ns line 0) is
+      ∙ get_or-set_at marked line line (get_or next label 0) 0 refl (omega (arith, below, before.sized, length-set next label line))
+
+  at_label : label ≢ line → get_or more label 0 ≡ line
+  at_label apart = ap (λ (ns : List ℕ). get_or ns label 0) is
+      ∙ get_or-set_other marked line label (get_or next label 0) 0 apart
+      ∙ get_or-set_at next label label line 0 refl (omega (arith, up_to, below, before.sized))
+
+  elsewhere : (j : ℕ) → j ≢ line → j ≢ label → get_or more j 0 ≡ get_or next j 0
+  elsewhere j apart other = ap (λ (ns : List ℕ). get_or ns j 0) is
+      ∙ get_or-set_other marked line j (get_or next label 0) 0 apart ∙ get_or-set_other next label j line 0 other
+
+  -- the line is the first one with its own label
+  first_here : IsFirstLabelled labels label line line
+  first_here = record { from = omega arith; most = omega (arith, below); has = λ less. refl; rest = refl }
+
+  -- and the first one with another label is that from the next line on
+  first_after : (j first : ℕ) → has_label labels j line ≡ false
+      → IsFirstLabelled labels j (line + 1) first → IsFirstLabelled labels j line first
+  first_after j first test are = record {
+    from = omega (arith, are.from);
+    most = are.most;
+    has = are.has;
+    rest = filter_skips (has_label labels j) line (length labels) below test ∙ are.rest;
+  }
+
+  seen_early : (j : ℕ) → j < line → IsFirstLabelled labels j line (get_or more j 0)
+  seen_early j less = by_test (label == j) refl
+    where
+      by_test : (t : Bool) → (label == j) ≡ t → IsFirstLabelled labels j line (get_or more j 0)
+      by_test true test =
+          let here : label ≡ j = same label j test in
+          subst (λ (k : ℕ). IsFirstLabelled labels k line (get_or more k 0)) here
+          (subst (λ (first : ℕ). IsFirstLabelled labels label line first)
+          (sym (at_label (λ alike. omega (arith, alike, here, less)))) first_here)
+      by_test false test =
+          let apart = not_same label j test in
+          subst (λ (first : ℕ). IsFirstLabelled labels j line first)
+          (sym (elsewhere j (λ alike. omega (arith, alike, less)) (λ alike. apart (sym alike))))
+          (first_after j (get_or next j 0) test (before.early j (omega (arith, less))))
+
+  seen_late : (j : ℕ) → line ≤ j → j < length labels → IsFirstLabelled labels (get_or labels j 0) (j + 1) (get_or more j 0)
+  seen_late j from less = by_test (j == line) refl
+    where
+      by_test : (t : Bool) → (j == line) ≡ t → IsFirstLabelled labels (get_or labels j 0) (j + 1) (get_or more j 0)
+      by_test true test =
+          subst (λ (k : ℕ). IsFirstLabelled labels (get_or labels k 0) (k + 1) (get_or more k 0)) (sym (same j line test))
+          (subst (λ (first : ℕ). IsFirstLabelled labels label (line + 1) first) (sym at_line)
+          (before.early label (omega (arith, up_to))))
+      by_test false test =
+          let apart = not_same j line test in
+          subst (λ (first : ℕ). IsFirstLabelled labels (get_or labels j 0) (j + 1) first)
+          (sym (elsewhere j apart (λ alike. omega (arith, alike, up_to, from, apart))))
+          (before.late j (omega (arith, from, apart)) less)
+
+  -- a line more
+  pub one_seen : AreNextFrom labels line more
+  one_seen = record {
+    sized = ap length is ∙ length-set marked line (get_or next label 0) ∙ length-set next label line ∙ before.sized;
+    early = seen_early;
+    late = seen_late;
+  }
+
+-- the lines with a label before the given line, which is the next of them or the number of lines
+pub record AreLabelledBefore (labels : List ℕ) (label line : ℕ) (lines : List ℕ) : Type 0 where
+  pub most : line ≤ length labels
+  pub has : line < length labels → get_or labels line 0 ≡ label
+  pub all : lines ++ lines_labelled_from labels label line ≡ lines_labelled labels label
+
+-- the chain begins at the first line of its label
+pub chain_begins : (labels : List ℕ) (label : ℕ) → label < length labels → get_or labels label 0 ≡ label
+    → AreLabelledBefore labels label label []
+chain_begins labels label below first = record { most = omega (arith, below); has = λ less. first; all = refl }
+
+-- and goes on from a line to the next
+pub chain_more : (labels : List ℕ) (label line next : ℕ) (lines more : List ℕ) → line < length labels → more ≡ lines ++ line ∷ []
+    → IsFirstLabelled labels (get_or labels line 0) (line + 1) next → AreLabelledBefore labels label line lines
+    → AreLabelledBefore labels label next more
+chain_more labels label line next lines more below is first before =
+    let here : IsFirstLabelled labels label (line + 1) next =
+    subst (λ (k : ℕ). IsFirstLabelled labels k (line + 1) next) (before.has below) first in
+    record {
+      most = here.most;
+      has = here.has;
+      all = ap (λ (ls : List ℕ). more ++ ls) (sym here.rest)
+          ∙ labels_take labels label line lines more (lines_labelled labels label) below is (before.has below) before.all;
+    }
+
+-- to the number of lines
+pub chain_ends : (labels : List ℕ) (label line : ℕ) (lines : List ℕ) → length labels ≤ line → AreLabelledBefore labels label line lines
+    → lines ≡ lines_labelled labels label
+chain_ends labels label line lines past before =
+    let none : length labels - line ≡ 0 = omega (arith, past) in
+    sym (append-nil lines)
+    ∙ sym (ap (λ (n : ℕ). lines ++ filter (has_label labels label) (range_with_len line n)) none) ∙ before.all
