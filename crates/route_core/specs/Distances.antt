@@ -18,14 +18,14 @@ pub record IsTableOf (p : PieceValue) (rows : RowsValue) (t : TableValue) : Type
   pub places : t.places ≡ length rows.terminals
   pub distances : HasDistances rows t
 
--- The entry of x and y is that of b with a terminal before a.
-abbrev pub is_filled_entry : (b a x y : ℕ) → Bool
-is_filled_entry b a x y = y == b && nat_lt x a
+-- The entry of x and y is that of a with a terminal before b.
+abbrev pub is_filled_entry : (a b x y : ℕ) → Bool
+is_filled_entry a b x y = x == a && nat_lt y b
 
--- The entries of b with the terminals before a are set, and no other entry has changed.
-pub record HasFilledEntries (rows : RowsValue) (b a : ℕ) (old new : TableValue) : Type 0 where
+-- The entries of a with the terminals after it and before b are set, and no other has changed.
+pub record HasFilledEntries (rows : RowsValue) (a b : ℕ) (old new : TableValue) : Type 0 where
   pub places : new.places ≡ old.places
   pub entries : (x y : ℕ) → x < y → y < old.places
-      → entry new x y ≡ (if is_filled_entry b a x y then cost_at rows x (terminal_of rows b)
+      → entry new x y ≡ (if is_filled_entry a b x y then cost_at rows a (terminal_of rows y)
       else entry old x y)
   pub none : (x : ℕ) → x < old.places → entry new x x ≡ entry old x x

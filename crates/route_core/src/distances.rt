@@ -24,22 +24,24 @@ pub(crate) fn distances(
     ensures entries { IfOk result (HasDistances rows.now) }
 {
     let mut table = DistTable::new(alloc, terminals.len() as u32)?;
-    for b in 0..terminals.len() {
-        fill(&mut table, p, rows, b as u32, terminals[b]);
+    for a in 0..table.places() {
+        fill(&mut table, p, rows, terminals, a);
     }
     Ok(table)
 }
 
-/// Sets the entries of terminal `b` with those before it.
-fn fill(table: &mut DistTable, p: &Piece, rows: &Rows, b: u32, terminal: u32)
+/// Sets the entries of terminal `a` with those after it, from its row.
+fn fill(table: &mut DistTable, p: &Piece, rows: &Rows, terminals: &[u32], a: u32)
     requires rows { AreRows (graph_of p.now) rows.now }
-    requires places { table.old.places ≡ length rows.now.terminals }
-    requires there { b < length rows.now.terminals }
-    requires terminal { terminal ≡ terminal_of rows.now b }
-    ensures { HasFilledEntries rows.now b b table.old table.new }
+    requires terminals { rows.now.terminals ≡ terminals.now }
+    requires places { table.old.places ≡ length terminals.now }
+    requires there { a < length terminals.now }
+    ensures { HasFilledEntries rows.now a (length terminals.now) table.old table.new }
 {
-    for a in 0..b {
-        let d = distance(p, rows, a, terminal);
+    let count = table.places();
+    let row = rows.row(a as usize);
+    for b in a + 1..count {
+        let d = row[terminals[b as usize] as usize];
         table.set(a, b, d);
     }
 }

@@ -1,6 +1,6 @@
 use Rattle.std.proofs.Common.{length}
-use Rattle.route_core.proofs.DistanceLemmas.{HasColumns}
+use Rattle.route_core.proofs.DistanceLemmas.{HasRowsBefore}
 use Rattle.route_core.proofs.distances.distances.Given as goal
 
-abbrev pub invariant-loop-b : goal.invariant-loop-b
-invariant-loop-b l = HasColumns l.rows (length l.terminals) l.b l.table
+abbrev pub invariant-loop-a : goal.invariant-loop-a
+invariant-loop-a l = HasRowsBefore l.rows (length l.terminals) l.a l.table

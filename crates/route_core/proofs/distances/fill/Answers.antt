@@ -1,20 +1,35 @@
-use Rattle.std.proofs.Common.{◌∙◌, ap, arith}
-use Rattle.odd_paths.specs.LeastRows.{cost_at}
-use Rattle.route_core.proofs.DistanceLemmas.{filled_more, filled_none}
+use Rattle.std.proofs.Common.{◌<◌, ap, arith, length}
+use Rattle.line_graph.specs.PiecesOfDrawings.{graph_of}
+use Rattle.route_core.proofs.DistanceLemmas.{filled_none, row_most, row_wide, terminal_there}
 use Rattle.route_core.proofs.distances.fill.Goals as goal
 
-pub loop-a-init : goal.loop-a-init
-loop-a-init c = filled_none c.args.rows.now c.args.b c.args.table.now
+pub loop-b-init : goal.loop-b-init
+loop-b-init c = record {
+  from = omega arith;
+  to = omega (arith, c.requires.there);
+  filled = filled_none c.args.rows.now c.args.a c.args.table.now;
+}
 
-pub set-requires-clause-a_in : goal.set-requires-clause-a_in
-set-requires-clause-a_in c = omega (arith, c.loop-a.invariant.places, c.requires.places, c.requires.there, c.loop-a-test.true)
+pub bounds-row-terminals : goal.bounds-row-terminals
+bounds-row-terminals c =
+    let at : c.loop-b.b < length c.args.terminals.now =
+    omega (arith, c.loop-b-test.true, c.places-count.ensures.value, c.requires.places) in
+    omega (
+      arith,
+      terminal_there (graph_of c.args.p.now) c.args.rows.now c.args.terminals.now c.loop-b.b c.requires.rows
+          c.requires.terminals at,
+      row_wide (graph_of c.args.p.now) c.args.rows.now c.args.a _ c.requires.rows c.row-row.ensures,
+    )
 
-pub set-requires-clause-b_in : goal.set-requires-clause-b_in
-set-requires-clause-b_in c = omega (arith, c.loop-a.invariant.places, c.requires.places, c.requires.there)
-
-pub loop-a-preserved : goal.loop-a-preserved
-loop-a-preserved c =
-    filled_more c.args.rows.now c.loop-a.a c.args.b c.distance-d.result c.args.table.now c.loop-a.table c.set.new.self c.loop-a-test.true
-    (omega (arith, c.requires.places, c.requires.there))
-    (c.distance-d.ensures.value ∙ ap (cost_at c.args.rows.now c.loop-a.a) c.requires.terminal)
-    c.loop-a.invariant c.set.ensures.places c.set.ensures.entries
+pub set-requires-clause-short : goal.set-requires-clause-short
+set-requires-clause-short c =
+    let at : c.loop-b.b < length c.args.terminals.now =
+    omega (arith, c.loop-b-test.true, c.places-count.ensures.value, c.requires.places) in
+    let there = terminal_there (graph_of c.args.p.now) c.args.rows.now c.args.terminals.now c.loop-b.b c.requires.rows
+    c.requires.terminals at in
+    let from : c.args.a < length c.args.rows.now.terminals = omega (arith, c.requires.there, ap length c.requires.terminals) in
+    omega (
+      arith,
+      row_most (graph_of c.args.p.now) c.args.rows.now c.args.a _ _ c.requires.rows from there c.row-row.ensures,
+      c.args.p.now.kept.cost_few,
+    )

@@ -1,5 +1,10 @@
+use Rattle.std.proofs.Common.{◌<◌, ◌≤◌, length}
 use Rattle.route_core.specs.Distances.{HasFilledEntries}
 use Rattle.route_core.proofs.distances.fill.Given as goal
 
-abbrev pub invariant-loop-a : goal.invariant-loop-a
-invariant-loop-a l = HasFilledEntries l.rows l.b l.a l.fn.table l.table
+abbrev pub invariant-loop-b : goal.invariant-loop-b
+invariant-loop-b l = record {
+  from : l.a < l.b;
+  to : l.b ≤ length l.terminals;
+  filled : HasFilledEntries l.rows l.a l.b l.fn.table l.table;
+}
