@@ -11,3 +11,4 @@ mod DrawingTextFacts
 mod EndTextFacts
 mod ValidTextLemmas
 mod ValidTextFacts
+mod CoordinateLemmas

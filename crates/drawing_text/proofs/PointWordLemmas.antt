@@ -1,14 +1,14 @@
 -- The points that words spell, taken one after another.
-use Rattle.std.proofs.Common.{◌≡◌, ◌≤◌, ℕ, ℤ, unsigned_abs, arith, List, [], ◌∷◌, ◌++◌, Result, Ok, Err, All, ap, sym, ◌∙◌, refl, append_assoc}
+use Rattle.std.proofs.Common.{◌≡◌, ◌≤◌, ℕ, ℤ, unsigned_abs, arith, List, [], ◌∷◌, ◌++◌, Result, Ok, Err, All, IfOk, ap, sym, subst, ◌∙◌, refl, append_assoc}
 use Rattle.design_model.specs.declared.point.Point.{Point}
 use Rattle.std.proofs.lemmas.Bool.Decides.{nat_tests}
 use Rattle.std.proofs.lemmas.List.Elements.{All-push}
 use Rattle.design_model.specs.declared.point.TheConstants.{NEEDLE_LIMIT}
 use Rattle.step_splitter.specs.Chains.{IsNeedlePoint}
-use Rattle.design_model.specs.WholeNumbers.{parsed_whole}
 use Rattle.line_graph.specs.declared.draw_kind.DrawKind.{DrawKind}
 use Rattle.line_graph.specs.GrowingDrawings.{and_then}
-use Rattle.drawing_text.specs.TextLines.{parsed_coordinate, parsed_points}
+use Rattle.drawing_text.specs.CoordinateWords.{BeginsWithCoordinate}
+use Rattle.drawing_text.specs.TextLines.{parsed_points}
 use Rattle.drawing_text.specs.Words.{words_of_line}
 
 -- these points, and then those that come
@@ -26,13 +26,12 @@ pub record GoesOn (words rest : List ℕ) (points : List Point) : Type 0 where
   pub parsed : parsed_points (words_of_line words) ≡ behind points (parsed_points (words_of_line rest))
 
 -- two words more are one point more
-pub point_read : (words rest after more x y : List ℕ) (points : List Point) (across down : ℤ) → GoesOn words rest points
-    → words_of_line rest ≡ x ∷ words_of_line after → words_of_line after ≡ y ∷ words_of_line more
-    → parsed_coordinate (parsed_whole x) ≡ Ok across → parsed_coordinate (parsed_whole y) ≡ Ok down
+pub point_read : (words rest after more : List ℕ) (points : List Point) (across down : ℤ) → GoesOn words rest points
+    → BeginsWithCoordinate rest (Ok across) after → BeginsWithCoordinate after (Ok down) more
     → GoesOn words more (points ++ record { x = across; y = down } ∷ [])
-point_read words rest after more x y points across down goes first second left right = record {
-  parsed = goes.parsed ∙ (rw (first, second, left, right) (behind_one points (record { x = across; y = down })
-      (parsed_points (words_of_line more))));
+point_read words rest after more points across down goes x y = record {
+  parsed = goes.parsed ∙ (rw (x.words, y.words, ← x.value, ← y.value)
+      (behind_one points (record { x = across; y = down }) (parsed_points (words_of_line more))));
 }
 
 -- and a needle may go down there
@@ -41,3 +40,8 @@ pub point_in_range : (points : List Point) (across down : ℤ) → All IsNeedleP
     → All IsNeedlePoint (points ++ record { x = across; y = down } ∷ [])
 point_in_range points across down in_range left right =
     All-push IsNeedlePoint points (record { x = across; y = down }) in_range (grind (arith, nat_tests))
+
+-- a coordinate that isn't refused is within the limit
+pub coordinate_within : (answer : Result ℤ DrawKind) (n : ℤ) → answer ≡ Ok n → IfOk answer (λ m. unsigned_abs m ≤ NEEDLE_LIMIT)
+    → unsigned_abs n ≤ NEEDLE_LIMIT
+coordinate_within answer n is within = subst (λ (told : Result ℤ DrawKind). IfOk told (λ m. unsigned_abs m ≤ NEEDLE_LIMIT)) is within

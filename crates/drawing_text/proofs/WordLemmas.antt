@@ -72,6 +72,13 @@ first_word b rest test =
     let end = position_or_len is_blank_byte rest in
     (rw (test, parts.split, take_next end b rest, drop_next end b rest, parts.words), rw test (omega arith))
 
+-- the first word again, where the number of bytes behind its first one is known
+pub word_until : (b : ℕ) (rest : List ℕ) (n : ℕ) → is_blank_byte b ≡ false → position_or_len is_blank_byte rest ≡ n
+    → words_of_line (b ∷ rest) ≡ (b ∷ take n rest) ∷ words_of_line (drop n rest)
+word_until b rest n test at =
+    let parts = parts_of rest in
+    rw (← at, test, parts.split, parts.words) refl
+
 -- the bytes before the first byte of a word have no word
 abbrev pub start_of : List ℕ → ℕ
 start_of line = position_or_len is_word_byte line

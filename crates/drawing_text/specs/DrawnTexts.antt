@@ -1,6 +1,6 @@
 -- The lines of a text as they are drawn, before any is cut where lines meet, or the first fault of
 -- the lines. Lines of the text are numbered from 1.
-use Rattle.std.specs.Prelude.{ℕ, ◌+◌, List, [], ◌∷◌, Result, Ok, Err}
+use Rattle.std.specs.Prelude.{ℕ, ◌+◌, List, [], ◌∷◌, Result, Ok}
 use Rattle.design_model.specs.OutOfMemory.{IsSpecified}
 use Rattle.line_graph.specs.GrowingDrawings.{and_then, finished_drawing}
 use Rattle.drawing_text.specs.declared.draft.DrawingDraft.{DrawingDraft}
@@ -9,7 +9,6 @@ use Rattle.drawing_text.specs.declared.drawn_lines.DrawnLines.{DrawnLines}
 use Rattle.drawing_text.specs.declared.version.Version.{Version}
 use Rattle.drawing_text.specs.DrawingText.{at_line, body_of_text, draw_fault_is_out_of_memory}
 use Rattle.drawing_text.specs.TextLines.{draft_after_words, empty_draft}
-use Rattle.drawing_text.specs.Words.{words_by_line}
 
 -- The lines of a complete draft, or its fault, where the text ends before line `number`.
 abbrev pub lines_of_draft : Version → ℕ → DrawingDraft → Result DrawnLines DrawFault

@@ -12,3 +12,5 @@ pub mod DrawingText
 pub mod ValidTexts
 -- The lines of a text as they are drawn.
 pub mod DrawnTexts
+-- Used only inside this crate.
+pub mod CoordinateWords

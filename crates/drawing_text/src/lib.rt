@@ -2,6 +2,7 @@
 //! canonical text of a drawing.
 #![tactic(auto)]
 
+mod coordinate_words;
 mod draft;
 mod draw_fault;
 mod drawn_lines;

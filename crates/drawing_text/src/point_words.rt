@@ -5,6 +5,7 @@ ghost use Rattle.line_graph.specs.GrowingDrawings.{draw_is_out_of_memory};
 ghost use Rattle.drawing_text.specs.TextLines.{parsed_point, parsed_points};
 ghost use Rattle.drawing_text.specs.Words.{words_of_line};
 
+use crate::coordinate_words::next_coordinate;
 use crate::number_words::coordinate;
 use crate::text_words::{next_word, only_word};
 use design_model::{Point, Points};
@@ -33,12 +34,12 @@ pub fn points_of_words(alloc: Global, words: &[u8]) -> Result<Points, DrawKind>
 {
     let mut points = Points::new(alloc);
     let mut rest = words;
-    while let Some((x, after)) = next_word(rest) {
-        let across = coordinate(x)?;
-        let Some((y, more)) = next_word(after) else {
+    while let Some((x, after)) = next_coordinate(rest) {
+        let across = x?;
+        let Some((y, more)) = next_coordinate(after) else {
             return Err(DrawKind::FewPoints);
         };
-        let down = coordinate(y)?;
+        let down = y?;
         points.push(Point { x: across, y: down })?;
         rest = more;
     }

@@ -2,6 +2,8 @@ ghost use Rattle.std.specs.Prelude.{◌≡◌, ◌<◌, ◌≤◌, ◌∷◌, []
 ghost use Rattle.std.specs.List.{position_or_len};
 ghost use Rattle.drawing_text.specs.Words.{is_blank_byte, begins_comment, is_line_feed, is_word_byte, single_word, text_lines, line_without_return, words_of_line};
 
+use text_parts::line_length;
+
 /// Returns the first line of a text without its end, and the text after it.
 pub fn next_line(text: &[u8]) -> Option<(&[u8], &[u8])>
     ensures some { IfSome result (λ r. text_lines text.now ≡ r.0.now ∷ text_lines r.1.now) }
@@ -11,20 +13,8 @@ pub fn next_line(text: &[u8]) -> Option<(&[u8], &[u8])>
     if text.is_empty() {
         return None;
     }
-    let (line, after) = text.split_at(line_end(text));
+    let (line, after) = text.split_at(line_length(text));
     Some((line, after_first(after)))
-}
-
-fn line_end(text: &[u8]) -> usize
-    ensures value { result ≡ position_or_len is_line_feed text.now }
-    ensures within { result ≤ length text.now }
-{
-    for (index, byte) in text.iter().enumerate() {
-        if *byte == b'\n' {
-            return index;
-        }
-    }
-    text.len()
 }
 
 fn after_first(bytes: &[u8]) -> &[u8]
@@ -60,7 +50,8 @@ pub fn next_word(line: &[u8]) -> Option<(&[u8], &[u8])>
     Some((word, rest))
 }
 
-fn word_start(line: &[u8]) -> usize
+/// Returns the number of blanks at the beginning of a line.
+pub fn word_start(line: &[u8]) -> usize
     ensures value { result ≡ position_or_len is_word_byte line.now }
     ensures within { result ≤ length line.now }
 {
@@ -84,7 +75,8 @@ fn word_end(from: &[u8]) -> usize
     from.len()
 }
 
-fn is_blank(byte: u8) -> bool
+/// Returns whether a byte separates words.
+pub fn is_blank(byte: u8) -> bool
     ensures { result ≡ is_blank_byte byte }
 {
     byte == b' ' || byte == b'\t'

@@ -60,7 +60,9 @@ fn first_index(bytes: &[u8], mark: u8) -> usize
     bytes.len()
 }
 
-fn line_length(bytes: &[u8]) -> usize
+/// Returns the number of bytes before the first end of a line (10), or of all bytes if there is none.
+#[inline]
+pub fn line_length(bytes: &[u8]) -> usize
     ensures value { result ≡ position_or_len (λ b. b == 10) bytes.now }
     ensures within { result ≤ length bytes.now }
 {

@@ -7,4 +7,4 @@ pub returns-clause-some : goal.returns-clause-some
 returns-clause-some c =
     let some : c.args.text.now ≢ [] = λ none. absurd (grind (arith, nat_tests, ap length none)) in
     let first = some_line c.args.text.now some in
-    rw (c.after_first.ensures, c.split_at.ensures.back, c.split_at.ensures.front, c.line_end.ensures.value) first
+    rw (c.after_first.ensures, c.split_at.ensures.back, c.split_at.ensures.front, c.line_length.ensures.value) first

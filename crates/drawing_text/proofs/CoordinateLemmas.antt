@@ -1,0 +1,131 @@
+-- A coordinate whose digits are read in one pass.
+use Rattle.std.proofs.Common.{◌≡◌, ◌≢◌, ℕ, ℤ, zero, suc, ◌+◌, ◌*◌, ◌<◌, ◌≤◌, ◌==◌, Bool, true, false, List, [], ◌∷◌, Result, Ok, length, take, drop, get_or, sym, ◌∙◌, refl, arith, nat_le, unsigned_abs}
+use Rattle.std.proofs.lemmas.Bool.{and_parts}
+use Rattle.std.proofs.lemmas.Bool.Decides.{nat_tests}
+use Rattle.std.proofs.lemmas.Int.Digits.{digits_value_more}
+use Rattle.std.specs.Char.{digit_value, is_ascii_digit}
+use Rattle.std.specs.List.{position_or_len}
+use Rattle.std.specs.Str.{all_ascii_digits}
+use Rattle.std.specs.Str.Parse.{digits_value}
+use Rattle.design_model.specs.declared.point.TheConstants.{NEEDLE_LIMIT}
+use Rattle.design_model.specs.declared.whole_number.TheConstants.{MAX_WHOLE}
+use Rattle.design_model.specs.WholeNumbers.{is_digit_string, parsed_digits, signed_number}
+use Rattle.line_graph.specs.declared.draw_kind.DrawKind.{DrawKind}
+use Rattle.drawing_text.specs.CoordinateWords.{BeginsWithCoordinate, BeginsWithDigits, ends_word}
+use Rattle.drawing_text.specs.TextLines.{parsed_coordinate}
+use Rattle.drawing_text.specs.Words.{is_blank_byte, words_of_line}
+use Rattle.drawing_text.proofs.WordLemmas.{start_of, word_until, words_skipped}
+
+-- one digit more is a digit
+pub more_digits : (bs : List ℕ) (i : ℕ) → i < length bs → all_ascii_digits (take i bs) ≡ true → is_ascii_digit (get_or bs i 0) ≡ true
+    → all_ascii_digits (take (i + 1) bs) ≡ true
+more_digits [] i there so_far next = absurd (omega arith)
+more_digits (b ∷ bs) zero there so_far next = rw next refl
+more_digits (b ∷ bs) (suc i) there so_far next =
+    let parts = and_parts (is_ascii_digit b) (all_ascii_digits (take i bs)) so_far in
+    let more : suc i + 1 ≡ suc (i + 1) = omega arith in
+    rw (more, parts.0, more_digits bs i (omega arith) parts.1 next) refl
+
+-- and the number has it at its end
+pub longer_value : (bs : List ℕ) (i size longer : ℕ) → i < length bs → size ≡ digits_value 10 (take i bs)
+    → longer ≡ size * 10 + digit_value (get_or bs i 0) → longer ≡ digits_value 10 (take (i + 1) bs)
+longer_value bs i size longer there so_far next = rw (next, so_far, digits_value_more 10 bs i there) refl
+
+-- a digit is no blank
+digit_no_blank : (b : ℕ) → is_ascii_digit b ≡ true → is_blank_byte b ≡ false
+digit_no_blank b digit = grind (arith, nat_tests)
+
+-- and no minus sign
+digit_no_minus : (b : ℕ) → is_ascii_digit b ≡ true → (b == 45) ≡ false
+digit_no_minus b digit = grind (arith, nat_tests)
+
+-- the first blank is where the digits end
+blank_after : (count : ℕ) (bytes : List ℕ) → count ≤ length bytes → all_ascii_digits (take count bytes) ≡ true
+    → ends_word (drop count bytes) ≡ true → position_or_len is_blank_byte bytes ≡ count
+blank_after zero [] few digits ends = refl
+blank_after zero (b ∷ bytes) few digits ends = rw ends refl
+blank_after (suc count) [] few digits ends = absurd (omega arith)
+blank_after (suc count) (b ∷ bytes) few digits ends =
+    let parts = and_parts (is_ascii_digit b) (all_ascii_digits (take count bytes)) digits in
+    rw (digit_no_blank b parts.0, blank_after count bytes (omega arith) parts.1 ends) (omega arith)
+
+-- some digits are a numeral, and all of a numeral are digits
+pub digit_string : (count : ℕ) (bytes : List ℕ) → count ≢ 0 → count ≤ length bytes → all_ascii_digits (take count bytes) ≡ true
+    → is_digit_string (take count bytes) ≡ true
+digit_string zero bytes some few digits = absurd (some refl)
+digit_string (suc count) [] some few digits = absurd (omega arith)
+digit_string (suc count) (b ∷ bytes) some few digits = digits
+
+all_digits : (bytes : List ℕ) → is_digit_string bytes ≡ true → all_ascii_digits bytes ≡ true
+all_digits [] is = refl
+all_digits (b ∷ bytes) is = is
+
+-- digits alone are the first word of a line
+alone : (count : ℕ) (bytes : List ℕ) (n : ℤ) (rest : List ℕ) → count ≤ length bytes → is_digit_string (take count bytes) ≡ true
+    → rest ≡ drop count bytes → ends_word (drop count bytes) ≡ true
+    → parsed_coordinate (parsed_digits false (take count bytes)) ≡ Ok n → BeginsWithCoordinate bytes (Ok n) rest
+alone zero bytes n rest few digits left ends value = absurd cc
+alone (suc count) [] n rest few digits left ends value = absurd cc
+alone (suc count) (b ∷ bytes) n rest few digits left ends value =
+    let parts = and_parts (is_ascii_digit b) (all_ascii_digits (take count bytes)) digits in
+    let at = blank_after count bytes (omega arith) parts.1 ends in
+    record {
+      word = b ∷ take count bytes;
+      words = rw left (word_until b bytes count (digit_no_blank b parts.0) at);
+      value = rw (digit_no_minus b parts.0) (sym value);
+    }
+
+pub digits_alone : (bytes : List ℕ) (n : ℤ) (rest : List ℕ) → BeginsWithDigits false bytes n rest
+    → BeginsWithCoordinate bytes (Ok n) rest
+digits_alone bytes n rest is = alone is.count bytes n rest is.few is.digits is.left is.ends is.value
+
+-- and so are digits behind a minus sign
+pub digits_behind_minus : (line bytes : List ℕ) (n : ℤ) (rest : List ℕ) → line ≡ 45 ∷ bytes → BeginsWithDigits true bytes n rest
+    → BeginsWithCoordinate line (Ok n) rest
+digits_behind_minus line bytes n rest begins is =
+    let at = blank_after is.count bytes is.few (all_digits (take is.count bytes) is.digits) is.ends in
+    record {
+      word = 45 ∷ take is.count bytes;
+      words = rw (begins, is.left) (word_until 45 bytes is.count refl at);
+      value = sym is.value;
+    }
+
+-- the number of digits is the coordinate
+within_signed : (minus : Bool) (size : ℕ) → size ≤ NEEDLE_LIMIT → nat_le (unsigned_abs (signed_number minus size)) NEEDLE_LIMIT ≡ true
+within_signed true zero within = refl
+within_signed true (suc size) within = grind (arith, nat_tests)
+within_signed false size within = grind (arith, nat_tests)
+
+coordinate_of : (minus : Bool) (bytes : List ℕ) (size : ℕ) → is_digit_string bytes ≡ true → size ≡ digits_value 10 bytes
+    → size ≤ NEEDLE_LIMIT → parsed_coordinate (parsed_digits minus bytes) ≡ Ok (signed_number minus size)
+coordinate_of minus bytes size digits value within =
+    let whole : nat_le size MAX_WHOLE ≡ true = grind (arith, nat_tests) in
+    rw (digits, ← value, whole, within_signed minus size within) refl
+
+pub begins_with_digits : (minus : Bool) (bytes : List ℕ) (count size : ℕ) (n : ℤ) (rest : List ℕ) → count ≢ 0
+    → count ≤ length bytes → all_ascii_digits (take count bytes) ≡ true → size ≡ digits_value 10 (take count bytes)
+    → size ≤ NEEDLE_LIMIT → rest ≡ drop count bytes → ends_word rest ≡ true → n ≡ signed_number minus size
+    → BeginsWithDigits minus bytes n rest
+begins_with_digits minus bytes count size n rest some few digits value within left ends is =
+    let string = digit_string count bytes some few digits in
+    record {
+      count = count;
+      few = few;
+      digits = string;
+      left = left;
+      ends = rw (← left) ends;
+      value = rw is (coordinate_of minus (take count bytes) size string value within);
+    }
+
+-- blanks before the first word change nothing
+pub skipped : (line from : List ℕ) (start : ℕ) (answer : Result ℤ DrawKind) (rest : List ℕ) → start ≡ start_of line
+    → from ≡ drop start line → BeginsWithCoordinate from answer rest → BeginsWithCoordinate line answer rest
+skipped line from start answer rest starts are is = record {
+  word = is.word;
+  words = words_skipped line ∙ (rw (← starts, ← are) is.words);
+  value = is.value;
+}
+
+pub none_skipped : (line from : List ℕ) (start : ℕ) → start ≡ start_of line → from ≡ drop start line → words_of_line from ≡ []
+    → words_of_line line ≡ []
+none_skipped line from start starts are none = words_skipped line ∙ (rw (← starts, ← are) none)

@@ -1,0 +1,136 @@
+ghost use Rattle.std.specs.Prelude.{◌≡◌, ◌+◌, ◌*◌, ◌<◌, ◌≤◌, Ok, true, [], ◌∷◌, drop, length, take, unsigned_abs, IfNone, IfOk, IfSome};
+ghost use Rattle.std.specs.Char.{digit_value, is_ascii_digit};
+ghost use Rattle.std.specs.Str.{all_ascii_digits};
+ghost use Rattle.std.specs.Str.Parse.{digits_value};
+ghost use Rattle.design_model.specs.declared.point.TheConstants.{NEEDLE_LIMIT as needle_limit};
+ghost use Rattle.design_model.specs.WholeNumbers.{signed_number};
+ghost use Rattle.drawing_text.specs.CoordinateWords.{BeginsWithCoordinate, BeginsWithDigits, ends_word};
+ghost use Rattle.drawing_text.specs.Words.{words_of_line};
+
+use crate::number_words::coordinate;
+use crate::text_words::{is_blank, next_word, word_start};
+use design_model::NEEDLE_LIMIT;
+use line_graph::DrawKind;
+
+/// Returns the coordinate that the first word of a line denotes, or its fault, and the line after the word.
+/// A short word is read in one pass over its bytes.
+#[tactic(auto, using(crate::proofs::CoordinateLemmas::skipped, crate::proofs::CoordinateLemmas::none_skipped))]
+pub fn next_coordinate(line: &[u8]) -> Option<(Result<i32, DrawKind>, &[u8])>
+    ensures some { IfSome result (λ r. BeginsWithCoordinate line.now r.0 r.1.now) }
+    ensures within { IfSome result (λ r. IfOk r.0 (λ n. unsigned_abs n ≤ needle_limit)) }
+    ensures shorter { IfSome result (λ r. length r.1.now < length line.now) }
+    ensures none { IfNone result (words_of_line line.now ≡ []) }
+{
+    let (_, from) = line.split_at(word_start(line));
+    first_coordinate(from)
+}
+
+/// Returns the same for a line that has no blank first.
+fn first_coordinate(from: &[u8]) -> Option<(Result<i32, DrawKind>, &[u8])>
+    ensures some { IfSome result (λ r. BeginsWithCoordinate from.now r.0 r.1.now) }
+    ensures within { IfSome result (λ r. IfOk r.0 (λ n. unsigned_abs n ≤ needle_limit)) }
+    ensures shorter { IfSome result (λ r. length r.1.now < length from.now) }
+    ensures none { IfNone result (words_of_line from.now ≡ []) }
+{
+    if let Some((n, rest)) = short_coordinate(from) {
+        return Some((found(n), rest));
+    }
+    long_coordinate(from)
+}
+
+fn found(n: i32) -> Result<i32, DrawKind>
+    ensures { result ≡ Ok n }
+{
+    Ok(n)
+}
+
+/// Returns the same by way of the word.
+fn long_coordinate(from: &[u8]) -> Option<(Result<i32, DrawKind>, &[u8])>
+    ensures some { IfSome result (λ r. BeginsWithCoordinate from.now r.0 r.1.now) }
+    ensures within { IfSome result (λ r. IfOk r.0 (λ n. unsigned_abs n ≤ needle_limit)) }
+    ensures shorter { IfSome result (λ r. length r.1.now < length from.now) }
+    ensures none { IfNone result (words_of_line from.now ≡ []) }
+{
+    let (word, rest) = next_word(from)?;
+    Some((coordinate(word), rest))
+}
+
+#[tactic(auto, using(crate::proofs::CoordinateLemmas::digits_alone, crate::proofs::CoordinateLemmas::digits_behind_minus))]
+/// Returns the coordinate of at most five digits at the beginning of a line, which may have a minus sign
+/// before them, and the line after them.
+fn short_coordinate(from: &[u8]) -> Option<(i32, &[u8])>
+    ensures some { IfSome result (λ r. BeginsWithCoordinate from.now (Ok r.0) r.1.now) }
+    ensures within { IfSome result (λ r. unsigned_abs r.0 ≤ needle_limit) }
+    ensures shorter { IfSome result (λ r. length r.1.now < length from.now) }
+{
+    match after_minus(from) {
+        Some(digits) => short_number(true, digits),
+        None => short_number(false, from),
+    }
+}
+
+/// Returns the bytes after a minus sign at the beginning of a line, if there is one.
+fn after_minus(from: &[u8]) -> Option<&[u8]>
+    ensures { IfSome result (λ digits. from.now ≡ 45 ∷ digits.now) }
+{
+    match from {
+        [first, digits @ ..] if *first == b'-' => Some(digits),
+        _ => None,
+    }
+}
+
+#[tactic(auto, using(crate::proofs::CoordinateLemmas::begins_with_digits))]
+fn short_number(minus: bool, bytes: &[u8]) -> Option<(i32, &[u8])>
+    ensures some { IfSome result (λ r. BeginsWithDigits minus bytes.now r.0 r.1.now) }
+    ensures within { IfSome result (λ r. unsigned_abs r.0 ≤ needle_limit) }
+    ensures shorter { IfSome result (λ r. length r.1.now < length bytes.now) }
+{
+    let (count, size) = first_digits(bytes);
+    let (_, rest) = bytes.split_at(count);
+    if count == 0 || size > NEEDLE_LIMIT || !is_word_end(rest) {
+        return None;
+    }
+    Some((signed(minus, size), rest))
+}
+
+/// Returns the number of digits at the beginning of some bytes, at most five, and the number that they write.
+fn first_digits(bytes: &[u8]) -> (usize, u32)
+    ensures within { result.0 ≤ length bytes.now }
+    ensures digits { all_ascii_digits (take result.0 bytes.now) ≡ true }
+    ensures value { result.1 ≡ digits_value 10 (take result.0 bytes.now) }
+{
+    let mut size = 0;
+    for (index, byte) in bytes.iter().enumerate() {
+        if !byte.is_ascii_digit() || size > 9_999 {
+            return (index, size);
+        }
+        size = with_digit(size, *byte);
+    }
+    (bytes.len(), size)
+}
+
+/// Returns the number with one more digit at its end.
+fn with_digit(size: u32, digit: u8) -> u32
+    requires digit { is_ascii_digit digit ≡ true }
+    requires size { size ≤ 9999 }
+    ensures value { result ≡ size * 10 + digit_value digit }
+    ensures few { result ≤ 99999 }
+{
+    size * 10 + (digit - b'0') as u32
+}
+
+fn is_word_end(rest: &[u8]) -> bool
+    ensures { result ≡ ends_word rest.now }
+{
+    match rest {
+        [first, ..] => is_blank(*first),
+        [] => true,
+    }
+}
+
+fn signed(minus: bool, size: u32) -> i32
+    requires { size ≤ needle_limit }
+    ensures { result ≡ signed_number minus size }
+{
+    if minus { -(size as i32) } else { size as i32 }
+}
