@@ -1,4 +1,4 @@
--- Motions as values. No public clause refers to this file.
+-- Motions as values: shifts, turns and mirrorings, as maps over points.
 use Rattle.std.specs.Prelude.{Bool, true, ◌&&◌, nat_le, unsigned_abs}
 use Rattle.design_model.specs.declared.point.Point.{Point}
 use Rattle.design_edits.specs.declared.motion.Motion.{Motion}

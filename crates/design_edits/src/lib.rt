@@ -14,5 +14,5 @@ pub use edit_fault::EditFault;
 pub use inverses::{
     an_opposite_shift_restores, four_quarter_turns_restore, two_mirrorings_restore,
 };
-pub use motion::MAX_SHIFT;
+pub use motion::{MAX_SHIFT, Motion};
 pub use moving::{mirror, shift, turn};
