@@ -1,0 +1,4 @@
+pub mod ExtentLemmas
+pub mod SpotLemmas
+pub mod StillLemmas
+mod EditFacts

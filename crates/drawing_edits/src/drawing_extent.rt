@@ -1,0 +1,118 @@
+ghost use Rattle.std.specs.Prelude.{◌≡◌, ◌≤◌, ◌∷◌, [], All, IfSome, IsTrue, Some, neg_ℤ, pos, unsigned_abs, ◌+ℤ◌};
+ghost use Rattle.std.specs.Int.{int_div_euclid, int_min, int_max};
+ghost use Rattle.design_edits.specs.Motions.{is_small_motion, motion_map};
+ghost use Rattle.design_edits.specs.Moves.{shift_point};
+ghost use Rattle.design_model.specs.declared.point.TheConstants.{NEEDLE_LIMIT};
+ghost use Rattle.design_model.specs.Extents.{extent_of_points, grown_optional_extent};
+ghost use Rattle.drawing_edits.specs.MovedDrawings.{IsNeedleExtent, middle_of, middle_of_drawing, points_along};
+ghost use Rattle.step_splitter.specs.Chains.{IsNeedlePoint};
+
+use design_edits::Motion;
+use design_model::{Extent, Point};
+use line_graph::Drawing;
+
+/// Returns the shift that brings the middle of a drawing's points to the origin.
+pub fn centring(d: &Drawing) -> Motion
+    ensures value { motion_map result ≡ shift_point (neg_ℤ (middle_of_drawing d.now).x)
+        (neg_ℤ (middle_of_drawing d.now).y) }
+    ensures small { IsTrue (is_small_motion result) }
+{
+    let middle = middle(extent(d));
+    Motion::Shift {
+        dx: negated(middle.x),
+        dy: negated(middle.y),
+    }
+}
+
+fn negated(number: i32) -> i32
+    requires { unsigned_abs number ≤ NEEDLE_LIMIT }
+    ensures value { result ≡ neg_ℤ number }
+    ensures small { unsigned_abs result ≤ NEEDLE_LIMIT }
+{
+    -number
+}
+
+fn middle(extent: Option<Extent>) -> Point
+    requires { IfSome extent IsNeedleExtent }
+    ensures value { result ≡ middle_of extent }
+    ensures x { unsigned_abs result.x ≤ NEEDLE_LIMIT }
+    ensures y { unsigned_abs result.y ≤ NEEDLE_LIMIT }
+{
+    match extent {
+        Some(Extent { min, max }) => Point {
+            x: halfway(min.x, max.x),
+            y: halfway(min.y, max.y),
+        },
+        None => Point { x: 0, y: 0 },
+    }
+}
+
+fn halfway(low: i32, high: i32) -> i32
+    requires low { unsigned_abs low ≤ NEEDLE_LIMIT }
+    requires high { unsigned_abs high ≤ NEEDLE_LIMIT }
+    ensures value { result ≡ int_div_euclid (low +ℤ high) (pos 2) }
+    ensures small { unsigned_abs result ≤ NEEDLE_LIMIT }
+{
+    (low + high).div_euclid(2)
+}
+
+/// Returns the extent of a drawing's points, in tenths of a millimetre.
+fn extent(d: &Drawing) -> Option<Extent>
+    ensures value { result ≡ extent_of_points (points_along d.now.lines) }
+    ensures within { IfSome result IsNeedleExtent }
+{
+    d.keeps_limits();
+    let mut extent = None;
+    for line in d.lines() {
+        extent = extent_over(extent, line.points());
+    }
+    extent
+}
+
+fn extent_over(extent: Option<Extent>, points: &[Point]) -> Option<Extent>
+    requires extent { IfSome extent IsNeedleExtent }
+    requires points { All IsNeedlePoint points.now }
+    ensures value { result ≡ grown_optional_extent extent points.now }
+    ensures within { IfSome result IsNeedleExtent }
+{
+    let mut over = extent;
+    let mut rest = points;
+    while let [point, after @ ..] = rest {
+        over = Some(extent_with(over, *point));
+        rest = after;
+    }
+    over
+}
+
+fn extent_with(extent: Option<Extent>, at: Point) -> Extent
+    requires extent { IfSome extent IsNeedleExtent }
+    requires at { IsNeedlePoint at }
+    ensures value { grown_optional_extent extent (at ∷ []) ≡ Some result }
+    ensures within { IsNeedleExtent result }
+{
+    match extent {
+        Some(before) => Extent {
+            min: least_corner(before.min, at),
+            max: greatest_corner(before.max, at),
+        },
+        None => Extent { min: at, max: at },
+    }
+}
+
+fn least_corner(corner: Point, at: Point) -> Point
+    ensures { result ≡ record { x = int_min corner.x at.x; y = int_min corner.y at.y } }
+{
+    Point {
+        x: corner.x.min(at.x),
+        y: corner.y.min(at.y),
+    }
+}
+
+fn greatest_corner(corner: Point, at: Point) -> Point
+    ensures { result ≡ record { x = int_max corner.x at.x; y = int_max corner.y at.y } }
+{
+    Point {
+        x: corner.x.max(at.x),
+        y: corner.y.max(at.y),
+    }
+}

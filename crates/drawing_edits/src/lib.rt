@@ -1,0 +1,9 @@
+//! Edits of a drawing: shifts, turns, mirrorings, centring, and another longest step.
+#![tactic(auto)]
+
+mod drawing_edit;
+mod drawing_extent;
+mod moved_points;
+mod redrawing;
+
+pub use drawing_edit::{DrawingEdit, edit_drawing};
