@@ -6,6 +6,7 @@ pub use Rattle.line_graph.specs.JoinedDrawings
 pub use Rattle.line_graph.specs.WalkEnds
 pub mod Words
 pub mod CanonicalTexts
+pub mod EndTexts
 pub mod TextLines
 -- Read this one first: the drawing that a text describes, or its first fault.
 pub mod DrawingText

@@ -47,7 +47,7 @@ fn spelled(alloc: Global, version: Version, d: &Drawing) -> Result<Bytes, Memory
     Ok(text)
 }
 
-fn put_header(text: &mut Bytes, version: Version) -> Result<(), Memory>
+pub(crate) fn put_header(text: &mut Bytes, version: Version) -> Result<(), Memory>
     ensures { OnOk result (text.new ≡ text.old ++ (header_text version ++ 10 ∷ [])) }
 {
     let header: &[u8] = match version {
@@ -59,7 +59,7 @@ fn put_header(text: &mut Bytes, version: Version) -> Result<(), Memory>
     Ok(())
 }
 
-fn put_label(text: &mut Bytes, label: &[u8]) -> Result<(), Memory>
+pub(crate) fn put_label(text: &mut Bytes, label: &[u8]) -> Result<(), Memory>
     ensures { OnOk result (text.new ≡ text.old ++ label_text label.now) }
 {
     if label.is_empty() {
@@ -71,7 +71,12 @@ fn put_label(text: &mut Bytes, label: &[u8]) -> Result<(), Memory>
     Ok(())
 }
 
-fn put_number(alloc: Global, text: &mut Bytes, word: &[u8], number: u32) -> Result<(), Memory>
+pub(crate) fn put_number(
+    alloc: Global,
+    text: &mut Bytes,
+    word: &[u8],
+    number: u32,
+) -> Result<(), Memory>
     ensures { OnOk result (text.new ≡ text.old ++ number_line_text word.now number) }
 {
     let numeral = number.to_string(alloc)?;
@@ -96,7 +101,12 @@ fn put_blocks(alloc: Global, text: &mut Bytes, threads: &[u8], lines: &[Line]) -
     Ok(())
 }
 
-fn put_lines_of(alloc: Global, text: &mut Bytes, block: u32, lines: &[Line]) -> Result<(), Memory>
+pub(crate) fn put_lines_of(
+    alloc: Global,
+    text: &mut Bytes,
+    block: u32,
+    lines: &[Line],
+) -> Result<(), Memory>
     ensures { OnOk result (text.new ≡ text.old ++ flat_map line_text (lines_of_block block lines.now)) }
 {
     let mut rest = lines;
@@ -129,7 +139,7 @@ fn put_points(alloc: Global, text: &mut Bytes, points: &[Point]) -> Result<(), M
     Ok(())
 }
 
-fn put_point(alloc: Global, text: &mut Bytes, p: Point) -> Result<(), Memory>
+pub(crate) fn put_point(alloc: Global, text: &mut Bytes, p: Point) -> Result<(), Memory>
     ensures { OnOk result (text.new ≡ text.old ++ spaced_point_text p) }
 {
     let across = p.x.to_string(alloc)?;

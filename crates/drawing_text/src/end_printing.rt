@@ -1,0 +1,78 @@
+ghost use Rattle.std.specs.Prelude.{◌≡◌, ◌++◌, ◌≤◌, IfOk, OnOk, codes, length};
+ghost use Rattle.drawing_text.specs.CanonicalTexts.{block_text};
+ghost use Rattle.drawing_text.specs.EndTexts.{block_text3, blocks_text3, canonical_text3, end_line_text, end_lines_text};
+
+use crate::printing::{put_header, put_label, put_lines_of, put_number, put_point};
+use crate::version::Version;
+use design_model::{Bytes, Memory};
+use line_graph::{Drawing, Spot};
+use std::alloc::Global;
+
+/// Returns the canonical text of a drawing in version 3, which names its starts and ends.
+pub fn print_drawing3(alloc: Global, d: &Drawing) -> Result<Bytes, Memory>
+    ensures { IfOk result (λ text. text ≡ canonical_text3 d.now) }
+{
+    let mut text = Bytes::new(alloc);
+    put_header(&mut text, Version::Three)?;
+    put_label(&mut text, d.label())?;
+    put_number(alloc, &mut text, b"step ", d.step())?;
+    put_blocks3(alloc, &mut text, d)?;
+    Ok(text)
+}
+
+fn put_blocks3(alloc: Global, text: &mut Bytes, d: &Drawing) -> Result<(), Memory>
+    ensures { OnOk result (text.new ≡ text.old ++ blocks_text3 0 d.now.threads d.now) }
+{
+    let mut block: u32 = 0;
+    let mut rest = d.threads();
+    while let [thread, after @ ..] = rest {
+        put_block3(alloc, text, block, *thread, d)?;
+        block += 1;
+        rest = after;
+    }
+    Ok(())
+}
+
+fn put_block3(
+    alloc: Global,
+    text: &mut Bytes,
+    block: u32,
+    thread: u8,
+    d: &Drawing,
+) -> Result<(), Memory>
+    ensures { OnOk result (text.new ≡ text.old ++ block_text3 block thread d.now) }
+{
+    put_number(alloc, text, b"color ", thread as u32)?;
+    put_lines_of(alloc, text, block, d.lines())?;
+    put_ends_of(alloc, text, b"start", block, d.starts())?;
+    put_ends_of(alloc, text, b"end", block, d.ends())?;
+    Ok(())
+}
+
+fn put_ends_of(
+    alloc: Global,
+    text: &mut Bytes,
+    word: &[u8],
+    block: u32,
+    spots: &[Spot],
+) -> Result<(), Memory>
+    ensures { OnOk result (text.new ≡ text.old ++ end_lines_text word.now block spots.now) }
+{
+    let mut rest = spots;
+    while let [spot, after @ ..] = rest {
+        if spot.block == block {
+            put_end(alloc, text, word, spot)?;
+        }
+        rest = after;
+    }
+    Ok(())
+}
+
+fn put_end(alloc: Global, text: &mut Bytes, word: &[u8], spot: &Spot) -> Result<(), Memory>
+    ensures { OnOk result (text.new ≡ text.old ++ end_line_text word.now spot.now) }
+{
+    text.append(word)?;
+    put_point(alloc, text, spot.at)?;
+    text.push(b'\n')?;
+    Ok(())
+}
