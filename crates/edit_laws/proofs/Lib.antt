@@ -1,0 +1,5 @@
+pub mod MovedLines
+pub mod MovedWalks
+pub mod MovedPieces
+pub mod MovedActs
+pub mod ShiftLemmas
