@@ -13,5 +13,8 @@ mod region;
 mod segment;
 mod sides;
 
+pub use grid_point::{GridPoint, counted_from_least};
 pub use place::{Place, PlaceKind, Places};
 pub use places::review;
+pub use segment::{LineSegment, Position, segment_at};
+pub use sides::comes_near;

@@ -2,7 +2,7 @@ ghost use Rattle.std.specs.Prelude.{◌≡◌, ◌++◌, IfOk, OnOk, true, lengt
 ghost use Rattle.line_sections.specs.Sections.{has_points};
 ghost use Rattle.drawing_review.specs.Segments.{segments_of_line, segments_of_lines, segments_on};
 
-use crate::segment::{LineSegment, Position, segment};
+use crate::segment::{LineSegment, Position, segment_at};
 use design_model::{Memory, Point};
 use line_sections::{Line, first_point};
 use std::alloc::Global;
@@ -54,7 +54,7 @@ fn put_points(
             is_first,
             is_last: !has_more(after),
         };
-        segments.push(segment(at, from, *to))?;
+        segments.push(segment_at(at, from, *to))?;
         is_first = false;
         from = *to;
         rest = after;

@@ -33,7 +33,7 @@ pub struct Position {
 }
 
 /// Returns the segment between two points.
-pub fn segment(at: Position, from: Point, to: Point) -> LineSegment
+pub fn segment_at(at: Position, from: Point, to: Point) -> LineSegment
     ensures { result ≡ drawn_segment at from to }
 {
     let a = counted_from_least(from);

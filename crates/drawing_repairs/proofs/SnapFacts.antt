@@ -1,0 +1,98 @@
+-- Worked values of snapped lines: small drawings, in tenths of a millimetre.
+use Rattle.std.proofs.Common.{◌≡◌, ℕ, pos, negsuc, List, [], ◌∷◌, ◌++◌, Option, Some, None, Result, Ok, Err, refl}
+use Rattle.design_model.specs.declared.point.Point.{Point}
+use Rattle.line_sections.specs.Lines.{LineValue}
+use Rattle.line_sections.specs.Sections.{lines_through}
+use Rattle.line_graph.specs.declared.draw_kind.DrawKind.TheVariants as kind
+use Rattle.line_graph.specs.Drawings.{DrawingValue}
+use Rattle.drawing_repairs.specs.declared.snap_fault.SnapFault.{SnapFault}
+use Rattle.drawing_repairs.specs.declared.snap_fault.SnapFault.TheVariants as fault
+use Rattle.drawing_repairs.specs.Anchors.{anchored, anchors_of, distance_between}
+use Rattle.drawing_repairs.specs.Listings.{due_end, segment_between, with_due_ends}
+use Rattle.drawing_repairs.specs.MovedLines.{moved_points, unrepeated}
+use Rattle.drawing_repairs.specs.RemadeDrawings.{remade_drawing}
+use Rattle.drawing_repairs.specs.Snaps.{snapped_drawing, snapped_lines}
+
+abbrev at : ℕ → ℕ → Point
+at x y = record { x = pos x; y = pos y }
+
+abbrev Snaps : ℕ → List LineValue → List LineValue → Type 0
+Snaps gap lines result = snapped_lines gap lines ≡ Ok result
+
+-- the larger axis, across 0
+pub known_distances : (distance_between (at 1 4) (at 6 2) ≡ 5) × (distance_between (at 1 9) (at 6 2) ≡ 7)
+    × (distance_between (record { x = negsuc 2; y = pos 0 }) (at 4 6) ≡ 7)
+known_distances = (refl, refl, refl)
+
+-- the first point is an anchor, and a later one where none is within the gap
+pub known_anchors : (anchors_of 3 (at 0 0 ∷ at 3 2 ∷ at 6 0 ∷ at 0 4 ∷ []) ≡ at 0 0 ∷ at 6 0 ∷ at 0 4 ∷ [])
+    × (anchors_of 0 (at 5 5 ∷ at 5 6 ∷ at 5 5 ∷ []) ≡ at 5 5 ∷ at 5 6 ∷ [])
+known_anchors = (refl, refl)
+
+-- the nearest anchor, the earlier of two as near, and none
+pub known_nearest : (anchored 4 (at 0 0 ∷ at 5 0 ∷ []) (at 3 0) ≡ at 5 0) × (anchored 4 (at 0 0 ∷ at 4 0 ∷ []) (at 2 1) ≡ at 0 0)
+    × (anchored 1 (at 0 0 ∷ at 4 0 ∷ []) (at 2 1) ≡ at 2 1)
+known_nearest = (refl, refl, refl)
+
+pub known_unrepeated : unrepeated (at 1 1 ∷ at 1 1 ∷ at 2 1 ∷ at 1 1 ∷ at 1 1 ∷ []) ≡ at 1 1 ∷ at 2 1 ∷ at 1 1 ∷ []
+known_unrepeated = refl
+
+-- two ends 3 apart, with a gap of 2 and of 3
+abbrev apart : List LineValue
+apart = lines_through 0 ((at 0 0 ∷ at 20 0 ∷ []) ∷ (at 23 1 ∷ at 40 20 ∷ []) ∷ [])
+
+pub known_apart : Snaps 2 apart apart
+unfolding moved_points
+known_apart = refl
+
+pub known_met : Snaps 3 apart (lines_through 0 ((at 0 0 ∷ at 20 0 ∷ []) ∷ (at 20 0 ∷ at 40 20 ∷ []) ∷ []))
+unfolding moved_points
+known_met = refl
+
+-- an end 1 above a segment is listed there with a gap of 1, and not with 0
+abbrev near_tee : List LineValue
+near_tee = lines_through 0 ((at 0 0 ∷ at 40 0 ∷ []) ∷ (at 20 30 ∷ at 20 1 ∷ []) ∷ [])
+
+pub known_near_tee : Snaps 0 near_tee near_tee
+unfolding moved_points
+known_near_tee = refl
+
+pub known_tee : Snaps 1 near_tee (lines_through 0 ((at 0 0 ∷ at 20 1 ∷ at 40 0 ∷ []) ∷ (at 20 30 ∷ at 20 1 ∷ []) ∷ []))
+unfolding moved_points
+known_tee = refl
+
+-- an end on a segment is listed with a gap of 0
+pub known_exact : Snaps 0 (lines_through 0 ((at 0 0 ∷ at 40 20 ∷ []) ∷ (at 20 40 ∷ at 20 10 ∷ []) ∷ []))
+    (lines_through 0 ((at 0 0 ∷ at 20 10 ∷ at 40 20 ∷ []) ∷ (at 20 40 ∷ at 20 10 ∷ []) ∷ []))
+unfolding moved_points
+known_exact = refl
+
+-- two ends in one segment, each where it then belongs
+pub known_two : with_due_ends 1 (at 30 1 ∷ at 10 0 ∷ []) (at 0 0 ∷ at 40 0 ∷ []) ≡ at 0 0 ∷ at 10 0 ∷ at 30 1 ∷ at 40 0 ∷ []
+known_two = refl
+
+-- blocks don't meet
+pub known_blocks : Snaps 3 (lines_through 0 ((at 0 0 ∷ at 20 0 ∷ []) ∷ []) ++ lines_through 1 ((at 23 1 ∷ at 10 1 ∷ []) ∷ []))
+    (lines_through 0 ((at 0 0 ∷ at 20 0 ∷ []) ∷ []) ++ lines_through 1 ((at 23 1 ∷ at 10 1 ∷ []) ∷ []))
+unfolding moved_points
+known_blocks = refl
+
+-- a line whose points become one
+pub known_vanished : snapped_lines 2 (lines_through 3 ((at 9 9 ∷ at 50 9 ∷ []) ∷ (at 20 20 ∷ at 22 21 ∷ []) ∷ []))
+    ≡ Err (fault.Vanished (record { block = 3; line = 1 }))
+unfolding moved_points
+known_vanished = refl
+
+-- a drawing keeps its label, its step and its threads, and is joined
+abbrev drawn : List LineValue → DrawingValue
+drawn lines = record { label = 65 ∷ []; step = 25; threads = 7 ∷ 9 ∷ []; lines = lines; starts = []; ends = [] }
+
+pub known_drawing : snapped_drawing 1 (drawn (near_tee ++ lines_through 1 ((at 0 0 ∷ at 0 9 ∷ []) ∷ [])))
+    ≡ Ok (drawn (lines_through 0 ((at 0 0 ∷ at 20 1 ∷ []) ∷ (at 20 1 ∷ at 40 0 ∷ []) ∷ (at 20 30 ∷ at 20 1 ∷ []) ∷ [])
+    ++ lines_through 1 ((at 0 0 ∷ at 0 9 ∷ []) ∷ [])))
+unfolding moved_points
+known_drawing = refl
+
+-- a block without a line
+pub known_empty : remade_drawing (drawn []) near_tee ≡ Err kind.EmptyBlock
+known_empty = refl

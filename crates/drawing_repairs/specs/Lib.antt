@@ -1,0 +1,6 @@
+pub mod Anchors
+pub mod MovedLines
+pub mod Listings
+pub mod RemadeDrawings
+-- Read this one first: a snapped drawing.
+pub mod Snaps

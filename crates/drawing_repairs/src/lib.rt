@@ -1,0 +1,14 @@
+//! Repairs of drawings: points that nearly meet become one, and lines list the ends that nearly touch them.
+#![tactic(auto)]
+
+mod anchors;
+mod listing;
+mod moving;
+mod remaking;
+mod snap_fault;
+mod snapping;
+mod vanished;
+
+pub use snap_fault::SnapFault;
+pub use snapping::snapped;
+pub use vanished::VanishedLine;

@@ -1,0 +1,281 @@
+ghost use Rattle.std.specs.Prelude.{◌≡◌, ◌++◌, ◌∷◌, [], IfOk, OnOk, Some, None};
+ghost use Rattle.std.specs.List.{list_any};
+ghost use Rattle.design_model.specs.Points.{is_same_point};
+ghost use Rattle.step_splitter.specs.Chains.{last_point_or};
+ghost use Rattle.line_graph.specs.Pieces.{endpoints};
+ghost use Rattle.drawing_repairs.specs.Listings.{block_ends, due_end, followed_by, followed_on, followed_points, is_due, listed_line, listed_lines, segment_between, unfollowed_line, with_due_ends};
+
+use design_model::{Memory, Point, Points};
+use drawing_review::{LineSegment, Position, comes_near, counted_from_least, segment_at};
+use line_sections::{Line, first_point};
+use std::alloc::Global;
+use std::collections::VecDeque;
+use std::marker::Model;
+
+/// Returns the lines of a drawing with the ends of their blocks that are due in them. `gap` is in tenths of a
+/// millimetre.
+pub fn listed(alloc: Global, gap: u16, lines: &[Line]) -> Result<Vec<Line>, Memory>
+    ensures { IfOk result (λ listed. listed.items ≡ listed_lines gap lines.now) }
+{
+    let mut listed = Vec::new(alloc);
+    let mut block = 0;
+    let mut ends = ends_in(alloc, lines, block)?;
+    let mut rest = lines;
+    while let [line, after @ ..] = rest {
+        ends = ends_for(alloc, lines, line.block(), block, ends)?;
+        block = line.block();
+        put_listed(alloc, gap, lines, &ends, line, &mut listed)?;
+        rest = after;
+    }
+    Ok(listed)
+}
+
+/// Returns the ends of the lines of a block, where those of the block `known` are given.
+fn ends_for(
+    alloc: Global,
+    lines: &[Line],
+    block: u32,
+    known: u32,
+    ends: Points,
+) -> Result<Points, Memory>
+    requires { ends ≡ block_ends lines.now known }
+    ensures { IfOk result (λ ends. ends ≡ block_ends lines.now block) }
+{
+    if block == known {
+        return Ok(ends);
+    }
+    let ends = ends_in(alloc, lines, block)?;
+    Ok(ends)
+}
+
+/// Returns the ends of the lines of a block.
+fn ends_in(alloc: Global, lines: &[Line], block: u32) -> Result<Points, Memory>
+    ensures { IfOk result (λ ends. ends ≡ block_ends lines.now block) }
+{
+    let mut ends = Points::new(alloc);
+    let mut rest = lines;
+    while let [line, after @ ..] = rest {
+        put_ends_if_in(&mut ends, line, block)?;
+        rest = after;
+    }
+    Ok(ends)
+}
+
+fn put_ends_if_in(ends: &mut Points, line: &Line, block: u32) -> Result<(), Memory>
+    ensures { OnOk result (ends.new ≡ ends.old ++ block_ends (line.now ∷ []) block) }
+{
+    if line.block() != block {
+        return Ok(());
+    }
+    put_ends(ends, line.points())?;
+    Ok(())
+}
+
+fn put_ends(ends: &mut Points, points: &[Point]) -> Result<(), Memory>
+    ensures { OnOk result (ends.new ≡ ends.old ++ endpoints points.now) }
+{
+    let Some((first, after)) = first_point(points) else {
+        return Ok(());
+    };
+    ends.push(first)?;
+    ends.push(last_or(first, after))?;
+    Ok(())
+}
+
+fn last_or(first: Point, points: &[Point]) -> Point
+    ensures { result ≡ last_point_or first points.now }
+{
+    let mut last = first;
+    let mut rest = points;
+    while let [p, after @ ..] = rest {
+        last = *p;
+        rest = after;
+    }
+    last
+}
+
+/// Adds a line with the ends that are due in it. Both `lines`, all of the drawing, and `ends` are given.
+fn put_listed(
+    alloc: Global,
+    gap: u16,
+    lines: &[Line],
+    ends: &Points,
+    line: &Line,
+    listed: &mut Vec<Line>,
+) -> Result<(), Memory>
+    requires { ends.now ≡ block_ends lines.now line.now.block }
+    ensures { OnOk result
+        (listed.new.items ≡ listed.old.items ++ listed_line gap lines.now line.now ∷ []) }
+{
+    let points = with_due(alloc, gap, ends.as_slice(), line.points())?;
+    listed.push(Line::new(line.block(), points))?;
+    Ok(())
+}
+
+/// Returns the points of a line with those of the ends that are due in it.
+fn with_due(alloc: Global, gap: u16, ends: &[Point], points: &[Point]) -> Result<Points, Memory>
+    ensures { IfOk result (λ listed. listed ≡ with_due_ends gap ends.now points.now) }
+{
+    let Some((first, after)) = first_point(points) else {
+        return Ok(Points::new(alloc));
+    };
+    let mut line = Followed::new(alloc, first, after)?;
+    let mut steps = after.len() + 2 * ends.len();
+    while steps > 0 {
+        line.go_on(gap, ends)?;
+        steps -= 1;
+    }
+    line.finish()
+}
+
+/// A line that is followed: the points that it lists, in any order, the points that were passed, the point
+/// where it is followed, and the points after it.
+#[derive(Drop)]
+struct Followed {
+    listed: Points,
+    passed: Points,
+    at: Point,
+    left: VecDeque<Point>,
+}
+
+impl Model for Followed {
+    ghost use Rattle.drawing_repairs.specs.Listings.{FollowedLine};
+
+    ghost Value = { FollowedLine };
+
+    ghost view = { λ f. record { listed = f.listed; passed = f.passed; at = f.at; left = f.left.items } };
+}
+
+impl Followed {
+    /// Returns a line at its first point.
+    fn new(alloc: Global, first: Point, after: &[Point]) -> Result<Followed, Memory>
+        ensures { IfOk result (λ f. f ≡ unfollowed_line first after.now) }
+    {
+        let mut listed = Points::new(alloc);
+        listed.push(first)?;
+        listed.append(after)?;
+        let mut left = VecDeque::new(alloc);
+        put_all(&mut left, after)?;
+        Ok(Followed {
+            listed,
+            passed: Points::new(alloc),
+            at: first,
+            left,
+        })
+    }
+
+    /// Passes the next segment, or puts the first end into it that is due there.
+    fn go_on(&mut self, gap: u16, ends: &[Point]) -> Result<(), Memory>
+        ensures { OnOk result (self.new ≡ followed_on gap ends.now self.old self.old.left) }
+    {
+        let Some(next) = self.left.pop_front() else {
+            return Ok(());
+        };
+        let s = lone_segment(self.at, next);
+        let due = first_due(gap, self.listed.as_slice(), &s, ends);
+        self.go_by(next, due)?;
+        Ok(())
+    }
+
+    /// Passes the segment to the next point, or puts an end into it.
+    fn go_by(&mut self, next: Point, due: Option<Point>) -> Result<(), Memory>
+        ensures { OnOk result (self.new ≡ followed_by self.old next self.old.left due) }
+    {
+        match due {
+            None => self.pass(next),
+            Some(end) => self.list(next, end),
+        }
+    }
+
+    fn pass(&mut self, next: Point) -> Result<(), Memory>
+        ensures { OnOk result (self.new ≡ followed_by self.old next self.old.left None) }
+    {
+        self.passed.push(self.at)?;
+        self.at = next;
+        Ok(())
+    }
+
+    fn list(&mut self, next: Point, end: Point) -> Result<(), Memory>
+        ensures { OnOk result (self.new ≡ followed_by self.old next self.old.left (Some end)) }
+    {
+        self.listed.push(end)?;
+        self.left.push_front(next)?;
+        self.left.push_front(end)?;
+        Ok(())
+    }
+
+    /// Returns the points of the line.
+    fn finish(self) -> Result<Points, Memory>
+        ensures { IfOk result (λ points. points ≡ followed_points self) }
+    {
+        let Followed {
+            mut passed,
+            at,
+            mut left,
+            ..
+        } = self;
+        passed.push(at)?;
+        while let Some(p) = left.pop_front() {
+            passed.push(p)?;
+        }
+        Ok(passed)
+    }
+}
+
+fn put_all(left: &mut VecDeque<Point>, points: &[Point]) -> Result<(), Memory>
+    ensures { OnOk result (left.new.items ≡ left.old.items ++ points.now) }
+{
+    let mut rest = points;
+    while let [p, after @ ..] = rest {
+        left.push_back(*p)?;
+        rest = after;
+    }
+    Ok(())
+}
+
+/// Returns the segment from a to b, by itself.
+fn lone_segment(a: Point, b: Point) -> LineSegment
+    ensures { result ≡ segment_between a b }
+{
+    let at = Position {
+        block: 0,
+        line: 0,
+        number: 0,
+        is_first: false,
+        is_last: false,
+    };
+    segment_at(at, a, b)
+}
+
+/// Returns the first end that is due in a segment of a line that lists the given points.
+fn first_due(gap: u16, listed: &[Point], s: &LineSegment, ends: &[Point]) -> Option<Point>
+    ensures { result ≡ due_end gap listed.now s.now ends.now }
+{
+    let mut rest = ends;
+    while let [end, after @ ..] = rest {
+        if is_due_in(gap, listed, s, *end) {
+            return Some(*end);
+        }
+        rest = after;
+    }
+    None
+}
+
+fn is_due_in(gap: u16, listed: &[Point], s: &LineSegment, end: Point) -> bool
+    ensures { result ≡ is_due gap listed.now s.now end }
+{
+    comes_near(gap, counted_from_least(end), s) && !is_listed(listed, end)
+}
+
+fn is_listed(points: &[Point], end: Point) -> bool
+    ensures { result ≡ list_any (is_same_point end) points.now }
+{
+    let mut rest = points;
+    while let [p, after @ ..] = rest {
+        if end == *p {
+            return true;
+        }
+        rest = after;
+    }
+    false
+}

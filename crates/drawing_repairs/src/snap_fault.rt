@@ -1,0 +1,35 @@
+ghost use Rattle.std.specs.Prelude.{◌≡◌};
+
+use crate::vanished::VanishedLine;
+use design_model::Memory;
+use line_graph::DrawKind;
+
+/// The reason why a drawing can't be snapped.
+#[derive(Clone, Copy)]
+pub enum SnapFault {
+    /// All points of a line would become one.
+    Vanished(VanishedLine),
+    /// The drawing would exceed a limit, or memory could not be allocated.
+    Limit(DrawKind),
+}
+
+impl From<Memory> for SnapFault {
+    ghost use Rattle.line_graph.specs.declared.draw_kind.DrawKind.TheVariants as kind;
+    ghost use Rattle.drawing_repairs.specs.declared.snap_fault.SnapFault.TheVariants as fault;
+
+    ghost from_gives = { λ _ e. e ≡ fault.Limit kind.Memory };
+
+    fn from(_memory: Memory) -> SnapFault {
+        SnapFault::Limit(DrawKind::Memory)
+    }
+}
+
+impl From<DrawKind> for SnapFault {
+    ghost use Rattle.drawing_repairs.specs.declared.snap_fault.SnapFault.TheVariants as fault;
+
+    ghost from_gives = { λ kind e. e ≡ fault.Limit kind };
+
+    fn from(kind: DrawKind) -> SnapFault {
+        SnapFault::Limit(kind)
+    }
+}
