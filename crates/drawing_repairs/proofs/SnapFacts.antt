@@ -11,7 +11,7 @@ use Rattle.drawing_repairs.specs.Anchors.{anchored, anchors_of, distance_between
 use Rattle.drawing_repairs.specs.Listings.{due_end, segment_between, with_due_ends}
 use Rattle.drawing_repairs.specs.MovedLines.{moved_points, unrepeated}
 use Rattle.drawing_repairs.specs.RemadeDrawings.{remade_drawing}
-use Rattle.drawing_repairs.specs.Snaps.{snapped_drawing, snapped_lines}
+use Rattle.drawing_repairs.specs.Snaps.{snap_of, snapped_lines}
 
 abbrev at : ℕ → ℕ → Point
 at x y = record { x = pos x; y = pos y }
@@ -87,9 +87,13 @@ known_vanished = refl
 abbrev drawn : List LineValue → DrawingValue
 drawn lines = record { label = 65 ∷ []; step = 25; threads = 7 ∷ 9 ∷ []; lines = lines; starts = []; ends = [] }
 
-pub known_drawing : snapped_drawing 1 (drawn (near_tee ++ lines_through 1 ((at 0 0 ∷ at 0 9 ∷ []) ∷ [])))
-    ≡ Ok (drawn (lines_through 0 ((at 0 0 ∷ at 20 1 ∷ []) ∷ (at 20 1 ∷ at 40 0 ∷ []) ∷ (at 20 30 ∷ at 20 1 ∷ []) ∷ [])
-    ++ lines_through 1 ((at 0 0 ∷ at 0 9 ∷ []) ∷ [])))
+pub known_drawing : snap_of 1 (drawn (near_tee ++ lines_through 1 ((at 0 0 ∷ at 0 9 ∷ at 0 8 ∷ []) ∷ [])))
+    ≡ Ok (record {
+      moved = at 0 8 ∷ [];
+      listed = at 20 1 ∷ [];
+      drawing = drawn (lines_through 0 ((at 0 0 ∷ at 20 1 ∷ []) ∷ (at 20 1 ∷ at 40 0 ∷ []) ∷ (at 20 30 ∷ at 20 1 ∷ []) ∷ [])
+          ++ lines_through 1 ((at 0 0 ∷ at 0 9 ∷ []) ∷ []));
+    })
 unfolding moved_points
 known_drawing = refl
 

@@ -33,17 +33,24 @@ abbrev pub due_end : ℕ → List Point → LineSegment → List Point → Optio
 due_end gap listed s [] = None
 due_end gap listed s (e ∷ rest) = if is_due gap listed s e then Some e else due_end gap listed s rest
 
--- A line that is followed: the points that it lists, in any order, the points that were passed, the
--- point where it is followed, and the points after it.
+-- A line that is followed: the points that it lists, in any order, the ends that were put into it,
+-- the points that were passed, the point where it is followed, and the points after it.
 pub record FollowedLine : Type 0 where
   pub listed : List Point
+  pub added : List Point
   pub passed : List Point
   pub at : Point
   pub left : List Point
 
 -- A line at its first point.
 abbrev pub unfollowed_line : Point → List Point → FollowedLine
-unfollowed_line p rest = record { listed = p ∷ rest; passed = []; at = p; left = rest }
+unfollowed_line p rest = record {
+  listed = p ∷ rest;
+  added = [];
+  passed = [];
+  at = p;
+  left = rest;
+}
 
 -- The points of a line that is followed.
 abbrev pub followed_points : FollowedLine → List Point
@@ -52,7 +59,8 @@ followed_points f = f.passed ++ f.at ∷ f.left
 -- The line after the segment to the point b: passed where no end is due, else with the end in it.
 abbrev pub followed_by : FollowedLine → Point → List Point → Option Point → FollowedLine
 followed_by f b rest None = record f { passed = f.passed ++ f.at ∷ []; at = b; left = rest }
-followed_by f b rest (Some e) = record f { listed = f.listed ++ e ∷ []; left = e ∷ b ∷ rest }
+followed_by f b rest (Some e) =
+    record f { listed = f.listed ++ e ∷ []; added = f.added ++ e ∷ []; left = e ∷ b ∷ rest }
 
 -- The line after one step, where the given points are left.
 abbrev pub followed_on : ℕ → List Point → FollowedLine → List Point → FollowedLine
@@ -70,11 +78,20 @@ followed_for (suc n) gap ends f = followed_for n gap ends (followed_on gap ends 
 abbrev pub steps_to_follow : List Point → List Point → ℕ
 steps_to_follow ends rest = length rest + 2 * length ends
 
+-- The line through p and the points after it, followed to its last point.
+abbrev pub followed_line : ℕ → List Point → Point → List Point → FollowedLine
+followed_line gap ends p rest =
+    followed_for (steps_to_follow ends rest) gap ends (unfollowed_line p rest)
+
 -- The points of a line with those of the ends that are due in it.
 abbrev pub with_due_ends : ℕ → List Point → List Point → List Point
 with_due_ends gap ends [] = []
-with_due_ends gap ends (p ∷ rest) = followed_points
-    (followed_for (steps_to_follow ends rest) gap ends (unfollowed_line p rest))
+with_due_ends gap ends (p ∷ rest) = followed_points (followed_line gap ends p rest)
+
+-- The ends that are put into a line, in order.
+abbrev pub due_ends : ℕ → List Point → List Point → List Point
+due_ends gap ends [] = []
+due_ends gap ends (p ∷ rest) = (followed_line gap ends p rest).added
 
 -- A line of a drawing with the ends of its block that are due in it.
 abbrev pub listed_line : ℕ → List LineValue → LineValue → LineValue
@@ -84,3 +101,8 @@ listed_line gap lines line =
 -- The lines of a drawing with the ends that are due in them.
 abbrev pub listed_lines : ℕ → List LineValue → List LineValue
 listed_lines gap lines = map (listed_line gap lines) lines
+
+-- The ends that are put into the lines of a drawing, in order.
+abbrev pub added_ends : ℕ → List LineValue → List LineValue → List Point
+added_ends gap all lines =
+    flat_map (λ line. due_ends gap (block_ends all line.block) line.points) lines

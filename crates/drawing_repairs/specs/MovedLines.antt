@@ -1,6 +1,7 @@
 -- Lines whose points have moved to the anchors of their blocks. A point that repeats the one before
 -- it is dropped, and a line that has fewer than 2 points left has vanished. Indexes count from 0.
-use Rattle.std.specs.Prelude.{ℕ, ◌+◌, nat_lt, List, [], ◌∷◌, length, map, Option, Some, None, if◌then◌else◌}
+use Rattle.std.specs.Prelude.{ℕ, ◌+◌, not, nat_lt, List, [], ◌∷◌, length, map, filter, Option, Some, None, if◌then◌else◌}
+use Rattle.std.specs.List.{flat_map}
 use Rattle.design_model.specs.declared.point.Point.{Point}
 use Rattle.design_model.specs.Points.{is_same_point}
 use Rattle.line_sections.specs.Lines.{LineValue}
@@ -27,6 +28,11 @@ block_anchors gap lines block = anchors_of gap (listed_in lines block)
 unfoldable pub moved_points : ℕ → List Point → List Point → List Point
 moved_points gap anchors points = unrepeated (map (anchored gap anchors) points)
 
+-- The points that move to another one, in order.
+abbrev pub changed_points : ℕ → List Point → List Point → List Point
+changed_points gap anchors points =
+    filter (λ p. not (is_same_point p (anchored gap anchors p))) points
+
 -- A line of a drawing after its points moved to the anchors of its block.
 abbrev pub moved_line : ℕ → List LineValue → LineValue → LineValue
 moved_line gap lines line =
@@ -35,6 +41,11 @@ moved_line gap lines line =
 -- The lines of a drawing after their points moved.
 abbrev pub moved_lines : ℕ → List LineValue → List LineValue
 moved_lines gap lines = map (moved_line gap lines) lines
+
+-- The points of lines that move, in order, where all lines of the drawing are given.
+abbrev pub changed_in : ℕ → List LineValue → List LineValue → List Point
+changed_in gap all lines =
+    flat_map (λ line. changed_points gap (block_anchors gap all line.block) line.points) lines
 
 -- The first of lines with fewer than 2 points, where the first one has the given index.
 abbrev pub vanished_from : ℕ → List LineValue → Option VanishedLine

@@ -7,9 +7,10 @@ use Rattle.line_graph.specs.Drawings.{DrawingValue}
 use Rattle.line_graph.specs.GrowingDrawings.{and_then, draw_is_out_of_memory}
 use Rattle.drawing_repairs.specs.declared.snap_fault.SnapFault.{SnapFault}
 use Rattle.drawing_repairs.specs.declared.snap_fault.SnapFault.TheVariants as fault
+use Rattle.drawing_repairs.specs.declared.snapping.SnappedDrawing.{SnappedDrawing}
 use Rattle.drawing_repairs.specs.declared.vanished.VanishedLine.{VanishedLine}
-use Rattle.drawing_repairs.specs.Listings.{listed_lines}
-use Rattle.drawing_repairs.specs.MovedLines.{moved_lines, vanished_from}
+use Rattle.drawing_repairs.specs.Listings.{added_ends, listed_lines}
+use Rattle.drawing_repairs.specs.MovedLines.{changed_in, moved_lines, vanished_from}
 use Rattle.drawing_repairs.specs.RemadeDrawings.{remade_drawing}
 
 -- The moved lines, or the first of them that has vanished.
@@ -31,10 +32,20 @@ abbrev pub within_limits : {A : Type 0} → Result A DrawKind → Result A SnapF
 within_limits (Ok a) = Ok a
 within_limits (Err kind) = Err (fault.Limit kind)
 
--- The snapped drawing of the lines of a drawing, or its fault.
-abbrev pub snapped_drawing : ℕ → DrawingValue → Result DrawingValue SnapFault
-snapped_drawing gap d = and_then (snapped_lines gap d.lines) (λ lines.
-    within_limits (remade_drawing d lines))
+-- A drawing that was snapped, with the points that moved and the ends that lines list after it.
+abbrev pub snap_value : ℕ → List LineValue → DrawingValue → List LineValue
+    → SnappedDrawing
+snap_value gap lines snapped moved = record {
+  drawing = snapped;
+  moved = changed_in gap lines lines;
+  listed = added_ends gap moved moved;
+}
+
+-- The snap of a drawing's lines, or its fault.
+abbrev pub snap_of : ℕ → DrawingValue → Result SnappedDrawing SnapFault
+snap_of gap d = and_then (kept_lines gap d.lines) (λ moved.
+    and_then (within_limits (remade_drawing d (listed_lines gap moved))) (λ snapped.
+    Ok (snap_value gap d.lines snapped moved)))
 
 -- A fault is out of memory.
 abbrev pub snap_is_out_of_memory : SnapFault → Bool

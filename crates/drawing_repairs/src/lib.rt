@@ -10,5 +10,5 @@ mod snapping;
 mod vanished;
 
 pub use snap_fault::SnapFault;
-pub use snapping::snapped;
+pub use snapping::{SnappedDrawing, snap};
 pub use vanished::VanishedLine;

@@ -3,7 +3,7 @@ ghost use Rattle.std.specs.List.{list_any};
 ghost use Rattle.design_model.specs.Points.{is_same_point};
 ghost use Rattle.step_splitter.specs.Chains.{last_point_or};
 ghost use Rattle.line_graph.specs.Pieces.{endpoints};
-ghost use Rattle.drawing_repairs.specs.Listings.{block_ends, due_end, followed_by, followed_on, followed_points, is_due, listed_line, listed_lines, segment_between, unfollowed_line, with_due_ends};
+ghost use Rattle.drawing_repairs.specs.Listings.{added_ends, block_ends, due_end, due_ends, followed_by, followed_line, followed_on, followed_points, is_due, listed_line, listed_lines, segment_between, unfollowed_line, with_due_ends};
 
 use design_model::{Memory, Point, Points};
 use drawing_review::{LineSegment, Position, comes_near, counted_from_least, segment_at};
@@ -12,10 +12,16 @@ use std::alloc::Global;
 use std::collections::VecDeque;
 use std::marker::Model;
 
-/// Returns the lines of a drawing with the ends of their blocks that are due in them. `gap` is in tenths of a
-/// millimetre.
-pub fn listed(alloc: Global, gap: u16, lines: &[Line]) -> Result<Vec<Line>, Memory>
-    ensures { IfOk result (λ listed. listed.items ≡ listed_lines gap lines.now) }
+/// Returns the lines of a drawing with the ends of their blocks that are due in them, which are added to
+/// `added`. `gap` is in tenths of a millimetre.
+pub fn listed(
+    alloc: Global,
+    gap: u16,
+    lines: &[Line],
+    added: &mut Points,
+) -> Result<Vec<Line>, Memory>
+    ensures lines { IfOk result (λ listed. listed.items ≡ listed_lines gap lines.now) }
+    ensures added { OnOk result (added.new ≡ added.old ++ added_ends gap lines.now lines.now) }
 {
     let mut listed = Vec::new(alloc);
     let mut block = 0;
@@ -24,7 +30,7 @@ pub fn listed(alloc: Global, gap: u16, lines: &[Line]) -> Result<Vec<Line>, Memo
     while let [line, after @ ..] = rest {
         ends = ends_for(alloc, lines, line.block(), block, ends)?;
         block = line.block();
-        put_listed(alloc, gap, lines, &ends, line, &mut listed)?;
+        put_listed(alloc, gap, lines, &ends, line, &mut listed, added)?;
         rest = after;
     }
     Ok(listed)
@@ -102,37 +108,63 @@ fn put_listed(
     ends: &Points,
     line: &Line,
     listed: &mut Vec<Line>,
+    added: &mut Points,
 ) -> Result<(), Memory>
     requires { ends.now ≡ block_ends lines.now line.now.block }
-    ensures { OnOk result
+    ensures listed { OnOk result
         (listed.new.items ≡ listed.old.items ++ listed_line gap lines.now line.now ∷ []) }
+    ensures added { OnOk result
+        (added.new ≡ added.old ++ added_ends gap lines.now (line.now ∷ [])) }
 {
-    let points = with_due(alloc, gap, ends.as_slice(), line.points())?;
+    let points = with_due(alloc, gap, ends.as_slice(), line.points(), added)?;
     listed.push(Line::new(line.block(), points))?;
     Ok(())
 }
 
-/// Returns the points of a line with those of the ends that are due in it.
-fn with_due(alloc: Global, gap: u16, ends: &[Point], points: &[Point]) -> Result<Points, Memory>
-    ensures { IfOk result (λ listed. listed ≡ with_due_ends gap ends.now points.now) }
+/// Returns the points of a line with those of the ends that are due in it, which are added to `added`.
+fn with_due(
+    alloc: Global,
+    gap: u16,
+    ends: &[Point],
+    points: &[Point],
+    added: &mut Points,
+) -> Result<Points, Memory>
+    ensures listed { IfOk result (λ listed. listed ≡ with_due_ends gap ends.now points.now) }
+    ensures added { OnOk result (added.new ≡ added.old ++ due_ends gap ends.now points.now) }
 {
     let Some((first, after)) = first_point(points) else {
         return Ok(Points::new(alloc));
     };
+    let line = follow(alloc, gap, ends, first, after)?;
+    added.append(line.added.as_slice())?;
+    line.finish()
+}
+
+/// Returns a line that is followed to its last point.
+fn follow(
+    alloc: Global,
+    gap: u16,
+    ends: &[Point],
+    first: Point,
+    after: &[Point],
+) -> Result<Followed, Memory>
+    ensures { IfOk result (λ line. line ≡ followed_line gap ends.now first after.now) }
+{
     let mut line = Followed::new(alloc, first, after)?;
     let mut steps = after.len() + 2 * ends.len();
     while steps > 0 {
         line.go_on(gap, ends)?;
         steps -= 1;
     }
-    line.finish()
+    Ok(line)
 }
 
-/// A line that is followed: the points that it lists, in any order, the points that were passed, the point
-/// where it is followed, and the points after it.
+/// A line that is followed: the points that it lists, in any order, the ends that were put into it, the points
+/// that were passed, the point where it is followed, and the points after it.
 #[derive(Drop)]
 struct Followed {
     listed: Points,
+    added: Points,
     passed: Points,
     at: Point,
     left: VecDeque<Point>,
@@ -143,7 +175,13 @@ impl Model for Followed {
 
     ghost Value = { FollowedLine };
 
-    ghost view = { λ f. record { listed = f.listed; passed = f.passed; at = f.at; left = f.left.items } };
+    ghost view = { λ f. record {
+      listed = f.listed;
+      added = f.added;
+      passed = f.passed;
+      at = f.at;
+      left = f.left.items;
+    } };
 }
 
 impl Followed {
@@ -158,6 +196,7 @@ impl Followed {
         put_all(&mut left, after)?;
         Ok(Followed {
             listed,
+            added: Points::new(alloc),
             passed: Points::new(alloc),
             at: first,
             left,
@@ -199,6 +238,7 @@ impl Followed {
         ensures { OnOk result (self.new ≡ followed_by self.old next self.old.left (Some end)) }
     {
         self.listed.push(end)?;
+        self.added.push(end)?;
         self.left.push_front(next)?;
         self.left.push_front(end)?;
         Ok(())

@@ -1,6 +1,8 @@
-ghost use Rattle.std.specs.Prelude.{◌≡◌, ◌++◌, ◌∷◌, [], IfOk, OnOk};
+ghost use Rattle.std.specs.Prelude.{◌≡◌, ◌++◌, ◌∷◌, [], IfOk, OnOk, if◌then◌else◌, map, not};
+ghost use Rattle.design_model.specs.Points.{is_same_point};
 ghost use Rattle.line_sections.specs.Sections.{listed_in};
-ghost use Rattle.drawing_repairs.specs.MovedLines.{block_anchors, moved_line, moved_lines, moved_points, unrepeated_after, vanished_from};
+ghost use Rattle.drawing_repairs.specs.Anchors.{anchored};
+ghost use Rattle.drawing_repairs.specs.MovedLines.{block_anchors, changed_in, changed_points, moved_line, moved_lines, unrepeated, unrepeated_after, vanished_from};
 
 use crate::anchors::{anchor_of, put_anchors};
 use crate::vanished::VanishedLine;
@@ -8,10 +10,16 @@ use design_model::{Memory, Point, Points};
 use line_sections::{Line, first_point};
 use std::alloc::Global;
 
-/// Returns the lines of a drawing after their points moved to the anchors of their blocks. `gap` is in tenths
-/// of a millimetre.
-pub fn moved(alloc: Global, gap: u16, lines: &[Line]) -> Result<Vec<Line>, Memory>
-    ensures { IfOk result (λ moved. moved.items ≡ moved_lines gap lines.now) }
+/// Returns the lines of a drawing after their points moved to the anchors of their blocks. Those that moved to
+/// another point are added to `changed`. `gap` is in tenths of a millimetre.
+pub fn moved(
+    alloc: Global,
+    gap: u16,
+    lines: &[Line],
+    changed: &mut Points,
+) -> Result<Vec<Line>, Memory>
+    ensures lines { IfOk result (λ moved. moved.items ≡ moved_lines gap lines.now) }
+    ensures changed { OnOk result (changed.new ≡ changed.old ++ changed_in gap lines.now lines.now) }
 {
     let mut moved = Vec::new(alloc);
     let mut block = 0;
@@ -20,7 +28,7 @@ pub fn moved(alloc: Global, gap: u16, lines: &[Line]) -> Result<Vec<Line>, Memor
     while let [line, after @ ..] = rest {
         anchors = anchors_for(alloc, gap, lines, line.block(), block, anchors)?;
         block = line.block();
-        put_moved(alloc, gap, lines, &anchors, line, &mut moved)?;
+        put_moved(alloc, gap, lines, &anchors, line, &mut moved, changed)?;
         rest = after;
     }
     Ok(moved)
@@ -79,6 +87,7 @@ fn put_if_in(points: &mut Points, line: &Line, block: u32) -> Result<(), Memory>
 }
 
 /// Adds a line after its points moved. Both `lines`, all of the drawing, and `anchors` are given.
+#[tactic(auto, unfolding(crate::specs::MovedLines::moved_points))]
 fn put_moved(
     alloc: Global,
     gap: u16,
@@ -86,49 +95,80 @@ fn put_moved(
     anchors: &Points,
     line: &Line,
     moved: &mut Vec<Line>,
+    changed: &mut Points,
 ) -> Result<(), Memory>
     requires { anchors.now ≡ block_anchors gap lines.now line.now.block }
-    ensures { OnOk result
+    ensures moved { OnOk result
         (moved.new.items ≡ moved.old.items ++ moved_line gap lines.now line.now ∷ []) }
+    ensures changed { OnOk result
+        (changed.new ≡ changed.old ++ changed_in gap lines.now (line.now ∷ [])) }
 {
-    let points = moved_through(alloc, gap, anchors.as_slice(), line.points())?;
+    let found = found(alloc, gap, anchors.as_slice(), line.points(), changed)?;
+    let points = without_repeats(alloc, found.as_slice())?;
     moved.push(Line::new(line.block(), points))?;
     Ok(())
 }
 
-/// Returns points after they moved to anchors, without those that repeat the one before.
-#[tactic(auto, unfolding(crate::specs::MovedLines::moved_points))]
-fn moved_through(
+/// Returns the anchors to which points move. The points that differ from them are added to `changed`.
+fn found(
     alloc: Global,
     gap: u16,
     anchors: &[Point],
     points: &[Point],
+    changed: &mut Points,
 ) -> Result<Points, Memory>
-    ensures { IfOk result (λ moved. moved ≡ moved_points gap anchors.now points.now) }
+    ensures found { IfOk result (λ found. found ≡ map (anchored gap anchors.now) points.now) }
+    ensures changed { OnOk result (changed.new ≡ changed.old ++ changed_points gap anchors.now points.now) }
 {
-    let mut moved = Points::new(alloc);
-    let Some((first, after)) = first_point(points) else {
-        return Ok(moved);
-    };
-    let mut last = anchor_of(gap, anchors, first);
-    moved.push(last)?;
-    let mut rest = after;
+    let mut found = Points::new(alloc);
+    let mut rest = points;
     while let [p, after @ ..] = rest {
-        last = put_unless_same(&mut moved, last, anchor_of(gap, anchors, *p))?;
+        let anchor = anchor_of(gap, anchors, *p);
+        found.push(anchor)?;
+        put_if_other(changed, *p, anchor)?;
         rest = after;
     }
-    Ok(moved)
+    Ok(found)
+}
+
+fn put_if_other(changed: &mut Points, p: Point, anchor: Point) -> Result<(), Memory>
+    ensures { OnOk result (changed.new
+        ≡ changed.old ++ (if not (is_same_point p anchor) then p ∷ [] else [])) }
+{
+    if p == anchor {
+        return Ok(());
+    }
+    changed.push(p)?;
+    Ok(())
+}
+
+/// Returns points without those that repeat the one before.
+fn without_repeats(alloc: Global, points: &[Point]) -> Result<Points, Memory>
+    ensures { IfOk result (λ kept. kept ≡ unrepeated points.now) }
+{
+    let mut kept = Points::new(alloc);
+    let Some((first, after)) = first_point(points) else {
+        return Ok(kept);
+    };
+    kept.push(first)?;
+    let mut last = first;
+    let mut rest = after;
+    while let [p, after @ ..] = rest {
+        last = put_unless_same(&mut kept, last, *p)?;
+        rest = after;
+    }
+    Ok(kept)
 }
 
 /// Adds a point that differs from the last one. Returns the last point then.
-fn put_unless_same(moved: &mut Points, last: Point, p: Point) -> Result<Point, Memory>
+fn put_unless_same(kept: &mut Points, last: Point, p: Point) -> Result<Point, Memory>
     ensures last { IfOk result (λ next. next ≡ p) }
-    ensures put { OnOk result (moved.new ≡ moved.old ++ unrepeated_after last (p ∷ [])) }
+    ensures put { OnOk result (kept.new ≡ kept.old ++ unrepeated_after last (p ∷ [])) }
 {
     if p == last {
         return Ok(p);
     }
-    moved.push(p)?;
+    kept.push(p)?;
     Ok(p)
 }
 
