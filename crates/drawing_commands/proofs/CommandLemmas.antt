@@ -12,7 +12,8 @@ use Rattle.program_shell.specs.Products.{ProductValue, output_names}
 use Rattle.drawing_commands.specs.Commands.{drawing_outputs_of, drawing_plan_of, stitch_drawing}
 use Rattle.drawing_commands.specs.FaultTexts.{plan_after_reading}
 use Rattle.drawing_commands.specs.Looks.{IsLook, LookOrder}
-use Rattle.drawing_commands.specs.Requests.{DrawingOrder, looking}
+use Rattle.drawing_commands.specs.Requests.{DrawingOrder, looking, snapping}
+use Rattle.drawing_commands.proofs.SnapLemmas.{snap_exact, snap_outputs}
 
 lines_exact : (file : List ℕ) (gap : ℕ) (d : DrawingValue) (read : Result DrawnLines DrawFault)
     → IsExact (plan_after_reading file (λ drawn. accepts (IsLook gap d drawn)) read)
@@ -40,11 +41,14 @@ look_outputs file gap files product lines (Err fault) never = absurd never
 
 order_exact : (order : DrawingOrder) → IsExact (drawing_plan_of order)
 order_exact (looking order) = λ bytes. look_exact order.file order.gap (lines_of bytes) (drawing_of bytes)
+order_exact (snapping order) = λ bytes. snap_exact order bytes (drawing_of bytes)
 
 makes_outputs : (order : DrawingOrder) (files : Option Files) (product : ProductValue)
     → Makes (drawing_plan_of order) files product → output_names product.outputs ≡ drawing_outputs_of order
 makes_outputs (looking order) files product (bytes, input, makes) =
     look_outputs order.file order.gap files product (lines_of bytes) (drawing_of bytes) makes
+makes_outputs (snapping order) files product (bytes, input, makes) =
+    snap_outputs order bytes files product (drawing_of bytes) makes
 
 -- The program is sound.
 pub drawing_sound : IsSoundProgram stitch_drawing

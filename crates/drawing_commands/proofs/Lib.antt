@@ -1,2 +1,4 @@
 mod FaultLemmas
+mod WordLemmas
+mod SnapLemmas
 mod CommandLemmas

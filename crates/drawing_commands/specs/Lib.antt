@@ -4,6 +4,8 @@ pub use Rattle.program_shell.specs.RunViews
 pub mod FaultTexts
 pub mod LookTexts
 pub mod Looks
+pub mod SnapTexts
+pub mod SnapOrders
 pub mod Requests
 -- Read this one first: the commands, their plans, and the program.
 pub mod Commands

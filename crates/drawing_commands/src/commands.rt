@@ -5,6 +5,7 @@ ghost use Rattle.program_shell.specs.StepOutcomes.{RunsRequest};
 
 use crate::looking::look;
 use crate::requests::{DrawingRequest, drawing_request};
+use crate::snapping::snap_file;
 use outside_io::Store;
 use program_shell::{Failure, Product};
 use std::alloc::Global;
@@ -20,6 +21,9 @@ pub(crate) fn make_product<'a, S: Store>(
 {
     match drawing_request(words) {
         Some(DrawingRequest::Look { file, gap }) => look(alloc, file, gap, store),
+        Some(DrawingRequest::Snap { gap, input, output }) => {
+            snap_file(alloc, gap, input, output, store)
+        }
         None => Err(Failure::BadArguments),
     }
 }

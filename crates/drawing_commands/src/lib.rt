@@ -7,6 +7,8 @@ mod look_texts;
 mod looking;
 mod requests;
 mod running;
+mod snap_texts;
+mod snapping;
 
 pub use program_shell::Status;
 pub use requests::{DrawingRequest, MAX_GAP, drawing_request};

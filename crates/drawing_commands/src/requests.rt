@@ -1,7 +1,7 @@
 ghost use Rattle.std.specs.Prelude.{◌≡◌, Some, IfSome, map, option_map, string_bytes};
 ghost use Rattle.design_model.specs.declared.whole_number.Whole.TheVariants as whole;
 ghost use Rattle.design_model.specs.WholeNumbers.{parsed_whole};
-ghost use Rattle.drawing_commands.specs.Requests.{HasFileNames, drawing_order_of, gap_of, look_with_gap, order_of_request, parsed_look};
+ghost use Rattle.drawing_commands.specs.Requests.{HasFileNames, drawing_order_of, gap_of, look_with_gap, order_of_request, parsed_look, parsed_snap, snap_with_gap};
 
 use design_model::{Whole, parse_whole};
 use outside_io::is_name;
@@ -16,10 +16,19 @@ pub const MAX_GAP: u16 = 100;
 #[derive(Clone, Copy)]
 pub enum DrawingRequest<'a> {
     /// A report on a drawing, with a gap in tenths of a millimetre.
-    Look { file: &'a str, gap: u16 },
+    Look {
+        file: &'a str,
+        gap: u16,
+    },
+    /// A snapped drawing, with a gap in tenths of a millimetre.
+    Snap {
+        gap: u16,
+        input: &'a str,
+        output: &'a str,
+    },
 }
 
-/// Parses the arguments: `look DRAWING [GAP]`. Returns `None` for other arguments. Allocates nothing.
+/// Parses the arguments: `look DRAWING [GAP]`, or `snap GAP DRAWING OUT`. Returns `None` for other arguments. Allocates nothing.
 pub fn drawing_request(words: &[String]) -> Option<DrawingRequest<'_>>
     ensures value { option_map order_of_request result
         ≡ drawing_order_of (map (λ word. string_bytes word) words.now) }
@@ -27,6 +36,7 @@ pub fn drawing_request(words: &[String]) -> Option<DrawingRequest<'_>>
 {
     match words {
         [command, rest @ ..] if command.as_str() == "look" => look_request(rest),
+        [command, rest @ ..] if command.as_str() == "snap" => snap_request(rest),
         _ => None,
     }
 }
@@ -52,6 +62,31 @@ fn named_look(file: &str, gap: u16) -> Option<DrawingRequest<'_>>
 {
     if is_name(file) {
         Some(DrawingRequest::Look { file, gap })
+    } else {
+        None
+    }
+}
+
+fn snap_request(words: &[String]) -> Option<DrawingRequest<'_>>
+    ensures value { option_map order_of_request result
+        ≡ parsed_snap (map (λ word. string_bytes word) words.now) }
+    ensures sound { IfSome result HasFileNames }
+{
+    let [gap, input, output] = words else {
+        return None;
+    };
+    let gap = parse_gap(gap.as_bytes())?;
+    named_snap(gap, input.as_str(), output.as_str())
+}
+
+/// Returns the request of `snap` on two files, whose names must differ.
+fn named_snap<'a>(gap: u16, input: &'a str, output: &'a str) -> Option<DrawingRequest<'a>>
+    ensures value { option_map order_of_request result
+        ≡ snap_with_gap (Some gap) input.now output.now }
+    ensures sound { IfSome result HasFileNames }
+{
+    if is_name(input) && is_name(output) && input != output {
+        Some(DrawingRequest::Snap { gap, input, output })
     } else {
         None
     }

@@ -52,7 +52,7 @@ pub fn describe_trace_fault(alloc: Global, name: &str, fault: TraceFault) -> Res
 }
 
 /// Returns the name of a fault in a drawing.
-fn kind_text(kind: DrawKind) -> &'static str
+pub fn kind_text(kind: DrawKind) -> &'static str
     ensures { result.now ≡ draw_kind_text kind }
 {
     match kind {

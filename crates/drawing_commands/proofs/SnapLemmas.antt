@@ -1,0 +1,81 @@
+-- What is proved of the plan of `snap`: it decides, its products have one output, and a fault is refused.
+use Rattle.std.proofs.Common.{◌≡◌, ℕ, List, [], ◌∷◌, Bool, Option, Ok, Err, Result, ap, refl, subst, sym}
+use Rattle.design_model.specs.OutOfMemory.{IsSpecified, UnlessOutOfMemory}
+use Rattle.drawing_repairs.specs.declared.snap_fault.SnapFault.{SnapFault}
+use Rattle.drawing_repairs.specs.declared.snapping.SnappedDrawing.{SnappedDrawing}
+use Rattle.drawing_repairs.specs.Snaps.{snap_is_out_of_memory, snap_of}
+use Rattle.drawing_text.specs.declared.draw_fault.DrawFault.{DrawFault}
+use Rattle.drawing_text.specs.declared.drawn_lines.DrawnLines.{DrawnLines}
+use Rattle.drawing_text.specs.declared.walk_end.WalkEnd.{WalkEnd}
+use Rattle.drawing_text.specs.DrawnTexts.{lines_of}
+use Rattle.line_graph.specs.Drawings.{DrawingValue}
+use Rattle.outside_io.specs.Files.{Files}
+use Rattle.outside_io.specs.Views.{StoreView}
+use Rattle.program_shell.specs.declared.failure.Failure.{Failure}
+use Rattle.program_shell.specs.declared.failure.Failure.TheVariants as failure
+use Rattle.program_shell.specs.ExactPlans.{IsExact}
+use Rattle.program_shell.specs.Plans.{Makes}
+use Rattle.program_shell.specs.Products.{ProductValue, output_names}
+use Rattle.program_shell.specs.StepOutcomes.{RunsPurePlan}
+use Rattle.drawing_commands.specs.FaultTexts.{plan_after_reading}
+use Rattle.drawing_commands.specs.SnapOrders.{IsSnapFailure, SnapOrder, snap_drawn, snap_lines, snap_made}
+
+-- A drawing that can't be snapped is refused with the text about its fault.
+pub snap_refused : (order : SnapOrder) (d : DrawingValue) (said : Result SnappedDrawing SnapFault) (fault : SnapFault) (why : Failure)
+    → IsSpecified snap_is_out_of_memory said (Err fault) → IsSnapFailure order.input fault why
+    → RunsPurePlan (snap_made order d said) (Err why)
+snap_refused order d said fault failure.BadArguments spec never = absurd never
+snap_refused order d said fault (failure.MissingInput missing) spec never = absurd never
+snap_refused order d said fault (failure.ReadFailed lost) spec never = absurd never
+snap_refused order d said fault (failure.Refused text) spec (is, known) =
+    subst (λ (r : Result SnappedDrawing SnapFault). RunsPurePlan (snap_made order d r) (Err (failure.Refused text))) (sym here)
+    (record { at = λ (store : StoreView). (is, refl) })
+  where
+    here : said ≡ Err fault
+    here = subst (λ (b : Bool). UnlessOutOfMemory b (said ≡ Err fault)) known spec
+snap_refused order d said fault failure.Memory spec out = record { at = λ (store : StoreView). refl }
+
+made_exact : (order : SnapOrder) (d : DrawingValue) (read : Result SnappedDrawing SnapFault) → IsExact (snap_made order d read)
+made_exact order d (Ok snap) = tt
+made_exact order d (Err fault) = tt
+
+drawn_exact : (order : SnapOrder) (d drawn : DrawingValue) (ends : List WalkEnd) → IsExact (snap_drawn order d drawn ends)
+drawn_exact order d drawn [] = made_exact order d (snap_of order.gap drawn)
+drawn_exact order d drawn (end ∷ rest) = tt
+
+lines_exact : (order : SnapOrder) (d : DrawingValue) (read : Result DrawnLines DrawFault)
+    → IsExact (plan_after_reading order.input (λ drawn. snap_drawn order d drawn.drawing drawn.ends) read)
+lines_exact order d (Ok drawn) = drawn_exact order d drawn.drawing drawn.ends
+lines_exact order d (Err fault) = tt
+
+-- The plan of `snap` decides.
+pub snap_exact : (order : SnapOrder) (bytes : List ℕ) (read : Result DrawingValue DrawFault)
+    → IsExact (plan_after_reading order.input (snap_lines order bytes) read)
+snap_exact order bytes (Ok d) = lines_exact order d (lines_of bytes)
+snap_exact order bytes (Err fault) = tt
+
+made_outputs : (order : SnapOrder) (d : DrawingValue) (files : Option Files) (product : ProductValue)
+    (read : Result SnappedDrawing SnapFault) → Makes (snap_made order d read) files product
+    → output_names product.outputs ≡ order.output ∷ []
+made_outputs order d files product (Ok snap) is = ap (λ (p : ProductValue). output_names p.outputs) is.made
+made_outputs order d files product (Err fault) never = absurd never
+
+drawn_outputs : (order : SnapOrder) (d drawn : DrawingValue) (files : Option Files) (product : ProductValue) (ends : List WalkEnd)
+    → Makes (snap_drawn order d drawn ends) files product → output_names product.outputs ≡ order.output ∷ []
+drawn_outputs order d drawn files product [] makes = made_outputs order d files product (snap_of order.gap drawn) makes
+drawn_outputs order d drawn files product (end ∷ rest) never = absurd never
+
+lines_outputs : (order : SnapOrder) (d : DrawingValue) (files : Option Files) (product : ProductValue)
+    (read : Result DrawnLines DrawFault)
+    → Makes (plan_after_reading order.input (λ drawn. snap_drawn order d drawn.drawing drawn.ends) read) files product
+    → output_names product.outputs ≡ order.output ∷ []
+lines_outputs order d files product (Ok drawn) makes = drawn_outputs order d drawn.drawing files product drawn.ends makes
+lines_outputs order d files product (Err fault) never = absurd never
+
+-- The products of `snap` have one output.
+pub snap_outputs : (order : SnapOrder) (bytes : List ℕ) (files : Option Files) (product : ProductValue)
+    (read : Result DrawingValue DrawFault)
+    → Makes (plan_after_reading order.input (snap_lines order bytes) read) files product
+    → output_names product.outputs ≡ order.output ∷ []
+snap_outputs order bytes files product (Ok d) makes = lines_outputs order d files product (lines_of bytes) makes
+snap_outputs order bytes files product (Err fault) never = absurd never

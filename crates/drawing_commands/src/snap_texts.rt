@@ -1,0 +1,98 @@
+ghost use Rattle.std.specs.Prelude.{◌≡◌, IfOk, string_bytes};
+ghost use Rattle.drawing_commands.specs.SnapOrders.{IsSnapFailure};
+ghost use Rattle.drawing_commands.specs.SnapTexts.{has_ends_text, snap_fault_text, snap_report, vanished_text};
+ghost use Rattle.drawing_repairs.specs.Snaps.{snap_is_out_of_memory};
+ghost use Rattle.program_shell.specs.StepOutcomes.{IsRefusalWith};
+
+use design_model::{Bytes, Memory};
+use drawing_repairs::{SnapFault, VanishedLine};
+use line_graph::DrawKind;
+use program_shell::{Failure, bytes_of, describe_file};
+use program_texts::kind_text;
+use std::alloc::Global;
+
+/// Returns the report of `snap`.
+pub fn print_snap(
+    alloc: Global,
+    moved: usize,
+    listed: usize,
+    before: usize,
+    after: usize,
+) -> Result<Bytes, Memory>
+    ensures { IfOk result (λ text. text ≡ snap_report moved listed before after) }
+{
+    let line = snap_line(alloc, moved, listed, before, after)?;
+    let text = bytes_of(alloc, line.as_bytes())?;
+    Ok(text)
+}
+
+fn snap_line(
+    alloc: Global,
+    moved: usize,
+    listed: usize,
+    before: usize,
+    after: usize,
+) -> Result<String, Memory>
+    ensures { IfOk result (λ text. string_bytes text ≡ snap_report moved listed before after) }
+{
+    let text = format!(in alloc; "moved {moved} listed {listed} pieces {before} to {after}\n")?;
+    Ok(text)
+}
+
+/// Returns the failure for a drawing that can't be snapped.
+pub(crate) fn snap_failure<'a>(alloc: Global, name: &str, fault: SnapFault) -> Failure<'a>
+    ensures { IsSnapFailure name.now fault result }
+{
+    if is_memory(fault) {
+        return Failure::Memory;
+    }
+    not_snapped(alloc, name, fault)
+}
+
+fn is_memory(fault: SnapFault) -> bool
+    ensures { result ≡ snap_is_out_of_memory fault }
+{
+    match fault {
+        SnapFault::Limit(DrawKind::Memory) => true,
+        _ => false,
+    }
+}
+
+/// Returns the refusal of a drawing that can't be snapped, or out of memory.
+fn not_snapped<'a>(alloc: Global, name: &str, fault: SnapFault) -> Failure<'a>
+    ensures { IsRefusalWith (snap_fault_text name.now fault) result }
+{
+    match describe_snap_fault(alloc, name, fault) {
+        Ok(text) => Failure::Refused(text),
+        Err(Memory) => Failure::Memory,
+    }
+}
+
+fn describe_snap_fault(alloc: Global, name: &str, fault: SnapFault) -> Result<String, Memory>
+    ensures { IfOk result (λ text. string_bytes text ≡ snap_fault_text name.now fault) }
+{
+    match fault {
+        SnapFault::Vanished(line) => describe_vanished(alloc, name, line),
+        SnapFault::Limit(kind) => describe_file(alloc, name, kind_text(kind)),
+    }
+}
+
+fn describe_vanished(alloc: Global, name: &str, vanished: VanishedLine) -> Result<String, Memory>
+    ensures { IfOk result (λ text.
+        string_bytes text ≡ vanished_text name.now vanished.block vanished.line) }
+{
+    let block = vanished.block as u128 + 1;
+    let line = vanished.line as u128 + 1;
+    let text = format!(in alloc; "{name}: block {block} line {line}: would vanish")?;
+    Ok(text)
+}
+
+/// Returns the refusal of a drawing with starts or ends, or out of memory.
+pub(crate) fn has_ends_failure<'a>(alloc: Global, name: &str) -> Failure<'a>
+    ensures { IsRefusalWith (has_ends_text name.now) result }
+{
+    match describe_file(alloc, name, "starts and ends are not snapped") {
+        Ok(text) => Failure::Refused(text),
+        Err(Memory) => Failure::Memory,
+    }
+}

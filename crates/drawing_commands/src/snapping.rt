@@ -1,0 +1,145 @@
+ghost use Rattle.std.specs.Prelude.{◌≡◌, ◌≤◌, IfOk, length, true};
+ghost use Rattle.drawing_commands.specs.FaultTexts.{plan_after_reading};
+ghost use Rattle.drawing_commands.specs.SnapOrders.{IsSnapProduct, snap_drawn, snap_lines, snap_made, snap_order, snap_plan, snap_read};
+ghost use Rattle.drawing_repairs.specs.Snaps.{snap_of};
+ghost use Rattle.drawing_text.specs.declared.limits.TheConstants.{MAX_TEXT};
+ghost use Rattle.line_graph.specs.JoinedDrawings.{is_joined};
+ghost use Rattle.line_graph.specs.WalkEnds.{HasNoEnds};
+ghost use Rattle.outside_io.specs.Files.{IsFileName};
+ghost use Rattle.program_shell.specs.Products.{product_value};
+ghost use Rattle.program_shell.specs.StepOutcomes.{RunsPlan, RunsPurePlan};
+
+use crate::fault_texts::drawing_failure;
+use crate::snap_texts::{has_ends_failure, print_snap, snap_failure};
+use design_model::Memory;
+use drawing_repairs::{SnappedDrawing, snap};
+use drawing_text::{DrawnLines, print_drawing2, read_drawing, read_lines};
+use line_graph::{Drawing, pieces};
+use outside_io::Store;
+use program_shell::{Failure, Output, Product, one_output, read_input};
+use std::alloc::Global;
+
+/// Snaps a drawing, and writes it as the canonical text of version 2.
+pub(crate) fn snap_file<'a, S: Store>(
+    alloc: Global,
+    gap: u16,
+    input: &'a str,
+    output: &'a str,
+    store: &mut S,
+) -> Result<Product<'a>, Failure<'a>>
+    requires input { IsFileName input.now }
+    requires output { IsFileName output.now }
+    ensures { RunsPlan (snap_plan (snap_order gap input.now output.now)) (S.view store.old)
+        (S.view store.new) result }
+{
+    let bytes = read_input(alloc, store, input)?;
+    snap_text(alloc, gap, input, output, bytes.as_slice())
+}
+
+fn snap_text<'a>(
+    alloc: Global,
+    gap: u16,
+    input: &'a str,
+    output: &'a str,
+    bytes: &[u8],
+) -> Result<Product<'a>, Failure<'a>>
+    requires short { length bytes.now ≤ MAX_TEXT }
+    requires output { IsFileName output.now }
+    ensures { RunsPurePlan (snap_read (snap_order gap input.now output.now) bytes.now) result }
+{
+    match read_drawing(alloc, bytes) {
+        Ok(drawing) => snap_drawing(alloc, gap, input, output, bytes, &drawing),
+        Err(fault) => Err(drawing_failure(alloc, input, fault)),
+    }
+}
+
+fn snap_drawing<'a>(
+    alloc: Global,
+    gap: u16,
+    input: &'a str,
+    output: &'a str,
+    bytes: &[u8],
+    drawing: &Drawing,
+) -> Result<Product<'a>, Failure<'a>>
+    requires short { length bytes.now ≤ MAX_TEXT }
+    requires output { IsFileName output.now }
+    ensures { RunsPurePlan
+        (snap_lines (snap_order gap input.now output.now) bytes.now drawing.now) result }
+{
+    match read_lines(alloc, bytes) {
+        Ok(drawn) => snap_drawn_lines(alloc, gap, input, output, drawing, &drawn),
+        Err(fault) => Err(drawing_failure(alloc, input, fault)),
+    }
+}
+
+/// Snaps the lines of a drawing as they are drawn, if the text names no start and no end.
+fn snap_drawn_lines<'a>(
+    alloc: Global,
+    gap: u16,
+    input: &'a str,
+    output: &'a str,
+    drawing: &Drawing,
+    drawn: &DrawnLines,
+) -> Result<Product<'a>, Failure<'a>>
+    requires { IsFileName output.now }
+    ensures { RunsPurePlan (snap_drawn (snap_order gap input.now output.now) drawing.now
+        drawn.now.drawing drawn.now.ends) result }
+{
+    match drawn.ends.as_slice() {
+        [] => snap_lines_of(alloc, gap, input, output, drawing, &drawn.drawing),
+        [_, ..] => Err(has_ends_failure(alloc, input)),
+    }
+}
+
+fn snap_lines_of<'a>(
+    alloc: Global,
+    gap: u16,
+    input: &'a str,
+    output: &'a str,
+    drawing: &Drawing,
+    drawn: &Drawing,
+) -> Result<Product<'a>, Failure<'a>>
+    requires { IsFileName output.now }
+    ensures { RunsPurePlan
+        (snap_made (snap_order gap input.now output.now) drawing.now (snap_of gap drawn.now)) result }
+{
+    match snap(alloc, gap, drawn) {
+        Ok(snapped) => {
+            let product = snap_product(alloc, output, drawing, &snapped)?;
+            Ok(product)
+        }
+        Err(fault) => Err(snap_failure(alloc, input, fault)),
+    }
+}
+
+fn snap_product<'a>(
+    alloc: Global,
+    output: &'a str,
+    drawing: &Drawing,
+    snapped: &SnappedDrawing,
+) -> Result<Product<'a>, Memory>
+    requires joined { is_joined snapped.now.drawing ≡ true }
+    requires no_ends { HasNoEnds snapped.now.drawing }
+    ensures { IfOk result (λ product.
+        IsSnapProduct output.now drawing.now snapped.now (product_value product)) }
+{
+    let before = pieces(alloc, drawing)?;
+    let after = pieces(alloc, &snapped.drawing)?;
+    let report = print_snap(
+        alloc,
+        snapped.moved.len(),
+        snapped.listed.len(),
+        before.len(),
+        after.len(),
+    )?;
+    let content = print_drawing2(alloc, &snapped.drawing)?;
+    let product = one_output(
+        alloc,
+        Output {
+            name: output,
+            content,
+        },
+        report,
+    )?;
+    Ok(product)
+}
