@@ -1,1 +1,3 @@
 mod SnapFacts
+pub mod MoveLemmas
+pub mod ListingLemmas

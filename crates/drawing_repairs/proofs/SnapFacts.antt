@@ -1,14 +1,13 @@
 -- Worked values of snapped lines: small drawings, in tenths of a millimetre.
-use Rattle.std.proofs.Common.{◌≡◌, ℕ, pos, negsuc, List, [], ◌∷◌, ◌++◌, Option, Some, None, Result, Ok, Err, refl}
+use Rattle.std.proofs.Common.{◌≡◌, ℕ, pos, negsuc, List, [], ◌∷◌, ◌++◌, Ok, Err, refl}
 use Rattle.design_model.specs.declared.point.Point.{Point}
 use Rattle.line_sections.specs.Lines.{LineValue}
 use Rattle.line_sections.specs.Sections.{lines_through}
 use Rattle.line_graph.specs.declared.draw_kind.DrawKind.TheVariants as kind
 use Rattle.line_graph.specs.Drawings.{DrawingValue}
-use Rattle.drawing_repairs.specs.declared.snap_fault.SnapFault.{SnapFault}
 use Rattle.drawing_repairs.specs.declared.snap_fault.SnapFault.TheVariants as fault
 use Rattle.drawing_repairs.specs.Anchors.{anchored, anchors_of, distance_between}
-use Rattle.drawing_repairs.specs.Listings.{due_end, segment_between, with_due_ends}
+use Rattle.drawing_repairs.specs.Listings.{with_due_ends}
 use Rattle.drawing_repairs.specs.MovedLines.{moved_points, unrepeated}
 use Rattle.drawing_repairs.specs.RemadeDrawings.{remade_drawing}
 use Rattle.drawing_repairs.specs.Snaps.{snap_of, snapped_lines}

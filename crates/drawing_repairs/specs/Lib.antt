@@ -4,3 +4,5 @@ pub mod Listings
 pub mod RemadeDrawings
 -- Read this one first: a snapped drawing.
 pub mod Snaps
+-- Theorems over these definitions.
+pub mod SnapLaws

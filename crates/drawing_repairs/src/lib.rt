@@ -7,8 +7,10 @@ mod moving;
 mod remaking;
 mod snap_fault;
 mod snapping;
+mod theorems;
 mod vanished;
 
 pub use snap_fault::SnapFault;
 pub use snapping::{SnappedDrawing, snap};
+pub use theorems::{anchors_are_apart, listings_add_ends_alone, points_move_within_gap};
 pub use vanished::VanishedLine;

@@ -1,0 +1,96 @@
+-- A point moves no farther than the gap, and anchors are farther apart.
+use Rattle.std.proofs.Common.{◌≡◌, ℕ, ℤ, ◌-ℤ◌, ◌<◌, ◌≤◌, unsigned_abs, zero, suc, length, get_or, Bool, ◌||◌, true, false, nat_le, nat_lt, List, [], ◌∷◌, ◌++◌, Option, Some, None, if◌then◌else◌, refl, ap, ◌∙◌, arith}
+use Rattle.std.proofs.lemmas.Bool.{leb-false, leb-true, ltb-true}
+use Rattle.std.proofs.lemmas.List.Quantifiers.{all_pairs_push}
+use Rattle.std.proofs.lemmas.Int.{ints}
+use Rattle.std.specs.List.{AllPairs, list_any}
+use Rattle.design_model.specs.declared.point.Point.{Point}
+use Rattle.drawing_repairs.specs.Anchors.{anchored, anchors_after, anchors_of, distance_between, is_within_gap, nearer_anchor, nearest_after, nearest_anchor, point_or, with_anchor}
+
+-- a chosen anchor is within the gap
+abbrev IsNearChoice : ℕ → Point → Option Point → Type 0
+IsNearChoice gap p None = Unit {0}
+IsNearChoice gap p (Some a) = distance_between p a ≤ gap
+
+near_if : (gap : ℕ) (p a : Point) (b : Bool) → nat_le (distance_between p a) gap ≡ b
+    → IsNearChoice gap p (if b then Some a else None)
+near_if gap p a true is = leb-true _ _ is
+near_if gap p a false is = tt
+
+nearer_near : (gap : ℕ) (p best a : Point) (b : Bool) → nat_lt (distance_between p a) (distance_between p best) ≡ b
+    → distance_between p best ≤ gap → distance_between p (if b then a else best) ≤ gap
+nearer_near gap p best a true is near = let less = ltb-true (distance_between p a) (distance_between p best) is in omega (arith, less, near)
+nearer_near gap p best a false is near = near
+
+near_one : (gap : ℕ) (p a : Point) (best : Option Point) → IsNearChoice gap p best → IsNearChoice gap p (nearer_anchor gap p best a)
+near_one gap p a None near = near_if gap p a (nat_le (distance_between p a) gap) refl
+near_one gap p a (Some best) near = nearer_near gap p best a (nat_lt (distance_between p a) (distance_between p best)) refl near
+
+near_all : (gap : ℕ) (p : Point) (best : Option Point) (anchors : List Point) → IsNearChoice gap p best
+    → IsNearChoice gap p (nearest_after gap p best anchors)
+near_all gap p best [] near = near
+near_all gap p best (a ∷ rest) near = near_all gap p (nearer_anchor gap p best a) rest (near_one gap p a best near)
+
+none_apart : (z : ℤ) → unsigned_abs (z -ℤ z) ≡ 0
+none_apart z = omega (arith, ints)
+
+same_place : (p : Point) (gap : ℕ) → distance_between p p ≤ gap
+same_place p gap = let x = none_apart p.x in let y = none_apart p.y in omega (arith, x, y)
+
+near_point : (gap : ℕ) (p : Point) (best : Option Point) → IsNearChoice gap p best → distance_between p (point_or p best) ≤ gap
+near_point gap p None near = same_place p gap
+near_point gap p (Some a) near = near
+
+-- A point is within the gap of the anchor to which it moves.
+pub moves_within : (gap : ℕ) (anchors : List Point) (p : Point) → distance_between p (anchored gap anchors p) ≤ gap
+moves_within gap anchors p = near_point gap p (nearest_anchor gap anchors p) (near_all gap p None anchors tt)
+
+one_place : (a b : ℤ) → unsigned_abs (b -ℤ a) ≤ 0 → b ≡ a
+one_place a b near = omega (arith, ints, near)
+
+abbrev point_at : ℤ → ℤ → Point
+point_at x y = record { x = x; y = y }
+
+-- Points that are 0 apart are the same.
+same_point : (p q : Point) → distance_between p q ≤ 0 → q ≡ p
+same_point p q near =
+    ap (λ (x : ℤ). point_at x q.y) (one_place p.x q.x (omega (arith, near)))
+    ∙ ap (λ (y : ℤ). point_at p.x y) (one_place p.y q.y (omega (arith, near)))
+
+-- With a gap of 0 no point moves.
+pub stays : (anchors : List Point) (p : Point) → anchored 0 anchors p ≡ p
+stays anchors p = same_point p (anchored 0 anchors p) (moves_within 0 anchors p)
+
+either_false : (a b : Bool) → (a || b) ≡ false → (a ≡ false) × (b ≡ false)
+either_false true b is = cc
+either_false false b is = (refl, is)
+
+-- a point is farther than the gap from all anchors, where none is within it
+apart_at : (gap : ℕ) (p : Point) (anchors : List Point) → list_any (is_within_gap gap p) anchors ≡ false
+    → (k : ℕ) (d : Point) → k < length anchors → gap < distance_between p (get_or anchors k d)
+apart_at gap p [] none k d low = absurd (omega (arith, low))
+apart_at gap p (a ∷ rest) none zero d low =
+    leb-false (distance_between p a) gap (either_false (is_within_gap gap p a) _ none).0
+apart_at gap p (a ∷ rest) none (suc k) d low =
+    apart_at gap p rest (either_false (is_within_gap gap p a) _ none).1 k d (omega (arith, low))
+
+abbrev AreFarApart : ℕ → List Point → Type 0
+AreFarApart gap anchors = AllPairs (λ a b. gap < distance_between b a) anchors
+
+with_one : (gap : ℕ) (anchors : List Point) (p : Point) (b : Bool) → list_any (is_within_gap gap p) anchors ≡ b
+    → AreFarApart gap anchors → AreFarApart gap (if b then anchors else anchors ++ p ∷ [])
+with_one gap anchors p true is apart = apart
+with_one gap anchors p false is apart =
+    all_pairs_push (λ (a b : Point). gap < distance_between b a) anchors p apart (apart_at gap p anchors is)
+
+far_after : (gap : ℕ) (anchors points : List Point) → AreFarApart gap anchors → AreFarApart gap (anchors_after gap anchors points)
+far_after gap anchors [] apart = apart
+far_after gap anchors (p ∷ rest) apart =
+    far_after gap (with_anchor gap anchors p) rest (with_one gap anchors p (list_any (is_within_gap gap p) anchors) refl apart)
+
+none_pair : (gap : ℕ) → AreFarApart gap []
+none_pair gap i j d before low = absurd (omega (arith, low))
+
+-- Anchors are farther apart than the gap.
+pub far_apart : (gap : ℕ) (points : List Point) → AreFarApart gap (anchors_of gap points)
+far_apart gap points = far_after gap [] points (none_pair gap)

@@ -1,0 +1,28 @@
+-- Laws of snaps: how far points move, and which points a line lists. Distances are on the larger
+-- axis, in tenths of a millimetre.
+use Rattle.std.specs.Prelude.{◌≡◌, ℕ, ◌<◌, ◌≤◌, Bool, true, List, AllPairs}
+use Rattle.std.specs.List.{list_all}
+use Rattle.design_model.specs.declared.point.Point.{Point}
+use Rattle.drawing_repairs.specs.Anchors.{anchored, anchors_of, distance_between}
+use Rattle.drawing_repairs.specs.Listings.{with_due_ends}
+
+-- A point is within the gap of the anchor to which it moves.
+abbrev pub PointsMoveWithinGap : Type 0
+PointsMoveWithinGap = (gap : ℕ) (anchors : List Point) (p : Point)
+    → distance_between p (anchored gap anchors p) ≤ gap
+
+-- With a gap of 0 no point moves.
+abbrev pub NoPointMovesWithoutGap : Type 0
+NoPointMovesWithoutGap = (anchors : List Point) (p : Point) → anchored 0 anchors p ≡ p
+
+-- Anchors are farther apart than the gap.
+abbrev pub AnchorsAreApart : Type 0
+AnchorsAreApart = (gap : ℕ) (points : List Point)
+    → AllPairs (λ a b. gap < distance_between b a) (anchors_of gap points)
+
+-- A line lists its points and ends of its block alone: what holds of all these holds of each point
+-- that it then lists.
+abbrev pub ListingsAddEndsAlone : Type 0
+ListingsAddEndsAlone = (test : Point → Bool) (gap : ℕ) (ends points : List Point)
+    → list_all test points ≡ true → list_all test ends ≡ true
+    → list_all test (with_due_ends gap ends points) ≡ true

@@ -1,0 +1,17 @@
+ghost use Rattle.drawing_repairs.specs.SnapLaws.{AnchorsAreApart, ListingsAddEndsAlone, NoPointMovesWithoutGap, PointsMoveWithinGap};
+
+/// Theorem: a point is within the gap of the anchor to which it moves, and with a gap of 0 no point moves.
+pub fn points_move_within_gap()
+    ensures near { PointsMoveWithinGap }
+    ensures exact { NoPointMovesWithoutGap }
+{}
+
+/// Theorem: anchors are farther apart than the gap.
+pub fn anchors_are_apart()
+    ensures { AnchorsAreApart }
+{}
+
+/// Theorem: a line lists its points and ends of its block alone.
+pub fn listings_add_ends_alone()
+    ensures { ListingsAddEndsAlone }
+{}
