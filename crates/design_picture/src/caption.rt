@@ -6,7 +6,7 @@ use design_model::{Bytes, Counts, Extent, Memory, height, width};
 use picture_parts::{Part, put, put_escaped};
 
 /// Appends the title of a picture, which is its label, and what it shows in words.
-pub(crate) fn put_title(text: &mut Bytes, label: &[u8]) -> Result<(), Memory>
+pub fn put_title(text: &mut Bytes, label: &[u8]) -> Result<(), Memory>
     ensures { OnOk result (text.new ≡ text.old ++ title_text label.now) }
 {
     put_title_start(text)?;
@@ -38,7 +38,7 @@ fn put_title_end(text: &mut Bytes) -> Result<(), Memory>
 }
 
 /// Appends the texts below a picture, without the legend: scale, label and size, counts, lengths and marks.
-pub(crate) fn put_caption(
+pub fn put_caption(
     text: &mut Bytes,
     label: &[u8],
     extent: Option<Extent>,
@@ -176,7 +176,7 @@ pub(crate) fn put_legend_start(text: &mut Bytes) -> Result<(), Memory>
 
 /// Ends a group.
 #[tactic(auto, unfolding(crate::specs::Captions::group_end))]
-pub(crate) fn put_group_end(text: &mut Bytes) -> Result<(), Memory>
+pub fn put_group_end(text: &mut Bytes) -> Result<(), Memory>
     ensures { OnOk result (text.new ≡ text.old ++ group_end) }
 {
     put(text, &[Part::Text(b"</g>\n")])

@@ -60,7 +60,7 @@ pub(crate) fn corners_in(extent: Option<Extent>) -> Extent
 }
 
 /// Returns the sheet of an area.
-pub(crate) fn sheet_of(area: Area) -> Sheet
+pub fn sheet_of(area: Area) -> Sheet
     requires side { area.side < 2 ^ 32 }
     requires above { area.above < 2 ^ 32 }
     ensures { result ≡ sheet_around area }
@@ -77,7 +77,7 @@ pub(crate) fn sheet_of(area: Area) -> Sheet
 
 /// Begins the group of what is shown, which is moved by the space around it.
 #[tactic(auto, unfolding(crate::specs::Layouts::opening_group))]
-pub(crate) fn put_opening_group(text: &mut Bytes, area: Area) -> Result<(), Memory>
+pub fn put_opening_group(text: &mut Bytes, area: Area) -> Result<(), Memory>
     ensures { OnOk result (text.new ≡ text.old ++ opening_group area) }
 {
     put(
@@ -94,7 +94,7 @@ pub(crate) fn put_opening_group(text: &mut Bytes, area: Area) -> Result<(), Memo
 
 /// Begins the group of the texts below what is shown.
 #[tactic(auto, unfolding(crate::specs::Layouts::below_start))]
-pub(crate) fn put_below_start(text: &mut Bytes, corner: Point, above: u64) -> Result<(), Memory>
+pub fn put_below_start(text: &mut Bytes, corner: Point, above: u64) -> Result<(), Memory>
     ensures { OnOk result (text.new ≡ text.old ++ below_start corner above) }
 {
     put(
@@ -110,7 +110,7 @@ pub(crate) fn put_below_start(text: &mut Bytes, corner: Point, above: u64) -> Re
 }
 
 /// Returns the lower left corner of what is shown.
-pub(crate) fn left_below(corners: Extent) -> Point
+pub fn left_below(corners: Extent) -> Point
     ensures { result ≡ lower_left corners }
 {
     Point {

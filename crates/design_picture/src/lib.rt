@@ -15,10 +15,13 @@ mod strokes;
 mod theorems;
 mod threads;
 
+pub use block_line::LINE_HEIGHT;
+pub use caption::{put_caption, put_group_end, put_title};
 pub use hoop::Hoop;
 pub use layers::{Layer, put_layer};
-pub use layout::{Area, area_of};
+pub use layout::{Area, area_of, left_below, put_below_start, put_opening_group, sheet_of};
 pub use pen::Pen;
-pub use showing::picture;
+pub use showing::{picture, put_holes, put_last_mark, put_legend, put_threads};
 pub use strokes::{BlockEnd, Stroke, Strokes, put_strokes};
 pub use theorems::strokes_show_acts;
+pub use threads::put_shape_end;

@@ -193,7 +193,7 @@ fn put_hole_start(text: &mut Bytes) -> Result<(), Memory>
 }
 
 /// Appends the mark where the last thread ends, if a needle was sewn.
-fn put_last_mark(text: &mut Bytes, pen: Pen) -> Result<(), Memory>
+pub fn put_last_mark(text: &mut Bytes, pen: Pen) -> Result<(), Memory>
     ensures { OnOk result (text.new ≡ text.old ++ last_mark pen) }
 {
     if pen.pieces == 0 {
@@ -223,8 +223,14 @@ fn put_below(
     Ok(())
 }
 
+/// Appends the legend: a line for each block.
 #[tactic(auto, unfolding(crate::specs::Pictures::legend))]
-fn put_legend(text: &mut Bytes, design: &Design, strokes: &[Stroke], pen: Pen) -> Result<(), Memory>
+pub fn put_legend(
+    text: &mut Bytes,
+    design: &Design,
+    strokes: &[Stroke],
+    pen: Pen,
+) -> Result<(), Memory>
     requires { HasCounted MAX_COMMANDS pen }
     ensures { OnOk result (text.new ≡ text.old ++ legend design.now strokes.now pen) }
 {

@@ -183,7 +183,7 @@ fn put_arrow_if(
 
 /// Ends a shape.
 #[tactic(auto, unfolding(crate::specs::Threads::shape_end))]
-pub(crate) fn put_shape_end(text: &mut Bytes) -> Result<(), Memory>
+pub fn put_shape_end(text: &mut Bytes) -> Result<(), Memory>
     ensures { OnOk result (text.new ≡ text.old ++ shape_end) }
 {
     put(text, &[Part::Text(b"'/>\n")])

@@ -35,8 +35,8 @@ style_text =
     ∷ (codes ".start{fill:#1a7f37;stroke:#fff;stroke-width:1.5}.end{fill:#b3261e;stroke:#fff"
     ++ (codes ";stroke-width:1.5}.trim{fill:none;stroke:#222;stroke-width:2}.stop{fill:#fff;s"
     ++ (codes "troke:#222;stroke-width:2}" ++ 10 ∷ [])))
-    ∷ (codes ".small{font-size:17px}.over{stroke:#d00}.band{fill:none;stroke-width:15;stroke"
-    ++ (codes "-linecap:butt;opacity:.55}.odd{fill:#fff;stroke:#222;stroke-width:3}.even{fill"
+    ∷ (codes ".small{font-size:17px}.over{stroke:#d00}.band{fill:none;stroke-width:30;stroke"
+    ++ (codes "-linecap:butt;opacity:.6}.odd{fill:#fff;stroke:#222;stroke-width:3}.even{fill"
     ++ (codes ":#222}</style>" ++ 10 ∷ []))) ∷ [])
 
 -- The arrows along a thread and along a travel.

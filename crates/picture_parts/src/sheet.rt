@@ -105,7 +105,7 @@ fn put_style(text: &mut Bytes) -> Result<(), Memory>
                 b".start{fill:#1a7f37;stroke:#fff;stroke-width:1.5}.end{fill:#b3261e;stroke:#fff;stroke-width:1.5}.trim{fill:none;stroke:#222;stroke-width:2}.stop{fill:#fff;stroke:#222;stroke-width:2}\n",
             ),
             Part::Text(
-                b".small{font-size:17px}.over{stroke:#d00}.band{fill:none;stroke-width:15;stroke-linecap:butt;opacity:.55}.odd{fill:#fff;stroke:#222;stroke-width:3}.even{fill:#222}</style>\n",
+                b".small{font-size:17px}.over{stroke:#d00}.band{fill:none;stroke-width:30;stroke-linecap:butt;opacity:.6}.odd{fill:#fff;stroke:#222;stroke-width:3}.even{fill:#222}</style>\n",
             ),
         ],
     )
