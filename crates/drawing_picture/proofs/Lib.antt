@@ -1,0 +1,4 @@
+mod BandFacts
+mod BandLemmas
+mod CertificateLemmas
+mod FaultLemmas

@@ -1,0 +1,57 @@
+-- The texts of bands.
+use Rattle.std.specs.Prelude.{ℕ, ◌%◌, ◌==◌, List, [], ◌∷◌, ◌++◌, codes, if◌then◌else◌, map}
+use Rattle.design_model.specs.declared.point.Point.{Point}
+use Rattle.design_picture.specs.Threads.{shape_end}
+use Rattle.drawing_picture.specs.Bands.{Band, bands_on}
+use Rattle.line_graph.specs.declared.edge.Edge.{Edge}
+use Rattle.line_graph.specs.Drawings.{DrawingValue}
+use Rattle.line_graph.specs.PieceGraphs.{PieceValue}
+use Rattle.odd_cuts.specs.declared.certificate.PieceCert.{PieceCert}
+use Rattle.odd_cuts.specs.declared.cut.Cut.{Cut}
+use Rattle.picture_parts.specs.Parts.{ended, joined, point_text}
+
+-- The colour of the cut with the given number: six colours, again and again.
+abbrev pub colour_of_cut : ℕ → List ℕ
+colour_of_cut number = if number % 6 == 0 then codes "#1b9e77"
+    else (if number % 6 == 1 then codes "#e6ab02"
+    else (if number % 6 == 2 then codes "#7570b3"
+    else (if number % 6 == 3 then codes "#66a61e"
+    else (if number % 6 == 4 then codes "#e7298a" else codes "#386cb0"))))
+
+-- The beginning of a band of a colour.
+unfoldable pub band_start : List ℕ → List ℕ
+band_start colour = joined (codes "<path class='band' stroke='" ∷ colour ∷ codes "' d='M" ∷ [])
+
+-- A point of a way.
+unfoldable pub way_point : Point → List ℕ
+way_point p = joined (point_text p ∷ codes " " ∷ [])
+
+-- The points of a way.
+abbrev pub way_points : List Point → List ℕ
+way_points points = joined (map way_point points)
+
+-- A band.
+abbrev pub band_text : Band → List ℕ
+band_text band = band_start (colour_of_cut band.number) ++ (way_points band.way ++ shape_end)
+
+-- The bands on a line.
+abbrev pub line_bands : DrawingValue → List Cut → ℕ → Edge → List ℕ
+line_bands d cuts line e = joined (map band_text (bands_on d cuts line e))
+
+-- The bands on lines, which are those edges of their piece.
+abbrev pub bands_of_lines : DrawingValue → List Cut → List ℕ → List Edge → List ℕ
+bands_of_lines d cuts [] edges = []
+bands_of_lines d cuts (line ∷ lines) [] = []
+bands_of_lines d cuts (line ∷ lines) (e ∷ edges) =
+    line_bands d cuts line e ++ bands_of_lines d cuts lines edges
+
+-- The bands of the certificates of pieces.
+abbrev pub bands_of_pieces : DrawingValue → List PieceValue → List PieceCert → List ℕ
+bands_of_pieces d [] certs = []
+bands_of_pieces d (p ∷ pieces) [] = []
+bands_of_pieces d (p ∷ pieces) (cert ∷ certs) =
+    bands_of_lines d cert.cuts p.lines p.edges ++ bands_of_pieces d pieces certs
+
+-- The beginning of the bands, whose points are in half tenths of a millimetre.
+unfoldable pub bands_start : List ℕ
+bands_start = joined (ended (codes "<g transform='scale(.5)'>") ∷ [])

@@ -1,0 +1,7 @@
+-- Read this one first: the bands of cuts on lines.
+pub mod Bands
+pub mod BandLaws
+pub mod BandTexts
+-- The picture of a drawing and its certificate.
+pub mod ProofPictures
+pub mod CheckedProofs

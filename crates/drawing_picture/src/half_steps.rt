@@ -1,0 +1,72 @@
+ghost use Rattle.std.specs.Prelude.{◌≡◌, ◌<◌, All, IfOk, length, reverse};
+ghost use Rattle.drawing_picture.specs.Bands.{half_steps as half_steps_along, half_steps_from, half_steps_of_line, middle_of};
+ghost use Rattle.line_graph.specs.Chains.{IsNeedlePoint};
+
+use design_model::{Memory, Point, Points};
+use line_graph::{Drawing, needles};
+use odd_cuts::first_and_rest;
+use std::alloc::Global;
+
+/// Returns the half steps of a line from its first point, in half tenths of a millimetre.
+pub(crate) fn half_steps_of(alloc: Global, d: &Drawing, line: u32) -> Result<Points, Memory>
+    requires { line < length d.now.lines }
+    ensures { IfOk result (λ points. points ≡ half_steps_of_line d.now line) }
+{
+    let needles = needles(alloc, d, line)?;
+    let points = half_steps(alloc, needles.as_slice())?;
+    Ok(points)
+}
+
+fn half_steps(alloc: Global, needles: &[Point]) -> Result<Points, Memory>
+    requires { All IsNeedlePoint needles.now }
+    ensures { IfOk result (λ points. points ≡ half_steps_along needles.now) }
+{
+    let mut points = Points::new(alloc);
+    let Some((first, after)) = first_and_rest(needles) else {
+        return Ok(points);
+    };
+    let mut before = first;
+    let mut rest = after;
+    while let Some((next, after)) = first_and_rest(rest) {
+        points.push(middle(before, before))?;
+        points.push(middle(before, next))?;
+        before = next;
+        rest = after;
+    }
+    points.push(middle(before, before))?;
+    Ok(points)
+}
+
+/// Returns the middle of two points, in half tenths of a millimetre.
+fn middle(p: Point, q: Point) -> Point
+    requires first { IsNeedlePoint p }
+    requires last { IsNeedlePoint q }
+    ensures { result ≡ middle_of p q }
+{
+    Point {
+        x: p.x + q.x,
+        y: p.y + q.y,
+    }
+}
+
+/// Returns points in the opposite order.
+pub(crate) fn reversed(alloc: Global, points: &[Point]) -> Result<Points, Memory>
+    ensures { IfOk result (λ turned. turned ≡ reverse points.now) }
+{
+    let mut turned = Vec::new(alloc);
+    turned.extend_from_slice(points)?;
+    turn_all(&mut turned);
+    Ok(Points::from_vec(turned))
+}
+
+fn turn_all(points: &mut Vec<Point>)
+    ensures { points.new.items ≡ reverse points.old.items }
+{
+    turn(points);
+}
+
+fn turn(points: &mut [Point])
+    ensures { points.new ≡ reverse points.old }
+{
+    points.reverse();
+}

@@ -1,0 +1,89 @@
+ghost use Rattle.std.specs.Prelude.{◌≡◌, ◌++◌, ◌<◌, All, OnOk, length, map};
+ghost use Rattle.drawing_picture.specs.BandTexts.{bands_of_lines, bands_of_pieces, line_bands};
+ghost use Rattle.line_graph.specs.PiecesOfDrawings.{ArePiecesOf, graph_of};
+
+use crate::bands::{FreeWays, put_bands};
+use crate::half_steps::{half_steps_of, reversed};
+use design_model::{Bytes, Memory};
+use line_graph::{Drawing, Edge, Piece};
+use odd_cuts::{Cut, PieceCert, first_and_rest, first_lent};
+use std::alloc::Global;
+
+/// Appends the bands of the certificates of pieces.
+pub(crate) fn put_pieces(
+    alloc: Global,
+    text: &mut Bytes,
+    d: &Drawing,
+    pieces: &[Piece],
+    certs: &[PieceCert],
+) -> Result<(), Memory>
+    requires { All (λ p. All (λ line. line < length d.now.lines) p.lines) pieces.now }
+    ensures { OnOk result (text.new
+        ≡ text.old ++ bands_of_pieces d.now (map graph_of pieces.now) certs.now) }
+{
+    let mut left = pieces;
+    let mut said = certs;
+    while let (Some((piece, pieces_after)), Some((cert, certs_after))) = (
+        first_lent(left),
+        first_lent(said),
+    ) {
+        put_lines(
+            alloc,
+            text,
+            d,
+            cert.cuts.as_slice(),
+            piece.lines.as_slice(),
+            piece.edges.as_slice(),
+        )?;
+        left = pieces_after;
+        said = certs_after;
+    }
+    Ok(())
+}
+
+/// Appends the bands of cuts on lines, which are those edges of their piece.
+fn put_lines(
+    alloc: Global,
+    text: &mut Bytes,
+    d: &Drawing,
+    cuts: &[Cut],
+    lines: &[u32],
+    edges: &[Edge],
+) -> Result<(), Memory>
+    requires { All (λ line. line < length d.now.lines) lines.now }
+    ensures { OnOk result (text.new ≡ text.old ++ bands_of_lines d.now cuts.now lines.now edges.now) }
+{
+    let mut left = lines;
+    let mut drawn = edges;
+    while let (Some((line, lines_after)), Some((edge, edges_after))) = (
+        first_and_rest(left),
+        first_and_rest(drawn),
+    ) {
+        put_line(alloc, text, d, cuts, line, edge)?;
+        left = lines_after;
+        drawn = edges_after;
+    }
+    Ok(())
+}
+
+/// Appends the bands of cuts on a line, which is that edge of its piece.
+fn put_line(
+    alloc: Global,
+    text: &mut Bytes,
+    d: &Drawing,
+    cuts: &[Cut],
+    line: u32,
+    edge: Edge,
+) -> Result<(), Memory>
+    requires { line < length d.now.lines }
+    ensures { OnOk result (text.new ≡ text.old ++ line_bands d.now cuts.now line edge) }
+{
+    let ahead = half_steps_of(alloc, d, line)?;
+    let back = reversed(alloc, ahead.as_slice())?;
+    let ways = FreeWays {
+        ahead: ahead.as_slice(),
+        back: back.as_slice(),
+    };
+    put_bands(text, cuts, edge, ways)?;
+    Ok(())
+}
