@@ -10,10 +10,10 @@ ghost use Rattle.stitch_cli.specs.Checks.{IsCheckResult, bad_line_text, check_ce
 ghost use Rattle.program_shell.specs.StepOutcomes.{IsRefusalWith, RunsPlan, RunsPurePlan, RunsRequest};
 ghost use Rattle.program_shell.specs.Plans.{satisfies};
 
-use crate::drawing_inputs::drawing_in;
 use certificate_text::{CertFault, read_cert};
 use command_words::CheckNames;
 use design_model::{Design, Memory};
+use drawing_inputs::drawing_in;
 use format_traits::{Format, Loaded, find};
 use line_graph::Drawing;
 use odd_cuts::Cert;

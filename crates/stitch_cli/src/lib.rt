@@ -3,7 +3,6 @@
 
 mod checking;
 mod commands;
-mod drawing_inputs;
 mod headline;
 mod hooping;
 mod migrating;

@@ -6,8 +6,8 @@ ghost use Rattle.stitch_cli.specs.Commands.{migrating, stitch};
 ghost use Rattle.stitch_cli.specs.Migrations.{IsMigrated, complete_migrate, migrate_order, migrate_plan};
 ghost use Rattle.program_shell.specs.Products.{product_value};
 
-use crate::drawing_inputs::drawing_as2_in;
 use design_model::Memory;
+use drawing_inputs::drawing_as2_in;
 use drawing_text::print_drawing2;
 use line_graph::{Drawing, drawing_cost, pieces};
 use outside_io::Store;

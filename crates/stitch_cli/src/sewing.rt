@@ -13,10 +13,10 @@ ghost use Rattle.stitch_cli.specs.Commands.{sewing, stitch};
 ghost use Rattle.stitch_cli.specs.Sewings.{IsSewnProduct, IsSewnFile, complete_sewing, names_differ, sewing_drawing, sewing_order, sewing_plan};
 ghost use Rattle.stitch_cli.specs.SewingWays.{IsSewnBy, IsSewnOver};
 
-use crate::drawing_inputs::drawing_in;
 use certificate_text::print_cert;
 use command_words::RouteNames;
 use design_model::{Bytes, Memory};
+use drawing_inputs::drawing_in;
 use format_traits::{Format, WriteFault, encode_by, ext_of, find, limit_of};
 use line_graph::{Drawing, Piece, pieces, runs_are_sewn};
 use outside_io::Store;
