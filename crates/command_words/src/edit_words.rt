@@ -110,7 +110,7 @@ fn parse_thread(value: &[u8]) -> Option<Edit>
 }
 
 /// Splits a text at the first occurrence of a byte, if there is one.
-fn split_once(text: &[u8], separator: u8) -> Option<(&[u8], &[u8])>
+pub fn split_once(text: &[u8], separator: u8) -> Option<(&[u8], &[u8])>
     ensures { option_map (λ parts. (parts.0.now, parts.1.now)) result ≡ split_at_byte separator text.now }
 {
     for (place, byte) in text.iter().enumerate() {

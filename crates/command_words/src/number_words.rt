@@ -16,7 +16,7 @@ pub(crate) fn parse_integer(most: u32, word: &[u8]) -> Option<i32>
 }
 
 /// Parses a natural number from `least` to `most`.
-pub(crate) fn parse_natural(least: u32, most: u32, word: &[u8]) -> Option<u32>
+pub fn parse_natural(least: u32, most: u32, word: &[u8]) -> Option<u32>
     ensures value { result ≡ natural_within least most (parsed_whole word.now) }
     ensures least { IfSome result (λ number. least ≤ number) }
     ensures most { IfSome result (λ number. number ≤ most) }
