@@ -1,4 +1,5 @@
 ghost use Rattle.std.specs.Prelude.{◌≡◌, IfOk, string_bytes};
+ghost use Rattle.program_shell.specs.FileTexts.{text_at};
 ghost use Rattle.program_texts.specs.DrawingTexts.{draw_fault_text, draw_kind_text, step_limit_text, trace_fault_text};
 
 use crate::design_texts::describe_command;
@@ -13,13 +14,20 @@ use stitch_trace::TraceFault;
 pub fn describe_draw_fault(alloc: Global, name: &str, fault: DrawFault) -> Result<String, Memory>
     ensures { IfOk result (λ text. string_bytes text ≡ draw_fault_text name.now fault) }
 {
-    describe_part(
-        alloc,
-        name,
-        "line",
-        u64::from(fault.number),
-        kind_text(fault.kind),
-    )
+    describe_kind(alloc, name, "line", u64::from(fault.number), fault.kind)
+}
+
+/// Returns the text about what is wrong with a drawing at a numbered part, such as a line of its text.
+pub fn describe_kind(
+    alloc: Global,
+    name: &str,
+    part: &str,
+    number: u64,
+    kind: DrawKind,
+) -> Result<String, Memory>
+    ensures { IfOk result (λ text. string_bytes text ≡ text_at name.now part.now number (draw_kind_text kind)) }
+{
+    describe_part(alloc, name, part, number, kind_text(kind))
 }
 
 /// Returns the text about a step that exceeds the limit of the format with that ending, both in tenths of a
