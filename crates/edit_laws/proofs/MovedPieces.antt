@@ -1,14 +1,14 @@
 -- The pieces of a moved drawing.
-use Rattle.std.proofs.Common.{◌≡◌, ◌∙◌, ℕ, ◌<◌, ◌==◌, ◌&&◌, ◌||◌, Bool, true, All, Contains, List, [], ◌∷◌, Option, Some, length, map, refl, ap, sym, subst}
+use Rattle.std.proofs.Common.{◌≡◌, ◌∙◌, ℕ, ◌<◌, ◌==◌, ◌&&◌, ◌||◌, Bool, All, List, [], ◌∷◌, Option, Some, None, map, refl, ap, sym, subst}
 use Rattle.std.proofs.lemmas.List.{length-map}
 use Rattle.std.proofs.lemmas.Option.{slice_get-map}
-use Rattle.std.specs.Prelude.{option_map}
+use Rattle.std.specs.Prelude.{option_map, slice_get}
 use Rattle.std.specs.List.{concat, list_any}
 use Rattle.design_model.specs.declared.point.Point.{Point}
 use Rattle.design_model.specs.Points.{is_same_point}
 use Rattle.drawing_edits.specs.MovedDrawings.{moved_drawing, with_moved_line}
 use Rattle.line_graph.specs.Drawings.{DrawingValue}
-use Rattle.line_graph.specs.Pieces.{AreConnected, ArePieces, IsPathOfLines, LinesTouch, endpoints, first_line, shares_point, touches}
+use Rattle.line_graph.specs.Pieces.{AreConnected, ArePieces, IsPathOfLines, LinesTouch, endpoints, shares_point, touches}
 use Rattle.line_sections.specs.Lines.{LineValue}
 use Rattle.edit_laws.proofs.MovedLines.{endpoints_moved, listed_moved}
 
@@ -33,24 +33,50 @@ module _ (f : Point → Point) (same : (p q : Point) → is_same_point (f p) (f 
     touch = touch_moved is.one is.other ∙ is.touch;
   }
 
+  -- the lines of the drawing, where those of the moved drawing are there
+  line_back : (o : Option LineValue) (line : LineValue) → option_map (with_moved_line f) o ≡ Some line
+      → (before : LineValue) × (o ≡ Some before) × (with_moved_line f before ≡ line)
+  line_back None line is = absurd (let no : ⊥ = cc in no)
+  line_back (Some before) line is = (before, refl, let same_line : with_moved_line f before ≡ line = cc in same_line)
+
+  lines_touch_back : (d : DrawingValue) (i j : ℕ) → LinesTouch (moved_drawing f d) i j → LinesTouch d i j
+  lines_touch_back d i j is =
+      let one = line_back (slice_get d.lines i) is.one (sym (slice_get-map (with_moved_line f) d.lines i) ∙ is.one_is) in
+      let other = line_back (slice_get d.lines j) is.other (sym (slice_get-map (with_moved_line f) d.lines j) ∙ is.other_is) in
+      record {
+        one = one.0;
+        other = other.0;
+        one_is = one.1;
+        other_is = other.1;
+        touch = sym (touch_moved one.0 other.0)
+            ∙ (ap (λ (l : LineValue). touches l (with_moved_line f other.0)) one.2
+            ∙ (ap (λ (l : LineValue). touches is.one l) other.2 ∙ is.touch));
+      }
+
   path_moved : (d : DrawingValue) (i : ℕ) (chain : List ℕ) (j : ℕ) → IsPathOfLines d i chain j
       → IsPathOfLines (moved_drawing f d) i chain j
   path_moved d i [] j is = is
   path_moved d i (k ∷ rest) j (touch, later) = (lines_touch_moved d i k touch, path_moved d k rest j later)
 
-  pub connected_moved : (d : DrawingValue) (i j : ℕ) → AreConnected d i j → AreConnected (moved_drawing f d) i j
-  connected_moved d i j (chain, is) = (chain, path_moved d i chain j is)
+  path_back : (d : DrawingValue) (i : ℕ) (chain : List ℕ) (j : ℕ) → IsPathOfLines (moved_drawing f d) i chain j
+      → IsPathOfLines d i chain j
+  path_back d i [] j is = is
+  path_back d i (k ∷ rest) j (touch, later) = (lines_touch_back d i k touch, path_back d k rest j later)
 
-  -- the pieces stay, where lines that are connected in the moved drawing are connected in the drawing
-  pub pieces_moved : (d : DrawingValue) (pieces : List (List ℕ))
-      → ((i j : ℕ) → AreConnected (moved_drawing f d) i j → AreConnected d i j)
-      → ArePieces d pieces → ArePieces (moved_drawing f d) pieces
-  pieces_moved d pieces back are = record {
+  -- the pieces stay
+  pub pieces_moved : (d : DrawingValue) (pieces : List (List ℕ)) → ArePieces d pieces → ArePieces (moved_drawing f d) pieces
+  pieces_moved d pieces are = record {
     filled = are.filled;
     there = subst (λ (n : ℕ). All (λ line. line < n) (concat pieces)) (sym (length-map d.lines (with_moved_line f))) are.there;
     covered = λ line below. are.covered line (subst (λ (n : ℕ). line < n) (length-map d.lines (with_moved_line f)) below);
     joined = λ i e below. λ k n within. connected_moved d _ _ (are.joined i e below k n within);
-    apart = λ i j e before below led. are.apart i j e before below (back _ _ led);
+    apart = λ i j e before below led. are.apart i j e before below (connected_back d _ _ led);
     rising = are.rising;
     ordered = are.ordered;
   }
+    where
+      connected_moved : (d : DrawingValue) (i j : ℕ) → AreConnected d i j → AreConnected (moved_drawing f d) i j
+      connected_moved d i j (chain, is) = (chain, path_moved d i chain j is)
+
+      connected_back : (d : DrawingValue) (i j : ℕ) → AreConnected (moved_drawing f d) i j → AreConnected d i j
+      connected_back d i j (chain, is) = (chain, path_back d i chain j is)

@@ -28,18 +28,7 @@ ends_kept f (Some s) None from to (one, two) = (ap (option_map f) one, ap (optio
 ends_kept f None (Some e) from to (one, two) = (ap (option_map f) one, ap (option_map f) two)
 ends_kept f None None from to is = ap (option_map f) is
 
-module _ (f : Point → Point) (same : (p q : Point) → is_same_point (f p) (f q) ≡ is_same_point p q)
-    (needles : (step : ℕ) (ps : List Point) → needle_points step (map f ps) ≡ map f (needle_points step ps)) where
-  leads_moved : (d : DrawingValue) (from : Option Point) (walk : List Pass) (to : Option Point) → Leads d from walk to
-      → Leads (moved_drawing f d) (option_map f from) walk (option_map f to)
-  leads_moved d from [] to is = ap (option_map f) is
-  leads_moved d from (pass ∷ rest) to (first, later) = (
-    ap first_point (pass_moved f needles d pass) ∙ (first_moved f (needles_of_pass d pass) ∙ ap (option_map f) first),
-    subst (λ (at : Option Point). Leads (moved_drawing f d) at rest (option_map f to))
-    (sym (ap last_point (pass_moved f needles d pass) ∙ last_moved f (needles_of_pass d pass)))
-    (leads_moved d (last_point (needles_of_pass d pass)) rest to later),
-  )
-
+module _ (f : Point → Point) (same : (p q : Point) → is_same_point (f p) (f q) ≡ is_same_point p q) where
   junction_moved : (d : DrawingValue) (lines : List ℕ) (spot : Spot)
       → is_junction_of (moved_drawing f d) lines (with_moved_spot f spot) ≡ is_junction_of d lines spot
   junction_moved d lines spot =
@@ -62,21 +51,6 @@ module _ (f : Point → Point) (same : (p q : Point) → is_same_point (f p) (f 
           → cond t (Some (f at)) (option_map f r) ≡ option_map f (cond t (Some at) r)
       by_test true r at = refl
       by_test false r at = refl
-
-  pub thread_moved : (d : DrawingValue) (lines : List ℕ) (walk : List Pass) → IsThreadOver d lines walk
-      → IsThreadOver (moved_drawing f d) lines walk
-  thread_moved d lines walk is = record {
-    from = option_map f is.from;
-    to = option_map f is.to;
-    drawn = is.drawn;
-    covered = is.covered;
-    leads = leads_moved d is.from walk is.to is.leads;
-    ends = subst (λ (s : Option Point). KeepsGivenEnds s (given_point (moved_drawing f d) lines (map (with_moved_spot f) d.ends))
-        (option_map f is.from) (option_map f is.to)) (sym (given_moved d lines d.starts))
-        (subst (λ (e : Option Point). KeepsGivenEnds (option_map f (given_point d lines d.starts)) e
-        (option_map f is.from) (option_map f is.to)) (sym (given_moved d lines d.ends))
-        (ends_kept f (given_point d lines d.starts) (given_point d lines d.ends) is.from is.to is.ends));
-  }
 
   -- cuts
   holds_moved : (d : DrawingValue) (lines : List ℕ) (cut : Cut) (p : Option Point)
@@ -130,24 +104,52 @@ module _ (f : Point → Point) (same : (p q : Point) → is_same_point (f p) (f 
         ∙ (ap (λ (n : ℕ). (count_by (leads_out d lines cut) lines + n) % 2) (given_apart_moved d lines cut) ∙ is.odd);
   }
 
-  pub packing_moved : (d : DrawingValue) (lines : List ℕ) (cuts : List Cut) → IsPackingOver d lines cuts
-      → IsPackingOver (moved_drawing f d) lines cuts
-  packing_moved d lines cuts is = record {
+  pub packing_moved : (d : DrawingValue) (lines : List ℕ) (cuts : List Cut)
+      → ((line : ℕ) → cost_of_line (moved_drawing f d) line ≡ cost_of_line d line)
+      → IsPackingOver d lines cuts → IsPackingOver (moved_drawing f d) lines cuts
+  packing_moved d lines cuts costs is = record {
     odd = λ i e below. odd_moved d lines _ (is.odd i e below);
-    loads = λ i e below. load_moved d lines cuts _ (is.loads i e below);
+    loads = λ i e below. load_moved _ (is.loads i e below);
   }
     where
-      load_moved : (d : DrawingValue) (lines : List ℕ) (cuts : List Cut) (line : ℕ)
+      load_moved : (line : ℕ)
           → sum_by (λ (cut : Cut). cond (leads_out d lines cut line) cut.weight 0) cuts ≤ 2 * cost_of_line d line
           → sum_by (λ (cut : Cut). cond (leads_out (moved_drawing f d) lines cut line) cut.weight 0) cuts
           ≤ 2 * cost_of_line (moved_drawing f d) line
-      load_moved d lines cuts line load =
+      load_moved line load =
           subst (λ (n : ℕ). sum_by (λ (cut : Cut). cond (leads_out (moved_drawing f d) lines cut line) cut.weight 0) cuts ≤ 2 * n)
-          (sym (cost_moved f needles d line))
+          (sym (costs line))
           (subst (λ (w : Cut → ℕ). sum_by w cuts ≤ 2 * cost_of_line d line)
           (same_function (λ (cut : Cut). cond (leads_out d lines cut line) cut.weight 0)
           (λ (cut : Cut). cond (leads_out (moved_drawing f d) lines cut line) cut.weight 0)
           (λ cut. ap (λ (t : Bool). cond t cut.weight 0) (sym (out_moved d lines cut line)))) load)
+
+module _ (f : Point → Point) (same : (p q : Point) → is_same_point (f p) (f q) ≡ is_same_point p q)
+    (needles : (step : ℕ) (ps : List Point) → needle_points step (map f ps) ≡ map f (needle_points step ps)) where
+  leads_moved : (d : DrawingValue) (from : Option Point) (walk : List Pass) (to : Option Point) → Leads d from walk to
+      → Leads (moved_drawing f d) (option_map f from) walk (option_map f to)
+  leads_moved d from [] to is = ap (option_map f) is
+  leads_moved d from (pass ∷ rest) to (first, later) = (
+    ap first_point (pass_moved f needles d pass) ∙ (first_moved f (needles_of_pass d pass) ∙ ap (option_map f) first),
+    subst (λ (at : Option Point). Leads (moved_drawing f d) at rest (option_map f to))
+        (sym (ap last_point (pass_moved f needles d pass) ∙ last_moved f (needles_of_pass d pass)))
+        (leads_moved d (last_point (needles_of_pass d pass)) rest to later),
+  )
+
+  pub thread_moved : (d : DrawingValue) (lines : List ℕ) (walk : List Pass) → IsThreadOver d lines walk
+      → IsThreadOver (moved_drawing f d) lines walk
+  thread_moved d lines walk is = record {
+    from = option_map f is.from;
+    to = option_map f is.to;
+    drawn = is.drawn;
+    covered = is.covered;
+    leads = leads_moved d is.from walk is.to is.leads;
+    ends = subst (λ (s : Option Point). KeepsGivenEnds s (given_point (moved_drawing f d) lines (map (with_moved_spot f) d.ends))
+        (option_map f is.from) (option_map f is.to)) (sym (given_moved f same d lines d.starts))
+        (subst (λ (e : Option Point). KeepsGivenEnds (option_map f (given_point d lines d.starts)) e
+        (option_map f is.from) (option_map f is.to)) (sym (given_moved f same d lines d.ends))
+        (ends_kept f (given_point d lines d.starts) (given_point d lines d.ends) is.from is.to is.ends));
+  }
 
   -- a least thread, where each thread over the moved drawing is one over the drawing
   pub least_moved : (d : DrawingValue) (lines : List ℕ) (cert : PieceCert)
@@ -162,7 +164,7 @@ module _ (f : Point → Point) (same : (p q : Point) → is_same_point (f p) (f 
     penetrations = walk_length_moved f needles d cert.walk ∙ (is.penetrations
         ∙ ap (λ (cost : ℕ → ℕ). sum_by cost lines + cert.retraced + 1)
         (same_function (cost_of_line d) (cost_of_line (moved_drawing f d)) (λ line. sym (cost_moved f needles d line))));
-    packing = packing_moved d lines cert.cuts is.packing;
+    packing = packing_moved f same d lines cert.cuts (cost_moved f needles d) is.packing;
     total = is.total;
   }
 

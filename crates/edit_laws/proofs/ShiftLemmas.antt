@@ -1,33 +1,28 @@
 -- A shift keeps which points are equal, moves the needle points of a line, and is undone by the opposite shift.
-use Rattle.std.proofs.Common.{◌≡◌, ◌∙◌, ℕ, ℤ, pos, ◌+ℤ◌, ◌-ℤ◌, ◌*ℤ◌, neg_ℤ, Bool, true, false, ◌&&◌, List, [], ◌∷◌, ◌++◌, map, refl, ap, sym, subst, arith}
+use Rattle.std.proofs.Common.{◌≡◌, ◌∙◌, ℕ, ℤ, pos, ◌+ℤ◌, ◌-ℤ◌, ◌*ℤ◌, neg_ℤ, Bool, true, false, ◌&&◌, List, [], ◌∷◌, map, refl, ap, sym, subst, arith}
 use Rattle.std.proofs.lemmas.Bool.Decides.{Decides-int_eq}
 use Rattle.std.proofs.lemmas.Int.{ints}
 use Rattle.std.proofs.lemmas.List.{map-append}
 use Rattle.std.specs.Int.{div_ceil}
 use Rattle.std.specs.List.{range_with_len}
 use Rattle.std.specs.Ordering.{int_eq}
-use Rattle.design_edits.specs.Moves.{shift_point, shifted}
+use Rattle.design_edits.specs.Moves.{shift_point}
 use Rattle.design_model.specs.declared.point.Point.{Point}
-use Rattle.design_model.specs.Acts.{acts_along, acts_without_numbers}
-use Rattle.design_model.specs.Designs.{DesignValue}
 use Rattle.design_model.specs.Points.{is_same_point, move_between, move_size}
-use Rattle.drawing_edits.specs.MovedDrawings.{moved_drawing, shifted_drawing, with_moved_line, with_moved_spot}
+use Rattle.drawing_edits.specs.MovedDrawings.{shifted_drawing, with_moved_line, with_moved_spot}
 use Rattle.line_graph.specs.declared.pass.Pass.{Pass}
 use Rattle.line_graph.specs.Drawings.{DrawingValue}
 use Rattle.line_graph.specs.DrawnWalks.{IsThreadOver}
-use Rattle.line_graph.specs.Needles.{needle_points, segment_points}
-use Rattle.line_graph.specs.Pieces.{AreConnected}
+use Rattle.line_graph.specs.Needles.{segment_points}
 use Rattle.line_graph.specs.Runs.{run_of, sewn_acts_after}
 use Rattle.line_sections.specs.declared.spot.Spot.{Spot}
 use Rattle.line_sections.specs.Lines.{LineValue}
-use Rattle.odd_cuts.specs.declared.certificate.PieceCert.{PieceCert}
 use Rattle.odd_cuts.specs.Certificates.{walks_of}
-use Rattle.route_verdict.specs.LeastRedwork.{IsLeastRedwork}
 use Rattle.step_splitter.specs.Steps.{coordinate_on_segment, floor_quotient, point_on_segment, split_points, steps_of}
 use Rattle.edit_laws.specs.ShiftLaws.{ShiftKeepsLeastRedwork, ShiftMovesNeedles}
 use Rattle.edit_laws.proofs.MovedActs.{acts_moved, runs_moved, sewn_moved, with_mapped_act}
 use Rattle.edit_laws.proofs.MovedLines.{joined_same}
-use Rattle.edit_laws.proofs.MovedPieces.{connected_moved, pieces_moved}
+use Rattle.edit_laws.proofs.MovedPieces.{pieces_moved}
 use Rattle.edit_laws.proofs.MovedWalks.{thread_moved, threads_moved}
 
 -- the point with those numbers
@@ -124,8 +119,11 @@ drawing_undone : (dx dy : ℤ) (d : DrawingValue) → shifted_drawing (neg_ℤ d
 drawing_undone dx dy d =
     ap (λ (ls : List LineValue). record (shifted_drawing (neg_ℤ dx) (neg_ℤ dy) (shifted_drawing dx dy d)) { lines = ls })
     (map_undone _ _ (line_undone dx dy) d.lines)
-    ∙ (ap (λ (ss : List Spot). record d { starts = ss; ends = map (with_moved_spot (shift_point (neg_ℤ dx) (neg_ℤ dy)))
-    (map (with_moved_spot (shift_point dx dy)) d.ends) }) (map_undone _ _ (spot_undone dx dy) d.starts)
+    ∙ (ap (λ (ss : List Spot). record d {
+      starts = ss;
+      ends = map (with_moved_spot (shift_point (neg_ℤ dx) (neg_ℤ dy)))
+          (map (with_moved_spot (shift_point dx dy)) d.ends);
+    }) (map_undone _ _ (spot_undone dx dy) d.starts)
     ∙ ap (λ (es : List Spot). record d { ends = es }) (map_undone _ _ (spot_undone dx dy) d.ends))
 
 thread_back : (dx dy : ℤ) (d : DrawingValue) (lines : List ℕ) (walk : List Pass) → IsThreadOver (shifted_drawing dx dy d) lines walk
@@ -134,16 +132,12 @@ thread_back dx dy d lines walk over = subst (λ (e : DrawingValue). IsThreadOver
     (thread_moved (shift_point (neg_ℤ dx) (neg_ℤ dy)) (same_kept (neg_ℤ dx) (neg_ℤ dy)) (needles_moved (neg_ℤ dx) (neg_ℤ dy))
     (shifted_drawing dx dy d) lines walk over)
 
-connected_back : (dx dy : ℤ) (d : DrawingValue) (i j : ℕ) → AreConnected (shifted_drawing dx dy d) i j → AreConnected d i j
-connected_back dx dy d i j led = subst (λ (e : DrawingValue). AreConnected e i j) (drawing_undone dx dy d)
-    (connected_moved (shift_point (neg_ℤ dx) (neg_ℤ dy)) (same_kept (neg_ℤ dx) (neg_ℤ dy)) (shifted_drawing dx dy d) i j led)
-
 pub redwork_moved : ShiftKeepsLeastRedwork
 redwork_moved dx dy d design certs is =
     let f : Point → Point = shift_point dx dy in
     record {
       pieces = is.pieces;
-      pieces_are = pieces_moved f (same_kept dx dy) d is.pieces (connected_back dx dy d) is.pieces_are;
+      pieces_are = pieces_moved f (same_kept dx dy) d is.pieces is.pieces_are;
       threads = threads_moved f (same_kept dx dy) (needles_moved dx dy) d is.pieces certs (thread_back dx dy d) is.threads;
       sewn = acts_moved f 1 true false design.commands
           ∙ (ap (map (with_mapped_act f)) is.sewn

@@ -1,1 +1,4 @@
+-- Read this one first: what a shift keeps.
 pub mod ShiftLaws
+-- What turns and mirrorings keep.
+pub mod CostLaws

@@ -1,6 +1,8 @@
 //! Theorems about edited drawings: what a certificate of a drawing shows of the edited one.
 #![tactic(auto)]
 
+mod cost_laws;
 mod shift_laws;
 
+pub use cost_laws::{mirrorings_keep_costs, turns_keep_costs};
 pub use shift_laws::{shifts_keep_least_redwork, shifts_move_needles};

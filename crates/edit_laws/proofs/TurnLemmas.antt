@@ -1,0 +1,74 @@
+-- Turns and mirrorings keep which points are equal, and the number of steps of a segment.
+use Rattle.std.proofs.Common.{◌≡◌, ◌∙◌, ℕ, zero, suc, max, ℤ, ◌-ℤ◌, neg_ℤ, unsigned_abs, Bool, true, false, ◌&&◌, refl, ap, sym, arith}
+use Rattle.std.proofs.lemmas.Bool.Decides.{Decides-int_eq}
+use Rattle.std.proofs.lemmas.Int.{ints}
+use Rattle.std.specs.Int.{div_ceil}
+use Rattle.std.specs.Ordering.{int_eq}
+use Rattle.design_edits.specs.declared.axis.Axis.{Axis}
+use Rattle.design_edits.specs.declared.axis.Axis.TheVariants as axis
+use Rattle.design_edits.specs.Moves.{mirror_point, quarter_point, turn_point}
+use Rattle.design_model.specs.declared.point.Point.{Point}
+use Rattle.design_model.specs.Points.{is_same_point, move_between, move_size}
+use Rattle.edit_laws.specs.CostLaws.{MirrorKeepsCosts, TurnKeepsCosts}
+use Rattle.edit_laws.proofs.MovedCosts.{costs_kept}
+
+-- tests of equivalent facts
+alike : (s t : Bool) → (s ≡ true → t ≡ true) → (t ≡ true → s ≡ true) → s ≡ t
+alike true t to from = sym (to refl)
+alike false true to from = from refl
+alike false false to from = refl
+
+negated_is : (a b : ℤ) → neg_ℤ a ≡ neg_ℤ b → a ≡ b
+negated_is a b is = omega (arith, ints, is)
+
+equal_negated : (a b : ℤ) → int_eq (neg_ℤ a) (neg_ℤ b) ≡ int_eq a b
+equal_negated a b = alike (int_eq (neg_ℤ a) (neg_ℤ b)) (int_eq a b)
+    (λ is. (Decides-int_eq a b).1 (negated_is a b ((Decides-int_eq (neg_ℤ a) (neg_ℤ b)).0 is)))
+    (λ is. (Decides-int_eq (neg_ℤ a) (neg_ℤ b)).1 (ap neg_ℤ ((Decides-int_eq a b).0 is)))
+
+and_turned : (a b : Bool) → (a && b) ≡ (b && a)
+and_turned true true = refl
+and_turned true false = refl
+and_turned false true = refl
+and_turned false false = refl
+
+-- the size of a difference
+size_negated : (a b : ℤ) → unsigned_abs (neg_ℤ b -ℤ neg_ℤ a) ≡ unsigned_abs (b -ℤ a)
+size_negated a b = omega (arith, ints)
+
+max_turned : (m n : ℕ) → max m n ≡ max n m
+max_turned m n = omega arith
+
+-- a quarter turn
+quarter_same : (p q : Point) → is_same_point (quarter_point p) (quarter_point q) ≡ is_same_point p q
+quarter_same p q = ap (λ (t : Bool). t && int_eq p.x q.x) (equal_negated p.y q.y) ∙ and_turned (int_eq p.y q.y) (int_eq p.x q.x)
+
+quarter_size : (p q : Point) → move_size (move_between (quarter_point p) (quarter_point q)) ≡ move_size (move_between p q)
+quarter_size p q = ap (λ (n : ℕ). max n (unsigned_abs (q.x -ℤ p.x))) (size_negated p.y q.y)
+    ∙ max_turned (unsigned_abs (q.y -ℤ p.y)) (unsigned_abs (q.x -ℤ p.x))
+
+turn_same : (quarters : ℕ) (p q : Point) → is_same_point (turn_point quarters p) (turn_point quarters q) ≡ is_same_point p q
+turn_same zero p q = refl
+turn_same (suc quarters) p q = quarter_same (turn_point quarters p) (turn_point quarters q) ∙ turn_same quarters p q
+
+turn_size : (quarters : ℕ) (p q : Point)
+    → move_size (move_between (turn_point quarters p) (turn_point quarters q)) ≡ move_size (move_between p q)
+turn_size zero p q = refl
+turn_size (suc quarters) p q = quarter_size (turn_point quarters p) (turn_point quarters q) ∙ turn_size quarters p q
+
+pub turn_costs : TurnKeepsCosts
+turn_costs quarters d = costs_kept (turn_point quarters) (turn_same quarters)
+    (λ step p q. ap (λ (n : ℕ). div_ceil n step) (turn_size quarters p q)) d
+
+-- a mirroring
+mirror_same : (a : Axis) (p q : Point) → is_same_point (mirror_point a p) (mirror_point a q) ≡ is_same_point p q
+mirror_same axis.X p q = ap (λ (t : Bool). t && int_eq p.y q.y) (equal_negated p.x q.x)
+mirror_same axis.Y p q = ap (λ (t : Bool). int_eq p.x q.x && t) (equal_negated p.y q.y)
+
+mirror_size : (a : Axis) (p q : Point) → move_size (move_between (mirror_point a p) (mirror_point a q)) ≡ move_size (move_between p q)
+mirror_size axis.X p q = ap (λ (n : ℕ). max n (unsigned_abs (q.y -ℤ p.y))) (size_negated p.x q.x)
+mirror_size axis.Y p q = ap (λ (n : ℕ). max (unsigned_abs (q.x -ℤ p.x)) n) (size_negated p.y q.y)
+
+pub mirror_costs : MirrorKeepsCosts
+mirror_costs a d = costs_kept (mirror_point a) (mirror_same a)
+    (λ step p q. ap (λ (n : ℕ). div_ceil n step) (mirror_size a p q)) d
