@@ -1,4 +1,6 @@
 mod FaultLemmas
 mod WordLemmas
 mod SnapLemmas
+pub mod DrawingEditLemmas
+pub mod RequestLemmas
 mod CommandLemmas

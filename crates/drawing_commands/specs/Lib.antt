@@ -6,6 +6,9 @@ pub mod LookTexts
 pub mod Looks
 pub mod SnapTexts
 pub mod SnapOrders
+pub mod DrawingEditWords
+pub mod DrawingEditing
+pub mod EditFailures
 pub mod Requests
 -- Read this one first: the commands, their plans, and the program.
 pub mod Commands

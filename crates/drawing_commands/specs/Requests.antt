@@ -1,5 +1,5 @@
 -- What the arguments of stitch_drawing request: a command and its arguments.
-use Rattle.std.specs.Prelude.{ℕ, pos, negsuc, List, [], ◌∷◌, Option, Some, None, ◌&&◌, not, bytes_eq, codes, nat_le, if◌then◌else◌}
+use Rattle.std.specs.Prelude.{ℕ, ◌≤◌, pos, negsuc, not, ◌&&◌, List, [], ◌∷◌, Option, Some, None, IsSome, bytes_eq, codes, length, map, nat_le, string_bytes, if◌then◌else◌}
 use Rattle.design_model.specs.declared.whole_number.Whole.{Whole}
 use Rattle.design_model.specs.declared.whole_number.Whole.TheVariants as whole
 use Rattle.design_model.specs.WholeNumbers.{parsed_whole}
@@ -7,6 +7,9 @@ use Rattle.outside_io.specs.Files.{IsFileName, is_file_name}
 use Rattle.drawing_commands.specs.declared.requests.DrawingRequest.{DrawingRequest}
 use Rattle.drawing_commands.specs.declared.requests.DrawingRequest.TheVariants as request
 use Rattle.drawing_commands.specs.declared.requests.TheConstants.{DEFAULT_GAP, MAX_GAP}
+use Rattle.drawing_edits.specs.declared.drawing_edit.DrawingEdit.{DrawingEdit}
+use Rattle.drawing_commands.specs.DrawingEditing.{DrawingEditOrder, drawing_edit_order}
+use Rattle.drawing_commands.specs.DrawingEditWords.{drawing_edits_of, parsed_drawing_edits}
 use Rattle.drawing_commands.specs.Looks.{LookOrder, look_order}
 use Rattle.drawing_commands.specs.SnapOrders.{SnapOrder, snap_order}
 
@@ -14,17 +17,30 @@ use Rattle.drawing_commands.specs.SnapOrders.{SnapOrder, snap_order}
 pub data DrawingOrder : Type 0 where
   looking : LookOrder → DrawingOrder
   snapping : SnapOrder → DrawingOrder
+  editing : DrawingEditOrder → DrawingOrder
 
 -- The order of a request of the program.
 abbrev pub order_of_request : DrawingRequest → DrawingOrder
 order_of_request (request.Look file gap) = looking (look_order file.now gap)
 order_of_request (request.Snap gap input output) =
     snapping (snap_order gap input.now output.now)
+order_of_request (request.Edit input output edits) =
+    editing (drawing_edit_order input.now output.now
+    (drawing_edits_of (map (λ word. string_bytes word) edits.now)))
 
--- The names of a request are file names.
+-- The names of `edit` are file names, and there are edits.
+pub record IsEditRequest (input output : List ℕ) (edits : List (List ℕ)) : Type 0 where
+  pub named : IsFileName input
+  pub named_output : IsFileName output
+  pub parsed : IsSome (parsed_drawing_edits edits)
+  pub some : 1 ≤ length edits
+
+-- The names of a request are file names, and its edits are edits.
 abbrev pub HasFileNames : DrawingRequest → Type 0
 HasFileNames (request.Look file gap) = IsFileName file.now
 HasFileNames (request.Snap gap input output) = IsFileName input.now × IsFileName output.now
+HasFileNames (request.Edit input output edits) =
+    IsEditRequest input.now output.now (map (λ word. string_bytes word) edits.now)
 
 -- The gap that a number denotes, in tenths of a millimetre, if it is in range.
 abbrev pub gap_of : Whole → Option ℕ
@@ -57,9 +73,26 @@ abbrev pub parsed_snap : List (List ℕ) → Option DrawingOrder
 parsed_snap (gap ∷ input ∷ output ∷ []) = snap_with_gap (gap_of (parsed_whole gap)) input output
 parsed_snap words = None
 
+-- The order of `edit` with the given edits, if there are any and the names differ.
+abbrev pub edit_order_with : (input output : List ℕ) → Option (List DrawingEdit)
+    → Option DrawingOrder
+edit_order_with input output None = None
+edit_order_with input output (Some []) = None
+edit_order_with input output (Some (first ∷ later)) =
+    if not (bytes_eq input output) && (is_file_name input && is_file_name output)
+    then Some (editing (drawing_edit_order input output (first ∷ later))) else None
+
+-- The order of `edit` with the given arguments, if there is one.
+abbrev pub parsed_drawing_edit_request : List (List ℕ) → Option DrawingOrder
+parsed_drawing_edit_request (input ∷ output ∷ words) =
+    edit_order_with input output (parsed_drawing_edits words)
+parsed_drawing_edit_request words = None
+
 -- The order that the arguments request, or none.
 abbrev pub drawing_order_of : List (List ℕ) → Option DrawingOrder
 drawing_order_of [] = None
 drawing_order_of (command ∷ words) =
     if bytes_eq command (codes "look") then parsed_look words
-    else if bytes_eq command (codes "snap") then parsed_snap words else None
+    else if bytes_eq command (codes "snap") then parsed_snap words
+    else if bytes_eq command (codes "edit") then parsed_drawing_edit_request words
+    else None

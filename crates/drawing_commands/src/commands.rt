@@ -3,6 +3,7 @@ ghost use Rattle.drawing_commands.specs.Commands.{stitch_drawing};
 ghost use Rattle.drawing_commands.specs.Requests.{drawing_order_of};
 ghost use Rattle.program_shell.specs.StepOutcomes.{RunsRequest};
 
+use crate::editing::edit;
 use crate::looking::look;
 use crate::requests::{DrawingRequest, drawing_request};
 use crate::snapping::snap_file;
@@ -24,6 +25,13 @@ pub(crate) fn make_product<'a, S: Store>(
         Some(DrawingRequest::Snap { gap, input, output }) => {
             snap_file(alloc, gap, input, output, store)
         }
+        Some(
+            DrawingRequest::Edit {
+                input,
+                output,
+                edits,
+            },
+        ) => edit(alloc, input, output, edits, store),
         None => Err(Failure::BadArguments),
     }
 }

@@ -1,14 +1,17 @@
 ghost use Rattle.std.specs.Prelude.{◌≡◌};
+ghost use Rattle.drawing_commands.specs.DrawingEditing.{bad_edit_text};
+ghost use Rattle.drawing_commands.specs.EditFailures.{IsEditFailure};
 ghost use Rattle.drawing_commands.specs.FaultTexts.{IsFaultFailure};
 ghost use Rattle.line_graph.specs.GrowingDrawings.{draw_is_out_of_memory};
 ghost use Rattle.program_shell.specs.StepOutcomes.{IsRefusalWith};
 ghost use Rattle.program_texts.specs.DrawingTexts.{draw_fault_text};
 
+use crate::bad_edit::BadEdit;
 use design_model::Memory;
 use drawing_text::DrawFault;
 use line_graph::DrawKind;
 use program_shell::Failure;
-use program_texts::describe_draw_fault;
+use program_texts::{describe_draw_fault, describe_kind};
 use std::alloc::Global;
 
 /// Returns the failure for a file that is no drawing.
@@ -35,6 +38,26 @@ fn bad_drawing<'a>(alloc: Global, name: &str, fault: DrawFault) -> Failure<'a>
     ensures { IsRefusalWith (draw_fault_text name.now fault) result }
 {
     match describe_draw_fault(alloc, name, fault) {
+        Ok(text) => Failure::Refused(text),
+        Err(Memory) => Failure::Memory,
+    }
+}
+
+/// Returns the failure for an edit that is refused.
+pub(crate) fn edit_failure<'a>(alloc: Global, name: &str, bad: BadEdit) -> Failure<'a>
+    ensures { IsEditFailure name.now bad result }
+{
+    if is_memory(bad.kind) {
+        return Failure::Memory;
+    }
+    bad_edit(alloc, name, bad)
+}
+
+/// Returns the refusal of an edit, or out of memory.
+fn bad_edit<'a>(alloc: Global, name: &str, bad: BadEdit) -> Failure<'a>
+    ensures { IsRefusalWith (bad_edit_text name.now bad) result }
+{
+    match describe_kind(alloc, name, "edit", bad.number, bad.kind) {
         Ok(text) => Failure::Refused(text),
         Err(Memory) => Failure::Memory,
     }

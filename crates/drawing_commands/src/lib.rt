@@ -1,7 +1,10 @@
 //! The commands of `stitch_drawing`: their arguments, their plans, what they print, and `run`.
 #![tactic(auto)]
 
+mod bad_edit;
 mod commands;
+mod drawing_edit_words;
+mod editing;
 mod fault_texts;
 mod look_texts;
 mod looking;

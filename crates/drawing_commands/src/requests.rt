@@ -1,8 +1,10 @@
 ghost use Rattle.std.specs.Prelude.{◌≡◌, Some, IfSome, map, option_map, string_bytes};
 ghost use Rattle.design_model.specs.declared.whole_number.Whole.TheVariants as whole;
 ghost use Rattle.design_model.specs.WholeNumbers.{parsed_whole};
-ghost use Rattle.drawing_commands.specs.Requests.{HasFileNames, drawing_order_of, gap_of, look_with_gap, order_of_request, parsed_look, parsed_snap, snap_with_gap};
+ghost use Rattle.drawing_commands.specs.DrawingEditWords.{parsed_drawing_edits};
+ghost use Rattle.drawing_commands.specs.Requests.{HasFileNames, drawing_order_of, edit_order_with, gap_of, look_with_gap, order_of_request, parsed_drawing_edit_request, parsed_look, parsed_snap, snap_with_gap};
 
+use crate::drawing_edit_words::are_drawing_edits;
 use design_model::{Whole, parse_whole};
 use outside_io::is_name;
 
@@ -26,9 +28,16 @@ pub enum DrawingRequest<'a> {
         input: &'a str,
         output: &'a str,
     },
+    /// An edited drawing. The edits are arguments.
+    Edit {
+        input: &'a str,
+        output: &'a str,
+        edits: &'a [String],
+    },
 }
 
-/// Parses the arguments: `look DRAWING [GAP]`, or `snap GAP DRAWING OUT`. Returns `None` for other arguments. Allocates nothing.
+/// Parses the arguments: `look DRAWING [GAP]`, `snap GAP DRAWING OUT` or `edit DRAWING OUT EDIT...`. Returns
+/// `None` for other arguments. Allocates nothing.
 pub fn drawing_request(words: &[String]) -> Option<DrawingRequest<'_>>
     ensures value { option_map order_of_request result
         ≡ drawing_order_of (map (λ word. string_bytes word) words.now) }
@@ -37,6 +46,7 @@ pub fn drawing_request(words: &[String]) -> Option<DrawingRequest<'_>>
     match words {
         [command, rest @ ..] if command.as_str() == "look" => look_request(rest),
         [command, rest @ ..] if command.as_str() == "snap" => snap_request(rest),
+        [command, rest @ ..] if command.as_str() == "edit" => edit_request(rest),
         _ => None,
     }
 }
@@ -53,6 +63,40 @@ fn look_request(words: &[String]) -> Option<DrawingRequest<'_>>
             named_look(file.as_str(), gap)
         }
         _ => None,
+    }
+}
+
+fn edit_request(words: &[String]) -> Option<DrawingRequest<'_>>
+    ensures value { option_map order_of_request result
+        ≡ parsed_drawing_edit_request (map (λ word. string_bytes word) words.now) }
+    ensures sound { IfSome result HasFileNames }
+{
+    match words {
+        [input, output, edits @ ..] => named_edit(input.as_str(), output.as_str(), edits),
+        _ => None,
+    }
+}
+
+fn named_edit<'a>(
+    input: &'a str,
+    output: &'a str,
+    edits: &'a [String],
+) -> Option<DrawingRequest<'a>>
+    ensures value { option_map order_of_request result ≡ edit_order_with input.now output.now
+        (parsed_drawing_edits (map (λ word. string_bytes word) edits.now)) }
+    ensures sound { IfSome result HasFileNames }
+{
+    if edits.is_empty() || !are_drawing_edits(edits) || input == output {
+        return None;
+    }
+    if is_name(input) && is_name(output) {
+        Some(DrawingRequest::Edit {
+            input,
+            output,
+            edits,
+        })
+    } else {
+        None
     }
 }
 

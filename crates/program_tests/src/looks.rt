@@ -14,7 +14,7 @@ type Run = (
     &'static str,
 );
 
-const USAGE: &str = "usage: stitch_drawing look DRAWING [GAP]\n";
+const USAGE: &str = "usage: stitch_drawing look DRAWING [GAP]\n       stitch_drawing edit DRAWING OUT EDIT...\n";
 
 /// Two lines, one of which ends beside the other, and one that crosses.
 const FILES: [(&str, &str); 4] = [

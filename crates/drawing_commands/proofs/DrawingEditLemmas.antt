@@ -1,0 +1,119 @@
+-- Edits of a drawing, one after another.
+use Rattle.std.proofs.Common.{◌≡◌, ◌∙◌, ℕ, ◌+◌, Bool, true, false, List, [], ◌∷◌, Option, Some, None, IfSome, IsSome, Result, Ok, Err, refl, ap, sym, subst}
+use Rattle.std.specs.Prelude.{is_some, unwrap_or}
+use Rattle.design_model.specs.OutOfMemory.{IsSpecified, UnlessOutOfMemory}
+use Rattle.drawing_edits.specs.declared.drawing_edit.DrawingEdit.{DrawingEdit}
+use Rattle.drawing_edits.specs.EditedDrawings.{edited_drawing}
+use Rattle.line_graph.specs.declared.draw_kind.DrawKind.{DrawKind}
+use Rattle.line_graph.specs.Drawings.{DrawingValue}
+use Rattle.line_graph.specs.GrowingDrawings.{and_then, draw_is_out_of_memory}
+use Rattle.drawing_commands.specs.declared.bad_edit.BadEdit.{BadEdit}
+use Rattle.drawing_commands.specs.DrawingEditing.{at_edit, bad_edit_is_out_of_memory, edits_applied}
+use Rattle.drawing_commands.specs.DrawingEditWords.{drawing_edits_of, parsed_drawing_edit, parsed_drawing_edits, with_first_drawing_edit}
+
+-- the first of some edits, and the others
+pub first_parsed : (first : Option DrawingEdit) (later : Option (List DrawingEdit)) → IsSome (with_first_drawing_edit first later)
+    → IsSome first
+first_parsed (Some one) later some = refl
+first_parsed None later some = some
+
+pub later_parsed : (first : Option DrawingEdit) (later : Option (List DrawingEdit)) → IsSome (with_first_drawing_edit first later)
+    → IsSome later
+later_parsed (Some one) (Some edits) some = refl
+later_parsed (Some one) None some = some
+later_parsed None (Some edits) some = refl
+later_parsed None None some = some
+
+-- the first edit is applied, and the others to what it gives
+applied_first : (number : ℕ) (first : Option DrawingEdit) (later : Option (List DrawingEdit)) (d next : DrawingValue)
+    → IsSome (with_first_drawing_edit first later) → IfSome first (λ one. edited_drawing one d ≡ Ok next)
+    → edits_applied number (unwrap_or (with_first_drawing_edit first later) []) d ≡ edits_applied (number + 1) (unwrap_or later []) next
+applied_first number (Some one) (Some edits) d next some is =
+    ap (λ (r : Result DrawingValue DrawKind). and_then (at_edit number r) (λ mid. edits_applied (number + 1) edits mid)) is
+applied_first number (Some one) None d next some is = absurd (let no : ⊥ = cc in no)
+applied_first number None later d next some is = absurd (let no : ⊥ = cc in no)
+
+-- the bad edit of a number
+abbrev bad_at : ℕ → DrawKind → BadEdit
+bad_at number why = record { number = number; kind = why }
+
+refused_at : (number : ℕ) (b : Bool) (said : Result DrawingValue DrawKind) (edits : List DrawingEdit) (why : DrawKind)
+    → UnlessOutOfMemory b (said ≡ Err why)
+    → UnlessOutOfMemory b (and_then (at_edit number said) (λ mid. edits_applied (number + 1) edits mid) ≡ Err (bad_at number why))
+refused_at number true said edits why out = out
+refused_at number false said edits why is =
+    ap (λ (r : Result DrawingValue DrawKind). and_then (at_edit number r) (λ mid. edits_applied (number + 1) edits mid)) is
+
+refused_first : (number : ℕ) (first : Option DrawingEdit) (later : Option (List DrawingEdit)) (d : DrawingValue) (why : DrawKind)
+    → IsSome (with_first_drawing_edit first later)
+    → IfSome first (λ one. IsSpecified {A = DrawingValue} draw_is_out_of_memory (edited_drawing one d) (Err why))
+    → IsSpecified bad_edit_is_out_of_memory (edits_applied number (unwrap_or (with_first_drawing_edit first later) []) d)
+    (Err (bad_at number why))
+refused_first number (Some one) (Some edits) d why some is =
+    refused_at number (draw_is_out_of_memory why) (edited_drawing one d) edits why is
+refused_first number (Some one) None d why some is = absurd (let no : ⊥ = cc in no)
+refused_first number None later d why some is = absurd (let no : ⊥ = cc in no)
+
+-- The edits that are left lead on from the current drawing as all edits from the first drawing. The first edit of all has the
+-- number `start`, the first of those left `number`.
+pub record EditsGoOn (start number : ℕ) (words left : List (List ℕ)) (first now : DrawingValue) : Type 0 where
+  pub parsed : IsSome (parsed_drawing_edits left)
+  pub rest : edits_applied number (drawing_edits_of left) now ≡ edits_applied start (drawing_edits_of words) first
+
+pub edits_begin : (start : ℕ) (words : List (List ℕ)) (d : DrawingValue) → IsSome (parsed_drawing_edits words)
+    → EditsGoOn start start words words d d
+edits_begin start words d some = record { parsed = some; rest = refl }
+
+pub next_parsed : (start number : ℕ) (words left : List (List ℕ)) (word : List ℕ) (more : List (List ℕ)) (first now : DrawingValue)
+    → EditsGoOn start number words left first now → left ≡ word ∷ more → IsSome (parsed_drawing_edit word)
+next_parsed start number words left word more first now goes is = first_parsed (parsed_drawing_edit word) (parsed_drawing_edits more)
+    (subst (λ (ws : List (List ℕ)). IsSome (parsed_drawing_edits ws)) is goes.parsed)
+
+pub edits_go_on : (start number : ℕ) (words left : List (List ℕ)) (word : List ℕ) (more : List (List ℕ)) (first now next : DrawingValue)
+    → EditsGoOn start number words left first now → left ≡ word ∷ more
+    → IfSome (parsed_drawing_edit word) (λ one. edited_drawing one now ≡ Ok next)
+    → EditsGoOn start (number + 1) words more first next
+edits_go_on start number words left word more first now next goes is applied =
+    let on = subst (λ (ws : List (List ℕ)). EditsGoOn start number words ws first now) is goes in
+    record {
+      parsed = later_parsed (parsed_drawing_edit word) (parsed_drawing_edits more) on.parsed;
+      rest = sym (applied_first number (parsed_drawing_edit word) (parsed_drawing_edits more) now next on.parsed applied) ∙ on.rest;
+    }
+
+pub edits_refused : (start number : ℕ) (words left : List (List ℕ)) (word : List ℕ) (more : List (List ℕ)) (first now : DrawingValue)
+    (why : DrawKind) → EditsGoOn start number words left first now → left ≡ word ∷ more
+    → IfSome (parsed_drawing_edit word) (λ one. IsSpecified {A = DrawingValue} draw_is_out_of_memory (edited_drawing one now) (Err why))
+    → IsSpecified bad_edit_is_out_of_memory (edits_applied start (drawing_edits_of words) first)
+    (Err (record { number = number; kind = why }))
+edits_refused start number words left word more first now why goes is refused =
+    let on = subst (λ (ws : List (List ℕ)). EditsGoOn start number words ws first now) is goes in
+    subst (λ (r : Result DrawingValue BadEdit). IsSpecified bad_edit_is_out_of_memory r (Err (bad_at number why))) on.rest
+    (refused_first number (parsed_drawing_edit word) (parsed_drawing_edits more) now why on.parsed refused)
+
+pub edits_done : (start number : ℕ) (words left : List (List ℕ)) (first now : DrawingValue)
+    → EditsGoOn start number words left first now → left ≡ [] → edits_applied start (drawing_edits_of words) first ≡ Ok now
+edits_done start number words left first now goes none =
+    sym (subst (λ (ws : List (List ℕ)). EditsGoOn start number words ws first now) none goes).rest
+
+-- after the first edit the others have the numbers from 2 on
+pub edits_from : (word : List ℕ) (more : List (List ℕ)) (d next : DrawingValue) (r : Result DrawingValue BadEdit)
+    → IsSome (parsed_drawing_edits (word ∷ more)) → IfSome (parsed_drawing_edit word) (λ one. edited_drawing one d ≡ Ok next)
+    → IsSpecified bad_edit_is_out_of_memory (edits_applied 2 (drawing_edits_of more) next) r
+    → IsSpecified bad_edit_is_out_of_memory (edits_applied 1 (drawing_edits_of (word ∷ more)) d) r
+edits_from word more d next r some is rest =
+    subst (λ (s : Result DrawingValue BadEdit). IsSpecified bad_edit_is_out_of_memory s r)
+    (sym (applied_first 1 (parsed_drawing_edit word) (parsed_drawing_edits more) d next some is)) rest
+
+pub first_refused : (word : List ℕ) (more : List (List ℕ)) (d : DrawingValue) (why : DrawKind)
+    → IsSome (parsed_drawing_edits (word ∷ more))
+    → IfSome (parsed_drawing_edit word) (λ one. IsSpecified {A = DrawingValue} draw_is_out_of_memory (edited_drawing one d) (Err why))
+    → IsSpecified bad_edit_is_out_of_memory (edits_applied 1 (drawing_edits_of (word ∷ more)) d)
+    (Err (record { number = 1; kind = why }))
+first_refused word more d why some is = refused_first 1 (parsed_drawing_edit word) (parsed_drawing_edits more) d why some is
+
+-- an edit in front of others: the others determine whether all are edits
+pub parsed_before : (first : Option DrawingEdit) (later : Option (List DrawingEdit)) (one : DrawingEdit) → Some one ≡ first
+    → is_some later ≡ is_some (with_first_drawing_edit first later)
+parsed_before (Some one) (Some edits) other is = refl
+parsed_before (Some one) None other is = refl
+parsed_before None later other is = cc

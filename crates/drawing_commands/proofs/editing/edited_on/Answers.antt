@@ -1,0 +1,18 @@
+use Rattle.std.proofs.Common.{map, string_bytes, arith}
+use Rattle.std.proofs.lemmas.List.{at_drop_more}
+use Rattle.drawing_commands.proofs.DrawingEditLemmas.{edits_go_on, edits_refused}
+use Rattle.drawing_commands.proofs.editing.edited_on.Goals as goal
+
+pub returns-in-Err-clause-answer : goal.returns-in-Err-clause-answer
+returns-in-Err-clause-answer c = edits_refused 2 _ _ _ _ _ _ _ _ c.loop-word.invariant.goes
+    (at_drop_more (λ words. map (λ word. string_bytes word) words) c.args.words.now c.loop-word.word-index _ c.loop-word-test.true)
+    (rw (c.as_bytes.ensures.value, c.word-item.is) at c.in-Err.ensures.answer)
+
+pub loop-word-preserved : goal.loop-word-preserved
+loop-word-preserved c = record {
+  numbered = omega (arith, c.loop-word.invariant.numbered);
+  joined = c.in-Ok.ensures.joined;
+  goes = edits_go_on 2 _ _ _ _ _ _ _ _ c.loop-word.invariant.goes
+      (at_drop_more (λ words. map (λ word. string_bytes word) words) c.args.words.now c.loop-word.word-index _ c.loop-word-test.true)
+      (rw (c.as_bytes.ensures.value, c.word-item.is) at c.in-Ok.ensures.answer);
+}

@@ -1,0 +1,76 @@
+-- The command `edit`: a drawing is read, edited, and written with its lines cut where they meet.
+-- Edits are numbered from 1. Costs count steps.
+use Rattle.std.specs.Prelude.{◌≡◌, ℕ, ◌+◌, ◌==◌, ◌&&◌, Bool, List, [], ◌∷◌, Result, Ok, Err, codes, length, if◌then◌else◌}
+use Rattle.drawing_edits.specs.declared.drawing_edit.DrawingEdit.{DrawingEdit}
+use Rattle.drawing_edits.specs.EditedDrawings.{edited_drawing}
+use Rattle.drawing_text.specs.CanonicalTexts.{canonical_text2}
+use Rattle.drawing_text.specs.DrawingText.{drawing_of}
+use Rattle.drawing_text.specs.EndTexts.{canonical_text3}
+use Rattle.line_graph.specs.declared.draw_kind.DrawKind.{DrawKind}
+use Rattle.line_graph.specs.Drawings.{DrawingValue}
+use Rattle.line_graph.specs.GrowingDrawings.{and_then, draw_is_out_of_memory, step_count}
+use Rattle.line_graph.specs.Pieces.{ArePieces}
+use Rattle.program_shell.specs.FileTexts.{text_at}
+use Rattle.program_shell.specs.Plans.{Plan, accepts, reads, refuses}
+use Rattle.program_shell.specs.Products.{ProductValue, one_file_product}
+use Rattle.program_texts.specs.DrawingTexts.{draw_kind_text}
+use Rattle.program_texts.specs.MigrationReports.{migrate_report}
+use Rattle.drawing_commands.specs.declared.bad_edit.BadEdit.{BadEdit}
+use Rattle.drawing_commands.specs.FaultTexts.{plan_after_reading}
+
+-- The order of `edit`: the drawing to read, the file to write, and the edits in order.
+pub record DrawingEditOrder : Type 0 where
+  pub input : List ℕ
+  pub output : List ℕ
+  pub edits : List DrawingEdit
+
+-- The order of `edit`, from its names and edits.
+abbrev pub drawing_edit_order : (input output : List ℕ) → List DrawingEdit → DrawingEditOrder
+drawing_edit_order input output edits = record { input = input; output = output; edits = edits }
+
+-- The result of an edit, whose fault gets the edit's number.
+abbrev pub at_edit : ℕ → Result DrawingValue DrawKind → Result DrawingValue BadEdit
+at_edit number (Ok d) = Ok d
+at_edit number (Err why) = Err (record { number = number; kind = why })
+
+-- The drawing after edits in order, the first of which has the given number. The first refused edit
+-- determines the fault.
+abbrev pub edits_applied : ℕ → List DrawingEdit → DrawingValue → Result DrawingValue BadEdit
+edits_applied number [] d = Ok d
+edits_applied number (one ∷ rest) d =
+    and_then (at_edit number (edited_drawing one d)) (λ next. edits_applied (number + 1) rest next)
+
+-- A bad edit is out of memory.
+abbrev pub bad_edit_is_out_of_memory : BadEdit → Bool
+bad_edit_is_out_of_memory bad = draw_is_out_of_memory bad.kind
+
+-- The text about an edit that is refused.
+abbrev pub bad_edit_text : List ℕ → BadEdit → List ℕ
+bad_edit_text name bad = text_at name (codes "edit") bad.number (draw_kind_text bad.kind)
+
+-- The canonical text of a joined drawing: version 3 where it has a start or an end, else version 2.
+abbrev pub joined_text : DrawingValue → List ℕ
+joined_text d = if length d.starts == 0 && length d.ends == 0 then canonical_text2 d
+    else canonical_text3 d
+
+-- The product of `edit`: the canonical text of the edited drawing, and a report with the number of
+-- lines, the number of pieces and the cost.
+pub record IsEdited (output : List ℕ) (d : DrawingValue) (product : ProductValue) : Type 0 where
+  pub pieces : List (List ℕ)
+  pub pieces_are : ArePieces d pieces
+  pub made : product ≡ one_file_product output (joined_text d)
+      (migrate_report (length d.lines) (length pieces) (step_count d.step d.lines))
+
+-- The plan for the result of the edits: a drawing is accepted, and a bad edit is refused.
+abbrev pub edited_plan : (input output : List ℕ) → Result DrawingValue BadEdit → Plan
+edited_plan input output (Ok d) = accepts (IsEdited output d)
+edited_plan input output (Err bad) = refuses (bad_edit_text input bad)
+
+-- The plan for the bytes of the file: the drawing is edited, and a fault is refused.
+abbrev pub drawing_edit_read : DrawingEditOrder → List ℕ → Plan
+drawing_edit_read order bytes = plan_after_reading order.input (λ d.
+    edited_plan order.input order.output (edits_applied 1 order.edits d)) (drawing_of bytes)
+
+-- The plan of `edit`: read the drawing file, then write the edited drawing.
+abbrev pub drawing_edit_plan : DrawingEditOrder → Plan
+drawing_edit_plan order = reads order.input (drawing_edit_read order)

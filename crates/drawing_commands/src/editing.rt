@@ -1,0 +1,196 @@
+ghost use Rattle.std.specs.Prelude.{◌≡◌, ◌∷◌, ◌<◌, ◌≤◌, [], IfOk, IfSome, IsSome, length, map, string_bytes, true};
+ghost use Rattle.design_model.specs.OutOfMemory.{IsSpecified};
+ghost use Rattle.drawing_commands.specs.DrawingEditing.{IsEdited, bad_edit_is_out_of_memory, drawing_edit_order, drawing_edit_plan, drawing_edit_read, edited_plan, edits_applied, joined_text};
+ghost use Rattle.drawing_commands.specs.DrawingEditWords.{drawing_edits_of, parsed_drawing_edit, parsed_drawing_edits};
+ghost use Rattle.drawing_edits.specs.EditedDrawings.{edited_drawing};
+ghost use Rattle.drawing_text.specs.declared.limits.TheConstants.{MAX_TEXT};
+ghost use Rattle.line_graph.specs.GrowingDrawings.{draw_is_out_of_memory};
+ghost use Rattle.line_graph.specs.JoinedDrawings.{is_joined};
+ghost use Rattle.outside_io.specs.Files.{IsFileName};
+ghost use Rattle.program_shell.specs.Plans.{accepts};
+ghost use Rattle.program_shell.specs.Products.{product_value};
+ghost use Rattle.program_shell.specs.StepOutcomes.{RunsPlan, RunsPurePlan};
+
+use crate::bad_edit::BadEdit;
+use crate::drawing_edit_words::parse_drawing_edit;
+use crate::fault_texts::{drawing_failure, edit_failure};
+use design_model::{Bytes, Memory};
+use drawing_edits::edit_drawing;
+use drawing_text::{print_drawing2, print_drawing3, read_drawing};
+use line_graph::{DrawKind, Drawing, drawing_cost, pieces};
+use outside_io::Store;
+use program_shell::{Failure, Output, Product, one_output, read_input};
+use program_texts::print_migration;
+use std::alloc::Global;
+
+/// Edits a drawing, and reports on it.
+pub(crate) fn edit<'a, S: Store>(
+    alloc: Global,
+    input: &'a str,
+    output: &'a str,
+    edits: &[String],
+    store: &mut S,
+) -> Result<Product<'a>, Failure<'a>>
+    requires input { IsFileName input.now }
+    requires output { IsFileName output.now }
+    requires edits { IsSome (parsed_drawing_edits (map (λ word. string_bytes word) edits.now)) }
+    requires some { 1 ≤ length edits.now }
+    ensures { RunsPlan (drawing_edit_plan (drawing_edit_order input.now output.now
+        (drawing_edits_of (map (λ word. string_bytes word) edits.now))))
+        (S.view store.old) (S.view store.new) result }
+{
+    let bytes = read_input(alloc, store, input)?;
+    edit_at(alloc, input, output, edits, bytes.as_slice())
+}
+
+fn edit_at<'a>(
+    alloc: Global,
+    input: &'a str,
+    output: &'a str,
+    edits: &[String],
+    bytes: &[u8],
+) -> Result<Product<'a>, Failure<'a>>
+    requires output { IsFileName output.now }
+    requires edits { IsSome (parsed_drawing_edits (map (λ word. string_bytes word) edits.now)) }
+    requires some { 1 ≤ length edits.now }
+    requires short { length bytes.now ≤ MAX_TEXT }
+    ensures { RunsPurePlan (drawing_edit_read (drawing_edit_order input.now output.now
+        (drawing_edits_of (map (λ word. string_bytes word) edits.now))) bytes.now) result }
+{
+    match read_drawing(alloc, bytes) {
+        Ok(drawing) => edit_read(alloc, input, output, edits, &drawing),
+        Err(fault) => Err(drawing_failure(alloc, input, fault)),
+    }
+}
+
+fn edit_read<'a>(
+    alloc: Global,
+    input: &'a str,
+    output: &'a str,
+    edits: &[String],
+    drawing: &Drawing,
+) -> Result<Product<'a>, Failure<'a>>
+    requires output { IsFileName output.now }
+    requires edits { IsSome (parsed_drawing_edits (map (λ word. string_bytes word) edits.now)) }
+    requires some { 1 ≤ length edits.now }
+    ensures { RunsPurePlan (edited_plan input.now output.now (edits_applied 1
+        (drawing_edits_of (map (λ word. string_bytes word) edits.now)) drawing.now)) result }
+{
+    match edited(alloc, drawing, edits) {
+        Ok(drawing) => written(alloc, output, &drawing),
+        Err(bad) => Err(edit_failure(alloc, input, bad)),
+    }
+}
+
+/// Returns the drawing after the edits that the arguments represent, in order.
+fn edited(alloc: Global, drawing: &Drawing, words: &[String]) -> Result<Drawing, BadEdit>
+    requires edits { IsSome (parsed_drawing_edits (map (λ word. string_bytes word) words.now)) }
+    requires some { 1 ≤ length words.now }
+    ensures answer { IsSpecified bad_edit_is_out_of_memory (edits_applied 1
+        (drawing_edits_of (map (λ word. string_bytes word) words.now)) drawing.now) result }
+    ensures joined { IfOk result (λ new. is_joined new ≡ true) }
+{
+    match words {
+        [first, rest @ ..] => edited_from(alloc, drawing, first.as_bytes(), rest),
+        [] => unreachable!(),
+    }
+}
+
+fn edited_from(
+    alloc: Global,
+    drawing: &Drawing,
+    first: &[u8],
+    rest: &[String],
+) -> Result<Drawing, BadEdit>
+    requires edits { IsSome (parsed_drawing_edits
+        (first.now ∷ map (λ word. string_bytes word) rest.now)) }
+    ensures answer { IsSpecified bad_edit_is_out_of_memory (edits_applied 1
+        (drawing_edits_of (first.now ∷ map (λ word. string_bytes word) rest.now)) drawing.now) result }
+    ensures joined { IfOk result (λ new. is_joined new ≡ true) }
+{
+    match apply_word(alloc, drawing, first) {
+        Ok(once) => edited_on(alloc, once, rest),
+        Err(kind) => Err(BadEdit { number: 1, kind }),
+    }
+}
+
+/// Returns the drawing after further edits, the first of which has the number 2.
+fn edited_on(alloc: Global, once: Drawing, words: &[String]) -> Result<Drawing, BadEdit>
+    requires edits { IsSome (parsed_drawing_edits (map (λ word. string_bytes word) words.now)) }
+    requires joined { is_joined once ≡ true }
+    ensures answer { IsSpecified bad_edit_is_out_of_memory (edits_applied 2
+        (drawing_edits_of (map (λ word. string_bytes word) words.now)) once) result }
+    ensures joined { IfOk result (λ new. is_joined new ≡ true) }
+{
+    let mut edited = once;
+    let mut number: u64 = 2;
+    for word in words {
+        match apply_word(alloc, &edited, word.as_bytes()) {
+            Ok(next) => edited = next,
+            Err(kind) => return Err(BadEdit { number, kind }),
+        }
+        number += 1;
+    }
+    Ok(edited)
+}
+
+/// Applies the edit that an argument represents.
+fn apply_word(alloc: Global, drawing: &Drawing, word: &[u8]) -> Result<Drawing, DrawKind>
+    requires { IsSome (parsed_drawing_edit word.now) }
+    ensures answer { IfSome (parsed_drawing_edit word.now)
+        (λ one. IsSpecified draw_is_out_of_memory (edited_drawing one drawing.now) result) }
+    ensures joined { IfOk result (λ new. is_joined new ≡ true) }
+{
+    match parse_drawing_edit(word) {
+        Some(edit) => edit_drawing(alloc, drawing, edit),
+        None => unreachable!(),
+    }
+}
+
+fn written<'a>(
+    alloc: Global,
+    output: &'a str,
+    drawing: &Drawing,
+) -> Result<Product<'a>, Failure<'a>>
+    requires output { IsFileName output.now }
+    requires joined { is_joined drawing.now ≡ true }
+    ensures { RunsPurePlan (accepts (IsEdited output.now drawing.now)) result }
+{
+    let product = edited_product(alloc, output, drawing)?;
+    Ok(product)
+}
+
+fn edited_product<'a>(
+    alloc: Global,
+    output: &'a str,
+    drawing: &Drawing,
+) -> Result<Product<'a>, Memory>
+    requires { is_joined drawing.now ≡ true }
+    ensures { IfOk result (λ product. IsEdited output.now drawing.now (product_value product)) }
+{
+    let pieces = pieces(alloc, drawing)?;
+    let report = print_migration(
+        alloc,
+        drawing.line_count(),
+        pieces.len(),
+        drawing_cost(drawing),
+    )?;
+    let content = print_joined(alloc, drawing)?;
+    let written = Output {
+        name: output,
+        content,
+    };
+    let product = one_output(alloc, written, report)?;
+    Ok(product)
+}
+
+/// Returns the canonical text of a joined drawing, in version 3 where it has a start or an end.
+fn print_joined(alloc: Global, drawing: &Drawing) -> Result<Bytes, Memory>
+    requires { is_joined drawing.now ≡ true }
+    ensures { IfOk result (λ text. text ≡ joined_text drawing.now) }
+{
+    if drawing.starts().is_empty() && drawing.ends().is_empty() {
+        return print_drawing2(alloc, drawing);
+    }
+    print_drawing3(alloc, drawing)
+}
