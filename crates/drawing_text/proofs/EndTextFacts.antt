@@ -1,5 +1,6 @@
 -- Worked values of texts that name starts and ends, and of their faults.
 use Rattle.std.proofs.Common.{◌≡◌, ℕ, pos, List, [], ◌∷◌, ◌++◌, Ok, Err, codes, refl}
+use Rattle.std.specs.Fmt.{digits}
 use Rattle.std.specs.List.{flat_map}
 use Rattle.line_sections.specs.declared.spot.Spot.{Spot}
 use Rattle.line_sections.specs.Sections.{lines_through}
@@ -7,6 +8,7 @@ use Rattle.line_graph.specs.declared.draw_kind.DrawKind.{DrawKind}
 use Rattle.line_graph.specs.declared.draw_kind.DrawKind.TheVariants as kind
 use Rattle.line_graph.specs.Drawings.{DrawingValue}
 use Rattle.drawing_text.specs.DrawingText.{drawing_as2, drawing_of}
+use Rattle.drawing_text.specs.EndTexts.{canonical_text3, end_lines_text}
 use Rattle.drawing_text.proofs.CanonicalTextFacts.{place}
 
 -- a text of that version: lines of a block with a cross at 10 0, and further lines
@@ -81,3 +83,23 @@ known_count_first = (refl, refl, refl)
 -- and version 3 isn't read as version 2
 pub known_as2 : drawing_as2 (text (codes "redwork 3") []) ≡ Err (record { number = 1; kind = kind.BadHeader })
 known_as2 = refl
+
+-- the canonical text with a start and an end, which is read as the drawing
+abbrev both_ends : DrawingValue
+both_ends = crossed (spot 20 0 ∷ []) (spot 10 0 ∷ [])
+
+pub known_spelling3 : canonical_text3 both_ends ≡ flat_map (λ line. line ++ 10 ∷ []) (codes "redwork 3" ∷ codes "step 10"
+    ∷ codes "color 1" ∷ codes "line 0 0 10 0" ∷ codes "line 10 0 20 0" ∷ codes "line 10 5 10 0" ∷ codes "start 20 0"
+    ∷ codes "end 10 0" ∷ [])
+unfolding digits
+known_spelling3 = refl
+
+pub known_read_again : drawing_of (canonical_text3 both_ends) ≡ Ok both_ends
+unfolding digits
+known_read_again = refl
+
+-- a start is in the text of its block
+pub known_end_block : end_lines_text (codes "start") 1 (spot 20 0 ∷ record { block = 1; at = place (pos 3) (pos 4) } ∷ [])
+    ≡ codes "start 3 4" ++ 10 ∷ []
+unfolding digits
+known_end_block = refl
