@@ -5,3 +5,4 @@ pub mod MovedActs
 pub mod MovedCosts
 pub mod ShiftLemmas
 pub mod TurnLemmas
+mod LawFacts

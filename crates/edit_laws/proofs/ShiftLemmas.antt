@@ -6,7 +6,7 @@ use Rattle.std.proofs.lemmas.List.{map-append}
 use Rattle.std.specs.Int.{div_ceil}
 use Rattle.std.specs.List.{range_with_len}
 use Rattle.std.specs.Ordering.{int_eq}
-use Rattle.design_edits.specs.Moves.{shift_point}
+use Rattle.design_edits.specs.Moves.{shift_point, shifted}
 use Rattle.design_model.specs.declared.point.Point.{Point}
 use Rattle.design_model.specs.Points.{is_same_point, move_between, move_size}
 use Rattle.drawing_edits.specs.MovedDrawings.{shifted_drawing, with_moved_line, with_moved_spot}
@@ -18,8 +18,9 @@ use Rattle.line_graph.specs.Runs.{run_of, sewn_acts_after}
 use Rattle.line_sections.specs.declared.spot.Spot.{Spot}
 use Rattle.line_sections.specs.Lines.{LineValue}
 use Rattle.odd_cuts.specs.Certificates.{walks_of}
+use Rattle.route_verdict.specs.VerdictTheorems.{YesIsLeastRedwork}
 use Rattle.step_splitter.specs.Steps.{coordinate_on_segment, floor_quotient, point_on_segment, split_points, steps_of}
-use Rattle.edit_laws.specs.ShiftLaws.{ShiftKeepsLeastRedwork, ShiftMovesNeedles}
+use Rattle.edit_laws.specs.ShiftLaws.{ShiftKeepsLeastRedwork, ShiftKeepsYes, ShiftMovesNeedles}
 use Rattle.edit_laws.proofs.MovedActs.{acts_moved, runs_moved, sewn_moved, with_mapped_act}
 use Rattle.edit_laws.proofs.MovedLines.{joined_same}
 use Rattle.edit_laws.proofs.MovedPieces.{pieces_moved}
@@ -144,3 +145,9 @@ redwork_moved dx dy d design certs is =
           ∙ (sym (sewn_moved f 0 (map (run_of d) (walks_of certs)))
           ∙ ap (sewn_acts_after 0) (sym (runs_moved f (needles_moved dx dy) d (walks_of certs)))));
     }
+
+-- the verdict stays yes
+pub yes_moved : YesIsLeastRedwork → ShiftKeepsYes
+yes_moved law dx dy d design certs limits limits' is =
+    (law (shifted_drawing dx dy d) (shifted dx dy design) certs limits').1
+    (redwork_moved dx dy d design certs ((law d design certs limits).0 is))

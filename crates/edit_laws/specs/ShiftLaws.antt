@@ -4,10 +4,12 @@ use Rattle.design_edits.specs.Moves.{shift_point, shifted}
 use Rattle.design_model.specs.declared.point.Point.{Point}
 use Rattle.design_model.specs.Designs.{DesignValue}
 use Rattle.drawing_edits.specs.MovedDrawings.{shifted_drawing}
-use Rattle.line_graph.specs.Drawings.{DrawingValue}
+use Rattle.line_graph.specs.Drawings.{DrawingValue, KeepsDrawingLimits}
 use Rattle.line_graph.specs.Needles.{needle_points}
 use Rattle.odd_cuts.specs.declared.certificate.PieceCert.{PieceCert}
+use Rattle.route_verdict.specs.declared.verdict.Verdict.TheVariants as verdict
 use Rattle.route_verdict.specs.LeastRedwork.{IsLeastRedwork}
+use Rattle.route_verdict.specs.Verdicts.{IsVerdict}
 
 -- The needle points of a shifted line are the shifted needle points of the line.
 abbrev pub ShiftMovesNeedles : Type 0
@@ -22,3 +24,11 @@ ShiftKeepsLeastRedwork = (dx dy : ℤ) (d : DrawingValue) (design : DesignValue)
     (certs : List PieceCert)
     → IsLeastRedwork d design certs
     → IsLeastRedwork (shifted_drawing dx dy d) (shifted dx dy design) certs
+
+-- Where a drawing, a design and certificates are judged yes, so are the shifted drawing, the shifted
+-- design and the same certificates.
+abbrev pub ShiftKeepsYes : Type 0
+ShiftKeepsYes = (dx dy : ℤ) (d : DrawingValue) (design : DesignValue) (certs : List PieceCert)
+    → KeepsDrawingLimits d → KeepsDrawingLimits (shifted_drawing dx dy d)
+    → IsVerdict d design certs verdict.Yes
+    → IsVerdict (shifted_drawing dx dy d) (shifted dx dy design) certs verdict.Yes

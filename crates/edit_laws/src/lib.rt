@@ -5,4 +5,4 @@ mod cost_laws;
 mod shift_laws;
 
 pub use cost_laws::{mirrorings_keep_costs, turns_keep_costs};
-pub use shift_laws::{shifts_keep_least_redwork, shifts_move_needles};
+pub use shift_laws::{shifts_keep_least_redwork, shifts_keep_yes, shifts_move_needles};

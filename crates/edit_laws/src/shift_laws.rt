@@ -1,4 +1,6 @@
-ghost use Rattle.edit_laws.specs.ShiftLaws.{ShiftKeepsLeastRedwork, ShiftMovesNeedles};
+ghost use Rattle.edit_laws.specs.ShiftLaws.{ShiftKeepsLeastRedwork, ShiftKeepsYes, ShiftMovesNeedles};
+
+use route_verdict::yes_is_least_redwork;
 
 /// Theorem: the needle points of a shifted line are the shifted needle points of the line.
 pub fn shifts_move_needles()
@@ -10,3 +12,11 @@ pub fn shifts_move_needles()
 pub fn shifts_keep_least_redwork()
     ensures { ShiftKeepsLeastRedwork }
 {}
+
+/// Theorem: where a drawing, a design and certificates are judged yes, so are the shifted drawing, the shifted
+/// design and the same certificates.
+pub fn shifts_keep_yes()
+    ensures { ShiftKeepsYes }
+{
+    yes_is_least_redwork();
+}
