@@ -4,3 +4,4 @@ mod SnapLemmas
 pub mod DrawingEditLemmas
 pub mod RequestLemmas
 mod CommandLemmas
+mod EditFacts

@@ -30,7 +30,8 @@ end_in_range at (p ∷ rest) all found =
     (λ is. subst IsNeedlePoint (sym (same_point_is at p is)) (All-head IsNeedlePoint p rest all))
     (λ later. either_true (is_same_point at (last_point_or p rest)) false later
     (λ is. subst IsNeedlePoint (sym (same_point_is at (last_point_or p rest) is))
-    (last_in_range p rest (All-head IsNeedlePoint p rest all) (All-tail IsNeedlePoint p rest all))) (λ never. absurd (let no : ⊥ = cc in no)))
+    (last_in_range p rest (All-head IsNeedlePoint p rest all) (All-tail IsNeedlePoint p rest all)))
+    (λ never. absurd (let no : ⊥ = cc in no)))
 
 -- a line that can be sewn
 abbrev IsLineValue : LineValue → Type 0

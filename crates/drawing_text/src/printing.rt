@@ -47,6 +47,7 @@ fn spelled(alloc: Global, version: Version, d: &Drawing) -> Result<Bytes, Memory
     Ok(text)
 }
 
+/// Adds the header.
 pub(crate) fn put_header(text: &mut Bytes, version: Version) -> Result<(), Memory>
     ensures { OnOk result (text.new ≡ text.old ++ (header_text version ++ 10 ∷ [])) }
 {
@@ -59,6 +60,7 @@ pub(crate) fn put_header(text: &mut Bytes, version: Version) -> Result<(), Memor
     Ok(())
 }
 
+/// Adds the line of the label, if there is one.
 pub(crate) fn put_label(text: &mut Bytes, label: &[u8]) -> Result<(), Memory>
     ensures { OnOk result (text.new ≡ text.old ++ label_text label.now) }
 {
@@ -71,6 +73,7 @@ pub(crate) fn put_label(text: &mut Bytes, label: &[u8]) -> Result<(), Memory>
     Ok(())
 }
 
+/// Adds a line of a keyword, which includes its space, and a number.
 pub(crate) fn put_number(
     alloc: Global,
     text: &mut Bytes,
@@ -101,6 +104,7 @@ fn put_blocks(alloc: Global, text: &mut Bytes, threads: &[u8], lines: &[Line]) -
     Ok(())
 }
 
+/// Adds the lines of a block.
 pub(crate) fn put_lines_of(
     alloc: Global,
     text: &mut Bytes,
@@ -139,6 +143,7 @@ fn put_points(alloc: Global, text: &mut Bytes, points: &[Point]) -> Result<(), M
     Ok(())
 }
 
+/// Adds a point, with a space before each number.
 pub(crate) fn put_point(alloc: Global, text: &mut Bytes, p: Point) -> Result<(), Memory>
     ensures { OnOk result (text.new ≡ text.old ++ spaced_point_text p) }
 {

@@ -1,5 +1,5 @@
--- What turns and mirrorings keep: the pieces of a drawing, the costs of its lines and walks, and its
--- packings of odd cuts. The least cost that is sewn twice is therefore the same. Costs count steps.
+-- What turns and mirrorings keep: the pieces of a drawing, the costs of its lines and walks, and
+-- its packings of odd cuts. So the least cost that is sewn twice stays. Costs count steps.
 use Rattle.std.specs.Prelude.{◌≡◌, ℕ, List, length}
 use Rattle.design_edits.specs.declared.axis.Axis.{Axis}
 use Rattle.drawing_edits.specs.MovedDrawings.{mirrored_drawing, turned_drawing}
@@ -11,7 +11,7 @@ use Rattle.odd_cuts.specs.declared.cut.Cut.{Cut}
 use Rattle.odd_cuts.specs.DrawnCuts.{IsPackingOver}
 
 -- A moved drawing has the costs of the drawing: each line costs the same, each walk has as many
--- needle points, the pieces consist of the same lines, and each packing is one of the moved drawing.
+-- needle points, the pieces have the same lines, and each packing is one of the moved drawing.
 pub record KeepsCosts (d moved : DrawingValue) : Type 0 where
   pub lines : (line : ℕ) → cost_of_line moved line ≡ cost_of_line d line
   pub walks : (walk : List Pass)

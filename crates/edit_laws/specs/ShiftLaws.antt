@@ -25,8 +25,8 @@ ShiftKeepsLeastRedwork = (dx dy : ℤ) (d : DrawingValue) (design : DesignValue)
     → IsLeastRedwork d design certs
     → IsLeastRedwork (shifted_drawing dx dy d) (shifted dx dy design) certs
 
--- Where a drawing, a design and certificates are judged yes, so are the shifted drawing, the shifted
--- design and the same certificates.
+-- Where a drawing, a design and certificates are judged yes, so are the shifted drawing, the
+-- shifted design and the same certificates.
 abbrev pub ShiftKeepsYes : Type 0
 ShiftKeepsYes = (dx dy : ℤ) (d : DrawingValue) (design : DesignValue) (certs : List PieceCert)
     → KeepsDrawingLimits d → KeepsDrawingLimits (shifted_drawing dx dy d)

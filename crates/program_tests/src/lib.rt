@@ -4,8 +4,6 @@
 #[cfg(test)]
 mod cases;
 #[cfg(test)]
-mod drawing_edits;
-#[cfg(test)]
 mod drawings;
 #[cfg(test)]
 mod feeding;

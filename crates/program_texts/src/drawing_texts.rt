@@ -25,7 +25,8 @@ pub fn describe_kind(
     number: u64,
     kind: DrawKind,
 ) -> Result<String, Memory>
-    ensures { IfOk result (λ text. string_bytes text ≡ text_at name.now part.now number (draw_kind_text kind)) }
+    ensures { IfOk result (λ text.
+        string_bytes text ≡ text_at name.now part.now number (draw_kind_text kind)) }
 {
     describe_part(alloc, name, part, number, kind_text(kind))
 }

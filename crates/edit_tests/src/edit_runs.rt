@@ -1,4 +1,5 @@
 //! Runs of `stitch_drawing edit` over files in memory.
+use crate::contents::file_content;
 use drawing_commands::run;
 use outside_io::{MemSink, MemStore};
 use std::alloc::Global;
@@ -15,7 +16,8 @@ type Run = (
     &'static str,
 );
 
-const USAGE: &str = "usage: stitch_drawing look DRAWING [GAP]\n       stitch_drawing edit DRAWING OUT EDIT...\n";
+const USAGE: &str =
+    "usage: stitch_drawing look DRAWING [GAP]\n       stitch_drawing edit DRAWING OUT EDIT...\n";
 
 const FILES: [(&str, &str); 3] = [
     (
@@ -106,13 +108,6 @@ fn stocked(alloc: Global) -> Result<MemStore, Fail> {
     Ok(store)
 }
 
-fn written(store: &MemStore) -> &[u8] {
-    match store.file("out.rw") {
-        Some(content) => content,
-        None => b"",
-    }
-}
-
 #[test]
 fn an_edit_leaves_the_edited_drawing(rt: HostRuntime) -> Result<(), Fail> {
     let alloc = rt.alloc();
@@ -131,7 +126,7 @@ fn an_edit_leaves_the_edited_drawing(rt: HostRuntime) -> Result<(), Fail> {
         assert_eq!(rt; out.taken(), printed.as_bytes());
         assert_eq!(rt; err.taken(), reported.as_bytes());
         assert_eq!(rt; ended as u8, *status);
-        assert_eq!(rt; written(&store), content.as_bytes());
+        assert_eq!(rt; file_content(&store, "out.rw"), content.as_bytes());
     }
     Ok(())
 }

@@ -1,0 +1,53 @@
+-- Worked values of the arguments of `edit`, and of edits in order.
+use Rattle.std.proofs.Common.{◌≡◌, ℕ, ℤ, pos, negsuc, [], ◌∷◌, List, Option, Some, None, Ok, Err, codes, refl}
+use Rattle.design_edits.specs.declared.axis.Axis.TheVariants as axis
+use Rattle.design_edits.specs.declared.motion.Motion.TheVariants as motion
+use Rattle.design_model.specs.declared.point.Point.{Point}
+use Rattle.drawing_edits.specs.declared.drawing_edit.DrawingEdit.{DrawingEdit}
+use Rattle.drawing_edits.specs.declared.drawing_edit.DrawingEdit.TheVariants as edit
+use Rattle.line_graph.specs.declared.draw_kind.DrawKind.TheVariants as kind
+use Rattle.line_graph.specs.Drawings.{DrawingValue}
+use Rattle.drawing_commands.specs.DrawingEditing.{bad_edit_text, drawing_edit_order, edits_applied}
+use Rattle.drawing_commands.specs.DrawingEditWords.{parsed_drawing_edit, parsed_drawing_edits}
+use Rattle.drawing_commands.specs.Requests.{drawing_order_of, editing}
+
+pub known_drawing_edits : parsed_drawing_edits (codes "shift=-5,70" ∷ codes "turn=3" ∷ codes "mirror=y" ∷ codes "centre"
+    ∷ codes "step=2047" ∷ [])
+    ≡ Some (edit.Move (motion.Shift (negsuc 4) (pos 70)) ∷ edit.Move (motion.Turn 3) ∷ edit.Move (motion.Mirror axis.Y)
+    ∷ edit.Centre ∷ edit.Step 2047 ∷ [])
+known_drawing_edits = refl
+
+-- no edits of a drawing
+abbrev IsNoEdit : List ℕ → Type 0
+IsNoEdit word = parsed_drawing_edit word ≡ None
+
+pub known_no_edits : IsNoEdit (codes "step=0") × IsNoEdit (codes "step=2048") × IsNoEdit (codes "step") × IsNoEdit (codes "centre=")
+    × IsNoEdit (codes "thread=1,2") × IsNoEdit (codes "turn=4") × IsNoEdit (codes "shift=60001,0")
+known_no_edits = (refl, refl, refl, refl, refl, refl, refl)
+
+-- an order, and arguments that are none
+pub known_edit_order : drawing_order_of (codes "edit" ∷ codes "a.rw" ∷ codes "b.rw" ∷ codes "centre" ∷ [])
+    ≡ Some (editing (drawing_edit_order (codes "a.rw") (codes "b.rw") (edit.Centre ∷ [])))
+known_edit_order = refl
+
+pub known_no_order : (drawing_order_of (codes "edit" ∷ codes "a.rw" ∷ codes "b.rw" ∷ []) ≡ None)
+    × (drawing_order_of (codes "edit" ∷ codes "a.rw" ∷ codes "a.rw" ∷ codes "centre" ∷ []) ≡ None)
+    × (drawing_order_of (codes "edit" ∷ codes "a.rw" ∷ codes "b.rw" ∷ codes "centre" ∷ codes "grow" ∷ []) ≡ None)
+known_no_order = (refl, refl, refl)
+
+-- a line whose last point is at the limit
+abbrev wide : DrawingValue
+wide = record {
+  label = [];
+  step = 25;
+  threads = 7 ∷ [];
+  lines = record { block = 0; points = record { x = pos 29900; y = pos 0 } ∷ record { x = pos 30000; y = pos 0 } ∷ [] } ∷ [];
+  starts = [];
+  ends = [];
+}
+
+-- the second edit is refused, by its number
+pub known_second_refused : edits_applied 1
+    (edit.Move (motion.Shift (negsuc 0) (pos 0)) ∷ edit.Move (motion.Shift (pos 2) (pos 0)) ∷ []) wide
+    ≡ Err (record { number = 2; kind = kind.OutOfRange })
+known_second_refused = refl
