@@ -14,10 +14,10 @@ type Run = (
     &'static str,
 );
 
-const USAGE: &str = "usage: stitch_drawing look DRAWING [GAP]\n       stitch_drawing edit DRAWING OUT EDIT...\n";
+const USAGE: &str = "usage: stitch_drawing look DRAWING [GAP]\n       stitch_drawing snap GAP DRAWING OUT\n       stitch_drawing edit DRAWING OUT EDIT...\n";
 
 /// Two lines, one of which ends beside the other, and one that crosses.
-const FILES: [(&str, &str); 4] = [
+const FILES: [(&str, &str); 7] = [
     (
         "ok.rw",
         "redwork 2\nstep 10\ncolor 1\nline 0 0 40 0 80 0\nline 40 0 40 40\n",
@@ -31,9 +31,21 @@ const FILES: [(&str, &str); 4] = [
         "redwork 1\nstep 10\ncolor 1\nline 0 0 40 0\nline 20 0 20 30\nline 0 0 3 4\n",
     ),
     ("bad.rw", "redwork 2\ncolor 1\nline 0 0 40\n"),
+    (
+        "loose.rw",
+        "redwork 2\nname loose\nstep 10\ncolor 7\nline 0 0 40 0 80 0\nline 82 1 90 40\nline 20 30 20 2\ncolor 9\nline 20 -1 20 -30\n",
+    ),
+    (
+        "short.rw",
+        "redwork 1\nstep 10\ncolor 1\nline 0 0 40 0\ncolor 2\nline 0 9 3 11\n",
+    ),
+    (
+        "ended.rw",
+        "redwork 3\nstep 10\ncolor 1\nline 0 0 40 0\nstart 0 0\n",
+    ),
 ];
 
-const RUNS: [Run; 15] = [
+const RUNS: [Run; 23] = [
     (
         &["look", "ok.rw"],
         [0, 0, 0],
@@ -101,6 +113,56 @@ const RUNS: [Run; 15] = [
     (&["look", "ok.rw", "101"], [0, 0, 0], 2, "", USAGE),
     (&["look", "ok.rw", "-1"], [0, 0, 0], 2, "", USAGE),
     (&["look", ""], [0, 0, 0], 2, "", USAGE),
+    (
+        &["snap", "2", "loose.rw", "out.rw"],
+        [0, 0, 0],
+        0,
+        "moved 1 listed 1 pieces 4 to 2\n",
+        "",
+    ),
+    (
+        &["snap", "1", "loose.rw", "out.rw"],
+        [0, 0, 0],
+        0,
+        "moved 0 listed 0 pieces 4 to 4\n",
+        "",
+    ),
+    (
+        &["snap", "3", "short.rw", "out.rw"],
+        [0, 0, 0],
+        1,
+        "",
+        "stitch_drawing: short.rw: block 2 line 2: would vanish\n",
+    ),
+    (
+        &["snap", "2", "ended.rw", "out.rw"],
+        [0, 0, 0],
+        1,
+        "",
+        "stitch_drawing: ended.rw: starts and ends are not snapped\n",
+    ),
+    (
+        &["snap", "2", "bad.rw", "out.rw"],
+        [0, 0, 0],
+        1,
+        "",
+        "stitch_drawing: bad.rw: line 3: too few points\n",
+    ),
+    (
+        &["snap", "101", "loose.rw", "out.rw"],
+        [0, 0, 0],
+        2,
+        "",
+        USAGE,
+    ),
+    (
+        &["snap", "2", "loose.rw", "loose.rw"],
+        [0, 0, 0],
+        2,
+        "",
+        USAGE,
+    ),
+    (&["snap", "2", "loose.rw"], [0, 0, 0], 2, "", USAGE),
     (&["look"], [0, 0, 0], 2, "", USAGE),
     (&[], [0, 0, 0], 2, "", USAGE),
 ];
@@ -110,6 +172,7 @@ fn stocked(alloc: Global) -> Result<MemStore, Fail> {
     for (name, text) in FILES {
         store.put_file(name, text.as_bytes())?;
     }
+    store.prepare("out.rw", 1_000)?;
     Ok(store)
 }
 
@@ -133,4 +196,30 @@ fn a_run_ends_as_its_files_and_arguments_say(rt: HostRuntime) -> Result<(), Fail
         assert_eq!(rt; ended as u8, *status);
     }
     Ok(())
+}
+
+/// What a snap by 2 leaves of `loose.rw`.
+const SNAPPED: &str =
+    "redwork 2\nname loose\nstep 10\ncolor 7\nline 0 0 20 2\nline 20 2 40 0 80 0\nline 80 0 90 40\nline 20 30 20 2\ncolor 9\nline 20 -1 20 -30\n";
+
+#[test]
+fn a_snap_writes_the_snapped_drawing(rt: HostRuntime) -> Result<(), Fail> {
+    let alloc = rt.alloc();
+    let mut store = stocked(alloc)?;
+    let mut out = MemSink::new(alloc, 1_000)?;
+    let mut err = MemSink::new(alloc, 1_000)?;
+    let mut given = Vec::new(alloc);
+    for word in ["snap", "2", "loose.rw", "out.rw"] {
+        given.push(String::from_str(alloc, word)?)?;
+    }
+    run(alloc, &given, &mut store, &mut out, &mut err);
+    assert_eq!(rt; is_held(&store, "out.rw", SNAPPED), true);
+    Ok(())
+}
+
+fn is_held(store: &MemStore, name: &str, text: &str) -> bool {
+    match store.file(name) {
+        Some(content) => content == text.as_bytes(),
+        None => false,
+    }
 }
