@@ -1,175 +1,13 @@
 //! Runs of `stitch_drawing` over files in memory.
+use case_tables::{LOOKED, LOOKED_AT, SNAPPED};
 use drawing_commands::run;
 use outside_io::{MemSink, MemStore};
 use std::alloc::Global;
 use std::test::Fail;
 
-/// A run: its arguments; the calls that fail, from 1 on, of the store and of the puts on standard output and on
-/// standard error, 0 for none; and what it leaves: its status and what it prints on both.
-type Run = (
-    &'static [&'static str],
-    [u64; 3],
-    u8,
-    &'static str,
-    &'static str,
-);
-
-const USAGE: &str = "usage: stitch_drawing look DRAWING [GAP]\n       stitch_drawing snap GAP DRAWING OUT\n       stitch_drawing edit DRAWING OUT EDIT...\n";
-
-/// Two lines, one of which ends beside the other, and one that crosses.
-const FILES: [(&str, &str); 7] = [
-    (
-        "ok.rw",
-        "redwork 2\nstep 10\ncolor 1\nline 0 0 40 0 80 0\nline 40 0 40 40\n",
-    ),
-    (
-        "near.rw",
-        "redwork 2\nstep 10\ncolor 7\nline 0 0 40 0 80 0\nline 40 3 40 40\nline 20 -20 20 20\n",
-    ),
-    (
-        "one.rw",
-        "redwork 1\nstep 10\ncolor 1\nline 0 0 40 0\nline 20 0 20 30\nline 0 0 3 4\n",
-    ),
-    ("bad.rw", "redwork 2\ncolor 1\nline 0 0 40\n"),
-    (
-        "loose.rw",
-        "redwork 2\nname loose\nstep 10\ncolor 7\nline 0 0 40 0 80 0\nline 82 1 90 40\nline 20 30 20 2\ncolor 9\nline 20 -1 20 -30\n",
-    ),
-    (
-        "short.rw",
-        "redwork 1\nstep 10\ncolor 1\nline 0 0 40 0\ncolor 2\nline 0 9 3 11\n",
-    ),
-    (
-        "ended.rw",
-        "redwork 3\nstep 10\ncolor 1\nline 0 0 40 0\nstart 0 0\n",
-    ),
-];
-
-const RUNS: [Run; 23] = [
-    (
-        &["look", "ok.rw"],
-        [0, 0, 0],
-        0,
-        "block 1 piece 1 lines 3 junctions 4 odd 4\npieces 1 places 0\n",
-        "",
-    ),
-    (
-        &["look", "near.rw"],
-        [0, 0, 0],
-        0,
-        "block 1 piece 1 lines 1 junctions 2 odd 2\nblock 1 piece 2 lines 1 junctions 2 odd 2\nblock 1 piece 3 lines 1 junctions 2 odd 2\nblock 1 line 3 at 20 -20: crossing\npieces 3 places 1\n",
-        "",
-    ),
-    (
-        &["look", "near.rw", "3"],
-        [0, 0, 0],
-        0,
-        "block 1 piece 1 lines 1 junctions 2 odd 2\nblock 1 piece 2 lines 1 junctions 2 odd 2\nblock 1 piece 3 lines 1 junctions 2 odd 2\nblock 1 line 2 at 40 3: loose end\nblock 1 line 3 at 20 -20: crossing\npieces 3 places 2\n",
-        "",
-    ),
-    (
-        &["look", "one.rw", "0"],
-        [0, 0, 0],
-        0,
-        "block 1 piece 1 lines 2 junctions 3 odd 2\nblock 1 piece 2 lines 1 junctions 2 odd 2\nblock 1 line 2 at 20 0: unlisted meeting\nblock 1 line 3 at 0 0: short point spacing\npieces 2 places 2\n",
-        "",
-    ),
-    (
-        &["look", "bad.rw"],
-        [0, 0, 0],
-        1,
-        "",
-        "stitch_drawing: bad.rw: line 3: too few points\n",
-    ),
-    (
-        &["look", "none.rw"],
-        [0, 0, 0],
-        3,
-        "",
-        "stitch_drawing: cannot read none.rw\n",
-    ),
-    (
-        &["look", "ok.rw"],
-        [1, 0, 0],
-        3,
-        "",
-        "stitch_drawing: cannot read ok.rw\n",
-    ),
-    (
-        &["look", "ok.rw"],
-        [0, 1, 0],
-        3,
-        "",
-        "stitch_drawing: cannot print\n",
-    ),
-    (&["look", "bad.rw"], [0, 0, 1], 3, "", ""),
-    (
-        &["look", "ok.rw", "100"],
-        [0, 0, 0],
-        0,
-        "block 1 piece 1 lines 3 junctions 4 odd 4\nblock 1 line 1 at 0 0: loose end\nblock 1 line 1 at 80 0: loose end\nblock 1 line 2 at 40 40: loose end\npieces 1 places 3\n",
-        "",
-    ),
-    (&["look", "ok.rw", "101"], [0, 0, 0], 2, "", USAGE),
-    (&["look", "ok.rw", "-1"], [0, 0, 0], 2, "", USAGE),
-    (&["look", ""], [0, 0, 0], 2, "", USAGE),
-    (
-        &["snap", "2", "loose.rw", "out.rw"],
-        [0, 0, 0],
-        0,
-        "moved 1 listed 1 pieces 4 to 2\n",
-        "",
-    ),
-    (
-        &["snap", "1", "loose.rw", "out.rw"],
-        [0, 0, 0],
-        0,
-        "moved 0 listed 0 pieces 4 to 4\n",
-        "",
-    ),
-    (
-        &["snap", "3", "short.rw", "out.rw"],
-        [0, 0, 0],
-        1,
-        "",
-        "stitch_drawing: short.rw: block 2 line 2: would vanish\n",
-    ),
-    (
-        &["snap", "2", "ended.rw", "out.rw"],
-        [0, 0, 0],
-        1,
-        "",
-        "stitch_drawing: ended.rw: starts and ends are not snapped\n",
-    ),
-    (
-        &["snap", "2", "bad.rw", "out.rw"],
-        [0, 0, 0],
-        1,
-        "",
-        "stitch_drawing: bad.rw: line 3: too few points\n",
-    ),
-    (
-        &["snap", "101", "loose.rw", "out.rw"],
-        [0, 0, 0],
-        2,
-        "",
-        USAGE,
-    ),
-    (
-        &["snap", "2", "loose.rw", "loose.rw"],
-        [0, 0, 0],
-        2,
-        "",
-        USAGE,
-    ),
-    (&["snap", "2", "loose.rw"], [0, 0, 0], 2, "", USAGE),
-    (&["look"], [0, 0, 0], 2, "", USAGE),
-    (&[], [0, 0, 0], 2, "", USAGE),
-];
-
 fn stocked(alloc: Global) -> Result<MemStore, Fail> {
     let mut store = MemStore::new(alloc);
-    for (name, text) in FILES {
+    for (name, text) in LOOKED_AT {
         store.put_file(name, text.as_bytes())?;
     }
     store.prepare("out.rw", 1_000)?;
@@ -179,7 +17,7 @@ fn stocked(alloc: Global) -> Result<MemStore, Fail> {
 #[test]
 fn a_run_ends_as_its_files_and_arguments_say(rt: HostRuntime) -> Result<(), Fail> {
     let alloc = rt.alloc();
-    for (words, fails, status, printed, reported) in &RUNS {
+    for (words, fails, status, printed, reported) in LOOKED {
         let mut store = stocked(alloc)?;
         let mut out = MemSink::new(alloc, 10_000)?;
         let mut err = MemSink::new(alloc, 1_000)?;
@@ -197,10 +35,6 @@ fn a_run_ends_as_its_files_and_arguments_say(rt: HostRuntime) -> Result<(), Fail
     }
     Ok(())
 }
-
-/// What a snap by 2 leaves of `loose.rw`.
-const SNAPPED: &str =
-    "redwork 2\nname loose\nstep 10\ncolor 7\nline 0 0 20 2\nline 20 2 40 0 80 0\nline 80 0 90 40\nline 20 30 20 2\ncolor 9\nline 20 -1 20 -30\n";
 
 #[test]
 fn a_snap_writes_the_snapped_drawing(rt: HostRuntime) -> Result<(), Fail> {
