@@ -13,7 +13,7 @@ use Rattle.drawing_commands.specs.Commands.{drawing_outputs_of, drawing_plan_of,
 use Rattle.drawing_commands.specs.declared.bad_edit.BadEdit.{BadEdit}
 use Rattle.drawing_commands.specs.DrawingEditing.{DrawingEditOrder, edited_plan, edits_applied}
 use Rattle.drawing_commands.specs.FaultTexts.{plan_after_reading}
-use Rattle.drawing_commands.specs.Looks.{IsLook, LookOrder}
+use Rattle.drawing_commands.specs.Looks.{IsLook}
 use Rattle.drawing_commands.specs.Requests.{DrawingOrder, editing, looking, snapping}
 use Rattle.drawing_commands.proofs.SnapLemmas.{snap_exact, snap_outputs}
 

@@ -6,7 +6,6 @@ use Rattle.drawing_repairs.specs.declared.snap_fault.SnapFault.{SnapFault}
 use Rattle.drawing_repairs.specs.declared.snapping.SnappedDrawing.{SnappedDrawing}
 use Rattle.drawing_repairs.specs.Snaps.{snap_is_out_of_memory, snap_of}
 use Rattle.drawing_text.specs.CanonicalTexts.{canonical_text2}
-use Rattle.drawing_text.specs.declared.drawn_lines.DrawnLines.{DrawnLines}
 use Rattle.drawing_text.specs.declared.walk_end.WalkEnd.{WalkEnd}
 use Rattle.drawing_text.specs.DrawingText.{drawing_of}
 use Rattle.drawing_text.specs.DrawnTexts.{lines_of}

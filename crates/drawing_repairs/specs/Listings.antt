@@ -23,15 +23,16 @@ abbrev pub segment_between : Point → Point → LineSegment
 segment_between a b = drawn_segment
     (record { block = 0; line = 0; number = 0; is_first = false; is_last = false }) a b
 
--- An end is due in a segment of a line that lists the given points: the segment comes within the gap
--- of it, and the line doesn't list it.
+-- An end is due in a segment of a line that lists the given points: the segment comes within the
+-- gap of it, and the line doesn't list it.
 abbrev pub is_due : ℕ → List Point → LineSegment → Point → Bool
 is_due gap listed s e = is_near gap (grid_point e) s && not (list_any (is_same_point e) listed)
 
 -- The first of ends that is due in a segment, if there is one.
 abbrev pub due_end : ℕ → List Point → LineSegment → List Point → Option Point
 due_end gap listed s [] = None
-due_end gap listed s (e ∷ rest) = if is_due gap listed s e then Some e else due_end gap listed s rest
+due_end gap listed s (e ∷ rest) =
+    if is_due gap listed s e then Some e else due_end gap listed s rest
 
 -- A line that is followed: the points that it lists, in any order, the ends that were put into it,
 -- the points that were passed, the point where it is followed, and the points after it.

@@ -32,7 +32,8 @@ filled_block_added d block thread lines =
 abbrev pub blocks_added : DrawingValue → ℕ → List ℕ → List LineValue → Result DrawingValue DrawKind
 blocks_added d block [] lines = Ok d
 blocks_added d block (thread ∷ rest) lines =
-    and_then (filled_block_added d block thread lines) (λ next. blocks_added next (block + 1) rest lines)
+    and_then (filled_block_added d block thread lines) (λ next.
+    blocks_added next (block + 1) rest lines)
 
 -- The joined drawing that has the head and the threads of a drawing and other lines, or its fault.
 abbrev pub remade_drawing : DrawingValue → List LineValue → Result DrawingValue DrawKind

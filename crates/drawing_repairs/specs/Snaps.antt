@@ -14,7 +14,8 @@ use Rattle.drawing_repairs.specs.MovedLines.{changed_in, moved_lines, vanished_f
 use Rattle.drawing_repairs.specs.RemadeDrawings.{remade_drawing}
 
 -- The moved lines, or the first of them that has vanished.
-abbrev pub unless_vanished : Option VanishedLine → List LineValue → Result (List LineValue) SnapFault
+abbrev pub unless_vanished : Option VanishedLine → List LineValue
+    → Result (List LineValue) SnapFault
 unless_vanished None moved = Ok moved
 unless_vanished (Some line) moved = Err (fault.Vanished line)
 
