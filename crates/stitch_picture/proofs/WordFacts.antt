@@ -1,19 +1,20 @@
 -- Worked values of requests, and of orders.
 use Rattle.std.proofs.Common.{◌≡◌, ℕ, List, true, false, [], ◌∷◌, Some, None, codes, map, replicate, refl}
 use Rattle.format_traits.specs.Meanings.{Meaning}
-use Rattle.stitch_picture.specs.Pictures.{picture_order}
-use Rattle.stitch_picture.specs.Words.{has_svg_ending, request_words, side_word}
+use Rattle.stitch_picture.specs.Orders.{picture_order, proving, showing}
+use Rattle.stitch_picture.specs.Words.{has_svg_ending, picture, proof, request_words, side_word}
 
 -- A picture's name ends in `.svg`, in small letters.
 pub known_pictures : map has_svg_ending (codes "a.svg" ∷ codes "a.SVG" ∷ codes "svg" ∷ codes "a.svg.pes" ∷ codes "a.svgz" ∷ [])
     ≡ true ∷ false ∷ false ∷ false ∷ false ∷ []
 known_pictures = refl
 
--- Two names request a picture, the input first; with two sides it has a hoop, the width first.
+-- Two names request a picture, the input first; with two sides it has a hoop, the width first. Three names request a proof.
 pub known_requests : map request_words ((codes "a.pes" ∷ codes "b.svg" ∷ []) ∷
-    (codes "a.pes" ∷ codes "b.svg" ∷ codes "1" ∷ codes "20" ∷ []) ∷ [])
-    ≡ Some (record { input = codes "a.pes"; output = codes "b.svg"; hoop = None })
-    ∷ Some (record { input = codes "a.pes"; output = codes "b.svg"; hoop = Some (record { width = 1; height = 20 }) }) ∷ []
+    (codes "a.pes" ∷ codes "b.svg" ∷ codes "1" ∷ codes "20" ∷ []) ∷ (codes "a" ∷ codes "b" ∷ codes "c.svg" ∷ []) ∷ [])
+    ≡ Some (picture (codes "a.pes") (codes "b.svg") None)
+    ∷ Some (picture (codes "a.pes") (codes "b.svg") (Some (record { width = 1; height = 20 })))
+    ∷ Some (proof (codes "a") (codes "b") (codes "c.svg")) ∷ []
 known_requests = refl
 
 -- No other number of arguments, no empty argument, no other ending and no repeated name requests a picture.
@@ -25,6 +26,13 @@ pub known_no_requests : map request_words (
     ≡ replicate 9 None
 known_no_requests = refl
 
+-- The picture of a proof differs from the drawing and from the certificate, and each of its names is a file name.
+pub known_no_proofs : map request_words (
+    (codes "c.svg" ∷ codes "b" ∷ codes "c.svg" ∷ []) ∷ (codes "a" ∷ codes "c.svg" ∷ codes "c.svg" ∷ [])
+    ∷ ([] ∷ codes "b" ∷ codes "c.svg" ∷ []) ∷ (codes "a" ∷ [] ∷ codes "c.svg" ∷ []) ∷ (codes "a" ∷ codes "b" ∷ codes "c" ∷ []) ∷ [])
+    ≡ replicate 5 None
+known_no_proofs = refl
+
 -- A side is a number from 1 to 100000.
 pub known_sides : map side_word (codes "1" ∷ codes "100000" ∷ codes "0" ∷ codes "100001" ∷ codes "-5" ∷ codes "x" ∷ codes "9999999999" ∷ [])
     ≡ Some 1 ∷ Some 100000 ∷ None ∷ None ∷ None ∷ None ∷ None ∷ []
@@ -34,8 +42,9 @@ known_sides = refl
 abbrev ending_as : Meaning → List ℕ → Meaning
 ending_as format ending = record format { ending = ending }
 
--- The format is that of the input's ending, and a file of no format has no order.
+-- The format is that of the input's ending, and a file of no format has no order. A proof needs no format.
 pub known_orders : (m : Meaning) → map (picture_order (ending_as m (codes "dst") ∷ ending_as m (codes "exp") ∷ []))
-    ((codes "a.exp" ∷ codes "b.svg" ∷ []) ∷ (codes "a.jef" ∷ codes "b.svg" ∷ []) ∷ [])
-    ≡ Some (record { format = ending_as m (codes "exp"); input = codes "a.exp"; output = codes "b.svg"; hoop = None }) ∷ None ∷ []
+    ((codes "a.exp" ∷ codes "b.svg" ∷ []) ∷ (codes "a.jef" ∷ codes "b.svg" ∷ []) ∷ (codes "a" ∷ codes "b" ∷ codes "c.svg" ∷ []) ∷ [])
+    ≡ Some (showing (record { format = ending_as m (codes "exp"); input = codes "a.exp"; output = codes "b.svg"; hoop = None })) ∷ None
+    ∷ Some (proving (record { drawing = codes "a"; cert = codes "b"; output = codes "c.svg" })) ∷ []
 known_orders m = refl

@@ -1,3 +1,5 @@
--- Read this one first: the orders of the program and their plans.
+-- Read this one first: the orders of the program.
+pub mod Orders
 pub mod Pictures
+pub mod Proofs
 pub mod Words

@@ -1,36 +1,55 @@
--- What the arguments of stitch_picture request: two file names, and the two sides of a hoop or
--- none.
+-- What the arguments of stitch_picture request: the picture of a file, with the two sides of a hoop
+-- or none, or the picture of a proof.
 use Rattle.std.specs.Prelude.{ℕ, zero, suc, ℤ, pos, negsuc, ◌-◌, Bool, ◌&&◌, not, List, [], ◌∷◌, Option, Some, None, bytes_eq, codes, drop, length, nat_le, if◌then◌else◌}
 use Rattle.design_model.specs.declared.whole_number.Whole.{Whole}
 use Rattle.design_model.specs.declared.whole_number.Whole.TheVariants as whole
 use Rattle.design_model.specs.WholeNumbers.{parsed_whole}
 use Rattle.design_picture.specs.declared.hoop.Hoop.{Hoop}
 use Rattle.outside_io.specs.Files.{IsFileName, is_file_name}
+use Rattle.stitch_picture.specs.declared.words.FileNames.{FileNames}
 use Rattle.stitch_picture.specs.declared.words.PictureRequest.{PictureRequest}
+use Rattle.stitch_picture.specs.declared.words.PictureRequest.TheVariants as request
+use Rattle.stitch_picture.specs.declared.words.ProofNames.{ProofNames}
 use Rattle.stitch_picture.specs.declared.words.TheConstants.{MAX_HOOP_SIDE}
 
 -- The test whether a name has the ending of a picture.
 abbrev pub has_svg_ending : List ℕ → Bool
 has_svg_ending word = bytes_eq (drop (length word - 4) word) (codes ".svg")
 
--- A request: the names of the input and of the picture, and the hoop or none.
-pub record RequestedPicture : Type 0 where
-  pub input : List ℕ
-  pub output : List ℕ
-  pub hoop : Option Hoop
+-- A request. `picture`: the names of the file and of its picture, and the hoop or none. `proof`: the
+-- names of the drawing, of its certificate and of the picture.
+pub data RequestedPicture : Type 0 where
+  picture : (input output : List ℕ) → Option Hoop → RequestedPicture
+  proof : (drawing cert output : List ℕ) → RequestedPicture
+
+-- The request of the names for the picture of a file.
+abbrev pub file_request : FileNames → RequestedPicture
+file_request names = picture names.input.now names.output.now names.hoop
+
+-- The request of the names for the picture of a proof.
+abbrev pub names_of_proof : ProofNames → RequestedPicture
+names_of_proof names = proof names.drawing.now names.cert.now names.output.now
 
 -- A request of the program, with its names as bytes.
 abbrev pub picture_request : PictureRequest → RequestedPicture
-picture_request request = record {
-  input = request.input.now;
-  output = request.output.now;
-  hoop = request.hoop;
-}
+picture_request (request.File names) = file_request names
+picture_request (request.Proof names) = names_of_proof names
+
+-- The names for the picture of a file are file names.
+pub record AreFileNames (names : FileNames) : Type 0 where
+  pub input : IsFileName names.input.now
+  pub output : IsFileName names.output.now
+
+-- The names for the picture of a proof are file names.
+pub record AreProofNames (names : ProofNames) : Type 0 where
+  pub drawing : IsFileName names.drawing.now
+  pub cert : IsFileName names.cert.now
+  pub output : IsFileName names.output.now
 
 -- The names of a request are file names.
-pub record AreGoodNames (request : PictureRequest) : Type 0 where
-  pub input : IsFileName request.input.now
-  pub output : IsFileName request.output.now
+abbrev pub AreGoodNames : PictureRequest → Type 0
+AreGoodNames (request.File names) = AreFileNames names
+AreGoodNames (request.Proof names) = AreProofNames names
 
 -- The request of two names with a hoop or none, if both are file names, the second is that of a
 -- picture, and they differ.
@@ -38,7 +57,15 @@ abbrev pub request_of : List ℕ → List ℕ → Option Hoop → Option Request
 request_of input output hoop =
     if is_file_name input && is_file_name output && has_svg_ending output
     && not (bytes_eq input output)
-    then Some (record { input = input; output = output; hoop = hoop }) else None
+    then Some (picture input output hoop) else None
+
+-- The request of three names, if all are file names, the third is that of a picture, and it differs
+-- from the other two.
+abbrev pub proof_request : List ℕ → List ℕ → List ℕ → Option RequestedPicture
+proof_request drawing cert output =
+    if is_file_name drawing && is_file_name cert && is_file_name output && has_svg_ending output
+    && not (bytes_eq drawing output) && not (bytes_eq cert output)
+    then Some (proof drawing cert output) else None
 
 -- The side that a number stands for, from 1 to the greatest.
 abbrev pub side_of_number : ℤ → Option ℕ
@@ -62,23 +89,15 @@ hoop_of_sides (Some width) (Some height) = Some (record { width = width; height 
 hoop_of_sides (Some width) None = None
 hoop_of_sides None height = None
 
--- The hoop of two arguments, if there are two.
-abbrev pub hoop_of_words : List (List ℕ) → Option Hoop
-hoop_of_words (width ∷ height ∷ []) = hoop_of_sides (side_word width) (side_word height)
-hoop_of_words _ = None
-
 -- The request of two names with a hoop, if there is one.
 abbrev pub request_with : List ℕ → List ℕ → Option Hoop → Option RequestedPicture
 request_with input output (Some hoop) = request_of input output (Some hoop)
 request_with input output None = None
 
--- The request of two names and further arguments, which are none or the sides of a hoop.
-abbrev pub request_with_sides : List ℕ → List ℕ → List (List ℕ) → Option RequestedPicture
-request_with_sides input output [] = request_of input output None
-request_with_sides input output (side ∷ sides) =
-    request_with input output (hoop_of_words (side ∷ sides))
-
 -- The request of the arguments, or none.
 abbrev pub request_words : List (List ℕ) → Option RequestedPicture
-request_words (input ∷ output ∷ sides) = request_with_sides input output sides
+request_words (input ∷ output ∷ []) = request_of input output None
+request_words (drawing ∷ cert ∷ output ∷ []) = proof_request drawing cert output
+request_words (input ∷ output ∷ width ∷ height ∷ []) =
+    request_with input output (hoop_of_sides (side_word width) (side_word height))
 request_words _ = None

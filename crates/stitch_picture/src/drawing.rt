@@ -1,10 +1,11 @@
 ghost use Rattle.std.specs.Prelude.{◌≡◌, ◌<◌, Ok, Some, length, map, slice_get};
 ghost use Rattle.format_traits.specs.Meanings.{Meaning};
 ghost use Rattle.program_shell.specs.StepOutcomes.{RunsPlan, RunsPurePlan};
-ghost use Rattle.stitch_picture.specs.Pictures.{order_made, picture_plan, picture_read};
-ghost use Rattle.stitch_picture.specs.Words.{AreGoodNames, picture_request};
+ghost use Rattle.stitch_picture.specs.Orders.{order_made};
+ghost use Rattle.stitch_picture.specs.Pictures.{design_picture_plan, picture_read};
+ghost use Rattle.stitch_picture.specs.Words.{AreFileNames};
 
-use crate::words::PictureRequest;
+use crate::words::FileNames;
 use design_model::Bytes;
 use design_picture::picture;
 use format_traits::{Format, Loaded};
@@ -15,34 +16,35 @@ use std::alloc::Global;
 /// Makes the picture of the design in a file. `place` is the index of the format of the file.
 pub(crate) fn draw<'a, S: Store>(
     alloc: Global,
-    request: PictureRequest<'a>,
+    names: FileNames<'a>,
     formats: &mut [Box<dyn Format>],
     place: usize,
     store: &mut S,
 ) -> Result<Product<'a>, Failure<'a>>
-    requires names { AreGoodNames request }
+    requires names { AreFileNames names }
     requires place { place < length formats.old }
     ensures prepares { (m : Meaning) → slice_get (map (λ f. meaning f) formats.old) place ≡ Some m
-        → RunsPlan (picture_plan (order_made (picture_request request.entry) m)) (S.view store.old) (S.view store.new) result }
+        → RunsPlan (design_picture_plan (order_made names.entry.input.now names.entry.output.now names.entry.hoop m))
+        (S.view store.old) (S.view store.new) result }
     ensures same { map (λ f. meaning f) formats.new ≡ map (λ f. meaning f) formats.old }
 {
-    let loaded = load_at(alloc, formats, place, store, request.input)?;
-    drawn(alloc, request, format_at(formats, place), &loaded)
+    let loaded = load_at(alloc, formats, place, store, names.input)?;
+    drawn(alloc, names, format_at(formats, place), &loaded)
 }
 
 fn drawn<'a>(
     alloc: Global,
-    request: PictureRequest<'a>,
+    names: FileNames<'a>,
     format: &Box<dyn Format>,
     loaded: &Loaded,
 ) -> Result<Product<'a>, Failure<'a>>
-    requires names { AreGoodNames request }
-    ensures { RunsPurePlan (picture_read (order_made (picture_request request.entry) (meaning format.now))
-        (Ok loaded.now)) result }
+    requires names { AreFileNames names }
+    ensures { RunsPurePlan (picture_read (order_made names.entry.input.now names.entry.output.now names.entry.hoop
+        (meaning format.now)) (Ok loaded.now)) result }
 {
-    let text = picture(alloc, &loaded.design, request.hoop)?;
+    let text = picture(alloc, &loaded.design, names.hoop)?;
     let output = Output {
-        name: request.output,
+        name: names.output,
         content: text,
     };
     let product = one_output(alloc, output, Bytes::new(alloc))?;

@@ -1,8 +1,9 @@
-//! A second program: draws the design of a stitch file as a picture. Creates the real files, streams and
+//! A second program: draws the design of a stitch file, or the proof of a certificate, as a picture. Creates the real files, streams and
 //! formats, and passes them with the arguments to `run`.
 #![tactic(auto)]
 
 mod drawing;
+mod proving;
 mod running;
 #[cfg(test)]
 mod tests;

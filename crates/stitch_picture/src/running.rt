@@ -3,12 +3,14 @@ ghost use Rattle.format_traits.specs.Endings.{format_of};
 ghost use Rattle.program_shell.specs.Runs.{RunEnds};
 ghost use Rattle.program_shell.specs.RunViews.{views_of};
 ghost use Rattle.program_shell.specs.StepOutcomes.{RunsRequest};
-ghost use Rattle.stitch_picture.specs.Pictures.{order_with, picture_order, picture_program};
-ghost use Rattle.stitch_picture.specs.Words.{AreGoodNames, picture_request};
+ghost use Rattle.stitch_picture.specs.Orders.{order_with, picture_order, picture_program};
+ghost use Rattle.stitch_picture.specs.Words.{AreFileNames};
 
 use crate::drawing::draw;
-use crate::words::{PictureRequest, request};
+use crate::proving::prove;
+use crate::words::{FileNames, PictureRequest, request};
 use format_traits::{Format, find};
+use line_graph::pieces_are_unique;
 use outside_io::{Sink, Store};
 use program_shell::{Failure, Product, Status, finish};
 use std::alloc::Global;
@@ -17,7 +19,8 @@ use std::alloc::Global;
 pub const PROGRAM: &[u8] = b"stitch_picture";
 
 /// What the program prints where the arguments request no picture.
-pub const USAGE: &[u8] = b"usage: stitch_picture IN OUT.svg [WIDTH HEIGHT]\n";
+pub const USAGE: &[u8] =
+    b"usage: stitch_picture FILE OUT.svg [WIDTH HEIGHT]\n       stitch_picture DRAWING CERT OUT.svg\n";
 
 /// Draws the picture that the arguments request, and returns the exit status. If nothing is refused, writes
 /// the picture to the store and prints nothing. Otherwise prints one line, or the usage text, to `err`.
@@ -34,6 +37,7 @@ pub fn run<S: Store, O: Sink, E: Sink>(
         (views_of (S.view store.old) (O.view out.old) (E.view err.old))
         (views_of (S.view store.new) (O.view out.new) (E.view err.new)) result }
 {
+    pieces_are_unique();
     let made = make(alloc, words, formats, store);
     finish(PROGRAM, USAGE, made, store, out, err)
 }
@@ -49,24 +53,25 @@ fn make<'a, S: Store>(
         (map string_bytes words.now)) (S.view store.old) (S.view store.new) result }
 {
     match request(words) {
-        Some(requested) => make_requested(alloc, requested, formats, store),
+        Some(PictureRequest::File(names)) => make_picture(alloc, names, formats, store),
+        Some(PictureRequest::Proof(names)) => prove(alloc, names, store),
         None => Err(Failure::BadArguments),
     }
 }
 
-fn make_requested<'a, S: Store>(
+fn make_picture<'a, S: Store>(
     alloc: Global,
-    requested: PictureRequest<'a>,
+    names: FileNames<'a>,
     formats: &mut [Box<dyn Format>],
     store: &mut S,
 ) -> Result<Product<'a>, Failure<'a>>
-    requires { AreGoodNames requested }
-    ensures { RunsRequest picture_program (order_with (picture_request requested.entry)
-        (format_of (map (λ f. meaning f) formats.old) requested.entry.input.now))
+    requires { AreFileNames names }
+    ensures { RunsRequest picture_program (order_with names.entry.input.now names.entry.output.now names.entry.hoop
+        (format_of (map (λ f. meaning f) formats.old) names.entry.input.now))
         (S.view store.old) (S.view store.new) result }
 {
-    match find(formats, requested.input) {
-        Some(place) => draw(alloc, requested, formats, place, store),
+    match find(formats, names.input) {
+        Some(place) => draw(alloc, names, formats, place, store),
         None => Err(Failure::BadArguments),
     }
 }

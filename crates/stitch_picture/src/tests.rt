@@ -12,12 +12,22 @@ use stitch_text::List;
 const FORTH_AND_BACK: &[u8] =
     b"stitch-list 1\nlabel []\nblock 5\nneedle 0 0\nneedle 30 0\nneedle 60 0\nneedle 30 0\nneedle 0 0\ntrim\nend\n";
 
-const TEXT_OF_USAGE: &str = "usage: stitch_picture IN OUT.svg [WIDTH HEIGHT]\n";
+/// A line of two steps.
+const DRAWING: &[u8] = b"redwork 3\nstep 10\ncolor 5\nline 0 0 20 0\n";
+
+/// The way there and back, and a cut round the first end that takes all of the line.
+const PROOF: &[u8] = b"redwork-certificate 1\npiece 2\nwalk 1 -1\ncut 4 1\nend\n";
+
+/// A cut that is too light.
+const NO_PROOF: &[u8] = b"redwork-certificate 1\npiece 2\nwalk 1 -1\ncut 3 1\nend\n";
+
+const TEXT_OF_USAGE: &str =
+    "usage: stitch_picture FILE OUT.svg [WIDTH HEIGHT]\n       stitch_picture DRAWING CERT OUT.svg\n";
 
 /// Arguments, the status of their run, and what it prints on the standard error.
 type PictureCase = (&'static [&'static str], u8, &'static str);
 
-const CASES: [PictureCase; 11] = [
+const CASES: [PictureCase; 16] = [
     (&["a.lst", "a.svg"], 0, ""),
     (&["a.lst", "a.svg", "700", "300"], 0, ""),
     (&[], 2, TEXT_OF_USAGE),
@@ -30,6 +40,27 @@ const CASES: [PictureCase; 11] = [
         &["bad.exp", "a.svg"],
         1,
         "stitch_picture: bad.exp: byte 0: control code not known\n",
+    ),
+    (&["a.rw", "a.cert", "a.svg"], 0, ""),
+    (
+        &["a.lst", "a.cert", "a.svg"],
+        1,
+        "stitch_picture: a.lst: line 1: not a redwork drawing\n",
+    ),
+    (
+        &["a.rw", "none.cert", "a.svg"],
+        3,
+        "stitch_picture: cannot read none.cert\n",
+    ),
+    (
+        &["a.rw", "a.rw", "a.svg"],
+        1,
+        "stitch_picture: a.rw: line 1: not a certificate\n",
+    ),
+    (
+        &["a.rw", "wrong.cert", "a.svg"],
+        1,
+        "stitch_picture: no: piece 1: cuts give 3 halves, needed 4\n",
     ),
     (
         &["none.lst", "a.svg"],
@@ -82,6 +113,30 @@ fn what_is_sewn_again_is_drawn_beside_the_first(rt: HostRuntime) -> Result<(), F
     Ok(())
 }
 
+#[test]
+fn a_proof_shows_what_is_sewn_again_and_its_cuts(rt: HostRuntime) -> Result<(), Fail> {
+    let mut store = stocked(rt.alloc())?;
+    let mut out = MemSink::new(rt.alloc(), 100)?;
+    let mut err = MemSink::new(rt.alloc(), 1_000)?;
+    answer(
+        rt.alloc(),
+        &["a.rw", "a.cert", "a.svg"],
+        &mut store,
+        &mut out,
+        &mut err,
+    )?;
+    let parts: [&[u8]; 3] = [
+        b"<g transform='scale(.5)'>\n<path class='band' stroke='#1b9e77' d='M0,0 10,0 20,0 30,0 40,0 '/>\n</g>\n",
+        b"<path class='second' d='\nM20,0A5,5,0,0,1,10,0\nM10,0A5,5,0,0,1,0,0'/>\n",
+        b"what is sewn again: steps 2.</text>\n",
+    ];
+    let picture = store.file("a.svg").unwrap_or(b"");
+    for part in parts {
+        assert!(rt; has(picture, part), "{part:?}");
+    }
+    Ok(())
+}
+
 fn has(text: &[u8], part: &[u8]) -> bool {
     for start in 0..text.len() {
         if text[start..].starts_with(part) {
@@ -91,10 +146,13 @@ fn has(text: &[u8], part: &[u8]) -> bool {
     false
 }
 
-/// Returns a store with a design, a file of no format, and room for pictures.
+/// Returns a store with a design, a drawing with two certificates, a bad file, and room for pictures.
 fn stocked(alloc: Global) -> Result<MemStore, Fail> {
     let mut store = MemStore::new(alloc);
     store.put_file("a.lst", FORTH_AND_BACK)?;
+    store.put_file("a.rw", DRAWING)?;
+    store.put_file("a.cert", PROOF)?;
+    store.put_file("wrong.cert", NO_PROOF)?;
     store.put_file("bad.exp", b"\x80\x09\x00\x00")?;
     store.prepare("a.svg", 100_000)?;
     Ok(store)

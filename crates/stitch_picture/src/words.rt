@@ -1,5 +1,5 @@
 ghost use Rattle.std.specs.Prelude.{◌≡◌, IfSome, map, option_map, string_bytes};
-ghost use Rattle.stitch_picture.specs.Words.{AreGoodNames, has_svg_ending, hoop_of_sides, hoop_of_words, picture_request, request_of, request_with, request_with_sides, request_words, side_of_number, side_word};
+ghost use Rattle.stitch_picture.specs.Words.{AreGoodNames, has_svg_ending, hoop_of_sides, picture_request, proof_request, request_of, request_with, request_words, side_of_number, side_word};
 
 use design_model::{Whole, parse_whole};
 use design_picture::Hoop;
@@ -8,33 +8,45 @@ use outside_io::is_name;
 /// The greatest side of a hoop, in tenths of a millimetre.
 pub const MAX_HOOP_SIDE: u32 = 100_000;
 
-/// What the arguments request: the picture of a file, with a hoop or none.
+/// The names for the picture of a file, and the hoop or none.
 #[derive(Clone, Copy)]
-pub struct PictureRequest<'a> {
+pub struct FileNames<'a> {
     pub input: &'a str,
     pub output: &'a str,
     pub hoop: Option<Hoop>,
 }
 
-/// Parses the arguments: two file names, and the two sides of a hoop or none.
+/// The names for the picture of a drawing and its certificate.
+#[derive(Clone, Copy)]
+pub struct ProofNames<'a> {
+    pub drawing: &'a str,
+    pub cert: &'a str,
+    pub output: &'a str,
+}
+
+/// What the arguments request.
+#[derive(Clone, Copy)]
+pub enum PictureRequest<'a> {
+    /// The picture of a file.
+    File(FileNames<'a>),
+    /// The picture of a proof.
+    Proof(ProofNames<'a>),
+}
+
+/// Parses the arguments: two file names, and the two sides of a hoop or none; or three file names.
 pub(crate) fn request(words: &[String]) -> Option<PictureRequest<'_>>
     ensures value { option_map picture_request result ≡ request_words (map string_bytes words.now) }
     ensures names { IfSome result AreGoodNames }
 {
     match words {
-        [input, output, sides @ ..] => request_in(input.as_str(), output.as_str(), sides),
+        [input, output] => request_of_names(input.as_str(), output.as_str(), None),
+        [drawing, cert, output] => proof_of_names(drawing.as_str(), cert.as_str(), output.as_str()),
+        [input, output, width, height] => request_with_hoop(
+            input.as_str(),
+            output.as_str(),
+            hoop_in(width.as_bytes(), height.as_bytes()),
+        ),
         _ => None,
-    }
-}
-
-fn request_in<'a>(input: &'a str, output: &'a str, sides: &[String]) -> Option<PictureRequest<'a>>
-    ensures value { option_map picture_request result
-        ≡ request_with_sides input.now output.now (map string_bytes sides.now) }
-    ensures names { IfSome result AreGoodNames }
-{
-    match sides {
-        [] => request_of_names(input, output, None),
-        [_, ..] => request_with_hoop(input, output, hoop_in_words(sides)),
     }
 }
 
@@ -50,15 +62,6 @@ fn request_with_hoop<'a>(
         Some(hoop) => request_of_names(input, output, Some(hoop)),
         None => None,
     }
-}
-
-fn hoop_in_words(sides: &[String]) -> Option<Hoop>
-    ensures { result ≡ hoop_of_words (map string_bytes sides.now) }
-{
-    let [width, height] = sides else {
-        return None;
-    };
-    hoop_in(width.as_bytes(), height.as_bytes())
 }
 
 fn hoop_in(width: &[u8], height: &[u8]) -> Option<Hoop>
@@ -101,11 +104,36 @@ fn request_of_names<'a>(
     ensures names { IfSome result AreGoodNames }
 {
     if is_name(input) && is_name(output) && is_svg(output) && input != output {
-        Some(PictureRequest {
+        Some(PictureRequest::File(FileNames {
             input,
             output,
             hoop,
-        })
+        }))
+    } else {
+        None
+    }
+}
+
+fn proof_of_names<'a>(
+    drawing: &'a str,
+    cert: &'a str,
+    output: &'a str,
+) -> Option<PictureRequest<'a>>
+    ensures value { option_map picture_request result ≡ proof_request drawing.now cert.now output.now }
+    ensures names { IfSome result AreGoodNames }
+{
+    if is_name(drawing)
+        && is_name(cert)
+        && is_name(output)
+        && is_svg(output)
+        && drawing != output
+        && cert != output
+    {
+        Some(PictureRequest::Proof(ProofNames {
+            drawing,
+            cert,
+            output,
+        }))
     } else {
         None
     }

@@ -1,4 +1,4 @@
-use Rattle.stitch_picture.specs.Pictures.{picture_program}
+use Rattle.stitch_picture.specs.Orders.{picture_program}
 use Rattle.program_shell.proofs.CallerLemmas.{can_finish, ends}
 use Rattle.stitch_picture.proofs.PictureLemmas.{sound}
 use Rattle.stitch_picture.proofs.running.run.Goals as goal
@@ -7,4 +7,4 @@ pub finish-requires : goal.finish-requires
 finish-requires g c = can_finish picture_program _ _ _ _ c.make-made.ensures
 
 pub returns : goal.returns
-returns g c = ends picture_program sound _ _ _ _ _ _ _ _ c.make-made.ensures c.finish.ensures
+returns g c = ends picture_program (sound c.pieces_are_unique.ensures) _ _ _ _ _ _ _ _ c.make-made.ensures c.finish.ensures

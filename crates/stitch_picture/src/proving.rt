@@ -1,0 +1,153 @@
+ghost use Rattle.std.specs.Prelude.{◌≡◌, ◌<◌, ◌≤◌, ◌-◌, ◌^◌, All, Err, List, Ok, Result, ℕ, codes, length};
+ghost use Rattle.certificate_text.specs.ReadCertificates.{cert_of};
+ghost use Rattle.drawing_text.specs.declared.draw_fault.DrawFault.{DrawFault};
+ghost use Rattle.drawing_text.specs.DrawingText.{ReadsDrawing, drawing_of};
+ghost use Rattle.line_graph.specs.Drawings.{DrawingValue};
+ghost use Rattle.outside_io.specs.declared.limits.TheConstants.{MAX_FILE};
+ghost use Rattle.outside_io.specs.Files.{IsFileName};
+ghost use Rattle.outside_io.specs.Views.{StoreView};
+ghost use Rattle.program_shell.specs.FileTexts.{text_at};
+ghost use Rattle.program_shell.specs.Plans.{satisfies};
+ghost use Rattle.program_shell.specs.StepOutcomes.{IsRefusalWith, ParsesInput, ReadsInput, RunsPlan, RunsPurePlan};
+ghost use Rattle.program_texts.specs.DrawingTexts.{draw_fault_text};
+ghost use Rattle.route_verdict.specs.Verdicts.{HasShortLists};
+ghost use Rattle.stitch_picture.specs.Proofs.{IsProofShown, ProofOrder, proof_cert, proof_drawing, proof_order, proof_plan};
+ghost use Rattle.stitch_picture.specs.Words.{AreProofNames};
+
+use crate::words::ProofNames;
+use certificate_text::{CertFault, read_cert};
+use design_model::{Bytes, Memory};
+use drawing_picture::{ProofFault, picture_of_proof};
+use drawing_text::{DrawFault, read_drawing};
+use line_graph::{DrawKind, Drawing};
+use odd_cuts::Cert;
+use outside_io::Store;
+use program_shell::{Failure, Output, Product, describe_part, one_output, read_input};
+use program_texts::describe_draw_fault;
+use route_texts::describe_reason;
+use std::alloc::Global;
+
+/// Makes the picture of the proof that a certificate is of a drawing. Reads the drawing, then the certificate.
+pub(crate) fn prove<'a, S: Store>(
+    alloc: Global,
+    names: ProofNames<'a>,
+    store: &mut S,
+) -> Result<Product<'a>, Failure<'a>>
+    requires { AreProofNames names }
+    ensures { RunsPlan (proof_plan (proof_order names.entry)) (S.view store.old) (S.view store.new) result }
+{
+    let drawing = drawing_in(alloc, store, names.drawing)?;
+    prove_drawing(alloc, names, &drawing, store)
+}
+
+/// Reads and parses the drawing of an input file.
+fn drawing_in<'a, S: Store>(
+    alloc: Global,
+    store: &mut S,
+    name: &'a str,
+) -> Result<Drawing, Failure<'a>>
+    requires { IsFileName name.now }
+    ensures { ParsesInput drawing_of (draw_fault_text name.now) name.now (S.view store.old)
+        (S.view store.new) result }
+{
+    let bytes = read_input(alloc, store, name)?;
+    match read_drawing(alloc, bytes.as_slice()) {
+        Ok(drawing) => Ok(drawing),
+        Err(fault) => Err(drawing_failure(alloc, name, fault)),
+    }
+}
+
+/// Returns the failure for an input file that is not a drawing.
+fn drawing_failure<'a>(alloc: Global, name: &str, fault: DrawFault) -> Failure<'a>
+    ensures { (says : List ℕ → Result DrawingValue DrawFault) (bytes : List ℕ) (old new : StoreView)
+        → ReadsInput name.now old new (Ok bytes) → ReadsDrawing (says bytes) (Err fault)
+        → ParsesInput says (draw_fault_text name.now) name.now old new (Err result) }
+{
+    match fault {
+        DrawFault {
+            kind: DrawKind::Memory,
+            number: _,
+        } => Failure::Memory,
+        fault => bad_drawing(alloc, name, fault),
+    }
+}
+
+/// Returns the refusal of an input file that is not a drawing, or out of memory.
+fn bad_drawing<'a>(alloc: Global, name: &str, fault: DrawFault) -> Failure<'a>
+    ensures { IsRefusalWith (draw_fault_text name.now fault) result }
+{
+    match describe_draw_fault(alloc, name, fault) {
+        Ok(text) => Failure::Refused(text),
+        Err(Memory) => Failure::Memory,
+    }
+}
+
+fn prove_drawing<'a, S: Store>(
+    alloc: Global,
+    names: ProofNames<'a>,
+    drawing: &Drawing,
+    store: &mut S,
+) -> Result<Product<'a>, Failure<'a>>
+    requires { AreProofNames names }
+    ensures { RunsPlan (proof_drawing (proof_order names.entry) (Ok drawing.now)) (S.view store.old)
+        (S.view store.new) result }
+{
+    let bytes = read_input(alloc, store, names.cert)?;
+    prove_text(alloc, names, drawing, bytes.as_slice())
+}
+
+fn prove_text<'a>(
+    alloc: Global,
+    names: ProofNames<'a>,
+    drawing: &Drawing,
+    bytes: &[u8],
+) -> Result<Product<'a>, Failure<'a>>
+    requires names { AreProofNames names }
+    requires short { length bytes.now ≤ MAX_FILE }
+    ensures { RunsPurePlan (proof_cert (proof_order names.entry) drawing.now (cert_of bytes.now)) result }
+{
+    match read_cert(alloc, bytes) {
+        Ok(cert) => shown(alloc, names, drawing, &cert),
+        Err(CertFault::Memory) => Err(Failure::Memory),
+        Err(CertFault::BadLine { number }) => Err(bad_line(alloc, names.cert, number)),
+    }
+}
+
+/// Returns the refusal of a text that is not a certificate from that line on, or out of memory.
+fn bad_line<'a>(alloc: Global, name: &str, number: u32) -> Failure<'a>
+    ensures { IsRefusalWith (text_at name.now (codes "line") number (codes "not a certificate")) result }
+{
+    match describe_part(alloc, name, "line", u64::from(number), "not a certificate") {
+        Ok(text) => Failure::Refused(text),
+        Err(Memory) => Failure::Memory,
+    }
+}
+
+/// Returns the product of a proof, or the refusal of a certificate that proves nothing.
+fn shown<'a>(
+    alloc: Global,
+    names: ProofNames<'a>,
+    drawing: &Drawing,
+    cert: &Cert,
+) -> Result<Product<'a>, Failure<'a>>
+    requires names { AreProofNames names }
+    requires few { length cert.now.pieces < 2 ^ 32 - 1 }
+    requires short { All HasShortLists cert.now.pieces }
+    ensures { RunsPurePlan (satisfies (IsProofShown (proof_order names.entry) drawing.now cert.now.pieces)) result }
+{
+    match picture_of_proof(alloc, drawing, cert) {
+        Ok(text) => {
+            let output = Output {
+                name: names.output,
+                content: text,
+            };
+            let product = one_output(alloc, output, Bytes::new(alloc))?;
+            Ok(product)
+        }
+        Err(ProofFault::Memory) => Err(Failure::Memory),
+        Err(ProofFault::Wrong(why)) => {
+            let text = describe_reason(alloc, why)?;
+            Err(Failure::Refused(text))
+        }
+    }
+}
