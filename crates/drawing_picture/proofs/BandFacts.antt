@@ -50,5 +50,5 @@ unfolding joined digits band_start way_point shape_end
 known_band = refl
 
 pub known_cut_colours : map colour_of_cut (0 ∷ 2 ∷ 3 ∷ 4 ∷ 5 ∷ 6 ∷ [])
-    ≡ codes "#1b9e77" ∷ codes "#7570b3" ∷ codes "#66a61e" ∷ codes "#e7298a" ∷ codes "#386cb0" ∷ codes "#1b9e77" ∷ []
+    ≡ codes "#1b9e77" ∷ codes "#7570b3" ∷ codes "#66a61e" ∷ codes "#e7298a" ∷ codes "#a6761d" ∷ codes "#1b9e77" ∷ []
 known_cut_colours = refl

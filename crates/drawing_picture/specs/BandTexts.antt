@@ -16,7 +16,7 @@ colour_of_cut number = if number % 6 == 0 then codes "#1b9e77"
     else (if number % 6 == 1 then codes "#e6ab02"
     else (if number % 6 == 2 then codes "#7570b3"
     else (if number % 6 == 3 then codes "#66a61e"
-    else (if number % 6 == 4 then codes "#e7298a" else codes "#386cb0"))))
+    else (if number % 6 == 4 then codes "#e7298a" else codes "#a6761d"))))
 
 -- The beginning of a band of a colour.
 unfoldable pub band_start : List ℕ → List ℕ

@@ -59,12 +59,12 @@ retraced_steps certs = sum_by (λ (cert : PieceCert). cert.retraced) certs
 -- The beginning of the lines of the reason, below a legend of so many lines.
 unfoldable pub reason_start : ℕ → List ℕ
 reason_start lines = joined (codes "<g transform='translate(0,"
-    ∷ decimal (150 + LINE_HEIGHT * lines) ∷ ended (codes ")'>") ∷ [])
+    ∷ decimal (170 + LINE_HEIGHT * lines) ∷ ended (codes ")'>") ∷ [])
 
 -- What the bands are.
 unfoldable pub band_lines : List ℕ
 band_lines =
-    joined ((codes "<text class='small' y='24'>Red: sewn again. Bands of one colour: a cut, round"
+    joined ((codes "<text class='small' y='24'>Blue: sewn again. Bands of one colour: a cut, round"
     ++ (codes " the junctions" ++ ended (codes "</text>")))
     ∷ (codes "<text class='small' y='46'>that it holds, as wide as its weight. No thread is"
     ++ (codes " shorter: an odd" ++ ended (codes "</text>"))) ∷ [])

@@ -32,7 +32,7 @@ fn cut_colour(number: usize) -> &'static [u8]
         2 => b"#7570b3",
         3 => b"#66a61e",
         4 => b"#e7298a",
-        _ => b"#386cb0",
+        _ => b"#a6761d",
     }
 }
 

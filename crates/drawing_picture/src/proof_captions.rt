@@ -43,7 +43,7 @@ fn put_reason_start(text: &mut Bytes, lines: u32) -> Result<(), Memory>
         text,
         &[
             Part::Text(b"<g transform='translate(0,"),
-            Part::Number((150 + LINE_HEIGHT * lines as u64) as u128),
+            Part::Number((170 + LINE_HEIGHT * lines as u64) as u128),
             Part::Text(b")'>\n"),
         ],
     )
@@ -57,7 +57,7 @@ fn put_band_lines(text: &mut Bytes) -> Result<(), Memory>
         text,
         &[
             Part::Text(
-                b"<text class='small' y='24'>Red: sewn again. Bands of one colour: a cut, round the junctions</text>\n",
+                b"<text class='small' y='24'>Blue: sewn again. Bands of one colour: a cut, round the junctions</text>\n",
             ),
             Part::Text(
                 b"<text class='small' y='46'>that it holds, as wide as its weight. No thread is shorter: an odd</text>\n",

@@ -21,23 +21,22 @@ frame_text sheet = joined (codes "<path fill='#d9d1be' d='M" ∷ point_text shee
     ∷ decimal sheet.width ∷ codes "v" ∷ decimal sheet.height ∷ codes "h-" ∷ decimal sheet.width
     ∷ ended (codes "z'/>") ∷ [])
 
--- The styles of texts, threads, needle holes, travels, marks, bands and junctions.
+-- The styles of texts, threads, needle holes, travels, marks and bands.
 unfoldable pub style_text : List ℕ
 style_text =
     joined ((codes "<style>text{font:22px sans-serif;fill:#222;paint-order:stroke;stroke:#d9d1be;s"
     ++ (codes "troke-width:5;stroke-linejoin:round}" ++ 10 ∷ []))
-    ∷ (codes "path,circle,rect{stroke-linecap:round;stroke-linejoin:round}.thread{fill:none;"
-    ++ (codes "stroke-width:3}.second{fill:none;stroke-width:3;stroke:#d7263d}" ++ 10 ∷ []))
+    ∷ (codes "path{stroke-linecap:round;stroke-linejoin:round}.thread{fill:none;"
+    ++ (codes "stroke-width:3}.second{fill:none;stroke-width:3;stroke:#1d3bd1}" ++ 10 ∷ []))
     ∷ (codes ".hole{fill:none;stroke:#222;stroke-width:2.6}.line{fill:none;stroke:#555;strok"
-    ++ (codes "e-width:1.5}.dash{stroke-dasharray:6 5}" ++ 10 ∷ []))
+    ++ (codes "e-width:1.5}" ++ 10 ∷ []))
     ∷ (codes ".travel{fill:none;stroke:#555;stroke-width:1.5;stroke-dasharray:6 5;marker-end"
     ++ (codes ":url(#way)}.arrow{fill:none;stroke:none;marker-end:url(#dart)}" ++ 10 ∷ []))
     ∷ (codes ".start{fill:#1a7f37;stroke:#fff;stroke-width:1.5}.end{fill:#b3261e;stroke:#fff"
     ++ (codes ";stroke-width:1.5}.trim{fill:none;stroke:#222;stroke-width:2}.stop{fill:#fff;s"
     ++ (codes "troke:#222;stroke-width:2}" ++ 10 ∷ [])))
     ∷ (codes ".small{font-size:17px}.over{stroke:#d00}.band{fill:none;stroke-width:30;stroke"
-    ++ (codes "-linecap:butt;opacity:.6}.odd{fill:#fff;stroke:#222;stroke-width:3}.even{fill"
-    ++ (codes ":#222}</style>" ++ 10 ∷ []))) ∷ [])
+    ++ (codes "-linecap:butt;opacity:.6}</style>" ++ 10 ∷ [])) ∷ [])
 
 -- The arrows along a thread and along a travel.
 unfoldable pub arrows_text : List ℕ

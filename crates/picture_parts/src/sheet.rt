@@ -93,10 +93,10 @@ fn put_style(text: &mut Bytes) -> Result<(), Memory>
                 b"<style>text{font:22px sans-serif;fill:#222;paint-order:stroke;stroke:#d9d1be;stroke-width:5;stroke-linejoin:round}\n",
             ),
             Part::Text(
-                b"path,circle,rect{stroke-linecap:round;stroke-linejoin:round}.thread{fill:none;stroke-width:3}.second{fill:none;stroke-width:3;stroke:#d7263d}\n",
+                b"path{stroke-linecap:round;stroke-linejoin:round}.thread{fill:none;stroke-width:3}.second{fill:none;stroke-width:3;stroke:#1d3bd1}\n",
             ),
             Part::Text(
-                b".hole{fill:none;stroke:#222;stroke-width:2.6}.line{fill:none;stroke:#555;stroke-width:1.5}.dash{stroke-dasharray:6 5}\n",
+                b".hole{fill:none;stroke:#222;stroke-width:2.6}.line{fill:none;stroke:#555;stroke-width:1.5}\n",
             ),
             Part::Text(
                 b".travel{fill:none;stroke:#555;stroke-width:1.5;stroke-dasharray:6 5;marker-end:url(#way)}.arrow{fill:none;stroke:none;marker-end:url(#dart)}\n",
@@ -105,7 +105,7 @@ fn put_style(text: &mut Bytes) -> Result<(), Memory>
                 b".start{fill:#1a7f37;stroke:#fff;stroke-width:1.5}.end{fill:#b3261e;stroke:#fff;stroke-width:1.5}.trim{fill:none;stroke:#222;stroke-width:2}.stop{fill:#fff;stroke:#222;stroke-width:2}\n",
             ),
             Part::Text(
-                b".small{font-size:17px}.over{stroke:#d00}.band{fill:none;stroke-width:30;stroke-linecap:butt;opacity:.6}.odd{fill:#fff;stroke:#222;stroke-width:3}.even{fill:#222}</style>\n",
+                b".small{font-size:17px}.over{stroke:#d00}.band{fill:none;stroke-width:30;stroke-linecap:butt;opacity:.6}</style>\n",
             ),
         ],
     )
