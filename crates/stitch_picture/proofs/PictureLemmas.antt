@@ -1,5 +1,5 @@
 -- The program decides, and its picture is the file that it writes.
-use Rattle.std.proofs.Common.{◌≡◌, [], ◌∷◌, ℕ, List, Option, Some, None, Result, Ok, Err, ap, map, subst, sym, ◌∙◌}
+use Rattle.std.proofs.Common.{◌≡◌, [], ◌∷◌, ℕ, List, Option, Some, None, Result, Ok, Err, ap, map, sym, ◌∙◌}
 use Rattle.certificate_text.specs.ReadCertificates.{cert_of}
 use Rattle.drawing_picture.specs.CheckedProofs.{certificate_reason}
 use Rattle.drawing_text.specs.declared.draw_fault.DrawFault.{DrawFault}
@@ -14,10 +14,10 @@ use Rattle.outside_io.specs.Files.{Files}
 use Rattle.program_shell.specs.ExactPlans.{IsExact, IsSoundProgram}
 use Rattle.program_shell.specs.Plans.{Makes}
 use Rattle.program_shell.specs.Products.{ProductValue, output_names}
-use Rattle.route_verdict.specs.declared.verdict.Reason.{Reason}
 use Rattle.stitch_picture.specs.Orders.{PictureOrder, picture_outputs, picture_plan, picture_program, proving, showing}
 use Rattle.stitch_picture.specs.Pictures.{DesignPictureOrder, picture_read}
-use Rattle.stitch_picture.specs.Proofs.{IsNoProof, IsProofPicture, ProofOrder, proof_cert, proof_drawing}
+use Rattle.stitch_picture.specs.Proofs.{IsNoProof, IsProofPicture, proof_cert, proof_drawing}
+use Rattle.stitch_picture.specs.Words.{ProofOrder}
 
 exact_read : (order : DesignPictureOrder) (result : Result Loaded ReadFault) → IsExact (picture_read order result)
 exact_read order (Ok loaded) = tt
@@ -33,7 +33,8 @@ not_both one order d certs product text proof none =
     sym proof.shown.right ∙ ap (λ (ps : List (List ℕ)). certificate_reason (map (piece_graph d) ps) certs) same ∙ none.found.is in
     cc
 
-exact_cert : PiecesAreUnique → (order : ProofOrder) (d : DrawingValue) (said : Result (List PieceCert) ℕ) → IsExact (proof_cert order d said)
+exact_cert : PiecesAreUnique → (order : ProofOrder) (d : DrawingValue) (said : Result (List PieceCert) ℕ)
+    → IsExact (proof_cert order d said)
 exact_cert one order d (Ok certs) = λ product text proof none. not_both one order d certs product text proof none
 exact_cert one order d (Err number) = tt
 

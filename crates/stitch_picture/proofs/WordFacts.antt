@@ -12,9 +12,9 @@ known_pictures = refl
 -- Two names request a picture, the input first; with two sides it has a hoop, the width first. Three names request a proof.
 pub known_requests : map request_words ((codes "a.pes" ∷ codes "b.svg" ∷ []) ∷
     (codes "a.pes" ∷ codes "b.svg" ∷ codes "1" ∷ codes "20" ∷ []) ∷ (codes "a" ∷ codes "b" ∷ codes "c.svg" ∷ []) ∷ [])
-    ≡ Some (picture (codes "a.pes") (codes "b.svg") None)
-    ∷ Some (picture (codes "a.pes") (codes "b.svg") (Some (record { width = 1; height = 20 })))
-    ∷ Some (proof (codes "a") (codes "b") (codes "c.svg")) ∷ []
+    ≡ Some (picture (record { input = codes "a.pes"; output = codes "b.svg"; hoop = None }))
+    ∷ Some (picture (record { input = codes "a.pes"; output = codes "b.svg"; hoop = Some (record { width = 1; height = 20 }) }))
+    ∷ Some (proof (record { drawing = codes "a"; cert = codes "b"; output = codes "c.svg" })) ∷ []
 known_requests = refl
 
 -- No other number of arguments, no empty argument, no other ending and no repeated name requests a picture.

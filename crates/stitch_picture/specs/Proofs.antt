@@ -1,5 +1,5 @@
 -- The picture of a drawing and its certificate.
-use Rattle.std.specs.Prelude.{◌≡◌, ℕ, List, [], Option, Some, Result, Ok, Err, codes}
+use Rattle.std.specs.Prelude.{◌≡◌, ℕ, List, [], Some, Result, Ok, Err, codes}
 use Rattle.certificate_text.specs.ReadCertificates.{cert_of}
 use Rattle.drawing_picture.specs.CheckedProofs.{IsFirstFault, IsShownProof}
 use Rattle.drawing_text.specs.declared.draw_fault.DrawFault.{DrawFault}
@@ -12,21 +12,7 @@ use Rattle.program_shell.specs.Products.{ProductValue, one_file_product}
 use Rattle.program_texts.specs.DrawingTexts.{draw_fault_text}
 use Rattle.route_texts.specs.Reasons.{reason_text}
 use Rattle.route_verdict.specs.declared.verdict.Reason.{Reason}
-use Rattle.stitch_picture.specs.declared.words.ProofNames.{ProofNames}
-
--- An order: the picture of a drawing and its certificate.
-pub record ProofOrder : Type 0 where
-  pub drawing : List ℕ
-  pub cert : List ℕ
-  pub output : List ℕ
-
--- The order with the names of the arguments.
-abbrev pub proof_order : ProofNames → ProofOrder
-proof_order names = record {
-  drawing = names.drawing.now;
-  cert = names.cert.now;
-  output = names.output.now;
-}
+use Rattle.stitch_picture.specs.Words.{ProofOrder}
 
 -- A proof that is shown: the product is its picture.
 pub record IsProofPicture (order : ProofOrder) (d : DrawingValue) (certs : List PieceCert)

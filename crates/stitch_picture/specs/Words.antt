@@ -16,24 +16,43 @@ use Rattle.stitch_picture.specs.declared.words.TheConstants.{MAX_HOOP_SIDE}
 abbrev pub has_svg_ending : List ℕ → Bool
 has_svg_ending word = bytes_eq (drop (length word - 4) word) (codes ".svg")
 
--- A request. `picture`: the names of the file and of its picture, and the hoop or none. `proof`: the
--- names of the drawing, of its certificate and of the picture.
+-- A file whose picture is requested: the names of the file and of its picture, and the hoop or none.
+pub record RequestedFile : Type 0 where
+  pub input : List ℕ
+  pub output : List ℕ
+  pub hoop : Option Hoop
+
+-- A proof that is requested: the names of the drawing, of its certificate and of the picture.
+pub record ProofOrder : Type 0 where
+  pub drawing : List ℕ
+  pub cert : List ℕ
+  pub output : List ℕ
+
+-- A request: the picture of a file, or of a proof.
 pub data RequestedPicture : Type 0 where
-  picture : (input output : List ℕ) → Option Hoop → RequestedPicture
-  proof : (drawing cert output : List ℕ) → RequestedPicture
+  picture : RequestedFile → RequestedPicture
+  proof : ProofOrder → RequestedPicture
 
--- The request of the names for the picture of a file.
-abbrev pub file_request : FileNames → RequestedPicture
-file_request names = picture names.input.now names.output.now names.hoop
+-- The names for the picture of a file, as bytes.
+abbrev pub requested_file : FileNames → RequestedFile
+requested_file names = record {
+  input = names.input.now;
+  output = names.output.now;
+  hoop = names.hoop;
+}
 
--- The request of the names for the picture of a proof.
-abbrev pub names_of_proof : ProofNames → RequestedPicture
-names_of_proof names = proof names.drawing.now names.cert.now names.output.now
+-- The names for the picture of a proof, as bytes.
+abbrev pub proof_order : ProofNames → ProofOrder
+proof_order names = record {
+  drawing = names.drawing.now;
+  cert = names.cert.now;
+  output = names.output.now;
+}
 
 -- A request of the program, with its names as bytes.
 abbrev pub picture_request : PictureRequest → RequestedPicture
-picture_request (request.File names) = file_request names
-picture_request (request.Proof names) = names_of_proof names
+picture_request (request.File names) = picture (requested_file names)
+picture_request (request.Proof names) = proof (proof_order names)
 
 -- The names for the picture of a file are file names.
 pub record AreFileNames (names : FileNames) : Type 0 where
@@ -57,7 +76,7 @@ abbrev pub request_of : List ℕ → List ℕ → Option Hoop → Option Request
 request_of input output hoop =
     if is_file_name input && is_file_name output && has_svg_ending output
     && not (bytes_eq input output)
-    then Some (picture input output hoop) else None
+    then Some (picture (record { input = input; output = output; hoop = hoop })) else None
 
 -- The request of three names, if all are file names, the third is that of a picture, and it differs
 -- from the other two.
@@ -65,7 +84,7 @@ abbrev pub proof_request : List ℕ → List ℕ → List ℕ → Option Request
 proof_request drawing cert output =
     if is_file_name drawing && is_file_name cert && is_file_name output && has_svg_ending output
     && not (bytes_eq drawing output) && not (bytes_eq cert output)
-    then Some (proof drawing cert output) else None
+    then Some (proof (record { drawing = drawing; cert = cert; output = output })) else None
 
 -- The side that a number stands for, from 1 to the greatest.
 abbrev pub side_of_number : ℤ → Option ℕ

@@ -3,7 +3,7 @@ ghost use Rattle.format_traits.specs.Meanings.{Meaning};
 ghost use Rattle.program_shell.specs.StepOutcomes.{RunsPlan, RunsPurePlan};
 ghost use Rattle.stitch_picture.specs.Orders.{order_made};
 ghost use Rattle.stitch_picture.specs.Pictures.{design_picture_plan, picture_read};
-ghost use Rattle.stitch_picture.specs.Words.{AreFileNames};
+ghost use Rattle.stitch_picture.specs.Words.{AreFileNames, requested_file};
 
 use crate::words::FileNames;
 use design_model::Bytes;
@@ -24,7 +24,7 @@ pub(crate) fn draw<'a, S: Store>(
     requires names { AreFileNames names }
     requires place { place < length formats.old }
     ensures prepares { (m : Meaning) → slice_get (map (λ f. meaning f) formats.old) place ≡ Some m
-        → RunsPlan (design_picture_plan (order_made names.entry.input.now names.entry.output.now names.entry.hoop m))
+        → RunsPlan (design_picture_plan (order_made (requested_file names.entry) m))
         (S.view store.old) (S.view store.new) result }
     ensures same { map (λ f. meaning f) formats.new ≡ map (λ f. meaning f) formats.old }
 {
@@ -39,8 +39,8 @@ fn drawn<'a>(
     loaded: &Loaded,
 ) -> Result<Product<'a>, Failure<'a>>
     requires names { AreFileNames names }
-    ensures { RunsPurePlan (picture_read (order_made names.entry.input.now names.entry.output.now names.entry.hoop
-        (meaning format.now)) (Ok loaded.now)) result }
+    ensures { RunsPurePlan (picture_read (order_made (requested_file names.entry) (meaning format.now))
+        (Ok loaded.now)) result }
 {
     let text = picture(alloc, &loaded.design, names.hoop)?;
     let output = Output {

@@ -11,8 +11,8 @@ ghost use Rattle.program_shell.specs.Plans.{satisfies};
 ghost use Rattle.program_shell.specs.StepOutcomes.{IsRefusalWith, ParsesInput, ReadsInput, RunsPlan, RunsPurePlan};
 ghost use Rattle.program_texts.specs.DrawingTexts.{draw_fault_text};
 ghost use Rattle.route_verdict.specs.Verdicts.{HasShortLists};
-ghost use Rattle.stitch_picture.specs.Proofs.{IsProofShown, ProofOrder, proof_cert, proof_drawing, proof_order, proof_plan};
-ghost use Rattle.stitch_picture.specs.Words.{AreProofNames};
+ghost use Rattle.stitch_picture.specs.Proofs.{IsProofShown, proof_cert, proof_drawing, proof_plan};
+ghost use Rattle.stitch_picture.specs.Words.{AreProofNames, proof_order};
 
 use crate::words::ProofNames;
 use certificate_text::{CertFault, read_cert};
@@ -133,7 +133,8 @@ fn shown<'a>(
     requires names { AreProofNames names }
     requires few { length cert.now.pieces < 2 ^ 32 - 1 }
     requires short { All HasShortLists cert.now.pieces }
-    ensures { RunsPurePlan (satisfies (IsProofShown (proof_order names.entry) drawing.now cert.now.pieces)) result }
+    ensures { RunsPurePlan (satisfies
+        (IsProofShown (proof_order names.entry) drawing.now cert.now.pieces)) result }
 {
     match picture_of_proof(alloc, drawing, cert) {
         Ok(text) => {

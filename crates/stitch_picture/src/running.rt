@@ -4,7 +4,7 @@ ghost use Rattle.program_shell.specs.Runs.{RunEnds};
 ghost use Rattle.program_shell.specs.RunViews.{views_of};
 ghost use Rattle.program_shell.specs.StepOutcomes.{RunsRequest};
 ghost use Rattle.stitch_picture.specs.Orders.{order_with, picture_order, picture_program};
-ghost use Rattle.stitch_picture.specs.Words.{AreFileNames};
+ghost use Rattle.stitch_picture.specs.Words.{AreFileNames, requested_file};
 
 use crate::drawing::draw;
 use crate::proving::prove;
@@ -66,7 +66,7 @@ fn make_picture<'a, S: Store>(
     store: &mut S,
 ) -> Result<Product<'a>, Failure<'a>>
     requires { AreFileNames names }
-    ensures { RunsRequest picture_program (order_with names.entry.input.now names.entry.output.now names.entry.hoop
+    ensures { RunsRequest picture_program (order_with (requested_file names.entry)
         (format_of (map (λ f. meaning f) formats.old) names.entry.input.now))
         (S.view store.old) (S.view store.new) result }
 {

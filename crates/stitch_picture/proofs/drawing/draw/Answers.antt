@@ -4,12 +4,13 @@ use Rattle.program_shell.specs.StepOutcomes.{RunsPurePlan}
 use Rattle.program_shell.proofs.CallerLemmas.{settles_taken}
 use Rattle.stitch_picture.specs.Orders.{order_made}
 use Rattle.stitch_picture.specs.Pictures.{picture_read}
+use Rattle.stitch_picture.specs.Words.{requested_file}
 use Rattle.stitch_picture.proofs.FormatLemmas.{same_format}
 use Rattle.stitch_picture.proofs.drawing.draw.Goals as goal
 
 pub returns-clause-prepares : goal.returns-clause-prepares
 returns-clause-prepares g c = λ m is.
-    settles_taken _ m.reads (picture_read (order_made c.args.names.input.now c.args.names.output.now c.args.names.hoop m)) _ _ _ _ (c.in_ok-loaded.ensures.loads m is)
-    (subst (λ (here : Meaning). RunsPurePlan (picture_read (order_made c.args.names.input.now c.args.names.output.now c.args.names.hoop here)
+    settles_taken _ m.reads (picture_read (order_made (requested_file c.args.names) m)) _ _ _ _ (c.in_ok-loaded.ensures.loads m is)
+    (subst (λ (here : Meaning). RunsPurePlan (picture_read (order_made (requested_file c.args.names) here)
     (Ok c.in_ok-loaded.loaded)) c.drawn.result)
     (same_format _ _ c.args.place _ m c.in_ok-loaded.ensures.same c.format_at.ensures is) c.drawn.ensures)

@@ -1,5 +1,6 @@
 use Rattle.program_shell.proofs.CallerLemmas.{takes_next}
-use Rattle.stitch_picture.specs.Proofs.{proof_drawing, proof_order}
+use Rattle.stitch_picture.specs.Proofs.{proof_drawing}
+use Rattle.stitch_picture.specs.Words.{proof_order}
 use Rattle.stitch_picture.proofs.proving.prove.Goals as goal
 
 pub returns : goal.returns
