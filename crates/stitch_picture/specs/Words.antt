@@ -16,7 +16,7 @@ use Rattle.stitch_picture.specs.declared.words.TheConstants.{MAX_HOOP_SIDE}
 abbrev pub has_svg_ending : List ℕ → Bool
 has_svg_ending word = bytes_eq (drop (length word - 4) word) (codes ".svg")
 
--- A file whose picture is requested: the names of the file and of its picture, and the hoop or none.
+-- A file whose picture is requested: its name, the name of the picture, and the hoop or none.
 pub record RequestedFile : Type 0 where
   pub input : List ℕ
   pub output : List ℕ
