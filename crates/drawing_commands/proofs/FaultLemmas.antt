@@ -14,7 +14,8 @@ use Rattle.drawing_commands.specs.declared.bad_edit.BadEdit.{BadEdit}
 use Rattle.drawing_commands.specs.DrawingEditing.{bad_edit_is_out_of_memory, edited_plan}
 use Rattle.drawing_commands.specs.EditFailures.{IsEditFailure}
 use Rattle.line_graph.specs.Drawings.{DrawingValue}
-use Rattle.drawing_commands.specs.FaultTexts.{IsFaultFailure, plan_after_reading}
+use Rattle.drawing_commands.specs.FaultTexts.{plan_after_reading}
+use Rattle.drawing_inputs.specs.FaultFailures.{IsFaultFailure}
 
 pub refused : {V : Type 0} (name : List ℕ) (next : V → Plan) (said : Result V DrawFault) (fault : DrawFault) (why : Failure)
     → IsSpecified draw_fault_is_out_of_memory said (Err fault) → IsFaultFailure name fault why

@@ -1,9 +1,6 @@
 -- What is read of a drawing, or refused. A name is the bytes of a file name.
-use Rattle.std.specs.Prelude.{◌≡◌, ℕ, false, List, Result, Ok, Err, string_bytes}
-use Rattle.line_graph.specs.GrowingDrawings.{draw_is_out_of_memory}
+use Rattle.std.specs.Prelude.{ℕ, List, Result, Ok, Err}
 use Rattle.drawing_text.specs.declared.draw_fault.DrawFault.{DrawFault}
-use Rattle.program_shell.specs.declared.failure.Failure.{Failure}
-use Rattle.program_shell.specs.declared.failure.Failure.TheVariants as failure
 use Rattle.program_shell.specs.Plans.{Plan, refuses}
 use Rattle.program_texts.specs.DrawingTexts.{draw_fault_text}
 
@@ -12,12 +9,3 @@ use Rattle.program_texts.specs.DrawingTexts.{draw_fault_text}
 abbrev pub plan_after_reading : {V : Type 0} → List ℕ → (V → Plan) → Result V DrawFault → Plan
 plan_after_reading name next (Ok value) = next value
 plan_after_reading name next (Err fault) = refuses (draw_fault_text name fault)
-
--- The failure for a file whose drawing has that fault: a refusal with the text about it, or out of
--- memory. A fault that is out of memory isn't refused.
-abbrev pub IsFaultFailure : List ℕ → DrawFault → Failure → Type 0
-IsFaultFailure name fault (failure.Refused text) =
-    (string_bytes text ≡ draw_fault_text name fault)
-    × (draw_is_out_of_memory fault.kind ≡ false)
-IsFaultFailure name fault failure.Memory = Unit {0}
-IsFaultFailure name fault other = ⊥

@@ -13,9 +13,10 @@ ghost use Rattle.program_shell.specs.StepOutcomes.{RunsPlan, RunsPurePlan};
 
 use crate::bad_edit::BadEdit;
 use crate::drawing_edit_words::parse_drawing_edit;
-use crate::fault_texts::{drawing_failure, edit_failure};
+use crate::edit_failures::edit_failure;
 use design_model::{Bytes, Memory};
 use drawing_edits::edit_drawing;
+use drawing_inputs::drawing_failure;
 use drawing_text::{print_drawing2, print_drawing3, read_drawing};
 use line_graph::{DrawKind, Drawing, drawing_cost, pieces};
 use outside_io::Store;

@@ -4,8 +4,8 @@
 mod bad_edit;
 mod commands;
 mod drawing_edit_words;
+mod edit_failures;
 mod editing;
-mod fault_texts;
 mod look_texts;
 mod looking;
 mod requests;

@@ -8,9 +8,9 @@ ghost use Rattle.program_shell.specs.Plans.{accepts};
 ghost use Rattle.program_shell.specs.Products.{product_value};
 ghost use Rattle.program_shell.specs.StepOutcomes.{RunsPlan, RunsPurePlan};
 
-use crate::fault_texts::drawing_failure;
 use crate::look_texts::print_look;
 use design_model::Memory;
+use drawing_inputs::drawing_failure;
 use drawing_review::review;
 use drawing_text::{DrawnLines, read_drawing, read_lines};
 use line_graph::{Drawing, pieces};

@@ -9,9 +9,9 @@ ghost use Rattle.outside_io.specs.Files.{IsFileName};
 ghost use Rattle.program_shell.specs.Products.{product_value};
 ghost use Rattle.program_shell.specs.StepOutcomes.{RunsPlan, RunsPurePlan};
 
-use crate::fault_texts::drawing_failure;
 use crate::snap_texts::{has_ends_failure, print_snap, snap_failure};
 use design_model::Memory;
+use drawing_inputs::drawing_failure;
 use drawing_repairs::{SnappedDrawing, snap};
 use drawing_text::{DrawnLines, print_drawing2, read_drawing, read_lines};
 use line_graph::{Drawing, pieces};

@@ -1,15 +1,9 @@
-ghost use Rattle.std.specs.Prelude.{◌≡◌, ◌<◌, ◌≤◌, ◌-◌, ◌^◌, All, Err, List, Ok, Result, ℕ, codes, length};
+ghost use Rattle.std.specs.Prelude.{◌≡◌, ◌<◌, ◌≤◌, ◌-◌, ◌^◌, All, Ok, codes, length};
 ghost use Rattle.certificate_text.specs.ReadCertificates.{cert_of};
-ghost use Rattle.drawing_text.specs.declared.draw_fault.DrawFault.{DrawFault};
-ghost use Rattle.drawing_text.specs.DrawingText.{ReadsDrawing, drawing_of};
-ghost use Rattle.line_graph.specs.Drawings.{DrawingValue};
 ghost use Rattle.outside_io.specs.declared.limits.TheConstants.{MAX_FILE};
-ghost use Rattle.outside_io.specs.Files.{IsFileName};
-ghost use Rattle.outside_io.specs.Views.{StoreView};
 ghost use Rattle.program_shell.specs.FileTexts.{text_at};
 ghost use Rattle.program_shell.specs.Plans.{satisfies};
-ghost use Rattle.program_shell.specs.StepOutcomes.{IsRefusalWith, ParsesInput, ReadsInput, RunsPlan, RunsPurePlan};
-ghost use Rattle.program_texts.specs.DrawingTexts.{draw_fault_text};
+ghost use Rattle.program_shell.specs.StepOutcomes.{IsRefusalWith, RunsPlan, RunsPurePlan};
 ghost use Rattle.route_verdict.specs.Verdicts.{HasShortLists};
 ghost use Rattle.stitch_picture.specs.Proofs.{IsProofShown, proof_cert, proof_drawing, proof_plan};
 ghost use Rattle.stitch_picture.specs.Words.{AreProofNames, proof_order};
@@ -17,13 +11,12 @@ ghost use Rattle.stitch_picture.specs.Words.{AreProofNames, proof_order};
 use crate::words::ProofNames;
 use certificate_text::{CertFault, read_cert};
 use design_model::{Bytes, Memory};
+use drawing_inputs::drawing_in;
 use drawing_picture::{ProofFault, picture_of_proof};
-use drawing_text::{DrawFault, read_drawing};
-use line_graph::{DrawKind, Drawing};
+use line_graph::Drawing;
 use odd_cuts::Cert;
 use outside_io::Store;
 use program_shell::{Failure, Output, Product, describe_part, one_output, read_input};
-use program_texts::describe_draw_fault;
 use route_texts::describe_reason;
 use std::alloc::Global;
 
@@ -38,48 +31,6 @@ pub(crate) fn prove<'a, S: Store>(
 {
     let drawing = drawing_in(alloc, store, names.drawing)?;
     prove_drawing(alloc, names, &drawing, store)
-}
-
-/// Reads and parses the drawing of an input file.
-fn drawing_in<'a, S: Store>(
-    alloc: Global,
-    store: &mut S,
-    name: &'a str,
-) -> Result<Drawing, Failure<'a>>
-    requires { IsFileName name.now }
-    ensures { ParsesInput drawing_of (draw_fault_text name.now) name.now (S.view store.old)
-        (S.view store.new) result }
-{
-    let bytes = read_input(alloc, store, name)?;
-    match read_drawing(alloc, bytes.as_slice()) {
-        Ok(drawing) => Ok(drawing),
-        Err(fault) => Err(drawing_failure(alloc, name, fault)),
-    }
-}
-
-/// Returns the failure for an input file that is not a drawing.
-fn drawing_failure<'a>(alloc: Global, name: &str, fault: DrawFault) -> Failure<'a>
-    ensures { (says : List ℕ → Result DrawingValue DrawFault) (bytes : List ℕ) (old new : StoreView)
-        → ReadsInput name.now old new (Ok bytes) → ReadsDrawing (says bytes) (Err fault)
-        → ParsesInput says (draw_fault_text name.now) name.now old new (Err result) }
-{
-    match fault {
-        DrawFault {
-            kind: DrawKind::Memory,
-            number: _,
-        } => Failure::Memory,
-        fault => bad_drawing(alloc, name, fault),
-    }
-}
-
-/// Returns the refusal of an input file that is not a drawing, or out of memory.
-fn bad_drawing<'a>(alloc: Global, name: &str, fault: DrawFault) -> Failure<'a>
-    ensures { IsRefusalWith (draw_fault_text name.now fault) result }
-{
-    match describe_draw_fault(alloc, name, fault) {
-        Ok(text) => Failure::Refused(text),
-        Err(Memory) => Failure::Memory,
-    }
 }
 
 fn prove_drawing<'a, S: Store>(
