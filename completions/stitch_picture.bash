@@ -1,13 +1,16 @@
-# Completions of stitch_picture for bash: a stitch file, and a picture to write. Folders are offered too.
+# Completions of stitch_picture for bash: a stitch file or a drawing, the certificate of a drawing, and a picture to write.
+# Folders are offered too.
 _stitch_picture() {
-    local word=${COMP_WORDS[COMP_CWORD]} file endings
+    local word=${COMP_WORDS[COMP_CWORD]} file endings second=svg third=
+    [[ ${COMP_WORDS[1]-} == *.[rR][wW] ]] && second='[cC][eE][rR][tT]' third=svg
     compopt -o filenames 2>/dev/null
     COMPREPLY=()
     case $COMP_CWORD in
-        1) endings='[dD][sS][tT]|[eE][xX][pP]|[pP][eE][cCsS]|[lL][sS][tT]' ;;
-        2) endings=svg ;;
-        *) return ;;
+        1) endings='[dD][sS][tT]|[eE][xX][pP]|[pP][eE][cCsS]|[lL][sS][tT]|[rR][wW]' ;;
+        2) endings=$second ;;
+        3) endings=$third ;;
     esac
+    [ -n "${endings-}" ] || return
     mapfile -t COMPREPLY < <(compgen -d -- "$word")
     while IFS= read -r file; do
         [[ $file =~ \.($endings)$ ]] && COMPREPLY+=("$file")

@@ -1,6 +1,11 @@
-# Completions of stitch_picture for fish: a stitch file, and a picture to write. Folders are offered too.
+# Completions of stitch_picture for fish: a stitch file or a drawing, the certificate of a drawing, and a picture to write.
+# Folders are offered too.
 function __stitch_picture_at
     test (count (commandline -opc)) -eq $argv[1]
+end
+
+function __stitch_picture_drawing
+    string match -qir '\.rw$' -- (commandline -opc)[2]
 end
 
 function __stitch_picture_files
@@ -8,5 +13,7 @@ function __stitch_picture_files
 end
 
 complete -c stitch_picture -f
-complete -c stitch_picture -n '__stitch_picture_at 1' -a "(__stitch_picture_files '(?i:dst|exp|pec|pes|lst)')"
-complete -c stitch_picture -n '__stitch_picture_at 2' -a '(__stitch_picture_files svg)'
+complete -c stitch_picture -n '__stitch_picture_at 1' -a "(__stitch_picture_files '(?i:dst|exp|pec|pes|lst|rw)')"
+complete -c stitch_picture -n '__stitch_picture_at 2; and not __stitch_picture_drawing' -a '(__stitch_picture_files svg)'
+complete -c stitch_picture -n '__stitch_picture_at 2; and __stitch_picture_drawing' -a "(__stitch_picture_files '(?i:cert)')"
+complete -c stitch_picture -n '__stitch_picture_at 3; and __stitch_picture_drawing' -a '(__stitch_picture_files svg)'
