@@ -1,4 +1,4 @@
-# Completions of stitch_drawing for fish: a command, and a drawing. Folders are offered too.
+# Completions of stitch_drawing for fish: a command, and drawings. Folders are offered too.
 function __stitch_drawing_at
     test (count (commandline -opc)) -eq $argv[1]
 end
@@ -8,5 +8,11 @@ function __stitch_drawing_files
 end
 
 complete -c stitch_drawing -f
-complete -c stitch_drawing -n '__stitch_drawing_at 1' -a look
-complete -c stitch_drawing -n '__stitch_drawing_at 2' -a '(__stitch_drawing_files)'
+function __stitch_drawing_does
+    test (commandline -opc)[2] = $argv[1]
+end
+
+complete -c stitch_drawing -n '__stitch_drawing_at 1' -a 'look snap'
+complete -c stitch_drawing -n '__stitch_drawing_at 2; and __stitch_drawing_does look' -a '(__stitch_drawing_files)'
+complete -c stitch_drawing -n '__stitch_drawing_at 3; and __stitch_drawing_does snap' -a '(__stitch_drawing_files)'
+complete -c stitch_drawing -n '__stitch_drawing_at 4; and __stitch_drawing_does snap' -a '(__stitch_drawing_files)'
