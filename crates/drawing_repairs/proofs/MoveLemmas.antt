@@ -1,5 +1,5 @@
 -- A point moves no farther than the gap, and anchors are farther apart.
-use Rattle.std.proofs.Common.{◌≡◌, ℕ, ℤ, ◌-ℤ◌, ◌<◌, ◌≤◌, unsigned_abs, zero, suc, length, get_or, Bool, ◌||◌, true, false, nat_le, nat_lt, List, [], ◌∷◌, ◌++◌, Option, Some, None, if◌then◌else◌, refl, ap, ◌∙◌, arith}
+use Rattle.std.proofs.Common.{◌≡◌, ℕ, ℤ, ◌-ℤ◌, ◌<◌, ◌≤◌, unsigned_abs, zero, suc, length, get_or, Bool, ◌||◌, true, false, nat_le, nat_lt, List, [], ◌∷◌, ◌++◌, Option, Some, None, if◌then◌else◌, refl, ap, sym, subst, ◌∙◌, arith}
 use Rattle.std.proofs.lemmas.Bool.{leb-false, leb-true, ltb-true}
 use Rattle.std.proofs.lemmas.List.Quantifiers.{all_pairs_push}
 use Rattle.std.proofs.lemmas.Int.{ints}
@@ -94,3 +94,55 @@ none_pair gap i j d before low = absurd (omega (arith, low))
 -- Anchors are farther apart than the gap.
 pub far_apart : (gap : ℕ) (points : List Point) → AreFarApart gap (anchors_of gap points)
 far_apart gap points = far_after gap [] points (none_pair gap)
+
+keeps_if : (p best a : Point) (b : Bool) → nat_lt (distance_between p a) (distance_between p best) ≡ b
+    → distance_between p best ≡ 0 → (if b then a else best) ≡ best
+keeps_if p best a true is here =
+    let less = ltb-true (distance_between p a) (distance_between p best) is in absurd (omega (arith, less, here))
+keeps_if p best a false is here = refl
+
+-- an anchor at the point itself stays the nearest
+keeps_best : (gap : ℕ) (p best : Point) (rest : List Point) → distance_between p best ≡ 0
+    → nearest_after gap p (Some best) rest ≡ Some best
+keeps_best gap p best [] here = refl
+keeps_best gap p best (a ∷ rest) here =
+    ap (λ (b : Point). nearest_after gap p (Some b) rest)
+    (keeps_if p best a (nat_lt (distance_between p a) (distance_between p best)) refl here)
+    ∙ keeps_best gap p best rest here
+
+none_if : (gap : ℕ) (p a : Point) (b : Bool) → nat_le (distance_between p a) gap ≡ b → gap < distance_between p a
+    → (if b then Some a else None) ≡ None
+none_if gap p a true is far = let near = leb-true (distance_between p a) gap is in absurd (omega (arith, near, far))
+none_if gap p a false is far = refl
+
+some_if : (gap : ℕ) (p a : Point) (b : Bool) → nat_le (distance_between p a) gap ≡ b → distance_between p a ≤ gap
+    → (if b then Some a else None) ≡ Some a
+some_if gap p a true is near = refl
+some_if gap p a false is near = let far = leb-false (distance_between p a) gap is in absurd (omega (arith, near, far))
+
+no_distance : (p : Point) → distance_between p p ≡ 0
+no_distance p = omega (arith, same_place p 0)
+
+finds_itself : (gap : ℕ) (p : Point) (rest : List Point) → nearest_after gap p None (p ∷ rest) ≡ Some p
+finds_itself gap p rest =
+    ap (λ (best : Option Point). nearest_after gap p best rest)
+    (some_if gap p p (nat_le (distance_between p p) gap) refl (same_place p gap))
+    ∙ keeps_best gap p p rest (no_distance p)
+
+finds : (gap : ℕ) (anchors : List Point) (i : ℕ) (d p : Point) → i < length anchors → get_or anchors i d ≡ p
+    → ((j : ℕ) → j < i → gap < distance_between p (get_or anchors j d)) → nearest_after gap p None anchors ≡ Some p
+finds gap [] i d p low is far = absurd (omega (arith, low))
+finds gap (a ∷ rest) zero d p low is far =
+    subst (λ (q : Point). nearest_after gap p None (q ∷ rest) ≡ Some p) (sym is) (finds_itself gap p rest)
+finds gap (a ∷ rest) (suc i) d p low is far =
+    ap (λ (best : Option Point). nearest_after gap p best rest)
+    (none_if gap p a (nat_le (distance_between p a) gap) refl (far 0 (omega arith)))
+    ∙ finds gap rest i d p (omega (arith, low)) is (λ j before. far (suc j) (omega (arith, before)))
+
+-- An anchor stays where it is.
+pub anchor_stays : (gap : ℕ) (points : List Point) (i : ℕ) (d : Point) → i < length (anchors_of gap points)
+    → anchored gap (anchors_of gap points) (get_or (anchors_of gap points) i d) ≡ get_or (anchors_of gap points) i d
+anchor_stays gap points i d low =
+    ap (λ (best : Option Point). point_or (get_or (anchors_of gap points) i d) best)
+    (finds gap (anchors_of gap points) i d (get_or (anchors_of gap points) i d) low refl
+    (λ j before. far_apart gap points j i d before low))

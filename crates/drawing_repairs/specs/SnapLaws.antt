@@ -1,6 +1,6 @@
 -- Laws of snaps: how far points move, and which points a line lists. Distances are on the larger
 -- axis, in tenths of a millimetre.
-use Rattle.std.specs.Prelude.{◌≡◌, ℕ, ◌<◌, ◌≤◌, Bool, true, List, AllPairs}
+use Rattle.std.specs.Prelude.{◌≡◌, ℕ, ◌<◌, ◌≤◌, Bool, true, List, All, AllPairs}
 use Rattle.std.specs.List.{list_all}
 use Rattle.design_model.specs.declared.point.Point.{Point}
 use Rattle.drawing_repairs.specs.Anchors.{anchored, anchors_of, distance_between}
@@ -19,6 +19,11 @@ NoPointMovesWithoutGap = (anchors : List Point) (p : Point) → anchored 0 ancho
 abbrev pub AnchorsAreApart : Type 0
 AnchorsAreApart = (gap : ℕ) (points : List Point)
     → AllPairs (λ a b. gap < distance_between b a) (anchors_of gap points)
+
+-- An anchor stays where it is.
+abbrev pub AnchorsStay : Type 0
+AnchorsStay = (gap : ℕ) (points : List Point)
+    → All (λ a. anchored gap (anchors_of gap points) a ≡ a) (anchors_of gap points)
 
 -- A line lists its points and ends of its block alone: what holds of all these holds of each point
 -- that it then lists.

@@ -1,4 +1,4 @@
-ghost use Rattle.drawing_repairs.specs.SnapLaws.{AnchorsAreApart, ListingsAddEndsAlone, NoPointMovesWithoutGap, PointsMoveWithinGap};
+ghost use Rattle.drawing_repairs.specs.SnapLaws.{AnchorsAreApart, AnchorsStay, ListingsAddEndsAlone, NoPointMovesWithoutGap, PointsMoveWithinGap};
 
 /// Theorem: a point is within the gap of the anchor to which it moves, and with a gap of 0 no point moves.
 pub fn points_move_within_gap()
@@ -6,9 +6,10 @@ pub fn points_move_within_gap()
     ensures exact { NoPointMovesWithoutGap }
 {}
 
-/// Theorem: anchors are farther apart than the gap.
+/// Theorem: anchors are farther apart than the gap, and stay where they are.
 pub fn anchors_are_apart()
-    ensures { AnchorsAreApart }
+    ensures apart { AnchorsAreApart }
+    ensures stay { AnchorsStay }
 {}
 
 /// Theorem: a line lists its points and ends of its block alone.
