@@ -3,7 +3,7 @@ use Rattle.std.proofs.Common.{◌≡◌, ℕ, ℤ, ◌-ℤ◌, ◌<◌, ◌≤�
 use Rattle.std.proofs.lemmas.Bool.{leb-false, leb-true, ltb-true}
 use Rattle.std.proofs.lemmas.List.Quantifiers.{all_pairs_push}
 use Rattle.std.proofs.lemmas.Int.{ints}
-use Rattle.std.specs.List.{AllPairs, list_any}
+use Rattle.std.specs.List.{All, AllPairs, list_any}
 use Rattle.design_model.specs.declared.point.Point.{Point}
 use Rattle.drawing_repairs.specs.Anchors.{anchored, anchors_after, anchors_of, distance_between, is_within_gap, nearer_anchor, nearest_after, nearest_anchor, point_or, with_anchor}
 
@@ -146,3 +146,41 @@ anchor_stays gap points i d low =
     ap (λ (best : Option Point). point_or (get_or (anchors_of gap points) i d) best)
     (finds gap (anchors_of gap points) i d (get_or (anchors_of gap points) i d) low refl
     (λ j before. far_apart gap points j i d before low))
+
+abbrev HoldsOfChoice : (Point → Type 0) → Option Point → Type 0
+HoldsOfChoice P None = Unit {0}
+HoldsOfChoice P (Some a) = P a
+
+choice_if : (P : Point → Type 0) (a : Point) (b : Bool) → P a → HoldsOfChoice P (if b then Some a else None)
+choice_if P a true is = is
+choice_if P a false is = tt
+
+either_if : (P : Point → Type 0) (a best : Point) (b : Bool) → P a → P best → P (if b then a else best)
+either_if P a best true is other = is
+either_if P a best false is other = other
+
+nearer_holds : (P : Point → Type 0) (gap : ℕ) (p a : Point) (best : Option Point) → HoldsOfChoice P best → P a
+    → HoldsOfChoice P (nearer_anchor gap p best a)
+nearer_holds P gap p a None so_far is = choice_if P a (nat_le (distance_between p a) gap) is
+nearer_holds P gap p a (Some best) so_far is =
+    either_if P a best (nat_lt (distance_between p a) (distance_between p best)) is so_far
+
+-- what holds of all anchors holds of the nearest
+nearest_holds : (P : Point → Type 0) (gap : ℕ) (p : Point) (best : Option Point) (anchors : List Point) → HoldsOfChoice P best
+    → All P anchors → HoldsOfChoice P (nearest_after gap p best anchors)
+nearest_holds P gap p best [] so_far all = so_far
+nearest_holds P gap p best (a ∷ rest) so_far all =
+    nearest_holds P gap p (nearer_anchor gap p best a) rest (nearer_holds P gap p a best so_far (all 0 a (omega arith)))
+    (λ i d low. all (suc i) d (omega (arith, low)))
+
+once_by : (gap : ℕ) (anchors : List Point) (p : Point) (best : Option Point) → nearest_anchor gap anchors p ≡ best
+    → HoldsOfChoice (λ a. anchored gap anchors a ≡ a) best → anchored gap anchors (point_or p best) ≡ point_or p best
+once_by gap anchors p None is holds = ap (λ (best : Option Point). point_or p best) is
+once_by gap anchors p (Some a) is holds = holds
+
+-- A point that moved to an anchor stays there.
+pub moves_once : (gap : ℕ) (points : List Point) (p : Point)
+    → anchored gap (anchors_of gap points) (anchored gap (anchors_of gap points) p) ≡ anchored gap (anchors_of gap points) p
+moves_once gap points p =
+    once_by gap (anchors_of gap points) p (nearest_anchor gap (anchors_of gap points) p) refl
+    (nearest_holds (λ a. anchored gap (anchors_of gap points) a ≡ a) gap p None (anchors_of gap points) tt (anchor_stays gap points))

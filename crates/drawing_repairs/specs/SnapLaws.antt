@@ -25,6 +25,12 @@ abbrev pub AnchorsStay : Type 0
 AnchorsStay = (gap : ℕ) (points : List Point)
     → All (λ a. anchored gap (anchors_of gap points) a ≡ a) (anchors_of gap points)
 
+-- A point that moved to an anchor stays there.
+abbrev pub PointsMoveOnce : Type 0
+PointsMoveOnce = (gap : ℕ) (points : List Point) (p : Point)
+    → anchored gap (anchors_of gap points) (anchored gap (anchors_of gap points) p)
+    ≡ anchored gap (anchors_of gap points) p
+
 -- A line lists its points and ends of its block alone: what holds of all these holds of each point
 -- that it then lists.
 abbrev pub ListingsAddEndsAlone : Type 0

@@ -1,4 +1,4 @@
-ghost use Rattle.drawing_repairs.specs.SnapLaws.{AnchorsAreApart, AnchorsStay, ListingsAddEndsAlone, NoPointMovesWithoutGap, PointsMoveWithinGap};
+ghost use Rattle.drawing_repairs.specs.SnapLaws.{AnchorsAreApart, AnchorsStay, ListingsAddEndsAlone, NoPointMovesWithoutGap, PointsMoveOnce, PointsMoveWithinGap};
 
 /// Theorem: a point is within the gap of the anchor to which it moves, and with a gap of 0 no point moves.
 pub fn points_move_within_gap()
@@ -6,10 +6,11 @@ pub fn points_move_within_gap()
     ensures exact { NoPointMovesWithoutGap }
 {}
 
-/// Theorem: anchors are farther apart than the gap, and stay where they are.
+/// Theorem: anchors are farther apart than the gap and stay where they are, as does a point that moved to one.
 pub fn anchors_are_apart()
     ensures apart { AnchorsAreApart }
     ensures stay { AnchorsStay }
+    ensures once { PointsMoveOnce }
 {}
 
 /// Theorem: a line lists its points and ends of its block alone.
