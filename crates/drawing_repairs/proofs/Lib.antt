@@ -1,3 +1,4 @@
 mod SnapFacts
 pub mod MoveLemmas
 pub mod ListingLemmas
+pub mod FollowLemmas

@@ -1,10 +1,10 @@
 -- Laws of snaps: how far points move, and which points a line lists. Distances are on the larger
 -- axis, in tenths of a millimetre.
-use Rattle.std.specs.Prelude.{◌≡◌, ℕ, ◌<◌, ◌≤◌, Bool, true, List, All, AllPairs}
+use Rattle.std.specs.Prelude.{◌≡◌, ℕ, ◌<◌, ◌≤◌, Bool, true, List, [], All, AllPairs}
 use Rattle.std.specs.List.{list_all}
 use Rattle.design_model.specs.declared.point.Point.{Point}
 use Rattle.drawing_repairs.specs.Anchors.{anchored, anchors_of, distance_between}
-use Rattle.drawing_repairs.specs.Listings.{with_due_ends}
+use Rattle.drawing_repairs.specs.Listings.{followed_line, with_due_ends}
 
 -- A point is within the gap of the anchor to which it moves.
 abbrev pub PointsMoveWithinGap : Type 0
@@ -37,3 +37,8 @@ abbrev pub ListingsAddEndsAlone : Type 0
 ListingsAddEndsAlone = (test : Point → Bool) (gap : ℕ) (ends points : List Point)
     → list_all test points ≡ true → list_all test ends ≡ true
     → list_all test (with_due_ends gap ends points) ≡ true
+
+-- A line is followed to its last point: no point is left after the given number of steps.
+abbrev pub LinesAreFollowedToTheEnd : Type 0
+LinesAreFollowedToTheEnd = (gap : ℕ) (ends : List Point) (p : Point) (rest : List Point)
+    → (followed_line gap ends p rest).left ≡ []

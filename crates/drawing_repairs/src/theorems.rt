@@ -1,4 +1,4 @@
-ghost use Rattle.drawing_repairs.specs.SnapLaws.{AnchorsAreApart, AnchorsStay, ListingsAddEndsAlone, NoPointMovesWithoutGap, PointsMoveOnce, PointsMoveWithinGap};
+ghost use Rattle.drawing_repairs.specs.SnapLaws.{AnchorsAreApart, AnchorsStay, LinesAreFollowedToTheEnd, ListingsAddEndsAlone, NoPointMovesWithoutGap, PointsMoveOnce, PointsMoveWithinGap};
 
 /// Theorem: a point is within the gap of the anchor to which it moves, and with a gap of 0 no point moves.
 pub fn points_move_within_gap()
@@ -13,7 +13,8 @@ pub fn anchors_are_apart()
     ensures once { PointsMoveOnce }
 {}
 
-/// Theorem: a line lists its points and ends of its block alone.
+/// Theorem: a line lists its points and ends of its block alone, and is followed to its last point.
 pub fn listings_add_ends_alone()
-    ensures { ListingsAddEndsAlone }
+    ensures alone { ListingsAddEndsAlone }
+    ensures all { LinesAreFollowedToTheEnd }
 {}
