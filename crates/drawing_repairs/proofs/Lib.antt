@@ -2,3 +2,4 @@ mod SnapFacts
 pub mod MoveLemmas
 pub mod ListingLemmas
 pub mod FollowLemmas
+pub mod SettledLemmas

@@ -1,10 +1,10 @@
 -- Laws of snaps: how far points move, and which points a line lists. Distances are on the larger
 -- axis, in tenths of a millimetre.
-use Rattle.std.specs.Prelude.{◌≡◌, ℕ, ◌<◌, ◌≤◌, Bool, true, List, [], All, AllPairs}
+use Rattle.std.specs.Prelude.{◌≡◌, ℕ, ◌<◌, ◌≤◌, Bool, true, List, [], ◌∷◌, None, All, AllPairs}
 use Rattle.std.specs.List.{list_all}
 use Rattle.design_model.specs.declared.point.Point.{Point}
 use Rattle.drawing_repairs.specs.Anchors.{anchored, anchors_of, distance_between}
-use Rattle.drawing_repairs.specs.Listings.{followed_line, with_due_ends}
+use Rattle.drawing_repairs.specs.Listings.{due_end, followed_line, segment_between, with_due_ends}
 
 -- A point is within the gap of the anchor to which it moves.
 abbrev pub PointsMoveWithinGap : Type 0
@@ -42,3 +42,17 @@ ListingsAddEndsAlone = (test : Point → Bool) (gap : ℕ) (ends points : List P
 abbrev pub LinesAreFollowedToTheEnd : Type 0
 LinesAreFollowedToTheEnd = (gap : ℕ) (ends : List Point) (p : Point) (rest : List Point)
     → (followed_line gap ends p rest).left ≡ []
+
+-- No end is due in the segments of the passed points and the point after them, in a line that lists
+-- the given points.
+abbrev pub IsSettledTo : ℕ → (ends listed : List Point) → List Point → Point → Type 0
+IsSettledTo gap ends listed [] at = Unit {0}
+IsSettledTo gap ends listed (a ∷ []) at = due_end gap listed (segment_between a at) ends ≡ None
+IsSettledTo gap ends listed (a ∷ b ∷ rest) at =
+    (due_end gap listed (segment_between a b) ends ≡ None)
+    × IsSettledTo gap ends listed (b ∷ rest) at
+
+-- No end is due in a line that was followed.
+abbrev pub NoEndIsDueAfterwards : Type 0
+NoEndIsDueAfterwards = (gap : ℕ) (ends : List Point) (p : Point) (rest : List Point)
+    → let f = followed_line gap ends p rest in IsSettledTo gap ends f.listed f.passed f.at

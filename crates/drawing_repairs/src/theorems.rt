@@ -1,4 +1,4 @@
-ghost use Rattle.drawing_repairs.specs.SnapLaws.{AnchorsAreApart, AnchorsStay, LinesAreFollowedToTheEnd, ListingsAddEndsAlone, NoPointMovesWithoutGap, PointsMoveOnce, PointsMoveWithinGap};
+ghost use Rattle.drawing_repairs.specs.SnapLaws.{AnchorsAreApart, AnchorsStay, LinesAreFollowedToTheEnd, ListingsAddEndsAlone, NoEndIsDueAfterwards, NoPointMovesWithoutGap, PointsMoveOnce, PointsMoveWithinGap};
 
 /// Theorem: a point is within the gap of the anchor to which it moves, and with a gap of 0 no point moves.
 pub fn points_move_within_gap()
@@ -13,8 +13,10 @@ pub fn anchors_are_apart()
     ensures once { PointsMoveOnce }
 {}
 
-/// Theorem: a line lists its points and ends of its block alone, and is followed to its last point.
+/// Theorem: a line lists its points and ends of its block alone, is followed to its last point, and
+/// then no end is due in it.
 pub fn listings_add_ends_alone()
     ensures alone { ListingsAddEndsAlone }
     ensures all { LinesAreFollowedToTheEnd }
+    ensures settled { NoEndIsDueAfterwards }
 {}
