@@ -1,10 +1,10 @@
-use crate::design_of;
 use design_model::{
     Act, Acts, Bytes, Command, Design, Extent, Memory, ModelFault, NumberedAct, Point, Whole, acts,
     block_counts, counts, extent, height, parse_whole, width,
 };
 use std::alloc::Global;
 use std::test::Fail;
+use test_values::design_of;
 
 fn at(x: i32) -> Point {
     Point { x, y: 0 }

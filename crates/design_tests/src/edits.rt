@@ -1,8 +1,8 @@
-use crate::design_of;
 use design_edits::{Axis, EditFault, MAX_SHIFT, mirror, recolour, shift, turn};
 use design_model::{Command, Design, ModelFault, Point};
 use std::alloc::Global;
 use std::test::Fail;
+use test_values::design_of;
 
 fn at(x: i32, y: i32) -> Point {
     Point { x, y }

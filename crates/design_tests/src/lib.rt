@@ -1,5 +1,4 @@
 //! Tests of designs, of their pictures, edits, refits and hoops, and of the outside that they are read from.
-//! With them are the small makers of values that tests of other crates call.
 #![tactic(auto)]
 
 #[cfg(test)]
@@ -14,10 +13,8 @@ mod hoops;
 mod pictures;
 #[cfg(test)]
 mod refits;
-mod repeated_bytes;
-mod sewn_designs;
+mod stitches;
 #[cfg(test)]
 mod stores;
 
-pub use repeated_bytes::repeated;
-pub use sewn_designs::design_of;
+pub use stitches::stitch;

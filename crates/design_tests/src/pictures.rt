@@ -1,11 +1,8 @@
-use crate::design_of;
-use design_model::{Command, Point};
+use crate::stitch;
+use design_model::Command;
 use design_picture::{Hoop, picture};
 use std::test::Fail;
-
-fn stitch(x: i32, y: i32) -> Command {
-    Command::Stitch(Point { x, y })
-}
+use test_values::design_of;
 
 #[test]
 fn a_picture_shows_the_acts_in_order(rt: HostRuntime) -> Result<(), Fail> {

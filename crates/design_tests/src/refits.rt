@@ -1,10 +1,11 @@
-use crate::design_of;
+use crate::stitch;
 use design_model::{
     Command, Design, MAX_COMMANDS, ModelFault, NEEDLE_LIMIT, Point, Points, counts,
 };
 use std::alloc::Global;
 use std::test::Fail;
 use step_splitter::{MAX_STEP, RefitFault, RefitMode, refit, split, steps};
+use test_values::design_of;
 
 fn at(place: (i32, i32)) -> Point {
     Point {
@@ -73,10 +74,6 @@ fn the_ends_of_the_steps_are_rounded_towards_the_lesser_number(
         }
     }
     Ok(())
-}
-
-fn stitch(x: i32, y: i32) -> Command {
-    Command::Stitch(Point { x, y })
 }
 
 fn jump(x: i32, y: i32) -> Command {

@@ -1,4 +1,3 @@
-use crate::repeated;
 use design_model::{Bytes, Memory};
 use outside_io::{
     DirStore, Failed, GetFault, MemSink, MemStore, ReadStop, Sink, StdSink, Store, read_whole,
@@ -8,6 +7,7 @@ use std::io::Write;
 use std::os::unix::fs::symlink;
 use std::test::Fail;
 use std::{fs, io};
+use test_values::repeated;
 
 const FOLDER: &str = "outside_io_test";
 

@@ -1,11 +1,11 @@
 use design_model::{Bytes, Point};
-use design_tests::repeated;
 use drawing_text::{
     DrawFault, MAX_TEXT, print_drawing, print_drawing2, read_as2, read_drawing, read_lines,
 };
 use line_graph::{DrawKind, Drawing};
 use std::alloc::Global;
 use std::test::Fail;
+use test_values::repeated;
 
 fn drawing(alloc: Global, text: &[u8]) -> Result<Drawing, DrawFault> {
     if text.len() > MAX_TEXT {

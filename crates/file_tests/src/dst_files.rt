@@ -2,12 +2,12 @@ use crate::feeding::{feed, read_all};
 use crate::large_designs::{compare_large, large};
 use crate::square;
 use design_model::{Bytes, Command, Design, Memory, Point};
-use design_tests::repeated;
 use dst_codec::{Dst, decode_move, encode_move};
 use format_traits::{Format, Loaded, ReadFault, WriteFault, find};
 use std::alloc::Global;
 use std::process::Abort;
 use std::test::Fail;
+use test_values::repeated;
 
 fn read(rt: &impl Abort, alloc: Global, bytes: &[u8]) -> Result<Loaded, ReadFault> {
     read_all(rt, &mut Dst::new(alloc), alloc, bytes)

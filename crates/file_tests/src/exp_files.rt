@@ -2,12 +2,12 @@ use crate::feeding::{feed, read_all};
 use crate::large_designs::{compare_large, large};
 use crate::square;
 use design_model::{Command, Point};
-use design_tests::design_of;
 use exp_codec::Exp;
 use format_traits::{Format, Loaded, ReadFault, WriteFault};
 use std::alloc::Global;
 use std::process::Abort;
 use std::test::Fail;
+use test_values::design_of;
 
 fn read(rt: &impl Abort, alloc: Global, bytes: &[u8]) -> Result<Loaded, ReadFault> {
     read_all(rt, &mut Exp::new(alloc), alloc, bytes)

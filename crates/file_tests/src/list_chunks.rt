@@ -1,11 +1,11 @@
 ghost use Rattle.std.specs.Prelude.{◌<◌};
 
 use crate::lists::{HEAD, SQUARE};
-use design_tests::repeated;
 use format_traits::ReadFault::{self, Control, Range, Short, Signature};
 use format_traits::{Format, MAX_FED};
 use std::test::Fail;
 use stitch_text::List;
+use test_values::repeated;
 
 /// Cases: a text n times between two others, the number of all bytes, the number of commands before the end
 /// or the first refusal, and that refusal.

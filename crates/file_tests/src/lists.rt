@@ -1,11 +1,11 @@
 use crate::large_designs::{compare_large, large};
 use crate::square;
 use design_model::{Bytes, Command, Memory, Point};
-use design_tests::repeated;
 use format_traits::{Format, ReadFault, WriteFault};
 use std::alloc::Global;
 use std::test::Fail;
 use stitch_text::List;
+use test_values::repeated;
 
 /// The list of a square of 30 in thread 5, with its trim.
 pub const SQUARE: &str = "stitch-list 1

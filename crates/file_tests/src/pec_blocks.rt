@@ -3,12 +3,12 @@ ghost use Rattle.std.specs.Prelude.{◌≡◌, IsOk, false};
 use crate::feeding::{SIZES, parts};
 use crate::large_designs::{compare_large, large};
 use design_model::{Bytes, Command, Design, Memory, Point};
-use design_tests::{design_of, repeated};
 use format_traits::{Fed, Loaded, MAX_FED, ReadFault, WriteFault};
 use pec_codec::{BlockReader, read_block, write_block};
 use std::alloc::Global;
 use std::process::Abort;
 use std::test::Fail;
+use test_values::{design_of, repeated};
 
 /// A reader of blocks, and the number of bytes fed to it.
 #[derive(Drop)]

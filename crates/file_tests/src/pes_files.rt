@@ -2,12 +2,12 @@ use crate::feeding::{feed, read_all};
 use crate::large_designs::{compare_large, large};
 use crate::square;
 use design_model::{Bytes, Command, Design, Memory, ModelFault, Point};
-use design_tests::repeated;
 use format_traits::{Format, Loaded, ReadFault};
 use pes_codec::{Pec, Pes};
 use std::alloc::Global;
 use std::process::Abort;
 use std::test::Fail;
+use test_values::repeated;
 
 fn read_pec(rt: &impl Abort, alloc: Global, bytes: &[u8]) -> Result<Loaded, ReadFault> {
     read_all(rt, &mut Pec::new(alloc), alloc, bytes)

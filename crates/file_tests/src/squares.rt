@@ -2,8 +2,8 @@ ghost use Rattle.std.specs.Prelude.{◌≡◌, IfOk};
 ghost use Rattle.dst_codec.specs.Samples.{square_design};
 
 use design_model::{Command, Design, ModelFault, Point};
-use design_tests::design_of;
 use std::alloc::Global;
+use test_values::design_of;
 
 /// Returns a closed square of 30 from the origin to the right and downwards, and a trim. The only error is
 /// `Memory`.

@@ -3,12 +3,12 @@ ghost use Rattle.odd_cuts.specs.Certificates.{HasCanonicalText};
 
 use certificate_text::{CertFault, MAX_CERT, print_cert, read_cert};
 use design_model::{Bytes, Memory};
-use design_tests::repeated;
 use line_graph::Pass;
 use odd_cuts::Cert;
 use std::alloc::Global;
 use std::process::Abort;
 use std::test::Fail;
+use test_values::repeated;
 
 fn cert(alloc: Global, text: &[u8]) -> Result<Cert, CertFault>
     ensures { IfOk result (λ cert. All HasCanonicalText cert.pieces) }

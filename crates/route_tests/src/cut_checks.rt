@@ -3,13 +3,13 @@ ghost use Rattle.odd_cuts.specs.CutFaults.{HaveNumberedMembers};
 
 use crate::cert_parts::{members_of, pass_of};
 use design_model::Memory;
-use design_tests::repeated;
 use drawing_text::{MAX_TEXT, read_drawing};
 use line_graph::{Pass, Piece, Pieces, pieces};
 use odd_cuts::{Cut, CutFault, Cuts, WalkFault, check_cuts, check_walk};
 use std::alloc::Global;
 use std::process::Abort;
 use std::test::Fail;
+use test_values::repeated;
 
 /// The lines 1, 3 and 6 from one junction to the others, the last of them towards it. The lines between them
 /// are in another piece.

@@ -1,10 +1,10 @@
 use design_model::counts;
-use design_tests::repeated;
 use drawing_text::{MAX_TEXT, read_drawing};
 use odd_cuts::PieceCert;
 use route_core::{Routed, route};
 use std::alloc::Global;
 use std::test::Fail;
+use test_values::repeated;
 
 /// A piece of a route: the number of its passes, the cost that they retrace, and the total weight of its cuts
 /// in half steps.

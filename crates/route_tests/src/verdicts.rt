@@ -3,13 +3,13 @@ ghost use Rattle.route_verdict.specs.Verdicts.{HasShortLists};
 
 use crate::cert_parts::{members_of, pass_of};
 use design_model::{Command, Design, Memory, ModelFault, Point};
-use design_tests::design_of;
 use drawing_tests::points_of;
 use line_graph::{DrawKind, Drawing, DrawingMaker, Walk};
 use odd_cuts::{Cert, Cut, CutFault, Cuts, PieceCert, PieceCerts, WalkFault};
 use route_verdict::{Reason, Verdict, judge};
 use std::alloc::Global;
 use std::test::Fail;
+use test_values::design_of;
 
 /// Strokes at step 10, each in a block of its own, from one x to another.
 fn strokes(alloc: Global, ends: &[(i32, i32)]) -> Result<Drawing, DrawKind> {

@@ -1,6 +1,6 @@
 use Rattle.std.proofs.Common.{◌≡◌, take}
 use Rattle.design_model.specs.Designs.{empty_design}
-use Rattle.design_tests.proofs.sewn_designs.design_of.Given as goal
+use Rattle.test_values.proofs.sewn_designs.design_of.Given as goal
 
 -- the commands so far
 abbrev pub invariant-loop-command : goal.invariant-loop-command

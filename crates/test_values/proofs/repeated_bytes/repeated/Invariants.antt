@@ -1,6 +1,6 @@
 use Rattle.std.proofs.Common.{◌≡◌, ◌++◌, replicate}
 use Rattle.std.specs.List.{concat}
-use Rattle.design_tests.proofs.repeated_bytes.repeated.Given as goal
+use Rattle.test_values.proofs.repeated_bytes.repeated.Given as goal
 
 -- with the middles that are left, all of them are behind the head
 abbrev pub invariant-loop-left : goal.invariant-loop-left

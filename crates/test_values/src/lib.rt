@@ -1,0 +1,8 @@
+//! Values that tests of several crates make.
+#![tactic(auto)]
+
+mod repeated_bytes;
+mod sewn_designs;
+
+pub use repeated_bytes::repeated;
+pub use sewn_designs::design_of;
