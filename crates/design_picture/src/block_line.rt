@@ -31,8 +31,9 @@ pub(crate) fn put_block(text: &mut Bytes, block: BlockEnd) -> Result<(), Memory>
     Ok(())
 }
 
+/// Begins the line of a block.
 #[tactic(auto, unfolding(crate::specs::Captions::block_place))]
-fn put_place(text: &mut Bytes, block: u32) -> Result<(), Memory>
+pub fn put_place(text: &mut Bytes, block: u32) -> Result<(), Memory>
     ensures { OnOk result (text.new ≡ text.old ++ block_place block) }
 {
     put(
@@ -45,8 +46,9 @@ fn put_place(text: &mut Bytes, block: u32) -> Result<(), Memory>
     )
 }
 
+/// Appends the colour and the number of a thread.
 #[tactic(auto, unfolding(crate::specs::Captions::block_swatch))]
-fn put_swatch(text: &mut Bytes, colour: &[u8], thread: u8) -> Result<(), Memory>
+pub fn put_swatch(text: &mut Bytes, colour: &[u8], thread: u8) -> Result<(), Memory>
     ensures { OnOk result (text.new ≡ text.old ++ block_swatch colour.now thread) }
 {
     put(

@@ -15,8 +15,9 @@ pub fn put_title(text: &mut Bytes, label: &[u8]) -> Result<(), Memory>
     Ok(())
 }
 
+/// Begins the title of a picture.
 #[tactic(auto, unfolding(crate::specs::Captions::title_start))]
-fn put_title_start(text: &mut Bytes) -> Result<(), Memory>
+pub fn put_title_start(text: &mut Bytes) -> Result<(), Memory>
     ensures { OnOk result (text.new ≡ text.old ++ title_start) }
 {
     put(text, &[Part::Text(b"<title>Embroidery ")])
@@ -57,7 +58,7 @@ pub fn put_caption(
 
 /// Appends a bar of 10 mm.
 #[tactic(auto, unfolding(crate::specs::Captions::scale_bar))]
-fn put_scale_bar(text: &mut Bytes) -> Result<(), Memory>
+pub fn put_scale_bar(text: &mut Bytes) -> Result<(), Memory>
     ensures { OnOk result (text.new ≡ text.old ++ scale_bar) }
 {
     put(
@@ -68,7 +69,8 @@ fn put_scale_bar(text: &mut Bytes) -> Result<(), Memory>
     )
 }
 
-fn put_label_line(text: &mut Bytes, label: &[u8], extent: Option<Extent>) -> Result<(), Memory>
+/// Appends the line of a label and the size of an extent.
+pub fn put_label_line(text: &mut Bytes, label: &[u8], extent: Option<Extent>) -> Result<(), Memory>
     ensures { OnOk result (text.new ≡ text.old ++ label_line label.now extent) }
 {
     put_label_start(text)?;
@@ -168,7 +170,7 @@ fn put_key(text: &mut Bytes) -> Result<(), Memory>
 
 /// Begins the group of the legend.
 #[tactic(auto, unfolding(crate::specs::Captions::legend_start))]
-pub(crate) fn put_legend_start(text: &mut Bytes) -> Result<(), Memory>
+pub fn put_legend_start(text: &mut Bytes) -> Result<(), Memory>
     ensures { OnOk result (text.new ≡ text.old ++ legend_start) }
 {
     put(text, &[Part::Text(b"<g transform='translate(0,160)'>\n")])

@@ -160,8 +160,9 @@ pub fn put_threads(text: &mut Bytes, thread: u8, strokes: &[Stroke]) -> Result<(
     Ok(())
 }
 
+/// Begins a thread of a colour.
 #[tactic(auto, unfolding(crate::specs::Pictures::thread_start))]
-fn put_thread_start(text: &mut Bytes, colour: &[u8]) -> Result<(), Memory>
+pub fn put_thread_start(text: &mut Bytes, colour: &[u8]) -> Result<(), Memory>
     ensures { OnOk result (text.new ≡ text.old ++ thread_start colour.now) }
 {
     put(

@@ -21,8 +21,9 @@ pub(crate) fn put_thread(text: &mut Bytes, stroke: Stroke) -> Result<(), Memory>
     }
 }
 
+/// Begins a thread at a point.
 #[tactic(auto, unfolding(crate::specs::Threads::move_text))]
-fn put_move(text: &mut Bytes, at: Point) -> Result<(), Memory>
+pub fn put_move(text: &mut Bytes, at: Point) -> Result<(), Memory>
     ensures { OnOk result (text.new ≡ text.old ++ move_text at) }
 {
     put(text, &[Part::Text(b"\nM"), Part::At(at)])
@@ -39,8 +40,9 @@ fn put_sewn(text: &mut Bytes, pass: u32, from: Point, at: Point) -> Result<(), M
     }
 }
 
+/// Appends a straight stitch to a point.
 #[tactic(auto, unfolding(crate::specs::Threads::straight_text))]
-fn put_straight(text: &mut Bytes, at: Point) -> Result<(), Memory>
+pub fn put_straight(text: &mut Bytes, at: Point) -> Result<(), Memory>
     ensures { OnOk result (text.new ≡ text.old ++ straight_text at) }
 {
     put(text, &[Part::Text(b"L"), Part::At(at)])
