@@ -270,7 +270,7 @@ right_are_sewn walks cuts bounds most sews valid limits runs accepted least d pi
     }
 
 -- computed pieces are the graphs of their lines
-graphs_are : (d : DrawingValue) (pieces : List Piece) → All (λ (p : Piece). graph_of p ≡ piece_graph d p.lines) pieces
+pub graphs_are : (d : DrawingValue) (pieces : List Piece) → All (λ (p : Piece). graph_of p ≡ piece_graph d p.lines) pieces
     → map graph_of pieces ≡ map (piece_graph d) (lines_of_pieces pieces)
 graphs_are d [] each = refl
 graphs_are d (p ∷ pieces) each =

@@ -2,3 +2,6 @@ mod BandFacts
 mod BandLemmas
 mod CertificateLemmas
 mod FaultLemmas
+mod MarkLemmas
+mod DrawnLemmas
+mod DrawnFacts

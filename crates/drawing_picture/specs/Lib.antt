@@ -5,3 +5,10 @@ pub mod BandTexts
 -- The picture of a drawing and its certificate.
 pub mod ProofPictures
 pub mod CheckedProofs
+-- The picture of a drawing.
+pub mod DrawingPictures
+pub mod DrawingCaptions
+pub mod LinePaths
+pub mod JunctionMarks
+pub mod DrawnLaws
+pub mod TestedMarks

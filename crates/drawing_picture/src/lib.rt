@@ -1,15 +1,23 @@
-//! The picture of a proof that no shorter thread over a drawing exists: the walks of its certificate as they are
-//! sewn, with the cuts as bands.
+//! The picture of a drawing, with its junctions. The picture of a proof that no shorter thread over it exists: the
+//! walks of its certificate as they are sewn, with the cuts as bands.
 #![tactic(auto)]
 
 mod band_texts;
 mod bands;
 mod certificate_check;
+mod dots;
+mod drawing_captions;
+mod drawn_picture;
 mod half_steps;
+mod junction_marks;
 mod line_bands;
+mod line_paths;
+mod lines_extent;
+mod loose_ends;
 mod proof_captions;
 mod proof_picture;
 mod theorems;
 
 pub use certificate_check::{ProofFault, picture_of_proof};
-pub use theorems::bands_show_loads;
+pub use drawn_picture::picture_of_drawing;
+pub use theorems::{bands_show_loads, drawings_are_shown};

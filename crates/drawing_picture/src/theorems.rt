@@ -1,5 +1,6 @@
 ghost use Rattle.drawing_picture.specs.BandLaws.{BandsShowLoads};
 ghost use Rattle.drawing_picture.specs.CheckedProofs.{RightCertificatesAreSewn};
+ghost use Rattle.drawing_picture.specs.DrawnLaws.{MarksShowJunctions, PathsShowSegments};
 
 use line_graph::{
     fitting_walks_are_sewable, needles_lead_along, pieces_are_valid, pieces_keep_limits,
@@ -33,3 +34,10 @@ pub fn right_certificates_are_sewn()
     correct_routes_are_accepted();
     yes_is_least_redwork();
 }
+
+/// Theorem: the picture of a drawing draws each segment of a line once and in order, and marks each junction of
+/// a piece once, as odd where it is.
+pub fn drawings_are_shown()
+    ensures segments { PathsShowSegments }
+    ensures junctions { MarksShowJunctions }
+{}

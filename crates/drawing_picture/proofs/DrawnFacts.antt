@@ -1,0 +1,72 @@
+-- Worked values of the picture of a drawing, by hand.
+use Rattle.std.proofs.Common.{◌≡◌, pos, negsuc, true, false, [], ◌∷◌, ◌++◌, Some, None, codes, refl}
+use Rattle.std.specs.Fmt.{digits}
+use Rattle.std.specs.List.{flat_map}
+use Rattle.design_picture.specs.Captions.{block_place, block_swatch}
+use Rattle.design_picture.specs.Pictures.{thread_start}
+use Rattle.design_picture.specs.Threads.{move_text, shape_end, straight_text}
+use Rattle.drawing_picture.specs.DrawingCaptions.{even_dot, junction_dot, odd_counts, odd_dot, piece_counts, thread_end, thread_lines}
+use Rattle.drawing_picture.specs.JunctionMarks.{loose_points, marks_of_piece, odd_marks}
+use Rattle.drawing_picture.specs.LinePaths.{line_paths, lines_extent}
+use Rattle.drawing_review.specs.declared.place.PlaceKind.TheVariants as place
+use Rattle.line_graph.specs.PieceGraphs.{PieceValue}
+use Rattle.picture_parts.specs.Colours.{colour_of_thread}
+use Rattle.picture_parts.specs.Parts.{joined}
+use Rattle.drawing_picture.proofs.BandFacts.{at, point}
+
+-- Two lines in blocks of the threads 5 and 20: each is a path through its points, in its colour.
+pub known_paths : line_paths (5 ∷ 20 ∷ []) (record { block = 0; points = at 0 ∷ at 20 ∷ point (pos 20) (negsuc 4) ∷ [] }
+    ∷ record { block = 1; points = at 7 ∷ at 9 ∷ [] } ∷ [])
+    ≡ codes "<path class='thread' stroke='#ed171f' d='" ++ (10 ∷ codes "M0,0L20,0L20,-5'/>" ++ (10 ∷ codes "<path class='thread' stroke='#000000' d='"
+    ++ (10 ∷ codes "M7,0L9,0'/>" ++ 10 ∷ [])))
+unfolding joined digits thread_start move_text straight_text shape_end colour_of_thread
+known_paths = refl
+
+pub known_extent : lines_extent (record { block = 0; points = at 4 ∷ point (pos 9) (negsuc 4) ∷ [] } ∷ record { block = 1; points = at 1 ∷ [] } ∷ [])
+    ≡ Some (record { min = point (pos 1) (negsuc 4); max = point (pos 9) (pos 0) })
+known_extent = refl
+
+-- A line between two junctions, and a loop at the second: the first junction is odd, the second, with three ends, too. With a given
+-- start and end at the two, both are even.
+abbrev piece : PieceValue
+piece = record {
+  block = 0;
+  lines = 0 ∷ 1 ∷ [];
+  junctions = at 0 ∷ at 20 ∷ [];
+  edges = record { a = 0; b = 1; cost = 2 } ∷ record { a = 1; b = 1; cost = 3 } ∷ [];
+  degrees = 1 ∷ 3 ∷ [];
+  start = None;
+  end = None;
+}
+
+pub known_marks : marks_of_piece piece ≡ record { at = at 0; is_odd = true } ∷ record { at = at 20; is_odd = true } ∷ []
+known_marks = refl
+
+pub known_given : marks_of_piece (record piece { start = Some 0; end = Some 1 })
+    ≡ record { at = at 0; is_odd = false } ∷ record { at = at 20; is_odd = false } ∷ []
+known_given = refl
+
+pub known_odd : odd_marks (record { at = at 0; is_odd = true } ∷ record { at = at 1; is_odd = false } ∷ record { at = at 2; is_odd = true } ∷ []) ≡ 2
+known_odd = refl
+
+-- An end near a line and one on a line are loose, a crossing isn't.
+pub known_loose : loose_points (record { kind = place.LooseEnd; block = 0; line = 0; at = at 1 }
+    ∷ record { kind = place.Crossing; block = 0; line = 0; at = at 2 } ∷ record { kind = place.UnlistedMeeting; block = 0; line = 1; at = at 3 } ∷ [])
+    ≡ at 1 ∷ at 3 ∷ []
+known_loose = refl
+
+pub known_dots : flat_map junction_dot (record { at = at 7; is_odd = true } ∷ record { at = at 9; is_odd = false } ∷ [])
+    ≡ codes "<path fill='#ffd400' stroke='#222' stroke-width='2' d='M7,0m-9,0a9,9,0,1,0,18,0a9,9,0,1,0,-18,0'/>"
+    ++ (10 ∷ codes "<path fill='#222' d='M9,0m-5,0a5,5,0,1,0,10,0a5,5,0,1,0,-10,0'/>" ++ 10 ∷ [])
+unfolding joined digits odd_dot even_dot
+known_dots = refl
+
+pub known_counts : piece_counts 2 30 4 ++ odd_counts 1 0
+    ≡ codes "<text y='72'>pieces 2, lines 30, junctions 4</text>" ++ (10 ∷ codes "<text y='100'>odd junctions 1, loose ends 0</text>" ++ 10 ∷ [])
+unfolding joined digits piece_counts odd_counts
+known_counts = refl
+
+pub known_threads : thread_lines 1 (5 ∷ []) ≡ codes "<g transform='translate(0,28)'><path stroke-width='14' d='M7,-7h26' stroke='#ed171f'/>"
+    ++ (codes "<text x='52'>thread 5</text></g>" ++ 10 ∷ [])
+unfolding joined digits block_place block_swatch thread_end colour_of_thread
+known_threads = refl

@@ -1,0 +1,7 @@
+use Rattle.drawing_picture.proofs.DrawnLemmas.{picture_is}
+use Rattle.drawing_picture.proofs.drawn_picture.picture_of_drawing.Goals as goal
+
+pub returns : goal.returns
+returns c = picture_is _ _ _ _ _ _ c.in_ok-pieces.ensures.cut (rw c.as_slice.ensures at c.in_ok-marks.ensures)
+    (rw c.step.ensures.value at c.in_ok-loose.ensures)
+    (rw (c.as_slice-2.ensures, c.as_slice-3.ensures, c.len.ensures) at c.in_ok-text.ensures)
