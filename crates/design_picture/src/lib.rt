@@ -25,9 +25,7 @@ pub use layers::{Layer, put_layer};
 pub use layout::{Area, area_of, left_below, put_below_start, put_opening_group, sheet_of};
 pub use marks::{put_end_mark, put_start_mark};
 pub use pen::Pen;
-pub use showing::{
-    picture, put_holes, put_last_mark, put_legend, put_thread_start, put_threads,
-};
+pub use showing::{picture, put_holes, put_last_mark, put_legend, put_thread_start, put_threads};
 pub use strokes::{BlockEnd, Stroke, Strokes, put_strokes};
 pub use theorems::strokes_show_acts;
 pub use threads::{put_move, put_shape_end, put_straight};

@@ -5,7 +5,7 @@ use Rattle.std.proofs.lemmas.List.Sums.{sum_by-cons}
 use Rattle.std.specs.List.{filter}
 use Rattle.design_model.specs.declared.point.Point.{Point}
 use Rattle.drawing_picture.specs.BandLaws.{BandsShowLoads, band_length}
-use Rattle.drawing_picture.specs.Bands.{Band, band_along, bands_from, half_steps, half_steps_from, half_steps_of_line, middle_of}
+use Rattle.drawing_picture.specs.Bands.{Band, band_along, bands_from, half_steps, half_steps_from, half_steps_of_line, middle_between}
 use Rattle.drawing_picture.specs.BandTexts.{band_text, bands_of_lines, bands_of_pieces, line_bands}
 use Rattle.line_graph.specs.declared.edge.Edge.{Edge}
 use Rattle.line_graph.specs.declared.piece.Piece.{Piece}
@@ -138,14 +138,14 @@ adds_band text text' band bands is =
 
 -- two more half steps, and those of the needle points that are left
 pub half_steps_next : (points points' : List Point) (p q m n : Point) (left rest all : List Point) → left ≡ q ∷ rest
-    → points' ≡ (points ++ m ∷ []) ++ n ∷ [] → m ≡ middle_of p p → n ≡ middle_of p q → points ++ half_steps_from p left ≡ all
+    → points' ≡ (points ++ m ∷ []) ++ n ∷ [] → m ≡ middle_between p p → n ≡ middle_between p q → points ++ half_steps_from p left ≡ all
     → points' ++ half_steps_from q rest ≡ all
 half_steps_next points points' p q m n left rest all is more first second before =
     ap (λ (ps : List Point). ps ++ half_steps_from q rest) more
     ∙ append_assoc (points ++ m ∷ []) (n ∷ []) (half_steps_from q rest)
     ∙ append_assoc points (m ∷ []) (n ∷ half_steps_from q rest)
     ∙ ap (λ (a : Point). points ++ a ∷ n ∷ half_steps_from q rest) first
-    ∙ ap (λ (a : Point). points ++ middle_of p p ∷ a ∷ half_steps_from q rest) second
+    ∙ ap (λ (a : Point). points ++ middle_between p p ∷ a ∷ half_steps_from q rest) second
     ∙ ap (λ (ps : List Point). points ++ half_steps_from p ps) (sym is) ∙ before
 
 -- one more line

@@ -17,12 +17,14 @@ use Rattle.drawing_picture.proofs.BandFacts.{at, point}
 -- Two lines in blocks of the threads 5 and 20: each is a path through its points, in its colour.
 pub known_paths : line_paths (5 ∷ 20 ∷ []) (record { block = 0; points = at 0 ∷ at 20 ∷ point (pos 20) (negsuc 4) ∷ [] }
     ∷ record { block = 1; points = at 7 ∷ at 9 ∷ [] } ∷ [])
-    ≡ codes "<path class='thread' stroke='#ed171f' d='" ++ (10 ∷ codes "M0,0L20,0L20,-5'/>" ++ (10 ∷ codes "<path class='thread' stroke='#000000' d='"
+    ≡ codes "<path class='thread' stroke='#ed171f' d='"
+    ++ (10 ∷ codes "M0,0L20,0L20,-5'/>" ++ (10 ∷ codes "<path class='thread' stroke='#000000' d='"
     ++ (10 ∷ codes "M7,0L9,0'/>" ++ 10 ∷ [])))
 unfolding joined digits thread_start move_text straight_text shape_end colour_of_thread
 known_paths = refl
 
-pub known_extent : lines_extent (record { block = 0; points = at 4 ∷ point (pos 9) (negsuc 4) ∷ [] } ∷ record { block = 1; points = at 1 ∷ [] } ∷ [])
+pub known_extent : lines_extent (record { block = 0; points = at 4 ∷ point (pos 9) (negsuc 4) ∷ [] }
+    ∷ record { block = 1; points = at 1 ∷ [] } ∷ [])
     ≡ Some (record { min = point (pos 1) (negsuc 4); max = point (pos 9) (pos 0) })
 known_extent = refl
 
@@ -46,12 +48,14 @@ pub known_given : marks_of_piece (record piece { start = Some 0; end = Some 1 })
     ≡ record { at = at 0; is_odd = false } ∷ record { at = at 20; is_odd = false } ∷ []
 known_given = refl
 
-pub known_odd : odd_marks (record { at = at 0; is_odd = true } ∷ record { at = at 1; is_odd = false } ∷ record { at = at 2; is_odd = true } ∷ []) ≡ 2
+pub known_odd : odd_marks (record { at = at 0; is_odd = true } ∷ record { at = at 1; is_odd = false }
+    ∷ record { at = at 2; is_odd = true } ∷ []) ≡ 2
 known_odd = refl
 
 -- An end near a line and one on a line are loose, a crossing isn't.
 pub known_loose : loose_points (record { kind = place.LooseEnd; block = 0; line = 0; at = at 1 }
-    ∷ record { kind = place.Crossing; block = 0; line = 0; at = at 2 } ∷ record { kind = place.UnlistedMeeting; block = 0; line = 1; at = at 3 } ∷ [])
+    ∷ record { kind = place.Crossing; block = 0; line = 0; at = at 2 }
+    ∷ record { kind = place.UnlistedMeeting; block = 0; line = 1; at = at 3 } ∷ [])
     ≡ at 1 ∷ at 3 ∷ []
 known_loose = refl
 
@@ -62,7 +66,8 @@ unfolding joined digits odd_dot even_dot
 known_dots = refl
 
 pub known_counts : piece_counts 2 30 4 ++ odd_counts 1 0
-    ≡ codes "<text y='72'>pieces 2, lines 30, junctions 4</text>" ++ (10 ∷ codes "<text y='100'>odd junctions 1, loose ends 0</text>" ++ 10 ∷ [])
+    ≡ codes "<text y='72'>pieces 2, lines 30, junctions 4</text>"
+    ++ (10 ∷ codes "<text y='100'>odd junctions 1, loose ends 0</text>" ++ 10 ∷ [])
 unfolding joined digits piece_counts odd_counts
 known_counts = refl
 

@@ -12,14 +12,14 @@ use Rattle.odd_cuts.specs.Cuts.{has_member}
 
 -- The middle of two points, in half tenths of a millimetre. The middle of a point and itself is
 -- that point.
-abbrev pub middle_of : Point → Point → Point
-middle_of p q = record { x = p.x +ℤ q.x; y = p.y +ℤ q.y }
+abbrev pub middle_between : Point → Point → Point
+middle_between p q = record { x = p.x +ℤ q.x; y = p.y +ℤ q.y }
 
 -- The half steps from the needle point p through further ones: each needle point, and the middle
 -- of each stitch.
 abbrev pub half_steps_from : Point → List Point → List Point
-half_steps_from p [] = middle_of p p ∷ []
-half_steps_from p (q ∷ rest) = middle_of p p ∷ middle_of p q ∷ half_steps_from q rest
+half_steps_from p [] = middle_between p p ∷ []
+half_steps_from p (q ∷ rest) = middle_between p p ∷ middle_between p q ∷ half_steps_from q rest
 
 -- The half steps along needle points.
 abbrev pub half_steps : List Point → List Point

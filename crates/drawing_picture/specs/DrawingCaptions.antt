@@ -12,7 +12,8 @@ use Rattle.picture_parts.specs.Parts.{ended, escaped_text, joined, point_text}
 
 -- What the picture shows in words.
 unfoldable pub drawing_words : List ℕ
-drawing_words = joined ((codes "</title>" ++ (10 ∷ codes "<desc>The lines of a drawing, with a dot at"))
+drawing_words = joined ((codes "</title>"
+    ++ (10 ∷ codes "<desc>The lines of a drawing, with a dot at"))
     ∷ (codes " each junction: black where it is even, larger and yellow where it is odd."
     ++ ended (codes "</desc>")) ∷ [])
 

@@ -1,5 +1,5 @@
 ghost use Rattle.std.specs.Prelude.{◌≡◌, ◌<◌, All, IfOk, length, reverse};
-ghost use Rattle.drawing_picture.specs.Bands.{half_steps as half_steps_along, half_steps_from, half_steps_of_line, middle_of};
+ghost use Rattle.drawing_picture.specs.Bands.{half_steps as half_steps_along, half_steps_from, half_steps_of_line, middle_between};
 ghost use Rattle.line_graph.specs.Chains.{IsNeedlePoint};
 
 use design_model::{Memory, Point, Points};
@@ -41,7 +41,7 @@ fn half_steps(alloc: Global, needles: &[Point]) -> Result<Points, Memory>
 fn middle(p: Point, q: Point) -> Point
     requires first { IsNeedlePoint p }
     requires last { IsNeedlePoint q }
-    ensures { result ≡ middle_of p q }
+    ensures { result ≡ middle_between p q }
 {
     Point {
         x: p.x + q.x,

@@ -1,7 +1,7 @@
 -- Worked values of requests, and of orders.
 use Rattle.std.proofs.Common.{◌≡◌, ℕ, List, true, false, [], ◌∷◌, Some, None, codes, map, replicate, refl}
 use Rattle.format_traits.specs.Meanings.{Meaning}
-use Rattle.stitch_picture.specs.Orders.{picture_order, proving, showing}
+use Rattle.stitch_picture.specs.Orders.{drawing, picture_order, proving, showing}
 use Rattle.stitch_picture.specs.Words.{has_svg_ending, picture, proof, request_words, side_word}
 
 -- A picture's name ends in `.svg`, in small letters.
@@ -42,9 +42,12 @@ known_sides = refl
 abbrev ending_as : Meaning → List ℕ → Meaning
 ending_as format ending = record format { ending = ending }
 
--- The format is that of the input's ending, and a file of no format has no order. A proof needs no format.
+-- The format is that of the input's ending, and a file of no format is a drawing, which has no hoop. A proof needs no format.
 pub known_orders : (m : Meaning) → map (picture_order (ending_as m (codes "dst") ∷ ending_as m (codes "exp") ∷ []))
-    ((codes "a.exp" ∷ codes "b.svg" ∷ []) ∷ (codes "a.jef" ∷ codes "b.svg" ∷ []) ∷ (codes "a" ∷ codes "b" ∷ codes "c.svg" ∷ []) ∷ [])
-    ≡ Some (showing (record { format = ending_as m (codes "exp"); input = codes "a.exp"; output = codes "b.svg"; hoop = None })) ∷ None
+    ((codes "a.exp" ∷ codes "b.svg" ∷ []) ∷ (codes "a.rw" ∷ codes "b.svg" ∷ [])
+    ∷ (codes "a.rw" ∷ codes "b.svg" ∷ codes "1" ∷ codes "20" ∷ [])
+    ∷ (codes "a" ∷ codes "b" ∷ codes "c.svg" ∷ []) ∷ [])
+    ≡ Some (showing (record { format = ending_as m (codes "exp"); input = codes "a.exp"; output = codes "b.svg"; hoop = None }))
+    ∷ Some (drawing (record { drawing = codes "a.rw"; output = codes "b.svg" })) ∷ None
     ∷ Some (proving (record { drawing = codes "a"; cert = codes "b"; output = codes "c.svg" })) ∷ []
 known_orders m = refl

@@ -1,10 +1,12 @@
 -- The orders of stitch_picture, their plans, and the program.
 use Rattle.std.specs.Prelude.{ℕ, List, [], ◌∷◌, ◌++◌, Option, Some, None, codes}
 use Rattle.design_model.specs.TextLines.{newline}
+use Rattle.design_picture.specs.declared.hoop.Hoop.{Hoop}
 use Rattle.format_traits.specs.Endings.{format_of}
 use Rattle.format_traits.specs.Meanings.{Meaning}
 use Rattle.program_shell.specs.Plans.{Plan}
 use Rattle.program_shell.specs.Programs.{Program}
+use Rattle.stitch_picture.specs.DrawnPictures.{DrawnOrder, drawn_plan}
 use Rattle.stitch_picture.specs.Pictures.{DesignPictureOrder, design_picture_plan}
 use Rattle.stitch_picture.specs.Proofs.{proof_plan}
 use Rattle.stitch_picture.specs.Words.{ProofOrder, RequestedFile, RequestedPicture, picture, proof, request_words}
@@ -12,6 +14,7 @@ use Rattle.stitch_picture.specs.Words.{ProofOrder, RequestedFile, RequestedPictu
 -- An order, with a case for each kind of picture.
 pub data PictureOrder : Type 0 where
   showing : DesignPictureOrder → PictureOrder
+  drawing : DrawnOrder → PictureOrder
   proving : ProofOrder → PictureOrder
 
 -- The order for the picture of a requested file of a format.
@@ -23,9 +26,19 @@ order_made file m = record {
   hoop = file.hoop;
 }
 
--- The order for the picture of a requested file, if its format is known.
+-- The order for the picture of a requested file that is a drawing.
+abbrev pub drawn_order : RequestedFile → DrawnOrder
+drawn_order file = record { drawing = file.input; output = file.output }
+
+-- The order for a requested file of no format, with that hoop: a drawing has none.
+abbrev pub order_without_format : RequestedFile → Option Hoop → Option PictureOrder
+order_without_format file None = Some (drawing (drawn_order file))
+order_without_format file (Some hoop) = None
+
+-- The order for the picture of a requested file: of a design, if its format is known, else of a
+-- drawing.
 abbrev pub order_with : RequestedFile → Option Meaning → Option PictureOrder
-order_with file None = None
+order_with file None = order_without_format file file.hoop
 order_with file (Some m) = Some (showing (order_made file m))
 
 -- The order of an optional request.
@@ -42,17 +55,20 @@ picture_order formats words = order_if_requested formats (request_words words)
 -- The plan of an order.
 abbrev pub picture_plan : PictureOrder → Plan
 picture_plan (showing order) = design_picture_plan order
+picture_plan (drawing order) = drawn_plan order
 picture_plan (proving order) = proof_plan order
 
 -- The names of the files that an order writes.
 abbrev pub picture_outputs : PictureOrder → List (List ℕ)
 picture_outputs (showing order) = order.output ∷ []
+picture_outputs (drawing order) = order.output ∷ []
 picture_outputs (proving order) = order.output ∷ []
 
 -- The usage text.
 abbrev pub picture_usage : List ℕ
 picture_usage = codes "usage: stitch_picture FILE OUT.svg [WIDTH HEIGHT]" ++ (newline
-    ++ (codes "       stitch_picture DRAWING CERT OUT.svg" ++ newline))
+    ++ (codes "       stitch_picture DRAWING OUT.svg" ++ (newline
+    ++ (codes "       stitch_picture DRAWING CERT OUT.svg" ++ newline))))
 
 -- The program.
 abbrev pub picture_program : Program PictureOrder

@@ -1,9 +1,11 @@
-//! A second program: draws the design of a stitch file, or the proof of a certificate, as a picture. Creates the real files, streams and
-//! formats, and passes them with the arguments to `run`.
+//! A second program: draws the design of a stitch file, a drawing, or the proof of a certificate, as a picture.
+//! Creates the real files, streams and formats, and passes them with the arguments to `run`.
 #![tactic(auto)]
 
 mod drawing;
+mod drawn;
 mod proving;
+mod reading;
 mod running;
 #[cfg(test)]
 mod tests;

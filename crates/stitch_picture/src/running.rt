@@ -3,10 +3,11 @@ ghost use Rattle.format_traits.specs.Endings.{format_of};
 ghost use Rattle.program_shell.specs.Runs.{RunEnds};
 ghost use Rattle.program_shell.specs.RunViews.{views_of};
 ghost use Rattle.program_shell.specs.StepOutcomes.{RunsRequest};
-ghost use Rattle.stitch_picture.specs.Orders.{order_with, picture_order, picture_program};
+ghost use Rattle.stitch_picture.specs.Orders.{order_with, order_without_format, picture_order, picture_program};
 ghost use Rattle.stitch_picture.specs.Words.{AreFileNames, requested_file};
 
 use crate::drawing::draw;
+use crate::drawn::draw_lines;
 use crate::proving::prove;
 use crate::words::{FileNames, PictureRequest, request};
 use format_traits::{Format, find};
@@ -20,7 +21,7 @@ pub const PROGRAM: &[u8] = b"stitch_picture";
 
 /// What the program prints where the arguments request no picture.
 pub const USAGE: &[u8] =
-    b"usage: stitch_picture FILE OUT.svg [WIDTH HEIGHT]\n       stitch_picture DRAWING CERT OUT.svg\n";
+    b"usage: stitch_picture FILE OUT.svg [WIDTH HEIGHT]\n       stitch_picture DRAWING OUT.svg\n       stitch_picture DRAWING CERT OUT.svg\n";
 
 /// Draws the picture that the arguments request, and returns the exit status. If nothing is refused, writes
 /// the picture to the store and prints nothing. Otherwise prints one line, or the usage text, to `err`.
@@ -72,6 +73,22 @@ fn make_picture<'a, S: Store>(
 {
     match find(formats, names.input) {
         Some(place) => draw(alloc, names, formats, place, store),
-        None => Err(Failure::BadArguments),
+        None => make_drawing(alloc, names, store),
+    }
+}
+
+/// Makes the picture of a drawing, which has no hoop.
+fn make_drawing<'a, S: Store>(
+    alloc: Global,
+    names: FileNames<'a>,
+    store: &mut S,
+) -> Result<Product<'a>, Failure<'a>>
+    requires { AreFileNames names }
+    ensures { RunsRequest picture_program (order_without_format (requested_file names.entry) names.entry.hoop)
+        (S.view store.old) (S.view store.new) result }
+{
+    match names.hoop {
+        None => draw_lines(alloc, names, store),
+        Some(_) => Err(Failure::BadArguments),
     }
 }

@@ -21,25 +21,44 @@ const PROOF: &[u8] = b"redwork-certificate 1\npiece 2\nwalk 1 -1\ncut 4 1\nend\n
 /// A cut that is too light.
 const NO_PROOF: &[u8] = b"redwork-certificate 1\npiece 2\nwalk 1 -1\ncut 3 1\nend\n";
 
+/// Two lines of thread 5 that meet, and two of thread 1, the first of which ends 2 tenths before the second.
+const LOOSE: &[u8] =
+    b"redwork 3\nname loose\nstep 10\ncolor 5\nline 0 0 20 0\nline 20 0 40 0 40 10\ncolor 1\nline 0 20 18 20\nline 20 15 20 30\n";
+
+/// Parts of its picture: the lines, the junctions of the first piece, the loose end, and the counts.
+const PARTS_OF_LOOSE: [&[u8]; 5] = [
+    b"<path class='thread' stroke='#ed171f' d='\nM0,0L20,0'/>\n<path class='thread' stroke='#ed171f' d='\nM20,0L40,0L40,10'/>\n",
+    b"d='M0,0m-9,0a9,9,0,1,0,18,0a9,9,0,1,0,-18,0'/>\n<path fill='#222' d='M20,0m-5,0a5,5,0,1,0,10,0a5,5,0,1,0,-10,0'/>\n",
+    b"<path fill='none' stroke='#d00' stroke-width='3' d='M18,20m-15,0a15,15,0,1,0,30,0a15,15,0,1,0,-30,0'/>\n<g transform='translate(0,30) translate(0,60)'>\n",
+    b"pieces 3, lines 4, junctions 7</text>\n<text y='100'>odd junctions 6, loose ends 1</text>\n",
+    b"d='M7,-7h26' stroke='#0e1f7c'/><text x='52'>thread 1</text></g>\n",
+];
+
 const TEXT_OF_USAGE: &str =
-    "usage: stitch_picture FILE OUT.svg [WIDTH HEIGHT]\n       stitch_picture DRAWING CERT OUT.svg\n";
+    "usage: stitch_picture FILE OUT.svg [WIDTH HEIGHT]\n       stitch_picture DRAWING OUT.svg\n       stitch_picture DRAWING CERT OUT.svg\n";
 
 /// Arguments, the status of their run, and what it prints on the standard error.
 type PictureCase = (&'static [&'static str], u8, &'static str);
 
-const CASES: [PictureCase; 16] = [
+const CASES: [PictureCase; 18] = [
     (&["a.lst", "a.svg"], 0, ""),
     (&["a.lst", "a.svg", "700", "300"], 0, ""),
     (&[], 2, TEXT_OF_USAGE),
     (&["a.lst"], 2, TEXT_OF_USAGE),
     (&["a.lst", "a.svg", "7"], 2, TEXT_OF_USAGE),
     (&["a.lst", "a.svg", "0", "9"], 2, TEXT_OF_USAGE),
-    (&["a.jef", "a.svg"], 2, TEXT_OF_USAGE),
+    (&["a.rw", "a.svg", "7", "9"], 2, TEXT_OF_USAGE),
     (&["a.lst", "a.lst"], 2, TEXT_OF_USAGE),
     (
         &["bad.exp", "a.svg"],
         1,
         "stitch_picture: bad.exp: byte 0: control code not known\n",
+    ),
+    (&["a.rw", "a.svg"], 0, ""),
+    (
+        &["a.cert", "a.svg"],
+        1,
+        "stitch_picture: a.cert: line 1: not a redwork drawing\n",
     ),
     (&["a.rw", "a.cert", "a.svg"], 0, ""),
     (
@@ -137,6 +156,25 @@ fn a_proof_shows_what_is_sewn_again_and_its_cuts(rt: HostRuntime) -> Result<(), 
     Ok(())
 }
 
+#[test]
+fn a_drawing_shows_its_lines_junctions_and_loose_ends(rt: HostRuntime) -> Result<(), Fail> {
+    let mut store = stocked(rt.alloc())?;
+    let mut out = MemSink::new(rt.alloc(), 100)?;
+    let mut err = MemSink::new(rt.alloc(), 1_000)?;
+    answer(
+        rt.alloc(),
+        &["loose.rw", "a.svg"],
+        &mut store,
+        &mut out,
+        &mut err,
+    )?;
+    let picture = store.file("a.svg").unwrap_or(b"");
+    for part in PARTS_OF_LOOSE {
+        assert!(rt; has(picture, part), "{part:?}");
+    }
+    Ok(())
+}
+
 fn has(text: &[u8], part: &[u8]) -> bool {
     for start in 0..text.len() {
         if text[start..].starts_with(part) {
@@ -151,6 +189,7 @@ fn stocked(alloc: Global) -> Result<MemStore, Fail> {
     let mut store = MemStore::new(alloc);
     store.put_file("a.lst", FORTH_AND_BACK)?;
     store.put_file("a.rw", DRAWING)?;
+    store.put_file("loose.rw", LOOSE)?;
     store.put_file("a.cert", PROOF)?;
     store.put_file("wrong.cert", NO_PROOF)?;
     store.put_file("bad.exp", b"\x80\x09\x00\x00")?;

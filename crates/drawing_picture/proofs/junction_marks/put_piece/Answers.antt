@@ -10,6 +10,7 @@ put_tested-requires c = rw c.as_slice.ensures (junctions_few (graph_of c.args.p.
 
 pub returns : goal.returns
 returns c =
-    let told : tested_marks c.from.result c.to.result 0 c.as_slice.result.now c.as_slice-2.result.now ≡ marks_of_piece (graph_of c.args.p.now) =
+    let told : tested_marks c.from.result c.to.result 0 c.as_slice.result.now c.as_slice-2.result.now
+    ≡ marks_of_piece (graph_of c.args.p.now) =
     rw (c.from.ensures, c.to.ensures, c.as_slice.ensures, c.as_slice-2.ensures) (piece_tested (graph_of c.args.p.now) c.args.p.now.kept) in
     rw (← told) c.put_tested.ensures

@@ -1,0 +1,44 @@
+ghost use Rattle.std.specs.Prelude.{Ok};
+ghost use Rattle.program_shell.specs.StepOutcomes.{RunsPlan, RunsPurePlan};
+ghost use Rattle.stitch_picture.specs.DrawnPictures.{drawn_plan, drawn_read};
+ghost use Rattle.stitch_picture.specs.Orders.{drawn_order};
+ghost use Rattle.stitch_picture.specs.Words.{AreFileNames, requested_file};
+
+use crate::reading::{LinesRead, lines_in};
+use crate::words::FileNames;
+use design_model::Bytes;
+use drawing_picture::picture_of_drawing;
+use outside_io::Store;
+use program_shell::{Failure, Output, Product, one_output};
+use std::alloc::Global;
+
+/// Makes the picture of a drawing.
+pub(crate) fn draw_lines<'a, S: Store>(
+    alloc: Global,
+    names: FileNames<'a>,
+    store: &mut S,
+) -> Result<Product<'a>, Failure<'a>>
+    requires { AreFileNames names }
+    ensures { RunsPlan (drawn_plan (drawn_order (requested_file names.entry))) (S.view store.old)
+        (S.view store.new) result }
+{
+    let read = lines_in(alloc, store, names.input)?;
+    lines_drawn(alloc, names, &read)
+}
+
+fn lines_drawn<'a>(
+    alloc: Global,
+    names: FileNames<'a>,
+    read: &LinesRead,
+) -> Result<Product<'a>, Failure<'a>>
+    requires { AreFileNames names }
+    ensures { RunsPurePlan (drawn_read (drawn_order (requested_file names.entry)) (Ok read.now)) result }
+{
+    let text = picture_of_drawing(alloc, &read.drawing, read.drawn.drawing.lines())?;
+    let output = Output {
+        name: names.output,
+        content: text,
+    };
+    let product = one_output(alloc, output, Bytes::new(alloc))?;
+    Ok(product)
+}
