@@ -2,7 +2,7 @@
 # Folders are offered too.
 _stitch_picture() {
     local word=${COMP_WORDS[COMP_CWORD]} file endings second=svg third=
-    [[ ${COMP_WORDS[1]-} == *.[rR][wW] ]] && second='[cC][eE][rR][tT]' third=svg
+    [[ ${COMP_WORDS[1]-} == *.[rR][wW] ]] && second='[cC][eE][rR][tT]|svg' third=svg
     compopt -o filenames 2>/dev/null
     COMPREPLY=()
     case $COMP_CWORD in

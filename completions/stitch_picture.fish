@@ -14,6 +14,6 @@ end
 
 complete -c stitch_picture -f
 complete -c stitch_picture -n '__stitch_picture_at 1' -a "(__stitch_picture_files '(?i:dst|exp|pec|pes|lst|rw)')"
-complete -c stitch_picture -n '__stitch_picture_at 2; and not __stitch_picture_drawing' -a '(__stitch_picture_files svg)'
+complete -c stitch_picture -n '__stitch_picture_at 2' -a '(__stitch_picture_files svg)'
 complete -c stitch_picture -n '__stitch_picture_at 2; and __stitch_picture_drawing' -a "(__stitch_picture_files '(?i:cert)')"
 complete -c stitch_picture -n '__stitch_picture_at 3; and __stitch_picture_drawing' -a '(__stitch_picture_files svg)'
