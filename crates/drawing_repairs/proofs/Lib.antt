@@ -3,3 +3,4 @@ pub mod MoveLemmas
 pub mod ListingLemmas
 pub mod FollowLemmas
 pub mod SettledLemmas
+pub mod ListedOnceLemmas

@@ -56,3 +56,8 @@ IsSettledTo gap ends listed (a ∷ b ∷ rest) at =
 abbrev pub NoEndIsDueAfterwards : Type 0
 NoEndIsDueAfterwards = (gap : ℕ) (ends : List Point) (p : Point) (rest : List Point)
     → let f = followed_line gap ends p rest in IsSettledTo gap ends f.listed f.passed f.at
+
+-- A line lists the ends that are due in it once: with them it stays as it is.
+abbrev pub LinesListEndsOnce : Type 0
+LinesListEndsOnce = (gap : ℕ) (ends points : List Point)
+    → with_due_ends gap ends (with_due_ends gap ends points) ≡ with_due_ends gap ends points

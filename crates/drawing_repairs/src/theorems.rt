@@ -1,4 +1,4 @@
-ghost use Rattle.drawing_repairs.specs.SnapLaws.{AnchorsAreApart, AnchorsStay, LinesAreFollowedToTheEnd, ListingsAddEndsAlone, NoEndIsDueAfterwards, NoPointMovesWithoutGap, PointsMoveOnce, PointsMoveWithinGap};
+ghost use Rattle.drawing_repairs.specs.SnapLaws.{AnchorsAreApart, AnchorsStay, LinesAreFollowedToTheEnd, LinesListEndsOnce, ListingsAddEndsAlone, NoEndIsDueAfterwards, NoPointMovesWithoutGap, PointsMoveOnce, PointsMoveWithinGap};
 
 /// Theorem: a point is within the gap of the anchor to which it moves, and with a gap of 0 no point moves.
 pub fn points_move_within_gap()
@@ -19,4 +19,9 @@ pub fn listings_add_ends_alone()
     ensures alone { ListingsAddEndsAlone }
     ensures all { LinesAreFollowedToTheEnd }
     ensures settled { NoEndIsDueAfterwards }
+{}
+
+/// Theorem: a line lists the ends that are due in it once, and with them stays as it is.
+pub fn lines_list_ends_once()
+    ensures once { LinesListEndsOnce }
 {}
