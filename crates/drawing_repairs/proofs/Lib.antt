@@ -4,3 +4,4 @@ pub mod ListingLemmas
 pub mod FollowLemmas
 pub mod SettledLemmas
 pub mod ListedOnceLemmas
+pub mod ListedLinesLemmas

@@ -16,7 +16,7 @@ use Rattle.drawing_repairs.proofs.SettledLemmas.{none_due}
 abbrev HaveSamePoints : List Point → List Point → Type 0
 HaveSamePoints xs ys = (test : Point → Bool) → list_any test xs ≡ list_any test ys
 
-joined_again : (passed : List Point) (at : Point) (more : List Point) → (passed ++ at ∷ []) ++ more ≡ passed ++ at ∷ more
+pub joined_again : (passed : List Point) (at : Point) (more : List Point) → (passed ++ at ∷ []) ++ more ≡ passed ++ at ∷ more
 joined_again [] at more = refl
 joined_again (a ∷ rest) at more = ap (λ (points : List Point). a ∷ points) (joined_again rest at more)
 

@@ -3,8 +3,9 @@
 use Rattle.std.specs.Prelude.{◌≡◌, ℕ, ◌<◌, ◌≤◌, Bool, true, List, [], ◌∷◌, None, All, AllPairs}
 use Rattle.std.specs.List.{list_all}
 use Rattle.design_model.specs.declared.point.Point.{Point}
+use Rattle.line_sections.specs.Lines.{LineValue}
 use Rattle.drawing_repairs.specs.Anchors.{anchored, anchors_of, distance_between}
-use Rattle.drawing_repairs.specs.Listings.{due_end, followed_line, segment_between, with_due_ends}
+use Rattle.drawing_repairs.specs.Listings.{due_end, followed_line, listed_lines, segment_between, with_due_ends}
 
 -- A point is within the gap of the anchor to which it moves.
 abbrev pub PointsMoveWithinGap : Type 0
@@ -61,3 +62,8 @@ NoEndIsDueAfterwards = (gap : ℕ) (ends : List Point) (p : Point) (rest : List 
 abbrev pub LinesListEndsOnce : Type 0
 LinesListEndsOnce = (gap : ℕ) (ends points : List Point)
     → with_due_ends gap ends (with_due_ends gap ends points) ≡ with_due_ends gap ends points
+
+-- The lines of a drawing list the ends that are due in them once: with them all lines stay.
+abbrev pub DrawingsListEndsOnce : Type 0
+DrawingsListEndsOnce = (gap : ℕ) (lines : List LineValue)
+    → listed_lines gap (listed_lines gap lines) ≡ listed_lines gap lines

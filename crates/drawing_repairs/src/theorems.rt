@@ -1,4 +1,4 @@
-ghost use Rattle.drawing_repairs.specs.SnapLaws.{AnchorsAreApart, AnchorsStay, LinesAreFollowedToTheEnd, LinesListEndsOnce, ListingsAddEndsAlone, NoEndIsDueAfterwards, NoPointMovesWithoutGap, PointsMoveOnce, PointsMoveWithinGap};
+ghost use Rattle.drawing_repairs.specs.SnapLaws.{AnchorsAreApart, AnchorsStay, DrawingsListEndsOnce, LinesAreFollowedToTheEnd, LinesListEndsOnce, ListingsAddEndsAlone, NoEndIsDueAfterwards, NoPointMovesWithoutGap, PointsMoveOnce, PointsMoveWithinGap};
 
 /// Theorem: a point is within the gap of the anchor to which it moves, and with a gap of 0 no point moves.
 pub fn points_move_within_gap()
@@ -21,7 +21,9 @@ pub fn listings_add_ends_alone()
     ensures settled { NoEndIsDueAfterwards }
 {}
 
-/// Theorem: a line lists the ends that are due in it once, and with them stays as it is.
+/// Theorem: a line lists the ends that are due in it once, and with them stays as it is; so do all
+/// lines of a drawing.
 pub fn lines_list_ends_once()
     ensures once { LinesListEndsOnce }
+    ensures all { DrawingsListEndsOnce }
 {}
