@@ -5,3 +5,4 @@ pub mod FollowLemmas
 pub mod SettledLemmas
 pub mod ListedOnceLemmas
 pub mod ListedLinesLemmas
+pub mod SpreadLemmas

@@ -147,7 +147,7 @@ anchor_stays gap points i d low =
     (finds gap (anchors_of gap points) i d (get_or (anchors_of gap points) i d) low refl
     (λ j before. far_apart gap points j i d before low))
 
-abbrev HoldsOfChoice : (Point → Type 0) → Option Point → Type 0
+abbrev pub HoldsOfChoice : (Point → Type 0) → Option Point → Type 0
 HoldsOfChoice P None = Unit {0}
 HoldsOfChoice P (Some a) = P a
 
@@ -166,7 +166,7 @@ nearer_holds P gap p a (Some best) so_far is =
     either_if P a best (nat_lt (distance_between p a) (distance_between p best)) is so_far
 
 -- what holds of all anchors holds of the nearest
-nearest_holds : (P : Point → Type 0) (gap : ℕ) (p : Point) (best : Option Point) (anchors : List Point) → HoldsOfChoice P best
+pub nearest_holds : (P : Point → Type 0) (gap : ℕ) (p : Point) (best : Option Point) (anchors : List Point) → HoldsOfChoice P best
     → All P anchors → HoldsOfChoice P (nearest_after gap p best anchors)
 nearest_holds P gap p best [] so_far all = so_far
 nearest_holds P gap p best (a ∷ rest) so_far all =

@@ -32,6 +32,12 @@ PointsMoveOnce = (gap : ℕ) (points : List Point) (p : Point)
     → anchored gap (anchors_of gap points) (anchored gap (anchors_of gap points) p)
     ≡ anchored gap (anchors_of gap points) p
 
+-- A point stays where no other point of its block is within the gap of it.
+abbrev pub LonePointsStay : Type 0
+LonePointsStay = (gap : ℕ) (points : List Point) (p : Point)
+    → All (λ a. distance_between p a ≤ gap → a ≡ p) points
+    → anchored gap (anchors_of gap points) p ≡ p
+
 -- A line lists its points and ends of its block alone: what holds of all these holds of each point
 -- that it then lists.
 abbrev pub ListingsAddEndsAlone : Type 0
