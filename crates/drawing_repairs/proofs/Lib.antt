@@ -6,3 +6,4 @@ pub mod SettledLemmas
 pub mod ListedOnceLemmas
 pub mod ListedLinesLemmas
 pub mod SpreadLemmas
+pub mod MovedApartLemmas

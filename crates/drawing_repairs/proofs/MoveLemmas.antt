@@ -34,7 +34,7 @@ near_all gap p best (a ∷ rest) near = near_all gap p (nearer_anchor gap p best
 none_apart : (z : ℤ) → unsigned_abs (z -ℤ z) ≡ 0
 none_apart z = omega (arith, ints)
 
-same_place : (p : Point) (gap : ℕ) → distance_between p p ≤ gap
+pub same_place : (p : Point) (gap : ℕ) → distance_between p p ≤ gap
 same_place p gap = let x = none_apart p.x in let y = none_apart p.y in omega (arith, x, y)
 
 near_point : (gap : ℕ) (p : Point) (best : Option Point) → IsNearChoice gap p best → distance_between p (point_or p best) ≤ gap

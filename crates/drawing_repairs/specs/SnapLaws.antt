@@ -38,6 +38,12 @@ LonePointsStay = (gap : ℕ) (points : List Point) (p : Point)
     → All (λ a. distance_between p a ≤ gap → a ≡ p) points
     → anchored gap (anchors_of gap points) p ≡ p
 
+-- Points of a block that moved are the same or farther apart than the gap.
+abbrev pub MovedPointsAreApart : Type 0
+MovedPointsAreApart = (gap : ℕ) (points : List Point)
+    → let to = anchored gap (anchors_of gap points) in
+    All (λ p. All (λ q. distance_between (to p) (to q) ≤ gap → to q ≡ to p) points) points
+
 -- A line lists its points and ends of its block alone: what holds of all these holds of each point
 -- that it then lists.
 abbrev pub ListingsAddEndsAlone : Type 0

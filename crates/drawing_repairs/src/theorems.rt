@@ -1,4 +1,4 @@
-ghost use Rattle.drawing_repairs.specs.SnapLaws.{AnchorsAreApart, AnchorsStay, DrawingsListEndsOnce, LinesAreFollowedToTheEnd, LinesListEndsOnce, ListingsAddEndsAlone, LonePointsStay, NoEndIsDueAfterwards, NoPointMovesWithoutGap, PointsMoveOnce, PointsMoveWithinGap};
+ghost use Rattle.drawing_repairs.specs.SnapLaws.{AnchorsAreApart, AnchorsStay, DrawingsListEndsOnce, LinesAreFollowedToTheEnd, LinesListEndsOnce, ListingsAddEndsAlone, LonePointsStay, MovedPointsAreApart, NoEndIsDueAfterwards, NoPointMovesWithoutGap, PointsMoveOnce, PointsMoveWithinGap};
 
 /// Theorem: a point is within the gap of the anchor to which it moves, and with a gap of 0 no point moves.
 pub fn points_move_within_gap()
@@ -7,12 +7,14 @@ pub fn points_move_within_gap()
 {}
 
 /// Theorem: anchors are farther apart than the gap and stay where they are, as does a point that moved to one
-/// and one without another point of its block within the gap.
+/// and one without another point of its block within the gap. Points that moved are the same or
+/// farther apart than the gap.
 pub fn anchors_are_apart()
     ensures apart { AnchorsAreApart }
     ensures stay { AnchorsStay }
     ensures once { PointsMoveOnce }
     ensures alone { LonePointsStay }
+    ensures moved { MovedPointsAreApart }
 {}
 
 /// Theorem: a line lists its points and ends of its block alone, is followed to its last point, and
