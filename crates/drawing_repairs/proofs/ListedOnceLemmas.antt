@@ -31,7 +31,8 @@ one_later false false false false = refl
 by_same : (f : FollowedLine) (b : Point) (rest : List Point) (due : Option Point)
     → HaveSamePoints f.listed (f.passed ++ f.at ∷ b ∷ rest)
     → let g = followed_by f b rest due in HaveSamePoints g.listed (followed_points g)
-by_same f b rest None same test = same test ∙ ap (λ (points : List Point). list_any test points) (sym (joined_again f.passed f.at (b ∷ rest)))
+by_same f b rest None same test =
+    same test ∙ ap (λ (points : List Point). list_any test points) (sym (joined_again f.passed f.at (b ∷ rest)))
 by_same f b rest (Some e) same test =
     list_any-append test f.listed (e ∷ [])
     ∙ ap (λ (any : Bool). any || (test e || false)) (same test ∙ list_any-append test f.passed (f.at ∷ b ∷ rest))
