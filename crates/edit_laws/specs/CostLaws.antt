@@ -1,5 +1,5 @@
 -- What turns and mirrorings keep: the pieces of a drawing, the costs of its lines and walks, and
--- its packings of odd cuts. So the least cost that is sewn twice stays. Costs count steps.
+-- its packings of odd cuts. Costs count steps.
 use Rattle.std.specs.Prelude.{◌≡◌, ℕ, List, length}
 use Rattle.design_edits.specs.declared.axis.Axis.{Axis}
 use Rattle.drawing_edits.specs.MovedDrawings.{mirrored_drawing, turned_drawing}
