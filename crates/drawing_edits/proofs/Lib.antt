@@ -1,4 +1,3 @@
 pub mod ExtentLemmas
 pub mod SpotLemmas
-pub mod StillLemmas
 mod EditFacts

@@ -1,8 +1,10 @@
 -- The starts and ends of a drawing are needle points, as they are ends of its lines.
-use Rattle.std.proofs.Common.{◌≡◌, ◌==◌, ◌||◌, Bool, true, false, List, [], ◌∷◌, All, refl, sym, subst}
+use Rattle.std.proofs.Common.{◌≡◌, ◌==◌, ◌||◌, Bool, true, false, ℤ, List, [], ◌∷◌, All, refl, sym, subst, ap, ◌∙◌}
 use Rattle.std.proofs.lemmas.Bool.{and_parts}
+use Rattle.std.proofs.lemmas.Bool.Decides.{Decides-int_eq}
 use Rattle.std.proofs.lemmas.List.Elements.{All-head, All-tail}
 use Rattle.std.specs.List.{list_any}
+use Rattle.std.specs.Ordering.{int_eq}
 use Rattle.design_model.specs.declared.point.Point.{Point}
 use Rattle.design_model.specs.Points.{is_same_point}
 use Rattle.line_sections.specs.declared.spot.Spot.{Spot}
@@ -11,7 +13,13 @@ use Rattle.line_graph.specs.Drawings.{IsLine}
 use Rattle.line_graph.specs.Pieces.{endpoints}
 use Rattle.line_graph.specs.WalkEnds.{has_end_at_spot, is_junction}
 use Rattle.step_splitter.specs.Chains.{IsNeedlePoint, last_point_or}
-use Rattle.drawing_edits.proofs.StillLemmas.{same_point_is}
+
+-- Points that pass the test are equal.
+same_point_is : (p q : Point) → is_same_point p q ≡ true → p ≡ q
+same_point_is p q found =
+    let both = and_parts (int_eq p.x q.x) (int_eq p.y q.y) found in
+    ap (λ (x : ℤ). record { x = x; y = p.y }) ((Decides-int_eq p.x q.x).0 both.0)
+    ∙ ap (λ (y : ℤ). record { x = q.x; y = y }) ((Decides-int_eq p.y q.y).0 both.1)
 
 -- one of two tests passes
 either_true : {R : Type 0} (a b : Bool) → (a || b) ≡ true → (a ≡ true → R) → (b ≡ true → R) → R

@@ -40,12 +40,16 @@ with_walk_ends is_start d [] = Ok d
 with_walk_ends is_start d (spot ∷ rest) =
     and_then (walk_end_added is_start d spot) (λ next. with_walk_ends is_start next rest)
 
+-- The drawing of the label, the step, the threads and the lines of a value, before its lines are
+-- joined, or the first fault.
+abbrev pub drawn_lines : DrawingValue → Result DrawingValue DrawKind
+drawn_lines d = and_then (with_blocks (empty_drawing d.label d.step) 0 d.threads d.lines)
+    finished_drawing
+
 -- The joined drawing of the label, the step, the threads and the lines of a value, or the first
 -- fault.
 abbrev pub redrawn_lines : DrawingValue → Result DrawingValue DrawKind
-redrawn_lines d = and_then
-    (and_then (with_blocks (empty_drawing d.label d.step) 0 d.threads d.lines) finished_drawing)
-    joined_drawing
+redrawn_lines d = and_then (drawn_lines d) joined_drawing
 
 -- A drawing with the given starts and then the given ends, or the first fault.
 abbrev pub with_starts_and_ends : DrawingValue → (starts ends : List Spot)

@@ -1,10 +1,14 @@
-ghost use Rattle.std.specs.Prelude.{◌≡◌, IfOk, true};
+ghost use Rattle.std.specs.Prelude.{◌≡◌, IfOk, IsTrue, true};
+ghost use Rattle.design_edits.specs.Motions.{is_small_motion, motion_map};
 ghost use Rattle.design_model.specs.OutOfMemory.{IsSpecified};
 ghost use Rattle.drawing_edits.specs.EditedDrawings.{IsDrawingEdit, edited_drawing};
+ghost use Rattle.drawing_edits.specs.MovedDrawings.{moved_drawing};
+ghost use Rattle.drawing_edits.specs.RedrawnDrawings.{redrawn};
 ghost use Rattle.line_graph.specs.GrowingDrawings.{draw_is_out_of_memory};
 ghost use Rattle.line_graph.specs.JoinedDrawings.{is_joined};
 
 use crate::drawing_extent::centring;
+use crate::moved_lines::{moved_lines, moved_spots};
 use crate::redrawing::redraw;
 use design_edits::Motion;
 use line_graph::{DrawKind, Drawing};
@@ -29,8 +33,29 @@ pub fn edit_drawing(alloc: Global, d: &Drawing, edit: DrawingEdit) -> Result<Dra
     ensures joined { IfOk result (λ new. is_joined new ≡ true) }
 {
     match edit {
-        DrawingEdit::Move(motion) => redraw(alloc, d, d.step(), motion),
-        DrawingEdit::Centre => redraw(alloc, d, d.step(), centring(d)),
-        DrawingEdit::Step(step) => redraw(alloc, d, step, Motion::Turn { quarters: 0 }),
+        DrawingEdit::Move(motion) => move_drawing(alloc, d, motion),
+        DrawingEdit::Centre => move_drawing(alloc, d, centring(d)),
+        DrawingEdit::Step(step) => redraw(alloc, d, step, d.lines(), d.starts(), d.ends()),
     }
+}
+
+/// Returns the drawing after a motion of its points.
+fn move_drawing(alloc: Global, d: &Drawing, motion: Motion) -> Result<Drawing, DrawKind>
+    requires { IsTrue (is_small_motion motion) }
+    ensures answer { IsSpecified draw_is_out_of_memory
+        (redrawn (moved_drawing (motion_map motion) d.now)) result }
+    ensures joined { IfOk result (λ new. is_joined new ≡ true) }
+{
+    d.keeps_limits();
+    let lines = moved_lines(alloc, d.lines(), motion)?;
+    let starts = moved_spots(alloc, d.starts(), motion)?;
+    let ends = moved_spots(alloc, d.ends(), motion)?;
+    redraw(
+        alloc,
+        d,
+        d.step(),
+        lines.as_slice(),
+        starts.as_slice(),
+        ends.as_slice(),
+    )
 }

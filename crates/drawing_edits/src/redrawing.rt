@@ -1,70 +1,90 @@
-ghost use Rattle.std.specs.Prelude.{◌≡◌, ◌≤◌, ◌<◌, ◌==◌, All, IfOk, IsTrue, length, map, true, false};
-ghost use Rattle.design_edits.specs.Motions.{is_small_motion, motion_map};
+ghost use Rattle.std.specs.Prelude.{◌≡◌, ◌≤◌, ◌==◌, IfOk, length, true};
 ghost use Rattle.design_model.specs.OutOfMemory.{IsSpecified};
-ghost use Rattle.drawing_edits.specs.MovedDrawings.{moved_drawing, with_moved_line, with_moved_spot};
-ghost use Rattle.drawing_edits.specs.RedrawnDrawings.{AddsAsSpecified, line_added_if, redrawn, redrawn_lines, with_blocks, with_lines_of, with_starts_and_ends, with_walk_ends};
+ghost use Rattle.drawing_edits.specs.RedrawnDrawings.{AddsAsSpecified, drawn_lines, line_added_if, redrawn, with_blocks, with_lines_of, with_starts_and_ends, with_walk_ends};
 ghost use Rattle.line_graph.specs.declared.limits.TheConstants.{MAX_BLOCKS};
-ghost use Rattle.line_graph.specs.Drawings.{IsLine};
 ghost use Rattle.line_graph.specs.GrowingDrawings.{ChangesAsSpecified, and_then, block_added, draw_is_out_of_memory};
-ghost use Rattle.line_graph.specs.JoinedDrawings.{is_joined};
+ghost use Rattle.line_graph.specs.JoinedDrawings.{is_joined, joined_drawing};
 ghost use Rattle.line_graph.specs.WalkEnds.{HasNoEnds, walk_end_added};
-ghost use Rattle.step_splitter.specs.Chains.{IsNeedlePoint};
 ghost use Rattle.step_splitter.specs.declared.segment.TheConstants.{MAX_STEP};
 
-use crate::moved_points::{moved_point, moved_points};
-use design_edits::Motion;
+use design_model::Points;
 use line_graph::{DrawKind, Drawing, DrawingMaker, EndsMaker, Line, Spot, join};
 use std::alloc::Global;
 
-/// Returns the joined drawing with another longest step, in tenths of a millimetre, and with each point
-/// moved; or the first fault of its lines; or `Memory`.
-pub fn redraw(alloc: Global, d: &Drawing, step: u32, motion: Motion) -> Result<Drawing, DrawKind>
+/// Returns the joined drawing that has the label and the threads of a drawing, and the given longest step, in
+/// tenths of a millimetre, lines, starts and ends; or the first fault of these; or `Memory`.
+pub fn redraw(
+    alloc: Global,
+    d: &Drawing,
+    step: u32,
+    lines: &[Line],
+    starts: &[Spot],
+    ends: &[Spot],
+) -> Result<Drawing, DrawKind>
     requires low { 1 ≤ step }
     requires high { step ≤ MAX_STEP }
-    requires small { IsTrue (is_small_motion motion) }
-    ensures answer { IsSpecified draw_is_out_of_memory
-        (redrawn (moved_drawing (motion_map motion) (record d.now { step = step }))) result }
+    ensures answer { IsSpecified draw_is_out_of_memory (redrawn (record d.now {
+      step = step;
+      lines = lines.now;
+      starts = starts.now;
+      ends = ends.now;
+    })) result }
     ensures joined { IfOk result (λ new. is_joined new ≡ true) }
 {
-    let joined = redraw_lines(alloc, d, step, motion)?;
-    put_ends(alloc, joined, d, motion)
+    let drawn = draw_lines(alloc, d, step, lines)?;
+    joined_with_ends(alloc, &drawn, starts, ends)
 }
 
-fn redraw_lines(alloc: Global, d: &Drawing, step: u32, motion: Motion) -> Result<Drawing, DrawKind>
+/// Returns the drawing, before its lines are joined, that has the label and the threads of a drawing, and the
+/// given longest step, in tenths of a millimetre, and lines; or the first fault of these; or `Memory`.
+pub fn draw_lines(
+    alloc: Global,
+    d: &Drawing,
+    step: u32,
+    lines: &[Line],
+) -> Result<Drawing, DrawKind>
     requires low { 1 ≤ step }
     requires high { step ≤ MAX_STEP }
-    requires small { IsTrue (is_small_motion motion) }
     ensures answer { IsSpecified draw_is_out_of_memory
-        (redrawn_lines (moved_drawing (motion_map motion) (record d.now { step = step }))) result }
-    ensures joined { IfOk result (λ new. is_joined new ≡ true) }
+        (drawn_lines (record d.now { step = step; lines = lines.now })) result }
     ensures no_ends { IfOk result HasNoEnds }
 {
     d.keeps_limits();
     let mut maker = DrawingMaker::new(alloc, d.label(), step);
-    put_blocks(alloc, &mut maker, d.threads(), d.lines(), motion)?;
-    let drawn = maker.finish()?;
-    join(alloc, &drawn)
+    put_blocks(alloc, &mut maker, d.threads(), lines)?;
+    maker.finish()
 }
 
-/// Adds blocks of the given threads, with their lines moved.
+/// Returns a drawing joined, with the given starts and ends; or the first fault; or `Memory`.
+pub fn joined_with_ends(
+    alloc: Global,
+    drawn: &Drawing,
+    starts: &[Spot],
+    ends: &[Spot],
+) -> Result<Drawing, DrawKind>
+    requires { HasNoEnds drawn.now }
+    ensures answer { IsSpecified draw_is_out_of_memory (and_then (joined_drawing drawn.now)
+        (λ joined. with_starts_and_ends joined starts.now ends.now)) result }
+    ensures joined { IfOk result (λ new. is_joined new ≡ true) }
+{
+    let joined = join(alloc, drawn)?;
+    put_ends(alloc, joined, starts, ends)
+}
+
+/// Adds blocks of the given threads, with their lines.
 fn put_blocks(
     alloc: Global,
     maker: &mut DrawingMaker,
     threads: &[u8],
     lines: &[Line],
-    motion: Motion,
 ) -> Result<(), DrawKind>
-    requires small { IsTrue (is_small_motion motion) }
-    requires lines { All (λ line. IsLine line.points) lines.now }
-    requires few { length threads.now ≤ MAX_BLOCKS }
-    ensures { AddsAsSpecified
-        (with_blocks maker.old 0 threads.now (map (with_moved_line (motion_map motion)) lines.now))
-        result maker.new }
+    requires { length threads.now ≤ MAX_BLOCKS }
+    ensures { AddsAsSpecified (with_blocks maker.old 0 threads.now lines.now) result maker.new }
 {
     let mut block: u32 = 0;
     let mut rest = threads;
     while let [thread, after @ ..] = rest {
-        put_block(alloc, maker, *thread, block, lines, motion)?;
+        put_block(alloc, maker, *thread, block, lines)?;
         block += 1;
         rest = after;
     }
@@ -77,16 +97,12 @@ fn put_block(
     thread: u8,
     block: u32,
     lines: &[Line],
-    motion: Motion,
 ) -> Result<(), DrawKind>
-    requires small { IsTrue (is_small_motion motion) }
-    requires lines { All (λ line. IsLine line.points) lines.now }
     ensures { AddsAsSpecified (and_then (block_added maker.old thread) (λ opened.
-        with_lines_of block opened (map (with_moved_line (motion_map motion)) lines.now)))
-        result maker.new }
+        with_lines_of block opened lines.now)) result maker.new }
 {
     maker.add_block(thread)?;
-    put_lines_of(alloc, maker, block, lines, motion)
+    put_lines_of(alloc, maker, block, lines)
 }
 
 fn put_lines_of(
@@ -94,94 +110,64 @@ fn put_lines_of(
     maker: &mut DrawingMaker,
     block: u32,
     lines: &[Line],
-    motion: Motion,
 ) -> Result<(), DrawKind>
-    requires small { IsTrue (is_small_motion motion) }
-    requires lines { All (λ line. IsLine line.points) lines.now }
-    ensures { AddsAsSpecified
-        (with_lines_of block maker.old (map (with_moved_line (motion_map motion)) lines.now))
-        result maker.new }
+    ensures { AddsAsSpecified (with_lines_of block maker.old lines.now) result maker.new }
 {
     let mut rest = lines;
     while let [line, after @ ..] = rest {
-        put_line_in(alloc, maker, block, line, motion)?;
+        put_line_in(alloc, maker, block, line)?;
         rest = after;
     }
     Ok(())
 }
 
-/// Adds a line, moved, if it has the given block.
+/// Adds a line if it has the given block.
 fn put_line_in(
     alloc: Global,
     maker: &mut DrawingMaker,
     block: u32,
     line: &Line,
-    motion: Motion,
 ) -> Result<(), DrawKind>
-    requires small { IsTrue (is_small_motion motion) }
-    requires line { IsLine line.now.points }
-    ensures { AddsAsSpecified (line_added_if (line.now.block == block) maker.old
-        (map (motion_map motion) line.now.points)) result maker.new }
+    ensures { AddsAsSpecified (line_added_if (line.now.block == block) maker.old line.now.points)
+        result maker.new }
 {
     if line.block() != block {
         return Ok(());
     }
-    let points = moved_points(alloc, line.points(), motion)?;
+    let mut points = Points::new(alloc);
+    points.append(line.points())?;
     maker.add_line(points)
 }
 
-/// Adds the starts and ends of a drawing, moved, to a joined drawing.
+/// Adds starts and ends to a joined drawing.
 fn put_ends(
     alloc: Global,
     joined: Drawing,
-    d: &Drawing,
-    motion: Motion,
+    starts: &[Spot],
+    ends: &[Spot],
 ) -> Result<Drawing, DrawKind>
     requires joined { is_joined joined ≡ true }
     requires no_ends { HasNoEnds joined }
-    requires small { IsTrue (is_small_motion motion) }
-    ensures answer { IsSpecified draw_is_out_of_memory (with_starts_and_ends joined
-        (map (with_moved_spot (motion_map motion)) d.now.starts)
-        (map (with_moved_spot (motion_map motion)) d.now.ends)) result }
+    ensures answer { IsSpecified draw_is_out_of_memory
+        (with_starts_and_ends joined starts.now ends.now) result }
     ensures joined { IfOk result (λ new. is_joined new ≡ true) }
 {
-    d.keeps_limits();
     let mut maker = EndsMaker::new(alloc, joined)?;
-    put_spots(&mut maker, true, d.starts(), motion)?;
-    put_spots(&mut maker, false, d.ends(), motion)?;
+    put_spots(&mut maker, true, starts)?;
+    put_spots(&mut maker, false, ends)?;
     Ok(maker.finish())
 }
 
-/// Adds spots, moved, as starts or as ends.
-fn put_spots(
-    maker: &mut EndsMaker,
-    is_start: bool,
-    spots: &[Spot],
-    motion: Motion,
-) -> Result<(), DrawKind>
-    requires small { IsTrue (is_small_motion motion) }
-    requires spots { All (λ spot. IsNeedlePoint spot.at) spots.now }
-    ensures { AddsAsSpecified (with_walk_ends is_start maker.old
-        (map (with_moved_spot (motion_map motion)) spots.now)) result maker.new }
+/// Adds spots as starts or as ends.
+fn put_spots(maker: &mut EndsMaker, is_start: bool, spots: &[Spot]) -> Result<(), DrawKind>
+    ensures { AddsAsSpecified (with_walk_ends is_start maker.old spots.now) result maker.new }
 {
     let mut rest = spots;
     while let [spot, after @ ..] = rest {
-        let moved = moved_spot(*spot, motion);
-        put_spot(maker, is_start, moved)?;
+        put_spot(maker, is_start, *spot)?;
         rest = after;
     }
     Ok(())
-}
-
-fn moved_spot(spot: Spot, motion: Motion) -> Spot
-    requires small { IsTrue (is_small_motion motion) }
-    requires spot { IsNeedlePoint spot.at }
-    ensures { result ≡ with_moved_spot (motion_map motion) spot }
-{
-    Spot {
-        at: moved_point(spot.at, motion),
-        ..spot
-    }
 }
 
 fn put_spot(maker: &mut EndsMaker, is_start: bool, spot: Spot) -> Result<(), DrawKind>

@@ -1,6 +1,6 @@
 use Rattle.std.proofs.Common.{◌≡◌, take, map}
 use Rattle.design_edits.specs.Motions.{motion_map}
-use Rattle.drawing_edits.proofs.moved_points.moved_points.Given as goal
+use Rattle.drawing_edits.proofs.moved_lines.moved_points.Given as goal
 
 -- the points so far are moved
 abbrev pub invariant-loop-point : goal.invariant-loop-point
