@@ -9,7 +9,7 @@ use crate::drawing::Drawing;
 use design_model::{Memory, Point, Points};
 use line_sections::first_point;
 use std::alloc::Global;
-use step_splitter::split;
+use step_splitter::split_into;
 
 /// Returns the needle points of a line at the drawing's longest step: its first point, and the points that
 /// its segments are split at.
@@ -38,8 +38,7 @@ fn needles_along(alloc: Global, points: &[Point], step: u32) -> Result<Points, M
     let mut before = first;
     let mut rest = after;
     while let Some((next, after)) = first_point(rest) {
-        let ends = split(alloc, before, next, step)?;
-        needles.append(ends.as_slice())?;
+        split_into(&mut needles, before, next, step)?;
         before = next;
         rest = after;
     }

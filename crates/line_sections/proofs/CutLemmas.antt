@@ -9,7 +9,7 @@ use Rattle.design_model.specs.Points.{is_same_point}
 use Rattle.line_sections.specs.declared.spot.Spot.{Spot}
 use Rattle.line_sections.specs.Lines.{LineValue}
 use Rattle.line_sections.specs.Spots.{is_same_spot}
-use Rattle.line_sections.specs.ListedPoints.{AreMarked, Marks, MarksSpot, AreCutMarks, AreMarksOf, is_cut_by, is_listed_again, mark_of, sections_by, sections_continued, spot_at, spots_of}
+use Rattle.line_sections.specs.ListedPoints.{AreMarked, Marks, MarksSpot, AreCutMarks, AreMarksOf, is_cut_by, is_listed_again, mark_of, sections_by, sections_continued, spot_at, spots_of, SetsMark}
 use Rattle.line_sections.specs.Sections.{but_last, has_points, is_shared_point, line_sections, lines_through, sections_from, sections_of}
 use Rattle.line_sections.proofs.WholeLemmas.{counted, listed_counts}
 use Rattle.line_sections.proofs.SpotLemmas.{same_spot, spot_found}
@@ -216,3 +216,16 @@ module _ (test : Point → Bool) (at : Point) where
       → found ≡ (has_points after && test at) → found ≡ false → whole ≡ not (list_any test (but_last after))
   whole_on rest after whole found so_far is here fails =
       so_far ∙ ap (λ (points : List Point). not (list_any test (but_last points))) is ∙ ap not (cut_missed after (sym here ∙ fails))
+
+-- of two marks of a spot, the later one stays
+later_stays : (same : Bool) (old : Option Bool)
+    → cond same (Some true) (cond same (Some false) old) ≡ cond same (Some true) old
+later_stays true old = refl
+later_stays false old = refl
+
+-- a spot that had a mark gets the mark that it is listed again
+pub marked_again : (spot : Spot) (old once new : Marks) → true ≡ is_some (old spot)
+    → SetsMark spot false old once → SetsMark spot true once new → MarksSpot spot old new
+marked_again spot old once new had first second = spot_marked spot true old new had
+    (λ other. second other ∙ (ap (λ (mark : Option Bool). cond (is_same_spot spot other) (Some true) mark) (first other)
+    ∙ later_stays (is_same_spot spot other) (old other)))

@@ -1,6 +1,6 @@
 -- Marks of the points that blocks list more than once, in a hash map. No public clause cites this
 -- file.
-use Rattle.std.specs.Prelude.{◌≡◌, ℕ, zero, suc, ◌&&◌, Bool, true, false, List, [], ◌∷◌, ◌++◌, Option, Some, None, map, if◌then◌else◌}
+use Rattle.std.specs.Prelude.{◌≡◌, ℕ, zero, suc, ◌&&◌, Bool, true, false, List, [], ◌∷◌, ◌++◌, Option, Some, None, cond, map, if◌then◌else◌}
 use Rattle.std.specs.List.{count_by}
 use Rattle.design_model.specs.declared.point.Point.{Point}
 use Rattle.line_sections.specs.declared.spot.Spot.{Spot}
@@ -36,6 +36,11 @@ pub record AreMarked (all left : List Spot) (marks : Marks) : Type 0 where
   pub before : List Spot
   pub split : before ++ left ≡ all
   pub marked : AreMarksOf before marks
+
+-- A step from old marks to new ones sets the mark of a spot.
+abbrev pub SetsMark : Spot → Bool → Marks → Marks → Type 0
+SetsMark spot mark old new =
+    (other : Spot) → new other ≡ cond (is_same_spot spot other) (Some mark) (old other)
 
 -- A step from old marks to new ones marks one more spot, the next of those left.
 abbrev pub MarksSpot : Spot → Marks → Marks → Type 0

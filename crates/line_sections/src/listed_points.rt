@@ -1,7 +1,7 @@
 ghost use Rattle.std.specs.Prelude.{◌≡◌, IfOk, OnOk, is_some};
 ghost use Rattle.std.specs.HashMap.{get};
 ghost use Rattle.line_sections.specs.Spots.{is_same_spot};
-ghost use Rattle.line_sections.specs.ListedPoints.{MarksLine, MarksSpot, AreCutMarks, is_cut_by, spot_at};
+ghost use Rattle.line_sections.specs.ListedPoints.{AreCutMarks, MarksLine, MarksSpot, SetsMark, is_cut_by, spot_at};
 
 use crate::line::Line;
 use crate::spot::Spot;
@@ -39,15 +39,21 @@ fn mark_spot(marks: &mut HashMap<Spot, bool>, spot: Spot) -> Result<(), Memory>
     ensures { OnOk result
         (MarksSpot spot (get is_same_spot marks.old) (get is_same_spot marks.new)) }
 {
-    let again = is_listed(marks, spot);
-    marks.insert(spot, again)?;
+    if set_mark(marks, spot, false)? {
+        set_mark(marks, spot, true)?;
+        return Ok(());
+    }
     Ok(())
 }
 
-fn is_listed(marks: &HashMap<Spot, bool>, spot: Spot) -> bool
-    ensures { result ≡ is_some (get is_same_spot marks.now spot) }
+/// Sets the mark of a spot, and returns whether it had one.
+fn set_mark(marks: &mut HashMap<Spot, bool>, spot: Spot, mark: bool) -> Result<bool, Memory>
+    ensures had { IfOk result (λ had. had ≡ is_some (get is_same_spot marks.old spot)) }
+    ensures set { OnOk result
+        (SetsMark spot mark (get is_same_spot marks.old) (get is_same_spot marks.new)) }
 {
-    marks.contains_key(&spot)
+    let before = marks.insert(spot, mark)?;
+    Ok(before.is_some())
 }
 
 /// Returns whether a line of the block is cut at a point inside it.

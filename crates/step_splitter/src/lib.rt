@@ -9,5 +9,5 @@ mod segment_points;
 mod theorems;
 
 pub use refitting::{RefitFault, RefitMode, refit};
-pub use segment::{MAX_STEP, split, steps};
+pub use segment::{MAX_STEP, split, split_into, steps};
 pub use theorems::split_points_lead;

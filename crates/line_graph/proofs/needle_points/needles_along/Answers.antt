@@ -1,4 +1,4 @@
-use Rattle.std.proofs.Common.{◌≡◌, ◌++◌, ◌∷◌, [], rules}
+use Rattle.std.proofs.Common.{◌≡◌, ◌∷◌, [], refl, rules}
 use Rattle.line_graph.proofs.NeedleLemmas.{first_sewn, next_segment, segment_sewn}
 use Rattle.line_graph.proofs.needle_points.needles_along.Goals as goal
 
@@ -7,15 +7,14 @@ loop-next-init c =
     let one : c.push.new.self ≡ c.in-Some.first ∷ [] = search rules in
     rw one (first_sewn c.args.step c.args.points.now c.in-Some.first c.in-Some.after.now c.in-Some.ensures.some c.requires.line)
 
-pub split-requires-clause-to : goal.split-requires-clause-to
-split-requires-clause-to c =
+pub split_into-requires-clause-to : goal.split_into-requires-clause-to
+split_into-requires-clause-to c =
     (next_segment c.args.step c.args.points.now c.loop-next.before c.in-Some-first_point.next c.loop-next.rest.now
     c.in-Some-first_point.after.now c.loop-next.needles c.loop-next.invariant c.in-Some-first_point.ensures.some).1
 
 pub loop-next-preserved : goal.loop-next-preserved
 loop-next-preserved c =
-    let more : c.append.new.self ≡ c.loop-next.needles ++ c.in_ok-ends.ends = search rules in
-    rw more
+    rw c.in_ok-split_into.ensures.value
     (segment_sewn c.args.step c.args.points.now c.loop-next.before c.in-Some-first_point.next c.loop-next.rest.now
-    c.in-Some-first_point.after.now c.loop-next.needles c.in_ok-ends.ends c.loop-next.invariant
-    c.in-Some-first_point.ensures.some c.in_ok-ends.ensures.value c.in_ok-ends.ensures.leads)
+    c.in-Some-first_point.after.now c.loop-next.needles _ c.loop-next.invariant
+    c.in-Some-first_point.ensures.some refl c.in_ok-split_into.ensures.leads)

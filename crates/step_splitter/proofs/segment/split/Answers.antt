@@ -1,7 +1,5 @@
-use Rattle.step_splitter.proofs.ChainLemmas.{leads}
 use Rattle.step_splitter.proofs.segment.split.Goals as goal
 
 pub returns-clause-leads : goal.returns-clause-leads
 returns-clause-leads c =
-    rw c.in_ok-points.ensures
-    (leads c.args.p c.args.q c.args.step c.requires.differ c.requires.from c.requires.to c.requires.low)
+    rw (c.in_ok-split_into.ensures.value, c.new-points.ensures) c.in_ok-split_into.ensures.leads
