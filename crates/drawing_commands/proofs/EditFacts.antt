@@ -1,13 +1,11 @@
 -- Worked values of the arguments of `edit`, and of edits in order.
-use Rattle.std.proofs.Common.{◌≡◌, ℕ, ℤ, pos, negsuc, [], ◌∷◌, List, Option, Some, None, Ok, Err, codes, refl}
+use Rattle.std.proofs.Common.{◌≡◌, ℕ, pos, negsuc, [], ◌∷◌, List, Some, None, Err, codes, refl}
 use Rattle.design_edits.specs.declared.axis.Axis.TheVariants as axis
 use Rattle.design_edits.specs.declared.motion.Motion.TheVariants as motion
-use Rattle.design_model.specs.declared.point.Point.{Point}
-use Rattle.drawing_edits.specs.declared.drawing_edit.DrawingEdit.{DrawingEdit}
 use Rattle.drawing_edits.specs.declared.drawing_edit.DrawingEdit.TheVariants as edit
 use Rattle.line_graph.specs.declared.draw_kind.DrawKind.TheVariants as kind
 use Rattle.line_graph.specs.Drawings.{DrawingValue}
-use Rattle.drawing_commands.specs.DrawingEditing.{bad_edit_text, drawing_edit_order, edits_applied}
+use Rattle.drawing_commands.specs.DrawingEditing.{drawing_edit_order, edits_applied}
 use Rattle.drawing_commands.specs.DrawingEditWords.{parsed_drawing_edit, parsed_drawing_edits}
 use Rattle.drawing_commands.specs.Requests.{drawing_order_of, editing}
 

@@ -1,4 +1,5 @@
 mod FaultLemmas
+mod LookFacts
 mod WordLemmas
 mod SnapLemmas
 pub mod DrawingEditLemmas

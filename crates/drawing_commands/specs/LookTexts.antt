@@ -1,6 +1,6 @@
 -- The report of `look`: a line for each piece, a line for each place, and the totals. Blocks,
--- pieces and lines are numbered from 1.
-use Rattle.std.specs.Prelude.{ℕ, ◌+◌, List, [], ◌∷◌, ◌++◌, codes, decimal, length}
+-- pieces and lines are numbered from 1. Lengths are in tenths of a millimetre, rounded down.
+use Rattle.std.specs.Prelude.{ℕ, ◌+◌, ◌/◌, List, [], ◌∷◌, ◌++◌, codes, decimal, length}
 use Rattle.std.specs.Fmt.{signed_decimal}
 use Rattle.design_model.specs.TextLines.{newline}
 use Rattle.drawing_review.specs.declared.place.Place.{Place}
@@ -9,6 +9,9 @@ use Rattle.drawing_review.specs.declared.place.PlaceKind.TheVariants as place
 use Rattle.line_graph.specs.declared.piece.Piece.{Piece}
 use Rattle.line_graph.specs.PiecesOfDrawings.{graph_of}
 use Rattle.line_graph.specs.PieceGraphs.{PieceValue, odd_junctions}
+use Rattle.piece_stitches.specs.declared.counting.PieceStitches.{PieceStitches}
+use Rattle.piece_stitches.specs.declared.stitch_summary.StitchSummary.{StitchSummary}
+use Rattle.piece_stitches.specs.PieceStitches.{total_thread, total_travel}
 
 -- The name of what a place is.
 abbrev pub place_name : PlaceKind → List ℕ
@@ -42,21 +45,42 @@ piece_title index p = codes "block " ++ (decimal (p.block + 1)
 abbrev pub piece_counts_text : PieceValue → List ℕ
 piece_counts_text p = codes " lines " ++ (decimal (length p.lines)
     ++ (codes " junctions " ++ (decimal (length p.junctions)
-    ++ (codes " odd " ++ (decimal (length (odd_junctions p)) ++ newline)))))
+    ++ (codes " odd " ++ decimal (length (odd_junctions p))))))
 
--- The lines of pieces, from the given index on.
-abbrev pub look_piece_lines : ℕ → List Piece → List ℕ
-look_piece_lines index [] = []
-look_piece_lines index (p ∷ rest) =
-    (piece_title index (graph_of p) ++ piece_counts_text (graph_of p))
-    ++ look_piece_lines (index + 1) rest
+-- A length in tenths of a millimetre, rounded down, of one in thousandths.
+abbrev pub tenths_text : ℕ → List ℕ
+tenths_text length = decimal (length / 100)
+
+-- The number of the stitches of a piece, the lengths of the shortest and of the longest, and the
+-- number of those below 1 mm.
+abbrev pub stitches_text : StitchSummary → List ℕ
+stitches_text s = codes " stitches " ++ (decimal s.stitches
+    ++ (codes " shortest " ++ (tenths_text s.shortest
+    ++ (codes " longest " ++ (tenths_text s.longest ++ (codes " short " ++ decimal s.short))))))
+
+-- Lengths of thread and of travel, and the end of the line.
+abbrev pub lengths_text : (thread travel : ℕ) → List ℕ
+lengths_text thread travel = codes " thread " ++ (tenths_text thread
+    ++ (codes " travel " ++ (tenths_text travel ++ newline)))
+
+-- The line of a piece.
+abbrev pub look_piece_line : ℕ → PieceValue → PieceStitches → List ℕ
+look_piece_line index p s = piece_title index p ++ (piece_counts_text p
+    ++ (stitches_text s.summary ++ lengths_text s.summary.thread s.travel))
+
+-- The lines of pieces, from the given index on, with their stitches.
+abbrev pub look_piece_lines : ℕ → List Piece → List PieceStitches → List ℕ
+look_piece_lines index (p ∷ rest) (s ∷ more) =
+    look_piece_line index (graph_of p) s ++ look_piece_lines (index + 1) rest more
+look_piece_lines index [] all = []
+look_piece_lines index (p ∷ rest) [] = []
 
 -- The line of the totals.
-abbrev pub look_totals_text : (pieces places : ℕ) → List ℕ
-look_totals_text pieces places = codes "pieces " ++ (decimal pieces
-    ++ (codes " places " ++ (decimal places ++ newline)))
+abbrev pub look_totals_text : (pieces places thread travel : ℕ) → List ℕ
+look_totals_text pieces places thread travel = codes "pieces " ++ (decimal pieces
+    ++ (codes " places " ++ (decimal places ++ lengths_text thread travel)))
 
--- The report of `look`.
-abbrev pub look_report : List Piece → List Place → List ℕ
-look_report pieces places = look_piece_lines 0 pieces
-    ++ (place_lines places ++ look_totals_text (length pieces) (length places))
+-- The report of `look`, with the stitches of the pieces.
+abbrev pub look_report : List Piece → List PieceStitches → List Place → List ℕ
+look_report pieces all places = look_piece_lines 0 pieces all ++ (place_lines places
+    ++ look_totals_text (length pieces) (length places) (total_thread all) (total_travel all))

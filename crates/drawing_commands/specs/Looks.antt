@@ -8,6 +8,7 @@ use Rattle.drawing_text.specs.DrawnTexts.{lines_of}
 use Rattle.line_graph.specs.Drawings.{DrawingValue}
 use Rattle.line_graph.specs.declared.piece.Piece.{Piece}
 use Rattle.line_graph.specs.PiecesOfDrawings.{ArePiecesOf}
+use Rattle.piece_stitches.specs.PieceStitches.{stitches_of_pieces}
 use Rattle.program_shell.specs.Plans.{Plan, accepts, reads}
 use Rattle.program_shell.specs.Products.{ProductValue, report_product}
 use Rattle.drawing_commands.specs.FaultTexts.{plan_after_reading}
@@ -22,12 +23,13 @@ pub record LookOrder : Type 0 where
 abbrev pub look_order : List ℕ → ℕ → LookOrder
 look_order file gap = record { file = file; gap = gap }
 
--- The product of `look`: a report on the pieces of the drawing and on the places of its lines.
+-- The product of `look`: a report on the pieces of the drawing, with their stitches, and on the
+-- places of its lines.
 pub record IsLook (gap : ℕ) (d : DrawingValue) (drawn : DrawnLines)
     (product : ProductValue) : Type 0 where
   pub pieces : List Piece
   pub pieces_are : ArePiecesOf d pieces
-  pub made : product ≡ report_product (look_report pieces
+  pub made : product ≡ report_product (look_report pieces (stitches_of_pieces d pieces)
       (places_of_lines drawn.drawing.step gap drawn.drawing.lines))
 
 -- The plan for the bytes of the file: a drawing is accepted, and a fault is refused.

@@ -1,57 +1,106 @@
 ghost use Rattle.std.specs.Prelude.{◌≡◌, ◌++◌, ◌+◌, IfOk, OnOk, codes, decimal, length, string_bytes};
-ghost use Rattle.design_model.specs.TextLines.{newline};
-ghost use Rattle.drawing_commands.specs.LookTexts.{look_piece_lines, look_report, look_totals_text, piece_counts_text, piece_title, place_line_text, place_lines, place_name, place_point_text};
+ghost use Rattle.drawing_commands.specs.LookTexts.{lengths_text, look_piece_line, look_piece_lines, look_report, piece_counts_text, piece_title, place_line_text, place_lines, place_name, place_point_text, stitches_text};
 ghost use Rattle.line_graph.specs.PieceGraphs.{odd_junctions};
 ghost use Rattle.line_graph.specs.PiecesOfDrawings.{graph_of};
+ghost use Rattle.piece_stitches.specs.PieceStitches.{HasSmallTotals};
 
 use design_model::{Bytes, Memory};
 use drawing_review::{Place, PlaceKind};
 use line_graph::Piece;
 use odd_cuts::first_lent;
 use odd_paths::odd;
+use piece_stitches::{PieceStitches, StitchSummary, thread_of, travel_of};
 use std::alloc::Global;
 
-/// Returns the report of `look` on pieces and places.
-pub fn print_look(alloc: Global, pieces: &[Piece], places: &[Place]) -> Result<Bytes, Memory>
-    ensures { IfOk result (λ text. text ≡ look_report pieces.now places.now) }
+/// Returns the report of `look` on pieces, with their stitches, and on places.
+pub fn print_look(
+    alloc: Global,
+    pieces: &[Piece],
+    stitches: &[PieceStitches],
+    places: &[Place],
+) -> Result<Bytes, Memory>
+    requires { HasSmallTotals stitches.now }
+    ensures { IfOk result (λ text. text ≡ look_report pieces.now stitches.now places.now) }
 {
     let mut text = Bytes::new(alloc);
-    put_pieces(alloc, &mut text, pieces)?;
+    put_pieces(alloc, &mut text, pieces, stitches)?;
     put_places(alloc, &mut text, places)?;
     let totals = totals_line(alloc, pieces.len(), places.len())?;
     text.append(totals.as_bytes())?;
+    let lengths = lengths_line(alloc, thread_of(stitches), travel_of(stitches))?;
+    text.append(lengths.as_bytes())?;
     Ok(text)
 }
 
 fn totals_line(alloc: Global, pieces: usize, places: usize) -> Result<String, Memory>
-    ensures { IfOk result (λ text. string_bytes text ≡ look_totals_text pieces places) }
+    ensures { IfOk result (λ text. string_bytes text
+        ≡ codes "pieces " ++ (decimal pieces ++ (codes " places " ++ decimal places))) }
 {
-    let text = format!(in alloc; "pieces {pieces} places {places}\n")?;
+    let text = format!(in alloc; "pieces {pieces} places {places}")?;
     Ok(text)
 }
 
-fn put_pieces(alloc: Global, text: &mut Bytes, pieces: &[Piece]) -> Result<(), Memory>
-    ensures { OnOk result (text.new ≡ text.old ++ look_piece_lines 0 pieces.now) }
+fn lengths_line(alloc: Global, thread: u128, travel: u128) -> Result<String, Memory>
+    ensures { IfOk result (λ text. string_bytes text ≡ lengths_text thread travel) }
 {
+    let thread = thread / 100;
+    let travel = travel / 100;
+    let text = format!(in alloc; " thread {thread} travel {travel}\n")?;
+    Ok(text)
+}
+
+fn put_pieces(
+    alloc: Global,
+    text: &mut Bytes,
+    pieces: &[Piece],
+    stitches: &[PieceStitches],
+) -> Result<(), Memory>
+    ensures { OnOk result (text.new ≡ text.old ++ look_piece_lines 0 pieces.now stitches.now) }
+{
+    let mut index: usize = 0;
     let mut rest = pieces;
-    while let Some((piece, more)) = first_lent(rest) {
-        let index = pieces.len().saturating_sub(rest.len());
-        put_piece(alloc, text, index, piece)?;
+    let mut left = stitches;
+    while let (Some((piece, more)), Some((its, others))) = (first_lent(rest), first_lent(left)) {
+        put_piece(alloc, text, index, piece, its)?;
+        index += 1;
         rest = more;
+        left = others;
     }
     Ok(())
 }
 
-fn put_piece(alloc: Global, text: &mut Bytes, index: usize, piece: &Piece) -> Result<(), Memory>
-    ensures { OnOk result (text.new ≡ text.old
-        ++ (piece_title index (graph_of piece.now) ++ piece_counts_text (graph_of piece.now))) }
+fn put_piece(
+    alloc: Global,
+    text: &mut Bytes,
+    index: usize,
+    piece: &Piece,
+    stitches: &PieceStitches,
+) -> Result<(), Memory>
+    ensures { OnOk result (text.new ≡ text.old ++ look_piece_line index (graph_of piece.now) stitches.now) }
 {
     let title = piece_start(alloc, piece.block, index)?;
     text.append(title.as_bytes())?;
     let odd = odd_count(alloc, piece)?;
-    let counts = counts_line(alloc, piece.lines.len(), piece.junctions.len(), odd)?;
+    let counts = counts_text(alloc, piece.lines.len(), piece.junctions.len(), odd)?;
     text.append(counts.as_bytes())?;
+    let summary = summary_text(alloc, &stitches.summary)?;
+    text.append(summary.as_bytes())?;
+    let lengths = lengths_line(alloc, stitches.summary.thread, stitches.travel)?;
+    text.append(lengths.as_bytes())?;
     Ok(())
+}
+
+fn summary_text(alloc: Global, summary: &StitchSummary) -> Result<String, Memory>
+    ensures { IfOk result (λ text. string_bytes text ≡ stitches_text summary.now) }
+{
+    let stitches = summary.stitches;
+    let shortest = summary.shortest / 100;
+    let longest = summary.longest / 100;
+    let short = summary.short;
+    let text = format!(in alloc;
+        " stitches {stitches} shortest {shortest} longest {longest} short {short}"
+    )?;
+    Ok(text)
 }
 
 fn piece_start(alloc: Global, block: u32, index: usize) -> Result<String, Memory>
@@ -64,11 +113,11 @@ fn piece_start(alloc: Global, block: u32, index: usize) -> Result<String, Memory
     Ok(text)
 }
 
-fn counts_line(alloc: Global, lines: usize, junctions: usize, odd: usize) -> Result<String, Memory>
+fn counts_text(alloc: Global, lines: usize, junctions: usize, odd: usize) -> Result<String, Memory>
     ensures { IfOk result (λ text. string_bytes text ≡ codes " lines " ++ (decimal lines
-        ++ (codes " junctions " ++ (decimal junctions ++ (codes " odd " ++ (decimal odd ++ newline)))))) }
+        ++ (codes " junctions " ++ (decimal junctions ++ (codes " odd " ++ decimal odd))))) }
 {
-    let text = format!(in alloc; " lines {lines} junctions {junctions} odd {odd}\n")?;
+    let text = format!(in alloc; " lines {lines} junctions {junctions} odd {odd}")?;
     Ok(text)
 }
 

@@ -15,6 +15,7 @@ use drawing_review::review;
 use drawing_text::{DrawnLines, read_drawing, read_lines};
 use line_graph::{Drawing, pieces};
 use outside_io::Store;
+use piece_stitches::piece_stitches;
 use program_shell::{Failure, Product, only_report, read_input};
 use std::alloc::Global;
 
@@ -85,7 +86,13 @@ fn look_product<'a>(
     ensures { IfOk result (λ product. IsLook gap drawing.now drawn.now (product_value product)) }
 {
     let pieces = pieces(alloc, drawing)?;
+    let stitches = piece_stitches(alloc, drawing, pieces.as_slice())?;
     let places = review(alloc, drawn.drawing.step(), gap, drawn.drawing.lines())?;
-    let report = print_look(alloc, pieces.as_slice(), places.as_slice())?;
+    let report = print_look(
+        alloc,
+        pieces.as_slice(),
+        stitches.as_slice(),
+        places.as_slice(),
+    )?;
     Ok(only_report(alloc, report))
 }

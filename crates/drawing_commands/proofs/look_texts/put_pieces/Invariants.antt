@@ -1,12 +1,12 @@
-use Rattle.std.proofs.Common.{◌≡◌, ◌++◌, ◌-◌, ◌≤◌, length}
+use Rattle.std.proofs.Common.{◌≡◌, ◌++◌, ◌+◌, length}
 use Rattle.drawing_commands.specs.LookTexts.{look_piece_lines}
 use Rattle.drawing_commands.proofs.look_texts.put_pieces.Given as goal
 
 -- the lines so far, and those of the pieces that are left
 abbrev pub invariant-loop-piece : goal.invariant-loop-piece
 invariant-loop-piece l = record {
-  within : length l.rest ≤ length l.pieces;
-  lines : l.text ++ look_piece_lines (length l.pieces - length l.rest) l.rest ≡ l.fn.text ++ look_piece_lines 0 l.pieces;
+  numbered : l.index + length l.rest ≡ length l.pieces;
+  lines : l.text ++ look_piece_lines l.index l.rest l.left ≡ l.fn.text ++ look_piece_lines 0 l.pieces l.stitches;
 }
 
 abbrev pub decreases-loop-piece : goal.decreases-loop-piece

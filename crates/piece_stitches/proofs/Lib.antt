@@ -1,0 +1,3 @@
+pub mod SummaryLemmas
+pub mod PieceLemmas
+mod StitchFacts

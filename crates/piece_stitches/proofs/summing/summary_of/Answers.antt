@@ -1,0 +1,16 @@
+use Rattle.std.proofs.Common.{◌∙◌}
+use native.Mathlib.Omega.{arith}
+use Rattle.std.proofs.lemmas.List.Elements.{All-tail}
+use Rattle.piece_stitches.proofs.PieceLemmas.{IsLineOf}
+use Rattle.piece_stitches.proofs.SummaryLemmas.{with_line_first}
+use Rattle.piece_stitches.proofs.summing.summary_of.Goals as goal
+
+pub loop-line-preserved : goal.loop-line-preserved
+loop-line-preserved c = record {
+  there = All-tail (IsLineOf c.args.d.now) c.in-Some.line c.in-Some.after.now
+      (rw c.in-Some.ensures.some at c.loop-line.invariant.there);
+  sound = c.in_ok-summary.ensures.sound;
+  few = omega (arith, c.in_ok-summary.ensures.few, rw c.in-Some.ensures.some at c.loop-line.invariant.few);
+  summed = rw c.in_ok-summary.ensures.value (with_line_first c.args.d.now c.loop-line.summary c.in-Some.line c.in-Some.after.now)
+      ∙ rw c.in-Some.ensures.some at c.loop-line.invariant.summed;
+}
