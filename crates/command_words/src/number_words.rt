@@ -5,7 +5,7 @@ ghost use Rattle.command_words.specs.Arguments.{natural_within, natural_if_withi
 use design_model::{Whole, parse_whole};
 
 /// Parses an integer whose absolute value is at most `most`.
-pub(crate) fn parse_integer(most: u32, word: &[u8]) -> Option<i32>
+pub fn parse_integer(most: u32, word: &[u8]) -> Option<i32>
     ensures value { result ≡ integer_within most (parsed_whole word.now) }
     ensures most { IfSome result (λ number. unsigned_abs number ≤ most) }
 {
