@@ -3,10 +3,11 @@ use Rattle.std.proofs.Common.{◌≡◌, ◌∙◌, ℕ, ◌+◌, Bool, true, fa
 use Rattle.std.specs.Prelude.{is_some, unwrap_or}
 use Rattle.design_model.specs.OutOfMemory.{IsSpecified, UnlessOutOfMemory}
 use Rattle.drawing_edits.specs.declared.drawing_edit.DrawingEdit.{DrawingEdit}
+use Rattle.drawing_edits.specs.declared.edit_fault.EditFault.{EditFault}
 use Rattle.drawing_edits.specs.EditedDrawings.{edited_drawing}
-use Rattle.line_graph.specs.declared.draw_kind.DrawKind.{DrawKind}
+use Rattle.drawing_edits.specs.EditFaults.{edit_is_out_of_memory}
 use Rattle.line_graph.specs.Drawings.{DrawingValue}
-use Rattle.line_graph.specs.GrowingDrawings.{and_then, draw_is_out_of_memory}
+use Rattle.line_graph.specs.GrowingDrawings.{and_then}
 use Rattle.drawing_commands.specs.declared.bad_edit.BadEdit.{BadEdit}
 use Rattle.drawing_commands.specs.DrawingEditing.{at_edit, bad_edit_is_out_of_memory, edits_applied}
 use Rattle.drawing_commands.specs.DrawingEditWords.{drawing_edits_of, parsed_drawing_edit, parsed_drawing_edits, with_first_drawing_edit}
@@ -29,28 +30,28 @@ applied_first : (number : ℕ) (first : Option DrawingEdit) (later : Option (Lis
     → IsSome (with_first_drawing_edit first later) → IfSome first (λ one. edited_drawing one d ≡ Ok next)
     → edits_applied number (unwrap_or (with_first_drawing_edit first later) []) d ≡ edits_applied (number + 1) (unwrap_or later []) next
 applied_first number (Some one) (Some edits) d next some is =
-    ap (λ (r : Result DrawingValue DrawKind). and_then (at_edit number r) (λ mid. edits_applied (number + 1) edits mid)) is
+    ap (λ (r : Result DrawingValue EditFault). and_then (at_edit number r) (λ mid. edits_applied (number + 1) edits mid)) is
 applied_first number (Some one) None d next some is = absurd (let no : ⊥ = cc in no)
 applied_first number None later d next some is = absurd (let no : ⊥ = cc in no)
 
 -- the bad edit of a number
-abbrev bad_at : ℕ → DrawKind → BadEdit
-bad_at number why = record { number = number; kind = why }
+abbrev bad_at : ℕ → EditFault → BadEdit
+bad_at number why = record { number = number; fault = why }
 
-refused_at : (number : ℕ) (b : Bool) (said : Result DrawingValue DrawKind) (edits : List DrawingEdit) (why : DrawKind)
+refused_at : (number : ℕ) (b : Bool) (said : Result DrawingValue EditFault) (edits : List DrawingEdit) (why : EditFault)
     → UnlessOutOfMemory b (said ≡ Err why)
     → UnlessOutOfMemory b (and_then (at_edit number said) (λ mid. edits_applied (number + 1) edits mid) ≡ Err (bad_at number why))
 refused_at number true said edits why out = out
 refused_at number false said edits why is =
-    ap (λ (r : Result DrawingValue DrawKind). and_then (at_edit number r) (λ mid. edits_applied (number + 1) edits mid)) is
+    ap (λ (r : Result DrawingValue EditFault). and_then (at_edit number r) (λ mid. edits_applied (number + 1) edits mid)) is
 
-refused_first : (number : ℕ) (first : Option DrawingEdit) (later : Option (List DrawingEdit)) (d : DrawingValue) (why : DrawKind)
+refused_first : (number : ℕ) (first : Option DrawingEdit) (later : Option (List DrawingEdit)) (d : DrawingValue) (why : EditFault)
     → IsSome (with_first_drawing_edit first later)
-    → IfSome first (λ one. IsSpecified {A = DrawingValue} draw_is_out_of_memory (edited_drawing one d) (Err why))
+    → IfSome first (λ one. IsSpecified {A = DrawingValue} edit_is_out_of_memory (edited_drawing one d) (Err why))
     → IsSpecified bad_edit_is_out_of_memory (edits_applied number (unwrap_or (with_first_drawing_edit first later) []) d)
     (Err (bad_at number why))
 refused_first number (Some one) (Some edits) d why some is =
-    refused_at number (draw_is_out_of_memory why) (edited_drawing one d) edits why is
+    refused_at number (edit_is_out_of_memory why) (edited_drawing one d) edits why is
 refused_first number (Some one) None d why some is = absurd (let no : ⊥ = cc in no)
 refused_first number None later d why some is = absurd (let no : ⊥ = cc in no)
 
@@ -81,10 +82,10 @@ edits_go_on start number words left word more first now next goes is applied =
     }
 
 pub edits_refused : (start number : ℕ) (words left : List (List ℕ)) (word : List ℕ) (more : List (List ℕ)) (first now : DrawingValue)
-    (why : DrawKind) → EditsGoOn start number words left first now → left ≡ word ∷ more
-    → IfSome (parsed_drawing_edit word) (λ one. IsSpecified {A = DrawingValue} draw_is_out_of_memory (edited_drawing one now) (Err why))
+    (why : EditFault) → EditsGoOn start number words left first now → left ≡ word ∷ more
+    → IfSome (parsed_drawing_edit word) (λ one. IsSpecified {A = DrawingValue} edit_is_out_of_memory (edited_drawing one now) (Err why))
     → IsSpecified bad_edit_is_out_of_memory (edits_applied start (drawing_edits_of words) first)
-    (Err (record { number = number; kind = why }))
+    (Err (record { number = number; fault = why }))
 edits_refused start number words left word more first now why goes is refused =
     let on = subst (λ (ws : List (List ℕ)). EditsGoOn start number words ws first now) is goes in
     subst (λ (r : Result DrawingValue BadEdit). IsSpecified bad_edit_is_out_of_memory r (Err (bad_at number why))) on.rest
@@ -104,11 +105,11 @@ edits_from word more d next r some is rest =
     subst (λ (s : Result DrawingValue BadEdit). IsSpecified bad_edit_is_out_of_memory s r)
     (sym (applied_first 1 (parsed_drawing_edit word) (parsed_drawing_edits more) d next some is)) rest
 
-pub first_refused : (word : List ℕ) (more : List (List ℕ)) (d : DrawingValue) (why : DrawKind)
+pub first_refused : (word : List ℕ) (more : List (List ℕ)) (d : DrawingValue) (why : EditFault)
     → IsSome (parsed_drawing_edits (word ∷ more))
-    → IfSome (parsed_drawing_edit word) (λ one. IsSpecified {A = DrawingValue} draw_is_out_of_memory (edited_drawing one d) (Err why))
+    → IfSome (parsed_drawing_edit word) (λ one. IsSpecified {A = DrawingValue} edit_is_out_of_memory (edited_drawing one d) (Err why))
     → IsSpecified bad_edit_is_out_of_memory (edits_applied 1 (drawing_edits_of (word ∷ more)) d)
-    (Err (record { number = 1; kind = why }))
+    (Err (record { number = 1; fault = why }))
 first_refused word more d why some is = refused_first 1 (parsed_drawing_edit word) (parsed_drawing_edits more) d why some is
 
 -- an edit in front of others: the others determine whether all are edits

@@ -1,11 +1,15 @@
 -- Worked values of the arguments of `edit`, and of edits in order.
-use Rattle.std.proofs.Common.{◌≡◌, ℕ, pos, negsuc, [], ◌∷◌, List, Some, None, Err, codes, refl}
+use Rattle.std.proofs.Common.{◌≡◌, ℕ, ℤ, pos, negsuc, [], ◌∷◌, List, Option, Some, None, Ok, Err, codes, refl}
+use Rattle.std.specs.Fmt.{digits}
 use Rattle.design_edits.specs.declared.axis.Axis.TheVariants as axis
 use Rattle.design_edits.specs.declared.motion.Motion.TheVariants as motion
+use Rattle.design_model.specs.declared.point.Point.{Point}
+use Rattle.drawing_edits.specs.declared.drawing_edit.DrawingEdit.{DrawingEdit}
 use Rattle.drawing_edits.specs.declared.drawing_edit.DrawingEdit.TheVariants as edit
+use Rattle.drawing_edits.specs.declared.edit_fault.EditFault.TheVariants as fault
 use Rattle.line_graph.specs.declared.draw_kind.DrawKind.TheVariants as kind
 use Rattle.line_graph.specs.Drawings.{DrawingValue}
-use Rattle.drawing_commands.specs.DrawingEditing.{drawing_edit_order, edits_applied}
+use Rattle.drawing_commands.specs.DrawingEditing.{bad_edit_text, drawing_edit_order, edit_fault_text, edits_applied}
 use Rattle.drawing_commands.specs.DrawingEditWords.{parsed_drawing_edit, parsed_drawing_edits}
 use Rattle.drawing_commands.specs.Requests.{drawing_order_of, editing}
 
@@ -15,6 +19,11 @@ pub known_drawing_edits : parsed_drawing_edits (codes "shift=-5,70" ∷ codes "t
     ∷ edit.Centre ∷ edit.Step 2047 ∷ [])
 known_drawing_edits = refl
 
+pub known_piece_edits : parsed_drawing_edits (codes "order=12,1" ∷ codes "start=-5,70" ∷ codes "end=30000,-30000" ∷ [])
+    ≡ Some (edit.Order 12 1 ∷ edit.Start (record { x = negsuc 4; y = pos 70 })
+    ∷ edit.End (record { x = pos 30000; y = negsuc 29999 }) ∷ [])
+known_piece_edits = refl
+
 -- no edits of a drawing
 abbrev IsNoEdit : List ℕ → Type 0
 IsNoEdit word = parsed_drawing_edit word ≡ None
@@ -22,6 +31,26 @@ IsNoEdit word = parsed_drawing_edit word ≡ None
 pub known_no_edits : IsNoEdit (codes "step=0") × IsNoEdit (codes "step=2048") × IsNoEdit (codes "step") × IsNoEdit (codes "centre=")
     × IsNoEdit (codes "thread=1,2") × IsNoEdit (codes "turn=4") × IsNoEdit (codes "shift=60001,0")
 known_no_edits = (refl, refl, refl, refl, refl, refl, refl)
+
+pub known_no_orders : IsNoEdit (codes "order=0,1") × IsNoEdit (codes "order=1,0") × IsNoEdit (codes "order=1")
+    × IsNoEdit (codes "order=1,2,3") × IsNoEdit (codes "order=1,1025")
+known_no_orders = (refl, refl, refl, refl, refl)
+
+pub known_no_points : IsNoEdit (codes "start=30001,0") × IsNoEdit (codes "start=5") × IsNoEdit (codes "end=,3")
+    × IsNoEdit (codes "end") × IsNoEdit (codes "ende=1,2")
+known_no_points = (refl, refl, refl, refl, refl)
+
+-- the text about an edit that is refused, and the names of the other faults
+pub known_no_piece : bad_edit_text (codes "a.rw") (record { number = 2; fault = fault.NoPiece 10 })
+    ≡ codes "a.rw: edit 2: no piece 10"
+unfolding digits
+known_no_piece = refl
+
+pub known_fault_texts : (edit_fault_text fault.TwoBlocks ≡ codes "two blocks list the point")
+    × (edit_fault_text fault.SamePiece ≡ codes "both pieces are one")
+    × (edit_fault_text fault.OtherBlock ≡ codes "pieces in different blocks")
+    × (edit_fault_text (fault.Draw kind.NoJunction) ≡ codes "not a junction")
+known_fault_texts = (refl, refl, refl, refl)
 
 -- an order, and arguments that are none
 pub known_edit_order : drawing_order_of (codes "edit" ∷ codes "a.rw" ∷ codes "b.rw" ∷ codes "centre" ∷ [])
@@ -47,5 +76,5 @@ wide = record {
 -- the second edit is refused, by its number
 pub known_second_refused : edits_applied 1
     (edit.Move (motion.Shift (negsuc 0) (pos 0)) ∷ edit.Move (motion.Shift (pos 2) (pos 0)) ∷ []) wide
-    ≡ Err (record { number = 2; kind = kind.OutOfRange })
+    ≡ Err (record { number = 2; fault = fault.Draw kind.OutOfRange })
 known_second_refused = refl

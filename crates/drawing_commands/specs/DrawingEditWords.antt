@@ -1,12 +1,15 @@
 -- The edits of a drawing that arguments represent: `shift=DX,DY`, `turn=Q`, `mirror=x` and
--- `mirror=y` as of a design, `centre`, and `step=N`.
-use Rattle.std.specs.Prelude.{ℕ, List, [], ◌∷◌, Option, Some, None, bytes_eq, codes, unwrap_or, if◌then◌else◌}
-use Rattle.command_words.specs.Arguments.{equals_sign, natural_within, parsed_edit, split_at_byte}
+-- `mirror=y` as of a design, `centre`, `step=N`, `order=P,Q`, `start=X,Y` and `end=X,Y`.
+use Rattle.std.specs.Prelude.{ℕ, ℤ, List, [], ◌∷◌, Option, Some, None, bytes_eq, codes, option_map, unwrap_or, if◌then◌else◌}
+use Rattle.command_words.specs.Arguments.{comma, equals_sign, integer_within, natural_within, parsed_edit, split_at_byte}
 use Rattle.command_words.specs.Changes.{Change, mirror, shift, turn}
 use Rattle.design_edits.specs.declared.motion.Motion.TheVariants as motion
+use Rattle.design_model.specs.declared.point.Point.{Point}
+use Rattle.design_model.specs.declared.point.TheConstants.{NEEDLE_LIMIT}
 use Rattle.design_model.specs.WholeNumbers.{parsed_whole}
 use Rattle.drawing_edits.specs.declared.drawing_edit.DrawingEdit.{DrawingEdit}
 use Rattle.drawing_edits.specs.declared.drawing_edit.DrawingEdit.TheVariants as edit
+use Rattle.line_graph.specs.declared.limits.TheConstants.{MAX_LINES}
 use Rattle.step_splitter.specs.declared.segment.TheConstants.{MAX_STEP}
 
 -- The edit of a drawing that a change of a design is, if it moves points.
@@ -22,19 +25,53 @@ abbrev pub step_edit_of : Option ℕ → Option DrawingEdit
 step_edit_of None = None
 step_edit_of (Some step) = Some (edit.Step step)
 
--- The edit of an argument with the given parts before and after the equals sign.
-abbrev pub parsed_step_or_move : List ℕ → Option (List ℕ × List ℕ) → Option DrawingEdit
-parsed_step_or_move word None = None
-parsed_step_or_move word (Some (name, value)) =
+-- The edit that orders two pieces, if there are both numbers.
+abbrev pub order_if_both : Option ℕ → Option ℕ → Option DrawingEdit
+order_if_both (Some first) (Some second) = Some (edit.Order first second)
+order_if_both None second = None
+order_if_both (Some first) None = None
+
+-- The order of two pieces by the numbers before and after a comma, each from 1 to MAX_LINES.
+abbrev pub parsed_order : Option (List ℕ × List ℕ) → Option DrawingEdit
+parsed_order None = None
+parsed_order (Some (first, second)) =
+    order_if_both (natural_within 1 MAX_LINES (parsed_whole first))
+    (natural_within 1 MAX_LINES (parsed_whole second))
+
+-- The point with two coordinates, if there are both.
+abbrev pub point_if_both : Option ℤ → Option ℤ → Option Point
+point_if_both (Some x) (Some y) = Some (record { x = x; y = y })
+point_if_both None y = None
+point_if_both (Some x) None = None
+
+-- The point by the numbers before and after a comma, each at most NEEDLE_LIMIT in absolute value.
+abbrev pub parsed_coordinates : Option (List ℕ × List ℕ) → Option Point
+parsed_coordinates None = None
+parsed_coordinates (Some (x, y)) = point_if_both (integer_within NEEDLE_LIMIT (parsed_whole x))
+    (integer_within NEEDLE_LIMIT (parsed_whole y))
+
+-- The edit of an argument with the given name before the equals sign and value after it.
+abbrev pub parsed_named_drawing_edit : List ℕ → (name value : List ℕ) → Option DrawingEdit
+parsed_named_drawing_edit word name value =
     if bytes_eq name (codes "step")
     then step_edit_of (natural_within 1 MAX_STEP (parsed_whole value))
+    else if bytes_eq name (codes "order") then parsed_order (split_at_byte comma value)
+    else if bytes_eq name (codes "start")
+    then option_map edit.Start (parsed_coordinates (split_at_byte comma value))
+    else if bytes_eq name (codes "end")
+    then option_map edit.End (parsed_coordinates (split_at_byte comma value))
     else moving_edit (parsed_edit word)
+
+-- The edit of an argument with the given parts before and after the equals sign.
+abbrev pub parsed_drawing_edit_parts : List ℕ → Option (List ℕ × List ℕ) → Option DrawingEdit
+parsed_drawing_edit_parts word None = None
+parsed_drawing_edit_parts word (Some (name, value)) = parsed_named_drawing_edit word name value
 
 -- The edit of a drawing that an argument represents, if it represents one.
 abbrev pub parsed_drawing_edit : List ℕ → Option DrawingEdit
 parsed_drawing_edit word =
     if bytes_eq word (codes "centre") then Some edit.Centre
-    else parsed_step_or_move word (split_at_byte equals_sign word)
+    else parsed_drawing_edit_parts word (split_at_byte equals_sign word)
 
 -- The list of edits with one more in front, if both exist.
 abbrev pub with_first_drawing_edit : Option DrawingEdit → Option (List DrawingEdit)

@@ -1,14 +1,16 @@
 -- The command `edit`: a drawing is read, edited, and written with its lines cut where they meet.
 -- Edits are numbered from 1. Costs count steps.
-use Rattle.std.specs.Prelude.{◌≡◌, ℕ, ◌+◌, ◌==◌, ◌&&◌, Bool, List, [], ◌∷◌, Result, Ok, Err, codes, length, if◌then◌else◌}
+use Rattle.std.specs.Prelude.{◌≡◌, ℕ, ◌+◌, ◌==◌, ◌&&◌, Bool, List, [], ◌∷◌, ◌++◌, Result, Ok, Err, codes, decimal, length, if◌then◌else◌}
 use Rattle.drawing_edits.specs.declared.drawing_edit.DrawingEdit.{DrawingEdit}
+use Rattle.drawing_edits.specs.declared.edit_fault.EditFault.{EditFault}
+use Rattle.drawing_edits.specs.declared.edit_fault.EditFault.TheVariants as fault
 use Rattle.drawing_edits.specs.EditedDrawings.{edited_drawing}
+use Rattle.drawing_edits.specs.EditFaults.{edit_is_out_of_memory}
 use Rattle.drawing_text.specs.CanonicalTexts.{canonical_text2}
 use Rattle.drawing_text.specs.DrawingText.{drawing_of}
 use Rattle.drawing_text.specs.EndTexts.{canonical_text3}
-use Rattle.line_graph.specs.declared.draw_kind.DrawKind.{DrawKind}
 use Rattle.line_graph.specs.Drawings.{DrawingValue}
-use Rattle.line_graph.specs.GrowingDrawings.{and_then, draw_is_out_of_memory, step_count}
+use Rattle.line_graph.specs.GrowingDrawings.{and_then, step_count}
 use Rattle.line_graph.specs.Pieces.{ArePieces}
 use Rattle.program_shell.specs.FileTexts.{text_at}
 use Rattle.program_shell.specs.Plans.{Plan, accepts, reads, refuses}
@@ -29,9 +31,9 @@ abbrev pub drawing_edit_order : (input output : List ℕ) → List DrawingEdit �
 drawing_edit_order input output edits = record { input = input; output = output; edits = edits }
 
 -- The result of an edit, whose fault gets the edit's number.
-abbrev pub at_edit : ℕ → Result DrawingValue DrawKind → Result DrawingValue BadEdit
+abbrev pub at_edit : ℕ → Result DrawingValue EditFault → Result DrawingValue BadEdit
 at_edit number (Ok d) = Ok d
-at_edit number (Err why) = Err (record { number = number; kind = why })
+at_edit number (Err why) = Err (record { number = number; fault = why })
 
 -- The drawing after edits in order, the first of which has the given number. The first refused edit
 -- determines the fault.
@@ -42,11 +44,19 @@ edits_applied number (one ∷ rest) d =
 
 -- A bad edit is out of memory.
 abbrev pub bad_edit_is_out_of_memory : BadEdit → Bool
-bad_edit_is_out_of_memory bad = draw_is_out_of_memory bad.kind
+bad_edit_is_out_of_memory bad = edit_is_out_of_memory bad.fault
+
+-- The name of a fault of an edit. Pieces are numbered from 1.
+abbrev pub edit_fault_text : EditFault → List ℕ
+edit_fault_text (fault.Draw why) = draw_kind_text why
+edit_fault_text fault.TwoBlocks = codes "two blocks list the point"
+edit_fault_text (fault.NoPiece number) = codes "no piece " ++ decimal number
+edit_fault_text fault.SamePiece = codes "both pieces are one"
+edit_fault_text fault.OtherBlock = codes "pieces in different blocks"
 
 -- The text about an edit that is refused.
 abbrev pub bad_edit_text : List ℕ → BadEdit → List ℕ
-bad_edit_text name bad = text_at name (codes "edit") bad.number (draw_kind_text bad.kind)
+bad_edit_text name bad = text_at name (codes "edit") bad.number (edit_fault_text bad.fault)
 
 -- The canonical text of a joined drawing: version 3 where it has a start or an end, else version 2.
 abbrev pub joined_text : DrawingValue → List ℕ

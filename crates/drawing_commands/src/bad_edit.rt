@@ -1,9 +1,8 @@
-use line_graph::DrawKind;
+use drawing_edits::EditFault;
 
-/// An edit that is refused: its number, counted from 1, and what is wrong with the edited lines; or out of
-/// memory.
+/// An edit that is refused: its number, counted from 1, and why; or out of memory.
 #[derive(Clone, Copy)]
 pub struct BadEdit {
     pub number: u64,
-    pub kind: DrawKind,
+    pub fault: EditFault,
 }

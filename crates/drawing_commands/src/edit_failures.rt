@@ -1,13 +1,16 @@
-ghost use Rattle.std.specs.Prelude.{◌≡◌};
+ghost use Rattle.std.specs.Prelude.{◌≡◌, ◌++◌, IfOk, codes, decimal, string_bytes};
 ghost use Rattle.drawing_commands.specs.DrawingEditing.{bad_edit_text};
 ghost use Rattle.drawing_commands.specs.EditFailures.{IsEditFailure};
+ghost use Rattle.drawing_edits.specs.EditFaults.{edit_is_out_of_memory};
 ghost use Rattle.line_graph.specs.GrowingDrawings.{draw_is_out_of_memory};
+ghost use Rattle.program_shell.specs.FileTexts.{text_at};
 ghost use Rattle.program_shell.specs.StepOutcomes.{IsRefusalWith};
 
 use crate::bad_edit::BadEdit;
 use design_model::Memory;
+use drawing_edits::EditFault;
 use line_graph::DrawKind;
-use program_shell::Failure;
+use program_shell::{Failure, describe_part};
 use program_texts::describe_kind;
 use std::alloc::Global;
 
@@ -15,17 +18,17 @@ use std::alloc::Global;
 pub(crate) fn edit_failure<'a>(alloc: Global, name: &str, bad: BadEdit) -> Failure<'a>
     ensures { IsEditFailure name.now bad result }
 {
-    if is_memory(bad.kind) {
+    if is_memory(bad.fault) {
         return Failure::Memory;
     }
     bad_edit(alloc, name, bad)
 }
 
-fn is_memory(kind: DrawKind) -> bool
-    ensures { result ≡ draw_is_out_of_memory kind }
+fn is_memory(fault: EditFault) -> bool
+    ensures { result ≡ edit_is_out_of_memory fault }
 {
-    match kind {
-        DrawKind::Memory => true,
+    match fault {
+        EditFault::Draw(DrawKind::Memory) => true,
         _ => false,
     }
 }
@@ -34,8 +37,45 @@ fn is_memory(kind: DrawKind) -> bool
 fn bad_edit<'a>(alloc: Global, name: &str, bad: BadEdit) -> Failure<'a>
     ensures { IsRefusalWith (bad_edit_text name.now bad) result }
 {
-    match describe_kind(alloc, name, "edit", bad.number, bad.kind) {
+    match describe_edit(alloc, name, bad) {
         Ok(text) => Failure::Refused(text),
         Err(Memory) => Failure::Memory,
     }
+}
+
+fn describe_edit(alloc: Global, name: &str, bad: BadEdit) -> Result<String, Memory>
+    ensures { IfOk result (λ text. string_bytes text ≡ bad_edit_text name.now bad) }
+{
+    match bad.fault {
+        EditFault::Draw(kind) => describe_kind(alloc, name, "edit", bad.number, kind),
+        EditFault::TwoBlocks => {
+            describe_part(alloc, name, "edit", bad.number, "two blocks list the point")
+        }
+        EditFault::NoPiece(number) => describe_no_piece(alloc, name, bad.number, number),
+        EditFault::SamePiece => describe_part(
+            alloc,
+            name,
+            "edit",
+            bad.number,
+            "both pieces are one",
+        ),
+        EditFault::OtherBlock => {
+            describe_part(
+                alloc,
+                name,
+                "edit",
+                bad.number,
+                "pieces in different blocks",
+            )
+        }
+    }
+}
+
+/// Returns the text about an edit that names a piece that there isn't.
+fn describe_no_piece(alloc: Global, name: &str, edit: u64, piece: u32) -> Result<String, Memory>
+    ensures { IfOk result (λ text.
+        string_bytes text ≡ text_at name.now (codes "edit") edit (codes "no piece " ++ decimal piece)) }
+{
+    let text = format!(in alloc; "{name}: edit {edit}: no piece {piece}")?;
+    Ok(text)
 }

@@ -3,8 +3,8 @@ ghost use Rattle.design_model.specs.OutOfMemory.{IsSpecified};
 ghost use Rattle.drawing_commands.specs.DrawingEditing.{IsEdited, bad_edit_is_out_of_memory, drawing_edit_order, drawing_edit_plan, drawing_edit_read, edited_plan, edits_applied, joined_text};
 ghost use Rattle.drawing_commands.specs.DrawingEditWords.{drawing_edits_of, parsed_drawing_edit, parsed_drawing_edits};
 ghost use Rattle.drawing_edits.specs.EditedDrawings.{edited_drawing};
+ghost use Rattle.drawing_edits.specs.EditFaults.{edit_is_out_of_memory};
 ghost use Rattle.drawing_text.specs.declared.limits.TheConstants.{MAX_TEXT};
-ghost use Rattle.line_graph.specs.GrowingDrawings.{draw_is_out_of_memory};
 ghost use Rattle.line_graph.specs.JoinedDrawings.{is_joined};
 ghost use Rattle.outside_io.specs.Files.{IsFileName};
 ghost use Rattle.program_shell.specs.Plans.{accepts};
@@ -15,10 +15,10 @@ use crate::bad_edit::BadEdit;
 use crate::drawing_edit_words::parse_drawing_edit;
 use crate::edit_failures::edit_failure;
 use design_model::{Bytes, Memory};
-use drawing_edits::edit_drawing;
+use drawing_edits::{EditFault, edit_drawing};
 use drawing_inputs::drawing_failure;
 use drawing_text::{print_drawing2, print_drawing3, read_drawing};
-use line_graph::{DrawKind, Drawing, drawing_cost, pieces};
+use line_graph::{Drawing, drawing_cost, pieces};
 use outside_io::Store;
 use program_shell::{Failure, Output, Product, one_output, read_input};
 use program_texts::print_migration;
@@ -111,7 +111,7 @@ fn edited_from(
 {
     match apply_word(alloc, drawing, first) {
         Ok(once) => edited_on(alloc, once, rest),
-        Err(kind) => Err(BadEdit { number: 1, kind }),
+        Err(fault) => Err(BadEdit { number: 1, fault }),
     }
 }
 
@@ -128,7 +128,7 @@ fn edited_on(alloc: Global, once: Drawing, words: &[String]) -> Result<Drawing, 
     for word in words {
         match apply_word(alloc, &edited, word.as_bytes()) {
             Ok(next) => edited = next,
-            Err(kind) => return Err(BadEdit { number, kind }),
+            Err(fault) => return Err(BadEdit { number, fault }),
         }
         number += 1;
     }
@@ -136,10 +136,10 @@ fn edited_on(alloc: Global, once: Drawing, words: &[String]) -> Result<Drawing, 
 }
 
 /// Applies the edit that an argument represents.
-fn apply_word(alloc: Global, drawing: &Drawing, word: &[u8]) -> Result<Drawing, DrawKind>
+fn apply_word(alloc: Global, drawing: &Drawing, word: &[u8]) -> Result<Drawing, EditFault>
     requires { IsSome (parsed_drawing_edit word.now) }
     ensures answer { IfSome (parsed_drawing_edit word.now)
-        (λ one. IsSpecified draw_is_out_of_memory (edited_drawing one drawing.now) result) }
+        (λ one. IsSpecified edit_is_out_of_memory (edited_drawing one drawing.now) result) }
     ensures joined { IfOk result (λ new. is_joined new ≡ true) }
 {
     match parse_drawing_edit(word) {

@@ -6,6 +6,7 @@ use Rattle.design_model.specs.declared.point.Point.{Point}
 use Rattle.line_graph.specs.declared.draw_kind.DrawKind.TheVariants as kind
 use Rattle.line_graph.specs.Drawings.{DrawingValue}
 use Rattle.drawing_edits.specs.declared.drawing_edit.DrawingEdit.TheVariants as edit
+use Rattle.drawing_edits.specs.declared.edit_fault.EditFault.TheVariants as fault
 use Rattle.drawing_edits.specs.EditedDrawings.{edited_drawing}
 use Rattle.drawing_edits.specs.MovedDrawings.{centred_drawing, middle_of, mirrored_drawing, shifted_drawing, turned_drawing}
 use Rattle.drawing_edits.specs.RedrawnDrawings.{redrawn}
@@ -55,7 +56,7 @@ pub known_redrawn : redrawn sample ≡ Ok sample
 known_redrawn = refl
 
 -- a shift by one too far
-pub known_shift_out : edited_drawing (edit.Move (motion.Shift (pos 29961) (pos 0))) sample ≡ Err kind.OutOfRange
+pub known_shift_out : edited_drawing (edit.Move (motion.Shift (pos 29961) (pos 0))) sample ≡ Err (fault.Draw kind.OutOfRange)
 known_shift_out = refl
 
 pub known_shift_in : edited_drawing (edit.Move (motion.Shift (pos 29960) (pos 0))) sample

@@ -1,10 +1,19 @@
-//! Edits of a drawing: shifts, turns, mirrorings, centring, and another longest step.
+//! Edits of a drawing: shifts, turns, mirrorings, centring, another longest step, starts and ends at points, and
+//! another order of the pieces.
 #![tactic(auto)]
 
 mod drawing_edit;
 mod drawing_extent;
+mod edit_fault;
+mod line_cuts;
+mod line_lists;
 mod moved_lines;
+mod order_theorems;
+mod piece_orders;
+mod placed_ends;
 mod redrawing;
 
 pub use drawing_edit::{DrawingEdit, edit_drawing};
+pub use edit_fault::EditFault;
+pub use order_theorems::{orders_keep_lines, pieces_in_order_are_pieces};
 pub use redrawing::{draw_lines, joined_with_ends, redraw};

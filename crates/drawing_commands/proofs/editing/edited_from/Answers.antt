@@ -1,7 +1,11 @@
 use Rattle.std.proofs.Common.{map, string_bytes}
 use Rattle.drawing_commands.specs.DrawingEditWords.{parsed_drawing_edit, parsed_drawing_edits}
-use Rattle.drawing_commands.proofs.DrawingEditLemmas.{edits_from, first_refused, later_parsed}
+use Rattle.drawing_commands.proofs.DrawingEditLemmas.{edits_from, first_parsed, first_refused, later_parsed}
 use Rattle.drawing_commands.proofs.editing.edited_from.Goals as goal
+
+pub apply_word-requires : goal.apply_word-requires
+apply_word-requires c = first_parsed (parsed_drawing_edit c.args.first.now)
+    (parsed_drawing_edits (map (λ word. string_bytes word) c.args.rest.now)) c.requires.edits
 
 pub edited_on-requires-clause-edits : goal.edited_on-requires-clause-edits
 edited_on-requires-clause-edits c = later_parsed (parsed_drawing_edit c.args.first.now)
@@ -13,4 +17,4 @@ returns-in-Ok-clause-answer c = edits_from c.args.first.now (map (λ word. strin
 
 pub returns-in-Err-clause-answer : goal.returns-in-Err-clause-answer
 returns-in-Err-clause-answer c = first_refused c.args.first.now (map (λ word. string_bytes word) c.args.rest.now)
-    c.args.drawing.now c.in-Err.kind c.requires.edits c.in-Err.ensures.answer
+    c.args.drawing.now c.in-Err.fault c.requires.edits c.in-Err.ensures.answer

@@ -1,7 +1,11 @@
 use Rattle.std.proofs.Common.{map, string_bytes, arith}
 use Rattle.std.proofs.lemmas.List.{at_drop_more}
-use Rattle.drawing_commands.proofs.DrawingEditLemmas.{edits_go_on, edits_refused}
+use Rattle.drawing_commands.proofs.DrawingEditLemmas.{edits_go_on, edits_refused, next_parsed}
 use Rattle.drawing_commands.proofs.editing.edited_on.Goals as goal
+
+pub apply_word-requires : goal.apply_word-requires
+apply_word-requires c = rw (c.as_bytes.ensures.value, c.word-item.is) (next_parsed 2 _ _ _ _ _ _ _ c.loop-word.invariant.goes
+    (at_drop_more (λ words. map (λ word. string_bytes word) words) c.args.words.now c.loop-word.word-index _ c.loop-word-test.true))
 
 pub returns-in-Err-clause-answer : goal.returns-in-Err-clause-answer
 returns-in-Err-clause-answer c = edits_refused 2 _ _ _ _ _ _ _ _ c.loop-word.invariant.goes

@@ -1,0 +1,125 @@
+-- Worked values of starts put at points, and of pieces put in another order.
+use Rattle.std.proofs.Common.{◌≡◌, ℕ, pos, List, [], ◌∷◌, Ok, Err, true, false, refl}
+use Rattle.design_model.specs.declared.point.Point.{Point}
+use Rattle.line_graph.specs.declared.draw_kind.DrawKind.TheVariants as kind
+use Rattle.line_graph.specs.Drawings.{DrawingValue}
+use Rattle.line_sections.specs.declared.spot.Spot.{Spot}
+use Rattle.line_sections.specs.Lines.{LineValue}
+use Rattle.drawing_edits.specs.declared.edit_fault.EditFault.TheVariants as fault
+use Rattle.drawing_edits.specs.PlacedEnds.{end_placed}
+use Rattle.drawing_edits.specs.PieceOrders.{order_with_piece, piece_put_before, pieces_in_order}
+
+-- the point with those numbers
+abbrev spot_point : ℕ → ℕ → Point
+spot_point x y = record { x = pos x; y = pos y }
+
+-- a line of a block
+abbrev line_in : ℕ → List Point → LineValue
+line_in block points = record { block = block; points = points }
+
+-- a spot of a block
+abbrev spot_in : ℕ → Point → Spot
+spot_in block p = record { block = block; at = p }
+
+-- a drawing of lines in two blocks, without ends
+abbrev of_lines : List LineValue → List Spot → List Spot → DrawingValue
+of_lines lines starts ends = record {
+  label = 65 ∷ [];
+  step = 25;
+  threads = 7 ∷ 8 ∷ [];
+  lines = lines;
+  starts = starts;
+  ends = ends;
+}
+
+-- the bar of a T through three points, and a line of another block
+abbrev bar : LineValue
+bar = line_in 0 (spot_point 0 0 ∷ spot_point 10 0 ∷ spot_point 20 0 ∷ [])
+
+abbrev side : LineValue
+side = line_in 1 (spot_point 50 0 ∷ spot_point 50 9 ∷ [])
+
+-- an end of a line becomes a start, and nothing is cut
+pub known_start_at_end : end_placed true (spot_point 50 9) (of_lines (bar ∷ side ∷ []) [] [])
+    ≡ Ok (of_lines (bar ∷ side ∷ []) (spot_in 1 (spot_point 50 9) ∷ []) [])
+known_start_at_end = refl
+
+-- a start inside a line cuts it in two, and comes after the starts before
+pub known_start_inside : end_placed true (spot_point 10 0)
+    (of_lines (bar ∷ side ∷ []) (spot_in 1 (spot_point 50 9) ∷ []) [])
+    ≡ Ok (of_lines (line_in 0 (spot_point 0 0 ∷ spot_point 10 0 ∷ [])
+    ∷ line_in 0 (spot_point 10 0 ∷ spot_point 20 0 ∷ []) ∷ side ∷ [])
+    (spot_in 1 (spot_point 50 9) ∷ spot_in 0 (spot_point 10 0) ∷ []) [])
+known_start_inside = refl
+
+-- an end that a line lists twice inside cuts it twice
+abbrev loop_line : LineValue
+loop_line = line_in 0 (spot_point 0 0 ∷ spot_point 10 0 ∷ spot_point 10 9 ∷ spot_point 10 0 ∷ spot_point 20 0 ∷ [])
+
+pub known_end_twice : end_placed false (spot_point 10 0) (of_lines (loop_line ∷ side ∷ []) [] [])
+    ≡ Ok (of_lines (line_in 0 (spot_point 0 0 ∷ spot_point 10 0 ∷ [])
+    ∷ line_in 0 (spot_point 10 0 ∷ spot_point 10 9 ∷ spot_point 10 0 ∷ [])
+    ∷ line_in 0 (spot_point 10 0 ∷ spot_point 20 0 ∷ []) ∷ side ∷ [])
+    [] (spot_in 0 (spot_point 10 0) ∷ []))
+known_end_twice = refl
+
+-- the foot of a T becomes its start, and the bar is cut where the stem meets it
+abbrev stem : LineValue
+stem = line_in 0 (spot_point 10 0 ∷ spot_point 10 30 ∷ [])
+
+pub known_start_of_t : end_placed true (spot_point 10 30) (of_lines (bar ∷ stem ∷ side ∷ []) [] [])
+    ≡ Ok (of_lines (line_in 0 (spot_point 0 0 ∷ spot_point 10 0 ∷ [])
+    ∷ line_in 0 (spot_point 10 0 ∷ spot_point 20 0 ∷ []) ∷ stem ∷ side ∷ [])
+    (spot_in 0 (spot_point 10 30) ∷ []) [])
+known_start_of_t = refl
+
+-- no line lists the point, though one passes through it
+pub known_no_point : end_placed false (spot_point 5 0) (of_lines (bar ∷ side ∷ []) [] []) ≡ Err (fault.Draw kind.NoJunction)
+known_no_point = refl
+
+-- two blocks list the point
+pub known_two_blocks : end_placed true (spot_point 0 0) (of_lines (bar
+    ∷ line_in 1 (spot_point 0 0 ∷ spot_point 0 9 ∷ []) ∷ []) [] []) ≡ Err fault.TwoBlocks
+known_two_blocks = refl
+
+-- the piece has an end already
+pub known_end_repeated : end_placed false (spot_point 10 0)
+    (of_lines (bar ∷ side ∷ []) [] (spot_in 0 (spot_point 0 0) ∷ [])) ≡ Err (fault.Draw kind.EndRepeated)
+known_end_repeated = refl
+
+-- two squares of one block, and a line of another block
+abbrev square_at : ℕ → ℕ → LineValue
+square_at left right =
+    line_in 0 (spot_point left 0 ∷ spot_point right 0 ∷ spot_point right 5 ∷ spot_point left 5 ∷ spot_point left 0 ∷ [])
+
+abbrev squares : DrawingValue
+squares = of_lines (square_at 0 5 ∷ square_at 20 25 ∷ side ∷ []) [] []
+
+-- the pieces of two lines that share an end, and of two squares
+pub known_pieces_in_order : pieces_in_order (of_lines (square_at 0 5 ∷ line_in 0 (spot_point 9 9 ∷ spot_point 8 8 ∷ [])
+    ∷ line_in 0 (spot_point 0 0 ∷ spot_point 0 9 ∷ []) ∷ side ∷ []) [] []) ≡ (0 ∷ 2 ∷ []) ∷ (1 ∷ []) ∷ (3 ∷ []) ∷ []
+known_pieces_in_order = refl
+
+-- a piece of two lines moves to just before the first line of the piece between them
+pub known_order_with_piece : order_with_piece (1 ∷ 4 ∷ []) 0 5 ≡ 1 ∷ 4 ∷ 0 ∷ 2 ∷ 3 ∷ []
+known_order_with_piece = refl
+
+pub known_order_between : order_with_piece (3 ∷ []) 2 5 ≡ 0 ∷ 1 ∷ 3 ∷ 2 ∷ 4 ∷ []
+known_order_between = refl
+
+-- the second square before the first
+pub known_order : piece_put_before 2 1 squares ≡ Ok (of_lines (square_at 20 25 ∷ square_at 0 5 ∷ side ∷ []) [] [])
+known_order = refl
+
+-- the first square is sewn before the second already
+pub known_order_there : piece_put_before 1 2 squares ≡ Ok squares
+known_order_there = refl
+
+pub known_no_piece : piece_put_before 4 1 squares ≡ Err (fault.NoPiece 4)
+known_no_piece = refl
+
+pub known_same_piece : piece_put_before 2 2 squares ≡ Err fault.SamePiece
+known_same_piece = refl
+
+pub known_other_block : piece_put_before 3 1 squares ≡ Err fault.OtherBlock
+known_other_block = refl

@@ -1,0 +1,21 @@
+ghost use Rattle.std.specs.Prelude.{◌≡◌, ◌∷◌, ◌++◌, [], OnOk};
+
+use design_model::{Items, Memory, Point, Points};
+use line_graph::Line;
+use std::alloc::Global;
+
+/// Adds a line of a block through the given points, in tenths of a millimetre.
+pub fn put_line(
+    alloc: Global,
+    block: u32,
+    points: &[Point],
+    lines: &mut Items<Line>,
+) -> Result<(), Memory>
+    ensures { OnOk result
+        (lines.new ≡ lines.old ++ record { block = block; points = points.now } ∷ []) }
+{
+    let mut copy = Points::new(alloc);
+    copy.append(points)?;
+    lines.push(Line::new(block, copy))?;
+    Ok(())
+}
