@@ -19,7 +19,7 @@ type Run = (
 const USAGE: &str =
     "usage: stitch_drawing look DRAWING [GAP]\n       stitch_drawing snap GAP DRAWING OUT\n       stitch_drawing edit DRAWING OUT EDIT...\n";
 
-const FILES: [(&str, &str); 3] = [
+const FILES: [(&str, &str); 4] = [
     (
         "ok.rw",
         "redwork 1\nname T\nstep 10\ncolor 1\nline 0 0 40 0 80 0\nline 40 0 40 40\n",
@@ -32,9 +32,13 @@ const FILES: [(&str, &str); 3] = [
         "long.rw",
         "redwork 2\ncolor 1\nline -30000 0 30000 0\nline -30000 1 30000 1\nline -30000 2 30000 2\nline -30000 3 30000 3\n",
     ),
+    (
+        "pieces.rw",
+        "redwork 2\nstep 10\ncolor 1\nline 0 0 40 0 80 0\nline 100 0 140 0 140 40 100 40 100 0\ncolor 2\nline 0 0 0 20\n",
+    ),
 ];
 
-const RUNS: [Run; 13] = [
+const RUNS: [Run; 28] = [
     (
         "ok.rw",
         &["shift=5,-3"],
@@ -83,6 +87,98 @@ const RUNS: [Run; 13] = [
         "stitch_drawing: long.rw: edit 1: more than 200000 steps\n",
         "",
     ),
+    (
+        "pieces.rw",
+        &["order=2,1"],
+        0,
+        "lines 3 pieces 3 cost 26\n",
+        "",
+        "redwork 2\nstep 10\ncolor 1\nline 100 0 140 0 140 40 100 40 100 0\nline 0 0 40 0 80 0\ncolor 2\nline 0 0 0 20\n",
+    ),
+    (
+        "pieces.rw",
+        &["order=1,2"],
+        0,
+        "lines 3 pieces 3 cost 26\n",
+        "",
+        "redwork 2\nstep 10\ncolor 1\nline 0 0 40 0 80 0\nline 100 0 140 0 140 40 100 40 100 0\ncolor 2\nline 0 0 0 20\n",
+    ),
+    (
+        "pieces.rw",
+        &["end=80,0", "start=40,0"],
+        0,
+        "lines 4 pieces 3 cost 26\n",
+        "",
+        "redwork 3\nstep 10\ncolor 1\nline 0 0 40 0\nline 40 0 80 0\nline 100 0 140 0 140 40 100 40 100 0\nstart 40 0\nend 80 0\ncolor 2\nline 0 0 0 20\n",
+    ),
+    (
+        "pieces.rw",
+        &["start=140,40", "order=2,1", "shift=0,-1"],
+        0,
+        "lines 4 pieces 3 cost 26\n",
+        "",
+        "redwork 3\nstep 10\ncolor 1\nline 100 -1 140 -1 140 39\nline 140 39 100 39 100 -1\nline 0 -1 40 -1 80 -1\nstart 140 39\ncolor 2\nline 0 -1 0 19\n",
+    ),
+    (
+        "pieces.rw",
+        &["order=4,1"],
+        1,
+        "",
+        "stitch_drawing: pieces.rw: edit 1: no piece 4\n",
+        "",
+    ),
+    (
+        "pieces.rw",
+        &["centre", "order=1,7"],
+        1,
+        "",
+        "stitch_drawing: pieces.rw: edit 2: no piece 7\n",
+        "",
+    ),
+    (
+        "pieces.rw",
+        &["order=2,2"],
+        1,
+        "",
+        "stitch_drawing: pieces.rw: edit 1: both pieces are one\n",
+        "",
+    ),
+    (
+        "pieces.rw",
+        &["order=3,1"],
+        1,
+        "",
+        "stitch_drawing: pieces.rw: edit 1: pieces in different blocks\n",
+        "",
+    ),
+    (
+        "pieces.rw",
+        &["start=0,0"],
+        1,
+        "",
+        "stitch_drawing: pieces.rw: edit 1: two blocks list the point\n",
+        "",
+    ),
+    (
+        "pieces.rw",
+        &["end=20,0"],
+        1,
+        "",
+        "stitch_drawing: pieces.rw: edit 1: not a junction\n",
+        "",
+    ),
+    (
+        "pieces.rw",
+        &["start=40,0", "start=80,0"],
+        1,
+        "",
+        "stitch_drawing: pieces.rw: edit 2: start or end repeated\n",
+        "",
+    ),
+    ("pieces.rw", &["order=0,1"], 2, "", USAGE, ""),
+    ("pieces.rw", &["order=1"], 2, "", USAGE, ""),
+    ("pieces.rw", &["start=30001,0"], 2, "", USAGE, ""),
+    ("pieces.rw", &["end=5"], 2, "", USAGE, ""),
     (
         "none.rw",
         &["centre"],
