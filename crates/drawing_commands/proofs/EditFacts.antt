@@ -1,10 +1,8 @@
 -- Worked values of the arguments of `edit`, and of edits in order.
-use Rattle.std.proofs.Common.{◌≡◌, ℕ, ℤ, pos, negsuc, [], ◌∷◌, List, Option, Some, None, Ok, Err, codes, refl}
+use Rattle.std.proofs.Common.{◌≡◌, ℕ, pos, negsuc, [], ◌∷◌, List, Some, None, Err, codes, refl}
 use Rattle.std.specs.Fmt.{digits}
 use Rattle.design_edits.specs.declared.axis.Axis.TheVariants as axis
 use Rattle.design_edits.specs.declared.motion.Motion.TheVariants as motion
-use Rattle.design_model.specs.declared.point.Point.{Point}
-use Rattle.drawing_edits.specs.declared.drawing_edit.DrawingEdit.{DrawingEdit}
 use Rattle.drawing_edits.specs.declared.drawing_edit.DrawingEdit.TheVariants as edit
 use Rattle.drawing_edits.specs.declared.edit_fault.EditFault.TheVariants as fault
 use Rattle.line_graph.specs.declared.draw_kind.DrawKind.TheVariants as kind

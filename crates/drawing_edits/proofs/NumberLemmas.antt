@@ -1,5 +1,5 @@
 -- Pieces by their numbers.
-use Rattle.std.proofs.Common.{Contains, ◌≡◌, ℕ, ◌-◌, ◌<◌, ◌++◌, zero, suc, All, get_or, length, arith, List, [], ◌∷◌, Option, Some, option_map, slice_get, Result, Ok, ap, sym, subst, ◌∙◌}
+use Rattle.std.proofs.Common.{Contains, ◌≡◌, ℕ, ◌-◌, ◌<◌, ◌++◌, zero, suc, All, get_or, length, arith, List, [], ◌∷◌, Some, option_map, slice_get, Result, Ok, ap, sym, ◌∙◌}
 use Rattle.std.proofs.lemmas.List.Elements.{All-contains, All-contains_itself, All-weaker, Contains-append_left, Contains-append_right}
 use Rattle.std.proofs.lemmas.Option.{slice_get-map}
 use Rattle.std.specs.List.{concat}

@@ -1,8 +1,8 @@
 -- The lines that are not in a piece, one after another.
-use Rattle.std.proofs.Common.{◌≡◌, ◌<◌, ℕ, ◌+◌, ◌-◌, ◌==◌, Bool, true, false, not, List, [], ◌∷◌, ◌++◌, filter, map, append_assoc, ap, sym, ◌∙◌}
-use Rattle.std.specs.List.{list_any, range_with_len}
+use Rattle.std.proofs.Common.{◌≡◌, ◌<◌, ℕ, ◌+◌, ◌==◌, Bool, true, false, not, List, [], ◌∷◌, ◌++◌, map, append_assoc, ap, sym, ◌∙◌}
+use Rattle.std.specs.List.{list_any}
 use Rattle.line_sections.specs.Lines.{LineValue}
-use Rattle.drawing_edits.specs.PieceOrders.{lines_outside}
+use Rattle.drawing_edits.specs.PieceOrders.{PiecesComeBefore, lines_outside}
 use Rattle.drawing_edits.proofs.RangeLemmas.{filter_skips, filter_takes}
 
 -- A line is not in a piece.
@@ -25,3 +25,8 @@ outside_takes f piece line to lines more whole below missed is before =
     ap (λ (ls : List LineValue). ls ++ rest) is
     ∙ (append_assoc lines (f line ∷ []) rest
     ∙ (ap (λ (ns : List ℕ). lines ++ map f ns) (sym (filter_takes (is_outside piece) line to below (ap not missed))) ∙ before))
+
+-- The line before which a piece comes is the first of the others after the piece.
+pub piece_then_line : PiecesComeBefore
+piece_then_line piece line count below missed = ap (λ (ns : List ℕ). lines_outside piece 0 line ++ (piece ++ ns))
+    (filter_takes (is_outside piece) line count below (ap not missed))

@@ -1,5 +1,5 @@
 -- The pieces in order are the pieces of a drawing.
-use Rattle.std.proofs.Common.{◌≡◌, ◌≢◌, ◌<◌, ◌≤◌, inl, ℕ, zero, suc, ◌==◌, ◌&&◌, Bool, true, false, List, [], ◌∷◌, length, map, filter, get_or, slice_get, Option, Some, unwrap_or, All, AllPairs, Contains, arith, refl, sym, ◌∙◌, ap, subst}
+use Rattle.std.proofs.Common.{◌≡◌, ◌≢◌, ◌<◌, ◌≤◌, inl, ℕ, zero, suc, ◌==◌, true, List, [], ◌∷◌, length, map, filter, get_or, Some, unwrap_or, All, AllPairs, Contains, arith, refl, sym, ◌∙◌, ap, subst}
 use Rattle.std.proofs.lemmas.Bool.{and_parts}
 use Rattle.std.proofs.lemmas.Bool.Decides.{Decides-int_eq, nat_tests}
 use Rattle.std.proofs.lemmas.List.{length-map}
@@ -11,7 +11,7 @@ use Rattle.std.specs.List.Sorted.{IsStrictlyIncreasing}
 use Rattle.std.specs.Ordering.{int_eq}
 use Rattle.design_model.specs.declared.point.Point.{Point}
 use Rattle.design_model.specs.Points.{is_same_point, origin}
-use Rattle.line_graph.specs.Drawings.{DrawingValue, IsLine, KeepsDrawingLimits, first_point, optional_line_points, points_of}
+use Rattle.line_graph.specs.Drawings.{DrawingValue, KeepsDrawingLimits, first_point, optional_line_points, points_of}
 use Rattle.line_graph.specs.FirstLines.{IsLineEnd}
 use Rattle.line_graph.specs.Pieces.{ArePieces, AreConnected, first_line}
 use Rattle.line_graph.specs.WalkEnds.{SpotsAreConnected, representative}

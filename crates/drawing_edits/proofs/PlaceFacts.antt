@@ -44,12 +44,12 @@ pub known_start_at_end : end_placed true (spot_point 50 9) (of_lines (bar ∷ si
     ≡ Ok (of_lines (bar ∷ side ∷ []) (spot_in 1 (spot_point 50 9) ∷ []) [])
 known_start_at_end = refl
 
--- a start inside a line cuts it in two, and comes after the starts before
+-- a start inside a line cuts it in two, and comes before the start of a later block
 pub known_start_inside : end_placed true (spot_point 10 0)
     (of_lines (bar ∷ side ∷ []) (spot_in 1 (spot_point 50 9) ∷ []) [])
     ≡ Ok (of_lines (line_in 0 (spot_point 0 0 ∷ spot_point 10 0 ∷ [])
     ∷ line_in 0 (spot_point 10 0 ∷ spot_point 20 0 ∷ []) ∷ side ∷ [])
-    (spot_in 1 (spot_point 50 9) ∷ spot_in 0 (spot_point 10 0) ∷ []) [])
+    (spot_in 0 (spot_point 10 0) ∷ spot_in 1 (spot_point 50 9) ∷ []) [])
 known_start_inside = refl
 
 -- an end that a line lists twice inside cuts it twice

@@ -10,3 +10,5 @@ pub mod PlacedEnds
 pub mod PieceOrders
 -- Edits and their results.
 pub mod EditedDrawings
+-- What edits keep of starts and ends.
+pub mod KeptEnds

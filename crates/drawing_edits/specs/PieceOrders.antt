@@ -1,6 +1,6 @@
 -- A piece sewn before another: its lines move to just before the first line of the other piece. A
 -- piece is the list of the indexes of its lines, which count from 0. Pieces are numbered from 1.
-use Rattle.std.specs.Prelude.{◌≡◌, ℕ, ◌-◌, ◌<◌, ◌==◌, Bool, not, List, ◌++◌, map, filter, length, slice_get, Option, Some, None, Result, Ok, Err, nat_lt, unwrap_or, All, if◌then◌else◌}
+use Rattle.std.specs.Prelude.{◌≡◌, ℕ, ◌+◌, ◌-◌, ◌<◌, ◌==◌, Bool, false, not, List, ◌∷◌, ◌++◌, map, filter, length, slice_get, Option, Some, None, Result, Ok, Err, nat_lt, unwrap_or, All, if◌then◌else◌}
 use Rattle.std.specs.List.{list_any, range_with_len}
 use Rattle.std.specs.List.Sorted.{IsPermutation}
 use Rattle.design_model.specs.Points.{origin}
@@ -103,3 +103,11 @@ pub record IsPieceOf (d : DrawingValue) (p : Piece) : Type 0 where
 abbrev pub OrdersKeepLines : Type 0
 OrdersKeepLines = (p q : ℕ) (d : DrawingValue) (lines : List LineValue)
     → lines_in_order p q d ≡ Ok lines → IsPermutation d.lines lines
+
+-- After a piece that is moved to just before a line of another one comes that line. Before the
+-- piece come the other lines before that line.
+abbrev pub PiecesComeBefore : Type 0
+PiecesComeBefore = (piece : List ℕ) (line count : ℕ) → line < count
+    → list_any (λ n. n == line) piece ≡ false
+    → order_with_piece piece line count
+    ≡ lines_outside piece 0 line ++ (piece ++ (line ∷ lines_outside piece (line + 1) count))

@@ -1,6 +1,6 @@
 -- Starts and ends at given points. A line that lists such a point inside is cut there.
-use Rattle.std.specs.Prelude.{ℕ, ◌+◌, ◌==◌, ◌&&◌, Bool, true, false, nat_lt, List, [], ◌∷◌, ◌++◌, Option, Some, None, Result, Ok, Err, length, take, drop, filter, if◌then◌else◌}
-use Rattle.std.specs.List.{flat_map, list_all, list_any, position_or_len}
+use Rattle.std.specs.Prelude.{ℕ, ◌+◌, ◌==◌, ◌&&◌, Bool, true, false, nat_lt, List, [], ◌∷◌, Option, Some, None, Result, Ok, Err, length, take, drop, filter, if◌then◌else◌}
+use Rattle.std.specs.List.{flat_map, insert, list_all, list_any, position_or_len}
 use Rattle.design_model.specs.declared.point.Point.{Point}
 use Rattle.design_model.specs.Points.{is_same_point}
 use Rattle.drawing_edits.specs.declared.edit_fault.EditFault.{EditFault}
@@ -49,15 +49,20 @@ line_cut_at spot line =
     if line.block == spot.block && is_inner_index index line.points
     then cut_in_two index line else line ∷ []
 
+-- Spots with one more, which comes after those of its block and of earlier blocks.
+abbrev pub with_spot : Spot → List Spot → List Spot
+with_spot spot spots =
+    insert spots (position_or_len (λ one. nat_lt spot.block one.block) spots) spot
+
 -- The lines cut at the spot, which is one more start where the flag is true, else one more end.
 abbrev pub with_end_at : Bool → Spot → DrawingValue → DrawingValue
 with_end_at true spot d = record d {
   lines = flat_map (line_cut_at spot) d.lines;
-  starts = d.starts ++ spot ∷ [];
+  starts = with_spot spot d.starts;
 }
 with_end_at false spot d = record d {
   lines = flat_map (line_cut_at spot) d.lines;
-  ends = d.ends ++ spot ∷ [];
+  ends = with_spot spot d.ends;
 }
 
 -- The drawing with a start at a point where the flag is true, else with an end there, or why not:

@@ -5,6 +5,7 @@
 mod drawing_edit;
 mod drawing_extent;
 mod edit_fault;
+mod end_theorems;
 mod line_cuts;
 mod line_lists;
 mod moved_lines;
@@ -15,5 +16,6 @@ mod redrawing;
 
 pub use drawing_edit::{DrawingEdit, edit_drawing};
 pub use edit_fault::EditFault;
-pub use order_theorems::{orders_keep_lines, pieces_in_order_are_pieces};
+pub use end_theorems::{edits_keep_ends_by_block, placed_ends_are_kept, redrawn_has_ends};
+pub use order_theorems::{orders_keep_lines, pieces_come_before, pieces_in_order_are_pieces};
 pub use redrawing::{draw_lines, joined_with_ends, redraw};

@@ -1,4 +1,4 @@
-ghost use Rattle.drawing_edits.specs.PieceOrders.{OrdersKeepLines, PiecesInOrderArePieces};
+ghost use Rattle.drawing_edits.specs.PieceOrders.{OrdersKeepLines, PiecesComeBefore, PiecesInOrderArePieces};
 
 use line_graph::spots_are_connected;
 
@@ -13,4 +13,9 @@ pub fn pieces_in_order_are_pieces()
 /// its points.
 pub fn orders_keep_lines()
     ensures { OrdersKeepLines }
+{}
+
+/// Theorem: after a piece that is moved to just before a line of another one comes that line.
+pub fn pieces_come_before()
+    ensures { PiecesComeBefore }
 {}

@@ -1,16 +1,16 @@
-ghost use Rattle.std.specs.Prelude.{◌≡◌, ◌∷◌, ◌++◌, [], IfOk, Some, true};
-ghost use Rattle.std.specs.List.{list_any};
+ghost use Rattle.std.specs.Prelude.{◌≡◌, ◌≤◌, IfOk, Some, length, nat_lt, true};
+ghost use Rattle.std.specs.List.{list_any, position_or_len};
 ghost use Rattle.design_model.specs.OutOfMemory.{IsSpecified};
 ghost use Rattle.design_model.specs.Points.{is_same_point};
 ghost use Rattle.drawing_edits.specs.EditFaults.{edit_answer, edit_is_out_of_memory};
-ghost use Rattle.drawing_edits.specs.PlacedEnds.{block_if_all, end_placed, first_block, lines_listing, only_block, with_end_at};
+ghost use Rattle.drawing_edits.specs.PlacedEnds.{block_if_all, end_placed, first_block, lines_listing, only_block, with_end_at, with_spot};
 ghost use Rattle.drawing_edits.specs.RedrawnDrawings.{redrawn};
 ghost use Rattle.line_graph.specs.JoinedDrawings.{is_joined};
 
 use crate::edit_fault::EditFault;
 use crate::line_cuts::cut_lines;
 use crate::redrawing::redraw;
-use design_model::{Items, Memory, Point};
+use design_model::{Memory, Point};
 use line_graph::{DrawKind, Drawing, Line, Spot};
 use std::alloc::Global;
 
@@ -38,10 +38,10 @@ fn put_end(alloc: Global, d: &Drawing, is_start: bool, spot: Spot) -> Result<Dra
 {
     let lines = cut_lines(alloc, d.lines(), spot)?;
     if is_start {
-        let starts = with_spot(alloc, d.starts(), spot)?;
+        let starts = with_one_more(alloc, d.starts(), spot)?;
         return draw_again(alloc, d, lines.as_slice(), starts.as_slice(), d.ends());
     }
-    let ends = with_spot(alloc, d.ends(), spot)?;
+    let ends = with_one_more(alloc, d.ends(), spot)?;
     draw_again(alloc, d, lines.as_slice(), d.starts(), ends.as_slice())
 }
 
@@ -63,14 +63,30 @@ fn draw_again(
     Ok(new)
 }
 
-/// Returns spots and one more.
-fn with_spot(alloc: Global, spots: &[Spot], spot: Spot) -> Result<Items<Spot>, Memory>
-    ensures { IfOk result (λ all. all ≡ spots.now ++ spot ∷ []) }
+/// Returns spots and one more, which comes after those of its block and of earlier blocks.
+fn with_one_more(alloc: Global, spots: &[Spot], spot: Spot) -> Result<Vec<Spot>, Memory>
+    ensures { IfOk result (λ all. all.items ≡ with_spot spot spots.now) }
 {
-    let mut all = Items::new(alloc);
-    all.append(spots)?;
-    all.push(spot)?;
+    let index = first_of_later_block(spots, spot.block);
+    let mut all = Vec::new(alloc);
+    all.extend_from_slice(spots)?;
+    all.insert(index, spot)?;
     Ok(all)
+}
+
+/// Returns the index of the first spot of a block after the given one, or the number of spots.
+fn first_of_later_block(spots: &[Spot], block: u32) -> usize
+    ensures value { result ≡ position_or_len (λ one. nat_lt block one.block) spots.now }
+    ensures most { result ≤ length spots.now }
+{
+    let mut index = 0;
+    for one in spots {
+        if block < one.block {
+            return index;
+        }
+        index += 1;
+    }
+    index
 }
 
 /// Returns the block whose lines list a point. Errors: `NoJunction` where no line does, `TwoBlocks`.
