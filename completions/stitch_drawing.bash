@@ -11,7 +11,7 @@ _stitch_drawing() {
                 [[ $file == *.rw ]] && COMPREPLY+=("$file")
             done < <(compgen -f -- "$word")
             ;;
-        *:edit) mapfile -t COMPREPLY < <(compgen -W 'shift= turn= mirror=x mirror=y centre step=' -- "$word") ;;
+        *:edit) mapfile -t COMPREPLY < <(compgen -W 'shift= turn= mirror=x mirror=y centre step= order= start= end=' -- "$word") ;;
     esac
 }
 complete -F _stitch_drawing stitch_drawing

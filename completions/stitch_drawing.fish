@@ -16,4 +16,4 @@ complete -c stitch_drawing -n '__stitch_drawing_at 1' -a 'look snap edit'
 complete -c stitch_drawing -n '__stitch_drawing_at 2; and not __stitch_drawing_does snap' -a '(__stitch_drawing_files)'
 complete -c stitch_drawing -n '__stitch_drawing_at 3; and not __stitch_drawing_does look' -a '(__stitch_drawing_files)'
 complete -c stitch_drawing -n '__stitch_drawing_at 4; and __stitch_drawing_does snap' -a '(__stitch_drawing_files)'
-complete -c stitch_drawing -n '__stitch_drawing_does edit; and test (count (commandline -opc)) -gt 3' -a 'shift= turn= mirror=x mirror=y centre step=' -d edit
+complete -c stitch_drawing -n '__stitch_drawing_does edit; and test (count (commandline -opc)) -gt 3' -a 'shift= turn= mirror=x mirror=y centre step= order= start= end=' -d edit
