@@ -1,11 +1,11 @@
 -- The canonical text of a drawing with starts and ends, in version 3. After the lines of a block
--- come its starts, and then its ends.
-use Rattle.std.specs.Prelude.{ℕ, ◌+◌, ◌==◌, List, [], ◌∷◌, ◌++◌, codes, filter}
+-- come its starts, and then its ends. The lines are printed as they are drawn.
+use Rattle.std.specs.Prelude.{ℕ, ◌+◌, ◌==◌, ◌&&◌, List, [], ◌∷◌, ◌++◌, codes, filter, length, if◌then◌else◌}
 use Rattle.std.specs.List.{flat_map}
 use Rattle.line_graph.specs.Drawings.{DrawingValue}
 use Rattle.line_sections.specs.declared.spot.Spot.{Spot}
 use Rattle.drawing_text.specs.declared.version.Version.TheVariants as version
-use Rattle.drawing_text.specs.CanonicalTexts.{block_text, header_text, label_text, number_line_text, spaced_point_text}
+use Rattle.drawing_text.specs.CanonicalTexts.{block_text, canonical_text2, header_text, label_text, number_line_text, spaced_point_text}
 
 -- The text line of a start or an end, by its keyword.
 abbrev pub end_line_text : List ℕ → Spot → List ℕ
@@ -30,3 +30,13 @@ blocks_text3 block (thread ∷ rest) d = block_text3 block thread d ++ blocks_te
 abbrev pub canonical_text3 : DrawingValue → List ℕ
 canonical_text3 d = header_text version.Three ++ (10 ∷ (label_text d.label
     ++ (number_line_text (codes "step ") d.step ++ blocks_text3 0 d.threads d)))
+
+-- The canonical text of drawn lines with their starts and ends: version 3 where there are any, else
+-- version 2.
+abbrev pub drawn_text : DrawingValue → List ℕ
+drawn_text d = if length d.starts == 0 && length d.ends == 0 then canonical_text2 d
+    else canonical_text3 d
+
+-- A drawing with the starts and ends of another one.
+abbrev pub with_ends_of : (d other : DrawingValue) → DrawingValue
+with_ends_of d other = record d { starts = other.starts; ends = other.ends }

@@ -1,32 +1,52 @@
 ghost use Rattle.std.specs.Prelude.{◌≡◌, ◌++◌, ◌≤◌, IfOk, OnOk, codes, length};
-ghost use Rattle.drawing_text.specs.CanonicalTexts.{block_text};
-ghost use Rattle.drawing_text.specs.EndTexts.{block_text3, blocks_text3, canonical_text3, end_line_text, end_lines_text};
+ghost use Rattle.drawing_text.specs.CanonicalTexts.{block_text, canonical_text2};
+ghost use Rattle.drawing_text.specs.EndTexts.{block_text3, blocks_text3, canonical_text3, drawn_text, end_line_text, end_lines_text, with_ends_of};
 
-use crate::printing::{put_header, put_label, put_lines_of, put_number, put_point};
+use crate::printing::{put_header, put_label, put_lines_of, put_number, put_point, spelled};
 use crate::version::Version;
 use design_model::{Bytes, Memory};
 use line_graph::{Drawing, Spot};
 use std::alloc::Global;
 
+/// Returns the canonical text of lines as they are drawn, with the starts and ends of their joined drawing:
+/// version 3 where it has any, else version 2.
+pub fn print_drawn(alloc: Global, drawn: &Drawing, joined: &Drawing) -> Result<Bytes, Memory>
+    ensures { IfOk result (λ text. text ≡ drawn_text (with_ends_of drawn.now joined.now)) }
+{
+    if joined.starts().is_empty() && joined.ends().is_empty() {
+        return spelled(alloc, Version::Two, drawn);
+    }
+    print_with_ends(alloc, drawn, joined)
+}
+
 /// Returns the canonical text of a drawing in version 3, which names its starts and ends.
 pub fn print_drawing3(alloc: Global, d: &Drawing) -> Result<Bytes, Memory>
     ensures { IfOk result (λ text. text ≡ canonical_text3 d.now) }
+{
+    print_with_ends(alloc, d, d)
+}
+
+/// Returns the canonical text, in version 3, of lines as they are drawn, with the starts and ends of another
+/// drawing.
+fn print_with_ends(alloc: Global, d: &Drawing, other: &Drawing) -> Result<Bytes, Memory>
+    ensures { IfOk result (λ text. text ≡ canonical_text3 (with_ends_of d.now other.now)) }
 {
     let mut text = Bytes::new(alloc);
     put_header(&mut text, Version::Three)?;
     put_label(&mut text, d.label())?;
     put_number(alloc, &mut text, b"step ", d.step())?;
-    put_blocks3(alloc, &mut text, d)?;
+    put_blocks3(alloc, &mut text, d, other)?;
     Ok(text)
 }
 
-fn put_blocks3(alloc: Global, text: &mut Bytes, d: &Drawing) -> Result<(), Memory>
-    ensures { OnOk result (text.new ≡ text.old ++ blocks_text3 0 d.now.threads d.now) }
+fn put_blocks3(alloc: Global, text: &mut Bytes, d: &Drawing, other: &Drawing) -> Result<(), Memory>
+    ensures { OnOk result (text.new
+        ≡ text.old ++ blocks_text3 0 d.now.threads (with_ends_of d.now other.now)) }
 {
     let mut block: u32 = 0;
     let mut rest = d.threads();
     while let [thread, after @ ..] = rest {
-        put_block3(alloc, text, block, *thread, d)?;
+        put_block3(alloc, text, block, *thread, d, other)?;
         block += 1;
         rest = after;
     }
@@ -39,13 +59,15 @@ fn put_block3(
     block: u32,
     thread: u8,
     d: &Drawing,
+    other: &Drawing,
 ) -> Result<(), Memory>
-    ensures { OnOk result (text.new ≡ text.old ++ block_text3 block thread d.now) }
+    ensures { OnOk result (text.new
+        ≡ text.old ++ block_text3 block thread (with_ends_of d.now other.now)) }
 {
     put_number(alloc, text, b"color ", thread as u32)?;
     put_lines_of(alloc, text, block, d.lines())?;
-    put_ends_of(alloc, text, b"start", block, d.starts())?;
-    put_ends_of(alloc, text, b"end", block, d.ends())?;
+    put_ends_of(alloc, text, b"start", block, other.starts())?;
+    put_ends_of(alloc, text, b"end", block, other.ends())?;
     Ok(())
 }
 

@@ -20,7 +20,7 @@ mod walk_end;
 
 pub use draw_fault::DrawFault;
 pub use drawn_lines::{DrawnLines, read_lines};
-pub use end_printing::print_drawing3;
+pub use end_printing::{print_drawing3, print_drawn};
 pub use limits::MAX_TEXT;
 pub use printing::{print_drawing, print_drawing2};
 pub use reading::{read_as2, read_drawing};

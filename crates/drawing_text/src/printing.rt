@@ -36,7 +36,8 @@ pub fn print_drawing2(alloc: Global, d: &Drawing) -> Result<Bytes, Memory>
     Ok(text)
 }
 
-fn spelled(alloc: Global, version: Version, d: &Drawing) -> Result<Bytes, Memory>
+/// Returns the canonical text of a drawing in a version that names no starts and ends.
+pub(crate) fn spelled(alloc: Global, version: Version, d: &Drawing) -> Result<Bytes, Memory>
     ensures { IfOk result (λ text. text ≡ canonical_text_in version d.now) }
 {
     let mut text = Bytes::new(alloc);
