@@ -1,5 +1,5 @@
 -- Worked values of texts that name starts and ends, and of their faults.
-use Rattle.std.proofs.Common.{◌≡◌, ℕ, pos, List, [], ◌∷◌, ◌++◌, Ok, Err, codes, refl}
+use Rattle.std.proofs.Common.{◌≡◌, ℕ, zero, suc, pos, List, [], ◌∷◌, ◌++◌, Result, Ok, Err, ap, codes, length, refl, arith}
 use Rattle.std.specs.Fmt.{digits}
 use Rattle.std.specs.List.{flat_map}
 use Rattle.line_sections.specs.declared.spot.Spot.{Spot}
@@ -8,7 +8,9 @@ use Rattle.line_graph.specs.declared.draw_kind.DrawKind.{DrawKind}
 use Rattle.line_graph.specs.declared.draw_kind.DrawKind.TheVariants as kind
 use Rattle.line_graph.specs.Drawings.{DrawingValue}
 use Rattle.drawing_text.specs.DrawingText.{drawing_as2, drawing_of}
-use Rattle.drawing_text.specs.EndTexts.{canonical_text3, end_lines_text}
+use Rattle.drawing_text.specs.CanonicalTexts.{canonical_text2}
+use Rattle.drawing_text.specs.EndTexts.{AreInBlockOrder, canonical_text3, drawn_text, end_lines_text, with_ends_of}
+use Rattle.drawing_text.specs.TextLaws.{IsJoinedFrom}
 use Rattle.drawing_text.proofs.CanonicalTextFacts.{place}
 
 -- a text of that version: lines of a block with a cross at 10 0, and further lines
@@ -103,3 +105,52 @@ pub known_end_block : end_lines_text (codes "start") 1 (spot 20 0 ∷ record { b
     ≡ codes "start 3 4" ++ 10 ∷ []
 unfolding digits
 known_end_block = refl
+
+-- the same lines before they are cut
+abbrev drawn_cross : DrawingValue
+drawn_cross = record (crossed [] []) {
+  lines = lines_through 0 ((place (pos 0) (pos 0) ∷ place (pos 10) (pos 0) ∷ place (pos 20) (pos 0) ∷ [])
+      ∷ (place (pos 10) (pos 5) ∷ place (pos 10) (pos 0) ∷ []) ∷ []);
+}
+
+-- drawn lines are joined with starts and ends, and printed as they are drawn
+pub known_joined_from : IsJoinedFrom drawn_cross both_ends
+known_joined_from = refl
+
+-- and they aren't their own joined drawing, which has a line more
+abbrev line_number : Result DrawingValue DrawKind → ℕ
+line_number (Ok d) = length d.lines
+line_number (Err why) = 0
+
+pub known_not_joined_from : IsJoinedFrom drawn_cross drawn_cross → ⊥
+known_not_joined_from is = let count : 3 ≡ 2 = ap line_number is in omega (arith, count)
+
+pub known_drawn_text : drawn_text (with_ends_of drawn_cross both_ends) ≡ flat_map (λ line. line ++ 10 ∷ []) (codes "redwork 3"
+    ∷ codes "step 10" ∷ codes "color 1" ∷ codes "line 0 0 10 0 20 0" ∷ codes "line 10 5 10 0" ∷ codes "start 20 0" ∷ codes "end 10 0" ∷ [])
+unfolding digits
+known_drawn_text = refl
+
+pub known_drawn_again : drawing_of (drawn_text (with_ends_of drawn_cross both_ends)) ≡ Ok both_ends
+unfolding digits
+known_drawn_again = refl
+
+-- a start or an end alone takes version 3, and neither of them version 2
+pub known_drawn_versions : (drawn_text (crossed (spot 20 0 ∷ []) []) ≡ canonical_text3 (crossed (spot 20 0 ∷ []) []))
+    × (drawn_text (crossed [] (spot 0 0 ∷ [])) ≡ canonical_text3 (crossed [] (spot 0 0 ∷ [])))
+    × (drawn_text drawn_cross ≡ canonical_text2 drawn_cross)
+known_drawn_versions = (refl, refl, refl)
+
+-- spots of one block, and of two blocks in order and not in order
+abbrev later_spot : Spot
+later_spot = record { block = 1; at = place (pos 3) (pos 4) }
+
+pub known_block_order : AreInBlockOrder (spot 20 0 ∷ spot 0 0 ∷ later_spot ∷ [])
+known_block_order zero zero d reach there = omega arith
+known_block_order zero (suc j) d reach there = omega arith
+known_block_order (suc zero) (suc zero) d reach there = omega arith
+known_block_order (suc zero) (suc (suc zero)) d reach there = omega arith
+known_block_order (suc (suc zero)) (suc (suc zero)) d reach there = omega arith
+known_block_order i j d reach there = absurd (omega (arith, reach, there))
+
+pub known_block_disorder : AreInBlockOrder (later_spot ∷ spot 0 0 ∷ []) → ⊥
+known_block_disorder is = omega (arith, is 0 1 0 (omega arith) (omega arith))

@@ -6,9 +6,13 @@ mod PrintedWords
 mod PrintedNumbers
 mod PrintedBlocks
 mod PrintedLines
+mod PrintedEnds
 mod PrintedDrawings
+mod NamedEndLemmas
+mod TextLawLemmas
 mod DrawingTextFacts
 mod EndTextFacts
 mod ValidTextLemmas
+mod OrderedTextLemmas
 mod ValidTextFacts
 mod CoordinateLemmas

@@ -19,26 +19,37 @@ use Rattle.drawing_text.proofs.Shapes.{same_is, within_parts}
 use Rattle.drawing_text.proofs.PrintedNumbers.{decimal_read, signed_read, signed_word}
 use Rattle.drawing_text.proofs.PrintedWords.{AreWords, IsWord, is_inner, line_read, tail_of}
 use Rattle.drawing_text.specs.declared.draft.DrawingDraft.{DrawingDraft}
-use Rattle.drawing_text.specs.DrawingText.{at_line, drawing_after_lines}
+use Rattle.drawing_text.specs.declared.draw_fault.DrawFault.{DrawFault}
+use Rattle.drawing_text.specs.declared.walk_end.WalkEnd.{WalkEnd}
+use Rattle.drawing_text.specs.DrawingText.{at_line}
 use Rattle.drawing_text.specs.declared.version.Version.{Version}
 use Rattle.drawing_text.specs.CanonicalTexts.{points_text}
 use Rattle.drawing_text.specs.TextLines.{default_drawing, empty_draft, draft_after_words, parsed_points}
 use Rattle.drawing_text.specs.Words.{words_by_line}
 
+-- The result for a draft and the text lines after it, from line `number` on: what `close` makes of the draft at the end.
+abbrev pub after_text : {A : Type 0} → (ℕ → DrawingDraft → Result A DrawFault) → Version → ℕ → DrawingDraft → List (List (List ℕ))
+    → Result A DrawFault
+after_text close version number draft [] = close number draft
+after_text close version number draft (words ∷ rest) =
+    and_then (at_line number draft.opened (draft_after_words version number draft words)) (λ next.
+    after_text close version (number + 1) next rest)
+
 -- the next line is read, and then those after it
-pub line_judged : (version : Version) (number : ℕ) (draft next : DrawingDraft) (word : List ℕ) (words : List (List ℕ)) (rest : List ℕ)
+pub line_judged : {A : Type 0} (close : ℕ → DrawingDraft → Result A DrawFault) (version : Version) (number : ℕ)
+    (draft next : DrawingDraft) (word : List ℕ) (words : List (List ℕ)) (rest : List ℕ)
     → IsWord word
     → AreWords words → draft_after_words version number draft (word ∷ words) ≡ Ok next
-    → drawing_after_lines version number draft (words_by_line (word ++ (tail_of words ++ rest)))
-    ≡ drawing_after_lines version (number + 1) next (words_by_line rest)
-line_judged version number draft next word words rest is are says =
-    ap (drawing_after_lines version number draft) (line_read word words rest is are)
+    → after_text close version number draft (words_by_line (word ++ (tail_of words ++ rest)))
+    ≡ after_text close version (number + 1) next (words_by_line rest)
+line_judged close version number draft next word words rest is are says =
+    ap (after_text close version number draft) (line_read word words rest is are)
     ∙ ap (λ (answer : Result DrawingDraft DrawKind). and_then (at_line number draft.opened answer)
-    (λ (after : DrawingDraft). drawing_after_lines version (number + 1) after (words_by_line rest))) says
+    (λ (after : DrawingDraft). after_text close version (number + 1) after (words_by_line rest))) says
 
 -- a draft whose step was given
-abbrev pub draft_of : Bool → ℕ → DrawingValue → DrawingDraft
-draft_of named opened d = record { drawing = d; named = named; stepped = true; opened = opened; ends = [] }
+abbrev pub draft_of : List WalkEnd → Bool → ℕ → DrawingValue → DrawingDraft
+draft_of ends named opened d = record { drawing = d; named = named; stepped = true; opened = opened; ends = ends }
 
 -- the words of the text
 pub is_name : IsWord (codes "name")
@@ -110,11 +121,12 @@ pub record HasRoom (d : DrawingValue) (points : List Point) : Type 0 where
   pub steps_to : step_count d.step d.lines + steps_of_line d.step points ≤ 200000
 
 -- the line of a text line is added to the drawing
-pub line_says : (version : Version) (number opened : ℕ) (named : Bool) (d : DrawingValue) (points : List Point) → IsLine points
+pub line_says : (version : Version) (number opened : ℕ) (named : Bool) (ends : List WalkEnd) (d : DrawingValue)
+    (points : List Point) → IsLine points
     → HasRoom d points
-    → draft_after_words version number (draft_of named opened d) (codes "line" ∷ coordinates points)
-    ≡ Ok (draft_of named opened (with_new_line d points))
-line_says version number opened named d points able room =
+    → draft_after_words version number (draft_of ends named opened d) (codes "line" ∷ coordinates points)
+    ≡ Ok (draft_of ends named opened (with_new_line d points))
+line_says version number opened named ends d points able room =
     let begun : (length d.threads == 0) ≡ false = grind (arith, nat_tests, room.block) in
     let long : nat_lt (length points) 2 ≡ false = grind (arith, nat_tests, able.long) in
     let lines : (length d.lines == 1024) ≡ false = grind (arith, nat_tests, room.lines) in
@@ -133,12 +145,12 @@ line_says version number opened named d points able room =
     ) refl
 
 -- the block of a text is added to the drawing
-pub color_says : (version : Version) (number opened : ℕ) (named : Bool) (d : DrawingValue) (thread : ℕ) → thread < 256
+pub color_says : (version : Version) (number opened : ℕ) (named : Bool) (ends : List WalkEnd) (d : DrawingValue) (thread : ℕ) → thread < 256
     → is_last_empty d ≡ false
     → length d.threads < 255
-    → draft_after_words version number (draft_of named opened d) (codes "color" ∷ decimal thread ∷ []) ≡ Ok (draft_of named number
+    → draft_after_words version number (draft_of ends named opened d) (codes "color" ∷ decimal thread ∷ []) ≡ Ok (draft_of ends named number
     (with_new_block d thread))
-color_says version number opened named d thread fits filled room =
+color_says version number opened named ends d thread fits filled room =
     let low : nat_le 0 thread ≡ true = grind (arith, nat_tests) in
     let high : nat_le thread 255 ≡ true = grind (arith, nat_tests, fits) in
     let few : (length d.threads == 255) ≡ false = grind (arith, nat_tests, room) in
@@ -181,7 +193,7 @@ name_says version label is one_word =
 pub step_says : (version : Version) (number : ℕ) (named : Bool) (label : List ℕ) (step : ℕ) → 1 ≤ step → step ≤ 2047
     → draft_after_words version number (record empty_draft { named = named; drawing = record default_drawing { label = label } })
     (codes "step" ∷ decimal step ∷ [])
-    ≡ Ok (draft_of named 0 (record default_drawing { label = label; step = step }))
+    ≡ Ok (draft_of [] named 0 (record default_drawing { label = label; step = step }))
 step_says version number named label step from to =
     let low : nat_le 1 step ≡ true = grind (arith, nat_tests, from) in
     let high : nat_le step 2047 ≡ true = grind (arith, nat_tests, to) in

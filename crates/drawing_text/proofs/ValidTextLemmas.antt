@@ -23,41 +23,46 @@ use Rattle.drawing_text.specs.ValidTexts.{TextsAs2DefineValidDrawings, TextsDefi
 use Rattle.drawing_text.specs.Words.{begins_comment, single_word}
 
 -- what holds where a test doesn't refuse holds after the test
-unless : {A : Type 0} (P : A → Type 0) (test : Bool) (r : Result A DrawKind) (why : DrawKind) → (test ≡ false → IfOk r P)
+pub unless : {A : Type 0} (P : A → Type 0) (test : Bool) (r : Result A DrawKind) (why : DrawKind) → (test ≡ false → IfOk r P)
     → IfOk (if test then Err why else r) P
 unless P true r why next = tt
 unless P false r why next = next refl
 
 -- what holds where a test allows it holds after the test
-where_true : {A : Type 0} (P : A → Type 0) (test : Bool) (r : Result A DrawKind) (why : DrawKind) → (test ≡ true → IfOk r P)
+pub where_true : {A : Type 0} (P : A → Type 0) (test : Bool) (r : Result A DrawKind) (why : DrawKind) → (test ≡ true → IfOk r P)
     → IfOk (if test then r else Err why) P
 where_true P true r why next = next refl
 where_true P false r why next = tt
 
 -- what holds both ways holds after the test
-either : {A : Type 0} (P : A → Type 0) (test : Bool) (r s : Result A DrawKind) → IfOk r P → IfOk s P
+pub either : {A : Type 0} (P : A → Type 0) (test : Bool) (r s : Result A DrawKind) → IfOk r P → IfOk s P
     → IfOk (if test then r else s) P
 either P true r s one two = one
 either P false r s one two = two
 
 -- what holds after the second of two steps
-after_both : {A B F : Type 0} (P : A → Type 0) (Q : B → Type 0) (r : Result A F) (next : A → Result B F) → IfOk r P
+pub after_both : {A B F : Type 0} (P : A → Type 0) (Q : B → Type 0) (r : Result A F) (next : A → Result B F) → IfOk r P
     → ((a : A) → P a → IfOk (next a) Q) → IfOk (and_then r next) Q
 after_both P Q (Ok a) next has later = later a has
 after_both P Q (Err why) next has later = tt
 
 -- a step of which nothing is needed
-any_ok : {A F : Type 0} (r : Result A F) → IfOk r (λ a. Unit {0})
+pub any_ok : {A F : Type 0} (r : Result A F) → IfOk r (λ a. Unit {0})
 any_ok (Ok a) = tt
 any_ok (Err why) = tt
 
 -- the number of the text line changes nothing
-located : {A : Type 0} (P : A → Type 0) (number opened : ℕ) (r : Result A DrawKind) → IfOk r P → IfOk (at_line number opened r) P
+pub located : {A : Type 0} (P : A → Type 0) (number opened : ℕ) (r : Result A DrawKind) → IfOk r P → IfOk (at_line number opened r) P
 located P number opened (Ok a) has = has
 located P number opened (Err why) has = tt
 
-value_of : {A F : Type 0} (P : A → Type 0) (r : Result A F) (a : A) → IfOk r P → r ≡ Ok a → P a
+pub value_of : {A F : Type 0} (P : A → Type 0) (r : Result A F) (a : A) → IfOk r P → r ≡ Ok a → P a
 value_of P r a has is = subst (λ (result : Result _ _). IfOk result P) is has
+
+-- a fact of a result implies a weaker one
+pub weaker : {A F : Type 0} (P Q : A → Type 0) (r : Result A F) → ((a : A) → P a → Q a) → IfOk r P → IfOk r Q
+weaker P Q (Ok a) each has = each a has
+weaker P Q (Err why) each has = tt
 
 -- a number in its range
 record IsCount (low high n : ℕ) : Type 0 where
@@ -183,10 +188,6 @@ module _ (empty_grows : EmptyDrawingsGrow) (label_grows : LabelsKeepGrowing) (st
   valid_in version.One d is = is
   valid_in version.Two d is = is.valid
   valid_in version.Three d is = is.valid
-
-  weaker : {A F : Type 0} (P Q : A → Type 0) (r : Result A F) → ((a : A) → P a → Q a) → IfOk r P → IfOk r Q
-  weaker P Q (Ok a) each has = each a has
-  weaker P Q (Err why) each has = tt
 
   pub texts_valid : TextsDefineValidDrawings
   texts_valid text d is =

@@ -4,7 +4,7 @@ use Rattle.std.specs.Prelude.{◌≡◌, ℕ, ◌+◌, ◌==◌, ◌&&◌, Bool,
 use Rattle.design_model.specs.OutOfMemory.{IsSpecified}
 use Rattle.line_graph.specs.declared.draw_kind.DrawKind.{DrawKind}
 use Rattle.line_graph.specs.declared.draw_kind.DrawKind.TheVariants as kind
-use Rattle.line_graph.specs.Drawings.{DrawingValue, KeepsDrawingLimits}
+use Rattle.line_graph.specs.Drawings.{DrawingValue}
 use Rattle.line_graph.specs.GrowingDrawings.{and_then, finished_drawing, draw_is_out_of_memory}
 use Rattle.line_graph.specs.JoinedDrawings.{is_joined, joined_drawing}
 use Rattle.line_graph.specs.WalkEnds.{HasNoEnds, walk_end_added}
@@ -13,7 +13,6 @@ use Rattle.drawing_text.specs.declared.draw_fault.DrawFault.{DrawFault}
 use Rattle.drawing_text.specs.declared.version.Version.{Version}
 use Rattle.drawing_text.specs.declared.walk_end.WalkEnd.{WalkEnd}
 use Rattle.drawing_text.specs.declared.version.Version.TheVariants as version
-use Rattle.drawing_text.specs.CanonicalTexts.{canonical_text, canonical_text2}
 use Rattle.drawing_text.specs.TextLines.{empty_draft, draft_after_words}
 use Rattle.drawing_text.specs.Words.{is_ignored_line, words_by_line}
 
@@ -138,13 +137,3 @@ pub record IsJoinedWithoutEnds (d : DrawingValue) : Type 0 where
 abbrev pub IsDrawingOfVersion : Version → DrawingValue → Type 0
 IsDrawingOfVersion version.Two d = IsJoinedWithoutEnds d
 IsDrawingOfVersion other d = Unit {0}
-
--- The canonical text of a drawing without starts and ends is read as that drawing.
-abbrev pub CanonicalTextIsRead : Type 0
-CanonicalTextIsRead = (d : DrawingValue) → KeepsDrawingLimits d → HasNoEnds d
-    → drawing_of (canonical_text d) ≡ Ok d
-
--- The canonical text 2 of a joined drawing without starts and ends is read as that drawing.
-abbrev pub CanonicalText2IsRead : Type 0
-CanonicalText2IsRead = (d : DrawingValue) → KeepsDrawingLimits d → IsJoinedWithoutEnds d
-    → drawing_of (canonical_text2 d) ≡ Ok d

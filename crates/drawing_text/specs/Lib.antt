@@ -13,5 +13,7 @@ pub mod DrawingText
 pub mod ValidTexts
 -- The lines of a text as they are drawn.
 pub mod DrawnTexts
+-- Theorems over these definitions.
+pub mod TextLaws
 -- Used only inside this crate.
 pub mod CoordinateWords

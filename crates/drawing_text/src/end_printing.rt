@@ -1,16 +1,33 @@
-ghost use Rattle.std.specs.Prelude.{◌≡◌, ◌++◌, ◌≤◌, IfOk, OnOk, codes, length};
+ghost use Rattle.std.specs.Prelude.{◌≡◌, ◌++◌, ◌≤◌, IfOk, Ok, OnOk, codes, length, true};
+ghost use Rattle.line_graph.specs.JoinedDrawings.{is_joined};
 ghost use Rattle.drawing_text.specs.CanonicalTexts.{block_text, canonical_text2};
-ghost use Rattle.drawing_text.specs.EndTexts.{block_text3, blocks_text3, canonical_text3, drawn_text, end_line_text, end_lines_text, with_ends_of};
+ghost use Rattle.drawing_text.specs.DrawingText.{drawing_of};
+ghost use Rattle.drawing_text.specs.EndTexts.{HasOrderedEnds, block_text3, blocks_text3, canonical_text3, drawn_text, end_line_text, end_lines_text, with_ends_of};
+ghost use Rattle.drawing_text.specs.TextLaws.{IsJoinedFrom};
 
 use crate::printing::{put_header, put_label, put_lines_of, put_number, put_point, spelled};
+use crate::theorems::drawn_texts_are_read;
 use crate::version::Version;
 use design_model::{Bytes, Memory};
-use line_graph::{Drawing, Spot};
+use line_graph::{Drawing, Spot, joined_drawings_stay};
 use std::alloc::Global;
 
 /// Returns the canonical text of lines as they are drawn, with the starts and ends of their joined drawing:
-/// version 3 where it has any, else version 2.
+/// version 3 where it has any, else version 2. Reading the text returns the joined drawing.
 pub fn print_drawn(alloc: Global, drawn: &Drawing, joined: &Drawing) -> Result<Bytes, Memory>
+    requires whole { IsJoinedFrom drawn.now joined.now }
+    requires ordered { HasOrderedEnds joined.now }
+    ensures value { IfOk result (λ text. text ≡ drawn_text (with_ends_of drawn.now joined.now)) }
+    ensures again { IfOk result (λ text. drawing_of text ≡ Ok joined.now) }
+{
+    drawn.keeps_limits();
+    joined.keeps_limits();
+    drawn_texts_are_read();
+    let text = spelled_drawn(alloc, drawn, joined)?;
+    Ok(text)
+}
+
+fn spelled_drawn(alloc: Global, drawn: &Drawing, joined: &Drawing) -> Result<Bytes, Memory>
     ensures { IfOk result (λ text. text ≡ drawn_text (with_ends_of drawn.now joined.now)) }
 {
     if joined.starts().is_empty() && joined.ends().is_empty() {
@@ -19,11 +36,18 @@ pub fn print_drawn(alloc: Global, drawn: &Drawing, joined: &Drawing) -> Result<B
     print_with_ends(alloc, drawn, joined)
 }
 
-/// Returns the canonical text of a drawing in version 3, which names its starts and ends.
+/// Returns the canonical text of a drawing in version 3, which names its starts and ends. Reading the text of a
+/// joined drawing, whose starts and ends are in the order of their blocks, returns the drawing.
 pub fn print_drawing3(alloc: Global, d: &Drawing) -> Result<Bytes, Memory>
-    ensures { IfOk result (λ text. text ≡ canonical_text3 d.now) }
+    ensures value { IfOk result (λ text. text ≡ canonical_text3 d.now) }
+    ensures again { is_joined d.now ≡ true → HasOrderedEnds d.now
+        → IfOk result (λ text. drawing_of text ≡ Ok d.now) }
 {
-    print_with_ends(alloc, d, d)
+    d.keeps_limits();
+    joined_drawings_stay();
+    drawn_texts_are_read();
+    let text = print_with_ends(alloc, d, d)?;
+    Ok(text)
 }
 
 /// Returns the canonical text, in version 3, of lines as they are drawn, with the starts and ends of another

@@ -24,6 +24,8 @@ pub use end_printing::{print_drawing3, print_drawn};
 pub use limits::MAX_TEXT;
 pub use printing::{print_drawing, print_drawing2};
 pub use reading::{read_as2, read_drawing};
-pub use theorems::{canonical_text_is_read, canonical_text2_is_read, texts_define_valid_drawings};
+pub use theorems::{
+    canonical_text_is_read, drawn_texts_are_read, texts_define_valid_drawings, texts_order_ends,
+};
 pub use version::Version;
 pub use walk_end::{WalkEnd, WalkEnds};

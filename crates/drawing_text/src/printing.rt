@@ -4,10 +4,10 @@ ghost use Rattle.line_graph.specs.WalkEnds.{HasNoEnds};
 ghost use Rattle.drawing_text.specs.DrawingText.{IsJoinedWithoutEnds, drawing_of};
 ghost use Rattle.drawing_text.specs.CanonicalTexts.{header_text, canonical_text, canonical_text2, canonical_text_in, label_text, number_line_text, blocks_text, line_text, lines_of_block, points_text, spaced_point_text};
 
-use crate::theorems::{canonical_text_is_read, canonical_text2_is_read};
+use crate::theorems::{canonical_text_is_read, drawn_texts_are_read};
 use crate::version::Version;
 use design_model::{Bytes, Memory, Point};
-use line_graph::{Drawing, Line, MAX_BLOCKS};
+use line_graph::{Drawing, Line, MAX_BLOCKS, joined_drawings_stay};
 use std::alloc::Global;
 
 /// Returns the canonical text, in version 1, of a drawing without starts and ends. Reading the text returns
@@ -31,7 +31,8 @@ pub fn print_drawing2(alloc: Global, d: &Drawing) -> Result<Bytes, Memory>
     ensures again { IfOk result (λ text. drawing_of text ≡ Ok d.now) }
 {
     d.keeps_limits();
-    canonical_text2_is_read();
+    joined_drawings_stay();
+    drawn_texts_are_read();
     let text = spelled(alloc, Version::Two, d)?;
     Ok(text)
 }

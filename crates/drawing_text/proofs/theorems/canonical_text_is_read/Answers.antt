@@ -1,4 +1,4 @@
-use Rattle.drawing_text.proofs.PrintedDrawings.{spelling_read}
+use Rattle.drawing_text.proofs.TextLawLemmas.{spelling_read}
 use Rattle.drawing_text.proofs.theorems.canonical_text_is_read.Goals as goal
 
 pub returns : goal.returns
