@@ -1,5 +1,6 @@
 mod SnapFacts
 pub mod MoveLemmas
+pub mod JoiningLemmas
 pub mod ListingLemmas
 pub mod FollowLemmas
 pub mod SettledLemmas

@@ -1,15 +1,18 @@
 -- Worked values of snapped lines: small drawings, in tenths of a millimetre.
-use Rattle.std.proofs.Common.{◌≡◌, ℕ, pos, negsuc, List, [], ◌∷◌, ◌++◌, Ok, Err, refl}
+use Rattle.std.proofs.Common.{◌≡◌, ℕ, pos, negsuc, List, [], ◌∷◌, ◌++◌, Result, Ok, Err, refl}
 use Rattle.design_model.specs.declared.point.Point.{Point}
+use Rattle.line_sections.specs.declared.spot.Spot.{Spot}
 use Rattle.line_sections.specs.Lines.{LineValue}
 use Rattle.line_sections.specs.Sections.{lines_through}
 use Rattle.line_graph.specs.declared.draw_kind.DrawKind.TheVariants as kind
 use Rattle.line_graph.specs.Drawings.{DrawingValue}
+use Rattle.drawing_repairs.specs.declared.snap_fault.SnapFault.{SnapFault}
 use Rattle.drawing_repairs.specs.declared.snap_fault.SnapFault.TheVariants as fault
+use Rattle.drawing_repairs.specs.declared.snapping.SnappedDrawing.{SnappedDrawing}
+use Rattle.drawing_repairs.specs.AnchoredSpots.{anchored_spots}
 use Rattle.drawing_repairs.specs.Anchors.{anchored, anchors_of, distance_between}
 use Rattle.drawing_repairs.specs.Listings.{with_due_ends}
 use Rattle.drawing_repairs.specs.MovedLines.{moved_points, unrepeated}
-use Rattle.drawing_repairs.specs.RemadeDrawings.{remade_drawing}
 use Rattle.drawing_repairs.specs.Snaps.{snap_of, snapped_lines}
 
 abbrev at : ℕ → ℕ → Point
@@ -82,20 +85,50 @@ pub known_vanished : snapped_lines 2 (lines_through 3 ((at 9 9 ∷ at 50 9 ∷ [
 unfolding moved_points
 known_vanished = refl
 
--- a drawing keeps its label, its step and its threads, and is joined
+-- a drawing keeps its label, its step and its threads, and its lines whole
 abbrev drawn : List LineValue → DrawingValue
 drawn lines = record { label = 65 ∷ []; step = 25; threads = 7 ∷ 9 ∷ []; lines = lines; starts = []; ends = [] }
 
-pub known_drawing : snap_of 1 (drawn (near_tee ++ lines_through 1 ((at 0 0 ∷ at 0 9 ∷ at 0 8 ∷ []) ∷ [])))
-    ≡ Ok (record {
-      moved = at 0 8 ∷ [];
-      listed = at 20 1 ∷ [];
-      drawing = drawn (lines_through 0 ((at 0 0 ∷ at 20 1 ∷ []) ∷ (at 20 1 ∷ at 40 0 ∷ []) ∷ (at 20 30 ∷ at 20 1 ∷ []) ∷ [])
-          ++ lines_through 1 ((at 0 0 ∷ at 0 9 ∷ []) ∷ []));
-    })
+-- a spot of a block
+abbrev spot : ℕ → Point → Spot
+spot block p = record { block = block; at = p }
+
+abbrev tee_and_stroke : DrawingValue
+tee_and_stroke = drawn (near_tee ++ lines_through 1 ((at 0 0 ∷ at 0 9 ∷ at 0 8 ∷ []) ∷ []))
+
+abbrev snapped_tee : (starts ends : List Spot) → Result SnappedDrawing SnapFault
+snapped_tee starts ends = Ok (record {
+  moved = at 0 8 ∷ [];
+  listed = at 20 1 ∷ [];
+  drawn = drawn (lines_through 0 ((at 0 0 ∷ at 20 1 ∷ at 40 0 ∷ []) ∷ (at 20 30 ∷ at 20 1 ∷ []) ∷ [])
+      ++ lines_through 1 ((at 0 0 ∷ at 0 9 ∷ []) ∷ []));
+  joined = record (drawn (lines_through 0 ((at 0 0 ∷ at 20 1 ∷ []) ∷ (at 20 1 ∷ at 40 0 ∷ []) ∷ (at 20 30 ∷ at 20 1 ∷ []) ∷ [])
+      ++ lines_through 1 ((at 0 0 ∷ at 0 9 ∷ []) ∷ []))) { starts = starts; ends = ends };
+})
+
+pub known_drawing : snap_of 1 tee_and_stroke [] [] ≡ snapped_tee [] []
 unfolding moved_points
 known_drawing = refl
 
+-- a start stays with its point, and an end moves with its own
+pub known_anchored_ends : snap_of 1 tee_and_stroke (spot 0 (at 20 1) ∷ []) (spot 1 (at 0 8) ∷ [])
+    ≡ snapped_tee (spot 0 (at 20 1) ∷ []) (spot 1 (at 0 9) ∷ [])
+unfolding moved_points
+known_anchored_ends = refl
+
+-- a point moves to an anchor of its own block
+pub known_anchored_block : anchored_spots 1 tee_and_stroke.lines (spot 0 (at 0 8) ∷ spot 1 (at 0 8) ∷ [])
+    ≡ spot 0 (at 0 8) ∷ spot 1 (at 0 9) ∷ []
+known_anchored_block = refl
+
+-- two starts become two of one piece, and a point that is no junction is refused
+pub known_end_faults : (snap_of 3 (record (drawn apart) { threads = 7 ∷ [] }) (spot 0 (at 0 0) ∷ spot 0 (at 40 20) ∷ []) []
+    ≡ Err (fault.Limit kind.EndRepeated))
+    × (snap_of 1 tee_and_stroke [] (spot 1 (at 0 5) ∷ []) ≡ Err (fault.Limit kind.NoJunction))
+unfolding moved_points
+known_end_faults = (refl, refl)
+
 -- a block without a line
-pub known_empty : remade_drawing (drawn []) near_tee ≡ Err kind.EmptyBlock
+pub known_empty : snap_of 1 (drawn near_tee) [] [] ≡ Err (fault.Limit kind.EmptyBlock)
+unfolding moved_points
 known_empty = refl

@@ -1,7 +1,7 @@
 pub mod Anchors
 pub mod MovedLines
 pub mod Listings
-pub mod RemadeDrawings
+pub mod AnchoredSpots
 -- Read this one first: a snapped drawing.
 pub mod Snaps
 -- Theorems over these definitions.

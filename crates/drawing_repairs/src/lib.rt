@@ -1,10 +1,11 @@
 //! Repairs of drawings: points that nearly meet become one, and lines list the ends that nearly touch them.
 #![tactic(auto)]
 
+mod anchored_spots;
 mod anchors;
+mod joining;
 mod listing;
 mod moving;
-mod remaking;
 mod snap_fault;
 mod snapping;
 mod theorems;

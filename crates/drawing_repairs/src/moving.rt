@@ -35,7 +35,7 @@ pub fn moved(
 }
 
 /// Returns the anchors of a block, where those of the block `known` are given.
-fn anchors_for(
+pub fn anchors_for(
     alloc: Global,
     gap: u16,
     lines: &[Line],
@@ -54,7 +54,7 @@ fn anchors_for(
 }
 
 /// Returns the anchors of a block.
-fn anchors_in(alloc: Global, gap: u16, lines: &[Line], block: u32) -> Result<Points, Memory>
+pub fn anchors_in(alloc: Global, gap: u16, lines: &[Line], block: u32) -> Result<Points, Memory>
     ensures { IfOk result (λ anchors. anchors ≡ block_anchors gap lines.now block) }
 {
     let points = points_in(alloc, lines, block)?;

@@ -1,42 +1,58 @@
-ghost use Rattle.std.specs.Prelude.{◌≡◌, ◌++◌, IfOk, OnOk, true};
+ghost use Rattle.std.specs.Prelude.{◌≡◌, ◌++◌, IfOk, OnOk, Ok, map};
 ghost use Rattle.design_model.specs.OutOfMemory.{IsSpecified};
-ghost use Rattle.line_graph.specs.JoinedDrawings.{is_joined};
-ghost use Rattle.line_graph.specs.WalkEnds.{HasNoEnds};
+ghost use Rattle.line_graph.specs.JoinedDrawings.{joined_drawing};
+ghost use Rattle.drawing_repairs.specs.AnchoredSpots.{anchored_spots};
 ghost use Rattle.drawing_repairs.specs.MovedLines.{changed_in};
-ghost use Rattle.drawing_repairs.specs.Snaps.{kept_lines, snap_is_out_of_memory, snap_of};
+ghost use Rattle.drawing_repairs.specs.Snaps.{joined_snap, kept_lines, snap_is_out_of_memory, snap_of};
 
+use crate::anchored_spots::anchor_spots;
+use crate::joining::join_drawn;
 use crate::listing::listed as with_listings;
 use crate::moving::{first_vanished, moved};
-use crate::remaking::remade;
 use crate::snap_fault::SnapFault;
 use design_model::{Items, Points};
-use line_graph::{Drawing, Line};
+use drawing_edits::draw_lines;
+use line_graph::{Drawing, Line, Spot};
 use std::alloc::Global;
 
-/// A snapped drawing: joined and without starts and ends, with the points that moved and the ends that were
-/// listed, each in order.
+/// A snapped drawing: its lines as they are drawn, the same lines joined with the starts and ends, and the
+/// points that moved and the ends that were listed, each in order.
 #[derive(Drop)]
 pub struct SnappedDrawing {
-    pub drawing: Drawing,
+    pub drawn: Drawing,
+    pub joined: Drawing,
     pub moved: Points,
     pub listed: Points,
 }
 
-/// Returns the snapped drawing of the lines of a drawing. `gap` is in tenths of a millimetre. Errors, in this
-/// order: `Vanished`, the first line all of whose points would become one; `Limit`, as for a drawing with
-/// these lines.
-pub fn snap(alloc: Global, gap: u16, d: &Drawing) -> Result<SnappedDrawing, SnapFault>
-    ensures answer { IsSpecified snap_is_out_of_memory (snap_of gap d.now) result }
-    ensures joined { IfOk result (λ snap. is_joined snap.drawing ≡ true) }
-    ensures no_ends { IfOk result (λ snap. HasNoEnds snap.drawing) }
+/// Returns the snapped drawing of drawn lines and of the starts and ends of their drawing, which move with
+/// their points. `gap` is in tenths of a millimetre. Errors, in this order: `Vanished`, the first line all of
+/// whose points would become one; `Limit`, as for a drawing with these lines, starts and ends.
+pub fn snap(
+    alloc: Global,
+    gap: u16,
+    d: &Drawing,
+    starts: &[Spot],
+    ends: &[Spot],
+) -> Result<SnappedDrawing, SnapFault>
+    ensures answer { IsSpecified snap_is_out_of_memory (snap_of gap d.now starts.now ends.now) result }
+    ensures whole { IfOk result (λ snap. joined_drawing
+        (record snap.drawn { starts = snap.joined.starts; ends = snap.joined.ends }) ≡ Ok snap.joined) }
+    ensures starts { IfOk result (λ snap.
+        snap.joined.starts ≡ anchored_spots gap d.now.lines starts.now) }
+    ensures ends { IfOk result (λ snap. snap.joined.ends ≡ anchored_spots gap d.now.lines ends.now) }
 {
     let mut moved = Points::new(alloc);
     let kept = kept(alloc, gap, d.lines(), &mut moved)?;
     let mut listed = Points::new(alloc);
     let lines = with_listings(alloc, gap, kept.as_slice(), &mut listed)?;
-    let drawing = remade(alloc, d, lines.as_slice())?;
+    let drawn = draw_lines(alloc, d, d.step(), lines.as_slice())?;
+    let new_starts = anchor_spots(alloc, gap, d.lines(), starts)?;
+    let new_ends = anchor_spots(alloc, gap, d.lines(), ends)?;
+    let joined = join_drawn(alloc, &drawn, new_starts.as_slice(), new_ends.as_slice())?;
     Ok(SnappedDrawing {
-        drawing,
+        drawn,
+        joined,
         moved,
         listed,
     })
