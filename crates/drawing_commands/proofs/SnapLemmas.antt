@@ -1,14 +1,18 @@
 -- What is proved of the plan of `snap`: it decides, its products have one output, and a fault is refused.
-use Rattle.std.proofs.Common.{◌≡◌, ℕ, List, [], ◌∷◌, Bool, Option, Ok, Err, Result, ap, refl, subst, sym}
+use Rattle.std.proofs.Common.{◌≡◌, ℕ, List, [], ◌∷◌, Bool, Option, Ok, Err, Result, ap, map, refl, subst, sym, ◌∙◌}
+use Rattle.std.specs.List.Sorted.{IsNonDecreasing}
 use Rattle.design_model.specs.OutOfMemory.{IsSpecified, UnlessOutOfMemory}
 use Rattle.drawing_repairs.specs.declared.snap_fault.SnapFault.{SnapFault}
 use Rattle.drawing_repairs.specs.declared.snapping.SnappedDrawing.{SnappedDrawing}
+use Rattle.drawing_repairs.specs.AnchoredSpots.{anchored_spots}
 use Rattle.drawing_repairs.specs.Snaps.{snap_is_out_of_memory, snap_of}
 use Rattle.drawing_text.specs.declared.draw_fault.DrawFault.{DrawFault}
 use Rattle.drawing_text.specs.declared.drawn_lines.DrawnLines.{DrawnLines}
-use Rattle.drawing_text.specs.declared.walk_end.WalkEnd.{WalkEnd}
 use Rattle.drawing_text.specs.DrawnTexts.{lines_of}
+use Rattle.drawing_text.specs.EndTexts.{AreInBlockOrder, HasOrderedEnds}
 use Rattle.line_graph.specs.Drawings.{DrawingValue}
+use Rattle.line_sections.specs.declared.spot.Spot.{Spot}
+use Rattle.line_sections.specs.Lines.{LineValue}
 use Rattle.outside_io.specs.Files.{Files}
 use Rattle.outside_io.specs.Views.{StoreView}
 use Rattle.program_shell.specs.declared.failure.Failure.{Failure}
@@ -18,7 +22,7 @@ use Rattle.program_shell.specs.Plans.{Makes}
 use Rattle.program_shell.specs.Products.{ProductValue, output_names}
 use Rattle.program_shell.specs.StepOutcomes.{RunsPurePlan}
 use Rattle.drawing_commands.specs.FaultTexts.{plan_after_reading}
-use Rattle.drawing_commands.specs.SnapOrders.{IsSnapFailure, SnapOrder, snap_drawn, snap_lines, snap_made}
+use Rattle.drawing_commands.specs.SnapOrders.{IsSnapFailure, SnapOrder, snap_lines, snap_made}
 
 -- A drawing that can't be snapped is refused with the text about its fault.
 pub snap_refused : (order : SnapOrder) (d : DrawingValue) (said : Result SnappedDrawing SnapFault) (fault : SnapFault) (why : Failure)
@@ -35,17 +39,33 @@ snap_refused order d said fault (failure.Refused text) spec (is, known) =
     here = subst (λ (b : Bool). UnlessOutOfMemory b (said ≡ Err fault)) known spec
 snap_refused order d said fault failure.Memory spec out = record { at = λ (store : StoreView). refl }
 
+-- Starts and ends that move with their points stay in their blocks.
+same_blocks : (gap : ℕ) (lines : List LineValue) (spots : List Spot)
+    → map (λ (s : Spot). s.block) spots ≡ map (λ (s : Spot). s.block) (anchored_spots gap lines spots)
+same_blocks gap lines [] = refl
+same_blocks gap lines (spot ∷ rest) = ap (λ (blocks : List ℕ). spot.block ∷ blocks) (same_blocks gap lines rest)
+
+still_ordered : (gap : ℕ) (lines : List LineValue) (spots moved : List Spot) → moved ≡ anchored_spots gap lines spots
+    → AreInBlockOrder spots → AreInBlockOrder moved
+still_ordered gap lines spots moved are ordered =
+    let Ordered : List ℕ → Type 0 = λ blocks. IsNonDecreasing blocks in
+    subst Ordered (same_blocks gap lines spots ∙ ap (λ (list : List Spot). map (λ (s : Spot). s.block) list) (sym are)) ordered
+
+-- Those of a snapped drawing are in the order of their blocks.
+pub snap_ordered : (gap : ℕ) (lines : List LineValue) (d joined : DrawingValue) → HasOrderedEnds d
+    → joined.starts ≡ anchored_spots gap lines d.starts → joined.ends ≡ anchored_spots gap lines d.ends → HasOrderedEnds joined
+snap_ordered gap lines d joined is starts ends = record {
+  starts = still_ordered gap lines d.starts joined.starts starts is.starts;
+  ends = still_ordered gap lines d.ends joined.ends ends is.ends;
+}
+
 made_exact : (order : SnapOrder) (d : DrawingValue) (read : Result SnappedDrawing SnapFault) → IsExact (snap_made order d read)
 made_exact order d (Ok snap) = tt
 made_exact order d (Err fault) = tt
 
-drawn_exact : (order : SnapOrder) (d drawn : DrawingValue) (ends : List WalkEnd) → IsExact (snap_drawn order d drawn ends)
-drawn_exact order d drawn [] = made_exact order d (snap_of order.gap drawn)
-drawn_exact order d drawn (end ∷ rest) = tt
-
 lines_exact : (order : SnapOrder) (d : DrawingValue) (read : Result DrawnLines DrawFault)
-    → IsExact (plan_after_reading order.input (λ drawn. snap_drawn order d drawn.drawing drawn.ends) read)
-lines_exact order d (Ok drawn) = drawn_exact order d drawn.drawing drawn.ends
+    → IsExact (plan_after_reading order.input (λ drawn. snap_made order d (snap_of order.gap drawn.drawing d.starts d.ends)) read)
+lines_exact order d (Ok drawn) = made_exact order d (snap_of order.gap drawn.drawing d.starts d.ends)
 lines_exact order d (Err fault) = tt
 
 -- The plan of `snap` decides.
@@ -60,16 +80,13 @@ made_outputs : (order : SnapOrder) (d : DrawingValue) (files : Option Files) (pr
 made_outputs order d files product (Ok snap) is = ap (λ (p : ProductValue). output_names p.outputs) is.made
 made_outputs order d files product (Err fault) never = absurd never
 
-drawn_outputs : (order : SnapOrder) (d drawn : DrawingValue) (files : Option Files) (product : ProductValue) (ends : List WalkEnd)
-    → Makes (snap_drawn order d drawn ends) files product → output_names product.outputs ≡ order.output ∷ []
-drawn_outputs order d drawn files product [] makes = made_outputs order d files product (snap_of order.gap drawn) makes
-drawn_outputs order d drawn files product (end ∷ rest) never = absurd never
-
 lines_outputs : (order : SnapOrder) (d : DrawingValue) (files : Option Files) (product : ProductValue)
     (read : Result DrawnLines DrawFault)
-    → Makes (plan_after_reading order.input (λ drawn. snap_drawn order d drawn.drawing drawn.ends) read) files product
+    → Makes (plan_after_reading order.input (λ drawn. snap_made order d (snap_of order.gap drawn.drawing d.starts d.ends)) read) files
+    product
     → output_names product.outputs ≡ order.output ∷ []
-lines_outputs order d files product (Ok drawn) makes = drawn_outputs order d drawn.drawing files product drawn.ends makes
+lines_outputs order d files product (Ok drawn) makes =
+    made_outputs order d files product (snap_of order.gap drawn.drawing d.starts d.ends) makes
 lines_outputs order d files product (Err fault) never = absurd never
 
 -- The products of `snap` have one output.

@@ -1,14 +1,12 @@
--- The command `snap`: a drawing whose points nearly meet is written with those points as one. The
--- lines are those that are drawn, and the snapped drawing is written in version 2 of its text. A
--- drawing with starts or ends is refused.
-use Rattle.std.specs.Prelude.{◌≡◌, ℕ, false, List, [], ◌∷◌, length, Result, Ok, Err, string_bytes}
+-- The command `snap`: a drawing whose points nearly meet is written with those points as one. Its
+-- lines are written whole, as they were drawn, and its starts and ends move with their points.
+use Rattle.std.specs.Prelude.{◌≡◌, ℕ, false, List, length, Result, Ok, Err, string_bytes}
 use Rattle.drawing_repairs.specs.declared.snap_fault.SnapFault.{SnapFault}
 use Rattle.drawing_repairs.specs.declared.snapping.SnappedDrawing.{SnappedDrawing}
 use Rattle.drawing_repairs.specs.Snaps.{snap_is_out_of_memory, snap_of}
-use Rattle.drawing_text.specs.CanonicalTexts.{canonical_text2}
-use Rattle.drawing_text.specs.declared.walk_end.WalkEnd.{WalkEnd}
 use Rattle.drawing_text.specs.DrawingText.{drawing_of}
 use Rattle.drawing_text.specs.DrawnTexts.{lines_of}
+use Rattle.drawing_text.specs.EndTexts.{drawn_text, with_ends_of}
 use Rattle.line_graph.specs.Drawings.{DrawingValue}
 use Rattle.line_graph.specs.declared.piece.Piece.{Piece}
 use Rattle.line_graph.specs.PiecesOfDrawings.{ArePiecesOf}
@@ -17,7 +15,7 @@ use Rattle.program_shell.specs.declared.failure.Failure.TheVariants as failure
 use Rattle.program_shell.specs.Plans.{Plan, accepts, reads, refuses}
 use Rattle.program_shell.specs.Products.{ProductValue, one_file_product}
 use Rattle.drawing_commands.specs.FaultTexts.{plan_after_reading}
-use Rattle.drawing_commands.specs.SnapTexts.{has_ends_text, snap_fault_text, snap_report}
+use Rattle.drawing_commands.specs.SnapTexts.{snap_fault_text, snap_report}
 
 -- The order of `snap`: the gap in tenths of a millimetre, the drawing to read, and the file to
 -- write.
@@ -30,14 +28,16 @@ pub record SnapOrder : Type 0 where
 abbrev pub snap_order : ℕ → (input output : List ℕ) → SnapOrder
 snap_order gap input output = record { gap = gap; input = input; output = output }
 
--- The product of `snap`: the snapped drawing, and a report on it and on the drawing before.
+-- The product of `snap`: the text of the snapped drawing as drawn, which is read as its joined
+-- drawing, and a report on that and on the drawing before.
 pub record IsSnapProduct (output : List ℕ) (d : DrawingValue) (snap : SnappedDrawing)
     (product : ProductValue) : Type 0 where
   pub before : List Piece
   pub before_are : ArePiecesOf d before
   pub after : List Piece
-  pub after_are : ArePiecesOf snap.drawing after
-  pub made : product ≡ one_file_product output (canonical_text2 snap.drawing)
+  pub after_are : ArePiecesOf snap.joined after
+  pub again : drawing_of (drawn_text (with_ends_of snap.drawn snap.joined)) ≡ Ok snap.joined
+  pub made : product ≡ one_file_product output (drawn_text (with_ends_of snap.drawn snap.joined))
       (snap_report (length snap.moved) (length snap.listed) (length before) (length after))
 
 -- The plan for a drawing and its snap: a snapped drawing is accepted, and a fault is refused.
@@ -45,15 +45,11 @@ abbrev pub snap_made : SnapOrder → DrawingValue → Result SnappedDrawing Snap
 snap_made order d (Ok snap) = accepts (IsSnapProduct order.output d snap)
 snap_made order d (Err fault) = refuses (snap_fault_text order.input fault)
 
--- The plan for a drawing, its lines as they are drawn, and the starts and ends that the text names.
-abbrev pub snap_drawn : SnapOrder → (d drawn : DrawingValue) → List WalkEnd → Plan
-snap_drawn order d drawn [] = snap_made order d (snap_of order.gap drawn)
-snap_drawn order d drawn (end ∷ rest) = refuses (has_ends_text order.input)
-
--- The plan for the drawing of a text and the result of reading its lines.
+-- The plan for the drawing of a text and the result of reading its lines: these are snapped, with
+-- the starts and ends of the drawing.
 abbrev pub snap_lines : SnapOrder → List ℕ → DrawingValue → Plan
 snap_lines order bytes d = plan_after_reading order.input (λ drawn.
-    snap_drawn order d drawn.drawing drawn.ends) (lines_of bytes)
+    snap_made order d (snap_of order.gap drawn.drawing d.starts d.ends)) (lines_of bytes)
 
 -- The plan for the bytes of the file.
 abbrev pub snap_read : SnapOrder → List ℕ → Plan

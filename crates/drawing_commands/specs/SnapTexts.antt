@@ -17,10 +17,6 @@ abbrev pub snap_fault_text : List ℕ → SnapFault → List ℕ
 snap_fault_text name (fault.Vanished line) = vanished_text name line.block line.line
 snap_fault_text name (fault.Limit kind) = text_about name (draw_kind_text kind)
 
--- The text about a drawing with starts or ends.
-abbrev pub has_ends_text : List ℕ → List ℕ
-has_ends_text name = text_about name (codes "starts and ends are not snapped")
-
 -- The report of `snap`: how many points moved, how many ends were listed, and how many pieces the
 -- drawing has before and after.
 abbrev pub snap_report : (moved listed before after : ℕ) → List ℕ

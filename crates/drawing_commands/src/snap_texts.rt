@@ -1,6 +1,6 @@
 ghost use Rattle.std.specs.Prelude.{◌≡◌, IfOk, string_bytes};
 ghost use Rattle.drawing_commands.specs.SnapOrders.{IsSnapFailure};
-ghost use Rattle.drawing_commands.specs.SnapTexts.{has_ends_text, snap_fault_text, snap_report, vanished_text};
+ghost use Rattle.drawing_commands.specs.SnapTexts.{snap_fault_text, snap_report, vanished_text};
 ghost use Rattle.drawing_repairs.specs.Snaps.{snap_is_out_of_memory};
 ghost use Rattle.program_shell.specs.StepOutcomes.{IsRefusalWith};
 
@@ -85,14 +85,4 @@ fn describe_vanished(alloc: Global, name: &str, vanished: VanishedLine) -> Resul
     let line = vanished.line as u128 + 1;
     let text = format!(in alloc; "{name}: block {block} line {line}: would vanish")?;
     Ok(text)
-}
-
-/// Returns the refusal of a drawing with starts or ends, or out of memory.
-pub(crate) fn has_ends_failure<'a>(alloc: Global, name: &str) -> Failure<'a>
-    ensures { IsRefusalWith (has_ends_text name.now) result }
-{
-    match describe_file(alloc, name, "starts and ends are not snapped") {
-        Ok(text) => Failure::Refused(text),
-        Err(Memory) => Failure::Memory,
-    }
 }

@@ -1,25 +1,25 @@
-ghost use Rattle.std.specs.Prelude.{◌≡◌, ◌≤◌, IfOk, length, true};
+ghost use Rattle.std.specs.Prelude.{◌≤◌, IfOk, length};
 ghost use Rattle.drawing_commands.specs.FaultTexts.{plan_after_reading};
-ghost use Rattle.drawing_commands.specs.SnapOrders.{IsSnapProduct, snap_drawn, snap_lines, snap_made, snap_order, snap_plan, snap_read};
+ghost use Rattle.drawing_commands.specs.SnapOrders.{IsSnapProduct, snap_lines, snap_made, snap_order, snap_plan, snap_read};
 ghost use Rattle.drawing_repairs.specs.Snaps.{snap_of};
 ghost use Rattle.drawing_text.specs.declared.limits.TheConstants.{MAX_TEXT};
-ghost use Rattle.line_graph.specs.JoinedDrawings.{is_joined};
-ghost use Rattle.line_graph.specs.WalkEnds.{HasNoEnds};
+ghost use Rattle.drawing_text.specs.EndTexts.{HasOrderedEnds};
+ghost use Rattle.drawing_text.specs.TextLaws.{IsJoinedFrom};
 ghost use Rattle.outside_io.specs.Files.{IsFileName};
 ghost use Rattle.program_shell.specs.Products.{product_value};
 ghost use Rattle.program_shell.specs.StepOutcomes.{RunsPlan, RunsPurePlan};
 
-use crate::snap_texts::{has_ends_failure, print_snap, snap_failure};
+use crate::snap_texts::{print_snap, snap_failure};
 use design_model::Memory;
 use drawing_inputs::drawing_failure;
 use drawing_repairs::{SnappedDrawing, snap};
-use drawing_text::{DrawnLines, print_drawing2, read_drawing, read_lines};
+use drawing_text::{print_drawn, read_drawing, read_lines, texts_order_ends};
 use line_graph::{Drawing, pieces};
 use outside_io::Store;
 use program_shell::{Failure, Output, Product, one_output, read_input};
 use std::alloc::Global;
 
-/// Snaps a drawing, and writes it as the canonical text of version 2.
+/// Snaps a drawing, and writes its lines whole, with its starts and ends.
 pub(crate) fn snap_file<'a, S: Store>(
     alloc: Global,
     gap: u16,
@@ -48,7 +48,10 @@ fn snap_text<'a>(
     ensures { RunsPurePlan (snap_read (snap_order gap input.now output.now) bytes.now) result }
 {
     match read_drawing(alloc, bytes) {
-        Ok(drawing) => snap_drawing(alloc, gap, input, output, bytes, &drawing),
+        Ok(drawing) => {
+            texts_order_ends();
+            snap_drawing(alloc, gap, input, output, bytes, &drawing)
+        }
         Err(fault) => Err(drawing_failure(alloc, input, fault)),
     }
 }
@@ -63,34 +66,17 @@ fn snap_drawing<'a>(
 ) -> Result<Product<'a>, Failure<'a>>
     requires short { length bytes.now ≤ MAX_TEXT }
     requires output { IsFileName output.now }
+    requires ordered { HasOrderedEnds drawing.now }
     ensures { RunsPurePlan
         (snap_lines (snap_order gap input.now output.now) bytes.now drawing.now) result }
 {
     match read_lines(alloc, bytes) {
-        Ok(drawn) => snap_drawn_lines(alloc, gap, input, output, drawing, &drawn),
+        Ok(drawn) => snap_lines_of(alloc, gap, input, output, drawing, &drawn.drawing),
         Err(fault) => Err(drawing_failure(alloc, input, fault)),
     }
 }
 
-/// Snaps the lines of a drawing as they are drawn, if the text names no start and no end.
-fn snap_drawn_lines<'a>(
-    alloc: Global,
-    gap: u16,
-    input: &'a str,
-    output: &'a str,
-    drawing: &Drawing,
-    drawn: &DrawnLines,
-) -> Result<Product<'a>, Failure<'a>>
-    requires { IsFileName output.now }
-    ensures { RunsPurePlan (snap_drawn (snap_order gap input.now output.now) drawing.now
-        drawn.now.drawing drawn.now.ends) result }
-{
-    match drawn.ends.as_slice() {
-        [] => snap_lines_of(alloc, gap, input, output, drawing, &drawn.drawing),
-        [_, ..] => Err(has_ends_failure(alloc, input)),
-    }
-}
-
+/// Snaps the lines of a drawing as they are drawn, with its starts and ends.
 fn snap_lines_of<'a>(
     alloc: Global,
     gap: u16,
@@ -99,11 +85,12 @@ fn snap_lines_of<'a>(
     drawing: &Drawing,
     drawn: &Drawing,
 ) -> Result<Product<'a>, Failure<'a>>
-    requires { IsFileName output.now }
-    ensures { RunsPurePlan
-        (snap_made (snap_order gap input.now output.now) drawing.now (snap_of gap drawn.now)) result }
+    requires output { IsFileName output.now }
+    requires ordered { HasOrderedEnds drawing.now }
+    ensures { RunsPurePlan (snap_made (snap_order gap input.now output.now) drawing.now
+        (snap_of gap drawn.now drawing.now.starts drawing.now.ends)) result }
 {
-    match snap(alloc, gap, drawn) {
+    match snap(alloc, gap, drawn, drawing.starts(), drawing.ends()) {
         Ok(snapped) => {
             let product = snap_product(alloc, output, drawing, &snapped)?;
             Ok(product)
@@ -118,13 +105,13 @@ fn snap_product<'a>(
     drawing: &Drawing,
     snapped: &SnappedDrawing,
 ) -> Result<Product<'a>, Memory>
-    requires joined { is_joined snapped.now.drawing ≡ true }
-    requires no_ends { HasNoEnds snapped.now.drawing }
+    requires whole { IsJoinedFrom snapped.now.drawn snapped.now.joined }
+    requires ordered { HasOrderedEnds snapped.now.joined }
     ensures { IfOk result (λ product.
         IsSnapProduct output.now drawing.now snapped.now (product_value product)) }
 {
     let before = pieces(alloc, drawing)?;
-    let after = pieces(alloc, &snapped.drawing)?;
+    let after = pieces(alloc, &snapped.joined)?;
     let report = print_snap(
         alloc,
         snapped.moved.len(),
@@ -132,7 +119,7 @@ fn snap_product<'a>(
         before.len(),
         after.len(),
     )?;
-    let content = print_drawing2(alloc, &snapped.drawing)?;
+    let content = print_drawn(alloc, &snapped.drawn, &snapped.joined)?;
     let product = one_output(
         alloc,
         Output {
