@@ -16,7 +16,7 @@ pub use cases::{Case, CaseStep, ExpectedText, FailingCalls, FileContent};
 pub use checks::{JUDGED, READ_IN_ORDER, SAMPLED};
 pub use doubles::DOUBLED;
 pub use held_parts::has_part;
-pub use looks::{DrawingRun, LOOKED, LOOKED_AT, SNAPPED};
+pub use looks::{DrawingRun, LOOKED, LOOKED_AT};
 pub use routes::{CLOSED, MEETING, NOT_ROUTED, PATTERN};
 pub use starts_and_ends::ENDED;
 pub use traces::TRACED;

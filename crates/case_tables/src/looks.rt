@@ -132,9 +132,9 @@ pub static LOOKED: &[DrawingRun] = &[
     (
         &["snap", "2", "ended.rw", "out.rw"],
         [0, 0, 0],
-        1,
+        0,
+        "moved 0 listed 0 pieces 1 to 1\n",
         "",
-        "stitch_drawing: ended.rw: starts and ends are not snapped\n",
     ),
     (
         &["snap", "2", "bad.rw", "out.rw"],
@@ -161,7 +161,3 @@ pub static LOOKED: &[DrawingRun] = &[
     (&["look"], [0, 0, 0], 2, "", USAGE),
     (&[], [0, 0, 0], 2, "", USAGE),
 ];
-
-/// What a snap by 2 leaves of `loose.rw`.
-pub const SNAPPED: &str =
-    "redwork 2\nname loose\nstep 10\ncolor 7\nline 0 0 20 2\nline 20 2 40 0 80 0\nline 80 0 90 40\nline 20 30 20 2\ncolor 9\nline 20 -1 20 -30\n";

@@ -1,5 +1,5 @@
 //! Runs of `stitch_drawing` over files in memory.
-use case_tables::{LOOKED, LOOKED_AT, SNAPPED};
+use case_tables::{LOOKED, LOOKED_AT};
 use drawing_commands::run;
 use outside_io::{MemSink, MemStore};
 use std::alloc::Global;
@@ -34,26 +34,4 @@ fn a_run_ends_as_its_files_and_arguments_say(rt: HostRuntime) -> Result<(), Fail
         assert_eq!(rt; ended as u8, *status);
     }
     Ok(())
-}
-
-#[test]
-fn a_snap_writes_the_snapped_drawing(rt: HostRuntime) -> Result<(), Fail> {
-    let alloc = rt.alloc();
-    let mut store = stocked(alloc)?;
-    let mut out = MemSink::new(alloc, 1_000)?;
-    let mut err = MemSink::new(alloc, 1_000)?;
-    let mut given = Vec::new(alloc);
-    for word in ["snap", "2", "loose.rw", "out.rw"] {
-        given.push(String::from_str(alloc, word)?)?;
-    }
-    run(alloc, &given, &mut store, &mut out, &mut err);
-    assert_eq!(rt; is_held(&store, "out.rw", SNAPPED), true);
-    Ok(())
-}
-
-fn is_held(store: &MemStore, name: &str, text: &str) -> bool {
-    match store.file(name) {
-        Some(content) => content == text.as_bytes(),
-        None => false,
-    }
 }
