@@ -9,6 +9,7 @@ use Rattle.line_graph.specs.declared.draw_kind.DrawKind.TheVariants as kind
 use Rattle.line_graph.specs.Drawings.{DrawingValue}
 use Rattle.drawing_text.specs.DrawingText.{drawing_as2, drawing_of}
 use Rattle.drawing_text.specs.CanonicalTexts.{canonical_text2}
+use Rattle.drawing_text.specs.DrawnTexts.{drawing_as_drawn}
 use Rattle.drawing_text.specs.EndTexts.{AreInBlockOrder, canonical_text3, drawn_text, end_lines_text, with_ends_of}
 use Rattle.drawing_text.specs.TextLaws.{IsJoinedFrom}
 use Rattle.drawing_text.proofs.CanonicalTextFacts.{place}
@@ -133,6 +134,11 @@ known_drawn_text = refl
 pub known_drawn_again : drawing_of (drawn_text (with_ends_of drawn_cross both_ends)) ≡ Ok both_ends
 unfolding digits
 known_drawn_again = refl
+
+-- and its lines are those that were drawn
+pub known_as_drawn : drawing_as_drawn (drawn_text (with_ends_of drawn_cross both_ends)) ≡ Ok drawn_cross
+unfolding digits
+known_as_drawn = refl
 
 -- a start or an end alone takes version 3, and neither of them version 2
 pub known_drawn_versions : (drawn_text (crossed (spot 20 0 ∷ []) []) ≡ canonical_text3 (crossed (spot 20 0 ∷ []) []))

@@ -24,9 +24,9 @@ use Rattle.drawing_text.specs.declared.version.Version.TheVariants as version
 use Rattle.drawing_text.specs.declared.walk_end.WalkEnd.{WalkEnd}
 use Rattle.drawing_text.specs.CanonicalTexts.{block_text, blocks_text, canonical_text2, canonical_text_in, header_text, label_text, number_line_text}
 use Rattle.drawing_text.specs.DrawingText.{Body, at_line, body_from, drawing_after_lines, drawing_in_version, drawing_of, drawing_of_draft, drawing_with_ends}
-use Rattle.drawing_text.specs.DrawnTexts.{lines_after, lines_of, lines_of_draft}
+use Rattle.drawing_text.specs.DrawnTexts.{drawing_as_drawn, lines_after, lines_of, lines_of_draft}
 use Rattle.drawing_text.specs.EndTexts.{blocks_text3, canonical_text3, with_ends_of}
-use Rattle.drawing_text.specs.TextLaws.{CanonicalText2IsRead, CanonicalText2KeepsLines, CanonicalText3IsRead, CanonicalText3KeepsLines, CanonicalTextIsRead, DrawnTextIsRead, IsJoinedFrom}
+use Rattle.drawing_text.specs.TextLaws.{CanonicalText2IsRead, CanonicalText2KeepsLines, CanonicalText3IsRead, CanonicalText3KeepsLines, CanonicalTextIsRead, DrawnTextIsRead, DrawnTextKeepsLines, IsJoinedFrom}
 use Rattle.drawing_text.specs.TextLines.{draft_after_words, empty_draft}
 use Rattle.drawing_text.specs.Words.{words_by_line}
 
@@ -258,3 +258,14 @@ lines3_kept drawn joined keeps is valid =
         ap (λ (r : Result DrawingValue DrawKind). and_then (and_then (at_line number opened r)
         (λ (e : DrawingValue). Ok (record { version = version.Three; drawing = e; ends = ends }))) drawing_alone)
         (finished_whole drawn keeps)
+
+pub drawn_kept : DrawnTextKeepsLines
+drawn_kept drawn joined keeps none is valid =
+    by_test (length joined.starts == 0 && length joined.ends == 0)
+  where
+    by_test : (no_ends : Bool)
+        → drawing_as_drawn (if no_ends then canonical_text2 (with_ends_of drawn joined) else canonical_text3 (with_ends_of drawn joined))
+        ≡ Ok drawn
+    by_test true = ap (λ (r : Result DrawnLines DrawFault). and_then r (λ (lines : DrawnLines). Ok lines.drawing))
+        (lines2_kept drawn keeps none)
+    by_test false = lines3_kept drawn joined keeps is valid ∙ ap (λ (d : DrawingValue). Ok d) (ended_none drawn none)

@@ -2,6 +2,7 @@
 -- the lines. Lines of the text are numbered from 1.
 use Rattle.std.specs.Prelude.{ℕ, ◌+◌, List, [], ◌∷◌, Result, Ok}
 use Rattle.design_model.specs.OutOfMemory.{IsSpecified}
+use Rattle.line_graph.specs.Drawings.{DrawingValue}
 use Rattle.line_graph.specs.GrowingDrawings.{and_then, finished_drawing}
 use Rattle.drawing_text.specs.declared.draft.DrawingDraft.{DrawingDraft}
 use Rattle.drawing_text.specs.declared.draw_fault.DrawFault.{DrawFault}
@@ -28,6 +29,10 @@ lines_after version number draft (words ∷ rest) =
 abbrev pub lines_of : List ℕ → Result DrawnLines DrawFault
 lines_of text = and_then (body_of_text text) (λ body.
     lines_after body.version (body.header + 1) empty_draft body.lines)
+
+-- The drawing of the lines of a text as they are drawn, or the first fault of them.
+abbrev pub drawing_as_drawn : List ℕ → Result DrawingValue DrawFault
+drawing_as_drawn text = and_then (lines_of text) (λ lines. Ok lines.drawing)
 
 -- The result of reading lines equals the specified one, or is out of memory.
 abbrev pub ReadsLines : Result DrawnLines DrawFault → Result DrawnLines DrawFault → Type 0

@@ -2,13 +2,12 @@
 -- were drawn. A text lists starts and ends in the order of their blocks.
 use Rattle.std.specs.Prelude.{◌≡◌, ℕ, List, [], Ok}
 use Rattle.line_graph.specs.Drawings.{DrawingValue, KeepsDrawingLimits}
-use Rattle.line_graph.specs.GrowingDrawings.{and_then}
 use Rattle.line_graph.specs.JoinedDrawings.{joined_drawing}
 use Rattle.line_graph.specs.WalkEnds.{HasNoEnds, IsValidDrawing}
 use Rattle.drawing_text.specs.declared.version.Version.TheVariants as version
 use Rattle.drawing_text.specs.CanonicalTexts.{canonical_text, canonical_text2}
 use Rattle.drawing_text.specs.DrawingText.{drawing_of}
-use Rattle.drawing_text.specs.DrawnTexts.{lines_of}
+use Rattle.drawing_text.specs.DrawnTexts.{drawing_as_drawn, lines_of}
 use Rattle.drawing_text.specs.EndTexts.{HasOrderedEnds, canonical_text3, drawn_text, with_ends_of}
 
 -- The canonical text of a drawing without starts and ends is read as that drawing.
@@ -50,8 +49,14 @@ CanonicalText2KeepsLines = (d : DrawingValue) → KeepsDrawingLimits d → HasNo
 abbrev pub CanonicalText3KeepsLines : Type 0
 CanonicalText3KeepsLines = (drawn joined : DrawingValue) → KeepsDrawingLimits drawn
     → IsJoinedFrom drawn joined → IsValidDrawing joined
-    → and_then (lines_of (canonical_text3 (with_ends_of drawn joined))) (λ lines. Ok lines.drawing)
+    → drawing_as_drawn (canonical_text3 (with_ends_of drawn joined))
     ≡ Ok (record drawn { starts = []; ends = [] })
+
+-- The lines of the canonical text of drawn lines, in version 2 or 3, are the drawn lines.
+abbrev pub DrawnTextKeepsLines : Type 0
+DrawnTextKeepsLines = (drawn joined : DrawingValue) → KeepsDrawingLimits drawn → HasNoEnds drawn
+    → IsJoinedFrom drawn joined → IsValidDrawing joined
+    → drawing_as_drawn (drawn_text (with_ends_of drawn joined)) ≡ Ok drawn
 
 -- The starts and ends of a drawing that a text describes are in the order of their blocks.
 abbrev pub TextsOrderEnds : Type 0

@@ -1,7 +1,9 @@
 ghost use Rattle.std.specs.Prelude.{◌≡◌, ◌++◌, ◌≤◌, IfOk, Ok, OnOk, codes, length, true};
 ghost use Rattle.line_graph.specs.JoinedDrawings.{is_joined};
+ghost use Rattle.line_graph.specs.WalkEnds.{HasNoEnds};
 ghost use Rattle.drawing_text.specs.CanonicalTexts.{block_text, canonical_text2};
 ghost use Rattle.drawing_text.specs.DrawingText.{drawing_of};
+ghost use Rattle.drawing_text.specs.DrawnTexts.{drawing_as_drawn};
 ghost use Rattle.drawing_text.specs.EndTexts.{HasOrderedEnds, block_text3, blocks_text3, canonical_text3, drawn_text, end_line_text, end_lines_text, with_ends_of};
 ghost use Rattle.drawing_text.specs.TextLaws.{IsJoinedFrom};
 
@@ -13,12 +15,14 @@ use line_graph::{Drawing, Spot, joined_drawings_stay};
 use std::alloc::Global;
 
 /// Returns the canonical text of lines as they are drawn, with the starts and ends of their joined drawing:
-/// version 3 where it has any, else version 2. Reading the text returns the joined drawing.
+/// version 3 where it has any, else version 2. Reading the text returns the joined drawing, and reading its
+/// lines those that are drawn.
 pub fn print_drawn(alloc: Global, drawn: &Drawing, joined: &Drawing) -> Result<Bytes, Memory>
     requires whole { IsJoinedFrom drawn.now joined.now }
     requires ordered { HasOrderedEnds joined.now }
     ensures value { IfOk result (λ text. text ≡ drawn_text (with_ends_of drawn.now joined.now)) }
     ensures again { IfOk result (λ text. drawing_of text ≡ Ok joined.now) }
+    ensures lines { HasNoEnds drawn.now → IfOk result (λ text. drawing_as_drawn text ≡ Ok drawn.now) }
 {
     drawn.keeps_limits();
     joined.keeps_limits();

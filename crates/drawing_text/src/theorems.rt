@@ -1,4 +1,4 @@
-ghost use Rattle.drawing_text.specs.TextLaws.{CanonicalText2IsRead, CanonicalText2KeepsLines, CanonicalText3IsRead, CanonicalText3KeepsLines, CanonicalTextIsRead, DrawnTextIsRead, TextsOrderEnds};
+ghost use Rattle.drawing_text.specs.TextLaws.{CanonicalText2IsRead, CanonicalText2KeepsLines, CanonicalText3IsRead, CanonicalText3KeepsLines, CanonicalTextIsRead, DrawnTextIsRead, DrawnTextKeepsLines, TextsOrderEnds};
 ghost use Rattle.drawing_text.specs.ValidTexts.{TextsAs2DefineValidDrawings, TextsDefineValidDrawings};
 
 use line_graph::{
@@ -16,6 +16,7 @@ pub fn drawn_texts_are_read()
     ensures read2 { CanonicalText2IsRead }
     ensures read3 { CanonicalText3IsRead }
     ensures read { DrawnTextIsRead }
+    ensures lines { DrawnTextKeepsLines }
     ensures lines2 { CanonicalText2KeepsLines }
     ensures lines3 { CanonicalText3KeepsLines }
 {}
