@@ -5,7 +5,7 @@ use Rattle.drawing_repairs.specs.declared.snap_fault.SnapFault.{SnapFault}
 use Rattle.drawing_repairs.specs.declared.snapping.SnappedDrawing.{SnappedDrawing}
 use Rattle.drawing_repairs.specs.Snaps.{snap_is_out_of_memory, snap_of}
 use Rattle.drawing_text.specs.DrawingText.{drawing_of}
-use Rattle.drawing_text.specs.DrawnTexts.{lines_of}
+use Rattle.drawing_text.specs.DrawnTexts.{drawing_as_drawn, lines_of}
 use Rattle.drawing_text.specs.EndTexts.{drawn_text, with_ends_of}
 use Rattle.line_graph.specs.Drawings.{DrawingValue}
 use Rattle.line_graph.specs.declared.piece.Piece.{Piece}
@@ -28,16 +28,21 @@ pub record SnapOrder : Type 0 where
 abbrev pub snap_order : ℕ → (input output : List ℕ) → SnapOrder
 snap_order gap input output = record { gap = gap; input = input; output = output }
 
--- The product of `snap`: the text of the snapped drawing as drawn, which is read as its joined
--- drawing, and a report on that and on the drawing before.
+-- The text of a snapped drawing: its lines as they are drawn, with its starts and ends.
+abbrev pub snapped_text : SnappedDrawing → List ℕ
+snapped_text snap = drawn_text (with_ends_of snap.drawn snap.joined)
+
+-- The product of `snap`: the text of the snapped drawing and a report on it and on the drawing
+-- before. The text is read as the joined drawing, and its lines as they are drawn.
 pub record IsSnapProduct (output : List ℕ) (d : DrawingValue) (snap : SnappedDrawing)
     (product : ProductValue) : Type 0 where
   pub before : List Piece
   pub before_are : ArePiecesOf d before
   pub after : List Piece
   pub after_are : ArePiecesOf snap.joined after
-  pub again : drawing_of (drawn_text (with_ends_of snap.drawn snap.joined)) ≡ Ok snap.joined
-  pub made : product ≡ one_file_product output (drawn_text (with_ends_of snap.drawn snap.joined))
+  pub again : drawing_of (snapped_text snap) ≡ Ok snap.joined
+  pub lines : drawing_as_drawn (snapped_text snap) ≡ Ok snap.drawn
+  pub made : product ≡ one_file_product output (snapped_text snap)
       (snap_report (length snap.moved) (length snap.listed) (length before) (length after))
 
 -- The plan for a drawing and its snap: a snapped drawing is accepted, and a fault is refused.

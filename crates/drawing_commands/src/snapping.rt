@@ -5,6 +5,7 @@ ghost use Rattle.drawing_repairs.specs.Snaps.{snap_of};
 ghost use Rattle.drawing_text.specs.declared.limits.TheConstants.{MAX_TEXT};
 ghost use Rattle.drawing_text.specs.EndTexts.{HasOrderedEnds};
 ghost use Rattle.drawing_text.specs.TextLaws.{IsJoinedFrom};
+ghost use Rattle.line_graph.specs.WalkEnds.{HasNoEnds};
 ghost use Rattle.outside_io.specs.Files.{IsFileName};
 ghost use Rattle.program_shell.specs.Products.{product_value};
 ghost use Rattle.program_shell.specs.StepOutcomes.{RunsPlan, RunsPurePlan};
@@ -107,6 +108,7 @@ fn snap_product<'a>(
 ) -> Result<Product<'a>, Memory>
     requires whole { IsJoinedFrom snapped.now.drawn snapped.now.joined }
     requires ordered { HasOrderedEnds snapped.now.joined }
+    requires no_ends { HasNoEnds snapped.now.drawn }
     ensures { IfOk result (λ product.
         IsSnapProduct output.now drawing.now snapped.now (product_value product)) }
 {

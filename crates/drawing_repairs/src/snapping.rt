@@ -1,6 +1,7 @@
 ghost use Rattle.std.specs.Prelude.{◌≡◌, ◌++◌, IfOk, OnOk, Ok, map};
 ghost use Rattle.design_model.specs.OutOfMemory.{IsSpecified};
 ghost use Rattle.line_graph.specs.JoinedDrawings.{joined_drawing};
+ghost use Rattle.line_graph.specs.WalkEnds.{HasNoEnds};
 ghost use Rattle.drawing_repairs.specs.AnchoredSpots.{anchored_spots};
 ghost use Rattle.drawing_repairs.specs.MovedLines.{changed_in};
 ghost use Rattle.drawing_repairs.specs.Snaps.{joined_snap, kept_lines, snap_is_out_of_memory, snap_of};
@@ -38,6 +39,7 @@ pub fn snap(
     ensures answer { IsSpecified snap_is_out_of_memory (snap_of gap d.now starts.now ends.now) result }
     ensures whole { IfOk result (λ snap. joined_drawing
         (record snap.drawn { starts = snap.joined.starts; ends = snap.joined.ends }) ≡ Ok snap.joined) }
+    ensures no_ends { IfOk result (λ snap. HasNoEnds snap.drawn) }
     ensures starts { IfOk result (λ snap.
         snap.joined.starts ≡ anchored_spots gap d.now.lines starts.now) }
     ensures ends { IfOk result (λ snap. snap.joined.ends ≡ anchored_spots gap d.now.lines ends.now) }
