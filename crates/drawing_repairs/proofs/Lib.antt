@@ -1,6 +1,8 @@
 mod SnapFacts
+mod CellFacts
 pub mod MoveLemmas
 pub mod JoiningLemmas
+pub mod CellLemmas
 pub mod ListingLemmas
 pub mod FollowLemmas
 pub mod SettledLemmas

@@ -8,7 +8,7 @@ use Rattle.design_model.specs.declared.point.Point.{Point}
 use Rattle.drawing_repairs.specs.Anchors.{anchored, anchors_after, anchors_of, distance_between, is_within_gap, nearer_anchor, nearest_after, nearest_anchor, point_or, with_anchor}
 
 -- a chosen anchor is within the gap
-abbrev IsNearChoice : ℕ → Point → Option Point → Type 0
+abbrev pub IsNearChoice : ℕ → Point → Option Point → Type 0
 IsNearChoice gap p None = Unit {0}
 IsNearChoice gap p (Some a) = distance_between p a ≤ gap
 
@@ -22,7 +22,7 @@ nearer_near : (gap : ℕ) (p best a : Point) (b : Bool) → nat_lt (distance_bet
 nearer_near gap p best a true is near = let less = ltb-true (distance_between p a) (distance_between p best) is in omega (arith, less, near)
 nearer_near gap p best a false is near = near
 
-near_one : (gap : ℕ) (p a : Point) (best : Option Point) → IsNearChoice gap p best → IsNearChoice gap p (nearer_anchor gap p best a)
+pub near_one : (gap : ℕ) (p a : Point) (best : Option Point) → IsNearChoice gap p best → IsNearChoice gap p (nearer_anchor gap p best a)
 near_one gap p a None near = near_if gap p a (nat_le (distance_between p a) gap) refl
 near_one gap p a (Some best) near = nearer_near gap p best a (nat_lt (distance_between p a) (distance_between p best)) refl near
 

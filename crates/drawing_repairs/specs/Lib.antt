@@ -1,4 +1,6 @@
 pub mod Anchors
+-- Used only inside this crate.
+pub mod Cells
 pub mod MovedLines
 pub mod Listings
 pub mod AnchoredSpots

@@ -2,9 +2,9 @@ ghost use Rattle.std.specs.Prelude.{◌≡◌, ◌++◌, ◌∷◌, [], IfOk, On
 ghost use Rattle.drawing_repairs.specs.AnchoredSpots.{anchored_spot, anchored_spots};
 ghost use Rattle.drawing_repairs.specs.MovedLines.{block_anchors};
 
-use crate::anchors::anchor_of;
+use crate::anchors::Anchors;
 use crate::moving::{anchors_for, anchors_in};
-use design_model::{Memory, Points};
+use design_model::Memory;
 use line_graph::{Line, Spot};
 use std::alloc::Global;
 
@@ -28,7 +28,7 @@ pub fn anchor_spots(
     while let [spot, after @ ..] = rest {
         anchors = anchors_for(alloc, gap, lines, spot.block, block, anchors)?;
         block = spot.block;
-        put_anchored(gap, lines, &anchors, *spot, &mut moved)?;
+        put_anchored(lines, &anchors, *spot, &mut moved)?;
         rest = after;
     }
     Ok(moved)
@@ -36,18 +36,18 @@ pub fn anchor_spots(
 
 /// Adds a start or an end after its point moved. Both `lines`, all of the drawing, and `anchors` are given.
 fn put_anchored(
-    gap: u16,
     lines: &[Line],
-    anchors: &Points,
+    anchors: &Anchors,
     spot: Spot,
     moved: &mut Vec<Spot>,
 ) -> Result<(), Memory>
-    requires { anchors.now ≡ block_anchors gap lines.now spot.block }
-    ensures { OnOk result (moved.new.items ≡ moved.old.items ++ anchored_spot gap lines.now spot ∷ []) }
+    requires { anchors.now.points ≡ block_anchors anchors.now.gap lines.now spot.block }
+    ensures { OnOk result (moved.new.items
+        ≡ moved.old.items ++ anchored_spot anchors.now.gap lines.now spot ∷ []) }
 {
     moved.push(Spot {
         block: spot.block,
-        at: anchor_of(gap, anchors.as_slice(), spot.at),
+        at: anchors.anchor_of(spot.at),
     })?;
     Ok(())
 }

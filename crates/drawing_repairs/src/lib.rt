@@ -3,6 +3,7 @@
 
 mod anchored_spots;
 mod anchors;
+mod cells;
 mod joining;
 mod listing;
 mod moving;

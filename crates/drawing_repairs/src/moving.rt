@@ -4,7 +4,7 @@ ghost use Rattle.line_sections.specs.Sections.{listed_in};
 ghost use Rattle.drawing_repairs.specs.Anchors.{anchored};
 ghost use Rattle.drawing_repairs.specs.MovedLines.{block_anchors, changed_in, changed_points, moved_line, moved_lines, unrepeated, unrepeated_after, vanished_from};
 
-use crate::anchors::{anchor_of, put_anchors};
+use crate::anchors::Anchors;
 use crate::vanished::VanishedLine;
 use design_model::{Memory, Point, Points};
 use line_sections::{Line, first_point};
@@ -28,7 +28,7 @@ pub fn moved(
     while let [line, after @ ..] = rest {
         anchors = anchors_for(alloc, gap, lines, line.block(), block, anchors)?;
         block = line.block();
-        put_moved(alloc, gap, lines, &anchors, line, &mut moved, changed)?;
+        put_moved(alloc, lines, &anchors, line, &mut moved, changed)?;
         rest = after;
     }
     Ok(moved)
@@ -41,10 +41,12 @@ pub fn anchors_for(
     lines: &[Line],
     block: u32,
     known: u32,
-    anchors: Points,
-) -> Result<Points, Memory>
-    requires { anchors ≡ block_anchors gap lines.now known }
-    ensures { IfOk result (λ anchors. anchors ≡ block_anchors gap lines.now block) }
+    anchors: Anchors,
+) -> Result<Anchors, Memory>
+    requires gap { anchors.gap ≡ gap }
+    requires points { anchors.points ≡ block_anchors gap lines.now known }
+    ensures gap { IfOk result (λ anchors. anchors.gap ≡ gap) }
+    ensures points { IfOk result (λ anchors. anchors.points ≡ block_anchors gap lines.now block) }
 {
     if block == known {
         return Ok(anchors);
@@ -54,12 +56,12 @@ pub fn anchors_for(
 }
 
 /// Returns the anchors of a block.
-pub fn anchors_in(alloc: Global, gap: u16, lines: &[Line], block: u32) -> Result<Points, Memory>
-    ensures { IfOk result (λ anchors. anchors ≡ block_anchors gap lines.now block) }
+pub fn anchors_in(alloc: Global, gap: u16, lines: &[Line], block: u32) -> Result<Anchors, Memory>
+    ensures gap { IfOk result (λ anchors. anchors.gap ≡ gap) }
+    ensures points { IfOk result (λ anchors. anchors.points ≡ block_anchors gap lines.now block) }
 {
     let points = points_in(alloc, lines, block)?;
-    let mut anchors = Points::new(alloc);
-    put_anchors(&mut anchors, gap, points.as_slice())?;
+    let anchors = Anchors::of(alloc, gap, points.as_slice())?;
     Ok(anchors)
 }
 
@@ -90,20 +92,19 @@ fn put_if_in(points: &mut Points, line: &Line, block: u32) -> Result<(), Memory>
 #[tactic(auto, unfolding(crate::specs::MovedLines::moved_points))]
 fn put_moved(
     alloc: Global,
-    gap: u16,
     lines: &[Line],
-    anchors: &Points,
+    anchors: &Anchors,
     line: &Line,
     moved: &mut Vec<Line>,
     changed: &mut Points,
 ) -> Result<(), Memory>
-    requires { anchors.now ≡ block_anchors gap lines.now line.now.block }
+    requires { anchors.now.points ≡ block_anchors anchors.now.gap lines.now line.now.block }
     ensures moved { OnOk result
-        (moved.new.items ≡ moved.old.items ++ moved_line gap lines.now line.now ∷ []) }
+        (moved.new.items ≡ moved.old.items ++ moved_line anchors.now.gap lines.now line.now ∷ []) }
     ensures changed { OnOk result
-        (changed.new ≡ changed.old ++ changed_in gap lines.now (line.now ∷ [])) }
+        (changed.new ≡ changed.old ++ changed_in anchors.now.gap lines.now (line.now ∷ [])) }
 {
-    let found = found(alloc, gap, anchors.as_slice(), line.points(), changed)?;
+    let found = found(alloc, anchors, line.points(), changed)?;
     let points = without_repeats(alloc, found.as_slice())?;
     moved.push(Line::new(line.block(), points))?;
     Ok(())
@@ -112,18 +113,19 @@ fn put_moved(
 /// Returns the anchors to which points move. The points that differ from them are added to `changed`.
 fn found(
     alloc: Global,
-    gap: u16,
-    anchors: &[Point],
+    anchors: &Anchors,
     points: &[Point],
     changed: &mut Points,
 ) -> Result<Points, Memory>
-    ensures found { IfOk result (λ found. found ≡ map (anchored gap anchors.now) points.now) }
-    ensures changed { OnOk result (changed.new ≡ changed.old ++ changed_points gap anchors.now points.now) }
+    ensures found { IfOk result (λ found.
+        found ≡ map (anchored anchors.now.gap anchors.now.points) points.now) }
+    ensures changed { OnOk result (changed.new
+        ≡ changed.old ++ changed_points anchors.now.gap anchors.now.points points.now) }
 {
     let mut found = Points::new(alloc);
     let mut rest = points;
     while let [p, after @ ..] = rest {
-        let anchor = anchor_of(gap, anchors, *p);
+        let anchor = anchors.anchor_of(*p);
         found.push(anchor)?;
         put_if_other(changed, *p, anchor)?;
         rest = after;

@@ -6,7 +6,8 @@ use Rattle.drawing_repairs.proofs.anchored_spots.anchor_spots.Given as goal
 -- the anchors of this block, and the spots so far with those that are left
 abbrev pub invariant-loop-rest : goal.invariant-loop-rest
 invariant-loop-rest l = record {
-  anchors : l.anchors ≡ block_anchors l.gap l.lines l.block;
+  gap : l.anchors.gap ≡ l.gap;
+  anchors : l.anchors.points ≡ block_anchors l.gap l.lines l.block;
   moved : l.moved.items ++ anchored_spots l.gap l.lines l.rest ≡ anchored_spots l.gap l.lines l.spots;
 }
 

@@ -1,0 +1,132 @@
+-- The points of a cell have all those that are within the gap of a point in it: the nearest of all is the nearest of these.
+use Rattle.std.proofs.Common.{◌≡◌, ℕ, ℤ, pos, negsuc, ◌+◌, ◌-◌, ◌*◌, ◌/◌, ◌-ℤ◌, ◌<◌, ◌≤◌, ◌==◌, unsigned_abs, Bool, ◌&&◌, ◌||◌, true, false, nat_lt, List, [], ◌∷◌, ◌++◌, Option, Some, None, filter, if◌then◌else◌, refl, ap, sym, ◌∙◌, arith}
+use Rattle.std.proofs.lemmas.Bool.{leb-false, leb-true, ltb-true}
+use Rattle.std.proofs.lemmas.Int.{ints}
+use Rattle.std.proofs.lemmas.Nat.{div-add-mod', div_below, le-div, mod_below}
+use Rattle.std.specs.List.{list_any}
+use Rattle.design_model.specs.declared.point.Point.{Point}
+use Rattle.drawing_review.specs.Frames.{grid_coordinate, grid_point}
+use Rattle.drawing_repairs.specs.Anchors.{distance_between, is_within_gap, nearer_anchor, nearest_after, nearest_anchor, with_anchor}
+use Rattle.drawing_repairs.specs.Cells.{AreInCells, CellPoints, cell_of, cell_side, first_reached, is_reached_at, last_reached, points_in_cell, reaches_cell}
+use Rattle.drawing_repairs.proofs.MoveLemmas.{IsNearChoice, near_one}
+
+-- coordinates that count from the least are no farther apart
+grid_near : (gap : ℕ) (m n : ℤ) → unsigned_abs (n -ℤ m) ≤ gap → grid_coordinate n ≤ grid_coordinate m + gap
+grid_near gap (pos m) (pos n) near = omega (arith, ints, near)
+grid_near gap (pos m) (negsuc n) near = omega (arith, ints, near)
+grid_near gap (negsuc m) (pos n) near = omega (arith, ints, near)
+grid_near gap (negsuc m) (negsuc n) near = omega (arith, ints, near)
+
+turned : (gap : ℕ) (m n : ℤ) → unsigned_abs (n -ℤ m) ≤ gap → unsigned_abs (m -ℤ n) ≤ gap
+turned gap m n near = omega (arith, ints, near)
+
+-- a quotient by the side of a cell, between the two bounds of its index
+within_cell : (side n : ℕ) → 0 < side → (n / side * side ≤ n) × (n < n / side * side + side)
+within_cell side n some =
+    let whole = div-add-mod' n side in let less = mod_below n side some in (omega (arith, whole), omega (arith, whole, less))
+
+same_index : (first last index : ℕ) → first ≤ index → index ≤ last → last ≤ first + 1 → (first == index || last == index) ≡ true
+same_index first last index low high near = grind arith
+
+next_index : (side first n : ℕ) → n < first * side + 2 * side → n < (first + 2) * side
+next_index side first n less = omega (arith, less)
+
+-- the square around a coordinate reaches the cells of all coordinates within the gap
+reached_by : (gap n m : ℕ) → n ≤ m + gap → m ≤ n + gap → is_reached_at gap n (m / cell_side gap) ≡ true
+reached_by gap n m low high =
+    let side = cell_side gap in
+    let first = within_cell side (n - gap) (omega arith) in
+    let here = within_cell side m (omega arith) in
+    let last = within_cell side (n + gap) (omega arith) in
+    same_index (first_reached gap n) (last_reached gap n) (m / side)
+    (le-div (first_reached gap n) m side (omega arith) (omega (arith, first.0, low)))
+    (le-div (m / side) (n + gap) side (omega arith) (omega (arith, here.0, high)))
+    (below (last_reached gap n) (first_reached gap n)
+    (div_below (n + gap) side (first_reached gap n + 2) (omega arith)
+    (next_index side (first_reached gap n) (n + gap) (omega (arith, first.1)))))
+  where
+    below : (last first : ℕ) → last < first + 2 → last ≤ first + 1
+    below last first less = omega (arith, less)
+
+both_true : (a b : Bool) → a ≡ true → b ≡ true → (a && b) ≡ true
+both_true true true is other = refl
+both_true true false is other = other
+both_true false b is other = is
+
+-- the square around an anchor reaches the cells of all points within the gap
+near_reaches : (gap : ℕ) (p a : Point) → is_within_gap gap p a ≡ true → reaches_cell gap a (cell_of gap p) ≡ true
+near_reaches gap p a is =
+    let near = leb-true (distance_between p a) gap is in
+    let x : unsigned_abs (a.x -ℤ p.x) ≤ gap = omega (arith, near) in
+    let y : unsigned_abs (a.y -ℤ p.y) ≤ gap = omega (arith, near) in
+    both_true _ _
+    (reached_by gap (grid_point a).x (grid_point p).x (grid_near gap p.x a.x x) (grid_near gap a.x p.x (turned gap p.x a.x x)))
+    (reached_by gap (grid_point a).y (grid_point p).y (grid_near gap p.y a.y y) (grid_near gap a.y p.y (turned gap p.y a.y y)))
+
+-- one more point that fails a test, or that passes both
+any_one : (one kept rest : Bool) (x : Point) (xs : List Point) (test : Point → Bool) → test x ≡ one
+    → (one ≡ true → kept ≡ true) → list_any test xs ≡ rest
+    → list_any test (if kept then x ∷ xs else xs) ≡ (one || rest)
+any_one true true rest x xs test is keeps same = ap (λ (b : Bool). b || list_any test xs) is
+any_one true false rest x xs test is keeps same = let never : false ≡ true = keeps refl in cc
+any_one false true rest x xs test is keeps same = ap (λ (b : Bool). b || list_any test xs) is ∙ same
+any_one false false rest x xs test is keeps same = same
+
+-- what a test keeps has one that passes another where all have
+any_kept : (test keeps : Point → Bool) (xs : List Point) → ((x : Point) → test x ≡ true → keeps x ≡ true)
+    → list_any test (filter keeps xs) ≡ list_any test xs
+any_kept test keeps [] within = refl
+any_kept test keeps (x ∷ xs) within =
+    any_one (test x) (keeps x) (list_any test xs) x (filter keeps xs) test refl (within x) (any_kept test keeps xs within)
+
+-- a point that isn't within the gap changes no choice
+no_change : (gap : ℕ) (p a : Point) (best : Option Point) (b : Bool) → is_within_gap gap p a ≡ b → b ≡ false → IsNearChoice gap p best
+    → nearer_anchor gap p best a ≡ best
+no_change gap p a None b is far near = ap (λ (b : Bool). if b then Some a else None) (is ∙ far)
+no_change gap p a (Some best) b is far near =
+    farther (nat_lt (distance_between p a) (distance_between p best)) refl
+  where
+    farther : (c : Bool) → nat_lt (distance_between p a) (distance_between p best) ≡ c → Some (if c then a else best) ≡ Some best
+    farther true less =
+        let nearer = ltb-true (distance_between p a) (distance_between p best) less in
+        let beyond = leb-false (distance_between p a) gap (is ∙ far) in
+        absurd (omega (arith, nearer, beyond, near))
+    farther false less = refl
+
+nearest_one : (gap : ℕ) (p a : Point) (best : Option Point) (xs kept : List Point) (one keeps : Bool) → is_within_gap gap p a ≡ one
+    → (one ≡ true → keeps ≡ true) → IsNearChoice gap p best
+    → ((next : Option Point) → IsNearChoice gap p next → nearest_after gap p next kept ≡ nearest_after gap p next xs)
+    → nearest_after gap p best (if keeps then a ∷ kept else kept) ≡ nearest_after gap p (nearer_anchor gap p best a) xs
+nearest_one gap p a best xs kept one true is within near same = same (nearer_anchor gap p best a) (near_one gap p a best near)
+nearest_one gap p a best xs kept true false is within near same = let never : false ≡ true = within refl in cc
+nearest_one gap p a best xs kept false false is within near same =
+    same best near ∙ ap (λ (next : Option Point). nearest_after gap p next xs) (sym (no_change gap p a best false is refl near))
+
+nearest_kept : (gap : ℕ) (p : Point) (keeps : Point → Bool) (xs : List Point)
+    → ((x : Point) → is_within_gap gap p x ≡ true → keeps x ≡ true) → (best : Option Point) → IsNearChoice gap p best
+    → nearest_after gap p best (filter keeps xs) ≡ nearest_after gap p best xs
+nearest_kept gap p keeps [] within best near = refl
+nearest_kept gap p keeps (x ∷ xs) within best near =
+    nearest_one gap p x best xs (filter keeps xs) (is_within_gap gap p x) (keeps x) refl (within x) near
+    (nearest_kept gap p keeps xs within)
+
+-- a point is within the gap of one of all where it is of one of its cell
+any_in_cell : (gap : ℕ) (points : List Point) (cells : CellPoints) (p : Point) → AreInCells gap points cells
+    → list_any (is_within_gap gap p) (points_in_cell cells (cell_of gap p)) ≡ list_any (is_within_gap gap p) points
+any_in_cell gap points cells p are =
+    ap (λ (some : List Point). list_any (is_within_gap gap p) some) (are.each (cell_of gap p))
+    ∙ any_kept (is_within_gap gap p) (λ a. reaches_cell gap a (cell_of gap p)) points (near_reaches gap p)
+
+-- A point becomes an anchor where none of its cell is within the gap.
+pub added_by_cell : (gap : ℕ) (points : List Point) (cells : CellPoints) (p : Point) (b : Bool) → AreInCells gap points cells
+    → b ≡ list_any (is_within_gap gap p) (points_in_cell cells (cell_of gap p))
+    → (if b then points else points ++ p ∷ []) ≡ with_anchor gap points p
+added_by_cell gap points cells p b are is =
+    ap (λ (has : Bool). if has then points else points ++ p ∷ []) (is ∙ any_in_cell gap points cells p are)
+
+-- The nearest anchor of all is the nearest one of the cell.
+pub nearest_in_cell : (gap : ℕ) (points : List Point) (cells : CellPoints) (p : Point) → AreInCells gap points cells
+    → nearest_anchor gap (points_in_cell cells (cell_of gap p)) p ≡ nearest_anchor gap points p
+nearest_in_cell gap points cells p are =
+    ap (λ (some : List Point). nearest_anchor gap some p) (are.each (cell_of gap p))
+    ∙ nearest_kept gap p (λ a. reaches_cell gap a (cell_of gap p)) points (near_reaches gap p) None tt
