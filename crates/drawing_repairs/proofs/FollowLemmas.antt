@@ -11,7 +11,7 @@ use Rattle.drawing_review.specs.Frames.{grid_point}
 use Rattle.drawing_review.specs.Meetings.{is_near}
 use Rattle.drawing_repairs.specs.Listings.{FollowedLine, due_end, followed_by, followed_for, followed_line, followed_on, is_due, segment_between, steps_to_follow, unfollowed_line}
 
-point_itself : (p : Point) → is_same_point p p ≡ true
+pub point_itself : (p : Point) → is_same_point p p ≡ true
 point_itself p = and_both (int_eq p.x p.x) (int_eq p.y p.y) ((Decides-int_eq p.x p.x).1 refl) ((Decides-int_eq p.y p.y).1 refl)
   where
     and_both : (a b : Bool) → a ≡ true → b ≡ true → (a && b) ≡ true

@@ -1,5 +1,6 @@
 mod SnapFacts
 mod CellFacts
+mod SnapLawFacts
 pub mod MoveLemmas
 pub mod JoiningLemmas
 pub mod CellLemmas
@@ -10,3 +11,7 @@ pub mod ListedOnceLemmas
 pub mod ListedLinesLemmas
 pub mod SpreadLemmas
 pub mod MovedApartLemmas
+pub mod DueLemmas
+pub mod RepeatLemmas
+pub mod BlockPointLemmas
+pub mod SnapAgainLemmas

@@ -50,7 +50,7 @@ ends_if true x y xs ys one rest =
 ends_if false x y xs ys one rest = rest
 
 -- a block has the ends that it had
-same_block_ends : (gap : ℕ) (all lines : List LineValue) (block : ℕ)
+pub same_block_ends : (gap : ℕ) (all lines : List LineValue) (block : ℕ)
     → block_ends (map (listed_line gap all) lines) block ≡ block_ends lines block
 same_block_ends gap all [] block = refl
 same_block_ends gap all (line ∷ rest) block =

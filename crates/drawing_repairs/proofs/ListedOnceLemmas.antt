@@ -7,13 +7,13 @@ use Rattle.design_model.specs.Points.{is_same_point}
 use Rattle.drawing_review.specs.declared.segment.LineSegment.{LineSegment}
 use Rattle.drawing_review.specs.Frames.{grid_point}
 use Rattle.drawing_review.specs.Meetings.{is_near}
-use Rattle.drawing_repairs.specs.Listings.{FollowedLine, due_end, followed_by, followed_for, followed_line, followed_on, followed_points, segment_between, steps_to_follow, unfollowed_line, with_due_ends}
+use Rattle.drawing_repairs.specs.Listings.{FollowedLine, due_end, due_ends, followed_by, followed_for, followed_line, followed_on, followed_points, segment_between, steps_to_follow, unfollowed_line, with_due_ends}
 use Rattle.drawing_repairs.specs.SnapLaws.{IsSettledTo}
 use Rattle.drawing_repairs.proofs.FollowLemmas.{followed_to_end}
 use Rattle.drawing_repairs.proofs.SettledLemmas.{none_due}
 
 -- two lists have the same points
-abbrev HaveSamePoints : List Point → List Point → Type 0
+abbrev pub HaveSamePoints : List Point → List Point → Type 0
 HaveSamePoints xs ys = (test : Point → Bool) → list_any test xs ≡ list_any test ys
 
 pub joined_again : (passed : List Point) (at : Point) (more : List Point) → (passed ++ at ∷ []) ++ more ≡ passed ++ at ∷ more
@@ -39,7 +39,7 @@ by_same f b rest (Some e) same test =
     ∙ one_later (list_any test f.passed) (test f.at) (test e) (list_any test (b ∷ rest))
     ∙ sym (list_any-append test f.passed (f.at ∷ e ∷ b ∷ rest))
 
-on_same : (gap : ℕ) (ends : List Point) (f : FollowedLine) (left : List Point) → f.left ≡ left
+pub on_same : (gap : ℕ) (ends : List Point) (f : FollowedLine) (left : List Point) → f.left ≡ left
     → HaveSamePoints f.listed (followed_points f)
     → let g = followed_on gap ends f left in HaveSamePoints g.listed (followed_points g)
 on_same gap ends f [] is same = same
@@ -77,47 +77,77 @@ from_first gap ends xs ys a (b ∷ rest) at same settled =
 -- a line keeps its points, and is settled from where it is followed
 record IsKept (gap : ℕ) (ends : List Point) (f g : FollowedLine) : Type 0 where
   points : followed_points g ≡ followed_points f
+  added : g.added ≡ f.added
   settled : IsSettledFrom gap ends g.listed g.at g.left
 
 on_kept : (gap : ℕ) (ends : List Point) (f : FollowedLine) (left : List Point) → f.left ≡ left
     → IsSettledFrom gap ends f.listed f.at left → IsKept gap ends f (followed_on gap ends f left)
 on_kept gap ends f [] is settled = record {
   points = refl;
+  added = refl;
   settled = subst (λ (left : List Point). IsSettledFrom gap ends f.listed f.at left) (sym is) settled;
 }
 on_kept gap ends f (b ∷ rest) is settled =
     subst (λ (due : Option Point). IsKept gap ends f (followed_by f b rest due)) (sym settled.0) (record {
       points = joined_again f.passed f.at (b ∷ rest) ∙ ap (λ (left : List Point). f.passed ++ f.at ∷ left) (sym is);
+      added = refl;
       settled = settled.1;
     })
 
+-- a line keeps its points, and no end is put into it
+record Stays (f g : FollowedLine) : Type 0 where
+  points : followed_points g ≡ followed_points f
+  added : g.added ≡ f.added
+
 for_kept : (n gap : ℕ) (ends : List Point) (f : FollowedLine) → IsSettledFrom gap ends f.listed f.at f.left
-    → followed_points (followed_for n gap ends f) ≡ followed_points f
-for_kept zero gap ends f settled = refl
+    → Stays f (followed_for n gap ends f)
+for_kept zero gap ends f settled = record { points = refl; added = refl }
 for_kept (suc n) gap ends f settled =
     let kept = on_kept gap ends f f.left refl settled in
-    for_kept n gap ends (followed_on gap ends f f.left) kept.settled ∙ kept.points
+    let later = for_kept n gap ends (followed_on gap ends f f.left) kept.settled in
+    record { points = later.points ∙ kept.points; added = later.added ∙ kept.added }
+
+-- a line lists no further end: it keeps its points
+record ListsNoMore (gap : ℕ) (ends some : List Point) : Type 0 where
+  points : with_due_ends gap ends some ≡ some
+  added : due_ends gap ends some ≡ []
+
+list_no_more : (gap : ℕ) (ends : List Point) (a : Point) (rest : List Point) → IsSettledFrom gap ends (a ∷ rest) a rest
+    → ListsNoMore gap ends (a ∷ rest)
+list_no_more gap ends a rest settled =
+    let stays = for_kept (steps_to_follow ends rest) gap ends (unfollowed_line a rest) settled in
+    record { points = stays.points; added = stays.added }
 
 settled_stays : (gap : ℕ) (ends listed passed : List Point) (at : Point) → HaveSamePoints listed (passed ++ at ∷ [])
-    → IsSettledTo gap ends listed passed at → with_due_ends gap ends (passed ++ at ∷ []) ≡ passed ++ at ∷ []
-settled_stays gap ends listed [] at same settled =
-    for_kept (steps_to_follow ends []) gap ends (unfollowed_line at []) tt
+    → IsSettledTo gap ends listed passed at → ListsNoMore gap ends (passed ++ at ∷ [])
+settled_stays gap ends listed [] at same settled = list_no_more gap ends at [] tt
 settled_stays gap ends listed (a ∷ more) at same settled =
-    for_kept (steps_to_follow ends (more ++ at ∷ [])) gap ends (unfollowed_line a (more ++ at ∷ []))
+    list_no_more gap ends a (more ++ at ∷ [])
     (from_first gap ends listed (a ∷ more ++ at ∷ []) a more at (λ test. sym (same test)) settled)
 
 -- a line that was followed to its last point stays
 ended_stays : (gap : ℕ) (ends : List Point) (f : FollowedLine) (left : List Point) → left ≡ []
     → HaveSamePoints f.listed (f.passed ++ f.at ∷ left) → IsSettledTo gap ends f.listed f.passed f.at
-    → with_due_ends gap ends (f.passed ++ f.at ∷ left) ≡ f.passed ++ f.at ∷ left
+    → ListsNoMore gap ends (f.passed ++ f.at ∷ left)
 ended_stays gap ends f [] is same settled = settled_stays gap ends f.listed f.passed f.at same settled
-ended_stays gap ends f (b ∷ rest) is same settled = cc
+ended_stays gap ends f (b ∷ rest) is same settled = absurd (one_left is)
+  where
+    one_left : b ∷ rest ≡ [] → ⊥
+    one_left is = cc
+
+-- a line lists the ends that are due in it once, and no more afterwards
+no_more_listed : (gap : ℕ) (ends points : List Point) → ListsNoMore gap ends (with_due_ends gap ends points)
+no_more_listed gap ends [] = record { points = refl; added = refl }
+no_more_listed gap ends (p ∷ rest) =
+    let f = followed_line gap ends p rest in
+    ended_stays gap ends f f.left (followed_to_end gap ends p rest)
+    (for_same (steps_to_follow ends rest) gap ends (unfollowed_line p rest) (λ test. refl)) (none_due gap ends p rest)
 
 -- A line lists the ends that are due in it once.
 pub listed_once : (gap : ℕ) (ends points : List Point)
     → with_due_ends gap ends (with_due_ends gap ends points) ≡ with_due_ends gap ends points
-listed_once gap ends [] = refl
-listed_once gap ends (p ∷ rest) =
-    let f = followed_line gap ends p rest in
-    ended_stays gap ends f f.left (followed_to_end gap ends p rest)
-    (for_same (steps_to_follow ends rest) gap ends (unfollowed_line p rest) (λ test. refl)) (none_due gap ends p rest)
+listed_once gap ends points = (no_more_listed gap ends points).points
+
+-- No end is due in a line that lists those that were.
+pub none_added : (gap : ℕ) (ends points : List Point) → due_ends gap ends (with_due_ends gap ends points) ≡ []
+none_added gap ends points = (no_more_listed gap ends points).added

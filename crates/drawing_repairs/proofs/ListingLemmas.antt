@@ -6,16 +6,16 @@ use Rattle.design_model.specs.declared.point.Point.{Point}
 use Rattle.drawing_review.specs.declared.segment.LineSegment.{LineSegment}
 use Rattle.drawing_repairs.specs.Listings.{FollowedLine, due_end, followed_by, followed_for, followed_on, followed_points, is_due, segment_between, steps_to_follow, unfollowed_line, with_due_ends}
 
-both : (a b : Bool) → a ≡ true → b ≡ true → (a && b) ≡ true
+pub both : (a b : Bool) → a ≡ true → b ≡ true → (a && b) ≡ true
 both true true is other = refl
 both true false is other = other
 both false b is other = is
 
-first_part : (a b : Bool) → (a && b) ≡ true → a ≡ true
+pub first_part : (a b : Bool) → (a && b) ≡ true → a ≡ true
 first_part true b is = refl
 first_part false b is = is
 
-second_part : (a b : Bool) → (a && b) ≡ true → b ≡ true
+pub second_part : (a b : Bool) → (a && b) ≡ true → b ≡ true
 second_part true b is = is
 second_part false b is = cc
 

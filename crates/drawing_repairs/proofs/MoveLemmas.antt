@@ -48,7 +48,7 @@ moves_within gap anchors p = near_point gap p (nearest_anchor gap anchors p) (ne
 one_place : (a b : ℤ) → unsigned_abs (b -ℤ a) ≤ 0 → b ≡ a
 one_place a b near = omega (arith, ints, near)
 
-abbrev point_at : ℤ → ℤ → Point
+abbrev pub point_at : ℤ → ℤ → Point
 point_at x y = record { x = x; y = y }
 
 -- Points that are 0 apart are the same.
@@ -61,7 +61,7 @@ same_point p q near =
 pub stays : (anchors : List Point) (p : Point) → anchored 0 anchors p ≡ p
 stays anchors p = same_point p (anchored 0 anchors p) (moves_within 0 anchors p)
 
-either_false : (a b : Bool) → (a || b) ≡ false → (a ≡ false) × (b ≡ false)
+pub either_false : (a b : Bool) → (a || b) ≡ false → (a ≡ false) × (b ≡ false)
 either_false true b is = cc
 either_false false b is = (refl, is)
 

@@ -8,11 +8,11 @@ use Rattle.design_model.specs.declared.point.Point.{Point}
 use Rattle.drawing_repairs.specs.Anchors.{anchored, anchors_after, anchors_of, distance_between, is_within_gap, nearest_after, nearest_anchor, point_or, with_anchor}
 use Rattle.drawing_repairs.proofs.MoveLemmas.{HoldsOfChoice, far_apart, nearest_holds, same_place}
 
-or_then : (a b : Bool) → a ≡ true → (a || b) ≡ true
+pub or_then : (a b : Bool) → a ≡ true → (a || b) ≡ true
 or_then true b is = refl
 or_then false b is = cc
 
-then_or : (a b : Bool) → b ≡ true → (a || b) ≡ true
+pub then_or : (a b : Bool) → b ≡ true → (a || b) ≡ true
 then_or true b is = refl
 then_or false b is = is
 
@@ -83,7 +83,7 @@ found_point P p None never = cc
 found_point P p (Some a) holds = holds
 
 -- what holds of all anchors of points holds of the places to which they move
-all_moved : (P : Point → Type 0) (gap : ℕ) (points : List Point) → All P (anchors_of gap points)
+pub all_moved : (P : Point → Type 0) (gap : ℕ) (points : List Point) → All P (anchors_of gap points)
     → All (λ p. P (anchored gap (anchors_of gap points) p)) points
 all_moved P gap points all i d low =
     let p = get_or points i d in
@@ -97,7 +97,7 @@ mirrored a b = omega (arith, ints)
 mirrored_distance : (p q : Point) → distance_between p q ≡ distance_between q p
 mirrored_distance p q = omega (arith, mirrored p.x q.x, mirrored p.y q.y)
 
-abbrev IsOnlyNear : ℕ → Point → Point → Type 0
+abbrev pub IsOnlyNear : ℕ → Point → Point → Type 0
 IsOnlyNear gap p a = distance_between p a ≤ gap → a ≡ p
 
 by_order : (R : Type 0) (i j : ℕ) → (i < j → R) → (j < i → R) → (i ≡ j → R) → R
@@ -123,11 +123,16 @@ anchors_only gap points i j d low other near =
     (λ after. absurd (omega (arith, near, far_apart gap points j i d after low)))
     (λ is. ap (λ (k : ℕ). get_or (anchors_of gap points) k d) (sym is))
 
+-- anchors are the same or farther apart than the gap
+pub all_only : (gap : ℕ) (points : List Point)
+    → All (λ a. All (λ b. IsOnlyNear gap a b) (anchors_of gap points)) (anchors_of gap points)
+all_only gap points i d low j e other =
+    subst (λ (b : Point). IsOnlyNear gap (get_or (anchors_of gap points) i d) b)
+    (one_default (anchors_of gap points) j d e other) (anchors_only gap points i j d low other)
+
 -- Points that moved are the same or farther apart than the gap.
 pub moved_apart : (gap : ℕ) (points : List Point)
     → All (λ p. All (λ q. IsOnlyNear gap (anchored gap (anchors_of gap points) p) (anchored gap (anchors_of gap points) q)) points) points
 moved_apart gap points =
     all_moved (λ x. All (λ q. IsOnlyNear gap x (anchored gap (anchors_of gap points) q)) points) gap points
-    (λ i d low. all_moved (λ y. IsOnlyNear gap (get_or (anchors_of gap points) i d) y) gap points
-    (λ j e other. subst (λ (y : Point). IsOnlyNear gap (get_or (anchors_of gap points) i d) y)
-    (one_default (anchors_of gap points) j d e other) (anchors_only gap points i j d low other)))
+    (λ i d low. all_moved (λ y. IsOnlyNear gap (get_or (anchors_of gap points) i d) y) gap points (all_only gap points i d low))

@@ -1,11 +1,19 @@
 -- Laws of snaps: how far points move, and which points a line lists. Distances are on the larger
 -- axis, in tenths of a millimetre.
-use Rattle.std.specs.Prelude.{◌≡◌, ℕ, ◌<◌, ◌≤◌, Bool, true, List, [], ◌∷◌, None, All, AllPairs}
-use Rattle.std.specs.List.{list_all}
+use Rattle.std.specs.Prelude.{◌≡◌, ℕ, ◌<◌, ◌≤◌, Bool, true, false, List, [], ◌∷◌, Some, None, Ok, All, AllPairs}
+use Rattle.std.specs.List.{list_all, list_any}
 use Rattle.design_model.specs.declared.point.Point.{Point}
+use Rattle.design_model.specs.Points.{is_same_point}
 use Rattle.line_sections.specs.Lines.{LineValue}
+use Rattle.line_sections.specs.Sections.{listed_in}
+use Rattle.line_graph.specs.Drawings.{HasNoRepeat}
+use Rattle.drawing_review.specs.declared.segment.LineSegment.{LineSegment}
+use Rattle.drawing_review.specs.Frames.{grid_point}
+use Rattle.drawing_review.specs.Meetings.{is_near}
 use Rattle.drawing_repairs.specs.Anchors.{anchored, anchors_of, distance_between}
-use Rattle.drawing_repairs.specs.Listings.{due_end, followed_line, listed_lines, segment_between, with_due_ends}
+use Rattle.drawing_repairs.specs.Listings.{added_ends, due_end, followed_line, listed_lines, segment_between, with_due_ends}
+use Rattle.drawing_repairs.specs.MovedLines.{block_anchors, changed_in, moved_lines}
+use Rattle.drawing_repairs.specs.Snaps.{snapped_lines}
 
 -- A point is within the gap of the anchor to which it moves.
 abbrev pub PointsMoveWithinGap : Type 0
@@ -79,3 +87,33 @@ LinesListEndsOnce = (gap : ℕ) (ends points : List Point)
 abbrev pub DrawingsListEndsOnce : Type 0
 DrawingsListEndsOnce = (gap : ℕ) (lines : List LineValue)
     → listed_lines gap (listed_lines gap lines) ≡ listed_lines gap lines
+
+-- An end that is put into a segment is an end of the block, within the gap of that segment and not
+-- yet listed. With a gap of 0 it lies on the segment.
+abbrev pub DueEndsAreNear : Type 0
+DueEndsAreNear = (gap : ℕ) (listed : List Point) (s : LineSegment) (ends : List Point) (e : Point)
+    → due_end gap listed s ends ≡ Some e
+    → (is_near gap (grid_point e) s ≡ true) × (list_any (is_same_point e) listed ≡ false)
+    × (list_any (is_same_point e) ends ≡ true)
+
+-- With a gap of 0 lines stay, if no point of them repeats the one before.
+abbrev pub LinesStayWithoutGap : Type 0
+LinesStayWithoutGap = (lines : List LineValue)
+    → All (λ line. HasNoRepeat line.points) lines → moved_lines 0 lines ≡ lines
+
+-- Snapped lines stay when they are snapped again.
+abbrev pub SnappingTwiceIsOnce : Type 0
+SnappingTwiceIsOnce = (gap : ℕ) (lines snapped : List LineValue)
+    → snapped_lines gap lines ≡ Ok snapped → snapped_lines gap snapped ≡ Ok snapped
+
+-- When snapped lines are snapped again, no point moves and no end is added.
+abbrev pub SecondSnapsChangeNothing : Type 0
+SecondSnapsChangeNothing = (gap : ℕ) (lines snapped : List LineValue)
+    → snapped_lines gap lines ≡ Ok snapped
+    → (changed_in gap snapped snapped ≡ []) × (added_ends gap snapped snapped ≡ [])
+
+-- A point that a block of snapped lines lists stays when they are snapped again.
+abbrev pub SnappedPointsStay : Type 0
+SnappedPointsStay = (gap : ℕ) (lines snapped : List LineValue) (block : ℕ)
+    → snapped_lines gap lines ≡ Ok snapped
+    → All (λ p. anchored gap (block_anchors gap snapped block) p ≡ p) (listed_in snapped block)

@@ -14,5 +14,8 @@ mod vanished;
 
 pub use snap_fault::SnapFault;
 pub use snapping::{SnappedDrawing, snap};
-pub use theorems::{anchors_are_apart, listings_add_ends_alone, points_move_within_gap};
+pub use theorems::{
+    anchors_are_apart, ends_are_put_where_they_lie, lines_list_ends_once, listings_add_ends_alone,
+    points_move_within_gap, snapping_twice_is_once,
+};
 pub use vanished::VanishedLine;

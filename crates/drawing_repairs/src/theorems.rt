@@ -1,4 +1,4 @@
-ghost use Rattle.drawing_repairs.specs.SnapLaws.{AnchorsAreApart, AnchorsStay, DrawingsListEndsOnce, LinesAreFollowedToTheEnd, LinesListEndsOnce, ListingsAddEndsAlone, LonePointsStay, MovedPointsAreApart, NoEndIsDueAfterwards, NoPointMovesWithoutGap, PointsMoveOnce, PointsMoveWithinGap};
+ghost use Rattle.drawing_repairs.specs.SnapLaws.{AnchorsAreApart, AnchorsStay, DrawingsListEndsOnce, DueEndsAreNear, LinesAreFollowedToTheEnd, LinesListEndsOnce, LinesStayWithoutGap, ListingsAddEndsAlone, LonePointsStay, MovedPointsAreApart, NoEndIsDueAfterwards, NoPointMovesWithoutGap, PointsMoveOnce, PointsMoveWithinGap, SecondSnapsChangeNothing, SnappedPointsStay, SnappingTwiceIsOnce};
 
 /// Theorem: a point is within the gap of the anchor to which it moves, and with a gap of 0 no point moves.
 pub fn points_move_within_gap()
@@ -30,4 +30,18 @@ pub fn listings_add_ends_alone()
 pub fn lines_list_ends_once()
     ensures once { LinesListEndsOnce }
     ensures all { DrawingsListEndsOnce }
+{}
+
+/// Theorem: an end that a line lists is one of its block, within the gap of the segment that it is put into,
+/// and wasn't listed. With a gap of 0 it lies on the segment, and no point moves.
+pub fn ends_are_put_where_they_lie()
+    ensures near { DueEndsAreNear }
+    ensures exact { LinesStayWithoutGap }
+{}
+
+/// Theorem: snapped lines stay as they are when they are snapped again: no point moves, and no end is added.
+pub fn snapping_twice_is_once()
+    ensures once { SnappingTwiceIsOnce }
+    ensures nothing { SecondSnapsChangeNothing }
+    ensures stay { SnappedPointsStay }
 {}

@@ -1,0 +1,150 @@
+-- No point of a line repeats the one before: after it was moved, and after ends were put into it.
+use Rattle.std.proofs.Common.{◌≡◌, ◌≢◌, ℕ, ℤ, zero, suc, Bool, true, false, ◌&&◌, ◌||◌, List, [], ◌∷◌, ◌++◌, map, Option, Some, None, if◌then◌else◌, refl, ap, sym, subst, ◌∙◌}
+use Rattle.std.proofs.lemmas.Bool.Decides.{Decides-int_eq}
+use Rattle.std.proofs.lemmas.Cmp.{int_eq_equiv}
+use Rattle.std.proofs.lemmas.List.Folds.{list_any-append}
+use Rattle.std.specs.List.{list_any}
+use Rattle.std.specs.Ordering.{int_eq}
+use Rattle.design_model.specs.declared.point.Point.{Point}
+use Rattle.design_model.specs.Points.{is_same_point}
+use Rattle.step_splitter.specs.Chains.{HasNoRepeatAfter}
+use Rattle.line_graph.specs.Drawings.{HasNoRepeat}
+use Rattle.line_graph.specs.GrowingDrawings.{has_repeated_point, repeats_after}
+use Rattle.drawing_repairs.specs.Anchors.{anchored}
+use Rattle.drawing_repairs.specs.Listings.{FollowedLine, due_end, followed_by, followed_for, followed_on, followed_points, segment_between, steps_to_follow, unfollowed_line, with_due_ends}
+use Rattle.drawing_repairs.specs.MovedLines.{moved_points, unrepeated, unrepeated_after}
+use Rattle.drawing_repairs.proofs.DueLemmas.{due_is}
+use Rattle.drawing_repairs.proofs.ListedOnceLemmas.{HaveSamePoints, joined_again, on_same}
+use Rattle.drawing_repairs.proofs.ListingLemmas.{first_part, second_part}
+use Rattle.drawing_repairs.proofs.MoveLemmas.{either_false, point_at}
+
+neither : (a b : Bool) → a ≡ false → b ≡ false → (a || b) ≡ false
+neither true b is other = is
+neither false b is other = other
+
+-- points that pass the test are the same
+pub same_is : (p q : Point) → is_same_point p q ≡ true → p ≡ q
+same_is p q is =
+    ap (λ (x : ℤ). point_at x p.y) ((Decides-int_eq p.x q.x).0 (first_part (int_eq p.x q.x) _ is))
+    ∙ ap (λ (y : ℤ). point_at q.x y) ((Decides-int_eq p.y q.y).0 (second_part (int_eq p.x q.x) _ is))
+
+turned_same : (p q : Point) → is_same_point p q ≡ is_same_point q p
+turned_same p q =
+    ap (λ (x : Bool). x && int_eq p.y q.y) (int_eq_equiv.symm p.x q.x)
+    ∙ ap (λ (y : Bool). int_eq q.x p.x && y) (int_eq_equiv.symm p.y q.y)
+
+differ : (p q : Point) (b : Bool) → is_same_point p q ≡ b → p ≢ q → b ≡ false
+differ p q true is other = absurd (other (same_is p q is))
+differ p q false is other = refl
+
+none_after : (p : Point) (rest : List Point) → HasNoRepeatAfter p rest → repeats_after p rest ≡ false
+none_after p [] none = refl
+none_after p (q ∷ rest) none =
+    neither (is_same_point p q) _ (differ p q (is_same_point p q) refl none.0) (none_after q rest none.1)
+
+-- a line of which no point repeats the one before passes the test
+pub none_repeated : (points : List Point) → HasNoRepeat points → has_repeated_point points ≡ false
+none_repeated [] none = refl
+none_repeated (p ∷ rest) none = none_after p rest none
+
+stays_after : (p : Point) (rest : List Point) → repeats_after p rest ≡ false → unrepeated_after p rest ≡ rest
+stays_after p [] none = refl
+stays_after p (q ∷ rest) none =
+    let parts = either_false (is_same_point p q) _ none in
+    ap (λ (same : Bool). if same then unrepeated_after p rest else q ∷ unrepeated_after q rest) parts.0
+    ∙ ap (λ (later : List Point). q ∷ later) (stays_after q rest parts.1)
+
+stays_whole : (points : List Point) → has_repeated_point points ≡ false → unrepeated points ≡ points
+stays_whole [] none = refl
+stays_whole (p ∷ rest) none = ap (λ (later : List Point). p ∷ later) (stays_after p rest none)
+
+-- points that don't move stay a line
+pub unmoved_points : (gap : ℕ) (anchors points : List Point) → map (anchored gap anchors) points ≡ points
+    → has_repeated_point points ≡ false → moved_points gap anchors points ≡ points
+unfolding moved_points
+unmoved_points gap anchors points stay none = ap (λ (moved : List Point). unrepeated moved) stay ∙ stays_whole points none
+
+none_if : (p q : Point) (rest : List Point) (b : Bool) → is_same_point p q ≡ b
+    → repeats_after p (unrepeated_after p rest) ≡ false → repeats_after q (unrepeated_after q rest) ≡ false
+    → repeats_after p (if b then unrepeated_after p rest else q ∷ unrepeated_after q rest) ≡ false
+none_if p q rest true is first later = first
+none_if p q rest false is first later = neither (is_same_point p q) _ is later
+
+none_left : (p : Point) (rest : List Point) → repeats_after p (unrepeated_after p rest) ≡ false
+none_left p [] = refl
+none_left p (q ∷ rest) = none_if p q rest (is_same_point p q) refl (none_left p rest) (none_left q rest)
+
+none_kept : (points : List Point) → has_repeated_point (unrepeated points) ≡ false
+none_kept [] = refl
+none_kept (p ∷ rest) = none_left p rest
+
+-- no point of a moved line repeats the one before
+pub none_moved : (gap : ℕ) (anchors points : List Point) → has_repeated_point (moved_points gap anchors points) ≡ false
+unfolding moved_points
+none_moved gap anchors points = none_kept (map (anchored gap anchors) points)
+
+between : (at e b : Point) (rest : List Point) → repeats_after at (b ∷ rest) ≡ false → is_same_point at e ≡ false
+    → is_same_point e b ≡ false → repeats_after at (e ∷ b ∷ rest) ≡ false
+between at e b rest none before after =
+    neither (is_same_point at e) _ before
+    (neither (is_same_point e b) _ after (either_false (is_same_point at b) _ none).1)
+
+between_after : (a : Point) (more : List Point) (at e b : Point) (rest : List Point)
+    → repeats_after a (more ++ at ∷ b ∷ rest) ≡ false → is_same_point at e ≡ false → is_same_point e b ≡ false
+    → repeats_after a (more ++ at ∷ e ∷ b ∷ rest) ≡ false
+between_after a [] at e b rest none before after =
+    let parts = either_false (is_same_point a at) _ none in
+    neither (is_same_point a at) _ parts.0 (between at e b rest parts.1 before after)
+between_after a (c ∷ more) at e b rest none before after =
+    let parts = either_false (is_same_point a c) _ none in
+    neither (is_same_point a c) _ parts.0 (between_after c more at e b rest parts.1 before after)
+
+none_between : (passed : List Point) (at e b : Point) (rest : List Point) → has_repeated_point (passed ++ at ∷ b ∷ rest) ≡ false
+    → is_same_point at e ≡ false → is_same_point e b ≡ false → has_repeated_point (passed ++ at ∷ e ∷ b ∷ rest) ≡ false
+none_between [] at e b rest none before after = between at e b rest none before after
+none_between (a ∷ more) at e b rest none before after = between_after a more at e b rest none before after
+
+-- an end that isn't listed differs from the two points between which it is put
+unlisted_between : (passed : List Point) (at e b : Point) (rest : List Point)
+    → list_any (is_same_point e) (passed ++ at ∷ b ∷ rest) ≡ false
+    → (is_same_point at e ≡ false) × (is_same_point e b ≡ false)
+unlisted_between passed at e b rest none =
+    let split = either_false (list_any (is_same_point e) passed) _
+    (sym (list_any-append (is_same_point e) passed (at ∷ b ∷ rest)) ∙ none) in
+    let parts = either_false (is_same_point e at) _ split.1 in
+    (turned_same at e ∙ parts.0, (either_false (is_same_point e b) _ parts.1).0)
+
+by_none : (gap : ℕ) (ends : List Point) (f : FollowedLine) (b : Point) (rest : List Point) (due : Option Point)
+    → due_end gap f.listed (segment_between f.at b) ends ≡ due → HaveSamePoints f.listed (f.passed ++ f.at ∷ b ∷ rest)
+    → has_repeated_point (f.passed ++ f.at ∷ b ∷ rest) ≡ false
+    → has_repeated_point (followed_points (followed_by f b rest due)) ≡ false
+by_none gap ends f b rest None is same none =
+    ap (λ (points : List Point). has_repeated_point points) (joined_again f.passed f.at (b ∷ rest)) ∙ none
+by_none gap ends f b rest (Some e) is same none =
+    let new = due_is gap f.listed (segment_between f.at b) ends e is in
+    let other = unlisted_between f.passed f.at e b rest (sym (same (is_same_point e)) ∙ new.1) in
+    none_between f.passed f.at e b rest none other.0 other.1
+
+on_none : (gap : ℕ) (ends : List Point) (f : FollowedLine) (left : List Point) → f.left ≡ left
+    → HaveSamePoints f.listed (followed_points f) → has_repeated_point (followed_points f) ≡ false
+    → has_repeated_point (followed_points (followed_on gap ends f left)) ≡ false
+on_none gap ends f [] is same none = none
+on_none gap ends f (b ∷ rest) is same none =
+    by_none gap ends f b rest (due_end gap f.listed (segment_between f.at b) ends) refl
+    (subst (λ (left : List Point). HaveSamePoints f.listed (f.passed ++ f.at ∷ left)) is same)
+    (subst (λ (left : List Point). has_repeated_point (f.passed ++ f.at ∷ left) ≡ false) is none)
+
+for_none : (n gap : ℕ) (ends : List Point) (f : FollowedLine) → HaveSamePoints f.listed (followed_points f)
+    → has_repeated_point (followed_points f) ≡ false
+    → has_repeated_point (followed_points (followed_for n gap ends f)) ≡ false
+for_none zero gap ends f same none = none
+for_none (suc n) gap ends f same none =
+    for_none n gap ends (followed_on gap ends f f.left) (on_same gap ends f f.left refl same)
+    (on_none gap ends f f.left refl same none)
+
+-- no point repeats the one before after ends were put into a line
+pub none_listed : (gap : ℕ) (ends points : List Point) → has_repeated_point points ≡ false
+    → has_repeated_point (with_due_ends gap ends points) ≡ false
+none_listed gap ends [] none = refl
+none_listed gap ends (p ∷ rest) none =
+    for_none (steps_to_follow ends rest) gap ends (unfollowed_line p rest) (λ test. refl) none

@@ -1,0 +1,41 @@
+-- Worked values of snaps that are repeated, in tenths of a millimetre.
+use Rattle.std.proofs.Common.{◌≡◌, ℕ, pos, List, [], ◌∷◌, Some, None, Ok, refl}
+use Rattle.design_model.specs.declared.point.Point.{Point}
+use Rattle.line_sections.specs.Lines.{LineValue}
+use Rattle.line_sections.specs.Sections.{lines_through}
+use Rattle.drawing_repairs.specs.Listings.{added_ends, due_end, segment_between}
+use Rattle.drawing_repairs.specs.MovedLines.{changed_in, moved_lines, moved_points}
+use Rattle.drawing_repairs.specs.Snaps.{snapped_lines}
+
+abbrev needle : ℕ → ℕ → Point
+needle x y = record { x = pos x; y = pos y }
+
+-- a stroke and one that ends 1 above it, with two points 2 apart
+abbrev strokes : List LineValue
+strokes = lines_through 0 ((needle 0 0 ∷ needle 40 0 ∷ []) ∷ (needle 20 30 ∷ needle 21 28 ∷ needle 20 1 ∷ []) ∷ [])
+
+abbrev snapped_strokes : List LineValue
+snapped_strokes = lines_through 0 ((needle 0 0 ∷ needle 20 1 ∷ needle 40 0 ∷ []) ∷ (needle 20 30 ∷ needle 20 1 ∷ []) ∷ [])
+
+-- the first snap moves a point and adds an end, and the second one neither
+pub known_once : (snapped_lines 2 strokes ≡ Ok snapped_strokes) × (changed_in 2 strokes strokes ≡ needle 21 28 ∷ [])
+    × (added_ends 2 strokes strokes ≡ needle 20 1 ∷ [])
+unfolding moved_points
+known_once = (refl, refl, refl)
+
+pub known_twice : (snapped_lines 2 snapped_strokes ≡ Ok snapped_strokes) × (changed_in 2 snapped_strokes snapped_strokes ≡ [])
+    × (added_ends 2 snapped_strokes snapped_strokes ≡ [])
+unfolding moved_points
+known_twice = (refl, refl, refl)
+
+-- a point that repeats the one before is dropped with a gap of 0 too
+pub known_repeat : moved_lines 0 (lines_through 0 ((needle 1 1 ∷ needle 1 1 ∷ needle 9 1 ∷ []) ∷ []))
+    ≡ lines_through 0 ((needle 1 1 ∷ needle 9 1 ∷ []) ∷ [])
+unfolding moved_points
+known_repeat = refl
+
+-- an end on a segment and one beside it, with a gap of 0
+pub known_due : (due_end 0 (needle 0 0 ∷ needle 40 20 ∷ []) (segment_between (needle 0 0) (needle 40 20)) (needle 20 11 ∷ needle 20 10 ∷ [])
+    ≡ Some (needle 20 10))
+    × (due_end 0 (needle 0 0 ∷ needle 40 20 ∷ []) (segment_between (needle 0 0) (needle 40 20)) (needle 20 11 ∷ needle 40 20 ∷ []) ≡ None)
+known_due = (refl, refl)
