@@ -135,3 +135,10 @@ pub followed_to_end : (gap : ℕ) (ends : List Point) (p : Point) (rest : List P
 followed_to_end gap ends p rest =
     ends_after (steps_to_follow ends rest) gap ends point_itself (unfollowed_line p rest)
     (omega (arith, few_unlisted (p ∷ rest) ends))
+
+-- A line at its last point stays as it is.
+pub ended_for : (n gap : ℕ) (ends : List Point) (f : FollowedLine) → f.left ≡ [] → followed_for n gap ends f ≡ f
+ended_for zero gap ends f ended = refl
+ended_for (suc n) gap ends f ended =
+    ap (λ (g : FollowedLine). followed_for n gap ends g) (ap (λ (left : List Point). followed_on gap ends f left) ended)
+    ∙ ended_for n gap ends f ended

@@ -1,6 +1,7 @@
 mod SnapFacts
 mod CellFacts
 mod SnapLawFacts
+mod EndGroupFacts
 pub mod MoveLemmas
 pub mod JoiningLemmas
 pub mod CellLemmas
@@ -8,6 +9,7 @@ pub mod ListingLemmas
 pub mod FollowLemmas
 pub mod SettledLemmas
 pub mod ListedOnceLemmas
+pub mod EndGroupLemmas
 pub mod ListedLinesLemmas
 pub mod SpreadLemmas
 pub mod MovedApartLemmas

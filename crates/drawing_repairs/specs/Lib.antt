@@ -3,6 +3,8 @@ pub mod Anchors
 pub mod Cells
 pub mod MovedLines
 pub mod Listings
+-- Used only inside this crate.
+pub mod EndGroups
 pub mod AnchoredSpots
 -- Read this one first: a snapped drawing.
 pub mod Snaps

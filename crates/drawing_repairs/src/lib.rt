@@ -4,6 +4,7 @@
 mod anchored_spots;
 mod anchors;
 mod cells;
+mod end_groups;
 mod joining;
 mod listing;
 mod moving;

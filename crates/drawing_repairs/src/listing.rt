@@ -1,12 +1,11 @@
-ghost use Rattle.std.specs.Prelude.{◌≡◌, ◌++◌, ◌∷◌, [], IfOk, OnOk, Some, None};
-ghost use Rattle.std.specs.List.{list_any};
-ghost use Rattle.design_model.specs.Points.{is_same_point};
+ghost use Rattle.std.specs.Prelude.{◌≡◌, ◌++◌, ◌∷◌, [], IfOk, OnOk, Some, None, true};
 ghost use Rattle.step_splitter.specs.Chains.{last_point_or};
 ghost use Rattle.line_graph.specs.Pieces.{endpoints};
-ghost use Rattle.drawing_repairs.specs.Listings.{added_ends, block_ends, due_end, due_ends, followed_by, followed_line, followed_on, followed_points, is_due, listed_line, listed_lines, segment_between, unfollowed_line, with_due_ends};
+ghost use Rattle.drawing_repairs.specs.Listings.{added_ends, block_ends, due_ends, followed_by, followed_line, followed_on, followed_points, listed_line, listed_lines, segment_between, unfollowed_line, with_due_ends};
 
+use crate::end_groups::BlockEnds;
 use design_model::{Memory, Point, Points};
-use drawing_review::{LineSegment, Position, comes_near, counted_from_least, segment_at};
+use drawing_review::{LineSegment, Position, segment_at};
 use line_sections::{Line, first_point};
 use std::alloc::Global;
 use std::collections::VecDeque;
@@ -42,8 +41,8 @@ fn ends_for(
     lines: &[Line],
     block: u32,
     known: u32,
-    ends: Points,
-) -> Result<Points, Memory>
+    ends: BlockEnds,
+) -> Result<BlockEnds, Memory>
     requires { ends ≡ block_ends lines.now known }
     ensures { IfOk result (λ ends. ends ≡ block_ends lines.now block) }
 {
@@ -55,7 +54,7 @@ fn ends_for(
 }
 
 /// Returns the ends of the lines of a block.
-fn ends_in(alloc: Global, lines: &[Line], block: u32) -> Result<Points, Memory>
+fn ends_in(alloc: Global, lines: &[Line], block: u32) -> Result<BlockEnds, Memory>
     ensures { IfOk result (λ ends. ends ≡ block_ends lines.now block) }
 {
     let mut ends = Points::new(alloc);
@@ -64,6 +63,7 @@ fn ends_in(alloc: Global, lines: &[Line], block: u32) -> Result<Points, Memory>
         put_ends_if_in(&mut ends, line, block)?;
         rest = after;
     }
+    let ends = BlockEnds::of(alloc, ends)?;
     Ok(ends)
 }
 
@@ -105,7 +105,7 @@ fn put_listed(
     alloc: Global,
     gap: u16,
     lines: &[Line],
-    ends: &Points,
+    ends: &BlockEnds,
     line: &Line,
     listed: &mut Vec<Line>,
     added: &mut Points,
@@ -116,7 +116,7 @@ fn put_listed(
     ensures added { OnOk result
         (added.new ≡ added.old ++ added_ends gap lines.now (line.now ∷ [])) }
 {
-    let points = with_due(alloc, gap, ends.as_slice(), line.points(), added)?;
+    let points = with_due(alloc, gap, ends, line.points(), added)?;
     listed.push(Line::new(line.block(), points))?;
     Ok(())
 }
@@ -125,7 +125,7 @@ fn put_listed(
 fn with_due(
     alloc: Global,
     gap: u16,
-    ends: &[Point],
+    ends: &BlockEnds,
     points: &[Point],
     added: &mut Points,
 ) -> Result<Points, Memory>
@@ -144,15 +144,18 @@ fn with_due(
 fn follow(
     alloc: Global,
     gap: u16,
-    ends: &[Point],
+    ends: &BlockEnds,
     first: Point,
     after: &[Point],
 ) -> Result<Followed, Memory>
     ensures { IfOk result (λ line. line ≡ followed_line gap ends.now first after.now) }
 {
     let mut line = Followed::new(alloc, first, after)?;
-    let mut steps = after.len() + 2 * ends.len();
+    let mut steps = after.len() + 2 * ends.as_slice().len();
     while steps > 0 {
+        if line.is_at_end() {
+            return Ok(line);
+        }
         line.go_on(gap, ends)?;
         steps -= 1;
     }
@@ -203,15 +206,21 @@ impl Followed {
         })
     }
 
+    fn is_at_end(&self) -> bool
+        ensures { result ≡ true → self.now.left ≡ [] }
+    {
+        self.left.is_empty()
+    }
+
     /// Passes the next segment, or puts the first end into it that is due there.
-    fn go_on(&mut self, gap: u16, ends: &[Point]) -> Result<(), Memory>
+    fn go_on(&mut self, gap: u16, ends: &BlockEnds) -> Result<(), Memory>
         ensures { OnOk result (self.new ≡ followed_on gap ends.now self.old self.old.left) }
     {
         let Some(next) = self.left.pop_front() else {
             return Ok(());
         };
         let s = lone_segment(self.at, next);
-        let due = first_due(gap, self.listed.as_slice(), &s, ends);
+        let due = ends.first_due(gap, self.listed.as_slice(), &s);
         self.go_by(next, due)?;
         Ok(())
     }
@@ -285,37 +294,4 @@ fn lone_segment(a: Point, b: Point) -> LineSegment
         is_last: false,
     };
     segment_at(at, a, b)
-}
-
-/// Returns the first end that is due in a segment of a line that lists the given points.
-fn first_due(gap: u16, listed: &[Point], s: &LineSegment, ends: &[Point]) -> Option<Point>
-    ensures { result ≡ due_end gap listed.now s.now ends.now }
-{
-    let mut rest = ends;
-    while let [end, after @ ..] = rest {
-        if is_due_in(gap, listed, s, *end) {
-            return Some(*end);
-        }
-        rest = after;
-    }
-    None
-}
-
-fn is_due_in(gap: u16, listed: &[Point], s: &LineSegment, end: Point) -> bool
-    ensures { result ≡ is_due gap listed.now s.now end }
-{
-    comes_near(gap, counted_from_least(end), s) && !is_listed(listed, end)
-}
-
-fn is_listed(points: &[Point], end: Point) -> bool
-    ensures { result ≡ list_any (is_same_point end) points.now }
-{
-    let mut rest = points;
-    while let [p, after @ ..] = rest {
-        if end == *p {
-            return true;
-        }
-        rest = after;
-    }
-    false
 }

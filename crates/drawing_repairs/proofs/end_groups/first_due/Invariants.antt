@@ -1,6 +1,6 @@
 use Rattle.std.proofs.Common.{◌≡◌, length}
 use Rattle.drawing_repairs.specs.Listings.{due_end}
-use Rattle.drawing_repairs.proofs.listing.first_due.Given as goal
+use Rattle.drawing_repairs.proofs.end_groups.first_due.Given as goal
 
 -- no end so far is due, and the result depends on those that are left
 abbrev pub invariant-loop-rest : goal.invariant-loop-rest
