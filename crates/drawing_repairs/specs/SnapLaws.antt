@@ -4,12 +4,14 @@ use Rattle.std.specs.Prelude.{◌≡◌, ℕ, ◌<◌, ◌≤◌, Bool, true, fa
 use Rattle.std.specs.List.{list_all, list_any}
 use Rattle.design_model.specs.declared.point.Point.{Point}
 use Rattle.design_model.specs.Points.{is_same_point}
+use Rattle.line_sections.specs.declared.spot.Spot.{Spot}
 use Rattle.line_sections.specs.Lines.{LineValue}
 use Rattle.line_sections.specs.Sections.{listed_in}
 use Rattle.line_graph.specs.Drawings.{HasNoRepeat}
 use Rattle.drawing_review.specs.declared.segment.LineSegment.{LineSegment}
 use Rattle.drawing_review.specs.Frames.{grid_point}
 use Rattle.drawing_review.specs.Meetings.{is_near}
+use Rattle.drawing_repairs.specs.AnchoredSpots.{anchored_spots}
 use Rattle.drawing_repairs.specs.Anchors.{anchored, anchors_of, distance_between}
 use Rattle.drawing_repairs.specs.Listings.{added_ends, due_end, followed_line, listed_lines, segment_between, with_due_ends}
 use Rattle.drawing_repairs.specs.MovedLines.{block_anchors, changed_in, moved_lines}
@@ -117,3 +119,10 @@ abbrev pub SnappedPointsStay : Type 0
 SnappedPointsStay = (gap : ℕ) (lines snapped : List LineValue) (block : ℕ)
     → snapped_lines gap lines ≡ Ok snapped
     → All (λ p. anchored gap (block_anchors gap snapped block) p ≡ p) (listed_in snapped block)
+
+-- Starts and ends at points that snapped lines list stay when these are snapped again.
+abbrev pub PlacedEndsStay : Type 0
+PlacedEndsStay = (gap : ℕ) (lines snapped : List LineValue) (spots : List Spot)
+    → snapped_lines gap lines ≡ Ok snapped
+    → All (λ spot. list_any (is_same_point spot.at) (listed_in snapped spot.block) ≡ true) spots
+    → anchored_spots gap snapped spots ≡ spots

@@ -8,15 +8,17 @@ mod end_groups;
 mod joining;
 mod listing;
 mod moving;
+mod repeated_snaps;
 mod snap_fault;
 mod snapping;
 mod theorems;
 mod vanished;
 
+pub use repeated_snaps::snapping_twice_is_once;
 pub use snap_fault::SnapFault;
 pub use snapping::{SnappedDrawing, snap};
 pub use theorems::{
     anchors_are_apart, ends_are_put_where_they_lie, lines_list_ends_once, listings_add_ends_alone,
-    points_move_within_gap, snapping_twice_is_once,
+    points_move_within_gap,
 };
 pub use vanished::VanishedLine;

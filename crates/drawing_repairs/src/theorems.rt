@@ -1,4 +1,4 @@
-ghost use Rattle.drawing_repairs.specs.SnapLaws.{AnchorsAreApart, AnchorsStay, DrawingsListEndsOnce, DueEndsAreNear, LinesAreFollowedToTheEnd, LinesListEndsOnce, LinesStayWithoutGap, ListingsAddEndsAlone, LonePointsStay, MovedPointsAreApart, NoEndIsDueAfterwards, NoPointMovesWithoutGap, PointsMoveOnce, PointsMoveWithinGap, SecondSnapsChangeNothing, SnappedPointsStay, SnappingTwiceIsOnce};
+ghost use Rattle.drawing_repairs.specs.SnapLaws.{AnchorsAreApart, AnchorsStay, DrawingsListEndsOnce, DueEndsAreNear, LinesAreFollowedToTheEnd, LinesListEndsOnce, LinesStayWithoutGap, ListingsAddEndsAlone, LonePointsStay, MovedPointsAreApart, NoEndIsDueAfterwards, NoPointMovesWithoutGap, PointsMoveOnce, PointsMoveWithinGap};
 
 /// Theorem: a point is within the gap of the anchor to which it moves, and with a gap of 0 no point moves.
 pub fn points_move_within_gap()
@@ -37,11 +37,4 @@ pub fn lines_list_ends_once()
 pub fn ends_are_put_where_they_lie()
     ensures near { DueEndsAreNear }
     ensures exact { LinesStayWithoutGap }
-{}
-
-/// Theorem: snapped lines stay as they are when they are snapped again: no point moves, and no end is added.
-pub fn snapping_twice_is_once()
-    ensures once { SnappingTwiceIsOnce }
-    ensures nothing { SecondSnapsChangeNothing }
-    ensures stay { SnappedPointsStay }
 {}

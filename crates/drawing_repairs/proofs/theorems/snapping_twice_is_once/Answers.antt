@@ -1,5 +1,0 @@
-use Rattle.drawing_repairs.proofs.SnapAgainLemmas.{nothing_changes, snapped_points_stay, twice_is_once}
-use Rattle.drawing_repairs.proofs.theorems.snapping_twice_is_once.Goals as goal
-
-pub returns : goal.returns
-returns c = record { once = twice_is_once; nothing = nothing_changes; stay = snapped_points_stay }
