@@ -65,7 +65,7 @@ changed_if change line some changed true false is same = cc
 changed_if change line some changed false true is same = cc
 
 -- lines that were changed, each in its block, have the changed points there
-changed_block : (change : LineValue → LineValue) (keeps : (line : LineValue) → (change line).block ≡ line.block) (block : ℕ)
+pub changed_block : (change : LineValue → LineValue) (keeps : (line : LineValue) → (change line).block ≡ line.block) (block : ℕ)
     (lines : List LineValue) → listed_in (map change lines) block ≡ points_by (λ line. (change line).points) block lines
 changed_block change keeps block [] = refl
 changed_block change keeps block (line ∷ rest) =

@@ -17,3 +17,4 @@ pub mod DueLemmas
 pub mod RepeatLemmas
 pub mod BlockPointLemmas
 pub mod SnapAgainLemmas
+pub mod PlacedEndLemmas

@@ -6,7 +6,6 @@ use Rattle.std.proofs.lemmas.List.Folds.{list_all-append, list_any_at}
 use Rattle.std.specs.List.{All, flat_map, list_all, list_any}
 use Rattle.design_model.specs.declared.point.Point.{Point}
 use Rattle.design_model.specs.Points.{is_same_point}
-use Rattle.line_sections.specs.declared.spot.Spot.{Spot}
 use Rattle.line_sections.specs.Lines.{LineValue}
 use Rattle.line_sections.specs.Sections.{listed_in}
 use Rattle.line_graph.specs.Drawings.{HasNoRepeat}
@@ -14,7 +13,6 @@ use Rattle.line_graph.specs.GrowingDrawings.{and_then, has_repeated_point}
 use Rattle.drawing_repairs.specs.declared.snap_fault.SnapFault.{SnapFault}
 use Rattle.drawing_repairs.specs.declared.snap_fault.SnapFault.TheVariants as fault
 use Rattle.drawing_repairs.specs.declared.vanished.VanishedLine.{VanishedLine}
-use Rattle.drawing_repairs.specs.AnchoredSpots.{anchored_spots}
 use Rattle.drawing_repairs.specs.Anchors.{anchored, anchors_of}
 use Rattle.drawing_repairs.specs.Listings.{FollowedLine, added_ends, block_ends, due_end, due_ends, followed_by, followed_for, followed_on, followed_points, listed_line, listed_lines, segment_between, steps_to_follow, unfollowed_line, with_due_ends}
 use Rattle.drawing_repairs.specs.MovedLines.{block_anchors, changed_in, moved_line, moved_lines, moved_points, vanished_from}
@@ -39,7 +37,7 @@ one_if P x rest p true same is first later = subst (λ (y : Point). P y) (sym (s
 one_if P x rest p false same is first later = later is
 
 -- what holds of all holds of one of them
-one_holds : (P : Point → Type 0) (some : List Point) (p : Point) → is_one_of some p ≡ true → All P some → P p
+pub one_holds : (P : Point → Type 0) (some : List Point) (p : Point) → is_one_of some p ≡ true → All P some → P p
 one_holds P [] p is all = absurd (never is)
   where
     never : false ≡ true → ⊥
@@ -219,7 +217,7 @@ still_kept gap all (line ∷ rest) index none =
     ∙ still_kept gap all rest (index + 1) parts.1
 
 -- where lines were snapped none vanished, and the result are the lines after it
-taken : (gap : ℕ) (vanished : Option VanishedLine) (moved snapped : List LineValue)
+pub taken : (gap : ℕ) (vanished : Option VanishedLine) (moved snapped : List LineValue)
     → and_then (unless_vanished vanished moved) (λ kept. Ok (listed_lines gap kept)) ≡ Ok snapped
     → (vanished ≡ None) × (listed_lines gap moved ≡ snapped)
 taken gap None moved snapped is = (refl, same_lines (listed_lines gap moved) snapped is)
@@ -290,23 +288,6 @@ snapped_points_stay gap lines snapped block is =
     let parts = taken gap (vanished_from 0 (moved_lines gap lines)) (moved_lines gap lines) snapped is in
     subst (λ (some : List LineValue). All (λ p. anchored gap (block_anchors gap some block) p ≡ p) (listed_in some block)) parts.1
     (points_stay gap lines block)
-
-spots_stay : (gap : ℕ) (snapped : List LineValue) (spots : List Spot)
-    → ((block : ℕ) → All (λ p. anchored gap (block_anchors gap snapped block) p ≡ p) (listed_in snapped block))
-    → All (λ spot. is_one_of (listed_in snapped spot.block) spot.at ≡ true) spots → anchored_spots gap snapped spots ≡ spots
-spots_stay gap snapped [] stay all = refl
-spots_stay gap snapped (spot ∷ rest) stay all =
-    ap (λ (at : Point). record spot { at = at } ∷ anchored_spots gap snapped rest)
-    (one_holds (λ p. anchored gap (block_anchors gap snapped spot.block) p ≡ p) (listed_in snapped spot.block) spot.at
-    (all 0 spot (omega arith)) (stay spot.block))
-    ∙ ap (λ (later : List Spot). spot ∷ later)
-    (spots_stay gap snapped rest stay (λ i d low. all (suc i) d (omega (arith, low))))
-
--- Starts and ends at points that snapped lines list stay.
-pub ends_stay : (gap : ℕ) (lines snapped : List LineValue) (spots : List Spot) → snapped_lines gap lines ≡ Ok snapped
-    → All (λ spot. is_one_of (listed_in snapped spot.block) spot.at ≡ true) spots → anchored_spots gap snapped spots ≡ spots
-ends_stay gap lines snapped spots is all =
-    spots_stay gap snapped spots (λ block. snapped_points_stay gap lines snapped block is) all
 
 all_still : (anchors points : List Point) → map (anchored 0 anchors) points ≡ points
 all_still anchors [] = refl

@@ -1,8 +1,10 @@
 -- Worked values of snaps that are repeated, in tenths of a millimetre.
 use Rattle.std.proofs.Common.{◌≡◌, ℕ, pos, List, [], ◌∷◌, Some, None, Ok, refl}
 use Rattle.design_model.specs.declared.point.Point.{Point}
+use Rattle.line_sections.specs.declared.spot.Spot.{Spot}
 use Rattle.line_sections.specs.Lines.{LineValue}
 use Rattle.line_sections.specs.Sections.{lines_through}
+use Rattle.drawing_repairs.specs.AnchoredSpots.{anchored_spots}
 use Rattle.drawing_repairs.specs.Listings.{added_ends, due_end, segment_between}
 use Rattle.drawing_repairs.specs.MovedLines.{changed_in, moved_lines, moved_points}
 use Rattle.drawing_repairs.specs.Snaps.{snapped_lines}
@@ -39,3 +41,11 @@ pub known_due : (due_end 0 (needle 0 0 ∷ needle 40 20 ∷ []) (segment_between
     ≡ Some (needle 20 10))
     × (due_end 0 (needle 0 0 ∷ needle 40 20 ∷ []) (segment_between (needle 0 0) (needle 40 20)) (needle 20 11 ∷ needle 40 20 ∷ []) ≡ None)
 known_due = (refl, refl)
+
+-- an end at a point that moves, which stays at the second snap
+abbrev end_at : Point → List Spot
+end_at p = record { block = 0; at = p } ∷ []
+
+pub known_ends : (anchored_spots 2 strokes (end_at (needle 21 28)) ≡ end_at (needle 20 30))
+    × (anchored_spots 2 snapped_strokes (end_at (needle 20 30)) ≡ end_at (needle 20 30))
+known_ends = (refl, refl)

@@ -120,9 +120,17 @@ SnappedPointsStay = (gap : ℕ) (lines snapped : List LineValue) (block : ℕ)
     → snapped_lines gap lines ≡ Ok snapped
     → All (λ p. anchored gap (block_anchors gap snapped block) p ≡ p) (listed_in snapped block)
 
--- Starts and ends at points that snapped lines list stay when these are snapped again.
-abbrev pub PlacedEndsStay : Type 0
-PlacedEndsStay = (gap : ℕ) (lines snapped : List LineValue) (spots : List Spot)
+-- A point that a block lists moves to one that the block of the snapped lines lists.
+abbrev pub PointsMoveToListedOnes : Type 0
+PointsMoveToListedOnes = (gap : ℕ) (lines snapped : List LineValue) (block : ℕ) (p : Point)
     → snapped_lines gap lines ≡ Ok snapped
-    → All (λ spot. list_any (is_same_point spot.at) (listed_in snapped spot.block) ≡ true) spots
-    → anchored_spots gap snapped spots ≡ spots
+    → list_any (is_same_point p) (listed_in lines block) ≡ true
+    → list_any (is_same_point (anchored gap (block_anchors gap lines block) p))
+    (listed_in snapped block) ≡ true
+
+-- Starts and ends at points that lines list move once: they stay at a second snap.
+abbrev pub EndsMoveOnce : Type 0
+EndsMoveOnce = (gap : ℕ) (lines snapped : List LineValue) (spots : List Spot)
+    → snapped_lines gap lines ≡ Ok snapped
+    → All (λ spot. list_any (is_same_point spot.at) (listed_in lines spot.block) ≡ true) spots
+    → anchored_spots gap snapped (anchored_spots gap lines spots) ≡ anchored_spots gap lines spots
