@@ -16,5 +16,7 @@ pub mod MovedApartLemmas
 pub mod DueLemmas
 pub mod RepeatLemmas
 pub mod BlockPointLemmas
-pub mod SnapAgainLemmas
+pub mod SnappedLinesLemmas
 pub mod PlacedEndLemmas
+pub mod DrawnAgainLemmas
+pub mod SnappedDrawingsLemmas

@@ -18,7 +18,7 @@ use Rattle.drawing_repairs.proofs.FollowLemmas.{point_itself}
 use Rattle.drawing_repairs.proofs.ListedOnceLemmas.{joined_again}
 use Rattle.drawing_repairs.proofs.MovedApartLemmas.{or_then, then_or}
 use Rattle.drawing_repairs.proofs.RepeatLemmas.{same_is}
-use Rattle.drawing_repairs.proofs.SnapAgainLemmas.{snapped_points_stay, one_holds, taken}
+use Rattle.drawing_repairs.proofs.SnappedLinesLemmas.{snapped_points_stay, one_holds, taken}
 
 -- one of two tests holds, and each has another that follows from it
 either_of : (a b c d : Bool) → (a ≡ true → c ≡ true) → (b ≡ true → d ≡ true) → (a || b) ≡ true → (c || d) ≡ true

@@ -4,10 +4,11 @@ use Rattle.design_model.specs.declared.point.Point.{Point}
 use Rattle.line_sections.specs.declared.spot.Spot.{Spot}
 use Rattle.line_sections.specs.Lines.{LineValue}
 use Rattle.line_sections.specs.Sections.{lines_through}
+use Rattle.line_graph.specs.Drawings.{DrawingValue}
 use Rattle.drawing_repairs.specs.AnchoredSpots.{anchored_spots}
 use Rattle.drawing_repairs.specs.Listings.{added_ends, due_end, segment_between}
 use Rattle.drawing_repairs.specs.MovedLines.{changed_in, moved_lines, moved_points}
-use Rattle.drawing_repairs.specs.Snaps.{snapped_lines}
+use Rattle.drawing_repairs.specs.Snaps.{snap_of, snapped_lines}
 
 abbrev needle : ℕ → ℕ → Point
 needle x y = record { x = pos x; y = pos y }
@@ -49,3 +50,26 @@ end_at p = record { block = 0; at = p } ∷ []
 pub known_ends : (anchored_spots 2 strokes (end_at (needle 21 28)) ≡ end_at (needle 20 30))
     × (anchored_spots 2 snapped_strokes (end_at (needle 20 30)) ≡ end_at (needle 20 30))
 known_ends = (refl, refl)
+
+-- a whole drawing with a start, which the second snap leaves
+abbrev drawing_of_lines : List LineValue → DrawingValue
+drawing_of_lines lines = record { label = []; step = 25; threads = 5 ∷ []; lines = lines; starts = []; ends = [] }
+
+abbrev joined_strokes : DrawingValue
+joined_strokes = record (drawing_of_lines (lines_through 0 ((needle 0 0 ∷ needle 20 1 ∷ []) ∷ (needle 20 1 ∷ needle 40 0 ∷ [])
+    ∷ (needle 20 30 ∷ needle 20 1 ∷ []) ∷ []))) { starts = end_at (needle 20 30) }
+
+pub known_drawing_once : snap_of 2 (drawing_of_lines strokes) (end_at (needle 21 28)) []
+    ≡ Ok (record {
+      drawn = drawing_of_lines snapped_strokes;
+      joined = joined_strokes;
+      moved = needle 21 28 ∷ [];
+      listed = needle 20 1 ∷ [];
+    })
+unfolding moved_points
+known_drawing_once = refl
+
+pub known_drawing_twice : snap_of 2 (drawing_of_lines snapped_strokes) (end_at (needle 20 30)) []
+    ≡ Ok (record { drawn = drawing_of_lines snapped_strokes; joined = joined_strokes; moved = []; listed = [] })
+unfolding moved_points
+known_drawing_twice = refl
