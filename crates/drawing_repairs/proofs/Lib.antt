@@ -19,4 +19,4 @@ pub mod BlockPointLemmas
 pub mod SnappedLinesLemmas
 pub mod PlacedEndLemmas
 pub mod DrawnAgainLemmas
-pub mod SnappedDrawingsLemmas
+pub mod SecondSnapLemmas

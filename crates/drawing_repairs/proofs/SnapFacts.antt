@@ -13,6 +13,7 @@ use Rattle.drawing_repairs.specs.AnchoredSpots.{anchored_spots}
 use Rattle.drawing_repairs.specs.Anchors.{anchored, anchors_of, distance_between}
 use Rattle.drawing_repairs.specs.Listings.{with_due_ends}
 use Rattle.drawing_repairs.specs.MovedLines.{moved_points, unrepeated}
+use Rattle.drawing_repairs.specs.SecondSnaps.{StaysSnapped}
 use Rattle.drawing_repairs.specs.Snaps.{snap_of, snapped_lines}
 
 abbrev at : ℕ → ℕ → Point
@@ -115,6 +116,16 @@ pub known_anchored_ends : snap_of 1 tee_and_stroke (spot 0 (at 20 1) ∷ []) (sp
     ≡ snapped_tee (spot 0 (at 20 1) ∷ []) (spot 1 (at 0 9) ∷ [])
 unfolding moved_points
 known_anchored_ends = refl
+
+-- lines farther apart than the gap stay, with their end
+pub known_stays : StaysSnapped 1 (record {
+  drawn = record (drawn apart) { threads = 7 ∷ [] };
+  joined = record (drawn apart) { threads = 7 ∷ []; ends = spot 0 (at 23 1) ∷ [] };
+  moved = at 5 5 ∷ [];
+  listed = [];
+})
+unfolding moved_points
+known_stays = refl
 
 -- a point moves to an anchor of its own block
 pub known_anchored_block : anchored_spots 1 tee_and_stroke.lines (spot 0 (at 0 8) ∷ spot 1 (at 0 8) ∷ [])

@@ -58,7 +58,7 @@ moved_to_anchors gap points =
     (all_moved (λ a. is_one_of (anchors_of gap points) a ≡ true) gap points (each_is_one (anchors_of gap points)))
 
 -- the lines after a snap that no line vanished in
-abbrev pub snap_lines : ℕ → List LineValue → List LineValue
+abbrev snap_lines : ℕ → List LineValue → List LineValue
 snap_lines gap lines = listed_lines gap (moved_lines gap lines)
 
 -- the points of snapped lines are anchors
@@ -88,13 +88,13 @@ points_stay gap lines block i d low =
     (only_near gap (listed_in lines block) points (snapped_to_anchors gap lines block) i d low)
 
 -- the test whether a point of a block stays
-abbrev pub stays_in : ℕ → List LineValue → ℕ → Point → Bool
+abbrev stays_in : ℕ → List LineValue → ℕ → Point → Bool
 stays_in gap all block p = is_same_point p (anchored gap (block_anchors gap all block) p)
 
 same_if : (p q : Point) → q ≡ p → is_same_point p q ≡ true
 same_if p q is = subst (λ (x : Point). is_same_point p x ≡ true) (sym is) (point_itself p)
 
-pub all_stay : (gap : ℕ) (lines : List LineValue) (block : ℕ)
+all_stay : (gap : ℕ) (lines : List LineValue) (block : ℕ)
     → list_all (stays_in gap (snap_lines gap lines) block) (listed_in (snap_lines gap lines) block) ≡ true
 all_stay gap lines block =
     all_pass (stays_in gap (snap_lines gap lines) block) (listed_in (snap_lines gap lines) block)
@@ -125,7 +125,7 @@ of_rest test line some true all =
 of_rest test line some false all = all
 
 -- the points of each block stay
-abbrev pub BlocksStay : ℕ → (all lines : List LineValue) → Type 0
+abbrev BlocksStay : ℕ → (all lines : List LineValue) → Type 0
 BlocksStay gap all lines = (block : ℕ) → list_all (stays_in gap all block) (listed_in lines block) ≡ true
 
 first_stays : (gap : ℕ) (all : List LineValue) (line : LineValue) (rest : List LineValue) → BlocksStay gap all (line ∷ rest)
@@ -205,7 +205,7 @@ longer : (n m : ℕ) → n ≤ m → nat_lt n 2 ≡ false → nat_lt m 2 ≡ fal
 longer n m more is = grind (arith, nat_tests)
 
 -- no line vanishes when ends are put into lines
-pub still_kept : (gap : ℕ) (all lines : List LineValue) (index : ℕ) → vanished_from index lines ≡ None
+still_kept : (gap : ℕ) (all lines : List LineValue) (index : ℕ) → vanished_from index lines ≡ None
     → vanished_from index (map (listed_line gap all) lines) ≡ None
 still_kept gap all [] index none = refl
 still_kept gap all (line ∷ rest) index none =
@@ -254,14 +254,14 @@ none_of test (p ∷ rest) all =
     (first_part (test p) _ all)
     ∙ none_of test rest (second_part (test p) _ all)
 
-pub none_changed : (gap : ℕ) (all lines : List LineValue) → BlocksStay gap all lines → changed_in gap all lines ≡ []
+none_changed : (gap : ℕ) (all lines : List LineValue) → BlocksStay gap all lines → changed_in gap all lines ≡ []
 none_changed gap all [] stay = refl
 none_changed gap all (line ∷ rest) stay =
     ap (λ (first : List Point). first ++ changed_in gap all rest)
     (none_of (stays_in gap all line.block) line.points (first_stays gap all line rest stay))
     ∙ none_changed gap all rest (rest_stays gap all line rest stay)
 
-pub no_end_added : (gap : ℕ) (among lines : List LineValue)
+no_end_added : (gap : ℕ) (among lines : List LineValue)
     → added_ends gap (listed_lines gap among) (map (listed_line gap among) lines) ≡ []
 no_end_added gap among [] = refl
 no_end_added gap among (line ∷ rest) =

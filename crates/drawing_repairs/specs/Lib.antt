@@ -10,3 +10,4 @@ pub mod AnchoredSpots
 pub mod Snaps
 -- Theorems over these definitions.
 pub mod SnapLaws
+pub mod SecondSnaps

@@ -7,16 +7,15 @@ use Rattle.design_model.specs.Points.{is_same_point}
 use Rattle.line_sections.specs.declared.spot.Spot.{Spot}
 use Rattle.line_sections.specs.Lines.{LineValue}
 use Rattle.line_sections.specs.Sections.{listed_in}
-use Rattle.line_graph.specs.Drawings.{DrawingValue, HasNoRepeat, KeepsDrawingLimits}
+use Rattle.line_graph.specs.Drawings.{HasNoRepeat}
 use Rattle.drawing_review.specs.declared.segment.LineSegment.{LineSegment}
 use Rattle.drawing_review.specs.Frames.{grid_point}
 use Rattle.drawing_review.specs.Meetings.{is_near}
-use Rattle.drawing_repairs.specs.declared.snapping.SnappedDrawing.{SnappedDrawing}
 use Rattle.drawing_repairs.specs.AnchoredSpots.{anchored_spots}
 use Rattle.drawing_repairs.specs.Anchors.{anchored, anchors_of, distance_between}
 use Rattle.drawing_repairs.specs.Listings.{added_ends, due_end, followed_line, listed_lines, segment_between, with_due_ends}
 use Rattle.drawing_repairs.specs.MovedLines.{block_anchors, changed_in, moved_lines}
-use Rattle.drawing_repairs.specs.Snaps.{snap_of, snapped_lines}
+use Rattle.drawing_repairs.specs.Snaps.{snapped_lines}
 
 -- A point is within the gap of the anchor to which it moves.
 abbrev pub PointsMoveWithinGap : Type 0
@@ -139,12 +138,3 @@ abbrev pub EndsMoveOnce : Type 0
 EndsMoveOnce = (gap : ℕ) (lines snapped : List LineValue) (spots : List Spot)
     → snapped_lines gap lines ≡ Ok snapped → AreAtPoints lines spots
     → anchored_spots gap snapped (anchored_spots gap lines spots) ≡ anchored_spots gap lines spots
-
--- A valid drawing is snapped once: a snap of the result, with its starts and ends, gives the same
--- drawing, moves no point and lists no end.
-abbrev pub DrawingsAreSnappedOnce : Type 0
-DrawingsAreSnappedOnce = (gap : ℕ) (d : DrawingValue) (starts ends : List Spot)
-    → (result : SnappedDrawing) → KeepsDrawingLimits d → AreAtPoints d.lines starts
-    → AreAtPoints d.lines ends → snap_of gap d starts ends ≡ Ok result
-    → snap_of gap result.drawn result.joined.starts result.joined.ends
-    ≡ Ok (record result { moved = []; listed = [] })

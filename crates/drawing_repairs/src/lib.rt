@@ -9,12 +9,14 @@ mod joining;
 mod listing;
 mod moving;
 mod repeated_snaps;
+mod second_snaps;
 mod snap_fault;
 mod snapping;
 mod theorems;
 mod vanished;
 
 pub use repeated_snaps::snapping_twice_is_once;
+pub use second_snaps::snapped_drawings_stay;
 pub use snap_fault::SnapFault;
 pub use snapping::{SnappedDrawing, snap};
 pub use theorems::{

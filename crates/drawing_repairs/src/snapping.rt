@@ -4,12 +4,14 @@ ghost use Rattle.line_graph.specs.JoinedDrawings.{joined_drawing};
 ghost use Rattle.line_graph.specs.WalkEnds.{HasNoEnds};
 ghost use Rattle.drawing_repairs.specs.AnchoredSpots.{anchored_spots};
 ghost use Rattle.drawing_repairs.specs.MovedLines.{changed_in};
+ghost use Rattle.drawing_repairs.specs.SecondSnaps.{StaysSnapped};
 ghost use Rattle.drawing_repairs.specs.Snaps.{joined_snap, kept_lines, snap_is_out_of_memory, snap_of};
 
 use crate::anchored_spots::anchor_spots;
 use crate::joining::join_drawn;
 use crate::listing::listed as with_listings;
 use crate::moving::{first_vanished, moved};
+use crate::second_snaps::snapped_drawings_stay;
 use crate::snap_fault::SnapFault;
 use design_model::{Items, Points};
 use drawing_edits::draw_lines;
@@ -28,8 +30,31 @@ pub struct SnappedDrawing {
 
 /// Returns the snapped drawing of drawn lines and of the starts and ends of their drawing, which move with
 /// their points. `gap` is in tenths of a millimetre. Errors, in this order: `Vanished`, the first line all of
-/// whose points would become one; `Limit`, as for a drawing with these lines, starts and ends.
+/// whose points would become one; `Limit`, as for a drawing with these lines, starts and ends. A snapped
+/// drawing that is snapped again by the same gap stays as it is.
 pub fn snap(
+    alloc: Global,
+    gap: u16,
+    d: &Drawing,
+    starts: &[Spot],
+    ends: &[Spot],
+) -> Result<SnappedDrawing, SnapFault>
+    ensures answer { IsSpecified snap_is_out_of_memory (snap_of gap d.now starts.now ends.now) result }
+    ensures whole { IfOk result (λ snap. joined_drawing
+        (record snap.drawn { starts = snap.joined.starts; ends = snap.joined.ends }) ≡ Ok snap.joined) }
+    ensures no_ends { IfOk result (λ snap. HasNoEnds snap.drawn) }
+    ensures starts { IfOk result (λ snap.
+        snap.joined.starts ≡ anchored_spots gap d.now.lines starts.now) }
+    ensures ends { IfOk result (λ snap. snap.joined.ends ≡ anchored_spots gap d.now.lines ends.now) }
+    ensures stays { IfOk result (StaysSnapped gap) }
+{
+    d.keeps_limits();
+    snapped_drawings_stay();
+    let snapped = snap_drawn(alloc, gap, d, starts, ends)?;
+    Ok(snapped)
+}
+
+fn snap_drawn(
     alloc: Global,
     gap: u16,
     d: &Drawing,

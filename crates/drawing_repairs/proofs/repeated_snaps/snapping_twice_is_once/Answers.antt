@@ -1,4 +1,3 @@
-use Rattle.drawing_repairs.proofs.SnappedDrawingsLemmas.{drawings_once}
 use Rattle.drawing_repairs.proofs.PlacedEndLemmas.{ends_move_once, moved_to_listed}
 use Rattle.drawing_repairs.proofs.SnappedLinesLemmas.{nothing_changes, snapped_points_stay, twice_is_once}
 use Rattle.drawing_repairs.proofs.repeated_snaps.snapping_twice_is_once.Goals as goal
@@ -10,5 +9,4 @@ returns c = record {
   stay = snapped_points_stay;
   listed = moved_to_listed;
   ends = ends_move_once;
-  drawings = drawings_once;
 }

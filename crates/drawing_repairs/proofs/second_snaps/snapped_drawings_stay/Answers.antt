@@ -1,0 +1,5 @@
+use Rattle.drawing_repairs.proofs.SecondSnapLemmas.{drawings_stay}
+use Rattle.drawing_repairs.proofs.second_snaps.snapped_drawings_stay.Goals as goal
+
+pub returns : goal.returns
+returns c = drawings_stay
