@@ -3,6 +3,7 @@
 use Rattle.std.specs.Prelude.{◌≡◌, ℕ, false, List, length, Result, Ok, Err, string_bytes}
 use Rattle.drawing_repairs.specs.declared.snap_fault.SnapFault.{SnapFault}
 use Rattle.drawing_repairs.specs.declared.snapping.SnappedDrawing.{SnappedDrawing}
+use Rattle.drawing_repairs.specs.SecondSnaps.{StaysSnapped}
 use Rattle.drawing_repairs.specs.Snaps.{snap_is_out_of_memory, snap_of}
 use Rattle.drawing_text.specs.DrawingText.{drawing_of}
 use Rattle.drawing_text.specs.DrawnTexts.{drawing_as_drawn, lines_of}
@@ -33,8 +34,9 @@ abbrev pub snapped_text : SnappedDrawing → List ℕ
 snapped_text snap = drawn_text (with_ends_of snap.drawn snap.joined)
 
 -- The product of `snap`: the text of the snapped drawing and a report on it and on the drawing
--- before. The text is read as the joined drawing, and its lines as they are drawn.
-pub record IsSnapProduct (output : List ℕ) (d : DrawingValue) (snap : SnappedDrawing)
+-- before. The text is read as the joined drawing, and its lines as they are drawn. When it is
+-- snapped again, the drawing stays.
+pub record IsSnapProduct (gap : ℕ) (output : List ℕ) (d : DrawingValue) (snap : SnappedDrawing)
     (product : ProductValue) : Type 0 where
   pub before : List Piece
   pub before_are : ArePiecesOf d before
@@ -42,12 +44,13 @@ pub record IsSnapProduct (output : List ℕ) (d : DrawingValue) (snap : SnappedD
   pub after_are : ArePiecesOf snap.joined after
   pub again : drawing_of (snapped_text snap) ≡ Ok snap.joined
   pub lines : drawing_as_drawn (snapped_text snap) ≡ Ok snap.drawn
+  pub stays : StaysSnapped gap snap
   pub made : product ≡ one_file_product output (snapped_text snap)
       (snap_report (length snap.moved) (length snap.listed) (length before) (length after))
 
 -- The plan for a drawing and its snap: a snapped drawing is accepted, and a fault is refused.
 abbrev pub snap_made : SnapOrder → DrawingValue → Result SnappedDrawing SnapFault → Plan
-snap_made order d (Ok snap) = accepts (IsSnapProduct order.output d snap)
+snap_made order d (Ok snap) = accepts (IsSnapProduct order.gap order.output d snap)
 snap_made order d (Err fault) = refuses (snap_fault_text order.input fault)
 
 -- The plan for the drawing of a text and the result of reading its lines: these are snapped, with

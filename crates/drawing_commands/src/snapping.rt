@@ -1,6 +1,7 @@
-ghost use Rattle.std.specs.Prelude.{◌≤◌, IfOk, length};
+ghost use Rattle.std.specs.Prelude.{ℕ, ◌≤◌, IfOk, length};
 ghost use Rattle.drawing_commands.specs.FaultTexts.{plan_after_reading};
 ghost use Rattle.drawing_commands.specs.SnapOrders.{IsSnapProduct, snap_lines, snap_made, snap_order, snap_plan, snap_read};
+ghost use Rattle.drawing_repairs.specs.SecondSnaps.{StaysSnapped};
 ghost use Rattle.drawing_repairs.specs.Snaps.{snap_of};
 ghost use Rattle.drawing_text.specs.declared.limits.TheConstants.{MAX_TEXT};
 ghost use Rattle.drawing_text.specs.EndTexts.{HasOrderedEnds};
@@ -109,8 +110,8 @@ fn snap_product<'a>(
     requires whole { IsJoinedFrom snapped.now.drawn snapped.now.joined }
     requires ordered { HasOrderedEnds snapped.now.joined }
     requires no_ends { HasNoEnds snapped.now.drawn }
-    ensures { IfOk result (λ product.
-        IsSnapProduct output.now drawing.now snapped.now (product_value product)) }
+    ensures { (gap : ℕ) → StaysSnapped gap snapped.now → IfOk result (λ product.
+        IsSnapProduct gap output.now drawing.now snapped.now (product_value product)) }
 {
     let before = pieces(alloc, drawing)?;
     let after = pieces(alloc, &snapped.joined)?;
