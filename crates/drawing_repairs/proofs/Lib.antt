@@ -2,6 +2,8 @@ mod SnapFacts
 mod CellFacts
 mod SnapLawFacts
 mod EndGroupFacts
+mod SpacedFacts
+pub mod JunctionLemmas
 pub mod MoveLemmas
 pub mod JoiningLemmas
 pub mod CellLemmas

@@ -6,6 +6,8 @@ pub mod Listings
 -- Used only inside this crate.
 pub mod EndGroups
 pub mod AnchoredSpots
+pub mod SpacedLines
+pub mod SpacedDrawings
 -- Read this one first: a snapped drawing.
 pub mod Snaps
 -- Theorems over these definitions.

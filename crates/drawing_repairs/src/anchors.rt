@@ -91,7 +91,7 @@ fn has_near(gap: u16, cells: &HashMap<Cell, Points>, p: Point) -> bool
 }
 
 /// Returns the distance between two points on the larger axis.
-fn distance(p: Point, q: Point) -> u32
+pub fn distance(p: Point, q: Point) -> u32
     ensures { result ≡ distance_between p q }
 {
     q.x.abs_diff(p.x).max(q.y.abs_diff(p.y))

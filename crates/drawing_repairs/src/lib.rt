@@ -6,12 +6,15 @@ mod anchors;
 mod cells;
 mod end_groups;
 mod joining;
+mod junction_spots;
 mod listing;
 mod moving;
 mod repeated_snaps;
 mod second_snaps;
 mod snap_fault;
 mod snapping;
+mod spaced_drawing;
+mod spacing;
 mod theorems;
 mod vanished;
 
@@ -19,6 +22,7 @@ pub use repeated_snaps::snapping_twice_is_once;
 pub use second_snaps::snapped_drawings_stay;
 pub use snap_fault::SnapFault;
 pub use snapping::{SnappedDrawing, snap};
+pub use spaced_drawing::{SpacedDrawing, space};
 pub use theorems::{
     anchors_are_apart, ends_are_put_where_they_lie, lines_list_ends_once, listings_add_ends_alone,
     points_move_within_gap,

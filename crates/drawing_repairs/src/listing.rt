@@ -88,7 +88,8 @@ fn put_ends(ends: &mut Points, points: &[Point]) -> Result<(), Memory>
     Ok(())
 }
 
-fn last_or(first: Point, points: &[Point]) -> Point
+/// Returns the last of points, or the given one where there is none.
+pub fn last_or(first: Point, points: &[Point]) -> Point
     ensures { result ≡ last_point_or first points.now }
 {
     let mut last = first;
@@ -283,7 +284,7 @@ fn put_all(left: &mut VecDeque<Point>, points: &[Point]) -> Result<(), Memory>
 }
 
 /// Returns the segment from a to b, by itself.
-fn lone_segment(a: Point, b: Point) -> LineSegment
+pub fn lone_segment(a: Point, b: Point) -> LineSegment
     ensures { result ≡ segment_between a b }
 {
     let at = Position {
