@@ -14,8 +14,9 @@ use Rattle.drawing_commands.specs.declared.bad_edit.BadEdit.{BadEdit}
 use Rattle.drawing_commands.specs.DrawingEditing.{DrawingEditOrder, edited_plan, edits_applied}
 use Rattle.drawing_commands.specs.FaultTexts.{plan_after_reading}
 use Rattle.drawing_commands.specs.Looks.{IsLook}
-use Rattle.drawing_commands.specs.Requests.{DrawingOrder, editing, looking, snapping}
+use Rattle.drawing_commands.specs.Requests.{DrawingOrder, editing, looking, snapping, spacing}
 use Rattle.drawing_commands.proofs.SnapLemmas.{snap_exact, snap_outputs}
+use Rattle.drawing_commands.proofs.SpaceLemmas.{space_exact, space_outputs}
 
 lines_exact : (file : List ℕ) (gap : ℕ) (d : DrawingValue) (read : Result DrawnLines DrawFault)
     → IsExact (plan_after_reading file (λ drawn. accepts (IsLook gap d drawn)) read)
@@ -65,6 +66,7 @@ edit_outputs order files product (Err fault) never = absurd never
 order_exact : (order : DrawingOrder) → IsExact (drawing_plan_of order)
 order_exact (looking order) = λ bytes. look_exact order.file order.gap (lines_of bytes) (drawing_of bytes)
 order_exact (snapping order) = λ bytes. snap_exact order bytes (drawing_of bytes)
+order_exact (spacing order) = λ bytes. space_exact order bytes (drawing_of bytes)
 order_exact (editing order) = λ bytes. edit_exact order (drawing_of bytes)
 
 makes_outputs : (order : DrawingOrder) (files : Option Files) (product : ProductValue)
@@ -73,6 +75,8 @@ makes_outputs (looking order) files product (bytes, input, makes) =
     look_outputs order.file order.gap files product (lines_of bytes) (drawing_of bytes) makes
 makes_outputs (snapping order) files product (bytes, input, makes) =
     snap_outputs order bytes files product (drawing_of bytes) makes
+makes_outputs (spacing order) files product (bytes, input, makes) =
+    space_outputs order bytes files product (drawing_of bytes) makes
 makes_outputs (editing order) files product (bytes, input, makes) =
     edit_outputs order files product (drawing_of bytes) makes
 

@@ -2,6 +2,7 @@ mod FaultLemmas
 mod LookFacts
 mod WordLemmas
 mod SnapLemmas
+mod SpaceLemmas
 pub mod DrawingEditLemmas
 pub mod RequestLemmas
 mod CommandLemmas

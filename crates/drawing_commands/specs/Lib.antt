@@ -6,6 +6,8 @@ pub mod LookTexts
 pub mod Looks
 pub mod SnapTexts
 pub mod SnapOrders
+pub mod SpaceTexts
+pub mod SpaceOrders
 pub mod DrawingEditWords
 pub mod DrawingEditing
 pub mod EditFailures

@@ -12,11 +12,13 @@ use Rattle.drawing_commands.specs.DrawingEditing.{DrawingEditOrder, drawing_edit
 use Rattle.drawing_commands.specs.DrawingEditWords.{drawing_edits_of, parsed_drawing_edits}
 use Rattle.drawing_commands.specs.Looks.{LookOrder, look_order}
 use Rattle.drawing_commands.specs.SnapOrders.{SnapOrder, snap_order}
+use Rattle.drawing_commands.specs.SpaceOrders.{SpaceOrder, space_order}
 
 -- An order, with a case for each command.
 pub data DrawingOrder : Type 0 where
   looking : LookOrder → DrawingOrder
   snapping : SnapOrder → DrawingOrder
+  spacing : SpaceOrder → DrawingOrder
   editing : DrawingEditOrder → DrawingOrder
 
 -- The order of a request of the program.
@@ -24,6 +26,7 @@ abbrev pub order_of_request : DrawingRequest → DrawingOrder
 order_of_request (request.Look file gap) = looking (look_order file.now gap)
 order_of_request (request.Snap gap input output) =
     snapping (snap_order gap input.now output.now)
+order_of_request (request.Space input output) = spacing (space_order input.now output.now)
 order_of_request (request.Edit input output edits) =
     editing (drawing_edit_order input.now output.now
     (drawing_edits_of (map (λ word. string_bytes word) edits.now)))
@@ -39,6 +42,7 @@ pub record IsEditRequest (input output : List ℕ) (edits : List (List ℕ)) : T
 abbrev pub HasFileNames : DrawingRequest → Type 0
 HasFileNames (request.Look file gap) = IsFileName file.now
 HasFileNames (request.Snap gap input output) = IsFileName input.now × IsFileName output.now
+HasFileNames (request.Space input output) = IsFileName input.now × IsFileName output.now
 HasFileNames (request.Edit input output edits) =
     IsEditRequest input.now output.now (map (λ word. string_bytes word) edits.now)
 
@@ -73,6 +77,17 @@ abbrev pub parsed_snap : List (List ℕ) → Option DrawingOrder
 parsed_snap (gap ∷ input ∷ output ∷ []) = snap_with_gap (gap_of (parsed_whole gap)) input output
 parsed_snap words = None
 
+-- The order of `space`, if its names are different file names.
+abbrev pub space_with_names : (input output : List ℕ) → Option DrawingOrder
+space_with_names input output =
+    if is_file_name input && is_file_name output && not (bytes_eq input output)
+    then Some (spacing (space_order input output)) else None
+
+-- The order of `space` with the given arguments, if there is one.
+abbrev pub parsed_space : List (List ℕ) → Option DrawingOrder
+parsed_space (input ∷ output ∷ []) = space_with_names input output
+parsed_space words = None
+
 -- The order of `edit` with the given edits, if there are any and the names differ.
 abbrev pub edit_order_with : (input output : List ℕ) → Option (List DrawingEdit)
     → Option DrawingOrder
@@ -94,5 +109,6 @@ drawing_order_of [] = None
 drawing_order_of (command ∷ words) =
     if bytes_eq command (codes "look") then parsed_look words
     else if bytes_eq command (codes "snap") then parsed_snap words
+    else if bytes_eq command (codes "space") then parsed_space words
     else if bytes_eq command (codes "edit") then parsed_drawing_edit_request words
     else None

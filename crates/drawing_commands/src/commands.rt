@@ -7,6 +7,7 @@ use crate::editing::edit;
 use crate::looking::look;
 use crate::requests::{DrawingRequest, drawing_request};
 use crate::snapping::snap_file;
+use crate::spacing::space_file;
 use outside_io::Store;
 use program_shell::{Failure, Product};
 use std::alloc::Global;
@@ -25,6 +26,7 @@ pub(crate) fn make_product<'a, S: Store>(
         Some(DrawingRequest::Snap { gap, input, output }) => {
             snap_file(alloc, gap, input, output, store)
         }
+        Some(DrawingRequest::Space { input, output }) => space_file(alloc, input, output, store),
         Some(
             DrawingRequest::Edit {
                 input,

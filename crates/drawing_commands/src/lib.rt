@@ -12,6 +12,8 @@ mod requests;
 mod running;
 mod snap_texts;
 mod snapping;
+mod space_texts;
+mod spacing;
 
 pub use program_shell::Status;
 pub use requests::{DrawingRequest, MAX_GAP, drawing_request};

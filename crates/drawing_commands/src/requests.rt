@@ -2,7 +2,7 @@ ghost use Rattle.std.specs.Prelude.{◌≡◌, Some, IfSome, map, option_map, st
 ghost use Rattle.design_model.specs.declared.whole_number.Whole.TheVariants as whole;
 ghost use Rattle.design_model.specs.WholeNumbers.{parsed_whole};
 ghost use Rattle.drawing_commands.specs.DrawingEditWords.{parsed_drawing_edits};
-ghost use Rattle.drawing_commands.specs.Requests.{HasFileNames, drawing_order_of, edit_order_with, gap_of, look_with_gap, order_of_request, parsed_drawing_edit_request, parsed_look, parsed_snap, snap_with_gap};
+ghost use Rattle.drawing_commands.specs.Requests.{HasFileNames, drawing_order_of, edit_order_with, gap_of, look_with_gap, order_of_request, parsed_drawing_edit_request, parsed_look, parsed_snap, parsed_space, snap_with_gap, space_with_names};
 
 use crate::drawing_edit_words::are_drawing_edits;
 use design_model::{Whole, parse_whole};
@@ -28,6 +28,11 @@ pub enum DrawingRequest<'a> {
         input: &'a str,
         output: &'a str,
     },
+    /// A spaced drawing.
+    Space {
+        input: &'a str,
+        output: &'a str,
+    },
     /// An edited drawing. The edits are arguments.
     Edit {
         input: &'a str,
@@ -36,8 +41,8 @@ pub enum DrawingRequest<'a> {
     },
 }
 
-/// Parses the arguments: `look DRAWING [GAP]`, `snap GAP DRAWING OUT` or `edit DRAWING OUT EDIT...`. Returns
-/// `None` for other arguments. Allocates nothing.
+/// Parses the arguments: `look DRAWING [GAP]`, `snap GAP DRAWING OUT`, `space DRAWING OUT` or
+/// `edit DRAWING OUT EDIT...`. Returns `None` for other arguments. Allocates nothing.
 pub fn drawing_request(words: &[String]) -> Option<DrawingRequest<'_>>
     ensures value { option_map order_of_request result
         ≡ drawing_order_of (map (λ word. string_bytes word) words.now) }
@@ -46,6 +51,7 @@ pub fn drawing_request(words: &[String]) -> Option<DrawingRequest<'_>>
     match words {
         [command, rest @ ..] if command.as_str() == "look" => look_request(rest),
         [command, rest @ ..] if command.as_str() == "snap" => snap_request(rest),
+        [command, rest @ ..] if command.as_str() == "space" => space_request(rest),
         [command, rest @ ..] if command.as_str() == "edit" => edit_request(rest),
         _ => None,
     }
@@ -131,6 +137,29 @@ fn named_snap<'a>(gap: u16, input: &'a str, output: &'a str) -> Option<DrawingRe
 {
     if is_name(input) && is_name(output) && input != output {
         Some(DrawingRequest::Snap { gap, input, output })
+    } else {
+        None
+    }
+}
+
+fn space_request(words: &[String]) -> Option<DrawingRequest<'_>>
+    ensures value { option_map order_of_request result
+        ≡ parsed_space (map (λ word. string_bytes word) words.now) }
+    ensures sound { IfSome result HasFileNames }
+{
+    match words {
+        [input, output] => named_space(input.as_str(), output.as_str()),
+        _ => None,
+    }
+}
+
+/// Returns the request of `space` on two files, whose names must differ.
+fn named_space<'a>(input: &'a str, output: &'a str) -> Option<DrawingRequest<'a>>
+    ensures value { option_map order_of_request result ≡ space_with_names input.now output.now }
+    ensures sound { IfSome result HasFileNames }
+{
+    if is_name(input) && is_name(output) && input != output {
+        Some(DrawingRequest::Space { input, output })
     } else {
         None
     }

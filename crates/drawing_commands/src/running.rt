@@ -49,5 +49,5 @@ fn name() -> &'static [u8]
 fn usage() -> &'static [u8]
     ensures { result.now ≡ drawing_usage_text }
 {
-    b"usage: stitch_drawing look DRAWING [GAP]\n       stitch_drawing snap GAP DRAWING OUT\n       stitch_drawing edit DRAWING OUT EDIT...\n"
+    b"usage: stitch_drawing look DRAWING [GAP]\n       stitch_drawing snap GAP DRAWING OUT\n       stitch_drawing space DRAWING OUT\n       stitch_drawing edit DRAWING OUT EDIT...\n"
 }

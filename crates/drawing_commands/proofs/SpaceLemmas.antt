@@ -1,0 +1,86 @@
+-- What is proved of the plan of `space`: it decides, its products have one output, and a fault is refused.
+use Rattle.std.proofs.Common.{◌≡◌, ℕ, List, [], ◌∷◌, Bool, Option, Ok, Err, Result, ap, refl, subst, sym}
+use Rattle.design_model.specs.OutOfMemory.{IsSpecified, UnlessOutOfMemory}
+use Rattle.drawing_repairs.specs.declared.spaced_drawing.SpacedDrawing.{SpacedDrawing}
+use Rattle.drawing_repairs.specs.SpacedDrawings.{space_of}
+use Rattle.drawing_text.specs.declared.draw_fault.DrawFault.{DrawFault}
+use Rattle.drawing_text.specs.declared.drawn_lines.DrawnLines.{DrawnLines}
+use Rattle.drawing_text.specs.DrawnTexts.{lines_of}
+use Rattle.line_graph.specs.declared.draw_kind.DrawKind.{DrawKind}
+use Rattle.line_graph.specs.Drawings.{DrawingValue}
+use Rattle.line_graph.specs.GrowingDrawings.{draw_is_out_of_memory}
+use Rattle.line_sections.specs.declared.spot.Spot.{Spot}
+use Rattle.outside_io.specs.Files.{Files}
+use Rattle.outside_io.specs.Views.{StoreView}
+use Rattle.program_shell.specs.declared.failure.Failure.{Failure}
+use Rattle.program_shell.specs.declared.failure.Failure.TheVariants as failure
+use Rattle.program_shell.specs.ExactPlans.{IsExact}
+use Rattle.program_shell.specs.Plans.{Makes}
+use Rattle.program_shell.specs.Products.{ProductValue, output_names}
+use Rattle.program_shell.specs.StepOutcomes.{RunsPurePlan}
+use Rattle.drawing_text.specs.EndTexts.{AreInBlockOrder, HasOrderedEnds}
+use Rattle.drawing_commands.specs.FaultTexts.{plan_after_reading}
+use Rattle.drawing_commands.specs.SpaceOrders.{IsSpaceFailure, SpaceOrder, space_lines, space_made}
+
+-- A spaced drawing with a fault is refused with the text about it.
+pub space_refused : (order : SpaceOrder) (drawn : DrawingValue) (said : Result SpacedDrawing DrawKind) (kind : DrawKind) (why : Failure)
+    → IsSpecified draw_is_out_of_memory said (Err kind) → IsSpaceFailure order.input kind why
+    → RunsPurePlan (space_made order drawn said) (Err why)
+space_refused order drawn said kind failure.BadArguments spec never = absurd never
+space_refused order drawn said kind (failure.MissingInput missing) spec never = absurd never
+space_refused order drawn said kind (failure.ReadFailed lost) spec never = absurd never
+space_refused order drawn said kind (failure.Refused text) spec (is, known) =
+    subst (λ (r : Result SpacedDrawing DrawKind). RunsPurePlan (space_made order drawn r) (Err (failure.Refused text))) (sym here)
+    (record { at = λ (store : StoreView). (is, refl) })
+  where
+    here : said ≡ Err kind
+    here = subst (λ (b : Bool). UnlessOutOfMemory b (said ≡ Err kind)) known spec
+space_refused order drawn said kind failure.Memory spec out = record { at = λ (store : StoreView). refl }
+
+made_exact : (order : SpaceOrder) (drawn : DrawingValue) (spaced : Result SpacedDrawing DrawKind)
+    → IsExact (space_made order drawn spaced)
+made_exact order drawn (Ok spaced) = tt
+made_exact order drawn (Err kind) = tt
+
+lines_exact : (order : SpaceOrder) (d : DrawingValue) (read : Result DrawnLines DrawFault)
+    → IsExact (plan_after_reading order.input (λ drawn.
+    space_made order drawn.drawing (space_of drawn.drawing d.starts d.ends)) read)
+lines_exact order d (Ok drawn) = made_exact order drawn.drawing (space_of drawn.drawing d.starts d.ends)
+lines_exact order d (Err fault) = tt
+
+-- The plan of `space` decides.
+pub space_exact : (order : SpaceOrder) (bytes : List ℕ) (read : Result DrawingValue DrawFault)
+    → IsExact (plan_after_reading order.input (space_lines order bytes) read)
+space_exact order bytes (Ok d) = lines_exact order d (lines_of bytes)
+space_exact order bytes (Err fault) = tt
+
+made_outputs : (order : SpaceOrder) (drawn : DrawingValue) (files : Option Files) (product : ProductValue)
+    (spaced : Result SpacedDrawing DrawKind) → Makes (space_made order drawn spaced) files product
+    → output_names product.outputs ≡ order.output ∷ []
+made_outputs order drawn files product (Ok spaced) is = ap (λ (p : ProductValue). output_names p.outputs) is.made
+made_outputs order drawn files product (Err kind) never = absurd never
+
+lines_outputs : (order : SpaceOrder) (d : DrawingValue) (files : Option Files) (product : ProductValue)
+    (read : Result DrawnLines DrawFault)
+    → Makes (plan_after_reading order.input (λ drawn.
+    space_made order drawn.drawing (space_of drawn.drawing d.starts d.ends)) read) files product
+    → output_names product.outputs ≡ order.output ∷ []
+lines_outputs order d files product (Ok drawn) makes =
+    made_outputs order drawn.drawing files product (space_of drawn.drawing d.starts d.ends) makes
+lines_outputs order d files product (Err fault) never = absurd never
+
+-- The products of `space` have one output.
+pub space_outputs : (order : SpaceOrder) (bytes : List ℕ) (files : Option Files) (product : ProductValue)
+    (read : Result DrawingValue DrawFault)
+    → Makes (plan_after_reading order.input (space_lines order bytes) read) files product
+    → output_names product.outputs ≡ order.output ∷ []
+space_outputs order bytes files product (Ok d) makes = lines_outputs order d files product (lines_of bytes) makes
+space_outputs order bytes files product (Err fault) never = absurd never
+
+-- A drawing with the starts and ends of another has them in order where that one has.
+pub space_ordered : (d joined : DrawingValue) → HasOrderedEnds d → joined.starts ≡ d.starts → joined.ends ≡ d.ends
+    → HasOrderedEnds joined
+space_ordered d joined ordered starts ends = record {
+  starts = subst (λ (spots : List Spot). AreInBlockOrder spots) (sym starts) ordered.starts;
+  ends = subst (λ (spots : List Spot). AreInBlockOrder spots) (sym ends) ordered.ends;
+}

@@ -1,0 +1,81 @@
+-- The command `space`: a drawing is written without the points for which one stitch stands. Its
+-- lines are written whole, as they were drawn, with its starts and ends. Costs count steps.
+use Rattle.std.specs.Prelude.{◌≡◌, ℕ, false, List, ◌++◌, length, Result, Ok, Err, string_bytes}
+use Rattle.drawing_repairs.specs.declared.spaced_drawing.SpacedDrawing.{SpacedDrawing}
+use Rattle.drawing_repairs.specs.SpacedDrawings.{space_of}
+use Rattle.drawing_text.specs.DrawingText.{drawing_of}
+use Rattle.drawing_text.specs.DrawnTexts.{drawing_as_drawn, lines_of}
+use Rattle.drawing_text.specs.EndTexts.{drawn_text, with_ends_of}
+use Rattle.line_graph.specs.declared.draw_kind.DrawKind.{DrawKind}
+use Rattle.line_graph.specs.declared.piece.Piece.{Piece}
+use Rattle.line_graph.specs.Drawings.{DrawingValue}
+use Rattle.line_graph.specs.GrowingDrawings.{draw_is_out_of_memory, point_count, step_count}
+use Rattle.line_graph.specs.PiecesOfDrawings.{ArePiecesOf}
+use Rattle.program_shell.specs.declared.failure.Failure.{Failure}
+use Rattle.program_shell.specs.declared.failure.Failure.TheVariants as failure
+use Rattle.program_shell.specs.FileTexts.{text_about}
+use Rattle.program_shell.specs.Plans.{Plan, accepts, reads, refuses}
+use Rattle.program_shell.specs.Products.{ProductValue, one_file_product}
+use Rattle.program_texts.specs.DrawingTexts.{draw_kind_text}
+use Rattle.drawing_commands.specs.FaultTexts.{plan_after_reading}
+use Rattle.drawing_commands.specs.SpaceTexts.{cost_change_text, point_change_text}
+
+-- The order of `space`: the drawing to read, and the file to write.
+pub record SpaceOrder : Type 0 where
+  pub input : List ℕ
+  pub output : List ℕ
+
+-- The order of `space`, from its names.
+abbrev pub space_order : (input output : List ℕ) → SpaceOrder
+space_order input output = record { input = input; output = output }
+
+-- The report of `space` on a drawing before and after.
+abbrev pub space_report : (before after : DrawingValue) → (pieces : ℕ) → List ℕ
+space_report before after pieces =
+    point_change_text (point_count before.lines) (point_count after.lines)
+    ++ cost_change_text (step_count before.step before.lines) (step_count after.step after.lines)
+    pieces
+
+-- The text of a spaced drawing: its lines as they are drawn, with its starts and ends.
+abbrev pub spaced_text : SpacedDrawing → List ℕ
+spaced_text spaced = drawn_text (with_ends_of spaced.drawn spaced.joined)
+
+-- The product of `space`: the text of the spaced drawing, and a report on its lines and on those
+-- before. The text is read as the joined drawing, and its lines as they are drawn. The pieces are
+-- those that are sewn.
+pub record IsSpaceProduct (output : List ℕ) (before : DrawingValue) (spaced : SpacedDrawing)
+    (product : ProductValue) : Type 0 where
+  pub pieces : List Piece
+  pub pieces_are : ArePiecesOf spaced.joined pieces
+  pub again : drawing_of (spaced_text spaced) ≡ Ok spaced.joined
+  pub lines : drawing_as_drawn (spaced_text spaced) ≡ Ok spaced.drawn
+  pub made : product ≡ one_file_product output (spaced_text spaced)
+      (space_report before spaced.drawn (length pieces))
+
+-- The plan for lines as they are drawn and their spaced drawing: it is accepted, and a fault is
+-- refused.
+abbrev pub space_made : SpaceOrder → DrawingValue → Result SpacedDrawing DrawKind → Plan
+space_made order drawn (Ok spaced) = accepts (IsSpaceProduct order.output drawn spaced)
+space_made order drawn (Err why) = refuses (text_about order.input (draw_kind_text why))
+
+-- The plan for the drawing of a text and the result of reading its lines.
+abbrev pub space_lines : SpaceOrder → List ℕ → DrawingValue → Plan
+space_lines order bytes d = plan_after_reading order.input (λ drawn.
+    space_made order drawn.drawing (space_of drawn.drawing d.starts d.ends)) (lines_of bytes)
+
+-- The plan for the bytes of the file.
+abbrev pub space_read : SpaceOrder → List ℕ → Plan
+space_read order bytes =
+    plan_after_reading order.input (space_lines order bytes) (drawing_of bytes)
+
+-- The plan of `space`: read the drawing file, then write the spaced drawing.
+abbrev pub space_plan : SpaceOrder → Plan
+space_plan order = reads order.input (space_read order)
+
+-- The failure for a spaced drawing with a fault: a refusal with the text about it, or out of
+-- memory. A fault that is out of memory isn't refused.
+abbrev pub IsSpaceFailure : List ℕ → DrawKind → Failure → Type 0
+IsSpaceFailure name why (failure.Refused text) =
+    (string_bytes text ≡ text_about name (draw_kind_text why)) × (draw_is_out_of_memory why ≡ false)
+IsSpaceFailure name why failure.Memory = Unit {0}
+IsSpaceFailure name why other = ⊥

@@ -1,0 +1,77 @@
+ghost use Rattle.std.specs.Prelude.{◌≡◌, IfOk, string_bytes};
+ghost use Rattle.drawing_commands.specs.SpaceOrders.{IsSpaceFailure, space_report};
+ghost use Rattle.drawing_commands.specs.SpaceTexts.{cost_change_text, point_change_text};
+ghost use Rattle.line_graph.specs.GrowingDrawings.{draw_is_out_of_memory, point_count};
+ghost use Rattle.program_shell.specs.FileTexts.{text_about};
+ghost use Rattle.program_shell.specs.StepOutcomes.{IsRefusalWith};
+ghost use Rattle.program_texts.specs.DrawingTexts.{draw_kind_text};
+
+use design_model::{Bytes, Memory};
+use line_graph::{DrawKind, Drawing, drawing_cost};
+use program_shell::{Failure, bytes_of, describe_file};
+use program_texts::kind_text;
+use std::alloc::Global;
+
+/// Returns the report of `space` on a drawing before and after.
+pub(crate) fn print_space(
+    alloc: Global,
+    before: &Drawing,
+    after: &Drawing,
+    pieces: usize,
+) -> Result<Bytes, Memory>
+    ensures { IfOk result (λ text. text ≡ space_report before.now after.now pieces) }
+{
+    let points = describe_points(alloc, point_total(before), point_total(after))?;
+    let costs = describe_costs(alloc, drawing_cost(before), drawing_cost(after), pieces)?;
+    let mut text = bytes_of(alloc, points.as_bytes())?;
+    text.append(costs.as_bytes())?;
+    Ok(text)
+}
+
+fn describe_points(alloc: Global, before: usize, after: usize) -> Result<String, Memory>
+    ensures { IfOk result (λ text. string_bytes text ≡ point_change_text before after) }
+{
+    let text = format!(in alloc; "points {before} to {after} ")?;
+    Ok(text)
+}
+
+fn describe_costs(alloc: Global, before: u32, after: u32, pieces: usize) -> Result<String, Memory>
+    ensures { IfOk result (λ text. string_bytes text ≡ cost_change_text before after pieces) }
+{
+    let text = format!(in alloc; "cost {before} to {after} pieces {pieces}\n")?;
+    Ok(text)
+}
+
+/// Returns the number of points of a drawing's lines.
+fn point_total(d: &Drawing) -> usize
+    ensures { result ≡ point_count d.now.lines }
+{
+    d.keeps_limits();
+    let mut points = 0;
+    let mut rest = d.lines();
+    while let [line, after @ ..] = rest {
+        points += line.points().len();
+        rest = after;
+    }
+    points
+}
+
+/// Returns the failure for a spaced drawing with a fault.
+pub(crate) fn space_failure<'a>(alloc: Global, name: &str, why: DrawKind) -> Failure<'a>
+    ensures { IsSpaceFailure name.now why result }
+{
+    match why {
+        DrawKind::Memory => Failure::Memory,
+        other => not_spaced(alloc, name, other),
+    }
+}
+
+/// Returns the refusal of a spaced drawing with a fault, or out of memory.
+fn not_spaced<'a>(alloc: Global, name: &str, why: DrawKind) -> Failure<'a>
+    ensures { IsRefusalWith (text_about name.now (draw_kind_text why)) result }
+{
+    match describe_file(alloc, name, kind_text(why)) {
+        Ok(text) => Failure::Refused(text),
+        Err(Memory) => Failure::Memory,
+    }
+}

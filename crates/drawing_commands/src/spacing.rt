@@ -1,0 +1,123 @@
+ghost use Rattle.std.specs.Prelude.{◌≤◌, IfOk, length};
+ghost use Rattle.drawing_commands.specs.FaultTexts.{plan_after_reading};
+ghost use Rattle.drawing_commands.specs.SpaceOrders.{IsSpaceProduct, space_lines, space_made, space_order, space_plan, space_read};
+ghost use Rattle.drawing_repairs.specs.SpacedDrawings.{space_of};
+ghost use Rattle.drawing_text.specs.declared.limits.TheConstants.{MAX_TEXT};
+ghost use Rattle.drawing_text.specs.EndTexts.{HasOrderedEnds};
+ghost use Rattle.drawing_text.specs.TextLaws.{IsJoinedFrom};
+ghost use Rattle.line_graph.specs.WalkEnds.{HasNoEnds};
+ghost use Rattle.outside_io.specs.Files.{IsFileName};
+ghost use Rattle.program_shell.specs.Products.{product_value};
+ghost use Rattle.program_shell.specs.StepOutcomes.{RunsPlan, RunsPurePlan};
+
+use crate::space_texts::{print_space, space_failure};
+use design_model::Memory;
+use drawing_inputs::drawing_failure;
+use drawing_repairs::{SpacedDrawing, space};
+use drawing_text::{print_drawn, read_drawing, read_lines, texts_order_ends};
+use line_graph::{Drawing, pieces};
+use outside_io::Store;
+use program_shell::{Failure, Output, Product, one_output, read_input};
+use std::alloc::Global;
+
+/// Spaces a drawing, and writes its lines whole, with its starts and ends.
+pub(crate) fn space_file<'a, S: Store>(
+    alloc: Global,
+    input: &'a str,
+    output: &'a str,
+    store: &mut S,
+) -> Result<Product<'a>, Failure<'a>>
+    requires input { IsFileName input.now }
+    requires output { IsFileName output.now }
+    ensures { RunsPlan (space_plan (space_order input.now output.now)) (S.view store.old)
+        (S.view store.new) result }
+{
+    let bytes = read_input(alloc, store, input)?;
+    space_text(alloc, input, output, bytes.as_slice())
+}
+
+fn space_text<'a>(
+    alloc: Global,
+    input: &'a str,
+    output: &'a str,
+    bytes: &[u8],
+) -> Result<Product<'a>, Failure<'a>>
+    requires short { length bytes.now ≤ MAX_TEXT }
+    requires output { IsFileName output.now }
+    ensures { RunsPurePlan (space_read (space_order input.now output.now) bytes.now) result }
+{
+    match read_drawing(alloc, bytes) {
+        Ok(drawing) => {
+            texts_order_ends();
+            space_drawing(alloc, input, output, bytes, &drawing)
+        }
+        Err(fault) => Err(drawing_failure(alloc, input, fault)),
+    }
+}
+
+fn space_drawing<'a>(
+    alloc: Global,
+    input: &'a str,
+    output: &'a str,
+    bytes: &[u8],
+    drawing: &Drawing,
+) -> Result<Product<'a>, Failure<'a>>
+    requires short { length bytes.now ≤ MAX_TEXT }
+    requires output { IsFileName output.now }
+    requires ordered { HasOrderedEnds drawing.now }
+    ensures { RunsPurePlan
+        (space_lines (space_order input.now output.now) bytes.now drawing.now) result }
+{
+    match read_lines(alloc, bytes) {
+        Ok(drawn) => space_lines_of(alloc, input, output, drawing, &drawn.drawing),
+        Err(fault) => Err(drawing_failure(alloc, input, fault)),
+    }
+}
+
+/// Spaces lines as they are drawn, with the starts and ends of their drawing.
+fn space_lines_of<'a>(
+    alloc: Global,
+    input: &'a str,
+    output: &'a str,
+    drawing: &Drawing,
+    drawn: &Drawing,
+) -> Result<Product<'a>, Failure<'a>>
+    requires output { IsFileName output.now }
+    requires ordered { HasOrderedEnds drawing.now }
+    ensures { RunsPurePlan (space_made (space_order input.now output.now) drawn.now
+        (space_of drawn.now drawing.now.starts drawing.now.ends)) result }
+{
+    match space(alloc, drawn, drawing.starts(), drawing.ends()) {
+        Ok(spaced) => {
+            let product = space_product(alloc, output, drawn, &spaced)?;
+            Ok(product)
+        }
+        Err(why) => Err(space_failure(alloc, input, why)),
+    }
+}
+
+fn space_product<'a>(
+    alloc: Global,
+    output: &'a str,
+    before: &Drawing,
+    spaced: &SpacedDrawing,
+) -> Result<Product<'a>, Memory>
+    requires no_ends { HasNoEnds spaced.now.drawn }
+    requires whole { IsJoinedFrom spaced.now.drawn spaced.now.joined }
+    requires ordered { HasOrderedEnds spaced.now.joined }
+    ensures { IfOk result (λ product.
+        IsSpaceProduct output.now before.now spaced.now (product_value product)) }
+{
+    let pieces = pieces(alloc, &spaced.joined)?;
+    let report = print_space(alloc, before, &spaced.drawn, pieces.len())?;
+    let content = print_drawn(alloc, &spaced.drawn, &spaced.joined)?;
+    let product = one_output(
+        alloc,
+        Output {
+            name: output,
+            content,
+        },
+        report,
+    )?;
+    Ok(product)
+}
