@@ -9,7 +9,7 @@ pub type DrawingRun = (
 );
 
 const USAGE: &str =
-    "usage: stitch_drawing look DRAWING [GAP]\n       stitch_drawing snap GAP DRAWING OUT\n       stitch_drawing edit DRAWING OUT EDIT...\n";
+    "usage: stitch_drawing look DRAWING [GAP]\n       stitch_drawing snap GAP DRAWING OUT\n       stitch_drawing space DRAWING OUT\n       stitch_drawing edit DRAWING OUT EDIT...\n";
 
 /// Two lines, one of which ends beside the other, and one that crosses.
 pub static LOOKED_AT: &[(&str, &str)] = &[

@@ -17,7 +17,7 @@ type Run = (
 );
 
 const USAGE: &str =
-    "usage: stitch_drawing look DRAWING [GAP]\n       stitch_drawing snap GAP DRAWING OUT\n       stitch_drawing edit DRAWING OUT EDIT...\n";
+    "usage: stitch_drawing look DRAWING [GAP]\n       stitch_drawing snap GAP DRAWING OUT\n       stitch_drawing space DRAWING OUT\n       stitch_drawing edit DRAWING OUT EDIT...\n";
 
 const FILES: [(&str, &str); 4] = [
     (

@@ -1,4 +1,4 @@
-//! Tests of entire runs of `stitch_drawing edit` and `stitch_drawing snap`, over a store in memory.
+//! Tests of entire runs of the commands `edit`, `snap` and `space` of `stitch_drawing`, over a store in memory.
 #![tactic(auto)]
 
 mod contents;
@@ -6,5 +6,7 @@ mod contents;
 mod edit_runs;
 #[cfg(test)]
 mod snap_runs;
+#[cfg(test)]
+mod space_runs;
 
 pub use contents::file_content;
