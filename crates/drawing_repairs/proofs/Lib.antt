@@ -4,6 +4,9 @@ mod SnapLawFacts
 mod EndGroupFacts
 mod SpacedFacts
 pub mod JunctionLemmas
+pub mod SpacingLemmas
+pub mod SharedLemmas
+pub mod SavedLemmas
 pub mod MoveLemmas
 pub mod JoiningLemmas
 pub mod CellLemmas

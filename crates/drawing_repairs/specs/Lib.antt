@@ -6,10 +6,12 @@ pub mod Listings
 -- Used only inside this crate.
 pub mod EndGroups
 pub mod AnchoredSpots
-pub mod SpacedLines
-pub mod SpacedDrawings
 -- Read this one first: a snapped drawing.
 pub mod Snaps
 -- Theorems over these definitions.
 pub mod SnapLaws
 pub mod SecondSnaps
+-- Spaced lines and drawings, and theorems over them.
+pub mod SpacedLines
+pub mod SpacedDrawings
+pub mod SpacingLaws

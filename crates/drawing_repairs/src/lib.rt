@@ -1,4 +1,5 @@
-//! Repairs of drawings: points that nearly meet become one, and lines list the ends that nearly touch them.
+//! Repairs of drawings: points that nearly meet become one, lines list the ends that nearly touch them, and
+//! points for which one stitch stands are left out.
 #![tactic(auto)]
 
 mod anchored_spots;
@@ -15,6 +16,7 @@ mod snap_fault;
 mod snapping;
 mod spaced_drawing;
 mod spacing;
+mod spacing_theorems;
 mod theorems;
 mod vanished;
 
@@ -23,6 +25,7 @@ pub use second_snaps::snapped_drawings_stay;
 pub use snap_fault::SnapFault;
 pub use snapping::{SnappedDrawing, snap};
 pub use spaced_drawing::{SpacedDrawing, space};
+pub use spacing_theorems::{spaced_lines_save_steps, spaced_lines_stay_near};
 pub use theorems::{
     anchors_are_apart, ends_are_put_where_they_lie, lines_list_ends_once, listings_add_ends_alone,
     points_move_within_gap,
