@@ -7,6 +7,9 @@ pub mod JunctionLemmas
 pub mod SpacingLemmas
 pub mod SharedLemmas
 pub mod SavedLemmas
+pub mod KeptEndLemmas
+pub mod KeptCountLemmas
+pub mod KeptSectionLemmas
 pub mod MoveLemmas
 pub mod JoiningLemmas
 pub mod CellLemmas

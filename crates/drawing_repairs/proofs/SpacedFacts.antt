@@ -1,10 +1,13 @@
 -- Worked values of spaced lines, in tenths of a millimetre.
-use Rattle.std.proofs.Common.{◌≡◌, ℕ, true, false, pos, List, [], ◌∷◌, refl}
+use Rattle.std.proofs.Common.{◌≡◌, ℕ, ℤ, ◌+◌, inr, true, false, pos, ap, List, [], ◌∷◌, map, refl}
 use Rattle.design_model.specs.declared.point.Point.{Point}
 use Rattle.design_model.specs.Points.{is_same_point}
 use Rattle.line_sections.specs.Lines.{LineValue}
-use Rattle.line_sections.specs.Sections.{lines_through}
+use Rattle.line_graph.specs.Needles.{steps_of_line}
+use Rattle.line_graph.specs.WalkEnds.{end_spots}
+use Rattle.line_sections.specs.Sections.{all_sections, lines_through}
 use Rattle.drawing_repairs.specs.SpacedLines.{is_stitch_for, leeway_of, spaced_lines, spaced_points}
+use Rattle.drawing_repairs.specs.SpacingLaws.{StandFor}
 
 abbrev at : ℕ → ℕ → Point
 at x y = record { x = pos x; y = pos y }
@@ -64,3 +67,28 @@ known_closed = (refl, refl)
 pub known_short : (spaced_points (λ p. false) 30 [] ≡ []) × (spaced_points (λ p. false) 30 (at 1 2 ∷ []) ≡ at 1 2 ∷ [])
     × (spaced_points (λ p. false) 30 (at 1 2 ∷ at 3 4 ∷ []) ≡ at 1 2 ∷ at 3 4 ∷ [])
 known_short = (refl, refl, refl)
+
+-- the points of a line that stand for it: in order, and for a point 3 beside their stitch
+pub known_standing : StandFor 30 (at 0 0 ∷ at 20 0 ∷ []) (at 0 0 ∷ at 10 3 ∷ at 20 0 ∷ [])
+known_standing = (at 20 0 ∷ [], record { out = at 10 3 ∷ []; parts = refl; stitch = inr refl }, refl)
+
+abbrev first_x : List Point → ℤ
+first_x [] = pos 0
+first_x (p ∷ rest) = p.x
+
+pub known_disorder : StandFor 30 (at 20 0 ∷ at 0 0 ∷ []) (at 0 0 ∷ at 20 0 ∷ []) → ⊥
+known_disorder (after, stretch, rest) = let x = ap (λ (points : List Point). first_x points) stretch.parts in apart x
+  where
+    apart : pos 0 ≡ pos 20 → ⊥
+    apart never = cc
+
+-- three points that are left out save three steps, and no fewer
+pub known_saved : steps_of_line 30 (spaced_points (λ p. false) 30 (at 0 0 ∷ at 10 0 ∷ at 20 0 ∷ at 30 0 ∷ at 40 0 ∷ at 50 0 ∷ [])) + 3
+    ≡ steps_of_line 30 (at 0 0 ∷ at 10 0 ∷ at 20 0 ∷ at 30 0 ∷ at 40 0 ∷ at 50 0 ∷ [])
+known_saved = refl
+
+-- a point inside one line is shared, and the other line ends there: three sections before and after
+pub known_sections : map end_spots (all_sections (spaced_lines 30 (crossed 0 (at 10 0 ∷ at 10 4 ∷ at 10 9 ∷ []))))
+    ≡ map (λ (points : List Point). map (λ (p : Point). record { block = 0; at = p }) points)
+    ((at 0 0 ∷ at 10 0 ∷ []) ∷ (at 10 0 ∷ at 20 0 ∷ []) ∷ (at 10 0 ∷ at 10 9 ∷ []) ∷ [])
+known_sections = refl

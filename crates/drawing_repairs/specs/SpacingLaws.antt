@@ -1,14 +1,14 @@
 -- Laws of spaced lines: which points stay, how near the others are to the stitches that stand for
 -- them, and how many stitches are saved. Costs count steps.
-use Rattle.std.specs.Prelude.{◌≡◌, ℕ, ◌+◌, ◌≤◌, ◌⊎◌, Bool, true, List, [], ◌∷◌, ◌++◌, length, filter, All}
+use Rattle.std.specs.Prelude.{◌≡◌, ℕ, ◌+◌, ◌≤◌, ◌⊎◌, Bool, true, List, [], ◌∷◌, ◌++◌, length, map, filter, All}
 use Rattle.design_model.specs.declared.point.Point.{Point}
 use Rattle.line_graph.specs.Drawings.{IsLine}
 use Rattle.line_graph.specs.Needles.{steps_of_line}
 use Rattle.line_graph.specs.Pieces.{endpoints}
-use Rattle.line_graph.specs.WalkEnds.{is_junction}
+use Rattle.line_graph.specs.WalkEnds.{end_spots, is_junction}
 use Rattle.line_sections.specs.Lines.{LineValue}
 use Rattle.line_sections.specs.Sections.{all_sections, inner_points, is_shared_point}
-use Rattle.drawing_repairs.specs.SpacedLines.{is_spot_of, is_stitch_for, spaced_points}
+use Rattle.drawing_repairs.specs.SpacedLines.{is_spot_of, is_stitch_for, spaced_lines, spaced_points}
 
 -- The points of a line from the kept point a on: those left out before the next kept point b, for
 -- which one stitch stands if there are any, and the points after them.
@@ -57,3 +57,9 @@ SharedPointsAreJunctions = (lines : List LineValue) → All (λ line. All (λ p.
     is_shared_point lines line.block p ≡ true
     → is_spot_of (is_junction (all_sections lines)) line.block p ≡ true)
     (inner_points line.points)) lines
+
+-- The sections of spaced lines have the ends of the sections of the lines, one for one. So the
+-- pieces, which are connected by these ends, are the same.
+abbrev pub SectionsKeepEnds : Type 0
+SectionsKeepEnds = (step : ℕ) (lines : List LineValue)
+    → map end_spots (all_sections (spaced_lines step lines)) ≡ map end_spots (all_sections lines)

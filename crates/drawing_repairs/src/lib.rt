@@ -25,7 +25,9 @@ pub use second_snaps::snapped_drawings_stay;
 pub use snap_fault::SnapFault;
 pub use snapping::{SnappedDrawing, snap};
 pub use spaced_drawing::{SpacedDrawing, space};
-pub use spacing_theorems::{spaced_lines_save_steps, spaced_lines_stay_near};
+pub use spacing_theorems::{
+    spaced_lines_save_steps, spaced_lines_stay_near, spaced_sections_keep_ends,
+};
 pub use theorems::{
     anchors_are_apart, ends_are_put_where_they_lie, lines_list_ends_once, listings_add_ends_alone,
     points_move_within_gap,

@@ -1,4 +1,4 @@
-ghost use Rattle.drawing_repairs.specs.SpacingLaws.{EachPointSavesAStep, EndsOfLinesStay, KeptPointsStandForAll, SharedPointsAreJunctions, SpacedLinesAreLines, TestedPointsStay};
+ghost use Rattle.drawing_repairs.specs.SpacingLaws.{EachPointSavesAStep, EndsOfLinesStay, KeptPointsStandForAll, SectionsKeepEnds, SharedPointsAreJunctions, SpacedLinesAreLines, TestedPointsStay};
 
 use step_splitter::split_points_lead;
 
@@ -9,6 +9,11 @@ pub fn spaced_lines_stay_near()
     ensures tested { TestedPointsStay }
     ensures ends { EndsOfLinesStay }
     ensures shared { SharedPointsAreJunctions }
+{}
+
+/// Theorem: the sections of spaced lines have the ends of the sections of the lines, one for one.
+pub fn spaced_sections_keep_ends()
+    ensures { SectionsKeepEnds }
 {}
 
 /// Theorem: a line that can be sewn is one after it is spaced, and each point that is left out saves a step
