@@ -10,6 +10,7 @@ pub mod SavedLemmas
 pub mod KeptEndLemmas
 pub mod KeptCountLemmas
 pub mod KeptSectionLemmas
+pub mod PieceLemmas
 pub mod MoveLemmas
 pub mod JoiningLemmas
 pub mod CellLemmas

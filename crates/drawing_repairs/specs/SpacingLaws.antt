@@ -2,9 +2,9 @@
 -- them, and how many stitches are saved. Costs count steps.
 use Rattle.std.specs.Prelude.{◌≡◌, ℕ, ◌+◌, ◌≤◌, ◌⊎◌, Bool, true, List, [], ◌∷◌, ◌++◌, length, map, filter, All}
 use Rattle.design_model.specs.declared.point.Point.{Point}
-use Rattle.line_graph.specs.Drawings.{IsLine}
+use Rattle.line_graph.specs.Drawings.{DrawingValue, IsLine}
 use Rattle.line_graph.specs.Needles.{steps_of_line}
-use Rattle.line_graph.specs.Pieces.{endpoints}
+use Rattle.line_graph.specs.Pieces.{ArePieces, endpoints}
 use Rattle.line_graph.specs.WalkEnds.{end_spots, is_junction}
 use Rattle.line_sections.specs.Lines.{LineValue}
 use Rattle.line_sections.specs.Sections.{all_sections, inner_points, is_shared_point}
@@ -58,8 +58,13 @@ SharedPointsAreJunctions = (lines : List LineValue) → All (λ line. All (λ p.
     → is_spot_of (is_junction (all_sections lines)) line.block p ≡ true)
     (inner_points line.points)) lines
 
--- The sections of spaced lines have the ends of the sections of the lines, one for one. So the
--- pieces, which are connected by these ends, are the same.
+-- The sections of spaced lines have the ends of the sections of the lines, one for one.
 abbrev pub SectionsKeepEnds : Type 0
 SectionsKeepEnds = (step : ℕ) (lines : List LineValue)
     → map end_spots (all_sections (spaced_lines step lines)) ≡ map end_spots (all_sections lines)
+
+-- The pieces of the sections of a drawing are those of its spaced lines.
+abbrev pub PiecesStay : Type 0
+PiecesStay = (d : DrawingValue) (pieces : List (List ℕ))
+    → ArePieces (record d { lines = all_sections d.lines }) pieces
+    → ArePieces (record d { lines = all_sections (spaced_lines d.step d.lines) }) pieces

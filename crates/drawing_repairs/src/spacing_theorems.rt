@@ -1,4 +1,4 @@
-ghost use Rattle.drawing_repairs.specs.SpacingLaws.{EachPointSavesAStep, EndsOfLinesStay, KeptPointsStandForAll, SectionsKeepEnds, SharedPointsAreJunctions, SpacedLinesAreLines, TestedPointsStay};
+ghost use Rattle.drawing_repairs.specs.SpacingLaws.{EachPointSavesAStep, EndsOfLinesStay, KeptPointsStandForAll, PiecesStay, SectionsKeepEnds, SharedPointsAreJunctions, SpacedLinesAreLines, TestedPointsStay};
 
 use step_splitter::split_points_lead;
 
@@ -11,9 +11,11 @@ pub fn spaced_lines_stay_near()
     ensures shared { SharedPointsAreJunctions }
 {}
 
-/// Theorem: the sections of spaced lines have the ends of the sections of the lines, one for one.
+/// Theorem: the sections of spaced lines have the ends of the sections of the lines, one for one, and the pieces
+/// are the same.
 pub fn spaced_sections_keep_ends()
-    ensures { SectionsKeepEnds }
+    ensures ends { SectionsKeepEnds }
+    ensures pieces { PiecesStay }
 {}
 
 /// Theorem: a line that can be sewn is one after it is spaced, and each point that is left out saves a step
