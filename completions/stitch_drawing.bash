@@ -3,8 +3,8 @@ _stitch_drawing() {
     local word=${COMP_WORDS[COMP_CWORD]} command=${COMP_WORDS[1]-} file
     COMPREPLY=()
     case $COMP_CWORD:$command in
-        1:*) mapfile -t COMPREPLY < <(compgen -W 'look snap edit' -- "$word") ;;
-        2:look | 3:snap | 4:snap | 2:edit | 3:edit)
+        1:*) mapfile -t COMPREPLY < <(compgen -W 'look snap space edit' -- "$word") ;;
+        2:look | 3:snap | 4:snap | 2:space | 3:space | 2:edit | 3:edit)
             compopt -o filenames 2>/dev/null
             mapfile -t COMPREPLY < <(compgen -d -- "$word")
             while IFS= read -r file; do

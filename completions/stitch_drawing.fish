@@ -12,7 +12,7 @@ function __stitch_drawing_does
     test (commandline -opc)[2] = $argv[1]
 end
 
-complete -c stitch_drawing -n '__stitch_drawing_at 1' -a 'look snap edit'
+complete -c stitch_drawing -n '__stitch_drawing_at 1' -a 'look snap space edit'
 complete -c stitch_drawing -n '__stitch_drawing_at 2; and not __stitch_drawing_does snap' -a '(__stitch_drawing_files)'
 complete -c stitch_drawing -n '__stitch_drawing_at 3; and not __stitch_drawing_does look' -a '(__stitch_drawing_files)'
 complete -c stitch_drawing -n '__stitch_drawing_at 4; and __stitch_drawing_does snap' -a '(__stitch_drawing_files)'
