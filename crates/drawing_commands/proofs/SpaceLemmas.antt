@@ -18,7 +18,7 @@ use Rattle.program_shell.specs.ExactPlans.{IsExact}
 use Rattle.program_shell.specs.Plans.{Makes}
 use Rattle.program_shell.specs.Products.{ProductValue, output_names}
 use Rattle.program_shell.specs.StepOutcomes.{RunsPurePlan}
-use Rattle.drawing_text.specs.EndTexts.{AreInBlockOrder, HasOrderedEnds}
+use Rattle.line_graph.specs.EndOrders.{AreInBlockOrder, HasOrderedEnds}
 use Rattle.drawing_commands.specs.FaultTexts.{plan_after_reading}
 use Rattle.drawing_commands.specs.SpaceOrders.{IsSpaceFailure, SpaceOrder, space_lines, space_made}
 

@@ -6,9 +6,8 @@ use Rattle.drawing_edits.specs.declared.edit_fault.EditFault.{EditFault}
 use Rattle.drawing_edits.specs.declared.edit_fault.EditFault.TheVariants as fault
 use Rattle.drawing_edits.specs.EditedDrawings.{edited_drawing}
 use Rattle.drawing_edits.specs.EditFaults.{edit_is_out_of_memory}
-use Rattle.drawing_text.specs.CanonicalTexts.{canonical_text2}
 use Rattle.drawing_text.specs.DrawingText.{drawing_of}
-use Rattle.drawing_text.specs.EndTexts.{canonical_text3}
+use Rattle.drawing_text.specs.EndTexts.{drawn_text}
 use Rattle.line_graph.specs.Drawings.{DrawingValue}
 use Rattle.line_graph.specs.GrowingDrawings.{and_then, step_count}
 use Rattle.line_graph.specs.Pieces.{ArePieces}
@@ -58,17 +57,13 @@ edit_fault_text fault.OtherBlock = codes "pieces in different blocks"
 abbrev pub bad_edit_text : List ℕ → BadEdit → List ℕ
 bad_edit_text name bad = text_at name (codes "edit") bad.number (edit_fault_text bad.fault)
 
--- The canonical text of a joined drawing: version 3 where it has a start or an end, else version 2.
-abbrev pub joined_text : DrawingValue → List ℕ
-joined_text d = if length d.starts == 0 && length d.ends == 0 then canonical_text2 d
-    else canonical_text3 d
-
--- The product of `edit`: the canonical text of the edited drawing, and a report with the number of
--- lines, the number of pieces and the cost.
+-- The product of `edit`: the canonical text of the edited drawing, which is read as that drawing, and
+-- a report with the number of lines, the number of pieces and the cost.
 pub record IsEdited (output : List ℕ) (d : DrawingValue) (product : ProductValue) : Type 0 where
   pub pieces : List (List ℕ)
   pub pieces_are : ArePieces d pieces
-  pub made : product ≡ one_file_product output (joined_text d)
+  pub again : drawing_of (drawn_text d) ≡ Ok d
+  pub made : product ≡ one_file_product output (drawn_text d)
       (migrate_report (length d.lines) (length pieces) (step_count d.step d.lines))
 
 -- The plan for the result of the edits: a drawing is accepted, and a bad edit is refused.

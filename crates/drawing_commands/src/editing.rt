@@ -1,10 +1,11 @@
 ghost use Rattle.std.specs.Prelude.{◌≡◌, ◌∷◌, ◌<◌, ◌≤◌, [], IfOk, IfSome, IsSome, length, map, string_bytes, true};
 ghost use Rattle.design_model.specs.OutOfMemory.{IsSpecified};
-ghost use Rattle.drawing_commands.specs.DrawingEditing.{IsEdited, bad_edit_is_out_of_memory, drawing_edit_order, drawing_edit_plan, drawing_edit_read, edited_plan, edits_applied, joined_text};
+ghost use Rattle.drawing_commands.specs.DrawingEditing.{IsEdited, bad_edit_is_out_of_memory, drawing_edit_order, drawing_edit_plan, drawing_edit_read, edited_plan, edits_applied};
 ghost use Rattle.drawing_commands.specs.DrawingEditWords.{drawing_edits_of, parsed_drawing_edit, parsed_drawing_edits};
-ghost use Rattle.drawing_edits.specs.EditedDrawings.{edited_drawing};
+ghost use Rattle.drawing_edits.specs.EditedDrawings.{IsDrawingEdit, edited_drawing};
 ghost use Rattle.drawing_edits.specs.EditFaults.{edit_is_out_of_memory};
 ghost use Rattle.drawing_text.specs.declared.limits.TheConstants.{MAX_TEXT};
+ghost use Rattle.line_graph.specs.EndOrders.{HasOrderedEnds};
 ghost use Rattle.line_graph.specs.JoinedDrawings.{is_joined};
 ghost use Rattle.outside_io.specs.Files.{IsFileName};
 ghost use Rattle.program_shell.specs.Plans.{accepts};
@@ -14,11 +15,11 @@ ghost use Rattle.program_shell.specs.StepOutcomes.{RunsPlan, RunsPurePlan};
 use crate::bad_edit::BadEdit;
 use crate::drawing_edit_words::parse_drawing_edit;
 use crate::edit_failures::edit_failure;
-use design_model::{Bytes, Memory};
-use drawing_edits::{EditFault, edit_drawing};
+use design_model::Memory;
+use drawing_edits::{DrawingEdit, EditFault, edit_drawing, edits_keep_ends_by_block};
 use drawing_inputs::drawing_failure;
-use drawing_text::{print_drawing2, print_drawing3, read_drawing};
-use line_graph::{Drawing, drawing_cost, pieces};
+use drawing_text::{print_drawn, read_drawing, texts_order_ends};
+use line_graph::{Drawing, drawing_cost, joined_drawings_stay, pieces};
 use outside_io::Store;
 use program_shell::{Failure, Output, Product, one_output, read_input};
 use program_texts::print_migration;
@@ -59,7 +60,10 @@ fn edit_at<'a>(
         (drawing_edits_of (map (λ word. string_bytes word) edits.now))) bytes.now) result }
 {
     match read_drawing(alloc, bytes) {
-        Ok(drawing) => edit_read(alloc, input, output, edits, &drawing),
+        Ok(drawing) => {
+            texts_order_ends();
+            edit_read(alloc, input, output, edits, &drawing)
+        }
         Err(fault) => Err(drawing_failure(alloc, input, fault)),
     }
 }
@@ -74,6 +78,7 @@ fn edit_read<'a>(
     requires output { IsFileName output.now }
     requires edits { IsSome (parsed_drawing_edits (map (λ word. string_bytes word) edits.now)) }
     requires some { 1 ≤ length edits.now }
+    requires ordered { HasOrderedEnds drawing.now }
     ensures { RunsPurePlan (edited_plan input.now output.now (edits_applied 1
         (drawing_edits_of (map (λ word. string_bytes word) edits.now)) drawing.now)) result }
 {
@@ -87,9 +92,11 @@ fn edit_read<'a>(
 fn edited(alloc: Global, drawing: &Drawing, words: &[String]) -> Result<Drawing, BadEdit>
     requires edits { IsSome (parsed_drawing_edits (map (λ word. string_bytes word) words.now)) }
     requires some { 1 ≤ length words.now }
+    requires ordered { HasOrderedEnds drawing.now }
     ensures answer { IsSpecified bad_edit_is_out_of_memory (edits_applied 1
         (drawing_edits_of (map (λ word. string_bytes word) words.now)) drawing.now) result }
     ensures joined { IfOk result (λ new. is_joined new ≡ true) }
+    ensures ordered { IfOk result HasOrderedEnds }
 {
     match words {
         [first, rest @ ..] => edited_from(alloc, drawing, first.as_bytes(), rest),
@@ -105,9 +112,11 @@ fn edited_from(
 ) -> Result<Drawing, BadEdit>
     requires edits { IsSome (parsed_drawing_edits
         (first.now ∷ map (λ word. string_bytes word) rest.now)) }
+    requires ordered { HasOrderedEnds drawing.now }
     ensures answer { IsSpecified bad_edit_is_out_of_memory (edits_applied 1
         (drawing_edits_of (first.now ∷ map (λ word. string_bytes word) rest.now)) drawing.now) result }
     ensures joined { IfOk result (λ new. is_joined new ≡ true) }
+    ensures ordered { IfOk result HasOrderedEnds }
 {
     match apply_word(alloc, drawing, first) {
         Ok(once) => edited_on(alloc, once, rest),
@@ -119,9 +128,11 @@ fn edited_from(
 fn edited_on(alloc: Global, once: Drawing, words: &[String]) -> Result<Drawing, BadEdit>
     requires edits { IsSome (parsed_drawing_edits (map (λ word. string_bytes word) words.now)) }
     requires joined { is_joined once ≡ true }
+    requires ordered { HasOrderedEnds once }
     ensures answer { IsSpecified bad_edit_is_out_of_memory (edits_applied 2
         (drawing_edits_of (map (λ word. string_bytes word) words.now)) once) result }
     ensures joined { IfOk result (λ new. is_joined new ≡ true) }
+    ensures ordered { IfOk result HasOrderedEnds }
 {
     let mut edited = once;
     let mut number: u64 = 2;
@@ -137,15 +148,30 @@ fn edited_on(alloc: Global, once: Drawing, words: &[String]) -> Result<Drawing, 
 
 /// Applies the edit that an argument represents.
 fn apply_word(alloc: Global, drawing: &Drawing, word: &[u8]) -> Result<Drawing, EditFault>
-    requires { IsSome (parsed_drawing_edit word.now) }
+    requires edit { IsSome (parsed_drawing_edit word.now) }
+    requires ordered { HasOrderedEnds drawing.now }
     ensures answer { IfSome (parsed_drawing_edit word.now)
         (λ one. IsSpecified edit_is_out_of_memory (edited_drawing one drawing.now) result) }
     ensures joined { IfOk result (λ new. is_joined new ≡ true) }
+    ensures ordered { IfOk result HasOrderedEnds }
 {
     match parse_drawing_edit(word) {
-        Some(edit) => edit_drawing(alloc, drawing, edit),
+        Some(edit) => apply(alloc, drawing, edit),
         None => unreachable!(),
     }
+}
+
+/// Applies an edit, which keeps starts and ends in the order of their blocks.
+fn apply(alloc: Global, drawing: &Drawing, edit: DrawingEdit) -> Result<Drawing, EditFault>
+    requires edit { IsDrawingEdit edit }
+    requires ordered { HasOrderedEnds drawing.now }
+    ensures answer { IsSpecified edit_is_out_of_memory (edited_drawing edit drawing.now) result }
+    ensures joined { IfOk result (λ new. is_joined new ≡ true) }
+    ensures ordered { IfOk result HasOrderedEnds }
+{
+    edits_keep_ends_by_block();
+    let edited = edit_drawing(alloc, drawing, edit)?;
+    Ok(edited)
 }
 
 fn written<'a>(
@@ -155,6 +181,7 @@ fn written<'a>(
 ) -> Result<Product<'a>, Failure<'a>>
     requires output { IsFileName output.now }
     requires joined { is_joined drawing.now ≡ true }
+    requires ordered { HasOrderedEnds drawing.now }
     ensures { RunsPurePlan (accepts (IsEdited output.now drawing.now)) result }
 {
     let product = edited_product(alloc, output, drawing)?;
@@ -166,9 +193,12 @@ fn edited_product<'a>(
     output: &'a str,
     drawing: &Drawing,
 ) -> Result<Product<'a>, Memory>
-    requires { is_joined drawing.now ≡ true }
+    requires joined { is_joined drawing.now ≡ true }
+    requires ordered { HasOrderedEnds drawing.now }
     ensures { IfOk result (λ product. IsEdited output.now drawing.now (product_value product)) }
 {
+    drawing.keeps_limits();
+    joined_drawings_stay();
     let pieces = pieces(alloc, drawing)?;
     let report = print_migration(
         alloc,
@@ -176,22 +206,11 @@ fn edited_product<'a>(
         pieces.len(),
         drawing_cost(drawing),
     )?;
-    let content = print_joined(alloc, drawing)?;
+    let content = print_drawn(alloc, drawing, drawing)?;
     let written = Output {
         name: output,
         content,
     };
     let product = one_output(alloc, written, report)?;
     Ok(product)
-}
-
-/// Returns the canonical text of a joined drawing, in version 3 where it has a start or an end.
-fn print_joined(alloc: Global, drawing: &Drawing) -> Result<Bytes, Memory>
-    requires { is_joined drawing.now ≡ true }
-    ensures { IfOk result (λ text. text ≡ joined_text drawing.now) }
-{
-    if drawing.starts().is_empty() && drawing.ends().is_empty() {
-        return print_drawing2(alloc, drawing);
-    }
-    print_drawing3(alloc, drawing)
 }

@@ -4,7 +4,7 @@ ghost use Rattle.drawing_commands.specs.SnapOrders.{IsSnapProduct, snap_lines, s
 ghost use Rattle.drawing_repairs.specs.SecondSnaps.{StaysSnapped};
 ghost use Rattle.drawing_repairs.specs.Snaps.{snap_of};
 ghost use Rattle.drawing_text.specs.declared.limits.TheConstants.{MAX_TEXT};
-ghost use Rattle.drawing_text.specs.EndTexts.{HasOrderedEnds};
+ghost use Rattle.line_graph.specs.EndOrders.{HasOrderedEnds};
 ghost use Rattle.drawing_text.specs.TextLaws.{IsJoinedFrom};
 ghost use Rattle.line_graph.specs.WalkEnds.{HasNoEnds};
 ghost use Rattle.outside_io.specs.Files.{IsFileName};

@@ -3,7 +3,7 @@ ghost use Rattle.drawing_commands.specs.FaultTexts.{plan_after_reading};
 ghost use Rattle.drawing_commands.specs.SpaceOrders.{IsSpaceProduct, space_lines, space_made, space_order, space_plan, space_read};
 ghost use Rattle.drawing_repairs.specs.SpacedDrawings.{space_of};
 ghost use Rattle.drawing_text.specs.declared.limits.TheConstants.{MAX_TEXT};
-ghost use Rattle.drawing_text.specs.EndTexts.{HasOrderedEnds};
+ghost use Rattle.line_graph.specs.EndOrders.{HasOrderedEnds};
 ghost use Rattle.drawing_text.specs.TextLaws.{IsJoinedFrom};
 ghost use Rattle.line_graph.specs.WalkEnds.{HasNoEnds};
 ghost use Rattle.outside_io.specs.Files.{IsFileName};

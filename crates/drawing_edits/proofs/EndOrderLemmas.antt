@@ -15,7 +15,8 @@ use Rattle.line_sections.specs.declared.spot.Spot.{Spot}
 use Rattle.line_sections.specs.Lines.{LineValue}
 use Rattle.drawing_edits.specs.declared.drawing_edit.DrawingEdit.TheVariants as edit
 use Rattle.drawing_edits.specs.declared.edit_fault.EditFault.{EditFault}
-use Rattle.drawing_edits.specs.KeptEnds.{EditsKeepEndsByBlock, HasEndsByBlock, HasEndsOf, RiseByBlock}
+use Rattle.drawing_edits.specs.KeptEnds.{EditsKeepEndsByBlock, HasEndsOf}
+use Rattle.line_graph.specs.EndOrders.{AreInBlockOrder, HasOrderedEnds}
 use Rattle.drawing_edits.specs.MovedDrawings.{centred_drawing, moved_drawing, with_moved_spot}
 use Rattle.drawing_edits.specs.PieceOrders.{drawn_from, lines_in_order}
 use Rattle.drawing_edits.specs.PlacedEnds.{end_placed, with_end_at, with_spot}
@@ -35,7 +36,7 @@ position_most : (p : Spot → Bool) (spots : List Spot) → position_or_len p sp
 position_most p spots = prefix_len-le-length (λ spot. not (p spot)) spots
 
 -- A spot that comes after those of its block and of earlier blocks keeps their order.
-spot_kept : (spot : Spot) (spots : List Spot) → RiseByBlock spots → RiseByBlock (with_spot spot spots)
+spot_kept : (spot : Spot) (spots : List Spot) → AreInBlockOrder spots → AreInBlockOrder (with_spot spot spots)
 spot_kept spot spots rise = subst IsNonDecreasing (sym shape)
     (IsNonDecreasingBy-insert (λ (n : ℕ). n) blocks index spot.block rise (omega (arith, position_most later spots, wide)) low high)
   where
@@ -75,24 +76,24 @@ spot_kept spot spots rise = subst IsNonDecreasing (sym shape)
         ∙ ap (λ (ns : List ℕ). take index blocks ++ spot.block ∷ ns) (sym (drop-map block_of_spot index spots)))
 
 -- A drawing with the starts and ends of another one has their order.
-order_of_same : (d new : DrawingValue) → HasEndsOf d new → HasEndsByBlock d → HasEndsByBlock new
+order_of_same : (d new : DrawingValue) → HasEndsOf d new → HasOrderedEnds d → HasOrderedEnds new
 order_of_same d new same ordered = record {
-  starts = subst RiseByBlock (sym same.starts) ordered.starts;
-  ends = subst RiseByBlock (sym same.ends) ordered.ends;
+  starts = subst AreInBlockOrder (sym same.starts) ordered.starts;
+  ends = subst AreInBlockOrder (sym same.ends) ordered.ends;
 }
 
-moved_order : (f : Point → Point) (d : DrawingValue) → HasEndsByBlock d → HasEndsByBlock (moved_drawing f d)
+moved_order : (f : Point → Point) (d : DrawingValue) → HasOrderedEnds d → HasOrderedEnds (moved_drawing f d)
 moved_order f d ordered = record {
   starts = subst IsNonDecreasing (sym (moved_blocks f d.starts)) ordered.starts;
   ends = subst IsNonDecreasing (sym (moved_blocks f d.ends)) ordered.ends;
 }
 
-placed_order : (is_start : Bool) (spot : Spot) (d : DrawingValue) → HasEndsByBlock d → HasEndsByBlock (with_end_at is_start spot d)
+placed_order : (is_start : Bool) (spot : Spot) (d : DrawingValue) → HasOrderedEnds d → HasOrderedEnds (with_end_at is_start spot d)
 placed_order true spot d ordered = record { starts = spot_kept spot d.starts ordered.starts; ends = ordered.ends }
 placed_order false spot d ordered = record { starts = ordered.starts; ends = spot_kept spot d.ends ordered.ends }
 
-end_order : (is_start : Bool) (p : Point) (d new : DrawingValue) → end_placed is_start p d ≡ Ok new → HasEndsByBlock d
-    → HasEndsByBlock new
+end_order : (is_start : Bool) (p : Point) (d new : DrawingValue) → end_placed is_start p d ≡ Ok new → HasOrderedEnds d
+    → HasOrderedEnds new
 end_order is_start p d new is ordered =
     let placed = placed_kept is_start p d new is in
     order_of_same (with_end_at is_start (record { block = placed.block; at = p }) d) new placed.kept
@@ -110,7 +111,7 @@ edits_keep_order (edit.Step step) d new is ordered =
     (record { starts = ordered.starts; ends = ordered.ends })
 edits_keep_order (edit.Order first second) d new is ordered = by_lines (lines_in_order first second d) is
   where
-    by_lines : (r : Result (List LineValue) EditFault) → and_then r (drawn_from d) ≡ Ok new → HasEndsByBlock new
+    by_lines : (r : Result (List LineValue) EditFault) → and_then r (drawn_from d) ≡ Ok new → HasOrderedEnds new
     by_lines (Ok lines) same = order_of_same (record d { lines = lines }) new (answer_kept (record d { lines = lines }) new same)
         (record { starts = ordered.starts; ends = ordered.ends })
     by_lines (Err why) same = absurd (let no : ⊥ = cc in no)

@@ -2,7 +2,8 @@
 use Rattle.std.proofs.Common.{◌≡◌, ℕ, pos, List, [], ◌∷◌, false, arith, refl}
 use Rattle.line_graph.specs.Drawings.{DrawingValue}
 use Rattle.line_sections.specs.declared.spot.Spot.{Spot}
-use Rattle.drawing_edits.specs.KeptEnds.{HasEndsByBlock, HasEndsOf, IsPlacedEnd, RiseByBlock}
+use Rattle.drawing_edits.specs.KeptEnds.{HasEndsOf, IsPlacedEnd}
+use Rattle.line_graph.specs.EndOrders.{AreInBlockOrder, HasOrderedEnds}
 use Rattle.drawing_edits.specs.PlacedEnds.{with_spot}
 
 -- a spot of a block
@@ -34,11 +35,11 @@ pub known_place_lost : IsPlacedEnd false (record { x = pos 9; y = pos 0 }) (of_e
 known_place_lost is = let lost = is.kept.starts in cc
 
 -- blocks in another order
-pub known_blocks_mixed : RiseByBlock (spot_of 1 0 ∷ spot_of 0 0 ∷ []) → ⊥
+pub known_blocks_mixed : AreInBlockOrder (spot_of 1 0 ∷ spot_of 0 0 ∷ []) → ⊥
 known_blocks_mixed rise = let falls = rise 0 1 0 (omega arith) (omega arith) in absurd (omega (arith, falls))
 
-pub known_ends_mixed : HasEndsByBlock (of_ends [] (spot_of 1 0 ∷ spot_of 0 0 ∷ [])) → ⊥
+pub known_ends_mixed : HasOrderedEnds (of_ends [] (spot_of 1 0 ∷ spot_of 0 0 ∷ [])) → ⊥
 known_ends_mixed is = let falls = is.ends 0 1 0 (omega arith) (omega arith) in absurd (omega (arith, falls))
 
-pub known_starts_mixed : HasEndsByBlock (of_ends (spot_of 1 0 ∷ spot_of 0 0 ∷ []) []) → ⊥
+pub known_starts_mixed : HasOrderedEnds (of_ends (spot_of 1 0 ∷ spot_of 0 0 ∷ []) []) → ⊥
 known_starts_mixed is = let falls = is.starts 0 1 0 (omega arith) (omega arith) in absurd (omega (arith, falls))

@@ -1,9 +1,8 @@
 -- What edits keep of the starts and ends of a drawing.
-use Rattle.std.specs.Prelude.{◌≡◌, ℕ, Bool, List, map, Ok}
-use Rattle.std.specs.List.Sorted.{IsNonDecreasing}
+use Rattle.std.specs.Prelude.{◌≡◌, ℕ, Bool, Ok}
 use Rattle.design_model.specs.declared.point.Point.{Point}
 use Rattle.line_graph.specs.Drawings.{DrawingValue}
-use Rattle.line_sections.specs.declared.spot.Spot.{Spot}
+use Rattle.line_graph.specs.EndOrders.{HasOrderedEnds}
 use Rattle.drawing_edits.specs.declared.drawing_edit.DrawingEdit.{DrawingEdit}
 use Rattle.drawing_edits.specs.EditedDrawings.{edited_drawing}
 use Rattle.drawing_edits.specs.PlacedEnds.{end_placed, with_end_at}
@@ -29,16 +28,7 @@ abbrev pub PlacedEndsAreKept : Type 0
 PlacedEndsAreKept = (is_start : Bool) (p : Point) (d new : DrawingValue)
     → end_placed is_start p d ≡ Ok new → IsPlacedEnd is_start p d new
 
--- Spots are in the order of their blocks.
-abbrev pub RiseByBlock : List Spot → Type 0
-RiseByBlock spots = IsNonDecreasing (map (λ spot. spot.block) spots)
-
--- The starts of a drawing are in the order of their blocks, and so are its ends.
-pub record HasEndsByBlock (d : DrawingValue) : Type 0 where
-  pub starts : RiseByBlock d.starts
-  pub ends : RiseByBlock d.ends
-
 -- An edit keeps starts and ends in the order of their blocks, in which a text lists them.
 abbrev pub EditsKeepEndsByBlock : Type 0
 EditsKeepEndsByBlock = (one : DrawingEdit) (d new : DrawingValue)
-    → edited_drawing one d ≡ Ok new → HasEndsByBlock d → HasEndsByBlock new
+    → edited_drawing one d ≡ Ok new → HasOrderedEnds d → HasOrderedEnds new

@@ -10,7 +10,8 @@ use Rattle.line_graph.specs.Drawings.{DrawingValue}
 use Rattle.drawing_text.specs.DrawingText.{drawing_as2, drawing_of}
 use Rattle.drawing_text.specs.CanonicalTexts.{canonical_text2}
 use Rattle.drawing_text.specs.DrawnTexts.{drawing_as_drawn}
-use Rattle.drawing_text.specs.EndTexts.{AreInBlockOrder, canonical_text3, drawn_text, end_lines_text, with_ends_of}
+use Rattle.drawing_text.specs.EndTexts.{canonical_text3, drawn_text, end_lines_text, with_ends_of}
+use Rattle.line_graph.specs.EndOrders.{AreInBlockOrder}
 use Rattle.drawing_text.specs.TextLaws.{IsJoinedFrom}
 use Rattle.drawing_text.proofs.CanonicalTextFacts.{place}
 

@@ -23,7 +23,7 @@ use Rattle.drawing_text.proofs.Shapes.{same_is}
 use Rattle.drawing_text.specs.declared.draw_fault.DrawFault.{DrawFault}
 use Rattle.drawing_text.specs.declared.walk_end.WalkEnd.{WalkEnd}
 use Rattle.drawing_text.specs.DrawingText.{at_line, drawing_with_ends}
-use Rattle.drawing_text.specs.EndTexts.{AreInBlockOrder}
+use Rattle.line_graph.specs.EndOrders.{AreInBlockOrder}
 
 abbrev put_if : Bool → Spot → List Spot → List Spot
 put_if true spot rest = spot ∷ rest

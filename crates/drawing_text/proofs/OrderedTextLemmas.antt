@@ -22,7 +22,7 @@ use Rattle.drawing_text.specs.declared.version.Version.{Version}
 use Rattle.drawing_text.specs.declared.version.Version.TheVariants as version
 use Rattle.drawing_text.specs.declared.walk_end.WalkEnd.{WalkEnd}
 use Rattle.drawing_text.specs.DrawingText.{at_line, body_of_text, drawing_after_lines, drawing_in_version, drawing_of, drawing_of_draft, drawing_with_ends, joined_at}
-use Rattle.drawing_text.specs.EndTexts.{AreInBlockOrder, HasOrderedEnds}
+use Rattle.line_graph.specs.EndOrders.{AreInBlockOrder, HasOrderedEnds}
 use Rattle.drawing_text.specs.TextLaws.{TextsOrderEnds}
 use Rattle.drawing_text.specs.TextLines.{allows_ends, draft_after_words, empty_draft, is_before_blocks, parsed_count, parsed_point, parsed_points, with_color_line, with_name_line, with_points_line, with_step_line, with_walk_end_line}
 use Rattle.drawing_text.specs.Words.{begins_comment, single_word}

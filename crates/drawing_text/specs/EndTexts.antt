@@ -1,8 +1,7 @@
 -- The canonical text of a drawing with starts and ends, in version 3. After the lines of a block
 -- come its starts, and then its ends. The lines are printed as they are drawn.
-use Rattle.std.specs.Prelude.{ℕ, ◌+◌, ◌==◌, ◌&&◌, List, [], ◌∷◌, ◌++◌, codes, filter, length, map, if◌then◌else◌}
+use Rattle.std.specs.Prelude.{ℕ, ◌+◌, ◌==◌, ◌&&◌, List, [], ◌∷◌, ◌++◌, codes, filter, length, if◌then◌else◌}
 use Rattle.std.specs.List.{flat_map}
-use Rattle.std.specs.List.Sorted.{IsNonDecreasing}
 use Rattle.line_graph.specs.Drawings.{DrawingValue}
 use Rattle.line_sections.specs.declared.spot.Spot.{Spot}
 use Rattle.drawing_text.specs.declared.version.Version.TheVariants as version
@@ -41,12 +40,3 @@ drawn_text d = if length d.starts == 0 && length d.ends == 0 then canonical_text
 -- A drawing with the starts and ends of another one.
 abbrev pub with_ends_of : (d other : DrawingValue) → DrawingValue
 with_ends_of d other = record d { starts = other.starts; ends = other.ends }
-
--- Spots are in the order of their blocks.
-abbrev pub AreInBlockOrder : List Spot → Type 0
-AreInBlockOrder spots = IsNonDecreasing (map (λ spot. spot.block) spots)
-
--- The starts of a drawing are in the order of their blocks, and so are its ends.
-pub record HasOrderedEnds (d : DrawingValue) : Type 0 where
-  pub starts : AreInBlockOrder d.starts
-  pub ends : AreInBlockOrder d.ends

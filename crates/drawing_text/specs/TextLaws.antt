@@ -8,7 +8,8 @@ use Rattle.drawing_text.specs.declared.version.Version.TheVariants as version
 use Rattle.drawing_text.specs.CanonicalTexts.{canonical_text, canonical_text2}
 use Rattle.drawing_text.specs.DrawingText.{drawing_of}
 use Rattle.drawing_text.specs.DrawnTexts.{drawing_as_drawn, lines_of}
-use Rattle.drawing_text.specs.EndTexts.{HasOrderedEnds, canonical_text3, drawn_text, with_ends_of}
+use Rattle.drawing_text.specs.EndTexts.{canonical_text3, drawn_text, with_ends_of}
+use Rattle.line_graph.specs.EndOrders.{HasOrderedEnds}
 
 -- The canonical text of a drawing without starts and ends is read as that drawing.
 abbrev pub CanonicalTextIsRead : Type 0

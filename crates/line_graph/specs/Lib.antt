@@ -24,6 +24,7 @@ pub mod GrowingDrawings
 pub mod JoinedDrawings
 -- The junctions where walks must start and end.
 pub mod WalkEnds
+pub mod EndOrders
 -- The maker of drawings, and that growing drawings keep their limits.
 pub mod DrawingMakerInvariants
 pub mod GrowingLimits

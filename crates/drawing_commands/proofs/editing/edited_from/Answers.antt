@@ -3,8 +3,8 @@ use Rattle.drawing_commands.specs.DrawingEditWords.{parsed_drawing_edit, parsed_
 use Rattle.drawing_commands.proofs.DrawingEditLemmas.{edits_from, first_parsed, first_refused, later_parsed}
 use Rattle.drawing_commands.proofs.editing.edited_from.Goals as goal
 
-pub apply_word-requires : goal.apply_word-requires
-apply_word-requires c = first_parsed (parsed_drawing_edit c.args.first.now)
+pub apply_word-requires-clause-edit : goal.apply_word-requires-clause-edit
+apply_word-requires-clause-edit c = first_parsed (parsed_drawing_edit c.args.first.now)
     (parsed_drawing_edits (map (λ word. string_bytes word) c.args.rest.now)) c.requires.edits
 
 pub edited_on-requires-clause-edits : goal.edited_on-requires-clause-edits
