@@ -118,7 +118,8 @@ fn lines_with(alloc: Global, d: &Drawing, piece: &[u32], before: u32) -> Result<
     Ok(lines)
 }
 
-/// Adds the lines from one index to before another that are not in a piece. A drawing has at most 1,024 lines.
+/// Adds the lines from one index to before another that are not in a piece. Each is looked up in the piece, as a
+/// drawing has at most 1,024 lines.
 fn put_outside(
     alloc: Global,
     d: &Drawing,
