@@ -12,10 +12,13 @@ class Sizes:
     stops: int
     bytes: int
     places: tuple
+    lines: int
 
 
-FULL = Sizes((10_000, 100_000, 1_000_000), 100_000, 64 * 1024 * 1024, (64, 128, 256, 512, 1_024))
-SMALL = Sizes((1_000, 10_000, 100_000), 1_000, 1024 * 1024, (64, 128, 256))
+FULL = Sizes((10_000, 100_000, 1_000_000), 100_000, 64 * 1024 * 1024, (64, 128, 256, 512, 1_024), 1_024)
+SMALL = Sizes((1_000, 10_000, 100_000), 1_000, 1024 * 1024, (64, 128, 256), 256)
+# What --check counts: rows of the full tables that take a minute.
+CHECKED = Sizes((100_000,), 100_000, 64 * 1024 * 1024, (), 1_024)
 
 
 @dataclass(frozen=True)

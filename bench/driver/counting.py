@@ -7,6 +7,7 @@ import shutil
 import subprocess
 import tempfile
 from concurrent.futures import ThreadPoolExecutor
+from contextlib import contextmanager
 from dataclasses import dataclass
 from pathlib import Path
 from typing import Optional
@@ -16,6 +17,7 @@ from places import INPUTS
 
 FUNCTION = re.compile(r"^[0-9a-f]+ <(.*)>:$")
 TABLE_JUMP = re.compile(r"^\s*([0-9a-f]+):\s+(?:notrack )?jmp\s+\*%")
+MISSING = "valgrind is not on the PATH (apt-get install valgrind)"
 
 
 @dataclass(frozen=True)
@@ -25,6 +27,10 @@ class Count:
     instructions: int
     jumps: Optional[int]
     jumper: str
+
+
+def can_count():
+    return shutil.which("valgrind") is not None
 
 
 def table_jumps(program):
@@ -55,18 +61,30 @@ def executed(profile):
         below_call = line.startswith("calls=")
 
 
-def count_of(program, words, jumps):
-    """What one run takes, by valgrind's callgrind, in a folder of its own among the inputs under their names."""
+@contextmanager
+def profiled(program, words, *flags):
+    """The profile of one run by valgrind's callgrind, in a folder of its own among the inputs under their names."""
     with tempfile.TemporaryDirectory(dir=INPUTS.parent) as folder:
         for file in INPUTS.iterdir():
             if not file.name.startswith("written."):
                 os.link(file, Path(folder) / file.name)
         kept = Path(folder) / "profile"
-        tool = ["valgrind", "--tool=callgrind", "--dump-instr=yes", "--compress-pos=no", "--compress-strings=no"]
-        run = [*tool, f"--callgrind-out-file={kept}", program, *words]
+        run = ["valgrind", "--tool=callgrind", f"--callgrind-out-file={kept}", *flags, program, *words]
         subprocess.run(run, cwd=folder, stdout=subprocess.DEVNULL, stderr=subprocess.DEVNULL)
         with open(kept) as profile:
-            rows = list(executed(profile))
+            yield profile
+
+
+def instructions_of(program, words):
+    """The instructions of one run, without those of programs that it starts."""
+    with profiled(program, words) as profile:
+        return next(int(line.split()[1]) for line in profile if line.startswith("summary:"))
+
+
+def count_of(program, words, jumps):
+    """What one run takes."""
+    with profiled(program, words, "--dump-instr=yes", "--compress-pos=no", "--compress-strings=no") as profile:
+        rows = list(executed(profile))
     total = sum(count for _, _, count in rows)
     if jumps is None:
         return Count(total, None, "")
@@ -80,8 +98,8 @@ def count_of(program, words, jumps):
 
 def count_all(cases, programs):
     """The counts of each case for each program, on all processors; of none where there is no valgrind."""
-    if not shutil.which("valgrind"):
-        say("valgrind is not on the PATH: no instructions are counted")
+    if not can_count():
+        say(f"{MISSING}: no instructions are counted")
         return {}
     say("counting instructions, and jumps through a table")
     jumps = [table_jumps(program) for program in programs]
@@ -91,3 +109,9 @@ def count_all(cases, programs):
             for case in cases
         }
         return {case: [row.result() for row in rows] for case, rows in begun.items()}
+
+
+def instructions_of_all(runs):
+    """The instructions of each run, a program with its arguments, on all processors."""
+    with ThreadPoolExecutor(os.cpu_count()) as pool:
+        return list(pool.map(lambda run: instructions_of(*run), runs))

@@ -7,11 +7,11 @@ import subprocess
 
 
 def processor():
+    """The processor's name, and its speed where the name has none."""
     with open("/proc/cpuinfo") as lines:
-        for line in lines:
-            if line.startswith("model name"):
-                return line.split(":", 1)[1].strip()
-    return "unknown"
+        fields = dict([word.strip() for word in line.split(":", 1)] for line in lines if ":" in line)
+    name, speed = fields.get("model name", "unknown"), fields.get("cpu MHz")
+    return name if "@" in name or not speed else f"{name} at {float(speed) / 1e3:.1f} GHz"
 
 
 def kit():
@@ -22,6 +22,13 @@ def kit():
 
 def rustc():
     return subprocess.run(["rustc", "--version"], capture_output=True, text=True).stdout.strip()
+
+
+def commit(program):
+    """The commit of the clone in which a program was built."""
+    tool = ["git", "-C", program.parent, "rev-parse", "--short=8", "HEAD"]
+    run = subprocess.run(tool, capture_output=True, text=True) if shutil.which("git") else None
+    return run.stdout.strip() if run and not run.returncode else "unknown"
 
 
 def date():

@@ -1,10 +1,12 @@
 """Builds, makes inputs, measures, and prints the numbers."""
 
 import argparse
+import functools
 import sys
 from pathlib import Path
 
 import building
+import checking
 import counting
 import document
 import machine
@@ -23,6 +25,7 @@ def words():
     parser.add_argument("--sizes", choices=["full", "small"], default="full")
     parser.add_argument("--stitch", type=Path, help="a program built elsewhere")
     parser.add_argument("--only", default="", metavar="WORD", help="cases whose name has this word")
+    parser.add_argument("--check", action="store_true", help="counts instructions, and compares them with the tables")
     return parser.parse_args()
 
 
@@ -34,11 +37,23 @@ def head():
     )
 
 
-def measure_routes(stitch):
-    """The table of routes."""
-    text = routes.report(stitch)
-    print(text)
-    document.put(text, "routes")
+@functools.cache
+def program(path):
+    """The program that is measured, built once where none is named."""
+    if path:
+        return path.resolve()
+    building.build_stitch()
+    return STITCH
+
+
+def measure_routes(asked, sizes):
+    """The table of routes, of those whose name has the word. It is kept where it has all of them."""
+    if not asked.only or asked.only.startswith("route"):
+        stitch = program(asked.stitch)
+        text = routes.report(routes.routes(stitch, asked.only, sizes.lines), stitch)
+        print(text)
+        if sizes is FULL and asked.only in ("", "route"):
+            document.put(text, "routes")
 
 
 def measure_matchings(asked, sizes):
@@ -53,9 +68,7 @@ def measure_matchings(asked, sizes):
 
 def measure_files(asked, sizes, cases):
     """The tables of the file commands, and whether some case differs."""
-    stitch = asked.stitch.resolve() if asked.stitch else STITCH
-    if not asked.stitch:
-        building.build_stitch()
+    stitch = program(asked.stitch)
     building.build_plain("baseline")
     building.build_plain("inputs")
     building.make_inputs(sizes)
@@ -82,14 +95,15 @@ def main():
     asked = words()
     sizes = SMALL if asked.sizes == "small" else FULL
     building.build_plain("meter")
+    if asked.check:
+        return checking.check(program(asked.stitch))
     cases = [case for case in all_cases(sizes) if asked.only in case.name]
     if cases and measure_files(asked, sizes, cases):
         return 1
     if not routes.can_measure():
-        say("no g++, or no LEMON (liblemon-dev): routes and matchings are left out")
+        say(f"{routes.MISSING}: routes and matchings are left out")
         return 0
-    if sizes is FULL and not asked.only:
-        measure_routes(asked.stitch.resolve() if asked.stitch else STITCH)
+    measure_routes(asked, sizes)
     measure_matchings(asked, sizes)
     return 0
 

@@ -7,6 +7,8 @@ HIGHEST_GROWTH = 12.0
 HIGHEST_START = 2.0
 # A jump through a table that is taken less than once in this number of commands costs nothing that can be measured.
 COMMANDS_A_JUMP = 10
+# The head of the column that --check reads.
+COUNTED = "Stitch, instructions, million"
 
 
 def marked(number, limit, digits=2):
@@ -56,7 +58,7 @@ def cost_row(case, costs, counts, commands):
 
 def cost_table(measured, counts, commands):
     heads = ["Case", "Stitch, cpu s", "plain, cpu s", "ratio"]
-    heads += ["Stitch, instructions, million", "plain", "ratio", "Stitch, table jumps"]
+    heads += [COUNTED, "plain", "ratio", "Stitch, table jumps"]
     heads += ["Stitch, peak MB", "plain, peak MB", "ratio"]
     rows = [cost_row(case, costs, counts.get(case), commands) for case, costs in measured]
     return table(heads, rows)
@@ -89,16 +91,26 @@ def start_table(starts):
     return table(["Start, without arguments", "median ms", "least ms"], rows)
 
 
+def heading(size, sizes):
+    """The heading above the cases of a size, or above those that don't come in sizes."""
+    return f"{size:,} commands" if size else f"{sizes.stops:,} stops, and {sizes.bytes:,} hostile bytes"
+
+
+def check_table(found):
+    """The rows that were checked: millions of instructions in the document and now, and their ratio."""
+    rows = [[name, f"{kept or '–'}", f"{now:.3f}", f"{now / kept:.3f}" if kept else "–"] for name, now, kept in found]
+    return table(["Row", "document", "now", "ratio"], rows)
+
+
 def report(head, sizes, starts, measured, counts, commands_of):
     parts = [head, start_table(starts), input_table(sizes, commands_of)]
     for size in reversed(sizes.commands):
         chosen = [(case, costs) for case, costs in measured if case.size == size]
         if chosen:
-            parts += [f"### {size:,} commands", cost_table(chosen, counts, size)]
+            parts += [f"### {heading(size, sizes)}", cost_table(chosen, counts, size)]
     chosen = [(case, costs) for case, costs in measured if case.size is None]
     if chosen:
-        parts += [f"### {sizes.stops:,} stops, and {sizes.bytes:,} hostile bytes"]
-        parts += [cost_table(chosen, counts, sizes.stops)]
+        parts += [f"### {heading(None, sizes)}", cost_table(chosen, counts, sizes.stops)]
     middle, largest = sizes.commands[1:]
     parts += [f"### Growth of cpu time from {middle:,} to {largest:,}", growth_table(measured, middle, largest)]
     return "\n\n".join(parts) + "\n"
