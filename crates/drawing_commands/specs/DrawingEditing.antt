@@ -57,8 +57,8 @@ edit_fault_text fault.OtherBlock = codes "pieces in different blocks"
 abbrev pub bad_edit_text : List ℕ → BadEdit → List ℕ
 bad_edit_text name bad = text_at name (codes "edit") bad.number (edit_fault_text bad.fault)
 
--- The product of `edit`: the canonical text of the edited drawing, which is read as that drawing, and
--- a report with the number of lines, the number of pieces and the cost.
+-- The product of `edit`: the canonical text of the edited drawing, which is read as that drawing,
+-- and a report with the number of lines, the number of pieces and the cost.
 pub record IsEdited (output : List ℕ) (d : DrawingValue) (product : ProductValue) : Type 0 where
   pub pieces : List (List ℕ)
   pub pieces_are : ArePieces d pieces
