@@ -4,13 +4,13 @@ use Rattle.blossom_match.specs.Lists.{Each}
 use Rattle.blossom_match.specs.DualSets.{OddSetValue, IsOddSet, dual_sets, count, height, dual_load}
 use Rattle.blossom_match.specs.MatchedSets.{match_members, match_dual_sets}
 use Rattle.blossom_match.specs.SoundSets.{IsSoundBranch, IsSoundMatch}
-use Rattle.blossom_match.specs.Trees.{outer_with_both, one_if_both, branch_dual_sets, inner_members, outer_members}
+use Rattle.blossom_match.specs.Trees.{outer_with_both, one_if_both, branch_dual_sets, inner_members}
 use Rattle.blossom_match.specs.Searches.{dual_height, search_holding_both, outer_vertices, IsSearch}
 use Rattle.blossom_match.specs.Heights.{HeightsAre}
 use Rattle.blossom_match.specs.TableValue.{TableValue}
 use Rattle.blossom_match.specs.Tables.{entry, IsTable}
 use Rattle.blossom_match.specs.LeastChanges.{step_of, IsLeastChange, IsReadyAfter, IsLesserChange, IsBlossomDual}
-use Rattle.blossom_match.specs.OuterSlacks.{AreOuterSlacks}
+use Rattle.blossom_match.specs.OuterSlacks.{AreOuterSlacks, ReachesEither}
 use Rattle.blossom_match.specs.Candidates.{change_at, target_vertices, IsBestCandidate, IsCandidateAmong, CanFindEdge, IsCandidate, IsCandidateChange}
 use Rattle.blossom_match.specs.declared.table.TheConstants.{FAR}
 use Rattle.blossom_match.specs.declared.least.Target.{Target}
@@ -25,8 +25,9 @@ use Rattle.blossom_match.proofs.SumLemmas.{count-append, height-append, dual_loa
 use Rattle.blossom_match.proofs.ScanLemmas.{around_none}
 use Rattle.blossom_match.proofs.SearchLemmas.{is_one, place_in, low_branches, low_matches}
 use Rattle.blossom_match.proofs.FreeLemmas.{load_of}
+use Rattle.blossom_match.proofs.TableLemmas.{entry-comm}
 use Rattle.blossom_match.proofs.ShrinkLemmas.{two_even}
-use Rattle.blossom_match.proofs.TreeLemmas.{base_in}
+use Rattle.blossom_match.proofs.TreeLemmas.{around_same, base_in}
 
 load_case : (n : ℕ) (a b : ℕ) (s : OddSetValue) → IsOddSet s → count a s.members ≡ n → one_if_both a b s ≡ 0 → dual_load a b (dual_sets s)
     ≡ height a (dual_sets s) + height b (dual_sets s)
@@ -99,11 +100,6 @@ tall_set t h s x i here = i.tall x (omega (arith, i.places x, is_one t x, here))
 
 pub not_both : (s : SearchValue) (a b : ℕ) → count b (outer_vertices s) ≡ 0 → search_holding_both a b s ≡ 0
 not_both s a b none = omega (arith, around_none a b s.root.members s.tree none, base_in b s.root.members s.tree, none)
-
-around_same : (a : ℕ) (base : List ℕ) (tree : List BranchValue)
-    → count a base + outer_with_both a a tree ≡ count a (outer_members base tree)
-around_same a base [] = omega arith
-around_same a base (c ∷ cs) = omega (arith, around_same a base cs, count-append)
 
 differ_in : (a b : ℕ) (xs ys : List ℕ) → ((x : ℕ) → count x xs + count x ys ≤ 1) → 1 ≤ count a xs → 1 ≤ count b ys → a ≢ b
 differ_in a b xs ys once ha hb e = omega (arith, once b, hb, ha, ap (λ (x : ℕ). count x xs) e)
@@ -251,12 +247,12 @@ leads_on t h s hs reach first met grown crossed a =
       near = on.near;
     }
 
--- an outer vertex of another set has the slack to the vertex
-pub is_near : (t : TableValue) (h : ℕ → ℕ) (s : SearchValue) (hs reach : List ℕ) (a b : ℕ) → IsTable t → IsSearch t h s
-    → AreOuterSlacks t hs s.root s.tree reach → 1 ≤ count a (outer_vertices s) → b < t.places → search_holding_both a b s ≡ 0
+-- an outer vertex has the slack to a vertex that isn't outer
+is_near : (t : TableValue) (h : ℕ → ℕ) (s : SearchValue) (hs reach : List ℕ) (a b : ℕ) → IsTable t → IsSearch t h s
+    → AreOuterSlacks t hs s.root s.tree reach → 1 ≤ count a (outer_vertices s) → b < t.places → count b (outer_vertices s) ≡ 0
     → (get_or reach b 0 < FAR) × (get_or reach b 0 ≤ 2 * entry t a b - get_or hs a 0)
-is_near t h s hs reach a b is i r ha lb apart =
-    let low = r.least a b ha lb apart in
+is_near t h s hs reach a b is i r ha lb none =
+    let low = r.least a b ha lb none in
     (omega (arith, low, far_is, is.short a b (place_in t a (omega (arith, i.places a, ha))) lb), low)
 
 -- each free place is reached
@@ -265,7 +261,7 @@ pub free_near : (t : TableValue) (h : ℕ → ℕ) (s : SearchValue) (hs reach :
 free_near t h s hs reach b is i r hb =
     let a = some_member s.root.members (omega (arith, i.root.kept.odd)) in
     (is_near t h s hs reach a.0 b is i r (set_in_root s a.0 a.1) (place_in t b (omega (arith, i.places b, hb)))
-    (not_both s a.0 b (omega (arith, i.places b, is_one t b, hb)))).0
+    (omega (arith, i.places b, is_one t b, hb))).0
 
 due_case : (k : Kind) (t : TableValue) (h : ℕ → ℕ) (s : SearchValue) (hs reach : List ℕ) (from to by : ℕ) → IsSearch t h s
     → HeightsAre hs h
@@ -303,6 +299,18 @@ due_now : (t : TableValue) (h : ℕ → ℕ) (s : SearchValue) (old new : DualCh
 due_now t h s old new due (inl e) = subst (λ (c : DualChange). IsReadyAfter t h s c.by c.step) (sym e) due
 due_now t h s old new due (inr f) = due_blossom t h s new f
 
+-- between two outer sets the cell of either end is enough
+two_case : (t : TableValue) (h : ℕ → ℕ) (s : SearchValue) (hs reach : List ℕ) (grown crossed : Target) (x y by : ℕ) → IsTable t
+    → IsSearch t h s → HeightsAre hs h → IsBestCandidate hs reach kind.Shrink (outer_vertices s) grown crossed → by ≤ crossed.by
+    → 1 ≤ count x (outer_vertices s) → 1 ≤ count y (outer_vertices s) → x < t.places → y < t.places → search_holding_both x y s ≡ 0
+    → ReachesEither t hs reach x y → h x + h y + 2 * by ≤ 2 * entry t x y
+two_case t h s hs reach grown crossed x y by is i at best less hx hy lx ly apart (inl low) =
+    let near : get_or reach y 0 < FAR = omega (arith, low, far_is, is.short x y lx ly) in
+    omega (arith, at x, at y, low, best.wide y hy near, less, outer_slack t h s x y i hx hy apart)
+two_case t h s hs reach grown crossed x y by is i at best less hx hy lx ly apart (inr low) =
+    let near : get_or reach x 0 < FAR = omega (arith, low, far_is, is.short y x ly lx) in
+    omega (arith, at x, at y, low, best.wide x hx near, less, outer_slack t h s x y i hx hy apart, entry-comm t x y)
+
 -- after the least of all changes no slack is negative, and its step can be made
 pub bounds_of : (t : TableValue) (h : ℕ → ℕ) (s : SearchValue) (hs reach : List ℕ) (first met grown crossed : Target)
     (c new : DualChange)
@@ -311,25 +319,17 @@ pub bounds_of : (t : TableValue) (h : ℕ → ℕ) (s : SearchValue) (hs reach :
 bounds_of t h s hs reach first met grown crossed c new a l n =
     let i = a.search in
     let at = a.heights in
-    let near = λ (x y : ℕ) (hx : 1 ≤ count x (outer_vertices s)) (ly : y < t.places) (apart : search_holding_both x y s ≡ 0).
-    is_near t h s hs reach x y a.table i a.reaches hx ly apart in
+    let on = λ (x : ℕ) (here : 1 ≤ count x (outer_vertices s)). place_in t x (omega (arith, i.places x, here)) in
+    let near = λ (x y : ℕ) (hx : 1 ≤ count x (outer_vertices s)) (hy : 1 ≤ count y (match_members s.rest) + count y s.free).
+    is_near t h s hs reach x y a.table i a.reaches hx (place_in t y (omega (arith, i.places y, hy)))
+    (omega (arith, i.places y, is_one t y, hy)) in
     record {
       one = λ x y hx hy. either_slack (h x + h y + new.by ≤ 2 * entry t x y) (count y (match_members s.rest)) (count y s.free)
           (λ here.
-          let k = near x y hx (place_in t y (omega (arith, i.places y, here))) (not_both s x y (omega (
-            arith,
-            i.places y,
-            is_one t y,
-            here,
-          ))) in
+          let k = near x y hx hy in
           omega (arith, at x, at y, k.1, a.at_grown.wide y here k.0, a.at_crossed.less, l.by, n.less, matched_slack t h s x y i hx here))
           (λ here.
-          let k = near x y hx (place_in t y (omega (arith, i.places y, here))) (not_both s x y (omega (
-            arith,
-            i.places y,
-            is_one t y,
-            here,
-          ))) in
+          let k = near x y hx hy in
           omega (
             arith,
             at x,
@@ -340,12 +340,10 @@ bounds_of t h s hs reach first met grown crossed c new a l n =
             a.at_crossed.less,
             l.by,
             n.less,
-            free_slack t h s x y i
-                hx here,
+            free_slack t h s x y i hx here,
           )) hy;
-      two = λ x y hx hy apart.
-          let k = near x y hx (place_in t y (omega (arith, i.places y, hy))) apart in
-          omega (arith, at x, at y, k.1, a.at_crossed.wide y hy k.0, l.by, n.less, outer_slack t h s x y i hx hy apart);
+      two = λ x y hx hy apart. two_case t h s hs reach grown crossed x y new.by a.table i at a.at_crossed (omega (arith, l.by, n.less))
+          hx hy (on x hx) (on y hy) apart (a.reaches.both x y hx hy (on x hx) (on y hy) apart);
       blossoms = n.wide;
       due = due_now t h s c new (due_aimed t h s hs reach crossed c i at (aimed t h s hs reach first met grown crossed a) l) n.is;
     }

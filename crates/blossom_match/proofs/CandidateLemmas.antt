@@ -14,10 +14,9 @@ use Rattle.blossom_match.specs.declared.least.Kind.{Kind}
 use Rattle.blossom_match.proofs.ListLemmas.{drop_here, number_here, take_here}
 use Rattle.blossom_match.proofs.SumLemmas.{count-append, members-append, members_push}
 use Rattle.blossom_match.proofs.RaisedLemmas.{outer_places}
-use Rattle.blossom_match.proofs.ScanLemmas.{split_here}
+use Rattle.blossom_match.proofs.ScanLemmas.{around_first, split_here}
 use Rattle.blossom_match.proofs.ChainLemmas.{around_append}
 use Rattle.blossom_match.proofs.TreeLemmas.{base_in}
-use Rattle.blossom_match.proofs.OuterSlackLemmas.{around_first}
 
 aims_in : (hs reach : List ℕ) (k : Kind) (xs zs : List ℕ) (aim : Target) → ((x : ℕ) → count x xs ≤ count x zs)
     → IsCandidateAmong hs reach k xs aim

@@ -50,6 +50,8 @@ chaining_left link root tree left bs b chain next aside way to c e here away ci 
       hung = grown_more (members_in chain ++ outer_members root.members (bs ++ b ∷ [])) (members_in longer ++ outer_members root.members bs)
           (reverse aside)
           (λ x. omega (arith, members_push, count-append)) c.hung;
+      outers = λ a x none.
+          omega (arith, c.outers a x (omega (arith, none, count-append)), none, around_append, count-append);
       once = c.once;
       places = λ x. omega (arith, c.places x, members_push, count-append);
       sums = λ F add. omega (arith, c.sums F add, bands_push F add, add);
@@ -94,6 +96,8 @@ chaining_right link root tree left bs b chain next aside way to c e away here ci
       hung = grown_more (members_in chain ++ outer_members root.members (bs ++ b ∷ [])) (members_in longer ++ outer_members root.members bs)
           (reverse aside)
           (λ x. omega (arith, members_push, count-append)) c.hung;
+      outers = λ a x none.
+          omega (arith, c.outers a x (omega (arith, none, members_push)), none, around_append, members_push);
       once = c.once;
       places = λ x. omega (arith, c.places x, members_push);
       sums = λ F add. omega (arith, c.sums F add, bands_push F add);
@@ -135,6 +139,8 @@ chaining_aside link root tree left bs b chain aside next way to c e away off f =
         grown_more (members_in chain ++ outer_members root.members (bs ++ b ∷ [])) (b.outer.members ++ base) (reverse aside)
             (λ x. omega (arith, members_push, count-append)) c.hung,
       );
+      outers = λ a x none.
+          omega (arith, c.outers a x none, around_append, ap (λ (ks : List BranchValue). outer_with_both a x ks) rev);
       once = c.once;
       places = λ x. rw rev (omega (arith, c.places x, members_push, count-append));
       sums = λ F add. omega (arith, c.sums F add, bands_push F add, ap (λ (ks : List BranchValue). F (branch_dual_sets ks)) rev, add);
@@ -179,6 +185,7 @@ chaining_start link root tree chain aside s e f =
       apart = s.apart;
       kept = tt;
       hung = tt;
+      outers = λ a x none. omega arith;
       once = s.once;
       places = λ x. omega arith;
       sums = λ F add. omega (arith, adds_none F add);

@@ -8,6 +8,7 @@ pub mod MoatLemmas
 pub mod LeastLemmas
 mod LimitFacts
 mod SlackRowFacts
+mod FoldFacts
 mod SetFacts
 pub mod TakenLemmas
 pub mod TreeLemmas
@@ -30,6 +31,7 @@ pub mod RaisedLemmas
 pub mod ScanLemmas
 pub mod SlackRowLemmas
 pub mod OuterSlackLemmas
+pub mod FoldLemmas
 pub mod CandidateLemmas
 pub mod MaskLemmas
 pub mod BoundLemmas

@@ -1,24 +1,28 @@
 -- The slacks from the outer vertices after a change of duals.
-use Rattle.std.proofs.Common.{◌≡◌, ℕ, ◌+◌, ◌-◌, ◌*◌, ◌≤◌, ◌<◌, ◌⊎◌, inl, inr, List, [], ◌∷◌, length, get_or, arith, sym, ap, subst, ◌∙◌, take, drop}
+use Rattle.std.proofs.Common.{◌≡◌, ℕ, ◌+◌, ◌-◌, ◌*◌, ◌≤◌, ◌<◌, ◌⊎◌, inl, inr, List, [], ◌∷◌, length, get_or, arith, refl, sym, ap, subst, ◌∙◌, take, drop}
 use Rattle.blossom_match.proofs.OuterSlackLemmas.{reaches_apart}
 use Rattle.blossom_match.specs.DualSets.{OddSetValue, count}
+use Rattle.blossom_match.specs.Folds.{FoldsCells, FoldsOuters}
 use Rattle.blossom_match.specs.Lists.{Each}
-use Rattle.blossom_match.specs.SoundSets.{IsSoundBranch}
+use Rattle.blossom_match.specs.SoundSets.{IsSoundBranch, IsSoundSet}
 use Rattle.blossom_match.specs.Trees.{outer_with_both, one_if_both, inner_members, outer_members}
 use Rattle.blossom_match.specs.Searches.{stored_height, outer_vertices, Advances, CanStep, CanStepAt, ExpandsBranch, GrowsBranch, IsSearch}
 use Rattle.blossom_match.specs.LeastChanges.{count_holding_both}
 use Rattle.blossom_match.specs.Duals.{ChangesDuals}
+use Rattle.blossom_match.specs.Shrinks.{Shrinks}
 use Rattle.blossom_match.specs.SlackRows.{lowered_slack}
-use Rattle.blossom_match.specs.OuterSlacks.{slack_from, SearchHasSoundOuters, HasSlackCells, IsOuterSlack, AreOuterSlacks, AddsOuterSlacks, ComputesOuterSlacks, AreSearchSlacks}
+use Rattle.blossom_match.specs.OuterSlacks.{slack_from, SearchHasSoundOuters, HasSlackCells, IsOuterSlack, AreOuterSlacks, AddsOuterSlacks, AreSearchSlacks, CarriesSlacks, ComputesRootSlacks, HasSlacks, HasSoundOuters, ReachesEither}
 use Rattle.blossom_match.specs.TableValue.{TableValue}
 use Rattle.blossom_match.specs.Tables.{IsTable}
 use Rattle.blossom_match.specs.declared.table.TheConstants.{FAR}
 use Rattle.blossom_match.specs.Values.{BranchValue, SearchValue}
+use Rattle.blossom_match.specs.declared.odd_set.TightEdge.{TightEdge}
 use Rattle.blossom_match.specs.declared.search.SearchStep.{SearchStep}
-use Rattle.blossom_match.specs.declared.search.SearchStep.TheVariants.{Expand}
+use Rattle.blossom_match.specs.declared.search.SearchStep.TheVariants.{Expand, Shrink}
 use Rattle.blossom_match.proofs.ListLemmas.{each-right}
 use Rattle.blossom_match.proofs.ExpandLemmas.{drop_past}
-use Rattle.blossom_match.proofs.SearchLemmas.{is_one, place_in}
+use Rattle.blossom_match.proofs.FoldLemmas.{folded, set_within}
+use Rattle.blossom_match.proofs.SearchLemmas.{is_one, place_in, shrunk}
 use Rattle.blossom_match.proofs.DualLemmas.{around_same_all, outer_same}
 use Rattle.blossom_match.proofs.SlackRowLemmas.{far_is, lowered_far, lowered_less, lowered_near}
 
@@ -92,6 +96,15 @@ is_lower t by s r x old new k lx is (inr l) = inr (record {
   );
 })
 
+both_lower : (t : TableValue) (by : ℕ) (s r : SearchValue) (old new : List ℕ) (a b : ℕ) → IsRaised t by s r
+    → 1 ≤ count a (outer_vertices s) → 1 ≤ count b (outer_vertices s) → a < t.places → b < t.places
+    → ((x : ℕ) → x < t.places → get_or new x 0 ≡ lowered_slack by (get_or old x 0)) → ReachesEither t s.heights old a b
+    → ReachesEither t r.heights new a b
+both_lower t by s r old new a b k ha hb la lb cell (inl low) =
+    inl (least_lower t by s r a b (get_or old b 0) (get_or new b 0) k ha lb low (cell b lb))
+both_lower t by s r old new a b k ha hb la lb cell (inr low) =
+    inr (least_lower t by s r b a (get_or old a 0) (get_or new a 0) k hb la low (cell a la))
+
 -- all slacks are less by the change
 pub still_reaches : (t : TableValue) (by : ℕ) (s r : SearchValue) (old new : List ℕ) → IsTable t → IsSearch t (stored_height s) s
     → ChangesDuals by s r → AreSearchSlacks t s old → length new ≡ length old
@@ -103,10 +116,14 @@ still_reaches t by s r old new is i ch reaches size at =
     record {
       size = size ∙ reaches.size;
       short = λ x lx. omega (arith, cell x lx, lowered_less by (get_or old x 0), reaches.short x lx);
-      least = λ a x ha lx apart.
+      least = λ a x ha lx none.
           let here : 1 ≤ count a (outer_vertices s) = omega (arith, ha, k.outs a) in
           least_lower t by s r a x (get_or old x 0) (get_or new x 0) k here lx
-          (reaches.least a x here lx (sym (k.holds a x) ∙ apart)) (cell x lx);
+          (reaches.least a x here lx (sym (k.outs x) ∙ none)) (cell x lx);
+      both = λ a b ha hb la lb apart.
+          let first : 1 ≤ count a (outer_vertices s) = omega (arith, ha, k.outs a) in
+          let second : 1 ≤ count b (outer_vertices s) = omega (arith, hb, k.outs b) in
+          both_lower t by s r old new a b k first second la lb cell (reaches.both a b first second la lb (sym (k.holds a b) ∙ apart));
       is = λ x lx. is_lower t by s r x (get_or old x 0) (get_or new x 0) k lx (cell x lx) (reaches.is x lx);
     }
 
@@ -117,6 +134,13 @@ searched t s i = record {
   sound = i.root;
   firm = i.tree;
 }
+
+-- the slacks from a root without branches
+pub begins_reach : (t : TableValue) (s : SearchValue) (new : List ℕ) → IsSearch t (stored_height s) s → s.tree ≡ []
+    → length new ≡ t.places → ComputesRootSlacks s.root new → AreSearchSlacks t s new
+begins_reach t s new i none size all =
+    subst (λ (ks : List BranchValue). AreOuterSlacks t s.heights s.root ks new) (sym none)
+    (all t s.heights (subst (λ (ks : List BranchValue). HasSoundOuters t s.heights s.root ks) none (searched t s i)) size)
 
 -- the search that the step leads to
 can_take_at : (t : TableValue) (s r : SearchValue) (st now : SearchStep) → st ≡ now → CanStepAt t s st → Advances s now r
@@ -131,10 +155,55 @@ pub is_reachable : (t : TableValue) (s r : SearchValue) (st now : SearchStep) (r
     → AreSearchSlacks t s reach → HasSlackCells r reach
 is_reachable t s r st now reach e k adv reaches = record { t = t; can = can_take_at t s r st now e k adv; size = reaches.size }
 
--- the slacks from the outer sets are computed again
-pub anew : (t : TableValue) (s r : SearchValue) (st now : SearchStep) (old new : List ℕ) → st ≡ now → CanStepAt t s st → Advances s now r
-    → AreSearchSlacks t s old → length new ≡ length old → ComputesOuterSlacks r.root r.tree new → AreSearchSlacks t r new
-anew t s r st now old new e k adv reaches size all = all t r.heights (can_take_at t s r st now e k adv) (size ∙ reaches.size)
+-- what a set that is folded into a search is
+record IsFolded (t : TableValue) (set : OddSetValue) (r : SearchValue) : Type 0 where
+  pub sound : IsSoundSet t (stored_height r) set
+  pub once : (x : ℕ) → count x set.members ≤ 1
+  pub within : (x : ℕ) → 1 ≤ count x set.members → x < t.places
+
+is_folded : (t : TableValue) (link : TightEdge) (set : OddSetValue) (s r : SearchValue) → CanStepAt t s (Shrink link)
+    → Advances s (Shrink link) r → FoldsOuters set s.root r.root s.tree r.tree → IsFolded t set r
+is_folded t link set s r can adv f =
+    let i = subst (λ (hs : List ℕ). IsSearch t (λ (x : ℕ). get_or hs x 0) r) (sym adv.heights)
+    (adv.search t (stored_height s) can.search can.ready) in
+    let held = λ (x : ℕ). set_within x set s.root r.root s.tree r.tree f in
+    record {
+      sound = f.sound t (stored_height r) i.root i.tree;
+      once = λ x. omega (arith, held x, i.places x, is_one t x);
+      within = λ x here. place_in t x (omega (arith, i.places x, held x, here));
+    }
+
+-- a search in which a blossom has closed
+abbrev closed_search : SearchValue → OddSetValue → List BranchValue → SearchValue
+closed_search s root tree = record { root = root; tree = tree; rest = s.rest; free = s.free; heights = s.heights }
+
+-- the row of the blossom has a cell for each vertex, and so do its vertices
+pub folds_row : (link : TightEdge) (set root : OddSetValue) (s : SearchValue) (tree : List BranchValue) (old : List ℕ)
+    → CanStep s (Shrink link) → Shrinks set link s.root root s.tree tree → length old ≡ length s.heights → HasSlacks (length old) set
+folds_row link set root s tree old k sh size =
+    let r = closed_search s root tree in
+    (is_folded k.t link set s r k.can (shrunk set link s r sh refl refl refl) sh.folds).sound.near.0.size ∙ sym (size ∙ k.can.size)
+
+pub folds_cells : (link : TightEdge) (set root : OddSetValue) (s : SearchValue) (tree : List BranchValue) (old : List ℕ)
+    → CanStep s (Shrink link) → Shrinks set link s.root root s.tree tree → length old ≡ length s.heights
+    → (x : ℕ) → 1 ≤ count x set.members → x < length old
+folds_cells link set root s tree old k sh size x here =
+    let r = closed_search s root tree in
+    omega (
+      arith,
+      (is_folded k.t link set s r k.can (shrunk set link s r sh refl refl refl) sh.folds).within x here,
+      size,
+      k.can.size,
+    )
+
+-- the blossom is taken into the slacks
+pub carries : (link : TightEdge) (set : OddSetValue) (s r : SearchValue) (old new : List ℕ) → Advances s (Shrink link) r
+    → FoldsOuters set s.root r.root s.tree r.tree → length new ≡ length old → FoldsCells set old new
+    → CarriesSlacks (Shrink link) s r old new
+carries link set s r old new adv f size cells t can reaches =
+    let k = is_folded t link set s r can adv f in
+    folded t r.heights set s.root r.root s.tree r.tree old new f k.sound k.once size cells
+    (subst (λ (hs : List ℕ). AreOuterSlacks t hs s.root s.tree old) (sym adv.heights) reaches)
 
 -- its newest outer set is taken in
 pub one_more : (t : TableValue) (s r : SearchValue) (st now : SearchStep) (old new : List ℕ) → st ≡ now → CanStepAt t s st

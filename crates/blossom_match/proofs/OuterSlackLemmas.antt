@@ -9,7 +9,7 @@ use Rattle.blossom_match.specs.SlackRows.{MergesSlacks}
 use Rattle.blossom_match.specs.SoundSets.{IsSoundBranch}
 use Rattle.blossom_match.specs.Trees.{outer_with_both, one_if_both, outer_members}
 use Rattle.blossom_match.specs.LeastChanges.{count_holding_both}
-use Rattle.blossom_match.specs.OuterSlacks.{slack_from, HasSoundOuters, HasSlacks, IsSlackFromOne, HasSlackCells, IsOuterSlack, AreOuterSlacks, AddsOuterSlacks, LowersBySet}
+use Rattle.blossom_match.specs.OuterSlacks.{slack_from, HasSoundOuters, HasSlacks, IsSlackFromOne, HasSlackCells, IsOuterSlack, AreOuterSlacks, AddsOuterSlacks, LowersBySet, ReachesEither}
 use Rattle.blossom_match.specs.TableValue.{TableValue}
 use Rattle.blossom_match.specs.declared.table.TheConstants.{FAR}
 use Rattle.blossom_match.specs.Values.{BranchValue, SearchValue}
@@ -17,7 +17,7 @@ use Rattle.blossom_match.proofs.ListLemmas.{each-map, each_here, take_here, each
 use Rattle.blossom_match.proofs.SumLemmas.{count-append, members-append, members_push}
 use Rattle.blossom_match.proofs.RaisedLemmas.{at_drop, outer_places}
 use Rattle.blossom_match.proofs.SlackRowLemmas.{not_hit, takes_near}
-use Rattle.blossom_match.proofs.ScanLemmas.{split_here}
+use Rattle.blossom_match.proofs.ScanLemmas.{around_first, split_here}
 use Rattle.blossom_match.proofs.ChainLemmas.{around_append}
 use Rattle.blossom_match.proofs.TreeLemmas.{base_in}
 
@@ -47,32 +47,36 @@ root_reached : (t : TableValue) (hs : List ℕ) (root : OddSetValue) (reach new 
 root_reached t hs root reach new size far k = record {
   size = k.size ∙ size;
   short = λ x lx. omega (arith, k.less x lx, far x (omega (arith, lx, size)));
-  least = λ a x ha lx apart. k.least a x ha lx (omega (arith, ha, apart));
+  least = λ a x ha lx none. k.least a x ha lx none;
+  both = λ a b ha hb la lb apart. absurd (omega (arith, ha, hb, apart));
   is = λ x lx. root_is (count x root.members) t hs root reach new x refl lx (far x (omega (arith, lx, size))) k;
 }
 
--- outer sets that do not hold one of the places do not hold both
-pub around_first : (a b : ℕ) (base : List ℕ) (bs : List BranchValue) → count a (outer_members base bs) ≡ 0 → outer_with_both a b bs ≡ 0
-around_first a b base [] none = refl
-around_first a b base (c ∷ cs) none =
-    let n = count-append a c.outer.members (outer_members base cs) in
-    omega (arith, around_first a b base cs (omega (arith, n, none)), n, none)
+-- where cells are lower, either still reaches the other
+pub lowered_either : (t : TableValue) (hs reach new : List ℕ) (a b : ℕ) → get_or new a 0 ≤ get_or reach a 0
+    → get_or new b 0 ≤ get_or reach b 0 → ReachesEither t hs reach a b → ReachesEither t hs new a b
+lowered_either t hs reach new a b less_a less_b (inl low) = inl (omega (arith, less_b, low))
+lowered_either t hs reach new a b less_a less_b (inr low) = inr (omega (arith, less_a, low))
 
-set_least : (n m : ℕ) (t : TableValue) (hs : List ℕ) (root : OddSetValue) (bs : List BranchValue) (b : BranchValue) (reach new : List ℕ)
-    (a x : ℕ)
-    → count x b.outer.members ≡ n → count a b.outer.members ≡ m → 1 ≤ count a (outer_members root.members bs) + m → x < t.places
-    → count_holding_both a x root bs + one_if_both a x b.outer ≡ 0 → AreOuterSlacks t hs root bs reach
-    → LowersBySet t hs b.outer.members reach new
+set_least : (n : ℕ) (t : TableValue) (hs : List ℕ) (root : OddSetValue) (bs : List BranchValue) (b : BranchValue) (reach new : List ℕ)
+    (a x : ℕ) → count a b.outer.members ≡ n → count x b.outer.members ≡ 0 → 1 ≤ count a (outer_members root.members bs) + n → x < t.places
+    → count x (outer_members root.members bs) ≡ 0 → AreOuterSlacks t hs root bs reach → LowersBySet t hs b.outer.members reach new
     → get_or new x 0 ≤ slack_from t hs a x
-set_least (suc n) m t hs root bs b reach new a x e f ha lx apart r k =
-    omega (
-      arith,
-      k.kept x lx (omega (arith, e)),
-      r.least a x (omega (arith, ha, e, f, apart)) lx (omega (arith, apart)),
-    )
-set_least zero (suc m) t hs root bs b reach new a x e f ha lx apart r k = k.least a x (omega (arith, f)) lx e
-set_least zero zero t hs root bs b reach new a x e f ha lx apart r k =
-    omega (arith, k.less x lx, r.least a x (omega (arith, ha)) lx (omega (arith, apart)))
+set_least (suc n) t hs root bs b reach new a x e off ha lx none r k = k.least a x (omega (arith, e)) lx off
+set_least zero t hs root bs b reach new a x e off ha lx none r k =
+    omega (arith, k.less x lx, r.least a x (omega (arith, ha)) lx none)
+
+set_both : (n m : ℕ) (t : TableValue) (hs : List ℕ) (root : OddSetValue) (bs : List BranchValue) (b : BranchValue) (reach new : List ℕ)
+    (a c : ℕ) → count a b.outer.members ≡ n → count c b.outer.members ≡ m → 1 ≤ count a (outer_members root.members bs) + n
+    → 1 ≤ count c (outer_members root.members bs) + m → a < t.places → c < t.places
+    → count_holding_both a c root bs + one_if_both a c b.outer ≡ 0 → AreOuterSlacks t hs root bs reach
+    → LowersBySet t hs b.outer.members reach new → ReachesEither t hs new a c
+set_both zero zero t hs root bs b reach new a c e f ha hc la lc apart r k =
+    lowered_either t hs reach new a c (k.less a la) (k.less c lc)
+    (r.both a c (omega (arith, ha)) (omega (arith, hc)) la lc (omega (arith, apart)))
+set_both (suc n) zero t hs root bs b reach new a c e f ha hc la lc apart r k = inl (k.least a c (omega (arith, e)) lc f)
+set_both zero (suc m) t hs root bs b reach new a c e f ha hc la lc apart r k = inr (k.least c a (omega (arith, f)) la e)
+set_both (suc n) (suc m) t hs root bs b reach new a c e f ha hc la lc apart r k = absurd (omega (arith, e, f, apart))
 
 -- one branch more
 old_reached : (t : TableValue) (hs : List ℕ) (root : OddSetValue) (bs : List BranchValue) (b : BranchValue) (x old now : ℕ)
@@ -117,8 +121,10 @@ set_reached : (t : TableValue) (hs : List ℕ) (root : OddSetValue) (bs : List B
 set_reached t hs root bs b reach new once r k = record {
   size = k.size ∙ r.size;
   short = λ x lx. omega (arith, k.less x lx, r.short x lx);
-  least = λ a x ha lx apart. set_least (count x b.outer.members) (count a b.outer.members) t hs root bs b reach new a x refl refl
-      (omega (arith, ha, members_push)) lx (omega (arith, apart, around_append)) r k;
+  least = λ a x ha lx none. set_least (count a b.outer.members) t hs root bs b reach new a x refl (omega (arith, none, members_push))
+      (omega (arith, ha, members_push)) lx (omega (arith, none, members_push)) r k;
+  both = λ a c ha hc la lc apart. set_both (count a b.outer.members) (count c b.outer.members) t hs root bs b reach new a c refl refl
+      (omega (arith, ha, members_push)) (omega (arith, hc, members_push)) la lc (omega (arith, apart, around_append)) r k;
   is = λ x lx. set_case (count x b.outer.members) t hs root bs b reach new x refl once lx r k;
 }
 
@@ -175,7 +181,9 @@ reaches_same : (t : TableValue) (hs : List ℕ) (root : OddSetValue) (xs ys : Li
 reaches_same t hs root xs ys reach outs holds r = record {
   size = r.size;
   short = r.short;
-  least = λ a x ha lx apart. r.least a x (omega (arith, outs a, ha)) lx (omega (arith, holds a x, apart));
+  least = λ a x ha lx none. r.least a x (omega (arith, outs a, ha)) lx (omega (arith, outs x, none));
+  both = λ a b ha hb la lb apart.
+      r.both a b (omega (arith, outs a, ha)) (omega (arith, outs b, hb)) la lb (omega (arith, holds a b, apart));
   is = λ x lx. same_case t hs root xs ys x (get_or reach x 0) outs holds (r.is x lx);
 }
 
@@ -253,14 +261,13 @@ reaches_apart t hs root at more old new reach next g size can r on =
     (each-left (IsSoundBranch t (λ (a : ℕ). get_or hs a 0)) g.added (g.last ∷ g.later)
     (each-right (IsSoundBranch t (λ (a : ℕ). get_or hs a 0)) g.before (g.added ++ g.last ∷ g.later) firm)) r)
 
--- the root alone
-pub reaches_root : (t : TableValue) (hs : List ℕ) (root : OddSetValue) (tree : List BranchValue) (reach new : List ℕ)
-    → HasSoundOuters t hs root tree
+-- the root alone, once its row is merged
+pub reaches_root : (t : TableValue) (hs : List ℕ) (root : OddSetValue) (reach new : List ℕ) → HasSoundOuters t hs root []
     → length reach ≡ t.places → length new ≡ length reach → ((x : ℕ) → x < length reach → get_or reach x 0 ≡ FAR)
     → MergesSlacks root.near root.dual reach new → AreOuterSlacks t hs root [] new
-reaches_root t hs root tree reach new can size same far merged =
+reaches_root t hs root reach new can size same far merged =
     root_reached t hs root reach new size far
-    (takes_near t hs root reach new can.sound (λ y. omega (arith, can.once y, base_in y root.members tree)) same
+    (takes_near t hs root reach new can.sound (λ y. omega (arith, can.once y)) same
     (λ x lx. omega (arith, far x (omega (arith, lx, size)))) merged)
 
 -- the rows of a search have a cell for each place

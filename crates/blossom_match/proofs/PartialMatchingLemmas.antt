@@ -140,12 +140,12 @@ grown_sets sets place up root tree now rest left c out e are =
     ))
 
 -- a blossom closes
-pub closed_sets : (old new : Slots) (key : ℕ) (link : TightEdge) (root top : OddSetValue) (tree now : List BranchValue)
+pub closed_sets : (old new : Slots) (blossom : OddSetValue) (link : TightEdge) (root top : OddSetValue) (tree now : List BranchValue)
     (rest left : List MatchValue)
-    → InsertsSet old new key → Shrinks key link root top tree now → left ≡ rest → AreSets old (all_dual_sets root tree rest)
+    → InsertsSet old new blossom.key → Shrinks blossom link root top tree now → left ≡ rest → AreSets old (all_dual_sets root tree rest)
     → AreSets new (all_dual_sets top now left)
-closed_sets old new key link root top tree now rest left ins sh e are =
-    more_sets old new key (all_dual_sets root tree rest) (all_dual_sets top now left) ins are (λ k. omega (
+closed_sets old new blossom link root top tree now rest left ins sh e are =
+    more_sets old new blossom.key (all_dual_sets root tree rest) (all_dual_sets top now left) ins are (λ k. omega (
       arith,
       all_uses k root tree rest,
       all_uses k top now left,

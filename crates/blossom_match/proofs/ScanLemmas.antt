@@ -19,6 +19,13 @@ around_none a b base [] none = refl
 around_none a b base (c ∷ cs) none =
     omega (arith, around_none a b base cs (omega (arith, count-append, none)), count-append, none)
 
+-- nor do those that do not hold the other
+pub around_first : (a b : ℕ) (base : List ℕ) (bs : List BranchValue) → count a (outer_members base bs) ≡ 0 → outer_with_both a b bs ≡ 0
+around_first a b base [] none = refl
+around_first a b base (c ∷ cs) none =
+    let n = count-append a c.outer.members (outer_members base cs) in
+    omega (arith, around_first a b base cs (omega (arith, n, none)), n, none)
+
 -- no outer set holds a place of those before and a place of this one
 pub apart_from : (a b : ℕ) (root : OddSetValue) (bs : List BranchValue) (c : BranchValue) (after : List BranchValue)
     → ((x : ℕ) → count x (outer_members root.members (bs ++ c ∷ after)) ≤ 1) →

@@ -24,9 +24,9 @@ use Rattle.blossom_match.proofs.TreeLemmas.{grown_push}
 free_none : (x : ℕ) {xs ys : List ℕ} → xs ≡ ys → count x xs ≡ 0 → count x ys ≡ 0
 free_none x e none = omega (arith, none, ap (λ (zs : List ℕ). count x zs) e)
 
-pub shrunk : (key : ℕ) (link : TightEdge) (s r : SearchValue) → Shrinks key link s.root r.root s.tree r.tree → r.rest ≡ s.rest
-    → r.free ≡ s.free → r.heights ≡ s.heights → Advances s (Shrink link) r
-shrunk key link s r sh e f g = record {
+pub shrunk : (blossom : OddSetValue) (link : TightEdge) (s r : SearchValue) → Shrinks blossom link s.root r.root s.tree r.tree
+    → r.rest ≡ s.rest → r.free ≡ s.free → r.heights ≡ s.heights → Advances s (Shrink link) r
+shrunk blossom link s r sh e f g = record {
   search = λ t h i ready.
       let firm = sh.firm t h (entry-comm t) ready.3 i.root i.tree in
       record {

@@ -16,6 +16,7 @@ use Rattle.blossom_match.proofs.SumLemmas.{adds_none, dual_sets-append, bands_pu
 use Rattle.blossom_match.proofs.ClosingLemmas.{chain_closes, blossom_sound, tree_even}
 use Rattle.blossom_match.proofs.TreeLemmas.{last_of, grown_more, grown-append}
 use Rattle.blossom_match.proofs.ChainLemmas.{around_append}
+use Rattle.blossom_match.proofs.FoldLemmas.{folded_inside, folded_root}
 
 pub blossom_from : (top : OddSetValue) (way : TightEdge) (chain : List PartValue) (to : ℕ) → CanClose top way chain to → IsOddSet top
     → IsBlossom (part_with_edge top way ∷ chain)
@@ -99,21 +100,16 @@ with_outer b s = record { up = b.up; inner = b.inner; pair = b.pair; outer = s }
 
 blossom_sums : (F : List DualSet → ℕ) → IsAdditive F
     → (key : ℕ) (top : OddSetValue) (way : TightEdge) (chain : List PartValue) (blossom : OddSetValue)
-    → blossom
-    ≡ closed_blossom key top way chain →
-    F (dual_sets blossom) ≡ F (dual_sets top) + F (dual_sets_in chain) + F (record {
-      key = key;
-      members = members_in (part_with_edge top way ∷ chain);
-      dual = 0;
-    } ∷ [])
+    → blossom ≡ closed_blossom key top way chain → F (dual_sets blossom) ≡ F (dual_sets top) + F (dual_sets_in chain)
+    + F (record { key = blossom.key; members = blossom.members; dual = 0 } ∷ [])
 blossom_sums F add key top way chain blossom e =
-    omega (
+    subst (λ (s : OddSetValue). F (dual_sets s) ≡ F (dual_sets top) + F (dual_sets_in chain)
+    + F (record { key = s.key; members = s.members; dual = 0 } ∷ [])) (sym e) (omega (
       arith,
-      ap (λ (s : OddSetValue). F (dual_sets s)) e,
       add (record { key = key; members = members_in (part_with_edge top way ∷ chain); dual = 0 } ∷ [])
           (dual_sets_in (part_with_edge top way ∷ chain)),
       add,
-    )
+    ))
 
 -- the heights of two places in the tree are both even or both odd
 pub two_even : (d : TableValue) (h : ℕ → ℕ) (root : OddSetValue) (tree : List BranchValue) → IsAlternatingTree root.members tree
@@ -132,11 +128,10 @@ pub closed_inside : (key : ℕ) (link : TightEdge) (root blossom : OddSetValue) 
     (aside : List BranchValue) (way : TightEdge) (to : ℕ) →
     CanShrink link root tree → IsOpenChain link root tree left chain aside way to → left ≡ bs ++ b ∷ [] → CanClose b.outer way chain to
     → IsOddSet b.outer → blossom ≡ closed_blossom key b.outer way chain →
-    mid ≡ bs ++ with_outer b blossom ∷ [] → new ≡ mid ++ reverse aside → Shrinks key link root root tree new
+    mid ≡ bs ++ with_outer b blossom ∷ [] → new ≡ mid ++ reverse aside → Shrinks blossom link root root tree new
 closed_inside key link root blossom tree left bs mid new b chain aside way to sh c e cl kb closes m n =
     let c = subst (λ (ks : List BranchValue). IsOpenChain link root tree ks chain aside way to) e c in
     let l = last_of root.members bs b c.grown in
-    let parts = part_with_edge b.outer way ∷ chain in
     let q = λ (x : ℕ). count-append x b.outer.members (members_in chain) in
     let r = λ (x : ℕ). ap (λ (s : OddSetValue). count x s.members) closes ∙ q x in
     let b2 = with_outer b blossom in
@@ -147,10 +142,10 @@ closed_inside key link root blossom tree left bs mid new b chain aside way to sh
     grown_more (members_in chain ++ outer_members root.members (bs ++ b ∷ [])) (outer_members root.members (bs ++ b2 ∷ [])) (reverse aside)
     (λ x. omega (arith, members_push, r x, count-append)) c.hung in
     let is : new ≡ (bs ++ b2 ∷ []) ++ reverse aside = n ∙ ap (λ (ks : List BranchValue). ks ++ reverse aside) m in
-    subst (λ (ks : List BranchValue). Shrinks key link root root tree ks) (sym is) (record {
+    subst (λ (ks : List BranchValue). Shrinks blossom link root root tree ks) (sym is) (record {
       grown = grown-append root.members (bs ++ b2 ∷ []) (reverse aside) made hung;
       places = λ x. omega (arith, members-append, members_push, r x, c.places x);
-      blossom = members_in parts;
+      folds = folded_inside link root tree bs b b2 chain aside way to c r;
       sums = λ F add. omega (
         arith,
         dual_sets-append F add,
@@ -186,15 +181,15 @@ at_the_root : (key : ℕ) (link : TightEdge) (root blossom : OddSetValue) (tree 
     →
     CanShrink link root tree → IsOpenChain link root tree [] chain aside way to → CanClose root way chain to → IsOddSet root → blossom
     ≡ closed_blossom key root way chain →
-    new ≡ reverse aside → Shrinks key link root blossom tree new
+    new ≡ reverse aside → Shrinks blossom link root blossom tree new
 at_the_root key link root blossom tree new chain aside way to sh c cl kr closes n =
     let q = λ (x : ℕ). count-append x root.members (members_in chain) in
     let r = λ (x : ℕ). ap (λ (s : OddSetValue). count x s.members) closes ∙ q x in
-    subst (λ (ks : List BranchValue). Shrinks key link root blossom tree ks) (sym n) (record {
+    subst (λ (ks : List BranchValue). Shrinks blossom link root blossom tree ks) (sym n) (record {
       grown = grown_more (members_in chain ++ root.members) blossom.members (reverse aside)
           (λ x. omega (arith, r x, count-append)) c.hung;
       places = λ x. omega (arith, members-append outer_sets x blossom.members [] (reverse aside), r x, c.places x);
-      blossom = members_in (part_with_edge root way ∷ chain);
+      folds = folded_root link root blossom tree chain aside way to c r;
       sums = λ F add. omega (arith, c.sums F add, adds_none F add, blossom_sums F add key root way chain blossom closes);
       fewer = omega (arith, c.fewer, cl.some);
       firm = λ d h sy w s t. let u = c.firm d h sy w t in
@@ -216,7 +211,7 @@ pub closed_root : (key : ℕ) (link : TightEdge) (root blossom : OddSetValue) (t
     (aside : List BranchValue) (way : TightEdge) (to : ℕ) (top : OddSetValue) → top ≡ root →
     CanShrink link root tree → IsOpenChain link root tree left chain aside way to → length left ≡ 0
     → blossom ≡ closed_blossom key top way chain →
-    left ≡ rest ++ none → new ≡ rest ++ reverse aside → Shrinks key link root blossom tree new
+    left ≡ rest ++ none → new ≡ rest ++ reverse aside → Shrinks blossom link root blossom tree new
 closed_root key link root blossom tree [] rest none new chain aside way to top e sh c zero_left closes m n =
     at_the_root key link root blossom tree new chain aside way to sh c
     (closable_root link root tree [] chain aside way to sh c zero_left) sh.sound.kept

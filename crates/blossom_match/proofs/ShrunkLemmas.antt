@@ -75,7 +75,7 @@ module _ (old new : Slots) (link : TightEdge) (root : Handle) (tree : List Branc
       → AreSets old (all_dual_sets (set_in old root) (branches_in old tree) []) → InsertsSet old new blossom.key
       → set_in new blossom ≡ closed_blossom blossom.key (set_in old b.outer) way (parts_in old chain)
       → mid ≡ bs ++ (record { up = b.up; inner = b.inner; pair = b.pair; outer = blossom }) ∷ [] → now ≡ mid ++ reverse aside
-      → Shrinks blossom.key link (set_in old root) (set_in new root) (branches_in old tree) (branches_in new now)
+      → Shrinks (set_in new blossom) link (set_in old root) (set_in new root) (branches_in old tree) (branches_in new now)
   shrunk_inside b mid now sh c e cl are ins is m n =
       let last = branch_in old b in
       let hung : Branch = record { up = b.up; inner = b.inner; pair = b.pair; outer = blossom } in
@@ -111,7 +111,8 @@ module _ (old new : Slots) (link : TightEdge) (root : Handle) (tree : List Branc
       i.same
       ∙ ap (λ (ks : List BranchValue). (branches_in old bs ++ branch_of b.up last.inner b.pair (set_in new blossom) ∷ []) ++ ks)
       (a.same ∙ turned) in
-      subst (λ (v : OddSetValue). Shrinks blossom.key link (set_in old root) v (branches_in old tree) (branches_in new now)) (sym r.same)
+      subst (λ (v : OddSetValue). Shrinks (set_in new blossom) link (set_in old root) v (branches_in old tree) (branches_in new now))
+      (sym r.same)
       (closed_inside blossom.key link (set_in old root) (set_in new blossom) (branches_in old tree) (branches_in old left) (branches_in old
       bs)
       (branches_in old bs ++ branch_of b.up last.inner b.pair (set_in new blossom) ∷ []) (branches_in new now) last (parts_in old chain)
@@ -125,7 +126,7 @@ module _ (old new : Slots) (link : TightEdge) (root : Handle) (tree : List Branc
       → AreSets old (all_dual_sets (set_in old root) (branches_in old tree) []) → InsertsSet old new blossom.key
       → set_in new blossom ≡ closed_blossom blossom.key (set_in old root) way (parts_in old chain)
       → left ≡ rest ++ nothing → now ≡ rest ++ reverse aside
-      → Shrinks blossom.key link (set_in old root) (set_in new blossom) (branches_in old tree) (branches_in new now)
+      → Shrinks (set_in new blossom) link (set_in old root) (set_in new blossom) (branches_in old tree) (branches_in new now)
   shrunk_root rest nothing now sh c none are ins is m n =
       let turned = mapped_reverse (branch_in old) aside in
       let empty : rest ≡ [] = none_left rest (omega (

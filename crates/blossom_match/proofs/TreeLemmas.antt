@@ -1,7 +1,7 @@
 -- Trees that grow at the end.
 use Rattle.std.proofs.Common.{◌≡◌, ℕ, ◌+◌, ◌≤◌, List, [], ◌∷◌, ◌++◌, arith}
 use Rattle.blossom_match.specs.DualSets.{count}
-use Rattle.blossom_match.specs.Trees.{outer_members, IsAlternatingTree}
+use Rattle.blossom_match.specs.Trees.{outer_members, outer_with_both, IsAlternatingTree}
 use Rattle.blossom_match.specs.Values.{BranchValue}
 use Rattle.blossom_match.proofs.SumLemmas.{count-append, members_each}
 
@@ -64,3 +64,9 @@ grown_push base bs b g f u i o = grown-append base bs (b ∷ []) g (f, u, i, o, 
 -- the places at the start are among the outer ones
 pub base_in : (x : ℕ) (base : List ℕ) (tree : List BranchValue) → count x base ≤ count x (outer_members base tree)
 base_in x base tree = omega (arith, members_each)
+
+-- the outer sets that hold a place twice over are those that hold it
+pub around_same : (a : ℕ) (base : List ℕ) (tree : List BranchValue)
+    → count a base + outer_with_both a a tree ≡ count a (outer_members base tree)
+around_same a base [] = omega arith
+around_same a base (c ∷ cs) = omega (arith, around_same a base cs, count-append)

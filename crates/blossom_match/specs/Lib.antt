@@ -15,6 +15,7 @@ pub mod Opens
 pub mod Taken
 pub mod SoundSets
 pub mod Trees
+pub mod Folds
 pub mod Shrinks
 pub mod Expansions
 pub mod Searches

@@ -1,15 +1,17 @@
--- The least slack from the outer vertices to each vertex, in halves of a step. A slack here is
--- twice the distance less the height of the outer vertex; the height of the far vertex is not yet
--- taken. The array of these slacks is named `reach`.
-use Rattle.std.specs.Prelude.{◌≡◌, ℕ, ◌-◌, ◌*◌, ◌<◌, ◌≤◌, ◌⊎◌, List, ◌++◌, length, slice_index}
+-- The slacks from the outer vertices to each vertex, in halves of a step. A slack here is twice the
+-- distance less the height of the outer vertex; the height of the far vertex is not yet taken. The
+-- array of these slacks is named `reach`.
+use Rattle.std.specs.Prelude.{◌≡◌, ℕ, ◌-◌, ◌*◌, ◌<◌, ◌≤◌, ◌⊎◌, List, [], ◌++◌, length, slice_index}
 use Rattle.blossom_match.specs.Lists.{Each}
 use Rattle.blossom_match.specs.DualSets.{OddSetValue, count}
 use Rattle.blossom_match.specs.SoundSets.{IsSoundBranch, IsSoundSet}
 use Rattle.blossom_match.specs.Trees.{outer_members}
+use Rattle.blossom_match.specs.Searches.{CanStepAt}
 use Rattle.blossom_match.specs.LeastChanges.{count_holding_both}
 use Rattle.blossom_match.specs.TableValue.{TableValue}
 use Rattle.blossom_match.specs.Tables.{entry}
 use Rattle.blossom_match.specs.declared.table.TheConstants.{FAR}
+use Rattle.blossom_match.specs.declared.search.SearchStep.{SearchStep}
 use Rattle.blossom_match.specs.Values.{BranchValue, SearchValue}
 
 -- The slack from a to x, before the height of x is taken.
@@ -42,18 +44,27 @@ pub record IsOuterSlack (t : TableValue) (hs : List ℕ) (root : OddSetValue)
   pub apart : count_holding_both a x root tree ≡ 0
   pub exact : left ≡ slack_from t hs a x
 
--- Each cell has the least slack from the outer vertices of other sets, or FAR.
+-- Of two vertices one has a cell that is at most the slack from the other.
+abbrev pub ReachesEither : TableValue → List ℕ → List ℕ → ℕ → ℕ → Type 0
+ReachesEither t hs reach a b = (slice_index reach b ≤ slack_from t hs a b)
+    ⊎ (slice_index reach a ≤ slack_from t hs b a)
+
+-- Each cell has a slack from an outer vertex of another set, or FAR: the least one at a vertex that
+-- isn't outer. Between two outer sets the cell of one end is enough.
 pub record AreOuterSlacks (t : TableValue) (hs : List ℕ) (root : OddSetValue)
     (tree : List BranchValue)
     (reach : List ℕ) : Type 0 where
   pub size : length reach ≡ t.places
   pub short : (x : ℕ) → x < t.places → slice_index reach x ≤ FAR
   pub least : (a x : ℕ) → 1 ≤ count a (outer_members root.members tree) → x < t.places
-      → count_holding_both a x root tree ≡ 0 → slice_index reach x ≤ slack_from t hs a x
+      → count x (outer_members root.members tree) ≡ 0 → slice_index reach x ≤ slack_from t hs a x
+  pub both : (a b : ℕ) → 1 ≤ count a (outer_members root.members tree)
+      → 1 ≤ count b (outer_members root.members tree) → a < t.places → b < t.places
+      → count_holding_both a b root tree ≡ 0 → ReachesEither t hs reach a b
   pub is : (x : ℕ) → x < t.places
       → (slice_index reach x ≡ FAR) ⊎ IsOuterSlack t hs root tree x (slice_index reach x)
 
--- Each cell has the least slack from the outer vertices of a search.
+-- The array has the slacks from the outer vertices of a search.
 abbrev pub AreSearchSlacks : TableValue → SearchValue → List ℕ → Type 0
 AreSearchSlacks t s reach = AreOuterSlacks t s.heights s.root s.tree reach
 
@@ -85,10 +96,10 @@ pub record HasSlackCells (s : SearchValue) (cells : List ℕ) : Type 0 where
   pub can : SearchHasSoundOuters t s
   pub size : length cells ≡ t.places
 
--- The array has the least slacks from the root and the outer sets of the tree.
-abbrev pub ComputesOuterSlacks : OddSetValue → List BranchValue → List ℕ → Type 0
-ComputesOuterSlacks root tree new = (t : TableValue) (hs : List ℕ) → HasSoundOuters t hs root tree
-    → length new ≡ t.places → AreOuterSlacks t hs root tree new
+-- The array has the least slacks from the root alone.
+abbrev pub ComputesRootSlacks : OddSetValue → List ℕ → Type 0
+ComputesRootSlacks root new = (t : TableValue) (hs : List ℕ) → HasSoundOuters t hs root []
+    → length new ≡ t.places → AreOuterSlacks t hs root [] new
 
 -- The slacks from the outer sets of the added branches are merged into the array.
 abbrev pub AddsOuterSlacks : List BranchValue → List ℕ → List ℕ → Type 0
@@ -97,3 +108,8 @@ AddsOuterSlacks added old new = (t : TableValue) (hs : List ℕ) (root : OddSetV
     → ((x : ℕ) → count x (outer_members root.members (tree ++ added)) ≤ 1)
     → Each (IsSoundBranch t (λ x. slice_index hs x)) added → AreOuterSlacks t hs root tree old
     → AreOuterSlacks t hs root (tree ++ added) new
+
+-- A step leads from the slacks of one search to those of the next.
+abbrev pub CarriesSlacks : SearchStep → SearchValue → SearchValue → List ℕ → List ℕ → Type 0
+CarriesSlacks step s r old new = (t : TableValue) → CanStepAt t s step → AreSearchSlacks t s old
+    → AreSearchSlacks t r new

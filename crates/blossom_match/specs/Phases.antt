@@ -60,7 +60,7 @@ abbrev pub IsStepMask : TableValue → StepResult → List ℕ → Type 0
 IsStepMask t (More r) mask = IsSearchMask t (search_value r) mask
 IsStepMask t (Done r) mask = Unit {0}
 
--- After a step the array has the least slacks from the outer vertices, unless the search has ended.
+-- After a step the array has the slacks from the outer vertices, unless the search has ended.
 abbrev pub AreStepSlacks : TableValue → StepResult → List ℕ → Type 0
 AreStepSlacks t (More r) reach = AreSearchSlacks t (search_value r) reach
 AreStepSlacks t (Done r) reach = length reach ≡ t.places

@@ -5,6 +5,7 @@ use Rattle.blossom_match.specs.Lists.{Each}
 use Rattle.blossom_match.specs.DualSets.{IsAdditive, DualSet, OddSetValue, dual_sets, count}
 use Rattle.blossom_match.specs.Blossoms.{members_in, dual_sets_in, AreOddSets}
 use Rattle.blossom_match.specs.BlossomSlacks.{blossom_set, HaveSlacks}
+use Rattle.blossom_match.specs.Folds.{FoldsOuters}
 use Rattle.blossom_match.specs.SoundSets.{IsSoundBranch, IsSoundPart, IsSoundSet, IsSymmetric, IsTight}
 use Rattle.blossom_match.specs.Trees.{outer_with_both, one_if_both, branch_dual_sets, inner_dual_sets, outer_members, inner_members, IsAlternatingTree}
 use Rattle.blossom_match.specs.declared.odd_set.TightEdge.{TightEdge}
@@ -60,18 +61,17 @@ pub record CanShrink (link : TightEdge) (root : OddSetValue) (tree : List Branch
     pub sound : IsSoundSet t h root
     pub firm : Each (IsSoundBranch t h) tree
 
--- The result of shrinking: the blossom that the edge closes is one outer set under a key, with dual
--- 0.
-pub record Shrinks (key : ℕ) (link : TightEdge) (root new_root : OddSetValue)
+-- The result of shrinking: the blossom that the edge closes is one outer set, with dual 0.
+pub record Shrinks (blossom : OddSetValue) (link : TightEdge) (root new_root : OddSetValue)
     (old new : List BranchValue) : Type 0 where
   pub grown : IsAlternatingTree new_root.members new
   pub places : (x : ℕ) → count x (outer_members new_root.members new) + count x (inner_members new)
       ≡ count x (outer_members root.members old) + count x (inner_members old)
-  pub blossom : List ℕ
+  pub folds : FoldsOuters blossom root new_root old new
   pub sums : (F : List DualSet → ℕ) → IsAdditive F →
       F (dual_sets new_root) + F (branch_dual_sets new)
       ≡ F (dual_sets root) + F (branch_dual_sets old)
-      + F (record { key = key; members = blossom; dual = 0 } ∷ [])
+      + F (record { key = blossom.key; members = blossom.members; dual = 0 } ∷ [])
   pub fewer : length (inner_dual_sets new) < length (inner_dual_sets old)
   pub firm : (d : TableValue) (h : ℕ → ℕ) → IsSymmetric d → IsTight d h link → IsSoundSet d h root
       → Each (IsSoundBranch d h) old →
@@ -90,6 +90,8 @@ pub record IsOpenChain (link : TightEdge) (root : OddSetValue) (tree left : List
   pub apart : one_if_both link.from link.to root + outer_with_both link.from link.to left ≡ 0
   pub kept : AreOddSets chain
   pub hung : IsAlternatingTree (members_in chain ++ outer_members root.members left) (reverse aside)
+  pub outers : (a x : ℕ) → count a (members_in chain) ≡ 0 → outer_with_both a x left
+      + outer_with_both a x (reverse aside) ≡ outer_with_both a x tree
   pub once : (x : ℕ) → count x (outer_members root.members tree) + count x (inner_members tree) ≤ 1
   pub places : (x : ℕ) → count x (outer_members root.members left) + count x (inner_members left)
       + count x (members_in chain)

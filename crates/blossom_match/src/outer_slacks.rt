@@ -1,14 +1,17 @@
 ghost use Rattle.std.specs.Prelude.{◌≡◌, ◌≤◌, ◌<◌, ◌+◌, ℕ, drop, length, slice_index, take};
 ghost use Rattle.blossom_match.specs.Lists.{Each};
+ghost use Rattle.blossom_match.specs.DualSets.{count};
+ghost use Rattle.blossom_match.specs.Folds.{FoldsCells};
+ghost use Rattle.blossom_match.specs.Heights.{HasCells};
 ghost use Rattle.blossom_match.specs.SlackRows.{lowered_slack, MergesSlacks};
-ghost use Rattle.blossom_match.specs.OuterSlacks.{HasSlacks, HasSlackCells, AddsOuterSlacks, ComputesOuterSlacks};
+ghost use Rattle.blossom_match.specs.OuterSlacks.{HasSlacks, HasSlackCells, AddsOuterSlacks, ComputesRootSlacks};
 ghost use Rattle.blossom_match.specs.Slots.{branches_in, set_in};
 ghost use Rattle.blossom_match.specs.States.{search_value};
 ghost use Rattle.blossom_match.specs.declared.table.TheConstants.{FAR};
 
 use crate::branches::Branch;
 use crate::odd_set::{Handle, Sets};
-use crate::slack_rows::{lower_slack, merge};
+use crate::slack_rows::{lower_slack, merge, put};
 use crate::state::Search;
 use crate::table::FAR;
 
@@ -27,17 +30,6 @@ pub fn reset(reach: &mut [u32])
     for x in 0..reach.len() {
         reach[x] = FAR;
     }
-}
-
-/// Computes the least slack from the root and the outer sets to each vertex.
-fn fill_slacks(sets: &Sets, root: Handle, tree: &[Branch], reach: &mut [u32])
-    requires root { HasSlacks (length reach.old) (set_in sets.now root) }
-    requires tree { Each (λ b. HasSlacks (length reach.old) b.outer) (branches_in sets.now tree.now) }
-    ensures { ComputesOuterSlacks (set_in sets.now root) (branches_in sets.now tree.now) reach.new }
-{
-    reset(reach);
-    add_set_slacks(sets, root, reach);
-    add_branch_slacks(sets, tree, reach);
 }
 
 /// Merges the slacks from the outer sets of the branches.
@@ -59,12 +51,23 @@ pub fn add_slacks_from(s: &Search, at: usize, more: usize, reach: &mut [u32])
     add_branch_slacks(&s.sets, &s.tree[at..at + more], reach);
 }
 
-/// Computes the least slacks from the outer vertices of a search from the beginning.
-pub fn refill_slacks(s: &Search, reach: &mut [u32])
+/// Computes the least slacks from the root of a search.
+pub fn begin_slacks(s: &Search, reach: &mut [u32])
     requires { HasSlackCells (search_value s.now) reach.old }
-    ensures { ComputesOuterSlacks (search_value s.now).root (search_value s.now).tree reach.new }
+    ensures { ComputesRootSlacks (search_value s.now).root reach.new }
 {
-    fill_slacks(&s.sets, s.root, &s.tree, reach);
+    reset(reach);
+    add_set_slacks(&s.sets, s.root, reach);
+}
+
+/// Merges the slacks from a blossom that has closed, and sets the cells of its own vertices to FAR.
+pub fn fold_slacks(sets: &Sets, set: Handle, reach: &mut [u32])
+    requires row { HasSlacks (length reach.old) (set_in sets.now set) }
+    requires cells { HasCells (λ x. count x (set_in sets.now set).members) reach.old }
+    ensures { FoldsCells (set_in sets.now set) reach.old reach.new }
+{
+    add_set_slacks(sets, set, reach);
+    put(FAR, set.members(sets), reach);
 }
 
 /// Lowers the least slacks after the heights of the outer vertices have risen.

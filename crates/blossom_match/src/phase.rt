@@ -12,7 +12,7 @@ use crate::adjustment::adjust;
 use crate::least::least;
 use crate::masks::{hide, show_from};
 use crate::odd_set::single;
-use crate::outer_slacks::{add_slacks_from, lower_slacks, refill_slacks, reset};
+use crate::outer_slacks::{add_slacks_from, begin_slacks, lower_slacks, reset};
 use crate::search::{SearchStep, expand_at, finish, grow_to, shrink_by};
 use crate::state::{Pairing, Search};
 use crate::table::DistTable;
@@ -45,7 +45,7 @@ pub fn pair_up(
     ensures fewer { IfOk result (λ r. length r.free.items + 1 ≡ length from.free.items) }
 {
     let mut now = begin(alloc, t, place, from)?;
-    refill_slacks(&now, reach);
+    begin_slacks(&now, reach);
     reset(mask);
     show_from(&now, 0, mask);
     'steps: loop {
@@ -134,8 +134,7 @@ fn take_step(
             Ok(StepResult::More(grown))
         }
         SearchStep::Shrink(link) => {
-            let shrunk = shrink_by(alloc, s, link)?;
-            refill_slacks(&shrunk, reach);
+            let shrunk = shrink_by(alloc, s, link, reach)?;
             Ok(StepResult::More(shrunk))
         }
         SearchStep::Expand(at) => {

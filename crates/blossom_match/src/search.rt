@@ -1,6 +1,7 @@
 ghost use Rattle.std.specs.Prelude.{◌≡◌, ◌≤◌, ◌<◌, ◌+◌, ℕ, length, slice_index, IfOk};
 ghost use Rattle.blossom_match.specs.DualSets.{count, one_if_equal};
 ghost use Rattle.blossom_match.specs.Searches.{Advances, CanStep, CanStepAt, ExpandsBranch, EndsSearch, GrowsBranch};
+ghost use Rattle.blossom_match.specs.OuterSlacks.{CarriesSlacks};
 ghost use Rattle.blossom_match.specs.States.{search_value, partial_value};
 ghost use Rattle.blossom_match.specs.declared.search.SearchStep.TheVariants as step;
 
@@ -8,6 +9,7 @@ use crate::branches::{augment, grow};
 use crate::expanding::expand;
 use crate::matches::take_match;
 use crate::odd_set::{TightEdge, single};
+use crate::outer_slacks::fold_slacks;
 use crate::shrinking::shrink;
 use crate::state::{Pairing, Search};
 use crate::table::DistTable;
@@ -30,52 +32,46 @@ pub fn grow_to(s: Search, link: TightEdge) -> Result<Search, Memory>
     ensures advances { IfOk result (λ r. Advances (search_value s) (step.Grow link) (search_value r)) }
     ensures hangs { IfOk result (λ r. GrowsBranch (search_value s) (search_value r)) }
 {
-    let Search {
-        sets,
-        root,
-        tree,
-        rest,
-        free,
-        heights,
-    } = s;
-    let mut left = rest;
-    let matched = take_match(&sets, &mut left, link.to);
-    let mut grown = tree;
-    grow(&sets, &mut grown, link, matched)?;
+    let mut left = s.rest;
+    let matched = take_match(&s.sets, &mut left, link.to);
+    let mut grown = s.tree;
+    grow(&s.sets, &mut grown, link, matched)?;
     Ok(Search {
-        sets,
-        root,
+        sets: s.sets,
+        root: s.root,
         tree: grown,
         rest: left,
-        free,
-        heights,
+        free: s.free,
+        heights: s.heights,
     })
 }
 
-/// Shrinks the blossom that an edge closes to one outer set.
-pub fn shrink_by(alloc: Global, s: Search, link: TightEdge) -> Result<Search, Memory>
-    requires { CanStep (search_value s) (step.Shrink link) }
+/// Shrinks the blossom that an edge closes to one outer set, and folds it into the slacks.
+pub fn shrink_by(
+    alloc: Global,
+    s: Search,
+    link: TightEdge,
+    reach: &mut [u32],
+) -> Result<Search, Memory>
+    requires step { CanStep (search_value s) (step.Shrink link) }
+    requires cells { length reach.old ≡ length s.heights.items }
     ensures advances { IfOk result (λ r. Advances (search_value s) (step.Shrink link) (search_value r)) }
     ensures rest { IfOk result (λ r. (search_value r).rest ≡ (search_value s).rest) }
+    ensures carries { IfOk result (λ r. CarriesSlacks (step.Shrink link) (search_value s) (search_value r)
+        reach.old reach.new) }
 {
-    let Search {
-        sets,
-        root,
-        tree,
-        rest,
-        free,
-        heights,
-    } = s;
-    let mut slots = sets;
-    let mut shrunk = tree;
-    let top = shrink(alloc, &mut slots, root, &mut shrunk, link)?;
+    let mut slots = s.sets;
+    let mut root = s.root;
+    let mut shrunk = s.tree;
+    let blossom = shrink(alloc, &mut slots, &mut root, &mut shrunk, link)?;
+    fold_slacks(&slots, blossom, reach);
     Ok(Search {
         sets: slots,
-        root: top,
+        root,
         tree: shrunk,
-        rest,
-        free,
-        heights,
+        rest: s.rest,
+        free: s.free,
+        heights: s.heights,
     })
 }
 
@@ -85,25 +81,17 @@ pub fn expand_at(alloc: Global, s: Search, at: usize) -> Result<Search, Memory>
     ensures advances { IfOk result (λ r. Advances (search_value s) (step.Expand at) (search_value r)) }
     ensures apart { IfOk result (λ r. ExpandsBranch at (search_value s) (search_value r)) }
 {
-    let Search {
-        sets,
-        root,
-        tree,
-        rest,
-        free,
-        heights,
-    } = s;
-    let mut slots = sets;
-    let mut grown = tree;
-    let mut more = rest;
-    expand(alloc, &mut slots, root, &mut grown, at, &mut more)?;
+    let mut slots = s.sets;
+    let mut grown = s.tree;
+    let mut more = s.rest;
+    expand(alloc, &mut slots, s.root, &mut grown, at, &mut more)?;
     Ok(Search {
         sets: slots,
-        root,
+        root: s.root,
         tree: grown,
         rest: more,
-        free,
-        heights,
+        free: s.free,
+        heights: s.heights,
     })
 }
 
@@ -112,25 +100,17 @@ pub fn finish(alloc: Global, t: &DistTable, s: Search, link: TightEdge) -> Resul
     requires { CanStepAt t.now (search_value s) (step.Augment link) }
     ensures { IfOk result (λ r. EndsSearch t.now (search_value s) (step.Augment link) (partial_value r)) }
 {
-    let Search {
-        sets,
-        root,
-        tree,
-        rest,
-        free,
-        heights,
-    } = s;
-    let mut slots = sets;
-    let mut left = free;
+    let mut slots = s.sets;
+    let mut left = s.free;
     take_place(&mut left, link.to);
-    let met = single(alloc, &mut slots, t, link.to, &heights)?;
-    let mut matches = rest;
-    augment(&slots, root, tree, link, met, &mut matches)?;
+    let met = single(alloc, &mut slots, t, link.to, &s.heights)?;
+    let mut matches = s.rest;
+    augment(&slots, s.root, s.tree, link, met, &mut matches)?;
     Ok(Pairing {
         sets: slots,
         matches,
         free: left,
-        heights,
+        heights: s.heights,
     })
 }
 

@@ -1,4 +1,4 @@
-ghost use Rattle.std.specs.Prelude.{◌≡◌, ◌≤◌, ◌∷◌, ◌++◌, [], ℕ, IsTrue, false, IfOk, OnOk};
+ghost use Rattle.std.specs.Prelude.{◌≡◌, ◌≤◌, ◌∷◌, ◌++◌, [], IsTrue, false, IfOk, OnOk};
 ghost use Rattle.blossom_match.specs.DualSets.{count, IsOddSet};
 ghost use Rattle.blossom_match.specs.ChainSteps.{ExtendsChain};
 ghost use Rattle.blossom_match.specs.Blossoms.{dual_sets_in};
@@ -13,19 +13,20 @@ use design_model::Memory;
 use std::alloc::Global;
 use std::collections::VecDeque;
 
-/// Shrinks the blossom that an edge between two outer sets closes to one outer set, and returns the root.
+/// Shrinks the blossom that an edge between two outer sets closes to one outer set, and returns it.
 pub fn shrink(
     alloc: Global,
     sets: &mut Sets,
-    root: Handle,
+    root: &mut Handle,
     tree: &mut Vec<Branch>,
     link: TightEdge,
 ) -> Result<Handle, Memory>
-    requires can { CanShrink link (set_in sets.old root) (branches_in sets.old tree.old.items) }
-    requires sets { AreSets sets.old (all_dual_sets (set_in sets.old root)
+    requires can { CanShrink link (set_in sets.old root.old) (branches_in sets.old tree.old.items) }
+    requires sets { AreSets sets.old (all_dual_sets (set_in sets.old root.old)
         (branches_in sets.old tree.old.items) []) }
-    ensures { IfOk result (λ top. (key : ℕ) × InsertsSet sets.old sets.new key
-        × Shrinks key link (set_in sets.old root) (set_in sets.new top)
+    ensures inserts { IfOk result (λ blossom. InsertsSet sets.old sets.new blossom.key) }
+    ensures shrinks { IfOk result (λ blossom. Shrinks (set_in sets.new blossom) link
+        (set_in sets.old root.old) (set_in sets.new root.new)
         (branches_in sets.old tree.old.items) (branches_in sets.new tree.new.items)) }
 {
     let mut chain = Chain {
@@ -39,12 +40,13 @@ pub fn shrink(
             let outer = chain.close(alloc, sets, b.outer)?;
             tree.push(Branch { outer, ..b })?;
             put_back(tree, aside)?;
-            return Ok(root);
+            return Ok(outer);
         }
         chain.climb(sets, b, &mut aside)?;
     }
-    let blossom = chain.close(alloc, sets, root)?;
+    let blossom = chain.close(alloc, sets, *root)?;
     put_back(tree, aside)?;
+    *root = blossom;
     Ok(blossom)
 }
 

@@ -4,7 +4,7 @@ use Rattle.blossom_match.specs.Searches.{stored_height}
 use Rattle.blossom_match.specs.Slots.{matches_in}
 use Rattle.blossom_match.specs.States.{search_value}
 use Rattle.blossom_match.proofs.EndLemmas.{begins, place_there}
-use Rattle.blossom_match.proofs.LoweredLemmas.{searched}
+use Rattle.blossom_match.proofs.LoweredLemmas.{begins_reach, searched}
 use Rattle.blossom_match.proofs.MaskLemmas.{have_cells, masks_anew}
 use Rattle.blossom_match.proofs.phase.pair_up.Goals as goal
 
@@ -23,8 +23,8 @@ begin-requires-clause-within c =
           c.requires.stands,
     )
 
-pub refill_slacks-requires : goal.refill_slacks-requires
-refill_slacks-requires c =
+pub begin_slacks-requires : goal.begin_slacks-requires
+begin_slacks-requires c =
     let s = begins c.args.t.now c.args.place (matches_in c.args.from.sets c.args.from.matches.items) c.args.from.free.items
     c.args.from.heights.items (search_value c.in_ok-now.now)
     c.requires.stands c.requires.some c.in_ok-now.ensures in
@@ -48,9 +48,8 @@ steps-init c =
     record {
       search = s;
       free = c.in_ok-now.ensures.free;
-      reaches = c.refill_slacks.ensures c.args.t.now c.in_ok-now.now.heights.items (searched c.args.t.now (search_value c.in_ok-now.now)
-          s.search)
-          (omega (arith, c.refill_slacks.auto.reach, c.requires.size));
+      reaches = begins_reach c.args.t.now r c.begin_slacks.new.reach s.search c.in_ok-now.ensures.tree
+          (omega (arith, c.begin_slacks.auto.reach, c.requires.size)) c.begin_slacks.ensures;
       masks = record {
         size = masked;
         masks = masks_anew (match_members r.rest) c.reset.new.reach c.show_from.new.mask

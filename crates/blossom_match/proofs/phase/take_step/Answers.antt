@@ -1,14 +1,14 @@
 use Rattle.blossom_match.specs.declared.search.SearchStep.TheVariants as step
-use Rattle.std.proofs.Common.{arith, ap, List, [], ◌∷◌, ℕ, ◌-◌, drop, length, length-append, subst, sym, take}
+use Rattle.std.proofs.Common.{arith, ap, List, [], ◌∷◌, ℕ, ◌-◌, drop, length, length-append, subst, sym, take, ◌∙◌}
 use Rattle.std.proofs.lemmas.List.{length-map}
 use Rattle.blossom_match.specs.OuterSlacks.{AddsOuterSlacks}
 use Rattle.blossom_match.specs.Slots.{branch_in, branches_in, match_in, matches_in}
 use Rattle.blossom_match.specs.States.{search_value}
 use Rattle.blossom_match.specs.Values.{BranchValue, MatchValue}
-use Rattle.blossom_match.specs.Searches.{stored_height, Advances}
+use Rattle.blossom_match.specs.Searches.{stored_height, Advances, CanStepAt}
 use Rattle.blossom_match.specs.declared.search.SearchStep.{SearchStep}
 use Rattle.blossom_match.proofs.OuterSlackLemmas.{grown_past, grown_size}
-use Rattle.blossom_match.proofs.LoweredLemmas.{anew, apart_more, is_reachable, one_more, steps_at}
+use Rattle.blossom_match.proofs.LoweredLemmas.{apart_more, is_reachable, one_more, steps_at}
 use Rattle.blossom_match.proofs.MaskLemmas.{have_cells, hides_there, masks_apart, masks_hung, masks_same, newest_is, next_search}
 use Rattle.blossom_match.proofs.phase.take_step.Goals as goal
 
@@ -118,18 +118,17 @@ returns-in_ok-expanded-in-Expand-clause-masks c =
     (omega (arith, c.len-matched.ensures, length-map c.args.s.rest.items (match_in c.args.s.sets))) c.requires.masks
     c.show_from.auto.mask c.show_from.ensures
 
-pub refill_slacks-requires : goal.refill_slacks-requires
-refill_slacks-requires c =
-    is_reachable c.args.t.now (search_value c.args.s) (search_value c.in_ok-shrunk-in-Shrink.shrunk) c.args.step
-    (step.Shrink c.in-Shrink.link) c.args.reach.now
-    c.in-Shrink.is c.requires.step c.in_ok-shrunk-in-Shrink.ensures.advances c.requires.reaches
+pub shrink_by-requires-clause-step : goal.shrink_by-requires-clause-step
+shrink_by-requires-clause-step c =
+    steps_at c.args.t.now (search_value c.args.s) c.args.step (step.Shrink c.in-Shrink.link) c.in-Shrink.is c.requires.step
+
+pub shrink_by-requires-clause-cells : goal.shrink_by-requires-clause-cells
+shrink_by-requires-clause-cells c = c.requires.reaches.size ∙ sym c.requires.step.size
 
 pub returns-in_ok-shrunk-in-Shrink-clause-reaches : goal.returns-in_ok-shrunk-in-Shrink-clause-reaches
 returns-in_ok-shrunk-in-Shrink-clause-reaches c =
-    anew c.args.t.now (search_value c.args.s) (search_value c.in_ok-shrunk-in-Shrink.shrunk) c.args.step (step.Shrink c.in-Shrink.link)
-    c.args.reach.now
-    c.refill_slacks.new.reach c.in-Shrink.is c.requires.step c.in_ok-shrunk-in-Shrink.ensures.advances c.requires.reaches
-    c.refill_slacks.auto.reach c.refill_slacks.ensures
+    c.in_ok-shrunk-in-Shrink.ensures.carries c.args.t.now
+    (subst (λ (st : SearchStep). CanStepAt c.args.t.now (search_value c.args.s) st) c.in-Shrink.is c.requires.step) c.requires.reaches
 
 pub add_slacks_from-requires-in-Expand-clause-can : goal.add_slacks_from-requires-in-Expand-clause-can
 add_slacks_from-requires-in-Expand-clause-can c =

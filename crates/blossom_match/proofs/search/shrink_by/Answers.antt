@@ -1,6 +1,8 @@
 use Rattle.std.proofs.Common.{arith, [], refl}
+use Rattle.blossom_match.specs.Slots.{branches_in, set_in}
 use Rattle.blossom_match.specs.States.{search_value}
 use Rattle.blossom_match.specs.Trees.{all_dual_sets}
+use Rattle.blossom_match.proofs.LoweredLemmas.{carries, folds_cells, folds_row}
 use Rattle.blossom_match.proofs.SearchLemmas.{can_shrink, shrunk}
 use Rattle.blossom_match.proofs.ShrunkLemmas.{all_uses}
 use Rattle.blossom_match.proofs.SlotLemmas.{sets_fewer}
@@ -8,7 +10,7 @@ use Rattle.blossom_match.proofs.PartialMatchingLemmas.{closed_sets, matches_stay
 use Rattle.blossom_match.proofs.search.shrink_by.Goals as goal
 
 pub shrink-requires-clause-can : goal.shrink-requires-clause-can
-shrink-requires-clause-can c = can_shrink c.args.link (search_value c.args.s) c.requires
+shrink-requires-clause-can c = can_shrink c.args.link (search_value c.args.s) c.requires.step
 
 pub shrink-requires-clause-sets : goal.shrink-requires-clause-sets
 shrink-requires-clause-sets c =
@@ -16,27 +18,56 @@ shrink-requires-clause-sets c =
     sets_fewer c.args.s.sets (all_dual_sets s.root s.tree s.rest) (all_dual_sets s.root s.tree []) c.args.s.stand
     (λ k. omega (arith, all_uses k s.root s.tree s.rest, all_uses k s.root s.tree []))
 
+pub fold_slacks-requires-clause-row : goal.fold_slacks-requires-clause-row
+fold_slacks-requires-clause-row c =
+    let sets = c.shrink.new.sets in
+    folds_row c.args.link (set_in sets c.in_ok-blossom.blossom) (set_in sets c.shrink.new.root) (search_value c.args.s)
+    (branches_in sets c.shrink.new.tree.items) c.args.reach.now c.requires.step c.in_ok-blossom.ensures.shrinks c.requires.cells
+
+pub fold_slacks-requires-clause-cells : goal.fold_slacks-requires-clause-cells
+fold_slacks-requires-clause-cells c =
+    let sets = c.shrink.new.sets in
+    folds_cells c.args.link (set_in sets c.in_ok-blossom.blossom) (set_in sets c.shrink.new.root) (search_value c.args.s)
+    (branches_in sets c.shrink.new.tree.items) c.args.reach.now c.requires.step c.in_ok-blossom.ensures.shrinks c.requires.cells
+
 pub returns-clause-advances : goal.returns-clause-advances
 returns-clause-advances c =
     let s = search_value c.args.s in
-    let e = c.in_ok-top.ensures in
-    shrunk e.0 c.args.link s _ e.2
-    (matches_stay c.args.s.sets c.shrink.new.sets e.0 (all_dual_sets s.root s.tree s.rest) c.args.s.rest.items e.1 c.args.s.stand
+    let e = c.in_ok-blossom.ensures in
+    shrunk (set_in c.shrink.new.sets c.in_ok-blossom.blossom) c.args.link s _ e.shrinks
+    (matches_stay c.args.s.sets c.shrink.new.sets c.in_ok-blossom.blossom.key (all_dual_sets s.root s.tree s.rest)
+    c.args.s.rest.items e.inserts c.args.s.stand
     (λ k. omega (arith, all_uses k s.root s.tree s.rest))) refl refl
 
 pub returns-clause-rest : goal.returns-clause-rest
 returns-clause-rest c =
     let s = search_value c.args.s in
-    let e = c.in_ok-top.ensures in
-    matches_stay c.args.s.sets c.shrink.new.sets e.0 (all_dual_sets s.root s.tree s.rest) c.args.s.rest.items e.1 c.args.s.stand
+    matches_stay c.args.s.sets c.shrink.new.sets c.in_ok-blossom.blossom.key (all_dual_sets s.root s.tree s.rest)
+    c.args.s.rest.items c.in_ok-blossom.ensures.inserts c.args.s.stand
     (λ k. omega (arith, all_uses k s.root s.tree s.rest))
+
+pub returns-clause-carries : goal.returns-clause-carries
+returns-clause-carries c =
+    let s = search_value c.args.s in
+    let e = c.in_ok-blossom.ensures in
+    let sets = c.shrink.new.sets in
+    let set = set_in sets c.in_ok-blossom.blossom in
+    carries c.args.link set s _ c.args.reach.now c.fold_slacks.new.reach
+    (shrunk set c.args.link s _ e.shrinks
+    (matches_stay c.args.s.sets sets c.in_ok-blossom.blossom.key (all_dual_sets s.root s.tree s.rest)
+    c.args.s.rest.items e.inserts c.args.s.stand
+    (λ k. omega (arith, all_uses k s.root s.tree s.rest))) refl refl)
+    e.shrinks.folds c.fold_slacks.auto.reach c.fold_slacks.ensures
 
 pub invariant_of-result : goal.invariant_of-result
 invariant_of-result c =
     let s = search_value c.args.s in
-    let e = c.in_ok-top.ensures in
+    let e = c.in_ok-blossom.ensures in
+    let sets = c.shrink.new.sets in
     record {
-      stand = closed_sets c.args.s.sets c.shrink.new.sets e.0 c.args.link s.root _ s.tree _ s.rest _ e.1 e.2
-          (matches_stay c.args.s.sets c.shrink.new.sets e.0 (all_dual_sets s.root s.tree s.rest) c.args.s.rest.items e.1 c.args.s.stand
+      stand = closed_sets c.args.s.sets sets (set_in sets c.in_ok-blossom.blossom) c.args.link s.root _ s.tree _ s.rest _ e.inserts
+          e.shrinks
+          (matches_stay c.args.s.sets sets c.in_ok-blossom.blossom.key (all_dual_sets s.root s.tree s.rest)
+          c.args.s.rest.items e.inserts c.args.s.stand
           (λ k. omega (arith, all_uses k s.root s.tree s.rest))) c.args.s.stand;
     }
