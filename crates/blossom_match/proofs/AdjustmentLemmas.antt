@@ -1,14 +1,14 @@
 -- After a change of duals the step can be made, and the invariants still hold.
 use Rattle.std.proofs.Common.{◌≡◌, ◌≢◌, ℕ, ◌+◌, ◌*◌, ◌^◌, ◌≤◌, ◌<◌, suc, zero, List, [], ◌∷◌, flat_map, length, drop, arith, refl, sym, ap, subst, ◌∙◌}
 use Rattle.blossom_match.specs.Lists.{Each}
-use Rattle.blossom_match.specs.DualSets.{DualSet, OddSetValue, apart, dual_sets, count, height, dual_load}
+use Rattle.blossom_match.specs.DualSets.{DualSet, OddSetValue, apart, dual_sets, count, height, dual_load, with_dual}
 use Rattle.blossom_match.specs.MatchedSets.{match_members, match_dual_sets, IsMatch}
 use Rattle.blossom_match.specs.SoundSets.{IsSoundBranch, IsSoundMatch, IsSoundSet, IsTight}
 use Rattle.blossom_match.specs.Trees.{outer_with_both, one_if_both, branch_dual_sets, inner_dual_sets, inner_members, inner_sets, outer_members, outer_sets, IsAlternatingTree}
 use Rattle.blossom_match.specs.Expansions.{FirstCanExpand}
 use Rattle.blossom_match.specs.Searches.{stored_height, dual_height, search_holding_both, outer_vertices, IsStepReady, IsSearch}
 use Rattle.blossom_match.specs.LeastChanges.{IsLeastChange, CanSearch, FirstHasDual, IsReadyAfter, AllowsChange}
-use Rattle.blossom_match.specs.Duals.{all_changed, CanChange, CanChangeHeights, CanAdjust, ChangesDuals, CanStepAfter, Adjusts}
+use Rattle.blossom_match.specs.Duals.{all_changed, changed_by, CanChange, CanChangeHeights, CanAdjust, ChangesDuals, CanStepAfter, Adjusts}
 use Rattle.blossom_match.specs.TableValue.{TableValue}
 use Rattle.blossom_match.specs.Tables.{entry, IsMetric, IsTable, HasTriangleInequality}
 use Rattle.blossom_match.specs.declared.table.TheConstants.{MAX_DISTANCE}
@@ -374,3 +374,37 @@ adjusts s r c ch = record {
   );
   free = ch.free;
 }
+
+-- a change of 0 leaves a branch as it is
+changed_none : (by : ℕ) (b : BranchValue) → by ≡ 0 → changed_by by b ≡ b
+changed_none by b e =
+    ap (λ (w : ℕ). record {
+      up = b.up;
+      inner = with_dual w b.inner;
+      pair = b.pair;
+      outer = with_dual (b.outer.dual + by) b.outer;
+    }) (omega (arith, e))
+    ∙ ap (λ (w : ℕ). record { up = b.up; inner = b.inner; pair = b.pair; outer = with_dual w b.outer }) (omega (arith, e))
+
+all_none : (by : ℕ) (bs : List BranchValue) → by ≡ 0 → all_changed by bs ≡ bs
+all_none by [] e = refl
+all_none by (b ∷ bs) e = ap (λ (k : BranchValue). k ∷ all_changed by bs) (changed_none by b e)
+    ∙ ap (λ (ks : List BranchValue). b ∷ ks) (all_none by bs e)
+
+no_times : (by n : ℕ) → by ≡ 0 → by * n ≡ 0
+no_times by n e = omega (arith, ap (λ (k : ℕ). k * n) e)
+
+-- and so it does a search
+pub stays : (s : SearchValue) (c : DualChange) → c.by ≡ 0 → Adjusts s c s
+stays s c e = adjusts s s c (record {
+  heights = λ x. omega (
+    arith,
+    no_times c.by (count x (inner_members s.tree)) e,
+    no_times c.by (count x (outer_members s.root.members s.tree)) e,
+  );
+  size = refl;
+  root = ap (λ (w : ℕ). with_dual w s.root) (omega (arith, e));
+  tree = sym (all_none c.by s.tree e);
+  rest = refl;
+  free = refl;
+})

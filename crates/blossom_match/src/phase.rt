@@ -81,7 +81,8 @@ pub fn begin(alloc: Global, t: &DistTable, place: u32, from: Pairing) -> Result<
     })
 }
 
-/// Changes the duals by the least amount that makes a step possible, and makes the step.
+/// Changes the duals by the least amount that makes a step possible, and makes the step. Where that is 0 they
+/// stay.
 fn advance(
     alloc: Global,
     t: &DistTable,
@@ -98,6 +99,10 @@ fn advance(
     ensures masks { IfOk result (λ r. IsStepMask t.now r mask.new) }
 {
     let change = least(t, reach, mask, &s);
+    if change.by == 0 {
+        let next = take_step(alloc, t, s, change.step, reach, mask)?;
+        return Ok(next);
+    }
     let adjusted = adjust(s, change);
     lower_slacks(change.by, reach);
     let next = take_step(alloc, t, adjusted, change.step, reach, mask)?;
