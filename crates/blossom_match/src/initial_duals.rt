@@ -6,7 +6,7 @@ ghost use Rattle.blossom_match.specs.InitialDuals.{AreWithinDistances, CanPair, 
 ghost use Rattle.blossom_match.specs.States.{partial_value};
 ghost use Rattle.blossom_match.specs.declared.table.TheConstants.{MAX_DISTANCE};
 
-use crate::odd_set::{TightEdge, times};
+use crate::odd_set::{TightEdge, has};
 use crate::phase::begin;
 use crate::search::{finish, take_place};
 use crate::state::Pairing;
@@ -109,7 +109,7 @@ fn settle(alloc: Global, t: &DistTable, place: u32, from: Pairing) -> Result<Pai
     ensures stands { IfOk result (λ r. IsPartialState t.now r) }
     ensures even { IfOk result (λ r. length r.free.items % 2 ≡ length from.free.items % 2) }
 {
-    if times(&from.free, place) == 0 {
+    if !has(&from.free, place) {
         return Ok(from);
     }
     let raised = raise_dual(t, place, from);

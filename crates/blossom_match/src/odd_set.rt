@@ -57,17 +57,16 @@ impl TightEdge {
     }
 }
 
-/// Returns the number of times that a list has a vertex.
-pub fn times(xs: &[u32], x: u32) -> usize
-    ensures { result ≡ count x xs.now }
+/// Returns whether a list has a vertex.
+pub fn has(xs: &[u32], x: u32) -> bool
+    ensures { result ≡ nat_lt 0 (count x xs.now) }
 {
-    let mut n: usize = 0;
     for y in xs {
         if x == *y {
-            n += 1;
+            return true;
         }
     }
-    n
+    false
 }
 
 impl Handle {
@@ -107,7 +106,7 @@ impl Handle {
         ensures yes { IsTrue result → 1 ≤ count place (members_at sets.now self.key) }
         ensures no { result ≡ false → count place (members_at sets.now self.key) ≡ 0 }
     {
-        times(self.members(sets), place) > 0
+        has(self.members(sets), place)
     }
 
     /// Returns whether the set has parts.
