@@ -148,6 +148,9 @@ fn best_shown(heights: &[u32], reach: &[u32], mask: &[u32], best: Target) -> Tar
     requires near { best.by ≤ FAR }
     ensures { IsBestShown heights.now reach.now mask.now best result }
 {
+    if best.by == 0 {
+        return best;
+    }
     let slack = least_shown(heights, reach, mask);
     if slack >= best.by {
         return best;
@@ -194,6 +197,9 @@ fn best_outer(heights: &[u32], reach: &[u32], s: &Search, best: Target) -> Targe
     ensures { IsBestCandidate heights.now reach.now kind.Shrink (outer_vertices (search_value s.now))
         best result }
 {
+    if best.by == 0 {
+        return best;
+    }
     let rooted = best_target(heights, reach, s.root.members(&s.sets), Kind::Shrink, best);
     best_branch(&s.sets, heights, reach, &s.tree, rooted)
 }
@@ -305,6 +311,9 @@ fn first_with_slack(t: &DistTable, heights: &[u32], xs: &[u32], to: u32, left: u
 fn scan_blossoms(sets: &Sets, tree: &[Branch], best: DualChange) -> DualChange
     ensures { IsLesserChange (branches_in sets.now tree.now) best result }
 {
+    if best.by == 0 {
+        return best;
+    }
     let mut least = best;
     for (i, b) in tree.iter().enumerate() {
         least = lesser_change(sets, *b, i, least);
