@@ -285,10 +285,9 @@ fn vertex_with_slack(
     requires to_in { to < t.now.places }
     ensures { FindsSlackInSet t.now heights.now (set_in sets.now s) to left result }
 {
-    if s.holds(sets, to) {
-        None
-    } else {
-        first_with_slack(t, heights, s.members(sets), to, left)
+    match first_with_slack(t, heights, s.members(sets), to, left) {
+        Some(a) if !s.holds(sets, to) => Some(a),
+        _ => None,
     }
 }
 
