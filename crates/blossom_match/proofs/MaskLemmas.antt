@@ -1,13 +1,13 @@
 -- Masks that show the places of matches.
-use Rattle.std.proofs.Common.{◌≡◌, ℕ, ◌+◌, ◌≤◌, ◌<◌, ◌⊎◌, inl, inr, suc, zero, List, [], ◌∷◌, ◌++◌, length, take, drop, map, get_or, min, arith, refl, sym, ap, subst, ◌∙◌}
+use Rattle.std.proofs.Common.{◌≡◌, ◌≢◌, ℕ, ◌+◌, ◌-◌, ◌≤◌, ◌<◌, ◌⊎◌, inl, inr, suc, zero, List, [], ◌∷◌, ◌++◌, length, take, drop, map, get_or, max, min, arith, refl, sym, ap, subst, ◌∙◌}
 use Rattle.std.proofs.lemmas.Bool.{cases_lt}
-use Rattle.std.proofs.lemmas.List.{take-append-drop}
+use Rattle.std.proofs.lemmas.List.{get_or-drop, get_or-take, take-append-drop}
 use Rattle.std.proofs.Math.Seq.{drop-append_seam}
 use Rattle.blossom_match.specs.DualSets.{OddSetValue, count}
 use Rattle.blossom_match.specs.MatchedSets.{match_members}
 use Rattle.blossom_match.specs.Trees.{inner_members, outer_members}
 use Rattle.blossom_match.specs.Searches.{stored_height, Advances, CanStepAt, ExpandsBranch, GrowsBranch, IsSearch}
-use Rattle.blossom_match.specs.SlackRows.{SetsCells}
+use Rattle.blossom_match.specs.SlackRows.{lowered_slack, SetsCells}
 use Rattle.blossom_match.specs.Masks.{branch_members, masked_slack, IsMaskedSlack, IsMask, IsSearchMask}
 use Rattle.blossom_match.specs.TableValue.{TableValue}
 use Rattle.blossom_match.specs.Values.{BranchValue, MatchValue, SearchValue}
@@ -222,3 +222,39 @@ least_case hs reach mask i old new x is was low (inr more) =
 pub least_next : (hs reach mask : List ℕ) (i old new : ℕ) → new ≡ min (masked_slack hs reach mask i) old
     → ((x : ℕ) → x < i → old ≤ masked_slack hs reach mask x) → (x : ℕ) → x < i + 1 → new ≤ masked_slack hs reach mask x
 least_next hs reach mask i old new is was x low = least_case hs reach mask i old new x is (was x) low (cases_lt x i)
+
+-- a cell of a block
+block_cell : (xs : List ℕ) (at n i : ℕ) → i < n → get_or (take n (drop at xs)) i 0 ≡ get_or xs (at + i) 0
+block_cell xs at n i low = get_or-take n (drop at xs) i 0 low ∙ get_or-drop at xs i 0
+
+block_slack : (hs reach mask : List ℕ) (at n i : ℕ) → i < n
+    → masked_slack (take n (drop at hs)) (take n (drop at reach)) (take n (drop at mask)) i ≡ masked_slack hs reach mask (at + i)
+block_slack hs reach mask at n i low =
+    ap (λ (h : ℕ). max (lowered_slack h (get_or (take n (drop at reach)) i 0)) (get_or (take n (drop at mask)) i 0))
+    (block_cell hs at n i low)
+    ∙ ap (λ (r : ℕ). max (lowered_slack (get_or hs (at + i) 0) r) (get_or (take n (drop at mask)) i 0)) (block_cell reach at n i low)
+    ∙ ap (λ (m : ℕ). max (lowered_slack (get_or hs (at + i) 0) (get_or reach (at + i) 0)) m) (block_cell mask at n i low)
+
+block_case : (hs reach mask : List ℕ) (at n least slack x : ℕ) → slack < least
+    → ((i : ℕ) → i < n → least ≤ masked_slack (take n (drop at hs)) (take n (drop at reach)) (take n (drop at mask)) i)
+    → (x < at → slack ≢ masked_slack hs reach mask x) → x < at + n → (x < at) ⊎ (at ≤ x) → slack ≢ masked_slack hs reach mask x
+block_case hs reach mask at n least slack x more low was lx (inl less) = was less
+block_case hs reach mask at n least slack x more low was lx (inr past) = λ same.
+    let i = x - at in
+    let here : i < n = omega (arith, lx, past) in
+    let there : at + i ≡ x = omega (arith, past) in
+    absurd (omega (
+      arith,
+      more,
+      low i here,
+      block_slack hs reach mask at n i here,
+      ap (λ (y : ℕ). masked_slack hs reach mask y) there,
+      same,
+    ))
+
+-- a block that shows more than the slack at each place doesn't show it
+pub block_next : (hs reach mask : List ℕ) (at n least slack : ℕ) → slack < least
+    → ((i : ℕ) → i < n → least ≤ masked_slack (take n (drop at hs)) (take n (drop at reach)) (take n (drop at mask)) i)
+    → ((x : ℕ) → x < at → slack ≢ masked_slack hs reach mask x) → (x : ℕ) → x < at + n → slack ≢ masked_slack hs reach mask x
+block_next hs reach mask at n least slack more low was x lx =
+    block_case hs reach mask at n least slack x more low (was x) lx (cases_lt x at)

@@ -1,4 +1,4 @@
-ghost use Rattle.std.specs.Prelude.{◌≡◌, ◌≤◌, ◌<◌, ◌∷◌, [], ℕ, length, slice_index};
+ghost use Rattle.std.specs.Prelude.{◌≡◌, ◌≢◌, ◌≤◌, ◌<◌, ◌∷◌, [], ℕ, length, slice_index};
 ghost use Rattle.blossom_match.specs.DualSets.{count};
 ghost use Rattle.blossom_match.specs.Trees.{outer_members};
 ghost use Rattle.blossom_match.specs.Heights.{HasCells};
@@ -19,6 +19,9 @@ use crate::search::SearchStep;
 use crate::slack_rows::lower_slack;
 use crate::state::Search;
 use crate::table::{DistTable, FAR};
+
+/// The vertices whose slacks are compared at once.
+const BLOCK: usize = 64;
 
 /// A change of duals, in halves of a step, and the step that it makes possible.
 #[derive(Clone, Copy, Drop)]
@@ -182,12 +185,31 @@ fn place_shown(heights: &[u32], reach: &[u32], mask: &[u32], slack: u32) -> u32
     ensures within { result < length reach.now }
     ensures exact { slack ≡ masked_slack heights.now reach.now mask.now result }
 {
-    for x in 0..reach.len() {
+    for x in block_shown(heights, reach, mask, slack)..reach.len() {
         if lower_slack(heights[x], reach[x]).max(mask[x]) == slack {
             return x as u32;
         }
     }
     unreachable!()
+}
+
+/// Returns the start of the first block that shows the slack or less, or the last block's end.
+fn block_shown(heights: &[u32], reach: &[u32], mask: &[u32], slack: u32) -> usize
+    requires cells { length heights.now ≡ length reach.now }
+    requires masked { length mask.now ≡ length reach.now }
+    requires few { length reach.now ≤ MAX_PLACES }
+    ensures within { result ≤ length reach.now }
+    ensures none { (x : ℕ) → x < result → slack ≢ masked_slack heights.now reach.now mask.now x }
+{
+    let mut at = 0;
+    while at + BLOCK <= reach.len() {
+        let end = at + BLOCK;
+        if least_shown(&heights[at..end], &reach[at..end], &mask[at..end]) <= slack {
+            return at;
+        }
+        at = end;
+    }
+    at
 }
 
 /// Returns the least of a candidate and those at the outer vertices.
