@@ -28,27 +28,19 @@ fn change_duals(s: Search, by: u32) -> Search
         s.heights.items }
     ensures { ChangesDuals by (search_value s) (search_value result) }
 {
-    let Search {
-        sets,
-        root,
-        tree,
-        rest,
-        free,
-        heights,
-    } = s;
-    let mut changed_heights = heights;
-    change_heights(&sets, root, &tree, by, &mut changed_heights);
-    let mut changed = tree;
+    let mut changed_heights = s.heights;
+    change_heights(&s.sets, s.root, &s.tree, by, &mut changed_heights);
+    let mut changed = s.tree;
     change_branches(&mut changed, by);
     Search {
-        sets,
+        sets: s.sets,
         root: Handle {
-            key: root.key,
-            dual: root.dual + by,
+            key: s.root.key,
+            dual: s.root.dual + by,
         },
         tree: changed,
-        rest,
-        free,
+        rest: s.rest,
+        free: s.free,
         heights: changed_heights,
     }
 }

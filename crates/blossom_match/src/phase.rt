@@ -63,21 +63,15 @@ pub fn begin(alloc: Global, t: &DistTable, place: u32, from: Pairing) -> Result<
     ensures { IfOk result (λ s. BeginsSearch t.now place (matches_in from.sets from.matches.items)
         from.free.items from.heights.items (search_value s)) }
 {
-    let Pairing {
-        sets,
-        matches,
-        free,
-        heights,
-    } = from;
-    let mut slots = sets;
-    let root = single(alloc, &mut slots, t, place, &heights)?;
+    let mut slots = from.sets;
+    let root = single(alloc, &mut slots, t, place, &from.heights)?;
     Ok(Search {
         sets: slots,
         root,
         tree: Vec::new(alloc),
-        rest: matches,
-        free,
-        heights,
+        rest: from.matches,
+        free: from.free,
+        heights: from.heights,
     })
 }
 
