@@ -1,4 +1,4 @@
-ghost use Rattle.std.specs.Prelude.{◌≡◌, ◌≤◌, ◌<◌, ◌+◌, length, IfOk};
+ghost use Rattle.std.specs.Prelude.{◌≡◌, ◌≤◌, ◌<◌, ◌+◌, length, false, IsTrue, IfOk, IfSome};
 ghost use Rattle.std.specs.Vec.Iter.{into_iter_items};
 ghost use Rattle.blossom_match.specs.DualSets.{count};
 ghost use Rattle.blossom_match.specs.MatchedSets.{match_members, matches_along, MatchHolds};
@@ -15,6 +15,18 @@ pub struct Match {
     pub first: Handle,
     pub second: Handle,
     pub link: TightEdge,
+}
+
+impl Match {
+    /// Returns whether one of the two sets holds a vertex.
+    fn holds(self, sets: &Sets, place: u32) -> bool
+        ensures yes { IsTrue result → 1 ≤ count place (match_in sets.now self).first.members
+            + count place (match_in sets.now self).second.members }
+        ensures no { result ≡ false → (count place (match_in sets.now self).first.members ≡ 0)
+            × (count place (match_in sets.now self).second.members ≡ 0) }
+    {
+        self.first.holds(sets, place) || self.second.holds(sets, place)
+    }
 }
 
 /// Matches the parts two by two; a last single part is left out.
@@ -42,12 +54,29 @@ fn match_with(sets: &Sets, matches: &[Match], place: u32) -> usize
     ensures within { result < length matches.now }
     ensures there { MatchHolds place (matches_in sets.now matches.now) result }
 {
+    if let Some(i) = match_from(sets, matches, place) {
+        return i;
+    }
     for (i, c) in matches.iter().enumerate() {
-        if c.first.holds(sets, place) || c.second.holds(sets, place) {
+        if c.holds(sets, place) {
             return i;
         }
     }
     unreachable!()
+}
+
+/// Returns the index of a match that holds a vertex, if its edge has the vertex: one of two vertices does.
+fn match_from(sets: &Sets, matches: &[Match], place: u32) -> Option<usize>
+    ensures { IfSome result (λ i. (i < length matches.now)
+        × MatchHolds place (matches_in sets.now matches.now) i) }
+{
+    for (i, c) in matches.iter().enumerate() {
+        let ends = c.link.from == place || c.link.to == place;
+        if ends && c.holds(sets, place) {
+            return Some(i);
+        }
+    }
+    None
 }
 
 /// Removes the match that holds a vertex, and returns it.
