@@ -32,12 +32,11 @@ fn change_duals(s: Search, by: u32) -> Search
     change_heights(&s.sets, s.root, &s.tree, by, &mut changed_heights);
     let mut changed = s.tree;
     change_branches(&mut changed, by);
+    let mut root = s.root;
+    root.dual += by;
     Search {
         sets: s.sets,
-        root: Handle {
-            key: s.root.key,
-            dual: s.root.dual + by,
-        },
+        root,
         tree: changed,
         rest: s.rest,
         free: s.free,

@@ -115,10 +115,7 @@ fn settle(alloc: Global, t: &DistTable, place: u32, from: Pairing) -> Result<Pai
     let raised = raise_dual(t, place, from);
     match tight_with(t, place, &raised) {
         None => Ok(raised),
-        Some(other) => {
-            let paired = pair(alloc, t, place, other, raised)?;
-            Ok(paired)
-        }
+        Some(other) => pair(alloc, t, place, other, raised),
     }
 }
 

@@ -3,7 +3,6 @@ ghost use Rattle.blossom_match.specs.Tables.{HasTriangleInequality};
 ghost use Rattle.blossom_match.specs.Matchings.{IsOptimalMatching};
 
 use crate::pairing::find_matches;
-use crate::state::Pairing;
 use crate::table::DistTable;
 use crate::taking::take_matches;
 use design_model::{Items, Memory, Numbers};
@@ -42,14 +41,10 @@ pub fn match_all(alloc: Global, t: &DistTable) -> Result<Matching, Memory>
     requires triangles { HasTriangleInequality t.now }
     ensures { IfOk result (λ m. IsOptimalMatching t.now m.pairs m.moats) }
 {
-    let Pairing {
-        sets,
-        matches,
-        free: _,
-        heights: _,
-    } = find_matches(alloc, t)?;
+    let found = find_matches(alloc, t)?;
+    let matches = found.matches;
     let mut pairs = Pairs::new(alloc);
     let mut moats = Moats::new(alloc);
-    take_matches(alloc, &sets, matches, &mut pairs, &mut moats)?;
+    take_matches(alloc, &found.sets, matches, &mut pairs, &mut moats)?;
     Ok(Matching { pairs, moats })
 }
