@@ -1,10 +1,12 @@
-ghost use Rattle.std.specs.Prelude.{◌≡◌, ◌∷◌, ◌<◌, ◌≤◌, [], IfOk, IfSome, IsSome, length, map, string_bytes, true};
+ghost use Rattle.std.specs.Prelude.{◌≡◌, ◌∷◌, ◌<◌, ◌≤◌, [], Ok, IfOk, IfSome, IsSome, length, map, string_bytes, true};
 ghost use Rattle.design_model.specs.OutOfMemory.{IsSpecified};
 ghost use Rattle.drawing_commands.specs.DrawingEditing.{IsEdited, bad_edit_is_out_of_memory, drawing_edit_order, drawing_edit_plan, drawing_edit_read, edited_plan, edits_applied};
 ghost use Rattle.drawing_commands.specs.DrawingEditWords.{drawing_edits_of, parsed_drawing_edit, parsed_drawing_edits};
 ghost use Rattle.drawing_edits.specs.EditedDrawings.{IsDrawingEdit, edited_drawing};
 ghost use Rattle.drawing_edits.specs.EditFaults.{edit_is_out_of_memory};
 ghost use Rattle.drawing_text.specs.declared.limits.TheConstants.{MAX_TEXT};
+ghost use Rattle.drawing_text.specs.DrawingText.{drawing_of};
+ghost use Rattle.drawing_text.specs.EndTexts.{drawn_text};
 ghost use Rattle.line_graph.specs.EndOrders.{HasOrderedEnds};
 ghost use Rattle.line_graph.specs.JoinedDrawings.{is_joined};
 ghost use Rattle.outside_io.specs.Files.{IsFileName};
@@ -15,7 +17,7 @@ ghost use Rattle.program_shell.specs.StepOutcomes.{RunsPlan, RunsPurePlan};
 use crate::bad_edit::BadEdit;
 use crate::drawing_edit_words::parse_drawing_edit;
 use crate::edit_failures::edit_failure;
-use design_model::Memory;
+use design_model::{Bytes, Memory};
 use drawing_edits::{DrawingEdit, EditFault, edit_drawing, edits_keep_ends_by_block};
 use drawing_inputs::drawing_failure;
 use drawing_text::{print_drawn, read_drawing, texts_order_ends};
@@ -197,8 +199,6 @@ fn edited_product<'a>(
     requires ordered { HasOrderedEnds drawing.now }
     ensures { IfOk result (λ product. IsEdited output.now drawing.now (product_value product)) }
 {
-    drawing.keeps_limits();
-    joined_drawings_stay();
     let pieces = pieces(alloc, drawing)?;
     let report = print_migration(
         alloc,
@@ -206,11 +206,24 @@ fn edited_product<'a>(
         pieces.len(),
         drawing_cost(drawing),
     )?;
-    let content = print_drawn(alloc, drawing, drawing)?;
+    let content = text_of(alloc, drawing)?;
     let written = Output {
         name: output,
         content,
     };
     let product = one_output(alloc, written, report)?;
     Ok(product)
+}
+
+/// Returns the canonical text of a joined drawing, which is read as that drawing.
+fn text_of(alloc: Global, drawing: &Drawing) -> Result<Bytes, Memory>
+    requires joined { is_joined drawing.now ≡ true }
+    requires ordered { HasOrderedEnds drawing.now }
+    ensures value { IfOk result (λ text. text ≡ drawn_text drawing.now) }
+    ensures again { IfOk result (λ text. drawing_of (drawn_text drawing.now) ≡ Ok drawing.now) }
+{
+    drawing.keeps_limits();
+    joined_drawings_stay();
+    let text = print_drawn(alloc, drawing, drawing)?;
+    Ok(text)
 }
