@@ -7,6 +7,11 @@ pub mod PieceLemmas
 pub mod OrderLemmas
 pub mod KeptEndLemmas
 pub mod EndOrderLemmas
+pub mod BlockGroupLemmas
+pub mod DrawnAgainLemmas
+pub mod LineDrawnLemmas
+pub mod ValidRedrawLemmas
 mod EditFacts
 mod PlaceFacts
 mod KeptEndFacts
+mod ValidRedrawFacts

@@ -12,3 +12,5 @@ pub mod PieceOrders
 pub mod EditedDrawings
 -- What edits keep of starts and ends.
 pub mod KeptEnds
+-- What is drawn again as it is.
+pub mod ValidRedraws

@@ -12,10 +12,14 @@ mod moved_lines;
 mod order_theorems;
 mod piece_orders;
 mod placed_ends;
+mod redraw_theorems;
 mod redrawing;
 
 pub use drawing_edit::{DrawingEdit, edit_drawing};
 pub use edit_fault::EditFault;
 pub use end_theorems::{edits_keep_ends_by_block, placed_ends_are_kept, redrawn_has_ends};
 pub use order_theorems::{orders_keep_lines, pieces_come_before, pieces_in_order_are_pieces};
+pub use redraw_theorems::{
+    lines_in_order_are_drawn, lines_within_limits_are_drawn, valid_drawings_are_redrawn,
+};
 pub use redrawing::{draw_lines, joined_with_ends, redraw};
