@@ -27,5 +27,4 @@ pub mod RepeatLemmas
 pub mod BlockPointLemmas
 pub mod SnappedLinesLemmas
 pub mod PlacedEndLemmas
-pub mod DrawnAgainLemmas
 pub mod SecondSnapLemmas

@@ -21,6 +21,7 @@ use Rattle.line_sections.specs.declared.spot.Spot.{Spot}
 use Rattle.line_sections.specs.Lines.{LineValue}
 use Rattle.line_sections.specs.Sections.{all_sections, has_points, is_shared_point, line_sections, listed_in, sections_from, sections_of, sections_with_first}
 use Rattle.step_splitter.specs.Chains.{last_point_or}
+use Rattle.drawing_edits.specs.ValidRedraws.{LinesInOrderAreDrawn}
 use Rattle.drawing_repairs.specs.declared.snap_fault.SnapFault.{SnapFault}
 use Rattle.drawing_repairs.specs.declared.snapping.SnappedDrawing.{SnappedDrawing}
 use Rattle.drawing_repairs.specs.declared.vanished.VanishedLine.{VanishedLine}
@@ -30,7 +31,6 @@ use Rattle.drawing_repairs.specs.Listings.{listed_line, listed_lines}
 use Rattle.drawing_repairs.specs.MovedLines.{block_anchors, changed_in, moved_line, moved_lines, vanished_from}
 use Rattle.drawing_repairs.specs.SecondSnaps.{SnappedDrawingsStay}
 use Rattle.drawing_repairs.specs.Snaps.{joined_snap, kept_lines, snap_of, snap_value, snapped_lines, unless_vanished, within_limits}
-use Rattle.drawing_repairs.proofs.DrawnAgainLemmas.{drawn_again, rise_all}
 use Rattle.drawing_repairs.proofs.JoiningLemmas.{joined_there, joined_with}
 use Rattle.drawing_repairs.proofs.RepeatLemmas.{same_is}
 use Rattle.drawing_repairs.proofs.SnappedLinesLemmas.{none_moves, nothing_changes, snapped_points_stay, twice_is_once}
@@ -210,12 +210,13 @@ snap_by gap d starts ends moved drawn joined kept made joins =
     ∙ ap (λ (r : Result DrawingValue SnapFault). and_then r (λ (j : DrawingValue). Ok (snap_value gap d.lines moved drawn j))) joins)
 
 -- the second snap of lines that were drawn in the order of their blocks
-second_snap : (gap : ℕ) (d : DrawingValue) (starts ends : List Spot) (moved : List LineValue) (drawn joined : DrawingValue)
+second_snap : LinesInOrderAreDrawn → (gap : ℕ) (d : DrawingValue) (starts ends : List Spot) (moved : List LineValue)
+    → (drawn joined : DrawingValue)
     → KeepsDrawingLimits d → kept_lines gap d.lines ≡ Ok moved
     → drawn_lines (record d { lines = listed_lines gap moved }) ≡ Ok drawn
     → joined_snap drawn (anchored_spots gap d.lines starts) (anchored_spots gap d.lines ends) ≡ Ok joined
     → snap_of gap drawn joined.starts joined.ends ≡ Ok (record { drawn = drawn; joined = joined; moved = []; listed = [] })
-second_snap gap d starts ends moved drawn joined keeps kept made joins =
+second_snap drawn_as gap d starts ends moved drawn joined keeps kept made joins =
     let lines : List LineValue = listed_lines gap moved in
     let once : snapped_lines gap d.lines ≡ Ok lines =
     ap (λ (r : Result (List LineValue) SnapFault). and_then r (λ (m : List LineValue). Ok (listed_lines gap m))) kept in
@@ -231,7 +232,7 @@ second_snap gap d starts ends moved drawn joined keeps kept made joins =
     let listed_again : listed_lines gap lines ≡ lines =
     subst (λ (m : List LineValue). listed_lines gap m ≡ lines) stays (ok_same (listed_lines gap again.0) lines again.2) in
     let drawn_is : drawn ≡ record d { lines = lines; starts = []; ends = [] } =
-    drawn_again (record d { lines = lines }) drawn (rise_all (length d.threads) lines (ordered moves) (there moves)) made in
+    drawn_as (record d { lines = lines }) drawn (ordered moves) (there moves) made in
     let lines_are : drawn.lines ≡ lines = ap (λ (e : DrawingValue). e.lines) drawn_is in
     let none : HasNoEnds drawn = record {
       starts = ap (λ (e : DrawingValue). e.starts) drawn_is;
@@ -278,14 +279,14 @@ second_snap gap d starts ends moved drawn joined keeps kept made joins =
         subst (λ (m : List LineValue). All (λ (l : LineValue). l.block < length d.threads) (listed_lines gap m)) moves
         (still_there gap (length d.threads) d.lines (moved_lines gap d.lines) d.lines keeps.there)
 
-pub drawings_stay : SnappedDrawingsStay
-drawings_stay gap d starts ends snap keeps is =
+pub drawings_stay : LinesInOrderAreDrawn → SnappedDrawingsStay
+drawings_stay drawn_as gap d starts ends snap keeps is =
     let one = then_parts (kept_lines gap d.lines) _ snap is in
     let two = then_parts (within_limits (drawn_lines (record d { lines = listed_lines gap one.0 }))) _ snap one.2 in
     let three = then_parts (joined_snap two.0 (anchored_spots gap d.lines starts) (anchored_spots gap d.lines ends)) _ snap two.2 in
     let whole = ok_value (snap_value gap d.lines one.0 two.0 three.0) snap three.2 in
     subst (λ (s : SnappedDrawing). snap_of gap s.drawn s.joined.starts s.joined.ends ≡ Ok (record s { moved = []; listed = [] })) whole
-    (second_snap gap d starts ends one.0 two.0 three.0 keeps one.1
+    (second_snap drawn_as gap d starts ends one.0 two.0 three.0 keeps one.1
     (limited (drawn_lines (record d { lines = listed_lines gap one.0 })) two.0 two.1) three.1)
   where
     ok_value : (a b : SnappedDrawing) → ◌≡◌ {A = Result SnappedDrawing SnapFault} (Ok a) (Ok b) → a ≡ b
