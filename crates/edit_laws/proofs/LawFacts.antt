@@ -1,12 +1,12 @@
 -- What the theorems exclude.
-use Rattle.std.proofs.Common.{◌≡◌, ◌∙◌, ◌+◌, ◌<◌, ℕ, ℤ, pos, negsuc, List, [], ◌∷◌, length, map, refl, arith, sym}
-use Rattle.design_edits.specs.Moves.{shift_point, shifted, turn_point}
+use Rattle.std.proofs.Common.{◌≡◌, ◌+◌, ℕ, ℤ, pos, negsuc, List, [], ◌∷◌, map, refl, arith}
+use Rattle.design_edits.specs.Moves.{shift_point, turn_point}
 use Rattle.design_model.specs.declared.point.Point.{Point}
 use Rattle.drawing_edits.specs.MovedDrawings.{turned_drawing}
 use Rattle.line_graph.specs.Drawings.{DrawingValue}
 use Rattle.line_graph.specs.Needles.{needle_points}
 use Rattle.line_graph.specs.Walks.{cost_of_line}
-use Rattle.edit_laws.specs.CostLaws.{KeepsCosts, TurnKeepsCosts}
+use Rattle.edit_laws.specs.CostLaws.{TurnKeepsCosts}
 
 -- the point with those numbers
 abbrev at : ℤ → ℤ → Point

@@ -5,4 +5,7 @@ pub mod MovedActs
 pub mod MovedCosts
 pub mod ShiftLemmas
 pub mod TurnLemmas
+pub mod MovedJoints
+pub mod MoveLemmas
 mod LawFacts
+mod MoveFacts

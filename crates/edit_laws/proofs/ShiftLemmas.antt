@@ -57,7 +57,7 @@ equal_kept a b d = alike (int_eq (a +ℤ d) (b +ℤ d)) (int_eq a b)
     (λ is. (Decides-int_eq a b).1 (cancelled a b d ((Decides-int_eq (a +ℤ d) (b +ℤ d)).0 is)))
     (λ is. (Decides-int_eq (a +ℤ d) (b +ℤ d)).1 (ap (λ (z : ℤ). z +ℤ d) ((Decides-int_eq a b).0 is)))
 
-same_kept : (dx dy : ℤ) (p q : Point) → is_same_point (shift_point dx dy p) (shift_point dx dy q) ≡ is_same_point p q
+pub same_kept : (dx dy : ℤ) (p q : Point) → is_same_point (shift_point dx dy p) (shift_point dx dy q) ≡ is_same_point p q
 same_kept dx dy p q = ap (λ (t : Bool). t && int_eq (p.y +ℤ dy) (q.y +ℤ dy)) (equal_kept p.x q.x dx)
     ∙ ap (λ (t : Bool). int_eq p.x q.x && t) (equal_kept p.y q.y dy)
 

@@ -47,7 +47,7 @@ quarter_size : (p q : Point) → move_size (move_between (quarter_point p) (quar
 quarter_size p q = ap (λ (n : ℕ). max n (unsigned_abs (q.x -ℤ p.x))) (size_negated p.y q.y)
     ∙ max_turned (unsigned_abs (q.y -ℤ p.y)) (unsigned_abs (q.x -ℤ p.x))
 
-turn_same : (quarters : ℕ) (p q : Point) → is_same_point (turn_point quarters p) (turn_point quarters q) ≡ is_same_point p q
+pub turn_same : (quarters : ℕ) (p q : Point) → is_same_point (turn_point quarters p) (turn_point quarters q) ≡ is_same_point p q
 turn_same zero p q = refl
 turn_same (suc quarters) p q = quarter_same (turn_point quarters p) (turn_point quarters q) ∙ turn_same quarters p q
 
@@ -61,7 +61,7 @@ turn_costs quarters d = costs_kept (turn_point quarters) (turn_same quarters)
     (λ step p q. ap (λ (n : ℕ). div_ceil n step) (turn_size quarters p q)) d
 
 -- a mirroring
-mirror_same : (a : Axis) (p q : Point) → is_same_point (mirror_point a p) (mirror_point a q) ≡ is_same_point p q
+pub mirror_same : (a : Axis) (p q : Point) → is_same_point (mirror_point a p) (mirror_point a q) ≡ is_same_point p q
 mirror_same axis.X p q = ap (λ (t : Bool). t && int_eq p.y q.y) (equal_negated p.x q.x)
 mirror_same axis.Y p q = ap (λ (t : Bool). int_eq p.x q.x && t) (equal_negated p.y q.y)
 

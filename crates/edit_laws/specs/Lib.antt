@@ -2,3 +2,5 @@
 pub mod ShiftLaws
 -- What turns and mirrorings keep.
 pub mod CostLaws
+-- Moved drawings that edits draw exactly.
+pub mod MoveLaws
