@@ -28,7 +28,7 @@ spot_there : (there b : Bool) (x y : DrawKind) (spots : List Spot) (put : List S
 spot_there true b x y spots put more e is = refl
 spot_there false b x y spots put more e is = absurd (let no : ⊥ = cc in no)
 
-starts_put : (d : DrawingValue) (spots : List Spot) (e : DrawingValue) → with_walk_ends true d spots ≡ Ok e
+pub starts_put : (d : DrawingValue) (spots : List Spot) (e : DrawingValue) → with_walk_ends true d spots ≡ Ok e
     → e ≡ record d { starts = d.starts ++ spots }
 starts_put d [] e is =
     let same : d ≡ e = cc in

@@ -3,6 +3,7 @@ mod CellFacts
 mod SnapLawFacts
 mod EndGroupFacts
 mod SpacedFacts
+mod SpacedAnswerFacts
 pub mod JunctionLemmas
 pub mod SpacingLemmas
 pub mod SharedLemmas
@@ -10,6 +11,8 @@ pub mod SavedLemmas
 pub mod KeptEndLemmas
 pub mod KeptCountLemmas
 pub mod KeptSectionLemmas
+pub mod SpacedLimitLemmas
+pub mod SpacedAnswerLemmas
 pub mod PieceLemmas
 pub mod MoveLemmas
 pub mod JoiningLemmas

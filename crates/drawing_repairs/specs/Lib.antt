@@ -15,3 +15,4 @@ pub mod SecondSnaps
 pub mod SpacedLines
 pub mod SpacedDrawings
 pub mod SpacingLaws
+pub mod SpacedAnswers

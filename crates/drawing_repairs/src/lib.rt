@@ -14,6 +14,7 @@ mod repeated_snaps;
 mod second_snaps;
 mod snap_fault;
 mod snapping;
+mod spaced_answers;
 mod spaced_drawing;
 mod spacing;
 mod spacing_theorems;
@@ -24,6 +25,7 @@ pub use repeated_snaps::snapping_twice_is_once;
 pub use second_snaps::snapped_drawings_stay;
 pub use snap_fault::SnapFault;
 pub use snapping::{SnappedDrawing, snap};
+pub use spaced_answers::{spaced_lines_keep_limits, spacing_refuses_none};
 pub use spaced_drawing::{SpacedDrawing, space};
 pub use spacing_theorems::{
     spaced_lines_save_steps, spaced_lines_stay_near, spaced_sections_keep_ends,
