@@ -4,18 +4,18 @@ use Rattle.design_model.specs.declared.point.Point.{Point}
 use Rattle.line_graph.specs.Drawings.{DrawingValue}
 use Rattle.line_graph.specs.PieceGraphs.{PieceValue}
 use Rattle.picture_parts.specs.Lengths.{length_of, square_of, whole_root}
-use Rattle.piece_stitches.specs.StitchSummaries.{is_short, no_stitches, stitch_lengths, summary_of_lines, with_stitches}
+use Rattle.piece_stitches.specs.StitchSummaries.{is_short, stitch_lengths, summary_of_lengths, summary_of_lines}
 use Rattle.piece_stitches.specs.Travels.{travel_between}
 
 abbrev at : ℤ → ℤ → Point
 at x y = record { x = x; y = y }
 
 -- three stitches, of which one is below 1 mm
-pub known_summary : with_stitches no_stitches (2500 ∷ 999 ∷ 1000 ∷ [])
+pub known_summary : summary_of_lengths (2500 ∷ 999 ∷ 1000 ∷ [])
     ≡ record { stitches = 3; shortest = 999; longest = 2500; short = 1; thread = 4499 }
 known_summary = refl
 
-pub known_none : with_stitches no_stitches [] ≡ record { stitches = 0; shortest = 0; longest = 0; short = 0; thread = 0 }
+pub known_none : summary_of_lengths [] ≡ record { stitches = 0; shortest = 0; longest = 0; short = 0; thread = 0 }
 known_none = refl
 
 pub known_short : (is_short 999 ≡ true) × (is_short 1000 ≡ false)

@@ -1,6 +1,6 @@
 -- Summaries of stitches: how many there are, how long the shortest and the longest are, how many
 -- are shorter than 1 mm, and the thread that all need. Lengths are in thousandths of a millimetre.
-use Rattle.std.specs.Prelude.{ℕ, ◌+◌, ◌*◌, ◌^◌, ◌≤◌, ◌==◌, ◌||◌, Bool, nat_lt, List, [], ◌∷◌, if◌then◌else◌}
+use Rattle.std.specs.Prelude.{ℕ, max, min, Bool, nat_lt, List, [], ◌∷◌, filter, length, sum_by}
 use Rattle.std.specs.List.{flat_map}
 use Rattle.design_model.specs.declared.point.Point.{Point}
 use Rattle.line_graph.specs.Drawings.{DrawingValue}
@@ -11,29 +11,6 @@ use Rattle.piece_stitches.specs.declared.stitch_summary.StitchSummary.{StitchSum
 -- A length below 1 mm.
 abbrev pub is_short : ℕ → Bool
 is_short length = nat_lt length 1000
-
--- The summary of no stitches. Its shortest and its longest stitch are 0.
-abbrev pub no_stitches : StitchSummary
-no_stitches = record { stitches = 0; shortest = 0; longest = 0; short = 0; thread = 0 }
-
--- The shorter of two lengths, of which there is no first one yet where the count is 0.
-abbrev pub shorter : (count best length : ℕ) → ℕ
-shorter count best length = if count == 0 || nat_lt length best then length else best
-
--- A summary with one more stitch, of the given length.
-abbrev pub with_stitch : StitchSummary → ℕ → StitchSummary
-with_stitch s length = record {
-  stitches = s.stitches + 1;
-  shortest = shorter s.stitches s.shortest length;
-  longest = if nat_lt s.longest length then length else s.longest;
-  short = if is_short length then s.short + 1 else s.short;
-  thread = s.thread + length;
-}
-
--- A summary with stitches of the given lengths.
-abbrev pub with_stitches : StitchSummary → List ℕ → StitchSummary
-with_stitches s [] = s
-with_stitches s (length ∷ rest) = with_stitches (with_stitch s length) rest
 
 -- The lengths of the stitches from the point p through the given points, in order.
 abbrev pub lengths_after : Point → List Point → List ℕ
@@ -49,12 +26,31 @@ stitch_lengths (p ∷ rest) = lengths_after p rest
 abbrev pub lengths_of_lines : DrawingValue → List ℕ → List ℕ
 lengths_of_lines d lines = flat_map (λ line. stitch_lengths (needles_of_line d line)) lines
 
+-- The least of a number and further ones.
+abbrev pub least_from : ℕ → List ℕ → ℕ
+least_from best [] = best
+least_from best (length ∷ rest) = least_from (min best length) rest
+
+-- The length of the shortest stitch, or 0 if there is none.
+abbrev pub shortest_of : List ℕ → ℕ
+shortest_of [] = 0
+shortest_of (length ∷ rest) = least_from length rest
+
+-- The length of the longest stitch, or 0 if there is none.
+abbrev pub longest_of : List ℕ → ℕ
+longest_of [] = 0
+longest_of (length ∷ rest) = max length (longest_of rest)
+
+-- The summary of stitches of the given lengths.
+abbrev pub summary_of_lengths : List ℕ → StitchSummary
+summary_of_lengths lengths = record {
+  stitches = length lengths;
+  shortest = shortest_of lengths;
+  longest = longest_of lengths;
+  short = length (filter is_short lengths);
+  thread = sum_by (λ length. length) lengths;
+}
+
 -- The summary of the stitches of lines of a drawing, each line sewn once.
 abbrev pub summary_of_lines : DrawingValue → List ℕ → StitchSummary
-summary_of_lines d lines = with_stitches no_stitches (lengths_of_lines d lines)
-
--- A summary that holds together: no more stitches are short than there are, and none is as long as
--- 2 ^ 64.
-pub record IsSummary (s : StitchSummary) : Type 0 where
-  pub short : s.short ≤ s.stitches
-  pub thread : s.thread ≤ s.stitches * 2 ^ 64
+summary_of_lines d lines = summary_of_lengths (lengths_of_lines d lines)

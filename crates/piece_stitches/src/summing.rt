@@ -1,7 +1,8 @@
 ghost use Rattle.std.specs.Prelude.{◌≡◌, ◌+◌, ◌*◌, ◌^◌, ◌<◌, ◌≤◌, All, IfOk, length};
 ghost use Rattle.line_graph.specs.declared.limits.TheConstants.{MAX_COST, MAX_LINES};
 ghost use Rattle.line_graph.specs.Walks.{needles_of_line};
-ghost use Rattle.piece_stitches.specs.StitchSummaries.{IsSummary, lengths_after, no_stitches, shorter, stitch_lengths, summary_of_lines, with_stitch, with_stitches};
+ghost use Rattle.piece_stitches.specs.GrowingSummaries.{IsSummary, no_stitches, shorter, with_stitch, with_stitches};
+ghost use Rattle.piece_stitches.specs.StitchSummaries.{lengths_after, stitch_lengths, summary_of_lines};
 
 use crate::stitch_summary::StitchSummary;
 use design_model::{Memory, Point};
@@ -112,8 +113,8 @@ fn with_length(summary: StitchSummary, length: u128) -> StitchSummary
 fn shorter_of(summary: &StitchSummary, length: u128) -> u128
     ensures { result ≡ shorter summary.now.stitches summary.now.shortest length }
 {
-    if summary.stitches == 0 || length < summary.shortest {
+    if summary.stitches == 0 {
         return length;
     }
-    summary.shortest
+    summary.shortest.min(length)
 }

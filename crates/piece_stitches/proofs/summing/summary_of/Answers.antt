@@ -2,7 +2,8 @@ use Rattle.std.proofs.Common.{◌∙◌}
 use native.Mathlib.Omega.{arith}
 use Rattle.std.proofs.lemmas.List.Elements.{All-tail}
 use Rattle.piece_stitches.proofs.PieceLemmas.{IsLineOf}
-use Rattle.piece_stitches.proofs.SummaryLemmas.{with_line_first}
+use Rattle.piece_stitches.proofs.SummaryLemmas.{grown_from_none, with_line_first}
+use Rattle.piece_stitches.specs.StitchSummaries.{lengths_of_lines}
 use Rattle.piece_stitches.proofs.summing.summary_of.Goals as goal
 
 pub loop-line-preserved : goal.loop-line-preserved
@@ -14,3 +15,7 @@ loop-line-preserved c = record {
   summed = rw c.in_ok-summary.ensures.value (with_line_first c.args.d.now c.loop-line.summary c.in-Some.line c.in-Some.after.now)
       ∙ rw c.in-Some.ensures.some at c.loop-line.invariant.summed;
 }
+
+pub returns-clause-value : goal.returns-clause-value
+returns-clause-value c = rw c.in_default.ensures.none at c.loop-line.invariant.summed
+    ∙ grown_from_none (lengths_of_lines c.args.d.now c.args.lines.now)

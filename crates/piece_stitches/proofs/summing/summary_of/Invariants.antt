@@ -1,5 +1,6 @@
 use Rattle.std.proofs.Common.{◌≡◌, ◌+◌, ◌*◌, ◌<◌, ◌≤◌, All, length}
-use Rattle.piece_stitches.specs.StitchSummaries.{IsSummary, lengths_of_lines, no_stitches, with_stitches}
+use Rattle.piece_stitches.specs.GrowingSummaries.{IsSummary, no_stitches, with_stitches}
+use Rattle.piece_stitches.specs.StitchSummaries.{lengths_of_lines}
 use Rattle.piece_stitches.proofs.summing.summary_of.Given as goal
 
 -- with the lines that are left, the summary becomes that of all lines

@@ -1,5 +1,6 @@
 use Rattle.std.proofs.Common.{◌≡◌, ◌+◌, ◌≤◌, length}
-use Rattle.piece_stitches.specs.StitchSummaries.{IsSummary, lengths_after, with_stitches}
+use Rattle.piece_stitches.specs.GrowingSummaries.{IsSummary, with_stitches}
+use Rattle.piece_stitches.specs.StitchSummaries.{lengths_after}
 use Rattle.piece_stitches.proofs.summing.with_needles_after.Given as goal
 
 -- with the needle points that are left, the summary becomes that of all
