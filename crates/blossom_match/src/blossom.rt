@@ -9,7 +9,7 @@ ghost use Rattle.blossom_match.specs.declared.table.TheConstants.{FAR};
 use crate::odd_set::{BlossomPart, Sets};
 use crate::slack_rows::{far_cells, merge, put};
 use crate::table::FAR;
-use design_model::Memory;
+use lists_and_numbers::Memory;
 use std::alloc::Global;
 use std::collections::VecDeque;
 

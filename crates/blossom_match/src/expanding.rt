@@ -9,7 +9,7 @@ use crate::blossom::{listed, part_with, turned_to};
 use crate::branches::{Branch, hang};
 use crate::matches::{Match, pair_off};
 use crate::odd_set::{BlossomPart, Handle, Sets};
-use design_model::Memory;
+use lists_and_numbers::Memory;
 use std::alloc::Global;
 use std::collections::VecDeque;
 

@@ -11,7 +11,7 @@ use crate::phase::begin;
 use crate::search::{finish, take_place};
 use crate::state::Pairing;
 use crate::table::{DistTable, MAX_DISTANCE};
-use design_model::Memory;
+use lists_and_numbers::Memory;
 use slab::Slab;
 use std::alloc::Global;
 

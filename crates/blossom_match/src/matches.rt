@@ -6,7 +6,7 @@ ghost use Rattle.blossom_match.specs.Slots.{match_in, matches_in, parts_in, Slot
 ghost use Rattle.blossom_match.specs.Trees.{RemovesMatch};
 
 use crate::odd_set::{BlossomPart, Handle, Sets, TightEdge};
-use design_model::Memory;
+use lists_and_numbers::Memory;
 use std::alloc::Global;
 
 /// Two odd sets that are matched by an edge from the first to the second.

@@ -5,7 +5,7 @@ ghost use Rattle.blossom_match.specs.Matchings.{IsOptimalMatching};
 use crate::pairing::find_matches;
 use crate::table::DistTable;
 use crate::taking::take_matches;
-use design_model::{Items, Memory, Numbers};
+use lists_and_numbers::{Items, Memory, Numbers};
 use std::alloc::Global;
 
 /// Two places that are matched.

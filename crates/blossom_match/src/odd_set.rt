@@ -8,7 +8,7 @@ ghost use Rattle.blossom_match.specs.Tables.{IsTable};
 use crate::blossom::row_of;
 use crate::slack_rows::single_row;
 use crate::table::DistTable;
-use design_model::Memory;
+use lists_and_numbers::Memory;
 use slab::Slab;
 use std::alloc::Global;
 

@@ -8,7 +8,7 @@ use crate::phase::pair_up;
 use crate::slack_rows::far_cells;
 use crate::state::Pairing;
 use crate::table::DistTable;
-use design_model::Memory;
+use lists_and_numbers::Memory;
 use std::alloc::Global;
 
 /// Returns matched sets that hold all vertices.

@@ -16,7 +16,7 @@ use crate::outer_slacks::{add_slacks_from, begin_slacks, lower_slacks, reset};
 use crate::search::{SearchStep, expand_at, finish, grow_to, shrink_by};
 use crate::state::{Pairing, Search};
 use crate::table::DistTable;
-use design_model::Memory;
+use lists_and_numbers::Memory;
 use std::alloc::Global;
 
 /// The result of a step: a search that continues, or the partial matching at its end.

@@ -13,7 +13,7 @@ use crate::outer_slacks::fold_slacks;
 use crate::shrinking::shrink;
 use crate::state::{Pairing, Search};
 use crate::table::DistTable;
-use design_model::Memory;
+use lists_and_numbers::Memory;
 use std::alloc::Global;
 
 /// A step of a search. `Augment`, `Grow` and `Shrink` use a tight edge from an outer set: to a free vertex, a

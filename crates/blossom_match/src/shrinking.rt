@@ -9,7 +9,7 @@ ghost use Rattle.blossom_match.specs.Trees.{all_dual_sets, one_if_both};
 use crate::blossom::listed;
 use crate::branches::{Branch, put_back};
 use crate::odd_set::{BlossomPart, Handle, Sets, TightEdge, blossom_of};
-use design_model::Memory;
+use lists_and_numbers::Memory;
 use std::alloc::Global;
 use std::collections::VecDeque;
 

@@ -6,7 +6,7 @@ ghost use Rattle.blossom_match.specs.Tables.{IsTable};
 ghost use Rattle.blossom_match.specs.declared.table.TheConstants.{FAR};
 
 use crate::table::{DistTable, FAR};
-use design_model::Memory;
+use lists_and_numbers::Memory;
 use std::alloc::Global;
 
 /// Returns a slack less a dual, at least 0; FAR stays FAR.

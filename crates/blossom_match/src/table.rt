@@ -2,7 +2,7 @@ ghost use Rattle.std.specs.Prelude.{◌≡◌, ◌≢◌, ◌+◌, ◌*◌, ◌<
 ghost use Rattle.blossom_match.specs.Tables.{after_set, entry, EntriesAre, IsTable};
 ghost use Rattle.blossom_match.specs.declared.table.TheConstants.{MAX_DISTANCE, MAX_PLACES};
 
-use design_model::Memory;
+use lists_and_numbers::Memory;
 use std::alloc::Global;
 use std::marker::Model;
 

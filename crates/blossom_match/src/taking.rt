@@ -9,7 +9,7 @@ use crate::matches::Match;
 use crate::matching::{Moat, Moats, Pair, Pairs};
 use crate::odd_set::{Handle, Sets, TightEdge};
 use crate::opening::{OpenedSet, open_at};
-use design_model::{Memory, Numbers};
+use lists_and_numbers::{Memory, Numbers};
 use std::alloc::Global;
 
 /// Appends the pairs inside a set and its moats, where its member `left` is paired outside.

@@ -7,7 +7,7 @@ use Rattle.line_graph.specs.declared.pass.Pass.{Pass}
 use Rattle.odd_cuts.specs.declared.certificate.PieceCert.{PieceCert}
 use Rattle.odd_cuts.specs.declared.cut.Cut.{Cut}
 use Rattle.certificate_text.specs.CertificateTexts.{certificate_text, cut_line_text, member_text, pass_text, passes_text, piece_text}
-use Rattle.design_model.specs.TextLines.{newline}
+use Rattle.lists_and_numbers.specs.TextLines.{newline}
 use Rattle.certificate_text.specs.ReadCertificates.{AreFew, HasFewItems}
 use Rattle.certificate_text.proofs.NumberWords.{pass_spaced}
 

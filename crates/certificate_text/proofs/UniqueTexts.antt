@@ -17,7 +17,7 @@ use Rattle.certificate_text.specs.CertificateLines.{parsed_cert_line}
 use Rattle.text_parts.specs.Parts.{parts_between}
 use Rattle.odd_cuts.specs.Certificates.{HasCanonicalText}
 use Rattle.certificate_text.specs.CertificateTexts.{certificate_text, cut_line_text, member_text, passes_text, piece_text}
-use Rattle.design_model.specs.TextLines.{newline}
+use Rattle.lists_and_numbers.specs.TextLines.{newline}
 use Rattle.odd_cuts.specs.Packings.{IsPlainCut}
 use Rattle.certificate_text.specs.ReadCertificates.{HasSmallNumbers, pieces_at_end, cert_of, draft_with_text_line, draft_with_line, pieces_after_lines, with_cut}
 use Rattle.certificate_text.proofs.ItemWords.{HasMember}

@@ -4,9 +4,9 @@ ghost use Rattle.certificate_text.specs.ReadCertificates.{HasSmallNumbers, cert_
 ghost use Rattle.odd_cuts.specs.Certificates.{HasCanonicalText};
 ghost use Rattle.certificate_text.specs.CertificateTexts.{certificate_text, cut_line_text, member_text, pass_text, passes_text, piece_text};
 
-use design_model::{Bytes, Memory};
 use itoa::Buffer;
 use line_graph::Pass;
+use lists_and_numbers::{Bytes, Memory};
 use odd_cuts::{Cert, Cut, PieceCert};
 use std::alloc::Global;
 

@@ -4,7 +4,7 @@ ghost use Rattle.certificate_text.specs.CertificateTexts.{certificate_text};
 ghost use Rattle.certificate_text.specs.ReadCertificates.{AreFew, ReadsCert, cert_of};
 
 use crate::draft::CertDraft;
-use design_model::Memory;
+use lists_and_numbers::Memory;
 use odd_cuts::Cert;
 use std::alloc::Global;
 use text_parts::split_line;

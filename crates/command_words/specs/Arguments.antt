@@ -2,9 +2,9 @@
 use Rattle.std.specs.Prelude.{ℕ, ℤ, pos, negsuc, unsigned_abs, Bool, true, false, ◌&&◌, ◌||◌, nat_le, List, [], ◌∷◌, ◌++◌, Option, Some, None, bytes_eq, codes, ◌==◌, if◌then◌else◌}
 use Rattle.design_edits.specs.declared.axis.Axis.TheVariants.{X, Y}
 use Rattle.design_edits.specs.declared.motion.TheConstants.{MAX_SHIFT}
-use Rattle.design_model.specs.declared.whole_number.Whole.{Whole}
-use Rattle.design_model.specs.declared.whole_number.Whole.TheVariants as whole
-use Rattle.design_model.specs.WholeNumbers.{parsed_whole}
+use Rattle.lists_and_numbers.specs.declared.whole_number.Whole.{Whole}
+use Rattle.lists_and_numbers.specs.declared.whole_number.Whole.TheVariants as whole
+use Rattle.lists_and_numbers.specs.WholeNumbers.{parsed_whole}
 use Rattle.command_words.specs.declared.request_words.TheConstants.{MAX_SAMPLE, MAX_SIDE}
 use Rattle.command_words.specs.Changes.{Change, cut, mirror, shift, split, thread, turn}
 

@@ -1,6 +1,6 @@
 ghost use Rattle.std.specs.Prelude.{◌≡◌, IfSome, option_map};
 ghost use Rattle.command_words.specs.Edits.{IsEditInBounds, change_of_edit};
-ghost use Rattle.design_model.specs.WholeNumbers.{parsed_whole};
+ghost use Rattle.lists_and_numbers.specs.WholeNumbers.{parsed_whole};
 ghost use Rattle.command_words.specs.Arguments.{natural_within, comma, parsed_named_edit, parsed_edit, parsed_mirror, split_at_byte, parsed_shift, parsed_block_thread, turn_if_some};
 
 use crate::number_words::{parse_integer, parse_natural};

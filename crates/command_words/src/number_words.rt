@@ -1,8 +1,8 @@
 ghost use Rattle.std.specs.Prelude.{◌≡◌, ◌≤◌, IfSome, unsigned_abs};
-ghost use Rattle.design_model.specs.WholeNumbers.{parsed_whole};
+ghost use Rattle.lists_and_numbers.specs.WholeNumbers.{parsed_whole};
 ghost use Rattle.command_words.specs.Arguments.{natural_within, natural_if_within, integer_within};
 
-use design_model::{Whole, parse_whole};
+use lists_and_numbers::{Whole, parse_whole};
 
 /// Parses an integer whose absolute value is at most `most`.
 pub fn parse_integer(most: u32, word: &[u8]) -> Option<i32>

@@ -2,7 +2,7 @@ ghost use Rattle.std.specs.Prelude.{◌≡◌, ◌+◌, ◌<◌, ◌≤◌, IfOk
 ghost use Rattle.cut_certificate.specs.MoatCuts.{AddsCuts, AreCutsTo, NoneBetween, members_from};
 ghost use Rattle.line_graph.specs.declared.limits.TheConstants.{MAX_LINES};
 
-use design_model::{Memory, Numbers};
+use lists_and_numbers::{Memory, Numbers};
 use odd_cuts::{Cut, Cuts};
 use std::alloc::Global;
 

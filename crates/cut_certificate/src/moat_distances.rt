@@ -6,7 +6,7 @@ ghost use Rattle.cut_certificate.specs.MoatDistances.{AreAllMoatDistances, HasRo
 use crate::single_moat::distances_of;
 use crate::terminal_state::{TerminalState, surround};
 use blossom_match::Moat;
-use design_model::Memory;
+use lists_and_numbers::Memory;
 use odd_paths::Rows;
 use std::alloc::Global;
 

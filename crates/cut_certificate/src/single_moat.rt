@@ -5,8 +5,8 @@ ghost use Rattle.line_graph.specs.declared.limits.TheConstants.{MAX_COST};
 
 use crate::terminal_state::{TerminalState, state_at};
 use blossom_match::Moat;
-use design_model::Memory;
 use line_graph::MAX_COST;
+use lists_and_numbers::Memory;
 use odd_paths::Rows;
 use std::alloc::Global;
 

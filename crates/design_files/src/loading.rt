@@ -3,8 +3,8 @@ ghost use Rattle.design_files.specs.Loading.{FeedsFile, Loads};
 ghost use Rattle.format_traits.specs.Feeding.{HasNothingFed};
 ghost use Rattle.outside_io.specs.Files.{IsFileName};
 
-use design_model::Memory;
 use format_traits::{Format, Loaded, ReadFault, begin_by, feed_by, finish_by};
+use lists_and_numbers::Memory;
 use outside_io::{GetFault, MAX_FILE, READ_SIZE, Store, read_next};
 
 /// Why no design was loaded.

@@ -8,6 +8,4 @@ pub mod ExtentLemmas
 mod BlockFacts
 pub mod BlockLemmas
 pub mod CommandLemmas
-mod WholeFacts
-pub mod WholeLemmas
 mod PushFacts

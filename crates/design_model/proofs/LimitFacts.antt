@@ -6,7 +6,7 @@ use Rattle.design_model.specs.declared.command.Command.TheVariants.{Stitch, Jump
 use Rattle.design_model.specs.declared.design.TheConstants.{MAX_COMMANDS, MAX_LABEL, MAX_THREADS}
 use Rattle.design_model.specs.declared.point.Point.{Point}
 use Rattle.design_model.specs.declared.point.TheConstants.{JUMP_LIMIT, NEEDLE_LIMIT}
-use Rattle.design_model.specs.declared.whole_number.TheConstants.{MAX_WHOLE}
+use Rattle.lists_and_numbers.specs.declared.whole_number.TheConstants.{MAX_WHOLE}
 use Rattle.design_model.specs.Commands.{is_command_in_range, command_with_point, command_accepts_point, target_of}
 use Rattle.design_model.specs.Designs.{DesignValue, KeepsLimits, thread_of}
 use Rattle.design_model.specs.Labels.{IsLabel, IsPrintable}

@@ -7,7 +7,7 @@ use Rattle.design_model.specs.declared.design.ModelFault.{ModelFault}
 use Rattle.design_model.specs.Commands.{is_command_in_range}
 use Rattle.design_model.specs.Designs.{DesignValue, KeepsLimits, Pushes, with_command}
 use Rattle.design_model.specs.Labels.{IsLabel}
-use Rattle.design_model.specs.OutOfMemory.{IsSpecified}
+use Rattle.lists_and_numbers.specs.OutOfMemory.{IsSpecified}
 use Rattle.std.specs.Prelude.{Result}
 
 -- a refusal leaves the design as it was

@@ -11,6 +11,3 @@ pub mod ActScanners
 pub mod Counts
 pub mod Extents
 pub mod Blocks
-pub mod WholeNumbers
-pub mod OutOfMemory
-pub mod TextLines

@@ -5,9 +5,9 @@ ghost use Rattle.design_model.specs.Acts.{acts_of, acts_along};
 use crate::act::NumberedAct;
 use crate::command::Command;
 use crate::design::Design;
-use crate::items::Acts;
-use crate::memory::Memory;
+use crate::lists::Acts;
 use crate::thread_state::ThreadState;
+use lists_and_numbers::Memory;
 use std::alloc::Global;
 
 /// Returns the acts of a design, each with the number of its command.

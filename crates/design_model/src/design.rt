@@ -4,9 +4,9 @@ ghost use Rattle.design_model.specs.Commands.{is_command_in_range, command_with_
 ghost use Rattle.design_model.specs.Labels.{IsLabel};
 
 use crate::command::Command;
-use crate::memory::Memory;
 use crate::point::Point;
 use arrayvec::ArrayVec;
+use lists_and_numbers::Memory;
 use std::alloc::{AllocFailed, Global};
 use std::marker::Model;
 

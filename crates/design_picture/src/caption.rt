@@ -2,7 +2,8 @@ ghost use Rattle.std.specs.Prelude.{◌≡◌, ◌++◌, OnOk};
 ghost use Rattle.design_picture.specs.Captions.{caption, counts_line, group_end, key_text, label_line, label_start, legend_start, lengths_line, scale_bar, size_words, title_end, title_start, title_text};
 
 use crate::pen::Pen;
-use design_model::{Bytes, Counts, Extent, Memory, height, width};
+use design_model::{Counts, Extent, height, width};
+use lists_and_numbers::{Bytes, Memory};
 use picture_parts::{Part, put, put_escaped};
 
 /// Appends the title of a picture, which is its label, and what it shows in words.

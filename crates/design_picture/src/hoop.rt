@@ -1,8 +1,9 @@
 ghost use Rattle.std.specs.Prelude.{◌≡◌, ◌++◌, ◌≤◌, OnOk};
 ghost use Rattle.design_picture.specs.Hoops.{fitting_class, hoop_as_fits, hoop_class, hoop_corner, hoop_edges, hoop_text, offset_text, over_class};
 
-use design_model::{Bytes, Extent, Memory, Point, height, width};
+use design_model::{Extent, Point, height, width};
 use hoop_check::Fit;
+use lists_and_numbers::{Bytes, Memory};
 use picture_parts::{Part, put};
 
 /// A hoop, in tenths of a millimetre.

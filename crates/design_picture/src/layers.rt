@@ -5,7 +5,7 @@ use crate::block_line::put_block_line;
 use crate::marks::put_mark;
 use crate::strokes::Stroke;
 use crate::threads::{put_arrow, put_hole, put_second, put_thread, put_travel};
-use design_model::{Bytes, Memory};
+use lists_and_numbers::{Bytes, Memory};
 
 /// A layer of the picture, which has its text of each stroke.
 #[derive(Clone, Copy)]

@@ -3,7 +3,8 @@ ghost use Rattle.design_picture.specs.Layouts.{area_of as area_around, below_sta
 
 use crate::block_line::LINE_HEIGHT;
 use crate::hoop::Hoop;
-use design_model::{Bytes, Extent, Memory, Point, height, width};
+use design_model::{Extent, Point, height, width};
+use lists_and_numbers::{Bytes, Memory};
 use picture_parts::{Part, Sheet, put};
 
 /// The space around what is shown, in tenths of a millimetre.

@@ -2,7 +2,8 @@ ghost use Rattle.std.specs.Prelude.{◌≡◌, ◌≤◌, IfOk, OnOk};
 ghost use Rattle.std.specs.HashMap.{get};
 ghost use Rattle.design_picture.specs.Passes.{earlier_passes, is_same_stitch, passes_of, passes_with, turned_stitch};
 
-use design_model::{Memory, Point};
+use design_model::Point;
+use lists_and_numbers::Memory;
 use std::collections::HashMap;
 
 /// The greatest number of passes of a stitch in one direction that are distinguished.

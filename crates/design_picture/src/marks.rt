@@ -2,7 +2,8 @@ ghost use Rattle.std.specs.Prelude.{◌≡◌, ◌++◌, OnOk};
 ghost use Rattle.design_picture.specs.Marks.{begin_text, end_mark, mark_text, opening_text, piece_number, start_mark, stop_mark, trim_mark};
 
 use crate::strokes::Stroke;
-use design_model::{Bytes, Memory, Point};
+use design_model::Point;
+use lists_and_numbers::{Bytes, Memory};
 use picture_parts::{Part, put};
 
 /// Appends the mark of a stroke.

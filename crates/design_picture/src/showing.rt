@@ -14,8 +14,9 @@ use crate::marks::put_end_mark;
 use crate::pen::Pen;
 use crate::strokes::{Stroke, Strokes, ended, put_strokes};
 use crate::threads::put_shape_end;
-use design_model::{Bytes, Design, Memory, Point, counts, extent, height, width};
+use design_model::{Design, Point, counts, extent, height, width};
 use hoop_check::fits;
+use lists_and_numbers::{Bytes, Memory};
 use picture_parts::{Part, put, put_foot, put_head, thread_colour};
 use std::alloc::Global;
 

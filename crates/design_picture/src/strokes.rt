@@ -11,7 +11,8 @@ ghost use Rattle.design_picture.specs.Strokes.{block_end, needle_passes, needle_
 
 use crate::links::{PointPair, pass};
 use crate::pen::{ARROW_GAP, Pen};
-use design_model::{Act, ActScanner, Command, Design, Items, Memory, Point};
+use design_model::{Act, ActScanner, Command, Design, Point};
+use lists_and_numbers::{Items, Memory};
 use std::alloc::Global;
 use std::collections::HashMap;
 

@@ -2,7 +2,8 @@ ghost use Rattle.std.specs.Prelude.{◌≡◌, ◌++◌, OnOk};
 ghost use Rattle.design_picture.specs.Threads.{arc_text, arrow_shape, arrow_text, colour_change_text, hole_shape, hole_text, move_text, is_long, bow_of, second_shape, second_text, sewn_text, straight_text, thread_text, travel_shape, travel_text, long_hole_text, arrow_if, shape_end, way_text};
 
 use crate::strokes::Stroke;
-use design_model::{Bytes, Memory, Point};
+use design_model::Point;
+use lists_and_numbers::{Bytes, Memory};
 use picture_parts::{Part, put, square_between, thread_colour};
 
 /// The shortest stitch whose needle hole is shown, in tenths of a millimetre on its longer axis.

@@ -1,4 +1,5 @@
-use design_model::{Bytes, Point};
+use design_model::Point;
+use lists_and_numbers::Bytes;
 use picture_parts::{length_between, put_escaped, thread_colour};
 use std::test::Fail;
 

@@ -1,4 +1,4 @@
-use design_model::{Bytes, Memory};
+use lists_and_numbers::{Bytes, Memory};
 use outside_io::{
     DirStore, Failed, GetFault, MemSink, MemStore, ReadStop, Sink, StdSink, Store, read_whole,
 };

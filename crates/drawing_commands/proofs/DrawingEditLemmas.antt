@@ -1,7 +1,7 @@
 -- Edits of a drawing, one after another.
 use Rattle.std.proofs.Common.{◌≡◌, ◌∙◌, ℕ, ◌+◌, Bool, true, false, List, [], ◌∷◌, Option, Some, None, IfSome, IsSome, Result, Ok, Err, refl, ap, sym, subst}
 use Rattle.std.specs.Prelude.{is_some, unwrap_or}
-use Rattle.design_model.specs.OutOfMemory.{IsSpecified, UnlessOutOfMemory}
+use Rattle.lists_and_numbers.specs.OutOfMemory.{IsSpecified, UnlessOutOfMemory}
 use Rattle.drawing_edits.specs.declared.drawing_edit.DrawingEdit.{DrawingEdit}
 use Rattle.drawing_edits.specs.declared.edit_fault.EditFault.{EditFault}
 use Rattle.drawing_edits.specs.EditedDrawings.{edited_drawing}

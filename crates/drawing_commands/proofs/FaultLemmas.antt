@@ -1,7 +1,7 @@
 -- A drawing that is not read is refused with the text about its fault.
 use Rattle.std.proofs.Common.{◌≡◌, ◌==◌, ℕ, List, Bool, false, Result, Err, refl, subst, sym}
 use Rattle.std.proofs.lemmas.Bool.{and_left}
-use Rattle.design_model.specs.OutOfMemory.{IsSpecified, UnlessOutOfMemory}
+use Rattle.lists_and_numbers.specs.OutOfMemory.{IsSpecified, UnlessOutOfMemory}
 use Rattle.drawing_text.specs.declared.draw_fault.DrawFault.{DrawFault}
 use Rattle.drawing_text.specs.DrawingText.{draw_fault_is_out_of_memory}
 use Rattle.line_graph.specs.GrowingDrawings.{draw_is_out_of_memory}

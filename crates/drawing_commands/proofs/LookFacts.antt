@@ -1,7 +1,7 @@
 -- Worked lines of the report of `look`.
 use Rattle.std.proofs.Common.{◌≡◌, pos, [], ◌∷◌, ◌++◌, None, codes, refl}
 use Rattle.std.specs.Fmt.{digits}
-use Rattle.design_model.specs.TextLines.{newline}
+use Rattle.lists_and_numbers.specs.TextLines.{newline}
 use Rattle.line_graph.specs.PieceGraphs.{PieceValue}
 use Rattle.piece_stitches.specs.declared.counting.PieceStitches.{PieceStitches}
 use Rattle.drawing_commands.specs.LookTexts.{look_piece_line, look_totals_text}

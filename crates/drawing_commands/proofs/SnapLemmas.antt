@@ -1,7 +1,7 @@
 -- What is proved of the plan of `snap`: it decides, its products have one output, and a fault is refused.
 use Rattle.std.proofs.Common.{◌≡◌, ℕ, List, [], ◌∷◌, Bool, Option, Ok, Err, Result, ap, map, refl, subst, sym, ◌∙◌}
 use Rattle.std.specs.List.Sorted.{IsNonDecreasing}
-use Rattle.design_model.specs.OutOfMemory.{IsSpecified, UnlessOutOfMemory}
+use Rattle.lists_and_numbers.specs.OutOfMemory.{IsSpecified, UnlessOutOfMemory}
 use Rattle.drawing_repairs.specs.declared.snap_fault.SnapFault.{SnapFault}
 use Rattle.drawing_repairs.specs.declared.snapping.SnappedDrawing.{SnappedDrawing}
 use Rattle.drawing_repairs.specs.AnchoredSpots.{anchored_spots}

@@ -6,7 +6,7 @@ use Rattle.command_words.specs.Changes.{Change, mirror, shift, turn}
 use Rattle.design_edits.specs.declared.motion.Motion.TheVariants as motion
 use Rattle.design_model.specs.declared.point.Point.{Point}
 use Rattle.design_model.specs.declared.point.TheConstants.{NEEDLE_LIMIT}
-use Rattle.design_model.specs.WholeNumbers.{parsed_whole}
+use Rattle.lists_and_numbers.specs.WholeNumbers.{parsed_whole}
 use Rattle.drawing_edits.specs.declared.drawing_edit.DrawingEdit.{DrawingEdit}
 use Rattle.drawing_edits.specs.declared.drawing_edit.DrawingEdit.TheVariants as edit
 use Rattle.line_graph.specs.declared.limits.TheConstants.{MAX_LINES}

@@ -1,8 +1,8 @@
 -- What the arguments of stitch_drawing request: a command and its arguments.
 use Rattle.std.specs.Prelude.{ℕ, ◌≤◌, pos, negsuc, not, ◌&&◌, List, [], ◌∷◌, Option, Some, None, IsSome, bytes_eq, codes, length, map, nat_le, string_bytes, if◌then◌else◌}
-use Rattle.design_model.specs.declared.whole_number.Whole.{Whole}
-use Rattle.design_model.specs.declared.whole_number.Whole.TheVariants as whole
-use Rattle.design_model.specs.WholeNumbers.{parsed_whole}
+use Rattle.lists_and_numbers.specs.declared.whole_number.Whole.{Whole}
+use Rattle.lists_and_numbers.specs.declared.whole_number.Whole.TheVariants as whole
+use Rattle.lists_and_numbers.specs.WholeNumbers.{parsed_whole}
 use Rattle.outside_io.specs.Files.{IsFileName, is_file_name}
 use Rattle.drawing_commands.specs.declared.requests.DrawingRequest.{DrawingRequest}
 use Rattle.drawing_commands.specs.declared.requests.DrawingRequest.TheVariants as request

@@ -3,7 +3,7 @@ ghost use Rattle.command_words.specs.Arguments.{parsed_edit};
 ghost use Rattle.command_words.specs.Edits.{IsEditInBounds, change_of_edit};
 ghost use Rattle.drawing_commands.specs.DrawingEditWords.{moving_edit, parsed_coordinates, parsed_drawing_edit, parsed_drawing_edits, parsed_named_drawing_edit, parsed_order, step_edit_of};
 ghost use Rattle.command_words.specs.Arguments.{comma, natural_within, split_at_byte};
-ghost use Rattle.design_model.specs.WholeNumbers.{parsed_whole};
+ghost use Rattle.lists_and_numbers.specs.WholeNumbers.{parsed_whole};
 ghost use Rattle.drawing_edits.specs.declared.drawing_edit.DrawingEdit.TheVariants as edit;
 ghost use Rattle.drawing_edits.specs.EditedDrawings.{IsDrawingEdit};
 ghost use Rattle.step_splitter.specs.declared.segment.TheConstants.{MAX_STEP as max_step};

@@ -7,9 +7,9 @@ ghost use Rattle.program_shell.specs.FileTexts.{text_at};
 ghost use Rattle.program_shell.specs.StepOutcomes.{IsRefusalWith};
 
 use crate::bad_edit::BadEdit;
-use design_model::Memory;
 use drawing_edits::EditFault;
 use line_graph::DrawKind;
+use lists_and_numbers::Memory;
 use program_shell::{Failure, describe_part};
 use program_texts::describe_kind;
 use std::alloc::Global;

@@ -4,9 +4,9 @@ ghost use Rattle.line_graph.specs.PieceGraphs.{odd_junctions};
 ghost use Rattle.line_graph.specs.PiecesOfDrawings.{graph_of};
 ghost use Rattle.piece_stitches.specs.PieceStitches.{HasSmallTotals};
 
-use design_model::{Bytes, Memory};
 use drawing_review::{Place, PlaceKind};
 use line_graph::Piece;
+use lists_and_numbers::{Bytes, Memory};
 use odd_cuts::first_lent;
 use odd_paths::odd;
 use piece_stitches::{PieceStitches, StitchSummary, thread_of, travel_of};

@@ -9,11 +9,11 @@ ghost use Rattle.program_shell.specs.Products.{product_value};
 ghost use Rattle.program_shell.specs.StepOutcomes.{RunsPlan, RunsPurePlan};
 
 use crate::look_texts::print_look;
-use design_model::Memory;
 use drawing_inputs::drawing_failure;
 use drawing_review::review;
 use drawing_text::{DrawnLines, read_drawing, read_lines};
 use line_graph::{Drawing, pieces};
+use lists_and_numbers::Memory;
 use outside_io::Store;
 use piece_stitches::piece_stitches;
 use program_shell::{Failure, Product, only_report, read_input};

@@ -1,11 +1,11 @@
 ghost use Rattle.std.specs.Prelude.{◌≡◌, Some, IfSome, map, option_map, string_bytes};
-ghost use Rattle.design_model.specs.declared.whole_number.Whole.TheVariants as whole;
-ghost use Rattle.design_model.specs.WholeNumbers.{parsed_whole};
+ghost use Rattle.lists_and_numbers.specs.declared.whole_number.Whole.TheVariants as whole;
+ghost use Rattle.lists_and_numbers.specs.WholeNumbers.{parsed_whole};
 ghost use Rattle.drawing_commands.specs.DrawingEditWords.{parsed_drawing_edits};
 ghost use Rattle.drawing_commands.specs.Requests.{HasFileNames, drawing_order_of, edit_order_with, gap_of, look_with_gap, order_of_request, parsed_drawing_edit_request, parsed_look, parsed_snap, parsed_space, snap_with_gap, space_with_names};
 
 use crate::drawing_edit_words::are_drawing_edits;
-use design_model::{Whole, parse_whole};
+use lists_and_numbers::{Whole, parse_whole};
 use outside_io::is_name;
 
 /// The gap where none is given, in tenths of a millimetre.

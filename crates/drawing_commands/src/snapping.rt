@@ -12,11 +12,11 @@ ghost use Rattle.program_shell.specs.Products.{product_value};
 ghost use Rattle.program_shell.specs.StepOutcomes.{RunsPlan, RunsPurePlan};
 
 use crate::snap_texts::{print_snap, snap_failure};
-use design_model::Memory;
 use drawing_inputs::drawing_failure;
 use drawing_repairs::{SnappedDrawing, snap};
 use drawing_text::{print_drawn, read_drawing, read_lines, texts_order_ends};
 use line_graph::{Drawing, pieces};
+use lists_and_numbers::Memory;
 use outside_io::Store;
 use program_shell::{Failure, Output, Product, one_output, read_input};
 use std::alloc::Global;

@@ -6,8 +6,8 @@ ghost use Rattle.program_shell.specs.FileTexts.{text_about};
 ghost use Rattle.program_shell.specs.StepOutcomes.{IsRefusalWith};
 ghost use Rattle.program_texts.specs.DrawingTexts.{draw_kind_text};
 
-use design_model::{Bytes, Memory};
 use line_graph::{DrawKind, Drawing, drawing_cost};
+use lists_and_numbers::{Bytes, Memory};
 use program_shell::{Failure, bytes_of, describe_file};
 use program_texts::kind_text;
 use std::alloc::Global;

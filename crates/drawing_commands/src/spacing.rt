@@ -11,11 +11,11 @@ ghost use Rattle.program_shell.specs.Products.{product_value};
 ghost use Rattle.program_shell.specs.StepOutcomes.{RunsPlan, RunsPurePlan};
 
 use crate::space_texts::{print_space, space_failure};
-use design_model::Memory;
 use drawing_inputs::drawing_failure;
 use drawing_repairs::{SpacedDrawing, space};
 use drawing_text::{print_drawn, read_drawing, read_lines, texts_order_ends};
 use line_graph::{Drawing, pieces};
+use lists_and_numbers::Memory;
 use outside_io::Store;
 use program_shell::{Failure, Output, Product, one_output, read_input};
 use std::alloc::Global;

@@ -1,7 +1,7 @@
 ghost use Rattle.std.specs.Prelude.{◌≡◌};
 
-use design_model::Memory;
 use line_graph::DrawKind;
+use lists_and_numbers::Memory;
 
 /// Why an edit of a drawing is refused.
 #[derive(Clone, Copy)]

@@ -4,8 +4,9 @@ ghost use Rattle.design_model.specs.Points.{is_same_point};
 ghost use Rattle.drawing_edits.specs.PlacedEnds.{is_inner_index, line_cut_at};
 
 use crate::line_lists::put_line;
-use design_model::{Items, Memory, Point};
+use design_model::Point;
 use line_graph::{Line, Spot};
+use lists_and_numbers::{Items, Memory};
 use std::alloc::Global;
 
 /// Returns lines, each cut in two at the first place where it lists the spot inside.

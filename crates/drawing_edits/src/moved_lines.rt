@@ -5,8 +5,9 @@ ghost use Rattle.line_graph.specs.Drawings.{IsLine};
 ghost use Rattle.step_splitter.specs.Chains.{IsNeedlePoint};
 
 use design_edits::Motion;
-use design_model::{Items, Memory, Point, Points};
+use design_model::{Point, Points};
 use line_graph::{Line, Spot};
+use lists_and_numbers::{Items, Memory};
 use std::alloc::Global;
 
 /// Returns lines after a motion of their points, in tenths of a millimetre.

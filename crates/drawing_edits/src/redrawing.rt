@@ -1,5 +1,5 @@
 ghost use Rattle.std.specs.Prelude.{◌≡◌, ◌≤◌, ◌==◌, IfOk, length, true};
-ghost use Rattle.design_model.specs.OutOfMemory.{IsSpecified};
+ghost use Rattle.lists_and_numbers.specs.OutOfMemory.{IsSpecified};
 ghost use Rattle.drawing_edits.specs.RedrawnDrawings.{AddsAsSpecified, drawn_lines, line_added_if, redrawn, with_blocks, with_lines_of, with_starts_and_ends, with_walk_ends};
 ghost use Rattle.line_graph.specs.declared.limits.TheConstants.{MAX_BLOCKS};
 ghost use Rattle.line_graph.specs.GrowingDrawings.{ChangesAsSpecified, and_then, block_added, draw_is_out_of_memory};

@@ -1,7 +1,7 @@
 -- A drawing that isn't read is refused with the text about its fault.
 use Rattle.std.proofs.Common.{◌≡◌, ◌==◌, ℕ, List, Bool, false, Result, Ok, Err, inr, subst}
 use Rattle.std.proofs.lemmas.Bool.{and_left}
-use Rattle.design_model.specs.OutOfMemory.{UnlessOutOfMemory}
+use Rattle.lists_and_numbers.specs.OutOfMemory.{UnlessOutOfMemory}
 use Rattle.drawing_text.specs.declared.draw_fault.DrawFault.{DrawFault}
 use Rattle.drawing_text.specs.DrawingText.{ReadsDrawing, draw_fault_is_out_of_memory}
 use Rattle.line_graph.specs.Drawings.{DrawingValue}

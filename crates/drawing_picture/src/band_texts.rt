@@ -2,8 +2,9 @@ ghost use Rattle.std.specs.Prelude.{◌≡◌, ◌+◌, ◌++◌, OnOk, map, tak
 ghost use Rattle.design_picture.specs.Threads.{shape_end};
 ghost use Rattle.drawing_picture.specs.BandTexts.{band_start, bands_start, colour_of_cut, way_point, way_points};
 
-use design_model::{Bytes, Memory, Point};
+use design_model::Point;
 use design_picture::put_shape_end;
+use lists_and_numbers::{Bytes, Memory};
 use picture_parts::{Part, put};
 
 /// Appends the band of a cut, which begins with the first of the given half steps.

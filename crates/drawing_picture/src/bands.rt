@@ -6,8 +6,9 @@ ghost use Rattle.odd_cuts.specs.declared.cut.Cut.{Cut as CutValue};
 ghost use Rattle.picture_parts.specs.Parts.{joined};
 
 use crate::band_texts::put_band;
-use design_model::{Bytes, Memory, Point};
+use design_model::Point;
 use line_graph::Edge;
+use lists_and_numbers::{Bytes, Memory};
 use odd_cuts::{Cut, first_lent};
 
 /// The half steps of an edge that have no band yet: ahead from its first junction, back from its last one.

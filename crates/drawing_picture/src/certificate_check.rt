@@ -4,8 +4,9 @@ ghost use Rattle.route_verdict.specs.Verdicts.{HasShortLists};
 
 use crate::proof_picture::proof_picture;
 use crate::theorems::right_certificates_are_sewn;
-use design_model::{Bytes, Design, Memory};
+use design_model::Design;
 use line_graph::{Drawing, pieces, pieces_are_unique};
+use lists_and_numbers::{Bytes, Memory};
 use odd_cuts::Cert;
 use route_verdict::{Reason, Verdict, judge, sew};
 use std::alloc::Global;

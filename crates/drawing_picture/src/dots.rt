@@ -3,9 +3,10 @@ ghost use Rattle.std.specs.List.{flat_map};
 ghost use Rattle.drawing_picture.specs.DrawingCaptions.{end_text, even_dot, junction_dot, loose_ring, odd_dot, start_text};
 
 use crate::junction_marks::JunctionMark;
-use design_model::{Bytes, Memory, Point};
+use design_model::Point;
 use design_picture::{put_end_mark, put_start_mark};
 use line_graph::Spot;
+use lists_and_numbers::{Bytes, Memory};
 use odd_cuts::first_and_rest;
 use picture_parts::{Part, put};
 

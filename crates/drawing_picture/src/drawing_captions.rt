@@ -3,8 +3,9 @@ ghost use Rattle.drawing_picture.specs.DrawingCaptions.{dot_words, drawing_title
 ghost use Rattle.line_graph.specs.declared.limits.TheConstants.{MAX_BLOCKS};
 
 use crate::dots::{put_even_dot, put_loose_ring, put_odd_dot};
-use design_model::{Bytes, Memory, Point};
+use design_model::Point;
 use design_picture::{put_group_end, put_legend_start, put_place, put_swatch, put_title_start};
+use lists_and_numbers::{Bytes, Memory};
 use odd_cuts::first_and_rest;
 use picture_parts::{Part, put, put_escaped, thread_colour};
 

@@ -9,13 +9,14 @@ use crate::junction_marks::{JunctionMark, junction_marks, odd_count};
 use crate::line_paths::put_line_paths;
 use crate::lines_extent::lines_extent;
 use crate::loose_ends::loose_ends;
-use design_model::{Bytes, Memory, Point};
+use design_model::Point;
 use design_picture::{
     Area, Hoop, area_of, left_below, put_below_start, put_group_end, put_label_line,
     put_opening_group, put_scale_bar, sheet_of,
 };
 use line_graph::{Drawing, pieces};
 use line_sections::Line;
+use lists_and_numbers::{Bytes, Memory};
 use picture_parts::{put_foot, put_head};
 use std::alloc::Global;
 

@@ -5,8 +5,9 @@ ghost use Rattle.drawing_picture.specs.TestedMarks.{tested_marks};
 ghost use Rattle.line_graph.specs.declared.limits.TheConstants.{MAX_LINES};
 ghost use Rattle.line_graph.specs.PiecesOfDrawings.{graph_of};
 
-use design_model::{Items, Memory, Point};
+use design_model::Point;
 use line_graph::{Piece, is_odd_at};
+use lists_and_numbers::{Items, Memory};
 use odd_cuts::{first_and_rest, first_lent};
 use std::alloc::Global;
 

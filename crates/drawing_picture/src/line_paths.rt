@@ -3,9 +3,10 @@ ghost use Rattle.std.specs.List.{flat_map};
 ghost use Rattle.design_picture.specs.Threads.{straight_text};
 ghost use Rattle.drawing_picture.specs.LinePaths.{block_colour, line_path, line_paths, path_text};
 
-use design_model::{Bytes, Memory, Point};
+use design_model::Point;
 use design_picture::{put_move, put_shape_end, put_straight, put_thread_start};
 use line_sections::Line;
+use lists_and_numbers::{Bytes, Memory};
 use odd_cuts::{first_and_rest, first_lent};
 use picture_parts::thread_colour;
 

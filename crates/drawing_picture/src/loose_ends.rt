@@ -2,9 +2,10 @@ ghost use Rattle.std.specs.Prelude.{◌≡◌, ◌++◌, IfOk, OnOk};
 ghost use Rattle.drawing_picture.specs.JunctionMarks.{is_loose as is_loose_kind, loose_point, loose_points};
 ghost use Rattle.drawing_review.specs.Places.{places_of_lines};
 
-use design_model::{Memory, Points};
+use design_model::Points;
 use drawing_review::{Place, PlaceKind, review};
 use line_sections::Line;
+use lists_and_numbers::Memory;
 use odd_cuts::first_and_rest;
 use std::alloc::Global;
 

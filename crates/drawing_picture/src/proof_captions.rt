@@ -1,8 +1,8 @@
 ghost use Rattle.std.specs.Prelude.{◌≡◌, ◌+◌, ◌++◌, ◌<◌, ◌-◌, ◌^◌, IfOk, OnOk, length};
 ghost use Rattle.drawing_picture.specs.ProofPictures.{band_lines, reason_lines, reason_start, retraced_steps, why_lines};
 
-use design_model::{Bytes, Memory};
 use design_picture::{LINE_HEIGHT, put_group_end};
+use lists_and_numbers::{Bytes, Memory};
 use odd_cuts::{PieceCert, first_lent};
 use picture_parts::{Part, put};
 

@@ -8,13 +8,14 @@ ghost use Rattle.line_graph.specs.PiecesOfDrawings.{graph_of};
 use crate::band_texts::put_bands_start;
 use crate::line_bands::put_pieces;
 use crate::proof_captions::{REASON_LINES, put_reason, steps_again};
-use design_model::{Bytes, Design, Memory, counts, extent};
+use design_model::{Design, counts, extent};
 use design_picture::{
     Area, Hoop, Layer, Pen, Stroke, Strokes, area_of, left_below, put_below_start, put_caption,
     put_group_end, put_holes, put_last_mark, put_layer, put_legend, put_opening_group,
     put_shape_end, put_strokes, put_threads, put_title, sheet_of,
 };
 use line_graph::{Drawing, Piece};
+use lists_and_numbers::{Bytes, Memory};
 use odd_cuts::PieceCert;
 use picture_parts::{Part, put, put_foot, put_head};
 use std::alloc::Global;

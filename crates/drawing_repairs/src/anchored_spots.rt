@@ -4,8 +4,8 @@ ghost use Rattle.drawing_repairs.specs.MovedLines.{block_anchors};
 
 use crate::anchors::Anchors;
 use crate::moving::{anchors_for, anchors_in};
-use design_model::Memory;
 use line_graph::{Line, Spot};
+use lists_and_numbers::Memory;
 use std::alloc::Global;
 
 /// Returns starts or ends after their points moved to the anchors of their blocks. `gap` is in tenths of a

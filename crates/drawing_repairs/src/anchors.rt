@@ -5,7 +5,8 @@ ghost use Rattle.drawing_repairs.specs.Anchors.{anchored, anchors_of, distance_b
 ghost use Rattle.drawing_repairs.specs.Cells.{AreInCells, cell_of, is_same_cell, points_in_cell};
 
 use crate::cells::{Cell, cell_at, points_at, put_in_cells};
-use design_model::{Memory, Point, Points};
+use design_model::{Point, Points};
+use lists_and_numbers::Memory;
 use std::alloc::Global;
 use std::collections::HashMap;
 use std::marker::Model;

@@ -4,9 +4,10 @@ ghost use Rattle.design_model.specs.Points.{is_same_point};
 ghost use Rattle.drawing_repairs.specs.EndGroups.{AreBetween, is_beyond_gap, widened_bounds};
 ghost use Rattle.drawing_repairs.specs.Listings.{due_end, is_due};
 
-use design_model::{Memory, Point, Points};
+use design_model::{Point, Points};
 use drawing_review::{GridPoint, LineSegment, comes_near, counted_from_least};
 use line_sections::first_point;
+use lists_and_numbers::Memory;
 use std::alloc::Global;
 use std::marker::Model;
 

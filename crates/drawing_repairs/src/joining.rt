@@ -1,5 +1,5 @@
 ghost use Rattle.std.specs.Prelude.{◌≡◌, IfOk, Ok};
-ghost use Rattle.design_model.specs.OutOfMemory.{IsSpecified};
+ghost use Rattle.lists_and_numbers.specs.OutOfMemory.{IsSpecified};
 ghost use Rattle.drawing_edits.specs.RedrawnDrawings.{with_starts_and_ends};
 ghost use Rattle.line_graph.specs.GrowingDrawings.{and_then, draw_is_out_of_memory};
 ghost use Rattle.line_graph.specs.JoinedDrawings.{joined_drawing};

@@ -5,8 +5,8 @@ ghost use Rattle.line_sections.specs.declared.spot.Spot.{Spot as SpotValue};
 ghost use Rattle.line_sections.specs.Spots.{is_same_spot};
 
 use crate::listing::last_or;
-use design_model::Memory;
 use line_sections::{Line, Spot, first_point};
+use lists_and_numbers::Memory;
 use std::alloc::Global;
 use std::collections::HashSet;
 

@@ -4,9 +4,10 @@ ghost use Rattle.line_graph.specs.Pieces.{endpoints};
 ghost use Rattle.drawing_repairs.specs.Listings.{added_ends, block_ends, due_ends, followed_by, followed_line, followed_on, followed_points, listed_line, listed_lines, segment_between, unfollowed_line, with_due_ends};
 
 use crate::end_groups::BlockEnds;
-use design_model::{Memory, Point, Points};
+use design_model::{Point, Points};
 use drawing_review::{LineSegment, Position, segment_at};
 use line_sections::{Line, first_point};
+use lists_and_numbers::Memory;
 use std::alloc::Global;
 use std::collections::VecDeque;
 use std::marker::Model;

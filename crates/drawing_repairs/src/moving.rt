@@ -6,8 +6,9 @@ ghost use Rattle.drawing_repairs.specs.MovedLines.{block_anchors, changed_in, ch
 
 use crate::anchors::Anchors;
 use crate::vanished::VanishedLine;
-use design_model::{Memory, Point, Points};
+use design_model::{Point, Points};
 use line_sections::{Line, first_point};
+use lists_and_numbers::Memory;
 use std::alloc::Global;
 
 /// Returns the lines of a drawing after their points moved to the anchors of their blocks. Those that moved to

@@ -1,8 +1,8 @@
 ghost use Rattle.std.specs.Prelude.{◌≡◌};
 
 use crate::vanished::VanishedLine;
-use design_model::Memory;
 use line_graph::DrawKind;
+use lists_and_numbers::Memory;
 
 /// The reason why a drawing can't be snapped.
 #[derive(Clone, Copy)]

@@ -1,5 +1,5 @@
 ghost use Rattle.std.specs.Prelude.{◌≡◌, ◌++◌, IfOk, OnOk, Ok, map};
-ghost use Rattle.design_model.specs.OutOfMemory.{IsSpecified};
+ghost use Rattle.lists_and_numbers.specs.OutOfMemory.{IsSpecified};
 ghost use Rattle.line_graph.specs.JoinedDrawings.{joined_drawing};
 ghost use Rattle.line_graph.specs.WalkEnds.{HasNoEnds};
 ghost use Rattle.drawing_repairs.specs.AnchoredSpots.{anchored_spots};
@@ -13,9 +13,10 @@ use crate::listing::listed as with_listings;
 use crate::moving::{first_vanished, moved};
 use crate::second_snaps::snapped_drawings_stay;
 use crate::snap_fault::SnapFault;
-use design_model::{Items, Points};
+use design_model::Points;
 use drawing_edits::draw_lines;
 use line_graph::{Drawing, Line, Spot};
+use lists_and_numbers::Items;
 use std::alloc::Global;
 
 /// A snapped drawing: its lines as they are drawn, the same lines joined with the starts and ends, and the

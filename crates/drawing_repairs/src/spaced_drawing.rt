@@ -1,5 +1,5 @@
 ghost use Rattle.std.specs.Prelude.{◌≡◌, IfOk, Ok};
-ghost use Rattle.design_model.specs.OutOfMemory.{IsSpecified};
+ghost use Rattle.lists_and_numbers.specs.OutOfMemory.{IsSpecified};
 ghost use Rattle.drawing_repairs.specs.SpacedDrawings.{space_of, with_spaced_lines};
 ghost use Rattle.drawing_repairs.specs.SpacedLines.{spaced_lines};
 ghost use Rattle.line_graph.specs.GrowingDrawings.{draw_is_out_of_memory};
@@ -9,10 +9,10 @@ ghost use Rattle.line_graph.specs.WalkEnds.{HasNoEnds};
 use crate::joining::join_drawn;
 use crate::junction_spots::junctions;
 use crate::spacing::spaced;
-use design_model::Memory;
 use drawing_edits::draw_lines;
 use line_graph::{DrawKind, Drawing, Line, Spot};
 use line_sections::sections;
+use lists_and_numbers::Memory;
 use std::alloc::Global;
 
 /// A spaced drawing: its lines as they are drawn, and the joined drawing with the starts and ends.

@@ -9,9 +9,10 @@ ghost use Rattle.drawing_repairs.specs.SpacedLines.{comes_near_all, is_spot_of, 
 
 use crate::anchors::distance;
 use crate::listing::lone_segment;
-use design_model::{Memory, Point, Points};
+use design_model::{Point, Points};
 use drawing_review::{LineSegment, comes_near, counted_from_least};
 use line_sections::{Line, Spot, first_point};
+use lists_and_numbers::Memory;
 use std::alloc::Global;
 use std::collections::HashSet;
 

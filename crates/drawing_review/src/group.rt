@@ -6,7 +6,7 @@ ghost use Rattle.drawing_review.specs.Queries.{is_match, query_frame};
 use crate::frame::Frame;
 use crate::query::Query;
 use crate::segment::LineSegment;
-use design_model::Memory;
+use lists_and_numbers::Memory;
 use std::alloc::Global;
 use std::marker::Model;
 

@@ -3,8 +3,9 @@ ghost use Rattle.line_sections.specs.Sections.{has_points};
 ghost use Rattle.drawing_review.specs.Segments.{segments_of_line, segments_of_lines, segments_on};
 
 use crate::segment::{LineSegment, Position, segment_at};
-use design_model::{Memory, Point};
+use design_model::Point;
 use line_sections::{Line, first_point};
+use lists_and_numbers::Memory;
 use std::alloc::Global;
 
 /// Returns the segments of all lines, in the order of the lines and along each.

@@ -7,7 +7,7 @@ use crate::frame::Frame;
 use crate::group::{Group, frame_of};
 use crate::query::Query;
 use crate::segment::LineSegment;
-use design_model::Memory;
+use lists_and_numbers::Memory;
 use std::alloc::Global;
 use std::marker::Model;
 

@@ -3,8 +3,9 @@ ghost use Rattle.std.specs.Prelude.{◌<◌};
 use crate::drawings::DrawingPart::{self, Block, Line};
 use crate::drawings::grown;
 use crate::points_of;
-use design_model::{Numbers, Point};
+use design_model::Point;
 use line_graph::{DrawKind, Drawing, DrawingMaker, Edge, Edges, Piece, pieces};
+use lists_and_numbers::Numbers;
 use std::alloc::Global;
 use std::test::Fail;
 

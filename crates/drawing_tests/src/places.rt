@@ -1,7 +1,8 @@
 use crate::points_of;
-use design_model::{Memory, Point};
+use design_model::Point;
 use drawing_review::{PlaceKind, review};
 use line_sections::Line;
+use lists_and_numbers::Memory;
 use std::alloc::Global;
 use std::test::Fail;
 

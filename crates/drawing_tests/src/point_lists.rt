@@ -1,7 +1,8 @@
 ghost use Rattle.std.specs.Prelude.{◌≡◌, IfOk, map};
 ghost use Rattle.drawing_tests.specs.Places.{point_at};
 
-use design_model::{Memory, Point, Points};
+use design_model::{Point, Points};
+use lists_and_numbers::Memory;
 use std::alloc::Global;
 
 /// Returns the points at the given places, each an x and a y. The only error is `Memory`.

@@ -1,7 +1,7 @@
 -- The drawing that a text describes, or the first fault of the text. Own format: lines of words,
 -- each of which is read in the light of the lines before it. Lines of the text are numbered from 1.
 use Rattle.std.specs.Prelude.{◌≡◌, ℕ, ◌+◌, ◌==◌, ◌&&◌, Bool, true, List, [], ◌∷◌, Option, Some, None, Result, Ok, Err, bytes_eq, codes, if◌then◌else◌}
-use Rattle.design_model.specs.OutOfMemory.{IsSpecified}
+use Rattle.lists_and_numbers.specs.OutOfMemory.{IsSpecified}
 use Rattle.line_graph.specs.declared.draw_kind.DrawKind.{DrawKind}
 use Rattle.line_graph.specs.declared.draw_kind.DrawKind.TheVariants as kind
 use Rattle.line_graph.specs.Drawings.{DrawingValue}

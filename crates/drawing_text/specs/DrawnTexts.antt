@@ -1,7 +1,7 @@
 -- The lines of a text as they are drawn, before any is cut where lines meet, or the first fault of
 -- the lines. Lines of the text are numbered from 1.
 use Rattle.std.specs.Prelude.{ℕ, ◌+◌, List, [], ◌∷◌, Result, Ok}
-use Rattle.design_model.specs.OutOfMemory.{IsSpecified}
+use Rattle.lists_and_numbers.specs.OutOfMemory.{IsSpecified}
 use Rattle.line_graph.specs.Drawings.{DrawingValue}
 use Rattle.line_graph.specs.GrowingDrawings.{and_then, finished_drawing}
 use Rattle.drawing_text.specs.declared.draft.DrawingDraft.{DrawingDraft}

@@ -11,8 +11,8 @@ ghost use Rattle.drawing_text.specs.TextLaws.{IsJoinedFrom};
 use crate::printing::{put_header, put_label, put_lines_of, put_number, put_point, spelled};
 use crate::theorems::drawn_texts_are_read;
 use crate::version::Version;
-use design_model::{Bytes, Memory};
 use line_graph::{Drawing, Spot, joined_drawings_stay};
+use lists_and_numbers::{Bytes, Memory};
 use std::alloc::Global;
 
 /// Returns the canonical text of lines as they are drawn, with the starts and ends of their joined drawing:

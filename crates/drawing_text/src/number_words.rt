@@ -1,10 +1,11 @@
 ghost use Rattle.std.specs.Prelude.{◌≡◌, IfOk, ◌≤◌, unsigned_abs};
 ghost use Rattle.design_model.specs.declared.point.TheConstants.{NEEDLE_LIMIT as needle_limit};
-ghost use Rattle.design_model.specs.WholeNumbers.{parsed_whole};
+ghost use Rattle.lists_and_numbers.specs.WholeNumbers.{parsed_whole};
 ghost use Rattle.drawing_text.specs.TextLines.{parsed_coordinate, count_in_range, parsed_count};
 
-use design_model::{NEEDLE_LIMIT, Whole, parse_whole};
+use design_model::NEEDLE_LIMIT;
 use line_graph::DrawKind;
+use lists_and_numbers::{Whole, parse_whole};
 
 /// Returns the number from `low` to `high` that a word denotes. Errors: `BadNumber` where it is no number,
 /// `OutOfRange`.

@@ -1,6 +1,6 @@
 ghost use Rattle.std.specs.Prelude.{◌≡◌, All, IfOk};
 ghost use Rattle.step_splitter.specs.Chains.{IsNeedlePoint};
-ghost use Rattle.design_model.specs.OutOfMemory.{IsSpecified};
+ghost use Rattle.lists_and_numbers.specs.OutOfMemory.{IsSpecified};
 ghost use Rattle.line_graph.specs.GrowingDrawings.{draw_is_out_of_memory};
 ghost use Rattle.drawing_text.specs.TextLines.{parsed_point, parsed_points};
 ghost use Rattle.drawing_text.specs.Words.{words_of_line};

@@ -6,8 +6,9 @@ ghost use Rattle.drawing_text.specs.CanonicalTexts.{header_text, canonical_text,
 
 use crate::theorems::{canonical_text_is_read, drawn_texts_are_read};
 use crate::version::Version;
-use design_model::{Bytes, Memory, Point};
+use design_model::Point;
 use line_graph::{Drawing, Line, MAX_BLOCKS, joined_drawings_stay};
+use lists_and_numbers::{Bytes, Memory};
 use std::alloc::Global;
 
 /// Returns the canonical text, in version 1, of a drawing without starts and ends. Reading the text returns

@@ -10,4 +10,4 @@ pub struct WalkEnd {
 }
 
 /// The starts and ends that the lines of a text name, in order.
-pub type WalkEnds = design_model::Items<WalkEnd>;
+pub type WalkEnds = lists_and_numbers::Items<WalkEnd>;

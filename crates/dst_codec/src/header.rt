@@ -4,8 +4,9 @@ ghost use Rattle.format_traits.specs.LabelFields.{padded_left, label_field};
 ghost use Rattle.dst_codec.specs.declared.header.TheConstants.{HEADER_LENGTH};
 ghost use Rattle.dst_codec.specs.Header.{FitsFields, field, number_field, signed_field, fields_of, dst_header_of, sign_code};
 
-use design_model::{Bytes, MAX_LABEL, Memory, Point};
+use design_model::{MAX_LABEL, Point};
 use format_traits::{put_label, put_spaces};
+use lists_and_numbers::{Bytes, Memory};
 use std::alloc::Global;
 
 /// The number of bytes of a header.

@@ -3,8 +3,8 @@ ghost use Rattle.euler_tour.specs.LineEnds.{AddsEnd, junction_at, junction_acros
 ghost use Rattle.line_graph.specs.ValidPieces.{ends_below};
 ghost use Rattle.line_graph.specs.PieceGraphs.{is_odd as odd};
 
-use design_model::Memory;
 use line_graph::{Edge, Pass};
+use lists_and_numbers::Memory;
 use std::alloc::Global;
 
 /// The ends of lines in linked lists, one for each junction. An end's number is its index plus one, and 0

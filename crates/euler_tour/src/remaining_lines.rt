@@ -2,7 +2,7 @@ ghost use Rattle.std.specs.Prelude.{◌≡◌, ◌<◌, ◌≤◌, true, length,
 ghost use Rattle.euler_tour.specs.RemainingLines.{decremented_at, pass_counts};
 ghost use Rattle.line_graph.specs.ValidPieces.{all_below};
 
-use design_model::Memory;
+use lists_and_numbers::Memory;
 use std::alloc::Global;
 
 /// Returns the number of passes of each line: one, and one more for each copy.

@@ -1,9 +1,10 @@
 use crate::units::Units;
 use crate::writing::write_file;
-use design_model::{Bytes, Command, Design, Memory};
+use design_model::{Command, Design};
 use format_traits::{
     Fed, Feed, Format, Loaded, ReadFault, RecordDecoder, WriteFault, decode_whole,
 };
+use lists_and_numbers::{Bytes, Memory};
 use std::alloc::Global;
 
 /// The greatest move of a written unit on each axis, in tenths of a millimetre.

@@ -5,8 +5,9 @@ ghost use Rattle.exp_codec.specs.Writing.{byte_of_number, bytes_of_move};
 
 use crate::exp::LIMIT;
 use crate::units::{CONTROL, JUMP, STOP, TRIM, opposite};
-use design_model::{Bytes, Memory, Point};
+use design_model::Point;
 use format_traits::{RecordWriter, WriteLimits};
+use lists_and_numbers::{Bytes, Memory};
 
 /// The writer of the units of a file.
 #[derive(Clone, Copy)]

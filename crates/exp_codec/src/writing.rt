@@ -4,8 +4,9 @@ ghost use Rattle.exp_codec.specs.Writing.{exp_writes};
 
 use crate::theorems::written_reads_again;
 use crate::unit_writer::UnitWriter;
-use design_model::{Bytes, Design};
+use design_model::Design;
 use format_traits::{WriteFault, put_acts};
+use lists_and_numbers::Bytes;
 use std::alloc::Global;
 
 /// Writes a design as a file.

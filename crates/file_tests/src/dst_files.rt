@@ -1,9 +1,10 @@
 use crate::feeding::{feed, read_all};
 use crate::large_designs::{compare_large, large};
 use crate::square;
-use design_model::{Bytes, Command, Design, Memory, Point};
+use design_model::{Command, Design, Point};
 use dst_codec::{Dst, decode_move, encode_move};
 use format_traits::{Format, Loaded, ReadFault, WriteFault, find};
+use lists_and_numbers::{Bytes, Memory};
 use std::alloc::Global;
 use std::process::Abort;
 use std::test::Fail;

@@ -1,7 +1,8 @@
 ghost use Rattle.std.specs.Prelude.{◌≡◌, IsOk, false};
 
-use design_model::{Command, Memory};
+use design_model::Command;
 use format_traits::{Format, Loaded, MAX_FED, ReadFault};
+use lists_and_numbers::Memory;
 use std::alloc::Global;
 use std::process::Abort;
 

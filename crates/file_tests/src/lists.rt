@@ -1,7 +1,8 @@
 use crate::large_designs::{compare_large, large};
 use crate::square;
-use design_model::{Bytes, Command, Memory, Point};
+use design_model::{Command, Point};
 use format_traits::{Format, ReadFault, WriteFault};
+use lists_and_numbers::{Bytes, Memory};
 use std::alloc::Global;
 use std::test::Fail;
 use stitch_text::List;

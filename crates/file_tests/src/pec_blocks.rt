@@ -2,8 +2,9 @@ ghost use Rattle.std.specs.Prelude.{◌≡◌, IsOk, false};
 
 use crate::feeding::{SIZES, parts};
 use crate::large_designs::{compare_large, large};
-use design_model::{Bytes, Command, Design, Memory, Point};
+use design_model::{Command, Design, Point};
 use format_traits::{Fed, Loaded, MAX_FED, ReadFault, WriteFault};
+use lists_and_numbers::{Bytes, Memory};
 use pec_codec::{BlockReader, read_block, write_block};
 use std::alloc::Global;
 use std::process::Abort;

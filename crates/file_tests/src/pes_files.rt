@@ -1,8 +1,9 @@
 use crate::feeding::{feed, read_all};
 use crate::large_designs::{compare_large, large};
 use crate::square;
-use design_model::{Bytes, Command, Design, Memory, ModelFault, Point};
+use design_model::{Command, Design, ModelFault, Point};
 use format_traits::{Format, Loaded, ReadFault};
+use lists_and_numbers::{Bytes, Memory};
 use pes_codec::{Pec, Pes};
 use std::alloc::Global;
 use std::process::Abort;

@@ -2,7 +2,7 @@
 use Rattle.std.proofs.Common.{◌≡◌, ℕ, ◌+◌, true, false, Bool, IsTrue, IsOk, IsOkAnd, IfOk, List, [], ◌∷◌, ◌++◌, None, Some, Result, Ok, Err, arith, subst, sym, true≢false, ◌∙◌}
 use Rattle.std.specs.List.{list_all}
 use Rattle.design_model.specs.declared.command.Command.{Command}
-use Rattle.design_model.specs.declared.memory.Memory.{Memory}
+use Rattle.lists_and_numbers.specs.declared.memory.Memory.{Memory}
 use Rattle.design_model.specs.Acts.{acts_of, acts_without_numbers}
 use Rattle.design_model.specs.Designs.{DesignValue, KeepsLimits}
 use Rattle.design_model.specs.Points.{is_point_within, origin}

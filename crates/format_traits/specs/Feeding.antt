@@ -1,7 +1,7 @@
 -- Feeding of a format object: the state that contracts see, and the meaning of each call.
 use Rattle.std.specs.Prelude.{◌≡◌, ℕ, ◌+◌, Bool, true, false, List, [], ◌++◌, length, Result, Ok, Err}
 use Rattle.design_model.specs.declared.command.Command.{Command}
-use Rattle.design_model.specs.declared.memory.Memory.{Memory}
+use Rattle.lists_and_numbers.specs.declared.memory.Memory.{Memory}
 use Rattle.format_traits.specs.declared.fault.ReadFault.{ReadFault}
 use Rattle.format_traits.specs.declared.fault.ReadFault.TheVariants as fault
 use Rattle.format_traits.specs.declared.loaded.Loaded.{Loaded}

@@ -9,7 +9,7 @@ use Rattle.design_model.specs.declared.design.TheConstants.{MAX_COMMANDS}
 use Rattle.design_model.specs.declared.point.Point.{Point}
 use Rattle.design_model.specs.declared.point.TheConstants.{NEEDLE_LIMIT}
 use Rattle.design_model.specs.Points.{is_point_within, origin, move_between}
-use Rattle.design_model.specs.OutOfMemory.{UnlessOutOfMemory}
+use Rattle.lists_and_numbers.specs.OutOfMemory.{UnlessOutOfMemory}
 use Rattle.format_traits.specs.declared.fault.WriteFault.{WriteFault}
 use Rattle.format_traits.specs.declared.encoder_state.WriteLimits.{WriteLimits}
 use Rattle.format_traits.specs.declared.encoder_state.EncoderState.{EncoderState}

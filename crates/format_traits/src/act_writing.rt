@@ -14,9 +14,8 @@ use crate::encoder_state::EncoderState;
 use crate::fault::WriteFault;
 use crate::move_hops::{MAX_HOPS, MAX_MOVE, hops, move_between, part_move};
 use crate::record_writer::RecordWriter;
-use design_model::{
-    Act, ActScanner, Bytes, Command, MAX_COMMANDS, Memory, NEEDLE_LIMIT, NumberedAct, Point,
-};
+use design_model::{Act, ActScanner, Command, MAX_COMMANDS, NEEDLE_LIMIT, NumberedAct, Point};
+use lists_and_numbers::{Bytes, Memory};
 
 /// Appends the records of a design's acts, and returns the encoder's state after them. An act that the format
 /// cannot write is reported; the contents of `out` are not specified then.

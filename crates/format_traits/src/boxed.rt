@@ -8,7 +8,8 @@ ghost use Rattle.format_traits.specs.Laws.{IsFileEnding, EncodesTo, RoundTrips, 
 use crate::fault::{ReadFault, WriteFault};
 use crate::format_object::Format;
 use crate::loaded::Loaded;
-use design_model::{Bytes, Design, Memory};
+use design_model::Design;
+use lists_and_numbers::{Bytes, Memory};
 use std::alloc::Global;
 
 /// Returns the ending of a boxed format's file names.

@@ -7,7 +7,7 @@ use crate::decoder::{Decoder, MAX_PENDING};
 use crate::fault::ReadFault;
 use crate::loaded::Loaded;
 use arrayvec::ArrayVec;
-use design_model::Memory;
+use lists_and_numbers::Memory;
 
 /// Passes the pending bytes at an offset and a chunk after them on to a decoder. The bytes that the decoder
 /// leaves are pending then.

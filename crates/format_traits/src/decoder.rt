@@ -1,6 +1,7 @@
 use crate::fault::ReadFault;
 use crate::loaded::Loaded;
-use design_model::{Command, Memory};
+use design_model::Command;
+use lists_and_numbers::Memory;
 
 /// A decoder leaves fewer pending bytes than this.
 pub const MAX_PENDING: usize = 528;

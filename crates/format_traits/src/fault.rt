@@ -1,6 +1,6 @@
 ghost use Rattle.std.specs.Prelude.{◌≡◌};
 
-use design_model::Memory;
+use lists_and_numbers::Memory;
 use thiserror::Error;
 
 /// Why a file was not read. `at` is the offset of a byte in the file, counted from 0.

@@ -6,7 +6,8 @@ use crate::decoder::{Decoder, MAX_PENDING};
 use crate::fault::ReadFault;
 use crate::loaded::Loaded;
 use arrayvec::ArrayVec;
-use design_model::{Command, Memory};
+use design_model::Command;
+use lists_and_numbers::Memory;
 
 /// The largest number of bytes that may be fed of one file.
 pub const MAX_FED: u64 = 67_108_864;

@@ -2,7 +2,8 @@ ghost use Rattle.std.specs.Prelude.{◌≡◌, ◌+◌, ◌≤◌, [], false, le
 
 use crate::fault::{ReadFault, WriteFault};
 use crate::loaded::Loaded;
-use design_model::{Bytes, Command, Design, Memory};
+use design_model::{Command, Design};
+use lists_and_numbers::{Bytes, Memory};
 use std::alloc::Global;
 
 /// The least limit of a format, in tenths of a millimetre.

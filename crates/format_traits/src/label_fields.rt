@@ -4,7 +4,8 @@ ghost use Rattle.design_model.specs.Designs.{with_label};
 ghost use Rattle.format_traits.specs.LabelFields.{label_field, label_in, printable_byte, without_end_spaces};
 
 use arrayvec::ArrayVec;
-use design_model::{Bytes, Design, MAX_LABEL, Memory};
+use design_model::{Design, MAX_LABEL};
+use lists_and_numbers::{Bytes, Memory};
 
 /// Appends `count` spaces.
 pub fn put_spaces(out: &mut Bytes, count: usize) -> Result<(), Memory>

@@ -8,7 +8,8 @@ use crate::loaded::Loaded;
 use crate::record_loop::read_records;
 use crate::record_reader::RecordReader;
 use crate::record_stage::RecordStage;
-use design_model::{Command, Design, Memory, Point};
+use design_model::{Command, Design, Point};
+use lists_and_numbers::Memory;
 use std::alloc::Global;
 use std::mem::replace;
 

@@ -9,7 +9,8 @@ use crate::event_adding::keep_event;
 use crate::fault::ReadFault;
 use crate::record_reader::{NextRecord, RecordReader};
 use crate::record_stage::RecordStage;
-use design_model::{Design, Memory, Point};
+use design_model::{Design, Point};
+use lists_and_numbers::Memory;
 
 /// How far a reader of records read: the number of bytes, the hoop's position, and the stage.
 #[derive(Clone, Copy)]

@@ -1,5 +1,6 @@
 use crate::encoder_state::WriteLimits;
-use design_model::{Bytes, Memory, Point};
+use design_model::Point;
+use lists_and_numbers::{Bytes, Memory};
 
 /// A writer of a format's records, which appends them to the bytes of a file.
 pub trait RecordWriter {

@@ -9,8 +9,9 @@ ghost use Rattle.line_graph.specs.WalkEnds.{has_end_at_spot, spot_added};
 
 use crate::draw_kind::DrawKind;
 use crate::drawing::Drawing;
-use design_model::{Memory, Point};
+use design_model::Point;
 use line_sections::{Line, Spot};
+use lists_and_numbers::Memory;
 use std::alloc::Global;
 
 /// Chosen junctions, at most one in each piece. `taken` records for the label of each line whether its

@@ -11,7 +11,7 @@ use crate::line_labels::labels;
 use crate::next_lines::{lines_with, next_lines};
 use crate::piece::{Piece, Pieces};
 use crate::piece_lines::piece_of;
-use design_model::Memory;
+use lists_and_numbers::Memory;
 use std::alloc::Global;
 
 /// Returns all pieces of a drawing, in the order of their first lines.

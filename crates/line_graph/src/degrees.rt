@@ -5,7 +5,7 @@ ghost use Rattle.line_graph.specs.PieceGraphs.{degrees_from};
 ghost use Rattle.line_graph.specs.PieceLabels.{CountsEnd, CountsEnds};
 
 use crate::edge::Edge;
-use design_model::Memory;
+use lists_and_numbers::Memory;
 use std::alloc::Global;
 
 /// Returns the degree of each junction: the number of line ends there.

@@ -1,6 +1,6 @@
 ghost use Rattle.std.specs.Prelude.{◌≡◌};
 
-use design_model::Memory;
+use lists_and_numbers::Memory;
 use std::alloc::AllocFailed;
 
 /// What is wrong with a drawing or a drawing text.

@@ -3,8 +3,9 @@ ghost use Rattle.line_graph.specs.declared.limits.TheConstants.{MAX_LINES};
 
 use crate::limits::MAX_BLOCKS;
 use arrayvec::ArrayVec;
-use design_model::{MAX_LABEL, Memory, Point};
+use design_model::{MAX_LABEL, Point};
 use line_sections::{Line, Spot};
+use lists_and_numbers::Memory;
 use std::alloc::Global;
 use std::marker::Model;
 

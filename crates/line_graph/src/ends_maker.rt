@@ -8,8 +8,8 @@ use crate::draw_kind::DrawKind;
 use crate::drawing::Drawing;
 use crate::first_lines::links;
 use crate::line_labels::labels;
-use design_model::Memory;
 use line_sections::Spot;
+use lists_and_numbers::Memory;
 use std::alloc::Global;
 use std::marker::Model;
 

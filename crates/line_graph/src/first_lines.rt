@@ -6,8 +6,8 @@ ghost use Rattle.line_graph.specs.FirstLines.{AddsLink, AreLinks, AreLinkedBelow
 use crate::drawing::Drawing;
 use crate::drawn_lines::line_ends;
 use crate::line_labels::LineLink;
-use design_model::Memory;
 use line_sections::Spot;
+use lists_and_numbers::Memory;
 use std::alloc::Global;
 use std::collections::HashMap;
 

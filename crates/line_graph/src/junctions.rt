@@ -8,8 +8,9 @@ ghost use Rattle.line_graph.specs.PieceLabels.{AddsEdge};
 use crate::drawing::Drawing;
 use crate::drawn_lines::{line_cost, line_ends};
 use crate::edge::{Edge, Edges};
-use design_model::{Memory, Point};
+use design_model::Point;
 use indexmap::IndexSet;
+use lists_and_numbers::Memory;
 use std::alloc::Global;
 
 /// Returns the edges of lines. Adds the ends of these lines to the junctions, in the order of the lines.

@@ -1,7 +1,7 @@
 ghost use Rattle.std.specs.Prelude.{◌≡◌, ◌≤◌, ◌<◌, ◌||◌, ◌∷◌, [], IfOk, get_or, length};
 ghost use Rattle.line_graph.specs.LineLabels.{AreAtMostIndex, AreOwnIndexes, AreFinalLabels, AreLinksBelow, AreLabelsOfLinks, LowersOneLabel, LowersLabels};
 
-use design_model::Memory;
+use lists_and_numbers::Memory;
 use std::alloc::Global;
 
 /// A link between a line and the first line that has one of its ends.

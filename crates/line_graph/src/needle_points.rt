@@ -6,8 +6,9 @@ ghost use Rattle.line_graph.specs.Needles.{needle_points};
 ghost use Rattle.line_graph.specs.Walks.{needles_of_line};
 
 use crate::drawing::Drawing;
-use design_model::{Memory, Point, Points};
+use design_model::{Point, Points};
 use line_sections::first_point;
+use lists_and_numbers::Memory;
 use std::alloc::Global;
 use step_splitter::split_into;
 

@@ -1,7 +1,8 @@
 ghost use Rattle.line_graph.specs.ValidPieces.{IsValidPiece};
 
 use crate::edge::Edges;
-use design_model::{Items, Numbers, Points};
+use design_model::Points;
+use lists_and_numbers::{Items, Numbers};
 
 /// A piece as a graph: the lines of a connected component, which are of one block and connected by shared
 /// ends.

@@ -9,9 +9,10 @@ use crate::degrees::degrees;
 use crate::drawing::Drawing;
 use crate::junctions::edges;
 use crate::piece::Piece;
-use design_model::{Memory, Numbers, Point, Points};
+use design_model::{Point, Points};
 use indexmap::IndexSet;
 use line_sections::Spot;
+use lists_and_numbers::{Memory, Numbers};
 use std::alloc::Global;
 use step_splitter::split_points_lead;
 

@@ -9,7 +9,8 @@ use crate::line::Line;
 use crate::listed_points::{is_cut, listed_points};
 use crate::points::first_point;
 use crate::spot::Spot;
-use design_model::{Memory, Point, Points};
+use design_model::{Point, Points};
+use lists_and_numbers::Memory;
 use std::alloc::Global;
 use std::collections::HashMap;
 

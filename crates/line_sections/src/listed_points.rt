@@ -5,7 +5,8 @@ ghost use Rattle.line_sections.specs.ListedPoints.{AreCutMarks, MarksLine, Marks
 
 use crate::line::Line;
 use crate::spot::Spot;
-use design_model::{Memory, Point};
+use design_model::Point;
+use lists_and_numbers::Memory;
 use std::alloc::Global;
 use std::collections::HashMap;
 

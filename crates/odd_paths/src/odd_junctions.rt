@@ -6,8 +6,8 @@ ghost use Rattle.line_graph.specs.ClosedDegrees.{closing_ends};
 ghost use Rattle.odd_paths.specs.OddDegrees.{odds_from, singleton_if};
 ghost use Rattle.odd_paths.specs.OddJunctions.{OddsAreEven};
 
-use design_model::{Memory, Numbers};
 use line_graph::{Piece, is_odd_at};
+use lists_and_numbers::{Memory, Numbers};
 use std::alloc::Global;
 
 /// Returns the indexes of the odd junctions of a piece, in rising order. The only error is out of memory.

@@ -3,8 +3,8 @@ ghost use Rattle.line_graph.specs.PiecesOfDrawings.{graph_of};
 ghost use Rattle.odd_paths.specs.LeastRows.{AreRows, IsPath, cost_at, row_length, terminal_of};
 
 use crate::walk_back::places;
-use design_model::{Memory, Numbers};
 use line_graph::Piece;
+use lists_and_numbers::{Memory, Numbers};
 use std::alloc::Global;
 use std::marker::Model;
 

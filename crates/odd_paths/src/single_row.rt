@@ -2,8 +2,8 @@ ghost use Rattle.std.specs.Prelude.{◌<◌, IfOk};
 ghost use Rattle.odd_paths.specs.EdgeWalks.{IsGraph, IsLeastRow};
 
 use crate::sweeps::{FAR, settle};
-use design_model::Memory;
 use line_graph::Edge;
+use lists_and_numbers::Memory;
 use std::alloc::Global;
 
 /// Returns the least costs from a junction to each of `n` junctions.

@@ -8,8 +8,8 @@ use crate::edge_order::order_by;
 use crate::lanes::LANES;
 use crate::rounds::settle;
 use crate::sweeps::FAR;
-use design_model::Memory;
 use line_graph::Edge;
+use lists_and_numbers::Memory;
 use std::alloc::Global;
 
 /// Appends the rows of at most sixteen terminals, and returns the order of the edges for the next ones.

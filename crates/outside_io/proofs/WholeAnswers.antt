@@ -3,7 +3,7 @@ use Rattle.std.proofs.Common.{◌≡◌, ℕ, ◌≤◌, List, length, Some, Non
 use Rattle.std.specs.Bool.{nat_le}
 use Rattle.outside_io.specs.declared.whole_files.GetFault.{GetFault}
 use Rattle.outside_io.specs.declared.whole_files.GetFault.TheVariants as fault
-use Rattle.design_model.specs.OutOfMemory.{IsSpecified}
+use Rattle.lists_and_numbers.specs.OutOfMemory.{IsSpecified}
 use Rattle.outside_io.specs.Causes.{ReadsWholeFile, get_is_out_of_memory, whole_file_result, IsFileLonger}
 use Rattle.outside_io.specs.Counts.{Rose, IsFaultless}
 use Rattle.outside_io.specs.Files.{WhereVisible}

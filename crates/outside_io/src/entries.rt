@@ -4,7 +4,7 @@ ghost use Rattle.outside_io.specs.MemEntries.{file_in, exceeds_room, room_in, wi
 ghost use Rattle.outside_io.specs.EntryIndexes.{HasNoEntry, IsEntryIndex};
 
 use crate::entry::Entry;
-use design_model::Memory;
+use lists_and_numbers::Memory;
 use std::alloc::Global;
 
 /// Returns the index of the entry of that name.

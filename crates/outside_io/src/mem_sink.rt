@@ -5,7 +5,7 @@ ghost use Rattle.outside_io.specs.MemSinks.{MemPuts, empty_sink, put_fails, sink
 
 use crate::sink::Sink;
 use crate::store::Failed;
-use design_model::Memory;
+use lists_and_numbers::Memory;
 use std::alloc::Global;
 use std::marker::Model;
 

@@ -9,7 +9,7 @@ use crate::entries::{add_to_file, content_of, make_file, raise_room, set_file};
 use crate::entry::Entry;
 use crate::limits::MAX_FILE;
 use crate::store::{Failed, ReadStop, Store};
-use design_model::Memory;
+use lists_and_numbers::Memory;
 use std::alloc::Global;
 use std::marker::Model;
 

@@ -1,5 +1,5 @@
 ghost use Rattle.std.specs.Prelude.{◌≡◌, ◌<◌, ◌≤◌, OnOk, length};
-ghost use Rattle.design_model.specs.OutOfMemory.{IsSpecified};
+ghost use Rattle.lists_and_numbers.specs.OutOfMemory.{IsSpecified};
 ghost use Rattle.outside_io.specs.Causes.{ReadsWholeFile, WriteCause, get_is_out_of_memory, whole_file_result};
 ghost use Rattle.outside_io.specs.Counts.{IsFaultless};
 ghost use Rattle.outside_io.specs.FileParts.{ReadsNextPart};
@@ -7,7 +7,7 @@ ghost use Rattle.outside_io.specs.Files.{ChangesOnlyFile, FileHolds, IsFileName,
 
 use crate::limits::MAX_FILE;
 use crate::store::{Failed, ReadStop, Store};
-use design_model::{Bytes, Memory};
+use lists_and_numbers::{Bytes, Memory};
 use std::alloc::Global;
 
 /// The number of bytes requested by one read.

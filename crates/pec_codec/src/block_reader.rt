@@ -5,8 +5,9 @@ ghost use Rattle.format_traits.specs.Layouts.{layout_decoded, layout_reads};
 ghost use Rattle.pec_codec.specs.Reading.{pec_block_layout};
 
 use crate::pec_records::PecRecords;
-use design_model::{Command, Memory};
+use design_model::Command;
 use format_traits::{Fed, Feed, Loaded, ReadFault, RecordDecoder};
+use lists_and_numbers::Memory;
 use std::alloc::Global;
 
 /// A reader of a block that is fed in chunks.

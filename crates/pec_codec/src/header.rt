@@ -9,8 +9,9 @@ ghost use Rattle.pec_codec.specs.Header.{pec_header_of, pec_label_of, labels_of,
 use crate::block::{HEADER_LENGTH, LABELS_LENGTH, MAX_STOPS};
 use crate::theorems::designs_keep_limits;
 use byteorder::{ByteOrder, LittleEndian};
-use design_model::{Bytes, Design, MAX_LABEL, Memory, extent, height, width};
+use design_model::{Design, MAX_LABEL, extent, height, width};
 use format_traits::{put_label, put_spaces, read_label};
+use lists_and_numbers::{Bytes, Memory};
 use std::alloc::Global;
 
 /// The width of the hoop in a header, in tenths of a millimetre.

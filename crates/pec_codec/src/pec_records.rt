@@ -2,8 +2,9 @@ use crate::block::{HEADER_LENGTH, LIMIT, MAX_STOPS};
 use crate::header::read_header;
 use crate::record_decoding::decode_record;
 use crate::record_encoding::{put_jump, put_stitch, put_stop, put_trim};
-use design_model::{Bytes, Design, Memory, Point};
+use design_model::{Design, Point};
 use format_traits::{NextRecord, RecordReader, RecordWriter, WriteLimits};
+use lists_and_numbers::{Bytes, Memory};
 
 /// The reader and writer of the records of a block.
 #[derive(Clone, Copy)]

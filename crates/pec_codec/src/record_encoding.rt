@@ -5,7 +5,8 @@ ghost use Rattle.pec_codec.specs.Coordinates.{is_short_number, long_bytes_of, to
 ghost use Rattle.pec_codec.specs.RecordBytes.{pec_jump_record, long_record, pec_stitch_record, pec_stop_record, pec_trim_record, stop_byte_of};
 
 use crate::block::LIMIT;
-use design_model::{Bytes, Memory, Point};
+use design_model::Point;
+use lists_and_numbers::{Bytes, Memory};
 
 /// The mark of a jump in the first byte of a coordinate.
 const JUMP: u8 = 0x10;

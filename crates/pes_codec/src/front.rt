@@ -3,8 +3,9 @@ ghost use Rattle.pec_codec.specs.Laws.{KeepsBlockLaws};
 ghost use Rattle.pec_codec.specs.Writing.{pec_block_writes};
 ghost use Rattle.pes_codec.specs.Writing.{after_front};
 
-use design_model::{Bytes, Design};
+use design_model::Design;
 use format_traits::WriteFault;
+use lists_and_numbers::Bytes;
 use pec_codec::write_block;
 use std::alloc::Global;
 

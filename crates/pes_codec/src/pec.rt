@@ -7,8 +7,9 @@ ghost use Rattle.pes_codec.specs.Reading.{pec_reads};
 use crate::file_decoder::FileDecoder;
 use crate::file_front::FileFront;
 use crate::front::{PEC_BLOCK_OFFSET, write_after_front};
-use design_model::{Bytes, Command, Design, Memory};
+use design_model::{Command, Design};
 use format_traits::{Fed, Feed, Format, Loaded, ReadFault, WriteFault, decode_whole};
+use lists_and_numbers::{Bytes, Memory};
 use pec_codec::LIMIT;
 use std::alloc::Global;
 

@@ -10,8 +10,9 @@ use crate::file_decoder::FileDecoder;
 use crate::file_front::FileFront;
 use crate::front::{OFFSET_END, write_after_front};
 use byteorder::{ByteOrder, LittleEndian};
-use design_model::{Bytes, Command, Design, Memory};
+use design_model::{Command, Design};
 use format_traits::{Fed, Feed, Format, Loaded, ReadFault, WriteFault, decode_whole};
+use lists_and_numbers::{Bytes, Memory};
 use pec_codec::LIMIT;
 use std::alloc::Global;
 

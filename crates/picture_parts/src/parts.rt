@@ -2,8 +2,9 @@ ghost use Rattle.std.specs.Prelude.{◌≡◌, ◌++◌, OnOk, map};
 ghost use Rattle.std.specs.Fmt.{decimal, signed_decimal};
 ghost use Rattle.picture_parts.specs.Parts.{joined, mm_text, part_text, point_text};
 
-use design_model::{Bytes, Memory, Point};
+use design_model::Point;
 use itoa::Buffer;
+use lists_and_numbers::{Bytes, Memory};
 
 /// A part of an SVG text.
 #[derive(Clone, Copy)]

@@ -2,7 +2,8 @@ ghost use Rattle.std.specs.Prelude.{◌≡◌, ◌++◌, OnOk};
 ghost use Rattle.picture_parts.specs.Sheets.{foot_text, head_text, size_text, view_text, frame_text, style_text, arrows_text};
 
 use crate::parts::{Part, put};
-use design_model::{Bytes, Memory, Point};
+use design_model::Point;
+use lists_and_numbers::{Bytes, Memory};
 
 /// The rectangle that a picture shows, in tenths of a millimetre: its upper left corner and its size.
 #[derive(Clone, Copy)]

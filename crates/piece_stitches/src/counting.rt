@@ -6,8 +6,8 @@ ghost use Rattle.piece_stitches.specs.PieceStitches.{HasLinesOf, HasSmallLengths
 use crate::stitch_summary::StitchSummary;
 use crate::summing::summary_of;
 use crate::travelling::travel;
-use design_model::{Items, Memory};
 use line_graph::{Drawing, Piece, pieces_keep_limits};
+use lists_and_numbers::{Items, Memory};
 use odd_cuts::first_lent;
 use std::alloc::Global;
 

@@ -5,9 +5,10 @@ ghost use Rattle.piece_stitches.specs.GrowingSummaries.{IsSummary, no_stitches, 
 ghost use Rattle.piece_stitches.specs.StitchSummaries.{lengths_after, stitch_lengths, summary_of_lines};
 
 use crate::stitch_summary::StitchSummary;
-use design_model::{Memory, Point};
+use design_model::Point;
 use line_graph::{Drawing, needles};
 use line_sections::first_point;
+use lists_and_numbers::Memory;
 use odd_cuts::first_and_rest;
 use picture_parts::length_between;
 use std::alloc::Global;

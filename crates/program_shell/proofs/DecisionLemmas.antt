@@ -1,6 +1,6 @@
 -- If no fault is counted, the arguments and the files determine the status.
 use Rattle.std.proofs.Common.{◌≡◌, ℕ, Bool, true, false, ◌≤◌, inl, inr, List, Option, Some, None, IsSome, length, ap, refl, string_bytes, subst, arith}
-use Rattle.design_model.specs.OutOfMemory.{UnlessOutOfMemory}
+use Rattle.lists_and_numbers.specs.OutOfMemory.{UnlessOutOfMemory}
 use Rattle.outside_io.specs.Causes.{IsFileLonger}
 use Rattle.outside_io.specs.Counts.{IsFaultless, Rose}
 use Rattle.outside_io.specs.Files.{Files, FileHolds, LacksFile}

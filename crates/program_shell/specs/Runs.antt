@@ -5,7 +5,7 @@
 -- are what contracts see of the files, the standard output and the standard error. Files that the
 -- store hides have no content in a view: the facts about their content then hold trivially.
 use Rattle.std.specs.Prelude.{◌≡◌, ℕ, ◌⊎◌, Bool, true, false, List, Option, Some, None, IsSome}
-use Rattle.design_model.specs.OutOfMemory.{UnlessOutOfMemory}
+use Rattle.lists_and_numbers.specs.OutOfMemory.{UnlessOutOfMemory}
 use Rattle.outside_io.specs.Files.{Files}
 use Rattle.program_shell.specs.declared.status.Status.{Status}
 use Rattle.program_shell.specs.declared.status.Status.TheVariants as status

@@ -1,6 +1,6 @@
 ghost use Rattle.std.specs.Prelude.{◌≡◌};
 
-use design_model::Memory;
+use lists_and_numbers::Memory;
 
 /// Why an order made no product.
 #[derive(Drop)]

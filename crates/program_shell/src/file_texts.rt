@@ -1,8 +1,8 @@
 ghost use Rattle.std.specs.Prelude.{◌≡◌, IfOk, codes, string_bytes};
 ghost use Rattle.program_shell.specs.FileTexts.{read_fault_text, text_about, text_at};
 
-use design_model::Memory;
 use format_traits::ReadFault;
+use lists_and_numbers::Memory;
 use std::alloc::Global;
 
 /// Returns a text about a file.

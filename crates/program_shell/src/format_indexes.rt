@@ -8,8 +8,8 @@ use crate::failure::Failure;
 use crate::file_texts::describe_read_fault;
 use crate::reading::read_failure;
 use design_files::{LoadFault, load};
-use design_model::Memory;
 use format_traits::{Format, Loaded, ReadFault};
+use lists_and_numbers::Memory;
 use outside_io::Store;
 use std::alloc::Global;
 

@@ -1,7 +1,7 @@
 ghost use Rattle.std.specs.Prelude.{◌≡◌, ◌∷◌, [], IfOk};
 ghost use Rattle.program_shell.specs.Products.{one_file_product, report_product, product_value, two_file_product, output_value};
 
-use design_model::{Bytes, Items, Memory};
+use lists_and_numbers::{Bytes, Items, Memory};
 use std::alloc::Global;
 
 /// A file that a command writes: its name, and its content.

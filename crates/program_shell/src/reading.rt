@@ -8,7 +8,7 @@ ghost use Rattle.program_shell.specs.StepOutcomes.{IsRefusalWith, ReadsInput};
 
 use crate::failure::Failure;
 use crate::file_texts::describe_file;
-use design_model::{Bytes, Memory};
+use lists_and_numbers::{Bytes, Memory};
 use outside_io::{GetFault, MAX_FILE, Store, read_whole};
 use std::alloc::Global;
 

@@ -1,8 +1,9 @@
 //! A stitch file is fed to its format part by part, and not decoded as a whole.
 use crate::cases::behind;
-use design_model::{Bytes, Command, Design, Memory};
+use design_model::{Command, Design};
 use dst_codec::Dst;
 use format_traits::{Format, Loaded, ReadFault, WriteFault};
+use lists_and_numbers::{Bytes, Memory};
 use outside_io::{MemSink, MemStore};
 use std::alloc::Global;
 use std::test::Fail;

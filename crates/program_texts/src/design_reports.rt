@@ -3,9 +3,10 @@ ghost use Rattle.std.specs.Fmt.{signed_decimal};
 ghost use Rattle.design_model.specs.declared.design.TheConstants.{MAX_COMMANDS};
 ghost use Rattle.program_texts.specs.DesignReports.{written_report, block_report_line, block_lines, count_lines, ended_line, extent_line, labelled_number_line, labelled_number, coordinates_text, show_report, title_lines};
 
-use design_model::{Bytes, Counts, Design, Extent, Memory, Point, block_counts, counts, extent};
+use design_model::{Counts, Design, Extent, Point, block_counts, counts, extent};
 use format_traits::Loaded;
 use itoa::Buffer;
+use lists_and_numbers::{Bytes, Memory};
 use std::alloc::Global;
 
 /// Returns the report on a file of the format with that ending: its label, counts, extent, whether it has an

@@ -1,7 +1,7 @@
 ghost use Rattle.std.specs.Prelude.{◌≡◌, IfOk, string_bytes};
 ghost use Rattle.program_texts.specs.MigrationReports.{migrate_report};
 
-use design_model::{Bytes, Memory};
+use lists_and_numbers::{Bytes, Memory};
 use std::alloc::Global;
 
 /// Returns the report of a migration: the number of lines and pieces of a drawing, and the cost of its lines

@@ -2,8 +2,9 @@ ghost use Rattle.std.specs.Prelude.{◌≡◌, ◌≤◌, IfOk, length, string_b
 ghost use Rattle.line_sections.specs.Sections.{segments_of};
 ghost use Rattle.program_texts.specs.TracingReports.{segment_count, traced_line, tracing_report};
 
-use design_model::{Bytes, Memory, Point};
+use design_model::Point;
 use line_graph::Drawing;
+use lists_and_numbers::{Bytes, Memory};
 use std::alloc::Global;
 
 /// Returns the report of a tracing: the number of blocks and lines of its drawing, and of links, each a

@@ -6,8 +6,8 @@ ghost use Rattle.line_graph.specs.PieceWalks.{edge_cost};
 ghost use Rattle.route_core.specs.Copies.{copies_sum};
 
 use blossom_match::Pair;
-use design_model::{Memory, Numbers};
 use line_graph::Piece;
+use lists_and_numbers::{Memory, Numbers};
 use odd_cuts::first_and_rest;
 use odd_paths::Rows;
 use std::alloc::Global;

@@ -5,8 +5,8 @@ ghost use Rattle.odd_paths.specs.LeastRows.{AreRows, cost_at, terminal_of};
 ghost use Rattle.route_core.specs.Distances.{HasDistances, HasFilledEntries};
 
 use blossom_match::DistTable;
-use design_model::Memory;
 use line_graph::Piece;
+use lists_and_numbers::Memory;
 use odd_paths::Rows;
 use std::alloc::Global;
 

@@ -3,9 +3,9 @@ ghost use Rattle.line_graph.specs.PiecesOfDrawings.{ArePiecesOf, graph_of, lines
 ghost use Rattle.route_core.specs.Doubles.{AreDoubled, IsDoubleOver, IsDoubleCert};
 
 use crate::routed::Routed;
-use design_model::Memory;
 use double_run::double;
 use line_graph::{Drawing, Piece, fitting_walks_are_sewable, pieces_keep_limits};
+use lists_and_numbers::Memory;
 use odd_cuts::{Cert, Cuts, PieceCert, PieceCerts, first_lent};
 use route_verdict::sew;
 use std::alloc::Global;

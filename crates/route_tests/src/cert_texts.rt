@@ -2,8 +2,8 @@ ghost use Rattle.std.specs.Prelude.{All, IfOk};
 ghost use Rattle.odd_cuts.specs.Certificates.{HasCanonicalText};
 
 use certificate_text::{CertFault, MAX_CERT, print_cert, read_cert};
-use design_model::{Bytes, Memory};
 use line_graph::Pass;
+use lists_and_numbers::{Bytes, Memory};
 use odd_cuts::Cert;
 use std::alloc::Global;
 use std::process::Abort;

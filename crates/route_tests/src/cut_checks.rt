@@ -2,9 +2,9 @@ ghost use Rattle.std.specs.Prelude.{◌+◌, ◌≤◌, IfOk, OnOk, length};
 ghost use Rattle.odd_cuts.specs.CutFaults.{HaveNumberedMembers};
 
 use crate::cert_parts::{members_of, pass_of};
-use design_model::Memory;
 use drawing_text::{MAX_TEXT, read_drawing};
 use line_graph::{Pass, Piece, Pieces, pieces};
+use lists_and_numbers::Memory;
 use odd_cuts::{Cut, CutFault, Cuts, WalkFault, check_cuts, check_walk};
 use std::alloc::Global;
 use std::process::Abort;

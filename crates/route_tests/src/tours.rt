@@ -2,9 +2,10 @@ ghost use Rattle.std.specs.Prelude.{◌≡◌, ◌∷◌, [], pos, true, IfOk};
 ghost use Rattle.line_graph.specs.PiecesOfDrawings.{graph_of};
 ghost use Rattle.line_graph.specs.ValidPieces.{is_below};
 
-use design_model::{Items, Memory, Point};
+use design_model::Point;
 use euler_tour::tour;
 use line_graph::{Edge, Pass, Piece};
+use lists_and_numbers::{Items, Memory};
 use std::alloc::Global;
 use std::test::Fail;
 

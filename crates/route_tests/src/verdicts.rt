@@ -2,9 +2,10 @@ ghost use Rattle.std.specs.Prelude.{◌≤◌, All, IfOk, length};
 ghost use Rattle.route_verdict.specs.Verdicts.{HasShortLists};
 
 use crate::cert_parts::{members_of, pass_of};
-use design_model::{Command, Design, Memory, ModelFault, Point};
+use design_model::{Command, Design, ModelFault, Point};
 use drawing_tests::points_of;
 use line_graph::{DrawKind, Drawing, DrawingMaker, Walk};
+use lists_and_numbers::Memory;
 use odd_cuts::{Cert, Cut, CutFault, Cuts, PieceCert, PieceCerts, WalkFault};
 use route_verdict::{Reason, Verdict, judge};
 use std::alloc::Global;

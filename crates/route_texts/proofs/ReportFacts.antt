@@ -7,7 +7,7 @@ use Rattle.route_texts.specs.declared.summary.Summary.{Summary}
 use Rattle.route_texts.specs.declared.sewing_reports.Sewing.TheVariants as sewing
 use Rattle.route_texts.specs.SewingReports.{sewing_report}
 use Rattle.route_texts.specs.Summaries.{summary_text}
-use Rattle.design_model.specs.TextLines.{newline}
+use Rattle.lists_and_numbers.specs.TextLines.{newline}
 
 -- two pieces, of which each walk makes twelve and five steps, and then four more and none
 abbrev pieces : List PieceReport

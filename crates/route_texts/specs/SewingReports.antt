@@ -1,6 +1,6 @@
 -- The reports of `route` and `double`: a line for each piece, and the totals. Costs count steps.
 use Rattle.std.specs.Prelude.{ℕ, ◌+◌, List, [], ◌∷◌, ◌++◌, codes, decimal, sum_by, length}
-use Rattle.design_model.specs.TextLines.{newline}
+use Rattle.lists_and_numbers.specs.TextLines.{newline}
 use Rattle.route_texts.specs.declared.sewing_reports.PieceReport.{PieceReport}
 use Rattle.route_texts.specs.declared.sewing_reports.Sewing.{Sewing}
 use Rattle.route_texts.specs.declared.sewing_reports.Sewing.TheVariants as sewing

@@ -9,8 +9,8 @@ ghost use Rattle.route_texts.specs.SewingReports.{penetrations_of};
 
 use crate::sewing_reports::{PieceReport, reports_of};
 use crate::summary::Summary;
-use design_model::Memory;
 use line_graph::{Piece, is_odd_at};
+use lists_and_numbers::Memory;
 use odd_cuts::PieceCert;
 use std::alloc::Global;
 

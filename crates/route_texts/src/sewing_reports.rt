@@ -4,8 +4,8 @@ ghost use Rattle.line_graph.specs.PiecesOfDrawings.{graph_of};
 ghost use Rattle.route_texts.specs.PieceReports.{reports_from, piece_report};
 ghost use Rattle.route_texts.specs.SewingReports.{cost_text, double_cost_text, penetrations_of, piece_position_text, route_cost_text, sewing_report, totals_text};
 
-use design_model::{Bytes, Items, Memory};
 use line_graph::Piece;
+use lists_and_numbers::{Bytes, Items, Memory};
 use odd_cuts::{PieceCert, first_lent};
 use std::alloc::Global;
 

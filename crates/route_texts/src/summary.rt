@@ -1,7 +1,7 @@
 ghost use Rattle.std.specs.Prelude.{◌≡◌, IfOk, string_bytes};
 ghost use Rattle.route_texts.specs.Summaries.{summary_counts, summary_costs, summary_odds, summary_text};
 
-use design_model::{Bytes, Memory};
+use lists_and_numbers::{Bytes, Memory};
 use std::alloc::Global;
 
 /// The summary of the sample drawing of a number, and of a route of it: the numbers of lines, junctions, odd

@@ -11,8 +11,9 @@ ghost use Rattle.route_verdict.specs.SewingSteps.{AllDrawn, AreDrawn, run_comman
 ghost use Rattle.line_graph.specs.Chains.{IsNeedlePoint};
 
 use crate::walk_needles::walk_needles;
-use design_model::{Command, Design, Memory, ModelFault, Point};
+use design_model::{Command, Design, ModelFault, Point};
 use line_graph::{Drawing, Pass, needles_lead_along};
+use lists_and_numbers::Memory;
 use odd_cuts::{Cert, PieceCert, first_and_rest, first_lent};
 use std::alloc::Global;
 

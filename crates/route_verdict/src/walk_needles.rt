@@ -2,8 +2,9 @@ ghost use Rattle.std.specs.Prelude.{◌≡◌, ◌<◌, ◌++◌, IfOk, OnOk, dr
 ghost use Rattle.line_graph.specs.Walks.{needles_of_pass, needles_of_walk};
 ghost use Rattle.route_verdict.specs.SewingSteps.{AreDrawn, later_needles};
 
-use design_model::{Memory, Point, Points};
+use design_model::{Point, Points};
 use line_graph::{Drawing, Pass, needles};
+use lists_and_numbers::Memory;
 use odd_cuts::first_and_rest;
 use std::alloc::Global;
 

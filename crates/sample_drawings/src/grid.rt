@@ -7,7 +7,8 @@ ghost use Rattle.sample_drawings.specs.Samples.{segment_between, cells_per_side,
 
 use crate::draws::Generator;
 use crate::segment::Segment;
-use design_model::{Memory, Numbers, Point, Points};
+use design_model::{Point, Points};
+use lists_and_numbers::{Memory, Numbers};
 use std::alloc::Global;
 
 /// The number of sizes of grids.

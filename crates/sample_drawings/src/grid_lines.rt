@@ -4,7 +4,7 @@ ghost use Rattle.sample_drawings.specs.Samples.{cells_per_side, diagonals, segme
 
 use crate::grid::{Grid, cell_count, junction_count};
 use crate::segment::{Segment, Segments};
-use design_model::Memory;
+use lists_and_numbers::Memory;
 use std::alloc::Global;
 
 /// The directions of the lines of a grid.

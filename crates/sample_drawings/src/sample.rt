@@ -8,8 +8,9 @@ ghost use Rattle.sample_drawings.specs.SampleRoom.{HasRoom, IsShortSegment, firs
 use crate::grid::Grid;
 use crate::grid_lines::segments;
 use crate::segment::Segment;
-use design_model::{Memory, Points};
+use design_model::Points;
 use line_graph::{DrawKind, Drawing, DrawingMaker};
+use lists_and_numbers::Memory;
 use std::alloc::Global;
 
 /// The longest step of a sample drawing, in tenths of a millimetre.

@@ -1,4 +1,5 @@
-use design_model::{Items, Point};
+use design_model::Point;
+use lists_and_numbers::Items;
 
 /// A straight segment from one point to another, in tenths of a millimetre.
 #[derive(Clone, Copy)]

@@ -8,7 +8,8 @@ ghost use Rattle.step_splitter.specs.Refits.{MeetsRefitGoal, Refits, refitted_ac
 ghost use Rattle.step_splitter.specs.RefitSteps.{RefitsAll};
 
 use crate::refit_state::RefitState;
-use design_model::{ActScanner, Command, Design, Memory};
+use design_model::{ActScanner, Command, Design};
+use lists_and_numbers::Memory;
 use std::alloc::Global;
 
 /// The change that a refit makes.

@@ -2,7 +2,7 @@
 use Rattle.std.proofs.Common.{◌++◌, None, refl}
 use Rattle.std.specs.Prelude.{codes}
 use Rattle.hoop_check.specs.declared.fitting.Fit.TheVariants as fit
-use Rattle.design_model.specs.TextLines.{newline}
+use Rattle.lists_and_numbers.specs.TextLines.{newline}
 use Rattle.stitch_cli.specs.Hoops.{hoop_fitted}
 use Rattle.program_shell.specs.Plans.{Makes, Refuses}
 use Rattle.program_shell.specs.Products.{report_product}

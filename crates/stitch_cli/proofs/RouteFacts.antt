@@ -3,7 +3,7 @@ use Rattle.std.proofs.Common.{◌≡◌, ℕ, pos, [], ◌∷◌, ◌++◌, refl
 use Rattle.std.specs.Fmt.{digits}
 use Rattle.std.specs.Prelude.{codes}
 use Rattle.odd_cuts.specs.declared.certificate.PieceCert.{PieceCert}
-use Rattle.design_model.specs.TextLines.{newline}
+use Rattle.lists_and_numbers.specs.TextLines.{newline}
 use Rattle.design_model.specs.declared.point.Point.{Point}
 use Rattle.line_graph.specs.Drawings.{DrawingValue}
 use Rattle.stitch_cli.specs.Sewings.{piece_reports}

@@ -3,7 +3,7 @@ use Rattle.std.proofs.Common.{◌≡◌, ◌++◌, refl}
 use Rattle.std.specs.Fmt.{digits}
 use Rattle.std.specs.Prelude.{codes}
 use Rattle.design_changes.specs.declared.change_faults.ChangeFault.TheVariants as reason
-use Rattle.design_model.specs.TextLines.{newline}
+use Rattle.lists_and_numbers.specs.TextLines.{newline}
 use Rattle.program_shell.specs.Messages.{message_line}
 use Rattle.stitch_cli.specs.Checks.{bad_line_text}
 use Rattle.stitch_cli.specs.Commands.{stitch}

@@ -3,7 +3,7 @@
 use Rattle.std.specs.Prelude.{◌≡◌, ℕ, List, ◌++◌, Option, Some, None, Result, Ok, Err, codes}
 use Rattle.command_words.specs.declared.requests.CheckNames.{CheckNames}
 use Rattle.odd_cuts.specs.declared.certificate.PieceCert.{PieceCert}
-use Rattle.design_model.specs.TextLines.{newline}
+use Rattle.lists_and_numbers.specs.TextLines.{newline}
 use Rattle.certificate_text.specs.ReadCertificates.{cert_of}
 use Rattle.design_model.specs.Designs.{DesignValue}
 use Rattle.drawing_text.specs.declared.draw_fault.DrawFault.{DrawFault}

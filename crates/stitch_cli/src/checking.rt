@@ -12,10 +12,11 @@ ghost use Rattle.program_shell.specs.Plans.{satisfies};
 
 use certificate_text::{CertFault, read_cert};
 use command_words::CheckNames;
-use design_model::{Design, Memory};
+use design_model::Design;
 use drawing_inputs::drawing_in;
 use format_traits::{Format, Loaded, find};
 use line_graph::Drawing;
+use lists_and_numbers::Memory;
 use odd_cuts::Cert;
 use outside_io::Store;
 use program_shell::{Failure, Product, bytes_of, describe_part, load_at, only_report, read_input};

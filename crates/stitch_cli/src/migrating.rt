@@ -6,10 +6,10 @@ ghost use Rattle.stitch_cli.specs.Commands.{migrating, stitch};
 ghost use Rattle.stitch_cli.specs.Migrations.{IsMigrated, complete_migrate, migrate_order, migrate_plan};
 ghost use Rattle.program_shell.specs.Products.{product_value};
 
-use design_model::Memory;
 use drawing_inputs::drawing_as2_in;
 use drawing_text::print_drawing2;
 use line_graph::{Drawing, drawing_cost, pieces};
+use lists_and_numbers::Memory;
 use outside_io::Store;
 use program_shell::{Failure, Output, Product, one_output};
 use program_texts::print_migration;

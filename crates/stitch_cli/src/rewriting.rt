@@ -12,8 +12,9 @@ ghost use Rattle.program_shell.specs.Plans.{satisfies};
 
 use command_words::RewriteNames;
 use design_changes::{ChangeFailure, ChangeFault, Changes, changed};
-use design_model::{Design, Memory, counts};
+use design_model::{Design, counts};
 use format_traits::{Format, Loaded, WriteFault, encode_by, find, limit_of};
+use lists_and_numbers::Memory;
 use outside_io::Store;
 use program_shell::{Failure, Output, Product, format_at, load_at, one_output};
 use program_texts::{describe_command, describe_no_place, describe_write_fault, print_written};

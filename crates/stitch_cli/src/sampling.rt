@@ -7,9 +7,9 @@ ghost use Rattle.program_shell.specs.StepOutcomes.{RunsPurePlan};
 ghost use Rattle.program_shell.specs.Products.{product_value};
 ghost use Rattle.stitch_cli.specs.Samples.{IsSampleProduct, sample_order, sample_plan};
 
-use design_model::Memory;
 use drawing_text::print_drawing;
 use line_graph::{Drawing, pieces};
+use lists_and_numbers::Memory;
 use program_shell::{Failure, Output, Product, one_output};
 use route_core::route_pieces;
 use route_texts::{print_summary, summary_of};

@@ -15,10 +15,10 @@ ghost use Rattle.stitch_cli.specs.SewingWays.{IsSewnBy, IsSewnOver};
 
 use certificate_text::print_cert;
 use command_words::RouteNames;
-use design_model::{Bytes, Memory};
 use drawing_inputs::drawing_in;
 use format_traits::{Format, WriteFault, encode_by, ext_of, find, limit_of};
 use line_graph::{Drawing, Piece, pieces, runs_are_sewn};
+use lists_and_numbers::{Bytes, Memory};
 use outside_io::Store;
 use program_shell::{Failure, Output, Product, format_at, two_outputs};
 use program_texts::describe_step;

@@ -1,6 +1,6 @@
 -- The orders of stitch_picture, their plans, and the program.
 use Rattle.std.specs.Prelude.{ℕ, List, [], ◌∷◌, ◌++◌, Option, Some, None, codes}
-use Rattle.design_model.specs.TextLines.{newline}
+use Rattle.lists_and_numbers.specs.TextLines.{newline}
 use Rattle.design_picture.specs.declared.hoop.Hoop.{Hoop}
 use Rattle.format_traits.specs.Endings.{format_of}
 use Rattle.format_traits.specs.Meanings.{Meaning}

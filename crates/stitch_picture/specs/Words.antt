@@ -1,9 +1,9 @@
 -- What the arguments of stitch_picture request: the picture of a file, with the two sides of a hoop
 -- or none, or the picture of a proof.
 use Rattle.std.specs.Prelude.{ℕ, zero, suc, ℤ, pos, negsuc, ◌-◌, Bool, ◌&&◌, not, List, [], ◌∷◌, Option, Some, None, bytes_eq, codes, drop, length, nat_le, if◌then◌else◌}
-use Rattle.design_model.specs.declared.whole_number.Whole.{Whole}
-use Rattle.design_model.specs.declared.whole_number.Whole.TheVariants as whole
-use Rattle.design_model.specs.WholeNumbers.{parsed_whole}
+use Rattle.lists_and_numbers.specs.declared.whole_number.Whole.{Whole}
+use Rattle.lists_and_numbers.specs.declared.whole_number.Whole.TheVariants as whole
+use Rattle.lists_and_numbers.specs.WholeNumbers.{parsed_whole}
 use Rattle.design_picture.specs.declared.hoop.Hoop.{Hoop}
 use Rattle.outside_io.specs.Files.{IsFileName, is_file_name}
 use Rattle.stitch_picture.specs.declared.words.FileNames.{FileNames}

@@ -6,9 +6,9 @@ ghost use Rattle.stitch_picture.specs.Pictures.{design_picture_plan, picture_rea
 ghost use Rattle.stitch_picture.specs.Words.{AreFileNames, requested_file};
 
 use crate::words::FileNames;
-use design_model::Bytes;
 use design_picture::picture;
 use format_traits::{Format, Loaded};
+use lists_and_numbers::Bytes;
 use outside_io::Store;
 use program_shell::{Failure, Output, Product, format_at, load_at, one_output};
 use std::alloc::Global;

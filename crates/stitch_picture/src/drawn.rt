@@ -6,8 +6,8 @@ ghost use Rattle.stitch_picture.specs.Words.{AreFileNames, requested_file};
 
 use crate::reading::{LinesRead, lines_in};
 use crate::words::FileNames;
-use design_model::Bytes;
 use drawing_picture::picture_of_drawing;
+use lists_and_numbers::Bytes;
 use outside_io::Store;
 use program_shell::{Failure, Output, Product, one_output};
 use std::alloc::Global;

@@ -10,10 +10,10 @@ ghost use Rattle.stitch_picture.specs.Words.{AreProofNames, proof_order};
 
 use crate::words::ProofNames;
 use certificate_text::{CertFault, read_cert};
-use design_model::{Bytes, Memory};
 use drawing_inputs::drawing_in;
 use drawing_picture::{ProofFault, picture_of_proof};
 use line_graph::Drawing;
+use lists_and_numbers::{Bytes, Memory};
 use odd_cuts::Cert;
 use outside_io::Store;
 use program_shell::{Failure, Output, Product, describe_part, one_output, read_input};

@@ -1,5 +1,5 @@
 ghost use Rattle.std.specs.Prelude.{◌≡◌, ◌≤◌, Err, List, Ok, Result, ℕ, length};
-ghost use Rattle.design_model.specs.OutOfMemory.{IsSpecified};
+ghost use Rattle.lists_and_numbers.specs.OutOfMemory.{IsSpecified};
 ghost use Rattle.drawing_text.specs.declared.draw_fault.DrawFault.{DrawFault};
 ghost use Rattle.drawing_text.specs.DrawingText.{draw_fault_is_out_of_memory};
 ghost use Rattle.drawing_text.specs.declared.limits.TheConstants.{MAX_TEXT};
@@ -10,9 +10,9 @@ ghost use Rattle.program_texts.specs.DrawingTexts.{draw_fault_text};
 ghost use Rattle.stitch_picture.specs.declared.reading.LinesRead.{LinesRead as LinesReadValue};
 ghost use Rattle.stitch_picture.specs.DrawnPictures.{lines_read};
 
-use design_model::Memory;
 use drawing_text::{DrawFault, DrawnLines, read_drawing, read_lines};
 use line_graph::{DrawKind, Drawing};
+use lists_and_numbers::Memory;
 use outside_io::Store;
 use program_shell::{Failure, read_input};
 use program_texts::describe_draw_fault;

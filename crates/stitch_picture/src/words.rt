@@ -1,8 +1,8 @@
 ghost use Rattle.std.specs.Prelude.{◌≡◌, IfSome, map, option_map, string_bytes};
 ghost use Rattle.stitch_picture.specs.Words.{AreGoodNames, has_svg_ending, hoop_of_sides, picture_request, proof_request, request_of, request_with, request_words, side_of_number, side_word};
 
-use design_model::{Whole, parse_whole};
 use design_picture::Hoop;
+use lists_and_numbers::{Whole, parse_whole};
 use outside_io::is_name;
 
 /// The greatest side of a hoop, in tenths of a millimetre.

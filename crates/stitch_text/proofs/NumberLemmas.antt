@@ -10,8 +10,8 @@ use Rattle.std.specs.Fmt.{decimal, signed_decimal}
 use Rattle.std.specs.List.{list_all}
 use Rattle.std.specs.Str.{all_ascii_digits}
 use Rattle.std.specs.Str.Parse.{digits_value}
-use Rattle.design_model.specs.declared.whole_number.Whole.TheVariants as whole
-use Rattle.design_model.specs.WholeNumbers.{is_digit_string, signed_number, parsed_digits, parsed_whole}
+use Rattle.lists_and_numbers.specs.declared.whole_number.Whole.TheVariants as whole
+use Rattle.lists_and_numbers.specs.WholeNumbers.{is_digit_string, signed_number, parsed_digits, parsed_whole}
 use Rattle.stitch_text.specs.Words.{has_leading_zero, is_canonical_number, canonical_number_of}
 
 -- std's view of decimal digits

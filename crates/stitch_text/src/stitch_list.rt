@@ -3,8 +3,9 @@ ghost use Rattle.stitch_text.specs.StitchLists.{list_write_limits};
 
 use crate::list_decoder::ListDecoder;
 use crate::writing::write_file;
-use design_model::{Bytes, Command, Design, Memory};
+use design_model::{Command, Design};
 use format_traits::{Fed, Feed, Format, Loaded, ReadFault, WriteFault, WriteLimits, decode_whole};
+use lists_and_numbers::{Bytes, Memory};
 use std::alloc::Global;
 
 /// The greatest move of a stitch on each axis, in tenths of a millimetre.

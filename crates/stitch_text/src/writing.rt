@@ -13,9 +13,10 @@ ghost use Rattle.stitch_text.specs.Steps.{PutsLine, PutsLines};
 use crate::point_line::put_point;
 use crate::stitch_list::{LIMIT, write_limits};
 use crate::theorems::written_reads_again;
-use design_model::{Act, ActScanner, Bytes, Design, Memory, NumberedAct};
+use design_model::{Act, ActScanner, Design, NumberedAct};
 use format_traits::{EncoderState, WriteFault};
 use itoa::Buffer;
+use lists_and_numbers::{Bytes, Memory};
 use std::alloc::Global;
 
 /// Writes a design as a list.

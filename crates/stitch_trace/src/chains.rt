@@ -7,7 +7,8 @@ use crate::links::Link;
 use crate::needle_moves::{NeedleMove, move_to, needle_point};
 use crate::new_links::new_move;
 use crate::strands::Chains;
-use design_model::{Memory, NumberedAct, Points};
+use design_model::{NumberedAct, Points};
+use lists_and_numbers::Memory;
 use std::alloc::Global;
 use std::collections::HashSet;
 

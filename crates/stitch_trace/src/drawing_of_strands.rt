@@ -3,7 +3,7 @@ ghost use Rattle.std.specs.List.{position_or_len};
 ghost use Rattle.design_model.specs.Labels.{IsLabel};
 ghost use Rattle.design_model.specs.declared.point.Point.{Point as PointValue};
 ghost use Rattle.step_splitter.specs.declared.segment.TheConstants.{MAX_STEP};
-ghost use Rattle.design_model.specs.OutOfMemory.{IsSpecified};
+ghost use Rattle.lists_and_numbers.specs.OutOfMemory.{IsSpecified};
 ghost use Rattle.line_graph.specs.GrowingDrawings.{and_then, empty_drawing, finished_drawing, draw_is_out_of_memory};
 ghost use Rattle.line_graph.specs.JoinedDrawings.{is_joined, joined_drawing};
 ghost use Rattle.line_graph.specs.WalkEnds.{HasNoEnds};

@@ -7,7 +7,7 @@ ghost use Rattle.stitch_trace.specs.Tracing.{new_moves_by};
 
 use crate::links::Link;
 use crate::needle_moves::NeedleMove;
-use design_model::Memory;
+use lists_and_numbers::Memory;
 use std::collections::HashSet;
 
 /// Returns the move, or a gap where its link was sewn before in either direction.

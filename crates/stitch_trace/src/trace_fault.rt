@@ -1,8 +1,8 @@
 ghost use Rattle.std.specs.Prelude.{◌≡◌};
 ghost use Rattle.stitch_trace.specs.Traces.{IsRefusalOf};
 
-use design_model::Memory;
 use line_graph::DrawKind;
+use lists_and_numbers::Memory;
 
 /// The reason why a design has no traced drawing.
 #[derive(Clone, Copy)]

@@ -1,7 +1,7 @@
 ghost use Rattle.std.specs.Prelude.{◌≡◌, ◌++◌, IfOk, replicate};
 ghost use Rattle.std.specs.List.{concat};
 
-use design_model::{Bytes, Memory};
+use lists_and_numbers::{Bytes, Memory};
 use std::alloc::Global;
 
 /// Returns a head, the given number of times a middle, and an end. The only error is `Memory`.

@@ -1,7 +1,7 @@
 -- Worked values of whole numbers as text.
 use Rattle.std.proofs.Common.{◌≡◌, pos, negsuc, [], ◌∷◌, refl}
-use Rattle.design_model.specs.declared.whole_number.Whole.TheVariants as whole
-use Rattle.design_model.specs.WholeNumbers.{parsed_whole}
+use Rattle.lists_and_numbers.specs.declared.whole_number.Whole.TheVariants as whole
+use Rattle.lists_and_numbers.specs.WholeNumbers.{parsed_whole}
 
 -- `-05` and `0`
 pub known_negative : parsed_whole (45 ∷ 48 ∷ 53 ∷ []) ≡ whole.Value (negsuc 4)

@@ -2,9 +2,9 @@
 use Rattle.std.specs.Prelude.{◌==◌, ℕ, ℤ, pos, neg_ℤ, Bool, true, false, not, List, [], ◌∷◌, nat_le, if◌then◌else◌}
 use Rattle.std.specs.Str.{all_ascii_digits}
 use Rattle.std.specs.Str.Parse.{digits_value}
-use Rattle.design_model.specs.declared.whole_number.TheConstants.{MAX_WHOLE}
-use Rattle.design_model.specs.declared.whole_number.Whole.{Whole}
-use Rattle.design_model.specs.declared.whole_number.Whole.TheVariants as whole
+use Rattle.lists_and_numbers.specs.declared.whole_number.TheConstants.{MAX_WHOLE}
+use Rattle.lists_and_numbers.specs.declared.whole_number.Whole.{Whole}
+use Rattle.lists_and_numbers.specs.declared.whole_number.Whole.TheVariants as whole
 
 -- The test whether a text is one or more decimal digits.
 abbrev pub is_digit_string : List ℕ → Bool

@@ -1,6 +1,6 @@
 use Rattle.std.proofs.Common.{◌≡◌, drop}
 use Rattle.std.specs.Str.{all_ascii_digits}
-use Rattle.design_model.proofs.whole_number.are_digits.Given as goal
+use Rattle.lists_and_numbers.proofs.whole_number.are_digits.Given as goal
 
 -- the bytes that are left decide
 abbrev pub invariant-loop-byte : goal.invariant-loop-byte

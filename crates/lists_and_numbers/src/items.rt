@@ -1,9 +1,6 @@
 ghost use Rattle.std.specs.Prelude.{◌≡◌, ◌==◌, ◌∷◌, ◌++◌, [], length, OnOk, OnErr};
 
-use crate::act::NumberedAct;
-use crate::command::Command;
 use crate::memory::Memory;
-use crate::point::Point;
 use std::alloc::Global;
 use std::marker::Model;
 
@@ -17,12 +14,6 @@ pub struct Items<T> {
 pub type Bytes = Items<u8>;
 /// Indexes or numbers.
 pub type Numbers = Items<u32>;
-/// Points, in tenths of a millimetre.
-pub type Points = Items<Point>;
-/// The acts of a design.
-pub type Acts = Items<NumberedAct>;
-/// Commands of a design.
-pub type Commands = Items<Command>;
 
 impl<T> Model for Items<T> {
     ghost use Rattle.std.specs.Prelude.{List};

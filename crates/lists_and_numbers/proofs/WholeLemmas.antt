@@ -6,7 +6,7 @@ use Rattle.std.proofs.lemmas.Int.Digits.{digits_value_more}
 use Rattle.std.specs.Char.{digit_value, is_ascii_digit}
 use Rattle.std.specs.Str.{all_ascii_digits}
 use Rattle.std.specs.Str.Parse.{digits_value}
-use Rattle.design_model.specs.declared.whole_number.TheConstants.{MAX_WHOLE}
+use Rattle.lists_and_numbers.specs.declared.whole_number.TheConstants.{MAX_WHOLE}
 
 -- capping before and after a digit is capping after it
 cap_once : (value d : ℕ) → min (min value (MAX_WHOLE + 1) * 10 + d) (MAX_WHOLE + 1) ≡ min (value * 10 + d) (MAX_WHOLE + 1)

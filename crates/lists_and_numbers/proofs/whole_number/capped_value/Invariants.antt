@@ -1,7 +1,7 @@
 use Rattle.std.proofs.Common.{◌≡◌, ◌+◌, take, min}
 use Rattle.std.specs.Str.Parse.{digits_value}
-use Rattle.design_model.specs.declared.whole_number.TheConstants.{MAX_WHOLE}
-use Rattle.design_model.proofs.whole_number.capped_value.Given as goal
+use Rattle.lists_and_numbers.specs.declared.whole_number.TheConstants.{MAX_WHOLE}
+use Rattle.lists_and_numbers.proofs.whole_number.capped_value.Given as goal
 
 -- The number that the digits read so far write.
 abbrev pub invariant-loop-digit : goal.invariant-loop-digit

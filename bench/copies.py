@@ -1,0 +1,102 @@
+#!/usr/bin/env python3
+"""Lists the lemmas whose statement stands more than once, whatever their variables are called.
+
+    bench/copies.py [--all] [--lines]
+
+A statement is the type of a lemma at the top level of a file of proofs/, without values, answers and invariants. Without --all only those
+are listed that stand in two crates or more. --lines prints for each crate its lines of code, of proof and its functions,
+without blanks and comments.
+"""
+import collections
+import glob
+import os
+import re
+import sys
+
+HOME = os.path.join(os.path.dirname(os.path.abspath(__file__)), "..", "crates")
+START = re.compile(r"^(?:pub )?(?:abbrev )?(?:pub )?([A-Za-z_◌][^\s:({]*)\s*:(?=\s|$)")
+NAME = re.compile(r"[A-Za-z_][\w'’]*(?:-[\w']+)*")
+FUNCTION = re.compile(r"\s*(?:pub(?:\([a-z]+\))? )?(?:const )?fn ")
+
+
+def lemmas(path):
+    """The lemmas at the top level of a file: name, line, statement."""
+    name, line, text = None, 0, []
+    for number, row in enumerate(open(path, encoding="utf-8"), 1):
+        row = row.rstrip("\n")
+        if row.strip().startswith("--") or not row.strip():
+            continue
+        start = START.match(row)
+        if start:
+            if name:
+                yield name, line, " ".join(text)
+            name, line, text = start.group(1), number, [row[start.end():]]
+        elif row[:1].isspace():
+            if name:
+                text.append(row.strip())
+        elif name:
+            yield name, line, " ".join(text)
+            name = None
+    if name:
+        yield name, line, " ".join(text)
+
+
+def normal(statement):
+    """A statement whose bound variables are numbered in their order."""
+    bound = set()
+    for group in re.findall(r"[({]([^(){}:]*?):(?=\s)", statement):
+        bound.update(NAME.findall(group))
+    for group in re.findall(r"λ\s+\(?([^.:()]*)[.:]", statement):
+        bound.update(NAME.findall(group))
+    numbers = {}
+
+    def number(match):
+        word = match.group(0)
+        if word not in bound:
+            return word
+        return "v%d" % numbers.setdefault(word, len(numbers))
+
+    text = NAME.sub(number, statement)
+    text = re.sub(r"\.\s*\{[^}]*\}", "", text)
+    return re.sub(r"\s+", "", text)
+
+
+def code_lines(folder, ending, comment):
+    rows = []
+    for path in glob.glob(os.path.join(folder, "**", "*." + ending), recursive=True):
+        rows += [row for row in open(path, encoding="utf-8")
+                 if row.strip() and not row.strip().startswith(comment)]
+    return rows
+
+
+def print_lines():
+    total = [0, 0, 0]
+    for folder in sorted(glob.glob(os.path.join(HOME, "*"))):
+        code = code_lines(os.path.join(folder, "src"), "rt", "//")
+        proof = code_lines(os.path.join(folder, "proofs"), "antt", "--")
+        row = [len(code), len(proof), sum(1 for line in code if FUNCTION.match(line))]
+        total = [a + b for a, b in zip(total, row)]
+        print("%-20s %6d %6d %4d" % (os.path.basename(folder), *row))
+    print("%-20s %6d %6d %4d" % ("all", *total))
+
+
+def main():
+    if "--lines" in sys.argv:
+        print_lines()
+        return
+    places = collections.defaultdict(list)
+    for path in sorted(glob.glob(os.path.join(HOME, "*", "proofs", "**", "*.antt"), recursive=True)):
+        if os.path.basename(path) in ("Answers.antt", "Invariants.antt"):
+            continue
+        place = os.path.relpath(path, HOME)
+        for name, line, statement in lemmas(path):
+            if "→" in statement or "≡" in statement:
+                places[normal(statement)].append((place, line, name))
+    repeated = [rows for rows in places.values()
+                if len({row[0].split("/")[0] for row in rows}) > 1 or ("--all" in sys.argv and len(rows) > 1)]
+    for rows in sorted(repeated, key=len, reverse=True):
+        print("; ".join("%s:%d %s" % row for row in rows))
+    print("%d statements, %d copies" % (len(repeated), sum(len(rows) - 1 for rows in repeated)))
+
+
+main()

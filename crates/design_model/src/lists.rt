@@ -1,0 +1,11 @@
+use crate::act::NumberedAct;
+use crate::command::Command;
+use crate::point::Point;
+use lists_and_numbers::Items;
+
+/// Points, in tenths of a millimetre.
+pub type Points = Items<Point>;
+/// The acts of a design.
+pub type Acts = Items<NumberedAct>;
+/// Commands of a design.
+pub type Commands = Items<Command>;

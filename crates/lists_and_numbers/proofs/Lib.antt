@@ -1,0 +1,2 @@
+mod WholeFacts
+pub mod WholeLemmas

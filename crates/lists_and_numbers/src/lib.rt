@@ -1,0 +1,10 @@
+//! Lists that grow, whole numbers in texts, want of memory, and lemmas on plain lists that several crates cite.
+#![tactic(auto)]
+
+mod items;
+mod memory;
+mod whole_number;
+
+pub use items::{Bytes, Items, Numbers};
+pub use memory::Memory;
+pub use whole_number::{MAX_WHOLE, Whole, parse_whole};
