@@ -25,8 +25,8 @@ use Rattle.blossom_match.proofs.ScanLemmas.{apart_from}
 use Rattle.blossom_match.proofs.SearchLemmas.{in_place, is_one, place_in}
 use Rattle.blossom_match.proofs.FreeLemmas.{load_of, load_of-comm, under}
 use Rattle.blossom_match.proofs.BoundLemmas.{height_limit, loads_apart}
-use Rattle.blossom_match.proofs.TableLemmas.{entry-comm}
 use Rattle.blossom_match.proofs.DualLemmas.{outer_with_both-comm, around_same_all, between_in, between_out, branches_load, branches_tall, counted, matches_same, drop_changed, each_split, firm_changed, grown_same, inner_same, inside, more_wide, one_place, outer_limit, outer_same, set_limit, sizes_same, sound_up, times_by, wide_tall, within}
+use Rattle.blossom_match.proofs.CallerLemmas.{entry-comm}
 
 -- the inner blossom at which the step is due has dual 0 after the change
 due_comes_apart : (by : ℕ) (bs : List BranchValue) → FirstHasDual by bs → FirstCanExpand (all_changed by bs)

@@ -25,9 +25,9 @@ use Rattle.blossom_match.proofs.SumLemmas.{count-append, height-append, dual_loa
 use Rattle.blossom_match.proofs.ScanLemmas.{around_none}
 use Rattle.blossom_match.proofs.SearchLemmas.{is_one, place_in, low_branches, low_matches}
 use Rattle.blossom_match.proofs.FreeLemmas.{load_of}
-use Rattle.blossom_match.proofs.TableLemmas.{entry-comm}
 use Rattle.blossom_match.proofs.ShrinkLemmas.{two_even}
 use Rattle.blossom_match.proofs.TreeLemmas.{around_same, base_in}
+use Rattle.blossom_match.proofs.CallerLemmas.{entry-comm}
 
 load_case : (n : ℕ) (a b : ℕ) (s : OddSetValue) → IsOddSet s → count a s.members ≡ n → one_if_both a b s ≡ 0 → dual_load a b (dual_sets s)
     ≡ height a (dual_sets s) + height b (dual_sets s)

@@ -18,8 +18,8 @@ use Rattle.blossom_match.specs.declared.search.SearchStep.TheVariants.{Augment}
 use Rattle.blossom_match.proofs.SumLemmas.{count-append, height-append, hit_is, hit_same, dual_load-append, dual_load-comm, load_alone, low, none_hold}
 use Rattle.blossom_match.proofs.BlossomLemmas.{made_kept}
 use Rattle.blossom_match.proofs.SearchLemmas.{is_one, low_branches, low_matches, none_branches, none_matches, place_in}
-use Rattle.blossom_match.proofs.TableLemmas.{entry-comm}
 use Rattle.blossom_match.proofs.TreeLemmas.{base_in}
+use Rattle.blossom_match.proofs.CallerLemmas.{entry-comm}
 
 -- all duals between two places
 abbrev pub load_of : SearchValue → ℕ → ℕ → ℕ

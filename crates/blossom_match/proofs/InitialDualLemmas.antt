@@ -17,7 +17,7 @@ use Rattle.blossom_match.proofs.SumLemmas.{count-append, hit_same}
 use Rattle.blossom_match.proofs.SearchLemmas.{is_one, place_in}
 use Rattle.blossom_match.proofs.DualLemmas.{matches_same}
 use Rattle.blossom_match.proofs.EndLemmas.{begins}
-use Rattle.blossom_match.proofs.TableLemmas.{entry-comm}
+use Rattle.blossom_match.proofs.CallerLemmas.{entry-comm}
 
 place_case : (b : Bool) (x n : ℕ) → ltb x n ≡ b → cond b 1 0 ≤ 0 → n ≤ x
 place_case true x n e none = absurd (omega (arith, none))

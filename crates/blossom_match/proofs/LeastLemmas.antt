@@ -11,6 +11,7 @@ use Rattle.blossom_match.specs.declared.matching.Moat.{Moat}
 use Rattle.blossom_match.specs.declared.matching.Pair.{Pair}
 use Rattle.blossom_match.proofs.MoatLemmas.{crossing}
 use Rattle.blossom_match.proofs.SumLemmas.{hit_same}
+use Rattle.blossom_match.proofs.CallerLemmas.{ends_below}
 
 true_false : true ≡ false → ⊥
 true_false e = cc
@@ -166,9 +167,6 @@ loads_cost t moats (p ∷ ps) keeps below =
 below_case : (b : Bool) (x n e : ℕ) → nat_lt x n ≡ b → e ≡ one_if b → 1 ≤ e → x < n
 below_case true x n e is one some = omega (arith, ltb-true x n is)
 below_case false x n e is none some = absurd (omega (arith, none, some))
-
-ends_below : (n : ℕ) (ps : List Pair) → IsPerfectMatching n ps → (x : ℕ) → 1 ≤ pair_ends_at ps x → x < n
-ends_below n ps each x some = below_case (nat_lt x n) x n (pair_ends_at ps x) refl (each x) some
 
 pub none_cheaper : (t : TableValue) (pairs : List Pair) (moats : List Moat) → IsOptimalMatching t pairs moats
     → (others : List Pair) → IsPerfectMatching t.places others → pairs_cost t pairs ≤ pairs_cost t others

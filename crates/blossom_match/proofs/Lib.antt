@@ -1,3 +1,4 @@
+pub mod CallerLemmas
 pub mod ListLemmas
 pub mod SumLemmas
 pub mod BlossomLemmas

@@ -18,8 +18,8 @@ use Rattle.blossom_match.specs.declared.search.SearchStep.TheVariants.{Grow, Shr
 use Rattle.blossom_match.proofs.ListLemmas.{each-append, each-left, each-right, each-push}
 use Rattle.blossom_match.proofs.SumLemmas.{dual_sets-append, bands_push, count-append, height-append, dual_load-append, members-append, members_push, none_hold, none_tall, size-append}
 use Rattle.blossom_match.proofs.ChainLemmas.{tight_back}
-use Rattle.blossom_match.proofs.TableLemmas.{entry-comm}
 use Rattle.blossom_match.proofs.TreeLemmas.{grown_push}
+use Rattle.blossom_match.proofs.CallerLemmas.{entry-comm}
 
 free_none : (x : ℕ) {xs ys : List ℕ} → xs ≡ ys → count x xs ≡ 0 → count x ys ≡ 0
 free_none x e none = omega (arith, none, ap (λ (zs : List ℕ). count x zs) e)

@@ -167,10 +167,3 @@ pub set_at_stored : (t : TableValue) → IsStored t → (a b d at back : ℕ) �
 set_at_stored t is a b d at back ne e f la lb low =
     subst (λ (k : ℕ). IsStored (set_at t k back d)) (sym e)
     (subst (λ (k : ℕ). IsStored (set_at t (a * t.places + b) k d)) (sym f) (set_stored t is a b d ne la lb low))
-
--- the entry of two places does not depend on their order
-pub entry-comm : (t : TableValue) (a b : ℕ) → entry t a b ≡ entry t b a
-entry-comm t a b =
-    let e : min a b * t.places + max a b ≡ min b a * t.places + max b a =
-    one_cell t.places (min a b) (max a b) (min b a) (max b a) (omega arith) (omega arith) in
-    ap (λ (k : ℕ). get_or t.cells k 0) e

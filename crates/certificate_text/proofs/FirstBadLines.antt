@@ -16,9 +16,9 @@ use Rattle.certificate_text.specs.ReadCertificates.{IsCertificatePrefix, IsFirst
 use Rattle.certificate_text.proofs.ItemWords.{HasPass}
 use Rattle.certificate_text.proofs.LineTexts.{HasLine, line_bytes, some_item}
 use Rattle.certificate_text.proofs.NumberWords.{then_some}
-use Rattle.certificate_text.proofs.PartLemmas.{some_part}
 use Rattle.certificate_text.proofs.ReadTexts.{Lacks, SayOn, line_before, next_judged}
 use Rattle.certificate_text.proofs.ReadingLemmas.{goes_on}
+use Rattle.text_parts.proofs.CallerLemmas.{some_part}
 
 -- the parts of a text have no line end
 onto_lacks : (b : ℕ) (parts : List (List ℕ)) → (b == 10) ≡ false → All Lacks parts → All Lacks (onto_first b parts)

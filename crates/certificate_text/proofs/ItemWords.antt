@@ -12,7 +12,8 @@ use Rattle.line_graph.specs.declared.pass.Pass.{Pass}
 use Rattle.line_graph.specs.PieceWalks.{all_greater, is_strictly_increasing}
 use Rattle.certificate_text.specs.CertificateLines.{parsed_members_after, parsed_number_above, parsed_pass_along, parsed_pass, parsed_passes}
 use Rattle.certificate_text.specs.CertificateTexts.{member_text, passes_text}
-use Rattle.certificate_text.proofs.NumberWords.{above_is, above_read, map_some, own, pass_is, pass_spaced, pass_word, spaced, then_some}
+use Rattle.certificate_text.proofs.NumberWords.{above_is, above_read, map_some, pass_is, pass_spaced, pass_word, spaced, then_some}
+use Rattle.lists_and_numbers.proofs.CallerLemmas.{decimal_model}
 
 -- a pass and a member that have a number
 abbrev pub HasPass : Pass → Type 0
@@ -56,7 +57,7 @@ pass_read pass has = by_sign pass.back refl where
   by_sign true is = rw is (along true)
   by_sign false is =
       let fits : pass.line + 1 < 2 ^ 64 = omega (arith, has) in
-      rw is (forward (decimal (pass.line + 1)) (digits_decimal own (pass.line + 1) fits)
+      rw is (forward (decimal (pass.line + 1)) (digits_decimal decimal_model (pass.line + 1) fits)
       (decimal_nonempty (pass.line + 1) fits) ∙ along false)
 
 -- printed passes are read

@@ -2,7 +2,6 @@
 use Rattle.std.proofs.Common.{◌≡◌, ◌≢◌, ℕ, ◌<◌, ◌^◌, Bool, true, false, List, [], ◌∷◌, ◌++◌, Some, option_map, All, bytes_eq, codes, decimal, subst, ap, sym, refl, ◌∙◌, map, append-nil}
 use Rattle.std.proofs.lemmas.List.Splits.{join_with_byte-slice_split}
 use Rattle.std.proofs.lemmas.Option.{none-some, same_Some}
-use Rattle.std.proofs.lemmas.Slice.Eq.{bytes_eq-Decides}
 use Rattle.std.specs.List.{flat_map, join_with_byte}
 use Rattle.line_graph.specs.declared.pass.Pass.{Pass}
 use Rattle.certificate_text.specs.declared.lines.CertLine.{CertLine}
@@ -14,6 +13,7 @@ use Rattle.certificate_text.specs.CertificateTexts.{member_text, passes_text}
 use Rattle.odd_cuts.specs.Packings.{IsPlainCut}
 use Rattle.certificate_text.proofs.ItemWords.{HasMember, HasPass, members_are, members_spaced, passes_are, passes_spaced}
 use Rattle.certificate_text.proofs.NumberWords.{above_is, map_some, number_is, pass_word, spaced, then_some}
+use Rattle.lists_and_numbers.proofs.CallerLemmas.{same_word}
 
 -- a cut that can be printed
 pub record HasCut (cut : Cut) : Type 0 where
@@ -103,10 +103,6 @@ cut_said (word ∷ words) l says =
       };
     } in
     subst (λ (other : CertLine). SaysLine (codes "cut" ++ spaced (word ∷ words)) other) (ap line.Cut cuts ∙ made) one)))
-
--- a word that is found to be this text is this text
-same_word : (word text : List ℕ) → bytes_eq word text ≡ true → word ≡ text
-same_word word text found = (bytes_eq-Decides word text).0 found
 
 -- the line of words, by the first one
 words_are : (words : List (List ℕ)) (l : CertLine) → parsed_cert_words words ≡ Some l → SaysLine (join_with_byte 32 words) l

@@ -4,7 +4,6 @@ use Rattle.std.proofs.lemmas.Bool.{and_from, and_parts, cases_order}
 use Rattle.std.proofs.lemmas.Bool.Decides.{nat_tests}
 use Rattle.std.proofs.lemmas.Fmt.{decimal-digits_value, decimal_digit, decimal_nonempty, digits_decimal, digits_value-decimal, first_decimal}
 use Rattle.std.proofs.lemmas.Option.{cond_some, none-some, same_Some}
-use Rattle.std.proofs.lemmas.Str.Parse.{IsNumeralModel, numerals_by_value, tells_all_ascii_digits}
 use Rattle.std.specs.Char.{is_ascii_digit}
 use Rattle.std.specs.List.{flat_map}
 use Rattle.std.specs.Option.{option_and_then}
@@ -13,10 +12,7 @@ use Rattle.std.specs.Str.Parse.{digits_value}
 use Rattle.line_graph.specs.declared.pass.Pass.{Pass}
 use Rattle.certificate_text.specs.CertificateLines.{is_canonical_numeral, parsed_number_above, parsed_cert_number, parsed_pass_along, parsed_pass, small_number}
 use Rattle.certificate_text.specs.CertificateTexts.{pass_text}
-
--- std's view of decimal digits
-pub own : IsNumeralModel (λ ds. all_ascii_digits ds ≡ true) (digits_value 10)
-own = numerals_by_value (λ ds. all_ascii_digits ds ≡ true) tells_all_ascii_digits
+use Rattle.lists_and_numbers.proofs.CallerLemmas.{decimal_model, false_true}
 
 -- the parts of a result that is present
 pub if_some : {A : Type 0} (test : Bool) (o : Option A) (a : A) → (if test then o else None) ≡ Some a
@@ -42,10 +38,6 @@ record IsPlain (word : List ℕ) : Type 0 where
   some : 0 < length word
   lead : get_or word 0 0 ≡ 48 → length word ≡ 1
 
--- false is not true
-false_true : false ≡ true → ⊥
-false_true is = cc
-
 -- the result of the test of a numeral
 plain_is : (word : List ℕ) → is_canonical_numeral word ≡ true → IsPlain word
 plain_is [] is = absurd (false_true is)
@@ -68,7 +60,7 @@ decimal_plain n small = elim (cases_order n 0) [
   | inl none ↦ rw (none, decimal_digit 0 (omega arith)) refl
   | inr (inl less) ↦ absurd (omega (arith, less))
   | inr (inr more) ↦
-      plain_from (decimal n) (digits_decimal own n small) (decimal_nonempty n small) (first_decimal n more small)
+      plain_from (decimal n) (digits_decimal decimal_model n small) (decimal_nonempty n small) (first_decimal n more small)
 ]
 
 -- a number is read from its numeral
@@ -76,7 +68,7 @@ pub number_read : (n : ℕ) → n < 2 ^ 32 → parsed_cert_number (decimal n) �
 number_read n small =
     let fits : n < 2 ^ 64 = omega (arith, small) in
     let test : nat_lt n (2 ^ 32) ≡ true = grind (arith, nat_tests, small) in
-    rw (decimal_plain n fits, digits_value-decimal own n fits, test) refl
+    rw (decimal_plain n fits, digits_value-decimal decimal_model n fits, test) refl
 
 -- a word that denotes this number
 pub record Spells (word : List ℕ) (n : ℕ) : Type 0 where
@@ -92,7 +84,7 @@ number_is word n says =
     let parts = plain_is word plain.0 in
     record {
       is = ap decimal (sym value.1)
-          ∙ decimal-digits_value own word parts.digits parts.some parts.lead (omega (arith, small));
+          ∙ decimal-digits_value decimal_model word parts.digits parts.some parts.lead (omega (arith, small));
       small = omega (arith, small, value.1);
     }
 

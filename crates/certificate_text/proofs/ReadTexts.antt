@@ -1,16 +1,13 @@
 -- The text of a certificate is read as that certificate.
-use Rattle.std.proofs.Common.{◌≡◌, ◌≢◌, ℕ, ◌+◌, ◌<◌, ◌^◌, ◌==◌, ◌&&◌, Bool, true, false, not, List, [], ◌∷◌, ◌++◌, Option, Some, option_map, Ok, All, bytes_eq, codes, decimal, map, subst, ap, sym, refl, ◌∙◌, append_assoc, append-nil, arith}
-use Rattle.std.proofs.lemmas.Bool.{and_from, and_parts, not-true}
-use Rattle.std.proofs.lemmas.Bool.Decides.{nat_tests}
+use Rattle.std.proofs.Common.{◌≡◌, ◌≢◌, ℕ, ◌+◌, ◌<◌, ◌^◌, ◌==◌, ◌&&◌, Bool, true, false, List, [], ◌∷◌, ◌++◌, Option, Some, option_map, Ok, All, bytes_eq, codes, decimal, map, subst, ap, sym, refl, ◌∙◌, append_assoc, append-nil, arith}
+use Rattle.std.proofs.lemmas.Bool.{and_from, not-true}
 use Rattle.std.proofs.lemmas.Fmt.{digits_decimal}
 use Rattle.std.proofs.lemmas.List.Elements.{All-head, All-tail, All-weaker}
 use Rattle.std.proofs.lemmas.List.Folds.{list_all-append}
 use Rattle.std.proofs.lemmas.List.Splits.{slice_split_at, slice_split_none}
 use Rattle.std.proofs.lemmas.List.Sums.{AllPass-from_list_all}
-use Rattle.std.specs.Char.{is_ascii_digit}
 use Rattle.std.specs.List.{flat_map, list_all}
 use Rattle.std.specs.Option.{option_and_then}
-use Rattle.std.specs.Str.{all_ascii_digits}
 use Rattle.line_graph.specs.declared.pass.Pass.{Pass}
 use Rattle.odd_cuts.specs.declared.certificate.PieceCert.{PieceCert}
 use Rattle.certificate_text.specs.declared.draft.CertDraft.{CertDraft}
@@ -27,29 +24,20 @@ use Rattle.odd_cuts.specs.Packings.{IsPlainCut}
 use Rattle.certificate_text.specs.ReadCertificates.{HasSmallNumbers, cert_of, draft_with_text_line, draft_with_line, pieces_after_lines, with_cut}
 use Rattle.certificate_text.proofs.ItemWords.{HasMember, HasPass, member_word, members_read, members_spaced, passes_read, passes_spaced, reach_all}
 use Rattle.certificate_text.proofs.LineTexts.{HasCut, HasLine, line_bytes}
-use Rattle.certificate_text.proofs.NumberWords.{above_read, number_read, own, pass_word, spaced}
+use Rattle.certificate_text.proofs.NumberWords.{above_read, number_read, pass_word, spaced}
 use Rattle.certificate_text.proofs.UniqueTexts.{HasText}
 use Rattle.certificate_text.proofs.ReadingLemmas.{goes_on, line_judged}
-
--- a byte that ends neither a word nor a line
-abbrev is_inner : ℕ → Bool
-is_inner b = not (b == 32) && not (b == 10)
+use Rattle.lists_and_numbers.proofs.CallerLemmas.{decimal_model}
+use Rattle.text_parts.proofs.CallerLemmas.{digits_inner, inner_kept, is_inner, is_kept, no_space}
 
 -- words of such bytes
 abbrev AreWords : List (List ℕ) → Type 0
 AreWords [] = Unit {0}
 AreWords (word ∷ words) = (list_all is_inner word ≡ true) × AreWords words
 
--- numbers are words
-digits_inner : (ds : List ℕ) → all_ascii_digits ds ≡ true → list_all is_inner ds ≡ true
-digits_inner [] digits = refl
-digits_inner (b ∷ ds) digits =
-    let both = and_parts (is_ascii_digit b) (all_ascii_digits ds) digits in
-    and_from (is_inner b) (list_all is_inner ds) (grind (arith, nat_tests, both.0)) (digits_inner ds both.1)
-
 -- a printed number is one word
 number_word : (n : ℕ) → n < 2 ^ 32 → list_all is_inner (decimal n) ≡ true
-number_word n small = digits_inner (decimal n) (digits_decimal own n (omega (arith, small)))
+number_word n small = digits_inner (decimal n) (digits_decimal decimal_model n (omega (arith, small)))
 
 -- a printed pass is one word
 pass_inner : (pass : Pass) → HasPass pass → list_all is_inner (pass_word pass) ≡ true
@@ -70,12 +58,6 @@ members_inner [] have = tt
 members_inner (j ∷ members) have =
     (number_word (j + 1) (All-head HasMember j members have), members_inner members (All-tail HasMember j members have))
 
--- a word has no space
-no_space : (word : List ℕ) → list_all is_inner word ≡ true → All (λ b. (b == 32) ≡ false) word
-no_space word inner = All-weaker (λ (b : ℕ). is_inner b ≡ true) (λ (b : ℕ). (b == 32) ≡ false)
-    (λ b test. not-true (b == 32) (and_parts (not (b == 32)) (not (b == 10)) test).0) word
-    (AllPass-from_list_all is_inner word inner)
-
 -- words that stand one space apart are read
 words_read : (word : List ℕ) (words : List (List ℕ)) → list_all is_inner word ≡ true → AreWords words
     → words_in (word ++ spaced words) ≡ word ∷ words
@@ -84,17 +66,6 @@ words_read word [] is are =
 words_read word (next ∷ words) is are =
     slice_split_at (λ (b : ℕ). b == 32) word 32 (next ++ spaced words) (no_space word is) refl
     ∙ ap (λ (more : List (List ℕ)). word ∷ more) (words_read next words are.0 are.1)
-
--- no byte of them ends a line
-abbrev is_kept : ℕ → Bool
-is_kept b = not (b == 10)
-
--- a word ends no line
-inner_kept : (word : List ℕ) → list_all is_inner word ≡ true → list_all is_kept word ≡ true
-inner_kept [] inner = refl
-inner_kept (b ∷ word) inner =
-    let both = and_parts (is_inner b) (list_all is_inner word) inner in
-    and_from (is_kept b) (list_all is_kept word) (and_parts (not (b == 32)) (is_kept b) both.0).1 (inner_kept word both.1)
 
 -- nor do words after spaces
 spaced_kept : (words : List (List ℕ)) → AreWords words → list_all is_kept (spaced words) ≡ true

@@ -6,7 +6,7 @@ use Rattle.odd_cuts.specs.declared.certificate.PieceCert.{PieceCert}
 use Rattle.certificate_text.specs.declared.draft.CertDraft.{CertDraft}
 use Rattle.text_parts.specs.Parts.{parts_between}
 use Rattle.certificate_text.specs.ReadCertificates.{cert_of, draft_with_text_line, pieces_after_lines}
-use Rattle.certificate_text.proofs.PartLemmas.{some_part}
+use Rattle.text_parts.proofs.CallerLemmas.{some_part}
 
 -- the result after the next line
 abbrev pub goes_on : ℕ → Option CertDraft → List (List ℕ) → Result (List PieceCert) ℕ

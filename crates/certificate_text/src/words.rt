@@ -36,7 +36,7 @@ fn are_digits(bytes: &[u8]) -> bool
 }
 
 /// What the digits write, or 2 ^ 32 where that is less.
-#[tactic(auto, using(crate::proofs::NumeralLemmas::capped_more, crate::proofs::NumeralLemmas::digit_among))]
+#[tactic(auto, using(crate::proofs::NumeralLemmas::capped_more, lists_and_numbers::proofs::CallerLemmas::digit_among))]
 fn capped_value(digits: &[u8]) -> u64
     requires { all_ascii_digits digits.now ≡ true }
     ensures { result ≡ min (digits_value 10 digits.now) (2 ^ 32) }

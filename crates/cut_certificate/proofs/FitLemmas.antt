@@ -1,6 +1,5 @@
 -- Rows of a piece and moats over its odd junctions are an input of lifting whose cuts are a packing.
-use Rattle.std.proofs.Common.{◌≡◌, ℕ, zero, suc, ◌+◌, ◌*◌, ◌%◌, ◌<◌, ◌≤◌, List, [], ◌∷◌, length, Vec, Global, All, Bool, drop, true, false, not, ◌&&◌, get_or, nat_lt, Some, slice_get, arith, refl, sym, ◌∙◌, ap, subst}
-use Rattle.std.proofs.lemmas.Bool.{and_parts, ltb-true}
+use Rattle.std.proofs.Common.{◌≡◌, ℕ, ◌+◌, ◌*◌, ◌%◌, ◌<◌, ◌≤◌, List, [], ◌∷◌, length, Vec, Global, All, Bool, drop, true, false, not, ◌&&◌, get_or, Some, slice_get, arith, refl, sym, ◌∙◌, ap, subst}
 use Rattle.std.proofs.lemmas.List.Elements.{All-weaker}
 use Rattle.std.proofs.lemmas.List.Recursion.{is_sum_by}
 use Rattle.std.proofs.lemmas.Option.{slice_get-get_or, slice_get_read}
@@ -10,7 +9,7 @@ use Rattle.blossom_match.specs.declared.matching.Moat.{Moat}
 use Rattle.blossom_match.specs.Matchings.{IsOddMoat, crosses_moat, moat_load}
 use Rattle.line_graph.specs.declared.edge.Edge.{Edge}
 use Rattle.line_graph.specs.declared.limits.TheConstants.{MAX_LINES}
-use Rattle.line_graph.specs.ValidPieces.{IsValidPiece, ends_below}
+use Rattle.line_graph.specs.ValidPieces.{IsValidPiece}
 use Rattle.line_graph.specs.PieceGraphs.{PieceValue}
 use Rattle.odd_paths.specs.CostTheorems.{AreDistances}
 use Rattle.odd_paths.specs.LeastRows.{RowsValue, cost_at, length_in, terminal_of}
@@ -26,6 +25,7 @@ use Rattle.cut_certificate.proofs.HeldLemmas.{as_many}
 use Rattle.cut_certificate.proofs.LaminarLemmas.{below, differ, held_below, laminar, of_all}
 use Rattle.cut_certificate.proofs.LiftLemmas.{AreCutsOf, AreLifted, IsMade, all_lifted, as_moat}
 use Rattle.cut_certificate.proofs.MoatLemmas.{Fits, parts}
+use Rattle.line_graph.proofs.CallerLemmas.{ends_at}
 
 -- the input of lifting for a piece
 abbrev pub piece_site : PieceValue → RowsValue → List Moat → LiftInput
@@ -67,15 +67,6 @@ fits p rows moats law are = record {
       (are.rows_are.least t (terminal_of rows u) in_t (terminal_below p rows moats are u in_u))
       (are.rows_are.least t j in_t in_j) (are.rows_are.least u j in_u in_j);
 }
-
-ends_at : (n : ℕ) (es : List Edge) (k : ℕ) (d : Edge) → ends_below n es ≡ true → k < length es
-    → ((get_or es k d).a < n) × ((get_or es k d).b < n)
-ends_at n [] k d ends lt = absurd (omega arith)
-ends_at n (e ∷ es) zero d ends lt =
-    let both = and_parts (nat_lt e.a n) (nat_lt e.b n) (and_parts (nat_lt e.a n && nat_lt e.b n) (ends_below n es) ends).0 in
-    (ltb-true e.a n both.0, ltb-true e.b n both.1)
-ends_at n (e ∷ es) (suc k) d ends lt =
-    ends_at n es k d (and_parts (nat_lt e.a n && nat_lt e.b n) (ends_below n es) ends).1 (omega arith)
 
 line : (p : PieceValue) (rows : RowsValue) (moats : List Moat) → AreDistances p → AreLiftableMoats p rows moats → (k : ℕ) (e : Edge)
     → slice_get p.edges k ≡ Some e → e.a < length p.junctions → e.b < length p.junctions → IsLine (piece_site p rows moats) e.a e.b e.cost

@@ -1,5 +1,5 @@
 -- Moats as they are given, and as inductions need them: no number twice, all below a limit, any two apart.
-use Rattle.std.proofs.Common.{◌≡◌, ◌≢◌, ℕ, suc, ◌<◌, ◌⊎◌, List, [], ◌∷◌, All, AllPairs, Bool, true, false, arith, inl, inr, refl, sym, subst}
+use Rattle.std.proofs.Common.{◌≡◌, ◌≢◌, ℕ, suc, ◌<◌, ◌⊎◌, List, [], ◌∷◌, All, AllPairs, true, false, arith, inl, inr, refl, sym, subst}
 use Rattle.std.proofs.lemmas.Bool.{both_ways, eqb-true, ne_eqb, or_cases}
 use Rattle.std.proofs.lemmas.List.Elements.{All-head, All-tail, All-weaker}
 use Rattle.std.proofs.lemmas.List.Folds.{list_any_none}
@@ -9,6 +9,7 @@ use Rattle.blossom_match.specs.Matchings.{AreLaminar, IsOddMoat, IsDisjointFrom,
 use Rattle.odd_cuts.specs.Cuts.{has_member}
 use Rattle.cut_certificate.proofs.HeldLemmas.{Below, Differ, apart}
 use Rattle.cut_certificate.proofs.MoatLemmas.{Apart, ApartFromAll, IsOf, Laminar}
+use Rattle.lists_and_numbers.proofs.CallerLemmas.{same_test}
 
 not_held : (x : ℕ) (xs : List ℕ) → All (λ y. x ≢ y) xs → has_member xs x ≡ false
 not_held x xs all =
@@ -37,12 +38,6 @@ pub of_all : (P : Moat → Type 0) (ms : List Moat) (m : Moat) → All P ms → 
 of_all P [] m all is = absurd is
 of_all P (x ∷ xs) m all (inl same) = subst P (sym same) (All-head P x xs all)
 of_all P (x ∷ xs) m all (inr is) = of_all P xs m (All-tail P x xs all) is
-
-same_test : (a b : Bool) → (a ≡ true → b ≡ true) → (b ≡ true → a ≡ true) → a ≡ b
-same_test true true f h = refl
-same_test true false f h = sym (f refl)
-same_test false true f h = h refl
-same_test false false f h = refl
 
 pub apart_two : (n : ℕ) (a b : Moat) → IsOddMoat n a → IsOddMoat n b → AreLaminar a b → Apart a b
 apart_two n a b odd_a odd_b l =

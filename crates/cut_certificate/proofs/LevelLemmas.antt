@@ -1,6 +1,6 @@
 -- The levels at which junctions enter the cuts of moats, and for each junction a terminal that puts it into every cut that holds it.
 use Rattle.std.proofs.Common.{◌≡◌, ℕ, ◌+◌, ◌-◌, ◌*◌, ◌<◌, ◌≤◌, ◌⊎◌, min, List, [], ◌∷◌, length, Bool, true, false, ◌||◌, ◌==◌, nat_lt, arith, inl, inr, refl, sym, ap, subst}
-use Rattle.std.proofs.lemmas.Bool.{both_ways, cases_Bool, cases_lt, eq-eqb, eqb-true, lt-ltb, ltb-true, or_cases}
+use Rattle.std.proofs.lemmas.Bool.{both_ways, cases_Bool, cases_lt, eq-eqb, eqb-true, lt-ltb, ltb-true, or_cases, or_right}
 use Rattle.blossom_match.specs.declared.matching.Moat.{Moat}
 use Rattle.odd_cuts.specs.Cuts.{has_member}
 use Rattle.cut_certificate.specs.Levels.{LiftInput, distance_beyond, depth, level, lowest, width_sum}
@@ -22,10 +22,6 @@ lowest_by at limit t (x ∷ ts) h = elim (or_cases (t == x) (has_member ts t) h)
 at_front : (x : ℕ) (ts : List ℕ) → has_member (x ∷ ts) x ≡ true
 at_front x ts = rw (eq-eqb x x refl) refl
 
-later : (a b : Bool) → b ≡ true → (a || b) ≡ true
-later true b h = refl
-later false b h = h
-
 -- a minimum below the limit is the number at one of the terminals
 pub lowest_some : (at : ℕ → ℕ) (limit : ℕ) (ts : List ℕ) → lowest at limit ts < limit
     → (t : ℕ) × (has_member ts t ≡ true) × (lowest at limit ts ≡ at t)
@@ -33,7 +29,7 @@ lowest_some at limit [] h = absurd (omega arith)
 lowest_some at limit (x ∷ ts) h = elim (cases_lt (lowest at limit ts) (at x)) [
   | inl less ↦
       let p = lowest_some at limit ts (omega arith) in
-      (p.0, later (p.0 == x) (has_member ts p.0) p.1, omega (arith, p.2))
+      (p.0, or_right (p.0 == x) (has_member ts p.0) p.1, omega (arith, p.2))
   | inr more ↦ (x, at_front x ts, omega arith)
 ]
 

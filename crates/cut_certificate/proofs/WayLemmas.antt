@@ -3,7 +3,6 @@ use Rattle.std.proofs.Common.{◌≡◌, ℕ, ◌+◌, ◌-◌, ◌*◌, ◌<◌
 use Rattle.std.proofs.lemmas.List.{get_or-replicate, length-replicate, take_all}
 use Rattle.std.proofs.lemmas.List.Elements.{All-more, All-weaker}
 use Rattle.std.proofs.lemmas.Option.{slice_get_read, slice_get_within}
-use Rattle.std.proofs.Math.Seq.{take-append_seam}
 use Rattle.std.specs.Prelude.{slice_index}
 use Rattle.blossom_match.specs.declared.matching.Moat.{Moat}
 use Rattle.blossom_match.specs.Matchings.{IsOddMoat}
@@ -18,6 +17,7 @@ use Rattle.cut_certificate.proofs.ProgressLemmas.{finds}
 use Rattle.cut_certificate.proofs.LaminarLemmas.{of_all}
 use Rattle.cut_certificate.proofs.MoatDistanceLemmas.{past, reach_found}
 use Rattle.cut_certificate.proofs.TerminalStateLemmas.{is_of}
+use Rattle.lists_and_numbers.proofs.CallerLemmas.{front_written}
 
 -- no number of a row is above the greatest cost
 pub row_low : (rows : RowsValue) (size : ℕ) (moats : List Moat) (t : ℕ) (row : List ℕ) (j : ℕ) → HasRowsForMoats rows size moats
@@ -68,10 +68,6 @@ have_ways rows size moats s stands reaches can next =
       wide = λ c v at there. (let o = next.progress.standing.first t c at in (next.progress.made c o.moat v o.at o.done there).sized);
     }
 
-written : (len : ℕ) (new old : List ℕ) → length new ≡ len → take len (new ++ drop (length new) old) ≡ new
-written len new old same = subst (λ (n : ℕ). take n (new ++ drop (length new) old) ≡ new) same
-    (take-append_seam new (drop (length new) old))
-
 -- a list of FAR that is lowered to all distances has those from the next moat
 pub reach_made : (rows : RowsValue) (size : ℕ) (moats : List Moat) (s : Moat) (stands : List TerminalState) (reaches : List (Vec ℕ Global))
     (len : ℕ)
@@ -84,7 +80,7 @@ pub reach_made : (rows : RowsValue) (size : ℕ) (moats : List Moat) (s : Moat) 
     → AreDistancesFrom (lift_input rows size moats) s (take len (new ++ drop (length new) far))
 reach_made rows size moats s stands reaches len far now new members can next is are sized long same value =
     let wide : length now ≡ size = ap (λ (l : List ℕ). length l) (are ∙ is) ∙ length-replicate size FAR in
-    subst (AreDistancesFrom (lift_input rows size moats) s) (sym (written len new far (long ∙ wide ∙ sym sized)))
+    subst (AreDistancesFrom (lift_input rows size moats) s) (sym (front_written len new far (long ∙ wide ∙ sym sized)))
     (reach_found (lift_input rows size moats) s next.index stands reaches new FAR
     (finds rows size moats s next.index stands reaches can next.at next.progress) (long ∙ wide)
     (λ t j in_t in_j. let low = can.low t j in_t in_j in twice _ low)

@@ -1,7 +1,6 @@
 -- What moves undo, point by point.
-use Rattle.std.proofs.Common.{◌≡◌, ℤ, ◌+ℤ◌, neg_ℤ, List, [], ◌∷◌, map, refl, ap, ◌∙◌, arith}
+use Rattle.std.proofs.Common.{◌≡◌, ℤ, ◌+ℤ◌, neg_ℤ, List, [], ◌∷◌, map, refl, ap, ◌∙◌}
 use Rattle.std.proofs.Math.Path.{ap₂}
-use Rattle.std.proofs.lemmas.Int.{ints}
 use Rattle.design_model.specs.declared.command.Command.{Command}
 use Rattle.design_model.specs.declared.command.Command.TheVariants.{Stitch, Jump, Trim, Stop}
 use Rattle.design_model.specs.declared.point.Point.{Point}
@@ -9,6 +8,7 @@ use Rattle.design_model.specs.Designs.{DesignValue}
 use Rattle.design_edits.specs.declared.axis.Axis.TheVariants as axis
 use Rattle.design_edits.specs.Inverses.{FourQuarterTurnsRestore, OppositeShiftRestores, TwoMirroringsRestore}
 use Rattle.design_edits.specs.Moves.{mirror_point, shift_point, turn_point, turned, with_mapped_point, with_mapped_points}
+use Rattle.lists_and_numbers.proofs.CallerLemmas.{back-there, neg-neg}
 
 -- a map that undoes another on points undoes it on designs
 module _ (undo f : Point → Point) (undone : (p : Point) → undo (f p) ≡ p) where
@@ -27,12 +27,6 @@ module _ (undo f : Point → Point) (undone : (p : Point) → undo (f p) ≡ p) 
 
 same_point : (p : Point) (x y : ℤ) → x ≡ p.x → y ≡ p.y → record { x = x; y = y } ≡ p
 same_point p x y across down = ap₂ (λ a b. record { x = a; y = b }) across down
-
-neg-neg : (z : ℤ) → neg_ℤ (neg_ℤ z) ≡ z
-neg-neg z = omega (arith, ints)
-
-back-there : (a b : ℤ) → (a +ℤ b) +ℤ neg_ℤ b ≡ a
-back-there a b = omega (arith, ints)
 
 pub opposite_shift : OppositeShiftRestores
 opposite_shift dx dy d = undone_whole (shift_point (neg_ℤ dx) (neg_ℤ dy)) (shift_point dx dy)

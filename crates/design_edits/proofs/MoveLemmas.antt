@@ -1,8 +1,7 @@
 -- Commands that are moved one after the other.
-use Rattle.std.proofs.Common.{◌≡◌, ℕ, zero, suc, ◌+◌, ◌<◌, Bool, true, false, not, cond, IsTrue, ℤ, neg_ℤ, add-one, List, [], ◌∷◌, ◌++◌, Option, Some, None, IfSome, length, get_or, set, take, drop, map, refl, ap, ◌∙◌, subst, unsigned_abs, arith}
+use Rattle.std.proofs.Common.{◌≡◌, ℕ, zero, suc, ◌+◌, ◌<◌, Bool, true, false, not, cond, IsTrue, ℤ, add-one, List, [], ◌∷◌, ◌++◌, Option, Some, None, IfSome, length, get_or, set, take, drop, map, refl, ap, ◌∙◌, subst, arith}
 use Rattle.std.proofs.lemmas.Bool.{and_parts}
 use Rattle.std.proofs.lemmas.Bool.Decides.{nat_tests}
-use Rattle.std.proofs.lemmas.Int.{ints}
 use Rattle.std.specs.Prelude.{slice_get}
 use Rattle.std.specs.List.{list_all, position_from}
 use Rattle.design_model.specs.declared.command.Command.{Command}
@@ -14,6 +13,7 @@ use Rattle.design_model.specs.Points.{is_point_within}
 use Rattle.design_edits.specs.declared.axis.Axis.{Axis}
 use Rattle.design_edits.specs.declared.axis.Axis.TheVariants as axis
 use Rattle.design_edits.specs.Moves.{first_out_of_range, mirror_point, quarter_point, turn_point, with_mapped_point, with_mapped_points}
+use Rattle.lists_and_numbers.proofs.CallerLemmas.{size-neg}
 
 -- whether a command's point is out of its range
 abbrev pub is_outside : Command → Bool
@@ -45,10 +45,6 @@ module _ (f : Point → Point)
       let both = and_parts (is_command_in_range c) (list_all is_command_in_range rest) all in
       go_on n (with_mapped_point f c) (position_from is_outside (n + 1) (map (with_mapped_point f) rest))
       (stays_in_range c both.0) (none_outside (n + 1) rest both.1)
-
--- a sign changes nothing of a size
-size-neg : (z : ℤ) → unsigned_abs (neg_ℤ z) ≡ unsigned_abs z
-size-neg z = grind (arith, ints)
 
 quarter_stays : (limit : ℕ) (p : Point) → IsTrue (is_point_within limit p) → IsTrue (is_point_within limit (quarter_point p))
 quarter_stays limit p within = grind (arith, nat_tests, size-neg)

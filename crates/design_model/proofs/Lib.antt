@@ -1,3 +1,4 @@
+pub mod CallerLemmas
 mod ActFacts
 mod LimitFacts
 mod PointFacts

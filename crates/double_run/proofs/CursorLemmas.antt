@@ -9,9 +9,8 @@ use Rattle.line_graph.specs.PieceGraphs.{is_odd}
 use Rattle.double_run.specs.Cursors.{AreTraversalTables, IsTraversalCursor}
 use Rattle.euler_tour.specs.LineEnds.{AreBefore, AreLast, IsLast, junction_at}
 use Rattle.double_run.specs.Traversals.{IsLegFrom, is_exhausted, has_end_at}
-use Rattle.double_run.proofs.EndLemmas.{end_a, end_b, end_within, half, half_more, started}
-use Rattle.double_run.proofs.LineLemmas.{same}
-use Rattle.double_run.proofs.MetLemmas.{one_of}
+use Rattle.euler_tour.proofs.CallerLemmas.{end_a, end_b, end_within, started}
+use Rattle.lists_and_numbers.proofs.CallerLemmas.{half, half_more, one_of, same_number}
 
 -- ---- which lines are passed
 
@@ -111,8 +110,8 @@ cursor_none edges passed j cursor =
     at_k k end is there = subst (λ (n : ℕ). get_or passed n false ≡ true) is (cursor.over end (omega arith) there)
 
     by_end : (k : ℕ) (e : Edge) → slice_get edges k ≡ Some e → ((e.a == j) ≡ true) ⊎ ((e.b == j) ≡ true) → get_or passed k false ≡ true
-    by_end k e is (inl at) = at_k k (2 * k) (half k) (end_a edges k e is ∙ ap (λ (n : ℕ). Some n) (same e.a j at))
-    by_end k e is (inr at) = at_k k (2 * k + 1) (half_more k) (end_b edges k e is ∙ ap (λ (n : ℕ). Some n) (same e.b j at))
+    by_end k e is (inl at) = at_k k (2 * k) (half k) (end_a edges k e is ∙ ap (λ (n : ℕ). Some n) (same_number e.a j at))
+    by_end k e is (inr at) = at_k k (2 * k + 1) (half_more k) (end_b edges k e is ∙ ap (λ (n : ℕ). Some n) (same_number e.b j at))
 
 -- ---- chains and cursors
 
@@ -197,11 +196,6 @@ pub read_cursor : (edges : List Edge) (count : ℕ) (passed : List Bool) (last b
     → number ≡ get_or last at number → AreTraversalTables edges count passed last before at → get_or last at 0 ≡ number
 read_cursor edges count passed last before at number is ready =
     sym (is ∙ get_or_default_zero last at number (subst (λ (n : ℕ). at < n) (sym ready.last_beside) ready.below))
-
--- a cursor that isn't 0 is one more than an end, whose line has an index and starts at the junction
-pub cursor_end : (number : ℕ) → (number ≡ 0 → ⊥) → number ≡ number - 1 + 1
-cursor_end zero some = absurd (some refl)
-cursor_end (suc number) some = omega arith
 
 pub cursor_within : (edges : List Edge) (count : ℕ) (passed : List Bool) (last before : List ℕ) (at end : ℕ)
     → get_or last at 0 ≡ end + 1 → AreTraversalTables edges count passed last before at → end < 2 * length edges

@@ -10,9 +10,10 @@ use Rattle.line_graph.specs.Pieces.{first_line}
 use Rattle.line_graph.specs.PieceWalks.{BeginsWith, covers, walk_start, is_fitting_walk, is_walk_start_to_end, is_line_passed, piece_cost, walk_cost, walk_end_from}
 use Rattle.double_run.specs.DoubleWalks.{IsPassedBothWays, IsDouble, same_way, directed_passes, without_ends}
 use Rattle.double_run.specs.Traversals.{IsTraversalInvariant, IsLegFrom, is_visited, is_exhausted, passed_cost, root_junction}
-use Rattle.double_run.proofs.EndLemmas.{ends_are_below}
-use Rattle.double_run.proofs.LineLemmas.{edge_found, eq_self, same, some_same}
 use Rattle.double_run.proofs.MetLemmas.{cost_all, passed_meets, spent_passes, touches_a, touches_b}
+use Rattle.euler_tour.proofs.CallerLemmas.{ends_are_below}
+use Rattle.line_graph.proofs.CallerLemmas.{edge_found, edge_there, first_is}
+use Rattle.lists_and_numbers.proofs.CallerLemmas.{eq_self, same_number, same_test, some_same}
 
 -- no junction is visited where no line was passed
 none_met : (n : ℕ) (edges : List Edge) (j : ℕ) → is_visited (replicate n false) edges j ≡ false
@@ -57,32 +58,10 @@ pub first_leads : (edges : List Edge) → 1 ≤ length edges
 first_leads [] some = absurd (omega arith)
 first_leads (e ∷ edges) some = record { edge = e; there = refl; starts = refl; left = refl }
 
--- a walk goes on as it began
-pub begins_on : (line : ℕ) (xs ys : List Pass) → BeginsWith line xs → BeginsWith line (xs ++ ys)
-begins_on line [] ys h = absurd h
-begins_on line (x ∷ xs) ys h = h
-
--- the first line
-pub first_is : (lines : List ℕ) → first_line lines ≡ get_or lines 0 0
-first_is [] = refl
-first_is (n ∷ lines) = refl
-
--- the edge at an index, where there is one
-pub edge_there : (edges : List Edge) (k : ℕ) → k < length edges → (e : Edge) × (slice_get edges k ≡ Some e)
-edge_there [] k below = absurd (omega arith)
-edge_there (e ∷ edges) zero below = (e, refl)
-edge_there (e ∷ edges) (suc k) below = edge_there edges k (omega arith)
-
 -- the first line begins at the root
 pub root_is : (edges : List Edge) (e : Edge) → slice_get edges 0 ≡ Some e → root_junction edges ≡ e.a
 root_is [] e there = absurd (cc)
 root_is (x ∷ edges) e there = ap (λ (y : Edge). y.a) (some_same x e there)
-
--- two tests of which each gives the other are the same
-equal_tests : (s t : Bool) → (s ≡ true → t ≡ true) → (t ≡ true → s ≡ true) → s ≡ t
-equal_tests true t to from = sym (to refl)
-equal_tests false true to from = from refl
-equal_tests false false to from = refl
 
 -- a walk that begins with the first line starts at the root
 starts_first : (p : PieceValue) (walk : List Pass) → IsValidPiece p → BeginsWith (first_line p.lines) walk
@@ -106,12 +85,12 @@ home_passed p walk is_line_passed at kept k stuck first = all_passed
     spent j met = by_test (at == j) refl
       where
         by_test : (t : Bool) → (at == j) ≡ t → is_exhausted is_line_passed p.edges j ≡ true
-        by_test true is = subst (λ (n : ℕ). is_exhausted is_line_passed p.edges n ≡ true) (same at j is) stuck
+        by_test true is = subst (λ (n : ℕ). is_exhausted is_line_passed p.edges n ≡ true) (same_number at j is) stuck
         by_test false is = k.spent j met is refl
 
     none_leaves : (i : ℕ) (e : Edge) → slice_get p.edges i ≡ Some e
         → is_visited is_line_passed p.edges e.a ≡ is_visited is_line_passed p.edges e.b
-    none_leaves i e there = equal_tests (is_visited is_line_passed p.edges e.a) (is_visited is_line_passed p.edges e.b)
+    none_leaves i e there = same_test (is_visited is_line_passed p.edges e.a) (is_visited is_line_passed p.edges e.b)
         (λ met. passed_meets is_line_passed p.edges i e.b e
         (spent_passes is_line_passed p.edges i e.a e k.beside there (touches_a e) (spent e.a met)) there (touches_b e))
         (λ met. passed_meets is_line_passed p.edges i e.a e

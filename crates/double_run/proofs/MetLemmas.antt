@@ -7,16 +7,8 @@ use Rattle.line_graph.specs.PieceWalks.{edge_cost, edge_sum, pass_end, pass_star
 use Rattle.double_run.specs.declared.legs.DirectedLeg.{DirectedLeg}
 use Rattle.double_run.specs.TraversalSteps.{remaining_count}
 use Rattle.double_run.specs.Traversals.{edge_at, is_visited, is_on_stack, is_exhausted, passed_cost, has_end_at}
-use Rattle.double_run.proofs.LineLemmas.{eq_self, some_same, suc_suc, suc_zero, zero_suc}
-
--- a test that is one of two
-pub one_of : (s t : Bool) → (s || t) ≡ true → (s ≡ true) ⊎ (t ≡ true)
-one_of true t is = inl refl
-one_of false t is = inr is
-
-pub neither : (s t : Bool) → (s || t) ≡ false → (s ≡ false) × (t ≡ false)
-neither true t is = absurd (cc)
-neither false t is = (refl, is)
+use Rattle.double_run.proofs.LineLemmas.{suc_suc, zero_suc}
+use Rattle.lists_and_numbers.proofs.CallerLemmas.{eq_self, one_of, some_same, suc_zero}
 
 -- exhausted junctions stay exhausted
 pub spent_on : (passed : List Bool) (edges : List Edge) (m j : ℕ) → is_exhausted passed edges j ≡ true

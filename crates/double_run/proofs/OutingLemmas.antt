@@ -1,7 +1,6 @@
 -- Each step of a traversal preserves the invariant.
 use Rattle.std.proofs.Common.{◌≡◌, ◌<◌, ◌⊎◌, inl, inr, ℕ, ◌+◌, ◌*◌, ◌==◌, ◌&&◌, Bool, true, false, not, nat_lt, cond, List, [], ◌∷◌, ◌++◌, length, get_or, set, slice_get, Option, Some, None, arith, refl, sym, ap, ◌∙◌, subst, length-set, length-append}
-use Rattle.std.proofs.lemmas.Bool.{and_parts}
-use Rattle.std.proofs.lemmas.Bool.Decides.{nat_tests}
+use Rattle.std.proofs.lemmas.Bool.{and_parts, or_parts}
 use Rattle.std.proofs.lemmas.Option.{slice_get_within}
 use Rattle.line_graph.specs.declared.edge.Edge.{Edge}
 use Rattle.line_graph.specs.declared.pass.Pass.{Pass}
@@ -11,8 +10,10 @@ use Rattle.double_run.specs.declared.legs.DirectedLeg.{DirectedLeg}
 use Rattle.double_run.specs.DoubleWalks.{directed_passes}
 use Rattle.double_run.specs.TraversalSteps.{remaining_count}
 use Rattle.double_run.specs.Traversals.{IsTraversalInvariant, legs_are_below, is_visited, is_on_stack, is_exhausted, leg_pass, leg_return, passed_cost, has_end_at, return_walk}
-use Rattle.double_run.proofs.LineLemmas.{both_ways, edge_found, eq_self, nowhere, one_line, same, sum_push, times_push, walk_append}
-use Rattle.double_run.proofs.MetLemmas.{cost_more, found_at, less_left, marks, met_before, neither, spent_on, touched, way_push}
+use Rattle.double_run.proofs.LineLemmas.{both_ways, one_line, sum_push, times_push}
+use Rattle.double_run.proofs.MetLemmas.{cost_more, found_at, less_left, marks, met_before, spent_on, touched, way_push}
+use Rattle.line_graph.proofs.CallerLemmas.{edge_found, lost, walk_append}
+use Rattle.lists_and_numbers.proofs.CallerLemmas.{eq_self, less_test, same_number}
 
 -- a leg more is the first on the way home
 pub home_push : (lines : List ℕ) (out : List DirectedLeg) (leg : DirectedLeg)
@@ -44,10 +45,6 @@ homeward : (found : Option Edge) (e : Edge) (back : Bool) → found ≡ Some e
 homeward found e true is = rw (is, eq_self e.a) refl
 homeward found e false is = rw (is, eq_self e.b) refl
 
--- a test that holds as a fact, and back
-less_test : (m n : ℕ) → m < n → nat_lt m n ≡ true
-less_test m n h = grind (arith, nat_tests)
-
 -- the traversal after another leg
 pub out_kept : (lines : List ℕ) (edges : List Edge) (walk : List Pass) (out : List DirectedLeg) (passed : List Bool) (root : ℕ)
     (leg : DirectedLeg)
@@ -76,7 +73,7 @@ out_kept lines edges walk out passed root leg e up beside there left k = record 
       (passed_cost passed edges)
       k.sums);
   spent = λ j. λ met. λ other. λ away.
-      let parts = neither (is_on_stack edges out j) _ (sym (way_push edges out leg j) ∙ away) in
+      let parts = or_parts (is_on_stack edges out j) _ (sym (way_push edges out leg j) ∙ away) in
       by_end j other (subst (λ (x : Edge). (pass_start x leg.back == j) ≡ false) (found_at edges leg.place e there) parts.1)
       (met_before passed edges leg.place j e there met)
       (λ before. λ first. spent_on passed edges leg.place j (k.spent j before first parts.0));
@@ -164,7 +161,7 @@ back_kept lines edges walk out passed root at leg e up beside there spent k = re
             → cond t (Some (pass_end e (not back))) None ≡ Some (pass_start e back)
         ends true true is = refl
         ends false true is = refl
-        ends back false is = absurd (nowhere lines edges (return_walk lines out) root is)
+        ends back false is = absurd (lost lines edges (return_walk lines out) root is)
 
         by_found : (x : Option Edge) → x ≡ Some e
             → walk_end_from lines edges (after_edge x (not leg.back) at) (return_walk lines out) ≡ Some root
@@ -184,7 +181,7 @@ back_kept lines edges walk out passed root at leg e up beside there spent k = re
     by_test : (j : ℕ) (t : Bool) → (at == j) ≡ t
         → ((at == j) ≡ false → is_on_stack edges (out ++ leg ∷ []) j ≡ false → is_exhausted passed edges j ≡ true)
         → is_on_stack edges (out ++ leg ∷ []) j ≡ false → is_exhausted passed edges j ≡ true
-    by_test j true is then away = subst (λ (n : ℕ). is_exhausted passed edges n ≡ true) (same at j is) spent
+    by_test j true is then away = subst (λ (n : ℕ). is_exhausted passed edges n ≡ true) (same_number at j is) spent
     by_test j false is then away = then is away
 
 -- what falls

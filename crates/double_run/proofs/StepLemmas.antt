@@ -16,10 +16,11 @@ use Rattle.euler_tour.specs.LineEnds.{AreBefore, AreLast}
 use Rattle.double_run.specs.Traversals.{IsTraversal, HasTraversalTables, IsTraversalInvariant, KeepsTraversal, IsLegFrom, legs_are_below, edge_at, is_exhausted, leg_pass, leg_return, root_junction}
 use Rattle.double_run.specs.TraversalSteps.{GoesOut, IsTraversalDone, IsTraversalStep, remaining_count}
 use Rattle.double_run.proofs.CursorLemmas.{back_ready, begins_ready, marked_at, marked_stays, out_ready, over_less, over_ready}
-use Rattle.double_run.proofs.EndLemmas.{ends_are_below}
-use Rattle.double_run.proofs.HomeLemmas.{begins_kept, begins_on, edge_there, first_is, home_cost, home_double, root_is}
+use Rattle.double_run.proofs.HomeLemmas.{begins_kept, home_cost, home_double, root_is}
 use Rattle.double_run.proofs.MetLemmas.{found_at}
 use Rattle.double_run.proofs.OutingLemmas.{back_kept, back_less, out_kept, out_less, there_push}
+use Rattle.euler_tour.proofs.CallerLemmas.{ends_are_below}
+use Rattle.line_graph.proofs.CallerLemmas.{begins_on, edge_there, first_is}
 
 -- the first line begins at the root, which is a junction
 root_at : (edges : List Edge) → (slice_index_or edges 0 (record { a = 0; b = 0; cost = 0 })).a ≡ root_junction edges

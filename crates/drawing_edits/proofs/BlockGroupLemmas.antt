@@ -4,6 +4,7 @@ use Rattle.std.proofs.lemmas.Bool.Decides.{Decides-eqb, nat_tests}
 use Rattle.std.specs.List.{All}
 use Rattle.std.specs.List.Sorted.{IsNonDecreasing}
 use Rattle.line_sections.specs.Lines.{LineValue}
+use Rattle.lists_and_numbers.proofs.CallerLemmas.{differs}
 
 abbrev pub in_block : ℕ → List LineValue → List LineValue
 in_block block lines = filter (λ line. line.block == block) lines
@@ -21,9 +22,6 @@ Rise from bound (block ∷ rest) = (from ≤ block) × (block < bound) × Rise b
 abbrev pub blocks_of : List LineValue → List ℕ
 blocks_of lines = map (λ line. line.block) lines
 
-other_block : (m n : ℕ) → m < n → (m == n) ≡ false
-other_block m n less = grind (arith, nat_tests)
-
 other_block_above : (m n : ℕ) → n < m → (m == n) ≡ false
 other_block_above m n less = grind (arith, nat_tests)
 
@@ -33,7 +31,7 @@ skipped : (block : ℕ) (threads : List ℕ) (line : LineValue) (rest : List Lin
 skipped block [] line rest less = refl
 skipped block (thread ∷ more) line rest less =
     ap (λ (is : Bool). (if is then line ∷ in_block block rest else in_block block rest) ++ grouped (block + 1) more (line ∷ rest))
-    (other_block line.block block less)
+    (differs line.block block less)
     ∙ ap (λ (later : List LineValue). in_block block rest ++ later) (skipped (block + 1) more line rest (omega (arith, less)))
 
 none_in : (block from bound : ℕ) (lines : List LineValue) → block < from → Rise from bound (blocks_of lines) → in_block block lines ≡ []

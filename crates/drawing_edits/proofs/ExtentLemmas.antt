@@ -1,6 +1,6 @@
 -- Extents of points, one line after another.
 use Rattle.std.proofs.Common.{◌≡◌, ℤ, Bool, true, false, ◌&&◌, cond, List, [], ◌∷◌, ◌++◌, Option, Some, None, refl, ap, ◌∙◌, sym, subst, map, nat_le, unsigned_abs}
-use Rattle.std.proofs.lemmas.Bool.{and_parts}
+use Rattle.std.proofs.lemmas.Bool.{and_parts, and_from}
 use Rattle.std.specs.Prelude.{fold}
 use Rattle.std.specs.Int.{int_max, int_min}
 use Rattle.design_model.specs.declared.bounds.Extent.{Extent}
@@ -54,18 +54,13 @@ one_of : (b : Bool) (x y : ℤ) → nat_le (unsigned_abs x) NEEDLE_LIMIT ≡ tru
 one_of true x y one two = two
 one_of false x y one two = one
 
-both_true : (a b : Bool) → a ≡ true → b ≡ true → (a && b) ≡ true
-both_true true true one two = refl
-both_true true false one two = two
-both_true false b one two = one
-
 -- corners between needle points are needle points
 least_within : (p q : Point) → IsNeedlePoint p → IsNeedlePoint q
     → IsNeedlePoint (record { x = int_min p.x q.x; y = int_min p.y q.y })
 least_within p q one two =
     let ps = and_parts (nat_le (unsigned_abs p.x) NEEDLE_LIMIT) (nat_le (unsigned_abs p.y) NEEDLE_LIMIT) one in
     let qs = and_parts (nat_le (unsigned_abs q.x) NEEDLE_LIMIT) (nat_le (unsigned_abs q.y) NEEDLE_LIMIT) two in
-    both_true (nat_le (unsigned_abs (int_min p.x q.x)) NEEDLE_LIMIT) (nat_le (unsigned_abs (int_min p.y q.y)) NEEDLE_LIMIT)
+    and_from (nat_le (unsigned_abs (int_min p.x q.x)) NEEDLE_LIMIT) (nat_le (unsigned_abs (int_min p.y q.y)) NEEDLE_LIMIT)
     (one_of _ p.x q.x ps.0 qs.0) (one_of _ p.y q.y ps.1 qs.1)
 
 greatest_within : (p q : Point) → IsNeedlePoint p → IsNeedlePoint q
@@ -73,7 +68,7 @@ greatest_within : (p q : Point) → IsNeedlePoint p → IsNeedlePoint q
 greatest_within p q one two =
     let ps = and_parts (nat_le (unsigned_abs p.x) NEEDLE_LIMIT) (nat_le (unsigned_abs p.y) NEEDLE_LIMIT) one in
     let qs = and_parts (nat_le (unsigned_abs q.x) NEEDLE_LIMIT) (nat_le (unsigned_abs q.y) NEEDLE_LIMIT) two in
-    both_true (nat_le (unsigned_abs (int_max p.x q.x)) NEEDLE_LIMIT) (nat_le (unsigned_abs (int_max p.y q.y)) NEEDLE_LIMIT)
+    and_from (nat_le (unsigned_abs (int_max p.x q.x)) NEEDLE_LIMIT) (nat_le (unsigned_abs (int_max p.y q.y)) NEEDLE_LIMIT)
     (one_of _ q.x p.x qs.0 ps.0) (one_of _ q.y p.y qs.1 ps.1)
 
 -- an extent of needle points, and one more needle point

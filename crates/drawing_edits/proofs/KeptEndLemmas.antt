@@ -17,18 +17,13 @@ use Rattle.drawing_edits.specs.EditFaults.{edit_answer}
 use Rattle.drawing_edits.specs.KeptEnds.{HasEndsOf, IsPlacedEnd, PlacedEndsAreKept, RedrawnHasEnds}
 use Rattle.drawing_edits.specs.PlacedEnds.{lines_listing, only_block, with_end_at}
 use Rattle.drawing_edits.specs.RedrawnDrawings.{line_added_if, redrawn, redrawn_lines, with_blocks, with_lines_of, with_starts_and_ends, with_walk_ends}
+use Rattle.line_graph.proofs.CallerLemmas.{after_both}
 
 -- What holds where a test doesn't refuse holds after the test.
 unless : {A : Type 0} (P : A → Type 0) (test : Bool) (why : DrawKind) (r : Result A DrawKind) → IfOk r P
     → IfOk (if test then Err why else r) P
 unless P true why r next = tt
 unless P false why r next = next
-
--- What holds after the second of two steps.
-after_both : {A B : Type 0} (P : A → Type 0) (Q : B → Type 0) (r : Result A DrawKind) (next : A → Result B DrawKind) → IfOk r P
-    → ((a : A) → P a → IfOk (next a) Q) → IfOk (and_then r next) Q
-after_both P Q (Ok a) next has later = later a has
-after_both P Q (Err why) next has later = tt
 
 -- Nothing is asked of the value of a step.
 any : {A : Type 0} (r : Result A DrawKind) → IfOk r (λ a. Unit {0})

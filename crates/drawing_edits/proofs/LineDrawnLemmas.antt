@@ -1,45 +1,24 @@
 -- Lines within the limits of a drawing are drawn again as they are.
 use Rattle.std.proofs.Common.{◌≡◌, ◌≢◌, ℕ, zero, suc, ℤ, ◌+◌, ◌-◌, ◌<◌, ◌≤◌, ◌==◌, Bool, true, false, ◌||◌, nat_lt, List, [], ◌∷◌, ◌++◌, length, map, Result, Ok, Err, All, Contains, if◌then◌else◌, refl, ap, sym, subst, ◌∙◌, arith, append_assoc, append-nil}
-use Rattle.std.proofs.lemmas.Bool.{and_parts, false_from_ne_true, or_from, or_left, or_right}
-use Rattle.std.proofs.lemmas.Bool.Decides.{Decides-eqb, Decides-int_eq, nat_tests}
+use Rattle.std.proofs.lemmas.Bool.{or_left, or_right}
+use Rattle.std.proofs.lemmas.Bool.Decides.{Decides-eqb, nat_tests}
 use Rattle.std.proofs.lemmas.List.{length-append}
 use Rattle.std.proofs.lemmas.List.Elements.{All-head, All-tail}
 use Rattle.std.proofs.lemmas.List.Folds.{list_any-append}
 use Rattle.std.proofs.lemmas.List.Sums.{list_all-from_AllPass, sum_by-append, sum_by-cons}
 use Rattle.std.specs.List.{list_any}
-use Rattle.std.specs.Ordering.{int_eq}
-use Rattle.design_model.specs.declared.point.Point.{Point}
-use Rattle.design_model.specs.Points.{is_same_point, is_point_within}
-use Rattle.step_splitter.specs.Chains.{HasNoRepeatAfter}
+use Rattle.design_model.specs.Points.{is_point_within}
 use Rattle.line_sections.specs.Lines.{LineValue}
 use Rattle.line_graph.specs.declared.draw_kind.DrawKind.{DrawKind}
 use Rattle.line_graph.specs.declared.draw_kind.DrawKind.TheVariants as kind
 use Rattle.line_graph.specs.declared.limits.TheConstants.{MAX_BLOCKS, MAX_COST, MAX_LINES, MAX_POINTS}
-use Rattle.line_graph.specs.Drawings.{DrawingValue, HasNoRepeat, IsLine}
-use Rattle.line_graph.specs.GrowingDrawings.{all_in_needle_range, and_then, block_added, empty_drawing, finished_drawing, has_repeated_point, is_last_empty, line_added, point_count, repeats_after, step_count, with_new_block, with_new_line}
+use Rattle.line_graph.specs.Drawings.{DrawingValue, IsLine}
+use Rattle.line_graph.specs.GrowingDrawings.{all_in_needle_range, and_then, block_added, empty_drawing, finished_drawing, has_repeated_point, is_last_empty, line_added, point_count, step_count, with_new_block, with_new_line}
 use Rattle.line_graph.specs.Needles.{steps_of_line}
 use Rattle.drawing_edits.specs.RedrawnDrawings.{line_added_if, with_blocks, with_lines_of}
 use Rattle.drawing_edits.specs.ValidRedraws.{LinesWithinLimitsAreDrawn}
 use Rattle.drawing_edits.proofs.BlockGroupLemmas.{grouped, in_block, in_order, rise_all}
-
--- Points that differ are found to differ.
-others_found : (p q : Point) → p ≢ q → is_same_point p q ≡ false
-others_found p q other = false_from_ne_true (is_same_point p q) (λ found. other (same found))
-  where
-    same : is_same_point p q ≡ true → p ≡ q
-    same found =
-        let both = and_parts (int_eq p.x q.x) (int_eq p.y q.y) found in
-        ap (λ (x : ℤ). record { x = x; y = p.y }) ((Decides-int_eq p.x q.x).0 both.0)
-        ∙ ap (λ (y : ℤ). record { x = q.x; y = y }) ((Decides-int_eq p.y q.y).0 both.1)
-
-none_after : (p : Point) (rest : List Point) → HasNoRepeatAfter p rest → repeats_after p rest ≡ false
-none_after p [] moving = refl
-none_after p (q ∷ rest) moving =
-    or_from (is_same_point p q) (repeats_after q rest) (others_found p q moving.0) (none_after q rest moving.1)
-
-none_repeats : (points : List Point) → HasNoRepeat points → has_repeated_point points ≡ false
-none_repeats [] moving = refl
-none_repeats (p ∷ rest) moving = none_after p rest moving
+use Rattle.line_graph.proofs.CallerLemmas.{none_repeats}
 
 -- A drawing has room for more lines that can be sewn.
 record HasRoom (d : DrawingValue) (more : List LineValue) : Type 0 where

@@ -3,7 +3,7 @@ use Rattle.std.proofs.Common.{◌≡◌, ◌<◌, ℕ, ◌+◌, ◌==◌, Bool, 
 use Rattle.std.specs.List.{list_any}
 use Rattle.line_sections.specs.Lines.{LineValue}
 use Rattle.drawing_edits.specs.PieceOrders.{PiecesComeBefore, lines_outside}
-use Rattle.drawing_edits.proofs.RangeLemmas.{filter_skips, filter_takes}
+use Rattle.lists_and_numbers.proofs.CallerLemmas.{filter_skips, filter_takes}
 
 -- A line is not in a piece.
 abbrev is_outside : List ℕ → ℕ → Bool

@@ -1,16 +1,12 @@
 -- The pieces in order are the pieces of a drawing.
-use Rattle.std.proofs.Common.{◌≡◌, ◌≢◌, ◌<◌, ◌≤◌, inl, ℕ, zero, suc, ◌==◌, true, List, [], ◌∷◌, length, map, filter, get_or, Some, unwrap_or, All, AllPairs, Contains, arith, refl, sym, ◌∙◌, ap, subst}
-use Rattle.std.proofs.lemmas.Bool.{and_parts}
-use Rattle.std.proofs.lemmas.Bool.Decides.{Decides-int_eq, nat_tests}
-use Rattle.std.proofs.lemmas.List.{length-map}
-use Rattle.std.proofs.lemmas.List.Elements.{All-append, All-contains, All-filter, All-head, All-map, All-nil, All-tail, Contains-append_left, Contains-append_right, filter_passes}
-use Rattle.std.proofs.lemmas.List.Kept.{AllPairs-from_increasing, IsStrictlyIncreasing-filter}
+use Rattle.std.proofs.Common.{◌≡◌, ◌≢◌, ◌<◌, ◌≤◌, inl, ℕ, ◌==◌, true, List, [], ◌∷◌, length, map, filter, get_or, Some, unwrap_or, All, Contains, arith, refl, sym, ◌∙◌, ap, subst}
+use Rattle.std.proofs.lemmas.List.Elements.{All-contains, All-filter, All-head, All-map, All-tail, filter_passes}
+use Rattle.std.proofs.lemmas.List.Kept.{IsStrictlyIncreasing-filter}
 use Rattle.std.proofs.lemmas.Option.{slice_get-get_or}
 use Rattle.std.specs.List.{concat, range_with_len}
 use Rattle.std.specs.List.Sorted.{IsStrictlyIncreasing}
-use Rattle.std.specs.Ordering.{int_eq}
 use Rattle.design_model.specs.declared.point.Point.{Point}
-use Rattle.design_model.specs.Points.{is_same_point, origin}
+use Rattle.design_model.specs.Points.{origin}
 use Rattle.line_graph.specs.Drawings.{DrawingValue, KeepsDrawingLimits, first_point, optional_line_points, points_of}
 use Rattle.line_graph.specs.FirstLines.{IsLineEnd}
 use Rattle.line_graph.specs.Pieces.{ArePieces, AreConnected, first_line}
@@ -19,64 +15,15 @@ use Rattle.line_sections.specs.declared.spot.Spot.{Spot}
 use Rattle.line_sections.specs.Lines.{LineValue}
 use Rattle.line_sections.specs.Spots.{is_same_spot}
 use Rattle.drawing_edits.specs.PieceOrders.{are_in_one_piece, is_first_of_piece, piece_of_line, pieces_in_order, spot_of_line}
-use Rattle.drawing_edits.proofs.RangeLemmas.{filter_has, range_below, range_has, range_rises}
-
--- Numbers that pass the test are equal.
-same_number : (m n : ℕ) → (m == n) ≡ true → m ≡ n
-same_number m n is = grind (arith, nat_tests)
-
--- A number passes the test with an equal one.
-number_found : (m n : ℕ) → m ≡ n → (m == n) ≡ true
-number_found m n is = grind (arith, nat_tests)
-
--- Points that pass the test are equal.
-same_point : (p q : Point) → is_same_point p q ≡ true → p ≡ q
-same_point p q found =
-    let both = and_parts (int_eq p.x q.x) (int_eq p.y q.y) found in
-    ap (λ x. record { x = x; y = p.y }) ((Decides-int_eq p.x q.x).0 both.0)
-    ∙ ap (λ y. record { x = q.x; y = y }) ((Decides-int_eq p.y q.y).0 both.1)
-
--- Spots that pass the test are equal.
-same_spot : (a b : Spot) → is_same_spot a b ≡ true → a ≡ b
-same_spot a b found =
-    let both = and_parts (a.block == b.block) (is_same_point a.at b.at) found in
-    ap (λ (n : ℕ). record { block = n; at = a.at }) (same_number a.block b.block both.0)
-    ∙ ap (λ (p : Point). record { block = b.block; at = p }) (same_point a.at b.at both.1)
-
--- A spot passes the test with itself.
-spot_found : (a : Spot) → is_same_spot a a ≡ true
-spot_found a = rw (
-  number_found a.block a.block refl,
-  (Decides-int_eq a.at.x a.at.x).1 refl,
-  (Decides-int_eq a.at.y a.at.y).1 refl,
-) refl
+use Rattle.drawing_edits.proofs.RangeLemmas.{range_below, range_has}
+use Rattle.line_graph.proofs.CallerLemmas.{firsts_rise}
+use Rattle.line_sections.proofs.CallerLemmas.{same_spot, spot_found}
+use Rattle.lists_and_numbers.proofs.CallerLemmas.{all_concat, concat_has, filter_has, map_has, number_found, range_rises, same_number}
 
 -- A list of points begins at its first point.
 begins : (ps : List Point) → 2 ≤ length ps → first_point ps ≡ Some (unwrap_or (first_point ps) origin)
 begins [] long = absurd (omega (arith, long))
 begins (p ∷ ps) long = refl
-
--- The lists of a list of lists are in their concatenation.
-concat_has : (xss : List (List ℕ)) (xs : List ℕ) (x : ℕ) → Contains xss xs → Contains xs x → Contains (concat xss) x
-concat_has [] xs x (k, below, is) has = absurd (omega (arith, below))
-concat_has (ys ∷ xss) xs x (zero, below, is) has =
-    Contains-append_left ys (concat xss) x (subst (λ (zs : List ℕ). Contains zs x) (sym is) has)
-concat_has (ys ∷ xss) xs x (suc k, below, is) has =
-    Contains-append_right ys (concat xss) x (concat_has xss xs x (k, omega (arith, below), is) has)
-
--- What holds of all lists holds of their concatenation.
-all_concat : (P : ℕ → Type 0) (xss : List (List ℕ)) → All (λ xs. All P xs) xss → All P (concat xss)
-all_concat P [] all = All-nil P
-all_concat P (xs ∷ xss) all =
-    All-append P xs (concat xss) (All-head (λ xs. All P xs) xs xss all) (all_concat P xss (All-tail (λ xs. All P xs) xs xss all))
-
--- The value of a function at an item is among its values.
-map_has : (f : ℕ → List ℕ) (xs : List ℕ) (x : ℕ) → Contains xs x → Contains (map f xs) (f x)
-map_has f [] x (k, below, is) = absurd (omega (arith, below))
-map_has f (y ∷ xs) x (zero, below, is) = (0, omega arith, ap f is)
-map_has f (y ∷ xs) x (suc k, below, is) =
-    let rest = map_has f xs x (k, omega (arith, below), is) in
-    (suc rest.0, omega (arith, rest.1), rest.2)
 
 -- A list with an item begins with one of its items.
 first_in : (xs : List ℕ) (x : ℕ) → Contains xs x → Contains xs (first_line xs)
@@ -86,21 +33,6 @@ first_in (y ∷ xs) x has = (0, omega arith, refl)
 not_empty : (xs : List ℕ) (x : ℕ) → Contains xs x → xs ≢ []
 not_empty [] x has is = absurd (omega (arith, has.1))
 not_empty (y ∷ xs) x has is = absurd cc
-
--- Lists whose first items rise.
-firsts_rise : (pieces : List (List ℕ)) → IsStrictlyIncreasing (map first_line pieces)
-    → AllPairs (λ a b. first_line a < first_line b) pieces
-firsts_rise pieces up = λ i. λ j. λ x. λ less. λ below.
-    let wide = length-map pieces first_line in
-    let pairs = AllPairs-from_increasing (map first_line pieces) up i j 0 less (omega (arith, wide, below)) in
-    subst (λ (k : ℕ). k < first_line (get_or pieces j x)) (sym (at pieces i x (omega (arith, less, below))))
-    (subst (λ (k : ℕ). get_or (map first_line pieces) i 0 < k) (sym (at pieces j x below)) pairs)
-  where
-    at : (pieces : List (List ℕ)) (i : ℕ) (x : List ℕ) → i < length pieces
-        → first_line (get_or pieces i x) ≡ get_or (map first_line pieces) i 0
-    at [] i x below = absurd (omega (arith, below))
-    at (a ∷ pieces) zero x below = refl
-    at (a ∷ pieces) (suc i) x below = at pieces i x (omega (arith, below))
 
 module _ (d : DrawingValue) (limits : KeepsDrawingLimits d) (connected : SpotsAreConnected) where
   -- The representative of the spot where a line begins: lines of one piece have the same.

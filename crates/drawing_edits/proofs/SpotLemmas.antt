@@ -1,10 +1,8 @@
 -- The starts and ends of a drawing are needle points, as they are ends of its lines.
-use Rattle.std.proofs.Common.{◌≡◌, ◌==◌, ◌||◌, Bool, true, false, ℤ, List, [], ◌∷◌, All, refl, sym, subst, ap, ◌∙◌}
+use Rattle.std.proofs.Common.{◌≡◌, ◌==◌, ◌||◌, Bool, true, false, ℤ, List, [], ◌∷◌, All, refl, sym, subst, ◌∙◌}
 use Rattle.std.proofs.lemmas.Bool.{and_parts}
-use Rattle.std.proofs.lemmas.Bool.Decides.{Decides-int_eq}
 use Rattle.std.proofs.lemmas.List.Elements.{All-head, All-tail}
 use Rattle.std.specs.List.{list_any}
-use Rattle.std.specs.Ordering.{int_eq}
 use Rattle.design_model.specs.declared.point.Point.{Point}
 use Rattle.design_model.specs.Points.{is_same_point}
 use Rattle.line_sections.specs.declared.spot.Spot.{Spot}
@@ -13,31 +11,22 @@ use Rattle.line_graph.specs.Drawings.{IsLine}
 use Rattle.line_graph.specs.Pieces.{endpoints}
 use Rattle.line_graph.specs.WalkEnds.{has_end_at_spot, is_junction}
 use Rattle.step_splitter.specs.Chains.{IsNeedlePoint, last_point_or}
-
--- Points that pass the test are equal.
-same_point_is : (p q : Point) → is_same_point p q ≡ true → p ≡ q
-same_point_is p q found =
-    let both = and_parts (int_eq p.x q.x) (int_eq p.y q.y) found in
-    ap (λ (x : ℤ). record { x = x; y = p.y }) ((Decides-int_eq p.x q.x).0 both.0)
-    ∙ ap (λ (y : ℤ). record { x = q.x; y = y }) ((Decides-int_eq p.y q.y).0 both.1)
+use Rattle.design_model.proofs.CallerLemmas.{same_is}
+use Rattle.step_splitter.proofs.CallerLemmas.{last_in_range}
 
 -- one of two tests passes
 either_true : {R : Type 0} (a b : Bool) → (a || b) ≡ true → (a ≡ true → R) → (b ≡ true → R) → R
 either_true true b found one two = one refl
 either_true false b found one two = two found
 
-last_in_range : (p : Point) (rest : List Point) → IsNeedlePoint p → All IsNeedlePoint rest → IsNeedlePoint (last_point_or p rest)
-last_in_range p [] one all = one
-last_in_range p (q ∷ rest) one all = last_in_range q rest (All-head IsNeedlePoint q rest all) (All-tail IsNeedlePoint q rest all)
-
 end_in_range : (at : Point) (points : List Point) → All IsNeedlePoint points
     → list_any (is_same_point at) (endpoints points) ≡ true → IsNeedlePoint at
 end_in_range at [] all found = absurd (let no : ⊥ = cc in no)
 end_in_range at (p ∷ rest) all found =
     either_true (is_same_point at p) (list_any (is_same_point at) (last_point_or p rest ∷ [])) found
-    (λ is. subst IsNeedlePoint (sym (same_point_is at p is)) (All-head IsNeedlePoint p rest all))
+    (λ is. subst IsNeedlePoint (sym (same_is at p is)) (All-head IsNeedlePoint p rest all))
     (λ later. either_true (is_same_point at (last_point_or p rest)) false later
-    (λ is. subst IsNeedlePoint (sym (same_point_is at (last_point_or p rest) is))
+    (λ is. subst IsNeedlePoint (sym (same_is at (last_point_or p rest) is))
     (last_in_range p rest (All-head IsNeedlePoint p rest all) (All-tail IsNeedlePoint p rest all)))
     (λ never. absurd (let no : ⊥ = cc in no)))
 

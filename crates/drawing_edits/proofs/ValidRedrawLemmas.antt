@@ -1,45 +1,15 @@
 -- A valid joined drawing is drawn again as it is.
-use Rattle.std.proofs.Common.{◌≡◌, suc, true, false, List, [], ◌∷◌, ◌++◌, Result, Ok, All, AllPairs, refl, ap, sym, subst, ◌∙◌, arith, append_assoc, append-nil}
-use Rattle.std.proofs.lemmas.List.Elements.{All-cons, All-head, All-nil, All-tail}
-use Rattle.std.proofs.lemmas.List.Folds.{list_any_none}
-use Rattle.std.specs.List.{list_any}
+use Rattle.std.proofs.Common.{◌≡◌, true, false, List, [], ◌∷◌, ◌++◌, Result, Ok, ap, sym, subst, ◌∙◌, append_assoc, append-nil}
 use Rattle.line_sections.specs.declared.spot.Spot.{Spot}
-use Rattle.line_sections.specs.Lines.{LineValue}
 use Rattle.line_graph.specs.declared.draw_kind.DrawKind.{DrawKind}
 use Rattle.line_graph.specs.Drawings.{DrawingValue, KeepsDrawingLimits}
 use Rattle.line_graph.specs.GrowingDrawings.{and_then}
 use Rattle.line_graph.specs.JoinedDrawings.{JoinedDrawingsStay, joined_drawing}
-use Rattle.line_graph.specs.WalkEnds.{AreInDifferentPieces, are_connected_spots, is_junction, spot_added}
+use Rattle.line_graph.specs.WalkEnds.{AreInDifferentPieces}
 use Rattle.drawing_edits.specs.RedrawnDrawings.{with_starts_and_ends, with_walk_ends}
 use Rattle.drawing_edits.specs.ValidRedraws.{ValidDrawingsAreRedrawn}
 use Rattle.drawing_edits.proofs.LineDrawnLemmas.{lines_drawn}
-
--- What holds of all spots holds of one of them.
-in_middle : (P : Spot → Type 0) (before : List Spot) (spot : Spot) (rest : List Spot) → All P (before ++ spot ∷ rest) → P spot
-in_middle P [] spot rest all = All-head P spot rest all
-in_middle P (one ∷ before) spot rest all = in_middle P before spot rest (All-tail P one (before ++ spot ∷ rest) all)
-
--- What holds of all pairs holds of each spot before another and that one.
-before_it : (R : Spot → Spot → Type 0) (before : List Spot) (spot : Spot) (rest : List Spot) → AllPairs R (before ++ spot ∷ rest)
-    → All (λ one. R one spot) before
-before_it R [] spot rest pairs = All-nil (λ (one : Spot). R one spot)
-before_it R (one ∷ before) spot rest pairs =
-    let first : All (R one) (before ++ spot ∷ rest) =
-    λ k e below. pairs 0 (suc k) e (omega arith) (omega (arith, below)) in
-    let others : AllPairs R (before ++ spot ∷ rest) =
-    λ i j e less there. pairs (suc i) (suc j) e (omega (arith, less)) (omega (arith, there)) in
-    All-cons (λ (some : Spot). R some spot) one before (in_middle (R one) before spot rest first)
-    (before_it R before spot rest others)
-
--- A junction in a piece of its own is added.
-spot_comes : (lines : List LineValue) (before : List Spot) (spot : Spot) (rest : List Spot)
-    → AreInDifferentPieces lines (before ++ spot ∷ rest) → spot_added lines before spot ≡ Ok (before ++ spot ∷ [])
-spot_comes lines before spot rest apart =
-    let there : is_junction lines spot ≡ true = in_middle (λ (s : Spot). is_junction lines s ≡ true) before spot rest apart.there in
-    let alone : list_any (λ (one : Spot). are_connected_spots lines one spot) before ≡ false =
-    list_any_none (λ (one : Spot). are_connected_spots lines one spot) before
-    (before_it (λ (a b : Spot). are_connected_spots lines a b ≡ false) before spot rest apart.apart) in
-    rw (there, alone) refl
+use Rattle.line_graph.proofs.CallerLemmas.{spot_comes}
 
 starts_come : (spots : List Spot) (d : DrawingValue) → AreInDifferentPieces d.lines (d.starts ++ spots)
     → with_walk_ends true d spots ≡ Ok (record d { starts = d.starts ++ spots })

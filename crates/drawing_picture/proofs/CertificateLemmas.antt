@@ -1,23 +1,14 @@
 -- Certificates without a fault can be sewn, and what they sew is least redwork.
-use Rattle.std.proofs.Common.{◌≡◌, ◌≤◌, ◌<◌, ℕ, suc, ◌+◌, ◌-◌, ◌*◌, ◌==◌, Bool, true, false, cond, List, [], ◌∷◌, ◌++◌, Option, Some, None, length, map, replicate, All, Contains, sum_by, arith, refl, ap, subst, ◌∙◌}
-use Rattle.std.proofs.lemmas.Bool.Decides.{nat_tests}
-use Rattle.std.proofs.lemmas.List.{length-append, length-map, length-replicate}
+use Rattle.std.proofs.Common.{◌≡◌, ◌≤◌, ◌<◌, ℕ, suc, ◌+◌, ◌-◌, ◌*◌, ◌==◌, List, [], ◌∷◌, ◌++◌, None, length, map, All, Contains, sum_by, arith, refl, ap, subst, ◌∙◌}
+use Rattle.std.proofs.lemmas.List.{length-map}
 use Rattle.std.proofs.lemmas.List.Elements.{All-cons, All-contains, All-head, All-nil, All-tail}
 use Rattle.std.proofs.lemmas.List.Sums.{sum_by-cons}
 use Rattle.std.specs.List.{AllZip, concat}
 use Rattle.odd_cuts.specs.declared.certificate.PieceCert.{PieceCert}
-use Rattle.odd_cuts.specs.declared.faults.CutFault.{CutFault}
-use Rattle.odd_cuts.specs.declared.faults.WalkFault.{WalkFault}
 use Rattle.odd_cuts.specs.Certificates.{walks_of}
-use Rattle.odd_cuts.specs.CutFaults.{cuts_fault}
 use Rattle.odd_cuts.specs.Cuts.{total_weight}
-use Rattle.odd_cuts.specs.Faults.{first_fault}
 use Rattle.odd_cuts.specs.FaultTheorems.{CutFaultsAreExact, WalkFaultsAreExact}
 use Rattle.odd_cuts.specs.PackingBounds.{BoundsTotal, BoundsWalks}
-use Rattle.odd_cuts.specs.Packings.{IsOddCut}
-use Rattle.odd_cuts.specs.WalkFaults.{walk_fault}
-use Rattle.design_model.specs.declared.command.Command.TheVariants.{Stitch, Stop, Trim}
-use Rattle.design_model.specs.declared.point.Point.{Point}
 use Rattle.design_model.specs.Designs.{DesignValue}
 use Rattle.drawing_picture.specs.CheckedProofs.{AreSewn, IsFirstFault, IsShownProof, RightCertificatesAreSewn, certificate_reason}
 use Rattle.drawing_picture.specs.BandTexts.{bands_of_pieces}
@@ -28,88 +19,28 @@ use Rattle.line_graph.specs.Drawings.{DrawingValue, KeepsDrawingLimits}
 use Rattle.line_graph.specs.DrawnWalks.{PiecesAreValid}
 use Rattle.line_graph.specs.PieceGraphs.{PieceValue, piece_graph}
 use Rattle.line_graph.specs.PiecesOfDrawings.{ArePiecesOf, graph_of, lines_of_pieces}
-use Rattle.line_graph.specs.PieceWalks.{is_fitting_walk, piece_cost, walk_cost}
-use Rattle.line_graph.specs.Runs.{HasNeedle, Run, RunsAreSewn, commands_after, run_of, runs_of, sewn_design, stops_after}
+use Rattle.line_graph.specs.PieceWalks.{piece_cost, walk_cost}
+use Rattle.line_graph.specs.Runs.{HasNeedle, Run, RunsAreSewn, run_of, runs_of, sewn_design}
 use Rattle.line_graph.specs.SewnWalks.{ArePiecesWithin, FittingWalksAreSewable, GoesAlong, IsSewable, PiecesKeepLimits}
 use Rattle.line_graph.specs.UniquePieces.{PiecesAreUnique}
 use Rattle.line_graph.specs.ValidPieces.{IsValidPiece}
 use Rattle.line_graph.specs.Walks.{needles_of_walk}
 use Rattle.route_verdict.specs.declared.verdict.Reason.TheVariants as reason
 use Rattle.route_verdict.specs.SewingSteps.{AllDrawn, AreDrawn}
-use Rattle.route_verdict.specs.Verdicts.{IsCorrectPieceCert, IsCorrectRoute, cost_above, count_reason, cuts_reason, piece_reason, pieces_reason, retraced_reason, walk_reason}
+use Rattle.route_verdict.specs.Verdicts.{IsCorrectPieceCert, IsCorrectRoute, count_reason, piece_reason, pieces_reason}
 use Rattle.route_verdict.specs.VerdictTheorems.{CorrectRoutesAreAccepted, YesIsLeastRedwork}
-
--- two are none where neither is one
-both_none : {F : Type 0} (first rest : Option F) → first_fault first rest ≡ None → (first ≡ None) × (rest ≡ None)
-both_none (Some found) rest is = absurd (cc)
-both_none None rest is = (refl, is)
-
-walk_none : (number : ℕ) (found : Option WalkFault) → walk_reason number found ≡ None → found ≡ None
-walk_none number None is = refl
-walk_none number (Some fault) is = absurd (cc)
-
-cuts_none : (number : ℕ) (found : Option CutFault) → cuts_reason number found ≡ None → found ≡ None
-cuts_none number None is = refl
-cuts_none number (Some fault) is = absurd (cc)
-
-test_none : {F : Type 0} (test : Bool) (found : F) → cond test None (Some found) ≡ None → test ≡ true
-test_none true found is = refl
-test_none false found is = absurd (cc)
-
-equal : (m n : ℕ) → (m == n) ≡ true → m ≡ n
-equal m n is = grind (arith, nat_tests)
-
--- a fitting walk costs no less than the lines
-costs_more : BoundsWalks → (p : PieceValue) (cert : PieceCert) → IsValidPiece p → is_fitting_walk p cert.walk ≡ true
-    → piece_cost p ≤ walk_cost p cert.walk
-costs_more bounds p cert keeps fit =
-    half (piece_cost p) (walk_cost p cert.walk) (bounds p [] cert.walk keeps
-    (record { odd = All-nil (IsOddCut p); loads = λ k. λ d. λ less. omega arith }) fit)
-  where
-    half : (m n : ℕ) → 0 + 2 * m ≤ 2 * n → m ≤ n
-    half m n h = omega arith
-
--- the certificate of a piece without a fault is correct
-piece_correct : WalkFaultsAreExact → CutFaultsAreExact → BoundsWalks → (p : PieceValue) → IsValidPiece p → (number : ℕ)
-    (cert : PieceCert) → piece_reason p number cert ≡ None → IsCorrectPieceCert p cert
-piece_correct walks cuts bounds p keeps number cert none =
-    let first = both_none (walk_reason number (walk_fault p cert.walk))
-    (first_fault (retraced_reason number cert.retraced (cost_above p cert))
-    (cuts_reason number (cuts_fault p cert.retraced cert.cuts))) none in
-    let second = both_none (retraced_reason number cert.retraced (cost_above p cert))
-    (cuts_reason number (cuts_fault p cert.retraced cert.cuts)) first.1 in
-    let fit : is_fitting_walk p cert.walk ≡ true = (walks p cert.walk keeps).0 (walk_none number (walk_fault p cert.walk) first.0) in
-    let packing = (cuts p cert.retraced cert.cuts keeps).0 (cuts_none number (cuts_fault p cert.retraced cert.cuts) second.1) in
-    let said : cert.retraced ≡ cost_above p cert = equal cert.retraced (cost_above p cert)
-    (test_none (cert.retraced == cost_above p cert) (reason.Retraced number cert.retraced (cost_above p cert)) second.0) in
-    record {
-      fitting = fit;
-      retraced = above (walk_cost p cert.walk) (piece_cost p) cert.retraced (costs_more bounds p cert keeps fit) said;
-      packing = packing.0;
-      total = packing.1;
-    }
-  where
-    above : (w c r : ℕ) → c ≤ w → r ≡ w - c → w ≡ c + r
-    above w c r less is = omega arith
-
--- the lines of the first piece, and of those after it
-front : (n : ℕ) (xs ys : List ℕ) → All (λ line. line < n) (xs ++ ys) → All (λ line. line < n) xs
-front n [] ys all = All-nil (λ line. line < n)
-front n (x ∷ xs) ys all =
-    All-cons (λ line. line < n) x xs (All-head (λ line. line < n) x (xs ++ ys) all)
-    (front n xs ys (All-tail (λ line. line < n) x (xs ++ ys) all))
-
-after : (n : ℕ) (xs ys : List ℕ) → All (λ line. line < n) (xs ++ ys) → All (λ line. line < n) ys
-after n [] ys all = all
-after n (x ∷ xs) ys all = after n xs ys (All-tail (λ line. line < n) x (xs ++ ys) all)
+use Rattle.line_graph.proofs.CallerLemmas.{commands_count}
+use Rattle.lists_and_numbers.proofs.CallerLemmas.{below_left, below_right}
+use Rattle.odd_cuts.proofs.CallerLemmas.{both_none}
+use Rattle.route_verdict.proofs.CallerLemmas.{count_none, piece_correct}
 
 -- the lines of each piece are lines of the drawing
 pub lines_there : (n : ℕ) (pieces : List Piece) → All (λ line. line < n) (concat (lines_of_pieces pieces))
     → All (λ (p : Piece). All (λ line. line < n) p.lines) pieces
 lines_there n [] below = All-nil (λ (p : Piece). All (λ line. line < n) p.lines)
 lines_there n (p ∷ pieces) below =
-    All-cons (λ (p : Piece). All (λ line. line < n) p.lines) p pieces (front n p.lines (concat (lines_of_pieces pieces)) below)
-    (lines_there n pieces (after n p.lines (concat (lines_of_pieces pieces)) below))
+    All-cons (λ (p : Piece). All (λ line. line < n) p.lines) p pieces (below_left n p.lines (concat (lines_of_pieces pieces)) below)
+    (lines_there n pieces (below_right n p.lines (concat (lines_of_pieces pieces)) below))
 
 -- a piece with a correct certificate, whose walk can be sewn
 record IsReady (d : DrawingValue) (lines : List ℕ) (cert : PieceCert) : Type 0 where
@@ -145,9 +76,9 @@ module _ (walks : WalkFaultsAreExact) (cuts : CutFaultsAreExact) (bounds : Bound
   all_ready (p ∷ pieces) number (c ∷ certs) below valid long none =
       let both = both_none (piece_reason (piece_graph d p) number c)
       (pieces_reason (number + 1) (map (piece_graph d) pieces) certs) none in (
-        ready p number c (front (length d.lines) p (concat pieces) below)
+        ready p number c (below_left (length d.lines) p (concat pieces) below)
             (All-head (λ lines. IsValidPiece (piece_graph d lines)) p pieces valid) both.0,
-        all_ready pieces (number + 1) certs (after (length d.lines) p (concat pieces) below)
+        all_ready pieces (number + 1) certs (below_right (length d.lines) p (concat pieces) below)
             (All-tail (λ lines. IsValidPiece (piece_graph d lines)) p pieces valid) (omega (arith, long)) both.1,
       )
 
@@ -220,25 +151,6 @@ runs_count d [] [] all = refl
 runs_count d [] (c ∷ certs) all = absurd all
 runs_count d (p ∷ pieces) [] all = absurd all
 runs_count d (p ∷ pieces) (c ∷ certs) all = ap (λ (n : ℕ). suc n) (runs_count d pieces certs all.1)
-
--- the commands of runs are their stops, their needles and a trim for each
-commands_count : (block : ℕ) (runs : List Run)
-    → length (commands_after block runs) ≡ stops_after block runs + (sum_by (λ (run : Run). length run.needles) runs + length runs)
-commands_count block [] = omega arith
-commands_count block (run ∷ rest) =
-    omega (
-      arith,
-      commands_count run.block rest,
-      length-append (replicate (run.block - block) Stop) (map (λ p. Stitch p) run.needles ++ Trim ∷ commands_after run.block rest),
-      length-append (map (λ (p : Point). Stitch p) run.needles) (Trim ∷ commands_after run.block rest),
-      length-map run.needles (λ (p : Point). Stitch p),
-      length-replicate (run.block - block) Stop,
-      sum_by-cons (λ (run : Run). length run.needles) run rest,
-    )
-
--- as many certificates as pieces
-count_none : (found drawn : ℕ) → count_reason found drawn ≡ None → found ≡ drawn
-count_none found drawn is = equal found drawn (test_none (found == drawn) (reason.Pieces found drawn) is)
 
 pub right_are_sewn : WalkFaultsAreExact → CutFaultsAreExact → BoundsWalks → BoundsTotal → FittingWalksAreSewable → PiecesAreValid
     → PiecesKeepLimits → RunsAreSewn → CorrectRoutesAreAccepted → YesIsLeastRedwork → RightCertificatesAreSewn

@@ -1,5 +1,5 @@
 -- The marks of junctions by their degrees are those of the piece, and show its junctions.
-use Rattle.std.proofs.Common.{◌≡◌, ℕ, ◌+◌, ◌≤◌, Bool, true, false, List, [], ◌∷◌, ◌++◌, Option, Some, None, length, map, ap, ◌∙◌, refl, arith}
+use Rattle.std.proofs.Common.{◌≡◌, ℕ, ◌+◌, ◌≤◌, Bool, true, false, List, [], ◌∷◌, ◌++◌, length, map, ap, ◌∙◌, refl, arith}
 use Rattle.std.specs.List.{filter, flat_map, range_with_len}
 use Rattle.std.specs.Prelude.{cond}
 use Rattle.design_model.specs.declared.point.Point.{Point}
@@ -8,17 +8,10 @@ use Rattle.drawing_picture.specs.declared.junction_marks.JunctionMark.{JunctionM
 use Rattle.drawing_picture.specs.JunctionMarks.{marks_from, marks_of_piece, odd_marks}
 use Rattle.drawing_picture.specs.DrawnLaws.{DrawnSegment, MarksShowJunctions, PathsShowSegments, segments_through}
 use Rattle.drawing_picture.specs.TestedMarks.{tested_marks}
-use Rattle.line_graph.specs.declared.edge.Edge.{Edge}
 use Rattle.line_graph.specs.declared.limits.TheConstants.{MAX_LINES}
-use Rattle.line_graph.specs.ClosedDegrees.{closing_ends}
-use Rattle.line_graph.specs.PieceGraphs.{PieceValue, closing_edge, degree, degrees_from, given_end, given_start, is_odd_junction, one_if}
+use Rattle.line_graph.specs.PieceGraphs.{PieceValue, degrees_from, given_end, given_start, is_odd_junction, one_if}
 use Rattle.line_graph.specs.ValidPieces.{IsValidPiece}
-
--- the line back adds its ends
-degree_closed : (from to : Option ℕ) (es : List Edge) (j : ℕ) → degree (closing_edge from to ++ es) j ≡ closing_ends from to j + degree es j
-degree_closed (Some f) (Some t) es j = refl
-degree_closed (Some f) None es j = omega arith
-degree_closed None to es j = omega arith
+use Rattle.line_graph.proofs.CallerLemmas.{degree_closed}
 
 tested : (p : PieceValue) (j : ℕ) (points : List Point)
     → tested_marks (given_start p) (given_end p) j points (degrees_from p.edges j (length points)) ≡ marks_from p j points

@@ -12,19 +12,21 @@ use Rattle.line_graph.specs.Pieces.{endpoints}
 use Rattle.drawing_repairs.specs.Anchors.{anchored}
 use Rattle.drawing_repairs.specs.Listings.{block_ends, listed_line}
 use Rattle.drawing_repairs.specs.MovedLines.{block_anchors, moved_line, moved_points, unrepeated, unrepeated_after}
-use Rattle.drawing_repairs.proofs.ListingLemmas.{both, ends_alone, first_part, second_part}
+use Rattle.drawing_repairs.proofs.ListingLemmas.{ends_alone}
+use Rattle.lists_and_numbers.proofs.CallerLemmas.{first_true, second_true}
+use Rattle.std.proofs.lemmas.Bool.{and_from}
 
 -- what holds of each element is passed by all
 pub all_pass : (test : Point → Bool) (points : List Point) → All (λ p. test p ≡ true) points → list_all test points ≡ true
 all_pass test [] all = refl
 all_pass test (p ∷ rest) all =
-    both (test p) _ (all 0 p (omega arith)) (all_pass test rest (λ i d low. all (suc i) d (omega (arith, low))))
+    and_from (test p) _ (all 0 p (omega arith)) (all_pass test rest (λ i d low. all (suc i) d (omega (arith, low))))
 
 -- what all pass holds of each
 pub each_passes : (test : Point → Bool) (points : List Point) → list_all test points ≡ true → All (λ p. test p ≡ true) points
 each_passes test [] all i d low = absurd (omega (arith, low))
-each_passes test (p ∷ rest) all zero d low = first_part (test p) _ all
-each_passes test (p ∷ rest) all (suc i) d low = each_passes test rest (second_part (test p) _ all) i d (omega (arith, low))
+each_passes test (p ∷ rest) all zero d low = first_true (test p) _ all
+each_passes test (p ∷ rest) all (suc i) d low = each_passes test rest (second_true (test p) _ all) i d (omega (arith, low))
 
 -- Points of the lines of a block, by a function of a line.
 abbrev pub points_by : (LineValue → List Point) → ℕ → List LineValue → List Point
@@ -35,7 +37,7 @@ with_line : (s t : Point → Bool) (from to more later : List Point) → (list_a
 with_line s t from to more later first rest all =
     let parts = sym (list_all-append s from more) ∙ all in
     list_all-append t to later
-    ∙ both (list_all t to) _ (first (first_part (list_all s from) _ parts)) (rest (second_part (list_all s from) _ parts))
+    ∙ and_from (list_all t to) _ (first (first_true (list_all s from) _ parts)) (rest (second_true (list_all s from) _ parts))
 
 with_line_if : (s t : Point → Bool) (from to : LineValue → List Point) (line : LineValue) (some : List LineValue) (b : Bool)
     → (b ≡ true → list_all s (from line) ≡ true → list_all t (to line) ≡ true)
@@ -80,17 +82,17 @@ unrepeated_pass test p (q ∷ rest) all =
     pass_if (is_same_point p q) (unrepeated_pass test p rest later) (unrepeated_pass test q rest later)
   where
     later : list_all test rest ≡ true
-    later = second_part (test q) _ all
+    later = second_true (test q) _ all
 
     pass_if : (b : Bool) → list_all test (unrepeated_after p rest) ≡ true → list_all test (unrepeated_after q rest) ≡ true
         → list_all test (if b then unrepeated_after p rest else q ∷ unrepeated_after q rest) ≡ true
     pass_if true same other = same
-    pass_if false same other = both (test q) _ (first_part (test q) _ all) other
+    pass_if false same other = and_from (test q) _ (first_true (test q) _ all) other
 
 whole_pass : (test : Point → Bool) (points : List Point) → list_all test points ≡ true → list_all test (unrepeated points) ≡ true
 whole_pass test [] all = refl
 whole_pass test (p ∷ rest) all =
-    both (test p) _ (first_part (test p) _ all) (unrepeated_pass test p rest (second_part (test p) _ all))
+    and_from (test p) _ (first_true (test p) _ all) (unrepeated_pass test p rest (second_true (test p) _ all))
 
 moved_pass : (test : Point → Bool) (gap : ℕ) (anchors points : List Point)
     → list_all (λ p. test (anchored gap anchors p)) points ≡ true → list_all test (moved_points gap anchors points) ≡ true
@@ -112,13 +114,13 @@ moved_block_passes test gap all lines block pass =
 last_passes : (test : Point → Bool) (p : Point) (rest : List Point) → test p ≡ true → list_all test rest ≡ true
     → test (last_point_or p rest) ≡ true
 last_passes test p [] is all = is
-last_passes test p (q ∷ rest) is all = last_passes test q rest (first_part (test q) _ all) (second_part (test q) _ all)
+last_passes test p (q ∷ rest) is all = last_passes test q rest (first_true (test q) _ all) (second_true (test q) _ all)
 
 ends_pass : (test : Point → Bool) (points : List Point) → list_all test points ≡ true → list_all test (endpoints points) ≡ true
 ends_pass test [] all = refl
 ends_pass test (p ∷ rest) all =
-    both (test p) _ (first_part (test p) _ all)
-    (both (test (last_point_or p rest)) _ (last_passes test p rest (first_part (test p) _ all) (second_part (test p) _ all)) refl)
+    and_from (test p) _ (first_true (test p) _ all)
+    (and_from (test (last_point_or p rest)) _ (last_passes test p rest (first_true (test p) _ all) (second_true (test p) _ all)) refl)
 
 -- what holds of the points of a block holds of its ends
 pub block_ends_pass : (test : Point → Bool) (lines : List LineValue) (block : ℕ) → list_all test (listed_in lines block) ≡ true

@@ -1,6 +1,6 @@
 -- The points of a cell have all those that are within the gap of a point in it: the nearest of all is the nearest of these.
 use Rattle.std.proofs.Common.{◌≡◌, ℕ, ℤ, pos, negsuc, ◌+◌, ◌-◌, ◌*◌, ◌/◌, ◌-ℤ◌, ◌<◌, ◌≤◌, ◌==◌, unsigned_abs, Bool, ◌&&◌, ◌||◌, true, false, nat_lt, List, [], ◌∷◌, ◌++◌, Option, Some, None, filter, if◌then◌else◌, refl, ap, sym, ◌∙◌, arith}
-use Rattle.std.proofs.lemmas.Bool.{leb-false, leb-true, ltb-true}
+use Rattle.std.proofs.lemmas.Bool.{leb-false, leb-true, ltb-true, and_from}
 use Rattle.std.proofs.lemmas.Int.{ints}
 use Rattle.std.proofs.lemmas.Nat.{div-add-mod', div_below, le-div, mod_below}
 use Rattle.std.specs.List.{list_any}
@@ -48,18 +48,13 @@ reached_by gap n m low high =
     below : (last first : ℕ) → last < first + 2 → last ≤ first + 1
     below last first less = omega (arith, less)
 
-both_true : (a b : Bool) → a ≡ true → b ≡ true → (a && b) ≡ true
-both_true true true is other = refl
-both_true true false is other = other
-both_true false b is other = is
-
 -- the square around an anchor reaches the cells of all points within the gap
 near_reaches : (gap : ℕ) (p a : Point) → is_within_gap gap p a ≡ true → reaches_cell gap a (cell_of gap p) ≡ true
 near_reaches gap p a is =
     let near = leb-true (distance_between p a) gap is in
     let x : unsigned_abs (a.x -ℤ p.x) ≤ gap = omega (arith, near) in
     let y : unsigned_abs (a.y -ℤ p.y) ≤ gap = omega (arith, near) in
-    both_true _ _
+    and_from _ _
     (reached_by gap (grid_point a).x (grid_point p).x (grid_near gap p.x a.x x) (grid_near gap a.x p.x (turned gap p.x a.x x)))
     (reached_by gap (grid_point a).y (grid_point p).y (grid_near gap p.y a.y y) (grid_near gap a.y p.y (turned gap p.y a.y y)))
 

@@ -7,8 +7,8 @@ use Rattle.drawing_review.specs.declared.segment.LineSegment.{LineSegment}
 use Rattle.drawing_review.specs.Frames.{grid_point}
 use Rattle.drawing_review.specs.Meetings.{is_near}
 use Rattle.drawing_repairs.specs.Listings.{due_end}
-use Rattle.drawing_repairs.proofs.FollowLemmas.{point_itself}
-use Rattle.drawing_repairs.proofs.MovedApartLemmas.{or_then, then_or}
+use Rattle.design_model.proofs.CallerLemmas.{point_itself}
+use Rattle.std.proofs.lemmas.Bool.{or_left, or_right}
 
 abbrev IsDueOf : ℕ → List Point → LineSegment → List Point → Point → Type 0
 IsDueOf gap listed s ends e = (is_near gap (grid_point e) s ≡ true) × (list_any (is_same_point e) listed ≡ false)
@@ -16,7 +16,7 @@ IsDueOf gap listed s ends e = (is_near gap (grid_point e) s ≡ true) × (list_a
 
 one_more_end : (gap : ℕ) (listed : List Point) (s : LineSegment) (x : Point) (rest : List Point) (e : Point)
     → IsDueOf gap listed s rest e → IsDueOf gap listed s (x ∷ rest) e
-one_more_end gap listed s x rest e due = (due.0, due.1, then_or (is_same_point e x) _ due.2)
+one_more_end gap listed s x rest e due = (due.0, due.1, or_right (is_same_point e x) _ due.2)
 
 due_at : (gap : ℕ) (listed : List Point) (s : LineSegment) (x : Point) (rest : List Point) (e : Point) (later : Option Point)
     → (near has : Bool) → is_near gap (grid_point x) s ≡ near → list_any (is_same_point x) listed ≡ has
@@ -24,7 +24,7 @@ due_at : (gap : ℕ) (listed : List Point) (s : LineSegment) (x : Point) (rest :
     → IsDueOf gap listed s (x ∷ rest) e
 due_at gap listed s x rest e later true false near has found more =
     subst (λ (y : Point). IsDueOf gap listed s (x ∷ rest) y) (some_same x e found)
-    (near, has, or_then (is_same_point x x) _ (point_itself x))
+    (near, has, or_left (is_same_point x x) _ (point_itself x))
   where
     some_same : (x e : Point) → Some x ≡ Some e → x ≡ e
     some_same x e is = cc

@@ -10,17 +10,12 @@ use Rattle.drawing_review.specs.Frames.{are_apart, frame_around, grid_point}
 use Rattle.drawing_repairs.specs.declared.end_groups.EndBounds.{EndBounds}
 use Rattle.drawing_repairs.specs.EndGroups.{AreAround, AreBetween, is_beyond_gap, widened_bounds}
 use Rattle.drawing_repairs.specs.Listings.{due_end, is_due}
-use Rattle.drawing_repairs.proofs.MovedApartLemmas.{or_then, then_or}
-
--- one of two tests holds, and each has another that follows from it
-either : (x y one other : Bool) → (x ≡ true → one ≡ true) → (y ≡ true → other ≡ true) → (x || y) ≡ true → (one || other) ≡ true
-either true y one other first second both = or_then one other (first refl)
-either false y one other first second both = then_or one other (second both)
+use Rattle.lists_and_numbers.proofs.CallerLemmas.{either_way}
 
 -- a segment beyond the bounds is apart from the square around each end
 beyond_each : (gap : ℕ) (b : EndBounds) (p : GridPoint) (s : LineSegment) → AreAround b p p → is_beyond_gap gap b s ≡ true
     → are_apart (frame_around gap p) s.frame ≡ true
-beyond_each gap b p s around beyond = either _ _ _ _ to_left (either _ _ _ _ to_right (either _ _ _ _ to_top to_bottom)) beyond
+beyond_each gap b p s around beyond = either_way _ _ _ _ to_left (either_way _ _ _ _ to_right (either_way _ _ _ _ to_top to_bottom)) beyond
   where
     to_left : nat_lt (b.greatest.x + gap) s.frame.left ≡ true → nat_lt (p.x + gap) s.frame.left ≡ true
     to_left is = lt-ltb _ _ (omega (arith, ltb-true _ _ is, around.right))

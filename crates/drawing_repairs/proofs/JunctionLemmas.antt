@@ -12,14 +12,11 @@ use Rattle.line_sections.specs.declared.spot.Spot.{Spot}
 use Rattle.line_sections.specs.Lines.{LineValue}
 use Rattle.line_sections.specs.Spots.{is_same_spot}
 use Rattle.step_splitter.specs.Chains.{last_point_or}
-
-both_known : (a b : Bool) → (a ≡ true → b ≡ true) → (b ≡ true → a ≡ true) → a ≡ b
-both_known true b to back = sym (to refl)
-both_known false true to back = back refl
-both_known false false to back = refl
+use Rattle.lists_and_numbers.proofs.CallerLemmas.{same_test}
+use Rattle.std.proofs.lemmas.List.Folds.{or-false}
 
 int_either_way : (m n : ℤ) → int_eq m n ≡ int_eq n m
-int_either_way m n = both_known (int_eq m n) (int_eq n m)
+int_either_way m n = same_test (int_eq m n) (int_eq n m)
     (λ is. (Decides-int_eq n m).1 (sym ((Decides-int_eq m n).0 is)))
     (λ is. (Decides-int_eq m n).1 (sym ((Decides-int_eq n m).0 is)))
 
@@ -41,10 +38,6 @@ found_next true true later = refl
 found_next true false later = refl
 found_next false true later = refl
 found_next false false later = refl
-
-or_false : (b : Bool) → (b || false) ≡ b
-or_false true = refl
-or_false false = refl
 
 -- two spots of a block are put in
 both_put : (block : ℕ) (first last : Point) (old mid new : Spot → Bool)
@@ -82,7 +75,7 @@ no_ends_put section old none q =
 -- spots that are found exactly where they are junctions
 pub all_junctions : (found : Spot → Bool) (sections left : List LineValue)
     → ((q : Spot) → (found q || is_junction left q) ≡ is_junction sections q) → left ≡ [] → found ≡ is_junction sections
-all_junctions found sections left are none = fun_ext (λ q. sym (or_false (found q))
+all_junctions found sections left are none = fun_ext (λ q. sym (or-false (found q))
     ∙ (ap (λ (ls : List LineValue). found q || is_junction ls q) (sym none) ∙ are q))
 
 -- a spot is found after the ends of the next section were put in, or is an end of a later one

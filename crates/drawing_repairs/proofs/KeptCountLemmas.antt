@@ -2,17 +2,16 @@
 use Rattle.std.proofs.Common.{◌≡◌, ◌∙◌, ℕ, ℤ, ◌+◌, ◌==◌, ◌≤◌, Bool, true, false, cond, nat_le, List, [], ◌∷◌, ◌++◌, map, filter, if◌then◌else◌, refl, ap, sym, arith}
 use Rattle.std.proofs.Math.Path.{ap₂}
 use Rattle.std.proofs.lemmas.Bool.{eqb-true, leb-false, leb-true}
-use Rattle.std.proofs.lemmas.Bool.Decides.{Decides-int_eq}
 use Rattle.std.proofs.lemmas.List.Sums.{sum_by-cons}
 use Rattle.std.specs.List.{count_by, flat_map}
-use Rattle.std.specs.Ordering.{int_eq}
 use Rattle.design_model.specs.declared.point.Point.{Point}
 use Rattle.design_model.specs.Points.{is_same_point}
 use Rattle.line_sections.specs.declared.spot.Spot.{Spot}
 use Rattle.line_sections.specs.Lines.{LineValue}
 use Rattle.line_sections.specs.Sections.{is_shared_point, listed_in}
 use Rattle.drawing_repairs.specs.SpacedLines.{is_spot_of, kept_after, may_leave_out, spaced_line, spaced_points}
-use Rattle.drawing_repairs.proofs.SpacingLemmas.{first_of, second_of, tested_stay}
+use Rattle.drawing_repairs.proofs.SpacingLemmas.{tested_stay}
+use Rattle.design_model.proofs.CallerLemmas.{same_is}
 
 -- how many points pass a test
 abbrev places : (Point → Bool) → List Point → ℕ
@@ -116,11 +115,6 @@ fewer_listed spots step block t (line ∷ rest) =
       fewer_listed spots step block t rest,
     )
 
-same_means : (p q : Point) → is_same_point p q ≡ true → p ≡ q
-same_means p q same = ap₂ (λ (x y : ℤ). record { x = x; y = y })
-    ((Decides-int_eq p.x q.x).0 (first_of (int_eq p.x q.x) (int_eq p.y q.y) same))
-    ((Decides-int_eq p.y q.y).0 (second_of (int_eq p.x q.x) (int_eq p.y q.y) same))
-
 -- a spot that stays is shared where it was
 pub shared_same : (spots : Spot → Bool) (step block : ℕ) (lines : List LineValue) (p : Point)
     → is_spot_of spots block p ≡ true
@@ -134,7 +128,7 @@ shared_same spots step block lines p stays =
     each : (line : LineValue) → (line.block == block) ≡ true
         → places (is_same_point p) (spaced_line spots step line).points ≡ places (is_same_point p) line.points
     each line here = same_places (is_spot_of spots line.block) (is_same_point p) step line.points
-        (λ x same. ap₂ (λ (b : ℕ) (q : Point). is_spot_of spots b q) (eqb-true line.block block here) (sym (same_means p x same)) ∙ stays)
+        (λ x same. ap₂ (λ (b : ℕ) (q : Point). is_spot_of spots b q) (eqb-true line.block block here) (sym (same_is p x same)) ∙ stays)
 
 still_unshared : (m n : ℕ) → m ≤ n → nat_le 2 n ≡ false → (b : Bool) → nat_le 2 m ≡ b → b ≡ false
 still_unshared m n few is false so = refl

@@ -5,19 +5,8 @@ use Rattle.std.specs.List.{list_all}
 use Rattle.design_model.specs.declared.point.Point.{Point}
 use Rattle.drawing_review.specs.declared.segment.LineSegment.{LineSegment}
 use Rattle.drawing_repairs.specs.Listings.{FollowedLine, due_end, followed_by, followed_for, followed_on, followed_points, is_due, segment_between, steps_to_follow, unfollowed_line, with_due_ends}
-
-pub both : (a b : Bool) → a ≡ true → b ≡ true → (a && b) ≡ true
-both true true is other = refl
-both true false is other = other
-both false b is other = is
-
-pub first_part : (a b : Bool) → (a && b) ≡ true → a ≡ true
-first_part true b is = refl
-first_part false b is = is
-
-pub second_part : (a b : Bool) → (a && b) ≡ true → b ≡ true
-second_part true b is = is
-second_part false b is = cc
+use Rattle.lists_and_numbers.proofs.CallerLemmas.{first_true, second_true}
+use Rattle.std.proofs.lemmas.Bool.{and_from}
 
 -- the test holds of all parts of a line that is followed
 record Passes (test : Point → Bool) (f : FollowedLine) : Type 0 where
@@ -39,28 +28,28 @@ due_passes : (test : Point → Bool) (gap : ℕ) (listed : List Point) (s : Line
     → list_all test ends ≡ true → PassesIfAny test (due_end gap listed s ends)
 due_passes test gap listed s [] all = tt
 due_passes test gap listed s (e ∷ rest) all =
-    due_if test e (due_end gap listed s rest) (is_due gap listed s e) (first_part _ _ all)
-    (due_passes test gap listed s rest (second_part (test e) _ all))
+    due_if test e (due_end gap listed s rest) (is_due gap listed s e) (first_true _ _ all)
+    (due_passes test gap listed s rest (second_true (test e) _ all))
 
 by_passes : (test : Point → Bool) (f : FollowedLine) (b : Point) (rest : List Point) (due : Option Point) → Passes test f
     → test b ≡ true → list_all test rest ≡ true → PassesIfAny test due → Passes test (followed_by f b rest due)
 by_passes test f b rest None all next more end = record {
-  passed = list_all-append test f.passed (f.at ∷ []) ∙ both _ _ all.passed (both _ _ all.at refl);
+  passed = list_all-append test f.passed (f.at ∷ []) ∙ and_from _ _ all.passed (and_from _ _ all.at refl);
   at = next;
   left = more;
 }
 by_passes test f b rest (Some e) all next more end = record {
   passed = all.passed;
   at = all.at;
-  left = both (test e) _ end (both (test b) _ next more);
+  left = and_from (test e) _ end (and_from (test b) _ next more);
 }
 
 on_passes : (test : Point → Bool) (gap : ℕ) (ends : List Point) (f : FollowedLine) (left : List Point)
     → list_all test ends ≡ true → Passes test f → list_all test left ≡ true → Passes test (followed_on gap ends f left)
 on_passes test gap ends f [] of_ends all more = all
 on_passes test gap ends f (b ∷ rest) of_ends all more =
-    by_passes test f b rest (due_end gap f.listed (segment_between f.at b) ends) all (first_part _ _ more)
-    (second_part (test b) _ more) (due_passes test gap f.listed (segment_between f.at b) ends of_ends)
+    by_passes test f b rest (due_end gap f.listed (segment_between f.at b) ends) all (first_true _ _ more)
+    (second_true (test b) _ more) (due_passes test gap f.listed (segment_between f.at b) ends of_ends)
 
 for_passes : (test : Point → Bool) (n gap : ℕ) (ends : List Point) (f : FollowedLine) → list_all test ends ≡ true
     → Passes test f → Passes test (followed_for n gap ends f)
@@ -69,7 +58,7 @@ for_passes test (suc n) gap ends f of_ends all =
     for_passes test n gap ends (followed_on gap ends f f.left) of_ends (on_passes test gap ends f f.left of_ends all all.left)
 
 points_pass : (test : Point → Bool) (f : FollowedLine) → Passes test f → list_all test (followed_points f) ≡ true
-points_pass test f all = list_all-append test f.passed (f.at ∷ f.left) ∙ both _ _ all.passed (both _ _ all.at all.left)
+points_pass test f all = list_all-append test f.passed (f.at ∷ f.left) ∙ and_from _ _ all.passed (and_from _ _ all.at all.left)
 
 -- A line lists its points and ends of its block alone.
 pub ends_alone : (test : Point → Bool) (gap : ℕ) (ends points : List Point) → list_all test points ≡ true
@@ -79,6 +68,6 @@ ends_alone test gap ends (p ∷ rest) all of_ends =
     points_pass test (followed_for (steps_to_follow ends rest) gap ends (unfollowed_line p rest))
     (for_passes test (steps_to_follow ends rest) gap ends (unfollowed_line p rest) of_ends (record {
       passed = refl;
-      at = first_part _ _ all;
-      left = second_part (test p) _ all;
+      at = first_true _ _ all;
+      left = second_true (test p) _ all;
     }))

@@ -1,6 +1,6 @@
 -- A point moves no farther than the gap, and anchors are farther apart.
 use Rattle.std.proofs.Common.{◌≡◌, ℕ, ℤ, ◌-ℤ◌, ◌<◌, ◌≤◌, unsigned_abs, zero, suc, length, get_or, Bool, ◌||◌, true, false, nat_le, nat_lt, List, [], ◌∷◌, ◌++◌, Option, Some, None, if◌then◌else◌, refl, ap, sym, subst, ◌∙◌, arith}
-use Rattle.std.proofs.lemmas.Bool.{leb-false, leb-true, ltb-true}
+use Rattle.std.proofs.lemmas.Bool.{leb-false, leb-true, ltb-true, or_parts}
 use Rattle.std.proofs.lemmas.List.Quantifiers.{all_pairs_push}
 use Rattle.std.proofs.lemmas.Int.{ints}
 use Rattle.std.specs.List.{All, AllPairs, list_any}
@@ -61,18 +61,14 @@ same_point p q near =
 pub stays : (anchors : List Point) (p : Point) → anchored 0 anchors p ≡ p
 stays anchors p = same_point p (anchored 0 anchors p) (moves_within 0 anchors p)
 
-pub either_false : (a b : Bool) → (a || b) ≡ false → (a ≡ false) × (b ≡ false)
-either_false true b is = cc
-either_false false b is = (refl, is)
-
 -- a point is farther than the gap from all anchors, where none is within it
 apart_at : (gap : ℕ) (p : Point) (anchors : List Point) → list_any (is_within_gap gap p) anchors ≡ false
     → (k : ℕ) (d : Point) → k < length anchors → gap < distance_between p (get_or anchors k d)
 apart_at gap p [] none k d low = absurd (omega (arith, low))
 apart_at gap p (a ∷ rest) none zero d low =
-    leb-false (distance_between p a) gap (either_false (is_within_gap gap p a) _ none).0
+    leb-false (distance_between p a) gap (or_parts (is_within_gap gap p a) _ none).0
 apart_at gap p (a ∷ rest) none (suc k) d low =
-    apart_at gap p rest (either_false (is_within_gap gap p a) _ none).1 k d (omega (arith, low))
+    apart_at gap p rest (or_parts (is_within_gap gap p a) _ none).1 k d (omega (arith, low))
 
 abbrev AreFarApart : ℕ → List Point → Type 0
 AreFarApart gap anchors = AllPairs (λ a b. gap < distance_between b a) anchors

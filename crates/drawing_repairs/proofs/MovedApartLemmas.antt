@@ -1,6 +1,6 @@
 -- Points of a block that moved are the same or farther apart than the gap.
 use Rattle.std.proofs.Common.{◌≡◌, ℕ, ℤ, ◌-ℤ◌, unsigned_abs, ◌<◌, ◌≤◌, zero, suc, length, get_or, Bool, ◌||◌, true, false, nat_le, nat_lt, List, [], ◌∷◌, ◌++◌, Option, Some, None, if◌then◌else◌, refl, ap, sym, subst, ◌∙◌, arith}
-use Rattle.std.proofs.lemmas.Bool.{leb-false}
+use Rattle.std.proofs.lemmas.Bool.{leb-false, or_left, or_right}
 use Rattle.std.proofs.lemmas.Int.{ints}
 use Rattle.std.proofs.lemmas.List.Folds.{list_any-append}
 use Rattle.std.specs.List.{All, list_any}
@@ -8,22 +8,14 @@ use Rattle.design_model.specs.declared.point.Point.{Point}
 use Rattle.drawing_repairs.specs.Anchors.{anchored, anchors_after, anchors_of, distance_between, is_within_gap, nearest_after, nearest_anchor, point_or, with_anchor}
 use Rattle.drawing_repairs.proofs.MoveLemmas.{HoldsOfChoice, far_apart, nearest_holds, same_place}
 
-pub or_then : (a b : Bool) → a ≡ true → (a || b) ≡ true
-or_then true b is = refl
-or_then false b is = cc
-
-pub then_or : (a b : Bool) → b ≡ true → (a || b) ≡ true
-then_or true b is = refl
-then_or false b is = is
-
-or_left : (b : Bool) → b ≡ true → (b || false) ≡ true
-or_left true is = refl
-or_left false is = is
+or_alone : (b : Bool) → b ≡ true → (b || false) ≡ true
+or_alone true is = refl
+or_alone false is = is
 
 any_if : (test : Point → Bool) (anchors : List Point) (p : Point) (b : Bool) → list_any test anchors ≡ true
     → list_any test (if b then anchors else anchors ++ p ∷ []) ≡ true
 any_if test anchors p true any = any
-any_if test anchors p false any = list_any-append test anchors (p ∷ []) ∙ or_then _ _ any
+any_if test anchors p false any = list_any-append test anchors (p ∷ []) ∙ or_left _ _ any
 
 any_stays : (test : Point → Bool) (gap : ℕ) (anchors points : List Point) → list_any test anchors ≡ true
     → list_any test (anchors_after gap anchors points) ≡ true
@@ -41,8 +33,8 @@ any_then : (gap : ℕ) (anchors : List Point) (p : Point) (b : Bool) → list_an
 any_then gap anchors p true is = is
 any_then gap anchors p false is =
     list_any-append (is_within_gap gap p) anchors (p ∷ [])
-    ∙ then_or (list_any (is_within_gap gap p) anchors) _
-    (or_left (is_within_gap gap p p) (itself_within gap p (is_within_gap gap p p) refl))
+    ∙ or_right (list_any (is_within_gap gap p) anchors) _
+    (or_alone (is_within_gap gap p p) (itself_within gap p (is_within_gap gap p p) refl))
 
 -- each point has an anchor within the gap
 has_anchor : (gap : ℕ) (anchors points : List Point)

@@ -1,5 +1,5 @@
 -- The pieces of a drawing depend on the blocks and the ends of its lines alone.
-use Rattle.std.proofs.Common.{◌≡◌, ◌∙◌, ℕ, ◌==◌, ◌<◌, Bool, true, false, ◌&&◌, List, [], ◌∷◌, Option, Some, None, length, map, slice_get, All, refl, ap, sym, arith}
+use Rattle.std.proofs.Common.{◌≡◌, ◌∙◌, ℕ, ◌==◌, ◌<◌, Bool, false, ◌&&◌, List, [], ◌∷◌, Option, Some, None, length, map, slice_get, All, refl, ap, sym, arith}
 use Rattle.std.proofs.Math.Path.{ap₂}
 use Rattle.std.proofs.lemmas.List.{length-map}
 use Rattle.std.proofs.lemmas.List.Elements.{All-weaker}
@@ -16,6 +16,7 @@ use Rattle.line_sections.specs.Sections.{all_sections}
 use Rattle.drawing_repairs.specs.SpacedLines.{spaced_lines}
 use Rattle.drawing_repairs.specs.SpacingLaws.{PiecesStay}
 use Rattle.drawing_repairs.proofs.KeptSectionLemmas.{sections_keep_ends}
+use Rattle.lists_and_numbers.proofs.CallerLemmas.{and_false}
 
 -- a line of which the ends are known
 ends_back : (o : Option LineValue) (ends : List Spot) → option_map end_spots o ≡ Some ends
@@ -38,15 +39,11 @@ spots_touch [] qs = false
 spots_touch (p ∷ ps) [] = false
 spots_touch (p ∷ ps) (q ∷ qs) = (p.block == q.block) && shares_point (points_at (p ∷ ps)) (points_at (q ∷ qs))
 
-and_no : (b : Bool) → (b && false) ≡ false
-and_no true = refl
-and_no false = refl
-
 touch_by : (block other : ℕ) (ps qs : List Point)
     → touches (record { block = block; points = ps }) (record { block = other; points = qs })
     ≡ spots_touch (end_spots (record { block = block; points = ps })) (end_spots (record { block = other; points = qs }))
-touch_by block other [] qs = and_no (block == other)
-touch_by block other (p ∷ ps) [] = and_no (block == other)
+touch_by block other [] qs = and_false (block == other)
+touch_by block other (p ∷ ps) [] = and_false (block == other)
 touch_by block other (p ∷ ps) (q ∷ qs) = refl
 
 touch_by_spots : (a b : LineValue) → touches a b ≡ spots_touch (end_spots a) (end_spots b)

@@ -14,16 +14,11 @@ use Rattle.drawing_repairs.specs.Listings.{FollowedLine, due_end, followed_by, f
 use Rattle.drawing_repairs.specs.MovedLines.{block_anchors, moved_line, moved_lines, moved_points, unrepeated, unrepeated_after, vanished_from}
 use Rattle.drawing_repairs.specs.Snaps.{snapped_lines}
 use Rattle.drawing_repairs.proofs.BlockPointLemmas.{changed_block, points_by}
-use Rattle.drawing_repairs.proofs.FollowLemmas.{point_itself}
 use Rattle.drawing_repairs.proofs.ListedOnceLemmas.{joined_again}
-use Rattle.drawing_repairs.proofs.MovedApartLemmas.{or_then, then_or}
-use Rattle.drawing_repairs.proofs.RepeatLemmas.{same_is}
 use Rattle.drawing_repairs.proofs.SnappedLinesLemmas.{snapped_points_stay, one_holds, taken}
-
--- one of two tests holds, and each has another that follows from it
-either_of : (a b c d : Bool) → (a ≡ true → c ≡ true) → (b ≡ true → d ≡ true) → (a || b) ≡ true → (c || d) ≡ true
-either_of true b c d first second both = or_then c d (first refl)
-either_of false b c d first second both = then_or c d (second both)
+use Rattle.design_model.proofs.CallerLemmas.{point_itself, same_is}
+use Rattle.lists_and_numbers.proofs.CallerLemmas.{either_way}
+use Rattle.std.proofs.lemmas.Bool.{or_right}
 
 merged : (a b c : Bool) → b ≡ a → (a || (b || c)) ≡ true → (a || c) ≡ true
 merged true b c is any = refl
@@ -39,7 +34,7 @@ kept_one x p q rest true same any here later =
     here (merged (is_same_point x p) (is_same_point x q) (list_any (is_same_point x) rest)
     (ap (λ (y : Point). is_same_point x y) (sym (same_is p q same))) any)
 kept_one x p q rest false same any here later =
-    either_of (is_same_point x p) _ (is_same_point x p) _ (λ is. is) later any
+    either_way (is_same_point x p) _ (is_same_point x p) _ (λ is. is) later any
 
 -- a point that is listed is listed without repetitions
 kept_after : (x p : Point) (rest : List Point) → list_any (is_same_point x) (p ∷ rest) ≡ true
@@ -57,7 +52,7 @@ mapped : (to : Point → Point) (p : Point) (points : List Point) → list_any (
     → list_any (is_same_point (to p)) (map to points) ≡ true
 mapped to p [] any = any
 mapped to p (q ∷ rest) any =
-    either_of (is_same_point p q) _ (is_same_point (to p) (to q)) _
+    either_way (is_same_point p q) _ (is_same_point (to p) (to q)) _
     (λ is. subst (λ (x : Point). is_same_point (to p) (to x) ≡ true) (same_is p q is) (point_itself (to p)))
     (mapped to p rest) any
 
@@ -71,7 +66,7 @@ moved_any gap anchors p points any =
 one_in : (passed at end rest : Bool) → (passed || (at || rest)) ≡ true → (passed || (at || (end || rest))) ≡ true
 one_in true at end rest any = refl
 one_in false true end rest any = refl
-one_in false false end rest any = then_or end rest any
+one_in false false end rest any = or_right end rest any
 
 by_any : (test : Point → Bool) (f : FollowedLine) (b : Point) (rest : List Point) (due : Option Point)
     → list_any test (f.passed ++ f.at ∷ b ∷ rest) ≡ true → list_any test (followed_points (followed_by f b rest due)) ≡ true
@@ -107,7 +102,7 @@ line_any_if : (s t : Point → Bool) (from to : LineValue → List Point) (line 
     → list_any t (flat_map to (if b then line ∷ some else some)) ≡ true
 line_any_if s t from to line some true first rest any =
     list_any-append t (to line) (flat_map to some)
-    ∙ either_of (list_any s (from line)) _ _ _ (first refl) rest (sym (list_any-append s (from line) (flat_map from some)) ∙ any)
+    ∙ either_way (list_any s (from line)) _ _ _ (first refl) rest (sym (list_any-append s (from line) (flat_map from some)) ∙ any)
 line_any_if s t from to line some false first rest any = rest any
 
 -- a point that a line of a block lists, by a function of each line

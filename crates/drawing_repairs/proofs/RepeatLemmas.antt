@@ -1,32 +1,19 @@
 -- No point of a line repeats the one before: after it was moved, and after ends were put into it.
 use Rattle.std.proofs.Common.{◌≡◌, ◌≢◌, ℕ, ℤ, zero, suc, Bool, true, false, ◌&&◌, ◌||◌, List, [], ◌∷◌, ◌++◌, map, Option, Some, None, if◌then◌else◌, refl, ap, sym, subst, ◌∙◌}
-use Rattle.std.proofs.lemmas.Bool.Decides.{Decides-int_eq}
 use Rattle.std.proofs.lemmas.Cmp.{int_eq_equiv}
 use Rattle.std.proofs.lemmas.List.Folds.{list_any-append}
 use Rattle.std.specs.List.{list_any}
 use Rattle.std.specs.Ordering.{int_eq}
 use Rattle.design_model.specs.declared.point.Point.{Point}
 use Rattle.design_model.specs.Points.{is_same_point}
-use Rattle.step_splitter.specs.Chains.{HasNoRepeatAfter}
-use Rattle.line_graph.specs.Drawings.{HasNoRepeat}
 use Rattle.line_graph.specs.GrowingDrawings.{has_repeated_point, repeats_after}
 use Rattle.drawing_repairs.specs.Anchors.{anchored}
 use Rattle.drawing_repairs.specs.Listings.{FollowedLine, due_end, followed_by, followed_for, followed_on, followed_points, segment_between, steps_to_follow, unfollowed_line, with_due_ends}
 use Rattle.drawing_repairs.specs.MovedLines.{moved_points, unrepeated, unrepeated_after}
 use Rattle.drawing_repairs.proofs.DueLemmas.{due_is}
 use Rattle.drawing_repairs.proofs.ListedOnceLemmas.{HaveSamePoints, joined_again, on_same}
-use Rattle.drawing_repairs.proofs.ListingLemmas.{first_part, second_part}
-use Rattle.drawing_repairs.proofs.MoveLemmas.{either_false, point_at}
-
-neither : (a b : Bool) → a ≡ false → b ≡ false → (a || b) ≡ false
-neither true b is other = is
-neither false b is other = other
-
--- points that pass the test are the same
-pub same_is : (p q : Point) → is_same_point p q ≡ true → p ≡ q
-same_is p q is =
-    ap (λ (x : ℤ). point_at x p.y) ((Decides-int_eq p.x q.x).0 (first_part (int_eq p.x q.x) _ is))
-    ∙ ap (λ (y : ℤ). point_at q.x y) ((Decides-int_eq p.y q.y).0 (second_part (int_eq p.x q.x) _ is))
+use Rattle.design_model.proofs.CallerLemmas.{same_is}
+use Rattle.std.proofs.lemmas.Bool.{or_from, or_parts}
 
 turned_same : (p q : Point) → is_same_point p q ≡ is_same_point q p
 turned_same p q =
@@ -37,20 +24,10 @@ differ : (p q : Point) (b : Bool) → is_same_point p q ≡ b → p ≢ q → b 
 differ p q true is other = absurd (other (same_is p q is))
 differ p q false is other = refl
 
-none_after : (p : Point) (rest : List Point) → HasNoRepeatAfter p rest → repeats_after p rest ≡ false
-none_after p [] none = refl
-none_after p (q ∷ rest) none =
-    neither (is_same_point p q) _ (differ p q (is_same_point p q) refl none.0) (none_after q rest none.1)
-
--- a line of which no point repeats the one before passes the test
-pub none_repeated : (points : List Point) → HasNoRepeat points → has_repeated_point points ≡ false
-none_repeated [] none = refl
-none_repeated (p ∷ rest) none = none_after p rest none
-
 stays_after : (p : Point) (rest : List Point) → repeats_after p rest ≡ false → unrepeated_after p rest ≡ rest
 stays_after p [] none = refl
 stays_after p (q ∷ rest) none =
-    let parts = either_false (is_same_point p q) _ none in
+    let parts = or_parts (is_same_point p q) _ none in
     ap (λ (same : Bool). if same then unrepeated_after p rest else q ∷ unrepeated_after q rest) parts.0
     ∙ ap (λ (later : List Point). q ∷ later) (stays_after q rest parts.1)
 
@@ -68,7 +45,7 @@ none_if : (p q : Point) (rest : List Point) (b : Bool) → is_same_point p q ≡
     → repeats_after p (unrepeated_after p rest) ≡ false → repeats_after q (unrepeated_after q rest) ≡ false
     → repeats_after p (if b then unrepeated_after p rest else q ∷ unrepeated_after q rest) ≡ false
 none_if p q rest true is first later = first
-none_if p q rest false is first later = neither (is_same_point p q) _ is later
+none_if p q rest false is first later = or_from (is_same_point p q) _ is later
 
 none_left : (p : Point) (rest : List Point) → repeats_after p (unrepeated_after p rest) ≡ false
 none_left p [] = refl
@@ -86,18 +63,18 @@ none_moved gap anchors points = none_kept (map (anchored gap anchors) points)
 between : (at e b : Point) (rest : List Point) → repeats_after at (b ∷ rest) ≡ false → is_same_point at e ≡ false
     → is_same_point e b ≡ false → repeats_after at (e ∷ b ∷ rest) ≡ false
 between at e b rest none before after =
-    neither (is_same_point at e) _ before
-    (neither (is_same_point e b) _ after (either_false (is_same_point at b) _ none).1)
+    or_from (is_same_point at e) _ before
+    (or_from (is_same_point e b) _ after (or_parts (is_same_point at b) _ none).1)
 
 between_after : (a : Point) (more : List Point) (at e b : Point) (rest : List Point)
     → repeats_after a (more ++ at ∷ b ∷ rest) ≡ false → is_same_point at e ≡ false → is_same_point e b ≡ false
     → repeats_after a (more ++ at ∷ e ∷ b ∷ rest) ≡ false
 between_after a [] at e b rest none before after =
-    let parts = either_false (is_same_point a at) _ none in
-    neither (is_same_point a at) _ parts.0 (between at e b rest parts.1 before after)
+    let parts = or_parts (is_same_point a at) _ none in
+    or_from (is_same_point a at) _ parts.0 (between at e b rest parts.1 before after)
 between_after a (c ∷ more) at e b rest none before after =
-    let parts = either_false (is_same_point a c) _ none in
-    neither (is_same_point a c) _ parts.0 (between_after c more at e b rest parts.1 before after)
+    let parts = or_parts (is_same_point a c) _ none in
+    or_from (is_same_point a c) _ parts.0 (between_after c more at e b rest parts.1 before after)
 
 none_between : (passed : List Point) (at e b : Point) (rest : List Point) → has_repeated_point (passed ++ at ∷ b ∷ rest) ≡ false
     → is_same_point at e ≡ false → is_same_point e b ≡ false → has_repeated_point (passed ++ at ∷ e ∷ b ∷ rest) ≡ false
@@ -109,10 +86,10 @@ unlisted_between : (passed : List Point) (at e b : Point) (rest : List Point)
     → list_any (is_same_point e) (passed ++ at ∷ b ∷ rest) ≡ false
     → (is_same_point at e ≡ false) × (is_same_point e b ≡ false)
 unlisted_between passed at e b rest none =
-    let split = either_false (list_any (is_same_point e) passed) _
+    let split = or_parts (list_any (is_same_point e) passed) _
     (sym (list_any-append (is_same_point e) passed (at ∷ b ∷ rest)) ∙ none) in
-    let parts = either_false (is_same_point e at) _ split.1 in
-    (turned_same at e ∙ parts.0, (either_false (is_same_point e b) _ parts.1).0)
+    let parts = or_parts (is_same_point e at) _ split.1 in
+    (turned_same at e ∙ parts.0, (or_parts (is_same_point e b) _ parts.1).0)
 
 by_none : (gap : ℕ) (ends : List Point) (f : FollowedLine) (b : Point) (rest : List Point) (due : Option Point)
     → due_end gap f.listed (segment_between f.at b) ends ≡ due → HaveSamePoints f.listed (f.passed ++ f.at ∷ b ∷ rest)

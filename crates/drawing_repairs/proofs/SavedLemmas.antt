@@ -12,14 +12,15 @@ use Rattle.step_splitter.specs.Steps.{steps_of}
 use Rattle.drawing_repairs.specs.Anchors.{distance_between}
 use Rattle.drawing_repairs.specs.SpacedLines.{comes_near_all, is_stitch_for, kept_after, may_leave_out}
 use Rattle.drawing_repairs.specs.SpacingLaws.{EachPointSavesAStep, SpacedLinesAreLines}
-use Rattle.drawing_repairs.proofs.SpacingLemmas.{first_of, left_out_stitch, not_true, second_of}
-use Rattle.drawing_repairs.proofs.SharedLemmas.{same_itself}
+use Rattle.drawing_repairs.proofs.SpacingLemmas.{left_out_stitch, not_true}
+use Rattle.design_model.proofs.CallerLemmas.{point_itself}
+use Rattle.lists_and_numbers.proofs.CallerLemmas.{first_true, second_true}
 
 -- a stitch has a length
 stitch_moves : (step : ℕ) (a b : Point) (points : List Point) → is_stitch_for step a b points ≡ true → a ≢ b
 stitch_moves step a b points is same = no_both (is_same_point a b)
-    (not_true (is_same_point a b) (first_of (not (is_same_point a b)) _ is))
-    (ap (λ (x : Point). is_same_point a x) (sym same) ∙ same_itself a)
+    (not_true (is_same_point a b) (first_true (not (is_same_point a b)) _ is))
+    (ap (λ (x : Point). is_same_point a x) (sym same) ∙ point_itself a)
   where
     no_both : (t : Bool) → t ≡ false → t ≡ true → ⊥
     no_both true is so = cc
@@ -33,7 +34,7 @@ stitch_is_step : (step : ℕ) (a b : Point) (points : List Point) → 1 ≤ step
     → steps_of a b step ≤ 1
 stitch_is_step step a b points low is = one_step (distance_between a b) step low
     (leb-true (distance_between a b) step
-    (first_of (nat_le (distance_between a b) step) (comes_near_all step a b points) (second_of (not (is_same_point a b)) _ is)))
+    (first_true (nat_le (distance_between a b) step) (comes_near_all step a b points) (second_true (not (is_same_point a b)) _ is)))
 
 moving_by : (stays : Point → Bool) (step : ℕ) (a : Point) (since : List Point) (p b : Point) (rest : List Point) (out : Bool)
     → may_leave_out stays step a since p b ≡ out → a ≢ p

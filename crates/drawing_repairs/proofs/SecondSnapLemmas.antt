@@ -32,23 +32,15 @@ use Rattle.drawing_repairs.specs.MovedLines.{block_anchors, changed_in, moved_li
 use Rattle.drawing_repairs.specs.SecondSnaps.{SnappedDrawingsStay}
 use Rattle.drawing_repairs.specs.Snaps.{joined_snap, kept_lines, snap_of, snap_value, snapped_lines, unless_vanished, within_limits}
 use Rattle.drawing_repairs.proofs.JoiningLemmas.{joined_there, joined_with}
-use Rattle.drawing_repairs.proofs.RepeatLemmas.{same_is}
 use Rattle.drawing_repairs.proofs.SnappedLinesLemmas.{none_moves, nothing_changes, snapped_points_stay, twice_is_once}
+use Rattle.design_model.proofs.CallerLemmas.{same_is}
+use Rattle.lists_and_numbers.proofs.CallerLemmas.{all_left, all_right}
 
 -- a result of two steps has one of the first
 then_parts : {A B F : Type 0} (r : Result A F) (more : A → Result B F) (b : B) → and_then r more ≡ Ok b
     → (a : A) × (r ≡ Ok a) × (more a ≡ Ok b)
 then_parts (Ok a) more b is = (a, refl, is)
 then_parts (Err why) more b is = absurd (let no : ⊥ = cc in no)
-
--- what holds of all of two lists holds of each list
-all_left : {A : Type 0} (P : A → Type 0) (xs ys : List A) → All P (xs ++ ys) → All P xs
-all_left P [] ys all = All-nil P
-all_left P (x ∷ xs) ys all = All-cons P x xs (All-head P x (xs ++ ys) all) (all_left P xs ys (All-tail P x (xs ++ ys) all))
-
-all_right : {A : Type 0} (P : A → Type 0) (xs ys : List A) → All P (xs ++ ys) → All P ys
-all_right P [] ys all = all
-all_right P (x ∷ xs) ys all = all_right P xs ys (All-tail P x (xs ++ ys) all)
 
 all_flat : {A B : Type 0} (f : A → List B) (P : B → Type 0) (xs : List A) → All (λ x. All P (f x)) xs → All P (flat_map f xs)
 all_flat f P [] each = All-nil P

@@ -1,11 +1,9 @@
 -- A shared point inside a line is the last point of a section.
 use Rattle.std.proofs.Common.{◌≡◌, ◌∙◌, ℕ, ◌==◌, Bool, true, false, ◌&&◌, ◌||◌, List, [], ◌∷◌, map, All, if◌then◌else◌, refl, ap, sym}
-use Rattle.std.proofs.lemmas.Bool.{eq-eqb}
-use Rattle.std.proofs.lemmas.Bool.Decides.{Decides-int_eq}
+use Rattle.std.proofs.lemmas.Bool.{eq-eqb, or_left, or_right}
 use Rattle.std.proofs.lemmas.List.Elements.{All-cons, All-nil}
 use Rattle.std.proofs.lemmas.List.Folds.{list_any-append}
 use Rattle.std.specs.List.{flat_map, list_any}
-use Rattle.std.specs.Ordering.{int_eq}
 use Rattle.design_model.specs.declared.point.Point.{Point}
 use Rattle.design_model.specs.Points.{is_same_point}
 use Rattle.line_graph.specs.WalkEnds.{has_end_at_spot}
@@ -13,23 +11,8 @@ use Rattle.line_sections.specs.Lines.{LineValue}
 use Rattle.line_sections.specs.Sections.{but_last, inner_points, is_shared_point, line_sections, lines_through, sections_from, sections_of, sections_with_first}
 use Rattle.step_splitter.specs.Chains.{last_point_or}
 use Rattle.drawing_repairs.specs.SpacingLaws.{SharedPointsAreJunctions}
-
--- a point is itself
-pub same_itself : (p : Point) → is_same_point p p ≡ true
-same_itself p = both (int_eq p.x p.x) (int_eq p.y p.y) ((Decides-int_eq p.x p.x).1 refl) ((Decides-int_eq p.y p.y).1 refl)
-  where
-    both : (a b : Bool) → a ≡ true → b ≡ true → (a && b) ≡ true
-    both true true is other = refl
-    both true false is other = other
-    both false b is other = is
-
-or_right : (a b : Bool) → b ≡ true → (a || b) ≡ true
-or_right true b is = refl
-or_right false b is = is
-
-or_left : (a b : Bool) → a ≡ true → (a || b) ≡ true
-or_left true b is = refl
-or_left false b is = cc
+use Rattle.design_model.proofs.CallerLemmas.{point_itself}
+use Rattle.lists_and_numbers.proofs.CallerLemmas.{either_way}
 
 -- a section ends at a point
 abbrev ends_last : Point → List Point → Bool
@@ -51,7 +34,7 @@ cut_or_not p a q behind false ends = ends_with_first p a behind ends
 cut_here : (p a q : Point) (behind : List (List Point)) (cut : Bool) → cut ≡ true → p ≡ q
     → list_any (ends_last p) (if cut then (a ∷ q ∷ []) ∷ behind else sections_with_first a behind) ≡ true
 cut_here p a q behind true is same =
-    or_left (is_same_point p q) (list_any (ends_last p) behind) (ap (λ (x : Point). is_same_point p x) (sym same) ∙ same_itself p)
+    or_left (is_same_point p q) (list_any (ends_last p) behind) (ap (λ (x : Point). is_same_point p x) (sym same) ∙ point_itself p)
 cut_here p a q behind false is same = cc
 
 -- a section ends at each point inside a line where the line is cut
@@ -68,10 +51,6 @@ cut_inside : (cut : Point → Bool) (points : List Point)
     → All (λ p. cut p ≡ true → list_any (ends_last p) (sections_of cut points) ≡ true) (inner_points points)
 cut_inside cut [] = All-nil (λ (p : Point). cut p ≡ true → list_any (ends_last p) (sections_of cut []) ≡ true)
 cut_inside cut (a ∷ rest) = cut_points cut a rest
-
-either_way : (a b c d : Bool) → (a ≡ true → c ≡ true) → (b ≡ true → d ≡ true) → (a || b) ≡ true → (c || d) ≡ true
-either_way true b c d one two any = or_left c d (one refl)
-either_way false b c d one two any = or_right c d (two any)
 
 any_mapped : {A B : Type 0} (f : A → Bool) (g : B → Bool) (h : A → B) (xs : List A) → ((x : A) → f x ≡ true → g (h x) ≡ true)
     → list_any f xs ≡ true → list_any g (map h xs) ≡ true

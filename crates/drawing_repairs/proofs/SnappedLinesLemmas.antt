@@ -18,14 +18,15 @@ use Rattle.drawing_repairs.specs.Listings.{FollowedLine, added_ends, block_ends,
 use Rattle.drawing_repairs.specs.MovedLines.{block_anchors, changed_in, moved_line, moved_lines, moved_points, vanished_from}
 use Rattle.drawing_repairs.specs.Snaps.{snapped_lines, unless_vanished}
 use Rattle.drawing_repairs.proofs.BlockPointLemmas.{all_pass, block_ends_pass, each_passes, listed_block_passes, moved_block_passes}
-use Rattle.drawing_repairs.proofs.FollowLemmas.{point_itself}
 use Rattle.drawing_repairs.proofs.ListedLinesLemmas.{all_listed_once, same_block_ends}
 use Rattle.drawing_repairs.proofs.ListedOnceLemmas.{joined_again, none_added}
-use Rattle.drawing_repairs.proofs.ListingLemmas.{first_part, second_part}
 use Rattle.drawing_repairs.proofs.MovedApartLemmas.{IsOnlyNear, all_moved, all_only}
 use Rattle.drawing_repairs.proofs.MoveLemmas.{stays}
-use Rattle.drawing_repairs.proofs.RepeatLemmas.{none_listed, none_moved, none_repeated, same_is, unmoved_points}
+use Rattle.drawing_repairs.proofs.RepeatLemmas.{none_listed, none_moved, unmoved_points}
 use Rattle.drawing_repairs.proofs.SpreadLemmas.{only_stays}
+use Rattle.design_model.proofs.CallerLemmas.{point_itself, same_is}
+use Rattle.line_graph.proofs.CallerLemmas.{none_repeats}
+use Rattle.lists_and_numbers.proofs.CallerLemmas.{first_true, second_true}
 
 -- the test whether a point is one of some
 abbrev is_one_of : List Point → Point → Bool
@@ -105,14 +106,14 @@ unmoved : (gap : ℕ) (anchors points : List Point) → list_all (λ p. is_same_
 unmoved gap anchors [] all = refl
 unmoved gap anchors (p ∷ rest) all =
     ap (λ (q : Point). q ∷ map (anchored gap anchors) rest)
-    (sym (same_is p (anchored gap anchors p) (first_part (is_same_point p (anchored gap anchors p)) _ all)))
+    (sym (same_is p (anchored gap anchors p) (first_true (is_same_point p (anchored gap anchors p)) _ all)))
     ∙ ap (λ (later : List Point). p ∷ later)
-    (unmoved gap anchors rest (second_part (is_same_point p (anchored gap anchors p)) _ all))
+    (unmoved gap anchors rest (second_true (is_same_point p (anchored gap anchors p)) _ all))
 
 of_line : (test : Point → Bool) (line : LineValue) (some : List LineValue) (b : Bool) → b ≡ true
     → list_all test (flat_map (λ line. line.points) (if b then line ∷ some else some)) ≡ true → list_all test line.points ≡ true
 of_line test line some true is all =
-    first_part (list_all test line.points) _
+    first_true (list_all test line.points) _
     (sym (list_all-append test line.points (flat_map (λ line. line.points) some)) ∙ all)
 of_line test line some false is all = cc
 
@@ -120,7 +121,7 @@ of_rest : (test : Point → Bool) (line : LineValue) (some : List LineValue) (b 
     → list_all test (flat_map (λ line. line.points) (if b then line ∷ some else some)) ≡ true
     → list_all test (flat_map (λ line. line.points) some) ≡ true
 of_rest test line some true all =
-    second_part (list_all test line.points) _
+    second_true (list_all test line.points) _
     (sym (list_all-append test line.points (flat_map (λ line. line.points) some)) ∙ all)
 of_rest test line some false all = all
 
@@ -251,8 +252,8 @@ none_of : (test : Point → Bool) (points : List Point) → list_all test points
 none_of test [] all = refl
 none_of test (p ∷ rest) all =
     ap (λ (is : Bool). if not is then p ∷ filter (λ p. not (test p)) rest else filter (λ p. not (test p)) rest)
-    (first_part (test p) _ all)
-    ∙ none_of test rest (second_part (test p) _ all)
+    (first_true (test p) _ all)
+    ∙ none_of test rest (second_true (test p) _ all)
 
 none_changed : (gap : ℕ) (all lines : List LineValue) → BlocksStay gap all lines → changed_in gap all lines ≡ []
 none_changed gap all [] stay = refl
@@ -300,7 +301,7 @@ still_lines all [] none = refl
 still_lines all (line ∷ rest) none =
     ap (λ (first : LineValue). first ∷ map (moved_line 0 all) rest)
     (line_unmoved 0 all line (all_still (block_anchors 0 all line.block) line.points)
-    (none_repeated line.points (none 0 line (omega arith))))
+    (none_repeats line.points (none 0 line (omega arith))))
     ∙ ap (λ (later : List LineValue). line ∷ later) (still_lines all rest (λ i d low. none (suc i) d (omega (arith, low))))
 
 -- With a gap of 0 lines stay.

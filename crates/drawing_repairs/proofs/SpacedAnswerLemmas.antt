@@ -26,6 +26,7 @@ use Rattle.drawing_repairs.specs.SpacedLines.{spaced_line, spaced_lines}
 use Rattle.drawing_repairs.specs.SpacingLaws.{SectionsKeepEnds}
 use Rattle.drawing_repairs.proofs.JoiningLemmas.{starts_put}
 use Rattle.drawing_repairs.proofs.SpacedLimitLemmas.{points_less}
+use Rattle.lists_and_numbers.proofs.CallerLemmas.{and_false}
 
 -- the number of points of sections is that of the segments and of the sections
 record HasSize (block segments : ℕ) (sections : List (List Point)) : Type 0 where
@@ -87,13 +88,9 @@ spread : (x t r : Bool) → (x && (t || r)) ≡ ((x && t) || (x && r))
 spread true t r = refl
 spread false t r = refl
 
-neither : (x : Bool) → (x && false) ≡ false
-neither true = refl
-neither false = refl
-
 end_by : (block : ℕ) (spot : Spot) (ps : List Point) → ((block == spot.block) && list_any (is_same_point spot.at) ps)
     ≡ is_end_in spot (map (λ p. record { block = block; at = p }) ps)
-end_by block spot [] = neither (block == spot.block)
+end_by block spot [] = and_false (block == spot.block)
 end_by block spot (p ∷ ps) = spread (block == spot.block) (is_same_point spot.at p) (list_any (is_same_point spot.at) ps)
     ∙ ap (λ (t : Bool). ((block == spot.block) && is_same_point spot.at p) || t) (end_by block spot ps)
 

@@ -12,14 +12,7 @@ use Rattle.drawing_repairs.specs.Anchors.{distance_between}
 use Rattle.drawing_repairs.specs.Listings.{segment_between}
 use Rattle.drawing_repairs.specs.SpacedLines.{is_stitch_for, kept_after, leeway_of, may_leave_out, spaced_points}
 use Rattle.drawing_repairs.specs.SpacingLaws.{StandFor}
-
-pub first_of : (a b : Bool) → (a && b) ≡ true → a ≡ true
-first_of true b is = refl
-first_of false b is = is
-
-pub second_of : (a b : Bool) → (a && b) ≡ true → b ≡ true
-second_of true b is = is
-second_of false b is = cc
+use Rattle.lists_and_numbers.proofs.CallerLemmas.{first_true, second_true}
 
 pub not_true : (a : Bool) → not a ≡ true → a ≡ false
 not_true true is = cc
@@ -28,7 +21,7 @@ not_true false is = refl
 -- the test of a point that is left out
 pub untested : (stays : Point → Bool) (step : ℕ) (a : Point) (since : List Point) (p b : Point)
     → may_leave_out stays step a since p b ≡ true → stays p ≡ false
-untested stays step a since p b is = not_true (stays p) (first_of (not (stays p)) (is_stitch_for step a b (p ∷ since)) is)
+untested stays step a since p b is = not_true (stays p) (first_true (not (stays p)) (is_stitch_for step a b (p ∷ since)) is)
 
 and_turned : (a b : Bool) → (a && (b && true)) ≡ (b && a)
 and_turned true true = refl
@@ -50,7 +43,7 @@ stitch_with step a b p since is =
 
 pub left_out_stitch : (stays : Point → Bool) (step : ℕ) (a : Point) (since : List Point) (p b : Point)
     → may_leave_out stays step a since p b ≡ true → is_stitch_for step a b (p ∷ since) ≡ true
-left_out_stitch stays step a since p b is = second_of (not (stays p)) (is_stitch_for step a b (p ∷ since)) is
+left_out_stitch stays step a since p b is = second_true (not (stays p)) (is_stitch_for step a b (p ∷ since)) is
 
 -- one stitch stands for the points left out so far
 abbrev StitchSoFar : ℕ → (a p : Point) → List Point → Type 0

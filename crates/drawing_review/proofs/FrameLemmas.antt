@@ -1,17 +1,13 @@
 -- Frames that lie inside others.
-use Rattle.std.proofs.Common.{◌≡◌, ◌≤◌, ℕ, Bool, true, false, ◌||◌, nat_lt, min, max, arith, refl}
-use Rattle.std.proofs.lemmas.Bool.{lt-ltb, ltb-true, or_left, or_right}
+use Rattle.std.proofs.Common.{◌≡◌, ◌≤◌, ℕ, true, ◌||◌, nat_lt, arith}
+use Rattle.std.proofs.lemmas.Bool.{lt-ltb, ltb-true}
 use Rattle.drawing_review.specs.declared.frame.Frame.{Frame}
 use Rattle.drawing_review.specs.Frames.{IsInside, are_apart, united_frame}
-
--- One of two tests holds, and each has another that follows from it.
-either : (x y x' y' : Bool) → (x ≡ true → x' ≡ true) → (y ≡ true → y' ≡ true) → (x || y) ≡ true → (x' || y') ≡ true
-either true y x' y' one two both = or_left x' y' (one refl)
-either false y x' y' one two both = or_right x' y' (two both)
+use Rattle.lists_and_numbers.proofs.CallerLemmas.{either_way}
 
 -- A frame that is apart from another is apart from what lies inside that.
 pub apart_inside : (q g f : Frame) → IsInside g f → are_apart q g ≡ true → are_apart q f ≡ true
-apart_inside q g f inside apart = either _ _ _ _ to_left (either _ _ _ _ to_right (either _ _ _ _ to_top to_bottom)) apart
+apart_inside q g f inside apart = either_way _ _ _ _ to_left (either_way _ _ _ _ to_right (either_way _ _ _ _ to_top to_bottom)) apart
   where
     to_left : nat_lt q.right g.left ≡ true → nat_lt q.right f.left ≡ true
     to_left is = lt-ltb q.right f.left (omega (arith, ltb-true q.right g.left is, inside.left))

@@ -4,7 +4,7 @@ use Rattle.std.proofs.Math.Path.{ap₂}
 use Rattle.std.proofs.lemmas.Bool.{and_parts}
 use Rattle.std.proofs.lemmas.Bool.Decides.{nat_tests}
 use Rattle.std.proofs.lemmas.List.Elements.{All-cons, All-head, All-nil, All-tail}
-use Rattle.std.proofs.lemmas.List.Folds.{Any-from_list_any, list_any_none}
+use Rattle.std.proofs.lemmas.List.Folds.{Any-from_list_any}
 use Rattle.std.specs.List.{AllPairs, list_any}
 use Rattle.design_model.specs.declared.point.Point.{Point}
 use Rattle.design_model.specs.Points.{is_same_point}
@@ -14,16 +14,19 @@ use Rattle.line_graph.specs.declared.draw_kind.DrawKind.{DrawKind}
 use Rattle.line_graph.specs.Drawings.{DrawingValue, IsLine}
 use Rattle.line_graph.specs.GrowingDrawings.{and_then}
 use Rattle.line_graph.specs.Pieces.{endpoints}
-use Rattle.line_graph.specs.WalkEnds.{AreInDifferentPieces, are_connected_spots, has_end_at_spot, is_junction, spot_added, walk_end_added}
+use Rattle.line_graph.specs.WalkEnds.{AreInDifferentPieces, has_end_at_spot, is_junction, walk_end_added}
 use Rattle.step_splitter.specs.Chains.{IsNeedlePoint, last_point_or}
 use Rattle.drawing_text.proofs.PrintedBlocks.{Rises, all_below, items_below, items_in, more_below, none_first, rises_of}
 use Rattle.drawing_text.proofs.PrintedDrawings.{all_middle, ended, found_from, found_in}
 use Rattle.drawing_text.proofs.PrintedEnds.{end_at, unnumbered}
-use Rattle.drawing_text.proofs.Shapes.{same_is}
 use Rattle.drawing_text.specs.declared.draw_fault.DrawFault.{DrawFault}
 use Rattle.drawing_text.specs.declared.walk_end.WalkEnd.{WalkEnd}
 use Rattle.drawing_text.specs.DrawingText.{at_line, drawing_with_ends}
 use Rattle.line_graph.specs.EndOrders.{AreInBlockOrder}
+use Rattle.design_model.proofs.CallerLemmas.{same_is}
+use Rattle.line_graph.proofs.CallerLemmas.{spot_comes}
+use Rattle.lists_and_numbers.proofs.CallerLemmas.{pairs_tail}
+use Rattle.step_splitter.proofs.CallerLemmas.{last_in_range}
 
 abbrev put_if : Bool → Spot → List Spot → List Spot
 put_if true spot rest = spot ∷ rest
@@ -119,9 +122,6 @@ all_named kind threads starts ends ordered there =
 pairs_head : {A : Type 0} (R : A → A → Type 0) (x : A) (xs : List A) → AllPairs R (x ∷ xs) → All (R x) xs
 pairs_head R x xs pairs = λ k d there. pairs 0 (suc k) d (omega arith) (omega (arith, there))
 
-pairs_tail : {A : Type 0} (R : A → A → Type 0) (x : A) (xs : List A) → AllPairs R (x ∷ xs) → AllPairs R xs
-pairs_tail R x xs pairs = λ i j d less there. pairs (suc i) (suc j) d (omega (arith, less)) (omega (arith, there))
-
 pairs_middle : {A : Type 0} (R : A → A → Type 0) (before : List A) (x : A) (after : List A) → AllPairs R (before ++ x ∷ after)
     → All (λ a. R a x) before
 pairs_middle {A} R [] x after pairs = All-nil (λ (a : A). R a x)
@@ -129,17 +129,6 @@ pairs_middle {A} R (b ∷ before) x after pairs =
     All-cons (λ (a : A). R a x) b before
     (all_middle (R b) before x after (pairs_head R b (before ++ x ∷ after) pairs))
     (pairs_middle R before x after (pairs_tail R b (before ++ x ∷ after) pairs))
-
--- a spot in a piece of its own may be added
-spot_may : (lines : List LineValue) (before : List Spot) (spot : Spot) (after : List Spot)
-    → AreInDifferentPieces lines (before ++ spot ∷ after) → spot_added lines before spot ≡ Ok (before ++ spot ∷ [])
-spot_may lines before spot after apart =
-    let there : is_junction lines spot ≡ true =
-    all_middle (λ (s : Spot). is_junction lines s ≡ true) before spot after apart.there in
-    let none : list_any (λ (one : Spot). are_connected_spots lines one spot) before ≡ false =
-    list_any_none (λ (one : Spot). are_connected_spots lines one spot) before
-    (pairs_middle (λ (a b : Spot). are_connected_spots lines a b ≡ false) before spot after apart.apart) in
-    rw (there, none) refl
 
 -- one more start or end, and then the others
 one_added : (number : ℕ) (is_start : Bool) (spot : Spot) (d next : DrawingValue) (rest : List WalkEnd)
@@ -167,7 +156,7 @@ next_added d starts ends number true spot rest may on_start on_end =
     let more = append_assoc starts (spot ∷ []) (named_in true rest) in
     let Apart : List Spot → Type 0 = λ spots. AreInDifferentPieces d.lines spots in
     let added = ap (λ (r : Result (List Spot) DrawKind). and_then r (λ (s : List Spot). Ok (ended d s ends)))
-    (spot_may d.lines starts spot (named_in true rest) may.starts_may) in
+    (spot_comes d.lines starts spot (named_in true rest) may.starts_may) in
     one_added number true spot (ended d starts ends) (ended d (starts ++ spot ∷ []) ends) rest _ added
     (on_start (record { starts_may = subst Apart (sym more) may.starts_may; ends_may = may.ends_may })
     ∙ ap (λ (s : List Spot). Ok (ended d s (ends ++ named_in false rest))) more)
@@ -175,7 +164,7 @@ next_added d starts ends number false spot rest may on_start on_end =
     let more = append_assoc ends (spot ∷ []) (named_in false rest) in
     let Apart : List Spot → Type 0 = λ spots. AreInDifferentPieces d.lines spots in
     let added = ap (λ (r : Result (List Spot) DrawKind). and_then r (λ (s : List Spot). Ok (ended d starts s)))
-    (spot_may d.lines ends spot (named_in false rest) may.ends_may) in
+    (spot_comes d.lines ends spot (named_in false rest) may.ends_may) in
     one_added number false spot (ended d starts ends) (ended d starts (ends ++ spot ∷ [])) rest _ added
     (on_end (record { starts_may = may.starts_may; ends_may = subst Apart (sym more) may.ends_may })
     ∙ ap (λ (s : List Spot). Ok (ended d (starts ++ named_in true rest) s)) more)
@@ -195,10 +184,6 @@ named_added d starts ends named one two starts_are ends_are =
     let Apart : List Spot → Type 0 = λ spots. AreInDifferentPieces d.lines spots in
     all_added d [] [] named (record { starts_may = subst Apart (sym starts_are) one; ends_may = subst Apart (sym ends_are) two })
     ∙ ap₂ (λ (s e : List Spot). Ok (ended d s e)) starts_are ends_are
-
-last_in_range : (p : Point) (rest : List Point) → IsNeedlePoint p → All IsNeedlePoint rest → IsNeedlePoint (last_point_or p rest)
-last_in_range p [] one all = one
-last_in_range p (q ∷ rest) one all = last_in_range q rest (All-head IsNeedlePoint q rest all) (All-tail IsNeedlePoint q rest all)
 
 tips_in_range : (points : List Point) → All IsNeedlePoint points → All IsNeedlePoint (endpoints points)
 tips_in_range [] all = All-nil IsNeedlePoint

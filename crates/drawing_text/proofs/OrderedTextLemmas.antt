@@ -1,6 +1,5 @@
 -- A text names starts and ends in the order of their blocks: each belongs to the last block so far.
 use Rattle.std.proofs.Common.{◌≡◌, ℕ, ◌+◌, ◌-◌, ◌<◌, ◌≤◌, ◌==◌, ◌&&◌, ◌||◌, Bool, true, false, not, nat_lt, List, [], ◌∷◌, ◌++◌, Option, Some, None, Ok, IfOk, length, map, codes, bytes_eq, All, sym, subst, refl, arith}
-use Rattle.std.proofs.lemmas.Bool.Decides.{nat_tests}
 use Rattle.std.proofs.lemmas.List.{length-append, map-append}
 use Rattle.std.proofs.lemmas.List.Elements.{All-get_or, All-head, All-map, All-nil, All-push, All-weaker}
 use Rattle.std.proofs.lemmas.List.Sorted.{IsNonDecreasingBy-push}
@@ -26,6 +25,7 @@ use Rattle.line_graph.specs.EndOrders.{AreInBlockOrder, HasOrderedEnds}
 use Rattle.drawing_text.specs.TextLaws.{TextsOrderEnds}
 use Rattle.drawing_text.specs.TextLines.{allows_ends, draft_after_words, empty_draft, is_before_blocks, parsed_count, parsed_point, parsed_points, with_color_line, with_name_line, with_points_line, with_step_line, with_walk_end_line}
 use Rattle.drawing_text.specs.Words.{begins_comment, single_word}
+use Rattle.lists_and_numbers.proofs.CallerLemmas.{some_of}
 
 -- an item of no lesser number at the end of items in order
 pushed_order : {A : Type 0} (of : A → ℕ) (items : List A) (item : A) → IsNonDecreasing (map of items) → All (λ a. of a ≤ of item) items
@@ -99,9 +99,6 @@ points_ordered draft words is =
     (λ steps able. record { longer = omega arith; none_yet = record { starts = is.none.starts; ends = is.none.ends } }))))
     (λ next grown. grown_ordered draft draft.opened next is grown)))
 
-some_blocks : (n : ℕ) → (n == 0) ≡ false → 1 ≤ n
-some_blocks n test = grind (arith, nat_tests, test)
-
 end_ordered : (number : ℕ) (is_start : Bool) (draft : DrawingDraft) (words : List (List ℕ)) → IsOrdered draft
     → IfOk (with_walk_end_line number is_start draft words) IsOrdered
 end_ordered number is_start draft words is =
@@ -112,7 +109,7 @@ end_ordered number is_start draft words is =
       ordered = pushed_order of_end draft.ends end is.ordered
           (All-weaker (λ (e : WalkEnd). of_end e < blocks) (λ (e : WalkEnd). of_end e ≤ blocks - 1)
           (λ e low. omega (arith, low)) draft.ends is.below);
-      below = All-push (λ (e : WalkEnd). of_end e < blocks) draft.ends end is.below (omega (arith, some_blocks blocks some));
+      below = All-push (λ (e : WalkEnd). of_end e < blocks) draft.ends end is.below (omega (arith, some_of blocks some));
       none = is.none;
     }))
 

@@ -9,9 +9,7 @@ use Rattle.line_sections.specs.declared.spot.Spot.{Spot}
 use Rattle.line_graph.specs.Drawings.{DrawingValue}
 use Rattle.step_splitter.specs.Chains.{IsNeedlePoint}
 use Rattle.drawing_text.proofs.PrintedLines.{after_text, coordinates, coordinates_are, draft_of, line_judged, points_spelled}
-use Rattle.drawing_text.proofs.PrintedNumbers.{signed_read}
 use Rattle.drawing_text.proofs.PrintedWords.{IsWord, tail_of}
-use Rattle.drawing_text.proofs.Shapes.{within_parts}
 use Rattle.drawing_text.specs.declared.draft.DrawingDraft.{DrawingDraft}
 use Rattle.drawing_text.specs.declared.draw_fault.DrawFault.{DrawFault}
 use Rattle.drawing_text.specs.declared.version.Version.{Version}
@@ -20,6 +18,8 @@ use Rattle.drawing_text.specs.CanonicalTexts.{points_text}
 use Rattle.drawing_text.specs.EndTexts.{end_line_text}
 use Rattle.drawing_text.specs.TextLines.{allows_ends, draft_after_words}
 use Rattle.drawing_text.specs.Words.{words_by_line}
+use Rattle.design_model.proofs.CallerLemmas.{within_parts}
+use Rattle.lists_and_numbers.proofs.CallerLemmas.{signed_read}
 
 -- the keyword of a start or an end
 abbrev pub end_word : Bool → List ℕ

@@ -1,6 +1,6 @@
 -- The drafts after the lines of a canonical text.
 use Rattle.std.proofs.Common.{◌≡◌, ◌≢◌, ℕ, ◌+◌, ◌<◌, ◌≤◌, ◌==◌, Bool, true, false, nat_le, nat_lt, unsigned_abs, List, [], ◌∷◌, ◌++◌, Result, Ok, length, codes, All, ap, ◌∙◌, refl, append_assoc, arith}
-use Rattle.std.proofs.lemmas.Bool.{and_from, and_parts, false_from_ne_true, or_from}
+use Rattle.std.proofs.lemmas.Bool.{and_from, and_parts}
 use Rattle.std.proofs.lemmas.Bool.Decides.{nat_tests}
 use Rattle.std.proofs.lemmas.List.Elements.{All-head, All-tail}
 use Rattle.std.proofs.lemmas.List.Sums.{list_all-from_AllPass}
@@ -9,14 +9,13 @@ use Rattle.std.specs.Fmt.{decimal, signed_decimal}
 use Rattle.std.specs.List.{list_all}
 use Rattle.design_model.specs.declared.point.Point.{Point}
 use Rattle.design_model.specs.Labels.{IsLabel, IsPrintable}
-use Rattle.design_model.specs.Points.{is_same_point, is_point_within}
-use Rattle.step_splitter.specs.Chains.{IsNeedlePoint, HasNoRepeatAfter}
+use Rattle.design_model.specs.Points.{is_point_within}
+use Rattle.step_splitter.specs.Chains.{IsNeedlePoint}
 use Rattle.line_graph.specs.declared.draw_kind.DrawKind.{DrawKind}
-use Rattle.line_graph.specs.Drawings.{DrawingValue, HasNoRepeat, IsLine}
-use Rattle.line_graph.specs.GrowingDrawings.{and_then, all_in_needle_range, has_repeated_point, is_last_empty, point_count, repeats_after, step_count, with_new_block, with_new_line}
+use Rattle.line_graph.specs.Drawings.{DrawingValue, IsLine}
+use Rattle.line_graph.specs.GrowingDrawings.{and_then, all_in_needle_range, is_last_empty, point_count, step_count, with_new_block, with_new_line}
 use Rattle.line_graph.specs.Needles.{steps_of_line}
-use Rattle.drawing_text.proofs.Shapes.{same_is, within_parts}
-use Rattle.drawing_text.proofs.PrintedNumbers.{decimal_read, signed_read, signed_word}
+use Rattle.drawing_text.proofs.PrintedNumbers.{signed_word}
 use Rattle.drawing_text.proofs.PrintedWords.{AreWords, IsWord, is_inner, line_read, tail_of}
 use Rattle.drawing_text.specs.declared.draft.DrawingDraft.{DrawingDraft}
 use Rattle.drawing_text.specs.declared.draw_fault.DrawFault.{DrawFault}
@@ -26,6 +25,9 @@ use Rattle.drawing_text.specs.declared.version.Version.{Version}
 use Rattle.drawing_text.specs.CanonicalTexts.{points_text}
 use Rattle.drawing_text.specs.TextLines.{default_drawing, empty_draft, draft_after_words, parsed_points}
 use Rattle.drawing_text.specs.Words.{words_by_line}
+use Rattle.design_model.proofs.CallerLemmas.{within_parts}
+use Rattle.line_graph.proofs.CallerLemmas.{none_repeats}
+use Rattle.lists_and_numbers.proofs.CallerLemmas.{decimal_read, signed_read}
 
 -- The result for a draft and the text lines after it, from line `number` on: what `close` makes of the draft at the end.
 abbrev pub after_text : {A : Type 0} → (ℕ → DrawingDraft → Result A DrawFault) → Version → ℕ → DrawingDraft → List (List (List ℕ))
@@ -98,17 +100,6 @@ points_read (p ∷ rest) in_range =
       points_read rest (All-tail IsNeedlePoint p rest in_range),
     ) refl
 
--- a line that moves repeats no point
-repeats_none : (p : Point) (rest : List Point) → HasNoRepeatAfter p rest → repeats_after p rest ≡ false
-repeats_none p [] moving = refl
-repeats_none p (q ∷ rest) moving =
-    or_from (is_same_point p q) (repeats_after q rest)
-    (false_from_ne_true (is_same_point p q) (λ found. moving.0 (same_is p q found))) (repeats_none q rest moving.1)
-
-no_repeat_found : (points : List Point) → HasNoRepeat points → has_repeated_point points ≡ false
-no_repeat_found [] moving = refl
-no_repeat_found (p ∷ rest) moving = repeats_none p rest moving
-
 -- points at which needles may go down are found in range
 in_range_found : (points : List Point) → All IsNeedlePoint points → all_in_needle_range points ≡ true
 in_range_found points in_range = list_all-from_AllPass (is_point_within 30000) points in_range
@@ -138,7 +129,7 @@ line_says version number opened named ends d points able room =
       points_read points able.in_range,
       in_range_found points able.in_range,
       long,
-      no_repeat_found points able.moving,
+      none_repeats points able.moving,
       lines,
       few,
       cheap,

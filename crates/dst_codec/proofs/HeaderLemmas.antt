@@ -1,9 +1,8 @@
 -- The fields of a header take 124 bytes and the header 512, where its numbers fit their places.
-use Rattle.std.proofs.Common.{◌≡◌, ℕ, ◌+◌, ◌-◌, ◌^◌, ◌<◌, ◌≤◌, ℤ, pos, negsuc, neg_ℤ, zero, suc, unsigned_abs, Bool, IsTrue, List, [], ◌∷◌, ◌++◌, length, decimal, codes, replicate, refl, ap, arith, length-append, lit<}
+use Rattle.std.proofs.Common.{◌≡◌, ℕ, ◌+◌, ◌-◌, ◌^◌, ◌<◌, ◌≤◌, ℤ, pos, negsuc, neg_ℤ, suc, unsigned_abs, IsTrue, List, [], ◌∷◌, ◌++◌, length, decimal, codes, replicate, refl, ap, arith, length-append, lit<}
 use Rattle.std.proofs.lemmas.Bool.{and_parts}
 use Rattle.std.proofs.lemmas.Fmt.{length-decimal-le}
 use Rattle.std.proofs.lemmas.List.{length-replicate}
-use Rattle.std.specs.List.{list_all}
 use Rattle.design_model.specs.declared.act.Act.{Act}
 use Rattle.design_model.specs.declared.act.Act.TheVariants as act
 use Rattle.design_model.specs.declared.act.NumberedAct.{NumberedAct}
@@ -11,28 +10,20 @@ use Rattle.design_model.specs.declared.design.TheConstants.{MAX_LABEL}
 use Rattle.design_model.specs.declared.point.Point.{Point}
 use Rattle.design_model.specs.declared.point.TheConstants.{NEEDLE_LIMIT}
 use Rattle.design_model.specs.Points.{is_point_within, origin}
-use Rattle.format_traits.specs.LabelFields.{padded_left, padded_right, label_field}
+use Rattle.format_traits.specs.LabelFields.{padded_left, label_field}
 use Rattle.design_model.specs.ActPositions.{is_act_in_range, needle_position_along, needle_position_after}
 use Rattle.format_traits.specs.Refusals.{stops_of}
 use Rattle.dst_codec.specs.declared.header.HeaderNumbers.{HeaderNumbers}
 use Rattle.dst_codec.specs.declared.header.TheConstants.{HEADER_LENGTH}
 use Rattle.dst_codec.specs.Header.{FitsFields, size_above_zero, size_below_zero, max_measure, needle_measure, field, number_field, signed_field, sign_code, fields_of, dst_header_of, numbers_of}
-use Rattle.dst_codec.proofs.MoveEncodingLemmas.{within_parts}
-
--- the points of acts are in a needle's range
-abbrev pub are_in_range : List NumberedAct → Bool
-are_in_range acts = list_all (λ a. is_act_in_range a.act) acts
+use Rattle.design_model.proofs.CallerLemmas.{are_in_range, within_parts}
+use Rattle.format_traits.proofs.CallerLemmas.{length-padded_right}
+use Rattle.lists_and_numbers.proofs.CallerLemmas.{size-neg}
 
 length-padded_left : (places : ℕ) (text : List ℕ) → length text ≤ places → length (padded_left places text) ≡ places
 length-padded_left places text fits =
     let spaces = length-replicate {A = ℕ} (places - length text) 32 in
     let all = length-append (replicate (places - length text) 32) text in
-    omega (arith, spaces, all, fits)
-
-pub length-padded_right : (places : ℕ) (text : List ℕ) → length text ≤ places → length (padded_right places text) ≡ places
-length-padded_right places text fits =
-    let spaces = length-replicate {A = ℕ} (places - length text) 32 in
-    let all = length-append text (replicate (places - length text) 32) in
     omega (arith, spaces, all, fits)
 
 length-field : (name contents : List ℕ) (n m : ℕ) → length name ≡ n → length contents ≡ m
@@ -53,11 +44,6 @@ length-signed_field name z is fits =
     let digits = length-padded_left 5 (decimal (unsigned_abs z))
     (length-decimal-le 5 (unsigned_abs z) (lit< tt) fits (omega (arith, fits))) in
     length-field name (sign_code z ∷ padded_left 5 (decimal (unsigned_abs z))) 3 6 is (ap suc digits)
-
-size_of_opposite : (z : ℤ) → unsigned_abs (neg_ℤ z) ≡ unsigned_abs z
-size_of_opposite (pos zero) = refl
-size_of_opposite (pos (suc n)) = refl
-size_of_opposite (negsuc n) = refl
 
 lengths : (a b c d e f g h i j k l : List ℕ) → length a ≡ 20 → length b ≡ 11 → length c ≡ 7
     → length d ≡ 9 → length e ≡ 9 → length f ≡ 9 → length g ≡ 9
@@ -89,7 +75,7 @@ length-fields_of label numbers short fits = lengths
     (length-number_field (codes "+Y:") 5 numbers.extents.up refl (lit< tt) fits.up (omega (arith, fits.up)))
     (length-number_field (codes "-Y:") 5 numbers.extents.down refl (lit< tt) fits.down (omega (arith, fits.down)))
     (length-signed_field (codes "AX:") numbers.last.x refl fits.x)
-    (length-signed_field (codes "AY:") (neg_ℤ numbers.last.y) refl (rw (size_of_opposite numbers.last.y) fits.y))
+    (length-signed_field (codes "AY:") (neg_ℤ numbers.last.y) refl (rw (size-neg numbers.last.y) fits.y))
     (length-signed_field (codes "MX:") (pos 0) refl (lit< tt))
     (length-signed_field (codes "MY:") (pos 0) refl (lit< tt))
     refl

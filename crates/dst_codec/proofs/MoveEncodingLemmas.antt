@@ -1,6 +1,6 @@
 -- The record of a move has that move, and its kind is that of its flags.
-use Rattle.std.proofs.Common.{◌≡◌, ℕ, ◌+◌, ◌-◌, ◌*◌, ◌/◌, ◌%◌, ◌<◌, ◌≤◌, ℤ, pos, negsuc, ◌-ℤ◌, unsigned_abs, IsTrue, nat_le, refl, arith}
-use Rattle.std.proofs.lemmas.Bool.{and_parts, leb-true, eq-eqb, ne_eqb}
+use Rattle.std.proofs.Common.{◌≡◌, ℕ, ◌+◌, ◌-◌, ◌*◌, ◌/◌, ◌%◌, ◌<◌, ◌≤◌, ℤ, pos, negsuc, ◌-ℤ◌, unsigned_abs, IsTrue, refl, arith}
+use Rattle.std.proofs.lemmas.Bool.{eq-eqb, ne_eqb}
 use Rattle.std.proofs.lemmas.Int.{ints}
 use Rattle.design_model.specs.declared.point.Point.{Point}
 use Rattle.design_model.specs.Points.{is_point_within}
@@ -8,6 +8,7 @@ use Rattle.dst_codec.specs.declared.dst.TheConstants.{LIMIT}
 use Rattle.dst_codec.specs.declared.record_kind.RecordKind.TheVariants as kind
 use Rattle.dst_codec.specs.Bits.{bit_of_byte, dst_move_of, kind_of, rightwards, leftwards, upwards, downwards}
 use Rattle.dst_codec.specs.MoveEncoding.{biased_number, ternary_digit, plus_bit, minus_bit, x_signs, y_signs}
+use Rattle.design_model.proofs.CallerLemmas.{point_of_parts, within_parts}
 
 -- the third byte of a record with flags
 abbrev pub third_of : ℕ → Point → ℕ
@@ -123,18 +124,6 @@ byte_third : (flags k : ℕ) (m : Point) → flags ≡ 64 * k → let byte = thi
 byte_third flags k m is = rw is (third_bits (plus_bit 81 m.x) (minus_bit 81 m.x) (plus_bit 81 m.y) (minus_bit 81 m.y) k
     (plus_small 81 m.x) (minus_small 81 m.x) (plus_small 81 m.y) (minus_small 81 m.y))
 
--- a point is within the limit on each axis
-pub within_parts : (limit : ℕ) (m : Point) → IsTrue (is_point_within limit m)
-    → (unsigned_abs m.x ≤ limit) × (unsigned_abs m.y ≤ limit)
-within_parts limit m within =
-    let both = and_parts (nat_le (unsigned_abs m.x) limit) (nat_le (unsigned_abs m.y) limit) within in
-    (leb-true _ _ both.0, leb-true _ _ both.1)
-
--- points are equal where their coordinates are
-pub same_point : {x x' y y' : ℤ} → x ≡ x' → y ≡ y'
-    → (let p : Point = record { x = x; y = y } in p) ≡ (let q : Point = record { x = x'; y = y' } in q)
-same_point x y = cc
-
 -- the bytes of a record have its move
 pub dst_move_of-record : (flags k : ℕ) (m : Point) → flags ≡ 64 * k → IsTrue (is_point_within LIMIT m)
     → dst_move_of (byte_of 1 9 m) (byte_of 3 27 m) (third_of flags m) ≡ m
@@ -151,7 +140,7 @@ dst_move_of-record flags k m is within =
     -ℤ pos (upwards (byte_of 1 9 m) (byte_of 3 27 m) (third_of flags m)) ≡ m.y =
     y_move m.y (byte_of 1 9 m) (byte_of 3 27 m) (third_of flags m) small.1
     ay.2 ay.3 ay.0 ay.1 by.2 by.3 by.0 by.1 c.2 c.3 in
-    same_point x y
+    point_of_parts x y
 
 -- the kinds of stitches and jumps
 kind_without_flags : (third : ℕ) → third % 4 ≡ 3 → third < 64 → kind_of third ≡ kind.Stitch

@@ -16,6 +16,7 @@ use Rattle.format_traits.specs.RecordEncodings.{records_of_acts_from, records_of
 use Rattle.dst_codec.specs.declared.dst.TheConstants.{LIMIT}
 use Rattle.dst_codec.specs.MoveEncoding.{dst_jump_record, dst_stitch_record}
 use Rattle.dst_codec.specs.Writing.{dst_write_limits, dst_encoding}
+use Rattle.format_traits.proofs.CallerLemmas.{loose_room}
 
 -- all bytes of records, three for each
 abbrev AreTriples : List (List ℕ) → Type 0
@@ -79,10 +80,6 @@ length-stitched_hop_records count m = length-append (map dst_jump_record (part_m
     (dst_stitch_record (move_between (part_end m count (count - 1)) m) ∷ [])
     ∙ ap (λ n. n + 1) (length-jumps m count (count - 1))
 
-loose_small : (few : Bool) (count : ℕ) → count + 1 ≤ (if few then count + 1 else count + 2)
-loose_small true count = omega arith
-loose_small false count = omega arith
-
 float_small : (three : Bool) (count : ℕ) (m : Point)
     → length (if three then stitched_hop_records dst_encoding count m else hop_records dst_encoding count m) ≤ max 1 count + 1
 float_small true count m = omega (arith, length-stitched_hop_records count m)
@@ -91,7 +88,7 @@ float_small false count m = omega (arith, length-hop_records count m)
 needle_small : (loose float : Bool) (m : Point)
     → length (needle_records dst_encoding dst_write_limits loose float m) ≤ room_of_needle LIMIT loose float m
 needle_small true float m =
-    omega (arith, length-hop_records (hops_of LIMIT m) m, loose_small (nat_le (hops_of LIMIT m) 2) (hops_of LIMIT m))
+    omega (arith, length-hop_records (hops_of LIMIT m) m, loose_room (nat_le (hops_of LIMIT m) 2) (hops_of LIMIT m))
 needle_small false true m = omega (arith, float_small (max 1 (hops_of LIMIT m) == 3) (max 1 (hops_of LIMIT m)) m)
 needle_small false false m = omega arith
 

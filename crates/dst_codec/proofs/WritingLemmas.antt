@@ -19,13 +19,7 @@ use Rattle.dst_codec.specs.Steps.{IsWritten, dst_body_of, header_numbers_of}
 use Rattle.dst_codec.specs.Writing.{dst_write_limits, dst_records_of}
 use Rattle.dst_codec.proofs.HeaderLemmas.{numbers_fit}
 use Rattle.dst_codec.proofs.RecordCountLemmas.{records_small, records_triples}
-
--- the stops after all acts
-stops-encoder_state_after_acts : (limit : ℕ) (before : EncoderState) (acts : List NumberedAct)
-    → (encoder_state_after_acts limit before acts).stops ≡ before.stops + stops_of acts
-stops-encoder_state_after_acts limit before [] = omega arith
-stops-encoder_state_after_acts limit before (a ∷ rest) =
-    stops-encoder_state_after_acts limit (encoder_state_after limit before a.act) rest ∙ omega arith
+use Rattle.format_traits.proofs.CallerLemmas.{stops_along}
 
 -- and the place
 place-encoder_state_after_acts : (limit : ℕ) (before : EncoderState) (acts : List NumberedAct)
@@ -82,7 +76,7 @@ numbers_written d state count extents is of_extents =
     let stops : state.stops ≡ stops_of (acts_of d) = omega (
       arith,
       ap (λ s. s.stops) is.stands,
-      stops-encoder_state_after_acts LIMIT initial_encoder_state (acts_of d),
+      stops_along LIMIT initial_encoder_state (acts_of d),
     ) in
     rw (
       counted d state count is,

@@ -25,6 +25,7 @@ use Rattle.edit_laws.proofs.MovedActs.{acts_moved, runs_moved, sewn_moved, with_
 use Rattle.edit_laws.proofs.MovedLines.{joined_same}
 use Rattle.edit_laws.proofs.MovedPieces.{pieces_moved}
 use Rattle.edit_laws.proofs.MovedWalks.{thread_moved, threads_moved}
+use Rattle.lists_and_numbers.proofs.CallerLemmas.{back-there, same_test}
 
 -- the point with those numbers
 abbrev at : ℤ → ℤ → Point
@@ -43,17 +44,8 @@ sum_turned a d q = omega (arith, ints)
 cancelled : (a b d : ℤ) → a +ℤ d ≡ b +ℤ d → a ≡ b
 cancelled a b d is = omega (arith, ints, is)
 
-undone : (a d : ℤ) → (a +ℤ d) +ℤ neg_ℤ d ≡ a
-undone a d = omega (arith, ints)
-
--- tests of equivalent facts
-alike : (s t : Bool) → (s ≡ true → t ≡ true) → (t ≡ true → s ≡ true) → s ≡ t
-alike true t to from = sym (to refl)
-alike false true to from = from refl
-alike false false to from = refl
-
 equal_kept : (a b d : ℤ) → int_eq (a +ℤ d) (b +ℤ d) ≡ int_eq a b
-equal_kept a b d = alike (int_eq (a +ℤ d) (b +ℤ d)) (int_eq a b)
+equal_kept a b d = same_test (int_eq (a +ℤ d) (b +ℤ d)) (int_eq a b)
     (λ is. (Decides-int_eq a b).1 (cancelled a b d ((Decides-int_eq (a +ℤ d) (b +ℤ d)).0 is)))
     (λ is. (Decides-int_eq (a +ℤ d) (b +ℤ d)).1 (ap (λ (z : ℤ). z +ℤ d) ((Decides-int_eq a b).0 is)))
 
@@ -105,7 +97,7 @@ map_undone f g is [] = refl
 map_undone f g is (x ∷ xs) = ap (λ y. y ∷ map g (map f xs)) (is x) ∙ ap (λ ys. x ∷ ys) (map_undone f g is xs)
 
 point_undone : (dx dy : ℤ) (p : Point) → shift_point (neg_ℤ dx) (neg_ℤ dy) (shift_point dx dy p) ≡ p
-point_undone dx dy p = same_at _ _ _ _ (undone p.x dx) (undone p.y dy)
+point_undone dx dy p = same_at _ _ _ _ (back-there p.x dx) (back-there p.y dy)
 
 line_undone : (dx dy : ℤ) (line : LineValue)
     → with_moved_line (shift_point (neg_ℤ dx) (neg_ℤ dy)) (with_moved_line (shift_point dx dy) line) ≡ line

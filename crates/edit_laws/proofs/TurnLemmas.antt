@@ -1,5 +1,5 @@
 -- Turns and mirrorings keep which points are equal, and the number of steps of a segment.
-use Rattle.std.proofs.Common.{◌≡◌, ◌∙◌, ℕ, zero, suc, max, ℤ, ◌-ℤ◌, neg_ℤ, unsigned_abs, Bool, true, false, ◌&&◌, refl, ap, sym, arith}
+use Rattle.std.proofs.Common.{◌≡◌, ◌∙◌, ℕ, zero, suc, max, ℤ, ◌-ℤ◌, neg_ℤ, unsigned_abs, Bool, true, false, ◌&&◌, refl, ap, arith}
 use Rattle.std.proofs.lemmas.Bool.Decides.{Decides-int_eq}
 use Rattle.std.proofs.lemmas.Int.{ints}
 use Rattle.std.specs.Int.{div_ceil}
@@ -11,18 +11,13 @@ use Rattle.design_model.specs.declared.point.Point.{Point}
 use Rattle.design_model.specs.Points.{is_same_point, move_between, move_size}
 use Rattle.edit_laws.specs.CostLaws.{MirrorKeepsCosts, TurnKeepsCosts}
 use Rattle.edit_laws.proofs.MovedCosts.{costs_kept}
-
--- tests of equivalent facts
-alike : (s t : Bool) → (s ≡ true → t ≡ true) → (t ≡ true → s ≡ true) → s ≡ t
-alike true t to from = sym (to refl)
-alike false true to from = from refl
-alike false false to from = refl
+use Rattle.lists_and_numbers.proofs.CallerLemmas.{same_test}
 
 negated_is : (a b : ℤ) → neg_ℤ a ≡ neg_ℤ b → a ≡ b
 negated_is a b is = omega (arith, ints, is)
 
 equal_negated : (a b : ℤ) → int_eq (neg_ℤ a) (neg_ℤ b) ≡ int_eq a b
-equal_negated a b = alike (int_eq (neg_ℤ a) (neg_ℤ b)) (int_eq a b)
+equal_negated a b = same_test (int_eq (neg_ℤ a) (neg_ℤ b)) (int_eq a b)
     (λ is. (Decides-int_eq a b).1 (negated_is a b ((Decides-int_eq (neg_ℤ a) (neg_ℤ b)).0 is)))
     (λ is. (Decides-int_eq (neg_ℤ a) (neg_ℤ b)).1 (ap neg_ℤ ((Decides-int_eq a b).0 is)))
 

@@ -1,5 +1,5 @@
 -- Cursors over the ends at each junction, and the tables of a partial tour.
-use Rattle.std.proofs.Common.{◌≡◌, ◌≤◌, ◌<◌, ◌⊎◌, inl, inr, ℕ, zero, suc, ◌+◌, ◌-◌, ◌*◌, ◌/◌, ◌==◌, Bool, true, false, nat_lt, List, [], ◌∷◌, ◌++◌, length, get_or, set, slice_get, Some, arith, refl, sym, ◌∙◌, ap, subst, length-set, get_or-set_same, get_or-set_other}
+use Rattle.std.proofs.Common.{◌≡◌, ◌≤◌, ◌<◌, ◌⊎◌, inl, inr, ℕ, ◌+◌, ◌-◌, ◌*◌, ◌/◌, ◌==◌, Bool, true, false, nat_lt, List, [], ◌∷◌, ◌++◌, length, get_or, set, slice_get, Some, arith, refl, sym, ◌∙◌, ap, subst, length-set, get_or-set_same, get_or-set_other}
 use Rattle.std.proofs.lemmas.Grind.{get_or_default_zero}
 use Rattle.std.proofs.lemmas.Bool.{and_from, and_parts, cases_eq}
 use Rattle.std.proofs.lemmas.Bool.Decides.{nat_tests}
@@ -8,9 +8,9 @@ use Rattle.line_graph.specs.ValidPieces.{all_below}
 use Rattle.euler_tour.specs.RemainingLines.{IsTourCursor, edge_ends_at, remaining_ends, decremented_at}
 use Rattle.euler_tour.specs.LineEnds.{AreBefore, AreLast, IsLast, junction_at}
 use Rattle.euler_tour.specs.PartialTours.{AreTourTables}
-use Rattle.euler_tour.proofs.EndLemmas.{end_a, end_b, end_within, half, half_more}
 use Rattle.euler_tour.proofs.LeftLemmas.{ends_none, less_length, less_none}
-use Rattle.euler_tour.proofs.WalkLemmas.{same}
+use Rattle.euler_tour.proofs.CallerLemmas.{end_a, end_b, end_within}
+use Rattle.lists_and_numbers.proofs.CallerLemmas.{half, half_more, same_number}
 
 -- ---- cursors
 
@@ -69,11 +69,11 @@ cursor_none edges left j cursor = ends_none edges left j (λ k. λ e. λ is. by_
 
     by_b : (k : ℕ) (e : Edge) → slice_get edges k ≡ Some e → (e.a == j) ≡ false → (t : Bool) → (e.b == j) ≡ t
         → (get_or left k 0 ≡ 0) ⊎ (edge_ends_at j e ≡ 0)
-    by_b k e is not_a true at_b = inl (at_k k (2 * k + 1) (half_more k) (end_b edges k e is ∙ ap (λ (n : ℕ). Some n) (same e.b j at_b)))
+    by_b k e is not_a true at_b = inl (at_k k (2 * k + 1) (half_more k) (end_b edges k e is ∙ ap (λ (n : ℕ). Some n) (same_number e.b j at_b)))
     by_b k e is not_a false not_b = inr (rw (not_a, not_b) refl)
 
     by_a : (k : ℕ) (e : Edge) → slice_get edges k ≡ Some e → (t : Bool) → (e.a == j) ≡ t → (get_or left k 0 ≡ 0) ⊎ (edge_ends_at j e ≡ 0)
-    by_a k e is true at_a = inl (at_k k (2 * k) (half k) (end_a edges k e is ∙ ap (λ (n : ℕ). Some n) (same e.a j at_a)))
+    by_a k e is true at_a = inl (at_k k (2 * k) (half k) (end_a edges k e is ∙ ap (λ (n : ℕ). Some n) (same_number e.a j at_a)))
     by_a k e is false not_a = by_b k e is not_a (e.b == j) refl
 
 -- ---- ends on the way out
@@ -204,11 +204,6 @@ pub read_cursor : (edges : List Edge) (count : ℕ) (left last before out : List
     → AreTourTables edges count left last before out at → get_or last at 0 ≡ number
 read_cursor edges count left last before out at number is ready =
     sym (is ∙ get_or_default_zero last at number (subst (λ (n : ℕ). at < n) (sym ready.last_beside) ready.below))
-
--- a cursor that isn't 0 is one more than an end, whose line has an index
-pub cursor_end : (number : ℕ) → (number ≡ 0 → ⊥) → number ≡ number - 1 + 1
-cursor_end zero some = absurd (some refl)
-cursor_end (suc number) some = omega arith
 
 pub cursor_place : (edges : List Edge) (count : ℕ) (left last before out : List ℕ) (at end : ℕ) → get_or last at 0 ≡ end + 1
     → AreTourTables edges count left last before out at → end / 2 < length left

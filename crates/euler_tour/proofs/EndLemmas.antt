@@ -1,57 +1,15 @@
 -- The ends of lines: their linked lists and cursors.
-use Rattle.std.proofs.Common.{◌≡◌, ◌≤◌, ◌<◌, ◌⊎◌, inl, inr, ℕ, zero, suc, ◌+◌, ◌*◌, ◌/◌, ◌%◌, ◌==◌, Bool, true, false, not, ◌&&◌, nat_lt, List, [], ◌∷◌, ◌++◌, length, get_or, set, replicate, slice_get, Option, Some, None, arith, refl, sym, ◌∙◌, ap, subst, length-set, length-append, get_or-set_same, get_or-set_other}
-use Rattle.std.proofs.lemmas.Bool.{and_parts, cases_eq}
+use Rattle.std.proofs.Common.{◌≡◌, ◌≤◌, ◌<◌, ◌⊎◌, inl, inr, ℕ, ◌+◌, ◌*◌, ◌/◌, ◌%◌, ◌==◌, Bool, true, false, not, ◌&&◌, List, [], ◌∷◌, ◌++◌, length, get_or, set, replicate, slice_get, Some, arith, sym, ◌∙◌, ap, subst, length-set, length-append, get_or-set_same, get_or-set_other}
+use Rattle.std.proofs.lemmas.Bool.{cases_eq}
 use Rattle.std.proofs.lemmas.Bool.Decides.{nat_tests}
 use Rattle.std.proofs.lemmas.List.{get_or_append_left, get_or_push, get_or-replicate, length-replicate}
-use Rattle.std.proofs.lemmas.Option.{slice_get_within}
 use Rattle.line_graph.specs.declared.edge.Edge.{Edge}
 use Rattle.line_graph.specs.PieceGraphs.{is_odd}
 use Rattle.line_graph.specs.ValidPieces.{ends_below}
 use Rattle.line_graph.specs.PieceWalks.{pass_start_on, pass_start}
 use Rattle.euler_tour.specs.LineEnds.{AreBefore, AreLast, IsLast, junction_at}
-use Rattle.euler_tour.proofs.WalkLemmas.{some_same}
-
--- the edge that starts at a junction
-pub started : (found : Option Edge) (back : Bool) (j : ℕ) → pass_start_on found back ≡ Some j
-    → (e : Edge) × (found ≡ Some e) × (pass_start e back ≡ j)
-started None back j is = absurd (cc)
-started (Some e) back j is = (e, refl, some_same (pass_start e back) j is)
-
--- an end that is somewhere is that of a line
-pub end_within : (edges : List Edge) (end j : ℕ) → junction_at edges end ≡ Some j → end < 2 * length edges
-end_within edges end j is =
-    let e = started (slice_get edges (end / 2)) (is_odd end) j is in
-    twice end (length edges) (slice_get_within edges (end / 2) e.0 e.1)
-  where
-    twice : (end n : ℕ) → end / 2 < n → end < 2 * n
-    twice end n h = omega arith
-
--- the index of the line of an end
-pub half : (k : ℕ) → (2 * k) / 2 ≡ k
-half k = omega arith
-
-pub half_more : (k : ℕ) → (2 * k + 1) / 2 ≡ k
-half_more k = omega arith
-
--- and which of the two it is
-is_even : (k : ℕ) → is_odd (2 * k) ≡ false
-is_even k = differs (2 * k % 2) (omega arith)
-  where
-    differs : (r : ℕ) → r ≡ 0 → (r == 1) ≡ false
-    differs r is = rw is refl
-
-not_even : (k : ℕ) → is_odd (2 * k + 1) ≡ true
-not_even k = equals ((2 * k + 1) % 2) (omega arith)
-  where
-    equals : (r : ℕ) → r ≡ 1 → (r == 1) ≡ true
-    equals r is = rw is refl
-
--- the two ends of the line at an index
-pub end_a : (edges : List Edge) (k : ℕ) (e : Edge) → slice_get edges k ≡ Some e → junction_at edges (2 * k) ≡ Some e.a
-end_a edges k e is = rw (half k, is_even k, is) refl
-
-pub end_b : (edges : List Edge) (k : ℕ) (e : Edge) → slice_get edges k ≡ Some e → junction_at edges (2 * k + 1) ≡ Some e.b
-end_b edges k e is = rw (half_more k, not_even k, is) refl
+use Rattle.euler_tour.proofs.CallerLemmas.{end_a, end_b, ends_are_below, started}
+use Rattle.lists_and_numbers.proofs.CallerLemmas.{some_same}
 
 -- ---- chains
 
@@ -176,19 +134,6 @@ none_last edges junctions j below =
 
 pub none_before : (edges : List Edge) → AreBefore edges []
 none_before edges end j below there = absurd (omega (arith, below))
-
--- the ends of each edge are junctions
-pub ends_are_below : (n : ℕ) (edges : List Edge) (k : ℕ) (e : Edge) → ends_below n edges ≡ true → slice_get edges k ≡ Some e
-    → (e.a < n) × (e.b < n)
-ends_are_below n [] k e all is = absurd (cc)
-ends_are_below n (x ∷ edges) zero e all is =
-    let both = and_parts (nat_lt x.a n) (nat_lt x.b n) (and_parts (nat_lt x.a n && nat_lt x.b n) (ends_below n edges) all).0 in
-    subst (λ (y : Edge). (y.a < n) × (y.b < n)) (some_same x e is) (less x.a n both.0, less x.b n both.1)
-  where
-    less : (m n : ℕ) → nat_lt m n ≡ true → m < n
-    less m n is = grind (arith, nat_tests)
-ends_are_below n (x ∷ edges) (suc k) e all is =
-    ends_are_below n edges k e (and_parts (nat_lt x.a n && nat_lt x.b n) (ends_below n edges) all).1 is
 
 -- so is where an end is, and where the other end of its line is
 pub junction_below : (n : ℕ) (edges : List Edge) (end j : ℕ) → ends_below n edges ≡ true

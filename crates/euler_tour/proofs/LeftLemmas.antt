@@ -9,7 +9,8 @@ use Rattle.line_graph.specs.ValidPieces.{all_below}
 use Rattle.line_graph.specs.PieceWalks.{edge_cost, edge_sum, is_strictly_increasing}
 use Rattle.euler_tour.specs.RemainingLines.{edge_ends_at, remaining_ends, remaining_sum, decremented_at, one_of, pass_counts}
 use Rattle.euler_tour.specs.Tours.{copies_cost, pass_count, pass_ends}
-use Rattle.euler_tour.proofs.WalkLemmas.{differs, differs_back, eq_self, first_less, rest_rises}
+use Rattle.line_graph.proofs.CallerLemmas.{first_less, rest_rises}
+use Rattle.lists_and_numbers.proofs.CallerLemmas.{differs, differs_back, eq_self}
 
 -- taking a line as the code does it
 pub less_is : (left : List ℕ) (place : ℕ) → slice_set left place (get_or left place 0 - 1) ≡ decremented_at left place

@@ -1,3 +1,4 @@
+pub mod CallerLemmas
 pub mod WalkLemmas
 pub mod LeftLemmas
 pub mod EndLemmas

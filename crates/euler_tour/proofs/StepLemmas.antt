@@ -12,10 +12,12 @@ use Rattle.euler_tour.specs.LineEnds.{AreBefore, AreLast, junction_across, junct
 use Rattle.euler_tour.specs.Tours.{CanPass}
 use Rattle.euler_tour.specs.PartialTours.{BeginsTour, IsEmptyTour, HasTourTables, IsTourStep, first_edge_start, first_edge_end, tour_end, tour_start, or_first_start}
 use Rattle.euler_tour.proofs.CursorLemmas.{back_ready, begins_ready, before_less, out_ready, over_ready}
-use Rattle.euler_tour.proofs.EndLemmas.{across_below, end_within, junction_below}
+use Rattle.euler_tour.proofs.EndLemmas.{across_below, junction_below}
 use Rattle.euler_tour.proofs.LeftLemmas.{times_at, times_length}
-use Rattle.euler_tour.proofs.TourLemmas.{begins_on, begins_with, first_edge, first_is, goal_below, none_said}
+use Rattle.euler_tour.proofs.TourLemmas.{begins_with, first_edge, goal_below, none_said}
 use Rattle.euler_tour.proofs.TripLemmas.{back_kept, back_less, first_kept, out_kept, out_less, over_less}
+use Rattle.euler_tour.proofs.CallerLemmas.{end_within}
+use Rattle.line_graph.proofs.CallerLemmas.{begins_on, first_is}
 
 -- the sum of the cursors of a partial tour
 abbrev cursor_sum : PartialTour → ℕ

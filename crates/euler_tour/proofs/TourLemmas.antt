@@ -1,5 +1,5 @@
 -- The first partial tour, and the tour at the end.
-use Rattle.std.proofs.Common.{◌≡◌, ◌≤◌, ◌<◌, inl, inr, ℕ, zero, suc, ◌+◌, ◌%◌, ◌==◌, Bool, true, false, nat_lt, List, [], ◌∷◌, ◌++◌, map, length, get_or, slice_get, Option, Some, None, arith, refl, sym, ◌∙◌, ap, subst}
+use Rattle.std.proofs.Common.{◌≡◌, ◌≤◌, ◌<◌, inl, inr, ℕ, suc, ◌+◌, ◌%◌, ◌==◌, Bool, true, false, nat_lt, List, [], ◌∷◌, ◌++◌, map, length, get_or, slice_get, Option, Some, None, arith, refl, sym, ◌∙◌, ap, subst}
 use Rattle.std.proofs.lemmas.Bool.Decides.{nat_tests}
 use Rattle.std.proofs.lemmas.Option.{slice_get_within}
 use Rattle.std.specs.Option.{option_or}
@@ -13,10 +13,12 @@ use Rattle.euler_tour.specs.RemainingLines.{edge_ends_at, remaining_ends, remain
 use Rattle.euler_tour.specs.LineEnds.{pass_from}
 use Rattle.euler_tour.specs.Tours.{CanPass, IsTour, pass_ends}
 use Rattle.euler_tour.specs.PartialTours.{IsExhausted, IsTourInvariant, first_edge_start, first_edge_end, tour_end, tour_start, or_first_start}
-use Rattle.euler_tour.proofs.EndLemmas.{ends_are_below}
 use Rattle.euler_tour.proofs.LeftLemmas.{none_left, sum_none, times_at, times_cost, times_count, times_ends}
 use Rattle.euler_tour.proofs.TripLemmas.{met}
-use Rattle.euler_tour.proofs.WalkLemmas.{all_covered, bit_self, eq_self, nowhere, same, some_same}
+use Rattle.euler_tour.proofs.WalkLemmas.{all_covered, bit_self}
+use Rattle.euler_tour.proofs.CallerLemmas.{ends_are_below}
+use Rattle.line_graph.proofs.CallerLemmas.{edge_there, lost}
+use Rattle.lists_and_numbers.proofs.CallerLemmas.{eq_self, same_number, same_test, some_same}
 
 -- ---- the beginning
 
@@ -25,11 +27,6 @@ pub first_edge : (edges : List Edge) → 1 ≤ length edges
     → (e : Edge) × (slice_get edges 0 ≡ Some e) × (first_edge_start edges ≡ e.a) × (first_edge_end edges ≡ e.b)
 first_edge [] some = absurd (omega arith)
 first_edge (e ∷ edges) some = (e, refl, refl, refl)
-
--- the first line
-pub first_is : (lines : List ℕ) → first_line lines ≡ get_or lines 0 0
-first_is [] = refl
-first_is (n ∷ lines) = refl
 
 -- where no start and no end is required, none is required in the other order
 pub none_said : (one other : Option ℕ) → option_or one other ≡ None → option_or other one ≡ None
@@ -92,18 +89,7 @@ pub begins_with : (home home2 : List Pass) (pass : Pass) (line : ℕ) → home �
     → BeginsWith line home2
 begins_with home home2 pass line is_home is_home2 is = rw (is_home2, is_home) is
 
--- it goes on as it began
-pub begins_on : (line : ℕ) (xs ys : List Pass) → BeginsWith line xs → BeginsWith line (xs ++ ys)
-begins_on line [] ys h = absurd h
-begins_on line (x ∷ xs) ys h = h
-
 -- ---- the end
-
--- two tests of which each gives the other are the same
-equal_tests : (s t : Bool) → (s ≡ true → t ≡ true) → (t ≡ true → s ≡ true) → s ≡ t
-equal_tests true t to from = sym (to refl)
-equal_tests false true to from = from refl
-equal_tests false false to from = refl
 
 -- none left, as a test
 bare : (n : ℕ) → n ≡ 0 → (n == 0) ≡ true
@@ -140,7 +126,7 @@ all_passed : (edges : List Edge) (left : List ℕ) (count goal tail : ℕ) → I
     tail e.b)
     → (k : ℕ) (e : Edge) → slice_get edges k ≡ Some e → get_or left k 0 ≡ 0
 all_passed edges left count goal tail joined ends below stuck meets over k e is =
-    none_left edges left k e e.a is (meets_a e) (same (remaining_ends edges left e.a) 0
+    none_left edges left k e e.a is (meets_a e) (same_number (remaining_ends edges left e.a) 0
     (sym (joined is_bare leaves goal e.a below (ends_are_below count edges k e ends is).0) ∙ bare (remaining_ends edges left goal) stuck))
   where
     is_bare : ℕ → Bool
@@ -150,16 +136,16 @@ all_passed edges left count goal tail joined ends below stuck meets over k e is 
         → (remaining_ends edges left e.b == 0) ≡ true
     from_a k e is h =
         bare (remaining_ends edges left e.b) (all_done edges left goal tail e.b stuck meets
-        (over k e is (none_left edges left k e e.a is (meets_a e) (same (remaining_ends edges left e.a) 0 h))).1)
+        (over k e is (none_left edges left k e e.a is (meets_a e) (same_number (remaining_ends edges left e.a) 0 h))).1)
 
     from_b : (k : ℕ) (e : Edge) → slice_get edges k ≡ Some e → (remaining_ends edges left e.b == 0) ≡ true
         → (remaining_ends edges left e.a == 0) ≡ true
     from_b k e is h =
         bare (remaining_ends edges left e.a) (all_done edges left goal tail e.a stuck meets
-        (over k e is (none_left edges left k e e.b is (meets_b e) (same (remaining_ends edges left e.b) 0 h))).0)
+        (over k e is (none_left edges left k e e.b is (meets_b e) (same_number (remaining_ends edges left e.b) 0 h))).0)
 
     leaves : (k : ℕ) (e : Edge) → slice_get edges k ≡ Some e → is_bare e.a ≡ is_bare e.b
-    leaves k e is = equal_tests (is_bare e.a) (is_bare e.b) (from_a k e is) (from_b k e is)
+    leaves k e is = same_test (is_bare e.a) (is_bare e.b) (from_a k e is) (from_b k e is)
 
 -- where a walk begins
 begins_at : (lines : List ℕ) (edges : List Edge) (walk : List Pass) (from : Option ℕ) → 1 ≤ length lines → length lines ≡ length edges
@@ -187,7 +173,7 @@ leads_on p walk tail kept begins goes meets =
 counted : (lines : List ℕ) (edges : List Edge) (walk : List Pass) (at : Option ℕ) (to : ℕ) → walk_end_from lines edges at walk ≡ Some to
     → pass_sum lines edges one_of walk ≡ length walk
 counted lines edges [] at to is = refl
-counted lines edges (pass ∷ walk) None to is = absurd (nowhere lines edges walk to is)
+counted lines edges (pass ∷ walk) None to is = absurd (lost lines edges walk to is)
 counted lines edges (pass ∷ walk) (Some at) to is =
     by_edge (edge_of lines edges pass.line) is (counted lines edges walk (after_edge (edge_of lines edges pass.line) pass.back at) to is)
   where
@@ -196,14 +182,8 @@ counted lines edges (pass ∷ walk) (Some at) to is =
 
     by_edge : (found : Option Edge) → walk_end_from lines edges (after_edge found pass.back at) walk ≡ Some to
         → pass_sum lines edges one_of walk ≡ length walk → edge_value one_of found + pass_sum lines edges one_of walk ≡ suc (length walk)
-    by_edge None is rest = absurd (nowhere lines edges walk to is)
+    by_edge None is rest = absurd (lost lines edges walk to is)
     by_edge (Some e) is rest = rw rest (one_more (length walk))
-
--- an edge is at each index
-got : (edges : List Edge) (k : ℕ) → k < length edges → (e : Edge) × (slice_get edges k ≡ Some e)
-got [] k below = absurd (omega arith)
-got (e ∷ edges) zero below = (e, refl)
-got (e ∷ edges) (suc k) below = got edges k (omega arith)
 
 -- the way out is empty, and nothing is left where it began: the walk home is a tour
 pub finished : (p : PieceValue) (copies left out : List ℕ) (home : List Pass) (at tail : ℕ) → IsValidPiece p → CanPass p copies → out ≡ []
@@ -256,7 +236,7 @@ finished p copies left out home at tail kept can is_out stuck k begins = record 
         (λ i. λ e. λ is. λ empty. k.done i e is (least _ _ _ (passed i (back_within i e is)) empty))
 
     nothing : (i : ℕ) → i < length p.edges → get_or left i 0 ≡ 0
-    nothing i below = let e = got p.edges i below in all i e.0 e.1
+    nothing i below = let e = edge_there p.edges i below in all i e.0 e.1
 
     none : (f : Edge → ℕ) → remaining_sum f p.edges left ≡ 0
     none f = sum_none f p.edges left nothing

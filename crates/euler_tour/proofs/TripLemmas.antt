@@ -10,9 +10,11 @@ use Rattle.line_graph.specs.PieceWalks.{after_edge, after_pass, edge_of, pass_st
 use Rattle.euler_tour.specs.RemainingLines.{edge_ends_at, remaining_ends, remaining_sum, decremented_at, one_of}
 use Rattle.euler_tour.specs.LineEnds.{junction_across, junction_at, pass_from, pass_to}
 use Rattle.euler_tour.specs.PartialTours.{IsExhausted, IsTourInvariant}
-use Rattle.euler_tour.proofs.EndLemmas.{started}
 use Rattle.euler_tour.proofs.LeftLemmas.{count_step, left_less}
-use Rattle.euler_tour.proofs.WalkLemmas.{bit_self, edge_at, eq_self, pass_sum_push, passes_push, same, some_same, walk_append}
+use Rattle.euler_tour.proofs.WalkLemmas.{bit_self, pass_sum_push, passes_push}
+use Rattle.euler_tour.proofs.CallerLemmas.{started}
+use Rattle.line_graph.proofs.CallerLemmas.{edge_found, walk_append}
+use Rattle.lists_and_numbers.proofs.CallerLemmas.{eq_self, same_number, some_same}
 
 -- ---- a step out
 
@@ -78,7 +80,7 @@ out_core lines edges times left out home head goal at tail place next back e ris
     within = subst (λ (n : ℕ). place < n) (sym beside) (slice_get_within edges place e is)
 
     found : edge_of lines edges (get_or lines place 0) ≡ Some e
-    found = edge_at lines edges place e rising within is
+    found = edge_found lines edges place e rising within is
 
     turned : (u k v : ℕ) → u + k ≡ v → k + u ≡ v
     turned u k v h = omega arith
@@ -130,7 +132,7 @@ came found e back (Some k) at is leads =
   where
     by_test : (t : Bool) → (pass_start e back == k) ≡ t → cond t (Some (pass_end e back)) None ≡ Some at
         → (Some k ≡ Some (pass_start e back)) × (pass_end e back ≡ at)
-    by_test true test leads = (ap (λ (n : ℕ). Some n) (sym (same (pass_start e back) k test)), some_same (pass_end e back) at leads)
+    by_test true test leads = (ap (λ (n : ℕ). Some n) (sym (same_number (pass_start e back) k test)), some_same (pass_end e back) at leads)
     by_test false test leads = absurd (cc)
 
 -- the pass that was turned round
@@ -147,7 +149,7 @@ pub met : (u at tail : ℕ) → u ≡ 0 → ((u + one_if (at == at)) + one_if (t
 met u at tail none even = by_test (tail == at) refl (rw (bit_self at) at even)
   where
     by_test : (t : Bool) → (tail == at) ≡ t → ((u + 1) + one_if t) % 2 ≡ 0 → tail ≡ at
-    by_test true is even = same tail at is
+    by_test true is even = same_number tail at is
     by_test false is even = absurd (omega arith)
 
 -- what was done stays so where the walk home goes on
@@ -208,7 +210,7 @@ back_core lines edges times left xs home head goal at tail from place back e ris
     inside k x here = subst (λ (n : ℕ). k < n) (sym beside) (slice_get_within edges k x here)
 
     found : edge_of lines edges (get_or lines place 0) ≡ Some e
-    found = edge_at lines edges place e rising (inside place e is) is
+    found = edge_found lines edges place e rising (inside place e is) is
 
     c : (walk_end_from lines edges (Some goal) xs ≡ Some (pass_start e back)) × (pass_end e back ≡ at)
     c = came (edge_of lines edges (get_or lines place 0)) e back (walk_end_from lines edges (Some goal) xs) at found
@@ -223,8 +225,8 @@ back_core lines edges times left xs home head goal at tail from place back e ris
     by_line : (i : ℕ) (x : Edge) → slice_get edges i ≡ Some x → (t : Bool) → (get_or lines place 0 == get_or lines i 0) ≡ t
         → 1 ≤ 0 + one_if t → x ≡ e
     by_line i x here true test least =
-        some_same x e (sym (edge_at lines edges i x rising (inside i x here) here)
-        ∙ ap (λ (n : ℕ). edge_of lines edges n) (sym (same (get_or lines place 0) (get_or lines i 0) test)) ∙ found)
+        some_same x e (sym (edge_found lines edges i x rising (inside i x here) here)
+        ∙ ap (λ (n : ℕ). edge_of lines edges n) (sym (same_number (get_or lines place 0) (get_or lines i 0) test)) ∙ found)
     by_line i x here false test least = absurd (omega arith)
 
     by_times : (i : ℕ) (x : Edge) → slice_get edges i ≡ Some x → (n : ℕ) → passes (get_or lines i 0) home ≡ n
@@ -317,7 +319,7 @@ first_kept lines edges times left left2 out home home2 head goal at tail next e 
     within = subst (λ (n : ℕ). 0 < n) (sym beside) (slice_get_within edges 0 e is)
 
     found : edge_of lines edges (get_or lines 0 0) ≡ Some e
-    found = edge_at lines edges 0 e rising within is
+    found = edge_found lines edges 0 e rising within is
 
     tail_is : tail ≡ e.a
     tail_is = sym (some_same head tail (sym (ap (λ (ps : List Pass). walk_end_from lines edges (Some head) ps) is_home) ∙ k.goes_home))
@@ -335,7 +337,7 @@ first_kept lines edges times left left2 out home home2 head goal at tail next e 
     by_line : (i : ℕ) (x : Edge) → slice_get edges i ≡ Some x → (t : Bool) → (get_or lines 0 0 == get_or lines i 0) ≡ t → 1 ≤ one_if t + 0
         → IsExhausted edges (decremented_at left 0) goal next x.a × IsExhausted edges (decremented_at left 0) goal next x.b
     by_line i x here true test least =
-        let one : e ≡ x = some_same e x (sym found ∙ ap (λ (n : ℕ). edge_of lines edges n) (same (get_or lines 0 0) (get_or lines i 0) test)
-        ∙ edge_at lines edges i x rising (subst (λ (n : ℕ). i < n) (sym beside) (slice_get_within edges i x here)) here) in
+        let one : e ≡ x = some_same e x (sym found ∙ ap (λ (n : ℕ). edge_of lines edges n) (same_number (get_or lines 0 0) (get_or lines i 0) test)
+        ∙ edge_found lines edges i x rising (subst (λ (n : ℕ). i < n) (sym beside) (slice_get_within edges i x here)) here) in
         (inr (inl (ap (λ (y : Edge). y.a) (sym one) ∙ sym is_goal)), inr (inr (ap (λ (y : Edge). y.b) (sym one) ∙ sym is_next)))
     by_line i x here false test least = absurd (omega arith)

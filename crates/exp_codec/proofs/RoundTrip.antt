@@ -19,6 +19,8 @@ use Rattle.exp_codec.specs.declared.exp.TheConstants.{LIMIT}
 use Rattle.exp_codec.specs.Format.{exp_meaning}
 use Rattle.exp_codec.specs.Units.{signed_byte, exp_move_of, units_from}
 use Rattle.exp_codec.specs.Writing.{byte_of_number, bytes_of_move, exp_encoding, exp_write_limits, exp_file_of}
+use Rattle.design_model.proofs.CallerLemmas.{point_of_parts}
+use Rattle.lists_and_numbers.proofs.CallerLemmas.{neg-neg}
 
 -- a number is decoded as it was encoded, and no encoded number is 80
 signed_byte-byte_of_number : (z : ℤ) → unsigned_abs z ≤ LIMIT → (signed_byte (byte_of_number z) ≡ z) × (byte_of_number z ≢ 0x80)
@@ -30,15 +32,8 @@ signed_byte-byte_of_number (negsuc n) small =
     let back : 256 - (255 - n) ≡ suc n = omega (arith, small) in
     (rw (le-ltb (255 - n) 128 high) (ap (λ k. neg_ℤ (pos k)) back), λ is. omega (arith, is, small))
 
-opposite_twice : (z : ℤ) → neg_ℤ (neg_ℤ z) ≡ z
-opposite_twice z = omega (arith, ints)
-
 opposite_small : (z : ℤ) → unsigned_abs z ≤ LIMIT → unsigned_abs (neg_ℤ z) ≤ LIMIT
 opposite_small z small = omega (arith, ints, small)
-
-same_point : {x x' y y' : ℤ} → x ≡ x' → y ≡ y'
-    → (let p : Point = record { x = x; y = y } in p) ≡ (let q : Point = record { x = x'; y = y' } in q)
-same_point x y = cc
 
 -- the bytes of a move have it, and the first of them is not 80
 exp_move_of-step : (m : Point) → IsTrue (is_point_within LIMIT m)
@@ -47,7 +42,7 @@ exp_move_of-step m near =
     let parts = and_parts (nat_le (unsigned_abs m.x) LIMIT) (nat_le (unsigned_abs m.y) LIMIT) near in
     let x = signed_byte-byte_of_number m.x (leb-true _ _ parts.0) in
     let y = signed_byte-byte_of_number (neg_ℤ m.y) (opposite_small m.y (leb-true _ _ parts.1)) in
-    (same_point x.0 (ap neg_ℤ y.0 ∙ opposite_twice m.y), x.1)
+    (point_of_parts x.0 (ap neg_ℤ y.0 ∙ neg-neg m.y), x.1)
 
 -- a stitch and what stands after it
 stitch_reads : (at : ℕ) (m : Point) (rest : List ℕ) → IsTrue (is_point_within LIMIT m)

@@ -1,3 +1,4 @@
+pub mod CallerLemmas
 mod EndingFacts
 pub mod CommandAddingLemmas
 pub mod LabelLemmas

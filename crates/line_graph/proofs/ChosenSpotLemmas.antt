@@ -24,8 +24,8 @@ use Rattle.line_graph.specs.WalkEnds.{AreInDifferentPieces, are_connected_spots,
 use Rattle.line_graph.proofs.ConnectedSpotLemmas.{spots_are_joined}
 use Rattle.line_graph.proofs.LabelLemmas.{joined_back, joined_on}
 use Rattle.line_graph.proofs.LinkLemmas.{from_ends}
-use Rattle.line_graph.proofs.PieceLemmas.{same_is}
-use Rattle.line_graph.proofs.PieceLimits.{same}
+use Rattle.design_model.proofs.CallerLemmas.{same_is}
+use Rattle.lists_and_numbers.proofs.CallerLemmas.{same_number, same_test}
 
 -- a test that one of them passes is passed below their count
 found_within : {X : Type 0} (test : X → Bool) (xs : List X) → list_any test xs ≡ true → position_or_len test xs < length xs
@@ -70,7 +70,7 @@ junction_end d s found =
     let end = from_ends line.points (is_same_point s.at) both.1 in
     record {
       there = there;
-      block = ap optional_line_block is ∙ same line.block s.block both.0;
+      block = ap optional_line_block is ∙ same_number line.block s.block both.0;
       at_end = subst (λ (ps : List Point). (first_point ps ≡ Some s.at) ⊎ (last_point ps ≡ Some s.at)) (sym (ap optional_line_points is))
           (subst (λ (p : Point). (first_point line.points ≡ Some p) ⊎ (last_point line.points ≡ Some p))
           (sym (same_is s.at end.point end.holds)) end.at_end);
@@ -91,12 +91,6 @@ labels_join d labels are i j one two is =
     joined_on d i (get_or labels i 0) j (joined_back d (get_or labels i 0) i to_i)
     (subst (λ (k : ℕ). AreConnected d k j) (sym is) to_j)
 
--- tests that lead to each other are the same
-alike : (p q : Bool) → (p ≡ true → q ≡ true) → (q ≡ true → p ≡ true) → p ≡ q
-alike true q to from = sym (to refl)
-alike false true to from = from refl
-alike false false to from = refl
-
 -- junctions have one label where lines connect them
 label_tells : (d : DrawingValue) (labels : List ℕ) → ArePieceLabels d labels → (a b : Spot) → is_junction d.lines a ≡ true
     → is_junction d.lines b ≡ true → (label_at d.lines labels a == label_at d.lines labels b) ≡ are_connected_spots d.lines a b
@@ -106,8 +100,8 @@ label_tells d labels are a b one two =
     let i : ℕ = position_or_len (has_end_at_spot a) d.lines in
     let j : ℕ = position_or_len (has_end_at_spot b) d.lines in
     let spots = spots_are_joined d a b i j end_a end_b in
-    alike (get_or labels i 0 == get_or labels j 0) (are_connected_spots d.lines a b)
-    (λ is. spots.found (labels_join d labels are i j end_a.there end_b.there (same (get_or labels i 0) (get_or labels j 0) is)))
+    same_test (get_or labels i 0 == get_or labels j 0) (are_connected_spots d.lines a b)
+    (λ is. spots.found (labels_join d labels are i j end_a.there end_b.there (same_number (get_or labels i 0) (get_or labels j 0) is)))
     (λ found. let chain = spots.led found in found_same (get_or labels i 0) (get_or labels j 0)
     (chain_agrees d labels are i j chain.0 chain.1))
   where
@@ -176,7 +170,7 @@ one_chosen lines labels old new spot here apart below spots taken chosen = recor
         → get_or (set old.taken.items (label_at lines labels spot) true) label false
         ≡ list_any (λ (s : Spot). label_at lines labels s == label) (old.spots.items ++ spot ∷ [])
     at_label label true is =
-        let one : label ≡ label_at lines labels spot = same label (label_at lines labels spot) is in
+        let one : label ≡ label_at lines labels spot = same_number label (label_at lines labels spot) is in
         ap (λ (k : ℕ). get_or (set old.taken.items (label_at lines labels spot) true) k false) one
         ∙ (get_or-set_same old.taken.items (label_at lines labels spot) true false below
         ∙ (or_true (list_any (λ (s : Spot). label_at lines labels s == label) old.spots.items)

@@ -12,7 +12,9 @@ use Rattle.line_graph.specs.FirstLines.{IsLineEnd}
 use Rattle.line_graph.specs.Pieces.{AreConnected, IsPathOfLines, endpoints}
 use Rattle.line_graph.specs.WalkEnds.{SpotsAreConnected, are_connected_spots, end_spots, representative, merged_representative}
 use Rattle.line_graph.proofs.LabelLemmas.{joined_back, joined_on}
-use Rattle.line_graph.proofs.LinkLemmas.{below_get, same_spot, share_of, spot_found, touch_joins, touch_of}
+use Rattle.line_graph.proofs.LinkLemmas.{below_get, share_of, touch_joins, touch_of}
+use Rattle.line_sections.proofs.CallerLemmas.{same_spot, spot_found}
+use Rattle.lists_and_numbers.proofs.CallerLemmas.{some_same}
 
 -- lines at the two spots are connected
 record Linked (d : DrawingValue) (a b : Spot) : Type 0 where
@@ -123,10 +125,6 @@ stands_kept (p ∷ q ∷ rest) stands a b is = ap (λ (s : Spot). cond (is_same_
 -- the spot is at an end of the line
 abbrev AtEnd : LineValue → Spot → Type 0
 AtEnd line s = (line.block ≡ s.block) × ((first_point line.points ≡ Some s.at) ⊎ (last_point line.points ≡ Some s.at))
-
--- what is there is one thing
-some_same : (a b : Point) → Some a ≡ Some b → a ≡ b
-some_same a b is = cc
 
 -- both ends of a line have the same representative
 at_one : (line : LineValue) (stands : Spot → Spot) (a b : Spot) → AtEnd line a → AtEnd line b

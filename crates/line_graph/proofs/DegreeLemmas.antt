@@ -8,7 +8,7 @@ use Rattle.line_graph.specs.declared.edge.Edge.{Edge}
 use Rattle.line_graph.specs.ValidPieces.{ends_below}
 use Rattle.line_graph.specs.PieceGraphs.{one_if, degree, degrees_from}
 use Rattle.line_graph.proofs.LabelLemmas.{not_same}
-use Rattle.line_graph.proofs.PieceLimits.{same}
+use Rattle.lists_and_numbers.proofs.CallerLemmas.{same_number}
 
 -- an edge for a place where there is none
 abbrev pub no_edge : Edge
@@ -26,9 +26,9 @@ degrees_table es at (suc n) = ap (λ (ds : List ℕ). degree es at ∷ ds) (degr
 
 -- the same function has the same values
 table_same : (f g : ℕ → ℕ) → ((j : ℕ) → f j ≡ g j) → (at n : ℕ) → table f at n ≡ table g at n
-table_same f g same at zero = refl
-table_same f g same at (suc n) = ap (λ (k : ℕ). k ∷ table f (at + 1) n) (same at)
-    ∙ ap (λ (ks : List ℕ). g at ∷ ks) (table_same f g same (at + 1) n)
+table_same f g same_number at zero = refl
+table_same f g same_number at (suc n) = ap (λ (k : ℕ). k ∷ table f (at + 1) n) (same_number at)
+    ∙ ap (λ (ks : List ℕ). g at ∷ ks) (table_same f g same_number (at + 1) n)
 
 -- one more at one place
 table_more : (f : ℕ → ℕ) (at n k : ℕ) → k < n
@@ -117,7 +117,7 @@ set_few ds k j count below is = by_test (j == k) refl
     by_test : (t : Bool) → (j == k) ≡ t → get_or (set ds k (count + 1)) j 0 ≤ get_or ds j 0 + 1
     by_test true test =
         let here = get_or-set_same ds k (count + 1) 0 below in
-        let one : j ≡ k = same j k test in
+        let one : j ≡ k = same_number j k test in
         omega (arith, ap (λ (i : ℕ). get_or (set ds k (count + 1)) i 0) one, ap (λ (i : ℕ). get_or ds i 0) one, is, here)
     by_test false test = omega (arith, get_or-set_other ds k j (count + 1) 0 (not_same j k test))
 
@@ -125,11 +125,6 @@ set_few ds k j count below is = by_test (j == k) refl
 pub none_counted : (at n : ℕ) → replicate n 0 ≡ degrees_from [] at n
 none_counted at zero = refl
 none_counted at (suc n) = ap (λ (ds : List ℕ). 0 ∷ ds) (none_counted (at + 1) n)
-
--- as many degrees as junctions
-pub length-degrees_from : (es : List Edge) (at n : ℕ) → length (degrees_from es at n) ≡ n
-length-degrees_from es at zero = refl
-length-degrees_from es at (suc n) = ap (λ (k : ℕ). suc k) (length-degrees_from es (at + 1) n)
 
 -- both ends of each edge are below the number
 pub ends_within : (n : ℕ) (edges : List Edge) → ends_below n edges ≡ true → All (λ (e : Edge). (e.a < n) × (e.b < n)) edges

@@ -19,20 +19,13 @@ use Rattle.line_graph.specs.PieceWalks.{after_edge, are_same_junction, covers, e
 use Rattle.line_graph.specs.ValidPieces.{IsValidPiece}
 use Rattle.line_graph.specs.Walks.{needles_of_pass}
 use Rattle.line_graph.proofs.MakerLemmas.{same_found}
-use Rattle.line_graph.proofs.SewnWalkLemmas.{Passed, found, junction_at, lost, passed}
+use Rattle.line_graph.proofs.SewnWalkLemmas.{Passed, found, junction_at, passed}
 use Rattle.line_graph.proofs.TipLemmas.{found_below}
-
-same_of : (m n : ℕ) → (m == n) ≡ true → m ≡ n
-same_of m n is = grind (arith, nat_tests)
-
-test_of : (m n : ℕ) → m ≡ n → (m == n) ≡ true
-test_of m n is = grind (arith, nat_tests)
+use Rattle.line_graph.proofs.CallerLemmas.{lost}
+use Rattle.lists_and_numbers.proofs.CallerLemmas.{less_test, number_found, same_number}
 
 less_of : (m n : ℕ) → nat_lt m n ≡ true → m < n
 less_of m n is = grind (arith, nat_tests)
-
-less_found : (m n : ℕ) → m < n → nat_lt m n ≡ true
-less_found m n less = grind (arith, nat_tests)
 
 not_less : (m n : ℕ) → m ≡ n → nat_lt m n ≡ false
 not_less m n same = grind (arith, nat_tests)
@@ -44,9 +37,9 @@ got (q ∷ ps) zero p is = (omega arith, cc)
 got (q ∷ ps) (suc i) p is = let rest = got ps i p is in (omega (arith, rest.0), rest.1)
 
 -- junctions at one point have one number
-same_number : (js : List Point) → AllPairs (λ a b. is_same_point a b ≡ false) js → (m n : ℕ) (p : Point) → slice_get js m ≡ Some p
+number_of_point : (js : List Point) → AllPairs (λ a b. is_same_point a b ≡ false) js → (m n : ℕ) (p : Point) → slice_get js m ≡ Some p
     → slice_get js n ≡ Some p → m ≡ n
-same_number js differ m n p at_m at_n = by_order (nat_lt m n) (nat_lt n m) refl refl
+number_of_point js differ m n p at_m at_n = by_order (nat_lt m n) (nat_lt n m) refl refl
   where
     apart : (i j : ℕ) → slice_get js i ≡ Some p → slice_get js j ≡ Some p → i < j → ⊥
     apart i j at_i at_j less =
@@ -73,8 +66,8 @@ edge_found f (n ∷ lines) line among = by_test (line == n) refl among (λ has. 
     by_test : (t : Bool) → (line == n) ≡ t → Contains (n ∷ lines) line
         → (Contains lines line → edge_of lines (map f lines) line ≡ Some (f line))
         → cond t (Some (f n)) (edge_of lines (map f lines) line) ≡ Some (f line)
-    by_test true is has more = ap (λ (k : ℕ). Some (f k)) (sym (same_of line n is))
-    by_test false is (zero, below, at) more = absurd (both_ways (line == n) is (test_of line n (sym at)))
+    by_test true is has more = ap (λ (k : ℕ). Some (f k)) (sym (same_number line n is))
+    by_test false is (zero, below, at) more = absurd (both_ways (line == n) is (number_found line n (sym at)))
     by_test false is (suc k, below, at) more = more (k, omega (arith, below), at)
 
 -- a walk passes the lines of its passes
@@ -85,7 +78,7 @@ passed_among line (pass ∷ rest) is = by_test (pass.line == line) refl is (λ l
     by_test : (t : Bool) → (pass.line == line) ≡ t → (t || is_line_passed line rest) ≡ true
         → (is_line_passed line rest ≡ true → Contains (map (λ (pass : Pass). pass.line) rest) line)
         → Contains (map (λ (pass : Pass). pass.line) (pass ∷ rest)) line
-    by_test true test is later = (0, omega arith, same_of pass.line line test)
+    by_test true test is later = (0, omega arith, same_number pass.line line test)
     by_test false test is later = let more = later is in (suc more.0, omega (arith, more.1), more.2)
 
 among_passed : (line : ℕ) (walk : List Pass) → Contains (map (λ (pass : Pass). pass.line) walk) line → is_line_passed line walk ≡ true
@@ -96,7 +89,7 @@ among_passed line (pass ∷ rest) has = by_test (pass.line == line) refl has (λ
         → (Contains (map (λ (pass : Pass). pass.line) rest) line → is_line_passed line rest ≡ true)
         → (t || is_line_passed line rest) ≡ true
     by_test true test has later = refl
-    by_test false test (zero, below, is) later = absurd (both_ways (pass.line == line) test (test_of pass.line line is))
+    by_test false test (zero, below, is) later = absurd (both_ways (pass.line == line) test (number_found pass.line line is))
     by_test false test (suc k, below, is) later = later (k, omega (arith, below), is)
 
 covered_by : (lines : List ℕ) (walk : List Pass) → covers lines walk ≡ true → All (Contains (map (λ (pass : Pass). pass.line) walk)) lines
@@ -150,7 +143,7 @@ given_numbers d lines (spot ∷ rest) =
     n = position_or_len (is_same_point spot.at) js
 
     low : list_any (is_same_point spot.at) js ≡ true → nat_lt n (length js) ≡ true
-    low is = less_found n (length js) (found_below (is_same_point spot.at) js is)
+    low is = less_test n (length js) (found_below (is_same_point spot.at) js is)
 
     high : list_any (is_same_point spot.at) js ≡ false → nat_lt n (length js) ≡ false
     high is = not_less n (length js) (none_found (is_same_point spot.at) js is)
@@ -233,7 +226,7 @@ module _ (d : DrawingValue) (keeps : KeepsDrawingLimits d) (law : NeedlesLeadAlo
           let next = more (pass_end e pass.back) is in (
             All-cons (λ (pass : Pass). Contains lines pass.line) pass rest (found d js lines pass.line e at).held next.0,
             (
-              first_of pass e p ∙ sym p.from_is ∙ ap (slice_get js) (same_of (pass_start e pass.back) j test),
+              first_of pass e p ∙ sym p.from_is ∙ ap (slice_get js) (same_number (pass_start e pass.back) j test),
               subst (λ (q : Option Point). Leads d q rest (slice_get js to)) (p.to_is ∙ sym (last_of pass e p)) next.1,
             ),
           )
@@ -262,10 +255,10 @@ module _ (d : DrawingValue) (keeps : KeepsDrawingLimits d) (law : NeedlesLeadAlo
       let at = edge_found (edge_between d js) lines pass.line among in
       let p = pass_of pass e at in
       let same : pass_start e pass.back ≡ j =
-      same_number js kept.different (pass_start e pass.back) j p.from p.from_is (sym is.0 ∙ first_of pass e p) in
+      number_of_point js kept.different (pass_start e pass.back) j p.from p.from_is (sym is.0 ∙ first_of pass e p) in
       let next = ends_at rest (pass_end e pass.back) to (All-tail (λ (pass : Pass). Contains lines pass.line) pass rest drawn)
       (subst (λ (q : Option Point). Leads d q rest to) (last_of pass e p ∙ sym p.to_is) is.1) in
-      let test : (pass_start e pass.back == j) ≡ true = test_of (pass_start e pass.back) j same in
+      let test : (pass_start e pass.back == j) ≡ true = number_found (pass_start e pass.back) j same in
       record { number = next.number; goes = rw (at, test) next.goes; at = next.at }
 
   -- a thread from one junction to another
@@ -274,11 +267,11 @@ module _ (d : DrawingValue) (keeps : KeepsDrawingLimits d) (law : NeedlesLeadAlo
       → are_same_junction (walk_end_from lines es (Some a) walk) (Some b) ≡ true
   closes walk a b q from to drawn leads starts is at =
       let e = ends_at walk a to drawn (subst (λ (o : Option Point). Leads d o walk to) starts leads) in
-      rw e.goes (test_of e.number b (same_number js kept.different e.number b q (e.at ∙ is) at))
+      rw e.goes (number_found e.number b (number_of_point js kept.different e.number b q (e.at ∙ is) at))
 
   reached : (x : Option ℕ) (b : ℕ) → are_same_junction x (Some b) ≡ true → x ≡ Some b
   reached None b is = absurd (cc)
-  reached (Some a) b is = ap (λ (n : ℕ). Some n) (same_of a b is)
+  reached (Some a) b is = ap (λ (n : ℕ). Some n) (same_number a b is)
 
   -- a fitting walk runs between the given points
   fit_runs : (walk : List Pass) (start end first : Option ℕ) (s e : Option Point) → IsAt js start s → IsAt js end e

@@ -10,9 +10,9 @@ use Rattle.line_graph.specs.DrawnWalks.{PiecesAreValid}
 use Rattle.line_graph.specs.PieceLabels.{IsPiece}
 use Rattle.line_graph.specs.Pieces.{ArePieces, AreConnected, LinesTouch, first_line}
 use Rattle.line_graph.proofs.LabelLemmas.{joined_back, joined_on}
-use Rattle.line_graph.proofs.PieceLabelLemmas.{concat_has}
 use Rattle.line_graph.proofs.UniquePieceLemmas.{alike, among}
 use Rattle.line_graph.proofs.ValidPieceLemmas.{part_kept}
+use Rattle.lists_and_numbers.proofs.CallerLemmas.{concat_has}
 
 -- a line that there is has an index below their number
 index_below : (lines : List LineValue) (i : ℕ) (line : LineValue) → slice_get lines i ≡ Some line → i < length lines

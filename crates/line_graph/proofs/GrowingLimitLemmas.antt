@@ -14,23 +14,19 @@ use Rattle.line_graph.specs.declared.draw_kind.DrawKind.{DrawKind}
 use Rattle.line_graph.specs.declared.draw_kind.DrawKind.TheVariants as kind
 use Rattle.line_graph.specs.Drawings.{DrawingValue, IsLine, KeepsDrawingLimits}
 use Rattle.line_graph.specs.DrawingMakerInvariants.{IsMakerState}
-use Rattle.line_graph.specs.GrowingDrawings.{all_in_needle_range, and_then, is_last_empty, point_count, step_count, steps_with_line, with_new_block, with_new_line}
+use Rattle.line_graph.specs.GrowingDrawings.{all_in_needle_range, is_last_empty, point_count, step_count, steps_with_line, with_new_block, with_new_line}
 use Rattle.line_graph.specs.GrowingLimits.{BlocksKeepGrowing, EmptyDrawingsGrow, FinishedDrawingsAreValid, IsGrowingDrawing, IsValidJoinedDrawing, JoinedDrawingsAreValid, LabelsKeepGrowing, LinesKeepGrowing, StepsKeepGrowing, WalkEndsKeepValid}
 use Rattle.line_graph.specs.WalkEnds.{AreInDifferentPieces, IsValidDrawing, are_connected_spots, is_junction, spot_added}
 use Rattle.line_graph.proofs.KeptSections.{all_kept}
 use Rattle.line_graph.proofs.MakerLemmas.{MayCome, all_in_range, block_put, drawn_all, label_set, line_put, may_come, step_set}
+use Rattle.line_graph.proofs.CallerLemmas.{after_both}
+use Rattle.lists_and_numbers.proofs.CallerLemmas.{some_of}
 
 -- what holds where a test doesn't refuse holds after the test
 unless : {A : Type 0} (P : A → Type 0) (test : Bool) (why : DrawKind) (r : Result A DrawKind) → (test ≡ false → IfOk r P)
     → IfOk (if test then Err why else r) P
 unless P true why r next = tt
 unless P false why r next = next refl
-
--- what holds after the second of two steps
-after_both : {A B : Type 0} (P : A → Type 0) (Q : B → Type 0) (r : Result A DrawKind) (next : A → Result B DrawKind) → IfOk r P
-    → ((a : A) → P a → IfOk (next a) Q) → IfOk (and_then r next) Q
-after_both P Q (Ok a) next has later = later a has
-after_both P Q (Err why) next has later = tt
 
 not_false : (t : Bool) → not t ≡ false → t ≡ true
 not_false true is = refl
@@ -98,9 +94,6 @@ comes d points in_range = by_result (steps_with_line d points) refl
     by_result : (r : Result ℕ DrawKind) → steps_with_line d points ≡ r → IfOk r (MayCome d points)
     by_result (Ok steps) is = may_come d points steps in_range is
     by_result (Err why) is = tt
-
-some_of : (n : ℕ) → (n == 0) ≡ false → 1 ≤ n
-some_of n test = grind (arith, nat_tests, test)
 
 pub line_grows : LinesKeepGrowing
 line_grows d points grows =

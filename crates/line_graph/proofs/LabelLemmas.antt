@@ -1,6 +1,6 @@
 -- What lowering labels keeps.
 use Rattle.std.proofs.Common.{◌≡◌, ◌≢◌, ◌≤◌, ◌<◌, ◌⊎◌, inl, inr, ℕ, suc, ◌+◌, ◌==◌, Bool, true, false, ◌||◌, List, [], ◌∷◌, ◌++◌, length, get_or, set, take, min, All, sum_by, arith, refl, sym, ◌∙◌, ap, subst}
-use Rattle.std.proofs.lemmas.Bool.{both_ways}
+use Rattle.std.proofs.lemmas.Bool.{both_ways, or_parts}
 use Rattle.std.proofs.lemmas.Bool.Decides.{nat_tests}
 use Rattle.std.proofs.lemmas.List.{get_or-set_other, get_or-set_same, length-set, take_more}
 use Rattle.std.proofs.lemmas.List.Elements.{All-append, All-cons, All-head, All-nil}
@@ -10,7 +10,8 @@ use Rattle.line_graph.specs.Drawings.{DrawingValue}
 use Rattle.line_graph.specs.LineLabels.{LabelsAgree, LinkedAreConnected, AreAtMostIndex, AreOwnIndexes, AreConnectedToLabels, AreFinalLabels, AreLabelsOfLinks, LowersOneLabel, LowersLabels}
 use Rattle.line_graph.specs.PieceGraphs.{one_if}
 use Rattle.line_graph.specs.Pieces.{AreConnected}
-use Rattle.line_graph.proofs.PieceLimits.{leads_back, leads_on, same}
+use Rattle.line_graph.proofs.PieceLimits.{leads_back, leads_on}
+use Rattle.lists_and_numbers.proofs.CallerLemmas.{same_number}
 
 -- labels that were lowered along links, so far
 pub record IsLowered (links : List LineLink) (old new : List ℕ) : Type 0 where
@@ -44,7 +45,7 @@ lowered_each P line label old new true is new_one each i below =
 
     by_test : (t : Bool) → (i == line) ≡ t → P i (get_or (set old line label) i 0)
     by_test true test =
-        let one : i ≡ line = same i line test in
+        let one : i ≡ line = same_number i line test in
         subst (λ (k : ℕ). P k (get_or (set old line label) k 0)) (sym one)
         (subst (λ (k : ℕ). P line k) (sym (get_or-set_same old line label 0 (subst (λ (k : ℕ). k < length old) one within))) new_one)
     by_test false test = subst (λ (k : ℕ). P i k) (sym (get_or-set_other old line i label 0 (not_same i line test))) (each i within)
@@ -74,11 +75,6 @@ either_less true false x y z one two = omega (arith, one, two)
 either_less false true x y z one two = omega (arith, one, two)
 either_less false false x y z one two = omega (arith, one, two)
 
--- where one of two would do, neither is
-neither : (a b : Bool) → (a || b) ≡ false → (a ≡ false) × (b ≡ false)
-neither true b none = absurd (cc)
-neither false b none = (refl, none)
-
 -- lowering along links and then along one more
 pub one_more_lowered : (links : List LineLink) (link : LineLink) (old mid new : List ℕ) (a b : Bool) → LowersLabels links old mid a
     → LowersLabels (link ∷ []) mid new b → LowersLabels (links ++ link ∷ []) old new (b || a)
@@ -90,7 +86,7 @@ one_more_lowered links link old mid new a b one two = record {
       (one.reached d (All-before links (link ∷ []) (λ (l : LineLink). AreConnected d l.line l.first) linked) reached);
   less = either_less a b (sum_by (λ (n : ℕ). n) old) (sum_by (λ (n : ℕ). n) mid) (sum_by (λ (n : ℕ). n) new) one.less two.less;
   settled = λ none.
-      let none_of = neither b a none in
+      let none_of = or_parts b a none in
       let first = one.settled none_of.1 in
       let then = two.settled none_of.0 in (
         then.0 ∙ first.0,
@@ -186,9 +182,9 @@ module _ (link : LineLink) (l0 l1 l2 l3 l4 : List ℕ) (b1 b2 b3 b4 : Bool) (lin
 
   four_settled : ((b4 || b3) || (b2 || b1)) ≡ false → (l4 ≡ l0) × LabelsAgree l4 (link ∷ [])
   four_settled none =
-      let all = neither (b4 || b3) (b2 || b1) none in
-      let upper = neither b4 b3 all.0 in
-      let lower = neither b2 b1 all.1 in
+      let all = or_parts (b4 || b3) (b2 || b1) none in
+      let upper = or_parts b4 b3 all.0 in
+      let lower = or_parts b2 b1 all.1 in
       let one = lowered_not line least l0 l1 b1 lower.1 s1 in
       let two = lowered_not first least l1 l2 b2 lower.0 s2 in
       let three = lowered_not link.line least l2 l3 b3 upper.1 s3 in

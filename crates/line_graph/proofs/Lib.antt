@@ -1,3 +1,4 @@
+pub mod CallerLemmas
 mod WalkFacts
 mod Places
 mod RunLemmas

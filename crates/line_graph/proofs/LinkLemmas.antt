@@ -18,26 +18,9 @@ use Rattle.line_graph.specs.FirstLines.{AddsLink, AreLinks, IsLineEnd, IsLinkedA
 use Rattle.line_graph.specs.LineLabels.{LabelsAgree}
 use Rattle.line_graph.specs.Pieces.{AreConnected, LinesTouch, endpoints, shares_point}
 use Rattle.line_graph.proofs.MakerLemmas.{same_found}
-use Rattle.line_graph.proofs.PieceLemmas.{same_is}
-use Rattle.line_graph.proofs.PieceLimits.{same}
-
--- what is there is one thing
-some_same : {A : Type 0} (a b : A) → Some a ≡ Some b → a ≡ b
-some_same a b is = cc
-
--- spots that are found to be equal are equal
-pub same_spot : (a b : Spot) → is_same_spot a b ≡ true → a ≡ b
-same_spot a b found =
-    let make : ℕ → Point → Spot = λ block at. record { block = block; at = at } in
-    let both = and_parts (a.block == b.block) (is_same_point a.at b.at) found in
-    ap₂ make (same a.block b.block both.0) (same_is a.at b.at both.1)
-
--- a spot is found to be equal to itself
-pub spot_found : (a : Spot) → is_same_spot a a ≡ true
-spot_found a = rw (self a.block, same_found a.at a.at refl) refl
-  where
-    self : (n : ℕ) → (n == n) ≡ true
-    self n = grind (arith, nat_tests)
+use Rattle.design_model.proofs.CallerLemmas.{same_is}
+use Rattle.line_sections.proofs.CallerLemmas.{same_spot, spot_found}
+use Rattle.lists_and_numbers.proofs.CallerLemmas.{same_number, some_same}
 
 -- a new one takes the line
 pub takes_new : (spot : Spot) (line : ℕ) (old new : Spot → Option ℕ) → old spot ≡ None
@@ -143,12 +126,12 @@ line_linked d line block p q f0 f1 f2 l0 l1 l2 there block_is first last linking
         → IsLinkedAt f2 l2 line (record { block = block; at = q }) → (t : Bool) → (i == line) ≡ t → IsLinkedAt f2 l2 i spot
     met_by i spot below ends more at_p at_q false test = more.met i spot (earlier i line test below) ends
     met_by i spot below ends more at_p at_q true test =
-        let here : IsLineEnd d line spot = subst (λ (k : ℕ). IsLineEnd d k spot) (same i line test) ends in
+        let here : IsLineEnd d line spot = subst (λ (k : ℕ). IsLineEnd d k spot) (same_number i line test) ends in
         let linked : IsLinkedAt f2 l2 line spot = elim here.at_end [
           | inl is ↦ subst (λ (s : Spot). IsLinkedAt f2 l2 line s) (spot_is spot p here.block (some_same p spot.at (sym first ∙ is))) at_p
           | inr is ↦ subst (λ (s : Spot). IsLinkedAt f2 l2 line s) (spot_is spot q here.block (some_same q spot.at (sym last ∙ is))) at_q
         ] in
-        subst (λ (k : ℕ). IsLinkedAt f2 l2 k spot) (sym (same i line test)) linked
+        subst (λ (k : ℕ). IsLinkedAt f2 l2 k spot) (sym (same_number i line test)) linked
 
 -- an end is found among the ends
 in_ends : (ps : List Point) (x : Point) (test : Point → Bool) → (first_point ps ≡ Some x) ⊎ (last_point ps ≡ Some x) → test x ≡ true
@@ -223,7 +206,7 @@ share_of d i j t =
       };
       two = record {
         there = below_get d.lines j t.other t.other_is;
-        block = ap optional_line_block t.other_is ∙ sym (same t.one.block t.other.block both.0);
+        block = ap optional_line_block t.other_is ∙ sym (same_number t.one.block t.other.block both.0);
         at_end = subst (λ (ps : List Point). (first_point ps ≡ Some x.point)
             ⊎ (last_point ps ≡ Some x.point)) (sym (ap optional_line_points t.other_is))
             (subst (λ (p : Point). (first_point t.other.points ≡ Some p) ⊎ (last_point t.other.points ≡ Some p)) is y.at_end);

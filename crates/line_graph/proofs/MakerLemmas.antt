@@ -1,5 +1,5 @@
 -- Drawings that grow keep their limits.
-use Rattle.std.proofs.Common.{◌≡◌, ◌≢◌, ℕ, ◌+◌, ◌-◌, ◌<◌, ◌≤◌, inl, ◌==◌, Bool, true, false, not, ◌||◌, nat_le, nat_lt, List, [], ◌∷◌, ◌++◌, Result, Ok, Err, length, map, get_or, All, Contains, ap, sym, subst, ◌∙◌, refl, arith, length-append, eq-eqb, if◌then◌else◌}
+use Rattle.std.proofs.Common.{◌≡◌, ◌≢◌, ℕ, ◌+◌, ◌-◌, ◌<◌, ◌≤◌, inl, ◌==◌, Bool, true, false, ◌||◌, nat_le, nat_lt, List, [], ◌∷◌, ◌++◌, Result, Ok, Err, length, map, get_or, All, Contains, ap, sym, subst, ◌∙◌, refl, arith, length-append, eq-eqb, if◌then◌else◌}
 use Rattle.std.proofs.lemmas.Bool.{and_parts, both_ways, or_parts, or_right}
 use Rattle.std.proofs.lemmas.Bool.Decides.{nat_tests, Decides-int_eq}
 use Rattle.std.proofs.lemmas.List.{map-append}
@@ -24,6 +24,7 @@ use Rattle.line_graph.specs.GrowingDrawings.{all_in_needle_range, has_repeated_p
 use Rattle.line_graph.specs.DrawingMakerInvariants.{AreBlocks, IsMakerState}
 use Rattle.line_graph.specs.Needles.{steps_of_line}
 use Rattle.line_graph.specs.WalkEnds.{AreInDifferentPieces, HasNoEnds, IsValidDrawing, HasValidEnds, is_junction}
+use Rattle.line_graph.proofs.CallerLemmas.{last_by}
 
 -- the same points are found to be the same
 pub same_found : (p q : Point) → p ≡ q → is_same_point p q ≡ true
@@ -133,14 +134,6 @@ step_set d step empty points steps made low high none =
       points_are = made.points_are;
       steps_are = made.steps_are ∙ (before ∙ sym after);
     }
-
--- whether the last block is empty
-last_by : (d : DrawingValue) (block : ℕ) (used : Bool) → length d.threads ≡ block + 1 → is_used d block ≡ used
-    → is_last_empty d ≡ not used
-last_by d block used count is =
-    let some : (length d.threads == 0) ≡ false = grind (arith, nat_tests) in
-    let last : length d.threads - 1 ≡ block = omega arith in
-    rw (some, last, is) refl
 
 -- a block that a line is found in has a line
 used_by : (found : Bool) (block : ℕ) (line : LineValue) (lines : List LineValue) → (line.block == block) ≡ found

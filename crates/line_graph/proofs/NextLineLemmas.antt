@@ -7,8 +7,8 @@ use Rattle.line_graph.specs.LineLabels.{AreAtMostIndex}
 use Rattle.line_graph.specs.NextLines.{AreNextFrom, IsFirstLabelled, lines_labelled_from}
 use Rattle.line_graph.specs.PieceLabels.{has_label, lines_labelled}
 use Rattle.line_graph.proofs.LabelLemmas.{not_same}
-use Rattle.line_graph.proofs.PieceLabelLemmas.{filter_skips, labels_take}
-use Rattle.line_graph.proofs.PieceLimits.{same}
+use Rattle.line_graph.proofs.PieceLabelLemmas.{labels_take}
+use Rattle.lists_and_numbers.proofs.CallerLemmas.{filter_skips, same_number}
 
 -- before any line is seen, no label has a first line
 pub none_seen : (labels : List ℕ) → AreNextFrom labels (length labels) (replicate (length labels) (length labels))
@@ -66,7 +66,7 @@ module _ (labels next more : List ℕ) (line : ℕ) (below : line < length label
     where
       by_test : (t : Bool) → (label == j) ≡ t → IsFirstLabelled labels j line (get_or more j 0)
       by_test true test =
-          let here : label ≡ j = same label j test in
+          let here : label ≡ j = same_number label j test in
           subst (λ (k : ℕ). IsFirstLabelled labels k line (get_or more k 0)) here
           (subst (λ (first : ℕ). IsFirstLabelled labels label line first)
           (sym (at_label (λ alike. omega (arith, alike, here, less)))) first_here)
@@ -81,7 +81,7 @@ module _ (labels next more : List ℕ) (line : ℕ) (below : line < length label
     where
       by_test : (t : Bool) → (j == line) ≡ t → IsFirstLabelled labels (get_or labels j 0) (j + 1) (get_or more j 0)
       by_test true test =
-          subst (λ (k : ℕ). IsFirstLabelled labels (get_or labels k 0) (k + 1) (get_or more k 0)) (sym (same j line test))
+          subst (λ (k : ℕ). IsFirstLabelled labels (get_or labels k 0) (k + 1) (get_or more k 0)) (sym (same_number j line test))
           (subst (λ (first : ℕ). IsFirstLabelled labels label (line + 1) first) (sym at_line)
           (before.early label (omega (arith, up_to))))
       by_test false test =

@@ -1,8 +1,7 @@
 -- Lines with one label are the pieces of a drawing.
-use Rattle.std.proofs.Common.{◌≡◌, ◌≢◌, ◌<◌, ◌≤◌, ℕ, zero, suc, ◌+◌, ◌-◌, ◌==◌, Bool, true, false, cond, List, [], ◌∷◌, ◌++◌, length, map, filter, get_or, All, Contains, arith, refl, sym, ◌∙◌, ap, subst}
-use Rattle.std.proofs.lemmas.Bool.Decides.{nat_tests}
+use Rattle.std.proofs.Common.{◌≡◌, ◌≢◌, ◌<◌, ◌≤◌, ℕ, ◌+◌, ◌-◌, ◌==◌, true, List, [], ◌∷◌, ◌++◌, length, map, filter, get_or, All, Contains, arith, refl, sym, ◌∙◌, ap, subst}
 use Rattle.std.proofs.lemmas.List.{append_assoc, append-nil}
-use Rattle.std.proofs.lemmas.List.Elements.{All-append, All-contains, All-filter, All-head, All-map, All-nil, All-push, All-tail, Contains-append_left, Contains-append_right, filter_passes}
+use Rattle.std.proofs.lemmas.List.Elements.{All-contains, All-filter, All-head, All-map, All-push, All-tail, filter_passes}
 use Rattle.std.proofs.lemmas.List.FromFn.{get_or-range_with_len, length-range_with_len}
 use Rattle.std.proofs.lemmas.List.Kept.{IsStrictlyIncreasing-filter}
 use Rattle.std.specs.List.{concat, range_with_len}
@@ -17,39 +16,8 @@ use Rattle.line_graph.specs.PieceGraphs.{PieceValue, piece_graph}
 use Rattle.line_graph.specs.PieceLabels.{ArePieceLabels, IsPiece, has_label, is_own_label, lines_labelled, pieces_by_label}
 use Rattle.line_graph.specs.Pieces.{ArePieces, AreConnected, IsPathOfLines, first_line}
 use Rattle.line_graph.proofs.LinkLemmas.{share_of}
-use Rattle.line_graph.proofs.PieceLimits.{firsts_rise, same}
-
--- the first number of a range, and the others
-next_range : (line count : ℕ) → line < count → range_with_len line (count - line) ≡ line ∷ range_with_len (line + 1) (count - (line + 1))
-next_range line count below =
-    let more : count - line ≡ suc (count - (line + 1)) = omega (arith, below) in
-    ap (range_with_len line) more
-
--- a number that does not pass is left out
-pub filter_skips : (p : ℕ → Bool) (line count : ℕ) → line < count → p line ≡ false
-    → filter p (range_with_len line (count - line)) ≡ filter p (range_with_len (line + 1) (count - (line + 1)))
-filter_skips p line count below test =
-    let rest : List ℕ = filter p (range_with_len (line + 1) (count - (line + 1))) in
-    ap (filter p) (next_range line count below) ∙ ap (λ (t : Bool). cond t (line ∷ rest) rest) test
-
--- and one that does comes first
-pub filter_takes : (p : ℕ → Bool) (line count : ℕ) → line < count → p line ≡ true
-    → filter p (range_with_len line (count - line)) ≡ line ∷ filter p (range_with_len (line + 1) (count - (line + 1)))
-filter_takes p line count below test =
-    let rest : List ℕ = filter p (range_with_len (line + 1) (count - (line + 1))) in
-    ap (filter p) (next_range line count below) ∙ ap (λ (t : Bool). cond t (line ∷ rest) rest) test
-
--- a number that passes is kept
-filter_has : (p : ℕ → Bool) (xs : List ℕ) (x : ℕ) → Contains xs x → p x ≡ true → Contains (filter p xs) x
-filter_has p [] x (k, below, is) passes = absurd (omega (arith, below))
-filter_has p (y ∷ xs) x (zero, below, is) passes =
-    let here : p y ≡ true = ap p is ∙ passes in
-    subst (λ (t : Bool). Contains (cond t (y ∷ filter p xs) (filter p xs)) x) (sym here) (0, omega arith, is)
-filter_has p (y ∷ xs) x (suc k, below, is) passes = by_test (p y) (filter_has p xs x (k, omega (arith, below), is) passes)
-  where
-    by_test : (t : Bool) → Contains (filter p xs) x → Contains (cond t (y ∷ filter p xs) (filter p xs)) x
-    by_test true rest = (suc rest.0, omega (arith, rest.1), rest.2)
-    by_test false rest = rest
+use Rattle.line_graph.proofs.CallerLemmas.{firsts_rise}
+use Rattle.lists_and_numbers.proofs.CallerLemmas.{all_concat, concat_has, filter_has, filter_skips, filter_takes, map_has, number_found, range_rises, same_number, unequal}
 
 -- numbers of a range are in it
 range_has : (at count n : ℕ) → at ≤ n → n < at + count → Contains (range_with_len at count) n
@@ -60,59 +28,11 @@ range_has at count n from to = (
       ∙ omega (arith, from),
 )
 
--- they rise
-range_rises : (at count : ℕ) → IsStrictlyIncreasing (range_with_len at count)
-range_rises at count k there =
-    let size = length-range_with_len at count in
-    omega (
-      arith,
-      get_or-range_with_len at count k 0 (omega (arith, size, there)),
-      get_or-range_with_len at count (k + 1) 0
-          (omega (arith, size, there)),
-    )
-
 -- and are below its end
 range_below : (at count : ℕ) → All (λ line. line < at + count) (range_with_len at count)
 range_below at count k e there =
     let place = get_or-range_with_len at count k e (omega (arith, length-range_with_len at count, there)) in
     omega (arith, place, length-range_with_len at count, there)
-
--- the items of concatenated lists
-pub concat_has : (xss : List (List ℕ)) (xs : List ℕ) (x : ℕ) → Contains xss xs → Contains xs x → Contains (concat xss) x
-concat_has [] xs x (k, below, is) has = absurd (omega (arith, below))
-concat_has (ys ∷ xss) xs x (zero, below, is) has =
-    Contains-append_left ys (concat xss) x (subst (λ (zs : List ℕ). Contains zs x) (sym is) has)
-concat_has (ys ∷ xss) xs x (suc k, below, is) has =
-    Contains-append_right ys (concat xss) x (concat_has xss xs x (k, omega (arith, below), is) has)
-
--- what holds of all parts holds of their concatenation
-all_concat : (P : ℕ → Type 0) (xss : List (List ℕ)) → All (λ xs. All P xs) xss → All P (concat xss)
-all_concat P [] all = All-nil P
-all_concat P (xs ∷ xss) all =
-    All-append P xs (concat xss) (All-head (λ xs. All P xs) xs xss all) (all_concat P xss (All-tail (λ xs. All P xs) xs xss all))
-
--- and what is made of each is made
-map_has : (f : ℕ → List ℕ) (xs : List ℕ) (x : ℕ) → Contains xs x → Contains (map f xs) (f x)
-map_has f [] x (k, below, is) = absurd (omega (arith, below))
-map_has f (y ∷ xs) x (zero, below, is) = (0, omega arith, ap f is)
-map_has f (y ∷ xs) x (suc k, below, is) = let rest = map_has f xs x (k, omega (arith, below), is) in
-    (suc rest.0, omega (arith, rest.1), rest.2)
-
--- a number is found to be itself
-self : (n : ℕ) → (n == n) ≡ true
-self n = grind (arith, nat_tests)
-
--- or the same as another
-is_found : (m n : ℕ) → m ≡ n → (m == n) ≡ true
-is_found m n is = ap (λ (k : ℕ). k == n) is ∙ self n
-
--- or another
-not_found : (m n : ℕ) → m ≢ n → (m == n) ≡ false
-not_found m n apart = by_test (m == n) refl
-  where
-    by_test : (t : Bool) → (m == n) ≡ t → (m == n) ≡ false
-    by_test true is = absurd (apart (same m n is))
-    by_test false is = is
 
 -- labels of a drawing's lines
 module _ (d : DrawingValue) (labels : List ℕ) (are : ArePieceLabels d labels) where
@@ -131,7 +51,7 @@ module _ (d : DrawingValue) (labels : List ℕ) (are : ArePieceLabels d labels) 
       let low = are.low line below in
       filter_has (has_label labels label) (range_with_len label (length labels - label)) line
       (range_has label (length labels - label) line (omega (arith, low, is)) (omega (arith, below, low, is)))
-      (is_found (get_or labels line 0) label is)
+      (number_found (get_or labels line 0) label is)
 
   labelled_there : (label : ℕ) → label < length labels → All (λ line. line < length labels) (lines_labelled labels label)
   labelled_there label below =
@@ -140,14 +60,14 @@ module _ (d : DrawingValue) (labels : List ℕ) (are : ArePieceLabels d labels) 
 
   labelled_same : (label line : ℕ) → Contains (lines_labelled labels label) line → get_or labels line 0 ≡ label
   labelled_same label line among =
-      same (get_or labels line 0) label (All-contains (λ n. has_label labels label n ≡ true) (lines_labelled labels label) line
+      same_number (get_or labels line 0) label (All-contains (λ n. has_label labels label n ≡ true) (lines_labelled labels label) line
       (filter_passes (has_label labels label) (range_with_len label (length labels - label))) among)
 
   -- the first of the lines with a label is the label
   labelled_begins : (label : ℕ) → label < length labels → get_or labels label 0 ≡ label
       → lines_labelled labels label ≡ label ∷ filter (has_label labels label) (range_with_len (label + 1) (length labels - (label + 1)))
   labelled_begins label below first = filter_takes (has_label labels label) label (length labels) below
-      (is_found (get_or labels label 0) label first)
+      (number_found (get_or labels label 0) label first)
 
   -- the lines with one label are connected, and no other line touches them
   pub labelled_part : (label : ℕ) → label < length labels → get_or labels label 0 ≡ label → IsPiece d (lines_labelled labels label)
@@ -157,7 +77,7 @@ module _ (d : DrawingValue) (labels : List ℕ) (are : ArePieceLabels d labels) 
     rising = IsStrictlyIncreasing-filter (has_label labels label) (range_with_len label (length labels - label))
         (range_rises label (length labels - label));
     joined = λ k. λ x. λ less. joins (get_or (lines_labelled labels label) k x) (labelled_there label below k x less)
-        (same (get_or labels (get_or (lines_labelled labels label) k x) 0) label
+        (same_number (get_or labels (get_or (lines_labelled labels label) k x) 0) label
         (filter_passes (has_label labels label) (range_with_len label (length labels - label)) k x less));
     whole = λ i. λ j. λ among. λ touch.
         among_labelled label j (omega (arith, (share_of d i j touch).two.there, are.sized)) (sym (are.agree i j touch)
@@ -181,7 +101,7 @@ module _ (d : DrawingValue) (labels : List ℕ) (are : ArePieceLabels d labels) 
 
   firsts_first : All (λ line. get_or labels line 0 ≡ line) firsts
   firsts_first = λ k. λ x. λ less.
-      same (get_or labels (get_or firsts k x) 0) (get_or firsts k x)
+      same_number (get_or labels (get_or firsts k x) 0) (get_or firsts k x)
       (filter_passes (is_own_label labels) (range_with_len 0 (length labels)) k x less)
 
   firsts_are : (lines : List ℕ) → All (λ line. line < length labels) lines → All (λ line. get_or labels line 0 ≡ line) lines
@@ -234,7 +154,7 @@ module _ (d : DrawingValue) (labels : List ℕ) (are : ArePieceLabels d labels) 
           let first : get_or labels label 0 ≡ label = label_first line below in
           concat_has (pieces_by_label labels) (lines_labelled labels label) line
           (map_has (lines_labelled labels) firsts label (filter_has (is_own_label labels) (range_with_len 0 (length labels)) label
-          (range_has 0 (length labels) label (omega arith) (omega (arith, within))) (is_found (get_or labels label 0) label first)))
+          (range_has 0 (length labels) label (omega arith) (omega (arith, within))) (number_found (get_or labels label 0) label first)))
           (among_labelled label line below refl)
 
       differ : (i j : ℕ) (x : List ℕ) → i < j → j < length (pieces_by_label labels)
@@ -256,7 +176,7 @@ labels_take labels label line lines more whole below is test so_far =
     let rest : List ℕ = filter (has_label labels label) (range_with_len (line + 1) (length labels - (line + 1))) in
     ap (λ (ls : List ℕ). ls ++ rest) is ∙ append_assoc lines (line ∷ []) rest
     ∙ ap (λ (ls : List ℕ). lines ++ ls) (sym (filter_takes (has_label labels label) line (length labels) below
-    (is_found (get_or labels line 0) label test))) ∙ so_far
+    (number_found (get_or labels line 0) label test))) ∙ so_far
 
 -- the lines of one piece more
 pub lines_more : (pieces : List Piece) (p : Piece) → lines_of_pieces (pieces ++ p ∷ []) ≡ lines_of_pieces pieces ++ p.lines ∷ []
@@ -283,7 +203,7 @@ one_cut d labels line pieces more p below test is more_is cut =
           ∙ append_assoc (lines_of_pieces pieces) (p.lines ∷ []) (map (lines_labelled labels) rest)
           ∙ ap (λ (l : List ℕ). lines_of_pieces pieces ++ l ∷ map (lines_labelled labels) rest) lines
           ∙ ap (λ (ls : List ℕ). lines_of_pieces pieces ++ map (lines_labelled labels) ls)
-          (sym (filter_takes (is_own_label labels) line (length labels) below (is_found (get_or labels line 0) line test))) ∙ cut.parts;
+          (sym (filter_takes (is_own_label labels) line (length labels) below (number_found (get_or labels line 0) line test))) ∙ cut.parts;
       each = subst (λ (ps : List Piece). All (λ (p : Piece). graph_of p ≡ piece_graph d p.lines) ps) (sym more_is)
           (All-push (λ (p : Piece). graph_of p ≡ piece_graph d p.lines) pieces p cut.each (is ∙ ap (piece_graph d) (sym lines)));
     }
@@ -293,7 +213,7 @@ pub none_cut : (d : DrawingValue) (labels : List ℕ) (line : ℕ) (pieces : Lis
     → AreCut d labels line pieces → AreCut d labels (line + 1) pieces
 none_cut d labels line pieces below test cut = record {
   parts = ap (λ (ls : List ℕ). lines_of_pieces pieces ++ map (lines_labelled labels) ls)
-      (sym (filter_skips (is_own_label labels) line (length labels) below (not_found (get_or labels line 0) line test))) ∙ cut.parts;
+      (sym (filter_skips (is_own_label labels) line (length labels) below (unequal (get_or labels line 0) line test))) ∙ cut.parts;
   each = cut.each;
 }
 

@@ -1,15 +1,14 @@
 -- Lines that touch, turned.
 use Rattle.std.proofs.Common.{◌≡◌, ◌==◌, Bool, true, ◌||◌, List, [], ◌∷◌, inl, inr, sym, refl, arith}
 use Rattle.std.proofs.lemmas.Bool.{and_parts, or_cases, or_left, or_right}
-use Rattle.std.proofs.lemmas.Bool.Decides.{nat_tests, Decides-int_eq}
+use Rattle.std.proofs.lemmas.Bool.Decides.{nat_tests}
 use Rattle.std.specs.List.{list_any}
-use Rattle.std.specs.Ordering.{int_eq}
 use Rattle.design_model.specs.declared.point.Point.{Point}
 use Rattle.design_model.specs.Points.{is_same_point}
 use Rattle.line_sections.specs.Lines.{LineValue}
 use Rattle.line_graph.proofs.MakerLemmas.{same_found}
-use Rattle.line_graph.proofs.PointLemmas.{same_point}
 use Rattle.line_graph.specs.Pieces.{endpoints, shares_point, touches}
+use Rattle.design_model.proofs.CallerLemmas.{same_is}
 
 -- a test that passes where another does
 any_more : {X : Type 0} (f g : X → Bool) → ((x : X) → f x ≡ true → g x ≡ true) → (xs : List X)
@@ -19,12 +18,6 @@ any_more f g more (x ∷ xs) some = elim (or_cases (f x) (list_any f xs) some) [
   | inl here ↦ or_left (g x) (list_any g xs) (more x here)
   | inr later ↦ or_right (g x) (list_any g xs) (any_more f g more xs later)
 ]
-
--- points that are found to be the same are the same
-pub same_is : (p q : Point) → is_same_point p q ≡ true → p ≡ q
-same_is p q found =
-    let both = and_parts (int_eq p.x q.x) (int_eq p.y q.y) found in
-    same_point p q ((Decides-int_eq p.x q.x).0 both.0) ((Decides-int_eq p.y q.y).0 both.1)
 
 same_turned : (p q : Point) → is_same_point p q ≡ true → is_same_point q p ≡ true
 same_turned p q found = same_found q p (sym (same_is p q found))

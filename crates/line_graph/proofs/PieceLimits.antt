@@ -21,6 +21,8 @@ use Rattle.line_graph.specs.SewnWalks.{GoesAlong, PiecesKeepLimits}
 use Rattle.line_graph.specs.Walks.{cost_of_line}
 use Rattle.line_graph.proofs.NeedleLemmas.{cost_is}
 use Rattle.line_graph.proofs.PieceLemmas.{touch_turned}
+use Rattle.line_graph.proofs.CallerLemmas.{firsts_rise}
+use Rattle.lists_and_numbers.proofs.CallerLemmas.{same_number, sum_over}
 
 -- how often a number is in a list
 abbrev pub often : ℕ → List ℕ → ℕ
@@ -31,9 +33,6 @@ often_append : (n : ℕ) (xs ys : List ℕ) → often n (xs ++ ys) ≡ often n x
 often_append n [] ys = omega arith
 often_append n (x ∷ xs) ys = omega (arith, often_append n xs ys)
 
-pub same : (m n : ℕ) → (m == n) ≡ true → m ≡ n
-same m n is = grind (arith, nat_tests)
-
 -- a number that is in a list has an index in it
 there : (n : ℕ) (xs : List ℕ) → 1 ≤ often n xs → Contains xs n
 there n [] some = absurd (omega arith)
@@ -43,7 +42,7 @@ there n (x ∷ xs) some = by_test (x == n) refl (λ h. there n xs h) some
     strip k some = omega arith
 
     by_test : (t : Bool) → (x == n) ≡ t → (1 ≤ often n xs → Contains xs n) → 1 ≤ cond (x == n) 1 0 + often n xs → Contains (x ∷ xs) n
-    by_test true is rest some = (0, omega arith, same x n is)
+    by_test true is rest some = (0, omega arith, same_number x n is)
     by_test false is rest some =
         let r = rest (strip (often n xs) (subst (λ (t : Bool). 1 ≤ cond t 1 0 + often n xs) is some)) in
         (suc r.0, omega (arith, r.1), r.2)
@@ -65,17 +64,8 @@ once n (x ∷ xs) pairs = by_test (x == n) refl (once n xs (λ i. λ j. λ d. λ
 
     by_test : (t : Bool) → (x == n) ≡ t → often n xs ≤ 1 → cond (x == n) 1 0 + often n xs ≤ 1
     by_test true is rest =
-        rw (is, none_later xs (λ j. λ below. pairs 0 (suc j) 0 (omega arith) (omega (arith, below))) (same x n is)) (omega arith)
+        rw (is, none_later xs (λ j. λ below. pairs 0 (suc j) 0 (omega arith) (omega (arith, below))) (same_number x n is)) (omega arith)
     by_test false is rest = rw is (omega (arith, rest))
-
--- the sum of a quantity over numbers from one on
-abbrev pub sum_over : (ℕ → ℕ) → ℕ → ℕ → ℕ
-sum_over f at zero = 0
-sum_over f at (suc n) = f at + sum_over f (at + 1) n
-
-over_zero : (at n : ℕ) → sum_over (λ y. 0) at n ≡ 0
-over_zero at zero = refl
-over_zero at (suc n) = omega (arith, over_zero (at + 1) n)
 
 over_one : (f : ℕ → ℕ) (x at n : ℕ) → at ≤ x → x < at + n → f x ≤ sum_over (λ y. cond (x == y) 1 0 * f y) at n
 over_one f x at zero from to = absurd (omega arith)
@@ -86,7 +76,7 @@ over_one f x at (suc n) from to = by_test (x == at) refl (λ (h : at + 1 ≤ x).
 
     by_test : (t : Bool) → (x == at) ≡ t → (at + 1 ≤ x → f x ≤ sum_over (λ y. cond (x == y) 1 0 * f y) (at + 1) n)
         → f x ≤ cond (x == at) 1 0 * f at + sum_over (λ y. cond (x == y) 1 0 * f y) (at + 1) n
-    by_test true is rest = rw is (omega (arith, ap f (same x at is)))
+    by_test true is rest = rw is (omega (arith, ap f (same_number x at is)))
     by_test false is rest = rw is (omega (arith, rest (next x at is from)))
 
 over_both : (f g h : ℕ → ℕ) → ((y : ℕ) → h y ≡ f y + g y) → (at n : ℕ) → sum_over h at n ≡ sum_over f at n + sum_over g at n
@@ -144,7 +134,7 @@ one_block d i j (k ∷ chain) is = step is.0 ∙ one_block d k j chain is.1
   where
     step : LinesTouch d i k → block_of d i ≡ block_of d k
     step t =
-        let block = same t.one.block t.other.block (and_parts (t.one.block == t.other.block)
+        let block = same_number t.one.block t.other.block (and_parts (t.one.block == t.other.block)
         (shares_point (endpoints t.one.points) (endpoints t.other.points)) t.touch).0 in
         ap optional_line_block t.one_is ∙ block ∙ sym (ap optional_line_block t.other_is)
 
@@ -341,7 +331,7 @@ few_stops d keeps block within (a ∷ pieces) b (walk ∷ walks) along =
     less_or_same h = omega arith
 
     stop : (w c block n s r : ℕ) → w ≡ c → s ≡ r → block ≤ c → r + c + 1 ≤ n → ((w - block) + s) + block + 1 ≤ n
-    stop w c block n s r is same up rest = omega arith
+    stop w c block n s r is same_number up rest = omega arith
 
     All-behind : (P : ℕ → Type 0) (xs ys : List ℕ) → All P (xs ++ ys) → All P ys
     All-behind P [] ys all = all
@@ -364,21 +354,6 @@ few_stops d keeps block within (a ∷ pieces) b (walk ∷ walks) along =
         at (x ∷ lines) zero below all = All-head (λ (line : LineValue). line.block < length d.threads) x lines all
         at (x ∷ lines) (suc i) below all = at lines i (omega arith)
             (All-tail (λ (line : LineValue). line.block < length d.threads) x lines all)
-
--- first lines that rise
-pub firsts_rise : (pieces : List (List ℕ)) → IsStrictlyIncreasing (map first_line pieces)
-    → AllPairs (λ a b. first_line a < first_line b) pieces
-firsts_rise pieces up = λ i. λ j. λ x. λ less. λ below.
-    let wide = length-map pieces first_line in
-    let pairs = AllPairs-from_increasing (map first_line pieces) up i j 0 less (omega (arith, wide, below)) in
-    subst (λ (k : ℕ). k < first_line (get_or pieces j x)) (sym (at pieces i x (omega (arith, less, below))))
-    (subst (λ (k : ℕ). get_or (map first_line pieces) i 0 < k) (sym (at pieces j x below)) pairs)
-  where
-    at : (pieces : List (List ℕ)) (i : ℕ) (x : List ℕ) → i < length pieces → first_line (get_or pieces i x)
-        ≡ get_or (map first_line pieces) i 0
-    at [] i x below = absurd (omega arith)
-    at (a ∷ pieces) zero x below = refl
-    at (a ∷ pieces) (suc i) x below = at pieces i x (omega arith)
 
 pub pieces_keep_limits : PiecesKeepLimits
 pieces_keep_limits d pieces keeps are =

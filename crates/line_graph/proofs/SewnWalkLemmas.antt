@@ -16,14 +16,15 @@ use Rattle.line_graph.specs.Drawings.{DrawingValue, KeepsDrawingLimits, first_po
 use Rattle.line_graph.specs.ValidPieces.{ends_below}
 use Rattle.line_graph.specs.LineNeedles.{AreNeedlesOf}
 use Rattle.line_graph.specs.PieceGraphs.{edge_between, junctions_of, junction_number, piece_graph}
-use Rattle.line_graph.specs.PieceWalks.{after_edge, are_same_junction, required_start, edge_cost, covers, edge_of, pass_end, required_end, is_walk_start_to_end, edge_value, pass_sum, pass_start, walk_end_from}
+use Rattle.line_graph.specs.PieceWalks.{after_edge, required_start, edge_cost, covers, edge_of, pass_end, required_end, is_walk_start_to_end, edge_value, pass_sum, pass_start, walk_end_from}
 use Rattle.line_graph.specs.Runs.{AreNear}
 use Rattle.line_graph.specs.LineNeedles.{NeedlesLeadAlong}
 use Rattle.line_graph.specs.SewnWalks.{FittingWalksAreSewable, IsSewable}
 use Rattle.line_graph.specs.Walks.{needles_of_line, needles_of_pass, needles_of_walk}
 use Rattle.line_graph.proofs.NeedleLemmas.{close_on}
-use Rattle.line_graph.proofs.PieceLemmas.{same_is}
 use Rattle.line_graph.proofs.TrailLemmas.{Trail, trail_back, trail_of}
+use Rattle.design_model.proofs.CallerLemmas.{same_is}
+use Rattle.line_graph.proofs.CallerLemmas.{goes_from, lost}
 
 -- the position of a point in a list
 abbrev place_of : Point → List Point → ℕ
@@ -101,10 +102,6 @@ ends_at n (m ∷ lines) (x ∷ es) line e below is =
         let same : x ≡ e = cc in
         subst (λ (y : Edge). (y.a < n) × (y.b < n)) same (less x.a n ends.0, less x.b n ends.1)
     by_test false is ends rest = rest is
-
-pub lost : (ns : List ℕ) (es : List Edge) (ps : List Pass) (to : ℕ) → walk_end_from ns es None ps ≡ Some to → ⊥
-lost ns es [] to is = cc
-lost ns es (p ∷ ps) to is = lost ns es ps to is
 
 -- the needle points after the first of each pass
 abbrev later : DrawingValue → List Pass → List Point
@@ -268,11 +265,6 @@ sewn d keeps law lines there js ends (pass ∷ rest) j to at here is =
         → Sewn d lines js at (pass ∷ rest)
     by_edge None found_e is more = absurd (lost lines (map (edge_between d js) lines) rest to is)
     by_edge (Some e) found_e is more = by_start e found_e (pass_start e pass.back == j) refl is more
-
--- where a fitting walk goes from
-goes_from : (x y : Option ℕ) → are_same_junction x y ≡ true → (to : ℕ) × (x ≡ Some to)
-goes_from None y is = absurd (cc)
-goes_from (Some a) y is = (a, refl)
 
 -- a walk with a pass that leads somewhere
 record Leading (d : DrawingValue) (lines : List ℕ) (js : List Point) (walk : List Pass) : Type 0 where

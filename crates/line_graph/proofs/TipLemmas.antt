@@ -16,7 +16,7 @@ use Rattle.line_graph.specs.Pieces.{endpoints}
 use Rattle.line_graph.proofs.JunctionLemmas.{put_found, put_keeps, seen_keeps, seen_on}
 use Rattle.line_graph.proofs.MakerLemmas.{same_found}
 use Rattle.line_graph.proofs.NeedleLemmas.{line_there}
-use Rattle.line_graph.proofs.PieceLemmas.{same_is}
+use Rattle.design_model.proofs.CallerLemmas.{same_is}
 
 -- a point is the first of a list, or the last
 abbrev pub IsTip : List Point → Point → Type 0

@@ -8,6 +8,7 @@ use Rattle.design_model.specs.Points.{is_point_within, move_between}
 use Rattle.step_splitter.specs.Chains.{IsNeedlePoint, AreCloseAfter, last_point_or}
 use Rattle.line_graph.specs.Drawings.{first_point, last_point}
 use Rattle.line_graph.specs.LineNeedles.{AreClose}
+use Rattle.lists_and_numbers.proofs.CallerLemmas.{some_same}
 
 -- points from one to another
 pub record Trail (step : ℕ) (from to : Point) (points : List Point) : Type 0 where
@@ -16,9 +17,6 @@ pub record Trail (step : ℕ) (from to : Point) (points : List Point) : Type 0 w
   pub last : last_point_or from rest ≡ to
   pub close : AreCloseAfter step from rest
   pub in_range : All IsNeedlePoint (from ∷ rest)
-
-some_same : (p q : Point) → Some p ≡ Some q → p ≡ q
-some_same p q is = cc
 
 pub trail_of : (step : ℕ) (from to : Point) (points : List Point) → first_point points ≡ Some from → last_point points ≡ Some to
     → AreClose step points → All IsNeedlePoint points → Trail step from to points

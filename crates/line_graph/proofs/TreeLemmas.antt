@@ -4,7 +4,7 @@ use Rattle.std.proofs.lemmas.Bool.Decides.{nat_tests}
 use Rattle.line_graph.specs.declared.edge.Edge.{Edge}
 use Rattle.line_graph.specs.ValidPieces.{IsConnectedGraph}
 use Rattle.line_graph.specs.PieceGraphs.{one_if}
-use Rattle.line_graph.proofs.PieceLimits.{same}
+use Rattle.lists_and_numbers.proofs.CallerLemmas.{eq_self, same_number}
 
 -- who leads what that number led, once another follows a first
 abbrev led : (first other n : ℕ) → ℕ
@@ -25,10 +25,6 @@ abbrev marks : ℕ → ℕ → ℕ
 marks c zero = 0
 marks c (suc n) = one_if (n == c) + marks c n
 
--- a number is found to be itself
-self : (n : ℕ) → (n == n) ≡ true
-self n = grind (arith, nat_tests)
-
 -- one at most
 bit_few : (b : Bool) → one_if b ≤ 1
 bit_few true = omega arith
@@ -48,7 +44,7 @@ marks_few c zero = omega arith
 marks_few c (suc n) = by_test (n == c) refl (marks_few c n)
   where
     by_test : (t : Bool) → (n == c) ≡ t → marks c n ≤ 1 → one_if (n == c) + marks c n ≤ 1
-    by_test true is rest = omega (arith, marks_none c n (omega (arith, same n c is)), bit_few (n == c))
+    by_test true is rest = omega (arith, marks_none c n (omega (arith, same_number n c is)), bit_few (n == c))
     by_test false is rest = omega (arith, ap one_if is, rest)
 
 -- both ends of an edge have one leader
@@ -64,7 +60,7 @@ leader_keeps (x ∷ es) zero e is =
     alike a b false = refl
 
     both : (a b : ℕ) → led a b a ≡ led a b b
-    both a b = alike a b (a == b) ∙ sym (ap (λ (t : Bool). cond t a b) (self b))
+    both a b = alike a b (a == b) ∙ sym (ap (λ (t : Bool). cond t a b) (eq_self b))
 leader_keeps (x ∷ es) (suc i) e is = ap (led (leader es x.a) (leader es x.b)) (leader_keeps es i e is)
 
 -- an edge takes no more than one leader away
@@ -86,7 +82,7 @@ leader_falls f first other (suc n) =
 -- without edges each junction leads itself
 all_lead : (n : ℕ) → leaders (λ j. j) n ≡ n
 all_lead zero = refl
-all_lead (suc n) = omega (arith, ap one_if (self n), all_lead n)
+all_lead (suc n) = omega (arith, ap one_if (eq_self n), all_lead n)
 
 -- with n edges there remain at least this many representatives
 leaders_left : (es : List Edge) (n : ℕ) → n ≤ leaders (leader es) n + length es
@@ -118,4 +114,4 @@ junctions_few es (suc n) joined =
     follows j below =
         let alike = joined (λ k. leader es k == leader es 0) (λ i. λ e. λ is. ap (λ (k : ℕ). k == leader es 0) (leader_keeps es i e is))
         j 0 below (omega arith) in
-        same (leader es j) (leader es 0) (alike ∙ self (leader es 0))
+        same_number (leader es j) (leader es 0) (alike ∙ eq_self (leader es 0))

@@ -8,16 +8,12 @@ use Rattle.line_graph.specs.Drawings.{DrawingValue}
 use Rattle.line_graph.specs.UniquePieces.{PiecesAreUnique}
 use Rattle.line_graph.specs.Pieces.{ArePieces, AreConnected, first_line}
 use Rattle.line_graph.proofs.LabelLemmas.{joined_back, joined_on}
-use Rattle.line_graph.proofs.PieceLabelLemmas.{concat_has}
-use Rattle.line_graph.proofs.PieceLimits.{firsts_rise}
+use Rattle.line_graph.proofs.CallerLemmas.{firsts_rise}
+use Rattle.lists_and_numbers.proofs.CallerLemmas.{concat_has, pairs_tail}
 
 -- what holds of all pairs holds of the first and each later one
 pairs_head : {X : Type 0} (P : X → X → Type 0) (x : X) (xs : List X) (y : X) → AllPairs P (x ∷ xs) → Contains xs y → P x y
 pairs_head P x xs y pairs (k, below, is) = subst (λ z. P x z) is (pairs 0 (suc k) y (omega arith) (omega (arith, below)))
-
--- and of all pairs of the others
-pairs_tail : {X : Type 0} (P : X → X → Type 0) (x : X) (xs : List X) → AllPairs P (x ∷ xs) → AllPairs P xs
-pairs_tail P x xs pairs = λ i. λ j. λ d. λ less. λ below. pairs (suc i) (suc j) d (omega (arith, less)) (omega (arith, below))
 
 -- items of which neither order is a pair are one
 pub alike : {X : Type 0} (P : X → X → Type 0) (xs : List X) (x y : X) → AllPairs P xs → (P x y → ⊥) → (P y x → ⊥)

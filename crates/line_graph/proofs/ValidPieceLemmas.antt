@@ -25,10 +25,7 @@ use Rattle.line_graph.proofs.NeedleLemmas.{cost_is, line_there}
 use Rattle.line_graph.proofs.PieceLimits.{cost_of_piece, lines_cost, often, once, over_ones, sum_once}
 use Rattle.line_graph.proofs.TreeLemmas.{junctions_few}
 use Rattle.line_graph.proofs.TipLemmas.{IsTip, edges_within, junction_tips, junctions_differ, number_is}
-
--- a lesser number is found to be less
-less_is : (m n : ℕ) → m < n → nat_lt m n ≡ true
-less_is m n less = grind (arith, nat_tests)
+use Rattle.lists_and_numbers.proofs.CallerLemmas.{less_test}
 
 -- which is found for all of them
 ends_are_below : (n : ℕ) (edges : List Edge) → All (λ (e : Edge). (e.a < n) × (e.b < n)) edges → ends_below n edges ≡ true
@@ -36,8 +33,8 @@ ends_are_below n [] all = refl
 ends_are_below n (e ∷ edges) all =
     let here = All-head (λ (e : Edge). (e.a < n) × (e.b < n)) e edges all in
     rw (
-      less_is e.a n here.0,
-      less_is e.b n here.1,
+      less_test e.a n here.0,
+      less_test e.b n here.1,
       ends_are_below n edges (All-tail (λ (e : Edge). (e.a < n)
           × (e.b < n)) e edges all),
     ) refl
@@ -163,7 +160,7 @@ rising_is (n ∷ lines) pairs =
     all_above : (lines : List ℕ) → All (λ m. n < m) lines → all_greater n lines ≡ true
     all_above [] all = refl
     all_above (m ∷ lines) all = rw (
-      less_is n m (All-head (λ m. n < m) m lines all),
+      less_test n m (All-head (λ m. n < m) m lines all),
       all_above lines
           (All-tail (λ m. n < m) m lines all),
     ) refl
@@ -173,7 +170,7 @@ lines_are_below : (n most : ℕ) (lines : List ℕ) → n ≤ most → All (λ l
 lines_are_below n most [] less all = refl
 lines_are_below n most (m ∷ lines) less all =
     rw (
-      less_is m most (omega (arith, less, All-head (λ line. line < n) m lines all)),
+      less_test m most (omega (arith, less, All-head (λ line. line < n) m lines all)),
       lines_are_below n most lines less (All-tail (λ line. line < n) m lines all),
     ) refl
 

@@ -12,8 +12,8 @@ use Rattle.line_sections.specs.Spots.{is_same_spot}
 use Rattle.line_sections.specs.ListedPoints.{AreMarked, Marks, MarksSpot, AreCutMarks, AreMarksOf, is_cut_by, is_listed_again, mark_of, sections_by, sections_continued, spot_at, spots_of, SetsMark}
 use Rattle.line_sections.specs.Sections.{but_last, has_points, is_shared_point, line_sections, lines_through, sections_from, sections_of}
 use Rattle.line_sections.proofs.WholeLemmas.{counted, listed_counts}
-use Rattle.line_sections.proofs.SpotLemmas.{same_spot, spot_found}
 use Rattle.line_sections.proofs.SectionLemmas.{along}
+use Rattle.line_sections.proofs.CallerLemmas.{same_spot, spot_found}
 
 -- a spot that is found to be another one
 turned : (a b : Spot) (t : Bool) → is_same_spot a b ≡ t → is_same_spot b a ≡ t

@@ -1,3 +1,4 @@
+pub mod CallerLemmas
 mod SectionFacts
 mod SpotLemmas
 mod SectionLemmas

@@ -10,7 +10,8 @@ use Rattle.design_model.specs.Points.{is_same_point}
 use Rattle.line_sections.specs.Lines.{LineValue}
 use Rattle.line_sections.specs.Sections.{all_sections, are_whole_lines, inner_points, is_shared_point, is_whole_line, line_sections, lines_through, listed_in, sections_of}
 use Rattle.line_sections.proofs.SectionLemmas.{IsUncut, line_counts, line_uncut, line_whole}
-use Rattle.line_sections.proofs.SpotLemmas.{same, same_is}
+use Rattle.design_model.proofs.CallerLemmas.{same_is}
+use Rattle.lists_and_numbers.proofs.CallerLemmas.{same_number}
 
 -- a line of a block
 abbrev line_of : ℕ → List Point → LineValue
@@ -119,7 +120,7 @@ module _ (lines : List LineValue) where
           → sum_by (λ (points : List Point). cond t (count points) 0) (sections_of (cuts line.block) line.points)
           ≡ cond t (count line.points) 0
       by_test true is =
-          let here : cuts line.block p ≡ false = ap (λ (b : ℕ). cuts b p) (same line.block block is) ∙ uncut in
+          let here : cuts line.block p ≡ false = ap (λ (b : ℕ). cuts b p) (same_number line.block block is) ∙ uncut in
           line_counts (cuts line.block) (is_same_point p) (apart_from line.block p here) line.points
       by_test false is = nothing (sections_of (cuts line.block) line.points)
 

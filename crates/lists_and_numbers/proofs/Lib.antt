@@ -1,2 +1,3 @@
+pub mod CallerLemmas
 mod WholeFacts
 pub mod WholeLemmas

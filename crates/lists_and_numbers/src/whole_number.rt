@@ -77,7 +77,7 @@ fn are_digits(bytes: &[u8]) -> bool
 }
 
 /// Returns the number that digits write, capped at `MAX_WHOLE` + 1.
-#[tactic(auto, using(crate::proofs::WholeLemmas::capped_more, crate::proofs::WholeLemmas::digit_among))]
+#[tactic(auto, using(crate::proofs::WholeLemmas::capped_more, crate::proofs::CallerLemmas::digit_among))]
 fn capped_value(digits: &[u8]) -> u32
     requires { all_ascii_digits digits.now ≡ true }
     ensures { result ≡ min (digits_value 10 digits.now) (MAX_WHOLE + 1) }

@@ -5,6 +5,7 @@ use Rattle.line_graph.specs.declared.edge.Edge.{Edge}
 use Rattle.line_graph.specs.declared.pass.Pass.{Pass}
 use Rattle.line_graph.specs.PieceGraphs.{one_if}
 use Rattle.line_graph.specs.PieceWalks.{after_edge, edge_of, pass_end, edge_value, pass_sum, pass_start, walk_end_from}
+use Rattle.line_graph.proofs.CallerLemmas.{lost}
 
 -- 1 where the set has the junction
 abbrev pub inside : (ℕ → Bool) → ℕ → ℕ
@@ -28,10 +29,6 @@ pass_even : (set : ℕ → Bool) (e : Edge) (back : Bool)
     ≡ 0
 pass_even set e false = edge_even (set e.a) (set e.b)
 pass_even set e true = swapped (crossing set e) (inside set e.a) (inside set e.b) (edge_even (set e.a) (set e.b))
-
-lost : (ns : List ℕ) (es : List Edge) (ps : List Pass) (to : ℕ) → walk_end_from ns es None ps ≡ Some to → ⊥
-lost ns es [] to is = cc
-lost ns es (p ∷ ps) to is = lost ns es ps to is
 
 joined : (c s i j t : ℕ) → ((c + i) + j) % 2 ≡ 0 → ((s + j) + t) % 2 ≡ 0 → (((c + s) + i) + t) % 2 ≡ 0
 joined c s i j t first rest = omega arith

@@ -8,7 +8,7 @@ use Rattle.std.specs.Option.{option_or}
 use native.Mathlib.Nat.{mul-le-mul_left, le-mul_of_pos_right}
 use Rattle.line_graph.specs.declared.edge.Edge.{Edge}
 use Rattle.line_graph.specs.declared.pass.Pass.{Pass}
-use Rattle.line_graph.specs.ValidPieces.{IsValidPiece, ends_below, is_below}
+use Rattle.line_graph.specs.ValidPieces.{IsValidPiece, ends_below}
 use Rattle.line_graph.specs.PieceGraphs.{PieceValue, one_if, edges_with_closing, closing_edge}
 use Rattle.line_graph.specs.PieceWalks.{are_same_junction, edge_cost, covers, edge_sum, walk_start, is_fitting_walk, is_walk_start_to_end, pass_sum, piece_cost, walk_cost, walk_end_from}
 use Rattle.odd_cuts.specs.declared.cut.Cut.{Cut}
@@ -18,6 +18,7 @@ use Rattle.odd_cuts.specs.Packings.{IsOddCut, odd_held}
 use Rattle.odd_cuts.proofs.Crossing.{crossing, inside, walk_even}
 use Rattle.odd_cuts.proofs.Degrees.{odd_counted, odd_crossing}
 use Rattle.odd_cuts.proofs.Sums.{exchange, more, once_and_more, weigh}
+use Rattle.line_graph.proofs.CallerLemmas.{ends_of_back, or_below}
 
 -- what the first of the cuts adds
 load_cons : (c : Cut) (cs : List Cut) (e : Edge) → load_on (c ∷ cs) e ≡ cond (crosses c.members e) c.weight 0 + load_on cs e
@@ -149,16 +150,6 @@ sum_append f (x ∷ xs) ys = rw (sum_append f xs ys) (regroup (f x) (edge_sum f 
   where
     regroup : (x u v : ℕ) → x + (u + v) ≡ (x + u) + v
     regroup x u v = omega arith
-
-ends_of_back : (n : ℕ) (from to : Option ℕ) (es : List Edge) → is_below n from ≡ true → is_below n to ≡ true
-    → ends_below n es ≡ true → ends_below n (closing_edge from to ++ es) ≡ true
-ends_of_back n None to es f t within = within
-ends_of_back n (Some a) None es f t within = within
-ends_of_back n (Some a) (Some b) es f t within = rw (f, t, within) refl
-
-or_below : (n : ℕ) (x y : Option ℕ) → is_below n x ≡ true → is_below n y ≡ true → is_below n (option_or x y) ≡ true
-or_below n (Some a) y f t = f
-or_below n None y f t = t
 
 -- both ends of each edge of a piece, and of the line back, are junctions
 pub closed_ends : (p : PieceValue) → IsValidPiece p → ends_below (length p.junctions) (edges_with_closing p) ≡ true

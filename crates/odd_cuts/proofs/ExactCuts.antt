@@ -1,5 +1,5 @@
 -- The check of cuts accepts exactly the packings with the total that is needed.
-use Rattle.std.proofs.Common.{◌≡◌, ◌≤◌, ◌<◌, ℕ, ◌+◌, ◌*◌, ◌%◌, ◌==◌, Bool, true, false, cond, nat_lt, nat_le, List, [], ◌∷◌, length, All, Option, Some, None, Result, Ok, Err, IsOk, arith, refl, sym, ◌∙◌}
+use Rattle.std.proofs.Common.{◌≡◌, ◌≤◌, ◌<◌, ℕ, ◌+◌, ◌*◌, ◌%◌, ◌==◌, Bool, true, false, cond, nat_lt, nat_le, List, [], ◌∷◌, length, All, Some, None, Result, Ok, Err, IsOk, arith, refl, sym, ◌∙◌}
 use Rattle.std.proofs.lemmas.Bool.Decides.{nat_tests}
 use Rattle.std.proofs.lemmas.List.Elements.{All-cons, All-head, All-nil, All-tail}
 use Rattle.line_graph.specs.declared.edge.Edge.{Edge}
@@ -12,15 +12,8 @@ use Rattle.odd_cuts.specs.CutFaults.{cut_fault, cut_faults, cuts_fault, even_fau
 use Rattle.odd_cuts.specs.Cuts.{load_on, total_weight}
 use Rattle.odd_cuts.specs.Faults.{ReportsFault, first_fault}
 use Rattle.odd_cuts.specs.Packings.{IsOddCut, IsPacking, odd_held}
-
--- two faults are none where neither is one
-first_right : {F : Type 0} (first rest : Option F) → first_fault first rest ≡ None → (first ≡ None) × (rest ≡ None)
-first_right (Some found) rest is = absurd (cc)
-first_right None rest is = (refl, is)
-
-test_right : {F : Type 0} (test : Bool) (found : F) → cond test None (Some found) ≡ None → test ≡ true
-test_right true found is = refl
-test_right false found is = absurd (cc)
+use Rattle.lists_and_numbers.proofs.CallerLemmas.{test_none}
+use Rattle.odd_cuts.proofs.CallerLemmas.{both_none}
 
 -- all members are junctions where none is a stranger
 members_right : (count number : ℕ) (members : List ℕ) → stranger_fault count number members ≡ None → All (λ j. j < count) members
@@ -46,11 +39,11 @@ no_stranger count number (j ∷ members) are =
 
 cut_right : (p : PieceValue) (number : ℕ) (cut : Cut) → cut_fault p number cut ≡ None → IsOddCut p cut
 cut_right p number cut is =
-    let parts = first_right (stranger_fault (length p.junctions) number cut.members) (even_fault number (odd_held p cut.members)) is in
+    let parts = both_none (stranger_fault (length p.junctions) number cut.members) (even_fault number (odd_held p cut.members)) is in
     record {
       there = members_right (length p.junctions) number cut.members parts.0;
       odd = one (odd_held p cut.members)
-          (test_right (is_odd (odd_held p cut.members)) (fault.EvenCut number (odd_held p cut.members)) parts.1);
+          (test_none (is_odd (odd_held p cut.members)) (fault.EvenCut number (odd_held p cut.members)) parts.1);
     }
   where
     one : (k : ℕ) → (k % 2 == 1) ≡ true → k % 2 ≡ 1
@@ -68,7 +61,7 @@ no_cut_fault p number cut is =
 cuts_right : (p : PieceValue) (number : ℕ) (cuts : List Cut) → cut_faults p number cuts ≡ None → All (IsOddCut p) cuts
 cuts_right p number [] is = All-nil (IsOddCut p)
 cuts_right p number (cut ∷ rest) is =
-    let parts = first_right (cut_fault p number cut) (cut_faults p (number + 1) rest) is in
+    let parts = both_none (cut_fault p number cut) (cut_faults p (number + 1) rest) is in
     All-cons (IsOddCut p) cut rest (cut_right p number cut parts.0) (cuts_right p (number + 1) rest parts.1)
 
 no_cut_faults : (p : PieceValue) (number : ℕ) (cuts : List Cut) → All (IsOddCut p) cuts → cut_faults p number cuts ≡ None
@@ -89,10 +82,10 @@ loads_right cuts [] [] beside is = All-nil (Fits cuts)
 loads_right cuts [] (e ∷ es) beside is = absurd (omega (arith, beside))
 loads_right cuts (n ∷ ns) [] beside is = absurd (omega (arith, beside))
 loads_right cuts (n ∷ ns) (e ∷ es) beside is =
-    let parts = first_right (load_fault n (load_on cuts e) e.cost) (load_faults cuts ns es) is in
+    let parts = both_none (load_fault n (load_on cuts e) e.cost) (load_faults cuts ns es) is in
     All-cons (Fits cuts) e es
     (less (load_on cuts e) (2 * e.cost)
-    (test_right (nat_le (load_on cuts e) (2 * e.cost)) (fault.Overload (n + 1) (load_on cuts e) (2 * e.cost)) parts.0))
+    (test_none (nat_le (load_on cuts e) (2 * e.cost)) (fault.Overload (n + 1) (load_on cuts e) (2 * e.cost)) parts.0))
     (loads_right cuts ns es (omega (arith, beside)) parts.1)
   where
     less : (m n : ℕ) → nat_le m n ≡ true → m ≤ n
@@ -112,12 +105,12 @@ no_load_faults cuts (n ∷ ns) (e ∷ es) fit =
 packing_right : (p : PieceValue) (retraced : ℕ) (cuts : List Cut) → length p.lines ≡ length p.edges
     → cuts_fault p retraced cuts ≡ None → IsPacking p cuts × (total_weight cuts ≡ 2 * retraced)
 packing_right p retraced cuts beside is =
-    let odd = first_right (cut_faults p 1 cuts)
+    let odd = both_none (cut_faults p 1 cuts)
     (first_fault (load_faults cuts p.lines p.edges) (total_fault (total_weight cuts) (2 * retraced))) is in
-    let loads = first_right (load_faults cuts p.lines p.edges) (total_fault (total_weight cuts) (2 * retraced)) odd.1 in (
+    let loads = both_none (load_faults cuts p.lines p.edges) (total_fault (total_weight cuts) (2 * retraced)) odd.1 in (
       record { odd = cuts_right p 1 cuts odd.0; loads = loads_right cuts p.lines p.edges beside loads.0 },
       equal (total_weight cuts) (2 * retraced)
-          (test_right (total_weight cuts == 2 * retraced) (fault.Total (total_weight cuts) (2 * retraced)) loads.1),
+          (test_none (total_weight cuts == 2 * retraced) (fault.Total (total_weight cuts) (2 * retraced)) loads.1),
     )
   where
     equal : (m n : ℕ) → (m == n) ≡ true → m ≡ n

@@ -1,6 +1,5 @@
 -- The check of a walk accepts exactly the fitting ones.
 use Rattle.std.proofs.Common.{◌≡◌, ◌≤◌, ℕ, ◌+◌, ◌==◌, Bool, true, false, cond, ◌&&◌, List, [], ◌∷◌, length, Option, Some, None, Result, Ok, Err, is_ok, arith, refl, sym, ◌∙◌, ap}
-use Rattle.std.proofs.lemmas.Bool.Decides.{nat_tests}
 use Rattle.std.specs.Option.{option_or}
 use Rattle.line_graph.specs.declared.edge.Edge.{Edge}
 use Rattle.line_graph.specs.declared.pass.Pass.{Pass}
@@ -11,6 +10,8 @@ use Rattle.odd_cuts.specs.declared.faults.WalkFault.{WalkFault}
 use Rattle.odd_cuts.specs.declared.faults.WalkFault.TheVariants as fault
 use Rattle.odd_cuts.specs.Faults.{first_fault}
 use Rattle.odd_cuts.specs.WalkFaults.{ChecksWalk, ends_fault, faults_at, faults_from, walk_ends_fault, missing_fault, pass_fault, pass_faults, walk_fault}
+use Rattle.line_graph.proofs.CallerLemmas.{stays_lost}
+use Rattle.lists_and_numbers.proofs.CallerLemmas.{eq_self}
 
 -- no fault is reported
 abbrev is_right : {F : Type 0} → Option F → Bool
@@ -27,22 +28,18 @@ both_right : {F : Type 0} (first rest : Option F) → is_right (first_fault firs
 both_right (Some found) rest = refl
 both_right None rest = refl
 
-lost : (ns : List ℕ) (es : List Edge) (ps : List Pass) → walk_end_from ns es None ps ≡ None
-lost ns es [] = refl
-lost ns es (p ∷ ps) = lost ns es ps
-
 by_start : (ns : List ℕ) (es : List Edge) (number : ℕ) (ps : List Pass) (e : Edge) (back t : Bool) (f : WalkFault)
     → cond t (faults_from ns es (number + 1) (pass_end e back) ps) (Some (fault.Broken number)) ≡ Some f
     → (faults_from ns es (number + 1) (pass_end e back) ps ≡ Some f → walk_end_from ns es (Some (pass_end e back)) ps ≡ None)
     → walk_end_from ns es (cond t (Some (pass_end e back)) None) ps ≡ None
 by_start ns es number ps e back true f is rest = rest is
-by_start ns es number ps e back false f is rest = lost ns es ps
+by_start ns es number ps e back false f is rest = stays_lost ns es ps
 
 by_edge : (ns : List ℕ) (es : List Edge) (number at : ℕ) (ps : List Pass) (found : Option Edge) (back : Bool) (f : WalkFault)
     → pass_fault number at found back (λ k. faults_from ns es (number + 1) k ps) ≡ Some f
     → ((k : ℕ) → faults_from ns es (number + 1) k ps ≡ Some f → walk_end_from ns es (Some k) ps ≡ None)
     → walk_end_from ns es (after_edge found back at) ps ≡ None
-by_edge ns es number at ps None back f is rest = lost ns es ps
+by_edge ns es number at ps None back f is rest = stays_lost ns es ps
 by_edge ns es number at ps (Some e) back f is rest =
     by_start ns es number ps e back (pass_start e back == at) f is (rest (pass_end e back))
 
@@ -55,7 +52,7 @@ faulty ns es number at (p ∷ ps) f is =
 
 nowhere_from : (ns : List ℕ) (es : List Edge) (walk : List Pass) (start : Option ℕ) (f : WalkFault)
     → faults_at ns es walk start ≡ Some f → walk_end_from ns es start walk ≡ None
-nowhere_from ns es walk None f is = lost ns es walk
+nowhere_from ns es walk None f is = stays_lost ns es walk
 nowhere_from ns es walk (Some at) f is = faulty ns es 1 at walk f is
 
 nowhere : (ns : List ℕ) (es : List Edge) (walk : List Pass) (f : WalkFault)
@@ -76,23 +73,17 @@ wrong_end : (p : PieceValue) (walk : List Pass) (f : WalkFault) → pass_faults 
     → is_right (walk_ends_fault p walk) ≡ false
 wrong_end p walk f is = rw (nowhere p.lines p.edges walk f is) (no_end (given_start p) (given_end p) (walk_start p.lines p.edges walk))
 
-same : (m n : ℕ) → (m == n) ≡ true → m ≡ n
-same m n is = grind (arith, nat_tests)
-
-itself : (n : ℕ) → (n == n) ≡ true
-itself n = grind (arith, nat_tests)
-
 -- a pass leads from its start to its end
 from_start : (ns : List ℕ) (es : List Edge) (p : Pass) (ps : List Pass) (e : Edge) → edge_of ns es p.line ≡ Some e
     → walk_end_from ns es (Some (pass_start e p.back)) (p ∷ ps) ≡ walk_end_from ns es (Some (pass_end e p.back)) ps
-from_start ns es p ps e is = rw (is, itself (pass_start e p.back)) refl
+from_start ns es p ps e is = rw (is, eq_self (pass_start e p.back)) refl
 
 -- a walk that is to lead from one junction to another does, where its ends have no fault
 from_there : (ns : List ℕ) (es : List Edge) (at to : ℕ) (p : Pass) (ps : List Pass) (found : Option Edge) → edge_of ns es p.line ≡ found
     → are_same_junction (walk_end_from ns es (Some at) (p ∷ ps)) (Some to)
     ≡ is_right (ends_fault (Some at) (Some to) (pass_start_on (edge_of ns es p.line) p.back)
     (walk_end_from ns es (pass_start_on (edge_of ns es p.line) p.back) (p ∷ ps)))
-from_there ns es at to p ps None is = rw (is, lost ns es ps) refl
+from_there ns es at to p ps None is = rw (is, stays_lost ns es ps) refl
 from_there ns es at to p ps (Some e) is = rw (is, from_start ns es p ps e is) (by_test (pass_start e p.back == at))
   where
     ended : Option ℕ → Bool
@@ -101,7 +92,7 @@ from_there ns es at to p ps (Some e) is = rw (is, from_start ns es p ps e is) (b
     by_test : (t : Bool) → ended (cond t (Some (pass_end e p.back)) None)
         ≡ is_right (cond t (cond (ended (Some (pass_end e p.back))) None (Some fault.WrongEnd)) (Some fault.WrongStart))
     by_test true = sym (told (ended (Some (pass_end e p.back))) fault.WrongEnd)
-    by_test false = rw (lost ns es ps) refl
+    by_test false = rw (stays_lost ns es ps) refl
 
 led : (ns : List ℕ) (es : List Edge) (start end : Option ℕ) (p : Pass) (ps : List Pass)
     → are_same_junction (walk_end_from ns es (option_or (option_or start end) (walk_start ns es (p ∷ ps))) (p ∷ ps))

@@ -1,3 +1,4 @@
+pub mod CallerLemmas
 mod Sums
 mod Crossing
 mod Degrees

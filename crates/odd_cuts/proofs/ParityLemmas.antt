@@ -7,18 +7,11 @@ use Rattle.odd_cuts.specs.CutFaults.{cut_fault, stranger_fault}
 use Rattle.odd_cuts.specs.Cuts.{has_member}
 use Rattle.odd_cuts.specs.Packings.{odd_held}
 use Rattle.odd_cuts.proofs.Degrees.{odd_counted, odd_in}
-use Rattle.odd_cuts.proofs.TableLemmas.{degrees_few}
 use Rattle.line_graph.specs.declared.edge.Edge.{Edge}
 use Rattle.line_graph.specs.declared.limits.TheConstants.{MAX_LINES}
 use Rattle.line_graph.specs.ValidPieces.{IsValidPiece}
 use Rattle.line_graph.specs.PieceGraphs.{PieceValue, edges_with_closing, closing_edge, degree, degrees_from, given_start, is_odd, given_end}
-use Rattle.line_graph.specs.ClosedDegrees.{closing_ends}
-
--- the line back adds its ends
-degree_closed : (from to : Option ℕ) (es : List Edge) (j : ℕ) → degree (closing_edge from to ++ es) j ≡ closing_ends from to j + degree es j
-degree_closed (Some f) (Some t) es j = refl
-degree_closed (Some f) None es j = omega arith
-degree_closed None to es j = omega arith
+use Rattle.line_graph.proofs.CallerLemmas.{degree_closed, degrees_few}
 
 odds_told : (set : ℕ → Bool) (from to : Option ℕ) (es : List Edge) (at n : ℕ)
     → odd_among set at (parities_from from to at (degrees_from es at n)) ≡ odd_in set at (degrees_from (closing_edge from to ++ es) at n)

@@ -6,7 +6,7 @@ use Rattle.std.proofs.lemmas.List.{at_drop_more, length-set}
 use Rattle.line_graph.specs.declared.edge.Edge.{Edge}
 use Rattle.line_graph.specs.declared.limits.TheConstants.{MAX_LINES}
 use Rattle.line_graph.specs.ValidPieces.{IsValidPiece, all_below, ends_below}
-use Rattle.line_graph.specs.PieceGraphs.{PieceValue, degrees_from}
+use Rattle.line_graph.specs.PieceGraphs.{PieceValue}
 
 -- each entry of a blank table is the same
 pub blank : {X : Type 0} (x : X) (count i : ℕ) → get_or (replicate count x) i x ≡ x
@@ -27,20 +27,6 @@ below_at most (x ∷ xs) zero d below less =
 below_at most (x ∷ xs) (suc i) d below less =
     below_at most xs i d (and_parts (nat_lt x most) (all_below most xs) below).1 (omega (arith, less))
 
--- both ends of the edge at an index are below the limit
-pub ends_at : (most : ℕ) (edges : List Edge) (i : ℕ) (d : Edge) → ends_below most edges ≡ true → i < length edges
-    → ((get_or edges i d).a < most) × ((get_or edges i d).b < most)
-ends_at most [] i d below less = absurd (omega (arith, less))
-ends_at most (e ∷ edges) zero d below less =
-    let parts = and_parts (nat_lt e.a most && nat_lt e.b most) (ends_below most edges) below in
-    let both = and_parts (nat_lt e.a most) (nat_lt e.b most) parts.0 in
-    (is_less e.a most both.0, is_less e.b most both.1)
-  where
-    is_less : (m n : ℕ) → nat_lt m n ≡ true → m < n
-    is_less m n is = grind (arith, nat_tests)
-ends_at most (e ∷ edges) (suc i) d below less =
-    ends_at most edges i d (and_parts (nat_lt e.a most && nat_lt e.b most) (ends_below most edges) below).1 (omega (arith, less))
-
 ends_within : (count most : ℕ) (edges : List Edge) → count ≤ most → ends_below count edges ≡ true → ends_below most edges ≡ true
 ends_within count most [] less below = refl
 ends_within count most (e ∷ edges) less below =
@@ -57,15 +43,6 @@ ends_within count most (e ∷ edges) less below =
 pub ends_few : (p : PieceValue) → IsValidPiece p → ends_below (MAX_LINES + 1) p.edges ≡ true
 ends_few p keeps =
     ends_within (length p.junctions) (MAX_LINES + 1) p.edges (omega (arith, keeps.junctions_few, keeps.few)) keeps.ends
-
-length-degrees_from : (es : List Edge) (at n : ℕ) → length (degrees_from es at n) ≡ n
-length-degrees_from es at zero = refl
-length-degrees_from es at (suc n) = omega (arith, length-degrees_from es (at + 1) n)
-
--- and so are its junctions
-pub degrees_few : (p : PieceValue) → IsValidPiece p → length p.degrees ≤ MAX_LINES + 1
-degrees_few p keeps =
-    rw keeps.counted (omega (arith, length-degrees_from p.edges 0 (length p.junctions), keeps.junctions_few, keeps.few))
 
 -- a table keeps its length
 pub length_set : {X : Type 0} (xs : List X) (i : ℕ) (x : X) (n : ℕ) → length xs ≡ n → length (set xs i x) ≡ n

@@ -4,9 +4,10 @@ use Rattle.std.proofs.lemmas.Bool.{cases_lt}
 use Rattle.std.specs.Prelude.{slice_get, slice_index}
 use Rattle.line_graph.specs.declared.edge.Edge.{Edge}
 use Rattle.line_graph.specs.PieceWalks.{edge_cost, edge_sum}
-use Rattle.odd_paths.proofs.PlaceLemmas.{none_is, some_is}
+use Rattle.odd_paths.proofs.PlaceLemmas.{none_is}
 use Rattle.odd_paths.specs.EdgeWalks.{Connects, IsEdgeWalk}
 use Rattle.odd_paths.specs.Sweeps.{IsFullyRelaxed}
+use Rattle.lists_and_numbers.proofs.CallerLemmas.{some_same}
 
 -- the range of an edge: from the lesser of the numbers at its ends to the greater
 abbrev low : List ℕ → Edge → ℕ
@@ -47,8 +48,8 @@ crossed row es i j h (k ∷ ks) w under over = elim (cases_lt h (slice_index row
 
 in_rest : (row : List ℕ) (x : Edge) (es : List Edge) (h k : ℕ) (e : Edge) → slice_get (x ∷ es) k ≡ Some e → low row e ≤ h
     → h < high row e → (h < low row x) ⊎ (high row x ≤ h) → Crossed row es h
-in_rest row x es h zero e got lo hi (inl out) = let same = ap (low row) (some_is x e got) in absurd (omega arith)
-in_rest row x es h zero e got lo hi (inr out) = let same = ap (high row) (some_is x e got) in absurd (omega arith)
+in_rest row x es h zero e got lo hi (inl out) = let same = ap (low row) (some_same x e got) in absurd (omega arith)
+in_rest row x es h zero e got lo hi (inr out) = let same = ap (high row) (some_same x e got) in absurd (omega arith)
 in_rest row x es h (suc k) e got lo hi out = (k, e, got, lo, hi)
 
 -- a range without the middle one, in two parts

@@ -1,25 +1,19 @@
 -- Degrees of junctions: the ends of the closing line, the sum of all degrees, and the number of odd ones.
-use Rattle.std.proofs.Common.{◌≡◌, ℕ, zero, suc, ◌+◌, ◌*◌, ◌%◌, ◌<◌, ◌≤◌, ◌==◌, Bool, true, false, ◌&&◌, List, [], ◌∷◌, ◌++◌, Option, Some, None, length, inl, inr, ap, ◌∙◌, refl, arith}
-use Rattle.std.proofs.lemmas.Bool.{and_from, and_parts, cases_eq}
+use Rattle.std.proofs.Common.{◌≡◌, ℕ, zero, suc, ◌+◌, ◌*◌, ◌%◌, ◌<◌, ◌≤◌, ◌==◌, Bool, true, false, ◌&&◌, List, [], ◌∷◌, ◌++◌, Option, length, inl, inr, ap, ◌∙◌, refl, arith}
+use Rattle.std.proofs.lemmas.Bool.{and_parts, cases_eq}
 use Rattle.std.proofs.lemmas.Bool.Decides.{nat_tests}
 use Rattle.std.proofs.lemmas.List.FromFn.{length-range_with_len}
 use Rattle.std.proofs.lemmas.List.Sums.{count_by-le-length, length-filter}
 use Rattle.std.specs.List.{filter, range_with_len}
 use Rattle.std.specs.Prelude.{nat_lt, cond}
-use Rattle.std.specs.Option.{option_or}
 use Rattle.line_graph.specs.declared.edge.Edge.{Edge}
 use Rattle.line_graph.specs.declared.limits.TheConstants.{MAX_LINES}
-use Rattle.line_graph.specs.ValidPieces.{IsValidPiece, ends_below, is_below}
+use Rattle.line_graph.specs.ValidPieces.{IsValidPiece, ends_below}
 use Rattle.line_graph.specs.PieceGraphs.{PieceValue, one_if, edges_with_closing, closing_edge, degree, degrees_from, given_start, is_odd, odd_junctions, given_end}
 use Rattle.line_graph.specs.ClosedDegrees.{closing_ends}
 use Rattle.odd_paths.specs.OddDegrees.{odds_from, singleton_if}
-
--- the line back adds its ends
-degree_closed : (from to : Option ℕ) (es : List Edge) (j : ℕ)
-    → degree (closing_edge from to ++ es) j ≡ closing_ends from to j + degree es j
-degree_closed (Some f) (Some t) es j = refl
-degree_closed (Some f) None es j = omega arith
-degree_closed None to es j = omega arith
+use Rattle.line_graph.proofs.CallerLemmas.{degree_closed, ends_of_back, or_below}
+use Rattle.lists_and_numbers.proofs.CallerLemmas.{over_zero, sum_over}
 
 only_kept : (test : Bool) (at : ℕ) (rest : List ℕ) → singleton_if test at ++ rest ≡ cond test (at ∷ rest) rest
 only_kept true at rest = refl
@@ -40,20 +34,6 @@ odds_told p keeps =
     ap (λ degrees. odds_from (given_start p) (given_end p) 0 degrees) keeps.counted
     ∙ odds_kept (given_start p) (given_end p) p.edges 0 (length p.junctions)
 
-length-degrees_from : (es : List Edge) (at n : ℕ) → length (degrees_from es at n) ≡ n
-length-degrees_from es at zero = refl
-length-degrees_from es at (suc n) = omega (arith, length-degrees_from es (at + 1) n)
-
-pub degrees_few : (p : PieceValue) → IsValidPiece p → length p.degrees ≤ MAX_LINES + 1
-degrees_few p keeps =
-    let count = ap (λ (degrees : List ℕ). length degrees) keeps.counted ∙ length-degrees_from p.edges 0 (length p.junctions) in
-    omega (arith, count, keeps.junctions_few, keeps.few)
-
--- the sum of a quantity over n junctions, from a number on
-abbrev sum_over : (ℕ → ℕ) → ℕ → ℕ → ℕ
-sum_over f at zero = 0
-sum_over f at (suc n) = f at + sum_over f (at + 1) n
-
 -- as many are odd as their sum is, but for an even number
 odd_step : (test : Bool) (value at rest_sum : ℕ) (rest : List ℕ) → is_odd value ≡ test → length rest % 2 ≡ rest_sum % 2
     → length (cond test (at ∷ rest) rest) % 2 ≡ (value + rest_sum) % 2
@@ -70,10 +50,6 @@ odd_count f at zero = refl
 odd_count f at (suc n) =
     odd_step (is_odd (f at)) (f at) at (sum_over f (at + 1) n) (filter (λ j. is_odd (f j)) (range_with_len (at + 1) n)) refl
     (odd_count f (at + 1) n)
-
-sum_nothing : (at n : ℕ) → sum_over (λ j. 0) at n ≡ 0
-sum_nothing at zero = refl
-sum_nothing at (suc n) = omega (arith, sum_nothing (at + 1) n)
 
 sum_added : (f g : ℕ → ℕ) (at n : ℕ) → sum_over (λ j. f j + g j) at n ≡ sum_over f at n + sum_over g at n
 sum_added f g at zero = refl
@@ -99,7 +75,7 @@ end_once a at (suc n) low high = elim (cases_eq a at) [
 
 -- so the degrees sum up to twice the number of lines
 degrees_sum : (es : List Edge) (n : ℕ) → ends_below n es ≡ true → sum_over (degree es) 0 n ≡ 2 * length es
-degrees_sum [] n below = sum_nothing 0 n
+degrees_sum [] n below = over_zero 0 n
 degrees_sum (e ∷ es) n below =
     let both = and_parts (nat_lt e.a n && nat_lt e.b n) (ends_below n es) below in
     let ends = and_parts (nat_lt e.a n) (nat_lt e.b n) both.0 in
@@ -112,27 +88,15 @@ degrees_sum (e ∷ es) n below =
     let b_once = end_once e.b 0 n (omega arith) (omega arith) in
     omega (arith, whole, line, a_once, b_once, degrees_sum es n both.1)
 
-or_else_below : (n : ℕ) (first other : Option ℕ) → is_below n first ≡ true → is_below n other ≡ true
-    → is_below n (option_or first other) ≡ true
-or_else_below n (Some a) other one two = one
-or_else_below n None other one two = two
-
-closed_below : (n : ℕ) (from to : Option ℕ) (es : List Edge) → is_below n from ≡ true → is_below n to ≡ true
-    → ends_below n es ≡ true → ends_below n (closing_edge from to ++ es) ≡ true
-closed_below n (Some f) (Some t) es one two below =
-    and_from (nat_lt t n && nat_lt f n) (ends_below n es) (and_from (nat_lt t n) (nat_lt f n) two one) below
-closed_below n (Some f) None es one two below = below
-closed_below n None to es one two below = below
-
 -- the odd junctions are even in number, and few
 pub even_few : (p : PieceValue) → IsValidPiece p
     → (length (odd_junctions p) % 2 ≡ 0) × (length (odd_junctions p) ≤ MAX_LINES)
 even_few p keeps =
     let n = length p.junctions in
     let es = edges_with_closing p in
-    let below = closed_below n (given_start p) (given_end p) p.edges
-    (or_else_below n p.start p.end keeps.start_below keeps.end_below)
-    (or_else_below n p.end p.start keeps.end_below keeps.start_below) keeps.ends in
+    let below = ends_of_back n (given_start p) (given_end p) p.edges
+    (or_below n p.start p.end keeps.start_below keeps.end_below)
+    (or_below n p.end p.start keeps.end_below keeps.start_below) keeps.ends in
     let count : length (odd_junctions p) % 2 ≡ sum_over (degree es) 0 n % 2 = odd_count (degree es) 0 n in
     let sum : sum_over (degree es) 0 n ≡ 2 * length es = degrees_sum es n below in
     let most : length (odd_junctions p) ≤ n = kept_few (λ j. is_odd (degree es j)) n in

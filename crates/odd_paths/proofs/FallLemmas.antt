@@ -1,5 +1,5 @@
 -- A sweep that changes a row lowers the sum of its numbers.
-use Rattle.std.proofs.Common.{◌≡◌, ℕ, ◌+◌, ◌<◌, ◌≤◌, Bool, true, false, List, [], ◌∷◌, length, sum, ◌⊎◌, inl, inr, refl, sym, ◌∙◌, subst, arith}
+use Rattle.std.proofs.Common.{◌≡◌, ℕ, ◌+◌, ◌<◌, ◌≤◌, true, false, List, [], ◌∷◌, length, sum, ◌⊎◌, inl, inr, refl, sym, ◌∙◌, subst, arith}
 use Rattle.std.proofs.lemmas.Bool.{both_ways, cases_Bool, ltb-true}
 use Rattle.std.proofs.lemmas.List.{length-set}
 use Rattle.std.proofs.lemmas.List.Sums.{sum_by-set}
@@ -8,6 +8,7 @@ use Rattle.line_graph.specs.declared.edge.Edge.{Edge}
 use Rattle.odd_paths.proofs.PlaceLemmas.{still_within}
 use Rattle.odd_paths.specs.EdgeWalks.{EndsAreBelow}
 use Rattle.odd_paths.specs.Sweeps.{changes, is_lower, lowered_row, relaxed, relaxes, swept}
+use Rattle.lists_and_numbers.proofs.CallerLemmas.{one_of}
 
 -- the length stays
 lowered_length : (row : List ℕ) (a b c : ℕ) → length (lowered_row row a b c) ≡ length row
@@ -29,10 +30,6 @@ lowered_most row a b c lt = elim (cases_Bool (is_lower row a b c)) [
   | inr isnt ↦ rw isnt (omega arith)
 ]
 
-or_true : (x y : Bool) → (x || y) ≡ true → (x ≡ true) ⊎ (y ≡ true)
-or_true true y h = inl refl
-or_true false y h = inr h
-
 relaxed_length : (row : List ℕ) (e : Edge) → length (relaxed row e) ≡ length row
 relaxed_length row e = lowered_length (lowered_row row e.a e.b e.cost) e.b e.a e.cost ∙ lowered_length row e.a e.b e.cost
 
@@ -44,7 +41,7 @@ relaxed_most row e in_a in_b =
 relaxed_less : (row : List ℕ) (e : Edge) → e.a < length row → e.b < length row → relaxes row e ≡ true → sum (relaxed row e) < sum row
 relaxed_less row e in_a in_b h =
     let size = lowered_length row e.a e.b e.cost in
-    elim (or_true (is_lower row e.a e.b e.cost) (is_lower (lowered_row row e.a e.b e.cost) e.b e.a e.cost) h) [
+    elim (one_of (is_lower row e.a e.b e.cost) (is_lower (lowered_row row e.a e.b e.cost) e.b e.a e.cost) h) [
       | inl one ↦
           let second = lowered_most (lowered_row row e.a e.b e.cost) e.b e.a e.cost (omega arith) in
           omega (arith, lowered_less row e.a e.b e.cost in_b one, second)
@@ -63,7 +60,7 @@ pub swept_less : (row : List ℕ) (es : List Edge) → EndsAreBelow (length row)
 swept_less row [] ends h = absurd (both_ways false refl h)
 swept_less row (e ∷ es) ends h =
     let ends_on = still_within es _ _ (sym (relaxed_length row e)) ends.2 in
-    elim (or_true (relaxes row e) (changes (relaxed row e) es) h) [
+    elim (one_of (relaxes row e) (changes (relaxed row e) es) h) [
       | inl one ↦ omega (arith, relaxed_less row e ends.0 ends.1 one, swept_most (relaxed row e) es ends_on)
       | inr two ↦ omega (arith, relaxed_most row e ends.0 ends.1, swept_less (relaxed row e) es ends_on two)
     ]

@@ -11,7 +11,8 @@ use Rattle.line_graph.specs.ValidPieces.{all_costs_positive}
 use Rattle.line_graph.specs.PieceWalks.{edge_cost, edge_value}
 use Rattle.odd_paths.specs.EdgeWalks.{Connects, IsEdgeWalk, edge_walk_cost, IsLeastRow, EndsAreBelow}
 use Rattle.odd_paths.specs.LastEdges.{IsLeastEdgeWalk, is_last_edge, last_edge_from}
-use Rattle.odd_paths.proofs.PlaceLemmas.{below_at, cost_append, cost_one, none_is, some_is, walk_append, walk_one}
+use Rattle.odd_paths.proofs.PlaceLemmas.{below_at, cost_append, cost_one, none_is, walk_append, walk_one}
+use Rattle.lists_and_numbers.proofs.CallerLemmas.{some_same}
 
 -- the edge leads from m to j, and costs what their numbers differ by
 pub record IsLast (row : List ℕ) (e : Edge) (m j : ℕ) : Type 0 where
@@ -57,11 +58,11 @@ found_in row j k (e ∷ es) r h =
         → (if p then Some (k, e.a) else if q then Some (k, e.b) else last_edge_from row j (k + 1) es) ≡ Some r
         → (i : ℕ) × (r.0 ≡ k + i) × Comes (e ∷ es) row j i r.1
     go on true q is other h =
-        let same = some_is (k, e.a) r h in
+        let same = some_same (k, e.a) r h in
         let from : e.a ≡ r.1 = ap (λ (x : ℕ × ℕ). x.1) same in
         (0, omega (arith, ap (λ (x : ℕ × ℕ). x.0) same), (e, refl, forth_told row e j r.1 is from))
     go on false true is other h =
-        let same = some_is (k, e.b) r h in
+        let same = some_same (k, e.b) r h in
         let from : e.b ≡ r.1 = ap (λ (x : ℕ × ℕ). x.1) same in
         (0, omega (arith, ap (λ (x : ℕ × ℕ). x.0) same), (e, refl, back_told row e j r.1 other from))
     go on false false is other h =
@@ -82,7 +83,7 @@ missed row j k i m (e ∷ es) h c =
     go on true q is other h i c = none_is (k, e.a) (sym h)
     go on false true is other h i c = none_is (k, e.b) (sym h)
     go on false false is other h zero c =
-        let last : IsLast row e m j = subst (λ (x : Edge). IsLast row x m j) (sym (some_is e c.0 c.1)) c.2 in
+        let last : IsLast row e m j = subst (λ (x : Edge). IsLast row x m j) (sym (some_same e c.0 c.1)) c.2 in
         told_one_way row e j m last is other
     go on false false is other h (suc i) c = on i h c
 
@@ -103,7 +104,7 @@ more_at [] k e costs got = absurd (none_is e got)
 more_at (x ∷ xs) zero e costs got =
     let both = and_parts (nat_le 1 x.cost) (all_costs_positive xs) costs in
     let one : 1 ≤ x.cost = grind (arith, nat_tests) in
-    subst (λ (z : Edge). 1 ≤ z.cost) (some_is x e got) one
+    subst (λ (z : Edge). 1 ≤ z.cost) (some_same x e got) one
 more_at (x ∷ xs) (suc k) e costs got = more_at xs k e (and_parts (nat_le 1 x.cost) (all_costs_positive xs) costs).1 got
 
 start_of : (n m j : ℕ) (e : Edge) → Connects e m j → (e.a < n) × (e.b < n) → m < n

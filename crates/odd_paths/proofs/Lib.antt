@@ -1,3 +1,4 @@
+pub mod CallerLemmas
 mod DegreeLemmas
 mod PlaceLemmas
 mod SweepLemmas

@@ -4,15 +4,17 @@ use Rattle.std.proofs.lemmas.Bool.{and_parts, eq-eqb, eqb-true}
 use Rattle.std.proofs.lemmas.Bool.Decides.{nat_tests}
 use Rattle.std.proofs.lemmas.List.Elements.{All-cons, All-nil}
 use Rattle.std.proofs.lemmas.Option.{slice_get_within}
-use Rattle.std.specs.Prelude.{nat_lt, slice_get, if◌then◌else◌}
+use Rattle.std.specs.Prelude.{slice_get, if◌then◌else◌}
 use Rattle.line_graph.specs.declared.edge.Edge.{Edge}
 use Rattle.line_graph.specs.declared.pass.Pass.{Pass}
 use Rattle.line_graph.specs.ValidPieces.{IsValidPiece}
 use Rattle.line_graph.specs.PieceGraphs.{PieceValue}
 use Rattle.line_graph.specs.PieceWalks.{all_greater, after_edge, edge_cost, edge_of, edge_value, pass_sum, is_strictly_increasing, walk_end_from}
-use Rattle.odd_paths.proofs.PlaceLemmas.{none_is, some_is}
+use Rattle.odd_paths.proofs.PlaceLemmas.{none_is}
 use Rattle.odd_paths.specs.LeastRows.{IsLeastCost}
 use Rattle.odd_paths.specs.EdgeWalks.{IsLeastEdgeCost, IsEdgeWalk, Connects, edge_walk_cost}
+use Rattle.line_graph.proofs.CallerLemmas.{above_at, stays_lost}
+use Rattle.lists_and_numbers.proofs.CallerLemmas.{some_same}
 
 -- the edge of a line is at some index
 placed : (lines : List ℕ) (es : List Edge) (line : ℕ) (e : Edge) → edge_of lines es line ≡ Some e
@@ -26,12 +28,8 @@ placed (n ∷ lines) (x ∷ es) line e is = go (placed lines es line e) (line ==
     go later true is = (0, is)
     go later false is = let more = later is in (suc more.0, more.1)
 
-stuck : (lines : List ℕ) (es : List Edge) (walk : List Pass) → walk_end_from lines es None walk ≡ None
-stuck lines es [] = refl
-stuck lines es (pass ∷ rest) = stuck lines es rest
-
 test_some : (test : Bool) (x m : ℕ) → (if test then Some x else None) ≡ Some m → (test ≡ true) × (x ≡ m)
-test_some true x m is = (refl, some_is x m is)
+test_some true x m is = (refl, some_same x m is)
 test_some false x m is = absurd (none_is m is)
 
 -- a pass that leads on goes along an edge
@@ -47,7 +45,7 @@ along_edge (Some e) back i m is = (e, refl, links_by back e i m is)
 -- a walk of passes is a walk of edge indexes, at the same cost
 to_places : (lines : List ℕ) (es : List Edge) (i j : ℕ) (walk : List Pass) → walk_end_from lines es (Some i) walk ≡ Some j
     → (ks : List ℕ) × IsEdgeWalk es i j ks × (edge_walk_cost es ks ≡ pass_sum lines es edge_cost walk)
-to_places lines es i j [] leads = ([], some_is i j leads, refl)
+to_places lines es i j [] leads = ([], some_same i j leads, refl)
 to_places lines es i j (pass ∷ rest) leads =
     go (λ m on. to_places lines es m j rest on) (after_edge (edge_of lines es pass.line) pass.back i) refl leads
   where
@@ -55,7 +53,7 @@ to_places lines es i j (pass ∷ rest) leads =
         → (ks : List ℕ) × IsEdgeWalk es m j ks × (edge_walk_cost es ks ≡ pass_sum lines es edge_cost rest))
         → (next : Option ℕ) → after_edge (edge_of lines es pass.line) pass.back i ≡ next → walk_end_from lines es next rest ≡ Some j
         → (ks : List ℕ) × IsEdgeWalk es i j ks × (edge_walk_cost es ks ≡ pass_sum lines es edge_cost (pass ∷ rest))
-    go later None is on = absurd (none_is j (sym (stuck lines es rest) ∙ on))
+    go later None is on = absurd (none_is j (sym (stays_lost lines es rest) ∙ on))
     go later (Some m) is on =
         let e = along_edge (edge_of lines es pass.line) pass.back i m is in
         let k = placed lines es pass.line e.0 e.1 in
@@ -63,13 +61,6 @@ to_places lines es i j (pass ∷ rest) leads =
         let at_place = ap (edge_value edge_cost) k.1 in
         let of_line = ap (edge_value edge_cost) e.1 in
         (k.0 ∷ more.0, (e.0, m, k.1, e.2, more.1), omega (arith, at_place, of_line, more.2))
-
--- in rising lines each line appears once, and the edge at an index is that of the line there
-above_at : (n : ℕ) (ms : List ℕ) (k : ℕ) → all_greater n ms ≡ true → k < length ms → n < get_or ms k 0
-above_at n [] k rising there = absurd (omega arith)
-above_at n (m ∷ ms) zero rising there =
-    let both = and_parts (nat_lt n m) (all_greater n ms) rising in grind (arith, nat_tests)
-above_at n (m ∷ ms) (suc k) rising there = above_at n ms k (and_parts (nat_lt n m) (all_greater n ms) rising).1 (omega arith)
 
 edge_at : (lines : List ℕ) (es : List Edge) (k : ℕ) (e : Edge) → is_strictly_increasing lines ≡ true → length lines ≡ length es
     → slice_get es k ≡ Some e → edge_of lines es (get_or lines k 0) ≡ Some e

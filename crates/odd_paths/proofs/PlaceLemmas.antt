@@ -5,6 +5,7 @@ use Rattle.std.specs.Prelude.{nat_lt, slice_get}
 use Rattle.line_graph.specs.declared.edge.Edge.{Edge}
 use Rattle.line_graph.specs.PieceWalks.{edge_cost, edge_sum}
 use Rattle.odd_paths.specs.EdgeWalks.{EndsAreBelow, Connects, IsEdgeWalk, edge_walk_cost}
+use Rattle.lists_and_numbers.proofs.CallerLemmas.{some_same}
 
 pub walk_append : (es : List Edge) (i j m : ℕ) (ks ls : List ℕ) → IsEdgeWalk es i j ks → IsEdgeWalk es j m ls
     → IsEdgeWalk es i m (ks ++ ls)
@@ -35,22 +36,18 @@ walk_back es i j (k ∷ ks) w =
     let costs : edge_walk_cost es (p.0 ++ k ∷ []) ≡ edge_walk_cost es (k ∷ ks) = omega (arith, cost_append es p.0 (k ∷ []), p.2) in
     (p.0 ++ k ∷ [], walk_append es j w.1 i p.0 (k ∷ []) p.1 home, costs)
 
--- an answer is one
-pub some_is : {A : Type 0} (x y : A) → Some x ≡ Some y → x ≡ y
-some_is x y h = cc
-
 pub none_is : {A : Type 0} (x : A) → None ≡ Some x → ⊥
 none_is x h = cc
 
 -- the ends and the cost of the edge at an index
 pub below_at : (n : ℕ) (es : List Edge) (k : ℕ) (e : Edge) → EndsAreBelow n es → slice_get es k ≡ Some e → (e.a < n) × (e.b < n)
 below_at n [] k e ends got = absurd (none_is e got)
-below_at n (x ∷ xs) zero e ends got = subst (λ (z : Edge). (z.a < n) × (z.b < n)) (some_is x e got) (ends.0, ends.1)
+below_at n (x ∷ xs) zero e ends got = subst (λ (z : Edge). (z.a < n) × (z.b < n)) (some_same x e got) (ends.0, ends.1)
 below_at n (x ∷ xs) (suc k) e ends got = below_at n xs k e ends.2 got
 
 pub cost_within : (es : List Edge) (k : ℕ) (e : Edge) → slice_get es k ≡ Some e → e.cost ≤ edge_sum edge_cost es
 cost_within [] k e got = absurd (none_is e got)
-cost_within (x ∷ xs) zero e got = let same = ap edge_cost (some_is x e got) in omega arith
+cost_within (x ∷ xs) zero e got = let same = ap edge_cost (some_same x e got) in omega arith
 cost_within (x ∷ xs) (suc k) e got = omega (arith, cost_within xs k e got)
 
 pub still_within : (es : List Edge) (n m : ℕ) → n ≡ m → EndsAreBelow n es → EndsAreBelow m es

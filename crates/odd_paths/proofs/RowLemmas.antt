@@ -1,7 +1,6 @@
 -- A row of walk costs that no sweep changes has the least costs, since the edges connect all junctions.
-use Rattle.std.proofs.Common.{◌≡◌, ℕ, ◌+◌, ◌<◌, ◌≤◌, Bool, true, false, List, ◌++◌, length, take, drop, replicate, refl, sym, ap, ◌∙◌, subst, arith}
+use Rattle.std.proofs.Common.{◌≡◌, ℕ, ◌+◌, ◌<◌, ◌≤◌, true, false, List, ◌++◌, length, take, drop, replicate, refl, sym, ap, ◌∙◌, subst, arith}
 use Rattle.std.proofs.lemmas.Bool.{lt-ltb, ltb-true}
-use Rattle.std.proofs.Math.Seq.{take-append_seam}
 use Rattle.std.specs.Prelude.{nat_lt, slice_index, slice_set}
 use Rattle.line_graph.specs.declared.edge.Edge.{Edge}
 use Rattle.line_graph.specs.declared.limits.TheConstants.{MAX_COST}
@@ -14,12 +13,7 @@ use Rattle.odd_paths.proofs.SoundLemmas.{begun, swept_sound}
 use Rattle.odd_paths.proofs.SweepLemmas.{flat_at, no_less, settled}
 use Rattle.odd_paths.specs.EdgeWalks.{EndsAreBelow, IsGraph, IsLeastRow}
 use Rattle.odd_paths.specs.Sweeps.{IsFullyRelaxed, AreWalkCosts, KeepsWalkCosts, changes, swept}
-
--- where the edges join all junctions, each has a number below FAR
-same_test : (p q : Bool) → (p ≡ true → q ≡ true) → (q ≡ true → p ≡ true) → p ≡ q
-same_test true q f g = sym (f refl)
-same_test false true f g = g refl
-same_test false false f g = refl
+use Rattle.lists_and_numbers.proofs.CallerLemmas.{front_written, same_test}
 
 near_most : (es : List Edge) (n from : ℕ) (row : List ℕ) → AreWalkCosts es n from row → IsFullyRelaxed row es
     → (i : ℕ) → i < n → slice_index row i < FAR → slice_index row i ≤ edge_sum edge_cost es
@@ -77,10 +71,6 @@ after_sweep es n from row new ends value s = subst (λ (r : List ℕ). AreWalkCo
 pub settled_new : (es : List Edge) (row new : List ℕ) → new ≡ swept row es → changes row es ≡ false → IsFullyRelaxed new es
 settled_new es row new value h = subst (λ (r : List ℕ). IsFullyRelaxed r es) (sym value) (settled_row es row h)
 
--- a row after a call on its slice
-pub written : (len : ℕ) (new old : List ℕ) → length new ≡ len → take len (new ++ drop (length new) old) ≡ new
-written len new old h = subst (λ (n : ℕ). take n (new ++ drop (length new) old) ≡ new) h (take-append_seam new (drop (length new) old))
-
 pub last_row : (es : List Edge) (n from len : ℕ) (now new row : List ℕ) → IsGraph es n → from < n
     → now ≡ slice_set row from 0 → row ≡ replicate n FAR → len ≡ n → length new ≡ length now
     → KeepsWalkCosts es now new → IsFullyRelaxed new es → IsLeastRow es n from (take len (new ++ drop (length new) (slice_set row from 0)))
@@ -90,5 +80,5 @@ last_row es n from len now new row graph lt is row_is len_is size kept flat =
     let whole : length now ≡ n = at_start.size in
     let before : AreWalkCosts es (length now) from now = subst (λ (m : ℕ). AreWalkCosts es m from now) (sym whole) at_start in
     let sound : AreWalkCosts es n from new = subst (λ (m : ℕ). AreWalkCosts es m from new) whole (kept from before) in
-    subst (λ (r : List ℕ). IsLeastRow es n from r) (sym (written len new (slice_set row from 0) (size ∙ whole ∙ sym len_is)))
+    subst (λ (r : List ℕ). IsLeastRow es n from r) (sym (front_written len new (slice_set row from 0) (size ∙ whole ∙ sym len_is)))
     (is_row es n from new sound flat graph lt)

@@ -1,23 +1,20 @@
 -- Where a sweep changes nothing, no walk costs less than the number in the row.
-use Rattle.std.proofs.Common.{◌≡◌, ℕ, ◌+◌, ◌≤◌, List, [], ◌∷◌, Bool, true, false, Some, refl, ◌∙◌, ap, arith, inl, inr, subst, zero, suc}
-use Rattle.std.proofs.lemmas.Bool.{both_ways, ltb-false}
+use Rattle.std.proofs.Common.{◌≡◌, ℕ, ◌+◌, ◌≤◌, List, [], ◌∷◌, false, Some, refl, ◌∙◌, ap, arith, inl, inr, subst, zero, suc}
+use Rattle.std.proofs.lemmas.Bool.{ltb-false, or_parts}
 use Rattle.std.specs.Prelude.{slice_get, slice_index, ◌||◌}
 use Rattle.line_graph.specs.declared.edge.Edge.{Edge}
 use Rattle.line_graph.specs.PieceWalks.{edge_cost, edge_value}
-use Rattle.odd_paths.proofs.PlaceLemmas.{none_is, some_is}
+use Rattle.odd_paths.proofs.PlaceLemmas.{none_is}
 use Rattle.odd_paths.specs.EdgeWalks.{Connects, IsEdgeWalk, edge_walk_cost}
 use Rattle.odd_paths.specs.Sweeps.{IsRelaxedAt, IsFullyRelaxed, is_lower, lowered_row, relaxes, relaxed, changes, swept}
-
-or_false : (x y : Bool) → (x || y) ≡ false → (x ≡ false) × (y ≡ false)
-or_false false y h = (refl, h)
-or_false true y h = absurd (both_ways true h refl)
+use Rattle.lists_and_numbers.proofs.CallerLemmas.{some_same}
 
 not_lowered : (row : List ℕ) (a b c : ℕ) → is_lower row a b c ≡ false → lowered_row row a b c ≡ row
 not_lowered row a b c h = rw h refl
 
 not_relaxed : (row : List ℕ) (e : Edge) → relaxes row e ≡ false → (relaxed row e ≡ row) × IsRelaxedAt row e
 not_relaxed row e h =
-    let p = or_false _ _ h in
+    let p = or_parts _ _ h in
     let one : lowered_row row e.a e.b e.cost ≡ row = not_lowered row e.a e.b e.cost p.0 in
     let second : is_lower row e.b e.a e.cost ≡ false = subst (λ (r : List ℕ). is_lower r e.b e.a e.cost ≡ false) one p.1 in (
       ap (λ (r : List ℕ). lowered_row r e.b e.a e.cost) one ∙ not_lowered row e.b e.a e.cost second,
@@ -27,7 +24,7 @@ not_relaxed row e h =
 pub settled : (row : List ℕ) (es : List Edge) → changes row es ≡ false → (swept row es ≡ row) × IsFullyRelaxed row es
 settled row [] h = (refl, tt)
 settled row (e ∷ es) h =
-    let p = or_false _ _ h in
+    let p = or_parts _ _ h in
     let one = not_relaxed row e p.0 in
     let rest : changes row es ≡ false = subst (λ (r : List ℕ). changes r es ≡ false) one.0 p.1 in
     let more = settled row es rest in
@@ -35,7 +32,7 @@ settled row (e ∷ es) h =
 
 pub flat_at : (row : List ℕ) (es : List Edge) (k : ℕ) (e : Edge) → IsFullyRelaxed row es → slice_get es k ≡ Some e → IsRelaxedAt row e
 flat_at row [] k e s got = absurd (none_is e got)
-flat_at row (x ∷ xs) zero e s got = subst (λ (z : Edge). IsRelaxedAt row z) (some_is x e got) s.0
+flat_at row (x ∷ xs) zero e s got = subst (λ (z : Edge). IsRelaxedAt row z) (some_same x e got) s.0
 flat_at row (x ∷ xs) (suc k) e s got = flat_at row xs k e s.1 got
 
 pub flat_join : (row : List ℕ) (e : Edge) (i m : ℕ) → IsRelaxedAt row e → Connects e i m → slice_index row m ≤ slice_index row i + e.cost

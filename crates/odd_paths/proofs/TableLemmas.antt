@@ -11,11 +11,12 @@ use Rattle.line_graph.specs.ValidPieces.{IsValidPiece, ends_below}
 use Rattle.line_graph.specs.PieceGraphs.{PieceValue}
 use Rattle.line_graph.specs.PieceWalks.{piece_cost}
 use Rattle.odd_paths.proofs.PassLemmas.{over_passes, over_places, to_passes}
-use Rattle.odd_paths.proofs.PlaceLemmas.{none_is, some_is, still_within}
+use Rattle.odd_paths.proofs.PlaceLemmas.{none_is, still_within}
 use Rattle.odd_paths.specs.LastEdges.{IsLeastEdgeWalk, IsRowFrom}
 use Rattle.odd_paths.specs.LeastRows.{AreRows, AreTerminals, IsLeastCost, IsPath, RowsValue, cost_at, cost_in, terminal_of}
 use Rattle.odd_paths.specs.Lanes.{AddsRows, lists_of}
 use Rattle.odd_paths.specs.EdgeWalks.{EndsAreBelow, AreLeastRows, IsGraph, IsLeastRow}
+use Rattle.lists_and_numbers.proofs.CallerLemmas.{some_same}
 
 -- the ends of the edges of a piece
 within : (n : ℕ) (es : List Edge) → ends_below n es ≡ true → EndsAreBelow n es
@@ -105,7 +106,7 @@ row_of n t rows row all got = let within = slice_get_within rows t row got in
   where
     get_or_is : (rows : List (List ℕ)) (t : ℕ) (row : List ℕ) → slice_get rows t ≡ Some row → get_or rows t row ≡ row
     get_or_is [] t row got = absurd (none_is row got)
-    get_or_is (r ∷ rows) zero row got = some_is r row got
+    get_or_is (r ∷ rows) zero row got = some_same r row got
     get_or_is (r ∷ rows) (suc t) row got = get_or_is rows t row got
 
 pub is_a_row : (p : PieceValue) (rows : RowsValue) (t : ℕ) (row : List ℕ) → IsValidPiece p → AreRows p rows
@@ -133,10 +134,6 @@ is_this_row p rows t row es from keeps all there got edges terminal =
       there = omega (arith, size, all.terminals.there t 0 there);
     } in
     rw (edges, terminal) this
-
-pub is_wide : (p : PieceValue) (rows : RowsValue) (t : ℕ) (row : List ℕ) → AreRows p rows → slice_get rows.table t ≡ Some row
-    → length row ≡ length p.junctions
-is_wide p rows t row all got = row_of (length p.junctions) t rows.table row all.wide got
 
 -- the indexes of edges that lead there, at the cost in the row, are a path
 pub is_path : (p : PieceValue) (rows : RowsValue) (t j : ℕ) (row places : List ℕ) → IsValidPiece p → slice_get rows.table t ≡ Some row

@@ -1,3 +1,4 @@
+pub mod CallerLemmas
 mod BlameFacts
 mod CountFacts
 mod LimitFacts

@@ -1,18 +1,14 @@
 -- If no fault is counted, the file determines the result of reading it.
-use Rattle.std.proofs.Common.{◌≡◌, ℕ, ◌≤◌, List, length, Some, None, Ok, Err, Option, Result, true, false, ◌∙◌, ap, arith, inl, inr}
+use Rattle.std.proofs.Common.{◌≡◌, ℕ, ◌≤◌, List, length, Some, None, Ok, Err, Option, Result, true, false, ◌∙◌, ap, arith}
 use Rattle.std.specs.Bool.{nat_le}
 use Rattle.outside_io.specs.declared.whole_files.GetFault.{GetFault}
 use Rattle.outside_io.specs.declared.whole_files.GetFault.TheVariants as fault
 use Rattle.lists_and_numbers.specs.OutOfMemory.{IsSpecified}
 use Rattle.outside_io.specs.Causes.{ReadsWholeFile, get_is_out_of_memory, whole_file_result, IsFileLonger}
-use Rattle.outside_io.specs.Counts.{Rose, IsFaultless}
+use Rattle.outside_io.specs.Counts.{IsFaultless}
 use Rattle.outside_io.specs.Files.{WhereVisible}
 use Rattle.outside_io.specs.Views.{StoreView}
-
--- a count that is quiet didn't rise
-quiet : (before now : ℕ) → IsFaultless before now → Rose before now → ⊥
-quiet before now still (inl rose) = omega (arith, still.same)
-quiet before now still (inr greatest) = still.below greatest
+use Rattle.outside_io.proofs.CallerLemmas.{no_rise}
 
 -- a short file is given whole
 short_answer : (bytes : List ℕ) (limit : ℕ) → length bytes ≤ limit → whole_file_result (Some bytes) limit ≡ Ok bytes
@@ -32,7 +28,7 @@ decided name limit old new (Ok bytes) reads still told is =
     ap (λ file. whole_file_result file limit) (reads.1 told is) ∙ short_answer bytes limit reads.0
 decided name limit old new (Err fault.Missing) reads still told is =
     ap (λ file. whole_file_result file limit) (reads.0.missing told is)
-decided name limit old new (Err fault.Failed) reads still told is = absurd (quiet old.faults new.faults still reads.rose)
+decided name limit old new (Err fault.Failed) reads still told is = absurd (no_rise old.faults new.faults still reads.rose)
 decided name limit old new (Err fault.TooLong) reads still told is =
     longer_answer (told name) limit (reads.0 told is)
 decided name limit old new (Err fault.Memory) reads still told is = tt

@@ -1,17 +1,16 @@
 -- The block of a design reads back, wherever in a file it stands.
-use Rattle.std.proofs.Common.{◌≡◌, ℕ, ◌+◌, ◌≤◌, true, IsTrue, false, nat_lt, List, [], ◌∷◌, ◌++◌, length, drop, Option, Some, None, Result, Ok, Err, IfOk, IsOkAnd, refl, ap, sym, ◌∙◌, subst, arith, length-append}
+use Rattle.std.proofs.Common.{◌≡◌, ℕ, ◌+◌, ◌≤◌, true, IsTrue, false, nat_lt, List, [], ◌∷◌, ◌++◌, length, drop, Option, Some, None, Ok, IfOk, IsOkAnd, refl, ap, sym, ◌∙◌, subst, arith, length-append}
 use Rattle.std.proofs.lemmas.Bool.{le-ltb}
 use Rattle.std.proofs.lemmas.List.{append_assoc, drop_at}
 use Rattle.std.specs.List.{concat, list_all}
 use Rattle.design_model.specs.Acts.{acts_of}
 use Rattle.design_model.specs.Designs.{DesignValue, KeepsLimits}
 use Rattle.design_model.specs.Points.{is_point_within}
-use Rattle.format_traits.specs.declared.fault.ReadFault.{ReadFault}
 use Rattle.format_traits.specs.declared.fault.WriteFault.{WriteFault}
 use Rattle.format_traits.specs.declared.loaded.Loaded.{Loaded}
 use Rattle.format_traits.specs.Accepted.{AcceptedIsWithinLimits}
 use Rattle.format_traits.specs.LabelFields.{LabelFieldsRoundTrip}
-use Rattle.format_traits.specs.Laws.{CodecsKeepLaws, HasSameActs, IsCodec}
+use Rattle.format_traits.specs.Laws.{CodecsKeepLaws, IsCodec}
 use Rattle.format_traits.specs.Meanings.{Meaning}
 use Rattle.format_traits.specs.Readings.{loaded_with}
 use Rattle.format_traits.specs.Records.{file_commands, moves_of_records}
@@ -28,6 +27,7 @@ use Rattle.pec_codec.proofs.HeaderLemmas.{labels_fit, length-pec_header_of}
 use Rattle.pec_codec.proofs.LabelLemmas.{pec_label_of-block, thread_of-threads, threads_in-block}
 use Rattle.pec_codec.proofs.ReadingLemmas.{reads-long}
 use Rattle.pec_codec.proofs.RoundTripLemmas.{rereads, taken}
+use Rattle.pec_codec.proofs.CallerLemmas.{again_from}
 
 -- the end, and what follows it
 abbrev tail_of : DesignValue → List ℕ
@@ -136,11 +136,6 @@ alone = record {
 
 fewer_stops : (count : ℕ) → count ≤ 254 → nat_lt MAX_STOPS count ≡ false
 fewer_stops count few = le-ltb MAX_STOPS count few
-
-again_from : (d : DesignValue) (result : Result Loaded ReadFault) → IsOkAnd result (λ loaded. RestoresDesign d loaded)
-    → IsOkAnd result (λ loaded. HasSameActs d loaded)
-again_from d (Ok loaded) back = back.again
-again_from d (Err f) back = back
 
 is_codec : EncodedActsRoundTrip → AcceptedIsWithinLimits → LabelFieldsRoundTrip → IsCodec alone pec_write_limits pec_block_of
 is_codec spelled accepted fields = record {

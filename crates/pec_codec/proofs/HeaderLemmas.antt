@@ -1,6 +1,6 @@
 -- The parts of a header.
 use Rattle.std.proofs.Common.{◌≡◌, ℕ, ◌+◌, ◌-◌, ◌≤◌, List, [], ◌∷◌, ◌++◌, length, replicate, codes, ap, sym, ◌∙◌, arith, length-append}
-use Rattle.std.proofs.lemmas.List.{append_assoc, length-replicate}
+use Rattle.std.proofs.lemmas.List.{append_assoc}
 use Rattle.std.proofs.lemmas.List.FromFn.{length-map-range_with_len, map-range_with_len_more}
 use Rattle.design_model.specs.declared.design.TheConstants.{MAX_LABEL}
 use Rattle.design_model.specs.Designs.{DesignValue, thread_of}
@@ -8,6 +8,7 @@ use Rattle.design_model.specs.Extents.{extent_of}
 use Rattle.format_traits.specs.LabelFields.{padded_right, label_field}
 use Rattle.pec_codec.specs.declared.block.TheConstants.{HEADER_LENGTH, LABELS_LENGTH, MAX_STOPS}
 use Rattle.pec_codec.specs.Header.{distance_field, pec_header_of, labels_of, size_fields, threads_of}
+use Rattle.format_traits.proofs.CallerLemmas.{length-padded_right}
 
 -- the threads of one block more
 pub threads_more : (d : DesignValue) (count thread : ℕ) (start out more : List ℕ) → thread ≡ thread_of d count
@@ -17,13 +18,6 @@ threads_more d count thread start out more of_thread of_out of_more =
     of_more ∙ ap (λ bytes. bytes ++ thread ∷ []) of_out ∙ append_assoc start (threads_of d count) (thread ∷ [])
     ∙ ap (λ byte. start ++ (threads_of d count ++ byte ∷ [])) of_thread
     ∙ ap (λ bytes. start ++ bytes) (sym one)
-
-pub length-padded_right : (places : ℕ) (text : List ℕ) → length text ≤ places → length (padded_right places text) ≡ places
-length-padded_right places text short = omega (
-  arith,
-  length-append text (replicate (places - length text) 32),
-  length-replicate {A = ℕ} (places - length text) 32,
-)
 
 -- the label and the threads of as many blocks as there may be have room
 pub labels_fit : (d : DesignValue) (stops : ℕ) → length d.label ≤ MAX_LABEL → stops ≤ MAX_STOPS

@@ -13,7 +13,7 @@ use Rattle.format_traits.specs.Refusals.{stops_of}
 use Rattle.pec_codec.specs.declared.block.TheConstants.{LABELS_LENGTH, MAX_STOPS}
 use Rattle.pec_codec.specs.Header.{distance_field, pec_label_of, labels_of, size_fields, threads_after, threads_in, threads_of}
 use Rattle.pec_codec.specs.Writing.{pec_block_of, pec_body_of, thumbnail_distance, thumbnails_of}
-use Rattle.pec_codec.proofs.HeaderLemmas.{length-padded_right}
+use Rattle.format_traits.proofs.CallerLemmas.{length-padded_right}
 
 -- the bytes between the label and the number of blocks
 abbrev between : List ℕ

@@ -1,3 +1,4 @@
+pub mod CallerLemmas
 pub mod BlockRoundTrip
 mod CoordinateFacts
 pub mod ExtentLemmas

@@ -14,20 +14,15 @@ use Rattle.design_model.specs.Points.{origin, move_between}
 use Rattle.format_traits.specs.declared.encoder_state.EncoderState.{EncoderState}
 use Rattle.format_traits.specs.Accepted.{AcceptedIsWithinLimits}
 use Rattle.format_traits.specs.MoveHops.{hops_of, part_moves, part_moves_from}
-use Rattle.format_traits.specs.Refusals.{initial_encoder_state, encoder_state_after, stops_of}
+use Rattle.format_traits.specs.Refusals.{initial_encoder_state, encoder_state_after}
 use Rattle.format_traits.specs.Rooms.{room_of_act, room_of_needle, room_from}
-use Rattle.format_traits.specs.RecordEncodings.{AppendsRecords, hop_records, needle_records, records_of_acts_from, records_of_act, encoder_state_after_acts}
+use Rattle.format_traits.specs.RecordEncodings.{AppendsRecords, hop_records, needle_records, records_of_acts_from, records_of_act}
 use Rattle.pec_codec.specs.declared.block.TheConstants.{LIMIT, MAX_STOPS, THUMBNAIL_LENGTH}
 use Rattle.pec_codec.specs.Coordinates.{is_short_number, short_bytes}
 use Rattle.pec_codec.specs.RecordBytes.{pec_jump_record, long_record, pec_stitch_record}
 use Rattle.pec_codec.specs.Writing.{pec_body_of, pec_write_limits, pec_encoding}
 use Rattle.pec_codec.specs.Steps.{AppendsBody}
-
--- the stops after all acts
-pub stops_along : (limit : ℕ) (before : EncoderState) (acts : List NumberedAct)
-    → (encoder_state_after_acts limit before acts).stops ≡ before.stops + stops_of acts
-stops_along limit before [] = omega arith
-stops_along limit before (a ∷ rest) = stops_along limit (encoder_state_after limit before a.act) rest ∙ omega arith
+use Rattle.format_traits.proofs.CallerLemmas.{loose_room, stops_along}
 
 length-concat-append : (xs ys : List (List ℕ)) → length (concat (xs ++ ys)) ≡ length (concat xs) + length (concat ys)
 length-concat-append [] ys = omega arith
@@ -55,15 +50,11 @@ length-hops_of count m = omega (
   length-jumps m count 0 count,
 )
 
-loose_room_most : (few : Bool) (jumps : ℕ) → jumps + 1 ≤ (if few then jumps + 1 else jumps + 2)
-loose_room_most true jumps = omega arith
-loose_room_most false jumps = omega arith
-
 needle_length : (loose float : Bool) (m : Point)
     → length (concat (needle_records pec_encoding pec_write_limits loose float m)) ≤ 4 * room_of_needle LIMIT loose float m
 needle_length true float m =
     let jumps = hops_of LIMIT m in
-    omega (arith, length-hops_of jumps m, loose_room_most (nat_le jumps 2) jumps)
+    omega (arith, length-hops_of jumps m, loose_room (nat_le jumps 2) jumps)
 needle_length false true m = length-hops_of (max 1 (hops_of LIMIT m)) m
 needle_length false false m =
     omega (arith, length-stitch m, length-append (pec_stitch_record m) [])

@@ -4,10 +4,8 @@ use Rattle.std.proofs.lemmas.Bool.{le-ltb}
 use Rattle.std.specs.List.{list_all}
 use Rattle.design_model.specs.Designs.{DesignValue}
 use Rattle.design_model.specs.Points.{is_point_within}
-use Rattle.format_traits.specs.declared.fault.ReadFault.{ReadFault}
 use Rattle.format_traits.specs.declared.fault.WriteFault.{WriteFault}
-use Rattle.format_traits.specs.declared.loaded.Loaded.{Loaded}
-use Rattle.format_traits.specs.Laws.{HasSameActs, KeepsLaws, MovesWithin, RoundTrips}
+use Rattle.format_traits.specs.Laws.{KeepsLaws, MovesWithin, RoundTrips}
 use Rattle.format_traits.specs.Layouts.{layout_reads}
 use Rattle.format_traits.specs.Meanings.{Meaning}
 use Rattle.format_traits.specs.PlainDesigns.{IsPlain}
@@ -21,6 +19,7 @@ use Rattle.pes_codec.specs.Formats.{pec_meaning, pes_meaning}
 use Rattle.pes_codec.specs.Laws.{RoundTripsWithThreads}
 use Rattle.pes_codec.specs.Fronts.{FrontLayout, pec_front_layout, pes_front_layout, file_reads_from}
 use Rattle.pes_codec.specs.Writing.{after_front}
+use Rattle.pec_codec.proofs.CallerLemmas.{again_from}
 
 -- the files of a format are a front and a block, and read as the block
 pub record IsBehind (m : Meaning) (front : List ℕ) : Type 0 where
@@ -38,11 +37,6 @@ if_behind front P Q holds (Err f) is = tt
 ok_behind : (front : List ℕ) (r : Result (List ℕ) WriteFault) → IsOk r → IsOk (after_front front r)
 ok_behind front (Ok block) ok = ok
 ok_behind front (Err f) ok = ok
-
-again_from : (d : DesignValue) (result : Result Loaded ReadFault) → IsOkAnd result (λ loaded. RestoresDesign d loaded)
-    → IsOkAnd result (λ loaded. HasSameActs d loaded)
-again_from d (Ok loaded) back = back.again
-again_from d (Err f) back = back
 
 -- what a block reads as, its file does
 whole_file : (m : Meaning) (front : List ℕ) → IsBehind m front → (d : DesignValue) (block : List ℕ)

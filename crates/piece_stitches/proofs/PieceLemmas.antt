@@ -1,5 +1,5 @@
 -- The lines of the pieces of a drawing are lines of it, and totals over few pieces are small.
-use Rattle.std.proofs.Common.{◌≡◌, ℕ, ◌*◌, ◌^◌, ◌<◌, ◌≤◌, List, [], ◌∷◌, ◌++◌, All, length, refl, ap, suc, append_assoc}
+use Rattle.std.proofs.Common.{◌≡◌, ℕ, ◌*◌, ◌^◌, ◌<◌, ◌≤◌, List, [], ◌∷◌, ◌++◌, All, length, append_assoc}
 use native.Mathlib.Omega.{arith}
 use Rattle.std.proofs.lemmas.List.Elements.{All-cons, All-head, All-nil, All-tail}
 use Rattle.std.specs.List.{concat}
@@ -11,17 +11,8 @@ use Rattle.line_graph.specs.PiecesOfDrawings.{ArePiecesOf, graph_of, lines_of_pi
 use Rattle.piece_stitches.specs.declared.counting.PieceStitches.{PieceStitches}
 use Rattle.piece_stitches.specs.PieceStitches.{HasLinesOf, HasSmallLengths, HasSmallTotals, stitches_after, stitches_of_piece, total_thread, total_travel}
 use Rattle.piece_stitches.specs.Travels.{travel_between}
-
--- what holds of all items of two lists holds of those of the first
-all_of_first : {X : Type 0} (P : X → Type 0) (xs ys : List X) → All P (xs ++ ys) → All P xs
-all_of_first P [] ys all = All-nil P
-all_of_first P (x ∷ xs) ys all =
-    All-cons P x xs (All-head P x (xs ++ ys) all) (all_of_first P xs ys (All-tail P x (xs ++ ys) all))
-
--- and of those of the second
-all_of_second : {X : Type 0} (P : X → Type 0) (xs ys : List X) → All P (xs ++ ys) → All P ys
-all_of_second P [] ys all = all
-all_of_second P (x ∷ xs) ys all = all_of_second P xs ys (All-tail P x (xs ++ ys) all)
+use Rattle.line_graph.proofs.CallerLemmas.{length_of_lists}
+use Rattle.lists_and_numbers.proofs.CallerLemmas.{all_left, all_right}
 
 abbrev pub IsLineOf : DrawingValue → ℕ → Type 0
 IsLineOf d line = line < length d.lines
@@ -31,15 +22,11 @@ lines_there : (d : DrawingValue) (pieces : List Piece) → All (IsLineOf d) (con
     → All (HasLinesOf d) pieces
 lines_there d [] all = All-nil (HasLinesOf d)
 lines_there d (p ∷ rest) all = All-cons (HasLinesOf d) p rest
-    (record { there = all_of_first (IsLineOf d) p.lines (concat (lines_of_pieces rest)) all; few = p.kept.few })
-    (lines_there d rest (all_of_second (IsLineOf d) p.lines (concat (lines_of_pieces rest)) all))
+    (record { there = all_left (IsLineOf d) p.lines (concat (lines_of_pieces rest)) all; few = p.kept.few })
+    (lines_there d rest (all_right (IsLineOf d) p.lines (concat (lines_of_pieces rest)) all))
 
 pub pieces_have_lines : (d : DrawingValue) (pieces : List Piece) → ArePiecesOf d pieces → All (HasLinesOf d) pieces
 pieces_have_lines d pieces are = lines_there d pieces are.are.there
-
-length_of_lists : (pieces : List Piece) → length (lines_of_pieces pieces) ≡ length pieces
-length_of_lists [] = refl
-length_of_lists (p ∷ rest) = ap suc (length_of_lists rest)
 
 -- a drawing has no more pieces than it may have lines
 pub few_pieces : (d : DrawingValue) (pieces : List Piece) → KeepsDrawingLimits d → PiecesKeepLimits → ArePiecesOf d pieces

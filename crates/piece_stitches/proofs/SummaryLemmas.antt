@@ -1,13 +1,13 @@
 -- Summaries of stitches of two lists, one after the other.
 use Rattle.std.proofs.Common.{◌≡◌, ◌∙◌, ℕ, suc, ◌+◌, ◌==◌, max, min, Bool, true, false, List, [], ◌∷◌, ◌++◌, filter, length, sum_by, if◌then◌else◌, refl, sym, ap}
 use native.Mathlib.Omega.{arith}
-use Rattle.std.proofs.lemmas.Bool.Decides.{nat_tests}
 use Rattle.std.proofs.lemmas.List.Sums.{sum_by-cons}
 use Rattle.line_graph.specs.Drawings.{DrawingValue}
 use Rattle.line_graph.specs.Walks.{needles_of_line}
 use Rattle.piece_stitches.specs.declared.stitch_summary.StitchSummary.{StitchSummary}
 use Rattle.piece_stitches.specs.GrowingSummaries.{no_stitches, with_stitch, with_stitches}
 use Rattle.piece_stitches.specs.StitchSummaries.{is_short, least_from, lengths_of_lines, longest_of, stitch_lengths, summary_of_lengths}
+use Rattle.lists_and_numbers.proofs.CallerLemmas.{suc_zero}
 
 abbrev summary_with : (stitches shortest longest short thread : ℕ) → StitchSummary
 summary_with stitches shortest longest short thread =
@@ -35,14 +35,11 @@ one_more_short : (is : Bool) (few x : ℕ) (rest : List ℕ)
 one_more_short true few x rest = omega arith
 one_more_short false few x rest = refl
 
-some_there : (n : ℕ) → (suc n == 0) ≡ false
-some_there n = grind (arith, nat_tests)
-
 -- a summary of some stitches, with one more
 one_more : (n best most few thread x : ℕ) → with_stitch (summary_with (suc n) best most few thread) x
     ≡ summary_with (suc (suc n)) (min best x) (max most x) (if is_short x then few + 1 else few) (thread + x)
 one_more n best most few thread x = same_parts _ _ _ _ _ _ _ _ _ _ (omega arith)
-    (ap (λ (b : Bool). if b then x else min best x) (some_there n)) refl refl refl
+    (ap (λ (b : Bool). if b then x else min best x) (suc_zero n)) refl refl refl
 
 -- a summary of some stitches and further ones
 grown : (n best most few thread : ℕ) (xs : List ℕ)

@@ -2,7 +2,6 @@
 use Rattle.std.proofs.Common.{◌≡◌, ℕ, Bool, true, false, ◌≤◌, inl, inr, List, Option, Some, None, IsSome, length, ap, refl, string_bytes, subst, arith}
 use Rattle.lists_and_numbers.specs.OutOfMemory.{UnlessOutOfMemory}
 use Rattle.outside_io.specs.Causes.{IsFileLonger}
-use Rattle.outside_io.specs.Counts.{IsFaultless, Rose}
 use Rattle.outside_io.specs.Files.{Files, FileHolds, LacksFile}
 use Rattle.outside_io.specs.declared.limits.TheConstants.{MAX_FILE}
 use Rattle.program_shell.specs.declared.failure.Failure.{Failure}
@@ -19,11 +18,7 @@ use Rattle.program_shell.specs.FinishedRuns.{ReportsFailure, all, but_report, up
 use Rattle.program_shell.specs.StepOutcomes.{IsFailureOf, status_of}
 use Rattle.program_shell.proofs.RunOutcomes.{IsPlanOutcome, IsRunOutcome, halted, made}
 use Rattle.program_shell.specs.ExactPlans.{IsExact}
-
--- where the count is quiet it did not rise
-no_rise : (before after : ℕ) → IsFaultless before after → Rose before after → ⊥
-no_rise before after quiet (inl more) = let same : after ≡ before = quiet.same in omega (arith, same, more)
-no_rise before after quiet (inr greatest) = quiet.below greatest
+use Rattle.outside_io.proofs.CallerLemmas.{no_rise}
 
 -- A visible file has one content.
 one_content : (files : Option Files) (name a b : List ℕ) → IsSome files → FileHolds files name a → FileHolds files name b → a ≡ b

@@ -1,22 +1,13 @@
 -- Tables of distances, as far as they are filled.
 use Rattle.std.proofs.Common.{◌≡◌, ◌<◌, ℕ, ◌+◌, ◌==◌, Bool, true, false, cond, ◌&&◌, ◌||◌, nat_lt, arith, refl, sym, ◌∙◌, ap, subst, List, [], length, get_or, Option, Some, slice_get, slice_index, ◌≤◌}
 use Rattle.std.proofs.lemmas.Bool.Decides.{nat_tests}
-use Rattle.std.proofs.lemmas.Option.{slice_get-get_or, slice_get_within}
 use Rattle.blossom_match.specs.Tables.{EntriesAre, after_set, entry}
 use Rattle.blossom_match.specs.TableValue.{TableValue}
 use Rattle.line_graph.specs.PieceGraphs.{PieceValue}
 use Rattle.line_graph.specs.PieceWalks.{piece_cost}
-use Rattle.odd_paths.specs.LeastRows.{AreRows, RowsValue, cost_at, cost_in, length_in, terminal_of}
+use Rattle.odd_paths.specs.LeastRows.{AreRows, RowsValue, cost_at, cost_in, terminal_of}
 use Rattle.route_core.specs.Distances.{HasDistances, HasFilledEntries, is_filled_entry}
-
-same : (m n : ℕ) → (m == n) ≡ true → m ≡ n
-same m n is = grind (arith, nat_tests)
-
-differs : (m n : ℕ) → m < n → (m == n) ≡ false
-differs m n h = grind (arith, nat_tests)
-
-differs_back : (m n : ℕ) → m < n → (n == m) ≡ false
-differs_back m n h = grind (arith, nat_tests)
+use Rattle.lists_and_numbers.proofs.CallerLemmas.{differs, differs_back, same_number}
 
 none_before : (a x y : ℕ) → x < y → is_filled_entry a (a + 1) x y ≡ false
 none_before a x y xy = by_test (x == a) refl
@@ -39,7 +30,7 @@ not_back : (a b x y : ℕ) → a < b → x < y → (x == b && y == a) ≡ false
 not_back a b x y ab xy = by_test (x == b) refl
   where
     by_test : (t : Bool) → (x == b) ≡ t → (t && y == a) ≡ false
-    by_test true is = differs_back a y (omega (arith, same x b is, ab, xy))
+    by_test true is = differs_back a y (omega (arith, same_number x b is, ab, xy))
     by_test false is = refl
 
 -- the entry of x and y once that of a and b is set
@@ -65,7 +56,7 @@ entry_after a b x y d k e now ab xy value is = by_test (x == a) refl
 
     by_other : (x == a) ≡ true → (t : Bool) → (y == b) ≡ t
         → cond ((x == a && y == b) || (x == b && y == a)) d now ≡ cond (x == a && nat_lt y (b + 1)) k e
-    by_other sx true ty = rw (sx, ty, next y b ty) (value (same y b ty))
+    by_other sx true ty = rw (sx, ty, next y b ty) (value (same_number y b ty))
     by_other sx false ty = rw (sx, ty, not_back a b x y ab xy, still y b ty) (is ∙ rw sx refl)
 
     by_test : (s : Bool) → (x == a) ≡ s
@@ -78,7 +69,7 @@ itself_after : (a b x d now : ℕ) → a < b → cond ((x == a && x == b) || (x 
 itself_after a b x d now ab = by_test (x == a) refl
   where
     by_test : (s : Bool) → (x == a) ≡ s → cond ((x == a && x == b) || (x == b && x == a)) d now ≡ now
-    by_test true is = rw (is, differs x b (omega (arith, same x a is, ab))) refl
+    by_test true is = rw (is, differs x b (omega (arith, same_number x a is, ab))) refl
     by_test false is = by_other (x == b) refl
       where
         by_other : (t : Bool) → (x == b) ≡ t → cond ((x == a && x == b) || (x == b && x == a)) d now ≡ now
@@ -103,13 +94,6 @@ pub terminal_there : (p : PieceValue) (rows : RowsValue) (terminals : List ℕ) 
     → b < length terminals → get_or terminals b 0 < length p.junctions
 terminal_there p rows terminals b are is =
     subst (λ (ts : List ℕ). b < length ts → get_or ts b 0 < length p.junctions) is (are.terminals.there b 0)
-
--- a row has a number for each junction
-pub row_wide : (p : PieceValue) (rows : RowsValue) (a : ℕ) (row : List ℕ) → AreRows p rows → slice_get rows.table a ≡ Some row
-    → length row ≡ length p.junctions
-row_wide p rows a row are is =
-    let within = slice_get_within rows.table a row is in
-    ap length_in (sym is ∙ slice_get-get_or rows.table a [] within) ∙ are.wide a [] within
 
 -- and it is at most the cost of all lines
 pub row_most : (p : PieceValue) (rows : RowsValue) (a j : ℕ) (row : List ℕ) → AreRows p rows → a < length rows.terminals
@@ -148,7 +132,7 @@ rows_more rows n a t new so_far fill = record {
     by_test : (x y : ℕ) → x < y → x < a + 1 → y < n → (s : Bool) → (x == a) ≡ s
         → cond (x == a && nat_lt y n) (cost_at rows a (terminal_of rows y)) (entry t x y) ≡ cost_at rows x (terminal_of rows y)
     by_test x y xy xa below true is =
-        rw (is, less y n below) (ap (λ (k : ℕ). cost_at rows k (terminal_of rows y)) (sym (same x a is)))
+        rw (is, less y n below) (ap (λ (k : ℕ). cost_at rows k (terminal_of rows y)) (sym (same_number x a is)))
     by_test x y xy xa below false is = rw is (so_far.entries x y xy (earlier x a xa is) below)
 
 pub rows_all : (rows : RowsValue) (n : ℕ) (t : TableValue) → HasRowsBefore rows n n t → HasDistances rows t

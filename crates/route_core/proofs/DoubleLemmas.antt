@@ -20,7 +20,8 @@ use Rattle.line_graph.specs.SewnWalks.{FittingWalksAreSewable, IsSewable, Pieces
 use Rattle.route_core.specs.declared.routed.Routed.{Routed}
 use Rattle.route_core.specs.Doubles.{AreDoubled, IsDoubleOver, IsDoubled, IsDoubleCert}
 use Rattle.route_verdict.specs.SewingSteps.{AllDrawn}
-use Rattle.route_core.proofs.SewnPieces.{Sewn, able, behind, front}
+use Rattle.route_core.proofs.SewnPieces.{Sewn, able}
+use Rattle.lists_and_numbers.proofs.CallerLemmas.{below_left, below_right}
 
 -- what doubles the pieces that are left has doubled all
 pub record LeftDoubles (pieces : List Piece) (certs : List PieceCert) (rest : List Piece) : Type 0 where
@@ -151,9 +152,9 @@ all_good d keeps sews [] [] below each doubled = tt
 all_good d keeps sews [] (c ∷ certs) below each doubled = absurd doubled
 all_good d keeps sews (p ∷ pieces) [] below each doubled = absurd doubled
 all_good d keeps sews (p ∷ pieces) (c ∷ certs) below each doubled = (
-  good d keeps sews p c (front (length d.lines) p.lines (concat (lines_of_pieces pieces)) below)
+  good d keeps sews p c (below_left (length d.lines) p.lines (concat (lines_of_pieces pieces)) below)
       (All-head (λ (p : Piece). graph_of p ≡ piece_graph d p.lines) p pieces each) doubled.0,
-  all_good d keeps sews pieces certs (behind (length d.lines) p.lines (concat (lines_of_pieces pieces)) below)
+  all_good d keeps sews pieces certs (below_right (length d.lines) p.lines (concat (lines_of_pieces pieces)) below)
       (All-tail (λ (p : Piece). graph_of p ≡ piece_graph d p.lines) p pieces each) doubled.1,
 )
 

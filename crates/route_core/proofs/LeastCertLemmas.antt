@@ -1,11 +1,8 @@
 -- The certificate that is made for a piece proves its walk least, and can be printed.
-use Rattle.std.proofs.Common.{◌≡◌, ◌≢◌, ◌≤◌, ◌<◌, ℕ, ◌+◌, ◌*◌, ◌^◌, ◌==◌, Bool, true, false, cond, nat_lt, List, [], ◌∷◌, length, get_or, Option, Some, None, All, arith, refl, sym, ◌∙◌, ap, subst}
+use Rattle.std.proofs.Common.{◌≡◌, ◌≢◌, ◌≤◌, ◌<◌, ℕ, ◌+◌, ◌*◌, ◌^◌, ◌==◌, Bool, true, false, cond, nat_lt, List, [], ◌∷◌, length, get_or, Option, Some, None, All, arith, refl, sym, ◌∙◌, ap}
 use Rattle.std.proofs.lemmas.Bool.Decides.{nat_tests}
 use Rattle.std.proofs.lemmas.Bool.{and_parts}
-use Rattle.std.proofs.lemmas.List.Elements.{All-cons, All-filter, All-from_get_or, All-get_or}
-use Rattle.std.proofs.lemmas.List.FromFn.{get_or-range_with_len, length-range_with_len}
-use Rattle.std.proofs.lemmas.List.Kept.{AllPairs-filter}
-use Rattle.std.specs.List.{range_with_len}
+use Rattle.std.proofs.lemmas.List.Elements.{All-cons, All-from_get_or, All-get_or}
 use Rattle.blossom_match.specs.declared.matching.Moat.{Moat}
 use Rattle.blossom_match.specs.declared.matching.Pair.{Pair}
 use Rattle.blossom_match.specs.Matchings.{width_of}
@@ -20,28 +17,13 @@ use Rattle.line_graph.specs.declared.edge.Edge.{Edge}
 use Rattle.line_graph.specs.declared.limits.TheConstants.{MAX_COST, MAX_LINES}
 use Rattle.line_graph.specs.declared.pass.Pass.{Pass}
 use Rattle.line_graph.specs.ValidPieces.{IsValidPiece, all_below}
-use Rattle.line_graph.specs.PieceGraphs.{PieceValue, is_odd_junction, odd_junctions}
-use Rattle.line_graph.specs.PieceWalks.{after_edge, are_same_junction, required_start, covers, edge_of, required_end, is_walk_start_to_end, piece_cost, walk_cost, walk_end_from}
-use Rattle.odd_paths.specs.LeastRows.{AreTerminals, RowsValue}
+use Rattle.line_graph.specs.PieceGraphs.{PieceValue}
+use Rattle.line_graph.specs.PieceWalks.{after_edge, required_start, covers, edge_of, required_end, is_walk_start_to_end, piece_cost, walk_cost, walk_end_from}
+use Rattle.odd_paths.specs.LeastRows.{RowsValue}
 use Rattle.route_core.specs.Copies.{pair_costs}
 use Rattle.route_core.specs.OddPairs.{AreOddPairs, IsWalkBy}
 use Rattle.route_core.specs.PieceCertificates.{CertifiesLeastWalk}
-
--- the odd junctions are different junctions
-pub odds_are_terminals : (p : PieceValue) → AreTerminals p (odd_junctions p)
-odds_are_terminals p = record {
-  different = AllPairs-filter (λ (t u : ℕ). t ≢ u) (is_odd_junction p) (range_with_len 0 (length p.junctions))
-      (λ i. λ j. λ d. λ less. λ below.
-      differ (length p.junctions) i j d less (subst (λ (n : ℕ). j < n) (length-range_with_len 0 (length p.junctions)) below));
-  there = All-filter (is_odd_junction p) (λ (t : ℕ). t < length p.junctions) (range_with_len 0 (length p.junctions))
-      (All-from_get_or (λ (t : ℕ). t < length p.junctions) (range_with_len 0 (length p.junctions)) 0 (λ i. λ below.
-      let within = subst (λ (n : ℕ). i < n) (length-range_with_len 0 (length p.junctions)) below in
-      omega (arith, get_or-range_with_len 0 (length p.junctions) i 0 within, within)));
-}
-  where
-    differ : (n i j d : ℕ) → i < j → j < n → get_or (range_with_len 0 n) i d ≢ get_or (range_with_len 0 n) j d
-    differ n i j d less below same =
-        omega (arith, less, get_or-range_with_len 0 n i d (omega (arith, less, below)), get_or-range_with_len 0 n j d below, same)
+use Rattle.line_graph.proofs.CallerLemmas.{goes_from, lost}
 
 -- least walks between the pairs cost no more than the lines
 pub pairs_cost_few : (p : PieceValue) → IsValidPiece p → BoundsTotal
@@ -87,10 +69,6 @@ line_below n (m ∷ ns) (x ∷ es) line e below is =
     by_test true here is more = less line m n here (and_parts (nat_lt m n) (all_below n ns) below).0
     by_test false other is more = more is
 
-lost : (ns : List ℕ) (es : List Edge) (ps : List Pass) (to : ℕ) → walk_end_from ns es None ps ≡ Some to → ⊥
-lost ns es [] to is = cc
-lost ns es (p ∷ ps) to is = lost ns es ps to is
-
 -- the passes of a walk go along lines of the piece
 passes_below : (n : ℕ) (ns : List ℕ) (es : List Edge) → all_below n ns ≡ true → (at : Option ℕ) (ps : List Pass) (to : ℕ)
     → walk_end_from ns es at ps ≡ Some to
@@ -107,10 +85,6 @@ passes_below n ns es below (Some at) (p ∷ ps) to is = by_edge (edge_of ns es p
     by_edge (Some e) here is more =
         All-cons (λ (pass : Pass). pass.line < n) p ps (line_below n ns es p.line e below here) (more (after_edge (Some e) p.back at) is)
 
-somewhere : (x y : Option ℕ) → are_same_junction x y ≡ true → (to : ℕ) × (x ≡ Some to)
-somewhere None y is = absurd (cc)
-somewhere (Some a) y is = (a, refl)
-
 pub spelled : (p : PieceValue) → IsValidPiece p → (rows : RowsValue) (pairs : List Pair) (moats : List Moat) (cert : PieceCert)
     → IsLifted p moats cert.cuts → IsWalkBy p rows pairs cert.walk → HasCanonicalText cert
 spelled p kept rows pairs moats cert lifted walk = record {
@@ -126,7 +100,7 @@ spelled p kept rows pairs moats cert lifted walk = record {
 }
   where
     there : (to : ℕ) × (walk_end_from p.lines p.edges (required_start p cert.walk) cert.walk ≡ Some to)
-    there = somewhere (walk_end_from p.lines p.edges (required_start p cert.walk) cert.walk) (required_end p cert.walk)
+    there = goes_from (walk_end_from p.lines p.edges (required_start p cert.walk) cert.walk) (required_end p cert.walk)
         (and_parts (is_walk_start_to_end p cert.walk) (covers p.lines cert.walk) walk.fitting).0
 
     some : (ps : List Pass) → 1 ≤ length ps → ps ≢ []

@@ -1,5 +1,5 @@
 -- Least costs are the same both ways, and none is more than those of a way round.
-use Rattle.std.proofs.Common.{◌≡◌, ◌≤◌, ◌<◌, ℕ, ◌+◌, ◌*◌, ◌==◌, Bool, true, false, cond, not, nat_lt, List, [], ◌∷◌, ◌++◌, min, max, slice_index, Option, Some, None, arith, refl, sym, ◌∙◌, ap, subst}
+use Rattle.std.proofs.Common.{◌≡◌, ◌≤◌, ◌<◌, ℕ, ◌+◌, ◌*◌, ◌==◌, Bool, true, false, cond, not, nat_lt, List, [], ◌∷◌, ◌++◌, Option, Some, None, arith, refl, sym, ◌∙◌, ap, subst}
 use Rattle.std.proofs.lemmas.Bool.Decides.{nat_tests}
 use Rattle.blossom_match.specs.Tables.{HasTriangleInequality, entry}
 use Rattle.blossom_match.specs.TableValue.{TableValue}
@@ -9,11 +9,9 @@ use Rattle.line_graph.specs.PieceGraphs.{PieceValue}
 use Rattle.line_graph.specs.PieceWalks.{after_edge, after_pass, edge_cost, edge_of, pass_end, edge_value, pass_sum, pass_start, walk_cost, walk_end_from}
 use Rattle.odd_paths.specs.LeastRows.{IsLeastCost, RowsValue, cost_at, terminal_of}
 use Rattle.route_core.specs.Distances.{IsTableOf}
-
-walk_append : (ns : List ℕ) (es : List Edge) (at : Option ℕ) (xs ys : List Pass) → walk_end_from ns es at (xs ++ ys)
-    ≡ walk_end_from ns es (walk_end_from ns es at xs) ys
-walk_append ns es at [] ys = refl
-walk_append ns es at (x ∷ xs) ys = walk_append ns es (after_pass ns es x at) xs ys
+use Rattle.blossom_match.proofs.CallerLemmas.{entry-comm}
+use Rattle.line_graph.proofs.CallerLemmas.{lost, walk_append}
+use Rattle.lists_and_numbers.proofs.CallerLemmas.{eq_self, same_number}
 
 sum_append : (ns : List ℕ) (es : List Edge) (f : Edge → ℕ) (xs ys : List Pass) → pass_sum ns es f (xs ++ ys)
     ≡ pass_sum ns es f xs + pass_sum ns es f ys
@@ -30,16 +28,6 @@ sum_append ns es f (x ∷ xs) ys = rw (sum_append ns es f xs ys) (regroup (edge_
 abbrev flipped : Pass → Pass
 flipped p = record { line = p.line; back = not p.back }
 
-lost : (ns : List ℕ) (es : List Edge) (ps : List Pass) (k : ℕ) → walk_end_from ns es None ps ≡ Some k → ⊥
-lost ns es [] k is = cc
-lost ns es (p ∷ ps) k is = lost ns es ps k is
-
-same : (m n : ℕ) → (m == n) ≡ true → m ≡ n
-same m n is = grind (arith, nat_tests)
-
-eq_self : (n : ℕ) → (n == n) ≡ true
-eq_self n = grind (arith, nat_tests)
-
 -- an edge leads back from where it leads to
 flip_edge : (found : Option Edge) (back : Bool) (j m : ℕ) → after_edge found back j ≡ Some m → after_edge found (not back) m ≡ Some j
 flip_edge None back j m is = absurd (cc)
@@ -53,7 +41,7 @@ flip_edge (Some e) back j m is = by_test (pass_start e back == j) refl is
         ≡ Some j
     by_test true test is =
         let to : pass_end e back ≡ m = cc in
-        rw (← to, ← same (pass_start e back) j test) (turned e back)
+        rw (← to, ← same_number (pass_start e back) j test) (turned e back)
     by_test false test is = absurd (cc)
 
 -- a walk from one junction to another, and what it costs
@@ -118,18 +106,6 @@ least_round p i j k c d e l m n =
     both : (x y c d : ℕ) → x ≡ c → y ≡ d → x + y ≡ c + d
     both x y c d h g = omega arith
 
-entry_back : (t : TableValue) (a b : ℕ) → entry t a b ≡ entry t b a
-entry_back t a b = ap (slice_index t.cells) (turned a b t.places)
-  where
-    small : (a b : ℕ) → min a b ≡ min b a
-    small a b = omega arith
-
-    large : (a b : ℕ) → max a b ≡ max b a
-    large a b = omega arith
-
-    turned : (a b n : ℕ) → min a b * n + max a b ≡ min b a * n + max b a
-    turned a b n = rw (small a b, large a b) refl
-
 -- each entry is the least cost between two terminals
 pub entry_least : (p : PieceValue) (rows : RowsValue) (t : TableValue) → IsTableOf p rows t → (a b : ℕ) → a < t.places → b < t.places
     → IsLeastCost p (terminal_of rows a) (terminal_of rows b) (entry t a b)
@@ -150,7 +126,7 @@ entry_least p rows t j a b a_in b_in = by_test (nat_lt a b) refl (nat_lt b a) re
         → IsLeastCost p (terminal_of rows a) (terminal_of rows b) (entry t a b)
     by_test true is u other = at a b (less a b is) b_in
     by_test false is true other =
-        subst (IsLeastCost p (terminal_of rows a) (terminal_of rows b)) (entry_back t b a)
+        subst (IsLeastCost p (terminal_of rows a) (terminal_of rows b)) (entry-comm t b a)
         (least_back p (terminal_of rows b) (terminal_of rows a) (entry t b a) (at b a (less b a other) a_in))
     by_test false is false other =
         subst (λ (k : ℕ). IsLeastCost p (terminal_of rows a) (terminal_of rows k) (entry t a k)) (sym (equal a b is other))

@@ -15,38 +15,22 @@ use Rattle.route_core.proofs.LeastLemmas.{entry_is}
 use Rattle.route_core.specs.Copies.{IsPairOf, pair_costs}
 use Rattle.route_core.specs.Distances.{HasDistances, IsTableOf}
 use Rattle.route_core.specs.OddPairs.{AreOddRows, AreOddPairs}
+use Rattle.blossom_match.proofs.CallerLemmas.{ends_below}
+use Rattle.lists_and_numbers.proofs.CallerLemmas.{eq_self, sum_over}
 
 -- how often a pair ends at a place
 abbrev ends_in : ℕ → Pair → ℕ
 ends_in x q = cond (x == q.a) 1 0 + cond (x == q.b) 1 0
 
-eq_self : (n : ℕ) → (n == n) ≡ true
-eq_self n = grind (arith, nat_tests)
-
 met : (n : ℕ) → 1 ≤ cond (n == n) 1 0
 met n = rw (eq_self n) (omega arith)
-
--- a number that is an end of a pair is a place
-within : (n : ℕ) (pairs : List Pair) → IsPerfectMatching n pairs → (x : ℕ) → 1 ≤ pair_ends_at pairs x → x < n
-within n pairs each x some = by_test (nat_lt x n) refl
-  where
-    less : (m n : ℕ) → nat_lt m n ≡ true → m < n
-    less m n is = grind (arith, nat_tests)
-
-    none : (t : Bool) → t ≡ false → cond t 1 0 < 1
-    none true is = absurd (cc)
-    none false is = omega arith
-
-    by_test : (t : Bool) → nat_lt x n ≡ t → x < n
-    by_test true is = less x n is
-    by_test false is = absurd (omega (arith, some, each x, none (nat_lt x n) is))
 
 pairs_within : (rows : RowsValue) (pairs : List Pair) → IsPerfectMatching (length rows.terminals) pairs → All (IsPairOf rows) pairs
 pairs_within rows pairs each = All-from_get_or (IsPairOf rows) pairs (record { a = 0; b = 0 })
     (λ i. λ below. let q = get_or pairs i (record { a = 0; b = 0 }) in record {
-      a_in = within (length rows.terminals) pairs each q.a (first q (pair_ends_at pairs q.a)
+      a_in = ends_below (length rows.terminals) pairs each q.a (first q (pair_ends_at pairs q.a)
           (get_or-le-sum_by (ends_in q.a) pairs i (record { a = 0; b = 0 }) below));
-      b_in = within (length rows.terminals) pairs each q.b (second q (pair_ends_at pairs q.b)
+      b_in = ends_below (length rows.terminals) pairs each q.b (second q (pair_ends_at pairs q.b)
           (get_or-le-sum_by (ends_in q.b) pairs i (record { a = 0; b = 0 }) below));
     })
   where
@@ -67,11 +51,6 @@ costs_are p rows t table (q ∷ pairs) there =
       ← entry_is p rows t table q.a q.b (omega (arith, table.places, here.a_in)) (omega (arith, table.places, here.b_in)),
     )
     (sym (sum_by-cons (λ (q : Pair). entry t q.a q.b) q pairs))
-
--- the sum of a quantity over numbers from one on
-abbrev sum_over : (ℕ → ℕ) → ℕ → ℕ → ℕ
-sum_over f at zero = 0
-sum_over f at (suc n) = f at + sum_over f (at + 1) n
 
 over_at : (x at n : ℕ) → at ≤ x → x < at + n → 1 ≤ sum_over (λ y. cond (y == x) 1 0) at n
 over_at x at zero from to = absurd (omega arith)

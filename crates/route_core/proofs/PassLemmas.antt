@@ -6,7 +6,6 @@ use Rattle.std.proofs.lemmas.List.Elements.{All-head, All-tail}
 use Rattle.std.proofs.lemmas.List.{length-replicate}
 use Rattle.std.proofs.lemmas.List.Sums.{sum_by-cons}
 use Rattle.std.specs.List.{range_with_len}
-use Rattle.std.specs.Option.{option_or}
 use Rattle.blossom_match.specs.declared.matching.Pair.{Pair}
 use Rattle.blossom_match.specs.Matchings.{IsPerfectMatching, pair_ends_at}
 use Rattle.euler_tour.specs.Tours.{CanPass, IsTour, copies_cost, pass_count, pass_ends}
@@ -21,15 +20,8 @@ use Rattle.route_core.proofs.PairLemmas.{none_cost}
 use Rattle.route_core.proofs.PathLemmas.{up_within}
 use Rattle.route_core.specs.Copies.{AddsPairs, IsPairOf, total_copies, copies_sum, edge_end_count, pair_costs, pair_ends}
 use Rattle.route_core.specs.OddPairs.{AreOddRows, IsWalkBy}
-
-same : (m n : ℕ) → (m == n) ≡ true → m ≡ n
-same m n is = grind (arith, nat_tests)
-
-eq_self : (n : ℕ) → (n == n) ≡ true
-eq_self n = grind (arith, nat_tests)
-
-apart : (m n : ℕ) → m ≢ n → (m == n) ≡ false
-apart m n h = grind (arith, nat_tests)
+use Rattle.line_graph.proofs.CallerLemmas.{or_below}
+use Rattle.lists_and_numbers.proofs.CallerLemmas.{eq_self, same_number, unequal}
 
 -- a number of a range that passes a test is among those that do
 found : (o : ℕ → Bool) (at n v : ℕ) → at ≤ v → v < at + n → o v ≡ true
@@ -53,7 +45,7 @@ found o at (suc n) v from to is = by_test (at == v) refl (λ (h : at + 1 ≤ v).
         → (a : ℕ) × (a < length (cond (o at) (at ∷ filter o (range_with_len (at + 1) n)) (filter o (range_with_len (at + 1) n))))
         × (get_or (cond (o at) (at ∷ filter o (range_with_len (at + 1) n)) (filter o (range_with_len (at + 1) n))) a 0 ≡ v)
     by_test true here rest =
-        let e = same at v here in
+        let e = same_number at v here in
         let odd : o at ≡ true = ap o e ∙ is in
         rw odd (subst (λ (k : ℕ). (a : ℕ) × (a < length (at ∷ filter o (range_with_len (at + 1) n)))
         × (get_or (at ∷ filter o (range_with_len (at + 1) n)) a 0 ≡ k)) e
@@ -105,13 +97,13 @@ ends_at_terminal p rows ts x x_in (q ∷ pairs) there =
 
     differ : (a : ℕ) → a < length rows.terminals → (x == a) ≡ false → (s : Bool) → nat_lt a x ≡ s
         → (terminal_of rows a == terminal_of rows x) ≡ false
-    differ a a_in other true is = apart (terminal_of rows a) (terminal_of rows x) (ts.different a x 0 (less_back a x is) x_in)
+    differ a a_in other true is = unequal (terminal_of rows a) (terminal_of rows x) (ts.different a x 0 (less_back a x is) x_in)
     differ a a_in other false is =
-        apart (terminal_of rows a) (terminal_of rows x) (λ h. ts.different x a 0 (less a x other is) a_in (sym h))
+        unequal (terminal_of rows a) (terminal_of rows x) (λ h. ts.different x a 0 (less a x other is) a_in (sym h))
 
     by_test : (a : ℕ) → a < length rows.terminals → (t : Bool) → (x == a) ≡ t → one_if (terminal_of rows a == terminal_of rows x)
         ≡ cond (x == a) 1 0
-    by_test a a_in true is = rw (is, ← same x a is, eq_self (terminal_of rows x)) refl
+    by_test a a_in true is = rw (is, ← same_number x a is, eq_self (terminal_of rows x)) refl
     by_test a a_in false is = rw (is, differ a a_in is (nat_lt a x) refl) refl
 
     is_end : (a : ℕ) → a < length rows.terminals → one_if (terminal_of rows a == terminal_of rows x) ≡ cond (x == a) 1 0
@@ -124,8 +116,8 @@ ends_elsewhere rows v other [] there = refl
 ends_elsewhere rows v other (q ∷ pairs) there =
     let here = All-head (IsPairOf rows) q pairs there in
     rw (
-      apart (terminal_of rows q.a) v (other q.a here.a_in),
-      apart (terminal_of rows q.b) v (other q.b here.b_in),
+      unequal (terminal_of rows q.a) v (other q.a here.a_in),
+      unequal (terminal_of rows q.b) v (other q.b here.b_in),
       ends_elsewhere rows v other pairs (All-tail (IsPairOf rows) q pairs there),
     ) refl
 
@@ -157,10 +149,6 @@ closing_beyond n v (Some a) (Some b) f t beyond = rw (other a f beyond, other b 
   where
     other : (a : ℕ) → nat_lt a n ≡ true → n ≤ v → (a == v) ≡ false
     other a is beyond = grind (arith, nat_tests)
-
-or_below : (n : ℕ) (x y : Option ℕ) → is_below n x ≡ true → is_below n y ≡ true → is_below n (option_or x y) ≡ true
-or_below n (Some a) y f t = f
-or_below n None y f t = t
 
 -- the ends of passes are those of the lines, and those of the copies
 ends_are : (es : List Edge) (copies : List ℕ) (v : ℕ) → length copies ≡ length es → pass_ends es copies v

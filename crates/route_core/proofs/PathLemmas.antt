@@ -1,5 +1,5 @@
 -- Paths by the places of their lines, and the ends of their passes.
-use Rattle.std.proofs.Common.{◌≡◌, ◌≤◌, ◌<◌, ℕ, zero, suc, ◌+◌, ◌*◌, ◌%◌, ◌^◌, ◌==◌, Bool, true, false, cond, nat_le, nat_lt, List, [], ◌∷◌, length, map, get_or, slice_get, Option, Some, None, All, arith, refl, sym, ◌∙◌, subst}
+use Rattle.std.proofs.Common.{◌≡◌, ◌≤◌, ◌<◌, ℕ, zero, suc, ◌+◌, ◌*◌, ◌%◌, ◌^◌, ◌==◌, Bool, true, false, cond, nat_le, List, [], ◌∷◌, length, map, get_or, slice_get, Option, Some, None, All, arith, refl, sym, ◌∙◌, subst}
 use Rattle.std.proofs.lemmas.Bool.Decides.{nat_tests}
 use Rattle.std.proofs.lemmas.Bool.{and_parts}
 use Rattle.std.proofs.lemmas.List.Elements.{All-head, All-tail}
@@ -12,17 +12,8 @@ use Rattle.line_graph.specs.PieceGraphs.{PieceValue, one_if}
 use Rattle.line_graph.specs.PieceWalks.{all_greater, after_edge, edge_cost, edge_of, pass_end, edge_value, pass_sum, is_strictly_increasing, pass_start, walk_end_from}
 use Rattle.odd_paths.specs.LeastRows.{IsPath, RowsValue, cost_at, lines_at_indexes, terminal_of}
 use Rattle.route_core.specs.Copies.{AddsPairs, AddsCopies, total_copies, copies_sum, edge_end_count, pair_ends, index_sum}
-
-above_at : (n : ℕ) (ns : List ℕ) (i : ℕ) → all_greater n ns ≡ true → i < length ns → n < get_or ns i 0
-above_at n [] i up below = absurd (omega arith)
-above_at n (m ∷ ns) zero up below = less n m (and_parts (nat_lt n m) (all_greater n ns) up).0
-  where
-    less : (n m : ℕ) → nat_lt n m ≡ true → n < m
-    less n m is = grind (arith, nat_tests)
-above_at n (m ∷ ns) (suc i) up below = above_at n ns i (and_parts (nat_lt n m) (all_greater n ns) up).1 (omega arith)
-
-eq_self : (n : ℕ) → (n == n) ≡ true
-eq_self n = grind (arith, nat_tests)
+use Rattle.line_graph.proofs.CallerLemmas.{above_at, lost}
+use Rattle.lists_and_numbers.proofs.CallerLemmas.{eq_self}
 
 -- the edge of the line at a place
 pub edge_at : (ns : List ℕ) (es : List Edge) (k : ℕ) → is_strictly_increasing ns ≡ true → length ns ≡ length es → k < length ns
@@ -53,10 +44,6 @@ path_sum p kept f (pass ∷ walk) (k ∷ places) along there =
       edge_at p.lines p.edges k kept.rising kept.beside (All-head (λ k. k < length p.lines) k places there),
       path_sum p kept f walk places rest (All-tail (λ k. k < length p.lines) k places there),
     ) refl
-
-lost : (ns : List ℕ) (es : List Edge) (ps : List Pass) (to : ℕ) → walk_end_from ns es None ps ≡ Some to → ⊥
-lost ns es [] to is = cc
-lost ns es (p ∷ ps) to is = lost ns es ps to is
 
 -- a junction is an end of an even number of passes, its ends of the walk counted with them
 pub walk_ends : (ns : List ℕ) (es : List Edge) (v : ℕ) (ps : List Pass) (at to : ℕ) → walk_end_from ns es (Some at) ps ≡ Some to

@@ -20,7 +20,8 @@ use Rattle.route_core.specs.PieceCertificates.{CertifiesLeastWalk}
 use Rattle.route_core.specs.RoutedPieceCertificates.{AreRouted, IsRoutedPiece}
 use Rattle.route_core.specs.Routes.{IsLeastPieceRoute, IsRouteOver}
 use Rattle.route_verdict.specs.SewingSteps.{AllDrawn}
-use Rattle.route_core.proofs.SewnPieces.{Sewn, able, behind, front}
+use Rattle.route_core.proofs.SewnPieces.{Sewn, able}
+use Rattle.lists_and_numbers.proofs.CallerLemmas.{below_left, below_right}
 
 -- what routes the pieces that are left has routed all
 pub record LeftPieces (pieces : List Piece) (certs : List PieceCert) (rest : List Piece) : Type 0 where
@@ -74,9 +75,9 @@ all_good d keeps sews keeps_total [] [] below each routed = tt
 all_good d keeps sews keeps_total [] (c ∷ certs) below each routed = absurd routed
 all_good d keeps sews keeps_total (p ∷ pieces) [] below each routed = absurd routed
 all_good d keeps sews keeps_total (p ∷ pieces) (c ∷ certs) below each routed = (
-  good d keeps sews keeps_total p c (front (length d.lines) p.lines (concat (lines_of_pieces pieces)) below)
+  good d keeps sews keeps_total p c (below_left (length d.lines) p.lines (concat (lines_of_pieces pieces)) below)
       (All-head (λ (p : Piece). graph_of p ≡ piece_graph d p.lines) p pieces each) routed.0,
-  all_good d keeps sews keeps_total pieces certs (behind (length d.lines) p.lines (concat (lines_of_pieces pieces)) below)
+  all_good d keeps sews keeps_total pieces certs (below_right (length d.lines) p.lines (concat (lines_of_pieces pieces)) below)
       (All-tail (λ (p : Piece). graph_of p ≡ piece_graph d p.lines) p pieces each) routed.1,
 )
 

@@ -1,22 +1,20 @@
 -- Walks over pieces that can be sewn, and what is needed to sew them all.
-use Rattle.std.proofs.Common.{◌≡◌, ◌≢◌, ◌≤◌, ◌<◌, ℕ, suc, ◌+◌, ◌-◌, ◌*◌, List, [], ◌∷◌, ◌++◌, length, map, replicate, All, Contains, sum_by, arith, refl, ap}
-use Rattle.std.proofs.lemmas.List.{length-append, length-map, length-replicate}
+use Rattle.std.proofs.Common.{◌≡◌, ◌≢◌, ◌≤◌, ◌<◌, ℕ, suc, ◌+◌, ◌-◌, ◌*◌, List, [], ◌∷◌, ◌++◌, length, All, Contains, sum_by, arith, refl, ap}
 use Rattle.std.proofs.lemmas.List.Elements.{All-cons, All-contains, All-head, All-nil, All-tail}
 use Rattle.std.proofs.lemmas.List.Sums.{sum_by-cons}
 use Rattle.std.specs.List.{AllZip}
 use Rattle.odd_cuts.specs.declared.certificate.PieceCert.{PieceCert}
 use Rattle.odd_cuts.specs.Certificates.{HasCanonicalText, walks_of}
-use Rattle.design_model.specs.declared.command.Command.TheVariants.{Stitch, Stop, Trim}
-use Rattle.design_model.specs.declared.point.Point.{Point}
 use Rattle.line_graph.specs.declared.pass.Pass.{Pass}
 use Rattle.line_graph.specs.Drawings.{DrawingValue, KeepsDrawingLimits}
 use Rattle.line_graph.specs.PieceGraphs.{piece_graph}
 use Rattle.line_graph.specs.Pieces.{ArePieces}
 use Rattle.line_graph.specs.PieceWalks.{piece_cost, walk_cost}
-use Rattle.line_graph.specs.Runs.{AreNear, AreWritable, Run, commands_after, run_of, runs_of, stops_after}
+use Rattle.line_graph.specs.Runs.{AreNear, AreWritable, Run, commands_after, run_of, runs_of}
 use Rattle.line_graph.specs.SewnWalks.{ArePiecesWithin, GoesAlong, IsSewable, PiecesKeepLimits}
 use Rattle.line_graph.specs.Walks.{needles_of_walk}
 use Rattle.route_verdict.specs.SewingSteps.{AllDrawn, AreDrawn}
+use Rattle.line_graph.proofs.CallerLemmas.{commands_count}
 
 -- the walk of a piece can be sewn and printed, and costs no more than the lines twice
 pub record Sewn (d : DrawingValue) (lines : List ℕ) (cert : PieceCert) : Type 0 where
@@ -24,17 +22,6 @@ pub record Sewn (d : DrawingValue) (lines : List ℕ) (cert : PieceCert) : Type 
   pub sewable : IsSewable d lines cert.walk
   pub below : All (λ line. line < length d.lines) lines
   pub costs : walk_cost (piece_graph d lines) cert.walk ≤ 2 * piece_cost (piece_graph d lines)
-
--- the lines of the first piece, and of those after it
-pub front : (n : ℕ) (xs ys : List ℕ) → All (λ line. line < n) (xs ++ ys) → All (λ line. line < n) xs
-front n [] ys all = All-nil (λ line. line < n)
-front n (x ∷ xs) ys all =
-    All-cons (λ line. line < n) x xs (All-head (λ line. line < n) x (xs ++ ys) all)
-    (front n xs ys (All-tail (λ line. line < n) x (xs ++ ys) all))
-
-pub behind : (n : ℕ) (xs ys : List ℕ) → All (λ line. line < n) (xs ++ ys) → All (λ line. line < n) ys
-behind n [] ys all = all
-behind n (x ∷ xs) ys all = behind n xs ys (All-tail (λ line. line < n) x (xs ++ ys) all)
 
 spelled_of : (d : DrawingValue) (pieces : List (List ℕ)) (certs : List PieceCert) → AllZip (Sewn d) pieces certs
     → All HasCanonicalText certs
@@ -114,21 +101,6 @@ writable d keeps pieces certs within all = record {
   needles_to = omega (arith, needles_few d pieces certs all, within.cost, within.count);
   stops_to = omega (arith, within.stops (walks_of certs) (along_of d pieces certs all), keeps.blocks_to);
 }
-
--- the commands of runs are their stops, their needles and a trim for each
-commands_count : (block : ℕ) (runs : List Run)
-    → length (commands_after block runs) ≡ stops_after block runs + (sum_by (λ (run : Run). length run.needles) runs + length runs)
-commands_count block [] = omega arith
-commands_count block (run ∷ rest) =
-    omega (
-      arith,
-      commands_count run.block rest,
-      length-append (replicate (run.block - block) Stop) (map (λ p. Stitch p) run.needles ++ Trim ∷ commands_after run.block rest),
-      length-append (map (λ (p : Point). Stitch p) run.needles) (Trim ∷ commands_after run.block rest),
-      length-map run.needles (λ (p : Point). Stitch p),
-      length-replicate (run.block - block) Stop,
-      sum_by-cons (λ (run : Run). length run.needles) run rest,
-    )
 
 -- what is needed to sew the certificates, and what is then known
 pub record Able (d : DrawingValue) (certs : List PieceCert) : Type 0 where

@@ -1,3 +1,4 @@
+pub mod CallerLemmas
 mod SewLemmas
 mod ActOrderLemmas
 mod SameActs

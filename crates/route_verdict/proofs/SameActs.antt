@@ -1,22 +1,12 @@
 -- Acts and lists of them are the same exactly where no difference is found.
 use Rattle.std.proofs.Common.{◌≡◌, ℕ, ℤ, ◌+◌, Bool, true, false, cond, List, [], ◌∷◌, Some, None, refl, ◌∙◌, ap}
 use Rattle.std.proofs.lemmas.Bool.{and_from, and_parts}
-use Rattle.std.proofs.lemmas.Bool.Decides.{Decides-int_eq}
-use Rattle.std.specs.Ordering.{int_eq}
 use Rattle.design_model.specs.declared.act.Act.{Act}
 use Rattle.design_model.specs.declared.act.Act.TheVariants as act
 use Rattle.design_model.specs.declared.point.Point.{Point}
 use Rattle.design_model.specs.Points.{is_same_point}
 use Rattle.route_verdict.specs.ActOrder.{first_differing_act, is_same_act, are_equal_bools}
-
-same_point : (p q : Point) → is_same_point p q ≡ true → p ≡ q
-same_point p q is =
-    let both = and_parts (int_eq p.x q.x) (int_eq p.y q.y) is in
-    ap (λ (x : ℤ). record { x = x; y = p.y }) ((Decides-int_eq p.x q.x).0 both.0)
-    ∙ ap (λ (y : ℤ). record { x = q.x; y = y }) ((Decides-int_eq p.y q.y).0 both.1)
-
-point_itself : (p : Point) → is_same_point p p ≡ true
-point_itself p = and_from (int_eq p.x p.x) (int_eq p.y p.y) ((Decides-int_eq p.x p.x).1 refl) ((Decides-int_eq p.y p.y).1 refl)
+use Rattle.design_model.proofs.CallerLemmas.{point_itself, same_is}
 
 same_answer : (a b : Bool) → are_equal_bools a b ≡ true → a ≡ b
 same_answer true true is = refl
@@ -31,7 +21,7 @@ answer_itself false = refl
 same_act : (a b : Act) → is_same_act a b ≡ true → a ≡ b
 same_act (act.Needle p float) (act.Needle q other) is =
     let both = and_parts (is_same_point p q) (are_equal_bools float other) is in
-    ap (λ (at : Point). act.Needle at float) (same_point p q both.0) ∙ ap (λ (f : Bool). act.Needle q f) (same_answer float other both.1)
+    ap (λ (at : Point). act.Needle at float) (same_is p q both.0) ∙ ap (λ (f : Bool). act.Needle q f) (same_answer float other both.1)
 same_act (act.Needle p float) act.Trim is = absurd (cc)
 same_act (act.Needle p float) act.Stop is = absurd (cc)
 same_act act.Trim (act.Needle q other) is = absurd (cc)

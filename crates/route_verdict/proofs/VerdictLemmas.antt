@@ -1,18 +1,14 @@
 -- Verdicts: no reason is found exactly where all is right, and then each walk is least.
-use Rattle.std.proofs.Common.{◌≡◌, ◌≤◌, ◌<◌, ℕ, ◌+◌, ◌-◌, ◌*◌, ◌==◌, Bool, true, false, cond, List, [], ◌∷◌, ◌++◌, Option, Some, None, length, map, All, Contains, arith, refl, sym, ◌∙◌, ap, subst}
-use Rattle.std.proofs.lemmas.Bool.Decides.{nat_tests}
+use Rattle.std.proofs.Common.{◌≡◌, ◌≤◌, ◌<◌, ℕ, ◌+◌, ◌-◌, ◌*◌, ◌==◌, true, List, [], ◌∷◌, ◌++◌, Option, Some, None, length, map, All, Contains, arith, refl, sym, ◌∙◌, ap, subst}
 use Rattle.std.proofs.lemmas.List.{length-map}
 use Rattle.std.proofs.lemmas.List.Elements.{All-cons, All-contains, All-head, All-nil, All-tail}
 use Rattle.std.specs.List.{AllZip, concat}
 use Rattle.odd_cuts.specs.declared.certificate.PieceCert.{PieceCert}
-use Rattle.odd_cuts.specs.declared.faults.CutFault.{CutFault}
-use Rattle.odd_cuts.specs.declared.faults.WalkFault.{WalkFault}
 use Rattle.odd_cuts.specs.PackingBounds.{BoundsWalks, ProvesLeast}
 use Rattle.odd_cuts.specs.CutFaults.{cuts_fault}
 use Rattle.odd_cuts.specs.Cuts.{total_weight}
 use Rattle.odd_cuts.specs.FaultTheorems.{CutFaultsAreExact, WalkFaultsAreExact}
 use Rattle.odd_cuts.specs.Faults.{first_fault}
-use Rattle.odd_cuts.specs.Packings.{IsOddCut}
 use Rattle.odd_cuts.specs.WalkFaults.{walk_fault}
 use Rattle.design_model.specs.Acts.{acts_of, acts_without_numbers}
 use Rattle.design_model.specs.Designs.{DesignValue}
@@ -36,6 +32,9 @@ use Rattle.route_verdict.proofs.SameActs.{no_difference, none_with_itself}
 use Rattle.odd_cuts.specs.Certificates.{walks_of}
 use Rattle.route_verdict.specs.SewingSteps.{AllDrawn, AreDrawn}
 use Rattle.route_verdict.specs.Verdicts.{IsCorrectRoute, IsCorrectPieceCert, HasShortLists, IsVerdictOver, acts_reason, cost_above, count_reason, cuts_reason, difference_of, piece_reason, pieces_reason, reason_of, retraced_reason, verdict_of, verdict_of_reason, walk_reason}
+use Rattle.lists_and_numbers.proofs.CallerLemmas.{number_found}
+use Rattle.odd_cuts.proofs.CallerLemmas.{both_none}
+use Rattle.route_verdict.proofs.CallerLemmas.{count_none, piece_correct, walk_none}
 
 -- one piece on
 pub reasons_next : (pieces rest : List Piece) (certs more : List PieceCert) (p : Piece) (cert : PieceCert) (number : ℕ)
@@ -57,71 +56,15 @@ short_rest certs more cert is all = All-tail HasShortLists cert more (subst (All
 pub short_first : (certs more : List PieceCert) (cert : PieceCert) → certs ≡ cert ∷ more → All HasShortLists certs → HasShortLists cert
 short_first certs more cert is all = All-head HasShortLists cert more (subst (All HasShortLists) is all)
 
--- two are none where neither is one
-both_none : {F : Type 0} (first rest : Option F) → first_fault first rest ≡ None → (first ≡ None) × (rest ≡ None)
-both_none (Some found) rest is = absurd (cc)
-both_none None rest is = (refl, is)
-
-walk_none : (number : ℕ) (found : Option WalkFault) → walk_reason number found ≡ None → found ≡ None
-walk_none number None is = refl
-walk_none number (Some fault) is = absurd (cc)
-
-cuts_none : (number : ℕ) (found : Option CutFault) → cuts_reason number found ≡ None → found ≡ None
-cuts_none number None is = refl
-cuts_none number (Some fault) is = absurd (cc)
-
 acts_none : (found : Option ℕ) → acts_reason found ≡ None → found ≡ None
 acts_none None is = refl
 acts_none (Some number) is = absurd (cc)
-
-test_none : {F : Type 0} (test : Bool) (found : F) → cond test None (Some found) ≡ None → test ≡ true
-test_none true found is = refl
-test_none false found is = absurd (cc)
-
-equal : (m n : ℕ) → (m == n) ≡ true → m ≡ n
-equal m n is = grind (arith, nat_tests)
-
-tested : (m n : ℕ) → m ≡ n → (m == n) ≡ true
-tested m n is = grind (arith, nat_tests)
-
--- a fitting walk costs no less than the lines
-costs_more : BoundsWalks → (p : PieceValue) (cert : PieceCert) → IsValidPiece p → is_fitting_walk p cert.walk ≡ true
-    → piece_cost p ≤ walk_cost p cert.walk
-costs_more bounds p cert keeps fit =
-    half (piece_cost p) (walk_cost p cert.walk) (bounds p [] cert.walk keeps
-    (record { odd = All-nil (IsOddCut p); loads = λ k. λ d. λ less. omega arith }) fit)
-  where
-    half : (m n : ℕ) → 0 + 2 * m ≤ 2 * n → m ≤ n
-    half m n h = omega arith
-
--- a piece without a reason is right
-piece_right : WalkFaultsAreExact → CutFaultsAreExact → BoundsWalks → (p : PieceValue) → IsValidPiece p → (number : ℕ) (cert : PieceCert)
-    → piece_reason p number cert ≡ None → IsCorrectPieceCert p cert
-piece_right walks cuts bounds p keeps number cert none =
-    let first = both_none (walk_reason number (walk_fault p cert.walk))
-    (first_fault (retraced_reason number cert.retraced (cost_above p cert))
-    (cuts_reason number (cuts_fault p cert.retraced cert.cuts))) none in
-    let second = both_none (retraced_reason number cert.retraced (cost_above p cert))
-    (cuts_reason number (cuts_fault p cert.retraced cert.cuts)) first.1 in
-    let fit : is_fitting_walk p cert.walk ≡ true = (walks p cert.walk keeps).0 (walk_none number (walk_fault p cert.walk) first.0) in
-    let packing = (cuts p cert.retraced cert.cuts keeps).0 (cuts_none number (cuts_fault p cert.retraced cert.cuts) second.1) in
-    let said : cert.retraced ≡ cost_above p cert = equal cert.retraced (cost_above p cert)
-    (test_none (cert.retraced == cost_above p cert) (reason.Retraced number cert.retraced (cost_above p cert)) second.0) in
-    record {
-      fitting = fit;
-      retraced = above (walk_cost p cert.walk) (piece_cost p) cert.retraced (costs_more bounds p cert keeps fit) said;
-      packing = packing.0;
-      total = packing.1;
-    }
-  where
-    above : (w c r : ℕ) → c ≤ w → r ≡ w - c → w ≡ c + r
-    above w c r less is = omega arith
 
 -- and a right one has none
 piece_told : WalkFaultsAreExact → CutFaultsAreExact → (p : PieceValue) → IsValidPiece p → (number : ℕ) (cert : PieceCert)
     → IsCorrectPieceCert p cert → piece_reason p number cert ≡ None
 piece_told walks cuts p keeps number cert right =
-    let said : (cert.retraced == cost_above p cert) ≡ true = tested cert.retraced (cost_above p cert)
+    let said : (cert.retraced == cost_above p cert) ≡ true = number_found cert.retraced (cost_above p cert)
     (below (walk_cost p cert.walk) (piece_cost p) cert.retraced right.retraced) in
     rw ((walks p cert.walk keeps).1 right.fitting, said, (cuts p cert.retraced cert.cuts keeps).1 (right.packing, right.total)) refl
   where
@@ -136,7 +79,7 @@ pieces_right walks cuts bounds [] (c ∷ certs) number kept long none = absurd (
 pieces_right walks cuts bounds (p ∷ graphs) [] number kept long none = absurd (omega (arith, long))
 pieces_right walks cuts bounds (p ∷ graphs) (c ∷ certs) number kept long none =
     let both = both_none (piece_reason p number c) (pieces_reason (number + 1) graphs certs) none in (
-      piece_right walks cuts bounds p (All-head IsValidPiece p graphs kept) number c both.0,
+      piece_correct walks cuts bounds p (All-head IsValidPiece p graphs kept) number c both.0,
       pieces_right walks cuts bounds graphs certs (number + 1) (All-tail IsValidPiece p graphs kept) (omega (arith, long)) both.1,
     )
 
@@ -238,9 +181,6 @@ all_along d keeps sews walks (p ∷ pieces) (c ∷ certs) number below each long
     behind [] ys all = all
     behind (x ∷ xs) ys all = behind xs ys (All-tail (λ line. line < length d.lines) x (xs ++ ys) all)
 
-count_none : (found drawn : ℕ) → count_reason found drawn ≡ None → found ≡ drawn
-count_none found drawn is = equal found drawn (test_none (found == drawn) (reason.Pieces found drawn) is)
-
 -- certificates without a fault of a piece have walks along the drawing's lines
 pub drawn_right : (d : DrawingValue) (pieces : List Piece) (certs : List PieceCert) → KeepsDrawingLimits d → FittingWalksAreSewable
     → WalkFaultsAreExact
@@ -290,7 +230,7 @@ module _ (walks : WalkFaultsAreExact) (cuts : CutFaultsAreExact) (bounds : Bound
   no_reason all =
       let told = pieces_told walks cuts graphs certs 1 kept (over_graphs (piece_graph d) IsCorrectPieceCert pieces certs all.each) in
       let same : difference_of d design certs ≡ None = rw all.sews (none_with_itself 1 (sewn_acts (runs_of d (walks_of certs)))) in
-      rw (tested (length certs) (length graphs) told.0, told.1, same) refl
+      rw (number_found (length certs) (length graphs) told.0, told.1, same) refl
 
   pub verdict_over : IsVerdictOver d pieces design certs (verdict_of d pieces design certs)
   verdict_over = record {

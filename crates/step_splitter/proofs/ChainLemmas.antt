@@ -6,10 +6,11 @@ use Rattle.std.proofs.lemmas.List.FromFn.{get_or-map-range_with_len, length-map-
 use Rattle.design_model.specs.declared.point.Point.{Point}
 use Rattle.design_model.specs.Points.{is_point_within, move_between, move_size}
 use Rattle.step_splitter.proofs.AxisLemmas.{axis_close, axis_first, axis_last, axis_moves, axis_within}
-use Rattle.step_splitter.proofs.PointLemmas.{same_point, size_some, within_parts, within_whole}
+use Rattle.step_splitter.proofs.PointLemmas.{size_some}
 use Rattle.step_splitter.proofs.QuotientLemmas.{div_ceil_covers, div_ceil_few, div_ceil_some}
 use Rattle.step_splitter.specs.Chains.{IsNeedlePoint, AreCloseAfter, HasNoRepeatAfter, LeadsBySteps, last_point_or}
 use Rattle.step_splitter.specs.Steps.{point_on_segment, split_points, steps_of}
+use Rattle.design_model.proofs.CallerLemmas.{same_point, within_from, within_parts}
 
 -- where each value of a function lies close to the next, its values in a row keep close
 close_along : (f : ℕ → Point) (limit a n : ℕ)
@@ -51,7 +52,7 @@ module _ (p q : Point) (step n : ℕ) (some : 1 ≤ n) where
   each_close covers i =
       let across = le-max_left (unsigned_abs (q.x -ℤ p.x)) (unsigned_abs (q.y -ℤ p.y)) in
       let down = le-max_right (unsigned_abs (q.x -ℤ p.x)) (unsigned_abs (q.y -ℤ p.y)) in
-      within_whole step (move_between (point_on_segment p q n i) (point_on_segment p q n (i + 1)))
+      within_from step (move_between (point_on_segment p q n i) (point_on_segment p q n (i + 1)))
       (axis_close p.x q.x n i step some (omega arith))
       (axis_close p.y q.y n i step some (omega arith))
 
@@ -67,7 +68,7 @@ module _ (p q : Point) (step n : ℕ) (some : 1 ≤ n) where
   each_within from to i there =
       let a = within_parts 30000 p from in
       let b = within_parts 30000 q to in
-      within_whole 30000 (point_on_segment p q n i)
+      within_from 30000 (point_on_segment p q n i)
       (axis_within p.x q.x n i 30000 some there a.0 b.0)
       (axis_within p.y q.y n i 30000 some there a.1 b.1)
 

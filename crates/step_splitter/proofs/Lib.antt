@@ -1,3 +1,4 @@
+pub mod CallerLemmas
 mod SplitFacts
 mod QuotientLemmas
 mod AxisLemmas

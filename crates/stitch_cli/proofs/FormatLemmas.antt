@@ -1,5 +1,5 @@
 -- Formats at places of a list.
-use Rattle.std.proofs.Common.{◌≡◌, ℕ, zero, suc, ◌<◌, false, List, [], ◌∷◌, length, map, Some, Result, bytes_eq, slice_get, refl, ap, sym, ◌∙◌, arith}
+use Rattle.std.proofs.Common.{◌≡◌, ℕ, zero, suc, ◌<◌, false, List, [], ◌∷◌, length, map, Some, Result, bytes_eq, slice_get, refl, ap, ◌∙◌, arith}
 use Rattle.std.specs.Option.{option_and_then}
 use Rattle.std.specs.Prelude.{option_map}
 use Rattle.command_words.specs.Changes.{Change}
@@ -19,12 +19,6 @@ at_place : {A : Type 0} (f : A → Meaning) (xs : List A) (place : ℕ) → plac
 at_place f [] place there = absurd (let no : ⊥ = omega (arith, there) in no)
 at_place f (x ∷ xs) zero there = (f x, refl)
 at_place f (x ∷ xs) (suc place) there = at_place f xs place (omega (arith, there))
-
--- The format at an index is the requested one, also in another list of the same formats.
-pub same_format : (formats formats' : List Meaning) (place : ℕ) (here m : Meaning) → formats' ≡ formats
-    → slice_get formats' place ≡ Some here → slice_get formats place ≡ Some m → here ≡ m
-same_format formats formats' place here m same is requested =
-    let both : Some here ≡ Some m = sym is ∙ ap (λ (ms : List Meaning). slice_get ms place) same ∙ requested in cc
 
 -- both formats of a rewriting are found
 pub rewriting_found : {A : Type 0} (f : A → Meaning) (xs : List A) (input output : List ℕ) (changes : List Change)

@@ -28,6 +28,7 @@ use Rattle.route_texts.specs.SewingReports.{penetrations_of, sewing_report}
 use Rattle.stitch_cli.specs.Sewings.{IsSewnProduct, IsSewnFile, SewingOrder, piece_reports}
 use Rattle.stitch_cli.specs.SewingWays.{IsPieceSewn, IsSewnBy, IsSewnOver}
 use Rattle.stitch_cli.proofs.SewnDesigns.{runs_are_plain}
+use Rattle.line_graph.proofs.CallerLemmas.{length_of_lists}
 
 -- A route is one way to sew.
 pub sewn_by_route : (d : DrawingValue) (pieces : List (List ℕ)) (routed : Routed) → IsRouteOver d pieces routed
@@ -73,17 +74,13 @@ walks_count way d (one ∷ lines) [] each = absurd each
 walks_count way d (one ∷ lines) (cert ∷ certs) each =
     let later = walks_count way d lines certs each.1 in omega (arith, later)
 
-pub lines_count : (pieces : List Piece) → length (lines_of_pieces pieces) ≡ length pieces
-lines_count [] = refl
-lines_count (p ∷ pieces) = let later = lines_count pieces in omega (arith, later)
-
 -- There are few pieces.
 pub pieces_few : (way : Sewing) (d : DrawingValue) (pieces slice : List Piece) (routed : Routed) → slice ≡ pieces
     → IsSewnOver way d (lines_of_pieces slice) routed → length pieces ≤ 1024
 pieces_few way d pieces slice routed is over =
     let count = walks_count way d (lines_of_pieces slice) routed.cert.pieces over.each in
     let same : length slice ≡ length pieces = ap length is in
-    omega (arith, count, same, lines_count slice, over.writable.runs_to)
+    omega (arith, count, same, length_of_lists slice, over.writable.runs_to)
 
 -- the reports of pieces are those of their lines
 pub reports_are : (d : DrawingValue) (number : ℕ) (pieces : List Piece) (certs : List PieceCert)

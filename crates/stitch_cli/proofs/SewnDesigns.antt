@@ -11,7 +11,7 @@ use Rattle.design_model.specs.declared.command.Command.{Command}
 use Rattle.design_model.specs.declared.point.Point.{Point}
 use Rattle.design_model.specs.Acts.{acts_from, acts_of, acts_without_numbers}
 use Rattle.design_model.specs.Designs.{DesignValue}
-use Rattle.design_model.specs.Points.{is_point_within, move_between, origin, move_size}
+use Rattle.design_model.specs.Points.{move_between, origin, move_size}
 use Rattle.format_traits.specs.declared.fault.ReadFault.{ReadFault}
 use Rattle.format_traits.specs.declared.loaded.Loaded.{Loaded}
 use Rattle.format_traits.specs.Laws.{HasSameActs}
@@ -23,28 +23,14 @@ use Rattle.line_graph.specs.declared.pass.Pass.{Pass}
 use Rattle.line_graph.specs.Drawings.{DrawingValue}
 use Rattle.line_graph.specs.Runs.{AreNear, AreWritable, Run, RunsAreSewn, Sews, commands_after, design_of_runs, runs_of, sewn_design, stops_after}
 use Rattle.step_splitter.specs.Chains.{IsNeedlePoint, AreCloseAfter}
-
--- both of two tests hold, or either alone
-both : (a b : Bool) → a ≡ true → b ≡ true → (a && b) ≡ true
-both true b first second = second
-both false b first second = first
-
-left : (a b : Bool) → (a && b) ≡ true → a ≡ true
-left true b here = refl
-left false b here = here
-
-right : (a b : Bool) → (a && b) ≡ true → b ≡ true
-right true b here = here
-right false b here = cc
+use Rattle.design_model.proofs.CallerLemmas.{within_more}
+use Rattle.lists_and_numbers.proofs.CallerLemmas.{first_true, second_true}
+use Rattle.std.proofs.lemmas.Bool.{and_from}
+use Rattle.step_splitter.proofs.CallerLemmas.{size_few}
 
 -- what is within one limit is within a greater one
 le_more : (n small large : ℕ) → small ≤ large → nat_le n small ≡ true → nat_le n large ≡ true
 le_more n small large more within = grind (arith, nat_tests)
-
-within_more : (small large : ℕ) (m : Point) → small ≤ large → IsTrue (is_point_within small m) → IsTrue (is_point_within large m)
-within_more small large m more within = both _ _
-    (le_more (unsigned_abs m.x) small large more (left _ (nat_le (unsigned_abs m.y) small) within))
-    (le_more (unsigned_abs m.y) small large more (right (nat_le (unsigned_abs m.x) small) _ within))
 
 -- two needles lie at most 60,000 apart on each axis
 is_le : (n limit : ℕ) → nat_le n limit ≡ true → n ≤ limit
@@ -57,14 +43,10 @@ max_few : (a b most : ℕ) → a ≤ most → b ≤ most → max a b ≤ most
 max_few a b most one other = omega arith
 
 needle_x : (p : Point) → IsNeedlePoint p → unsigned_abs p.x ≤ 30000
-needle_x p within = is_le _ 30000 (left _ (nat_le (unsigned_abs p.y) 30000) within)
+needle_x p within = is_le _ 30000 (first_true _ (nat_le (unsigned_abs p.y) 30000) within)
 
 needle_y : (p : Point) → IsNeedlePoint p → unsigned_abs p.y ≤ 30000
-needle_y p within = is_le _ 30000 (right (nat_le (unsigned_abs p.x) 30000) _ within)
-
-far_few : (p q : Point) → IsNeedlePoint p → IsNeedlePoint q → move_size (move_between p q) ≤ 60000
-far_few p q one other = max_few _ _ 60000 (apart_few p.x q.x (needle_x p one) (needle_x q other))
-    (apart_few p.y q.y (needle_y p one) (needle_y q other))
+needle_y p within = is_le _ 30000 (second_true (nat_le (unsigned_abs p.x) 30000) _ within)
 
 -- so that 496 moves lead from one to the other in any format
 quotient_few : (limit size : ℕ) → 121 ≤ limit → size ≤ 60000 → (size + (limit - 1)) / limit ≤ 496
@@ -76,7 +58,7 @@ quotient_few limit size least few =
 
 hops_few : (limit : ℕ) (p q : Point) → 121 ≤ limit → IsNeedlePoint p → IsNeedlePoint q
     → hops_of limit (move_between p q) ≤ 496
-hops_few limit p q least one other = quotient_few limit (move_size (move_between p q)) least (far_few p q one other)
+hops_few limit p q least one other = quotient_few limit (move_size (move_between p q)) least (size_few p q one other)
 
 by_test : (b : Bool) (jumps : ℕ) → (if b then jumps + 1 else jumps + 2) ≤ jumps + 2
 by_test true jumps = omega arith
@@ -135,7 +117,7 @@ stitches_go step limit place (p ∷ points) rest stops room more in_range close 
     let behind = All-tail IsNeedlePoint place (p ∷ points) in_range in
     let later = stitches_go step limit p points rest stops room more behind close.1 on in
     record {
-      needles = λ n. both _ _ (within_more step limit (move_between place p) more close.0) (later.needles (n + 1));
+      needles = λ n. and_from _ _ (within_more step limit (move_between place p) more close.0) (later.needles (n + 1));
       stops_are = λ n. omega (arith, later.stops_are (n + 1));
       room_to = λ n. omega (arith, later.room_to (n + 1));
     }

@@ -31,8 +31,9 @@ use Rattle.stitch_text.specs.ListLines.{parsed_list_line}
 use Rattle.stitch_text.specs.Judging.{fault_of_act, list_commands_of, draft_with_checked_act, unless_fault, with_act, with_block_thread}
 use Rattle.stitch_text.specs.Readings.{ParsedList, parsed_acts, ended_list, continued_with, parsed_end_or_line, refused_list}
 use Rattle.stitch_text.specs.StitchLists.{act_line, act_lines, list_block_line, list_write_limits}
-use Rattle.stitch_text.proofs.ActLemmas.{is_told, no_refusal, not_refused, or_else_both, or_else_none}
+use Rattle.stitch_text.proofs.ActLemmas.{is_told, no_refusal}
 use Rattle.stitch_text.proofs.LineLemmas.{line_is}
+use Rattle.format_traits.proofs.CallerLemmas.{not_refused, or_else_both, or_else_none}
 
 -- an act has no more commands than room
 few_commands : (s : EncoderState) (a : Act) → IsTrue (is_told s.loose a) → length (list_commands_of a) ≤ room_of_act LIMIT s.loose s.place a

@@ -17,11 +17,12 @@ use Rattle.format_traits.specs.declared.fault.ReadFault.TheVariants as read
 use Rattle.format_traits.specs.declared.fault.WriteFault.{WriteFault}
 use Rattle.format_traits.specs.declared.fault.WriteFault.TheVariants as fault
 use Rattle.format_traits.specs.declared.encoder_state.EncoderState.{EncoderState}
-use Rattle.format_traits.specs.Refusals.{refusal_of_needle, or_else, refusal_before_room, is_above_max, refusal_of_act, first_refusal_from, refusal_if, encoder_state_after}
+use Rattle.format_traits.specs.Refusals.{refusal_of_needle, refusal_before_room, is_above_max, refusal_of_act, first_refusal_from, refusal_if, encoder_state_after}
 use Rattle.stitch_text.specs.declared.stitch_list.TheConstants.{LIMIT}
 use Rattle.stitch_text.specs.Judging.{fault_of_act, list_commands_of, as_read_fault, needs_held_thread}
 use Rattle.stitch_text.specs.Readings.{stitch_move_of, stitch_moves_of}
 use Rattle.stitch_text.specs.StitchLists.{list_write_limits}
+use Rattle.format_traits.proofs.CallerLemmas.{not_refused, or_else_both, or_else_none, refused_not}
 
 -- an act that the fold over commands can give: no float of a loose thread, and no trim of one
 abbrev pub is_told : Bool → Act → Bool
@@ -67,22 +68,6 @@ acts_again (a ∷ rest) n loose told = by_act (λ n loose told. acts_again rest 
   by_act again act.Trim false told = ap (λ acts. act.Trim ∷ acts) (again (n + 1) true told)
   by_act again act.Stop true told = ap (λ acts. act.Stop ∷ acts) (again (n + 1) true told)
   by_act again act.Stop false told = ap (λ acts. act.Stop ∷ acts) (again (n + 1) true told)
-
--- what is left of the refusals, where there is none
-pub not_refused : (b : Bool) (f : WriteFault) → refusal_if b f ≡ None → b ≡ false
-not_refused true f none = cc
-not_refused false f none = refl
-
-pub refused_not : (b : Bool) (f : WriteFault) → b ≡ false → refusal_if b f ≡ None
-refused_not true f is = cc
-refused_not false f is = refl
-
-pub or_else_none : (one other : Option WriteFault) → or_else one other ≡ None → (one ≡ None) × (other ≡ None)
-or_else_none None other none = (refl, none)
-or_else_none (Some f) other none = absurd (let no : ⊥ = cc in no)
-
-pub or_else_both : (one other : Option WriteFault) → one ≡ None → other ≡ None → or_else one other ≡ None
-or_else_both one other first second = ap (λ r. or_else r other) first ∙ second
 
 -- whether an act is refused has nothing to do with its number
 refused_again : (b : Bool) (f g : WriteFault) → refusal_if b f ≡ None → refusal_if b g ≡ None

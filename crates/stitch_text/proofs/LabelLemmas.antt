@@ -11,6 +11,7 @@ use Rattle.design_model.specs.Labels.{IsLabel, IsPrintable}
 use Rattle.stitch_text.specs.ListLines.{in_brackets, parsed_label}
 use Rattle.stitch_text.specs.StitchLists.{label_line}
 use Rattle.stitch_text.specs.Words.{has_trailing_space, is_valid_label, is_printable}
+use Rattle.lists_and_numbers.proofs.CallerLemmas.{false_true}
 
 -- what stands between the brackets of a label's line is the label
 between : (label : List ℕ) → in_brackets (label_line label) ≡ label
@@ -59,9 +60,6 @@ printable_from b is =
 printable_to : (b : ℕ) → IsPrintable b → is_printable b ≡ true
 printable_to b is =
     and_from (nat_le 32 b) (nat_le b 126) (grind (arith, nat_tests, is.from_space)) (grind (arith, nat_tests, is.to_tilde))
-
-false_true : false ≡ true → ⊥
-false_true is = cc
 
 -- the meaning of the test of a label
 pub label_from : (label : List ℕ) → is_valid_label label ≡ true → IsLabel label

@@ -1,5 +1,5 @@
 -- Lines as texts: the parsed line of a text, and the canonical text of a line.
-use Rattle.std.proofs.Common.{◌≡◌, ℕ, ℤ, pos, negsuc, ◌<◌, ◌≤◌, ◌==◌, Bool, true, false, not, nat_le, nat_lt, unsigned_abs, List, [], ◌∷◌, ◌++◌, None, Some, All, IsTrue, bytes_eq, codes, length, length-append, if◌then◌else◌, subst, ap, sym, refl, ◌∙◌, arith}
+use Rattle.std.proofs.Common.{◌≡◌, ℕ, ℤ, pos, negsuc, ◌<◌, ◌≤◌, ◌==◌, Bool, true, false, nat_le, nat_lt, unsigned_abs, List, [], ◌∷◌, ◌++◌, None, Some, All, IsTrue, bytes_eq, codes, length, length-append, if◌then◌else◌, subst, ap, sym, refl, ◌∙◌, arith}
 use Rattle.std.proofs.lemmas.Bool.{and_from, and_parts, not-true}
 use Rattle.std.proofs.lemmas.Bool.Decides.{nat_tests}
 use Rattle.std.proofs.lemmas.Fmt.{length_signed_le}
@@ -8,7 +8,6 @@ use Rattle.std.proofs.lemmas.List.Folds.{list_all-append}
 use Rattle.std.proofs.lemmas.List.Splits.{join_with_byte-slice_split, slice_split_at, slice_split_none}
 use Rattle.std.proofs.lemmas.List.Sums.{AllPass-from_list_all}
 use Rattle.std.proofs.lemmas.Option.{none-some, same_Some}
-use Rattle.std.proofs.lemmas.Slice.Eq.{bytes_eq-Decides}
 use Rattle.std.specs.Fmt.{decimal, signed_decimal}
 use Rattle.std.specs.List.{join_with_byte, list_all}
 use Rattle.design_model.specs.declared.point.Point.{Point}
@@ -23,11 +22,9 @@ use Rattle.stitch_text.specs.ListLines.{parsed_block, parsed_list_line, parsed_n
 use Rattle.stitch_text.specs.StitchLists.{needle_line, point_line}
 use Rattle.stitch_text.specs.Words.{canonical_number_of}
 use Rattle.text_parts.specs.Parts.{words_in}
-use Rattle.stitch_text.proofs.NumberLemmas.{is_inner, number_is, number_read, signed_inner}
-
--- a byte that doesn't end a line
-abbrev pub is_kept : ℕ → Bool
-is_kept b = not (b == 10)
+use Rattle.stitch_text.proofs.NumberLemmas.{number_is, number_read, signed_inner}
+use Rattle.lists_and_numbers.proofs.CallerLemmas.{same_word}
+use Rattle.text_parts.proofs.CallerLemmas.{inner_kept, is_inner, is_kept, no_space}
 
 -- no byte ends a line
 abbrev pub Lacks : List ℕ → Type 0
@@ -36,18 +33,6 @@ Lacks bytes = All (λ b. (b == 10) ≡ false) bytes
 pub lacks_from : (bytes : List ℕ) → list_all is_kept bytes ≡ true → Lacks bytes
 lacks_from bytes kept = All-weaker (λ (b : ℕ). is_kept b ≡ true) (λ (b : ℕ). (b == 10) ≡ false)
     (λ b test. not-true (b == 10) test) bytes (AllPass-from_list_all is_kept bytes kept)
-
--- a word ends no line and has no space
-inner_kept : (word : List ℕ) → list_all is_inner word ≡ true → list_all is_kept word ≡ true
-inner_kept [] inner = refl
-inner_kept (b ∷ word) inner =
-    let both = and_parts (is_inner b) (list_all is_inner word) inner in
-    and_from (is_kept b) (list_all is_kept word) (and_parts (not (b == 32)) (is_kept b) both.0).1 (inner_kept word both.1)
-
-no_space : (word : List ℕ) → list_all is_inner word ≡ true → All (λ b. (b == 32) ≡ false) word
-no_space word inner = All-weaker (λ (b : ℕ). is_inner b ≡ true) (λ (b : ℕ). (b == 32) ≡ false)
-    (λ b test. not-true (b == 32) (and_parts (not (b == 32)) (not (b == 10)) test).0) word
-    (AllPass-from_list_all is_inner word inner)
 
 -- words that stand one space apart
 word_apart : (word rest : List ℕ) → list_all is_inner word ≡ true → words_in (word ++ 32 ∷ rest) ≡ word ∷ words_in rest
@@ -157,10 +142,6 @@ SaysLine bytes (line.Needle p float) = bytes ≡ needle_line float p
 SaysLine bytes line.Far = Unit {0}
 SaysLine bytes line.Trim = bytes ≡ codes "trim"
 SaysLine bytes line.End = bytes ≡ codes "end"
-
--- a word that is found to be this text is this text
-same_word : (word text : List ℕ) → bytes_eq word text ≡ true → word ≡ text
-same_word word text found = (bytes_eq-Decides word text).0 found
 
 -- the text of a parsed line
 is_said : (bytes : List ℕ) (one l : ListLine) → Some one ≡ Some l → SaysLine bytes one → SaysLine bytes l

@@ -7,8 +7,9 @@ use Rattle.stitch_text.specs.declared.list_stage.ListStage.{ListStage}
 use Rattle.stitch_text.specs.ListStages.{TakesLine, TakesLines, stage_after_long_line, fault_at_end, max_waiting_in, parsed_parts, list_so_far_at, list_state_at}
 use Rattle.stitch_text.specs.Readings.{ParsedList, loaded_of_parsed}
 use Rattle.text_parts.specs.Parts.{parts_between}
-use Rattle.stitch_text.proofs.PartLemmas.{ended_part, open_part, some_part}
+use Rattle.stitch_text.proofs.PartLemmas.{ended_part, open_part}
 use Rattle.stitch_text.proofs.StageLemmas.{ends_here, goes_beyond}
+use Rattle.text_parts.proofs.CallerLemmas.{some_part}
 
 -- a line that has ended is taken
 pub line_on : (old : DecoderState) (draft new : ListDraft) (was now : ListStage) (start at there : ℕ) (whole rest line after : List ℕ)

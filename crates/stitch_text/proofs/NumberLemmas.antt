@@ -1,10 +1,9 @@
 -- Numbers as words: the number of a word, and the canonical word of a number.
 use Rattle.std.proofs.Common.{◌≡◌, ℕ, ℤ, pos, negsuc, zero, suc, ◌<◌, ◌≤◌, ◌^◌, ◌==◌, ◌&&◌, ◌||◌, Bool, true, false, not, nat_le, unsigned_abs, List, [], ◌∷◌, length, get_or, if◌then◌else◌, int_le, true≢false, subst, ap, sym, refl, ◌∙◌, inl, inr, arith}
 use lib.Dec.{leb-zero}
-use Rattle.std.proofs.lemmas.Bool.{and_from, and_parts, cases_order, not-true}
+use Rattle.std.proofs.lemmas.Bool.{and_parts, cases_order, not-true}
 use Rattle.std.proofs.lemmas.Bool.Decides.{nat_tests}
-use Rattle.std.proofs.lemmas.Fmt.{decimal-digits_value, decimal_digit, decimal_nonempty, digits_decimal, digits_value-decimal, first_decimal}
-use Rattle.std.proofs.lemmas.Str.Parse.{IsNumeralModel, numerals_by_value, tells_all_ascii_digits}
+use Rattle.std.proofs.lemmas.Fmt.{decimal-digits_value, decimal_digit, digits_decimal, first_decimal}
 use Rattle.std.specs.Char.{is_ascii_digit}
 use Rattle.std.specs.Fmt.{decimal, signed_decimal}
 use Rattle.std.specs.List.{list_all}
@@ -13,42 +12,18 @@ use Rattle.std.specs.Str.Parse.{digits_value}
 use Rattle.lists_and_numbers.specs.declared.whole_number.Whole.TheVariants as whole
 use Rattle.lists_and_numbers.specs.WholeNumbers.{is_digit_string, signed_number, parsed_digits, parsed_whole}
 use Rattle.stitch_text.specs.Words.{has_leading_zero, is_canonical_number, canonical_number_of}
-
--- std's view of decimal digits
-own : IsNumeralModel (λ ds. all_ascii_digits ds ≡ true) (digits_value 10)
-own = numerals_by_value (λ ds. all_ascii_digits ds ≡ true) tells_all_ascii_digits
-
--- a byte that ends neither a word nor a line
-abbrev pub is_inner : ℕ → Bool
-is_inner b = not (b == 32) && not (b == 10)
-
--- digits are such bytes
-digits_inner : (ds : List ℕ) → all_ascii_digits ds ≡ true → list_all is_inner ds ≡ true
-digits_inner [] digits = refl
-digits_inner (b ∷ ds) digits =
-    let both = and_parts (is_ascii_digit b) (all_ascii_digits ds) digits in
-    and_from (is_inner b) (list_all is_inner ds) (grind (arith, nat_tests, both.0)) (digits_inner ds both.1)
+use Rattle.lists_and_numbers.proofs.CallerLemmas.{decimal_model, signed_read}
+use Rattle.text_parts.proofs.CallerLemmas.{digits_inner, is_inner}
 
 -- and so is a number
 pub signed_inner : (z : ℤ) → unsigned_abs z < 2 ^ 63 → list_all is_inner (signed_decimal z) ≡ true
-signed_inner (pos n) small = digits_inner (decimal n) (digits_decimal own n (omega (arith, small)))
-signed_inner (negsuc n) small = digits_inner (decimal (suc n)) (digits_decimal own (suc n) (omega (arith, small)))
+signed_inner (pos n) small = digits_inner (decimal n) (digits_decimal decimal_model n (omega (arith, small)))
+signed_inner (negsuc n) small = digits_inner (decimal (suc n)) (digits_decimal decimal_model (suc n) (omega (arith, small)))
 
 -- a number below zero is a minus sign and the digits of its size
 pub minus_first : (z : ℤ) → int_le (pos 0) z ≡ false → 45 ∷ decimal (unsigned_abs z) ≡ signed_decimal z
 minus_first (pos n) here = absurd (true≢false (sym (leb-zero n) ∙ here))
 minus_first (negsuc n) here = refl
-
--- digits are parsed as the number that was written
-numeral_some : (ds : List ℕ) → 0 < length ds → all_ascii_digits ds ≡ true → is_digit_string ds ≡ true
-numeral_some [] some digits = absurd (omega arith)
-numeral_some (b ∷ ds) some digits = digits
-
-digits_read : (minus : Bool) (ds : List ℕ) (n : ℕ) → is_digit_string ds ≡ true → digits_value 10 ds ≡ n → n ≤ 999999999
-    → parsed_digits minus ds ≡ whole.Value (signed_number minus n)
-digits_read minus ds n numeral value small =
-    let test : nat_le n 999999999 ≡ true = grind (arith, nat_tests) in
-    rw (numeral, value, test) refl
 
 -- digits begin with no minus sign
 no_minus : (ds : List ℕ) → all_ascii_digits ds ≡ true → 0 < length ds → parsed_whole ds ≡ parsed_digits false ds
@@ -57,20 +32,6 @@ no_minus (b ∷ ds) digits some =
     let both = and_parts (is_ascii_digit b) (all_ascii_digits ds) digits in
     let test : (b == 45) ≡ false = grind (arith, nat_tests, both.0) in
     rw test refl
-
--- the canonical text of a number is parsed as that number
-signed_read : (z : ℤ) → unsigned_abs z ≤ 999999999 → parsed_whole (signed_decimal z) ≡ whole.Value z
-signed_read (pos n) small =
-    let fits : n < 2 ^ 64 = omega (arith, small) in
-    let digits = digits_decimal own n fits in
-    let some = decimal_nonempty n fits in
-    no_minus (decimal n) digits some
-    ∙ digits_read false (decimal n) n (numeral_some (decimal n) some digits) (digits_value-decimal own n fits) small
-signed_read (negsuc n) small =
-    let fits : suc n < 2 ^ 64 = omega (arith, small) in
-    let digits = digits_decimal own (suc n) fits in
-    let some = decimal_nonempty (suc n) fits in
-    digits_read true (decimal (suc n)) (suc n) (numeral_some (decimal (suc n)) some digits) (digits_value-decimal own (suc n) fits) small
 
 -- digits that begin above zero
 above_zero : (ds : List ℕ) → 48 < get_or ds 0 0 → has_leading_zero ds ≡ false
@@ -136,7 +97,7 @@ digits_spelled : (ds : List ℕ) → is_digit_string ds ≡ true → (get_or ds 
     → decimal (digits_value 10 ds) ≡ ds
 digits_spelled [] numeral lead small = absurd (let no : ⊥ = cc in no)
 digits_spelled (b ∷ ds) numeral lead small =
-    decimal-digits_value own (b ∷ ds) numeral (omega arith) lead (omega (arith, small))
+    decimal-digits_value decimal_model (b ∷ ds) numeral (omega arith) lead (omega (arith, small))
 
 -- a number after a minus sign
 minus_is : (ds : List ℕ) (z : ℤ) → has_leading_zero ds ≡ false → AreRead true ds z → Spells (45 ∷ ds) z

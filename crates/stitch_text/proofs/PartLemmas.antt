@@ -1,13 +1,8 @@
 -- The parts of bytes between marks, taken one after another.
-use Rattle.std.proofs.Common.{◌≡◌, ◌≢◌, ℕ, ◌==◌, Bool, true, false, cond, List, [], ◌∷◌, ◌++◌, length, ap, sym, refl, ◌∙◌, arith}
-use Rattle.std.proofs.lemmas.List.Splits.{length-slice_split}
+use Rattle.std.proofs.Common.{◌≡◌, ◌≢◌, ℕ, ◌==◌, Bool, true, false, cond, List, [], ◌∷◌, ◌++◌, ap, sym, refl, ◌∙◌}
 use Rattle.std.specs.List.{onto_first}
 use Rattle.text_parts.specs.Parts.{parts_between}
-
--- there is a part at least
-pub some_part : (mark : ℕ) (bytes : List ℕ) → parts_between mark bytes ≢ []
-some_part mark bytes none =
-    absurd (omega (arith, length-slice_split (λ (b : ℕ). b == mark) bytes, ap length none))
+use Rattle.text_parts.proofs.CallerLemmas.{some_part}
 
 -- the last part goes on
 abbrev pub onto_part : List ℕ → List (List ℕ) → List (List ℕ)

@@ -9,7 +9,7 @@ use Rattle.stitch_text.specs.Judging.{draft_after_line}
 use Rattle.stitch_text.specs.Readings.{ParsedList, parsed_acts, parsed_from_block, after_block_line, after_label_line, after_signature_line, ended_list, continued_with, is_end_line, parsed_from_label, with_next_line, parsed_end_or_line, parsed_from_signature, parsed_thread}
 use Rattle.stitch_text.specs.StitchLists.{signature_line}
 use Rattle.text_parts.specs.Parts.{parts_between, words_in}
-use Rattle.stitch_text.proofs.PartLemmas.{some_part}
+use Rattle.text_parts.proofs.CallerLemmas.{some_part}
 
 -- a line that has an end
 next_of_more : (at : ℕ) (d : DesignValue) (line : List ℕ) (rest : List (List ℕ)) (f : List ℕ → List (List ℕ) → ParsedList)

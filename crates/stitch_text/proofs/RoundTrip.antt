@@ -29,11 +29,13 @@ use Rattle.stitch_text.specs.Readings.{ParsedList, parsed_acts, begun_draft, is_
 use Rattle.stitch_text.specs.StitchLists.{act_line, act_lines, list_block_line, signature_line, label_line, list_of, list_write_limits}
 use Rattle.stitch_text.specs.Words.{has_trailing_space, is_valid_label, is_printable}
 use Rattle.text_parts.specs.Parts.{parts_between}
-use Rattle.stitch_text.proofs.ActLemmas.{acts_again, are_told, commands_along, is_told, moves_within, no_fault, or_else_none, told}
+use Rattle.stitch_text.proofs.ActLemmas.{acts_again, are_told, commands_along, is_told, moves_within, no_fault, told}
 use Rattle.stitch_text.proofs.LabelLemmas.{label_to, label_yes}
-use Rattle.stitch_text.proofs.LineLemmas.{IsLine, Lacks, block_is, is_kept, lacks_from, needle_is, trim_is}
+use Rattle.stitch_text.proofs.LineLemmas.{IsLine, Lacks, block_is, lacks_from, needle_is, trim_is}
 use Rattle.stitch_text.proofs.ReadingLemmas.{acts_judged, first_is, label_is}
 use Rattle.stitch_text.proofs.ReadingLemmas.{block_is as first_block_is}
+use Rattle.format_traits.proofs.CallerLemmas.{or_else_none}
+use Rattle.text_parts.proofs.CallerLemmas.{is_kept}
 
 -- a line before others
 pub line_before : (bytes text : List ℕ) → Lacks bytes → parts_between 10 (bytes ++ 10 ∷ text) ≡ bytes ∷ parts_between 10 text

@@ -1,12 +1,8 @@
 -- The new links of a block are its distinct links.
-use Rattle.std.proofs.Common.{◌≡◌, Bool, true, false, not, ◌||◌, ◌&&◌, cond, List, [], ◌∷◌, ap, sym, subst, ◌∙◌, refl, inl, inr}
+use Rattle.std.proofs.Common.{◌≡◌, Bool, true, false, ◌||◌, ◌&&◌, cond, List, [], ◌∷◌, subst, ◌∙◌, refl, inl, inr}
 use Rattle.std.proofs.Math.Path.{ap₂}
 use Rattle.std.proofs.lemmas.Bool.{and_parts, or_cases, or_left, or_parts, or_right}
-use Rattle.std.proofs.lemmas.Bool.Decides.{Decides-int_eq}
 use Rattle.std.specs.List.{list_all, list_any}
-use Rattle.std.specs.Ordering.{int_eq}
-use Rattle.design_model.specs.declared.act.NumberedAct.{NumberedAct}
-use Rattle.design_model.specs.declared.point.Point.{Point}
 use Rattle.design_model.specs.Points.{is_same_point}
 use Rattle.stitch_trace.specs.declared.links.Link.{Link}
 use Rattle.stitch_trace.specs.declared.needle_moves.NeedleMove.{NeedleMove}
@@ -14,14 +10,11 @@ use Rattle.stitch_trace.specs.declared.needle_moves.NeedleMove.TheVariants.{Stay
 use Rattle.stitch_trace.specs.Chains.{is_sewn, new_moves}
 use Rattle.stitch_trace.specs.TraceTheorems.{NewLinksAreDistinct, are_distinct}
 use Rattle.stitch_trace.specs.Links.{is_same_directed_link, is_same_link, links_in, needle_moves_of, reversed_link}
-use Rattle.stitch_trace.proofs.LinkedLemmas.{same_is}
-
-same_found : (p : Point) → is_same_point p p ≡ true
-same_found p = rw ((Decides-int_eq p.x p.x).1 refl, (Decides-int_eq p.y p.y).1 refl) refl
+use Rattle.design_model.proofs.CallerLemmas.{point_itself, same_is}
 
 -- a link has its own ends
 ends_found : (a : Link) → is_same_directed_link a a ≡ true
-ends_found a = rw (same_found a.from, same_found a.to) refl
+ends_found a = rw (point_itself a.from, point_itself a.to) refl
 
 ends_same : (a b : Link) → is_same_directed_link a b ≡ true → a ≡ b
 ends_same a b found =

@@ -1,6 +1,6 @@
 -- The chains of a design can be lines of a drawing whose step is its greatest link.
-use Rattle.std.proofs.Common.{◌≡◌, ℕ, ◌+◌, ◌*◌, ◌-◌, ◌/◌, ◌%◌, ◌<◌, ◌≤◌, max, min, Bool, true, false, ◌||◌, ◌&&◌, cond, List, [], ◌∷◌, ◌++◌, length, Option, Some, None, ap, sym, subst, ◌∙◌, refl, arith, length-append}
-use Rattle.std.proofs.Math.Nat.{le-max_left, le-max_right, mul-le-mul_right}
+use Rattle.std.proofs.Common.{◌≡◌, ℕ, ◌+◌, ◌*◌, ◌-◌, ◌/◌, ◌%◌, ◌<◌, ◌≤◌, max, min, Bool, true, false, ◌||◌, ◌&&◌, cond, List, [], ◌∷◌, ◌++◌, length, Option, Some, None, sym, subst, ◌∙◌, refl, arith, length-append}
+use Rattle.std.proofs.Math.Nat.{le-max_right, mul-le-mul_right}
 use Rattle.std.proofs.lemmas.Bool.{and_parts, or_parts}
 use Rattle.std.proofs.lemmas.Grind.{div_ceil_times}
 use Rattle.std.proofs.lemmas.List.Folds.{list_all-append}
@@ -16,7 +16,7 @@ use Rattle.design_model.specs.ActPositions.{is_act_in_range}
 use Rattle.design_model.specs.Acts.{acts_from}
 use Rattle.design_model.specs.Blocks.{blocks_of, with_act_in_first_block}
 use Rattle.design_model.specs.Commands.{is_command_in_range}
-use Rattle.design_model.specs.Points.{is_same_point, is_point_within, move_between, move_size}
+use Rattle.design_model.specs.Points.{is_same_point, is_point_within}
 use Rattle.line_graph.specs.Drawings.{last_point}
 use Rattle.line_graph.specs.GrowingDrawings.{all_in_needle_range, has_repeated_point, repeats_after}
 use Rattle.line_graph.specs.Needles.{steps_of_line, segment_steps}
@@ -28,9 +28,10 @@ use Rattle.stitch_trace.specs.declared.needle_moves.NeedleMove.TheVariants.{Stay
 use Rattle.stitch_trace.specs.Chains.{chains_of, is_sewn, new_moves, new_moves_of}
 use Rattle.stitch_trace.specs.Links.{link_size, links_in, move_to_act, needle_moves_of, needle_moves_from}
 use Rattle.stitch_trace.specs.Tracing.{chain_if_any, chains_after, extended_chain}
-use Rattle.stitch_trace.proofs.LinkedLemmas.{Follows, Linked, led_ends, moves_linked, new_linked, some_same}
+use Rattle.stitch_trace.proofs.LinkedLemmas.{Follows, Linked, led_ends, moves_linked, new_linked}
 use Rattle.stitch_trace.proofs.MeasureLemmas.{greatest, greatest_more}
 use Rattle.stitch_trace.proofs.MoveLemmas.{chains_are}
+use Rattle.lists_and_numbers.proofs.CallerLemmas.{some_same}
 
 -- a link that is one step of that length at most
 pub record IsStep (step : ℕ) (link : Link) : Type 0 where

@@ -1,39 +1,24 @@
 -- What refuses a traced drawing is one of its counts.
-use Rattle.std.proofs.Common.{◌≡◌, ℕ, ◌+◌, ◌-◌, ◌==◌, ◌≤◌, Bool, true, false, not, ◌||◌, ◌&&◌, cond, nat_lt, List, [], ◌∷◌, ◌++◌, length, flat_map, sum_by, Option, Some, None, Result, Ok, Err, ap, sym, subst, ◌∙◌, refl, length-append, append_assoc, arith}
-use Rattle.std.proofs.lemmas.Bool.{and_parts}
+use Rattle.std.proofs.Common.{◌≡◌, ℕ, ◌+◌, ◌-◌, ◌==◌, ◌≤◌, Bool, true, false, not, ◌||◌, ◌&&◌, cond, nat_lt, List, [], ◌∷◌, ◌++◌, length, Result, Ok, Err, ap, sym, subst, ◌∙◌, refl, length-append, arith}
 use Rattle.std.proofs.lemmas.Bool.Decides.{nat_tests}
 use Rattle.std.proofs.lemmas.List.Folds.{list_any-append}
 use Rattle.std.proofs.lemmas.List.Sums.{sum_by-append}
-use Rattle.std.specs.List.{list_all, list_any}
-use Rattle.design_model.specs.declared.act.NumberedAct.{NumberedAct}
+use Rattle.std.specs.List.{list_any}
 use Rattle.design_model.specs.declared.point.Point.{Point}
-use Rattle.design_model.specs.ActKinds.{is_stop, needle_point, act_point}
-use Rattle.design_model.specs.Acts.{acts_of}
-use Rattle.design_model.specs.Blocks.{blocks_of, with_act_in_first_block}
-use Rattle.design_model.specs.Designs.{DesignValue, KeepsLimits, thread_of}
 use Rattle.line_sections.specs.Lines.{LineValue}
-use Rattle.line_sections.specs.Sections.{all_sections}
 use Rattle.line_graph.specs.declared.draw_kind.DrawKind.{DrawKind}
 use Rattle.line_graph.specs.declared.draw_kind.DrawKind.TheVariants as kind
 use Rattle.line_graph.specs.Drawings.{DrawingValue}
-use Rattle.line_graph.specs.GrowingDrawings.{and_then, all_in_needle_range, block_added, empty_drawing, finished_drawing, is_last_empty, is_used, line_added, point_count, step_count, with_new_block, with_new_line}
+use Rattle.line_graph.specs.GrowingDrawings.{and_then, block_added, is_last_empty, is_used, line_added, point_count, step_count, with_new_block, with_new_line}
 use Rattle.line_graph.specs.Needles.{steps_of_line}
-use Rattle.line_graph.specs.JoinedDrawings.{joined_drawing}
-use Rattle.stitch_trace.specs.declared.links.Link.{Link}
-use Rattle.stitch_trace.specs.declared.needle_moves.NeedleMove.{NeedleMove}
-use Rattle.stitch_trace.specs.declared.needle_moves.NeedleMove.TheVariants.{Stay, Gap, Sewn}
 use Rattle.stitch_trace.specs.declared.strands.Strand.{Strand}
-use Rattle.stitch_trace.specs.declared.trace_fault.TraceFault.{TraceFault}
 use Rattle.stitch_trace.specs.declared.trace_fault.TraceFault.TheVariants as fault
-use Rattle.stitch_trace.specs.Chains.{chains_of, has_links, is_sewn, new_links_of}
-use Rattle.stitch_trace.specs.TraceTheorems.{CountsAreLimits, IsCountLimit}
-use Rattle.stitch_trace.specs.Links.{first_too_long, links_in, longest, move_to_act, needle_moves_of, needle_moves_from}
-use Rattle.stitch_trace.specs.Traces.{chains_added, drawing_with_strands, label_first_word, with_limit_fault, and_then_trace, trace_step, step_or_fault, strand_added, strand_of, strands_added, strands_from, strands_of, traced}
-use Rattle.stitch_trace.proofs.DistinctLemmas.{distinct_links}
+use Rattle.stitch_trace.specs.TraceTheorems.{IsCountLimit}
+use Rattle.stitch_trace.specs.Traces.{chains_added, strand_added, strands_added}
 use Rattle.stitch_trace.proofs.DrawnLemmas.{GoesOn, block_is, goes_on, line_is, ok_same}
-use Rattle.stitch_trace.proofs.FitLemmas.{AllFit, BlockSteps, Fits, acts_in_range, block_fits, each_block_steps, moves_are_steps}
-use Rattle.stitch_trace.proofs.LinkedLemmas.{chains_where_links, has_chains}
-use Rattle.stitch_trace.proofs.MeasureLemmas.{FirstHasSize, first_has_size, greatest, greatest_more}
+use Rattle.stitch_trace.proofs.FitLemmas.{AllFit, Fits}
+use Rattle.stitch_trace.proofs.LinkedLemmas.{has_chains}
+use Rattle.lists_and_numbers.proofs.CallerLemmas.{and_false}
 
 err_same : {A F : Type 0} (a b : F) → ◌≡◌ {A = Result A F} (Err a) (Err b) → a ≡ b
 err_same a b is = cc
@@ -92,10 +77,6 @@ line_ready step d points ready fits =
         sum_by-append (λ (l : LineValue). length l.points) d.lines (line ∷ []),
       );
     }
-
-and_false : (t : Bool) → (t && false) ≡ false
-and_false true = refl
-and_false false = refl
 
 line_used : (d : DrawingValue) (points : List Point) → is_last_empty (with_new_line d points) ≡ false
 line_used d points =

@@ -1,17 +1,14 @@
 -- Links of a chain follow each other, so chains have the new links as their segments.
 use Rattle.std.proofs.Common.{◌≡◌, ℕ, Bool, true, false, cond, List, [], ◌∷◌, ◌++◌, Option, Some, None, map, flat_map, ap, sym, subst, ◌∙◌, refl, append_assoc, append-nil}
 use Rattle.std.proofs.Math.Path.{ap₂}
-use Rattle.std.proofs.lemmas.Bool.{and_parts}
-use Rattle.std.proofs.lemmas.Bool.Decides.{Decides-int_eq}
 use Rattle.std.proofs.lemmas.Grind.{flat_map-append}
-use Rattle.std.specs.Ordering.{int_eq}
 use Rattle.design_model.specs.declared.act.Act.{Act}
 use Rattle.design_model.specs.declared.act.Act.TheVariants as act
 use Rattle.design_model.specs.declared.act.NumberedAct.{NumberedAct}
 use Rattle.design_model.specs.declared.point.Point.{Point}
 use Rattle.design_model.specs.ActKinds.{needle_point, act_point}
 use Rattle.design_model.specs.Points.{is_same_point}
-use Rattle.line_sections.specs.Sections.{segments_from, segments_of}
+use Rattle.line_sections.specs.Sections.{segments_from}
 use Rattle.line_graph.specs.Drawings.{last_point}
 use Rattle.step_splitter.specs.Chains.{last_point_or}
 use Rattle.stitch_trace.specs.declared.links.Link.{Link}
@@ -22,12 +19,8 @@ use Rattle.stitch_trace.specs.TraceTheorems.{link_between, links_along}
 use Rattle.stitch_trace.specs.Links.{links_in, move_to_act, needle_moves_of, needle_moves_from}
 use Rattle.stitch_trace.specs.Tracing.{chain_if_any, chains_after, extended_chain}
 use Rattle.stitch_trace.proofs.MoveLemmas.{chains_are, chains_through, parts_of}
-
--- points that are found to be the same are the same
-pub same_is : (p q : Point) → is_same_point p q ≡ true → p ≡ q
-same_is p q found =
-    let both = and_parts (int_eq p.x q.x) (int_eq p.y q.y) found in
-    ap₂ (λ x y. record { x = x; y = y }) ((Decides-int_eq p.x q.x).0 both.0) ((Decides-int_eq p.y q.y).0 both.1)
+use Rattle.design_model.proofs.CallerLemmas.{same_is}
+use Rattle.lists_and_numbers.proofs.CallerLemmas.{some_same}
 
 -- a link continues from a point, if there is one
 abbrev pub Follows : Option Point → Link → Type 0
@@ -89,9 +82,6 @@ led_segments p (r ∷ rest) q = ap (λ (links : List Link). link_between (p, r) 
 led_last : (p : Point) (rest : List Point) (q : Point) → last_point_or p (rest ++ q ∷ []) ≡ q
 led_last p [] q = refl
 led_last p (r ∷ rest) q = led_last r rest q
-
-pub some_same : (p q : Point) → Some p ≡ Some q → p ≡ q
-some_same p q is = cc
 
 led_links : (begun : List Point) (place : Option Point) (link : Link) → last_point begun ≡ place → Follows place link
     → links_along (extended_chain begun link) ≡ links_along begun ++ link ∷ []

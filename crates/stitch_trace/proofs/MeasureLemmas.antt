@@ -1,9 +1,8 @@
 -- The greatest size of links.
-use Rattle.std.proofs.Common.{◌≡◌, ◌≢◌, ℕ, ℤ, ◌+◌, ◌≤◌, ◌==◌, ◌-ℤ◌, unsigned_abs, max, Bool, true, false, cond, List, [], ◌∷◌, fold, map, Option, Some, None, Result, Ok, Err, ap, sym, ◌∙◌, refl, arith}
+use Rattle.std.proofs.Common.{◌≡◌, ◌≢◌, ℕ, ℤ, ◌+◌, ◌≤◌, ◌==◌, ◌-ℤ◌, unsigned_abs, max, Bool, true, false, cond, List, [], ◌∷◌, fold, map, Option, Some, None, Result, Ok, Err, ◌∙◌, refl, arith}
 use Rattle.std.proofs.Math.Nat.{le-max_left, le-max_right}
 use Rattle.std.proofs.lemmas.Bool.Decides.{nat_tests, Decides-int_eq}
 use Rattle.std.proofs.lemmas.Bool.{both_ways}
-use Rattle.std.proofs.lemmas.Int.{ints}
 use Rattle.std.specs.Ordering.{int_eq}
 use Rattle.design_model.specs.declared.act.Act.{Act}
 use Rattle.design_model.specs.declared.act.Act.TheVariants as act
@@ -19,10 +18,7 @@ use Rattle.stitch_trace.specs.declared.trace_fault.TraceFault.TheVariants as fau
 use Rattle.stitch_trace.specs.Links.{first_too_long, is_too_long, link_size, links_in, longest, move_to_act, needle_moves_of, needle_moves_from}
 use Rattle.stitch_trace.specs.Traces.{trace_step, step_or_fault}
 use Rattle.stitch_trace.specs.Tracing.{max_size_after}
-
--- a number that differs by nothing is the same
-no_difference : (a b : ℤ) → unsigned_abs (b -ℤ a) ≤ 0 → a ≡ b
-no_difference a b none = grind (arith, ints)
+use Rattle.lists_and_numbers.proofs.CallerLemmas.{no_difference}
 
 -- points that aren't found to be the same are apart
 pub size_apart : (p q : Point) → is_same_point p q ≡ false → 1 ≤ move_size (move_between p q)

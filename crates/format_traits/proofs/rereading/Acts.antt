@@ -3,7 +3,7 @@ use Rattle.std.proofs.Common.{◌≡◌, ◌≢◌, ℕ, zero, suc, ◌+◌, ◌
 use Rattle.std.proofs.lemmas.Bool.{and_parts, leb-true, ltb-false, le-ltb, eqb-true, eqb-false}
 use Rattle.std.proofs.lemmas.List.{append-nil, append_assoc}
 use Rattle.std.proofs.Math.Nat.{le_refl, le_trans, mul-le-mul}
-use Rattle.std.specs.List.{concat, list_all}
+use Rattle.std.specs.List.{concat}
 use Rattle.design_model.specs.declared.act.Act.{Act}
 use Rattle.design_model.specs.declared.act.Act.TheVariants as act
 use Rattle.design_model.specs.declared.act.NumberedAct.{NumberedAct}
@@ -14,21 +14,22 @@ use Rattle.design_model.specs.ActPositions.{needle_position_after, leaves_thread
 use Rattle.design_model.specs.Acts.{acts_without_numbers}
 use Rattle.design_model.specs.Points.{is_point_within, origin, move_between, move_size}
 use Rattle.format_traits.specs.declared.event.Event.TheVariants as event
-use Rattle.format_traits.specs.declared.fault.WriteFault.{WriteFault}
 use Rattle.format_traits.specs.declared.fault.WriteFault.TheVariants as fault
 use Rattle.format_traits.specs.declared.encoder_state.WriteLimits.{WriteLimits}
 use Rattle.format_traits.specs.declared.encoder_state.EncoderState.{EncoderState}
 use Rattle.format_traits.specs.MoveHops.{position_after_move, hops_of}
 use Rattle.format_traits.specs.Records.{Records, over, next}
-use Rattle.format_traits.specs.Refusals.{encoder_state_after, is_above_max, refusal_if, refusal_of_needle, refusal_before_room, or_else, refusal_of_act, first_refusal_from}
+use Rattle.format_traits.specs.Refusals.{encoder_state_after, is_above_max, refusal_if, refusal_of_needle, refusal_before_room, refusal_of_act, first_refusal_from}
 use Rattle.format_traits.specs.RoundTrip.{EncodedEvents, DecodesEncoding, AllowsTwoJumps, IsPastTrimmedJump}
 use Rattle.format_traits.specs.Rooms.{room_of_loose, room_of_needle, room_of_act}
 use Rattle.format_traits.specs.RecordEncodings.{RecordEncoding, is_at_max, hop_records, stitched_hop_records, float_records, needle_records, records_of_act, records_of_acts_from}
-use Rattle.format_traits.proofs.PointLemmas.{within-size, within_from, position_after_move-none}
+use Rattle.format_traits.proofs.PointLemmas.{within-size, position_after_move-none}
 use Rattle.format_traits.proofs.rereading.Parts.{Lies, lies_from, hops_enough, no_hops, moved-between}
 use Rattle.format_traits.proofs.rereading.Runs.{Spares, trims_in, trims_over, trims_none, trims_few, goes_as, goes_hops, goes_last_stitched}
 use Rattle.format_traits.proofs.rereading.Steps.{GoesOn, goes_end, goes_stitch, goes_stop}
 use Rattle.format_traits.proofs.rereading.Trims.{goes_trimmed}
+use Rattle.design_model.proofs.CallerLemmas.{are_in_range, within_from}
+use Rattle.format_traits.proofs.CallerLemmas.{not_refused, or_else_none}
 
 -- how a reader stands between acts: after a needle no jump came, after others the run is over or long
 abbrev pub Between : Option ℕ → Bool → ℕ → Bool → Type 0
@@ -45,18 +46,6 @@ is_told loose act.Stop = true
 abbrev pub are_told : Bool → List NumberedAct → Bool
 are_told loose [] = true
 are_told loose (a ∷ rest) = is_told loose a.act && are_told (leaves_thread_loose a.act) rest
-
--- the points of acts are in a needle's range
-abbrev pub are_in_range : List NumberedAct → Bool
-are_in_range acts = list_all (λ a. is_act_in_range a.act) acts
-
-pub not_refused : (b : Bool) (f : WriteFault) → refusal_if b f ≡ None → b ≡ false
-not_refused true f none = cc
-not_refused false f none = refl
-
-pub or_else_none : (one other : Option WriteFault) → or_else one other ≡ None → (one ≡ None) × (other ≡ None)
-or_else_none None other none = (refl, none)
-or_else_none (Some f) other none = absurd (let no : ⊥ = cc in no)
 
 range_after : (place : Point) (a : Act) → IsTrue (is_point_within NEEDLE_LIMIT place) → IsTrue (is_act_in_range a)
     → IsTrue (is_point_within NEEDLE_LIMIT (needle_position_after place a))

@@ -10,7 +10,8 @@ use Rattle.format_traits.specs.PlainDesigns.{IsPlain}
 use Rattle.format_traits.specs.Refusals.{initial_encoder_state, first_refusal, unless_refused}
 use Rattle.format_traits.specs.RoundTrip.{EncodedActsRoundTrip}
 use Rattle.format_traits.proofs.rereading.Acts.{goes_acts, broken}
-use Rattle.format_traits.proofs.rereading.Rooms.{told, acts_in_range, plain_passes, few_stops, small_room}
+use Rattle.format_traits.proofs.rereading.Rooms.{told, plain_passes, few_stops, small_room}
+use Rattle.design_model.proofs.CallerLemmas.{acts_in_range}
 
 -- the records of acts that are not refused decode to these acts
 pub spelled_acts_read_again : EncodedActsRoundTrip

@@ -6,8 +6,8 @@ use Rattle.design_model.specs.declared.point.Point.{Point}
 use Rattle.design_model.specs.declared.point.TheConstants.{NEEDLE_LIMIT, JUMP_LIMIT}
 use Rattle.design_model.specs.Points.{is_point_within, move_between, move_size}
 use Rattle.format_traits.specs.MoveHops.{position_after_move, hops_of, part_end}
-use Rattle.format_traits.proofs.PointLemmas.{within_parts, within_from, within_more, same_point}
 use Rattle.format_traits.proofs.rereading.Hops.{axis_part, axis_all, axis_none, axis_step, axis_between}
+use Rattle.design_model.proofs.CallerLemmas.{point_of_parts, within_from, within_more, within_parts}
 
 -- a move that n moves within the limit can make up
 pub record Splits (limit : ℕ) (m : Point) (n : ℕ) : Type 0 where
@@ -36,7 +36,7 @@ no_hops limit place p some none =
     let small : move_size (move_between place p) ≤ 0 = omega (arith, less) in
     let x : unsigned_abs (p.x -ℤ place.x) ≤ 0 = omega (arith, small) in
     let y : unsigned_abs (p.y -ℤ place.y) ≤ 0 = omega (arith, small) in
-    same_point (same place.x p.x x) (same place.y p.y y)
+    point_of_parts (same place.x p.x x) (same place.y p.y y)
   where
     same : (a b : ℤ) → unsigned_abs (b -ℤ a) ≤ 0 → a ≡ b
     same a b small = omega (arith, ints)
@@ -47,10 +47,10 @@ part_within limit m n done splits = within_from limit (move_between (part_end m 
     (axis_step m.x n done limit splits.some splits.x) (axis_step m.y n done limit splits.some splits.y)
 
 pub part_all : (m : Point) (n : ℕ) → 0 < n → part_end m n n ≡ m
-part_all m n some = same_point (axis_all m.x n some) (axis_all m.y n some)
+part_all m n some = point_of_parts (axis_all m.x n some) (axis_all m.y n some)
 
 pub part_none : (place m : Point) (n : ℕ) → 0 < n → position_after_move place (part_end m n 0) ≡ place
-part_none place m n some = same_point (none place.x (axis_part m.x n 0) (axis_none m.x n some))
+part_none place m n some = point_of_parts (none place.x (axis_part m.x n 0) (axis_none m.x n some))
     (none place.y (axis_part m.y n 0) (axis_none m.y n some))
   where
     none : (x z : ℤ) → z ≡ pos 0 → x +ℤ z ≡ x
@@ -58,7 +58,7 @@ part_none place m n some = same_point (none place.x (axis_part m.x n 0) (axis_no
 
 -- a move on from a part
 pub moved-on : (place p q : Point) → position_after_move (position_after_move place p) (move_between p q) ≡ position_after_move place q
-moved-on place p q = same_point (on place.x p.x q.x) (on place.y p.y q.y)
+moved-on place p q = point_of_parts (on place.x p.x q.x) (on place.y p.y q.y)
   where
     on : (x a b : ℤ) → (x +ℤ a) +ℤ (b -ℤ a) ≡ x +ℤ b
     on x a b = omega (arith, ints)
@@ -76,7 +76,7 @@ part_between place m n count limit some less here there =
 
 -- a move between two places leads from the one to the other
 pub moved-between : (place p : Point) → position_after_move place (move_between place p) ≡ p
-moved-between place p = same_point (forth place.x p.x) (forth place.y p.y)
+moved-between place p = point_of_parts (forth place.x p.x) (forth place.y p.y)
   where
     forth : (x y : ℤ) → x +ℤ (y -ℤ x) ≡ y
     forth x y = omega (arith, ints)

@@ -1,7 +1,6 @@
 -- Acts of designs, acts that are not refused, and that plain acts are such.
-use Rattle.std.proofs.Common.{◌≡◌, ℕ, ◌+◌, ◌≤◌, Bool, true, false, not, ◌&&◌, ◌||◌, IsTrue, List, [], ◌∷◌, Option, Some, None, nat_lt, refl, ap, ◌∙◌, subst, arith}
-use Rattle.std.proofs.lemmas.Bool.{and_parts, and_from, ltb-false, le-ltb}
-use Rattle.std.specs.List.{list_all}
+use Rattle.std.proofs.Common.{◌≡◌, ℕ, ◌+◌, ◌≤◌, Bool, true, false, not, ◌&&◌, ◌||◌, IsTrue, List, [], ◌∷◌, Some, None, nat_lt, refl, ◌∙◌, subst, arith}
+use Rattle.std.proofs.lemmas.Bool.{and_parts, ltb-false, le-ltb}
 use Rattle.design_model.specs.declared.act.Act.{Act}
 use Rattle.design_model.specs.declared.act.Act.TheVariants as act
 use Rattle.design_model.specs.declared.act.NumberedAct.{NumberedAct}
@@ -11,17 +10,16 @@ use Rattle.design_model.specs.declared.design.TheConstants.{MAX_COMMANDS}
 use Rattle.design_model.specs.declared.point.Point.{Point}
 use Rattle.design_model.specs.ActPositions.{needle_position_after, leaves_thread_loose}
 use Rattle.design_model.specs.Acts.{acts_from}
-use Rattle.design_model.specs.Commands.{is_command_in_range}
 use Rattle.design_model.specs.Points.{is_point_within, move_between, move_size}
-use Rattle.format_traits.specs.declared.fault.WriteFault.{WriteFault}
 use Rattle.format_traits.specs.declared.fault.WriteFault.TheVariants as fault
 use Rattle.format_traits.specs.declared.encoder_state.WriteLimits.{WriteLimits}
 use Rattle.format_traits.specs.declared.encoder_state.EncoderState.{EncoderState}
 use Rattle.format_traits.specs.PlainDesigns.{is_plain_act, are_plain_from}
-use Rattle.format_traits.specs.Refusals.{stops_in, stops_of, encoder_state_after, is_above_max, refusal_if, refusal_of_needle, refusal_before_room, or_else, refusal_of_act, first_refusal_from}
+use Rattle.format_traits.specs.Refusals.{stops_in, stops_of, encoder_state_after, is_above_max, refusal_if, refusal_of_needle, refusal_before_room, refusal_of_act, first_refusal_from}
 use Rattle.format_traits.specs.Rooms.{room_from}
-use Rattle.format_traits.proofs.PointLemmas.{within_parts}
-use Rattle.format_traits.proofs.rereading.Acts.{are_told, are_in_range, not_refused, or_else_none}
+use Rattle.format_traits.proofs.rereading.Acts.{are_told}
+use Rattle.design_model.proofs.CallerLemmas.{within_parts}
+use Rattle.format_traits.proofs.CallerLemmas.{not_refused, or_else_both, or_else_none, refused_not}
 
 -- the fold over commands gives no other acts
 pub told : (n : ℕ) (loose jumped : Bool) (commands : List Command)
@@ -34,27 +32,6 @@ told n loose jumped (Jump p ∷ rest) = told (n + 1) loose true rest
 told n true jumped (Trim ∷ rest) = told (n + 1) true jumped rest
 told n false jumped (Trim ∷ rest) = told (n + 1) true false rest
 told n loose jumped (Stop ∷ rest) = told (n + 1) true false rest
-
--- the acts of commands in range are in range
-pub acts_in_range : (n : ℕ) (loose jumped : Bool) (commands : List Command)
-    → IsTrue (list_all is_command_in_range commands) → IsTrue (are_in_range (acts_from n loose jumped commands))
-acts_in_range n loose jumped [] all = all
-acts_in_range n loose jumped (Stitch p ∷ rest) all =
-    let both = and_parts (is_command_in_range (Stitch p)) (list_all is_command_in_range rest) all in
-    and_from (is_command_in_range (Stitch p)) (are_in_range (acts_from (n + 1) false false rest)) both.0
-    (acts_in_range (n + 1) false false rest both.1)
-acts_in_range n loose jumped (Jump p ∷ rest) all = acts_in_range (n + 1) loose true rest
-    (and_parts (is_command_in_range (Jump p)) (list_all is_command_in_range rest) all).1
-acts_in_range n true jumped (Trim ∷ rest) all = acts_in_range (n + 1) true jumped rest all
-acts_in_range n false jumped (Trim ∷ rest) all = acts_in_range (n + 1) true false rest all
-acts_in_range n loose jumped (Stop ∷ rest) all = acts_in_range (n + 1) true false rest all
-
-refused_not : (b : Bool) (f : WriteFault) → b ≡ false → refusal_if b f ≡ None
-refused_not true f is = cc
-refused_not false f is = refl
-
-or_else_both : (one other : Option WriteFault) → one ≡ None → other ≡ None → or_else one other ≡ None
-or_else_both one other first second = ap (λ r. or_else r other) first ∙ second
 
 plain_needle : (write_limits : WriteLimits) (loose : Bool) (float : Bool) (m : Point) (number : ℕ)
     → IsTrue (not float && (loose || is_point_within write_limits.limit m)) → refusal_of_needle write_limits loose float m number ≡ None

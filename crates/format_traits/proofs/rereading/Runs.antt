@@ -15,9 +15,10 @@ use Rattle.format_traits.specs.MoveHops.{position_after_move, part_end, part_mov
 use Rattle.format_traits.specs.Records.{Records, next}
 use Rattle.format_traits.specs.RoundTrip.{EncodedEvents, DecodesEncoding}
 use Rattle.format_traits.specs.RecordEncodings.{RecordEncoding, is_at_max, hop_records, stitched_hop_records}
-use Rattle.format_traits.proofs.PointLemmas.{within_from, position_after_move-none}
+use Rattle.format_traits.proofs.PointLemmas.{position_after_move-none}
 use Rattle.format_traits.proofs.rereading.Parts.{Lies, part_within, part_all, part_none, part_in_range, moved-on}
 use Rattle.format_traits.proofs.rereading.Steps.{GoesOn, goes_stitch, goes_jump, goes_trimmed_jump}
+use Rattle.design_model.proofs.CallerLemmas.{within_from}
 
 -- the number of trims that n jump records are decoded as, after a run of jump records
 abbrev pub trims_in : Option ℕ → ℕ → ℕ → ℕ

@@ -19,7 +19,8 @@ use Rattle.format_traits.specs.MoveHops.{position_after_move}
 use Rattle.format_traits.specs.Readings.{FileCommands, with_commands_before, checked_command, checked_commands}
 use Rattle.format_traits.specs.Records.{Records, over, next, commands_of_event, position_after_event, moves_of_event, file_commands_from, are_accepted, moves_of_records_from}
 use Rattle.format_traits.specs.RoundTrip.{is_stop_in_place}
-use Rattle.format_traits.proofs.PointLemmas.{position_after_move-none, same_points, within_from}
+use Rattle.format_traits.proofs.PointLemmas.{position_after_move-none, same_points}
+use Rattle.design_model.proofs.CallerLemmas.{within_from}
 
 -- from that place on the records are read to an end as those acts, each move within the limit
 pub record GoesOn (limit count : ℕ) (place : Point) (records : Records) (loose jumped : Bool) (acts : List Act) : Type 0 where

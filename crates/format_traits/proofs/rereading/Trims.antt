@@ -14,12 +14,13 @@ use Rattle.format_traits.specs.declared.event.Event.TheVariants as event
 use Rattle.format_traits.specs.MoveHops.{position_after_move}
 use Rattle.format_traits.specs.Records.{Records}
 use Rattle.format_traits.specs.RoundTrip.{BeginWithEvents, IsTrimSequence, are_jumps, trims_once, position_after_moves, moves_of_events, length_of_moves}
-use Rattle.format_traits.proofs.PointLemmas.{within_parts, within_from, within_more, same_point, position_after_move-none}
+use Rattle.format_traits.proofs.PointLemmas.{position_after_move-none}
 use Rattle.format_traits.proofs.rereading.Runs.{goes_as}
 use Rattle.format_traits.proofs.rereading.Steps.{GoesOn, goes_jump, goes_trimmed_jump, goes_trim}
+use Rattle.design_model.proofs.CallerLemmas.{point_of_parts, within_from, within_more, within_parts}
 
 moved-moved : (p q m : Point) → position_after_move (position_after_move p q) m ≡ position_after_move p (position_after_move q m)
-moved-moved p q m = same_point (turned p.x q.x m.x) (turned p.y q.y m.y)
+moved-moved p q m = point_of_parts (turned p.x q.x m.x) (turned p.y q.y m.y)
   where
     turned : (a b c : ℤ) → (a +ℤ b) +ℤ c ≡ a +ℤ (b +ℤ c)
     turned a b c = omega (arith, ints)

@@ -1,8 +1,9 @@
 use Rattle.std.proofs.Common.{ℕ, ◌∙◌, false, true, subst}
 use Rattle.line_graph.specs.PiecesOfDrawings.{graph_of}
 use Rattle.double_run.specs.Cursors.{IsTraversalCursor}
-use Rattle.double_run.proofs.CursorLemmas.{cursor_end, cursor_leads, cursor_none, cursor_place, is_passed, read_cursor, read_passed}
+use Rattle.double_run.proofs.CursorLemmas.{cursor_leads, cursor_none, cursor_place, is_passed, read_cursor, read_passed}
 use Rattle.double_run.proofs.traversal.step.Goals as goal
+use Rattle.lists_and_numbers.proofs.CallerLemmas.{one_before}
 
 pub come_back-requires-clause-spent : goal.come_back-requires-clause-spent
 come_back-requires-clause-spent c =
@@ -20,7 +21,7 @@ returns-then-index c =
     let edges = c.args.p.now.edges in
     let number = read_cursor edges _ o.passed.items o.ends.last.items o.ends.before.items o.at _ c.index-number.ensures
     c.requires.ready in
-    let here = number ∙ cursor_end _ c.if-number-eq0.false in
+    let here = number ∙ one_before _ c.if-number-eq0.false in
     let place = cursor_place edges _ o.passed.items o.ends.last.items o.ends.before.items o.at _ here c.requires.keeps.beside
     c.requires.ready in
     c.skip_end.ensures (graph_of c.args.p.now) c.requires.keeps c.requires.ready here
@@ -32,7 +33,7 @@ go_out-requires-clause-leads c =
     let edges = c.args.p.now.edges in
     let number = read_cursor edges _ o.passed.items o.ends.last.items o.ends.before.items o.at _ c.index-number.ensures
     c.requires.ready in
-    let here = number ∙ cursor_end _ c.if-number-eq0.false in
+    let here = number ∙ one_before _ c.if-number-eq0.false in
     let place = cursor_place edges _ o.passed.items o.ends.last.items o.ends.before.items o.at _ here c.requires.keeps.beside
     c.requires.ready in
     rw c.leg_from-leg.ensures

@@ -1,7 +1,8 @@
 use Rattle.std.proofs.Common.{◌+◌, ◌∙◌, length, length-set}
 use Rattle.std.proofs.lemmas.Option.{slice_get-get_or}
-use Rattle.euler_tour.proofs.EndLemmas.{chain_step, ends_are_below}
+use Rattle.euler_tour.proofs.EndLemmas.{chain_step}
 use Rattle.euler_tour.proofs.line_ends.chain.Goals as goal
+use Rattle.euler_tour.proofs.CallerLemmas.{ends_are_below}
 
 pub add_end-requires-clause-there : goal.add_end-requires-clause-there
 add_end-requires-clause-there c =

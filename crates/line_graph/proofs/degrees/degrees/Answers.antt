@@ -1,6 +1,7 @@
 use Rattle.std.proofs.Common.{◌≡◌, ◌∙◌, [], length, ap, replicate, rules, arith}
-use Rattle.line_graph.proofs.DegreeLemmas.{count_few, ends_within, length-degrees_from, next_counted, no_edge, none_counted}
+use Rattle.line_graph.proofs.DegreeLemmas.{count_few, ends_within, next_counted, no_edge, none_counted}
 use Rattle.line_graph.proofs.degrees.degrees.Goals as goal
+use Rattle.line_graph.proofs.CallerLemmas.{length-degrees_from}
 
 pub loop-edge-init : goal.loop-edge-init
 loop-edge-init c =

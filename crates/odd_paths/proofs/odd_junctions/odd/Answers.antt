@@ -1,9 +1,10 @@
 use Rattle.std.proofs.Common.{◌≡◌}
 use Rattle.line_graph.specs.PiecesOfDrawings.{graph_of}
 use Rattle.line_graph.specs.PieceGraphs.{odd_junctions}
-use Rattle.odd_paths.proofs.DegreeLemmas.{degrees_few, odds_told}
+use Rattle.odd_paths.proofs.DegreeLemmas.{odds_told}
 use Rattle.odd_paths.proofs.odd_junctions.odd.Goals as goal
 use Rattle.odd_paths.specs.OddDegrees.{odds_from}
+use Rattle.line_graph.proofs.CallerLemmas.{degrees_few}
 
 pub odds_in-requires : goal.odds_in-requires
 odds_in-requires c = rw c.as_slice.ensures (degrees_few (graph_of c.args.p.now) c.args.p.now.kept)

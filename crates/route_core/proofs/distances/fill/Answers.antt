@@ -1,7 +1,8 @@
 use Rattle.std.proofs.Common.{◌<◌, ap, arith, length}
 use Rattle.line_graph.specs.PiecesOfDrawings.{graph_of}
-use Rattle.route_core.proofs.DistanceLemmas.{filled_none, row_most, row_wide, terminal_there}
+use Rattle.route_core.proofs.DistanceLemmas.{filled_none, row_most, terminal_there}
 use Rattle.route_core.proofs.distances.fill.Goals as goal
+use Rattle.odd_paths.proofs.CallerLemmas.{is_wide}
 
 pub loop-b-init : goal.loop-b-init
 loop-b-init c = record {
@@ -18,7 +19,7 @@ bounds-row-terminals c =
       arith,
       terminal_there (graph_of c.args.p.now) c.args.rows.now c.args.terminals.now c.loop-b.b c.requires.rows
           c.requires.terminals at,
-      row_wide (graph_of c.args.p.now) c.args.rows.now c.args.a _ c.requires.rows c.row-row.ensures,
+      is_wide (graph_of c.args.p.now) c.args.rows.now c.args.a _ c.requires.rows c.row-row.ensures,
     )
 
 pub set-requires-clause-short : goal.set-requires-clause-short

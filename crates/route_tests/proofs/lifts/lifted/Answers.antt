@@ -1,8 +1,9 @@
 use Rattle.std.proofs.Common.{List, refl, subst, sym, ℕ, ◌∙◌}
 use Rattle.line_graph.specs.PiecesOfDrawings.{graph_of}
 use Rattle.odd_paths.specs.LeastRows.{AreTerminals}
-use Rattle.route_tests.proofs.LiftableMoats.{moats_are, odds_are_terminals}
+use Rattle.route_tests.proofs.LiftableMoats.{moats_are}
 use Rattle.route_tests.proofs.lifts.lifted.Goals as goal
+use Rattle.odd_paths.proofs.CallerLemmas.{odds_are_terminals}
 
 pub rows-requires : goal.rows-requires
 rows-requires c =

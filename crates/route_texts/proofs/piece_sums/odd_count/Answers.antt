@@ -2,8 +2,9 @@ use Rattle.std.proofs.Common.{◌≡◌, length}
 use Rattle.line_graph.specs.PiecesOfDrawings.{graph_of}
 use Rattle.line_graph.specs.PieceGraphs.{odd_junctions}
 use Rattle.route_texts.specs.OddCounts.{odd_number}
-use Rattle.route_texts.proofs.OddCountLemmas.{degrees_few, odds_counted}
+use Rattle.route_texts.proofs.OddCountLemmas.{odds_counted}
 use Rattle.route_texts.proofs.piece_sums.odd_count.Goals as goal
+use Rattle.line_graph.proofs.CallerLemmas.{degrees_few}
 
 pub count_odd-requires : goal.count_odd-requires
 count_odd-requires c = rw c.as_slice.ensures (degrees_few (graph_of c.args.p.now) c.args.p.now.kept)

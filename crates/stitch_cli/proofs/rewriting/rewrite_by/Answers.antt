@@ -4,9 +4,9 @@ use Rattle.program_shell.specs.StepOutcomes.{RunsPurePlan}
 use Rattle.program_shell.specs.Plans.{satisfies}
 use Rattle.design_changes.specs.AppliedChanges.{change_list}
 use Rattle.stitch_cli.specs.Rewrites.{IsRewriteResult, rewrite_order, rewrite_read}
-use Rattle.stitch_cli.proofs.FormatLemmas.{same_format}
 use Rattle.program_shell.proofs.CallerLemmas.{settles_taken}
 use Rattle.stitch_cli.proofs.rewriting.rewrite_by.Goals as goal
+use Rattle.format_traits.proofs.CallerLemmas.{same_format}
 
 pub returns-clause-prepares : goal.returns-clause-prepares
 returns-clause-prepares g c = λ s t of_source of_target.

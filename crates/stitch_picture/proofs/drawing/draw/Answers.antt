@@ -5,8 +5,8 @@ use Rattle.program_shell.proofs.CallerLemmas.{settles_taken}
 use Rattle.stitch_picture.specs.Orders.{order_made}
 use Rattle.stitch_picture.specs.Pictures.{picture_read}
 use Rattle.stitch_picture.specs.Words.{requested_file}
-use Rattle.stitch_picture.proofs.FormatLemmas.{same_format}
 use Rattle.stitch_picture.proofs.drawing.draw.Goals as goal
+use Rattle.format_traits.proofs.CallerLemmas.{same_format}
 
 pub returns-clause-prepares : goal.returns-clause-prepares
 returns-clause-prepares g c = λ m is.

@@ -1,0 +1,66 @@
+-- Lemmas that this crate and those above cite.
+use Rattle.std.proofs.Common.{Bool, IsTrue, List, [], arith, false, refl, true, unsigned_abs, ℕ, ℤ, ◌+◌, ◌∷◌, ◌≡◌, ◌≤◌}
+use Rattle.std.proofs.Math.Path.{ap₂}
+use Rattle.std.proofs.lemmas.Bool.{and_from, and_parts}
+use Rattle.std.proofs.lemmas.Bool.Decides.{Decides-int_eq, nat_tests}
+use Rattle.std.specs.List.{list_all}
+use Rattle.std.specs.Ordering.{int_eq}
+use Rattle.design_model.specs.ActPositions.{is_act_in_range}
+use Rattle.design_model.specs.Acts.{acts_from}
+use Rattle.design_model.specs.Commands.{is_command_in_range}
+use Rattle.design_model.specs.Points.{is_point_within, is_same_point}
+use Rattle.design_model.specs.declared.act.NumberedAct.{NumberedAct}
+use Rattle.design_model.specs.declared.command.Command.{Command}
+use Rattle.design_model.specs.declared.command.Command.TheVariants.{Jump, Stitch, Stop, Trim}
+use Rattle.design_model.specs.declared.point.Point.{Point}
+
+-- points that are found to be the same are the same
+pub same_is : (p q : Point) → is_same_point p q ≡ true → p ≡ q
+same_is p q found =
+    let both = and_parts (int_eq p.x q.x) (int_eq p.y q.y) found in
+    ap₂ (λ x y. record { x = x; y = y }) ((Decides-int_eq p.x q.x).0 both.0) ((Decides-int_eq p.y q.y).0 both.1)
+
+pub point_itself : (p : Point) → is_same_point p p ≡ true
+point_itself p = and_from (int_eq p.x p.x) (int_eq p.y p.y) ((Decides-int_eq p.x p.x).1 refl) ((Decides-int_eq p.y p.y).1 refl)
+
+-- a point is within a limit where both its coordinates are
+pub within_parts : (limit : ℕ) (p : Point) → IsTrue (is_point_within limit p)
+    → (unsigned_abs p.x ≤ limit) × (unsigned_abs p.y ≤ limit)
+within_parts limit p within = grind (arith, nat_tests)
+
+-- equal coordinates are those of equal points
+pub same_point : (p q : Point) → p.x ≡ q.x → p.y ≡ q.y → p ≡ q
+same_point p q across down =
+    let make : ℤ → ℤ → Point = λ x y. record { x = x; y = y } in ap₂ make across down
+
+-- points are equal where their coordinates are
+pub point_of_parts : {x x' y y' : ℤ} → x ≡ x' → y ≡ y'
+    → (let p : Point = record { x = x; y = y } in p) ≡ (let q : Point = record { x = x'; y = y' } in q)
+point_of_parts x y = cc
+
+pub within_from : (limit : ℕ) (p : Point) → unsigned_abs p.x ≤ limit → unsigned_abs p.y ≤ limit
+    → IsTrue (is_point_within limit p)
+within_from limit p across down = grind (arith, nat_tests)
+
+-- the points of acts are in a needle's range
+abbrev pub are_in_range : List NumberedAct → Bool
+are_in_range acts = list_all (λ a. is_act_in_range a.act) acts
+
+-- the acts of commands in range are in range
+pub acts_in_range : (n : ℕ) (loose jumped : Bool) (commands : List Command)
+    → IsTrue (list_all is_command_in_range commands) → IsTrue (are_in_range (acts_from n loose jumped commands))
+acts_in_range n loose jumped [] all = all
+acts_in_range n loose jumped (Stitch p ∷ rest) all =
+    let both = and_parts (is_command_in_range (Stitch p)) (list_all is_command_in_range rest) all in
+    and_from (is_command_in_range (Stitch p)) (are_in_range (acts_from (n + 1) false false rest)) both.0
+    (acts_in_range (n + 1) false false rest both.1)
+acts_in_range n loose jumped (Jump p ∷ rest) all = acts_in_range (n + 1) loose true rest
+    (and_parts (is_command_in_range (Jump p)) (list_all is_command_in_range rest) all).1
+acts_in_range n true jumped (Trim ∷ rest) all = acts_in_range (n + 1) true jumped rest all
+acts_in_range n false jumped (Trim ∷ rest) all = acts_in_range (n + 1) true false rest all
+acts_in_range n loose jumped (Stop ∷ rest) all = acts_in_range (n + 1) true false rest all
+
+pub within_more : (limit more : ℕ) (m : Point) → limit ≤ more → IsTrue (is_point_within limit m) → IsTrue (is_point_within more m)
+within_more limit more m less here =
+    let parts = within_parts limit m here in
+    within_from more m (omega (arith, parts.0, less)) (omega (arith, parts.1, less))

@@ -1,0 +1,26 @@
+-- Lemmas that this crate and those above cite.
+use Rattle.std.proofs.Common.{ap, arith, refl, true, ℕ, ◌==◌, ◌∙◌, ◌≡◌}
+use Rattle.std.proofs.lemmas.Bool.{and_parts}
+use Rattle.std.proofs.lemmas.Bool.Decides.{Decides-int_eq, nat_tests}
+use Rattle.std.specs.Ordering.{int_eq}
+use Rattle.design_model.proofs.CallerLemmas.{same_is}
+use Rattle.design_model.specs.Points.{is_same_point}
+use Rattle.design_model.specs.declared.point.Point.{Point}
+use Rattle.line_sections.specs.Spots.{is_same_spot}
+use Rattle.line_sections.specs.declared.spot.Spot.{Spot}
+use Rattle.lists_and_numbers.proofs.CallerLemmas.{same_number}
+
+-- a spot is found to be equal to itself
+pub spot_found : (a : Spot) → is_same_spot a a ≡ true
+spot_found a =
+    let block : (a.block == a.block) ≡ true = grind (arith, nat_tests) in
+    let across : int_eq a.at.x a.at.x ≡ true = (Decides-int_eq a.at.x a.at.x).1 refl in
+    let down : int_eq a.at.y a.at.y ≡ true = (Decides-int_eq a.at.y a.at.y).1 refl in
+    rw (block, across, down) refl
+
+-- Spots that pass the test are equal.
+pub same_spot : (a b : Spot) → is_same_spot a b ≡ true → a ≡ b
+same_spot a b found =
+    let both = and_parts (a.block == b.block) (is_same_point a.at b.at) found in
+    ap (λ (n : ℕ). record { block = n; at = a.at }) (same_number a.block b.block both.0)
+    ∙ ap (λ (p : Point). record { block = b.block; at = p }) (same_is a.at b.at both.1)

@@ -1,0 +1,25 @@
+-- Lemmas that this crate and those above cite.
+use Rattle.std.proofs.Common.{None, Option, Some, [], arith, refl, true, ℕ, ◌*◌, ◌+◌, ◌-◌, ◌≡◌, ◌≤◌}
+use Rattle.std.proofs.lemmas.List.Elements.{All-nil}
+use Rattle.line_graph.specs.PieceGraphs.{PieceValue}
+use Rattle.line_graph.specs.PieceWalks.{is_fitting_walk, piece_cost, walk_cost}
+use Rattle.line_graph.specs.ValidPieces.{IsValidPiece}
+use Rattle.odd_cuts.specs.Faults.{first_fault}
+use Rattle.odd_cuts.specs.PackingBounds.{BoundsWalks}
+use Rattle.odd_cuts.specs.Packings.{IsOddCut}
+use Rattle.odd_cuts.specs.declared.certificate.PieceCert.{PieceCert}
+
+-- two are none where neither is one
+pub both_none : {F : Type 0} (first rest : Option F) → first_fault first rest ≡ None → (first ≡ None) × (rest ≡ None)
+both_none (Some found) rest is = absurd (cc)
+both_none None rest is = (refl, is)
+
+-- a fitting walk costs no less than the lines
+pub costs_more : BoundsWalks → (p : PieceValue) (cert : PieceCert) → IsValidPiece p → is_fitting_walk p cert.walk ≡ true
+    → piece_cost p ≤ walk_cost p cert.walk
+costs_more bounds p cert keeps fit =
+    half (piece_cost p) (walk_cost p cert.walk) (bounds p [] cert.walk keeps
+    (record { odd = All-nil (IsOddCut p); loads = λ k. λ d. λ less. omega arith }) fit)
+  where
+    half : (m n : ℕ) → 0 + 2 * m ≤ 2 * n → m ≤ n
+    half m n h = omega arith
