@@ -6,7 +6,7 @@ use Rattle.std.proofs.lemmas.Option.{slice_get_read, slice_get_within}
 use Rattle.std.specs.Prelude.{slice_index}
 use Rattle.blossom_match.specs.declared.matching.Moat.{Moat}
 use Rattle.blossom_match.specs.Matchings.{IsOddMoat}
-use Rattle.line_graph.specs.declared.limits.TheConstants.{MAX_COST}
+use Rattle.drawing_model.specs.declared.limits.TheConstants.{MAX_COST}
 use Rattle.odd_paths.specs.LeastRows.{RowsValue, cost_in, length_in}
 use Rattle.cut_certificate.specs.declared.single_moat.TheConstants.{FAR}
 use Rattle.cut_certificate.specs.declared.terminal_state.TerminalState.{TerminalState}

@@ -4,7 +4,7 @@ use Rattle.drawing_text.specs.declared.draw_fault.DrawFault.{DrawFault}
 use Rattle.drawing_text.specs.declared.drawn_lines.DrawnLines.{DrawnLines}
 use Rattle.drawing_text.specs.DrawingText.{drawing_of}
 use Rattle.drawing_text.specs.DrawnTexts.{lines_of}
-use Rattle.line_graph.specs.Drawings.{DrawingValue}
+use Rattle.drawing_model.specs.Drawings.{DrawingValue}
 use Rattle.outside_io.specs.Files.{Files}
 use Rattle.program_shell.specs.ExactPlans.{IsExact, IsSoundProgram}
 use Rattle.program_shell.specs.Plans.{Makes, accepts}

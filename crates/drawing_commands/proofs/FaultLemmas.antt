@@ -4,7 +4,7 @@ use Rattle.std.proofs.lemmas.Bool.{and_left}
 use Rattle.lists_and_numbers.specs.OutOfMemory.{IsSpecified, UnlessOutOfMemory}
 use Rattle.drawing_text.specs.declared.draw_fault.DrawFault.{DrawFault}
 use Rattle.drawing_text.specs.DrawingText.{draw_fault_is_out_of_memory}
-use Rattle.line_graph.specs.GrowingDrawings.{draw_is_out_of_memory}
+use Rattle.drawing_model.specs.GrowingDrawings.{draw_is_out_of_memory}
 use Rattle.outside_io.specs.Views.{StoreView}
 use Rattle.program_shell.specs.declared.failure.Failure.{Failure}
 use Rattle.program_shell.specs.declared.failure.Failure.TheVariants as failure
@@ -13,7 +13,7 @@ use Rattle.program_shell.specs.StepOutcomes.{RunsPurePlan}
 use Rattle.drawing_commands.specs.declared.bad_edit.BadEdit.{BadEdit}
 use Rattle.drawing_commands.specs.DrawingEditing.{bad_edit_is_out_of_memory, edited_plan}
 use Rattle.drawing_commands.specs.EditFailures.{IsEditFailure}
-use Rattle.line_graph.specs.Drawings.{DrawingValue}
+use Rattle.drawing_model.specs.Drawings.{DrawingValue}
 use Rattle.drawing_commands.specs.FaultTexts.{plan_after_reading}
 use Rattle.drawing_inputs.specs.FaultFailures.{IsFaultFailure}
 

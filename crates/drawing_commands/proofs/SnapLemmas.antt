@@ -9,8 +9,8 @@ use Rattle.drawing_repairs.specs.Snaps.{snap_is_out_of_memory, snap_of}
 use Rattle.drawing_text.specs.declared.draw_fault.DrawFault.{DrawFault}
 use Rattle.drawing_text.specs.declared.drawn_lines.DrawnLines.{DrawnLines}
 use Rattle.drawing_text.specs.DrawnTexts.{lines_of}
-use Rattle.line_graph.specs.EndOrders.{AreInBlockOrder, HasOrderedEnds}
-use Rattle.line_graph.specs.Drawings.{DrawingValue}
+use Rattle.drawing_model.specs.EndOrders.{AreInBlockOrder, HasOrderedEnds}
+use Rattle.drawing_model.specs.Drawings.{DrawingValue}
 use Rattle.line_sections.specs.declared.spot.Spot.{Spot}
 use Rattle.line_sections.specs.Lines.{LineValue}
 use Rattle.outside_io.specs.Files.{Files}

@@ -6,9 +6,9 @@ use Rattle.drawing_repairs.specs.SpacedDrawings.{space_of}
 use Rattle.drawing_text.specs.declared.draw_fault.DrawFault.{DrawFault}
 use Rattle.drawing_text.specs.declared.drawn_lines.DrawnLines.{DrawnLines}
 use Rattle.drawing_text.specs.DrawnTexts.{lines_of}
-use Rattle.line_graph.specs.declared.draw_kind.DrawKind.{DrawKind}
-use Rattle.line_graph.specs.Drawings.{DrawingValue}
-use Rattle.line_graph.specs.GrowingDrawings.{draw_is_out_of_memory}
+use Rattle.drawing_model.specs.declared.draw_kind.DrawKind.{DrawKind}
+use Rattle.drawing_model.specs.Drawings.{DrawingValue}
+use Rattle.drawing_model.specs.GrowingDrawings.{draw_is_out_of_memory}
 use Rattle.line_sections.specs.declared.spot.Spot.{Spot}
 use Rattle.outside_io.specs.Files.{Files}
 use Rattle.outside_io.specs.Views.{StoreView}
@@ -18,7 +18,7 @@ use Rattle.program_shell.specs.ExactPlans.{IsExact}
 use Rattle.program_shell.specs.Plans.{Makes}
 use Rattle.program_shell.specs.Products.{ProductValue, output_names}
 use Rattle.program_shell.specs.StepOutcomes.{RunsPurePlan}
-use Rattle.line_graph.specs.EndOrders.{AreInBlockOrder, HasOrderedEnds}
+use Rattle.drawing_model.specs.EndOrders.{AreInBlockOrder, HasOrderedEnds}
 use Rattle.drawing_commands.specs.FaultTexts.{plan_after_reading}
 use Rattle.drawing_commands.specs.SpaceOrders.{IsSpaceFailure, SpaceOrder, space_lines, space_made}
 

@@ -9,7 +9,7 @@ use Rattle.design_model.specs.declared.point.TheConstants.{NEEDLE_LIMIT}
 use Rattle.lists_and_numbers.specs.WholeNumbers.{parsed_whole}
 use Rattle.drawing_edits.specs.declared.drawing_edit.DrawingEdit.{DrawingEdit}
 use Rattle.drawing_edits.specs.declared.drawing_edit.DrawingEdit.TheVariants as edit
-use Rattle.line_graph.specs.declared.limits.TheConstants.{MAX_LINES}
+use Rattle.drawing_model.specs.declared.limits.TheConstants.{MAX_LINES}
 use Rattle.step_splitter.specs.declared.segment.TheConstants.{MAX_STEP}
 
 -- The edit of a drawing that a change of a design is, if it moves points.

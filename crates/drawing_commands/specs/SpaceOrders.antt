@@ -6,10 +6,10 @@ use Rattle.drawing_repairs.specs.SpacedDrawings.{space_of}
 use Rattle.drawing_text.specs.DrawingText.{drawing_of}
 use Rattle.drawing_text.specs.DrawnTexts.{drawing_as_drawn, lines_of}
 use Rattle.drawing_text.specs.EndTexts.{drawn_text, with_ends_of}
-use Rattle.line_graph.specs.declared.draw_kind.DrawKind.{DrawKind}
+use Rattle.drawing_model.specs.declared.draw_kind.DrawKind.{DrawKind}
 use Rattle.line_graph.specs.declared.piece.Piece.{Piece}
-use Rattle.line_graph.specs.Drawings.{DrawingValue}
-use Rattle.line_graph.specs.GrowingDrawings.{draw_is_out_of_memory, point_count, step_count}
+use Rattle.drawing_model.specs.Drawings.{DrawingValue}
+use Rattle.drawing_model.specs.GrowingDrawings.{draw_is_out_of_memory, point_count, step_count}
 use Rattle.line_graph.specs.PiecesOfDrawings.{ArePiecesOf}
 use Rattle.program_shell.specs.declared.failure.Failure.{Failure}
 use Rattle.program_shell.specs.declared.failure.Failure.TheVariants as failure

@@ -12,7 +12,7 @@ use command_words::{Edit, parse_edit, parse_integer, parse_natural, split_once};
 use design_edits::Motion;
 use design_model::{NEEDLE_LIMIT, Point};
 use drawing_edits::DrawingEdit;
-use line_graph::{MAX_LINES, MAX_STEP};
+use drawing_model::{MAX_LINES, MAX_STEP};
 
 /// Parses an edit of a drawing: `shift=DX,DY`, `turn=Q`, `mirror=x`, `mirror=y`, `centre`, `step=N`,
 /// `order=P,Q`, `start=X,Y` or `end=X,Y`.

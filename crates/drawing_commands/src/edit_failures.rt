@@ -2,13 +2,13 @@ ghost use Rattle.std.specs.Prelude.{◌≡◌, ◌++◌, IfOk, codes, decimal, s
 ghost use Rattle.drawing_commands.specs.DrawingEditing.{bad_edit_text};
 ghost use Rattle.drawing_commands.specs.EditFailures.{IsEditFailure};
 ghost use Rattle.drawing_edits.specs.EditFaults.{edit_is_out_of_memory};
-ghost use Rattle.line_graph.specs.GrowingDrawings.{draw_is_out_of_memory};
+ghost use Rattle.drawing_model.specs.GrowingDrawings.{draw_is_out_of_memory};
 ghost use Rattle.program_shell.specs.FileTexts.{text_at};
 ghost use Rattle.program_shell.specs.StepOutcomes.{IsRefusalWith};
 
 use crate::bad_edit::BadEdit;
 use drawing_edits::EditFault;
-use line_graph::DrawKind;
+use drawing_model::DrawKind;
 use lists_and_numbers::Memory;
 use program_shell::{Failure, describe_part};
 use program_texts::describe_kind;

@@ -10,9 +10,10 @@ ghost use Rattle.program_shell.specs.StepOutcomes.{RunsPlan, RunsPurePlan};
 
 use crate::look_texts::print_look;
 use drawing_inputs::drawing_failure;
+use drawing_model::Drawing;
 use drawing_review::review;
 use drawing_text::{DrawnLines, read_drawing, read_lines};
-use line_graph::{Drawing, pieces};
+use line_graph::pieces;
 use lists_and_numbers::Memory;
 use outside_io::Store;
 use piece_stitches::piece_stitches;

@@ -4,8 +4,8 @@ ghost use Rattle.drawing_commands.specs.SnapTexts.{snap_fault_text, snap_report,
 ghost use Rattle.drawing_repairs.specs.Snaps.{snap_is_out_of_memory};
 ghost use Rattle.program_shell.specs.StepOutcomes.{IsRefusalWith};
 
+use drawing_model::DrawKind;
 use drawing_repairs::{SnapFault, VanishedLine};
-use line_graph::DrawKind;
 use lists_and_numbers::{Bytes, Memory};
 use program_shell::{Failure, bytes_of, describe_file};
 use program_texts::kind_text;

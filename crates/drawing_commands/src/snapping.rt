@@ -4,18 +4,19 @@ ghost use Rattle.drawing_commands.specs.SnapOrders.{IsSnapProduct, snap_lines, s
 ghost use Rattle.drawing_repairs.specs.SecondSnaps.{StaysSnapped};
 ghost use Rattle.drawing_repairs.specs.Snaps.{snap_of};
 ghost use Rattle.drawing_text.specs.declared.limits.TheConstants.{MAX_TEXT};
-ghost use Rattle.line_graph.specs.EndOrders.{HasOrderedEnds};
+ghost use Rattle.drawing_model.specs.EndOrders.{HasOrderedEnds};
 ghost use Rattle.drawing_text.specs.TextLaws.{IsJoinedFrom};
-ghost use Rattle.line_graph.specs.WalkEnds.{HasNoEnds};
+ghost use Rattle.drawing_model.specs.WalkEnds.{HasNoEnds};
 ghost use Rattle.outside_io.specs.Files.{IsFileName};
 ghost use Rattle.program_shell.specs.Products.{product_value};
 ghost use Rattle.program_shell.specs.StepOutcomes.{RunsPlan, RunsPurePlan};
 
 use crate::snap_texts::{print_snap, snap_failure};
 use drawing_inputs::drawing_failure;
+use drawing_model::Drawing;
 use drawing_repairs::{SnappedDrawing, snap};
 use drawing_text::{print_drawn, read_drawing, read_lines, texts_order_ends};
-use line_graph::{Drawing, pieces};
+use line_graph::pieces;
 use lists_and_numbers::Memory;
 use outside_io::Store;
 use program_shell::{Failure, Output, Product, one_output, read_input};

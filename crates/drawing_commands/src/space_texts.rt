@@ -1,12 +1,12 @@
 ghost use Rattle.std.specs.Prelude.{◌≡◌, IfOk, string_bytes};
 ghost use Rattle.drawing_commands.specs.SpaceOrders.{IsSpaceFailure, space_report};
 ghost use Rattle.drawing_commands.specs.SpaceTexts.{cost_change_text, point_change_text};
-ghost use Rattle.line_graph.specs.GrowingDrawings.{draw_is_out_of_memory, point_count};
+ghost use Rattle.drawing_model.specs.GrowingDrawings.{draw_is_out_of_memory, point_count};
 ghost use Rattle.program_shell.specs.FileTexts.{text_about};
 ghost use Rattle.program_shell.specs.StepOutcomes.{IsRefusalWith};
 ghost use Rattle.program_texts.specs.DrawingTexts.{draw_kind_text};
 
-use line_graph::{DrawKind, Drawing, drawing_cost};
+use drawing_model::{DrawKind, Drawing, drawing_cost};
 use lists_and_numbers::{Bytes, Memory};
 use program_shell::{Failure, bytes_of, describe_file};
 use program_texts::kind_text;

@@ -5,10 +5,10 @@ use Rattle.std.proofs.lemmas.List.{length-append}
 use Rattle.drawing_edits.specs.RedrawnDrawings.{line_added_if, with_blocks, with_lines_of}
 use Rattle.drawing_edits.specs.ValidRedraws.{LinesInOrderAreDrawn}
 use Rattle.drawing_edits.proofs.BlockGroupLemmas.{grouped, in_block, in_order, rise_all}
-use Rattle.line_graph.specs.declared.draw_kind.DrawKind.{DrawKind}
-use Rattle.line_graph.specs.Drawings.{DrawingValue}
-use Rattle.line_graph.specs.GrowingDrawings.{and_then, empty_drawing, finished_drawing, is_last_empty, steps_with_line, with_new_block, with_new_line}
-use Rattle.line_graph.specs.declared.limits.TheConstants.{MAX_BLOCKS}
+use Rattle.drawing_model.specs.declared.draw_kind.DrawKind.{DrawKind}
+use Rattle.drawing_model.specs.Drawings.{DrawingValue}
+use Rattle.drawing_model.specs.GrowingDrawings.{and_then, empty_drawing, finished_drawing, is_last_empty, steps_with_line, with_new_block, with_new_line}
+use Rattle.drawing_model.specs.declared.limits.TheConstants.{MAX_BLOCKS}
 use Rattle.line_sections.specs.Lines.{LineValue}
 
 line_put : (a b : Bool) (x y : DrawKind) (steps : Result ℕ DrawKind) (new : DrawingValue)

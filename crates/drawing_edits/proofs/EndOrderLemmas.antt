@@ -9,14 +9,14 @@ use Rattle.std.specs.List.Sorted.{IsNonDecreasing}
 use Rattle.design_edits.specs.Motions.{motion_map}
 use Rattle.design_model.specs.declared.point.Point.{Point}
 use Rattle.design_model.specs.Points.{origin}
-use Rattle.line_graph.specs.Drawings.{DrawingValue}
-use Rattle.line_graph.specs.GrowingDrawings.{and_then}
+use Rattle.drawing_model.specs.Drawings.{DrawingValue}
+use Rattle.drawing_model.specs.GrowingDrawings.{and_then}
 use Rattle.line_sections.specs.declared.spot.Spot.{Spot}
 use Rattle.line_sections.specs.Lines.{LineValue}
 use Rattle.drawing_edits.specs.declared.drawing_edit.DrawingEdit.TheVariants as edit
 use Rattle.drawing_edits.specs.declared.edit_fault.EditFault.{EditFault}
 use Rattle.drawing_edits.specs.KeptEnds.{EditsKeepEndsByBlock, HasEndsOf}
-use Rattle.line_graph.specs.EndOrders.{AreInBlockOrder, HasOrderedEnds}
+use Rattle.drawing_model.specs.EndOrders.{AreInBlockOrder, HasOrderedEnds}
 use Rattle.drawing_edits.specs.MovedDrawings.{centred_drawing, moved_drawing, with_moved_spot}
 use Rattle.drawing_edits.specs.PieceOrders.{drawn_from, lines_in_order}
 use Rattle.drawing_edits.specs.PlacedEnds.{end_placed, with_end_at, with_spot}

@@ -2,13 +2,13 @@
 use Rattle.std.proofs.Common.{◌≡◌, ℕ, ◌+◌, ◌==◌, Bool, true, false, not, nat_lt, List, [], ◌∷◌, ◌++◌, append_assoc, append-nil, Result, Ok, Err, IfOk, length, sym, refl, ap, subst, ◌∙◌, if◌then◌else◌}
 use Rattle.std.specs.List.{list_any}
 use Rattle.design_model.specs.declared.point.Point.{Point}
-use Rattle.line_graph.specs.declared.draw_kind.DrawKind.{DrawKind}
-use Rattle.line_graph.specs.declared.draw_kind.DrawKind.TheVariants as kind
-use Rattle.line_graph.specs.declared.limits.TheConstants.{MAX_BLOCKS, MAX_LINES, MAX_POINTS}
-use Rattle.line_graph.specs.Drawings.{DrawingValue}
-use Rattle.line_graph.specs.GrowingDrawings.{all_in_needle_range, and_then, block_added, empty_drawing, finished_drawing, is_last_empty, line_added, point_count, steps_with_line, with_new_block, with_new_line}
-use Rattle.line_graph.specs.JoinedDrawings.{joined_drawing}
-use Rattle.line_graph.specs.WalkEnds.{are_connected_spots, is_junction, spot_added, walk_end_added}
+use Rattle.drawing_model.specs.declared.draw_kind.DrawKind.{DrawKind}
+use Rattle.drawing_model.specs.declared.draw_kind.DrawKind.TheVariants as kind
+use Rattle.drawing_model.specs.declared.limits.TheConstants.{MAX_BLOCKS, MAX_LINES, MAX_POINTS}
+use Rattle.drawing_model.specs.Drawings.{DrawingValue}
+use Rattle.drawing_model.specs.GrowingDrawings.{all_in_needle_range, and_then, block_added, empty_drawing, finished_drawing, is_last_empty, line_added, point_count, steps_with_line, with_new_block, with_new_line}
+use Rattle.drawing_model.specs.JoinedDrawings.{joined_drawing}
+use Rattle.drawing_model.specs.WalkEnds.{are_connected_spots, is_junction, spot_added, walk_end_added}
 use Rattle.line_sections.specs.declared.spot.Spot.{Spot}
 use Rattle.line_sections.specs.Lines.{LineValue}
 use Rattle.line_sections.specs.Sections.{all_sections}
@@ -17,7 +17,7 @@ use Rattle.drawing_edits.specs.EditFaults.{edit_answer}
 use Rattle.drawing_edits.specs.KeptEnds.{HasEndsOf, IsPlacedEnd, PlacedEndsAreKept, RedrawnHasEnds}
 use Rattle.drawing_edits.specs.PlacedEnds.{lines_listing, only_block, with_end_at}
 use Rattle.drawing_edits.specs.RedrawnDrawings.{line_added_if, redrawn, redrawn_lines, with_blocks, with_lines_of, with_starts_and_ends, with_walk_ends}
-use Rattle.line_graph.proofs.CallerLemmas.{after_both}
+use Rattle.drawing_model.proofs.CallerLemmas.{after_both}
 
 -- What holds where a test doesn't refuse holds after the test.
 unless : {A : Type 0} (P : A → Type 0) (test : Bool) (why : DrawKind) (r : Result A DrawKind) → IfOk r P

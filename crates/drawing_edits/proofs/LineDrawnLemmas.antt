@@ -9,16 +9,16 @@ use Rattle.std.proofs.lemmas.List.Sums.{list_all-from_AllPass, sum_by-append, su
 use Rattle.std.specs.List.{list_any}
 use Rattle.design_model.specs.Points.{is_point_within}
 use Rattle.line_sections.specs.Lines.{LineValue}
-use Rattle.line_graph.specs.declared.draw_kind.DrawKind.{DrawKind}
-use Rattle.line_graph.specs.declared.draw_kind.DrawKind.TheVariants as kind
-use Rattle.line_graph.specs.declared.limits.TheConstants.{MAX_BLOCKS, MAX_COST, MAX_LINES, MAX_POINTS}
-use Rattle.line_graph.specs.Drawings.{DrawingValue, IsLine}
-use Rattle.line_graph.specs.GrowingDrawings.{all_in_needle_range, and_then, block_added, empty_drawing, finished_drawing, has_repeated_point, is_last_empty, line_added, point_count, step_count, with_new_block, with_new_line}
-use Rattle.line_graph.specs.Needles.{steps_of_line}
+use Rattle.drawing_model.specs.declared.draw_kind.DrawKind.{DrawKind}
+use Rattle.drawing_model.specs.declared.draw_kind.DrawKind.TheVariants as kind
+use Rattle.drawing_model.specs.declared.limits.TheConstants.{MAX_BLOCKS, MAX_COST, MAX_LINES, MAX_POINTS}
+use Rattle.drawing_model.specs.Drawings.{DrawingValue, IsLine}
+use Rattle.drawing_model.specs.GrowingDrawings.{all_in_needle_range, and_then, block_added, empty_drawing, finished_drawing, has_repeated_point, is_last_empty, line_added, point_count, step_count, with_new_block, with_new_line}
+use Rattle.drawing_model.specs.Needles.{steps_of_line}
 use Rattle.drawing_edits.specs.RedrawnDrawings.{line_added_if, with_blocks, with_lines_of}
 use Rattle.drawing_edits.specs.ValidRedraws.{LinesWithinLimitsAreDrawn}
 use Rattle.drawing_edits.proofs.BlockGroupLemmas.{grouped, in_block, in_order, rise_all}
-use Rattle.line_graph.proofs.CallerLemmas.{none_repeats}
+use Rattle.drawing_model.proofs.CallerLemmas.{none_repeats}
 
 -- A drawing has room for more lines that can be sewn.
 record HasRoom (d : DrawingValue) (more : List LineValue) : Type 0 where

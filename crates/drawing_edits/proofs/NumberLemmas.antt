@@ -8,8 +8,8 @@ use Rattle.drawing_edits.specs.declared.edit_fault.EditFault.{EditFault}
 use Rattle.drawing_edits.specs.EditFaults.{edit_is_out_of_memory}
 use Rattle.drawing_edits.specs.PieceOrders.{IsPieceOf, drawn_from, found_piece, numbered_piece, ordered_lines, piece_put_before, pieces_in_order}
 use Rattle.line_graph.specs.declared.piece.Piece.{Piece}
-use Rattle.line_graph.specs.Drawings.{DrawingValue}
-use Rattle.line_graph.specs.GrowingDrawings.{and_then}
+use Rattle.drawing_model.specs.Drawings.{DrawingValue}
+use Rattle.drawing_model.specs.GrowingDrawings.{and_then}
 use Rattle.line_graph.specs.PieceGraphs.{PieceValue}
 use Rattle.line_graph.specs.PiecesOfDrawings.{ArePiecesOf, lines_of_pieces}
 

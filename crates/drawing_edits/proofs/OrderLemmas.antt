@@ -7,8 +7,8 @@ use Rattle.std.proofs.lemmas.List.Sorted.{IsPermutation-append, IsPermutation-ap
 use Rattle.std.proofs.lemmas.Map.Keys.{any_passes_from_place}
 use Rattle.std.proofs.lemmas.Option.{get_or_from_slice_get, slice_get-get_or, slice_get-map, slice_get_within}
 use Rattle.std.specs.List.{list_any, range_with_len}
-use Rattle.line_graph.specs.Drawings.{DrawingValue, block_of, optional_line_block, optional_line_points}
-use Rattle.line_graph.specs.GrowingDrawings.{and_then}
+use Rattle.drawing_model.specs.Drawings.{DrawingValue, block_of, optional_line_block, optional_line_points}
+use Rattle.drawing_model.specs.GrowingDrawings.{and_then}
 use Rattle.line_graph.specs.Pieces.{first_line}
 use Rattle.line_sections.specs.Lines.{LineValue}
 use Rattle.drawing_edits.specs.declared.edit_fault.EditFault.TheVariants as fault

@@ -7,10 +7,11 @@ use Rattle.std.specs.List.{concat, range_with_len}
 use Rattle.std.specs.List.Sorted.{IsStrictlyIncreasing}
 use Rattle.design_model.specs.declared.point.Point.{Point}
 use Rattle.design_model.specs.Points.{origin}
-use Rattle.line_graph.specs.Drawings.{DrawingValue, KeepsDrawingLimits, first_point, optional_line_points, points_of}
+use Rattle.drawing_model.specs.Drawings.{DrawingValue, KeepsDrawingLimits, first_point, optional_line_points, points_of}
 use Rattle.line_graph.specs.FirstLines.{IsLineEnd}
 use Rattle.line_graph.specs.Pieces.{ArePieces, AreConnected, first_line}
-use Rattle.line_graph.specs.WalkEnds.{SpotsAreConnected, representative}
+use Rattle.drawing_model.specs.WalkEnds.{representative}
+use Rattle.line_graph.specs.ConnectedSpots.{SpotsAreConnected}
 use Rattle.line_sections.specs.declared.spot.Spot.{Spot}
 use Rattle.line_sections.specs.Lines.{LineValue}
 use Rattle.line_sections.specs.Spots.{is_same_spot}

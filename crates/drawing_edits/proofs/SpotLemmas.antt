@@ -7,9 +7,8 @@ use Rattle.design_model.specs.declared.point.Point.{Point}
 use Rattle.design_model.specs.Points.{is_same_point}
 use Rattle.line_sections.specs.declared.spot.Spot.{Spot}
 use Rattle.line_sections.specs.Lines.{LineValue}
-use Rattle.line_graph.specs.Drawings.{IsLine}
-use Rattle.line_graph.specs.Pieces.{endpoints}
-use Rattle.line_graph.specs.WalkEnds.{has_end_at_spot, is_junction}
+use Rattle.drawing_model.specs.Drawings.{IsLine, endpoints}
+use Rattle.drawing_model.specs.WalkEnds.{has_end_at_spot, is_junction}
 use Rattle.step_splitter.specs.Chains.{IsNeedlePoint, last_point_or}
 use Rattle.design_model.proofs.CallerLemmas.{same_is}
 use Rattle.step_splitter.proofs.CallerLemmas.{last_in_range}

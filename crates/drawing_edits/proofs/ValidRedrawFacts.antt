@@ -1,8 +1,8 @@
 -- Worked values of lines that are drawn again.
 use Rattle.std.proofs.Common.{◌≡◌, ℕ, pos, List, [], ◌∷◌, Ok, Err, refl}
 use Rattle.design_model.specs.declared.point.Point.{Point}
-use Rattle.line_graph.specs.declared.draw_kind.DrawKind.TheVariants as kind
-use Rattle.line_graph.specs.Drawings.{DrawingValue}
+use Rattle.drawing_model.specs.declared.draw_kind.DrawKind.TheVariants as kind
+use Rattle.drawing_model.specs.Drawings.{DrawingValue}
 use Rattle.line_sections.specs.declared.spot.Spot.{Spot}
 use Rattle.line_sections.specs.Lines.{LineValue}
 use Rattle.drawing_edits.specs.RedrawnDrawings.{drawn_lines, redrawn}

@@ -1,15 +1,15 @@
 -- A valid joined drawing is drawn again as it is.
 use Rattle.std.proofs.Common.{◌≡◌, true, false, List, [], ◌∷◌, ◌++◌, Result, Ok, ap, sym, subst, ◌∙◌, append_assoc, append-nil}
 use Rattle.line_sections.specs.declared.spot.Spot.{Spot}
-use Rattle.line_graph.specs.declared.draw_kind.DrawKind.{DrawKind}
-use Rattle.line_graph.specs.Drawings.{DrawingValue, KeepsDrawingLimits}
-use Rattle.line_graph.specs.GrowingDrawings.{and_then}
-use Rattle.line_graph.specs.JoinedDrawings.{JoinedDrawingsStay, joined_drawing}
-use Rattle.line_graph.specs.WalkEnds.{AreInDifferentPieces}
+use Rattle.drawing_model.specs.declared.draw_kind.DrawKind.{DrawKind}
+use Rattle.drawing_model.specs.Drawings.{DrawingValue, KeepsDrawingLimits}
+use Rattle.drawing_model.specs.GrowingDrawings.{and_then}
+use Rattle.drawing_model.specs.JoinedDrawings.{JoinedDrawingsStay, joined_drawing}
+use Rattle.drawing_model.specs.WalkEnds.{AreInDifferentPieces}
 use Rattle.drawing_edits.specs.RedrawnDrawings.{with_starts_and_ends, with_walk_ends}
 use Rattle.drawing_edits.specs.ValidRedraws.{ValidDrawingsAreRedrawn}
 use Rattle.drawing_edits.proofs.LineDrawnLemmas.{lines_drawn}
-use Rattle.line_graph.proofs.CallerLemmas.{spot_comes}
+use Rattle.drawing_model.proofs.CallerLemmas.{spot_comes}
 
 starts_come : (spots : List Spot) (d : DrawingValue) → AreInDifferentPieces d.lines (d.starts ++ spots)
     → with_walk_ends true d spots ≡ Ok (record d { starts = d.starts ++ spots })

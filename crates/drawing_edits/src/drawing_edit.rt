@@ -5,7 +5,7 @@ ghost use Rattle.drawing_edits.specs.EditedDrawings.{IsDrawingEdit, edited_drawi
 ghost use Rattle.drawing_edits.specs.EditFaults.{edit_answer, edit_is_out_of_memory};
 ghost use Rattle.drawing_edits.specs.MovedDrawings.{moved_drawing};
 ghost use Rattle.drawing_edits.specs.RedrawnDrawings.{redrawn};
-ghost use Rattle.line_graph.specs.JoinedDrawings.{is_joined};
+ghost use Rattle.drawing_model.specs.JoinedDrawings.{is_joined};
 ghost use Rattle.step_splitter.specs.declared.segment.TheConstants.{MAX_STEP};
 
 use crate::drawing_extent::centring;
@@ -16,7 +16,7 @@ use crate::placed_ends::place_end;
 use crate::redrawing::redraw;
 use design_edits::Motion;
 use design_model::Point;
-use line_graph::Drawing;
+use drawing_model::Drawing;
 use std::alloc::Global;
 
 /// An edit of a drawing.

@@ -9,7 +9,7 @@ ghost use Rattle.step_splitter.specs.Chains.{IsNeedlePoint};
 
 use design_edits::Motion;
 use design_model::{Extent, Point};
-use line_graph::Drawing;
+use drawing_model::Drawing;
 
 /// Returns the shift that brings the middle of a drawing's points to the origin.
 pub fn centring(d: &Drawing) -> Motion

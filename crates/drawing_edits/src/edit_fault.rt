@@ -1,6 +1,6 @@
 ghost use Rattle.std.specs.Prelude.{◌≡◌};
 
-use line_graph::DrawKind;
+use drawing_model::DrawKind;
 use lists_and_numbers::Memory;
 
 /// Why an edit of a drawing is refused.
@@ -30,7 +30,7 @@ impl From<DrawKind> for EditFault {
 
 impl From<Memory> for EditFault {
     ghost use Rattle.drawing_edits.specs.declared.edit_fault.EditFault.TheVariants as fault;
-    ghost use Rattle.line_graph.specs.declared.draw_kind.DrawKind.TheVariants as kind;
+    ghost use Rattle.drawing_model.specs.declared.draw_kind.DrawKind.TheVariants as kind;
 
     ghost from_gives = { λ _ e. e ≡ fault.Draw kind.Memory };
 

@@ -5,7 +5,7 @@ ghost use Rattle.drawing_edits.specs.PlacedEnds.{is_inner_index, line_cut_at};
 
 use crate::line_lists::put_line;
 use design_model::Point;
-use line_graph::{Line, Spot};
+use drawing_model::{Line, Spot};
 use lists_and_numbers::{Items, Memory};
 use std::alloc::Global;
 

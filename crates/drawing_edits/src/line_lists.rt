@@ -1,7 +1,7 @@
 ghost use Rattle.std.specs.Prelude.{◌≡◌, ◌∷◌, ◌++◌, [], OnOk};
 
 use design_model::{Point, Points};
-use line_graph::Line;
+use drawing_model::Line;
 use lists_and_numbers::{Items, Memory};
 use std::alloc::Global;
 

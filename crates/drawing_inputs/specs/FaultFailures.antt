@@ -1,6 +1,6 @@
 -- The failure for a file whose drawing has a fault. A name is the bytes of a file name.
 use Rattle.std.specs.Prelude.{◌≡◌, ℕ, false, List, string_bytes}
-use Rattle.line_graph.specs.GrowingDrawings.{draw_is_out_of_memory}
+use Rattle.drawing_model.specs.GrowingDrawings.{draw_is_out_of_memory}
 use Rattle.drawing_text.specs.declared.draw_fault.DrawFault.{DrawFault}
 use Rattle.program_shell.specs.declared.failure.Failure.{Failure}
 use Rattle.program_shell.specs.declared.failure.Failure.TheVariants as failure

@@ -5,8 +5,8 @@ ghost use Rattle.program_shell.specs.StepOutcomes.{ParsesInput};
 ghost use Rattle.program_texts.specs.DrawingTexts.{draw_fault_text};
 
 use crate::fault_failures::drawing_failure;
+use drawing_model::Drawing;
 use drawing_text::{read_as2, read_drawing};
-use line_graph::Drawing;
 use outside_io::Store;
 use program_shell::{Failure, read_input};
 use std::alloc::Global;

@@ -1,11 +1,11 @@
 ghost use Rattle.std.specs.Prelude.{◌≡◌};
 ghost use Rattle.drawing_inputs.specs.FaultFailures.{IsFaultFailure};
-ghost use Rattle.line_graph.specs.GrowingDrawings.{draw_is_out_of_memory};
+ghost use Rattle.drawing_model.specs.GrowingDrawings.{draw_is_out_of_memory};
 ghost use Rattle.program_shell.specs.StepOutcomes.{IsRefusalWith};
 ghost use Rattle.program_texts.specs.DrawingTexts.{draw_fault_text};
 
+use drawing_model::DrawKind;
 use drawing_text::DrawFault;
-use line_graph::DrawKind;
 use lists_and_numbers::Memory;
 use program_shell::Failure;
 use program_texts::describe_draw_fault;

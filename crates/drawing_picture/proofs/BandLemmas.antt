@@ -9,10 +9,9 @@ use Rattle.drawing_picture.specs.Bands.{Band, band_along, bands_from, half_steps
 use Rattle.drawing_picture.specs.BandTexts.{band_text, bands_of_lines, bands_of_pieces, line_bands}
 use Rattle.line_graph.specs.declared.edge.Edge.{Edge}
 use Rattle.line_graph.specs.declared.piece.Piece.{Piece}
-use Rattle.line_graph.specs.Drawings.{DrawingValue}
-use Rattle.line_graph.specs.LineNeedles.{NeedlesLeadAlong}
+use Rattle.drawing_model.specs.Drawings.{DrawingValue}
+use Rattle.drawing_model.specs.LineNeedles.{NeedlesLeadAlong, cost_of_line, needles_of_line}
 use Rattle.line_graph.specs.PiecesOfDrawings.{graph_of}
-use Rattle.line_graph.specs.Walks.{cost_of_line, needles_of_line}
 use Rattle.odd_cuts.specs.declared.certificate.PieceCert.{PieceCert}
 use Rattle.odd_cuts.specs.declared.cut.Cut.{Cut}
 use Rattle.odd_cuts.specs.Cuts.{crosses, has_member, load_on}

@@ -7,7 +7,7 @@ use Rattle.drawing_picture.specs.DrawingPictures.{IsDrawingPicture, drawing_with
 use Rattle.drawing_picture.specs.JunctionMarks.{loose_points, marks_of_pieces}
 use Rattle.drawing_review.specs.Places.{places_of_lines}
 use Rattle.line_graph.specs.declared.piece.Piece.{Piece}
-use Rattle.line_graph.specs.Drawings.{DrawingValue}
+use Rattle.drawing_model.specs.Drawings.{DrawingValue}
 use Rattle.line_graph.specs.PieceGraphs.{PieceValue, piece_graph}
 use Rattle.line_graph.specs.PiecesOfDrawings.{ArePiecesOf, graph_of, lines_of_pieces}
 use Rattle.line_sections.specs.Lines.{LineValue}

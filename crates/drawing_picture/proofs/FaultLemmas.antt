@@ -8,7 +8,7 @@ use Rattle.odd_cuts.specs.Faults.{first_fault}
 use Rattle.odd_cuts.specs.WalkFaults.{walk_fault}
 use Rattle.design_model.specs.Designs.{DesignValue}
 use Rattle.drawing_picture.specs.CheckedProofs.{IsFirstFault, certificate_reason, reason_before_acts}
-use Rattle.line_graph.specs.Drawings.{DrawingValue}
+use Rattle.drawing_model.specs.Drawings.{DrawingValue}
 use Rattle.line_graph.specs.PieceGraphs.{PieceValue, piece_graph}
 use Rattle.route_verdict.specs.declared.verdict.Reason.{Reason}
 use Rattle.route_verdict.specs.declared.verdict.Reason.TheVariants as reason

@@ -8,7 +8,7 @@ use Rattle.drawing_picture.specs.declared.junction_marks.JunctionMark.{JunctionM
 use Rattle.drawing_picture.specs.JunctionMarks.{marks_from, marks_of_piece, odd_marks}
 use Rattle.drawing_picture.specs.DrawnLaws.{DrawnSegment, MarksShowJunctions, PathsShowSegments, segments_through}
 use Rattle.drawing_picture.specs.TestedMarks.{tested_marks}
-use Rattle.line_graph.specs.declared.limits.TheConstants.{MAX_LINES}
+use Rattle.drawing_model.specs.declared.limits.TheConstants.{MAX_LINES}
 use Rattle.line_graph.specs.PieceGraphs.{PieceValue, degrees_from, given_end, given_start, is_odd_junction, one_if}
 use Rattle.line_graph.specs.ValidPieces.{IsValidPiece}
 use Rattle.line_graph.proofs.CallerLemmas.{degree_closed}

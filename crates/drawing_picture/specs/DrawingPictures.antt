@@ -13,7 +13,7 @@ use Rattle.drawing_picture.specs.DrawingCaptions.{drawing_title, end_text, junct
 use Rattle.drawing_picture.specs.JunctionMarks.{loose_points, marks_of_pieces, odd_marks}
 use Rattle.drawing_picture.specs.LinePaths.{line_paths, lines_extent}
 use Rattle.drawing_review.specs.Places.{places_of_lines}
-use Rattle.line_graph.specs.Drawings.{DrawingValue}
+use Rattle.drawing_model.specs.Drawings.{DrawingValue}
 use Rattle.line_graph.specs.PieceGraphs.{PieceValue, piece_graph}
 use Rattle.line_graph.specs.Pieces.{ArePieces}
 use Rattle.line_sections.specs.Lines.{LineValue}

@@ -5,7 +5,7 @@ ghost use Rattle.drawing_picture.specs.DrawingCaptions.{end_text, even_dot, junc
 use crate::junction_marks::JunctionMark;
 use design_model::Point;
 use design_picture::{put_end_mark, put_start_mark};
-use line_graph::Spot;
+use drawing_model::Spot;
 use lists_and_numbers::{Bytes, Memory};
 use odd_cuts::first_and_rest;
 use picture_parts::{Part, put};

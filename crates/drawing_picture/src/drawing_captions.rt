@@ -1,6 +1,6 @@
 ghost use Rattle.std.specs.Prelude.{◌≡◌, ◌++◌, ◌≤◌, OnOk, length};
 ghost use Rattle.drawing_picture.specs.DrawingCaptions.{dot_words, drawing_title, drawing_words, end_keys, mark_keys, odd_counts, piece_counts, thread_end, thread_legend, thread_line, thread_lines};
-ghost use Rattle.line_graph.specs.declared.limits.TheConstants.{MAX_BLOCKS};
+ghost use Rattle.drawing_model.specs.declared.limits.TheConstants.{MAX_BLOCKS};
 
 use crate::dots::{put_even_dot, put_loose_ring, put_odd_dot};
 use design_model::Point;

@@ -14,7 +14,8 @@ use design_picture::{
     Area, Hoop, area_of, left_below, put_below_start, put_group_end, put_label_line,
     put_opening_group, put_scale_bar, sheet_of,
 };
-use line_graph::{Drawing, pieces};
+use drawing_model::Drawing;
+use line_graph::pieces;
 use line_sections::Line;
 use lists_and_numbers::{Bytes, Memory};
 use picture_parts::{put_foot, put_head};

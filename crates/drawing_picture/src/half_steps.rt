@@ -1,9 +1,9 @@
 ghost use Rattle.std.specs.Prelude.{◌≡◌, ◌<◌, All, IfOk, length, reverse};
 ghost use Rattle.drawing_picture.specs.Bands.{half_steps as half_steps_along, half_steps_from, half_steps_of_line, middle_between};
-ghost use Rattle.line_graph.specs.Chains.{IsNeedlePoint};
+ghost use Rattle.drawing_model.specs.Chains.{IsNeedlePoint};
 
 use design_model::{Point, Points};
-use line_graph::{Drawing, needles};
+use drawing_model::{Drawing, needles};
 use lists_and_numbers::Memory;
 use odd_cuts::first_and_rest;
 use std::alloc::Global;

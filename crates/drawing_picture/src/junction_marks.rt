@@ -2,7 +2,7 @@ ghost use Rattle.std.specs.Prelude.{◌≡◌, ◌+◌, ◌++◌, ◌≤◌, IfO
 ghost use Rattle.std.specs.List.{flat_map};
 ghost use Rattle.drawing_picture.specs.JunctionMarks.{marks_of_piece, marks_of_pieces, odd_marks};
 ghost use Rattle.drawing_picture.specs.TestedMarks.{tested_marks};
-ghost use Rattle.line_graph.specs.declared.limits.TheConstants.{MAX_LINES};
+ghost use Rattle.drawing_model.specs.declared.limits.TheConstants.{MAX_LINES};
 ghost use Rattle.line_graph.specs.PiecesOfDrawings.{graph_of};
 
 use design_model::Point;

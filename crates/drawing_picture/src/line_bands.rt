@@ -4,7 +4,8 @@ ghost use Rattle.line_graph.specs.PiecesOfDrawings.{ArePiecesOf, graph_of};
 
 use crate::bands::{FreeWays, put_bands};
 use crate::half_steps::{half_steps_of, reversed};
-use line_graph::{Drawing, Edge, Piece};
+use drawing_model::Drawing;
+use line_graph::{Edge, Piece};
 use lists_and_numbers::{Bytes, Memory};
 use odd_cuts::{Cut, PieceCert, first_and_rest, first_lent};
 use std::alloc::Global;

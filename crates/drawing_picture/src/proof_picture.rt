@@ -14,7 +14,8 @@ use design_picture::{
     put_group_end, put_holes, put_last_mark, put_layer, put_legend, put_opening_group,
     put_shape_end, put_strokes, put_threads, put_title, sheet_of,
 };
-use line_graph::{Drawing, Piece};
+use drawing_model::Drawing;
+use line_graph::Piece;
 use lists_and_numbers::{Bytes, Memory};
 use odd_cuts::PieceCert;
 use picture_parts::{Part, put, put_foot, put_head};

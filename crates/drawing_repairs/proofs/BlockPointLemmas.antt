@@ -8,7 +8,7 @@ use Rattle.design_model.specs.Points.{is_same_point}
 use Rattle.line_sections.specs.Lines.{LineValue}
 use Rattle.line_sections.specs.Sections.{listed_in}
 use Rattle.step_splitter.specs.Chains.{last_point_or}
-use Rattle.line_graph.specs.Pieces.{endpoints}
+use Rattle.drawing_model.specs.Drawings.{endpoints}
 use Rattle.drawing_repairs.specs.Anchors.{anchored}
 use Rattle.drawing_repairs.specs.Listings.{block_ends, listed_line}
 use Rattle.drawing_repairs.specs.MovedLines.{block_anchors, moved_line, moved_points, unrepeated, unrepeated_after}

@@ -3,11 +3,11 @@ use Rattle.std.proofs.Common.{◌≡◌, Bool, true, false, not, nat_lt, List, [
 use Rattle.std.proofs.lemmas.List.Elements.{All-cons, All-nil}
 use Rattle.std.specs.List.{list_any}
 use Rattle.drawing_edits.specs.RedrawnDrawings.{with_starts_and_ends, with_walk_ends}
-use Rattle.line_graph.specs.declared.draw_kind.DrawKind.{DrawKind}
-use Rattle.line_graph.specs.Drawings.{DrawingValue}
-use Rattle.line_graph.specs.GrowingDrawings.{and_then, point_count}
-use Rattle.line_graph.specs.JoinedDrawings.{joined_drawing}
-use Rattle.line_graph.specs.WalkEnds.{HasNoEnds, are_connected_spots, is_junction}
+use Rattle.drawing_model.specs.declared.draw_kind.DrawKind.{DrawKind}
+use Rattle.drawing_model.specs.Drawings.{DrawingValue}
+use Rattle.drawing_model.specs.GrowingDrawings.{and_then, point_count}
+use Rattle.drawing_model.specs.JoinedDrawings.{joined_drawing}
+use Rattle.drawing_model.specs.WalkEnds.{HasNoEnds, are_connected_spots, is_junction}
 use Rattle.line_sections.specs.declared.spot.Spot.{Spot}
 use Rattle.line_sections.specs.Lines.{LineValue}
 use Rattle.line_sections.specs.Sections.{all_sections}

@@ -3,7 +3,7 @@ use Rattle.std.proofs.Common.{◌≡◌, ◌∙◌, ℕ, Bool, true, false, ◌&
 use Rattle.std.proofs.Math.Path.{ap₂}
 use Rattle.std.proofs.lemmas.List.Elements.{All-head, All-tail}
 use Rattle.design_model.specs.declared.point.Point.{Point}
-use Rattle.line_graph.specs.Pieces.{endpoints}
+use Rattle.drawing_model.specs.Drawings.{endpoints}
 use Rattle.line_sections.specs.Sections.{but_last, has_points, inner_points, sections_from, sections_of, sections_with_first}
 use Rattle.drawing_repairs.specs.SpacedLines.{kept_after, may_leave_out, spaced_points}
 use Rattle.drawing_repairs.proofs.SpacingLemmas.{untested}

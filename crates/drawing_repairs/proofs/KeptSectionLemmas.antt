@@ -5,8 +5,8 @@ use Rattle.std.proofs.lemmas.List.{map-append}
 use Rattle.std.proofs.lemmas.List.Elements.{All-head, All-tail}
 use Rattle.std.specs.List.{flat_map}
 use Rattle.design_model.specs.declared.point.Point.{Point}
-use Rattle.line_graph.specs.Pieces.{endpoints}
-use Rattle.line_graph.specs.WalkEnds.{end_spots, is_junction}
+use Rattle.drawing_model.specs.Drawings.{endpoints}
+use Rattle.drawing_model.specs.WalkEnds.{end_spots, is_junction}
 use Rattle.line_sections.specs.declared.spot.Spot.{Spot}
 use Rattle.line_sections.specs.Lines.{LineValue}
 use Rattle.line_sections.specs.Sections.{all_sections, inner_points, is_shared_point, line_sections, lines_through, sections_of}

@@ -3,7 +3,7 @@ use Rattle.std.proofs.Common.{◌≡◌, ℕ, zero, suc, ◌==◌, Bool, true, f
 use Rattle.std.specs.List.{flat_map}
 use Rattle.design_model.specs.declared.point.Point.{Point}
 use Rattle.line_sections.specs.Lines.{LineValue}
-use Rattle.line_graph.specs.Pieces.{endpoints}
+use Rattle.drawing_model.specs.Drawings.{endpoints}
 use Rattle.step_splitter.specs.Chains.{last_point_or}
 use Rattle.drawing_repairs.specs.Listings.{FollowedLine, block_ends, due_end, followed_by, followed_for, followed_on, followed_points, listed_line, listed_lines, segment_between, steps_to_follow, unfollowed_line, with_due_ends}
 use Rattle.drawing_repairs.proofs.ListedOnceLemmas.{joined_again, listed_once}

@@ -7,9 +7,9 @@ use Rattle.std.proofs.lemmas.Option.{slice_get-map}
 use Rattle.std.specs.List.{concat}
 use Rattle.std.specs.Prelude.{option_map}
 use Rattle.design_model.specs.declared.point.Point.{Point}
-use Rattle.line_graph.specs.Drawings.{DrawingValue}
+use Rattle.drawing_model.specs.Drawings.{DrawingValue}
 use Rattle.line_graph.specs.Pieces.{AreConnected, ArePieces, IsPathOfLines, LinesTouch, first_line, shares_point, touches}
-use Rattle.line_graph.specs.WalkEnds.{end_spots}
+use Rattle.drawing_model.specs.WalkEnds.{end_spots}
 use Rattle.line_sections.specs.declared.spot.Spot.{Spot}
 use Rattle.line_sections.specs.Lines.{LineValue}
 use Rattle.line_sections.specs.Sections.{all_sections}

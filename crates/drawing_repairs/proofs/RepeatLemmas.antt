@@ -6,7 +6,7 @@ use Rattle.std.specs.List.{list_any}
 use Rattle.std.specs.Ordering.{int_eq}
 use Rattle.design_model.specs.declared.point.Point.{Point}
 use Rattle.design_model.specs.Points.{is_same_point}
-use Rattle.line_graph.specs.GrowingDrawings.{has_repeated_point, repeats_after}
+use Rattle.drawing_model.specs.GrowingDrawings.{has_repeated_point, repeats_after}
 use Rattle.drawing_repairs.specs.Anchors.{anchored}
 use Rattle.drawing_repairs.specs.Listings.{FollowedLine, due_end, followed_by, followed_for, followed_on, followed_points, segment_between, steps_to_follow, unfollowed_line, with_due_ends}
 use Rattle.drawing_repairs.specs.MovedLines.{moved_points, unrepeated, unrepeated_after}

@@ -6,7 +6,7 @@ use Rattle.std.proofs.lemmas.List.Elements.{All-cons, All-head, All-nil, All-tai
 use Rattle.std.specs.Int.{div_ceil}
 use Rattle.design_model.specs.declared.point.Point.{Point}
 use Rattle.design_model.specs.Points.{is_same_point}
-use Rattle.line_graph.specs.Needles.{segment_steps}
+use Rattle.drawing_model.specs.Needles.{segment_steps}
 use Rattle.step_splitter.specs.Chains.{HasNoRepeatAfter, IsNeedlePoint, SplitPointsLead}
 use Rattle.step_splitter.specs.Steps.{steps_of}
 use Rattle.drawing_repairs.specs.Anchors.{distance_between}

@@ -11,12 +11,11 @@ use Rattle.std.specs.List.Sorted.{IsNonDecreasing}
 use Rattle.design_model.specs.declared.point.Point.{Point}
 use Rattle.design_model.specs.Points.{is_same_point}
 use Rattle.drawing_edits.specs.RedrawnDrawings.{drawn_lines, with_starts_and_ends}
-use Rattle.line_graph.specs.declared.draw_kind.DrawKind.{DrawKind}
-use Rattle.line_graph.specs.Drawings.{DrawingValue, KeepsDrawingLimits}
-use Rattle.line_graph.specs.GrowingDrawings.{and_then}
-use Rattle.line_graph.specs.JoinedDrawings.{joined_drawing}
-use Rattle.line_graph.specs.Pieces.{endpoints}
-use Rattle.line_graph.specs.WalkEnds.{HasNoEnds, has_end_at_spot, is_junction}
+use Rattle.drawing_model.specs.declared.draw_kind.DrawKind.{DrawKind}
+use Rattle.drawing_model.specs.Drawings.{DrawingValue, KeepsDrawingLimits, endpoints}
+use Rattle.drawing_model.specs.GrowingDrawings.{and_then}
+use Rattle.drawing_model.specs.JoinedDrawings.{joined_drawing}
+use Rattle.drawing_model.specs.WalkEnds.{HasNoEnds, has_end_at_spot, is_junction}
 use Rattle.line_sections.specs.declared.spot.Spot.{Spot}
 use Rattle.line_sections.specs.Lines.{LineValue}
 use Rattle.line_sections.specs.Sections.{all_sections, has_points, is_shared_point, line_sections, listed_in, sections_from, sections_of, sections_with_first}

@@ -6,7 +6,7 @@ use Rattle.std.proofs.lemmas.List.Folds.{list_any-append}
 use Rattle.std.specs.List.{flat_map, list_any}
 use Rattle.design_model.specs.declared.point.Point.{Point}
 use Rattle.design_model.specs.Points.{is_same_point}
-use Rattle.line_graph.specs.WalkEnds.{has_end_at_spot}
+use Rattle.drawing_model.specs.WalkEnds.{has_end_at_spot}
 use Rattle.line_sections.specs.Lines.{LineValue}
 use Rattle.line_sections.specs.Sections.{but_last, inner_points, is_shared_point, line_sections, lines_through, sections_from, sections_of, sections_with_first}
 use Rattle.step_splitter.specs.Chains.{last_point_or}

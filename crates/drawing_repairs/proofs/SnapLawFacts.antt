@@ -4,7 +4,7 @@ use Rattle.design_model.specs.declared.point.Point.{Point}
 use Rattle.line_sections.specs.declared.spot.Spot.{Spot}
 use Rattle.line_sections.specs.Lines.{LineValue}
 use Rattle.line_sections.specs.Sections.{lines_through}
-use Rattle.line_graph.specs.Drawings.{DrawingValue}
+use Rattle.drawing_model.specs.Drawings.{DrawingValue}
 use Rattle.drawing_repairs.specs.AnchoredSpots.{anchored_spots}
 use Rattle.drawing_repairs.specs.Listings.{added_ends, due_end, segment_between}
 use Rattle.drawing_repairs.specs.MovedLines.{changed_in, moved_lines, moved_points}

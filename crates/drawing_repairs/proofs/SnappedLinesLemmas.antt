@@ -8,8 +8,8 @@ use Rattle.design_model.specs.declared.point.Point.{Point}
 use Rattle.design_model.specs.Points.{is_same_point}
 use Rattle.line_sections.specs.Lines.{LineValue}
 use Rattle.line_sections.specs.Sections.{listed_in}
-use Rattle.line_graph.specs.Drawings.{HasNoRepeat}
-use Rattle.line_graph.specs.GrowingDrawings.{and_then, has_repeated_point}
+use Rattle.drawing_model.specs.Drawings.{HasNoRepeat}
+use Rattle.drawing_model.specs.GrowingDrawings.{and_then, has_repeated_point}
 use Rattle.drawing_repairs.specs.declared.snap_fault.SnapFault.{SnapFault}
 use Rattle.drawing_repairs.specs.declared.snap_fault.SnapFault.TheVariants as fault
 use Rattle.drawing_repairs.specs.declared.vanished.VanishedLine.{VanishedLine}
@@ -25,7 +25,7 @@ use Rattle.drawing_repairs.proofs.MoveLemmas.{stays}
 use Rattle.drawing_repairs.proofs.RepeatLemmas.{none_listed, none_moved, unmoved_points}
 use Rattle.drawing_repairs.proofs.SpreadLemmas.{only_stays}
 use Rattle.design_model.proofs.CallerLemmas.{point_itself, same_is}
-use Rattle.line_graph.proofs.CallerLemmas.{none_repeats}
+use Rattle.drawing_model.proofs.CallerLemmas.{none_repeats}
 use Rattle.lists_and_numbers.proofs.CallerLemmas.{first_true, second_true}
 
 -- the test whether a point is one of some

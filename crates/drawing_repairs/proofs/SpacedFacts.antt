@@ -3,8 +3,8 @@ use Rattle.std.proofs.Common.{◌≡◌, ℕ, ℤ, ◌+◌, inr, true, false, po
 use Rattle.design_model.specs.declared.point.Point.{Point}
 use Rattle.design_model.specs.Points.{is_same_point}
 use Rattle.line_sections.specs.Lines.{LineValue}
-use Rattle.line_graph.specs.Needles.{steps_of_line}
-use Rattle.line_graph.specs.WalkEnds.{end_spots}
+use Rattle.drawing_model.specs.Needles.{steps_of_line}
+use Rattle.drawing_model.specs.WalkEnds.{end_spots}
 use Rattle.line_sections.specs.Sections.{all_sections, lines_through}
 use Rattle.drawing_repairs.specs.SpacedLines.{is_stitch_for, leeway_of, spaced_lines, spaced_points}
 use Rattle.drawing_repairs.specs.SpacingLaws.{StandFor}

@@ -6,10 +6,10 @@ use Rattle.std.proofs.lemmas.List.Sums.{sum_by-cons}
 use Rattle.std.specs.List.{sum_by}
 use Rattle.std.specs.List.Sorted.{IsNonDecreasing}
 use Rattle.design_model.specs.declared.point.Point.{Point}
-use Rattle.line_graph.specs.Drawings.{IsLine}
-use Rattle.line_graph.specs.GrowingDrawings.{point_count}
-use Rattle.line_graph.specs.Needles.{steps_of_line}
-use Rattle.line_graph.specs.WalkEnds.{is_junction}
+use Rattle.drawing_model.specs.Drawings.{IsLine}
+use Rattle.drawing_model.specs.GrowingDrawings.{point_count}
+use Rattle.drawing_model.specs.Needles.{steps_of_line}
+use Rattle.drawing_model.specs.WalkEnds.{is_junction}
 use Rattle.line_sections.specs.Lines.{LineValue}
 use Rattle.line_sections.specs.Sections.{all_sections}
 use Rattle.drawing_repairs.specs.SpacedAnswers.{SpacedLinesKeepLimits}

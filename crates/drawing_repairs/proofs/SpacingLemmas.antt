@@ -6,7 +6,7 @@ use Rattle.design_model.specs.declared.point.Point.{Point}
 use Rattle.design_model.specs.Points.{is_same_point}
 use Rattle.drawing_review.specs.Frames.{grid_point}
 use Rattle.drawing_review.specs.Meetings.{is_near}
-use Rattle.line_graph.specs.Pieces.{endpoints}
+use Rattle.drawing_model.specs.Drawings.{endpoints}
 use Rattle.step_splitter.specs.Chains.{last_point_or}
 use Rattle.drawing_repairs.specs.Anchors.{distance_between}
 use Rattle.drawing_repairs.specs.Listings.{segment_between}

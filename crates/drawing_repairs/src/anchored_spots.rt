@@ -4,7 +4,7 @@ ghost use Rattle.drawing_repairs.specs.MovedLines.{block_anchors};
 
 use crate::anchors::Anchors;
 use crate::moving::{anchors_for, anchors_in};
-use line_graph::{Line, Spot};
+use drawing_model::{Line, Spot};
 use lists_and_numbers::Memory;
 use std::alloc::Global;
 

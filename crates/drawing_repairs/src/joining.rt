@@ -1,12 +1,12 @@
 ghost use Rattle.std.specs.Prelude.{◌≡◌, IfOk, Ok};
 ghost use Rattle.lists_and_numbers.specs.OutOfMemory.{IsSpecified};
 ghost use Rattle.drawing_edits.specs.RedrawnDrawings.{with_starts_and_ends};
-ghost use Rattle.line_graph.specs.GrowingDrawings.{and_then, draw_is_out_of_memory};
-ghost use Rattle.line_graph.specs.JoinedDrawings.{joined_drawing};
-ghost use Rattle.line_graph.specs.WalkEnds.{HasNoEnds};
+ghost use Rattle.drawing_model.specs.GrowingDrawings.{and_then, draw_is_out_of_memory};
+ghost use Rattle.drawing_model.specs.JoinedDrawings.{joined_drawing};
+ghost use Rattle.drawing_model.specs.WalkEnds.{HasNoEnds};
 
 use drawing_edits::joined_with_ends;
-use line_graph::{DrawKind, Drawing, Spot};
+use drawing_model::{DrawKind, Drawing, Spot};
 use std::alloc::Global;
 
 /// Returns drawn lines joined, with the given starts and ends; or the first fault; or `Memory`.

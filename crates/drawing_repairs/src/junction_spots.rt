@@ -1,6 +1,6 @@
 ghost use Rattle.std.specs.Prelude.{◌≡◌, ◌||◌, IfOk, OnOk};
 ghost use Rattle.std.specs.HashSet.{contains};
-ghost use Rattle.line_graph.specs.WalkEnds.{has_end_at_spot, is_junction};
+ghost use Rattle.drawing_model.specs.WalkEnds.{has_end_at_spot, is_junction};
 ghost use Rattle.line_sections.specs.declared.spot.Spot.{Spot as SpotValue};
 ghost use Rattle.line_sections.specs.Spots.{is_same_spot};
 

@@ -1,7 +1,7 @@
 ghost use Rattle.std.specs.Prelude.{◌≡◌};
 
 use crate::vanished::VanishedLine;
-use line_graph::DrawKind;
+use drawing_model::DrawKind;
 use lists_and_numbers::Memory;
 
 /// The reason why a drawing can't be snapped.
@@ -14,7 +14,7 @@ pub enum SnapFault {
 }
 
 impl From<Memory> for SnapFault {
-    ghost use Rattle.line_graph.specs.declared.draw_kind.DrawKind.TheVariants as kind;
+    ghost use Rattle.drawing_model.specs.declared.draw_kind.DrawKind.TheVariants as kind;
     ghost use Rattle.drawing_repairs.specs.declared.snap_fault.SnapFault.TheVariants as fault;
 
     ghost from_gives = { λ _ e. e ≡ fault.Limit kind.Memory };

@@ -1,7 +1,7 @@
 ghost use Rattle.std.specs.Prelude.{◌≡◌, ◌++◌, IfOk, OnOk, Ok, map};
 ghost use Rattle.lists_and_numbers.specs.OutOfMemory.{IsSpecified};
-ghost use Rattle.line_graph.specs.JoinedDrawings.{joined_drawing};
-ghost use Rattle.line_graph.specs.WalkEnds.{HasNoEnds};
+ghost use Rattle.drawing_model.specs.JoinedDrawings.{joined_drawing};
+ghost use Rattle.drawing_model.specs.WalkEnds.{HasNoEnds};
 ghost use Rattle.drawing_repairs.specs.AnchoredSpots.{anchored_spots};
 ghost use Rattle.drawing_repairs.specs.MovedLines.{changed_in};
 ghost use Rattle.drawing_repairs.specs.SecondSnaps.{StaysSnapped};
@@ -15,7 +15,7 @@ use crate::second_snaps::snapped_drawings_stay;
 use crate::snap_fault::SnapFault;
 use design_model::Points;
 use drawing_edits::draw_lines;
-use line_graph::{Drawing, Line, Spot};
+use drawing_model::{Drawing, Line, Spot};
 use lists_and_numbers::Items;
 use std::alloc::Global;
 

@@ -2,7 +2,7 @@ use crate::drawings::DrawingPart::{Block, Line};
 use crate::drawings::grown;
 use crate::points_of;
 use design_model::{Point, Points};
-use line_graph::{DrawKind, Drawing, DrawingMaker, join, joined};
+use drawing_model::{DrawKind, Drawing, DrawingMaker, join, joined};
 use std::alloc::Global;
 use std::test::Fail;
 

@@ -1,8 +1,8 @@
 use design_model::Point;
+use drawing_model::{DrawKind, Drawing};
 use drawing_text::{
     DrawFault, MAX_TEXT, print_drawing, print_drawing2, read_as2, read_drawing, read_lines,
 };
-use line_graph::{DrawKind, Drawing};
 use lists_and_numbers::Bytes;
 use std::alloc::Global;
 use std::test::Fail;

@@ -10,7 +10,7 @@ use Rattle.std.specs.Str.Parse.{digits_value}
 use Rattle.design_model.specs.declared.point.TheConstants.{NEEDLE_LIMIT}
 use Rattle.lists_and_numbers.specs.declared.whole_number.TheConstants.{MAX_WHOLE}
 use Rattle.lists_and_numbers.specs.WholeNumbers.{is_digit_string, parsed_digits, signed_number}
-use Rattle.line_graph.specs.declared.draw_kind.DrawKind.{DrawKind}
+use Rattle.drawing_model.specs.declared.draw_kind.DrawKind.{DrawKind}
 use Rattle.drawing_text.specs.CoordinateWords.{BeginsWithCoordinate, BeginsWithDigits, ends_word}
 use Rattle.drawing_text.specs.TextLines.{parsed_coordinate}
 use Rattle.drawing_text.specs.Words.{is_blank_byte, words_of_line}

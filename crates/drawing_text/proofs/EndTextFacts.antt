@@ -4,14 +4,14 @@ use Rattle.std.specs.Fmt.{digits}
 use Rattle.std.specs.List.{flat_map}
 use Rattle.line_sections.specs.declared.spot.Spot.{Spot}
 use Rattle.line_sections.specs.Sections.{lines_through}
-use Rattle.line_graph.specs.declared.draw_kind.DrawKind.{DrawKind}
-use Rattle.line_graph.specs.declared.draw_kind.DrawKind.TheVariants as kind
-use Rattle.line_graph.specs.Drawings.{DrawingValue}
+use Rattle.drawing_model.specs.declared.draw_kind.DrawKind.{DrawKind}
+use Rattle.drawing_model.specs.declared.draw_kind.DrawKind.TheVariants as kind
+use Rattle.drawing_model.specs.Drawings.{DrawingValue}
 use Rattle.drawing_text.specs.DrawingText.{drawing_as2, drawing_of}
 use Rattle.drawing_text.specs.CanonicalTexts.{canonical_text2}
 use Rattle.drawing_text.specs.DrawnTexts.{drawing_as_drawn}
 use Rattle.drawing_text.specs.EndTexts.{canonical_text3, drawn_text, end_lines_text, with_ends_of}
-use Rattle.line_graph.specs.EndOrders.{AreInBlockOrder}
+use Rattle.drawing_model.specs.EndOrders.{AreInBlockOrder}
 use Rattle.drawing_text.specs.TextLaws.{IsJoinedFrom}
 use Rattle.drawing_text.proofs.CanonicalTextFacts.{place}
 

@@ -10,11 +10,10 @@ use Rattle.design_model.specs.declared.point.Point.{Point}
 use Rattle.design_model.specs.Points.{is_same_point}
 use Rattle.line_sections.specs.declared.spot.Spot.{Spot}
 use Rattle.line_sections.specs.Lines.{LineValue}
-use Rattle.line_graph.specs.declared.draw_kind.DrawKind.{DrawKind}
-use Rattle.line_graph.specs.Drawings.{DrawingValue, IsLine}
-use Rattle.line_graph.specs.GrowingDrawings.{and_then}
-use Rattle.line_graph.specs.Pieces.{endpoints}
-use Rattle.line_graph.specs.WalkEnds.{AreInDifferentPieces, has_end_at_spot, is_junction, walk_end_added}
+use Rattle.drawing_model.specs.declared.draw_kind.DrawKind.{DrawKind}
+use Rattle.drawing_model.specs.Drawings.{DrawingValue, IsLine, endpoints}
+use Rattle.drawing_model.specs.GrowingDrawings.{and_then}
+use Rattle.drawing_model.specs.WalkEnds.{AreInDifferentPieces, has_end_at_spot, is_junction, walk_end_added}
 use Rattle.step_splitter.specs.Chains.{IsNeedlePoint, last_point_or}
 use Rattle.drawing_text.proofs.PrintedBlocks.{Rises, all_below, items_below, items_in, more_below, none_first, rises_of}
 use Rattle.drawing_text.proofs.PrintedDrawings.{all_middle, ended, found_from, found_in}
@@ -22,9 +21,9 @@ use Rattle.drawing_text.proofs.PrintedEnds.{end_at, unnumbered}
 use Rattle.drawing_text.specs.declared.draw_fault.DrawFault.{DrawFault}
 use Rattle.drawing_text.specs.declared.walk_end.WalkEnd.{WalkEnd}
 use Rattle.drawing_text.specs.DrawingText.{at_line, drawing_with_ends}
-use Rattle.line_graph.specs.EndOrders.{AreInBlockOrder}
+use Rattle.drawing_model.specs.EndOrders.{AreInBlockOrder}
 use Rattle.design_model.proofs.CallerLemmas.{same_is}
-use Rattle.line_graph.proofs.CallerLemmas.{spot_comes}
+use Rattle.drawing_model.proofs.CallerLemmas.{spot_comes}
 use Rattle.lists_and_numbers.proofs.CallerLemmas.{pairs_tail}
 use Rattle.step_splitter.proofs.CallerLemmas.{last_in_range}
 

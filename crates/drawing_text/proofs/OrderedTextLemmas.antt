@@ -9,11 +9,11 @@ use Rattle.lists_and_numbers.specs.WholeNumbers.{parsed_whole}
 use Rattle.line_sections.specs.declared.spot.Spot.{Spot}
 use Rattle.line_sections.specs.Sections.{all_sections}
 use Rattle.line_sections.specs.Lines.{LineValue}
-use Rattle.line_graph.specs.declared.draw_kind.DrawKind.TheVariants as kind
-use Rattle.line_graph.specs.Drawings.{DrawingValue}
-use Rattle.line_graph.specs.GrowingDrawings.{all_in_needle_range, and_then, block_added, finished_drawing, is_drawing_label, is_last_empty, line_added, point_count, steps_with_line, with_new_line}
-use Rattle.line_graph.specs.JoinedDrawings.{joined_drawing}
-use Rattle.line_graph.specs.WalkEnds.{HasNoEnds, are_connected_spots, is_junction, spot_added, walk_end_added}
+use Rattle.drawing_model.specs.declared.draw_kind.DrawKind.TheVariants as kind
+use Rattle.drawing_model.specs.Drawings.{DrawingValue}
+use Rattle.drawing_model.specs.GrowingDrawings.{all_in_needle_range, and_then, block_added, finished_drawing, is_drawing_label, is_last_empty, line_added, point_count, steps_with_line, with_new_line}
+use Rattle.drawing_model.specs.JoinedDrawings.{joined_drawing}
+use Rattle.drawing_model.specs.WalkEnds.{HasNoEnds, are_connected_spots, is_junction, spot_added, walk_end_added}
 use Rattle.drawing_text.proofs.PrintedBlocks.{Rises, rises_of}
 use Rattle.drawing_text.proofs.ValidTextLemmas.{after_both, any_ok, either, located, unless, value_of, weaker, where_true}
 use Rattle.drawing_text.specs.declared.draft.DrawingDraft.{DrawingDraft}
@@ -21,7 +21,7 @@ use Rattle.drawing_text.specs.declared.version.Version.{Version}
 use Rattle.drawing_text.specs.declared.version.Version.TheVariants as version
 use Rattle.drawing_text.specs.declared.walk_end.WalkEnd.{WalkEnd}
 use Rattle.drawing_text.specs.DrawingText.{at_line, body_of_text, drawing_after_lines, drawing_in_version, drawing_of, drawing_of_draft, drawing_with_ends, joined_at}
-use Rattle.line_graph.specs.EndOrders.{AreInBlockOrder, HasOrderedEnds}
+use Rattle.drawing_model.specs.EndOrders.{AreInBlockOrder, HasOrderedEnds}
 use Rattle.drawing_text.specs.TextLaws.{TextsOrderEnds}
 use Rattle.drawing_text.specs.TextLines.{allows_ends, draft_after_words, empty_draft, is_before_blocks, parsed_count, parsed_point, parsed_points, with_color_line, with_name_line, with_points_line, with_step_line, with_walk_end_line}
 use Rattle.drawing_text.specs.Words.{begins_comment, single_word}

@@ -5,8 +5,8 @@ use Rattle.std.proofs.lemmas.Bool.Decides.{nat_tests}
 use Rattle.std.proofs.lemmas.List.Elements.{All-push}
 use Rattle.design_model.specs.declared.point.TheConstants.{NEEDLE_LIMIT}
 use Rattle.step_splitter.specs.Chains.{IsNeedlePoint}
-use Rattle.line_graph.specs.declared.draw_kind.DrawKind.{DrawKind}
-use Rattle.line_graph.specs.GrowingDrawings.{and_then}
+use Rattle.drawing_model.specs.declared.draw_kind.DrawKind.{DrawKind}
+use Rattle.drawing_model.specs.GrowingDrawings.{and_then}
 use Rattle.drawing_text.specs.CoordinateWords.{BeginsWithCoordinate}
 use Rattle.drawing_text.specs.TextLines.{parsed_points}
 use Rattle.drawing_text.specs.Words.{words_of_line}

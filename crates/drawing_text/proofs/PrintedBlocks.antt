@@ -9,7 +9,7 @@ use Rattle.std.proofs.lemmas.Map.Views.{any-filter_same}
 use Rattle.std.specs.List.{list_any}
 use Rattle.std.specs.List.Sorted.{IsNonDecreasing}
 use Rattle.line_sections.specs.Lines.{LineValue}
-use Rattle.line_graph.specs.Drawings.{DrawingValue, KeepsDrawingLimits}
+use Rattle.drawing_model.specs.Drawings.{DrawingValue, KeepsDrawingLimits}
 use Rattle.drawing_text.specs.CanonicalTexts.{lines_of_block}
 
 -- the items of the blocks before that one

@@ -10,9 +10,9 @@ use Rattle.std.specs.List.{flat_map, list_any}
 use Rattle.design_model.specs.Labels.{IsLabel}
 use Rattle.line_sections.specs.declared.spot.Spot.{Spot}
 use Rattle.line_sections.specs.Lines.{LineValue}
-use Rattle.line_graph.specs.Drawings.{DrawingValue, IsLine, KeepsDrawingLimits}
-use Rattle.line_graph.specs.GrowingDrawings.{finished_drawing, is_last_empty, point_count, step_count, with_new_block, with_new_line}
-use Rattle.line_graph.specs.Needles.{steps_of_line}
+use Rattle.drawing_model.specs.Drawings.{DrawingValue, IsLine, KeepsDrawingLimits}
+use Rattle.drawing_model.specs.GrowingDrawings.{finished_drawing, is_last_empty, point_count, step_count, with_new_block, with_new_line}
+use Rattle.drawing_model.specs.Needles.{steps_of_line}
 use Rattle.drawing_text.proofs.PrintedBlocks.{all_below, found_used, items_in, last_found, lines_below, next_lines, none_first}
 use Rattle.drawing_text.proofs.PrintedEnds.{IsNamable, ReadsOn, end_at, ends_read, unnumbered}
 use Rattle.drawing_text.proofs.PrintedLines.{HasRoom, after_text, color_says, coordinates, coordinates_are, draft_of, is_color, is_line, is_name, is_step, label_word, line_judged, line_says, name_says, points_spelled, step_says}
@@ -26,7 +26,7 @@ use Rattle.drawing_text.specs.CanonicalTexts.{label_text, line_text, lines_of_bl
 use Rattle.drawing_text.specs.EndTexts.{block_text3, blocks_text3, end_lines_text}
 use Rattle.drawing_text.specs.TextLines.{default_drawing, empty_draft}
 use Rattle.drawing_text.specs.Words.{words_by_line}
-use Rattle.line_graph.proofs.CallerLemmas.{last_by}
+use Rattle.drawing_model.proofs.CallerLemmas.{last_by}
 
 -- the drawing has room for n more lines in the last block
 record MayFollow (d : DrawingValue) (lines : List LineValue) : Type 0 where

@@ -6,7 +6,7 @@ use Rattle.std.proofs.lemmas.List.Concat.{flat_map-cons}
 use Rattle.std.proofs.lemmas.List.Elements.{All-cons, All-head, All-nil, All-tail}
 use Rattle.std.specs.List.{flat_map}
 use Rattle.line_sections.specs.declared.spot.Spot.{Spot}
-use Rattle.line_graph.specs.Drawings.{DrawingValue}
+use Rattle.drawing_model.specs.Drawings.{DrawingValue}
 use Rattle.step_splitter.specs.Chains.{IsNeedlePoint}
 use Rattle.drawing_text.proofs.PrintedLines.{after_text, coordinates, coordinates_are, draft_of, line_judged, points_spelled}
 use Rattle.drawing_text.proofs.PrintedWords.{IsWord, tail_of}

@@ -11,10 +11,10 @@ use Rattle.design_model.specs.declared.point.Point.{Point}
 use Rattle.design_model.specs.Labels.{IsLabel, IsPrintable}
 use Rattle.design_model.specs.Points.{is_point_within}
 use Rattle.step_splitter.specs.Chains.{IsNeedlePoint}
-use Rattle.line_graph.specs.declared.draw_kind.DrawKind.{DrawKind}
-use Rattle.line_graph.specs.Drawings.{DrawingValue, IsLine}
-use Rattle.line_graph.specs.GrowingDrawings.{and_then, all_in_needle_range, is_last_empty, point_count, step_count, with_new_block, with_new_line}
-use Rattle.line_graph.specs.Needles.{steps_of_line}
+use Rattle.drawing_model.specs.declared.draw_kind.DrawKind.{DrawKind}
+use Rattle.drawing_model.specs.Drawings.{DrawingValue, IsLine}
+use Rattle.drawing_model.specs.GrowingDrawings.{and_then, all_in_needle_range, is_last_empty, point_count, step_count, with_new_block, with_new_line}
+use Rattle.drawing_model.specs.Needles.{steps_of_line}
 use Rattle.drawing_text.proofs.PrintedNumbers.{signed_word}
 use Rattle.drawing_text.proofs.PrintedWords.{AreWords, IsWord, is_inner, line_read, tail_of}
 use Rattle.drawing_text.specs.declared.draft.DrawingDraft.{DrawingDraft}
@@ -26,7 +26,7 @@ use Rattle.drawing_text.specs.CanonicalTexts.{points_text}
 use Rattle.drawing_text.specs.TextLines.{default_drawing, empty_draft, draft_after_words, parsed_points}
 use Rattle.drawing_text.specs.Words.{words_by_line}
 use Rattle.design_model.proofs.CallerLemmas.{within_parts}
-use Rattle.line_graph.proofs.CallerLemmas.{none_repeats}
+use Rattle.drawing_model.proofs.CallerLemmas.{none_repeats}
 use Rattle.lists_and_numbers.proofs.CallerLemmas.{decimal_read, signed_read}
 
 -- The result for a draft and the text lines after it, from line `number` on: what `close` makes of the draft at the end.

@@ -6,11 +6,11 @@ use Rattle.std.proofs.lemmas.Bool.Decides.{nat_tests}
 use Rattle.std.proofs.lemmas.List.Elements.{All-nil, All-weaker}
 use Rattle.line_sections.specs.declared.spot.Spot.{Spot}
 use Rattle.line_sections.specs.Sections.{all_sections}
-use Rattle.line_graph.specs.declared.draw_kind.DrawKind.{DrawKind}
-use Rattle.line_graph.specs.Drawings.{DrawingValue, KeepsDrawingLimits}
-use Rattle.line_graph.specs.GrowingDrawings.{and_then, finished_drawing, point_count}
-use Rattle.line_graph.specs.JoinedDrawings.{joined_drawing}
-use Rattle.line_graph.specs.WalkEnds.{AreInDifferentPieces, HasNoEnds, is_junction}
+use Rattle.drawing_model.specs.declared.draw_kind.DrawKind.{DrawKind}
+use Rattle.drawing_model.specs.Drawings.{DrawingValue, KeepsDrawingLimits}
+use Rattle.drawing_model.specs.GrowingDrawings.{and_then, finished_drawing, point_count}
+use Rattle.drawing_model.specs.JoinedDrawings.{joined_drawing}
+use Rattle.drawing_model.specs.WalkEnds.{AreInDifferentPieces, HasNoEnds, is_junction}
 use Rattle.drawing_text.proofs.NamedEndLemmas.{IsSpotBelow, all_named, junction_below, named_added, named_in, named_numbers}
 use Rattle.drawing_text.proofs.PrintedDrawings.{Means, body_read, ended, finished_whole, found_from}
 use Rattle.drawing_text.proofs.PrintedEnds.{IsNamable, unnumbered}

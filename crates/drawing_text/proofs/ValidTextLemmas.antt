@@ -6,13 +6,13 @@ use Rattle.std.proofs.lemmas.List.Elements.{All-nil}
 use Rattle.lists_and_numbers.specs.declared.whole_number.Whole.{Whole}
 use Rattle.lists_and_numbers.specs.declared.whole_number.Whole.TheVariants as whole
 use Rattle.lists_and_numbers.specs.WholeNumbers.{parsed_whole}
-use Rattle.line_graph.specs.declared.draw_kind.DrawKind.{DrawKind}
-use Rattle.line_graph.specs.declared.draw_kind.DrawKind.TheVariants as kind
-use Rattle.line_graph.specs.Drawings.{DrawingValue}
-use Rattle.line_graph.specs.GrowingDrawings.{and_then, block_added, finished_drawing, is_drawing_label, line_added}
-use Rattle.line_graph.specs.GrowingLimits.{BlocksKeepGrowing, EmptyDrawingsGrow, FinishedDrawingsAreValid, IsGrowingDrawing, IsValidJoinedDrawing, JoinedDrawingsAreValid, LabelsKeepGrowing, LinesKeepGrowing, StepsKeepGrowing, WalkEndsKeepValid}
-use Rattle.line_graph.specs.JoinedDrawings.{joined_drawing}
-use Rattle.line_graph.specs.WalkEnds.{IsValidDrawing, walk_end_added}
+use Rattle.drawing_model.specs.declared.draw_kind.DrawKind.{DrawKind}
+use Rattle.drawing_model.specs.declared.draw_kind.DrawKind.TheVariants as kind
+use Rattle.drawing_model.specs.Drawings.{DrawingValue}
+use Rattle.drawing_model.specs.GrowingDrawings.{and_then, block_added, finished_drawing, is_drawing_label, line_added}
+use Rattle.drawing_model.specs.GrowingLimits.{BlocksKeepGrowing, EmptyDrawingsGrow, FinishedDrawingsAreValid, IsGrowingDrawing, IsValidJoinedDrawing, JoinedDrawingsAreValid, LabelsKeepGrowing, LinesKeepGrowing, StepsKeepGrowing, WalkEndsKeepValid}
+use Rattle.drawing_model.specs.JoinedDrawings.{joined_drawing}
+use Rattle.drawing_model.specs.WalkEnds.{IsValidDrawing, walk_end_added}
 use Rattle.drawing_text.specs.declared.draft.DrawingDraft.{DrawingDraft}
 use Rattle.drawing_text.specs.declared.version.Version.{Version}
 use Rattle.drawing_text.specs.declared.version.Version.TheVariants as version

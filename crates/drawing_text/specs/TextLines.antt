@@ -7,10 +7,10 @@ use Rattle.lists_and_numbers.specs.declared.whole_number.Whole.{Whole}
 use Rattle.lists_and_numbers.specs.declared.whole_number.Whole.TheVariants as whole
 use Rattle.lists_and_numbers.specs.WholeNumbers.{parsed_whole}
 use Rattle.step_splitter.specs.declared.segment.TheConstants.{MAX_STEP}
-use Rattle.line_graph.specs.declared.draw_kind.DrawKind.{DrawKind}
-use Rattle.line_graph.specs.declared.draw_kind.DrawKind.TheVariants as kind
-use Rattle.line_graph.specs.Drawings.{DrawingValue}
-use Rattle.line_graph.specs.GrowingDrawings.{and_then, block_added, empty_drawing, is_drawing_label, line_added}
+use Rattle.drawing_model.specs.declared.draw_kind.DrawKind.{DrawKind}
+use Rattle.drawing_model.specs.declared.draw_kind.DrawKind.TheVariants as kind
+use Rattle.drawing_model.specs.Drawings.{DrawingValue}
+use Rattle.drawing_model.specs.GrowingDrawings.{and_then, block_added, empty_drawing, is_drawing_label, line_added}
 use Rattle.drawing_text.specs.declared.draft.DrawingDraft.{DrawingDraft}
 use Rattle.drawing_text.specs.declared.version.Version.{Version}
 use Rattle.drawing_text.specs.declared.version.Version.TheVariants as version

@@ -10,7 +10,7 @@ ghost use Rattle.drawing_text.specs.Words.{words_of_line};
 use crate::number_words::coordinate;
 use crate::text_words::{is_blank, next_word, word_start};
 use design_model::NEEDLE_LIMIT;
-use line_graph::DrawKind;
+use drawing_model::DrawKind;
 
 /// Returns the coordinate that the first word of a line denotes, or its fault, and the line after the word.
 /// A short word is read in one pass over its bytes.

@@ -1,7 +1,7 @@
 ghost use Rattle.std.specs.Prelude.{◌≡◌};
 ghost use Rattle.drawing_text.specs.DrawingText.{located_fault};
 
-use line_graph::DrawKind;
+use drawing_model::DrawKind;
 
 /// The first fault of a drawing text, and the number of the text line at which it is reported. Text lines
 /// are numbered from 1. With `Memory` the number is 0.

@@ -10,7 +10,7 @@ use crate::reading::find_body;
 use crate::text_words::{next_line, without_return};
 use crate::version::Version;
 use crate::walk_end::WalkEnds;
-use line_graph::Drawing;
+use drawing_model::Drawing;
 use std::alloc::Global;
 
 /// The lines of a text as they are drawn: none is cut where lines meet. Starts and ends are the spots that

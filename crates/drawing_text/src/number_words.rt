@@ -4,7 +4,7 @@ ghost use Rattle.lists_and_numbers.specs.WholeNumbers.{parsed_whole};
 ghost use Rattle.drawing_text.specs.TextLines.{parsed_coordinate, count_in_range, parsed_count};
 
 use design_model::NEEDLE_LIMIT;
-use line_graph::DrawKind;
+use drawing_model::DrawKind;
 use lists_and_numbers::{Whole, parse_whole};
 
 /// Returns the number from `low` to `high` that a word denotes. Errors: `BadNumber` where it is no number,

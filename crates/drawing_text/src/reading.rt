@@ -8,7 +8,7 @@ use crate::draw_fault::{DrawFault, fault_with_line};
 use crate::limits::MAX_TEXT;
 use crate::text_words::{is_comment, next_line, next_word, only_word, without_return};
 use crate::version::Version;
-use line_graph::{DrawKind, Drawing};
+use drawing_model::{DrawKind, Drawing};
 use std::alloc::Global;
 use text_parts::equals_text;
 

@@ -1,4 +1,4 @@
-use line_graph::Spot;
+use drawing_model::Spot;
 
 /// A text line that names a start or an end: the number of the text line, which of the two it is, and the
 /// spot.

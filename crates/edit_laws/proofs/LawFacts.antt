@@ -3,9 +3,9 @@ use Rattle.std.proofs.Common.{◌≡◌, ◌+◌, ℕ, ℤ, pos, negsuc, List, [
 use Rattle.design_edits.specs.Moves.{shift_point, turn_point}
 use Rattle.design_model.specs.declared.point.Point.{Point}
 use Rattle.drawing_edits.specs.MovedDrawings.{turned_drawing}
-use Rattle.line_graph.specs.Drawings.{DrawingValue}
-use Rattle.line_graph.specs.Needles.{needle_points}
-use Rattle.line_graph.specs.Walks.{cost_of_line}
+use Rattle.drawing_model.specs.Drawings.{DrawingValue}
+use Rattle.drawing_model.specs.Needles.{needle_points}
+use Rattle.drawing_model.specs.LineNeedles.{cost_of_line}
 use Rattle.edit_laws.specs.CostLaws.{TurnKeepsCosts}
 
 -- the point with those numbers

@@ -4,7 +4,7 @@ use Rattle.design_edits.specs.declared.motion.Motion.TheVariants as motion
 use Rattle.design_model.specs.declared.point.Point.{Point}
 use Rattle.drawing_edits.specs.declared.drawing_edit.DrawingEdit.TheVariants as edit
 use Rattle.drawing_edits.specs.EditedDrawings.{edited_drawing}
-use Rattle.line_graph.specs.Drawings.{DrawingValue}
+use Rattle.drawing_model.specs.Drawings.{DrawingValue}
 use Rattle.line_sections.specs.declared.spot.Spot.{Spot}
 use Rattle.line_sections.specs.Lines.{LineValue}
 

@@ -10,8 +10,8 @@ use Rattle.design_model.specs.declared.point.Point.{Point}
 use Rattle.design_model.specs.Acts.{acts_from, acts_without_numbers}
 use Rattle.drawing_edits.specs.MovedDrawings.{moved_drawing}
 use Rattle.line_graph.specs.declared.pass.Pass.{Pass}
-use Rattle.line_graph.specs.Drawings.{DrawingValue}
-use Rattle.line_graph.specs.Needles.{needle_points}
+use Rattle.drawing_model.specs.Drawings.{DrawingValue}
+use Rattle.drawing_model.specs.Needles.{needle_points}
 use Rattle.line_graph.specs.Walks.{needles_of_walk}
 use Rattle.line_graph.specs.Runs.{Run, block_of_passes, run_of, sewn_acts_after}
 use Rattle.edit_laws.proofs.MovedLines.{block_moved, joined_same, walk_moved}

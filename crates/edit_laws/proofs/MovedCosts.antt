@@ -7,9 +7,10 @@ use Rattle.design_model.specs.declared.point.Point.{Point}
 use Rattle.design_model.specs.Points.{is_same_point}
 use Rattle.drawing_edits.specs.MovedDrawings.{moved_drawing}
 use Rattle.line_graph.specs.declared.pass.Pass.{Pass}
-use Rattle.line_graph.specs.Drawings.{DrawingValue, points_of}
-use Rattle.line_graph.specs.Needles.{needle_points, segment_points}
-use Rattle.line_graph.specs.Walks.{cost_of_line, needles_of_line, needles_of_pass, needles_of_walk}
+use Rattle.drawing_model.specs.Drawings.{DrawingValue, points_of}
+use Rattle.drawing_model.specs.Needles.{needle_points, segment_points}
+use Rattle.line_graph.specs.Walks.{needles_of_pass, needles_of_walk}
+use Rattle.drawing_model.specs.LineNeedles.{cost_of_line, needles_of_line}
 use Rattle.step_splitter.specs.Steps.{point_on_segment, split_points, steps_of}
 use Rattle.edit_laws.specs.CostLaws.{KeepsCosts}
 use Rattle.edit_laws.proofs.MovedLines.{points_moved}

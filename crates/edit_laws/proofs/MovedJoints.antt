@@ -6,11 +6,10 @@ use Rattle.std.specs.List.{count_by, fold, list_all, list_any}
 use Rattle.design_model.specs.declared.point.Point.{Point}
 use Rattle.design_model.specs.Points.{is_same_point}
 use Rattle.drawing_edits.specs.MovedDrawings.{moved_drawing, points_along, with_moved_line, with_moved_spot}
-use Rattle.line_graph.specs.Drawings.{DrawingValue, KeepsDrawingLimits}
-use Rattle.line_graph.specs.GrowingLimits.{IsValidJoinedDrawing}
-use Rattle.line_graph.specs.JoinedDrawings.{is_joined}
-use Rattle.line_graph.specs.Pieces.{endpoints}
-use Rattle.line_graph.specs.WalkEnds.{AreInDifferentPieces, are_connected_spots, end_spots, has_end_at_spot, is_junction, merged_representative, representative}
+use Rattle.drawing_model.specs.Drawings.{DrawingValue, KeepsDrawingLimits, endpoints}
+use Rattle.drawing_model.specs.GrowingLimits.{IsValidJoinedDrawing}
+use Rattle.drawing_model.specs.JoinedDrawings.{is_joined}
+use Rattle.drawing_model.specs.WalkEnds.{AreInDifferentPieces, are_connected_spots, end_spots, has_end_at_spot, is_junction, merged_representative, representative}
 use Rattle.line_sections.specs.declared.spot.Spot.{Spot}
 use Rattle.line_sections.specs.Lines.{LineValue}
 use Rattle.line_sections.specs.Sections.{but_last, inner_points, is_shared_point, is_whole_line, listed_in}

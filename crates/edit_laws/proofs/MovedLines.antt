@@ -9,11 +9,11 @@ use Rattle.design_model.specs.declared.point.Point.{Point}
 use Rattle.design_model.specs.Points.{is_same_point}
 use Rattle.drawing_edits.specs.MovedDrawings.{moved_drawing, with_moved_line}
 use Rattle.line_graph.specs.declared.pass.Pass.{Pass}
-use Rattle.line_graph.specs.Drawings.{DrawingValue, block_of, first_point, last_point, optional_line_block, optional_line_points, points_of}
-use Rattle.line_graph.specs.Needles.{needle_points}
+use Rattle.drawing_model.specs.Drawings.{DrawingValue, block_of, first_point, last_point, optional_line_block, optional_line_points, points_of, endpoints}
+use Rattle.drawing_model.specs.Needles.{needle_points}
 use Rattle.line_graph.specs.PieceGraphs.{junction_number, junctions_of, with_point, with_points}
-use Rattle.line_graph.specs.Pieces.{endpoints}
-use Rattle.line_graph.specs.Walks.{cost_of_line, needles_of_line, needles_of_pass, needles_of_walk}
+use Rattle.line_graph.specs.Walks.{needles_of_pass, needles_of_walk}
+use Rattle.drawing_model.specs.LineNeedles.{cost_of_line, needles_of_line}
 use Rattle.line_sections.specs.Lines.{LineValue}
 use Rattle.step_splitter.specs.Chains.{last_point_or}
 

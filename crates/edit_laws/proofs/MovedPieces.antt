@@ -7,8 +7,8 @@ use Rattle.std.specs.List.{concat, list_any}
 use Rattle.design_model.specs.declared.point.Point.{Point}
 use Rattle.design_model.specs.Points.{is_same_point}
 use Rattle.drawing_edits.specs.MovedDrawings.{moved_drawing, with_moved_line}
-use Rattle.line_graph.specs.Drawings.{DrawingValue}
-use Rattle.line_graph.specs.Pieces.{AreConnected, ArePieces, IsPathOfLines, LinesTouch, endpoints, shares_point, touches}
+use Rattle.drawing_model.specs.Drawings.{DrawingValue, endpoints}
+use Rattle.line_graph.specs.Pieces.{AreConnected, ArePieces, IsPathOfLines, LinesTouch, shares_point, touches}
 use Rattle.line_sections.specs.Lines.{LineValue}
 use Rattle.edit_laws.proofs.MovedLines.{endpoints_moved, listed_moved}
 

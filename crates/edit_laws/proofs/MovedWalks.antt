@@ -7,12 +7,13 @@ use Rattle.design_model.specs.declared.point.Point.{Point}
 use Rattle.design_model.specs.Points.{is_same_point}
 use Rattle.drawing_edits.specs.MovedDrawings.{moved_drawing, with_moved_spot}
 use Rattle.line_graph.specs.declared.pass.Pass.{Pass}
-use Rattle.line_graph.specs.Drawings.{DrawingValue, block_of, first_point, last_point, points_of}
+use Rattle.drawing_model.specs.Drawings.{DrawingValue, block_of, first_point, last_point, points_of}
 use Rattle.line_graph.specs.DrawnWalks.{IsThreadOver, KeepsGivenEnds, Leads, given_point, is_junction_of}
-use Rattle.line_graph.specs.Needles.{needle_points}
+use Rattle.drawing_model.specs.Needles.{needle_points}
 use Rattle.line_graph.specs.PieceGraphs.{junction_number, junctions_of}
 use Rattle.line_graph.specs.Pieces.{first_line}
-use Rattle.line_graph.specs.Walks.{cost_of_line, needles_of_pass, needles_of_walk}
+use Rattle.line_graph.specs.Walks.{needles_of_pass, needles_of_walk}
+use Rattle.drawing_model.specs.LineNeedles.{cost_of_line}
 use Rattle.line_sections.specs.declared.spot.Spot.{Spot}
 use Rattle.odd_cuts.specs.declared.certificate.PieceCert.{PieceCert}
 use Rattle.odd_cuts.specs.declared.cut.Cut.{Cut}

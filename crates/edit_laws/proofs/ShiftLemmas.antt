@@ -11,9 +11,9 @@ use Rattle.design_model.specs.declared.point.Point.{Point}
 use Rattle.design_model.specs.Points.{is_same_point, move_between, move_size}
 use Rattle.drawing_edits.specs.MovedDrawings.{shifted_drawing, with_moved_line, with_moved_spot}
 use Rattle.line_graph.specs.declared.pass.Pass.{Pass}
-use Rattle.line_graph.specs.Drawings.{DrawingValue}
+use Rattle.drawing_model.specs.Drawings.{DrawingValue}
 use Rattle.line_graph.specs.DrawnWalks.{IsThreadOver}
-use Rattle.line_graph.specs.Needles.{segment_points}
+use Rattle.drawing_model.specs.Needles.{segment_points}
 use Rattle.line_graph.specs.Runs.{run_of, sewn_acts_after}
 use Rattle.line_sections.specs.declared.spot.Spot.{Spot}
 use Rattle.line_sections.specs.Lines.{LineValue}

@@ -5,7 +5,7 @@ use Rattle.std.specs.List.{slice_get}
 use Rattle.line_sections.specs.Lines.{LineValue}
 use Rattle.line_graph.specs.declared.piece.Piece.{Piece}
 use Rattle.line_graph.specs.PiecesOfDrawings.{graph_of}
-use Rattle.line_graph.specs.Drawings.{DrawingValue, KeepsDrawingLimits, optional_line_block, block_of}
+use Rattle.drawing_model.specs.Drawings.{DrawingValue, KeepsDrawingLimits, optional_line_block, block_of}
 use Rattle.line_graph.specs.PieceGraphs.{PieceValue, piece_graph}
 use Rattle.line_graph.specs.Pieces.{first_line}
 

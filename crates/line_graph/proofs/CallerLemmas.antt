@@ -1,38 +1,26 @@
 -- Lemmas that this crate and those above cite.
-use Rattle.std.proofs.Common.{All, AllPairs, Bool, Err, IfOk, List, None, Ok, Option, Result, Some, [], ap, arith, false, get_or, length, map, nat_lt, not, refl, replicate, slice_get, subst, suc, sum_by, sym, true, zero, ℕ, ℤ, ◌%◌, ◌&&◌, ◌*◌, ◌++◌, ◌+◌, ◌-◌, ◌<◌, ◌==◌, ◌∙◌, ◌∷◌, ◌≡◌, ◌≢◌, ◌≤◌}
-use Rattle.std.proofs.lemmas.Bool.{and_parts, false_from_ne_true, ltb-true, or_from}
-use Rattle.std.proofs.lemmas.Bool.Decides.{Decides-int_eq, nat_tests}
+use Rattle.std.proofs.Common.{AllPairs, List, None, Option, Some, [], ap, arith, false, get_or, length, map, nat_lt, refl, replicate, slice_get, subst, suc, sum_by, sym, true, zero, ℕ, ◌%◌, ◌&&◌, ◌*◌, ◌++◌, ◌+◌, ◌-◌, ◌<◌, ◌==◌, ◌∷◌, ◌≡◌, ◌≤◌}
+use Rattle.std.proofs.lemmas.Bool.{and_parts, ltb-true}
+use Rattle.std.proofs.lemmas.Bool.Decides.{nat_tests}
 use Rattle.std.proofs.lemmas.List.{length-append, length-map, length-replicate}
-use Rattle.std.proofs.lemmas.List.Elements.{All-cons, All-head, All-nil, All-tail}
-use Rattle.std.proofs.lemmas.List.Folds.{list_any_none}
 use Rattle.std.proofs.lemmas.List.Kept.{AllPairs-from_increasing}
 use Rattle.std.proofs.lemmas.List.Sums.{sum_by-cons}
-use Rattle.std.specs.List.{list_any}
 use Rattle.std.specs.List.Sorted.{IsStrictlyIncreasing}
 use Rattle.std.specs.Option.{option_or}
-use Rattle.std.specs.Ordering.{int_eq}
-use Rattle.design_model.specs.Points.{is_same_point}
 use Rattle.design_model.specs.declared.command.Command.TheVariants.{Stitch, Stop, Trim}
 use Rattle.design_model.specs.declared.point.Point.{Point}
 use Rattle.line_graph.specs.ClosedDegrees.{closing_ends}
-use Rattle.line_graph.specs.Drawings.{DrawingValue, HasNoRepeat}
-use Rattle.line_graph.specs.GrowingDrawings.{and_then, has_repeated_point, is_last_empty, is_used, repeats_after}
 use Rattle.line_graph.specs.PieceGraphs.{PieceValue, closing_edge, degree, degrees_from, is_odd}
 use Rattle.line_graph.specs.PieceWalks.{BeginsWith, after_pass, all_greater, are_same_junction, edge_of, is_strictly_increasing, walk_end_from}
 use Rattle.line_graph.specs.Pieces.{first_line}
 use Rattle.line_graph.specs.PiecesOfDrawings.{lines_of_pieces}
 use Rattle.line_graph.specs.Runs.{Run, commands_after, stops_after}
 use Rattle.line_graph.specs.ValidPieces.{IsValidPiece, ends_below, is_below}
-use Rattle.line_graph.specs.WalkEnds.{AreInDifferentPieces, are_connected_spots, is_junction, spot_added}
-use Rattle.line_graph.specs.declared.draw_kind.DrawKind.{DrawKind}
 use Rattle.line_graph.specs.declared.edge.Edge.{Edge}
-use Rattle.line_graph.specs.declared.limits.TheConstants.{MAX_LINES}
+use Rattle.drawing_model.specs.declared.limits.TheConstants.{MAX_LINES}
 use Rattle.line_graph.specs.declared.pass.Pass.{Pass}
 use Rattle.line_graph.specs.declared.piece.Piece.{Piece}
-use Rattle.line_sections.specs.Lines.{LineValue}
-use Rattle.line_sections.specs.declared.spot.Spot.{Spot}
 use Rattle.lists_and_numbers.proofs.CallerLemmas.{differs_back, eq_self}
-use Rattle.step_splitter.specs.Chains.{HasNoRepeatAfter}
 
 -- from nowhere no walk leads anywhere
 pub lost : (lines : List ℕ) (edges : List Edge) (walk : List Pass) (to : ℕ) → walk_end_from lines edges None walk ≡ Some to → ⊥
@@ -57,25 +45,6 @@ degree_closed (Some f) (Some t) es j = refl
 degree_closed (Some f) None es j = omega arith
 degree_closed None to es j = omega arith
 
--- Points that differ are found to differ.
-pub others_found : (p q : Point) → p ≢ q → is_same_point p q ≡ false
-others_found p q other = false_from_ne_true (is_same_point p q) (λ found. other (same found))
-  where
-    same : is_same_point p q ≡ true → p ≡ q
-    same found =
-        let both = and_parts (int_eq p.x q.x) (int_eq p.y q.y) found in
-        ap (λ (x : ℤ). record { x = x; y = p.y }) ((Decides-int_eq p.x q.x).0 both.0)
-        ∙ ap (λ (y : ℤ). record { x = q.x; y = y }) ((Decides-int_eq p.y q.y).0 both.1)
-
-pub none_after : (p : Point) (rest : List Point) → HasNoRepeatAfter p rest → repeats_after p rest ≡ false
-none_after p [] moving = refl
-none_after p (q ∷ rest) moving =
-    or_from (is_same_point p q) (repeats_after q rest) (others_found p q moving.0) (none_after q rest moving.1)
-
-pub none_repeats : (points : List Point) → HasNoRepeat points → has_repeated_point points ≡ false
-none_repeats [] moving = refl
-none_repeats (p ∷ rest) moving = none_after p rest moving
-
 -- a walk that goes on
 pub walk_append : (lines : List ℕ) (edges : List Edge) (at : Option ℕ) (xs ys : List Pass)
     → walk_end_from lines edges at (xs ++ ys) ≡ walk_end_from lines edges (walk_end_from lines edges at xs) ys
@@ -90,14 +59,6 @@ degrees_few p keeps =
 pub or_below : (n : ℕ) (x y : Option ℕ) → is_below n x ≡ true → is_below n y ≡ true → is_below n (option_or x y) ≡ true
 or_below n (Some a) y f t = f
 or_below n None y f t = t
-
--- whether the last block is empty
-pub last_by : (d : DrawingValue) (block : ℕ) (used : Bool) → length d.threads ≡ block + 1 → is_used d block ≡ used
-    → is_last_empty d ≡ not used
-last_by d block used count is =
-    let some : (length d.threads == 0) ≡ false = grind (arith, nat_tests) in
-    let last : length d.threads - 1 ≡ block = omega arith in
-    rw (some, last, is) refl
 
 -- Lists whose first items rise.
 pub firsts_rise : (pieces : List (List ℕ)) → IsStrictlyIncreasing (map first_line pieces)
@@ -132,33 +93,6 @@ pub edge_there : (edges : List Edge) (k : ℕ) → k < length edges → (e : Edg
 edge_there [] k below = absurd (omega arith)
 edge_there (e ∷ edges) zero below = (e, refl)
 edge_there (e ∷ edges) (suc k) below = edge_there edges k (omega arith)
-
--- What holds of all spots holds of one of them.
-pub in_middle : (P : Spot → Type 0) (before : List Spot) (spot : Spot) (rest : List Spot) → All P (before ++ spot ∷ rest) → P spot
-in_middle P [] spot rest all = All-head P spot rest all
-in_middle P (one ∷ before) spot rest all = in_middle P before spot rest (All-tail P one (before ++ spot ∷ rest) all)
-
--- What holds of all pairs holds of each spot before another and that one.
-pub before_it : (R : Spot → Spot → Type 0) (before : List Spot) (spot : Spot) (rest : List Spot) → AllPairs R (before ++ spot ∷ rest)
-    → All (λ one. R one spot) before
-before_it R [] spot rest pairs = All-nil (λ (one : Spot). R one spot)
-before_it R (one ∷ before) spot rest pairs =
-    let first : All (R one) (before ++ spot ∷ rest) =
-    λ k e below. pairs 0 (suc k) e (omega arith) (omega (arith, below)) in
-    let others : AllPairs R (before ++ spot ∷ rest) =
-    λ i j e less there. pairs (suc i) (suc j) e (omega (arith, less)) (omega (arith, there)) in
-    All-cons (λ (some : Spot). R some spot) one before (in_middle (R one) before spot rest first)
-    (before_it R before spot rest others)
-
--- A junction in a piece of its own is added.
-pub spot_comes : (lines : List LineValue) (before : List Spot) (spot : Spot) (rest : List Spot)
-    → AreInDifferentPieces lines (before ++ spot ∷ rest) → spot_added lines before spot ≡ Ok (before ++ spot ∷ [])
-spot_comes lines before spot rest apart =
-    let there : is_junction lines spot ≡ true = in_middle (λ (s : Spot). is_junction lines s ≡ true) before spot rest apart.there in
-    let alone : list_any (λ (one : Spot). are_connected_spots lines one spot) before ≡ false =
-    list_any_none (λ (one : Spot). are_connected_spots lines one spot) before
-    (before_it (λ (a b : Spot). are_connected_spots lines a b ≡ false) before spot rest apart.apart) in
-    rw (there, alone) refl
 
 pub length_of_lists : (pieces : List Piece) → length (lines_of_pieces pieces) ≡ length pieces
 length_of_lists [] = refl
@@ -229,9 +163,3 @@ ends_of_back n (Some a) (Some b) es f t within = rw (f, t, within) refl
 pub goes_from : (x y : Option ℕ) → are_same_junction x y ≡ true → (to : ℕ) × (x ≡ Some to)
 goes_from None y is = absurd (cc)
 goes_from (Some a) y is = (a, refl)
-
--- What holds after the second of two steps.
-pub after_both : {A B : Type 0} (P : A → Type 0) (Q : B → Type 0) (r : Result A DrawKind) (next : A → Result B DrawKind) → IfOk r P
-    → ((a : A) → P a → IfOk (next a) Q) → IfOk (and_then r next) Q
-after_both P Q (Ok a) next has later = later a has
-after_both P Q (Err why) next has later = tt

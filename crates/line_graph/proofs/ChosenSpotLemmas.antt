@@ -14,13 +14,13 @@ use Rattle.design_model.specs.Points.{is_same_point}
 use Rattle.line_sections.specs.declared.spot.Spot.{Spot}
 use Rattle.line_sections.specs.Lines.{LineValue}
 use Rattle.line_graph.specs.declared.chosen_spots.ChosenSpots.{ChosenSpots}
-use Rattle.line_graph.specs.declared.draw_kind.DrawKind.TheVariants as kind
+use Rattle.drawing_model.specs.declared.draw_kind.DrawKind.TheVariants as kind
 use Rattle.line_graph.specs.EndsMakerInvariants.{AreChosen, label_at}
-use Rattle.line_graph.specs.Drawings.{DrawingValue, optional_line_block, first_point, last_point, optional_line_points}
+use Rattle.drawing_model.specs.Drawings.{DrawingValue, optional_line_block, first_point, last_point, optional_line_points, endpoints}
 use Rattle.line_graph.specs.FirstLines.{IsLineEnd}
 use Rattle.line_graph.specs.PieceLabels.{ArePieceLabels}
-use Rattle.line_graph.specs.Pieces.{AreConnected, IsPathOfLines, endpoints}
-use Rattle.line_graph.specs.WalkEnds.{AreInDifferentPieces, are_connected_spots, is_junction, has_end_at_spot, spot_added}
+use Rattle.line_graph.specs.Pieces.{AreConnected, IsPathOfLines}
+use Rattle.drawing_model.specs.WalkEnds.{AreInDifferentPieces, are_connected_spots, is_junction, has_end_at_spot, spot_added}
 use Rattle.line_graph.proofs.ConnectedSpotLemmas.{spots_are_joined}
 use Rattle.line_graph.proofs.LabelLemmas.{joined_back, joined_on}
 use Rattle.line_graph.proofs.LinkLemmas.{from_ends}

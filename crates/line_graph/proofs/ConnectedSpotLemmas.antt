@@ -7,10 +7,11 @@ use Rattle.step_splitter.specs.Chains.{last_point_or}
 use Rattle.line_sections.specs.declared.spot.Spot.{Spot}
 use Rattle.line_sections.specs.Lines.{LineValue}
 use Rattle.line_sections.specs.Spots.{is_same_spot}
-use Rattle.line_graph.specs.Drawings.{DrawingValue, optional_line_block, first_point, last_point, optional_line_points}
+use Rattle.drawing_model.specs.Drawings.{DrawingValue, optional_line_block, first_point, last_point, optional_line_points, endpoints}
 use Rattle.line_graph.specs.FirstLines.{IsLineEnd}
-use Rattle.line_graph.specs.Pieces.{AreConnected, IsPathOfLines, endpoints}
-use Rattle.line_graph.specs.WalkEnds.{SpotsAreConnected, are_connected_spots, end_spots, representative, merged_representative}
+use Rattle.line_graph.specs.Pieces.{AreConnected, IsPathOfLines}
+use Rattle.drawing_model.specs.WalkEnds.{are_connected_spots, end_spots, representative, merged_representative}
+use Rattle.line_graph.specs.ConnectedSpots.{SpotsAreConnected}
 use Rattle.line_graph.proofs.LabelLemmas.{joined_back, joined_on}
 use Rattle.line_graph.proofs.LinkLemmas.{below_get, share_of, touch_joins, touch_of}
 use Rattle.line_sections.proofs.CallerLemmas.{same_spot, spot_found}

@@ -10,15 +10,15 @@ use Rattle.design_model.specs.Points.{is_same_point}
 use Rattle.line_sections.specs.declared.spot.Spot.{Spot}
 use Rattle.line_graph.specs.declared.edge.Edge.{Edge}
 use Rattle.line_graph.specs.declared.pass.Pass.{Pass}
-use Rattle.line_graph.specs.Drawings.{DrawingValue, KeepsDrawingLimits, block_of, first_point, last_point}
+use Rattle.drawing_model.specs.Drawings.{DrawingValue, KeepsDrawingLimits, block_of, first_point, last_point}
 use Rattle.line_graph.specs.DrawnWalks.{FittingWalksAreThreads, GivenPointsAreJunctions, IsThreadOver, KeepsGivenEnds, Leads, given_point}
-use Rattle.line_graph.specs.LineNeedles.{NeedlesLeadAlong}
+use Rattle.drawing_model.specs.LineNeedles.{NeedlesLeadAlong}
 use Rattle.line_graph.specs.PieceGraphs.{edge_between, first_junction_among, junction_number, junctions_of, piece_graph}
 use Rattle.line_graph.specs.Pieces.{first_line}
 use Rattle.line_graph.specs.PieceWalks.{after_edge, are_same_junction, covers, edge_of, is_fitting_walk, is_line_passed, is_walk_start_to_end, pass_end, pass_start, pass_start_on, walk_end_from, walk_start}
 use Rattle.line_graph.specs.ValidPieces.{IsValidPiece}
 use Rattle.line_graph.specs.Walks.{needles_of_pass}
-use Rattle.line_graph.proofs.MakerLemmas.{same_found}
+use Rattle.drawing_model.proofs.CallerLemmas.{same_found}
 use Rattle.line_graph.proofs.SewnWalkLemmas.{Passed, found, junction_at, passed}
 use Rattle.line_graph.proofs.TipLemmas.{found_below}
 use Rattle.line_graph.proofs.CallerLemmas.{lost}

@@ -5,7 +5,7 @@ use Rattle.std.specs.List.{concat}
 use Rattle.std.specs.List.Sorted.{IsStrictlyIncreasing}
 use Rattle.step_splitter.specs.Chains.{SplitPointsLead}
 use Rattle.line_sections.specs.Lines.{LineValue}
-use Rattle.line_graph.specs.Drawings.{DrawingValue}
+use Rattle.drawing_model.specs.Drawings.{DrawingValue}
 use Rattle.line_graph.specs.DrawnWalks.{PiecesAreValid}
 use Rattle.line_graph.specs.PieceLabels.{IsPiece}
 use Rattle.line_graph.specs.Pieces.{ArePieces, AreConnected, LinesTouch, first_line}

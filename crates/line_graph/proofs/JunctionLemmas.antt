@@ -8,12 +8,11 @@ use Rattle.design_model.specs.declared.point.Point.{Point}
 use Rattle.design_model.specs.Points.{is_same_point}
 use Rattle.step_splitter.specs.Chains.{last_point_or}
 use Rattle.line_graph.specs.declared.edge.Edge.{Edge}
-use Rattle.line_graph.specs.Drawings.{DrawingValue, first_point, last_point, points_of}
+use Rattle.drawing_model.specs.Drawings.{DrawingValue, first_point, last_point, points_of, endpoints}
 use Rattle.line_graph.specs.PieceGraphs.{edge_between, junctions_of, junction_number, with_points, with_point}
 use Rattle.line_graph.specs.PieceLabels.{AddsEdge}
-use Rattle.line_graph.specs.Pieces.{endpoints}
-use Rattle.line_graph.specs.Walks.{cost_of_line}
-use Rattle.line_graph.proofs.MakerLemmas.{same_found}
+use Rattle.drawing_model.specs.LineNeedles.{cost_of_line}
+use Rattle.drawing_model.proofs.CallerLemmas.{same_found}
 
 -- a place that is found stays where more follow
 place_before : (test : Point → Bool) (xs ys : List Point) → list_any test xs ≡ true

@@ -6,7 +6,7 @@ use Rattle.std.proofs.lemmas.List.{get_or-set_other, get_or-set_same, length-set
 use Rattle.std.proofs.lemmas.List.Elements.{All-append, All-cons, All-head, All-nil}
 use Rattle.std.proofs.lemmas.List.Sums.{sum_by-set}
 use Rattle.line_graph.specs.declared.line_labels.LineLink.{LineLink}
-use Rattle.line_graph.specs.Drawings.{DrawingValue}
+use Rattle.drawing_model.specs.Drawings.{DrawingValue}
 use Rattle.line_graph.specs.LineLabels.{LabelsAgree, LinkedAreConnected, AreAtMostIndex, AreOwnIndexes, AreConnectedToLabels, AreFinalLabels, AreLabelsOfLinks, LowersOneLabel, LowersLabels}
 use Rattle.line_graph.specs.PieceGraphs.{one_if}
 use Rattle.line_graph.specs.Pieces.{AreConnected}

@@ -1,15 +1,8 @@
 pub mod CallerLemmas
 mod WalkFacts
-mod Places
 mod RunLemmas
-mod PointLemmas
-mod NeedleLemmas
-mod PointLists
 mod SewingFacts
-mod MakerLemmas
 mod PieceLemmas
-mod GrowingFacts
-mod LimitFacts
 mod PieceFacts
 mod TrailLemmas
 mod SewnWalkLemmas
@@ -28,16 +21,9 @@ mod BlockLemmas
 mod UniquePieceLemmas
 mod EveryPieceLemmas
 mod PieceGraphFacts
-mod JoinedFacts
-mod SectionCosts
-mod KeptSections
-mod GrowingLimitLemmas
-mod GrowingLimitFacts
 mod ConnectedSpotLemmas
 mod ChosenSpotLemmas
 mod EndFacts
 mod LeastWalkFacts
 mod PieceListFacts
-mod ValidDrawingFacts
 mod SewnWalkFacts
-mod LimitOrderFacts

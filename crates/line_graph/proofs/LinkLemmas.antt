@@ -13,11 +13,11 @@ use Rattle.line_sections.specs.declared.spot.Spot.{Spot}
 use Rattle.line_sections.specs.Lines.{LineValue}
 use Rattle.line_sections.specs.Spots.{is_same_spot}
 use Rattle.line_graph.specs.declared.line_labels.LineLink.{LineLink}
-use Rattle.line_graph.specs.Drawings.{DrawingValue, optional_line_block, block_of, first_point, last_point, optional_line_points, points_of}
+use Rattle.drawing_model.specs.Drawings.{DrawingValue, optional_line_block, block_of, first_point, last_point, optional_line_points, points_of, endpoints}
 use Rattle.line_graph.specs.FirstLines.{AddsLink, AreLinks, IsLineEnd, IsLinkedAt, AreLinkedBelow, SharesEnd, RecordsFirstLine}
 use Rattle.line_graph.specs.LineLabels.{LabelsAgree}
-use Rattle.line_graph.specs.Pieces.{AreConnected, LinesTouch, endpoints, shares_point}
-use Rattle.line_graph.proofs.MakerLemmas.{same_found}
+use Rattle.line_graph.specs.Pieces.{AreConnected, LinesTouch, shares_point}
+use Rattle.drawing_model.proofs.CallerLemmas.{same_found}
 use Rattle.design_model.proofs.CallerLemmas.{same_is}
 use Rattle.line_sections.proofs.CallerLemmas.{same_spot, spot_found}
 use Rattle.lists_and_numbers.proofs.CallerLemmas.{same_number, some_same}

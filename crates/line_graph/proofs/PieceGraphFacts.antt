@@ -4,7 +4,7 @@ use Rattle.design_model.specs.declared.point.Point.{Point}
 use Rattle.line_sections.specs.Lines.{LineValue}
 use Rattle.line_graph.specs.declared.edge.Edge.{Edge}
 use Rattle.line_graph.specs.declared.pass.Pass.{Pass}
-use Rattle.line_graph.specs.Drawings.{DrawingValue}
+use Rattle.drawing_model.specs.Drawings.{DrawingValue}
 use Rattle.line_graph.specs.PieceGraphs.{degree, odd_junctions, piece_graph}
 use Rattle.line_graph.specs.NextLines.{IsFirstLabelled, lines_labelled_from}
 use Rattle.line_graph.specs.PieceLabels.{lines_labelled, pieces_by_label}

@@ -6,8 +6,9 @@ use Rattle.std.specs.List.{list_any}
 use Rattle.design_model.specs.declared.point.Point.{Point}
 use Rattle.design_model.specs.Points.{is_same_point}
 use Rattle.line_sections.specs.Lines.{LineValue}
-use Rattle.line_graph.proofs.MakerLemmas.{same_found}
-use Rattle.line_graph.specs.Pieces.{endpoints, shares_point, touches}
+use Rattle.drawing_model.proofs.CallerLemmas.{same_found}
+use Rattle.line_graph.specs.Pieces.{shares_point, touches}
+use Rattle.drawing_model.specs.Drawings.{endpoints}
 use Rattle.design_model.proofs.CallerLemmas.{same_is}
 
 -- a test that passes where another does

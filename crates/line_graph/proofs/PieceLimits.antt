@@ -11,15 +11,15 @@ use Rattle.std.specs.List.{AllZip, concat}
 use Rattle.std.specs.List.Sorted.{IsStrictlyIncreasing}
 use Rattle.line_sections.specs.Lines.{LineValue}
 use Rattle.line_graph.specs.declared.pass.Pass.{Pass}
-use Rattle.line_graph.specs.Drawings.{DrawingValue, KeepsDrawingLimits, optional_line_block, block_of, optional_line_points}
-use Rattle.line_graph.specs.Needles.{steps_of_line}
+use Rattle.drawing_model.specs.Drawings.{DrawingValue, KeepsDrawingLimits, optional_line_block, block_of, optional_line_points, endpoints}
+use Rattle.drawing_model.specs.Needles.{steps_of_line}
 use Rattle.line_graph.specs.PieceGraphs.{edge_between, junctions_of, piece_graph}
-use Rattle.line_graph.specs.Pieces.{AreConnected, IsPathOfLines, LinesTouch, first_line, shares_point, endpoints}
+use Rattle.line_graph.specs.Pieces.{AreConnected, IsPathOfLines, LinesTouch, first_line, shares_point}
 use Rattle.line_graph.specs.PieceWalks.{edge_cost, edge_sum, piece_cost}
 use Rattle.line_graph.specs.Runs.{block_of_passes, runs_of, stops_after}
 use Rattle.line_graph.specs.SewnWalks.{GoesAlong, PiecesKeepLimits}
-use Rattle.line_graph.specs.Walks.{cost_of_line}
-use Rattle.line_graph.proofs.NeedleLemmas.{cost_is}
+use Rattle.drawing_model.specs.LineNeedles.{cost_of_line}
+use Rattle.drawing_model.proofs.CallerLemmas.{cost_is}
 use Rattle.line_graph.proofs.PieceLemmas.{touch_turned}
 use Rattle.line_graph.proofs.CallerLemmas.{firsts_rise}
 use Rattle.lists_and_numbers.proofs.CallerLemmas.{same_number, sum_over}

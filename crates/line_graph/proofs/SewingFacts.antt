@@ -1,9 +1,12 @@
 -- Worked values of sewing in several blocks.
-use Rattle.std.proofs.Common.{◌≡◌, ℕ, pos, negsuc, [], ◌∷◌, codes, false, refl}
+use Rattle.std.proofs.Common.{◌≡◌, ℕ, ℤ, pos, negsuc, [], ◌∷◌, codes, false, refl}
 use Rattle.design_model.specs.declared.command.Command.TheVariants.{Stitch, Stop, Trim}
-use Rattle.line_graph.proofs.Places.{place}
-use Rattle.line_graph.specs.Drawings.{DrawingValue}
+use Rattle.design_model.specs.declared.point.Point.{Point}
+use Rattle.drawing_model.specs.Drawings.{DrawingValue}
 use Rattle.line_graph.specs.Runs.{Run, sewn_design, stops_after}
+
+abbrev place : ℤ → ℤ → Point
+place x y = record { x = x; y = y }
 
 -- two strokes in two blocks
 abbrev strokes : DrawingValue

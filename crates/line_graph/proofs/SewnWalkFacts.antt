@@ -5,11 +5,11 @@ use Rattle.design_model.specs.declared.act.Act.{Act}
 use Rattle.design_model.specs.declared.act.Act.TheVariants as act
 use Rattle.design_model.specs.declared.act.NumberedAct.{NumberedAct}
 use Rattle.design_model.specs.Acts.{acts_of, acts_without_numbers}
-use Rattle.line_graph.specs.declared.draw_kind.DrawKind.{DrawKind}
-use Rattle.line_graph.specs.declared.draw_kind.DrawKind.TheVariants as kind
+use Rattle.drawing_model.specs.declared.draw_kind.DrawKind.{DrawKind}
+use Rattle.drawing_model.specs.declared.draw_kind.DrawKind.TheVariants as kind
 use Rattle.line_graph.specs.declared.pass.Pass.{Pass}
-use Rattle.line_graph.specs.Drawings.{DrawingValue, KeepsDrawingLimits}
-use Rattle.line_graph.specs.GrowingDrawings.{ChangesAsSpecified}
+use Rattle.drawing_model.specs.Drawings.{DrawingValue, KeepsDrawingLimits}
+use Rattle.drawing_model.specs.GrowingDrawings.{ChangesAsSpecified}
 use Rattle.line_graph.specs.Pieces.{ArePieces}
 use Rattle.line_graph.specs.PieceGraphs.{piece_graph}
 use Rattle.line_graph.specs.PieceWalks.{is_fitting_walk, piece_cost, walk_cost}

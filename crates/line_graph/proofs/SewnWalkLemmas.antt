@@ -12,16 +12,15 @@ use Rattle.design_model.specs.Points.{is_same_point}
 use Rattle.step_splitter.specs.Chains.{IsNeedlePoint, AreCloseAfter}
 use Rattle.line_graph.specs.declared.edge.Edge.{Edge}
 use Rattle.line_graph.specs.declared.pass.Pass.{Pass}
-use Rattle.line_graph.specs.Drawings.{DrawingValue, KeepsDrawingLimits, first_point, last_point, points_of}
+use Rattle.drawing_model.specs.Drawings.{DrawingValue, KeepsDrawingLimits, first_point, last_point, points_of}
 use Rattle.line_graph.specs.ValidPieces.{ends_below}
-use Rattle.line_graph.specs.LineNeedles.{AreNeedlesOf}
+use Rattle.drawing_model.specs.LineNeedles.{AreNeedlesOf, NeedlesLeadAlong, needles_of_line}
 use Rattle.line_graph.specs.PieceGraphs.{edge_between, junctions_of, junction_number, piece_graph}
 use Rattle.line_graph.specs.PieceWalks.{after_edge, required_start, edge_cost, covers, edge_of, pass_end, required_end, is_walk_start_to_end, edge_value, pass_sum, pass_start, walk_end_from}
 use Rattle.line_graph.specs.Runs.{AreNear}
-use Rattle.line_graph.specs.LineNeedles.{NeedlesLeadAlong}
 use Rattle.line_graph.specs.SewnWalks.{FittingWalksAreSewable, IsSewable}
-use Rattle.line_graph.specs.Walks.{needles_of_line, needles_of_pass, needles_of_walk}
-use Rattle.line_graph.proofs.NeedleLemmas.{close_on}
+use Rattle.line_graph.specs.Walks.{needles_of_pass, needles_of_walk}
+use Rattle.drawing_model.proofs.CallerLemmas.{close_on}
 use Rattle.line_graph.proofs.TrailLemmas.{Trail, trail_back, trail_of}
 use Rattle.design_model.proofs.CallerLemmas.{same_is}
 use Rattle.line_graph.proofs.CallerLemmas.{goes_from, lost}

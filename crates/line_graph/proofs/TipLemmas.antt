@@ -10,12 +10,10 @@ use Rattle.design_model.specs.declared.point.Point.{Point}
 use Rattle.design_model.specs.Points.{is_same_point}
 use Rattle.step_splitter.specs.Chains.{last_point_or}
 use Rattle.line_graph.specs.declared.edge.Edge.{Edge}
-use Rattle.line_graph.specs.Drawings.{DrawingValue, KeepsDrawingLimits, first_point, last_point, points_of}
+use Rattle.drawing_model.specs.Drawings.{DrawingValue, KeepsDrawingLimits, first_point, last_point, points_of, endpoints}
 use Rattle.line_graph.specs.PieceGraphs.{edge_between, junctions_of, junction_number, with_points, with_point}
-use Rattle.line_graph.specs.Pieces.{endpoints}
 use Rattle.line_graph.proofs.JunctionLemmas.{put_found, put_keeps, seen_keeps, seen_on}
-use Rattle.line_graph.proofs.MakerLemmas.{same_found}
-use Rattle.line_graph.proofs.NeedleLemmas.{line_there}
+use Rattle.drawing_model.proofs.CallerLemmas.{same_found, line_there}
 use Rattle.design_model.proofs.CallerLemmas.{same_is}
 
 -- a point is the first of a list, or the last

@@ -6,8 +6,8 @@ use mathlib.Core.List.{reverse_aux}
 use Rattle.design_model.specs.declared.point.Point.{Point}
 use Rattle.design_model.specs.Points.{is_point_within, move_between}
 use Rattle.step_splitter.specs.Chains.{IsNeedlePoint, AreCloseAfter, last_point_or}
-use Rattle.line_graph.specs.Drawings.{first_point, last_point}
-use Rattle.line_graph.specs.LineNeedles.{AreClose}
+use Rattle.drawing_model.specs.Drawings.{first_point, last_point}
+use Rattle.drawing_model.specs.LineNeedles.{AreClose}
 use Rattle.lists_and_numbers.proofs.CallerLemmas.{some_same}
 
 -- points from one to another

@@ -12,16 +12,16 @@ use Rattle.design_model.specs.Points.{is_same_point}
 use Rattle.step_splitter.specs.Chains.{SplitPointsLead}
 use Rattle.line_sections.specs.declared.spot.Spot.{Spot}
 use Rattle.line_graph.specs.declared.edge.Edge.{Edge}
-use Rattle.line_graph.specs.Drawings.{DrawingValue, IsLine, KeepsDrawingLimits, block_of, points_of}
+use Rattle.drawing_model.specs.Drawings.{DrawingValue, IsLine, KeepsDrawingLimits, block_of, points_of}
 use Rattle.line_graph.specs.ValidPieces.{IsConnectedGraph, IsValidPiece, NoEdgeLeaves, all_below, all_costs_positive, ends_below, is_below}
-use Rattle.line_graph.specs.Needles.{steps_of_line}
+use Rattle.drawing_model.specs.Needles.{steps_of_line}
 use Rattle.line_graph.specs.PieceGraphs.{one_if, degree, edge_between, junctions_of, first_junction_among, junction_at_spot, junction_number, piece_graph}
 use Rattle.line_graph.specs.PieceLabels.{IsPiece}
 use Rattle.line_graph.specs.Pieces.{AreConnected, IsPathOfLines, LinesTouch, first_line}
 use Rattle.line_graph.specs.PieceWalks.{all_greater, is_strictly_increasing}
-use Rattle.line_graph.specs.Walks.{cost_of_line}
+use Rattle.drawing_model.specs.LineNeedles.{cost_of_line}
 use Rattle.line_graph.proofs.LinkLemmas.{share_of}
-use Rattle.line_graph.proofs.NeedleLemmas.{cost_is, line_there}
+use Rattle.drawing_model.proofs.CallerLemmas.{cost_is, line_there}
 use Rattle.line_graph.proofs.PieceLimits.{cost_of_piece, lines_cost, often, once, over_ones, sum_once}
 use Rattle.line_graph.proofs.TreeLemmas.{junctions_few}
 use Rattle.line_graph.proofs.TipLemmas.{IsTip, edges_within, junction_tips, junctions_differ, number_is}

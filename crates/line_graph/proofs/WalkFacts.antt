@@ -1,12 +1,11 @@
--- Worked values of needles, walks and their sewing.
+-- Worked values of walks and their sewing.
 use Rattle.std.proofs.Common.{◌≡◌, ℕ, pos, true, false, List, [], ◌∷◌, refl}
 use Rattle.design_model.specs.declared.command.Command.TheVariants.{Stitch, Trim}
 use Rattle.design_model.specs.declared.point.Point.{Point}
 use Rattle.line_graph.specs.declared.pass.Pass.{Pass}
-use Rattle.line_graph.specs.Drawings.{DrawingValue}
-use Rattle.line_graph.specs.Needles.{steps_of_line}
+use Rattle.drawing_model.specs.Drawings.{DrawingValue}
 use Rattle.line_graph.specs.Runs.{commands_after, runs_of}
-use Rattle.line_graph.specs.Walks.{cost_of_line, needles_of_line, needles_of_walk}
+use Rattle.line_graph.specs.Walks.{needles_of_walk}
 
 abbrev pub at : ℕ → ℕ → Point
 at x y = record { x = pos x; y = pos y }
@@ -34,17 +33,6 @@ forth = record { line = 0; back = false }
 
 abbrev pub back : Pass
 back = record { line = 0; back = true }
-
--- a side of the square is one step
-pub known_square : needles_of_line square 0 ≡ at 0 0 ∷ at 30 0 ∷ at 30 30 ∷ at 0 30 ∷ at 0 0 ∷ []
-known_square = refl
-
-pub known_square_cost : cost_of_line square 0 ≡ 4
-known_square_cost = refl
-
--- three steps across and two down, each segment by itself
-pub known_steps : steps_of_line 10 (at 0 0 ∷ at 30 0 ∷ at 30 15 ∷ []) ≡ 5
-known_steps = refl
 
 -- a stroke forth and back takes its far end once
 pub known_retrace : needles_of_walk stroke (forth ∷ back ∷ [])

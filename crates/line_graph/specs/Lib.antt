@@ -1,11 +1,3 @@
--- Definitions of lower crates that public clauses cite.
-pub use Rattle.step_splitter.specs.Chains
-pub use Rattle.step_splitter.specs.Steps
-pub use Rattle.line_sections.specs.Lines
-pub use Rattle.line_sections.specs.Spots
-pub use Rattle.line_sections.specs.Sections
-pub mod Needles
-pub mod Drawings
 pub mod Walks
 pub mod Pieces
 -- Read these two first: the graph of a piece, and the fitting and least walks over it.
@@ -19,15 +11,8 @@ pub mod SewnWalks
 -- Walks as the needle sews them, without a graph.
 pub mod DrawnWalks
 pub mod UniquePieces
-pub mod LineNeedles
-pub mod GrowingDrawings
-pub mod JoinedDrawings
 -- The junctions where walks must start and end.
-pub mod WalkEnds
-pub mod EndOrders
--- The maker of drawings, and that growing drawings keep their limits.
-pub mod DrawingMakerInvariants
-pub mod GrowingLimits
+pub mod ConnectedSpots
 -- Used only inside this crate: the pieces.
 pub mod LineLabels
 pub mod FirstLines

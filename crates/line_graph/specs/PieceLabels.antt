@@ -5,10 +5,10 @@ use Rattle.std.specs.List.{range_with_len}
 use Rattle.std.specs.List.Sorted.{IsStrictlyIncreasing}
 use Rattle.design_model.specs.declared.point.Point.{Point}
 use Rattle.line_graph.specs.declared.edge.Edge.{Edge}
-use Rattle.line_graph.specs.Drawings.{DrawingValue, points_of}
+use Rattle.drawing_model.specs.Drawings.{DrawingValue, points_of, endpoints}
 use Rattle.line_graph.specs.LineLabels.{AreAtMostIndex, AreConnectedToLabels}
 use Rattle.line_graph.specs.PieceGraphs.{edge_between, with_points}
-use Rattle.line_graph.specs.Pieces.{AreConnected, LinesTouch, endpoints, first_line}
+use Rattle.line_graph.specs.Pieces.{AreConnected, LinesTouch, first_line}
 
 -- The lines of one piece in increasing order: all are connected, and each line that touches one of
 -- them is among them.

@@ -5,14 +5,8 @@ use Rattle.std.specs.List.{concat, list_any}
 use Rattle.std.specs.List.Sorted.{IsStrictlyIncreasing}
 use Rattle.design_model.specs.declared.point.Point.{Point}
 use Rattle.design_model.specs.Points.{is_same_point}
-use Rattle.step_splitter.specs.Chains.{last_point_or}
 use Rattle.line_sections.specs.Lines.{LineValue}
-use Rattle.line_graph.specs.Drawings.{DrawingValue}
-
--- The endpoints of a line: its first point and its last point.
-abbrev pub endpoints : List Point → List Point
-endpoints [] = []
-endpoints (p ∷ rest) = p ∷ last_point_or p rest ∷ []
+use Rattle.drawing_model.specs.Drawings.{DrawingValue, endpoints}
 
 -- Two lists of points have a point in common.
 abbrev pub shares_point : List Point → List Point → Bool

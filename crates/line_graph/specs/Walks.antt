@@ -1,18 +1,10 @@
--- The needle points of walks over the lines of a drawing. Costs count steps.
-use Rattle.std.specs.Prelude.{ℕ, ◌-◌, if◌then◌else◌, List, [], ◌∷◌, ◌++◌, length, reverse, drop}
+-- The needle points of walks over the lines of a drawing.
+use Rattle.std.specs.Prelude.{if◌then◌else◌, List, [], ◌∷◌, ◌++◌, reverse, drop}
 use Rattle.std.specs.List.{flat_map}
 use Rattle.design_model.specs.declared.point.Point.{Point}
 use Rattle.line_graph.specs.declared.pass.Pass.{Pass}
-use Rattle.line_graph.specs.Drawings.{DrawingValue, points_of}
-use Rattle.line_graph.specs.Needles.{needle_points}
-
--- The needle points of a line, at the drawing's longest step.
-abbrev pub needles_of_line : DrawingValue → ℕ → List Point
-needles_of_line d line = needle_points d.step (points_of d line)
-
--- The cost of a line: the number of its needle points less one.
-abbrev pub cost_of_line : DrawingValue → ℕ → ℕ
-cost_of_line d line = length (needles_of_line d line) - 1
+use Rattle.drawing_model.specs.Drawings.{DrawingValue}
+use Rattle.drawing_model.specs.LineNeedles.{needles_of_line}
 
 -- The needle points of a pass: those of its line, in reverse order where the pass goes backwards.
 abbrev pub needles_of_pass : DrawingValue → Pass → List Point

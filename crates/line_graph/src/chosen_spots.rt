@@ -2,14 +2,13 @@ ghost use Rattle.std.specs.Prelude.{◌≡◌, ◌≤◌, ◌∷◌, [], IfOk, l
 ghost use Rattle.std.specs.List.{list_any, position_or_len};
 ghost use Rattle.design_model.specs.Points.{is_same_point};
 ghost use Rattle.line_graph.specs.EndsMakerInvariants.{AreChosen};
-ghost use Rattle.line_graph.specs.GrowingDrawings.{ChangesAsSpecified};
+ghost use Rattle.drawing_model.specs.GrowingDrawings.{ChangesAsSpecified};
 ghost use Rattle.line_graph.specs.PieceLabels.{ArePieceLabels};
-ghost use Rattle.line_graph.specs.Pieces.{endpoints};
-ghost use Rattle.line_graph.specs.WalkEnds.{has_end_at_spot, spot_added};
+ghost use Rattle.drawing_model.specs.Drawings.{endpoints};
+ghost use Rattle.drawing_model.specs.WalkEnds.{has_end_at_spot, spot_added};
 
-use crate::draw_kind::DrawKind;
-use crate::drawing::Drawing;
 use design_model::Point;
+use drawing_model::{DrawKind, Drawing};
 use line_sections::{Line, Spot};
 use lists_and_numbers::Memory;
 use std::alloc::Global;

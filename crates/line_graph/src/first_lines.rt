@@ -3,9 +3,8 @@ ghost use Rattle.std.specs.HashMap.{get};
 ghost use Rattle.line_sections.specs.Spots.{is_same_spot};
 ghost use Rattle.line_graph.specs.FirstLines.{AddsLink, AreLinks, AreLinkedBelow, RecordsFirstLine};
 
-use crate::drawing::Drawing;
-use crate::drawn_lines::line_ends;
 use crate::line_labels::LineLink;
+use drawing_model::{Drawing, line_ends};
 use line_sections::Spot;
 use lists_and_numbers::Memory;
 use std::alloc::Global;

@@ -6,10 +6,10 @@ ghost use Rattle.line_graph.specs.PieceLabels.{IsPiece, lines_labelled};
 ghost use Rattle.line_graph.specs.Pieces.{first_line};
 
 use crate::degrees::degrees;
-use crate::drawing::Drawing;
 use crate::junctions::edges;
 use crate::piece::Piece;
 use design_model::{Point, Points};
+use drawing_model::Drawing;
 use indexmap::IndexSet;
 use line_sections::Spot;
 use lists_and_numbers::{Memory, Numbers};

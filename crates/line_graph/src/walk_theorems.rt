@@ -2,9 +2,9 @@ ghost use Rattle.line_graph.specs.DrawnWalks.{FittingWalksAreThreads, GivenPoint
 ghost use Rattle.line_graph.specs.UniquePieces.{PiecesAreUnique};
 ghost use Rattle.line_graph.specs.Runs.{RunsAreSewn};
 ghost use Rattle.line_graph.specs.SewnWalks.{FittingWalksAreSewable, PiecesKeepLimits};
-ghost use Rattle.line_graph.specs.WalkEnds.{SpotsAreConnected};
+ghost use Rattle.line_graph.specs.ConnectedSpots.{SpotsAreConnected};
 
-use crate::theorems::needles_lead_along;
+use drawing_model::needles_lead_along;
 use step_splitter::split_points_lead;
 
 /// Theorem: the design of runs sews the runs, where each has a needle point.

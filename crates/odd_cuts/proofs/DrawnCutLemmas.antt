@@ -6,13 +6,13 @@ use Rattle.std.specs.List.{count_by}
 use Rattle.std.specs.Option.{option_or}
 use Rattle.design_model.specs.declared.point.Point.{Point}
 use Rattle.line_graph.specs.declared.edge.Edge.{Edge}
-use Rattle.line_graph.specs.Drawings.{DrawingValue, block_of}
+use Rattle.drawing_model.specs.Drawings.{DrawingValue, block_of}
 use Rattle.line_graph.specs.DrawnWalks.{GivenPointsAreJunctions, given_point}
 use Rattle.line_graph.specs.PieceGraphs.{closing_edge, edge_between, edges_with_closing, first_junction_among, junction_number, junctions_of, one_if, piece_graph}
 use Rattle.line_graph.specs.Pieces.{first_line}
 use Rattle.line_graph.specs.PieceWalks.{edge_sum}
 use Rattle.line_graph.specs.ValidPieces.{IsValidPiece}
-use Rattle.line_graph.specs.Walks.{cost_of_line}
+use Rattle.drawing_model.specs.LineNeedles.{cost_of_line}
 use Rattle.odd_cuts.specs.declared.cut.Cut.{Cut}
 use Rattle.odd_cuts.specs.Cuts.{has_member, load_on}
 use Rattle.odd_cuts.specs.DrawnCuts.{IsOddOver, PackingsAreOverLines, given_apart, leads_out}

@@ -16,7 +16,7 @@ use Rattle.odd_cuts.specs.Cuts.{load_on, total_weight}
 use Rattle.line_graph.specs.PieceGraphs.{PieceValue}
 use Rattle.odd_cuts.proofs.TableLemmas.{blank}
 use Rattle.line_graph.specs.declared.edge.Edge.{Edge}
-use Rattle.line_graph.specs.declared.limits.TheConstants.{MAX_LINES}
+use Rattle.drawing_model.specs.declared.limits.TheConstants.{MAX_LINES}
 
 -- each member of the cut has a number
 abbrev Numbered : Cut → Type 0

@@ -8,7 +8,7 @@ use Rattle.odd_cuts.specs.Cuts.{has_member}
 use Rattle.odd_cuts.specs.Packings.{odd_held}
 use Rattle.odd_cuts.proofs.Degrees.{odd_counted, odd_in}
 use Rattle.line_graph.specs.declared.edge.Edge.{Edge}
-use Rattle.line_graph.specs.declared.limits.TheConstants.{MAX_LINES}
+use Rattle.drawing_model.specs.declared.limits.TheConstants.{MAX_LINES}
 use Rattle.line_graph.specs.ValidPieces.{IsValidPiece}
 use Rattle.line_graph.specs.PieceGraphs.{PieceValue, edges_with_closing, closing_edge, degree, degrees_from, given_start, is_odd, given_end}
 use Rattle.line_graph.proofs.CallerLemmas.{degree_closed, degrees_few}

@@ -12,7 +12,8 @@ use crate::faults::CutFault;
 use crate::held_junctions::{MAX_JUNCTIONS, count_odd, held_by, parities_of};
 use crate::line_loads::{add_shares, check_loads};
 use crate::slices::first_lent;
-use line_graph::{MAX_LINES, Piece};
+use drawing_model::MAX_LINES;
+use line_graph::Piece;
 
 /// Checks that cuts are a packing of a piece with a total weight of twice the retraced cost, which is in
 /// steps. Reports the first fault. Over the cuts in order: a member that is no junction, then an even number

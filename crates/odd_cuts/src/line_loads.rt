@@ -3,12 +3,13 @@ ghost use Rattle.odd_cuts.specs.CheckTables.{AddsShares, AreAtMost, AreMemberFla
 ghost use Rattle.odd_cuts.specs.Faults.{ReportsFault};
 ghost use Rattle.odd_cuts.specs.CutFaults.{load_fault};
 ghost use Rattle.line_graph.specs.ValidPieces.{ends_below};
-ghost use Rattle.line_graph.specs.declared.limits.TheConstants.{MAX_LINES as most_lines};
+ghost use Rattle.drawing_model.specs.declared.limits.TheConstants.{MAX_LINES as most_lines};
 
 use crate::cut::Cut;
 use crate::faults::CutFault;
 use crate::held_junctions::MAX_JUNCTIONS;
-use line_graph::{Edge, MAX_LINES, Piece};
+use drawing_model::MAX_LINES;
+use line_graph::{Edge, Piece};
 
 /// Adds the load of a cut to the load of each edge.
 pub(crate) fn add_shares(

@@ -7,7 +7,7 @@ use Rattle.std.proofs.lemmas.List.Sums.{count_by-le-length, length-filter}
 use Rattle.std.specs.List.{filter, range_with_len}
 use Rattle.std.specs.Prelude.{nat_lt, cond}
 use Rattle.line_graph.specs.declared.edge.Edge.{Edge}
-use Rattle.line_graph.specs.declared.limits.TheConstants.{MAX_LINES}
+use Rattle.drawing_model.specs.declared.limits.TheConstants.{MAX_LINES}
 use Rattle.line_graph.specs.ValidPieces.{IsValidPiece, ends_below}
 use Rattle.line_graph.specs.PieceGraphs.{PieceValue, one_if, edges_with_closing, closing_edge, degree, degrees_from, given_start, is_odd, odd_junctions, given_end}
 use Rattle.line_graph.specs.ClosedDegrees.{closing_ends}

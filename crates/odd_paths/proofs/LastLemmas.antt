@@ -6,7 +6,7 @@ use Rattle.std.proofs.lemmas.Option.{slice_get_within}
 use Rattle.std.proofs.lemmas.Bool.Decides.{nat_tests}
 use Rattle.std.specs.Prelude.{nat_le, slice_get, slice_index, nat_eq, if◌then◌else◌}
 use Rattle.line_graph.specs.declared.edge.Edge.{Edge}
-use Rattle.line_graph.specs.declared.limits.TheConstants.{MAX_LINES}
+use Rattle.drawing_model.specs.declared.limits.TheConstants.{MAX_LINES}
 use Rattle.line_graph.specs.ValidPieces.{all_costs_positive}
 use Rattle.line_graph.specs.PieceWalks.{edge_cost, edge_value}
 use Rattle.odd_paths.specs.EdgeWalks.{Connects, IsEdgeWalk, edge_walk_cost, IsLeastRow, EndsAreBelow}

@@ -3,7 +3,7 @@ use Rattle.std.proofs.Common.{◌≡◌, ℕ, ◌+◌, ◌<◌, ◌≤◌, true,
 use Rattle.std.proofs.lemmas.Bool.{lt-ltb, ltb-true}
 use Rattle.std.specs.Prelude.{nat_lt, slice_index, slice_set}
 use Rattle.line_graph.specs.declared.edge.Edge.{Edge}
-use Rattle.line_graph.specs.declared.limits.TheConstants.{MAX_COST}
+use Rattle.drawing_model.specs.declared.limits.TheConstants.{MAX_COST}
 use Rattle.line_graph.specs.ValidPieces.{NoEdgeLeaves}
 use Rattle.line_graph.specs.PieceWalks.{edge_cost, edge_sum}
 use Rattle.odd_paths.specs.declared.sweeps.TheConstants.{FAR}

@@ -1,5 +1,5 @@
 ghost use Rattle.std.specs.Prelude.{◌≡◌, ◌<◌, ◌≤◌, IfOk, length};
-ghost use Rattle.line_graph.specs.declared.limits.TheConstants.{MAX_LINES};
+ghost use Rattle.drawing_model.specs.declared.limits.TheConstants.{MAX_LINES};
 ghost use Rattle.odd_paths.specs.declared.edge_order.TheConstants.{INDEXES};
 ghost use Rattle.odd_paths.specs.EdgeWalks.{EndsAreBelow};
 

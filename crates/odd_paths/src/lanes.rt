@@ -1,5 +1,5 @@
 ghost use Rattle.std.specs.Prelude.{◌≡◌, ◌+◌, ◌<◌, ◌≤◌, ◌||◌, false, length, slice_index, sum};
-ghost use Rattle.line_graph.specs.declared.limits.TheConstants.{MAX_COST};
+ghost use Rattle.drawing_model.specs.declared.limits.TheConstants.{MAX_COST};
 ghost use Rattle.line_graph.specs.PieceGraphs.{one_if};
 ghost use Rattle.odd_paths.specs.declared.sweeps.TheConstants.{FAR};
 ghost use Rattle.odd_paths.specs.Lanes.{EachLane, IsCapped, IsNoLower, CanRelax, lane_column, relaxed_cost, weight};

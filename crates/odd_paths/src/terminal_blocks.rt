@@ -1,5 +1,5 @@
 ghost use Rattle.std.specs.Prelude.{ℕ, ◌≡◌, ◌≢◌, ◌++◌, ◌<◌, ◌≤◌, false, All, IfOk, OnOk, length, replicate, slice_index, slice_set};
-ghost use Rattle.line_graph.specs.declared.limits.TheConstants.{MAX_LINES};
+ghost use Rattle.drawing_model.specs.declared.limits.TheConstants.{MAX_LINES};
 ghost use Rattle.odd_paths.specs.declared.sweeps.TheConstants.{FAR};
 ghost use Rattle.odd_paths.specs.Lanes.{AddsColumns, AddsRows, AreLeastColumns, HaveStarts, IsCapped, lane_column};
 ghost use Rattle.odd_paths.specs.EdgeWalks.{EndsAreBelow, IsGraph};

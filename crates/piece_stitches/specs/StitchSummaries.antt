@@ -3,8 +3,8 @@
 use Rattle.std.specs.Prelude.{ℕ, max, min, Bool, nat_lt, List, [], ◌∷◌, filter, length, sum_by}
 use Rattle.std.specs.List.{flat_map}
 use Rattle.design_model.specs.declared.point.Point.{Point}
-use Rattle.line_graph.specs.Drawings.{DrawingValue}
-use Rattle.line_graph.specs.Walks.{needles_of_line}
+use Rattle.drawing_model.specs.Drawings.{DrawingValue}
+use Rattle.drawing_model.specs.LineNeedles.{needles_of_line}
 use Rattle.picture_parts.specs.Lengths.{length_of}
 use Rattle.piece_stitches.specs.declared.stitch_summary.StitchSummary.{StitchSummary}
 

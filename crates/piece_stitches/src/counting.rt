@@ -1,12 +1,13 @@
 ghost use Rattle.std.specs.Prelude.{◌≡◌, ◌++◌, ◌∷◌, ◌+◌, ◌<◌, ◌≤◌, ◌^◌, [], All, IfOk, OnOk, length};
-ghost use Rattle.line_graph.specs.declared.limits.TheConstants.{MAX_LINES};
+ghost use Rattle.drawing_model.specs.declared.limits.TheConstants.{MAX_LINES};
 ghost use Rattle.line_graph.specs.PiecesOfDrawings.{ArePiecesOf};
 ghost use Rattle.piece_stitches.specs.PieceStitches.{HasLinesOf, HasSmallLengths, HasSmallTotals, stitches_of_piece, stitches_of_pieces, total_thread, total_travel};
 
 use crate::stitch_summary::StitchSummary;
 use crate::summing::summary_of;
 use crate::travelling::travel;
-use line_graph::{Drawing, Piece, pieces_keep_limits};
+use drawing_model::Drawing;
+use line_graph::{Piece, pieces_keep_limits};
 use lists_and_numbers::{Items, Memory};
 use odd_cuts::first_lent;
 use std::alloc::Global;

@@ -1,12 +1,12 @@
 ghost use Rattle.std.specs.Prelude.{◌≡◌, ◌+◌, ◌*◌, ◌^◌, ◌<◌, ◌≤◌, All, IfOk, length};
-ghost use Rattle.line_graph.specs.declared.limits.TheConstants.{MAX_COST, MAX_LINES};
-ghost use Rattle.line_graph.specs.Walks.{needles_of_line};
+ghost use Rattle.drawing_model.specs.declared.limits.TheConstants.{MAX_COST, MAX_LINES};
+ghost use Rattle.drawing_model.specs.LineNeedles.{needles_of_line};
 ghost use Rattle.piece_stitches.specs.GrowingSummaries.{IsSummary, no_stitches, shorter, with_stitch, with_stitches};
 ghost use Rattle.piece_stitches.specs.StitchSummaries.{lengths_after, stitch_lengths, summary_of_lines};
 
 use crate::stitch_summary::StitchSummary;
 use design_model::Point;
-use line_graph::{Drawing, needles};
+use drawing_model::{Drawing, needles};
 use line_sections::first_point;
 use lists_and_numbers::Memory;
 use odd_cuts::first_and_rest;

@@ -3,8 +3,8 @@ ghost use Rattle.program_shell.specs.FileTexts.{text_at};
 ghost use Rattle.program_texts.specs.DrawingTexts.{draw_fault_text, draw_kind_text, step_limit_text, trace_fault_text};
 
 use crate::design_texts::describe_command;
+use drawing_model::DrawKind;
 use drawing_text::DrawFault;
-use line_graph::DrawKind;
 use lists_and_numbers::Memory;
 use program_shell::{describe_file, describe_part};
 use std::alloc::Global;

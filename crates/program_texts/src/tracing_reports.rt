@@ -3,7 +3,7 @@ ghost use Rattle.line_sections.specs.Sections.{segments_of};
 ghost use Rattle.program_texts.specs.TracingReports.{segment_count, traced_line, tracing_report};
 
 use design_model::Point;
-use line_graph::Drawing;
+use drawing_model::Drawing;
 use lists_and_numbers::{Bytes, Memory};
 use std::alloc::Global;
 

@@ -7,7 +7,7 @@ use Rattle.odd_cuts.specs.Certificates.{HasCanonicalText, walks_of}
 use Rattle.double_run.specs.DoubleWalks.{IsDouble, without_ends}
 use Rattle.line_graph.specs.declared.piece.Piece.{Piece}
 use Rattle.line_graph.specs.PiecesOfDrawings.{graph_of}
-use Rattle.line_graph.specs.Drawings.{DrawingValue}
+use Rattle.drawing_model.specs.Drawings.{DrawingValue}
 use Rattle.line_graph.specs.PieceGraphs.{PieceValue, piece_graph}
 use Rattle.line_graph.specs.Pieces.{ArePieces}
 use Rattle.line_graph.specs.PieceWalks.{is_fitting_walk, piece_cost, walk_cost}

@@ -4,7 +4,8 @@ ghost use Rattle.route_core.specs.Doubles.{AreDoubled, IsDoubleOver, IsDoubleCer
 
 use crate::routed::Routed;
 use double_run::double;
-use line_graph::{Drawing, Piece, fitting_walks_are_sewable, pieces_keep_limits};
+use drawing_model::Drawing;
+use line_graph::{Piece, fitting_walks_are_sewable, pieces_keep_limits};
 use lists_and_numbers::Memory;
 use odd_cuts::{Cert, Cuts, PieceCert, PieceCerts, first_lent};
 use route_verdict::sew;

@@ -1,6 +1,6 @@
 ghost use Rattle.std.specs.Prelude.{◌≡◌, ◌%◌, ◌<◌, ◌≤◌, ◌∷◌, ◌^◌, All, IfOk, []};
 ghost use Rattle.odd_cuts.specs.Certificates.{HasCanonicalText};
-ghost use Rattle.line_graph.specs.declared.limits.TheConstants.{MAX_COST, MAX_LINES};
+ghost use Rattle.drawing_model.specs.declared.limits.TheConstants.{MAX_COST, MAX_LINES};
 ghost use Rattle.line_graph.specs.PiecesOfDrawings.{graph_of};
 ghost use Rattle.odd_paths.specs.LeastRows.{AreRows};
 ghost use Rattle.route_core.specs.Copies.{IsPairOf, pair_costs};

@@ -5,7 +5,8 @@ ghost use Rattle.route_core.specs.Routes.{IsRoute, IsRouteOver};
 
 use crate::piece_route::route_piece;
 use crate::routed::Routed;
-use line_graph::{Drawing, Piece, fitting_walks_are_sewable, pieces, pieces_keep_limits};
+use drawing_model::Drawing;
+use line_graph::{Piece, fitting_walks_are_sewable, pieces, pieces_keep_limits};
 use lists_and_numbers::Memory;
 use odd_cuts::{Cert, PieceCerts, first_lent, packings_keep_their_total};
 use route_verdict::sew;

@@ -1,6 +1,7 @@
 use double_run::double;
+use drawing_model::{DrawKind, Drawing, DrawingMaker};
 use drawing_tests::points_of;
-use line_graph::{DrawKind, Drawing, DrawingMaker, pieces};
+use line_graph::pieces;
 use lists_and_numbers::Memory;
 use std::alloc::Global;
 use std::test::Fail;

@@ -3,8 +3,9 @@ ghost use Rattle.route_verdict.specs.Verdicts.{HasShortLists};
 
 use crate::cert_parts::{members_of, pass_of};
 use design_model::{Command, Design, ModelFault, Point};
+use drawing_model::{DrawKind, Drawing, DrawingMaker};
 use drawing_tests::points_of;
-use line_graph::{DrawKind, Drawing, DrawingMaker, Walk};
+use line_graph::Walk;
 use lists_and_numbers::Memory;
 use odd_cuts::{Cert, Cut, CutFault, Cuts, PieceCert, PieceCerts, WalkFault};
 use route_verdict::{Reason, Verdict, judge};

@@ -11,7 +11,7 @@ ghost use Rattle.route_verdict.specs.SewingSteps.{AllDrawn};
 use crate::sewing::block_of_walk;
 use crate::walk_needles::walk_needles;
 use design_model::{Act, NumberedAct, Point};
-use line_graph::Drawing;
+use drawing_model::Drawing;
 use lists_and_numbers::Memory;
 use odd_cuts::{PieceCert, first_and_rest, first_lent};
 use std::alloc::Global;

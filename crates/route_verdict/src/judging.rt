@@ -10,7 +10,8 @@ use crate::piece_reasons::{wrong_count, wrong_piece};
 use crate::theorems::yes_is_least_redwork;
 use crate::verdict::{Reason, Verdict};
 use design_model::{Design, acts};
-use line_graph::{Drawing, Piece, fitting_walks_are_sewable, pieces, pieces_keep_limits};
+use drawing_model::Drawing;
+use line_graph::{Piece, fitting_walks_are_sewable, pieces, pieces_keep_limits};
 use lists_and_numbers::Memory;
 use odd_cuts::{
     Cert, PieceCert, cut_faults_are_exact, packings_bound_walks, packings_prove_least,

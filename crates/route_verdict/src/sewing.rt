@@ -8,11 +8,12 @@ ghost use Rattle.line_graph.specs.Walks.{needles_of_walk};
 ghost use Rattle.odd_cuts.specs.Certificates.{walks_of};
 ghost use Rattle.design_model.specs.LongerDesigns.{with_commands};
 ghost use Rattle.route_verdict.specs.SewingSteps.{AllDrawn, AreDrawn, run_commands};
-ghost use Rattle.line_graph.specs.Chains.{IsNeedlePoint};
+ghost use Rattle.drawing_model.specs.Chains.{IsNeedlePoint};
 
 use crate::walk_needles::walk_needles;
 use design_model::{Command, Design, ModelFault, Point};
-use line_graph::{Drawing, Pass, needles_lead_along};
+use drawing_model::{Drawing, needles_lead_along};
+use line_graph::Pass;
 use lists_and_numbers::Memory;
 use odd_cuts::{Cert, PieceCert, first_and_rest, first_lent};
 use std::alloc::Global;

@@ -3,7 +3,8 @@ ghost use Rattle.line_graph.specs.Walks.{needles_of_pass, needles_of_walk};
 ghost use Rattle.route_verdict.specs.SewingSteps.{AreDrawn, later_needles};
 
 use design_model::{Point, Points};
-use line_graph::{Drawing, Pass, needles};
+use drawing_model::{Drawing, needles};
+use line_graph::Pass;
 use lists_and_numbers::Memory;
 use odd_cuts::first_and_rest;
 use std::alloc::Global;

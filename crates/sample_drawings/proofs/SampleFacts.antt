@@ -3,7 +3,7 @@
 use Rattle.std.proofs.Common.{◌≡◌, ◌+◌, ◌*◌, ◌∷◌, [], ℕ, codes, length, map, pos, refl}
 use Rattle.design_model.specs.declared.point.Point.{Point}
 use Rattle.line_sections.specs.Lines.{LineValue}
-use Rattle.line_graph.specs.Needles.{steps_of_line}
+use Rattle.drawing_model.specs.Needles.{steps_of_line}
 use Rattle.sample_drawings.specs.declared.segment.Segment.{Segment}
 use Rattle.sample_drawings.specs.Draws.{drawn_number, state_after}
 use Rattle.sample_drawings.specs.Samples.{cells_per_side, cell_kind, grid_junction, row_by_row, sample_drawing_of, sample_segments}

@@ -4,11 +4,11 @@ use Rattle.std.proofs.lemmas.Bool.Decides.{nat_tests}
 use Rattle.std.specs.List.{list_any}
 use Rattle.design_model.specs.declared.point.Point.{Point}
 use Rattle.lists_and_numbers.specs.OutOfMemory.{IsSpecified}
-use Rattle.line_graph.specs.declared.draw_kind.DrawKind.{DrawKind}
-use Rattle.line_graph.specs.declared.draw_kind.DrawKind.TheVariants as kind
-use Rattle.line_graph.specs.Drawings.{DrawingValue}
-use Rattle.line_graph.specs.GrowingDrawings.{finished_drawing, line_added, point_count, step_count, draw_is_out_of_memory}
-use Rattle.line_graph.specs.Needles.{steps_of_line}
+use Rattle.drawing_model.specs.declared.draw_kind.DrawKind.{DrawKind}
+use Rattle.drawing_model.specs.declared.draw_kind.DrawKind.TheVariants as kind
+use Rattle.drawing_model.specs.Drawings.{DrawingValue}
+use Rattle.drawing_model.specs.GrowingDrawings.{finished_drawing, line_added, point_count, step_count, draw_is_out_of_memory}
+use Rattle.drawing_model.specs.Needles.{steps_of_line}
 use Rattle.sample_drawings.specs.declared.segment.Segment.{Segment}
 use Rattle.sample_drawings.specs.Samples.{line_across, cells_per_side, diagonals, line_down, line_along, row_by_row, sample_segments}
 use Rattle.sample_drawings.specs.SampleRoom.{HasRoom, IsShortSegment, first_block, with_segments}

@@ -1,6 +1,6 @@
 ghost use Rattle.std.specs.Prelude.{◌≡◌, ◌≤◌, ◌∷◌, [], All, IfOk, OnOk, length};
-ghost use Rattle.line_graph.specs.declared.draw_kind.DrawKind.TheVariants as kind;
-ghost use Rattle.line_graph.specs.WalkEnds.{HasNoEnds};
+ghost use Rattle.drawing_model.specs.declared.draw_kind.DrawKind.TheVariants as kind;
+ghost use Rattle.drawing_model.specs.WalkEnds.{HasNoEnds};
 ghost use Rattle.sample_drawings.specs.declared.draws.TheConstants.{MAX_NUMBER};
 ghost use Rattle.sample_drawings.specs.Samples.{sample_drawing_of};
 ghost use Rattle.sample_drawings.specs.SampleRoom.{HasRoom, IsShortSegment, first_block, with_segments};
@@ -9,7 +9,7 @@ use crate::grid::Grid;
 use crate::grid_lines::segments;
 use crate::segment::Segment;
 use design_model::Points;
-use line_graph::{DrawKind, Drawing, DrawingMaker};
+use drawing_model::{DrawKind, Drawing, DrawingMaker};
 use lists_and_numbers::Memory;
 use std::alloc::Global;
 

@@ -12,7 +12,7 @@ use Rattle.format_traits.specs.Meanings.{Meaning}
 use Rattle.hoop_check.specs.declared.fitting.Fit.{Fit}
 use Rattle.hoop_check.specs.declared.fitting.Fit.TheVariants as fit
 use Rattle.hoop_check.specs.Fits.{fit_of}
-use Rattle.line_graph.specs.Drawings.{DrawingValue}
+use Rattle.drawing_model.specs.Drawings.{DrawingValue}
 use Rattle.line_graph.specs.UniquePieces.{PiecesAreUnique}
 use Rattle.outside_io.specs.Files.{Files}
 use Rattle.program_shell.specs.ExactPlans.{IsExact, IsSoundProgram}

@@ -4,7 +4,7 @@ use Rattle.odd_cuts.specs.declared.certificate.PieceCert.{PieceCert}
 use Rattle.certificate_text.specs.ReadCertificates.{cert_of}
 use Rattle.drawing_text.specs.DrawingText.{drawing_of}
 use Rattle.format_traits.specs.declared.loaded.Loaded.{Loaded}
-use Rattle.line_graph.specs.Drawings.{DrawingValue}
+use Rattle.drawing_model.specs.Drawings.{DrawingValue}
 use Rattle.outside_io.specs.Files.{Files, FileHolds}
 use Rattle.route_verdict.specs.LeastRedwork.{IsLeastRedwork, IsLeastRoute}
 use Rattle.stitch_cli.specs.Checks.{CheckOrder}

@@ -12,7 +12,7 @@ use Rattle.drawing_text.specs.ValidTexts.{TextsDefineValidDrawings}
 use Rattle.format_traits.specs.declared.fault.ReadFault.{ReadFault}
 use Rattle.format_traits.specs.declared.loaded.Loaded.{Loaded}
 use Rattle.format_traits.specs.Meanings.{Meaning}
-use Rattle.line_graph.specs.Drawings.{DrawingValue}
+use Rattle.drawing_model.specs.Drawings.{DrawingValue}
 use Rattle.line_graph.specs.PieceGraphs.{piece_graph}
 use Rattle.line_graph.specs.Runs.{Sews}
 use Rattle.outside_io.specs.Files.{Files, FileHolds}

@@ -2,7 +2,7 @@
 use Rattle.std.proofs.Common.{ℕ, inl, [], None, Ok, codes, refl}
 use Rattle.format_traits.specs.declared.loaded.Loaded.{Loaded}
 use Rattle.format_traits.specs.Meanings.{Meaning}
-use Rattle.line_graph.specs.Drawings.{DrawingValue}
+use Rattle.drawing_model.specs.Drawings.{DrawingValue}
 use Rattle.program_texts.specs.DrawingTexts.{step_limit_text}
 use Rattle.stitch_cli.specs.Checks.{CheckOrder, check_design, check_drawing, check_plan}
 use Rattle.program_shell.specs.Plans.{AttemptsRead, IsAccepted, Refuses}

@@ -9,7 +9,7 @@ use Rattle.design_model.specs.Designs.{DesignValue, empty_design}
 use Rattle.lists_and_numbers.specs.TextLines.{newline}
 use Rattle.format_traits.specs.declared.fault.WriteFault.TheVariants as write
 use Rattle.format_traits.specs.Meanings.{Meaning}
-use Rattle.line_graph.specs.Drawings.{DrawingValue}
+use Rattle.drawing_model.specs.Drawings.{DrawingValue}
 use Rattle.line_graph.specs.Pieces.{ArePieces}
 use Rattle.line_graph.specs.Runs.{Sews}
 use Rattle.odd_cuts.specs.declared.certificate.PieceCert.{PieceCert}

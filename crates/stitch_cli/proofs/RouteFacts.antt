@@ -5,7 +5,7 @@ use Rattle.std.specs.Prelude.{codes}
 use Rattle.odd_cuts.specs.declared.certificate.PieceCert.{PieceCert}
 use Rattle.lists_and_numbers.specs.TextLines.{newline}
 use Rattle.design_model.specs.declared.point.Point.{Point}
-use Rattle.line_graph.specs.Drawings.{DrawingValue}
+use Rattle.drawing_model.specs.Drawings.{DrawingValue}
 use Rattle.stitch_cli.specs.Sewings.{piece_reports}
 use Rattle.route_texts.specs.declared.sewing_reports.Sewing.TheVariants as ways
 use Rattle.route_texts.specs.SewingReports.{sewing_report}

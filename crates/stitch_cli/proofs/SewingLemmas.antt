@@ -11,7 +11,7 @@ use Rattle.certificate_text.specs.ReadCertificates.{cert_of}
 use Rattle.format_traits.specs.PlainDesigns.{IsPlain}
 use Rattle.line_graph.specs.declared.piece.Piece.{Piece}
 use Rattle.line_graph.specs.PiecesOfDrawings.{ArePiecesOf, graph_of, lines_of_pieces}
-use Rattle.line_graph.specs.Drawings.{DrawingValue}
+use Rattle.drawing_model.specs.Drawings.{DrawingValue}
 use Rattle.line_graph.specs.PieceGraphs.{PieceValue, piece_graph}
 use Rattle.line_graph.specs.PieceWalks.{piece_cost}
 use Rattle.line_graph.specs.Runs.{Run, block_of_passes, runs_of}

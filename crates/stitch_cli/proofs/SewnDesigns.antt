@@ -20,7 +20,7 @@ use Rattle.format_traits.specs.MoveHops.{hops_of}
 use Rattle.format_traits.specs.Refusals.{stops_of}
 use Rattle.format_traits.specs.Rooms.{room_of_loose, room_from}
 use Rattle.line_graph.specs.declared.pass.Pass.{Pass}
-use Rattle.line_graph.specs.Drawings.{DrawingValue}
+use Rattle.drawing_model.specs.Drawings.{DrawingValue}
 use Rattle.line_graph.specs.Runs.{AreNear, AreWritable, Run, RunsAreSewn, Sews, commands_after, design_of_runs, runs_of, sewn_design, stops_after}
 use Rattle.step_splitter.specs.Chains.{IsNeedlePoint, AreCloseAfter}
 use Rattle.design_model.proofs.CallerLemmas.{within_more}

@@ -11,7 +11,7 @@ use Rattle.drawing_text.specs.DrawingText.{drawing_of}
 use Rattle.format_traits.specs.declared.fault.ReadFault.{ReadFault}
 use Rattle.format_traits.specs.declared.loaded.Loaded.{Loaded}
 use Rattle.format_traits.specs.Meanings.{Meaning}
-use Rattle.line_graph.specs.Drawings.{DrawingValue}
+use Rattle.drawing_model.specs.Drawings.{DrawingValue}
 use Rattle.route_verdict.specs.declared.verdict.Reason.{Reason}
 use Rattle.route_verdict.specs.declared.verdict.Verdict.TheVariants as verdict
 use Rattle.route_verdict.specs.LeastRedwork.{IsLeastRedwork}

@@ -6,7 +6,7 @@ use Rattle.odd_cuts.specs.declared.certificate.PieceCert.{PieceCert}
 use Rattle.certificate_text.specs.CertificateTexts.{certificate_text}
 use Rattle.certificate_text.specs.ReadCertificates.{cert_of}
 use Rattle.format_traits.specs.Meanings.{Meaning}
-use Rattle.line_graph.specs.Drawings.{DrawingValue}
+use Rattle.drawing_model.specs.Drawings.{DrawingValue}
 use Rattle.line_graph.specs.Pieces.{ArePieces}
 use Rattle.odd_cuts.specs.Certificates.{walks_of}
 use Rattle.route_core.specs.Doubles.{IsDoubled}

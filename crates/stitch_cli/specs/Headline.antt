@@ -7,7 +7,7 @@ use Rattle.certificate_text.specs.ReadCertificates.{cert_of}
 use Rattle.drawing_text.specs.DrawingText.{drawing_of}
 use Rattle.format_traits.specs.declared.loaded.Loaded.{Loaded}
 use Rattle.format_traits.specs.Meanings.{Meaning}
-use Rattle.line_graph.specs.Drawings.{DrawingValue}
+use Rattle.drawing_model.specs.Drawings.{DrawingValue}
 use Rattle.outside_io.specs.Files.{Files, FileHolds}
 use Rattle.program_shell.specs.declared.status.Status.{Status}
 use Rattle.program_shell.specs.declared.status.Status.TheVariants as status

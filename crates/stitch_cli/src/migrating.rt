@@ -7,8 +7,9 @@ ghost use Rattle.stitch_cli.specs.Migrations.{IsMigrated, complete_migrate, migr
 ghost use Rattle.program_shell.specs.Products.{product_value};
 
 use drawing_inputs::drawing_as2_in;
+use drawing_model::{Drawing, drawing_cost};
 use drawing_text::print_drawing2;
-use line_graph::{Drawing, drawing_cost, pieces};
+use line_graph::pieces;
 use lists_and_numbers::Memory;
 use outside_io::Store;
 use program_shell::{Failure, Output, Product, one_output};

@@ -1,5 +1,5 @@
 ghost use Rattle.std.specs.Prelude.{◌≤◌, IfOk};
-ghost use Rattle.line_graph.specs.WalkEnds.{HasNoEnds};
+ghost use Rattle.drawing_model.specs.WalkEnds.{HasNoEnds};
 ghost use Rattle.outside_io.specs.Files.{IsFileName};
 ghost use Rattle.sample_drawings.specs.declared.draws.TheConstants.{MAX_NUMBER};
 ghost use Rattle.sample_drawings.specs.Samples.{sample_drawing_of};
@@ -7,8 +7,9 @@ ghost use Rattle.program_shell.specs.StepOutcomes.{RunsPurePlan};
 ghost use Rattle.program_shell.specs.Products.{product_value};
 ghost use Rattle.stitch_cli.specs.Samples.{IsSampleProduct, sample_order, sample_plan};
 
+use drawing_model::Drawing;
 use drawing_text::print_drawing;
-use line_graph::{Drawing, pieces};
+use line_graph::pieces;
 use lists_and_numbers::Memory;
 use program_shell::{Failure, Output, Product, one_output};
 use route_core::route_pieces;

@@ -11,9 +11,9 @@ ghost use Rattle.program_shell.specs.Products.{product_value};
 ghost use Rattle.stitch_cli.specs.Tracings.{IsTraced, complete_trace, trace_made, trace_order, trace_plan};
 
 use design_model::Design;
+use drawing_model::Drawing;
 use drawing_text::print_drawing2;
 use format_traits::{Format, find};
-use line_graph::Drawing;
 use lists_and_numbers::Memory;
 use outside_io::Store;
 use program_shell::{Failure, Output, Product, load_at, one_output};

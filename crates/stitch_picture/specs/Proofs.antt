@@ -4,7 +4,7 @@ use Rattle.certificate_text.specs.ReadCertificates.{cert_of}
 use Rattle.drawing_picture.specs.CheckedProofs.{IsFirstFault, IsShownProof}
 use Rattle.drawing_text.specs.declared.draw_fault.DrawFault.{DrawFault}
 use Rattle.drawing_text.specs.DrawingText.{drawing_of}
-use Rattle.line_graph.specs.Drawings.{DrawingValue}
+use Rattle.drawing_model.specs.Drawings.{DrawingValue}
 use Rattle.odd_cuts.specs.declared.certificate.PieceCert.{PieceCert}
 use Rattle.program_shell.specs.FileTexts.{text_at}
 use Rattle.program_shell.specs.Plans.{Plan, reads, refuses, satisfies}

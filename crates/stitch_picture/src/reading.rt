@@ -10,8 +10,8 @@ ghost use Rattle.program_texts.specs.DrawingTexts.{draw_fault_text};
 ghost use Rattle.stitch_picture.specs.declared.reading.LinesRead.{LinesRead as LinesReadValue};
 ghost use Rattle.stitch_picture.specs.DrawnPictures.{lines_read};
 
+use drawing_model::{DrawKind, Drawing};
 use drawing_text::{DrawFault, DrawnLines, read_drawing, read_lines};
-use line_graph::{DrawKind, Drawing};
 use lists_and_numbers::Memory;
 use outside_io::Store;
 use program_shell::{Failure, read_input};

@@ -10,11 +10,11 @@ use Rattle.design_model.specs.Blocks.{blocks_of}
 use Rattle.design_model.specs.Designs.{DesignValue, thread_of}
 use Rattle.line_sections.specs.Lines.{LineValue}
 use Rattle.line_sections.specs.Sections.{SectionsKeepSegments, all_sections, is_shared_point, line_sections, lines_through, sections_of, segments_of}
-use Rattle.line_graph.specs.declared.draw_kind.DrawKind.{DrawKind}
-use Rattle.line_graph.specs.declared.draw_kind.DrawKind.TheVariants as kind
-use Rattle.line_graph.specs.Drawings.{DrawingValue}
-use Rattle.line_graph.specs.GrowingDrawings.{and_then, all_in_needle_range, block_added, empty_drawing, finished_drawing, is_last_empty, line_added, point_count, steps_with_line, with_new_block, with_new_line}
-use Rattle.line_graph.specs.JoinedDrawings.{joined_drawing}
+use Rattle.drawing_model.specs.declared.draw_kind.DrawKind.{DrawKind}
+use Rattle.drawing_model.specs.declared.draw_kind.DrawKind.TheVariants as kind
+use Rattle.drawing_model.specs.Drawings.{DrawingValue}
+use Rattle.drawing_model.specs.GrowingDrawings.{and_then, all_in_needle_range, block_added, empty_drawing, finished_drawing, is_last_empty, line_added, point_count, steps_with_line, with_new_block, with_new_line}
+use Rattle.drawing_model.specs.JoinedDrawings.{joined_drawing}
 use Rattle.stitch_trace.specs.declared.links.Link.{Link}
 use Rattle.stitch_trace.specs.declared.strands.Strand.{Strand}
 use Rattle.stitch_trace.specs.declared.trace_fault.TraceFault.{TraceFault}

@@ -17,9 +17,9 @@ use Rattle.design_model.specs.Acts.{acts_from}
 use Rattle.design_model.specs.Blocks.{blocks_of, with_act_in_first_block}
 use Rattle.design_model.specs.Commands.{is_command_in_range}
 use Rattle.design_model.specs.Points.{is_same_point, is_point_within}
-use Rattle.line_graph.specs.Drawings.{last_point}
-use Rattle.line_graph.specs.GrowingDrawings.{all_in_needle_range, has_repeated_point, repeats_after}
-use Rattle.line_graph.specs.Needles.{steps_of_line, segment_steps}
+use Rattle.drawing_model.specs.Drawings.{last_point}
+use Rattle.drawing_model.specs.GrowingDrawings.{all_in_needle_range, has_repeated_point, repeats_after}
+use Rattle.drawing_model.specs.Needles.{steps_of_line, segment_steps}
 use Rattle.step_splitter.specs.Chains.{last_point_or}
 use Rattle.step_splitter.specs.Steps.{steps_of}
 use Rattle.stitch_trace.specs.declared.links.Link.{Link}

@@ -9,7 +9,7 @@ use Rattle.design_model.specs.declared.point.Point.{Point}
 use Rattle.design_model.specs.ActKinds.{needle_point, act_point}
 use Rattle.design_model.specs.Points.{is_same_point}
 use Rattle.line_sections.specs.Sections.{segments_from}
-use Rattle.line_graph.specs.Drawings.{last_point}
+use Rattle.drawing_model.specs.Drawings.{last_point}
 use Rattle.step_splitter.specs.Chains.{last_point_or}
 use Rattle.stitch_trace.specs.declared.links.Link.{Link}
 use Rattle.stitch_trace.specs.declared.needle_moves.NeedleMove.{NeedleMove}

@@ -1,7 +1,7 @@
 ghost use Rattle.std.specs.Prelude.{◌≡◌};
 ghost use Rattle.stitch_trace.specs.Traces.{IsRefusalOf};
 
-use line_graph::DrawKind;
+use drawing_model::DrawKind;
 use lists_and_numbers::Memory;
 
 /// The reason why a design has no traced drawing.

@@ -1,6 +1,6 @@
 use Rattle.std.proofs.Common.{◌≡◌, ◌+◌, true, drop, map, string_bytes}
-use Rattle.line_graph.specs.EndOrders.{HasOrderedEnds}
-use Rattle.line_graph.specs.JoinedDrawings.{is_joined}
+use Rattle.drawing_model.specs.EndOrders.{HasOrderedEnds}
+use Rattle.drawing_model.specs.JoinedDrawings.{is_joined}
 use Rattle.drawing_commands.proofs.DrawingEditLemmas.{EditsGoOn}
 use Rattle.drawing_commands.proofs.editing.edited_on.Given as goal
 

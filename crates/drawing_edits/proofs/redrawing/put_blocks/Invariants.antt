@@ -1,5 +1,5 @@
 use Rattle.std.proofs.Common.{◌≡◌, ◌+◌, ◌≤◌, length}
-use Rattle.line_graph.specs.declared.limits.TheConstants.{MAX_BLOCKS}
+use Rattle.drawing_model.specs.declared.limits.TheConstants.{MAX_BLOCKS}
 use Rattle.drawing_edits.specs.RedrawnDrawings.{with_blocks}
 use Rattle.drawing_edits.proofs.redrawing.put_blocks.Given as goal
 

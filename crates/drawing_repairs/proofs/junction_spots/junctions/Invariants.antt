@@ -1,6 +1,6 @@
 use Rattle.std.proofs.Common.{◌≡◌, ◌||◌, drop}
 use Rattle.std.specs.HashSet.{contains}
-use Rattle.line_graph.specs.WalkEnds.{is_junction}
+use Rattle.drawing_model.specs.WalkEnds.{is_junction}
 use Rattle.line_sections.specs.declared.spot.Spot.{Spot}
 use Rattle.line_sections.specs.Spots.{is_same_spot}
 use Rattle.drawing_repairs.proofs.junction_spots.junctions.Given as goal

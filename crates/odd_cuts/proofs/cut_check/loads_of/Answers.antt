@@ -3,7 +3,7 @@ use Rattle.odd_cuts.specs.Cuts.{load_on}
 use Rattle.odd_cuts.proofs.LoadLemmas.{loads_blank, loads_next, no_load, cuts_end, next_numbered, cuts_next, faults_next, load_end}
 use Rattle.odd_cuts.proofs.TableLemmas.{ends_few}
 use Rattle.line_graph.specs.PiecesOfDrawings.{graph_of}
-use Rattle.line_graph.specs.declared.limits.TheConstants.{MAX_LINES}
+use Rattle.drawing_model.specs.declared.limits.TheConstants.{MAX_LINES}
 use Rattle.odd_cuts.proofs.cut_check.loads_of.Goals as goal
 
 pub loop-cut-init : goal.loop-cut-init

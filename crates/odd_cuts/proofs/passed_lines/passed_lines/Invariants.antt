@@ -1,5 +1,5 @@
 use Rattle.std.proofs.Common.{◌≡◌, ◌<◌, ℕ, ◌||◌, length, get_or, false}
-use Rattle.line_graph.specs.declared.limits.TheConstants.{MAX_LINES}
+use Rattle.drawing_model.specs.declared.limits.TheConstants.{MAX_LINES}
 use Rattle.line_graph.specs.PieceWalks.{is_line_passed}
 use Rattle.odd_cuts.proofs.passed_lines.passed_lines.Given as goal
 

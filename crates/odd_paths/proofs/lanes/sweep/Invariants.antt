@@ -1,5 +1,5 @@
 use Rattle.std.proofs.Common.{◌≡◌, ℕ, ◌+◌, ◌<◌, ◌≤◌, false, length}
-use Rattle.line_graph.specs.declared.limits.TheConstants.{MAX_COST}
+use Rattle.drawing_model.specs.declared.limits.TheConstants.{MAX_COST}
 use Rattle.line_graph.specs.PieceGraphs.{one_if}
 use Rattle.line_graph.specs.PieceWalks.{edge_cost, edge_sum}
 use Rattle.odd_paths.specs.declared.lanes.TheConstants.{LANES}

@@ -1,6 +1,6 @@
 use Rattle.std.proofs.Common.{◌∙◌, ap}
-use Rattle.line_graph.specs.Drawings.{DrawingValue}
-use Rattle.line_graph.specs.GrowingDrawings.{finished_drawing}
+use Rattle.drawing_model.specs.Drawings.{DrawingValue}
+use Rattle.drawing_model.specs.GrowingDrawings.{finished_drawing}
 use Rattle.sample_drawings.specs.Samples.{sample_segments}
 use Rattle.sample_drawings.specs.SampleRoom.{first_block, with_segments}
 use Rattle.sample_drawings.proofs.ShortLines.{all_short, few_lines}

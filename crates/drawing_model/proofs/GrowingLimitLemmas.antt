@@ -1,0 +1,185 @@
+-- Growing drawings keep their limits. The finished ones are valid, and stay so when they are joined and get starts and ends.
+use Rattle.std.proofs.Common.{◌≡◌, ◌≢◌, ℕ, ◌<◌, ◌≤◌, inr, ◌==◌, Bool, true, false, not, nat_lt, List, [], ◌∷◌, Result, Ok, Err, IfOk, length, All, sym, refl, arith, if◌then◌else◌}
+use Rattle.std.proofs.lemmas.Bool.{or_parts}
+use Rattle.std.proofs.lemmas.Bool.Decides.{nat_tests}
+use Rattle.std.proofs.lemmas.List.Elements.{All-cons, All-nil, All-push}
+use Rattle.std.proofs.lemmas.List.Quantifiers.{all_pairs_push}
+use Rattle.std.specs.List.{list_any}
+use Rattle.design_model.specs.declared.point.Point.{Point}
+use Rattle.step_splitter.specs.Chains.{IsNeedlePoint}
+use Rattle.line_sections.specs.declared.spot.Spot.{Spot}
+use Rattle.line_sections.specs.Lines.{LineValue}
+use Rattle.line_sections.specs.Sections.{SectionsAreWhole, SectionsHaveSegments, SectionsKeepSegments, WholeLinesStay, all_sections}
+use Rattle.drawing_model.specs.declared.draw_kind.DrawKind.{DrawKind}
+use Rattle.drawing_model.specs.declared.draw_kind.DrawKind.TheVariants as kind
+use Rattle.drawing_model.specs.Drawings.{DrawingValue, IsLine, KeepsDrawingLimits}
+use Rattle.drawing_model.specs.DrawingMakerInvariants.{IsMakerState}
+use Rattle.drawing_model.specs.GrowingDrawings.{all_in_needle_range, is_last_empty, point_count, step_count, steps_with_line, with_new_block, with_new_line}
+use Rattle.drawing_model.specs.GrowingLimits.{BlocksKeepGrowing, EmptyDrawingsGrow, FinishedDrawingsAreValid, IsGrowingDrawing, IsValidJoinedDrawing, JoinedDrawingsAreValid, LabelsKeepGrowing, LinesKeepGrowing, StepsKeepGrowing, WalkEndsKeepValid}
+use Rattle.drawing_model.specs.WalkEnds.{AreInDifferentPieces, IsValidDrawing, are_connected_spots, is_junction, spot_added}
+use Rattle.drawing_model.proofs.KeptSections.{all_kept}
+use Rattle.drawing_model.proofs.MakerLemmas.{MayCome, all_in_range, block_put, drawn_all, label_set, line_put, may_come, step_set}
+use Rattle.drawing_model.proofs.CallerLemmas.{after_both}
+use Rattle.lists_and_numbers.proofs.CallerLemmas.{some_of}
+
+-- what holds where a test doesn't refuse holds after the test
+unless : {A : Type 0} (P : A → Type 0) (test : Bool) (why : DrawKind) (r : Result A DrawKind) → (test ≡ false → IfOk r P)
+    → IfOk (if test then Err why else r) P
+unless P true why r next = tt
+unless P false why r next = next refl
+
+not_false : (t : Bool) → not t ≡ false → t ≡ true
+not_false true is = refl
+not_false false is = absurd cc
+
+differ : (m n : ℕ) → (m == n) ≡ false → m ≢ n
+differ m n test = grind (arith, nat_tests, test)
+
+-- a growing drawing is a state of its maker
+made_of : (d : DrawingValue) (empty : Bool) → is_last_empty d ≡ empty → IsGrowingDrawing d
+    → IsMakerState d empty (point_count d.lines) (step_count d.step d.lines)
+made_of d empty is grows = record {
+  head = grows.head;
+  blocks = grows.blocks;
+  lines = grows.lines;
+  no_ends = grows.no_ends;
+  last_is = sym is;
+  points_are = refl;
+  steps_are = refl;
+}
+
+grown_of : (d : DrawingValue) (empty : Bool) (points steps : ℕ) → IsMakerState d empty points steps → IsGrowingDrawing d
+grown_of d empty points steps made = record { head = made.head; blocks = made.blocks; lines = made.lines; no_ends = made.no_ends }
+
+pub empty_grows : EmptyDrawingsGrow
+empty_grows label step head = record {
+  head = head;
+  blocks = record {
+    blocks_to = omega arith;
+    in_range = All-nil (λ thread. thread < 256);
+    used = λ block below. absurd (omega (arith, below));
+    there = All-nil (λ (l : LineValue). l.block < 0);
+    ordered = λ i j e less there. absurd (omega (arith, there));
+  };
+  lines = record {
+    each = All-nil (λ (l : LineValue). IsLine l.points);
+    line_count = omega arith;
+    points_to = omega arith;
+    cost = omega arith;
+  };
+  no_ends = record { starts = refl; ends = refl };
+}
+
+pub label_grows : LabelsKeepGrowing
+label_grows d word grows test =
+    grown_of (record d { label = word }) (is_last_empty d) _ _
+    (label_set d word (is_last_empty d) _ _ (made_of d (is_last_empty d) refl grows) test)
+
+pub step_grows : StepsKeepGrowing
+step_grows d step grows none low high =
+    grown_of (record d { step = step }) (is_last_empty d) _ _
+    (step_set d step (is_last_empty d) _ _ (made_of d (is_last_empty d) refl grows) low high none)
+
+pub block_grows : BlocksKeepGrowing
+block_grows d thread grows fits =
+    unless IsGrowingDrawing (is_last_empty d) kind.EmptyBlock _ (λ filled.
+    unless IsGrowingDrawing (length d.threads == 255) kind.TooManyBlocks _ (λ few.
+    grown_of (with_new_block d thread) true _ _
+    (block_put d thread _ _ (made_of d false filled grows) fits (differ (length d.threads) 255 few))))
+
+-- a line that passes the tests may be added
+comes : (d : DrawingValue) (points : List Point) → All IsNeedlePoint points → IfOk (steps_with_line d points) (MayCome d points)
+comes d points in_range = by_result (steps_with_line d points) refl
+  where
+    by_result : (r : Result ℕ DrawKind) → steps_with_line d points ≡ r → IfOk r (MayCome d points)
+    by_result (Ok steps) is = may_come d points steps in_range is
+    by_result (Err why) is = tt
+
+pub line_grows : LinesKeepGrowing
+line_grows d points grows =
+    unless IsGrowingDrawing (length d.threads == 0) kind.NoBlock _ (λ some.
+    unless IsGrowingDrawing (not (all_in_needle_range points)) kind.OutOfRange _ (λ near.
+    after_both (MayCome d points) IsGrowingDrawing (steps_with_line d points) (λ steps. Ok (with_new_line d points))
+    (comes d points (all_in_range points (not_false (all_in_needle_range points) near)))
+    (λ steps may. grown_of (with_new_line d points) false _ _
+    (line_put d points (is_last_empty d) _ _ steps (made_of d (is_last_empty d) refl grows) (some_of (length d.threads) some) may))))
+
+pub finished_valid : FinishedDrawingsAreValid
+finished_valid d grows =
+    unless IsValidDrawing (length d.threads == 0) kind.NoBlock _ (λ some.
+    unless IsValidDrawing (is_last_empty d) kind.EmptyBlock (Ok d) (λ filled.
+    drawn_all d _ _ (made_of d false filled grows) (differ (length d.threads) 0 some)))
+
+no_more : (n limit : ℕ) → nat_lt limit n ≡ false → n ≤ limit
+no_more n limit test = grind (arith, nat_tests, test)
+
+-- sections of a valid drawing are its lines in a valid one
+pub joined_valid : SectionsKeepSegments → SectionsHaveSegments → WholeLinesStay → SectionsAreWhole → JoinedDrawingsAreValid
+joined_valid keep have stay whole d valid =
+    let sections : List LineValue = all_sections d.lines in
+    unless IsValidJoinedDrawing (nat_lt 1024 (length sections)) kind.TooManyLines _ (λ few.
+    unless IsValidJoinedDrawing (nat_lt 65536 (point_count sections)) kind.TooManyPoints _ (λ short.
+    record {
+      valid = all_kept keep have stay d d.lines sections sections valid.limits valid.ends refl refl refl
+          (no_more (length sections) 1024 few) short;
+      joined = whole d.lines;
+    }))
+
+-- a spot that may be added is a junction in a piece of its own
+spots_apart : (lines : List LineValue) (spots : List Spot) (spot : Spot) → AreInDifferentPieces lines spots
+    → IfOk (spot_added lines spots spot) (AreInDifferentPieces lines)
+spots_apart lines spots spot apart =
+    unless (AreInDifferentPieces lines) (not (is_junction lines spot)) kind.NoJunction _ (λ there.
+    unless (AreInDifferentPieces lines) (list_any (λ (one : Spot). are_connected_spots lines one spot) spots) kind.EndRepeated _
+    (λ none. record {
+      there = All-push (λ (s : Spot). is_junction lines s ≡ true) spots spot apart.there (not_false (is_junction lines spot) there);
+      apart = all_pairs_push (λ (a b : Spot). are_connected_spots lines a b ≡ false) spots spot apart.apart (none_of spots none);
+    }))
+  where
+    none_of : (some : List Spot) → list_any (λ (one : Spot). are_connected_spots lines one spot) some ≡ false
+        → All (λ (one : Spot). are_connected_spots lines one spot ≡ false) some
+    none_of [] none = All-nil (λ (one : Spot). are_connected_spots lines one spot ≡ false)
+    none_of (s ∷ rest) none =
+        let parts = or_parts (are_connected_spots lines s spot) (list_any (λ (one : Spot). are_connected_spots lines one spot) rest) none in
+        All-cons (λ (one : Spot). are_connected_spots lines one spot ≡ false) s rest parts.0 (none_of rest parts.1)
+
+-- the limits say nothing of starts and ends
+limits_with : (d : DrawingValue) (starts ends : List Spot) → KeepsDrawingLimits d
+    → KeepsDrawingLimits (record d { starts = starts; ends = ends })
+limits_with d starts ends keeps = record {
+  label = keeps.label;
+  one_word = keeps.one_word;
+  step_from = keeps.step_from;
+  step_to = keeps.step_to;
+  blocks_from = keeps.blocks_from;
+  blocks_to = keeps.blocks_to;
+  threads = keeps.threads;
+  used = keeps.used;
+  there = keeps.there;
+  ordered = keeps.ordered;
+  lines = keeps.lines;
+  line_count = keeps.line_count;
+  point_count = keeps.point_count;
+  cost = keeps.cost;
+}
+
+-- a valid joined drawing has other starts and ends where these are in different pieces
+with_ends : (d : DrawingValue) (starts ends : List Spot) → IsValidJoinedDrawing d → AreInDifferentPieces d.lines starts
+    → AreInDifferentPieces d.lines ends → IsValidJoinedDrawing (record d { starts = starts; ends = ends })
+with_ends d starts ends is one two = record {
+  valid = record {
+    limits = limits_with d starts ends is.valid.limits;
+    ends = record { starts = one; ends = two; joined = inr is.joined };
+  };
+  joined = is.joined;
+}
+
+pub walk_end_valid : WalkEndsKeepValid
+walk_end_valid true d spot is =
+    after_both (AreInDifferentPieces d.lines) IsValidJoinedDrawing (spot_added d.lines d.starts spot)
+    (λ starts. Ok (record d { starts = starts })) (spots_apart d.lines d.starts spot is.valid.ends.starts)
+    (λ starts apart. with_ends d starts d.ends is apart is.valid.ends.ends)
+walk_end_valid false d spot is =
+    after_both (AreInDifferentPieces d.lines) IsValidJoinedDrawing (spot_added d.lines d.ends spot)
+    (λ ends. Ok (record d { ends = ends })) (spots_apart d.lines d.ends spot is.valid.ends.ends)
+    (λ ends apart. with_ends d d.starts ends is is.valid.ends.starts apart)

@@ -1,0 +1,83 @@
+-- Starts and ends, worked out by hand: an angle of two lines and a stroke in one block, a stroke at the angle's first
+-- point in the next one.
+use Rattle.std.proofs.Common.{◌≡◌, ℕ, pos, true, false, List, [], ◌∷◌, Ok, Err, refl}
+use Rattle.design_model.specs.declared.point.Point.{Point}
+use Rattle.line_sections.specs.declared.spot.Spot.{Spot}
+use Rattle.line_sections.specs.Lines.{LineValue}
+use Rattle.drawing_model.specs.declared.draw_kind.DrawKind.TheVariants as kind
+use Rattle.drawing_model.specs.Drawings.{DrawingValue}
+use Rattle.drawing_model.specs.WalkEnds.{are_connected_spots, end_added, is_junction, start_added, walk_end_added}
+
+abbrev at : ℕ → ℕ → Point
+at x y = record { x = pos x; y = pos y }
+
+abbrev spot : ℕ → ℕ → ℕ → Spot
+spot block x y = record { block = block; at = at x y }
+
+abbrev line : ℕ → List Point → LineValue
+line block points = record { block = block; points = points }
+
+abbrev drawn : List Spot → List Spot → DrawingValue
+drawn starts ends = record {
+  label = [];
+  step = 10;
+  threads = 5 ∷ 6 ∷ [];
+  lines = line 0 (at 0 0 ∷ at 5 5 ∷ at 10 0 ∷ []) ∷ line 0 (at 30 0 ∷ at 40 0 ∷ []) ∷ line 0 (at 10 0 ∷ at 10 10 ∷ [])
+      ∷ line 1 (at 0 0 ∷ at 10 0 ∷ []) ∷ [];
+  starts = starts;
+  ends = ends;
+}
+
+-- only the ends of lines are junctions, in the block of the line
+pub known_junction : is_junction (drawn [] []).lines (spot 0 10 0) ≡ true
+known_junction = refl
+
+pub known_inside : is_junction (drawn [] []).lines (spot 0 5 5) ≡ false
+known_inside = refl
+
+pub known_other_block : is_junction (drawn [] []).lines (spot 1 30 0) ≡ false
+known_other_block = refl
+
+-- the angle connects its three ends, and not the strokes
+pub known_joined : are_connected_spots (drawn [] []).lines (spot 0 10 10) (spot 0 0 0) ≡ true
+known_joined = refl
+
+pub known_apart : are_connected_spots (drawn [] []).lines (spot 0 10 10) (spot 0 40 0) ≡ false
+known_apart = refl
+
+pub known_blocks_apart : are_connected_spots (drawn [] []).lines (spot 0 10 0) (spot 1 10 0) ≡ false
+known_blocks_apart = refl
+
+-- a start at a junction, and none elsewhere
+pub known_start : start_added (drawn [] []) (spot 0 10 10) ≡ Ok (drawn (spot 0 10 10 ∷ []) [])
+known_start = refl
+
+pub known_no_junction : start_added (drawn (spot 0 10 10 ∷ []) []) (spot 0 5 5) ≡ Err kind.NoJunction
+known_no_junction = refl
+
+-- a piece has one start, and may have an end beside it, at the same junction too
+pub known_repeated : start_added (drawn (spot 0 10 10 ∷ []) []) (spot 0 0 0) ≡ Err kind.EndRepeated
+known_repeated = refl
+
+pub known_end : end_added (drawn (spot 0 10 10 ∷ []) []) (spot 0 10 10)
+    ≡ Ok (drawn (spot 0 10 10 ∷ []) (spot 0 10 10 ∷ []))
+known_end = refl
+
+pub known_end_repeated : end_added (drawn [] (spot 0 10 0 ∷ [])) (spot 0 10 0) ≡ Err kind.EndRepeated
+known_end_repeated = refl
+
+-- other pieces have their own
+pub known_other_piece : start_added (drawn (spot 0 10 10 ∷ []) []) (spot 0 30 0)
+    ≡ Ok (drawn (spot 0 10 10 ∷ spot 0 30 0 ∷ []) [])
+known_other_piece = refl
+
+pub known_next_block : start_added (drawn (spot 0 0 0 ∷ []) []) (spot 1 0 0)
+    ≡ Ok (drawn (spot 0 0 0 ∷ spot 1 0 0 ∷ []) [])
+known_next_block = refl
+
+-- a start is one, and an end the other
+pub known_which : walk_end_added true (drawn [] []) (spot 0 0 0) ≡ Ok (drawn (spot 0 0 0 ∷ []) [])
+known_which = refl
+
+pub known_which_end : walk_end_added false (drawn [] []) (spot 0 0 0) ≡ Ok (drawn [] (spot 0 0 0 ∷ []))
+known_which_end = refl

@@ -1,0 +1,20 @@
+use Rattle.std.proofs.Common.{◌≡◌, ◌∷◌, [], refl, rules}
+use Rattle.drawing_model.proofs.NeedleLemmas.{first_sewn, next_segment, segment_sewn}
+use Rattle.drawing_model.proofs.needle_points.needles_along.Goals as goal
+
+pub loop-next-init : goal.loop-next-init
+loop-next-init c =
+    let one : c.push.new.self ≡ c.in-Some.first ∷ [] = search rules in
+    rw one (first_sewn c.args.step c.args.points.now c.in-Some.first c.in-Some.after.now c.in-Some.ensures.some c.requires.line)
+
+pub split_into-requires-clause-to : goal.split_into-requires-clause-to
+split_into-requires-clause-to c =
+    (next_segment c.args.step c.args.points.now c.loop-next.before c.in-Some-first_point.next c.loop-next.rest.now
+    c.in-Some-first_point.after.now c.loop-next.needles c.loop-next.invariant c.in-Some-first_point.ensures.some).1
+
+pub loop-next-preserved : goal.loop-next-preserved
+loop-next-preserved c =
+    rw c.in_ok-split_into.ensures.value
+    (segment_sewn c.args.step c.args.points.now c.loop-next.before c.in-Some-first_point.next c.loop-next.rest.now
+    c.in-Some-first_point.after.now c.loop-next.needles _ c.loop-next.invariant
+    c.in-Some-first_point.ensures.some refl c.in_ok-split_into.ensures.leads)

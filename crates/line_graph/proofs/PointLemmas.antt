@@ -1,2 +1,0 @@
--- Points by their coordinates.
-use Rattle.std.proofs.Common.{◌≡◌, ℤ}
