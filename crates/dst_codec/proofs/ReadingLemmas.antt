@@ -2,8 +2,8 @@
 use Rattle.std.proofs.Common.{◌≡◌, ℕ, ◌≤◌, List, [], ◌++◌, length, drop, refl, ap, ◌∙◌, subst, arith, length-append}
 use Rattle.std.proofs.Math.Seq.{drop-append_seam}
 use Rattle.std.proofs.lemmas.Bool.{le-ltb}
-use Rattle.format_traits.specs.Readings.{loaded_with}
-use Rattle.format_traits.specs.Records.{file_commands}
+use Rattle.record_formats.specs.Readings.{loaded_with}
+use Rattle.record_formats.specs.Records.{file_commands}
 use Rattle.dst_codec.specs.declared.header.TheConstants.{HEADER_LENGTH}
 use Rattle.dst_codec.specs.Reading.{dst_reads, dst_records_from, dst_records_in, dst_label_of}
 

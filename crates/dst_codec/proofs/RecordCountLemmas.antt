@@ -9,10 +9,11 @@ use Rattle.design_model.specs.declared.act.NumberedAct.{NumberedAct}
 use Rattle.design_model.specs.declared.point.Point.{Point}
 use Rattle.design_model.specs.Points.{origin, move_between}
 use Rattle.format_traits.specs.declared.encoder_state.EncoderState.{EncoderState}
-use Rattle.format_traits.specs.MoveHops.{hops_of, part_end, part_moves, part_moves_from}
+use Rattle.format_traits.specs.MoveHops.{hops_of}
+use Rattle.record_formats.specs.MoveParts.{part_end, part_moves, part_moves_from}
 use Rattle.format_traits.specs.Refusals.{encoder_state_after}
 use Rattle.format_traits.specs.Rooms.{room_of_act, room_of_needle, room_from}
-use Rattle.format_traits.specs.RecordEncodings.{records_of_acts_from, records_of_act, needle_records, hop_records, stitched_hop_records}
+use Rattle.record_formats.specs.RecordEncodings.{records_of_acts_from, records_of_act, needle_records, hop_records, stitched_hop_records}
 use Rattle.dst_codec.specs.declared.dst.TheConstants.{LIMIT}
 use Rattle.dst_codec.specs.MoveEncoding.{dst_jump_record, dst_stitch_record}
 use Rattle.dst_codec.specs.Writing.{dst_write_limits, dst_encoding}

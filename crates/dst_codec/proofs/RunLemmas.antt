@@ -1,10 +1,10 @@
 -- The first record of the bytes that are left.
 use Rattle.std.proofs.Common.{◌≡◌, ℕ, ◌+◌, ◌≤◌, List, [], ◌∷◌, ◌++◌, length, get_or, drop, ap, sym, ◌∙◌, arith}
 use Rattle.design_model.specs.declared.point.Point.{Point}
-use Rattle.format_traits.specs.declared.record_reader.NextRecord.{NextRecord}
-use Rattle.format_traits.specs.declared.record_reader.NextRecord.TheVariants as cut
-use Rattle.format_traits.specs.RecordDecoding.{DecodesRecord}
-use Rattle.format_traits.specs.Records.{Records, next}
+use Rattle.record_formats.specs.declared.record_reader.NextRecord.{NextRecord}
+use Rattle.record_formats.specs.declared.record_reader.NextRecord.TheVariants as cut
+use Rattle.record_formats.specs.RecordDecoding.{DecodesRecord}
+use Rattle.record_formats.specs.Records.{Records, next}
 use Rattle.dst_codec.specs.declared.record_kind.RecordKind.{RecordKind}
 use Rattle.dst_codec.specs.Bits.{dst_move_of, kind_of}
 use Rattle.dst_codec.specs.KindDecoding.{DecodesRecordAs}

@@ -5,14 +5,14 @@ use Rattle.std.specs.List.{starts_with}
 use Rattle.design_model.specs.declared.command.Command.{Command}
 use Rattle.design_model.specs.declared.design.TheConstants.{MAX_LABEL}
 use Rattle.design_model.specs.declared.point.Point.{Point}
-use Rattle.format_traits.specs.declared.event.Event.{Event}
-use Rattle.format_traits.specs.declared.event.Event.TheVariants as event
+use Rattle.record_formats.specs.declared.event.Event.{Event}
+use Rattle.record_formats.specs.declared.event.Event.TheVariants as event
 use Rattle.format_traits.specs.declared.fault.ReadFault.{ReadFault}
 use Rattle.format_traits.specs.declared.fault.ReadFault.TheVariants as fault
 use Rattle.format_traits.specs.declared.loaded.Loaded.{Loaded}
 use Rattle.format_traits.specs.LabelFields.{label_in}
-use Rattle.format_traits.specs.Layouts.{Layout, layout_decoded, layout_reads}
-use Rattle.format_traits.specs.Records.{Records, over, refused, next, moves_of_records}
+use Rattle.record_formats.specs.Layouts.{Layout, layout_decoded, layout_reads}
+use Rattle.record_formats.specs.Records.{Records, over, refused, next, moves_of_records}
 use Rattle.dst_codec.specs.declared.header.TheConstants.{HEADER_LENGTH}
 use Rattle.dst_codec.specs.declared.record_kind.RecordKind.{RecordKind}
 use Rattle.dst_codec.specs.declared.record_kind.RecordKind.TheVariants as kind

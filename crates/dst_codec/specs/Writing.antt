@@ -8,7 +8,7 @@ use Rattle.design_model.specs.Designs.{DesignValue}
 use Rattle.format_traits.specs.declared.fault.WriteFault.{WriteFault}
 use Rattle.format_traits.specs.declared.encoder_state.WriteLimits.{WriteLimits}
 use Rattle.format_traits.specs.Refusals.{first_refusal, unless_refused}
-use Rattle.format_traits.specs.RecordEncodings.{RecordEncoding, records_of_acts}
+use Rattle.record_formats.specs.RecordEncodings.{RecordEncoding, records_of_acts}
 use Rattle.dst_codec.specs.declared.dst.TheConstants.{LIMIT, MAX_FLOAT_HOPS, MAX_STOPS}
 use Rattle.dst_codec.specs.Header.{header}
 use Rattle.dst_codec.specs.MoveEncoding.{dst_stitch_record, dst_jump_record, dst_trim_records, dst_stop_record, dst_end_record}

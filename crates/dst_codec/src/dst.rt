@@ -1,10 +1,9 @@
 use crate::jump_runs::JumpRun;
 use crate::writing::write_file;
 use design_model::{Command, Design};
-use format_traits::{
-    Fed, Feed, Format, Loaded, ReadFault, RecordDecoder, WriteFault, WriteLimits, decode_whole,
-};
+use format_traits::{Fed, Feed, Format, Loaded, ReadFault, WriteFault, WriteLimits, decode_whole};
 use lists_and_numbers::{Bytes, Memory};
+use record_formats::RecordDecoder;
 use std::alloc::Global;
 
 /// The greatest move of a record on each axis, in tenths of a millimetre.

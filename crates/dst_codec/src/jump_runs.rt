@@ -9,7 +9,8 @@ use crate::header::HEADER_LENGTH;
 use crate::reading::read_header;
 use crate::record_kind::RecordKind;
 use design_model::{Design, Point};
-use format_traits::{Event, NextRecord, ReadFault, RecordReader};
+use format_traits::ReadFault;
+use record_formats::{Event, NextRecord, RecordReader};
 
 /// The number of jump records in the unbroken run before the next record, counted up to three.
 #[derive(Clone, Copy)]

@@ -6,8 +6,9 @@ ghost use Rattle.dst_codec.specs.MoveEncoding.{record_of};
 use crate::dst::WRITE_LIMITS;
 use crate::move_encoding::{JUMP, encode_record};
 use design_model::Point;
-use format_traits::{RecordWriter, WriteLimits};
+use format_traits::WriteLimits;
 use lists_and_numbers::{Bytes, Memory};
+use record_formats::RecordWriter;
 
 /// The records of a trim: three jumps that lead back to where they began.
 const TRIM: [u8; 9] = [0x82, 0x41, 0x83, 0x82, 0x82, 0x83, 0x82, 0x41, 0x83];

@@ -3,10 +3,8 @@ ghost use Rattle.dst_codec.specs.Format.{dst_meaning};
 ghost use Rattle.dst_codec.specs.Laws.{LabelRoundTrips, ReadMovesAreWritable};
 ghost use Rattle.dst_codec.specs.OneEncoding.{MovesHaveOneEncoding};
 
-use format_traits::{
-    accepted_designs_are_small, codecs_keep_the_laws, encoded_acts_round_trip,
-    label_fields_round_trip,
-};
+use format_traits::{accepted_designs_are_small, codecs_keep_the_laws, label_fields_round_trip};
+use record_formats::encoded_acts_round_trip;
 
 /// Theorem: a written design reads back as the same acts, to its end, and moves within the limit; any plain
 /// design is written.

@@ -11,10 +11,9 @@ use crate::header::{HEADER_LENGTH, HeaderNumbers, new_header};
 use crate::records::DstWriter;
 use crate::theorems::written_reads_again;
 use design_model::Design;
-use format_traits::{
-    EncoderState, WriteFault, accepted_designs_are_small, put_acts, put_spaces, with_front,
-};
+use format_traits::{EncoderState, WriteFault, accepted_designs_are_small, put_spaces, with_front};
 use lists_and_numbers::Bytes;
+use record_formats::put_acts;
 use std::alloc::Global;
 
 /// The record of the end.

@@ -7,13 +7,13 @@ use Rattle.design_model.specs.declared.point.Point.{Point}
 use Rattle.design_model.specs.Acts.{acts_of}
 use Rattle.design_model.specs.Designs.{DesignValue, KeepsLimits}
 use Rattle.design_model.specs.Points.{is_point_within, origin}
-use Rattle.format_traits.specs.declared.event.Event.TheVariants as event
+use Rattle.record_formats.specs.declared.event.Event.TheVariants as event
 use Rattle.format_traits.specs.declared.loaded.Loaded.{Loaded}
 use Rattle.format_traits.specs.Laws.{HasSameActs, IsCodec}
-use Rattle.format_traits.specs.Readings.{loaded_with}
-use Rattle.format_traits.specs.Records.{next}
+use Rattle.record_formats.specs.Readings.{loaded_with}
+use Rattle.record_formats.specs.Records.{next}
 use Rattle.format_traits.specs.Refusals.{first_refusal}
-use Rattle.format_traits.specs.RoundTrip.{EncodedEvents, DecodesEncoding, DecodeToActs, EncodedActsRoundTrip}
+use Rattle.record_formats.specs.RoundTrip.{EncodedEvents, DecodesEncoding, DecodeToActs, EncodedActsRoundTrip}
 use Rattle.exp_codec.proofs.UnitLemmas.{reads_units}
 use Rattle.exp_codec.specs.declared.exp.TheConstants.{LIMIT}
 use Rattle.exp_codec.specs.Format.{exp_meaning}

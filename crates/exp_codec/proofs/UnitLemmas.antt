@@ -2,9 +2,9 @@
 use Rattle.std.proofs.Common.{◌≡◌, ◌≢◌, ℕ, ◌+◌, ◌-◌, ◌≤◌, List, [], ◌∷◌, ◌++◌, length, get_or, take, drop, refl, sym, subst, arith}
 use Rattle.std.proofs.lemmas.Bool.{ne_eqb, eq-eqb, le-ltb}
 use Rattle.std.proofs.lemmas.List.{take_all, length-drop}
-use Rattle.format_traits.specs.declared.event.Event.TheVariants as event
-use Rattle.format_traits.specs.Readings.{loaded_with}
-use Rattle.format_traits.specs.Records.{file_commands, next}
+use Rattle.record_formats.specs.declared.event.Event.TheVariants as event
+use Rattle.record_formats.specs.Readings.{loaded_with}
+use Rattle.record_formats.specs.Records.{file_commands, next}
 use Rattle.exp_codec.specs.Reading.{exp_reads}
 use Rattle.exp_codec.specs.Units.{units_from, record_or_refusal, event_of_control, exp_move_of}
 

@@ -4,8 +4,8 @@ use Rattle.design_model.specs.declared.command.Command.{Command}
 use Rattle.design_model.specs.declared.point.Point.{Point}
 use Rattle.format_traits.specs.declared.fault.ReadFault.{ReadFault}
 use Rattle.format_traits.specs.declared.loaded.Loaded.{Loaded}
-use Rattle.format_traits.specs.Layouts.{Layout, layout_decoded, layout_reads}
-use Rattle.format_traits.specs.Records.{moves_of_records}
+use Rattle.record_formats.specs.Layouts.{Layout, layout_decoded, layout_reads}
+use Rattle.record_formats.specs.Records.{moves_of_records}
 use Rattle.exp_codec.specs.Units.{units_from}
 
 -- The layout of an EXP file: units without a header.

@@ -3,10 +3,10 @@
 -- downwards.
 use Rattle.std.specs.Prelude.{ℕ, ◌+◌, ◌-◌, ℤ, pos, neg_ℤ, true, false, List, [], ◌∷◌, Option, Some, None, nat_lt, ◌==◌, if◌then◌else◌}
 use Rattle.design_model.specs.declared.point.Point.{Point}
-use Rattle.format_traits.specs.declared.event.Event.{Event}
-use Rattle.format_traits.specs.declared.event.Event.TheVariants as event
+use Rattle.record_formats.specs.declared.event.Event.{Event}
+use Rattle.record_formats.specs.declared.event.Event.TheVariants as event
 use Rattle.format_traits.specs.declared.fault.ReadFault.TheVariants as fault
-use Rattle.format_traits.specs.Records.{Records, over, refused, next}
+use Rattle.record_formats.specs.Records.{Records, over, refused, next}
 
 -- A byte as a signed number, from -128 to 127.
 abbrev pub signed_byte : ℕ → ℤ

@@ -8,7 +8,7 @@ use Rattle.design_model.specs.Designs.{DesignValue}
 use Rattle.format_traits.specs.declared.fault.WriteFault.{WriteFault}
 use Rattle.format_traits.specs.declared.encoder_state.WriteLimits.{WriteLimits}
 use Rattle.format_traits.specs.Refusals.{first_refusal, unless_refused}
-use Rattle.format_traits.specs.RecordEncodings.{RecordEncoding, records_of_acts}
+use Rattle.record_formats.specs.RecordEncodings.{RecordEncoding, records_of_acts}
 use Rattle.exp_codec.specs.declared.exp.TheConstants.{LIMIT}
 
 -- A number from -127 to 127 as a byte.

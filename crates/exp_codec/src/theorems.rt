@@ -1,7 +1,8 @@
 ghost use Rattle.format_traits.specs.Laws.{KeepsAllLaws};
 ghost use Rattle.exp_codec.specs.Format.{exp_meaning};
 
-use format_traits::{codecs_keep_the_laws, encoded_acts_round_trip};
+use format_traits::codecs_keep_the_laws;
+use record_formats::encoded_acts_round_trip;
 
 /// Theorem: a written design reads back as the same acts, to its end, and moves within the limit; any plain
 /// design is written.

@@ -6,8 +6,9 @@ ghost use Rattle.exp_codec.specs.Writing.{byte_of_number, bytes_of_move};
 use crate::exp::LIMIT;
 use crate::units::{CONTROL, JUMP, STOP, TRIM, opposite};
 use design_model::Point;
-use format_traits::{RecordWriter, WriteLimits};
+use format_traits::WriteLimits;
 use lists_and_numbers::{Bytes, Memory};
+use record_formats::RecordWriter;
 
 /// The writer of the units of a file.
 #[derive(Clone, Copy)]

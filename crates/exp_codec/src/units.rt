@@ -1,12 +1,13 @@
 ghost use Rattle.std.specs.Prelude.{◌≡◌, ◌≤◌, neg_ℤ, unsigned_abs, IsTrue, IfSome};
 ghost use Rattle.std.specs.List.{list_all};
 ghost use Rattle.design_model.specs.Points.{is_point_within};
-ghost use Rattle.format_traits.specs.declared.record_reader.TheConstants.{MAX_RECORD_MOVE};
-ghost use Rattle.format_traits.specs.Records.{moves_of_event};
+ghost use Rattle.record_formats.specs.declared.record_reader.TheConstants.{MAX_RECORD_MOVE};
+ghost use Rattle.record_formats.specs.Records.{moves_of_event};
 ghost use Rattle.exp_codec.specs.Units.{event_of_control, signed_byte, exp_move_of};
 
 use design_model::{Design, Point};
-use format_traits::{Event, NextRecord, ReadFault, RecordReader};
+use format_traits::ReadFault;
+use record_formats::{Event, NextRecord, RecordReader};
 
 /// The first byte of a unit of four bytes.
 pub const CONTROL: u8 = 0x80;

@@ -5,8 +5,9 @@ ghost use Rattle.exp_codec.specs.Writing.{exp_writes};
 use crate::theorems::written_reads_again;
 use crate::unit_writer::UnitWriter;
 use design_model::Design;
-use format_traits::{WriteFault, put_acts};
+use format_traits::WriteFault;
 use lists_and_numbers::Bytes;
+use record_formats::put_acts;
 use std::alloc::Global;
 
 /// Writes a design as a file.

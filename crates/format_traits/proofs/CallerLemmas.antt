@@ -1,14 +1,10 @@
 -- Lemmas that this crate and those above cite.
-use Rattle.std.proofs.Common.{Bool, List, None, Option, Some, [], ap, arith, false, if◌then◌else◌, length, length-append, refl, replicate, slice_get, sym, true, ℕ, ◌+◌, ◌-◌, ◌∙◌, ◌∷◌, ◌≡◌, ◌≤◌}
+use Rattle.std.proofs.Common.{Bool, List, None, Option, Some, ap, arith, false, if◌then◌else◌, length, length-append, refl, replicate, slice_get, sym, true, ℕ, ◌+◌, ◌-◌, ◌∙◌, ◌≡◌, ◌≤◌}
 use Rattle.std.proofs.lemmas.List.{length-replicate}
-use Rattle.design_model.specs.declared.act.NumberedAct.{NumberedAct}
 use Rattle.format_traits.specs.LabelFields.{padded_right}
 use Rattle.format_traits.specs.Meanings.{Meaning}
-use Rattle.format_traits.specs.RecordEncodings.{encoder_state_after_acts}
-use Rattle.format_traits.specs.Refusals.{encoder_state_after, or_else, refusal_if, stops_of}
-use Rattle.format_traits.specs.declared.encoder_state.EncoderState.{EncoderState}
+use Rattle.format_traits.specs.Refusals.{or_else, refusal_if}
 use Rattle.format_traits.specs.declared.fault.WriteFault.{WriteFault}
-use Rattle.design_model.specs.declared.act.Act.TheVariants as act
 
 pub not_refused : (b : Bool) (f : WriteFault) → refusal_if b f ≡ None → b ≡ false
 not_refused true f none = cc
@@ -21,12 +17,6 @@ refused_not false f is = refl
 pub loose_room : (few : Bool) (count : ℕ) → count + 1 ≤ (if few then count + 1 else count + 2)
 loose_room true count = omega arith
 loose_room false count = omega arith
-
--- the stops after all acts
-pub stops_along : (limit : ℕ) (before : EncoderState) (acts : List NumberedAct)
-    → (encoder_state_after_acts limit before acts).stops ≡ before.stops + stops_of acts
-stops_along limit before [] = omega arith
-stops_along limit before (a ∷ rest) = stops_along limit (encoder_state_after limit before a.act) rest ∙ omega arith
 
 pub length-padded_right : (places : ℕ) (text : List ℕ) → length text ≤ places → length (padded_right places text) ≡ places
 length-padded_right places text fits =

@@ -3,15 +3,13 @@ use Rattle.std.proofs.Common.{◌≡◌, ℕ, true, false, List, [], ◌∷◌, 
 use Rattle.format_traits.specs.Endings.{ending_in, format_index}
 use Rattle.format_traits.specs.Laws.{is_ending_byte}
 use Rattle.format_traits.specs.Meanings.{Meaning}
-use Rattle.format_traits.specs.Readings.{loaded_with}
-use Rattle.format_traits.specs.Records.{over, file_commands}
 
 -- a format with that ending, of no further interest
 abbrev pub named : List ℕ → Meaning
 named ending = record {
   ending = ending;
   limit = 121;
-  reads = λ bytes. loaded_with [] [] (file_commands (over true));
+  reads = λ bytes. Ok (record { design = record { label = []; threads = []; commands = [] }; ended = true });
   writes = λ d. Ok [];
   moves = λ bytes. [];
   shown = λ bytes. [];

@@ -11,7 +11,7 @@ use Rattle.format_traits.specs.declared.fault.WriteFault.TheVariants as write
 use Rattle.format_traits.specs.declared.loaded.Loaded.{Loaded}
 use Rattle.format_traits.specs.Laws.{HasSameActs, IsFileEnding, MovesWithin, DecodesTo, EncodesTo}
 use Rattle.format_traits.specs.Meanings.{Meaning}
-use Rattle.format_traits.specs.RecordEncodings.{IsSpecifiedRefusal}
+use Rattle.format_traits.specs.Refusals.{IsSpecifiedRefusal}
 use Rattle.format_traits.proofs.EndingFacts.{named}
 
 -- an ending has a byte, and no capital

@@ -3,8 +3,7 @@ use Rattle.std.proofs.Common.{◌≡◌, refl}
 use Rattle.format_traits.specs.declared.decoder.TheConstants.{MAX_PENDING}
 use Rattle.format_traits.specs.declared.feed.TheConstants.{MAX_FED}
 use Rattle.format_traits.specs.declared.format_object.TheConstants.{MIN_LIMIT, MAX_LIMIT}
-use Rattle.format_traits.specs.declared.move_hops.TheConstants.{MAX_MOVE, MAX_HOPS}
-use Rattle.format_traits.specs.declared.record_reader.TheConstants.{MAX_RECORD_MOVE}
+use Rattle.format_traits.specs.declared.move_hops.TheConstants.{MAX_MOVE}
 
 -- the bytes that may wait for others, and those that may be fed
 pub known_pending : MAX_PENDING ≡ 528
@@ -20,12 +19,6 @@ known_least = refl
 pub known_greatest : MAX_LIMIT ≡ 2047
 known_greatest = refl
 
--- the greatest move of a record, and the greatest one between two needles with its hops
-pub known_step : MAX_RECORD_MOVE ≡ 2048
-known_step = refl
-
+-- the greatest move between two needles
 pub known_move : MAX_MOVE ≡ 60000
 known_move = refl
-
-pub known_most_hops : MAX_HOPS ≡ 496
-known_most_hops = refl

@@ -10,7 +10,7 @@ use Rattle.format_traits.specs.declared.fault.WriteFault.TheVariants as fault
 use Rattle.format_traits.specs.declared.encoder_state.WriteLimits.{WriteLimits}
 use Rattle.format_traits.specs.declared.encoder_state.EncoderState.{EncoderState}
 use Rattle.format_traits.specs.LabelFields.{label_field, label_in, printable_byte}
-use Rattle.format_traits.specs.MoveHops.{hops_of, part_moves}
+use Rattle.format_traits.specs.MoveHops.{hops_of}
 use Rattle.format_traits.specs.PlainDesigns.{IsPlain, are_plain_from}
 use Rattle.format_traits.specs.Refusals.{first_refusal, refusal_of_act}
 use Rattle.format_traits.specs.Rooms.{room_of_act, room_of_loose, room_of_needle, room_of}
@@ -27,11 +27,6 @@ known_two_hops = refl
 
 pub known_no_hop : hops_of 121 (point (pos 0) (pos 0)) ≡ 0
 known_no_hop = refl
-
--- the parts of -5 in two end at -3 and at -5
-pub known_parts : part_moves (point (negsuc 4) (pos 128)) 2
-    ≡ point (negsuc 2) (pos 64) ∷ point (negsuc 1) (pos 64) ∷ []
-known_parts = refl
 
 -- a needle act of the command with that number
 abbrev pub needle : ℕ → ℤ → Bool → NumberedAct

@@ -5,18 +5,10 @@ pub mod Refusals
 pub mod Accepted
 pub mod PlainDesigns
 pub mod LabelFields
-pub mod Readings
-pub mod CommandAdding
-pub mod Records
-pub mod RecordDecoding
 pub mod DecoderStates
-pub mod Layouts
-pub mod RecordStates
-pub mod RecordEncodings
 -- read this one first: what a format means
 pub mod Meanings
 pub mod Laws
 pub mod Feeding
 pub mod FeedStates
-pub mod RoundTrip
 pub mod Endings

@@ -1,17 +1,19 @@
 -- Acts that a format cannot write. The acts are judged in order, and the first refusal is the
 -- writer's answer.
-use Rattle.std.specs.Prelude.{ℕ, ◌+◌, Bool, true, false, List, [], ◌∷◌, Option, Some, None, Result, Ok, Err, nat_lt}
+use Rattle.std.specs.Prelude.{◌≡◌, ℕ, ◌+◌, Bool, true, false, List, [], ◌∷◌, Option, Some, None, Result, Ok, Err, nat_lt}
 use Rattle.design_model.specs.declared.act.Act.{Act}
 use Rattle.design_model.specs.declared.act.Act.TheVariants.{Needle, Trim, Stop}
 use Rattle.design_model.specs.declared.act.NumberedAct.{NumberedAct}
 use Rattle.design_model.specs.declared.design.TheConstants.{MAX_COMMANDS}
 use Rattle.design_model.specs.declared.point.Point.{Point}
 use Rattle.design_model.specs.Points.{origin, move_between, move_size}
+use Rattle.lists_and_numbers.specs.OutOfMemory.{UnlessOutOfMemory}
 use Rattle.format_traits.specs.declared.fault.WriteFault.{WriteFault}
 use Rattle.format_traits.specs.declared.fault.WriteFault.TheVariants as fault
 use Rattle.format_traits.specs.declared.encoder_state.WriteLimits.{WriteLimits}
 use Rattle.format_traits.specs.declared.encoder_state.EncoderState.{EncoderState}
 use Rattle.design_model.specs.ActPositions.{needle_position_after, leaves_thread_loose}
+use Rattle.format_traits.specs.Faults.{write_is_out_of_memory}
 use Rattle.format_traits.specs.MoveHops.{hops_of}
 use Rattle.format_traits.specs.Rooms.{room_of_act}
 
@@ -94,3 +96,8 @@ first_refusal write_limits acts = first_refusal_from write_limits initial_encode
 abbrev pub unless_refused : Option WriteFault → List ℕ → Result (List ℕ) WriteFault
 unless_refused None bytes = Ok bytes
 unless_refused (Some f) bytes = Err f
+
+-- The fault is the specified refusal, or out of memory.
+abbrev pub IsSpecifiedRefusal : Option WriteFault → WriteFault → Type 0
+IsSpecifiedRefusal refusal fault = UnlessOutOfMemory (write_is_out_of_memory fault) (refusal
+    ≡ Some fault)

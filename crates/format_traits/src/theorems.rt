@@ -1,13 +1,6 @@
 ghost use Rattle.format_traits.specs.Accepted.{AcceptedIsWithinLimits};
 ghost use Rattle.format_traits.specs.LabelFields.{LabelFieldsRoundTrip};
 ghost use Rattle.format_traits.specs.Laws.{CodecsKeepLaws};
-ghost use Rattle.format_traits.specs.RoundTrip.{EncodedActsRoundTrip};
-
-/// Theorem: where a reader decodes each encoded record as the writer meant it, the encoded acts of a design
-/// that is not refused read back.
-pub fn encoded_acts_round_trip()
-    ensures { EncodedActsRoundTrip }
-{}
 
 /// Theorem: a format whose files read back and move within the limit keeps the laws of all formats.
 pub fn codecs_keep_the_laws()

@@ -12,11 +12,11 @@ use Rattle.format_traits.specs.Accepted.{AcceptedIsWithinLimits}
 use Rattle.format_traits.specs.LabelFields.{LabelFieldsRoundTrip}
 use Rattle.format_traits.specs.Laws.{CodecsKeepLaws, IsCodec}
 use Rattle.format_traits.specs.Meanings.{Meaning}
-use Rattle.format_traits.specs.Readings.{loaded_with}
-use Rattle.format_traits.specs.Records.{file_commands, moves_of_records}
+use Rattle.record_formats.specs.Readings.{loaded_with}
+use Rattle.record_formats.specs.Records.{file_commands, moves_of_records}
 use Rattle.format_traits.specs.Refusals.{first_refusal, stops_of, unless_refused}
-use Rattle.format_traits.specs.RoundTrip.{EncodedActsRoundTrip}
-use Rattle.format_traits.specs.RecordEncodings.{records_of_acts}
+use Rattle.record_formats.specs.RoundTrip.{EncodedActsRoundTrip}
+use Rattle.record_formats.specs.RecordEncodings.{records_of_acts}
 use Rattle.pec_codec.specs.declared.block.TheConstants.{HEADER_LENGTH, LIMIT, MAX_STOPS}
 use Rattle.pec_codec.specs.Header.{pec_header_of, pec_label_of, threads_in, threads_of}
 use Rattle.pec_codec.specs.Laws.{BlocksKeepLaws, RestoresDesign, BlockRoundTrips}

@@ -2,9 +2,9 @@
 use Rattle.std.proofs.Common.{◌≡◌, ℕ, ◌+◌, ◌≤◌, List, length, drop, ap, arith}
 use Rattle.std.proofs.lemmas.Bool.{le-ltb}
 use Rattle.std.proofs.lemmas.List.{drop-drop, length-drop}
-use Rattle.format_traits.specs.Layouts.{layout_reads}
-use Rattle.format_traits.specs.Readings.{loaded_with}
-use Rattle.format_traits.specs.Records.{file_commands}
+use Rattle.record_formats.specs.Layouts.{layout_reads}
+use Rattle.record_formats.specs.Readings.{loaded_with}
+use Rattle.record_formats.specs.Records.{file_commands}
 use Rattle.pec_codec.specs.declared.block.TheConstants.{HEADER_LENGTH}
 use Rattle.pec_codec.specs.Header.{pec_label_of, threads_in}
 use Rattle.pec_codec.specs.Reading.{pec_block_layout, pec_block_reads, pec_block_records}

@@ -2,9 +2,9 @@
 use Rattle.std.proofs.Common.{◌≡◌, ℕ, ℤ, pos, negsuc, true, false, List, [], ◌∷◌, ◌++◌, map, replicate, Err, refl}
 use Rattle.design_model.specs.declared.point.Point.{Point}
 use Rattle.design_model.specs.declared.command.Command.TheVariants as command
-use Rattle.format_traits.specs.declared.event.Event.TheVariants.{Jump, Stitch, Stop, TrimmedJump}
+use Rattle.record_formats.specs.declared.event.Event.TheVariants.{Jump, Stitch, Stop, TrimmedJump}
 use Rattle.format_traits.specs.declared.fault.ReadFault.TheVariants as fault
-use Rattle.format_traits.specs.Records.{next, over}
+use Rattle.record_formats.specs.Records.{next, over}
 use Rattle.pec_codec.specs.Reading.{pec_block_moves, pec_block_reads, pec_block_shown}
 use Rattle.pec_codec.specs.Records.{pec_records}
 

@@ -2,11 +2,11 @@
 use Rattle.std.proofs.Common.{◌≡◌, ℕ, zero, suc, ◌+◌, ◌-◌, ◌<◌, ◌≤◌, Bool, true, false, ◌&&◌, ◌==◌, nat_lt, List, [], ◌∷◌, ◌++◌, length, drop, Option, Some, None, if◌then◌else◌, refl, ap, sym, subst, ◌∙◌, arith, length-append}
 use Rattle.std.proofs.lemmas.Bool.{false≢true}
 use Rattle.std.proofs.lemmas.List.{drop-append-le}
-use Rattle.format_traits.specs.declared.event.Event.{Event}
-use Rattle.format_traits.specs.declared.record_reader.NextRecord.{NextRecord}
-use Rattle.format_traits.specs.declared.record_reader.NextRecord.TheVariants as cut
-use Rattle.format_traits.specs.RecordDecoding.{DecodesRecord}
-use Rattle.format_traits.specs.Records.{next, over}
+use Rattle.record_formats.specs.declared.event.Event.{Event}
+use Rattle.record_formats.specs.declared.record_reader.NextRecord.{NextRecord}
+use Rattle.record_formats.specs.declared.record_reader.NextRecord.TheVariants as cut
+use Rattle.record_formats.specs.RecordDecoding.{DecodesRecord}
+use Rattle.record_formats.specs.Records.{next, over}
 use Rattle.pec_codec.specs.Steps.{RecordFitsBytes}
 use Rattle.pec_codec.specs.declared.coordinate.Coordinate.{Coordinate}
 use Rattle.pec_codec.specs.Coordinates.{leading_coordinate, long_coordinate_in, coordinate_of_byte}

@@ -3,10 +3,10 @@ use Rattle.std.proofs.Common.{◌≡◌, ℕ, ◌+◌, ◌*◌, ◌/◌, ◌%◌
 use Rattle.std.proofs.lemmas.Bool.{and_parts, leb-true, ne_eqb}
 use Rattle.design_model.specs.declared.point.Point.{Point}
 use Rattle.design_model.specs.Points.{is_point_within, origin}
-use Rattle.format_traits.specs.declared.event.Event.TheVariants as event
-use Rattle.format_traits.specs.declared.record_reader.NextRecord.TheVariants as cut
-use Rattle.format_traits.specs.Records.{next}
-use Rattle.format_traits.specs.RoundTrip.{DecodesEncoding, EncodedEvents}
+use Rattle.record_formats.specs.declared.event.Event.TheVariants as event
+use Rattle.record_formats.specs.declared.record_reader.NextRecord.TheVariants as cut
+use Rattle.record_formats.specs.Records.{next}
+use Rattle.record_formats.specs.RoundTrip.{DecodesEncoding, EncodedEvents}
 use Rattle.pec_codec.specs.declared.block.TheConstants.{LIMIT}
 use Rattle.pec_codec.specs.declared.coordinate.Coordinate.{Coordinate}
 use Rattle.pec_codec.specs.Coordinates.{leading_coordinate, is_short_number, short_bytes, to_twos_complement}

@@ -13,16 +13,18 @@ use Rattle.design_model.specs.Designs.{DesignValue, KeepsLimits}
 use Rattle.design_model.specs.Points.{origin, move_between}
 use Rattle.format_traits.specs.declared.encoder_state.EncoderState.{EncoderState}
 use Rattle.format_traits.specs.Accepted.{AcceptedIsWithinLimits}
-use Rattle.format_traits.specs.MoveHops.{hops_of, part_moves, part_moves_from}
+use Rattle.format_traits.specs.MoveHops.{hops_of}
+use Rattle.record_formats.specs.MoveParts.{part_moves, part_moves_from}
 use Rattle.format_traits.specs.Refusals.{initial_encoder_state, encoder_state_after}
 use Rattle.format_traits.specs.Rooms.{room_of_act, room_of_needle, room_from}
-use Rattle.format_traits.specs.RecordEncodings.{AppendsRecords, hop_records, needle_records, records_of_acts_from, records_of_act}
+use Rattle.record_formats.specs.RecordEncodings.{AppendsRecords, hop_records, needle_records, records_of_acts_from, records_of_act}
 use Rattle.pec_codec.specs.declared.block.TheConstants.{LIMIT, MAX_STOPS, THUMBNAIL_LENGTH}
 use Rattle.pec_codec.specs.Coordinates.{is_short_number, short_bytes}
 use Rattle.pec_codec.specs.RecordBytes.{pec_jump_record, long_record, pec_stitch_record}
 use Rattle.pec_codec.specs.Writing.{pec_body_of, pec_write_limits, pec_encoding}
 use Rattle.pec_codec.specs.Steps.{AppendsBody}
-use Rattle.format_traits.proofs.CallerLemmas.{loose_room, stops_along}
+use Rattle.format_traits.proofs.CallerLemmas.{loose_room}
+use Rattle.record_formats.proofs.CallerLemmas.{stops_along}
 
 length-concat-append : (xs ys : List (List ℕ)) → length (concat (xs ++ ys)) ≡ length (concat xs) + length (concat ys)
 length-concat-append [] ys = omega arith

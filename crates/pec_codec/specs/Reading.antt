@@ -5,8 +5,8 @@ use Rattle.design_model.specs.declared.point.Point.{Point}
 use Rattle.format_traits.specs.declared.fault.ReadFault.{ReadFault}
 use Rattle.format_traits.specs.declared.fault.ReadFault.TheVariants as fault
 use Rattle.format_traits.specs.declared.loaded.Loaded.{Loaded}
-use Rattle.format_traits.specs.Layouts.{Layout, layout_decoded, layout_reads}
-use Rattle.format_traits.specs.Records.{Records, moves_of_records}
+use Rattle.record_formats.specs.Layouts.{Layout, layout_decoded, layout_reads}
+use Rattle.record_formats.specs.Records.{Records, moves_of_records}
 use Rattle.pec_codec.specs.declared.block.TheConstants.{HEADER_LENGTH}
 use Rattle.pec_codec.specs.Header.{pec_label_of, threads_in}
 use Rattle.pec_codec.specs.Records.{pec_records}

@@ -2,11 +2,11 @@
 -- the end of the bytes is none.
 use Rattle.std.specs.Prelude.{ℕ, zero, suc, ◌+◌, ◌-◌, Bool, true, false, ◌&&◌, ◌||◌, List, [], ◌∷◌, drop, Option, Some, None, ◌==◌, if◌then◌else◌}
 use Rattle.design_model.specs.declared.point.Point.{Point}
-use Rattle.format_traits.specs.declared.event.Event.{Event}
-use Rattle.format_traits.specs.declared.event.Event.TheVariants as event
-use Rattle.format_traits.specs.declared.record_reader.NextRecord.{NextRecord}
-use Rattle.format_traits.specs.declared.record_reader.NextRecord.TheVariants as cut
-use Rattle.format_traits.specs.Records.{Records, over, refused, next}
+use Rattle.record_formats.specs.declared.event.Event.{Event}
+use Rattle.record_formats.specs.declared.event.Event.TheVariants as event
+use Rattle.record_formats.specs.declared.record_reader.NextRecord.{NextRecord}
+use Rattle.record_formats.specs.declared.record_reader.NextRecord.TheVariants as cut
+use Rattle.record_formats.specs.Records.{Records, over, refused, next}
 use Rattle.pec_codec.specs.declared.coordinate.Coordinate.{Coordinate}
 use Rattle.pec_codec.specs.Coordinates.{leading_coordinate}
 

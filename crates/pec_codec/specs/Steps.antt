@@ -5,12 +5,11 @@ use Rattle.design_model.specs.Acts.{acts_of}
 use Rattle.design_model.specs.Designs.{DesignValue}
 use Rattle.design_model.specs.Points.{is_point_within}
 use Rattle.format_traits.specs.declared.fault.WriteFault.{WriteFault}
-use Rattle.format_traits.specs.declared.record_reader.NextRecord.{NextRecord}
-use Rattle.format_traits.specs.declared.record_reader.NextRecord.TheVariants as cut
-use Rattle.format_traits.specs.declared.record_reader.TheConstants.{MAX_RECORD_MOVE, MAX_RECORD}
-use Rattle.format_traits.specs.Records.{moves_of_event}
-use Rattle.format_traits.specs.Refusals.{first_refusal, stops_of}
-use Rattle.format_traits.specs.RecordEncodings.{IsSpecifiedRefusal}
+use Rattle.record_formats.specs.declared.record_reader.NextRecord.{NextRecord}
+use Rattle.record_formats.specs.declared.record_reader.NextRecord.TheVariants as cut
+use Rattle.record_formats.specs.declared.record_reader.TheConstants.{MAX_RECORD_MOVE, MAX_RECORD}
+use Rattle.record_formats.specs.Records.{moves_of_event}
+use Rattle.format_traits.specs.Refusals.{first_refusal, stops_of, IsSpecifiedRefusal}
 use Rattle.pec_codec.specs.Writing.{pec_body_of, pec_write_limits}
 
 -- A decoded record is within the bytes, is not empty, and moves no further than any format's

@@ -7,7 +7,7 @@ use Rattle.design_model.specs.Designs.{DesignValue}
 use Rattle.format_traits.specs.declared.fault.WriteFault.{WriteFault}
 use Rattle.format_traits.specs.declared.encoder_state.WriteLimits.{WriteLimits}
 use Rattle.format_traits.specs.Refusals.{first_refusal, stops_of, unless_refused}
-use Rattle.format_traits.specs.RecordEncodings.{RecordEncoding, records_of_acts}
+use Rattle.record_formats.specs.RecordEncodings.{RecordEncoding, records_of_acts}
 use Rattle.pec_codec.specs.declared.block.TheConstants.{HEADER_LENGTH, LABELS_LENGTH, LIMIT, MAX_STOPS, THUMBNAIL_LENGTH}
 use Rattle.pec_codec.specs.Header.{pec_header_of}
 use Rattle.pec_codec.specs.RecordBytes.{pec_end_record, pec_jump_record, pec_stitch_record, pec_stop_record, pec_trim_record}

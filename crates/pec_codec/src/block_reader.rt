@@ -1,13 +1,14 @@
 ghost use Rattle.std.specs.Prelude.{◌≡◌, ◌+◌, ◌<◌, ◌≤◌, ◌^◌, [], false, length};
 ghost use Rattle.format_traits.specs.declared.feed.TheConstants.{MAX_FED};
 ghost use Rattle.format_traits.specs.Feeding.{Feeds, Finishes, HasNothingFed};
-ghost use Rattle.format_traits.specs.Layouts.{layout_decoded, layout_reads};
+ghost use Rattle.record_formats.specs.Layouts.{layout_decoded, layout_reads};
 ghost use Rattle.pec_codec.specs.Reading.{pec_block_layout};
 
 use crate::pec_records::PecRecords;
 use design_model::Command;
-use format_traits::{Fed, Feed, Loaded, ReadFault, RecordDecoder};
+use format_traits::{Fed, Feed, Loaded, ReadFault};
 use lists_and_numbers::Memory;
+use record_formats::RecordDecoder;
 use std::alloc::Global;
 
 /// A reader of a block that is fed in chunks.

@@ -3,8 +3,9 @@ use crate::header::read_header;
 use crate::record_decoding::decode_record;
 use crate::record_encoding::{put_jump, put_stitch, put_stop, put_trim};
 use design_model::{Design, Point};
-use format_traits::{NextRecord, RecordReader, RecordWriter, WriteLimits};
+use format_traits::WriteLimits;
 use lists_and_numbers::{Bytes, Memory};
+use record_formats::{NextRecord, RecordReader, RecordWriter};
 
 /// The reader and writer of the records of a block.
 #[derive(Clone, Copy)]

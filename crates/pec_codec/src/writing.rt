@@ -12,8 +12,9 @@ use crate::header::new_header;
 use crate::pec_records::PecRecords;
 use crate::theorems::{blocks_read_back, designs_keep_limits};
 use design_model::Design;
-use format_traits::{WriteFault, accepted_designs_are_small, put_acts, put_spaces, with_front};
+use format_traits::{WriteFault, accepted_designs_are_small, put_spaces, with_front};
 use lists_and_numbers::{Bytes, Memory};
+use record_formats::put_acts;
 use std::alloc::Global;
 
 /// The end of the records.

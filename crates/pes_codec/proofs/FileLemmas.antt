@@ -6,7 +6,7 @@ use Rattle.std.proofs.lemmas.List.{drop-append-le, drop-drop, drop_all, length-d
 use Rattle.lists_and_numbers.specs.declared.memory.Memory.{Memory}
 use Rattle.format_traits.specs.declared.fault.ReadFault.{ReadFault}
 use Rattle.format_traits.specs.declared.fault.ReadFault.TheVariants as fault
-use Rattle.format_traits.specs.Layouts.{layout_decoded, layout_reads, layout_state}
+use Rattle.record_formats.specs.Layouts.{layout_decoded, layout_reads, layout_state}
 use Rattle.format_traits.specs.DecoderStates.{IsSameDecoderState, DecodedSoFar, DecoderState, TakesBytes}
 use Rattle.pec_codec.specs.Reading.{pec_block_layout}
 use Rattle.pes_codec.specs.declared.file_stage.FileStage.TheVariants as stage

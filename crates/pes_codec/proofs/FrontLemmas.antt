@@ -6,7 +6,7 @@ use Rattle.design_model.specs.Designs.{DesignValue}
 use Rattle.design_model.specs.Points.{is_point_within}
 use Rattle.format_traits.specs.declared.fault.WriteFault.{WriteFault}
 use Rattle.format_traits.specs.Laws.{KeepsLaws, MovesWithin, RoundTrips}
-use Rattle.format_traits.specs.Layouts.{layout_reads}
+use Rattle.record_formats.specs.Layouts.{layout_reads}
 use Rattle.format_traits.specs.Meanings.{Meaning}
 use Rattle.format_traits.specs.PlainDesigns.{IsPlain}
 use Rattle.pec_codec.specs.declared.block.TheConstants.{LIMIT}

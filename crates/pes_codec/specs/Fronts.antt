@@ -5,7 +5,7 @@ use Rattle.design_model.specs.declared.command.Command.{Command}
 use Rattle.format_traits.specs.declared.fault.ReadFault.{ReadFault}
 use Rattle.format_traits.specs.declared.fault.ReadFault.TheVariants as fault
 use Rattle.format_traits.specs.declared.loaded.Loaded.{Loaded}
-use Rattle.format_traits.specs.Layouts.{layout_decoded, layout_reads}
+use Rattle.record_formats.specs.Layouts.{layout_decoded, layout_reads}
 use Rattle.pec_codec.specs.Reading.{pec_block_layout}
 use Rattle.pes_codec.specs.declared.front.TheConstants.{OFFSET_END, PEC_BLOCK_OFFSET}
 use Rattle.pes_codec.specs.Files.{block_offset_in, is_pec_file, is_pes_file}

@@ -1,7 +1,8 @@
 use crate::file_front::FileFront;
 use crate::file_stage::FileStage;
 use design_model::Command;
-use format_traits::{Decoder, Loaded, ReadFault, RecordDecoder};
+use format_traits::{Decoder, Loaded, ReadFault};
+use record_formats::RecordDecoder;
 use lists_and_numbers::Memory;
 use pec_codec::{PecRecords, block_decoder};
 use std::alloc::Global;

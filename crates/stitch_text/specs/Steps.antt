@@ -3,8 +3,7 @@ use Rattle.std.specs.Prelude.{◌≡◌, ℕ, List, ◌∷◌, ◌++◌, [], Non
 use Rattle.design_model.specs.declared.act.NumberedAct.{NumberedAct}
 use Rattle.format_traits.specs.declared.fault.WriteFault.{WriteFault}
 use Rattle.format_traits.specs.declared.encoder_state.EncoderState.{EncoderState}
-use Rattle.format_traits.specs.Refusals.{first_refusal, refusal_of_act, encoder_state_after}
-use Rattle.format_traits.specs.RecordEncodings.{IsSpecifiedRefusal}
+use Rattle.format_traits.specs.Refusals.{first_refusal, refusal_of_act, encoder_state_after, IsSpecifiedRefusal}
 use Rattle.stitch_text.specs.declared.stitch_list.TheConstants.{LIMIT}
 use Rattle.stitch_text.specs.StitchLists.{act_line, act_lines, list_write_limits}
 

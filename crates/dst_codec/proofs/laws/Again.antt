@@ -10,10 +10,10 @@ use Rattle.format_traits.specs.declared.fault.WriteFault.{WriteFault}
 use Rattle.format_traits.specs.declared.loaded.Loaded.{Loaded}
 use Rattle.format_traits.specs.Accepted.{AcceptedIsWithinLimits}
 use Rattle.format_traits.specs.Laws.{HasSameActs, MovesWithin, IsCodec}
-use Rattle.format_traits.specs.Readings.{loaded_with}
-use Rattle.format_traits.specs.Records.{moves_of_records}
+use Rattle.record_formats.specs.Readings.{loaded_with}
+use Rattle.record_formats.specs.Records.{moves_of_records}
 use Rattle.format_traits.specs.Refusals.{first_refusal, unless_refused}
-use Rattle.format_traits.specs.RoundTrip.{EncodedActsRoundTrip}
+use Rattle.record_formats.specs.RoundTrip.{EncodedActsRoundTrip}
 use Rattle.dst_codec.specs.declared.dst.TheConstants.{LIMIT, MAX_STOPS}
 use Rattle.dst_codec.specs.declared.header.TheConstants.{HEADER_LENGTH}
 use Rattle.dst_codec.specs.Format.{dst_meaning}

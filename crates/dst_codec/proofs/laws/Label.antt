@@ -6,7 +6,7 @@ use Rattle.design_model.specs.Acts.{acts_of}
 use Rattle.format_traits.specs.LabelFields.{label_field, label_in, LabelFieldsRoundTrip}
 use Rattle.format_traits.specs.Accepted.{AcceptedIsWithinLimits}
 use Rattle.format_traits.specs.Refusals.{first_refusal}
-use Rattle.format_traits.specs.RoundTrip.{EncodedActsRoundTrip}
+use Rattle.record_formats.specs.RoundTrip.{EncodedActsRoundTrip}
 use Rattle.dst_codec.specs.declared.header.HeaderNumbers.{HeaderNumbers}
 use Rattle.dst_codec.specs.declared.header.TheConstants.{HEADER_LENGTH}
 use Rattle.dst_codec.specs.Header.{field, number_field, signed_field, fields_of, dst_header_of}

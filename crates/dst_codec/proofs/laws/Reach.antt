@@ -12,15 +12,16 @@ use Rattle.design_model.specs.declared.point.Point.{Point}
 use Rattle.design_model.specs.Acts.{acts_from, acts_along, numbered}
 use Rattle.design_model.specs.Commands.{is_command_in_range}
 use Rattle.design_model.specs.Points.{origin, move_between, move_size, is_same_point}
-use Rattle.format_traits.specs.declared.event.Event.TheVariants as event
+use Rattle.record_formats.specs.declared.event.Event.TheVariants as event
 use Rattle.format_traits.specs.declared.fault.ReadFault.{ReadFault}
 use Rattle.format_traits.specs.declared.fault.ReadFault.TheVariants as read
 use Rattle.format_traits.specs.declared.fault.WriteFault.{WriteFault}
 use Rattle.format_traits.specs.declared.fault.WriteFault.TheVariants as fault
 use Rattle.format_traits.specs.declared.encoder_state.EncoderState.{EncoderState}
-use Rattle.format_traits.specs.MoveHops.{position_after_move, hops_of}
-use Rattle.format_traits.specs.Readings.{FileCommands, with_commands_before, checked_command, checked_commands, loaded_with}
-use Rattle.format_traits.specs.Records.{Records, next, file_commands_from, file_commands}
+use Rattle.format_traits.specs.MoveHops.{hops_of}
+use Rattle.record_formats.specs.MoveParts.{position_after_move}
+use Rattle.record_formats.specs.Readings.{FileCommands, with_commands_before, checked_command, checked_commands, loaded_with}
+use Rattle.record_formats.specs.Records.{Records, next, file_commands_from, file_commands}
 use Rattle.format_traits.specs.Refusals.{initial_encoder_state, encoder_state_after, is_above_max, refusal_if, refusal_of_needle, refusal_before_room, or_else, refusal_of_act, first_refusal_from, first_refusal, unless_refused}
 use Rattle.dst_codec.specs.declared.dst.TheConstants.{LIMIT}
 use Rattle.dst_codec.specs.declared.header.TheConstants.{HEADER_LENGTH}

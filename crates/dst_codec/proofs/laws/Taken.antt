@@ -3,9 +3,9 @@ use Rattle.std.proofs.Common.{◌≡◌, ◌≢◌, ℕ, ◌+◌, min, pos, negs
 use Rattle.std.proofs.lemmas.Bool.{eq-eqb, ne_eqb, eqb-true, eqb-false}
 use Rattle.design_model.specs.declared.point.Point.{Point}
 use Rattle.design_model.specs.Points.{is_point_within, origin}
-use Rattle.format_traits.specs.declared.event.Event.TheVariants as event
-use Rattle.format_traits.specs.Records.{Records, over, next}
-use Rattle.format_traits.specs.RoundTrip.{EncodedEvents, DecodesEncoding}
+use Rattle.record_formats.specs.declared.event.Event.TheVariants as event
+use Rattle.record_formats.specs.Records.{Records, over, next}
+use Rattle.record_formats.specs.RoundTrip.{EncodedEvents, DecodesEncoding}
 use Rattle.dst_codec.specs.declared.dst.TheConstants.{LIMIT}
 use Rattle.dst_codec.specs.declared.record_kind.RecordKind.TheVariants as kind
 use Rattle.dst_codec.specs.Reading.{dst_records_from}

@@ -1,4 +1,4 @@
-use Rattle.format_traits.proofs.rereading.Again.{codecs_keep_laws}
+use Rattle.format_traits.proofs.LawLemmas.{codecs_keep_laws}
 use Rattle.format_traits.proofs.theorems.codecs_keep_the_laws.Goals as goal
 
 pub returns : goal.returns

@@ -1,5 +1,5 @@
 use Rattle.std.proofs.Common.{◌≤◌, ◌∙◌, length, rules}
-use Rattle.format_traits.specs.RecordStates.{record_so_far_at, record_state_at}
+use Rattle.record_formats.specs.RecordStates.{record_so_far_at, record_state_at}
 use Rattle.pec_codec.specs.Reading.{pec_block_layout}
 use Rattle.pec_codec.specs.Records.{pec_records}
 use Rattle.pes_codec.proofs.FileLemmas.{front_known, front_short}

@@ -1,8 +1,0 @@
-pub mod Hops
-pub mod Parts
-pub mod Steps
-pub mod Runs
-pub mod Trims
-pub mod Acts
-pub mod Rooms
-pub mod Again

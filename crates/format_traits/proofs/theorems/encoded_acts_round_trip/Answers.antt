@@ -1,5 +1,0 @@
-use Rattle.format_traits.proofs.rereading.Again.{spelled_acts_read_again}
-use Rattle.format_traits.proofs.theorems.encoded_acts_round_trip.Goals as goal
-
-pub returns : goal.returns
-returns c = spelled_acts_read_again

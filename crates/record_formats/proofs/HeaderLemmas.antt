@@ -1,0 +1,45 @@
+-- The results of bytes before which a header is taken.
+use Rattle.std.proofs.Common.{◌≡◌, ℕ, ◌+◌, List, [], ◌++◌, length, drop, ap, sym, ◌∙◌, subst, arith, length-append, append_assoc}
+use Rattle.std.proofs.Math.Seq.{drop-append-add}
+use Rattle.format_traits.specs.DecoderStates.{ContinuesAs, IsSameDecoderState, IsAtRecordBoundary, DecodedSoFar, DecoderState, TakesBytes}
+
+-- after no header is the whole file
+pub same_behind : (fresh new : DecoderState) (header : ℕ) → header ≡ 0 → ((at : ℕ) → ContinuesAs fresh new at (at + header) [] [])
+    → IsSameDecoderState new fresh
+same_behind fresh new header none on =
+    let here : (at : ℕ) → at + header ≡ at = λ at. omega (arith, none) in
+    record {
+      rest = λ at bytes. sym ((on at).rest bytes ∙ ap (λ n. new.rest n bytes) (here at));
+      decoded = λ at bytes. sym ((on at).decoded bytes ∙ ap (λ n. new.decoded n bytes) (here at));
+    }
+
+-- what is taken after a header that is whole
+pub takes_behind : (fresh middle new : DecoderState) (so_far : DecodedSoFar) (at least header size : ℕ) (bytes front back : List ℕ)
+    → bytes ≡ front ++ back → length front ≡ header → least ≡ header → ContinuesAs fresh middle at (at + least) front []
+    → TakesBytes middle new so_far (at + header) back size → TakesBytes fresh new so_far at bytes (header + size)
+takes_behind fresh middle new so_far at least header size bytes front back whole of_header of_least entered takes =
+    let on : ContinuesAs fresh middle at (at + header) front [] =
+    subst (λ n. ContinuesAs fresh middle at (at + n) front []) of_least entered in
+    let parts : length bytes ≡ header + length back =
+    ap length whole ∙ length-append front back ∙ ap (λ n. n + length back) of_header in
+    let there = takes.there in
+    let few = takes.few in
+    let far : at + (header + size) ≡ (at + header) + size = omega arith in
+    let left : drop (header + size) bytes ≡ drop size back =
+    ap (drop (header + size)) whole ∙ ap (λ n. drop (n + size) (front ++ back)) (sym of_header) ∙ drop-append-add front back size in
+    record {
+      there = omega (arith, parts, there);
+      few = omega (arith, parts, few);
+      on = record {
+        rest = λ more. ap (λ bytes. fresh.rest at (bytes ++ more)) whole ∙ ap (fresh.rest at) (append_assoc front back more)
+            ∙ on.rest (back ++ more) ∙ takes.on.rest more
+            ∙ ap (λ n. new.rest n (drop size back ++ more)) (sym far)
+            ∙ ap (λ left. new.rest (at + (header + size)) (left ++ more)) (sym left);
+        decoded = λ more. ap (λ bytes. fresh.decoded at (bytes ++ more)) whole ∙ ap (fresh.decoded at) (append_assoc front back more)
+            ∙ on.decoded (back ++ more) ∙ takes.on.decoded more
+            ∙ ap (λ n. new.decoded n (drop size back ++ more)) (sym far)
+            ∙ ap (λ left. new.decoded (at + (header + size)) (left ++ more)) (sym left);
+      };
+      settled = subst (λ n. IsAtRecordBoundary new so_far n (drop (header + size) bytes)) (sym far)
+          (subst (λ left. IsAtRecordBoundary new so_far ((at + header) + size) left) (sym left) takes.settled);
+    }

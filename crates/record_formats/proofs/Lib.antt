@@ -1,0 +1,8 @@
+pub mod CallerLemmas
+pub mod CommandAddingLemmas
+pub mod PointLemmas
+pub mod HeaderLemmas
+mod RecordFacts
+mod RoundTripFacts
+pub mod WriterLemmas
+pub mod rereading

@@ -1,0 +1,9 @@
+pub mod MoveParts
+pub mod Readings
+pub mod CommandAdding
+pub mod Records
+pub mod RecordDecoding
+pub mod Layouts
+pub mod RecordStates
+pub mod RecordEncodings
+pub mod RoundTrip
