@@ -1,32 +1,28 @@
 -- After a change of duals the step can be made, and the invariants still hold.
 use Rattle.std.proofs.Common.{◌≡◌, ◌≢◌, ℕ, ◌+◌, ◌*◌, ◌^◌, ◌≤◌, ◌<◌, suc, zero, List, [], ◌∷◌, flat_map, length, drop, arith, refl, sym, ap, subst, ◌∙◌}
-use Rattle.blossom_match.specs.Lists.{Each}
-use Rattle.blossom_match.specs.DualSets.{DualSet, OddSetValue, apart, dual_sets, count, height, dual_load, with_dual}
-use Rattle.blossom_match.specs.MatchedSets.{match_members, match_dual_sets, IsMatch}
-use Rattle.blossom_match.specs.SoundSets.{IsSoundBranch, IsSoundMatch, IsSoundSet, IsTight}
-use Rattle.blossom_match.specs.Trees.{outer_with_both, one_if_both, branch_dual_sets, inner_dual_sets, inner_members, inner_sets, outer_members, outer_sets, IsAlternatingTree}
-use Rattle.blossom_match.specs.Expansions.{FirstCanExpand}
+use Rattle.odd_sets.specs.Lists.{Each}
+use Rattle.odd_sets.specs.DualSets.{DualSet, OddSetValue, apart, dual_sets, count, height, dual_load, with_dual}
+use Rattle.odd_sets.specs.MatchedSets.{match_members, match_dual_sets, IsMatch}
+use Rattle.odd_sets.specs.SoundSets.{IsSoundBranch, IsSoundMatch, IsSoundSet, IsTight}
+use Rattle.odd_sets.specs.Trees.{outer_with_both, one_if_both, branch_dual_sets, inner_dual_sets, inner_members, inner_sets, outer_members, outer_sets, IsAlternatingTree}
+use Rattle.odd_sets.specs.Expansions.{FirstCanExpand}
 use Rattle.blossom_match.specs.Searches.{stored_height, dual_height, search_holding_both, outer_vertices, IsStepReady, IsSearch}
 use Rattle.blossom_match.specs.LeastChanges.{IsLeastChange, CanSearch, FirstHasDual, IsReadyAfter, AllowsChange}
 use Rattle.blossom_match.specs.Duals.{all_changed, changed_by, CanChange, CanChangeHeights, CanAdjust, ChangesDuals, CanStepAfter, Adjusts}
-use Rattle.blossom_match.specs.TableValue.{TableValue}
-use Rattle.blossom_match.specs.Tables.{entry, IsMetric, IsTable, HasTriangleInequality}
-use Rattle.blossom_match.specs.declared.table.TheConstants.{MAX_DISTANCE}
-use Rattle.blossom_match.specs.declared.odd_set.TightEdge.{TightEdge}
-use Rattle.blossom_match.specs.Values.{BranchValue, MatchValue, SearchValue}
+use Rattle.odd_sets.specs.TableValue.{TableValue}
+use Rattle.odd_sets.specs.Tables.{entry, IsMetric, IsTable, HasTriangleInequality}
+use Rattle.odd_sets.specs.declared.table.TheConstants.{MAX_DISTANCE}
+use Rattle.odd_sets.specs.declared.odd_set.TightEdge.{TightEdge}
+use Rattle.odd_sets.specs.Values.{BranchValue, MatchValue, SearchValue}
 use Rattle.blossom_match.specs.declared.search.SearchStep.{SearchStep}
 use Rattle.blossom_match.specs.declared.search.SearchStep.TheVariants.{Augment, Grow, Shrink, Expand}
 use Rattle.blossom_match.specs.declared.least.DualChange.{DualChange}
-use Rattle.blossom_match.proofs.ListLemmas.{each-right}
-use Rattle.blossom_match.proofs.SumLemmas.{count-append, members-append, some_member}
-use Rattle.blossom_match.proofs.TreeLemmas.{base_in}
-use Rattle.blossom_match.proofs.ExpandLemmas.{grown-right}
+use Rattle.odd_sets.proofs.CallerLemmas.{each-right, count-append, members-append, some_member, base_in, grown-right, entry-comm}
 use Rattle.blossom_match.proofs.ScanLemmas.{apart_from}
 use Rattle.blossom_match.proofs.SearchLemmas.{in_place, is_one, place_in}
 use Rattle.blossom_match.proofs.FreeLemmas.{load_of, load_of-comm, under}
 use Rattle.blossom_match.proofs.BoundLemmas.{height_limit, loads_apart}
 use Rattle.blossom_match.proofs.DualLemmas.{outer_with_both-comm, around_same_all, between_in, between_out, branches_load, branches_tall, counted, matches_same, drop_changed, each_split, firm_changed, grown_same, inner_same, inside, more_wide, one_place, outer_limit, outer_same, set_limit, sizes_same, sound_up, times_by, wide_tall, within}
-use Rattle.blossom_match.proofs.CallerLemmas.{entry-comm}
 
 -- the inner blossom at which the step is due has dual 0 after the change
 due_comes_apart : (by : ℕ) (bs : List BranchValue) → FirstHasDual by bs → FirstCanExpand (all_changed by bs)

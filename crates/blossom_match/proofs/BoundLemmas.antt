@@ -1,33 +1,28 @@
 -- Loads between sets as heights, and the slack between places.
 use Rattle.std.proofs.Common.{◌≡◌, ◌≢◌, ℕ, ◌+◌, ◌-◌, ◌*◌, ◌<◌, ◌≤◌, ◌⊎◌, inl, inr, suc, zero, List, [], ◌∷◌, ◌++◌, length, get_or, arith, refl, sym, ap, subst, ◌∙◌}
-use Rattle.blossom_match.specs.Lists.{Each}
-use Rattle.blossom_match.specs.DualSets.{OddSetValue, IsOddSet, dual_sets, count, height, dual_load}
-use Rattle.blossom_match.specs.MatchedSets.{match_members, match_dual_sets}
-use Rattle.blossom_match.specs.SoundSets.{IsSoundBranch, IsSoundMatch}
-use Rattle.blossom_match.specs.Trees.{outer_with_both, one_if_both, branch_dual_sets, inner_members}
+use Rattle.odd_sets.specs.Lists.{Each}
+use Rattle.odd_sets.specs.DualSets.{OddSetValue, IsOddSet, dual_sets, count, height, dual_load}
+use Rattle.odd_sets.specs.MatchedSets.{match_members, match_dual_sets}
+use Rattle.odd_sets.specs.SoundSets.{IsSoundBranch, IsSoundMatch}
+use Rattle.odd_sets.specs.Trees.{outer_with_both, one_if_both, branch_dual_sets, inner_members}
 use Rattle.blossom_match.specs.Searches.{dual_height, search_holding_both, outer_vertices, IsSearch}
-use Rattle.blossom_match.specs.Heights.{HeightsAre}
-use Rattle.blossom_match.specs.TableValue.{TableValue}
-use Rattle.blossom_match.specs.Tables.{entry, IsTable}
+use Rattle.odd_sets.specs.Heights.{HeightsAre}
+use Rattle.odd_sets.specs.TableValue.{TableValue}
+use Rattle.odd_sets.specs.Tables.{entry, IsTable}
 use Rattle.blossom_match.specs.LeastChanges.{step_of, IsLeastChange, IsReadyAfter, IsLesserChange, IsBlossomDual}
 use Rattle.blossom_match.specs.OuterSlacks.{AreOuterSlacks, ReachesEither}
 use Rattle.blossom_match.specs.Candidates.{change_at, target_vertices, IsBestCandidate, IsCandidateAmong, CanFindEdge, IsCandidate, IsCandidateChange}
-use Rattle.blossom_match.specs.declared.table.TheConstants.{FAR}
+use Rattle.odd_sets.specs.declared.table.TheConstants.{FAR}
 use Rattle.blossom_match.specs.declared.least.Target.{Target}
 use Rattle.blossom_match.specs.declared.least.Kind.{Kind}
-use Rattle.blossom_match.specs.declared.table.TheConstants.{MAX_DISTANCE}
-use Rattle.blossom_match.specs.Values.{BranchValue, MatchValue, SearchValue}
+use Rattle.odd_sets.specs.declared.table.TheConstants.{MAX_DISTANCE}
+use Rattle.odd_sets.specs.Values.{BranchValue, MatchValue, SearchValue}
 use Rattle.blossom_match.specs.declared.search.SearchStep.{SearchStep}
 use Rattle.blossom_match.specs.declared.least.DualChange.{DualChange}
 use Rattle.blossom_match.specs.declared.least.Kind.TheVariants as kind
-use Rattle.blossom_match.proofs.SlackRowLemmas.{far_is}
-use Rattle.blossom_match.proofs.SumLemmas.{count-append, height-append, dual_load-append, load_across, load_along, low, some_member}
-use Rattle.blossom_match.proofs.ScanLemmas.{around_none}
+use Rattle.odd_sets.proofs.CallerLemmas.{far_is, count-append, height-append, dual_load-append, load_across, load_along, low, some_member, two_even, around_same, base_in, around_none, entry-comm}
 use Rattle.blossom_match.proofs.SearchLemmas.{is_one, place_in, low_branches, low_matches}
 use Rattle.blossom_match.proofs.FreeLemmas.{load_of}
-use Rattle.blossom_match.proofs.ShrinkLemmas.{two_even}
-use Rattle.blossom_match.proofs.TreeLemmas.{around_same, base_in}
-use Rattle.blossom_match.proofs.CallerLemmas.{entry-comm}
 
 load_case : (n : ℕ) (a b : ℕ) (s : OddSetValue) → IsOddSet s → count a s.members ≡ n → one_if_both a b s ≡ 0 → dual_load a b (dual_sets s)
     ≡ height a (dual_sets s) + height b (dual_sets s)

@@ -1,22 +1,17 @@
 -- The vertex to which an edge becomes tight by the least change of duals.
 use Rattle.std.proofs.Common.{◌≡◌, ℕ, ◌+◌, ◌≤◌, ◌<◌, ◌⊎◌, inl, inr, suc, zero, List, [], ◌∷◌, length, take, drop, get_or, None, arith, refl, sym, ap, subst, ◌∙◌}
 use Rattle.std.proofs.lemmas.List.{drop_all}
-use Rattle.blossom_match.specs.DualSets.{OddSetValue, count}
-use Rattle.blossom_match.specs.Trees.{outer_with_both, one_if_both, outer_members, outer_sets}
-use Rattle.blossom_match.specs.LeastChanges.{count_holding_both}
+use Rattle.odd_sets.specs.DualSets.{OddSetValue, count}
+use Rattle.odd_sets.specs.Trees.{outer_with_both, one_if_both, outer_members, outer_sets, count_holding_both}
 use Rattle.blossom_match.specs.OuterSlacks.{slack_from, IsSlackFromOne, IsOuterSlack}
 use Rattle.blossom_match.specs.Candidates.{change_at, IsBestCandidate, IsCandidateAmong, CanFindEdge, FindsSlackInSet}
-use Rattle.blossom_match.specs.TableValue.{TableValue}
-use Rattle.blossom_match.specs.declared.table.TheConstants.{FAR}
-use Rattle.blossom_match.specs.Values.{BranchValue}
+use Rattle.odd_sets.specs.TableValue.{TableValue}
+use Rattle.odd_sets.specs.declared.table.TheConstants.{FAR}
+use Rattle.odd_sets.specs.Values.{BranchValue}
 use Rattle.blossom_match.specs.declared.least.Target.{Target}
 use Rattle.blossom_match.specs.declared.least.Kind.{Kind}
-use Rattle.blossom_match.proofs.ListLemmas.{drop_here, number_here, take_here}
-use Rattle.blossom_match.proofs.SumLemmas.{count-append, members-append, members_push}
-use Rattle.blossom_match.proofs.RaisedLemmas.{outer_places}
-use Rattle.blossom_match.proofs.ScanLemmas.{around_first, split_here}
-use Rattle.blossom_match.proofs.ChainLemmas.{around_append}
-use Rattle.blossom_match.proofs.TreeLemmas.{base_in}
+use Rattle.odd_sets.proofs.CallerLemmas.{drop_here, number_here, take_here, count-append, members-append, members_push, outer_places, around_append, base_in, around_first}
+use Rattle.blossom_match.proofs.ScanLemmas.{split_here}
 
 aims_in : (hs reach : List ℕ) (k : Kind) (xs zs : List ℕ) (aim : Target) → ((x : ℕ) → count x xs ≤ count x zs)
     → IsCandidateAmong hs reach k xs aim

@@ -4,28 +4,28 @@ use Rattle.std.specs.List.{All, AllPairs}
 use Rattle.std.proofs.lemmas.Bool.{eqb-true, eqb-false, ltb-true, ltb-false}
 use Rattle.std.proofs.lemmas.List.Elements.{All-nil, All-cons}
 use Rattle.std.proofs.lemmas.List.Kept.{AllPairs-cons}
-use Rattle.blossom_match.specs.Lists.{Each, EachPair}
-use Rattle.blossom_match.specs.DualSets.{DualSet, apart, count, one_if_equal, dual_load}
-use Rattle.blossom_match.specs.MatchedSets.{match_members, match_dual_sets, IsMatch, IsTightMatch}
-use Rattle.blossom_match.specs.SoundSets.{IsSoundMatch}
+use Rattle.odd_sets.specs.Lists.{Each, EachPair}
+use Rattle.odd_sets.specs.DualSets.{DualSet, apart, count, one_if_equal, dual_load}
+use Rattle.odd_sets.specs.MatchedSets.{match_members, match_dual_sets, IsMatch, IsTightMatch}
+use Rattle.odd_sets.specs.SoundSets.{IsSoundMatch}
 use Rattle.blossom_match.specs.Searches.{stored_height, IsSearch, IsPartialMatching, CanStepAt}
 use Rattle.blossom_match.specs.LeastChanges.{IsLeastChange, CanSearch}
-use Rattle.blossom_match.specs.Blossoms.{vertex_set}
+use Rattle.odd_sets.specs.Blossoms.{vertex_set}
 use Rattle.blossom_match.specs.Duals.{CanAdjust, Adjusts}
 use Rattle.blossom_match.specs.Phases.{BeginsSearch, MakesProgress, MatchesAll, IsStepResult, IsPartialWithHeights}
 use Rattle.blossom_match.specs.Taken.{IsOddMoatIn, AreMoatsIn, TakesApartMatches}
 use Rattle.blossom_match.specs.Matchings.{AreLaminar, IsOptimalMatching, IsOddMoat}
-use Rattle.blossom_match.specs.TableValue.{TableValue}
-use Rattle.blossom_match.specs.Tables.{entry, IsMetric}
-use Rattle.blossom_match.specs.Values.{MatchValue, SearchValue}
+use Rattle.odd_sets.specs.TableValue.{TableValue}
+use Rattle.odd_sets.specs.Tables.{entry, IsMetric}
+use Rattle.odd_sets.specs.Values.{MatchValue, SearchValue}
 use Rattle.blossom_match.specs.declared.matching.Moat.{Moat}
 use Rattle.blossom_match.specs.declared.matching.Pair.{Pair}
 use Rattle.blossom_match.specs.declared.least.DualChange.{DualChange}
-use Rattle.blossom_match.specs.Slots.{matches_in}
+use Rattle.odd_sets.specs.Slots.{matches_in}
 use Rattle.blossom_match.specs.States.{search_value}
 use Rattle.blossom_match.specs.declared.phase.StepResult.{StepResult}
 use Rattle.blossom_match.specs.declared.phase.StepResult.TheVariants.{More, Done}
-use Rattle.blossom_match.proofs.SumLemmas.{count-append, hit_same}
+use Rattle.odd_sets.proofs.CallerLemmas.{count-append, hit_same}
 use Rattle.blossom_match.proofs.FreeLemmas.{begun}
 use Rattle.blossom_match.proofs.SearchLemmas.{is_one, place_in}
 

@@ -1,64 +1,15 @@
 -- A set that takes the place of some outer sets, and the slacks from the outer vertices.
-use Rattle.std.proofs.Common.{◌≡◌, ℕ, ◌+◌, ◌≤◌, ◌<◌, ◌⊎◌, inl, inr, suc, zero, List, [], ◌∷◌, ◌++◌, length, reverse, get_or, arith, refl, ◌∙◌}
-use Rattle.blossom_match.specs.Blossoms.{members_in}
-use Rattle.blossom_match.specs.DualSets.{OddSetValue, count}
-use Rattle.blossom_match.specs.Folds.{FoldsCells, FoldsOuters}
-use Rattle.blossom_match.specs.LeastChanges.{count_holding_both}
+use Rattle.std.proofs.Common.{◌≡◌, ℕ, ◌≤◌, ◌<◌, ◌⊎◌, inl, inr, suc, zero, List, length, get_or, arith, refl, ◌∙◌}
+use Rattle.odd_sets.specs.DualSets.{OddSetValue, count}
+use Rattle.odd_sets.specs.Folds.{FoldsCells, FoldsOuters}
 use Rattle.blossom_match.specs.OuterSlacks.{slack_from, AreOuterSlacks, IsOuterSlack, IsSlackFromOne, LowersBySet, ReachesEither}
-use Rattle.blossom_match.specs.Shrinks.{IsOpenChain}
-use Rattle.blossom_match.specs.SoundSets.{IsSoundBranch, IsSoundSet}
-use Rattle.blossom_match.specs.TableValue.{TableValue}
-use Rattle.blossom_match.specs.Trees.{outer_members}
-use Rattle.blossom_match.specs.Values.{BranchValue, PartValue}
-use Rattle.blossom_match.specs.declared.odd_set.TightEdge.{TightEdge}
-use Rattle.blossom_match.specs.declared.table.TheConstants.{FAR}
-use Rattle.blossom_match.proofs.ChainLemmas.{around_append}
-use Rattle.blossom_match.proofs.ListLemmas.{each-last, each-left}
-use Rattle.blossom_match.proofs.OuterSlackLemmas.{lowered_either}
-use Rattle.blossom_match.proofs.ScanLemmas.{around_first}
-use Rattle.blossom_match.proofs.SlackRowLemmas.{takes_near}
-use Rattle.blossom_match.proofs.SumLemmas.{members_push}
-use Rattle.blossom_match.proofs.TreeLemmas.{around_same, base_in}
-
--- a blossom that is the outer set of a branch
-pub folded_inside : (link : TightEdge) (root : OddSetValue) (tree bs : List BranchValue) (b c : BranchValue) (chain : List PartValue)
-    (aside : List BranchValue) (way : TightEdge) (to : ℕ) → IsOpenChain link root tree (bs ++ b ∷ []) chain aside way to
-    → ((x : ℕ) → count x c.outer.members ≡ count x b.outer.members + count x (members_in chain))
-    → FoldsOuters c.outer root root tree ((bs ++ c ∷ []) ++ reverse aside)
-folded_inside link root tree bs b c chain aside way to k all = record {
-  same = λ a x none. omega (arith, k.outers a x (omega (arith, none, all a)), all a, none, around_append);
-  holds = λ a x. omega (arith, around_append);
-  apart = λ a x here none.
-      let before : count a (outer_members root.members bs) ≡ 0 =
-      omega (arith, k.once a, k.places a, members_push, all a, here) in
-      omega (
-        arith,
-        none,
-        around_append,
-        around_first a x root.members bs before,
-        base_in a root.members bs,
-        before,
-        around_first a x [] (reverse aside) (omega (arith, k.once a, k.places a, members_push, all a, here)),
-      );
-  sound = λ t h root_sound firm.
-      (each-last (IsSoundBranch t h) bs c (each-left (IsSoundBranch t h) (bs ++ c ∷ []) (reverse aside) firm)).outer;
-}
-
--- a blossom that is the root
-pub folded_root : (link : TightEdge) (root blossom : OddSetValue) (tree : List BranchValue) (chain : List PartValue)
-    (aside : List BranchValue) (way : TightEdge) (to : ℕ) → IsOpenChain link root tree [] chain aside way to
-    → ((x : ℕ) → count x blossom.members ≡ count x root.members + count x (members_in chain))
-    → FoldsOuters blossom root blossom tree (reverse aside)
-folded_root link root blossom tree chain aside way to k all = record {
-  same = λ a x none. omega (arith, k.outers a x (omega (arith, none, all a)), all a, none);
-  holds = λ a x. omega arith;
-  apart = λ a x here none. omega (
-    arith,
-    none,
-    around_first a x [] (reverse aside) (omega (arith, k.once a, k.places a, all a, here)),
-  );
-  sound = λ t h root_sound firm. root_sound;
-}
+use Rattle.odd_sets.specs.SoundSets.{IsSoundSet}
+use Rattle.odd_sets.specs.TableValue.{TableValue}
+use Rattle.odd_sets.specs.Trees.{outer_members, count_holding_both}
+use Rattle.odd_sets.specs.Values.{BranchValue}
+use Rattle.odd_sets.specs.declared.table.TheConstants.{FAR}
+use Rattle.blossom_match.proofs.OuterSlackLemmas.{lowered_either, takes_near}
+use Rattle.odd_sets.proofs.CallerLemmas.{around_same}
 
 -- the outer sets that hold a vertex twice over are those that hold it
 held_once : (x : ℕ) (root : OddSetValue) (tree : List BranchValue)

@@ -1,25 +1,21 @@
 -- Free vertices and their initial duals: a search begins at one, and ends at another.
 use Rattle.std.proofs.Common.{◌≡◌, ◌≢◌, ℕ, ◌+◌, ◌*◌, ◌≤◌, ◌<◌, suc, zero, List, [], ◌∷◌, ◌++◌, length, Bool, true, false, cond, eqb, arith, refl, sym, ap, subst, ◌∙◌}
 use Rattle.std.proofs.lemmas.Bool.{eqb-true}
-use Rattle.blossom_match.proofs.SlackRowLemmas.{single_near}
-use Rattle.blossom_match.specs.SlackRows.{vertex_slacks}
-use Rattle.blossom_match.specs.Lists.{Each}
-use Rattle.blossom_match.specs.DualSets.{DualSet, OddSetValue, apart, dual_sets, count, height, one_if_equal, dual_load}
-use Rattle.blossom_match.specs.Blossoms.{vertex_set}
-use Rattle.blossom_match.specs.MatchedSets.{match_dual_sets}
-use Rattle.blossom_match.specs.SoundSets.{IsSoundBranch, IsSoundSet}
-use Rattle.blossom_match.specs.Trees.{branch_dual_sets, inner_members, outer_members, Augments, IsAlternatingTree}
+use Rattle.odd_sets.proofs.CallerLemmas.{single_near, count-append, height-append, hit_is, hit_same, dual_load-append, dual_load-comm, load_alone, low, none_hold, made_kept, base_in, entry-comm}
+use Rattle.odd_sets.specs.SlackRows.{vertex_slacks}
+use Rattle.odd_sets.specs.Lists.{Each}
+use Rattle.odd_sets.specs.DualSets.{DualSet, OddSetValue, apart, dual_sets, count, height, one_if_equal, dual_load}
+use Rattle.odd_sets.specs.Blossoms.{vertex_set}
+use Rattle.odd_sets.specs.MatchedSets.{match_dual_sets}
+use Rattle.odd_sets.specs.SoundSets.{IsSoundBranch, IsSoundSet}
+use Rattle.odd_sets.specs.Trees.{branch_dual_sets, inner_members, outer_members, Augments, IsAlternatingTree}
 use Rattle.blossom_match.specs.Searches.{stored_height, dual_height, outer_vertices, EndsSearch, IsSearch, IsPartialMatching, CanStepAt}
-use Rattle.blossom_match.specs.TableValue.{TableValue}
-use Rattle.blossom_match.specs.Tables.{entry, IsTable}
-use Rattle.blossom_match.specs.declared.odd_set.TightEdge.{TightEdge}
-use Rattle.blossom_match.specs.Values.{BranchValue, MatchValue, SearchValue, PartialMatchingValue}
+use Rattle.odd_sets.specs.TableValue.{TableValue}
+use Rattle.odd_sets.specs.Tables.{entry, IsTable}
+use Rattle.odd_sets.specs.declared.odd_set.TightEdge.{TightEdge}
+use Rattle.odd_sets.specs.Values.{BranchValue, MatchValue, SearchValue, PartialMatchingValue}
 use Rattle.blossom_match.specs.declared.search.SearchStep.TheVariants.{Augment}
-use Rattle.blossom_match.proofs.SumLemmas.{count-append, height-append, hit_is, hit_same, dual_load-append, dual_load-comm, load_alone, low, none_hold}
-use Rattle.blossom_match.proofs.BlossomLemmas.{made_kept}
 use Rattle.blossom_match.proofs.SearchLemmas.{is_one, low_branches, low_matches, none_branches, none_matches, place_in}
-use Rattle.blossom_match.proofs.TreeLemmas.{base_in}
-use Rattle.blossom_match.proofs.CallerLemmas.{entry-comm}
 
 -- all duals between two places
 abbrev pub load_of : SearchValue → ℕ → ℕ → ℕ

@@ -3,21 +3,20 @@ use Rattle.std.proofs.Common.{◌≡◌, ◌≢◌, ℕ, ◌+◌, ◌*◌, ◌�
 use Rattle.std.proofs.Math.ListN.{get_or-eq_default}
 use Rattle.std.proofs.lemmas.Bool.{eqb-true, eqb-false, ltb-false}
 use Rattle.std.proofs.lemmas.List.{get_or-set_other, get_or-set_same}
-use Rattle.blossom_match.specs.DualSets.{count, one_if_equal}
-use Rattle.blossom_match.specs.Trees.{outer_members}
+use Rattle.odd_sets.specs.DualSets.{count, one_if_equal}
+use Rattle.odd_sets.specs.Trees.{outer_members}
 use Rattle.blossom_match.specs.Searches.{stored_height, is_place, EndsSearch, IsStepReady, IsSearch, IsPartialMatching, CanStepAt}
 use Rattle.blossom_match.specs.Phases.{BeginsSearch, IsPartialWithHeights}
 use Rattle.blossom_match.specs.InitialDuals.{AreWithinDistances, CanPair, FindsTight, KeepsSlack, HasFreeSlack, PairsFree}
-use Rattle.blossom_match.specs.TableValue.{TableValue}
-use Rattle.blossom_match.specs.Tables.{entry}
-use Rattle.blossom_match.specs.Values.{BranchValue, MatchValue, SearchValue, PartialMatchingValue}
-use Rattle.blossom_match.specs.DualSets.{OddSetValue}
+use Rattle.odd_sets.specs.TableValue.{TableValue}
+use Rattle.odd_sets.specs.Tables.{entry}
+use Rattle.odd_sets.specs.Values.{BranchValue, MatchValue, SearchValue, PartialMatchingValue}
+use Rattle.odd_sets.specs.DualSets.{OddSetValue}
 use Rattle.blossom_match.specs.declared.search.SearchStep.TheVariants.{Augment}
-use Rattle.blossom_match.proofs.SumLemmas.{count-append, hit_same}
+use Rattle.odd_sets.proofs.CallerLemmas.{count-append, hit_same, entry-comm}
 use Rattle.blossom_match.proofs.SearchLemmas.{is_one, place_in}
 use Rattle.blossom_match.proofs.DualLemmas.{matches_same}
 use Rattle.blossom_match.proofs.EndLemmas.{begins}
-use Rattle.blossom_match.proofs.CallerLemmas.{entry-comm}
 
 place_case : (b : Bool) (x n : ℕ) → ltb x n ≡ b → cond b 1 0 ≤ 0 → n ≤ x
 place_case true x n e none = absurd (omega (arith, none))

@@ -3,14 +3,14 @@ use Rattle.std.proofs.Common.{◌≡◌, ◌≢◌, ℕ, suc, ◌+◌, ◌-◌, 
 use Rattle.std.specs.List.{All, AllPairs}
 use Rattle.std.proofs.lemmas.Bool.{eqb-true, eq-eqb, ne_eqb, lt-ltb, ltb-true}
 use Rattle.std.proofs.lemmas.List.Sums.{sum_by-cons}
-use Rattle.blossom_match.specs.DualSets.{count, one_if_equal}
+use Rattle.odd_sets.specs.DualSets.{count, one_if_equal}
 use Rattle.blossom_match.specs.Matchings.{pairs_cost, crosses_moat, pair_ends_at, moat_load, width_of, IsOptimalMatching, IsOddMoat, KeepsMoatLoads, IsPerfectMatching}
-use Rattle.blossom_match.specs.TableValue.{TableValue}
-use Rattle.blossom_match.specs.Tables.{entry}
+use Rattle.odd_sets.specs.TableValue.{TableValue}
+use Rattle.odd_sets.specs.Tables.{entry}
 use Rattle.blossom_match.specs.declared.matching.Moat.{Moat}
 use Rattle.blossom_match.specs.declared.matching.Pair.{Pair}
 use Rattle.blossom_match.proofs.MoatLemmas.{crossing}
-use Rattle.blossom_match.proofs.SumLemmas.{hit_same}
+use Rattle.odd_sets.proofs.CallerLemmas.{hit_same}
 use Rattle.blossom_match.proofs.CallerLemmas.{ends_below}
 
 true_false : true ≡ false → ⊥

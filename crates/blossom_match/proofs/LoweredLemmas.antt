@@ -1,30 +1,27 @@
 -- The slacks from the outer vertices after a change of duals.
 use Rattle.std.proofs.Common.{◌≡◌, ℕ, ◌+◌, ◌-◌, ◌*◌, ◌≤◌, ◌<◌, ◌⊎◌, inl, inr, List, [], ◌∷◌, length, get_or, arith, refl, sym, ap, subst, ◌∙◌, take, drop}
 use Rattle.blossom_match.proofs.OuterSlackLemmas.{reaches_apart}
-use Rattle.blossom_match.specs.DualSets.{OddSetValue, count}
-use Rattle.blossom_match.specs.Folds.{FoldsCells, FoldsOuters}
-use Rattle.blossom_match.specs.Lists.{Each}
-use Rattle.blossom_match.specs.SoundSets.{IsSoundBranch, IsSoundSet}
-use Rattle.blossom_match.specs.Trees.{outer_with_both, one_if_both, inner_members, outer_members}
+use Rattle.odd_sets.specs.DualSets.{OddSetValue, count}
+use Rattle.odd_sets.specs.Folds.{FoldsCells, FoldsOuters}
+use Rattle.odd_sets.specs.Lists.{Each}
+use Rattle.odd_sets.specs.SoundSets.{IsSoundBranch, IsSoundSet}
+use Rattle.odd_sets.specs.Trees.{outer_with_both, one_if_both, inner_members, outer_members, count_holding_both}
 use Rattle.blossom_match.specs.Searches.{stored_height, outer_vertices, Advances, CanStep, CanStepAt, ExpandsBranch, GrowsBranch, IsSearch}
-use Rattle.blossom_match.specs.LeastChanges.{count_holding_both}
 use Rattle.blossom_match.specs.Duals.{ChangesDuals}
-use Rattle.blossom_match.specs.Shrinks.{Shrinks}
-use Rattle.blossom_match.specs.SlackRows.{lowered_slack}
+use Rattle.odd_sets.specs.Shrinks.{Shrinks}
+use Rattle.odd_sets.specs.SlackRows.{lowered_slack}
 use Rattle.blossom_match.specs.OuterSlacks.{slack_from, SearchHasSoundOuters, HasSlackCells, IsOuterSlack, AreOuterSlacks, AddsOuterSlacks, AreSearchSlacks, CarriesSlacks, ComputesRootSlacks, HasSlacks, HasSoundOuters, ReachesEither}
-use Rattle.blossom_match.specs.TableValue.{TableValue}
-use Rattle.blossom_match.specs.Tables.{IsTable}
-use Rattle.blossom_match.specs.declared.table.TheConstants.{FAR}
-use Rattle.blossom_match.specs.Values.{BranchValue, SearchValue}
-use Rattle.blossom_match.specs.declared.odd_set.TightEdge.{TightEdge}
+use Rattle.odd_sets.specs.TableValue.{TableValue}
+use Rattle.odd_sets.specs.Tables.{IsTable}
+use Rattle.odd_sets.specs.declared.table.TheConstants.{FAR}
+use Rattle.odd_sets.specs.Values.{BranchValue, SearchValue}
+use Rattle.odd_sets.specs.declared.odd_set.TightEdge.{TightEdge}
 use Rattle.blossom_match.specs.declared.search.SearchStep.{SearchStep}
 use Rattle.blossom_match.specs.declared.search.SearchStep.TheVariants.{Expand, Shrink}
-use Rattle.blossom_match.proofs.ListLemmas.{each-right}
-use Rattle.blossom_match.proofs.ExpandLemmas.{drop_past}
+use Rattle.odd_sets.proofs.CallerLemmas.{each-right, drop_past, far_is, lowered_far, lowered_less, lowered_near}
 use Rattle.blossom_match.proofs.FoldLemmas.{folded, set_within}
 use Rattle.blossom_match.proofs.SearchLemmas.{is_one, place_in, shrunk}
 use Rattle.blossom_match.proofs.DualLemmas.{around_same_all, outer_same}
-use Rattle.blossom_match.proofs.SlackRowLemmas.{far_is, lowered_far, lowered_less, lowered_near}
 
 -- the same places, the same sets, and heights that rise
 record IsRaised (t : TableValue) (by : ℕ) (s r : SearchValue) : Type 0 where

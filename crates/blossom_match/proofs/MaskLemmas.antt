@@ -3,19 +3,17 @@ use Rattle.std.proofs.Common.{◌≡◌, ◌≢◌, ℕ, ◌+◌, ◌-◌, ◌�
 use Rattle.std.proofs.lemmas.Bool.{cases_lt}
 use Rattle.std.proofs.lemmas.List.{get_or-drop, get_or-take, take-append-drop}
 use Rattle.std.proofs.Math.Seq.{drop-append_seam}
-use Rattle.blossom_match.specs.DualSets.{OddSetValue, count}
-use Rattle.blossom_match.specs.MatchedSets.{match_members}
-use Rattle.blossom_match.specs.Trees.{inner_members, outer_members}
+use Rattle.odd_sets.specs.DualSets.{OddSetValue, count}
+use Rattle.odd_sets.specs.MatchedSets.{match_members}
+use Rattle.odd_sets.specs.Trees.{inner_members, outer_members}
 use Rattle.blossom_match.specs.Searches.{stored_height, Advances, CanStepAt, ExpandsBranch, GrowsBranch, IsSearch}
-use Rattle.blossom_match.specs.SlackRows.{lowered_slack, SetsCells}
+use Rattle.odd_sets.specs.SlackRows.{lowered_slack, SetsCells}
 use Rattle.blossom_match.specs.Masks.{branch_members, masked_slack, IsMaskedSlack, IsMask, IsSearchMask}
-use Rattle.blossom_match.specs.TableValue.{TableValue}
-use Rattle.blossom_match.specs.Values.{BranchValue, MatchValue, SearchValue}
+use Rattle.odd_sets.specs.TableValue.{TableValue}
+use Rattle.odd_sets.specs.Values.{BranchValue, MatchValue, SearchValue}
 use Rattle.blossom_match.specs.declared.search.SearchStep.{SearchStep}
-use Rattle.blossom_match.specs.declared.table.TheConstants.{FAR}
-use Rattle.blossom_match.proofs.ListLemmas.{mapped_at, take_here}
-use Rattle.blossom_match.proofs.SumLemmas.{count-append, members-append, members_push}
-use Rattle.blossom_match.proofs.MatchLemmas.{match_here}
+use Rattle.odd_sets.specs.declared.table.TheConstants.{FAR}
+use Rattle.odd_sets.proofs.CallerLemmas.{mapped_at, take_here, count-append, members-append, members_push, match_here}
 use Rattle.blossom_match.proofs.SearchLemmas.{is_one, place_in}
 
 -- cells of two lists, one after the other

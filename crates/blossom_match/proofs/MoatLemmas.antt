@@ -3,16 +3,15 @@ use Rattle.std.proofs.Common.{◌≡◌, ◌≢◌, ℕ, ◌+◌, ◌*◌, ◌%�
 use Rattle.std.specs.List.{list_any}
 use Rattle.std.proofs.lemmas.List.Sums.{sum_by-append, sum_by-cons}
 use Rattle.std.proofs.lemmas.Bool.{lt-ltb}
-use Rattle.blossom_match.specs.Lists.{Each}
-use Rattle.blossom_match.specs.DualSets.{apart, count, one_if_equal}
-use Rattle.blossom_match.specs.TableValue.{TableValue}
-use Rattle.blossom_match.specs.Tables.{entry}
+use Rattle.odd_sets.specs.Lists.{Each}
+use Rattle.odd_sets.specs.DualSets.{apart, count, one_if_equal}
+use Rattle.odd_sets.specs.TableValue.{TableValue}
+use Rattle.odd_sets.specs.Tables.{entry}
 use Rattle.blossom_match.specs.Matchings.{pairs_cost, crosses_moat, pair_ends_at, moat_holds, moat_load, width_of, AreLaminar}
 use Rattle.blossom_match.specs.Taken.{moat_of_set, IsOddMoatIn, AreMoatsIn}
 use Rattle.blossom_match.specs.declared.matching.Moat.{Moat}
 use Rattle.blossom_match.specs.declared.matching.Pair.{Pair}
-use Rattle.blossom_match.proofs.ListLemmas.{each-append, each-map, pairs-append}
-use Rattle.blossom_match.proofs.SumLemmas.{some_member}
+use Rattle.odd_sets.proofs.CallerLemmas.{each-append, each-map, pairs-append, some_member}
 
 true_false : true ≡ false → ⊥
 true_false e = cc

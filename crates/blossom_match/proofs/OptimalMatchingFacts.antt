@@ -3,8 +3,8 @@ use Rattle.std.proofs.Common.{◌≡◌, ℕ, ◌+◌, ◌*◌, ◌<◌, ◌≤�
 use Rattle.std.specs.List.{All, AllPairs}
 use Rattle.blossom_match.specs.LeastMatchings.{NoneCostsLess}
 use Rattle.blossom_match.specs.Matchings.{AreLaminar, IsOddMoat, IsOptimalMatching, IsPerfectMatching, moat_load, pairs_cost, width_of}
-use Rattle.blossom_match.specs.TableValue.{TableValue}
-use Rattle.blossom_match.specs.Tables.{HasTriangleInequality, IsMetric, IsTable, entry}
+use Rattle.odd_sets.specs.TableValue.{TableValue}
+use Rattle.odd_sets.specs.Tables.{HasTriangleInequality, IsMetric, IsTable, entry}
 use Rattle.blossom_match.specs.declared.matching.Moat.{Moat}
 use Rattle.blossom_match.specs.declared.matching.Pair.{Pair}
 

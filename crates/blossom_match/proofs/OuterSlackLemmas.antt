@@ -1,25 +1,42 @@
 -- The least slack from the outer vertices to each vertex.
-use Rattle.std.proofs.Common.{◌≡◌, ◌≢◌, ℕ, ◌+◌, ◌-◌, ◌≤◌, ◌<◌, ◌⊎◌, inl, inr, suc, zero, List, [], ◌∷◌, ◌++◌, length, take, drop, get_or, arith, refl, sym, ap, subst, ◌∙◌, length-append, append_assoc}
+use Rattle.std.proofs.Common.{◌≡◌, ◌≢◌, ℕ, ◌+◌, ◌-◌, ◌≤◌, ◌<◌, ◌⊎◌, inl, inr, suc, zero, List, [], ◌∷◌, ◌++◌, length, take, drop, get_or, arith, refl, sym, ap, subst, ◌∙◌, length-append, append_assoc, min}
 use Rattle.std.proofs.lemmas.List.{take-append-drop}
 use Rattle.std.proofs.Math.Seq.{drop-append_seam, take-append_seam}
-use Rattle.blossom_match.specs.Expansions.{InsertsBranches}
-use Rattle.blossom_match.specs.Lists.{Each}
-use Rattle.blossom_match.specs.DualSets.{OddSetValue, count, one_if_equal}
-use Rattle.blossom_match.specs.SlackRows.{MergesSlacks}
-use Rattle.blossom_match.specs.SoundSets.{IsSoundBranch}
-use Rattle.blossom_match.specs.Trees.{outer_with_both, one_if_both, outer_members}
-use Rattle.blossom_match.specs.LeastChanges.{count_holding_both}
+use Rattle.odd_sets.specs.Expansions.{InsertsBranches}
+use Rattle.odd_sets.specs.Lists.{Each}
+use Rattle.odd_sets.specs.DualSets.{OddSetValue, count, one_if_equal}
+use Rattle.odd_sets.specs.SlackRows.{MergesSlacks, lowered_slack}
+use Rattle.odd_sets.specs.SoundSets.{IsSoundBranch, IsSoundSet}
+use Rattle.odd_sets.specs.Trees.{outer_with_both, one_if_both, outer_members, count_holding_both}
 use Rattle.blossom_match.specs.OuterSlacks.{slack_from, HasSoundOuters, HasSlacks, IsSlackFromOne, HasSlackCells, IsOuterSlack, AreOuterSlacks, AddsOuterSlacks, LowersBySet, ReachesEither}
-use Rattle.blossom_match.specs.TableValue.{TableValue}
-use Rattle.blossom_match.specs.declared.table.TheConstants.{FAR}
-use Rattle.blossom_match.specs.Values.{BranchValue, SearchValue}
-use Rattle.blossom_match.proofs.ListLemmas.{each-map, each_here, take_here, each-left, each-right}
-use Rattle.blossom_match.proofs.SumLemmas.{count-append, members-append, members_push}
-use Rattle.blossom_match.proofs.RaisedLemmas.{at_drop, outer_places}
-use Rattle.blossom_match.proofs.SlackRowLemmas.{not_hit, takes_near}
-use Rattle.blossom_match.proofs.ScanLemmas.{around_first, split_here}
-use Rattle.blossom_match.proofs.ChainLemmas.{around_append}
-use Rattle.blossom_match.proofs.TreeLemmas.{base_in}
+use Rattle.odd_sets.specs.TableValue.{TableValue}
+use Rattle.odd_sets.specs.declared.table.TheConstants.{FAR}
+use Rattle.odd_sets.specs.Values.{BranchValue, SearchValue}
+use Rattle.odd_sets.proofs.CallerLemmas.{each-map, each_here, take_here, each-left, each-right, count-append, members-append, members_push, at_drop, outer_places, not_hit, lowered_far, IsLeftAt, near_least, near_is, around_append, base_in, around_first}
+use Rattle.blossom_match.proofs.ScanLemmas.{split_here}
+use Rattle.std.proofs.lemmas.Bool.{cases_lt}
+
+take_case : (t : TableValue) (hs xs : List ℕ) (x one old now : ℕ) → now ≡ min one old → IsLeftAt t (λ (a : ℕ). get_or hs a 0) xs x one
+    → (one < old) ⊎ (old ≤ one) → (now ≡ old) ⊎ IsSlackFromOne t hs xs x now
+take_case t hs xs x one old now is k (inl less) = inr (record { a = k.a; here = k.here; exact = omega (arith, is, less, k.exact) })
+take_case t hs xs x one old now is k (inr more) = inl (omega (arith, is, more))
+
+-- a merged row takes the set in
+pub takes_near : (t : TableValue) (hs : List ℕ) (s : OddSetValue) (old new : List ℕ) → IsSoundSet t (λ (a : ℕ). get_or hs a 0) s
+    → ((x : ℕ) → count x s.members ≤ 1) → length new ≡ length old → ((x : ℕ) → x < t.places → get_or old x 0 ≤ FAR)
+    → MergesSlacks s.near s.dual old new → LowersBySet t hs s.members old new
+takes_near t hs s old new k once size short merged =
+    let h = λ (a : ℕ). get_or hs a 0 in
+    let at = λ (x : ℕ) (lx : x < t.places). merged x (omega (arith, lx, k.near.0.size)) in
+    record {
+      size = size;
+      kept = λ x lx here.
+          omega (arith, at x lx, lowered_far s.dual (get_or s.near x 0) (k.near.0.own x here lx), short x lx);
+      less = λ x lx. omega (arith, at x lx);
+      least = λ a x ha lx none. omega (arith, at x lx, near_least t h s a x k (omega (arith, ha, once a)) none lx);
+      is = λ x lx none. take_case t hs s.members x (lowered_slack s.dual (get_or s.near x 0)) (get_or old x 0) (get_or new x 0) (at x lx)
+          (near_is t h s x k once none lx) (cases_lt (lowered_slack s.dual (get_or s.near x 0)) (get_or old x 0));
+    }
 
 -- the vertex with that slack is one of those after
 pub left_more : (t : TableValue) (hs xs : List ℕ) (i x left : ℕ) → i < length xs → slack_from t hs (get_or xs i 0) x ≢ left

@@ -1,24 +1,22 @@
 -- The slots after a step.
 use Rattle.std.proofs.Common.{◌≡◌, ℕ, zero, suc, ◌+◌, ◌≤◌, List, [], ◌∷◌, ◌++◌, Bool, true, false, cond, ltb, None, arith, refl, sym, ap, subst, ◌∙◌}
 use Rattle.slab.specs.Slab.{get}
-use Rattle.blossom_match.specs.DualSets.{DualSet, OddSetValue, dual_sets, count, one_if_equal, key_count}
-use Rattle.blossom_match.specs.MatchedSets.{match_dual_sets}
-use Rattle.blossom_match.specs.Blossoms.{reversed_edge}
+use Rattle.odd_sets.specs.DualSets.{DualSet, OddSetValue, dual_sets, count, one_if_equal, key_count}
+use Rattle.odd_sets.specs.MatchedSets.{match_dual_sets}
+use Rattle.odd_sets.specs.Blossoms.{reversed_edge}
 use Rattle.blossom_match.specs.Searches.{CanStepAt}
-use Rattle.blossom_match.specs.Shrinks.{Shrinks}
-use Rattle.blossom_match.specs.Slots.{branches_in, matches_in, set_in, AreSets, InsertsSet, IsSet, Slots}
-use Rattle.blossom_match.specs.Trees.{all_dual_sets, branch_dual_sets, branch_by_edge, outer_members, inner_members, CanAugment, Augments, RemovesMatch}
-use Rattle.blossom_match.specs.TableValue.{TableValue}
-use Rattle.blossom_match.specs.Values.{BranchValue, MatchValue, SearchValue}
-use Rattle.blossom_match.specs.declared.odd_set.TightEdge.{TightEdge}
-use Rattle.blossom_match.specs.declared.odd_set.Handle.{Handle}
-use Rattle.blossom_match.specs.declared.matches.Match.{Match}
-use Rattle.blossom_match.specs.declared.branches.Branch.{Branch}
+use Rattle.odd_sets.specs.Shrinks.{Shrinks}
+use Rattle.odd_sets.specs.Slots.{branches_in, matches_in, set_in, AreSets, InsertsSet, IsSet, Slots}
+use Rattle.odd_sets.specs.Trees.{all_dual_sets, branch_dual_sets, branch_by_edge, outer_members, inner_members, CanAugment, Augments, RemovesMatch}
+use Rattle.odd_sets.specs.TableValue.{TableValue}
+use Rattle.odd_sets.specs.Values.{BranchValue, MatchValue, SearchValue}
+use Rattle.odd_sets.specs.declared.odd_set.TightEdge.{TightEdge}
+use Rattle.odd_sets.specs.declared.odd_set.Handle.{Handle}
+use Rattle.odd_sets.specs.declared.matches.Match.{Match}
+use Rattle.odd_sets.specs.declared.branches.Branch.{Branch}
 use Rattle.blossom_match.specs.declared.search.SearchStep.TheVariants.{Augment}
-use Rattle.blossom_match.proofs.SumLemmas.{dual_sets-append, bands_push, hit_is, hit_same, key_count-append}
-use Rattle.blossom_match.proofs.SlotLemmas.{inserted_keeps, keep_branches, keep_matches, keep_seat, no_slot, has_slot, set_more, sets_fewer}
+use Rattle.odd_sets.proofs.CallerLemmas.{dual_sets-append, bands_push, hit_is, hit_same, key_count-append, inserted_keeps, keep_branches, keep_matches, keep_seat, no_slot, has_slot, set_more, sets_fewer, all_uses}
 use Rattle.blossom_match.proofs.SearchLemmas.{is_one}
-use Rattle.blossom_match.proofs.ShrunkLemmas.{all_uses}
 
 unused_case : (n : ℕ) (sets : Slots) (key : ℕ) (bs : List DualSet) → key_count key bs ≡ n → AreSets sets bs → get sets key ≡ None
     → key_count key bs ≡ 0

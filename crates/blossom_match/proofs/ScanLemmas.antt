@@ -2,29 +2,13 @@
 use Rattle.std.proofs.Common.{◌≡◌, ℕ, ◌+◌, ◌≤◌, ◌<◌, ◌⊎◌, inl, inr, List, [], ◌∷◌, ◌++◌, length, take, drop, get_or, arith, refl, sym, ap, subst, ◌∙◌}
 use Rattle.std.proofs.Math.Seq.{take-length}
 use Rattle.std.proofs.lemmas.List.{take-append-drop}
-use Rattle.blossom_match.specs.Lists.{Each}
-use Rattle.blossom_match.specs.DualSets.{OddSetValue, count}
-use Rattle.blossom_match.specs.Trees.{outer_with_both, outer_members}
-use Rattle.blossom_match.specs.LeastChanges.{count_holding_both, FirstHasDual, IsBranchDual, IsLesserChange, IsLesserChangeAt, IsBlossomDual, AllowsChange}
-use Rattle.blossom_match.specs.Values.{BranchValue}
+use Rattle.odd_sets.specs.Lists.{Each}
+use Rattle.odd_sets.specs.DualSets.{OddSetValue, count}
+use Rattle.odd_sets.specs.Trees.{outer_members, count_holding_both}
+use Rattle.blossom_match.specs.LeastChanges.{FirstHasDual, IsBranchDual, IsLesserChange, IsLesserChangeAt, IsBlossomDual, AllowsChange}
+use Rattle.odd_sets.specs.Values.{BranchValue}
 use Rattle.blossom_match.specs.declared.least.DualChange.{DualChange}
-use Rattle.blossom_match.proofs.ListLemmas.{drop_here, each-map, each-push, take_here}
-use Rattle.blossom_match.proofs.SumLemmas.{count-append, members-append}
-use Rattle.blossom_match.proofs.ChainLemmas.{around_append}
-use Rattle.blossom_match.proofs.TreeLemmas.{base_in}
-
--- outer sets that do not hold one of the places do not hold both
-pub around_none : (a b : ℕ) (base : List ℕ) (bs : List BranchValue) → count b (outer_members base bs) ≡ 0 → outer_with_both a b bs ≡ 0
-around_none a b base [] none = refl
-around_none a b base (c ∷ cs) none =
-    omega (arith, around_none a b base cs (omega (arith, count-append, none)), count-append, none)
-
--- nor do those that do not hold the other
-pub around_first : (a b : ℕ) (base : List ℕ) (bs : List BranchValue) → count a (outer_members base bs) ≡ 0 → outer_with_both a b bs ≡ 0
-around_first a b base [] none = refl
-around_first a b base (c ∷ cs) none =
-    let n = count-append a c.outer.members (outer_members base cs) in
-    omega (arith, around_first a b base cs (omega (arith, n, none)), n, none)
+use Rattle.odd_sets.proofs.CallerLemmas.{drop_here, each-map, each-push, take_here, count-append, members-append, around_append, base_in, around_none}
 
 -- no outer set holds a place of those before and a place of this one
 pub apart_from : (a b : ℕ) (root : OddSetValue) (bs : List BranchValue) (c : BranchValue) (after : List BranchValue)

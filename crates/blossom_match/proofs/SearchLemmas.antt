@@ -2,24 +2,20 @@
 use Rattle.std.proofs.Common.{◌≡◌, ℕ, ◌+◌, ◌≤◌, ◌<◌, suc, List, [], ◌∷◌, ◌++◌, length, take, drop, Bool, true, false, cond, ltb, arith, refl, sym, ap, subst, ◌∙◌, drop-cons, get_or}
 use Rattle.std.proofs.lemmas.Bool.{lt-ltb, ltb-true, ltb-false}
 use Rattle.std.proofs.lemmas.List.{take-append-drop}
-use Rattle.blossom_match.specs.Lists.{Each}
-use Rattle.blossom_match.specs.DualSets.{IsAdditive, DualSet, OddSetValue, dual_sets, count, height, one_if_equal, dual_load, IsOutside, NoneHold}
-use Rattle.blossom_match.specs.Blossoms.{reversed_edge}
-use Rattle.blossom_match.specs.MatchedSets.{match_members, match_dual_sets, IsMatch}
-use Rattle.blossom_match.specs.SoundSets.{IsSoundBranch, IsSoundMatch, IsSoundSet, IsSymmetric, IsTight}
-use Rattle.blossom_match.specs.Trees.{branch_dual_sets, branch_sets, branch_by_edge, inner_dual_sets, inner_members, inner_sets, outer_members, outer_sets, IsAlternatingTree, RemovesMatch}
-use Rattle.blossom_match.specs.Shrinks.{CanShrink, Shrinks}
-use Rattle.blossom_match.specs.Expansions.{Expands}
+use Rattle.odd_sets.specs.Lists.{Each}
+use Rattle.odd_sets.specs.DualSets.{IsAdditive, DualSet, OddSetValue, dual_sets, count, height, one_if_equal, dual_load, IsOutside, NoneHold}
+use Rattle.odd_sets.specs.Blossoms.{reversed_edge}
+use Rattle.odd_sets.specs.MatchedSets.{match_members, match_dual_sets, IsMatch}
+use Rattle.odd_sets.specs.SoundSets.{IsSoundBranch, IsSoundMatch, IsSoundSet, IsSymmetric, IsTight}
+use Rattle.odd_sets.specs.Trees.{branch_dual_sets, branch_sets, branch_by_edge, inner_dual_sets, inner_members, inner_sets, outer_members, outer_sets, IsAlternatingTree, RemovesMatch}
+use Rattle.odd_sets.specs.Shrinks.{CanShrink, Shrinks}
+use Rattle.odd_sets.specs.Expansions.{Expands}
 use Rattle.blossom_match.specs.Searches.{stored_height, is_place, outer_vertices, Advances, CanStep, FreeHaveSlack}
-use Rattle.blossom_match.specs.TableValue.{TableValue}
-use Rattle.blossom_match.specs.declared.odd_set.TightEdge.{TightEdge}
-use Rattle.blossom_match.specs.Values.{BranchValue, MatchValue, SearchValue}
+use Rattle.odd_sets.specs.TableValue.{TableValue}
+use Rattle.odd_sets.specs.declared.odd_set.TightEdge.{TightEdge}
+use Rattle.odd_sets.specs.Values.{BranchValue, MatchValue, SearchValue}
 use Rattle.blossom_match.specs.declared.search.SearchStep.TheVariants.{Grow, Shrink, Expand}
-use Rattle.blossom_match.proofs.ListLemmas.{each-append, each-left, each-right, each-push}
-use Rattle.blossom_match.proofs.SumLemmas.{dual_sets-append, bands_push, count-append, height-append, dual_load-append, members-append, members_push, none_hold, none_tall, size-append}
-use Rattle.blossom_match.proofs.ChainLemmas.{tight_back}
-use Rattle.blossom_match.proofs.TreeLemmas.{grown_push}
-use Rattle.blossom_match.proofs.CallerLemmas.{entry-comm}
+use Rattle.odd_sets.proofs.CallerLemmas.{each-append, each-left, each-right, each-push, dual_sets-append, bands_push, count-append, height-append, dual_load-append, members-append, members_push, none_hold, none_tall, size-append, tight_back, grown_push, entry-comm}
 
 free_none : (x : ℕ) {xs ys : List ℕ} → xs ≡ ys → count x xs ≡ 0 → count x ys ≡ 0
 free_none x e none = omega (arith, none, ap (λ (zs : List ℕ). count x zs) e)

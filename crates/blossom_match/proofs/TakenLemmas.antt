@@ -1,16 +1,16 @@
 -- Sets taken apart one after another.
 use Rattle.std.proofs.Common.{◌≡◌, ℕ, ◌+◌, ◌*◌, ◌≤◌, ◌<◌, List, [], ◌∷◌, ◌++◌, length, arith, refl, sym, ap, subst, ◌∙◌, append_assoc, Some, None, Option}
 use Rattle.std.proofs.lemmas.List.{append-nil}
-use Rattle.blossom_match.specs.Lists.{Each}
-use Rattle.blossom_match.specs.DualSets.{IsAdditive, OddSetValue, DualSet, dual_sets, count, dual_load, total, key_count}
-use Rattle.blossom_match.specs.MatchedSets.{match_members, match_dual_sets, IsMatch}
-use Rattle.blossom_match.specs.Opens.{OpensAt}
+use Rattle.odd_sets.specs.Lists.{Each}
+use Rattle.odd_sets.specs.DualSets.{IsAdditive, OddSetValue, DualSet, dual_sets, count, dual_load, total, key_count}
+use Rattle.odd_sets.specs.MatchedSets.{match_members, match_dual_sets, IsMatch}
+use Rattle.odd_sets.specs.Opens.{OpensAt}
 use Rattle.blossom_match.specs.Matchings.{moat_load, width_of}
 use Rattle.blossom_match.specs.Taken.{moat_of_set, TakesApartSet, TakesApartMatches, IsTakingApart}
-use Rattle.blossom_match.specs.Values.{MatchValue}
+use Rattle.odd_sets.specs.Values.{MatchValue}
 use Rattle.blossom_match.specs.declared.matching.Moat.{Moat}
 use Rattle.blossom_match.specs.declared.matching.Pair.{Pair}
-use Rattle.blossom_match.proofs.SumLemmas.{count-append, hit_same, dual_load-append, size-append, total-append, key_count-append}
+use Rattle.odd_sets.proofs.CallerLemmas.{count-append, hit_same, dual_load-append, size-append, total-append, key_count-append}
 use Rattle.blossom_match.proofs.MoatLemmas.{cost_push, ends_push, lie_both, lie_more, lie_none, lie_own, load_own, width_own}
 
 places_of : (x : ℕ) (c : MatchValue) (rest : List MatchValue) → count x (match_members (c ∷ rest))

@@ -1,18 +1,18 @@
 -- The vertex to which an edge becomes tight by the least change of duals.
 use Rattle.std.specs.Prelude.{◌≡◌, ℕ, ◌-◌, ◌/◌, ◌<◌, ◌≤◌, ◌⊎◌, List, Option, Some, None, slice_index}
-use Rattle.blossom_match.specs.DualSets.{OddSetValue, count}
-use Rattle.blossom_match.specs.MatchedSets.{match_members}
-use Rattle.blossom_match.specs.Trees.{outer_members}
-use Rattle.blossom_match.specs.LeastChanges.{count_holding_both, step_of}
+use Rattle.odd_sets.specs.DualSets.{OddSetValue, count}
+use Rattle.odd_sets.specs.MatchedSets.{match_members}
+use Rattle.odd_sets.specs.Trees.{outer_members, count_holding_both}
+use Rattle.blossom_match.specs.LeastChanges.{step_of}
 use Rattle.blossom_match.specs.OuterSlacks.{slack_from, HasOuterCells, IsSlackFromOne, AreOuterSlacks}
 use Rattle.blossom_match.specs.Searches.{outer_vertices}
-use Rattle.blossom_match.specs.TableValue.{TableValue}
-use Rattle.blossom_match.specs.Values.{BranchValue, SearchValue}
+use Rattle.odd_sets.specs.TableValue.{TableValue}
+use Rattle.odd_sets.specs.Values.{BranchValue, SearchValue}
 use Rattle.blossom_match.specs.declared.least.Target.{Target}
 use Rattle.blossom_match.specs.declared.least.DualChange.{DualChange}
 use Rattle.blossom_match.specs.declared.least.Kind.{Kind}
 use Rattle.blossom_match.specs.declared.least.Kind.TheVariants as kind
-use Rattle.blossom_match.specs.declared.table.TheConstants.{FAR}
+use Rattle.odd_sets.specs.declared.table.TheConstants.{FAR}
 
 -- The change of duals that uses up a slack. Between two outer sets it is half the slack, as both
 -- ends rise.

@@ -1,14 +1,14 @@
 -- The change of the duals of a tree: those of outer sets rise and those of inner sets fall.
 use Rattle.std.specs.Prelude.{◌≡◌, ℕ, ◌+◌, ◌-◌, ◌*◌, ◌^◌, ◌<◌, ◌≤◌, List, length, map, slice_index}
-use Rattle.blossom_match.specs.DualSets.{OddSetValue, count, with_dual}
-use Rattle.blossom_match.specs.Trees.{inner_members, outer_members}
-use Rattle.blossom_match.specs.Heights.{CanFall, CanRise, HasCells}
+use Rattle.odd_sets.specs.DualSets.{OddSetValue, count, with_dual}
+use Rattle.odd_sets.specs.Trees.{inner_members, outer_members}
+use Rattle.odd_sets.specs.Heights.{CanFall, CanRise, HasCells}
 use Rattle.blossom_match.specs.Searches.{stored_height, search_size, IsStepReady, IsSearch}
 use Rattle.blossom_match.specs.LeastChanges.{IsLeastChange, CanSearch}
-use Rattle.blossom_match.specs.TableValue.{TableValue}
-use Rattle.blossom_match.specs.Tables.{IsMetric}
-use Rattle.blossom_match.specs.Values.{BranchValue, SearchValue}
-use Rattle.blossom_match.specs.declared.branches.Branch.{Branch}
+use Rattle.odd_sets.specs.TableValue.{TableValue}
+use Rattle.odd_sets.specs.Tables.{IsMetric}
+use Rattle.odd_sets.specs.Values.{BranchValue, SearchValue}
+use Rattle.odd_sets.specs.declared.branches.Branch.{Branch}
 use Rattle.blossom_match.specs.declared.least.DualChange.{DualChange}
 
 -- A branch whose outer dual has risen and whose inner dual has fallen.

@@ -1,11 +1,11 @@
 -- The initial duals of vertices, in halves of a step. The initial dual of a free vertex is named
 -- `price`.
 use Rattle.std.specs.Prelude.{◌≡◌, ◌≢◌, ℕ, ◌+◌, ◌*◌, ◌<◌, ◌≤◌, List, length, slice_index}
-use Rattle.blossom_match.specs.DualSets.{count}
+use Rattle.odd_sets.specs.DualSets.{count}
 use Rattle.blossom_match.specs.Phases.{IsPartialWithHeights}
-use Rattle.blossom_match.specs.TableValue.{TableValue}
-use Rattle.blossom_match.specs.Tables.{entry}
-use Rattle.blossom_match.specs.Values.{PartialMatchingValue}
+use Rattle.odd_sets.specs.TableValue.{TableValue}
+use Rattle.odd_sets.specs.Tables.{entry}
+use Rattle.odd_sets.specs.Values.{PartialMatchingValue}
 
 -- With the given dual the slack between the vertex and each other isn't negative.
 abbrev pub KeepsSlack : TableValue → List ℕ → ℕ → ℕ → Type 0

@@ -1,14 +1,13 @@
 -- The least change of duals after which a step can be made.
 use Rattle.std.specs.Prelude.{◌≡◌, ℕ, ◌+◌, ◌*◌, ◌<◌, ◌≤◌, ◌⊎◌, List, [], ◌∷◌, drop, length}
-use Rattle.blossom_match.specs.Lists.{Each}
-use Rattle.blossom_match.specs.DualSets.{OddSetValue, count}
-use Rattle.blossom_match.specs.MatchedSets.{match_members}
-use Rattle.blossom_match.specs.Trees.{outer_with_both, one_if_both}
+use Rattle.odd_sets.specs.Lists.{Each}
+use Rattle.odd_sets.specs.DualSets.{count}
+use Rattle.odd_sets.specs.MatchedSets.{match_members}
 use Rattle.blossom_match.specs.Searches.{stored_height, search_holding_both, outer_vertices, IsSearch}
-use Rattle.blossom_match.specs.TableValue.{TableValue}
-use Rattle.blossom_match.specs.Tables.{entry}
-use Rattle.blossom_match.specs.declared.odd_set.TightEdge.{TightEdge}
-use Rattle.blossom_match.specs.Values.{BranchValue, SearchValue}
+use Rattle.odd_sets.specs.TableValue.{TableValue}
+use Rattle.odd_sets.specs.Tables.{entry}
+use Rattle.odd_sets.specs.declared.odd_set.TightEdge.{TightEdge}
+use Rattle.odd_sets.specs.Values.{BranchValue, SearchValue}
 use Rattle.blossom_match.specs.declared.search.SearchStep.{SearchStep}
 use Rattle.blossom_match.specs.declared.search.SearchStep.TheVariants.{Augment, Grow, Shrink, Expand}
 use Rattle.blossom_match.specs.declared.least.DualChange.{DualChange}
@@ -20,10 +19,6 @@ abbrev pub step_of : Kind → TightEdge → SearchStep
 step_of kind.Augment link = Augment link
 step_of kind.Grow link = Grow link
 step_of kind.Shrink link = Shrink link
-
--- The number of outer sets, the root among them, that hold both vertices.
-abbrev pub count_holding_both : ℕ → ℕ → OddSetValue → List BranchValue → ℕ
-count_holding_both a b root tree = one_if_both a b root + outer_with_both a b tree
 
 -- The inner set of the first branch is a blossom with the given dual.
 abbrev pub FirstHasDual : ℕ → List BranchValue → Type 0

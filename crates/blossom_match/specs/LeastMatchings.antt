@@ -1,7 +1,7 @@
 -- Optimality of a matching whose moats pay for it.
 use Rattle.std.specs.Prelude.{◌≤◌, List}
 use Rattle.blossom_match.specs.Matchings.{pairs_cost, IsOptimalMatching, IsPerfectMatching}
-use Rattle.blossom_match.specs.TableValue.{TableValue}
+use Rattle.odd_sets.specs.TableValue.{TableValue}
 use Rattle.blossom_match.specs.declared.matching.Moat.{Moat}
 use Rattle.blossom_match.specs.declared.matching.Pair.{Pair}
 

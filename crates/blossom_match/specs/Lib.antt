@@ -1,33 +1,14 @@
 -- Read this one first: a perfect matching with moats that prove it optimal.
 pub mod Matchings
 pub mod LeastMatchings
-pub mod Tables
-pub mod TableValue
 -- The modules of the search.
-pub mod Lists
-pub mod DualSets
-pub mod Values
-pub mod SlackRows
-pub mod Blossoms
-pub mod BlossomSlacks
-pub mod MatchedSets
-pub mod Opens
 pub mod Taken
-pub mod SoundSets
-pub mod Trees
-pub mod Folds
-pub mod Shrinks
-pub mod Expansions
 pub mod Searches
 pub mod LeastChanges
 pub mod Duals
 pub mod OuterSlacks
 pub mod Candidates
 pub mod Masks
-pub mod Slots
-pub mod ChainSteps
-pub mod SlotProps
 pub mod States
 pub mod Phases
 pub mod InitialDuals
-pub mod Heights

@@ -1,14 +1,14 @@
 -- Masks over all vertices: a mask is 0 at the vertices that it shows, and FAR at all others.
 use Rattle.std.specs.Prelude.{◌≡◌, ℕ, ◌<◌, ◌≤◌, List, ◌++◌, length, max, slice_index}
-use Rattle.blossom_match.specs.DualSets.{count}
-use Rattle.blossom_match.specs.MatchedSets.{match_members}
-use Rattle.blossom_match.specs.SlackRows.{lowered_slack}
+use Rattle.odd_sets.specs.DualSets.{count}
+use Rattle.odd_sets.specs.MatchedSets.{match_members}
+use Rattle.odd_sets.specs.SlackRows.{lowered_slack}
 use Rattle.blossom_match.specs.Candidates.{IsBestCandidate}
-use Rattle.blossom_match.specs.TableValue.{TableValue}
-use Rattle.blossom_match.specs.Values.{BranchValue, SearchValue}
+use Rattle.odd_sets.specs.TableValue.{TableValue}
+use Rattle.odd_sets.specs.Values.{BranchValue, SearchValue}
 use Rattle.blossom_match.specs.declared.least.Target.{Target}
 use Rattle.blossom_match.specs.declared.least.Kind.TheVariants as kind
-use Rattle.blossom_match.specs.declared.table.TheConstants.{FAR}
+use Rattle.odd_sets.specs.declared.table.TheConstants.{FAR}
 
 -- A mask shows the given vertices alone.
 pub record IsMask (places mask : List ℕ) : Type 0 where

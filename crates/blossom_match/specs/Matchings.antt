@@ -4,8 +4,8 @@
 -- Distances count steps; widths of moats count halves of a step.
 use Rattle.std.specs.Prelude.{◌≡◌, ◌≢◌, ◌==◌, ℕ, ◌+◌, ◌*◌, ◌%◌, ◌<◌, ◌≤◌, ◌⊎◌, Bool, true, false, not, List, length, nat_lt, if◌then◌else◌}
 use Rattle.std.specs.List.{All, AllPairs, list_any, sum_by}
-use Rattle.blossom_match.specs.Tables.{entry}
-use Rattle.blossom_match.specs.TableValue.{TableValue}
+use Rattle.odd_sets.specs.Tables.{entry}
+use Rattle.odd_sets.specs.TableValue.{TableValue}
 use Rattle.blossom_match.specs.declared.matching.Moat.{Moat}
 use Rattle.blossom_match.specs.declared.matching.Pair.{Pair}
 

@@ -2,17 +2,16 @@
 -- distance less the height of the outer vertex; the height of the far vertex is not yet taken. The
 -- array of these slacks is named `reach`.
 use Rattle.std.specs.Prelude.{◌≡◌, ℕ, ◌-◌, ◌*◌, ◌<◌, ◌≤◌, ◌⊎◌, List, [], ◌++◌, length, slice_index}
-use Rattle.blossom_match.specs.Lists.{Each}
-use Rattle.blossom_match.specs.DualSets.{OddSetValue, count}
-use Rattle.blossom_match.specs.SoundSets.{IsSoundBranch, IsSoundSet}
-use Rattle.blossom_match.specs.Trees.{outer_members}
+use Rattle.odd_sets.specs.Lists.{Each}
+use Rattle.odd_sets.specs.DualSets.{OddSetValue, count}
+use Rattle.odd_sets.specs.SoundSets.{IsSoundBranch, IsSoundSet}
+use Rattle.odd_sets.specs.Trees.{outer_members, count_holding_both}
 use Rattle.blossom_match.specs.Searches.{CanStepAt}
-use Rattle.blossom_match.specs.LeastChanges.{count_holding_both}
-use Rattle.blossom_match.specs.TableValue.{TableValue}
-use Rattle.blossom_match.specs.Tables.{entry}
-use Rattle.blossom_match.specs.declared.table.TheConstants.{FAR}
+use Rattle.odd_sets.specs.TableValue.{TableValue}
+use Rattle.odd_sets.specs.Tables.{entry}
+use Rattle.odd_sets.specs.declared.table.TheConstants.{FAR}
 use Rattle.blossom_match.specs.declared.search.SearchStep.{SearchStep}
-use Rattle.blossom_match.specs.Values.{BranchValue, SearchValue}
+use Rattle.odd_sets.specs.Values.{BranchValue, SearchValue}
 
 -- The slack from a to x, before the height of x is taken.
 abbrev pub slack_from : TableValue → List ℕ → ℕ → ℕ → ℕ

@@ -1,14 +1,14 @@
 -- One search after another, until no vertex is free.
 use Rattle.std.specs.Prelude.{◌≡◌, ℕ, ◌+◌, ◌<◌, List, [], length, slice_index}
-use Rattle.blossom_match.specs.Blossoms.{vertex_set}
+use Rattle.odd_sets.specs.Blossoms.{vertex_set}
 use Rattle.blossom_match.specs.Searches.{search_size, Advances, EndsSearch, IsPartialMatching}
 use Rattle.blossom_match.specs.LeastChanges.{CanSearch}
 use Rattle.blossom_match.specs.OuterSlacks.{AreSearchSlacks}
 use Rattle.blossom_match.specs.Masks.{IsSearchMask}
-use Rattle.blossom_match.specs.TableValue.{TableValue}
-use Rattle.blossom_match.specs.Tables.{IsTable}
-use Rattle.blossom_match.specs.Values.{MatchValue, SearchValue}
-use Rattle.blossom_match.specs.Slots.{matches_in}
+use Rattle.odd_sets.specs.TableValue.{TableValue}
+use Rattle.odd_sets.specs.Tables.{IsTable}
+use Rattle.odd_sets.specs.Values.{MatchValue, SearchValue}
+use Rattle.odd_sets.specs.Slots.{matches_in}
 use Rattle.blossom_match.specs.States.{search_value, partial_value}
 use Rattle.blossom_match.specs.declared.search.SearchStep.{SearchStep}
 use Rattle.blossom_match.specs.declared.state.Pairing.{Pairing}

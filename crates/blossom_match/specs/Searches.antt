@@ -1,14 +1,14 @@
 -- The invariants of a partial matching and of a search, between two steps.
 use Rattle.std.specs.Prelude.{◌≡◌, ◌≢◌, ℕ, ◌+◌, ◌*◌, ◌<◌, ◌≤◌, List, [], ◌∷◌, ◌++◌, drop, length, nat_lt, slice_index, if◌then◌else◌}
-use Rattle.blossom_match.specs.Lists.{Each}
-use Rattle.blossom_match.specs.DualSets.{dual_sets, count, height, dual_load}
-use Rattle.blossom_match.specs.MatchedSets.{match_members, match_dual_sets, IsMatch}
-use Rattle.blossom_match.specs.SoundSets.{IsSoundBranch, IsSoundMatch, IsSoundSet, IsTight}
-use Rattle.blossom_match.specs.Trees.{outer_with_both, one_if_both, branch_dual_sets, inner_dual_sets, inner_members, outer_members, IsAlternatingTree}
-use Rattle.blossom_match.specs.Expansions.{FirstCanExpand, InsertsBranches}
-use Rattle.blossom_match.specs.TableValue.{TableValue}
-use Rattle.blossom_match.specs.Tables.{entry}
-use Rattle.blossom_match.specs.Values.{BranchValue, MatchValue, SearchValue, PartialMatchingValue}
+use Rattle.odd_sets.specs.Lists.{Each}
+use Rattle.odd_sets.specs.DualSets.{dual_sets, count, height, dual_load}
+use Rattle.odd_sets.specs.MatchedSets.{match_members, match_dual_sets, IsMatch}
+use Rattle.odd_sets.specs.SoundSets.{IsSoundBranch, IsSoundMatch, IsSoundSet, IsTight}
+use Rattle.odd_sets.specs.Trees.{outer_with_both, one_if_both, branch_dual_sets, inner_dual_sets, inner_members, outer_members, IsAlternatingTree}
+use Rattle.odd_sets.specs.Expansions.{FirstCanExpand, InsertsBranches}
+use Rattle.odd_sets.specs.TableValue.{TableValue}
+use Rattle.odd_sets.specs.Tables.{entry}
+use Rattle.odd_sets.specs.Values.{BranchValue, MatchValue, SearchValue, PartialMatchingValue}
 use Rattle.blossom_match.specs.declared.search.SearchStep.{SearchStep}
 use Rattle.blossom_match.specs.declared.search.SearchStep.TheVariants.{Augment, Grow, Shrink, Expand}
 

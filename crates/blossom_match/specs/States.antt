@@ -1,6 +1,6 @@
 -- The values of a search and of a partial matching, with the odd sets of their slots.
-use Rattle.blossom_match.specs.Slots.{matches_in, branches_in, set_in}
-use Rattle.blossom_match.specs.Values.{SearchValue, PartialMatchingValue}
+use Rattle.odd_sets.specs.Slots.{matches_in, branches_in, set_in}
+use Rattle.odd_sets.specs.Values.{SearchValue, PartialMatchingValue}
 use Rattle.blossom_match.specs.declared.state.Search.{Search}
 use Rattle.blossom_match.specs.declared.state.Pairing.{Pairing}
 

@@ -1,13 +1,13 @@
 -- The pairs and moats that taking odd sets apart adds.
 use Rattle.std.specs.Prelude.{◌≡◌, ℕ, ◌+◌, ◌*◌, ◌%◌, ◌≤◌, List, [], ◌∷◌, ◌++◌, length, nat_lt, if◌then◌else◌}
-use Rattle.blossom_match.specs.Lists.{Each, EachPair}
-use Rattle.blossom_match.specs.DualSets.{OddSetValue, dual_sets, count, height, one_if_equal, dual_load, total, AreTightInside}
-use Rattle.blossom_match.specs.MatchedSets.{match_members, match_dual_sets, IsMatch, IsTightMatch}
-use Rattle.blossom_match.specs.TableValue.{TableValue}
+use Rattle.odd_sets.specs.Lists.{Each, EachPair}
+use Rattle.odd_sets.specs.DualSets.{OddSetValue, dual_sets, count, height, one_if_equal, dual_load, total, AreTightInside}
+use Rattle.odd_sets.specs.MatchedSets.{match_members, match_dual_sets, IsMatch, IsTightMatch}
+use Rattle.odd_sets.specs.TableValue.{TableValue}
 use Rattle.blossom_match.specs.Matchings.{pairs_cost, pair_ends_at, moat_load, width_of, AreLaminar}
 use Rattle.blossom_match.specs.declared.matching.Moat.{Moat}
 use Rattle.blossom_match.specs.declared.matching.Pair.{Pair}
-use Rattle.blossom_match.specs.Values.{MatchValue}
+use Rattle.odd_sets.specs.Values.{MatchValue}
 
 -- The moat of a set; none where its dual is 0.
 abbrev pub moat_of_set : List ℕ → ℕ → List Moat

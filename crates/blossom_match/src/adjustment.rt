@@ -1,14 +1,12 @@
 ghost use Rattle.std.specs.Prelude.{◌≡◌, ◌+◌, ◌^◌, ◌<◌, length, map};
-ghost use Rattle.blossom_match.specs.Lists.{Each};
-ghost use Rattle.blossom_match.specs.Slots.{branches_in, set_in};
+ghost use Rattle.odd_sets.specs.Lists.{Each};
+ghost use Rattle.odd_sets.specs.Slots.{branches_in, set_in};
 ghost use Rattle.blossom_match.specs.States.{search_value};
 ghost use Rattle.blossom_match.specs.Duals.{changed_branch, CanChange, CanChangeHeights, CanChangeBranch, CanAdjust, ChangesDuals, ChangesHeights, Adjusts};
 
-use crate::branches::Branch;
-use crate::heights::{lower_inners, raise, raise_outers};
 use crate::least::DualChange;
-use crate::odd_set::{Handle, Sets};
 use crate::state::Search;
+use odd_sets::{Branch, Handle, Sets, lower_inners, raise, raise_outers};
 
 /// Raises the duals of the outer sets and lowers those of the inner ones, so that the step of the change can
 /// be made.

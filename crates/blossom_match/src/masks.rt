@@ -1,19 +1,15 @@
 ghost use Rattle.std.specs.Prelude.{◌≤◌, drop, length};
-ghost use Rattle.blossom_match.specs.DualSets.{count};
-ghost use Rattle.blossom_match.specs.MatchedSets.{match_members};
-ghost use Rattle.blossom_match.specs.Heights.{HasCells};
+ghost use Rattle.odd_sets.specs.DualSets.{count};
+ghost use Rattle.odd_sets.specs.MatchedSets.{match_members};
+ghost use Rattle.odd_sets.specs.Heights.{HasCells};
 ghost use Rattle.blossom_match.specs.Masks.{branch_members};
-ghost use Rattle.blossom_match.specs.SlackRows.{SetsCells};
-ghost use Rattle.blossom_match.specs.Slots.{branch_in, matches_in};
+ghost use Rattle.odd_sets.specs.SlackRows.{SetsCells};
+ghost use Rattle.odd_sets.specs.Slots.{branch_in, matches_in};
 ghost use Rattle.blossom_match.specs.States.{search_value};
-ghost use Rattle.blossom_match.specs.declared.table.TheConstants.{FAR};
+ghost use Rattle.odd_sets.specs.declared.table.TheConstants.{FAR};
 
-use crate::branches::Branch;
-use crate::matches::Match;
-use crate::odd_set::Sets;
-use crate::slack_rows::put;
 use crate::state::Search;
-use crate::table::FAR;
+use odd_sets::{Branch, FAR, Match, Sets, put};
 
 /// Shows the vertices of the matches.
 fn show(sets: &Sets, matches: &[Match], mask: &mut [u32])

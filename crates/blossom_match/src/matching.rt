@@ -1,11 +1,11 @@
 ghost use Rattle.std.specs.Prelude.{◌≡◌, ◌%◌, IfOk};
-ghost use Rattle.blossom_match.specs.Tables.{HasTriangleInequality};
+ghost use Rattle.odd_sets.specs.Tables.{HasTriangleInequality};
 ghost use Rattle.blossom_match.specs.Matchings.{IsOptimalMatching};
 
 use crate::pairing::find_matches;
-use crate::table::DistTable;
 use crate::taking::take_matches;
 use lists_and_numbers::{Items, Memory, Numbers};
+use odd_sets::DistTable;
 use std::alloc::Global;
 
 /// Two places that are matched.

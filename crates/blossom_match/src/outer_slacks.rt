@@ -1,19 +1,16 @@
 ghost use Rattle.std.specs.Prelude.{◌≡◌, ◌≤◌, ◌<◌, ◌+◌, ℕ, drop, length, slice_index, take};
-ghost use Rattle.blossom_match.specs.Lists.{Each};
-ghost use Rattle.blossom_match.specs.DualSets.{count};
-ghost use Rattle.blossom_match.specs.Folds.{FoldsCells};
-ghost use Rattle.blossom_match.specs.Heights.{HasCells};
-ghost use Rattle.blossom_match.specs.SlackRows.{lowered_slack, MergesSlacks};
+ghost use Rattle.odd_sets.specs.Lists.{Each};
+ghost use Rattle.odd_sets.specs.DualSets.{count};
+ghost use Rattle.odd_sets.specs.Folds.{FoldsCells};
+ghost use Rattle.odd_sets.specs.Heights.{HasCells};
+ghost use Rattle.odd_sets.specs.SlackRows.{lowered_slack, MergesSlacks};
 ghost use Rattle.blossom_match.specs.OuterSlacks.{HasSlacks, HasSlackCells, AddsOuterSlacks, ComputesRootSlacks};
-ghost use Rattle.blossom_match.specs.Slots.{branches_in, set_in};
+ghost use Rattle.odd_sets.specs.Slots.{branches_in, set_in};
 ghost use Rattle.blossom_match.specs.States.{search_value};
-ghost use Rattle.blossom_match.specs.declared.table.TheConstants.{FAR};
+ghost use Rattle.odd_sets.specs.declared.table.TheConstants.{FAR};
 
-use crate::branches::Branch;
-use crate::odd_set::{Handle, Sets};
-use crate::slack_rows::{lower_slack, merge, put};
 use crate::state::Search;
-use crate::table::FAR;
+use odd_sets::{Branch, FAR, Handle, Sets, lower_slack, merge, put};
 
 /// Merges the slacks from an outer set into the least slacks.
 fn add_set_slacks(sets: &Sets, set: Handle, reach: &mut [u32])

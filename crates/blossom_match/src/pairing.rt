@@ -1,14 +1,13 @@
 ghost use Rattle.std.specs.Prelude.{◌≡◌, ◌%◌, length, IfOk};
-ghost use Rattle.blossom_match.specs.Tables.{IsMetric, HasTriangleInequality};
+ghost use Rattle.odd_sets.specs.Tables.{IsMetric, HasTriangleInequality};
 ghost use Rattle.blossom_match.specs.Phases.{MatchesAll, IsPartialState};
-ghost use Rattle.blossom_match.specs.Slots.{matches_in};
+ghost use Rattle.odd_sets.specs.Slots.{matches_in};
 
 use crate::initial_duals::initial_matching;
 use crate::phase::pair_up;
-use crate::slack_rows::far_cells;
 use crate::state::Pairing;
-use crate::table::DistTable;
 use lists_and_numbers::Memory;
+use odd_sets::{DistTable, far_cells};
 use std::alloc::Global;
 
 /// Returns matched sets that hold all vertices.

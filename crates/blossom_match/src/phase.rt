@@ -1,22 +1,21 @@
 ghost use Rattle.std.specs.Prelude.{◌≡◌, ◌≤◌, ◌<◌, ◌+◌, ◌++◌, ◌∷◌, [], length, IfOk};
-ghost use Rattle.blossom_match.specs.Tables.{IsMetric};
+ghost use Rattle.odd_sets.specs.Tables.{IsMetric};
 ghost use Rattle.blossom_match.specs.LeastChanges.{CanSearch};
 ghost use Rattle.blossom_match.specs.Searches.{CanStepAt};
 ghost use Rattle.blossom_match.specs.OuterSlacks.{AreSearchSlacks};
 ghost use Rattle.blossom_match.specs.Masks.{IsSearchMask};
-ghost use Rattle.blossom_match.specs.Slots.{matches_in};
+ghost use Rattle.odd_sets.specs.Slots.{matches_in};
 ghost use Rattle.blossom_match.specs.States.{search_value};
 ghost use Rattle.blossom_match.specs.Phases.{BeginsSearch, MakesProgress, IsStepResult, IsPartialWithHeights, IsPartialState, IsStepMask, AreStepSlacks};
 
 use crate::adjustment::adjust;
 use crate::least::least;
 use crate::masks::{hide, show_from};
-use crate::odd_set::single;
 use crate::outer_slacks::{add_slacks_from, begin_slacks, lower_slacks, reset};
 use crate::search::{SearchStep, expand_at, finish, grow_to, shrink_by};
 use crate::state::{Pairing, Search};
-use crate::table::DistTable;
 use lists_and_numbers::Memory;
+use odd_sets::{DistTable, single};
 use std::alloc::Global;
 
 /// The result of a step: a search that continues, or the partial matching at its end.

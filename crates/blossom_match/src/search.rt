@@ -1,19 +1,14 @@
 ghost use Rattle.std.specs.Prelude.{◌≡◌, ◌≤◌, ◌<◌, ◌+◌, ℕ, length, slice_index, IfOk};
-ghost use Rattle.blossom_match.specs.DualSets.{count, one_if_equal};
+ghost use Rattle.odd_sets.specs.DualSets.{count, one_if_equal};
 ghost use Rattle.blossom_match.specs.Searches.{Advances, CanStep, CanStepAt, ExpandsBranch, EndsSearch, GrowsBranch};
 ghost use Rattle.blossom_match.specs.OuterSlacks.{CarriesSlacks};
 ghost use Rattle.blossom_match.specs.States.{search_value, partial_value};
 ghost use Rattle.blossom_match.specs.declared.search.SearchStep.TheVariants as step;
 
-use crate::branches::{augment, grow};
-use crate::expanding::expand;
-use crate::matches::take_match;
-use crate::odd_set::{TightEdge, single};
 use crate::outer_slacks::fold_slacks;
-use crate::shrinking::shrink;
 use crate::state::{Pairing, Search};
-use crate::table::DistTable;
 use lists_and_numbers::Memory;
+use odd_sets::{DistTable, TightEdge, augment, expand, grow, shrink, single, take_match};
 use std::alloc::Global;
 
 /// A step of a search. `Augment`, `Grow` and `Shrink` use a tight edge from an outer set: to a free vertex, a

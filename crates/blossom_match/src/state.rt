@@ -1,12 +1,10 @@
 ghost use Rattle.std.proofs.Props.{props};
-ghost use Rattle.blossom_match.specs.SlotProps.{set-prop};
-ghost use Rattle.blossom_match.specs.MatchedSets.{match_dual_sets};
-ghost use Rattle.blossom_match.specs.Trees.{all_dual_sets};
-ghost use Rattle.blossom_match.specs.Slots.{branches_in, matches_in, set_in, AreSets};
+ghost use Rattle.odd_sets.specs.SlotProps.{set-prop};
+ghost use Rattle.odd_sets.specs.MatchedSets.{match_dual_sets};
+ghost use Rattle.odd_sets.specs.Trees.{all_dual_sets};
+ghost use Rattle.odd_sets.specs.Slots.{branches_in, matches_in, set_in, AreSets};
 
-use crate::branches::Branch;
-use crate::matches::Match;
-use crate::odd_set::{Handle, Sets};
+use odd_sets::{Branch, Handle, Match, Sets};
 
 /// A partial matching: matched sets, free vertices, and the height of each vertex. The height is the sum of
 /// the duals of the sets that hold the vertex, or the initial dual of a free one. Each set has a slot of its

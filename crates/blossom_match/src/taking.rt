@@ -1,15 +1,13 @@
 ghost use Rattle.std.specs.Prelude.{◌≡◌, ◌≤◌, ◌++◌, ◌∷◌, [], ℕ, OnOk};
-ghost use Rattle.blossom_match.specs.Lists.{Each};
-ghost use Rattle.blossom_match.specs.DualSets.{dual_sets, count};
-ghost use Rattle.blossom_match.specs.MatchedSets.{match_dual_sets, match_members, IsMatch};
-ghost use Rattle.blossom_match.specs.Slots.{matches_in, set_in, AreSets};
+ghost use Rattle.odd_sets.specs.Lists.{Each};
+ghost use Rattle.odd_sets.specs.DualSets.{dual_sets, count};
+ghost use Rattle.odd_sets.specs.MatchedSets.{match_dual_sets, match_members, IsMatch};
+ghost use Rattle.odd_sets.specs.Slots.{matches_in, set_in, AreSets};
 ghost use Rattle.blossom_match.specs.Taken.{moat_of_set, TakesApartMatches, TakesApartSet};
 
-use crate::matches::Match;
 use crate::matching::{Moat, Moats, Pair, Pairs};
-use crate::odd_set::{Handle, Sets, TightEdge};
-use crate::opening::{OpenedSet, open_at};
 use lists_and_numbers::{Memory, Numbers};
+use odd_sets::{Handle, Match, OpenedSet, Sets, TightEdge, open_at};
 use std::alloc::Global;
 
 /// Appends the pairs inside a set and its moats, where its member `left` is paired outside.

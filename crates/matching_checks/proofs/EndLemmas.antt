@@ -4,8 +4,8 @@ use Rattle.std.proofs.lemmas.Bool.{cond_both, eq-eqb, lt-ltb, ltb-false, ltb-tru
 use Rattle.std.proofs.lemmas.List.Sums.{get_or-le-sum_by, sum_by-cons, sum_by-le}
 use Rattle.blossom_match.specs.declared.matching.Pair.{Pair}
 use Rattle.blossom_match.specs.Matchings.{pairs_cost, pair_ends_at, IsPerfectMatching}
-use Rattle.blossom_match.specs.Tables.{entry, IsTable}
-use Rattle.blossom_match.specs.TableValue.{TableValue}
+use Rattle.odd_sets.specs.Tables.{entry, IsTable}
+use Rattle.odd_sets.specs.TableValue.{TableValue}
 use Rattle.matching_checks.specs.Ends.{EndsBelow}
 
 -- a number that is an end is a place

@@ -1,9 +1,10 @@
 ghost use Rattle.std.specs.Prelude.{◌≡◌, ◌≢◌, ◌↔◌, ◌*◌, ◌-◌, ◌^◌, ◌<◌, ◌≤◌, ℕ, All, IsTrue, false, true, if◌then◌else◌, min};
 ghost use Rattle.std.specs.List.{AllPairs};
 ghost use Rattle.blossom_match.specs.Matchings.{AreLaminar, crosses_moat, moat_holds, IsOddMoat, KeepsMoatLoads, IsDisjointFrom, IsNestedIn, moat_load, width_of};
-ghost use Rattle.blossom_match.specs.Tables.{entry};
+ghost use Rattle.odd_sets.specs.Tables.{entry};
 
-use blossom_match::{DistTable, Moat};
+use blossom_match::Moat;
+use odd_sets::DistTable;
 
 /// Returns whether a place is a member of a moat.
 fn has(m: &Moat, x: u32) -> bool

@@ -1,10 +1,11 @@
 ghost use Rattle.std.specs.Prelude.{◌≡◌, ◌↔◌, ◌-◌, ◌^◌, ◌<◌, [], min};
 ghost use Rattle.blossom_match.specs.Matchings.{pairs_cost, IsOptimalMatching, IsPerfectMatching};
-ghost use Rattle.blossom_match.specs.Tables.{entry};
+ghost use Rattle.odd_sets.specs.Tables.{entry};
 
 use crate::ends::pairs_each;
 use crate::moats::{all_laminar, all_odd, keeps_loads, width};
-use blossom_match::{DistTable, Matching};
+use blossom_match::Matching;
+use odd_sets::DistTable;
 
 /// Returns the entry of two places, and 0 where there is none.
 pub(crate) fn distance(t: &DistTable, a: u32, b: u32) -> u32

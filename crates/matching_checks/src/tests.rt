@@ -3,8 +3,9 @@ mod tables;
 use crate::properties::{cost, distance, fault};
 use crate::tests::tables::{axis, clusters, random, star};
 use crate::triangles::keeps_triangles;
-use blossom_match::{DistTable, Matching, Moat, Moats, Pair, Pairs, match_all};
+use blossom_match::{Matching, Moat, Moats, Pair, Pairs, match_all};
 use lists_and_numbers::{Memory, Numbers};
+use odd_sets::DistTable;
 use std::alloc::Global;
 use std::test::Fail;
 

@@ -1,7 +1,7 @@
 ghost use Rattle.std.specs.Prelude.{◌<◌, ◌↔◌, ℕ, IsTrue};
-ghost use Rattle.blossom_match.specs.Tables.{HasNoShortcutBy, HasTriangleInequality};
+ghost use Rattle.odd_sets.specs.Tables.{HasNoShortcutBy, HasTriangleInequality};
 
-use blossom_match::DistTable;
+use odd_sets::DistTable;
 
 /// Returns whether a table satisfies the triangle inequality.
 pub fn keeps_triangles(t: &DistTable) -> bool

@@ -1,7 +1,7 @@
 -- The table of least costs between the terminals of rows (`odd_paths`). Costs count steps.
 use Rattle.std.specs.Prelude.{◌≡◌, ℕ, ◌<◌, ◌==◌, ◌&&◌, Bool, length, nat_lt, if◌then◌else◌}
-use Rattle.blossom_match.specs.Tables.{entry}
-use Rattle.blossom_match.specs.TableValue.{TableValue}
+use Rattle.odd_sets.specs.Tables.{entry}
+use Rattle.odd_sets.specs.TableValue.{TableValue}
 use Rattle.line_graph.specs.PieceGraphs.{PieceValue}
 use Rattle.odd_paths.specs.LeastRows.{AreRows, RowsValue, cost_at, terminal_of}
 

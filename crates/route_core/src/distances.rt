@@ -1,13 +1,13 @@
 ghost use Rattle.std.specs.Prelude.{◌≡◌, ◌<◌, ◌≤◌, IfOk, length};
-ghost use Rattle.blossom_match.specs.declared.table.TheConstants.{MAX_DISTANCE, MAX_PLACES};
+ghost use Rattle.odd_sets.specs.declared.table.TheConstants.{MAX_DISTANCE, MAX_PLACES};
 ghost use Rattle.line_graph.specs.PiecesOfDrawings.{graph_of};
 ghost use Rattle.odd_paths.specs.LeastRows.{AreRows, cost_at, terminal_of};
 ghost use Rattle.route_core.specs.Distances.{HasDistances, HasFilledEntries};
 
-use blossom_match::DistTable;
 use line_graph::Piece;
 use lists_and_numbers::Memory;
 use odd_paths::Rows;
+use odd_sets::DistTable;
 use std::alloc::Global;
 
 /// Returns the table of least costs between the terminals of rows.

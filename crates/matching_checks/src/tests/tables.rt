@@ -1,5 +1,5 @@
 //! Tables of distances for the tests.
-use blossom_match::{DistTable, MAX_DISTANCE, MAX_PLACES};
+use odd_sets::{DistTable, MAX_DISTANCE, MAX_PLACES};
 use std::alloc::Global;
 use std::test::Fail;
 

@@ -1,9 +1,9 @@
 use Rattle.std.proofs.Common.{List, ℕ, ◌+◌, arith, ap, length, map, refl, subst, sym, ◌∙◌}
-use Rattle.blossom_match.specs.Lists.{Each}
-use Rattle.blossom_match.specs.Slots.{branches_in, matches_in, set_in}
+use Rattle.odd_sets.specs.Lists.{Each}
+use Rattle.odd_sets.specs.Slots.{branches_in, matches_in, set_in}
 use Rattle.blossom_match.specs.Duals.{changed_branch, CanChangeBranch, ChangesHeights}
-use Rattle.blossom_match.specs.declared.branches.Branch.{Branch}
-use Rattle.blossom_match.proofs.ListLemmas.{written}
+use Rattle.odd_sets.specs.declared.branches.Branch.{Branch}
+use Rattle.odd_sets.proofs.CallerLemmas.{written}
 use Rattle.blossom_match.proofs.DualLemmas.{all_resized, can_resize, changed_sets}
 use Rattle.blossom_match.proofs.adjustment.change_duals.Goals as goal
 

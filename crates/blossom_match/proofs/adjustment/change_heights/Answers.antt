@@ -1,11 +1,9 @@
 use Rattle.std.proofs.Common.{arith, ap, ℕ, List, [], ◌*◌}
-use Rattle.blossom_match.specs.DualSets.{count}
-use Rattle.blossom_match.specs.Slots.{branches_in, set_in}
-use Rattle.blossom_match.specs.Trees.{outer_sets}
-use Rattle.blossom_match.proofs.TreeLemmas.{base_in}
-use Rattle.blossom_match.proofs.RaisedLemmas.{more_by}
+use Rattle.odd_sets.specs.DualSets.{count}
+use Rattle.odd_sets.specs.Slots.{branches_in, set_in}
+use Rattle.odd_sets.specs.Trees.{outer_sets}
+use Rattle.odd_sets.proofs.CallerLemmas.{base_in, more_by, members-append}
 use Rattle.blossom_match.proofs.adjustment.change_heights.Goals as goal
-use Rattle.blossom_match.proofs.SumLemmas.{members-append}
 
 pub raise-requires-clause-within : goal.raise-requires-clause-within
 raise-requires-clause-within c = λ x here.

@@ -1,15 +1,14 @@
 use Rattle.std.proofs.Common.{arith, [], List, ℕ, ap, subst}
 use Rattle.blossom_match.specs.Candidates.{IsBestCandidate}
-use Rattle.blossom_match.specs.DualSets.{count}
+use Rattle.odd_sets.specs.DualSets.{count}
 use Rattle.blossom_match.specs.Searches.{outer_vertices}
-use Rattle.blossom_match.specs.Slots.{branches_in}
+use Rattle.odd_sets.specs.Slots.{branches_in}
 use Rattle.blossom_match.specs.States.{search_value}
-use Rattle.blossom_match.specs.Trees.{outer_members}
-use Rattle.blossom_match.specs.declared.branches.Branch.{Branch}
+use Rattle.odd_sets.specs.Trees.{outer_members}
+use Rattle.odd_sets.specs.declared.branches.Branch.{Branch}
 use Rattle.blossom_match.specs.declared.least.Kind.TheVariants as kind
 use Rattle.blossom_match.proofs.CandidateLemmas.{aims_join}
-use Rattle.blossom_match.proofs.SumLemmas.{members_each}
-use Rattle.blossom_match.proofs.TreeLemmas.{base_in}
+use Rattle.odd_sets.proofs.CallerLemmas.{members_each, base_in}
 use Rattle.blossom_match.proofs.least.best_outer.Goals as goal
 
 pub best_target-rooted-requires-clause-within : goal.best_target-rooted-requires-clause-within

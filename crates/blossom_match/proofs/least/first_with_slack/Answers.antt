@@ -1,10 +1,9 @@
 use Rattle.std.proofs.Common.{◌≡◌, ℕ, List, arith, get_or}
-use Rattle.blossom_match.specs.TableValue.{TableValue}
-use Rattle.blossom_match.specs.Tables.{entry}
-use Rattle.blossom_match.proofs.RaisedLemmas.{count_at}
+use Rattle.odd_sets.specs.TableValue.{TableValue}
+use Rattle.odd_sets.specs.Tables.{entry}
+use Rattle.odd_sets.proofs.CallerLemmas.{count_at, entry-comm}
 use Rattle.blossom_match.proofs.OuterSlackLemmas.{left_more}
 use Rattle.blossom_match.proofs.least.first_with_slack.Goals as goal
-use Rattle.blossom_match.proofs.CallerLemmas.{entry-comm}
 
 same : (t : TableValue) (to : ℕ) (xs : List ℕ) (i : ℕ) → entry t to (get_or xs i 0) ≡ entry t (get_or xs i 0) to
 same t to xs i = entry-comm t to (get_or xs i 0)

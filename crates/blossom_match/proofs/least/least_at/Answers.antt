@@ -1,17 +1,17 @@
 use Rattle.std.proofs.Common.{◌≡◌, ◌≤◌, ℕ, List, ap, get_or, length, subst, sym, ◌∙◌}
-use Rattle.blossom_match.specs.DualSets.{count}
-use Rattle.blossom_match.specs.MatchedSets.{match_members}
+use Rattle.odd_sets.specs.DualSets.{count}
+use Rattle.odd_sets.specs.MatchedSets.{match_members}
 use Rattle.blossom_match.specs.Searches.{stored_height, outer_vertices}
 use Rattle.blossom_match.specs.LeastChanges.{CanSearch, IsLesserChange}
 use Rattle.blossom_match.specs.OuterSlacks.{AreOuterSlacks, AreSearchSlacks}
 use Rattle.blossom_match.specs.Candidates.{IsBestCandidate, IsCandidateAmong}
 use Rattle.blossom_match.specs.Masks.{IsBestShown, IsSearchMask}
-use Rattle.blossom_match.specs.Slots.{branches_in}
+use Rattle.odd_sets.specs.Slots.{branches_in}
 use Rattle.blossom_match.specs.States.{search_value}
-use Rattle.blossom_match.specs.TableValue.{TableValue}
-use Rattle.blossom_match.specs.Tables.{IsTable}
-use Rattle.blossom_match.specs.Values.{SearchValue}
-use Rattle.blossom_match.specs.declared.branches.Branch.{Branch}
+use Rattle.odd_sets.specs.TableValue.{TableValue}
+use Rattle.odd_sets.specs.Tables.{IsTable}
+use Rattle.odd_sets.specs.Values.{SearchValue}
+use Rattle.odd_sets.specs.declared.branches.Branch.{Branch}
 use Rattle.blossom_match.specs.declared.least.Target.{Target}
 use Rattle.blossom_match.specs.declared.least.Kind.TheVariants as kind
 use Rattle.blossom_match.proofs.BoundLemmas.{bounds_of, free_near, leads_on, IsAimedAt}

@@ -1,6 +1,6 @@
 use Rattle.std.proofs.Common.{◌≤◌, ◌<◌, ℕ}
 use Rattle.blossom_match.specs.Masks.{masked_slack, IsMaskedSlack}
-use Rattle.blossom_match.specs.declared.table.TheConstants.{FAR}
+use Rattle.odd_sets.specs.declared.table.TheConstants.{FAR}
 use Rattle.blossom_match.proofs.least.least_shown.Given as goal
 
 -- the least so far

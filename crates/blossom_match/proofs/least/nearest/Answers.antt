@@ -1,10 +1,8 @@
 use Rattle.std.proofs.Common.{get_or, arith}
-use Rattle.blossom_match.proofs.TreeLemmas.{base_in}
+use Rattle.odd_sets.proofs.CallerLemmas.{base_in, mapped_item, mapped_low, no_branch}
 use Rattle.blossom_match.proofs.OuterSlackLemmas.{outer_within}
 use Rattle.blossom_match.proofs.CandidateLemmas.{below_next, below_root, outer_apart, root_apart}
-use Rattle.blossom_match.specs.Slots.{branch_in, branches_in, set_in}
-use Rattle.blossom_match.proofs.ListLemmas.{mapped_item, mapped_low}
-use Rattle.blossom_match.proofs.HandleLemmas.{no_branch}
+use Rattle.odd_sets.specs.Slots.{branch_in, branches_in, set_in}
 use Rattle.blossom_match.proofs.least.nearest.Goals as goal
 
 pub vertex_with_slack-requires-clause-within : goal.vertex_with_slack-requires-clause-within

@@ -1,8 +1,7 @@
 use Rattle.std.proofs.Common.{get_or}
 use Rattle.blossom_match.proofs.ScanLemmas.{narrowing_more, narrowing_start}
-use Rattle.blossom_match.specs.Slots.{branch_in, branches_in}
-use Rattle.blossom_match.proofs.ListLemmas.{mapped_item, mapped_low}
-use Rattle.blossom_match.proofs.HandleLemmas.{no_branch}
+use Rattle.odd_sets.specs.Slots.{branch_in, branches_in}
+use Rattle.odd_sets.proofs.CallerLemmas.{mapped_item, mapped_low, no_branch}
 use Rattle.blossom_match.proofs.least.scan_blossoms.Goals as goal
 
 pub loop-i-init : goal.loop-i-init

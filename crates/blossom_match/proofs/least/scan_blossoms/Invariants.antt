@@ -1,4 +1,4 @@
-use Rattle.blossom_match.specs.Slots.{branches_in}
+use Rattle.odd_sets.specs.Slots.{branches_in}
 use Rattle.blossom_match.proofs.ScanLemmas.{Narrowing}
 use Rattle.blossom_match.proofs.least.scan_blossoms.Given as goal
 

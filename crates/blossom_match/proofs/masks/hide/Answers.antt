@@ -1,11 +1,11 @@
 use Rattle.std.proofs.Common.{arith, ap, List, ℕ, subst}
-use Rattle.blossom_match.specs.DualSets.{count}
+use Rattle.odd_sets.specs.DualSets.{count}
 use Rattle.blossom_match.specs.Masks.{branch_members}
-use Rattle.blossom_match.specs.SlackRows.{SetsCells}
-use Rattle.blossom_match.specs.Slots.{branch_in}
-use Rattle.blossom_match.specs.declared.table.TheConstants.{FAR}
+use Rattle.odd_sets.specs.SlackRows.{SetsCells}
+use Rattle.odd_sets.specs.Slots.{branch_in}
+use Rattle.odd_sets.specs.declared.table.TheConstants.{FAR}
 use Rattle.blossom_match.proofs.MaskLemmas.{puts_join}
-use Rattle.blossom_match.proofs.SumLemmas.{count-append}
+use Rattle.odd_sets.proofs.CallerLemmas.{count-append}
 use Rattle.blossom_match.proofs.masks.hide.Goals as goal
 
 pub put-requires : goal.put-requires

@@ -1,10 +1,9 @@
 use Rattle.std.proofs.Common.{arith, ap, get_or, List, ℕ, subst}
-use Rattle.blossom_match.specs.DualSets.{count}
-use Rattle.blossom_match.specs.SlackRows.{SetsCells}
-use Rattle.blossom_match.specs.Slots.{match_in, matches_in}
-use Rattle.blossom_match.proofs.ListLemmas.{mapped_item, mapped_low}
+use Rattle.odd_sets.specs.DualSets.{count}
+use Rattle.odd_sets.specs.SlackRows.{SetsCells}
+use Rattle.odd_sets.specs.Slots.{match_in, matches_in}
+use Rattle.odd_sets.proofs.CallerLemmas.{mapped_item, mapped_low, no_match}
 use Rattle.blossom_match.proofs.MaskLemmas.{match_within, puts_match}
-use Rattle.blossom_match.proofs.HandleLemmas.{no_match}
 use Rattle.blossom_match.proofs.masks.show.Goals as goal
 
 pub put-requires : goal.put-requires

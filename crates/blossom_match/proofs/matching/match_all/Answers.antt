@@ -1,5 +1,5 @@
 use Rattle.std.proofs.Common.{List, [], subst}
-use Rattle.blossom_match.specs.Slots.{matches_in}
+use Rattle.odd_sets.specs.Slots.{matches_in}
 use Rattle.blossom_match.specs.Taken.{TakesApartMatches}
 use Rattle.blossom_match.specs.declared.matching.Moat.{Moat}
 use Rattle.blossom_match.specs.declared.matching.Pair.{Pair}

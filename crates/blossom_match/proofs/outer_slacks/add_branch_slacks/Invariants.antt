@@ -1,12 +1,12 @@
 use Rattle.std.proofs.Common.{◌≡◌, ◌≤◌, ◌++◌, List, ℕ, get_or, length, take}
-use Rattle.blossom_match.specs.Lists.{Each}
-use Rattle.blossom_match.specs.DualSets.{OddSetValue, count}
-use Rattle.blossom_match.specs.SoundSets.{IsSoundBranch}
-use Rattle.blossom_match.specs.Trees.{outer_members}
+use Rattle.odd_sets.specs.Lists.{Each}
+use Rattle.odd_sets.specs.DualSets.{OddSetValue, count}
+use Rattle.odd_sets.specs.SoundSets.{IsSoundBranch}
+use Rattle.odd_sets.specs.Trees.{outer_members}
 use Rattle.blossom_match.specs.OuterSlacks.{AreOuterSlacks}
-use Rattle.blossom_match.specs.TableValue.{TableValue}
-use Rattle.blossom_match.specs.Values.{BranchValue}
-use Rattle.blossom_match.specs.Slots.{branches_in}
+use Rattle.odd_sets.specs.TableValue.{TableValue}
+use Rattle.odd_sets.specs.Values.{BranchValue}
+use Rattle.odd_sets.specs.Slots.{branches_in}
 use Rattle.blossom_match.proofs.outer_slacks.add_branch_slacks.Given as goal
 
 -- the outer sets so far are taken in

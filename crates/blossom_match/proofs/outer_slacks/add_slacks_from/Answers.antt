@@ -1,11 +1,11 @@
 use Rattle.std.proofs.Common.{arith, ap, drop, length, List, ℕ, ◌+◌, ◌-◌, ◌∙◌, subst, sym, take}
-use Rattle.blossom_match.specs.Lists.{Each}
+use Rattle.odd_sets.specs.Lists.{Each}
 use Rattle.blossom_match.specs.OuterSlacks.{HasSlacks, AddsOuterSlacks}
-use Rattle.blossom_match.specs.Slots.{branch_in, branches_in}
+use Rattle.odd_sets.specs.Slots.{branch_in, branches_in}
 use Rattle.blossom_match.specs.States.{search_value}
-use Rattle.blossom_match.specs.Values.{BranchValue}
-use Rattle.blossom_match.specs.declared.branches.Branch.{Branch}
-use Rattle.blossom_match.proofs.ListLemmas.{each-drop, each-take, mapped_cut}
+use Rattle.odd_sets.specs.Values.{BranchValue}
+use Rattle.odd_sets.specs.declared.branches.Branch.{Branch}
+use Rattle.odd_sets.proofs.CallerLemmas.{each-drop, each-take, mapped_cut}
 use Rattle.blossom_match.proofs.OuterSlackLemmas.{have_outer_rows}
 use Rattle.blossom_match.proofs.outer_slacks.add_slacks_from.Goals as goal
 

@@ -1,7 +1,7 @@
 use Rattle.std.proofs.Common.{◌≡◌, arith, length}
-use Rattle.blossom_match.specs.MatchedSets.{match_members}
+use Rattle.odd_sets.specs.MatchedSets.{match_members}
 use Rattle.blossom_match.specs.Searches.{stored_height}
-use Rattle.blossom_match.specs.Slots.{matches_in}
+use Rattle.odd_sets.specs.Slots.{matches_in}
 use Rattle.blossom_match.specs.States.{search_value}
 use Rattle.blossom_match.proofs.EndLemmas.{begins, place_there}
 use Rattle.blossom_match.proofs.LoweredLemmas.{begins_reach, searched}

@@ -2,9 +2,9 @@ use Rattle.blossom_match.specs.declared.search.SearchStep.TheVariants as step
 use Rattle.std.proofs.Common.{arith, ap, List, [], ◌∷◌, ℕ, ◌-◌, drop, length, length-append, subst, sym, take, ◌∙◌}
 use Rattle.std.proofs.lemmas.List.{length-map}
 use Rattle.blossom_match.specs.OuterSlacks.{AddsOuterSlacks}
-use Rattle.blossom_match.specs.Slots.{branch_in, branches_in, match_in, matches_in}
+use Rattle.odd_sets.specs.Slots.{branch_in, branches_in, match_in, matches_in}
 use Rattle.blossom_match.specs.States.{search_value}
-use Rattle.blossom_match.specs.Values.{BranchValue, MatchValue}
+use Rattle.odd_sets.specs.Values.{BranchValue, MatchValue}
 use Rattle.blossom_match.specs.Searches.{stored_height, Advances, CanStepAt}
 use Rattle.blossom_match.specs.declared.search.SearchStep.{SearchStep}
 use Rattle.blossom_match.proofs.OuterSlackLemmas.{grown_past, grown_size}

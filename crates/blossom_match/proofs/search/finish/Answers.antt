@@ -1,7 +1,7 @@
 use Rattle.std.proofs.Common.{ℕ, List, ap, get_or, refl, ◌∙◌}
-use Rattle.blossom_match.specs.DualSets.{OddSetValue}
-use Rattle.blossom_match.specs.Blossoms.{vertex_set}
-use Rattle.blossom_match.specs.Slots.{matches_in, set_in}
+use Rattle.odd_sets.specs.DualSets.{OddSetValue}
+use Rattle.odd_sets.specs.Blossoms.{vertex_set}
+use Rattle.odd_sets.specs.Slots.{matches_in, set_in}
 use Rattle.blossom_match.specs.States.{search_value}
 use Rattle.blossom_match.proofs.FreeLemmas.{met}
 use Rattle.blossom_match.proofs.PartialMatchingLemmas.{all_stay, augmenting_new, augments_old, can_augment, met_sets}

@@ -1,11 +1,10 @@
 use Rattle.std.proofs.Common.{arith, [], refl}
-use Rattle.blossom_match.specs.Slots.{branches_in, set_in}
+use Rattle.odd_sets.specs.Slots.{branches_in, set_in}
 use Rattle.blossom_match.specs.States.{search_value}
-use Rattle.blossom_match.specs.Trees.{all_dual_sets}
+use Rattle.odd_sets.specs.Trees.{all_dual_sets}
 use Rattle.blossom_match.proofs.LoweredLemmas.{carries, folds_cells, folds_row}
 use Rattle.blossom_match.proofs.SearchLemmas.{can_shrink, shrunk}
-use Rattle.blossom_match.proofs.ShrunkLemmas.{all_uses}
-use Rattle.blossom_match.proofs.SlotLemmas.{sets_fewer}
+use Rattle.odd_sets.proofs.CallerLemmas.{all_uses, sets_fewer}
 use Rattle.blossom_match.proofs.PartialMatchingLemmas.{closed_sets, matches_stay}
 use Rattle.blossom_match.proofs.search.shrink_by.Goals as goal
 

@@ -1,6 +1,6 @@
 use Rattle.std.proofs.Common.{ℕ, ◌*◌, ◌<◌, ◌≤◌}
 use Rattle.blossom_match.specs.Matchings.{moat_load}
-use Rattle.blossom_match.specs.Tables.{entry}
+use Rattle.odd_sets.specs.Tables.{entry}
 use Rattle.matching_checks.proofs.moats.keeps_loads.Given as goal
 
 -- no load of the places so far is too much

@@ -1,5 +1,5 @@
 use Rattle.std.proofs.Common.{ℕ, ◌+◌, ◌<◌, ◌≤◌}
-use Rattle.blossom_match.specs.Tables.{entry}
+use Rattle.odd_sets.specs.Tables.{entry}
 use Rattle.matching_checks.proofs.triangles.keeps_from.Given as goal
 
 -- no shorter way so far

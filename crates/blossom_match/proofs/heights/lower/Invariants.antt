@@ -1,8 +1,0 @@
-use Rattle.std.proofs.Common.{◌≡◌, ◌+◌, ◌*◌, ℕ, drop, get_or}
-use Rattle.blossom_match.specs.DualSets.{count}
-use Rattle.blossom_match.proofs.heights.lower.Given as goal
-
--- the places that are left are still to fall
-abbrev pub invariant-loop-m : goal.invariant-loop-m
-invariant-loop-m l = (x : ℕ) → get_or l.heights x 0 + l.by * count x l.members
-    ≡ get_or l.fn.heights x 0 + l.by * count x (drop l.m-index l.members)

@@ -1,9 +1,0 @@
-use Rattle.std.proofs.Common.{◌≤◌, drop}
-use Rattle.blossom_match.specs.DualSets.{count}
-use Rattle.blossom_match.specs.MatchedSets.{match_members}
-use Rattle.blossom_match.specs.Slots.{matches_in}
-use Rattle.blossom_match.proofs.matches.match_with.Given as goal
-
--- a match that is left holds the place
-abbrev pub invariant-loop-i : goal.invariant-loop-i
-invariant-loop-i l = 1 ≤ count l.place (match_members (drop l.i (matches_in l.sets l.matches)))

@@ -1,8 +1,0 @@
-use Rattle.std.proofs.Common.{◌≡◌, map}
-use Rattle.std.specs.List.{range_with_len}
-use Rattle.blossom_match.specs.SlackRows.{vertex_slack}
-use Rattle.blossom_match.proofs.slack_rows.single_row.Given as goal
-
--- the cells so far
-abbrev pub invariant-loop-x : goal.invariant-loop-x
-invariant-loop-x l = l.row.items ≡ map (vertex_slack l.t l.place) (range_with_len 0 l.x)

@@ -1,0 +1,37 @@
+-- One match of a list.
+use Rattle.std.proofs.Common.{◌≡◌, ℕ, ◌+◌, ◌≤◌, ◌<◌, suc, List, ◌∷◌, ◌++◌, length, take, drop, get_or, drop-cons, add-one, arith, sym, ap, subst, ◌∙◌}
+use Rattle.std.proofs.lemmas.List.{take-append-drop}
+use Rattle.odd_sets.specs.DualSets.{count}
+use Rattle.odd_sets.specs.MatchedSets.{match_members, MatchHolds, FirstMatchHolds}
+use Rattle.odd_sets.specs.Trees.{RemovesMatch}
+use Rattle.odd_sets.specs.Values.{MatchValue}
+use Rattle.odd_sets.proofs.SumLemmas.{count-append}
+
+-- the match at the index comes first among those that are left
+pub match_here : (cs : List MatchValue) (i : ℕ) (c : MatchValue) → i < length cs → c ≡ get_or cs i c → drop i cs ≡ c ∷ drop (i + 1) cs
+match_here cs i c lt is = rw add-one (drop-cons cs i c lt ∙ ap (λ (k : MatchValue). k ∷ drop (suc i) cs) (sym is))
+
+pub match_later : (x : ℕ) (cs : List MatchValue) (i : ℕ) (c : MatchValue) → i < length cs → c ≡ get_or cs i c → count x c.first.members
+    ≡ 0
+    → count x c.second.members ≡ 0 →
+    1 ≤ count x (match_members (drop i cs)) → 1 ≤ count x (match_members (drop (i + 1) cs))
+match_later x cs i c lt is off none some =
+    omega (arith, ap (λ (ks : List MatchValue). count x (match_members ks)) (match_here cs i c lt is), count-append)
+
+pub taken_out : (x : ℕ) (old new : List MatchValue) (i : ℕ) (c : MatchValue) → i < length old → c ≡ get_or old i c → new
+    ≡ take i old ++ drop (suc i) old → MatchHolds x old i →
+    RemovesMatch x old new c
+taken_out x old new i c lt is now holds =
+    let here : drop i old ≡ c ∷ drop (suc i) old = drop-cons old i c lt ∙ ap (λ (k : MatchValue). k ∷ drop (suc i) old) (sym is) in
+    record {
+      before = take i old;
+      after = drop (suc i) old;
+      was = sym (take-append-drop i old) ∙ ap (λ (ks : List MatchValue). take i old ++ ks) here;
+      now = now;
+      here = subst (FirstMatchHolds x) here holds;
+    }
+
+-- the match at the index holds the place
+pub match_holds : (x : ℕ) (cs : List MatchValue) (i : ℕ) (c : MatchValue) → i < length cs → c ≡ get_or cs i c
+    → 1 ≤ count x c.first.members + count x c.second.members → MatchHolds x cs i
+match_holds x cs i c low is here = subst (FirstMatchHolds x) (sym (match_here cs i c low is)) here

@@ -1,0 +1,77 @@
+-- Heights raised place by place.
+use Rattle.std.proofs.Common.{◌≡◌, ℕ, ◌+◌, ◌-◌, ◌*◌, ◌<◌, ◌≤◌, ◌≢◌, Bool, true, false, cond, eqb, zero, suc, List, [], ◌∷◌, length, drop, get_or, set, drop-cons, add-one, arith, refl, sym, ap, subst, ◌∙◌, get_or-set_other, get_or-set_same}
+use Rattle.std.proofs.lemmas.Bool.{eqb-true, eqb-false, eq-eqb}
+use Rattle.odd_sets.specs.DualSets.{count}
+use Rattle.odd_sets.specs.Trees.{inner_members, outer_members}
+use Rattle.odd_sets.specs.Values.{BranchValue}
+use Rattle.odd_sets.proofs.ListLemmas.{drop_here}
+use Rattle.odd_sets.proofs.SumLemmas.{count-append}
+
+pub at_drop : (x i m : ℕ) (ms : List ℕ) → i < length ms → m ≡ get_or ms i 0 → count x (drop i ms)
+    ≡ cond (eqb x m) 1 0 + count x (drop (i + 1) ms)
+at_drop x i m ms lt is =
+    let e : drop i ms ≡ get_or ms i 0 ∷ drop (suc i) ms = drop-cons ms i 0 lt in
+    rw (add-one, e, is) refl
+
+raised_by : (b : Bool) (x m w c : ℕ) (hs : List ℕ) → eqb x m ≡ b → m < length hs →
+    get_or (set hs m (get_or hs m 0 + w)) x 0 + w * c ≡ get_or hs x 0 + w * (cond b 1 0 + c)
+raised_by true x m w c hs is lt =
+    let e : x ≡ m = eqb-true x m is in
+    let s : get_or (set hs m (get_or hs m 0 + w)) m 0 ≡ get_or hs m 0 + w = get_or-set_same hs m (get_or hs m 0 + w) 0 lt in
+    subst (λ (y : ℕ). get_or (set hs m (get_or hs m 0 + w)) y 0 + w * c ≡ get_or hs y 0 + w * (1 + c)) (sym e) (omega (arith, s))
+raised_by false x m w c hs is lt =
+    let ne : x ≢ m = eqb-false x m is in
+    rw get_or-set_other (omega arith)
+
+pub raised : (x i m w : ℕ) (ms hs : List ℕ) (top : ℕ) → i < length ms → m ≡ get_or ms i 0 → m < length hs →
+    get_or hs x 0 + w * count x (drop i ms) ≡ top → get_or (set hs m (get_or hs m 0 + w)) x 0 + w * count x (drop (i + 1) ms) ≡ top
+raised x i m w ms hs top lt is low e =
+    raised_by (eqb x m) x m w (count x (drop (i + 1) ms)) hs refl low ∙ ap (λ (k : ℕ). get_or hs x 0 + w * k) (sym (at_drop x i m ms lt is))
+    ∙ e
+
+pub count_at : (ms : List ℕ) (i : ℕ) → i < length ms → 1 ≤ count (get_or ms i 0) ms
+count_at [] i lt = absurd (omega arith)
+count_at (m ∷ ms) zero lt = rw (eq-eqb m m refl) (omega arith)
+count_at (m ∷ ms) (suc i) lt = omega (arith, count_at ms i (omega arith))
+
+lowered_by : (b : Bool) (x m w c rest top : ℕ) (hs : List ℕ) → eqb x m ≡ b → m < length hs → w ≤ get_or hs m 0 → get_or hs x 0 + rest
+    ≡ top + w * (cond b 1 0 + c) →
+    get_or (set hs m (get_or hs m 0 - w)) x 0 + rest ≡ top + w * c
+lowered_by true x m w c rest top hs is lt low e =
+    let same : x ≡ m = eqb-true x m is in
+    let s : get_or (set hs m (get_or hs m 0 - w)) m 0 ≡ get_or hs m 0 - w = get_or-set_same hs m (get_or hs m 0 - w) 0 lt in
+    let at : get_or hs m 0 + rest ≡ top + w * (1 + c) = subst (λ (y : ℕ). get_or hs y 0 + rest ≡ top + w * (1 + c)) same e in
+    subst (λ (y : ℕ). get_or (set hs m (get_or hs m 0 - w)) y 0 + rest ≡ top + w * c) (sym same) (omega (arith, s, low, at))
+lowered_by false x m w c rest top hs is lt low e =
+    let ne : x ≢ m = eqb-false x m is in
+    rw get_or-set_other (omega (arith, e))
+
+pub lowered : (x i m w : ℕ) (ms hs : List ℕ) (rest top : ℕ) → i < length ms → m ≡ get_or ms i 0 → m < length hs → w ≤ get_or hs m 0 →
+    get_or hs x 0 + rest ≡ top + w * count x (drop i ms) → get_or (set hs m (get_or hs m 0 - w)) x 0 + rest
+    ≡ top + w * count x (drop (i + 1) ms)
+lowered x i m w ms hs rest top lt is there low e =
+    lowered_by (eqb x m) x m w (count x (drop (i + 1) ms)) rest top hs refl there low
+    (e ∙ ap (λ (k : ℕ). top + w * k) (at_drop x i m ms lt is))
+
+-- what is still to fall is high enough
+pub lowers : (i m w : ℕ) (ms : List ℕ) (now old all : ℕ) → i < length ms → m ≡ get_or ms i 0 → w * all ≤ old → now + w * all
+    ≡ old + w * count m (drop i ms) → w ≤ now
+lowers i m w ms now old all lt is fits e =
+    let here : count m (drop i ms) ≡ cond (eqb m m) 1 0 + count m (drop (i + 1) ms) = at_drop m i m ms lt is in
+    let one : count m (drop i ms) ≡ 1 + count m (drop (i + 1) ms) = here
+    ∙ ap (λ (b : Bool). cond b 1 0 + count m (drop (i + 1) ms)) (eq-eqb m m refl) in
+    omega (arith, fits, e, ap (λ (k : ℕ). w * k) one)
+
+-- the places of the branches from one on
+pub outer_places : (x : ℕ) (tree : List BranchValue) (i : ℕ) (b : BranchValue) → i < length tree → b ≡ get_or tree i b →
+    count x (outer_members [] (drop i tree)) ≡ count x b.outer.members + count x (outer_members [] (drop (i + 1) tree))
+outer_places x tree i b low is =
+    omega (arith, ap (λ (ks : List BranchValue). count x (outer_members [] ks)) (drop_here tree i b low is), count-append)
+
+pub inner_places : (x : ℕ) (tree : List BranchValue) (i : ℕ) (b : BranchValue) → i < length tree → b ≡ get_or tree i b →
+    count x (inner_members (drop i tree)) ≡ count x b.inner.members + count x (inner_members (drop (i + 1) tree))
+inner_places x tree i b low is =
+    omega (arith, ap (λ (ks : List BranchValue). count x (inner_members ks)) (drop_here tree i b low is), count-append)
+
+pub more_by : (by all here rest : ℕ) → all ≡ here + rest → by * all ≡ by * here + by * rest
+more_by by all here rest e = let f = ap (λ (k : ℕ). by * k) e in omega (arith, f)

@@ -1,0 +1,287 @@
+-- The slacks from sets to the vertices outside them.
+use Rattle.std.proofs.Common.{◌≡◌, ◌≢◌, ℕ, ◌+◌, ◌-◌, ◌*◌, ◌≤◌, ◌<◌, ◌⊎◌, inl, inr, suc, zero, List, [], ◌∷◌, ◌++◌, length, take, get_or, set, map, min, Bool, true, false, cond, eqb, ltb, arith, refl, sym, ap, subst, ◌∙◌, get_or-set_other, get_or-set_same}
+use Rattle.std.proofs.lemmas.Bool.{cases_lt, eqb-false, eqb-true, ltb-true, ltb-false}
+use Rattle.std.proofs.lemmas.Grind.{same_number_lists}
+use Rattle.std.proofs.lemmas.List.FromFn.{get_or-map-range_with_len, length-map-range_with_len}
+use Rattle.std.specs.List.{range_with_len}
+use Rattle.odd_sets.proofs.ListLemmas.{number_here, take_here}
+use Rattle.odd_sets.specs.Lists.{Each}
+use Rattle.odd_sets.specs.DualSets.{OddSetValue, count, height, one_if_equal}
+use Rattle.odd_sets.specs.SlackRows.{lowered_slack, vertex_slack, vertex_slacks, IsSlackRow, MergesSlacks}
+use Rattle.odd_sets.specs.Blossoms.{dual_sets_in, members_in}
+use Rattle.odd_sets.specs.BlossomSlacks.{least_part_slack, blossom_slack, blossom_slacks, blossom_slacks_of}
+use Rattle.odd_sets.specs.SoundSets.{IsSoundPart, IsSoundSet}
+use Rattle.odd_sets.specs.TableValue.{TableValue}
+use Rattle.odd_sets.specs.Tables.{entry, IsTable}
+use Rattle.odd_sets.specs.declared.table.TheConstants.{FAR, MAX_DISTANCE}
+use Rattle.odd_sets.specs.Values.{PartValue}
+use Rattle.odd_sets.proofs.SumLemmas.{count-append, hit_is, hit_same}
+
+pub far_is : FAR ≡ 2 * MAX_DISTANCE + 1
+far_is = refl
+
+not_case : (b : Bool) (x y : ℕ) → eqb x y ≡ b → (x ≡ y → ⊥) → cond b 1 0 ≤ 0
+not_case true x y e ne = absurd (ne (eqb-true x y e))
+not_case false x y e ne = omega arith
+
+pub not_hit : (x y : ℕ) → (x ≡ y → ⊥) → one_if_equal x y ≤ 0
+not_hit x y ne = not_case (eqb x y) x y refl ne
+
+pub counts_next : (members : List ℕ) (i x : ℕ) → i < length members
+    → count x (take (i + 1) members) ≡ count x (take i members) + one_if_equal x (get_or members i 0)
+counts_next members i x low =
+    omega (arith, ap (λ (ys : List ℕ). count x ys) (number_here members i low), count-append)
+
+put_case : (p : Bool) (x m v : ℕ) (cells : List ℕ) → eqb x m ≡ p → m < length cells → (x ≢ m → get_or cells x 0 ≡ v)
+    → get_or (set cells m v) x 0 ≡ v
+put_case true x m v cells is low here =
+    let e : x ≡ m = eqb-true x m is in
+    subst (λ (y : ℕ). get_or (set cells m v) y 0 ≡ v) (sym e) (get_or-set_same cells m v 0 low)
+put_case false x m v cells is low here =
+    let ne : x ≢ m = eqb-false x m is in
+    rw get_or-set_other (here ne)
+
+-- the cell of one place more has the value
+pub put_next : (members cells : List ℕ) (i v : ℕ) → i < length members → get_or members i 0 < length cells
+    → ((x : ℕ) → 1 ≤ count x (take i members) → get_or cells x 0 ≡ v) → (x : ℕ) → 1 ≤ count x (take (i + 1) members)
+    → get_or (set cells (get_or members i 0) v) x 0 ≡ v
+put_next members cells i v low within on x here =
+    put_case (eqb x (get_or members i 0)) x (get_or members i 0) v cells refl within
+    (λ ne. on x (omega (arith, here, counts_next members i x low, not_hit x (get_or members i 0) ne)))
+
+-- and no other
+pub put_others : (members cells first : List ℕ) (i v : ℕ) → i < length members
+    → ((x : ℕ) → count x (take i members) ≡ 0 → get_or cells x 0 ≡ get_or first x 0) → (x : ℕ)
+    → count x (take (i + 1) members) ≡ 0 → get_or (set cells (get_or members i 0) v) x 0 ≡ get_or first x 0
+put_others members cells first i v low others x none =
+    let m = get_or members i 0 in
+    let ne : x ≢ m = λ e. omega (arith, none, counts_next members i x low, hit_same x, ap (λ (y : ℕ). one_if_equal x y) e) in
+    rw get_or-set_other (others x (omega (arith, none, counts_next members i x low)))
+
+near_case : (p : Bool) (by left : ℕ) → ltb left FAR ≡ p → left < FAR → cond p (left - by) left ≡ left - by
+near_case true by left e near = refl
+near_case false by left e near = absurd (omega (arith, ltb-false left FAR e, near))
+
+pub lowered_near : (by left : ℕ) → left < FAR → lowered_slack by left ≡ left - by
+lowered_near by left near = near_case (ltb left FAR) by left refl near
+
+far_case : (p : Bool) (by left : ℕ) → ltb left FAR ≡ p → left ≡ FAR → cond p (left - by) left ≡ FAR
+far_case true by left e far = absurd (omega (arith, ltb-true left FAR e, far))
+far_case false by left e far = far
+
+pub lowered_far : (by left : ℕ) → left ≡ FAR → lowered_slack by left ≡ FAR
+lowered_far by left far = far_case (ltb left FAR) by left refl far
+
+less_case : (p : Bool) (by left : ℕ) → cond p (left - by) left ≤ left
+less_case true by left = omega arith
+less_case false by left = omega arith
+
+pub lowered_less : (by left : ℕ) → lowered_slack by left ≤ left
+lowered_less by left = less_case (ltb left FAR) by left
+
+-- a cell of a row that is made cell by cell
+at_row : (f : ℕ → ℕ) (n x : ℕ) → x < n → get_or (map f (range_with_len 0 n)) x 0 ≡ f x
+at_row f n x lx = get_or-map-range_with_len f 0 n x x 0 lx (omega arith)
+
+own_case : (b : Bool) (v : ℕ) → 1 ≤ cond b 1 0 + 0 → cond b FAR v ≡ FAR
+own_case true v here = refl
+own_case false v here = absurd (omega arith)
+
+other_case : (b : Bool) (v : ℕ) → cond b 1 0 + 0 ≡ 0 → cond b FAR v ≡ v
+other_case true v none = absurd (omega arith)
+other_case false v none = refl
+
+-- the row of a single place
+pub single_near : (t : TableValue) (place : ℕ) → IsTable t → place < t.places
+    → IsSlackRow t (record { members = place ∷ []; below = []; cells = vertex_slacks t place })
+single_near t place is low =
+    let at = at_row (vertex_slack t place) t.places in
+    let other = λ (x : ℕ) (none : count x (place ∷ []) ≡ 0) (lx : x < t.places). at x lx
+    ∙ other_case (eqb x place) (2 * entry t place x) none in
+    record {
+      size = length-map-range_with_len (vertex_slack t place) 0 t.places;
+      own = λ x here lx. at x lx ∙ own_case (eqb x place) (2 * entry t place x) here;
+      short = λ x none lx. omega (arith, other x none lx, is.short place x low lx, far_is);
+      least = λ a x ha none lx.
+          omega (arith, other x none lx, ap (λ (y : ℕ). entry t y x) (hit_is a place (omega (arith, ha))));
+      is = λ x none lx. record { a = place; here = omega (arith, hit_same place); exact = omega (arith, other x none lx) };
+    }
+
+-- a value is the slack to x from one of the vertices, less the height of that vertex
+pub record IsLeftAt (t : TableValue) (h : ℕ → ℕ) (xs : List ℕ) (x left : ℕ) : Type 0 where
+  pub a : ℕ
+  pub here : 1 ≤ count a xs
+  pub exact : left ≡ 2 * entry t a x - h a
+
+times_one : (by n : ℕ) → n ≡ 1 → by * n ≡ by
+times_one by n e = omega (arith, ap (λ (k : ℕ). by * k) e)
+
+-- the height of a member is the dual and the heights inside
+over : (t : TableValue) (h : ℕ → ℕ) (s : OddSetValue) (a : ℕ) → IsSoundSet t h s → count a s.members ≡ 1 → s.dual + height a s.below ≡ h a
+over t h s a k one = omega (arith, k.local a (omega (arith, one)), times_one s.dual (count a s.members) one)
+
+-- the slack from a set to x, less its dual, is at most that from each member
+pub near_least : (t : TableValue) (h : ℕ → ℕ) (s : OddSetValue) (a x : ℕ) → IsSoundSet t h s → count a s.members ≡ 1
+    → count x s.members ≡ 0 → x < t.places → lowered_slack s.dual (get_or s.near x 0) ≤ 2 * entry t a x - h a
+near_least t h s a x k one none lx =
+    omega (
+      arith,
+      lowered_near s.dual (get_or s.near x 0) (k.near.0.short x none lx),
+      k.near.0.least a x (omega (arith, one)) none lx,
+      over t h s a k one,
+    )
+
+-- some member has that slack
+pub near_is : (t : TableValue) (h : ℕ → ℕ) (s : OddSetValue) (x : ℕ) → IsSoundSet t h s → ((y : ℕ) → count y s.members ≤ 1)
+    → count x s.members ≡ 0 → x < t.places → IsLeftAt t h s.members x (lowered_slack s.dual (get_or s.near x 0))
+near_is t h s x k once none lx =
+    let r = k.near.0.is x none lx in
+    record {
+      a = r.a;
+      here = r.here;
+      exact = omega (
+        arith,
+        lowered_near s.dual (get_or s.near x 0) (k.near.0.short x none lx),
+        r.exact,
+        over t h s r.a k (omega (arith, r.here, once r.a)),
+      );
+    }
+
+least_case : (n : ℕ) (t : TableValue) (h : ℕ → ℕ) (p : PartValue) (rest a x : ℕ) → count a p.odd_set.members ≡ n → n ≤ 1
+    → IsSoundSet t h p.odd_set → count x p.odd_set.members ≡ 0 → x < t.places → (n ≡ 0 → rest ≤ 2 * entry t a x - h a)
+    → min (lowered_slack p.odd_set.dual (get_or p.odd_set.near x 0)) rest ≤ 2 * entry t a x - h a
+least_case zero t h p rest a x e few k none lx later = omega (arith, later refl)
+least_case (suc n) t h p rest a x e few k none lx later = omega (arith, near_least t h p.odd_set a x k (omega (arith, e, few)) none lx)
+
+-- no member of the parts has a lesser slack
+least_low : (t : TableValue) (h : ℕ → ℕ) (ps : List PartValue) (a x : ℕ) → Each (IsSoundPart t h) ps → count a (members_in ps) ≤ 1
+    → 1 ≤ count a (members_in ps) → count x (members_in ps) ≡ 0 → x < t.places → least_part_slack ps x ≤ 2 * entry t a x - h a
+least_low t h [] a x f once here none lx = absurd (omega (arith, here))
+least_low t h (p ∷ ps) a x f once here none lx =
+    let ca = count-append a p.odd_set.members (members_in ps) in
+    let cx = count-append x p.odd_set.members (members_in ps) in
+    least_case (count a p.odd_set.members) t h p (least_part_slack ps x) a x refl (omega (arith, once, ca)) f.0.odd_set
+    (omega (arith, none, cx)) lx
+    (λ e. least_low t h ps a x f.1 (omega (arith, once, ca)) (omega (arith, here, ca, e)) (omega (arith, none, cx)) lx)
+
+min_case : (t : TableValue) (h : ℕ → ℕ) (xs ys : List ℕ) (x one rest : ℕ) → IsLeftAt t h xs x one
+    → (rest ≡ FAR) ⊎ IsLeftAt t h ys x rest → one < FAR → (one < rest) ⊎ (rest ≤ one) → IsLeftAt t h (xs ++ ys) x (min one rest)
+min_case t h xs ys x one rest k later near (inl less) =
+    record { a = k.a; here = omega (arith, k.here, count-append); exact = omega (arith, k.exact, less) }
+min_case t h xs ys x one rest k (inl far) near (inr more) = absurd (omega (arith, far, more, near))
+min_case t h xs ys x one rest k (inr l) near (inr more) =
+    record { a = l.a; here = omega (arith, l.here, count-append); exact = omega (arith, l.exact, more) }
+
+least_with : (t : TableValue) (h : ℕ → ℕ) (p : PartValue) (ps : List PartValue) (x : ℕ) → IsSoundSet t h p.odd_set
+    → ((y : ℕ) → count y (members_in (p ∷ ps)) ≤ 1) → count x (members_in (p ∷ ps)) ≡ 0 → x < t.places
+    → (least_part_slack ps x ≡ FAR) ⊎ IsLeftAt t h (members_in ps) x (least_part_slack ps x)
+    → IsLeftAt t h (members_in (p ∷ ps)) x (least_part_slack (p ∷ ps) x)
+least_with t h p ps x k once none lx later =
+    let c = λ (y : ℕ). count-append y p.odd_set.members (members_in ps) in
+    let out : count x p.odd_set.members ≡ 0 = omega (arith, none, c x) in
+    let one = lowered_slack p.odd_set.dual (get_or p.odd_set.near x 0) in
+    min_case t h p.odd_set.members (members_in ps) x one (least_part_slack ps x)
+    (near_is t h p.odd_set x k (λ y. omega (arith, once y, c y)) out lx) later
+    (omega (arith, lowered_less p.odd_set.dual (get_or p.odd_set.near x 0), k.near.0.short x out lx)) (cases_lt one (least_part_slack ps x))
+
+least_rest : (t : TableValue) (h : ℕ → ℕ) (ps : List PartValue) (x : ℕ) → Each (IsSoundPart t h) ps
+    → ((y : ℕ) → count y (members_in ps) ≤ 1) → count x (members_in ps) ≡ 0 → x < t.places
+    → (least_part_slack ps x ≡ FAR) ⊎ IsLeftAt t h (members_in ps) x (least_part_slack ps x)
+least_rest t h [] x f once none lx = inl refl
+least_rest t h (p ∷ ps) x f once none lx =
+    let c = λ (y : ℕ). count-append y p.odd_set.members (members_in ps) in
+    inr (least_with t h p ps x f.0.odd_set once none lx
+    (least_rest t h ps x f.1 (λ y. omega (arith, once y, c y)) (omega (arith, none, c x)) lx))
+
+-- some member has that slack
+least_is : (t : TableValue) (h : ℕ → ℕ) (p : PartValue) (ps : List PartValue) (x : ℕ) → Each (IsSoundPart t h) (p ∷ ps)
+    → ((y : ℕ) → count y (members_in (p ∷ ps)) ≤ 1) → count x (members_in (p ∷ ps)) ≡ 0 → x < t.places
+    → IsLeftAt t h (members_in (p ∷ ps)) x (least_part_slack (p ∷ ps) x)
+least_is t h p ps x f once none lx =
+    let c = λ (y : ℕ). count-append y p.odd_set.members (members_in ps) in
+    least_with t h p ps x f.0.odd_set once none lx
+    (least_rest t h ps x f.1 (λ y. omega (arith, once y, c y)) (omega (arith, none, c x)) lx)
+
+in_case : (b : Bool) (n v : ℕ) → ltb 0 n ≡ b → 1 ≤ n → cond b FAR v ≡ FAR
+in_case true n v e here = refl
+in_case false n v e here = absurd (omega (arith, ltb-false 0 n e, here))
+
+out_case : (b : Bool) (n v : ℕ) → ltb 0 n ≡ b → n ≡ 0 → cond b FAR v ≡ v
+out_case true n v e none = absurd (omega (arith, ltb-true 0 n e, none))
+out_case false n v e none = refl
+
+-- a blossom's cell at a member, and at any other place
+blossom_own : (ps : List PartValue) (x : ℕ) → 1 ≤ count x (members_in ps) → blossom_slack ps x ≡ FAR
+blossom_own ps x here = in_case (ltb 0 (count x (members_in ps))) (count x (members_in ps)) (least_part_slack ps x) refl here
+
+blossom_other : (ps : List PartValue) (x : ℕ) → count x (members_in ps) ≡ 0 → blossom_slack ps x ≡ least_part_slack ps x
+blossom_other ps x none = out_case (ltb 0 (count x (members_in ps))) (count x (members_in ps)) (least_part_slack ps x) refl none
+
+least_short : (p : PartValue) (ps : List PartValue) (x : ℕ) → get_or p.odd_set.near x 0 < FAR → least_part_slack (p ∷ ps) x < FAR
+least_short p ps x near = omega (arith, lowered_less p.odd_set.dual (get_or p.odd_set.near x 0), near)
+
+-- the row of a blossom of firm parts
+pub blossom_near : (t : TableValue) (h : ℕ → ℕ) (p : PartValue) (ps : List PartValue) → Each (IsSoundPart t h) (p ∷ ps)
+    → ((x : ℕ) → count x (members_in (p ∷ ps)) ≤ 1)
+    → ((x : ℕ) → 1 ≤ count x (members_in (p ∷ ps)) → height x (dual_sets_in (p ∷ ps)) ≡ h x)
+    → IsSlackRow t (record { members = members_in (p ∷ ps); below = dual_sets_in (p ∷ ps); cells = blossom_slacks (p ∷ ps) })
+blossom_near t h p ps f once local =
+    let n = length p.odd_set.near in
+    let size : n ≡ t.places = f.0.odd_set.near.0.size in
+    let at = λ (x : ℕ) (lx : x < t.places). at_row (blossom_slack (p ∷ ps)) n x (omega (arith, lx, size)) in
+    let other = λ (x : ℕ) (none : count x (members_in (p ∷ ps)) ≡ 0) (lx : x < t.places). at x lx ∙ blossom_other (p ∷ ps) x none in
+    record {
+      size = length-map-range_with_len (blossom_slack (p ∷ ps)) 0 n ∙ size;
+      own = λ x here lx. at x lx ∙ blossom_own (p ∷ ps) x here;
+      short = λ x none lx. omega (
+        arith,
+        other x none lx,
+        least_short p ps x
+            (f.0.odd_set.near.0.short x (omega (arith, none, count-append)) lx),
+      );
+      least = λ a x ha none lx. omega (arith, other x none lx, local a ha, least_low t h (p ∷ ps) a x f (once a) ha none lx);
+      is = λ x none lx.
+          let r = least_is t h p ps x f once none lx in
+          record { a = r.a; here = r.here; exact = omega (arith, other x none lx, local r.a r.here, r.exact) };
+    }
+
+-- the parts so far and the next one
+pub least_push : (ps : List PartValue) (p : PartValue) (x : ℕ)
+    → least_part_slack (ps ++ p ∷ []) x ≡ min (lowered_slack p.odd_set.dual (get_or p.odd_set.near x 0)) (least_part_slack ps x)
+least_push [] p x = refl
+least_push (q ∷ ps) p x = omega (arith, least_push ps p x)
+
+-- so it is with the merged cells
+pub merge_next : (n : ℕ) (parts : List PartValue) (i : ℕ) (p : PartValue) (near : List ℕ) (dual : ℕ) (cells new : List ℕ) → i < length
+    parts
+    → p ≡ get_or parts i p → near ≡ p.odd_set.near → dual ≡ p.odd_set.dual → MergesSlacks near dual cells new → length near ≡ n
+    → ((x : ℕ) → x < n → get_or cells x 0 ≡ least_part_slack (take i parts) x) → (x : ℕ) → x < n
+    → get_or new x 0 ≡ least_part_slack (take (i + 1) parts) x
+merge_next n parts i p near dual cells new low is e f merged size so_far x lx =
+    omega (
+      arith,
+      merged x (omega (arith, lx, size)),
+      ap (λ (k : List ℕ). lowered_slack dual (get_or k x 0)) e,
+      ap (λ (w : ℕ). lowered_slack w (get_or p.odd_set.near x 0)) f,
+      so_far x lx,
+      least_push (take i parts) p x,
+      ap (λ (ks : List PartValue). least_part_slack ks x) (take_here parts i p low is),
+    )
+
+row_case : (n : ℕ) (ps : List PartValue) (x v w : ℕ) → count x (members_in ps) ≡ n → v ≡ least_part_slack ps x → (1 ≤ n → w ≡ FAR)
+    → (n ≡ 0 → w ≡ v) → w ≡ blossom_slack ps x
+row_case zero ps x v w e is on off = off refl ∙ is ∙ sym (blossom_other ps x e)
+row_case (suc n) ps x v w e is on off = on (omega arith) ∙ sym (blossom_own ps x (omega (arith, e)))
+
+-- merged cells that are cleared at the members are the row
+pub row_is : (n : ℕ) (ps : List PartValue) (members mid new : List ℕ) → members ≡ members_in ps → length new ≡ n
+    → ((x : ℕ) → x < n → get_or mid x 0 ≡ least_part_slack ps x) → ((x : ℕ) → 1 ≤ count x members → get_or new x 0 ≡ FAR)
+    → ((x : ℕ) → count x members ≡ 0 → get_or new x 0 ≡ get_or mid x 0) → new ≡ blossom_slacks_of n ps
+row_is n ps members mid new e same merged on off =
+    let all = length-map-range_with_len (blossom_slack ps) 0 n in
+    let c = λ (x : ℕ). ap (λ (xs : List ℕ). count x xs) e in
+    same_number_lists new (blossom_slacks_of n ps) (same ∙ sym all) (λ x lx.
+    let low : x < n = omega (arith, lx, same) in
+    row_case (count x (members_in ps)) ps x (get_or mid x 0) (get_or new x 0) refl (merged x low)
+    (λ here. on x (omega (arith, here, c x))) (λ none. off x (omega (arith, none, c x)))
+    ∙ sym (at_row (blossom_slack ps) n x low))

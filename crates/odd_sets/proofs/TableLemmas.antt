@@ -1,0 +1,181 @@
+-- One entry of a table is set.
+use Rattle.std.proofs.Common.{◌≡◌, ◌≢◌, ℕ, ◌+◌, ◌*◌, ◌<◌, ◌≤◌, ◌&&◌, ◌||◌, ◌⊎◌, inl, inr, Bool, true, false, cond, eqb, List, length, max, min, set, get_or, arith, refl, sym, ap, subst, ◌∙◌, get_or-set_other, get_or-set_same, slice_index}
+use Rattle.std.proofs.Math.Nat.{mul-le-mul_right}
+use Rattle.std.proofs.lemmas.Bool.{cases_lt, eqb-true, eqb-false, eq-eqb}
+use Rattle.std.proofs.lemmas.List.{length-set}
+use Rattle.odd_sets.specs.TableValue.{TableValue}
+use Rattle.odd_sets.specs.Tables.{IsStored, IsTable, entry, after_set}
+use Rattle.odd_sets.specs.declared.table.TheConstants.{MAX_DISTANCE}
+
+-- a cell of a lower row comes first
+cell_before : (n a b x y : ℕ) → b < n → a < x → a * n + b < x * n + y
+cell_before n a b x y low less =
+    let m : (a + 1) * n ≤ x * n = mul-le-mul_right n (omega arith) in
+    omega (arith, m)
+
+-- neither row comes first
+same_row : (n a b x y : ℕ) → b < n → y < n → x * n + y ≡ a * n + b → x ≡ a
+same_row n a b x y low lower e = grind (arith, cell_before n a b x y low, cell_before n x y a b lower)
+
+-- two places have a cell of their own
+same_cell : (n a b x y : ℕ) → b < n → y < n → x * n + y ≡ a * n + b → (x ≡ a) × (y ≡ b)
+same_cell n a b x y low lower e =
+    let row : x ≡ a = same_row n a b x y low lower e in
+    let there : a * n ≡ x * n = ap (λ (r : ℕ). r * n) (sym row) in
+    (row, omega (arith, there))
+
+pub in_cells : (n a b : ℕ) → a < n → b < n → a * n + b < n * n
+in_cells n a b low lower =
+    let m : (a + 1) * n ≤ n * n = mul-le-mul_right n (omega arith) in
+    omega (arith, m)
+
+both_true : (p q : Bool) → (p && q) ≡ true → (p ≡ true) × (q ≡ true)
+both_true true true e = (refl, refl)
+both_true true false e = cc
+both_true false q e = cc
+
+made_true : (p q : Bool) → (p && q) ≡ false → p ≡ true → q ≡ true → ⊥
+made_true true true e f g = cc
+made_true true false e f g = cc
+made_true false q e f g = cc
+
+set_same : (cells : List ℕ) (i k d : ℕ) → i < length cells → k ≡ i → get_or (set cells i d) k 0 ≡ d
+set_same cells i k d low e = ap (λ (m : ℕ). get_or (set cells i d) m 0) e ∙ get_or-set_same cells i d 0 low
+
+one_cell : (n k m i j : ℕ) → k ≡ i → m ≡ j → k * n + m ≡ i * n + j
+one_cell n k m i j e f = ap (λ (r : ℕ). r * n + m) e ∙ ap (λ (r : ℕ). i * n + r) f
+
+-- two places, in the one order or the other
+abbrev IsPair : ℕ → ℕ → ℕ → ℕ → Type 0
+IsPair u v x y = ((u ≡ x) × (v ≡ y)) ⊎ ((u ≡ y) × (v ≡ x))
+
+-- the cells of two places are set
+abbrev pub set_both : List ℕ → ℕ → ℕ → ℕ → List ℕ
+set_both cells at back d = set (set cells at d) back d
+
+other_case : (p : Bool) (cells : List ℕ) (i j k d : ℕ) → i < length cells → j < length cells → eqb k j ≡ p → k ≡ i
+    → get_or (set_both cells i j d) k 0 ≡ d
+other_case true cells i j k d low lower is e =
+    set_same (set cells i d) j k d (omega (arith, lower, length-set cells i d)) (eqb-true k j is)
+other_case false cells i j k d low lower is e =
+    get_or-set_other (set cells i d) j k d 0 (eqb-false k j is) ∙ set_same cells i k d low e
+
+set_either : (cells : List ℕ) (i j k d : ℕ) → i < length cells → j < length cells → (k ≡ i) ⊎ (k ≡ j)
+    → get_or (set_both cells i j d) k 0 ≡ d
+set_either cells i j k d low lower (inl e) = other_case (eqb k j) cells i j k d low lower refl e
+set_either cells i j k d low lower (inr e) = set_same (set cells i d) j k d (omega (arith, lower, length-set cells i d)) e
+
+on_pair : (n u v x y a b : ℕ) → IsPair u v x y → x ≡ a → y ≡ b → (u * n + v ≡ a * n + b) ⊎ (u * n + v ≡ b * n + a)
+on_pair n u v x y a b (inl p) e f = inl (one_cell n u v a b (p.0 ∙ e) (p.1 ∙ f))
+on_pair n u v x y a b (inr p) e f = inr (one_cell n u v b a (p.0 ∙ f) (p.1 ∙ e))
+
+swapped : {P Q : Type 0} → P ⊎ Q → Q ⊎ P
+swapped (inl p) = inr p
+swapped (inr q) = inl q
+
+off_pair : (u v x y a b : ℕ) → IsPair u v x y → (eqb x a && eqb y b) ≡ false → (eqb x b && eqb y a) ≡ false → u ≡ a → v ≡ b → ⊥
+off_pair u v x y a b (inl p) no_first no_second e f =
+    made_true (eqb x a) (eqb y b) no_first (eq-eqb x a (sym p.0 ∙ e)) (eq-eqb y b (sym p.1 ∙ f))
+off_pair u v x y a b (inr p) no_first no_second e f =
+    made_true (eqb x b) (eqb y a) no_second (eq-eqb x b (sym p.1 ∙ f)) (eq-eqb y a (sym p.0 ∙ e))
+
+by_tests : (t s : Bool) (cells : List ℕ) (n a b d u v x y : ℕ) → length cells ≡ n * n → a < n → b < n → u < n → v < n → IsPair u v x y
+    → (eqb x a && eqb y b) ≡ t → (eqb x b && eqb y a) ≡ s →
+    get_or (set_both cells (a * n + b) (b * n + a) d) (u * n + v) 0 ≡ cond (t || s) d (get_or cells (u * n + v) 0)
+by_tests true s cells n a b d u v x y len la lb lu lv pair e f =
+    let both = both_true (eqb x a) (eqb y b) e in
+    set_either cells (a * n + b) (b * n + a) (u * n + v) d (omega (arith, len, in_cells n a b la lb))
+    (omega (arith, len, in_cells n b a lb la))
+    (on_pair n u v x y a b pair (eqb-true x a both.0) (eqb-true y b both.1))
+by_tests false true cells n a b d u v x y len la lb lu lv pair e f =
+    let both = both_true (eqb x b) (eqb y a) f in
+    set_either cells (a * n + b) (b * n + a) (u * n + v) d (omega (arith, len, in_cells n a b la lb))
+    (omega (arith, len, in_cells n b a lb la))
+    (swapped (on_pair n u v x y b a pair (eqb-true x b both.0) (eqb-true y a both.1)))
+by_tests false false cells n a b d u v x y len la lb lu lv pair e f =
+    get_or-set_other (set cells (a * n + b) d) (b * n + a) (u * n + v) d 0
+    (λ g. let s = same_cell n b a u v la lv g in off_pair u v x y b a pair f e s.0 s.1)
+    ∙ get_or-set_other cells (a * n + b) (u * n + v) d 0
+    (λ g. let s = same_cell n a b u v lb lv g in off_pair u v x y a b pair e f s.0 s.1)
+
+ordered : (x y : ℕ) → (x < y) ⊎ (y ≤ x) → IsPair (min x y) (max x y) x y
+ordered x y (inl less) = inl (omega (arith, less), omega (arith, less))
+ordered x y (inr more) = inr (omega (arith, more), omega (arith, more))
+
+abbrev set_cells : TableValue → ℕ → ℕ → ℕ → TableValue
+set_cells t a b d = record { places = t.places; cells = set_both t.cells (a * t.places + b) (b * t.places + a) d }
+
+entry-set_cells : (t : TableValue) → IsTable t → (a b d x y : ℕ) → a < t.places → b < t.places → x < t.places → y < t.places →
+    entry (set_cells t a b d) x y ≡ after_set t a b d x y
+entry-set_cells t is a b d x y la lb lx ly =
+    by_tests (eqb x a && eqb y b) (eqb x b && eqb y a) t.cells t.places a b d (min x y) (max x y) x y is.filled la lb
+    (omega (arith, lx, ly)) (omega (arith, lx, ly)) (ordered x y (cases_lt x y)) refl refl
+
+direct-set_cells : (t : TableValue) → IsStored t → (a b d x y : ℕ) → a < t.places → b < t.places → x < t.places → y < t.places →
+    get_or (set_cells t a b d).cells (x * t.places + y) 0 ≡ after_set t a b d x y
+direct-set_cells t is a b d x y la lb lx ly =
+    by_tests (eqb x a && eqb y b) (eqb x b && eqb y a) t.cells t.places a b d x y x y is.table.filled la lb lx ly
+    (inl (refl, refl)) refl refl
+    ∙ ap (λ (k : ℕ). cond ((eqb x a && eqb y b) || (eqb x b && eqb y a)) d k) (is.mirror x y lx ly)
+
+short_either : (p : Bool) (d k m : ℕ) → d ≤ m → k ≤ m → cond p d k ≤ m
+short_either true d k m p q = p
+short_either false d k m p q = q
+
+-- no place is both
+alone_case : (p q : Bool) (a b d k x : ℕ) → eqb x a ≡ p → eqb x b ≡ q → a ≢ b → cond ((p && q) || (q && p)) d k ≡ k
+alone_case true true a b d k x e f ne = absurd (ne (sym (eqb-true x a e) ∙ eqb-true x b f))
+alone_case true false a b d k x e f ne = refl
+alone_case false true a b d k x e f ne = refl
+alone_case false false a b d k x e f ne = refl
+
+set_keeps : (t : TableValue) → IsTable t → (a b d : ℕ) → a < t.places → b < t.places → d ≤ MAX_DISTANCE → IsTable (set_cells t a b d)
+set_keeps t is a b d la lb low = record {
+  few = is.few;
+  filled = omega (
+    arith,
+    is.filled,
+    length-set t.cells (a * t.places + b) d,
+    length-set (set t.cells (a * t.places + b) d) (b * t.places + a) d,
+  );
+  short = λ x y lx ly. rw (entry-set_cells t is a b d x y la lb lx ly)
+      (short_either ((eqb x a && eqb y b) || (eqb x b && eqb y a)) d (entry t x y) MAX_DISTANCE low (is.short x y lx ly));
+}
+
+set_stored : (t : TableValue) → IsStored t → (a b d : ℕ) → a ≢ b → a < t.places → b < t.places → d ≤ MAX_DISTANCE
+    → IsStored (set_cells t a b d)
+set_stored t is a b d ne la lb low = record {
+  table = set_keeps t is.table a b d la lb low;
+  mirror = λ x y lx ly. direct-set_cells t is a b d x y la lb lx ly ∙ sym (entry-set_cells t is.table a b d x y la lb lx ly);
+  diagonal = λ x lx. entry-set_cells t is.table a b d x x la lb lx lx
+      ∙ alone_case (eqb x a) (eqb x b) a b d (entry t x x) x refl refl ne ∙ is.diagonal x lx;
+}
+
+-- the same where the cells have names
+abbrev pub set_at : TableValue → ℕ → ℕ → ℕ → TableValue
+set_at t at back d = record { places = t.places; cells = set_both t.cells at back d }
+
+pub entry-set_at : (t : TableValue) → IsTable t → (a b d at back x y : ℕ) → at ≡ a * t.places + b → back ≡ b * t.places + a
+    → a < t.places → b < t.places → x < t.places → y < t.places →
+    entry (set_at t at back d) x y ≡ after_set t a b d x y
+entry-set_at t is a b d at back x y e f la lb lx ly =
+    ap (λ (k : ℕ). entry (set_at t k back d) x y) e ∙ ap (λ (k : ℕ). entry (set_at t (a * t.places + b) k d) x y) f
+    ∙ entry-set_cells t is a b d x y la lb lx ly
+
+pub set_at_stored : (t : TableValue) → IsStored t → (a b d at back : ℕ) → a ≢ b → at ≡ a * t.places + b → back ≡ b * t.places + a
+    → a < t.places → b < t.places → d ≤ MAX_DISTANCE → IsStored (set_at t at back d)
+set_at_stored t is a b d at back ne e f la lb low =
+    subst (λ (k : ℕ). IsStored (set_at t k back d)) (sym e)
+    (subst (λ (k : ℕ). IsStored (set_at t (a * t.places + b) k d)) (sym f) (set_stored t is a b d ne la lb low))
+
+pub entry-comm : (t : TableValue) (a b : ℕ) → entry t a b ≡ entry t b a
+entry-comm t a b = ap (slice_index t.cells) (turned a b t.places)
+  where
+    small : (a b : ℕ) → min a b ≡ min b a
+    small a b = omega arith
+
+    large : (a b : ℕ) → max a b ≡ max b a
+    large a b = omega arith
+
+    turned : (a b n : ℕ) → min a b * n + max a b ≡ min b a * n + max b a
+    turned a b n = rw (small a b, large a b) refl

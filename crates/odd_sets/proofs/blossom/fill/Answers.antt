@@ -1,0 +1,17 @@
+use Rattle.std.proofs.Common.{arith, ap, List, ℕ}
+use Rattle.odd_sets.specs.DualSets.{count}
+use Rattle.odd_sets.specs.Slots.{parts_in}
+use Rattle.odd_sets.proofs.SlackRowLemmas.{row_is}
+use Rattle.odd_sets.proofs.blossom.fill.Goals as goal
+
+pub put-requires : goal.put-requires
+put-requires c = λ x here. omega (
+  arith,
+  c.merge_all.auto.cells,
+  c.requires.rows.within x (omega (arith, here, ap (λ (ks : List ℕ). count x ks) c.requires.members)),
+)
+
+pub returns : goal.returns
+returns c =
+    row_is _ (parts_in c.args.sets.now c.args.parts.now) c.args.members.now c.merge_all.new.cells c.put.new.cells c.requires.members
+    (omega (arith, c.put.auto.cells, c.merge_all.auto.cells)) c.merge_all.ensures c.put.ensures.on c.put.ensures.off

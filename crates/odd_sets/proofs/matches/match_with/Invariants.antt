@@ -1,0 +1,9 @@
+use Rattle.std.proofs.Common.{◌≤◌, drop}
+use Rattle.odd_sets.specs.DualSets.{count}
+use Rattle.odd_sets.specs.MatchedSets.{match_members}
+use Rattle.odd_sets.specs.Slots.{matches_in}
+use Rattle.odd_sets.proofs.matches.match_with.Given as goal
+
+-- a match that is left holds the place
+abbrev pub invariant-loop-i : goal.invariant-loop-i
+invariant-loop-i l = 1 ≤ count l.place (match_members (drop l.i (matches_in l.sets l.matches)))

@@ -1,0 +1,69 @@
+use Rattle.std.proofs.Common.{arith, ap, length, List, ℕ, ◌++◌, ◌≡◌, ◌<◌, ◌∙◌, subst, sym}
+use Rattle.std.proofs.lemmas.List.{length-map}
+use Rattle.std.specs.Vec.Iter.{into_iter_items}
+use Rattle.odd_sets.specs.DualSets.{count}
+use Rattle.odd_sets.specs.Blossoms.{members_in, IsRotated}
+use Rattle.odd_sets.specs.Slots.{matches_in, members_at, slacks_at, part_in, parts_at, parts_in, set_in}
+use Rattle.odd_sets.specs.declared.matches.Match.{Match}
+use Rattle.odd_sets.specs.declared.odd_set.BlossomPart.{BlossomPart}
+use Rattle.odd_sets.proofs.OpenLemmas.{made_blossom, opens_place, opens_blossom}
+use Rattle.odd_sets.proofs.SlotLemmas.{is_made, set_made}
+use Rattle.odd_sets.proofs.opening.open_at.Goals as goal
+
+pub turned_to-requires : goal.turned_to-requires
+turned_to-requires c =
+    let sets = c.args.sets.now in
+    let s = c.args.s in
+    let copied = c.in_ok-extend_from_slice.ensures.items
+    ∙ ap (λ (ps : List BlossomPart). ps ++ c.parts.result.now) c.new-parts.ensures.items
+    ∙ c.parts.ensures in
+    let some : 0 < length (parts_in sets (parts_at sets s.key)) = omega (
+      arith,
+      c.len.ensures,
+      c.if-len-eq0.false,
+      ap (λ (ps : List BlossomPart). length ps) copied,
+      length-map (parts_at sets s.key) (part_in sets),
+    ) in
+    let made = made_blossom (members_at sets s.key) (parts_in sets (parts_at sets s.key)) some (is_made sets s.key c.requires.set) in
+    omega (
+      arith,
+      c.requires.there,
+      ap (λ (xs : List ℕ). count c.args.left xs) made.0,
+      ap (λ (ps : List BlossomPart). count c.args.left (members_in (parts_in sets ps))) copied,
+    )
+
+pub returns-then-len-eq0 : goal.returns-then-len-eq0
+returns-then-len-eq0 c =
+    let sets = c.args.sets.now in
+    let s = c.args.s in
+    let copied = c.in_ok-extend_from_slice.ensures.items
+    ∙ ap (λ (ps : List BlossomPart). ps ++ c.parts.result.now) c.new-parts.ensures.items
+    ∙ c.parts.ensures in
+    let none : length (parts_in sets (parts_at sets s.key)) ≡ 0 = omega (
+      arith,
+      c.len.ensures,
+      c.if-len-eq0.true,
+      ap (λ (ps : List BlossomPart). length ps) copied,
+      length-map (parts_at sets s.key) (part_in sets),
+    ) in
+    opens_place c.args.left s.key s.dual (set_in sets s) (members_at sets s.key) (slacks_at sets s.key)
+    (parts_in sets (parts_at sets s.key))
+    _ (set_made sets s c.requires.set) (is_made sets s.key c.requires.set) c.requires.there none
+    (ap (λ (cs : List Match). matches_in sets cs) c.new.ensures.items)
+
+pub returns : goal.returns
+returns c =
+    let sets = c.args.sets.now in
+    let s = c.args.s in
+    let copied = c.in_ok-extend_from_slice.ensures.items
+    ∙ ap (λ (ps : List BlossomPart). ps ++ c.parts.result.now) c.new-parts.ensures.items
+    ∙ c.parts.ensures in
+    opens_blossom c.args.left s.key s.dual (set_in sets s) (members_at sets s.key) (slacks_at sets s.key) (parts_in sets (parts_at sets
+    s.key))
+    (parts_in sets c.turned_to.result.items) (part_in sets c.in-Some.p) (parts_in sets (into_iter_items c.next.new.self)) _
+    (set_made sets s c.requires.set) (is_made sets s.key c.requires.set) c.requires.there
+    (subst (λ (ps : List BlossomPart). IsRotated (parts_in sets ps) (parts_in sets c.turned_to.result.items)) copied
+    c.turned_to.ensures.turned)
+    c.turned_to.ensures.first
+    (ap (λ (ps : List BlossomPart). parts_in sets ps) (sym c.into_iter-rest.ensures.rest ∙ c.in-Some.ensures.items))
+    (c.in_ok-matches-in-Some.ensures sets)

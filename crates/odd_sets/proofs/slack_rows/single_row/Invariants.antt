@@ -1,0 +1,8 @@
+use Rattle.std.proofs.Common.{◌≡◌, map}
+use Rattle.std.specs.List.{range_with_len}
+use Rattle.odd_sets.specs.SlackRows.{vertex_slack}
+use Rattle.odd_sets.proofs.slack_rows.single_row.Given as goal
+
+-- the cells so far
+abbrev pub invariant-loop-x : goal.invariant-loop-x
+invariant-loop-x l = l.row.items ≡ map (vertex_slack l.t l.place) (range_with_len 0 l.x)

@@ -1,0 +1,20 @@
+-- Read this one first: sets with their duals, and what is counted of them.
+pub mod DualSets
+pub mod Tables
+pub mod TableValue
+pub mod Lists
+pub mod Values
+pub mod SlackRows
+pub mod Blossoms
+pub mod BlossomSlacks
+pub mod MatchedSets
+pub mod Opens
+pub mod SoundSets
+pub mod Trees
+pub mod Folds
+pub mod Shrinks
+pub mod Expansions
+pub mod Slots
+pub mod ChainSteps
+pub mod SlotProps
+pub mod Heights
