@@ -14,7 +14,7 @@ use Rattle.drawing_model.specs.declared.draw_kind.DrawKind.{DrawKind}
 use Rattle.drawing_text.specs.CoordinateWords.{BeginsWithCoordinate, BeginsWithDigits, ends_word}
 use Rattle.drawing_text.specs.TextLines.{parsed_coordinate}
 use Rattle.drawing_text.specs.Words.{is_blank_byte, words_of_line}
-use Rattle.drawing_text.proofs.WordLemmas.{start_of, word_until, words_skipped}
+use Rattle.drawing_text.proofs.WordLemmas.{word_until}
 
 -- one digit more is a digit
 pub more_digits : (bs : List ℕ) (i : ℕ) → i < length bs → all_ascii_digits (take i bs) ≡ true → is_ascii_digit (get_or bs i 0) ≡ true
@@ -117,15 +117,23 @@ begins_with_digits minus bytes count size n rest some few digits value within le
       value = rw is (coordinate_of minus (take count bytes) size string value within);
     }
 
--- blanks before the first word change nothing
-pub skipped : (line from : List ℕ) (start : ℕ) (answer : Result ℤ DrawKind) (rest : List ℕ) → start ≡ start_of line
-    → from ≡ drop start line → BeginsWithCoordinate from answer rest → BeginsWithCoordinate line answer rest
-skipped line from start answer rest starts are is = record {
-  word = is.word;
-  words = words_skipped line ∙ (rw (← starts, ← are) is.words);
-  value = is.value;
-}
+-- Lines of the same words begin with the same coordinate.
+pub same_words : (line from : List ℕ) (answer : Result ℤ DrawKind) (rest : List ℕ) → words_of_line from ≡ words_of_line line
+    → BeginsWithCoordinate from answer rest → BeginsWithCoordinate line answer rest
+same_words line from answer rest same is = record { word = is.word; words = sym same ∙ is.words; value = is.value }
 
-pub none_skipped : (line from : List ℕ) (start : ℕ) → start ≡ start_of line → from ≡ drop start line → words_of_line from ≡ []
-    → words_of_line line ≡ []
-none_skipped line from start starts are none = words_skipped line ∙ (rw (← starts, ← are) none)
+-- The first five of six bytes or more.
+pub first_five : (bytes : List ℕ) (n : ℕ) → 6 ≤ length bytes → n ≤ 5
+    → take n (get_or bytes 0 0 ∷ get_or bytes 1 0 ∷ get_or bytes 2 0 ∷ get_or bytes 3 0 ∷ get_or bytes 4 0 ∷ []) ≡ take n bytes
+first_five [] n more few = absurd (omega arith)
+first_five (a ∷ []) n more few = absurd (omega arith)
+first_five (a ∷ (b ∷ [])) n more few = absurd (omega arith)
+first_five (a ∷ (b ∷ (c ∷ []))) n more few = absurd (omega arith)
+first_five (a ∷ (b ∷ (c ∷ (d ∷ [])))) n more few = absurd (omega arith)
+first_five (a ∷ b ∷ c ∷ d ∷ e ∷ bytes) zero more few = refl
+first_five (a ∷ b ∷ c ∷ d ∷ e ∷ bytes) (suc zero) more few = refl
+first_five (a ∷ b ∷ c ∷ d ∷ e ∷ bytes) (suc (suc zero)) more few = refl
+first_five (a ∷ b ∷ c ∷ d ∷ e ∷ bytes) (suc (suc (suc zero))) more few = refl
+first_five (a ∷ b ∷ c ∷ d ∷ e ∷ bytes) (suc (suc (suc (suc zero)))) more few = refl
+first_five (a ∷ b ∷ c ∷ d ∷ e ∷ bytes) (suc (suc (suc (suc (suc zero))))) more few = refl
+first_five (a ∷ b ∷ c ∷ d ∷ e ∷ bytes) (suc (suc (suc (suc (suc (suc n)))))) more few = absurd (omega arith)

@@ -8,34 +8,23 @@ ghost use Rattle.drawing_text.specs.CoordinateWords.{BeginsWithCoordinate, Begin
 ghost use Rattle.drawing_text.specs.Words.{words_of_line};
 
 use crate::number_words::coordinate;
-use crate::text_words::{is_blank, next_word, word_start};
+use crate::text_words::{is_blank, next_word};
 use design_model::NEEDLE_LIMIT;
 use drawing_model::DrawKind;
 
 /// Returns the coordinate that the first word of a line denotes, or its fault, and the line after the word.
-/// A short word is read in one pass over its bytes.
-#[tactic(auto, using(crate::proofs::CoordinateLemmas::skipped, crate::proofs::CoordinateLemmas::none_skipped))]
+/// A short word behind one space or none is read in one pass over its bytes.
+#[tactic(auto, using(crate::proofs::CoordinateLemmas::same_words))]
 pub fn next_coordinate(line: &[u8]) -> Option<(Result<i32, DrawKind>, &[u8])>
     ensures some { IfSome result (λ r. BeginsWithCoordinate line.now r.0 r.1.now) }
     ensures within { IfSome result (λ r. IfOk r.0 (λ n. unsigned_abs n ≤ needle_limit)) }
     ensures shorter { IfSome result (λ r. length r.1.now < length line.now) }
     ensures none { IfNone result (words_of_line line.now ≡ []) }
 {
-    let (_, from) = line.split_at(word_start(line));
-    first_coordinate(from)
-}
-
-/// Returns the same for a line that has no blank first.
-fn first_coordinate(from: &[u8]) -> Option<(Result<i32, DrawKind>, &[u8])>
-    ensures some { IfSome result (λ r. BeginsWithCoordinate from.now r.0 r.1.now) }
-    ensures within { IfSome result (λ r. IfOk r.0 (λ n. unsigned_abs n ≤ needle_limit)) }
-    ensures shorter { IfSome result (λ r. length r.1.now < length from.now) }
-    ensures none { IfNone result (words_of_line from.now ≡ []) }
-{
-    if let Some((n, rest)) = short_coordinate(from) {
+    if let Some((n, rest)) = short_coordinate(after_space(line)) {
         return Some((found(n), rest));
     }
-    long_coordinate(from)
+    long_coordinate(line)
 }
 
 fn found(n: i32) -> Result<i32, DrawKind>
@@ -45,14 +34,27 @@ fn found(n: i32) -> Result<i32, DrawKind>
 }
 
 /// Returns the same by way of the word.
-fn long_coordinate(from: &[u8]) -> Option<(Result<i32, DrawKind>, &[u8])>
-    ensures some { IfSome result (λ r. BeginsWithCoordinate from.now r.0 r.1.now) }
+#[cold]
+#[inline(never)]
+fn long_coordinate(line: &[u8]) -> Option<(Result<i32, DrawKind>, &[u8])>
+    ensures some { IfSome result (λ r. BeginsWithCoordinate line.now r.0 r.1.now) }
     ensures within { IfSome result (λ r. IfOk r.0 (λ n. unsigned_abs n ≤ needle_limit)) }
-    ensures shorter { IfSome result (λ r. length r.1.now < length from.now) }
-    ensures none { IfNone result (words_of_line from.now ≡ []) }
+    ensures shorter { IfSome result (λ r. length r.1.now < length line.now) }
+    ensures none { IfNone result (words_of_line line.now ≡ []) }
 {
-    let (word, rest) = next_word(from)?;
+    let (word, rest) = next_word(line)?;
     Some((coordinate(word), rest))
+}
+
+/// Returns a line without the space at its beginning, if it has one.
+fn after_space(line: &[u8]) -> &[u8]
+    ensures words { words_of_line result.now ≡ words_of_line line.now }
+    ensures shorter { length result.now ≤ length line.now }
+{
+    match line {
+        [first, from @ ..] if *first == b' ' => from,
+        _ => line,
+    }
 }
 
 #[tactic(auto, using(crate::proofs::CoordinateLemmas::digits_alone, crate::proofs::CoordinateLemmas::digits_behind_minus))]
@@ -94,7 +96,48 @@ fn short_number(minus: bool, bytes: &[u8]) -> Option<(i32, &[u8])>
 }
 
 /// Returns the number of digits at the beginning of some bytes, at most five, and the number that they write.
+/// Where there are six bytes, no test for the end is made between them.
 fn first_digits(bytes: &[u8]) -> (usize, u32)
+    ensures within { result.0 ≤ length bytes.now }
+    ensures digits { all_ascii_digits (take result.0 bytes.now) ≡ true }
+    ensures value { result.1 ≡ digits_value 10 (take result.0 bytes.now) }
+{
+    match bytes {
+        [a, b, c, d, e, _, ..] => five_digits(*a, *b, *c, *d, *e),
+        _ => few_digits(bytes),
+    }
+}
+
+/// Returns the same for five bytes.
+fn five_digits(a: u8, b: u8, c: u8, d: u8, e: u8) -> (usize, u32)
+    ensures within { result.0 ≤ 5 }
+    ensures digits { all_ascii_digits (take result.0 (a ∷ b ∷ c ∷ d ∷ e ∷ [])) ≡ true }
+    ensures value { result.1 ≡ digits_value 10 (take result.0 (a ∷ b ∷ c ∷ d ∷ e ∷ [])) }
+{
+    if !a.is_ascii_digit() {
+        return (0, 0);
+    }
+    let one = with_digit(0, a);
+    if !b.is_ascii_digit() {
+        return (1, one);
+    }
+    let two = with_digit(one, b);
+    if !c.is_ascii_digit() {
+        return (2, two);
+    }
+    let three = with_digit(two, c);
+    if !d.is_ascii_digit() {
+        return (3, three);
+    }
+    let four = with_digit(three, d);
+    if !e.is_ascii_digit() {
+        return (4, four);
+    }
+    (5, with_digit(four, e))
+}
+
+/// Returns the same for few bytes, one by one.
+fn few_digits(bytes: &[u8]) -> (usize, u32)
     ensures within { result.0 ≤ length bytes.now }
     ensures digits { all_ascii_digits (take result.0 bytes.now) ≡ true }
     ensures value { result.1 ≡ digits_value 10 (take result.0 bytes.now) }

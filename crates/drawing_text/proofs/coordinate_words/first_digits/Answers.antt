@@ -1,16 +1,15 @@
-use Rattle.std.proofs.Common.{◌≡◌, ◌<◌, true, length, get_or, arith}
-use Rattle.std.proofs.lemmas.Bool.Decides.{nat_tests}
-use Rattle.std.specs.Char.{is_ascii_digit}
-use Rattle.drawing_text.proofs.CoordinateLemmas.{longer_value, more_digits}
+use Rattle.std.proofs.Common.{◌≡◌, true, ap, subst, sym, ◌∙◌}
+use Rattle.std.specs.Str.{all_ascii_digits}
+use Rattle.std.specs.Str.Parse.{digits_value}
+use Rattle.drawing_text.proofs.CoordinateLemmas.{first_five}
 use Rattle.drawing_text.proofs.coordinate_words.first_digits.Goals as goal
 
-pub loop-index-preserved : goal.loop-index-preserved
-loop-index-preserved c =
-    let there : c.loop-index.index < length c.args.bytes.now = omega (arith, c.loop-index-test.true) in
-    let digit : is_ascii_digit (get_or c.args.bytes.now c.loop-index.index 0) ≡ true = grind (arith, nat_tests) in
-    record {
-      digits = more_digits c.args.bytes.now c.loop-index.index there c.loop-index.invariant.digits digit;
-      value = longer_value c.args.bytes.now c.loop-index.index c.loop-index.size _ there c.loop-index.invariant.value
-          c.with_digit-size.ensures.value;
-      small = c.with_digit-size.ensures.few;
-    }
+pub returns-in-len6-up-clause-digits : goal.returns-in-len6-up-clause-digits
+returns-in-len6-up-clause-digits c =
+    subst (λ bytes. all_ascii_digits bytes ≡ true)
+    (first_five c.args.bytes.now c.five_digits.result.0 c.in-len6-up.len_at_least c.five_digits.ensures.within) c.five_digits.ensures.digits
+
+pub returns-in-len6-up-clause-value : goal.returns-in-len6-up-clause-value
+returns-in-len6-up-clause-value c =
+    c.five_digits.ensures.value ∙ ap (digits_value 10)
+    (first_five c.args.bytes.now c.five_digits.result.0 c.in-len6-up.len_at_least c.five_digits.ensures.within)

@@ -1,7 +1,7 @@
 use Rattle.std.proofs.Common.{◌≡◌, ◌≤◌, true, take}
 use Rattle.std.specs.Str.{all_ascii_digits}
 use Rattle.std.specs.Str.Parse.{digits_value}
-use Rattle.drawing_text.proofs.coordinate_words.first_digits.Given as goal
+use Rattle.drawing_text.proofs.coordinate_words.few_digits.Given as goal
 
 -- The number that the digits read so far write.
 abbrev pub invariant-loop-index : goal.invariant-loop-index
