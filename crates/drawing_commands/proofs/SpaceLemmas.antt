@@ -1,8 +1,8 @@
 -- What is proved of the plan of `space`: it decides, its products have one output, and a fault is refused.
 use Rattle.std.proofs.Common.{◌≡◌, ℕ, List, [], ◌∷◌, Bool, Option, Ok, Err, Result, ap, refl, subst, sym}
 use Rattle.lists_and_numbers.specs.OutOfMemory.{IsSpecified, UnlessOutOfMemory}
-use Rattle.drawing_repairs.specs.declared.spaced_drawing.SpacedDrawing.{SpacedDrawing}
-use Rattle.drawing_repairs.specs.SpacedDrawings.{space_of}
+use Rattle.spaced_lines.specs.declared.spaced_drawing.SpacedDrawing.{SpacedDrawing}
+use Rattle.spaced_lines.specs.SpacedDrawings.{space_of}
 use Rattle.drawing_text.specs.declared.draw_fault.DrawFault.{DrawFault}
 use Rattle.drawing_text.specs.declared.drawn_lines.DrawnLines.{DrawnLines}
 use Rattle.drawing_text.specs.DrawnTexts.{lines_of}

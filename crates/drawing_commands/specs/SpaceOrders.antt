@@ -1,8 +1,8 @@
 -- The command `space`: a drawing is written without the points for which one stitch stands. Its
 -- lines are written whole, as they were drawn, with its starts and ends. Costs count steps.
 use Rattle.std.specs.Prelude.{◌≡◌, ℕ, false, List, ◌++◌, length, Result, Ok, Err, string_bytes}
-use Rattle.drawing_repairs.specs.declared.spaced_drawing.SpacedDrawing.{SpacedDrawing}
-use Rattle.drawing_repairs.specs.SpacedDrawings.{space_of}
+use Rattle.spaced_lines.specs.declared.spaced_drawing.SpacedDrawing.{SpacedDrawing}
+use Rattle.spaced_lines.specs.SpacedDrawings.{space_of}
 use Rattle.drawing_text.specs.DrawingText.{drawing_of}
 use Rattle.drawing_text.specs.DrawnTexts.{drawing_as_drawn, lines_of}
 use Rattle.drawing_text.specs.EndTexts.{drawn_text, with_ends_of}

@@ -1,7 +1,7 @@
 ghost use Rattle.std.specs.Prelude.{◌≤◌, IfOk, length};
 ghost use Rattle.drawing_commands.specs.FaultTexts.{plan_after_reading};
 ghost use Rattle.drawing_commands.specs.SpaceOrders.{IsSpaceProduct, space_lines, space_made, space_order, space_plan, space_read};
-ghost use Rattle.drawing_repairs.specs.SpacedDrawings.{space_of};
+ghost use Rattle.spaced_lines.specs.SpacedDrawings.{space_of};
 ghost use Rattle.drawing_text.specs.declared.limits.TheConstants.{MAX_TEXT};
 ghost use Rattle.drawing_model.specs.EndOrders.{HasOrderedEnds};
 ghost use Rattle.drawing_text.specs.TextLaws.{IsJoinedFrom};
@@ -13,7 +13,7 @@ ghost use Rattle.program_shell.specs.StepOutcomes.{RunsPlan, RunsPurePlan};
 use crate::space_texts::{print_space, space_failure};
 use drawing_inputs::drawing_failure;
 use drawing_model::Drawing;
-use drawing_repairs::{SpacedDrawing, space};
+use spaced_lines::{SpacedDrawing, space};
 use drawing_text::{print_drawn, read_drawing, read_lines, texts_order_ends};
 use line_graph::pieces;
 use lists_and_numbers::Memory;

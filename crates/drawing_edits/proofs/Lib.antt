@@ -1,3 +1,4 @@
+pub mod CallerLemmas
 pub mod ExtentLemmas
 pub mod SpotLemmas
 pub mod NumberLemmas

@@ -22,4 +22,4 @@ pub use order_theorems::{orders_keep_lines, pieces_come_before, pieces_in_order_
 pub use redraw_theorems::{
     lines_in_order_are_drawn, lines_within_limits_are_drawn, valid_drawings_are_redrawn,
 };
-pub use redrawing::{draw_lines, joined_with_ends, redraw};
+pub use redrawing::{draw_lines, joined_with_ends};

@@ -1,4 +1,4 @@
-ghost use Rattle.std.specs.Prelude.{◌≡◌, ◌≤◌, ◌==◌, IfOk, length, true};
+ghost use Rattle.std.specs.Prelude.{◌≡◌, ◌≤◌, ◌==◌, IfOk, Ok, length, true};
 ghost use Rattle.lists_and_numbers.specs.OutOfMemory.{IsSpecified};
 ghost use Rattle.drawing_edits.specs.RedrawnDrawings.{AddsAsSpecified, drawn_lines, line_added_if, redrawn, with_blocks, with_lines_of, with_starts_and_ends, with_walk_ends};
 ghost use Rattle.drawing_model.specs.declared.limits.TheConstants.{MAX_BLOCKS};
@@ -58,6 +58,25 @@ pub fn draw_lines(
 
 /// Returns a drawing joined, with the given starts and ends; or the first fault; or `Memory`.
 pub fn joined_with_ends(
+    alloc: Global,
+    drawn: &Drawing,
+    starts: &[Spot],
+    ends: &[Spot],
+) -> Result<Drawing, DrawKind>
+    requires { HasNoEnds drawn.now }
+    ensures answer { IsSpecified draw_is_out_of_memory (and_then (joined_drawing drawn.now)
+        (λ joined. with_starts_and_ends joined starts.now ends.now)) result }
+    ensures joined { IfOk result (λ new. is_joined new ≡ true) }
+    ensures whole { IfOk result (λ new. joined_drawing
+        (record drawn.now { starts = new.starts; ends = new.ends }) ≡ Ok new) }
+    ensures starts { IfOk result (λ new. new.starts ≡ starts.now) }
+    ensures ends { IfOk result (λ new. new.ends ≡ ends.now) }
+{
+    let new = join_with_ends(alloc, drawn, starts, ends)?;
+    Ok(new)
+}
+
+fn join_with_ends(
     alloc: Global,
     drawn: &Drawing,
     starts: &[Spot],

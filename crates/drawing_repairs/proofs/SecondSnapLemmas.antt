@@ -30,7 +30,7 @@ use Rattle.drawing_repairs.specs.Listings.{listed_line, listed_lines}
 use Rattle.drawing_repairs.specs.MovedLines.{block_anchors, changed_in, moved_line, moved_lines, vanished_from}
 use Rattle.drawing_repairs.specs.SecondSnaps.{SnappedDrawingsStay}
 use Rattle.drawing_repairs.specs.Snaps.{joined_snap, kept_lines, snap_of, snap_value, snapped_lines, unless_vanished, within_limits}
-use Rattle.drawing_repairs.proofs.JoiningLemmas.{joined_there, joined_with}
+use Rattle.drawing_edits.proofs.CallerLemmas.{joined_there, joined_with}
 use Rattle.drawing_repairs.proofs.SnappedLinesLemmas.{none_moves, nothing_changes, snapped_points_stay, twice_is_once}
 use Rattle.design_model.proofs.CallerLemmas.{same_is}
 use Rattle.lists_and_numbers.proofs.CallerLemmas.{all_left, all_right}

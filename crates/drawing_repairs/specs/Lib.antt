@@ -12,7 +12,3 @@ pub mod Snaps
 pub mod SnapLaws
 pub mod SecondSnaps
 -- Spaced lines and drawings, and theorems over them.
-pub mod SpacedLines
-pub mod SpacedDrawings
-pub mod SpacingLaws
-pub mod SpacedAnswers

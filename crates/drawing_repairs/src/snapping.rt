@@ -8,13 +8,12 @@ ghost use Rattle.drawing_repairs.specs.SecondSnaps.{StaysSnapped};
 ghost use Rattle.drawing_repairs.specs.Snaps.{joined_snap, kept_lines, snap_is_out_of_memory, snap_of};
 
 use crate::anchored_spots::anchor_spots;
-use crate::joining::join_drawn;
 use crate::listing::listed as with_listings;
 use crate::moving::{first_vanished, moved};
 use crate::second_snaps::snapped_drawings_stay;
 use crate::snap_fault::SnapFault;
 use design_model::Points;
-use drawing_edits::draw_lines;
+use drawing_edits::{draw_lines, joined_with_ends};
 use drawing_model::{Drawing, Line, Spot};
 use lists_and_numbers::Items;
 use std::alloc::Global;
@@ -77,7 +76,7 @@ fn snap_drawn(
     let drawn = draw_lines(alloc, d, d.step(), lines.as_slice())?;
     let new_starts = anchor_spots(alloc, gap, d.lines(), starts)?;
     let new_ends = anchor_spots(alloc, gap, d.lines(), ends)?;
-    let joined = join_drawn(alloc, &drawn, new_starts.as_slice(), new_ends.as_slice())?;
+    let joined = joined_with_ends(alloc, &drawn, new_starts.as_slice(), new_ends.as_slice())?;
     Ok(SnappedDrawing {
         drawn,
         joined,

@@ -1,0 +1,85 @@
+-- The spots at the ends of sections, in a set.
+use Rattle.std.proofs.Common.{◌≡◌, ◌∙◌, ℕ, ◌==◌, ℤ, Bool, true, false, ◌&&◌, ◌||◌, cond, List, [], ◌∷◌, refl, ap, sym}
+use Rattle.std.proofs.Math.Path.{ap₂, fun_ext}
+use Rattle.std.proofs.lemmas.Bool.Decides.{Decides-int_eq}
+use Rattle.std.specs.List.{list_any}
+use Rattle.std.specs.Ordering.{int_eq}
+use Rattle.design_model.specs.declared.point.Point.{Point}
+use Rattle.design_model.specs.Points.{is_same_point}
+use Rattle.drawing_model.specs.Drawings.{endpoints}
+use Rattle.drawing_model.specs.WalkEnds.{has_end_at_spot, is_junction}
+use Rattle.line_sections.specs.declared.spot.Spot.{Spot}
+use Rattle.line_sections.specs.Lines.{LineValue}
+use Rattle.line_sections.specs.Spots.{is_same_spot}
+use Rattle.step_splitter.specs.Chains.{last_point_or}
+use Rattle.lists_and_numbers.proofs.CallerLemmas.{and_false, same_test}
+use Rattle.std.proofs.Math.Bool.{or-false}
+
+int_either_way : (m n : ℤ) → int_eq m n ≡ int_eq n m
+int_either_way m n = same_test (int_eq m n) (int_eq n m)
+    (λ is. (Decides-int_eq n m).1 (sym ((Decides-int_eq m n).0 is)))
+    (λ is. (Decides-int_eq m n).1 (sym ((Decides-int_eq n m).0 is)))
+
+-- two points are the same either way
+pub point_either_way : (p q : Point) → is_same_point p q ≡ is_same_point q p
+point_either_way p q = ap₂ (λ (a b : Bool). a && b) (int_either_way p.x q.x) (int_either_way p.y q.y)
+
+-- what is found after two spots of a block were put in
+either_end : (a b c found : Bool) → cond (a && c) true (cond (a && b) true found) ≡ ((a && (b || (c || false))) || found)
+either_end true true true found = refl
+either_end true true false found = refl
+either_end true false true found = refl
+either_end true false false found = refl
+either_end false b c found = refl
+
+-- a spot that was found, or is an end of the next section or of a later one
+found_next : (found end later : Bool) → ((end || found) || later) ≡ (found || (end || later))
+found_next true true later = refl
+found_next true false later = refl
+found_next false true later = refl
+found_next false false later = refl
+
+-- two spots of a block are put in
+both_put : (block : ℕ) (first last : Point) (old mid new : Spot → Bool)
+    → ((q : Spot) → mid q ≡ cond (is_same_spot (record { block = block; at = first }) q) true (old q))
+    → ((q : Spot) → new q ≡ cond (is_same_spot (record { block = block; at = last }) q) true (mid q)) → (q : Spot)
+    → new q ≡ (((block == q.block) && list_any (is_same_point q.at) (first ∷ last ∷ [])) || old q)
+both_put block first last old mid new one two q =
+    two q ∙ (ap (λ (b : Bool). cond (is_same_spot (record { block = block; at = last }) q) true b) (one q)
+    ∙ (ap₂ (λ (a b : Bool). cond ((block == q.block) && b) true (cond ((block == q.block) && a) true (old q)))
+    (point_either_way first q.at) (point_either_way last q.at)
+    ∙ either_end (block == q.block) (is_same_point q.at first) (is_same_point q.at last) (old q)))
+
+-- the ends of a section are put in
+pub ends_put : (section : LineValue) (block : ℕ) (first last : Point) (after : List Point) (old mid new : Spot → Bool)
+    → block ≡ section.block → section.points ≡ first ∷ after → last ≡ last_point_or first after
+    → ((q : Spot) → mid q ≡ cond (is_same_spot (record { block = block; at = first }) q) true (old q))
+    → ((q : Spot) → new q ≡ cond (is_same_spot (record { block = block; at = last }) q) true (mid q)) → (q : Spot)
+    → new q ≡ (has_end_at_spot q section || old q)
+ends_put section block first last after old mid new in_block points is_last one two q =
+    both_put block first last old mid new one two q
+    ∙ ap₂ (λ (b : ℕ) (ends : List Point). ((b == q.block) && list_any (is_same_point q.at) ends) || old q) in_block
+    (ap (λ (l : Point). first ∷ l ∷ []) is_last ∙ sym (ap (λ (ps : List Point). endpoints ps) points))
+
+-- a section without points has no ends
+pub no_ends_put : (section : LineValue) (old : Spot → Bool) → section.points ≡ [] → (q : Spot)
+    → old q ≡ (has_end_at_spot q section || old q)
+no_ends_put section old none q =
+    ap (λ (b : Bool). b || old q) (sym (and_false (section.block == q.block))
+    ∙ ap (λ (ps : List Point). (section.block == q.block) && list_any (is_same_point q.at) (endpoints ps)) (sym none))
+
+-- spots that are found exactly where they are junctions
+pub all_junctions : (found : Spot → Bool) (sections left : List LineValue)
+    → ((q : Spot) → (found q || is_junction left q) ≡ is_junction sections q) → left ≡ [] → found ≡ is_junction sections
+all_junctions found sections left are none = fun_ext (λ q. sym (or-false (found q))
+    ∙ (ap (λ (ls : List LineValue). found q || is_junction ls q) (sym none) ∙ are q))
+
+-- a spot is found after the ends of the next section were put in, or is an end of a later one
+pub junctions_go_on : (found new : Spot → Bool) (sections left rest : List LineValue) (section : LineValue)
+    → ((q : Spot) → (found q || is_junction left q) ≡ is_junction sections q) → left ≡ section ∷ rest
+    → ((q : Spot) → new q ≡ (has_end_at_spot q section || found q)) → (q : Spot)
+    → (new q || is_junction rest q) ≡ is_junction sections q
+junctions_go_on found new sections left rest section are is put q =
+    ap (λ (b : Bool). b || is_junction rest q) (put q)
+    ∙ (found_next (found q) (has_end_at_spot q section) (is_junction rest q)
+    ∙ (ap (λ (ls : List LineValue). found q || is_junction ls q) (sym is) ∙ are q))

@@ -1,0 +1,149 @@
+-- A block of spaced lines lists each junction as often as before, and each other point as often or less.
+use Rattle.std.proofs.Common.{◌≡◌, ◌∙◌, ℕ, ℤ, ◌+◌, ◌==◌, ◌≤◌, Bool, true, false, cond, nat_le, List, [], ◌∷◌, ◌++◌, map, filter, if◌then◌else◌, refl, ap, sym, arith}
+use Rattle.std.proofs.Math.Path.{ap₂}
+use Rattle.std.proofs.lemmas.Bool.{eqb-true, leb-false, leb-true}
+use Rattle.std.proofs.lemmas.List.Sums.{sum_by-cons}
+use Rattle.std.specs.List.{count_by, flat_map}
+use Rattle.design_model.specs.declared.point.Point.{Point}
+use Rattle.design_model.specs.Points.{is_same_point}
+use Rattle.line_sections.specs.declared.spot.Spot.{Spot}
+use Rattle.line_sections.specs.Lines.{LineValue}
+use Rattle.line_sections.specs.Sections.{is_shared_point, listed_in}
+use Rattle.spaced_lines.specs.SpacedLines.{is_spot_of, kept_after, may_leave_out, spaced_line, spaced_points}
+use Rattle.spaced_lines.proofs.SpacingLemmas.{tested_stay}
+use Rattle.design_model.proofs.CallerLemmas.{same_is}
+
+-- how many points pass a test
+abbrev places : (Point → Bool) → List Point → ℕ
+places t [] = 0
+places t (x ∷ xs) = cond (t x) 1 0 + places t xs
+
+counted : (t : Point → Bool) (xs : List Point) → count_by t xs ≡ places t xs
+counted t [] = refl
+counted t (x ∷ xs) = sum_by-cons (λ (y : Point). cond (t y) 1 0) x xs ∙ ap (λ (n : ℕ). cond (t x) 1 0 + n) (counted t xs)
+
+places_append : (t : Point → Bool) (xs ys : List Point) → places t (xs ++ ys) ≡ places t xs + places t ys
+places_append t [] ys = omega arith
+places_append t (x ∷ xs) ys = omega (arith, places_append t xs ys)
+
+one_tested : (t : Point → Bool) (x : Point) (kept xs : List Point) (s u : Bool) → t x ≡ u → (u ≡ true → s ≡ true)
+    → places t kept ≡ places t xs → places t (cond s (x ∷ kept) kept) ≡ places t (x ∷ xs)
+one_tested t x kept xs true u is so same = omega (arith, same)
+one_tested t x kept xs false false is so same = omega (arith, same, ap {B = ℕ} (λ (b : Bool). cond b 1 0) is)
+one_tested t x kept xs false true is so same = absurd (let no : ⊥ = no_way (so refl) in no)
+  where
+    no_way : false ≡ true → ⊥
+    no_way never = cc
+
+-- a test that only points that stay pass counts these alone
+places_tested : (stays t : Point → Bool) → ((x : Point) → t x ≡ true → stays x ≡ true) → (xs : List Point)
+    → places t (filter stays xs) ≡ places t xs
+places_tested stays t so [] = refl
+places_tested stays t so (x ∷ xs) =
+    one_tested t x (filter stays xs) xs (stays x) (t x) refl (so x) (places_tested stays t so xs)
+
+same_places : (stays t : Point → Bool) (step : ℕ) (points : List Point) → ((x : Point) → t x ≡ true → stays x ≡ true)
+    → places t (spaced_points stays step points) ≡ places t points
+same_places stays t step points so =
+    sym (places_tested stays t so (spaced_points stays step points))
+    ∙ (ap (λ (xs : List Point). places t xs) (tested_stay stays step points) ∙ places_tested stays t so points)
+
+fewer_by : (stays t : Point → Bool) (step : ℕ) (a : Point) (since : List Point) (p b : Point) (rest : List Point) (out : Bool)
+    → places t (kept_after stays step a (since ++ p ∷ []) b rest) ≤ places t (b ∷ rest)
+    → places t (kept_after stays step p [] b rest) ≤ places t (b ∷ rest)
+    → places t (if out then kept_after stays step a (since ++ p ∷ []) b rest else p ∷ kept_after stays step p [] b rest)
+    ≤ places t (p ∷ b ∷ rest)
+fewer_by stays t step a since p b rest true left kept = omega (arith, left)
+fewer_by stays t step a since p b rest false left kept = omega (arith, kept)
+
+fewer_after : (stays t : Point → Bool) (step : ℕ) (a : Point) (since : List Point) (p : Point) (rest : List Point)
+    → places t (kept_after stays step a since p rest) ≤ places t (p ∷ rest)
+fewer_after stays t step a since p [] = omega arith
+fewer_after stays t step a since p (b ∷ rest) =
+    fewer_by stays t step a since p b rest (may_leave_out stays step a since p b)
+    (fewer_after stays t step a (since ++ p ∷ []) b rest) (fewer_after stays t step p [] b rest)
+
+fewer_places : (stays t : Point → Bool) (step : ℕ) (points : List Point) → places t (spaced_points stays step points) ≤ places t points
+fewer_places stays t step [] = omega arith
+fewer_places stays t step (a ∷ []) = omega arith
+fewer_places stays t step (a ∷ p ∷ rest) = omega (arith, fewer_after stays t step a [] p rest)
+
+-- the points of lines
+abbrev points_along_lines : List LineValue → List Point
+points_along_lines lines = flat_map (λ (line : LineValue). line.points) lines
+
+listed_one : (t : Point → Bool) (line : LineValue) (others : List LineValue) (c : Bool)
+    → places t (points_along_lines (cond c (line ∷ others) others))
+    ≡ cond c (places t line.points) 0 + places t (points_along_lines others)
+listed_one t line others true = places_append t line.points (points_along_lines others)
+listed_one t line others false = omega arith
+
+where_true : (c : Bool) (m n : ℕ) → (c ≡ true → m ≡ n) → cond c m 0 ≡ cond c n 0
+where_true true m n same = same refl
+where_true false m n same = refl
+
+where_fewer : (c : Bool) (m n : ℕ) → m ≤ n → cond c m 0 ≤ cond c n 0
+where_fewer true m n few = few
+where_fewer false m n few = omega arith
+
+same_listed : (spots : Spot → Bool) (step block : ℕ) (t : Point → Bool) (lines : List LineValue)
+    → ((line : LineValue) → (line.block == block) ≡ true
+    → places t (spaced_line spots step line).points ≡ places t line.points)
+    → places t (listed_in (map (spaced_line spots step) lines) block) ≡ places t (listed_in lines block)
+same_listed spots step block t [] same = refl
+same_listed spots step block t (line ∷ rest) same =
+    let one = listed_one t (spaced_line spots step line)
+    (filter (λ (l : LineValue). l.block == block) (map (spaced_line spots step) rest)) (line.block == block) in
+    let other = listed_one t line (filter (λ (l : LineValue). l.block == block) rest) (line.block == block) in
+    one ∙ (ap₂ (λ (m n : ℕ). m + n)
+    (where_true (line.block == block) (places t (spaced_line spots step line).points) (places t line.points) (same line))
+    (same_listed spots step block t rest same) ∙ sym other)
+
+fewer_listed : (spots : Spot → Bool) (step block : ℕ) (t : Point → Bool) (lines : List LineValue)
+    → places t (listed_in (map (spaced_line spots step) lines) block) ≤ places t (listed_in lines block)
+fewer_listed spots step block t [] = omega arith
+fewer_listed spots step block t (line ∷ rest) =
+    let one = listed_one t (spaced_line spots step line)
+    (filter (λ (l : LineValue). l.block == block) (map (spaced_line spots step) rest)) (line.block == block) in
+    let other = listed_one t line (filter (λ (l : LineValue). l.block == block) rest) (line.block == block) in
+    omega (
+      arith,
+      one,
+      other,
+      where_fewer (line.block == block) (places t (spaced_line spots step line).points) (places t line.points)
+          (fewer_places (is_spot_of spots line.block) t step line.points),
+      fewer_listed spots step block t rest,
+    )
+
+-- a spot that stays is shared where it was
+pub shared_same : (spots : Spot → Bool) (step block : ℕ) (lines : List LineValue) (p : Point)
+    → is_spot_of spots block p ≡ true
+    → is_shared_point (map (spaced_line spots step) lines) block p ≡ is_shared_point lines block p
+shared_same spots step block lines p stays =
+    ap (λ (n : ℕ). nat_le 2 n)
+    (counted (is_same_point p) (listed_in (map (spaced_line spots step) lines) block)
+    ∙ (same_listed spots step block (is_same_point p) lines each
+    ∙ sym (counted (is_same_point p) (listed_in lines block))))
+  where
+    each : (line : LineValue) → (line.block == block) ≡ true
+        → places (is_same_point p) (spaced_line spots step line).points ≡ places (is_same_point p) line.points
+    each line here = same_places (is_spot_of spots line.block) (is_same_point p) step line.points
+        (λ x same. ap₂ (λ (b : ℕ) (q : Point). is_spot_of spots b q) (eqb-true line.block block here) (sym (same_is p x same)) ∙ stays)
+
+still_unshared : (m n : ℕ) → m ≤ n → nat_le 2 n ≡ false → (b : Bool) → nat_le 2 m ≡ b → b ≡ false
+still_unshared m n few is false so = refl
+still_unshared m n few is true so = absurd (omega (arith, few, leb-false 2 n is, leb-true 2 m so))
+
+-- a point that isn't shared isn't shared afterwards
+pub unshared_still : (spots : Spot → Bool) (step block : ℕ) (lines : List LineValue) (p : Point)
+    → is_shared_point lines block p ≡ false → is_shared_point (map (spaced_line spots step) lines) block p ≡ false
+unshared_still spots step block lines p is =
+    still_unshared (count_by (is_same_point p) (listed_in (map (spaced_line spots step) lines) block))
+    (count_by (is_same_point p) (listed_in lines block))
+    (omega (
+      arith,
+      counted (is_same_point p) (listed_in (map (spaced_line spots step) lines) block),
+      counted (is_same_point p) (listed_in lines block),
+      fewer_listed spots step block (is_same_point p) lines,
+    ))
+    is _ refl

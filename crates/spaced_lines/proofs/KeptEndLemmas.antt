@@ -1,0 +1,134 @@
+-- The sections of a spaced line have the ends of the sections of the line, where both are cut alike.
+use Rattle.std.proofs.Common.{◌≡◌, ◌∙◌, ℕ, Bool, true, false, ◌&&◌, List, [], ◌∷◌, ◌++◌, map, All, if◌then◌else◌, refl, ap, sym}
+use Rattle.std.proofs.Math.Path.{ap₂}
+use Rattle.std.proofs.lemmas.List.Elements.{All-head, All-tail}
+use Rattle.design_model.specs.declared.point.Point.{Point}
+use Rattle.drawing_model.specs.Drawings.{endpoints}
+use Rattle.line_sections.specs.Sections.{but_last, has_points, inner_points, sections_from, sections_of, sections_with_first}
+use Rattle.spaced_lines.specs.SpacedLines.{kept_after, may_leave_out, spaced_points}
+use Rattle.spaced_lines.proofs.SpacingLemmas.{untested}
+
+-- the ends of the sections from the point a on
+abbrev ends_from : (Point → Bool) → Point → List Point → List (List Point)
+ends_from cut a rest = map (λ (s : List Point). endpoints s) (sections_from cut a rest)
+
+-- the ends of a section with one more point at its start
+abbrev begun_at : Point → List Point → List Point
+begun_at a [] = a ∷ a ∷ []
+begun_at a (x ∷ rest) = a ∷ rest
+
+-- the ends of sections with one more point at the start of the first one
+abbrev ends_with : Point → List (List Point) → List (List Point)
+ends_with a [] = (a ∷ a ∷ []) ∷ []
+ends_with a (ends ∷ rest) = begun_at a ends ∷ rest
+
+-- the ends of the sections from a on, where those from the next point q on are given
+abbrev ends_joined : Bool → (a q : Point) → List (List Point) → List (List Point)
+ends_joined cut a q ends = if cut then (a ∷ q ∷ []) ∷ ends else ends_with a ends
+
+with_first_ends : (a : Point) (sections : List (List Point))
+    → map (λ (s : List Point). endpoints s) (sections_with_first a sections) ≡ ends_with a (map (λ (s : List Point). endpoints s) sections)
+with_first_ends a [] = refl
+with_first_ends a ([] ∷ rest) = refl
+with_first_ends a ((x ∷ xs) ∷ rest) = refl
+
+ends_by : (a q : Point) (cut : Bool) (behind : List (List Point))
+    → map (λ (s : List Point). endpoints s) (if cut then (a ∷ q ∷ []) ∷ behind else sections_with_first a behind)
+    ≡ ends_joined cut a q (map (λ (s : List Point). endpoints s) behind)
+ends_by a q true behind = refl
+ends_by a q false behind = with_first_ends a behind
+
+ends_step : (cut : Point → Bool) (a q : Point) (rest : List Point)
+    → ends_from cut a (q ∷ rest) ≡ ends_joined (has_points rest && cut q) a q (ends_from cut q rest)
+ends_step cut a q rest = ends_by a q (has_points rest && cut q) (sections_from cut q rest)
+
+-- the first section begins at the point a
+record BeginsAt (a : Point) (ends : List (List Point)) : Type 0 where
+  more : List Point
+  others : List (List Point)
+  is : ends ≡ (a ∷ more) ∷ others
+
+with_begins : (a : Point) (ends : List (List Point)) → BeginsAt a (ends_with a ends)
+with_begins a [] = record { more = a ∷ []; others = []; is = refl }
+with_begins a ([] ∷ rest) = record { more = a ∷ []; others = rest; is = refl }
+with_begins a ((x ∷ xs) ∷ rest) = record { more = xs; others = rest; is = refl }
+
+joined_begins : (cut : Bool) (a q : Point) (ends : List (List Point)) → BeginsAt a (ends_joined cut a q ends)
+joined_begins true a q ends = record { more = q ∷ []; others = ends; is = refl }
+joined_begins false a q ends = with_begins a ends
+
+ends_begin : (cut : Point → Bool) (a : Point) (rest : List Point) → BeginsAt a (ends_from cut a rest)
+ends_begin cut a [] = record { more = a ∷ []; others = []; is = refl }
+ends_begin cut a (q ∷ rest) =
+    let begins = joined_begins (has_points rest && cut q) a q (ends_from cut q rest) in
+    record { more = begins.more; others = begins.others; is = ends_step cut a q rest ∙ begins.is }
+
+twice_begun : (a p x : Point) (ends : List (List Point)) → BeginsAt x ends → ends_with a (ends_with p ends) ≡ ends_with a ends
+twice_begun a p x ends begins =
+    ap (λ (es : List (List Point)). ends_with a (ends_with p es)) begins.is
+    ∙ sym (ap (λ (es : List (List Point)). ends_with a es) begins.is)
+
+passed_by : (cut : Bool) (a p b : Point) (ends : List (List Point)) → BeginsAt b ends
+    → ends_with a (ends_joined cut p b ends) ≡ ends_joined cut a b ends
+passed_by true a p b ends begins = refl
+passed_by false a p b ends begins = twice_begun a p b ends begins
+
+-- a point where the line isn't cut may be passed
+passed : (cut : Point → Bool) (a p b : Point) (rest : List Point) → cut p ≡ false
+    → ends_from cut a (p ∷ b ∷ rest) ≡ ends_from cut a (b ∷ rest)
+passed cut a p b rest whole =
+    ends_step cut a p (b ∷ rest)
+    ∙ (ap (λ (c : Bool). ends_joined c a p (ends_from cut p (b ∷ rest))) whole
+    ∙ (ap (λ (es : List (List Point)). ends_with a es) (ends_step cut p b rest)
+    ∙ (passed_by (has_points rest && cut b) a p b (ends_from cut b rest) (ends_begin cut b rest)
+    ∙ sym (ends_step cut a b rest))))
+
+-- a spaced line is cut as the line at a point, which isn't cut where it may be left out
+abbrev pub IsCutAlike : (cut again stays : Point → Bool) → Point → Type 0
+IsCutAlike cut again stays x = (again x ≡ cut x) × (stays x ≡ false → cut x ≡ false)
+
+kept_points_by : (stays : Point → Bool) (step : ℕ) (a : Point) (since : List Point) (p b : Point) (rest : List Point) (out : Bool)
+    → has_points (kept_after stays step a (since ++ p ∷ []) b rest) ≡ true
+    → has_points (if out then kept_after stays step a (since ++ p ∷ []) b rest else p ∷ kept_after stays step p [] b rest) ≡ true
+kept_points_by stays step a since p b rest true has = has
+kept_points_by stays step a since p b rest false has = refl
+
+kept_points : (stays : Point → Bool) (step : ℕ) (a : Point) (since : List Point) (p : Point) (rest : List Point)
+    → has_points (kept_after stays step a since p rest) ≡ true
+kept_points stays step a since p [] = refl
+kept_points stays step a since p (b ∷ rest) =
+    kept_points_by stays step a since p b rest (may_leave_out stays step a since p b) (kept_points stays step a (since ++ p ∷ []) b rest)
+
+same_ends_by : (cut again stays : Point → Bool) (step : ℕ) (a : Point) (since : List Point) (p b : Point) (rest : List Point)
+    (out : Bool) → may_leave_out stays step a since p b ≡ out → IsCutAlike cut again stays p
+    → ends_from again a (kept_after stays step a (since ++ p ∷ []) b rest) ≡ ends_from cut a (b ∷ rest)
+    → ends_from again p (kept_after stays step p [] b rest) ≡ ends_from cut p (b ∷ rest)
+    → ends_from again a
+    (if out then kept_after stays step a (since ++ p ∷ []) b rest else p ∷ kept_after stays step p [] b rest)
+    ≡ ends_from cut a (p ∷ b ∷ rest)
+same_ends_by cut again stays step a since p b rest true is alike left kept =
+    left ∙ sym (passed cut a p b rest (alike.1 (untested stays step a since p b is)))
+same_ends_by cut again stays step a since p b rest false is alike left kept =
+    ends_step again a p (kept_after stays step p [] b rest)
+    ∙ (ap₂ (λ (c : Bool) (es : List (List Point)). ends_joined c a p es)
+    (ap₂ (λ (x y : Bool). x && y) (kept_points stays step p [] b rest) alike.0) kept
+    ∙ sym (ends_step cut a p (b ∷ rest)))
+
+same_ends_after : (cut again stays : Point → Bool) (step : ℕ) (a : Point) (since : List Point) (p : Point) (rest : List Point)
+    → All (IsCutAlike cut again stays) (but_last (p ∷ rest))
+    → ends_from again a (kept_after stays step a since p rest) ≡ ends_from cut a (p ∷ rest)
+same_ends_after cut again stays step a since p [] alike = refl
+same_ends_after cut again stays step a since p (b ∷ rest) alike =
+    same_ends_by cut again stays step a since p b rest (may_leave_out stays step a since p b) refl
+    (All-head (IsCutAlike cut again stays) p (but_last (b ∷ rest)) alike)
+    (same_ends_after cut again stays step a (since ++ p ∷ []) b rest (All-tail (IsCutAlike cut again stays) p (but_last (b ∷ rest)) alike))
+    (same_ends_after cut again stays step p [] b rest (All-tail (IsCutAlike cut again stays) p (but_last (b ∷ rest)) alike))
+
+-- The sections of a spaced line have the ends of those of the line.
+pub same_ends : (cut again stays : Point → Bool) (step : ℕ) (points : List Point)
+    → All (IsCutAlike cut again stays) (inner_points points)
+    → map (λ (s : List Point). endpoints s) (sections_of again (spaced_points stays step points))
+    ≡ map (λ (s : List Point). endpoints s) (sections_of cut points)
+same_ends cut again stays step [] alike = refl
+same_ends cut again stays step (a ∷ []) alike = refl
+same_ends cut again stays step (a ∷ p ∷ rest) alike = same_ends_after cut again stays step a [] p rest alike

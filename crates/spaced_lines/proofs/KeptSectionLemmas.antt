@@ -1,0 +1,82 @@
+-- The sections of spaced lines have the ends of the sections of the lines.
+use Rattle.std.proofs.Common.{◌≡◌, ◌∙◌, ℕ, Bool, true, false, List, [], ◌∷◌, ◌++◌, map, All, refl, ap, sym}
+use Rattle.std.proofs.Math.Path.{ap₂}
+use Rattle.std.proofs.lemmas.List.{map-append}
+use Rattle.std.proofs.lemmas.List.Elements.{All-head, All-tail}
+use Rattle.std.specs.List.{flat_map}
+use Rattle.design_model.specs.declared.point.Point.{Point}
+use Rattle.drawing_model.specs.Drawings.{endpoints}
+use Rattle.drawing_model.specs.WalkEnds.{end_spots, is_junction}
+use Rattle.line_sections.specs.declared.spot.Spot.{Spot}
+use Rattle.line_sections.specs.Lines.{LineValue}
+use Rattle.line_sections.specs.Sections.{all_sections, inner_points, is_shared_point, line_sections, lines_through, sections_of}
+use Rattle.spaced_lines.specs.SpacedLines.{is_spot_of, spaced_line, spaced_lines, spaced_points}
+use Rattle.spaced_lines.specs.SpacingLaws.{SectionsKeepEnds}
+use Rattle.spaced_lines.proofs.KeptCountLemmas.{shared_same, unshared_still}
+use Rattle.spaced_lines.proofs.KeptEndLemmas.{IsCutAlike, same_ends}
+use Rattle.spaced_lines.proofs.SharedLemmas.{shared_are_junctions}
+
+-- the spots of a block at points
+abbrev spots_at : ℕ → List Point → List Spot
+spots_at block points = map (λ (p : Point). record { block = block; at = p }) points
+
+through_ends : (block : ℕ) (sections : List (List Point))
+    → map end_spots (lines_through block sections) ≡ map (spots_at block) (map (λ (s : List Point). endpoints s) sections)
+through_ends block [] = refl
+through_ends block (section ∷ rest) =
+    ap (λ (more : List (List Spot)). spots_at block (endpoints section) ∷ more) (through_ends block rest)
+
+-- shared points stay, staying points are shared as before, and others aren't shared afterwards: then a spaced line is cut alike
+alike_by : (cut again stays : Point → Bool) (x : Point) (s c : Bool) → stays x ≡ s → cut x ≡ c → (c ≡ true → s ≡ true)
+    → (stays x ≡ true → again x ≡ cut x) → (cut x ≡ false → again x ≡ false) → IsCutAlike cut again stays x
+alike_by cut again stays x true c is cut_is so same still = (same is, λ never. absurd (no_both (stays x) is never))
+  where
+    no_both : (t : Bool) → t ≡ true → t ≡ false → ⊥
+    no_both true is so = cc
+    no_both false is so = cc
+alike_by cut again stays x false false is cut_is so same still = (still cut_is ∙ sym cut_is, λ out. cut_is)
+alike_by cut again stays x false true is cut_is so same still = absurd (no_way (so refl))
+  where
+    no_way : false ≡ true → ⊥
+    no_way never = cc
+
+-- the points inside a line that are shared stay
+abbrev KeepsShared : List LineValue → LineValue → Type 0
+KeepsShared lines line = All (λ p. is_shared_point lines line.block p ≡ true
+    → is_spot_of (is_junction (all_sections lines)) line.block p ≡ true) (inner_points line.points)
+
+line_alike : (step : ℕ) (lines : List LineValue) (line : LineValue) → KeepsShared lines line
+    → All (IsCutAlike (is_shared_point lines line.block) (is_shared_point (spaced_lines step lines) line.block)
+    (is_spot_of (is_junction (all_sections lines)) line.block)) (inner_points line.points)
+line_alike step lines line keeps k d less =
+    alike_by (is_shared_point lines line.block) (is_shared_point (spaced_lines step lines) line.block)
+    (is_spot_of (is_junction (all_sections lines)) line.block) _ _ _ refl refl (keeps k d less)
+    (shared_same (is_junction (all_sections lines)) step line.block lines _)
+    (unshared_still (is_junction (all_sections lines)) step line.block lines _)
+
+line_ends : (step : ℕ) (lines : List LineValue) (line : LineValue) → KeepsShared lines line
+    → map end_spots (line_sections (spaced_lines step lines) (spaced_line (is_junction (all_sections lines)) step line))
+    ≡ map end_spots (line_sections lines line)
+line_ends step lines line keeps =
+    through_ends line.block
+    (sections_of (is_shared_point (spaced_lines step lines) line.block)
+    (spaced_points (is_spot_of (is_junction (all_sections lines)) line.block) step line.points))
+    ∙ (ap (λ (ends : List (List Point)). map (spots_at line.block) ends)
+    (same_ends (is_shared_point lines line.block) (is_shared_point (spaced_lines step lines) line.block)
+    (is_spot_of (is_junction (all_sections lines)) line.block) step line.points (line_alike step lines line keeps))
+    ∙ sym (through_ends line.block (sections_of (is_shared_point lines line.block) line.points)))
+
+some_ends : (step : ℕ) (lines some : List LineValue) → All (KeepsShared lines) some
+    → map end_spots (flat_map (line_sections (spaced_lines step lines)) (map (spaced_line (is_junction (all_sections lines)) step) some))
+    ≡ map end_spots (flat_map (line_sections lines) some)
+some_ends step lines [] keep = refl
+some_ends step lines (line ∷ rest) keep =
+    map-append end_spots (line_sections (spaced_lines step lines) (spaced_line (is_junction (all_sections lines)) step line))
+    (flat_map (line_sections (spaced_lines step lines)) (map (spaced_line (is_junction (all_sections lines)) step) rest))
+    ∙ (ap₂ (λ (xs ys : List (List Spot)). xs ++ ys) (line_ends step lines line (All-head (KeepsShared lines) line rest keep))
+    (some_ends step lines rest (All-tail (KeepsShared lines) line rest keep))
+    ∙ sym (map-append end_spots (line_sections lines line) (flat_map (line_sections lines) rest)))
+
+-- The sections of spaced lines have the ends of those of the lines.
+pub sections_keep_ends : SectionsKeepEnds
+sections_keep_ends step lines = some_ends step lines lines (shared_are_junctions lines)

@@ -1,0 +1,12 @@
+mod SpacedFacts
+mod SpacedAnswerFacts
+pub mod JunctionLemmas
+pub mod SpacingLemmas
+pub mod SharedLemmas
+pub mod SavedLemmas
+pub mod KeptEndLemmas
+pub mod KeptCountLemmas
+pub mod KeptSectionLemmas
+pub mod SpacedLimitLemmas
+pub mod SpacedAnswerLemmas
+pub mod PieceLemmas

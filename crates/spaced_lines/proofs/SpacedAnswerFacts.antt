@@ -1,0 +1,33 @@
+-- Worked values of spaced drawings, in tenths of a millimetre.
+use Rattle.std.proofs.Common.{◌≡◌, ℕ, pos, List, [], ◌∷◌, Ok, Err, refl}
+use Rattle.design_model.specs.declared.point.Point.{Point}
+use Rattle.drawing_model.specs.declared.draw_kind.DrawKind.TheVariants as kind
+use Rattle.drawing_model.specs.Drawings.{DrawingValue}
+use Rattle.line_sections.specs.declared.spot.Spot.{Spot}
+use Rattle.line_sections.specs.Lines.{LineValue}
+use Rattle.spaced_lines.specs.SpacedDrawings.{space_of}
+
+abbrev at : ℕ → ℕ → Point
+at x y = record { x = pos x; y = pos y }
+
+abbrev through : List Point → LineValue
+through points = record { block = 0; points = points }
+
+abbrev of_lines : List LineValue → List Spot → DrawingValue
+of_lines lines starts = record { label = []; step = 30; threads = 7 ∷ []; lines = lines; starts = starts; ends = [] }
+
+-- a line that ends inside another one, with a point that may be left out
+abbrev branch : DrawingValue
+branch = of_lines (through (at 0 0 ∷ at 10 0 ∷ at 20 0 ∷ []) ∷ through (at 10 0 ∷ at 10 4 ∷ at 10 9 ∷ []) ∷ []) []
+
+-- the drawing is spaced with a start at the end of the line
+pub known_space : space_of branch (record { block = 0; at = at 10 9 } ∷ []) [] ≡ Ok (record {
+  drawn = of_lines (through (at 0 0 ∷ at 10 0 ∷ at 20 0 ∷ []) ∷ through (at 10 0 ∷ at 10 9 ∷ []) ∷ []) [];
+  joined = of_lines (through (at 0 0 ∷ at 10 0 ∷ []) ∷ through (at 10 0 ∷ at 20 0 ∷ []) ∷ through (at 10 0 ∷ at 10 9 ∷ []) ∷ [])
+      (record { block = 0; at = at 10 9 } ∷ []);
+})
+known_space = refl
+
+-- a start at the point that is left out is refused, as the joined drawing has no junction there
+pub known_space_refused : space_of branch (record { block = 0; at = at 10 4 } ∷ []) [] ≡ Err kind.NoJunction
+known_space_refused = refl

@@ -1,0 +1,248 @@
+-- A drawing that can be joined and get starts and ends can be spaced with them.
+use Rattle.std.proofs.Common.{◌≡◌, ◌∙◌, ℕ, suc, ◌+◌, ◌≤◌, ◌==◌, ◌&&◌, ◌||◌, not, nat_lt, Bool, true, false, List, [], ◌∷◌, ◌++◌, length, map, All, Result, Ok, Err, if◌then◌else◌, refl, ap, sym, arith}
+use Rattle.std.proofs.lemmas.Bool.Decides.{nat_tests}
+use Rattle.std.proofs.lemmas.List.{length-append, length-map}
+use Rattle.std.proofs.lemmas.List.Elements.{All-head, All-tail, All-weaker}
+use Rattle.std.proofs.lemmas.List.Sums.{sum_by-append, sum_by-cons}
+use Rattle.std.specs.List.{flat_map, list_any}
+use Rattle.design_model.specs.declared.point.Point.{Point}
+use Rattle.design_model.specs.Points.{is_same_point}
+use Rattle.drawing_edits.specs.RedrawnDrawings.{with_starts_and_ends, with_walk_ends}
+use Rattle.drawing_edits.specs.ValidRedraws.{LinesWithinLimitsAreDrawn}
+use Rattle.drawing_model.specs.declared.draw_kind.DrawKind.{DrawKind}
+use Rattle.drawing_model.specs.declared.draw_kind.DrawKind.TheVariants as kind
+use Rattle.drawing_model.specs.Drawings.{DrawingValue, IsLine, KeepsDrawingLimits, endpoints}
+use Rattle.drawing_model.specs.GrowingDrawings.{and_then, point_count}
+use Rattle.drawing_model.specs.JoinedDrawings.{joined_drawing}
+use Rattle.drawing_model.specs.WalkEnds.{are_connected_spots, end_spots, is_junction, merged_representative, representative, spot_added}
+use Rattle.line_sections.specs.declared.spot.Spot.{Spot}
+use Rattle.line_sections.specs.Lines.{LineValue}
+use Rattle.line_sections.specs.Sections.{all_sections, has_points, is_shared_point, line_sections, lines_through, sections_from, sections_of, sections_with_first}
+use Rattle.line_sections.specs.Spots.{is_same_spot}
+use Rattle.spaced_lines.specs.SpacedAnswers.{SpacedLinesKeepLimits, SpacingRefusesNone, with_lines_spaced}
+use Rattle.spaced_lines.specs.SpacedDrawings.{spaced_and_joined}
+use Rattle.spaced_lines.specs.SpacedLines.{spaced_line, spaced_lines}
+use Rattle.spaced_lines.specs.SpacingLaws.{SectionsKeepEnds}
+use Rattle.drawing_edits.proofs.CallerLemmas.{starts_put}
+use Rattle.spaced_lines.proofs.SpacedLimitLemmas.{points_less}
+use Rattle.lists_and_numbers.proofs.CallerLemmas.{and_false}
+
+-- the number of points of sections is that of the segments and of the sections
+record HasSize (block segments : ℕ) (sections : List (List Point)) : Type 0 where
+  points : point_count (lines_through block sections) ≡ segments + length sections
+  some : 1 ≤ length sections
+
+first_size : (block segments : ℕ) (p : Point) (sections : List (List Point)) → HasSize block segments sections
+    → HasSize block (suc segments) (sections_with_first p sections)
+first_size block segments p [] size = absurd (let some = size.some in omega (arith, some))
+first_size block segments p (section ∷ rest) size =
+    let others : List LineValue = lines_through block rest in
+    let before = sum_by-cons (λ (l : LineValue). length l.points) (record { block = block; points = section }) others in
+    let after = sum_by-cons (λ (l : LineValue). length l.points) (record { block = block; points = p ∷ section }) others in
+    record { points = omega (arith, before, after, size.points); some = omega arith }
+
+size_by : (block segments : ℕ) (p q : Point) (behind : List (List Point)) (cut : Bool) → HasSize block segments behind
+    → HasSize block (suc segments) (if cut then (p ∷ q ∷ []) ∷ behind else sections_with_first p behind)
+size_by block segments p q behind true size =
+    let others : List LineValue = lines_through block behind in
+    let after = sum_by-cons (λ (l : LineValue). length l.points) (record { block = block; points = p ∷ q ∷ [] }) others in
+    record { points = omega (arith, after, size.points); some = omega arith }
+size_by block segments p q behind false size = first_size block segments p behind size
+
+size_from : (block : ℕ) (is_cut : Point → Bool) (p : Point) (rest : List Point)
+    → HasSize block (length rest) (sections_from is_cut p rest)
+size_from block is_cut p [] = record { points = omega arith; some = omega arith }
+size_from block is_cut p (q ∷ rest) =
+    size_by block (length rest) p q (sections_from is_cut q rest) (has_points rest && is_cut q) (size_from block is_cut q rest)
+
+line_size : (block : ℕ) (is_cut : Point → Bool) (points : List Point) → 1 ≤ length points
+    → point_count (lines_through block (sections_of is_cut points)) + 1
+    ≡ length points + length (lines_through block (sections_of is_cut points))
+line_size block is_cut [] some = absurd (omega (arith, some))
+line_size block is_cut (p ∷ rest) some =
+    let size = size_from block is_cut p rest in
+    let as_many = length-map {B = LineValue} (sections_from is_cut p rest) (λ points. record { block = block; points = points }) in
+    omega (arith, size.points, as_many)
+
+all_size : (all lines : List LineValue) → All (λ line. 1 ≤ length line.points) lines
+    → point_count (flat_map (line_sections all) lines) + length lines
+    ≡ point_count lines + length (flat_map (line_sections all) lines)
+all_size all [] some = refl
+all_size all (line ∷ rest) some =
+    let own : List LineValue = line_sections all line in
+    let others : List LineValue = flat_map (line_sections all) rest in
+    let one = line_size line.block (is_shared_point all line.block) line.points
+    (All-head (λ (l : LineValue). 1 ≤ length l.points) line rest some) in
+    let more = all_size all rest (All-tail (λ (l : LineValue). 1 ≤ length l.points) line rest some) in
+    let points_are = sum_by-append (λ (l : LineValue). length l.points) own others in
+    let lines_are = length-append own others in
+    let points_before = sum_by-cons (λ (l : LineValue). length l.points) line rest in
+    omega (arith, one, more, points_are, lines_are, points_before)
+
+-- a spot is among the ends of a line
+abbrev is_end_in : Spot → List Spot → Bool
+is_end_in spot ends = list_any (λ one. (one.block == spot.block) && is_same_point spot.at one.at) ends
+
+spread : (x t r : Bool) → (x && (t || r)) ≡ ((x && t) || (x && r))
+spread true t r = refl
+spread false t r = refl
+
+end_by : (block : ℕ) (spot : Spot) (ps : List Point) → ((block == spot.block) && list_any (is_same_point spot.at) ps)
+    ≡ is_end_in spot (map (λ p. record { block = block; at = p }) ps)
+end_by block spot [] = and_false (block == spot.block)
+end_by block spot (p ∷ ps) = spread (block == spot.block) (is_same_point spot.at p) (list_any (is_same_point spot.at) ps)
+    ∙ ap (λ (t : Bool). ((block == spot.block) && is_same_point spot.at p) || t) (end_by block spot ps)
+
+junction_by : (lines : List LineValue) (spot : Spot) → is_junction lines spot ≡ list_any (is_end_in spot) (map end_spots lines)
+junction_by [] spot = refl
+junction_by (line ∷ rest) spot =
+    ap (λ (t : Bool). t || is_junction rest spot) (end_by line.block spot (endpoints line.points))
+    ∙ ap (λ (t : Bool). is_end_in spot (end_spots line) || t) (junction_by rest spot)
+
+-- the representative of a spot by the ends of lines
+abbrev stands_by : List (List Spot) → Spot → Spot
+stands_by [] spot = spot
+stands_by (ends ∷ rest) spot = merged_representative ends (stands_by rest) spot
+
+same_function : (f g : Spot → Spot) → ((s : Spot) → f s ≡ g s) → f ≡ g
+same_function f g same = λ i s. same s i
+
+representative_by : (lines : List LineValue) (spot : Spot) → representative lines spot ≡ stands_by (map end_spots lines) spot
+representative_by [] spot = refl
+representative_by (line ∷ rest) spot = ap (λ (f : Spot → Spot). merged_representative (end_spots line) f spot)
+    (same_function (representative rest) (stands_by (map end_spots rest)) (representative_by rest))
+
+-- lines with the same ends take the same starts and ends
+module _ (lines other : List LineValue) (same : map end_spots other ≡ map end_spots lines) where
+  junctions_same : (spot : Spot) → is_junction other spot ≡ is_junction lines spot
+  junctions_same spot = junction_by other spot
+      ∙ ap (λ (ends : List (List Spot)). list_any (is_end_in spot) ends) same ∙ sym (junction_by lines spot)
+
+  stands_same : (spot : Spot) → representative other spot ≡ representative lines spot
+  stands_same spot = representative_by other spot ∙ ap (λ (ends : List (List Spot)). stands_by ends spot) same
+      ∙ sym (representative_by lines spot)
+
+  connected_same : (a b : Spot) → are_connected_spots other a b ≡ are_connected_spots lines a b
+  connected_same a b = ap (λ (s : Spot). is_same_spot s (representative other b)) (stands_same a)
+      ∙ ap (λ (s : Spot). is_same_spot (representative lines a) s) (stands_same b)
+
+  any_same : (spots : List Spot) (spot : Spot) → list_any (λ one. are_connected_spots other one spot) spots
+      ≡ list_any (λ one. are_connected_spots lines one spot) spots
+  any_same [] spot = refl
+  any_same (one ∷ rest) spot =
+      ap (λ (t : Bool). t || list_any (λ (s : Spot). are_connected_spots other s spot) rest) (connected_same one spot)
+      ∙ ap (λ (t : Bool). are_connected_spots lines one spot || t) (any_same rest spot)
+
+  added_same : (spots : List Spot) (spot : Spot) → spot_added other spots spot ≡ spot_added lines spots spot
+  added_same spots spot =
+      ap (λ (t : Bool). if not t then Err kind.NoJunction else (if list_any (λ (s : Spot). are_connected_spots other s spot) spots
+      then Err kind.EndRepeated else Ok (spots ++ spot ∷ []))) (junctions_same spot)
+      ∙ ap (λ (t : Bool). if not (is_junction lines spot) then Err kind.NoJunction
+      else (if t then Err kind.EndRepeated else Ok (spots ++ spot ∷ []))) (any_same spots spot)
+
+  -- the drawing with the other lines
+  abbrev relined : Result DrawingValue DrawKind → Result DrawingValue DrawKind
+  relined (Ok d) = Ok (record d { lines = other })
+  relined (Err why) = Err why
+
+  starts_same : (spots : List Spot) (d : DrawingValue)
+      → with_walk_ends true (record d { lines = other }) spots ≡ relined (with_walk_ends true (record d { lines = lines }) spots)
+  starts_same [] d = refl
+  starts_same (spot ∷ rest) d =
+      ap (λ (r : Result (List Spot) DrawKind). and_then (and_then r (λ (s : List Spot). Ok (record d { lines = other; starts = s })))
+      (λ (next : DrawingValue). with_walk_ends true next rest)) (added_same d.starts spot)
+      ∙ by_added (spot_added lines d.starts spot) (λ s. starts_same rest (record d { starts = s }))
+    where
+      by_added : (r : Result (List Spot) DrawKind)
+          → ((s : List Spot) → with_walk_ends true (record d { lines = other; starts = s }) rest
+          ≡ relined (with_walk_ends true (record d { lines = lines; starts = s }) rest))
+          → and_then (and_then r (λ (s : List Spot). Ok (record d { lines = other; starts = s })))
+          (λ (next : DrawingValue). with_walk_ends true next rest)
+          ≡ relined (and_then (and_then r (λ (s : List Spot). Ok (record d { lines = lines; starts = s })))
+          (λ (next : DrawingValue). with_walk_ends true next rest))
+      by_added (Ok s) later = later s
+      by_added (Err why) later = refl
+
+  ends_same : (spots : List Spot) (d : DrawingValue)
+      → with_walk_ends false (record d { lines = other }) spots ≡ relined (with_walk_ends false (record d { lines = lines }) spots)
+  ends_same [] d = refl
+  ends_same (spot ∷ rest) d =
+      ap (λ (r : Result (List Spot) DrawKind). and_then (and_then r (λ (s : List Spot). Ok (record d { lines = other; ends = s })))
+      (λ (next : DrawingValue). with_walk_ends false next rest)) (added_same d.ends spot)
+      ∙ by_added (spot_added lines d.ends spot) (λ s. ends_same rest (record d { ends = s }))
+    where
+      by_added : (r : Result (List Spot) DrawKind)
+          → ((s : List Spot) → with_walk_ends false (record d { lines = other; ends = s }) rest
+          ≡ relined (with_walk_ends false (record d { lines = lines; ends = s }) rest))
+          → and_then (and_then r (λ (s : List Spot). Ok (record d { lines = other; ends = s })))
+          (λ (next : DrawingValue). with_walk_ends false next rest)
+          ≡ relined (and_then (and_then r (λ (s : List Spot). Ok (record d { lines = lines; ends = s })))
+          (λ (next : DrawingValue). with_walk_ends false next rest))
+      by_added (Ok s) later = later s
+      by_added (Err why) later = refl
+
+  -- so a drawing with the other lines takes starts and ends where the drawing takes them
+  both_same : (d joined : DrawingValue) (starts ends : List Spot)
+      → with_starts_and_ends (record d { lines = lines }) starts ends ≡ Ok joined
+      → with_starts_and_ends (record d { lines = other }) starts ends ≡ Ok (record joined { lines = other })
+  both_same d joined starts ends is =
+      ap (λ (r : Result DrawingValue DrawKind). and_then r (λ (s : DrawingValue). with_walk_ends false s ends)) (starts_same starts d)
+      ∙ by_started (with_walk_ends true (record d { lines = lines }) starts) refl is
+    where
+      by_started : (r : Result DrawingValue DrawKind) → with_walk_ends true (record d { lines = lines }) starts ≡ r
+          → and_then r (λ (s : DrawingValue). with_walk_ends false s ends) ≡ Ok joined
+          → and_then (relined r) (λ (s : DrawingValue). with_walk_ends false s ends) ≡ Ok (record joined { lines = other })
+      by_started (Ok e) first later =
+          let put : e ≡ record d { lines = lines; starts = d.starts ++ starts } = starts_put (record d { lines = lines }) starts e first in
+          ap (λ (s : DrawingValue). with_walk_ends false (record s { lines = other }) ends) put
+          ∙ ends_same ends (record d { starts = d.starts ++ starts })
+          ∙ ap (λ (s : DrawingValue). relined (with_walk_ends false s ends)) (sym put)
+          ∙ ap relined later
+      by_started (Err why) first later = absurd (let no : ⊥ = cc in no)
+
+-- a drawing that can be joined has few sections
+limited_by : (many long : Bool) (x y : DrawKind) (whole joined : DrawingValue) (more : DrawingValue → Result DrawingValue DrawKind)
+    → and_then (if many then Err x else (if long then Err y else Ok whole)) more ≡ Ok joined
+    → (many ≡ false) × (long ≡ false) × (more whole ≡ Ok joined)
+limited_by true long x y whole joined more is = absurd (let no : ⊥ = cc in no)
+limited_by false true x y whole joined more is = absurd (let no : ⊥ = cc in no)
+limited_by false false x y whole joined more is = (refl, refl, is)
+
+fits : (m n limit : ℕ) → m ≤ n → nat_lt limit n ≡ false → nat_lt limit m ≡ false
+fits m n limit less is = grind (arith, nat_tests, less, is)
+
+sewn_lines : (d : DrawingValue) → KeepsDrawingLimits d → All (λ line. 1 ≤ length line.points) d.lines
+sewn_lines d keeps = All-weaker (λ (l : LineValue). IsLine l.points) (λ (l : LineValue). 1 ≤ length l.points)
+    (λ line is. omega (arith, is.long)) d.lines keeps.lines
+
+pub none_refused : LinesWithinLimitsAreDrawn → SpacedLinesKeepLimits → SectionsKeepEnds → SpacingRefusesNone
+none_refused drawn_as keep alike d joined starts ends keeps no_starts no_ends is =
+    let lines : List LineValue = spaced_lines d.step d.lines in
+    let spaced : DrawingValue = with_lines_spaced d in
+    let old : List LineValue = all_sections d.lines in
+    let new : List LineValue = all_sections lines in
+    let same : map end_spots new ≡ map end_spots old = alike d.step d.lines in
+    let more : DrawingValue → Result DrawingValue DrawKind = λ whole. with_starts_and_ends whole starts ends in
+    let parts = limited_by (nat_lt 1024 (length old)) (nat_lt 65536 (point_count old)) kind.TooManyLines kind.TooManyPoints
+    (record d { lines = old }) joined more is in
+    let as_many : length new ≡ length old =
+    sym (length-map new end_spots) ∙ ap (λ (e : List (List Spot)). length e) same ∙ length-map old end_spots in
+    let lines_same : length lines ≡ length d.lines =
+    length-map d.lines (spaced_line (is_junction (all_sections d.lines)) d.step) in
+    let size_new = all_size lines lines (sewn_lines spaced (keep d keeps)) in
+    let size_old = all_size d.lines d.lines (sewn_lines d keeps) in
+    let fewer = points_less d.step d.lines (sewn_lines d keeps) in
+    let short : point_count new ≤ point_count old = omega (arith, as_many, lines_same, size_new, size_old, fewer) in
+    let few : nat_lt 1024 (length new) ≡ false = ap (λ (n : ℕ). nat_lt 1024 n) as_many ∙ parts.0 in
+    let small : nat_lt 65536 (point_count new) ≡ false = fits (point_count new) (point_count old) 65536 short parts.1 in
+    let joins : joined_drawing spaced ≡ Ok (record d { lines = new }) =
+    ap (λ (t : Bool). if t then Err kind.TooManyLines else (if nat_lt 65536 (point_count new) then Err kind.TooManyPoints
+    else Ok (record d { lines = new }))) few
+    ∙ ap (λ (t : Bool). if t then Err kind.TooManyPoints else Ok (record d { lines = new })) small in
+    let bare : record spaced { starts = []; ends = [] } ≡ spaced =
+    ap (λ (s : List Spot). record spaced { starts = s; ends = [] }) (sym no_starts)
+    ∙ ap (λ (e : List Spot). record spaced { ends = e }) (sym no_ends) in
+    ap (λ (r : Result DrawingValue DrawKind). and_then r (λ (s : DrawingValue). spaced_and_joined s (and_then (joined_drawing s) more)))
+    (drawn_as spaced (keep d keeps) ∙ ap (λ (s : DrawingValue). Ok s) bare)
+    ∙ ap (λ (r : Result DrawingValue DrawKind). spaced_and_joined spaced (and_then r more)) joins
+    ∙ ap (λ (r : Result DrawingValue DrawKind). spaced_and_joined spaced r) (both_same old new same d joined starts ends parts.2)

@@ -1,0 +1,98 @@
+-- The spaced lines of a drawing are within the limits of a drawing.
+use Rattle.std.proofs.Common.{◌≡◌, ◌∙◌, ℕ, ◌+◌, ◌<◌, ◌≤◌, Bool, true, false, List, [], ◌∷◌, ◌++◌, length, map, All, Contains, if◌then◌else◌, refl, ap, subst, arith}
+use Rattle.std.proofs.lemmas.List.{length-map}
+use Rattle.std.proofs.lemmas.List.Elements.{All-head, All-map, All-tail, All-weaker}
+use Rattle.std.proofs.lemmas.List.Sums.{sum_by-cons}
+use Rattle.std.specs.List.{sum_by}
+use Rattle.std.specs.List.Sorted.{IsNonDecreasing}
+use Rattle.design_model.specs.declared.point.Point.{Point}
+use Rattle.drawing_model.specs.Drawings.{IsLine}
+use Rattle.drawing_model.specs.GrowingDrawings.{point_count}
+use Rattle.drawing_model.specs.Needles.{steps_of_line}
+use Rattle.drawing_model.specs.WalkEnds.{is_junction}
+use Rattle.line_sections.specs.Lines.{LineValue}
+use Rattle.line_sections.specs.Sections.{all_sections}
+use Rattle.spaced_lines.specs.SpacedAnswers.{SpacedLinesKeepLimits}
+use Rattle.spaced_lines.specs.SpacedLines.{is_spot_of, kept_after, may_leave_out, spaced_line, spaced_lines, spaced_points}
+use Rattle.spaced_lines.specs.SpacingLaws.{EachPointSavesAStep, SpacedLinesAreLines}
+
+-- a spaced line has no more points
+fewer_by : (stays : Point → Bool) (step : ℕ) (a : Point) (since : List Point) (p b : Point) (rest : List Point) (out : Bool)
+    → length (kept_after stays step a (since ++ p ∷ []) b rest) ≤ length rest + 1
+    → length (kept_after stays step p [] b rest) ≤ length rest + 1
+    → length (if out then kept_after stays step a (since ++ p ∷ []) b rest else p ∷ kept_after stays step p [] b rest)
+    ≤ length rest + 2
+fewer_by stays step a since p b rest true left kept = omega (arith, left)
+fewer_by stays step a since p b rest false left kept = omega (arith, kept)
+
+fewer_after : (stays : Point → Bool) (step : ℕ) (a : Point) (since : List Point) (p : Point) (rest : List Point)
+    → length (kept_after stays step a since p rest) ≤ length rest + 1
+fewer_after stays step a since p [] = omega arith
+fewer_after stays step a since p (b ∷ rest) =
+    let most = fewer_by stays step a since p b rest (may_leave_out stays step a since p b)
+    (fewer_after stays step a (since ++ p ∷ []) b rest) (fewer_after stays step p [] b rest) in omega (arith, most)
+
+fewer_points : (stays : Point → Bool) (step : ℕ) (points : List Point) → length (spaced_points stays step points) ≤ length points
+fewer_points stays step [] = omega arith
+fewer_points stays step (a ∷ []) = omega arith
+fewer_points stays step (a ∷ p ∷ rest) = let most = fewer_after stays step a [] p rest in omega (arith, most)
+
+-- a sum of terms that are no more is no more
+sums_less : (weight : LineValue → ℕ) (change : LineValue → LineValue) (lines : List LineValue)
+    → All (λ line. weight (change line) ≤ weight line) lines
+    → sum_by weight (map change lines) ≤ sum_by weight lines
+sums_less weight change [] less = omega arith
+sums_less weight change (line ∷ rest) less =
+    let one = All-head (λ (l : LineValue). weight (change l) ≤ weight l) line rest less in
+    let more = sums_less weight change rest (All-tail (λ (l : LineValue). weight (change l) ≤ weight l) line rest less) in
+    let after = sum_by-cons weight (change line) (map change rest) in
+    let before = sum_by-cons weight line rest in
+    omega (arith, one, more, after, before)
+
+pub points_less : (step : ℕ) (lines : List LineValue) → All (λ line. 1 ≤ length line.points) lines
+    → point_count (spaced_lines step lines) ≤ point_count lines
+points_less step lines some =
+    let change : LineValue → LineValue = spaced_line (is_junction (all_sections lines)) step in
+    sums_less (λ (l : LineValue). length l.points) change lines
+    (All-weaker (λ (l : LineValue). 1 ≤ length l.points) (λ (l : LineValue). length (change l).points ≤ length l.points)
+    (λ line is. fewer_points (is_spot_of (is_junction (all_sections lines)) line.block) step line.points) lines some)
+
+module _ (sewn : SpacedLinesAreLines) (saved : EachPointSavesAStep) where
+  pub limits_kept : SpacedLinesKeepLimits
+  limits_kept d keeps =
+      let change : LineValue → LineValue = spaced_line (is_junction (all_sections d.lines)) d.step in
+      let stays : LineValue → Point → Bool = λ line. is_spot_of (is_junction (all_sections d.lines)) line.block in
+      let Blocks : List ℕ → Type 0 = λ blocks. (block : ℕ) → block < length d.threads → Contains blocks block in
+      let Ordered : List ℕ → Type 0 = λ blocks. IsNonDecreasing blocks in
+      record {
+        label = keeps.label;
+        one_word = keeps.one_word;
+        step_from = keeps.step_from;
+        step_to = keeps.step_to;
+        blocks_from = keeps.blocks_from;
+        blocks_to = keeps.blocks_to;
+        threads = keeps.threads;
+        used = subst Blocks (same_blocks change (λ line. refl) d.lines) keeps.used;
+        there = All-map (λ (l : LineValue). l.block < length d.threads) change d.lines keeps.there;
+        ordered = subst Ordered (same_blocks change (λ line. refl) d.lines) keeps.ordered;
+        lines = All-map (λ (l : LineValue). IsLine l.points) change d.lines
+            (All-weaker (λ (l : LineValue). IsLine l.points) (λ (l : LineValue). IsLine (change l).points)
+            (λ line is. sewn (stays line) d.step line.points is) d.lines keeps.lines);
+        line_count = let as_many = length-map d.lines change in omega (arith, as_many, keeps.line_count);
+        point_count = let less = points_less d.step d.lines (All-weaker (λ (l : LineValue). IsLine l.points)
+            (λ (l : LineValue). 1 ≤ length l.points) (λ line is. omega (arith, is.long)) d.lines keeps.lines) in
+            omega (arith, less, keeps.point_count);
+        cost = let less = sums_less (λ (l : LineValue). steps_of_line d.step l.points) change d.lines
+            (All-weaker (λ (l : LineValue). IsLine l.points)
+            (λ (l : LineValue). steps_of_line d.step (change l).points ≤ steps_of_line d.step l.points)
+            (λ line is. let save = saved (stays line) d.step line.points keeps.step_from is in
+            let few = fewer_points (stays line) d.step line.points in omega (arith, save, few)) d.lines keeps.lines) in
+            omega (arith, less, keeps.cost);
+      }
+    where
+      same_blocks : (change : LineValue → LineValue) → ((line : LineValue) → line.block ≡ (change line).block) → (lines : List LineValue)
+          → map (λ line. line.block) lines ≡ map (λ line. line.block) (map change lines)
+      same_blocks change same [] = refl
+      same_blocks change same (line ∷ rest) =
+          ap (λ (block : ℕ). block ∷ map (λ (l : LineValue). l.block) rest) (same line)
+          ∙ ap (λ (blocks : List ℕ). (change line).block ∷ blocks) (same_blocks change same rest)

@@ -1,0 +1,18 @@
+use Rattle.std.proofs.Common.{drop}
+use Rattle.std.proofs.lemmas.List.{drop_all, drop_more}
+use Rattle.std.specs.HashSet.{contains}
+use Rattle.line_sections.specs.Spots.{is_same_spot}
+use Rattle.spaced_lines.proofs.JunctionLemmas.{all_junctions, junctions_go_on}
+use Rattle.spaced_lines.proofs.junction_spots.junctions.Goals as goal
+
+pub returns : goal.returns
+returns c = all_junctions (contains is_same_spot c.loop-section.junctions) c.args.sections.now
+    (drop c.loop-section.section-index c.args.sections.now) c.loop-section.invariant
+    (drop_all c.loop-section.section-index c.args.sections.now c.loop-section-test.false)
+
+pub loop-section-preserved : goal.loop-section-preserved
+loop-section-preserved c = junctions_go_on (contains is_same_spot c.loop-section.junctions)
+    (contains is_same_spot c.put_ends.new.junctions) c.args.sections.now
+    (drop c.loop-section.section-index c.args.sections.now) _ c.section-item.result c.loop-section.invariant
+    (rw c.section-item.is (drop_more c.args.sections.now c.loop-section.section-index _ c.loop-section-test.true))
+    c.in_ok-put_ends.ensures

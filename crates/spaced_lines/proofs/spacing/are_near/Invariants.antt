@@ -1,0 +1,13 @@
+use Rattle.std.proofs.Common.{◌≡◌, length}
+use Rattle.std.specs.List.{list_all}
+use Rattle.drawing_review.specs.Frames.{grid_point}
+use Rattle.drawing_review.specs.Meetings.{is_near}
+use Rattle.spaced_lines.proofs.spacing.are_near.Given as goal
+
+-- all points so far are near, and the result depends on those that are left
+abbrev pub invariant-loop-rest : goal.invariant-loop-rest
+invariant-loop-rest l = list_all (λ p. is_near l.gap (grid_point p) l.s) l.points
+    ≡ list_all (λ p. is_near l.gap (grid_point p) l.s) l.rest
+
+abbrev pub decreases-loop-rest : goal.decreases-loop-rest
+decreases-loop-rest l = length l.rest

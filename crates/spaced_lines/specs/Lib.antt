@@ -1,0 +1,4 @@
+pub mod SpacedLines
+pub mod SpacedDrawings
+pub mod SpacingLaws
+pub mod SpacedAnswers

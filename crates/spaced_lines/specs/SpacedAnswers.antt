@@ -1,0 +1,31 @@
+-- What the spacing of a drawing doesn't refuse: lines within the limits of a drawing, and starts
+-- and ends that the joined drawing takes.
+use Rattle.std.specs.Prelude.{◌≡◌, List, [], Ok}
+use Rattle.drawing_edits.specs.RedrawnDrawings.{with_starts_and_ends}
+use Rattle.drawing_model.specs.Drawings.{DrawingValue, KeepsDrawingLimits}
+use Rattle.drawing_model.specs.GrowingDrawings.{and_then}
+use Rattle.drawing_model.specs.JoinedDrawings.{joined_drawing}
+use Rattle.line_sections.specs.declared.spot.Spot.{Spot}
+use Rattle.line_sections.specs.Sections.{all_sections}
+use Rattle.spaced_lines.specs.SpacedDrawings.{space_of}
+use Rattle.spaced_lines.specs.SpacedLines.{spaced_lines}
+
+-- A drawing with its spaced lines.
+abbrev pub with_lines_spaced : DrawingValue → DrawingValue
+with_lines_spaced d = record d { lines = spaced_lines d.step d.lines }
+
+-- Spaced lines of a drawing are within the limits of a drawing.
+abbrev pub SpacedLinesKeepLimits : Type 0
+SpacedLinesKeepLimits = (d : DrawingValue) → KeepsDrawingLimits d
+    → KeepsDrawingLimits (with_lines_spaced d)
+
+-- Where lines as they are drawn can be joined and take starts and ends, they can be spaced with
+-- these. The joined drawing then has the sections of the spaced lines.
+abbrev pub SpacingRefusesNone : Type 0
+SpacingRefusesNone = (d joined : DrawingValue) (starts ends : List Spot) → KeepsDrawingLimits d
+    → d.starts ≡ [] → d.ends ≡ []
+    → and_then (joined_drawing d) (λ whole. with_starts_and_ends whole starts ends) ≡ Ok joined
+    → space_of d starts ends ≡ Ok (record {
+      drawn = with_lines_spaced d;
+      joined = record joined { lines = all_sections (spaced_lines d.step d.lines) };
+    })

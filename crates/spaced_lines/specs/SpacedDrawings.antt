@@ -1,0 +1,27 @@
+-- Spaced drawings. A spaced drawing has the label, the step and the threads of the
+-- drawing before, and its lines without the points that are left out.
+use Rattle.std.specs.Prelude.{List, Result, Ok}
+use Rattle.drawing_edits.specs.RedrawnDrawings.{drawn_lines, with_starts_and_ends}
+use Rattle.drawing_model.specs.declared.draw_kind.DrawKind.{DrawKind}
+use Rattle.drawing_model.specs.Drawings.{DrawingValue}
+use Rattle.drawing_model.specs.GrowingDrawings.{and_then}
+use Rattle.drawing_model.specs.JoinedDrawings.{joined_drawing}
+use Rattle.line_sections.specs.declared.spot.Spot.{Spot}
+use Rattle.spaced_lines.specs.declared.spaced_drawing.SpacedDrawing.{SpacedDrawing}
+use Rattle.spaced_lines.specs.SpacedLines.{spaced_lines}
+
+-- The spaced drawing of lines as they are drawn, or its fault.
+abbrev pub with_spaced_lines : DrawingValue → Result DrawingValue DrawKind
+with_spaced_lines drawn = drawn_lines (record drawn { lines = spaced_lines drawn.step drawn.lines })
+
+-- A spaced drawing as it is drawn, with the same drawing joined, or the fault of that one.
+abbrev pub spaced_and_joined : DrawingValue → Result DrawingValue DrawKind
+    → Result SpacedDrawing DrawKind
+spaced_and_joined spaced joined =
+    and_then joined (λ whole. Ok (record { drawn = spaced; joined = whole }))
+
+-- The spaced drawing of lines as they are drawn and of starts and ends, or its fault.
+abbrev pub space_of : DrawingValue → (starts ends : List Spot) → Result SpacedDrawing DrawKind
+space_of drawn starts ends = and_then (with_spaced_lines drawn) (λ spaced.
+    spaced_and_joined spaced
+    (and_then (joined_drawing spaced) (λ joined. with_starts_and_ends joined starts ends)))

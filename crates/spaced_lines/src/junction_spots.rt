@@ -1,0 +1,36 @@
+ghost use Rattle.std.specs.Prelude.{◌≡◌, ◌||◌, IfOk, OnOk};
+ghost use Rattle.std.specs.HashSet.{contains};
+ghost use Rattle.drawing_model.specs.WalkEnds.{has_end_at_spot, is_junction};
+ghost use Rattle.line_sections.specs.declared.spot.Spot.{Spot as SpotValue};
+ghost use Rattle.line_sections.specs.Spots.{is_same_spot};
+
+use drawing_repairs::last_or;
+use line_sections::{Line, Spot, first_point};
+use lists_and_numbers::Memory;
+use std::alloc::Global;
+use std::collections::HashSet;
+
+/// Returns the junctions of sections: the spots at their ends.
+pub fn junctions(alloc: Global, sections: &[Line]) -> Result<HashSet<Spot>, Memory>
+    ensures { IfOk result (λ junctions. contains is_same_spot junctions ≡ is_junction sections.now) }
+{
+    let mut junctions = HashSet::new(alloc);
+    for section in sections {
+        put_ends(&mut junctions, section)?;
+    }
+    Ok(junctions)
+}
+
+fn put_ends(junctions: &mut HashSet<Spot>, section: &Line) -> Result<(), Memory>
+    ensures { OnOk result ((spot : SpotValue) → contains is_same_spot junctions.new spot
+        ≡ (has_end_at_spot spot section.now || contains is_same_spot junctions.old spot)) }
+{
+    let block = section.block();
+    let Some((first, after)) = first_point(section.points()) else {
+        return Ok(());
+    };
+    let last = last_or(first, after);
+    junctions.insert(Spot { block, at: first })?;
+    junctions.insert(Spot { block, at: last })?;
+    Ok(())
+}
