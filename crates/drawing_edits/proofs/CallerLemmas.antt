@@ -1,143 +1,138 @@
--- Drawn lines that were joined with starts and ends: the result has their sections and these starts and ends.
-use Rattle.std.proofs.Common.{◌≡◌, Bool, true, false, not, nat_lt, List, [], ◌∷◌, ◌++◌, Result, Ok, Err, length, refl, ap, sym, subst, ◌∙◌, append_assoc, append-nil, All, if◌then◌else◌}
+-- Drawn lines that are joined with starts and ends: the result has their sections and these starts and ends.
+use Rattle.std.proofs.Common.{◌≡◌, ◌∙◌, Bool, true, false, not, nat_lt, List, [], ◌∷◌, ◌++◌, Result, Ok, Err, IfOk, length, refl, ap, sym, subst, append_assoc, append-nil, All, if◌then◌else◌}
 use Rattle.std.proofs.lemmas.List.Elements.{All-cons, All-nil}
+use Rattle.std.proofs.lemmas.Result.{IfOk-at_ok, IfOk-weaker}
 use Rattle.std.specs.List.{list_any}
 use Rattle.drawing_edits.specs.RedrawnDrawings.{with_starts_and_ends, with_walk_ends}
 use Rattle.drawing_model.specs.declared.draw_kind.DrawKind.{DrawKind}
+use Rattle.drawing_model.specs.declared.draw_kind.DrawKind.TheVariants as kind
+use Rattle.drawing_model.specs.declared.limits.TheConstants.{MAX_LINES, MAX_POINTS}
 use Rattle.drawing_model.specs.Drawings.{DrawingValue}
 use Rattle.drawing_model.specs.GrowingDrawings.{and_then, point_count}
 use Rattle.drawing_model.specs.JoinedDrawings.{joined_drawing}
-use Rattle.drawing_model.specs.WalkEnds.{HasNoEnds, are_connected_spots, is_junction}
+use Rattle.drawing_model.specs.WalkEnds.{HasNoEnds, are_connected_spots, is_junction, spot_added, walk_end_added}
 use Rattle.line_sections.specs.declared.spot.Spot.{Spot}
 use Rattle.line_sections.specs.Lines.{LineValue}
 use Rattle.line_sections.specs.Sections.{all_sections}
+use Rattle.line_graph.proofs.CallerLemmas.{after_both}
 
--- a spot that was added
-spot_put : (a b : Bool) (x y : DrawKind) (spots : List Spot) (put : List Spot → DrawingValue)
-    (more : DrawingValue → Result DrawingValue DrawKind) (e : DrawingValue)
-    → and_then (and_then (if a then Err x else (if b then Err y else Ok spots)) (λ s. Ok (put s))) more ≡ Ok e
-    → more (put spots) ≡ Ok e
-spot_put true b x y spots put more e is = absurd (let no : ⊥ = cc in no)
-spot_put false true x y spots put more e is = absurd (let no : ⊥ = cc in no)
-spot_put false false x y spots put more e is = is
+-- A drawing with further starts where the flag is true, else with further ends.
+abbrev pub with_spots : Bool → DrawingValue → List Spot → DrawingValue
+with_spots true d spots = record d { starts = d.starts ++ spots }
+with_spots false d spots = record d { ends = d.ends ++ spots }
 
-spot_there : (there b : Bool) (x y : DrawKind) (spots : List Spot) (put : List Spot → DrawingValue)
-    (more : DrawingValue → Result DrawingValue DrawKind) (e : DrawingValue)
-    → and_then (and_then (if not there then Err x else (if b then Err y else Ok spots)) (λ s. Ok (put s))) more ≡ Ok e
-    → there ≡ true
-spot_there true b x y spots put more e is = refl
-spot_there false b x y spots put more e is = absurd (let no : ⊥ = cc in no)
+-- A drawing that got further starts or ends, each of which is a junction.
+pub record HasSpots (is_start : Bool) (d : DrawingValue) (spots : List Spot) (e : DrawingValue) : Type 0 where
+  pub is : e ≡ with_spots is_start d spots
+  pub there : All (λ spot. is_junction d.lines spot ≡ true) spots
 
-pub starts_put : (d : DrawingValue) (spots : List Spot) (e : DrawingValue) → with_walk_ends true d spots ≡ Ok e
-    → e ≡ record d { starts = d.starts ++ spots }
-starts_put d [] e is =
-    let same : d ≡ e = cc in
-    sym same ∙ ap (λ (s : List Spot). record d { starts = s }) (sym (append-nil d.starts))
-starts_put d (spot ∷ rest) e is =
-    starts_put (record d { starts = d.starts ++ spot ∷ [] }) rest e
-    (spot_put (not (is_junction d.lines spot)) (list_any (λ (one : Spot). are_connected_spots d.lines one spot) d.starts) _ _
-    (d.starts ++ spot ∷ []) (λ (s : List Spot). record d { starts = s }) (λ (next : DrawingValue). with_walk_ends true next rest) e is)
-    ∙ ap (λ (s : List Spot). record d { starts = s }) (append_assoc d.starts (spot ∷ []) rest)
+module _ (lines : List LineValue) (spots : List Spot) (spot : Spot) where
+  -- A spot that is added is a junction, and the last one.
+  abbrev IsLast : List Spot → Type 0
+  IsLast all = (all ≡ spots ++ spot ∷ []) × All (λ one. is_junction lines one ≡ true) (spot ∷ [])
 
-ends_put : (d : DrawingValue) (spots : List Spot) (e : DrawingValue) → with_walk_ends false d spots ≡ Ok e
-    → e ≡ record d { ends = d.ends ++ spots }
-ends_put d [] e is =
-    let same : d ≡ e = cc in
-    sym same ∙ ap (λ (s : List Spot). record d { ends = s }) (sym (append-nil d.ends))
-ends_put d (spot ∷ rest) e is =
-    ends_put (record d { ends = d.ends ++ spot ∷ [] }) rest e
-    (spot_put (not (is_junction d.lines spot)) (list_any (λ (one : Spot). are_connected_spots d.lines one spot) d.ends) _ _
-    (d.ends ++ spot ∷ []) (λ (s : List Spot). record d { ends = s }) (λ (next : DrawingValue). with_walk_ends false next rest) e is)
-    ∙ ap (λ (s : List Spot). record d { ends = s }) (append_assoc d.ends (spot ∷ []) rest)
+  last_by : (there twice : Bool) (x y : DrawKind) → is_junction lines spot ≡ there
+      → IfOk (if not there then Err x else (if twice then Err y else Ok (spots ++ spot ∷ []))) IsLast
+  last_by false twice x y is = tt
+  last_by true true x y is = tt
+  last_by true false x y is = (refl, All-cons (λ (s : Spot). is_junction lines s ≡ true) spot [] is (All-nil _))
 
--- spots that were added are junctions
-starts_there : (d : DrawingValue) (spots : List Spot) (e : DrawingValue) → with_walk_ends true d spots ≡ Ok e
-    → All (λ spot. is_junction d.lines spot ≡ true) spots
-starts_there d [] e is = All-nil (λ (s : Spot). is_junction d.lines s ≡ true)
-starts_there d (spot ∷ rest) e is =
-    let tested : Bool = list_any (λ (one : Spot). are_connected_spots d.lines one spot) d.starts in
-    let more : DrawingValue → Result DrawingValue DrawKind = λ next. with_walk_ends true next rest in
-    let put : List Spot → DrawingValue = λ s. record d { starts = s } in
-    All-cons (λ (s : Spot). is_junction d.lines s ≡ true) spot rest
-    (spot_there (is_junction d.lines spot) tested _ _ (d.starts ++ spot ∷ []) put more e is)
-    (starts_there (record d { starts = d.starts ++ spot ∷ [] }) rest e
-    (spot_put (not (is_junction d.lines spot)) tested _ _ (d.starts ++ spot ∷ []) put more e is))
+  comes_last : IfOk (spot_added lines spots spot) IsLast
+  comes_last = last_by (is_junction lines spot) (list_any (λ (one : Spot). are_connected_spots lines one spot) spots) _ _ refl
 
-ends_there : (d : DrawingValue) (spots : List Spot) (e : DrawingValue) → with_walk_ends false d spots ≡ Ok e
-    → All (λ spot. is_junction d.lines spot ≡ true) spots
-ends_there d [] e is = All-nil (λ (s : Spot). is_junction d.lines s ≡ true)
-ends_there d (spot ∷ rest) e is =
-    let tested : Bool = list_any (λ (one : Spot). are_connected_spots d.lines one spot) d.ends in
-    let more : DrawingValue → Result DrawingValue DrawKind = λ next. with_walk_ends false next rest in
-    let put : List Spot → DrawingValue = λ s. record d { ends = s } in
-    All-cons (λ (s : Spot). is_junction d.lines s ≡ true) spot rest
-    (spot_there (is_junction d.lines spot) tested _ _ (d.ends ++ spot ∷ []) put more e is)
-    (ends_there (record d { ends = d.ends ++ spot ∷ [] }) rest e
-    (spot_put (not (is_junction d.lines spot)) tested _ _ (d.ends ++ spot ∷ []) put more e is))
+one_put : (is_start : Bool) (d : DrawingValue) (spot : Spot) → IfOk (walk_end_added is_start d spot) (HasSpots is_start d (spot ∷ []))
+one_put true d spot = after_both (IsLast d.lines d.starts spot) (HasSpots true d (spot ∷ [])) (spot_added d.lines d.starts spot)
+    (λ all. Ok (record d { starts = all })) (comes_last d.lines d.starts spot)
+    (λ all last. record { is = ap (λ (s : List Spot). record d { starts = s }) last.0; there = last.1 })
+one_put false d spot = after_both (IsLast d.lines d.ends spot) (HasSpots false d (spot ∷ [])) (spot_added d.lines d.ends spot)
+    (λ all. Ok (record d { ends = all })) (comes_last d.lines d.ends spot)
+    (λ all last. record { is = ap (λ (s : List Spot). record d { ends = s }) last.0; there = last.1 })
 
-all_there : (r : Result DrawingValue DrawKind) (d : DrawingValue) (starts ends : List Spot) (e : DrawingValue)
-    → with_walk_ends true d starts ≡ r → and_then r (λ (started : DrawingValue). with_walk_ends false started ends) ≡ Ok e
-    → All (λ spot. is_junction d.lines spot ≡ true) starts × All (λ spot. is_junction d.lines spot ≡ true) ends
-all_there (Ok started) d starts ends e first second = (
-  starts_there d starts started first,
-  subst (λ (lines : List LineValue). All (λ (s : Spot). is_junction lines s ≡ true) ends)
-      (ap (λ (n : DrawingValue). n.lines) (starts_put d starts started first)) (ends_there started ends e second),
-)
-all_there (Err why) d starts ends e first second = absurd (let no : ⊥ = cc in no)
+lines_stay : (is_start : Bool) (d : DrawingValue) (spots : List Spot) → (with_spots is_start d spots).lines ≡ d.lines
+lines_stay true d spots = refl
+lines_stay false d spots = refl
 
-both_put : (r : Result DrawingValue DrawKind) (d : DrawingValue) (starts ends : List Spot) (e : DrawingValue)
-    → with_walk_ends true d starts ≡ r → and_then r (λ (started : DrawingValue). with_walk_ends false started ends) ≡ Ok e
-    → e ≡ record d { starts = d.starts ++ starts; ends = d.ends ++ ends }
-both_put (Ok started) d starts ends e first second =
-    ends_put started ends e second
-    ∙ ap (λ (s : DrawingValue). record s { ends = s.ends ++ ends }) (starts_put d starts started first)
-both_put (Err why) d starts ends e first second = absurd (let no : ⊥ = cc in no)
+one_more : (is_start : Bool) (d : DrawingValue) (spot : Spot) (rest : List Spot)
+    → with_spots is_start (with_spots is_start d (spot ∷ [])) rest ≡ with_spots is_start d (spot ∷ rest)
+one_more true d spot rest = ap (λ (s : List Spot). record d { starts = s }) (append_assoc d.starts (spot ∷ []) rest)
+one_more false d spot rest = ap (λ (s : List Spot). record d { ends = s }) (append_assoc d.ends (spot ∷ []) rest)
 
--- the joined drawing has the sections of the drawn lines, with these starts and ends
-pub record IsJoinedWith (drawn joined : DrawingValue) (starts ends : List Spot) : Type 0 where
-  pub whole : joined_drawing (record drawn { starts = joined.starts; ends = joined.ends }) ≡ Ok joined
+none_more : (is_start : Bool) (d : DrawingValue) → with_spots is_start d [] ≡ d
+none_more true d = ap (λ (s : List Spot). record d { starts = s }) (append-nil d.starts)
+none_more false d = ap (λ (s : List Spot). record d { ends = s }) (append-nil d.ends)
+
+-- All further starts or ends are put after those before.
+pub spots_put : (is_start : Bool) (spots : List Spot) (d : DrawingValue)
+    → IfOk (with_walk_ends is_start d spots) (HasSpots is_start d spots)
+spots_put is_start [] d = record { is = sym (none_more is_start d); there = All-nil _ }
+spots_put is_start (spot ∷ rest) d =
+    after_both (HasSpots is_start d (spot ∷ [])) (HasSpots is_start d (spot ∷ rest)) (walk_end_added is_start d spot)
+    (λ next. with_walk_ends is_start next rest) (one_put is_start d spot)
+    (λ next one. IfOk-weaker (with_walk_ends is_start next rest) (HasSpots is_start next rest) (HasSpots is_start d (spot ∷ rest))
+    (λ e more. record {
+      is = more.is ∙ ap (λ (n : DrawingValue). with_spots is_start n rest) one.is ∙ one_more is_start d spot rest;
+      there = All-cons (λ (s : Spot). is_junction d.lines s ≡ true) spot rest one.there.0
+          (subst (λ (ls : List LineValue). All (λ (s : Spot). is_junction ls s ≡ true) rest)
+          (ap (λ (n : DrawingValue). n.lines) one.is ∙ lines_stay is_start d (spot ∷ [])) more.there);
+    }) (spots_put is_start rest next))
+
+-- A drawing that got starts and ends, each of which is a junction.
+pub record HasBoth (whole : DrawingValue) (starts ends : List Spot) (e : DrawingValue) : Type 0 where
+  pub is : e ≡ record whole { starts = starts; ends = ends }
+  pub starts_there : All (λ spot. is_junction whole.lines spot ≡ true) starts
+  pub ends_there : All (λ spot. is_junction whole.lines spot ≡ true) ends
+
+pub both_put : (whole : DrawingValue) (starts ends : List Spot) → HasNoEnds whole
+    → IfOk (with_starts_and_ends whole starts ends) (HasBoth whole starts ends)
+both_put whole starts ends none =
+    after_both (HasSpots true whole starts) (HasBoth whole starts ends) (with_walk_ends true whole starts)
+    (λ s. with_walk_ends false s ends) (spots_put true starts whole)
+    (λ s first. IfOk-weaker (with_walk_ends false s ends) (HasSpots false s ends) (HasBoth whole starts ends)
+    (λ e second. record {
+      is = second.is ∙ ap (λ (d : DrawingValue). with_spots false d ends) first.is
+          ∙ ap (λ (ss : List Spot). record whole { starts = ss ++ starts; ends = whole.ends ++ ends }) none.starts
+          ∙ ap (λ (es : List Spot). record whole { starts = starts; ends = es ++ ends }) none.ends;
+      starts_there = first.there;
+      ends_there = subst (λ (ls : List LineValue). All (λ (p : Spot). is_junction ls p ≡ true) ends)
+          (ap (λ (d : DrawingValue). d.lines) first.is) second.there;
+    }) (spots_put false ends s))
+
+-- The joined drawing has starts and ends that are junctions of the given sections, and the call joins it as it is.
+pub record IsJoinedWith (join : (starts ends : List Spot) → Result DrawingValue DrawKind) (sections : List LineValue)
+    (starts ends : List Spot) (joined : DrawingValue) : Type 0 where
+  pub whole : join joined.starts joined.ends ≡ Ok joined
   pub starts_are : joined.starts ≡ starts
   pub ends_are : joined.ends ≡ ends
+  pub starts_there : All (λ spot. is_junction sections spot ≡ true) starts
+  pub ends_there : All (λ spot. is_junction sections spot ≡ true) ends
 
-joined_by : (a b : Bool) (drawn e : DrawingValue) (starts ends : List Spot) (x y : DrawKind) (sections : List LineValue) → HasNoEnds drawn
-    → and_then (if a then Err x else (if b then Err y else Ok (record drawn { lines = sections })))
-    (λ (whole : DrawingValue). with_starts_and_ends whole starts ends) ≡ Ok e
-    → ((if a then Err x else (if b then Err y else Ok (record drawn { lines = sections; starts = e.starts; ends = e.ends }))) ≡ Ok e)
-    × (e.starts ≡ starts) × (e.ends ≡ ends)
-joined_by true b drawn e starts ends x y sections none is = absurd (let no : ⊥ = cc in no)
-joined_by false true drawn e starts ends x y sections none is = absurd (let no : ⊥ = cc in no)
-joined_by false false drawn e starts ends x y sections none is =
-    let whole : DrawingValue = record drawn { lines = sections } in
-    let same = both_put (with_walk_ends true whole starts) whole starts ends e refl is in (
-      ap (λ (d : DrawingValue). Ok (record drawn { lines = sections; starts = d.starts; ends = d.ends })) same
-          ∙ ap (λ (d : DrawingValue). Ok d) (sym same),
-      ap (λ (d : DrawingValue). d.starts) same ∙ ap (λ (s : List Spot). s ++ starts) none.starts,
-      ap (λ (d : DrawingValue). d.ends) same ∙ ap (λ (s : List Spot). s ++ ends) none.ends,
-    )
+module _ (drawn : DrawingValue) (sections : List LineValue) (starts ends : List Spot) (none : HasNoEnds drawn) (x y : DrawKind) where
+  abbrev joined_if : (many long : Bool) → (starts ends : List Spot) → Result DrawingValue DrawKind
+  joined_if many long s e = if many then Err x else (if long then Err y
+      else Ok (record drawn { lines = sections; starts = s; ends = e }))
 
+  joined_by : (many long : Bool) → IfOk (and_then (joined_if many long drawn.starts drawn.ends)
+      (λ (whole : DrawingValue). with_starts_and_ends whole starts ends)) (IsJoinedWith (joined_if many long) sections starts ends)
+  joined_by true long = tt
+  joined_by false true = tt
+  joined_by false false =
+      let whole : DrawingValue = record drawn { lines = sections } in
+      let Is : DrawingValue → Type 0 = IsJoinedWith (joined_if false false) sections starts ends in
+      IfOk-weaker (with_starts_and_ends whole starts ends) (HasBoth whole starts ends) Is
+      (λ e put. subst Is (sym put.is) (record {
+        whole = refl;
+        starts_are = refl;
+        ends_are = refl;
+        starts_there = put.starts_there;
+        ends_there = put.ends_there;
+      })) (both_put whole starts ends (record { starts = none.starts; ends = none.ends }))
+
+-- Drawn lines that were joined with starts and ends have these and their own sections.
 pub joined_with : (drawn joined : DrawingValue) (starts ends : List Spot) → HasNoEnds drawn
     → and_then (joined_drawing drawn) (λ (whole : DrawingValue). with_starts_and_ends whole starts ends) ≡ Ok joined
-    → IsJoinedWith drawn joined starts ends
+    → IsJoinedWith (λ s e. joined_drawing (record drawn { starts = s; ends = e })) (all_sections drawn.lines) starts ends joined
 joined_with drawn joined starts ends none is =
-    let parts = joined_by (nat_lt 1024 (length (all_sections drawn.lines))) (nat_lt 65536 (point_count (all_sections drawn.lines)))
-    drawn joined starts ends _ _ (all_sections drawn.lines) none is in
-    record { whole = parts.0; starts_are = parts.1; ends_are = parts.2 }
-
--- the starts and ends are junctions of the sections
-there_by : (a b : Bool) (drawn e : DrawingValue) (starts ends : List Spot) (x y : DrawKind) (sections : List LineValue)
-    → and_then (if a then Err x else (if b then Err y else Ok (record drawn { lines = sections })))
-    (λ (whole : DrawingValue). with_starts_and_ends whole starts ends) ≡ Ok e
-    → All (λ spot. is_junction sections spot ≡ true) starts × All (λ spot. is_junction sections spot ≡ true) ends
-there_by true b drawn e starts ends x y sections is = absurd (let no : ⊥ = cc in no)
-there_by false true drawn e starts ends x y sections is = absurd (let no : ⊥ = cc in no)
-there_by false false drawn e starts ends x y sections is =
-    let whole : DrawingValue = record drawn { lines = sections } in
-    all_there (with_walk_ends true whole starts) whole starts ends e refl is
-
-pub joined_there : (drawn joined : DrawingValue) (starts ends : List Spot)
-    → and_then (joined_drawing drawn) (λ (whole : DrawingValue). with_starts_and_ends whole starts ends) ≡ Ok joined
-    → All (λ spot. is_junction (all_sections drawn.lines) spot ≡ true) starts
-    × All (λ spot. is_junction (all_sections drawn.lines) spot ≡ true) ends
-joined_there drawn joined starts ends is =
-    there_by (nat_lt 1024 (length (all_sections drawn.lines))) (nat_lt 65536 (point_count (all_sections drawn.lines)))
-    drawn joined starts ends _ _ (all_sections drawn.lines) is
+    let sections : List LineValue = all_sections drawn.lines in
+    let many : Bool = nat_lt MAX_LINES (length sections) in
+    let long : Bool = nat_lt MAX_POINTS (point_count sections) in
+    IfOk-at_ok _ is (joined_by drawn sections starts ends none kind.TooManyLines kind.TooManyPoints many long)

@@ -63,8 +63,7 @@ fn set_step(alloc: Global, d: &Drawing, step: u32) -> Result<Drawing, EditFault>
         (edit_answer (redrawn (record d.now { step = step }))) result }
     ensures joined { IfOk result (λ new. is_joined new ≡ true) }
 {
-    let new = redraw(alloc, d, step, d.lines(), d.starts(), d.ends())?;
-    Ok(new)
+    redraw(alloc, d, step, d.lines(), d.starts(), d.ends())
 }
 
 /// Returns the drawing after a motion of its points.
@@ -78,13 +77,12 @@ fn move_drawing(alloc: Global, d: &Drawing, motion: Motion) -> Result<Drawing, E
     let lines = moved_lines(alloc, d.lines(), motion)?;
     let starts = moved_spots(alloc, d.starts(), motion)?;
     let ends = moved_spots(alloc, d.ends(), motion)?;
-    let new = redraw(
+    redraw(
         alloc,
         d,
         d.step(),
         lines.as_slice(),
         starts.as_slice(),
         ends.as_slice(),
-    )?;
-    Ok(new)
+    )
 }

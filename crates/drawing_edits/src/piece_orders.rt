@@ -86,18 +86,17 @@ fn order_pieces(
         return Err(EditFault::OtherBlock);
     }
     if first < second {
-        return draw_from(alloc, d, d.lines());
+        return redraw(alloc, d, d.step(), d.lines(), d.starts(), d.ends());
     }
     let lines = lines_with(alloc, d, one.lines.as_slice(), first_of(other))?;
-    draw_from(alloc, d, lines.as_slice())
-}
-
-fn draw_from(alloc: Global, d: &Drawing, lines: &[Line]) -> Result<Drawing, EditFault>
-    ensures answer { IsSpecified edit_is_out_of_memory (drawn_from d.now lines.now) result }
-    ensures joined { IfOk result (λ new. is_joined new ≡ true) }
-{
-    let new = redraw(alloc, d, d.step(), lines, d.starts(), d.ends())?;
-    Ok(new)
+    redraw(
+        alloc,
+        d,
+        d.step(),
+        lines.as_slice(),
+        d.starts(),
+        d.ends(),
+    )
 }
 
 fn first_of(piece: &Piece) -> u32

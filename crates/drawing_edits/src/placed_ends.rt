@@ -40,28 +40,24 @@ fn put_end(alloc: Global, d: &Drawing, is_start: bool, spot: Spot) -> Result<Dra
     let lines = cut_lines(alloc, d.lines(), spot)?;
     if is_start {
         let starts = with_one_more(alloc, d.starts(), spot)?;
-        return draw_again(alloc, d, lines.as_slice(), starts.as_slice(), d.ends());
+        return redraw(
+            alloc,
+            d,
+            d.step(),
+            lines.as_slice(),
+            starts.as_slice(),
+            d.ends(),
+        );
     }
     let ends = with_one_more(alloc, d.ends(), spot)?;
-    draw_again(alloc, d, lines.as_slice(), d.starts(), ends.as_slice())
-}
-
-fn draw_again(
-    alloc: Global,
-    d: &Drawing,
-    lines: &[Line],
-    starts: &[Spot],
-    ends: &[Spot],
-) -> Result<Drawing, EditFault>
-    ensures answer { IsSpecified edit_is_out_of_memory (edit_answer (redrawn (record d.now {
-      lines = lines.now;
-      starts = starts.now;
-      ends = ends.now;
-    }))) result }
-    ensures joined { IfOk result (λ new. is_joined new ≡ true) }
-{
-    let new = redraw(alloc, d, d.step(), lines, starts, ends)?;
-    Ok(new)
+    redraw(
+        alloc,
+        d,
+        d.step(),
+        lines.as_slice(),
+        d.starts(),
+        ends.as_slice(),
+    )
 }
 
 /// Returns spots and one more, which comes after those of its block and of earlier blocks.
@@ -80,14 +76,10 @@ fn first_of_later_block(spots: &[Spot], block: u32) -> usize
     ensures value { result ≡ position_or_len (λ one. nat_lt block one.block) spots.now }
     ensures most { result ≤ length spots.now }
 {
-    let mut index = 0;
-    for one in spots {
-        if block < one.block {
-            return index;
-        }
-        index += 1;
+    match spots.iter().position(|one| block < one.block) {
+        Some(index) => index,
+        None => spots.len(),
     }
-    index
 }
 
 /// Returns the block whose lines list a point. Errors: `NoJunction` where no line does, `TwoBlocks`.
@@ -133,10 +125,5 @@ fn block_if_only(lines: &[Line], at: Point, block: u32) -> Result<u32, EditFault
 fn lists(points: &[Point], at: Point) -> bool
     ensures { result ≡ list_any (is_same_point at) points.now }
 {
-    for p in points {
-        if at == *p {
-            return true;
-        }
-    }
-    false
+    points.contains(&at)
 }

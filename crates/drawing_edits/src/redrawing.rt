@@ -1,5 +1,6 @@
 ghost use Rattle.std.specs.Prelude.{◌≡◌, ◌≤◌, ◌==◌, IfOk, Ok, length, true};
 ghost use Rattle.lists_and_numbers.specs.OutOfMemory.{IsSpecified};
+ghost use Rattle.drawing_edits.specs.EditFaults.{edit_answer, edit_is_out_of_memory};
 ghost use Rattle.drawing_edits.specs.RedrawnDrawings.{AddsAsSpecified, drawn_lines, line_added_if, redrawn, with_blocks, with_lines_of, with_starts_and_ends, with_walk_ends};
 ghost use Rattle.drawing_model.specs.declared.limits.TheConstants.{MAX_BLOCKS};
 ghost use Rattle.drawing_model.specs.GrowingDrawings.{ChangesAsSpecified, and_then, block_added, draw_is_out_of_memory};
@@ -7,6 +8,7 @@ ghost use Rattle.drawing_model.specs.JoinedDrawings.{is_joined, joined_drawing};
 ghost use Rattle.drawing_model.specs.WalkEnds.{HasNoEnds, walk_end_added};
 ghost use Rattle.step_splitter.specs.declared.segment.TheConstants.{MAX_STEP};
 
+use crate::edit_fault::EditFault;
 use design_model::Points;
 use drawing_model::{DrawKind, Drawing, DrawingMaker, Line, Spot, join};
 use line_graph::EndsMaker;
@@ -15,6 +17,28 @@ use std::alloc::Global;
 /// Returns the joined drawing that has the label and the threads of a drawing, and the given longest step, in
 /// tenths of a millimetre, lines, starts and ends; or the first fault of these; or `Memory`.
 pub fn redraw(
+    alloc: Global,
+    d: &Drawing,
+    step: u32,
+    lines: &[Line],
+    starts: &[Spot],
+    ends: &[Spot],
+) -> Result<Drawing, EditFault>
+    requires low { 1 ≤ step }
+    requires high { step ≤ MAX_STEP }
+    ensures answer { IsSpecified edit_is_out_of_memory (edit_answer (redrawn (record d.now {
+      step = step;
+      lines = lines.now;
+      starts = starts.now;
+      ends = ends.now;
+    }))) result }
+    ensures joined { IfOk result (λ new. is_joined new ≡ true) }
+{
+    let new = draw(alloc, d, step, lines, starts, ends)?;
+    Ok(new)
+}
+
+fn draw(
     alloc: Global,
     d: &Drawing,
     step: u32,

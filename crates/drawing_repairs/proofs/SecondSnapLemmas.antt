@@ -30,7 +30,7 @@ use Rattle.drawing_repairs.specs.Listings.{listed_line, listed_lines}
 use Rattle.drawing_repairs.specs.MovedLines.{block_anchors, changed_in, moved_line, moved_lines, vanished_from}
 use Rattle.drawing_repairs.specs.SecondSnaps.{SnappedDrawingsStay}
 use Rattle.drawing_repairs.specs.Snaps.{joined_snap, kept_lines, snap_of, snap_value, snapped_lines, unless_vanished, within_limits}
-use Rattle.drawing_edits.proofs.CallerLemmas.{joined_there, joined_with}
+use Rattle.drawing_edits.proofs.CallerLemmas.{joined_with}
 use Rattle.drawing_repairs.proofs.SnappedLinesLemmas.{none_moves, nothing_changes, snapped_points_stay, twice_is_once}
 use Rattle.design_model.proofs.CallerLemmas.{same_is}
 use Rattle.lists_and_numbers.proofs.CallerLemmas.{all_left, all_right}
@@ -232,18 +232,17 @@ second_snap drawn_as gap d starts ends moved drawn joined keeps kept made joins 
     let joins_are = limited (and_then (joined_drawing drawn) (λ (whole : DrawingValue).
     with_starts_and_ends whole (anchored_spots gap d.lines starts) (anchored_spots gap d.lines ends))) joined joins in
     let with_spots = joined_with drawn joined (anchored_spots gap d.lines starts) (anchored_spots gap d.lines ends) none joins_are in
-    let junctions = joined_there drawn joined (anchored_spots gap d.lines starts) (anchored_spots gap d.lines ends) joins_are in
     let Junctions : List LineValue → List Spot → Type 0 = λ ls spots. All (λ (s : Spot). is_junction (all_sections ls) s ≡ true) spots in
     let starts_stay : anchored_spots gap drawn.lines joined.starts ≡ joined.starts =
     subst (λ (ls : List LineValue). anchored_spots gap ls joined.starts ≡ joined.starts) (sym lines_are)
     (spots_stay gap d.lines lines joined.starts once
     (subst (λ (ls : List LineValue). Junctions ls joined.starts) lines_are
-    (subst (Junctions drawn.lines) (sym with_spots.starts_are) junctions.0))) in
+    (subst (Junctions drawn.lines) (sym with_spots.starts_are) with_spots.starts_there))) in
     let ends_stay : anchored_spots gap drawn.lines joined.ends ≡ joined.ends =
     subst (λ (ls : List LineValue). anchored_spots gap ls joined.ends ≡ joined.ends) (sym lines_are)
     (spots_stay gap d.lines lines joined.ends once
     (subst (λ (ls : List LineValue). Junctions ls joined.ends) lines_are
-    (subst (Junctions drawn.lines) (sym with_spots.ends_are) junctions.1))) in
+    (subst (Junctions drawn.lines) (sym with_spots.ends_are) with_spots.ends_there))) in
     let same_joined : joined_snap drawn (anchored_spots gap drawn.lines joined.starts) (anchored_spots gap drawn.lines joined.ends)
     ≡ Ok joined =
     ap₂ (λ (s e : List Spot). joined_snap drawn s e) (starts_stay ∙ with_spots.starts_are) (ends_stay ∙ with_spots.ends_are) ∙ joins in

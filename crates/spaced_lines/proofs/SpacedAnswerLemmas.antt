@@ -4,6 +4,7 @@ use Rattle.std.proofs.lemmas.Bool.Decides.{nat_tests}
 use Rattle.std.proofs.lemmas.List.{length-append, length-map}
 use Rattle.std.proofs.lemmas.List.Elements.{All-head, All-tail, All-weaker}
 use Rattle.std.proofs.lemmas.List.Sums.{sum_by-append, sum_by-cons}
+use Rattle.std.proofs.lemmas.Result.{IfOk-at_ok}
 use Rattle.std.specs.List.{flat_map, list_any}
 use Rattle.design_model.specs.declared.point.Point.{Point}
 use Rattle.design_model.specs.Points.{is_same_point}
@@ -23,7 +24,7 @@ use Rattle.spaced_lines.specs.SpacedAnswers.{SpacedLinesKeepLimits, SpacingRefus
 use Rattle.spaced_lines.specs.SpacedDrawings.{spaced_and_joined}
 use Rattle.spaced_lines.specs.SpacedLines.{spaced_line, spaced_lines}
 use Rattle.spaced_lines.specs.SpacingLaws.{SectionsKeepEnds}
-use Rattle.drawing_edits.proofs.CallerLemmas.{starts_put}
+use Rattle.drawing_edits.proofs.CallerLemmas.{HasSpots, spots_put}
 use Rattle.spaced_lines.proofs.SpacedLimitLemmas.{points_less}
 use Rattle.lists_and_numbers.proofs.CallerLemmas.{and_false}
 
@@ -145,57 +146,46 @@ module _ (lines other : List LineValue) (same : map end_spots other ≡ map end_
   relined (Ok d) = Ok (record d { lines = other })
   relined (Err why) = Err why
 
-  starts_same : (spots : List Spot) (d : DrawingValue)
-      → with_walk_ends true (record d { lines = other }) spots ≡ relined (with_walk_ends true (record d { lines = lines }) spots)
-  starts_same [] d = refl
-  starts_same (spot ∷ rest) d =
-      ap (λ (r : Result (List Spot) DrawKind). and_then (and_then r (λ (s : List Spot). Ok (record d { lines = other; starts = s })))
-      (λ (next : DrawingValue). with_walk_ends true next rest)) (added_same d.starts spot)
-      ∙ by_added (spot_added lines d.starts spot) (λ s. starts_same rest (record d { starts = s }))
-    where
-      by_added : (r : Result (List Spot) DrawKind)
-          → ((s : List Spot) → with_walk_ends true (record d { lines = other; starts = s }) rest
-          ≡ relined (with_walk_ends true (record d { lines = lines; starts = s }) rest))
-          → and_then (and_then r (λ (s : List Spot). Ok (record d { lines = other; starts = s })))
-          (λ (next : DrawingValue). with_walk_ends true next rest)
-          ≡ relined (and_then (and_then r (λ (s : List Spot). Ok (record d { lines = lines; starts = s })))
-          (λ (next : DrawingValue). with_walk_ends true next rest))
-      by_added (Ok s) later = later s
-      by_added (Err why) later = refl
+  added_by : (r : Result (List Spot) DrawKind) (mine given : List Spot → DrawingValue)
+      → (more : DrawingValue → Result DrawingValue DrawKind) → ((s : List Spot) → more (mine s) ≡ relined (more (given s)))
+      → and_then (and_then r (λ (s : List Spot). Ok (mine s))) more
+      ≡ relined (and_then (and_then r (λ (s : List Spot). Ok (given s))) more)
+  added_by (Ok s) mine given more later = later s
+  added_by (Err why) mine given more later = refl
 
-  ends_same : (spots : List Spot) (d : DrawingValue)
-      → with_walk_ends false (record d { lines = other }) spots ≡ relined (with_walk_ends false (record d { lines = lines }) spots)
-  ends_same [] d = refl
-  ends_same (spot ∷ rest) d =
-      ap (λ (r : Result (List Spot) DrawKind). and_then (and_then r (λ (s : List Spot). Ok (record d { lines = other; ends = s })))
-      (λ (next : DrawingValue). with_walk_ends false next rest)) (added_same d.ends spot)
-      ∙ by_added (spot_added lines d.ends spot) (λ s. ends_same rest (record d { ends = s }))
-    where
-      by_added : (r : Result (List Spot) DrawKind)
-          → ((s : List Spot) → with_walk_ends false (record d { lines = other; ends = s }) rest
-          ≡ relined (with_walk_ends false (record d { lines = lines; ends = s }) rest))
-          → and_then (and_then r (λ (s : List Spot). Ok (record d { lines = other; ends = s })))
-          (λ (next : DrawingValue). with_walk_ends false next rest)
-          ≡ relined (and_then (and_then r (λ (s : List Spot). Ok (record d { lines = lines; ends = s })))
-          (λ (next : DrawingValue). with_walk_ends false next rest))
-      by_added (Ok s) later = later s
-      by_added (Err why) later = refl
+  walks_same : (is_start : Bool) (spots : List Spot) (d : DrawingValue)
+      → with_walk_ends is_start (record d { lines = other }) spots
+      ≡ relined (with_walk_ends is_start (record d { lines = lines }) spots)
+  walks_same is_start [] d = refl
+  walks_same true (spot ∷ rest) d =
+      let mine : List Spot → DrawingValue = λ s. record d { lines = other; starts = s } in
+      let more : DrawingValue → Result DrawingValue DrawKind = λ next. with_walk_ends true next rest in
+      ap (λ (r : Result (List Spot) DrawKind). and_then (and_then r (λ (s : List Spot). Ok (mine s))) more) (added_same d.starts spot)
+      ∙ added_by (spot_added lines d.starts spot) mine (λ s. record d { lines = lines; starts = s }) more
+      (λ s. walks_same true rest (record d { starts = s }))
+  walks_same false (spot ∷ rest) d =
+      let mine : List Spot → DrawingValue = λ s. record d { lines = other; ends = s } in
+      let more : DrawingValue → Result DrawingValue DrawKind = λ next. with_walk_ends false next rest in
+      ap (λ (r : Result (List Spot) DrawKind). and_then (and_then r (λ (s : List Spot). Ok (mine s))) more) (added_same d.ends spot)
+      ∙ added_by (spot_added lines d.ends spot) mine (λ s. record d { lines = lines; ends = s }) more
+      (λ s. walks_same false rest (record d { ends = s }))
 
   -- so a drawing with the other lines takes starts and ends where the drawing takes them
   both_same : (d joined : DrawingValue) (starts ends : List Spot)
       → with_starts_and_ends (record d { lines = lines }) starts ends ≡ Ok joined
       → with_starts_and_ends (record d { lines = other }) starts ends ≡ Ok (record joined { lines = other })
   both_same d joined starts ends is =
-      ap (λ (r : Result DrawingValue DrawKind). and_then r (λ (s : DrawingValue). with_walk_ends false s ends)) (starts_same starts d)
+      ap (λ (r : Result DrawingValue DrawKind). and_then r (λ (s : DrawingValue). with_walk_ends false s ends)) (walks_same true starts d)
       ∙ by_started (with_walk_ends true (record d { lines = lines }) starts) refl is
     where
       by_started : (r : Result DrawingValue DrawKind) → with_walk_ends true (record d { lines = lines }) starts ≡ r
           → and_then r (λ (s : DrawingValue). with_walk_ends false s ends) ≡ Ok joined
           → and_then (relined r) (λ (s : DrawingValue). with_walk_ends false s ends) ≡ Ok (record joined { lines = other })
       by_started (Ok e) first later =
-          let put : e ≡ record d { lines = lines; starts = d.starts ++ starts } = starts_put (record d { lines = lines }) starts e first in
+          let whole : DrawingValue = record d { lines = lines } in
+          let put = (IfOk-at_ok (HasSpots true whole starts) first (spots_put true starts whole)).is in
           ap (λ (s : DrawingValue). with_walk_ends false (record s { lines = other }) ends) put
-          ∙ ends_same ends (record d { starts = d.starts ++ starts })
+          ∙ walks_same false ends (record d { starts = d.starts ++ starts })
           ∙ ap (λ (s : DrawingValue). relined (with_walk_ends false s ends)) (sym put)
           ∙ ap relined later
       by_started (Err why) first later = absurd (let no : ⊥ = cc in no)
