@@ -14,5 +14,6 @@ pub mod JoinedDrawings
 pub mod WalkEnds
 pub mod EndOrders
 -- The maker of drawings, and that growing drawings keep their limits.
+pub mod DrawingsOfParts
 pub mod DrawingMakerInvariants
 pub mod GrowingLimits

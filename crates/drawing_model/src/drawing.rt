@@ -1,6 +1,7 @@
 ghost use Rattle.std.specs.Prelude.{◌≡◌, ◌<◌, ◌≤◌, IfOk, length, slice_index};
 ghost use Rattle.drawing_model.specs.declared.limits.TheConstants.{MAX_LINES};
 
+use crate::drawing_parts::DrawingParts;
 use crate::limits::MAX_BLOCKS;
 use arrayvec::ArrayVec;
 use design_model::{MAX_LABEL, Point};
@@ -15,78 +16,33 @@ use std::marker::Model;
 /// piece may have a start and an end: junctions where its walk must start and end.
 #[derive(Drop)]
 pub struct Drawing {
-    label: ArrayVec<u8, MAX_LABEL>,
-    step: u32,
-    threads: ArrayVec<u8, MAX_BLOCKS>,
-    lines: Vec<Line>,
-    starts: Vec<Spot>,
-    ends: Vec<Spot>,
+    parts: DrawingParts,
 }
 
 impl Model for Drawing {
     ghost use Rattle.drawing_model.specs.Drawings.{DrawingValue};
+    ghost use Rattle.drawing_model.specs.DrawingsOfParts.{drawing_of_parts};
     ghost use Rattle.drawing_model.specs.WalkEnds.{IsValidDrawing};
 
     ghost Value = { DrawingValue };
 
-    ghost view = { λ d. record {
-      label = d.label.items;
-      step = d.step;
-      threads = d.threads.items;
-      lines = d.lines.items;
-      starts = d.starts.items;
-      ends = d.ends.items;
-    } };
+    ghost view = { λ d. drawing_of_parts d.parts };
 
-    ghost invariant = { λ d. IsValidDrawing (record {
-      label = d.label.items;
-      step = d.step;
-      threads = d.threads.items;
-      lines = d.lines.items;
-      starts = d.starts.items;
-      ends = d.ends.items;
-    }) };
+    ghost invariant = { λ d. IsValidDrawing (drawing_of_parts d.parts) };
 }
 
 impl Drawing {
     ghost use Rattle.design_model.specs.Labels.{IsLabel};
     ghost use Rattle.drawing_model.specs.Drawings.{KeepsDrawingLimits, points_of, block_of};
+    ghost use Rattle.drawing_model.specs.DrawingsOfParts.{drawing_of_parts};
     ghost use Rattle.drawing_model.specs.WalkEnds.{IsValidDrawing, HasValidEnds};
 
     /// Returns the drawing with the given parts.
-    pub(crate) fn of_parts(
-        label: ArrayVec<u8, MAX_LABEL>,
-        step: u32,
-        threads: ArrayVec<u8, MAX_BLOCKS>,
-        lines: Vec<Line>,
-        starts: Vec<Spot>,
-        ends: Vec<Spot>,
-    ) -> Drawing
-        requires { IsValidDrawing (record {
-          label = label.items;
-          step = step;
-          threads = threads.items;
-          lines = lines.items;
-          starts = starts.items;
-          ends = ends.items;
-        }) }
-        ensures { result ≡ record {
-          label = label.items;
-          step = step;
-          threads = threads.items;
-          lines = lines.items;
-          starts = starts.items;
-          ends = ends.items;
-        } }
+    pub(crate) fn of_parts(parts: DrawingParts) -> Drawing
+        requires { IsValidDrawing (drawing_of_parts parts) }
+        ensures { result ≡ drawing_of_parts parts }
     {
-        Drawing {
-            label,
-            step,
-            threads,
-            lines,
-            starts,
-            ends,
-        }
+        Drawing { parts }
     }
 
     /// Returns a copy of the drawing with other lines.
@@ -95,14 +51,18 @@ impl Drawing {
         ensures { IfOk result (λ d. d ≡ record self.now { lines = lines.items }) }
     {
         let mut label: ArrayVec<u8, MAX_LABEL> = ArrayVec::new();
-        label.try_extend_from_slice(self.label.as_slice()).unwrap();
+        label.try_extend_from_slice(self.label()).unwrap();
         let mut threads: ArrayVec<u8, MAX_BLOCKS> = ArrayVec::new();
-        threads
-            .try_extend_from_slice(self.threads.as_slice())
-            .unwrap();
-        let starts = copied(alloc, self.starts.as_slice())?;
-        let ends = copied(alloc, self.ends.as_slice())?;
-        Ok(Drawing::of_parts(label, self.step, threads, lines, starts, ends))
+        threads.try_extend_from_slice(self.threads()).unwrap();
+        let parts = DrawingParts {
+            label,
+            step: self.parts.step,
+            threads,
+            lines,
+            starts: copied(alloc, self.starts())?,
+            ends: copied(alloc, self.ends())?,
+        };
+        Ok(Drawing::of_parts(parts))
     }
 
     /// Returns the drawing with other starts and ends.
@@ -110,14 +70,12 @@ impl Drawing {
         requires { IsValidDrawing (record self { starts = starts.items; ends = ends.items }) }
         ensures { result ≡ record self { starts = starts.items; ends = ends.items } }
     {
-        let Drawing {
-            label,
-            step,
-            threads,
-            lines,
-            ..
-        } = self;
-        Drawing::of_parts(label, step, threads, lines, starts, ends)
+        let Drawing { parts } = self;
+        Drawing::of_parts(DrawingParts {
+            starts,
+            ends,
+            ..parts
+        })
     }
 
     /// Theorem: a drawing is within its limits. A function whose proof needs this calls it.
@@ -134,7 +92,7 @@ impl Drawing {
         ensures limits { KeepsDrawingLimits self.now }
         ensures ends { HasValidEnds self.now }
     {
-        self.step
+        self.parts.step
     }
 
     /// Returns the label, which may be empty.
@@ -142,7 +100,7 @@ impl Drawing {
         ensures value { result.now ≡ self.now.label }
         ensures limits { IsLabel result.now }
     {
-        self.label.as_slice()
+        self.parts.label.as_slice()
     }
 
     /// Returns the thread numbers of the blocks.
@@ -150,28 +108,28 @@ impl Drawing {
         ensures value { result.now ≡ self.now.threads }
         ensures most { length result.now ≤ MAX_BLOCKS }
     {
-        self.threads.as_slice()
+        self.parts.threads.as_slice()
     }
 
     /// Returns the lines in order.
     pub fn lines(&self) -> &[Line]
         ensures { result.now ≡ self.now.lines }
     {
-        self.lines.as_slice()
+        self.parts.lines.as_slice()
     }
 
     /// Returns the junctions where walks must start, at most one in each piece.
     pub fn starts(&self) -> &[Spot]
         ensures { result.now ≡ self.now.starts }
     {
-        self.starts.as_slice()
+        self.parts.starts.as_slice()
     }
 
     /// Returns the junctions where walks must end, at most one in each piece.
     pub fn ends(&self) -> &[Spot]
         ensures { result.now ≡ self.now.ends }
     {
-        self.ends.as_slice()
+        self.parts.ends.as_slice()
     }
 
     /// Returns the number of lines.
@@ -179,7 +137,7 @@ impl Drawing {
         ensures value { result ≡ length self.now.lines }
         ensures most { result ≤ MAX_LINES }
     {
-        self.lines.len() as u32
+        self.parts.lines.len() as u32
     }
 
     /// Returns the number of blocks.
@@ -188,7 +146,7 @@ impl Drawing {
         ensures least { 1 ≤ result }
         ensures most { result ≤ MAX_BLOCKS }
     {
-        self.threads.len() as u32
+        self.parts.threads.len() as u32
     }
 
     /// Returns the thread number of a block.
@@ -196,7 +154,7 @@ impl Drawing {
         requires { block < length self.now.threads }
         ensures { result ≡ slice_index self.now.threads block }
     {
-        self.threads.as_slice()[block as usize]
+        self.parts.threads.as_slice()[block as usize]
     }
 
     /// Returns the points of a line, in tenths of a millimetre.
@@ -204,7 +162,7 @@ impl Drawing {
         requires { line < length self.now.lines }
         ensures { result.now ≡ points_of self.now line }
     {
-        self.lines[line as usize].points()
+        self.parts.lines[line as usize].points()
     }
 
     /// Returns the index of a line's block.
@@ -213,7 +171,7 @@ impl Drawing {
         ensures value { result ≡ block_of self.now line }
         ensures there { result < length self.now.threads }
     {
-        self.lines[line as usize].block()
+        self.parts.lines[line as usize].block()
     }
 }
 

@@ -11,11 +11,12 @@ ghost use Rattle.drawing_model.specs.WalkEnds.{HasNoEnds};
 
 use crate::draw_kind::DrawKind;
 use crate::drawing::Drawing;
+use crate::drawing_parts::DrawingParts;
 use crate::limits::{MAX_BLOCKS, MAX_COST, MAX_LINES, MAX_POINTS};
 use crate::line_shape::{are_in_range, has_repeat, line_steps};
 use arrayvec::ArrayVec;
 use design_model::{MAX_LABEL, Point, Points};
-use line_sections::{Line, Spot};
+use line_sections::Line;
 use std::alloc::Global;
 use std::marker::Model;
 
@@ -25,40 +26,22 @@ use std::marker::Model;
 /// block has a line.
 #[derive(Drop)]
 pub struct DrawingMaker {
-    label: ArrayVec<u8, MAX_LABEL>,
-    step: u32,
-    threads: ArrayVec<u8, MAX_BLOCKS>,
-    lines: Vec<Line>,
-    starts: Vec<Spot>,
-    ends: Vec<Spot>,
+    parts: DrawingParts,
     is_last_empty: bool,
     points: u32,
     steps: u32,
 }
 
 impl Model for DrawingMaker {
-    ghost use Rattle.drawing_model.specs.Drawings.{DrawingValue};
     ghost use Rattle.drawing_model.specs.DrawingMakerInvariants.{IsMakerState};
+    ghost use Rattle.drawing_model.specs.Drawings.{DrawingValue};
+    ghost use Rattle.drawing_model.specs.DrawingsOfParts.{drawing_of_parts};
 
     ghost Value = { DrawingValue };
 
-    ghost view = { λ d. record {
-      label = d.label.items;
-      step = d.step;
-      threads = d.threads.items;
-      lines = d.lines.items;
-      starts = d.starts.items;
-      ends = d.ends.items;
-    } };
+    ghost view = { λ m. drawing_of_parts m.parts };
 
-    ghost invariant = { λ d. IsMakerState (record {
-      label = d.label.items;
-      step = d.step;
-      threads = d.threads.items;
-      lines = d.lines.items;
-      starts = d.starts.items;
-      ends = d.ends.items;
-    }) d.is_last_empty d.points d.steps };
+    ghost invariant = { λ m. IsMakerState (drawing_of_parts m.parts) m.is_last_empty m.points m.steps };
 }
 
 impl DrawingMaker {
@@ -73,13 +56,16 @@ impl DrawingMaker {
     {
         let mut kept: ArrayVec<u8, MAX_LABEL> = ArrayVec::new();
         kept.try_extend_from_slice(label).unwrap();
-        DrawingMaker {
+        let parts = DrawingParts {
             label: kept,
             step,
             threads: ArrayVec::new(),
             lines: Vec::new(alloc),
             starts: Vec::new(alloc),
             ends: Vec::new(alloc),
+        };
+        DrawingMaker {
+            parts,
             is_last_empty: false,
             points: 0,
             steps: 0,
@@ -91,8 +77,8 @@ impl DrawingMaker {
         requires { is_drawing_label word.now ≡ true }
         ensures { self.new ≡ record self.old { label = word.now } }
     {
-        self.label.clear();
-        self.label.try_extend_from_slice(word).unwrap();
+        self.parts.label.clear();
+        self.parts.label.try_extend_from_slice(word).unwrap();
     }
 
     /// Sets the longest step, in tenths of a millimetre. The drawing must have no block yet.
@@ -102,7 +88,7 @@ impl DrawingMaker {
         requires early { length self.old.threads ≡ 0 }
         ensures { self.new ≡ record self.old { step = step } }
     {
-        self.step = step;
+        self.parts.step = step;
     }
 
     /// Returns the number of blocks.
@@ -110,7 +96,7 @@ impl DrawingMaker {
         ensures value { result ≡ length self.now.threads }
         ensures most { result ≤ max_blocks }
     {
-        self.threads.len()
+        self.parts.threads.len()
     }
 
     /// Adds a block at the end, with the given thread number. Errors, in this order: `EmptyBlock` where the
@@ -122,10 +108,10 @@ impl DrawingMaker {
         if self.is_last_empty {
             return Err(DrawKind::EmptyBlock);
         }
-        if self.threads.len() == MAX_BLOCKS {
+        if self.parts.threads.len() == MAX_BLOCKS {
             return Err(DrawKind::TooManyBlocks);
         }
-        self.threads.push(thread);
+        self.parts.threads.push(thread);
         self.is_last_empty = true;
         Ok(())
     }
@@ -138,7 +124,7 @@ impl DrawingMaker {
         ensures answer { ChangesAsSpecified (line_added self.old points) self.old result self.new }
         ensures memory { IsErrOf result kind.Memory → IsOk (line_added self.old points) }
     {
-        if self.threads.is_empty() {
+        if self.parts.threads.is_empty() {
             return Err(DrawKind::NoBlock);
         }
         if !are_in_range(points.as_slice()) {
@@ -146,8 +132,8 @@ impl DrawingMaker {
         }
         let steps = self.steps_with(points.as_slice())?;
         let count = points.len() as u32;
-        let block = self.threads.len() as u32 - 1;
-        self.lines.push(Line::new(block, points))?;
+        let block = self.parts.threads.len() as u32 - 1;
+        self.parts.lines.push(Line::new(block, points))?;
         self.is_last_empty = false;
         self.points += count;
         self.steps = steps;
@@ -166,13 +152,13 @@ impl DrawingMaker {
         if has_repeat(points) {
             return Err(DrawKind::RepeatedPoint);
         }
-        if self.lines.len() == MAX_LINES {
+        if self.parts.lines.len() == MAX_LINES {
             return Err(DrawKind::TooManyLines);
         }
         if self.points as usize + points.len() > MAX_POINTS {
             return Err(DrawKind::TooManyPoints);
         }
-        let steps = self.steps as u64 + line_steps(self.step, points);
+        let steps = self.steps as u64 + line_steps(self.parts.step, points);
         if steps > MAX_COST as u64 {
             return Err(DrawKind::TooMuchCost);
         }
@@ -185,22 +171,14 @@ impl DrawingMaker {
         ensures value { result ≡ finished_drawing self }
         ensures no_ends { IfOk result HasNoEnds }
     {
-        if self.threads.is_empty() {
+        if self.parts.threads.is_empty() {
             return Err(DrawKind::NoBlock);
         }
         if self.is_last_empty {
             return Err(DrawKind::EmptyBlock);
         }
-        let DrawingMaker {
-            label,
-            step,
-            threads,
-            lines,
-            starts,
-            ends,
-            ..
-        } = self;
-        Ok(Drawing::of_parts(label, step, threads, lines, starts, ends))
+        let DrawingMaker { parts, .. } = self;
+        Ok(Drawing::of_parts(parts))
     }
 }
 

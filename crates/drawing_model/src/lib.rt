@@ -5,6 +5,7 @@
 mod draw_kind;
 mod drawing;
 mod drawing_maker;
+mod drawing_parts;
 mod drawn_lines;
 mod growing_theorems;
 mod joined_drawing;

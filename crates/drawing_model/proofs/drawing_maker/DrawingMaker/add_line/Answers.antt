@@ -9,9 +9,9 @@ use Rattle.drawing_model.proofs.drawing_maker.DrawingMaker.add_line.Goals as goa
 pub invariant_of-self-2 : goal.invariant_of-self-2
 invariant_of-self-2 c =
     let points = c.args.points in
-    let before = c.self.inside.lines.items in
+    let before = c.self.inside.parts.lines.items in
     let found : all_in_needle_range points ≡ true = grind (arith, nat_tests) in
-    let some : 1 ≤ length c.self.inside.threads.items = grind (arith, nat_tests) in
+    let some : 1 ≤ length c.self.inside.parts.threads.items = grind (arith, nat_tests) in
     let in_range = all_in_range points found in
     let comes = may_come _ points c.in_ok-steps.steps in_range
     (ap (λ (d : DrawingValue). steps_with_line d points) c.self.view_is

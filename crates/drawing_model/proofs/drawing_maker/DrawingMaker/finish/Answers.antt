@@ -6,5 +6,5 @@ use Rattle.drawing_model.proofs.drawing_maker.DrawingMaker.finish.Goals as goal
 pub of_parts-requires : goal.of_parts-requires
 of_parts-requires c =
     let made = rw c.if-self.false at c.self.invariant in
-    let some : length c.self.inside.threads.items ≢ 0 = grind (arith, nat_tests) in
+    let some : length c.self.inside.parts.threads.items ≢ 0 = grind (arith, nat_tests) in
     drawn_all _ _ _ made some
