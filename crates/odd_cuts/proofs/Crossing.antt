@@ -1,5 +1,5 @@
 -- A walk crosses the boundary of a set an odd number of times exactly where it has one of the walk's two ends.
-use Rattle.std.proofs.Common.{◌≡◌, ℕ, ◌+◌, ◌%◌, ◌==◌, Bool, true, false, cond, not, List, [], ◌∷◌, Option, Some, None, arith, refl, subst}
+use Rattle.std.proofs.Common.{◌≡◌, ℕ, ◌+◌, ◌%◌, ◌==◌, Bool, true, false, cond, not, List, [], ◌∷◌, Option, Some, None, arith}
 use Rattle.std.proofs.lemmas.Bool.Decides.{nat_tests}
 use Rattle.line_graph.specs.declared.edge.Edge.{Edge}
 use Rattle.line_graph.specs.declared.pass.Pass.{Pass}
@@ -15,20 +15,8 @@ inside set j = one_if (set j)
 abbrev pub crossing : (ℕ → Bool) → Edge → ℕ
 crossing set e = one_if (cond (set e.a) (not (set e.b)) (set e.b))
 
-edge_even : (s t : Bool) → ((one_if (cond s (not t) t) + one_if s) + one_if t) % 2 ≡ 0
-edge_even true true = refl
-edge_even true false = refl
-edge_even false true = refl
-edge_even false false = refl
-
 swapped : (x y z : ℕ) → ((x + y) + z) % 2 ≡ 0 → ((x + z) + y) % 2 ≡ 0
 swapped x y z h = omega arith
-
-pass_even : (set : ℕ → Bool) (e : Edge) (back : Bool)
-    → ((crossing set e + inside set (pass_start e back)) + inside set (pass_end e back)) % 2
-    ≡ 0
-pass_even set e false = edge_even (set e.a) (set e.b)
-pass_even set e true = swapped (crossing set e) (inside set e.a) (inside set e.b) (edge_even (set e.a) (set e.b))
 
 joined : (c s i j t : ℕ) → ((c + i) + j) % 2 ≡ 0 → ((s + j) + t) % 2 ≡ 0 → (((c + s) + i) + t) % 2 ≡ 0
 joined c s i j t first rest = omega arith
@@ -43,15 +31,7 @@ step_even : (ns : List ℕ) (es : List Edge) (set : ℕ → Bool) (ps : List Pas
     → ((pass_sum ns es (crossing set) ps + inside set (pass_end e back)) + inside set to)
     % 2 ≡ 0)
     → (((crossing set e + pass_sum ns es (crossing set) ps) + inside set at) + inside set to) % 2 ≡ 0
-step_even ns es set ps e back at to true test is rest =
-    subst (λ (k : ℕ). (((crossing set e + pass_sum ns es (crossing set) ps) + inside set k) + inside set to) % 2 ≡ 0)
-    (same (pass_start e back) at test)
-    (joined (crossing set e) (pass_sum ns es (crossing set) ps) (inside set (pass_start e back)) (inside set (pass_end e back))
-    (inside set to)
-    (pass_even set e back) (rest is))
-  where
-    same : (m n : ℕ) → (m == n) ≡ true → m ≡ n
-    same m n is = grind (arith, nat_tests)
+step_even ns es set ps e back at to true test is rest = grind (arith, nat_tests)
 step_even ns es set ps e back at to false test is rest = absurd (lost ns es ps to is)
 
 edge_step : (ns : List ℕ) (es : List Edge) (set : ℕ → Bool) (ps : List Pass) (found : Option Edge) (back : Bool) (at to : ℕ)
@@ -59,13 +39,10 @@ edge_step : (ns : List ℕ) (es : List Edge) (set : ℕ → Bool) (ps : List Pas
     → ((k : ℕ) → walk_end_from ns es (Some k) ps ≡ Some to → ((pass_sum ns es (crossing set) ps + inside set k) + inside set to) % 2 ≡ 0)
     → (((edge_value (crossing set) found + pass_sum ns es (crossing set) ps) + inside set at) + inside set to) % 2 ≡ 0
 edge_step ns es set ps None back at to is rest = absurd (lost ns es ps to is)
-edge_step ns es set ps (Some e) back at to is rest = step_even ns es set ps e back at to (pass_start e back == at) refl is
-    (rest (pass_end e back))
+edge_step ns es set ps (Some e) back at to is rest = grind (arith, nat_tests, step_even)
 
 pub walk_even : (ns : List ℕ) (es : List Edge) (set : ℕ → Bool) (ps : List Pass) (at to : ℕ) → walk_end_from ns es (Some at) ps ≡ Some to
     → ((pass_sum ns es (crossing set) ps + inside set at) + inside set to) % 2 ≡ 0
-walk_even ns es set [] at to is =
-    let same : at ≡ to = cc in
-    subst (λ (k : ℕ). ((0 + inside set at) + inside set k) % 2 ≡ 0) same (twice (inside set at))
+walk_even ns es set [] at to is = grind (arith, nat_tests)
 walk_even ns es set (p ∷ ps) at to is =
     edge_step ns es set ps (edge_of ns es p.line) p.back at to is (λ k. λ h. walk_even ns es set ps k to h)

@@ -23,19 +23,7 @@ counted s (x ∷ xs) = cond (s x) (1 + counted s xs) (counted s xs)
 counted_from : (s : ℕ → Bool) (es : List Edge) (at n : ℕ)
     → counted s (filter (λ j. is_odd (degree es j)) (range_with_len at n)) ≡ odd_in s at (degrees_from es at n)
 counted_from s es at zero = refl
-counted_from s es at (suc n) = by_test (is_odd (degree es at)) refl (s at) refl (counted_from s es (at + 1) n)
-  where
-    none : (k : ℕ) → k ≡ 0 + k
-    none k = omega arith
-
-    by_test : (t : Bool) → is_odd (degree es at) ≡ t → (u : Bool) → s at ≡ u
-        → counted s (filter (λ j. is_odd (degree es j)) (range_with_len (at + 1) n)) ≡ odd_in s (at + 1) (degrees_from es (at + 1) n)
-        → counted s (filter (λ j. is_odd (degree es j)) (range_with_len at (suc n)))
-        ≡ one_if (s at && is_odd (degree es at)) + odd_in s (at + 1) (degrees_from es (at + 1) n)
-    by_test true odd true has rest = rw (odd, has, rest) refl
-    by_test true odd false has rest = rw (odd, has, rest) (none _)
-    by_test false odd true has rest = rw (odd, has, rest) (none _)
-    by_test false odd false has rest = rw (odd, has, rest) (none _)
+counted_from s es at (suc n) = grind (arith, nat_tests, counted_from s es (at + 1) n)
 
 -- they are those of the junctions that pass the test of their degrees
 pub odd_counted : (s : ℕ → Bool) (es : List Edge) (at n : ℕ)
@@ -50,17 +38,7 @@ held s at [] = 0
 held s at (d ∷ ds) = cond (s at) d 0 + held s (at + 1) ds
 
 odd_bit : (t : Bool) (d : ℕ) → one_if (t && is_odd d) % 2 ≡ cond t d 0 % 2
-odd_bit true d = by_test (is_odd d) refl
-  where
-    by_test : (u : Bool) → (d % 2 == 1) ≡ u → one_if u % 2 ≡ d % 2
-    by_test true is = odd d is
-      where
-        odd : (d : ℕ) → (d % 2 == 1) ≡ true → 1 ≡ d % 2
-        odd d is = grind (arith, nat_tests)
-    by_test false is = even d is
-      where
-        even : (d : ℕ) → (d % 2 == 1) ≡ false → 0 ≡ d % 2
-        even d is = grind (arith, nat_tests)
+odd_bit true d = grind (arith, nat_tests)
 odd_bit false d = refl
 
 alike : (x y u v : ℕ) → x % 2 ≡ y % 2 → u % 2 ≡ v % 2 → (x + u) % 2 ≡ (y + v) % 2
@@ -79,23 +57,12 @@ one s j at (suc n) = cond (s at) (one_if (j == at)) 0 + one s j (at + 1) n
 
 held_none : (s : ℕ → Bool) (at n : ℕ) → held s at (degrees_from [] at n) ≡ 0
 held_none s at zero = refl
-held_none s at (suc n) = rw (held_none s (at + 1) n) (none (s at))
-  where
-    none : (t : Bool) → cond t 0 0 + 0 ≡ 0
-    none true = refl
-    none false = refl
+held_none s at (suc n) = grind (arith, nat_tests, held_none s (at + 1) n)
 
 held_edge : (s : ℕ → Bool) (e : Edge) (es : List Edge) (at n : ℕ)
     → held s at (degrees_from (e ∷ es) at n) ≡ (one s e.a at n + one s e.b at n) + held s at (degrees_from es at n)
 held_edge s e es at zero = refl
-held_edge s e es at (suc n) = rw (held_edge s e es (at + 1) n)
-    (regroup (s at) (one_if (e.a == at)) (one_if (e.b == at)) (degree es at) (one s e.a (at + 1) n) (one s e.b (at + 1) n)
-    (held s (at + 1) (degrees_from es (at + 1) n)))
-  where
-    regroup : (t : Bool) (x y d u v h : ℕ) → cond t ((x + y) + d) 0 + ((u + v) + h)
-        ≡ ((cond t x 0 + u) + (cond t y 0 + v)) + (cond t d 0 + h)
-    regroup true x y d u v h = omega arith
-    regroup false x y d u v h = omega arith
+held_edge s e es at (suc n) = grind (arith, nat_tests, held_edge s e es (at + 1) n)
 
 before : (s : ℕ → Bool) (j at n : ℕ) → j < at → one s j at n ≡ 0
 before s j at zero less = refl
@@ -167,5 +134,4 @@ crossed s (e ∷ es) = alike (both s e) (crossing s e) (edge_sum (both s) es) (e
 -- both numbers are even, or both are odd
 pub odd_crossing : (s : ℕ → Bool) (es : List Edge) (n : ℕ) → ends_below n es ≡ true
     → odd_in s 0 (degrees_from es 0 n) % 2 ≡ edge_sum (crossing s) es % 2
-odd_crossing s es n within =
-    odd_is_held s 0 (degrees_from es 0 n) ∙ ap (λ (k : ℕ). k % 2) (held_edges s es n within) ∙ crossed s es
+odd_crossing s es n within = grind (arith, nat_tests, odd_is_held, held_edges, crossed)

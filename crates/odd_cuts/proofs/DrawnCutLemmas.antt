@@ -1,5 +1,6 @@
 -- A packing over the graph of a piece is one over its lines.
-use Rattle.std.proofs.Common.{◌≡◌, ◌≤◌, ℕ, ◌+◌, ◌*◌, ◌%◌, Bool, true, false, cond, not, List, [], ◌∷◌, ◌++◌, map, option_map, Option, Some, None, All, sum_by, arith, refl, ◌∙◌}
+use Rattle.std.proofs.lemmas.Bool.Decides.{nat_tests}
+use Rattle.std.proofs.Common.{◌≡◌, ◌≤◌, ℕ, ◌+◌, ◌*◌, ◌%◌, Bool, true, false, cond, List, [], ◌∷◌, ◌++◌, map, option_map, Option, Some, None, All, sum_by, arith, refl, ◌∙◌}
 use Rattle.std.proofs.lemmas.List.Elements.{All-weaker, All-cons, All-head, All-nil, All-tail}
 use Rattle.std.proofs.lemmas.List.Recursion.{is_count_by}
 use Rattle.std.specs.List.{count_by}
@@ -41,14 +42,8 @@ count_is : (test : ℕ → Bool) (lines : List ℕ) → counted test lines ≡ c
 count_is test lines = is_count_by (counted test) test refl (λ x. λ xs. refl) lines
 
 sum_append : (f : Edge → ℕ) (xs ys : List Edge) → edge_sum f (xs ++ ys) ≡ edge_sum f xs + edge_sum f ys
-sum_append f [] ys = none (edge_sum f ys)
-  where
-    none : (k : ℕ) → k ≡ 0 + k
-    none k = omega arith
-sum_append f (x ∷ xs) ys = rw (sum_append f xs ys) (regroup (f x) (edge_sum f xs) (edge_sum f ys))
-  where
-    regroup : (x u v : ℕ) → x + (u + v) ≡ (x + u) + v
-    regroup x u v = omega arith
+sum_append f [] ys = omega arith
+sum_append f (x ∷ xs) ys = grind (arith, nat_tests, sum_append f xs ys)
 
 -- the closing edge crosses a set that parts the start and the end
 closing_out : (d : DrawingValue) (lines : List ℕ) (cut : Cut) (start end : Option Point)
@@ -59,25 +54,9 @@ closing_out : (d : DrawingValue) (lines : List ℕ) (cut : Cut) (start end : Opt
     (option_map (λ p. junction_number (junctions_of d lines) (Some p)) start)))
     ≡ given_apart d lines cut start end
 closing_out d lines cut None None = refl
-closing_out d lines cut (Some p) None = alone (has_member cut.members (junction_number (junctions_of d lines) (Some p)))
-  where
-    alone : (t : Bool) → one_if (cond t (not t) t) + 0 ≡ 0
-    alone true = refl
-    alone false = refl
-closing_out d lines cut None (Some q) = alone (has_member cut.members (junction_number (junctions_of d lines) (Some q)))
-  where
-    alone : (t : Bool) → one_if (cond t (not t) t) + 0 ≡ 0
-    alone true = refl
-    alone false = refl
-closing_out d lines cut (Some p) (Some q) =
-    turned (has_member cut.members (junction_number (junctions_of d lines) (Some p)))
-    (has_member cut.members (junction_number (junctions_of d lines) (Some q)))
-  where
-    turned : (t u : Bool) → one_if (cond u (not t) t) + 0 ≡ cond (cond t (not u) u) 1 0
-    turned true true = refl
-    turned true false = refl
-    turned false true = refl
-    turned false false = refl
+closing_out d lines cut (Some p) None = grind (arith, nat_tests)
+closing_out d lines cut None (Some q) = grind (arith, nat_tests)
+closing_out d lines cut (Some p) (Some q) = grind (arith, nat_tests)
 
 -- the edges that cross a cut, with the closing edge
 crossings : GivenPointsAreJunctions → (d : DrawingValue) (lines : List ℕ) (cut : Cut)

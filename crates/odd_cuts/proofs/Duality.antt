@@ -1,5 +1,5 @@
 -- The bound: a walk crosses each cut once more than the lines do, and the loads bound the extra crossings.
-use Rattle.std.proofs.Common.{◌≡◌, ◌≤◌, ℕ, ◌+◌, ◌*◌, ◌%◌, ◌==◌, Bool, true, false, cond, not, List, [], ◌∷◌, ◌++◌, length, Option, Some, None, All, arith, refl, sym, ◌∙◌, ap}
+use Rattle.std.proofs.Common.{◌≡◌, ◌≤◌, ℕ, ◌+◌, ◌*◌, ◌%◌, Bool, true, false, cond, List, [], ◌∷◌, ◌++◌, length, Option, Some, None, All, arith, refl, sym, ◌∙◌, ap}
 use Rattle.std.proofs.lemmas.Bool.Decides.{nat_tests}
 use Rattle.std.proofs.lemmas.Bool.{and_parts}
 use Rattle.std.proofs.lemmas.List.Elements.{All-head, All-tail}
@@ -18,7 +18,6 @@ use Rattle.odd_cuts.specs.Packings.{IsOddCut, odd_held}
 use Rattle.odd_cuts.proofs.Crossing.{crossing, inside, walk_even}
 use Rattle.odd_cuts.proofs.Degrees.{odd_counted, odd_crossing}
 use Rattle.odd_cuts.proofs.Sums.{exchange, more, once_and_more, weigh}
-use Rattle.line_graph.proofs.CallerLemmas.{ends_of_back, or_below}
 
 -- what the first of the cuts adds
 load_cons : (c : Cut) (cs : List Cut) (e : Edge) → load_on (c ∷ cs) e ≡ cond (crosses c.members e) c.weight 0 + load_on cs e
@@ -30,21 +29,12 @@ total_cons c cs = sum_by-cons (λ (cut : Cut). cut.weight) c cs
 no_load : (ns : List ℕ) (es : List Edge) (y : ℕ → ℕ) → weigh ns es y (load_on []) ≡ 0
 no_load [] es y = refl
 no_load (n ∷ ns) [] y = refl
-no_load (n ∷ ns) (e ∷ es) y = rw (no_load ns es y) (nothing (y n))
-  where
-    nothing : (k : ℕ) → k * 0 + 0 ≡ 0
-    nothing k = omega arith
+no_load (n ∷ ns) (e ∷ es) y = grind (arith, nat_tests, no_load ns es y)
 
 load_step : (ns : List ℕ) (es : List Edge) (y : ℕ → ℕ) (c : Cut) (cs : List Cut)
     → weigh ns es y (load_on (c ∷ cs)) ≡ c.weight * weigh ns es y (crossing (has_member c.members)) + weigh ns es y (load_on cs)
-load_step [] es y c cs = none c.weight
-  where
-    none : (w : ℕ) → 0 ≡ w * 0 + 0
-    none w = omega arith
-load_step (n ∷ ns) [] y c cs = none c.weight
-  where
-    none : (w : ℕ) → 0 ≡ w * 0 + 0
-    none w = omega arith
+load_step [] es y c cs = omega arith
+load_step (n ∷ ns) [] y c cs = omega arith
 load_step (n ∷ ns) (e ∷ es) y c cs =
     rw (load_step ns es y c cs, load_cons c cs e) (regroup (crosses c.members e) (y n) c.weight (load_on cs e)
     (weigh ns es y (crossing (has_member c.members))) (weigh ns es y (load_on cs)))
@@ -96,36 +86,19 @@ record Led (ns : List ℕ) (es : List Edge) (walk : List Pass) (back : List Edge
 
 same_place : (x : Option ℕ) (b : ℕ) → are_same_junction x (Some b) ≡ true → x ≡ Some b
 same_place None b is = absurd (cc)
-same_place (Some a) b is = ap (λ (n : ℕ). Some n) (same a b is)
-  where
-    same : (m n : ℕ) → (m == n) ≡ true → m ≡ n
-    same m n is = grind (arith, nat_tests)
+same_place (Some a) b is = grind (arith, nat_tests)
 
 nowhere : (x : Option ℕ) → are_same_junction x None ≡ true → ⊥
 nowhere None is = cc
 nowhere (Some a) is = cc
 
 line_back : (s : ℕ → Bool) (a b : ℕ) → ((edge_sum (crossing s) (closing_edge (Some a) (Some b)) + inside s a) + inside s b) % 2 ≡ 0
-line_back s a b = by_tests (s a) (s b)
-  where
-    by_tests : (x y : Bool) → (((one_if (cond y (not x) x) + 0) + one_if x) + one_if y) % 2 ≡ 0
-    by_tests true true = refl
-    by_tests true false = refl
-    by_tests false true = refl
-    by_tests false false = refl
-
-no_line : (k : ℕ) → ((0 + k) + k) % 2 ≡ 0
-no_line k = omega arith
+line_back s a b = grind (arith, nat_tests)
 
 led_between : (ns : List ℕ) (es : List Edge) (walk : List Pass) (a b : ℕ)
     → are_same_junction (walk_end_from ns es (Some a) walk) (Some b) ≡ true
     → Led ns es walk (closing_edge (Some a) (Some b))
-led_between ns es walk a b is = record {
-  at = a;
-  to = b;
-  goes = same_place (walk_end_from ns es (Some a) walk) b is;
-  even = λ s. line_back s a b;
-}
+led_between ns es walk a b is = grind (arith, nat_tests)
 
 led : (ns : List ℕ) (es : List Edge) (walk : List Pass) (start end first : Option ℕ)
     → are_same_junction (walk_end_from ns es (option_or (option_or start end) first) walk) (option_or (option_or end start) first) ≡ true
@@ -134,28 +107,15 @@ led ns es walk (Some a) (Some b) first is = led_between ns es walk a b is
 led ns es walk (Some a) None first is = led_between ns es walk a a is
 led ns es walk None (Some b) first is = led_between ns es walk b b is
 led ns es walk None None None is = absurd (nowhere (walk_end_from ns es None walk) is)
-led ns es walk None None (Some a) is = record {
-  at = a;
-  to = a;
-  goes = same_place (walk_end_from ns es (Some a) walk) a is;
-  even = λ s. no_line (inside s a);
-}
+led ns es walk None None (Some a) is = grind (arith, nat_tests)
 
 sum_append : (f : Edge → ℕ) (xs ys : List Edge) → edge_sum f (xs ++ ys) ≡ edge_sum f xs + edge_sum f ys
-sum_append f [] ys = none (edge_sum f ys)
-  where
-    none : (k : ℕ) → k ≡ 0 + k
-    none k = omega arith
-sum_append f (x ∷ xs) ys = rw (sum_append f xs ys) (regroup (f x) (edge_sum f xs) (edge_sum f ys))
-  where
-    regroup : (x u v : ℕ) → x + (u + v) ≡ (x + u) + v
-    regroup x u v = omega arith
+sum_append f [] ys = omega arith
+sum_append f (x ∷ xs) ys = grind (arith, nat_tests, sum_append f xs ys)
 
 -- both ends of each edge of a piece, and of the line back, are junctions
 pub closed_ends : (p : PieceValue) → IsValidPiece p → ends_below (length p.junctions) (edges_with_closing p) ≡ true
-closed_ends p kept =
-    ends_of_back (length p.junctions) (option_or p.start p.end) (option_or p.end p.start) p.edges
-    (or_below _ p.start p.end kept.start_below kept.end_below) (or_below _ p.end p.start kept.end_below kept.start_below) kept.ends
+closed_ends p kept = grind (arith, nat_tests)
 
 -- the odd junctions that a set holds, and the lines that cross it, the line back among them
 pub held_crossing : (p : PieceValue) → IsValidPiece p → (members : List ℕ)
@@ -196,8 +156,4 @@ bounds_walks p cuts walk kept packing fit =
     added t w c m l is most is_fitting_walk = omega arith
 
 pub proves_least : ProvesLeast
-proves_least p cuts walk kept packing full other fit =
-    half (total_weight cuts) (walk_cost p walk) (walk_cost p other) (piece_cost p) full (bounds_walks p cuts other kept packing fit)
-  where
-    half : (t w v c : ℕ) → t + 2 * c ≡ 2 * w → t + 2 * c ≤ 2 * v → w ≤ v
-    half t w v c full most = omega arith
+proves_least p cuts walk kept packing full other fit = grind (arith, nat_tests, bounds_walks p cuts other kept packing fit)

@@ -1,17 +1,17 @@
 -- The check of cuts accepts exactly the packings with the total that is needed.
-use Rattle.std.proofs.Common.{◌≡◌, ◌≤◌, ◌<◌, ℕ, ◌+◌, ◌*◌, ◌%◌, ◌==◌, Bool, true, false, cond, nat_lt, nat_le, List, [], ◌∷◌, length, All, Some, None, Result, Ok, Err, IsOk, arith, refl, sym, ◌∙◌}
+use Rattle.std.proofs.Common.{◌≡◌, ◌≤◌, ◌<◌, ℕ, ◌+◌, ◌*◌, ◌==◌, Bool, true, false, cond, nat_lt, nat_le, List, [], ◌∷◌, length, All, Some, None, Result, Ok, Err, IsOk, arith, refl}
 use Rattle.std.proofs.lemmas.Bool.Decides.{nat_tests}
 use Rattle.std.proofs.lemmas.List.Elements.{All-cons, All-head, All-nil, All-tail}
 use Rattle.line_graph.specs.declared.edge.Edge.{Edge}
 use Rattle.line_graph.specs.ValidPieces.{IsValidPiece}
-use Rattle.line_graph.specs.PieceGraphs.{PieceValue, is_odd}
+use Rattle.line_graph.specs.PieceGraphs.{PieceValue}
 use Rattle.odd_cuts.specs.declared.cut.Cut.{Cut}
 use Rattle.odd_cuts.specs.declared.faults.CutFault.{CutFault}
 use Rattle.odd_cuts.specs.declared.faults.CutFault.TheVariants as fault
-use Rattle.odd_cuts.specs.CutFaults.{cut_fault, cut_faults, cuts_fault, even_fault, load_fault, load_faults, stranger_fault, total_fault}
+use Rattle.odd_cuts.specs.CutFaults.{cut_fault, cut_faults, cuts_fault, load_fault, load_faults, stranger_fault, total_fault}
 use Rattle.odd_cuts.specs.Cuts.{load_on, total_weight}
 use Rattle.odd_cuts.specs.Faults.{ReportsFault, first_fault}
-use Rattle.odd_cuts.specs.Packings.{IsOddCut, IsPacking, odd_held}
+use Rattle.odd_cuts.specs.Packings.{IsOddCut, IsPacking}
 use Rattle.lists_and_numbers.proofs.CallerLemmas.{test_none}
 use Rattle.odd_cuts.proofs.CallerLemmas.{both_none}
 
@@ -38,24 +38,10 @@ no_stranger count number (j ∷ members) are =
     test m n h = grind (arith, nat_tests)
 
 cut_right : (p : PieceValue) (number : ℕ) (cut : Cut) → cut_fault p number cut ≡ None → IsOddCut p cut
-cut_right p number cut is =
-    let parts = both_none (stranger_fault (length p.junctions) number cut.members) (even_fault number (odd_held p cut.members)) is in
-    record {
-      there = members_right (length p.junctions) number cut.members parts.0;
-      odd = one (odd_held p cut.members)
-          (test_none (is_odd (odd_held p cut.members)) (fault.EvenCut number (odd_held p cut.members)) parts.1);
-    }
-  where
-    one : (k : ℕ) → (k % 2 == 1) ≡ true → k % 2 ≡ 1
-    one k h = grind (arith, nat_tests)
+cut_right p number cut is = grind (arith, nat_tests, both_none, members_right, test_none)
 
 no_cut_fault : (p : PieceValue) (number : ℕ) (cut : Cut) → IsOddCut p cut → cut_fault p number cut ≡ None
-no_cut_fault p number cut is =
-    let odd : is_odd (odd_held p cut.members) ≡ true = test (odd_held p cut.members) is.odd in
-    rw (no_stranger (length p.junctions) number cut.members is.there, odd) refl
-  where
-    test : (k : ℕ) → k % 2 ≡ 1 → (k % 2 == 1) ≡ true
-    test k h = grind (arith, nat_tests)
+no_cut_fault p number cut is = grind (arith, nat_tests, no_stranger)
 
 -- each cut is odd where none has a fault
 cuts_right : (p : PieceValue) (number : ℕ) (cuts : List Cut) → cut_faults p number cuts ≡ None → All (IsOddCut p) cuts
@@ -119,27 +105,17 @@ packing_right p retraced cuts beside is =
 -- and such a packing has none
 no_fault_found : (p : PieceValue) (retraced : ℕ) (cuts : List Cut) → IsPacking p cuts → total_weight cuts ≡ 2 * retraced
     → cuts_fault p retraced cuts ≡ None
-no_fault_found p retraced cuts are total =
-    let equal : (total_weight cuts == 2 * retraced) ≡ true = test (total_weight cuts) (2 * retraced) total in
-    rw (no_cut_faults p 1 cuts are.odd, no_load_faults cuts p.lines p.edges are.loads, equal) refl
-  where
-    test : (m n : ℕ) → m ≡ n → (m == n) ≡ true
-    test m n h = grind (arith, nat_tests)
+no_fault_found p retraced cuts are total = grind (arith, nat_tests, no_cut_faults, no_load_faults)
 
 -- so the check answers right exactly there
 pub exact_cuts : {T : Type 0} (p : PieceValue) (retraced : ℕ) (cuts : List Cut) (r : Result T CutFault) → length p.lines ≡ length p.edges
     → ReportsFault (cuts_fault p retraced cuts) r
     → (IsOk r → IsPacking p cuts × (total_weight cuts ≡ 2 * retraced)) × (IsPacking p cuts × (total_weight cuts ≡ 2 * retraced) → IsOk r)
 exact_cuts p retraced cuts (Ok x) beside is = (λ ok. packing_right p retraced cuts beside is, λ are. refl)
-exact_cuts p retraced cuts (Err found) beside is =
-    (λ ok. absurd (cc), λ are. absurd (differ (sym (no_fault_found p retraced cuts are.0 are.1) ∙ is)))
-  where
-    differ : None ≡ Some found → ⊥
-    differ h = cc
+exact_cuts p retraced cuts (Err found) beside is = grind (arith, nat_tests, no_fault_found)
 
 -- no fault is found exactly where the cuts are a packing with that total
 pub cuts_exact : (p : PieceValue) (retraced : ℕ) (cuts : List Cut) → IsValidPiece p
     → (cuts_fault p retraced cuts ≡ None → IsPacking p cuts × (total_weight cuts ≡ 2 * retraced))
     × (IsPacking p cuts × (total_weight cuts ≡ 2 * retraced) → cuts_fault p retraced cuts ≡ None)
-cuts_exact p retraced cuts keeps =
-    (λ none. packing_right p retraced cuts keeps.beside none, λ are. no_fault_found p retraced cuts are.0 are.1)
+cuts_exact p retraced cuts keeps = grind (arith, nat_tests, packing_right, no_fault_found)

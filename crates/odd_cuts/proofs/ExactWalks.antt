@@ -1,11 +1,12 @@
 -- The check of a walk accepts exactly the fitting ones.
+use Rattle.std.proofs.lemmas.Bool.Decides.{nat_tests}
 use Rattle.std.proofs.Common.{◌≡◌, ◌≤◌, ℕ, ◌+◌, ◌==◌, Bool, true, false, cond, ◌&&◌, List, [], ◌∷◌, length, Option, Some, None, Result, Ok, Err, is_ok, arith, refl, sym, ◌∙◌, ap}
 use Rattle.std.specs.Option.{option_or}
 use Rattle.line_graph.specs.declared.edge.Edge.{Edge}
 use Rattle.line_graph.specs.declared.pass.Pass.{Pass}
 use Rattle.line_graph.specs.ValidPieces.{IsValidPiece}
 use Rattle.line_graph.specs.PieceGraphs.{PieceValue, given_start, given_end}
-use Rattle.line_graph.specs.PieceWalks.{after_edge, are_same_junction, covers, edge_of, pass_start_on, pass_end, walk_start, is_fitting_walk, is_walk_start_to_end, is_line_passed, pass_start, walk_end_from}
+use Rattle.line_graph.specs.PieceWalks.{after_edge, are_same_junction, covers, edge_of, pass_start_on, pass_end, walk_start, is_fitting_walk, is_walk_start_to_end, pass_start, walk_end_from}
 use Rattle.odd_cuts.specs.declared.faults.WalkFault.{WalkFault}
 use Rattle.odd_cuts.specs.declared.faults.WalkFault.TheVariants as fault
 use Rattle.odd_cuts.specs.Faults.{first_fault}
@@ -40,8 +41,7 @@ by_edge : (ns : List ℕ) (es : List Edge) (number at : ℕ) (ps : List Pass) (f
     → ((k : ℕ) → faults_from ns es (number + 1) k ps ≡ Some f → walk_end_from ns es (Some k) ps ≡ None)
     → walk_end_from ns es (after_edge found back at) ps ≡ None
 by_edge ns es number at ps None back f is rest = stays_lost ns es ps
-by_edge ns es number at ps (Some e) back f is rest =
-    by_start ns es number ps e back (pass_start e back == at) f is (rest (pass_end e back))
+by_edge ns es number at ps (Some e) back f is rest = grind (arith, nat_tests, by_start)
 
 -- passes with a fault lead nowhere
 faulty : (ns : List ℕ) (es : List Edge) (number at : ℕ) (ps : List Pass) (f : WalkFault)
@@ -63,11 +63,7 @@ nowhere ns es (p ∷ ps) f is = nowhere_from ns es (p ∷ ps) (walk_start ns es 
 -- and what leads nowhere has no right end
 no_end : (from to start : Option ℕ) → is_right (ends_fault from to start None) ≡ false
 no_end None to start = refl
-no_end (Some at) to start = by_test (are_same_junction start (Some at))
-  where
-    by_test : (t : Bool) → is_right (cond t (Some fault.WrongEnd) (Some fault.WrongStart)) ≡ false
-    by_test true = refl
-    by_test false = refl
+no_end (Some at) to start = grind (arith, nat_tests)
 
 wrong_end : (p : PieceValue) (walk : List Pass) (f : WalkFault) → pass_faults p.lines p.edges walk ≡ Some f
     → is_right (walk_ends_fault p walk) ≡ false
@@ -99,8 +95,7 @@ led : (ns : List ℕ) (es : List Edge) (start end : Option ℕ) (p : Pass) (ps :
     (option_or (option_or end start) (walk_start ns es (p ∷ ps)))
     ≡ is_right (ends_fault (option_or start end) (option_or end start) (walk_start ns es (p ∷ ps))
     (walk_end_from ns es (walk_start ns es (p ∷ ps)) (p ∷ ps)))
-led ns es None None p ps =
-    sym (told (are_same_junction (walk_end_from ns es (walk_start ns es (p ∷ ps)) (p ∷ ps)) (walk_start ns es (p ∷ ps))) fault.Open)
+led ns es None None p ps = grind (arith, nat_tests)
 led ns es (Some a) None p ps = from_there ns es a a p ps (edge_of ns es p.line) refl
 led ns es None (Some b) p ps = from_there ns es b b p ps (edge_of ns es p.line) refl
 led ns es (Some a) (Some b) p ps = from_there ns es a b p ps (edge_of ns es p.line) refl
@@ -108,12 +103,7 @@ led ns es (Some a) (Some b) p ps = from_there ns es a b p ps (edge_of ns es p.li
 -- each line is passed where none is missing
 none_missing : (ns : List ℕ) (walk : List Pass) → is_right (missing_fault ns walk) ≡ covers ns walk
 none_missing [] walk = refl
-none_missing (n ∷ ns) walk = by_test (is_line_passed n walk) (none_missing ns walk)
-  where
-    by_test : (t : Bool) → is_right (missing_fault ns walk) ≡ covers ns walk
-        → is_right (cond t (missing_fault ns walk) (Some (fault.Missing (n + 1)))) ≡ (t && covers ns walk)
-    by_test true rest = rest
-    by_test false rest = refl
+none_missing (n ∷ ns) walk = grind (arith, nat_tests, none_missing ns walk)
 
 -- no ends are right where no pass leads there
 no_pass : (from to : Option ℕ) → is_right (ends_fault from to None None) ≡ false

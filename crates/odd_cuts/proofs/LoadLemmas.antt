@@ -1,5 +1,5 @@
 -- Loads and totals, as they are added up.
-use Rattle.std.proofs.Common.{◌≡◌, ◌≤◌, ◌<◌, ℕ, suc, ◌+◌, ◌*◌, ◌^◌, All, true, nat_le, List, [], ◌∷◌, Option, Some, None, Result, Ok, Err, length, get_or, replicate, set, slice_get, inl, inr, arith, refl, sym, ap, subst, ◌∙◌}
+use Rattle.std.proofs.Common.{◌≡◌, ◌≤◌, ◌<◌, ℕ, suc, ◌+◌, ◌*◌, ◌^◌, All, true, nat_le, List, [], ◌∷◌, Option, Some, None, Result, Ok, Err, length, get_or, replicate, set, slice_get, arith, refl, sym, ap, subst, ◌∙◌}
 use Rattle.std.proofs.lemmas.Bool.{cases_eq}
 use Rattle.std.proofs.lemmas.Bool.Decides.{nat_tests}
 use Rattle.std.proofs.lemmas.List.{get_or-set_other, get_or-set_same}
@@ -78,33 +78,19 @@ pub before_next : (cut : Cut) (edges : List Edge) (old now : List ℕ) (at share
     → ((i : ℕ) → at ≤ i → get_or now i 0 ≡ get_or old i 0)
     → (i : ℕ) (e : Edge) → i < at + 1 → slice_get edges i ≡ Some e
     → get_or (set now at (get_or now at 0 + share)) i 0 ≡ get_or old i 0 + share_of cut e
-before_next cut edges old now at share d there sized is before behind i e less found = elim (cases_eq i at) [
-  | inl same ↦
-      let found_at : slice_get edges at ≡ Some e = rw same at found in
-      rw (
-        same,
-        get_or-set_same now at (get_or now at 0 + share) 0 sized,
-        behind at (omega arith),
-        is,
-        get_or_from_slice_get edges at e d found_at,
-      ) refl
-  | inr apart ↦ rw (get_or-set_other now at i (get_or now at 0 + share) 0 apart) (before i e (omega (arith, less, apart)) found)
-]
+before_next cut edges old now at share d there sized is before behind i e less found =
+    grind (arith, nat_tests, cases_eq, get_or-set_same, get_or_from_slice_get, get_or-set_other)
 
 -- the others are as they were
 pub behind_next : (old now : List ℕ) (at load : ℕ) → ((i : ℕ) → at ≤ i → get_or now i 0 ≡ get_or old i 0)
     → (i : ℕ) → at + 1 ≤ i → get_or (set now at load) i 0 ≡ get_or old i 0
-behind_next old now at load behind i less =
-    rw (get_or-set_other now at i load 0 (λ same. omega (arith, less, same))) (behind i (omega (arith, less)))
+behind_next old now at load behind i less = grind (arith, nat_tests, get_or-set_other now at i load 0 (λ same. omega (arith, less, same)))
 
 -- none grew by more than the greatest weight
 pub most_next : (old now : List ℕ) (at share more : ℕ) → at < length now → share ≤ more
     → ((i : ℕ) → at ≤ i → get_or now i 0 ≡ get_or old i 0) → ((i : ℕ) → get_or now i 0 ≤ get_or old i 0 + more)
     → (i : ℕ) → get_or (set now at (get_or now at 0 + share)) i 0 ≤ get_or old i 0 + more
-most_next old now at share more sized little behind most i = elim (cases_eq i at) [
-  | inl same ↦ rw (same, get_or-set_same now at (get_or now at 0 + share) 0 sized, behind at (omega arith)) (omega (arith, little))
-  | inr apart ↦ rw (get_or-set_other now at i (get_or now at 0 + share) 0 apart) (most i)
-]
+most_next old now at share more sized little behind most i = grind (arith, nat_tests, cases_eq, get_or-set_same, get_or-set_other)
 
 -- with the loads by index, the first line with too high a load is the first one
 pub sums_told : (cuts : List Cut) (lines : List ℕ) (edges : List Edge) (loads : List ℕ)

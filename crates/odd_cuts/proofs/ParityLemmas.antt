@@ -1,4 +1,5 @@
 -- The parities of junctions give the number of odd ones that a cut holds.
+use Rattle.std.proofs.lemmas.Bool.Decides.{nat_tests}
 use Rattle.std.proofs.Common.{◌≡◌, ◌≤◌, ℕ, zero, suc, ◌+◌, Bool, true, false, List, [], ◌∷◌, ◌++◌, Option, Some, None, length, get_or, arith, refl, sym, ◌∙◌, ap}
 use Rattle.odd_cuts.specs.declared.cut.Cut.{Cut}
 use Rattle.odd_cuts.specs.declared.faults.CutFault.TheVariants as fault
@@ -40,8 +41,7 @@ length-parities_from from to at (degree ∷ rest) = omega (arith, length-paritie
 -- the parities of a piece are few
 pub parities_few : (p : PieceValue) (parities : List Bool) → IsValidPiece p
     → parities ≡ parities_from (given_start p) (given_end p) 0 p.degrees → length parities ≤ MAX_LINES + 1
-parities_few p parities keeps are =
-    rw are (omega (arith, length-parities_from (given_start p) (given_end p) 0 p.degrees, degrees_few p keeps))
+parities_few p parities keeps are = grind (arith, nat_tests, length-parities_from, degrees_few)
 
 -- the count over the two tables is that of odd junctions that the cut holds
 pub count_told : (p : PieceValue) (members : List ℕ) (held parities : List Bool) (odd : ℕ) → IsValidPiece p → AreMemberFlags members held
@@ -54,13 +54,9 @@ count_told p members held parities odd keeps are parities_are counted =
 -- a cut of junctions that holds an odd number of odd ones has no fault
 pub cut_right : (p : PieceValue) (number : ℕ) (cut : Cut) (odd : ℕ) → stranger_fault (length p.junctions) number cut.members ≡ None
     → odd ≡ odd_held p cut.members → is_odd odd ≡ true → cut_fault p number cut ≡ None
-cut_right p number cut odd none same is =
-    let test : is_odd (odd_held p cut.members) ≡ true = ap (λ (k : ℕ). is_odd k) (sym same) ∙ is in
-    rw (none, test) refl
+cut_right p number cut odd none same is = cc
 
 -- one that holds an even number of them has that fault
 pub cut_even : (p : PieceValue) (number : ℕ) (cut : Cut) (odd : ℕ) → stranger_fault (length p.junctions) number cut.members ≡ None
     → odd ≡ odd_held p cut.members → is_odd odd ≡ false → cut_fault p number cut ≡ Some (fault.EvenCut number odd)
-cut_even p number cut odd none same is =
-    let test : is_odd (odd_held p cut.members) ≡ false = ap (λ (k : ℕ). is_odd k) (sym same) ∙ is in
-    rw (none, test, same) refl
+cut_even p number cut odd none same is = cc

@@ -21,9 +21,7 @@ at_place xs i d less = at_drop_more (λ ys. ys) xs i d less
 -- where all numbers are below a limit, so is that at an index
 pub below_at : (most : ℕ) (xs : List ℕ) (i d : ℕ) → all_below most xs ≡ true → i < length xs → get_or xs i d < most
 below_at most [] i d below less = absurd (omega (arith, less))
-below_at most (x ∷ xs) zero d below less =
-    let parts = and_parts (nat_lt x most) (all_below most xs) below in
-    grind (arith, nat_tests)
+below_at most (x ∷ xs) zero d below less = grind (arith, nat_tests)
 below_at most (x ∷ xs) (suc i) d below less =
     below_at most xs i d (and_parts (nat_lt x most) (all_below most xs) below).1 (omega (arith, less))
 
@@ -41,8 +39,7 @@ ends_within count most (e ∷ edges) less below =
 
 -- the ends of the edges of a piece are few
 pub ends_few : (p : PieceValue) → IsValidPiece p → ends_below (MAX_LINES + 1) p.edges ≡ true
-ends_few p keeps =
-    ends_within (length p.junctions) (MAX_LINES + 1) p.edges (omega (arith, keeps.junctions_few, keeps.few)) keeps.ends
+ends_few p keeps = grind (arith, nat_tests, ends_within)
 
 -- a table keeps its length
 pub length_set : {X : Type 0} (xs : List X) (i : ℕ) (x : X) (n : ℕ) → length xs ≡ n → length (set xs i x) ≡ n

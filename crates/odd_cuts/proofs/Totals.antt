@@ -1,8 +1,9 @@
 -- The total of a packing is at most twice the cost of the lines, since each odd cut is crossed by a line.
-use Rattle.std.proofs.Common.{◌≡◌, ◌≤◌, ◌<◌, ℕ, zero, suc, ◌+◌, ◌*◌, ◌%◌, Bool, true, false, cond, not, List, [], ◌∷◌, length, Some, arith, refl, ◌∙◌, ap, subst}
+use Rattle.std.proofs.lemmas.Bool.Decides.{nat_tests}
+use Rattle.std.proofs.Common.{◌≡◌, ◌≤◌, ◌<◌, ℕ, zero, suc, ◌+◌, ◌*◌, ◌%◌, Bool, true, false, List, [], ◌∷◌, length, arith, refl, ◌∙◌, ap}
 use Rattle.line_graph.specs.declared.edge.Edge.{Edge}
 use Rattle.line_graph.specs.ValidPieces.{IsValidPiece, NoEdgeLeaves}
-use Rattle.line_graph.specs.PieceGraphs.{PieceValue, one_if, edges_with_closing, degrees_from}
+use Rattle.line_graph.specs.PieceGraphs.{PieceValue, edges_with_closing, degrees_from}
 use Rattle.line_graph.specs.PieceWalks.{edge_cost, edge_sum, piece_cost}
 use Rattle.odd_cuts.specs.declared.cut.Cut.{Cut}
 use Rattle.odd_cuts.specs.PackingBounds.{BoundsTotal}
@@ -20,27 +21,11 @@ weigh_once : (ns : List ℕ) (es : List Edge) (f : Edge → ℕ) → length ns �
 weigh_once [] [] f same = refl
 weigh_once [] (e ∷ es) f same = absurd (omega arith)
 weigh_once (n ∷ ns) [] f same = absurd (omega arith)
-weigh_once (n ∷ ns) (e ∷ es) f same = rw (weigh_once ns es f (omega arith)) (one (f e) (edge_sum f es))
-  where
-    one : (k v : ℕ) → 1 * k + v ≡ k + v
-    one k v = omega arith
-
-crosses_none : (s : ℕ → Bool) (e : Edge) → crossing s e ≡ 0 → s e.a ≡ s e.b
-crosses_none s e none = by_tests (s e.a) (s e.b) none
-  where
-    by_tests : (x y : Bool) → one_if (cond x (not y) y) ≡ 0 → x ≡ y
-    by_tests true true h = refl
-    by_tests true false h = absurd (cc)
-    by_tests false true h = absurd (cc)
-    by_tests false false h = refl
+weigh_once (n ∷ ns) (e ∷ es) f same = grind (arith, nat_tests, weigh_once ns es f (omega arith))
 
 none_leaves : (s : ℕ → Bool) (es : List Edge) → edge_sum (crossing s) es ≡ 0 → NoEdgeLeaves es s
 none_leaves s [] none i e at = absurd (cc)
-none_leaves s (x ∷ es) none zero e at = let is : x ≡ e = some_same x e at
-    in subst (λ (y : Edge). s y.a ≡ s y.b) is (crosses_none s x (omega arith))
-  where
-    some_same : (x y : Edge) → Some x ≡ Some y → x ≡ y
-    some_same x y h = cc
+none_leaves s (x ∷ es) none zero e at = grind (arith, nat_tests)
 none_leaves s (x ∷ es) none (suc i) e at = none_leaves s es (omega arith) i e at
 
 -- sets that agree on a range have the same odd junctions there
