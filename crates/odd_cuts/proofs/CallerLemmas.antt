@@ -18,8 +18,4 @@ both_none None rest is = (refl, is)
 pub costs_more : BoundsWalks → (p : PieceValue) (cert : PieceCert) → IsValidPiece p → is_fitting_walk p cert.walk ≡ true
     → piece_cost p ≤ walk_cost p cert.walk
 costs_more bounds p cert keeps fit =
-    half (piece_cost p) (walk_cost p cert.walk) (bounds p [] cert.walk keeps
-    (record { odd = All-nil (IsOddCut p); loads = λ k. λ d. λ less. omega arith }) fit)
-  where
-    half : (m n : ℕ) → 0 + 2 * m ≤ 2 * n → m ≤ n
-    half m n h = omega arith
+    omega (arith, bounds p [] cert.walk keeps (record { odd = All-nil (IsOddCut p); loads = λ k. λ d. λ less. omega arith }) fit)

@@ -67,15 +67,8 @@ held_edge s e es at (suc n) = grind (arith, nat_tests, held_edge s e es (at + 1)
 before : (s : ℕ → Bool) (j at n : ℕ) → j < at → one s j at n ≡ 0
 before s j at zero less = refl
 before s j at (suc n) less =
-    let other : (j == at) ≡ false = differs j at less in
-    rw (other, before s j (at + 1) n (omega arith)) (none (s at))
-  where
-    differs : (m n : ℕ) → m < n → (m == n) ≡ false
-    differs m n h = grind (arith, nat_tests)
-
-    none : (t : Bool) → cond t 0 0 + 0 ≡ 0
-    none true = refl
-    none false = refl
+    let other : (j == at) ≡ false = grind (arith, nat_tests, less) in
+    rw (other, before s j (at + 1) n (omega arith)) (grind (arith, nat_tests))
 
 met : (s : ℕ → Bool) (j at n : ℕ) → at ≤ j → j < at + n → one s j at n ≡ inside s j
 met s j at zero from to = absurd (omega arith)
@@ -111,14 +104,11 @@ held_edges s (e ∷ es) n within =
     let ends = and_parts (nat_lt e.a n) (nat_lt e.b n) parts.0 in
     rw (
       held_edge s e es 0 n,
-      met s e.a 0 n (omega arith) (less e.a n ends.0),
+      met s e.a 0 n (omega arith) (grind (arith, nat_tests, ends.0)),
       met s e.b 0 n (omega arith)
-          (less e.b n ends.1),
+          (grind (arith, nat_tests, ends.1)),
       held_edges s es n parts.1,
     ) refl
-  where
-    less : (m n : ℕ) → nat_lt m n ≡ true → m < 0 + n
-    less m n is = grind (arith, nat_tests)
 
 both_crosses : (a b : Bool) → (one_if a + one_if b) % 2 ≡ one_if (cond a (not b) b) % 2
 both_crosses true true = refl

@@ -1,6 +1,6 @@
 -- A packing over the graph of a piece is one over its lines.
 use Rattle.std.proofs.lemmas.Bool.Decides.{nat_tests}
-use Rattle.std.proofs.Common.{◌≡◌, ◌≤◌, ℕ, ◌+◌, ◌*◌, ◌%◌, Bool, true, false, cond, List, [], ◌∷◌, ◌++◌, map, option_map, Option, Some, None, All, sum_by, arith, refl, ◌∙◌}
+use Rattle.std.proofs.Common.{◌≡◌, ◌≤◌, ℕ, ◌+◌, ◌*◌, ◌%◌, Bool, cond, List, [], ◌∷◌, ◌++◌, map, option_map, Option, Some, None, All, sum_by, arith, refl, ◌∙◌}
 use Rattle.std.proofs.lemmas.List.Elements.{All-weaker, All-cons, All-head, All-nil, All-tail}
 use Rattle.std.proofs.lemmas.List.Recursion.{is_count_by}
 use Rattle.std.specs.List.{count_by}
@@ -31,12 +31,7 @@ lines_out : (d : DrawingValue) (js : List Point) (set : ℕ → Bool) (out : ℕ
     → ((line : ℕ) → crossing set (edge_between d js line) ≡ one_if (out line))
     → edge_sum (crossing set) (map (edge_between d js) lines) ≡ counted out lines
 lines_out d js set out [] each = refl
-lines_out d js set out (line ∷ lines) each =
-    rw (each line, lines_out d js set out lines each) (one (out line) (counted out lines))
-  where
-    one : (t : Bool) (k : ℕ) → one_if t + k ≡ cond t (1 + k) k
-    one true k = refl
-    one false k = omega arith
+lines_out d js set out (line ∷ lines) each = rw (each line, lines_out d js set out lines each) (grind (arith, nat_tests))
 
 count_is : (test : ℕ → Bool) (lines : List ℕ) → counted test lines ≡ count_by test lines
 count_is test lines = is_count_by (counted test) test refl (λ x. λ xs. refl) lines

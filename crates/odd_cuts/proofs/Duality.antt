@@ -1,5 +1,5 @@
 -- The bound: a walk crosses each cut once more than the lines do, and the loads bound the extra crossings.
-use Rattle.std.proofs.Common.{◌≡◌, ◌≤◌, ℕ, ◌+◌, ◌*◌, ◌%◌, Bool, true, false, cond, List, [], ◌∷◌, ◌++◌, length, Option, Some, None, All, arith, refl, sym, ◌∙◌, ap}
+use Rattle.std.proofs.Common.{◌≡◌, ◌≤◌, ℕ, ◌+◌, ◌*◌, ◌%◌, Bool, true, cond, List, [], ◌∷◌, ◌++◌, length, Option, Some, None, All, arith, refl, sym, ◌∙◌, ap}
 use Rattle.std.proofs.lemmas.Bool.Decides.{nat_tests}
 use Rattle.std.proofs.lemmas.Bool.{and_parts}
 use Rattle.std.proofs.lemmas.List.Elements.{All-head, All-tail}
@@ -9,8 +9,8 @@ use native.Mathlib.Nat.{mul-le-mul_left, le-mul_of_pos_right}
 use Rattle.line_graph.specs.declared.edge.Edge.{Edge}
 use Rattle.line_graph.specs.declared.pass.Pass.{Pass}
 use Rattle.line_graph.specs.ValidPieces.{IsValidPiece, ends_below}
-use Rattle.line_graph.specs.PieceGraphs.{PieceValue, one_if, edges_with_closing, closing_edge}
-use Rattle.line_graph.specs.PieceWalks.{are_same_junction, edge_cost, covers, edge_sum, walk_start, is_fitting_walk, is_walk_start_to_end, pass_sum, piece_cost, walk_cost, walk_end_from}
+use Rattle.line_graph.specs.PieceGraphs.{PieceValue, edges_with_closing, closing_edge}
+use Rattle.line_graph.specs.PieceWalks.{are_same_junction, edge_cost, covers, edge_sum, walk_start, is_fitting_walk, is_walk_start_to_end, piece_cost, walk_cost, walk_end_from}
 use Rattle.odd_cuts.specs.declared.cut.Cut.{Cut}
 use Rattle.odd_cuts.specs.PackingBounds.{BoundsWalks, ProvesLeast}
 use Rattle.odd_cuts.specs.Cuts.{crosses, has_member, load_on, total_weight}
@@ -35,13 +35,7 @@ load_step : (ns : List ℕ) (es : List Edge) (y : ℕ → ℕ) (c : Cut) (cs : L
     → weigh ns es y (load_on (c ∷ cs)) ≡ c.weight * weigh ns es y (crossing (has_member c.members)) + weigh ns es y (load_on cs)
 load_step [] es y c cs = omega arith
 load_step (n ∷ ns) [] y c cs = omega arith
-load_step (n ∷ ns) (e ∷ es) y c cs =
-    rw (load_step ns es y c cs, load_cons c cs e) (regroup (crosses c.members e) (y n) c.weight (load_on cs e)
-    (weigh ns es y (crossing (has_member c.members))) (weigh ns es y (load_on cs)))
-  where
-    regroup : (t : Bool) (k w l u v : ℕ) → k * (cond t w 0 + l) + (w * u + v) ≡ w * (k * one_if t + u) + (k * l + v)
-    regroup true k w l u v = omega arith
-    regroup false k w l u v = omega arith
+load_step (n ∷ ns) (e ∷ es) y c cs = rw (load_step ns es y c cs, load_cons c cs e) (grind (arith, nat_tests))
 
 -- where each cut is crossed, the total is at most the load that is crossed
 pub total_loads : (ns : List ℕ) (es : List Edge) (y : ℕ → ℕ) (p : PieceValue) (cuts : List Cut) → All (IsOddCut p) cuts
@@ -130,30 +124,26 @@ crossed_more : (p : PieceValue) (walk : List Pass) → IsValidPiece p → covers
     → (c : Cut) → IsOddCut p c → 1 ≤ weigh p.lines p.edges (more walk) (crossing (has_member c.members))
 crossed_more p walk kept all led c odd =
     let s = has_member c.members in
-    left (pass_sum p.lines p.edges (crossing s) walk) (edge_sum (crossing s) p.edges) (weigh p.lines p.edges (more walk) (crossing s))
-    (edge_sum (crossing s) (closing_edge (option_or p.start p.end) (option_or p.end p.start))) (inside s led.at) (inside s led.to)
-    (exchange p.lines p.edges (crossing s) walk kept.rising ∙ once_and_more p.lines p.edges (crossing s) walk kept.beside all)
-    (walk_even p.lines p.edges s walk led.at led.to led.goes)
-    (led.even s)
-    (ap (λ (k : ℕ). k % 2) (sym (sum_append (crossing s) (closing_edge (option_or p.start p.end) (option_or p.end p.start)) p.edges))
-    ∙ sym (held_crossing p kept c.members) ∙ odd.odd)
-  where
-    left : (w b m k i t : ℕ) → w ≡ b + m → ((w + i) + t) % 2 ≡ 0 → ((k + i) + t) % 2 ≡ 0 → (k + b) % 2 ≡ 1 → 1 ≤ m
-    left w b m k i t is walked back odd = omega arith
+    omega (
+      arith,
+      exchange p.lines p.edges (crossing s) walk kept.rising ∙ once_and_more p.lines p.edges (crossing s) walk kept.beside
+          all,
+      walk_even p.lines p.edges s walk led.at led.to led.goes,
+      led.even s,
+      ap (λ (k : ℕ). k % 2)
+          (sym (sum_append (crossing s) (closing_edge (option_or p.start p.end) (option_or p.end p.start)) p.edges)) ∙ sym
+          (held_crossing p kept c.members) ∙ odd.odd,
+    )
 
 pub bounds_walks : BoundsWalks
 bounds_walks p cuts walk kept packing fit =
     let parts = and_parts (is_walk_start_to_end p walk) (covers p.lines walk) fit in
     let there = led p.lines p.edges walk p.start p.end (walk_start p.lines p.edges walk) parts.0 in
-    let cost : walk_cost p walk ≡ piece_cost p + weigh p.lines p.edges (more walk) edge_cost
-    = exchange p.lines p.edges edge_cost walk kept.rising ∙ once_and_more p.lines p.edges edge_cost walk kept.beside parts.1 in
+    let cost : walk_cost p walk ≡ piece_cost p + weigh p.lines p.edges (more walk) edge_cost = exchange p.lines p.edges edge_cost walk
+    kept.rising ∙ once_and_more p.lines p.edges edge_cost walk kept.beside parts.1 in
     let most = total_loads p.lines p.edges (more walk) p cuts packing.odd (crossed_more p walk kept parts.1 there) in
     let most_cost = loads_cost p.lines p.edges (more walk) cuts packing.loads in
-    added (total_weight cuts) (walk_cost p walk) (piece_cost p) (weigh p.lines p.edges (more walk) edge_cost)
-    (weigh p.lines p.edges (more walk) (load_on cuts)) cost most most_cost
-  where
-    added : (t w c m l : ℕ) → w ≡ c + m → t ≤ l → l ≤ 2 * m → t + 2 * c ≤ 2 * w
-    added t w c m l is most is_fitting_walk = omega arith
+    omega (arith, cost, most, most_cost)
 
 pub proves_least : ProvesLeast
 proves_least p cuts walk kept packing full other fit = grind (arith, nat_tests, bounds_walks p cuts other kept packing fit)

@@ -31,11 +31,8 @@ members_right count number (j ∷ members) is = by_test (nat_lt j count) refl is
 no_stranger : (count number : ℕ) (members : List ℕ) → All (λ j. j < count) members → stranger_fault count number members ≡ None
 no_stranger count number [] are = refl
 no_stranger count number (j ∷ members) are =
-    let there : nat_lt j count ≡ true = test j count (All-head (λ j. j < count) j members are) in
+    let there : nat_lt j count ≡ true = grind (arith, nat_tests, All-head (λ j. j < count) j members are) in
     rw (there, no_stranger count number members (All-tail (λ j. j < count) j members are)) refl
-  where
-    test : (m n : ℕ) → m < n → nat_lt m n ≡ true
-    test m n h = grind (arith, nat_tests)
 
 cut_right : (p : PieceValue) (number : ℕ) (cut : Cut) → cut_fault p number cut ≡ None → IsOddCut p cut
 cut_right p number cut is = grind (arith, nat_tests, both_none, members_right, test_none)
@@ -69,23 +66,19 @@ loads_right cuts [] (e ∷ es) beside is = absurd (omega (arith, beside))
 loads_right cuts (n ∷ ns) [] beside is = absurd (omega (arith, beside))
 loads_right cuts (n ∷ ns) (e ∷ es) beside is =
     let parts = both_none (load_fault n (load_on cuts e) e.cost) (load_faults cuts ns es) is in
-    All-cons (Fits cuts) e es
-    (less (load_on cuts e) (2 * e.cost)
-    (test_none (nat_le (load_on cuts e) (2 * e.cost)) (fault.Overload (n + 1) (load_on cuts e) (2 * e.cost)) parts.0))
-    (loads_right cuts ns es (omega (arith, beside)) parts.1)
-  where
-    less : (m n : ℕ) → nat_le m n ≡ true → m ≤ n
-    less m n h = grind (arith, nat_tests)
+    All-cons (Fits cuts) e es (grind (
+      arith,
+      nat_tests,
+      test_none (nat_le (load_on cuts e) (2 * e.cost))
+          (fault.Overload (n + 1) (load_on cuts e) (2 * e.cost)) parts.0,
+    )) (loads_right cuts ns es (omega (arith, beside)) parts.1)
 
 no_load_faults : (cuts : List Cut) (ns : List ℕ) (es : List Edge) → All (Fits cuts) es → load_faults cuts ns es ≡ None
 no_load_faults cuts [] es fit = refl
 no_load_faults cuts (n ∷ ns) [] fit = refl
 no_load_faults cuts (n ∷ ns) (e ∷ es) fit =
-    let here : nat_le (load_on cuts e) (2 * e.cost) ≡ true = test (load_on cuts e) (2 * e.cost) (All-head (Fits cuts) e es fit) in
+    let here : nat_le (load_on cuts e) (2 * e.cost) ≡ true = grind (arith, nat_tests, All-head (Fits cuts) e es fit) in
     rw (here, no_load_faults cuts ns es (All-tail (Fits cuts) e es fit)) refl
-  where
-    test : (m n : ℕ) → m ≤ n → nat_le m n ≡ true
-    test m n h = grind (arith, nat_tests)
 
 -- cuts without a fault are a packing with that total
 packing_right : (p : PieceValue) (retraced : ℕ) (cuts : List Cut) → length p.lines ≡ length p.edges
@@ -95,12 +88,12 @@ packing_right p retraced cuts beside is =
     (first_fault (load_faults cuts p.lines p.edges) (total_fault (total_weight cuts) (2 * retraced))) is in
     let loads = both_none (load_faults cuts p.lines p.edges) (total_fault (total_weight cuts) (2 * retraced)) odd.1 in (
       record { odd = cuts_right p 1 cuts odd.0; loads = loads_right cuts p.lines p.edges beside loads.0 },
-      equal (total_weight cuts) (2 * retraced)
-          (test_none (total_weight cuts == 2 * retraced) (fault.Total (total_weight cuts) (2 * retraced)) loads.1),
+      grind (
+        arith,
+        nat_tests,
+        test_none (total_weight cuts == 2 * retraced) (fault.Total (total_weight cuts) (2 * retraced)) loads.1,
+      ),
     )
-  where
-    equal : (m n : ℕ) → (m == n) ≡ true → m ≡ n
-    equal m n h = grind (arith, nat_tests)
 
 -- and such a packing has none
 no_fault_found : (p : PieceValue) (retraced : ℕ) (cuts : List Cut) → IsPacking p cuts → total_weight cuts ≡ 2 * retraced

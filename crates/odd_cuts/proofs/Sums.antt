@@ -50,11 +50,8 @@ absent line low [] es f is up = refl
 absent line low (n ∷ ns) [] f is up = refl
 absent line low (n ∷ ns) (e ∷ es) f is up =
     let parts = and_parts (nat_lt low n) (all_greater low ns) up in
-    let other : (line == n) ≡ false = differs line low n is parts.0 in
+    let other : (line == n) ≡ false = grind (arith, nat_tests, is, parts.0) in
     rw (other, absent line low ns es f is parts.1) (nothing (f e))
-  where
-    differs : (line low n : ℕ) → line ≡ low → nat_lt low n ≡ true → (line == n) ≡ false
-    differs line low n is up = grind (arith, nat_tests)
 
 -- the line itself is weighed once
 single : (line : ℕ) (ns : List ℕ) (es : List Edge) (f : Edge → ℕ) → is_strictly_increasing ns ≡ true → weigh ns es (this line) f

@@ -31,11 +31,8 @@ ends_within count most (e ∷ edges) less below =
     let parts = and_parts (nat_lt e.a count && nat_lt e.b count) (ends_below count edges) below in
     let both = and_parts (nat_lt e.a count) (nat_lt e.b count) parts.0 in
     and_from (nat_lt e.a most && nat_lt e.b most) (ends_below most edges)
-    (and_from (nat_lt e.a most) (nat_lt e.b most) (is_less e.a both.0) (is_less e.b both.1))
+    (and_from (nat_lt e.a most) (nat_lt e.b most) (grind (arith, nat_tests, both.0)) (grind (arith, nat_tests, both.1)))
     (ends_within count most edges less parts.1)
-  where
-    is_less : (j : ℕ) → nat_lt j count ≡ true → nat_lt j most ≡ true
-    is_less j is = grind (arith, nat_tests)
 
 -- the ends of the edges of a piece are few
 pub ends_few : (p : PieceValue) → IsValidPiece p → ends_below (MAX_LINES + 1) p.edges ≡ true

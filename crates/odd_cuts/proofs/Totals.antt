@@ -4,10 +4,10 @@ use Rattle.std.proofs.Common.{◌≡◌, ◌≤◌, ◌<◌, ℕ, zero, suc, ◌
 use Rattle.line_graph.specs.declared.edge.Edge.{Edge}
 use Rattle.line_graph.specs.ValidPieces.{IsValidPiece, NoEdgeLeaves}
 use Rattle.line_graph.specs.PieceGraphs.{PieceValue, edges_with_closing, degrees_from}
-use Rattle.line_graph.specs.PieceWalks.{edge_cost, edge_sum, piece_cost}
+use Rattle.line_graph.specs.PieceWalks.{edge_cost, edge_sum}
 use Rattle.odd_cuts.specs.declared.cut.Cut.{Cut}
 use Rattle.odd_cuts.specs.PackingBounds.{BoundsTotal}
-use Rattle.odd_cuts.specs.Cuts.{has_member, load_on, total_weight}
+use Rattle.odd_cuts.specs.Cuts.{has_member}
 use Rattle.odd_cuts.specs.Packings.{IsOddCut, odd_held}
 use Rattle.odd_cuts.proofs.Crossing.{crossing}
 use Rattle.odd_cuts.proofs.Degrees.{odd_counted, odd_crossing, odd_in}
@@ -75,12 +75,8 @@ crossed_once p kept c odd = by_sum (edge_sum (crossing s) p.edges) refl
 
 pub keeps_total : BoundsTotal
 keeps_total p cuts kept packing =
-    let most = total_loads p.lines p.edges once p cuts packing.odd
-    (λ c. λ odd. rw (weigh_once p.lines p.edges (crossing (has_member c.members)) kept.beside) (crossed_once p kept c odd)) in
+    let most = total_loads p.lines p.edges once p cuts packing.odd (λ c. λ odd. rw
+    (weigh_once p.lines p.edges (crossing (has_member c.members)) kept.beside) (crossed_once p kept c odd)) in
     let cost = loads_cost p.lines p.edges once cuts packing.loads in
     let all = weigh_once p.lines p.edges edge_cost kept.beside in
-    added (total_weight cuts) (weigh p.lines p.edges once (load_on cuts)) (weigh p.lines p.edges once edge_cost) (piece_cost p) most cost
-    all
-  where
-    added : (t l w c : ℕ) → t ≤ l → l ≤ 2 * w → w ≡ c → t ≤ 2 * c
-    added t l w c most fits is = omega arith
+    omega (arith, most, cost, all)
