@@ -1,4 +1,5 @@
 -- A least cost is at most the costs of all lines: each height below it is crossed by a line.
+use Rattle.std.proofs.lemmas.Bool.Decides.{nat_tests}
 use Rattle.std.proofs.Common.{◌≡◌, ℕ, ◌+◌, ◌-◌, ◌<◌, ◌≤◌, min, max, List, [], ◌∷◌, Some, ap, arith, inl, inr, ◌⊎◌, zero, suc}
 use Rattle.std.proofs.lemmas.Bool.{cases_lt}
 use Rattle.std.specs.Prelude.{slice_get, slice_index}
@@ -28,14 +29,8 @@ spans row x y (e ∷ es) = (min (high row e) y - max (low row e) x) + spans row 
 -- an edge whose first end is no higher and whose second end is higher crosses the height
 crosses : (row : List ℕ) (e : Edge) (i m h : ℕ) → Connects e i m → slice_index row i ≤ h → h < slice_index row m
     → (low row e ≤ h) × (h < high row e)
-crosses row e i m h (inl p) under over =
-    let one = ap (λ (x : ℕ). slice_index row x) p.0 in
-    let two = ap (λ (x : ℕ). slice_index row x) p.1 in
-    (omega arith, omega arith)
-crosses row e i m h (inr p) under over =
-    let one = ap (λ (x : ℕ). slice_index row x) p.0 in
-    let two = ap (λ (x : ℕ). slice_index row x) p.1 in
-    (omega arith, omega arith)
+crosses row e i m h (inl p) under over = grind (arith, nat_tests)
+crosses row e i m h (inr p) under over = grind (arith, nat_tests)
 
 -- so a walk that rises above a height has an edge that crosses it
 crossed : (row : List ℕ) (es : List Edge) (i j h : ℕ) (ks : List ℕ) → IsEdgeWalk es i j ks → slice_index row i ≤ h
@@ -56,14 +51,7 @@ in_rest row x es h (suc k) e got lo hi out = (k, e, got, lo, hi)
 spans_split : (row : List ℕ) (lo hi x y : ℕ) (es : List Edge) → lo ≤ hi
     → spans row x (min lo y) es + spans row (max hi x) y es ≤ spans row x y es
 spans_split row lo hi x y [] le = omega arith
-spans_split row lo hi x y (e ∷ es) le =
-    add_up _ _ _ _ _ _ (one (low row e) (high row e) lo hi x y le) (spans_split row lo hi x y es le)
-  where
-    one : (l h lo hi x y : ℕ) → lo ≤ hi → (min h (min lo y) - max l x) + (min h y - max l (max hi x)) ≤ min h y - max l x
-    one l h lo hi x y le = omega arith
-
-    add_up : (a b c d e f : ℕ) → a + b ≤ c → d + e ≤ f → (a + d) + (b + e) ≤ c + f
-    add_up a b c d e f h k = omega arith
+spans_split row lo hi x y (e ∷ es) le = grind (arith, nat_tests, spans_split row lo hi x y es le)
 
 -- edges that cross each height of a range cover it
 covered : (row : List ℕ) (es : List Edge) (x y : ℕ) → ((h : ℕ) → x ≤ h → h < y → Crossed row es h) → y - x ≤ spans row x y es
@@ -85,14 +73,7 @@ covered row (e ∷ es) x y f =
 -- in a settled row the range of an edge is no more than its cost
 spans_fit : (row : List ℕ) (x y : ℕ) (es : List Edge) → IsFullyRelaxed row es → spans row x y es ≤ edge_sum edge_cost es
 spans_fit row x y [] s = omega arith
-spans_fit row x y (e ∷ es) s =
-    sums _ _ _ _ (one (slice_index row e.a) (slice_index row e.b) e.cost x y s.0.forth s.0.back) (spans_fit row x y es s.1)
-  where
-    one : (a b c x y : ℕ) → b ≤ a + c → a ≤ b + c → min (max a b) y - max (min a b) x ≤ c
-    one a b c x y h k = omega arith
-
-    sums : (a b c d : ℕ) → a ≤ b → c ≤ d → a + c ≤ b + d
-    sums a b c d h k = omega arith
+spans_fit row x y (e ∷ es) s = grind (arith, nat_tests, spans_fit row x y es s.1)
 
 -- a walk rises by no more than all lines cost
 pub rises_within : (row : List ℕ) (es : List Edge) (i j : ℕ) (ks : List ℕ) → IsFullyRelaxed row es → IsEdgeWalk es i j ks
@@ -100,7 +81,4 @@ pub rises_within : (row : List ℕ) (es : List Edge) (i j : ℕ) (ks : List ℕ)
 rises_within row es i j ks s w =
     let one = covered row es (slice_index row i) (slice_index row j) (λ h a b. crossed row es i j h ks w a b) in
     let two = spans_fit row (slice_index row i) (slice_index row j) es s in
-    trans_le _ _ _ one two
-  where
-    trans_le : (a b c : ℕ) → a ≤ b → b ≤ c → a ≤ c
-    trans_le a b c h k = omega arith
+    omega (arith, one, two)

@@ -1,5 +1,5 @@
 -- Degrees of junctions: the ends of the closing line, the sum of all degrees, and the number of odd ones.
-use Rattle.std.proofs.Common.{◌≡◌, ℕ, zero, suc, ◌+◌, ◌*◌, ◌%◌, ◌<◌, ◌≤◌, ◌==◌, Bool, true, false, ◌&&◌, List, [], ◌∷◌, ◌++◌, Option, length, inl, inr, ap, ◌∙◌, refl, arith}
+use Rattle.std.proofs.Common.{◌≡◌, ℕ, zero, suc, ◌+◌, ◌*◌, ◌%◌, ◌<◌, ◌≤◌, ◌==◌, Bool, true, false, ◌&&◌, List, [], ◌∷◌, ◌++◌, Option, length, inl, inr, refl, arith}
 use Rattle.std.proofs.lemmas.Bool.{and_parts, cases_eq}
 use Rattle.std.proofs.lemmas.Bool.Decides.{nat_tests}
 use Rattle.std.proofs.lemmas.List.FromFn.{length-range_with_len}
@@ -30,19 +30,13 @@ odds_kept from to es at (suc n) =
 -- the degrees give the odd junctions
 pub odds_told : (p : PieceValue) → IsValidPiece p
     → odds_from (given_start p) (given_end p) 0 p.degrees ≡ odd_junctions p
-odds_told p keeps =
-    ap (λ degrees. odds_from (given_start p) (given_end p) 0 degrees) keeps.counted
-    ∙ odds_kept (given_start p) (given_end p) p.edges 0 (length p.junctions)
+odds_told p keeps = grind (arith, nat_tests, odds_kept)
 
 -- as many are odd as their sum is, but for an even number
 odd_step : (test : Bool) (value at rest_sum : ℕ) (rest : List ℕ) → is_odd value ≡ test → length rest % 2 ≡ rest_sum % 2
     → length (cond test (at ∷ rest) rest) % 2 ≡ (value + rest_sum) % 2
-odd_step true value at rest_sum rest is same =
-    let one : value % 2 ≡ 1 = grind (arith, nat_tests) in
-    omega arith
-odd_step false value at rest_sum rest is same =
-    let none : value % 2 ≡ 0 = grind (arith, nat_tests) in
-    omega arith
+odd_step true value at rest_sum rest is same = grind (arith, nat_tests)
+odd_step false value at rest_sum rest is same = grind (arith, nat_tests)
 
 odd_count : (f : ℕ → ℕ) (at n : ℕ)
     → length (filter (λ j. is_odd (f j)) (range_with_len at n)) % 2 ≡ sum_over f at n % 2

@@ -1,9 +1,10 @@
 -- A sweep that changes a row lowers the sum of its numbers.
-use Rattle.std.proofs.Common.{◌≡◌, ℕ, ◌+◌, ◌<◌, ◌≤◌, true, false, List, [], ◌∷◌, length, sum, ◌⊎◌, inl, inr, refl, sym, ◌∙◌, subst, arith}
+use Rattle.std.proofs.lemmas.Bool.Decides.{nat_tests}
+use Rattle.std.proofs.Common.{◌≡◌, ℕ, ◌+◌, ◌<◌, ◌≤◌, true, false, List, [], ◌∷◌, length, sum, inl, inr, refl, sym, ◌∙◌, arith}
 use Rattle.std.proofs.lemmas.Bool.{both_ways, cases_Bool, ltb-true}
 use Rattle.std.proofs.lemmas.List.{length-set}
 use Rattle.std.proofs.lemmas.List.Sums.{sum_by-set}
-use Rattle.std.specs.Prelude.{◌||◌, slice_index}
+use Rattle.std.specs.Prelude.{slice_index}
 use Rattle.line_graph.specs.declared.edge.Edge.{Edge}
 use Rattle.odd_paths.proofs.PlaceLemmas.{still_within}
 use Rattle.odd_paths.specs.EdgeWalks.{EndsAreBelow}
@@ -12,43 +13,23 @@ use Rattle.lists_and_numbers.proofs.CallerLemmas.{one_of}
 
 -- the length stays
 lowered_length : (row : List ℕ) (a b c : ℕ) → length (lowered_row row a b c) ≡ length row
-lowered_length row a b c = elim (cases_Bool (is_lower row a b c)) [
-  | inl is ↦ rw is (length-set row b (slice_index row a + c))
-  | inr isnt ↦ rw isnt refl
-]
+lowered_length row a b c = grind (arith, nat_tests, cases_Bool (is_lower row a b c), length-set row b (slice_index row a + c))
 
 -- where a number is lowered, the sum falls
 lowered_less : (row : List ℕ) (a b c : ℕ) → b < length row → is_lower row a b c ≡ true → sum (lowered_row row a b c) < sum row
-lowered_less row a b c lt is =
-    let less : slice_index row a + c < slice_index row b = ltb-true _ _ is in
-    let e = sum_by-set (λ (x : ℕ). x) row b (slice_index row a + c) 0 lt in
-    rw is (omega arith)
+lowered_less row a b c lt is = grind (arith, nat_tests, ltb-true _ _ is, sum_by-set (λ (x : ℕ). x) row b (slice_index row a + c) 0 lt)
 
 lowered_most : (row : List ℕ) (a b c : ℕ) → b < length row → sum (lowered_row row a b c) ≤ sum row
-lowered_most row a b c lt = elim (cases_Bool (is_lower row a b c)) [
-  | inl is ↦ let h = lowered_less row a b c lt is in omega arith
-  | inr isnt ↦ rw isnt (omega arith)
-]
+lowered_most row a b c lt = grind (arith, nat_tests, cases_Bool, lowered_less)
 
 relaxed_length : (row : List ℕ) (e : Edge) → length (relaxed row e) ≡ length row
 relaxed_length row e = lowered_length (lowered_row row e.a e.b e.cost) e.b e.a e.cost ∙ lowered_length row e.a e.b e.cost
 
 relaxed_most : (row : List ℕ) (e : Edge) → e.a < length row → e.b < length row → sum (relaxed row e) ≤ sum row
-relaxed_most row e in_a in_b =
-    let size = lowered_length row e.a e.b e.cost in
-    omega (arith, lowered_most row e.a e.b e.cost in_b, lowered_most (lowered_row row e.a e.b e.cost) e.b e.a e.cost (omega arith))
+relaxed_most row e in_a in_b = grind (arith, nat_tests, lowered_length, lowered_most)
 
 relaxed_less : (row : List ℕ) (e : Edge) → e.a < length row → e.b < length row → relaxes row e ≡ true → sum (relaxed row e) < sum row
-relaxed_less row e in_a in_b h =
-    let size = lowered_length row e.a e.b e.cost in
-    elim (one_of (is_lower row e.a e.b e.cost) (is_lower (lowered_row row e.a e.b e.cost) e.b e.a e.cost) h) [
-      | inl one ↦
-          let second = lowered_most (lowered_row row e.a e.b e.cost) e.b e.a e.cost (omega arith) in
-          omega (arith, lowered_less row e.a e.b e.cost in_b one, second)
-      | inr two ↦
-          let second = lowered_less (lowered_row row e.a e.b e.cost) e.b e.a e.cost (omega arith) two in
-          omega (arith, lowered_most row e.a e.b e.cost in_b, second)
-    ]
+relaxed_less row e in_a in_b h = grind (arith, nat_tests, lowered_length, one_of, lowered_most, lowered_less)
 
 swept_most : (row : List ℕ) (es : List Edge) → EndsAreBelow (length row) es → sum (swept row es) ≤ sum row
 swept_most row [] ends = omega arith
@@ -67,5 +48,4 @@ swept_less row (e ∷ es) ends h =
 
 pub smaller_new : (es : List Edge) (n : ℕ) (row new : List ℕ) → EndsAreBelow n es → length row ≡ n → new ≡ swept row es
     → changes row es ≡ true → sum new < sum row
-smaller_new es n row new ends size value h =
-    subst (λ (r : List ℕ). sum r < sum row) (sym value) (swept_less row es (still_within es n (length row) (sym size) ends) h)
+smaller_new es n row new ends size value h = grind (arith, nat_tests, swept_less, still_within)

@@ -1,5 +1,6 @@
 -- Columns of tables of lanes.
-use Rattle.std.proofs.Common.{◌≡◌, Vec, Global, ◌≢◌, ℕ, zero, suc, ◌+◌, ◌<◌, ◌≤◌, List, [], ◌∷◌, All, length, min, replicate, map, get_or, inl, inr, refl, sym, ap, ◌∙◌, subst, arith}
+use Rattle.std.proofs.lemmas.Bool.Decides.{nat_tests}
+use Rattle.std.proofs.Common.{◌≡◌, Vec, Global, ◌≢◌, ℕ, zero, suc, ◌+◌, ◌<◌, ◌≤◌, List, [], ◌∷◌, All, length, min, replicate, map, get_or, inl, inr, refl, ap, ◌∙◌, subst, arith}
 use Rattle.std.proofs.lemmas.Bool.{cases_Bool, cases_eq, ltb-false, ltb-true}
 use Rattle.std.proofs.lemmas.List.{get_or-replicate, length-map, length-replicate, map-set}
 use Rattle.std.proofs.Math.Seq.{map-set_same}
@@ -56,17 +57,12 @@ capped_lane table a i capped there = omega (arith, capped i there a, column_at i
 -- so no number comes above FAR
 pub capped_lowered : (table new : List (List ℕ)) (a b cost : ℕ) → b < length table → IsCapped table
     → ((i : ℕ) → i < LANES → lane_column i new ≡ lowered_row (lane_column i table) a b cost) → IsCapped new
-capped_lowered table new a b cost there capped value i in_i j =
-    let count = length-map table (λ (lane : List ℕ). slice_index lane i) in
-    let low = lowered_low (lane_column i table) a b cost j (omega (arith, count)) in
-    let same = ap (λ (row : List ℕ). slice_index row j) (value i in_i) in
-    omega (arith, low, same, capped i in_i j)
+capped_lowered table new a b cost there capped value i in_i j = grind (arith, nat_tests, length-map, lowered_low)
 
 -- a lane that is reached begins its column
 pub lane_reached : (i t : ℕ) (lane : List ℕ) (table : List (List ℕ)) → slice_index lane i ≡ 0
     → lane_column i (slice_set table t lane) ≡ slice_set (lane_column i table) t 0
-lane_reached i t lane table here =
-    map-set (λ (l : List ℕ). slice_index l i) table t lane ∙ ap (λ (v : ℕ). slice_set (lane_column i table) t v) here
+lane_reached i t lane table here = grind (arith, nat_tests, map-set)
 
 pub lane_kept : (k t : ℕ) (lane : List ℕ) (table : List (List ℕ)) → slice_index lane k ≡ slice_index (get_or table t []) k
     → lane_column k (slice_set table t lane) ≡ lane_column k table
@@ -74,14 +70,7 @@ lane_kept k t lane table same = map-set_same (λ (l : List ℕ). slice_index l k
 
 pub capped_begun : (table new : List (List ℕ)) (t i : ℕ) → t < length table → IsCapped table
     → lane_column i new ≡ slice_set (lane_column i table) t 0 → ((k : ℕ) → k ≢ i → lane_column k new ≡ lane_column k table) → IsCapped new
-capped_begun table new t i there capped here others k in_k j = elim (cases_eq k i) [
-  | inl same ↦
-      let count = length-map table (λ (lane : List ℕ). slice_index lane k) in
-      let begun : lane_column k new ≡ slice_set (lane_column k table) t 0 = rw same here in
-      let most = most_set (lane_column k table) t 0 FAR (omega (arith, count)) (omega arith) (λ m. capped k in_k m) j in
-      rw begun most
-  | inr other ↦ rw (others k other) (capped k in_k j)
-]
+capped_begun table new t i there capped here others k in_k j = grind (arith, nat_tests, cases_eq, length-map, begun, most_set)
 
 -- a table without walks
 map_replicate : (f : List ℕ → ℕ) (n : ℕ) (lane : List ℕ) → map f (replicate n lane) ≡ replicate n (f lane)
@@ -89,9 +78,7 @@ map_replicate f zero lane = refl
 map_replicate f (suc n) lane = ap (λ (rest : List ℕ). f lane ∷ rest) (map_replicate f n lane)
 
 column_blank : (n i : ℕ) → i < LANES → lane_column i (replicate n (replicate LANES FAR)) ≡ replicate n FAR
-column_blank n i there =
-    map_replicate (λ (lane : List ℕ). slice_index lane i) n (replicate LANES FAR)
-    ∙ ap (λ (v : ℕ). replicate n v) (get_or-replicate LANES i FAR 0 there)
+column_blank n i there = grind (arith, nat_tests, map_replicate, get_or-replicate)
 
 pub capped_blank : (n : ℕ) (table : List (List ℕ)) → table ≡ replicate n (replicate LANES FAR) → IsCapped table
 capped_blank n table blank i there j =
@@ -128,10 +115,4 @@ rows_from es n at (t ∷ ts) table each = (
 pub are_added : (es : List Edge) (n : ℕ) (ts : List ℕ) (table : List (List ℕ)) (old new : List (Vec ℕ Global))
     → AreLeastColumns es n ts table
     → AddsColumns table ts old new → AddsRows es n ts old new
-are_added es n ts table old new each is = record {
-  more = terminal_columns table 0 ts;
-  rows = rows_from es n 0 ts table (λ i k same there.
-      let eq : k ≡ i = omega (arith, same) in subst (λ (m : ℕ). IsLeastRow es n (slice_index ts i) (lane_column m table)) (sym eq)
-      (each i there));
-  is = is;
-}
+are_added es n ts table old new each is = grind (arith, nat_tests, rows_from)

@@ -1,10 +1,10 @@
 -- A junction other than the start has a line that is the last of a least walk to it.
 use Rattle.std.proofs.Common.{◌≡◌, ◌≢◌, ℕ, ◌+◌, ◌^◌, ◌<◌, ◌≤◌, List, [], ◌∷◌, ◌++◌, length, Bool, true, false, Some, None, refl, sym, ◌∙◌, ap, arith, inl, inr, subst, zero, suc, reverse}
-use Rattle.std.proofs.lemmas.Bool.{cases_eq, both_ways, and_parts, and_from, eqb-true, eq-eqb}
+use Rattle.std.proofs.lemmas.Bool.{cases_eq, and_parts}
 use Rattle.std.proofs.lemmas.List.{reverse-append}
 use Rattle.std.proofs.lemmas.Option.{slice_get_within}
 use Rattle.std.proofs.lemmas.Bool.Decides.{nat_tests}
-use Rattle.std.specs.Prelude.{nat_le, slice_get, slice_index, nat_eq, if◌then◌else◌}
+use Rattle.std.specs.Prelude.{nat_le, slice_get, slice_index, if◌then◌else◌}
 use Rattle.line_graph.specs.declared.edge.Edge.{Edge}
 use Rattle.drawing_model.specs.declared.limits.TheConstants.{MAX_LINES}
 use Rattle.line_graph.specs.ValidPieces.{all_costs_positive}
@@ -25,26 +25,14 @@ Comes es row j k m = (e : Edge) × (slice_get es k ≡ Some e) × IsLast row e m
 
 -- the test finds such an edge, in both directions
 forth_told : (row : List ℕ) (e : Edge) (j m : ℕ) → is_last_edge row e.a e.b e.cost j ≡ true → e.a ≡ m → IsLast row e m j
-forth_told row e j m is same =
-    let parts = and_parts (nat_eq e.b j) (nat_eq (slice_index row e.a + e.cost) (slice_index row j)) is in
-    record { links = inl (same, eqb-true _ _ parts.0); costs = rw (← same) (eqb-true _ _ parts.1) }
+forth_told row e j m is same = grind (arith, nat_tests)
 
 back_told : (row : List ℕ) (e : Edge) (j m : ℕ) → is_last_edge row e.b e.a e.cost j ≡ true → e.b ≡ m → IsLast row e m j
-back_told row e j m is same =
-    let parts = and_parts (nat_eq e.a j) (nat_eq (slice_index row e.b + e.cost) (slice_index row j)) is in
-    record { links = inr (same, eqb-true _ _ parts.0); costs = rw (← same) (eqb-true _ _ parts.1) }
-
-comes_is : (row : List ℕ) (a b cost j : ℕ) → b ≡ j → slice_index row a + cost ≡ slice_index row j → is_last_edge row a b cost j ≡ true
-comes_is row a b cost j same sum =
-    and_from (nat_eq b j) (nat_eq (slice_index row a + cost) (slice_index row j)) (eq-eqb _ _ same) (eq-eqb _ _ sum)
+back_told row e j m is same = grind (arith, nat_tests)
 
 told_one_way : (row : List ℕ) (e : Edge) (j m : ℕ) → IsLast row e m j → is_last_edge row e.a e.b e.cost j ≡ false
     → is_last_edge row e.b e.a e.cost j ≡ false → ⊥
-told_one_way row e j m last forth back = go last.links last.costs
-  where
-    go : Connects e m j → slice_index row m + e.cost ≡ slice_index row j → ⊥
-    go (inl ends) sum = both_ways (is_last_edge row e.a e.b e.cost j) forth (comes_is row e.a e.b e.cost j ends.1 (rw ends.0 sum))
-    go (inr ends) sum = both_ways (is_last_edge row e.b e.a e.cost j) back (comes_is row e.b e.a e.cost j ends.1 (rw ends.0 sum))
+told_one_way row e j m last forth back = grind (arith, nat_tests)
 
 -- so what the search finds is one
 found_in : (row : List ℕ) (j k : ℕ) (es : List Edge) (r : ℕ × ℕ) → last_edge_from row j k es ≡ Some r
@@ -101,10 +89,7 @@ last_step es i j (k ∷ ks) w apart = elim (cases_eq w.1 j) [
 
 pub more_at : (es : List Edge) (k : ℕ) (e : Edge) → all_costs_positive es ≡ true → slice_get es k ≡ Some e → 1 ≤ e.cost
 more_at [] k e costs got = absurd (none_is e got)
-more_at (x ∷ xs) zero e costs got =
-    let both = and_parts (nat_le 1 x.cost) (all_costs_positive xs) costs in
-    let one : 1 ≤ x.cost = grind (arith, nat_tests) in
-    subst (λ (z : Edge). 1 ≤ z.cost) (some_same x e got) one
+more_at (x ∷ xs) zero e costs got = grind (arith, nat_tests)
 more_at (x ∷ xs) (suc k) e costs got = more_at xs k e (and_parts (nat_le 1 x.cost) (all_costs_positive xs) costs).1 got
 
 start_of : (n m j : ℕ) (e : Edge) → Connects e m j → (e.a < n) × (e.b < n) → m < n
@@ -147,17 +132,7 @@ pub record Onward (es : List Edge) (row : List ℕ) (j k m at : ℕ) (ks : List 
 pub onward : (es : List Edge) (row : List ℕ) (j k m at : ℕ) (ks : List ℕ) → EndsAreBelow (length row) es → all_costs_positive es ≡ true
     → last_edge_from row at 0 es ≡ Some (k, m) → IsEdgeWalk es at j (reverse ks)
     → edge_walk_cost es (reverse ks) + slice_index row at ≡ slice_index row j → Onward es row j k m at ks
-onward es row j k m at ks ends costs h w sum =
-    let c = found es row at k m h in
-    let turn : reverse (ks ++ k ∷ []) ≡ k ∷ reverse ks = reverse-append ks (k ∷ []) in
-    let at_place = ap (edge_value edge_cost) c.1 in
-    record {
-      inside = start_of (length row) m at c.0 c.2.links (below_at (length row) es k c.0 ends c.1);
-      walk = subst (λ (l : List ℕ). IsEdgeWalk es m j l) (sym turn) (c.0, at, c.1, c.2.links, w);
-      cost = subst (λ (l : List ℕ). edge_walk_cost es l + slice_index row m ≡ slice_index row j) (sym turn)
-          (omega (arith, at_place, c.2.costs));
-      less = omega (arith, c.2.costs, more_at es k c.0 costs c.1);
-    }
+onward es row j k m at ks ends costs h w sum = grind (arith, nat_tests, found, reverse-append, start_of, below_at, more_at)
 
 pub place_fits : (es : List Edge) (row : List ℕ) (at k m : ℕ) → length es ≤ MAX_LINES → last_edge_from row at 0 es ≡ Some (k, m)
     → k < 2 ^ 32

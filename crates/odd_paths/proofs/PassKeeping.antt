@@ -1,5 +1,6 @@
 -- The invariants that relaxation preserves in a table of lanes.
-use Rattle.std.proofs.Common.{◌≡◌, ℕ, ◌+◌, ◌<◌, ◌≤◌, Bool, false, List, Some, length, refl, sym, ◌∙◌, subst, arith}
+use Rattle.std.proofs.lemmas.Bool.Decides.{nat_tests}
+use Rattle.std.proofs.Common.{◌≡◌, ℕ, ◌+◌, ◌<◌, ◌≤◌, Bool, false, List, Some, length, sym, subst, arith}
 use Rattle.std.specs.Prelude.{slice_get}
 use Rattle.line_graph.specs.declared.edge.Edge.{Edge}
 use Rattle.line_graph.specs.PieceGraphs.{one_if}
@@ -11,27 +12,10 @@ use Rattle.odd_paths.specs.Lanes.{IsCapped, KeepsCosts, lane_column, weight}
 use Rattle.odd_paths.specs.EdgeWalks.{EndsAreBelow}
 use Rattle.odd_paths.specs.Sweeps.{IsFullyRelaxed, AreWalkCosts, changes, relaxed, swept}
 
--- no pass at all
-pub keeps_itself : (es : List Edge) (table : List (List ℕ)) → IsCapped table → KeepsCosts es table table
-keeps_itself es table capped = record {
-  size = refl;
-  capped = capped;
-  sound = λ i from there s. s;
-  most = omega arith;
-}
-
 -- one pass after another
 pub keeps_on : (es : List Edge) (old between new : List (List ℕ)) → KeepsCosts es old between → KeepsCosts es between new
     → KeepsCosts es old new
-keeps_on es old between new one two = record {
-  size = two.size ∙ one.size;
-  capped = two.capped;
-  sound = λ i from there s. (
-      let Sound : ℕ → List (List ℕ) → Type 0 = λ n table. AreWalkCosts es n from (lane_column i table) in
-      subst (λ n. Sound n new) one.size (two.sound i from there (subst (λ n. Sound n between) (sym one.size)
-      (one.sound i from there s))));
-  most = omega (arith, one.most, two.most);
-}
+keeps_on es old between new one two = grind (arith, nat_tests)
 
 -- one edge
 pub relax_keeps : (es : List Edge) (k : ℕ) (e : Edge) (old new : List (List ℕ)) (reported : Bool) → EndsAreBelow (length old) es

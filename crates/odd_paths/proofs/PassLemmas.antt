@@ -2,7 +2,7 @@
 use Rattle.std.proofs.Common.{◌≡◌, ℕ, zero, suc, ◌<◌, ◌==◌, Bool, true, false, List, [], ◌∷◌, Option, Some, None, length, map, get_or, All, inl, inr, refl, sym, ap, ◌∙◌, arith}
 use Rattle.std.proofs.lemmas.Bool.{and_parts, eq-eqb, eqb-true}
 use Rattle.std.proofs.lemmas.Bool.Decides.{nat_tests}
-use Rattle.std.proofs.lemmas.List.Elements.{All-cons, All-nil}
+use Rattle.std.proofs.lemmas.List.Elements.{All-cons}
 use Rattle.std.proofs.lemmas.Option.{slice_get_within}
 use Rattle.std.specs.Prelude.{slice_get, if◌then◌else◌}
 use Rattle.line_graph.specs.declared.edge.Edge.{Edge}
@@ -66,9 +66,7 @@ edge_at : (lines : List ℕ) (es : List Edge) (k : ℕ) (e : Edge) → is_strict
     → slice_get es k ≡ Some e → edge_of lines es (get_or lines k 0) ≡ Some e
 edge_at [] es k e rising beside got = absurd (omega (arith, slice_get_within es k e got, beside))
 edge_at (n ∷ lines) [] k e rising beside got = absurd (none_is e got)
-edge_at (n ∷ lines) (x ∷ es) zero e rising beside got =
-    let same : (n == n) ≡ true = eq-eqb n n refl in
-    rw same got
+edge_at (n ∷ lines) (x ∷ es) zero e rising beside got = grind (arith, nat_tests)
 edge_at (n ∷ lines) (x ∷ es) (suc k) e rising beside got =
     let both = and_parts (all_greater n lines) (is_strictly_increasing lines) rising in
     let there : k < length lines = omega (arith, slice_get_within es k e got, beside) in
@@ -107,13 +105,7 @@ passed_first lines es i m j k ks e got at back onward there more =
 
 pub to_passes : (lines : List ℕ) (es : List Edge) (i j : ℕ) (ks : List ℕ) → is_strictly_increasing lines ≡ true → length lines ≡ length es
     → IsEdgeWalk es i j ks → HasPasses lines es i j ks
-to_passes lines es i j [] rising beside walk = record {
-  walk = [];
-  leads = ap (λ (n : ℕ). Some n) walk;
-  costs = refl;
-  along = refl;
-  there = All-nil (λ n. n < length lines);
-}
+to_passes lines es i j [] rising beside walk = grind (arith, nat_tests)
 to_passes lines es i j (k ∷ ks) rising beside walk =
     let pass = along_pass walk.0 i walk.1 walk.3 in
     passed_first lines es i walk.1 j k ks walk.0 walk.2 (edge_at lines es k walk.0 rising beside walk.2) pass.0 pass.1

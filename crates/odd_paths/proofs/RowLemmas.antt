@@ -1,4 +1,5 @@
 -- A row of walk costs that no sweep changes has the least costs, since the edges connect all junctions.
+use Rattle.std.proofs.lemmas.Bool.Decides.{nat_tests}
 use Rattle.std.proofs.Common.{◌≡◌, ℕ, ◌+◌, ◌<◌, ◌≤◌, true, false, List, ◌++◌, length, take, drop, replicate, refl, sym, ap, ◌∙◌, subst, arith}
 use Rattle.std.proofs.lemmas.Bool.{lt-ltb, ltb-true}
 use Rattle.std.specs.Prelude.{nat_lt, slice_index, slice_set}
@@ -17,9 +18,7 @@ use Rattle.lists_and_numbers.proofs.CallerLemmas.{front_written, same_test}
 
 near_most : (es : List Edge) (n from : ℕ) (row : List ℕ) → AreWalkCosts es n from row → IsFullyRelaxed row es
     → (i : ℕ) → i < n → slice_index row i < FAR → slice_index row i ≤ edge_sum edge_cost es
-near_most es n from row s flat i there near =
-    let walk = s.walks i there near in
-    omega (arith, rises_within row es from i walk.0 flat walk.1, s.start)
+near_most es n from row s flat i there near = grind (arith, nat_tests, rises_within)
 
 -- an edge from such a junction leads to such a junction
 pass_on : (es : List Edge) (n from : ℕ) (row : List ℕ) → AreWalkCosts es n from row → IsFullyRelaxed row es
@@ -32,13 +31,7 @@ pass_on es n from row s flat small i j c there within rise near =
 
 none_leaves : (es : List Edge) (n from : ℕ) (row : List ℕ) → AreWalkCosts es n from row → IsFullyRelaxed row es → EndsAreBelow n es
     → edge_sum edge_cost es ≤ MAX_COST → NoEdgeLeaves es (λ i. nat_lt (slice_index row i) FAR)
-none_leaves es n from row s flat within small k e got =
-    let ends = below_at n es k e within got in
-    let cost = cost_within es k e got in
-    let level = flat_at row es k e flat got in
-    same_test (nat_lt (slice_index row e.a) FAR) (nat_lt (slice_index row e.b) FAR)
-    (pass_on es n from row s flat small e.a e.b e.cost ends.0 cost level.forth)
-    (pass_on es n from row s flat small e.b e.a e.cost ends.1 cost level.back)
+none_leaves es n from row s flat within small k e got = grind (arith, nat_tests, below_at, cost_within, flat_at, same_test, pass_on)
 
 reached : (es : List Edge) (n from : ℕ) (row : List ℕ) → AreWalkCosts es n from row → IsFullyRelaxed row es → IsGraph es n
     → from < n → (j : ℕ) → j < n → slice_index row j < FAR

@@ -1,5 +1,6 @@
 -- Each number below FAR is the cost of a walk, and sweeps preserve this.
-use Rattle.std.proofs.Common.{◌≡◌, ◌≢◌, ℕ, suc, ◌+◌, ◌<◌, ◌≤◌, List, [], ◌∷◌, ◌++◌, Some, length, replicate, inl, inr, refl, sym, ap, ◌∙◌, subst, get_or-set_same, get_or-set_other, arith}
+use Rattle.std.proofs.lemmas.Bool.Decides.{nat_tests}
+use Rattle.std.proofs.Common.{◌≡◌, ◌≢◌, ℕ, suc, ◌+◌, ◌<◌, ◌≤◌, List, [], ◌∷◌, ◌++◌, Some, length, replicate, inl, inr, refl, ◌∙◌, get_or-set_same, get_or-set_other, arith}
 use Rattle.std.proofs.lemmas.Bool.{cases_Bool, cases_eq, cases_lt, ltb-true}
 use Rattle.std.proofs.lemmas.List.{get_or-replicate, get_or_past, length-replicate, length-set}
 use Rattle.std.specs.Prelude.{slice_get, slice_index, slice_set}
@@ -26,22 +27,12 @@ at_other row b v j other = get_or-set_other row b j v 0 other
 
 pub most_set : (row : List ℕ) (b v top : ℕ) → b < length row → v ≤ top → ((j : ℕ) → slice_index row j ≤ top) → (j : ℕ)
     → slice_index (slice_set row b v) j ≤ top
-most_set row b v top lt le f j = elim (cases_eq j b) [
-  | inl same ↦ omega (arith, at_same row b v j same lt)
-  | inr other ↦ omega (arith, at_other row b v j other, f j)
-]
+most_set row b v top lt le f j = grind (arith, nat_tests, cases_eq, at_same, at_other)
 
 walks_set : (es : List Edge) (n from : ℕ) (row : List ℕ) (b v : ℕ) → b < length row → IsCost es from b v
     → ((j : ℕ) → j < n → slice_index row j < FAR → IsCost es from j (slice_index row j))
     → (j : ℕ) → j < n → slice_index (slice_set row b v) j < FAR → IsCost es from j (slice_index (slice_set row b v) j)
-walks_set es n from row b v lt w f j within near = elim (cases_eq j b) [
-  | inl same ↦
-      let here : IsCost es from j v = subst (λ (x : ℕ). IsCost es from x v) (sym same) w in
-      subst (λ (d : ℕ). IsCost es from j d) (sym (at_same row b v j same lt)) here
-  | inr other ↦
-      let kept = at_other row b v j other in
-      subst (λ (d : ℕ). IsCost es from j d) (sym kept) (f j within (omega arith))
-]
+walks_set es n from row b v lt w f j within near = grind (arith, nat_tests, cases_eq, at_same, at_other)
 
 -- one number is lowered
 lowered_one : (es : List Edge) (n from k a b : ℕ) (e : Edge) (row : List ℕ) → AreWalkCosts es n from row → slice_get es k ≡ Some e
@@ -53,15 +44,8 @@ lowered_one es n from k a b e row s got joins in_a in_b less =
     let start = s.start in
     let lt : b < length row = omega arith in
     let cost = longer es from a b (slice_index row a) k e (s.walks a in_a (omega arith)) got joins in
-    record {
-      size = length-set row b (slice_index row a + e.cost) ∙ s.size;
-      start = at_other row b (slice_index row a + e.cost) from (apart less start) ∙ s.start;
-      most = most_set row b (slice_index row a + e.cost) FAR lt (omega arith) s.most;
-      walks = walks_set es n from row b (slice_index row a + e.cost) lt cost s.walks;
-    }
-  where
-    apart : slice_index row a + e.cost < slice_index row b → slice_index row from ≡ 0 → from ≢ b
-    apart less start same = omega (arith, ap (λ (x : ℕ). slice_index row x) same)
+    record
+    { size = length-set row b (slice_index row a + e.cost) ∙ s.size; start = at_other row b (slice_index row a + e.cost) from (grind (arith, nat_tests, less, start)) ∙ s.start; most = most_set row b (slice_index row a + e.cost) FAR lt (omega arith) s.most; walks = walks_set es n from row b (slice_index row a + e.cost) lt cost s.walks }
 
 -- where a number is lowered along an edge
 lowered_sound : (es : List Edge) (n from k a b : ℕ) (e : Edge) (row : List ℕ) → AreWalkCosts es n from row → slice_get es k ≡ Some e
@@ -92,10 +76,7 @@ swept_sound es n from row ends s = swept_on es n from row es (λ e i h. (i, h)) 
 
 -- the row with which a search begins
 pub get_replicate : (n j v : ℕ) → slice_index (replicate n v) j ≤ v
-get_replicate n j v = elim (cases_lt j n) [
-  | inl less ↦ omega (arith, get_or-replicate n j v 0 less)
-  | inr more ↦ omega (arith, get_or_past (replicate n v) j 0 (let h = length-replicate n v in omega arith))
-]
+get_replicate n j v = grind (arith, nat_tests, cases_lt, get_or-replicate, get_or_past, length-replicate)
 
 pub begun : (es : List Edge) (n from : ℕ) → from < n → AreWalkCosts es n from (slice_set (replicate n FAR) from 0)
 begun es n from lt =

@@ -1,25 +1,17 @@
 -- Where a sweep changes nothing, no walk costs less than the number in the row.
+use Rattle.std.proofs.lemmas.Bool.Decides.{nat_tests}
 use Rattle.std.proofs.Common.{◌≡◌, ℕ, ◌+◌, ◌≤◌, List, [], ◌∷◌, false, Some, refl, ◌∙◌, ap, arith, inl, inr, subst, zero, suc}
-use Rattle.std.proofs.lemmas.Bool.{ltb-false, or_parts}
-use Rattle.std.specs.Prelude.{slice_get, slice_index, ◌||◌}
+use Rattle.std.proofs.lemmas.Bool.{or_parts}
+use Rattle.std.specs.Prelude.{slice_get, slice_index}
 use Rattle.line_graph.specs.declared.edge.Edge.{Edge}
 use Rattle.line_graph.specs.PieceWalks.{edge_cost, edge_value}
 use Rattle.odd_paths.proofs.PlaceLemmas.{none_is}
 use Rattle.odd_paths.specs.EdgeWalks.{Connects, IsEdgeWalk, edge_walk_cost}
-use Rattle.odd_paths.specs.Sweeps.{IsRelaxedAt, IsFullyRelaxed, is_lower, lowered_row, relaxes, relaxed, changes, swept}
+use Rattle.odd_paths.specs.Sweeps.{IsRelaxedAt, IsFullyRelaxed, relaxes, relaxed, changes, swept}
 use Rattle.lists_and_numbers.proofs.CallerLemmas.{some_same}
 
-not_lowered : (row : List ℕ) (a b c : ℕ) → is_lower row a b c ≡ false → lowered_row row a b c ≡ row
-not_lowered row a b c h = rw h refl
-
 not_relaxed : (row : List ℕ) (e : Edge) → relaxes row e ≡ false → (relaxed row e ≡ row) × IsRelaxedAt row e
-not_relaxed row e h =
-    let p = or_parts _ _ h in
-    let one : lowered_row row e.a e.b e.cost ≡ row = not_lowered row e.a e.b e.cost p.0 in
-    let second : is_lower row e.b e.a e.cost ≡ false = subst (λ (r : List ℕ). is_lower r e.b e.a e.cost ≡ false) one p.1 in (
-      ap (λ (r : List ℕ). lowered_row r e.b e.a e.cost) one ∙ not_lowered row e.b e.a e.cost second,
-      record { forth = ltb-false _ _ p.0; back = ltb-false _ _ second },
-    )
+not_relaxed row e h = grind (arith, nat_tests)
 
 pub settled : (row : List ℕ) (es : List Edge) → changes row es ≡ false → (swept row es ≡ row) × IsFullyRelaxed row es
 settled row [] h = (refl, tt)
