@@ -1,11 +1,10 @@
 -- Lemmas that this crate and those above cite.
-use Rattle.std.proofs.Common.{Bool, List, None, Option, Some, [], arith, length, nat_lt, refl, slice_get, subst, suc, true, zero, ℕ, ◌&&◌, ◌*◌, ◌+◌, ◌/◌, ◌<◌, ◌∷◌, ◌≡◌}
+use Rattle.std.proofs.Common.{Bool, List, None, Option, Some, [], arith, length, nat_lt, refl, slice_get, suc, true, zero, ℕ, ◌&&◌, ◌*◌, ◌+◌, ◌<◌, ◌∷◌, ◌≡◌}
 use Rattle.std.proofs.lemmas.Bool.{and_parts}
 use Rattle.std.proofs.lemmas.Bool.Decides.{nat_tests}
 use Rattle.std.proofs.lemmas.Option.{slice_get_within}
 use Rattle.euler_tour.specs.LineEnds.{junction_at}
 use Rattle.line_graph.proofs.CallerLemmas.{is_even, not_even}
-use Rattle.line_graph.specs.PieceGraphs.{is_odd}
 use Rattle.line_graph.specs.PieceWalks.{pass_start, pass_start_on}
 use Rattle.line_graph.specs.ValidPieces.{ends_below}
 use Rattle.line_graph.specs.declared.edge.Edge.{Edge}
@@ -26,22 +25,12 @@ started (Some e) back j is = (e, refl, some_same (pass_start e back) j is)
 
 -- an end that is somewhere is that of a line
 pub end_within : (edges : List Edge) (end j : ℕ) → junction_at edges end ≡ Some j → end < 2 * length edges
-end_within edges end j is =
-    let e = started (slice_get edges (end / 2)) (is_odd end) j is in
-    twice end (length edges) (slice_get_within edges (end / 2) e.0 e.1)
-  where
-    twice : (end n : ℕ) → end / 2 < n → end < 2 * n
-    twice end n h = omega arith
+end_within edges end j is = grind (arith, nat_tests, started, slice_get_within)
 
 -- the ends of each edge are junctions
 pub ends_are_below : (n : ℕ) (edges : List Edge) (k : ℕ) (e : Edge) → ends_below n edges ≡ true → slice_get edges k ≡ Some e
     → (e.a < n) × (e.b < n)
 ends_are_below n [] k e all is = absurd (cc)
-ends_are_below n (x ∷ edges) zero e all is =
-    let both = and_parts (nat_lt x.a n) (nat_lt x.b n) (and_parts (nat_lt x.a n && nat_lt x.b n) (ends_below n edges) all).0 in
-    subst (λ (y : Edge). (y.a < n) × (y.b < n)) (some_same x e is) (less x.a n both.0, less x.b n both.1)
-  where
-    less : (m n : ℕ) → nat_lt m n ≡ true → m < n
-    less m n is = grind (arith, nat_tests)
+ends_are_below n (x ∷ edges) zero e all is = grind (arith, nat_tests)
 ends_are_below n (x ∷ edges) (suc k) e all is =
     ends_are_below n edges k e (and_parts (nat_lt x.a n && nat_lt x.b n) (ends_below n edges) all).1 is

@@ -1,5 +1,5 @@
 -- Cursors over the ends at each junction, and the tables of a partial tour.
-use Rattle.std.proofs.Common.{◌≡◌, ◌≤◌, ◌<◌, ◌⊎◌, inl, inr, ℕ, ◌+◌, ◌-◌, ◌*◌, ◌/◌, ◌==◌, Bool, true, false, nat_lt, List, [], ◌∷◌, ◌++◌, length, get_or, set, slice_get, Some, arith, refl, sym, ◌∙◌, ap, subst, length-set, get_or-set_same, get_or-set_other}
+use Rattle.std.proofs.Common.{◌≡◌, ◌≤◌, ◌<◌, ◌⊎◌, inl, inr, ℕ, ◌+◌, ◌*◌, ◌/◌, ◌==◌, Bool, true, false, nat_lt, List, [], ◌∷◌, ◌++◌, length, get_or, set, slice_get, Some, arith, refl, sym, ◌∙◌, ap, subst, length-set, get_or-set_same, get_or-set_other}
 use Rattle.std.proofs.lemmas.Grind.{get_or_default_zero}
 use Rattle.std.proofs.lemmas.Bool.{and_from, and_parts, cases_eq}
 use Rattle.std.proofs.lemmas.Bool.Decides.{nat_tests}
@@ -17,48 +17,17 @@ use Rattle.lists_and_numbers.proofs.CallerLemmas.{half, half_more, same_number}
 -- the last end of all is a cursor
 pub cursor_first : (edges : List Edge) (left : List ℕ) (j number : ℕ) → IsLast edges j (2 * length edges) number
     → IsTourCursor edges left j number
-cursor_first edges left j number last = record {
-  within = last.within;
-  there = last.there;
-  over = λ end. λ low. λ there. absurd (last.none end low (end_within edges end j there) there);
-}
+cursor_first edges left j number last = grind (arith, nat_tests, end_within)
 
 -- so is the one before an end whose line isn't left
 pub cursor_back : (edges : List Edge) (left : List ℕ) (j end number : ℕ) → IsTourCursor edges left j (end + 1) → get_or left (end / 2) 0 ≡ 0
     → IsLast edges j end number → IsTourCursor edges left j number
-cursor_back edges left j end number cursor none last = record {
-  within = low number end (2 * length edges) last.within cursor.within;
-  there = last.there;
-  over = λ other. λ above. λ there. by_place other above there (cases_eq other end);
-}
-  where
-    low : (m n k : ℕ) → m ≤ n → n + 1 ≤ k → m ≤ k
-    low m n k h i = omega arith
-
-    by_order : (other : ℕ) → number ≤ other → junction_at edges other ≡ Some j → (other ≡ end → ⊥) → (t : Bool) → nat_lt other end ≡ t
-        → get_or left (other / 2) 0 ≡ 0
-    by_order other above there differs true is = absurd (last.none other above (less other end is) there)
-      where
-        less : (m n : ℕ) → nat_lt m n ≡ true → m < n
-        less m n is = grind (arith, nat_tests)
-    by_order other above there differs false is = cursor.over other (more other end differs is) there
-      where
-        more : (m n : ℕ) → (m ≡ n → ⊥) → nat_lt m n ≡ false → n + 1 ≤ m
-        more m n differs is = grind (arith, nat_tests, differs)
-
-    by_place : (other : ℕ) → number ≤ other → junction_at edges other ≡ Some j → (other ≡ end) ⊎ (other ≡ end → ⊥)
-        → get_or left (other / 2) 0 ≡ 0
-    by_place other above there (inl here) = subst (λ (n : ℕ). get_or left (n / 2) 0 ≡ 0) (sym here) none
-    by_place other above there (inr differs) = by_order other above there differs (nat_lt other end) refl
+cursor_back edges left j end number cursor none last = grind (arith, nat_tests)
 
 -- a cursor stays one where a line is taken
 pub cursor_less : (edges : List Edge) (left : List ℕ) (j number place : ℕ) → IsTourCursor edges left j number
     → IsTourCursor edges (decremented_at left place) j number
-cursor_less edges left j number place cursor = record {
-  within = cursor.within;
-  there = cursor.there;
-  over = λ end. λ low. λ there. less_none left place (end / 2) (cursor.over end low there);
-}
+cursor_less edges left j number place cursor = grind (arith, nat_tests, less_none)
 
 -- no end remains where the cursor is 0
 pub cursor_none : (edges : List Edge) (left : List ℕ) (j : ℕ) → IsTourCursor edges left j 0 → remaining_ends edges left j ≡ 0
@@ -80,20 +49,14 @@ cursor_none edges left j cursor = ends_none edges left j (λ k. λ e. λ is. by_
 
 -- one more end below a number
 pub below_push : (n : ℕ) (xs : List ℕ) (x : ℕ) → all_below n xs ≡ true → x < n → all_below n (xs ++ x ∷ []) ≡ true
-below_push n [] x all less = and_from (nat_lt x n) true (is x n less) refl
-  where
-    is : (m n : ℕ) → m < n → nat_lt m n ≡ true
-    is m n h = grind (arith, nat_tests)
+below_push n [] x all less = grind (arith, nat_tests)
 below_push n (y ∷ xs) x all less =
     let parts = and_parts (nat_lt y n) (all_below n xs) all in
     and_from (nat_lt y n) (all_below n (xs ++ x ∷ [])) parts.0 (below_push n xs x parts.1 less)
 
 -- and one taken off again
 pub below_parts : (n : ℕ) (xs : List ℕ) (x : ℕ) → all_below n (xs ++ x ∷ []) ≡ true → (all_below n xs ≡ true) × (x < n)
-below_parts n [] x all = (refl, less x n (and_parts (nat_lt x n) true all).0)
-  where
-    less : (m n : ℕ) → nat_lt m n ≡ true → m < n
-    less m n is = grind (arith, nat_tests)
+below_parts n [] x all = grind (arith, nat_tests)
 below_parts n (y ∷ xs) x all =
     let parts = and_parts (nat_lt y n) (all_below n (xs ++ x ∷ [])) all in
     let rest = below_parts n xs x parts.1 in
@@ -164,28 +127,7 @@ out_ready edges count left left2 last before out out2 at end next is_left is_out
 -- the tables after a step back
 pub back_ready : (edges : List Edge) (count : ℕ) (left last before out xs : List ℕ) (at end from : ℕ) → out ≡ xs ++ end ∷ [] → from < count
     → AreTourTables edges count left last before out at → AreTourTables edges count left last before xs from
-back_ready edges count left last before out xs at end from is_out below ready = record {
-  left_beside = ready.left_beside;
-  last_beside = ready.last_beside;
-  before_beside = ready.before_beside;
-  below = below;
-  ends = (below_parts (2 * length edges) xs end (rw is_out at ready.ends)).0;
-  linked = ready.linked;
-  cursors = ready.cursors;
-}
-
--- the tables after the first line is passed
-pub first_ready : (edges : List Edge) (count : ℕ) (left left2 last before out : List ℕ) (at : ℕ) → left2 ≡ decremented_at left 0
-    → AreTourTables edges count left last before out at → AreTourTables edges count left2 last before out at
-first_ready edges count left left2 last before out at is_left ready = rw is_left record {
-  left_beside = less_length left 0 ∙ ready.left_beside;
-  last_beside = ready.last_beside;
-  before_beside = ready.before_beside;
-  below = ready.below;
-  ends = ready.ends;
-  linked = ready.linked;
-  cursors = λ j. λ low. cursor_less edges left j (get_or last j 0) 0 (ready.cursors j low);
-}
+back_ready edges count left last before out xs at end from is_out below ready = grind (arith, nat_tests, below_parts)
 
 -- the end before another has a lesser number
 pub before_less : (edges : List Edge) (count : ℕ) (left last before out : List ℕ) (at end : ℕ) → get_or last at 0 ≡ end + 1
@@ -202,14 +144,8 @@ before_less edges count left last before out at end here ready =
 -- the cursor as the code reads it
 pub read_cursor : (edges : List Edge) (count : ℕ) (left last before out : List ℕ) (at number : ℕ) → number ≡ get_or last at number
     → AreTourTables edges count left last before out at → get_or last at 0 ≡ number
-read_cursor edges count left last before out at number is ready =
-    sym (is ∙ get_or_default_zero last at number (subst (λ (n : ℕ). at < n) (sym ready.last_beside) ready.below))
+read_cursor edges count left last before out at number is ready = grind (arith, nat_tests, get_or_default_zero)
 
 pub cursor_place : (edges : List Edge) (count : ℕ) (left last before out : List ℕ) (at end : ℕ) → get_or last at 0 ≡ end + 1
     → AreTourTables edges count left last before out at → end / 2 < length left
-cursor_place edges count left last before out at end here ready =
-    halved end (length edges) (length left) (subst (λ (n : ℕ). n ≤ 2 * length edges) here (ready.cursors at ready.below).within)
-    ready.left_beside
-  where
-    halved : (end n k : ℕ) → end + 1 ≤ 2 * n → k ≡ n → end / 2 < k
-    halved end n k low beside = omega arith
+cursor_place edges count left last before out at end here ready = grind (arith, nat_tests)

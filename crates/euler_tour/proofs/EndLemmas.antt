@@ -1,12 +1,12 @@
 -- The ends of lines: their linked lists and cursors.
-use Rattle.std.proofs.Common.{◌≡◌, ◌≤◌, ◌<◌, ◌⊎◌, inl, inr, ℕ, ◌+◌, ◌*◌, ◌/◌, ◌%◌, ◌==◌, Bool, true, false, not, ◌&&◌, List, [], ◌∷◌, ◌++◌, length, get_or, set, replicate, slice_get, Some, arith, sym, ◌∙◌, ap, subst, length-set, length-append, get_or-set_same, get_or-set_other}
+use Rattle.std.proofs.Common.{◌≡◌, ◌<◌, ◌⊎◌, inl, inr, ℕ, ◌+◌, ◌*◌, ◌/◌, true, not, List, [], ◌∷◌, ◌++◌, length, get_or, set, slice_get, Some, arith, sym, ◌∙◌, ap, subst, length-set, length-append, get_or-set_same, get_or-set_other}
 use Rattle.std.proofs.lemmas.Bool.{cases_eq}
 use Rattle.std.proofs.lemmas.Bool.Decides.{nat_tests}
-use Rattle.std.proofs.lemmas.List.{get_or_append_left, get_or_push, get_or-replicate, length-replicate}
+use Rattle.std.proofs.lemmas.List.{get_or_append_left, get_or_push}
 use Rattle.line_graph.specs.declared.edge.Edge.{Edge}
 use Rattle.line_graph.specs.PieceGraphs.{is_odd}
 use Rattle.line_graph.specs.ValidPieces.{ends_below}
-use Rattle.line_graph.specs.PieceWalks.{pass_start_on, pass_start}
+use Rattle.line_graph.specs.PieceWalks.{pass_start_on}
 use Rattle.euler_tour.specs.LineEnds.{AreBefore, AreLast, IsLast, junction_at}
 use Rattle.euler_tour.proofs.CallerLemmas.{end_a, end_b, ends_are_below, started}
 use Rattle.lists_and_numbers.proofs.CallerLemmas.{some_same}
@@ -15,34 +15,12 @@ use Rattle.lists_and_numbers.proofs.CallerLemmas.{some_same}
 
 -- the last end at the junction of a new end is that end
 last_of_new : (edges : List Edge) (j count : ℕ) → junction_at edges count ≡ Some j → IsLast edges j (count + 1) (count + 1)
-last_of_new edges j count is = record {
-  within = omega arith;
-  there = λ end. λ h. subst (λ (n : ℕ). junction_at edges n ≡ Some j) (fewer count end h) is;
-  none = λ end. λ low. λ high. λ there. absurd (omega (arith, low, high));
-}
-  where
-    fewer : (m n : ℕ) → m + 1 ≡ n + 1 → m ≡ n
-    fewer m n h = omega arith
+last_of_new edges j count is = grind (arith, nat_tests)
 
 -- elsewhere it stays
 last_of_old : (edges : List Edge) (i j count number : ℕ) → junction_at edges count ≡ Some j → (i ≡ j → ⊥) → IsLast edges i count number
     → IsLast edges i (count + 1) number
-last_of_old edges i j count number is other last = record {
-  within = more number count last.within;
-  there = last.there;
-  none = λ end. λ low. λ high. λ there. by_place end low there (cases_eq end count) high;
-}
-  where
-    more : (m n : ℕ) → m ≤ n → m ≤ n + 1
-    more m n h = omega arith
-
-    below : (m n : ℕ) → (m ≡ n → ⊥) → m < n + 1 → m < n
-    below m n differs h = grind (arith, nat_tests, differs)
-
-    by_place : (end : ℕ) → number ≤ end → junction_at edges end ≡ Some i → (end ≡ count) ⊎ (end ≡ count → ⊥) → end < count + 1 → ⊥
-    by_place end low there (inl new) high =
-        other (some_same i j (sym there ∙ ap (λ (n : ℕ). junction_at edges n) new ∙ is))
-    by_place end low there (inr old) high = last.none end low (below end count old high) there
+last_of_old edges i j count number is other last = grind (arith, nat_tests)
 
 -- the last ends, with one more
 pub last_step : (edges : List Edge) (last : List ℕ) (j count : ℕ) → junction_at edges count ≡ Some j → j < length last
@@ -62,11 +40,8 @@ last_step edges last j count is there are i below = by_junction (cases_eq i j)
 pub before_step : (edges : List Edge) (before : List ℕ) (j number : ℕ) → junction_at edges (length before) ≡ Some j
     → IsLast edges j (length before) number → AreBefore edges before → AreBefore edges (before ++ number ∷ [])
 before_step edges before j number is last are end i below there =
-    by_place (cases_eq end (length before)) (shorter end (length before) _ (length-append before (number ∷ [])) below)
+    by_place (cases_eq end (length before)) (omega (arith, length-append before (number ∷ []), below))
   where
-    shorter : (m n k : ℕ) → k ≡ n + 1 → m < k → m < n + 1
-    shorter m n k is h = omega arith
-
     less : (m n : ℕ) → (m ≡ n → ⊥) → m < n + 1 → m < n
     less m n differs h = grind (arith, nat_tests, differs)
 
@@ -123,35 +98,14 @@ chain_step edges k e last last1 last2 before before1 before2 is has_a has_b size
     four : (m n k : ℕ) → m ≡ 2 * k → n ≡ m + 1 → n + 1 ≡ 2 * (k + 1)
     four m n k is more = omega arith
 
--- no end, and none before it
-pub none_last : (edges : List Edge) (junctions : ℕ) → AreLast edges 0 (replicate junctions 0)
-none_last edges junctions j below =
-    rw (get_or-replicate {A = ℕ} junctions j 0 0 (subst (λ (n : ℕ). j < n) (length-replicate {A = ℕ} junctions 0) below)) record {
-      within = omega arith;
-      there = λ end. λ h. absurd (omega (arith, h));
-      none = λ end. λ low. λ high. λ there. absurd (omega (arith, high));
-    }
-
 pub none_before : (edges : List Edge) → AreBefore edges []
 none_before edges end j below there = absurd (omega (arith, below))
 
 -- so is where an end is, and where the other end of its line is
 pub junction_below : (n : ℕ) (edges : List Edge) (end j : ℕ) → ends_below n edges ≡ true
     → pass_start_on (slice_get edges (end / 2)) (is_odd end) ≡ Some j → j < n
-junction_below n edges end j all is =
-    let e = started (slice_get edges (end / 2)) (is_odd end) j is in
-    subst (λ (m : ℕ). m < n) e.2 (either e.0 (is_odd end) (ends_are_below n edges (end / 2) e.0 all e.1))
-  where
-    either : (e : Edge) (back : Bool) → (e.a < n) × (e.b < n) → pass_start e back < n
-    either e true both = both.1
-    either e false both = both.0
+junction_below n edges end j all is = grind (arith, nat_tests, started, ends_are_below)
 
 pub across_below : (n : ℕ) (edges : List Edge) (end j : ℕ) → ends_below n edges ≡ true
     → pass_start_on (slice_get edges (end / 2)) (not (is_odd end)) ≡ Some j → j < n
-across_below n edges end j all is =
-    let e = started (slice_get edges (end / 2)) (not (is_odd end)) j is in
-    subst (λ (m : ℕ). m < n) e.2 (either e.0 (not (is_odd end)) (ends_are_below n edges (end / 2) e.0 all e.1))
-  where
-    either : (e : Edge) (back : Bool) → (e.a < n) × (e.b < n) → pass_start e back < n
-    either e true both = both.1
-    either e false both = both.0
+across_below n edges end j all is = grind (arith, nat_tests, started, ends_are_below)

@@ -1,5 +1,5 @@
 -- Lines that remain.
-use Rattle.std.proofs.Common.{◌≡◌, ◌≤◌, ◌<◌, ◌⊎◌, inl, inr, ℕ, zero, suc, ◌+◌, ◌-◌, ◌*◌, ◌^◌, ◌==◌, true, nat_lt, List, [], ◌∷◌, length, get_or, slice_get, slice_set, Some, arith, refl, sym, ◌∙◌, ap, subst, le-mul_of_pos_right}
+use Rattle.std.proofs.Common.{◌≡◌, ◌≤◌, ◌<◌, ◌⊎◌, inl, inr, ℕ, zero, suc, ◌+◌, ◌-◌, ◌*◌, ◌^◌, ◌==◌, true, nat_lt, List, [], ◌∷◌, length, get_or, slice_get, slice_set, Some, arith, refl, sym, ◌∙◌, ap, subst}
 use Rattle.std.proofs.lemmas.Bool.Decides.{nat_tests}
 use Rattle.std.proofs.lemmas.Bool.{and_from}
 use Rattle.std.proofs.lemmas.List.Sums.{sum_by-cons}
@@ -10,7 +10,7 @@ use Rattle.line_graph.specs.PieceWalks.{edge_cost, edge_sum, is_strictly_increas
 use Rattle.euler_tour.specs.RemainingLines.{edge_ends_at, remaining_ends, remaining_sum, decremented_at, one_of, pass_counts}
 use Rattle.euler_tour.specs.Tours.{copies_cost, pass_count, pass_ends}
 use Rattle.line_graph.proofs.CallerLemmas.{first_less, rest_rises}
-use Rattle.lists_and_numbers.proofs.CallerLemmas.{differs, differs_back, eq_self}
+use Rattle.lists_and_numbers.proofs.CallerLemmas.{differs, differs_back}
 
 -- taking a line as the code does it
 pub less_is : (left : List ℕ) (place : ℕ) → slice_set left place (get_or left place 0 - 1) ≡ decremented_at left place
@@ -51,25 +51,14 @@ left_less f (x ∷ edges) (n ∷ left) zero e is some =
 
     one_less : (n k u : ℕ) → 1 ≤ n → ((n - 1) * k + u) + k ≡ n * k + u
     one_less n k u some = added (n - 1) k u ∙ ap (λ (z : ℕ). z * k + u) (sym (split n some))
-left_less f (x ∷ edges) (n ∷ left) (suc place) e is some =
-    after (n * f x) _ _ _ (left_less f edges left place e is some)
-  where
-    after : (m u k v : ℕ) → u + k ≡ v → (m + u) + k ≡ m + v
-    after m u k v h = omega arith
+left_less f (x ∷ edges) (n ∷ left) (suc place) e is some = grind (arith, nat_tests, left_less f edges left place e is some)
 
 -- nothing is left of a line with an end at a junction where no end is left
 pub none_left : (edges : List Edge) (left : List ℕ) (place : ℕ) (e : Edge) (j : ℕ) → slice_get edges place ≡ Some e → 1 ≤ edge_ends_at j e
     → remaining_ends edges left j ≡ 0 → get_or left place 0 ≡ 0
 none_left [] left place e j is meets none = absurd (cc)
 none_left (x ∷ edges) [] place e j is meets none = refl
-none_left (x ∷ edges) (n ∷ left) zero e j is meets none =
-    let here : x ≡ e = cc in
-    nothing n (edge_ends_at j x) (remaining_ends edges left j) (subst (λ (y : Edge). 1 ≤ edge_ends_at j y) (sym here) meets) none
-  where
-    nothing : (n k u : ℕ) → 1 ≤ k → n * k + u ≡ 0 → n ≡ 0
-    nothing n k u least none =
-        let more : n ≤ n * k = le-mul_of_pos_right n least in
-        omega arith
+none_left (x ∷ edges) (n ∷ left) zero e j is meets none = grind (arith, nat_tests)
 none_left (x ∷ edges) (n ∷ left) (suc place) e j is meets none = none_left edges left place e j is meets (omega arith)
 
 -- no end is left at a junction if of each line with an end there nothing is left
@@ -96,20 +85,9 @@ pub count_step : (lines left : List ℕ) (place k : ℕ) → is_strictly_increas
     → one_if (get_or lines place 0 == get_or lines k 0) + get_or (decremented_at left place) k 0 ≡ get_or left k 0
 count_step [] left place k up bp bk some = absurd (omega arith)
 count_step (n ∷ lines) [] place k up bp bk some = absurd (omega arith)
-count_step (n ∷ lines) (m ∷ left) zero zero up bp bk some = rw (eq_self n) (back m some)
-  where
-    back : (m : ℕ) → 1 ≤ m → 1 + (m - 1) ≡ m
-    back m some = omega arith
-count_step (n ∷ lines) (m ∷ left) zero (suc k) up bp bk some =
-    rw (differs n (get_or lines k 0) (first_less n lines k up (omega arith))) (nothing (get_or left k 0))
-  where
-    nothing : (k : ℕ) → 0 + k ≡ k
-    nothing k = omega arith
-count_step (n ∷ lines) (m ∷ left) (suc place) zero up bp bk some =
-    rw (differs_back n (get_or lines place 0) (first_less n lines place up (omega arith))) (nothing m)
-  where
-    nothing : (k : ℕ) → 0 + k ≡ k
-    nothing k = omega arith
+count_step (n ∷ lines) (m ∷ left) zero zero up bp bk some = grind (arith, nat_tests)
+count_step (n ∷ lines) (m ∷ left) zero (suc k) up bp bk some = grind (arith, nat_tests, differs, first_less)
+count_step (n ∷ lines) (m ∷ left) (suc place) zero up bp bk some = grind (arith, nat_tests, differs_back, first_less)
 count_step (n ∷ lines) (m ∷ left) (suc place) (suc k) up bp bk some =
     count_step lines left place k (rest_rises n lines up) (omega arith) (omega arith) some
 
@@ -151,11 +129,7 @@ pub times_cost : (edges : List Edge) (copies : List ℕ) → length copies ≡ l
     → remaining_sum edge_cost edges (pass_counts copies) ≡ edge_sum edge_cost edges + copies_cost edges copies
 times_cost [] copies beside = refl
 times_cost (e ∷ edges) [] beside = absurd (omega arith)
-times_cost (e ∷ edges) (c ∷ copies) beside =
-    rw (times_cost edges copies (omega arith)) (split c e.cost (edge_sum edge_cost edges) (copies_cost edges copies))
-  where
-    split : (c k u v : ℕ) → (c + 1) * k + (u + v) ≡ (k + u) + (c * k + v)
-    split c k u v = omega arith
+times_cost (e ∷ edges) (c ∷ copies) beside = grind (arith, nat_tests, times_cost edges copies (omega arith))
 
 -- and it is as many passes
 pub times_count : (edges : List Edge) (copies : List ℕ) → length copies ≡ length edges
@@ -163,11 +137,7 @@ pub times_count : (edges : List Edge) (copies : List ℕ) → length copies ≡ 
 times_count [] [] beside = refl
 times_count [] (c ∷ copies) beside = absurd (omega arith)
 times_count (e ∷ edges) [] beside = absurd (omega arith)
-times_count (e ∷ edges) (c ∷ copies) beside =
-    rw (times_count edges copies (omega arith)) (once (c + 1) (pass_count copies) ∙ sym (sum_by-cons (λ (n : ℕ). n + 1) c copies))
-  where
-    once : (c u : ℕ) → c * 1 + u ≡ c + u
-    once c u = omega arith
+times_count (e ∷ edges) (c ∷ copies) beside = omega (arith, times_count edges copies (omega arith), sum_by-cons (λ (n : ℕ). n + 1) c copies)
 
 -- few passes in all are few of each line
 pub copies_fit : (copies : List ℕ) → pass_count copies < 2 ^ 32 → all_below 4294967295 copies ≡ true

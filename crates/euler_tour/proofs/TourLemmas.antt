@@ -1,24 +1,24 @@
 -- The first partial tour, and the tour at the end.
-use Rattle.std.proofs.Common.{◌≡◌, ◌≤◌, ◌<◌, inl, inr, ℕ, suc, ◌+◌, ◌%◌, ◌==◌, Bool, true, false, nat_lt, List, [], ◌∷◌, ◌++◌, map, length, get_or, slice_get, Option, Some, None, arith, refl, sym, ◌∙◌, ap, subst}
+use Rattle.std.proofs.Common.{◌≡◌, ◌≤◌, ◌<◌, inl, inr, ℕ, suc, ◌+◌, ◌%◌, ◌==◌, Bool, true, false, List, [], ◌∷◌, ◌++◌, map, length, get_or, slice_get, Option, Some, None, arith, refl, sym, ◌∙◌, ap, subst}
 use Rattle.std.proofs.lemmas.Bool.Decides.{nat_tests}
 use Rattle.std.proofs.lemmas.Option.{slice_get_within}
 use Rattle.std.specs.Option.{option_or}
 use Rattle.line_graph.specs.declared.edge.Edge.{Edge}
 use Rattle.line_graph.specs.declared.pass.Pass.{Pass}
-use Rattle.line_graph.specs.ValidPieces.{IsConnectedGraph, IsValidPiece, ends_below, is_below}
-use Rattle.line_graph.specs.PieceGraphs.{PieceValue, one_if, closing_edge, degree, given_start, given_end}
+use Rattle.line_graph.specs.ValidPieces.{IsConnectedGraph, IsValidPiece, ends_below}
+use Rattle.line_graph.specs.PieceGraphs.{PieceValue, one_if, closing_edge, degree, given_start}
 use Rattle.line_graph.specs.Pieces.{first_line}
-use Rattle.line_graph.specs.PieceWalks.{BeginsWith, after_edge, edge_cost, edge_of, pass_start_on, walk_start, is_walk_start_to_end, edge_value, pass_sum, passes, walk_end_from}
+use Rattle.line_graph.specs.PieceWalks.{BeginsWith, after_edge, edge_cost, edge_of, is_walk_start_to_end, edge_value, pass_sum, passes, walk_end_from}
 use Rattle.euler_tour.specs.RemainingLines.{edge_ends_at, remaining_ends, remaining_sum, one_of, pass_counts}
 use Rattle.euler_tour.specs.LineEnds.{pass_from}
-use Rattle.euler_tour.specs.Tours.{CanPass, IsTour, pass_ends}
+use Rattle.euler_tour.specs.Tours.{CanPass, IsTour}
 use Rattle.euler_tour.specs.PartialTours.{IsExhausted, IsTourInvariant, first_edge_start, first_edge_end, tour_end, tour_start, or_first_start}
 use Rattle.euler_tour.proofs.LeftLemmas.{none_left, sum_none, times_at, times_cost, times_count, times_ends}
 use Rattle.euler_tour.proofs.TripLemmas.{met}
-use Rattle.euler_tour.proofs.WalkLemmas.{all_covered, bit_self}
+use Rattle.euler_tour.proofs.WalkLemmas.{all_covered}
 use Rattle.euler_tour.proofs.CallerLemmas.{ends_are_below}
 use Rattle.line_graph.proofs.CallerLemmas.{edge_there, lost}
-use Rattle.lists_and_numbers.proofs.CallerLemmas.{eq_self, same_number, same_test, some_same}
+use Rattle.lists_and_numbers.proofs.CallerLemmas.{same_number, same_test, some_same}
 
 -- ---- the beginning
 
@@ -34,54 +34,24 @@ none_said None None is = refl
 none_said None (Some b) is = absurd (cc)
 none_said (Some a) other is = absurd (cc)
 
--- both ends of the way are junctions of the piece
-said_below : (one other : Option ℕ) (edges : List Edge) (count : ℕ) → is_below count one ≡ true → is_below count other ≡ true
-    → first_edge_start edges < count
-    → or_first_start (option_or one other) edges < count
-said_below (Some a) other edges count is_one is_other first = less a count is_one
-  where
-    less : (m n : ℕ) → nat_lt m n ≡ true → m < n
-    less m n is = grind (arith, nat_tests)
-said_below None (Some b) edges count is_one is_other first = less b count is_other
-  where
-    less : (m n : ℕ) → nat_lt m n ≡ true → m < n
-    less m n is = grind (arith, nat_tests)
-said_below None None edges count is_one is_other first = first
-
 -- so is where the walk is to end
 pub goal_below : (p : PieceValue) → IsValidPiece p → tour_end p < length p.junctions
-goal_below p kept =
-    let e = first_edge p.edges (subst (λ (n : ℕ). 1 ≤ n) kept.beside kept.some) in
-    said_below p.end p.start p.edges (length p.junctions) kept.end_below kept.start_below
-    (subst (λ (n : ℕ). n < length p.junctions) (sym e.2) (ends_are_below (length p.junctions) p.edges 0 e.0 kept.ends e.1).0)
+goal_below p kept = grind (arith, nat_tests)
 
 -- with the line back, each junction has an even number of ends
 said_even : (edges : List Edge) (one other : Option ℕ) (j n : ℕ)
     → (degree (closing_edge (option_or one other) (option_or other one)) j + n) % 2
     ≡ 0
     → ((n + one_if (or_first_start (option_or other one) edges == j)) + one_if (or_first_start (option_or one other) edges == j)) % 2 ≡ 0
-said_even edges (Some a) (Some b) j n even = turned _ _ n even
-  where
-    turned : (x y n : ℕ) → (((x + y) + 0) + n) % 2 ≡ 0 → ((n + x) + y) % 2 ≡ 0
-    turned x y n even = omega arith
-said_even edges (Some a) None j n even = turned _ _ n even
-  where
-    turned : (x y n : ℕ) → (((x + y) + 0) + n) % 2 ≡ 0 → ((n + x) + y) % 2 ≡ 0
-    turned x y n even = omega arith
-said_even edges None (Some b) j n even = turned _ _ n even
-  where
-    turned : (x y n : ℕ) → (((x + y) + 0) + n) % 2 ≡ 0 → ((n + x) + y) % 2 ≡ 0
-    turned x y n even = omega arith
-said_even edges None None j n even = twice _ n even
-  where
-    twice : (x n : ℕ) → (0 + n) % 2 ≡ 0 → ((n + x) + x) % 2 ≡ 0
-    twice x n even = omega arith
+said_even edges (Some a) (Some b) j n even = omega arith
+said_even edges (Some a) None j n even = omega arith
+said_even edges None (Some b) j n even = omega arith
+said_even edges None None j n even = omega arith
 
 -- as the tour in the making begins
 pub begins_even : (p : PieceValue) (copies : List ℕ) → CanPass p copies → (j : ℕ)
     → ((remaining_ends p.edges (pass_counts copies) j + one_if (tour_end p == j)) + one_if (tour_start p == j)) % 2 ≡ 0
-begins_even p copies can j =
-    rw (times_ends p.edges copies j) (said_even p.edges p.start p.end j (pass_ends p.edges copies j) (can.even j))
+begins_even p copies can j = grind (arith, nat_tests, times_ends, said_even)
 
 -- it begins with its first pass
 pub begins_with : (home home2 : List Pass) (pass : Pass) (line : ℕ) → home ≡ [] → home2 ≡ home ++ pass ∷ []
@@ -105,16 +75,10 @@ all_done edges left goal tail j stuck meets (inr (inr is)) = subst (λ (n : ℕ)
 
 -- an edge has an end at either of its ends
 meets_a : (e : Edge) → 1 ≤ edge_ends_at e.a e
-meets_a e = rw (bit_self e.a) (least (one_if (e.b == e.a)))
-  where
-    least : (k : ℕ) → 1 ≤ 1 + k
-    least k = omega arith
+meets_a e = grind (arith, nat_tests)
 
 meets_b : (e : Edge) → 1 ≤ edge_ends_at e.b e
-meets_b e = rw (bit_self e.b) (least (one_if (e.a == e.b)))
-  where
-    least : (k : ℕ) → 1 ≤ k + 1
-    least k = omega arith
+meets_b e = grind (arith, nat_tests)
 
 -- a line of which nothing is left is passed, and so nothing is left at its ends; as lines join all junctions,
 -- nothing is left anywhere
@@ -147,27 +111,10 @@ all_passed edges left count goal tail joined ends below stuck meets over k e is 
     leaves : (k : ℕ) (e : Edge) → slice_get edges k ≡ Some e → is_bare e.a ≡ is_bare e.b
     leaves k e is = same_test (is_bare e.a) (is_bare e.b) (from_a k e is) (from_b k e is)
 
--- where a walk begins
-begins_at : (lines : List ℕ) (edges : List Edge) (walk : List Pass) (from : Option ℕ) → 1 ≤ length lines → length lines ≡ length edges
-    → (from ≡ None → BeginsWith (first_line lines) walk) → option_or from (walk_start lines edges walk) ≡ Some (or_first_start from edges)
-begins_at lines edges walk (Some j) some beside begins = refl
-begins_at [] edges walk None some beside begins = absurd (omega arith)
-begins_at (n ∷ lines) [] walk None some beside begins = absurd (omega arith)
-begins_at (n ∷ lines) (e ∷ edges) [] None some beside begins = absurd (begins refl)
-begins_at (n ∷ lines) (e ∷ edges) (pass ∷ walk) None some beside begins =
-    ap (λ (x : Pass). pass_start_on (edge_of (n ∷ lines) (e ∷ edges) x.line) x.back) (begins refl) ∙ rw (eq_self n) refl
-
 -- the walk leads as it is to
 leads_on : (p : PieceValue) (walk : List Pass) (tail : ℕ) → IsValidPiece p → (given_start p ≡ None → BeginsWith (first_line p.lines) walk)
     → walk_end_from p.lines p.edges (Some (tour_start p)) walk ≡ Some tail → tail ≡ tour_end p → is_walk_start_to_end p walk ≡ true
-leads_on p walk tail kept begins goes meets =
-    rw (
-      begins_at p.lines p.edges walk (given_start p) kept.some kept.beside begins,
-      goes,
-      begins_at p.lines p.edges walk (given_end p) kept.some kept.beside (λ none. begins (none_said p.end p.start none)),
-      meets,
-    )
-    (eq_self (tour_end p))
+leads_on p walk tail kept begins goes meets = grind (arith, nat_tests)
 
 -- a walk that leads somewhere has a pass for each edge that it counts
 counted : (lines : List ℕ) (edges : List Edge) (walk : List Pass) (at : Option ℕ) (to : ℕ) → walk_end_from lines edges at walk ≡ Some to
@@ -190,15 +137,9 @@ pub finished : (p : PieceValue) (copies left out : List ℕ) (home : List Pass) 
     → remaining_ends p.edges left at ≡ 0
     → IsTourInvariant p.lines p.edges (pass_counts copies) left (map (pass_from p.lines) out) home (tour_start p) (tour_end p) at tail
     → (given_start p ≡ None → BeginsWith (first_line p.lines) home) → IsTour p copies home
-finished p copies left out home at tail kept can is_out stuck k begins = record {
-  led = leads_on p home tail kept begins k.goes_home meets;
-  covered = all_covered p.lines home (λ i. λ below. more _ _ (counts i below));
-  counts = counts;
-  begins = begins;
-  costs = whole _ _ _ (sums edge_cost) (none edge_cost) ∙ times_cost p.edges copies beside;
-  long = sym (counted p.lines p.edges home (Some (tour_start p)) tail k.goes_home) ∙ whole _ _ _ (sums one_of) (none one_of)
-      ∙ times_count p.edges copies beside;
-}
+finished p copies left out home at tail kept can is_out stuck k begins =
+    record
+    { led = leads_on p home tail kept begins k.goes_home meets; covered = all_covered p.lines home (λ i. λ below. (omega (arith, counts i below))); counts = counts; begins = begins; costs = whole _ _ _ (sums edge_cost) (none edge_cost) ∙ times_cost p.edges copies beside; long = sym (counted p.lines p.edges home (Some (tour_start p)) tail k.goes_home) ∙ whole _ _ _ (sums one_of) (none one_of) ∙ times_count p.edges copies beside }
   where
     beside : length copies ≡ length p.edges
     beside = can.beside ∙ kept.beside
@@ -243,9 +184,6 @@ finished p copies left out home at tail kept can is_out stuck k begins = record 
 
     whole : (n l t : ℕ) → (0 + n) + l ≡ t → l ≡ 0 → n ≡ t
     whole n l t sum empty = omega arith
-
-    more : (n c : ℕ) → n ≡ c + 1 → 1 ≤ n
-    more n c is = omega arith
 
     counts : (i : ℕ) → i < length p.lines → passes (get_or p.lines i 0) home ≡ get_or copies i 0 + 1
     counts i below = whole _ _ _ (passed i below) (nothing i (within i below))

@@ -1,5 +1,6 @@
 -- The invariant of a partial tour, at each step.
-use Rattle.std.proofs.Common.{◌≡◌, ◌≤◌, ◌<◌, inl, inr, ℕ, zero, suc, ◌+◌, ◌*◌, ◌/◌, ◌%◌, ◌==◌, Bool, true, false, cond, not, List, [], ◌∷◌, ◌++◌, map, length, get_or, set, slice_get, sum_by, Option, Some, None, arith, refl, sym, ◌∙◌, ap, subst, length-append}
+use Rattle.std.proofs.lemmas.Bool.Decides.{nat_tests}
+use Rattle.std.proofs.Common.{◌≡◌, ◌≤◌, ◌<◌, inl, inr, ℕ, zero, suc, ◌+◌, ◌*◌, ◌/◌, ◌%◌, ◌==◌, Bool, true, false, not, List, [], ◌∷◌, ◌++◌, map, length, get_or, set, slice_get, sum_by, Option, Some, None, arith, refl, sym, ◌∙◌, ap, subst, length-append}
 use Rattle.std.proofs.lemmas.List.{map-append}
 use Rattle.std.proofs.lemmas.List.Sums.{sum_by-set}
 use Rattle.std.proofs.lemmas.Option.{slice_get_within}
@@ -11,10 +12,10 @@ use Rattle.euler_tour.specs.RemainingLines.{edge_ends_at, remaining_ends, remain
 use Rattle.euler_tour.specs.LineEnds.{junction_across, junction_at, pass_from, pass_to}
 use Rattle.euler_tour.specs.PartialTours.{IsExhausted, IsTourInvariant}
 use Rattle.euler_tour.proofs.LeftLemmas.{count_step, left_less}
-use Rattle.euler_tour.proofs.WalkLemmas.{bit_self, pass_sum_push, passes_push}
+use Rattle.euler_tour.proofs.WalkLemmas.{pass_sum_push, passes_push}
 use Rattle.euler_tour.proofs.CallerLemmas.{started}
 use Rattle.line_graph.proofs.CallerLemmas.{edge_found, walk_append}
-use Rattle.lists_and_numbers.proofs.CallerLemmas.{eq_self, same_number, some_same}
+use Rattle.lists_and_numbers.proofs.CallerLemmas.{same_number, some_same}
 
 -- ---- a step out
 
@@ -22,31 +23,17 @@ use Rattle.lists_and_numbers.proofs.CallerLemmas.{eq_self, same_number, some_sam
 led : (found : Option Edge) (e : Edge) (back : Bool) (at next : ℕ) → found ≡ Some e → pass_start e back ≡ at
     → pass_start e (not back) ≡ next
     → after_edge found back at ≡ Some next
-led found e back at next is starts ends = rw (is, ← starts, ← ends) (along e back)
-  where
-    along : (e : Edge) (back : Bool) → after_edge (Some e) back (pass_start e back) ≡ Some (pass_start e (not back))
-    along e true = rw (eq_self e.b) refl
-    along e false = rw (eq_self e.a) refl
+led found e back at next is starts ends = grind (arith, nat_tests)
 
 -- its two ends
 two_ends : (e : Edge) (back : Bool) (at next j : ℕ) → pass_start e back ≡ at → pass_start e (not back) ≡ next
     → one_if (at == j) + one_if (next == j) ≡ edge_ends_at j e
-two_ends e back at next j starts ends = rw (← starts, ← ends) (by_way e back)
-  where
-    turned : (x y : ℕ) → x + y ≡ y + x
-    turned x y = omega arith
-
-    by_way : (e : Edge) (back : Bool) → one_if (pass_start e back == j) + one_if (pass_start e (not back) == j) ≡ edge_ends_at j e
-    by_way e true = turned (one_if (e.b == j)) (one_if (e.a == j))
-    by_way e false = refl
+two_ends e back at next j starts ends = grind (arith, nat_tests)
 
 -- what is done stays so where a line is taken
 still : (edges : List Edge) (left : List ℕ) (goal tail place j : ℕ) (e : Edge) → slice_get edges place ≡ Some e → 1 ≤ get_or left place 0
     → IsExhausted edges left goal tail j → IsExhausted edges (decremented_at left place) goal tail j
-still edges left goal tail place j e is some (inl none) = inl (less_zero _ _ _ (left_less (edge_ends_at j) edges left place e is some) none)
-  where
-    less_zero : (u k v : ℕ) → u + k ≡ v → v ≡ 0 → u ≡ 0
-    less_zero u k v h none = omega arith
+still edges left goal tail place j e is some (inl none) = grind (arith, nat_tests, left_less (edge_ends_at j) edges left place e is some)
 still edges left goal tail place j e is some (inr there) = inr there
 
 -- a step out along the edge at an index
@@ -57,21 +44,9 @@ out_core : (lines : List ℕ) (edges : List Edge) (times left : List ℕ) (out h
     → IsTourInvariant lines edges times (decremented_at left place) (out ++ record { line = get_or lines place 0; back = back } ∷ []) home
     head goal next
     tail
-out_core lines edges times left out home head goal at tail place next back e rising beside is some starts ends k = record {
-  counted = λ i. λ below. summed _ _ _ _ _ _ _ (passes_push (get_or lines i 0) out pass)
-      (count_step lines left place i rising within below some) (k.counted i below);
-  sums = λ f. summed _ _ _ _ _ _ _ (pass_sum_push lines edges f out pass ∙ ap
-      (λ (x : Option Edge). pass_sum lines edges f out + edge_value f x) found)
-      (turned _ _ _ (left_less f edges left place e is some)) (k.sums f);
-  goes_out = walk_append lines edges (Some goal) out (pass ∷ []) ∙ ap (λ (x : Option ℕ). after_pass lines edges pass x) k.goes_out
-      ∙ led (edge_of lines edges (get_or lines place 0)) e back at next found starts ends;
-  goes_home = k.goes_home;
-  even = λ j. evened _ _ _ _ _ _ (left_less (edge_ends_at j) edges left place e is some) (two_ends e back at next j starts ends) (k.even j);
-  done = λ i. λ x. λ here. λ least. (
-    still edges left goal tail place x.a e is some (k.done i x here least).0,
-    still edges left goal tail place x.b e is some (k.done i x here least).1,
-  );
-}
+out_core lines edges times left out home head goal at tail place next back e rising beside is some starts ends k =
+    record
+    { counted = λ i. λ below. summed _ _ _ _ _ _ _ (passes_push (get_or lines i 0) out pass) (count_step lines left place i rising within below some) (k.counted i below); sums = λ f. summed _ _ _ _ _ _ _ (pass_sum_push lines edges f out pass ∙ ap (λ (x : Option Edge). pass_sum lines edges f out + edge_value f x) found) (omega (arith, left_less f edges left place e is some)) (k.sums f); goes_out = walk_append lines edges (Some goal) out (pass ∷ []) ∙ ap (λ (x : Option ℕ). after_pass lines edges pass x) k.goes_out ∙ led (edge_of lines edges (get_or lines place 0)) e back at next found starts ends; goes_home = k.goes_home; even = λ j. evened _ _ _ _ _ _ (left_less (edge_ends_at j) edges left place e is some) (two_ends e back at next j starts ends) (k.even j); done = λ i. λ x. λ here. λ least. (still edges left goal tail place x.a e is some (k.done i x here least).0, still edges left goal tail place x.b e is some (k.done i x here least).1) }
   where
     pass : Pass
     pass = record { line = get_or lines place 0; back = back }
@@ -81,9 +56,6 @@ out_core lines edges times left out home head goal at tail place next back e ris
 
     found : edge_of lines edges (get_or lines place 0) ≡ Some e
     found = edge_found lines edges place e rising within is
-
-    turned : (u k v : ℕ) → u + k ≡ v → k + u ≡ v
-    turned u k v h = omega arith
 
     summed : (po o b h l2 l t : ℕ) → po ≡ o + b → b + l2 ≡ l → (o + h) + l ≡ t → (po + h) + l2 ≡ t
     summed po o b h l2 l t is less sum = omega arith
@@ -113,12 +85,7 @@ pub out_less : (edges : List Edge) (left left2 out out2 : List ℕ) (sum end at 
     → out2 ≡ out ++ end ∷ []
     → 1 ≤ get_or left (end / 2) 0 → junction_at edges end ≡ Some at
     → (2 * remaining_sum one_of edges left2 + length out2) + sum < (2 * remaining_sum one_of edges left + length out) + sum
-out_less edges left left2 out out2 sum end at is_left is_out some starts =
-    let e = started (slice_get edges (end / 2)) (is_odd end) at starts in
-    rw (is_left, is_out, length-append out (end ∷ [])) (less _ _ _ sum (left_less one_of edges left (end / 2) e.0 e.1 some))
-  where
-    less : (u v n s : ℕ) → u + 1 ≡ v → (2 * u + (n + 1)) + s < (2 * v + n) + s
-    less u v n s h = omega arith
+out_less edges left left2 out out2 sum end at is_left is_out some starts = grind (arith, nat_tests, started, length-append, left_less)
 
 -- ---- a step back
 
@@ -127,30 +94,16 @@ came : (found : Option Edge) (e : Edge) (back : Bool) (x : Option ℕ) (at : ℕ
     → elim x as (λ y. Option ℕ) [ None ↦ None | Some k ↦ after_edge found back k ] ≡ Some at
     → (x ≡ Some (pass_start e back)) × (pass_end e back ≡ at)
 came found e back None at is leads = absurd (cc)
-came found e back (Some k) at is leads =
-    by_test (pass_start e back == k) refl (ap (λ (y : Option Edge). after_edge y back k) (sym is) ∙ leads)
-  where
-    by_test : (t : Bool) → (pass_start e back == k) ≡ t → cond t (Some (pass_end e back)) None ≡ Some at
-        → (Some k ≡ Some (pass_start e back)) × (pass_end e back ≡ at)
-    by_test true test leads = (ap (λ (n : ℕ). Some n) (sym (same_number (pass_start e back) k test)), some_same (pass_end e back) at leads)
-    by_test false test leads = absurd (cc)
+came found e back (Some k) at is leads = grind (arith, nat_tests)
 
 -- the pass that was turned round
 homed : (found : Option Edge) (e : Edge) (back : Bool) (at from : ℕ) → found ≡ Some e → pass_start e back ≡ from → pass_end e back ≡ at
     → after_edge found (not back) at ≡ Some from
-homed found e back at from is begins ends = rw (is, ← begins, ← ends) (home_edge e back)
-  where
-    home_edge : (e : Edge) (back : Bool) → after_edge (Some e) (not back) (pass_end e back) ≡ Some (pass_start e back)
-    home_edge e true = rw (eq_self e.a) refl
-    home_edge e false = rw (eq_self e.b) refl
+homed found e back at from is begins ends = grind (arith, nat_tests)
 
 -- where nothing is left the walk home ends
 pub met : (u at tail : ℕ) → u ≡ 0 → ((u + one_if (at == at)) + one_if (tail == at)) % 2 ≡ 0 → tail ≡ at
-met u at tail none even = by_test (tail == at) refl (rw (bit_self at) at even)
-  where
-    by_test : (t : Bool) → (tail == at) ≡ t → ((u + 1) + one_if t) % 2 ≡ 0 → tail ≡ at
-    by_test true is even = same_number tail at is
-    by_test false is even = absurd (omega arith)
+met u at tail none even = grind (arith, nat_tests)
 
 -- what was done stays so where the walk home goes on
 now_done : (edges : List Edge) (left : List ℕ) (goal tail from at j : ℕ) → tail ≡ at → remaining_ends edges left at ≡ 0
@@ -158,23 +111,14 @@ now_done : (edges : List Edge) (left : List ℕ) (goal tail from at j : ℕ) →
     → IsExhausted edges left goal from j
 now_done edges left goal tail from at j meets stuck (inl none) = inl none
 now_done edges left goal tail from at j meets stuck (inr (inl is)) = inr (inl is)
-now_done edges left goal tail from at j meets stuck (inr (inr is)) = inl
-    (subst (λ (n : ℕ). remaining_ends edges left n ≡ 0) (sym (is ∙ meets)) stuck)
+now_done edges left goal tail from at j meets stuck (inr (inr is)) = grind (arith, nat_tests)
 
 -- both ends of the line that was passed
 edge_done : (edges : List Edge) (left : List ℕ) (goal from at : ℕ) (e : Edge) (back : Bool) → remaining_ends edges left at ≡ 0
     → pass_start e back ≡ from
     → pass_end e back ≡ at → IsExhausted edges left goal from e.a × IsExhausted edges left goal from e.b
-edge_done edges left goal from at e true stuck begins ends = (
-  inl (subst (λ (n : ℕ). remaining_ends edges left n ≡ 0) (sym ends) stuck),
-  inr
-      (inr begins),
-)
-edge_done edges left goal from at e false stuck begins ends = (
-  inr (inr begins),
-  inl
-      (subst (λ (n : ℕ). remaining_ends edges left n ≡ 0) (sym ends) stuck),
-)
+edge_done edges left goal from at e true stuck begins ends = grind (arith, nat_tests)
+edge_done edges left goal from at e false stuck begins ends = grind (arith, nat_tests)
 
 -- a step back along the edge at an index
 back_core : (lines : List ℕ) (edges : List Edge) (times left : List ℕ) (xs home : List Pass) (head goal at tail from place : ℕ)
@@ -183,19 +127,9 @@ back_core : (lines : List ℕ) (edges : List Edge) (times left : List ℕ) (xs h
     → remaining_ends edges left at ≡ 0
     → IsTourInvariant lines edges times left (xs ++ record { line = get_or lines place 0; back = back } ∷ []) home head goal at tail
     → IsTourInvariant lines edges times left xs (home ++ record { line = get_or lines place 0; back = not back } ∷ []) head goal from from
-back_core lines edges times left xs home head goal at tail from place back e rising beside is starts stuck k = record {
-  counted = λ i. λ below. summed _ _ _ _ _ _ _ (passes_push (get_or lines i 0) xs out) (passes_push (get_or lines i 0) home turned)
-      (k.counted i below);
-  sums = λ f. summed _ _ _ _ _ _ _ (pass_sum_push lines edges f xs out) (pass_sum_push lines edges f home turned) (k.sums f);
-  goes_out = c.0 ∙ ap (λ (n : ℕ). Some n) starts;
-  goes_home = walk_append lines edges (Some head) home (turned ∷ [])
-      ∙ ap (λ (x : Option ℕ). after_pass lines edges turned x) (k.goes_home ∙ ap (λ (n : ℕ). Some n) meets)
-      ∙ homed (edge_of lines edges (get_or lines place 0)) e back at from found starts c.1;
-  even = λ j. evened _ _ _ (subst (λ (n : ℕ). ((remaining_ends edges left j + one_if (at == j)) + one_if (n == j)) % 2 ≡ 0) meets
-      (k.even j));
-  done = λ i. λ x. λ here. λ least.
-      by_times i x here (passes (get_or lines i 0) home) refl (rw (passes_push (get_or lines i 0) home turned) at least);
-}
+back_core lines edges times left xs home head goal at tail from place back e rising beside is starts stuck k =
+    record
+    { counted = λ i. λ below. (omega (arith, passes_push (get_or lines i 0) xs out, passes_push (get_or lines i 0) home turned, k.counted i below)); sums = λ f. (omega (arith, pass_sum_push lines edges f xs out, pass_sum_push lines edges f home turned, k.sums f)); goes_out = c.0 ∙ ap (λ (n : ℕ). Some n) starts; goes_home = walk_append lines edges (Some head) home (turned ∷ []) ∙ ap (λ (x : Option ℕ). after_pass lines edges turned x) (k.goes_home ∙ ap (λ (n : ℕ). Some n) meets) ∙ homed (edge_of lines edges (get_or lines place 0)) e back at from found starts c.1; even = λ j. (omega (arith, subst (λ (n : ℕ). ((remaining_ends edges left j + one_if (at == j)) + one_if (n == j)) % 2 ≡ 0) meets (k.even j))); done = λ i. λ x. λ here. λ least. by_times i x here (passes (get_or lines i 0) home) refl (rw (passes_push (get_or lines i 0) home turned) at least) }
   where
     out : Pass
     out = record { line = get_or lines place 0; back = back }
@@ -215,12 +149,6 @@ back_core lines edges times left xs home head goal at tail from place back e ris
     c : (walk_end_from lines edges (Some goal) xs ≡ Some (pass_start e back)) × (pass_end e back ≡ at)
     c = came (edge_of lines edges (get_or lines place 0)) e back (walk_end_from lines edges (Some goal) xs) at found
         (sym (walk_append lines edges (Some goal) xs (out ∷ [])) ∙ k.goes_out)
-
-    summed : (po o b ph h l t : ℕ) → po ≡ o + b → ph ≡ h + b → (po + h) + l ≡ t → (o + ph) + l ≡ t
-    summed po o b ph h l t is_out is_home sum = omega arith
-
-    evened : (u v w : ℕ) → ((u + v) + v) % 2 ≡ 0 → ((u + w) + w) % 2 ≡ 0
-    evened u v w even = omega arith
 
     by_line : (i : ℕ) (x : Edge) → slice_get edges i ≡ Some x → (t : Bool) → (get_or lines place 0 == get_or lines i 0) ≡ t
         → 1 ≤ 0 + one_if t → x ≡ e
@@ -255,10 +183,7 @@ back_kept lines edges times left out xs home home2 head goal at tail from end is
 
 -- the rank decreases
 pub back_less : (u sum : ℕ) (out xs : List ℕ) (end : ℕ) → out ≡ xs ++ end ∷ [] → (2 * u + length xs) + sum < (2 * u + length out) + sum
-back_less u sum out xs end is = rw (is, length-append xs (end ∷ [])) (less (2 * u) (length xs) sum)
-  where
-    less : (u n s : ℕ) → (u + n) + s < (u + (n + 1)) + s
-    less u n s = omega arith
+back_less u sum out xs end is = grind (arith, nat_tests, length-append)
 
 -- ---- a skipped end
 
@@ -266,12 +191,7 @@ back_less u sum out xs end is = rw (is, length-append xs (end ∷ [])) (less (2 
 pub over_less : (u : ℕ) (last last2 : List ℕ) (at end number : ℕ) → last2 ≡ set last at number → at < length last
     → get_or last at 0 ≡ end + 1
     → number < end + 1 → u + sum_by (λ (n : ℕ). n) last2 < u + sum_by (λ (n : ℕ). n) last
-over_less u last last2 at end number is there here low =
-    rw is (less u (sum_by (λ (n : ℕ). n) (set last at number)) (sum_by (λ (n : ℕ). n) last) (get_or last at 0) number end
-    (sum_by-set (λ (n : ℕ). n) last at number 0 there) here low)
-  where
-    less : (u s t o n e : ℕ) → s + o ≡ t + n → o ≡ e + 1 → n < e + 1 → u + s < u + t
-    less u s t o n e sums is low = omega arith
+over_less u last last2 at end number is there here low = grind (arith, nat_tests, sum_by-set (λ (n : ℕ). n) last at number 0 there)
 
 -- ---- the beginning
 
@@ -280,17 +200,7 @@ pub begun : (lines : List ℕ) (edges : List Edge) (times left out : List ℕ) (
     → home ≡ []
     → ((j : ℕ) → ((remaining_ends edges times j + one_if (goal == j)) + one_if (head == j)) % 2 ≡ 0)
     → IsTourInvariant lines edges times left (map (pass_from lines) out) home head goal goal head
-begun lines edges times left out home head goal is_left is_out is_home even = rw (is_left, is_out, is_home) record {
-  counted = λ k. λ below. nothing (get_or times k 0);
-  sums = λ f. nothing (remaining_sum f edges times);
-  goes_out = refl;
-  goes_home = refl;
-  even = even;
-  done = λ k. λ e. λ is. λ least. absurd (omega (arith, least));
-}
-  where
-    nothing : (n : ℕ) → (0 + 0) + n ≡ n
-    nothing n = omega arith
+begun lines edges times left out home head goal is_left is_out is_home even = grind (arith, nat_tests)
 
 -- the first line is passed
 pub first_kept : (lines : List ℕ) (edges : List Edge) (times left left2 out : List ℕ) (home home2 : List Pass)
@@ -300,20 +210,9 @@ pub first_kept : (lines : List ℕ) (edges : List Edge) (times left left2 out : 
     → head ≡ e.a → goal ≡ e.a → next ≡ e.b
     → IsTourInvariant lines edges times left (map (pass_from lines) out) home head goal at tail
     → IsTourInvariant lines edges times left2 (map (pass_from lines) out) home2 head goal at next
-first_kept lines edges times left left2 out home home2 head goal at tail next e is_left is_out is_home is_home2 rising beside is some
-    is_head is_goal is_next k =
-    rw (is_left, is_home2, is_home) record {
-      counted = λ i. λ below. summed _ _ _ _ _ _ (ap (λ (ps : List Pass). passes (get_or lines i 0) ps) is_home)
-          (count_step lines left 0 i rising within below some) (k.counted i below);
-      sums = λ f. summed _ _ _ _ _ _ (ap (λ (ps : List Pass). pass_sum lines edges f ps) is_home)
-          (ap (λ (x : Option Edge). edge_value f x + remaining_sum f edges (decremented_at left 0)) found ∙ turned _ _ _
-          (left_less f edges left 0 e is some)) (k.sums f);
-      goes_out = k.goes_out;
-      goes_home = led (edge_of lines edges (get_or lines 0 0)) e false head next found (sym is_head) (sym is_next);
-      even = λ j. evened _ _ _ _ _ _ _ (left_less (edge_ends_at j) edges left 0 e is some)
-          (ap (λ (n : ℕ). one_if (n == j)) tail_is) (ap (λ (n : ℕ). one_if (n == j)) is_next) (k.even j);
-      done = λ i. λ x. λ here. λ least. by_line i x here (get_or lines 0 0 == get_or lines i 0) refl least;
-    }
+first_kept lines edges times left left2 out home home2 head goal at tail next e is_left is_out is_home is_home2 rising beside is some is_head is_goal is_next k =
+    rw (is_left, is_home2, is_home) record
+    { counted = λ i. λ below. summed _ _ _ _ _ _ (ap (λ (ps : List Pass). passes (get_or lines i 0) ps) is_home) (count_step lines left 0 i rising within below some) (k.counted i below); sums = λ f. summed _ _ _ _ _ _ (ap (λ (ps : List Pass). pass_sum lines edges f ps) is_home) (ap (λ (x : Option Edge). edge_value f x + remaining_sum f edges (decremented_at left 0)) found ∙ (omega (arith, left_less f edges left 0 e is some))) (k.sums f); goes_out = k.goes_out; goes_home = led (edge_of lines edges (get_or lines 0 0)) e false head next found (sym is_head) (sym is_next); even = λ j. evened _ _ _ _ _ _ _ (left_less (edge_ends_at j) edges left 0 e is some) (ap (λ (n : ℕ). one_if (n == j)) tail_is) (ap (λ (n : ℕ). one_if (n == j)) is_next) (k.even j); done = λ i. λ x. λ here. λ least. by_line i x here (get_or lines 0 0 == get_or lines i 0) refl least }
   where
     within : 0 < length lines
     within = subst (λ (n : ℕ). 0 < n) (sym beside) (slice_get_within edges 0 e is)
@@ -324,9 +223,6 @@ first_kept lines edges times left left2 out home home2 head goal at tail next e 
     tail_is : tail ≡ e.a
     tail_is = sym (some_same head tail (sym (ap (λ (ps : List Pass). walk_end_from lines edges (Some head) ps) is_home) ∙ k.goes_home))
         ∙ is_head
-
-    turned : (u k v : ℕ) → u + k ≡ v → k + u ≡ v
-    turned u k v h = omega arith
 
     summed : (o h b l2 l t : ℕ) → h ≡ 0 → b + l2 ≡ l → (o + h) + l ≡ t → (o + (b + 0)) + l2 ≡ t
     summed o h b l2 l t none less sum = omega arith

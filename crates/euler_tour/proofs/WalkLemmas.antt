@@ -1,38 +1,21 @@
 -- Lines that rise and their edges, and walks that go on.
-use Rattle.std.proofs.Common.{◌≡◌, ◌≤◌, ◌<◌, ℕ, suc, ◌+◌, ◌==◌, Bool, true, false, ◌||◌, List, [], ◌∷◌, ◌++◌, length, get_or, arith, refl, ap}
+use Rattle.std.proofs.lemmas.Bool.Decides.{nat_tests}
+use Rattle.std.proofs.Common.{◌≡◌, ◌≤◌, ◌<◌, ℕ, suc, ◌+◌, ◌==◌, Bool, true, false, ◌||◌, List, [], ◌∷◌, ◌++◌, length, get_or, arith, refl}
 use Rattle.line_graph.specs.declared.edge.Edge.{Edge}
 use Rattle.line_graph.specs.declared.pass.Pass.{Pass}
 use Rattle.line_graph.specs.PieceGraphs.{one_if}
 use Rattle.line_graph.specs.PieceWalks.{covers, edge_of, edge_value, pass_sum, is_line_passed, passes}
-use Rattle.lists_and_numbers.proofs.CallerLemmas.{eq_self}
-
-pub bit_self : (n : ℕ) → one_if (n == n) ≡ 1
-bit_self n = ap one_if (eq_self n)
 
 -- how often a walk with one more pass passes a line
 pub passes_push : (n : ℕ) (xs : List Pass) (p : Pass) → passes n (xs ++ p ∷ []) ≡ passes n xs + one_if (p.line == n)
-passes_push n [] p = turned (one_if (p.line == n))
-  where
-    turned : (k : ℕ) → k + 0 ≡ 0 + k
-    turned k = omega arith
-passes_push n (x ∷ xs) p = rw (passes_push n xs p) (joined (one_if (x.line == n)) (passes n xs) (one_if (p.line == n)))
-  where
-    joined : (x y z : ℕ) → x + (y + z) ≡ (x + y) + z
-    joined x y z = omega arith
+passes_push n [] p = omega arith
+passes_push n (x ∷ xs) p = grind (arith, nat_tests, passes_push n xs p)
 
 -- and the sum over it
 pub pass_sum_push : (lines : List ℕ) (edges : List Edge) (f : Edge → ℕ) (xs : List Pass) (p : Pass)
     → pass_sum lines edges f (xs ++ p ∷ []) ≡ pass_sum lines edges f xs + edge_value f (edge_of lines edges p.line)
-pass_sum_push lines edges f [] p = turned (edge_value f (edge_of lines edges p.line))
-  where
-    turned : (k : ℕ) → k + 0 ≡ 0 + k
-    turned k = omega arith
-pass_sum_push lines edges f (x ∷ xs) p =
-    rw (pass_sum_push lines edges f xs p)
-    (joined (edge_value f (edge_of lines edges x.line)) (pass_sum lines edges f xs) (edge_value f (edge_of lines edges p.line)))
-  where
-    joined : (x y z : ℕ) → x + (y + z) ≡ (x + y) + z
-    joined x y z = omega arith
+pass_sum_push lines edges f [] p = omega arith
+pass_sum_push lines edges f (x ∷ xs) p = grind (arith, nat_tests, pass_sum_push lines edges f xs p)
 
 -- a line that is passed once or more is passed
 pub is_passed : (n : ℕ) (walk : List Pass) → 1 ≤ passes n walk → is_line_passed n walk ≡ true
