@@ -1,5 +1,5 @@
 -- Cursors over the ends at each junction, when lines are passed and ends skipped.
-use Rattle.std.proofs.Common.{◌≡◌, ◌≤◌, ◌<◌, ◌⊎◌, inl, inr, ℕ, zero, suc, ◌+◌, ◌-◌, ◌*◌, ◌/◌, ◌==◌, ◌||◌, Bool, true, false, not, nat_lt, List, [], ◌∷◌, length, get_or, set, slice_get, Some, arith, refl, sym, ap, ◌∙◌, subst, length-set, get_or-set_same, get_or-set_other, sum_by}
+use Rattle.std.proofs.Common.{◌≡◌, ◌≤◌, ◌<◌, ◌⊎◌, inl, inr, ℕ, zero, suc, ◌+◌, ◌*◌, ◌/◌, ◌==◌, ◌||◌, Bool, true, false, not, List, [], ◌∷◌, length, get_or, set, slice_get, Some, arith, refl, sym, ap, ◌∙◌, subst, length-set, get_or-set_same, get_or-set_other, sum_by}
 use Rattle.std.proofs.lemmas.Grind.{get_or_default_zero}
 use Rattle.std.proofs.lemmas.Bool.{and_from, cases_eq}
 use Rattle.std.proofs.lemmas.Bool.Decides.{nat_tests}
@@ -9,7 +9,7 @@ use Rattle.line_graph.specs.PieceGraphs.{is_odd}
 use Rattle.double_run.specs.Cursors.{AreTraversalTables, IsTraversalCursor}
 use Rattle.euler_tour.specs.LineEnds.{AreBefore, AreLast, IsLast, junction_at}
 use Rattle.double_run.specs.Traversals.{IsLegFrom, is_exhausted, has_end_at}
-use Rattle.euler_tour.proofs.CallerLemmas.{end_a, end_b, end_within, started}
+use Rattle.euler_tour.proofs.CallerLemmas.{end_a, end_b, end_within}
 use Rattle.lists_and_numbers.proofs.CallerLemmas.{half, half_more, one_of, same_number}
 
 -- ---- which lines are passed
@@ -58,48 +58,17 @@ all_spent (p ∷ passed) (e ∷ edges) j each =
 -- the last end of all is a cursor
 cursor_first : (edges : List Edge) (passed : List Bool) (j number : ℕ) → IsLast edges j (2 * length edges) number
     → IsTraversalCursor edges passed j number
-cursor_first edges passed j number last = record {
-  within = last.within;
-  there = last.there;
-  over = λ end. λ low. λ there. absurd (last.none end low (end_within edges end j there) there);
-}
+cursor_first edges passed j number last = grind (arith, nat_tests, end_within)
 
 -- so is the one before an end whose line is passed
 cursor_back : (edges : List Edge) (passed : List Bool) (j end number : ℕ) → IsTraversalCursor edges passed j (end + 1)
     → get_or passed (end / 2) false ≡ true → IsLast edges j end number → IsTraversalCursor edges passed j number
-cursor_back edges passed j end number cursor gone last = record {
-  within = low number end (2 * length edges) last.within cursor.within;
-  there = last.there;
-  over = λ other. λ above. λ there. by_place other above there (cases_eq other end);
-}
-  where
-    low : (m n k : ℕ) → m ≤ n → n + 1 ≤ k → m ≤ k
-    low m n k h i = omega arith
-
-    by_order : (other : ℕ) → number ≤ other → junction_at edges other ≡ Some j → (other ≡ end → ⊥) → (t : Bool) → nat_lt other end ≡ t
-        → get_or passed (other / 2) false ≡ true
-    by_order other above there differs true is = absurd (last.none other above (less other end is) there)
-      where
-        less : (m n : ℕ) → nat_lt m n ≡ true → m < n
-        less m n is = grind (arith, nat_tests)
-    by_order other above there differs false is = cursor.over other (more other end differs is) there
-      where
-        more : (m n : ℕ) → (m ≡ n → ⊥) → nat_lt m n ≡ false → n + 1 ≤ m
-        more m n differs is = grind (arith, nat_tests, differs)
-
-    by_place : (other : ℕ) → number ≤ other → junction_at edges other ≡ Some j → (other ≡ end) ⊎ (other ≡ end → ⊥)
-        → get_or passed (other / 2) false ≡ true
-    by_place other above there (inl here) = subst (λ (n : ℕ). get_or passed (n / 2) false ≡ true) (sym here) gone
-    by_place other above there (inr differs) = by_order other above there differs (nat_lt other end) refl
+cursor_back edges passed j end number cursor gone last = grind (arith, nat_tests)
 
 -- a cursor stays one where a line is passed
 cursor_on : (edges : List Edge) (passed : List Bool) (j number m : ℕ) → IsTraversalCursor edges passed j number
     → IsTraversalCursor edges (set passed m true) j number
-cursor_on edges passed j number m cursor = record {
-  within = cursor.within;
-  there = cursor.there;
-  over = λ end. λ low. λ there. marked_stays passed m (end / 2) (cursor.over end low there);
-}
+cursor_on edges passed j number m cursor = grind (arith, nat_tests, marked_stays)
 
 -- the junction is exhausted where the cursor is 0
 pub cursor_none : (edges : List Edge) (passed : List Bool) (j : ℕ) → IsTraversalCursor edges passed j 0 → is_exhausted passed edges j ≡ true
@@ -169,13 +138,7 @@ out_ready edges count passed last before at m next below ready = record {
 -- those at another junction
 pub back_ready : (edges : List Edge) (count : ℕ) (passed : List Bool) (last before : List ℕ) (at next : ℕ) → next < count
     → AreTraversalTables edges count passed last before at → AreTraversalTables edges count passed last before next
-back_ready edges count passed last before at next below ready = record {
-  last_beside = ready.last_beside;
-  before_beside = ready.before_beside;
-  below = below;
-  linked = ready.linked;
-  cursors = ready.cursors;
-}
+back_ready edges count passed last before at next below ready = grind (arith, nat_tests)
 
 -- the end before another has a lesser number
 before_less : (edges : List Edge) (count : ℕ) (passed : List Bool) (last before : List ℕ) (at end : ℕ) → get_or last at 0 ≡ end + 1
@@ -194,42 +157,27 @@ before_less edges count passed last before at end here ready =
 -- the cursor at a junction
 pub read_cursor : (edges : List Edge) (count : ℕ) (passed : List Bool) (last before : List ℕ) (at number : ℕ)
     → number ≡ get_or last at number → AreTraversalTables edges count passed last before at → get_or last at 0 ≡ number
-read_cursor edges count passed last before at number is ready =
-    sym (is ∙ get_or_default_zero last at number (subst (λ (n : ℕ). at < n) (sym ready.last_beside) ready.below))
-
-pub cursor_within : (edges : List Edge) (count : ℕ) (passed : List Bool) (last before : List ℕ) (at end : ℕ)
-    → get_or last at 0 ≡ end + 1 → AreTraversalTables edges count passed last before at → end < 2 * length edges
-cursor_within edges count passed last before at end here ready =
-    less end (2 * length edges) (subst (λ (n : ℕ). n ≤ 2 * length edges) here (ready.cursors at ready.below).within)
-  where
-    less : (m n : ℕ) → m + 1 ≤ n → m < n
-    less m n h = omega arith
+read_cursor edges count passed last before at number is ready = grind (arith, nat_tests, get_or_default_zero)
 
 pub cursor_place : (edges : List Edge) (count : ℕ) (passed : List Bool) (last before : List ℕ) (at end : ℕ)
     → get_or last at 0 ≡ end + 1 → length passed ≡ length edges → AreTraversalTables edges count passed last before at
     → end / 2 < length passed
-cursor_place edges count passed last before at end here beside ready =
-    halved end (length edges) (length passed) (cursor_within edges count passed last before at end here ready) beside
-  where
-    halved : (end n k : ℕ) → end < 2 * n → k ≡ n → end / 2 < k
-    halved end n k low beside = omega arith
+cursor_place edges count passed last before at end here beside ready = grind (arith, nat_tests)
 
 pub cursor_leads : (edges : List Edge) (count : ℕ) (passed : List Bool) (last before : List ℕ) (at end : ℕ)
     → get_or last at 0 ≡ end + 1 → slice_get passed (end / 2) ≡ Some false → AreTraversalTables edges count passed last before at
     → IsLegFrom edges passed at (record { place = end / 2; back = is_odd end })
-cursor_leads edges count passed last before at end here left ready =
-    let e = started (slice_get edges (end / 2)) (is_odd end) at ((ready.cursors at ready.below).there end here) in
-    record { edge = e.0; there = e.1; starts = e.2; left = left }
+cursor_leads edges count passed last before at end here left ready = grind (arith, nat_tests)
 
 -- the cursors decrease where an end is skipped
 pub over_less : (edges : List Edge) (count : ℕ) (passed : List Bool) (last last2 before : List ℕ) (at end k : ℕ)
     → last2 ≡ set last at (get_or before end 0) → get_or last at 0 ≡ end + 1 → AreTraversalTables edges count passed last before at
     → k + sum_by (λ (n : ℕ). n) last2 < k + sum_by (λ (n : ℕ). n) last
 over_less edges count passed last last2 before at end k is here ready =
-    rw is (less k (sum_by (λ (n : ℕ). n) (set last at (get_or before end 0))) (sum_by (λ (n : ℕ). n) last) (get_or last at 0)
-    (get_or before end 0) end
-    (sum_by-set (λ (n : ℕ). n) last at (get_or before end 0) 0 (subst (λ (n : ℕ). at < n) (sym ready.last_beside) ready.below)) here
-    (before_less edges count passed last before at end here ready))
-  where
-    less : (k s t o n e : ℕ) → s + o ≡ t + n → o ≡ e + 1 → n < e + 1 → k + s < k + t
-    less k s t o n e sums is low = omega arith
+    grind (
+      arith,
+      nat_tests,
+      sum_by-set (λ (n : ℕ). n) last at (get_or before end 0) 0
+          (subst (λ (n : ℕ). at < n) (sym ready.last_beside) ready.below),
+      before_less edges count passed last before at end here ready,
+    )

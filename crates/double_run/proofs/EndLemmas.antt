@@ -1,2 +1,1 @@
 -- The ends of lines.
-use Rattle.std.proofs.Common.{◌≡◌, ◌<◌, ℕ, ◌+◌, ◌*◌, ◌/◌, ◌%◌, ◌==◌, ◌&&◌, [], ◌∷◌}

@@ -1,5 +1,6 @@
 -- The first traversal, and the double walk of a finished one.
-use Rattle.std.proofs.Common.{◌≡◌, ◌≤◌, ◌<◌, ℕ, zero, suc, ◌+◌, ◌*◌, ◌==◌, ◌&&◌, ◌||◌, Bool, true, false, List, [], ◌∷◌, ◌++◌, length, get_or, replicate, slice_get, Some, arith, refl, sym, ap, ◌∙◌, subst}
+use Rattle.std.proofs.lemmas.Bool.Decides.{nat_tests}
+use Rattle.std.proofs.Common.{◌≡◌, ◌≤◌, ◌<◌, ℕ, zero, suc, ◌+◌, ◌*◌, ◌==◌, Bool, true, false, List, [], ◌∷◌, length, get_or, replicate, slice_get, Some, arith, refl, sym, ap, ◌∙◌, subst}
 use Rattle.std.proofs.lemmas.List.Elements.{All-from_get_or, All-get_or}
 use Rattle.std.proofs.lemmas.List.{length-replicate}
 use Rattle.line_graph.specs.declared.edge.Edge.{Edge}
@@ -7,13 +8,13 @@ use Rattle.line_graph.specs.declared.pass.Pass.{Pass}
 use Rattle.line_graph.specs.ValidPieces.{IsValidPiece}
 use Rattle.line_graph.specs.PieceGraphs.{PieceValue, one_if}
 use Rattle.line_graph.specs.Pieces.{first_line}
-use Rattle.line_graph.specs.PieceWalks.{BeginsWith, covers, walk_start, is_fitting_walk, is_walk_start_to_end, is_line_passed, piece_cost, walk_cost, walk_end_from}
-use Rattle.double_run.specs.DoubleWalks.{IsPassedBothWays, IsDouble, same_way, directed_passes, without_ends}
-use Rattle.double_run.specs.Traversals.{IsTraversalInvariant, IsLegFrom, is_visited, is_exhausted, passed_cost, root_junction}
+use Rattle.line_graph.specs.PieceWalks.{BeginsWith, covers, walk_start, is_fitting_walk, is_line_passed, piece_cost, walk_cost, walk_end_from}
+use Rattle.double_run.specs.DoubleWalks.{IsPassedBothWays, IsDouble, directed_passes, without_ends}
+use Rattle.double_run.specs.Traversals.{IsTraversalInvariant, is_visited, is_exhausted, passed_cost, root_junction}
 use Rattle.double_run.proofs.MetLemmas.{cost_all, passed_meets, spent_passes, touches_a, touches_b}
 use Rattle.euler_tour.proofs.CallerLemmas.{ends_are_below}
-use Rattle.line_graph.proofs.CallerLemmas.{edge_found, edge_there, first_is}
-use Rattle.lists_and_numbers.proofs.CallerLemmas.{eq_self, same_number, same_test, some_same}
+use Rattle.line_graph.proofs.CallerLemmas.{edge_there}
+use Rattle.lists_and_numbers.proofs.CallerLemmas.{same_number, same_test, some_same}
 
 -- no junction is visited where no line was passed
 none_met : (n : ℕ) (edges : List Edge) (j : ℕ) → is_visited (replicate n false) edges j ≡ false
@@ -52,12 +53,6 @@ begins_kept lines edges root = record {
         apart : false ≡ true → ⊥
         apart is = cc
 
--- the first line starts where the traversal does
-pub first_leads : (edges : List Edge) → 1 ≤ length edges
-    → IsLegFrom edges (replicate (length edges) false) (root_junction edges) (record { place = 0; back = false })
-first_leads [] some = absurd (omega arith)
-first_leads (e ∷ edges) some = record { edge = e; there = refl; starts = refl; left = refl }
-
 -- the first line begins at the root
 pub root_is : (edges : List Edge) (e : Edge) → slice_get edges 0 ≡ Some e → root_junction edges ≡ e.a
 root_is [] e there = absurd (cc)
@@ -67,10 +62,7 @@ root_is (x ∷ edges) e there = ap (λ (y : Edge). y.a) (some_same x e there)
 starts_first : (p : PieceValue) (walk : List Pass) → IsValidPiece p → BeginsWith (first_line p.lines) walk
     → walk_start p.lines p.edges walk ≡ Some (root_junction p.edges)
 starts_first p [] kept begins = absurd begins
-starts_first p (x ∷ rest) kept begins =
-    let e = edge_there p.edges 0 (omega (arith, kept.some, kept.beside)) in
-    rw (begins, first_is p.lines, edge_found p.lines p.edges 0 e.0 kept.rising kept.some e.1)
-    (ap (λ (n : ℕ). Some n) (sym (root_is p.edges e.0 e.1)))
+starts_first p (x ∷ rest) kept begins = grind (arith, nat_tests)
 
 -- a finished traversal passed all lines
 home_passed : (p : PieceValue) (walk : List Pass) (is_line_passed : List Bool) (at : ℕ) → IsValidPiece p
@@ -140,26 +132,12 @@ home_double p walk is_line_passed at kept k stuck begins first = record {
 pub home_cost : (p : PieceValue) (walk : List Pass) (is_line_passed : List Bool) (at : ℕ) → IsValidPiece p
     → IsTraversalInvariant p.lines p.edges walk [] is_line_passed (root_junction p.edges) at → is_exhausted is_line_passed p.edges at ≡ true
     → get_or is_line_passed 0 false ≡ true → walk_cost p walk ≡ 2 * piece_cost p
-home_cost p walk is_line_passed at kept k stuck first =
-    bare _ _ (k.sums ∙ ap (λ (n : ℕ). 2 * n) (cost_all is_line_passed p.edges k.beside
-    (home_passed p walk is_line_passed at kept k stuck first)))
-  where
-    bare : (m n : ℕ) → m + 0 ≡ n → m ≡ n
-    bare m n is = omega arith
+home_cost p walk is_line_passed at kept k stuck first = grind (arith, nat_tests, cost_all, home_passed)
 
 -- a line that is passed in a direction is passed
 is_passed : (line : ℕ) (walk : List Pass) → 1 ≤ directed_passes line false walk → is_line_passed line walk ≡ true
 is_passed line [] some = absurd (omega (arith, some))
-is_passed line (x ∷ walk) some = by_line (x.line == line) (same_way false x.back) (directed_passes line false walk) some
-    (is_passed line walk)
-  where
-    by_line : (t way : Bool) (n : ℕ) → 1 ≤ one_if (t && way) + n → (1 ≤ n → is_line_passed line walk ≡ true)
-        → (t || is_line_passed line walk) ≡ true
-    by_line true way n some then = refl
-    by_line false way n some then = then (bare n some)
-      where
-        bare : (n : ℕ) → 1 ≤ 0 + n → 1 ≤ n
-        bare n some = omega (arith, some)
+is_passed line (x ∷ walk) some = grind (arith, nat_tests, is_passed line walk)
 
 -- so a double walk covers the piece
 all_covered : (lines : List ℕ) (walk : List Pass) → ((k : ℕ) → k < length lines → IsPassedBothWays walk (get_or lines k 0))
@@ -174,11 +152,4 @@ all_covered (line ∷ lines) walk each =
 
 -- and fits it
 pub double_fits : (p : PieceValue) (walk : List Pass) → IsValidPiece p → IsDouble p walk → is_fitting_walk (without_ends p) walk ≡ true
-double_fits p walk kept double =
-    rw (closes, all_covered p.lines walk (λ k. λ below. All-get_or (IsPassedBothWays walk) p.lines k 0 below double.each)) refl
-  where
-    starts : walk_start p.lines p.edges walk ≡ Some (root_junction p.edges)
-    starts = starts_first p walk kept double.begins
-
-    closes : is_walk_start_to_end (without_ends p) walk ≡ true
-    closes = rw (double.closed, starts) (eq_self (root_junction p.edges))
+double_fits p walk kept double = grind (arith, nat_tests, all_covered, All-get_or)

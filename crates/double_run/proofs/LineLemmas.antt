@@ -21,40 +21,21 @@ pub one_line : (lines : List ℕ) (i k : ℕ) → is_strictly_increasing lines �
     → (get_or lines i 0 == get_or lines k 0) ≡ (i == k)
 one_line [] i k up i_in k_in = absurd (omega arith)
 one_line (n ∷ lines) zero zero up i_in k_in = eq_self n
-one_line (n ∷ lines) zero (suc k) up i_in k_in =
-    differs n (get_or lines k 0) (first_less n lines k up (omega arith)) ∙ sym (zero_suc k)
-one_line (n ∷ lines) (suc i) zero up i_in k_in =
-    differs_back n (get_or lines i 0) (first_less n lines i up (omega arith)) ∙ sym (suc_zero i)
+one_line (n ∷ lines) zero (suc k) up i_in k_in = grind (arith, nat_tests, differs, first_less, zero_suc)
+one_line (n ∷ lines) (suc i) zero up i_in k_in = grind (arith, nat_tests, differs_back, first_less, suc_zero)
 one_line (n ∷ lines) (suc i) (suc k) up i_in k_in =
     one_line lines i k (rest_rises n lines up) (omega arith) (omega arith) ∙ sym (suc_suc i k)
 
 -- one more pass
 pub times_push : (n : ℕ) (way : Bool) (xs : List Pass) (p : Pass)
     → directed_passes n way (xs ++ p ∷ []) ≡ directed_passes n way xs + one_if (p.line == n && same_way way p.back)
-times_push n way [] p = turned (one_if (p.line == n && same_way way p.back))
-  where
-    turned : (k : ℕ) → k + 0 ≡ 0 + k
-    turned k = omega arith
-times_push n way (x ∷ xs) p =
-    rw (times_push n way xs p) (joined (one_if (x.line == n && same_way way x.back)) (directed_passes n way xs) (one_if
-    (p.line == n && same_way way p.back)))
-  where
-    joined : (x y z : ℕ) → x + (y + z) ≡ (x + y) + z
-    joined x y z = omega arith
+times_push n way [] p = omega arith
+times_push n way (x ∷ xs) p = grind (arith, nat_tests, times_push n way xs p)
 
 pub sum_push : (lines : List ℕ) (edges : List Edge) (xs : List Pass) (p : Pass)
     → pass_sum lines edges edge_cost (xs ++ p ∷ []) ≡ pass_sum lines edges edge_cost xs + edge_value edge_cost (edge_of lines edges p.line)
-sum_push lines edges [] p = turned (edge_value edge_cost (edge_of lines edges p.line))
-  where
-    turned : (k : ℕ) → k + 0 ≡ 0 + k
-    turned k = omega arith
-sum_push lines edges (x ∷ xs) p =
-    rw (sum_push lines edges xs p)
-    (joined (edge_value edge_cost (edge_of lines edges x.line)) (pass_sum lines edges edge_cost xs)
-    (edge_value edge_cost (edge_of lines edges p.line)))
-  where
-    joined : (x y z : ℕ) → x + (y + z) ≡ (x + y) + z
-    joined x y z = omega arith
+sum_push lines edges [] p = omega arith
+sum_push lines edges (x ∷ xs) p = grind (arith, nat_tests, sum_push lines edges xs p)
 
 -- a pass and the one back along it are one pass in each direction
 pub both_ways : (t way back : Bool) → one_if (t && same_way way back) + one_if (t && same_way way (not back)) ≡ one_if t

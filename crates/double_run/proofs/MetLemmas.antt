@@ -1,5 +1,6 @@
 -- Junctions that are visited, exhausted, or on the stack, when another line is passed.
-use Rattle.std.proofs.Common.{◌≡◌, ◌<◌, ◌⊎◌, inl, inr, ℕ, zero, suc, ◌+◌, ◌==◌, ◌&&◌, ◌||◌, Bool, true, false, not, List, [], ◌∷◌, ◌++◌, length, get_or, set, slice_get, Some, arith, refl, sym, ◌∙◌, subst}
+use Rattle.std.proofs.lemmas.Bool.Decides.{nat_tests}
+use Rattle.std.proofs.Common.{◌≡◌, ◌<◌, ◌⊎◌, ℕ, zero, suc, ◌+◌, ◌==◌, ◌||◌, Bool, true, false, not, List, [], ◌∷◌, ◌++◌, length, get_or, set, slice_get, Some, arith, refl, sym, ◌∙◌}
 use Rattle.std.proofs.lemmas.Bool.{and_parts}
 use Rattle.line_graph.specs.declared.edge.Edge.{Edge}
 use Rattle.line_graph.specs.PieceGraphs.{one_if}
@@ -7,8 +8,8 @@ use Rattle.line_graph.specs.PieceWalks.{edge_cost, edge_sum, pass_end, pass_star
 use Rattle.double_run.specs.declared.legs.DirectedLeg.{DirectedLeg}
 use Rattle.double_run.specs.TraversalSteps.{remaining_count}
 use Rattle.double_run.specs.Traversals.{edge_at, is_visited, is_on_stack, is_exhausted, passed_cost, has_end_at}
-use Rattle.double_run.proofs.LineLemmas.{suc_suc, zero_suc}
-use Rattle.lists_and_numbers.proofs.CallerLemmas.{eq_self, one_of, some_same, suc_zero}
+use Rattle.double_run.proofs.LineLemmas.{suc_suc}
+use Rattle.lists_and_numbers.proofs.CallerLemmas.{eq_self, some_same}
 
 -- exhausted junctions stay exhausted
 pub spent_on : (passed : List Bool) (edges : List Edge) (m j : ℕ) → is_exhausted passed edges j ≡ true
@@ -26,41 +27,14 @@ pub met_before : (passed : List Bool) (edges : List Edge) (m j : ℕ) (e : Edge)
     → is_visited (set passed m true) edges j ≡ true → (is_visited passed edges j ≡ true) ⊎ (has_end_at e j ≡ true)
 met_before [] edges m j e there is = absurd (cc)
 met_before (p ∷ passed) [] m j e there is = absurd (cc)
-met_before (p ∷ passed) (x ∷ edges) zero j e there is =
-    by_test p (one_of (has_end_at x j) (is_visited passed edges j) is)
-  where
-    by_test : (p : Bool) → (has_end_at x j ≡ true) ⊎ (is_visited passed edges j ≡ true)
-        → (((p && has_end_at x j) || is_visited passed edges j) ≡ true) ⊎ (has_end_at e j ≡ true)
-    by_test p (inl at) = inr (subst (λ (y : Edge). has_end_at y j ≡ true) (some_same x e there) at)
-    by_test p (inr met) = inl (last (p && has_end_at x j) met)
-      where
-        last : (s : Bool) → is_visited passed edges j ≡ true → (s || is_visited passed edges j) ≡ true
-        last true h = refl
-        last false h = h
-met_before (p ∷ passed) (x ∷ edges) (suc m) j e there is =
-    by_test (p && has_end_at x j) is (met_before passed edges m j e there)
-  where
-    by_test : (s : Bool) → (s || is_visited (set passed m true) edges j) ≡ true
-        → (is_visited (set passed m true) edges j ≡ true → (is_visited passed edges j ≡ true) ⊎ (has_end_at e j ≡ true))
-        → ((s || is_visited passed edges j) ≡ true) ⊎ (has_end_at e j ≡ true)
-    by_test true h then = inl refl
-    by_test false h then = then h
+met_before (p ∷ passed) (x ∷ edges) zero j e there is = grind (arith, nat_tests)
+met_before (p ∷ passed) (x ∷ edges) (suc m) j e there is = grind (arith, nat_tests, met_before passed edges m j e there)
 
 -- the leg that was gone out last
 pub way_push : (edges : List Edge) (out : List DirectedLeg) (leg : DirectedLeg) (j : ℕ)
     → is_on_stack edges (out ++ leg ∷ []) j ≡ (is_on_stack edges out j || (pass_start (edge_at edges leg.place) leg.back == j))
-way_push edges [] leg j = no_more (pass_start (edge_at edges leg.place) leg.back == j)
-  where
-    no_more : (s : Bool) → (s || false) ≡ s
-    no_more true = refl
-    no_more false = refl
-way_push edges (x ∷ out) leg j =
-    rw (way_push edges out leg j)
-    (joined (pass_start (edge_at edges x.place) x.back == j) (is_on_stack edges out j) (pass_start (edge_at edges leg.place) leg.back == j))
-  where
-    joined : (r s t : Bool) → (r || (s || t)) ≡ ((r || s) || t)
-    joined true s t = refl
-    joined false s t = refl
+way_push edges [] leg j = grind (arith, nat_tests)
+way_push edges (x ∷ out) leg j = grind (arith, nat_tests, way_push edges out leg j)
 
 -- the line that is found at an index is the one there
 pub found_at : (edges : List Edge) (m : ℕ) (e : Edge) → slice_get edges m ≡ Some e → edge_at edges m ≡ e
@@ -79,28 +53,16 @@ pub marks : (passed : List Bool) (m k : ℕ) → slice_get passed m ≡ Some fal
     → one_if (get_or (set passed m true) k false) ≡ one_if (get_or passed k false) + one_if (m == k)
 marks [] m k left = absurd (cc)
 marks (p ∷ passed) zero zero left = rw (some_same p false left) refl
-marks (p ∷ passed) zero (suc k) left = rw (zero_suc k) (last (one_if (get_or passed k false)))
-  where
-    last : (n : ℕ) → n ≡ n + 0
-    last n = omega arith
-marks (p ∷ passed) (suc m) zero left = rw (suc_zero m) (last (one_if p))
-  where
-    last : (n : ℕ) → n ≡ n + 0
-    last n = omega arith
+marks (p ∷ passed) zero (suc k) left = grind (arith, nat_tests)
+marks (p ∷ passed) (suc m) zero left = grind (arith, nat_tests)
 marks (p ∷ passed) (suc m) (suc k) left = rw (suc_suc m k) (marks passed m k left)
 
 -- and one less is left
 pub less_left : (passed : List Bool) (m : ℕ) → slice_get passed m ≡ Some false
     → remaining_count passed ≡ remaining_count (set passed m true) + 1
 less_left [] m left = absurd (cc)
-less_left (p ∷ passed) zero left = rw (some_same p false left) (turned (remaining_count passed))
-  where
-    turned : (n : ℕ) → 1 + n ≡ (0 + n) + 1
-    turned n = omega arith
-less_left (p ∷ passed) (suc m) left = rw (less_left passed m left) (joined (one_if (not p)) (remaining_count (set passed m true)))
-  where
-    joined : (x y : ℕ) → x + (y + 1) ≡ (x + y) + 1
-    joined x y = omega arith
+less_left (p ∷ passed) zero left = grind (arith, nat_tests)
+less_left (p ∷ passed) (suc m) left = grind (arith, nat_tests, less_left passed m left)
 
 -- and what is passed costs as much more
 pub cost_more : (passed : List Bool) (edges : List Edge) (m : ℕ) (e : Edge) → slice_get passed m ≡ Some false → slice_get edges m ≡ Some e
@@ -109,11 +71,7 @@ cost_more [] edges m e left there = absurd (cc)
 cost_more (p ∷ passed) [] m e left there = absurd (cc)
 cost_more (true ∷ passed) (x ∷ edges) zero e left there = absurd (cc)
 cost_more (false ∷ passed) (x ∷ edges) zero e left there = rw (some_same x e there) refl
-cost_more (true ∷ passed) (x ∷ edges) (suc m) e left there =
-    rw (cost_more passed edges m e left there) (turned x.cost e.cost (passed_cost passed edges))
-  where
-    turned : (x y z : ℕ) → x + (y + z) ≡ y + (x + z)
-    turned x y z = omega arith
+cost_more (true ∷ passed) (x ∷ edges) (suc m) e left there = grind (arith, nat_tests, cost_more passed edges m e left there)
 cost_more (false ∷ passed) (x ∷ edges) (suc m) e left there = cost_more passed edges m e left there
 
 -- where all are passed it costs what they cost
@@ -130,14 +88,7 @@ pub spent_passes : (passed : List Bool) (edges : List Edge) (k j : ℕ) (e : Edg
     → slice_get edges k ≡ Some e → has_end_at e j ≡ true → is_exhausted passed edges j ≡ true → get_or passed k false ≡ true
 spent_passes passed [] k j e beside there at is = absurd (cc)
 spent_passes [] (x ∷ edges) k j e beside there at is = absurd (omega (arith, beside))
-spent_passes (p ∷ passed) (x ∷ edges) zero j e beside there at is =
-    by_test p (has_end_at x j) (and_parts (p || not (has_end_at x j)) (is_exhausted passed edges j) is).0
-    (subst (λ (y : Edge). has_end_at y j ≡ true) (sym (some_same x e there)) at)
-  where
-    by_test : (p t : Bool) → (p || not t) ≡ true → t ≡ true → p ≡ true
-    by_test true t is at = refl
-    by_test false true is at = is
-    by_test false false is at = at
+spent_passes (p ∷ passed) (x ∷ edges) zero j e beside there at is = grind (arith, nat_tests)
 spent_passes (p ∷ passed) (x ∷ edges) (suc k) j e beside there at is =
     spent_passes passed edges k j e (omega (arith, beside)) there at
     (and_parts (p || not (has_end_at x j)) (is_exhausted passed edges j) is).1
@@ -147,21 +98,12 @@ pub passed_meets : (passed : List Bool) (edges : List Edge) (k j : ℕ) (e : Edg
     → slice_get edges k ≡ Some e → has_end_at e j ≡ true → is_visited passed edges j ≡ true
 passed_meets [] edges k j e is there at = absurd (cc)
 passed_meets (p ∷ passed) [] k j e is there at = absurd (cc)
-passed_meets (p ∷ passed) (x ∷ edges) zero j e is there at =
-    rw (is, subst (λ (y : Edge). has_end_at y j ≡ true) (sym (some_same x e there)) at) refl
-passed_meets (p ∷ passed) (x ∷ edges) (suc k) j e is there at = last (p && has_end_at x j) (passed_meets passed edges k j e is there at)
-  where
-    last : (s : Bool) → is_visited passed edges j ≡ true → (s || is_visited passed edges j) ≡ true
-    last true h = refl
-    last false h = h
+passed_meets (p ∷ passed) (x ∷ edges) zero j e is there at = cc
+passed_meets (p ∷ passed) (x ∷ edges) (suc k) j e is there at = grind (arith, nat_tests, passed_meets passed edges k j e is there at)
 
 -- both ends of a line touch it
 pub touches_a : (e : Edge) → has_end_at e e.a ≡ true
 touches_a e = rw (eq_self e.a) refl
 
 pub touches_b : (e : Edge) → has_end_at e e.b ≡ true
-touches_b e = rw (eq_self e.b) (last (e.a == e.b))
-  where
-    last : (s : Bool) → (s || true) ≡ true
-    last true = refl
-    last false = refl
+touches_b e = grind (arith, nat_tests)

@@ -1,15 +1,16 @@
 -- Each step of a traversal preserves the invariant.
+use Rattle.std.proofs.lemmas.Bool.Decides.{nat_tests}
 use Rattle.std.proofs.Common.{◌≡◌, ◌<◌, ◌⊎◌, inl, inr, ℕ, ◌+◌, ◌*◌, ◌==◌, ◌&&◌, Bool, true, false, not, nat_lt, cond, List, [], ◌∷◌, ◌++◌, length, get_or, set, slice_get, Option, Some, None, arith, refl, sym, ap, ◌∙◌, subst, length-set, length-append}
 use Rattle.std.proofs.lemmas.Bool.{and_parts, or_parts}
 use Rattle.std.proofs.lemmas.Option.{slice_get_within}
 use Rattle.line_graph.specs.declared.edge.Edge.{Edge}
 use Rattle.line_graph.specs.declared.pass.Pass.{Pass}
 use Rattle.line_graph.specs.PieceGraphs.{one_if}
-use Rattle.line_graph.specs.PieceWalks.{after_edge, edge_cost, edge_of, pass_end, edge_value, pass_sum, is_strictly_increasing, pass_start, walk_end_from}
+use Rattle.line_graph.specs.PieceWalks.{after_edge, edge_cost, edge_of, pass_end, pass_sum, is_strictly_increasing, pass_start, walk_end_from}
 use Rattle.double_run.specs.declared.legs.DirectedLeg.{DirectedLeg}
 use Rattle.double_run.specs.DoubleWalks.{directed_passes}
 use Rattle.double_run.specs.TraversalSteps.{remaining_count}
-use Rattle.double_run.specs.Traversals.{IsTraversalInvariant, legs_are_below, is_visited, is_on_stack, is_exhausted, leg_pass, leg_return, passed_cost, has_end_at, return_walk}
+use Rattle.double_run.specs.Traversals.{IsTraversalInvariant, legs_are_below, is_visited, is_on_stack, is_exhausted, leg_pass, leg_return, has_end_at, return_walk}
 use Rattle.double_run.proofs.LineLemmas.{both_ways, one_line, sum_push, times_push}
 use Rattle.double_run.proofs.MetLemmas.{cost_more, found_at, less_left, marks, met_before, spent_on, touched, way_push}
 use Rattle.line_graph.proofs.CallerLemmas.{edge_found, lost, walk_append}
@@ -24,16 +25,8 @@ home_push lines (x ∷ out) leg = rw (home_push lines out leg) refl
 -- and is one of the lines, if it is
 pub there_push : (n : ℕ) (out : List DirectedLeg) (leg : DirectedLeg)
     → legs_are_below n (out ++ leg ∷ []) ≡ (legs_are_below n out && nat_lt leg.place n)
-there_push n [] leg = last (nat_lt leg.place n)
-  where
-    last : (t : Bool) → (t && true) ≡ (true && t)
-    last true = refl
-    last false = refl
-there_push n (x ∷ out) leg = rw (there_push n out leg) (joined (nat_lt x.place n) (legs_are_below n out) (nat_lt leg.place n))
-  where
-    joined : (r s t : Bool) → (r && (s && t)) ≡ ((r && s) && t)
-    joined true s t = refl
-    joined false s t = refl
+there_push n [] leg = grind (arith, nat_tests)
+there_push n (x ∷ out) leg = grind (arith, nat_tests, there_push n out leg)
 
 -- a pass along a line from where it starts, and home again
 goes : (found : Option Edge) (e : Edge) (back : Bool) → found ≡ Some e
@@ -54,39 +47,15 @@ pub out_kept : (lines : List ℕ) (edges : List Edge) (walk : List Pass) (out : 
     → IsTraversalInvariant lines edges walk out passed root (pass_start e leg.back)
     → IsTraversalInvariant lines edges (walk ++ leg_pass lines leg ∷ []) (out ++ leg ∷ []) (set passed leg.place true) root
     (pass_end e leg.back)
-out_kept lines edges walk out passed root leg e up beside there left k = record {
-  beside = omega (arith, length-set {A = Bool}, k.beside);
-  led = walk_append lines edges (Some root) walk (leg_pass lines leg ∷ [])
-      ∙ ap (λ (x : Option ℕ). walk_end_from lines edges x (leg_pass lines leg ∷ [])) k.led ∙ goes _ e leg.back found;
-  home = ap (λ (w : List Pass). walk_end_from lines edges (Some (pass_end e leg.back)) w) (home_push lines out leg)
-      ∙ ap (λ (x : Option ℕ). walk_end_from lines edges x (return_walk lines out)) (homeward _ e leg.back found) ∙ k.home;
-  legs = there_push (length edges) out leg ∙ rw (k.legs, less_test leg.place (length edges) within) refl;
-  counted = λ n. λ way. λ below.
-      counts n way below (one_line lines leg.place n up (omega (arith, within, beside)) below) (k.counted n way below);
-  sums = rw (
-    sum_push lines edges walk (leg_pass lines leg),
-    home_push lines out leg,
-    cost_more passed edges leg.place e left there,
-    found,
-  )
-      (costs e.cost (pass_sum lines edges edge_cost walk) (pass_sum lines edges edge_cost (return_walk lines out))
-      (passed_cost passed edges)
-      k.sums);
-  spent = λ j. λ met. λ other. λ away.
-      let parts = or_parts (is_on_stack edges out j) _ (sym (way_push edges out leg j) ∙ away) in
-      by_end j other (subst (λ (x : Edge). (pass_start x leg.back == j) ≡ false) (found_at edges leg.place e there) parts.1)
-      (met_before passed edges leg.place j e there met)
-      (λ before. λ first. spent_on passed edges leg.place j (k.spent j before first parts.0));
-}
+out_kept lines edges walk out passed root leg e up beside there left k =
+    record
+    { beside = omega (arith, length-set {A = Bool}, k.beside); led = walk_append lines edges (Some root) walk (leg_pass lines leg ∷ []) ∙ ap (λ (x : Option ℕ). walk_end_from lines edges x (leg_pass lines leg ∷ [])) k.led ∙ goes _ e leg.back found; home = ap (λ (w : List Pass). walk_end_from lines edges (Some (pass_end e leg.back)) w) (home_push lines out leg) ∙ ap (λ (x : Option ℕ). walk_end_from lines edges x (return_walk lines out)) (homeward _ e leg.back found) ∙ k.home; legs = there_push (length edges) out leg ∙ rw (k.legs, less_test leg.place (length edges) within) refl; counted = λ n. λ way. λ below. counts n way below (one_line lines leg.place n up (omega (arith, within, beside)) below) (k.counted n way below); sums = rw (sum_push lines edges walk (leg_pass lines leg), home_push lines out leg, cost_more passed edges leg.place e left there, found) (omega (arith, k.sums)); spent = λ j. λ met. λ other. λ away. let parts = or_parts (is_on_stack edges out j) _ (sym (way_push edges out leg j) ∙ away) in by_end j other (subst (λ (x : Edge). (pass_start x leg.back == j) ≡ false) (found_at edges leg.place e there) parts.1) (met_before passed edges leg.place j e there met) (λ before. λ first. spent_on passed edges leg.place j (k.spent j before first parts.0)) }
   where
     within : leg.place < length edges
     within = slice_get_within edges leg.place e there
 
     found : edge_of lines edges (get_or lines leg.place 0) ≡ Some e
     found = edge_found lines edges leg.place e up (omega (arith, within, beside)) there
-
-    costs : (c w h s : ℕ) → w + h ≡ 2 * s → (w + c) + (c + h) ≡ 2 * (c + s)
-    costs c w h s sums = omega arith
 
     counts : (n : ℕ) (way : Bool) → n < length lines → (get_or lines leg.place 0 == get_or lines n 0) ≡ (leg.place == n)
         → directed_passes (get_or lines n 0) way walk + directed_passes (get_or lines n 0) way (return_walk lines out)
@@ -120,28 +89,9 @@ pub back_kept : (lines : List ℕ) (edges : List Edge) (walk : List Pass) (out :
     → is_exhausted passed edges at ≡ true
     → IsTraversalInvariant lines edges walk (out ++ leg ∷ []) passed root at
     → IsTraversalInvariant lines edges (walk ++ leg_return lines leg ∷ []) out passed root (pass_start e leg.back)
-back_kept lines edges walk out passed root at leg e up beside there spent k = record {
-  beside = k.beside;
-  led = walk_append lines edges (Some root) walk (leg_return lines leg ∷ [])
-      ∙ ap (λ (x : Option ℕ). walk_end_from lines edges x (leg_return lines leg ∷ [])) k.led ∙ came;
-  home = ap (λ (x : Option ℕ). walk_end_from lines edges x (return_walk lines out)) (sym came) ∙ homes;
-  legs = (and_parts (legs_are_below (length edges) out) _ (sym (there_push (length edges) out leg) ∙ k.legs)).0;
-  counted = λ n. λ way. λ below.
-      rw (times_push (get_or lines n 0) way walk (leg_return lines leg))
-      (moved _ _ _ _
-      (ap (λ (w : List Pass). directed_passes (get_or lines n 0) way walk + directed_passes (get_or lines n 0) way w)
-      (sym (home_push lines out leg))
-      ∙ k.counted n way below));
-  sums = rw (sum_push lines edges walk (leg_return lines leg))
-      (moved (pass_sum lines edges edge_cost walk) (edge_value edge_cost (edge_of lines edges (get_or lines leg.place 0)))
-      (pass_sum lines edges edge_cost (return_walk lines out)) (2 * passed_cost passed edges)
-      (ap (λ (w : List Pass). pass_sum lines edges edge_cost walk + pass_sum lines edges edge_cost w) (sym (home_push lines out leg))
-      ∙ k.sums));
-  spent = λ j. λ met. λ other. λ away.
-      by_test j (at == j) refl (k.spent j met)
-      (way_push edges out leg j
-      ∙ rw (away, subst (λ (x : Edge). (pass_start x leg.back == j) ≡ false) (sym (found_at edges leg.place e there)) other) refl);
-}
+back_kept lines edges walk out passed root at leg e up beside there spent k =
+    record
+    { beside = k.beside; led = walk_append lines edges (Some root) walk (leg_return lines leg ∷ []) ∙ ap (λ (x : Option ℕ). walk_end_from lines edges x (leg_return lines leg ∷ [])) k.led ∙ came; home = ap (λ (x : Option ℕ). walk_end_from lines edges x (return_walk lines out)) (sym came) ∙ homes; legs = (and_parts (legs_are_below (length edges) out) _ (sym (there_push (length edges) out leg) ∙ k.legs)).0; counted = λ n. λ way. λ below. rw (times_push (get_or lines n 0) way walk (leg_return lines leg)) (omega (arith, ap (λ (w : List Pass). directed_passes (get_or lines n 0) way walk + directed_passes (get_or lines n 0) way w) (sym (home_push lines out leg)) ∙ k.counted n way below)); sums = rw (sum_push lines edges walk (leg_return lines leg)) (omega (arith, ap (λ (w : List Pass). pass_sum lines edges edge_cost walk + pass_sum lines edges edge_cost w) (sym (home_push lines out leg)) ∙ k.sums)); spent = λ j. λ met. λ other. λ away. by_test j (at == j) refl (k.spent j met) (way_push edges out leg j ∙ rw (away, subst (λ (x : Edge). (pass_start x leg.back == j) ≡ false) (sym (found_at edges leg.place e there)) other) refl) }
   where
     within : leg.place < length edges
     within = slice_get_within edges leg.place e there
@@ -174,9 +124,6 @@ back_kept lines edges walk out passed root at leg e up beside there spent k = re
           where
             one : (y : Edge) → Some y ≡ Some e → e ≡ y
             one y is = cc
-
-    moved : (t y h b : ℕ) → t + (y + h) ≡ b → (t + y) + h ≡ b
-    moved t y h b is = omega arith
 
     by_test : (j : ℕ) (t : Bool) → (at == j) ≡ t
         → ((at == j) ≡ false → is_on_stack edges (out ++ leg ∷ []) j ≡ false → is_exhausted passed edges j ≡ true)

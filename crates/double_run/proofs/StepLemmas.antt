@@ -1,5 +1,5 @@
 -- The steps of a traversal, and the double walk at its end.
-use Rattle.std.proofs.Common.{◌≡◌, ◌<◌, ℕ, ◌+◌, ◌*◌, ◌/◌, Bool, true, false, nat_lt, List, [], ◌∷◌, ◌++◌, length, get_or, set, slice_get, slice_index_or, replicate, sum_by, Some, Vec, Global, arith, refl, sym, ap, ◌∙◌, subst}
+use Rattle.std.proofs.Common.{◌≡◌, ◌<◌, ℕ, ◌+◌, ◌*◌, ◌/◌, Bool, true, false, List, [], ◌∷◌, ◌++◌, length, get_or, set, slice_get, slice_index_or, replicate, Some, Vec, Global, arith, refl, sym, ap, ◌∙◌, subst}
 use Rattle.std.proofs.lemmas.Bool.{and_parts}
 use Rattle.std.proofs.lemmas.Bool.Decides.{nat_tests}
 use Rattle.line_graph.specs.declared.edge.Edge.{Edge}
@@ -16,11 +16,11 @@ use Rattle.euler_tour.specs.LineEnds.{AreBefore, AreLast}
 use Rattle.double_run.specs.Traversals.{IsTraversal, HasTraversalTables, IsTraversalInvariant, KeepsTraversal, IsLegFrom, legs_are_below, edge_at, is_exhausted, leg_pass, leg_return, root_junction}
 use Rattle.double_run.specs.TraversalSteps.{GoesOut, IsTraversalDone, IsTraversalStep, remaining_count}
 use Rattle.double_run.proofs.CursorLemmas.{back_ready, begins_ready, marked_at, marked_stays, out_ready, over_less, over_ready}
-use Rattle.double_run.proofs.HomeLemmas.{begins_kept, home_cost, home_double, root_is}
+use Rattle.double_run.proofs.HomeLemmas.{begins_kept, home_cost, home_double}
 use Rattle.double_run.proofs.MetLemmas.{found_at}
 use Rattle.double_run.proofs.OutingLemmas.{back_kept, back_less, out_kept, out_less, there_push}
 use Rattle.euler_tour.proofs.CallerLemmas.{ends_are_below}
-use Rattle.line_graph.proofs.CallerLemmas.{begins_on, edge_there, first_is}
+use Rattle.line_graph.proofs.CallerLemmas.{begins_on, edge_there}
 
 -- the first line begins at the root, which is a junction
 root_at : (edges : List Edge) → (slice_index_or edges 0 (record { a = 0; b = 0; cost = 0 })).a ≡ root_junction edges
@@ -28,19 +28,12 @@ root_at [] = refl
 root_at (e ∷ edges) = refl
 
 root_below : (p : PieceValue) → IsValidPiece p → root_junction p.edges < length p.junctions
-root_below p kept =
-    let e = edge_there p.edges 0 (omega (arith, kept.some, kept.beside)) in
-    subst (λ (n : ℕ). n < length p.junctions) (sym (root_is p.edges e.0 e.1))
-    (ends_are_below (length p.junctions) p.edges 0 e.0 kept.ends e.1).0
+root_below p kept = grind (arith, nat_tests)
 
 -- the ends of a line are junctions, whichever way it is passed
 leg_below : (n : ℕ) (edges : List Edge) (k : ℕ) (e : Edge) (back : Bool) → ends_below n edges ≡ true → slice_get edges k ≡ Some e
     → (pass_start e back < n) × (pass_end e back < n)
-leg_below n edges k e back all is = either e back (ends_are_below n edges k e all is)
-  where
-    either : (e : Edge) (back : Bool) → (e.a < n) × (e.b < n) → (pass_start e back < n) × (pass_end e back < n)
-    either e true both = (both.1, both.0)
-    either e false both = both
+leg_below n edges k e back all is = grind (arith, nat_tests, ends_are_below n edges k e all is)
 
 -- a traversal without a pass satisfies the invariant
 pub begins_all : (p : PieceValue) (walk : List Pass) (out : List DirectedLeg) (passed : List Bool) (edges : List Edge) → walk ≡ []
@@ -67,43 +60,17 @@ pub out_step : (p : PieceValue) (old : Traversal) (walk : List Pass) (out : Vec 
     → walk ≡ old.walk ++ leg_pass p.lines leg ∷ [] → out.items ≡ old.out.items ++ leg ∷ []
     → passed.items ≡ set old.passed.items leg.place true → at ≡ pass_end (edge_at p.edges leg.place) leg.back
     → GoesOut p old (record { walk = walk; ends = old.ends; out = out; passed = passed; at = at }) leg
-out_step p old walk out passed at leg kept keeps ready leads is_walk is_out is_passed is_at = record {
-  made = record {
-    on = record {
-      keeps = rw (is_walk, is_out, is_passed, is_next)
-          (out_kept p.lines p.edges old.walk old.out.items old.passed.items (root_junction p.edges) leg leads.edge kept.rising kept.beside
-          leads.there leads.left
-          (subst (λ (n : ℕ). IsTraversalInvariant p.lines p.edges old.walk old.out.items old.passed.items (root_junction p.edges) n)
-          (sym leads.starts) keeps));
-      ready = rw (is_passed, is_next)
-          (out_ready p.edges (length p.junctions) old.passed.items old.ends.last.items old.ends.before.items old.at leg.place
-          (pass_end leads.edge leg.back) (leg_below
-          (length p.junctions) p.edges leg.place leads.edge leg.back kept.ends leads.there).1 ready);
-      begins = λ h. rw is_walk (begins_on (first_line p.lines) old.walk (leg_pass p.lines leg ∷ []) h);
-      first = λ h. rw is_passed (marked_stays old.passed.items leg.place 0 h);
-    };
-    less = rw (is_out, is_passed)
-        (more (sum_by (λ (n : ℕ). n) old.ends.last.items) (out_less old.out.items old.passed.items leg leads.left));
-  };
-  walk = is_walk;
-  marked = rw is_passed (marked_at old.passed.items leg.place leads.left);
-}
+out_step p old walk out passed at leg kept keeps ready leads is_walk is_out is_passed is_at =
+    record
+    { made = record { on = record { keeps = rw (is_walk, is_out, is_passed, is_next) (out_kept p.lines p.edges old.walk old.out.items old.passed.items (root_junction p.edges) leg leads.edge kept.rising kept.beside leads.there leads.left (subst (λ (n : ℕ). IsTraversalInvariant p.lines p.edges old.walk old.out.items old.passed.items (root_junction p.edges) n) (sym leads.starts) keeps)); ready = rw (is_passed, is_next) (out_ready p.edges (length p.junctions) old.passed.items old.ends.last.items old.ends.before.items old.at leg.place (pass_end leads.edge leg.back) (leg_below (length p.junctions) p.edges leg.place leads.edge leg.back kept.ends leads.there).1 ready); begins = λ h. rw is_walk (begins_on (first_line p.lines) old.walk (leg_pass p.lines leg ∷ []) h); first = λ h. rw is_passed (marked_stays old.passed.items leg.place 0 h) }; less = rw (is_out, is_passed) (omega (arith, out_less old.out.items old.passed.items leg leads.left)) }; walk = is_walk; marked = rw is_passed (marked_at old.passed.items leg.place leads.left) }
   where
     is_next : at ≡ pass_end leads.edge leg.back
     is_next = is_at ∙ ap (λ (e : Edge). pass_end e leg.back) (found_at p.edges leg.place leads.edge leads.there)
 
-    more : {m n : ℕ} (k : ℕ) → m < n → m + k < n + k
-    more k h = omega arith
-
 -- the first one
 pub set_off : (p : PieceValue) (old new : Traversal) → old.walk ≡ [] → GoesOut p old new (record { place = 0; back = false })
     → IsTraversal p new
-set_off p old new blank out = record {
-  keeps = out.made.on.keeps;
-  ready = out.made.on.ready;
-  begins = rw (out.walk, blank) (ap (λ (n : ℕ). record { line = n; back = false }) (sym (first_is p.lines)));
-  first = out.marked;
-}
+set_off p old new blank out = grind (arith, nat_tests)
 
 -- a skipped end
 pub over_step : (p : PieceValue) (old : Traversal) (last : Vec ℕ Global) (end : ℕ) → KeepsTraversal p old → HasTraversalTables p old
@@ -131,23 +98,13 @@ over_step p old last end keeps ready here gone is_last = record {
 -- the edge of the last leg
 leg_edge : (edges : List Edge) (out : List DirectedLeg) (leg : DirectedLeg) → legs_are_below (length edges) (out ++ leg ∷ []) ≡ true
     → (e : Edge) × (slice_get edges leg.place ≡ Some e)
-leg_edge edges out leg there =
-    edge_there edges leg.place
-    (less leg.place (length edges) (and_parts (legs_are_below (length edges) out) _ (sym (there_push (length edges) out leg) ∙ there)).1)
-  where
-    less : (m n : ℕ) → nat_lt m n ≡ true → m < n
-    less m n is = grind (arith, nat_tests)
+leg_edge edges out leg there = grind (arith, nat_tests, edge_there, and_parts, there_push)
 
 -- which is an index of a line of the piece
 pub leg_within : (p : PieceValue) (old : Traversal) (out : List DirectedLeg) (leg : DirectedLeg) → KeepsTraversal p old
     → old.out.items ≡ out ++ leg ∷ []
     → leg.place < length p.edges
-leg_within p old out leg keeps is_out =
-    less leg.place (length p.edges)
-    (and_parts (legs_are_below (length p.edges) out) _ (sym (there_push (length p.edges) out leg) ∙ rw (← is_out) keeps.legs)).1
-  where
-    less : (m n : ℕ) → nat_lt m n ≡ true → m < n
-    less m n is = grind (arith, nat_tests)
+leg_within p old out leg keeps is_out = grind (arith, nat_tests, and_parts, there_push)
 
 -- a step back
 pub back_step : (p : PieceValue) (old : Traversal) (walk : List Pass) (out : Vec DirectedLeg Global) (at : ℕ) (leg : DirectedLeg)
@@ -156,30 +113,15 @@ pub back_step : (p : PieceValue) (old : Traversal) (walk : List Pass) (out : Vec
     → is_exhausted old.passed.items p.edges old.at ≡ true → old.out.items ≡ out.items ++ leg ∷ []
     → walk ≡ old.walk ++ leg_return p.lines leg ∷ [] → at ≡ pass_start (edge_at p.edges leg.place) leg.back
     → IsTraversalStep p old (record { walk = walk; ends = old.ends; out = out; passed = old.passed; at = at })
-back_step p old walk out at leg kept keeps ready spent is_out is_walk is_at = record {
-  on = record {
-    keeps = rw (is_walk, is_next)
-        (back_kept p.lines p.edges old.walk out.items old.passed.items (root_junction p.edges) old.at leg e.0 kept.rising kept.beside e.1
-        spent
-        (rw is_out at keeps));
-    ready = rw is_next
-        (back_ready p.edges (length p.junctions) old.passed.items old.ends.last.items old.ends.before.items old.at (pass_start e.0 leg.back)
-        (leg_below (length p.junctions) p.edges leg.place e.0 leg.back kept.ends e.1).0 ready);
-    begins = λ h. rw is_walk (begins_on (first_line p.lines) old.walk (leg_return p.lines leg ∷ []) h);
-    first = λ h. h;
-  };
-  less = rw is_out
-      (more (sum_by (λ (n : ℕ). n) old.ends.last.items) (back_less (2 * remaining_count old.passed.items) out.items leg));
-}
+back_step p old walk out at leg kept keeps ready spent is_out is_walk is_at =
+    record
+    { on = record { keeps = rw (is_walk, is_next) (back_kept p.lines p.edges old.walk out.items old.passed.items (root_junction p.edges) old.at leg e.0 kept.rising kept.beside e.1 spent (rw is_out at keeps)); ready = rw is_next (back_ready p.edges (length p.junctions) old.passed.items old.ends.last.items old.ends.before.items old.at (pass_start e.0 leg.back) (leg_below (length p.junctions) p.edges leg.place e.0 leg.back kept.ends e.1).0 ready); begins = λ h. rw is_walk (begins_on (first_line p.lines) old.walk (leg_return p.lines leg ∷ []) h); first = λ h. h }; less = rw is_out (omega (arith, back_less (2 * remaining_count old.passed.items) out.items leg)) }
   where
     e : (e : Edge) × (slice_get p.edges leg.place ≡ Some e)
     e = leg_edge p.edges out.items leg (rw is_out at keeps.legs)
 
     is_next : at ≡ pass_start e.0 leg.back
     is_next = is_at ∙ ap (λ (x : Edge). pass_start x leg.back) (found_at p.edges leg.place e.0 e.1)
-
-    more : {m n : ℕ} (k : ℕ) → m < n → m + k < n + k
-    more k h = omega arith
 
 -- home, with a double walk
 pub finished : (p : PieceValue) (old new : Traversal) → IsValidPiece p → IsTraversal p old → IsTraversalDone p old new → IsDouble p new.walk
@@ -190,5 +132,4 @@ finished p old new kept was home =
 -- that costs twice the piece
 pub finished_cost : (p : PieceValue) (old new : Traversal) → IsValidPiece p → IsTraversal p old → IsTraversalDone p old new
     → walk_cost p new.walk ≡ 2 * piece_cost p
-finished_cost p old new kept was home =
-    home_cost p new.walk new.passed.items new.at kept (rw home.empty at home.on.keeps) home.spent (home.on.first was.first)
+finished_cost p old new kept was home = grind (arith, nat_tests, home_cost)
