@@ -30,55 +30,52 @@ pub fn summary_of(
         (reports_from 1 pieces.now certs.now)) }
 {
     let reports = reports_of(alloc, pieces, certs)?;
-    let (cost, retraced) = cost_sums(reports.as_slice());
+    let (junctions, odd) = junction_sums(pieces);
+    let (cost, retraced, penetrations) = report_sums(reports.as_slice());
     Ok(Summary {
         number,
         lines,
-        junctions: junction_sum(pieces),
-        odd: odd_sum(pieces),
+        junctions,
+        odd,
         pieces: pieces.len() as u32,
         cost,
         retraced,
-        penetrations: penetration_sum(reports.as_slice()),
+        penetrations,
         cuts: 2 * retraced as u64,
     })
 }
 
-/// Returns the total cost of the lines of pieces, and the total retraced cost.
-fn cost_sums(reports: &[PieceReport]) -> (u32, u32)
+/// Returns the total cost of the lines of pieces, the total retraced cost, and the number of penetrations.
+fn report_sums(reports: &[PieceReport]) -> (u32, u32, u32)
     requires { sum_by penetrations_of reports.now < 2 ^ 32 }
     ensures cost { result.0 ≡ sum_by (λ r. r.cost) reports.now }
     ensures retraced { result.1 ≡ sum_by (λ r. r.retraced) reports.now }
+    ensures penetrations { result.2 ≡ sum_by penetrations_of reports.now }
 {
     let mut cost = 0;
     let mut retraced = 0;
+    let mut penetrations = 0;
     for report in reports {
         cost += report.cost;
         retraced += report.retraced;
+        penetrations += report.cost + report.retraced + 1;
     }
-    (cost, retraced)
+    (cost, retraced, penetrations)
 }
 
-fn penetration_sum(reports: &[PieceReport]) -> u32
-    requires { sum_by penetrations_of reports.now < 2 ^ 32 }
-    ensures { result ≡ sum_by penetrations_of reports.now }
-{
-    let mut sum = 0;
-    for report in reports {
-        sum += report.cost + report.retraced + 1;
-    }
-    sum
-}
-
-fn junction_sum(pieces: &[Piece]) -> u32
+/// Returns the total number of junctions of pieces, and that of odd junctions.
+fn junction_sums(pieces: &[Piece]) -> (u32, u32)
     requires { length pieces.now ≤ MAX_LINES }
-    ensures { result ≡ total_junctions pieces.now }
+    ensures junctions { result.0 ≡ total_junctions pieces.now }
+    ensures odd { result.1 ≡ total_odd_junctions pieces.now }
 {
-    let mut sum = 0;
+    let mut junctions = 0;
+    let mut odd = 0;
     for piece in pieces {
-        sum += junction_count(piece);
+        junctions += junction_count(piece);
+        odd += odd_count(piece);
     }
-    sum
+    (junctions, odd)
 }
 
 fn junction_count(p: &Piece) -> u32
@@ -86,17 +83,6 @@ fn junction_count(p: &Piece) -> u32
     ensures few { result ≤ MAX_LINES + 1 }
 {
     p.junctions.len() as u32
-}
-
-fn odd_sum(pieces: &[Piece]) -> u32
-    requires { length pieces.now ≤ MAX_LINES }
-    ensures { result ≡ total_odd_junctions pieces.now }
-{
-    let mut sum = 0;
-    for piece in pieces {
-        sum += odd_count(piece);
-    }
-    sum
 }
 
 fn odd_count(p: &Piece) -> u32
