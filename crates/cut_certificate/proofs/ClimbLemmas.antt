@@ -1,5 +1,6 @@
 -- An edge crosses no more of the cuts than two halves for each of its steps.
-use Rattle.std.proofs.Common.{◌≡◌, ℕ, ◌+◌, ◌-◌, ◌*◌, ◌<◌, ◌≤◌, ◌⊎◌, List, [], ◌∷◌, true, arith, inl, inr, refl, ap}
+use Rattle.std.proofs.lemmas.Bool.Decides.{nat_tests}
+use Rattle.std.proofs.Common.{◌≡◌, ℕ, ◌+◌, ◌-◌, ◌*◌, ◌<◌, ◌≤◌, ◌⊎◌, List, [], ◌∷◌, true, arith, inl, inr, refl}
 use Rattle.std.proofs.lemmas.Bool.{cases_lt}
 use Rattle.blossom_match.specs.declared.matching.Moat.{Moat}
 use Rattle.odd_cuts.specs.Cuts.{has_member}
@@ -24,34 +25,26 @@ in_overlap b w x y from to h k l m = omega arith
 -- one moat's share of the cuts that hold i and not j
 climb_at : (g : LiftInput) (i j t y : ℕ) → IsBest g i t → (m : Moat) → IsOf g.moats m
     → (level g m i < level g m j → depth g m t + level g m j ≤ y) → level g m j - level g m i ≤ part_at g t (2 * g.least t i) y m
-climb_at g i j t y best m is top = elim (cases_lt (level g m i) (level g m j)) [
-  | inl less ↦
-      let most : level g m j ≤ m.width = level_most g m j in
-      let low : level g m i < m.width = omega arith in
-      rw (best.inside m is low)
-      (in_overlap (depth g m t) m.width (2 * g.least t i) y (level g m i) (level g m j) most (top less) (best.first m is low) less)
-  | inr more ↦ omega arith
-]
+climb_at g i j t y best m is top = grind (arith, nat_tests, cases_lt, level_most, best, in_overlap)
 
 climb_fits : (g : LiftInput) (i j t y : ℕ) → IsBest g i t → (ms : List Moat) → ((m : Moat) → IsOf ms m → IsOf g.moats m)
     → ((m : Moat) → IsOf ms m → level g m i < level g m j → depth g m t + level g m j ≤ y)
     → climb g i j ms ≤ overlaps g t (2 * g.least t i) y ms
 climb_fits g i j t y b [] f top = omega arith
 climb_fits g i j t y b (m ∷ ms) f top =
-    sums _ _ _ _ (climb_at g i j t y b m (f m (inl refl)) (top m (inl refl)))
-    (climb_fits g i j t y b ms (λ z h. f z (inr h)) (λ z h. top z (inr h)))
-  where
-    sums : (a b c d : ℕ) → a ≤ b → c ≤ d → a + c ≤ b + d
-    sums a b c d h k = omega arith
+    grind (
+      arith,
+      nat_tests,
+      climb_at g i j t y b m (f m (inl refl)) (top m (inl refl)),
+      climb_fits g i j t y b ms (λ z h. f z (inr h))
+          (λ z h. top z (inr h)),
+    )
 
 climb_below : (g : LiftInput) → Fits g → (i j t y : ℕ) → IsBest g i t
     → ((m : Moat) → IsOf g.moats m → level g m i < level g m j → depth g m t + level g m j ≤ y)
     → climb g i j g.moats ≤ y - 2 * g.least t i
 climb_below g f i j t y b top =
-    le_by _ _ _ (climb_fits g i j t y b g.moats (λ z h. h) top) (overlaps_fit g t (2 * g.least t i) y g.moats (λ z h. h) f.laminar)
-  where
-    le_by : (a b c : ℕ) → a ≤ b → b ≤ c → a ≤ c
-    le_by a b c h k = omega arith
+    omega (arith, climb_fits g i j t y b g.moats (λ z h. h) top, overlaps_fit g t (2 * g.least t i) y g.moats (λ z h. h) f.laminar)
 
 -- no cut holds i
 no_climb : (g : LiftInput) (i j : ℕ) (ms : List Moat) → ((m : Moat) → IsOf ms m → m.width ≤ level g m i) → climb g i j ms ≡ 0
@@ -92,17 +85,10 @@ some_climb g i j (m ∷ ms) h = elim (cases_lt (level g m i) (level g m j)) [
 -- a moat with a cut that holds i and not j, and one the other way, are disjoint
 crossed : (g : LiftInput) (i j : ℕ) (a b : Moat) → IsOf g.moats a → IsOf g.moats b → level g a i < level g a j
     → level g b j < level g b i → (a ≡ b) ⊎ Apart a b → Disjoint a b
-crossed g i j a b is_a is_b up down (inl same) =
-    absurd (omega (arith, ap (λ (m : Moat). level g m i) same, ap (λ (m : Moat). level g m j) same))
+crossed g i j a b is_a is_b up down (inl same) = grind (arith, nat_tests)
 crossed g i j a b is_a is_b up down (inr (inl d)) = d
-crossed g i j a b is_a is_b up down (inr (inr (inl v))) =
-    let most : level g a j ≤ a.width = level_most g a j in
-    let full : level g b i ≡ 0 = inner_full g a b i is_a v (omega arith) in
-    absurd (omega arith)
-crossed g i j a b is_a is_b up down (inr (inr (inr v))) =
-    let most : level g b i ≤ b.width = level_most g b i in
-    let full : level g a j ≡ 0 = inner_full g b a j is_b v (omega arith) in
-    absurd (omega arith)
+crossed g i j a b is_a is_b up down (inr (inr (inl v))) = grind (arith, nat_tests, level_most, inner_full)
+crossed g i j a b is_a is_b up down (inr (inr (inr v))) = grind (arith, nat_tests, level_most, inner_full)
 
 -- the cuts that hold i and not j stay below what parts t from u, where some cut holds j and not i
 one_side : (g : LiftInput) → Fits g → (i j t u : ℕ) → IsBest g i t → IsBest g j u → 0 < climb g j i g.moats
@@ -134,10 +120,7 @@ both_sides g f i j c in_j l up down (inr p) (inr q) =
     let bounded = f.bounded p.0 q.0 p.1 q.1 in
     let joined = f.joined p.0 q.0 j p.1 q.1 in_j in
     let near = l.forth p.0 p.1 in
-    add _ _ _ _ _ _ _ _ c one two bounded joined near up down
-  where
-    add : (a b v w d x y z c : ℕ) → a ≤ v - 2 * x → b ≤ w - 2 * y → v + w ≤ 2 * d → d ≤ z + y → z ≤ x + c → 0 < a → 0 < b → a + b ≤ 2 * c
-    add a b v w d x y z c h k m n o p q = omega arith
+    omega (arith, one, two, bounded, joined, near, up, down)
 
 -- the cuts that hold exactly one of i and j have two halves at most for each step
 pub carries : (g : LiftInput) → Fits g → (i j c : ℕ) → i < g.size → j < g.size → IsLine g i j c

@@ -1,4 +1,5 @@
 -- Rows of a piece and moats over its odd junctions are an input of lifting whose cuts are a packing.
+use Rattle.std.proofs.lemmas.Bool.Decides.{nat_tests}
 use Rattle.std.proofs.Common.{◌≡◌, ℕ, ◌+◌, ◌*◌, ◌%◌, ◌<◌, ◌≤◌, List, [], ◌∷◌, length, Vec, Global, All, Bool, drop, true, false, not, ◌&&◌, get_or, Some, slice_get, arith, refl, sym, ◌∙◌, ap, subst}
 use Rattle.std.proofs.lemmas.List.Elements.{All-weaker}
 use Rattle.std.proofs.lemmas.List.Recursion.{is_sum_by}
@@ -70,12 +71,7 @@ fits p rows moats law are = record {
 
 line : (p : PieceValue) (rows : RowsValue) (moats : List Moat) → AreDistances p → AreLiftableMoats p rows moats → (k : ℕ) (e : Edge)
     → slice_get p.edges k ≡ Some e → e.a < length p.junctions → e.b < length p.junctions → IsLine (piece_site p rows moats) e.a e.b e.cost
-line p rows moats law are k e at in_a in_b = record {
-  forth = λ t lt. (law.along (terminal_of rows t) k (cost_at rows t e.a) (cost_at rows t e.b) e at
-      (are.rows_are.least t e.a lt in_a) (are.rows_are.least t e.b lt in_b)).0;
-  back = λ t lt. (law.along (terminal_of rows t) k (cost_at rows t e.a) (cost_at rows t e.b) e at
-      (are.rows_are.least t e.a lt in_a) (are.rows_are.least t e.b lt in_b)).1;
-}
+line p rows moats law are k e at in_a in_b = grind (arith, nat_tests)
 
 -- the edge carries no more than two halves for each of its steps
 abbrev Carries : List Cut → Edge → Type 0
@@ -135,9 +131,7 @@ reaching p rows moats kept are = record {
 pub can_reach : (p : PieceValue) (rows : RowsValue) (moats seen : List Moat) (size : ℕ) → IsValidPiece p → AreLiftableMoats p rows moats
     → seen ≡ moats
     → size ≡ length p.junctions → HasRowsForMoats rows size seen
-can_reach p rows moats seen size kept are same sized =
-    subst (λ (n : ℕ). HasRowsForMoats rows n seen) (sym sized)
-    (subst (λ (ms : List Moat). HasRowsForMoats rows (length p.junctions) ms) (sym same) (reaching p rows moats kept are))
+can_reach p rows moats seen size kept are same sized = grind (arith, nat_tests, reaching p rows moats kept are)
 
 -- the distances at an index, as the code reads them
 pub reach_at : (p : PieceValue) (rows : RowsValue) (moats : List Moat) (size index : ℕ) (s : Moat) (reaches : List (Vec ℕ Global))
@@ -160,11 +154,7 @@ reach_few p rows moats s read kept is = omega (arith, is.sized, kept.junctions_f
 -- and makes the cuts of its moat
 pub cuts_of : (g : LiftInput) (s : Moat) (read : List ℕ) (width : ℕ) (old new : List Cut) → AreDistancesFrom g s read → width ≡ s.width
     → AddsCuts (AreCutsTo read width) old new → AddsCuts (AreCutsOf g s) old new
-cuts_of g s read width old new is wide adds = record {
-  more = adds.more;
-  kind = record { reach = read; is = is; cuts_are = subst (λ (w : ℕ). AreCutsTo read w adds.more) wide adds.kind };
-  is = adds.is;
-}
+cuts_of g s read width old new is wide adds = grind (arith, nat_tests)
 
 -- after the last moat
 pub lifted_by : (p : PieceValue) (rows : RowsValue) (moats seen : List Moat) (i : ℕ) (cuts : List Cut) → seen ≡ moats → IsValidPiece p

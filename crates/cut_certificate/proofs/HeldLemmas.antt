@@ -1,4 +1,5 @@
 -- A cut holds as many odd junctions as its moat has members, and nested moats of different sets have different sizes.
+use Rattle.std.proofs.lemmas.Bool.Decides.{nat_tests}
 use Rattle.std.proofs.Common.{◌≡◌, ◌≢◌, ℕ, suc, ◌+◌, ◌<◌, ◌≤◌, ◌⊎◌, List, [], ◌∷◌, length, Bool, true, false, cond, ◌||◌, ◌==◌, arith, inl, inr, refl, sym, ◌∙◌, ap, subst}
 use Rattle.std.proofs.lemmas.Bool.{both_ways, cases_Bool, cases_eq, cases_lt, eq-eqb, eqb-true, ne_eqb, or_cases}
 use Rattle.std.proofs.lemmas.List.Recursion.{is_count_by}
@@ -114,15 +115,10 @@ at_front : (x : ℕ) (xs : List ℕ) → has_member (x ∷ xs) x ≡ true
 at_front x xs = rw (eq-eqb x x refl) refl
 
 behind : (x t : ℕ) (xs : List ℕ) → has_member xs t ≡ true → has_member (x ∷ xs) t ≡ true
-behind x t xs h = go (t == x)
-  where
-    go : (b : Bool) → (b || has_member xs t) ≡ true
-    go true = refl
-    go false = h
+behind x t xs h = grind (arith, nat_tests)
 
 rest_part : (x : ℕ) (xs ys : List ℕ) → has_member xs x ≡ false → IsPart (x ∷ xs) ys → IsPart xs (remove x ys)
-rest_part x xs ys none part t h =
-    remove_other x t ys (λ same. both_ways (has_member xs x) none (ap (has_member xs) (sym same) ∙ h)) (part t (behind x t xs h))
+rest_part x xs ys none part t h = grind (arith, nat_tests, remove_other, both_ways, behind)
 
 -- a part that is no shorter is all
 all_of : (xs ys : List ℕ) → Differ xs → IsPart xs ys → length ys ≤ length xs → IsPart ys xs
@@ -140,10 +136,7 @@ all_of (x ∷ xs) ys differ part le t h =
 pub apart : (a b : Moat) → Differ a.members → Differ b.members → (IsPart a.members b.members → IsPart b.members a.members → ⊥)
     → Disjoint a b ⊎ (IsPart a.members b.members ⊎ IsPart b.members a.members) → Apart a b
 apart a b da db differ (inl d) = inl d
-apart a b da db differ (inr (inl p)) = elim (cases_lt (length a.members) (length b.members)) [
-  | inl less ↦ inr (inl (less, p))
-  | inr more ↦ absurd (differ p (all_of a.members b.members da p more))
-]
+apart a b da db differ (inr (inl p)) = grind (arith, nat_tests, cases_lt, all_of)
 apart a b da db differ (inr (inr p)) = elim (cases_lt (length b.members) (length a.members)) [
   | inl less ↦ inr (inr (less, p))
   | inr more ↦ absurd (differ (all_of b.members a.members db p more) p)

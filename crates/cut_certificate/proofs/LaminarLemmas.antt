@@ -1,19 +1,19 @@
 -- Moats as they are given, and as inductions need them: no number twice, all below a limit, any two apart.
-use Rattle.std.proofs.Common.{◌≡◌, ◌≢◌, ℕ, suc, ◌<◌, ◌⊎◌, List, [], ◌∷◌, All, AllPairs, true, false, arith, inl, inr, refl, sym, subst}
+use Rattle.std.proofs.lemmas.Bool.Decides.{nat_tests}
+use Rattle.std.proofs.Common.{◌≡◌, ◌≢◌, ℕ, suc, ◌<◌, List, [], ◌∷◌, All, AllPairs, true, false, arith, inl, inr, refl, sym, subst}
 use Rattle.std.proofs.lemmas.Bool.{both_ways, eqb-true, ne_eqb, or_cases}
 use Rattle.std.proofs.lemmas.List.Elements.{All-head, All-tail, All-weaker}
 use Rattle.std.proofs.lemmas.List.Folds.{list_any_none}
 use Rattle.std.specs.Prelude.{◌==◌}
 use Rattle.blossom_match.specs.declared.matching.Moat.{Moat}
-use Rattle.blossom_match.specs.Matchings.{AreLaminar, IsOddMoat, IsDisjointFrom, IsNestedIn}
+use Rattle.blossom_match.specs.Matchings.{AreLaminar, IsOddMoat}
 use Rattle.odd_cuts.specs.Cuts.{has_member}
 use Rattle.cut_certificate.proofs.HeldLemmas.{Below, Differ, apart}
 use Rattle.cut_certificate.proofs.MoatLemmas.{Apart, ApartFromAll, IsOf, Laminar}
 use Rattle.lists_and_numbers.proofs.CallerLemmas.{same_test}
 
 not_held : (x : ℕ) (xs : List ℕ) → All (λ y. x ≢ y) xs → has_member xs x ≡ false
-not_held x xs all =
-    list_any_none (λ y. x == y) xs (All-weaker (λ y. x ≢ y) (λ y. (x == y) ≡ false) (λ y other. ne_eqb x y other) xs all)
+not_held x xs all = grind (arith, nat_tests, list_any_none, All-weaker, ne_eqb)
 
 pub differ : (xs : List ℕ) → AllPairs (λ x y. x ≢ y) xs → Differ xs
 differ [] pairs = tt
@@ -40,19 +40,7 @@ of_all P (x ∷ xs) m all (inl same) = subst P (sym same) (All-head P x xs all)
 of_all P (x ∷ xs) m all (inr is) = of_all P xs m (All-tail P x xs all) is
 
 pub apart_two : (n : ℕ) (a b : Moat) → IsOddMoat n a → IsOddMoat n b → AreLaminar a b → Apart a b
-apart_two n a b odd_a odd_b l =
-    apart a b (differ a.members odd_a.different) (differ b.members odd_b.different)
-    (λ one other. l.differ.1 (same_test (has_member a.members l.differ.0) (has_member b.members l.differ.0) (one l.differ.0)
-    (other l.differ.0)))
-    (lie l.lie)
-  where
-    lie : IsNestedIn a b ⊎ (IsNestedIn b a ⊎ IsDisjointFrom a b)
-        → ((t : ℕ) → has_member a.members t ≡ true → has_member b.members t ≡ true → ⊥)
-        ⊎ (((t : ℕ) → has_member a.members t ≡ true → has_member b.members t ≡ true)
-        ⊎ ((t : ℕ) → has_member b.members t ≡ true → has_member a.members t ≡ true))
-    lie (inl inner) = inr (inl inner)
-    lie (inr (inl outer)) = inr (inr outer)
-    lie (inr (inr beside)) = inl (λ t in_a in_b. both_ways (has_member b.members t) (beside t in_a) in_b)
+apart_two n a b odd_a odd_b l = grind (arith, nat_tests, apart, differ, same_test)
 
 apart_all : (n : ℕ) (m : Moat) (ms : List Moat) → IsOddMoat n m → All (IsOddMoat n) ms → All (AreLaminar m) ms → ApartFromAll m ms
 apart_all n m [] odd all l = tt

@@ -1,5 +1,6 @@
 -- The levels at which junctions enter the cuts of moats, and for each junction a terminal that puts it into every cut that holds it.
-use Rattle.std.proofs.Common.{◌≡◌, ℕ, ◌+◌, ◌-◌, ◌*◌, ◌<◌, ◌≤◌, ◌⊎◌, min, List, [], ◌∷◌, length, Bool, true, false, ◌||◌, ◌==◌, nat_lt, arith, inl, inr, refl, sym, ap, subst}
+use Rattle.std.proofs.lemmas.Bool.Decides.{nat_tests}
+use Rattle.std.proofs.Common.{◌≡◌, ℕ, ◌+◌, ◌-◌, ◌*◌, ◌<◌, ◌≤◌, ◌⊎◌, min, List, [], ◌∷◌, length, Bool, true, false, ◌==◌, nat_lt, arith, inl, inr, refl, sym, ap, subst}
 use Rattle.std.proofs.lemmas.Bool.{both_ways, cases_Bool, cases_lt, eq-eqb, eqb-true, lt-ltb, ltb-true, or_cases, or_right}
 use Rattle.blossom_match.specs.declared.matching.Moat.{Moat}
 use Rattle.odd_cuts.specs.Cuts.{has_member}
@@ -74,22 +75,12 @@ inner_full g a b j is i in_a =
 
 -- the junction of a member is in all cuts of its moat
 pub insider : (g : LiftInput) → Fits g → (a : Moat) (u : ℕ) → u < g.places → has_member a.members u ≡ true → level g a (g.spot u) ≡ 0
-insider g f a u fits in_a =
-    let most : level g a (g.spot u) ≤ 2 * g.least u (g.spot u) - depth g a u = level_by g a (g.spot u) u in_a in
-    omega (arith, f.home u fits)
+insider g f a u fits in_a = grind (arith, nat_tests, level_by g a (g.spot u) u in_a)
 
 -- the junction of any other terminal is in no cut of the moat
 pub outsider : (g : LiftInput) → Fits g → (a : Moat) (u : ℕ) → IsOf g.moats a → u < g.places → has_member a.members u ≡ false
     → level g a (g.spot u) ≡ a.width
-outsider g f a u is fits out = elim (cases_lt (level g a (g.spot u)) a.width) [
-  | inl less ↦
-      let p = level_some g a (g.spot u) less in
-      let bounded = f.bounded p.0 u (f.placed a is p.0 p.1) fits in
-      let one : depth g a p.0 + a.width ≤ width_sum (parts p.0 u) g.moats = reach g f.laminar a p.0 u is p.1 out in
-      let e = p.2 in
-      absurd (omega arith)
-  | inr more ↦ omega (arith, level_most g a (g.spot u))
-]
+outsider g f a u is fits out = grind (arith, nat_tests, cases_lt, level_some, parts, reach, level_most)
 
 -- a terminal that puts a junction into every cut that holds it
 pub record IsBest (g : LiftInput) (i t : ℕ) : Type 0 where
@@ -113,17 +104,10 @@ first_here : (p : Moat → Bool) (x : Moat) (xs : List Moat) → NonePasses p xs
 first_here p x xs f m (inl same) h = omega (arith, ap (λ (y : Moat). length y.members) same)
 first_here p x xs f m (inr is) h = absurd (both_ways (p m) (f m is) h)
 
-smaller_here : (p : Moat → Bool) (x s : Moat) (xs : List Moat) → length x.members ≤ length s.members
-    → ((m : Moat) → IsOf xs m → p m ≡ true → length s.members ≤ length m.members)
-    → (m : Moat) → IsOf (x ∷ xs) m → p m ≡ true → length x.members ≤ length m.members
-smaller_here p x s xs le f m (inl same) h = omega (arith, ap (λ (y : Moat). length y.members) same)
-smaller_here p x s xs le f m (inr is) h = omega (arith, f m is h)
-
 larger_here : (p : Moat → Bool) (x s : Moat) (xs : List Moat) → (p x ≡ true → length s.members ≤ length x.members)
     → ((m : Moat) → IsOf xs m → p m ≡ true → length s.members ≤ length m.members)
     → (m : Moat) → IsOf (x ∷ xs) m → p m ≡ true → length s.members ≤ length m.members
-larger_here p x s xs le f m (inl same) h =
-    subst (λ (y : Moat). length s.members ≤ length y.members) (sym same) (le (subst (λ (y : Moat). p y ≡ true) same h))
+larger_here p x s xs le f m (inl same) h = grind (arith, nat_tests)
 larger_here p x s xs le f m (inr is) h = f m is h
 
 one_more : (p : Moat → Bool) (x : Moat) (xs : List Moat) → (p x ≡ true) ⊎ (p x ≡ false)
@@ -131,10 +115,7 @@ one_more : (p : Moat → Bool) (x : Moat) (xs : List Moat) → (p x ≡ true) �
 one_more p x xs (inr e) (inl f) = inl (none_here p x xs e f)
 one_more p x xs (inl e) (inl f) = inr (x, inl refl, e, first_here p x xs f)
 one_more p x xs (inr e) (inr s) = inr (s.0, inr s.1, s.2, larger_here p x s.0 xs (λ h. absurd (both_ways (p x) e h)) s.3)
-one_more p x xs (inl e) (inr s) = elim (cases_lt (length s.0.members) (length x.members)) [
-  | inl less ↦ inr (s.0, inr s.1, s.2, larger_here p x s.0 xs (λ h. omega arith) s.3)
-  | inr more ↦ inr (x, inl refl, e, smaller_here p x s.0 xs more s.3)
-]
+one_more p x xs (inl e) (inr s) = grind (arith, nat_tests, cases_lt (length s.0.members) (length x.members))
 
 smallest : (p : Moat → Bool) (ms : List Moat) → NonePasses p ms ⊎ IsSmallest p ms
 smallest p [] = inl (λ m is. absurd is)
@@ -145,13 +126,10 @@ inside_all : (g : LiftInput) → Fits g → (i t : ℕ) (s m : Moat) → i < g.s
     → has_member s.members t ≡ true → level g s i ≡ 2 * g.least t i - depth g s t → length s.members ≤ length m.members
     → level g m i < m.width → (m ≡ s) ⊎ Apart m s
     → (has_member m.members t ≡ true) × (2 * g.least t i - depth g m t ≤ level g m i)
-inside_all g f i t s m in_i is_s is_m low has e le h (inl same) =
-    subst (λ (y : Moat). (has_member y.members t ≡ true) × (2 * g.least t i - depth g y t ≤ level g y i)) (sym same) (has, omega arith)
+inside_all g f i t s m in_i is_s is_m low has e le h (inl same) = grind (arith, nat_tests)
 inside_all g f i t s m in_i is_s is_m low has e le h (inr (inl d)) = absurd (no_share g f m s i in_i is_m is_s d h low)
 inside_all g f i t s m in_i is_s is_m low has e le h (inr (inr (inl j))) = absurd (omega (arith, j.0))
-inside_all g f i t s m in_i is_s is_m low has e le h (inr (inr (inr j))) =
-    let over : depth g s t + s.width ≤ depth g m t = above g s m t is_s has j.0 in
-    (j.1 t has, omega arith)
+inside_all g f i t s m in_i is_s is_m low has e le h (inr (inr (inr j))) = grind (arith, nat_tests, above g s m t is_s has j.0)
 
 -- either no cut holds the junction, or a terminal puts it into every cut that does
 pub best : (g : LiftInput) → Fits g → (i : ℕ) → i < g.size

@@ -1,8 +1,9 @@
 -- The cuts of all moats, moat by moat.
+use Rattle.std.proofs.lemmas.Bool.Decides.{nat_tests}
 use Rattle.std.proofs.Common.{◌≡◌, ℕ, zero, suc, ◌+◌, ◌-◌, ◌<◌, ◌≤◌, min, List, [], ◌∷◌, length, All, drop, get_or, add-one, drop-cons, true, nat_le, arith, inl, inr, refl, sym, ◌∙◌, ap, subst}
-use Rattle.std.proofs.lemmas.Bool.{cases_Bool, cases_lt, le-leb, lt-leb}
+use Rattle.std.proofs.lemmas.Bool.{cases_Bool, le-leb, lt-leb}
 use Rattle.std.proofs.lemmas.List.{drop_all}
-use Rattle.std.proofs.lemmas.List.Elements.{All-append, All-nil, All-weaker}
+use Rattle.std.proofs.lemmas.List.Elements.{All-append, All-weaker}
 use Rattle.std.proofs.lemmas.List.Sums.{sum_by-append, sum_by-cons}
 use Rattle.std.specs.Prelude.{if◌then◌else◌, slice_index}
 use Rattle.blossom_match.specs.declared.matching.Moat.{Moat}
@@ -44,20 +45,13 @@ pub record AreCutsOf (g : LiftInput) (s : Moat) (cuts : List Cut) : Type 0 where
   pub is : AreDistancesFrom g s reach
   pub cuts_are : AreCutsTo reach s.width cuts
 
--- before the first moat
-pub none_lifted : (g : LiftInput) → AreLifted g g.moats []
-none_lifted g = record { loads = λ e in_a in_b. omega arith; total = omega arith; each = All-nil (IsMade g) }
-
 one_load : (w a b x y l p q r : ℕ) → min w x ≡ a → min w y ≡ b → l ≡ distance_between (min w x) (min w y)
     → (p + l) + (q + r) ≡ p + (((b - a) + q) + ((a - b) + r))
 one_load w a b x y l p q r hx hy hl = omega arith
 
 -- below the width a distance and a level are within the same limits
 same_limit : (w x a limit : ℕ) → min w x ≡ a → limit < w → nat_le x limit ≡ nat_le a limit
-same_limit w x a limit is low = elim (cases_lt limit x) [
-  | inl over ↦ lt-leb x limit over ∙ sym (lt-leb a limit (omega arith))
-  | inr under ↦ le-leb x limit under ∙ sym (le-leb a limit (omega arith))
-]
+same_limit w x a limit is low = grind (arith, nat_tests)
 
 made : (g : LiftInput) (s : Moat) (reach : List ℕ) (c : Cut) → IsOf g.moats s → AreDistancesFrom g s reach → IsLevelCut reach s.width c
     → IsMade g c

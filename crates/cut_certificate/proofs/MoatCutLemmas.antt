@@ -1,7 +1,8 @@
 -- The cuts of one moat, level by level at which a junction enters.
-use Rattle.std.proofs.Common.{◌≡◌, ℕ, zero, suc, ◌+◌, ◌-◌, ◌<◌, ◌≤◌, ◌⊎◌, min, List, [], ◌∷◌, ◌++◌, length, All, Bool, true, false, not, ◌==◌, nat_le, nat_lt, append_assoc, arith, inl, inr, refl, sym, ◌∙◌, ap, subst}
-use Rattle.std.proofs.lemmas.Bool.{and_from, eq-eqb, le-leb, lt-leb, lt-ltb, ne_eqb}
-use Rattle.std.proofs.lemmas.List.Elements.{All-cons, All-nil, All-push, All-weaker}
+use Rattle.std.proofs.lemmas.Bool.Decides.{nat_tests}
+use Rattle.std.proofs.Common.{◌≡◌, ℕ, zero, suc, ◌+◌, ◌-◌, ◌<◌, ◌≤◌, ◌⊎◌, min, List, [], ◌∷◌, ◌++◌, length, All, Bool, true, false, not, ◌==◌, nat_le, append_assoc, arith, inl, inr, refl, sym, ◌∙◌, ap}
+use Rattle.std.proofs.lemmas.Bool.{and_from, eq-eqb, le-leb}
+use Rattle.std.proofs.lemmas.List.Elements.{All-nil, All-push, All-weaker}
 use Rattle.std.proofs.lemmas.List.Sums.{sum_by_push}
 use Rattle.std.specs.Prelude.{if◌then◌else◌, slice_index}
 use Rattle.line_graph.specs.declared.edge.Edge.{Edge}
@@ -12,12 +13,7 @@ use Rattle.cut_certificate.specs.MoatCuts.{AddsCuts, AreCutsTo, IsLevelCut, dist
 
 none_before : (k h j : ℕ) (es : List ℕ) → j < k → has_member (members_from k h es) j ≡ false
 none_before k h j [] lt = refl
-none_before k h j (e ∷ es) lt = go (nat_le e h) (none_before (k + 1) h j es (omega arith))
-  where
-    go : (b : Bool) → has_member (members_from (k + 1) h es) j ≡ false
-        → has_member (if b then k ∷ members_from (k + 1) h es else members_from (k + 1) h es) j ≡ false
-    go false rest = rest
-    go true rest = let other : (j == k) ≡ false = ne_eqb j k (λ same. omega arith) in rw (other, rest) refl
+none_before k h j (e ∷ es) lt = grind (arith, nat_tests, none_before (k + 1) h j es (omega arith))
 
 holds_at : (k h i : ℕ) (es : List ℕ) → i < length es → has_member (members_from k h es) (k + i) ≡ nat_le (slice_index es i) h
 holds_at k h i [] lt = absurd (omega arith)
@@ -33,32 +29,15 @@ holds_at k h zero (e ∷ es) lt = go (nat_le e h) refl
         → has_member (if b then k ∷ members_from (k + 1) h es else members_from (k + 1) h es) (k + 0) ≡ nat_le e h
     go true is = rw here (sym is)
     go false is = none ∙ sym is
-holds_at k h (suc i) (e ∷ es) lt =
-    go (nat_le e h)
-    (subst (λ (x : ℕ). has_member (members_from (k + 1) h es) x ≡ nat_le (slice_index es i) h) (omega arith)
-    (holds_at (k + 1) h i es (omega arith)))
-  where
-    other : ((k + suc i) == k) ≡ false
-    other = ne_eqb (k + suc i) k (λ same. omega arith)
-
-    go : (b : Bool) → has_member (members_from (k + 1) h es) (k + suc i) ≡ nat_le (slice_index es i) h
-        → has_member (if b then k ∷ members_from (k + 1) h es else members_from (k + 1) h es) (k + suc i) ≡ nat_le (slice_index es i) h
-    go true rest = rw (other, rest) refl
-    go false rest = rest
+holds_at k h (suc i) (e ∷ es) lt = grind (arith, nat_tests, holds_at (k + 1) h i es (omega arith))
 
 -- a junction is a member exactly where its level is no more than the limit
 pub member_at : (h i : ℕ) (es : List ℕ) → i < length es → has_member (members_from 0 h es) i ≡ nat_le (slice_index es i) h
-member_at h i es lt =
-    subst (λ (x : ℕ). has_member (members_from 0 h es) x ≡ nat_le (slice_index es i) h) (omega arith) (holds_at 0 h i es lt)
+member_at h i es lt = grind (arith, nat_tests, holds_at 0 h i es lt)
 
 above_all : (low k h : ℕ) (es : List ℕ) → low < k → all_greater low (members_from k h es) ≡ true
 above_all low k h [] lt = refl
-above_all low k h (e ∷ es) lt = go (nat_le e h) (above_all low (k + 1) h es (omega arith))
-  where
-    go : (b : Bool) → all_greater low (members_from (k + 1) h es) ≡ true
-        → all_greater low (if b then k ∷ members_from (k + 1) h es else members_from (k + 1) h es) ≡ true
-    go true rest = and_from (nat_lt low k) (all_greater low (members_from (k + 1) h es)) (lt-ltb low k lt) rest
-    go false rest = rest
+above_all low k h (e ∷ es) lt = grind (arith, nat_tests, above_all low (k + 1) h es (omega arith))
 
 -- the members rise
 pub members_rise : (k h : ℕ) (es : List ℕ) → is_strictly_increasing (members_from k h es) ≡ true
@@ -74,12 +53,7 @@ members_rise k h (e ∷ es) = go (nat_le e h) (members_rise (k + 1) h es)
 -- and are junctions
 pub members_below : (n k h : ℕ) (es : List ℕ) → k + length es ≤ n → All (λ j. j < n) (members_from k h es)
 members_below n k h [] fits = All-nil (λ j. j < n)
-members_below n k h (e ∷ es) fits = go (nat_le e h) (members_below n (k + 1) h es (omega arith))
-  where
-    go : (b : Bool) → All (λ j. j < n) (members_from (k + 1) h es)
-        → All (λ j. j < n) (if b then k ∷ members_from (k + 1) h es else members_from (k + 1) h es)
-    go true rest = All-cons (λ j. j < n) k (members_from (k + 1) h es) (omega arith) rest
-    go false rest = rest
+members_below n k h (e ∷ es) fits = grind (arith, nat_tests, members_below n (k + 1) h es (omega arith))
 
 -- what one cut adds to an edge's load
 step_load : (from next a b : ℕ) → from < next → (a ≤ from) ⊎ (next ≤ a) → (b ≤ from) ⊎ (next ≤ b)
@@ -87,16 +61,9 @@ step_load : (from next a b : ℕ) → from < next → (a ≤ from) ⊎ (next ≤
     + (if (if nat_le a from then not (nat_le b from) else nat_le b from) then next - from else 0)
     ≡ distance_between (min next a) (min next b)
 step_load from next a b lt (inl p) (inl q) = rw (le-leb a from p, le-leb b from q) (omega arith)
-step_load from next a b lt (inl p) (inr q) =
-    let over : nat_le b from ≡ false = lt-leb b from (omega arith) in
-    rw (le-leb a from p, over) (omega arith)
-step_load from next a b lt (inr p) (inl q) =
-    let over : nat_le a from ≡ false = lt-leb a from (omega arith) in
-    rw (over, le-leb b from q) (omega arith)
-step_load from next a b lt (inr p) (inr q) =
-    let one : nat_le a from ≡ false = lt-leb a from (omega arith) in
-    let two : nat_le b from ≡ false = lt-leb b from (omega arith) in
-    rw (one, two) (omega arith)
+step_load from next a b lt (inl p) (inr q) = grind (arith, nat_tests)
+step_load from next a b lt (inr p) (inl q) = grind (arith, nat_tests)
+step_load from next a b lt (inr p) (inr q) = grind (arith, nat_tests)
 
 -- the weight of a cut of the junctions up to a level, where the edge crosses it
 one_load : (e : Edge) (c : Cut) (from w : ℕ) (levels : List ℕ) → c.members ≡ members_from 0 from levels → c.weight ≡ w
@@ -105,20 +72,7 @@ one_load : (e : Edge) (c : Cut) (from w : ℕ) (levels : List ℕ) → c.members
     ≡ (if (if nat_le (slice_index levels e.a) from then not (nat_le (slice_index levels e.b) from) else nat_le (slice_index levels e.b)
     from)
     then w else 0)
-one_load e c from w levels is weight in_a in_b =
-    let at_a : has_member c.members e.a ≡ nat_le (slice_index levels e.a) from
-    = ap (λ (l : List ℕ). has_member l e.a) is ∙ member_at from e.a levels in_a in
-    let at_b : has_member c.members e.b ≡ nat_le (slice_index levels e.b) from
-    = ap (λ (l : List ℕ). has_member l e.b) is ∙ member_at from e.b levels in_b in
-    rw (at_a, at_b, weight) refl
-
--- before the first cut
-pub no_cuts : (levels : List ℕ) → AreCutsTo levels 0 []
-no_cuts levels = record {
-  loads = λ e in_a in_b. omega arith;
-  total = refl;
-  each = All-nil (IsLevelCut levels 0);
-}
+one_load e c from w levels is weight in_a in_b = grind (arith, nat_tests, member_at)
 
 one_load_on : (cs : List Cut) (c : Cut) (e : Edge) → load_on (cs ++ c ∷ []) e ≡ load_on cs e + (if crosses c.members e then c.weight else 0)
 one_load_on cs c e = sum_by_push (λ (cut : Cut). if crosses cut.members e then cut.weight else 0) cs c

@@ -1,4 +1,5 @@
 -- The distances from the next moat, computed from those of the outermost moats inside it.
+use Rattle.std.proofs.lemmas.Bool.Decides.{nat_tests}
 use Rattle.std.proofs.Common.{◌≡◌, ℕ, ◌+◌, ◌-◌, ◌*◌, ◌<◌, ◌≤◌, ◌⊎◌, min, List, [], ◌∷◌, Option, Some, None, Vec, Global, length, Bool, true, false, nat_lt, get_or, slice_get, arith, inl, inr, refl, sym, ◌∙◌, ap, subst}
 use Rattle.std.proofs.lemmas.Bool.{and_from, and_parts, both_ways, cases_Bool, cases_lt, eq-eqb, eqb-true, lt-ltb, ltb-true, or_cases}
 use Rattle.std.proofs.lemmas.Option.{slice_get_cases, slice_get_within}
@@ -8,7 +9,7 @@ use Rattle.cut_certificate.specs.declared.terminal_state.TerminalState.{Terminal
 use Rattle.cut_certificate.specs.declared.terminal_state.TerminalState.TheVariants as stand
 use Rattle.odd_cuts.specs.Cuts.{has_member}
 use Rattle.cut_certificate.specs.Levels.{LiftInput, distance_beyond, depth, is_inner, level, width_sum}
-use Rattle.cut_certificate.specs.MoatDistances.{IsProgress, AreDistancesFrom, lesser_of, lowered_distance, distance_from, distance_past}
+use Rattle.cut_certificate.specs.MoatDistances.{IsProgress, AreDistancesFrom, lesser_of, lowered_distance, distance_from}
 use Rattle.cut_certificate.specs.TerminalStates.{IsProcessed, IsUncovered, IsOutermost}
 use Rattle.cut_certificate.proofs.LevelLemmas.{level_by, level_most, level_some}
 use Rattle.cut_certificate.proofs.MoatLemmas.{Apart, Inside, IsOf, Laminar, above, one_apart, related, widths_mono}
@@ -49,26 +50,10 @@ both_over false false v w a b f le = omega arith
 widths_but : (p q : Moat → Bool) (s : Moat) (t : ℕ) (ms : List Moat) → Laminar ms → has_member s.members t ≡ true
     → ((m : Moat) → IsOf ms m → q m ≡ true → (p m ≡ true) ⊎ (m ≡ s)) → width_sum q ms ≤ width_sum p ms + s.width
 widths_but p q s t [] l has f = omega arith
-widths_but p q s t (x ∷ xs) l has f = elim (cases_Bool (q x)) [
-  | inl passes ↦ elim (f x (inl refl) passes) [
-    | inl too ↦ both_over (p x) (q x) s.width x.width (width_sum q xs) (width_sum p xs) (λ h. too)
-        (widths_but p q s t xs l.1 has (λ m is. f m (inr is)))
-    | inr same ↦
-        let rest = widths_mono q p xs (λ m is h. elim (f m (inr is) h) [
-          | inl too ↦ too
-          | inr again ↦ absurd (twice m is (same ∙ sym again) (subst (λ (z : Moat). has_member z.members t ≡ true) (sym again) has))
-        ]) in
-        let width : x.width ≡ s.width = ap (λ (z : Moat). z.width) same in
-        let over = one_over (p x) x.width (width_sum q xs) (width_sum p xs) rest in
-        rw passes (by_width ((if p x then x.width else 0) + width_sum p xs) x.width s.width (x.width + width_sum q xs) width over)
-  ]
-  | inr misses ↦ both_over (p x) (q x) s.width x.width (width_sum q xs) (width_sum p xs) (λ h. absurd (both_ways (q x) misses h))
-      (widths_but p q s t xs l.1 has (λ m is. f m (inr is)))
-]
+widths_but p q s t (x ∷ xs) l has f =
+    elim (cases_Bool (q x))
+    [ inl passes ↦ elim (f x (inl refl) passes) [ inl too ↦ both_over (p x) (q x) s.width x.width (width_sum q xs) (width_sum p xs) (λ h. too) (widths_but p q s t xs l.1 has (λ m is. f m (inr is))) | inr same ↦ let rest = widths_mono q p xs (λ m is h. elim (f m (inr is) h) [ inl too ↦ too | inr again ↦ absurd (twice m is (same ∙ sym again) (subst (λ (z : Moat). has_member z.members t ≡ true) (sym again) has)) ]) in let width : x.width ≡ s.width = ap (λ (z : Moat). z.width) same in let over = one_over (p x) x.width (width_sum q xs) (width_sum p xs) rest in rw passes (omega (arith, width, over)) ] | inr misses ↦ both_over (p x) (q x) s.width x.width (width_sum q xs) (width_sum p xs) (λ h. absurd (both_ways (q x) misses h)) (widths_but p q s t xs l.1 has (λ m is. f m (inr is))) ]
   where
-    by_width : (b w v a : ℕ) → w ≡ v → a ≤ b + w → a ≤ b + v
-    by_width b w v a same le = omega arith
-
     twice : (m : Moat) → IsOf xs m → x ≡ m → has_member m.members t ≡ true → ⊥
     twice m is same in_m = no_self m in_m (subst (λ (z : Moat). Apart z m) same (one_apart x xs m l.0 is))
       where
@@ -130,14 +115,7 @@ inside_next : (g : LiftInput) (s : Moat) (index : ℕ) (stands : List TerminalSt
     → Finds g s index stands reaches
     → (c : ℕ) (m : Moat) (t : ℕ) → slice_get g.moats c ≡ Some m → IsProcessed (length s.members) index c m → has_member m.members t ≡ true
     → has_member s.members t ≡ true → Inside m s
-inside_next g s index stands reaches f c m t at done in_m in_s =
-    lies (f.smaller c m t at done in_m in_s) (related g.moats m s f.laminar (is_of g.moats c m at) (is_of g.moats index s f.at))
-  where
-    lies : length m.members < length s.members → (m ≡ s) ⊎ Apart m s → Inside m s
-    lies less (inl same) = absurd (omega (arith, ap (λ (x : Moat). length x.members) same))
-    lies less (inr (inl d)) = absurd (d t in_m in_s)
-    lies less (inr (inr (inl i))) = i
-    lies less (inr (inr (inr i))) = absurd (omega (arith, i.0))
+inside_next g s index stands reaches f c m t at done in_m in_s = grind (arith, nat_tests, related, is_of)
 
 -- lowering doesn't raise
 lowered_most : (g : LiftInput) (stands : List TerminalState) (reaches : List (Vec ℕ Global)) (j far : ℕ) (ts : List ℕ)
@@ -145,32 +123,20 @@ lowered_most : (g : LiftInput) (stands : List TerminalState) (reaches : List (Ve
 lowered_most g stands reaches j far [] = omega arith
 lowered_most g stands reaches j far (t ∷ ts) =
     let rest = lowered_most g stands reaches j (lesser_of (distance_from g reaches t j (slice_get stands t)) far) ts in
-    le_by _ _ _ rest (one (distance_from g reaches t j (slice_get stands t)))
+    le_by _ _ _ rest (grind (arith, nat_tests))
   where
     le_by : (a b c : ℕ) → a ≤ b → b ≤ c → a ≤ c
     le_by a b c h k = omega arith
-
-    one : (w : Option ℕ) → lesser_of w far ≤ far
-    one None = omega arith
-    one (Some x) = omega arith
 
 -- each distance is also at most that from each of the terminals
 lowered_by : (g : LiftInput) (stands : List TerminalState) (reaches : List (Vec ℕ Global)) (j far : ℕ) (ts : List ℕ) (t x : ℕ)
     → has_member ts t ≡ true
     → distance_from g reaches t j (slice_get stands t) ≡ Some x → lowered_distance g stands reaches j far ts ≤ x
 lowered_by g stands reaches j far [] t x has is = absurd (both_ways false refl has)
-lowered_by g stands reaches j far (u ∷ ts) t x has is = elim (or_cases (t == u) (has_member ts t) has) [
-  | inl same ↦
-      let first : distance_from g reaches u j (slice_get stands u) ≡ Some x
-      = subst (λ (y : ℕ). distance_from g reaches y j (slice_get stands y) ≡ Some x) (eqb-true t u same) is in
-      let rest = lowered_most g stands reaches j (lesser_of (distance_from g reaches u j (slice_get stands u)) far) ts in
-      le_by _ _ _ rest (one (distance_from g reaches u j (slice_get stands u)) first)
-  | inr there ↦ lowered_by g stands reaches j (lesser_of (distance_from g reaches u j (slice_get stands u)) far) ts t x there is
-]
+lowered_by g stands reaches j far (u ∷ ts) t x has is =
+    elim (or_cases (t == u) (has_member ts t) has)
+    [ inl same ↦ let first : distance_from g reaches u j (slice_get stands u) ≡ Some x = subst (λ (y : ℕ). distance_from g reaches y j (slice_get stands y) ≡ Some x) (eqb-true t u same) is in let rest = lowered_most g stands reaches j (lesser_of (distance_from g reaches u j (slice_get stands u)) far) ts in (omega (arith, rest, one (distance_from g reaches u j (slice_get stands u)) first)) | inr there ↦ lowered_by g stands reaches j (lesser_of (distance_from g reaches u j (slice_get stands u)) far) ts t x there is ]
   where
-    le_by : (a b c : ℕ) → a ≤ b → b ≤ c → a ≤ c
-    le_by a b c h k = omega arith
-
     same_number : (a b : ℕ) → Some a ≡ Some b → a ≡ b
     same_number a b h = cc
 
@@ -233,34 +199,15 @@ pub past : (g : LiftInput) (reaches : List (Vec ℕ Global)) (h j c : ℕ) (m : 
     → place ≡ Some (stand.First c)
     → slice_get g.moats c ≡ Some m → slice_get reaches c ≡ Some v
     → distance_from g reaches h j place ≡ Some (slice_index v.items j - m.width)
-past g reaches h j c m v place is at there =
-    ap (distance_from g reaches h j) is ∙ ap (λ o. distance_past o (slice_get reaches c) j) at ∙ ap (λ o. distance_past (Some m) o j) there
+past g reaches h j c m v place is at there = cc
 
 -- no way is shorter than the junction is beyond the smaller moats
 most_by : (g : LiftInput) (s : Moat) (index : ℕ) (stands : List TerminalState) (reaches : List (Vec ℕ Global)) (far j t : ℕ)
     → Finds g s index stands reaches → j < g.size → has_member s.members t ≡ true
     → lowered_distance g stands reaches j far s.members ≤ distance_beyond g s j t
-most_by g s index stands reaches far j t f in_j has = elim (f.progress.standing.held t (f.placed t has)) [
-  | inl is ↦
-      let none : depth g s t ≡ 0 = depth_free g s index t (f.progress.standing.free t is) in
-      let by = lowered_by g stands reaches j far s.members t (2 * g.least t j) has (ap (distance_from g reaches t j) is) in
-      at_free _ _ _ none by
-  | inr p ↦
-      let o = p.3 in
-      let inner = inside_next g s index stands reaches f p.1 o.moat t o.at o.done o.around has in
-      let there = reach_there g (length s.members) index stands reaches p.1 o.moat f.progress o.at in
-      let by = lowered_by g stands reaches j far s.members p.0 (slice_index there.0.items j - o.moat.width) (inner.1 p.0 o.first)
-      (past g reaches p.0 j p.1 o.moat there.0 (slice_get stands p.0) p.2 o.at there.1) in
-      let near = (f.progress.made p.1 o.moat there.0 o.at o.done there.1).most j t in_j o.around in
-      let over = depth_first g s index t p.0 p.1 f.laminar o in
-      at_first _ _ _ _ _ _ over near by
-]
-  where
-    at_free : (x far d : ℕ) → d ≡ 0 → x ≤ far → x ≤ far - d
-    at_free x far d none le = omega arith
-
-    at_first : (x v w far d e : ℕ) → d ≤ e + w → v ≤ far - e → x ≤ v - w → x ≤ far - d
-    at_first x v w far d e over near by = omega arith
+most_by g s index stands reaches far j t f in_j has =
+    elim (f.progress.standing.held t (f.placed t has))
+    [ inl is ↦ let none : depth g s t ≡ 0 = depth_free g s index t (f.progress.standing.free t is) in let by = lowered_by g stands reaches j far s.members t (2 * g.least t j) has (ap (distance_from g reaches t j) is) in (omega (arith, none, by)) | inr p ↦ let o = p.3 in let inner = inside_next g s index stands reaches f p.1 o.moat t o.at o.done o.around has in let there = reach_there g (length s.members) index stands reaches p.1 o.moat f.progress o.at in let by = lowered_by g stands reaches j far s.members p.0 (slice_index there.0.items j - o.moat.width) (inner.1 p.0 o.first) (past g reaches p.0 j p.1 o.moat there.0 (slice_get stands p.0) p.2 o.at there.1) in let near = (f.progress.made p.1 o.moat there.0 o.at o.done there.1).most j t in_j o.around in let over = depth_first g s index t p.0 p.1 f.laminar o in (omega (arith, over, near, by)) ]
 
 -- so far is a junction beyond the smaller moats around one of the members at least
 abbrev IsFrom : LiftInput → Moat → ℕ → ℕ → Type 0
@@ -273,12 +220,7 @@ from_some : (g : LiftInput) (s : Moat) (index : ℕ) (stands : List TerminalStat
     → distance_from g reaches t j place ≡ Some x → IsFrom g s j x
 from_some g s index stands reaches j t x None f in_j has at is = absurd (no_number x is)
 from_some g s index stands reaches j t x (Some stand.Inside) f in_j has at is = absurd (no_number x is)
-from_some g s index stands reaches j t x (Some stand.Free) f in_j has at is =
-    let same = same_number (2 * g.least t j) x is in
-    (t, has, at_free (2 * g.least t j) (depth g s t) x same)
-  where
-    at_free : (far d x : ℕ) → far ≡ x → far - d ≤ x
-    at_free far d x same = omega arith
+from_some g s index stands reaches j t x (Some stand.Free) f in_j has at is = grind (arith, nat_tests)
 from_some g s index stands reaches j t x (Some (stand.First c)) f in_j has at is =
     let o = f.progress.standing.first t c at in
     let inner = inside_next g s index stands reaches f c o.moat t o.at o.done o.around has in
@@ -287,10 +229,7 @@ from_some g s index stands reaches j t x (Some (stand.First c)) f in_j has at is
     (sym (past g reaches t j c o.moat there.0 (Some (stand.First c)) refl o.at there.1) ∙ is) in
     let p = (f.progress.made c o.moat there.0 o.at o.done there.1).some j in_j in
     let over : depth g o.moat p.0 + o.moat.width ≤ depth g s p.0 = above g o.moat s p.0 (is_of g.moats c o.moat o.at) p.1 inner.0 in
-    (p.0, inner.1 p.0 p.1, at_first _ _ _ _ _ _ over p.2 same)
-  where
-    at_first : (far d e w v x : ℕ) → d + w ≤ e → far - d ≤ v → v - w ≡ x → far - e ≤ x
-    at_first far d e w v x over near same = omega arith
+    (p.0, inner.1 p.0 p.1, omega (arith, over, p.2, same))
 
 -- the distances from the next moat
 pub reach_found : (g : LiftInput) (s : Moat) (index : ℕ) (stands : List TerminalState) (reaches : List (Vec ℕ Global)) (reach : List ℕ)

@@ -1,6 +1,7 @@
 -- Sums of widths, and how the moats of a laminar list lie to one another.
-use Rattle.std.proofs.Common.{◌≡◌, ℕ, ◌+◌, ◌*◌, ◌<◌, ◌≤◌, ◌⊎◌, List, [], ◌∷◌, length, Bool, true, false, not, ◌&&◌, nat_lt, arith, inl, inr, refl, sym, ◌∙◌, ap, subst}
-use Rattle.std.proofs.lemmas.Bool.{and_from, and_parts, and_right, both_ways, cases_Bool, le-ltb, lt-ltb, ltb-true}
+use Rattle.std.proofs.lemmas.Bool.Decides.{nat_tests}
+use Rattle.std.proofs.Common.{◌≡◌, ℕ, ◌+◌, ◌*◌, ◌<◌, ◌≤◌, ◌⊎◌, List, [], ◌∷◌, length, Bool, true, false, not, ◌&&◌, nat_lt, arith, inl, inr, refl, sym, ◌∙◌, subst}
+use Rattle.std.proofs.lemmas.Bool.{and_from, and_parts, and_right, both_ways, le-ltb, lt-ltb, ltb-true}
 use Rattle.std.specs.Prelude.{if◌then◌else◌}
 use Rattle.blossom_match.specs.declared.matching.Moat.{Moat}
 use Rattle.odd_cuts.specs.Cuts.{has_member}
@@ -55,12 +56,7 @@ step true false w a b f h = absurd (both_ways false refl (f refl))
 
 step_with : (p q : Bool) (v w a b : ℕ) → (p ≡ true → q ≡ true) → a + v ≤ b
     → ((if p then w else 0) + a) + v ≤ (if q then w else 0) + b
-step_with p q v w a b f h =
-    let s : (if p then w else 0) + (a + v) ≤ (if q then w else 0) + b = step p q w (a + v) b f h in
-    omega arith
-
-here_with : (p q : Bool) (w a b : ℕ) → p ≡ false → q ≡ true → a ≤ b → ((if p then w else 0) + a) + w ≤ (if q then w else 0) + b
-here_with p q w a b misses is h = rw (misses, is) (omega arith)
+step_with p q v w a b f h = grind (arith, nat_tests)
 
 -- where the one test passes less than the other, so do the sums
 pub widths_mono : (p q : Moat → Bool) (ms : List Moat) → ((m : Moat) → IsOf ms m → p m ≡ true → q m ≡ true)
@@ -73,10 +69,7 @@ widths_mono p q (m ∷ ms) f =
 pub widths_with : (p q : Moat → Bool) (s : Moat) (ms : List Moat) → IsOf ms s → p s ≡ false → q s ≡ true
     → ((m : Moat) → IsOf ms m → p m ≡ true → q m ≡ true) → width_sum p ms + s.width ≤ width_sum q ms
 widths_with p q s [] is misses passes f = absurd is
-widths_with p q s (m ∷ ms) (inl same) misses passes f =
-    subst (λ (x : Moat). width_sum p (m ∷ ms) + x.width ≤ width_sum q (m ∷ ms)) (sym same)
-    (here_with (p m) (q m) m.width (width_sum p ms) (width_sum q ms) (subst (λ (x : Moat). p x ≡ false) same misses)
-    (subst (λ (x : Moat). q x ≡ true) same passes) (widths_mono p q ms (λ x h. f x (inr h))))
+widths_with p q s (m ∷ ms) (inl same) misses passes f = grind (arith, nat_tests, widths_mono p q ms (λ x h. f x (inr h)))
 widths_with p q s (m ∷ ms) (inr is) misses passes f =
     step_with (p m) (q m) s.width m.width (width_sum p ms) (width_sum q ms) (f m (inl refl))
     (widths_with p q s ms is misses passes (λ x h. f x (inr h)))
@@ -102,27 +95,11 @@ related (m ∷ ms) a b l (inr x) (inr y) = related ms a b l.1 x y
 
 -- a member of one of two disjoint moats is no member of the other
 pub not_in : (a b : Moat) (t : ℕ) → Disjoint a b → has_member a.members t ≡ true → has_member b.members t ≡ false
-not_in a b t d h = elim (cases_Bool (has_member b.members t)) [
-  | inl has ↦ absurd (d t h has)
-  | inr misses ↦ misses
-]
+not_in a b t d h = grind (arith, nat_tests)
 
 inside_parts : (g : LiftInput) → Laminar g.moats → (s m : Moat) (t u : ℕ) → IsOf g.moats s → IsOf g.moats m → has_member s.members t ≡ true
     → has_member s.members u ≡ false → is_inner s t m ≡ true → parts t u m ≡ true
-inside_parts g l s m t u is here in_s out small =
-    let both = and_parts (has_member m.members t) (nat_lt (length m.members) (length s.members)) small in
-    let size : length m.members < length s.members = ltb-true _ _ both.1 in
-    and_from (has_member m.members t) (not (has_member m.members u)) both.0 (outside (related g.moats m s l here is) both.0 size)
-  where
-    outside : (m ≡ s) ⊎ Apart m s → has_member m.members t ≡ true → length m.members < length s.members
-        → not (has_member m.members u) ≡ true
-    outside (inl same) in_m size = absurd (omega (arith, ap (λ (x : Moat). length x.members) same))
-    outside (inr (inl d)) in_m size = absurd (d t in_m in_s)
-    outside (inr (inr (inl i))) in_m size = elim (cases_Bool (has_member m.members u)) [
-      | inl has ↦ absurd (both_ways (has_member s.members u) out (i.1 u has))
-      | inr misses ↦ rw misses refl
-    ]
-    outside (inr (inr (inr i))) in_m size = absurd (omega (arith, i.0))
+inside_parts g l s m t u is here in_s out small = grind (arith, nat_tests, and_parts, ltb-true, and_from, related)
 
 not_inner : (s : Moat) (t : ℕ) → is_inner s t s ≡ false
 not_inner s t = and_right (has_member s.members t) (nat_lt (length s.members) (length s.members)) (le-ltb _ _ (omega arith))
@@ -130,21 +107,12 @@ not_inner s t = and_right (has_member s.members t) (nat_lt (length s.members) (l
 -- a moat around t reaches no higher above t than the moats that hold t and not u
 pub reach : (g : LiftInput) → Laminar g.moats → (s : Moat) (t u : ℕ) → IsOf g.moats s → has_member s.members t ≡ true
     → has_member s.members u ≡ false → depth g s t + s.width ≤ width_sum (parts t u) g.moats
-reach g l s t u is in_s out =
-    widths_with (is_inner s t) (parts t u) s g.moats is (not_inner s t)
-    (and_from (has_member s.members t) (not (has_member s.members u)) in_s (rw out refl))
-    (λ m here small. inside_parts g l s m t u is here in_s out small)
+reach g l s t u is in_s out = grind (arith, nat_tests, widths_with, not_inner, and_from, inside_parts)
 
 larger_too : (t : ℕ) (a b m : Moat) → length a.members < length b.members → is_inner a t m ≡ true → is_inner b t m ≡ true
-larger_too t a b m size h =
-    let both = and_parts (has_member m.members t) (nat_lt (length m.members) (length a.members)) h in
-    let small : length m.members < length a.members = ltb-true _ _ both.1 in
-    and_from (has_member m.members t) (nat_lt (length m.members) (length b.members)) both.0 (lt-ltb _ _ (omega arith))
+larger_too t a b m size h = grind (arith, nat_tests)
 
 -- a larger moat around t begins above the smaller one
 pub above : (g : LiftInput) (a b : Moat) (t : ℕ) → IsOf g.moats a → has_member a.members t ≡ true
     → length a.members < length b.members → depth g a t + a.width ≤ depth g b t
-above g a b t is in_a size =
-    widths_with (is_inner a t) (is_inner b t) a g.moats is (not_inner a t)
-    (and_from (has_member a.members t) (nat_lt (length a.members) (length b.members)) in_a (lt-ltb _ _ size))
-    (λ m here small. larger_too t a b m size small)
+above g a b t is in_a size = grind (arith, nat_tests, widths_with, not_inner, and_from, lt-ltb, larger_too)

@@ -1,4 +1,5 @@
 -- The levels of the moats around one terminal don't overlap.
+use Rattle.std.proofs.lemmas.Bool.Decides.{nat_tests}
 use Rattle.std.proofs.Common.{◌≡◌, ℕ, ◌+◌, ◌-◌, ◌≤◌, ◌⊎◌, min, max, List, [], ◌∷◌, true, arith, inl, inr, refl}
 use Rattle.std.proofs.lemmas.Bool.{cases_Bool}
 use Rattle.std.specs.Prelude.{if◌then◌else◌}
@@ -37,36 +38,19 @@ beside g t m s is_m is_s in_m in_s (inr (inr i)) = inr (above g s m t is_s in_s 
 
 part_split : (g : LiftInput) (t x y : ℕ) (m s : Moat) → IsOf g.moats m → IsOf g.moats s → has_member m.members t ≡ true → Apart m s
     → part_at g t x y s ≤ part_at g t x (min (depth g m t) y) s + part_at g t (max (depth g m t + m.width) x) y s
-part_split g t x y m s is_m is_s in_m apart = elim (cases_Bool (has_member s.members t)) [
-  | inl has ↦ rw has (split_up (depth g m t) (depth g m t + m.width) (depth g s t) (depth g s t + s.width) x y (omega arith) (omega arith)
-      (beside g t m s is_m is_s in_m has apart))
-  | inr misses ↦ rw misses (omega arith)
-]
+part_split g t x y m s is_m is_s in_m apart = grind (arith, nat_tests, cases_Bool, split_up, beside)
 
 rest_split : (g : LiftInput) (t x y : ℕ) (m : Moat) (ms : List Moat) → IsOf g.moats m → ((s : Moat) → IsOf ms s → IsOf g.moats s)
     → has_member m.members t ≡ true → ApartFromAll m ms
     → overlaps g t x y ms ≤ overlaps g t x (min (depth g m t) y) ms + overlaps g t (max (depth g m t + m.width) x) y ms
 rest_split g t x y m [] is f in_m apart = omega arith
 rest_split g t x y m (s ∷ ms) is f in_m apart =
-    add_up _ _ _ _ _ _ (part_split g t x y m s is (f s (inl refl)) in_m apart.0)
-    (rest_split g t x y m ms is (λ z h. f z (inr h)) in_m apart.1)
-  where
-    add_up : (a b c d e f : ℕ) → a ≤ b + c → d ≤ e + f → a + d ≤ (b + e) + (c + f)
-    add_up a b c d e f h k = omega arith
+    omega (arith, part_split g t x y m s is (f s (inl refl)) in_m apart.0, rest_split g t x y m ms is (λ z h. f z (inr h)) in_m apart.1)
 
 -- together they have no more within limits than these leave room for
 pub overlaps_fit : (g : LiftInput) (t x y : ℕ) (ms : List Moat) → ((s : Moat) → IsOf ms s → IsOf g.moats s) → Laminar ms
     → overlaps g t x y ms ≤ y - x
 overlaps_fit g t x y [] f l = omega arith
-overlaps_fit g t x y (m ∷ ms) f l = elim (cases_Bool (has_member m.members t)) [
-  | inl has ↦
-      let left = overlaps_fit g t x (min (depth g m t) y) ms (λ z h. f z (inr h)) l.1 in
-      let right = overlaps_fit g t (max (depth g m t + m.width) x) y ms (λ z h. f z (inr h)) l.1 in
-      let both = rest_split g t x y m ms (f m (inl refl)) (λ z h. f z (inr h)) has l.0 in
-      let all = whole (depth g m t) (depth g m t + m.width) x y _ _ (omega arith) left right in
-      rw has (le_by _ _ _ _ _ both all)
-  | inr misses ↦ rw misses (omega (arith, overlaps_fit g t x y ms (λ z h. f z (inr h)) l.1))
-]
-  where
-    le_by : (o a b n z : ℕ) → n ≤ a + b → o + (a + b) ≤ z → o + n ≤ z
-    le_by o a b n z h k = omega arith
+overlaps_fit g t x y (m ∷ ms) f l =
+    elim (cases_Bool (has_member m.members t))
+    [ inl has ↦ let left = overlaps_fit g t x (min (depth g m t) y) ms (λ z h. f z (inr h)) l.1 in let right = overlaps_fit g t (max (depth g m t + m.width) x) y ms (λ z h. f z (inr h)) l.1 in let both = rest_split g t x y m ms (f m (inl refl)) (λ z h. f z (inr h)) has l.0 in let all = whole (depth g m t) (depth g m t + m.width) x y _ _ (omega arith) left right in rw has (omega (arith, both, all)) | inr misses ↦ rw misses (omega (arith, overlaps_fit g t x y ms (λ z h. f z (inr h)) l.1)) ]

@@ -1,4 +1,5 @@
 -- The states of the terminals, and the distances, from one moat to the next.
+use Rattle.std.proofs.lemmas.Bool.Decides.{nat_tests}
 use Rattle.std.proofs.Common.{◌≡◌, ◌≢◌, ℕ, zero, suc, ◌+◌, ◌%◌, ◌<◌, ◌≤◌, List, [], ◌∷◌, Some, Vec, Global, length, All, AllPairs, true, get_or, replicate, slice_get, slice_set, arith, inl, inr, refl, sym, ◌∙◌, ap, subst}
 use Rattle.std.proofs.lemmas.Bool.{cases_eq}
 use Rattle.std.proofs.lemmas.List.{length-replicate}
@@ -10,7 +11,7 @@ use Rattle.cut_certificate.specs.declared.terminal_state.TerminalState.{Terminal
 use Rattle.cut_certificate.specs.declared.terminal_state.TerminalState.TheVariants as stand
 use Rattle.odd_cuts.specs.Cuts.{has_member}
 use Rattle.cut_certificate.specs.Levels.{LiftInput, lift_input}
-use Rattle.cut_certificate.specs.MoatDistances.{AreAllMoatDistances, IsProgress, HasRowsForMoats, IsNextMoat, AreDistancesFrom}
+use Rattle.cut_certificate.specs.MoatDistances.{IsProgress, HasRowsForMoats, IsNextMoat, AreDistancesFrom}
 use Rattle.cut_certificate.specs.TerminalStates.{IsProcessed, IsOutermost, surrounded}
 use Rattle.cut_certificate.proofs.LaminarLemmas.{apart_two, below, held_below, laminar, of_all}
 use Rattle.cut_certificate.proofs.MoatLemmas.{Apart}
@@ -36,12 +37,7 @@ smaller : (n : ℕ) (ms : List Moat) (index : ℕ) (s : Moat) → All (IsOddMoat
     → has_member s.members t ≡ true → length m.members < length s.members
 smaller n ms index s odd l at c m t at_m (inl less) in_m in_s = less
 smaller n ms index s odd l at c m t at_m (inr as_many) in_m in_s =
-    absurd (clash as_many.0 (apart_at n ms c index m s odd l at_m at as_many.1))
-  where
-    clash : length m.members ≡ length s.members → Apart m s → ⊥
-    clash size (inl d) = d t in_m in_s
-    clash size (inr (inl i)) = omega (arith, i.0)
-    clash size (inr (inr i)) = omega (arith, i.0)
+    grind (arith, nat_tests, apart_at n ms c index m s odd l at_m at as_many.1)
 
 odd_some : (k : ℕ) → k % 2 ≡ 1 → 1 ≤ k
 odd_some k odd = omega arith
@@ -235,32 +231,11 @@ next_size g members index stands reaches odd all last progress = progress_alike 
         next_odd : (i k : ℕ) → i ≢ k → i % 2 ≡ 1 → k % 2 ≡ 1 → i < k + 2 → i < k
         next_odd i k other odd_i odd_k lt = omega arith
 
--- after the last moat
-pub all_reached : (g : LiftInput) (most members : ℕ) (stands : List TerminalState) (reaches : List (Vec ℕ Global))
-    → All (λ (m : Moat). length m.members ≤ most) g.moats → most < members → IsProgress g members 0 stands reaches
-    → AreAllMoatDistances g reaches
-all_reached g most members stands reaches few lt progress = (
-  progress.beside,
-  λ i m v at there. progress.made i m v at
-      (inl (done i m at)) there,
-)
-  where
-    done : (i : ℕ) (m : Moat) → slice_get g.moats i ≡ Some m → length m.members < members
-    done i m at =
-        let le : length m.members ≤ most = of_all (λ (x : Moat). length x.members ≤ most) g.moats m few (is_of g.moats i m at) in
-        omega arith
-
 -- the moat is the next one
 pub is_next : (g : LiftInput) (s : Moat) (members index : ℕ) (stands seen : List TerminalState) (reaches read : List (Vec ℕ Global))
     → slice_get g.moats index ≡ Some s
     → length s.members ≡ members → seen ≡ stands → read ≡ reaches → IsProgress g members index stands reaches → IsNextMoat g s seen read
-is_next g s members index stands seen reaches read at size is are progress = record {
-  index = index;
-  at = at;
-  progress = subst (λ (k : ℕ). IsProgress g k index seen read) (sym size)
-      (subst (λ (ss : List TerminalState). IsProgress g members index ss read) (sym is)
-      (subst (λ (vs : List (Vec ℕ Global)). IsProgress g members index stands vs) (sym are) progress));
-}
+is_next g s members index stands seen reaches read at size is are progress = grind (arith, nat_tests)
 
 -- after the next moat, as the code computes it
 pub progress_on : (rows : RowsValue) (size : ℕ) (moats : List Moat) (s : Moat) (members index : ℕ) (stands new : List TerminalState)

@@ -1,6 +1,7 @@
 -- The states of terminals after another moat was processed.
+use Rattle.std.proofs.lemmas.Bool.Decides.{nat_tests}
 use Rattle.std.proofs.Common.{◌≡◌, ◌≢◌, ℕ, zero, suc, ◌+◌, ◌<◌, ◌≤◌, ◌⊎◌, List, [], ◌∷◌, Some, length, true, false, slice_get, slice_set, arith, inl, inr, refl, sym, ◌∙◌, ap, subst}
-use Rattle.std.proofs.lemmas.Bool.{both_ways, cases_Bool, cases_eq, cases_lt, eq-eqb, eqb-true, ne_eqb, or_cases}
+use Rattle.std.proofs.lemmas.Bool.{both_ways, cases_Bool, cases_eq, eq-eqb, eqb-true, ne_eqb, or_cases}
 use Rattle.std.proofs.lemmas.Option.{slice_get_within}
 use Rattle.std.specs.Prelude.{◌==◌, slice_index}
 use Rattle.blossom_match.specs.declared.matching.Moat.{Moat}
@@ -8,7 +9,7 @@ use Rattle.cut_certificate.specs.declared.terminal_state.TerminalState.{Terminal
 use Rattle.cut_certificate.specs.declared.terminal_state.TerminalState.TheVariants as stand
 use Rattle.odd_cuts.specs.Cuts.{has_member}
 use Rattle.cut_certificate.specs.TerminalStates.{AreTerminalStates, IsProcessed, IsFirst, IsUncovered, IsOutermost, covered, surrounded}
-use Rattle.cut_certificate.proofs.MoatLemmas.{Apart, IsOf, Laminar, related}
+use Rattle.cut_certificate.proofs.MoatLemmas.{IsOf, Laminar, related}
 
 set_here : (xs : List TerminalState) (i : ℕ) (v : TerminalState) → i < length xs → slice_get (slice_set xs i v) i ≡ Some v
 set_here [] i v lt = absurd (omega arith)
@@ -65,10 +66,7 @@ covered_in stands (t ∷ ts) x lt h = elim (or_cases (x == t) (has_member ts x) 
 -- the moat at an index is one of the moats
 pub is_of : (ms : List Moat) (i : ℕ) (m : Moat) → slice_get ms i ≡ Some m → IsOf ms m
 is_of [] i m at = cc
-is_of (x ∷ xs) zero m at = inl (some_same m x (sym at))
-  where
-    some_same : (m x : Moat) → Some m ≡ Some x → m ≡ x
-    some_same m x h = cc
+is_of (x ∷ xs) zero m at = grind (arith, nat_tests)
 is_of (x ∷ xs) (suc i) m at = inr (is_of xs i m at)
 
 -- and each of the moats has an index
@@ -78,73 +76,30 @@ index_of (x ∷ xs) m (inl same) = (0, ap (λ (y : Moat). Some y) (sym same))
 index_of (x ∷ xs) m (inr is) = let p = index_of xs m is in (suc p.0, p.1)
 
 pub one_at : (ms : List Moat) (i : ℕ) (a b : Moat) → slice_get ms i ≡ Some a → slice_get ms i ≡ Some b → a ≡ b
-one_at ms i a b at_a at_b = some_same a b (sym at_a ∙ at_b)
-  where
-    some_same : (a b : Moat) → Some a ≡ Some b → a ≡ b
-    some_same a b h = cc
+one_at ms i a b at_a at_b = cc
 
 -- the moats gone through, with one more index, are those before and the one at that index
 one_more_done : (ms : List Moat) (index : ℕ) (s : Moat) → slice_get ms index ≡ Some s → (i : ℕ) (m : Moat) → slice_get ms i ≡ Some m
     → IsProcessed (length s.members) (index + 1) i m → IsProcessed (length s.members) index i m ⊎ (m ≡ s)
 one_more_done ms index s at i m at_m (inl less) = inl (inl less)
-one_more_done ms index s at i m at_m (inr as_many) = elim (cases_lt i index) [
-  | inl before ↦ inl (inr (as_many.0, before))
-  | inr here ↦
-      let same : i ≡ index = omega (arith, as_many.1) in
-      inr (one_at ms index m s (subst (λ (k : ℕ). slice_get ms k ≡ Some m) same at_m) at)
-]
-
--- a moat that was gone through has no more members than the next one
-no_larger : (members before i : ℕ) (m : Moat) → IsProcessed members before i m → length m.members ≤ members
-no_larger members before i m (inl less) = omega arith
-no_larger members before i m (inr as_many) = omega (arith, as_many.0)
-
-stays_done : (members index i : ℕ) (m : Moat) → IsProcessed members index i m → IsProcessed members (index + 1) i m
-stays_done members index i m (inl less) = inl less
-stays_done members index i m (inr as_many) = inr (as_many.0, omega (arith, as_many.1))
+one_more_done ms index s at i m at_m (inr as_many) = grind (arith, nat_tests)
 
 -- the largest moat around a terminal stays the largest, where the next moat doesn't hold the terminal
 stays_outermost : (ms : List Moat) (index : ℕ) (s : Moat) (t h c : ℕ) → slice_get ms index ≡ Some s → has_member s.members t ≡ false
     → IsOutermost ms (length s.members) index t h c → IsOutermost ms (length s.members) (index + 1) t h c
-stays_outermost ms index s t h c at out o = record {
-  moat = o.moat;
-  at = o.at;
-  done = stays_done (length s.members) index c o.moat o.done;
-  around = o.around;
-  first = o.first;
-  largest = λ i m at_m done around. elim (one_more_done ms index s at i m at_m done) [
-    | inl before ↦ o.largest i m at_m before around
-    | inr same ↦ absurd (both_ways (has_member s.members t) out (subst (λ (x : Moat). has_member x.members t ≡ true) same around))
-  ];
-}
+stays_outermost ms index s t h c at out o = grind (arith, nat_tests)
 
 -- the next moat is the largest around each of its terminals
 is_outermost : (ms : List Moat) (index : ℕ) (s : Moat) (t h : ℕ) → slice_get ms index ≡ Some s → has_member s.members t ≡ true
     → has_member s.members h ≡ true → IsOutermost ms (length s.members) (index + 1) t h index
-is_outermost ms index s t h at around first = record {
-  moat = s;
-  at = at;
-  done = inr (refl, omega arith);
-  around = around;
-  first = first;
-  largest = λ i m at_m done holds_t. no_larger (length s.members) (index + 1) i m done;
-}
+is_outermost ms index s t h at around first = grind (arith, nat_tests)
 
 -- no processed moat holds a terminal of the next one and another terminal besides
 not_across : (ms : List Moat) (index : ℕ) (s m : Moat) (i t h : ℕ) → Laminar ms → slice_get ms index ≡ Some s → slice_get ms i ≡ Some m
     → IsProcessed (length s.members) index i m → has_member m.members t ≡ true → has_member s.members t ≡ false
     → has_member m.members h ≡ true
     → has_member s.members h ≡ false
-not_across ms index s m i t h l at at_m done has_t out has_h = elim (cases_Bool (has_member s.members h)) [
-  | inl in_s ↦ absurd (across (related ms m s l (is_of ms i m at_m) (is_of ms index s at)) in_s)
-  | inr misses ↦ misses
-]
-  where
-    across : (m ≡ s) ⊎ Apart m s → has_member s.members h ≡ true → ⊥
-    across (inl same) in_s = both_ways (has_member s.members t) out (subst (λ (x : Moat). has_member x.members t ≡ true) same has_t)
-    across (inr (inl d)) in_s = d h has_h in_s
-    across (inr (inr (inl inner))) in_s = both_ways (has_member s.members t) out (inner.1 t has_t)
-    across (inr (inr (inr outer))) in_s = let most = no_larger (length s.members) index i m done in omega (arith, outer.0)
+not_across ms index s m i t h l at at_m done has_t out has_h = grind (arith, nat_tests, cases_Bool, related, is_of)
 
 -- the first member is one
 pub first_held : (ts : List ℕ) → 1 ≤ length ts → has_member ts (slice_index ts 0) ≡ true

@@ -1,5 +1,6 @@
 -- The distances from the terminals of the next moat, and a list that is lowered to them.
-use Rattle.std.proofs.Common.{◌≡◌, ℕ, ◌+◌, ◌-◌, ◌*◌, ◌<◌, ◌≤◌, min, List, ◌++◌, Option, Some, Vec, Global, length, All, drop, get_or, max, replicate, slice_get, take, arith, refl, sym, ◌∙◌, ap, subst}
+use Rattle.std.proofs.lemmas.Bool.Decides.{nat_tests}
+use Rattle.std.proofs.Common.{◌≡◌, ℕ, ◌+◌, ◌-◌, ◌<◌, ◌≤◌, min, List, ◌++◌, Option, Some, Vec, Global, length, All, drop, get_or, max, replicate, slice_get, take, arith, sym, ◌∙◌, ap, subst}
 use Rattle.std.proofs.lemmas.List.{get_or-replicate, length-replicate, take_all}
 use Rattle.std.proofs.lemmas.List.Elements.{All-more, All-weaker}
 use Rattle.std.proofs.lemmas.Option.{slice_get_read, slice_get_within}
@@ -33,9 +34,7 @@ pub reach_wide : (rows : RowsValue) (size : ℕ) (moats : List Moat) (stands : L
     (v : Vec ℕ Global) (seen : List ℕ) → HasDistance rows size moats stands reaches t → slice_get stands t ≡ Some place
     → place ≡ stand.First c
     → c < length reaches → v ≡ get_or reaches c v → seen ≡ v.items → length seen ≡ size
-reach_wide rows size moats stands reaches t c place v seen has at is lt read are =
-    ap (λ (l : List ℕ). length l) are
-    ∙ has.wide c v (at ∙ ap (λ (p : TerminalState). Some p) is) (slice_get_read reaches (length reaches) c v refl lt read)
+reach_wide rows size moats stands reaches t c place v seen has at is lt read are = grind (arith, nat_tests, slice_get_read)
 
 -- lowered to the distances from the outermost moat whose first member is the terminal
 pub first_way : (g : LiftInput) (stands : List TerminalState) (reaches : List (Vec ℕ Global)) (t j c : ℕ) (place : TerminalState) (m : Moat)
@@ -44,11 +43,7 @@ pub first_way : (g : LiftInput) (stands : List TerminalState) (reaches : List (V
     → c < length reaches → v ≡ get_or reaches c v → seen ≡ v.items → new ≡ min (slice_index seen j - (get_or g.moats c m).width) old
     → new ≡ lesser_of (distance_from g reaches t j (slice_get stands t)) old
 first_way g stands reaches t j c place m v seen old new at is in_moats at_m in_reaches at_v are value =
-    value ∙ ap (λ (x : Moat). min (slice_index seen j - x.width) old) (sym at_m) ∙ ap
-    (λ (l : List ℕ). min (slice_index l j - m.width) old) are
-    ∙ ap (λ (o : Option ℕ). lesser_of o old)
-    (sym (past g reaches t j c m v (slice_get stands t) (at ∙ ap (λ (p : TerminalState). Some p) is)
-    (slice_get_read g.moats (length g.moats) c m refl in_moats at_m) (slice_get_read reaches (length reaches) c v refl in_reaches at_v)))
+    grind (arith, nat_tests, past, slice_get_read)
 
 -- each terminal of the next moat has a distance
 pub have_ways : (rows : RowsValue) (size : ℕ) (moats : List Moat) (s : Moat) (stands : List TerminalState) (reaches : List (Vec ℕ Global))
@@ -79,31 +74,24 @@ pub reach_made : (rows : RowsValue) (size : ℕ) (moats : List Moat) (s : Moat) 
     members)
     → AreDistancesFrom (lift_input rows size moats) s (take len (new ++ drop (length new) far))
 reach_made rows size moats s stands reaches len far now new members can next is are sized long same value =
-    let wide : length now ≡ size = ap (λ (l : List ℕ). length l) (are ∙ is) ∙ length-replicate size FAR in
-    subst (AreDistancesFrom (lift_input rows size moats) s) (sym (front_written len new far (long ∙ wide ∙ sym sized)))
-    (reach_found (lift_input rows size moats) s next.index stands reaches new FAR
-    (finds rows size moats s next.index stands reaches can next.at next.progress) (long ∙ wide)
-    (λ t j in_t in_j. let low = can.low t j in_t in_j in twice _ low)
-    (λ j in_j. value j (omega arith)
-    ∙ ap (λ (x : ℕ). lowered_distance (lift_input rows size moats) stands reaches j x members)
-    (ap (λ (l : List ℕ). slice_index l j) (are ∙ is) ∙ get_or-replicate size j FAR 0 in_j)
-    ∙ ap (lowered_distance (lift_input rows size moats) stands reaches j FAR) same))
-  where
-    twice : (x : ℕ) → x ≤ MAX_COST → 2 * x ≤ FAR
-    twice x low = omega arith
+    let wide : length now ≡ size = ap (λ (l : List ℕ). length l) (are ∙ is) ∙ length-replicate size FAR in subst
+    (AreDistancesFrom (lift_input rows size moats) s) (sym (front_written len new far (long ∙ wide ∙ sym sized))) (reach_found
+    (lift_input rows size moats) s next.index stands reaches new FAR
+    (finds rows size moats s next.index stands reaches can next.at next.progress)
+    (long ∙ wide) (λ t j in_t in_j. let low = can.low t j in_t in_j in
+    (omega (arith, low))) (λ j in_j. value j (omega arith) ∙ ap
+    (λ (x : ℕ). lowered_distance (lift_input rows size moats) stands reaches j x members)
+    (ap (λ (l : List ℕ). slice_index l j) (are ∙ is) ∙ get_or-replicate size j FAR 0 in_j) ∙ ap
+    (lowered_distance (lift_input rows size moats) stands reaches j FAR) same))
 
 -- the most members so far
 pub most_more : (ms : List Moat) (i old new : ℕ) (m : Moat) → i < length ms → m ≡ get_or ms i m
     → All (λ (x : Moat). length x.members ≤ old) (take i ms) → new ≡ max (length m.members) old
     → All (λ (x : Moat). length x.members ≤ new) (take (i + 1) ms)
 most_more ms i old new m lt is all value =
-    All-more (λ (x : Moat). length x.members ≤ new) ms i m lt
-    (All-weaker (λ (x : Moat). length x.members ≤ old) (λ (x : Moat). length x.members ≤ new) (λ x le. more _ _ _ _ le value) (take i ms)
-    all)
+    All-more (λ (x : Moat). length x.members ≤ new) ms i m lt (All-weaker (λ (x : Moat). length x.members ≤ old)
+    (λ (x : Moat). length x.members ≤ new) (λ x le. (omega (arith, le, value))) (take i ms) all)
     (subst (λ (x : Moat). length x.members ≤ new) is (omega arith))
-  where
-    more : (a b c d : ℕ) → a ≤ b → c ≡ max d b → a ≤ c
-    more a b c d le value = omega arith
 
 -- none of all moats has more
 pub most_all : (ms : List Moat) (i most : ℕ) → length ms ≤ i → All (λ (x : Moat). length x.members ≤ most) (take i ms)
