@@ -47,9 +47,26 @@ pub out_kept : (lines : List ℕ) (edges : List Edge) (walk : List Pass) (out : 
     → IsTraversalInvariant lines edges walk out passed root (pass_start e leg.back)
     → IsTraversalInvariant lines edges (walk ++ leg_pass lines leg ∷ []) (out ++ leg ∷ []) (set passed leg.place true) root
     (pass_end e leg.back)
-out_kept lines edges walk out passed root leg e up beside there left k =
-    record
-    { beside = omega (arith, length-set {A = Bool}, k.beside); led = walk_append lines edges (Some root) walk (leg_pass lines leg ∷ []) ∙ ap (λ (x : Option ℕ). walk_end_from lines edges x (leg_pass lines leg ∷ [])) k.led ∙ goes _ e leg.back found; home = ap (λ (w : List Pass). walk_end_from lines edges (Some (pass_end e leg.back)) w) (home_push lines out leg) ∙ ap (λ (x : Option ℕ). walk_end_from lines edges x (return_walk lines out)) (homeward _ e leg.back found) ∙ k.home; legs = there_push (length edges) out leg ∙ rw (k.legs, less_test leg.place (length edges) within) refl; counted = λ n. λ way. λ below. counts n way below (one_line lines leg.place n up (omega (arith, within, beside)) below) (k.counted n way below); sums = rw (sum_push lines edges walk (leg_pass lines leg), home_push lines out leg, cost_more passed edges leg.place e left there, found) (omega (arith, k.sums)); spent = λ j. λ met. λ other. λ away. let parts = or_parts (is_on_stack edges out j) _ (sym (way_push edges out leg j) ∙ away) in by_end j other (subst (λ (x : Edge). (pass_start x leg.back == j) ≡ false) (found_at edges leg.place e there) parts.1) (met_before passed edges leg.place j e there met) (λ before. λ first. spent_on passed edges leg.place j (k.spent j before first parts.0)) }
+out_kept lines edges walk out passed root leg e up beside there left k = record {
+  beside = omega (arith, length-set {A = Bool}, k.beside);
+  led = walk_append lines edges (Some root) walk (leg_pass lines leg ∷ []) ∙ ap
+      (λ (x : Option ℕ). walk_end_from lines edges x (leg_pass lines leg ∷ [])) k.led ∙ goes _ e leg.back found;
+  home = ap (λ (w : List Pass). walk_end_from lines edges (Some (pass_end e leg.back)) w) (home_push lines out leg) ∙ ap
+      (λ (x : Option ℕ). walk_end_from lines edges x (return_walk lines out)) (homeward _ e leg.back found) ∙ k.home;
+  legs = there_push (length edges) out leg ∙ rw (k.legs, less_test leg.place (length edges) within) refl;
+  counted = λ n. λ way. λ below. counts n way below (one_line lines leg.place n up (omega (arith, within, beside)) below)
+      (k.counted n way below);
+  sums = rw (
+    sum_push lines edges walk (leg_pass lines leg),
+    home_push lines out leg,
+    cost_more passed edges leg.place e left there,
+    found,
+  ) (omega (arith, k.sums));
+  spent = λ j. λ met. λ other. λ away. let parts = or_parts (is_on_stack edges out j) _ (sym (way_push edges out leg j) ∙ away) in
+      by_end j other (subst (λ (x : Edge). (pass_start x leg.back == j) ≡ false) (found_at edges leg.place e there) parts.1)
+      (met_before passed edges leg.place j e there met)
+      (λ before. λ first. spent_on passed edges leg.place j (k.spent j before first parts.0));
+}
   where
     within : leg.place < length edges
     within = slice_get_within edges leg.place e there
@@ -89,9 +106,27 @@ pub back_kept : (lines : List ℕ) (edges : List Edge) (walk : List Pass) (out :
     → is_exhausted passed edges at ≡ true
     → IsTraversalInvariant lines edges walk (out ++ leg ∷ []) passed root at
     → IsTraversalInvariant lines edges (walk ++ leg_return lines leg ∷ []) out passed root (pass_start e leg.back)
-back_kept lines edges walk out passed root at leg e up beside there spent k =
-    record
-    { beside = k.beside; led = walk_append lines edges (Some root) walk (leg_return lines leg ∷ []) ∙ ap (λ (x : Option ℕ). walk_end_from lines edges x (leg_return lines leg ∷ [])) k.led ∙ came; home = ap (λ (x : Option ℕ). walk_end_from lines edges x (return_walk lines out)) (sym came) ∙ homes; legs = (and_parts (legs_are_below (length edges) out) _ (sym (there_push (length edges) out leg) ∙ k.legs)).0; counted = λ n. λ way. λ below. rw (times_push (get_or lines n 0) way walk (leg_return lines leg)) (omega (arith, ap (λ (w : List Pass). directed_passes (get_or lines n 0) way walk + directed_passes (get_or lines n 0) way w) (sym (home_push lines out leg)) ∙ k.counted n way below)); sums = rw (sum_push lines edges walk (leg_return lines leg)) (omega (arith, ap (λ (w : List Pass). pass_sum lines edges edge_cost walk + pass_sum lines edges edge_cost w) (sym (home_push lines out leg)) ∙ k.sums)); spent = λ j. λ met. λ other. λ away. by_test j (at == j) refl (k.spent j met) (way_push edges out leg j ∙ rw (away, subst (λ (x : Edge). (pass_start x leg.back == j) ≡ false) (sym (found_at edges leg.place e there)) other) refl) }
+back_kept lines edges walk out passed root at leg e up beside there spent k = record {
+  beside = k.beside;
+  led = walk_append lines edges (Some root) walk (leg_return lines leg ∷ []) ∙ ap
+      (λ (x : Option ℕ). walk_end_from lines edges x (leg_return lines leg ∷ [])) k.led ∙ came;
+  home = ap (λ (x : Option ℕ). walk_end_from lines edges x (return_walk lines out)) (sym came) ∙ homes;
+  legs = (and_parts (legs_are_below (length edges) out) _ (sym (there_push (length edges) out leg) ∙ k.legs)).0;
+  counted = λ n. λ way. λ below. rw (times_push (get_or lines n 0) way walk (leg_return lines leg)) (omega (
+    arith,
+    ap
+        (λ (w : List Pass). directed_passes (get_or lines n 0) way walk + directed_passes (get_or lines n 0) way w)
+        (sym (home_push lines out leg)) ∙ k.counted n way below,
+  ));
+  sums = rw (sum_push lines edges walk (leg_return lines leg)) (omega (
+    arith,
+    ap
+        (λ (w : List Pass). pass_sum lines edges edge_cost walk + pass_sum lines edges edge_cost w) (sym (home_push lines out leg)) ∙
+        k.sums,
+  ));
+  spent = λ j. λ met. λ other. λ away. by_test j (at == j) refl (k.spent j met) (way_push edges out leg j ∙ rw
+      (away, subst (λ (x : Edge). (pass_start x leg.back == j) ≡ false) (sym (found_at edges leg.place e there)) other) refl);
+}
   where
     within : leg.place < length edges
     within = slice_get_within edges leg.place e there

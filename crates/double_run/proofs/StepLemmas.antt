@@ -60,9 +60,24 @@ pub out_step : (p : PieceValue) (old : Traversal) (walk : List Pass) (out : Vec 
     → walk ≡ old.walk ++ leg_pass p.lines leg ∷ [] → out.items ≡ old.out.items ++ leg ∷ []
     → passed.items ≡ set old.passed.items leg.place true → at ≡ pass_end (edge_at p.edges leg.place) leg.back
     → GoesOut p old (record { walk = walk; ends = old.ends; out = out; passed = passed; at = at }) leg
-out_step p old walk out passed at leg kept keeps ready leads is_walk is_out is_passed is_at =
-    record
-    { made = record { on = record { keeps = rw (is_walk, is_out, is_passed, is_next) (out_kept p.lines p.edges old.walk old.out.items old.passed.items (root_junction p.edges) leg leads.edge kept.rising kept.beside leads.there leads.left (subst (λ (n : ℕ). IsTraversalInvariant p.lines p.edges old.walk old.out.items old.passed.items (root_junction p.edges) n) (sym leads.starts) keeps)); ready = rw (is_passed, is_next) (out_ready p.edges (length p.junctions) old.passed.items old.ends.last.items old.ends.before.items old.at leg.place (pass_end leads.edge leg.back) (leg_below (length p.junctions) p.edges leg.place leads.edge leg.back kept.ends leads.there).1 ready); begins = λ h. rw is_walk (begins_on (first_line p.lines) old.walk (leg_pass p.lines leg ∷ []) h); first = λ h. rw is_passed (marked_stays old.passed.items leg.place 0 h) }; less = rw (is_out, is_passed) (omega (arith, out_less old.out.items old.passed.items leg leads.left)) }; walk = is_walk; marked = rw is_passed (marked_at old.passed.items leg.place leads.left) }
+out_step p old walk out passed at leg kept keeps ready leads is_walk is_out is_passed is_at = record {
+  made = record {
+    on = record {
+      keeps = rw (is_walk, is_out, is_passed, is_next) (out_kept p.lines p.edges old.walk old.out.items old.passed.items
+          (root_junction p.edges) leg leads.edge kept.rising kept.beside leads.there leads.left (subst
+          (λ (n : ℕ). IsTraversalInvariant p.lines p.edges old.walk old.out.items old.passed.items (root_junction p.edges) n)
+          (sym leads.starts) keeps));
+      ready = rw (is_passed, is_next) (out_ready p.edges (length p.junctions) old.passed.items old.ends.last.items
+          old.ends.before.items old.at leg.place (pass_end leads.edge leg.back)
+          (leg_below (length p.junctions) p.edges leg.place leads.edge leg.back kept.ends leads.there).1 ready);
+      begins = λ h. rw is_walk (begins_on (first_line p.lines) old.walk (leg_pass p.lines leg ∷ []) h);
+      first = λ h. rw is_passed (marked_stays old.passed.items leg.place 0 h);
+    };
+    less = rw (is_out, is_passed) (omega (arith, out_less old.out.items old.passed.items leg leads.left));
+  };
+  walk = is_walk;
+  marked = rw is_passed (marked_at old.passed.items leg.place leads.left);
+}
   where
     is_next : at ≡ pass_end leads.edge leg.back
     is_next = is_at ∙ ap (λ (e : Edge). pass_end e leg.back) (found_at p.edges leg.place leads.edge leads.there)
@@ -113,9 +128,17 @@ pub back_step : (p : PieceValue) (old : Traversal) (walk : List Pass) (out : Vec
     → is_exhausted old.passed.items p.edges old.at ≡ true → old.out.items ≡ out.items ++ leg ∷ []
     → walk ≡ old.walk ++ leg_return p.lines leg ∷ [] → at ≡ pass_start (edge_at p.edges leg.place) leg.back
     → IsTraversalStep p old (record { walk = walk; ends = old.ends; out = out; passed = old.passed; at = at })
-back_step p old walk out at leg kept keeps ready spent is_out is_walk is_at =
-    record
-    { on = record { keeps = rw (is_walk, is_next) (back_kept p.lines p.edges old.walk out.items old.passed.items (root_junction p.edges) old.at leg e.0 kept.rising kept.beside e.1 spent (rw is_out at keeps)); ready = rw is_next (back_ready p.edges (length p.junctions) old.passed.items old.ends.last.items old.ends.before.items old.at (pass_start e.0 leg.back) (leg_below (length p.junctions) p.edges leg.place e.0 leg.back kept.ends e.1).0 ready); begins = λ h. rw is_walk (begins_on (first_line p.lines) old.walk (leg_return p.lines leg ∷ []) h); first = λ h. h }; less = rw is_out (omega (arith, back_less (2 * remaining_count old.passed.items) out.items leg)) }
+back_step p old walk out at leg kept keeps ready spent is_out is_walk is_at = record {
+  on = record {
+    keeps = rw (is_walk, is_next) (back_kept p.lines p.edges old.walk out.items old.passed.items (root_junction p.edges) old.at leg
+        e.0 kept.rising kept.beside e.1 spent (rw is_out at keeps));
+    ready = rw is_next (back_ready p.edges (length p.junctions) old.passed.items old.ends.last.items old.ends.before.items old.at
+        (pass_start e.0 leg.back) (leg_below (length p.junctions) p.edges leg.place e.0 leg.back kept.ends e.1).0 ready);
+    begins = λ h. rw is_walk (begins_on (first_line p.lines) old.walk (leg_return p.lines leg ∷ []) h);
+    first = λ h. h;
+  };
+  less = rw is_out (omega (arith, back_less (2 * remaining_count old.passed.items) out.items leg));
+}
   where
     e : (e : Edge) × (slice_get p.edges leg.place ≡ Some e)
     e = leg_edge p.edges out.items leg (rw is_out at keeps.legs)

@@ -38,7 +38,8 @@ cursor_none edges left j cursor = ends_none edges left j (λ k. λ e. λ is. by_
 
     by_b : (k : ℕ) (e : Edge) → slice_get edges k ≡ Some e → (e.a == j) ≡ false → (t : Bool) → (e.b == j) ≡ t
         → (get_or left k 0 ≡ 0) ⊎ (edge_ends_at j e ≡ 0)
-    by_b k e is not_a true at_b = inl (at_k k (2 * k + 1) (half_more k) (end_b edges k e is ∙ ap (λ (n : ℕ). Some n) (same_number e.b j at_b)))
+    by_b k e is not_a true at_b =
+        inl (at_k k (2 * k + 1) (half_more k) (end_b edges k e is ∙ ap (λ (n : ℕ). Some n) (same_number e.b j at_b)))
     by_b k e is not_a false not_b = inr (rw (not_a, not_b) refl)
 
     by_a : (k : ℕ) (e : Edge) → slice_get edges k ≡ Some e → (t : Bool) → (e.a == j) ≡ t → (get_or left k 0 ≡ 0) ⊎ (edge_ends_at j e ≡ 0)

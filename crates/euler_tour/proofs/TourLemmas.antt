@@ -137,9 +137,15 @@ pub finished : (p : PieceValue) (copies left out : List ℕ) (home : List Pass) 
     → remaining_ends p.edges left at ≡ 0
     → IsTourInvariant p.lines p.edges (pass_counts copies) left (map (pass_from p.lines) out) home (tour_start p) (tour_end p) at tail
     → (given_start p ≡ None → BeginsWith (first_line p.lines) home) → IsTour p copies home
-finished p copies left out home at tail kept can is_out stuck k begins =
-    record
-    { led = leads_on p home tail kept begins k.goes_home meets; covered = all_covered p.lines home (λ i. λ below. (omega (arith, counts i below))); counts = counts; begins = begins; costs = whole _ _ _ (sums edge_cost) (none edge_cost) ∙ times_cost p.edges copies beside; long = sym (counted p.lines p.edges home (Some (tour_start p)) tail k.goes_home) ∙ whole _ _ _ (sums one_of) (none one_of) ∙ times_count p.edges copies beside }
+finished p copies left out home at tail kept can is_out stuck k begins = record {
+  led = leads_on p home tail kept begins k.goes_home meets;
+  covered = all_covered p.lines home (λ i. λ below. (omega (arith, counts i below)));
+  counts = counts;
+  begins = begins;
+  costs = whole _ _ _ (sums edge_cost) (none edge_cost) ∙ times_cost p.edges copies beside;
+  long = sym (counted p.lines p.edges home (Some (tour_start p)) tail k.goes_home) ∙ whole _ _ _ (sums one_of) (none one_of) ∙
+      times_count p.edges copies beside;
+}
   where
     beside : length copies ≡ length p.edges
     beside = can.beside ∙ kept.beside

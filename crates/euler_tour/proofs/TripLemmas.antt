@@ -44,9 +44,23 @@ out_core : (lines : List ℕ) (edges : List Edge) (times left : List ℕ) (out h
     → IsTourInvariant lines edges times (decremented_at left place) (out ++ record { line = get_or lines place 0; back = back } ∷ []) home
     head goal next
     tail
-out_core lines edges times left out home head goal at tail place next back e rising beside is some starts ends k =
-    record
-    { counted = λ i. λ below. summed _ _ _ _ _ _ _ (passes_push (get_or lines i 0) out pass) (count_step lines left place i rising within below some) (k.counted i below); sums = λ f. summed _ _ _ _ _ _ _ (pass_sum_push lines edges f out pass ∙ ap (λ (x : Option Edge). pass_sum lines edges f out + edge_value f x) found) (omega (arith, left_less f edges left place e is some)) (k.sums f); goes_out = walk_append lines edges (Some goal) out (pass ∷ []) ∙ ap (λ (x : Option ℕ). after_pass lines edges pass x) k.goes_out ∙ led (edge_of lines edges (get_or lines place 0)) e back at next found starts ends; goes_home = k.goes_home; even = λ j. evened _ _ _ _ _ _ (left_less (edge_ends_at j) edges left place e is some) (two_ends e back at next j starts ends) (k.even j); done = λ i. λ x. λ here. λ least. (still edges left goal tail place x.a e is some (k.done i x here least).0, still edges left goal tail place x.b e is some (k.done i x here least).1) }
+out_core lines edges times left out home head goal at tail place next back e rising beside is some starts ends k = record {
+  counted = λ i. λ below. summed _ _ _ _ _ _ _ (passes_push (get_or lines i 0) out pass)
+      (count_step lines left place i rising within below some) (k.counted i below);
+  sums = λ f. summed _ _ _ _ _ _ _
+      (pass_sum_push lines edges f out pass ∙ ap (λ (x : Option Edge). pass_sum lines edges f out + edge_value f x) found)
+      (omega (arith, left_less f edges left place e is some)) (k.sums f);
+  goes_out = walk_append lines edges (Some goal) out (pass ∷ []) ∙ ap (λ (x : Option ℕ). after_pass lines edges pass x) k.goes_out ∙
+      led (edge_of lines edges (get_or lines place 0)) e back at next found starts ends;
+  goes_home = k.goes_home;
+  even = λ j. evened _ _ _ _ _ _ (left_less (edge_ends_at j) edges left place e is some) (two_ends e back at next j starts ends)
+      (k.even j);
+  done = λ i. λ x. λ here. λ least. (
+    still edges left goal tail place x.a e is some (k.done i x here least).0,
+    still edges left goal
+        tail place x.b e is some (k.done i x here least).1,
+  );
+}
   where
     pass : Pass
     pass = record { line = get_or lines place 0; back = back }
@@ -127,9 +141,21 @@ back_core : (lines : List ℕ) (edges : List Edge) (times left : List ℕ) (xs h
     → remaining_ends edges left at ≡ 0
     → IsTourInvariant lines edges times left (xs ++ record { line = get_or lines place 0; back = back } ∷ []) home head goal at tail
     → IsTourInvariant lines edges times left xs (home ++ record { line = get_or lines place 0; back = not back } ∷ []) head goal from from
-back_core lines edges times left xs home head goal at tail from place back e rising beside is starts stuck k =
-    record
-    { counted = λ i. λ below. (omega (arith, passes_push (get_or lines i 0) xs out, passes_push (get_or lines i 0) home turned, k.counted i below)); sums = λ f. (omega (arith, pass_sum_push lines edges f xs out, pass_sum_push lines edges f home turned, k.sums f)); goes_out = c.0 ∙ ap (λ (n : ℕ). Some n) starts; goes_home = walk_append lines edges (Some head) home (turned ∷ []) ∙ ap (λ (x : Option ℕ). after_pass lines edges turned x) (k.goes_home ∙ ap (λ (n : ℕ). Some n) meets) ∙ homed (edge_of lines edges (get_or lines place 0)) e back at from found starts c.1; even = λ j. (omega (arith, subst (λ (n : ℕ). ((remaining_ends edges left j + one_if (at == j)) + one_if (n == j)) % 2 ≡ 0) meets (k.even j))); done = λ i. λ x. λ here. λ least. by_times i x here (passes (get_or lines i 0) home) refl (rw (passes_push (get_or lines i 0) home turned) at least) }
+back_core lines edges times left xs home head goal at tail from place back e rising beside is starts stuck k = record {
+  counted = λ i. λ below.
+      (omega (arith, passes_push (get_or lines i 0) xs out, passes_push (get_or lines i 0) home turned, k.counted i below));
+  sums = λ f. (omega (arith, pass_sum_push lines edges f xs out, pass_sum_push lines edges f home turned, k.sums f));
+  goes_out = c.0 ∙ ap (λ (n : ℕ). Some n) starts;
+  goes_home = walk_append lines edges (Some head) home (turned ∷ []) ∙ ap (λ (x : Option ℕ). after_pass lines edges turned x)
+      (k.goes_home ∙ ap (λ (n : ℕ). Some n) meets) ∙ homed (edge_of lines edges (get_or lines place 0)) e back at from found starts c.1;
+  even = λ j. (omega (
+    arith,
+    subst (λ (n : ℕ). ((remaining_ends edges left j + one_if (at == j)) + one_if (n == j)) % 2 ≡ 0) meets
+        (k.even j),
+  ));
+  done = λ i. λ x. λ here. λ least. by_times i x here (passes (get_or lines i 0) home) refl
+      (rw (passes_push (get_or lines i 0) home turned) at least);
+}
   where
     out : Pass
     out = record { line = get_or lines place 0; back = back }
@@ -210,9 +236,20 @@ pub first_kept : (lines : List ℕ) (edges : List Edge) (times left left2 out : 
     → head ≡ e.a → goal ≡ e.a → next ≡ e.b
     → IsTourInvariant lines edges times left (map (pass_from lines) out) home head goal at tail
     → IsTourInvariant lines edges times left2 (map (pass_from lines) out) home2 head goal at next
-first_kept lines edges times left left2 out home home2 head goal at tail next e is_left is_out is_home is_home2 rising beside is some is_head is_goal is_next k =
-    rw (is_left, is_home2, is_home) record
-    { counted = λ i. λ below. summed _ _ _ _ _ _ (ap (λ (ps : List Pass). passes (get_or lines i 0) ps) is_home) (count_step lines left 0 i rising within below some) (k.counted i below); sums = λ f. summed _ _ _ _ _ _ (ap (λ (ps : List Pass). pass_sum lines edges f ps) is_home) (ap (λ (x : Option Edge). edge_value f x + remaining_sum f edges (decremented_at left 0)) found ∙ (omega (arith, left_less f edges left 0 e is some))) (k.sums f); goes_out = k.goes_out; goes_home = led (edge_of lines edges (get_or lines 0 0)) e false head next found (sym is_head) (sym is_next); even = λ j. evened _ _ _ _ _ _ _ (left_less (edge_ends_at j) edges left 0 e is some) (ap (λ (n : ℕ). one_if (n == j)) tail_is) (ap (λ (n : ℕ). one_if (n == j)) is_next) (k.even j); done = λ i. λ x. λ here. λ least. by_line i x here (get_or lines 0 0 == get_or lines i 0) refl least }
+first_kept lines edges times left left2 out home home2 head goal at tail next e is_left is_out is_home is_home2 rising beside is some is_head
+    is_goal is_next k =
+    rw (is_left, is_home2, is_home) record {
+      counted = λ i. λ below. summed _ _ _ _ _ _ (ap (λ (ps : List Pass). passes (get_or lines i 0) ps) is_home)
+          (count_step lines left 0 i rising within below some) (k.counted i below);
+      sums = λ f. summed _ _ _ _ _ _ (ap (λ (ps : List Pass). pass_sum lines edges f ps) is_home) (ap
+          (λ (x : Option Edge). edge_value f x + remaining_sum f edges (decremented_at left 0)) found ∙
+          (omega (arith, left_less f edges left 0 e is some))) (k.sums f);
+      goes_out = k.goes_out;
+      goes_home = led (edge_of lines edges (get_or lines 0 0)) e false head next found (sym is_head) (sym is_next);
+      even = λ j. evened _ _ _ _ _ _ _ (left_less (edge_ends_at j) edges left 0 e is some) (ap (λ (n : ℕ). one_if (n == j)) tail_is)
+          (ap (λ (n : ℕ). one_if (n == j)) is_next) (k.even j);
+      done = λ i. λ x. λ here. λ least. by_line i x here (get_or lines 0 0 == get_or lines i 0) refl least;
+    }
   where
     within : 0 < length lines
     within = subst (λ (n : ℕ). 0 < n) (sym beside) (slice_get_within edges 0 e is)

@@ -44,8 +44,12 @@ lowered_one es n from k a b e row s got joins in_a in_b less =
     let start = s.start in
     let lt : b < length row = omega arith in
     let cost = longer es from a b (slice_index row a) k e (s.walks a in_a (omega arith)) got joins in
-    record
-    { size = length-set row b (slice_index row a + e.cost) ∙ s.size; start = at_other row b (slice_index row a + e.cost) from (grind (arith, nat_tests, less, start)) ∙ s.start; most = most_set row b (slice_index row a + e.cost) FAR lt (omega arith) s.most; walks = walks_set es n from row b (slice_index row a + e.cost) lt cost s.walks }
+    record {
+      size = length-set row b (slice_index row a + e.cost) ∙ s.size;
+      start = at_other row b (slice_index row a + e.cost) from (grind (arith, nat_tests, less, start)) ∙ s.start;
+      most = most_set row b (slice_index row a + e.cost) FAR lt (omega arith) s.most;
+      walks = walks_set es n from row b (slice_index row a + e.cost) lt cost s.walks;
+    }
 
 -- where a number is lowered along an edge
 lowered_sound : (es : List Edge) (n from k a b : ℕ) (e : Edge) (row : List ℕ) → AreWalkCosts es n from row → slice_get es k ≡ Some e
