@@ -14,7 +14,7 @@ use Rattle.drawing_model.specs.WalkEnds.{HasNoEnds, are_connected_spots, is_junc
 use Rattle.line_sections.specs.declared.spot.Spot.{Spot}
 use Rattle.line_sections.specs.Lines.{LineValue}
 use Rattle.line_sections.specs.Sections.{all_sections}
-use Rattle.line_graph.proofs.CallerLemmas.{after_both}
+use Rattle.drawing_model.proofs.CallerLemmas.{after_both}
 
 -- A drawing with further starts where the flag is true, else with further ends.
 abbrev pub with_spots : Bool → DrawingValue → List Spot → DrawingValue

@@ -17,7 +17,7 @@ use Rattle.drawing_edits.specs.KeptEnds.{HasEndsOf, IsPlacedEnd, PlacedEndsAreKe
 use Rattle.drawing_edits.specs.PlacedEnds.{lines_listing, only_block, with_end_at}
 use Rattle.drawing_edits.specs.RedrawnDrawings.{drawn_lines, line_added_if, redrawn, redrawn_lines, with_blocks, with_lines_of, with_starts_and_ends}
 use Rattle.drawing_edits.proofs.CallerLemmas.{HasBoth, both_put}
-use Rattle.line_graph.proofs.CallerLemmas.{after_both}
+use Rattle.drawing_model.proofs.CallerLemmas.{after_both}
 
 -- What holds where a test doesn't refuse holds after the test.
 unless : {A : Type 0} (P : A → Type 0) (test : Bool) (why : DrawKind) (r : Result A DrawKind) → IfOk r P

@@ -89,14 +89,7 @@ fn order_pieces(
         return redraw(alloc, d, d.step(), d.lines(), d.starts(), d.ends());
     }
     let lines = lines_with(alloc, d, one.lines.as_slice(), first_of(other))?;
-    redraw(
-        alloc,
-        d,
-        d.step(),
-        lines.as_slice(),
-        d.starts(),
-        d.ends(),
-    )
+    redraw(alloc, d, d.step(), lines.as_slice(), d.starts(), d.ends())
 }
 
 fn first_of(piece: &Piece) -> u32
