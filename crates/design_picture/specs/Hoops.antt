@@ -1,13 +1,13 @@
 -- A hoop around a design: both have one middle. The hoop is turned where the design fits it only
 -- so, and red where the design doesn't fit.
 use Rattle.std.specs.Prelude.{ℕ, ◌-◌, ◌*◌, nat_le, List, [], ◌∷◌, ◌++◌, Some, codes, if◌then◌else◌}
-use Rattle.std.specs.Fmt.{decimal}
 use Rattle.design_model.specs.declared.bounds.Extent.{Extent}
 use Rattle.design_model.specs.Extents.{extent_height, extent_width}
 use Rattle.design_picture.specs.declared.hoop.Hoop.{Hoop}
 use Rattle.hoop_check.specs.declared.fitting.Fit.{Fit}
 use Rattle.hoop_check.specs.declared.fitting.Fit.TheVariants as fit
-use Rattle.picture_parts.specs.Parts.{ended, joined, mm_text, point_text}
+use Rattle.picture_parts.specs.Parts.{joined, mm_text, point_text}
+use Rattle.picture_parts.specs.Sheets.{rectangle_text}
 
 -- The hoop as a design fits it.
 abbrev pub hoop_as_fits : Hoop → Fit → Hoop
@@ -15,19 +15,15 @@ hoop_as_fits hoop fit.Upright = hoop
 hoop_as_fits hoop fit.Turned = record { width = hoop.height; height = hoop.width }
 hoop_as_fits hoop (fit.No over_x over_y) = hoop
 
--- The beginning of the outline of a hoop that the design fits.
-unfoldable pub fitting_class : List ℕ
-fitting_class = joined (codes "<path class='line' d='M" ∷ [])
-
--- The beginning of the outline of a hoop that is too small.
-unfoldable pub over_class : List ℕ
-over_class = joined (codes "<path class='line over' d='M" ∷ [])
+-- The class of a hoop's outline, which is red where the design doesn't fit.
+abbrev pub hoop_class : Fit → List ℕ
+hoop_class fit.Upright = codes "line"
+hoop_class fit.Turned = codes "line"
+hoop_class (fit.No over_x over_y) = codes "line over"
 
 -- The beginning of a hoop's outline.
-abbrev pub hoop_class : Fit → List ℕ
-hoop_class fit.Upright = fitting_class
-hoop_class fit.Turned = fitting_class
-hoop_class (fit.No over_x over_y) = over_class
+unfoldable pub outline_start : List ℕ → List ℕ
+outline_start class = joined (codes "<path class='" ∷ class ∷ codes "' d='M" ∷ [])
 
 -- Where a hoop's side begins from the design's side: half of what it is longer, to the left or
 -- above.
@@ -42,11 +38,7 @@ hoop_corner extent hoop = joined (point_text extent.min ∷ codes "m" ∷ [])
     ++ (offset_text hoop.width (extent_width (Some extent)) ++ (joined (codes "," ∷ [])
     ++ offset_text hoop.height (extent_height (Some extent))))
 
--- The four sides of a hoop.
-unfoldable pub hoop_edges : Hoop → List ℕ
-hoop_edges hoop = joined (codes "h" ∷ decimal hoop.width ∷ codes "v" ∷ decimal hoop.height
-    ∷ codes "h-" ∷ decimal hoop.width ∷ ended (codes "z'/>") ∷ [])
-
 -- The outline of a hoop.
 unfoldable pub hoop_text : Extent → Hoop → Fit → List ℕ
-hoop_text extent hoop fit = hoop_class fit ++ (hoop_corner extent hoop ++ hoop_edges hoop)
+hoop_text extent hoop fit = outline_start (hoop_class fit)
+    ++ (hoop_corner extent hoop ++ rectangle_text hoop.width hoop.height)

@@ -3,7 +3,7 @@ ghost use Rattle.design_picture.specs.Captions.{block_line, block_place, block_s
 
 use crate::strokes::{BlockEnd, Stroke};
 use lists_and_numbers::{Bytes, Memory};
-use picture_parts::{Part, put, thread_colour};
+use picture_parts::{Part, put, put_around, thread_colour};
 
 /// The height of a line of text below the picture, in tenths of a millimetre.
 pub const LINE_HEIGHT: u64 = 28;
@@ -13,11 +13,9 @@ pub(crate) fn put_block_line(text: &mut Bytes, stroke: Stroke) -> Result<(), Mem
     ensures { OnOk result (text.new ≡ text.old ++ legend_text stroke) }
 {
     match stroke {
-        Stroke::Begin { .. } => Ok(()),
-        Stroke::Float { .. } => Ok(()),
-        Stroke::Sewn { .. } => Ok(()),
-        Stroke::Trim { .. } => Ok(()),
         Stroke::Stop { ended, .. } => put_block(text, ended),
+        Stroke::Begin { .. } | Stroke::Float { .. } | Stroke::Sewn { .. } | Stroke::Trim { .. } =>
+            Ok(()),
     }
 }
 
@@ -36,13 +34,11 @@ pub(crate) fn put_block(text: &mut Bytes, block: BlockEnd) -> Result<(), Memory>
 pub fn put_place(text: &mut Bytes, block: u32) -> Result<(), Memory>
     ensures { OnOk result (text.new ≡ text.old ++ block_place block) }
 {
-    put(
+    put_around(
         text,
-        &[
-            Part::Text(b"<g transform='translate(0,"),
-            Part::Number((LINE_HEIGHT * block as u64) as u128),
-            Part::Text(b")'>"),
-        ],
+        b"<g transform='translate(0,",
+        Part::Number((LINE_HEIGHT * block as u64) as u128),
+        b")'>",
     )
 }
 

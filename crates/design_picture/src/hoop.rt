@@ -1,10 +1,10 @@
 ghost use Rattle.std.specs.Prelude.{◌≡◌, ◌++◌, ◌≤◌, OnOk};
-ghost use Rattle.design_picture.specs.Hoops.{fitting_class, hoop_as_fits, hoop_class, hoop_corner, hoop_edges, hoop_text, offset_text, over_class};
+ghost use Rattle.design_picture.specs.Hoops.{hoop_as_fits, hoop_class, hoop_corner, hoop_text, offset_text, outline_start};
 
 use design_model::{Extent, Point, height, width};
 use hoop_check::Fit;
 use lists_and_numbers::{Bytes, Memory};
-use picture_parts::{Part, put};
+use picture_parts::{Part, put, put_around, put_rectangle};
 
 /// A hoop, in tenths of a millimetre.
 #[derive(Clone, Copy)]
@@ -31,34 +31,28 @@ pub(crate) fn as_fits(hoop: Hoop, fit: Fit) -> Hoop
 pub(crate) fn put_hoop(text: &mut Bytes, extent: Extent, hoop: Hoop, fit: Fit) -> Result<(), Memory>
     ensures { OnOk result (text.new ≡ text.old ++ hoop_text extent hoop fit) }
 {
-    put_class(text, fit)?;
+    put_outline_start(text, class_of(fit))?;
     put_corner(text, extent, hoop)?;
-    put_edges(text, hoop)?;
+    put_rectangle(text, hoop.width as u64, hoop.height as u64)?;
     Ok(())
 }
 
-fn put_class(text: &mut Bytes, fit: Fit) -> Result<(), Memory>
-    ensures { OnOk result (text.new ≡ text.old ++ hoop_class fit) }
+/// Returns the class of a hoop's outline.
+fn class_of(fit: Fit) -> &'static [u8]
+    ensures { result.now ≡ hoop_class fit }
 {
     match fit {
-        Fit::Upright => put_fitting(text),
-        Fit::Turned => put_fitting(text),
-        Fit::No { .. } => put_over(text),
+        Fit::Upright | Fit::Turned => b"line",
+        Fit::No { .. } => b"line over",
     }
 }
 
-#[tactic(auto, unfolding(crate::specs::Hoops::fitting_class))]
-fn put_fitting(text: &mut Bytes) -> Result<(), Memory>
-    ensures { OnOk result (text.new ≡ text.old ++ fitting_class) }
+/// Begins the outline of a hoop.
+#[tactic(auto, unfolding(crate::specs::Hoops::outline_start))]
+fn put_outline_start(text: &mut Bytes, class: &[u8]) -> Result<(), Memory>
+    ensures { OnOk result (text.new ≡ text.old ++ outline_start class.now) }
 {
-    put(text, &[Part::Text(b"<path class='line' d='M")])
-}
-
-#[tactic(auto, unfolding(crate::specs::Hoops::over_class))]
-fn put_over(text: &mut Bytes) -> Result<(), Memory>
-    ensures { OnOk result (text.new ≡ text.old ++ over_class) }
-{
-    put(text, &[Part::Text(b"<path class='line over' d='M")])
+    put_around(text, b"<path class='", Part::Text(class), b"' d='M")
 }
 
 #[tactic(auto, unfolding(crate::specs::Hoops::hoop_corner))]
@@ -85,22 +79,4 @@ fn put_offset(text: &mut Bytes, hoop: u32, design: u32) -> Result<(), Memory>
     } else {
         put(text, &[Part::Mm((design - hoop) as u128 * 5)])
     }
-}
-
-#[tactic(auto, unfolding(crate::specs::Hoops::hoop_edges))]
-fn put_edges(text: &mut Bytes, hoop: Hoop) -> Result<(), Memory>
-    ensures { OnOk result (text.new ≡ text.old ++ hoop_edges hoop) }
-{
-    put(
-        text,
-        &[
-            Part::Text(b"h"),
-            Part::Number(hoop.width as u128),
-            Part::Text(b"v"),
-            Part::Number(hoop.height as u128),
-            Part::Text(b"h-"),
-            Part::Number(hoop.width as u128),
-            Part::Text(b"z'/>\n"),
-        ],
-    )
 }

@@ -4,7 +4,7 @@ ghost use Rattle.design_picture.specs.Marks.{begin_text, end_mark, mark_text, op
 use crate::strokes::Stroke;
 use design_model::Point;
 use lists_and_numbers::{Bytes, Memory};
-use picture_parts::{Part, put};
+use picture_parts::{Part, put, put_around};
 
 /// Appends the mark of a stroke.
 pub(crate) fn put_mark(text: &mut Bytes, stroke: Stroke) -> Result<(), Memory>
@@ -17,8 +17,7 @@ pub(crate) fn put_mark(text: &mut Bytes, stroke: Stroke) -> Result<(), Memory>
             at,
             ..
         } => put_begin(text, piece, opens, at),
-        Stroke::Float { .. } => Ok(()),
-        Stroke::Sewn { .. } => Ok(()),
+        Stroke::Float { .. } | Stroke::Sewn { .. } => Ok(()),
         Stroke::Trim { at } => put_trim_mark(text, at),
         Stroke::Stop { ended, .. } => put_stop_marks(text, ended.at),
     }
@@ -47,13 +46,11 @@ fn put_opening(text: &mut Bytes, opens: bool, at: Point) -> Result<(), Memory>
 pub fn put_start_mark(text: &mut Bytes, at: Point) -> Result<(), Memory>
     ensures { OnOk result (text.new ≡ text.old ++ start_mark at) }
 {
-    put(
+    put_around(
         text,
-        &[
-            Part::Text(b"<path class='start' d='M"),
-            Part::At(at),
-            Part::Text(b"m-23,-9l18,9l-18,9z'/>\n"),
-        ],
+        b"<path class='start' d='M",
+        Part::At(at),
+        b"m-23,-9l18,9l-18,9z'/>\n",
     )
 }
 
@@ -79,13 +76,11 @@ fn put_piece_number(text: &mut Bytes, piece: u32, at: Point) -> Result<(), Memor
 fn put_trim_mark(text: &mut Bytes, at: Point) -> Result<(), Memory>
     ensures { OnOk result (text.new ≡ text.old ++ trim_mark at) }
 {
-    put(
+    put_around(
         text,
-        &[
-            Part::Text(b"<path class='trim' d='M"),
-            Part::At(at),
-            Part::Text(b"m-6,8l12,12m-12,0l12,-12'/>\n"),
-        ],
+        b"<path class='trim' d='M",
+        Part::At(at),
+        b"m-6,8l12,12m-12,0l12,-12'/>\n",
     )
 }
 
@@ -103,13 +98,11 @@ fn put_stop_marks(text: &mut Bytes, at: Point) -> Result<(), Memory>
 pub fn put_end_mark(text: &mut Bytes, at: Point) -> Result<(), Memory>
     ensures { OnOk result (text.new ≡ text.old ++ end_mark at) }
 {
-    put(
+    put_around(
         text,
-        &[
-            Part::Text(b"<path class='end' d='M"),
-            Part::At(at),
-            Part::Text(b"m6,-7h14v14h-14z'/>\n"),
-        ],
+        b"<path class='end' d='M",
+        Part::At(at),
+        b"m6,-7h14v14h-14z'/>\n",
     )
 }
 
@@ -118,12 +111,10 @@ pub fn put_end_mark(text: &mut Bytes, at: Point) -> Result<(), Memory>
 fn put_stop_mark(text: &mut Bytes, at: Point) -> Result<(), Memory>
     ensures { OnOk result (text.new ≡ text.old ++ stop_mark at) }
 {
-    put(
+    put_around(
         text,
-        &[
-            Part::Text(b"<path class='stop' d='M"),
-            Part::At(at),
-            Part::Text(b"m25,-7h4v14h-4zm8,0h4v14h-4z'/>\n"),
-        ],
+        b"<path class='stop' d='M",
+        Part::At(at),
+        b"m25,-7h4v14h-4zm8,0h4v14h-4z'/>\n",
     )
 }

@@ -17,7 +17,7 @@ use crate::threads::put_shape_end;
 use design_model::{Design, Point, counts, extent, height, width};
 use hoop_check::fits;
 use lists_and_numbers::{Bytes, Memory};
-use picture_parts::{Part, put, put_foot, put_head, thread_colour};
+use picture_parts::{Part, put, put_around, put_foot, put_head, thread_colour};
 use std::alloc::Global;
 
 /// Returns the picture of a design, a text of SVG 1.1, the standard of the World Wide Web Consortium. With a
@@ -166,13 +166,11 @@ pub fn put_threads(text: &mut Bytes, thread: u8, strokes: &[Stroke]) -> Result<(
 pub fn put_thread_start(text: &mut Bytes, colour: &[u8]) -> Result<(), Memory>
     ensures { OnOk result (text.new ≡ text.old ++ thread_start colour.now) }
 {
-    put(
+    put_around(
         text,
-        &[
-            Part::Text(b"<path class='thread' stroke='"),
-            Part::Text(colour),
-            Part::Text(b"' d='"),
-        ],
+        b"<path class='thread' stroke='",
+        Part::Text(colour),
+        b"' d='",
     )
 }
 

@@ -4,7 +4,7 @@ ghost use Rattle.design_picture.specs.Threads.{arc_text, arrow_shape, arrow_text
 use crate::strokes::Stroke;
 use design_model::Point;
 use lists_and_numbers::{Bytes, Memory};
-use picture_parts::{Part, put, square_between, thread_colour};
+use picture_parts::{Part, put, put_around, square_between, thread_colour};
 
 /// The shortest stitch whose needle hole is shown, in tenths of a millimetre on its longer axis.
 pub const MIN_SHOWN: u32 = 7;
@@ -14,8 +14,7 @@ pub(crate) fn put_thread(text: &mut Bytes, stroke: Stroke) -> Result<(), Memory>
     ensures { OnOk result (text.new ≡ text.old ++ thread_text stroke) }
 {
     match stroke {
-        Stroke::Begin { at, .. } => put_move(text, at),
-        Stroke::Float { at, .. } => put_move(text, at),
+        Stroke::Begin { at, .. } | Stroke::Float { at, .. } => put_move(text, at),
         Stroke::Sewn { pass, from, at, .. } => put_sewn(text, pass, from, at),
         Stroke::Trim { .. } => Ok(()),
         Stroke::Stop { next, .. } => put_colour_change(text, thread_colour(next)),
@@ -84,13 +83,11 @@ fn bow(pass: u32, from: Point, at: Point) -> u128
 fn put_colour_change(text: &mut Bytes, colour: &[u8]) -> Result<(), Memory>
     ensures { OnOk result (text.new ≡ text.old ++ colour_change_text colour.now) }
 {
-    put(
+    put_around(
         text,
-        &[
-            Part::Text(b"'/>\n<path class='thread' stroke='"),
-            Part::Text(colour),
-            Part::Text(b"' d='"),
-        ],
+        b"'/>\n<path class='thread' stroke='",
+        Part::Text(colour),
+        b"' d='",
     )
 }
 
@@ -120,11 +117,9 @@ pub(crate) fn put_hole(text: &mut Bytes, stroke: Stroke) -> Result<(), Memory>
     ensures { OnOk result (text.new ≡ text.old ++ hole_text stroke) }
 {
     match stroke {
-        Stroke::Begin { at, .. } => put_hole_shape(text, at),
-        Stroke::Float { at, .. } => put_hole_shape(text, at),
+        Stroke::Begin { at, .. } | Stroke::Float { at, .. } => put_hole_shape(text, at),
         Stroke::Sewn { from, at, .. } => put_long_hole(text, from, at),
-        Stroke::Trim { .. } => Ok(()),
-        Stroke::Stop { .. } => Ok(()),
+        Stroke::Trim { .. } | Stroke::Stop { .. } => Ok(()),
     }
 }
 
@@ -147,7 +142,7 @@ fn is_shown(from: Point, at: Point) -> bool
 fn put_hole_shape(text: &mut Bytes, at: Point) -> Result<(), Memory>
     ensures { OnOk result (text.new ≡ text.old ++ hole_shape at) }
 {
-    put(text, &[Part::Text(b"M"), Part::At(at), Part::Text(b"h0")])
+    put_around(text, b"M", Part::At(at), b"h0")
 }
 
 /// Appends the arrow of a stitch that has one.
@@ -214,9 +209,7 @@ pub(crate) fn put_travel(text: &mut Bytes, stroke: Stroke) -> Result<(), Memory>
             ..
         } => put_way(text, piece, from, at),
         Stroke::Float { from, at } => put_travel_shape(text, from, at),
-        Stroke::Sewn { .. } => Ok(()),
-        Stroke::Trim { .. } => Ok(()),
-        Stroke::Stop { .. } => Ok(()),
+        Stroke::Sewn { .. } | Stroke::Trim { .. } | Stroke::Stop { .. } => Ok(()),
     }
 }
 

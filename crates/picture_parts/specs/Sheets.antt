@@ -15,11 +15,15 @@ unfoldable pub view_text : Sheet → List ℕ
 view_text sheet = joined (codes "mm' viewBox='" ∷ point_text sheet.corner ∷ codes ","
     ∷ decimal sheet.width ∷ codes "," ∷ decimal sheet.height ∷ ended (codes "'>") ∷ [])
 
+-- The four sides of a rectangle, from its upper left corner on.
+unfoldable pub rectangle_text : ℕ → ℕ → List ℕ
+rectangle_text width height = joined (codes "h" ∷ decimal width ∷ codes "v" ∷ decimal height
+    ∷ codes "h-" ∷ decimal width ∷ ended (codes "z'/>") ∷ [])
+
 -- The sheet in the colour of unbleached cloth.
 unfoldable pub frame_text : Sheet → List ℕ
-frame_text sheet = joined (codes "<path fill='#d9d1be' d='M" ∷ point_text sheet.corner ∷ codes "h"
-    ∷ decimal sheet.width ∷ codes "v" ∷ decimal sheet.height ∷ codes "h-" ∷ decimal sheet.width
-    ∷ ended (codes "z'/>") ∷ [])
+frame_text sheet = joined (codes "<path fill='#d9d1be' d='M" ∷ point_text sheet.corner ∷ [])
+    ++ rectangle_text sheet.width sheet.height
 
 -- The styles of texts, threads, needle holes, travels, marks and bands.
 unfoldable pub style_text : List ℕ

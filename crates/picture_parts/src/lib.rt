@@ -11,5 +11,5 @@ mod sheet;
 pub use colours::thread_colour;
 pub use escapes::put_escaped;
 pub use lengths::{length_between, square_between};
-pub use parts::{Part, put};
-pub use sheet::{Sheet, put_foot, put_head};
+pub use parts::{Part, put, put_around};
+pub use sheet::{Sheet, put_foot, put_head, put_rectangle};

@@ -1,4 +1,4 @@
-ghost use Rattle.std.specs.Prelude.{◌≡◌, ◌++◌, OnOk, map};
+ghost use Rattle.std.specs.Prelude.{◌≡◌, ◌++◌, ◌∷◌, [], OnOk, map};
 ghost use Rattle.std.specs.Fmt.{decimal, signed_decimal};
 ghost use Rattle.picture_parts.specs.Parts.{joined, mm_text, part_text, point_text};
 
@@ -27,6 +27,18 @@ pub fn put(text: &mut Bytes, parts: &[Part<'_>]) -> Result<(), Memory>
         put_part(text, *part)?;
     }
     Ok(())
+}
+
+/// Appends characters, a part, and characters after it.
+pub fn put_around(
+    text: &mut Bytes,
+    before: &[u8],
+    part: Part<'_>,
+    after: &[u8],
+) -> Result<(), Memory>
+    ensures { OnOk result (text.new ≡ text.old ++ joined (before.now ∷ part_text part.entry ∷ after.now ∷ [])) }
+{
+    put(text, &[Part::Text(before), part, Part::Text(after)])
 }
 
 fn put_part(text: &mut Bytes, part: Part<'_>) -> Result<(), Memory>

@@ -1,5 +1,5 @@
 ghost use Rattle.std.specs.Prelude.{◌≡◌, ◌++◌, OnOk};
-ghost use Rattle.picture_parts.specs.Sheets.{foot_text, head_text, size_text, view_text, frame_text, style_text, arrows_text};
+ghost use Rattle.picture_parts.specs.Sheets.{foot_text, head_text, size_text, view_text, frame_text, rectangle_text, style_text, arrows_text};
 
 use crate::parts::{Part, put};
 use design_model::Point;
@@ -72,12 +72,26 @@ fn put_frame(text: &mut Bytes, sheet: Sheet) -> Result<(), Memory>
         &[
             Part::Text(b"<path fill='#d9d1be' d='M"),
             Part::At(sheet.corner),
+        ],
+    )?;
+    put_rectangle(text, sheet.width, sheet.height)?;
+    Ok(())
+}
+
+/// Appends the four sides of a rectangle, from its upper left corner on, and ends the shape.
+#[tactic(auto, unfolding(crate::specs::Sheets::rectangle_text))]
+pub fn put_rectangle(text: &mut Bytes, width: u64, height: u64) -> Result<(), Memory>
+    ensures { OnOk result (text.new ≡ text.old ++ rectangle_text width height) }
+{
+    put(
+        text,
+        &[
             Part::Text(b"h"),
-            Part::Number(sheet.width as u128),
+            Part::Number(width as u128),
             Part::Text(b"v"),
-            Part::Number(sheet.height as u128),
+            Part::Number(height as u128),
             Part::Text(b"h-"),
-            Part::Number(sheet.width as u128),
+            Part::Number(width as u128),
             Part::Text(b"z'/>\n"),
         ],
     )
