@@ -5,7 +5,7 @@ ghost use Rattle.drawing_picture.specs.BandTexts.{band_start, bands_start, colou
 use design_model::Point;
 use design_picture::put_shape_end;
 use lists_and_numbers::{Bytes, Memory};
-use picture_parts::{Part, put};
+use picture_parts::{Part, put, put_around};
 
 /// Appends the band of a cut, which begins with the first of the given half steps.
 pub(crate) fn put_band(
@@ -41,13 +41,11 @@ fn cut_colour(number: usize) -> &'static [u8]
 fn put_band_start(text: &mut Bytes, colour: &[u8]) -> Result<(), Memory>
     ensures { OnOk result (text.new ≡ text.old ++ band_start colour.now) }
 {
-    put(
+    put_around(
         text,
-        &[
-            Part::Text(b"<path class='band' stroke='"),
-            Part::Text(colour),
-            Part::Text(b"' d='M"),
-        ],
+        b"<path class='band' stroke='",
+        Part::Text(colour),
+        b"' d='M",
     )
 }
 

@@ -8,7 +8,7 @@ use design_picture::{put_end_mark, put_start_mark};
 use drawing_model::Spot;
 use lists_and_numbers::{Bytes, Memory};
 use odd_cuts::first_and_rest;
-use picture_parts::{Part, put};
+use picture_parts::{Part, put_around};
 
 /// Appends the dots of junctions.
 pub(crate) fn put_dots(text: &mut Bytes, marks: &[JunctionMark]) -> Result<(), Memory>
@@ -36,13 +36,11 @@ fn put_dot(text: &mut Bytes, mark: JunctionMark) -> Result<(), Memory>
 pub(crate) fn put_even_dot(text: &mut Bytes, at: Point) -> Result<(), Memory>
     ensures { OnOk result (text.new ≡ text.old ++ even_dot at) }
 {
-    put(
+    put_around(
         text,
-        &[
-            Part::Text(b"<path fill='#222' d='M"),
-            Part::At(at),
-            Part::Text(b"m-5,0a5,5,0,1,0,10,0a5,5,0,1,0,-10,0'/>\n"),
-        ],
+        b"<path fill='#222' d='M",
+        Part::At(at),
+        b"m-5,0a5,5,0,1,0,10,0a5,5,0,1,0,-10,0'/>\n",
     )
 }
 
@@ -51,13 +49,11 @@ pub(crate) fn put_even_dot(text: &mut Bytes, at: Point) -> Result<(), Memory>
 pub(crate) fn put_odd_dot(text: &mut Bytes, at: Point) -> Result<(), Memory>
     ensures { OnOk result (text.new ≡ text.old ++ odd_dot at) }
 {
-    put(
+    put_around(
         text,
-        &[
-            Part::Text(b"<path fill='#ffd400' stroke='#222' stroke-width='2' d='M"),
-            Part::At(at),
-            Part::Text(b"m-9,0a9,9,0,1,0,18,0a9,9,0,1,0,-18,0'/>\n"),
-        ],
+        b"<path fill='#ffd400' stroke='#222' stroke-width='2' d='M",
+        Part::At(at),
+        b"m-9,0a9,9,0,1,0,18,0a9,9,0,1,0,-18,0'/>\n",
     )
 }
 
@@ -66,13 +62,11 @@ pub(crate) fn put_odd_dot(text: &mut Bytes, at: Point) -> Result<(), Memory>
 pub(crate) fn put_loose_ring(text: &mut Bytes, at: Point) -> Result<(), Memory>
     ensures { OnOk result (text.new ≡ text.old ++ loose_ring at) }
 {
-    put(
+    put_around(
         text,
-        &[
-            Part::Text(b"<path fill='none' stroke='#d00' stroke-width='3' d='M"),
-            Part::At(at),
-            Part::Text(b"m-15,0a15,15,0,1,0,30,0a15,15,0,1,0,-30,0'/>\n"),
-        ],
+        b"<path fill='none' stroke='#d00' stroke-width='3' d='M",
+        Part::At(at),
+        b"m-15,0a15,15,0,1,0,30,0a15,15,0,1,0,-30,0'/>\n",
     )
 }
 

@@ -4,7 +4,7 @@ ghost use Rattle.drawing_picture.specs.ProofPictures.{band_lines, reason_lines, 
 use design_picture::{LINE_HEIGHT, put_group_end};
 use lists_and_numbers::{Bytes, Memory};
 use odd_cuts::{PieceCert, first_lent};
-use picture_parts::{Part, put};
+use picture_parts::{Part, put, put_around};
 
 /// The height of the reason, in lines of the legend.
 pub const REASON_LINES: u32 = 5;
@@ -39,13 +39,11 @@ pub(crate) fn put_reason(text: &mut Bytes, lines: u32, steps: u64) -> Result<(),
 fn put_reason_start(text: &mut Bytes, lines: u32) -> Result<(), Memory>
     ensures { OnOk result (text.new ≡ text.old ++ reason_start lines) }
 {
-    put(
+    put_around(
         text,
-        &[
-            Part::Text(b"<g transform='translate(0,"),
-            Part::Number((170 + LINE_HEIGHT * lines as u64) as u128),
-            Part::Text(b")'>\n"),
-        ],
+        b"<g transform='translate(0,",
+        Part::Number((170 + LINE_HEIGHT * lines as u64) as u128),
+        b")'>\n",
     )
 }
 
