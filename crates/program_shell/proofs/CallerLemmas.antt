@@ -1,12 +1,14 @@
--- Lemmas for the crates of programs: plans that read files one after another, and the end of a run.
-use Rattle.std.proofs.Common.{ℕ, List, Option, Some, None, Result, Ok, Err, inl, inr, sym, subst}
+-- Lemmas for the crates of programs: plans that read files one after another, plans that decide, and the end of a run.
+use Rattle.std.proofs.Common.{◌≡◌, ℕ, List, Option, Some, None, Result, Ok, Err, inl, inr, ap, sym, subst}
+use Rattle.outside_io.specs.Files.{Files}
 use Rattle.outside_io.specs.Views.{SinkView, StoreView}
 use Rattle.program_shell.specs.declared.failure.Failure.{Failure}
 use Rattle.program_shell.specs.declared.failure.Failure.TheVariants as failure
 use Rattle.program_shell.specs.declared.product.Product.{Product}
 use Rattle.program_shell.specs.declared.status.Status.{Status}
-use Rattle.program_shell.specs.ExactPlans.{IsSoundProgram}
-use Rattle.program_shell.specs.Plans.{IsInputContent, Plan, reads}
+use Rattle.program_shell.specs.ExactPlans.{IsExact, IsSoundProgram}
+use Rattle.program_shell.specs.Plans.{IsInputContent, Makes, Plan, accepts, reads, refuses, satisfies}
+use Rattle.program_shell.specs.Products.{ProductValue, output_names}
 use Rattle.program_shell.specs.Programs.{Program}
 use Rattle.program_shell.specs.Runs.{RunEnds}
 use Rattle.program_shell.specs.RunViews.{Views, views_of}
@@ -23,7 +25,7 @@ halts_next name bytes next store store' (failure.MissingInput missing) input (mi
     (record { attempted = inr (bytes, input, misses.attempted); lacks = misses.lacks }, same)
 halts_next name bytes next store store' (failure.ReadFailed lost) input (attempted, fault, files) =
     (inr (bytes, input, attempted), fault, files)
-halts_next name bytes next store store' (failure.Refused why) input (refuses, same) = (inr (bytes, input, refuses), same)
+halts_next name bytes next store store' (failure.Refused why) input (refusal, same) = (inr (bytes, input, refusal), same)
 halts_next name bytes next store store' failure.Memory input same = same
 
 -- A file is read, and the result of the plan is that of its rest.
@@ -87,3 +89,45 @@ pub ends : {Order : Type 0} (program : Program Order) → IsSoundProgram program
 ends program sound requested store mid out err after s result runs finishes =
     run_ends program sound requested (views_of store out err) after s
     (finished program requested store mid out err after s result runs finishes)
+
+-- A plan decides, and the outputs of its products have these names.
+pub record IsSoundPlan (names : List (List ℕ)) (plan : Plan) : Type 0 where
+  pub exact : IsExact plan
+  pub outputs : (files : Option Files) (product : ProductValue) → Makes plan files product → output_names product.outputs ≡ names
+
+-- The names of the outputs of a product that is given.
+pub named : (product given : ProductValue) → product ≡ given → output_names product.outputs ≡ output_names given.outputs
+named product given is = ap (λ (p : ProductValue). output_names p.outputs) is
+
+pub refuses_sound : (names : List (List ℕ)) (text : List ℕ) → IsSoundPlan names (refuses text)
+refuses_sound names text = record { exact = tt; outputs = λ files product never. absurd never }
+
+pub accepts_sound : (names : List (List ℕ)) (Is : ProductValue → Type 0)
+    → ((product : ProductValue) → Is product → output_names product.outputs ≡ names) → IsSoundPlan names (accepts Is)
+accepts_sound names Is are = record { exact = tt; outputs = λ files product is. are product is }
+
+pub satisfies_sound : (names : List (List ℕ)) (Is : Result ProductValue (List ℕ) → Type 0)
+    → ((product : ProductValue) → Is (Ok product) → output_names product.outputs ≡ names)
+    → ((product : ProductValue) (text : List ℕ) → Is (Ok product) → Is (Err text) → ⊥) → IsSoundPlan names (satisfies Is)
+satisfies_sound names Is are apart = record { exact = apart; outputs = λ files product is. are product is }
+
+-- A plan that parses a file and refuses its faults is sound if the plans of all values are.
+pub parses_sound : {V F : Type 0} (names : List (List ℕ)) (name : List ℕ) (says : List ℕ → Result V F) (next : Result V F → Plan)
+    → ((value : V) → IsSoundPlan names (next (Ok value))) → ((fault : F) → IsSoundPlan names (next (Err fault)))
+    → IsSoundPlan names (reads name (λ bytes. next (says bytes)))
+parses_sound {V} {F} names name says next ok err = record {
+  exact = λ bytes. (each (says bytes)).exact;
+  outputs = λ files product makes. (each (says makes.0)).outputs files product makes.2;
+}
+  where
+    each : (result : Result V F) → IsSoundPlan names (next result)
+    each (Ok value) = ok value
+    each (Err fault) = err fault
+
+-- A program is sound if the plans of all orders are.
+pub program_sound : {Order : Type 0} (program : Program Order)
+    → ((order : Order) → IsSoundPlan (program.outputs order) (program.plan order)) → IsSoundProgram program
+program_sound program each = record {
+  exact = λ order. (each order).exact;
+  outputs = λ order files product makes. (each order).outputs files product makes;
+}

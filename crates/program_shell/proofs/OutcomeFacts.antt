@@ -36,8 +36,8 @@ none_taken bytes is = let same : Some [] ≡ Some (1 ∷ bytes) = ap (λ (s : Si
 faults_rose : storing no_file 1 ≡ storing no_file 0 → ⊥
 faults_rose is = let same : 1 ≡ 0 = ap (λ (s : StoreView). s.faults) is in omega (arith, same)
 
-no_content : (content : List ℕ) → None ≡ Some content → ⊥
-no_content content is = cc
+none_is_some : {T : Type 0} (value : T) → None ≡ Some value → ⊥
+none_is_some value is = cc
 
 -- two names, and an output under each
 abbrev one_name : List ℕ
@@ -63,17 +63,14 @@ known_touched_output s err is = none_taken [] is.out
 
 -- All outputs are written only if their files hold them afterwards.
 pub known_unwritten_output : (before : StoreView) → WroteAll (first_output ∷ []) before (storing no_file 0) → ⊥
-known_unwritten_output before is = no_content (7 ∷ []) (is.held.0 no_file refl)
+known_unwritten_output before is = none_is_some (7 ∷ []) (is.held.0 no_file refl)
 
 -- No other file changes.
-other_content : (content : List ℕ) → Some content ≡ None → ⊥
-other_content content is = cc
-
 b_is_not_a : other_name ≡ one_name → ⊥
 b_is_not_a is = cc
 
 pub known_other_output : WroteAll (first_output ∷ []) (storing no_file 0) (storing one_byte 0) → ⊥
-known_other_output is = other_content (7 ∷ []) (is.others (other_name) (b_is_not_a, tt))
+known_other_output is = none_is_some (7 ∷ []) (sym (is.others (other_name) (b_is_not_a, tt)))
 
 -- No fault is counted, and none is blamed.
 one_is_none : (count : ℕ) → suc count ≡ 0 → ⊥
@@ -82,19 +79,13 @@ one_is_none count is = omega (arith, is)
 pub known_counted_fault : WroteAll [] (storing no_file 0) (storing no_file 1) → ⊥
 known_counted_fault is = one_is_none 0 is.faults
 
-blamed : (call : Blame) → Some call ≡ None → ⊥
-blamed call is = cc
-
 pub known_blamed_fault : (call : Blame) → WroteAll [] (storing no_file 0) (record (storing no_file 0) { blame = Some call }) → ⊥
-known_blamed_fault call is = blamed call is.blame
+known_blamed_fault call is = none_is_some call (sym is.blame)
 
 -- A failed write is blamed on its file.
-not_blamed : (call : Blame) → None ≡ Some call → ⊥
-not_blamed call is = cc
-
 pub known_blameless_write : (outputs : List OutputValue) (name : List ℕ) (before : StoreView)
     → WroteUpTo outputs name before (storing no_file 1) → ⊥
-known_blameless_write outputs name before is = not_blamed _ is.fault.blame
+known_blameless_write outputs name before is = none_is_some _ is.fault.blame
 
 -- The file of a failed write is one of the outputs.
 appended_some : (done left : List OutputValue) (lost : OutputValue) → done ++ lost ∷ left ≡ [] → ⊥
@@ -123,7 +114,7 @@ pub known_lost_output : (before : StoreView) (faults : ℕ) (call : Option Blame
 known_lost_output before faults call is = unheld is.done (first_done is.done is.left is.lost is.split is.same) is.held
   where
     unheld : (done : List OutputValue) → done ≡ first_output ∷ [] → AllFilesHold (Some no_file) done → ⊥
-    unheld done is held = no_content (7 ∷ []) ((subst (AllFilesHold (Some no_file)) is held).0 no_file refl)
+    unheld done is held = none_is_some (7 ∷ []) ((subst (AllFilesHold (Some no_file)) is held).0 no_file refl)
 
 -- Only the outputs up to a failed write change.
 names_of : (done left : List OutputValue) (lost : OutputValue) → done ++ lost ∷ left ≡ first_output ∷ []
@@ -132,9 +123,9 @@ names_of [] left lost is = let same : lost ≡ first_output = cc in ap (λ (o : 
 names_of (o ∷ done) left lost is = let none : done ++ lost ∷ left ≡ [] = cc in absurd (appended_some done left lost none)
 
 pub known_changed_by_write : (name : List ℕ) → WroteUpTo (first_output ∷ []) name (storing no_file 0) (storing one_byte 1) → ⊥
-known_changed_by_write name is = other_content (7 ∷ [])
+known_changed_by_write name is = none_is_some (7 ∷ []) (sym
     ((subst (λ (names : List (List ℕ)). ChangesOnlyFiles names (Some no_file) (Some one_byte))
-    (names_of is.done is.left is.lost is.split) is.others) other_name (b_is_not_a, tt))
+    (names_of is.done is.left is.lost is.split) is.others) other_name (b_is_not_a, tt)))
 
 -- A missing input leaves all as it is, and is one that the plan reads.
 pub known_unread_input : (text name : List ℕ) (before after : Views) → IsMissingInput (refuses text) name before after → ⊥
@@ -150,14 +141,11 @@ known_read_not_attempted text name before after is = is.attempted
 
 pub known_blameless_read : (plan : Plan) (name : List ℕ) (before : Views) (out err : SinkView)
     → IsReadFailure plan name before (views_of (storing no_file 1) out err) → ⊥
-known_blameless_read plan name before out err is = not_blamed (read_call name) is.fault.blame
-
-hidden : Some no_file ≡ None → ⊥
-hidden is = cc
+known_blameless_read plan name before out err is = none_is_some (read_call name) is.fault.blame
 
 pub known_changed_by_read : (plan : Plan) (name : List ℕ) (out err : SinkView) (s : StoreView)
     → IsReadFailure plan name (views_of (record s { files = None }) out err) (views_of (record s { files = Some no_file }) out err) → ⊥
-known_changed_by_read plan name out err s is = hidden is.files
+known_changed_by_read plan name out err s is = none_is_some no_file (sym is.files)
 
 pub known_printed_by_read : (plan : Plan) (name : List ℕ) (before after : StoreView) (err : SinkView)
     → IsReadFailure plan name (views_of before (took (1 ∷ [])) err) (views_of after (took []) err) → ⊥
@@ -193,10 +181,7 @@ one_plan plan = record { name = codes "p"; usage = codes "p"; plan = λ order. p
 
 -- A run that is done was requested, made a product, wrote it, printed its report, and reported nothing.
 pub known_done_for_nothing : (plan : Plan) (before after : Views) → IsDone (one_plan plan) None before after → ⊥
-known_done_for_nothing plan before after is = none_is is.order is.is_requested
-  where
-    none_is : (order : ℕ) → None ≡ Some order → ⊥
-    none_is order is = cc
+known_done_for_nothing plan before after is = none_is_some is.order is.is_requested
 
 pub known_done_though_refused : (text : List ℕ) (requested : Option ℕ) (before after : Views)
     → IsDone (one_plan (refuses text)) requested before after → ⊥
@@ -233,10 +218,7 @@ known_refused_in_silence plan requested s s' out out' is = silent _ is.message
 -- The usage text is for arguments that request nothing, and is reported.
 pub known_usage_though_requested : (plan : Plan) (order : ℕ) (before after : Views)
     → IsUsage (one_plan plan) (Some order) before after → ⊥
-known_usage_though_requested plan order before after is = some_is is.is_requested
-  where
-    some_is : Some order ≡ None → ⊥
-    some_is is = cc
+known_usage_though_requested plan order before after is = none_is_some order (sym is.is_requested)
 
 pub known_usage_in_silence : (plan : Plan) (requested : Option ℕ) (s s' : StoreView) (out out' : SinkView)
     → IsUsage (one_plan plan) requested (views_of s out (took [])) (views_of s' out' (took [])) → ⊥
@@ -255,7 +237,7 @@ known_memory_with_output plan s err err' is = none_taken [] is.untouched.out
 pub known_changed_for_nothing : (plan : Plan) (s : StoreView) (out out' err err' : SinkView)
     → KeepsOtherFiles (one_plan plan) None (views_of (record s { files = None }) out err)
     (views_of (record s { files = Some no_file }) out' err') → ⊥
-known_changed_for_nothing plan s out out' err err' is = hidden is
+known_changed_for_nothing plan s out out' err err' is = none_is_some no_file (sym is)
 
 -- A run without faults has none in the store and in both streams.
 pub known_fault_in_store : (out err : SinkView)
@@ -273,36 +255,24 @@ known_fault_in_error s out is = one_is_none 0 is.err.same
 
 -- Arguments that request nothing have no other status, and an accepted order isn't refused.
 pub known_nothing_done : (plan : Plan) (files : Option Files) → IsDecided (one_plan plan) None files status.Done → ⊥
-known_nothing_done plan files is = done_is (is.usage refl)
-  where
-    done_is : status.Done ≡ status.Usage → ⊥
-    done_is is = cc
+known_nothing_done plan files is = let same : status.Done ≡ status.Usage = is.usage refl in cc
 
 pub known_accepted_refused : (Is : ProductValue → Type 0) (files : Files)
     → IsDecided (one_plan (accepts Is)) (Some 0) (Some files) status.Refused → ⊥
-known_accepted_refused Is files is = refused_is (is.done 0 refl refl tt)
-  where
-    refused_is : status.Refused ≡ status.Done → ⊥
-    refused_is is = cc
+known_accepted_refused Is files is = let same : status.Refused ≡ status.Done = is.done 0 refl refl tt in cc
 
 pub known_refused_done : (text : List ℕ) (files : Files)
     → IsDecided (one_plan (refuses text)) (Some 0) (Some files) status.Done → ⊥
-known_refused_done text files is = done_is (is.refused 0 text refl refl refl)
-  where
-    done_is : status.Done ≡ status.Refused → ⊥
-    done_is is = cc
+known_refused_done text files is = let same : status.Done ≡ status.Refused = is.refused 0 text refl refl refl in cc
 
 -- A failed write is blamed on its file.
 pub known_unblamed_write : (plan : Plan) (name : List ℕ) (before : Views) (out err : SinkView)
     → IsWriteFailure plan name before (views_of (storing no_file 1) out err) → ⊥
-known_unblamed_write plan name before out err is = not_blamed _ is.wrote.fault.blame
+known_unblamed_write plan name before out err is = none_is_some _ is.wrote.fault.blame
 
 -- A failed run was requested, and reported its line.
 pub known_failed_for_nothing : (plan : Plan) (before after : Views) → IsFailed (one_plan plan) None before after → ⊥
-known_failed_for_nothing plan before after is = none_is is.order is.is_requested
-  where
-    none_is : (order : ℕ) → None ≡ Some order → ⊥
-    none_is order is = cc
+known_failed_for_nothing plan before after is = none_is_some is.order is.is_requested
 
 pub known_failure : (plan : Plan) (requested : Option ℕ) (before after : Views) (is : IsFailed (one_plan plan) requested before after)
     → IsOutsideFailure (codes "p") plan before after is.line × (after.err ≡ with_bytes_put before.err is.line)
@@ -320,10 +290,7 @@ known_report_lost_without_fault plan requested s s' out out' bytes more is = no_
 
 -- A refused run was requested, and usage touches nothing.
 pub known_refused_for_nothing : (plan : Plan) (before after : Views) → IsRefused (one_plan plan) None before after → ⊥
-known_refused_for_nothing plan before after is = none_is is.order is.is_requested
-  where
-    none_is : (order : ℕ) → None ≡ Some order → ⊥
-    none_is order is = cc
+known_refused_for_nothing plan before after is = none_is_some is.order is.is_requested
 
 pub known_usage_with_output : (plan : Plan) (requested : Option ℕ) (s : StoreView) (err err' : SinkView)
     → IsUsage (one_plan plan) requested (views_of s (took (1 ∷ [])) err) (views_of s (took []) err') → ⊥
@@ -332,10 +299,7 @@ known_usage_with_output plan requested s err err' is = none_taken [] is.untouche
 -- An order whose input is missing is not done.
 pub known_missing_done : (files : Files) (name : List ℕ) (plan : Plan) → LacksInput plan (Some files) name
     → IsDecided (one_plan plan) (Some 0) (Some files) status.Done → ⊥
-known_missing_done files name plan lacks is = done_is (is.missing 0 name refl lacks)
-  where
-    done_is : status.Done ≡ status.Fault → ⊥
-    done_is is = cc
+known_missing_done files name plan lacks is = let same : status.Done ≡ status.Fault = is.missing 0 name refl lacks in cc
 
 -- Each status has its own outcome.
 pub known_ends : (plan : Plan) (requested : Option ℕ) (before after : Views)

@@ -1,6 +1,8 @@
 ghost use Rattle.std.specs.Prelude.{◌≡◌, IfOk, codes, string_bytes};
 ghost use Rattle.program_shell.specs.FileTexts.{read_fault_text, text_about, text_at};
+ghost use Rattle.program_shell.specs.StepOutcomes.{IsRefusalWith};
 
+use crate::failure::Failure;
 use format_traits::ReadFault;
 use lists_and_numbers::Memory;
 use std::alloc::Global;
@@ -25,6 +27,22 @@ pub fn describe_part(
 {
     let text = format!(in alloc; "{name}: {part} {number}: {what}")?;
     Ok(text)
+}
+
+/// Returns the refusal of a file at a numbered part, or out of memory.
+pub fn refused_part<'a>(
+    alloc: Global,
+    name: &str,
+    part: &str,
+    number: u64,
+    what: &str,
+) -> Failure<'a>
+    ensures { IsRefusalWith (text_at name.now part.now number what.now) result }
+{
+    match describe_part(alloc, name, part, number, what) {
+        Ok(text) => Failure::Refused(text),
+        Err(Memory) => Failure::Memory,
+    }
 }
 
 /// Returns the text about a file that does not conform to its format.

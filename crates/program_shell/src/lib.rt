@@ -14,7 +14,7 @@ mod reading;
 mod status;
 
 pub use failure::Failure;
-pub use file_texts::{describe_file, describe_part, describe_read_fault};
+pub use file_texts::{describe_file, describe_part, describe_read_fault, refused_part};
 pub use finishing::finish;
 pub use format_indexes::{format_at, load_at};
 pub use messages::report_out_of_memory;
