@@ -35,8 +35,7 @@ length-degrees_from es at (suc n) = ap (λ (k : ℕ). suc k) (length-degrees_fro
 -- in rising lines each line appears once, and the edge at an index is that of the line there
 pub above_at : (n : ℕ) (ms : List ℕ) (k : ℕ) → all_greater n ms ≡ true → k < length ms → n < get_or ms k 0
 above_at n [] k rising there = absurd (omega arith)
-above_at n (m ∷ ms) zero rising there =
-    let both = and_parts (nat_lt n m) (all_greater n ms) rising in grind (arith, nat_tests)
+above_at n (m ∷ ms) zero rising there = grind (arith, nat_tests, and_parts (nat_lt n m) (all_greater n ms) rising)
 above_at n (m ∷ ms) (suc k) rising there = above_at n ms k (and_parts (nat_lt n m) (all_greater n ms) rising).1 (omega arith)
 
 -- the line back adds its ends
@@ -53,8 +52,7 @@ walk_append lines edges at (x ∷ xs) ys = walk_append lines edges (after_pass l
 
 -- and so are its junctions
 pub degrees_few : (p : PieceValue) → IsValidPiece p → length p.degrees ≤ MAX_LINES + 1
-degrees_few p keeps =
-    rw keeps.counted (omega (arith, length-degrees_from p.edges 0 (length p.junctions), keeps.junctions_few, keeps.few))
+degrees_few p keeps = grind (arith, nat_tests, length-degrees_from p.edges 0 (length p.junctions))
 
 pub or_below : (n : ℕ) (x y : Option ℕ) → is_below n x ≡ true → is_below n y ≡ true → is_below n (option_or x y) ≡ true
 or_below n (Some a) y f t = f
@@ -77,16 +75,10 @@ firsts_rise pieces up = λ i. λ j. λ x. λ less. λ below.
 
 -- and which of the two it is
 pub is_even : (k : ℕ) → is_odd (2 * k) ≡ false
-is_even k = differs (2 * k % 2) (omega arith)
-  where
-    differs : (r : ℕ) → r ≡ 0 → (r == 1) ≡ false
-    differs r is = rw is refl
+is_even k = grind (arith, nat_tests)
 
 pub not_even : (k : ℕ) → is_odd (2 * k + 1) ≡ true
-not_even k = equals ((2 * k + 1) % 2) (omega arith)
-  where
-    equals : (r : ℕ) → r ≡ 1 → (r == 1) ≡ true
-    equals r is = rw is refl
+not_even k = grind (arith, nat_tests)
 
 -- the edge at an index, where there is one
 pub edge_there : (edges : List Edge) (k : ℕ) → k < length edges → (e : Edge) × (slice_get edges k ≡ Some e)

@@ -30,32 +30,20 @@ use Rattle.lists_and_numbers.proofs.CallerLemmas.{same_number, same_test}
 -- a test that one of them passes is passed below their count
 found_within : {X : Type 0} (test : X → Bool) (xs : List X) → list_any test xs ≡ true → position_or_len test xs < length xs
 found_within test [] found = absurd (cc)
-found_within test (x ∷ xs) found = by_test (test x) refl found (found_within test xs)
-  where
-    by_test : (t : Bool) → test x ≡ t → (t || list_any test xs) ≡ true → (list_any test xs ≡ true → position_or_len test xs < length xs)
-        → position_or_len test (x ∷ xs) < length (x ∷ xs)
-    by_test true is found rest = rw is (omega arith)
-    by_test false is found rest = rw is (omega (arith, rest found))
+found_within test (x ∷ xs) found = grind (arith, nat_tests, found_within test xs)
 
 -- and where none does, there is no place for one
 none_within : {X : Type 0} (test : X → Bool) (xs : List X) (t : Bool) → list_any test xs ≡ t → position_or_len test xs < length xs
     → t ≡ true
 none_within test xs true is below = refl
 none_within test [] false is below = absurd (omega (arith, below))
-none_within test (x ∷ xs) false is below =
-    let parts = or_parts (test x) (list_any test xs) is in
-    let rest : position_or_len test (x ∷ xs) ≡ 1 + position_or_len test xs = rw parts.0 refl in
-    none_within test xs false parts.1 (omega (arith, rest, below))
+none_within test (x ∷ xs) false is below = grind (arith, nat_tests, or_parts (test x) (list_any test xs) is, none_within test xs false)
 
 pub is_found : {X : Type 0} (test : X → Bool) (xs : List X) → position_or_len test xs < length xs → list_any test xs ≡ true
 is_found test xs below = none_within test xs (list_any test xs) refl below
 
 pub is_none : {X : Type 0} (test : X → Bool) (xs : List X) → position_or_len test xs ≡ length xs → list_any test xs ≡ false
-is_none test xs end = by_test (list_any test xs) refl
-  where
-    by_test : (t : Bool) → list_any test xs ≡ t → t ≡ false
-    by_test true found = absurd (omega (arith, end, found_within test xs found))
-    by_test false none = refl
+is_none test xs end = grind (arith, nat_tests, found_within test xs)
 
 -- a junction is an end of the first line there
 junction_end : (d : DrawingValue) (s : Spot) → is_junction d.lines s ≡ true → IsLineEnd d (position_or_len (has_end_at_spot s) d.lines) s

@@ -1,4 +1,6 @@
 -- Two spots are connected by lines exactly where lines at them are connected.
+use Rattle.std.proofs.Common.{arith}
+use Rattle.std.proofs.lemmas.Bool.Decides.{nat_tests}
 use Rattle.std.proofs.Common.{◌≡◌, ◌⊎◌, inl, inr, ℕ, zero, suc, Bool, true, false, cond, List, [], ◌∷◌, map, slice_get, get_or, Some, All, refl, sym, ◌∙◌, ap, subst}
 use Rattle.std.proofs.lemmas.List.Elements.{All-head, All-tail}
 use Rattle.std.proofs.lemmas.Option.{slice_get-get_or}
@@ -178,26 +180,14 @@ at_one line stands a b one two = by_points line.points refl one two
 line_stands : (lines : List LineValue) (i : ℕ) (line : LineValue) → slice_get lines i ≡ Some line → (a b : Spot) → AtEnd line a
     → AtEnd line b → representative lines a ≡ representative lines b
 line_stands [] i line is a b one two = absurd (cc)
-line_stands (x ∷ rest) zero line is a b one two =
-    let same : line ≡ x = cc in
-    at_one x (representative rest) a b (subst (λ (l : LineValue). AtEnd l a) same one) (subst (λ (l : LineValue). AtEnd l b) same two)
+line_stands (x ∷ rest) zero line is a b one two = grind (arith, nat_tests, at_one x (representative rest) a b)
 line_stands (x ∷ rest) (suc i) line is a b one two =
     stands_kept (end_spots x) (representative rest) a b (line_stands rest i line is a b one two)
 
 -- the same of the lines of a drawing
 index_stands : (d : DrawingValue) (i : ℕ) (a b : Spot) → IsLineEnd d i a → IsLineEnd d i b
     → representative d.lines a ≡ representative d.lines b
-index_stands d i a b one two =
-    let none : LineValue = record { block = 0; points = [] } in
-    let line : LineValue = get_or d.lines i none in
-    let is : slice_get d.lines i ≡ Some line = slice_get-get_or d.lines i none one.there in
-    line_stands d.lines i line is a b (at_end i line is a one) (at_end i line is b two)
-  where
-    at_end : (i : ℕ) (line : LineValue) → slice_get d.lines i ≡ Some line → (s : Spot) → IsLineEnd d i s → AtEnd line s
-    at_end i line is s end = (
-      sym (ap optional_line_block is) ∙ end.block,
-      subst (λ (ps : List Point). (first_point ps ≡ Some s.at) ⊎ (last_point ps ≡ Some s.at)) (ap optional_line_points is) end.at_end,
-    )
+index_stands d i a b one two = grind (arith, nat_tests, slice_get-get_or d.lines i, line_stands d.lines i)
 
 -- the ends of all lines of a chain have the same representative
 chain_stands : (d : DrawingValue) (i j : ℕ) (chain : List ℕ) → IsPathOfLines d i chain j → (a b : Spot) → IsLineEnd d i a → IsLineEnd d j b

@@ -92,11 +92,7 @@ next_counted edges at n ds once twice below a_below b_below is one two =
 -- a junction has no more line ends than there are
 degree_few : (es : List Edge) (j : ℕ) → degree es j ≤ 2 * length es
 degree_few [] j = omega arith
-degree_few (e ∷ es) j = omega (arith, degree_few es j, bit_few (e.a == j), bit_few (e.b == j))
-  where
-    bit_few : (b : Bool) → one_if b ≤ 1
-    bit_few true = omega arith
-    bit_few false = omega arith
+degree_few (e ∷ es) j = grind (arith, nat_tests, degree_few es j)
 
 -- values that are few are few in the list
 table_few : (f : ℕ → ℕ) (most : ℕ) → ((j : ℕ) → f j ≤ most) → (at n k : ℕ) → get_or (table f at n) k 0 ≤ most
@@ -112,14 +108,8 @@ count_few edges at n k ds is =
 
 -- one more line end makes none of them greater by more
 pub set_few : (ds : List ℕ) (k j count : ℕ) → k < length ds → count ≡ get_or ds k 0 → get_or (set ds k (count + 1)) j 0 ≤ get_or ds j 0 + 1
-set_few ds k j count below is = by_test (j == k) refl
-  where
-    by_test : (t : Bool) → (j == k) ≡ t → get_or (set ds k (count + 1)) j 0 ≤ get_or ds j 0 + 1
-    by_test true test =
-        let here = get_or-set_same ds k (count + 1) 0 below in
-        let one : j ≡ k = same_number j k test in
-        omega (arith, ap (λ (i : ℕ). get_or (set ds k (count + 1)) i 0) one, ap (λ (i : ℕ). get_or ds i 0) one, is, here)
-    by_test false test = omega (arith, get_or-set_other ds k j (count + 1) 0 (not_same j k test))
+set_few ds k j count below is =
+    grind (arith, nat_tests, get_or-set_same ds k (count + 1) 0 below, same_number j k, get_or-set_other ds k j (count + 1) 0, not_same j k)
 
 -- no line end is counted at first
 pub none_counted : (at n : ℕ) → replicate n 0 ≡ degrees_from [] at n

@@ -61,14 +61,7 @@ number_of_point js differ m n p at_m at_n = by_order (nat_lt m n) (nat_lt n m) r
 -- the edge of a line that is among the lines
 edge_found : (f : ℕ → Edge) (lines : List ℕ) (line : ℕ) → Contains lines line → edge_of lines (map f lines) line ≡ Some (f line)
 edge_found f [] line (k, below, is) = absurd (omega (arith, below))
-edge_found f (n ∷ lines) line among = by_test (line == n) refl among (λ has. edge_found f lines line has)
-  where
-    by_test : (t : Bool) → (line == n) ≡ t → Contains (n ∷ lines) line
-        → (Contains lines line → edge_of lines (map f lines) line ≡ Some (f line))
-        → cond t (Some (f n)) (edge_of lines (map f lines) line) ≡ Some (f line)
-    by_test true is has more = ap (λ (k : ℕ). Some (f k)) (sym (same_number line n is))
-    by_test false is (zero, below, at) more = absurd (both_ways (line == n) is (number_found line n (sym at)))
-    by_test false is (suc k, below, at) more = more (k, omega (arith, below), at)
+edge_found f (n ∷ lines) line among = grind (arith, nat_tests, edge_found f lines line, same_number line n, number_found line n)
 
 -- a walk passes the lines of its passes
 passed_among : (line : ℕ) (walk : List Pass) → is_line_passed line walk ≡ true → Contains (map (λ (pass : Pass). pass.line) walk) line
@@ -83,14 +76,7 @@ passed_among line (pass ∷ rest) is = by_test (pass.line == line) refl is (λ l
 
 among_passed : (line : ℕ) (walk : List Pass) → Contains (map (λ (pass : Pass). pass.line) walk) line → is_line_passed line walk ≡ true
 among_passed line [] (k, below, is) = absurd (omega (arith, below))
-among_passed line (pass ∷ rest) has = by_test (pass.line == line) refl has (λ later. among_passed line rest later)
-  where
-    by_test : (t : Bool) → (pass.line == line) ≡ t → Contains (map (λ (pass : Pass). pass.line) (pass ∷ rest)) line
-        → (Contains (map (λ (pass : Pass). pass.line) rest) line → is_line_passed line rest ≡ true)
-        → (t || is_line_passed line rest) ≡ true
-    by_test true test has later = refl
-    by_test false test (zero, below, is) later = absurd (both_ways (pass.line == line) test (number_found pass.line line is))
-    by_test false test (suc k, below, is) later = later (k, omega (arith, below), is)
+among_passed line (pass ∷ rest) has = grind (arith, nat_tests, among_passed line rest, number_found pass.line line)
 
 covered_by : (lines : List ℕ) (walk : List Pass) → covers lines walk ≡ true → All (Contains (map (λ (pass : Pass). pass.line) walk)) lines
 covered_by [] walk is = All-nil (Contains (map (λ (pass : Pass). pass.line) walk))
@@ -116,12 +102,7 @@ IsAt js (Some n) (Some p) = slice_get js n ≡ Some p
 -- where nothing is found, the position is the length
 none_found : (test : Point → Bool) (ps : List Point) → list_any test ps ≡ false → position_or_len test ps ≡ length ps
 none_found test [] none = refl
-none_found test (p ∷ ps) none = by_test (test p) refl none (λ more. none_found test ps more)
-  where
-    by_test : (t : Bool) → test p ≡ t → (t || list_any test ps) ≡ false → (list_any test ps ≡ false → position_or_len test ps ≡ length ps)
-        → position_or_len test (p ∷ ps) ≡ length (p ∷ ps)
-    by_test true is none rest = absurd (cc)
-    by_test false is none rest = rw is (omega (arith, rest none))
+none_found test (p ∷ ps) none = grind (arith, nat_tests, none_found test ps)
 
 -- the given junction has the number of the given point
 pub given_numbers : GivenPointsAreJunctions

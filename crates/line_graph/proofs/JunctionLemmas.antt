@@ -1,4 +1,5 @@
 -- Numbers of junctions, in the order in which lines name them.
+use Rattle.std.proofs.lemmas.Bool.Decides.{nat_tests}
 use Rattle.std.proofs.Common.{◌≡◌, ◌<◌, ◌≤◌, ℕ, ◌+◌, ◌*◌, Bool, true, false, cond, ◌||◌, List, [], ◌∷◌, ◌++◌, length, map, drop, get_or, Some, arith, refl, sym, ◌∙◌, ap, inl, inr}
 use Rattle.std.proofs.lemmas.Bool.{or_cases, or_left, or_right}
 use Rattle.std.proofs.lemmas.List.{append_assoc, at_drop_more, length-append}
@@ -18,25 +19,13 @@ use Rattle.drawing_model.proofs.CallerLemmas.{same_found}
 place_before : (test : Point → Bool) (xs ys : List Point) → list_any test xs ≡ true
     → position_or_len test (xs ++ ys) ≡ position_or_len test xs
 place_before test [] ys found = absurd (cc)
-place_before test (x ∷ xs) ys found = by_test (test x) refl found (λ later. place_before test xs ys later)
-  where
-    by_test : (t : Bool) → test x ≡ t → (t || list_any test xs) ≡ true
-        → (list_any test xs ≡ true → position_or_len test (xs ++ ys) ≡ position_or_len test xs)
-        → position_or_len test (x ∷ (xs ++ ys)) ≡ position_or_len test (x ∷ xs)
-    by_test true is found rest = rw is refl
-    by_test false is found rest = rw is (ap (λ (n : ℕ). 1 + n) (rest found))
+place_before test (x ∷ xs) ys found = grind (arith, nat_tests, place_before test xs ys)
 
 -- a point that is not found gets the next number
 place_behind : (test : Point → Bool) (xs : List Point) (y : Point) → list_any test xs ≡ false → test y ≡ true
     → position_or_len test (xs ++ y ∷ []) ≡ position_or_len test xs
 place_behind test [] y none here = rw here refl
-place_behind test (x ∷ xs) y none here = by_test (test x) refl none (λ later. place_behind test xs y later here)
-  where
-    by_test : (t : Bool) → test x ≡ t → (t || list_any test xs) ≡ false
-        → (list_any test xs ≡ false → position_or_len test (xs ++ y ∷ []) ≡ position_or_len test xs)
-        → position_or_len test (x ∷ (xs ++ y ∷ [])) ≡ position_or_len test (x ∷ xs)
-    by_test true is none rest = absurd (cc)
-    by_test false is none rest = rw is (ap (λ (n : ℕ). 1 + n) (rest none))
+place_behind test (x ∷ xs) y none here = grind (arith, nat_tests, place_behind test xs y)
 
 -- what is found is found where more follow
 any_before : (test : Point → Bool) (xs ys : List Point) → list_any test xs ≡ true → list_any test (xs ++ ys) ≡ true
@@ -53,39 +42,22 @@ any_behind test (x ∷ xs) y here = or_right (test x) (list_any test (xs ++ y �
 
 -- a point that is put is found
 pub put_found : (points : List Point) (p : Point) → list_any (is_same_point p) (with_point points p) ≡ true
-put_found points p = by_test (list_any (is_same_point p) points) refl
-  where
-    by_test : (t : Bool) → list_any (is_same_point p) points ≡ t → list_any (is_same_point p) (cond t points (points ++ p ∷ [])) ≡ true
-    by_test true is = is
-    by_test false is = any_behind (is_same_point p) points p (same_found p p refl)
+put_found points p = grind (arith, nat_tests, any_behind (is_same_point p) points p (same_found p p refl), same_found p p refl)
 
 -- its number is the one that it had before, or the next
 put_number : (points : List Point) (p : Point)
     → position_or_len (is_same_point p) (with_point points p) ≡ position_or_len (is_same_point p) points
-put_number points p = by_test (list_any (is_same_point p) points) refl
-  where
-    by_test : (t : Bool) → list_any (is_same_point p) points ≡ t
-        → position_or_len (is_same_point p) (cond t points (points ++ p ∷ [])) ≡ position_or_len (is_same_point p) points
-    by_test true is = refl
-    by_test false is = place_behind (is_same_point p) points p is (same_found p p refl)
+put_number points p = grind (arith, nat_tests, place_behind (is_same_point p) points p, same_found p p refl)
 
 -- what is found among points is found among more
 pub put_keeps : (test : Point → Bool) (points : List Point) (p : Point) → list_any test points ≡ true
     → list_any test (with_point points p) ≡ true
-put_keeps test points p found = by_test (list_any (is_same_point p) points)
-  where
-    by_test : (t : Bool) → list_any test (cond t points (points ++ p ∷ [])) ≡ true
-    by_test true = found
-    by_test false = any_before test points (p ∷ []) found
+put_keeps test points p found = grind (arith, nat_tests, any_before test points (p ∷ []) found)
 
 -- and keeps its number
 put_keeps_number : (test : Point → Bool) (points : List Point) (p : Point) → list_any test points ≡ true
     → position_or_len test (with_point points p) ≡ position_or_len test points
-put_keeps_number test points p found = by_test (list_any (is_same_point p) points)
-  where
-    by_test : (t : Bool) → position_or_len test (cond t points (points ++ p ∷ [])) ≡ position_or_len test points
-    by_test true = refl
-    by_test false = place_before test points (p ∷ []) found
+put_keeps_number test points p found = grind (arith, nat_tests, place_before test points (p ∷ []) found)
 
 -- so a number stays whatever points follow
 pub number_stays : (test : Point → Bool) (points more : List Point) → list_any test points ≡ true
@@ -107,22 +79,12 @@ seen_on points (p ∷ first) then = seen_on (with_point points p) first then
 
 -- one more point is one more junction at most
 put_few : (points : List Point) (p : Point) → length (with_point points p) ≤ length points + 1
-put_few points p = by_test (list_any (is_same_point p) points)
-  where
-    by_test : (t : Bool) → length (cond t points (points ++ p ∷ [])) ≤ length points + 1
-    by_test true = omega arith
-    by_test false = omega (arith, length-append points (p ∷ []))
+put_few points p = grind (arith, nat_tests, length-append points (p ∷ []))
 
 -- the ends of a line by its first point and its last
 pub ends_by : (points : List Point) (p q : Point) → first_point points ≡ Some p → last_point points ≡ Some q → endpoints points ≡ p ∷ q ∷ []
 ends_by [] p q first last = absurd (cc)
-ends_by (x ∷ rest) p q first last =
-    let one : x ≡ p = some_same x p first in
-    let other : last_point_or x rest ≡ q = some_same (last_point_or x rest) q last in
-    ap (λ (y : Point). y ∷ last_point_or x rest ∷ []) one ∙ ap (λ (y : Point). p ∷ y ∷ []) other
-  where
-    some_same : (a b : Point) → Some a ≡ Some b → a ≡ b
-    some_same a b is = cc
+ends_by (x ∷ rest) p q first last = grind (arith, nat_tests)
 
 -- the edge of a line whose ends were numbered
 pub edge_added : (d : DrawingValue) (line : ℕ) (p q : Point) (k0 k1 k2 : List Point) (a b cost : ℕ)

@@ -35,8 +35,7 @@ not_same m n test one = both_ways (m == n) test (grind (arith, nat_tests, one))
 lowered_each : (P : ℕ → ℕ → Type 0) (line label : ℕ) (old new : List ℕ) (changed : Bool) → LowersOneLabel line label old new changed
     → P line label
     → ((i : ℕ) → i < length old → P i (get_or old i 0)) → (i : ℕ) → i < length new → P i (get_or new i 0)
-lowered_each P line label old new false is new_one each i below =
-    subst (λ (ls : List ℕ). P i (get_or ls i 0)) (sym is.1) (each i (subst (λ (ls : List ℕ). i < length ls) is.1 below))
+lowered_each P line label old new false is new_one each i below = grind (arith, nat_tests)
 lowered_each P line label old new true is new_one each i below =
     subst (λ (ls : List ℕ). P i (get_or ls i 0)) (sym is.1) (by_test (i == line) refl)
   where
@@ -58,8 +57,7 @@ lowered_sized line label old new false is = ap length is.1
 -- and makes their sum less, if it changes any
 lowered_less : (line label : ℕ) (old new : List ℕ) (changed : Bool) → line < length old → LowersOneLabel line label old new changed
     → sum_by (λ n. n) new + one_if changed ≤ sum_by (λ n. n) old
-lowered_less line label old new true below is =
-    omega (arith, ap (sum_by (λ (n : ℕ). n)) is.1, sum_by-set (λ (n : ℕ). n) old line label 0 below, is.0)
+lowered_less line label old new true below is = grind (arith, nat_tests, sum_by-set (λ (n : ℕ). n) old line label 0 below)
 lowered_less line label old new false below is = omega (arith, ap (sum_by (λ (n : ℕ). n)) is.1)
 
 -- no change means that the label is as low already
@@ -220,8 +218,4 @@ next_lowered links at d old mid new a b r below is_r one two =
 -- so labels that settled from each line's own are labels
 pub own_settled : (links : List LineLink) (count : ℕ) (old new : List ℕ) → AreOwnIndexes count old → AreFinalLabels links old new
     → AreLabelsOfLinks links new
-own_settled links count old new own settled = record {
-  low = settled.low;
-  reached = λ d. λ linked. settled.reached d linked (own_reached d count old own);
-  agree = settled.agree;
-}
+own_settled links count old new own settled = grind (arith, nat_tests, own_reached)

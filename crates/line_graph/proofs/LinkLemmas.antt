@@ -25,26 +25,7 @@ use Rattle.lists_and_numbers.proofs.CallerLemmas.{same_number, some_same}
 -- a new one takes the line
 pub takes_new : (spot : Spot) (line : ℕ) (old new : Spot → Option ℕ) → old spot ≡ None
     → ((other : Spot) → new other ≡ cond (is_same_spot spot other) (Some line) (old other)) → RecordsFirstLine spot line old new line
-takes_new spot line old new none updates = record {
-  is = updates spot ∙ ap (λ (t : Bool). cond t (Some line) (old spot)) (spot_found spot);
-  keeps = λ other. λ n. λ here. keeps_by other n here (is_same_spot spot other) refl;
-  only = λ other. λ n. λ here. only_by other n here (is_same_spot spot other) refl;
-}
-  where
-    at_test : (other : Spot) (t : Bool) → is_same_spot spot other ≡ t → new other ≡ cond t (Some line) (old other)
-    at_test other t test = updates other ∙ ap (λ (u : Bool). cond u (Some line) (old other)) test
-
-    keeps_by : (other : Spot) (n : ℕ) → old other ≡ Some n → (t : Bool) → is_same_spot spot other ≡ t → new other ≡ Some n
-    keeps_by other n here true test = absurd (nothing n (sym none ∙ ap old (same_spot spot other test) ∙ here))
-      where
-        nothing : (n : ℕ) → None ≡ Some n → ⊥
-        nothing n is = cc
-    keeps_by other n here false test = at_test other false test ∙ here
-
-    only_by : (other : Spot) (n : ℕ) → new other ≡ Some n → (t : Bool) → is_same_spot spot other ≡ t
-        → (old other ≡ Some n) ⊎ ((other ≡ spot) × (n ≡ line))
-    only_by other n here true test = inr (sym (same_spot spot other test), sym (some_same line n (sym (at_test other true test) ∙ here)))
-    only_by other n here false test = inl (sym (at_test other false test) ∙ here)
+takes_new spot line old new none updates = grind (arith, nat_tests, spot_found spot, same_spot spot, some_same line)
 
 -- what is linked stays linked, and the line is
 linked_more : (spot other : Spot) (line i : ℕ) (old new : Spot → Option ℕ) (before after : List LineLink)

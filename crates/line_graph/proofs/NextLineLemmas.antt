@@ -1,26 +1,14 @@
 -- Next lines with the same label are found from the last line to the first, and lead through all lines of a piece.
-use Rattle.std.proofs.Common.{◌≡◌, ◌≢◌, ◌<◌, ◌≤◌, ℕ, ◌+◌, ◌-◌, ◌==◌, Bool, true, false, List, [], ◌∷◌, ◌++◌, length, get_or, set, replicate, filter, arith, refl, sym, ◌∙◌, ap, subst}
-use Rattle.std.proofs.lemmas.List.{append-nil, get_or-replicate, get_or-set_other, length-replicate, length-set}
+use Rattle.std.proofs.lemmas.Bool.Decides.{nat_tests}
+use Rattle.std.proofs.Common.{◌≡◌, ◌≢◌, ◌<◌, ◌≤◌, ℕ, ◌+◌, ◌-◌, ◌==◌, Bool, true, false, List, [], ◌∷◌, ◌++◌, length, get_or, set, arith, refl, sym, ◌∙◌, ap, subst}
+use Rattle.std.proofs.lemmas.List.{get_or-set_other, length-set}
 use Rattle.std.proofs.lemmas.Grind.{get_or-set_at}
-use Rattle.std.specs.List.{range_with_len}
 use Rattle.line_graph.specs.LineLabels.{AreAtMostIndex}
 use Rattle.line_graph.specs.NextLines.{AreNextFrom, IsFirstLabelled, lines_labelled_from}
 use Rattle.line_graph.specs.PieceLabels.{has_label, lines_labelled}
 use Rattle.line_graph.proofs.LabelLemmas.{not_same}
 use Rattle.line_graph.proofs.PieceLabelLemmas.{labels_take}
 use Rattle.lists_and_numbers.proofs.CallerLemmas.{filter_skips, same_number}
-
--- before any line is seen, no label has a first line
-pub none_seen : (labels : List ℕ) → AreNextFrom labels (length labels) (replicate (length labels) (length labels))
-none_seen labels = record {
-  sized = length-replicate (length labels) (length labels);
-  early = λ label. λ below. subst (λ (first : ℕ). IsFirstLabelled labels label (length labels) first)
-      (sym (get_or-replicate (length labels) label (length labels) 0 below)) (none label);
-  late = λ line. λ from. λ below. absurd (omega (arith, from, below));
-}
-  where
-    none : (label : ℕ) → IsFirstLabelled labels label (length labels) (length labels)
-    none label = record { from = omega arith; most = omega arith; has = λ below. absurd (omega (arith, below)); rest = refl }
 
 module _ (labels next more : List ℕ) (line : ℕ) (below : line < length labels) (low : AreAtMostIndex labels)
     (is : more ≡ set (set next (get_or labels line 0) line) line (get_or next (get_or labels line 0) 0))
@@ -104,29 +92,9 @@ pub record AreLabelledBefore (labels : List ℕ) (label line : ℕ) (lines : Lis
   pub has : line < length labels → get_or labels line 0 ≡ label
   pub all : lines ++ lines_labelled_from labels label line ≡ lines_labelled labels label
 
--- the chain begins at the first line of its label
-pub chain_begins : (labels : List ℕ) (label : ℕ) → label < length labels → get_or labels label 0 ≡ label
-    → AreLabelledBefore labels label label []
-chain_begins labels label below first = record { most = omega (arith, below); has = λ less. first; all = refl }
-
--- and goes on from a line to the next
+-- a chain goes on from a line to the next
 pub chain_more : (labels : List ℕ) (label line next : ℕ) (lines more : List ℕ) → line < length labels → more ≡ lines ++ line ∷ []
     → IsFirstLabelled labels (get_or labels line 0) (line + 1) next → AreLabelledBefore labels label line lines
     → AreLabelledBefore labels label next more
 chain_more labels label line next lines more below is first before =
-    let here : IsFirstLabelled labels label (line + 1) next =
-    subst (λ (k : ℕ). IsFirstLabelled labels k (line + 1) next) (before.has below) first in
-    record {
-      most = here.most;
-      has = here.has;
-      all = ap (λ (ls : List ℕ). more ++ ls) (sym here.rest)
-          ∙ labels_take labels label line lines more (lines_labelled labels label) below is (before.has below) before.all;
-    }
-
--- to the number of lines
-pub chain_ends : (labels : List ℕ) (label line : ℕ) (lines : List ℕ) → length labels ≤ line → AreLabelledBefore labels label line lines
-    → lines ≡ lines_labelled labels label
-chain_ends labels label line lines past before =
-    let none : length labels - line ≡ 0 = omega (arith, past) in
-    sym (append-nil lines)
-    ∙ sym (ap (λ (n : ℕ). lines ++ filter (has_label labels label) (range_with_len line n)) none) ∙ before.all
+    grind (arith, nat_tests, labels_take labels label line lines more (lines_labelled labels label) below is (before.has below) before.all)

@@ -1,4 +1,5 @@
 -- Lines with one label are the pieces of a drawing.
+use Rattle.std.proofs.lemmas.Bool.Decides.{nat_tests}
 use Rattle.std.proofs.Common.{◌≡◌, ◌≢◌, ◌<◌, ◌≤◌, ℕ, ◌+◌, ◌-◌, true, List, [], ◌∷◌, ◌++◌, length, map, filter, get_or, All, Contains, arith, refl, sym, ◌∙◌, ap, subst}
 use Rattle.std.proofs.lemmas.List.{append_assoc, append-nil}
 use Rattle.std.proofs.lemmas.List.Elements.{All-contains, All-filter, All-head, All-map, All-push, All-tail, filter_passes}
@@ -30,9 +31,7 @@ range_has at count n from to = (
 
 -- and are below its end
 range_below : (at count : ℕ) → All (λ line. line < at + count) (range_with_len at count)
-range_below at count k e there =
-    let place = get_or-range_with_len at count k e (omega (arith, length-range_with_len at count, there)) in
-    omega (arith, place, length-range_with_len at count, there)
+range_below at count k e there = grind (arith, nat_tests, get_or-range_with_len, length-range_with_len)
 
 -- labels of a drawing's lines
 module _ (d : DrawingValue) (labels : List ℕ) (are : ArePieceLabels d labels) where
@@ -233,9 +232,4 @@ all_cut d labels line pieces are all cut =
 pub labels_are : (d : DrawingValue) (links : List LineLink) (labels : List ℕ) → AreLinks d links → AreLabelsOfLinks links labels
     → length labels ≡ length d.lines
     → ArePieceLabels d labels
-labels_are d links labels are lines_labelled sized = record {
-  sized = sized;
-  low = lines_labelled.low;
-  reached = lines_labelled.reached d are.joined;
-  agree = are.met labels lines_labelled.agree;
-}
+labels_are d links labels are lines_labelled sized = grind (arith, nat_tests)

@@ -69,15 +69,7 @@ once n (x ∷ xs) pairs = by_test (x == n) refl (once n xs (λ i. λ j. λ d. λ
 
 over_one : (f : ℕ → ℕ) (x at n : ℕ) → at ≤ x → x < at + n → f x ≤ sum_over (λ y. cond (x == y) 1 0 * f y) at n
 over_one f x at zero from to = absurd (omega arith)
-over_one f x at (suc n) from to = by_test (x == at) refl (λ (h : at + 1 ≤ x). over_one f x (at + 1) n h (omega arith))
-  where
-    next : (m n : ℕ) → (m == n) ≡ false → n ≤ m → n + 1 ≤ m
-    next m n is h = grind (arith, nat_tests)
-
-    by_test : (t : Bool) → (x == at) ≡ t → (at + 1 ≤ x → f x ≤ sum_over (λ y. cond (x == y) 1 0 * f y) (at + 1) n)
-        → f x ≤ cond (x == at) 1 0 * f at + sum_over (λ y. cond (x == y) 1 0 * f y) (at + 1) n
-    by_test true is rest = rw is (omega (arith, ap f (same_number x at is)))
-    by_test false is rest = rw is (omega (arith, rest (next x at is from)))
+over_one f x at (suc n) from to = grind (arith, nat_tests, over_one f x (at + 1) n, same_number x)
 
 over_both : (f g h : ℕ → ℕ) → ((y : ℕ) → h y ≡ f y + g y) → (at n : ℕ) → sum_over h at n ≡ sum_over f at n + sum_over g at n
 over_both f g h is at zero = refl
@@ -252,8 +244,7 @@ over_items g f (x ∷ items) at is =
 line_cost : (d : DrawingValue) → KeepsDrawingLimits d → (k : ℕ) (x : LineValue) → slice_get d.lines k ≡ Some x → cost_of_line d k
     ≡ steps_of_line d.step x.points
 line_cost d keeps k x here =
-    let counted = cost_is d k (slice_get_within d.lines k x here) keeps in
-    omega (arith, counted, ap (λ (o : Option LineValue). steps_of_line d.step (optional_line_points o)) here)
+    grind (arith, nat_tests, cost_is d k (slice_get_within d.lines k x here) keeps, slice_get_within d.lines k x here)
 
 pub lines_cost : (d : DrawingValue) → KeepsDrawingLimits d → sum_over (cost_of_line d) 0 (length d.lines)
     ≡ sum_by (λ (line : LineValue). steps_of_line d.step line.points) d.lines

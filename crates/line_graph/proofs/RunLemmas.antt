@@ -1,4 +1,6 @@
 -- The acts of the commands that sew runs.
+use Rattle.std.proofs.Common.{arith}
+use Rattle.std.proofs.lemmas.Bool.Decides.{nat_tests}
 use Rattle.std.proofs.Common.{◌≡◌, ◌≢◌, ℕ, zero, suc, ◌+◌, ◌-◌, Bool, true, false, List, [], ◌∷◌, ◌++◌, map, replicate, All, ap, refl}
 use Rattle.std.proofs.lemmas.List.Elements.{All-head, All-tail}
 use Rattle.design_model.specs.declared.act.Act.{Act}
@@ -23,15 +25,13 @@ stops_come (suc k) rest acts come n = ap (λ more. act.Stop ∷ more) (stops_com
 stitches_come : (points : List Point) (rest : List Command) (acts : List Act) → Come false rest acts
     → Come false (map (λ p. Stitch p) points ++ rest) (map (λ p. act.Needle p false) points ++ acts)
 stitches_come [] rest acts come n = come n
-stitches_come (p ∷ points) rest acts come n =
-    ap (λ more. act.Needle p false ∷ more) (stitches_come points rest acts come (n + 1))
+stitches_come (p ∷ points) rest acts come n = grind (arith, nat_tests, stitches_come points rest acts come (n + 1))
 
 -- and the first of them holds it
 some_come : (points : List Point) (rest : List Command) (acts : List Act) → points ≢ [] → Come false rest acts
     → Come true (map (λ p. Stitch p) points ++ rest) (map (λ p. act.Needle p false) points ++ acts)
 some_come [] rest acts some come n = absurd (some refl)
-some_come (p ∷ points) rest acts some come n =
-    ap (λ more. act.Needle p false ∷ more) (stitches_come points rest acts come (n + 1))
+some_come (p ∷ points) rest acts some come n = grind (arith, nat_tests, stitches_come points rest acts come (n + 1))
 
 -- the commands that sew runs have the acts that sew them
 pub runs_come : (block : ℕ) (runs : List Run) → All HasNeedle runs → Come true (commands_after block runs) (sewn_acts_after block runs)

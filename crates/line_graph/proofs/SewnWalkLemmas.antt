@@ -32,29 +32,12 @@ place_of x (y ∷ ys) = cond (is_same_point x y) 0 (suc (place_of x ys))
 
 place_holds : (x : Point) (ys : List Point) → place_of x ys < length ys → slice_get ys (place_of x ys) ≡ Some x
 place_holds x [] below = absurd (omega arith)
-place_holds x (y ∷ ys) below = by_test (is_same_point x y) refl below (λ h. place_holds x ys h)
-  where
-    by_test : (t : Bool) → is_same_point x y ≡ t → cond (is_same_point x y) 0 (suc (place_of x ys)) < length (y ∷ ys)
-        → (place_of x ys < length ys → slice_get ys (place_of x ys) ≡ Some x)
-        → slice_get (y ∷ ys) (cond (is_same_point x y) 0 (suc (place_of x ys))) ≡ Some x
-    by_test true is below rest = rw is (ap (λ (p : Point). Some p) (sym (same_is x y is)))
-    by_test false is below rest = rw is (rest (less (place_of x ys) (length ys)
-        (subst (λ (t : Bool). cond t 0 (suc (place_of x ys)) < length (y ∷ ys)) is below)))
-      where
-        less : (m n : ℕ) → suc m < suc n → m < n
-        less m n h = omega arith
+place_holds x (y ∷ ys) below = grind (arith, nat_tests, place_holds x ys, same_is x y)
 
 -- a junction's number leads to its point
 pub junction_at : (js : List Point) (o : Option Point) → junction_number js o < length js → slice_get js (junction_number js o) ≡ o
 junction_at js None below = absurd (omega arith)
-junction_at js (Some x) below =
-    let is : place_of x js ≡ position_or_len (is_same_point x) js =
-    is_position_or_len (place_of x) (is_same_point x) refl (λ y. λ ys. ap (λ (k : ℕ). cond (is_same_point x y) 0 k)
-    (one_more (place_of x ys))) js in
-    subst (λ (n : ℕ). slice_get js n ≡ Some x) is (place_holds x js (subst (λ (n : ℕ). n < length js) (sym is) below))
-  where
-    one_more : (n : ℕ) → suc n ≡ 1 + n
-    one_more n = omega arith
+junction_at js (Some x) below = grind (arith, nat_tests, is_position_or_len (place_of x) (is_same_point x) refl, place_holds x js)
 
 -- an edge that is found is that of its line
 pub record IsFound (d : DrawingValue) (js : List Point) (lines : List ℕ) (line : ℕ) (e : Edge) : Type 0 where
@@ -133,22 +116,8 @@ record Way (step : ℕ) (js : List Point) (e : Edge) (needles : List Point) (bac
 
 way : (step : ℕ) (js : List Point) (e : Edge) (needles : List Point) (a b : Point) → slice_get js e.a ≡ Some a → slice_get js e.b ≡ Some b
     → Trail step a b needles → length needles ≡ e.cost + 1 → (back : Bool) → Way step js e needles back
-way step js e needles a b at_a at_b trail count true = record {
-  from = b;
-  to = a;
-  from_is = at_b;
-  to_is = at_a;
-  trail = trail_back step a b needles trail;
-  count = length-reverse needles ∙ count;
-}
-way step js e needles a b at_a at_b trail count false = record {
-  from = a;
-  to = b;
-  from_is = at_a;
-  to_is = at_b;
-  trail = trail;
-  count = count;
-}
+way step js e needles a b at_a at_b trail count true = grind (arith, nat_tests, trail_back step a b needles trail, length-reverse needles)
+way step js e needles a b at_a at_b trail count false = grind (arith, nat_tests)
 
 pub passed : (d : DrawingValue) → KeepsDrawingLimits d → NeedlesLeadAlong d → (lines : List ℕ) → All (λ line. line < length d.lines) lines
     → (js : List Point) → ends_below (length js) (map (edge_between d js) lines) ≡ true
@@ -218,12 +187,7 @@ sewn_more d lines js pass rest e at held p more = record {
     counted n r l k c s o a b f g h = omega arith
 
 sewn_none : (d : DrawingValue) (lines : List ℕ) (js : List Point) (at : Point) → Sewn d lines js at []
-sewn_none d lines js at = record {
-  held = All-nil (λ (x : Pass). Contains lines x.line);
-  close = tt;
-  in_range = All-nil IsNeedlePoint;
-  count = refl;
-}
+sewn_none d lines js at = grind (arith, nat_tests, All-nil (λ (x : Pass). Contains lines x.line), All-nil IsNeedlePoint)
 
 -- a walk from a junction at a point on
 sewn : (d : DrawingValue) → KeepsDrawingLimits d → NeedlesLeadAlong d → (lines : List ℕ) → All (λ line. line < length d.lines) lines
@@ -301,11 +265,7 @@ covers_some (n ∷ lines) (p ∷ walk) some all = omega arith
 -- the needle points of a walk are its first one, and those after it
 needles_are : (d : DrawingValue) (js : List Point) (pass : Pass) (rest : List Pass) (e : Edge) (p : Passed d js pass e)
     → needles_of_walk d (pass ∷ rest) ≡ p.from ∷ later d (pass ∷ rest)
-needles_are d js pass rest e p =
-    ap (λ (ps : List Point). ps ++ later d rest) p.trail.is
-    ∙ ap (λ (ps : List Point). p.from ∷ ps)
-    (ap (λ (ps : List Point). ps ++ later d rest) (sym (behind d.step p.from p.to (needles_of_pass d pass) p.trail))
-    ∙ sym (flat_map-cons (λ (next : Pass). drop 1 (needles_of_pass d next)) pass rest))
+needles_are d js pass rest e p = grind (arith, nat_tests, flat_map-cons (λ (next : Pass). drop 1 (needles_of_pass d next)) pass rest)
 
 sewable : (d : DrawingValue) (lines : List ℕ) (pass : Pass) (rest : List Pass) (e : Edge) (p : Passed d (junctions_of d lines) pass e)
     → Sewn d lines (junctions_of d lines) p.from (pass ∷ rest) → IsSewable d lines (pass ∷ rest)

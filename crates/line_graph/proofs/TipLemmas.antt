@@ -1,4 +1,5 @@
 -- The junctions of lines are the ends of these lines, each once.
+use Rattle.std.proofs.lemmas.Bool.Decides.{nat_tests}
 use Rattle.std.proofs.Common.{◌≡◌, ◌<◌, ◌≤◌, ◌⊎◌, inl, inr, ℕ, ◌||◌, Bool, true, false, cond, List, [], ◌∷◌, ◌++◌, length, map, get_or, Option, Some, All, AllPairs, Contains, arith, refl, sym, ◌∙◌, ap, subst}
 use Rattle.std.proofs.lemmas.Bool.{both_ways}
 use Rattle.std.proofs.lemmas.List.Concat.{flat_map-cons}
@@ -31,13 +32,8 @@ tip_seen : (seen points : List Point) (x : Point) → IsTip points x → list_an
 tip_seen seen [] x (inl is) = absurd (cc)
 tip_seen seen [] x (inr is) = absurd (cc)
 tip_seen seen (p ∷ rest) x (inl is) =
-    let one : p ≡ x = cc in
-    put_keeps (is_same_point x) (with_point seen p) (last_point_or p rest)
-    (subst (λ (y : Point). list_any (is_same_point y) (with_point seen p) ≡ true) one (put_found seen p))
-tip_seen seen (p ∷ rest) x (inr is) =
-    let one : last_point_or p rest ≡ x = cc in
-    subst (λ (y : Point). list_any (is_same_point y) (with_point (with_point seen p) (last_point_or p rest)) ≡ true) one
-    (put_found (with_point seen p) (last_point_or p rest))
+    grind (arith, nat_tests, put_keeps (is_same_point x) (with_point seen p) (last_point_or p rest), put_found seen p)
+tip_seen seen (p ∷ rest) x (inr is) = grind (arith, nat_tests, put_found (with_point seen p) (last_point_or p rest))
 
 -- and so is each end of each of the lines
 tips_seen : (d : DrawingValue) (lines : List ℕ) (seen : List Point) (line : ℕ) → Contains lines line → (x : Point)
@@ -70,12 +66,7 @@ tips_seen d lines seen line among x tip =
 -- what is found has a number below the count
 pub found_below : (test : Point → Bool) (xs : List Point) → list_any test xs ≡ true → position_or_len test xs < length xs
 found_below test [] found = absurd (cc)
-found_below test (x ∷ xs) found = by_test (test x) refl found (λ later. found_below test xs later)
-  where
-    by_test : (t : Bool) → test x ≡ t → (t || list_any test xs) ≡ true → (list_any test xs ≡ true → position_or_len test xs < length xs)
-        → position_or_len test (x ∷ xs) < length (x ∷ xs)
-    by_test true is found rest = rw is (omega arith)
-    by_test false is found rest = rw is (omega (arith, rest found))
+found_below test (x ∷ xs) found = grind (arith, nat_tests, found_below test xs)
 
 -- both ends of each edge are junctions
 edge_within : (d : DrawingValue) → KeepsDrawingLimits d → (lines : List ℕ) (line : ℕ) → line < length d.lines → Contains lines line
@@ -110,21 +101,12 @@ edges_within d keeps lines there =
 
 -- points that are the same either way round
 differ_turned : (p q : Point) → is_same_point p q ≡ false → is_same_point q p ≡ false
-differ_turned p q apart = by_test (is_same_point q p) refl
-  where
-    by_test : (t : Bool) → is_same_point q p ≡ t → is_same_point q p ≡ false
-    by_test true is = absurd (both_ways (is_same_point p q) apart (same_found p q (sym (same_is q p is))))
-    by_test false is = is
+differ_turned p q apart = grind (arith, nat_tests, same_found p q, same_is q p)
 
 -- where nothing is found, nothing is
 none_found : (test : Point → Bool) (xs : List Point) → list_any test xs ≡ false → All (λ x. test x ≡ false) xs
 none_found test [] none = All-nil (λ x. test x ≡ false)
-none_found test (x ∷ xs) none = by_test (test x) refl none (λ later. none_found test xs later)
-  where
-    by_test : (t : Bool) → test x ≡ t → (t || list_any test xs) ≡ false → (list_any test xs ≡ false → All (λ x. test x ≡ false) xs)
-        → All (λ x. test x ≡ false) (x ∷ xs)
-    by_test true is none rest = absurd (cc)
-    by_test false is none rest = All-cons (λ x. test x ≡ false) x xs is (rest none)
+none_found test (x ∷ xs) none = grind (arith, nat_tests, none_found test xs, All-cons (λ x. test x ≡ false) x xs)
 
 -- junctions differ
 points_differ : (points more : List Point) → AllPairs (λ a b. is_same_point a b ≡ false) points
@@ -140,8 +122,7 @@ points_differ points (p ∷ more) differ = points_differ (with_point points p) m
 
 -- so all junctions of a piece differ
 pub junctions_differ : (d : DrawingValue) (lines : List ℕ) → AllPairs (λ a b. is_same_point a b ≡ false) (junctions_of d lines)
-junctions_differ d lines =
-    points_differ [] (flat_map (λ line. endpoints (points_of d line)) lines) (λ i. λ j. λ x. λ less. λ below. absurd (omega (arith, below)))
+junctions_differ d lines = grind (arith, nat_tests, points_differ [] (flat_map (λ line. endpoints (points_of d line)) lines))
 
 -- each junction is an end of one of the lines
 seen_tips : (P : Point → Type 0) (points more : List Point) → All P points → All P more → All P (with_points points more)

@@ -1,4 +1,5 @@
 -- Needle points of passes and of walks, as trails of steps within the longest step.
+use Rattle.std.proofs.lemmas.Bool.Decides.{nat_tests}
 use Rattle.std.proofs.Common.{◌≡◌, ℕ, ℤ, ◌-ℤ◌, unsigned_abs, IsTrue, List, [], ◌∷◌, reverse, Some, All, arith, refl, sym, ◌∙◌, ap, subst}
 use Rattle.std.proofs.lemmas.Int.{ints}
 use Rattle.std.proofs.lemmas.List.Elements.{All-cons, All-head, All-nil, All-tail}
@@ -21,15 +22,7 @@ pub record Trail (step : ℕ) (from to : Point) (points : List Point) : Type 0 w
 pub trail_of : (step : ℕ) (from to : Point) (points : List Point) → first_point points ≡ Some from → last_point points ≡ Some to
     → AreClose step points → All IsNeedlePoint points → Trail step from to points
 trail_of step from to [] first last close in_range = absurd (cc)
-trail_of step from to (p ∷ rest) first last close in_range =
-    let here : p ≡ from = some_same p from first in
-    record {
-      rest = rest;
-      is = ap (λ (q : Point). q ∷ rest) here;
-      last = ap (λ (q : Point). last_point_or q rest) (sym here) ∙ some_same _ _ last;
-      close = subst (λ (q : Point). AreCloseAfter step q rest) here close;
-      in_range = subst (λ (q : Point). All IsNeedlePoint (q ∷ rest)) here in_range;
-    }
+trail_of step from to (p ∷ rest) first last close in_range = grind (arith, nat_tests, some_same p from first, some_same)
 
 -- a step is as long the other way
 turned : (limit : ℕ) (p q : Point) → IsTrue (is_point_within limit (move_between p q)) → IsTrue (is_point_within limit (move_between q p))

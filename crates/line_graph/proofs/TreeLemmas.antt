@@ -33,51 +33,23 @@ bit_few false = omega arith
 -- no number from there on is below
 marks_none : (c n : ℕ) → n ≤ c → marks c n ≡ 0
 marks_none c zero less = refl
-marks_none c (suc n) less = rw (apart n c (omega (arith, less)), marks_none c n (omega (arith, less))) refl
-  where
-    apart : (n c : ℕ) → n < c → (n == c) ≡ false
-    apart n c less = grind (arith, nat_tests)
+marks_none c (suc n) less = grind (arith, nat_tests, marks_none c n (omega (arith, less)))
 
 -- a number is there once at most
 marks_few : (c n : ℕ) → marks c n ≤ 1
 marks_few c zero = omega arith
-marks_few c (suc n) = by_test (n == c) refl (marks_few c n)
-  where
-    by_test : (t : Bool) → (n == c) ≡ t → marks c n ≤ 1 → one_if (n == c) + marks c n ≤ 1
-    by_test true is rest = omega (arith, marks_none c n (omega (arith, same_number n c is)), bit_few (n == c))
-    by_test false is rest = omega (arith, ap one_if is, rest)
+marks_few c (suc n) = grind (arith, nat_tests, marks_few c n, marks_none c n, same_number n c, bit_few (n == c))
 
 -- both ends of an edge have one leader
 leader_keeps : (es : List Edge) (i : ℕ) (e : Edge) → slice_get es i ≡ Some e → leader es e.a ≡ leader es e.b
 leader_keeps [] i e is = absurd (cc)
-leader_keeps (x ∷ es) zero e is =
-    let one : x ≡ e = cc in
-    subst (λ (y : Edge). led (leader es x.a) (leader es x.b) (leader es y.a) ≡ led (leader es x.a) (leader es x.b) (leader es y.b)) one
-    (both (leader es x.a) (leader es x.b))
-  where
-    alike : (a b : ℕ) (t : Bool) → cond t a a ≡ a
-    alike a b true = refl
-    alike a b false = refl
-
-    both : (a b : ℕ) → led a b a ≡ led a b b
-    both a b = alike a b (a == b) ∙ sym (ap (λ (t : Bool). cond t a b) (eq_self b))
+leader_keeps (x ∷ es) zero e is = grind (arith, nat_tests, eq_self)
 leader_keeps (x ∷ es) (suc i) e is = ap (led (leader es x.a) (leader es x.b)) (leader_keeps es i e is)
 
 -- an edge takes no more than one leader away
 leader_falls : (f : ℕ → ℕ) (first other n : ℕ) → leaders f n ≤ leaders (λ j. led first other (f j)) n + marks other n
 leader_falls f first other zero = omega arith
-leader_falls f first other (suc n) =
-    omega (arith, leader_falls f first other n, by_test (f n == n) refl (f n == other) refl)
-  where
-    by_test : (t : Bool) → (f n == n) ≡ t → (u : Bool) → (f n == other) ≡ u
-        → one_if (f n == n) ≤ one_if (led first other (f n) == n) + one_if (n == other)
-    by_test true here true follows =
-        let is : (n == other) ≡ true = grind (arith, nat_tests) in
-        omega (arith, ap one_if is, bit_few (f n == n))
-    by_test true here false follows =
-        let is : (led first other (f n) == n) ≡ true = ap (λ (u : Bool). cond u first (f n) == n) follows ∙ here in
-        omega (arith, ap one_if is, bit_few (f n == n))
-    by_test false here u follows = omega (arith, ap one_if here)
+leader_falls f first other (suc n) = grind (arith, nat_tests, leader_falls f first other n)
 
 -- without edges each junction leads itself
 all_lead : (n : ℕ) → leaders (λ j. j) n ≡ n
@@ -93,15 +65,7 @@ leaders_left (e ∷ es) n =
 -- one leader of all is one at most
 one_leader : (f : ℕ → ℕ) (c n : ℕ) → ((j : ℕ) → j < n → f j ≡ c) → leaders f n ≤ marks c n
 one_leader f c zero all = omega arith
-one_leader f c (suc n) all =
-    omega (arith, one_leader f c n (λ j. λ below. all j (omega (arith, below))), by_test (f n == n) refl)
-  where
-    by_test : (t : Bool) → (f n == n) ≡ t → one_if (f n == n) ≤ one_if (n == c)
-    by_test true here =
-        let at : f n ≡ c = all n (omega arith) in
-        let is : (n == c) ≡ true = grind (arith, nat_tests) in
-        omega (arith, ap one_if is, bit_few (f n == n))
-    by_test false here = omega (arith, ap one_if here)
+one_leader f c (suc n) all = grind (arith, nat_tests, one_leader f c n (λ j. λ below. all j (omega (arith, below))))
 
 -- a connected graph has at least as many edges as junctions, less one
 pub junctions_few : (es : List Edge) (n : ℕ) → IsConnectedGraph es n → n ≤ length es + 1

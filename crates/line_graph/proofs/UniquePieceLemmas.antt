@@ -1,4 +1,5 @@
 -- A drawing has one list of pieces.
+use Rattle.std.proofs.lemmas.Bool.Decides.{nat_tests}
 use Rattle.std.proofs.Common.{◌≡◌, ◌≢◌, ◌<◌, inl, inr, ℕ, zero, suc, List, [], ◌∷◌, length, All, AllPairs, Contains, arith, refl, sym, ◌∙◌, ap, subst}
 use Rattle.std.proofs.lemmas.List.Elements.{All-contains, Contains-append_cases}
 use Rattle.std.proofs.lemmas.List.Kept.{AllPairs-from_increasing}
@@ -40,9 +41,7 @@ heads_same f x y xs ys up rise (suc k, below, is) (suc j, within, at) =
 -- a later item of a list that rises is a later one of the other list
 later : {X : Type 0} (f : X → ℕ) (x y : X) (xs ys : List X) (n : X) → AllPairs (λ a b. f a < f b) (x ∷ xs) → x ≡ y → Contains xs n
     → Contains (y ∷ ys) n → Contains ys n
-later f x y xs ys n up same has (zero, below, is) =
-    let more : f x < f n = pairs_head (λ a b. f a < f b) x xs n up has in
-    absurd (omega (arith, more, ap f (same ∙ is)))
+later f x y xs ys n up same has (zero, below, is) = grind (arith, nat_tests, pairs_head (λ a b. f a < f b) x xs n up has)
 later f x y xs ys n up same has (suc k, below, is) = (k, omega (arith, below), is)
 
 -- an item of the others is one of the list

@@ -69,20 +69,8 @@ end_of_line d lines j below =
 -- so it has a line end
 degree_some : (edges : List Edge) (e : Edge) (i j : ℕ) → slice_get edges i ≡ Some e → (e.a ≡ j) ⊎ (e.b ≡ j) → 1 ≤ degree edges j
 degree_some [] e i j is at = absurd (cc)
-degree_some (x ∷ edges) e zero j is (inl at) =
-    let one : x ≡ e = cc in
-    let here : (x.a == j) ≡ true = found x.a j (ap (λ (y : Edge). y.a) one ∙ at) in
-    omega (arith, ap one_if here)
-  where
-    found : (m n : ℕ) → m ≡ n → (m == n) ≡ true
-    found m n is = grind (arith, nat_tests)
-degree_some (x ∷ edges) e zero j is (inr at) =
-    let one : x ≡ e = cc in
-    let here : (x.b == j) ≡ true = found x.b j (ap (λ (y : Edge). y.b) one ∙ at) in
-    omega (arith, ap one_if here)
-  where
-    found : (m n : ℕ) → m ≡ n → (m == n) ≡ true
-    found m n is = grind (arith, nat_tests)
+degree_some (x ∷ edges) e zero j is (inl at) = grind (arith, nat_tests)
+degree_some (x ∷ edges) e zero j is (inr at) = grind (arith, nat_tests)
 degree_some (x ∷ edges) e (suc i) j is at = omega (arith, degree_some edges e i j is at)
 
 -- the edge of a line is at the line's index
@@ -208,22 +196,7 @@ all_costs (e ∷ edges) all =
 -- the number of a junction is below their count
 among_below : (block : ℕ) (js : List Point) (spots : List Spot) → is_below (length js) (first_junction_among block js spots) ≡ true
 among_below block js [] = refl
-among_below block js (spot ∷ rest) =
-    either_below (junction_at_spot block js spot) (first_junction_among block js rest) (at_below (spot.block == block))
-    (among_below block js rest)
-  where
-    either_below : (a b : Option ℕ) → is_below (length js) a ≡ true → is_below (length js) b ≡ true
-        → is_below (length js) (option_or a b) ≡ true
-    either_below None b one other = other
-    either_below (Some n) b one other = one
-
-    found_below : (t : Bool) (n : ℕ) → nat_lt n (length js) ≡ t → is_below (length js) (cond t (Some n) None) ≡ true
-    found_below true n is = is
-    found_below false n is = refl
-
-    at_below : (t : Bool) → is_below (length js) (cond t (position (is_same_point spot.at) js) None) ≡ true
-    at_below true = found_below (nat_lt (position_or_len (is_same_point spot.at) js) (length js)) _ refl
-    at_below false = refl
+among_below block js (spot ∷ rest) = grind (arith, nat_tests, among_below block js rest)
 
 -- the graph of lines that are connected, and that no other touches, is a piece
 pub part_kept : SplitPointsLead → (d : DrawingValue) → KeepsDrawingLimits d → (lines : List ℕ) → IsPiece d lines
