@@ -1,5 +1,5 @@
 -- Lemmas that this crate and those above cite.
-use Rattle.std.proofs.Common.{AllPairs, List, None, Option, Some, [], ap, arith, false, get_or, length, map, nat_lt, refl, replicate, slice_get, subst, suc, sum_by, sym, true, zero, ℕ, ◌%◌, ◌&&◌, ◌*◌, ◌++◌, ◌+◌, ◌-◌, ◌<◌, ◌==◌, ◌∷◌, ◌≡◌, ◌≤◌}
+use Rattle.std.proofs.Common.{AllPairs, List, None, Option, Some, [], ap, arith, false, get_or, length, map, nat_lt, refl, replicate, slice_get, subst, suc, sum_by, sym, true, zero, ℕ, ◌&&◌, ◌*◌, ◌++◌, ◌+◌, ◌-◌, ◌<◌, ◌==◌, ◌∷◌, ◌≡◌, ◌≤◌}
 use Rattle.std.proofs.lemmas.Bool.{and_parts, ltb-true}
 use Rattle.std.proofs.lemmas.Bool.Decides.{nat_tests}
 use Rattle.std.proofs.lemmas.List.{length-append, length-map, length-replicate}

@@ -1,5 +1,5 @@
 -- The choosing of starts and ends: labels decide which spots are connected.
-use Rattle.std.proofs.Common.{◌≡◌, ◌<◌, ◌≤◌, ◌⊎◌, ℕ, ◌+◌, ◌==◌, Bool, true, false, ◌||◌, List, [], ◌∷◌, ◌++◌, length, get_or, set, Some, Ok, Err, ◌≢◌, All, arith, refl, sym, ◌∙◌, ap, subst}
+use Rattle.std.proofs.Common.{◌≡◌, ◌<◌, ◌≤◌, ◌⊎◌, ℕ, ◌==◌, Bool, true, false, ◌||◌, List, [], ◌∷◌, ◌++◌, length, get_or, set, Some, Ok, Err, ◌≢◌, All, arith, refl, sym, ◌∙◌, ap, subst}
 use Rattle.std.proofs.lemmas.Bool.{and_parts, both_ways, or_parts}
 use Rattle.std.proofs.lemmas.Bool.Decides.{nat_tests}
 use Rattle.std.proofs.lemmas.List.{get_or-set_other, get_or-set_same, get_or_default, length-set}
@@ -129,15 +129,12 @@ one_chosen lines labels old new spot here apart below spots taken chosen = recor
     none_of : (spots : List Spot) → list_any (λ (s : Spot). are_connected_spots lines s spot) spots ≡ false
         → All (λ (s : Spot). are_connected_spots lines s spot ≡ false) spots
     none_of [] none = All-nil (λ (s : Spot). are_connected_spots lines s spot ≡ false)
-    none_of (s ∷ rest) none =
-        let parts = or_parts (are_connected_spots lines s spot) (list_any (λ (s : Spot). are_connected_spots lines s spot) rest) none in
-        All-cons (λ (s : Spot). are_connected_spots lines s spot ≡ false) s rest parts.0 (none_of rest parts.1)
+    none_of (s ∷ rest) none = grind (arith, nat_tests, or_parts, All-cons, none_of rest)
 
     with_one : (label : ℕ) (t : Bool) → (label_at lines labels spot == label) ≡ t
         → list_any (λ (s : Spot). label_at lines labels s == label) (old.spots.items ++ spot ∷ [])
         ≡ (list_any (λ (s : Spot). label_at lines labels s == label) old.spots.items || (t || false))
-    with_one label t is = list_any-append (λ (s : Spot). label_at lines labels s == label) old.spots.items (spot ∷ [])
-        ∙ ap (λ (u : Bool). list_any (λ (s : Spot). label_at lines labels s == label) old.spots.items || (u || false)) is
+    with_one label t is = grind (arith, nat_tests, list_any-append)
 
     or_true : (a : Bool) → true ≡ (a || (true || false))
     or_true true = refl
@@ -157,18 +154,8 @@ one_chosen lines labels old new spot here apart below spots taken chosen = recor
     at_label : (label : ℕ) (t : Bool) → (label == label_at lines labels spot) ≡ t
         → get_or (set old.taken.items (label_at lines labels spot) true) label false
         ≡ list_any (λ (s : Spot). label_at lines labels s == label) (old.spots.items ++ spot ∷ [])
-    at_label label true is =
-        let one : label ≡ label_at lines labels spot = same_number label (label_at lines labels spot) is in
-        ap (λ (k : ℕ). get_or (set old.taken.items (label_at lines labels spot) true) k false) one
-        ∙ (get_or-set_same old.taken.items (label_at lines labels spot) true false below
-        ∙ (or_true (list_any (λ (s : Spot). label_at lines labels s == label) old.spots.items)
-        ∙ sym (with_one label true (turned label (label_at lines labels spot) true is))))
-    at_label label false is =
-        get_or-set_other old.taken.items (label_at lines labels spot) label true false
-        (differ label (label_at lines labels spot) is)
-        ∙ (chosen.each label
-        ∙ (or_false (list_any (λ (s : Spot). label_at lines labels s == label) old.spots.items)
-        ∙ sym (with_one label false (turned label (label_at lines labels spot) false is))))
+    at_label label true is = grind (arith, nat_tests, same_number label, get_or-set_same, or_true, with_one label true, turned label)
+    at_label label false is = grind (arith, nat_tests, get_or-set_other, differ label, or_false, with_one label false, turned label)
 
 -- a junction that is to be added, whose first line was looked for
 module _ (d : DrawingValue) (labels : List ℕ) (old : ChosenSpots) (spot : Spot) (line : ℕ) (lines : List LineValue)
@@ -183,19 +170,13 @@ module _ (d : DrawingValue) (labels : List ℕ) (old : ChosenSpots) (spot : Spot
   none_there slice slice_is end = rw (is_none (has_end_at_spot spot) d.lines (sym place ∙ (end ∙ ap length slice_is))) refl
 
   here : (slice : List LineValue) → slice ≡ d.lines → line ≢ length slice → is_junction d.lines spot ≡ true
-  here slice slice_is inside =
-      let most = ap length same_lines in
-      let same_most = ap length slice_is in
-      is_found (has_end_at_spot spot) d.lines (omega (arith, inside, within, most, same_most, place))
+  here slice slice_is inside = grind (arith, nat_tests, is_found (has_end_at_spot spot) d.lines, place)
 
   label_is : get_or labels line 0 ≡ label_at d.lines labels spot
   label_is = ap (λ (k : ℕ). get_or labels k 0) place
 
   label_below : is_junction d.lines spot ≡ true → label_at d.lines labels spot < length old.taken.items
-  label_below found =
-      let there = (junction_end d spot found).there in
-      let low = are.low (position_or_len (has_end_at_spot spot) d.lines) (omega (arith, there, are.sized)) in
-      omega (arith, there, low, chosen.sized)
+  label_below found = grind (arith, nat_tests, junction_end d spot found)
 
   -- the table records whether its piece has one
   told : is_junction d.lines spot ≡ true → (t e : Bool) → t ≡ get_or old.taken.items (get_or labels line 0) e
@@ -209,22 +190,16 @@ module _ (d : DrawingValue) (labels : List ℕ) (old : ChosenSpots) (spot : Spot
   pub one_there : (slice : List LineValue) → slice ≡ d.lines → line ≢ length slice → (t : Bool)
       → t ≡ get_or old.taken.items (get_or labels line 0) t → t ≡ true
       → spot_added d.lines old.spots.items spot ≡ Err kind.EndRepeated
-  one_there slice slice_is inside t at is =
-      let found = here slice slice_is inside in
-      rw (found, told found t t at ∙ is) refl
+  one_there slice slice_is inside t at is = grind (arith, nat_tests, here slice slice_is inside, told)
 
   pub one_added : (slice : List LineValue) → slice ≡ d.lines → line ≢ length slice → (t : Bool)
       → t ≡ get_or old.taken.items (get_or labels line 0) t → t ≡ false → (more : List Spot) → more ≡ old.spots.items ++ spot ∷ []
       → spot_added d.lines old.spots.items spot ≡ Ok more
-  one_added slice slice_is inside t at is more added =
-      let found = here slice slice_is inside in
-      rw (found, told found t t at ∙ is, added) refl
+  one_added slice slice_is inside t at is more added = grind (arith, nat_tests, here slice slice_is inside, told)
 
   pub more_chosen : (slice : List LineValue) → slice ≡ d.lines → line ≢ length slice → (t : Bool)
       → t ≡ get_or old.taken.items (get_or labels line 0) t → t ≡ false → (new : ChosenSpots)
       → new.spots.items ≡ old.spots.items ++ spot ∷ [] → new.taken.items ≡ set old.taken.items (get_or labels line 0) true
       → AreChosen d.lines labels new
   more_chosen slice slice_is inside t at is new added set_is =
-      let found = here slice slice_is inside in
-      one_chosen d.lines labels old new spot found (told found t t at ∙ is) (label_below found) added
-      (set_is ∙ ap (λ (k : ℕ). set old.taken.items k true) label_is) chosen
+      grind (arith, nat_tests, here slice slice_is inside, one_chosen d.lines labels old new spot, told, label_below, label_is)

@@ -1,7 +1,7 @@
 -- Two spots are connected by lines exactly where lines at them are connected.
 use Rattle.std.proofs.Common.{arith}
 use Rattle.std.proofs.lemmas.Bool.Decides.{nat_tests}
-use Rattle.std.proofs.Common.{◌≡◌, ◌⊎◌, inl, inr, ℕ, zero, suc, Bool, true, false, cond, List, [], ◌∷◌, map, slice_get, get_or, Some, All, refl, sym, ◌∙◌, ap, subst}
+use Rattle.std.proofs.Common.{◌≡◌, ◌⊎◌, inl, inr, ℕ, zero, suc, Bool, true, false, cond, List, [], ◌∷◌, map, slice_get, Some, All, refl, sym, ◌∙◌, ap, subst}
 use Rattle.std.proofs.lemmas.List.Elements.{All-head, All-tail}
 use Rattle.std.proofs.lemmas.Option.{slice_get-get_or}
 use Rattle.design_model.specs.declared.point.Point.{Point}
@@ -141,9 +141,7 @@ at_one line stands a b one two = by_points line.points refl one two
     both ps = merged_representative (map (spot_on line) (endpoints ps)) stands
 
     first_stands : (p : Point) (more : List Point) → both (p ∷ more) (spot_on line p) ≡ stands (spot_on line (last_point_or p more))
-    first_stands p more =
-        ap (λ (t : Bool). cond t (stands (spot_on line (last_point_or p more))) (stands (spot_on line p))) (spot_found (stands
-        (spot_on line p)))
+    first_stands p more = grind (arith, nat_tests, spot_found (stands (spot_on line p)))
 
     last_stands : (p : Point) (more : List Point)
         → both (p ∷ more) (spot_on line (last_point_or p more)) ≡ stands (spot_on line (last_point_or p more))
@@ -172,9 +170,7 @@ at_one line stands a b one two = by_points line.points refl one two
     by_points : (ps : List Point) → line.points ≡ ps → AtEnd line a → AtEnd line b → both ps a ≡ both ps b
     by_points [] is (block, inl at) other = absurd (no_first a.at (ap first_point (sym is) ∙ at))
     by_points [] is (block, inr at) other = absurd (no_last a.at (ap last_point (sym is) ∙ at))
-    by_points (p ∷ more) is one two =
-        let End : Spot → List Point → Type 0 = λ s. λ ps. (first_point ps ≡ Some s.at) ⊎ (last_point ps ≡ Some s.at) in
-        end_stands p more a one.0 (subst (End a) is one.1) ∙ sym (end_stands p more b two.0 (subst (End b) is two.1))
+    by_points (p ∷ more) is one two = grind (arith, nat_tests, end_stands p more a one.0, one, end_stands p more b two.0, two)
 
 -- and for both ends of each of the lines
 line_stands : (lines : List LineValue) (i : ℕ) (line : LineValue) → slice_get lines i ≡ Some line → (a b : Spot) → AtEnd line a

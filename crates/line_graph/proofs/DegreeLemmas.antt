@@ -1,5 +1,5 @@
 -- Degrees of junctions, counted line end by line end.
-use Rattle.std.proofs.Common.{◌≡◌, ◌<◌, ◌≤◌, ℕ, zero, suc, ◌+◌, ◌*◌, ◌==◌, Bool, true, false, List, [], ◌∷◌, ◌++◌, length, get_or, set, take, replicate, nat_lt, ◌&&◌, All, arith, refl, sym, ◌∙◌, ap}
+use Rattle.std.proofs.Common.{◌≡◌, ◌<◌, ◌≤◌, ℕ, zero, suc, ◌+◌, ◌*◌, ◌==◌, true, false, List, [], ◌∷◌, ◌++◌, length, get_or, set, take, replicate, nat_lt, ◌&&◌, All, arith, refl, sym, ◌∙◌, ap}
 use Rattle.std.proofs.lemmas.Bool.{and_parts}
 use Rattle.std.proofs.lemmas.Bool.Decides.{nat_tests}
 use Rattle.std.proofs.lemmas.List.{get_or-set_other, get_or-set_same, length-take, take_more}
@@ -46,8 +46,7 @@ table_more f at (suc n) zero below =
 
     later : (k n : ℕ) → at < k → table f k n ≡ table (λ j. f j + one_if (at + 0 == j)) k n
     later k zero less = refl
-    later k (suc n) less = ap (λ (x : ℕ). x ∷ table f (k + 1) n) (apart (f k) k less)
-        ∙ ap (λ (ks : List ℕ). (f k + one_if (at + 0 == k)) ∷ ks) (later (k + 1) n (omega (arith, less)))
+    later k (suc n) less = grind (arith, nat_tests, apart (f k) k less, less, later (k + 1) n (omega (arith, less)))
 table_more f at (suc n) (suc k) below =
     ap (λ (x : ℕ). x ∷ set (table f (at + 1) n) k (get_or (table f (at + 1) n) k 0 + 1)) (apart (f at))
     ∙ ap (λ (ks : List ℕ). (f at + one_if (at + suc k == at)) ∷ ks) (table_more f (at + 1) n k (omega (arith, below))

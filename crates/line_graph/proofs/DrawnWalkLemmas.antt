@@ -158,8 +158,7 @@ given_at d lines spots =
     all_at : (spots : List Spot)
         → IsAt js (option_map (λ p. junction_number js (Some p)) (given_point d lines spots)) (given_point d lines spots)
     all_at [] = tt
-    all_at (spot ∷ rest) =
-        at_spot spot rest (spot.block == block_of d (first_line lines)) (list_any (is_same_point spot.at) js) refl (all_at rest)
+    all_at (spot ∷ rest) = grind (arith, nat_tests, at_spot spot rest (spot.block == block_of d (first_line lines)), js, all_at rest)
 
 -- a thread that leads between two points
 record Runs (d : DrawingValue) (lines : List ℕ) (walk : List Pass) (start end : Option Point) : Type 0 where

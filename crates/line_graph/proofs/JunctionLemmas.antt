@@ -1,13 +1,12 @@
 -- Numbers of junctions, in the order in which lines name them.
 use Rattle.std.proofs.lemmas.Bool.Decides.{nat_tests}
-use Rattle.std.proofs.Common.{◌≡◌, ◌<◌, ◌≤◌, ℕ, ◌+◌, ◌*◌, Bool, true, false, cond, ◌||◌, List, [], ◌∷◌, ◌++◌, length, map, drop, get_or, Some, arith, refl, sym, ◌∙◌, ap, inl, inr}
+use Rattle.std.proofs.Common.{◌≡◌, ◌<◌, ◌≤◌, ℕ, ◌+◌, ◌*◌, Bool, true, false, List, [], ◌∷◌, ◌++◌, length, map, drop, get_or, Some, arith, refl, sym, ◌∙◌, ap, inl, inr}
 use Rattle.std.proofs.lemmas.Bool.{or_cases, or_left, or_right}
 use Rattle.std.proofs.lemmas.List.{append_assoc, at_drop_more, length-append}
 use Rattle.std.proofs.lemmas.List.Concat.{flat_map-cons}
 use Rattle.std.specs.List.{flat_map, list_any, position_or_len}
 use Rattle.design_model.specs.declared.point.Point.{Point}
 use Rattle.design_model.specs.Points.{is_same_point}
-use Rattle.step_splitter.specs.Chains.{last_point_or}
 use Rattle.line_graph.specs.declared.edge.Edge.{Edge}
 use Rattle.drawing_model.specs.Drawings.{DrawingValue, first_point, last_point, points_of, endpoints}
 use Rattle.line_graph.specs.PieceGraphs.{edge_between, junctions_of, junction_number, with_points, with_point}
@@ -105,18 +104,10 @@ edge_added d line p q k0 k1 k2 a b cost first last a_is k1_is b_is k2_is cost_is
     here_q = ap (list_any (is_same_point q)) k2_is ∙ put_found k1 q
 
     at_a : (more : List Point) → a ≡ junction_number (with_points k2 more) (first_point (points_of d line))
-    at_a more =
-        let then : position_or_len (is_same_point p) k2 ≡ position_or_len (is_same_point p) k1 =
-        ap (position_or_len (is_same_point p)) k2_is ∙ put_keeps_number (is_same_point p) k1 q here_p in
-        let before : position_or_len (is_same_point p) k1 ≡ a = ap (position_or_len (is_same_point p)) k1_is ∙ put_number k0 p ∙ sym a_is in
-        let found : list_any (is_same_point p) k2 ≡ true = ap (list_any (is_same_point p)) k2_is
-        ∙ put_keeps (is_same_point p) k1 q here_p in
-        sym (ap (junction_number (with_points k2 more)) first ∙ number_stays (is_same_point p) k2 more found ∙ then ∙ before)
+    at_a more = grind (arith, nat_tests, put_keeps_number, here_p, put_number, put_keeps, number_stays)
 
     at_b : (more : List Point) → b ≡ junction_number (with_points k2 more) (last_point (points_of d line))
-    at_b more =
-        let before : position_or_len (is_same_point q) k2 ≡ b = ap (position_or_len (is_same_point q)) k2_is ∙ put_number k1 q ∙ sym b_is in
-        sym (ap (junction_number (with_points k2 more)) last ∙ number_stays (is_same_point q) k2 more here_q ∙ before)
+    at_b more = grind (arith, nat_tests, put_number, number_stays, here_q)
 
 -- edges so far, and those of the lines that are left
 pub record AreEdges (d : DrawingValue) (lines : List ℕ) (at : ℕ) (junctions : List Point) (edges : List Edge) : Type 0 where

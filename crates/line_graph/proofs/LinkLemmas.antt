@@ -96,8 +96,7 @@ line_linked d line block p q f0 f1 f2 l0 l1 l2 there block_is first last linking
     }
   where
     spot_is : (spot : Spot) (r : Point) → block_of d line ≡ spot.block → r ≡ spot.at → record { block = block; at = r } ≡ spot
-    spot_is spot r in_block at =
-        let make : ℕ → Point → Spot = λ block at. record { block = block; at = at } in ap₂ make (block_is ∙ in_block) at
+    spot_is spot r in_block at = grind (arith, nat_tests, ap₂)
 
     earlier : (i line : ℕ) → (i == line) ≡ false → i < line + 1 → i < line
     earlier i line test below = grind (arith, nat_tests)
@@ -107,12 +106,7 @@ line_linked d line block p q f0 f1 f2 l0 l1 l2 there block_is first last linking
         → IsLinkedAt f2 l2 line (record { block = block; at = q }) → (t : Bool) → (i == line) ≡ t → IsLinkedAt f2 l2 i spot
     met_by i spot below ends more at_p at_q false test = more.met i spot (earlier i line test below) ends
     met_by i spot below ends more at_p at_q true test =
-        let here : IsLineEnd d line spot = subst (λ (k : ℕ). IsLineEnd d k spot) (same_number i line test) ends in
-        let linked : IsLinkedAt f2 l2 line spot = elim here.at_end [
-          | inl is ↦ subst (λ (s : Spot). IsLinkedAt f2 l2 line s) (spot_is spot p here.block (some_same p spot.at (sym first ∙ is))) at_p
-          | inr is ↦ subst (λ (s : Spot). IsLinkedAt f2 l2 line s) (spot_is spot q here.block (some_same q spot.at (sym last ∙ is))) at_q
-        ] in
-        subst (λ (k : ℕ). IsLinkedAt f2 l2 k spot) (sym (same_number i line test)) linked
+        grind (arith, nat_tests, same_number i line test, spot_is spot p, some_same p spot.at, spot_is spot q, some_same q spot.at)
 
 -- an end is found among the ends
 in_ends : (ps : List Point) (x : Point) (test : Point → Bool) → (first_point ps ≡ Some x) ⊎ (last_point ps ≡ Some x) → test x ≡ true

@@ -1,6 +1,6 @@
 -- Next lines with the same label are found from the last line to the first, and lead through all lines of a piece.
 use Rattle.std.proofs.lemmas.Bool.Decides.{nat_tests}
-use Rattle.std.proofs.Common.{◌≡◌, ◌≢◌, ◌<◌, ◌≤◌, ℕ, ◌+◌, ◌-◌, ◌==◌, Bool, true, false, List, [], ◌∷◌, ◌++◌, length, get_or, set, arith, refl, sym, ◌∙◌, ap, subst}
+use Rattle.std.proofs.Common.{◌≡◌, ◌≢◌, ◌<◌, ◌≤◌, ℕ, ◌+◌, ◌==◌, Bool, true, false, List, [], ◌∷◌, ◌++◌, length, get_or, set, arith, refl, ◌∙◌, ap}
 use Rattle.std.proofs.lemmas.List.{get_or-set_other, length-set}
 use Rattle.std.proofs.lemmas.Grind.{get_or-set_at}
 use Rattle.line_graph.specs.LineLabels.{AreAtMostIndex}
@@ -53,38 +53,19 @@ module _ (labels next more : List ℕ) (line : ℕ) (below : line < length label
   seen_early j less = by_test (label == j) refl
     where
       by_test : (t : Bool) → (label == j) ≡ t → IsFirstLabelled labels j line (get_or more j 0)
-      by_test true test =
-          let here : label ≡ j = same_number label j test in
-          subst (λ (k : ℕ). IsFirstLabelled labels k line (get_or more k 0)) here
-          (subst (λ (first : ℕ). IsFirstLabelled labels label line first)
-          (sym (at_label (λ alike. omega (arith, alike, here, less)))) first_here)
-      by_test false test =
-          let apart = not_same label j test in
-          subst (λ (first : ℕ). IsFirstLabelled labels j line first)
-          (sym (elsewhere j (λ alike. omega (arith, alike, less)) (λ alike. apart (sym alike))))
-          (first_after j (get_or next j 0) test (before.early j (omega (arith, less))))
+      by_test true test = grind (arith, nat_tests, same_number label, at_label, first_here)
+      by_test false test = grind (arith, nat_tests, not_same label, elsewhere, first_after)
 
   seen_late : (j : ℕ) → line ≤ j → j < length labels → IsFirstLabelled labels (get_or labels j 0) (j + 1) (get_or more j 0)
   seen_late j from less = by_test (j == line) refl
     where
       by_test : (t : Bool) → (j == line) ≡ t → IsFirstLabelled labels (get_or labels j 0) (j + 1) (get_or more j 0)
-      by_test true test =
-          subst (λ (k : ℕ). IsFirstLabelled labels (get_or labels k 0) (k + 1) (get_or more k 0)) (sym (same_number j line test))
-          (subst (λ (first : ℕ). IsFirstLabelled labels label (line + 1) first) (sym at_line)
-          (before.early label (omega (arith, up_to))))
-      by_test false test =
-          let apart = not_same j line test in
-          subst (λ (first : ℕ). IsFirstLabelled labels (get_or labels j 0) (j + 1) first)
-          (sym (elsewhere j apart (λ alike. omega (arith, alike, up_to, from, apart))))
-          (before.late j (omega (arith, from, apart)) less)
+      by_test true test = grind (arith, nat_tests, same_number, at_line, up_to)
+      by_test false test = grind (arith, nat_tests, not_same, elsewhere, up_to)
 
   -- a line more
   pub one_seen : AreNextFrom labels line more
-  one_seen = record {
-    sized = ap length is ∙ length-set marked line (get_or next label 0) ∙ length-set next label line ∙ before.sized;
-    early = seen_early;
-    late = seen_late;
-  }
+  one_seen = grind (arith, nat_tests, length-set marked line (get_or next label 0), length-set next label line, seen_early, seen_late)
 
 -- the lines with a label before the given line, which is the next of them or the number of lines
 pub record AreLabelledBefore (labels : List ℕ) (label line : ℕ) (lines : List ℕ) : Type 0 where

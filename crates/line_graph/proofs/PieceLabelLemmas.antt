@@ -99,9 +99,7 @@ module _ (d : DrawingValue) (labels : List ℕ) (are : ArePieceLabels d labels) 
       (λ k. λ x. λ less. let at = range_below 0 (length labels) k x less in omega (arith, at))
 
   firsts_first : All (λ line. get_or labels line 0 ≡ line) firsts
-  firsts_first = λ k. λ x. λ less.
-      same_number (get_or labels (get_or firsts k x) 0) (get_or firsts k x)
-      (filter_passes (is_own_label labels) (range_with_len 0 (length labels)) k x less)
+  firsts_first = grind (arith, nat_tests, same_number, filter_passes (is_own_label labels) (range_with_len 0 (length labels)))
 
   firsts_are : (lines : List ℕ) → All (λ line. line < length labels) lines → All (λ line. get_or labels line 0 ≡ line) lines
       → map first_line (map (lines_labelled labels) lines) ≡ lines
@@ -125,8 +123,7 @@ module _ (d : DrawingValue) (labels : List ℕ) (are : ArePieceLabels d labels) 
 
   first_is : (line : ℕ) → line < length labels → get_or labels line 0 ≡ line
       → get_or labels (first_line (lines_labelled labels line)) 0 ≡ first_line (lines_labelled labels line)
-  first_is line below first =
-      subst (λ (n : ℕ). get_or labels n 0 ≡ n) (sym (ap first_line (labelled_begins line below first))) first
+  first_is line below first = grind (arith, nat_tests, labelled_begins line below first)
 
   -- the lines with each label are the pieces
   pub parts_are : ArePieces d (pieces_by_label labels)

@@ -6,7 +6,7 @@ use Rattle.std.proofs.lemmas.List.{length-append, length-reverse}
 use Rattle.std.proofs.lemmas.List.Concat.{flat_map-cons}
 use Rattle.std.proofs.lemmas.List.Elements.{All-append, All-cons, All-contains, All-head, All-nil, All-tail}
 use Rattle.std.proofs.lemmas.List.Recursion.{is_position_or_len}
-use Rattle.std.specs.List.{flat_map, position_or_len}
+use Rattle.std.specs.List.{flat_map}
 use Rattle.design_model.specs.declared.point.Point.{Point}
 use Rattle.design_model.specs.Points.{is_same_point}
 use Rattle.step_splitter.specs.Chains.{IsNeedlePoint, AreCloseAfter}
@@ -180,8 +180,7 @@ sewn_more d lines js pass rest e at held p more = record {
 }
   where
     is : later d (pass ∷ rest) ≡ p.trail.rest ++ later d rest
-    is = flat_map-cons (λ (next : Pass). drop 1 (needles_of_pass d next)) pass rest
-        ∙ ap (λ (ps : List Point). ps ++ later d rest) (behind d.step p.from p.to (needles_of_pass d pass) p.trail)
+    is = grind (arith, nat_tests, flat_map-cons, pass, rest)
 
     counted : (n r l k c s o : ℕ) → n ≡ r + l → k ≡ suc r → k ≡ c + 1 → l ≡ s → o ≡ c → n ≡ o + s
     counted n r l k c s o a b f g h = omega arith

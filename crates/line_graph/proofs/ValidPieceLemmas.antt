@@ -1,12 +1,11 @@
 -- The graph of a piece is valid: of lines that are connected, and that no other line touches.
-use Rattle.std.proofs.Common.{◌≡◌, ◌<◌, ◌≤◌, ◌⊎◌, inl, inr, ℕ, zero, suc, pos, ◌==◌, Bool, true, false, cond, nat_le, nat_lt, List, [], ◌∷◌, length, map, get_or, slice_get, Option, Some, None, position, All, AllPairs, Contains, sum_by, arith, refl, sym, ◌∙◌, ap, subst}
+use Rattle.std.proofs.Common.{◌≡◌, ◌<◌, ◌≤◌, ◌⊎◌, inl, inr, ℕ, zero, suc, pos, Bool, true, nat_le, List, [], ◌∷◌, length, map, get_or, slice_get, Some, All, AllPairs, Contains, sum_by, arith, refl, sym, ◌∙◌, ap, subst}
 use Rattle.std.proofs.lemmas.Bool.Decides.{nat_tests}
 use Rattle.std.proofs.lemmas.List.{length-map}
 use Rattle.std.proofs.lemmas.List.Elements.{All-contains, All-head, All-map, All-tail}
 use Rattle.std.proofs.lemmas.List.Kept.{AllPairs-from_increasing}
 use Rattle.std.proofs.lemmas.List.Sums.{sum_by-cons}
 use Rattle.std.specs.List.{position_or_len}
-use Rattle.std.specs.Option.{option_or}
 use Rattle.design_model.specs.declared.point.Point.{Point}
 use Rattle.design_model.specs.Points.{is_same_point}
 use Rattle.step_splitter.specs.Chains.{SplitPointsLead}
@@ -15,7 +14,7 @@ use Rattle.line_graph.specs.declared.edge.Edge.{Edge}
 use Rattle.drawing_model.specs.Drawings.{DrawingValue, IsLine, KeepsDrawingLimits, block_of, points_of}
 use Rattle.line_graph.specs.ValidPieces.{IsConnectedGraph, IsValidPiece, NoEdgeLeaves, all_below, all_costs_positive, ends_below, is_below}
 use Rattle.drawing_model.specs.Needles.{steps_of_line}
-use Rattle.line_graph.specs.PieceGraphs.{one_if, degree, edge_between, junctions_of, first_junction_among, junction_at_spot, junction_number, piece_graph}
+use Rattle.line_graph.specs.PieceGraphs.{degree, edge_between, junctions_of, first_junction_among, junction_number, piece_graph}
 use Rattle.line_graph.specs.PieceLabels.{IsPiece}
 use Rattle.line_graph.specs.Pieces.{AreConnected, IsPathOfLines, LinesTouch, first_line}
 use Rattle.line_graph.specs.PieceWalks.{all_greater, is_strictly_increasing}
