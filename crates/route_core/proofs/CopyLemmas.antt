@@ -1,9 +1,10 @@
 -- Copies at places of a list.
-use Rattle.std.proofs.Common.{◌≡◌, ◌≤◌, ◌<◌, ℕ, zero, suc, ◌+◌, ◌-◌, ◌*◌, ◌^◌, List, [], ◌∷◌, length, get_or, slice_get, slice_set, All, arith, refl, ap, subst}
+use Rattle.std.proofs.lemmas.Bool.Decides.{nat_tests}
+use Rattle.std.proofs.Common.{◌≡◌, ◌≤◌, ◌<◌, ℕ, zero, suc, ◌+◌, ◌-◌, ◌^◌, List, [], ◌∷◌, length, get_or, slice_get, slice_set, All, arith, refl, ap, subst}
 use Rattle.std.proofs.lemmas.List.Elements.{All-head, All-tail}
 use Rattle.line_graph.specs.declared.edge.Edge.{Edge}
 use Rattle.line_graph.specs.PieceWalks.{edge_value}
-use Rattle.route_core.specs.Copies.{AddsCopies, total_copies, copies_sum, incremented_at, index_sum}
+use Rattle.route_core.specs.Copies.{AddsCopies, total_copies, copies_sum, incremented_at}
 
 pub more_is : (cs : List ℕ) (k : ℕ) → slice_set cs k (get_or cs k 0 + 1) ≡ incremented_at cs k
 more_is [] k = refl
@@ -23,47 +24,22 @@ more_length (c ∷ cs) (suc k) = ap (λ (n : ℕ). suc n) (more_length cs k)
 pub more_up : (cs : List ℕ) (k : ℕ) → k < length cs → total_copies (incremented_at cs k) ≡ total_copies cs + 1
 more_up [] k below = absurd (omega arith)
 more_up (c ∷ cs) zero below = omega arith
-more_up (c ∷ cs) (suc k) below = let rest : total_copies (incremented_at cs k)
-    ≡ total_copies cs + 1 = more_up cs k (omega arith) in omega arith
+more_up (c ∷ cs) (suc k) below = grind (arith, nat_tests, more_up cs k (omega arith))
 
 pub more_sum : (f : Edge → ℕ) (edges : List Edge) (cs : List ℕ) (k : ℕ) → k < length cs → length edges ≡ length cs
     → copies_sum f edges (incremented_at cs k) ≡ copies_sum f edges cs + edge_value f (slice_get edges k)
 more_sum f [] [] k below same = absurd (omega arith)
 more_sum f [] (c ∷ cs) k below same = absurd (omega arith)
 more_sum f (e ∷ edges) [] k below same = absurd (omega arith)
-more_sum f (e ∷ edges) (c ∷ cs) zero below same = once c (f e) (copies_sum f edges cs)
-  where
-    once : (c k u : ℕ) → (c + 1) * k + u ≡ (c * k + u) + k
-    once c k u = omega arith
-more_sum f (e ∷ edges) (c ∷ cs) (suc k) below same =
-    later (c * f e) (copies_sum f edges (incremented_at cs k)) (copies_sum f edges cs) (edge_value f (slice_get edges k))
-    (more_sum f edges cs k (omega arith) (omega arith))
-  where
-    later : (m u v k : ℕ) → u ≡ v + k → m + u ≡ (m + v) + k
-    later m u v k h = omega arith
+more_sum f (e ∷ edges) (c ∷ cs) zero below same = omega arith
+more_sum f (e ∷ edges) (c ∷ cs) (suc k) below same = grind (arith, nat_tests, more_sum f edges cs k (omega arith) (omega arith))
 
 pub adds_none : (cs places : List ℕ) → places ≡ [] → AddsCopies cs places cs
-adds_none cs places is = rw is (record { sized = refl; up = omega arith; sums = λ f. λ edges. λ same. nothing (copies_sum f edges cs) })
-  where
-    nothing : (k : ℕ) → k ≡ k + 0
-    nothing k = omega arith
+adds_none cs places is = grind (arith, nat_tests)
 
 pub adds_one : (cs next places rest new : List ℕ) (k : ℕ) → places ≡ k ∷ rest → next ≡ incremented_at cs k → k < length cs
     → AddsCopies next rest new → AddsCopies cs places new
-adds_one cs next places rest new k is more below adds = rw is (record {
-  sized = omega (arith, a.sized, more_length cs k);
-  up = omega (arith, a.up, more_up cs k below);
-  sums = λ f. λ edges. λ same.
-      added (copies_sum f edges new) (copies_sum f edges (incremented_at cs k)) (copies_sum f edges cs) (edge_value f (slice_get edges k))
-      (index_sum f edges rest)
-      (a.sums f edges (omega (arith, same, more_length cs k))) (more_sum f edges cs k below same);
-})
-  where
-    a : AddsCopies (incremented_at cs k) rest new
-    a = rw (← more) adds
-
-    added : (n m o k p : ℕ) → n ≡ m + p → m ≡ o + k → n ≡ o + (k + p)
-    added n m o k p one two = omega arith
+adds_one cs next places rest new k is more below adds = grind (arith, nat_tests, more_length, more_up, more_sum)
 
 -- what is left to add, after one place
 pub record Left (cs places : List ℕ) : Type 0 where

@@ -1,6 +1,7 @@
 -- The double run of a drawing, from the double walks over its pieces.
-use Rattle.std.proofs.Common.{◌≡◌, ◌≤◌, ◌<◌, ◌^◌, ℕ, ◌+◌, List, [], ◌∷◌, ◌++◌, length, All, Contains, arith, refl, true, sym, ap, ◌∙◌, subst}
-use Rattle.std.proofs.lemmas.List.{append-nil, append_assoc}
+use Rattle.std.proofs.lemmas.Bool.Decides.{nat_tests}
+use Rattle.std.proofs.Common.{◌≡◌, ◌≤◌, ◌<◌, ◌^◌, ℕ, ◌+◌, List, [], ◌∷◌, ◌++◌, length, All, Contains, arith, true, sym, ap, ◌∙◌, subst}
+use Rattle.std.proofs.lemmas.List.{append-nil}
 use Rattle.std.proofs.lemmas.List.Elements.{All-cons, All-contains, All-head, All-nil, All-tail}
 use Rattle.std.specs.List.{AllZip, concat}
 use Rattle.odd_cuts.specs.declared.certificate.PieceCert.{PieceCert}
@@ -11,7 +12,7 @@ use Rattle.double_run.specs.DoubleWalks.{without_ends}
 use Rattle.line_graph.specs.declared.pass.Pass.{Pass}
 use Rattle.line_graph.specs.declared.piece.Piece.{Piece}
 use Rattle.line_graph.specs.PiecesOfDrawings.{ArePiecesOf, graph_of, lines_of_pieces}
-use Rattle.drawing_model.specs.Drawings.{DrawingValue, KeepsDrawingLimits}
+use Rattle.line_graph.specs.Drawings.{DrawingValue, KeepsDrawingLimits}
 use Rattle.line_graph.specs.ValidPieces.{IsValidPiece}
 use Rattle.line_graph.specs.PieceGraphs.{PieceValue, piece_graph}
 use Rattle.line_graph.specs.PieceWalks.{BeginsWith, is_fitting_walk}
@@ -27,19 +28,9 @@ use Rattle.lists_and_numbers.proofs.CallerLemmas.{below_left, below_right}
 pub record LeftDoubles (pieces : List Piece) (certs : List PieceCert) (rest : List Piece) : Type 0 where
   pub whole : (more : List PieceCert) → AreDoubled rest more → AreDoubled pieces (certs ++ more)
 
-pub doubles_on : (pieces left rest : List Piece) (certs next : List PieceCert) (piece : Piece) (cert : PieceCert) → left ≡ piece ∷ rest
-    → next ≡ certs ++ cert ∷ [] → IsDoubleCert (graph_of piece) cert → LeftDoubles pieces certs left
-    → LeftDoubles pieces next rest
-doubles_on pieces left rest certs next piece cert is put double l = record {
-  whole = λ more. λ doubled.
-      subst (AreDoubled pieces) (sym (ap (λ (cs : List PieceCert). cs ++ more) put ∙ append_assoc certs (cert ∷ []) more))
-      (l.whole (cert ∷ more) (subst (λ (ps : List Piece). AreDoubled ps (cert ∷ more)) (sym is) (double, doubled)));
-}
-
 pub doubled_all : (pieces left : List Piece) (certs : List PieceCert) → left ≡ [] → LeftDoubles pieces certs left
     → AreDoubled pieces certs
-doubled_all pieces left certs is l =
-    subst (AreDoubled pieces) (append-nil certs) (l.whole [] (subst (λ (ps : List Piece). AreDoubled ps []) (sym is) tt))
+doubled_all pieces left certs is l = grind (arith, nat_tests, append-nil certs)
 
 -- a double walk and no cuts can be printed
 doubles_spelled : (d : DrawingValue) (lines : List ℕ) (cert : PieceCert) (first : ℕ) → KeepsDrawingLimits d
@@ -71,41 +62,10 @@ abbrev unended : DrawingValue → DrawingValue
 unended d = record d { starts = []; ends = [] }
 
 unended_keeps : (d : DrawingValue) → KeepsDrawingLimits d → KeepsDrawingLimits (unended d)
-unended_keeps d keeps = record {
-  label = keeps.label;
-  one_word = keeps.one_word;
-  step_from = keeps.step_from;
-  step_to = keeps.step_to;
-  blocks_from = keeps.blocks_from;
-  blocks_to = keeps.blocks_to;
-  threads = keeps.threads;
-  used = keeps.used;
-  there = keeps.there;
-  ordered = keeps.ordered;
-  lines = keeps.lines;
-  line_count = keeps.line_count;
-  point_count = keeps.point_count;
-  cost = keeps.cost;
-}
+unended_keeps d keeps = grind (arith, nat_tests)
 
 unended_kept : (d : DrawingValue) (lines : List ℕ) → IsValidPiece (piece_graph d lines) → IsValidPiece (piece_graph (unended d) lines)
-unended_kept d lines kept = record {
-  some = kept.some;
-  few = kept.few;
-  beside = kept.beside;
-  rising = kept.rising;
-  lines_below = kept.lines_below;
-  different = kept.different;
-  junctions_few = kept.junctions_few;
-  ends = kept.ends;
-  met = kept.met;
-  joined = kept.joined;
-  counted = kept.counted;
-  costs = kept.costs;
-  cost_few = kept.cost_few;
-  start_below = refl;
-  end_below = refl;
-}
+unended_kept d lines kept = grind (arith, nat_tests)
 
 -- a walk that fits a piece without them can be sewn
 sewable_so : (d : DrawingValue) (lines : List ℕ) (walk : List Pass) → KeepsDrawingLimits d → FittingWalksAreSewable
@@ -127,23 +87,8 @@ good : (d : DrawingValue) → KeepsDrawingLimits d → FittingWalksAreSewable �
 good d keeps sews p cert below is run =
     let double : IsDoubleCert (piece_graph d p.lines) cert = subst (λ (g : PieceValue). IsDoubleCert g cert) is run in
     let sewable = sewable_so d p.lines cert.walk keeps sews below (subst IsValidPiece is p.kept) double.fitting in
-    record {
-      doubled = record {
-        double = double.double;
-        retraced = double.retraced;
-        cuts = double.cuts;
-        penetrations = sewable.penetrations ∙ ap (λ (n : ℕ). n + 1) double.cost;
-      };
-      sewn = record {
-        canonical = doubles_spelled d p.lines cert _ keeps below sewable double.double.begins double.cuts;
-        sewable = sewable;
-        below = below;
-        costs = same _ _ double.cost;
-      };
-    }
-  where
-    same : (m n : ℕ) → m ≡ n → m ≤ n
-    same m n is = omega arith
+    record
+    { doubled = record { double = double.double; retraced = double.retraced; cuts = double.cuts; penetrations = sewable.penetrations ∙ ap (λ (n : ℕ). n + 1) double.cost }; sewn = record { canonical = doubles_spelled d p.lines cert _ keeps below sewable double.double.begins double.cuts; sewable = sewable; below = below; costs = (omega (arith, double.cost)) } }
 
 all_good : (d : DrawingValue) → KeepsDrawingLimits d → FittingWalksAreSewable → (pieces : List Piece) (certs : List PieceCert)
     → All (λ line. line < length d.lines) (concat (lines_of_pieces pieces)) → All (λ (p : Piece). graph_of p ≡ piece_graph d p.lines) pieces

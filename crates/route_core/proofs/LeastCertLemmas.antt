@@ -1,24 +1,22 @@
 -- The certificate that is made for a piece proves its walk least, and can be printed.
-use Rattle.std.proofs.Common.{◌≡◌, ◌≢◌, ◌≤◌, ◌<◌, ℕ, ◌+◌, ◌*◌, ◌^◌, ◌==◌, Bool, true, false, cond, nat_lt, List, [], ◌∷◌, length, get_or, Option, Some, None, All, arith, refl, sym, ◌∙◌, ap}
+use Rattle.std.proofs.Common.{◌≡◌, ◌≢◌, ◌≤◌, ◌<◌, ℕ, ◌+◌, ◌^◌, ◌==◌, Bool, true, false, cond, nat_lt, List, [], ◌∷◌, length, get_or, Option, Some, None, All, arith, refl, ap}
 use Rattle.std.proofs.lemmas.Bool.Decides.{nat_tests}
 use Rattle.std.proofs.lemmas.Bool.{and_parts}
 use Rattle.std.proofs.lemmas.List.Elements.{All-cons, All-from_get_or, All-get_or}
 use Rattle.blossom_match.specs.declared.matching.Moat.{Moat}
 use Rattle.blossom_match.specs.declared.matching.Pair.{Pair}
-use Rattle.blossom_match.specs.Matchings.{width_of}
 use Rattle.odd_cuts.specs.declared.certificate.PieceCert.{PieceCert}
 use Rattle.odd_cuts.specs.declared.cut.Cut.{Cut}
 use Rattle.odd_cuts.specs.PackingBounds.{BoundsTotal, ProvesLeast}
 use Rattle.odd_cuts.specs.Certificates.{HasCanonicalText}
-use Rattle.odd_cuts.specs.Cuts.{total_weight}
 use Rattle.cut_certificate.specs.Lifts.{IsLifted}
 use Rattle.odd_cuts.specs.Packings.{IsOddCut}
 use Rattle.line_graph.specs.declared.edge.Edge.{Edge}
-use Rattle.drawing_model.specs.declared.limits.TheConstants.{MAX_COST, MAX_LINES}
+use Rattle.line_graph.specs.declared.limits.TheConstants.{MAX_COST, MAX_LINES}
 use Rattle.line_graph.specs.declared.pass.Pass.{Pass}
 use Rattle.line_graph.specs.ValidPieces.{IsValidPiece, all_below}
 use Rattle.line_graph.specs.PieceGraphs.{PieceValue}
-use Rattle.line_graph.specs.PieceWalks.{after_edge, required_start, covers, edge_of, required_end, is_walk_start_to_end, piece_cost, walk_cost, walk_end_from}
+use Rattle.line_graph.specs.PieceWalks.{after_edge, required_start, covers, edge_of, required_end, is_walk_start_to_end, walk_end_from}
 use Rattle.odd_paths.specs.LeastRows.{RowsValue}
 use Rattle.route_core.specs.Copies.{pair_costs}
 use Rattle.route_core.specs.OddPairs.{AreOddPairs, IsWalkBy}
@@ -29,29 +27,12 @@ use Rattle.line_graph.proofs.CallerLemmas.{goes_from, lost}
 pub pairs_cost_few : (p : PieceValue) → IsValidPiece p → BoundsTotal
     → (rows : RowsValue) (pairs : List Pair) (moats : List Moat) (cuts : List Cut)
     → AreOddPairs p rows pairs moats → IsLifted p moats cuts → pair_costs rows pairs ≤ MAX_COST
-pairs_cost_few p kept law rows pairs moats cuts matched lifted =
-    few (total_weight cuts) (width_of moats) (pair_costs rows pairs) (piece_cost p)
-    (law p cuts kept lifted.packing) lifted.total matched.paid kept.cost_few
-  where
-    few : (t w k c : ℕ) → t ≤ 2 * c → t ≡ w → w ≡ 2 * k → c ≤ 200000 → k ≤ 200000
-    few t w k c a b d e = omega arith
+pairs_cost_few p kept law rows pairs moats cuts matched lifted = grind (arith, nat_tests)
 
 pub proves : (p : PieceValue) → IsValidPiece p → ProvesLeast → (rows : RowsValue) (pairs : List Pair) (moats : List Moat) (cert : PieceCert)
     → AreOddPairs p rows pairs moats → IsLifted p moats cert.cuts → IsWalkBy p rows pairs cert.walk → cert.retraced ≡ pair_costs rows pairs
     → CertifiesLeastWalk p cert
-proves p kept law rows pairs moats cert matched lifted walk retraced = record {
-  fitting = walk.fitting;
-  begins = walk.begins;
-  retraced = walk.costs ∙ ap (λ (k : ℕ). piece_cost p + k) (sym retraced);
-  packing = lifted.packing;
-  total = lifted.total ∙ matched.paid ∙ ap (λ (k : ℕ). 2 * k) (sym retraced);
-  least = law p cert.cuts cert.walk kept lifted.packing
-      (twice (total_weight cert.cuts) (width_of moats) (pair_costs rows pairs) (piece_cost p)
-      (walk_cost p cert.walk) lifted.total matched.paid walk.costs);
-}
-  where
-    twice : (t w k c v : ℕ) → t ≡ w → w ≡ 2 * k → v ≡ c + k → t + 2 * c ≡ 2 * v
-    twice t w k c v a b d = omega arith
+proves p kept law rows pairs moats cert matched lifted walk retraced = grind (arith, nat_tests)
 
 -- the line of an edge is one of the lines
 line_below : (n : ℕ) (ns : List ℕ) (es : List Edge) (line : ℕ) (e : Edge) → all_below n ns ≡ true → edge_of ns es line ≡ Some e → line < n

@@ -1,29 +1,21 @@
 -- Least costs are the same both ways, and none is more than those of a way round.
-use Rattle.std.proofs.Common.{◌≡◌, ◌≤◌, ◌<◌, ℕ, ◌+◌, ◌*◌, ◌==◌, Bool, true, false, cond, not, nat_lt, List, [], ◌∷◌, ◌++◌, Option, Some, None, arith, refl, sym, ◌∙◌, ap, subst}
+use Rattle.std.proofs.Common.{◌≡◌, ◌≤◌, ◌<◌, ℕ, ◌+◌, Bool, true, false, not, nat_lt, List, [], ◌∷◌, ◌++◌, Option, Some, None, arith, refl, sym, ◌∙◌, ap, subst}
 use Rattle.std.proofs.lemmas.Bool.Decides.{nat_tests}
-use Rattle.odd_sets.specs.Tables.{HasTriangleInequality, entry}
-use Rattle.odd_sets.specs.TableValue.{TableValue}
+use Rattle.blossom_match.specs.Tables.{HasTriangleInequality, entry}
+use Rattle.blossom_match.specs.TableValue.{TableValue}
 use Rattle.line_graph.specs.declared.edge.Edge.{Edge}
 use Rattle.line_graph.specs.declared.pass.Pass.{Pass}
 use Rattle.line_graph.specs.PieceGraphs.{PieceValue}
-use Rattle.line_graph.specs.PieceWalks.{after_edge, after_pass, edge_cost, edge_of, pass_end, edge_value, pass_sum, pass_start, walk_cost, walk_end_from}
+use Rattle.line_graph.specs.PieceWalks.{after_edge, after_pass, edge_cost, edge_of, edge_value, pass_sum, walk_end_from}
 use Rattle.odd_paths.specs.LeastRows.{IsLeastCost, RowsValue, cost_at, terminal_of}
 use Rattle.route_core.specs.Distances.{IsTableOf}
-use Rattle.odd_sets.proofs.CallerLemmas.{entry-comm}
+use Rattle.blossom_match.proofs.CallerLemmas.{entry-comm}
 use Rattle.line_graph.proofs.CallerLemmas.{lost, walk_append}
-use Rattle.lists_and_numbers.proofs.CallerLemmas.{eq_self, same_number}
 
 sum_append : (ns : List ℕ) (es : List Edge) (f : Edge → ℕ) (xs ys : List Pass) → pass_sum ns es f (xs ++ ys)
     ≡ pass_sum ns es f xs + pass_sum ns es f ys
-sum_append ns es f [] ys = none (pass_sum ns es f ys)
-  where
-    none : (k : ℕ) → k ≡ 0 + k
-    none k = omega arith
-sum_append ns es f (x ∷ xs) ys = rw (sum_append ns es f xs ys) (regroup (edge_value f (edge_of ns es x.line)) (pass_sum ns es f xs)
-    (pass_sum ns es f ys))
-  where
-    regroup : (x u v : ℕ) → x + (u + v) ≡ (x + u) + v
-    regroup x u v = omega arith
+sum_append ns es f [] ys = omega arith
+sum_append ns es f (x ∷ xs) ys = grind (arith, nat_tests, sum_append ns es f xs ys)
 
 abbrev flipped : Pass → Pass
 flipped p = record { line = p.line; back = not p.back }
@@ -31,18 +23,7 @@ flipped p = record { line = p.line; back = not p.back }
 -- an edge leads back from where it leads to
 flip_edge : (found : Option Edge) (back : Bool) (j m : ℕ) → after_edge found back j ≡ Some m → after_edge found (not back) m ≡ Some j
 flip_edge None back j m is = absurd (cc)
-flip_edge (Some e) back j m is = by_test (pass_start e back == j) refl is
-  where
-    turned : (e : Edge) (back : Bool) → after_edge (Some e) (not back) (pass_end e back) ≡ Some (pass_start e back)
-    turned e true = rw (eq_self e.a) refl
-    turned e false = rw (eq_self e.b) refl
-
-    by_test : (t : Bool) → (pass_start e back == j) ≡ t → cond t (Some (pass_end e back)) None ≡ Some m → after_edge (Some e) (not back) m
-        ≡ Some j
-    by_test true test is =
-        let to : pass_end e back ≡ m = cc in
-        rw (← to, ← same_number (pass_start e back) j test) (turned e back)
-    by_test false test is = absurd (cc)
+flip_edge (Some e) back j m is = grind (arith, nat_tests)
 
 -- a walk from one junction to another, and what it costs
 record Way (ns : List ℕ) (es : List Edge) (from to cost : ℕ) : Type 0 where
@@ -86,25 +67,13 @@ least_back p i j c l =
           subst (λ (k : ℕ). c ≤ k) forth.costs (l.least forth.walk forth.leads);
     }
 
-pub one_least : (p : PieceValue) (i j c d : ℕ) → IsLeastCost p i j c → IsLeastCost p i j d → c ≡ d
-one_least p i j c d l m =
-    equal c d (subst (λ (k : ℕ). c ≤ k) m.costs (l.least m.walk m.leads)) (subst (λ (k : ℕ). d ≤ k) l.costs (m.least l.walk l.leads))
-  where
-    equal : (c d : ℕ) → c ≤ d → d ≤ c → c ≡ d
-    equal c d h g = omega arith
-
 least_self : (p : PieceValue) (i : ℕ) → IsLeastCost p i i 0
 least_self p i = record { walk = []; leads = refl; costs = refl; least = λ other. λ leads. omega arith }
 
 least_round : (p : PieceValue) (i j k c d e : ℕ) → IsLeastCost p i j c → IsLeastCost p j k d → IsLeastCost p i k e → e ≤ c + d
 least_round p i j k c d e l m n =
-    subst (λ (x : ℕ). e ≤ x) (sum_append p.lines p.edges edge_cost l.walk m.walk
-    ∙ both (walk_cost p l.walk) (walk_cost p m.walk) c d l.costs m.costs)
-    (n.least (l.walk ++ m.walk) (walk_append p.lines p.edges (Some i) l.walk m.walk
-    ∙ ap (λ (x : Option ℕ). walk_end_from p.lines p.edges x m.walk) l.leads ∙ m.leads))
-  where
-    both : (x y c d : ℕ) → x ≡ c → y ≡ d → x + y ≡ c + d
-    both x y c d h g = omega arith
+    subst (λ (x : ℕ). e ≤ x) (sum_append p.lines p.edges edge_cost l.walk m.walk ∙ (cc)) (n.least (l.walk ++ m.walk) (walk_append p.lines
+    p.edges (Some i) l.walk m.walk ∙ ap (λ (x : Option ℕ). walk_end_from p.lines p.edges x m.walk) l.leads ∙ m.leads))
 
 -- each entry is the least cost between two terminals
 pub entry_least : (p : PieceValue) (rows : RowsValue) (t : TableValue) → IsTableOf p rows t → (a b : ℕ) → a < t.places → b < t.places
@@ -141,7 +110,4 @@ triangles p rows t j a b a_in b_in c c_in =
 -- an entry is the number of the row
 pub entry_is : (p : PieceValue) (rows : RowsValue) (t : TableValue) → IsTableOf p rows t → (a b : ℕ) → a < t.places → b < t.places
     → entry t a b ≡ cost_at rows a (terminal_of rows b)
-entry_is p rows t j a b a_in b_in =
-    one_least p (terminal_of rows a) (terminal_of rows b) (entry t a b) (cost_at rows a (terminal_of rows b))
-    (entry_least p rows t j a b a_in b_in)
-    (j.rows_are.least a (terminal_of rows b) (omega (arith, j.places, a_in)) (j.there b (omega (arith, j.places, b_in))))
+entry_is p rows t j a b a_in b_in = grind (arith, nat_tests, entry_least p rows t j a b a_in b_in)

@@ -1,14 +1,14 @@
 -- A matching of the odd junctions of a piece, from a matching of places.
-use Rattle.std.proofs.Common.{◌≡◌, ◌≤◌, ◌<◌, ℕ, zero, suc, ◌+◌, ◌*◌, ◌^◌, ◌==◌, Bool, true, false, cond, nat_lt, List, [], ◌∷◌, length, get_or, All, arith, refl, sym, ◌∙◌, ap, subst}
+use Rattle.std.proofs.Common.{◌≡◌, ◌≤◌, ◌<◌, ℕ, zero, suc, ◌+◌, ◌*◌, ◌^◌, ◌==◌, Bool, true, false, cond, List, [], ◌∷◌, length, get_or, All, arith, refl, sym, ◌∙◌, ap, subst}
 use Rattle.std.proofs.lemmas.Bool.Decides.{nat_tests}
-use Rattle.std.proofs.lemmas.List.Elements.{All-from_get_or, All-get_or, All-head, All-tail}
+use Rattle.std.proofs.lemmas.List.Elements.{All-from_get_or, All-head, All-tail}
 use Rattle.std.proofs.lemmas.List.Sums.{get_or-le-sum_by, sum_by-cons}
 use Rattle.blossom_match.specs.declared.matching.Moat.{Moat}
 use Rattle.blossom_match.specs.declared.matching.Pair.{Pair}
-use Rattle.odd_sets.specs.declared.table.TheConstants.{MAX_DISTANCE}
+use Rattle.blossom_match.specs.declared.table.TheConstants.{MAX_DISTANCE}
 use Rattle.blossom_match.specs.Matchings.{IsOptimalMatching, IsOddMoat, IsPerfectMatching, pairs_cost, pair_ends_at, moat_load, width_of}
-use Rattle.odd_sets.specs.Tables.{IsTable, entry}
-use Rattle.odd_sets.specs.TableValue.{TableValue}
+use Rattle.blossom_match.specs.Tables.{IsTable, entry}
+use Rattle.blossom_match.specs.TableValue.{TableValue}
 use Rattle.line_graph.specs.PieceGraphs.{PieceValue}
 use Rattle.odd_paths.specs.LeastRows.{RowsValue}
 use Rattle.route_core.proofs.LeastLemmas.{entry_is}
@@ -84,12 +84,8 @@ pairs_under n (q ∷ pairs) there =
 pairs_few : (n : ℕ) (pairs : List Pair) → IsPerfectMatching n pairs → All (λ (q : Pair). q.a < n) pairs → length pairs ≤ n
 pairs_few n pairs each there =
     let under = pairs_under n pairs there in
-    let few = over_few (pair_ends_at pairs) 0 n (λ y. subst (λ (k : ℕ). k ≤ 1) (sym (each y)) (bit_few (nat_lt y n))) in
+    let few = over_few (pair_ends_at pairs) 0 n (λ y. subst (λ (k : ℕ). k ≤ 1) (sym (each y)) (grind (arith, nat_tests))) in
     omega (arith, under, few)
-  where
-    bit_few : (t : Bool) → cond t 1 0 ≤ 1
-    bit_few true = omega arith
-    bit_few false = omega arith
 
 moats_under : (n : ℕ) (moats : List Moat) → All (IsOddMoat n) moats → length moats ≤ width_of moats
 moats_under n [] odd = omega arith
@@ -110,13 +106,10 @@ costs_few t table (q ∷ pairs) there =
 -- the ends of pairs of terminals are places of the table
 ends_within : (rows : RowsValue) (n : ℕ) → n ≡ length rows.terminals → (pairs : List Pair) → All (IsPairOf rows) pairs
     → All (λ (q : Pair). (q.a < n) × (q.b < n)) pairs
-ends_within rows n is pairs there = All-from_get_or (λ (q : Pair). (q.a < n) × (q.b < n)) pairs (record { a = 0; b = 0 })
-    (λ i. λ below. let q = All-get_or (IsPairOf rows) pairs i (record { a = 0; b = 0 }) below there
-    in (omega (arith, is, q.a_in), omega (arith, is, q.b_in)))
+ends_within rows n is pairs there = grind (arith, nat_tests)
 
 firsts_within : (n : ℕ) (pairs : List Pair) → All (λ (q : Pair). (q.a < n) × (q.b < n)) pairs → All (λ (q : Pair). q.a < n) pairs
-firsts_within n pairs there = All-from_get_or (λ (q : Pair). q.a < n) pairs (record { a = 0; b = 0 })
-    (λ i. λ below. (All-get_or (λ (q : Pair). (q.a < n) × (q.b < n)) pairs i (record { a = 0; b = 0 }) below there).0)
+firsts_within n pairs there = omega arith
 
 few_enough : (moats width cost pairs places : ℕ) → moats ≤ width → width ≡ 2 * cost → cost ≤ pairs * 200000 → pairs ≤ places → places ≤ 1024
     → moats < 2 ^ 31
@@ -151,9 +144,4 @@ is_matched p rows t odd_rows table is_table pairs moats m =
 -- the distances of the rows of odd junctions
 pub table_is : (p : PieceValue) (rows : RowsValue) (odds : List ℕ) (t : TableValue) → AreOddRows p rows → rows.terminals ≡ odds
     → t.places ≡ length odds → HasDistances rows t → IsTableOf p rows t
-table_is p rows odds t odd_rows is places distances = record {
-  rows_are = odd_rows.rows_are;
-  there = λ a. λ below. All-get_or (λ (t : ℕ). t < length p.junctions) rows.terminals a 0 below odd_rows.rows_are.terminals.there;
-  places = places ∙ ap (λ (xs : List ℕ). length xs) (sym is);
-  distances = distances;
-}
+table_is p rows odds t odd_rows is places distances = grind (arith, nat_tests)

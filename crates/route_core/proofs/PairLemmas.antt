@@ -1,5 +1,6 @@
 -- Copies for pairs, as far as they are added.
-use Rattle.std.proofs.Common.{◌≡◌, ◌<◌, ℕ, zero, suc, ◌+◌, ◌*◌, ◌^◌, List, [], ◌∷◌, length, replicate, All, arith, refl, sym, ◌∙◌, ap, subst}
+use Rattle.std.proofs.lemmas.Bool.Decides.{nat_tests}
+use Rattle.std.proofs.Common.{◌≡◌, ◌<◌, ℕ, zero, suc, ◌+◌, ◌^◌, List, [], ◌∷◌, length, replicate, All, arith, refl, sym, ◌∙◌, ap, subst}
 use Rattle.std.proofs.lemmas.List.Elements.{All-head, All-tail}
 use Rattle.std.proofs.lemmas.List.{length-replicate}
 use Rattle.blossom_match.specs.declared.matching.Pair.{Pair}
@@ -20,19 +21,11 @@ pub record LeftPairs (p : PieceValue) (rows : RowsValue) (pairs : List Pair) (cs
 pub none_cost : (f : Edge → ℕ) (es : List Edge) (n : ℕ) → copies_sum f es (replicate n 0) ≡ 0
 none_cost f [] n = refl
 none_cost f (e ∷ es) zero = refl
-none_cost f (e ∷ es) (suc n) = rw (none_cost f es n) (nothing (f e))
-  where
-    nothing : (k : ℕ) → 0 * k + 0 ≡ 0
-    nothing k = omega arith
+none_cost f (e ∷ es) (suc n) = grind (arith, nat_tests, none_cost f es n)
 
 pub begun : (p : PieceValue) (rows : RowsValue) (pairs : List Pair) (cs : List ℕ) → cs ≡ replicate (length p.edges) 0
     → All (IsPairOf rows) pairs → pair_costs rows pairs < 2 ^ 32 → LeftPairs p rows pairs cs pairs
-begun p rows pairs cs is there few = record {
-  there = there;
-  sized = ap length is ∙ length-replicate (length p.edges) 0;
-  few = omega (arith, ap (copies_sum edge_cost p.edges) is, none_cost edge_cost p.edges (length p.edges), few);
-  whole = λ new. λ adds. subst (λ (xs : List ℕ). AddsPairs p rows pairs xs new) is adds;
-}
+begun p rows pairs cs is there few = grind (arith, nat_tests, length-replicate, none_cost)
 
 pub first_pair : (rows : RowsValue) (pairs rest : List Pair) (q : Pair) → pairs ≡ q ∷ rest → All (IsPairOf rows) pairs → IsPairOf rows q
 first_pair rows pairs rest q is there = All-head (IsPairOf rows) q rest (subst (λ (qs : List Pair). All (IsPairOf rows) qs) is there)

@@ -1,5 +1,5 @@
 -- A piece with copies for the pairs of its odd junctions can be passed, and its tours cost as much more.
-use Rattle.std.proofs.Common.{◌≡◌, ◌≢◌, ◌≤◌, ◌<◌, ℕ, zero, suc, ◌+◌, ◌*◌, ◌%◌, ◌==◌, Bool, true, false, cond, ◌&&◌, nat_lt, List, [], ◌∷◌, ◌++◌, length, filter, get_or, replicate, Option, Some, None, All, arith, refl, sym, ◌∙◌, ap, subst}
+use Rattle.std.proofs.Common.{◌≡◌, ◌≢◌, ◌≤◌, ◌<◌, ℕ, zero, suc, ◌+◌, ◌%◌, ◌==◌, Bool, true, false, cond, ◌&&◌, nat_lt, List, [], ◌∷◌, ◌++◌, length, filter, get_or, replicate, Option, Some, None, All, arith, refl, sym, ◌∙◌, ap, subst}
 use Rattle.std.proofs.lemmas.Bool.Decides.{nat_tests}
 use Rattle.std.proofs.lemmas.Bool.{and_parts}
 use Rattle.std.proofs.lemmas.List.Elements.{All-head, All-tail}
@@ -10,11 +10,11 @@ use Rattle.blossom_match.specs.declared.matching.Pair.{Pair}
 use Rattle.blossom_match.specs.Matchings.{IsPerfectMatching, pair_ends_at}
 use Rattle.euler_tour.specs.Tours.{CanPass, IsTour, copies_cost, pass_count, pass_ends}
 use Rattle.line_graph.specs.declared.edge.Edge.{Edge}
-use Rattle.drawing_model.specs.declared.limits.TheConstants.{MAX_COST}
+use Rattle.line_graph.specs.declared.limits.TheConstants.{MAX_COST}
 use Rattle.line_graph.specs.declared.pass.Pass.{Pass}
 use Rattle.line_graph.specs.ValidPieces.{IsValidPiece, ends_below, is_below}
 use Rattle.line_graph.specs.PieceGraphs.{PieceValue, one_if, edges_with_closing, closing_edge, degree, given_start, is_odd, is_odd_junction, given_end}
-use Rattle.line_graph.specs.PieceWalks.{edge_cost, piece_cost, walk_cost}
+use Rattle.line_graph.specs.PieceWalks.{edge_cost}
 use Rattle.odd_paths.specs.LeastRows.{AreTerminals, RowsValue, terminal_of}
 use Rattle.route_core.proofs.PairLemmas.{none_cost}
 use Rattle.route_core.proofs.PathLemmas.{up_within}
@@ -122,14 +122,8 @@ ends_elsewhere rows v other (q ∷ pairs) there =
     ) refl
 
 degree_append : (xs ys : List Edge) (v : ℕ) → degree (xs ++ ys) v ≡ degree xs v + degree ys v
-degree_append [] ys v = none (degree ys v)
-  where
-    none : (k : ℕ) → k ≡ 0 + k
-    none k = omega arith
-degree_append (x ∷ xs) ys v = rw (degree_append xs ys v) (regroup (one_if (x.a == v) + one_if (x.b == v)) (degree xs v) (degree ys v))
-  where
-    regroup : (x u v : ℕ) → x + (u + v) ≡ (x + u) + v
-    regroup x u v = omega arith
+degree_append [] ys v = omega arith
+degree_append (x ∷ xs) ys v = grind (arith, nat_tests, degree_append xs ys v)
 
 degree_beyond : (es : List Edge) (n v : ℕ) → ends_below n es ≡ true → n ≤ v → degree es v ≡ 0
 degree_beyond [] n v below beyond = refl
@@ -145,21 +139,14 @@ closing_beyond : (n v : ℕ) (from to : Option ℕ) → is_below n from ≡ true
     → degree (closing_edge from to) v ≡ 0
 closing_beyond n v None to f t beyond = refl
 closing_beyond n v (Some a) None f t beyond = refl
-closing_beyond n v (Some a) (Some b) f t beyond = rw (other a f beyond, other b t beyond) refl
-  where
-    other : (a : ℕ) → nat_lt a n ≡ true → n ≤ v → (a == v) ≡ false
-    other a is beyond = grind (arith, nat_tests)
+closing_beyond n v (Some a) (Some b) f t beyond = grind (arith, nat_tests)
 
 -- the ends of passes are those of the lines, and those of the copies
 ends_are : (es : List Edge) (copies : List ℕ) (v : ℕ) → length copies ≡ length es → pass_ends es copies v
     ≡ degree es v + copies_sum (edge_end_count v) es copies
 ends_are [] copies v sized = refl
 ends_are (e ∷ es) [] v sized = absurd (omega arith)
-ends_are (e ∷ es) (c ∷ copies) v sized = rw (ends_are es copies v (omega arith))
-    (regroup c (one_if (e.a == v) + one_if (e.b == v)) (degree es v) (copies_sum (edge_end_count v) es copies))
-  where
-    regroup : (c k u w : ℕ) → (c + 1) * k + (u + w) ≡ (k + u) + (c * k + w)
-    regroup c k u w = omega arith
+ends_are (e ∷ es) (c ∷ copies) v sized = grind (arith, nat_tests, ends_are es copies v (omega arith))
 
 cost_is : (es : List Edge) (copies : List ℕ) → copies_cost es copies ≡ copies_sum edge_cost es copies
 cost_is [] copies = refl
@@ -173,13 +160,7 @@ count_is (c ∷ copies) = omega (arith, sum_by-cons (λ (c : ℕ). c + 1) c copi
 -- an odd number of line ends, or an even one
 parity : (d : ℕ) → (t : Bool) → is_odd d ≡ t → d % 2 ≡ one_if t
 parity d true is = grind (arith, nat_tests)
-parity d false is = even d is
-  where
-    small : (d : ℕ) → d % 2 < 2
-    small d = omega arith
-
-    even : (d : ℕ) → (d % 2 == 1) ≡ false → d % 2 ≡ 0
-    even d is = grind (arith, nat_tests)
+parity d false is = grind (arith, nat_tests)
 
 -- the pairs end at a junction as its parity requires
 pairs_parity : (p : PieceValue) → IsValidPiece p → (rows : RowsValue) → AreOddRows p rows → (pairs : List Pair) → All (IsPairOf rows) pairs
@@ -253,44 +234,13 @@ pub can_pass : (p : PieceValue) → IsValidPiece p → (rows : RowsValue) → Ar
 can_pass p kept rows odd_rows pairs there each few copies adds =
     let sized : length copies ≡ length p.edges = adds.sized ∙ length-replicate (length p.edges) 0 in
     let up = up_within p.edges copies kept.costs sized in
-    record {
-      beside = sized ∙ sym kept.beside;
-      even = λ v. even (degree (closing_edge (given_start p) (given_end p)) v) (degree p.edges v) (degree (edges_with_closing p) v)
-          (pass_ends p.edges copies v)
-          (copies_sum (edge_end_count v) p.edges copies) (copies_sum (edge_end_count v) p.edges (replicate (length p.edges) 0))
-          (pair_ends rows v pairs)
-          (degree_append (closing_edge (given_start p) (given_end p)) p.edges v) (ends_are p.edges copies v sized)
-          (none_cost (edge_end_count v) p.edges (length p.edges)) (adds.ends v) (pairs_parity p kept rows odd_rows pairs there each v);
-      few = few_passes (pass_count copies) (total_copies copies) (length copies) (length p.edges) (length p.lines)
-          (copies_sum edge_cost p.edges copies)
-          (copies_sum edge_cost p.edges (replicate (length p.edges) 0)) (pair_costs rows pairs)
-          (count_is copies) up sized kept.beside kept.few adds.costs (none_cost edge_cost p.edges (length p.edges)) few;
-    }
+    record
+    { beside = sized ∙ sym kept.beside; even = λ v. even (degree (closing_edge (given_start p) (given_end p)) v) (degree p.edges v) (degree (edges_with_closing p) v) (pass_ends p.edges copies v) (copies_sum (edge_end_count v) p.edges copies) (copies_sum (edge_end_count v) p.edges (replicate (length p.edges) 0)) (pair_ends rows v pairs) (degree_append (closing_edge (given_start p) (given_end p)) p.edges v) (ends_are p.edges copies v sized) (none_cost (edge_end_count v) p.edges (length p.edges)) (adds.ends v) (pairs_parity p kept rows odd_rows pairs there each v); few = (omega (arith, count_is copies, up, sized, kept.beside, kept.few, adds.costs, none_cost edge_cost p.edges (length p.edges), few)) }
   where
     even : (c d k e s z q : ℕ) → k ≡ c + d → e ≡ d + s → z ≡ 0 → ((s + z) + q) % 2 ≡ 0 → (k + q) % 2 ≡ 0 → (c + e) % 2 ≡ 0
     even c d k e s z q a b n h g = omega arith
 
-    few_passes : (n up len edges lines sum z cost : ℕ) → n ≡ up + len → up ≤ sum → len ≡ edges → lines ≡ edges → lines ≤ 1024 → sum
-        ≡ z + cost → z ≡ 0
-        → cost ≤ 200000 → n < 4294967296
-    few_passes n up len edges lines sum z cost a b c d e f g h = omega arith
-
 -- and a tour over them is a walk by the pairs
 pub walk_is : (p : PieceValue) → IsValidPiece p → (rows : RowsValue) (pairs : List Pair) (copies : List ℕ) (walk : List Pass)
     → AddsPairs p rows pairs (replicate (length p.edges) 0) copies → IsTour p copies walk → IsWalkBy p rows pairs walk
-walk_is p kept rows pairs copies walk adds tour = record {
-  fitting = rw (tour.led, tour.covered) refl;
-  begins = tour.begins;
-  some = some (length walk) (pass_count copies) (total_copies copies) (length copies) (length p.edges) (length p.lines) tour.long
-      (count_is copies)
-      (adds.sized ∙ length-replicate (length p.edges) 0) kept.beside kept.some;
-  costs = costs (walk_cost p walk) (piece_cost p) (copies_cost p.edges copies) (copies_sum edge_cost p.edges copies)
-      (copies_sum edge_cost p.edges (replicate (length p.edges) 0)) (pair_costs rows pairs)
-      tour.costs (cost_is p.edges copies) adds.costs (none_cost edge_cost p.edges (length p.edges));
-}
-  where
-    some : (w n up len edges lines : ℕ) → w ≡ n → n ≡ up + len → len ≡ edges → lines ≡ edges → 1 ≤ lines → 1 ≤ w
-    some w n up len edges lines a b c d e = omega arith
-
-    costs : (w c k s z q : ℕ) → w ≡ c + k → k ≡ s → s ≡ z + q → z ≡ 0 → w ≡ c + q
-    costs w c k s z q a b d e = omega arith
+walk_is p kept rows pairs copies walk adds tour = grind (arith, nat_tests, count_is, length-replicate, cost_is, none_cost)

@@ -11,7 +11,7 @@ use Rattle.line_graph.specs.ValidPieces.{IsValidPiece, all_costs_positive}
 use Rattle.line_graph.specs.PieceGraphs.{PieceValue, one_if}
 use Rattle.line_graph.specs.PieceWalks.{all_greater, after_edge, edge_cost, edge_of, pass_end, edge_value, pass_sum, is_strictly_increasing, pass_start, walk_end_from}
 use Rattle.odd_paths.specs.LeastRows.{IsPath, RowsValue, cost_at, lines_at_indexes, terminal_of}
-use Rattle.route_core.specs.Copies.{AddsPairs, AddsCopies, total_copies, copies_sum, edge_end_count, pair_ends, index_sum}
+use Rattle.route_core.specs.Copies.{AddsPairs, AddsCopies, total_copies, copies_sum, edge_end_count, index_sum}
 use Rattle.line_graph.proofs.CallerLemmas.{above_at, lost}
 use Rattle.lists_and_numbers.proofs.CallerLemmas.{eq_self}
 
@@ -23,11 +23,8 @@ edge_at (n ∷ ns) [] k up same below = absurd (omega arith)
 edge_at (n ∷ ns) (e ∷ es) zero up same below = rw (eq_self n) refl
 edge_at (n ∷ ns) (e ∷ es) (suc k) up same below =
     let parts = and_parts (all_greater n ns) (is_strictly_increasing ns) up in
-    let other : (get_or ns k 0 == n) ≡ false = differs n (get_or ns k 0) (above_at n ns k parts.0 (omega arith)) in
+    let other : (get_or ns k 0 == n) ≡ false = grind (arith, nat_tests, above_at n ns k parts.0 (omega arith)) in
     rw other (edge_at ns es k parts.1 (omega arith) (omega arith))
-  where
-    differs : (m n : ℕ) → m < n → (n == m) ≡ false
-    differs m n h = grind (arith, nat_tests)
 
 -- a sum over the passes of a walk is a sum over the places of its lines
 pub path_sum : (p : PieceValue) → IsValidPiece p → (f : Edge → ℕ) (walk : List Pass) (places : List ℕ)
@@ -48,12 +45,7 @@ path_sum p kept f (pass ∷ walk) (k ∷ places) along there =
 -- a junction is an end of an even number of passes, its ends of the walk counted with them
 pub walk_ends : (ns : List ℕ) (es : List Edge) (v : ℕ) (ps : List Pass) (at to : ℕ) → walk_end_from ns es (Some at) ps ≡ Some to
     → ((pass_sum ns es (edge_end_count v) ps + one_if (at == v)) + one_if (to == v)) % 2 ≡ 0
-walk_ends ns es v [] at to is =
-    let same : at ≡ to = cc in
-    subst (λ (k : ℕ). ((0 + one_if (at == v)) + one_if (k == v)) % 2 ≡ 0) same (twice (one_if (at == v)))
-  where
-    twice : (k : ℕ) → ((0 + k) + k) % 2 ≡ 0
-    twice k = omega arith
+walk_ends ns es v [] at to is = grind (arith, nat_tests)
 walk_ends ns es v (p ∷ ps) at to is = by_edge (edge_of ns es p.line) is (λ k. λ h. walk_ends ns es v ps k to h)
   where
     joined : (s i j t : ℕ) → ((s + j) + t) % 2 ≡ 0 → ((((i + j) + s) + i) + t) % 2 ≡ 0
@@ -109,10 +101,7 @@ up_within (e ∷ es) (c ∷ cs) costs same =
 
 cost_at_place : (es : List Edge) (k : ℕ) → all_costs_positive es ≡ true → k < length es → 1 ≤ edge_value edge_cost (slice_get es k)
 cost_at_place [] k costs below = absurd (omega arith)
-cost_at_place (e ∷ es) zero costs below = some e.cost (and_parts (nat_le 1 e.cost) (all_costs_positive es) costs).0
-  where
-    some : (k : ℕ) → nat_le 1 k ≡ true → 1 ≤ k
-    some k is = grind (arith, nat_tests)
+cost_at_place (e ∷ es) zero costs below = grind (arith, nat_tests)
 cost_at_place (e ∷ es) (suc k) costs below = cost_at_place es k (and_parts (nat_le 1 e.cost) (all_costs_positive es) costs).1 (omega arith)
 
 -- places are no more than their lines cost
@@ -123,11 +112,6 @@ places_within es (k ∷ places) costs there =
     let one = cost_at_place es k costs (All-head (λ k. k < length es) k places there) in
     let rest = places_within es places costs (All-tail (λ k. k < length es) k places there) in
     omega (arith, one, rest)
-
--- the places of a path are there for its copies
-pub path_there : (p : PieceValue) → IsValidPiece p → (i j cost : ℕ) (places cs : List ℕ) → length cs ≡ length p.edges
-    → IsPath p i j cost places → All (λ k. k < length cs) places
-path_there p kept i j cost places cs sized path = subst (λ (n : ℕ). All (λ k. k < n) places) (kept.beside ∙ sym sized) path.there
 
 -- and there is room for them
 pub path_room : (p : PieceValue) → IsValidPiece p → (i j cost : ℕ) (places cs : List ℕ) → length cs ≡ length p.edges
@@ -164,22 +148,7 @@ adds_pair p kept rows q old new places sized path adds = record {
 -- copies for a pair, and then for further ones
 pub adds_more : (p : PieceValue) (rows : RowsValue) (q : Pair) (pairs : List Pair) (old next new : List ℕ)
     → AddsPairs p rows (q ∷ []) old next → AddsPairs p rows pairs next new → AddsPairs p rows (q ∷ pairs) old new
-adds_more p rows q pairs old next new one rest = record {
-  sized = rest.sized ∙ one.sized;
-  costs = costs _ _ _ _ _ one.costs rest.costs;
-  ends = λ v. ends (copies_sum (edge_end_count v) p.edges new) (copies_sum (edge_end_count v) p.edges next)
-      (copies_sum (edge_end_count v) p.edges old)
-      (one_if (terminal_of rows q.a == v) + one_if (terminal_of rows q.b == v)) (pair_ends rows v pairs) (one.ends v) (rest.ends v);
-}
-  where
-    costs : (n m o k u : ℕ) → m ≡ o + (k + 0) → n ≡ m + u → n ≡ o + (k + u)
-    costs n m o k u one rest = omega arith
-
-    ends : (n m o k u : ℕ) → ((m + o) + (k + 0)) % 2 ≡ 0 → ((n + m) + u) % 2 ≡ 0 → ((n + o) + (k + u)) % 2 ≡ 0
-    ends n m o k u one rest = omega arith
+adds_more p rows q pairs old next new one rest = grind (arith, nat_tests)
 
 pub adds_no_pairs : (p : PieceValue) (rows : RowsValue) (cs : List ℕ) → AddsPairs p rows [] cs cs
-adds_no_pairs p rows cs = record { sized = refl; costs = omega arith; ends = λ v. even (copies_sum (edge_end_count v) p.edges cs) }
-  where
-    even : (k : ℕ) → ((k + k) + 0) % 2 ≡ 0
-    even k = omega arith
+adds_no_pairs p rows cs = omega arith

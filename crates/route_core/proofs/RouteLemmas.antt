@@ -1,18 +1,17 @@
 -- The route of a drawing, from the certificates of its pieces.
-use Rattle.std.proofs.Common.{◌≡◌, ◌≤◌, ◌<◌, ℕ, ◌+◌, ◌*◌, List, [], ◌∷◌, ◌++◌, length, All, arith, sym, ◌∙◌, ap, subst}
-use Rattle.std.proofs.lemmas.List.{append-nil, append_assoc}
+use Rattle.std.proofs.lemmas.Bool.Decides.{nat_tests}
+use Rattle.std.proofs.Common.{◌≡◌, ◌≤◌, ◌<◌, ℕ, List, [], ◌∷◌, ◌++◌, length, All, arith, sym, ◌∙◌, ap, subst}
+use Rattle.std.proofs.lemmas.List.{append-nil}
 use Rattle.std.proofs.lemmas.List.Elements.{All-head, All-tail}
 use Rattle.std.specs.List.{AllZip, concat}
 use Rattle.odd_cuts.specs.declared.certificate.PieceCert.{PieceCert}
 use Rattle.odd_cuts.specs.PackingBounds.{BoundsTotal}
 use Rattle.odd_cuts.specs.Certificates.{HasCanonicalText, walks_of}
-use Rattle.odd_cuts.specs.Cuts.{total_weight}
 use Rattle.line_graph.specs.declared.piece.Piece.{Piece}
 use Rattle.line_graph.specs.PiecesOfDrawings.{ArePiecesOf, graph_of, lines_of_pieces}
-use Rattle.drawing_model.specs.Drawings.{DrawingValue, KeepsDrawingLimits}
+use Rattle.line_graph.specs.Drawings.{DrawingValue, KeepsDrawingLimits}
 use Rattle.line_graph.specs.ValidPieces.{IsValidPiece}
 use Rattle.line_graph.specs.PieceGraphs.{PieceValue, piece_graph}
-use Rattle.line_graph.specs.PieceWalks.{piece_cost, walk_cost}
 use Rattle.line_graph.specs.Runs.{AreWritable, commands_after, runs_of, sewn_design}
 use Rattle.line_graph.specs.SewnWalks.{FittingWalksAreSewable, PiecesKeepLimits}
 use Rattle.route_core.specs.declared.routed.Routed.{Routed}
@@ -27,19 +26,8 @@ use Rattle.lists_and_numbers.proofs.CallerLemmas.{below_left, below_right}
 pub record LeftPieces (pieces : List Piece) (certs : List PieceCert) (rest : List Piece) : Type 0 where
   pub whole : (more : List PieceCert) → AreRouted rest more → AreRouted pieces (certs ++ more)
 
-pub routes_on : (pieces left rest : List Piece) (certs next : List PieceCert) (piece : Piece) (cert : PieceCert) → left ≡ piece ∷ rest
-    → next ≡ certs ++ cert ∷ [] → CertifiesLeastWalk (graph_of piece) cert → HasCanonicalText cert → LeftPieces pieces certs left
-    → LeftPieces pieces next rest
-routes_on pieces left rest certs next piece cert is put proved spelled l = record {
-  whole = λ more. λ routed.
-      subst (AreRouted pieces) (sym (ap (λ (cs : List PieceCert). cs ++ more) put ∙ append_assoc certs (cert ∷ []) more))
-      (l.whole (cert ∷ more) (subst (λ (ps : List Piece). AreRouted ps (cert ∷ more)) (sym is)
-      (record { proved = proved; canonical = spelled }, routed)));
-}
-
 pub routed_all : (pieces left : List Piece) (certs : List PieceCert) → left ≡ [] → LeftPieces pieces certs left → AreRouted pieces certs
-routed_all pieces left certs is l =
-    subst (AreRouted pieces) (append-nil certs) (l.whole [] (subst (λ (ps : List Piece). AreRouted ps []) (sym is) tt))
+routed_all pieces left certs is l = grind (arith, nat_tests, append-nil certs)
 
 -- all that is known of a piece and its certificate
 record Good (d : DrawingValue) (lines : List ℕ) (cert : PieceCert) : Type 0 where
@@ -53,20 +41,8 @@ good d keeps sews keeps_total p cert below is routed =
     let proved = subst (λ (g : PieceValue). CertifiesLeastWalk g cert) is routed.proved in
     let kept = subst IsValidPiece is p.kept in
     let sewable = sews d p.lines cert.walk keeps below kept proved.fitting in
-    record {
-      best = record { proved = proved; penetrations = sewable.penetrations };
-      sewn = record {
-        canonical = routed.canonical;
-        sewable = sewable;
-        below = below;
-        costs = few (total_weight cert.cuts) cert.retraced (piece_cost (piece_graph d p.lines))
-            (walk_cost (piece_graph d p.lines) cert.walk)
-            (keeps_total (piece_graph d p.lines) cert.cuts kept proved.packing) proved.total proved.retraced;
-      };
-    }
-  where
-    few : (t r c w : ℕ) → t ≤ 2 * c → t ≡ 2 * r → w ≡ c + r → w ≤ 2 * c
-    few t r c w most is costs = omega arith
+    record
+    { best = record { proved = proved; penetrations = sewable.penetrations }; sewn = record { canonical = routed.canonical; sewable = sewable; below = below; costs = (omega (arith, keeps_total (piece_graph d p.lines) cert.cuts kept proved.packing, proved.total, proved.retraced)) } }
 
 all_good : (d : DrawingValue) → KeepsDrawingLimits d → FittingWalksAreSewable → BoundsTotal → (pieces : List Piece) (certs : List PieceCert)
     → All (λ line. line < length d.lines) (concat (lines_of_pieces pieces)) → All (λ (p : Piece). graph_of p ≡ piece_graph d p.lines) pieces

@@ -1,18 +1,18 @@
 -- Walks over pieces that can be sewn, and what is needed to sew them all.
-use Rattle.std.proofs.Common.{◌≡◌, ◌≢◌, ◌≤◌, ◌<◌, ℕ, suc, ◌+◌, ◌-◌, ◌*◌, List, [], ◌∷◌, ◌++◌, length, All, Contains, sum_by, arith, refl, ap}
+use Rattle.std.proofs.lemmas.Bool.Decides.{nat_tests}
+use Rattle.std.proofs.Common.{◌≡◌, ◌≢◌, ◌≤◌, ◌<◌, ℕ, suc, ◌+◌, ◌*◌, List, [], ◌∷◌, length, All, Contains, sum_by, arith, refl, ap}
 use Rattle.std.proofs.lemmas.List.Elements.{All-cons, All-contains, All-head, All-nil, All-tail}
 use Rattle.std.proofs.lemmas.List.Sums.{sum_by-cons}
 use Rattle.std.specs.List.{AllZip}
 use Rattle.odd_cuts.specs.declared.certificate.PieceCert.{PieceCert}
 use Rattle.odd_cuts.specs.Certificates.{HasCanonicalText, walks_of}
 use Rattle.line_graph.specs.declared.pass.Pass.{Pass}
-use Rattle.drawing_model.specs.Drawings.{DrawingValue, KeepsDrawingLimits}
+use Rattle.line_graph.specs.Drawings.{DrawingValue, KeepsDrawingLimits}
 use Rattle.line_graph.specs.PieceGraphs.{piece_graph}
 use Rattle.line_graph.specs.Pieces.{ArePieces}
 use Rattle.line_graph.specs.PieceWalks.{piece_cost, walk_cost}
 use Rattle.line_graph.specs.Runs.{AreNear, AreWritable, Run, commands_after, run_of, runs_of}
 use Rattle.line_graph.specs.SewnWalks.{ArePiecesWithin, GoesAlong, IsSewable, PiecesKeepLimits}
-use Rattle.line_graph.specs.Walks.{needles_of_walk}
 use Rattle.route_verdict.specs.SewingSteps.{AllDrawn, AreDrawn}
 use Rattle.line_graph.proofs.CallerLemmas.{commands_count}
 
@@ -73,17 +73,14 @@ needles_few d [] [] all = omega arith
 needles_few d [] (c ∷ certs) all = absurd all
 needles_few d (p ∷ pieces) [] all = absurd all
 needles_few d (p ∷ pieces) (c ∷ certs) all =
-    added (length (needles_of_walk d c.walk)) (walk_cost (piece_graph d p) c.walk) (piece_cost (piece_graph d p))
-    (sum_by (λ (run : Run). length run.needles) (runs_of d (walks_of certs))) (sum_by (λ lines. piece_cost (piece_graph d lines)) pieces)
-    (length pieces)
-    (sum_by (λ (run : Run). length run.needles) (runs_of d (walks_of (c ∷ certs))))
-    (sum_by (λ lines. piece_cost (piece_graph d lines)) (p ∷ pieces))
-    all.0.sewable.penetrations all.0.costs (needles_few d pieces certs all.1)
-    (sum_by-cons (λ (run : Run). length run.needles) (run_of d c.walk) (runs_of d (walks_of certs)))
-    (sum_by-cons (λ lines. piece_cost (piece_graph d lines)) p pieces)
-  where
-    added : (n w c s t k u v : ℕ) → n ≡ w + 1 → w ≤ 2 * c → s ≤ 2 * t + k → u ≡ n + s → v ≡ c + t → u ≤ 2 * v + suc k
-    added n w c s t k u v a b d e f = omega arith
+    grind (
+      arith,
+      nat_tests,
+      needles_few d pieces certs all.1,
+      sum_by-cons (λ (run : Run). length run.needles) (run_of d c.walk)
+          (runs_of d (walks_of certs)),
+      sum_by-cons (λ lines. piece_cost (piece_graph d lines)) p pieces,
+    )
 
 runs_count : (d : DrawingValue) (pieces : List (List ℕ)) (certs : List PieceCert) → AllZip (Sewn d) pieces certs
     → length (runs_of d (walks_of certs)) ≡ length pieces
@@ -95,12 +92,7 @@ runs_count d (p ∷ pieces) (c ∷ certs) all = ap (λ (n : ℕ). suc n) (runs_c
 writable : (d : DrawingValue) → KeepsDrawingLimits d → (pieces : List (List ℕ)) (certs : List PieceCert) → ArePiecesWithin d pieces
     → AllZip (Sewn d) pieces certs
     → AreWritable d.step (runs_of d (walks_of certs))
-writable d keeps pieces certs within all = record {
-  near = near_of d pieces certs all;
-  runs_to = omega (arith, runs_count d pieces certs all, within.count);
-  needles_to = omega (arith, needles_few d pieces certs all, within.cost, within.count);
-  stops_to = omega (arith, within.stops (walks_of certs) (along_of d pieces certs all), keeps.blocks_to);
-}
+writable d keeps pieces certs within all = grind (arith, nat_tests, near_of, runs_count, needles_few, along_of)
 
 -- what is needed to sew the certificates, and what is then known
 pub record Able (d : DrawingValue) (certs : List PieceCert) : Type 0 where
@@ -112,11 +104,4 @@ pub record Able (d : DrawingValue) (certs : List PieceCert) : Type 0 where
 pub able : (d : DrawingValue) → KeepsDrawingLimits d → PiecesKeepLimits → (pieces : List (List ℕ)) (certs : List PieceCert)
     → ArePieces d pieces
     → AllZip (Sewn d) pieces certs → Able d certs
-able d keeps limits pieces certs are all =
-    let is : AreWritable d.step (runs_of d (walks_of certs)) = writable d keeps pieces certs (limits d pieces keeps are) all in
-    record {
-      drawn = drawn_of d pieces certs all;
-      room = omega (arith, commands_count 0 (runs_of d (walks_of certs)), is.stops_to, is.needles_to, is.runs_to);
-      canonical = spelled_of d pieces certs all;
-      writable = is;
-    }
+able d keeps limits pieces certs are all = grind (arith, nat_tests, writable, drawn_of, commands_count, spelled_of)
