@@ -1,15 +1,15 @@
 -- Where lists of acts begin to differ.
-use Rattle.std.proofs.Common.{◌≡◌, ◌≤◌, ◌<◌, ℕ, suc, ◌+◌, ◌-◌, true, false, List, [], ◌∷◌, ◌++◌, Some, Result, Ok, Err, length, map, replicate, drop, arith, refl, sym, ◌∙◌, ap, subst}
-use Rattle.std.proofs.lemmas.List.{append-nil, append_assoc, at_drop_more, length-drop}
+use Rattle.std.proofs.lemmas.Bool.Decides.{nat_tests}
+use Rattle.std.proofs.Common.{◌≡◌, ◌≤◌, ◌<◌, ℕ, ◌+◌, ◌-◌, true, List, [], ◌∷◌, ◌++◌, Some, Result, Ok, Err, length, drop, arith, refl, sym, ◌∙◌, ap, subst}
+use Rattle.std.proofs.lemmas.List.{append_assoc, at_drop_more, length-drop}
 use Rattle.std.proofs.lemmas.List.Elements.{All-head, All-tail}
 use Rattle.odd_cuts.specs.declared.certificate.PieceCert.{PieceCert}
 use Rattle.design_model.specs.declared.act.Act.{Act}
-use Rattle.design_model.specs.declared.act.Act.TheVariants as act
 use Rattle.design_model.specs.declared.act.NumberedAct.{NumberedAct}
 use Rattle.design_model.specs.declared.point.Point.{Point}
 use Rattle.design_model.specs.Acts.{acts_without_numbers}
 use Rattle.line_graph.specs.declared.pass.Pass.{Pass}
-use Rattle.drawing_model.specs.Drawings.{DrawingValue}
+use Rattle.line_graph.specs.Drawings.{DrawingValue}
 use Rattle.line_graph.specs.Runs.{sewn_acts_after, block_of_passes, runs_of}
 use Rattle.line_graph.specs.Walks.{needles_of_walk}
 use Rattle.route_verdict.specs.ActOrder.{first_differing_act}
@@ -21,13 +21,9 @@ use Rattle.route_verdict.specs.SewingSteps.{AllDrawn, AreDrawn}
 drop_step : (acts : List NumberedAct) (at : ℕ) (a : NumberedAct) (rest : List NumberedAct) → drop at acts ≡ a ∷ rest
     → (drop (at + 1) acts ≡ rest) × (at + 1 ≤ length acts)
 drop_step acts at a rest is =
-    let less : at < length acts = fewer (length acts) at (length rest)
-    (sym (length-drop at acts) ∙ ap (λ (xs : List NumberedAct). length xs) is) in
+    let less : at < length acts = omega (arith, sym (length-drop at acts) ∙ ap (λ (xs : List NumberedAct). length xs) is) in
     (ap (λ xs. behind xs) (sym (at_drop_more (λ xs. xs) acts at a less) ∙ is), omega (arith, less))
   where
-    fewer : (n k m : ℕ) → n - k ≡ suc m → k < n
-    fewer n k m h = omega arith
-
     behind : List NumberedAct → List NumberedAct
     behind [] = []
     behind (x ∷ xs) = xs
@@ -44,62 +40,14 @@ begins acts at expected is = by_rest (drop at acts) refl is
         let next = drop_step acts at a rest here in
         (next.1, λ others. rw (here, next.0, same) refl)
 
--- and others differ there
-pub begins_not : (acts : List NumberedAct) (at : ℕ) (expected : Act)
-    → begins_with_act (acts_without_numbers (drop at acts)) expected ≡ false
-    → ComparesActs acts at (expected ∷ []) (Err (at + 1))
-begins_not acts at expected is = λ others. by_rest (acts_without_numbers (drop at acts)) is others
-  where
-    by_rest : (found : List Act) → begins_with_act found expected ≡ false → (others : List Act)
-        → first_differing_act (at + 1) found (expected ∷ others) ≡ Some (at + 1)
-    by_rest [] is others = refl
-    by_rest (a ∷ found) is others = rw is refl
-
 -- some of the expected acts are passed over, and these are left
 pub record GoesOn (acts : List NumberedAct) (at : ℕ) (whole : List Act) (next : ℕ) (left : List Act) : Type 0 where
   pub there : next ≤ length acts
   pub same : (others : List Act) → first_differing_act (at + 1) (acts_without_numbers (drop at acts)) (whole ++ others)
       ≡ first_differing_act (next + 1) (acts_without_numbers (drop next acts)) (left ++ others)
 
-pub goes_begin : (acts : List NumberedAct) (at : ℕ) (whole : List Act) → at ≤ length acts → GoesOn acts at whole at whole
-goes_begin acts at whole there = record { there = there; same = λ others. refl }
-
 regroup : (left part rest others : List Act) → left ≡ part ++ rest → left ++ others ≡ part ++ (rest ++ others)
 regroup left part rest others is = ap (λ xs. xs ++ others) is ∙ append_assoc part rest others
-
--- a part more is passed over
-pub goes_step : (acts : List NumberedAct) (at next behind : ℕ) (whole left part rest : List Act) → left ≡ part ++ rest
-    → GoesOn acts at whole next left → ComparesActs acts next part (Ok behind) → GoesOn acts at whole behind rest
-goes_step acts at next behind whole left part rest is on passed = record {
-  there = passed.0;
-  same = λ others. on.same others
-      ∙ ap (λ xs. first_differing_act (next + 1) (acts_without_numbers (drop next acts)) xs) (regroup left part rest others is)
-      ∙ passed.1 (rest ++ others);
-}
-
--- or differs
-pub goes_differ : (acts : List NumberedAct) (at next number : ℕ) (whole left part rest : List Act) → left ≡ part ++ rest
-    → GoesOn acts at whole next left → ComparesActs acts next part (Err number) → ComparesActs acts at whole (Err number)
-goes_differ acts at next number whole left part rest is on differs = λ others. on.same others
-    ∙ ap (λ xs. first_differing_act (next + 1) (acts_without_numbers (drop next acts)) xs) (regroup left part rest others is)
-    ∙ differs (rest ++ others)
-
--- all is passed over
-pub goes_all : (acts : List NumberedAct) (at next : ℕ) (whole left : List Act) → left ≡ [] → GoesOn acts at whole next left
-    → ComparesActs acts at whole (Ok next)
-goes_all acts at next whole left is on = (
-  on.there,
-  λ others. on.same others ∙ ap (λ xs. first_differing_act (next + 1) (acts_without_numbers (drop next acts)) (xs ++ others))
-      is,
-)
-
--- the last part decides the rest
-pub goes_last : (acts : List NumberedAct) (at next : ℕ) (whole part : List Act) (r : Result ℕ ℕ) → GoesOn acts at whole next part
-    → ComparesActs acts next part r → ComparesActs acts at whole r
-goes_last acts at next whole part (Ok behind) on passed =
-    goes_all acts at behind whole [] refl (goes_step acts at next behind whole part part [] (sym (append-nil part)) on passed)
-goes_last acts at next whole part (Err number) on differs =
-    goes_differ acts at next number whole part part [] (sym (append-nil part)) on differs
 
 -- the walks so far are passed over, and these are left
 pub record LeftRuns (d : DrawingValue) (acts : List NumberedAct) (certs : List PieceCert) (at before : ℕ)
@@ -115,18 +63,12 @@ walk_acts d before cert = run_acts (block_of_passes d cert.walk - before) (needl
 walk_first : (d : DrawingValue) (before : ℕ) (cert : PieceCert) (rest : List PieceCert)
     → sewn_acts_after before (runs_of d (walks_of (cert ∷ rest)))
     ≡ walk_acts d before cert ++ sewn_acts_after (block_of_passes d cert.walk) (runs_of d (walks_of rest))
-walk_first d before cert rest =
-    let later : List Act = sewn_acts_after (block_of_passes d cert.walk) (runs_of d (walks_of rest)) in
-    let stops : List Act = replicate (block_of_passes d cert.walk - before) act.Stop in
-    let needles : List Act = map (λ p. act.Needle p false) (needles_of_walk d cert.walk) in
-    sym (append_assoc stops (needles ++ act.Trim ∷ []) later
-    ∙ ap (λ (xs : List Act). stops ++ xs) (append_assoc needles (act.Trim ∷ []) later))
+walk_first d before cert rest = grind (arith, nat_tests, append_assoc)
 
 left_first : (d : DrawingValue) (before : ℕ) (left rest : List PieceCert) (cert : PieceCert) → left ≡ cert ∷ rest
     → sewn_acts_after before (runs_of d (walks_of left))
     ≡ walk_acts d before cert ++ sewn_acts_after (block_of_passes d cert.walk) (runs_of d (walks_of rest))
-left_first d before left rest cert is =
-    ap (λ (cs : List PieceCert). sewn_acts_after before (runs_of d (walks_of cs))) is ∙ walk_first d before cert rest
+left_first d before left rest cert is = grind (arith, nat_tests, walk_first)
 
 -- a walk more is passed over
 pub runs_on : (d : DrawingValue) (acts : List NumberedAct) (certs : List PieceCert) (at before next : ℕ) (left rest : List PieceCert)
@@ -145,23 +87,12 @@ pub runs_differ : (d : DrawingValue) (acts : List NumberedAct) (certs : List Pie
     (left rest : List PieceCert) (cert : PieceCert)
     → left ≡ cert ∷ rest → LeftRuns d acts certs at before left → ComparesActs acts at (walk_acts d before cert) (Err number)
     → first_differing_act 1 (acts_without_numbers acts) (sewn_acts_after 0 (runs_of d (walks_of certs))) ≡ Some number
-runs_differ d acts certs at before number left rest cert is on differs =
-    on.same ∙ ap (λ xs. first_differing_act (at + 1) (acts_without_numbers (drop at acts)) xs) (left_first d before left rest cert is)
-    ∙ differs (sewn_acts_after (block_of_passes d cert.walk) (runs_of d (walks_of rest)))
+runs_differ d acts certs at before number left rest cert is on differs = grind (arith, nat_tests, left_first d before left rest cert is)
 
 -- the walk of the next piece is drawn
 pub drawn_next : (d : DrawingValue) (left rest : List PieceCert) (cert : PieceCert) → left ≡ cert ∷ rest → AllDrawn d left
     → AreDrawn d cert.walk
 drawn_next d left rest cert is drawn = All-head (λ (c : PieceCert). AreDrawn d c.walk) cert rest (subst (AllDrawn d) is drawn)
-
--- once all walks are compared, the end of the acts decides
-pub runs_all : (d : DrawingValue) (acts : List NumberedAct) (certs : List PieceCert) (at before : ℕ) (left : List PieceCert) → left ≡ []
-    → LeftRuns d acts certs at before left
-    → first_differing_act 1 (acts_without_numbers acts) (sewn_acts_after 0 (runs_of d (walks_of certs)))
-    ≡ first_differing_act (at + 1) (acts_without_numbers (drop at acts)) []
-runs_all d acts certs at before left is on =
-    on.same ∙ ap (λ (cs : List PieceCert). first_differing_act (at + 1) (acts_without_numbers (drop at acts))
-    (sewn_acts_after before (runs_of d (walks_of cs)))) is
 
 -- an act that is left differs from the end
 pub more_left : (acts : List NumberedAct) (at : ℕ) → at < length acts
@@ -184,7 +115,4 @@ pub run_is : (d : DrawingValue) (acts : List NumberedAct) (at before block stops
     → ComparesActs acts at (run_acts stops points) r
     → ComparesActs acts at (run_acts (block_of_passes d walk - before) (needles_of_walk d walk)) r
 run_is d acts at before block stops walk seen other points needles r seen_is other_is block_is stops_is points_are needles_are passed =
-    subst (λ (ps : List Point). ComparesActs acts at (run_acts (block_of_passes d walk - before) ps) r)
-    (points_are ∙ needles_are ∙ ap (needles_of_walk d) other_is)
-    (subst (λ (k : ℕ). ComparesActs acts at (run_acts k points) r)
-    (stops_is ∙ ap (λ (k : ℕ). k - before) (block_is ∙ ap (block_of_passes d) seen_is)) passed)
+    grind (arith, nat_tests)

@@ -1,7 +1,7 @@
 -- Lemmas that this crate and those above cite.
-use Rattle.std.proofs.Common.{None, Option, Some, arith, refl, true, ℕ, ◌+◌, ◌-◌, ◌==◌, ◌≡◌, ◌≤◌}
+use Rattle.std.proofs.Common.{None, Option, Some, arith, refl, true, ℕ, ◌==◌, ◌≡◌}
 use Rattle.line_graph.specs.PieceGraphs.{PieceValue}
-use Rattle.line_graph.specs.PieceWalks.{is_fitting_walk, piece_cost, walk_cost}
+use Rattle.line_graph.specs.PieceWalks.{is_fitting_walk}
 use Rattle.line_graph.specs.ValidPieces.{IsValidPiece}
 use Rattle.lists_and_numbers.proofs.CallerLemmas.{same_number, test_none}
 use Rattle.odd_cuts.proofs.CallerLemmas.{both_none, costs_more}
@@ -32,21 +32,13 @@ count_none found drawn is = same_number found drawn (test_none (found == drawn) 
 pub piece_correct : WalkFaultsAreExact → CutFaultsAreExact → BoundsWalks → (p : PieceValue) → IsValidPiece p → (number : ℕ)
     (cert : PieceCert) → piece_reason p number cert ≡ None → IsCorrectPieceCert p cert
 piece_correct walks cuts bounds p keeps number cert none =
-    let first = both_none (walk_reason number (walk_fault p cert.walk))
-    (first_fault (retraced_reason number cert.retraced (cost_above p cert))
-    (cuts_reason number (cuts_fault p cert.retraced cert.cuts))) none in
+    let first = both_none (walk_reason number (walk_fault p cert.walk)) (first_fault
+    (retraced_reason number cert.retraced (cost_above p cert)) (cuts_reason number (cuts_fault p cert.retraced cert.cuts))) none in
     let second = both_none (retraced_reason number cert.retraced (cost_above p cert))
     (cuts_reason number (cuts_fault p cert.retraced cert.cuts)) first.1 in
     let fit : is_fitting_walk p cert.walk ≡ true = (walks p cert.walk keeps).0 (walk_none number (walk_fault p cert.walk) first.0) in
     let packing = (cuts p cert.retraced cert.cuts keeps).0 (cuts_none number (cuts_fault p cert.retraced cert.cuts) second.1) in
     let said : cert.retraced ≡ cost_above p cert = same_number cert.retraced (cost_above p cert)
     (test_none (cert.retraced == cost_above p cert) (reason.Retraced number cert.retraced (cost_above p cert)) second.0) in
-    record {
-      fitting = fit;
-      retraced = above (walk_cost p cert.walk) (piece_cost p) cert.retraced (costs_more bounds p cert keeps fit) said;
-      packing = packing.0;
-      total = packing.1;
-    }
-  where
-    above : (w c r : ℕ) → c ≤ w → r ≡ w - c → w ≡ c + r
-    above w c r less is = omega arith
+    record
+    { fitting = fit; retraced = (omega (arith, costs_more bounds p cert keeps fit, said)); packing = packing.0; total = packing.1 }

@@ -1,27 +1,19 @@
 -- Acts and lists of them are the same exactly where no difference is found.
-use Rattle.std.proofs.Common.{◌≡◌, ℕ, ℤ, ◌+◌, Bool, true, false, cond, List, [], ◌∷◌, Some, None, refl, ◌∙◌, ap}
-use Rattle.std.proofs.lemmas.Bool.{and_from, and_parts}
+use Rattle.std.proofs.lemmas.Bool.Decides.{nat_tests}
+use Rattle.std.proofs.Common.{◌≡◌, ℕ, ◌+◌, Bool, true, false, cond, List, [], ◌∷◌, Some, None, refl, ◌∙◌, ap, arith}
+use Rattle.std.proofs.lemmas.Bool.{and_from}
 use Rattle.design_model.specs.declared.act.Act.{Act}
 use Rattle.design_model.specs.declared.act.Act.TheVariants as act
-use Rattle.design_model.specs.declared.point.Point.{Point}
 use Rattle.design_model.specs.Points.{is_same_point}
 use Rattle.route_verdict.specs.ActOrder.{first_differing_act, is_same_act, are_equal_bools}
-use Rattle.design_model.proofs.CallerLemmas.{point_itself, same_is}
-
-same_answer : (a b : Bool) → are_equal_bools a b ≡ true → a ≡ b
-same_answer true true is = refl
-same_answer true false is = absurd (cc)
-same_answer false true is = absurd (cc)
-same_answer false false is = refl
+use Rattle.design_model.proofs.CallerLemmas.{point_itself}
 
 answer_itself : (a : Bool) → are_equal_bools a a ≡ true
 answer_itself true = refl
 answer_itself false = refl
 
 same_act : (a b : Act) → is_same_act a b ≡ true → a ≡ b
-same_act (act.Needle p float) (act.Needle q other) is =
-    let both = and_parts (is_same_point p q) (are_equal_bools float other) is in
-    ap (λ (at : Point). act.Needle at float) (same_is p q both.0) ∙ ap (λ (f : Bool). act.Needle q f) (same_answer float other both.1)
+same_act (act.Needle p float) (act.Needle q other) is = grind (arith, nat_tests)
 same_act (act.Needle p float) act.Trim is = absurd (cc)
 same_act (act.Needle p float) act.Stop is = absurd (cc)
 same_act act.Trim (act.Needle q other) is = absurd (cc)

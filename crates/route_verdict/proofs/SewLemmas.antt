@@ -1,20 +1,20 @@
 -- Walks sewn one after another.
-use Rattle.std.proofs.Common.{◌≡◌, ◌≤◌, ◌<◌, ℕ, ◌+◌, ◌-◌, Bool, true, false, cond, List, [], ◌∷◌, ◌++◌, length, map, drop, replicate, reverse, All, arith, sym, ◌∙◌, ap, subst}
+use Rattle.std.proofs.lemmas.Bool.Decides.{nat_tests}
+use Rattle.std.proofs.Common.{◌≡◌, ◌≤◌, ◌<◌, ℕ, ◌+◌, Bool, true, false, cond, List, [], ◌∷◌, ◌++◌, length, drop, reverse, All, arith, sym, ◌∙◌, ap, subst}
 use mathlib.Core.List.{reverse_aux}
-use Rattle.std.proofs.lemmas.List.{append-nil, append_assoc, length-append}
+use Rattle.std.proofs.lemmas.List.{append_assoc, length-append}
 use Rattle.std.proofs.lemmas.List.Concat.{flat_map-cons}
 use Rattle.std.proofs.lemmas.List.Elements.{All-append, All-cons, All-head, All-nil, All-tail}
 use Rattle.odd_cuts.specs.declared.certificate.PieceCert.{PieceCert}
 use Rattle.design_model.specs.declared.command.Command.{Command}
-use Rattle.design_model.specs.declared.command.Command.TheVariants.{Stitch, Stop, Trim}
 use Rattle.design_model.specs.declared.point.Point.{Point}
 use Rattle.design_model.specs.Designs.{DesignValue}
-use Rattle.drawing_model.specs.Chains.{IsNeedlePoint}
+use Rattle.line_graph.specs.Chains.{IsNeedlePoint}
 use Rattle.line_graph.specs.declared.pass.Pass.{Pass}
-use Rattle.drawing_model.specs.Drawings.{DrawingValue, KeepsDrawingLimits}
+use Rattle.line_graph.specs.Drawings.{DrawingValue, KeepsDrawingLimits}
 use Rattle.line_graph.specs.Runs.{block_of_passes, commands_after, runs_of}
-use Rattle.drawing_model.specs.LineNeedles.{NeedlesLeadAlong, needles_of_line}
-use Rattle.line_graph.specs.Walks.{needles_of_pass, needles_of_walk}
+use Rattle.line_graph.specs.LineNeedles.{NeedlesLeadAlong}
+use Rattle.line_graph.specs.Walks.{needles_of_line, needles_of_pass, needles_of_walk}
 use Rattle.odd_cuts.specs.Certificates.{walks_of}
 use Rattle.design_model.specs.LongerDesigns.{with_commands}
 use Rattle.route_verdict.specs.SewingSteps.{AllDrawn, AreDrawn, later_needles, run_commands}
@@ -23,15 +23,7 @@ use Rattle.route_verdict.specs.SewingSteps.{AllDrawn, AreDrawn, later_needles, r
 pub later_more : (d : DrawingValue) (old points : List Point) (left after : List Pass) (pass : Pass) → left ≡ pass ∷ after
     → (needles : List Point) → needles ≡ needles_of_pass d pass → points ≡ old ++ drop 1 needles
     → points ++ later_needles d after ≡ old ++ later_needles d left
-later_more d old points left after pass is needles are put =
-    ap (λ (ps : List Point). ps ++ later_needles d after) (put ∙ ap (λ (ps : List Point). old ++ drop 1 ps) are)
-    ∙ append_assoc old (drop 1 (needles_of_pass d pass)) (later_needles d after)
-    ∙ ap (λ (ps : List Point). old ++ ps) (sym (flat_map-cons (λ (next : Pass). drop 1 (needles_of_pass d next)) pass after)
-    ∙ ap (later_needles d) (sym is))
-
-pub drawn_first : (d : DrawingValue) (left after : List Pass) (pass : Pass) → left ≡ pass ∷ after → AreDrawn d left
-    → pass.line < length d.lines
-drawn_first d left after pass is drawn = All-head (λ (p : Pass). p.line < length d.lines) pass after (subst (AreDrawn d) is drawn)
+later_more d old points left after pass is needles are put = grind (arith, nat_tests, append_assoc, flat_map-cons)
 
 pub drawn_rest : (d : DrawingValue) (left after : List Pass) (pass : Pass) → left ≡ pass ∷ after → AreDrawn d left → AreDrawn d after
 drawn_rest d left after pass is drawn = All-tail (λ (p : Pass). p.line < length d.lines) pass after (subst (AreDrawn d) is drawn)
@@ -84,26 +76,13 @@ walk_first : (d : DrawingValue) (before : ℕ) (piece : PieceCert) (rest : List 
     → commands_after before (runs_of d (walks_of (piece ∷ rest)))
     ≡ run_commands before (block_of_passes d piece.walk) (needles_of_walk d piece.walk)
     ++ commands_after (block_of_passes d piece.walk) (runs_of d (walks_of rest))
-walk_first d before piece rest =
-    let later : List Command = commands_after (block_of_passes d piece.walk) (runs_of d (walks_of rest)) in
-    let stops : List Command = replicate (block_of_passes d piece.walk - before) Stop in
-    let stitches : List Command = map (λ p. Stitch p) (needles_of_walk d piece.walk) in
-    sym (append_assoc stops (stitches ++ Trim ∷ []) later
-    ∙ ap (λ (cs : List Command). stops ++ cs) (append_assoc stitches (Trim ∷ []) later))
+walk_first d before piece rest = grind (arith, nat_tests, append_assoc)
 
 pub room_for : (d : DrawingValue) (pieces : List PieceCert) (begun design : DesignValue) (before : ℕ) (left rest : List PieceCert)
     (piece : PieceCert) → left ≡ piece ∷ rest
     → Left d pieces begun design before left
     → length design.commands + length (run_commands before (block_of_passes d piece.walk) (needles_of_walk d piece.walk)) ≤ 1000000
-room_for d pieces begun design before left rest piece is l =
-    omega (
-      arith,
-      l.room,
-      ap (λ (ps : List PieceCert). length (commands_after before (runs_of d (walks_of ps)))) is,
-      ap (λ (cs : List Command). length cs) (walk_first d before piece rest),
-      length-append (run_commands before (block_of_passes d piece.walk) (needles_of_walk d piece.walk))
-          (commands_after (block_of_passes d piece.walk) (runs_of d (walks_of rest))),
-    )
+room_for d pieces begun design before left rest piece is l = grind (arith, nat_tests, walk_first, length-append)
 
 pub sews_on : (d : DrawingValue) (pieces : List PieceCert) (begun design next : DesignValue) (before block : ℕ) (left rest : List PieceCert)
     (piece : PieceCert) → left ≡ piece ∷ rest
@@ -121,13 +100,6 @@ sews_on d pieces begun design next before block left rest piece is at put l =
       whole = ap (λ (cs : List Command). record design { commands = cs })
           (append_assoc design.commands run later ∙ ap (λ (cs : List Command). design.commands ++ cs) (sym all)) ∙ l.whole;
     })
-
-pub sewn_all : (d : DrawingValue) (pieces : List PieceCert) (begun design : DesignValue) (before : ℕ) (left : List PieceCert) → left ≡ []
-    → Left d pieces begun design before left → design ≡ with_commands begun (commands_after 0 (runs_of d (walks_of pieces)))
-sewn_all d pieces begun design before left is l =
-    ap (λ (cs : List Command). record design { commands = cs }) (sym (append-nil design.commands))
-    ∙ subst (λ (ps : List PieceCert). with_commands design (commands_after before (runs_of d (walks_of ps)))
-    ≡ with_commands begun (commands_after 0 (runs_of d (walks_of pieces)))) is l.whole
 
 pub drawn_piece : (d : DrawingValue) (left rest : List PieceCert) (piece : PieceCert) → left ≡ piece ∷ rest → AllDrawn d left
     → AreDrawn d piece.walk

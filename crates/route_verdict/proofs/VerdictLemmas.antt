@@ -1,12 +1,12 @@
 -- Verdicts: no reason is found exactly where all is right, and then each walk is least.
-use Rattle.std.proofs.Common.{◌≡◌, ◌≤◌, ◌<◌, ℕ, ◌+◌, ◌-◌, ◌*◌, ◌==◌, true, List, [], ◌∷◌, ◌++◌, Option, Some, None, length, map, All, Contains, arith, refl, sym, ◌∙◌, ap, subst}
+use Rattle.std.proofs.lemmas.Bool.Decides.{nat_tests}
+use Rattle.std.proofs.Common.{◌≡◌, ◌≤◌, ◌<◌, ℕ, ◌+◌, true, List, [], ◌∷◌, ◌++◌, Option, Some, None, length, map, All, Contains, arith, refl, sym, ◌∙◌, ap, subst}
 use Rattle.std.proofs.lemmas.List.{length-map}
 use Rattle.std.proofs.lemmas.List.Elements.{All-cons, All-contains, All-head, All-nil, All-tail}
 use Rattle.std.specs.List.{AllZip, concat}
 use Rattle.odd_cuts.specs.declared.certificate.PieceCert.{PieceCert}
 use Rattle.odd_cuts.specs.PackingBounds.{BoundsWalks, ProvesLeast}
 use Rattle.odd_cuts.specs.CutFaults.{cuts_fault}
-use Rattle.odd_cuts.specs.Cuts.{total_weight}
 use Rattle.odd_cuts.specs.FaultTheorems.{CutFaultsAreExact, WalkFaultsAreExact}
 use Rattle.odd_cuts.specs.Faults.{first_fault}
 use Rattle.odd_cuts.specs.WalkFaults.{walk_fault}
@@ -15,16 +15,15 @@ use Rattle.design_model.specs.Designs.{DesignValue}
 use Rattle.line_graph.specs.declared.pass.Pass.{Pass}
 use Rattle.line_graph.specs.declared.piece.Piece.{Piece}
 use Rattle.line_graph.specs.PiecesOfDrawings.{ArePiecesOf, graph_of, lines_of_pieces}
-use Rattle.drawing_model.specs.Drawings.{DrawingValue, KeepsDrawingLimits}
+use Rattle.line_graph.specs.Drawings.{DrawingValue, KeepsDrawingLimits}
 use Rattle.line_graph.specs.DrawnWalks.{PiecesAreValid}
 use Rattle.line_graph.specs.Pieces.{ArePieces}
 use Rattle.line_graph.specs.ValidPieces.{IsValidPiece}
 use Rattle.line_graph.specs.PieceGraphs.{PieceValue, piece_graph}
-use Rattle.line_graph.specs.PieceWalks.{IsLeastWalk, is_fitting_walk, piece_cost, walk_cost}
+use Rattle.line_graph.specs.PieceWalks.{IsLeastWalk, is_fitting_walk}
 use Rattle.line_graph.specs.Runs.{runs_of, sewn_acts}
 use Rattle.line_graph.specs.SewnWalks.{ArePiecesWithin, FittingWalksAreSewable, PiecesKeepLimits}
 use Rattle.route_verdict.specs.declared.verdict.Reason.{Reason}
-use Rattle.route_verdict.specs.declared.verdict.Reason.TheVariants as reason
 use Rattle.route_verdict.specs.declared.verdict.Verdict.{Verdict}
 use Rattle.route_verdict.specs.declared.verdict.Verdict.TheVariants as verdict
 use Rattle.route_verdict.specs.VerdictTheorems.{CorrectRoutesAreAccepted}
@@ -43,18 +42,8 @@ pub reasons_next : (pieces rest : List Piece) (certs more : List PieceCert) (p :
     → piece_reason (graph_of p) number cert ≡ None → pieces_reason (number + 1) (map graph_of rest) more ≡ whole
 reasons_next pieces rest certs more p cert number whole is are told none = rw (is, are, none) at told
 
--- or its reason
-pub reasons_found : (pieces rest : List Piece) (certs more : List PieceCert) (p : Piece) (cert : PieceCert) (number : ℕ)
-    (whole : Option Reason)
-    (found : Reason) → pieces ≡ p ∷ rest → certs ≡ cert ∷ more → pieces_reason number (map graph_of pieces) certs ≡ whole
-    → piece_reason (graph_of p) number cert ≡ Some found → whole ≡ Some found
-reasons_found pieces rest certs more p cert number whole found is are told some = sym (rw (is, are, some) at told)
-
 pub short_rest : (certs more : List PieceCert) (cert : PieceCert) → certs ≡ cert ∷ more → All HasShortLists certs → All HasShortLists more
 short_rest certs more cert is all = All-tail HasShortLists cert more (subst (All HasShortLists) is all)
-
-pub short_first : (certs more : List PieceCert) (cert : PieceCert) → certs ≡ cert ∷ more → All HasShortLists certs → HasShortLists cert
-short_first certs more cert is all = All-head HasShortLists cert more (subst (All HasShortLists) is all)
 
 acts_none : (found : Option ℕ) → acts_reason found ≡ None → found ≡ None
 acts_none None is = refl
@@ -63,13 +52,7 @@ acts_none (Some number) is = absurd (cc)
 -- and a right one has none
 piece_told : WalkFaultsAreExact → CutFaultsAreExact → (p : PieceValue) → IsValidPiece p → (number : ℕ) (cert : PieceCert)
     → IsCorrectPieceCert p cert → piece_reason p number cert ≡ None
-piece_told walks cuts p keeps number cert right =
-    let said : (cert.retraced == cost_above p cert) ≡ true = number_found cert.retraced (cost_above p cert)
-    (below (walk_cost p cert.walk) (piece_cost p) cert.retraced right.retraced) in
-    rw ((walks p cert.walk keeps).1 right.fitting, said, (cuts p cert.retraced cert.cuts keeps).1 (right.packing, right.total)) refl
-  where
-    below : (w c r : ℕ) → w ≡ c + r → r ≡ w - c
-    below w c r is = omega arith
+piece_told walks cuts p keeps number cert right = grind (arith, nat_tests)
 
 pieces_right : WalkFaultsAreExact → CutFaultsAreExact → BoundsWalks → (graphs : List PieceValue) (certs : List PieceCert) (number : ℕ)
     → All IsValidPiece graphs → length certs ≡ length graphs → pieces_reason number graphs certs ≡ None
@@ -101,13 +84,9 @@ least_of proves [] [] kept right = tt
 least_of proves [] (c ∷ certs) kept right = absurd right
 least_of proves (p ∷ graphs) [] kept right = absurd right
 least_of proves (p ∷ graphs) (c ∷ certs) kept right = (
-  proves p c.cuts c.walk (All-head IsValidPiece p graphs kept) right.0.packing (twice (total_weight c.cuts) c.retraced (piece_cost p)
-      (walk_cost p c.walk) right.0.total right.0.retraced),
+  proves p c.cuts c.walk (All-head IsValidPiece p graphs kept) right.0.packing (omega (arith, right.0.total, right.0.retraced)),
   least_of proves graphs certs (All-tail IsValidPiece p graphs kept) right.1,
 )
-  where
-    twice : (t r c w : ℕ) → t ≡ 2 * r → w ≡ c + r → t + 2 * c ≡ 2 * w
-    twice t r c w total above = omega arith
 
 -- a piece of a drawing is the graph of its lines
 abbrev IsCut : DrawingValue → Piece → Type 0
@@ -186,8 +165,7 @@ pub drawn_right : (d : DrawingValue) (pieces : List Piece) (certs : List PieceCe
     → WalkFaultsAreExact
     → ArePiecesOf d pieces → count_reason (length certs) (length pieces) ≡ None → pieces_reason 1 (map graph_of pieces) certs ≡ None
     → AllDrawn d certs
-drawn_right d pieces certs keeps sews walks cut count none =
-    all_along d keeps sews walks pieces certs 1 cut.are.there cut.each (count_none (length certs) (length pieces) count) none
+drawn_right d pieces certs keeps sews walks cut count none = grind (arith, nat_tests, all_along, count_none)
 
 -- a drawing has few pieces
 pub pieces_few : (d : DrawingValue) (pieces : List Piece) → KeepsDrawingLimits d → PiecesKeepLimits → ArePiecesOf d pieces
