@@ -1,8 +1,8 @@
 -- The reported line is the first bad line.
+use Rattle.std.proofs.lemmas.Bool.Decides.{nat_tests}
 use Rattle.std.proofs.Common.{◌≡◌, ◌≢◌, ℕ, suc, ◌+◌, ◌-◌, ◌<◌, ◌==◌, Bool, true, false, List, [], ◌∷◌, ◌++◌, Option, None, Some, Result, Ok, Err, All, length, get_or, take, subst, ap, sym, refl, ◌∙◌, append_assoc, arith}
 use Rattle.std.proofs.lemmas.List.{flat_map_more, take_more}
 use Rattle.std.proofs.lemmas.List.Elements.{All-cons, All-head, All-nil, All-tail, All-take}
-use Rattle.std.proofs.lemmas.Option.{same_Some}
 use Rattle.std.specs.List.{flat_map, onto_first}
 use Rattle.std.specs.Option.{option_and_then}
 use Rattle.line_graph.specs.declared.pass.Pass.{Pass}
@@ -22,8 +22,7 @@ use Rattle.text_parts.proofs.CallerLemmas.{some_part}
 
 -- the parts of a text have no line end
 onto_lacks : (b : ℕ) (parts : List (List ℕ)) → (b == 10) ≡ false → All Lacks parts → All Lacks (onto_first b parts)
-onto_lacks b [] test lack =
-    All-cons Lacks (b ∷ []) [] (All-cons (λ (c : ℕ). (c == 10) ≡ false) b [] test (All-nil (λ (c : ℕ). (c == 10) ≡ false))) (All-nil Lacks)
+onto_lacks b [] test lack = grind (arith, nat_tests)
 onto_lacks b (part ∷ parts) test lack =
     All-cons Lacks (b ∷ part) parts
     (All-cons (λ (c : ℕ). (c == 10) ≡ false) b part test (All-head Lacks part parts lack)) (All-tail Lacks part parts lack)
@@ -31,8 +30,7 @@ onto_lacks b (part ∷ parts) test lack =
 -- by the test of the first byte
 next_lacks : (end : Bool) (b : ℕ) (text : List ℕ) → (b == 10) ≡ end → All Lacks (parts_between 10 text)
     → All Lacks (parts_between 10 (b ∷ text))
-next_lacks true b text is lack =
-    rw is (All-cons Lacks [] (parts_between 10 text) (All-nil (λ (c : ℕ). (c == 10) ≡ false)) lack)
+next_lacks true b text is lack = grind (arith, nat_tests)
 next_lacks false b text is lack = rw is (onto_lacks b (parts_between 10 text) is lack)
 
 -- so none of them has one
@@ -53,9 +51,7 @@ runs said (bytes ∷ lines) = option_and_then (λ new. runs new lines) (draft_wi
 run_on : (lines : List (List ℕ)) (said new : CertDraft) (text : List ℕ) (number : ℕ) → All Lacks lines → runs said lines ≡ Some new
     → pieces_after_lines number said (parts_between 10 (ended lines ++ text))
     ≡ pieces_after_lines (number + length lines) new (parts_between 10 text)
-run_on [] said new text number lack fit =
-    ap (λ (one : CertDraft). pieces_after_lines number one (parts_between 10 text)) (same_Some said new fit)
-    ∙ ap (λ (n : ℕ). pieces_after_lines n new (parts_between 10 text)) (let none : number ≡ number + 0 = omega arith in none)
+run_on [] said new text number lack fit = grind (arith, nat_tests)
 run_on (bytes ∷ lines) said new text number lack fit =
     then_some (λ one. runs one lines) (draft_with_text_line said bytes) new fit (λ one first rest.
     let behind : List ℕ = ended lines ++ text in
@@ -135,8 +131,7 @@ end_told number said rest told says = same_err number told says
 -- the next line is the one
 stop_here : (said : CertDraft) (bytes next : List ℕ) (more : List (List ℕ)) (number told : ℕ) → draft_with_text_line said bytes ≡ None
     → told ≡ number → Stops said (bytes ∷ next ∷ more) number told
-stop_here said bytes next more number told none is =
-    record { fit = 0; is = omega (arith, is); there = omega arith; new = said; run = refl; unfit = λ ended. none }
+stop_here said bytes next more number told none is = grind (arith, nat_tests)
 
 -- the number is one more after the next line
 stop_later : (said one : CertDraft) (bytes next : List ℕ) (more : List (List ℕ)) (number told : ℕ)
@@ -200,8 +195,7 @@ begins_no_more lines bytes new lack lacks fit unfit begins =
 one_more : (parts : List (List ℕ)) (i : ℕ) → i < length parts
     → ended (take (i + 1) parts) ≡ ended (take i parts) ++ (get_or parts i [] ++ 10 ∷ [])
 one_more parts i there =
-    ap ended (take_more parts i [] there)
-    ∙ sym (flat_map_more (λ (bytes : List ℕ). bytes ++ 10 ∷ []) [] (take i parts) (get_or parts i []))
+    rw (take_more parts i [] there, flat_map_more (λ (bytes : List ℕ). bytes ++ 10 ∷ []) [] (take i parts) (get_or parts i [])) refl
 
 -- the reported number is that of the first bad line
 pub told_is_first : (text : List ℕ) (number : ℕ) → cert_of text ≡ Err number → IsFirstBadLine text number

@@ -1,10 +1,9 @@
 -- Passes and members as words: the meaning of words, and the text of that meaning.
-use Rattle.std.proofs.Common.{◌≡◌, ℕ, ◌+◌, ◌-◌, ◌<◌, ◌≤◌, ◌^◌, ◌==◌, Bool, true, false, nat_lt, List, [], ◌∷◌, ◌++◌, Some, option_map, length, All, decimal, subst, ap, sym, refl, ◌∙◌, map, arith}
+use Rattle.std.proofs.Common.{◌≡◌, ℕ, ◌+◌, ◌-◌, ◌<◌, ◌≤◌, ◌^◌, ◌==◌, Bool, true, false, nat_lt, List, [], ◌∷◌, Some, option_map, length, All, decimal, subst, ap, sym, refl, ◌∙◌, map, arith}
 use Rattle.std.proofs.lemmas.Bool.{and_from, and_parts}
 use Rattle.std.proofs.lemmas.Bool.Decides.{nat_tests}
 use Rattle.std.proofs.lemmas.Fmt.{decimal_nonempty, digits_decimal}
-use Rattle.std.proofs.lemmas.List.Elements.{All-cons, All-head, All-nil, All-tail}
-use Rattle.std.proofs.lemmas.Option.{same_Some}
+use Rattle.std.proofs.lemmas.List.Elements.{All-cons, All-head, All-tail}
 use Rattle.std.specs.Char.{is_ascii_digit}
 use Rattle.std.specs.List.{flat_map}
 use Rattle.std.specs.Str.{all_ascii_digits}
@@ -29,14 +28,11 @@ member_word j = decimal (j + 1)
 -- the words of passes and of members are printed after spaces
 pub passes_spaced : (walk : List Pass) → passes_text walk ≡ spaced (map pass_word walk)
 passes_spaced [] = refl
-passes_spaced (pass ∷ walk) =
-    ap (λ (text : List ℕ). text ++ passes_text walk) (pass_spaced pass)
-    ∙ ap (λ (text : List ℕ). (32 ∷ pass_word pass) ++ text) (passes_spaced walk)
+passes_spaced (pass ∷ walk) = grind (arith, nat_tests, pass_spaced pass, passes_spaced walk)
 
 pub members_spaced : (members : List ℕ) → flat_map member_text members ≡ spaced (map member_word members)
 members_spaced [] = refl
-members_spaced (j ∷ members) =
-    ap (λ (text : List ℕ). (32 ∷ member_word j) ++ text) (members_spaced members)
+members_spaced (j ∷ members) = grind (arith, nat_tests, members_spaced members)
 
 -- a printed pass is read
 pass_read : (pass : Pass) → HasPass pass → parsed_pass (pass_word pass) ≡ Some pass
@@ -73,8 +69,7 @@ pub record SayPasses (words : List (List ℕ)) (walk : List Pass) : Type 0 where
 
 -- passes that were read are those that the words spell
 pub passes_are : (words : List (List ℕ)) (walk : List Pass) → parsed_passes words ≡ Some walk → SayPasses words walk
-passes_are [] walk says =
-    subst (λ (one : List Pass). SayPasses [] one) (same_Some [] walk says) (record { are = refl; have = All-nil HasPass })
+passes_are [] walk says = grind (arith, nat_tests)
 passes_are (word ∷ words) walk says =
     then_some (λ pass. option_map (λ passes. pass ∷ passes) (parsed_passes words)) (parsed_pass word) walk says (λ pass first rest.
     map_some (λ passes. pass ∷ passes) (parsed_passes words) walk rest (λ passes behind made.
@@ -106,19 +101,12 @@ above_less j m (k ∷ members) less all =
 rises_from : (j : ℕ) (members : List ℕ) → Reaches (j + 1) members → is_strictly_increasing members ≡ true
     → is_strictly_increasing (j ∷ members) ≡ true
 rises_from j [] reach rising = refl
-rises_from j (k ∷ members) reach rising =
-    let both = and_parts (all_greater k members) (is_strictly_increasing members) rising in
-    let less : j < k = omega (arith, reach) in
-    and_from (all_greater j (k ∷ members)) (is_strictly_increasing (k ∷ members))
-    (and_from (nat_lt j k) (all_greater j members) (grind (arith, nat_tests, less)) (above_less j k members less both.0)) rising
+rises_from j (k ∷ members) reach rising = grind (arith, nat_tests, and_parts, and_from, above_less)
 
 -- where members rise, the second one is above the first one
 rises_reach : (j : ℕ) (members : List ℕ) → is_strictly_increasing (j ∷ members) ≡ true → Reaches (j + 1) members
 rises_reach j [] rising = tt
-rises_reach j (k ∷ members) rising =
-    let both = and_parts (all_greater j (k ∷ members)) (is_strictly_increasing (k ∷ members)) rising in
-    let less = (and_parts (nat_lt j k) (all_greater j members) both.0).0 in
-    grind (arith, nat_tests, less)
+rises_reach j (k ∷ members) rising = grind (arith, nat_tests)
 
 -- printed members are read
 pub members_read : (before : ℕ) (members : List ℕ) → Reaches before members → is_strictly_increasing members ≡ true → All HasMember members
@@ -144,9 +132,7 @@ pub record SayMembers (before : ℕ) (words : List (List ℕ)) (members : List �
 -- members that were read are those that the words spell
 pub members_are : (before : ℕ) (words : List (List ℕ)) (members : List ℕ) → parsed_members_after before words ≡ Some members
     → SayMembers before words members
-members_are before [] members says =
-    subst (λ (one : List ℕ). SayMembers before [] one) (same_Some [] members says)
-    (record { are = refl; reach = tt; rising = refl; have = All-nil HasMember })
+members_are before [] members says = grind (arith, nat_tests)
 members_are before (word ∷ words) members says =
     then_some (λ number. option_map (λ more. (number - 1) ∷ more) (parsed_members_after number words)) (parsed_number_above before word)
     members says (λ number first rest.

@@ -66,8 +66,7 @@ some_item a items none = cc
 
 -- a walk that has words has a pass
 some_pass : (walk : List Pass) (word : List ℕ) (words : List (List ℕ)) → map pass_word walk ≡ word ∷ words → walk ≢ []
-some_pass walk word words are none =
-    some_item word words (sym are ∙ ap (λ (passes : List Pass). map pass_word passes) none)
+some_pass walk word words are none = cc
 
 -- the line of a walk
 walk_said : (words : List (List ℕ)) (l : CertLine) → option_map line.Walk (parsed_walk words) ≡ Some l

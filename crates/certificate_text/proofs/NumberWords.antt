@@ -1,5 +1,5 @@
 -- Numbers, passes and members as words: the meaning of a word, and the text of that meaning.
-use Rattle.std.proofs.Common.{◌≡◌, ℕ, ◌+◌, ◌-◌, ◌<◌, ◌^◌, ◌==◌, Bool, true, false, not, nat_lt, List, [], ◌∷◌, ◌++◌, Option, None, Some, option_map, length, get_or, codes, decimal, if◌then◌else◌, subst, ap, sym, refl, ◌∙◌, inl, inr, arith}
+use Rattle.std.proofs.Common.{◌≡◌, ℕ, ◌+◌, ◌-◌, ◌<◌, ◌^◌, ◌==◌, Bool, true, false, nat_lt, List, [], ◌∷◌, ◌++◌, Option, None, Some, option_map, length, get_or, decimal, if◌then◌else◌, subst, ap, sym, refl, ◌∙◌, inl, inr, arith}
 use Rattle.std.proofs.lemmas.Bool.{and_from, and_parts, cases_order}
 use Rattle.std.proofs.lemmas.Bool.Decides.{nat_tests}
 use Rattle.std.proofs.lemmas.Fmt.{decimal-digits_value, decimal_digit, decimal_nonempty, digits_decimal, digits_value-decimal, first_decimal}
@@ -42,17 +42,14 @@ record IsPlain (word : List ℕ) : Type 0 where
 plain_is : (word : List ℕ) → is_canonical_numeral word ≡ true → IsPlain word
 plain_is [] is = absurd (false_true is)
 plain_is (b ∷ []) is = record { digits = and_from (is_ascii_digit b) true is refl; some = omega arith; lead = λ zero. refl }
-plain_is (b ∷ c ∷ rest) is =
-    let both = and_parts (not (b == 48)) (all_ascii_digits (b ∷ c ∷ rest)) is in
-    record { digits = both.1; some = omega arith; lead = λ zero. absurd (grind (arith, nat_tests, both.0, zero)) }
+plain_is (b ∷ c ∷ rest) is = grind (arith, nat_tests)
 
 -- digits after one that is no zero are such a numeral
 plain_from : (word : List ℕ) → all_ascii_digits word ≡ true → 0 < length word → 48 < get_or word 0 0
     → is_canonical_numeral word ≡ true
 plain_from [] digits some lead = absurd (omega arith)
 plain_from (b ∷ []) digits some lead = (and_parts (is_ascii_digit b) true digits).0
-plain_from (b ∷ c ∷ rest) digits some lead =
-    and_from (not (b == 48)) (all_ascii_digits (b ∷ c ∷ rest)) (grind (arith, nat_tests, lead)) digits
+plain_from (b ∷ c ∷ rest) digits some lead = grind (arith, nat_tests)
 
 -- the numeral of a number has no leading zero
 decimal_plain : (n : ℕ) → n < 2 ^ 64 → is_canonical_numeral (decimal n) ≡ true
@@ -65,10 +62,7 @@ decimal_plain n small = elim (cases_order n 0) [
 
 -- a number is read from its numeral
 pub number_read : (n : ℕ) → n < 2 ^ 32 → parsed_cert_number (decimal n) ≡ Some n
-number_read n small =
-    let fits : n < 2 ^ 64 = omega (arith, small) in
-    let test : nat_lt n (2 ^ 32) ≡ true = grind (arith, nat_tests, small) in
-    rw (decimal_plain n fits, digits_value-decimal decimal_model n fits, test) refl
+number_read n small = grind (arith, nat_tests, decimal_plain, digits_value-decimal, decimal_model)
 
 -- a word that denotes this number
 pub record Spells (word : List ℕ) (n : ℕ) : Type 0 where
@@ -90,9 +84,7 @@ number_is word n says =
 
 -- the same of numbers above one
 pub above_read : (least n : ℕ) → least < n → n < 2 ^ 32 → parsed_number_above least (decimal n) ≡ Some n
-above_read least n more small =
-    let test : nat_lt least n ≡ true = grind (arith, nat_tests, more) in
-    rw (number_read n small, test) refl
+above_read least n more small = grind (arith, nat_tests, number_read)
 
 -- and so is one above another
 pub above_is : (least : ℕ) (word : List ℕ) (n : ℕ) → parsed_number_above least word ≡ Some n → (least < n) × Spells word n
@@ -113,11 +105,7 @@ pass_word pass = (if pass.back then 45 ∷ [] else []) ++ decimal (pass.line + 1
 
 -- the text of a pass is its word after a space
 pub pass_spaced : (pass : Pass) → pass_text pass ≡ 32 ∷ pass_word pass
-pass_spaced pass = by_sign pass.back where
-  by_sign : (back : Bool) → (if back then codes " -" else codes " ") ++ decimal (pass.line + 1)
-      ≡ 32 ∷ ((if back then 45 ∷ [] else []) ++ decimal (pass.line + 1))
-  by_sign true = refl
-  by_sign false = refl
+pass_spaced pass = grind (arith, nat_tests)
 
 -- the pass that a word denotes
 pub record SaysPass (word : List ℕ) (pass : Pass) : Type 0 where

@@ -1,2 +1,1 @@
 -- The parts of bytes between marks.
-use Rattle.std.proofs.Common.{◌≢◌, ℕ, ◌==◌, []}

@@ -1,5 +1,6 @@
 -- The text of a certificate is read as that certificate.
-use Rattle.std.proofs.Common.{◌≡◌, ◌≢◌, ℕ, ◌+◌, ◌<◌, ◌^◌, ◌==◌, ◌&&◌, Bool, true, false, List, [], ◌∷◌, ◌++◌, Option, Some, option_map, Ok, All, bytes_eq, codes, decimal, map, subst, ap, sym, refl, ◌∙◌, append_assoc, append-nil, arith}
+use Rattle.std.proofs.lemmas.Bool.Decides.{nat_tests}
+use Rattle.std.proofs.Common.{◌≡◌, ◌≢◌, ℕ, ◌+◌, ◌<◌, ◌^◌, ◌==◌, true, false, List, [], ◌∷◌, ◌++◌, Option, Some, Ok, All, codes, decimal, map, subst, ap, sym, refl, ◌∙◌, append_assoc, append-nil, arith}
 use Rattle.std.proofs.lemmas.Bool.{and_from, not-true}
 use Rattle.std.proofs.lemmas.Fmt.{digits_decimal}
 use Rattle.std.proofs.lemmas.List.Elements.{All-head, All-tail, All-weaker}
@@ -15,7 +16,7 @@ use Rattle.certificate_text.specs.declared.draft.CertDraft.TheVariants as draft
 use Rattle.certificate_text.specs.declared.lines.CertLine.{CertLine}
 use Rattle.certificate_text.specs.declared.lines.CertLine.TheVariants as line
 use Rattle.odd_cuts.specs.declared.cut.Cut.{Cut}
-use Rattle.certificate_text.specs.CertificateLines.{parsed_cut, parsed_cert_line, parsed_walk, parsed_cert_words}
+use Rattle.certificate_text.specs.CertificateLines.{parsed_cut, parsed_cert_line, parsed_walk}
 use Rattle.text_parts.specs.Parts.{parts_between, words_in}
 use Rattle.odd_cuts.specs.Certificates.{HasCanonicalText}
 use Rattle.certificate_text.specs.CertificateTexts.{certificate_text, cut_line_text, member_text, passes_text, piece_text}
@@ -41,10 +42,7 @@ number_word n small = digits_inner (decimal n) (digits_decimal decimal_model n (
 
 -- a printed pass is one word
 pass_inner : (pass : Pass) → HasPass pass → list_all is_inner (pass_word pass) ≡ true
-pass_inner pass has = by_sign pass.back refl where
-  by_sign : (back : Bool) → pass.back ≡ back → list_all is_inner (pass_word pass) ≡ true
-  by_sign true is = rw is (number_word (pass.line + 1) has)
-  by_sign false is = rw is (number_word (pass.line + 1) has)
+pass_inner pass has = grind (arith, nat_tests, pass_word pass, number_word (pass.line + 1) has)
 
 -- so are those of a walk
 passes_inner : (walk : List Pass) → All HasPass walk → AreWords (map pass_word walk)
@@ -61,8 +59,7 @@ members_inner (j ∷ members) have =
 -- words that stand one space apart are read
 words_read : (word : List ℕ) (words : List (List ℕ)) → list_all is_inner word ≡ true → AreWords words
     → words_in (word ++ spaced words) ≡ word ∷ words
-words_read word [] is are =
-    ap words_in (append-nil word) ∙ slice_split_none (λ (b : ℕ). b == 32) word (no_space word is)
+words_read word [] is are = grind (arith, nat_tests, append-nil, slice_split_none, no_space)
 words_read word (next ∷ words) is are =
     slice_split_at (λ (b : ℕ). b == 32) word 32 (next ++ spaced words) (no_space word is) refl
     ∙ ap (λ (more : List (List ℕ)). word ∷ more) (words_read next words are.0 are.1)
@@ -91,24 +88,9 @@ record AreOf (bytes : List ℕ) (words : List (List ℕ)) : Type 0 where
 -- the words of each kind of line
 words_of : (l : CertLine) → AreOf (line_bytes l) (line_words l)
 words_of line.Head = record { first = codes "redwork-certificate"; rest = codes "1" ∷ []; split = refl; bytes_are = refl }
-words_of (line.Piece retraced) = record {
-  first = codes "piece";
-  rest = decimal retraced ∷ [];
-  split = refl;
-  bytes_are = ap (λ (text : List ℕ). codes "piece " ++ text) (sym (append-nil (decimal retraced)));
-}
-words_of (line.Walk walk) = record {
-  first = codes "walk";
-  rest = map pass_word walk;
-  split = refl;
-  bytes_are = ap (λ (text : List ℕ). codes "walk" ++ text) (passes_spaced walk);
-}
-words_of (line.Cut cut) = record {
-  first = codes "cut";
-  rest = decimal cut.weight ∷ map member_word cut.members;
-  split = refl;
-  bytes_are = ap (λ (text : List ℕ). codes "cut " ++ (decimal cut.weight ++ text)) (members_spaced cut.members);
-}
+words_of (line.Piece retraced) = grind (arith, nat_tests, append-nil (decimal retraced))
+words_of (line.Walk walk) = grind (arith, nat_tests, passes_spaced walk)
+words_of (line.Cut cut) = grind (arith, nat_tests, members_spaced cut.members)
 words_of line.End = record { first = codes "end"; rest = []; split = refl; bytes_are = refl }
 
 -- they are words
@@ -143,27 +125,16 @@ walk_read (pass ∷ walk) some have = passes_read (pass ∷ walk) have
 
 -- and a plain cut
 cut_read : (cut : Cut) → HasCut cut → parsed_cut (decimal cut.weight ∷ map member_word cut.members) ≡ Some cut
-cut_read cut has =
-    rw (above_read 0 cut.weight has.plain.heavy has.small, members_read 0 cut.members (reach_all cut.members) has.plain.rising has.members)
-    refl
-
--- a line that is neither the first one nor the last one is read by its words
-by_words : (bytes : List ℕ) → bytes_eq bytes (codes "redwork-certificate 1") ≡ false → bytes_eq bytes (codes "end") ≡ false
-    → parsed_cert_line bytes ≡ parsed_cert_words (words_in bytes)
-by_words bytes head end = rw (head, end) refl
+cut_read cut has = grind (arith, nat_tests, above_read, members_read, reach_all)
 
 -- the text of a line has its meaning
 line_read : (l : CertLine) → HasLine l → parsed_cert_line (line_bytes l) ≡ Some l
 line_read line.Head has = refl
 line_read (line.Piece retraced) has =
-    by_words (line_bytes (line.Piece retraced)) refl refl ∙ (ap parsed_cert_words (is_line (line.Piece retraced) has).words
-    ∙ ap (λ number. option_map line.Piece number) (number_read retraced has))
+    grind (arith, nat_tests, line_bytes (line.Piece retraced), is_line (line.Piece retraced) has, number_read retraced has)
 line_read (line.Walk walk) has =
-    by_words (line_bytes (line.Walk walk)) refl refl ∙ (ap parsed_cert_words (is_line (line.Walk walk) has).words
-    ∙ ap (λ passes. option_map line.Walk passes) (walk_read walk has.0 has.1))
-line_read (line.Cut cut) has =
-    by_words (line_bytes (line.Cut cut)) refl refl ∙ (ap parsed_cert_words (is_line (line.Cut cut) has).words
-    ∙ ap (λ one. option_map line.Cut one) (cut_read cut has))
+    grind (arith, nat_tests, line_bytes (line.Walk walk), is_line (line.Walk walk) has, walk_read walk has.0 has.1)
+line_read (line.Cut cut) has = grind (arith, nat_tests, line_bytes (line.Cut cut), is_line (line.Cut cut) has, cut_read cut has)
 line_read line.End has = refl
 
 -- no byte of a line ends a line
@@ -178,8 +149,7 @@ SayOn said text pieces = (number : ℕ) → pieces_after_lines number said (part
 pub next_judged : (number : ℕ) (said : CertDraft) (bytes text : List ℕ) → Lacks bytes
     → pieces_after_lines number said (parts_between 10 (bytes ++ 10 ∷ text))
     ≡ goes_on number (draft_with_text_line said bytes) (parts_between 10 text)
-next_judged number said bytes text lacks =
-    line_judged number said (bytes ++ 10 ∷ text) bytes text (slice_split_at (λ (b : ℕ). b == 10) bytes 10 text lacks refl)
+next_judged number said bytes text lacks = grind (arith, nat_tests, line_judged, slice_split_at)
 
 -- a line by its meaning, after a draft
 pub line_before : (said new : CertDraft) (l : CertLine) (text : List ℕ) (pieces : List PieceCert) → HasLine l
@@ -259,9 +229,7 @@ piece_before said done piece text pieces awaits has rest =
 -- the pieces and the end
 pieces_say : (pieces : List PieceCert) (said : CertDraft) (done : List PieceCert) → Awaits said done → All HasText pieces
     → SayOn said (flat_map piece_text pieces ++ (codes "end" ++ newline)) (done ++ pieces)
-pieces_say [] said done awaits have =
-    subst (λ (all : List PieceCert). SayOn said (codes "end" ++ newline) all) (sym (append-nil done))
-    (line_before said (draft.Complete done) line.End [] done tt awaits.ends (λ number. refl))
+pieces_say [] said done awaits have = grind (arith, nat_tests, append-nil, line_before)
 pieces_say (piece ∷ pieces) said done awaits have =
     let rest : List ℕ = flat_map piece_text pieces ++ (codes "end" ++ newline) in
     let next : Awaits (draft.InPiece done piece) (done ++ piece ∷ []) = record { opens = λ retraced. refl; ends = refl } in

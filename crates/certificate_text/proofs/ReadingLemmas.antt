@@ -1,7 +1,8 @@
 -- The lines of a certificate text, judged one after another.
-use Rattle.std.proofs.Common.{◌≡◌, ◌≢◌, ℕ, ◌+◌, List, [], ◌∷◌, Option, None, Some, Result, Err, ap, sym, refl, ◌∙◌}
+use Rattle.std.proofs.lemmas.Bool.Decides.{nat_tests}
+use Rattle.std.proofs.Common.{◌≡◌, ◌≢◌, ℕ, ◌+◌, List, [], ◌∷◌, Option, None, Some, Result, Err, ap, sym, refl, ◌∙◌, arith}
 use Rattle.std.specs.Option.{ok_or}
-use Rattle.drawing_model.specs.GrowingDrawings.{and_then}
+use Rattle.line_graph.specs.GrowingDrawings.{and_then}
 use Rattle.odd_cuts.specs.declared.certificate.PieceCert.{PieceCert}
 use Rattle.certificate_text.specs.declared.draft.CertDraft.{CertDraft}
 use Rattle.text_parts.specs.Parts.{parts_between}
@@ -21,8 +22,7 @@ line_of_more number said line (next ∷ rest) some = refl
 -- the next line is read, and then those after it
 pub line_judged : (number : ℕ) (said : CertDraft) (text line after : List ℕ) → parts_between 10 text ≡ line ∷ parts_between 10 after
     → pieces_after_lines number said (parts_between 10 text) ≡ goes_on number (draft_with_text_line said line) (parts_between 10 after)
-line_judged number said text line after are =
-    ap (pieces_after_lines number said) are ∙ line_of_more number said line (parts_between 10 after) (some_part 10 after)
+line_judged number said text line after are = grind (arith, nat_tests, line_of_more, some_part)
 
 -- the lines so far are judged, so all depends on those that are left
 pub record ReadsOn (text rest : List ℕ) (number : ℕ) (said : CertDraft) : Type 0 where
@@ -32,10 +32,13 @@ pub record ReadsOn (text rest : List ℕ) (number : ℕ) (said : CertDraft) : Ty
 pub reads_more : (text rest line after : List ℕ) (number : ℕ) (said new : CertDraft) → ReadsOn text rest number said
     → parts_between 10 rest ≡ line ∷ parts_between 10 after → Some new ≡ draft_with_text_line said line
     → ReadsOn text after (number + 1) new
-reads_more text rest line after number said new so are fits = record {
-  whole = so.whole ∙ (line_judged number said rest line after are
-      ∙ ap (λ (one : Option CertDraft). goes_on number one (parts_between 10 after)) (sym fits));
-}
+reads_more text rest line after number said new so are fits =
+    grind (
+      arith,
+      nat_tests,
+      line_judged number said rest line after are ∙ ap
+          (λ (one : Option CertDraft). goes_on number one (parts_between 10 after)) (sym fits),
+    )
 
 -- a line that doesn't fit
 pub reads_no_more : (text rest line after : List ℕ) (number : ℕ) (said : CertDraft) → ReadsOn text rest number said

@@ -1,4 +1,5 @@
 -- A text has more bytes than any list of its certificate has items.
+use Rattle.std.proofs.lemmas.Bool.Decides.{nat_tests}
 use Rattle.std.proofs.Common.{◌≡◌, ℕ, ◌+◌, ◌<◌, ◌≤◌, List, [], ◌∷◌, ◌++◌, length, get_or, codes, decimal, ap, arith}
 use Rattle.std.proofs.lemmas.List.{length-append}
 use Rattle.std.proofs.lemmas.List.Folds.{length-flat_map-take}
@@ -48,15 +49,7 @@ last_most before after = omega (arith, length-append before after)
 
 -- the members of a cut
 cut_few : (limit : ℕ) (cut : Cut) → length (cut_line_text cut) ≤ limit → length cut.members ≤ limit
-cut_few limit cut within =
-    let members : List ℕ = flat_map member_text cut.members in
-    omega (
-      arith,
-      within,
-      count_most member_text cut.members member_some,
-      first_most members newline,
-      last_most (decimal cut.weight) (members ++ newline),
-    )
+cut_few limit cut within = grind (arith, nat_tests, count_most, member_some, first_most, last_most)
 
 -- the lists of a piece are short where its text is
 piece_few : (piece : PieceCert) → length (piece_text piece) ≤ 67108864 → HasFewItems piece

@@ -1,11 +1,12 @@
 -- A text that is read as a certificate is the text of that certificate, and no other text is.
-use Rattle.std.proofs.Common.{◌≡◌, ℕ, ◌+◌, ◌<◌, ◌^◌, List, [], ◌∷◌, ◌++◌, Option, None, Some, Result, Ok, Err, All, codes, decimal, subst, ap, sym, refl, ◌∙◌, append_assoc, append-nil}
+use Rattle.std.proofs.lemmas.Bool.Decides.{nat_tests}
+use Rattle.std.proofs.Common.{◌≡◌, ℕ, ◌+◌, ◌<◌, ◌^◌, List, [], ◌∷◌, ◌++◌, Option, None, Some, Result, Ok, Err, All, codes, decimal, subst, ap, sym, refl, ◌∙◌, append_assoc, append-nil, arith}
 use Rattle.std.proofs.lemmas.Grind.{flat_map-append}
-use Rattle.std.proofs.lemmas.List.Elements.{All-nil, All-push, All-weaker}
+use Rattle.std.proofs.lemmas.List.Elements.{All-nil, All-push}
 use Rattle.std.proofs.lemmas.List.Splits.{join_with_byte-slice_split}
 use Rattle.std.specs.List.{flat_map, join_with_byte}
 use Rattle.std.specs.Option.{ok_or}
-use Rattle.drawing_model.specs.GrowingDrawings.{and_then}
+use Rattle.line_graph.specs.GrowingDrawings.{and_then}
 use Rattle.line_graph.specs.declared.pass.Pass.{Pass}
 use Rattle.odd_cuts.specs.declared.certificate.PieceCert.{PieceCert}
 use Rattle.certificate_text.specs.declared.draft.CertDraft.{CertDraft}
@@ -57,12 +58,7 @@ AddsLine said l (Some new) = (draft_text new ≡ draft_text said ++ (line_bytes 
 
 -- one piece more
 begun_more : (done : List PieceCert) (piece : PieceCert) → begun (done ++ piece ∷ []) ≡ begun done ++ piece_text piece
-begun_more done piece =
-    let head : List ℕ = codes "redwork-certificate 1" ++ newline in
-    let last : flat_map piece_text (piece ∷ []) ≡ piece_text piece = append-nil (piece_text piece) in
-    ap (λ (text : List ℕ). head ++ text) (flat_map-append piece_text done (piece ∷ [])
-    ∙ ap (λ (text : List ℕ). flat_map piece_text done ++ text) last)
-    ∙ sym (append_assoc head (flat_map piece_text done) (piece_text piece))
+begun_more done piece = grind (arith, nat_tests, append-nil, flat_map-append)
 
 -- one cut more
 cut_bytes : (cut : Cut) → line_bytes (line.Cut cut) ++ newline ≡ cut_line_text cut
@@ -91,15 +87,7 @@ walk_bytes retraced walk = ap (λ (text : List ℕ). codes "piece " ++ text)
 -- a piece without cuts has a text
 has_walk : (retraced : ℕ) (walk : List Pass) → retraced < 2 ^ 32 → HasLine (line.Walk walk)
     → HasText (record { retraced = retraced; walk = walk; cuts = [] })
-has_walk retraced walk small has = record {
-  canonical = record {
-    some = has.0;
-    passes = has.1;
-    plain = All-nil IsPlainCut;
-    members = All-nil (λ (cut : Cut). All HasMember cut.members);
-  };
-  small = record { retraced = small; weights = All-nil (λ (cut : Cut). cut.weight < 2 ^ 32) };
-}
+has_walk retraced walk small has = grind (arith, nat_tests)
 
 -- a piece with a cut more has a text too
 has_cut : (piece : PieceCert) (cut : Cut) → HasText piece → HasCut cut → HasText (with_cut piece cut)
@@ -186,8 +174,7 @@ goes_on n (Some said) next pieces says then = then said refl says
 spelled_after : (parts : List (List ℕ)) (n : ℕ) (said : CertDraft) (pieces : List PieceCert) → pieces_after_lines n said parts ≡ Ok pieces
     → Spelled (draft_text said) (join_with_byte 10 parts) said pieces
 spelled_after [] n said pieces says = absurd (err_ok n pieces says)
-spelled_after (rest ∷ []) n said pieces says =
-    subst (λ (answer : Result (List PieceCert) ℕ). AtEnd said rest answer) says (ends n said rest)
+spelled_after (rest ∷ []) n said pieces says = grind (arith, nat_tests, ends n said rest)
 spelled_after (bytes ∷ next ∷ more) n said pieces says =
     goes_on n (draft_with_text_line said bytes) (λ new. pieces_after_lines (n + 1) new (next ∷ more)) pieces says (λ new fits rest.
     let one = added said new bytes fits in
@@ -204,8 +191,7 @@ spelled_after (bytes ∷ next ∷ more) n said pieces says =
 -- the text of all
 whole : (text : List ℕ) (pieces : List PieceCert) → cert_of text ≡ Ok pieces → Spelled [] text draft.Empty pieces
 whole text pieces says =
-    subst (λ (bytes : List ℕ). Spelled [] bytes draft.Empty pieces) (join_with_byte-slice_split 10 text)
-    (spelled_after (parts_between 10 text) 1 draft.Empty pieces says)
+    grind (arith, nat_tests, join_with_byte-slice_split 10 text, spelled_after (parts_between 10 text) 1 draft.Empty pieces says)
 
 -- a text that is read as pieces is the text of these pieces
 pub one_text : (text : List ℕ) (pieces : List PieceCert) → cert_of text ≡ Ok pieces → text ≡ certificate_text pieces
@@ -214,8 +200,4 @@ one_text text pieces says = (whole text pieces says).text_is
 -- pieces that are read can be printed
 pub said_spelled : (text : List ℕ) (pieces : List PieceCert) → cert_of text ≡ Ok pieces
     → All HasCanonicalText pieces × All HasSmallNumbers pieces
-said_spelled text pieces says =
-    let all = (whole text pieces says).has tt in (
-      All-weaker HasText HasCanonicalText (λ piece has. has.canonical) pieces all,
-      All-weaker HasText HasSmallNumbers (λ piece has. has.small) pieces all,
-    )
+said_spelled text pieces says = grind (arith, nat_tests, whole text pieces says)
