@@ -1,6 +1,6 @@
 -- Drawn lines that are joined with starts and ends: the result has their sections and these starts and ends.
 use Rattle.std.proofs.Common.{◌≡◌, ◌∙◌, Bool, true, false, not, nat_lt, List, [], ◌∷◌, ◌++◌, Result, Ok, Err, IfOk, length, refl, ap, sym, subst, append_assoc, append-nil, All, if◌then◌else◌}
-use Rattle.std.proofs.lemmas.List.Elements.{All-cons, All-nil}
+use Rattle.std.proofs.lemmas.List.Elements.{All-cons, All-head, All-nil}
 use Rattle.std.proofs.lemmas.Result.{IfOk-at_ok, IfOk-weaker}
 use Rattle.std.specs.List.{list_any}
 use Rattle.drawing_edits.specs.RedrawnDrawings.{with_starts_and_ends, with_walk_ends}
@@ -71,7 +71,8 @@ spots_put is_start (spot ∷ rest) d =
     (λ next one. IfOk-weaker (with_walk_ends is_start next rest) (HasSpots is_start next rest) (HasSpots is_start d (spot ∷ rest))
     (λ e more. record {
       is = more.is ∙ ap (λ (n : DrawingValue). with_spots is_start n rest) one.is ∙ one_more is_start d spot rest;
-      there = All-cons (λ (s : Spot). is_junction d.lines s ≡ true) spot rest one.there.0
+      there = All-cons (λ (s : Spot). is_junction d.lines s ≡ true) spot rest
+          (All-head (λ (s : Spot). is_junction d.lines s ≡ true) spot [] one.there)
           (subst (λ (ls : List LineValue). All (λ (s : Spot). is_junction ls s ≡ true) rest)
           (ap (λ (n : DrawingValue). n.lines) one.is ∙ lines_stay is_start d (spot ∷ [])) more.there);
     }) (spots_put is_start rest next))

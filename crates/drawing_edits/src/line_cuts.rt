@@ -50,8 +50,12 @@ fn index_of(points: &[Point], at: Point) -> usize
     ensures value { result ≡ position_or_len (is_same_point at) points.now }
     ensures most { result ≤ length points.now }
 {
-    match points.iter().position(|p| at == *p) {
-        Some(index) => index,
-        None => points.len(),
+    let mut index = 0;
+    for p in points {
+        if at == *p {
+            return index;
+        }
+        index += 1;
     }
+    index
 }

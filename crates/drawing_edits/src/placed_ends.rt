@@ -76,10 +76,14 @@ fn first_of_later_block(spots: &[Spot], block: u32) -> usize
     ensures value { result ≡ position_or_len (λ one. nat_lt block one.block) spots.now }
     ensures most { result ≤ length spots.now }
 {
-    match spots.iter().position(|one| block < one.block) {
-        Some(index) => index,
-        None => spots.len(),
+    let mut index = 0;
+    for one in spots {
+        if block < one.block {
+            return index;
+        }
+        index += 1;
     }
+    index
 }
 
 /// Returns the block whose lines list a point. Errors: `NoJunction` where no line does, `TwoBlocks`.
