@@ -1,9 +1,8 @@
 -- The spots at the ends of sections, in a set.
-use Rattle.std.proofs.Common.{◌≡◌, ◌∙◌, ℕ, ◌==◌, ℤ, Bool, true, false, ◌&&◌, ◌||◌, cond, List, [], ◌∷◌, refl, ap, sym}
+use Rattle.std.proofs.Common.{◌≡◌, ◌∙◌, ℕ, ◌==◌, Bool, true, false, ◌&&◌, ◌||◌, cond, List, [], ◌∷◌, refl, ap, sym}
 use Rattle.std.proofs.Math.Path.{ap₂, fun_ext}
-use Rattle.std.proofs.lemmas.Bool.Decides.{Decides-int_eq}
+use Rattle.std.proofs.lemmas.Cmp.{int_eq_equiv}
 use Rattle.std.specs.List.{list_any}
-use Rattle.std.specs.Ordering.{int_eq}
 use Rattle.design_model.specs.declared.point.Point.{Point}
 use Rattle.design_model.specs.Points.{is_same_point}
 use Rattle.drawing_model.specs.Drawings.{endpoints}
@@ -12,17 +11,11 @@ use Rattle.line_sections.specs.declared.spot.Spot.{Spot}
 use Rattle.line_sections.specs.Lines.{LineValue}
 use Rattle.line_sections.specs.Spots.{is_same_spot}
 use Rattle.step_splitter.specs.Chains.{last_point_or}
-use Rattle.lists_and_numbers.proofs.CallerLemmas.{and_false, same_test}
 use Rattle.std.proofs.Math.Bool.{or-false}
-
-int_either_way : (m n : ℤ) → int_eq m n ≡ int_eq n m
-int_either_way m n = same_test (int_eq m n) (int_eq n m)
-    (λ is. (Decides-int_eq n m).1 (sym ((Decides-int_eq m n).0 is)))
-    (λ is. (Decides-int_eq m n).1 (sym ((Decides-int_eq n m).0 is)))
 
 -- two points are the same either way
 pub point_either_way : (p q : Point) → is_same_point p q ≡ is_same_point q p
-point_either_way p q = ap₂ (λ (a b : Bool). a && b) (int_either_way p.x q.x) (int_either_way p.y q.y)
+point_either_way p q = ap₂ (λ (a b : Bool). a && b) (int_eq_equiv.symm p.x q.x) (int_eq_equiv.symm p.y q.y)
 
 -- what is found after two spots of a block were put in
 either_end : (a b c found : Bool) → cond (a && c) true (cond (a && b) true found) ≡ ((a && (b || (c || false))) || found)
@@ -60,13 +53,6 @@ ends_put section block first last after old mid new in_block points is_last one 
     both_put block first last old mid new one two q
     ∙ ap₂ (λ (b : ℕ) (ends : List Point). ((b == q.block) && list_any (is_same_point q.at) ends) || old q) in_block
     (ap (λ (l : Point). first ∷ l ∷ []) is_last ∙ sym (ap (λ (ps : List Point). endpoints ps) points))
-
--- a section without points has no ends
-pub no_ends_put : (section : LineValue) (old : Spot → Bool) → section.points ≡ [] → (q : Spot)
-    → old q ≡ (has_end_at_spot q section || old q)
-no_ends_put section old none q =
-    ap (λ (b : Bool). b || old q) (sym (and_false (section.block == q.block))
-    ∙ ap (λ (ps : List Point). (section.block == q.block) && list_any (is_same_point q.at) (endpoints ps)) (sym none))
 
 -- spots that are found exactly where they are junctions
 pub all_junctions : (found : Spot → Bool) (sections left : List LineValue)

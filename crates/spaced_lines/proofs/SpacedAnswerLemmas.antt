@@ -1,5 +1,6 @@
 -- A drawing that can be joined and get starts and ends can be spaced with them.
 use Rattle.std.proofs.Common.{◌≡◌, ◌∙◌, ℕ, suc, ◌+◌, ◌≤◌, ◌==◌, ◌&&◌, ◌||◌, not, nat_lt, Bool, true, false, List, [], ◌∷◌, ◌++◌, length, map, All, Result, Ok, Err, if◌then◌else◌, refl, ap, sym, arith}
+use Rattle.std.proofs.Math.Path.{fun_ext}
 use Rattle.std.proofs.lemmas.Bool.Decides.{nat_tests}
 use Rattle.std.proofs.lemmas.List.{length-append, length-map}
 use Rattle.std.proofs.lemmas.List.Elements.{All-head, All-tail, All-weaker}
@@ -105,13 +106,10 @@ abbrev stands_by : List (List Spot) → Spot → Spot
 stands_by [] spot = spot
 stands_by (ends ∷ rest) spot = merged_representative ends (stands_by rest) spot
 
-same_function : (f g : Spot → Spot) → ((s : Spot) → f s ≡ g s) → f ≡ g
-same_function f g same = λ i s. same s i
-
 representative_by : (lines : List LineValue) (spot : Spot) → representative lines spot ≡ stands_by (map end_spots lines) spot
 representative_by [] spot = refl
 representative_by (line ∷ rest) spot = ap (λ (f : Spot → Spot). merged_representative (end_spots line) f spot)
-    (same_function (representative rest) (stands_by (map end_spots rest)) (representative_by rest))
+    (fun_ext (representative_by rest))
 
 -- lines with the same ends take the same starts and ends
 module _ (lines other : List LineValue) (same : map end_spots other ≡ map end_spots lines) where
