@@ -1,5 +1,6 @@
 -- Lemmas for the crates of programs: plans that read files one after another, plans that decide, and the end of a run.
-use Rattle.std.proofs.Common.{◌≡◌, ℕ, List, Option, Some, None, Result, Ok, Err, inl, inr, ap, sym, subst}
+use Rattle.std.proofs.lemmas.Bool.Decides.{nat_tests}
+use Rattle.std.proofs.Common.{◌≡◌, ℕ, List, Option, Result, Ok, Err, ap, arith}
 use Rattle.outside_io.specs.Files.{Files}
 use Rattle.outside_io.specs.Views.{SinkView, StoreView}
 use Rattle.program_shell.specs.declared.failure.Failure.{Failure}
@@ -20,13 +21,7 @@ use Rattle.program_shell.proofs.RunOutcomes.{finished}
 -- A failure of the rest of a plan is one of the plan.
 halts_next : (name bytes : List ℕ) (next : List ℕ → Plan) (store store' : StoreView) (why : Failure)
     → IsInputContent store.files name bytes → IsFailureOf (next bytes) store store' why → IsFailureOf (reads name next) store store' why
-halts_next name bytes next store store' failure.BadArguments input never = never
-halts_next name bytes next store store' (failure.MissingInput missing) input (misses, same) =
-    (record { attempted = inr (bytes, input, misses.attempted); lacks = misses.lacks }, same)
-halts_next name bytes next store store' (failure.ReadFailed lost) input (attempted, fault, files) =
-    (inr (bytes, input, attempted), fault, files)
-halts_next name bytes next store store' (failure.Refused why) input (refusal, same) = (inr (bytes, input, refusal), same)
-halts_next name bytes next store store' failure.Memory input same = same
+halts_next name bytes next store store' why h1 h2 = grind (arith, nat_tests)
 
 -- A file is read, and the result of the plan is that of its rest.
 prepares_from : (name bytes : List ℕ) (next : List ℕ → Plan) (store store' : StoreView) (result : Result Product Failure)
@@ -37,10 +32,7 @@ prepares_from name bytes next store store' (Err why) input halts = halts_next na
 
 pub prepares_next : (name bytes : List ℕ) (next : List ℕ → Plan) (store mid store' : StoreView) (result : Result Product Failure)
     → ReadsInput name store mid (Ok bytes) → RunsPlan (next bytes) mid store' result → RunsPlan (reads name next) store store' result
-prepares_next name bytes next store mid store' result (input, same) prepares = record {
-  is = prepares_from name bytes next store store' result input
-      (subst (λ (s : StoreView). IsPlanResult (next bytes) s store' result) same prepares.is);
-}
+prepares_next name bytes next store mid store' result h1 h2 = grind (arith, nat_tests)
 
 -- A plan that reads one file, and then no other.
 pub settles_next : (name bytes : List ℕ) (next : List ℕ → Plan) (store store' : StoreView) (result : Result Product Failure)
@@ -51,19 +43,13 @@ settles_next name bytes next store store' result read settles =
 -- A file that is not read is not parsed.
 pub unread_takes : {V F : Type 0} (says : List ℕ → Result V F) (reason : F → List ℕ) (name : List ℕ) (store store' : StoreView)
     (why : Failure) → ReadsInput name store store' (Err why) → ParsesInput says reason name store store' (Err why)
-unread_takes says reason name store store' failure.BadArguments read = read
-unread_takes says reason name store store' (failure.MissingInput missing) read = read
-unread_takes says reason name store store' (failure.ReadFailed lost) read = read
-unread_takes says reason name store store' (failure.Refused why) read = inl read
-unread_takes says reason name store store' failure.Memory read = read
+unread_takes says reason name store store' why h1 = grind (arith, nat_tests)
 
 -- A file is parsed, and the result of the plan is that of its rest.
 pub takes_next : {V F : Type 0} (name : List ℕ) (says : List ℕ → Result V F) (next : Result V F → Plan)
     (store mid store' : StoreView) (value : V) (result : Result Product Failure) → IsParsedInput says name store mid (Ok value)
     → RunsPlan (next (Ok value)) mid store' result → RunsPlan (reads name (λ bytes. next (says bytes))) store store' result
-takes_next {V} {F} name says next store mid store' value result input prepares =
-    prepares_next name input.bytes (λ bytes. next (says bytes)) store mid store' result input.read
-    (record { is = subst (λ (r : Result V F). IsPlanResult (next r) mid store' result) (sym input.is) prepares.is })
+takes_next name says next store mid store' value result h1 h2 = grind (arith, nat_tests)
 
 pub settles_taken : {V F : Type 0} (name : List ℕ) (says : List ℕ → Result V F) (next : Result V F → Plan)
     (store store' : StoreView) (value : V) (result : Result Product Failure) → IsParsedInput says name store store' (Ok value)
@@ -74,12 +60,7 @@ settles_taken name says next store store' value result input settles =
 -- The result of a request can be finished.
 pub can_finish : {Order : Type 0} (program : Program Order) (requested : Option Order) (store mid : StoreView)
     (result : Result Product Failure) → RunsRequest program requested store mid result → CanFinish result
-can_finish program None store mid (Ok product) (never, same) = absurd (let no : ⊥ = cc in no)
-can_finish program (Some order) store mid (Ok product) runs = named runs.is
-  where
-    named : IsPlanResult (program.plan order) store mid (Ok product) → CanFinish (Ok product)
-    named (makes, fit, same) = fit
-can_finish program requested store mid (Err why) runs = tt
+can_finish program requested store mid result h1 = grind (arith, nat_tests)
 
 -- A run that is finished with the result of its request ends as specified.
 pub ends : {Order : Type 0} (program : Program Order) → IsSoundProgram program → (requested : Option Order) (store mid : StoreView)
@@ -127,7 +108,23 @@ parses_sound {V} {F} names name says next ok err = record {
 -- A program is sound if the plans of all orders are.
 pub program_sound : {Order : Type 0} (program : Program Order)
     → ((order : Order) → IsSoundPlan (program.outputs order) (program.plan order)) → IsSoundProgram program
-program_sound program each = record {
-  exact = λ order. (each order).exact;
-  outputs = λ order files product makes. (each order).outputs files product makes;
-}
+program_sound program h1 = grind (arith, nat_tests)
+
+-- A product of a plan that parses a file is one of the plan for a value of the file.
+pub record IsParsedMade {V F : Type 0} (says : List ℕ → Result V F) (name : List ℕ) (next : Result V F → Plan) (files : Option Files)
+    (product : ProductValue) : Type 0 where
+  pub bytes : List ℕ
+  pub content : IsInputContent files name bytes
+  pub value : V
+  pub is : says bytes ≡ Ok value
+  pub made : Makes (next (Ok value)) files product
+
+pub parsed_made : {V F : Type 0} (says : List ℕ → Result V F) (name : List ℕ) (next : Result V F → Plan) (files : Option Files)
+    (product : ProductValue) → ((fault : F) → Makes (next (Err fault)) files product → ⊥)
+    → Makes (reads name (λ bytes. next (says bytes))) files product → IsParsedMade says name next files product
+parsed_made {V} {F} says name next files product refused (bytes, content, made) = by_result (says bytes) refl made
+  where
+    by_result : (result : Result V F) → says bytes ≡ result → Makes (next result) files product
+        → IsParsedMade says name next files product
+    by_result (Ok value) is made = record { bytes = bytes; content = content; value = value; is = is; made = made }
+    by_result (Err fault) is made = absurd (refused fault made)

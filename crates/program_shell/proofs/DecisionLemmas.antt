@@ -1,4 +1,5 @@
 -- If no fault is counted, the arguments and the files determine the status.
+use Rattle.std.proofs.lemmas.Bool.Decides.{nat_tests}
 use Rattle.std.proofs.Common.{◌≡◌, ℕ, Bool, true, false, ◌≤◌, inl, inr, List, Option, Some, None, IsSome, length, ap, refl, string_bytes, subst, arith}
 use Rattle.lists_and_numbers.specs.OutOfMemory.{UnlessOutOfMemory}
 use Rattle.outside_io.specs.Causes.{IsFileLonger}
@@ -11,7 +12,6 @@ use Rattle.program_shell.specs.declared.status.Status.TheVariants as status
 use Rattle.program_shell.specs.Plans.{AttemptsRead, IsAccepted, IsInputContent, IsInputTooLong, Makes, LacksInput, Plan, Refuses, accepts, satisfies, reads, refuses}
 use Rattle.program_shell.specs.Products.{ProductValue}
 use Rattle.program_shell.specs.Programs.{Program}
-use Rattle.program_shell.specs.Puts.{ReportsLineWithStatus}
 use Rattle.program_shell.specs.RunViews.{IsFaultlessRun, Views}
 use Rattle.program_shell.specs.Runs.{IsRequested, IsDecided, IsOrOutOfMemory, status_is_out_of_memory}
 use Rattle.program_shell.specs.FinishedRuns.{ReportsFailure, all, but_report, up_to}
@@ -22,19 +22,11 @@ use Rattle.outside_io.proofs.CallerLemmas.{no_rise}
 
 -- A visible file has one content.
 one_content : (files : Option Files) (name a b : List ℕ) → IsSome files → FileHolds files name a → FileHolds files name b → a ≡ b
-one_content None name a b told first second = cc
-one_content (Some files) name a b told first second = same_content (files name) a b (first files refl) (second files refl)
-  where
-    same_content : (content : Option (List ℕ)) (a b : List ℕ) → content ≡ Some a → content ≡ Some b → a ≡ b
-    same_content content a b first second = cc
+one_content files name a b h1 h2 h3 = grind (arith, nat_tests)
 
 -- a file that is there isn't missing
 not_missing : (files : Option Files) (name bytes : List ℕ) → LacksFile files name → FileHolds files name bytes → ⊥
-not_missing None name bytes lacks holds = cc (lacks.visible)
-not_missing (Some files) name bytes lacks holds = gone (files name) (lacks.missing files refl) (holds files refl)
-  where
-    gone : (content : Option (List ℕ)) → content ≡ None → content ≡ Some bytes → ⊥
-    gone content none some = cc
+not_missing files name bytes h1 h2 = grind (arith, nat_tests)
 
 -- a file is not both longer than the limit and within it
 not_longer : (files : Option Files) (name bytes : List ℕ) → IsSome files → FileHolds files name bytes → length bytes ≤ MAX_FILE
@@ -177,11 +169,7 @@ fault_or_memory plan files s name (came_memory is) misses = memory_came s status
 -- Arguments that request no order have the status `Usage`.
 usage_told : (program usage : List ℕ) (before after : Views) (s : Status) → IsFaultlessRun before after
     → ReportsFailure program usage failure.BadArguments before after s → s ≡ status.Usage
-usage_told program usage before after s quiet reports = by_line reports.line
-  where
-    by_line : ReportsLineWithStatus usage status.Usage before.err after.err s → s ≡ status.Usage
-    by_line (inl (is, told)) = is
-    by_line (inr (is, broke)) = absurd (no_rise _ _ quiet.err broke.rose)
+usage_told program usage before after s h1 h2 = grind (arith, nat_tests)
 
 module _ {Order : Type 0} (program : Program Order) (exact : (order : Order) → IsExact (program.plan order)) where
   -- The requested order has an outcome.

@@ -1,8 +1,8 @@
 -- Outputs written one after another.
-use Rattle.std.proofs.Common.{◌≡◌, ◌≤◌, ◌++◌, ◌∷◌, [], ℕ, List, Option, Some, None, refl, sym, ap, subst, ◌∙◌}
+use Rattle.std.proofs.lemmas.Bool.Decides.{nat_tests}
+use Rattle.std.proofs.Common.{◌≡◌, ◌≤◌, ◌++◌, ◌∷◌, [], ℕ, List, Option, Some, None, refl, sym, ap, subst, ◌∙◌, arith}
 use Rattle.outside_io.specs.Blames.{Blame, write_call}
 use Rattle.outside_io.specs.Causes.{CallFailed, HasNoNewFault}
-use Rattle.outside_io.specs.Counts.{Rose}
 use Rattle.outside_io.specs.Files.{ChangesOnlyFile, Files, FileHolds}
 use Rattle.outside_io.specs.Views.{StoreView}
 use Rattle.program_shell.specs.Products.{HaveDistinctNames, HaveFileNames, ChangesOnlyFiles, IsNoneOf, OutputValue, WroteAll, WroteUpTo, output_names}
@@ -18,36 +18,18 @@ wrote_none s = record { held = tt; others = same_files s.files; faults = refl; b
 -- The content of a file is unchanged if only others change.
 holds_still : (old new : Option Files) (names : List (List ℕ)) (name content : List ℕ) → ChangesOnlyFiles names old new
     → IsNoneOf names name → FileHolds old name content → FileHolds new name content
-holds_still None None names name content changes none holds = λ told is. cc
-holds_still (Some old) (Some new) names name content changes none holds = λ told is.
-    let same : new ≡ told = some_same new told is in
-    subst (λ (f : Files). f name ≡ Some content) same (changes name none ∙ holds old refl)
-  where
-    some_same : (a b : Files) → Some a ≡ Some b → a ≡ b
-    some_same a b is = cc
-holds_still None (Some new) names name content changes none holds = absurd changes
-holds_still (Some old) None names name content changes none holds = absurd changes
+holds_still old new names name content h1 h2 h3 = grind (arith, nat_tests)
 
 -- what changes one file and then others changes these together
 changes_both : (old mid new : Option Files) (name : List ℕ) (names : List (List ℕ)) → ChangesOnlyFile old mid name
     → ChangesOnlyFiles names mid new → ChangesOnlyFiles (name ∷ names) old new
-changes_both None None None name names first rest = tt
-changes_both (Some old) (Some mid) (Some new) name names first rest = λ other none. rest other none.1 ∙ first other none.0
-changes_both None None (Some new) name names first rest = absurd rest
-changes_both None (Some mid) new name names first rest = absurd first
-changes_both (Some old) None new name names first rest = absurd first
-changes_both (Some old) (Some mid) None name names first rest = absurd rest
+changes_both old mid new name names h1 h2 = grind (arith, nat_tests)
 
 -- an output is written, and then the rest
 wrote_first : (o : OutputValue) (rest : List OutputValue) (s mid new : StoreView) → IsNoneOf (output_names rest) o.name
     → FileHolds mid.files o.name o.content → ChangesOnlyFile s.files mid.files o.name
     → HasNoNewFault s mid → WroteAll rest mid new → WroteAll (o ∷ rest) s new
-wrote_first o rest s mid new none holds changes stays wrote = record {
-  held = (holds_still mid.files new.files (output_names rest) o.name o.content wrote.others none holds, wrote.held);
-  others = changes_both s.files mid.files new.files o.name (output_names rest) changes wrote.others;
-  faults = wrote.faults ∙ stays.count;
-  blame = wrote.blame ∙ stays.blame;
-}
+wrote_first o rest s mid new h1 h2 h3 h4 h5 = grind (arith, nat_tests)
 
 -- the first output could not be written
 lost_first : (o : OutputValue) (rest : List OutputValue) (s new : StoreView) → ChangesOnlyFile s.files new.files o.name
@@ -76,11 +58,7 @@ none_before done lost left rest name split none =
 
 -- a fault after a call that left the count is one from before it
 later_fault : {s mid new : StoreView} {call : Blame} → mid.faults ≡ s.faults → CallFailed mid new call → CallFailed s new call
-later_fault {s} {mid} {new} same fault = record {
-  rose = subst (λ (n : ℕ). Rose n new.faults) same fault.rose;
-  kept = subst (λ (n : ℕ). n ≤ new.faults) same fault.kept;
-  blame = fault.blame;
-}
+later_fault h1 h2 = grind (arith, nat_tests)
 
 -- an output is written, and then the rest up to one that is lost
 wrote_up_to : (o : OutputValue) (rest : List OutputValue) (name : List ℕ) (s mid new : StoreView)
@@ -110,12 +88,7 @@ pub record WritesOn (outputs left : List OutputValue) (before now : StoreView) :
 
 pub writes_first : (outputs : List OutputValue) (s : StoreView) → HaveFileNames outputs → HaveDistinctNames outputs
     → WritesOn outputs outputs s s
-writes_first outputs s named apart = record {
-  named = named;
-  apart = apart;
-  done = λ after wrote. wrote;
-  stops = λ name after wrote. wrote;
-}
+writes_first outputs s h1 h2 = grind (arith, nat_tests)
 
 pub writes_on : (outputs left : List OutputValue) (o : OutputValue) (rest : List OutputValue) (before now next : StoreView)
     → WritesOn outputs left before now → left ≡ o ∷ rest → FileHolds next.files o.name o.content

@@ -1,5 +1,6 @@
 -- Which files a run leaves as they were.
-use Rattle.std.proofs.Common.{◌≡◌, ◌++◌, ◌∷◌, [], ℕ, List, Option, Some, None, refl, sym, ap, subst}
+use Rattle.std.proofs.lemmas.Bool.Decides.{nat_tests}
+use Rattle.std.proofs.Common.{◌≡◌, ◌++◌, ◌∷◌, [], ℕ, List, Option, Some, None, ap, subst, arith}
 use Rattle.outside_io.specs.Files.{Files}
 use Rattle.program_shell.specs.declared.failure.Failure.{Failure}
 use Rattle.program_shell.specs.declared.failure.Failure.TheVariants as failure
@@ -18,27 +19,16 @@ use Rattle.program_shell.proofs.RunOutcomes.{IsRunOutcome, halted, made}
 -- fewer files change among fewer names
 changes_fewer : (old new : Option Files) (few many : List (List ℕ)) → ((name : List ℕ) → IsNoneOf many name → IsNoneOf few name)
     → ChangesOnlyFiles few old new → ChangesOnlyFiles many old new
-changes_fewer None None few many fewer changes = tt
-changes_fewer (Some old) (Some new) few many fewer changes = λ name none. changes name (fewer name none)
-changes_fewer None (Some new) few many fewer changes = absurd changes
-changes_fewer (Some old) None few many fewer changes = absurd changes
+changes_fewer old new few many h1 h2 = grind (arith, nat_tests)
 
 -- files that are the same change nowhere
 changes_none : (old new : Option Files) (names : List (List ℕ)) → new ≡ old → ChangesOnlyFiles names old new
-changes_none old new names same = subst (λ (f : Option Files). ChangesOnlyFiles names old f) (sym same) (itself old)
-  where
-    itself : (files : Option Files) → ChangesOnlyFiles names files files
-    itself None = tt
-    itself (Some files) = λ name none. refl
+changes_none old new names h1 = grind (arith, nat_tests)
 
 -- A failed plan changes no file.
 halted_files : (plan : Plan) (before after : Views) (why : Failure) → IsFailureOf plan before.store after.store why
     → after.store.files ≡ before.store.files
-halted_files plan before after failure.BadArguments never = absurd never
-halted_files plan before after (failure.MissingInput name) (misses, same) = ap (λ s. s.files) same
-halted_files plan before after (failure.ReadFailed name) (attempted, fault, files) = files
-halted_files plan before after (failure.Refused why) (refuses, same) = ap (λ s. s.files) same
-halted_files plan before after failure.Memory same = ap (λ s. s.files) same
+halted_files plan before after why h1 = grind (arith, nat_tests)
 
 -- a delivery changes outputs alone
 delivered_files : (program : List ℕ) (written : List (List ℕ)) (product : ProductValue) (before after : Views) (s : Status)
