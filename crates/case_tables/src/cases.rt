@@ -31,10 +31,10 @@ pub struct FailingCalls {
     pub err: u64,
 }
 
-/// A command with its exit status, and the expected results.
+/// A command, whose arguments are separated by spaces, with its exit status and the expected results.
 #[derive(Clone, Copy)]
 pub struct CaseStep {
-    pub words: &'static [&'static str],
+    pub words: &'static str,
     pub fails: FailingCalls,
     pub status: u8,
     pub out: ExpectedText,

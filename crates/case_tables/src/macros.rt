@@ -6,6 +6,14 @@ macro_rules! records {
     };
 }
 
+/// A file of exactly these bytes.
+#[macro_export]
+macro_rules! with_bytes {
+    ($name:expr => $bytes:expr) => {
+        ($name, $crate::FileContent::Bytes($bytes))
+    };
+}
+
 /// A step in which no call fails.
 #[macro_export]
 macro_rules! step {
@@ -25,10 +33,13 @@ macro_rules! step {
     };
 }
 
-/// A step that is done, with its report and the files that it writes.
+/// A step that is done, with its report and the files that it writes, if they are compared.
 #[macro_export]
 macro_rules! done {
-    ($words:expr, $out:expr, $after:expr $(,)?) => {
+    ($words:expr => $out:expr) => {
+        $crate::step!($words, 0, $crate::ExpectedText::Exactly($out), "", &[])
+    };
+    ($words:expr => $out:expr, $after:expr) => {
         $crate::step!($words, 0, $crate::ExpectedText::Exactly($out), "", $after)
     };
 }
@@ -36,7 +47,7 @@ macro_rules! done {
 /// A step that is refused, with its line; it writes nothing.
 #[macro_export]
 macro_rules! refused {
-    ($words:expr, $err:expr $(,)?) => {
+    ($words:expr => $err:expr) => {
         $crate::step!($words, 1, $crate::ExpectedText::Exactly(""), $err, &[])
     };
 }

@@ -120,18 +120,27 @@ fn is_held(store: &MemStore, name: &str, holds: FileContent) -> bool {
     }
 }
 
+/// Returns the arguments that spaces separate.
+pub fn arguments(alloc: Global, words: &str) -> Result<Vec<String>, Fail> {
+    let mut owned = Vec::new(alloc);
+    if words.is_empty() {
+        return Ok(owned);
+    }
+    for word in words.split(' ') {
+        owned.push(String::from_str(alloc, word)?)?;
+    }
+    Ok(owned)
+}
+
 /// Runs the program over its five formats, and returns its exit status.
 pub fn answer(
     alloc: Global,
-    words: &[&str],
+    words: &str,
     store: &mut MemStore,
     out: &mut MemSink,
     err: &mut MemSink,
 ) -> Result<Status, Fail> {
-    let mut owned = Vec::new(alloc);
-    for word in words {
-        owned.push(String::from_str(alloc, word)?)?;
-    }
+    let owned = arguments(alloc, words)?;
     let mut formats: Vec<Box<dyn Format>> = Vec::new(alloc);
     formats.push(Box::new(alloc, Dst::new(alloc))?)?;
     formats.push(Box::new(alloc, Exp::new(alloc))?)?;

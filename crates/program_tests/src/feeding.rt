@@ -1,5 +1,5 @@
 //! A stitch file is fed to its format part by part, and not decoded as a whole.
-use crate::cases::behind;
+use crate::cases::{arguments, behind};
 use design_model::{Command, Design};
 use dst_codec::Dst;
 use format_traits::{Format, Loaded, ReadFault, WriteFault};
@@ -74,9 +74,7 @@ fn a_file_is_shown_that_can_only_be_fed(rt: HostRuntime) -> Result<(), Fail> {
             dst: Dst::new(alloc),
         },
     )?)?;
-    let mut words = Vec::new(alloc);
-    words.push(String::from_str(alloc, "show")?)?;
-    words.push(String::from_str(alloc, "a.dst")?)?;
+    let words = arguments(alloc, "show a.dst")?;
     let status = run(alloc, &words, &mut formats, &mut store, &mut out, &mut err);
     assert_eq!(rt; status, Status::Done);
     assert_eq!(rt;

@@ -1,19 +1,16 @@
 use crate::cases::play;
-use case_tables::{Case, FileContent, done, records, refused};
+use case_tables::{Case, FileContent, done, records, refused, with_bytes};
 use std::test::Fail;
 
-const SHOW: &[&str] = &["show", "a.dst"];
+const SHOW: &str = "show a.dst";
 
 /// A file cut off in its second record; three jumps, which are read as a trim; two jumps; only a stop. Then
 /// labels that are shorter than their field, and files without a needle.
 static SHOWN: &[Case] = &[
     Case {
         before: &[("a.dst", records!(&[0x00, 0x05, 0x03, 0x00, 0x05]))],
-        steps: &[done!(
-            SHOW,
-            "format dst\nlabel []\ncommands 1\nneedles 1\ntrims 0\nstops 0\nextent 30 0 30 0\nended no\nblock 1 thread 1 needles 1\n",
-            &[],
-        )],
+        steps: &[done!(SHOW =>
+            "format dst\nlabel []\ncommands 1\nneedles 1\ntrims 0\nstops 0\nextent 30 0 30 0\nended no\nblock 1 thread 1 needles 1\n")],
     },
     Case {
         before: &[(
@@ -22,30 +19,21 @@ static SHOWN: &[Case] = &[
                 0, 0, 0x03, 0, 0, 0x83, 0, 0, 0x83, 0, 0, 0x83, 0, 0, 0x03, 0, 0, 0xF3,
             ]),
         )],
-        steps: &[done!(
-            SHOW,
-            "format dst\nlabel []\ncommands 6\nneedles 2\ntrims 1\nstops 0\nextent 0 0 0 0\nended yes\nblock 1 thread 1 needles 2\n",
-            &[],
-        )],
+        steps: &[done!(SHOW =>
+            "format dst\nlabel []\ncommands 6\nneedles 2\ntrims 1\nstops 0\nextent 0 0 0 0\nended yes\nblock 1 thread 1 needles 2\n")],
     },
     Case {
         before: &[(
             "a.dst",
             records!(&[0, 0, 0x03, 0, 0, 0x83, 0, 0, 0x83, 0, 0, 0x03, 0, 0, 0xF3]),
         )],
-        steps: &[done!(
-            SHOW,
-            "format dst\nlabel []\ncommands 4\nneedles 2\ntrims 0\nstops 0\nextent 0 0 0 0\nended yes\nblock 1 thread 1 needles 2\n",
-            &[],
-        )],
+        steps: &[done!(SHOW =>
+            "format dst\nlabel []\ncommands 4\nneedles 2\ntrims 0\nstops 0\nextent 0 0 0 0\nended yes\nblock 1 thread 1 needles 2\n")],
     },
     Case {
         before: &[("a.dst", records!(&[0, 0, 0xC3, 0, 0, 0xF3]))],
-        steps: &[done!(
-            SHOW,
-            "format dst\nlabel []\ncommands 1\nneedles 0\ntrims 0\nstops 1\nextent none\nended yes\nblock 1 thread 1 needles 0\nblock 2 thread 2 needles 0\n",
-            &[],
-        )],
+        steps: &[done!(SHOW =>
+            "format dst\nlabel []\ncommands 1\nneedles 0\ntrims 0\nstops 1\nextent none\nended yes\nblock 1 thread 1 needles 0\nblock 2 thread 2 needles 0\n")],
     },
     // The label is the 16 bytes from offset 3, here with the next field; `0D` becomes a question mark.
     Case {
@@ -58,11 +46,8 @@ static SHOWN: &[Case] = &[
                 &[0, 0, 0x03, 0, 0, 0xF3],
             ),
         )],
-        steps: &[done!(
-            SHOW,
-            "format dst\nlabel [Rose?ST:      2?]\ncommands 1\nneedles 1\ntrims 0\nstops 0\nextent 0 0 0 0\nended yes\nblock 1 thread 1 needles 1\n",
-            &[],
-        )],
+        steps: &[done!(SHOW =>
+            "format dst\nlabel [Rose?ST:      2?]\ncommands 1\nneedles 1\ntrims 0\nstops 0\nextent 0 0 0 0\nended yes\nblock 1 thread 1 needles 1\n")],
     },
     // A zero byte after the name becomes a question mark, and the spaces are dropped. The space at offset 57
     // is thread 32.
@@ -71,11 +56,8 @@ static SHOWN: &[Case] = &[
             "a.pec",
             FileContent::Padded(b"#PEC0001LA:Rose\0", 536, 1, &[0x1E, 0x1E, 0xFF]),
         )],
-        steps: &[done!(
-            &["show", "a.pec"],
-            "format pec\nlabel [Rose?]\ncommands 1\nneedles 1\ntrims 0\nstops 0\nextent 30 30 30 30\nended yes\nblock 1 thread 32 needles 1\n",
-            &[],
-        )],
+        steps: &[done!("show a.pec" =>
+            "format pec\nlabel [Rose?]\ncommands 1\nneedles 1\ntrims 0\nstops 0\nextent 30 30 30 30\nended yes\nblock 1 thread 32 needles 1\n")],
     },
     // The first byte of the records is their end: no stitch is read from the bytes after it.
     Case {
@@ -83,20 +65,14 @@ static SHOWN: &[Case] = &[
             "a.pec",
             FileContent::Padded(b"#PEC0001", 536, 1, &[0xFF, 0xCE, 0x1E, 0x1E, 0xFF]),
         )],
-        steps: &[done!(
-            &["show", "a.pec"],
-            "format pec\nlabel []\ncommands 0\nneedles 0\ntrims 0\nstops 0\nextent none\nended yes\nblock 1 thread 32 needles 0\n",
-            &[],
-        )],
+        steps: &[done!("show a.pec" =>
+            "format pec\nlabel []\ncommands 0\nneedles 0\ntrims 0\nstops 0\nextent none\nended yes\nblock 1 thread 32 needles 0\n")],
     },
     // An empty file has no needle, and no bytes are left over, so it has its end.
     Case {
-        before: &[("a.exp", FileContent::Bytes(b""))],
-        steps: &[done!(
-            &["show", "a.exp"],
-            "format exp\nlabel []\ncommands 0\nneedles 0\ntrims 0\nstops 0\nextent none\nended yes\nblock 1 thread 1 needles 0\n",
-            &[],
-        )],
+        before: &[with_bytes!("a.exp" => b"")],
+        steps: &[done!("show a.exp" =>
+            "format exp\nlabel []\ncommands 0\nneedles 0\ntrims 0\nstops 0\nextent none\nended yes\nblock 1 thread 1 needles 0\n")],
     },
 ];
 
@@ -104,59 +80,45 @@ static SHOWN: &[Case] = &[
 static NOT_SHOWN: &[Case] = &[
     Case {
         before: &[("a.dst", FileContent::Padded(b"", 511, 0, b""))],
-        steps: &[refused!(SHOW, "stitch: a.dst: byte 511: file too short\n")],
+        steps: &[refused!(SHOW => "stitch: a.dst: byte 511: file too short\n")],
     },
     Case {
         before: &[("a.dst", records!(&[0x00, 0x00, 0x43]))],
-        steps: &[refused!(SHOW, "stitch: a.dst: byte 512: sequin\n")],
+        steps: &[refused!(SHOW => "stitch: a.dst: byte 512: sequin\n")],
     },
     Case {
         before: &[(
             "a.dst",
             FileContent::Padded(b"", 512, 248, &[0x05, 0x05, 0x07]),
         )],
-        steps: &[refused!(SHOW, "stitch: a.dst: byte 1253: point out of range\n")],
+        steps: &[refused!(SHOW => "stitch: a.dst: byte 1253: point out of range\n")],
     },
     Case {
-        before: &[("a.exp", FileContent::Bytes(&[0x80, 0x05, 0x00, 0x00]))],
-        steps: &[refused!(
-            &["show", "a.exp"],
-            "stitch: a.exp: byte 0: control code not known\n",
-        )],
+        before: &[with_bytes!("a.exp" => &[0x80, 0x05, 0x00, 0x00])],
+        steps: &[refused!("show a.exp" => "stitch: a.exp: byte 0: control code not known\n")],
     },
     Case {
-        before: &[("a.pec", FileContent::Bytes(b"#PAC0001"))],
-        steps: &[refused!(
-            &["show", "a.pec"],
-            "stitch: a.pec: byte 0: signature not known\n",
-        )],
+        before: &[with_bytes!("a.pec" => b"#PAC0001")],
+        steps: &[refused!("show a.pec" => "stitch: a.pec: byte 0: signature not known\n")],
     },
     Case {
         before: &[("a.exp", FileContent::Padded(b"", 0, 2_000_002, &[0]))],
-        steps: &[refused!(
-            &["show", "a.exp"],
-            "stitch: a.exp: byte 2000000: more than 1000000 commands\n",
-        )],
+        steps: &[refused!("show a.exp" =>
+            "stitch: a.exp: byte 2000000: more than 1000000 commands\n")],
     },
 ];
 
 static HOOPS: &[Case] = &[
     Case {
-        before: &[(
-            "a.exp",
-            FileContent::Bytes(&[0x00, 0x00, 0x1E, 0x00, 0x00, 0xE2]),
-        )],
+        before: &[with_bytes!("a.exp" => &[0x00, 0x00, 0x1E, 0x00, 0x00, 0xE2])],
         steps: &[
-            done!(&["hoop", "a.exp", "30", "0030"], "fits upright\n", &[]),
-            refused!(
-                &["hoop", "a.exp", "20", "25"],
-                "stitch: too large by 10 5\n",
-            ),
+            done!("hoop a.exp 30 0030" => "fits upright\n"),
+            refused!("hoop a.exp 20 25" => "stitch: too large by 10 5\n"),
         ],
     },
     Case {
-        before: &[("a.exp", FileContent::Bytes(&[0x00, 0x00, 0x1E, 0x00]))],
-        steps: &[done!(&["hoop", "a.exp", "10", "30"], "fits turned\n", &[])],
+        before: &[with_bytes!("a.exp" => &[0x00, 0x00, 0x1E, 0x00])],
+        steps: &[done!("hoop a.exp 10 30" => "fits turned\n")],
     },
 ];
 

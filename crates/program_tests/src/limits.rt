@@ -1,10 +1,10 @@
 use crate::cases::play;
-use case_tables::{Case, ExpectedText, FileContent, refused, step};
+use case_tables::{Case, ExpectedText, FileContent, refused, step, with_bytes};
 use std::test::Fail;
 
-const TO_PES: &[&str] = &["route", "a.rw", "b.pes", "b.cert"];
+const TO_PES: &str = "route a.rw b.pes b.cert";
 
-const TO_EXP: &[&str] = &["route", "a.rw", "b.exp", "b.cert"];
+const TO_EXP: &str = "route a.rw b.exp b.cert";
 
 const HEAD: &[u8] = b"redwork 1\n";
 
@@ -40,7 +40,7 @@ static DRAWINGS: &[Case] = &[
         10,
         256,
         LINES,
-        refused!(TO_PES, "stitch: a.rw: line 512: more than 255 blocks\n")
+        refused!(TO_PES => "stitch: a.rw: line 512: more than 255 blocks\n")
     ),
     routed!(
         b"redwork 1\ncolor 1\nline",
@@ -60,14 +60,14 @@ static DRAWINGS: &[Case] = &[
         26,
         32_768,
         b" 1 0 0 0",
-        refused!(TO_EXP, "stitch: a.rw: line 3: more than 65536 points\n")
+        refused!(TO_EXP => "stitch: a.rw: line 3: more than 65536 points\n")
     ),
     routed!(
         b"redwork 1\nstep 2048\n",
         20,
         0,
         b"",
-        refused!(TO_EXP, "stitch: a.rw: line 2: number out of range\n")
+        refused!(TO_EXP => "stitch: a.rw: line 2: number out of range\n")
     ),
 ];
 
@@ -76,14 +76,12 @@ macro_rules! bad_file {
     ($text:expr, $line:expr) => {
         Case {
             before: &[
-                (
-                    "a.rw",
-                    FileContent::Bytes(b"redwork 1\nstep 30\ncolor 5\nline 0 0 30 0 30 30 0 30 0 0\n"),
-                ),
+                with_bytes!("a.rw" =>
+                    b"redwork 1\nstep 30\ncolor 5\nline 0 0 30 0 30 30 0 30 0 0\n"),
                 ("b.dst", FileContent::Padded(b"", 512, 0, b"")),
-                ("c.cert", FileContent::Bytes($text)),
+                with_bytes!("c.cert" => $text),
             ],
-            steps: &[refused!(&["check", "a.rw", "b.dst", "c.cert"], $line)],
+            steps: &[refused!("check a.rw b.dst c.cert" => $line)],
         }
     };
 }

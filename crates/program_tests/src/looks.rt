@@ -1,4 +1,5 @@
 //! Runs of `stitch_drawing` over files in memory.
+use crate::cases::arguments;
 use case_tables::{LOOKED, LOOKED_AT};
 use drawing_commands::run;
 use outside_io::{MemSink, MemStore};
@@ -24,10 +25,7 @@ fn a_run_ends_as_its_files_and_arguments_say(rt: HostRuntime) -> Result<(), Fail
         store.fail_at(fails[0])?;
         out.fail_at(fails[1])?;
         err.fail_at(fails[2])?;
-        let mut given = Vec::new(alloc);
-        for word in *words {
-            given.push(String::from_str(alloc, word)?)?;
-        }
+        let given = arguments(alloc, words)?;
         let ended = run(alloc, &given, &mut store, &mut out, &mut err);
         assert_eq!(rt; out.taken(), printed.as_bytes());
         assert_eq!(rt; err.taken(), reported.as_bytes());

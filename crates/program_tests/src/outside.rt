@@ -1,12 +1,12 @@
 use crate::cases::play;
-use case_tables::{Case, CaseStep, ExpectedText, FailingCalls, FileContent};
+use case_tables::{Case, CaseStep, ExpectedText, FailingCalls, FileContent, with_bytes};
 use std::test::Fail;
 
 const SQUARE: &[u8] = b"redwork 1\nstep 30\ncolor 5\nline 0 0 30 0 30 30 0 30 0 0\n";
 
-const ROUTE: &[&str] = &["route", "a.rw", "b.dst", "b.cert"];
+const ROUTE: &str = "route a.rw b.dst b.cert";
 
-const CONVERT: &[&str] = &["convert", "a.exp", "b.dst", "--cut"];
+const CONVERT: &str = "convert a.exp b.dst --cut";
 
 const CERT: &[u8] = b"redwork-certificate 1\npiece 0\nwalk 1\nend\n";
 
@@ -20,8 +20,8 @@ const FLOAT: [u8; 20] = [
 ];
 
 const DRAWN: &[(&str, FileContent)] = &[
-    ("a.rw", FileContent::Bytes(SQUARE)),
-    ("a.exp", FileContent::Bytes(&FLOAT)),
+    with_bytes!("a.rw" => SQUARE),
+    with_bytes!("a.exp" => &FLOAT),
 ];
 
 const READ: &str = "stitch: cannot read a.rw\n";
@@ -94,11 +94,11 @@ static FAULTS: &[Case] = &[
     ),
     fault!(
         DRAWN,
-        &["route", "a.rw", "d.dst", "b.cert"],
+        "route a.rw d.dst b.cert",
         (9, 2, 2),
         "stitch: cannot write d.dst\n",
         &[
-            ("b.cert", FileContent::Bytes(CERT)),
+            with_bytes!("b.cert" => CERT),
             ("d.dst", FileContent::Missing)
         ]
     ),
@@ -108,7 +108,7 @@ static FAULTS: &[Case] = &[
         (9, 1, 2),
         "stitch: cannot print\n",
         &[
-            ("b.cert", FileContent::Bytes(CERT)),
+            with_bytes!("b.cert" => CERT),
             ("b.dst", FileContent::PartAt(539, 0, b""))
         ]
     ),
@@ -117,16 +117,16 @@ static FAULTS: &[Case] = &[
         CONVERT,
         (4, 2, 2),
         WRITE_DESIGN,
-        &[("b.dst", FileContent::Bytes(b""))]
+        &[with_bytes!("b.dst" => b"")]
     ),
 ];
 
 /// A line is one put; a failed put is a fault.
 static LINES: &[Case] = &[
-    fault!(&[], &[], (0, 1, 1), "", &[]),
+    fault!(&[], "", (0, 1, 1), "", &[]),
     fault!(
         &[],
-        &["show", "a.dst"],
+        "show a.dst",
         (0, 1, 2),
         "stitch: cannot read a.dst\n",
         &[]
@@ -159,7 +159,7 @@ static CALLS: &[Case] = &[
     within!(ROUTE, 7, REPORT),
     within!(CONVERT, 5, "needles 2 trims 1 stops 0\n"),
     within!(
-        &["show", "a.exp"],
+        "show a.exp",
         3,
         "format exp\nlabel []\ncommands 6\nneedles 2\ntrims 0\nstops 0\nextent 0 0 400 0\nended yes\nblock 1 thread 1 needles 2\n"
     ),

@@ -1,15 +1,13 @@
 use crate::cases::{answer, stocked};
-use case_tables::FileContent;
+use case_tables::{FileContent, with_bytes};
 use outside_io::{MemSink, MemStore};
 use std::alloc::Global;
 use std::process::Abort;
 use std::test::Fail;
 use stitch_cli::Status;
 
-const SQUARE: &[(&str, FileContent)] = &[(
-    "a.rw",
-    FileContent::Bytes(b"redwork 1\nstep 30\ncolor 5\nline 0 0 30 0 30 30 0 30 0 0\n"),
-)];
+const SQUARE: &[(&str, FileContent)] = &[with_bytes!("a.rw" =>
+    b"redwork 1\nstep 30\ncolor 5\nline 0 0 30 0 30 30 0 30 0 0\n")];
 
 /// The position of the end of file in a prefix.
 #[derive(Clone, Copy)]
@@ -100,7 +98,8 @@ fn shows(
     let mut out = MemSink::new(alloc, 1_000)?;
     let mut err = MemSink::new(alloc, 1_000)?;
     let name = file.name;
-    let status = answer(alloc, &["show", name], store, &mut out, &mut err)?;
+    let words = format!(in alloc; "show {name}")?;
+    let status = answer(alloc, &words, store, &mut out, &mut err)?;
     if count < file.whole {
         let line = if count < file.signed {
             format!(in alloc; "stitch: {name}: byte 0: signature not known\n")?
@@ -128,7 +127,7 @@ fn each_first_part_of_a_file_is_shown_or_refused(rt: HostRuntime) -> Result<(), 
         let mut store = stocked(rt.alloc(), SQUARE)?;
         let mut out = MemSink::new(rt.alloc(), 1_000)?;
         let mut err = MemSink::new(rt.alloc(), 0)?;
-        let words = ["route", "a.rw", file.written, "b.cert"];
+        let words = format!(in rt.alloc(); "route a.rw {} b.cert", file.written)?;
         answer(rt.alloc(), &words, &mut store, &mut out, &mut err)?;
         let bytes = Vec::from_slice(rt.alloc(), store.file(file.written).ok_or("no file")?)?;
         assert_eq!(rt; bytes.len(), file.length, "{}", file.written);

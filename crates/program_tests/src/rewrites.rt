@@ -1,5 +1,5 @@
 use crate::cases::play;
-use case_tables::{Case, FileContent, done, records, refused};
+use case_tables::{Case, FileContent, done, records, refused, with_bytes};
 use std::test::Fail;
 
 /// In EXP: a stitch, four jumps of 100 to the right, and a stitch.
@@ -55,67 +55,41 @@ const FORTH_AND_BACK: &[u8] = &[0x7F, 0x00, 0x81, 0x00];
 static REFITS: &[Case] = &[
     // A stitch of 122 is too long for DST, one of (-5, 128) for EXP.
     Case {
-        before: &[("a.exp", FileContent::Bytes(&[0x00, 0x00, 0x7A, 0x00]))],
+        before: &[with_bytes!("a.exp" => &[0x00, 0x00, 0x7A, 0x00])],
         steps: &[
-            refused!(
-                &["convert", "a.exp", "b.dst"],
-                "stitch: b.dst: command 2: stitch longer than 121\n",
-            ),
-            done!(
-                &["convert", "a.exp", "b.dst", "--split"],
-                "needles 3 trims 0 stops 0\n",
-                &[(
-                    "b.dst",
-                    records!(&[
-                        0x00, 0x00, 0x03, 0x05, 0x0A, 0x07, 0x05, 0x0A, 0x07, 0x00, 0x00, 0xF3,
-                    ]),
-                )],
-            ),
+            refused!("convert a.exp b.dst" => "stitch: b.dst: command 2: stitch longer than 121\n"),
+            done!("convert a.exp b.dst --split" => "needles 3 trims 0 stops 0\n",
+                &[
+                    ("b.dst", records!(&[
+                        0x00, 0x00, 0x03, 0x05, 0x0A, 0x07, 0x05, 0x0A, 0x07, 0x00, 0x00, 0xF3
+                    ]))
+                ]),
         ],
     },
     Case {
-        before: &[("a.exp", FileContent::Bytes(&[0x00, 0x00, 0xFB, 0x80]))],
+        before: &[with_bytes!("a.exp" => &[0x00, 0x00, 0xFB, 0x80])],
         steps: &[
-            refused!(
-                &["convert", "a.exp", "b.exp"],
-                "stitch: b.exp: command 2: stitch longer than 127\n",
-            ),
-            done!(
-                &["convert", "a.exp", "b.exp", "--split"],
-                "needles 3 trims 0 stops 0\n",
-                &[(
-                    "b.exp",
-                    FileContent::Bytes(&[0x00, 0x00, 0xFD, 0xC0, 0xFE, 0xC0])
-                )],
-            ),
+            refused!("convert a.exp b.exp" => "stitch: b.exp: command 2: stitch longer than 127\n"),
+            done!("convert a.exp b.exp --split" => "needles 3 trims 0 stops 0\n",
+                &[with_bytes!("b.exp" => &[0x00, 0x00, 0xFD, 0xC0, 0xFE, 0xC0])]),
         ],
     },
     // A float of 400 is too long for DST; if it is cut, the jumps follow a trim.
     Case {
-        before: &[("a.exp", FileContent::Bytes(&FLOAT))],
+        before: &[with_bytes!("a.exp" => &FLOAT)],
         steps: &[
-            refused!(
-                &["convert", "a.exp", "b.dst"],
-                "stitch: b.dst: command 6: float too long\n",
-            ),
-            done!(
-                &["convert", "a.exp", "b.dst", "--cut"],
-                "needles 2 trims 1 stops 0\n",
-                &[("b.dst", records!(&CUT_FLOAT))],
-            ),
+            refused!("convert a.exp b.dst" => "stitch: b.dst: command 6: float too long\n"),
+            done!("convert a.exp b.dst --cut" => "needles 2 trims 1 stops 0\n",
+                &[("b.dst", records!(&CUT_FLOAT))]),
         ],
     },
     // The frame comes out before a stop and goes back after it. Neither move has a needle, and both are lost.
     Case {
-        before: &[("a.exp", FileContent::Bytes(FRAME_OUT))],
-        steps: &[done!(
-            &["convert", "a.exp", "b.exp"],
-            "needles 2 trims 0 stops 1\n",
-            &[(
-                "b.exp",
-                FileContent::Bytes(&[0x00, 0x00, 0x80, 0x01, 0x00, 0x00, 0x00, 0x00])
-            )],
-        )],
+        before: &[with_bytes!("a.exp" => FRAME_OUT)],
+        steps: &[
+            done!("convert a.exp b.exp" => "needles 2 trims 0 stops 1\n",
+            &[with_bytes!("b.exp" => &[0x00, 0x00, 0x80, 0x01, 0x00, 0x00, 0x00, 0x00])]),
+        ],
     },
     // Stitches of 127 forth and back, each split in two: 499,998 of them after 5 short ones are 1,000,001
     // commands, one too many. After 6 short ones the last but one stitch just fits.
@@ -124,24 +98,20 @@ static REFITS: &[Case] = &[
             "a.exp",
             FileContent::Padded(&[0; 10], 10, 249_999, FORTH_AND_BACK),
         )],
-        steps: &[refused!(
-            &["convert", "a.exp", "b.dst", "--split"],
-            "stitch: b.dst: command 500003: too many commands\n",
-        )],
+        steps: &[refused!("convert a.exp b.dst --split" =>
+            "stitch: b.dst: command 500003: too many commands\n")],
     },
     Case {
         before: &[(
             "a.exp",
             FileContent::Padded(&[0; 12], 12, 249_999, FORTH_AND_BACK),
         )],
-        steps: &[refused!(
-            &["convert", "a.exp", "b.dst", "--split"],
-            "stitch: b.dst: command 500004: too many commands\n",
-        )],
+        steps: &[refused!("convert a.exp b.dst --split" =>
+            "stitch: b.dst: command 500004: too many commands\n")],
     },
 ];
 
-const CONVERT: &[&str] = &["convert", "a.exp", "b.pec"];
+const CONVERT: &str = "convert a.exp b.pec";
 
 const FIVE_REPORT: &str = "needles 5 trims 0 stops 2\n";
 
@@ -149,61 +119,28 @@ const ONE_REPORT: &str = "needles 1 trims 0 stops 0\n";
 
 static WRITTEN: &[Case] = &[
     Case {
-        before: &[("a.exp", FileContent::Bytes(FIVE))],
+        before: &[with_bytes!("a.exp" => FIVE)],
         steps: &[
-            done!(
-                CONVERT,
-                FIVE_REPORT,
-                &[("b.pec", FileContent::PartAt(1_467, 536, FIVE_RECORDS))],
-            ),
-            done!(
-                CONVERT,
-                FIVE_REPORT,
-                &[(
-                    "b.pec",
-                    FileContent::PartAt(1_467, 522, &[0x23, 0x00, 0x00])
-                )],
-            ),
-            done!(
-                CONVERT,
-                FIVE_REPORT,
-                &[(
-                    "b.pec",
-                    FileContent::PartAt(1_467, 56, &[0x02, 0x01, 0x02, 0x03])
-                )],
-            ),
+            done!(CONVERT => FIVE_REPORT,
+                &[("b.pec", FileContent::PartAt(1_467, 536, FIVE_RECORDS))]),
+            done!(CONVERT => FIVE_REPORT,
+                &[("b.pec", FileContent::PartAt(1_467, 522, &[0x23, 0x00, 0x00]))]),
+            done!(CONVERT => FIVE_REPORT,
+                &[("b.pec", FileContent::PartAt(1_467, 56, &[0x02, 0x01, 0x02, 0x03]))]),
         ],
     },
     Case {
-        before: &[("a.exp", FileContent::Bytes(&[0x00, 0x00]))],
+        before: &[with_bytes!("a.exp" => &[0x00, 0x00])],
         steps: &[
-            done!(
-                CONVERT,
-                ONE_REPORT,
-                &[("b.pec", FileContent::PartAt(995, 536, &[0x00, 0x00, 0xFF]))],
-            ),
-            done!(
-                CONVERT,
-                ONE_REPORT,
-                &[("b.pec", FileContent::PartAt(995, 522, &[0x13, 0x00, 0x00]))],
-            ),
+            done!(CONVERT => ONE_REPORT,
+                &[("b.pec", FileContent::PartAt(995, 536, &[0x00, 0x00, 0xFF]))]),
+            done!(CONVERT => ONE_REPORT,
+                &[("b.pec", FileContent::PartAt(995, 522, &[0x13, 0x00, 0x00]))]),
             // One block, its thread, and the spaces after it.
-            done!(
-                CONVERT,
-                ONE_REPORT,
-                &[(
-                    "b.pec",
-                    FileContent::PartAt(995, 56, &[0x00, 0x01, 0x20, 0x20])
-                )],
-            ),
-            done!(
-                &["convert", "a.exp", "b.pes"],
-                ONE_REPORT,
-                &[(
-                    "b.pes",
-                    FileContent::PartAt(1_009, 0, b"#PES0001\x16\x00\x00\x00")
-                )],
-            ),
+            done!(CONVERT => ONE_REPORT,
+                &[("b.pec", FileContent::PartAt(995, 56, &[0x00, 0x01, 0x20, 0x20]))]),
+            done!("convert a.exp b.pes" => ONE_REPORT,
+                &[("b.pes", FileContent::PartAt(1_009, 0, b"#PES0001\x16\x00\x00\x00"))]),
         ],
     },
     Case {
@@ -217,15 +154,9 @@ static WRITTEN: &[Case] = &[
             ),
         )],
         steps: &[
-            refused!(
-                &["convert", "a.pec", "b.dst"],
-                "stitch: b.dst: command 2: stitch longer than 121\n",
-            ),
-            done!(
-                &["convert", "a.pec", "b.dst", "--split"],
-                "needles 6 trims 0 stops 0\n",
-                &[("b.dst", records!(SPLIT))],
-            ),
+            refused!("convert a.pec b.dst" => "stitch: b.dst: command 2: stitch longer than 121\n"),
+            done!("convert a.pec b.dst --split" => "needles 6 trims 0 stops 0\n",
+                &[("b.dst", records!(SPLIT))]),
         ],
     },
     Case {
@@ -238,11 +169,10 @@ static WRITTEN: &[Case] = &[
                 &[0x00, 0x00, 0x8F, 0x81, 0x80, 0x00, 0xFF],
             ),
         )],
-        steps: &[done!(
-            &["convert", "a.pec", "b.exp"],
-            "needles 2 trims 0 stops 0\n",
-            &[("b.exp", FileContent::Bytes(&[0x00, 0x00, 0x81, 0x00]))],
-        )],
+        steps: &[
+            done!("convert a.pec b.exp" => "needles 2 trims 0 stops 0\n",
+            &[with_bytes!("b.exp" => &[0x00, 0x00, 0x81, 0x00])]),
+        ],
     },
 ];
 
@@ -257,136 +187,73 @@ static EDITS: &[Case] = &[
     Case {
         before: &[("a.dst", records!(TWO_FLOATS))],
         steps: &[
-            done!(
-                &["edit", "a.dst", "b.dst", "turn=0"],
-                "needles 3 trims 0 stops 0\n",
-                &[("b.dst", records!(TWO_FLOATS))],
-            ),
-            done!(
-                &["show", "b.dst"],
-                "format dst\nlabel []\ncommands 7\nneedles 3\ntrims 0\nstops 0\nextent 0 0 363 363\nended yes\nblock 1 thread 1 needles 3\n",
-                &[],
-            ),
-            done!(
-                &["convert", "b.dst", "b.lst"],
-                "needles 3 trims 0 stops 0\n",
-                &[(
-                    "b.lst",
-                    FileContent::Bytes(
-                        b"stitch-list 1\nlabel []\nblock 1\nneedle 0 0\nfloat 363 0\nfloat 363 363\nend\n",
-                    )
-                )],
-            ),
+            done!("edit a.dst b.dst turn=0" => "needles 3 trims 0 stops 0\n",
+                &[("b.dst", records!(TWO_FLOATS))]),
+            done!("show b.dst" =>
+                "format dst\nlabel []\ncommands 7\nneedles 3\ntrims 0\nstops 0\nextent 0 0 363 363\nended yes\nblock 1 thread 1 needles 3\n"),
+            done!("convert b.dst b.lst" => "needles 3 trims 0 stops 0\n",
+                &[
+                    with_bytes!("b.lst" =>
+                        b"stitch-list 1\nlabel []\nblock 1\nneedle 0 0\nfloat 363 0\nfloat 363 363\nend\n")
+                ]),
         ],
     },
     // A quarter turn maps the right to the bottom.
     Case {
-        before: &[("a.exp", FileContent::Bytes(&[0x00, 0x00, 0x1E, 0x00]))],
-        steps: &[done!(
-            &["edit", "a.exp", "b.exp", "turn=1"],
-            "needles 2 trims 0 stops 0\n",
-            &[("b.exp", FileContent::Bytes(&[0x00, 0x00, 0x00, 0xE2]))],
-        )],
+        before: &[with_bytes!("a.exp" => &[0x00, 0x00, 0x1E, 0x00])],
+        steps: &[
+            done!("edit a.exp b.exp turn=1" => "needles 2 trims 0 stops 0\n",
+            &[with_bytes!("b.exp" => &[0x00, 0x00, 0x00, 0xE2])]),
+        ],
     },
     Case {
-        before: &[("a.exp", FileContent::Bytes(&[0x01, 0x00]))],
+        before: &[with_bytes!("a.exp" => &[0x01, 0x00])],
         steps: &[
-            refused!(
-                &["edit", "a.exp", "b.exp", "shift=30000,0"],
-                "stitch: a.exp: command 1: moved out of range\n",
-            ),
-            refused!(
-                &["edit", "a.exp", "b.exp", "thread=2,7"],
-                "stitch: a.exp: no colour place 2, there are 1\n",
-            ),
-            refused!(
-                &[
-                    "edit",
-                    "a.exp",
-                    "b.exp",
-                    "shift=0,5",
-                    "shift=29999,0",
-                    "turn=2",
-                    "shift=-1,0",
-                ],
-                "stitch: a.exp: command 1: moved out of range\n",
-            ),
-            done!(
-                &["edit", "a.exp", "b.exp", "shift=-1,5", "mirror=y"],
-                "needles 1 trims 0 stops 0\n",
-                &[(
-                    "b.exp",
-                    FileContent::Bytes(&[0x80, 0x04, 0x00, 0x05, 0x00, 0x00])
-                )],
-            ),
+            refused!("edit a.exp b.exp shift=30000,0" =>
+                "stitch: a.exp: command 1: moved out of range\n"),
+            refused!("edit a.exp b.exp thread=2,7" =>
+                "stitch: a.exp: no colour place 2, there are 1\n"),
+            refused!("edit a.exp b.exp shift=0,5 shift=29999,0 turn=2 shift=-1,0" =>
+                "stitch: a.exp: command 1: moved out of range\n"),
+            done!("edit a.exp b.exp shift=-1,5 mirror=y" => "needles 1 trims 0 stops 0\n",
+                &[with_bytes!("b.exp" => &[0x80, 0x04, 0x00, 0x05, 0x00, 0x00])]),
             // By hand: 30,000 is 237 hops of at most 127, and the first three end at 126, 253 and 379.
-            done!(
-                &["edit", "a.exp", "b.exp", "shift=29999,0"],
-                ONE_REPORT,
-                &[(
-                    "b.exp",
-                    FileContent::PartAt(
-                        950,
-                        0,
-                        &[
-                            0x80, 0x04, 0x7E, 0x00, 0x80, 0x04, 0x7F, 0x00, 0x80, 0x04, 0x7E, 0x00,
-                        ],
-                    )
-                )],
-            ),
+            done!("edit a.exp b.exp shift=29999,0" => ONE_REPORT,
+                &[
+                    ("b.exp", FileContent::PartAt(950, 0, &[
+                        0x80, 0x04, 0x7E, 0x00, 0x80, 0x04, 0x7F, 0x00, 0x80, 0x04, 0x7E, 0x00
+                    ]))
+                ]),
             // The last hop is from 29,873 to 30,000.
-            done!(
-                &["edit", "a.exp", "b.exp", "shift=29999,0"],
-                ONE_REPORT,
-                &[(
-                    "b.exp",
-                    FileContent::PartAt(950, 944, &[0x80, 0x04, 0x7F, 0x00, 0x00, 0x00])
-                )],
-            ),
-            done!(
-                &["show", "b.exp"],
-                "format exp\nlabel []\ncommands 238\nneedles 1\ntrims 0\nstops 0\nextent 30000 0 30000 0\nended yes\nblock 1 thread 1 needles 1\n",
-                &[],
-            ),
-            done!(
-                &["edit", "a.exp", "b.pes", "shift=29999,0"],
-                "needles 1 trims 0 stops 0\n",
-                &[],
-            ),
-            done!(
-                &["show", "b.pes"],
-                "format pes\nlabel []\ncommands 16\nneedles 1\ntrims 0\nstops 0\nextent 30000 0 30000 0\nended yes\nblock 1 thread 1 needles 1\n",
-                &[],
-            ),
-            done!(
-                &["edit", "a.exp", "b.pec", "turn=0", "thread=1,9"],
-                "needles 1 trims 0 stops 0\n",
-                &[],
-            ),
-            done!(
-                &["show", "b.pec"],
-                "format pec\nlabel []\ncommands 2\nneedles 1\ntrims 0\nstops 0\nextent 1 0 1 0\nended yes\nblock 1 thread 9 needles 1\n",
-                &[],
-            ),
+            done!("edit a.exp b.exp shift=29999,0" => ONE_REPORT,
+                &[("b.exp", FileContent::PartAt(950, 944, &[0x80, 0x04, 0x7F, 0x00, 0x00, 0x00]))]),
+            done!("show b.exp" =>
+                "format exp\nlabel []\ncommands 238\nneedles 1\ntrims 0\nstops 0\nextent 30000 0 30000 0\nended yes\nblock 1 thread 1 needles 1\n"),
+            done!("edit a.exp b.pes shift=29999,0" => "needles 1 trims 0 stops 0\n"),
+            done!("show b.pes" =>
+                "format pes\nlabel []\ncommands 16\nneedles 1\ntrims 0\nstops 0\nextent 30000 0 30000 0\nended yes\nblock 1 thread 1 needles 1\n"),
+            done!("edit a.exp b.pec turn=0 thread=1,9" => "needles 1 trims 0 stops 0\n"),
+            done!("show b.pec" =>
+                "format pec\nlabel []\ncommands 2\nneedles 1\ntrims 0\nstops 0\nextent 1 0 1 0\nended yes\nblock 1 thread 9 needles 1\n"),
         ],
     },
 ];
 
 const THREE_REPORT: &str = "needles 3 trims 1 stops 1\n";
 
-const BACK: &[(&str, FileContent)] = &[("c.exp", FileContent::Bytes(THREE_WRITTEN))];
+const BACK: &[(&str, FileContent)] = &[with_bytes!("c.exp" => THREE_WRITTEN)];
 
 static THERE_AND_BACK: &[Case] = &[Case {
-    before: &[("a.exp", FileContent::Bytes(THREE))],
+    before: &[with_bytes!("a.exp" => THREE)],
     steps: &[
-        done!(&["convert", "a.exp", "b.dst"], THREE_REPORT, &[]),
-        done!(&["convert", "b.dst", "c.exp"], THREE_REPORT, BACK),
-        done!(&["convert", "a.exp", "b.exp"], THREE_REPORT, &[]),
-        done!(&["convert", "b.exp", "c.exp"], THREE_REPORT, BACK),
-        done!(&["convert", "a.exp", "b.pec"], THREE_REPORT, &[]),
-        done!(&["convert", "b.pec", "c.exp"], THREE_REPORT, BACK),
-        done!(&["convert", "a.exp", "b.pes"], THREE_REPORT, &[]),
-        done!(&["convert", "b.pes", "c.exp"], THREE_REPORT, BACK),
+        done!("convert a.exp b.dst" => THREE_REPORT),
+        done!("convert b.dst c.exp" => THREE_REPORT, BACK),
+        done!("convert a.exp b.exp" => THREE_REPORT),
+        done!("convert b.exp c.exp" => THREE_REPORT, BACK),
+        done!("convert a.exp b.pec" => THREE_REPORT),
+        done!("convert b.pec c.exp" => THREE_REPORT, BACK),
+        done!("convert a.exp b.pes" => THREE_REPORT),
+        done!("convert b.pes c.exp" => THREE_REPORT, BACK),
     ],
 }];
 
