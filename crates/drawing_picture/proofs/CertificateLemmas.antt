@@ -49,6 +49,28 @@ record IsReady (d : DrawingValue) (lines : List ℕ) (cert : PieceCert) : Type 0
   below : All (λ line. line < length d.lines) lines
   costs : walk_cost (piece_graph d lines) cert.walk ≤ 2 * piece_cost (piece_graph d lines)
 
+-- pieces with correct certificates, whose walks can be sewn with few needles
+record AreReady (d : DrawingValue) (pieces : List (List ℕ)) (certs : List PieceCert) : Type 0 where
+  correct : AllZip (λ lines cert. IsCorrectPieceCert (piece_graph d lines) cert) pieces certs
+  along : AllZip GoesAlong pieces (walks_of certs)
+  needled : All HasNeedle (runs_of d (walks_of certs))
+  drawn : AllDrawn d certs
+  needles : sum_by (λ (run : Run). length run.needles) (runs_of d (walks_of certs))
+      ≤ 2 * sum_by (λ lines. piece_cost (piece_graph d lines)) pieces + length pieces
+  count : length (runs_of d (walks_of certs)) ≡ length pieces
+
+some_pass : (d : DrawingValue) (walk : List Pass) (cost : ℕ) → length (needles_of_walk d walk) ≡ cost + 1 → 1 ≤ length walk
+some_pass d [] cost is = absurd (omega (arith, is))
+some_pass d (p ∷ walk) cost is = omega arith
+
+drawn_along : (d : DrawingValue) (lines : List ℕ) (walk : List Pass) → All (λ line. line < length d.lines) lines
+    → All (λ (pass : Pass). Contains lines pass.line) walk → AreDrawn d walk
+drawn_along d lines [] below there = All-nil (λ (pass : Pass). pass.line < length d.lines)
+drawn_along d lines (q ∷ walk) below there =
+    All-cons (λ (pass : Pass). pass.line < length d.lines) q walk
+    (All-contains (λ line. line < length d.lines) lines q.line below (All-head (λ (pass : Pass). Contains lines pass.line) q walk there))
+    (drawn_along d lines walk below (All-tail (λ (pass : Pass). Contains lines pass.line) q walk there))
+
 module _ (walks : WalkFaultsAreExact) (cuts : CutFaultsAreExact) (bounds : BoundsWalks) (most : BoundsTotal)
     (sews : FittingWalksAreSewable) (d : DrawingValue) (keeps : KeepsDrawingLimits d) where
   ready : (lines : List ℕ) (number : ℕ) (cert : PieceCert) → All (λ line. line < length d.lines) lines
@@ -67,90 +89,39 @@ module _ (walks : WalkFaultsAreExact) (cuts : CutFaultsAreExact) (bounds : Bound
       few : (t r c w : ℕ) → t ≤ 2 * c → t ≡ 2 * r → w ≡ c + r → w ≤ 2 * c
       few t r c w a b e = omega arith
 
+  -- The certificates of pieces, if none has a fault.
   all_ready : (pieces : List (List ℕ)) (number : ℕ) (certs : List PieceCert) → All (λ line. line < length d.lines) (concat pieces)
       → All (λ lines. IsValidPiece (piece_graph d lines)) pieces → length certs ≡ length pieces
-      → pieces_reason number (map (piece_graph d) pieces) certs ≡ None → AllZip (IsReady d) pieces certs
-  all_ready [] number [] below valid long none = tt
+      → pieces_reason number (map (piece_graph d) pieces) certs ≡ None → AreReady d pieces certs
+  all_ready [] number [] below valid long none = record {
+    correct = tt;
+    along = tt;
+    needled = All-nil HasNeedle;
+    drawn = All-nil (λ (piece : PieceCert). AreDrawn d piece.walk);
+    needles = omega arith;
+    count = refl;
+  }
   all_ready [] number (c ∷ certs) below valid long none = absurd (omega (arith, long))
   all_ready (p ∷ pieces) number [] below valid long none = absurd (omega (arith, long))
   all_ready (p ∷ pieces) number (c ∷ certs) below valid long none =
       let both = both_none (piece_reason (piece_graph d p) number c)
-      (pieces_reason (number + 1) (map (piece_graph d) pieces) certs) none in (
-        ready p number c (below_left (length d.lines) p (concat pieces) below)
-            (All-head (λ lines. IsValidPiece (piece_graph d lines)) p pieces valid) both.0,
-        all_ready pieces (number + 1) certs (below_right (length d.lines) p (concat pieces) below)
-            (All-tail (λ lines. IsValidPiece (piece_graph d lines)) p pieces valid) (omega (arith, long)) both.1,
-      )
-
-correct_of : (d : DrawingValue) (pieces : List (List ℕ)) (certs : List PieceCert) → AllZip (IsReady d) pieces certs
-    → AllZip (λ lines cert. IsCorrectPieceCert (piece_graph d lines) cert) pieces certs
-correct_of d [] [] all = tt
-correct_of d [] (c ∷ certs) all = absurd all
-correct_of d (p ∷ pieces) [] all = absurd all
-correct_of d (p ∷ pieces) (c ∷ certs) all = (all.0.correct, correct_of d pieces certs all.1)
-
-along_of : (d : DrawingValue) (pieces : List (List ℕ)) (certs : List PieceCert) → AllZip (IsReady d) pieces certs
-    → AllZip GoesAlong pieces (walks_of certs)
-along_of d [] [] all = tt
-along_of d [] (c ∷ certs) all = absurd all
-along_of d (p ∷ pieces) [] all = absurd all
-along_of d (p ∷ pieces) (c ∷ certs) all = (
-  record { some = some c.walk (walk_cost (piece_graph d p) c.walk) all.0.sewable.penetrations; there = all.0.sewable.there },
-  along_of d pieces certs all.1,
-)
-  where
-    some : (walk : List Pass) (cost : ℕ) → length (needles_of_walk d walk) ≡ cost + 1 → 1 ≤ length walk
-    some [] cost is = absurd (omega (arith, is))
-    some (p ∷ walk) cost is = omega arith
-
-needled_of : (d : DrawingValue) (pieces : List (List ℕ)) (certs : List PieceCert) → AllZip (IsReady d) pieces certs
-    → All HasNeedle (runs_of d (walks_of certs))
-needled_of d [] [] all = All-nil HasNeedle
-needled_of d [] (c ∷ certs) all = absurd all
-needled_of d (p ∷ pieces) [] all = absurd all
-needled_of d (p ∷ pieces) (c ∷ certs) all =
-    All-cons HasNeedle (run_of d c.walk) (runs_of d (walks_of certs)) all.0.sewable.near.some (needled_of d pieces certs all.1)
-
-drawn_of : (d : DrawingValue) (pieces : List (List ℕ)) (certs : List PieceCert) → AllZip (IsReady d) pieces certs → AllDrawn d certs
-drawn_of d [] [] all = All-nil (λ (piece : PieceCert). AreDrawn d piece.walk)
-drawn_of d [] (c ∷ certs) all = absurd all
-drawn_of d (p ∷ pieces) [] all = absurd all
-drawn_of d (p ∷ pieces) (c ∷ certs) all =
-    All-cons (λ (piece : PieceCert). AreDrawn d piece.walk) c certs (drawn c.walk all.0.sewable.there) (drawn_of d pieces certs all.1)
-  where
-    drawn : (walk : List Pass) → All (λ (pass : Pass). Contains p pass.line) walk → AreDrawn d walk
-    drawn [] there = All-nil (λ (pass : Pass). pass.line < length d.lines)
-    drawn (q ∷ walk) there =
-        All-cons (λ (pass : Pass). pass.line < length d.lines) q walk
-        (All-contains (λ line. line < length d.lines) p q.line all.0.below (All-head (λ (pass : Pass). Contains p pass.line) q walk there))
-        (drawn walk (All-tail (λ (pass : Pass). Contains p pass.line) q walk there))
-
--- the needles are at most twice the cost of the lines, and one for each piece
-needles_few : (d : DrawingValue) (pieces : List (List ℕ)) (certs : List PieceCert) → AllZip (IsReady d) pieces certs
-    → sum_by (λ (run : Run). length run.needles) (runs_of d (walks_of certs))
-    ≤ 2 * sum_by (λ lines. piece_cost (piece_graph d lines)) pieces + length pieces
-needles_few d [] [] all = omega arith
-needles_few d [] (c ∷ certs) all = absurd all
-needles_few d (p ∷ pieces) [] all = absurd all
-needles_few d (p ∷ pieces) (c ∷ certs) all =
-    added (length (needles_of_walk d c.walk)) (walk_cost (piece_graph d p) c.walk) (piece_cost (piece_graph d p))
-    (sum_by (λ (run : Run). length run.needles) (runs_of d (walks_of certs))) (sum_by (λ lines. piece_cost (piece_graph d lines)) pieces)
-    (length pieces)
-    (sum_by (λ (run : Run). length run.needles) (runs_of d (walks_of (c ∷ certs))))
-    (sum_by (λ lines. piece_cost (piece_graph d lines)) (p ∷ pieces))
-    all.0.sewable.penetrations all.0.costs (needles_few d pieces certs all.1)
-    (sum_by-cons (λ (run : Run). length run.needles) (run_of d c.walk) (runs_of d (walks_of certs)))
-    (sum_by-cons (λ lines. piece_cost (piece_graph d lines)) p pieces)
-  where
-    added : (n w c s t k u v : ℕ) → n ≡ w + 1 → w ≤ 2 * c → s ≤ 2 * t + k → u ≡ n + s → v ≡ c + t → u ≤ 2 * v + suc k
-    added n w c s t k u v a b d e f = omega arith
-
-runs_count : (d : DrawingValue) (pieces : List (List ℕ)) (certs : List PieceCert) → AllZip (IsReady d) pieces certs
-    → length (runs_of d (walks_of certs)) ≡ length pieces
-runs_count d [] [] all = refl
-runs_count d [] (c ∷ certs) all = absurd all
-runs_count d (p ∷ pieces) [] all = absurd all
-runs_count d (p ∷ pieces) (c ∷ certs) all = ap (λ (n : ℕ). suc n) (runs_count d pieces certs all.1)
+      (pieces_reason (number + 1) (map (piece_graph d) pieces) certs) none in
+      let here = ready p number c (below_left (length d.lines) p (concat pieces) below)
+      (All-head (λ lines. IsValidPiece (piece_graph d lines)) p pieces valid) both.0 in
+      let later = all_ready pieces (number + 1) certs (below_right (length d.lines) p (concat pieces) below)
+      (All-tail (λ lines. IsValidPiece (piece_graph d lines)) p pieces valid) (omega (arith, long)) both.1 in
+      record {
+        correct = (here.correct, later.correct);
+        along = (record { some = some_pass d c.walk _ here.sewable.penetrations; there = here.sewable.there }, later.along);
+        needled = All-cons HasNeedle (run_of d c.walk) (runs_of d (walks_of certs)) here.sewable.near.some later.needled;
+        drawn = All-cons (λ (piece : PieceCert). AreDrawn d piece.walk) c certs
+            (drawn_along d p c.walk here.below here.sewable.there) later.drawn;
+        needles =
+            let needles = sum_by-cons (λ (run : Run). length run.needles) (run_of d c.walk) (runs_of d (walks_of certs)) in
+            let costs = sum_by-cons (λ lines. piece_cost (piece_graph d lines)) p pieces in
+            omega (arith, needles, costs, here.sewable.penetrations, here.costs, later.needles);
+        count = ap (λ (n : ℕ). suc n) later.count;
+      }
 
 pub right_are_sewn : WalkFaultsAreExact → CutFaultsAreExact → BoundsWalks → BoundsTotal → FittingWalksAreSewable → PiecesAreValid
     → PiecesKeepLimits → RunsAreSewn → CorrectRoutesAreAccepted → YesIsLeastRedwork → RightCertificatesAreSewn
@@ -162,19 +133,19 @@ right_are_sewn walks cuts bounds most sews valid limits runs accepted least d pi
     let all = all_ready walks cuts bounds most sews d keeps pieces 1 certs are.there (valid d pieces keeps are) count both.1 in
     let within : ArePiecesWithin d pieces = limits d pieces keeps are in
     let correct : IsCorrectRoute d pieces (sewn_design d (walks_of certs)) certs = record {
-      each = correct_of d pieces certs all;
-      sews = runs d (runs_of d (walks_of certs)) (needled_of d pieces certs all);
+      each = all.correct;
+      sews = runs d (runs_of d (walks_of certs)) all.needled;
     } in
     record {
-      drawn = drawn_of d pieces certs all;
+      drawn = all.drawn;
       room = omega (
         arith,
         commands_count 0 (runs_of d (walks_of certs)),
-        needles_few d pieces certs all,
-        runs_count d pieces certs all,
+        all.needles,
+        all.count,
         within.cost,
         within.count,
-        within.stops (walks_of certs) (along_of d pieces certs all),
+        within.stops (walks_of certs) all.along,
         keeps.blocks_to,
       );
       least = (least d (sewn_design d (walks_of certs)) certs keeps).0
