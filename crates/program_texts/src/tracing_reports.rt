@@ -1,10 +1,11 @@
-ghost use Rattle.std.specs.Prelude.{◌≡◌, ◌≤◌, IfOk, length, string_bytes};
+ghost use Rattle.std.specs.Prelude.{◌≡◌, ◌≤◌, IfOk, length};
 ghost use Rattle.line_sections.specs.Sections.{segments_of};
-ghost use Rattle.program_texts.specs.TracingReports.{segment_count, traced_line, tracing_report};
+ghost use Rattle.program_texts.specs.TracingReports.{segment_count, tracing_report};
 
 use design_model::Point;
 use drawing_model::Drawing;
 use lists_and_numbers::{Bytes, Memory};
+use program_shell::bytes_of;
 use std::alloc::Global;
 
 /// Returns the report of a tracing: the number of blocks and lines of its drawing, and of links, each a
@@ -12,21 +13,10 @@ use std::alloc::Global;
 pub fn print_tracing(alloc: Global, drawing: &Drawing) -> Result<Bytes, Memory>
     ensures { IfOk result (λ text. text ≡ tracing_report drawing.now) }
 {
-    let line = tracing_line(
-        alloc,
-        drawing.block_count(),
-        drawing.line_count(),
-        segments(drawing),
-    )?;
-    let mut text = Bytes::new(alloc);
-    text.append(line.as_bytes())?;
-    Ok(text)
-}
-
-fn tracing_line(alloc: Global, blocks: u32, lines: u32, links: usize) -> Result<String, Memory>
-    ensures { IfOk result (λ text. string_bytes text ≡ traced_line blocks lines links) }
-{
-    let text = format!(in alloc; "blocks {blocks} lines {lines} links {links}\n")?;
+    let (blocks, lines) = (drawing.block_count(), drawing.line_count());
+    let links = segments(drawing);
+    let line = format!(in alloc; "blocks {blocks} lines {lines} links {links}\n")?;
+    let text = bytes_of(alloc, line.as_bytes())?;
     Ok(text)
 }
 
