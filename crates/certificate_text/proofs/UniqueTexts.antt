@@ -6,7 +6,7 @@ use Rattle.std.proofs.lemmas.List.Elements.{All-nil, All-push}
 use Rattle.std.proofs.lemmas.List.Splits.{join_with_byte-slice_split}
 use Rattle.std.specs.List.{flat_map, join_with_byte}
 use Rattle.std.specs.Option.{ok_or}
-use Rattle.line_graph.specs.GrowingDrawings.{and_then}
+use Rattle.drawing_model.specs.GrowingDrawings.{and_then}
 use Rattle.line_graph.specs.declared.pass.Pass.{Pass}
 use Rattle.odd_cuts.specs.declared.certificate.PieceCert.{PieceCert}
 use Rattle.certificate_text.specs.declared.draft.CertDraft.{CertDraft}

@@ -6,7 +6,7 @@ use Rattle.design_model.specs.Points.{is_point_within}
 use Rattle.record_formats.specs.declared.record_reader.NextRecord.{NextRecord}
 use Rattle.record_formats.specs.declared.record_reader.NextRecord.TheVariants as cut
 use Rattle.record_formats.specs.declared.record_reader.TheConstants.{MAX_RECORD_MOVE}
-use Rattle.record_formats.specs.Records.{Records, over, refused, next, moves_of_event}
+use Rattle.record_formats.specs.Records.{Records, moves_of_event, over, refused, next}
 use Rattle.dst_codec.specs.declared.record_kind.RecordKind.{RecordKind}
 use Rattle.dst_codec.specs.declared.record_kind.RecordKind.TheVariants as kind
 use Rattle.dst_codec.specs.Reading.{record_of_kind}

@@ -12,7 +12,7 @@ use Rattle.format_traits.specs.declared.fault.ReadFault.TheVariants as fault
 use Rattle.format_traits.specs.declared.loaded.Loaded.{Loaded}
 use Rattle.format_traits.specs.LabelFields.{label_in}
 use Rattle.record_formats.specs.Layouts.{Layout, layout_decoded, layout_reads}
-use Rattle.record_formats.specs.Records.{Records, over, refused, next, moves_of_records}
+use Rattle.record_formats.specs.Records.{Records, moves_of_records, over, refused, next}
 use Rattle.dst_codec.specs.declared.header.TheConstants.{HEADER_LENGTH}
 use Rattle.dst_codec.specs.declared.record_kind.RecordKind.{RecordKind}
 use Rattle.dst_codec.specs.declared.record_kind.RecordKind.TheVariants as kind

@@ -13,7 +13,7 @@ use Rattle.program_shell.specs.Puts.{ReportsLineWithStatus}
 use Rattle.program_shell.specs.RunFailures.{missing, not_read, not_written, unprinted}
 use Rattle.program_shell.specs.Runs.{IsPlannedOutcome, IsDone, IsFault, IsMemory, IsRefused, IsUsage, RunEnds, failed, memory, refused, usage}
 use Rattle.program_shell.specs.RunViews.{Views}
-use Rattle.program_shell.specs.FinishedRuns.{Delivers, all, but_report, failure_line, up_to}
+use Rattle.program_shell.specs.FinishedRuns.{Delivers, failure_line, all, but_report, up_to}
 use Rattle.program_shell.specs.StepOutcomes.{IsFailureOf, status_of}
 use Rattle.program_shell.proofs.DecisionLemmas.{decided}
 use Rattle.program_shell.proofs.KeepLemmas.{keeps_others}

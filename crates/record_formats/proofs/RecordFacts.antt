@@ -11,7 +11,7 @@ use Rattle.record_formats.specs.declared.move_parts.TheConstants.{MAX_HOPS}
 use Rattle.record_formats.specs.declared.record_reader.TheConstants.{MAX_RECORD_MOVE}
 use Rattle.record_formats.specs.Layouts.{Layout, layout_decoded, layout_reads}
 use Rattle.record_formats.specs.MoveParts.{part_moves}
-use Rattle.record_formats.specs.Records.{Records, over, refused, next, file_commands, trims_or_stops, decoded_commands_from, decoded_commands, moves_of_records_from, moves_of_records, file_commands_from}
+use Rattle.record_formats.specs.Records.{Records, file_commands, trims_or_stops, decoded_commands_from, decoded_commands, moves_of_records_from, moves_of_records, file_commands_from, over, refused, next}
 use Rattle.record_formats.specs.RecordEncodings.{RecordEncoding, records_of_acts}
 
 abbrev pub point : ℤ → ℤ → Point

@@ -7,7 +7,7 @@ use Rattle.record_formats.specs.declared.event.Event.{Event}
 use Rattle.record_formats.specs.declared.record_reader.NextRecord.{NextRecord}
 use Rattle.record_formats.specs.declared.record_reader.NextRecord.TheVariants as cut
 use Rattle.record_formats.specs.declared.record_reader.TheConstants.{MAX_RECORD_MOVE, MAX_RECORD}
-use Rattle.record_formats.specs.Records.{Records, over, refused, next, moves_of_event}
+use Rattle.record_formats.specs.Records.{Records, moves_of_event, over, refused, next}
 
 -- A decoded record: for any bytes that follow, a record of `size` bytes begins at the offset. The
 -- other records are those of the bytes after it. `before` and `after` are the records as the

@@ -13,7 +13,7 @@ use Rattle.record_formats.specs.declared.event.Event.{Event}
 use Rattle.record_formats.specs.declared.event.Event.TheVariants as event
 use Rattle.format_traits.specs.declared.encoder_state.WriteLimits.{WriteLimits}
 use Rattle.record_formats.specs.MoveParts.{position_after_move}
-use Rattle.record_formats.specs.Records.{Records, over, next, moves_of_event, file_commands, moves_of_records}
+use Rattle.record_formats.specs.Records.{Records, moves_of_event, file_commands, moves_of_records, over, next}
 use Rattle.format_traits.specs.Refusals.{first_refusal}
 use Rattle.record_formats.specs.RecordEncodings.{RecordEncoding, is_at_max, records_of_acts}
 

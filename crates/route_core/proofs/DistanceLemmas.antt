@@ -1,8 +1,8 @@
 -- Tables of distances, as far as they are filled.
 use Rattle.std.proofs.Common.{◌≡◌, ◌<◌, ℕ, ◌+◌, false, arith, subst, List, length, get_or, Option, Some, slice_get, slice_index, ◌≤◌}
 use Rattle.std.proofs.lemmas.Bool.Decides.{nat_tests}
-use Rattle.blossom_match.specs.Tables.{entry}
-use Rattle.blossom_match.specs.TableValue.{TableValue}
+use Rattle.odd_sets.specs.Tables.{entry}
+use Rattle.odd_sets.specs.TableValue.{TableValue}
 use Rattle.line_graph.specs.PieceGraphs.{PieceValue}
 use Rattle.line_graph.specs.PieceWalks.{piece_cost}
 use Rattle.odd_paths.specs.LeastRows.{AreRows, RowsValue, cost_at, cost_in, terminal_of}

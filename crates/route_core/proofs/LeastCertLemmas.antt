@@ -12,7 +12,7 @@ use Rattle.odd_cuts.specs.Certificates.{HasCanonicalText}
 use Rattle.cut_certificate.specs.Lifts.{IsLifted}
 use Rattle.odd_cuts.specs.Packings.{IsOddCut}
 use Rattle.line_graph.specs.declared.edge.Edge.{Edge}
-use Rattle.line_graph.specs.declared.limits.TheConstants.{MAX_COST, MAX_LINES}
+use Rattle.drawing_model.specs.declared.limits.TheConstants.{MAX_COST, MAX_LINES}
 use Rattle.line_graph.specs.declared.pass.Pass.{Pass}
 use Rattle.line_graph.specs.ValidPieces.{IsValidPiece, all_below}
 use Rattle.line_graph.specs.PieceGraphs.{PieceValue}

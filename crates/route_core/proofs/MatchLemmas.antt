@@ -5,10 +5,10 @@ use Rattle.std.proofs.lemmas.List.Elements.{All-from_get_or, All-head, All-tail}
 use Rattle.std.proofs.lemmas.List.Sums.{get_or-le-sum_by, sum_by-cons}
 use Rattle.blossom_match.specs.declared.matching.Moat.{Moat}
 use Rattle.blossom_match.specs.declared.matching.Pair.{Pair}
-use Rattle.blossom_match.specs.declared.table.TheConstants.{MAX_DISTANCE}
+use Rattle.odd_sets.specs.declared.table.TheConstants.{MAX_DISTANCE}
 use Rattle.blossom_match.specs.Matchings.{IsOptimalMatching, IsOddMoat, IsPerfectMatching, pairs_cost, pair_ends_at, moat_load, width_of}
-use Rattle.blossom_match.specs.Tables.{IsTable, entry}
-use Rattle.blossom_match.specs.TableValue.{TableValue}
+use Rattle.odd_sets.specs.Tables.{IsTable, entry}
+use Rattle.odd_sets.specs.TableValue.{TableValue}
 use Rattle.line_graph.specs.PieceGraphs.{PieceValue}
 use Rattle.odd_paths.specs.LeastRows.{RowsValue}
 use Rattle.route_core.proofs.LeastLemmas.{entry_is}

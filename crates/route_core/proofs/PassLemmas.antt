@@ -10,7 +10,7 @@ use Rattle.blossom_match.specs.declared.matching.Pair.{Pair}
 use Rattle.blossom_match.specs.Matchings.{IsPerfectMatching, pair_ends_at}
 use Rattle.euler_tour.specs.Tours.{CanPass, IsTour, copies_cost, pass_count, pass_ends}
 use Rattle.line_graph.specs.declared.edge.Edge.{Edge}
-use Rattle.line_graph.specs.declared.limits.TheConstants.{MAX_COST}
+use Rattle.drawing_model.specs.declared.limits.TheConstants.{MAX_COST}
 use Rattle.line_graph.specs.declared.pass.Pass.{Pass}
 use Rattle.line_graph.specs.ValidPieces.{IsValidPiece, ends_below, is_below}
 use Rattle.line_graph.specs.PieceGraphs.{PieceValue, one_if, edges_with_closing, closing_edge, degree, given_start, is_odd, is_odd_junction, given_end}

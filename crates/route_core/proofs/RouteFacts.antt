@@ -4,7 +4,7 @@ use Rattle.std.specs.List.{AllZip}
 use Rattle.design_model.specs.declared.point.Point.{Point}
 use Rattle.line_graph.specs.declared.edge.Edge.{Edge}
 use Rattle.line_graph.specs.declared.pass.Pass.{Pass}
-use Rattle.line_graph.specs.Drawings.{DrawingValue}
+use Rattle.drawing_model.specs.Drawings.{DrawingValue}
 use Rattle.line_graph.specs.PieceGraphs.{PieceValue, given_start, piece_graph}
 use Rattle.line_graph.specs.Pieces.{ArePieces, first_line}
 use Rattle.line_graph.specs.PieceWalks.{BeginsWith, is_fitting_walk, piece_cost, walk_cost}

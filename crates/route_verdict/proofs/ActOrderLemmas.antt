@@ -9,7 +9,7 @@ use Rattle.design_model.specs.declared.act.NumberedAct.{NumberedAct}
 use Rattle.design_model.specs.declared.point.Point.{Point}
 use Rattle.design_model.specs.Acts.{acts_without_numbers}
 use Rattle.line_graph.specs.declared.pass.Pass.{Pass}
-use Rattle.line_graph.specs.Drawings.{DrawingValue}
+use Rattle.drawing_model.specs.Drawings.{DrawingValue}
 use Rattle.line_graph.specs.Runs.{sewn_acts_after, block_of_passes, runs_of}
 use Rattle.line_graph.specs.Walks.{needles_of_walk}
 use Rattle.route_verdict.specs.ActOrder.{first_differing_act}

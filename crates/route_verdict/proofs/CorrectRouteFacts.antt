@@ -7,7 +7,7 @@ use Rattle.design_model.specs.declared.point.Point.{Point}
 use Rattle.design_model.specs.Acts.{acts_of, acts_without_numbers}
 use Rattle.design_model.specs.Designs.{DesignValue}
 use Rattle.line_graph.specs.declared.pass.Pass.{Pass}
-use Rattle.line_graph.specs.Drawings.{DrawingValue}
+use Rattle.drawing_model.specs.Drawings.{DrawingValue}
 use Rattle.line_graph.specs.PieceGraphs.{PieceValue, piece_graph}
 use Rattle.line_graph.specs.Pieces.{ArePieces}
 use Rattle.line_graph.specs.PieceWalks.{is_fitting_walk, piece_cost, walk_cost}

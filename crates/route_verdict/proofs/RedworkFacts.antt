@@ -12,13 +12,14 @@ use Rattle.design_model.specs.Acts.{acts_of, acts_without_numbers}
 use Rattle.design_model.specs.Designs.{DesignValue}
 use Rattle.design_model.specs.Points.{is_point_within}
 use Rattle.line_graph.specs.declared.pass.Pass.{Pass}
-use Rattle.line_graph.specs.Drawings.{DrawingValue}
+use Rattle.drawing_model.specs.Drawings.{DrawingValue}
 use Rattle.line_graph.specs.DrawnWalks.{IsThreadOver}
 use Rattle.line_graph.specs.PieceGraphs.{piece_graph}
 use Rattle.line_graph.specs.PieceWalks.{is_fitting_walk}
 use Rattle.line_graph.specs.Pieces.{ArePieces}
 use Rattle.line_graph.specs.Runs.{runs_of, sewn_acts}
-use Rattle.line_graph.specs.Walks.{cost_of_line, needles_of_walk}
+use Rattle.line_graph.specs.Walks.{needles_of_walk}
+use Rattle.drawing_model.specs.LineNeedles.{cost_of_line}
 use Rattle.route_verdict.specs.LeastRedwork.{IsLeastRoute, IsLeastThread}
 
 abbrev start_point : Point

@@ -7,13 +7,14 @@ use Rattle.odd_cuts.specs.declared.certificate.PieceCert.{PieceCert}
 use Rattle.odd_cuts.specs.DrawnCuts.{PackingsAreOverLines}
 use Rattle.design_model.specs.declared.point.Point.{Point}
 use Rattle.line_graph.specs.declared.pass.Pass.{Pass}
-use Rattle.line_graph.specs.Drawings.{DrawingValue, KeepsDrawingLimits}
+use Rattle.drawing_model.specs.Drawings.{DrawingValue, KeepsDrawingLimits}
 use Rattle.line_graph.specs.DrawnWalks.{FittingWalksAreThreads, PiecesAreValid}
 use Rattle.line_graph.specs.PieceGraphs.{edge_between, junctions_of, piece_graph}
 use Rattle.line_graph.specs.PieceWalks.{IsLeastWalk, edge_cost, edge_sum, is_fitting_walk, walk_cost}
 use Rattle.line_graph.specs.SewnWalks.{FittingWalksAreSewable, IsSewable}
 use Rattle.line_graph.specs.ValidPieces.{IsValidPiece}
-use Rattle.line_graph.specs.Walks.{cost_of_line, needles_of_walk}
+use Rattle.line_graph.specs.Walks.{needles_of_walk}
+use Rattle.drawing_model.specs.LineNeedles.{cost_of_line}
 use Rattle.route_verdict.specs.declared.verdict.Verdict.TheVariants as verdict
 use Rattle.route_verdict.specs.LeastRedwork.{IsLeastRedwork, IsLeastThread}
 use Rattle.route_verdict.specs.VerdictTheorems.{CorrectRoutesAreAccepted, YesIsLeastRedwork}

@@ -9,12 +9,12 @@ use Rattle.odd_cuts.specs.declared.certificate.PieceCert.{PieceCert}
 use Rattle.design_model.specs.declared.command.Command.{Command}
 use Rattle.design_model.specs.declared.point.Point.{Point}
 use Rattle.design_model.specs.Designs.{DesignValue}
-use Rattle.line_graph.specs.Chains.{IsNeedlePoint}
+use Rattle.step_splitter.specs.Chains.{IsNeedlePoint}
 use Rattle.line_graph.specs.declared.pass.Pass.{Pass}
-use Rattle.line_graph.specs.Drawings.{DrawingValue, KeepsDrawingLimits}
+use Rattle.drawing_model.specs.Drawings.{DrawingValue, KeepsDrawingLimits}
 use Rattle.line_graph.specs.Runs.{block_of_passes, commands_after, runs_of}
-use Rattle.line_graph.specs.LineNeedles.{NeedlesLeadAlong}
-use Rattle.line_graph.specs.Walks.{needles_of_line, needles_of_pass, needles_of_walk}
+use Rattle.drawing_model.specs.LineNeedles.{NeedlesLeadAlong, needles_of_line}
+use Rattle.line_graph.specs.Walks.{needles_of_pass, needles_of_walk}
 use Rattle.odd_cuts.specs.Certificates.{walks_of}
 use Rattle.design_model.specs.LongerDesigns.{with_commands}
 use Rattle.route_verdict.specs.SewingSteps.{AllDrawn, AreDrawn, later_needles, run_commands}

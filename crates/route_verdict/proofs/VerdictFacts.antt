@@ -11,7 +11,7 @@ use Rattle.design_model.specs.declared.command.Command.TheVariants.{Jump, Stitch
 use Rattle.design_model.specs.declared.point.Point.{Point}
 use Rattle.design_model.specs.Designs.{DesignValue}
 use Rattle.line_graph.specs.declared.pass.Pass.{Pass}
-use Rattle.line_graph.specs.Drawings.{DrawingValue}
+use Rattle.drawing_model.specs.Drawings.{DrawingValue}
 use Rattle.route_verdict.specs.declared.verdict.Reason.TheVariants as reason
 use Rattle.route_verdict.specs.declared.verdict.Verdict.{Verdict}
 use Rattle.route_verdict.specs.declared.verdict.Verdict.TheVariants as verdict

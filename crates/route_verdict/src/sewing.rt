@@ -8,7 +8,7 @@ ghost use Rattle.line_graph.specs.Walks.{needles_of_walk};
 ghost use Rattle.odd_cuts.specs.Certificates.{walks_of};
 ghost use Rattle.design_model.specs.LongerDesigns.{with_commands};
 ghost use Rattle.route_verdict.specs.SewingSteps.{AllDrawn, AreDrawn, run_commands};
-ghost use Rattle.drawing_model.specs.Chains.{IsNeedlePoint};
+ghost use Rattle.step_splitter.specs.Chains.{IsNeedlePoint};
 
 use crate::walk_needles::walk_needles;
 use design_model::{Command, Design, ModelFault, Point};

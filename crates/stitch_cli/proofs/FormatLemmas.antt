@@ -3,14 +3,13 @@ use Rattle.std.proofs.Common.{◌≡◌, ℕ, zero, suc, ◌<◌, false, List, [
 use Rattle.std.specs.Option.{option_and_then}
 use Rattle.std.specs.Prelude.{option_map}
 use Rattle.command_words.specs.Changes.{Change}
-use Rattle.format_traits.specs.Endings.{format_index}
+use Rattle.format_traits.specs.Endings.{format_index, format_of}
 use Rattle.format_traits.specs.Meanings.{Meaning}
 use Rattle.outside_io.specs.Views.{StoreView}
 use Rattle.program_shell.specs.declared.failure.Failure.{Failure}
 use Rattle.program_shell.specs.declared.product.Product.{Product}
 use Rattle.program_shell.specs.StepOutcomes.{RunsRequest, RunsPlan}
-use Rattle.format_traits.specs.Endings.{format_of}
-use Rattle.stitch_cli.specs.Commands.{rewriting, stitch}
+use Rattle.stitch_cli.specs.Commands.{stitch, rewriting}
 use Rattle.stitch_cli.specs.Rewrites.{RewriteOrder, complete_rewrite, rewrite_plan}
 
 -- The element at an index of a list.

@@ -4,7 +4,7 @@ use Rattle.std.specs.Prelude.{codes}
 use Rattle.command_words.specs.Changes.{cut, split, turn}
 use Rattle.format_traits.specs.Meanings.{Meaning}
 use Rattle.route_texts.specs.declared.sewing_reports.Sewing.TheVariants as ways
-use Rattle.stitch_cli.specs.Commands.{checking, hooping, migrating, order_of, outputs_of, rewriting, sampling, sewing, showing, tracing}
+use Rattle.stitch_cli.specs.Commands.{order_of, outputs_of, checking, hooping, migrating, rewriting, sampling, sewing, showing, tracing}
 
 -- a format with another ending
 abbrev ending_as : Meaning → List ℕ → Meaning

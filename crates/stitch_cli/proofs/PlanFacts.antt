@@ -6,8 +6,9 @@ use Rattle.drawing_model.specs.Drawings.{DrawingValue}
 use Rattle.program_texts.specs.DrawingTexts.{step_limit_text}
 use Rattle.stitch_cli.specs.Checks.{CheckOrder, check_design, check_drawing, check_plan}
 use Rattle.program_shell.specs.Plans.{AttemptsRead, IsAccepted, Refuses}
-use Rattle.stitch_cli.specs.Routes.{IsRouted}
+use Rattle.route_texts.specs.declared.sewing_reports.Sewing.{Sewing}
 use Rattle.stitch_cli.specs.Sewings.{SewingOrder, sewing_drawing}
+use Rattle.stitch_cli.specs.SewingWays.{IsSewnBy}
 
 -- a check of three files
 abbrev checked : Meaning → CheckOrder
@@ -37,9 +38,9 @@ routed format = record {
 abbrev stepping : ℕ → DrawingValue
 stepping step = record { label = []; step = step; threads = []; lines = []; starts = []; ends = [] }
 
-pub known_at_limit : (m : Meaning) → IsAccepted (sewing_drawing IsRouted (routed m) (stepping 121)) None
-known_at_limit m = tt
+pub known_at_limit : (way : Sewing) (m : Meaning) → IsAccepted (sewing_drawing (IsSewnBy way) (routed m) (stepping 121)) None
+known_at_limit way m = tt
 
-pub known_above_limit : (m : Meaning)
-    → Refuses (sewing_drawing IsRouted (routed m) (stepping 122)) None (step_limit_text (codes "a") 122 121 (codes "dst"))
-known_above_limit m = refl
+pub known_above_limit : (way : Sewing) (m : Meaning)
+    → Refuses (sewing_drawing (IsSewnBy way) (routed m) (stepping 122)) None (step_limit_text (codes "a") 122 121 (codes "dst"))
+known_above_limit way m = refl

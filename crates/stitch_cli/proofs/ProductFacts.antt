@@ -9,15 +9,15 @@ use Rattle.odd_cuts.specs.declared.certificate.PieceCert.{PieceCert}
 use Rattle.odd_cuts.specs.Certificates.{walks_of}
 use Rattle.program_shell.specs.Products.{ProductValue}
 use Rattle.program_texts.specs.MigrationReports.{migrate_report}
+use Rattle.route_texts.specs.declared.sewing_reports.Sewing.{Sewing}
 use Rattle.route_texts.specs.Summaries.{summary_text}
 use Rattle.route_verdict.specs.declared.verdict.Verdict.TheVariants as verdict
 use Rattle.route_verdict.specs.Verdicts.{IsVerdict}
 use Rattle.stitch_cli.specs.Checks.{IsCheckFailed, IsCheckPassed}
-use Rattle.stitch_cli.specs.DoubleRuns.{IsDoubleRun}
 use Rattle.stitch_cli.specs.Migrations.{IsMigrated}
-use Rattle.stitch_cli.specs.Routes.{IsRouted}
 use Rattle.stitch_cli.specs.Samples.{IsSampleProduct, SampleOrder, summary_of}
 use Rattle.stitch_cli.specs.Sewings.{IsSewnFile, IsSewnProduct, SewingOrder, SewnFiles}
+use Rattle.stitch_cli.specs.SewingWays.{IsSewnBy}
 
 -- the report of a migration has the numbers of lines and pieces, and the cost
 pub known_migrated_report : (output : List ℕ) (d : DrawingValue) (product : ProductValue) (is : IsMigrated output d product)
@@ -39,18 +39,14 @@ pub known_failed_verdict : (d : DrawingValue) (design : DesignValue) (certs : Li
 known_failed_verdict d design certs text is = is.verdict
 
 -- the design of a route and of a double run is written, read again and within the limit
-pub known_route_sewn : (m : Meaning) (d : DrawingValue) (files : SewnFiles) (is : IsRouted m d files)
+pub known_way_sewn : (way : Sewing) (m : Meaning) (d : DrawingValue) (files : SewnFiles) (is : IsSewnBy way m d files)
     → IsSewnFile m d (walks_of is.certs) files.design_file
-known_route_sewn m d files is = is.sewn
+known_way_sewn way m d files is = is.sewn
 
-pub known_double_sewn : (m : Meaning) (d : DrawingValue) (files : SewnFiles) (is : IsDoubleRun m d files)
-    → IsSewnFile m d (walks_of is.certs) files.design_file
-known_double_sewn m d files is = is.sewn
-
--- no format, no files of a route
-pub known_route_unwritten : (m : Meaning) (d : DrawingValue) (files : SewnFiles)
-    → IsRouted (record m { writes = λ design. Err (write.FloatTooLong 1) }) d files → ⊥
-known_route_unwritten m d files is = no_bytes files.design_file is.sewn.written
+-- no format, no files
+pub known_way_unwritten : (way : Sewing) (m : Meaning) (d : DrawingValue) (files : SewnFiles)
+    → IsSewnBy way (record m { writes = λ design. Err (write.FloatTooLong 1) }) d files → ⊥
+known_way_unwritten way m d files is = no_bytes files.design_file is.sewn.written
   where
     no_bytes : (bytes : List ℕ) → Err (write.FloatTooLong 1) ≡ Ok bytes → ⊥
     no_bytes bytes is = cc

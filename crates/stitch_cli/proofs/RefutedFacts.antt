@@ -23,11 +23,10 @@ use Rattle.route_texts.specs.declared.sewing_reports.PieceReport.{PieceReport}
 use Rattle.route_verdict.specs.declared.verdict.Reason.{Reason}
 use Rattle.route_verdict.specs.declared.verdict.Reason.TheVariants as reason
 use Rattle.stitch_cli.specs.Checks.{IsCheckFailed, IsCheckPassed}
-use Rattle.stitch_cli.specs.DoubleRuns.{IsDoubleRun}
 use Rattle.stitch_cli.specs.Migrations.{IsMigrated}
-use Rattle.stitch_cli.specs.Routes.{IsRouted}
 use Rattle.stitch_cli.specs.Samples.{IsSampleProduct, SampleOrder}
 use Rattle.stitch_cli.specs.Sewings.{IsSewnFile, IsSewnProduct, SewingOrder, SewnFiles}
+use Rattle.stitch_cli.specs.SewingWays.{IsSewnBy}
 
 -- a format that reads each file as that design
 abbrev reading : Meaning → DesignValue → Meaning
@@ -84,14 +83,14 @@ no_report way pieces is = ends_some (piece_lines way pieces) _ _ is
 abbrev no_files : SewnFiles
 no_files = record { design_file = []; cert_text = []; report = [] }
 
-pub known_route_without_certificate : (m : Meaning) (d : DrawingValue) → IsRouted m d no_files → ⊥
-known_route_without_certificate m d is = no_text is.certs is.cert_is
+pub known_sewn_without_certificate : (way : Sewing) (m : Meaning) (d : DrawingValue) → IsSewnBy way m d no_files → ⊥
+known_sewn_without_certificate way m d is = no_text is.certs is.cert_is
 
-pub known_route_with_bad_certificate : (m : Meaning) (d : DrawingValue) → IsRouted m d no_files → ⊥
-known_route_with_bad_certificate m d is = no_certs is.certs is.cert_reads
+pub known_sewn_with_bad_certificate : (way : Sewing) (m : Meaning) (d : DrawingValue) → IsSewnBy way m d no_files → ⊥
+known_sewn_with_bad_certificate way m d is = no_certs is.certs is.cert_reads
 
-pub known_route_without_report : (m : Meaning) (d : DrawingValue) → IsRouted m d no_files → ⊥
-known_route_without_report m d is = no_report ways.Route _ is.report_is
+pub known_sewn_without_report : (way : Sewing) (m : Meaning) (d : DrawingValue) → IsSewnBy way m d no_files → ⊥
+known_sewn_without_report way m d is = no_report way _ is.report_is
 
 -- a piece without a certificate
 unmatched : (P : List ℕ → PieceCert → Type 0) (pieces : List (List ℕ)) (certs : List PieceCert) → AllZip P pieces certs
@@ -100,38 +99,20 @@ unmatched P [] certs each some none = cc
 unmatched P (piece ∷ pieces) [] each some none = each
 unmatched P (piece ∷ pieces) (cert ∷ certs) each some none = cc
 
-pub known_route_without_walk : (m : Meaning) (d : DrawingValue) (files : SewnFiles) (is : IsRouted m d files)
+pub known_sewn_without_walk : (way : Sewing) (m : Meaning) (d : DrawingValue) (files : SewnFiles) (is : IsSewnBy way m d files)
     → is.pieces ≡ (0 ∷ []) ∷ [] → is.certs ≡ [] → ⊥
-known_route_without_walk m d files is some none = unmatched _ is.pieces is.certs is.best some none
+known_sewn_without_walk way m d files is some none = unmatched _ is.pieces is.certs is.each some none
 
 -- a line in no piece
 uncovered : (d : DrawingValue) (pieces : List (List ℕ)) → 0 < length d.lines → ArePieces d pieces → pieces ≡ [] → ⊥
 uncovered d [] line are none = omega (arith, (are.covered 0 line).1)
 uncovered d (piece ∷ pieces) line are none = cc
 
-pub known_route_without_pieces : (m : Meaning) (d : DrawingValue) (files : SewnFiles) → 0 < length d.lines
-    → (is : IsRouted m d files) → is.pieces ≡ [] → ⊥
-known_route_without_pieces m d files line is none = uncovered d is.pieces line is.pieces_are none
+pub known_sewn_without_pieces : (way : Sewing) (m : Meaning) (d : DrawingValue) (files : SewnFiles) → 0 < length d.lines
+    → (is : IsSewnBy way m d files) → is.pieces ≡ [] → ⊥
+known_sewn_without_pieces way m d files line is none = uncovered d is.pieces line is.pieces_are none
 
--- a double run has all that a route has, and no cuts
-pub known_double_without_certificate : (m : Meaning) (d : DrawingValue) → IsDoubleRun m d no_files → ⊥
-known_double_without_certificate m d is = no_text is.certs is.cert_is
-
-pub known_double_with_bad_certificate : (m : Meaning) (d : DrawingValue) → IsDoubleRun m d no_files → ⊥
-known_double_with_bad_certificate m d is = no_certs is.certs is.cert_reads
-
-pub known_double_without_report : (m : Meaning) (d : DrawingValue) → IsDoubleRun m d no_files → ⊥
-known_double_without_report m d is = no_report ways.Double _ is.report_is
-
-pub known_double_without_walk : (m : Meaning) (d : DrawingValue) (files : SewnFiles) (is : IsDoubleRun m d files)
-    → is.pieces ≡ (0 ∷ []) ∷ [] → is.certs ≡ [] → ⊥
-known_double_without_walk m d files is some none = unmatched _ is.pieces is.certs is.doubled some none
-
-pub known_double_without_pieces : (m : Meaning) (d : DrawingValue) (files : SewnFiles) → 0 < length d.lines
-    → (is : IsDoubleRun m d files) → is.pieces ≡ [] → ⊥
-known_double_without_pieces m d files line is none = uncovered d is.pieces line is.pieces_are none
-
--- one cut over one piece
+-- a double run has no cuts: one cut over one piece
 abbrev with_cut : PieceCert
 with_cut = record { retraced = 0; walk = []; cuts = record { weight = 1; members = 0 ∷ [] } ∷ [] }
 
@@ -145,9 +126,9 @@ cut_free d (piece ∷ pieces) (cert ∷ certs) each is =
     no_cut : with_cut.cuts ≡ [] → ⊥
     no_cut is = cc
 
-pub known_double_with_cut : (m : Meaning) (d : DrawingValue) (files : SewnFiles) (is : IsDoubleRun m d files)
+pub known_double_with_cut : (m : Meaning) (d : DrawingValue) (files : SewnFiles) (is : IsSewnBy ways.Double m d files)
     → is.certs ≡ with_cut ∷ [] → ⊥
-known_double_with_cut m d files is some = cut_free d is.pieces is.certs is.doubled some
+known_double_with_cut m d files is some = cut_free d is.pieces is.certs is.each some
 
 -- a product with no outputs and no report
 abbrev nothing : ProductValue

@@ -1,5 +1,5 @@
 -- What a sample makes, from what its steps make.
-use Rattle.std.proofs.Common.{◌≡◌, ℕ, ◌+◌, ◌*◌, List, [], ◌∷◌, length, All, refl, sym, ap, ◌∙◌, arith}
+use Rattle.std.proofs.Common.{◌≡◌, ℕ, ◌+◌, ◌*◌, List, [], ◌∷◌, length, All, refl, ap, ◌∙◌, arith}
 use Rattle.std.proofs.lemmas.List.Elements.{All-head, All-tail}
 use Rattle.std.proofs.lemmas.List.Sums.{sum_by-cons}
 use Rattle.std.specs.List.{AllZip}
@@ -30,13 +30,13 @@ sums_are : (count : PieceValue → ℕ) (d : DrawingValue) (pieces : List Piece)
     → All (λ (p : Piece). graph_of p ≡ piece_graph d p.lines) pieces
     → sum_by (λ (p : Piece). count (graph_of p)) pieces ≡ sum_over_pieces count d (lines_of_pieces pieces)
 sums_are count d [] cut = refl
-sums_are count d (p ∷ pieces) cut =
-    let here = sum_by-cons (λ (q : Piece). count (graph_of q)) p pieces in
-    let there = sum_by-cons (λ (lines : List ℕ). count (piece_graph d lines)) p.lines (lines_of_pieces pieces) in
-    let same : count (graph_of p) ≡ count (piece_graph d p.lines) =
-    ap count (All-head (λ (q : Piece). graph_of q ≡ piece_graph d q.lines) p pieces cut) in
-    let later = sums_are count d pieces (All-tail (λ (q : Piece). graph_of q ≡ piece_graph d q.lines) p pieces cut) in
-    omega (arith, here, there, same, later)
+sums_are count d (p ∷ pieces) cut = omega (
+  arith,
+  sum_by-cons (λ (q : Piece). count (graph_of q)) p pieces,
+  sum_by-cons (λ (lines : List ℕ). count (piece_graph d lines)) p.lines (lines_of_pieces pieces),
+  ap count (All-head (λ (q : Piece). graph_of q ≡ piece_graph d q.lines) p pieces cut),
+  sums_are count d pieces (All-tail (λ (q : Piece). graph_of q ≡ piece_graph d q.lines) p pieces cut),
+)
 
 -- the sums of the report of a route, and those of its pieces and certificates
 record ReportSums (d : DrawingValue) (pieces : List (List ℕ)) (certs : List PieceCert) (reports : List PieceReport) : Type 0 where
@@ -71,36 +71,22 @@ lines_count : (pieces : List Piece) → length pieces ≡ length (lines_of_piece
 lines_count [] = refl
 lines_count (p ∷ pieces) = let later = lines_count pieces in omega (arith, later)
 
--- a summary with these counts and sums
-abbrev filled : (number lines j o p c r n w : ℕ) → Summary
-filled number lines j o p c r n w = record {
-  number = number;
-  lines = lines;
-  junctions = j;
-  odd = o;
-  pieces = p;
-  cost = c;
-  retraced = r;
-  penetrations = n;
-  cuts = w;
-}
-
-all_same : (number lines : ℕ) {j j' o o' p p' c c' r r' n n' w w' : ℕ} → j ≡ j' → o ≡ o' → p ≡ p' → c ≡ c' → r ≡ r' → n ≡ n' → w ≡ w'
-    → filled number lines j o p c r n w ≡ filled number lines j' o' p' c' r' n' w'
-all_same number lines junctions odd pieces cost retraced penetrations cuts =
-    rw (junctions, odd, pieces, cost, retraced, penetrations, cuts) refl
-
 -- The summary that the steps compute is the specified one.
 summary_is : (number : ℕ) (d : DrawingValue) (pieces : List Piece) (certs : List PieceCert) → ArePiecesOf d pieces
     → AllZip (IsLeastPieceRoute d) (lines_of_pieces pieces) certs
     → sample_summary number (length d.lines) pieces (reports_from 1 pieces certs) ≡ summary_of number d (lines_of_pieces pieces) certs
 summary_is number d pieces certs cut best =
     let told = report_sums d 1 (lines_of_pieces pieces) certs best in
-    let same : reports_from 1 pieces certs ≡ piece_reports d 1 (lines_of_pieces pieces) certs = reports_are d 1 pieces certs cut.each in
-    ap (sample_summary number (length d.lines) pieces) same
-    ∙ all_same number (length d.lines) (sums_are junctions_of_piece d pieces cut.each) (sums_are odd_junctions_of_piece d pieces cut.each)
-    (lines_count pieces)
-    told.cost told.retraced told.penetrations (ap (λ (n : ℕ). 2 * n) told.retraced ∙ sym told.cuts)
+    rw (
+      reports_are d 1 pieces certs cut.each,
+      sums_are junctions_of_piece d pieces cut.each,
+      sums_are odd_junctions_of_piece d pieces cut.each,
+      lines_count pieces,
+      told.cost,
+      told.retraced,
+      told.penetrations,
+      told.cuts,
+    ) refl
 
 -- The product of a sample is the canonical text of its drawing and the summary.
 pub sample_makes : (order : SampleOrder) (d : DrawingValue) (pieces : List Piece) (routed : Routed) (s : Summary) (text report : List ℕ)

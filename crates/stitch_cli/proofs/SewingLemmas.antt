@@ -135,31 +135,17 @@ pub sewing_makes : (way : Sewing) (order : SewingOrder) (d : DrawingValue) (piec
     → report ≡ sewing_report way (reports_from 1 pieces routed.cert.pieces)
     → product ≡ two_file_product (record { name = order.cert; content = cert }) (record { name = order.out; content = design }) report
     → IsSewnProduct (IsSewnBy way) order d product
-sewing_makes ways.Route order d pieces routed design cert report product cut over sewn certified again reported made = record {
+sewing_makes way order d pieces routed design cert report product cut over sewn certified again reported made = record {
   files = record { design_file = design; cert_text = cert; report = report };
   sewn = record {
     pieces = lines_of_pieces pieces;
     certs = routed.cert.pieces;
     pieces_are = over.pieces_are;
-    best = over.each;
+    each = over.each;
     sewn = sewn;
     cert_is = certified;
     cert_reads = again;
-    report_is = reported ∙ ap (sewing_report ways.Route) (reports_are d 1 pieces routed.cert.pieces cut.each);
-  };
-  made = made;
-}
-sewing_makes ways.Double order d pieces routed design cert report product cut over sewn certified again reported made = record {
-  files = record { design_file = design; cert_text = cert; report = report };
-  sewn = record {
-    pieces = lines_of_pieces pieces;
-    certs = routed.cert.pieces;
-    pieces_are = over.pieces_are;
-    doubled = over.each;
-    sewn = sewn;
-    cert_is = certified;
-    cert_reads = again;
-    report_is = reported ∙ ap (sewing_report ways.Double) (reports_are d 1 pieces routed.cert.pieces cut.each);
+    report_is = reported ∙ ap (sewing_report way) (reports_are d 1 pieces routed.cert.pieces cut.each);
   };
   made = made;
 }

@@ -1,7 +1,5 @@
 -- The design of runs, as a design that every format can write.
-use Rattle.std.proofs.Common.{◌≡◌, ℕ, zero, suc, ℤ, ◌-ℤ◌, ◌+◌, ◌-◌, ◌*◌, ◌/◌, ◌<◌, ◌≤◌, Bool, true, false, ◌&&◌, List, [], ◌∷◌, ◌++◌, length, map, replicate, All, max, IsTrue, Result, Ok, Err, IsOkAnd, nat_le, unsigned_abs, refl, ap, ◌∙◌, arith, if◌then◌else◌}
-use Rattle.std.proofs.lemmas.Int.{ints}
-use Rattle.std.proofs.lemmas.Bool.Decides.{nat_tests}
+use Rattle.std.proofs.Common.{◌≡◌, ℕ, zero, suc, ℤ, ◌-ℤ◌, ◌+◌, ◌-◌, ◌*◌, ◌/◌, ◌<◌, ◌≤◌, Bool, true, false, ◌&&◌, List, [], ◌∷◌, ◌++◌, length, map, replicate, All, IsTrue, Result, Ok, Err, IsOkAnd, nat_le, refl, ap, ◌∙◌, arith, if◌then◌else◌}
 use Rattle.std.proofs.lemmas.List.Elements.{All-head, All-tail}
 use Rattle.std.proofs.lemmas.List.Sums.{sum_by-cons}
 use Rattle.std.proofs.Math.Nat.{div-lt_iff_lt-mul}
@@ -24,31 +22,10 @@ use Rattle.drawing_model.specs.Drawings.{DrawingValue}
 use Rattle.line_graph.specs.Runs.{AreNear, AreWritable, Run, RunsAreSewn, Sews, commands_after, design_of_runs, runs_of, sewn_design, stops_after}
 use Rattle.step_splitter.specs.Chains.{IsNeedlePoint, AreCloseAfter}
 use Rattle.design_model.proofs.CallerLemmas.{within_more}
-use Rattle.lists_and_numbers.proofs.CallerLemmas.{first_true, second_true}
 use Rattle.std.proofs.lemmas.Bool.{and_from}
 use Rattle.step_splitter.proofs.CallerLemmas.{size_few}
 
--- what is within one limit is within a greater one
-le_more : (n small large : ℕ) → small ≤ large → nat_le n small ≡ true → nat_le n large ≡ true
-le_more n small large more within = grind (arith, nat_tests)
-
--- two needles lie at most 60,000 apart on each axis
-is_le : (n limit : ℕ) → nat_le n limit ≡ true → n ≤ limit
-is_le n limit within = grind (arith, nat_tests)
-
-apart_few : (a b : ℤ) → unsigned_abs a ≤ 30000 → unsigned_abs b ≤ 30000 → unsigned_abs (b -ℤ a) ≤ 60000
-apart_few a b one other = omega (arith, ints)
-
-max_few : (a b most : ℕ) → a ≤ most → b ≤ most → max a b ≤ most
-max_few a b most one other = omega arith
-
-needle_x : (p : Point) → IsNeedlePoint p → unsigned_abs p.x ≤ 30000
-needle_x p within = is_le _ 30000 (first_true _ (nat_le (unsigned_abs p.y) 30000) within)
-
-needle_y : (p : Point) → IsNeedlePoint p → unsigned_abs p.y ≤ 30000
-needle_y p within = is_le _ 30000 (second_true (nat_le (unsigned_abs p.x) 30000) _ within)
-
--- so that 496 moves lead from one to the other in any format
+-- At most 496 moves lead from one needle point to another, in any format.
 quotient_few : (limit size : ℕ) → 121 ≤ limit → size ≤ 60000 → (size + (limit - 1)) / limit ≤ 496
 quotient_few limit size least few =
     let some : 0 < limit = omega (arith, least) in

@@ -16,7 +16,7 @@ use Rattle.program_shell.specs.RunViews.{Views}
 use Rattle.route_texts.specs.declared.sewing_reports.Sewing.TheVariants as ways
 use Rattle.route_verdict.specs.LeastRedwork.{IsLeastRedwork, IsLeastRoute}
 use Rattle.stitch_cli.specs.Checks.{CheckOrder}
-use Rattle.stitch_cli.specs.Commands.{Order, checking, sewing, stitch}
+use Rattle.stitch_cli.specs.Commands.{Order, stitch, checking, sewing}
 use Rattle.stitch_cli.specs.Sewings.{SewingOrder}
 
 -- Three files say a drawing, a design and the certificates of its walks.

@@ -26,8 +26,6 @@ pub use Rattle.route_texts.specs.Reasons
 pub use Rattle.route_texts.specs.SewingReports
 pub use Rattle.route_texts.specs.Summaries
 pub mod Sewings
-pub mod Routes
-pub mod DoubleRuns
 pub mod SewingWays
 pub mod Checks
 pub mod Samples

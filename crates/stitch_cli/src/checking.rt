@@ -5,7 +5,7 @@ ghost use Rattle.format_traits.specs.Meanings.{Meaning};
 ghost use Rattle.outside_io.specs.declared.limits.TheConstants.{MAX_FILE};
 ghost use Rattle.route_verdict.specs.Verdicts.{HasShortLists};
 ghost use Rattle.format_traits.specs.Endings.{format_of};
-ghost use Rattle.stitch_cli.specs.Commands.{checking, stitch};
+ghost use Rattle.stitch_cli.specs.Commands.{stitch, checking};
 ghost use Rattle.stitch_cli.specs.Checks.{IsCheckResult, bad_line_text, check_cert, check_design, check_drawing, check_order, check_plan, complete_check};
 ghost use Rattle.program_shell.specs.StepOutcomes.{IsRefusalWith, RunsPlan, RunsPurePlan, RunsRequest};
 ghost use Rattle.program_shell.specs.Plans.{satisfies};
@@ -17,9 +17,10 @@ use drawing_inputs::drawing_in;
 use drawing_model::Drawing;
 use format_traits::{Format, Loaded, find};
 use lists_and_numbers::Memory;
+use drawing_model::Drawing;
 use odd_cuts::Cert;
 use outside_io::Store;
-use program_shell::{Failure, Product, bytes_of, describe_part, load_at, only_report, read_input};
+use program_shell::{Failure, Product, bytes_of, load_at, only_report, read_input, refused_part};
 use route_texts::describe_reason;
 use route_verdict::{Verdict, judge};
 use std::alloc::Global;
@@ -119,10 +120,7 @@ fn check_text<'a>(
 fn bad_line<'a>(alloc: Global, name: &str, number: u32) -> Failure<'a>
     ensures { IsRefusalWith (bad_line_text name.now number) result }
 {
-    match describe_part(alloc, name, "line", u64::from(number), "not a certificate") {
-        Ok(text) => Failure::Refused(text),
-        Err(Memory) => Failure::Memory,
-    }
+    refused_part(alloc, name, "line", u64::from(number), "not a certificate")
 }
 
 /// Returns the product of the verdict, or the failure of the check.

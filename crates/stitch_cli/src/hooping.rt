@@ -3,7 +3,7 @@ ghost use Rattle.format_traits.specs.Endings.{format_of};
 ghost use Rattle.format_traits.specs.Meanings.{Meaning};
 ghost use Rattle.outside_io.specs.Files.{IsFileName};
 ghost use Rattle.program_shell.specs.StepOutcomes.{RunsPlan, RunsPurePlan, RunsRequest};
-ghost use Rattle.stitch_cli.specs.Commands.{hooping, stitch};
+ghost use Rattle.stitch_cli.specs.Commands.{stitch, hooping};
 ghost use Rattle.stitch_cli.specs.Hoops.{complete_hoop, hoop_fitted, hoop_order, hoop_plan};
 
 use format_traits::{Format, find};

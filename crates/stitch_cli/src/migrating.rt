@@ -2,7 +2,7 @@ ghost use Rattle.std.specs.Prelude.{IfOk, option_map};
 ghost use Rattle.drawing_text.specs.DrawingText.{IsJoinedWithoutEnds};
 ghost use Rattle.outside_io.specs.Files.{IsFileName};
 ghost use Rattle.program_shell.specs.StepOutcomes.{RunsPlan, RunsRequest};
-ghost use Rattle.stitch_cli.specs.Commands.{migrating, stitch};
+ghost use Rattle.stitch_cli.specs.Commands.{stitch, migrating};
 ghost use Rattle.stitch_cli.specs.Migrations.{IsMigrated, complete_migrate, migrate_order, migrate_plan};
 ghost use Rattle.program_shell.specs.Products.{product_value};
 

@@ -4,7 +4,7 @@ ghost use Rattle.format_traits.specs.Endings.{format_of};
 ghost use Rattle.format_traits.specs.Meanings.{Meaning};
 ghost use Rattle.outside_io.specs.Files.{IsFileName};
 ghost use Rattle.program_shell.specs.StepOutcomes.{IsRefusalWith, RunsPlan, RunsPurePlan, RunsRequest};
-ghost use Rattle.stitch_cli.specs.Commands.{rewriting, stitch};
+ghost use Rattle.stitch_cli.specs.Commands.{stitch, rewriting};
 ghost use Rattle.design_changes.specs.AppliedChanges.{AreValidChanges, change_list};
 ghost use Rattle.stitch_cli.specs.RewriteSteps.{IsChangeFailure, IsEncodeResult};
 ghost use Rattle.stitch_cli.specs.Rewrites.{IsRewriteResult, change_text, complete_rewrite, rewrite_order, rewrite_plan};

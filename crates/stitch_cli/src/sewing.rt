@@ -9,7 +9,7 @@ ghost use Rattle.line_graph.specs.Runs.{AreWritable, runs_of, sewn_design};
 ghost use Rattle.odd_cuts.specs.Certificates.{walks_of};
 ghost use Rattle.program_shell.specs.Products.{product_value, two_file_product};
 ghost use Rattle.program_shell.specs.StepOutcomes.{RunsPlan, RunsPurePlan, RunsRequest};
-ghost use Rattle.stitch_cli.specs.Commands.{sewing, stitch};
+ghost use Rattle.stitch_cli.specs.Commands.{stitch, sewing};
 ghost use Rattle.stitch_cli.specs.Sewings.{IsSewnProduct, IsSewnFile, complete_sewing, names_differ, sewing_drawing, sewing_order, sewing_plan};
 ghost use Rattle.stitch_cli.specs.SewingWays.{IsSewnBy, IsSewnOver};
 

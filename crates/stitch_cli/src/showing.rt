@@ -3,7 +3,7 @@ ghost use Rattle.format_traits.specs.Endings.{format_of};
 ghost use Rattle.format_traits.specs.Meanings.{Meaning};
 ghost use Rattle.outside_io.specs.Files.{IsFileName};
 ghost use Rattle.program_shell.specs.StepOutcomes.{RunsPlan, RunsPurePlan, RunsRequest};
-ghost use Rattle.stitch_cli.specs.Commands.{showing, stitch};
+ghost use Rattle.stitch_cli.specs.Commands.{stitch, showing};
 ghost use Rattle.stitch_cli.specs.Shows.{complete_show, show_order, show_plan, show_read};
 
 use format_traits::{Format, Loaded, ext_of, find};

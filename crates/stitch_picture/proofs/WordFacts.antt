@@ -1,8 +1,8 @@
 -- Worked values of requests, and of orders.
 use Rattle.std.proofs.Common.{◌≡◌, ℕ, List, true, false, [], ◌∷◌, Some, None, codes, map, replicate, refl}
 use Rattle.format_traits.specs.Meanings.{Meaning}
-use Rattle.stitch_picture.specs.Orders.{drawing, picture_order, proving, showing}
-use Rattle.stitch_picture.specs.Words.{has_svg_ending, picture, proof, request_words, side_word}
+use Rattle.stitch_picture.specs.Orders.{picture_order, drawing, proving, showing}
+use Rattle.stitch_picture.specs.Words.{has_svg_ending, request_words, side_word, picture, proof}
 
 -- A picture's name ends in `.svg`, in small letters.
 pub known_pictures : map has_svg_ending (codes "a.svg" ∷ codes "a.SVG" ∷ codes "svg" ∷ codes "a.svg.pes" ∷ codes "a.svgz" ∷ [])

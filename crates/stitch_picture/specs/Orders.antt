@@ -9,7 +9,7 @@ use Rattle.program_shell.specs.Programs.{Program}
 use Rattle.stitch_picture.specs.DrawnPictures.{DrawnOrder, drawn_plan}
 use Rattle.stitch_picture.specs.Pictures.{DesignPictureOrder, design_picture_plan}
 use Rattle.stitch_picture.specs.Proofs.{proof_plan}
-use Rattle.stitch_picture.specs.Words.{ProofOrder, RequestedFile, RequestedPicture, picture, proof, request_words}
+use Rattle.stitch_picture.specs.Words.{ProofOrder, RequestedFile, RequestedPicture, request_words, picture, proof}
 
 -- An order, with a case for each kind of picture.
 pub data PictureOrder : Type 0 where

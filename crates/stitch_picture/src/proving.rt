@@ -14,9 +14,11 @@ use drawing_inputs::drawing_in;
 use drawing_model::Drawing;
 use drawing_picture::{ProofFault, picture_of_proof};
 use lists_and_numbers::{Bytes, Memory};
+use drawing_model::Drawing;
+use lists_and_numbers::Bytes;
 use odd_cuts::Cert;
 use outside_io::Store;
-use program_shell::{Failure, Output, Product, describe_part, one_output, read_input};
+use program_shell::{Failure, Output, Product, one_output, read_input, refused_part};
 use route_texts::describe_reason;
 use std::alloc::Global;
 
@@ -68,10 +70,7 @@ fn prove_text<'a>(
 fn bad_line<'a>(alloc: Global, name: &str, number: u32) -> Failure<'a>
     ensures { IsRefusalWith (text_at name.now (codes "line") number (codes "not a certificate")) result }
 {
-    match describe_part(alloc, name, "line", u64::from(number), "not a certificate") {
-        Ok(text) => Failure::Refused(text),
-        Err(Memory) => Failure::Memory,
-    }
+    refused_part(alloc, name, "line", u64::from(number), "not a certificate")
 }
 
 /// Returns the product of a proof, or the refusal of a certificate that proves nothing.

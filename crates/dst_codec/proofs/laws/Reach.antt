@@ -21,7 +21,7 @@ use Rattle.format_traits.specs.declared.encoder_state.EncoderState.{EncoderState
 use Rattle.format_traits.specs.MoveHops.{hops_of}
 use Rattle.record_formats.specs.MoveParts.{position_after_move}
 use Rattle.record_formats.specs.Readings.{FileCommands, with_commands_before, checked_command, checked_commands, loaded_with}
-use Rattle.record_formats.specs.Records.{Records, next, file_commands_from, file_commands}
+use Rattle.record_formats.specs.Records.{Records, file_commands_from, file_commands, next}
 use Rattle.format_traits.specs.Refusals.{initial_encoder_state, encoder_state_after, is_above_max, refusal_if, refusal_of_needle, refusal_before_room, or_else, refusal_of_act, first_refusal_from, first_refusal, unless_refused}
 use Rattle.dst_codec.specs.declared.dst.TheConstants.{LIMIT}
 use Rattle.dst_codec.specs.declared.header.TheConstants.{HEADER_LENGTH}

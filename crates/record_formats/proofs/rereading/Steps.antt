@@ -17,7 +17,7 @@ use Rattle.record_formats.specs.declared.event.Event.TheVariants as event
 use Rattle.format_traits.specs.declared.fault.ReadFault.{ReadFault}
 use Rattle.record_formats.specs.MoveParts.{position_after_move}
 use Rattle.record_formats.specs.Readings.{FileCommands, with_commands_before, checked_command, checked_commands}
-use Rattle.record_formats.specs.Records.{Records, over, next, commands_of_event, position_after_event, moves_of_event, file_commands_from, are_accepted, moves_of_records_from}
+use Rattle.record_formats.specs.Records.{Records, commands_of_event, position_after_event, moves_of_event, file_commands_from, are_accepted, moves_of_records_from, over, next}
 use Rattle.record_formats.specs.RoundTrip.{is_stop_in_place}
 use Rattle.record_formats.proofs.PointLemmas.{position_after_move-none, same_points}
 use Rattle.design_model.proofs.CallerLemmas.{within_from}

@@ -1,5 +1,5 @@
 use Rattle.std.proofs.Common.{◌%◌, subst, sym, ℕ, ◌≡◌}
-use Rattle.blossom_match.specs.Tables.{IsTable}
+use Rattle.odd_sets.specs.Tables.{IsTable}
 use Rattle.line_graph.specs.PiecesOfDrawings.{graph_of}
 use Rattle.route_core.proofs.LeastLemmas.{triangles}
 use Rattle.route_core.proofs.MatchLemmas.{is_matched, table_is}

@@ -1,6 +1,6 @@
 use Rattle.std.proofs.Common.{◌≡◌, ◌∙◌, ◌<◌, ◌≤◌, ◌%◌, ◌^◌, List, ℕ, arith, length, subst, sym, ap}
 use Rattle.blossom_match.specs.declared.matching.Pair.{Pair}
-use Rattle.line_graph.specs.declared.limits.TheConstants.{MAX_COST, MAX_LINES}
+use Rattle.drawing_model.specs.declared.limits.TheConstants.{MAX_COST, MAX_LINES}
 use Rattle.line_graph.specs.PiecesOfDrawings.{graph_of}
 use Rattle.odd_paths.specs.LeastRows.{AreTerminals}
 use Rattle.route_core.proofs.LeastCertLemmas.{pairs_cost_few, proves, spelled}
