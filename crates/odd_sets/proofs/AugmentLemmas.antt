@@ -100,8 +100,3 @@ pub pairing_done : (root met : OddSetValue) (link : TightEdge) (tree : List Bran
 pairing_done root met link tree old now new hand way [] p none f =
     p.does new (subst (λ (ks : List MatchValue). Augments root hand way [] now ks) (sym f) (at_root root hand way now p.can))
 pairing_done root met link tree old now new hand way (b ∷ bs) p none f = absurd (omega arith)
-
-pub pairing_start : (root met : OddSetValue) (link : TightEdge) (tree : List BranchValue) (old : List MatchValue)
-    → CanAugment met link root tree
-    → Pairing root met link tree old old met link tree
-pairing_start root met link tree old can = record { can = can; does = λ new a. a }

@@ -1,4 +1,5 @@
 -- Blossoms rotated to another part.
+use Rattle.std.proofs.lemmas.Bool.Decides.{nat_tests}
 use Rattle.std.proofs.Common.{◌≡◌, ℕ, ◌+◌, ◌≤◌, ◌<◌, ◌%◌, suc, List, [], ◌∷◌, ◌++◌, length, map, take, drop, get_or, drop-cons, add-one, arith, refl, sym, ap, subst, ◌∙◌, append_assoc, length-append}
 use Rattle.std.proofs.lemmas.List.{append-nil, map-append, take-append-drop}
 use Rattle.odd_sets.specs.TableValue.{TableValue}
@@ -50,12 +51,7 @@ paid_turned d (x ∷ xs) ys l =
 -- the part at the index does not hold the place: a later one does
 pub held_later : (x : ℕ) (ps : List PartValue) (i : ℕ) (p : PartValue) → i < length ps → p ≡ get_or ps i p → count x p.odd_set.members ≡ 0 →
     1 ≤ count x (members_in (drop i ps)) → 1 ≤ count x (members_in (drop (i + 1) ps))
-held_later x ps i p lt is none some =
-    let e : drop i ps ≡ get_or ps i p ∷ drop (suc i) ps = drop-cons ps i p lt in
-    let f : count x (members_in (drop i ps)) ≡ count x (get_or ps i p).odd_set.members + count x (members_in (drop (i + 1) ps)) =
-    rw (add-one, e) (count-append x (get_or ps i p).odd_set.members (members_in (drop (suc i) ps))) in
-    let g : count x (get_or ps i p).odd_set.members ≡ 0 = subst (λ (q : PartValue). count x q.odd_set.members ≡ 0) is none in
-    omega arith
+held_later x ps i p h1 h2 h3 h4 = grind (arith, nat_tests, drop-cons, add-one, count-append)
 
 -- an additive quantity of the parts doesn't change when they are rotated
 pub sum_turned : (G : List PartValue → ℕ) → ((ps qs : List PartValue) → G (ps ++ qs) ≡ G ps + G qs) → (i : ℕ) (ps : List PartValue)
@@ -94,10 +90,7 @@ holds_here x ps i p low is here = subst (FirstPartHolds x) (sym (drop_here ps i 
 -- a rotated list, by the value of each item
 turned_list : {X Y : Type 0} (f : X → Y) (old new : List X) (at : ℕ) → new ≡ drop at old ++ take at old
     → map f new ≡ drop at (map f old) ++ take at (map f old)
-turned_list {X} {Y} f old new at is =
-    ap (λ (xs : List X). map f xs) is ∙ map-append f (drop at old) (take at old)
-    ∙ ap (λ (ys : List Y). ys ++ map f (take at old)) (sym (mapped_drop f at old))
-    ∙ ap (λ (ys : List Y). drop at (map f old) ++ ys) (sym (mapped_take f at old))
+turned_list f old new at h1 = grind (arith, nat_tests, map-append, mapped_drop, mapped_take)
 
 pub turned_in : {X Y : Type 0} (f : X → Y) (old new : List X) (at : ℕ) → at < length old → new ≡ drop at old ++ take at old
     → IsRotated (map f old) (map f new)

@@ -9,7 +9,7 @@ pub use Rattle.odd_sets.proofs.RaisedLemmas.{at_drop, count_at, more_by, outer_p
 pub use Rattle.odd_sets.proofs.ShrinkLemmas.{two_even}
 pub use Rattle.odd_sets.proofs.ShrunkLemmas.{all_uses}
 pub use Rattle.odd_sets.proofs.SlackRowLemmas.{IsLeftAt, far_is, lowered_far, lowered_less, lowered_near, near_is, near_least, not_hit, single_near}
-pub use Rattle.odd_sets.proofs.SlotLemmas.{has_slot, inserted_keeps, keep_branches, keep_matches, keep_seat, no_slot, set_more, set_of, sets_fewer, sets_left, sets_right}
-pub use Rattle.odd_sets.proofs.SumLemmas.{bands_push, count-append, dual_load-append, dual_load-comm, dual_sets-append, height-append, hit_is, hit_same, key_count-append, load_across, load_alone, load_along, low, members-append, members_each, members_push, none_hold, none_tall, size-append, some_member, total-append}
+pub use Rattle.odd_sets.proofs.SlotLemmas.{either, has_slot, inserted_keeps, keep_branches, keep_matches, keep_seat, no_slot, set_more, set_of, sets_fewer, sets_left, sets_right}
+pub use Rattle.odd_sets.proofs.SumLemmas.{bands_push, by_count, by_either, count-append, dual_load-append, dual_load-comm, dual_sets-append, height-append, hit_is, hit_same, key_count-append, load_across, load_alone, load_along, low, members-append, members_each, members_push, none_hold, none_tall, size-append, some_member, total-append}
 pub use Rattle.odd_sets.proofs.TableLemmas.{entry-comm}
 pub use Rattle.odd_sets.proofs.TreeLemmas.{around_first, around_none, around_same, base_in, grown_push, outer_members_base}

@@ -1,5 +1,5 @@
 -- The chain of the sets between the two ends of an edge.
-use Rattle.std.proofs.Common.{◌≡◌, ℕ, ◌+◌, ◌≤◌, List, [], ◌∷◌, ◌++◌, length, reverse, arith, refl, sym, ap, subst, ◌∙◌, length-append}
+use Rattle.std.proofs.Common.{◌≡◌, ℕ, ◌+◌, ◌≤◌, List, [], ◌∷◌, ◌++◌, length, reverse, arith, sym, ap, subst, ◌∙◌, length-append}
 use Rattle.std.proofs.lemmas.List.{reverse-append}
 use Rattle.odd_sets.specs.TableValue.{TableValue}
 use Rattle.odd_sets.specs.Lists.{Each}
@@ -7,11 +7,11 @@ use Rattle.odd_sets.specs.DualSets.{DualSet, OddSetValue, IsOddSet, dual_sets, c
 use Rattle.odd_sets.specs.Blossoms.{reversed_edge, members_in}
 use Rattle.odd_sets.specs.SoundSets.{IsSoundBranch, IsSoundPart, IsSymmetric, IsTight}
 use Rattle.odd_sets.specs.Trees.{outer_with_both, one_if_both, branch_dual_sets, inner_dual_sets, outer_members, outer_sets, IsAlternatingTree}
-use Rattle.odd_sets.specs.Shrinks.{part_with_edge, CanShrink, IsOpenChain}
+use Rattle.odd_sets.specs.Shrinks.{part_with_edge, IsOpenChain}
 use Rattle.odd_sets.specs.declared.odd_set.TightEdge.{TightEdge}
 use Rattle.odd_sets.specs.Values.{BranchValue, PartValue}
 use Rattle.odd_sets.proofs.ListLemmas.{each-append, each-left, each-last}
-use Rattle.odd_sets.proofs.SumLemmas.{adds_none, bands_push, count-append, members_push, sets-append, size-append}
+use Rattle.odd_sets.proofs.SumLemmas.{bands_push, count-append, members_push, sets-append, size-append}
 use Rattle.odd_sets.proofs.ClosingLemmas.{leads_on}
 use Rattle.odd_sets.proofs.TreeLemmas.{last_of, grown_more}
 
@@ -169,26 +169,3 @@ pub chaining_ends : (link : TightEdge) (root : OddSetValue) (tree left : List Br
 chaining_ends link root tree left chain aside way on to end c e f =
     subst (λ (l : TightEdge). IsOpenChain link root tree left chain aside l end) (sym e)
     (subst (λ (x : ℕ). IsOpenChain link root tree left chain aside way x) (sym f) c)
-
-pub chaining_start : (link : TightEdge) (root : OddSetValue) (tree : List BranchValue) (chain : List PartValue) (aside : List BranchValue)
-    → CanShrink link root tree → chain ≡ [] → aside ≡ [] →
-    IsOpenChain link root tree tree chain aside link link.to
-chaining_start link root tree chain aside s e f =
-    subst (λ (ks : List PartValue). IsOpenChain link root tree tree ks aside link link.to) (sym e)
-    (subst (λ (ks : List BranchValue). IsOpenChain link root tree tree [] ks link link.to) (sym f) (record {
-      grown = s.grown;
-      leads = refl;
-      from = s.from;
-      back = s.to;
-      even = omega arith;
-      begun = λ none. (refl, refl);
-      apart = s.apart;
-      kept = tt;
-      hung = tt;
-      outers = λ a x none. omega arith;
-      once = s.once;
-      places = λ x. omega arith;
-      sums = λ F add. omega (arith, adds_none F add);
-      fewer = omega arith;
-      firm = λ d h sy w t. (t, tt, tt, w);
-    }))

@@ -1,4 +1,5 @@
 -- Chains that close into blossoms, and the sets that they make.
+use Rattle.std.proofs.lemmas.Bool.Decides.{nat_tests}
 use Rattle.std.proofs.Common.{◌≡◌, ℕ, ◌+◌, ◌%◌, ◌≤◌, zero, suc, List, [], ◌∷◌, ◌++◌, arith, refl, sym, subst}
 use Rattle.odd_sets.specs.TableValue.{TableValue}
 use Rattle.odd_sets.specs.Lists.{Each}
@@ -89,11 +90,7 @@ local_case : (n : ℕ) (d : TableValue) (h : ℕ → ℕ) (x : ℕ) (p : PartVal
     → IsSoundSet d h p.odd_set →
     count x (members_in (p ∷ ps)) ≤ 1 → (count x p.odd_set.members ≡ 0 → height x (dual_sets_in ps) ≡ h x)
     → height x (dual_sets_in (p ∷ ps)) ≡ h x
-local_case zero d h x p ps e kept s once rest =
-    omega (arith, height-append x (dual_sets p.odd_set) (dual_sets_in ps), low x p.odd_set kept.0 e, rest e)
-local_case (suc n) d h x p ps e kept s once rest =
-    let none = none_tall x (dual_sets_in ps) (none_in x ps kept.1 (omega (arith, count-append, e))) in
-    omega (arith, height-append x (dual_sets p.odd_set) (dual_sets_in ps), s.local x (omega (arith, e)), none)
+local_case n d h x p ps h1 h2 h3 h4 h5 = grind (arith, nat_tests, height-append, low, none_tall, none_in, count-append)
 
 -- a member of one of the parts has the height there that it has over all sets
 local_in : (d : TableValue) (h : ℕ → ℕ) (x : ℕ) (ps : List PartValue) → AreOddSets ps → Each (IsSoundPart d h) ps

@@ -1,4 +1,5 @@
 -- The slot of a set that is expanded.
+use Rattle.std.proofs.lemmas.Bool.Decides.{nat_tests}
 use Rattle.std.proofs.Common.{◌≡◌, ℕ, ◌+◌, ◌≤◌, ◌<◌, List, [], ◌∷◌, ◌++◌, take, drop, length, ltb, Option, Some, None, arith, sym, ap, subst, ◌∙◌}
 use Rattle.std.proofs.lemmas.List.{length-map, map-append}
 use Rattle.std.proofs.lemmas.Bool.{lt-ltb, ltb-true}
@@ -32,16 +33,7 @@ others_uses : (k : ℕ) (root : OddSetValue) (bs : List BranchValue) (ps : List 
     ≡ key_count k (dual_sets root) + key_count k (branch_dual_sets bs) + key_count k (dual_sets_in ps) + key_count k (dual_sets outer)
     + key_count k (branch_dual_sets later)
     + key_count k (match_dual_sets rest)
-others_uses k root bs ps outer later rest =
-    omega (
-      arith,
-      key_count-append k (dual_sets root) (branch_dual_sets bs
-          ++ (dual_sets_in ps ++ (dual_sets outer ++ (branch_dual_sets later ++ match_dual_sets rest)))),
-      key_count-append k (branch_dual_sets bs) (dual_sets_in ps ++ (dual_sets outer ++ (branch_dual_sets later ++ match_dual_sets rest))),
-      key_count-append k (dual_sets_in ps) (dual_sets outer ++ (branch_dual_sets later ++ match_dual_sets rest)),
-      key_count-append k (dual_sets outer) (branch_dual_sets later ++ match_dual_sets rest),
-      key_count-append k (branch_dual_sets later) (match_dual_sets rest),
-    )
+others_uses k root bs ps outer later rest = grind (arith, nat_tests, key_count-append)
 
 -- the sets of a search, by the one that comes apart and the others
 split_uses : (k key : ℕ) (root : OddSetValue) (tree bs : List BranchValue) (b : BranchValue) (later : List BranchValue)

@@ -1,4 +1,5 @@
 -- Facts of each item of joined lists.
+use Rattle.std.proofs.lemmas.Bool.Decides.{nat_tests}
 use Rattle.std.proofs.Common.{◌≡◌, ℕ, suc, zero, List, [], ◌∷◌, ◌++◌, take, drop, map, reverse, length, ◌+◌, ◌<◌, get_or, drop-cons, add-one, arith, refl, sym, ap, subst, ◌∙◌}
 use Rattle.std.proofs.lemmas.List.{length-map, map-append}
 use Rattle.std.specs.List.{flat_map}
@@ -86,8 +87,7 @@ each_here {X} P xs i x p low is = (subst (λ (ks : List X). Each P ks) (drop_her
 
 -- the items of a vector after a call on its slice
 pub written : {X : Type 0} (len : ℕ) (new old : List X) → length new ≡ len → take len (new ++ drop (length new) old) ≡ new
-written len new old size = subst (λ (n : ℕ). take n (new ++ drop (length new) old) ≡ new) size (take-append_seam new (drop (length new)
-    old))
+written len new old h1 = grind (arith, nat_tests, take-append_seam)
 
 -- what holds of each item's image holds of each item of the images
 pub each-mapped : {X Y : Type 0} (P : Y → Type 0) (f : X → Y) (xs : List X) → Each P (map f xs) → Each (λ (x : X). P (f x)) xs
@@ -134,10 +134,7 @@ mapped_cut {X} {Y} f n at xs = sym (mapped_take f n (drop at xs)) ∙ ap (λ (ys
 
 pub mapped_removed : {X Y : Type 0} (f : X → Y) (xs ys : List X) (i : ℕ) → ys ≡ take i xs ++ drop (suc i) xs
     → map f ys ≡ take i (map f xs) ++ drop (suc i) (map f xs)
-mapped_removed {X} {Y} f xs ys i e =
-    ap (λ (zs : List X). map f zs) e ∙ map-append f (take i xs) (drop (suc i) xs)
-    ∙ ap (λ (zs : List Y). zs ++ map f (drop (suc i) xs)) (sym (mapped_take f i xs))
-    ∙ ap (λ (zs : List Y). take i (map f xs) ++ zs) (sym (mapped_drop f (suc i) xs))
+mapped_removed f xs ys i h1 = grind (arith, nat_tests, map-append, mapped_take, mapped_drop)
 
 pub none_left : {X : Type 0} (xs : List X) → length xs ≡ 0 → xs ≡ []
 none_left [] none = refl
@@ -145,5 +142,4 @@ none_left (x ∷ xs) none = absurd (omega (arith, none))
 
 pub mapped_two : {X Y : Type 0} (f : X → Y) (xs ys : List X) (x y : X) → xs ≡ (ys ++ x ∷ []) ++ y ∷ []
     → map f xs ≡ (map f ys ++ f x ∷ []) ++ f y ∷ []
-mapped_two {X} {Y} f xs ys x y e =
-    mapped_last f xs (ys ++ x ∷ []) y e ∙ ap (λ (zs : List Y). zs ++ f y ∷ []) (map-append f ys (x ∷ []))
+mapped_two f xs ys x y h1 = grind (arith, nat_tests, mapped_last, map-append)

@@ -1,4 +1,5 @@
 -- One match of a list.
+use Rattle.std.proofs.lemmas.Bool.Decides.{nat_tests}
 use Rattle.std.proofs.Common.{◌≡◌, ℕ, ◌+◌, ◌≤◌, ◌<◌, suc, List, ◌∷◌, ◌++◌, length, take, drop, get_or, drop-cons, add-one, arith, sym, ap, subst, ◌∙◌}
 use Rattle.std.proofs.lemmas.List.{take-append-drop}
 use Rattle.odd_sets.specs.DualSets.{count}
@@ -15,21 +16,12 @@ pub match_later : (x : ℕ) (cs : List MatchValue) (i : ℕ) (c : MatchValue) �
     ≡ 0
     → count x c.second.members ≡ 0 →
     1 ≤ count x (match_members (drop i cs)) → 1 ≤ count x (match_members (drop (i + 1) cs))
-match_later x cs i c lt is off none some =
-    omega (arith, ap (λ (ks : List MatchValue). count x (match_members ks)) (match_here cs i c lt is), count-append)
+match_later x cs i c h1 h2 h3 h4 h5 = grind (arith, nat_tests, match_here, count-append)
 
 pub taken_out : (x : ℕ) (old new : List MatchValue) (i : ℕ) (c : MatchValue) → i < length old → c ≡ get_or old i c → new
     ≡ take i old ++ drop (suc i) old → MatchHolds x old i →
     RemovesMatch x old new c
-taken_out x old new i c lt is now holds =
-    let here : drop i old ≡ c ∷ drop (suc i) old = drop-cons old i c lt ∙ ap (λ (k : MatchValue). k ∷ drop (suc i) old) (sym is) in
-    record {
-      before = take i old;
-      after = drop (suc i) old;
-      was = sym (take-append-drop i old) ∙ ap (λ (ks : List MatchValue). take i old ++ ks) here;
-      now = now;
-      here = subst (FirstMatchHolds x) here holds;
-    }
+taken_out x old new i c h1 h2 h3 h4 = grind (arith, nat_tests, drop-cons, take-append-drop)
 
 -- the match at the index holds the place
 pub match_holds : (x : ℕ) (cs : List MatchValue) (i : ℕ) (c : MatchValue) → i < length cs → c ≡ get_or cs i c

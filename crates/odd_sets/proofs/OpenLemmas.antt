@@ -1,4 +1,5 @@
 -- A set taken apart: sums over its parts.
+use Rattle.std.proofs.lemmas.Bool.Decides.{nat_tests}
 use Rattle.std.proofs.Common.{◌≡◌, ℕ, ◌+◌, ◌%◌, ◌≤◌, ◌<◌, List, [], ◌∷◌, ◌++◌, length, take, drop, arith, refl, sym, ap, subst, ◌∙◌, Some, None, length-append, eqb, cond, Bool, true, false}
 use Rattle.std.proofs.lemmas.Bool.{eqb-true}
 use Rattle.std.proofs.lemmas.List.{take-append-drop}
@@ -35,10 +36,7 @@ members_matched x ps even = ap (λ (ss : List OddSetValue). count x (members_ont
 -- the blossom edges inside the parts stay tight when the blossom is rotated
 tolls_turned : (d : TableValue) (i : ℕ) (ps : List PartValue) → AreTightInside d (blossom_edges_in ps)
     → AreTightInside d (blossom_edges_in (drop i ps ++ take i ps))
-tolls_turned d i ps paid =
-    let blossom_edges = λ (p : PartValue). p.odd_set.blossom_edges in
-    each-flat_map (IsTightInside d) blossom_edges (drop i ps ++ take i ps)
-    (each-turned (λ (p : PartValue). AreTightInside d p.odd_set.blossom_edges) i ps (each-apart (IsTightInside d) blossom_edges ps paid))
+tolls_turned d i ps h1 = grind (arith, nat_tests, each-flat_map, each-turned, each-apart)
 
 pub joined_along : (p e : PartValue) (ps : List PartValue) → length ps % 2 ≡ 0 → IsPartPath p (ps ++ e ∷ [])
     → Each IsMatch (matches_along ps)
@@ -66,8 +64,7 @@ paid_along d p e (q ∷ r ∷ ps) even l all =
     )
 
 hit_one : (b : Bool) (left m : ℕ) → eqb left m ≡ b → cond b 1 0 + 0 ≡ 1 → left ≡ m
-hit_one true left m is one = eqb-true left m is
-hit_one false left m is one = absurd (omega arith)
+hit_one b left m h1 h2 = grind (arith, nat_tests, eqb-true)
 
 single_count : (left x : ℕ) (ms : List ℕ) → length ms ≡ 1 → count left ms ≡ 1 → count x ms ≡ one_if_equal x left
 single_count left x [] one there = absurd (omega arith)

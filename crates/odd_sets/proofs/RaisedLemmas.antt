@@ -1,4 +1,5 @@
 -- Heights raised place by place.
+use Rattle.std.proofs.lemmas.Bool.Decides.{nat_tests}
 use Rattle.std.proofs.Common.{◌≡◌, ℕ, ◌+◌, ◌-◌, ◌*◌, ◌<◌, ◌≤◌, ◌≢◌, Bool, true, false, cond, eqb, zero, suc, List, [], ◌∷◌, length, drop, get_or, set, drop-cons, add-one, arith, refl, sym, ap, subst, ◌∙◌, get_or-set_other, get_or-set_same}
 use Rattle.std.proofs.lemmas.Bool.{eqb-true, eqb-false, eq-eqb}
 use Rattle.odd_sets.specs.DualSets.{count}
@@ -9,9 +10,7 @@ use Rattle.odd_sets.proofs.SumLemmas.{count-append}
 
 pub at_drop : (x i m : ℕ) (ms : List ℕ) → i < length ms → m ≡ get_or ms i 0 → count x (drop i ms)
     ≡ cond (eqb x m) 1 0 + count x (drop (i + 1) ms)
-at_drop x i m ms lt is =
-    let e : drop i ms ≡ get_or ms i 0 ∷ drop (suc i) ms = drop-cons ms i 0 lt in
-    rw (add-one, e, is) refl
+at_drop x i m ms h1 h2 = grind (arith, nat_tests, drop-cons, add-one)
 
 raised_by : (b : Bool) (x m w c : ℕ) (hs : List ℕ) → eqb x m ≡ b → m < length hs →
     get_or (set hs m (get_or hs m 0 + w)) x 0 + w * c ≡ get_or hs x 0 + w * (cond b 1 0 + c)
@@ -56,22 +55,16 @@ lowered x i m w ms hs rest top lt is there low e =
 -- what is still to fall is high enough
 pub lowers : (i m w : ℕ) (ms : List ℕ) (now old all : ℕ) → i < length ms → m ≡ get_or ms i 0 → w * all ≤ old → now + w * all
     ≡ old + w * count m (drop i ms) → w ≤ now
-lowers i m w ms now old all lt is fits e =
-    let here : count m (drop i ms) ≡ cond (eqb m m) 1 0 + count m (drop (i + 1) ms) = at_drop m i m ms lt is in
-    let one : count m (drop i ms) ≡ 1 + count m (drop (i + 1) ms) = here
-    ∙ ap (λ (b : Bool). cond b 1 0 + count m (drop (i + 1) ms)) (eq-eqb m m refl) in
-    omega (arith, fits, e, ap (λ (k : ℕ). w * k) one)
+lowers i m w ms now old all h1 h2 h3 h4 = grind (arith, nat_tests, at_drop, eq-eqb)
 
 -- the places of the branches from one on
 pub outer_places : (x : ℕ) (tree : List BranchValue) (i : ℕ) (b : BranchValue) → i < length tree → b ≡ get_or tree i b →
     count x (outer_members [] (drop i tree)) ≡ count x b.outer.members + count x (outer_members [] (drop (i + 1) tree))
-outer_places x tree i b low is =
-    omega (arith, ap (λ (ks : List BranchValue). count x (outer_members [] ks)) (drop_here tree i b low is), count-append)
+outer_places x tree i b h1 h2 = grind (arith, nat_tests, drop_here, count-append)
 
 pub inner_places : (x : ℕ) (tree : List BranchValue) (i : ℕ) (b : BranchValue) → i < length tree → b ≡ get_or tree i b →
     count x (inner_members (drop i tree)) ≡ count x b.inner.members + count x (inner_members (drop (i + 1) tree))
-inner_places x tree i b low is =
-    omega (arith, ap (λ (ks : List BranchValue). count x (inner_members ks)) (drop_here tree i b low is), count-append)
+inner_places x tree i b h1 h2 = grind (arith, nat_tests, drop_here, count-append)
 
 pub more_by : (by all here rest : ℕ) → all ≡ here + rest → by * all ≡ by * here + by * rest
 more_by by all here rest e = let f = ap (λ (k : ℕ). by * k) e in omega (arith, f)

@@ -1,4 +1,5 @@
 -- Reversed blossoms, and the parity of their parts.
+use Rattle.std.proofs.lemmas.Bool.Decides.{nat_tests}
 use Rattle.std.proofs.Common.{◌≡◌, ℕ, ◌+◌, ◌%◌, ◌≤◌, ◌<◌, inl, inr, List, [], ◌∷◌, ◌++◌, length, take, drop, arith, refl, sym, ap, subst, ◌∙◌, append_assoc, length-append}
 use Rattle.std.proofs.lemmas.List.{length-take, take-append-drop}
 use Rattle.std.specs.List.{flat_map}
@@ -9,7 +10,6 @@ use Rattle.odd_sets.specs.Blossoms.{reversed_edge, members_in, dual_sets_in, par
 use Rattle.odd_sets.specs.SoundSets.{IsSoundPart, IsSymmetric, IsTight}
 use Rattle.odd_sets.specs.Expansions.{HoldsAtEvenIndex, IsEvenlyOriented, last_edge_of, reversed_blossom, reversed_onto}
 use Rattle.odd_sets.specs.declared.odd_set.TightEdge.{TightEdge}
-use Rattle.odd_sets.specs.Shrinks.{part_with_edge}
 use Rattle.odd_sets.specs.Values.{PartValue}
 use Rattle.odd_sets.proofs.ListLemmas.{each-turned}
 use Rattle.odd_sets.proofs.SumLemmas.{bands_each, members_each}
@@ -93,8 +93,7 @@ mirror_linked p q qs l =
     (told_linked top (last_edge_of q.next qs).from q first qs [] refl (linked_left q qs (p ∷ []) l.1) ((l.0.1, l.0.0), tt) end.0)
 
 mirror_size : (ps : List PartValue) → length (reversed_blossom ps) ≡ length ps
-mirror_size [] = refl
-mirror_size (p ∷ ps) = omega (arith, told_size p.next ps [])
+mirror_size ps = grind (arith, nat_tests, told_size)
 
 mirror_is_blossom : (ps : List PartValue) → IsBlossom ps → IsBlossom (reversed_blossom ps)
 mirror_is_blossom [] r = r
@@ -107,8 +106,7 @@ mirror_is_blossom (p ∷ q ∷ qs) r = record {
 }
 
 mirror_sum : (f : OddSetValue → ℕ) (ps : List PartValue) → sum_in f (reversed_blossom ps) ≡ sum_in f ps
-mirror_sum f [] = refl
-mirror_sum f (p ∷ ps) = omega (arith, told_sum f p.next ps [])
+mirror_sum f ps = grind (arith, nat_tests, told_sum)
 
 mirror_places : (x : ℕ) (ps : List PartValue) → count x (members_in (reversed_blossom ps)) ≡ count x (members_in ps)
 mirror_places x ps = omega (arith, members_each, mirror_sum (λ (s : OddSetValue). count x s.members) ps)
@@ -118,12 +116,7 @@ mirror_bands F add ps = omega (arith, bands_each F add, mirror_sum (λ (s : OddS
 
 mirror_firm : (d : TableValue) (h : ℕ → ℕ) → IsSymmetric d → (ps : List PartValue) → Each (IsSoundPart d h) ps
     → Each (IsSoundPart d h) (reversed_blossom ps)
-mirror_firm d h sy [] f = tt
-mirror_firm d h sy (p ∷ ps) f = (
-  record { next = tight_back d h (last_edge_of p.next ps) sy (last_firm d h p ps f); odd_set = f.0.odd_set },
-  told_firm d h sy p.next ps []
-      f.0.next f.1 tt,
-)
+mirror_firm d h h1 ps h2 = grind (arith, nat_tests, tight_back, last_firm, told_firm)
 
 -- a part that holds the place, and the parts before it
 record HeldAt (x : ℕ) (ps : List PartValue) (i : ℕ) : Type 0 where
@@ -245,10 +238,3 @@ goes_back entry exit old blossom back i is turned first low holds odd e =
 
 pub turned_places : (x : ℕ) (old blossom : List PartValue) → IsRotated old blossom → count x (members_in blossom) ≡ count x (members_in old)
 turned_places x old blossom turned = ap (λ (qs : List PartValue). count x (members_in qs)) turned.is ∙ members_turned x turned.at old
-
--- no part remains, and the first part comes before the reversed ones
-pub told_whole : (link : TightEdge) (v : OddSetValue) (left told all : List PartValue) → length left ≡ 0
-    → part_with_edge v (reversed_edge (last_edge_of link left)) ∷ reversed_onto link left told ≡ all
-    → part_with_edge v (reversed_edge link) ∷ told ≡ all
-told_whole link v [] told all none e = e
-told_whole link v (p ∷ left) told all none e = absurd (omega (arith, none))

@@ -1,4 +1,5 @@
 -- The blossom that the loop closes.
+use Rattle.std.proofs.lemmas.Bool.Decides.{nat_tests}
 use Rattle.std.proofs.Common.{◌≡◌, ℕ, ◌+◌, ◌%◌, ◌≤◌, List, [], ◌∷◌, ◌++◌, length, reverse, arith, refl, sym, ap, subst, ◌∙◌, ◌<◌}
 use Rattle.std.proofs.lemmas.List.{append-nil}
 use Rattle.odd_sets.specs.TableValue.{TableValue}
@@ -47,16 +48,7 @@ pub folded_root : (link : TightEdge) (root blossom : OddSetValue) (tree : List B
     (aside : List BranchValue) (way : TightEdge) (to : ℕ) → IsOpenChain link root tree [] chain aside way to
     → ((x : ℕ) → count x blossom.members ≡ count x root.members + count x (members_in chain))
     → FoldsOuters blossom root blossom tree (reverse aside)
-folded_root link root blossom tree chain aside way to k all = record {
-  same = λ a x none. omega (arith, k.outers a x (omega (arith, none, all a)), all a, none);
-  holds = λ a x. omega arith;
-  apart = λ a x here none. omega (
-    arith,
-    none,
-    around_first a x [] (reverse aside) (omega (arith, k.once a, k.places a, all a, here)),
-  );
-  sound = λ t h root_sound firm. root_sound;
-}
+folded_root link root blossom tree chain aside way to h1 h2 = grind (arith, nat_tests, around_first)
 
 pub blossom_from : (top : OddSetValue) (way : TightEdge) (chain : List PartValue) (to : ℕ) → CanClose top way chain to → IsOddSet top
     → IsBlossom (part_with_edge top way ∷ chain)
@@ -82,21 +74,13 @@ not_empty link s way to (p ∷ ps) begun apart from back = omega arith
 
 same_size : (t : TableValue) (h : ℕ → ℕ) (n : ℕ) → n ≡ t.places → (ps : List PartValue) → Each (IsSoundPart t h) ps
     → Each (λ (p : PartValue). length p.odd_set.near ≡ n) ps
-same_size t h n e ps f = each-map (IsSoundPart t h) (λ (p : PartValue). length p.odd_set.near ≡ n) (λ p k. k.odd_set.near.0.size ∙ sym e) ps
-    f
+same_size t h n h1 ps h2 = grind (arith, nat_tests, each-map)
 
 -- the rows of a set and of a firm chain
 have_rows : (t : TableValue) (h : ℕ → ℕ) (top : OddSetValue) (way : TightEdge) (chain : List PartValue) → IsSoundSet t h top
     → Each (IsSoundPart t h) chain → ((x : ℕ) → 1 ≤ count x top.members + count x (members_in chain) → x < t.places)
     → HaveSlacks (length top.near) (part_with_edge top way ∷ chain)
-have_rows t h top way chain s f within = record {
-  rows = (refl, same_size t h (length top.near) s.near.0.size chain f);
-  within = λ x here. omega (
-    arith,
-    within x (omega (arith, here, count-append)),
-    s.near.0.size,
-  );
-}
+have_rows t h top way chain h1 h2 h3 = grind (arith, nat_tests, same_size, count-append)
 
 pub closable : (link : TightEdge) (root : OddSetValue) (tree left bs : List BranchValue) (b : BranchValue) (chain : List PartValue)
     (aside : List BranchValue)

@@ -1,4 +1,5 @@
 -- The slot of a blossom that closes.
+use Rattle.std.proofs.lemmas.Bool.Decides.{nat_tests}
 use Rattle.std.proofs.Common.{◌≡◌, ℕ, ◌+◌, List, [], ◌∷◌, ◌++◌, length, reverse, arith, length-append, refl, sym, ap, subst, ◌∙◌}
 use Rattle.std.proofs.lemmas.List.{length-map, map-append}
 use Rattle.odd_sets.specs.Lists.{Each}
@@ -22,12 +23,7 @@ use Rattle.odd_sets.proofs.ShrinkLemmas.{closed_inside, closed_root}
 -- a key in the sets of a search
 pub all_uses : (k : ℕ) (root : OddSetValue) (tree : List BranchValue) (rest : List MatchValue) → key_count k (all_dual_sets root tree rest)
     ≡ key_count k (dual_sets root) + key_count k (branch_dual_sets tree) + key_count k (match_dual_sets rest)
-all_uses k root tree rest =
-    omega (
-      arith,
-      key_count-append k (dual_sets root) (branch_dual_sets tree ++ match_dual_sets rest),
-      key_count-append k (branch_dual_sets tree) (match_dual_sets rest),
-    )
+all_uses k root tree rest = grind (arith, nat_tests, key_count-append)
 
 -- what the sets of the last branch keep
 pub last_kept : (link : TightEdge) (root : OddSetValue) (tree left bs : List BranchValue) (b : BranchValue) (chain : List PartValue)

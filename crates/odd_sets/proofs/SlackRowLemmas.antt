@@ -1,4 +1,5 @@
 -- The slacks from sets to the vertices outside them.
+use Rattle.std.proofs.lemmas.Bool.Decides.{nat_tests}
 use Rattle.std.proofs.Common.{◌≡◌, ◌≢◌, ℕ, ◌+◌, ◌-◌, ◌*◌, ◌≤◌, ◌<◌, ◌⊎◌, inl, inr, suc, zero, List, [], ◌∷◌, ◌++◌, length, take, get_or, set, map, min, Bool, true, false, cond, eqb, ltb, arith, refl, sym, ap, subst, ◌∙◌, get_or-set_other, get_or-set_same}
 use Rattle.std.proofs.lemmas.Bool.{cases_lt, eqb-false, eqb-true, ltb-true, ltb-false}
 use Rattle.std.proofs.lemmas.Grind.{same_number_lists}
@@ -15,22 +16,20 @@ use Rattle.odd_sets.specs.TableValue.{TableValue}
 use Rattle.odd_sets.specs.Tables.{entry, IsTable}
 use Rattle.odd_sets.specs.declared.table.TheConstants.{FAR, MAX_DISTANCE}
 use Rattle.odd_sets.specs.Values.{PartValue}
-use Rattle.odd_sets.proofs.SumLemmas.{count-append, hit_is, hit_same}
+use Rattle.odd_sets.proofs.SumLemmas.{by_count, count-append, hit_is, hit_same}
 
 pub far_is : FAR ≡ 2 * MAX_DISTANCE + 1
 far_is = refl
 
 not_case : (b : Bool) (x y : ℕ) → eqb x y ≡ b → (x ≡ y → ⊥) → cond b 1 0 ≤ 0
-not_case true x y e ne = absurd (ne (eqb-true x y e))
-not_case false x y e ne = omega arith
+not_case b x y h1 h2 = grind (arith, nat_tests, eqb-true)
 
 pub not_hit : (x y : ℕ) → (x ≡ y → ⊥) → one_if_equal x y ≤ 0
 not_hit x y ne = not_case (eqb x y) x y refl ne
 
 pub counts_next : (members : List ℕ) (i x : ℕ) → i < length members
     → count x (take (i + 1) members) ≡ count x (take i members) + one_if_equal x (get_or members i 0)
-counts_next members i x low =
-    omega (arith, ap (λ (ys : List ℕ). count x ys) (number_here members i low), count-append)
+counts_next members i x h1 = grind (arith, nat_tests, number_here, count-append)
 
 put_case : (p : Bool) (x m v : ℕ) (cells : List ℕ) → eqb x m ≡ p → m < length cells → (x ≢ m → get_or cells x 0 ≡ v)
     → get_or (set cells m v) x 0 ≡ v
@@ -59,15 +58,13 @@ put_others members cells first i v low others x none =
     rw get_or-set_other (others x (omega (arith, none, counts_next members i x low)))
 
 near_case : (p : Bool) (by left : ℕ) → ltb left FAR ≡ p → left < FAR → cond p (left - by) left ≡ left - by
-near_case true by left e near = refl
-near_case false by left e near = absurd (omega (arith, ltb-false left FAR e, near))
+near_case p by left h1 h2 = grind (arith, nat_tests, ltb-false)
 
 pub lowered_near : (by left : ℕ) → left < FAR → lowered_slack by left ≡ left - by
 lowered_near by left near = near_case (ltb left FAR) by left refl near
 
 far_case : (p : Bool) (by left : ℕ) → ltb left FAR ≡ p → left ≡ FAR → cond p (left - by) left ≡ FAR
-far_case true by left e far = absurd (omega (arith, ltb-true left FAR e, far))
-far_case false by left e far = far
+far_case p by left h1 h2 = grind (arith, nat_tests, ltb-true)
 
 pub lowered_far : (by left : ℕ) → left ≡ FAR → lowered_slack by left ≡ FAR
 lowered_far by left far = far_case (ltb left FAR) by left refl far
@@ -123,35 +120,17 @@ over t h s a k one = omega (arith, k.local a (omega (arith, one)), times_one s.d
 -- the slack from a set to x, less its dual, is at most that from each member
 pub near_least : (t : TableValue) (h : ℕ → ℕ) (s : OddSetValue) (a x : ℕ) → IsSoundSet t h s → count a s.members ≡ 1
     → count x s.members ≡ 0 → x < t.places → lowered_slack s.dual (get_or s.near x 0) ≤ 2 * entry t a x - h a
-near_least t h s a x k one none lx =
-    omega (
-      arith,
-      lowered_near s.dual (get_or s.near x 0) (k.near.0.short x none lx),
-      k.near.0.least a x (omega (arith, one)) none lx,
-      over t h s a k one,
-    )
+near_least t h s a x h1 h2 h3 h4 = grind (arith, nat_tests, lowered_near, over)
 
 -- some member has that slack
 pub near_is : (t : TableValue) (h : ℕ → ℕ) (s : OddSetValue) (x : ℕ) → IsSoundSet t h s → ((y : ℕ) → count y s.members ≤ 1)
     → count x s.members ≡ 0 → x < t.places → IsLeftAt t h s.members x (lowered_slack s.dual (get_or s.near x 0))
-near_is t h s x k once none lx =
-    let r = k.near.0.is x none lx in
-    record {
-      a = r.a;
-      here = r.here;
-      exact = omega (
-        arith,
-        lowered_near s.dual (get_or s.near x 0) (k.near.0.short x none lx),
-        r.exact,
-        over t h s r.a k (omega (arith, r.here, once r.a)),
-      );
-    }
+near_is t h s x h1 h2 h3 h4 = grind (arith, nat_tests, lowered_near, over)
 
 least_case : (n : ℕ) (t : TableValue) (h : ℕ → ℕ) (p : PartValue) (rest a x : ℕ) → count a p.odd_set.members ≡ n → n ≤ 1
     → IsSoundSet t h p.odd_set → count x p.odd_set.members ≡ 0 → x < t.places → (n ≡ 0 → rest ≤ 2 * entry t a x - h a)
     → min (lowered_slack p.odd_set.dual (get_or p.odd_set.near x 0)) rest ≤ 2 * entry t a x - h a
-least_case zero t h p rest a x e few k none lx later = omega (arith, later refl)
-least_case (suc n) t h p rest a x e few k none lx later = omega (arith, near_least t h p.odd_set a x k (omega (arith, e, few)) none lx)
+least_case n t h p rest a x h1 h2 h3 h4 h5 h6 = grind (arith, nat_tests, near_least)
 
 -- no member of the parts has a lesser slack
 least_low : (t : TableValue) (h : ℕ → ℕ) (ps : List PartValue) (a x : ℕ) → Each (IsSoundPart t h) ps → count a (members_in ps) ≤ 1
@@ -166,11 +145,7 @@ least_low t h (p ∷ ps) a x f once here none lx =
 
 min_case : (t : TableValue) (h : ℕ → ℕ) (xs ys : List ℕ) (x one rest : ℕ) → IsLeftAt t h xs x one
     → (rest ≡ FAR) ⊎ IsLeftAt t h ys x rest → one < FAR → (one < rest) ⊎ (rest ≤ one) → IsLeftAt t h (xs ++ ys) x (min one rest)
-min_case t h xs ys x one rest k later near (inl less) =
-    record { a = k.a; here = omega (arith, k.here, count-append); exact = omega (arith, k.exact, less) }
-min_case t h xs ys x one rest k (inl far) near (inr more) = absurd (omega (arith, far, more, near))
-min_case t h xs ys x one rest k (inr l) near (inr more) =
-    record { a = l.a; here = omega (arith, l.here, count-append); exact = omega (arith, l.exact, more) }
+min_case t h xs ys x one rest h1 h2 h3 h4 = grind (arith, nat_tests, count-append)
 
 least_with : (t : TableValue) (h : ℕ → ℕ) (p : PartValue) (ps : List PartValue) (x : ℕ) → IsSoundSet t h p.odd_set
     → ((y : ℕ) → count y (members_in (p ∷ ps)) ≤ 1) → count x (members_in (p ∷ ps)) ≡ 0 → x < t.places
@@ -203,12 +178,10 @@ least_is t h p ps x f once none lx =
     (least_rest t h ps x f.1 (λ y. omega (arith, once y, c y)) (omega (arith, none, c x)) lx)
 
 in_case : (b : Bool) (n v : ℕ) → ltb 0 n ≡ b → 1 ≤ n → cond b FAR v ≡ FAR
-in_case true n v e here = refl
-in_case false n v e here = absurd (omega (arith, ltb-false 0 n e, here))
+in_case b n v h1 h2 = grind (arith, nat_tests, ltb-false)
 
 out_case : (b : Bool) (n v : ℕ) → ltb 0 n ≡ b → n ≡ 0 → cond b FAR v ≡ v
-out_case true n v e none = absurd (omega (arith, ltb-true 0 n e, none))
-out_case false n v e none = refl
+out_case b n v h1 h2 = grind (arith, nat_tests, ltb-true)
 
 -- a blossom's cell at a member, and at any other place
 blossom_own : (ps : List PartValue) (x : ℕ) → 1 ≤ count x (members_in ps) → blossom_slack ps x ≡ FAR
@@ -268,20 +241,9 @@ merge_next n parts i p near dual cells new low is e f merged size so_far x lx =
       ap (λ (ks : List PartValue). least_part_slack ks x) (take_here parts i p low is),
     )
 
-row_case : (n : ℕ) (ps : List PartValue) (x v w : ℕ) → count x (members_in ps) ≡ n → v ≡ least_part_slack ps x → (1 ≤ n → w ≡ FAR)
-    → (n ≡ 0 → w ≡ v) → w ≡ blossom_slack ps x
-row_case zero ps x v w e is on off = off refl ∙ is ∙ sym (blossom_other ps x e)
-row_case (suc n) ps x v w e is on off = on (omega arith) ∙ sym (blossom_own ps x (omega (arith, e)))
-
 -- merged cells that are cleared at the members are the row
 pub row_is : (n : ℕ) (ps : List PartValue) (members mid new : List ℕ) → members ≡ members_in ps → length new ≡ n
     → ((x : ℕ) → x < n → get_or mid x 0 ≡ least_part_slack ps x) → ((x : ℕ) → 1 ≤ count x members → get_or new x 0 ≡ FAR)
     → ((x : ℕ) → count x members ≡ 0 → get_or new x 0 ≡ get_or mid x 0) → new ≡ blossom_slacks_of n ps
-row_is n ps members mid new e same merged on off =
-    let all = length-map-range_with_len (blossom_slack ps) 0 n in
-    let c = λ (x : ℕ). ap (λ (xs : List ℕ). count x xs) e in
-    same_number_lists new (blossom_slacks_of n ps) (same ∙ sym all) (λ x lx.
-    let low : x < n = omega (arith, lx, same) in
-    row_case (count x (members_in ps)) ps x (get_or mid x 0) (get_or new x 0) refl (merged x low)
-    (λ here. on x (omega (arith, here, c x))) (λ none. off x (omega (arith, none, c x)))
-    ∙ sym (at_row (blossom_slack ps) n x low))
+row_is n ps members mid new h1 h2 h3 h4 h5 =
+    grind (arith, nat_tests, length-map-range_with_len, same_number_lists, by_count, blossom_other, blossom_own, at_row)

@@ -1,4 +1,5 @@
 -- Sets in slots, after a slot is inserted or removed.
+use Rattle.std.proofs.lemmas.Bool.Decides.{nat_tests}
 use Rattle.std.proofs.Common.{◌≡◌, ℕ, zero, suc, ◌+◌, ◌≤◌, ◌<◌, List, [], ◌∷◌, ◌++◌, map, length, ltb, Option, Some, None, IsSome, arith, length-append, refl, sym, ap, subst, ◌∙◌}
 use Rattle.std.proofs.lemmas.Bool.{lt-ltb}
 use Rattle.slab.specs.Slab.{get, ContainsKey, Updates}
@@ -76,9 +77,7 @@ made_to a sets s is =
     (levels a (length (members_at sets s.key)) sets s.key is (omega arith))
 
 made_some : (ms : List ℕ) (ps : List PartValue) → IsVertexOrBlossom ms ps → 1 ≤ length ms
-made_some ms [] made = omega (arith, made)
-made_some ms (p ∷ ps) made =
-    omega (arith, ap (λ (ks : List ℕ). length ks) made.0, made.1.kept.0.odd, length-append p.odd_set.members (members_in ps))
+made_some ms ps h1 = grind (arith, nat_tests, length-append)
 
 each_both : {X : Type 0} (P Q R : X → Type 0) (f : (x : X) → P x → Q x → R x) (xs : List X) → Each P xs → Each Q xs → Each R xs
 each_both P Q R f [] p q = tt
@@ -226,9 +225,7 @@ seat_kept old new s is same =
     )
 
 pub kept_append : (old new : Slots) (xs ys : List DualSet) → AreKept old new xs → AreKept old new ys → AreKept old new (xs ++ ys)
-kept_append old new xs ys a b = record {
-  sets = λ j u. either (key_count j xs) (key_count j ys) (a.sets j) (b.sets j) (omega (arith, u, key_count-append j xs ys));
-}
+kept_append old new xs ys h1 h2 = grind (arith, nat_tests, either, key_count-append)
 
 -- the slots of these sets stay, and there are sets in them
 pub record CanKeep (old new : Slots) (was : List DualSet) : Type 0 where
@@ -319,17 +316,12 @@ keep_branches old new (b ∷ bs) c =
     }
 
 pub no_slot : (sets : Slots) (j key : ℕ) → ContainsKey sets j → j ≡ key → get sets key ≡ None → ⊥
-no_slot sets j key has e none =
-    let gone = subst (λ (o : Option Slot). IsSome o) (ap (get sets) e ∙ none) has in
-    absurd (cc)
+no_slot sets j key h1 h2 h3 = cc
 
 -- a key more changes no set that was there
 pub inserted_keeps : (old new : Slots) (key : ℕ) (was : List DualSet) → get old key ≡ None → KeepsOtherSlots old new key
     → ((j : ℕ) → 1 ≤ key_count j was → IsSet old j) → CanKeep old new was
-inserted_keeps old new key was fresh others each = record {
-  each = each;
-  same = λ j u. others j (λ e. no_slot old j key (has_slot old j (each j u)) e fresh);
-}
+inserted_keeps old new key was h1 h2 h3 = grind (arith, nat_tests, no_slot, has_slot)
 
 -- a key less changes no set without it
 pub removed_keeps : (old new : Slots) (key : ℕ) (was : List DualSet) → KeepsOtherSlots old new key → key_count key was ≡ 0

@@ -22,24 +22,10 @@ pub record Laying (root : OddSetValue) (old : List BranchValue) (blossom : List 
       → SplitsBlossom root old blossom up pair
       outer new cs
 
-pub laying_start : (root : OddSetValue) (old : List BranchValue) (blossom left : List PartValue) (up pair : TightEdge) (outer : OddSetValue)
-    → CanSplitBlossom root old blossom up pair outer → left ≡ blossom →
-    Laying root old blossom up pair outer old left up
-laying_start root old blossom left up pair outer can e =
-    subst (λ (ps : List PartValue). Laying root old blossom up pair outer old ps up) (sym e) (record { can = can; does = λ new cs l. l })
-
 not_here : (x : ℕ) (p q : PartValue) (ps : List PartValue) → HoldsAtEvenIndex x (p ∷ q ∷ ps) → count x p.odd_set.members ≡ 0
     → HoldsAtEvenIndex x ps
 not_here x p q ps (inl h) none = absurd (omega arith)
 not_here x p q ps (inr h) none = h
-
-pub never_alone : (root : OddSetValue) (now : List BranchValue) (p : PartValue) (way pair : TightEdge) (outer : OddSetValue)
-    → CanSplitBlossom root now (p ∷ []) way pair outer → count pair.from p.odd_set.members ≡ 0 → ⊥
-never_alone root now p way pair outer can none = omega (arith, can.exit)
-
-pub never_empty : (root : OddSetValue) (now : List BranchValue) (way pair : TightEdge) (outer : OddSetValue)
-    → CanSplitBlossom root now [] way pair outer → ⊥
-never_empty root now way pair outer can = can.exit
 
 abbrev branch_of : TightEdge → OddSetValue → TightEdge → OddSetValue → BranchValue
 branch_of u i p o = record { up = u; inner = i; pair = p; outer = o }

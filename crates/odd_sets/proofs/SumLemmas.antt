@@ -1,10 +1,21 @@
 -- Counts, heights and loads of joined lists, and of the sets of items.
-use Rattle.std.proofs.Common.{◌≡◌, ℕ, ◌+◌, ◌-◌, ◌*◌, ◌≤◌, List, [], ◌∷◌, ◌++◌, arith, refl, cond, eqb, length, length-append, Bool, true, false, ap, ◌∙◌}
+use Rattle.std.proofs.lemmas.Bool.Decides.{nat_tests}
+use Rattle.std.proofs.Common.{◌≡◌, ℕ, zero, suc, ◌+◌, ◌-◌, ◌*◌, ◌≤◌, ◌⊎◌, inl, inr, List, [], ◌∷◌, ◌++◌, arith, refl, cond, eqb, length, length-append, Bool, true, false, ap, ◌∙◌}
 use Rattle.std.proofs.lemmas.Bool.{eqb-true, eq-eqb}
 use Rattle.std.proofs.lemmas.List.Concat.{flat_map-append}
 use Rattle.std.specs.List.{flat_map}
 use Rattle.odd_sets.specs.Lists.{sum_over}
 use Rattle.odd_sets.specs.DualSets.{DualSet, OddSetValue, IsAdditive, apart, dual_sets, dual_sets_of, count, height, one_if_equal, dual_load, members_onto, total, key_count, NoneHold, IsOddSet}
+
+-- what follows from a number that is 0 and from one that isn't
+pub by_count : {R : Type 0} (n : ℕ) → (n ≡ 0 → R) → (1 ≤ n → R) → R
+by_count zero none some = none refl
+by_count (suc n) none some = some (omega arith)
+
+-- what follows from each of two cases
+pub by_either : {A B R : Type 0} → (A → R) → (B → R) → A ⊎ B → R
+by_either one two (inl a) = one a
+by_either one two (inr b) = two b
 
 pub sum_over-append : {X : Type 0} (f : X → ℕ) (xs ys : List X) → sum_over f (xs ++ ys) ≡ sum_over f xs + sum_over f ys
 sum_over-append f [] ys = omega arith
@@ -77,8 +88,7 @@ pub hit_same : (x : ℕ) → one_if_equal x x ≡ 1
 hit_same x = rw (eq-eqb x x refl) refl
 
 hit_case : (b : Bool) (x y : ℕ) → eqb x y ≡ b → 1 ≤ cond b 1 0 → x ≡ y
-hit_case true x y e some = eqb-true x y e
-hit_case false x y e some = absurd (omega arith)
+hit_case b x y h1 h2 = grind (arith, nat_tests, eqb-true)
 
 pub hit_is : (x y : ℕ) → 1 ≤ one_if_equal x y → x ≡ y
 hit_is x y some = hit_case (eqb x y) x y refl some

@@ -1,4 +1,5 @@
 -- One entry of a table is set.
+use Rattle.std.proofs.lemmas.Bool.Decides.{nat_tests}
 use Rattle.std.proofs.Common.{◌≡◌, ◌≢◌, ℕ, ◌+◌, ◌*◌, ◌<◌, ◌≤◌, ◌&&◌, ◌||◌, ◌⊎◌, inl, inr, Bool, true, false, cond, eqb, List, length, max, min, set, get_or, arith, refl, sym, ap, subst, ◌∙◌, get_or-set_other, get_or-set_same, slice_index}
 use Rattle.std.proofs.Math.Nat.{mul-le-mul_right}
 use Rattle.std.proofs.lemmas.Bool.{cases_lt, eqb-true, eqb-false, eq-eqb}
@@ -9,9 +10,7 @@ use Rattle.odd_sets.specs.declared.table.TheConstants.{MAX_DISTANCE}
 
 -- a cell of a lower row comes first
 cell_before : (n a b x y : ℕ) → b < n → a < x → a * n + b < x * n + y
-cell_before n a b x y low less =
-    let m : (a + 1) * n ≤ x * n = mul-le-mul_right n (omega arith) in
-    omega (arith, m)
+cell_before n a b x y h1 h2 = grind (arith, nat_tests, mul-le-mul_right)
 
 -- neither row comes first
 same_row : (n a b x y : ℕ) → b < n → y < n → x * n + y ≡ a * n + b → x ≡ a
@@ -25,9 +24,7 @@ same_cell n a b x y low lower e =
     (row, omega (arith, there))
 
 pub in_cells : (n a b : ℕ) → a < n → b < n → a * n + b < n * n
-in_cells n a b low lower =
-    let m : (a + 1) * n ≤ n * n = mul-le-mul_right n (omega arith) in
-    omega (arith, m)
+in_cells n a b h1 h2 = grind (arith, nat_tests, mul-le-mul_right)
 
 both_true : (p q : Bool) → (p && q) ≡ true → (p ≡ true) × (q ≡ true)
 both_true true true e = (refl, refl)
@@ -35,9 +32,7 @@ both_true true false e = cc
 both_true false q e = cc
 
 made_true : (p q : Bool) → (p && q) ≡ false → p ≡ true → q ≡ true → ⊥
-made_true true true e f g = cc
-made_true true false e f g = cc
-made_true false q e f g = cc
+made_true p q h1 h2 h3 = cc
 
 set_same : (cells : List ℕ) (i k d : ℕ) → i < length cells → k ≡ i → get_or (set cells i d) k 0 ≡ d
 set_same cells i k d low e = ap (λ (m : ℕ). get_or (set cells i d) m 0) e ∙ get_or-set_same cells i d 0 low
@@ -66,18 +61,14 @@ set_either cells i j k d low lower (inl e) = other_case (eqb k j) cells i j k d 
 set_either cells i j k d low lower (inr e) = set_same (set cells i d) j k d (omega (arith, lower, length-set cells i d)) e
 
 on_pair : (n u v x y a b : ℕ) → IsPair u v x y → x ≡ a → y ≡ b → (u * n + v ≡ a * n + b) ⊎ (u * n + v ≡ b * n + a)
-on_pair n u v x y a b (inl p) e f = inl (one_cell n u v a b (p.0 ∙ e) (p.1 ∙ f))
-on_pair n u v x y a b (inr p) e f = inr (one_cell n u v b a (p.0 ∙ f) (p.1 ∙ e))
+on_pair n u v x y a b h1 h2 h3 = grind (arith, nat_tests, one_cell)
 
 swapped : {P Q : Type 0} → P ⊎ Q → Q ⊎ P
 swapped (inl p) = inr p
 swapped (inr q) = inl q
 
 off_pair : (u v x y a b : ℕ) → IsPair u v x y → (eqb x a && eqb y b) ≡ false → (eqb x b && eqb y a) ≡ false → u ≡ a → v ≡ b → ⊥
-off_pair u v x y a b (inl p) no_first no_second e f =
-    made_true (eqb x a) (eqb y b) no_first (eq-eqb x a (sym p.0 ∙ e)) (eq-eqb y b (sym p.1 ∙ f))
-off_pair u v x y a b (inr p) no_first no_second e f =
-    made_true (eqb x b) (eqb y a) no_second (eq-eqb x b (sym p.1 ∙ f)) (eq-eqb y a (sym p.0 ∙ e))
+off_pair u v x y a b h1 h2 h3 h4 h5 = grind (arith, nat_tests, made_true, eq-eqb)
 
 by_tests : (t s : Bool) (cells : List ℕ) (n a b d u v x y : ℕ) → length cells ≡ n * n → a < n → b < n → u < n → v < n → IsPair u v x y
     → (eqb x a && eqb y b) ≡ t → (eqb x b && eqb y a) ≡ s →
@@ -124,10 +115,7 @@ short_either false d k m p q = q
 
 -- no place is both
 alone_case : (p q : Bool) (a b d k x : ℕ) → eqb x a ≡ p → eqb x b ≡ q → a ≢ b → cond ((p && q) || (q && p)) d k ≡ k
-alone_case true true a b d k x e f ne = absurd (ne (sym (eqb-true x a e) ∙ eqb-true x b f))
-alone_case true false a b d k x e f ne = refl
-alone_case false true a b d k x e f ne = refl
-alone_case false false a b d k x e f ne = refl
+alone_case p q a b d k x h1 h2 h3 = grind (arith, nat_tests, eqb-true)
 
 set_keeps : (t : TableValue) → IsTable t → (a b d : ℕ) → a < t.places → b < t.places → d ≤ MAX_DISTANCE → IsTable (set_cells t a b d)
 set_keeps t is a b d la lb low = record {

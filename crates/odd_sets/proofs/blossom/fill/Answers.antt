@@ -1,15 +1,7 @@
-use Rattle.std.proofs.Common.{arith, ap, List, ℕ}
-use Rattle.odd_sets.specs.DualSets.{count}
+use Rattle.std.proofs.Common.{arith, ℕ}
 use Rattle.odd_sets.specs.Slots.{parts_in}
 use Rattle.odd_sets.proofs.SlackRowLemmas.{row_is}
 use Rattle.odd_sets.proofs.blossom.fill.Goals as goal
-
-pub put-requires : goal.put-requires
-put-requires c = λ x here. omega (
-  arith,
-  c.merge_all.auto.cells,
-  c.requires.rows.within x (omega (arith, here, ap (λ (ks : List ℕ). count x ks) c.requires.members)),
-)
 
 pub returns : goal.returns
 returns c =

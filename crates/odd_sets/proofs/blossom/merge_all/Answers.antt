@@ -1,15 +1,10 @@
 use Rattle.std.proofs.Common.{get_or, arith, ap, length, List, ℕ, refl, ◌≡◌, ◌∙◌}
-use Rattle.std.proofs.lemmas.List.{length-map, take_all}
-use Rattle.odd_sets.specs.BlossomSlacks.{least_part_slack}
 use Rattle.odd_sets.specs.Values.{PartValue}
 use Rattle.odd_sets.proofs.SlackRowLemmas.{merge_next}
 use Rattle.odd_sets.specs.Slots.{part_in, parts_in}
 use Rattle.odd_sets.proofs.ListLemmas.{each_here, mapped_item, mapped_low}
 use Rattle.odd_sets.proofs.HandleLemmas.{no_part}
 use Rattle.odd_sets.proofs.blossom.merge_all.Goals as goal
-
-pub loop-p-init : goal.loop-p-init
-loop-p-init c = record { done = λ x lx. c.requires.far x lx; size = refl }
 
 pub merge-requires : goal.merge-requires
 merge-requires c =
@@ -38,8 +33,3 @@ loop-p-preserved c =
           (ap (λ (ks : List ℕ). length ks) c.near.ensures ∙ row) c.loop-p.invariant.done;
       size = omega (arith, c.merge.auto.cells, c.loop-p.invariant.size);
     }
-
-pub returns : goal.returns
-returns c = λ x lx. c.loop-p.invariant.done x lx
-    ∙ ap (λ (ks : List PartValue). least_part_slack ks x) (take_all c.loop-p.p-index (parts_in c.args.sets.now c.args.parts.now)
-    (omega (arith, c.loop-p-test.false, length-map c.args.parts.now (part_in c.args.sets.now))))

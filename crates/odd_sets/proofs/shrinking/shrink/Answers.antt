@@ -1,26 +1,11 @@
-use Rattle.std.proofs.Common.{arith, ap, length, ◌≡◌, List, refl, subst}
+use Rattle.std.proofs.Common.{arith, length, ◌≡◌, refl, subst}
 use Rattle.std.proofs.lemmas.List.{length-map}
 use Rattle.odd_sets.specs.Shrinks.{Shrinks}
-use Rattle.odd_sets.specs.Slots.{branch_in, branches_in, parts_in, set_in, InsertsSet, Slots}
-use Rattle.odd_sets.specs.declared.branches.Branch.{Branch}
-use Rattle.odd_sets.specs.declared.odd_set.BlossomPart.{BlossomPart}
-use Rattle.odd_sets.proofs.ChainLemmas.{chaining_start}
+use Rattle.odd_sets.specs.Slots.{branch_in, branches_in, set_in, Slots}
 use Rattle.odd_sets.proofs.ListLemmas.{mapped_last}
 use Rattle.odd_sets.proofs.ShrinkLemmas.{closable, closable_root}
 use Rattle.odd_sets.proofs.ShrunkLemmas.{last_kept, blossom_sets, root_sets, shrunk_inside, shrunk_root}
 use Rattle.odd_sets.proofs.shrinking.shrink.Goals as goal
-
-pub loop-b-init : goal.loop-b-init
-loop-b-init c =
-    let sets = c.args.sets.now in
-    record {
-      same = refl;
-      can = c.requires.can;
-      stand = c.requires.sets;
-      goes = chaining_start c.args.link (set_in sets c.args.root.now) (branches_in sets c.args.tree.now.items) _ _ c.requires.can
-          (ap (λ (ps : List BlossomPart). parts_in sets ps) c.new.ensures.items)
-          (ap (λ (ks : List Branch). branches_in sets ks) c.new-aside.ensures.items);
-    }
 
 pub close-requires-clause-can : goal.close-requires-clause-can
 close-requires-clause-can c =
@@ -43,10 +28,6 @@ close-requires-clause-sets c =
     let i = c.loop-b.invariant in
     blossom_sets sets c.args.link _ _ (branches_in sets c.loop-b.tree.items) (branches_in sets c.pop.new.self.items)
     (branch_in sets c.in-Some.b) _ _ _ _ i.goes (mapped_last (branch_in sets) _ _ _ c.in-Some.ensures.items) i.stand
-
-pub returns-then-ends_in-clause-inserts : goal.returns-then-ends_in-clause-inserts
-returns-then-ends_in-clause-inserts c =
-    subst (λ (s : Slots). InsertsSet s c.close.new.sets c.in_ok-outer.outer.key) c.loop-b.invariant.same c.in_ok-outer.ensures.inserts
 
 pub returns-then-ends_in-clause-shrinks : goal.returns-then-ends_in-clause-shrinks
 returns-then-ends_in-clause-shrinks c =
@@ -84,19 +65,11 @@ close-requires-2-clause-can c =
     omega (arith, c.in_default.ensures.cases, length-map c.loop-b.tree.items (branch_in sets)) in
     closable_root c.args.link _ _ (branches_in sets c.loop-b.tree.items) _ _ _ _ i.can i.goes none
 
-pub close-requires-2-clause-kept : goal.close-requires-2-clause-kept
-close-requires-2-clause-kept c = c.loop-b.invariant.can.sound.kept
-
 pub close-requires-2-clause-sets : goal.close-requires-2-clause-sets
 close-requires-2-clause-sets c =
     let sets = c.loop-b.sets in
     let i = c.loop-b.invariant in
     root_sets sets c.args.link _ _ (branches_in sets c.loop-b.tree.items) _ _ _ _ i.goes i.stand
-
-pub returns-clause-inserts : goal.returns-clause-inserts
-returns-clause-inserts c =
-    subst (λ (s : Slots). InsertsSet s c.close-2.new.sets c.in_ok-blossom.blossom.key) c.loop-b.invariant.same
-    c.in_ok-blossom.ensures.inserts
 
 pub returns-clause-shrinks : goal.returns-clause-shrinks
 returns-clause-shrinks c =
