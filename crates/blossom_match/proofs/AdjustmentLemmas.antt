@@ -1,4 +1,5 @@
 -- After a change of duals the step can be made, and the invariants still hold.
+use Rattle.std.proofs.lemmas.Bool.Decides.{nat_tests}
 use Rattle.std.proofs.Common.{◌≡◌, ◌≢◌, ℕ, ◌+◌, ◌*◌, ◌^◌, ◌≤◌, ◌<◌, suc, zero, List, [], ◌∷◌, flat_map, length, drop, arith, refl, sym, ap, subst, ◌∙◌}
 use Rattle.odd_sets.specs.Lists.{Each}
 use Rattle.odd_sets.specs.DualSets.{DualSet, OddSetValue, apart, dual_sets, count, height, dual_load, with_dual}
@@ -17,7 +18,7 @@ use Rattle.odd_sets.specs.Values.{BranchValue, MatchValue, SearchValue}
 use Rattle.blossom_match.specs.declared.search.SearchStep.{SearchStep}
 use Rattle.blossom_match.specs.declared.search.SearchStep.TheVariants.{Augment, Grow, Shrink, Expand}
 use Rattle.blossom_match.specs.declared.least.DualChange.{DualChange}
-use Rattle.odd_sets.proofs.CallerLemmas.{each-right, count-append, members-append, some_member, base_in, grown-right, entry-comm}
+use Rattle.odd_sets.proofs.CallerLemmas.{each-right, count-append, members-append, some_member, base_in, grown-right, entry-comm, by_count}
 use Rattle.blossom_match.proofs.ScanLemmas.{apart_from}
 use Rattle.blossom_match.proofs.SearchLemmas.{in_place, is_one, place_in}
 use Rattle.blossom_match.proofs.FreeLemmas.{load_of, load_of-comm, under}
@@ -149,19 +150,13 @@ moved by s r ch can x =
       times_by by _ _ _ (members-append outer_sets x s.root.members [] s.tree),
     )
 
--- the bound on a place of an outer set and any other that no set holds with it
-slack_case : (n : ℕ) (t : TableValue) (h : ℕ → ℕ) (s : SearchValue) (c : DualChange) (a b : ℕ) → IsSearch t h s → IsLeastChange t h s c
-    → b < t.places
-    → 1 ≤ count a (outer_vertices s) → count b (inner_members s.tree) ≡ 0 → search_holding_both a b s ≡ 0 →
-    count b (outer_vertices s) ≡ n → h a + h b + c.by ≤ 2 * entry t a b
-slack_case zero t h s c a b i bd lb ha none apart e = bd.one a b ha (omega (arith, i.places b, in_place t b lb, none, e))
-slack_case (suc n) t h s c a b i bd lb ha none apart e = omega (arith, bd.two a b ha (omega (arith, e)) apart)
-
 one_slack : (t : TableValue) (h : ℕ → ℕ) (s : SearchValue) (c : DualChange) (a b : ℕ) → IsSearch t h s → IsLeastChange t h s c
     → b < t.places
     → 1 ≤ count a (outer_vertices s) → count b (inner_members s.tree) ≡ 0 → search_holding_both a b s ≡ 0 →
     h a + h b + c.by ≤ 2 * entry t a b
-one_slack t h s c a b i bd lb ha none apart = slack_case (count b (outer_vertices s)) t h s c a b i bd lb ha none apart refl
+one_slack t h s c a b i bd lb ha none apart = by_count (count b (outer_vertices s))
+    (λ e. bd.one a b ha (omega (arith, i.places b, in_place t b lb, none, e)))
+    (λ e. omega (arith, bd.two a b ha e apart))
 
 abbrev apart_of : ℕ → ℕ → OddSetValue → ℕ
 apart_of a b n = apart (count a n.members) (count b n.members)
@@ -169,34 +164,6 @@ apart_of a b n = apart (count a n.members) (count b n.members)
 sum_all : (by r1 r2 r3 s1 s2 s3 c2 ao bo bi : ℕ) → r1 ≡ s1 + by * ao → r2 ≡ c2 → r3 ≡ s3 → c2 + by * bi ≡ s2 + by * bo
     → r1 + r2 + r3 + by * bi ≡ s1 + s2 + s3 + by * (ao + bo)
 sum_all by r1 r2 r3 s1 s2 s3 c2 ao bo bi e f g k = omega arith
-
--- exactly one of the two places, or each, is in an outer set
-one_case : (n : ℕ) (t : TableValue) (h : ℕ → ℕ) (s : SearchValue) (c : DualChange) (a b : ℕ) → IsSearch t h s → IsLeastChange t h s c
-    → a < t.places
-    → b < t.places → count a (outer_vertices s) ≡ n → 1 ≤ count a (outer_vertices s) + count b (outer_vertices s) →
-    count a (inner_members s.tree) + count b (inner_members s.tree) ≡ 0 → search_holding_both a b s ≡ 0
-    → load_of s a b + c.by ≤ 2 * entry t a b
-one_case (suc n) t h s c a b i bd la lb e some none apart =
-    omega (
-      arith,
-      loads_apart t h s a b i (omega (arith, e)) apart,
-      under t h s a i,
-      under t h s b i,
-      one_slack t h s c a b i bd lb
-          (omega (arith, e)) (omega (arith, none)) apart,
-    )
-one_case zero t h s c a b i bd la lb e some none apart =
-    let other : search_holding_both b a s ≡ 0 = omega (arith, apart, outer_with_both-comm a b s.tree) in
-    omega (
-      arith,
-      load_of-comm s a b,
-      loads_apart t h s b a i (omega (arith, some, e)) other,
-      under t h s a i,
-      under t h s b i,
-      one_slack t h
-          s c b a i bd la (omega (arith, some, e)) (omega (arith, none)) other,
-      entry-comm t a b,
-    )
 
 -- the load between two places stays within its bound
 loads_stay : (t : TableValue) (h : ℕ → ℕ) (s r : SearchValue) (c : DualChange) → IsSearch t h s → IsLeastChange t h s c
@@ -226,7 +193,26 @@ loads_stay t h s r c i bd ch can a b la lb ne =
     (branches_load a b by tree can))
     (omega (arith, counted a b (flat_map outer_sets tree), oa, ob)) (counted a b (flat_map inner_sets tree))
     (omega (arith, pa, is_one t a)) (omega (arith, pb, is_one t b)) (i.loads a b la lb ne)
-    (λ some none apart. one_case (count a (outer_vertices s)) t h s c a b i bd la lb refl some none apart)
+    (λ some none apart. by_count (count a (outer_vertices s))
+    (λ e. let other : search_holding_both b a s ≡ 0 = omega (arith, apart, outer_with_both-comm a b s.tree) in
+    omega (
+      arith,
+      load_of-comm s a b,
+      loads_apart t h s b a i (omega (arith, some, e)) other,
+      under t h s a i,
+      under t h s b i,
+      one_slack t h
+          s c b a i bd la (omega (arith, some, e)) (omega (arith, none)) other,
+      entry-comm t a b,
+    ))
+    (λ e. omega (
+      arith,
+      loads_apart t h s a b i e apart,
+      under t h s a i,
+      under t h s b i,
+      one_slack t h s c a b i bd lb
+          e (omega (arith, none)) apart,
+    )))
     (λ two apart. omega (
       arith,
       loads_apart t h s a b i (omega (arith, two, pb, is_one t b)) apart,
@@ -245,33 +231,7 @@ due_ready : (step : SearchStep) (t : TableValue) (h k : ℕ → ℕ) (s r : Sear
     ((x : ℕ) → 1 ≤ count x (match_members s.rest) + count x s.free → k x ≡ h x)
     → ((x : ℕ) → count x (outer_vertices r) ≡ count x (outer_vertices s)) →
     IsReadyAfter t h s by step → IsStepReady t k r step
-due_ready (Augment l) t h k s r by ch up same outer due = (
-  omega (arith, due.0, outer l.from),
-  omega (arith, due.1, ap (λ (xs : List ℕ). count l.to xs) ch.free),
-  tight_after t k l
-      (omega (arith, due.2, up l.from due.0, same l.to (omega (arith, due.1)))),
-)
-due_ready (Grow l) t h k s r by ch up same outer due = (
-  omega (arith, due.0, outer l.from),
-  omega (arith, due.1, ap (λ (cs : List MatchValue). count l.to (match_members cs)) ch.rest),
-  tight_after t k l (omega (arith, due.2, up l.from due.0, same l.to (omega (arith, due.1)))),
-)
-due_ready (Shrink l) t h k s r by ch up same outer due = (
-  omega (arith, due.0, outer l.from),
-  omega (arith, due.1, outer l.to),
-  omega (
-    arith,
-    due.2,
-    ap (λ (v : OddSetValue). one_if_both l.from l.to v) ch.root,
-    ap
-        (λ (ks : List BranchValue). outer_with_both l.from l.to ks) ch.tree,
-    around_same_all by l.from l.to s.tree,
-  ),
-  tight_after t k l (omega (arith, due.3, up l.from due.0, up l.to due.1)),
-)
-due_ready (Expand at) t h k s r by ch up same outer due =
-    subst (λ (ks : List BranchValue). FirstCanExpand (drop at ks)) (sym ch.tree)
-    (subst FirstCanExpand (sym (drop_changed by at s.tree)) (due_comes_apart by (drop at s.tree) due))
+due_ready step t h k s r by h1 h2 h3 h4 h5 = grind (arith, nat_tests, tight_after, around_same_all, drop_changed, due_comes_apart)
 
 rise : (by k h i o : ℕ) → k + by * i ≡ h + by * o → i ≡ 0 → o ≡ 1 → k ≡ h + by
 rise by k h i o e g j = omega (arith, e, ap (λ (x : ℕ). by * x) g, ap (λ (x : ℕ). by * x) j)

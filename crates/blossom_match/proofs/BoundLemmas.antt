@@ -1,4 +1,5 @@
 -- Loads between sets as heights, and the slack between places.
+use Rattle.std.proofs.lemmas.Bool.Decides.{nat_tests}
 use Rattle.std.proofs.Common.{◌≡◌, ◌≢◌, ℕ, ◌+◌, ◌-◌, ◌*◌, ◌<◌, ◌≤◌, ◌⊎◌, inl, inr, suc, zero, List, [], ◌∷◌, ◌++◌, length, get_or, arith, refl, sym, ap, subst, ◌∙◌}
 use Rattle.odd_sets.specs.Lists.{Each}
 use Rattle.odd_sets.specs.DualSets.{OddSetValue, IsOddSet, dual_sets, count, height, dual_load}
@@ -20,19 +21,14 @@ use Rattle.odd_sets.specs.Values.{BranchValue, MatchValue, SearchValue}
 use Rattle.blossom_match.specs.declared.search.SearchStep.{SearchStep}
 use Rattle.blossom_match.specs.declared.least.DualChange.{DualChange}
 use Rattle.blossom_match.specs.declared.least.Kind.TheVariants as kind
-use Rattle.odd_sets.proofs.CallerLemmas.{far_is, count-append, height-append, dual_load-append, load_across, load_along, low, some_member, two_even, around_same, base_in, around_none, entry-comm}
+use Rattle.odd_sets.proofs.CallerLemmas.{either, far_is, count-append, height-append, dual_load-append, load_across, load_along, low, some_member, two_even, around_same, base_in, around_none, entry-comm, by_count, by_either}
 use Rattle.blossom_match.proofs.SearchLemmas.{is_one, place_in, low_branches, low_matches}
 use Rattle.blossom_match.proofs.FreeLemmas.{load_of}
-
-load_case : (n : ℕ) (a b : ℕ) (s : OddSetValue) → IsOddSet s → count a s.members ≡ n → one_if_both a b s ≡ 0 → dual_load a b (dual_sets s)
-    ≡ height a (dual_sets s) + height b (dual_sets s)
-load_case zero a b s kept e apart = load_across a b s kept e
-load_case (suc n) a b s kept e apart = load_along a b s kept (omega (arith, e, apart))
 
 -- a set that does not hold both places
 load_either : (a b : ℕ) (s : OddSetValue) → IsOddSet s → one_if_both a b s ≡ 0
     → dual_load a b (dual_sets s) ≡ height a (dual_sets s) + height b (dual_sets s)
-load_either a b s kept apart = load_case (count a s.members) a b s kept refl apart
+load_either a b s h1 h2 = grind (arith, nat_tests, by_count, load_across, load_along)
 
 load_branches : (d : TableValue) (h : ℕ → ℕ) (a b : ℕ) (tree : List BranchValue) → Each (IsSoundBranch d h) tree
     → count a (inner_members tree) ≡ 0
@@ -79,14 +75,7 @@ pub loads_apart : (t : TableValue) (h : ℕ → ℕ) (s : SearchValue) (a b : �
     → search_holding_both a b s
     ≡ 0
     → load_of s a b ≡ dual_height s a + dual_height s b
-loads_apart t h s a b i ha apart =
-    let one = is_one t a in
-    omega (
-      arith,
-      load_either a b s.root i.root.kept (omega (arith, apart)),
-      load_branches t h a b s.tree i.tree (omega (arith, i.places a, one, ha)) (omega (arith, apart)),
-      load_matches t h a b s.rest i.rest (omega (arith, i.places a, one, ha)),
-    )
+loads_apart t h s a b h1 h2 h3 = grind (arith, nat_tests, is_one, load_either, load_branches, load_matches)
 
 -- a place that is not free
 tall_set : (t : TableValue) (h : ℕ → ℕ) (s : SearchValue) (x : ℕ) → IsSearch t h s
@@ -103,9 +92,7 @@ differ_in a b xs ys once ha hb e = omega (arith, once b, hb, ha, ap (λ (x : ℕ
 pub free_slack : (t : TableValue) (h : ℕ → ℕ) (s : SearchValue) (a b : ℕ) → IsSearch t h s → 1 ≤ count a (outer_vertices s)
     → 1 ≤ count b s.free
     → h a + h b ≤ 2 * entry t a b
-free_slack t h s a b i ha hb =
-    i.slack a b (place_in t a (omega (arith, i.places a, ha))) hb
-    (differ_in a b (outer_vertices s) s.free (λ x. omega (arith, i.places x, is_one t x)) ha hb)
+free_slack t h s a b h1 h2 h3 = grind (arith, nat_tests, place_in, differ_in, is_one)
 
 matched_slack : (t : TableValue) (h : ℕ → ℕ) (s : SearchValue) (a b : ℕ) → IsSearch t h s → 1 ≤ count a (outer_vertices s)
     → 1 ≤ count b (match_members s.rest) → h a + h b ≤ 2 * entry t a b
@@ -122,9 +109,7 @@ matched_slack t h s a b i ha hb =
     )
 
 pub apart_differ : (s : SearchValue) (a b : ℕ) → 1 ≤ count a (outer_vertices s) → search_holding_both a b s ≡ 0 → a ≢ b
-apart_differ s a b ha apart e =
-    let same : search_holding_both a a s ≡ 0 = subst (λ (x : ℕ). search_holding_both a x s ≡ 0) (sym e) apart in
-    omega (arith, same, ha, around_same a s.root.members s.tree)
+apart_differ s a b h1 h2 = grind (arith, nat_tests, around_same)
 
 outer_slack : (t : TableValue) (h : ℕ → ℕ) (s : SearchValue) (a b : ℕ) → IsSearch t h s → 1 ≤ count a (outer_vertices s)
     → 1 ≤ count b (outer_vertices s)
@@ -134,36 +119,27 @@ outer_slack t h s a b i ha hb apart =
     (apart_differ s a b ha apart) in
     omega (arith, l, loads_apart t h s a b i ha apart, tall_set t h s a i (omega (arith, ha)), tall_set t h s b i (omega (arith, hb)))
 
-either_slack : (P : Type 0) (n m : ℕ) → (1 ≤ n → P) → (1 ≤ m → P) → 1 ≤ n + m → P
-either_slack P zero m p q some = q (omega arith)
-either_slack P (suc n) m p q some = p (omega arith)
-
 set_in_root : (s : SearchValue) (r : ℕ) → 1 ≤ count r s.root.members → 1 ≤ count r (outer_vertices s)
 set_in_root s r here = omega (arith, here, base_in r s.root.members s.tree)
 
-free_limit : (m : ℕ) (t : TableValue) (h : ℕ → ℕ) (s : SearchValue) (x : ℕ) → IsTable t → IsSearch t h s
-    → count x (outer_vertices s) + count x (inner_members s.tree) + count x (match_members s.rest) ≡ 0 →
-    count x s.free ≡ m → h x ≤ 2 * MAX_DISTANCE
-free_limit zero t h s x is i e none =
-    omega (
+-- while a place is free, no height is more than twice the largest distance
+pub height_limit : (t : TableValue) (h : ℕ → ℕ) (s : SearchValue) (x f : ℕ) → IsTable t → IsSearch t h s → 1 ≤ count f s.free
+    → h x ≤ 2 * MAX_DISTANCE
+height_limit t h s x f is i hf = by_count (count x (outer_vertices s) + count x (inner_members s.tree)
+    + count x (match_members s.rest))
+    (λ e. by_count (count x s.free)
+    (λ none. omega (
       arith,
       i.tall x none,
       low x s.root i.root.kept (omega (arith, base_in x s.root.members s.tree, e)),
       low_branches t h x s.root.members s.tree i.tree (omega (arith, e)) (omega (arith, e)),
       low_matches t h x s.rest i.rest (omega (arith, e)),
-    )
-free_limit (suc m) t h s x is i e some =
-    let r = some_member s.root.members (omega (arith, i.root.kept.odd)) in
+    ))
+    (λ some. let r = some_member s.root.members (omega (arith, i.root.kept.odd)) in
     let ho = set_in_root s r.0 r.1 in
     let lr = place_in t r.0 (omega (arith, i.places r.0, ho)) in
-    omega (arith, free_slack t h s r.0 x i ho (omega (arith, some)), is.short r.0 x lr (place_in t x (omega (arith, i.places x, some))))
-
-high_case : (n : ℕ) (t : TableValue) (h : ℕ → ℕ) (s : SearchValue) (x f : ℕ) → IsTable t → IsSearch t h s → 1 ≤ count f s.free
-    → count x (outer_vertices s) + count x (inner_members s.tree) + count x (match_members s.rest) ≡ n →
-    h x ≤ 2 * MAX_DISTANCE
-high_case zero t h s x f is i hf e = free_limit (count x s.free) t h s x is i e refl
-high_case (suc n) t h s x f is i hf e =
-    let lx = place_in t x (omega (arith, i.places x, e)) in
+    omega (arith, free_slack t h s r.0 x i ho some, is.short r.0 x lr (place_in t x (omega (arith, i.places x, some))))))
+    (λ e. let lx = place_in t x (omega (arith, i.places x, e)) in
     let lf = place_in t f (omega (arith, i.places f, hf)) in
     let ne : x ≢ f = λ g. omega (
       arith,
@@ -174,13 +150,7 @@ high_case (suc n) t h s x f is i hf e =
       ap
           (λ (y : ℕ). count y (outer_vertices s) + count y (inner_members s.tree) + count y (match_members s.rest)) g,
     ) in
-    omega (arith, i.slack x f lx hf ne, is.short x f lx lf)
-
--- while a place is free, no height is more than twice the largest distance
-pub height_limit : (t : TableValue) (h : ℕ → ℕ) (s : SearchValue) (x f : ℕ) → IsTable t → IsSearch t h s → 1 ≤ count f s.free
-    → h x ≤ 2 * MAX_DISTANCE
-height_limit t h s x f is i hf = high_case (count x (outer_vertices s) + count x (inner_members s.tree)
-    + count x (match_members s.rest)) t h s x f is i hf refl
+    omega (arith, i.slack x f lx hf ne, is.short x f lx lf))
 
 due_blossom : (t : TableValue) (h : ℕ → ℕ) (s : SearchValue) (c : DualChange) → IsBlossomDual s.tree c → IsReadyAfter t h s c.by c.step
 due_blossom t h s c f = subst (λ (st : SearchStep). IsReadyAfter t h s c.by st) (sym f.step) f.due
@@ -196,8 +166,7 @@ aimed_case s hs reach k aim a = record {
 -- the lesser of two aims leads to such a place too
 still_aimed : (s : SearchValue) (hs reach : List ℕ) (k : Kind) (old new : Target) → IsCandidate s hs reach old
     → (new ≡ old) ⊎ IsCandidateAmong hs reach k (target_vertices s k) new → IsCandidate s hs reach new
-still_aimed s hs reach k old new a (inl e) = subst (λ (aim : Target). IsCandidate s hs reach aim) (sym e) a
-still_aimed s hs reach k old new a (inr b) = aimed_case s hs reach k new b
+still_aimed s hs reach k old new h1 h2 = grind (arith, nat_tests, aimed_case)
 
 -- what is known of the aims of a search
 pub record IsAimedAt (t : TableValue) (h : ℕ → ℕ) (s : SearchValue) (hs reach : List ℕ) (first met grown crossed : Target) : Type 0 where
@@ -221,9 +190,7 @@ aimed t h s hs reach first met grown crossed a =
 
 goal_there : (k : Kind) (t : TableValue) (h : ℕ → ℕ) (s : SearchValue) (x : ℕ) → IsSearch t h s → 1 ≤ count x (target_vertices s k)
     → x < t.places
-goal_there kind.Augment t h s x i here = place_in t x (omega (arith, i.places x, here))
-goal_there kind.Grow t h s x i here = place_in t x (omega (arith, i.places x, here))
-goal_there kind.Shrink t h s x i here = place_in t x (omega (arith, i.places x, here))
+goal_there k t h s x h1 h2 = grind (arith, nat_tests, place_in)
 
 -- an outer vertex has the slack of the last candidate
 pub leads_on : (t : TableValue) (h : ℕ → ℕ) (s : SearchValue) (hs reach : List ℕ) (first met grown crossed : Target)
@@ -291,20 +258,7 @@ due_aimed t h s hs reach aim c i at is l =
 
 due_now : (t : TableValue) (h : ℕ → ℕ) (s : SearchValue) (old new : DualChange) → IsReadyAfter t h s old.by old.step
     → (new ≡ old) ⊎ IsBlossomDual s.tree new → IsReadyAfter t h s new.by new.step
-due_now t h s old new due (inl e) = subst (λ (c : DualChange). IsReadyAfter t h s c.by c.step) (sym e) due
-due_now t h s old new due (inr f) = due_blossom t h s new f
-
--- between two outer sets the cell of either end is enough
-two_case : (t : TableValue) (h : ℕ → ℕ) (s : SearchValue) (hs reach : List ℕ) (grown crossed : Target) (x y by : ℕ) → IsTable t
-    → IsSearch t h s → HeightsAre hs h → IsBestCandidate hs reach kind.Shrink (outer_vertices s) grown crossed → by ≤ crossed.by
-    → 1 ≤ count x (outer_vertices s) → 1 ≤ count y (outer_vertices s) → x < t.places → y < t.places → search_holding_both x y s ≡ 0
-    → ReachesEither t hs reach x y → h x + h y + 2 * by ≤ 2 * entry t x y
-two_case t h s hs reach grown crossed x y by is i at best less hx hy lx ly apart (inl low) =
-    let near : get_or reach y 0 < FAR = omega (arith, low, far_is, is.short x y lx ly) in
-    omega (arith, at x, at y, low, best.wide y hy near, less, outer_slack t h s x y i hx hy apart)
-two_case t h s hs reach grown crossed x y by is i at best less hx hy lx ly apart (inr low) =
-    let near : get_or reach x 0 < FAR = omega (arith, low, far_is, is.short y x ly lx) in
-    omega (arith, at x, at y, low, best.wide x hx near, less, outer_slack t h s x y i hx hy apart, entry-comm t x y)
+due_now t h s old new h1 h2 = grind (arith, nat_tests, due_blossom)
 
 -- after the least of all changes no slack is negative, and its step can be made
 pub bounds_of : (t : TableValue) (h : ℕ → ℕ) (s : SearchValue) (hs reach : List ℕ) (first met grown crossed : Target)
@@ -319,7 +273,7 @@ bounds_of t h s hs reach first met grown crossed c new a l n =
     is_near t h s hs reach x y a.table i a.reaches hx (place_in t y (omega (arith, i.places y, hy)))
     (omega (arith, i.places y, is_one t y, hy)) in
     record {
-      one = λ x y hx hy. either_slack (h x + h y + new.by ≤ 2 * entry t x y) (count y (match_members s.rest)) (count y s.free)
+      one = λ x y hx hy. either (count y (match_members s.rest)) (count y s.free)
           (λ here.
           let k = near x y hx hy in
           omega (arith, at x, at y, k.1, a.at_grown.wide y here k.0, a.at_crossed.less, l.by, n.less, matched_slack t h s x y i hx here))
@@ -337,8 +291,12 @@ bounds_of t h s hs reach first met grown crossed c new a l n =
             n.less,
             free_slack t h s x y i hx here,
           )) hy;
-      two = λ x y hx hy apart. two_case t h s hs reach grown crossed x y new.by a.table i at a.at_crossed (omega (arith, l.by, n.less))
-          hx hy (on x hx) (on y hy) apart (a.reaches.both x y hx hy (on x hx) (on y hy) apart);
+      two = λ x y hx hy apart. by_either
+          (λ low. let near : get_or reach y 0 < FAR = omega (arith, low, far_is, a.table.short x y (on x hx) (on y hy)) in
+          omega (arith, at x, at y, low, a.at_crossed.wide y hy near, l.by, n.less, outer_slack t h s x y i hx hy apart))
+          (λ low. let near : get_or reach x 0 < FAR = omega (arith, low, far_is, a.table.short y x (on y hy) (on x hx)) in
+          omega (arith, at x, at y, low, a.at_crossed.wide x hx near, l.by, n.less, outer_slack t h s x y i hx hy apart, entry-comm t x y))
+          (a.reaches.both x y hx hy (on x hx) (on y hy) apart);
       blossoms = n.wide;
       due = due_now t h s c new (due_aimed t h s hs reach crossed c i at (aimed t h s hs reach first met grown crossed a) l) n.is;
     }

@@ -1,4 +1,5 @@
 -- A change of duals preserves the invariants of a search.
+use Rattle.std.proofs.lemmas.Bool.Decides.{nat_tests}
 use Rattle.std.proofs.Common.{◌≡◌, ℕ, ◌+◌, ◌-◌, ◌*◌, ◌^◌, ◌≤◌, ◌<◌, suc, zero, List, [], ◌∷◌, ◌++◌, flat_map, length, map, take, drop, get_or, set, set-set, get_or-set_same, arith, refl, sym, ap, ◌∙◌, append_assoc}
 use Rattle.odd_sets.specs.Lists.{Each, sum_over}
 use Rattle.odd_sets.specs.DualSets.{OddSetValue, apart, dual_sets, count, height, dual_load, members_onto, key_count, with_dual}
@@ -261,10 +262,7 @@ outer_limit t h s c x f is i b hf hx =
 
 pub set_limit : (d : TableValue) (h : ℕ → ℕ) (n : OddSetValue) (by : ℕ) → IsSoundSet d h n → ((x : ℕ) → count x n.members ≤ 1)
     → ((x : ℕ) → 1 ≤ count x n.members → h x + by ≤ 2 * MAX_DISTANCE) → n.dual + by < 2 ^ 32
-set_limit d h n by i once limit =
-    let r = some_member n.members (omega (arith, i.kept.odd)) in
-    let one : count r.0 n.members ≡ 1 = omega (arith, r.1, once r.0) in
-    omega (arith, limit r.0 r.1, i.local r.0 r.1, ap (λ (k : ℕ). n.dual * k) one)
+set_limit d h n by h1 h2 h3 = grind (arith, nat_tests, some_member)
 
 pub one_place : (x y : ℕ) (ms : List ℕ) → length ms ≡ 1 → 1 ≤ count x ms → 1 ≤ count y ms → x ≡ y
 one_place x y [] one hx hy = absurd (omega arith)
@@ -314,11 +312,4 @@ uses_same k by (b ∷ bs) =
 
 pub changed_sets : (sets : Slots) (by w : ℕ) (root : OddSetValue) (tree now : List BranchValue) (rest : List MatchValue)
     → now ≡ all_changed by tree → AreSets sets (all_dual_sets root tree rest) → AreSets sets (all_dual_sets (with_dual w root) now rest)
-changed_sets sets by w root tree now rest e are =
-    sets_fewer sets (all_dual_sets root tree rest) (all_dual_sets (with_dual w root) now rest) are (λ k. omega (
-      arith,
-      all_uses k root tree rest,
-      all_uses k (with_dual w root) now rest,
-      ap (λ (ks : List BranchValue). key_count k (branch_dual_sets ks)) e,
-      uses_same k by tree,
-    ))
+changed_sets sets by w root tree now rest h1 h2 = grind (arith, nat_tests, sets_fewer, all_uses, uses_same)

@@ -1,4 +1,5 @@
 -- Searches one after another, and the matching at their end.
+use Rattle.std.proofs.lemmas.Bool.Decides.{nat_tests}
 use Rattle.std.proofs.Common.{◌≡◌, ◌≢◌, ℕ, ◌+◌, ◌*◌, ◌≤◌, ◌<◌, List, [], ◌∷◌, ◌++◌, length, get_or, Bool, true, false, cond, eqb, ltb, arith, refl, sym, ap, subst, ◌∙◌}
 use Rattle.std.specs.List.{All, AllPairs}
 use Rattle.std.proofs.lemmas.Bool.{eqb-true, eqb-false, ltb-true, ltb-false}
@@ -30,20 +31,12 @@ use Rattle.blossom_match.proofs.FreeLemmas.{begun}
 use Rattle.blossom_match.proofs.SearchLemmas.{is_one, place_in}
 
 below_case : (p q r : Bool) (x n : ℕ) → ltb x n ≡ p → eqb x n ≡ q → ltb x (n + 1) ≡ r → cond p 1 0 + (cond q 1 0 + 0) ≡ cond r 1 0
-below_case true true r x n e f g = absurd (omega (arith, ltb-true x n e, eqb-true x n f))
-below_case true false true x n e f g = omega arith
-below_case true false false x n e f g = absurd (omega (arith, ltb-true x n e, ltb-false x (n + 1) g))
-below_case false true true x n e f g = omega arith
-below_case false true false x n e f g = absurd (omega (arith, eqb-true x n f, ltb-false x (n + 1) g))
-below_case false false true x n e f g = absurd (eqb-false x n f (omega (arith, ltb-false x n e, ltb-true x (n + 1) g)))
-below_case false false false x n e f g = omega arith
+below_case p q r x n h1 h2 h3 = grind (arith, nat_tests, ltb-true, eqb-true, ltb-false, eqb-false)
 
 -- one place more
 pub places_more : (x n : ℕ) (xs new : List ℕ) → new ≡ xs ++ n ∷ [] → count x xs ≡ cond (ltb x n) 1 0 → count x new
     ≡ cond (ltb x (n + 1)) 1 0
-places_more x n xs new e f =
-    ap (λ (ys : List ℕ). count x ys) e ∙ count-append x xs (n ∷ []) ∙ ap (λ (k : ℕ). k + (one_if_equal x n + 0)) f
-    ∙ below_case (ltb x n) (eqb x n) (ltb x (n + 1)) x n refl refl refl
+places_more x n xs new h1 h2 = grind (arith, nat_tests, count-append, below_case)
 
 -- a free place has a cell
 pub place_there : (t : TableValue) (place : ℕ) (matches : List MatchValue) (free heights : List ℕ)
@@ -169,10 +162,7 @@ load_same a (s ∷ bs) =
 load_case : (p : Bool) (t : TableValue) (h : ℕ → ℕ) (cs : List MatchValue) (a b : ℕ) → eqb a b ≡ p → IsPartialMatching t h cs []
     → a < t.places
     → b < t.places → dual_load a b (match_dual_sets cs) ≤ 2 * entry t a b
-load_case true t h cs a b e st la lb =
-    let same : a ≡ b = eqb-true a b e in
-    omega (arith, load_same a (match_dual_sets cs), ap (λ (x : ℕ). dual_load a x (match_dual_sets cs)) (sym same))
-load_case false t h cs a b e st la lb = st.loads a b la lb (eqb-false a b e)
+load_case p t h cs a b h1 h2 h3 h4 = grind (arith, nat_tests, eqb-true, load_same, eqb-false)
 
 -- what is taken out of matches that hold all places is a matching with moats
 pub matched : (t : TableValue) (cs : List MatchValue) (pairs : List Pair) (moats : List Moat) → MatchesAll t cs

@@ -1,7 +1,8 @@
 -- Free vertices and their initial duals: a search begins at one, and ends at another.
+use Rattle.std.proofs.lemmas.Bool.Decides.{nat_tests}
 use Rattle.std.proofs.Common.{◌≡◌, ◌≢◌, ℕ, ◌+◌, ◌*◌, ◌≤◌, ◌<◌, suc, zero, List, [], ◌∷◌, ◌++◌, length, Bool, true, false, cond, eqb, arith, refl, sym, ap, subst, ◌∙◌}
 use Rattle.std.proofs.lemmas.Bool.{eqb-true}
-use Rattle.odd_sets.proofs.CallerLemmas.{single_near, count-append, height-append, hit_is, hit_same, dual_load-append, dual_load-comm, load_alone, low, none_hold, made_kept, base_in, entry-comm}
+use Rattle.odd_sets.proofs.CallerLemmas.{single_near, count-append, height-append, hit_is, hit_same, dual_load-append, dual_load-comm, load_alone, low, none_hold, made_kept, base_in, entry-comm, by_count}
 use Rattle.odd_sets.specs.SlackRows.{vertex_slacks}
 use Rattle.odd_sets.specs.Lists.{Each}
 use Rattle.odd_sets.specs.DualSets.{DualSet, OddSetValue, apart, dual_sets, count, height, one_if_equal, dual_load}
@@ -22,46 +23,21 @@ abbrev pub load_of : SearchValue → ℕ → ℕ → ℕ
 load_of s a b = dual_load a b (dual_sets s.root) + dual_load a b (branch_dual_sets s.tree) + dual_load a b (match_dual_sets s.rest)
 
 pub load_of-comm : (s : SearchValue) (a b : ℕ) → load_of s a b ≡ load_of s b a
-load_of-comm s a b = omega (
-  arith,
-  dual_load-comm a b (dual_sets s.root),
-  dual_load-comm a b (branch_dual_sets s.tree),
-  dual_load-comm a b
-      (match_dual_sets s.rest),
-)
+load_of-comm s a b = grind (arith, nat_tests, dual_load-comm)
 
 -- to a free place the load is the height
 load_free : (t : TableValue) (h : ℕ → ℕ) (s : SearchValue) (x f : ℕ) → IsSearch t h s → 1 ≤ count f s.free → load_of s x f ≡ dual_height s x
-load_free t h s x f i hf =
-    let one = is_one t f in
-    let o : count f (outer_vertices s) ≡ 0 = omega (arith, i.places f, one, hf) in
-    omega (
-      arith,
-      load_alone x f (dual_sets s.root) (none_hold f s.root i.root.kept (omega (arith, base_in f s.root.members s.tree, o))),
-      load_alone x f (branch_dual_sets s.tree) (none_branches t h f s.root.members s.tree i.tree o
-          (omega (arith, i.places f, one, hf))),
-      load_alone x f (match_dual_sets s.rest) (none_matches t h f s.rest i.rest (omega (arith, i.places f, one, hf))),
-    )
+load_free t h s x f h1 h2 = grind (arith, nat_tests, is_one, load_alone, none_hold, base_in, none_branches, none_matches)
 
 -- a free place is in no set
 low_free : (t : TableValue) (h : ℕ → ℕ) (s : SearchValue) (x : ℕ) → IsSearch t h s → 1 ≤ count x s.free → dual_height s x ≡ 0
-low_free t h s x i some =
-    let one = is_one t x in
-    omega (
-      arith,
-      low x s.root i.root.kept (omega (arith, i.places x, one, base_in x s.root.members s.tree, some)),
-      low_branches t h x s.root.members s.tree i.tree (omega (arith, i.places x, one, some))
-          (omega (arith, i.places x, one, some)),
-      low_matches t h x s.rest i.rest (omega (arith, i.places x, one, some)),
-    )
-
-under_case : (n : ℕ) (t : TableValue) (h : ℕ → ℕ) (s : SearchValue) (x : ℕ) → IsSearch t h s → count x s.free ≡ n → dual_height s x ≤ h x
-under_case zero t h s x i e = omega (arith, i.tall x e)
-under_case (suc n) t h s x i e = omega (arith, low_free t h s x i (omega (arith, e)))
+low_free t h s x h1 h2 = grind (arith, nat_tests, is_one, low, base_in, low_branches, low_matches)
 
 -- the sets make no place higher than it is
 pub under : (t : TableValue) (h : ℕ → ℕ) (s : SearchValue) (x : ℕ) → IsSearch t h s → dual_height s x ≤ h x
-under t h s x i = under_case (count x s.free) t h s x i refl
+under t h s x i = by_count (count x s.free)
+    (λ e. omega (arith, i.tall x e))
+    (λ e. omega (arith, low_free t h s x i e))
 
 -- one place with its height is a sound set
 pub single_sound : (key : ℕ) (d : TableValue) (h : ℕ → ℕ) (x : ℕ) → IsTable d → x < d.places → IsSoundSet d h (vertex_set key d x (h x))
@@ -79,27 +55,17 @@ single_sound key d h x is low =
 load_case : (p q : Bool) (a b f w old top : ℕ) → eqb a f ≡ p → eqb b f ≡ q → a ≢ b → old ≤ top → (a ≡ f → old + w ≤ top)
     → (b ≡ f → old + w ≤ top) →
     old + w * apart (cond p 1 0 + 0) (cond q 1 0 + 0) ≤ top
-load_case true true a b f w old top e g ne base left right = absurd (ne (eqb-true a f e ∙ sym (eqb-true b f g)))
-load_case true false a b f w old top e g ne base left right = omega (arith, left (eqb-true a f e))
-load_case false true a b f w old top e g ne base left right = omega (arith, right (eqb-true b f g))
-load_case false false a b f w old top e g ne base left right = omega (arith, base)
+load_case p q a b f w old top h1 h2 h3 h4 h5 h6 = grind (arith, nat_tests, eqb-true)
 
 -- the load with the set of one place more
 single_load : (key : ℕ) (t : TableValue) (a b f w old top : ℕ) → a ≢ b → old ≤ top → (a ≡ f → old + w ≤ top) → (b ≡ f → old + w ≤ top)
     → old + dual_load a b (dual_sets (vertex_set key t f w)) ≤ top
-single_load key t a b f w old top ne base left right = omega (
-  arith,
-  load_case (eqb a f) (eqb b f) a b f w old top refl refl ne base left
-      right,
-)
+single_load key t a b f w old top h1 h2 h3 h4 = grind (arith, nat_tests, load_case)
 
 tall_case : (p : Bool) (x f w top old left was : ℕ) → eqb x f ≡ p → left + cond p 1 0 ≡ was → left ≡ 0 → (was ≡ 0 → top ≡ old)
     → (x ≡ f → (top ≡ w) × (old ≡ 0)) →
     top ≡ old + w * (cond p 1 0 + 0)
-tall_case true x f w top old left was e n none tall same =
-    let at = same (eqb-true x f e) in
-    omega (arith, at.0, at.1)
-tall_case false x f w top old left was e n none tall same = omega (arith, tall (omega (arith, n, none)))
+tall_case p x f w top old left was h1 h2 h3 h4 h5 = grind (arith, nat_tests, eqb-true)
 
 -- the height with the set of one place more
 single_tall : (key : ℕ) (t : TableValue) (x f w top old left was : ℕ) → left + one_if_equal x f ≡ was → left ≡ 0 → (was ≡ 0 → top ≡ old)
@@ -164,23 +130,10 @@ low_standing : (t : TableValue) (h : ℕ → ℕ) (cs : List MatchValue) (free :
     → height x (match_dual_sets cs) ≡ 0
 low_standing t h cs free x i some = low_matches t h x cs i.firm (omega (arith, i.places x, is_one t x, some))
 
-lower_case : (n : ℕ) (t : TableValue) (h : ℕ → ℕ) (cs : List MatchValue) (free : List ℕ) (x : ℕ) → IsPartialMatching t h cs free
-    → count x free
-    ≡ n
-    → height x (match_dual_sets cs) ≤ h x
-lower_case zero t h cs free x i e = omega (arith, i.tall x e)
-lower_case (suc n) t h cs free x i e = omega (arith, low_standing t h cs free x i (omega (arith, e)))
-
 standing_slack : (t : TableValue) (h : ℕ → ℕ) (cs : List MatchValue) (free : List ℕ) (x f : ℕ) → IsPartialMatching t h cs free
     → x < t.places
     → 1 ≤ count f free → x ≢ f → dual_load x f (match_dual_sets cs) + h f ≤ 2 * entry t x f
-standing_slack t h cs free x f i lx hf ne =
-    omega (
-      arith,
-      load_alone x f (match_dual_sets cs) (none_matches t h f cs i.firm (omega (arith, i.places f, is_one t f, hf))),
-      lower_case (count x free) t h cs free x i refl,
-      i.slack x f lx hf ne,
-    )
+standing_slack t h cs free x f h1 h2 h3 h4 = grind (arith, nat_tests, low, by_count, low_standing, load_alone, none_matches, is_one)
 
 -- a search from a free place
 pub begun : (t : TableValue) (h : ℕ → ℕ) (place : ℕ) (s : SearchValue) → IsTable t

@@ -1,4 +1,5 @@
 -- The initial dual of a vertex rises, and two vertices are matched by a tight edge.
+use Rattle.std.proofs.lemmas.Bool.Decides.{nat_tests}
 use Rattle.std.proofs.Common.{◌≡◌, ◌≢◌, ℕ, ◌+◌, ◌*◌, ◌≤◌, ◌<◌, List, [], ◌∷◌, ◌++◌, length, get_or, set, Bool, true, false, cond, eqb, ltb, arith, refl, sym, ap, subst, ◌∙◌}
 use Rattle.std.proofs.Math.ListN.{get_or-eq_default}
 use Rattle.std.proofs.lemmas.Bool.{eqb-true, eqb-false, ltb-false}
@@ -13,14 +14,13 @@ use Rattle.odd_sets.specs.Tables.{entry}
 use Rattle.odd_sets.specs.Values.{BranchValue, MatchValue, SearchValue, PartialMatchingValue}
 use Rattle.odd_sets.specs.DualSets.{OddSetValue}
 use Rattle.blossom_match.specs.declared.search.SearchStep.TheVariants.{Augment}
-use Rattle.odd_sets.proofs.CallerLemmas.{count-append, hit_same, entry-comm}
+use Rattle.odd_sets.proofs.CallerLemmas.{not_hit, count-append, hit_same, entry-comm}
 use Rattle.blossom_match.proofs.SearchLemmas.{is_one, place_in}
 use Rattle.blossom_match.proofs.DualLemmas.{matches_same}
 use Rattle.blossom_match.proofs.EndLemmas.{begins}
 
 place_case : (b : Bool) (x n : ℕ) → ltb x n ≡ b → cond b 1 0 ≤ 0 → n ≤ x
-place_case true x n e none = absurd (omega (arith, none))
-place_case false x n e none = omega (arith, ltb-false x n e)
+place_case b x n h1 h2 = grind (arith, nat_tests, ltb-false)
 
 no_place : (t : TableValue) (x : ℕ) → is_place t x ≡ 0 → t.places ≤ x
 no_place t x none = place_case (ltb x t.places) x t.places refl (omega (arith, none))
@@ -30,32 +30,13 @@ pub half_free : (t : TableValue) (matches : List MatchValue) (free heights : Lis
     ((x : ℕ) → count x free ≡ is_place t x)
     → AreWithinDistances t heights → length heights ≡ t.places →
     IsPartialWithHeights t matches free heights
-half_free t matches free heights e places half size = record {
-  standing = subst (λ (cs : List MatchValue). IsPartialMatching t (λ (x : ℕ). get_or heights x 0) cs free) (sym e) (record {
-    tall = λ x none. get_or-eq_default heights 0 (omega (arith, size, no_place t x (omega (arith, places x, none))));
-    slack = λ a f la hf ne.
-        let lf = place_in t f (omega (arith, hf, places f)) in
-        omega (arith, half a f la lf ne, half f a lf la (λ g. ne (sym g)), entry-comm t a f);
-    places = λ x. omega (arith, places x);
-    joined = tt;
-    firm = tt;
-    loads = λ x y la lb ne. omega arith;
-  });
-  size = size;
-}
+half_free t matches free heights h1 h2 h3 h4 = grind (arith, nat_tests, get_or-eq_default, no_place, place_in, entry-comm)
 
 -- at its initial dual a free vertex has no negative slack to others
 pub free_lies : (t : TableValue) (matches : List MatchValue) (free heights : List ℕ) (place : ℕ)
     → IsPartialWithHeights t matches free heights
     → 1 ≤ count place free → HasFreeSlack t heights free place
-free_lies t matches free heights place st here =
-    let i = st.standing in
-    let low = place_in t place (omega (arith, here, i.places place)) in
-    record {
-      within = low;
-      others = λ b hb. place_in t b (omega (arith, hb, i.places b));
-      slack = λ b lb ne. omega (arith, i.slack b place lb here (λ g. ne (sym g)), entry-comm t place b);
-    }
+free_lies t matches free heights place h1 h2 = grind (arith, nat_tests, place_in, entry-comm)
 
 pub low_enough : (t : TableValue) (heights : List ℕ) (place price : ℕ) → KeepsSlack t heights place price → KeepsSlack t heights place 0
 low_enough t heights place price slack b lb ne = omega (arith, slack b lb ne)
@@ -63,23 +44,8 @@ low_enough t heights place price slack b lb ne = omega (arith, slack b lb ne)
 slack_case : (p q : Bool) (t : TableValue) (hs : List ℕ) (place price a f : ℕ) → eqb a place ≡ p → eqb f place ≡ q → place < length hs
     → a < t.places → f < t.places → a ≢ f → KeepsSlack t hs place price →
     get_or hs a 0 + get_or hs f 0 ≤ 2 * entry t a f → get_or (set hs place price) a 0 + get_or (set hs place price) f 0 ≤ 2 * entry t a f
-slack_case true true t hs place price a f e g low la lf ne slack old = absurd (ne (eqb-true a place e ∙ sym (eqb-true f place g)))
-slack_case true false t hs place price a f e g low la lf ne slack old =
-    let at = eqb-true a place e in
-    let s : get_or (set hs place price) place 0 ≡ price = get_or-set_same hs place price 0 low in
-    let o : get_or (set hs place price) f 0 ≡ get_or hs f 0 = get_or-set_other hs place f price 0 (eqb-false f place g) in
-    subst (λ (x : ℕ). get_or (set hs place price) x 0 + get_or (set hs place price) f 0 ≤ 2 * entry t x f) (sym at)
-    (omega (arith, s, o, slack f lf (λ k. eqb-false f place g (sym k))))
-slack_case false true t hs place price a f e g low la lf ne slack old =
-    let at = eqb-true f place g in
-    let s : get_or (set hs place price) place 0 ≡ price = get_or-set_same hs place price 0 low in
-    let o : get_or (set hs place price) a 0 ≡ get_or hs a 0 = get_or-set_other hs place a price 0 (eqb-false a place e) in
-    subst (λ (x : ℕ). get_or (set hs place price) a 0 + get_or (set hs place price) x 0 ≤ 2 * entry t a x) (sym at)
-    (omega (arith, s, o, entry-comm t a place, slack a la (λ k. eqb-false a place e (sym k))))
-slack_case false false t hs place price a f e g low la lf ne slack old =
-    let o : get_or (set hs place price) a 0 ≡ get_or hs a 0 = get_or-set_other hs place a price 0 (eqb-false a place e) in
-    let u : get_or (set hs place price) f 0 ≡ get_or hs f 0 = get_or-set_other hs place f price 0 (eqb-false f place g) in
-    omega (arith, o, u, old)
+slack_case p q t hs place price a f h1 h2 h3 h4 h5 h6 h7 h8 =
+    grind (arith, nat_tests, eqb-true, get_or-set_same, get_or-set_other, eqb-false, entry-comm)
 
 -- a free vertex may have any initial dual that makes no slack negative
 pub risen : (t : TableValue) (matches : List MatchValue) (free heights new : List ℕ) (place price : ℕ)
@@ -126,29 +92,17 @@ reordered t matches free other heights same st =
       size = st.size;
     }
 
-no_hit_case : (b : Bool) (x y : ℕ) → eqb x y ≡ b → x ≢ y → cond b 1 0 ≤ 0
-no_hit_case true x y e ne = absurd (ne (eqb-true x y e))
-no_hit_case false x y e ne = omega arith
-
-no_hit : (x y : ℕ) → x ≢ y → one_if_equal x y ≤ 0
-no_hit x y ne = no_hit_case (eqb x y) x y refl ne
-
 some_left : (x : ℕ) (xs : List ℕ) → 1 ≤ count x xs → 1 ≤ length xs
 some_left x [] some = absurd (omega (arith, some))
 some_left x (y ∷ xs) some = omega arith
 
 -- the search of the one place can meet the other
-record CanMeet (t : TableValue) (place other : ℕ) (s : SearchValue) : Type 0 where
-  search : IsSearch t (stored_height s) s
-  ready : IsStepReady t (stored_height s) s (Augment (record { from = place; to = other }))
-  size : length s.heights ≡ t.places
-
 can_meet : (t : TableValue) (place other : ℕ) (matches : List MatchValue) (free left heights : List ℕ) (s : SearchValue)
     → ((x : ℕ) → count x left + one_if_equal x place ≡ count x free) →
     IsPartialWithHeights t matches free heights → FindsTight t heights free place other → BeginsSearch t place matches left heights s
-    → CanMeet t place other s
+    → CanStepAt t s (Augment (record { from = place; to = other }))
 can_meet t place other matches free left heights s counts st f b =
-    let here : 1 ≤ count other left = omega (arith, counts other, f.here, no_hit other place (λ g. f.pair.differ (sym g))) in
+    let here : 1 ≤ count other left = omega (arith, counts other, f.here, not_hit other place (λ g. f.pair.differ (sym g))) in
     let at = reordered t matches free (left ++ place ∷ []) heights (λ x. omega (arith, counts x, count-append)) st in
     let can = begins t place matches left heights s at (some_left other left here) b in
     record {
@@ -158,8 +112,7 @@ can_meet t place other matches free left heights s counts st f b =
           arith,
           hit_same place,
           ap (λ (v : OddSetValue). count place (outer_members v.members s.tree)) b.root,
-          ap
-              (λ (bs : List BranchValue). count place (outer_members (place ∷ []) bs)) b.tree,
+          ap (λ (bs : List BranchValue). count place (outer_members (place ∷ []) bs)) b.tree,
         ),
         omega (arith, here, ap (λ (xs : List ℕ). count other xs) b.free),
         subst (λ (hs : List ℕ). 2 * entry t place other ≡ get_or hs place 0 + get_or hs other 0) (sym b.heights) (sym f.pair.tight),
@@ -171,9 +124,7 @@ pub pair_step : (t : TableValue) (place other : ℕ) (from : PartialMatchingValu
     → CanPair t place other from
     → ((x : ℕ) → count x left + one_if_equal x place ≡ count x from.free) →
     BeginsSearch t place from.matches left from.heights s → CanStepAt t s (Augment (record { from = place; to = other }))
-pair_step t place other from left s can counts b =
-    let m = can_meet t place other from.matches from.free left from.heights s counts can.stands can.found b in
-    record { search = m.search; ready = m.ready; size = m.size }
+pair_step t place other from left s can counts b = can_meet t place other from.matches from.free left from.heights s counts can.stands can.found b
 
 pub paired : (t : TableValue) (place other : ℕ) (from : PartialMatchingValue) (left : List ℕ) (s : SearchValue) (r : PartialMatchingValue)
     → CanPair t

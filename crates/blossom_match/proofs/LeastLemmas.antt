@@ -1,4 +1,5 @@
 -- Each perfect matching costs at least half of the total width of the moats.
+use Rattle.std.proofs.lemmas.Bool.Decides.{nat_tests}
 use Rattle.std.proofs.Common.{◌≡◌, ◌≢◌, ℕ, suc, ◌+◌, ◌-◌, ◌*◌, ◌%◌, ◌<◌, ◌≤◌, ◌⊎◌, inl, inr, List, [], ◌∷◌, length, Bool, true, false, cond, eqb, nat_lt, arith, refl, sym, subst, ◌∙◌}
 use Rattle.std.specs.List.{All, AllPairs}
 use Rattle.std.proofs.lemmas.Bool.{eqb-true, eq-eqb, ne_eqb, lt-ltb, ltb-true}
@@ -21,10 +22,7 @@ one_if b = cond b 1 0
 
 -- a hit is one from either side
 hit_cases : (p q : Bool) (x y : ℕ) → eqb x y ≡ p → eqb y x ≡ q → one_if p ≡ one_if q
-hit_cases true true x y e f = refl
-hit_cases false false x y e f = refl
-hit_cases true false x y e f = absurd (true_false (sym (eq-eqb y x (sym (eqb-true x y e))) ∙ f))
-hit_cases false true x y e f = absurd (true_false (sym (eq-eqb x y (sym (eqb-true y x f))) ∙ e))
+hit_cases p q x y h1 h2 = grind (arith, nat_tests, true_false, eq-eqb, eqb-true)
 
 hit_sym : (x y : ℕ) → one_if_equal x y ≡ one_if_equal y x
 hit_sym x y = hit_cases (eqb x y) (eqb y x) x y refl refl
@@ -72,10 +70,7 @@ missing x (y ∷ ys) differs =
 
 -- different places are counted once
 once_case : (b : Bool) (x y : ℕ) (ys : List ℕ) → eqb x y ≡ b → All (λ z. y ≢ z) ys → count x ys ≤ 1 → cond b 1 0 + count x ys ≤ 1
-once_case false x y ys e differs rest = omega (arith, rest)
-once_case true x y ys e differs rest =
-    let none : count x ys ≡ 0 = subst (λ (z : ℕ). count z ys ≡ 0) (sym (eqb-true x y e)) (missing y ys differs) in
-    omega (arith, none)
+once_case b x y ys h1 h2 h3 = grind (arith, nat_tests, eqb-true, missing)
 
 once : (ms : List ℕ) → AllPairs (λ x y. x ≢ y) ms → (x : ℕ) → count x ms ≤ 1
 once [] differ x = omega arith
@@ -130,10 +125,6 @@ loads_of moats (p ∷ ps) = moat_load moats p.a p.b + loads_of moats ps
 load-cons : (m : Moat) (ms : List Moat) (a b : ℕ) → moat_load (m ∷ ms) a b ≡ cond (crosses_moat a b m) m.width 0 + moat_load ms a b
 load-cons m ms a b = sum_by-cons (λ (k : Moat). cond (crosses_moat a b k) k.width 0) m ms
 
-loads_none : (ps : List Pair) → loads_of [] ps ≡ 0
-loads_none [] = refl
-loads_none (p ∷ ps) = omega (arith, loads_none ps)
-
 loads-cons : (m : Moat) (ms : List Moat) (ps : List Pair) → loads_of (m ∷ ms) ps ≡ paid_for m ps + loads_of ms ps
 loads-cons m ms [] = refl
 loads-cons m ms (p ∷ ps) = omega (arith, load-cons m ms p.a p.b, loads-cons m ms ps)
@@ -165,8 +156,7 @@ loads_cost t moats (p ∷ ps) keeps below =
 
 -- an end of pairs of all places is one of the places
 below_case : (b : Bool) (x n e : ℕ) → nat_lt x n ≡ b → e ≡ one_if b → 1 ≤ e → x < n
-below_case true x n e is one some = omega (arith, ltb-true x n is)
-below_case false x n e is none some = absurd (omega (arith, none, some))
+below_case b x n e h1 h2 h3 = grind (arith, nat_tests, ltb-true)
 
 pub none_cheaper : (t : TableValue) (pairs : List Pair) (moats : List Moat) → IsOptimalMatching t pairs moats
     → (others : List Pair) → IsPerfectMatching t.places others → pairs_cost t pairs ≤ pairs_cost t others

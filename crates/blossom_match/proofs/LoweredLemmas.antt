@@ -1,4 +1,5 @@
 -- The slacks from the outer vertices after a change of duals.
+use Rattle.std.proofs.lemmas.Bool.Decides.{nat_tests}
 use Rattle.std.proofs.Common.{◌≡◌, ℕ, ◌+◌, ◌-◌, ◌*◌, ◌≤◌, ◌<◌, ◌⊎◌, inl, inr, List, [], ◌∷◌, length, get_or, arith, refl, sym, ap, subst, ◌∙◌, take, drop}
 use Rattle.blossom_match.proofs.OuterSlackLemmas.{reaches_apart}
 use Rattle.odd_sets.specs.DualSets.{OddSetValue, count}
@@ -18,7 +19,7 @@ use Rattle.odd_sets.specs.Values.{BranchValue, SearchValue}
 use Rattle.odd_sets.specs.declared.odd_set.TightEdge.{TightEdge}
 use Rattle.blossom_match.specs.declared.search.SearchStep.{SearchStep}
 use Rattle.blossom_match.specs.declared.search.SearchStep.TheVariants.{Expand, Shrink}
-use Rattle.odd_sets.proofs.CallerLemmas.{each-right, drop_past, far_is, lowered_far, lowered_less, lowered_near}
+use Rattle.odd_sets.proofs.CallerLemmas.{each-right, drop_past, far_is, lowered_far, lowered_less, lowered_near, by_either}
 use Rattle.blossom_match.proofs.FoldLemmas.{folded, set_within}
 use Rattle.blossom_match.proofs.SearchLemmas.{is_one, place_in, shrunk}
 use Rattle.blossom_match.proofs.DualLemmas.{around_same_all, outer_same}
@@ -39,22 +40,7 @@ times_none by n e = omega (arith, ap (λ (k : ℕ). by * k) e)
 
 is_raised : (t : TableValue) (by : ℕ) (s r : SearchValue) → IsTable t → IsSearch t (stored_height s) s → ChangesDuals by s r
     → IsRaised t by s r
-is_raised t by s r is i ch = record {
-  table = is;
-  places = λ a ha. place_in t a (omega (arith, i.places a, ha));
-  outs = λ a. ap (λ (v : OddSetValue). count a (outer_members v.members r.tree)) ch.root
-      ∙ ap (λ (ks : List BranchValue). count a (outer_members s.root.members ks)) ch.tree
-      ∙ ap (λ (xs : List ℕ). count a xs) (outer_same by s.root.members s.tree);
-  holds = λ a x. ap (λ (v : OddSetValue). one_if_both a x v + outer_with_both a x r.tree) ch.root
-      ∙ ap (λ (ks : List BranchValue). one_if_both a x s.root + outer_with_both a x ks) ch.tree
-      ∙ ap (λ (n : ℕ). one_if_both a x s.root + n) (around_same_all by a x s.tree);
-  high = λ a ha. omega (
-    arith,
-    ch.heights a,
-    times_one by (count a (outer_vertices s)) (omega (arith, i.places a, is_one t a, ha)),
-    times_none by (count a (inner_members s.tree)) (omega (arith, i.places a, is_one t a, ha)),
-  );
-}
+is_raised t by s r h1 h2 h3 = grind (arith, nat_tests, place_in, outer_same, around_same_all, times_one, is_one, times_none)
 
 left_lower : (t : TableValue) (by : ℕ) (s r : SearchValue) (a x : ℕ) → IsRaised t by s r → 1 ≤ count a (outer_vertices s)
     → slack_from t r.heights a x ≡ slack_from t s.heights a x - by
@@ -67,40 +53,7 @@ left_near t by s r a x k ha lx = omega (arith, far_is, k.table.short a x (k.plac
 least_lower : (t : TableValue) (by : ℕ) (s r : SearchValue) (a x old new : ℕ) → IsRaised t by s r → 1 ≤ count a (outer_vertices s)
     → x < t.places
     → old ≤ slack_from t s.heights a x → new ≡ lowered_slack by old → new ≤ slack_from t r.heights a x
-least_lower t by s r a x old new k ha lx low is =
-    omega (
-      arith,
-      is,
-      low,
-      lowered_near by old (omega (arith, low, left_near t by s r a x k ha lx)),
-      left_lower t by s r a x k ha,
-    )
-
-is_lower : (t : TableValue) (by : ℕ) (s r : SearchValue) (x old new : ℕ) → IsRaised t by s r → x < t.places → new ≡ lowered_slack by old
-    → (old ≡ FAR) ⊎ IsOuterSlack t s.heights s.root s.tree x old
-    → (new ≡ FAR) ⊎ IsOuterSlack t r.heights r.root r.tree x new
-is_lower t by s r x old new k lx is (inl far) = inl (is ∙ lowered_far by old far)
-is_lower t by s r x old new k lx is (inr l) = inr (record {
-  a = l.a;
-  here = omega (arith, l.here, k.outs l.a);
-  apart = k.holds l.a x ∙ l.apart;
-  exact = omega (
-    arith,
-    is,
-    l.exact,
-    lowered_near by old (omega (arith, l.exact, left_near t by s r l.a x k l.here lx)),
-    left_lower t by s r l.a x k l.here,
-  );
-})
-
-both_lower : (t : TableValue) (by : ℕ) (s r : SearchValue) (old new : List ℕ) (a b : ℕ) → IsRaised t by s r
-    → 1 ≤ count a (outer_vertices s) → 1 ≤ count b (outer_vertices s) → a < t.places → b < t.places
-    → ((x : ℕ) → x < t.places → get_or new x 0 ≡ lowered_slack by (get_or old x 0)) → ReachesEither t s.heights old a b
-    → ReachesEither t r.heights new a b
-both_lower t by s r old new a b k ha hb la lb cell (inl low) =
-    inl (least_lower t by s r a b (get_or old b 0) (get_or new b 0) k ha lb low (cell b lb))
-both_lower t by s r old new a b k ha hb la lb cell (inr low) =
-    inr (least_lower t by s r b a (get_or old a 0) (get_or new a 0) k hb la low (cell a la))
+least_lower t by s r a x old new h1 h2 h3 h4 h5 = grind (arith, nat_tests, lowered_near, left_near, left_lower)
 
 -- all slacks are less by the change
 pub still_reaches : (t : TableValue) (by : ℕ) (s r : SearchValue) (old new : List ℕ) → IsTable t → IsSearch t (stored_height s) s
@@ -120,17 +73,30 @@ still_reaches t by s r old new is i ch reaches size at =
       both = λ a b ha hb la lb apart.
           let first : 1 ≤ count a (outer_vertices s) = omega (arith, ha, k.outs a) in
           let second : 1 ≤ count b (outer_vertices s) = omega (arith, hb, k.outs b) in
-          both_lower t by s r old new a b k first second la lb cell (reaches.both a b first second la lb (sym (k.holds a b) ∙ apart));
-      is = λ x lx. is_lower t by s r x (get_or old x 0) (get_or new x 0) k lx (cell x lx) (reaches.is x lx);
+          by_either
+          (λ low. inl (least_lower t by s r a b (get_or old b 0) (get_or new b 0) k first lb low (cell b lb)))
+          (λ low. inr (least_lower t by s r b a (get_or old a 0) (get_or new a 0) k second la low (cell a la)))
+          (reaches.both a b first second la lb (sym (k.holds a b) ∙ apart));
+      is = λ x lx. by_either
+          (λ far. inl (cell x lx ∙ lowered_far by (get_or old x 0) far))
+          (λ l. inr (record {
+            a = l.a;
+            here = omega (arith, l.here, k.outs l.a);
+            apart = k.holds l.a x ∙ l.apart;
+            exact = omega (
+              arith,
+              cell x lx,
+              l.exact,
+              lowered_near by (get_or old x 0) (omega (arith, l.exact, left_near t by s r l.a x k l.here lx)),
+              left_lower t by s r l.a x k l.here,
+            );
+          }))
+          (reaches.is x lx);
     }
 
 -- what the sets of a search make of its heights
 pub searched : (t : TableValue) (s : SearchValue) → IsSearch t (stored_height s) s → SearchHasSoundOuters t s
-searched t s i = record {
-  once = λ x. omega (arith, i.places x, is_one t x);
-  sound = i.root;
-  firm = i.tree;
-}
+searched t s h1 = grind (arith, nat_tests, is_one)
 
 -- the slacks from a root without branches
 pub begins_reach : (t : TableValue) (s : SearchValue) (new : List ℕ) → IsSearch t (stored_height s) s → s.tree ≡ []
@@ -170,28 +136,17 @@ is_folded t link set s r can adv f =
       within = λ x here. place_in t x (omega (arith, i.places x, held x, here));
     }
 
--- a search in which a blossom has closed
-abbrev closed_search : SearchValue → OddSetValue → List BranchValue → SearchValue
-closed_search s root tree = record { root = root; tree = tree; rest = s.rest; free = s.free; heights = s.heights }
-
 -- the row of the blossom has a cell for each vertex, and so do its vertices
 pub folds_row : (link : TightEdge) (set root : OddSetValue) (s : SearchValue) (tree : List BranchValue) (old : List ℕ)
     → CanStep s (Shrink link) → Shrinks set link s.root root s.tree tree → length old ≡ length s.heights → HasSlacks (length old) set
 folds_row link set root s tree old k sh size =
-    let r = closed_search s root tree in
-    (is_folded k.t link set s r k.can (shrunk set link s r sh refl refl refl) sh.folds).sound.near.0.size ∙ sym (size ∙ k.can.size)
+    (is_folded k.t link set s _ k.can (shrunk set link s root tree s.rest sh refl) sh.folds).sound.near.0.size ∙ sym (size ∙ k.can.size)
 
 pub folds_cells : (link : TightEdge) (set root : OddSetValue) (s : SearchValue) (tree : List BranchValue) (old : List ℕ)
     → CanStep s (Shrink link) → Shrinks set link s.root root s.tree tree → length old ≡ length s.heights
     → (x : ℕ) → 1 ≤ count x set.members → x < length old
 folds_cells link set root s tree old k sh size x here =
-    let r = closed_search s root tree in
-    omega (
-      arith,
-      (is_folded k.t link set s r k.can (shrunk set link s r sh refl refl refl) sh.folds).within x here,
-      size,
-      k.can.size,
-    )
+    omega (arith, (is_folded k.t link set s _ k.can (shrunk set link s root tree s.rest sh refl) sh.folds).within x here, size, k.can.size)
 
 -- the blossom is taken into the slacks
 pub carries : (link : TightEdge) (set : OddSetValue) (s r : SearchValue) (old new : List ℕ) → Advances s (Shrink link) r

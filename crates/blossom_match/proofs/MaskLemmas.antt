@@ -1,7 +1,8 @@
 -- Masks that show the places of matches.
-use Rattle.std.proofs.Common.{◌≡◌, ◌≢◌, ℕ, ◌+◌, ◌-◌, ◌≤◌, ◌<◌, ◌⊎◌, inl, inr, suc, zero, List, [], ◌∷◌, ◌++◌, length, take, drop, map, get_or, max, min, arith, refl, sym, ap, subst, ◌∙◌}
+use Rattle.std.proofs.lemmas.Bool.Decides.{nat_tests}
+use Rattle.std.proofs.Common.{◌≡◌, ◌≢◌, ℕ, ◌+◌, ◌-◌, ◌≤◌, ◌<◌, ◌⊎◌, inl, inr, suc, zero, List, [], ◌∷◌, ◌++◌, length, take, drop, map, get_or, max, min, arith, refl, sym, ap, subst, ◌∙◌, length-append}
 use Rattle.std.proofs.lemmas.Bool.{cases_lt}
-use Rattle.std.proofs.lemmas.List.{get_or-drop, get_or-take, take-append-drop}
+use Rattle.std.proofs.lemmas.List.{get_or-drop, get_or-take, length-map, take-append-drop}
 use Rattle.std.proofs.Math.Seq.{drop-append_seam}
 use Rattle.odd_sets.specs.DualSets.{OddSetValue, count}
 use Rattle.odd_sets.specs.MatchedSets.{match_members}
@@ -13,21 +14,12 @@ use Rattle.odd_sets.specs.TableValue.{TableValue}
 use Rattle.odd_sets.specs.Values.{BranchValue, MatchValue, SearchValue}
 use Rattle.blossom_match.specs.declared.search.SearchStep.{SearchStep}
 use Rattle.odd_sets.specs.declared.table.TheConstants.{FAR}
-use Rattle.odd_sets.proofs.CallerLemmas.{mapped_at, take_here, count-append, members-append, members_push, match_here}
+use Rattle.odd_sets.proofs.CallerLemmas.{mapped_at, take_here, count-append, members-append, members_push, match_here, by_count, by_either}
 use Rattle.blossom_match.proofs.SearchLemmas.{is_one, place_in}
-
--- cells of two lists, one after the other
-join_case : (n : ℕ) (left : ℕ) (xs ys old mid new : List ℕ) (x : ℕ) → count x ys ≡ n → 1 ≤ count x xs + n → SetsCells left xs old mid
-    → SetsCells left ys mid new → get_or new x 0 ≡ left
-join_case zero left xs ys old mid new x e here one two = two.off x e ∙ one.on x (omega (arith, here))
-join_case (suc n) left xs ys old mid new x e here one two = two.on x (omega (arith, e))
 
 pub puts_join : (left : ℕ) (xs ys zs old mid new : List ℕ) → ((x : ℕ) → count x zs ≡ count x xs + count x ys) → SetsCells left xs old mid
     → SetsCells left ys mid new → SetsCells left zs old new
-puts_join left xs ys zs old mid new all one two = record {
-  on = λ x here. join_case (count x ys) left xs ys old mid new x refl (omega (arith, here, all x)) one two;
-  off = λ x none. two.off x (omega (arith, none, all x)) ∙ one.off x (omega (arith, none, all x));
-}
+puts_join left xs ys zs old mid new h1 h2 h3 = grind (arith, nat_tests, by_count)
 
 -- one match more
 pub puts_match : (left : ℕ) (cs : List MatchValue) (i : ℕ) (c : MatchValue) (old now mid new : List ℕ) → i < length cs
@@ -65,34 +57,15 @@ masks_anew places old new within size far k = record {
   off = λ x low none. k.off x none ∙ far x (omega (arith, low, size));
 }
 
-more_case : (n : ℕ) (places more old new : List ℕ) (x : ℕ) → count x more ≡ n → 1 ≤ count x places + n → IsMask places old
-    → SetsCells 0 more old new → get_or new x 0 ≡ 0
-more_case zero places more old new x e here m k = k.off x e ∙ m.on x (omega (arith, here))
-more_case (suc n) places more old new x e here m k = k.on x (omega (arith, e))
-
 -- one that shows more places
 masks_more : (places more all old new : List ℕ) → ((x : ℕ) → count x all ≡ count x places + count x more)
     → ((x : ℕ) → 1 ≤ count x all → x < length new) → length new ≡ length old → IsMask places old → SetsCells 0 more old new → IsMask all new
-masks_more places more all old new sum within size m k = record {
-  within = within;
-  on = λ x here. more_case (count x more) places more old new x refl (omega (arith, here, sum x)) m k;
-  off = λ x low none. k.off x (omega (arith, none, sum x)) ∙ m.off x (omega (arith, low, size)) (omega (arith, none, sum x));
-}
-
-less_case : (n : ℕ) (places gone old new : List ℕ) (x : ℕ) → count x gone ≡ n → count x places ≡ n → x < length old → IsMask places old
-    → SetsCells FAR gone old new → get_or new x 0 ≡ FAR
-less_case zero places gone old new x e none low m k = k.off x e ∙ m.off x low none
-less_case (suc n) places gone old new x e here low m k = k.on x (omega (arith, e))
+masks_more places more all old new h1 h2 h3 h4 h5 = grind (arith, nat_tests, by_count)
 
 -- one that shows fewer
 masks_less : (places gone all old new : List ℕ) → ((x : ℕ) → count x places ≡ count x all + count x gone) → ((x : ℕ) → count x places ≤ 1)
     → length new ≡ length old → IsMask places old → SetsCells FAR gone old new → IsMask all new
-masks_less places gone all old new sum once size m k = record {
-  within = λ x here. omega (arith, m.within x (omega (arith, here, sum x)), size);
-  on = λ x here. k.off x (omega (arith, here, sum x, once x)) ∙ m.on x (omega (arith, here, sum x));
-  off = λ x low none.
-      less_case (count x gone) places gone old new x refl (omega (arith, sum x, none)) (omega (arith, low, size)) m k;
-}
+masks_less places gone all old new h1 h2 h3 h4 h5 = grind (arith, nat_tests, by_count)
 
 -- the matches stay
 pub masks_same : (t : TableValue) (s r : SearchValue) (mask : List ℕ) → r.rest ≡ s.rest → IsSearchMask t s mask → IsSearchMask t r mask
@@ -126,23 +99,16 @@ next_search t s r st now e k adv =
 -- the matches of before are those after it and the branch
 hung_out : (t : TableValue) (h : ℕ → ℕ) (s r : SearchValue) → IsSearch t h s → IsSearch t h r → (hangs : GrowsBranch s r) → r.free ≡ s.free
     → (x : ℕ) → count x (match_members s.rest) ≡ count x (match_members r.rest) + count x (branch_members hangs.branch)
-hung_out t h s r i j hangs free x =
-    let b = hangs.branch in
-    omega (
-      arith,
-      i.places x,
-      j.places x,
-      ap (λ (v : OddSetValue). count x (outer_members v.members r.tree)) hangs.root,
-      ap (λ (ks : List BranchValue). count x (outer_members s.root.members ks)) hangs.tree,
-      members_push,
-      ap (λ (ks : List BranchValue). count x (inner_members ks)) hangs.tree,
-      ap (λ (xs : List ℕ). count x xs) free,
-      count-append x b.inner.members b.outer.members,
-    )
+hung_out t h s r h1 h2 hangs h3 x = grind (arith, nat_tests, members_push, count-append)
 
 last_here : {Y : Type 0} (ys : List Y) (y d : Y) → get_or (ys ++ y ∷ []) (length ys) d ≡ y
 last_here [] y d = refl
 last_here (z ∷ ys) y d = last_here ys y d
+
+-- the size of a list whose images are those of another list and more
+pub mapped_more : {X Y : Type 0} (f g : X → Y) (xs ys : List X) (more : List Y) → map g ys ≡ map f xs ++ more
+    → length ys ≡ length xs + length more
+mapped_more f g xs ys more h1 = grind (arith, nat_tests, length-append, length-map)
 
 -- the item after those before it
 pub newest_is : {X Y : Type 0} (f : X → Y) (xs : List X) (i : ℕ) (x : X) (ys : List Y) (y : Y) → x ≡ get_or xs i x → map f xs ≡ ys ++ y ∷ []
@@ -192,34 +158,20 @@ masks_apart t h s r at n old new j apart e m size puts =
           (subst (λ (cs : List MatchValue). SetsCells 0 (match_members cs) old new) more puts);
     }
 
-shown_case : (hs reach mask : List ℕ) (i old new : ℕ) → new ≡ min (masked_slack hs reach mask i) old → i < length reach
-    → (old < FAR → IsMaskedSlack hs reach mask old) → new < FAR → (masked_slack hs reach mask i < old)
-    ⊎ (old ≤ masked_slack hs reach mask i)
-    → IsMaskedSlack hs reach mask new
-shown_case hs reach mask i old new is low was near (inl less) =
-    record { place = i; within = low; exact = omega (arith, is, less) }
-shown_case hs reach mask i old new is low was near (inr more) =
-    let same : new ≡ old = omega (arith, is, more) in
-    subst (λ (n : ℕ). IsMaskedSlack hs reach mask n) (sym same) (was (omega (arith, same, near)))
-
 -- the lesser of what is shown so far and at the next place
 pub shown_next : (hs reach mask : List ℕ) (i old new : ℕ) → new ≡ min (masked_slack hs reach mask i) old → i < length reach
     → (old < FAR → IsMaskedSlack hs reach mask old) → new < FAR → IsMaskedSlack hs reach mask new
 shown_next hs reach mask i old new is low was near =
-    shown_case hs reach mask i old new is low was near (cases_lt (masked_slack hs reach mask i) old)
-
-least_case : (hs reach mask : List ℕ) (i old new x : ℕ) → new ≡ min (masked_slack hs reach mask i) old
-    → (x < i → old ≤ masked_slack hs reach mask x)
-    → x < i + 1 → (x < i) ⊎ (i ≤ x) → new ≤ masked_slack hs reach mask x
-least_case hs reach mask i old new x is was low (inl less) = omega (arith, is, was less)
-least_case hs reach mask i old new x is was low (inr more) =
-    let same : x ≡ i = omega (arith, low, more) in
-    subst (λ (y : ℕ). new ≤ masked_slack hs reach mask y) (sym same) (omega (arith, is))
+    by_either
+    (λ less. record { place = i; within = low; exact = omega (arith, is, less) })
+    (λ more. let same : new ≡ old = omega (arith, is, more) in
+    subst (λ (n : ℕ). IsMaskedSlack hs reach mask n) (sym same) (was (omega (arith, same, near))))
+    (cases_lt (masked_slack hs reach mask i) old)
 
 -- and no place so far has less
 pub least_next : (hs reach mask : List ℕ) (i old new : ℕ) → new ≡ min (masked_slack hs reach mask i) old
     → ((x : ℕ) → x < i → old ≤ masked_slack hs reach mask x) → (x : ℕ) → x < i + 1 → new ≤ masked_slack hs reach mask x
-least_next hs reach mask i old new is was x low = least_case hs reach mask i old new x is (was x) low (cases_lt x i)
+least_next hs reach mask i old new h1 h2 x h3 = grind (arith, nat_tests, by_either, cases_lt)
 
 -- a cell of a block
 block_cell : (xs : List ℕ) (at n i : ℕ) → i < n → get_or (take n (drop at xs)) i 0 ≡ get_or xs (at + i) 0
@@ -227,17 +179,16 @@ block_cell xs at n i low = get_or-take n (drop at xs) i 0 low ∙ get_or-drop at
 
 block_slack : (hs reach mask : List ℕ) (at n i : ℕ) → i < n
     → masked_slack (take n (drop at hs)) (take n (drop at reach)) (take n (drop at mask)) i ≡ masked_slack hs reach mask (at + i)
-block_slack hs reach mask at n i low =
-    ap (λ (h : ℕ). max (lowered_slack h (get_or (take n (drop at reach)) i 0)) (get_or (take n (drop at mask)) i 0))
-    (block_cell hs at n i low)
-    ∙ ap (λ (r : ℕ). max (lowered_slack (get_or hs (at + i) 0) r) (get_or (take n (drop at mask)) i 0)) (block_cell reach at n i low)
-    ∙ ap (λ (m : ℕ). max (lowered_slack (get_or hs (at + i) 0) (get_or reach (at + i) 0)) m) (block_cell mask at n i low)
+block_slack hs reach mask at n i h1 = grind (arith, nat_tests, block_cell)
 
-block_case : (hs reach mask : List ℕ) (at n least slack x : ℕ) → slack < least
+-- a block that shows more than the slack at each place doesn't show it
+pub block_next : (hs reach mask : List ℕ) (at n least slack : ℕ) → slack < least
     → ((i : ℕ) → i < n → least ≤ masked_slack (take n (drop at hs)) (take n (drop at reach)) (take n (drop at mask)) i)
-    → (x < at → slack ≢ masked_slack hs reach mask x) → x < at + n → (x < at) ⊎ (at ≤ x) → slack ≢ masked_slack hs reach mask x
-block_case hs reach mask at n least slack x more low was lx (inl less) = was less
-block_case hs reach mask at n least slack x more low was lx (inr past) = λ same.
+    → ((x : ℕ) → x < at → slack ≢ masked_slack hs reach mask x) → (x : ℕ) → x < at + n → slack ≢ masked_slack hs reach mask x
+block_next hs reach mask at n least slack more low was x lx =
+    by_either
+    (λ less. was x less)
+    (λ past. λ same.
     let i = x - at in
     let here : i < n = omega (arith, lx, past) in
     let there : at + i ≡ x = omega (arith, past) in
@@ -248,11 +199,5 @@ block_case hs reach mask at n least slack x more low was lx (inr past) = λ same
       block_slack hs reach mask at n i here,
       ap (λ (y : ℕ). masked_slack hs reach mask y) there,
       same,
-    ))
-
--- a block that shows more than the slack at each place doesn't show it
-pub block_next : (hs reach mask : List ℕ) (at n least slack : ℕ) → slack < least
-    → ((i : ℕ) → i < n → least ≤ masked_slack (take n (drop at hs)) (take n (drop at reach)) (take n (drop at mask)) i)
-    → ((x : ℕ) → x < at → slack ≢ masked_slack hs reach mask x) → (x : ℕ) → x < at + n → slack ≢ masked_slack hs reach mask x
-block_next hs reach mask at n least slack more low was x lx =
-    block_case hs reach mask at n least slack x more low (was x) lx (cases_lt x at)
+    )))
+    (cases_lt x at)

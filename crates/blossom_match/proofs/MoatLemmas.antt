@@ -1,4 +1,5 @@
 -- Moats and their members by counts.
+use Rattle.std.proofs.lemmas.Bool.Decides.{nat_tests}
 use Rattle.std.proofs.Common.{◌≡◌, ◌≢◌, ℕ, ◌+◌, ◌*◌, ◌%◌, ◌≤◌, inl, inr, zero, suc, List, [], ◌∷◌, ◌++◌, length, arith, refl, sym, subst, ◌∙◌, Bool, true, false, cond, eqb, ◌||◌}
 use Rattle.std.specs.List.{list_any}
 use Rattle.std.proofs.lemmas.List.Sums.{sum_by-append, sum_by-cons}
@@ -11,7 +12,7 @@ use Rattle.blossom_match.specs.Matchings.{pairs_cost, crosses_moat, pair_ends_at
 use Rattle.blossom_match.specs.Taken.{moat_of_set, IsOddMoatIn, AreMoatsIn}
 use Rattle.blossom_match.specs.declared.matching.Moat.{Moat}
 use Rattle.blossom_match.specs.declared.matching.Pair.{Pair}
-use Rattle.odd_sets.proofs.CallerLemmas.{each-append, each-map, pairs-append, some_member}
+use Rattle.odd_sets.proofs.CallerLemmas.{each-append, each-map, pairs-append, some_member, by_count}
 
 true_false : true ≡ false → ⊥
 true_false e = cc
@@ -32,12 +33,8 @@ pub none_counted : (x : ℕ) (xs : List ℕ) → count x xs ≡ 0 → list_any (
 none_counted x [] none = refl
 none_counted x (y ∷ ys) none = none_case (eqb x y) (list_any (λ (z : ℕ). eqb x z) ys) x y (count x ys) refl none (none_counted x ys)
 
-counted_case : (n : ℕ) (x : ℕ) (xs : List ℕ) → count x xs ≡ n → list_any (λ (y : ℕ). eqb x y) xs ≡ true → 1 ≤ count x xs
-counted_case zero x xs e some = absurd (true_false (sym some ∙ none_counted x xs e))
-counted_case (suc n) x xs e some = omega (arith, e)
-
 pub counted : (x : ℕ) (xs : List ℕ) → list_any (λ (y : ℕ). eqb x y) xs ≡ true → 1 ≤ count x xs
-counted x xs some = counted_case (count x xs) x xs refl some
+counted x xs h1 = grind (arith, nat_tests, by_count, true_false, none_counted)
 
 -- a moat that holds exactly one of two places, by counts
 crossing_case : (a b w ca cb : ℕ) (ms : List ℕ) → count a ms ≡ ca → count b ms ≡ cb → ca ≤ 1 → cb ≤ 1 →
@@ -74,15 +71,7 @@ load_own a b (suc w) ms was pa pb =
     ))
 
 pub width_own : (w : ℕ) (ms : List ℕ) (was : List Moat) → width_of (was ++ moat_of_set ms w) ≡ width_of was + w
-width_own zero ms was = omega (arith, sum_by-append (λ (m : Moat). m.width) was [])
-width_own (suc w) ms was = rw (own_wide w ms) (omega (
-  arith,
-  sum_by-append (λ (m : Moat). m.width) was
-      (record { members = ms; width = suc w } ∷ []),
-))
-
-pub width-append : (xs ys : List Moat) → width_of (xs ++ ys) ≡ width_of xs + width_of ys
-width-append xs ys = sum_by-append (λ (m : Moat). m.width) xs ys
+width_own w ms was = grind (arith, nat_tests, sum_by-append, own_wide)
 
 -- one pair more
 pub cost_push : (t : TableValue) (ps : List Pair) (a b : ℕ)
@@ -91,20 +80,11 @@ cost_push t ps a b = omega (arith, sum_by-append (λ (p : Pair). entry t p.a p.b
 
 pub ends_push : (x : ℕ) (ps : List Pair) (a b : ℕ)
     → pair_ends_at (ps ++ record { a = a; b = b } ∷ []) x ≡ pair_ends_at ps x + (one_if_equal x a + one_if_equal x b)
-ends_push x ps a b = omega (
-  arith,
-  sum_by-append (λ (p : Pair). cond (eqb x p.a) 1 0 + cond (eqb x p.b) 1 0) ps
-      (record { a = a; b = b } ∷ []),
-)
+ends_push x ps a b = omega (arith, sum_by-append)
 
 -- the same moats among more places
 pub lie_more : (ps qs : List ℕ) (ms : List Moat) → ((x : ℕ) → count x ps ≤ count x qs) → AreMoatsIn ps ms → AreMoatsIn qs ms
-lie_more ps qs ms more l = record {
-  each = each-map (IsOddMoatIn ps) (IsOddMoatIn qs)
-      (λ m o. record { odd = o.odd; within = λ x. omega (arith, o.within x, more x); wide = o.wide })
-      ms l.each;
-  apart = l.apart;
-}
+lie_more ps qs ms h1 h2 = grind (arith, nat_tests, each-map)
 
 differ_by : (p q : Bool) → p ≡ true → q ≡ false → p ≢ q
 differ_by p q e f g = true_false (sym e ∙ g ∙ f)

@@ -1,4 +1,5 @@
 -- The slots after a step.
+use Rattle.std.proofs.lemmas.Bool.Decides.{nat_tests}
 use Rattle.std.proofs.Common.{◌≡◌, ℕ, zero, suc, ◌+◌, ◌≤◌, List, [], ◌∷◌, ◌++◌, Bool, true, false, cond, ltb, None, arith, refl, sym, ap, subst, ◌∙◌}
 use Rattle.slab.specs.Slab.{get}
 use Rattle.odd_sets.specs.DualSets.{DualSet, OddSetValue, dual_sets, count, one_if_equal, key_count}
@@ -15,40 +16,20 @@ use Rattle.odd_sets.specs.declared.odd_set.Handle.{Handle}
 use Rattle.odd_sets.specs.declared.matches.Match.{Match}
 use Rattle.odd_sets.specs.declared.branches.Branch.{Branch}
 use Rattle.blossom_match.specs.declared.search.SearchStep.TheVariants.{Augment}
-use Rattle.odd_sets.proofs.CallerLemmas.{dual_sets-append, bands_push, hit_is, hit_same, key_count-append, inserted_keeps, keep_branches, keep_matches, keep_seat, no_slot, has_slot, set_more, sets_fewer, all_uses}
+use Rattle.odd_sets.proofs.CallerLemmas.{dual_sets-append, bands_push, hit_is, hit_same, key_count-append, inserted_keeps, keep_branches, keep_matches, keep_seat, no_slot, has_slot, set_more, sets_fewer, all_uses, by_count}
 use Rattle.blossom_match.proofs.SearchLemmas.{is_one}
-
-unused_case : (n : ℕ) (sets : Slots) (key : ℕ) (bs : List DualSet) → key_count key bs ≡ n → AreSets sets bs → get sets key ≡ None
-    → key_count key bs ≡ 0
-unused_case zero sets key bs e are fresh = e
-unused_case (suc n) sets key bs e are fresh =
-    absurd (no_slot sets key key (has_slot sets key (are.each key (omega (arith, e)))) refl fresh)
 
 -- a vacant key is that of no set
 pub unused : (sets : Slots) (key : ℕ) (bs : List DualSet) → AreSets sets bs → get sets key ≡ None → key_count key bs ≡ 0
-unused sets key bs are fresh = unused_case (key_count key bs) sets key bs refl are fresh
+unused sets key bs h1 h2 = grind (arith, nat_tests, by_count, no_slot, has_slot)
 
 once_case : (n k key was now : ℕ) → one_if_equal k key ≡ n → now ≡ was + one_if_equal k key → was ≤ 1 → (k ≡ key → was ≡ 0) → now ≤ 1
-once_case zero k key was now e sum one none = omega (arith, e, sum, one)
-once_case (suc n) k key was now e sum one none =
-    let same = hit_is k key (omega (arith, e)) in
-    omega (arith, none same, sum, hit_same key, ap (λ (j : ℕ). one_if_equal j key) same)
-
-set_case : (n : ℕ) (old new : Slots) (k key : ℕ) (was now : List DualSet) → one_if_equal k key ≡ n → InsertsSet old new key
-    → AreSets old was
-    → key_count k now ≡ key_count k was + one_if_equal k key → 1 ≤ key_count k now → IsSet new k
-set_case zero old new k key was now e ins are sum u = set_more old new key k ins.fresh ins.others (are.each k (omega (arith, e, sum, u)))
-set_case (suc n) old new k key was now e ins are sum u =
-    subst (λ (j : ℕ). IsSet new j) (sym (hit_is k key (omega (arith, e)))) ins.set
+once_case n k key was now h1 h2 h3 h4 = grind (arith, nat_tests, hit_is, hit_same)
 
 -- a set more
 pub more_sets : (old new : Slots) (key : ℕ) (was now : List DualSet) → InsertsSet old new key → AreSets old was
     → ((k : ℕ) → key_count k now ≡ key_count k was + one_if_equal k key) → AreSets new now
-more_sets old new key was now ins are sum = record {
-  each = λ k u. set_case (one_if_equal k key) old new k key was now refl ins are (sum k) u;
-  once = λ k. once_case (one_if_equal k key) k key (key_count k was) (key_count k now) refl (sum k) (are.once k)
-      (λ e. ap (λ (j : ℕ). key_count j was) e ∙ unused old key was are ins.fresh);
-}
+more_sets old new key was now h1 h2 h3 = grind (arith, nat_tests, by_count, set_more, hit_is, once_case, unused)
 
 -- the other sets stay when one is inserted
 pub seat_stays : (old new : Slots) (key : ℕ) (bs : List DualSet) (s : Handle) → InsertsSet old new key → AreSets old bs
@@ -152,35 +133,12 @@ closed_sets old new blossom link root top tree now rest left ins sh e are =
     ))
 
 once_met : (n x place outs free : ℕ) → one_if_equal x place ≡ n → (x ≡ place → outs ≡ 0) → outs ≤ 1 → one_if_equal x place + 0 + outs ≤ 1
-once_met zero x place outs free e none one = omega (arith, e, one)
-once_met (suc n) x place outs free e none one =
-    let same = hit_is x place (omega (arith, e)) in
-    omega (arith, none same, hit_same place, ap (λ (y : ℕ). one_if_equal y place) same)
+once_met n x place outs free h1 h2 h3 = grind (arith, nat_tests, hit_is, hit_same)
 
 -- the way to a free place can be paired
 pub can_augment : (t : TableValue) (link : TightEdge) (s : SearchValue) (m : OddSetValue) → CanStepAt t s (Augment link)
     → m.members ≡ link.to ∷ [] → CanAugment m link s.root s.tree
-can_augment t link s m can e =
-    let i = can.search in
-    let outs = λ (x : ℕ). count x (outer_members s.root.members s.tree) + count x (inner_members s.tree) in
-    record {
-      grown = i.grown;
-      from = can.ready.0;
-      to = omega (arith, ap (λ (xs : List ℕ). count link.to xs) e, hit_same link.to);
-      once = λ x. omega (
-        arith,
-        ap (λ (xs : List ℕ). count x xs) e,
-        once_met (one_if_equal x link.to) x link.to (outs x) (count x s.free) refl
-            (λ same. omega (
-              arith,
-              i.places x,
-              is_one t x,
-              can.ready.1,
-              ap (λ (y : ℕ). count y s.free) same,
-            ))
-            (omega (arith, i.places x, is_one t x)),
-      );
-    }
+can_augment t link s m h1 h2 = grind (arith, nat_tests, hit_same, once_met, is_one)
 
 -- all sets of the tree and the one of the free place are matches
 pub met_sets : (old new : Slots) (link : TightEdge) (root m : OddSetValue) (tree : List BranchValue) (rest now : List MatchValue)

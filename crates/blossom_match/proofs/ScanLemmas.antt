@@ -1,11 +1,11 @@
 -- The least of all changes, pair by pair and set by set.
+use Rattle.std.proofs.lemmas.Bool.Decides.{nat_tests}
 use Rattle.std.proofs.Common.{◌≡◌, ℕ, ◌+◌, ◌≤◌, ◌<◌, ◌⊎◌, inl, inr, List, [], ◌∷◌, ◌++◌, length, take, drop, get_or, arith, refl, sym, ap, subst, ◌∙◌}
-use Rattle.std.proofs.Math.Seq.{take-length}
 use Rattle.std.proofs.lemmas.List.{take-append-drop}
 use Rattle.odd_sets.specs.Lists.{Each}
 use Rattle.odd_sets.specs.DualSets.{OddSetValue, count}
 use Rattle.odd_sets.specs.Trees.{outer_members, count_holding_both}
-use Rattle.blossom_match.specs.LeastChanges.{FirstHasDual, IsBranchDual, IsLesserChange, IsLesserChangeAt, IsBlossomDual, AllowsChange}
+use Rattle.blossom_match.specs.LeastChanges.{FirstHasDual, IsBranchDual, IsLesserChangeAt, IsBlossomDual, AllowsChange}
 use Rattle.odd_sets.specs.Values.{BranchValue}
 use Rattle.blossom_match.specs.declared.least.DualChange.{DualChange}
 use Rattle.odd_sets.proofs.CallerLemmas.{drop_here, each-map, each-push, take_here, count-append, members-append, around_append, base_in, around_none}
@@ -41,14 +41,7 @@ pub record Narrowing (tree : List BranchValue) (i : ℕ) (old new : DualChange) 
 
 narrowing_is : (tree : List BranchValue) (i : ℕ) (b : BranchValue) (o m n : DualChange) → i < length tree → b ≡ get_or tree i b → (m ≡ o)
     ⊎ IsBlossomDual tree m → (n ≡ m) ⊎ IsBranchDual b i n → (n ≡ o) ⊎ IsBlossomDual tree n
-narrowing_is tree i b o m n low is (inl e) (inl f) = inl (f ∙ e)
-narrowing_is tree i b o m n low is (inr e) (inl f) = inr (subst (λ (k : DualChange). IsBlossomDual tree k) (sym f) e)
-narrowing_is tree i b o m n low is e (inr f) = inr (record {
-  at = i;
-  step = f.step;
-  due =
-      subst (FirstHasDual n.by) (sym (drop_here tree i b low is)) (f.wide, f.some);
-})
+narrowing_is tree i b o m n h1 h2 h3 h4 = grind (arith, nat_tests, drop_here)
 
 pub narrowing_more : (tree : List BranchValue) (i : ℕ) (b : BranchValue) (o m n : DualChange) → i < length tree → b ≡ get_or tree i b
     → Narrowing tree i o m → IsLesserChangeAt b i m n → Narrowing tree (i + 1) o n
@@ -62,11 +55,3 @@ narrowing_more tree i b o m n low is one two = record {
 
 pub narrowing_start : (tree : List BranchValue) (o : DualChange) → Narrowing tree 0 o o
 narrowing_start tree o = record { less = omega arith; wide = tt; is = inl refl }
-
-pub narrowing_done : (tree : List BranchValue) (o n : DualChange) → Narrowing tree (length tree) o n → IsLesserChange tree o n
-narrowing_done tree o n r = record {
-  less = r.less;
-  wide = subst (λ (ks : List BranchValue). Each (AllowsChange n.by) ks)
-      (take-length tree) r.wide;
-  is = r.is;
-}

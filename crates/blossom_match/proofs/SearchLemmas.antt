@@ -1,4 +1,5 @@
 -- Each step leads from a search to a search.
+use Rattle.std.proofs.lemmas.Bool.Decides.{nat_tests}
 use Rattle.std.proofs.Common.{◌≡◌, ℕ, ◌+◌, ◌≤◌, ◌<◌, suc, List, [], ◌∷◌, ◌++◌, length, take, drop, Bool, true, false, cond, ltb, arith, refl, sym, ap, subst, ◌∙◌, drop-cons, get_or}
 use Rattle.std.proofs.lemmas.Bool.{lt-ltb, ltb-true, ltb-false}
 use Rattle.std.proofs.lemmas.List.{take-append-drop}
@@ -17,88 +18,54 @@ use Rattle.odd_sets.specs.Values.{BranchValue, MatchValue, SearchValue}
 use Rattle.blossom_match.specs.declared.search.SearchStep.TheVariants.{Grow, Shrink, Expand}
 use Rattle.odd_sets.proofs.CallerLemmas.{each-append, each-left, each-right, each-push, dual_sets-append, bands_push, count-append, height-append, dual_load-append, members-append, members_push, none_hold, none_tall, size-append, tight_back, grown_push, entry-comm}
 
-free_none : (x : ℕ) {xs ys : List ℕ} → xs ≡ ys → count x xs ≡ 0 → count x ys ≡ 0
-free_none x e none = omega (arith, none, ap (λ (zs : List ℕ). count x zs) e)
+-- a search with other sets
+abbrev pub with_sets : SearchValue → OddSetValue → List BranchValue → List MatchValue → SearchValue
+with_sets s root tree rest = record { root = root; tree = tree; rest = rest; free = s.free; heights = s.heights }
 
-pub shrunk : (blossom : OddSetValue) (link : TightEdge) (s r : SearchValue) → Shrinks blossom link s.root r.root s.tree r.tree
-    → r.rest ≡ s.rest → r.free ≡ s.free → r.heights ≡ s.heights → Advances s (Shrink link) r
-shrunk blossom link s r sh e f g = record {
-  search = λ t h i ready.
-      let firm = sh.firm t h (entry-comm t) ready.3 i.root i.tree in
-      record {
-        tall = λ x none. omega (
-          arith,
-          i.tall x (free_none x f none),
-          sh.sums (height x) (height-append x),
-          ap
-              (λ (cs : List MatchValue). height x (match_dual_sets cs)) e,
-        );
-        slack = subst (λ (xs : List ℕ). FreeHaveSlack t h xs) (sym f) i.slack;
-        places = λ x. omega (
-          arith,
-          i.places x,
-          sh.places x,
-          ap (λ (cs : List MatchValue). count x (match_members cs)) e,
-          ap
-              (λ (xs : List ℕ). count x xs) f,
-        );
-        grown = sh.grown;
-        joined = subst (λ (cs : List MatchValue). Each IsMatch cs) (sym e) i.joined;
-        root = firm.0;
-        tree = firm.1;
-        rest = subst (λ (cs : List MatchValue). Each (IsSoundMatch t h) cs) (sym e) i.rest;
-        loads = λ a b la lb ne. omega (
-          arith,
-          i.loads a b la lb ne,
-          sh.sums (dual_load a b) (dual_load-append a b),
-          ap
-              (λ (cs : List MatchValue). dual_load a b (match_dual_sets cs)) e,
-        );
-      };
-  fewer = omega (arith, sh.fewer, ap (λ (cs : List MatchValue). length (match_dual_sets cs)) e);
-  free = f;
-  heights = g;
-}
+pub shrunk : (blossom : OddSetValue) (link : TightEdge) (s : SearchValue) (root : OddSetValue) (tree : List BranchValue)
+    (rest : List MatchValue) → Shrinks blossom link s.root root s.tree tree → rest ≡ s.rest
+    → Advances s (Shrink link) (with_sets s root tree rest)
+shrunk blossom link s root tree rest sh e =
+    subst (λ (cs : List MatchValue). Advances s (Shrink link) (with_sets s root tree cs)) (sym e) (record {
+      search = λ t h i ready.
+          let firm = sh.firm t h (entry-comm t) ready.3 i.root i.tree in
+          record {
+            tall = λ x none. omega (arith, i.tall x none, sh.sums (height x) (height-append x));
+            slack = i.slack;
+            places = λ x. omega (arith, i.places x, sh.places x);
+            grown = sh.grown;
+            joined = i.joined;
+            root = firm.0;
+            tree = firm.1;
+            rest = i.rest;
+            loads = λ a b la lb ne. omega (arith, i.loads a b la lb ne, sh.sums (dual_load a b) (dual_load-append a b));
+          };
+      fewer = omega (arith, sh.fewer);
+      free = refl;
+      heights = refl;
+    })
 
-pub came_apart : (key at : ℕ) (s r : SearchValue) → Expands key s.root s.tree r.tree s.rest r.rest → r.root ≡ s.root
-    → r.free ≡ s.free → r.heights ≡ s.heights → Advances s (Expand at) r
-came_apart key at s r ex e f g = record {
-  search = λ t h i ready.
-      let firm = ex.firm t h (entry-comm t) i.tree i.rest in
-      record {
-        tall = λ x none. omega (
-          arith,
-          i.tall x (free_none x f none),
-          ex.sums (height x) (height-append x),
-          ap
-              (λ (v : OddSetValue). height x (dual_sets v)) e,
-        );
-        slack = subst (λ (xs : List ℕ). FreeHaveSlack t h xs) (sym f) i.slack;
-        places = λ x. omega (
-          arith,
-          i.places x,
-          ex.places x,
-          ap (λ (v : OddSetValue). count x (outer_members v.members r.tree)) e,
-          ap
-              (λ (xs : List ℕ). count x xs) f,
-        );
-        grown = subst (λ (v : OddSetValue). IsAlternatingTree v.members r.tree) (sym e) ex.grown;
-        joined = ex.joined i.joined;
-        root = subst (λ (v : OddSetValue). IsSoundSet t h v) (sym e) i.root;
-        tree = firm.0;
-        rest = firm.1;
-        loads = λ a b la lb ne. omega (
-          arith,
-          i.loads a b la lb ne,
-          ex.sums (dual_load a b) (dual_load-append a b),
-          ap
-              (λ (v : OddSetValue). dual_load a b (dual_sets v)) e,
-        );
-      };
-  fewer = ex.fewer;
-  free = f;
-  heights = g;
-}
+pub came_apart : (key at : ℕ) (s : SearchValue) (root : OddSetValue) (tree : List BranchValue) (rest : List MatchValue)
+    → Expands key s.root s.tree tree s.rest rest → root ≡ s.root → Advances s (Expand at) (with_sets s root tree rest)
+came_apart key at s root tree rest ex e =
+    subst (λ (v : OddSetValue). Advances s (Expand at) (with_sets s v tree rest)) (sym e) (record {
+      search = λ t h i ready.
+          let firm = ex.firm t h (entry-comm t) i.tree i.rest in
+          record {
+            tall = λ x none. omega (arith, i.tall x none, ex.sums (height x) (height-append x));
+            slack = i.slack;
+            places = λ x. omega (arith, i.places x, ex.places x);
+            grown = ex.grown;
+            joined = ex.joined i.joined;
+            root = i.root;
+            tree = firm.0;
+            rest = firm.1;
+            loads = λ a b la lb ne. omega (arith, i.loads a b la lb ne, ex.sums (dual_load a b) (dual_load-append a b));
+          };
+      fewer = ex.fewer;
+      free = refl;
+      heights = refl;
+    })
 
 -- what a match's sets are as a branch
 record IsHung (up : TightEdge) (c : MatchValue) (b : BranchValue) : Type 0 where
@@ -144,8 +111,7 @@ hung_is up c one j = hung_case (ltb 0 (count up.to c.first.members)) up c refl o
 members_split : (x : ℕ) (before after : List MatchValue) (c : MatchValue) →
     count x (match_members (before ++ c ∷ after)) ≡ count x (match_members (before ++ after)) + count x c.first.members
     + count x c.second.members
-members_split x before after c =
-    omega (arith, members-append, count-append)
+members_split x before after c = omega (arith, members-append, count-append)
 
 bands_split : (F : List DualSet → ℕ) → IsAdditive F → (before after : List MatchValue) (c : MatchValue) →
     F (match_dual_sets (before ++ c ∷ after)) ≡ F (match_dual_sets (before ++ after)) + F (dual_sets c.first) + F (dual_sets c.second)
@@ -154,9 +120,7 @@ bands_split F add before after c =
 
 without : (P : MatchValue → Type 0) (before after : List MatchValue) (c : MatchValue) → Each P (before ++ c ∷ after) → P c × Each P
     (before ++ after)
-without P before after c all =
-    let rest = each-right P before (c ∷ after) all in
-    (rest.0, each-append P before after (each-left P before (c ∷ after) all) rest.1)
+without P before after c h1 = grind (arith, nat_tests, each-right, each-append, each-left)
 
 one_case : (b : Bool) → cond b 1 0 ≤ 1
 one_case true = omega arith
@@ -167,8 +131,7 @@ is_one t x = one_case (ltb x t.places)
 
 -- x is a place
 place_case : (b : Bool) (x n : ℕ) → ltb x n ≡ b → 1 ≤ cond b 1 0 → x < n
-place_case true x n e some = ltb-true x n e
-place_case false x n e some = absurd (omega (arith, some))
+place_case b x n h1 h2 = grind (arith, nat_tests, ltb-true)
 
 pub place_in : (t : TableValue) (x : ℕ) → 1 ≤ is_place t x → x < t.places
 place_in t x some = place_case (ltb x t.places) x t.places refl some
@@ -186,23 +149,18 @@ hung_fewer : (p : Bool) (up : TightEdge) (c : MatchValue) →
 hung_fewer true up c = omega arith
 hung_fewer false up c = omega arith
 
-pub hung : (link : TightEdge) (s r : SearchValue) (c : MatchValue) → RemovesMatch link.to s.rest r.rest c → r.tree
-    ≡ s.tree ++ branch_by_edge link c ∷ [] → r.root ≡ s.root → r.free ≡ s.free →
-    r.heights ≡ s.heights → Advances s (Grow link) r
-hung link s r c out g e f same =
+pub hung : (link : TightEdge) (s : SearchValue) (tree : List BranchValue) (rest : List MatchValue) (c : MatchValue)
+    → RemovesMatch link.to s.rest rest c → tree ≡ s.tree ++ branch_by_edge link c ∷ []
+    → Advances s (Grow link) (with_sets s s.root tree rest)
+hung link s tree rest c out g =
     let b = branch_by_edge link c in
     let sizes = λ (ks : List DualSet). length ks in
     let was = λ (F : List DualSet → ℕ) (add : IsAdditive F). ap (λ (cs : List MatchValue). F (match_dual_sets cs)) out.was
     ∙ bands_split F add out.before out.after c in
-    let now = λ (F : List DualSet → ℕ). ap (λ (cs : List MatchValue). F (match_dual_sets cs)) out.now in
     let held = λ (x : ℕ). ap (λ (cs : List MatchValue). count x (match_members cs)) out.was ∙ members_split x out.before out.after c in
-    let kept = λ (x : ℕ). ap (λ (cs : List MatchValue). count x (match_members cs)) out.now in
-    let grew = λ (F : List DualSet → ℕ) (add : IsAdditive F). ap (λ (ks : List BranchValue). F (branch_dual_sets ks)) g
-    ∙ bands_push F add BranchValue branch_sets s.tree b in
-    let outside = λ (x : ℕ). ap (λ (v : OddSetValue). count x (outer_members v.members r.tree)) e
-    ∙ ap (λ (ks : List BranchValue). count x (outer_members s.root.members ks)) g ∙ members_push outer_sets x s.root.members s.tree b in
-    let inside = λ (x : ℕ). ap (λ (ks : List BranchValue). count x (inner_members ks)) g ∙ members_push inner_sets x [] s.tree b in
-    record {
+    let grew = λ (F : List DualSet → ℕ) (add : IsAdditive F). bands_push F add BranchValue branch_sets s.tree b in
+    subst (λ (ks : List BranchValue). Advances s (Grow link) (with_sets s s.root ks rest)) (sym g)
+    (subst (λ (cs : List MatchValue). Advances s (Grow link) (with_sets s s.root (s.tree ++ b ∷ []) cs)) (sym out.now) (record {
       search = λ t h i ready.
           let joined = without IsMatch out.before out.after c (subst (λ (cs : List MatchValue). Each IsMatch cs) out.was i.joined) in
           let firm = without (IsSoundMatch t h) out.before out.after c
@@ -211,47 +169,37 @@ hung link s r c out g e f same =
           record {
             tall = λ x none. omega (
               arith,
-              i.tall x (free_none x f none),
+              i.tall x none,
               was (height x) (height-append x),
-              now (height x),
-              grew (height x)
-                  (height-append x),
+              grew (height x) (height-append x),
               k.sums (height x),
-              ap (λ (v : OddSetValue). height x (dual_sets v)) e,
             );
-            slack = subst (λ (xs : List ℕ). FreeHaveSlack t h xs) (sym f) i.slack;
-            places = λ x. omega (arith, i.places x, held x, kept x, outside x, inside x, k.counts x, ap (λ (xs : List ℕ). count x xs) f);
-            grown = subst (λ (v : OddSetValue). IsAlternatingTree v.members r.tree) (sym e)
-                (subst (λ (ks : List BranchValue). IsAlternatingTree s.root.members ks) (sym g)
-                (grown_push s.root.members s.tree b i.grown
+            slack = i.slack;
+            places = λ x. omega (arith, i.places x, held x, k.counts x, members_push);
+            grown = grown_push s.root.members s.tree b i.grown
                 (subst (λ (l : TightEdge). 1 ≤ count l.from (outer_vertices s)) (sym k.same) ready.0)
-                (subst (λ (l : TightEdge). count l.to b.inner.members ≡ 1) (sym k.same) k.up_to) k.pair_from k.pair_to));
-            joined = subst (λ (cs : List MatchValue). Each IsMatch cs) (sym out.now) joined.1;
-            root = subst (λ (v : OddSetValue). IsSoundSet t h v) (sym e) i.root;
-            tree = subst (λ (ks : List BranchValue). Each (IsSoundBranch t h) ks) (sym g)
-                (each-push (IsSoundBranch t h) s.tree b i.tree (k.firm t h (entry-comm t) ready.2 firm.0));
-            rest = subst (λ (cs : List MatchValue). Each (IsSoundMatch t h) cs) (sym out.now) firm.1;
+                (subst (λ (l : TightEdge). count l.to b.inner.members ≡ 1) (sym k.same) k.up_to) k.pair_from k.pair_to;
+            joined = joined.1;
+            root = i.root;
+            tree = each-push (IsSoundBranch t h) s.tree b i.tree (k.firm t h (entry-comm t) ready.2 firm.0);
+            rest = firm.1;
             loads = λ x y lx ly ne. omega (
               arith,
               i.loads x y lx ly ne,
               was (dual_load x y) (dual_load-append x y),
-              now (dual_load x y),
-              grew (dual_load x y)
-                  (dual_load-append x y),
+              grew (dual_load x y) (dual_load-append x y),
               k.sums (dual_load x y),
-              ap (λ (v : OddSetValue). dual_load x y (dual_sets v)) e,
             );
           };
       fewer = omega (
         arith,
         hung_fewer (ltb 0 (count link.to c.first.members)) link c,
-        ap (λ (ks : List BranchValue). length (inner_dual_sets ks)) g ∙ bands_push sizes size-append BranchValue inner_sets s.tree b,
+        bands_push sizes size-append BranchValue inner_sets s.tree b,
         was sizes size-append,
-        now sizes,
       );
-      free = f;
-      heights = same;
-    }
+      free = refl;
+      heights = refl;
+    }))
 
 -- a place in no member list is in no set
 pub none_branches : (d : TableValue) (h : ℕ → ℕ) (x : ℕ) (base : List ℕ) (tree : List BranchValue) → Each (IsSoundBranch d h) tree
@@ -301,20 +249,4 @@ taken_place x xs new i place low is e =
 
 -- the edge closes a blossom
 pub can_shrink : (link : TightEdge) (s : SearchValue) → CanStep s (Shrink link) → CanShrink link s.root s.tree
-can_shrink link s k =
-    let i = k.can.search in
-    let ready = k.can.ready in
-    record {
-      grown = i.grown;
-      from = ready.0;
-      to = ready.1;
-      apart = ready.2;
-      once = λ x. omega (arith, i.places x, is_one k.t x);
-      t = k.t;
-      h = stored_height s;
-      within = λ x here. place_in k.t x (omega (arith, i.places x, here));
-      symmetric = entry-comm k.t;
-      tight = ready.3;
-      sound = i.root;
-      firm = i.tree;
-    }
+can_shrink link s h1 = grind (arith, nat_tests, is_one, place_in, entry-comm)

@@ -1,4 +1,5 @@
 -- Sets taken apart one after another.
+use Rattle.std.proofs.lemmas.Bool.Decides.{nat_tests}
 use Rattle.std.proofs.Common.{◌≡◌, ℕ, ◌+◌, ◌*◌, ◌≤◌, ◌<◌, List, [], ◌∷◌, ◌++◌, length, arith, refl, sym, ap, subst, ◌∙◌, append_assoc, Some, None, Option}
 use Rattle.std.proofs.lemmas.List.{append-nil}
 use Rattle.odd_sets.specs.Lists.{Each}
@@ -51,9 +52,7 @@ head_of all left old now was so_far c rest taking e =
     }
 
 joined_lists : (was a b c : List Moat) (x y z : List Moat) → a ≡ was ++ x → b ≡ a ++ y → c ≡ b ++ z → c ≡ was ++ (x ++ (y ++ z))
-joined_lists was a b c x y z e f g =
-    g ∙ ap (λ (k : List Moat). k ++ z) (f ∙ ap (λ (k : List Moat). k ++ y) e ∙ append_assoc was x y) ∙ append_assoc was (x ++ y) z
-    ∙ ap (λ (k : List Moat). was ++ k) (append_assoc x y z)
+joined_lists was a b c x y z h1 h2 h3 = grind (arith, nat_tests, append_assoc)
 
 pub taking_more : (all left : List MatchValue) (old now mid end new : List Pair) (was a b z : List Moat) (c : MatchValue)
     (rest : List MatchValue) →
@@ -221,8 +220,7 @@ pub took_blossom : (left : ℕ) (s p : OddSetValue) (core : Option OddSetValue) 
     (was a b now : List Moat) → ((x : ℕ) → count x s.members ≤ 1) → core ≡ Some p →
     OpensAt left s core cs → a ≡ was ++ moat_of_set s.members s.dual → TakesApartSet left p old mid a b → TakesApartMatches cs mid new b now
     → TakesApartSet left s old new was now
-took_blossom left s p core cs old mid new was a b now once e o own first t =
-    takes_blossom left s p cs old mid new was a b now once (subst (λ (k : Option OddSetValue). OpensAt left s k cs) e o) own first t
+took_blossom left s p core cs old mid new was a b now h1 h2 h3 h4 h5 h6 = grind (arith, nat_tests, takes_blossom)
 
 pub record CoreOf (left : ℕ) (s p : OddSetValue) (cs : List MatchValue) : Type 0 where
   pub holds : count left p.members ≡ 1

@@ -1,15 +1,14 @@
 use Rattle.blossom_match.specs.declared.search.SearchStep.TheVariants as step
-use Rattle.std.proofs.Common.{arith, ap, List, [], ◌∷◌, ℕ, ◌-◌, drop, length, length-append, subst, sym, take, ◌∙◌}
+use Rattle.std.proofs.Common.{arith, [], ◌∷◌, ℕ, ◌-◌, drop, subst, sym, take, ◌∙◌}
 use Rattle.std.proofs.lemmas.List.{length-map}
 use Rattle.blossom_match.specs.OuterSlacks.{AddsOuterSlacks}
-use Rattle.odd_sets.specs.Slots.{branch_in, branches_in, match_in, matches_in}
+use Rattle.odd_sets.specs.Slots.{branch_in, branches_in, match_in}
 use Rattle.blossom_match.specs.States.{search_value}
-use Rattle.odd_sets.specs.Values.{BranchValue, MatchValue}
 use Rattle.blossom_match.specs.Searches.{stored_height, Advances, CanStepAt}
 use Rattle.blossom_match.specs.declared.search.SearchStep.{SearchStep}
 use Rattle.blossom_match.proofs.OuterSlackLemmas.{grown_past, grown_size}
 use Rattle.blossom_match.proofs.LoweredLemmas.{apart_more, is_reachable, one_more, steps_at}
-use Rattle.blossom_match.proofs.MaskLemmas.{have_cells, hides_there, masks_apart, masks_hung, masks_same, newest_is, next_search}
+use Rattle.blossom_match.proofs.MaskLemmas.{mapped_more, have_cells, hides_there, masks_apart, masks_hung, masks_same, newest_is, next_search}
 use Rattle.blossom_match.proofs.phase.take_step.Goals as goal
 
 pub grow_to-requires : goal.grow_to-requires
@@ -29,10 +28,7 @@ add_slacks_from-requires-clause-within c =
     omega (
       arith,
       c.len-before.ensures,
-      ap (λ (ks : List BranchValue). length ks) hangs.tree,
-      length-append (branches_in s.sets s.tree.items) (hangs.branch ∷ []),
-      length-map s.tree.items (branch_in s.sets),
-      length-map r.tree.items (branch_in r.sets),
+      mapped_more (branch_in s.sets) (branch_in r.sets) s.tree.items r.tree.items (hangs.branch ∷ []) hangs.tree,
     )
 
 pub returns-in_ok-grown-in-Grow-clause-reaches : goal.returns-in_ok-grown-in-Grow-clause-reaches
@@ -53,10 +49,7 @@ index-requires c =
     omega (
       arith,
       c.len-before.ensures,
-      ap (λ (ks : List BranchValue). length ks) hangs.tree,
-      length-append (branches_in s.sets s.tree.items) (hangs.branch ∷ []),
-      length-map s.tree.items (branch_in s.sets),
-      length-map r.tree.items (branch_in r.sets),
+      mapped_more (branch_in s.sets) (branch_in r.sets) s.tree.items r.tree.items (hangs.branch ∷ []) hangs.tree,
     )
 
 pub hide-requires : goal.hide-requires
@@ -91,14 +84,7 @@ show_from-requires-clause-within c =
     let s = c.args.s in
     let r = c.in_ok-expanded-in-Expand.expanded in
     let apart = c.in_ok-expanded-in-Expand.ensures.apart in
-    omega (
-      arith,
-      c.len-matched.ensures,
-      ap (λ (cs : List MatchValue). length cs) apart.rest,
-      length-append (matches_in s.sets s.rest.items) apart.more,
-      length-map s.rest.items (match_in s.sets),
-      length-map r.rest.items (match_in r.sets),
-    )
+    omega (arith, c.len-matched.ensures, mapped_more (match_in s.sets) (match_in r.sets) s.rest.items r.rest.items apart.more apart.rest)
 
 pub show_from-requires-clause-cells : goal.show_from-requires-clause-cells
 show_from-requires-clause-cells c =

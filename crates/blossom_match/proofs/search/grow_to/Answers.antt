@@ -8,8 +8,8 @@ use Rattle.blossom_match.proofs.search.grow_to.Goals as goal
 
 pub returns-clause-advances : goal.returns-clause-advances
 returns-clause-advances c =
-    hung c.args.link (search_value c.args.s) _ (match_in c.args.s.sets c.take_match-matched.result) c.take_match-matched.ensures
-    c.in_ok-grow.ensures refl refl refl
+    hung c.args.link (search_value c.args.s) _ _ (match_in c.args.s.sets c.take_match-matched.result) c.take_match-matched.ensures
+    c.in_ok-grow.ensures
 
 pub returns-clause-hangs : goal.returns-clause-hangs
 returns-clause-hangs c = record {

@@ -1,4 +1,4 @@
-use Rattle.std.proofs.Common.{arith, [], refl}
+use Rattle.std.proofs.Common.{arith, []}
 use Rattle.odd_sets.specs.Slots.{branches_in, set_in}
 use Rattle.blossom_match.specs.States.{search_value}
 use Rattle.odd_sets.specs.Trees.{all_dual_sets}
@@ -29,15 +29,6 @@ fold_slacks-requires-clause-cells c =
     folds_cells c.args.link (set_in sets c.in_ok-blossom.blossom) (set_in sets c.shrink.new.root) (search_value c.args.s)
     (branches_in sets c.shrink.new.tree.items) c.args.reach.now c.requires.step c.in_ok-blossom.ensures.shrinks c.requires.cells
 
-pub returns-clause-advances : goal.returns-clause-advances
-returns-clause-advances c =
-    let s = search_value c.args.s in
-    let e = c.in_ok-blossom.ensures in
-    shrunk (set_in c.shrink.new.sets c.in_ok-blossom.blossom) c.args.link s _ e.shrinks
-    (matches_stay c.args.s.sets c.shrink.new.sets c.in_ok-blossom.blossom.key (all_dual_sets s.root s.tree s.rest)
-    c.args.s.rest.items e.inserts c.args.s.stand
-    (λ k. omega (arith, all_uses k s.root s.tree s.rest))) refl refl
-
 pub returns-clause-rest : goal.returns-clause-rest
 returns-clause-rest c =
     let s = search_value c.args.s in
@@ -45,18 +36,15 @@ returns-clause-rest c =
     c.args.s.rest.items c.in_ok-blossom.ensures.inserts c.args.s.stand
     (λ k. omega (arith, all_uses k s.root s.tree s.rest))
 
+pub returns-clause-advances : goal.returns-clause-advances
+returns-clause-advances c =
+    shrunk (set_in c.shrink.new.sets c.in_ok-blossom.blossom) c.args.link (search_value c.args.s) _ _ _ c.in_ok-blossom.ensures.shrinks
+    (returns-clause-rest c)
+
 pub returns-clause-carries : goal.returns-clause-carries
 returns-clause-carries c =
-    let s = search_value c.args.s in
-    let e = c.in_ok-blossom.ensures in
-    let sets = c.shrink.new.sets in
-    let set = set_in sets c.in_ok-blossom.blossom in
-    carries c.args.link set s _ c.args.reach.now c.fold_slacks.new.reach
-    (shrunk set c.args.link s _ e.shrinks
-    (matches_stay c.args.s.sets sets c.in_ok-blossom.blossom.key (all_dual_sets s.root s.tree s.rest)
-    c.args.s.rest.items e.inserts c.args.s.stand
-    (λ k. omega (arith, all_uses k s.root s.tree s.rest))) refl refl)
-    e.shrinks.folds c.fold_slacks.auto.reach c.fold_slacks.ensures
+    carries c.args.link (set_in c.shrink.new.sets c.in_ok-blossom.blossom) (search_value c.args.s) _ c.args.reach.now
+    c.fold_slacks.new.reach (returns-clause-advances c) c.in_ok-blossom.ensures.shrinks.folds c.fold_slacks.auto.reach c.fold_slacks.ensures
 
 pub invariant_of-result : goal.invariant_of-result
 invariant_of-result c =
