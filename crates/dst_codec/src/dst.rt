@@ -1,8 +1,8 @@
 use crate::jump_runs::JumpRun;
 use crate::writing::write_file;
-use design_model::{Command, Design};
-use format_traits::{Fed, Feed, Format, Loaded, ReadFault, WriteFault, WriteLimits, decode_whole};
-use lists_and_numbers::{Bytes, Memory};
+use design_model::Design;
+use format_traits::{Codec, FedFormat, WriteFault, WriteLimits};
+use lists_and_numbers::Bytes;
 use record_formats::RecordDecoder;
 use std::alloc::Global;
 
@@ -22,70 +22,38 @@ pub const WRITE_LIMITS: WriteLimits = WriteLimits {
     stops: Some(MAX_STOPS),
 };
 
-/// The DST format.
-#[derive(Drop)]
-pub struct Dst {
-    feed: Feed<RecordDecoder<JumpRun>>,
-}
+/// The parts of the DST format.
+#[derive(Clone, Copy)]
+pub struct DstCodec;
 
-impl Dst {
-    ghost use Rattle.dst_codec.specs.Reading.{dst_reads, dst_shown};
-    ghost use Rattle.format_traits.specs.Feeding.{HasNothingFed};
-
-    /// Returns a format object to which nothing was fed. Allocates nothing.
-    pub fn new(alloc: Global) -> Dst
-        ensures { HasNothingFed dst_reads dst_shown (⟦<Dst as Format>⟧.feed_state result) }
-    {
-        Dst {
-            feed: Feed::new(decoder(alloc)),
-        }
-    }
-}
-
-impl Format for Dst {
+impl Codec for DstCodec {
+    ghost use Rattle.std.specs.Prelude.{refl};
     ghost use Rattle.dst_codec.specs.Format.{dst_meaning};
 
-    ghost meaning = { λ _. dst_meaning };
+    type Decoder = RecordDecoder<JumpRun>;
 
-    ghost feed_state = { λ d. ⟦<Feed<RecordDecoder<JumpRun>> as Fed>⟧.feed_state d.feed };
+    ghost codec_meaning = { dst_meaning };
 
-    fn ext(&self) -> &str {
+    fn ext<'a>() -> &'a str {
         "dst"
     }
 
-    fn limit(&self) -> u32 {
+    fn limit() -> u32 {
         LIMIT
     }
 
-    fn decode(&self, alloc: Global, bytes: &[u8]) -> Result<Loaded, ReadFault> {
-        decode_whole(decoder(alloc), 0, bytes)
+    fn decoder(alloc: Global) -> RecordDecoder<JumpRun> {
+        RecordDecoder::new(alloc, JumpRun { jumps: 0 })
     }
 
-    fn encode(&self, alloc: Global, design: &Design) -> Result<Bytes, WriteFault> {
+    fn write(alloc: Global, design: &Design) -> Result<Bytes, WriteFault> {
         write_file(alloc, design)
     }
 
-    fn begin(&mut self) {
-        self.feed.begin(0);
-    }
+    ghost reads_alike = { λ bytes. refl };
 
-    fn feed(&mut self, piece: &[u8]) -> Result<(), Memory> {
-        self.feed.feed(piece)
-    }
-
-    fn finish(&mut self) -> Result<Loaded, ReadFault> {
-        self.feed.finish()
-    }
-
-    fn taken(&self) -> u64 {
-        self.feed.taken
-    }
-
-    fn so_far(&self) -> &[Command] {
-        self.feed.so_far()
-    }
+    ghost shows_alike = { λ bytes. refl };
 }
 
-fn decoder(alloc: Global) -> RecordDecoder<JumpRun> {
-    RecordDecoder::new(alloc, JumpRun { jumps: 0 })
-}
+/// The DST format.
+pub type Dst = FedFormat<DstCodec>;

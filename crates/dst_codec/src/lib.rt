@@ -17,7 +17,7 @@ mod writing;
 mod writing_tables;
 
 pub use bits::decode_move;
-pub use dst::{Dst, LIMIT, MAX_FLOAT_HOPS, MAX_STOPS};
+pub use dst::{Dst, DstCodec, LIMIT, MAX_FLOAT_HOPS, MAX_STOPS};
 pub use move_encoding::encode_move;
 pub use theorems::{
     label_round_trips, moves_have_one_encoding, read_moves_are_writable, written_reads_again,

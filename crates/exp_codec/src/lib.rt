@@ -8,5 +8,5 @@ mod unit_writer;
 mod units;
 mod writing;
 
-pub use exp::{Exp, LIMIT};
+pub use exp::{Exp, ExpCodec, LIMIT};
 pub use theorems::written_reads_again;

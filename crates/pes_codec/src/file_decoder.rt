@@ -2,9 +2,9 @@ use crate::file_front::FileFront;
 use crate::file_stage::FileStage;
 use design_model::Command;
 use format_traits::{Decoder, Loaded, ReadFault};
-use record_formats::RecordDecoder;
 use lists_and_numbers::Memory;
 use pec_codec::{PecRecords, block_decoder};
+use record_formats::RecordDecoder;
 use std::alloc::Global;
 
 /// The decoder of files whose block comes after a front.

@@ -10,6 +10,6 @@ mod pes;
 mod theorems;
 
 pub use front::{OFFSET_END, PEC_BLOCK_OFFSET};
-pub use pec::Pec;
-pub use pes::Pes;
+pub use pec::{Pec, PecCodec};
+pub use pes::{Pes, PesCodec};
 pub use theorems::{labels_and_threads_round_trip, written_reads_again};

@@ -1,24 +1,23 @@
 ghost use Rattle.std.specs.Prelude.{◌≡◌, ◌≤◌, length, IfOk};
-ghost use Rattle.format_traits.specs.Laws.{DecodesTo, KeepsLaws, EncodesTo};
+ghost use Rattle.format_traits.specs.Laws.{KeepsLaws, EncodesTo};
 ghost use Rattle.pes_codec.specs.declared.front.TheConstants.{OFFSET_END};
 ghost use Rattle.pes_codec.specs.Files.{block_offset_in};
 ghost use Rattle.pes_codec.specs.Formats.{pes_meaning};
 ghost use Rattle.pes_codec.specs.Laws.{RoundTripsWithThreads};
-ghost use Rattle.pes_codec.specs.Reading.{pes_reads};
 
 use crate::file_decoder::FileDecoder;
 use crate::file_front::FileFront;
 use crate::front::{OFFSET_END, write_after_front};
 use byteorder::{ByteOrder, LittleEndian};
-use design_model::{Command, Design};
-use format_traits::{Fed, Feed, Format, Loaded, ReadFault, WriteFault, decode_whole};
-use lists_and_numbers::{Bytes, Memory};
+use design_model::Design;
+use format_traits::{Codec, FedFormat, WriteFault};
+use lists_and_numbers::Bytes;
 use pec_codec::LIMIT;
 use std::alloc::Global;
 
 /// The front of a PES file.
 #[derive(Clone, Copy)]
-struct PesFront;
+pub struct PesFront;
 
 impl FileFront for PesFront {
     ghost use Rattle.pes_codec.specs.Fronts.{pes_front_layout};
@@ -38,50 +37,34 @@ impl FileFront for PesFront {
     }
 }
 
-/// The PES format: any version is read, and version 1 without sewing segments is written.
-#[derive(Drop)]
-pub struct Pes {
-    feed: Feed<FileDecoder<PesFront>>,
-}
+/// The parts of the PES format.
+#[derive(Clone, Copy)]
+pub struct PesCodec;
 
-impl Pes {
-    ghost use Rattle.format_traits.specs.Feeding.{HasNothingFed};
-    ghost use Rattle.pes_codec.specs.Reading.{pes_reads, pes_shown};
-
-    /// Returns a format object to which nothing was fed. Allocates nothing.
-    pub fn new(alloc: Global) -> Pes
-        ensures { HasNothingFed pes_reads pes_shown (⟦<Pes as Format>⟧.feed_state result) }
-    {
-        Pes {
-            feed: Feed::new(FileDecoder::new(alloc, PesFront)),
-        }
-    }
-}
-
-impl Format for Pes {
-    ghost use Rattle.std.specs.Prelude.{IfOk, IsOk};
+impl Codec for PesCodec {
+    ghost use Rattle.std.specs.Prelude.{IfOk, IsOk, refl};
     ghost use Rattle.format_traits.specs.Laws.{MovesWithin, RoundTrips, EncodesTo};
     ghost use Rattle.format_traits.specs.PlainDesigns.{IsPlain};
     ghost use Rattle.pes_codec.specs.Formats.{pes_meaning};
     ghost use Rattle.pes_codec.specs.Laws.{RoundTripsWithThreads};
 
-    ghost meaning = { λ _. pes_meaning };
+    type Decoder = FileDecoder<PesFront>;
 
-    ghost feed_state = { λ f. ⟦<Feed<FileDecoder<PesFront>> as Fed>⟧.feed_state f.feed };
+    ghost codec_meaning = { pes_meaning };
 
-    fn ext(&self) -> &str {
+    fn ext<'a>() -> &'a str {
         "pes"
     }
 
-    fn limit(&self) -> u32 {
+    fn limit() -> u32 {
         LIMIT
     }
 
-    fn decode(&self, alloc: Global, bytes: &[u8]) -> Result<Loaded, ReadFault> {
-        decode_whole(FileDecoder::new(alloc, PesFront), 0, bytes)
+    fn decoder(alloc: Global) -> FileDecoder<PesFront> {
+        FileDecoder::new(alloc, PesFront)
     }
 
-    fn encode(&self, alloc: Global, design: &Design) -> Result<Bytes, WriteFault>
+    fn write(alloc: Global, design: &Design) -> Result<Bytes, WriteFault>
         ensures value { EncodesTo (pes_meaning.writes design.now) result }
         ensures again { IfOk result (λ bytes. RoundTrips pes_meaning design.now bytes) }
         ensures within { IfOk result (λ bytes. MovesWithin pes_meaning bytes) }
@@ -94,26 +77,13 @@ impl Format for Pes {
         write_file(alloc, design)
     }
 
-    fn begin(&mut self) {
-        self.feed.begin(0);
-    }
+    ghost reads_alike = { λ bytes. refl };
 
-    fn feed(&mut self, piece: &[u8]) -> Result<(), Memory> {
-        self.feed.feed(piece)
-    }
-
-    fn finish(&mut self) -> Result<Loaded, ReadFault> {
-        self.feed.finish()
-    }
-
-    fn taken(&self) -> u64 {
-        self.feed.taken
-    }
-
-    fn so_far(&self) -> &[Command] {
-        self.feed.so_far()
-    }
+    ghost shows_alike = { λ bytes. refl };
 }
+
+/// The PES format: any version is read, and version 1 without sewing segments is written.
+pub type Pes = FedFormat<PesCodec>;
 
 fn write_file(alloc: Global, design: &Design) -> Result<Bytes, WriteFault>
     ensures value { EncodesTo (pes_meaning.writes design.now) result }

@@ -19,7 +19,7 @@ mod theorems;
 mod words;
 mod writing;
 
-pub use stitch_list::{LIMIT, List, MAX_STOPS};
+pub use stitch_list::{LIMIT, List, ListCodec, MAX_STOPS};
 pub use theorems::{
     floats_are_never_too_long, lists_alone_are_read, lists_keep_label_and_threads,
     read_texts_are_canonical, written_reads_again,

@@ -3,9 +3,9 @@ ghost use Rattle.stitch_text.specs.StitchLists.{list_write_limits};
 
 use crate::list_decoder::ListDecoder;
 use crate::writing::write_file;
-use design_model::{Command, Design};
-use format_traits::{Fed, Feed, Format, Loaded, ReadFault, WriteFault, WriteLimits, decode_whole};
-use lists_and_numbers::{Bytes, Memory};
+use design_model::Design;
+use format_traits::{Codec, FedFormat, WriteFault, WriteLimits};
+use lists_and_numbers::Bytes;
 use std::alloc::Global;
 
 /// The greatest move of a stitch on each axis, in tenths of a millimetre.
@@ -25,66 +25,38 @@ pub(crate) fn write_limits() -> WriteLimits
     }
 }
 
-/// The stitch list as a format.
-#[derive(Drop)]
-pub struct List {
-    feed: Feed<ListDecoder>,
-}
+/// The parts of the format of stitch lists.
+#[derive(Clone, Copy)]
+pub struct ListCodec;
 
-impl List {
-    ghost use Rattle.format_traits.specs.Feeding.{HasNothingFed};
-    ghost use Rattle.stitch_text.specs.Readings.{list_reads, list_shown};
-
-    /// Returns a format object to which nothing was fed. Allocates nothing.
-    pub fn new(alloc: Global) -> List
-        ensures { HasNothingFed list_reads list_shown (⟦<List as Format>⟧.feed_state result) }
-    {
-        List {
-            feed: Feed::new(ListDecoder::new(alloc)),
-        }
-    }
-}
-
-impl Format for List {
+impl Codec for ListCodec {
+    ghost use Rattle.std.specs.Prelude.{refl};
     ghost use Rattle.stitch_text.specs.Format.{list_meaning};
 
-    ghost meaning = { λ _. list_meaning };
+    type Decoder = ListDecoder;
 
-    ghost feed_state = { λ l. ⟦<Feed<ListDecoder> as Fed>⟧.feed_state l.feed };
+    ghost codec_meaning = { list_meaning };
 
-    fn ext(&self) -> &str {
+    fn ext<'a>() -> &'a str {
         "lst"
     }
 
-    fn limit(&self) -> u32 {
+    fn limit() -> u32 {
         LIMIT
     }
 
-    fn decode(&self, alloc: Global, bytes: &[u8]) -> Result<Loaded, ReadFault> {
-        decode_whole(ListDecoder::new(alloc), 0, bytes)
+    fn decoder(alloc: Global) -> ListDecoder {
+        ListDecoder::new(alloc)
     }
 
-    fn encode(&self, alloc: Global, design: &Design) -> Result<Bytes, WriteFault> {
+    fn write(alloc: Global, design: &Design) -> Result<Bytes, WriteFault> {
         write_file(alloc, design)
     }
 
-    fn begin(&mut self) {
-        self.feed.begin(0);
-    }
+    ghost reads_alike = { λ bytes. refl };
 
-    fn feed(&mut self, piece: &[u8]) -> Result<(), Memory> {
-        self.feed.feed(piece)
-    }
-
-    fn finish(&mut self) -> Result<Loaded, ReadFault> {
-        self.feed.finish()
-    }
-
-    fn taken(&self) -> u64 {
-        self.feed.taken
-    }
-
-    fn so_far(&self) -> &[Command] {
-        self.feed.so_far()
-    }
+    ghost shows_alike = { λ bytes. refl };
 }
+
+/// The stitch list as a format.
+pub type List = FedFormat<ListCodec>;
