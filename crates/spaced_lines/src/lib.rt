@@ -9,4 +9,6 @@ mod spacing_theorems;
 
 pub use spaced_answers::{spaced_lines_keep_limits, spacing_refuses_none};
 pub use spaced_drawing::{SpacedDrawing, space};
-pub use spacing_theorems::{ spaced_lines_save_steps, spaced_lines_stay_near, spaced_sections_keep_ends, };
+pub use spacing_theorems::{
+    spaced_lines_save_steps, spaced_lines_stay_near, spaced_sections_keep_ends,
+};

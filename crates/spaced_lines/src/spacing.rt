@@ -7,8 +7,8 @@ ghost use Rattle.drawing_review.specs.Meetings.{is_near};
 ghost use Rattle.line_sections.specs.Spots.{is_same_spot};
 ghost use Rattle.spaced_lines.specs.SpacedLines.{comes_near_all, is_spot_of, is_stitch_for, kept_after, kept_from, leeway_of, may_leave_out, spaced_line, spaced_points};
 
-use drawing_repairs::{distance, lone_segment};
 use design_model::{Point, Points};
+use drawing_repairs::{distance, lone_segment};
 use drawing_review::{LineSegment, comes_near, counted_from_least};
 use line_sections::{Line, Spot, first_point};
 use lists_and_numbers::Memory;
