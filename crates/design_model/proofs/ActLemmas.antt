@@ -1,5 +1,6 @@
 -- The acts of commands in range are in range.
-use Rattle.std.proofs.Common.{◌≡◌, ℕ, ◌+◌, Bool, true, IsTrue, [], ◌∷◌, ◌++◌, Option, Some, None, IfSome, refl}
+use Rattle.std.proofs.lemmas.Bool.Decides.{nat_tests}
+use Rattle.std.proofs.Common.{◌≡◌, ℕ, ◌+◌, Bool, true, IsTrue, [], ◌∷◌, ◌++◌, Option, Some, None, IfSome, refl, arith}
 use Rattle.std.proofs.lemmas.Bool.{and_parts, and_from}
 use Rattle.design_model.specs.declared.act.Act.{Act}
 use Rattle.design_model.specs.declared.command.Command.{Command}
@@ -13,8 +14,5 @@ pub act_in_range : (command : Command) (r : Option Act) (loose jumped loose_new 
     → IsTrue (is_command_in_range command)
     → acts_from 0 loose jumped (command ∷ []) ≡ numbered_act_list 0 r ++ acts_from (0 + 1) loose_new jumped_new []
     → IfSome r (λ a. IsTrue (is_act_in_range a))
-act_in_range command None loose jumped loose_new jumped_new here is = tt
-act_in_range command (Some a) loose jumped loose_new jumped_new here is =
-    let all : IsTrue (are_in_range (acts_from 0 loose jumped (command ∷ []))) =
-    acts_in_range 0 loose jumped (command ∷ []) (and_from (is_command_in_range command) true here refl) in
-    (and_parts (is_act_in_range a) true (rw is at all)).0
+act_in_range command r loose jumped loose_new jumped_new h1 h2 =
+    grind (arith, nat_tests, are_in_range, acts_in_range, and_from, and_parts)

@@ -1,4 +1,5 @@
 -- Needles of blocks, where a block is begun.
+use Rattle.std.proofs.lemmas.Bool.Decides.{nat_tests}
 use Rattle.std.proofs.Common.{◌≡◌, ℕ, ◌+◌, Bool, true, false, List, [], ◌∷◌, ◌++◌, length, refl, ap, sym, ◌∙◌, arith, append_assoc, add-zero, zero-add}
 use Rattle.std.proofs.lemmas.List.{length-map}
 use Rattle.std.proofs.lemmas.List.Sums.{sum_by-cons}
@@ -14,9 +15,7 @@ use Rattle.design_model.specs.Blocks.{blocks_of, continued_block_counts, with_ac
 none_more_in : (a : NumberedAct) (stops : Bool) (later : List (List NumberedAct))
     → let blocks : List (List NumberedAct) = if stops then [] ∷ later else with_act_in_first_block a later in
     with_needles_in_first_block 0 (map (count_by is_needle) blocks) ≡ map (count_by is_needle) blocks
-none_more_in a true later = refl
-none_more_in a false [] = simp zero-add
-none_more_in a false (block ∷ later) = simp zero-add
+none_more_in a stops later = grind (arith, nat_tests, zero-add)
 
 -- no needle more in the first block
 none_more : (acts : List NumberedAct) → with_needles_in_first_block 0 (needles_by_block acts) ≡ needles_by_block acts
@@ -38,9 +37,7 @@ carried_stop before after needles a pushed stop n rest =
 length-parted : (a : NumberedAct) (stops : Bool) (later : List (List NumberedAct)) (count : ℕ)
     → length later ≡ count + 1
     → length (if stops then [] ∷ later else with_act_in_first_block a later) ≡ (if stops then 1 else 0) + count + 1
-length-parted a true later count is = omega arith
-length-parted a false [] count is = omega arith
-length-parted a false (block ∷ later) count is = omega arith
+length-parted a stops later count h1 = grind (arith, nat_tests)
 
 -- there is one block more than stops
 length-blocks_of : (acts : List NumberedAct) → length (blocks_of acts) ≡ count_by is_stop acts + 1
@@ -52,5 +49,4 @@ length-blocks_of (a ∷ rest) =
 -- the same of the numbers of the blocks
 pub blocks_by_stops : (needles : List ℕ) (acts : List NumberedAct) → needles ≡ needles_by_block acts
     → length needles ≡ count_by is_stop acts + 1
-blocks_by_stops needles acts is =
-    ap length is ∙ length-map (blocks_of acts) (count_by is_needle) ∙ length-blocks_of acts
+blocks_by_stops needles acts is = grind (arith, nat_tests, length-map, length-blocks_of)

@@ -16,9 +16,7 @@ use Rattle.design_model.specs.declared.point.Point.{Point}
 
 -- points that are found to be the same are the same
 pub same_is : (p q : Point) → is_same_point p q ≡ true → p ≡ q
-same_is p q found =
-    let both = and_parts (int_eq p.x q.x) (int_eq p.y q.y) found in
-    ap₂ (λ x y. record { x = x; y = y }) ((Decides-int_eq p.x q.x).0 both.0) ((Decides-int_eq p.y q.y).0 both.1)
+same_is p q found = grind (arith, nat_tests, and_parts, ap₂)
 
 pub point_itself : (p : Point) → is_same_point p p ≡ true
 point_itself p = and_from (int_eq p.x p.x) (int_eq p.y p.y) ((Decides-int_eq p.x p.x).1 refl) ((Decides-int_eq p.y p.y).1 refl)
@@ -30,8 +28,7 @@ within_parts limit p within = grind (arith, nat_tests)
 
 -- equal coordinates are those of equal points
 pub same_point : (p q : Point) → p.x ≡ q.x → p.y ≡ q.y → p ≡ q
-same_point p q across down =
-    let make : ℤ → ℤ → Point = λ x y. record { x = x; y = y } in ap₂ make across down
+same_point p q across down = grind (arith, nat_tests, ap₂)
 
 -- points are equal where their coordinates are
 pub point_of_parts : {x x' y y' : ℤ} → x ≡ x' → y ≡ y'
@@ -61,6 +58,4 @@ acts_in_range n false jumped (Trim ∷ rest) all = acts_in_range (n + 1) true fa
 acts_in_range n loose jumped (Stop ∷ rest) all = acts_in_range (n + 1) true false rest all
 
 pub within_more : (limit more : ℕ) (m : Point) → limit ≤ more → IsTrue (is_point_within limit m) → IsTrue (is_point_within more m)
-within_more limit more m less here =
-    let parts = within_parts limit m here in
-    within_from more m (omega (arith, parts.0, less)) (omega (arith, parts.1, less))
+within_more limit more m less here = grind (arith, nat_tests, within_parts, within_from)

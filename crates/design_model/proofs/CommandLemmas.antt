@@ -1,5 +1,6 @@
 -- Commands of which one is moved to another point.
-use Rattle.std.proofs.Common.{ap, ◌≡◌, ℕ, zero, suc, IsTrue, List, [], ◌∷◌, Option, Some, None, IfSome, IsSomeAnd, get_or, set, refl}
+use Rattle.std.proofs.lemmas.Bool.Decides.{nat_tests}
+use Rattle.std.proofs.Common.{ap, ◌≡◌, ℕ, zero, suc, IsTrue, List, [], ◌∷◌, Option, Some, None, IfSome, IsSomeAnd, get_or, set, refl, arith}
 use Rattle.std.proofs.lemmas.Bool.{and_parts, and_from}
 use Rattle.std.specs.Prelude.{slice_get}
 use Rattle.std.specs.List.{list_all}
@@ -10,10 +11,7 @@ use Rattle.design_model.specs.Commands.{is_command_in_range, command_with_point,
 
 -- A command that accepts a point is in range there.
 taken_in_range : (c : Command) (p : Point) → IsTrue (command_accepts_point c p) → IsTrue (is_command_in_range (command_with_point c p))
-taken_in_range (Stitch q) p takes = takes
-taken_in_range (Jump q) p takes = takes
-taken_in_range Trim p takes = refl
-taken_in_range Stop p takes = refl
+taken_in_range c p h1 = grind (arith, nat_tests)
 
 -- the command that was found at the index is the one that is looked up there
 found_there : (cs : List Command) (i : ℕ) (found : Command) → found ≡ get_or cs i found
@@ -26,8 +24,7 @@ found_there (c ∷ rest) (suc i) found is = found_there rest i found is
 put_there : (cs : List Command) (i : ℕ) (found : Command) (p : Point) (looked_up : Option Command)
     → IfSome looked_up (λ c. found ≡ c)
     → IfSome looked_up (λ c. set cs i (command_with_point found p) ≡ set cs i (command_with_point c p))
-put_there cs i found p None same = tt
-put_there cs i found p (Some c) same = ap (λ x. set cs i (command_with_point x p)) same
+put_there cs i found p looked_up h1 = grind (arith, nat_tests)
 
 pub moved_in_place : (cs : List Command) (i : ℕ) (found : Command) (p : Point) → found ≡ get_or cs i found
     → IfSome (slice_get cs i) (λ c. set cs i (command_with_point found p) ≡ set cs i (command_with_point c p))
@@ -38,9 +35,7 @@ pub moved_in_range : (cs : List Command) (i : ℕ) (found : Command) (p : Point)
     → IsSomeAnd (slice_get cs i) (λ c. IsTrue (command_accepts_point c p))
     → IsTrue (list_all is_command_in_range cs) → IsTrue (list_all is_command_in_range (set cs i (command_with_point found p)))
 moved_in_range [] i found p is takes all = all
-moved_in_range (c ∷ rest) zero found p is takes all =
-    and_from (is_command_in_range (command_with_point found p)) (list_all is_command_in_range rest)
-    (rw is (taken_in_range c p takes)) (and_parts (is_command_in_range c) (list_all is_command_in_range rest) all).1
+moved_in_range (c ∷ rest) zero found p is takes all = grind (arith, nat_tests, and_from, taken_in_range, and_parts)
 moved_in_range (c ∷ rest) (suc i) found p is takes all =
     let both = and_parts (is_command_in_range c) (list_all is_command_in_range rest) all in
     and_from (is_command_in_range c) (list_all is_command_in_range (set rest i (command_with_point found p))) both.0

@@ -27,9 +27,7 @@ eq_self n = grind (arith, nat_tests)
 
 -- two tests of which each gives the other are the same
 pub same_test : (s t : Bool) → (s ≡ true → t ≡ true) → (t ≡ true → s ≡ true) → s ≡ t
-same_test true t to from = sym (to refl)
-same_test false true to from = from refl
-same_test false false to from = refl
+same_test s t h1 h2 = grind (arith, nat_tests)
 
 -- a lesser number differs
 pub differs : (m n : ℕ) → m < n → (m == n) ≡ false
@@ -41,24 +39,20 @@ number_found m n is = grind (arith, nat_tests)
 
 -- One of two tests holds, and each has another that follows from it.
 pub either_way : (x y x' y' : Bool) → (x ≡ true → x' ≡ true) → (y ≡ true → y' ≡ true) → (x || y) ≡ true → (x' || y') ≡ true
-either_way true y x' y' one two both = or_left x' y' (one refl)
-either_way false y x' y' one two both = or_right x' y' (two both)
+either_way x y x' y' h1 h2 h3 = grind (arith, nat_tests, or_left, or_right)
 
 -- what is there is the same
 pub some_same : {A : Type 0} (x y : A) → Some x ≡ Some y → x ≡ y
 some_same x y is = cc
 
 pub and_false : (b : Bool) → (b && false) ≡ false
-and_false true = refl
-and_false false = refl
+and_false b = grind (arith, nat_tests)
 
 pub first_true : (a b : Bool) → (a && b) ≡ true → a ≡ true
-first_true true b is = refl
-first_true false b is = is
+first_true a b h1 = grind (arith, nat_tests)
 
 pub second_true : (a b : Bool) → (a && b) ≡ true → b ≡ true
-second_true true b is = is
-second_true false b is = cc
+second_true a b h1 = grind (arith, nat_tests)
 
 pub differs_back : (m n : ℕ) → m < n → (n == m) ≡ false
 differs_back m n h = grind (arith, nat_tests)
@@ -72,14 +66,11 @@ pub decimal_model : IsNumeralModel (λ ds. all_ascii_digits ds ≡ true) (digits
 decimal_model = numerals_by_value (λ ds. all_ascii_digits ds ≡ true) tells_all_ascii_digits
 
 pub test_none : {F : Type 0} (test : Bool) (found : F) → cond test None (Some found) ≡ None → test ≡ true
-test_none true found is = refl
-test_none false found is = absurd (cc)
+test_none test found h1 = grind (arith, nat_tests)
 
 pub digits_read : (minus : Bool) (ds : List ℕ) (n : ℕ) → is_digit_string ds ≡ true → digits_value 10 ds ≡ n → n ≤ 999999999
     → parsed_digits minus ds ≡ whole.Value (signed_number minus n)
-digits_read minus ds n numeral value small =
-    let test : nat_le n 999999999 ≡ true = grind (arith, nat_tests) in
-    rw (numeral, value, test) refl
+digits_read minus ds n numeral value small = grind (arith, nat_tests)
 
 -- The lists of a list of lists are in their concatenation.
 pub concat_has : (xss : List (List ℕ)) (xs : List ℕ) (x : ℕ) → Contains xss xs → Contains xs x → Contains (concat xss) x
@@ -106,8 +97,7 @@ digit_among (b ∷ bs) (suc i) all there =
 
 -- digits spell the number that they write
 pub numeral_some : (ds : List ℕ) → 0 < length ds → all_ascii_digits ds ≡ true → is_digit_string ds ≡ true
-numeral_some [] some digits = absurd (omega arith)
-numeral_some (b ∷ ds) some digits = digits
+numeral_some ds h1 h2 = grind (arith, nat_tests)
 
 -- the lines of the first piece, and of those after it
 pub below_left : (n : ℕ) (xs ys : List ℕ) → All (λ line. line < n) (xs ++ ys) → All (λ line. line < n) xs
@@ -132,15 +122,12 @@ some_of n test = grind (arith, nat_tests, test)
 
 -- a cursor that isn't 0 is one more than an end, whose line has an index and starts at the junction
 pub one_before : (number : ℕ) → (number ≡ 0 → ⊥) → number ≡ number - 1 + 1
-one_before zero some = absurd (some refl)
-one_before (suc number) some = omega arith
+one_before number h1 = grind (arith, nat_tests)
 
 -- A number of a list that passes is kept.
 pub filter_has : (p : ℕ → Bool) (xs : List ℕ) (x : ℕ) → Contains xs x → p x ≡ true → Contains (filter p xs) x
 filter_has p [] x (k, below, is) passes = absurd (omega (arith, below))
-filter_has p (y ∷ xs) x (zero, below, is) passes =
-    let here : p y ≡ true = ap p is ∙ passes in
-    subst (λ (t : Bool). Contains (cond t (y ∷ filter p xs) (filter p xs)) x) (sym here) (0, omega arith, is)
+filter_has p (y ∷ xs) x (zero, below, is) passes = grind (arith, nat_tests)
 filter_has p (y ∷ xs) x (suc k, below, is) passes = by_test (p y) (filter_has p xs x (k, omega (arith, below), is) passes)
   where
     by_test : (t : Bool) → Contains (filter p xs) x → Contains (cond t (y ∷ filter p xs) (filter p xs)) x
@@ -149,23 +136,17 @@ filter_has p (y ∷ xs) x (suc k, below, is) passes = by_test (p y) (filter_has 
 
 -- The first index of a range, and the others.
 pub next_range : (from to : ℕ) → from < to → range_with_len from (to - from) ≡ from ∷ range_with_len (from + 1) (to - (from + 1))
-next_range from to below =
-    let more : to - from ≡ suc (to - (from + 1)) = omega (arith, below) in
-    ap (range_with_len from) more
+next_range from to below = grind (arith, nat_tests)
 
 -- A first index that does not pass is left out.
 pub filter_skips : (p : ℕ → Bool) (from to : ℕ) → from < to → p from ≡ false
     → filter p (range_with_len from (to - from)) ≡ filter p (range_with_len (from + 1) (to - (from + 1)))
-filter_skips p from to below test =
-    let rest : List ℕ = filter p (range_with_len (from + 1) (to - (from + 1))) in
-    ap (filter p) (next_range from to below) ∙ ap (λ (t : Bool). cond t (from ∷ rest) rest) test
+filter_skips p from to below test = grind (arith, nat_tests, next_range)
 
 -- A first index that passes comes first.
 pub filter_takes : (p : ℕ → Bool) (from to : ℕ) → from < to → p from ≡ true
     → filter p (range_with_len from (to - from)) ≡ from ∷ filter p (range_with_len (from + 1) (to - (from + 1)))
-filter_takes p from to below test =
-    let rest : List ℕ = filter p (range_with_len (from + 1) (to - (from + 1))) in
-    ap (filter p) (next_range from to below) ∙ ap (λ (t : Bool). cond t (from ∷ rest) rest) test
+filter_takes p from to below test = grind (arith, nat_tests, next_range)
 
 -- and what is made of each is made
 pub map_has : (f : ℕ → List ℕ) (xs : List ℕ) (x : ℕ) → Contains xs x → Contains (map f xs) (f x)
@@ -189,33 +170,21 @@ size-neg z = grind (arith, ints)
 
 -- digits begin with no minus sign
 pub no_minus : (minus : ℕ) (ds : List ℕ) → all_ascii_digits ds ≡ true → 0 < length ds → parsed_whole ds ≡ parsed_digits false ds
-no_minus minus [] digits some = absurd (omega arith)
-no_minus minus (b ∷ ds) digits some =
-    let both = and_parts (is_ascii_digit b) (all_ascii_digits ds) digits in
-    let test : (b == 45) ≡ false = grind (arith, nat_tests, both.0) in
-    rw test refl
+no_minus minus ds h1 h2 = grind (arith, nat_tests, and_parts)
 
 -- the numeral of a number denotes that number
 pub decimal_read : (n : ℕ) → n ≤ 999999999 → parsed_whole (decimal n) ≡ whole.Value (pos n)
 decimal_read n small =
-    let fits : n < 2 ^ 64 = omega (arith, small) in
-    let digits = digits_decimal decimal_model n fits in
-    let some = decimal_nonempty n fits in
-    no_minus 45 (decimal n) digits some
-    ∙ digits_read false (decimal n) n (numeral_some (decimal n) some digits) (digits_value-decimal decimal_model n fits) small
+    grind (arith, nat_tests, digits_decimal, decimal_model, decimal_nonempty, no_minus, digits_read, numeral_some, digits_value-decimal)
 
 pub signed_read : (z : ℤ) → unsigned_abs z ≤ 999999999 → parsed_whole (signed_decimal z) ≡ whole.Value z
-signed_read (pos n) small = decimal_read n small
-signed_read (negsuc n) small =
-    let fits : suc n < 2 ^ 64 = omega (arith, small) in
-    let digits = digits_decimal decimal_model (suc n) fits in
-    let some = decimal_nonempty (suc n) fits in
-    digits_read true (decimal (suc n)) (suc n) (numeral_some (decimal (suc n)) some digits) (digits_value-decimal decimal_model (suc n) fits) small
+signed_read z h1 =
+    grind (arith, nat_tests, decimal_read, digits_decimal, decimal_model, decimal_nonempty, digits_read, numeral_some,
+      digits_value-decimal)
 
 -- a test that is one of two
 pub one_of : (s t : Bool) → (s || t) ≡ true → (s ≡ true) ⊎ (t ≡ true)
-one_of true t is = inl refl
-one_of false t is = inr is
+one_of s t h1 = grind (arith, nat_tests)
 
 -- a word that is found to be this text is this text
 pub same_word : (word text : List ℕ) → bytes_eq word text ≡ true → word ≡ text
@@ -223,13 +192,7 @@ same_word word text found = (bytes_eq-Decides word text).0 found
 
 -- A range rises.
 pub range_rises : (from count : ℕ) → IsStrictlyIncreasing (range_with_len from count)
-range_rises from count k there =
-    let size = length-range_with_len from count in
-    omega (
-      arith,
-      get_or-range_with_len from count k 0 (omega (arith, size, there)),
-      get_or-range_with_len from count (k + 1) 0 (omega (arith, size, there)),
-    )
+range_rises from count k there = grind (arith, nat_tests, length-range_with_len, get_or-range_with_len)
 
 -- the sum of a quantity over numbers from one on
 abbrev pub sum_over : (ℕ → ℕ) → ℕ → ℕ → ℕ

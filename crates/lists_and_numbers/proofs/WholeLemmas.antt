@@ -1,4 +1,5 @@
 -- The value of digits, read one by one, with a cap.
+use Rattle.std.proofs.lemmas.Bool.Decides.{nat_tests}
 use Rattle.std.proofs.Common.{◌≡◌, ℕ, ◌+◌, ◌*◌, ◌<◌, List, [], ◌∷◌, length, get_or, take, min, arith}
 use Rattle.std.proofs.lemmas.Int.Digits.{digits_value_more}
 use Rattle.std.specs.Char.{digit_value}
@@ -14,6 +15,4 @@ pub capped_more : (bs : List ℕ) (i value r : ℕ) → i < length bs
     → value ≡ min (digits_value 10 (take i bs)) (MAX_WHOLE + 1)
     → r ≡ min (value * 10 + digit_value (get_or bs i 0)) (MAX_WHOLE + 1)
     → r ≡ min (digits_value 10 (take (i + 1) bs)) (MAX_WHOLE + 1)
-capped_more bs i value r there so_far next =
-    rw (next, so_far, digits_value_more 10 bs i there)
-    (cap_once (digits_value 10 (take i bs)) (digit_value (get_or bs i 0)))
+capped_more bs i value r there so_far next = grind (arith, nat_tests, digits_value_more, cap_once)
