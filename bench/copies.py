@@ -3,9 +3,9 @@
 
     bench/copies.py [--all] [--lines]
 
-A statement is the type of a lemma at the top level of a file of proofs/, without values, answers and invariants. Without --all only those
-are listed that stand in two crates or more. --lines prints for each crate its lines of code, of proof and its functions,
-without blanks and comments.
+A statement is the type of a lemma at the top level of a file of proofs/. Answers, invariants, worked facts and what has
+a value as its result (a list, a point, a type) don't count. Without --all only those are listed that stand in two crates
+or more. --lines prints for each crate its lines of code, its lines of proof and its functions, without blanks and comments.
 """
 import collections
 import glob
@@ -61,6 +61,18 @@ def normal(statement):
     return re.sub(r"\s+", "", text)
 
 
+def is_lemma(statement):
+    """Whether the result is a proposition, and no value of a type."""
+    depth, result = 0, statement
+    for at, letter in enumerate(statement):
+        depth += (letter in "({[") - (letter in ")}]")
+        if letter == "→" and depth == 0:
+            result = statement[at + 1:]
+    head = NAME.match(result.strip())
+    return bool(re.search(r"[≡≢≤<⊥×⊎↔]", result) or head and head.group(0)[:1].isupper()
+                and not re.match(r"(Type|Bool|List|Option|Result)\b|\w*Value\b|\w+$", result.strip()))
+
+
 def code_lines(folder, ending, comment):
     rows = []
     for path in glob.glob(os.path.join(folder, "**", "*." + ending), recursive=True):
@@ -86,11 +98,11 @@ def main():
         return
     places = collections.defaultdict(list)
     for path in sorted(glob.glob(os.path.join(HOME, "*", "proofs", "**", "*.antt"), recursive=True)):
-        if os.path.basename(path) in ("Answers.antt", "Invariants.antt"):
+        if path.endswith(("Answers.antt", "Invariants.antt", "Facts.antt")):
             continue
         place = os.path.relpath(path, HOME)
         for name, line, statement in lemmas(path):
-            if "→" in statement or "≡" in statement:
+            if is_lemma(statement):
                 places[normal(statement)].append((place, line, name))
     repeated = [rows for rows in places.values()
                 if len({row[0].split("/")[0] for row in rows}) > 1 or ("--all" in sys.argv and len(rows) > 1)]
