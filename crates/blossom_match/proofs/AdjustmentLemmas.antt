@@ -71,8 +71,8 @@ can_change t h s c is tri i b some =
     let to : 1 ≤ count k.pair.to (outer_vertices s) = omega (arith, at k.pair.to, on k.pair.to, grown.3) in
     let apart : search_holding_both k.up.from k.pair.to s ≡ 0 = subst (λ (ks : List BranchValue). one_if_both k.up.from k.pair.to s.root
     + outer_with_both k.up.from k.pair.to ks ≡ 0) (sym e)
-    (apart_from k.up.from k.pair.to s.root bs k after (λ x. omega
-    (arith, i.places x, is_one t x, ap (λ (ks : List BranchValue). count x (outer_members s.root.members ks)) e)) grown.0
+    (apart_from k.up.from k.pair.to s.root bs k after
+    (λ x. omega (arith, i.places x, is_one, ap (λ (ks : List BranchValue). count x (outer_members s.root.members ks)) e)) grown.0
     (omega (arith, grown.3))) in
     record {
       fits = set_limit t h k.outer c.by firm.outer (λ x. omega (arith, i.places x, is_one t x, at x, on x))
@@ -113,13 +113,7 @@ can_change_heights t s c m can b wide = record {
       let i = can.search in
       let no : count x (outer_members [] s.tree) ≡ 0 = omega
       (arith, i.places x, is_one t x, here, members-append outer_sets x s.root.members [] s.tree) in
-      omega (
-        arith,
-        branches_tall x c.by s.tree wide,
-        ap (λ (k : ℕ). c.by * k) no,
-        i.tall x
-            (omega (arith, i.places x, is_one t x, here)),
-      ));
+      grind (arith, nat_tests, branches_tall x c.by s.tree wide, i.tall x (omega (arith, i.places x, is_one t x, here))));
 }
 
 pub can_adjust : (s : SearchValue) (c : DualChange) → CanAdjust s c →
@@ -128,8 +122,7 @@ can_adjust s c w =
     let i = w.can.search in
     let f = some_member s.free w.can.some in
     let wide = can_change w.t (stored_height s) s c w.metric.table w.metric.triangles i w.bounds w.can.some in (
-      set_limit w.t (stored_height s) s.root c.by i.root (λ x. omega
-          (arith, i.places x, is_one w.t x, base_in x s.root.members s.tree))
+      set_limit w.t (stored_height s) s.root c.by i.root (λ x. omega (arith, i.places x, is_one, base_in))
           (λ x here. outer_limit w.t (stored_height s) s c x f.0 w.metric.table i w.bounds f.1
           (omega (arith, base_in x s.root.members s.tree, here))),
       wide,
@@ -276,13 +269,7 @@ steps_on t s r c ch m cs b =
     (omega (arith, i.places x, one x, here)) (omega (arith, i.places x, one x, here)) in
     record {
       search = record {
-        tall = λ x none. omega (
-          arith,
-          move x,
-          moved by s r ch can x,
-          i.tall x
-              (omega (arith, none, ap (λ (xs : List ℕ). count x xs) ch.free)),
-        );
+        tall = λ x none. grind (arith, nat_tests, move, moved, i.tall);
         slack = λ a f la hf ne.
             let hs : 1 ≤ count f s.free = omega (arith, hf, ap (λ (xs : List ℕ). count f xs) ch.free) in
             let was = i.slack a f la hs ne in
@@ -292,15 +279,7 @@ steps_on t s r c ch m cs b =
             (λ out. omega (arith, still, up a (omega (arith, out)), b.one a f (omega (arith, out)) (omega (arith, hs))))
             (λ inn. omega (arith, still, down a (omega (arith, inn)), was))
             (λ none. omega (arith, still, same a (omega (arith, none, i.places a, in_place t a la)), was));
-        places = λ x. omega (
-          arith,
-          i.places x,
-          outer x,
-          inner x,
-          ap (λ (cs : List MatchValue). count x (match_members cs)) ch.rest,
-          ap
-              (λ (xs : List ℕ). count x xs) ch.free,
-        );
+        places = λ x. grind (arith, nat_tests, i.places x, outer x, inner x);
         grown = subst (λ (v : OddSetValue). IsAlternatingTree v.members r.tree) (sym ch.root)
             (subst (λ (ks : List BranchValue). IsAlternatingTree s.root.members ks) (sym ch.tree)
             (grown_same by s.root.members s.tree i.grown));
@@ -321,13 +300,7 @@ steps_on t s r c ch m cs b =
 pub adjusts : (s r : SearchValue) (c : DualChange) → ChangesDuals c.by s r → Adjusts s c r
 adjusts s r c ch = record {
   search = λ t m can b. steps_on t s r c ch m can b;
-  size = omega (
-    arith,
-    ap (λ (ks : List BranchValue). length (inner_dual_sets ks)) ch.tree,
-    sizes_same c.by s.tree,
-    ap
-        (λ (cs : List MatchValue). length (match_dual_sets cs)) ch.rest,
-  );
+  size = grind (arith, nat_tests, sizes_same c.by s.tree);
   free = ch.free;
 }
 
@@ -353,11 +326,7 @@ no_times by n e = omega (arith, ap (λ (k : ℕ). k * n) e)
 -- and so it does a search
 pub stays : (s : SearchValue) (c : DualChange) → c.by ≡ 0 → Adjusts s c s
 stays s c e = adjusts s s c (record {
-  heights = λ x. omega (
-    arith,
-    no_times c.by (count x (inner_members s.tree)) e,
-    no_times c.by (count x (outer_members s.root.members s.tree)) e,
-  );
+  heights = λ x. omega (arith, no_times);
   size = refl;
   root = ap (λ (w : ℕ). with_dual w s.root) (omega (arith, e));
   tree = sym (all_none c.by s.tree e);

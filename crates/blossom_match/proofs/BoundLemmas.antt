@@ -141,15 +141,7 @@ height_limit t h s x f is i hf = by_count (count x (outer_vertices s) + count x 
     omega (arith, free_slack t h s r.0 x i ho some, is.short r.0 x lr (place_in t x (omega (arith, i.places x, some))))))
     (λ e. let lx = place_in t x (omega (arith, i.places x, e)) in
     let lf = place_in t f (omega (arith, i.places f, hf)) in
-    let ne : x ≢ f = λ g. omega (
-      arith,
-      i.places f,
-      is_one t f,
-      hf,
-      e,
-      ap
-          (λ (y : ℕ). count y (outer_vertices s) + count y (inner_members s.tree) + count y (match_members s.rest)) g,
-    ) in
+    let ne : x ≢ f = λ g. grind (arith, nat_tests, i.places f, is_one t f, hf, e) in
     omega (arith, i.slack x f lx hf ne, is.short x f lx lf))
 
 due_blossom : (t : TableValue) (h : ℕ → ℕ) (s : SearchValue) (c : DualChange) → IsBlossomDual s.tree c → IsReadyAfter t h s c.by c.step

@@ -93,13 +93,4 @@ outer_apart a x root tree i b once low is here none =
     let on = count-append a b.outer.members (outer_members [] after) in
     let first : count a (outer_members root.members before) ≡ 0 = omega (arith, once a, at, on, here) in
     let last : count a (outer_members [] after) ≡ 0 = omega (arith, once a, at, on, here) in
-    omega (
-      arith,
-      ap (λ (ks : List BranchValue). outer_with_both a x ks) s,
-      around_append,
-      around_first a x root.members before first,
-      around_first a x [] after last,
-      base_in a root.members before,
-      first,
-      none,
-    )
+    grind (arith, nat_tests, around_append, around_first, base_in, first, none)

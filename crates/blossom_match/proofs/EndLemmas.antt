@@ -96,8 +96,7 @@ goes t s wide c (Done r) m can bounds w l =
     (sym l.heights)
     l.standing in (
       record { standing = same; size = ap (λ (hs : List ℕ). length hs) l.heights ∙ on.size },
-      omega
-          (arith, l.fewer, ap (λ (xs : List ℕ). length xs) w.free),
+      grind (arith, nat_tests, l.fewer),
     )
 
 -- the edges of each match are tight
@@ -105,13 +104,7 @@ settled : (d : TableValue) (h : ℕ → ℕ) (cs : List MatchValue) → Each IsM
 settled d h [] j f = tt
 settled d h (c ∷ cs) j f = (
   record {
-    link = omega (
-      arith,
-      f.0.link,
-      f.0.first.local c.link.from (omega (arith, j.0.from)),
-      f.0.second.local c.link.to
-          (omega (arith, j.0.to)),
-    );
+    link = grind (arith, nat_tests, f.0.link, f.0.first.local, f.0.second.local);
     first = f.0.first.paid;
     second = f.0.second.paid;
   },

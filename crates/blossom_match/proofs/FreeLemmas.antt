@@ -154,15 +154,7 @@ begun t h place s is i e f =
         none_hung (height x),
       );
       slack = λ a g la hg ne. i.slack a g la (omega (arith, hg, at g)) ne;
-      places = λ x. omega (
-        arith,
-        i.places x,
-        at x,
-        ap (λ (v : OddSetValue). count x (outer_members v.members s.tree)) e,
-        ap
-            (λ (bs : List BranchValue). count x (outer_members (place ∷ []) bs)) f,
-        ap (λ (bs : List BranchValue). count x (inner_members bs)) f,
-      );
+      places = λ x. grind (arith, nat_tests, i.places x, at x);
       grown = subst (λ (bs : List BranchValue). IsAlternatingTree s.root.members bs) (sym f) tt;
       joined = i.joined;
       root = subst (λ (v : OddSetValue). IsSoundSet t h v) (sym e)

@@ -108,12 +108,7 @@ can_meet t place other matches free left heights s counts st f b =
     record {
       search = can.search;
       ready = (
-        omega (
-          arith,
-          hit_same place,
-          ap (λ (v : OddSetValue). count place (outer_members v.members s.tree)) b.root,
-          ap (λ (bs : List BranchValue). count place (outer_members (place ∷ []) bs)) b.tree,
-        ),
+        grind (arith, nat_tests, hit_same place),
         omega (arith, here, ap (λ (xs : List ℕ). count other xs) b.free),
         subst (λ (hs : List ℕ). 2 * entry t place other ≡ get_or hs place 0 + get_or hs other 0) (sym b.heights) (sym f.pair.tight),
       );
@@ -124,7 +119,8 @@ pub pair_step : (t : TableValue) (place other : ℕ) (from : PartialMatchingValu
     → CanPair t place other from
     → ((x : ℕ) → count x left + one_if_equal x place ≡ count x from.free) →
     BeginsSearch t place from.matches left from.heights s → CanStepAt t s (Augment (record { from = place; to = other }))
-pair_step t place other from left s can counts b = can_meet t place other from.matches from.free left from.heights s counts can.stands can.found b
+pair_step t place other from left s can counts b = can_meet t place other from.matches from.free left from.heights s counts can.stands
+    can.found b
 
 pub paired : (t : TableValue) (place other : ℕ) (from : PartialMatchingValue) (left : List ℕ) (s : SearchValue) (r : PartialMatchingValue)
     → CanPair t

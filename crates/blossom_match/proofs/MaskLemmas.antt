@@ -122,11 +122,12 @@ pub hides_there : (t : TableValue) (s r : SearchValue) (st now : SearchStep) (b 
     → Advances s now r → (hangs : GrowsBranch s r) → b ≡ hangs.branch → IsSearchMask t s mask → (x : ℕ) → 1 ≤ count x (branch_members b)
     → x < length mask
 hides_there t s r st now b mask e k adv hangs is m x here =
-    m.masks.within x (omega (
+    m.masks.within x (grind (
       arith,
+      nat_tests,
       here,
-      ap (λ (c : BranchValue). count x (branch_members c)) is,
-      hung_out t (stored_height s) s r k.search (next_search t s r st now e k adv) hangs adv.free x,
+      hung_out t (stored_height s) s r k.search (next_search t s r st now e k adv) hangs
+          adv.free x,
     ))
 
 -- and is hidden then
@@ -192,12 +193,5 @@ block_next hs reach mask at n least slack more low was x lx =
     let i = x - at in
     let here : i < n = omega (arith, lx, past) in
     let there : at + i ≡ x = omega (arith, past) in
-    absurd (omega (
-      arith,
-      more,
-      low i here,
-      block_slack hs reach mask at n i here,
-      ap (λ (y : ℕ). masked_slack hs reach mask y) there,
-      same,
-    )))
+    absurd (grind (arith, nat_tests, more, low i here, block_slack hs reach mask at n i here, same)))
     (cases_lt x at)

@@ -156,21 +156,10 @@ pub reaches_apart : (t : TableValue) (hs : List ℕ) (root : OddSetValue) (at mo
 reaches_apart t hs root at more old new reach next g size can r on =
     let base = root.members in
     let on = subst (λ (ks : List BranchValue). AddsOuterSlacks ks reach next) (added_is at more old new g size) on in
-    let outs : (y : ℕ) → count y (outer_members base new) ≡ count y (outer_members base (old ++ g.added)) = λ y. omega (
-      arith,
-      ap (λ (ks : List BranchValue). count y (outer_members base ks)) g.now,
-      members-append,
-      count-append,
-      ap (λ (v : OddSetValue). count y v.members) g.same,
-      ap (λ (ks : List BranchValue). count y (outer_members base ks)) g.was,
-    ) in
-    let holds : (a x : ℕ) → outer_with_both a x new ≡ outer_with_both a x (old ++ g.added) = λ a x. omega (
-      arith,
-      ap (λ (ks : List BranchValue). outer_with_both a x ks) g.now,
-      around_append,
-      ap (λ (v : OddSetValue). one_if_both a x v) g.same,
-      ap (λ (ks : List BranchValue). outer_with_both a x ks) g.was,
-    ) in
+    let outs : (y : ℕ) → count y (outer_members base new) ≡ count y (outer_members base (old ++ g.added)) =
+    λ y. grind (arith, nat_tests, members-append, count-append) in
+    let holds : (a x : ℕ) → outer_with_both a x new ≡ outer_with_both a x (old ++ g.added) =
+    λ a x. grind (arith, nat_tests, around_append) in
     let firm = subst (λ (ks : List BranchValue). Each (IsSoundBranch t (λ (a : ℕ). get_or hs a 0)) ks) g.now can.firm in
     reaches_same t hs root (old ++ g.added) new next outs holds
     (on t hs root old (λ y. omega (arith, outs y, can.once y))

@@ -88,16 +88,8 @@ hung_uses : (b : Bool) (k : ℕ) (up : TightEdge) (c : MatchValue) (h : BranchVa
     → h ≡ cond b (record { up = up; inner = c.first; pair = c.link; outer = c.second })
     (record { up = up; inner = c.second; pair = reversed_edge c.link; outer = c.first })
     → key_count k (dual_sets h.inner) + key_count k (dual_sets h.outer) ≡ key_count k (dual_sets c.first) + key_count k (dual_sets c.second)
-hung_uses true k up c h e = omega (
-  arith,
-  ap (λ (b : BranchValue). key_count k (dual_sets b.inner)) e,
-  ap (λ (b : BranchValue). key_count k (dual_sets b.outer)) e,
-)
-hung_uses false k up c h e = omega (
-  arith,
-  ap (λ (b : BranchValue). key_count k (dual_sets b.inner)) e,
-  ap (λ (b : BranchValue). key_count k (dual_sets b.outer)) e,
-)
+hung_uses true k up c h e = grind (arith, nat_tests)
+hung_uses false k up c h e = grind (arith, nat_tests)
 
 pub grown_sets : (sets : Slots) (place : ℕ) (up : TightEdge) (root : OddSetValue) (tree now : List BranchValue)
     (rest left : List MatchValue)
@@ -124,13 +116,8 @@ pub closed_sets : (old new : Slots) (blossom : OddSetValue) (link : TightEdge) (
     → InsertsSet old new blossom.key → Shrinks blossom link root top tree now → left ≡ rest → AreSets old (all_dual_sets root tree rest)
     → AreSets new (all_dual_sets top now left)
 closed_sets old new blossom link root top tree now rest left ins sh e are =
-    more_sets old new blossom.key (all_dual_sets root tree rest) (all_dual_sets top now left) ins are (λ k. omega (
-      arith,
-      all_uses k root tree rest,
-      all_uses k top now left,
-      ap (λ (ks : List MatchValue). key_count k (match_dual_sets ks)) e,
-      sh.sums (key_count k) (key_count-append k),
-    ))
+    more_sets old new blossom.key (all_dual_sets root tree rest) (all_dual_sets top now left) ins are
+    (λ k. grind (arith, nat_tests, all_uses k root tree rest, all_uses k top now left, sh.sums (key_count k) (key_count-append k)))
 
 once_met : (n x place outs free : ℕ) → one_if_equal x place ≡ n → (x ≡ place → outs ≡ 0) → outs ≤ 1 → one_if_equal x place + 0 + outs ≤ 1
 once_met n x place outs free h1 h2 h3 = grind (arith, nat_tests, hit_is, hit_same)
@@ -145,22 +132,13 @@ pub met_sets : (old new : Slots) (link : TightEdge) (root m : OddSetValue) (tree
     → InsertsSet old new m.key → m.below ≡ [] → Augments root m link tree rest now
     → AreSets old (all_dual_sets root tree rest) → AreSets new (match_dual_sets now)
 met_sets old new link root m tree rest now ins alone aug are =
-    more_sets old new m.key (all_dual_sets root tree rest) (match_dual_sets now) ins are (λ k. omega (
-      arith,
-      all_uses k root tree rest,
-      aug.sums (key_count k) (key_count-append k),
-      ap (λ (bs : List DualSet). key_count k bs) alone,
-    ))
+    more_sets old new m.key (all_dual_sets root tree rest) (match_dual_sets now) ins are
+    (λ k. grind (arith, nat_tests, all_uses k root tree rest, aug.sums (key_count k) (key_count-append k)))
 
 -- a search of one place more
 pub begun_sets : (old new : Slots) (m : OddSetValue) (tree : List BranchValue) (rest left : List MatchValue) → InsertsSet old new m.key
     → m.below ≡ [] → tree ≡ [] → left ≡ rest
     → AreSets old (match_dual_sets rest) → AreSets new (all_dual_sets m tree left)
 begun_sets old new m tree rest left ins alone none e are =
-    more_sets old new m.key (match_dual_sets rest) (all_dual_sets m tree left) ins are (λ k. omega (
-      arith,
-      all_uses k m tree left,
-      ap (λ (bs : List DualSet). key_count k bs) alone,
-      ap (λ (ks : List BranchValue). key_count k (branch_dual_sets ks)) none,
-      ap (λ (ks : List MatchValue). key_count k (match_dual_sets ks)) e,
-    ))
+    more_sets old new m.key (match_dual_sets rest) (all_dual_sets m tree left) ins are
+    (λ k. grind (arith, nat_tests, all_uses k m tree left))

@@ -142,17 +142,7 @@ takes_place : (left : ℕ) (s : OddSetValue) (cs : List MatchValue) (old new : L
 takes_place left s cs old new was a now once o own t =
     let sum = o.sums total total-append in
     record {
-      paid = λ tab paid. omega (
-        arith,
-        sum,
-        o.tall,
-        o.places left,
-        hit_same left,
-        once left,
-        t.paid tab
-            (o.paid tab paid).1,
-        whole s.dual (count left s.members) (omega (arith, o.places left, hit_same left, once left)),
-      );
+      paid = λ tab paid. omega (arith, sum, o.tall, o.places left, hit_same, once, t.paid tab (o.paid tab paid).1, whole);
       places = λ x. omega (arith, o.places x, t.places x);
       widths = omega (arith, sum, t.widths, ap width_of own, width_own s.dual s.members was);
       loads = λ x y. omega (
@@ -161,7 +151,7 @@ takes_place left s cs old new was a now once o own t =
         t.loads x y,
         ap
             (λ (k : List Moat). moat_load k x y) own,
-        load_own x y s.dual s.members was (once x) (once y),
+        load_own,
       );
       moats = moat_of_set s.members s.dual ++ t.moats;
       is = t.is ∙ ap (λ (k : List Moat). k ++ t.moats) own ∙ append_assoc was (moat_of_set s.members s.dual) t.moats;
@@ -181,15 +171,7 @@ takes_blossom left s p cs old mid new was a b now once o own first t =
     let sum = o.sums total total-append in
     let other = o.holds.1 in
     record {
-      paid = λ tab paid. let q = o.paid tab paid in omega (
-        arith,
-        sum,
-        o.tall,
-        first.paid tab q.0,
-        t.paid tab q.1,
-        whole s.dual (count left s.members)
-            (omega (arith, o.places left, o.holds.0, once left)),
-      );
+      paid = λ tab paid. let q = o.paid tab paid in omega (arith, sum, o.tall, first.paid tab q.0, t.paid tab q.1, whole);
       places = λ x. omega (arith, o.places x, first.places x, t.places x);
       widths = omega (arith, sum, first.widths, t.widths, ap width_of own, width_own s.dual s.members was);
       loads = λ x y. omega (

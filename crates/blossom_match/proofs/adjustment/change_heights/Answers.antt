@@ -7,13 +7,7 @@ use Rattle.blossom_match.proofs.adjustment.change_heights.Goals as goal
 
 pub raise-requires-clause-within : goal.raise-requires-clause-within
 raise-requires-clause-within c = λ x here.
-    c.requires.cells x (omega (
-      arith,
-      here,
-      ap (λ (xs : List ℕ). count x xs) c.members.ensures,
-      base_in x (set_in c.args.sets.now c.args.root).members
-          (branches_in c.args.sets.now c.args.tree.now),
-    ))
+    c.requires.cells x (omega (arith, here, ap (λ (xs : List ℕ). count x xs) c.members.ensures, base_in))
 
 pub raise-requires-clause-fits : goal.raise-requires-clause-fits
 raise-requires-clause-fits c = λ x.

@@ -1,3 +1,4 @@
+use Rattle.std.proofs.lemmas.Bool.Decides.{nat_tests}
 use Rattle.std.proofs.Common.{arith, length-append, length, ℕ, List, ◌∷◌, [], ap}
 use Rattle.blossom_match.proofs.EndLemmas.{places_more}
 use Rattle.blossom_match.proofs.initial_duals.all_places.Goals as goal
@@ -5,11 +6,5 @@ use Rattle.blossom_match.proofs.initial_duals.all_places.Goals as goal
 pub loop-place-preserved : goal.loop-place-preserved
 loop-place-preserved c = record {
   counts = λ x. places_more x c.loop-place.place c.loop-place.places.items _ c.in_ok-push.ensures.items (c.loop-place.invariant.counts x);
-  size = omega (
-    arith,
-    c.loop-place.invariant.size,
-    ap (λ (xs : List ℕ). length xs) c.in_ok-push.ensures.items,
-    length-append
-        c.loop-place.places.items (c.loop-place.place ∷ []),
-  );
+  size = grind (arith, nat_tests, c.loop-place.invariant.size, length-append c.loop-place.places.items (c.loop-place.place ∷ []));
 }

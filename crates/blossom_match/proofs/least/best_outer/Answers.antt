@@ -1,3 +1,4 @@
+use Rattle.std.proofs.lemmas.Bool.Decides.{nat_tests}
 use Rattle.std.proofs.Common.{arith, [], List, ℕ, ap, subst}
 use Rattle.blossom_match.specs.Candidates.{IsBestCandidate}
 use Rattle.odd_sets.specs.DualSets.{count}
@@ -19,12 +20,7 @@ best_target-rooted-requires-clause-within c = λ x here.
 pub best_branch-requires-clause-within : goal.best_branch-requires-clause-within
 best_branch-requires-clause-within c = λ x here.
     let s = search_value c.args.s.now in
-    c.requires.within x (omega (
-      arith,
-      here,
-      ap (λ (ks : List Branch). count x (outer_members [] (branches_in c.args.s.now.sets ks))) c.deref.ensures.value,
-      members_each,
-    ))
+    c.requires.within x (grind (arith, nat_tests, here, members_each))
 
 pub returns : goal.returns
 returns c =

@@ -1,3 +1,4 @@
+use Rattle.std.proofs.lemmas.Bool.Decides.{nat_tests}
 use Rattle.std.proofs.Common.{◌≡◌, ℕ, List, arith, get_or}
 use Rattle.odd_sets.specs.TableValue.{TableValue}
 use Rattle.odd_sets.specs.Tables.{entry}
@@ -22,22 +23,11 @@ bounds-heights-a c = omega (
 pub returns-then-saturating_sub-left : goal.returns-then-saturating_sub-left
 returns-then-saturating_sub-left c = record {
   here = count_at c.args.xs.now c.loop-a.a-index c.loop-a-test.true;
-  exact = omega (
-    arith,
-    c.if-saturating_sub-left.true,
-    c.saturating_sub.ensures,
-    c.get.ensures.value,
-    same c.args.t.now c.args.to c.args.xs.now c.loop-a.a-index,
-  );
+  exact = grind (arith, nat_tests, c.if-saturating_sub-left.true, c.saturating_sub.ensures, c.get.ensures.value, same);
 }
 
 pub loop-a-preserved : goal.loop-a-preserved
 loop-a-preserved c = λ l.
     left_more c.args.t.now c.args.heights.now c.args.xs.now c.loop-a.a-index c.args.to c.args.left c.loop-a-test.true
-    (λ e. c.if-saturating_sub-left.false (omega (
-      arith,
-      e,
-      c.saturating_sub.ensures,
-      c.get.ensures.value,
-      same c.args.t.now c.args.to c.args.xs.now c.loop-a.a-index,
-    ))) (c.loop-a.invariant l)
+    (λ e. c.if-saturating_sub-left.false (grind (arith, nat_tests, e, c.saturating_sub.ensures, c.get.ensures.value, same)))
+    (c.loop-a.invariant l)

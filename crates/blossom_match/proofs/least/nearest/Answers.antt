@@ -7,21 +7,11 @@ use Rattle.blossom_match.proofs.least.nearest.Goals as goal
 
 pub vertex_with_slack-requires-clause-within : goal.vertex_with_slack-requires-clause-within
 vertex_with_slack-requires-clause-within c = λ a ha.
-    c.requires.can.within a (omega (
-      arith,
-      ha,
-      base_in a (set_in c.args.sets.now c.args.root).members
-          (branches_in c.args.sets.now c.args.tree.now),
-    ))
+    c.requires.can.within a (omega (arith, ha, base_in))
 
 pub returns-in-Some-clause-here : goal.returns-in-Some-clause-here
 returns-in-Some-clause-here c =
-    omega (
-      arith,
-      c.in-Some.ensures.1.here,
-      base_in c.in-Some.a (set_in c.args.sets.now c.args.root).members
-          (branches_in c.args.sets.now c.args.tree.now),
-    )
+    omega (arith, c.in-Some.ensures.1.here, base_in)
 
 pub returns-in-Some-clause-apart : goal.returns-in-Some-clause-apart
 returns-in-Some-clause-apart c =

@@ -1,3 +1,4 @@
+use Rattle.std.proofs.lemmas.Bool.Decides.{nat_tests}
 use Rattle.std.proofs.Common.{arith, ap, List, ℕ, subst}
 use Rattle.odd_sets.specs.DualSets.{count}
 use Rattle.blossom_match.specs.Masks.{branch_members}
@@ -11,12 +12,7 @@ use Rattle.blossom_match.proofs.masks.hide.Goals as goal
 pub put-requires : goal.put-requires
 put-requires c = λ x here.
     let b = branch_in c.args.sets.now c.args.b in
-    c.requires x (omega (
-      arith,
-      here,
-      ap (λ (ks : List ℕ). count x ks) c.members.ensures,
-      count-append x b.inner.members b.outer.members,
-    ))
+    c.requires x (grind (arith, nat_tests, here, count-append x b.inner.members b.outer.members))
 
 pub put-requires-2 : goal.put-requires-2
 put-requires-2 c = λ x here.

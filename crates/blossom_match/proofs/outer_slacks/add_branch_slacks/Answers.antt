@@ -1,3 +1,4 @@
+use Rattle.std.proofs.lemmas.Bool.Decides.{nat_tests}
 use Rattle.std.proofs.Common.{get_or, arith, refl, sym, List, ◌++◌, subst}
 use Rattle.std.proofs.lemmas.List.{append-nil, length-map, take_all}
 use Rattle.blossom_match.specs.OuterSlacks.{AreOuterSlacks}
@@ -36,6 +37,5 @@ loop-b-preserved c = record {
 pub returns : goal.returns
 returns c = λ t hs root before once firm r.
     subst (λ (ks : List BranchValue). AreOuterSlacks t hs root (before ++ ks) c.loop-b.reach)
-    (take_all c.loop-b.b-index (branches_in c.args.sets.now c.args.tree.now) (omega
-    (arith, c.loop-b-test.false, length-map c.args.tree.now (branch_in c.args.sets.now))))
+    (take_all c.loop-b.b-index (branches_in c.args.sets.now c.args.tree.now) (grind (arith, nat_tests, c.loop-b-test.false, length-map)))
     (c.loop-b.invariant.reaches t hs root before once firm r)

@@ -15,13 +15,7 @@ begin-requires-clause-cell c = place_there c.args.t.now c.args.place (matches_in
 
 pub begin-requires-clause-within : goal.begin-requires-clause-within
 begin-requires-clause-within c =
-    omega (
-      arith,
-      c.requires.stands.size,
-      place_there c.args.t.now c.args.place (matches_in c.args.from.sets c.args.from.matches.items) c.args.from.free.items
-          c.args.from.heights.items
-          c.requires.stands,
-    )
+    omega (arith, c.requires.stands.size, place_there)
 
 pub begin_slacks-requires : goal.begin_slacks-requires
 begin_slacks-requires c =

@@ -25,11 +25,7 @@ add_slacks_from-requires-clause-within c =
     let s = c.args.s in
     let r = c.in_ok-grown-in-Grow.grown in
     let hangs = c.in_ok-grown-in-Grow.ensures.hangs in
-    omega (
-      arith,
-      c.len-before.ensures,
-      mapped_more (branch_in s.sets) (branch_in r.sets) s.tree.items r.tree.items (hangs.branch ∷ []) hangs.tree,
-    )
+    omega (arith, c.len-before.ensures, mapped_more)
 
 pub returns-in_ok-grown-in-Grow-clause-reaches : goal.returns-in_ok-grown-in-Grow-clause-reaches
 returns-in_ok-grown-in-Grow-clause-reaches c =
@@ -46,11 +42,7 @@ index-requires c =
     let s = c.args.s in
     let r = c.in_ok-grown-in-Grow.grown in
     let hangs = c.in_ok-grown-in-Grow.ensures.hangs in
-    omega (
-      arith,
-      c.len-before.ensures,
-      mapped_more (branch_in s.sets) (branch_in r.sets) s.tree.items r.tree.items (hangs.branch ∷ []) hangs.tree,
-    )
+    omega (arith, c.len-before.ensures, mapped_more)
 
 pub hide-requires : goal.hide-requires
 hide-requires c =
