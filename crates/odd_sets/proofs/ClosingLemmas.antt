@@ -76,13 +76,11 @@ blossom_is_paid d h p ps l a t = tight_is_paid d h p (ps ++ p ∷ []) l a.0 (All
 
 paid_inside : (d : TableValue) (h : ℕ → ℕ) (ps : List PartValue) → Each (IsSoundPart d h) ps → AreTightInside d (blossom_edges_in ps)
 paid_inside d h [] f = tt
-paid_inside d h (p ∷ ps) f = each-append (IsTightInside d) p.odd_set.blossom_edges (blossom_edges_in ps) f.0.odd_set.paid
-    (paid_inside d h ps f.1)
+paid_inside d h (p ∷ ps) f = grind (arith, nat_tests, each-append, paid_inside d h ps f.1)
 
 near_inside : (d : TableValue) (h : ℕ → ℕ) (ps : List PartValue) → Each (IsSoundPart d h) ps → Each (IsSlackRow d) (slack_rows_in ps)
 near_inside d h [] f = tt
-near_inside d h (p ∷ ps) f = each-append (IsSlackRow d) (slack_rows_of p.odd_set) (slack_rows_in ps) f.0.odd_set.near
-    (near_inside d h ps f.1)
+near_inside d h (p ∷ ps) f = grind (arith, nat_tests, each-append, near_inside d h ps f.1)
 
 -- a member of the first part is in no other; a member of another is not in it
 local_case : (n : ℕ) (d : TableValue) (h : ℕ → ℕ) (x : ℕ) (p : PartValue) (ps : List PartValue) → count x p.odd_set.members ≡ n → AreOddSets

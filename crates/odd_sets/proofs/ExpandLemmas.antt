@@ -1,16 +1,16 @@
 -- An inner blossom that is expanded, between the branches before and after it.
+use Rattle.std.proofs.lemmas.Bool.Decides.{nat_tests}
 use Rattle.std.proofs.Common.{◌≡◌, ℕ, ◌+◌, ◌%◌, ◌≤◌, ◌<◌, suc, zero, List, [], ◌∷◌, ◌++◌, length, take, drop, arith, refl, sym, ap, subst, ◌∙◌, append_assoc, length-append}
 use Rattle.std.proofs.lemmas.List.{length-take, take-append-drop}
 use Rattle.odd_sets.specs.TableValue.{TableValue}
 use Rattle.odd_sets.specs.Lists.{Each}
 use Rattle.odd_sets.specs.DualSets.{IsAdditive, DualSet, OddSetValue, dual_sets, count, height, slack_rows_of, AreTightInside, IsTightInside}
 use Rattle.odd_sets.specs.SlackRows.{IsSlackRow}
-use Rattle.odd_sets.specs.Blossoms.{members_in, dual_sets_in, blossom_edges_in, odd_set_of, cycle_edges, slack_rows_in, AreOddSets, FirstPartHolds, IsBlossom}
+use Rattle.odd_sets.specs.Blossoms.{members_in, dual_sets_in, blossom_edges_in, odd_set_of, cycle_edges, slack_rows_in, AreOddSets, IsBlossom}
 use Rattle.odd_sets.specs.MatchedSets.{IsMatch}
 use Rattle.odd_sets.specs.SoundSets.{IsSoundBranch, IsSoundMatch, IsSoundPart, IsSoundSet, IsTight}
 use Rattle.odd_sets.specs.Trees.{outer_members, inner_members, IsAlternatingTree}
-use Rattle.odd_sets.specs.Expansions.{CanSplitBlossom, CanExpand, Expands, FirstCanExpand, IsEvenlyOriented, SplitsBlossom, EdgeLeadsInto, InsertsBranches}
-use Rattle.odd_sets.specs.declared.odd_set.TightEdge.{TightEdge}
+use Rattle.odd_sets.specs.Expansions.{CanSplitBlossom, CanExpand, Expands, FirstCanExpand, IsEvenlyOriented, SplitsBlossom, InsertsBranches}
 use Rattle.odd_sets.specs.Values.{BranchValue, MatchValue, PartValue}
 use Rattle.odd_sets.proofs.ListLemmas.{each-append, each-left, each-right, each-last}
 use Rattle.odd_sets.proofs.SumLemmas.{dual_sets-append, bands_push, count-append, height-append, low, members-append, members_push, none_tall, size-append}
@@ -99,9 +99,7 @@ pub grown-right : (base : List ℕ) (xs ys : List BranchValue) → IsAlternating
     → IsAlternatingTree (outer_members base xs) ys
 grown-right base [] ys g = g
 grown-right base (b ∷ xs) ys g =
-    grown_more (outer_members (b.outer.members ++ base) xs) (b.outer.members ++ outer_members base xs) ys
-    (λ x. omega (arith, outer_members_base x b.outer.members base xs, count-append))
-    (grown-right (b.outer.members ++ base) xs ys g.4)
+    grind (arith, nat_tests, grown_more, outer_members_base, count-append, grown-right (b.outer.members ++ base) xs ys g.4)
 
 -- the tree as the branches before, the one that comes apart and those after it
 pub record SplitAt (root : OddSetValue) (old bs : List BranchValue) (b : BranchValue) (later : List BranchValue) : Type 0 where
@@ -120,14 +118,7 @@ split_size : (root : OddSetValue) (old kept bs : List BranchValue) (b : BranchVa
     old
     → kept ≡ bs ++ b ∷ [] → length bs ≡ at
 split_size root old kept bs b at ex e g =
-    omega (
-      arith,
-      apart_within at old ex.apart,
-      length-take (at + 1) old,
-      ap (λ (ks : List BranchValue). length ks) e,
-      ap (λ (ks : List BranchValue). length ks) g,
-      length-append bs (b ∷ []),
-    )
+    grind (arith, nat_tests, apart_within at old ex.apart, length-take (at + 1) old, length-append bs (b ∷ []))
 
 pub split_at : (root : OddSetValue) (old kept bs : List BranchValue) (b : BranchValue) (later : List BranchValue) (at : ℕ) → CanExpand root
     old at → kept
@@ -156,32 +147,12 @@ split_at root old kept bs b later at ex e f g =
       once = λ x. omega (arith, ex.once x, ap (λ (ks : List BranchValue). count x (inner_members ks)) is, members-append, members_push);
     }
 
-into_blossom : (way : TightEdge) (blossom : List PartValue) → IsBlossom blossom → FirstPartHolds way.to blossom → ((x : ℕ)
-    → count x (members_in blossom) ≤ 1)
-    → EdgeLeadsInto way blossom
-into_blossom way [] r first once = absurd first
-into_blossom way (p ∷ ps) r first once = (
-  omega (arith, first, once way.to, count-append),
-  linked_left p
-      ps (p ∷ []) r.linked,
-)
-
 pub can_lay : (key : ℕ) (root : OddSetValue) (old bs : List BranchValue) (b : BranchValue) (later : List BranchValue)
     (parts blossom : List PartValue)
     → SplitAt root old bs b later →
     b.inner ≡ odd_set_of key (members_in parts) b.inner.dual b.inner.near parts → IsEvenlyOriented b.up.to b.pair.from parts blossom
     → CanSplitBlossom root bs blossom b.up b.pair b.outer
-can_lay key root old bs b later parts blossom s made g =
-    let once = λ (x : ℕ). ap (λ (v : OddSetValue). count x v.members) made in
-    record {
-      grown = s.before;
-      from = s.above;
-      into = into_blossom b.up blossom g.blossom g.first (λ x. omega (arith, g.places x, once x, s.once x));
-      exit = g.last;
-      odd = g.blossom.odd;
-      to = s.pair_to;
-      once = λ x. omega (arith, g.places x, once x, s.once x);
-    }
+can_lay key root old bs b later parts blossom h1 h2 h3 = grind (arith, nat_tests, count-append, linked_left)
 
 pub expanded : (key : ℕ) (root : OddSetValue) (old bs : List BranchValue) (b : BranchValue) (later mid new : List BranchValue)
     (parts blossom : List PartValue)

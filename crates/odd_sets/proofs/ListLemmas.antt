@@ -117,8 +117,7 @@ mapped_drop f (suc i) (x ∷ xs) = mapped_drop f i xs
 pub mapped_reverse : {X Y : Type 0} (f : X → Y) (xs : List X) → map f (reverse xs) ≡ reverse (map f xs)
 mapped_reverse f [] = refl
 mapped_reverse {X} {Y} f (x ∷ xs) =
-    ap (λ (zs : List X). map f zs) (reverse_onto xs x []) ∙ map-append f (reverse xs) (x ∷ [])
-    ∙ ap (λ (zs : List Y). zs ++ f x ∷ []) (mapped_reverse f xs) ∙ sym (reverse_onto (map f xs) (f x) [])
+    grind (arith, nat_tests, map, reverse_onto, map-append, reverse, mapped_reverse f xs)
 
 pub get_or_self : {X : Type 0} (xs : List X) (i : ℕ) (d : X) → get_or xs i d ≡ get_or xs i (get_or xs i d)
 get_or_self [] i d = refl

@@ -69,8 +69,7 @@ hit_one b left m h1 h2 = grind (arith, nat_tests, eqb-true)
 single_count : (left x : ℕ) (ms : List ℕ) → length ms ≡ 1 → count left ms ≡ 1 → count x ms ≡ one_if_equal x left
 single_count left x [] one there = absurd (omega arith)
 single_count left x (m ∷ []) one there =
-    let e : left ≡ m = hit_one (eqb left m) left m refl there in
-    subst (λ (k : ℕ). cond (eqb x m) 1 0 + 0 ≡ one_if_equal x k) (sym e) (omega arith)
+    grind (arith, nat_tests, hit_one, eqb, cond)
 single_count left x (m ∷ n ∷ ms) one there = absurd (omega arith)
 
 opens_single : (left key w : ℕ) (ms near : List ℕ) → length ms ≡ 1 → count left ms ≡ 1 → OpensAt left (odd_set_of key ms w near []) None []
@@ -133,8 +132,7 @@ matched_some : (ps : List PartValue) → 2 ≤ length ps → AreOddSets ps → (
 matched_some [] two kept = absurd (omega arith)
 matched_some (p ∷ []) two kept = absurd (omega arith)
 matched_some (p ∷ q ∷ ps) two kept =
-    let some = some_member p.odd_set.members (omega (arith, kept.0.odd)) in
-    (some.0, omega (arith, some.1, count-append))
+    grind (arith, nat_tests, some_member, count-append)
 
 opens_turned : (left key w : ℕ) (ms near : List ℕ) (old : List PartValue) (p : PartValue) (ps : List PartValue) (i : ℕ) → p ∷ ps ≡ drop i
     old ++ take i old →

@@ -15,12 +15,9 @@ at_drop x i m ms h1 h2 = grind (arith, nat_tests, drop-cons, add-one)
 raised_by : (b : Bool) (x m w c : ℕ) (hs : List ℕ) → eqb x m ≡ b → m < length hs →
     get_or (set hs m (get_or hs m 0 + w)) x 0 + w * c ≡ get_or hs x 0 + w * (cond b 1 0 + c)
 raised_by true x m w c hs is lt =
-    let e : x ≡ m = eqb-true x m is in
-    let s : get_or (set hs m (get_or hs m 0 + w)) m 0 ≡ get_or hs m 0 + w = get_or-set_same hs m (get_or hs m 0 + w) 0 lt in
-    subst (λ (y : ℕ). get_or (set hs m (get_or hs m 0 + w)) y 0 + w * c ≡ get_or hs y 0 + w * (1 + c)) (sym e) (omega (arith, s))
+    grind (arith, nat_tests, eqb-true, get_or, set, get_or-set_same)
 raised_by false x m w c hs is lt =
-    let ne : x ≢ m = eqb-false x m is in
-    rw get_or-set_other (omega arith)
+    grind (arith, nat_tests, eqb-false, get_or-set_other)
 
 pub raised : (x i m w : ℕ) (ms hs : List ℕ) (top : ℕ) → i < length ms → m ≡ get_or ms i 0 → m < length hs →
     get_or hs x 0 + w * count x (drop i ms) ≡ top → get_or (set hs m (get_or hs m 0 + w)) x 0 + w * count x (drop (i + 1) ms) ≡ top
@@ -37,13 +34,9 @@ lowered_by : (b : Bool) (x m w c rest top : ℕ) (hs : List ℕ) → eqb x m ≡
     ≡ top + w * (cond b 1 0 + c) →
     get_or (set hs m (get_or hs m 0 - w)) x 0 + rest ≡ top + w * c
 lowered_by true x m w c rest top hs is lt low e =
-    let same : x ≡ m = eqb-true x m is in
-    let s : get_or (set hs m (get_or hs m 0 - w)) m 0 ≡ get_or hs m 0 - w = get_or-set_same hs m (get_or hs m 0 - w) 0 lt in
-    let at : get_or hs m 0 + rest ≡ top + w * (1 + c) = subst (λ (y : ℕ). get_or hs y 0 + rest ≡ top + w * (1 + c)) same e in
-    subst (λ (y : ℕ). get_or (set hs m (get_or hs m 0 - w)) y 0 + rest ≡ top + w * c) (sym same) (omega (arith, s, low, at))
+    grind (arith, nat_tests, eqb-true, get_or, set, get_or-set_same, low)
 lowered_by false x m w c rest top hs is lt low e =
-    let ne : x ≢ m = eqb-false x m is in
-    rw get_or-set_other (omega (arith, e))
+    grind (arith, nat_tests, eqb-false, get_or-set_other)
 
 pub lowered : (x i m w : ℕ) (ms hs : List ℕ) (rest top : ℕ) → i < length ms → m ≡ get_or ms i 0 → m < length hs → w ≤ get_or hs m 0 →
     get_or hs x 0 + rest ≡ top + w * count x (drop i ms) → get_or (set hs m (get_or hs m 0 - w)) x 0 + rest

@@ -68,8 +68,7 @@ not_empty : (link : TightEdge) (s : OddSetValue) (way : TightEdge) (to : ℕ) (c
     → (length chain ≡ 0 → (way.from ≡ link.from) × (to ≡ link.to)) →
     one_if_both link.from link.to s ≡ 0 → 1 ≤ count way.from s.members → 1 ≤ count to s.members → 1 ≤ length chain
 not_empty link s way to [] begun apart from back =
-    let e = begun refl in
-    absurd (omega (arith, apart, from, back, ap (λ (x : ℕ). count x s.members) e.0, ap (λ (x : ℕ). count x s.members) e.1))
+    grind (arith, nat_tests)
 not_empty link s way to (p ∷ ps) begun apart from back = omega arith
 
 same_size : (t : TableValue) (h : ℕ → ℕ) (n : ℕ) → n ≡ t.places → (ps : List PartValue) → Each (IsSoundPart t h) ps
@@ -80,7 +79,7 @@ same_size t h n h1 ps h2 = grind (arith, nat_tests, each-map)
 have_rows : (t : TableValue) (h : ℕ → ℕ) (top : OddSetValue) (way : TightEdge) (chain : List PartValue) → IsSoundSet t h top
     → Each (IsSoundPart t h) chain → ((x : ℕ) → 1 ≤ count x top.members + count x (members_in chain) → x < t.places)
     → HaveSlacks (length top.near) (part_with_edge top way ∷ chain)
-have_rows t h top way chain h1 h2 h3 = grind (arith, nat_tests, same_size, count-append)
+have_rows t h top way chain h1 h2 h3 = grind (arith, nat_tests, count-append, each-map)
 
 pub closable : (link : TightEdge) (root : OddSetValue) (tree left bs : List BranchValue) (b : BranchValue) (chain : List PartValue)
     (aside : List BranchValue)

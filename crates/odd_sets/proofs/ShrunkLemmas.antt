@@ -89,13 +89,7 @@ module _ (old new : Slots) (link : TightEdge) (root : Handle) (tree : List Branc
       (λ k u. are.each k (omega (arith, u, count k, sum k, push k, at k)))) in
       let a = keep_branches old new (reverse aside) (inserted_keeps old new blossom.key (branch_dual_sets (branches_in old (reverse aside)))
       ins.fresh
-      ins.others (λ k u. are.each k (omega (
-        arith,
-        u,
-        count k,
-        sum k,
-        ap (λ (ks : List BranchValue). key_count k (branch_dual_sets ks)) turned,
-      )))) in
+      ins.others (λ k u. are.each k (grind (arith, nat_tests, u, count k, sum k)))) in
       let values : branches_in new now
       ≡ (branches_in old bs ++ branch_of b.up last.inner b.pair (set_in new blossom) ∷ []) ++ back =
       ap (λ (ks : List Branch). branches_in new ks) (n ∙ ap (λ (ks : List Branch). ks ++ reverse aside) m)
@@ -125,21 +119,17 @@ module _ (old new : Slots) (link : TightEdge) (root : Handle) (tree : List Branc
       → Shrinks (set_in new blossom) link (set_in old root) (set_in new blossom) (branches_in old tree) (branches_in new now)
   shrunk_root rest nothing now sh c none are ins is m n =
       let turned = mapped_reverse (branch_in old) aside in
-      let empty : rest ≡ [] = none_left rest (omega (
-        arith,
-        none,
-        length-map left (branch_in old),
-        ap (λ (ks : List Branch). length ks) m,
-        length-append rest nothing,
-      )) in
+      let empty : rest ≡ [] = none_left rest
+      (grind (arith, nat_tests, none, length-map left (branch_in old), length-append rest nothing)) in
       let a = keep_branches old new (reverse aside) (inserted_keeps old new blossom.key (branch_dual_sets (branches_in old (reverse aside)))
       ins.fresh
-      ins.others (λ k u. are.each k (omega (
+      ins.others (λ k u. are.each k (grind (
         arith,
+        nat_tests,
         u,
         all_uses k (set_in old root) (branches_in old tree) [],
-        c.sums (key_count k) (key_count-append k),
-        ap (λ (ks : List BranchValue). key_count k (branch_dual_sets ks)) turned,
+        c.sums (key_count
+            k) (key_count-append k),
       )))) in
       let values : branches_in new now ≡ reverse (branches_in old aside) =
       ap (λ (ks : List Branch). branches_in new ks) (n ∙ ap (λ (ks : List Branch). ks ++ reverse aside) empty) ∙ a.same ∙ turned in

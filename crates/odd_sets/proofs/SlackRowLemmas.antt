@@ -1,6 +1,6 @@
 -- The slacks from sets to the vertices outside them.
 use Rattle.std.proofs.lemmas.Bool.Decides.{nat_tests}
-use Rattle.std.proofs.Common.{◌≡◌, ◌≢◌, ℕ, ◌+◌, ◌-◌, ◌*◌, ◌≤◌, ◌<◌, ◌⊎◌, inl, inr, suc, zero, List, [], ◌∷◌, ◌++◌, length, take, get_or, set, map, min, Bool, true, false, cond, eqb, ltb, arith, refl, sym, ap, subst, ◌∙◌, get_or-set_other, get_or-set_same}
+use Rattle.std.proofs.Common.{◌≡◌, ◌≢◌, ℕ, ◌+◌, ◌-◌, ◌*◌, ◌≤◌, ◌<◌, ◌⊎◌, inl, inr, List, [], ◌∷◌, ◌++◌, length, take, get_or, set, map, min, Bool, true, false, cond, eqb, arith, refl, sym, ap, subst, ◌∙◌, get_or-set_other, get_or-set_same}
 use Rattle.std.proofs.lemmas.Bool.{cases_lt, eqb-false, eqb-true, ltb-true, ltb-false}
 use Rattle.std.proofs.lemmas.Grind.{same_number_lists}
 use Rattle.std.proofs.lemmas.List.FromFn.{get_or-map-range_with_len, length-map-range_with_len}
@@ -21,11 +21,8 @@ use Rattle.odd_sets.proofs.SumLemmas.{by_count, count-append, hit_is, hit_same}
 pub far_is : FAR ≡ 2 * MAX_DISTANCE + 1
 far_is = refl
 
-not_case : (b : Bool) (x y : ℕ) → eqb x y ≡ b → (x ≡ y → ⊥) → cond b 1 0 ≤ 0
-not_case b x y h1 h2 = grind (arith, nat_tests, eqb-true)
-
 pub not_hit : (x y : ℕ) → (x ≡ y → ⊥) → one_if_equal x y ≤ 0
-not_hit x y ne = not_case (eqb x y) x y refl ne
+not_hit x y h1 = grind (arith, nat_tests, eqb-true)
 
 pub counts_next : (members : List ℕ) (i x : ℕ) → i < length members
     → count x (take (i + 1) members) ≡ count x (take i members) + one_if_equal x (get_or members i 0)
@@ -34,11 +31,9 @@ counts_next members i x h1 = grind (arith, nat_tests, number_here, count-append)
 put_case : (p : Bool) (x m v : ℕ) (cells : List ℕ) → eqb x m ≡ p → m < length cells → (x ≢ m → get_or cells x 0 ≡ v)
     → get_or (set cells m v) x 0 ≡ v
 put_case true x m v cells is low here =
-    let e : x ≡ m = eqb-true x m is in
-    subst (λ (y : ℕ). get_or (set cells m v) y 0 ≡ v) (sym e) (get_or-set_same cells m v 0 low)
+    grind (arith, nat_tests, eqb-true, get_or, set, get_or-set_same, low)
 put_case false x m v cells is low here =
-    let ne : x ≢ m = eqb-false x m is in
-    rw get_or-set_other (here ne)
+    grind (arith, nat_tests, eqb-false, get_or-set_other)
 
 -- the cell of one place more has the value
 pub put_next : (members cells : List ℕ) (i v : ℕ) → i < length members → get_or members i 0 < length cells
@@ -57,24 +52,14 @@ put_others members cells first i v low others x none =
     let ne : x ≢ m = λ e. omega (arith, none, counts_next members i x low, hit_same x, ap (λ (y : ℕ). one_if_equal x y) e) in
     rw get_or-set_other (others x (omega (arith, none, counts_next members i x low)))
 
-near_case : (p : Bool) (by left : ℕ) → ltb left FAR ≡ p → left < FAR → cond p (left - by) left ≡ left - by
-near_case p by left h1 h2 = grind (arith, nat_tests, ltb-false)
-
 pub lowered_near : (by left : ℕ) → left < FAR → lowered_slack by left ≡ left - by
-lowered_near by left near = near_case (ltb left FAR) by left refl near
-
-far_case : (p : Bool) (by left : ℕ) → ltb left FAR ≡ p → left ≡ FAR → cond p (left - by) left ≡ FAR
-far_case p by left h1 h2 = grind (arith, nat_tests, ltb-true)
+lowered_near by left h1 = grind (arith, nat_tests, ltb-false)
 
 pub lowered_far : (by left : ℕ) → left ≡ FAR → lowered_slack by left ≡ FAR
-lowered_far by left far = far_case (ltb left FAR) by left refl far
-
-less_case : (p : Bool) (by left : ℕ) → cond p (left - by) left ≤ left
-less_case true by left = omega arith
-less_case false by left = omega arith
+lowered_far by left h1 = grind (arith, nat_tests, ltb-true)
 
 pub lowered_less : (by left : ℕ) → lowered_slack by left ≤ left
-lowered_less by left = less_case (ltb left FAR) by left
+lowered_less by left = grind (arith, nat_tests)
 
 -- a cell of a row that is made cell by cell
 at_row : (f : ℕ → ℕ) (n x : ℕ) → x < n → get_or (map f (range_with_len 0 n)) x 0 ≡ f x
@@ -115,7 +100,7 @@ times_one by n e = omega (arith, ap (λ (k : ℕ). by * k) e)
 
 -- the height of a member is the dual and the heights inside
 over : (t : TableValue) (h : ℕ → ℕ) (s : OddSetValue) (a : ℕ) → IsSoundSet t h s → count a s.members ≡ 1 → s.dual + height a s.below ≡ h a
-over t h s a k one = omega (arith, k.local a (omega (arith, one)), times_one s.dual (count a s.members) one)
+over t h s a h1 h2 = grind (arith, nat_tests)
 
 -- the slack from a set to x, less its dual, is at most that from each member
 pub near_least : (t : TableValue) (h : ℕ → ℕ) (s : OddSetValue) (a x : ℕ) → IsSoundSet t h s → count a s.members ≡ 1
@@ -177,18 +162,12 @@ least_is t h p ps x f once none lx =
     least_with t h p ps x f.0.odd_set once none lx
     (least_rest t h ps x f.1 (λ y. omega (arith, once y, c y)) (omega (arith, none, c x)) lx)
 
-in_case : (b : Bool) (n v : ℕ) → ltb 0 n ≡ b → 1 ≤ n → cond b FAR v ≡ FAR
-in_case b n v h1 h2 = grind (arith, nat_tests, ltb-false)
-
-out_case : (b : Bool) (n v : ℕ) → ltb 0 n ≡ b → n ≡ 0 → cond b FAR v ≡ v
-out_case b n v h1 h2 = grind (arith, nat_tests, ltb-true)
-
 -- a blossom's cell at a member, and at any other place
 blossom_own : (ps : List PartValue) (x : ℕ) → 1 ≤ count x (members_in ps) → blossom_slack ps x ≡ FAR
-blossom_own ps x here = in_case (ltb 0 (count x (members_in ps))) (count x (members_in ps)) (least_part_slack ps x) refl here
+blossom_own ps x h1 = grind (arith, nat_tests, ltb-false)
 
 blossom_other : (ps : List PartValue) (x : ℕ) → count x (members_in ps) ≡ 0 → blossom_slack ps x ≡ least_part_slack ps x
-blossom_other ps x none = out_case (ltb 0 (count x (members_in ps))) (count x (members_in ps)) (least_part_slack ps x) refl none
+blossom_other ps x h1 = grind (arith, nat_tests, ltb-true)
 
 least_short : (p : PartValue) (ps : List PartValue) (x : ℕ) → get_or p.odd_set.near x 0 < FAR → least_part_slack (p ∷ ps) x < FAR
 least_short p ps x near = omega (arith, lowered_less p.odd_set.dual (get_or p.odd_set.near x 0), near)

@@ -115,12 +115,8 @@ made_at (suc a) sets k is = is.1
 pub is_made : (sets : Slots) (k : ℕ) → IsSet sets k → IsVertexOrBlossom (members_at sets k) (parts_in sets (parts_at sets k))
 is_made sets k is = made_at (length (members_at sets k)) sets k (levels_of sets k is)
 
-slot_at : (a : ℕ) (sets : Slots) (k : ℕ) → IsSetToDepth a sets k → ContainsKey sets k
-slot_at zero sets k is = absurd is
-slot_at (suc a) sets k is = is.0
-
 pub has_slot : (sets : Slots) (k : ℕ) → IsSet sets k → ContainsKey sets k
-has_slot sets k is = slot_at (length (members_at sets k)) sets k (levels_of sets k is)
+has_slot sets k h1 = grind (arith, nat_tests, levels_of)
 
 -- what follows of the one and of the other follows of their sum
 pub either : {R : Type 0} (m n : ℕ) → (1 ≤ m → R) → (1 ≤ n → R) → 1 ≤ m + n → R
@@ -134,13 +130,7 @@ inside_list : (a : ℕ) (sets : Slots) → ((s : Handle) (j : ℕ) → IsSetToDe
     → 1 ≤ key_count j (dual_sets_in (parts_in sets ps)) → IsSet sets j
 inside_list a sets all [] j are some = absurd (omega arith)
 inside_list a sets all (p ∷ ps) j are some =
-    either (key_count j (dual_sets (set_in sets p.handle))) (key_count j (dual_sets_in (parts_in sets ps))) (all p.handle j are.0)
-    (inside_list a sets all ps j are.1) (omega (
-      arith,
-      some,
-      key_count-append j (dual_sets (set_in sets p.handle))
-          (dual_sets_in (parts_in sets ps)),
-    ))
+    grind (arith, nat_tests, either, nat_tests, key_count-append, inside_list a sets all ps j are.1)
 
 inside_to : (a : ℕ) (sets : Slots) (s : Handle) (j : ℕ) → IsSetToDepth a sets s.key → 1 ≤ key_count j (dual_sets (set_in sets s))
     → IsSet sets j
@@ -213,17 +203,6 @@ set_kept old new s is same =
 pub record AreKept (old new : Slots) (was : List DualSet) : Type 0 where
   pub sets : (j : ℕ) → 1 ≤ key_count j was → IsSet new j
 
-seat_kept : (old new : Slots) (s : Handle) → IsSet old s.key
-    → ((j : ℕ) → 1 ≤ key_count j (dual_sets (set_in old s)) → get new j ≡ get old j)
-    → AreKept old new (dual_sets (set_in old s)) × (set_in new s ≡ set_in old s)
-seat_kept old new s is same =
-    let k = set_kept old new s is same in (
-      record {
-        sets = λ j u. inside new s j k.set (omega (arith, u, ap (λ (v : OddSetValue). key_count j (dual_sets v)) k.same));
-      },
-      k.same,
-    )
-
 pub kept_append : (old new : Slots) (xs ys : List DualSet) → AreKept old new xs → AreKept old new ys → AreKept old new (xs ++ ys)
 kept_append old new xs ys h1 h2 = grind (arith, nat_tests, either, key_count-append)
 
@@ -244,20 +223,24 @@ can_right old new xs ys c = record {
   same = λ j u. c.same j (omega (arith, u, key_count-append j xs ys));
 }
 
-pub record SeatKept (old new : Slots) (s : Handle) : Type 0 where
-  pub kept : AreKept old new (dual_sets (set_in old s))
-  pub same : set_in new s ≡ set_in old s
+-- a value shown by other slots is the same, and its sets are kept
+pub record KeepsValue {X : Type 0} (old new : Slots) (was : List DualSet) (x y : X) : Type 0 where
+  pub kept : AreKept old new was
+  pub same : y ≡ x
 
-pub keep_seat : (old new : Slots) (s : Handle) → CanKeep old new (dual_sets (set_in old s)) → SeatKept old new s
+pub keep_seat : (old new : Slots) (s : Handle) → CanKeep old new (dual_sets (set_in old s))
+    → KeepsValue old new (dual_sets (set_in old s)) (set_in old s) (set_in new s)
 keep_seat old new s c =
-    let k = seat_kept old new s (c.each s.key (omega (arith, hit_same s.key))) c.same in
-    record { kept = k.0; same = k.1 }
+    let k = set_kept old new s (c.each s.key (omega (arith, hit_same s.key))) c.same in
+    record {
+      kept = record {
+        sets = λ j u. inside new s j k.set (omega (arith, u, ap (λ (v : OddSetValue). key_count j (dual_sets v)) k.same));
+      };
+      same = k.same;
+    }
 
-pub record PartsKept (old new : Slots) (ps : List BlossomPart) : Type 0 where
-  pub kept : AreKept old new (dual_sets_in (parts_in old ps))
-  pub same : parts_in new ps ≡ parts_in old ps
-
-pub keep_parts : (old new : Slots) (ps : List BlossomPart) → CanKeep old new (dual_sets_in (parts_in old ps)) → PartsKept old new ps
+pub keep_parts : (old new : Slots) (ps : List BlossomPart) → CanKeep old new (dual_sets_in (parts_in old ps))
+    → KeepsValue old new (dual_sets_in (parts_in old ps)) (parts_in old ps) (parts_in new ps)
 keep_parts old new [] c = record { kept = record { sets = λ j u. absurd (omega arith) }; same = refl }
 keep_parts old new (p ∷ ps) c =
     let first = dual_sets (set_in old p.handle) in
@@ -270,14 +253,11 @@ keep_parts old new (p ∷ ps) c =
           ∙ ap (λ (qs : List PartValue). part_in old p ∷ qs) rest.same;
     }
 
-pub record MatchesKept (old new : Slots) (cs : List Match) : Type 0 where
-  pub kept : AreKept old new (match_dual_sets (matches_in old cs))
-  pub same : matches_in new cs ≡ matches_in old cs
-
 abbrev match_of : OddSetValue → OddSetValue → TightEdge → MatchValue
 match_of first second link = record { first = first; second = second; link = link }
 
-pub keep_matches : (old new : Slots) (cs : List Match) → CanKeep old new (match_dual_sets (matches_in old cs)) → MatchesKept old new cs
+pub keep_matches : (old new : Slots) (cs : List Match) → CanKeep old new (match_dual_sets (matches_in old cs))
+    → KeepsValue old new (match_dual_sets (matches_in old cs)) (matches_in old cs) (matches_in new cs)
 keep_matches old new [] c = record { kept = record { sets = λ j u. absurd (omega arith) }; same = refl }
 keep_matches old new (k ∷ cs) c =
     let one = dual_sets (set_in old k.first) in
@@ -294,11 +274,8 @@ keep_matches old new (k ∷ cs) c =
           ∙ ap (λ (ks : List MatchValue). match_in old k ∷ ks) rest.same;
     }
 
-pub record BranchesKept (old new : Slots) (bs : List Branch) : Type 0 where
-  pub kept : AreKept old new (branch_dual_sets (branches_in old bs))
-  pub same : branches_in new bs ≡ branches_in old bs
-
-pub keep_branches : (old new : Slots) (bs : List Branch) → CanKeep old new (branch_dual_sets (branches_in old bs)) → BranchesKept old new bs
+pub keep_branches : (old new : Slots) (bs : List Branch) → CanKeep old new (branch_dual_sets (branches_in old bs))
+    → KeepsValue old new (branch_dual_sets (branches_in old bs)) (branches_in old bs) (branches_in new bs)
 keep_branches old new [] c = record { kept = record { sets = λ j u. absurd (omega arith) }; same = refl }
 keep_branches old new (b ∷ bs) c =
     let one = dual_sets (set_in old b.inner) in

@@ -1,6 +1,6 @@
 -- Counts, heights and loads of joined lists, and of the sets of items.
 use Rattle.std.proofs.lemmas.Bool.Decides.{nat_tests}
-use Rattle.std.proofs.Common.{◌≡◌, ℕ, zero, suc, ◌+◌, ◌-◌, ◌*◌, ◌≤◌, ◌⊎◌, inl, inr, List, [], ◌∷◌, ◌++◌, arith, refl, cond, eqb, length, length-append, Bool, true, false, ap, ◌∙◌}
+use Rattle.std.proofs.Common.{◌≡◌, ℕ, zero, suc, ◌+◌, ◌-◌, ◌*◌, ◌≤◌, ◌⊎◌, inl, inr, List, [], ◌∷◌, ◌++◌, arith, refl, length, length-append, ap, ◌∙◌}
 use Rattle.std.proofs.lemmas.Bool.{eqb-true, eq-eqb}
 use Rattle.std.proofs.lemmas.List.Concat.{flat_map-append}
 use Rattle.std.specs.List.{flat_map}
@@ -56,8 +56,7 @@ other_side w m = let e : (0 - m) + (m - 0) ≡ m = omega arith in rw e refl
 pub dual_load-comm : (a b : ℕ) (bs : List DualSet) → dual_load a b bs ≡ dual_load b a bs
 dual_load-comm a b [] = refl
 dual_load-comm a b (s ∷ bs) =
-    let e : apart (count a s.members) (count b s.members) ≡ apart (count b s.members) (count a s.members) = omega arith in
-    omega (arith, dual_load-comm a b bs, ap (λ (k : ℕ). s.dual * k) e)
+    grind (arith, nat_tests, dual_load-comm a b bs)
 
 -- where no set holds b, the load is the height of a
 pub load_alone : (a b : ℕ) (bs : List DualSet) → NoneHold b bs → dual_load a b bs ≡ height a bs
@@ -87,11 +86,8 @@ load_along a b s kept none = omega (arith, load_alone a b (dual_sets s) (none_ho
 pub hit_same : (x : ℕ) → one_if_equal x x ≡ 1
 hit_same x = rw (eq-eqb x x refl) refl
 
-hit_case : (b : Bool) (x y : ℕ) → eqb x y ≡ b → 1 ≤ cond b 1 0 → x ≡ y
-hit_case b x y h1 h2 = grind (arith, nat_tests, eqb-true)
-
 pub hit_is : (x y : ℕ) → 1 ≤ one_if_equal x y → x ≡ y
-hit_is x y some = hit_case (eqb x y) x y refl some
+hit_is x y h1 = grind (arith, nat_tests, eqb-true)
 
 -- an odd list has a first item
 pub some_member : (xs : List ℕ) → 1 ≤ length xs → (x : ℕ) × (1 ≤ count x xs)

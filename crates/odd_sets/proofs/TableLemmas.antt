@@ -1,6 +1,6 @@
 -- One entry of a table is set.
 use Rattle.std.proofs.lemmas.Bool.Decides.{nat_tests}
-use Rattle.std.proofs.Common.{◌≡◌, ◌≢◌, ℕ, ◌+◌, ◌*◌, ◌<◌, ◌≤◌, ◌&&◌, ◌||◌, ◌⊎◌, inl, inr, Bool, true, false, cond, eqb, List, length, max, min, set, get_or, arith, refl, sym, ap, subst, ◌∙◌, get_or-set_other, get_or-set_same, slice_index}
+use Rattle.std.proofs.Common.{◌≡◌, ◌≢◌, ℕ, ◌+◌, ◌*◌, ◌<◌, ◌≤◌, ◌&&◌, ◌||◌, ◌⊎◌, inl, inr, Bool, true, false, cond, eqb, List, length, max, min, set, get_or, arith, refl, sym, ap, ◌∙◌, get_or-set_other, get_or-set_same, slice_index}
 use Rattle.std.proofs.Math.Nat.{mul-le-mul_right}
 use Rattle.std.proofs.lemmas.Bool.{cases_lt, eqb-true, eqb-false, eq-eqb}
 use Rattle.std.proofs.lemmas.List.{length-set}
@@ -31,14 +31,8 @@ both_true true true e = (refl, refl)
 both_true true false e = cc
 both_true false q e = cc
 
-made_true : (p q : Bool) → (p && q) ≡ false → p ≡ true → q ≡ true → ⊥
-made_true p q h1 h2 h3 = cc
-
 set_same : (cells : List ℕ) (i k d : ℕ) → i < length cells → k ≡ i → get_or (set cells i d) k 0 ≡ d
 set_same cells i k d low e = ap (λ (m : ℕ). get_or (set cells i d) m 0) e ∙ get_or-set_same cells i d 0 low
-
-one_cell : (n k m i j : ℕ) → k ≡ i → m ≡ j → k * n + m ≡ i * n + j
-one_cell n k m i j e f = ap (λ (r : ℕ). r * n + m) e ∙ ap (λ (r : ℕ). i * n + r) f
 
 -- two places, in the one order or the other
 abbrev IsPair : ℕ → ℕ → ℕ → ℕ → Type 0
@@ -61,14 +55,14 @@ set_either cells i j k d low lower (inl e) = other_case (eqb k j) cells i j k d 
 set_either cells i j k d low lower (inr e) = set_same (set cells i d) j k d (omega (arith, lower, length-set cells i d)) e
 
 on_pair : (n u v x y a b : ℕ) → IsPair u v x y → x ≡ a → y ≡ b → (u * n + v ≡ a * n + b) ⊎ (u * n + v ≡ b * n + a)
-on_pair n u v x y a b h1 h2 h3 = grind (arith, nat_tests, one_cell)
+on_pair n u v x y a b h1 h2 h3 = grind (arith, nat_tests)
 
 swapped : {P Q : Type 0} → P ⊎ Q → Q ⊎ P
 swapped (inl p) = inr p
 swapped (inr q) = inl q
 
 off_pair : (u v x y a b : ℕ) → IsPair u v x y → (eqb x a && eqb y b) ≡ false → (eqb x b && eqb y a) ≡ false → u ≡ a → v ≡ b → ⊥
-off_pair u v x y a b h1 h2 h3 h4 h5 = grind (arith, nat_tests, made_true, eq-eqb)
+off_pair u v x y a b h1 h2 h3 h4 h5 = grind (arith, nat_tests, eq-eqb)
 
 by_tests : (t s : Bool) (cells : List ℕ) (n a b d u v x y : ℕ) → length cells ≡ n * n → a < n → b < n → u < n → v < n → IsPair u v x y
     → (eqb x a && eqb y b) ≡ t → (eqb x b && eqb y a) ≡ s →
@@ -109,35 +103,12 @@ direct-set_cells t is a b d x y la lb lx ly =
     (inl (refl, refl)) refl refl
     ∙ ap (λ (k : ℕ). cond ((eqb x a && eqb y b) || (eqb x b && eqb y a)) d k) (is.mirror x y lx ly)
 
-short_either : (p : Bool) (d k m : ℕ) → d ≤ m → k ≤ m → cond p d k ≤ m
-short_either true d k m p q = p
-short_either false d k m p q = q
-
 -- no place is both
 alone_case : (p q : Bool) (a b d k x : ℕ) → eqb x a ≡ p → eqb x b ≡ q → a ≢ b → cond ((p && q) || (q && p)) d k ≡ k
 alone_case p q a b d k x h1 h2 h3 = grind (arith, nat_tests, eqb-true)
 
 set_keeps : (t : TableValue) → IsTable t → (a b d : ℕ) → a < t.places → b < t.places → d ≤ MAX_DISTANCE → IsTable (set_cells t a b d)
-set_keeps t is a b d la lb low = record {
-  few = is.few;
-  filled = omega (
-    arith,
-    is.filled,
-    length-set t.cells (a * t.places + b) d,
-    length-set (set t.cells (a * t.places + b) d) (b * t.places + a) d,
-  );
-  short = λ x y lx ly. rw (entry-set_cells t is a b d x y la lb lx ly)
-      (short_either ((eqb x a && eqb y b) || (eqb x b && eqb y a)) d (entry t x y) MAX_DISTANCE low (is.short x y lx ly));
-}
-
-set_stored : (t : TableValue) → IsStored t → (a b d : ℕ) → a ≢ b → a < t.places → b < t.places → d ≤ MAX_DISTANCE
-    → IsStored (set_cells t a b d)
-set_stored t is a b d ne la lb low = record {
-  table = set_keeps t is.table a b d la lb low;
-  mirror = λ x y lx ly. direct-set_cells t is a b d x y la lb lx ly ∙ sym (entry-set_cells t is.table a b d x y la lb lx ly);
-  diagonal = λ x lx. entry-set_cells t is.table a b d x x la lb lx lx
-      ∙ alone_case (eqb x a) (eqb x b) a b d (entry t x x) x refl refl ne ∙ is.diagonal x lx;
-}
+set_keeps t h1 a b d h2 h3 h4 = grind (arith, nat_tests, length-set, entry-set_cells)
 
 -- the same where the cells have names
 abbrev pub set_at : TableValue → ℕ → ℕ → ℕ → TableValue
@@ -152,9 +123,7 @@ entry-set_at t is a b d at back x y e f la lb lx ly =
 
 pub set_at_stored : (t : TableValue) → IsStored t → (a b d at back : ℕ) → a ≢ b → at ≡ a * t.places + b → back ≡ b * t.places + a
     → a < t.places → b < t.places → d ≤ MAX_DISTANCE → IsStored (set_at t at back d)
-set_at_stored t is a b d at back ne e f la lb low =
-    subst (λ (k : ℕ). IsStored (set_at t k back d)) (sym e)
-    (subst (λ (k : ℕ). IsStored (set_at t (a * t.places + b) k d)) (sym f) (set_stored t is a b d ne la lb low))
+set_at_stored t h1 a b d at back h2 h3 h4 h5 h6 h7 = grind (arith, nat_tests, set_keeps, direct-set_cells, entry-set_cells, alone_case)
 
 pub entry-comm : (t : TableValue) (a b : ℕ) → entry t a b ≡ entry t b a
 entry-comm t a b = ap (slice_index t.cells) (turned a b t.places)

@@ -1,4 +1,5 @@
 -- Trees that grow at the end.
+use Rattle.std.proofs.lemmas.Bool.Decides.{nat_tests}
 use Rattle.std.proofs.Common.{◌≡◌, ℕ, ◌+◌, ◌≤◌, List, [], ◌∷◌, ◌++◌, arith, refl}
 use Rattle.odd_sets.specs.DualSets.{count}
 use Rattle.odd_sets.specs.Trees.{outer_members, outer_with_both, IsAlternatingTree}
@@ -19,14 +20,7 @@ pub record Last (base : List ℕ) (bs : List BranchValue) (b : BranchValue) : Ty
 pub last_of : (base : List ℕ) (bs : List BranchValue) (b : BranchValue) → IsAlternatingTree base (bs ++ b ∷ []) → Last base bs b
 last_of base [] b g = record { grown = tt; above = g.0; up_to = g.1; pair_from = g.2; pair_to = g.3 }
 last_of base (a ∷ bs) b g =
-    let r = last_of (a.outer.members ++ base) bs b g.4 in
-    record {
-      grown = (g.0, g.1, g.2, g.3, r.grown);
-      above = omega (arith, r.above, outer_members_base b.up.from a.outer.members base bs, count-append);
-      up_to = r.up_to;
-      pair_from = r.pair_from;
-      pair_to = r.pair_to;
-    }
+    grind (arith, nat_tests, outer_members_base, count-append, last_of (a.outer.members ++ base) bs b g.4)
 
 pub grown_more : (ps qs : List ℕ) (bs : List BranchValue) → ((x : ℕ) → count x ps ≤ count x qs) → IsAlternatingTree ps bs
     → IsAlternatingTree qs bs

@@ -1,3 +1,4 @@
+use Rattle.std.proofs.lemmas.Bool.Decides.{nat_tests}
 use Rattle.std.proofs.Common.{arith, List, length, ◌<◌, ap, subst}
 use Rattle.odd_sets.specs.DualSets.{count}
 use Rattle.odd_sets.specs.Blossoms.{members_in, PartHoldsAt}
@@ -9,14 +10,7 @@ use Rattle.odd_sets.proofs.expanding.even_way.Goals as goal
 
 pub part_with-end-requires : goal.part_with-end-requires
 part_with-end-requires c =
-    omega (
-      arith,
-      c.requires.exit_in,
-      ap (λ (qs : List BlossomPart). count c.args.exit (members_in (parts_in c.args.sets.now qs))) c.deref.ensures.value,
-      turned_places
-          c.args.exit (parts_in c.args.sets.now c.args.parts.items) (parts_in c.args.sets.now c.turned_to-blossom.result.items)
-          c.turned_to-blossom.ensures.turned,
-    )
+    grind (arith, nat_tests, c.requires.exit_in, turned_places)
 
 pub returns-then-end-eq0 : goal.returns-then-end-eq0
 returns-then-end-eq0 c =

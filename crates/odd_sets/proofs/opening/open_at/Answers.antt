@@ -1,3 +1,4 @@
+use Rattle.std.proofs.lemmas.Bool.Decides.{nat_tests}
 use Rattle.std.proofs.Common.{arith, ap, length, List, ℕ, ◌++◌, ◌≡◌, ◌<◌, ◌∙◌, subst, sym}
 use Rattle.std.proofs.lemmas.List.{length-map}
 use Rattle.std.specs.Vec.Iter.{into_iter_items}
@@ -17,20 +18,10 @@ turned_to-requires c =
     let copied = c.in_ok-extend_from_slice.ensures.items
     ∙ ap (λ (ps : List BlossomPart). ps ++ c.parts.result.now) c.new-parts.ensures.items
     ∙ c.parts.ensures in
-    let some : 0 < length (parts_in sets (parts_at sets s.key)) = omega (
-      arith,
-      c.len.ensures,
-      c.if-len-eq0.false,
-      ap (λ (ps : List BlossomPart). length ps) copied,
-      length-map (parts_at sets s.key) (part_in sets),
-    ) in
+    let some : 0 < length (parts_in sets (parts_at sets s.key)) =
+    grind (arith, nat_tests, c.len.ensures, c.if-len-eq0.false, length-map (parts_at sets s.key) (part_in sets)) in
     let made = made_blossom (members_at sets s.key) (parts_in sets (parts_at sets s.key)) some (is_made sets s.key c.requires.set) in
-    omega (
-      arith,
-      c.requires.there,
-      ap (λ (xs : List ℕ). count c.args.left xs) made.0,
-      ap (λ (ps : List BlossomPart). count c.args.left (members_in (parts_in sets ps))) copied,
-    )
+    grind (arith, nat_tests, c.requires.there)
 
 pub returns-then-len-eq0 : goal.returns-then-len-eq0
 returns-then-len-eq0 c =
@@ -39,13 +30,8 @@ returns-then-len-eq0 c =
     let copied = c.in_ok-extend_from_slice.ensures.items
     ∙ ap (λ (ps : List BlossomPart). ps ++ c.parts.result.now) c.new-parts.ensures.items
     ∙ c.parts.ensures in
-    let none : length (parts_in sets (parts_at sets s.key)) ≡ 0 = omega (
-      arith,
-      c.len.ensures,
-      c.if-len-eq0.true,
-      ap (λ (ps : List BlossomPart). length ps) copied,
-      length-map (parts_at sets s.key) (part_in sets),
-    ) in
+    let none : length (parts_in sets (parts_at sets s.key)) ≡ 0 =
+    grind (arith, nat_tests, c.len.ensures, c.if-len-eq0.true, length-map (parts_at sets s.key) (part_in sets)) in
     opens_place c.args.left s.key s.dual (set_in sets s) (members_at sets s.key) (slacks_at sets s.key)
     (parts_in sets (parts_at sets s.key))
     _ (set_made sets s c.requires.set) (is_made sets s.key c.requires.set) c.requires.there none

@@ -1,3 +1,4 @@
+use Rattle.std.proofs.lemmas.Bool.Decides.{nat_tests}
 use Rattle.std.proofs.Common.{arith, get_or, length, length-set, ◌<◌}
 use Rattle.odd_sets.proofs.RaisedLemmas.{count_at}
 use Rattle.odd_sets.proofs.SlackRowLemmas.{put_next, put_others}
@@ -21,9 +22,5 @@ loop-a-preserved c =
       on = put_next c.args.places.now c.loop-a.cells c.loop-a.a-index c.args.left c.loop-a-test.true low c.loop-a.invariant.on;
       off = put_others c.args.places.now c.loop-a.cells c.args.cells.now c.loop-a.a-index c.args.left c.loop-a-test.true
           c.loop-a.invariant.off;
-      size = omega (
-        arith,
-        c.loop-a.invariant.size,
-        length-set c.loop-a.cells (get_or c.args.places.now c.loop-a.a-index 0) c.args.left,
-      );
+      size = grind (arith, nat_tests, c.loop-a.invariant.size, length-set);
     }
