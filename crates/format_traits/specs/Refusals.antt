@@ -1,12 +1,13 @@
 -- Acts that a format cannot write. The acts are judged in order, and the first refusal is the
 -- writer's answer.
-use Rattle.std.specs.Prelude.{◌≡◌, ℕ, ◌+◌, Bool, true, false, List, [], ◌∷◌, Option, Some, None, Result, Ok, Err, nat_lt}
+use Rattle.std.specs.Prelude.{◌≡◌, ℕ, ◌+◌, ◌≤◌, IsTrue, Bool, true, false, List, [], ◌∷◌, Option, Some, None, Result, Ok, Err, nat_lt}
 use Rattle.design_model.specs.declared.act.Act.{Act}
 use Rattle.design_model.specs.declared.act.Act.TheVariants.{Needle, Trim, Stop}
 use Rattle.design_model.specs.declared.act.NumberedAct.{NumberedAct}
 use Rattle.design_model.specs.declared.design.TheConstants.{MAX_COMMANDS}
 use Rattle.design_model.specs.declared.point.Point.{Point}
-use Rattle.design_model.specs.Points.{origin, move_between, move_size}
+use Rattle.design_model.specs.declared.point.TheConstants.{NEEDLE_LIMIT}
+use Rattle.design_model.specs.Points.{is_point_within, origin, move_between, move_size}
 use Rattle.lists_and_numbers.specs.OutOfMemory.{UnlessOutOfMemory}
 use Rattle.format_traits.specs.declared.fault.WriteFault.{WriteFault}
 use Rattle.format_traits.specs.declared.fault.WriteFault.TheVariants as fault
@@ -40,6 +41,13 @@ encoder_state_after limit before act = record {
   stops = before.stops + stops_in act;
   room = before.room + room_of_act limit before.loose before.place act;
 }
+
+-- An encoder state in range: the needle's position is in range, the room is within a design's, and
+-- the stops are at most the room.
+pub record IsEncoderStateInRange (state : EncoderState) : Type 0 where
+  pub place : IsTrue (is_point_within NEEDLE_LIMIT state.place)
+  pub room : state.room ≤ MAX_COMMANDS
+  pub stops : state.stops ≤ state.room
 
 -- True where a number is above the maximum, if there is one.
 abbrev pub is_above_max : Option ℕ → ℕ → Bool

@@ -1,14 +1,12 @@
 -- The encoding of acts in any format: the records of each act, in order. Which records an act takes
 -- is the same in all formats; a format defines only the bytes of its records.
-use Rattle.std.specs.Prelude.{◌≡◌, ℕ, ◌≤◌, ◌-◌, max, Bool, IsTrue, true, false, List, [], ◌∷◌, ◌++◌, map, Option, Some, None, Result, Ok, Err, ◌==◌, if◌then◌else◌}
+use Rattle.std.specs.Prelude.{◌≡◌, ℕ, ◌-◌, max, Bool, true, false, List, [], ◌∷◌, ◌++◌, map, Option, Some, None, Result, Ok, Err, ◌==◌, if◌then◌else◌}
 use Rattle.std.specs.List.{concat}
 use Rattle.design_model.specs.declared.act.Act.{Act}
 use Rattle.design_model.specs.declared.act.Act.TheVariants.{Needle, Trim, Stop}
 use Rattle.design_model.specs.declared.act.NumberedAct.{NumberedAct}
-use Rattle.design_model.specs.declared.design.TheConstants.{MAX_COMMANDS}
 use Rattle.design_model.specs.declared.point.Point.{Point}
-use Rattle.design_model.specs.declared.point.TheConstants.{NEEDLE_LIMIT}
-use Rattle.design_model.specs.Points.{is_point_within, origin, move_between}
+use Rattle.design_model.specs.Points.{origin, move_between}
 use Rattle.format_traits.specs.declared.fault.WriteFault.{WriteFault}
 use Rattle.format_traits.specs.declared.encoder_state.WriteLimits.{WriteLimits}
 use Rattle.format_traits.specs.declared.encoder_state.EncoderState.{EncoderState}
@@ -79,13 +77,6 @@ abbrev pub encoder_state_after_acts : ℕ → EncoderState → List NumberedAct 
 encoder_state_after_acts limit before [] = before
 encoder_state_after_acts limit before (a ∷ rest) = encoder_state_after_acts limit
     (encoder_state_after limit before a.act) rest
-
--- An encoder state in range: the needle's position is in range, the room is within a design's, and
--- the stops are at most the room.
-pub record IsEncoderStateInRange (state : EncoderState) : Type 0 where
-  pub place : IsTrue (is_point_within NEEDLE_LIMIT state.place)
-  pub room : state.room ≤ MAX_COMMANDS
-  pub stops : state.stops ≤ state.room
 
 -- An act that is not refused before its room is counted.
 abbrev pub IsAcceptedAct : WriteLimits → EncoderState → Act → Type 0

@@ -9,7 +9,8 @@ ghost use Rattle.design_model.specs.Points.{is_point_within, move_size};
 ghost use Rattle.format_traits.specs.declared.move_hops.TheConstants.{MAX_MOVE};
 ghost use Rattle.record_formats.specs.declared.move_parts.TheConstants.{MAX_HOPS};
 ghost use Rattle.record_formats.specs.MoveParts.{part_moves_from};
-ghost use Rattle.record_formats.specs.RecordEncodings.{IsAcceptedAct, IsEncoderStateInRange, AppendsActRecords, AppendsRecords, float_records, hop_records, is_at_max, needle_records, records_of_act, stitched_hop_records};
+ghost use Rattle.format_traits.specs.Refusals.{IsEncoderStateInRange};
+ghost use Rattle.record_formats.specs.RecordEncodings.{IsAcceptedAct, AppendsActRecords, AppendsRecords, float_records, hop_records, is_at_max, needle_records, records_of_act, stitched_hop_records};
 
 use crate::move_parts::{MAX_HOPS, part_move};
 use crate::record_writer::RecordWriter;
@@ -44,8 +45,9 @@ pub fn put_acts<W: RecordWriter>(
 
 /// Appends the records of an act and updates the encoder state, or reports why the format cannot write the
 /// act.
-// Nearly all acts are needles that are sewn on: their code is in the loop, and that of all other acts is in a
-// function of its own.
+// Nearly all acts are needles that are sewn on: their code is in the loop. All other acts go to another
+// function, with copies of the act and of the encoder state: references to the originals would keep both in
+// memory for the entire loop.
 #[inline(always)]
 fn put_act<W: RecordWriter>(
     writer: &W,
@@ -63,33 +65,17 @@ fn put_act<W: RecordWriter>(
         Act::Needle { float: false, .. } if !state.loose => {
             put_act_here(writer, out, state, act)
         }
-        _ => put_act_copied(writer, out, state, act),
+        _ => {
+            let copy = NumberedAct {
+                number: act.number,
+                act: act.act,
+            };
+            let mut after = *state;
+            put_act_apart(writer, out, &mut after, copy)?;
+            *state = after;
+            Ok(())
+        }
     }
-}
-
-/// Appends the records of an act from copies of the act and of the encoder state. References to the originals
-/// would keep both in memory for the entire loop.
-#[inline(always)]
-fn put_act_copied<W: RecordWriter>(
-    writer: &W,
-    out: &mut Bytes,
-    state: &mut EncoderState,
-    act: NumberedAct,
-) -> Result<(), WriteFault>
-    requires sound { IsEncoderStateInRange state.old }
-    requires act { IsTrue (is_act_in_range act.act) }
-    ensures value { AppendsActRecords (W.encoding writer.now) (W.write_limits writer.now) state.old act
-        out.old result state.new out.new }
-    ensures sound { OnOk result (IsEncoderStateInRange state.new) }
-{
-    let copy = NumberedAct {
-        number: act.number,
-        act: act.act,
-    };
-    let mut after = *state;
-    put_act_apart(writer, out, &mut after, copy)?;
-    *state = after;
-    Ok(())
 }
 
 // All acts take the same steps, but loose needles and stops have calls of their own: LLVM then knows the act

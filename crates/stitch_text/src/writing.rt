@@ -1,11 +1,10 @@
 ghost use Rattle.std.specs.Prelude.{◌≡◌, ◌≤◌, ◌∷◌, ◌++◌, [], IsTrue, OnOk};
 ghost use Rattle.design_model.specs.declared.design.TheConstants.{MAX_COMMANDS};
-ghost use Rattle.design_model.specs.declared.point.TheConstants.{NEEDLE_LIMIT};
 ghost use Rattle.design_model.specs.Acts.{acts_of};
 ghost use Rattle.design_model.specs.ActPositions.{is_act_in_range};
 ghost use Rattle.design_model.specs.Designs.{thread_of};
-ghost use Rattle.design_model.specs.Points.{is_point_within};
 ghost use Rattle.format_traits.specs.Laws.{KeepsLaws, EncodesTo};
+ghost use Rattle.format_traits.specs.Refusals.{IsEncoderStateInRange};
 ghost use Rattle.stitch_text.specs.Format.{list_meaning};
 ghost use Rattle.stitch_text.specs.StitchLists.{act_line, list_block_line, with_head_lines, list_writes};
 ghost use Rattle.stitch_text.specs.Steps.{PutsLine, PutsLines};
@@ -80,53 +79,27 @@ fn put_act(
     design: &Design,
     act: NumberedAct,
 ) -> Result<(), WriteFault>
-    requires place { IsTrue (is_point_within NEEDLE_LIMIT state.old.place) }
+    requires sound { IsEncoderStateInRange state.old }
     requires act { IsTrue (is_act_in_range act.act) }
-    requires room { state.old.room ≤ MAX_COMMANDS }
-    requires stops { state.old.stops ≤ state.old.room }
     ensures value { PutsLine (thread_of design.now) state.old act text.old result
         state.new text.new }
-
-    // The requirements hold for the new state too.
-    ensures place { OnOk result (IsTrue (is_point_within NEEDLE_LIMIT state.new.place)) }
-    ensures room { OnOk result (state.new.room ≤ MAX_COMMANDS) }
-    ensures stops { OnOk result (state.new.stops ≤ state.new.room) }
+    ensures sound { OnOk result (IsEncoderStateInRange state.new) }
 {
     match act.act {
         Act::Needle { float: false, .. } if !state.loose => {
             put_act_here(text, state, design, act)
         }
-        _ => put_act_copied(text, state, design, act),
+        _ => {
+            let copy = NumberedAct {
+                number: act.number,
+                act: act.act,
+            };
+            let mut after = *state;
+            put_act_apart(text, &mut after, design, copy)?;
+            *state = after;
+            Ok(())
+        }
     }
-}
-
-#[inline(always)]
-fn put_act_copied(
-    text: &mut Bytes,
-    state: &mut EncoderState,
-    design: &Design,
-    act: NumberedAct,
-) -> Result<(), WriteFault>
-    requires place { IsTrue (is_point_within NEEDLE_LIMIT state.old.place) }
-    requires act { IsTrue (is_act_in_range act.act) }
-    requires room { state.old.room ≤ MAX_COMMANDS }
-    requires stops { state.old.stops ≤ state.old.room }
-    ensures value { PutsLine (thread_of design.now) state.old act text.old result
-        state.new text.new }
-
-    // The requirements hold for the new state too.
-    ensures place { OnOk result (IsTrue (is_point_within NEEDLE_LIMIT state.new.place)) }
-    ensures room { OnOk result (state.new.room ≤ MAX_COMMANDS) }
-    ensures stops { OnOk result (state.new.stops ≤ state.new.room) }
-{
-    let copy = NumberedAct {
-        number: act.number,
-        act: act.act,
-    };
-    let mut after = *state;
-    put_act_apart(text, &mut after, design, copy)?;
-    *state = after;
-    Ok(())
 }
 
 #[cold]
@@ -137,17 +110,11 @@ fn put_act_apart(
     design: &Design,
     act: NumberedAct,
 ) -> Result<(), WriteFault>
-    requires place { IsTrue (is_point_within NEEDLE_LIMIT state.old.place) }
+    requires sound { IsEncoderStateInRange state.old }
     requires act { IsTrue (is_act_in_range act.act) }
-    requires room { state.old.room ≤ MAX_COMMANDS }
-    requires stops { state.old.stops ≤ state.old.room }
     ensures value { PutsLine (thread_of design.now) state.old act text.old result
         state.new text.new }
-
-    // The requirements hold for the new state too.
-    ensures place { OnOk result (IsTrue (is_point_within NEEDLE_LIMIT state.new.place)) }
-    ensures room { OnOk result (state.new.room ≤ MAX_COMMANDS) }
-    ensures stops { OnOk result (state.new.stops ≤ state.new.room) }
+    ensures sound { OnOk result (IsEncoderStateInRange state.new) }
 {
     put_act_here(text, state, design, act)
 }
@@ -159,17 +126,11 @@ fn put_act_here(
     design: &Design,
     act: NumberedAct,
 ) -> Result<(), WriteFault>
-    requires place { IsTrue (is_point_within NEEDLE_LIMIT state.old.place) }
+    requires sound { IsEncoderStateInRange state.old }
     requires act { IsTrue (is_act_in_range act.act) }
-    requires room { state.old.room ≤ MAX_COMMANDS }
-    requires stops { state.old.stops ≤ state.old.room }
     ensures value { PutsLine (thread_of design.now) state.old act text.old result
         state.new text.new }
-
-    // The requirements hold for the new state too.
-    ensures place { OnOk result (IsTrue (is_point_within NEEDLE_LIMIT state.new.place)) }
-    ensures room { OnOk result (state.new.room ≤ MAX_COMMANDS) }
-    ensures stops { OnOk result (state.new.stops ≤ state.new.room) }
+    ensures sound { OnOk result (IsEncoderStateInRange state.new) }
 {
     let before = *state;
     if let Some(fault) = write_limits().refusal(&before, act.number, act.act) {

@@ -2,8 +2,8 @@ use Rattle.std.proofs.Common.{◌≡◌, ◌++◌, drop}
 use Rattle.std.specs.List.{concat}
 use Rattle.design_model.specs.Acts.{acts_along}
 use Rattle.design_model.specs.ActScanners.{acts_after}
-use Rattle.format_traits.specs.Refusals.{first_refusal_from, first_refusal, initial_encoder_state}
-use Rattle.record_formats.specs.RecordEncodings.{IsEncoderStateInRange, records_of_acts_from, records_of_acts, encoder_state_after_acts}
+use Rattle.format_traits.specs.Refusals.{IsEncoderStateInRange, first_refusal_from, first_refusal, initial_encoder_state}
+use Rattle.record_formats.specs.RecordEncodings.{records_of_acts_from, records_of_acts, encoder_state_after_acts}
 use Rattle.record_formats.proofs.act_writing.put_acts.Given as goal
 
 -- the records so far and those of the acts that are left are all records; so with the refusals

@@ -1,11 +1,8 @@
-use Rattle.std.proofs.Common.{◌≡◌, ◌≤◌, ◌++◌, drop, IsTrue}
-use Rattle.design_model.specs.declared.design.TheConstants.{MAX_COMMANDS}
-use Rattle.design_model.specs.declared.point.TheConstants.{NEEDLE_LIMIT}
+use Rattle.std.proofs.Common.{◌≡◌, ◌++◌, drop}
 use Rattle.design_model.specs.Acts.{acts_of}
 use Rattle.design_model.specs.ActScanners.{acts_after}
 use Rattle.design_model.specs.Designs.{thread_of}
-use Rattle.design_model.specs.Points.{is_point_within}
-use Rattle.format_traits.specs.Refusals.{first_refusal_from, first_refusal}
+use Rattle.format_traits.specs.Refusals.{IsEncoderStateInRange, first_refusal_from, first_refusal}
 use Rattle.stitch_text.specs.StitchLists.{act_lines, list_write_limits}
 use Rattle.stitch_text.proofs.writing.put_lines.Given as goal
 
@@ -13,9 +10,7 @@ use Rattle.stitch_text.proofs.writing.put_lines.Given as goal
 abbrev pub invariant-loop-command : goal.invariant-loop-command
 invariant-loop-command l = record {
   number : l.walk.number ≡ l.command-index;
-  place : IsTrue (is_point_within NEEDLE_LIMIT l.state.place);
-  room : l.state.room ≤ MAX_COMMANDS;
-  stops : l.state.stops ≤ l.state.room;
+  sound : IsEncoderStateInRange l.state;
   refusal : first_refusal_from list_write_limits l.state (acts_after l.walk (drop l.command-index l.design.commands))
       ≡ first_refusal list_write_limits (acts_of l.design);
   written : l.text ++ act_lines (thread_of l.design) l.state.stops
