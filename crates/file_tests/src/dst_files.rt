@@ -1,7 +1,7 @@
-use crate::feeding::{feed, read_all};
-use crate::large_designs::{compare_large, large};
+use crate::feeding::{compare_counts, feed, read_all, written};
+use crate::large_designs::{compare_reread, stops};
 use crate::square;
-use design_model::{Command, Design, Point};
+use design_model::{Command, Point};
 use dst_codec::{Dst, decode_move, encode_move};
 use format_traits::{Format, Loaded, ReadFault, WriteFault, find};
 use lists_and_numbers::{Bytes, Memory};
@@ -30,10 +30,7 @@ fn a_square_has_its_539_bytes(rt: HostRuntime) -> Result<(), Fail> {
     let alloc = rt.alloc();
     let design = square(alloc).ok().ok_or("no design")?;
     let expected = repeated(alloc, FIELDS, b" ", 512 - 125, &RECORDS)?;
-    let file = Dst::new(alloc)
-        .encode(alloc, &design)
-        .ok()
-        .ok_or("not written")?;
+    let file = written(&Dst::new(alloc), alloc, &design)?;
     assert_eq!(rt; file.as_slice(), expected.as_slice());
     assert_eq!(rt; file.len(), 539);
     Ok(())
@@ -48,10 +45,7 @@ fn file_of(alloc: Global, records: &[u8]) -> Result<Bytes, Memory> {
 fn a_square_reads_as_its_needles_and_a_trim(rt: HostRuntime) -> Result<(), Fail> {
     let alloc = rt.alloc();
     let design = square(alloc).ok().ok_or("no design")?;
-    let file = Dst::new(alloc)
-        .encode(alloc, &design)
-        .ok()
-        .ok_or("not written")?;
+    let file = written(&Dst::new(alloc), alloc, &design)?;
     let loaded = read(&rt, alloc, file.as_slice()).ok().ok_or("not read")?;
     assert_eq!(rt; loaded.ended, true);
     let expected = [
@@ -126,7 +120,7 @@ fn a_command_is_told_once_its_record_is_whole(rt: HostRuntime) -> Result<(), Fai
         feed(&rt, &mut format, &[*byte])?;
         assert_eq!(rt; format.so_far().len(), 0);
     }
-    for (byte, told) in [
+    let cases = [
         (0x00, 0),
         (0x00, 0),
         (0x03, 1),
@@ -139,10 +133,8 @@ fn a_command_is_told_once_its_record_is_whole(rt: HostRuntime) -> Result<(), Fai
         (0x00, 2),
         (0x50, 2),
         (0x03, 2),
-    ] {
-        feed(&rt, &mut format, &[byte])?;
-        assert_eq!(rt; format.so_far().len(), told, "{} bytes", format.taken());
-    }
+    ];
+    compare_counts(&rt, &mut format, &cases)?;
     assert_eq!(rt; format.taken(), 524);
     assert_eq!(rt; format.finish().err(), Some(ReadFault::Sequin { at: 518 }));
     Ok(())
@@ -151,10 +143,7 @@ fn a_command_is_told_once_its_record_is_whole(rt: HostRuntime) -> Result<(), Fai
 #[test]
 fn a_design_of_a_thousand_stops_is_refused_at_the_last(rt: HostRuntime) -> Result<(), Fail> {
     let alloc = rt.alloc();
-    let mut design = Design::new(alloc);
-    for _ in 0..1000 {
-        design.push(Command::Stop).ok().ok_or("no stop")?;
-    }
+    let design = stops(alloc, 1000)?;
     assert_eq!(rt;
         Dst::new(alloc).encode(alloc, &design).err(),
         Some(WriteFault::TooManyStops { number: 1000 })
@@ -197,12 +186,5 @@ fn a_name_finds_the_format_of_its_last_ending(rt: HostRuntime) -> Result<(), Fai
 #[test]
 fn a_large_design_reads_again(rt: HostRuntime) -> Result<(), Fail> {
     let alloc = rt.alloc();
-    let design = large(alloc, 7)?;
-    let file = Dst::new(alloc)
-        .encode(alloc, &design)
-        .ok()
-        .ok_or("not written")?;
-    let loaded = read(&rt, alloc, file.as_slice()).ok().ok_or("not read")?;
-    compare_large(&rt, &loaded, b"Rose of Damascus", &[]);
-    Ok(())
+    compare_reread(&rt, &mut Dst::new(alloc), alloc, b"Rose of Damascus", &[])
 }

@@ -1,5 +1,5 @@
-use crate::feeding::{feed, read_all};
-use crate::large_designs::{compare_large, large};
+use crate::feeding::{compare_counts, read_all, written};
+use crate::large_designs::compare_reread;
 use crate::square;
 use design_model::{Command, Point};
 use exp_codec::Exp;
@@ -21,10 +21,7 @@ fn at(x: i32, y: i32) -> Point {
 fn a_square_has_its_14_bytes_and_reads_again(rt: HostRuntime) -> Result<(), Fail> {
     let alloc = rt.alloc();
     let design = square(alloc).ok().ok_or("no design")?;
-    let file = Exp::new(alloc)
-        .encode(alloc, &design)
-        .ok()
-        .ok_or("not written")?;
+    let file = written(&Exp::new(alloc), alloc, &design)?;
     let expected = [
         0x00, 0x00, 0x1E, 0x00, 0x00, 0xE2, 0xE2, 0x00, 0x00, 0x1E, 0x80, 0x80, 0x07, 0x00,
     ];
@@ -82,11 +79,8 @@ fn minus_128_is_read_and_never_written(rt: HostRuntime) -> Result<(), Fail> {
     );
     let left = [Command::Stitch(at(0, 0)), Command::Stitch(at(-127, 0))];
     let design = design_of(alloc, &left).ok().ok_or("no design")?;
-    let written = Exp::new(alloc)
-        .encode(alloc, &design)
-        .ok()
-        .ok_or("not written")?;
-    assert_eq!(rt; written.as_slice(), [0x00, 0x00, 0x81, 0x00].as_slice());
+    let again = written(&Exp::new(alloc), alloc, &design)?;
+    assert_eq!(rt; again.as_slice(), [0x00, 0x00, 0x81, 0x00].as_slice());
     Ok(())
 }
 
@@ -107,7 +101,7 @@ fn an_unknown_control_byte_is_refused_at_its_unit(rt: HostRuntime) -> Result<(),
 #[test]
 fn a_command_is_told_once_its_unit_is_whole(rt: HostRuntime) -> Result<(), Fail> {
     let mut format = Exp::new(rt.alloc());
-    for (byte, told) in [
+    let cases = [
         (0x1E, 0),
         (0x00, 1),
         (0x80, 1),
@@ -120,10 +114,8 @@ fn a_command_is_told_once_its_unit_is_whole(rt: HostRuntime) -> Result<(), Fail>
         (0x00, 2),
         (0x1E, 2),
         (0x00, 2),
-    ] {
-        feed(&rt, &mut format, &[byte])?;
-        assert_eq!(rt; format.so_far().len(), told, "{} bytes", format.taken());
-    }
+    ];
+    compare_counts(&rt, &mut format, &cases)?;
     assert_eq!(rt; format.taken(), 12);
     assert_eq!(rt; format.finish().err(), Some(ReadFault::Control { at: 6 }));
     Ok(())
@@ -132,12 +124,5 @@ fn a_command_is_told_once_its_unit_is_whole(rt: HostRuntime) -> Result<(), Fail>
 #[test]
 fn a_large_design_reads_again(rt: HostRuntime) -> Result<(), Fail> {
     let alloc = rt.alloc();
-    let design = large(alloc, 7)?;
-    let file = Exp::new(alloc)
-        .encode(alloc, &design)
-        .ok()
-        .ok_or("not written")?;
-    let loaded = read(&rt, alloc, file.as_slice()).ok().ok_or("not read")?;
-    compare_large(&rt, &loaded, b"", &[]);
-    Ok(())
+    compare_reread(&rt, &mut Exp::new(alloc), alloc, b"", &[])
 }

@@ -1,8 +1,8 @@
 ghost use Rattle.std.specs.Prelude.{◌≡◌, IsOk, false};
 
-use design_model::Command;
+use design_model::{Command, Design};
 use format_traits::{Format, Loaded, MAX_FED, ReadFault};
-use lists_and_numbers::Memory;
+use lists_and_numbers::{Bytes, Memory};
 use std::alloc::Global;
 use std::process::Abort;
 
@@ -50,4 +50,26 @@ pub fn read_all<F: Format>(
         );
     }
     whole
+}
+
+/// Feeds bytes one by one, and compares the number of commands after each byte with the number beside it.
+pub fn compare_counts<F: Format>(
+    rt: &impl Abort,
+    format: &mut F,
+    cases: &[(u8, usize)],
+) -> Result<(), Memory> {
+    for (byte, count) in cases {
+        feed(rt, format, &[*byte])?;
+        assert_eq!(rt; format.so_far().len(), *count, "{} bytes", format.taken());
+    }
+    Ok(())
+}
+
+/// Returns the file of a design that the format can write.
+pub fn written<F: Format>(
+    format: &F,
+    alloc: Global,
+    design: &Design,
+) -> Result<Bytes, &'static str> {
+    format.encode(alloc, design).ok().ok_or("not written")
 }

@@ -1,7 +1,9 @@
+use crate::feeding::{read_all, written};
 use design_model::{Command, Design, ModelFault, Point, counts};
-use format_traits::Loaded;
+use format_traits::{Format, Loaded};
 use std::alloc::Global;
 use std::process::Abort;
+use std::test::Fail;
 
 /// Returns a design as large as a real one: a label, three threads, and 10,000 commands in four blocks, with
 /// loose needles, floats and trims. The first of each two needles is at the given y.
@@ -37,4 +39,28 @@ pub fn compare_large(rt: &impl Abort, loaded: &Loaded, label: &[u8], threads: &[
     assert_eq!(rt; loaded.design.threads(), threads);
     let all = counts(&loaded.design);
     assert_eq!(rt; [all.needles, all.trims, all.stops], [5_000, 2_497, 3]);
+}
+
+/// Writes the large design, reads the file, and compares what was read with what the file keeps.
+pub fn compare_reread<F: Format>(
+    rt: &impl Abort,
+    format: &mut F,
+    alloc: Global,
+    label: &[u8],
+    threads: &[u8],
+) -> Result<(), Fail> {
+    let design = large(alloc, 7)?;
+    let file = written(format, alloc, &design)?;
+    let loaded = read_all(rt, format, alloc, file.as_slice())?;
+    compare_large(rt, &loaded, label, threads);
+    Ok(())
+}
+
+/// Returns a design of stops alone.
+pub fn stops(alloc: Global, count: u32) -> Result<Design, ModelFault> {
+    let mut design = Design::new(alloc);
+    for _ in 0..count {
+        design.push(Command::Stop)?;
+    }
+    Ok(design)
 }

@@ -1,3 +1,4 @@
+use crate::feeding::written;
 use crate::large_designs::{compare_large, large};
 use crate::square;
 use design_model::{Command, Point};
@@ -45,7 +46,7 @@ fn a_square_has_its_lines_and_reads_again(rt: HostRuntime) -> Result<(), Fail> {
     let list = List::new(alloc);
     let mut design = square(alloc).ok().ok_or("no design")?;
     design.push_thread(5);
-    let text = list.encode(alloc, &design).ok().ok_or("not written")?;
+    let text = written(&list, alloc, &design)?;
     assert_eq!(rt; text.as_slice(), SQUARE.as_bytes());
     let loaded = list
         .decode(alloc, SQUARE.as_bytes())
@@ -161,7 +162,7 @@ fn a_list_has_255_blocks_at_most(rt: HostRuntime) -> Result<(), Fail> {
         .ok_or("not read")?
         .design;
     assert_eq!(rt; design.threads().len(), 255);
-    let text = list.encode(alloc, &design).ok().ok_or("not written")?;
+    let text = written(&list, alloc, &design)?;
     assert!(rt; text.as_slice() == full.as_slice());
     design.push(Command::Stop)?;
     let fault = WriteFault::TooManyStops { number: 255 };
@@ -182,7 +183,7 @@ fn a_list_has_room_for_a_million_commands(rt: HostRuntime) -> Result<(), Fail> {
         .ok()
         .ok_or("not read")?
         .design;
-    let text = list.encode(alloc, &design).ok().ok_or("not written")?;
+    let text = written(&list, alloc, &design)?;
     assert!(rt; text.as_slice() == full.as_slice());
     design.push(Command::Stitch(at(0, 0)))?;
     let fault = WriteFault::TooLong { number: 400_001 };
@@ -198,13 +199,10 @@ fn a_large_design_keeps_its_label_and_threads(rt: HostRuntime) -> Result<(), Fai
     let alloc = rt.alloc();
     let list = List::new(alloc);
     let design = large(alloc, -7)?;
-    let text = list.encode(alloc, &design).ok().ok_or("not written")?;
+    let text = written(&list, alloc, &design)?;
     let loaded = list.decode(alloc, text.as_slice()).ok().ok_or("not read")?;
     compare_large(&rt, &loaded, b"Rose of Damascus", &[9, 200, 64, 4]);
-    let again = list
-        .encode(alloc, &loaded.design)
-        .ok()
-        .ok_or("not written")?;
+    let again = written(&list, alloc, &loaded.design)?;
     assert!(rt; again.as_slice() == text.as_slice());
     Ok(())
 }

@@ -1,8 +1,8 @@
 ghost use Rattle.std.specs.Prelude.{◌≡◌, IsOk, false};
 
 use crate::feeding::{SIZES, parts};
-use crate::large_designs::{compare_large, large};
-use design_model::{Command, Design, Point};
+use crate::large_designs::{compare_large, large, stops};
+use design_model::{Command, Point};
 use format_traits::{Fed, Loaded, MAX_FED, ReadFault, WriteFault};
 use lists_and_numbers::{Bytes, Memory};
 use pec_codec::{BlockReader, read_block, write_block};
@@ -204,10 +204,7 @@ fn a_point_out_of_range_leaves_the_commands_before_it(rt: HostRuntime) -> Result
 #[test]
 fn a_design_of_255_stops_is_refused_at_the_last(rt: HostRuntime) -> Result<(), Fail> {
     let alloc = rt.alloc();
-    let mut design = Design::new(alloc);
-    for _ in 0..255 {
-        design.push(Command::Stop).ok().ok_or("no stop")?;
-    }
+    let design = stops(alloc, 255)?;
     assert_eq!(rt;
         write_block(alloc, &design).err(),
         Some(WriteFault::TooManyStops { number: 255 })

@@ -1,4 +1,4 @@
-use crate::feeding::{feed, read_all};
+use crate::feeding::{feed, read_all, written};
 use crate::large_designs::{compare_large, large};
 use crate::square;
 use design_model::{Command, Design, ModelFault, Point};
@@ -49,10 +49,7 @@ fn square_in_5(alloc: Global) -> Result<Design, ModelFault> {
 fn a_square_is_written_and_read_as_pec(rt: HostRuntime) -> Result<(), Fail> {
     let alloc = rt.alloc();
     let design = square_in_5(alloc).ok().ok_or("no design")?;
-    let file = Pec::new(alloc)
-        .encode(alloc, &design)
-        .ok()
-        .ok_or("not written")?;
+    let file = written(&Pec::new(alloc), alloc, &design)?;
     let bytes = file.as_slice();
     assert_eq!(rt; bytes.len(), 1007);
     assert_eq!(rt; &bytes[..11], b"#PEC0001LA:".as_slice());
@@ -71,10 +68,7 @@ fn a_square_is_written_and_read_as_pec(rt: HostRuntime) -> Result<(), Fail> {
 fn a_square_is_written_and_read_as_pes(rt: HostRuntime) -> Result<(), Fail> {
     let alloc = rt.alloc();
     let design = square_in_5(alloc).ok().ok_or("no design")?;
-    let file = Pes::new(alloc)
-        .encode(alloc, &design)
-        .ok()
-        .ok_or("not written")?;
+    let file = written(&Pes::new(alloc), alloc, &design)?;
     let bytes = file.as_slice();
     assert_eq!(rt; bytes.len(), 1021);
     assert_eq!(rt; &bytes[..12], b"#PES0001\x16\x00\x00\x00".as_slice());
@@ -172,14 +166,8 @@ fn a_block_may_begin_in_the_front_of_its_file(rt: HostRuntime) -> Result<(), Fai
 fn a_large_design_reads_again_at_any_offset(rt: HostRuntime) -> Result<(), Fail> {
     let alloc = rt.alloc();
     let design = large(alloc, 7)?;
-    let pes = Pes::new(alloc)
-        .encode(alloc, &design)
-        .ok()
-        .ok_or("not written")?;
-    let pec = Pec::new(alloc)
-        .encode(alloc, &design)
-        .ok()
-        .ok_or("not written")?;
+    let pes = written(&Pes::new(alloc), alloc, &design)?;
+    let pec = written(&Pec::new(alloc), alloc, &design)?;
     let block = pec.as_slice().get(8..).ok_or("no block")?;
     let moved = repeated(alloc, b"#PES0060\x04\x03\x00\x00", b"\xFF", 760, block)?;
     let other = repeated(alloc, b"#PEC____", b"", 0, block)?;
