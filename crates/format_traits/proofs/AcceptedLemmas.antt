@@ -1,30 +1,20 @@
 -- Plain acts are not refused, and acts that are not refused have little room and few stops.
-use Rattle.std.proofs.Common.{◌≡◌, ℕ, ◌+◌, ◌≤◌, Bool, true, false, not, ◌&&◌, ◌||◌, IsTrue, List, [], ◌∷◌, Some, None, nat_lt, refl, subst, arith}
+use Rattle.std.proofs.lemmas.Bool.Decides.{nat_tests}
+use Rattle.std.proofs.lemmas.Int.{ints}
+use Rattle.std.proofs.Common.{◌≡◌, ℕ, ◌+◌, ◌≤◌, false, ◌&&◌, ◌||◌, IsTrue, List, [], ◌∷◌, Some, None, nat_lt, refl, subst, arith}
 use Rattle.std.proofs.lemmas.Bool.{and_parts, ltb-false, le-ltb}
 use Rattle.design_model.specs.declared.act.Act.{Act}
 use Rattle.design_model.specs.declared.act.Act.TheVariants as act
 use Rattle.design_model.specs.declared.act.NumberedAct.{NumberedAct}
 use Rattle.design_model.specs.declared.design.TheConstants.{MAX_COMMANDS}
-use Rattle.design_model.specs.declared.point.Point.{Point}
 use Rattle.design_model.specs.ActPositions.{needle_position_after, leaves_thread_loose}
-use Rattle.design_model.specs.Points.{is_point_within, move_between, move_size}
 use Rattle.format_traits.specs.declared.fault.WriteFault.TheVariants as fault
 use Rattle.format_traits.specs.declared.encoder_state.WriteLimits.{WriteLimits}
 use Rattle.format_traits.specs.declared.encoder_state.EncoderState.{EncoderState}
 use Rattle.format_traits.specs.PlainDesigns.{is_plain_act, are_plain_from}
-use Rattle.format_traits.specs.Refusals.{stops_in, stops_of, encoder_state_after, is_above_max, refusal_if, refusal_of_needle, refusal_before_room, refusal_of_act, first_refusal_from}
+use Rattle.format_traits.specs.Refusals.{stops_in, stops_of, encoder_state_after, is_above_max, refusal_if, refusal_before_room, refusal_of_act, first_refusal_from}
 use Rattle.format_traits.specs.Rooms.{room_from}
-use Rattle.design_model.proofs.CallerLemmas.{within_parts}
 use Rattle.format_traits.proofs.CallerLemmas.{not_refused, or_else_both, or_else_none, refused_not}
-
-plain_needle : (write_limits : WriteLimits) (loose : Bool) (float : Bool) (m : Point) (number : ℕ)
-    → IsTrue (not float && (loose || is_point_within write_limits.limit m)) → refusal_of_needle write_limits loose float m number ≡ None
-plain_needle write_limits true float m number plain = refl
-plain_needle write_limits false true m number plain = cc
-plain_needle write_limits false false m number plain =
-    let near = within_parts write_limits.limit m plain in
-    refused_not (nat_lt write_limits.limit (move_size m)) (fault.StitchTooLong number)
-    (le-ltb write_limits.limit (move_size m) (omega (arith, near.0, near.1)))
 
 -- n stops may be written
 abbrev pub Allows : WriteLimits → ℕ → Type 0
@@ -34,11 +24,7 @@ Allows write_limits most = (count : ℕ) → count ≤ most → is_above_max wri
 plain_act : (write_limits : WriteLimits) (most : ℕ) → Allows write_limits most → (a : Act) (s : EncoderState) (number : ℕ)
     → IsTrue (is_plain_act write_limits.limit s.loose s.place a) → s.stops + stops_in a ≤ most
     → refusal_before_room write_limits s a number ≡ None
-plain_act write_limits most allows (act.Needle p float) s number plain few =
-    plain_needle write_limits s.loose float (move_between s.place p) number plain
-plain_act write_limits most allows act.Trim s number plain few = refl
-plain_act write_limits most allows act.Stop s number plain few =
-    refused_not (is_above_max write_limits.stops (s.stops + 1)) (fault.TooManyStops number) (allows (s.stops + 1) few)
+plain_act write_limits most h1 a s number h2 h3 = grind (arith, nat_tests, ints)
 
 -- nor are all of them, where there is room
 pub plain_passes : (write_limits : WriteLimits) (most : ℕ) → Allows write_limits most → (acts : List NumberedAct) (s : EncoderState)

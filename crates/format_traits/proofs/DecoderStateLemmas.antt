@@ -1,7 +1,7 @@
 -- The results of bytes that a decoder takes part by part.
-use Rattle.std.proofs.Common.{◌≡◌, ℕ, ◌+◌, ◌-◌, ◌≤◌, List, [], ◌++◌, length, drop, ap, sym, ◌∙◌, subst, arith, length-append, append_assoc, append-nil}
+use Rattle.std.proofs.Common.{◌≡◌, ℕ, ◌+◌, ◌-◌, ◌≤◌, List, [], ◌++◌, length, drop, ap, sym, ◌∙◌, arith, length-append, append_assoc}
 use Rattle.std.proofs.lemmas.List.{length-drop}
-use Rattle.format_traits.specs.DecoderStates.{ContinuesAs, IsAtRecordBoundary, PassesChunk, DecodedSoFar, DecoderState, TakesBytes}
+use Rattle.format_traits.specs.DecoderStates.{ContinuesAs, DecodedSoFar, DecoderState, TakesBytes}
 
 -- bytes are taken off those that are pending, and others stand after them
 pub passes_on : {old middle new : DecoderState} {so_far : DecodedSoFar} (start at size : ℕ) (whole pending rest left behind : List ℕ)
@@ -15,28 +15,6 @@ passes_on {old} {middle} {new} start at size whole pending rest left behind on t
       ∙ ap (new.decoded (at + size)) (sym (append_assoc (drop size pending) rest more))
       ∙ ap (λ bytes. new.decoded (at + size) (bytes ++ more)) (sym same);
 }
-
--- nothing stands after what is left
-pub passes_end : {old middle new : DecoderState} {so_far : DecodedSoFar} (start at size : ℕ) (before piece pending rest left : List ℕ)
-    → ContinuesAs old middle start at (before ++ piece) (pending ++ rest) → TakesBytes middle new so_far at pending size
-    → rest ≡ [] → left ≡ drop size pending → (at + length pending) + length rest ≡ (start + length before) + length piece
-    → start ≤ at → PassesChunk old new so_far start before piece left
-passes_end {old} {middle} {new} {so_far} start at size before piece pending rest left on takes none of_left sum up =
-    let no_more : length rest ≡ 0 = ap length none in
-    let there = takes.there in
-    let fewer : length left ≡ length pending - size = ap length of_left ∙ length-drop size pending in
-    let on_left : ContinuesAs old new start (at + size) (before ++ piece) left =
-    subst (λ bytes. ContinuesAs old new start (at + size) (before ++ piece) bytes) (append-nil left)
-    (passes_on start at size (before ++ piece) pending rest left [] on takes
-    (ap (λ bytes. bytes ++ []) of_left ∙ ap (λ bytes. drop size pending ++ bytes) (sym none))) in
-    let here : (there : ℕ) → there + length left ≡ (start + length before) + length piece → at + size ≡ there =
-    λ there is. omega (arith, is, sum, no_more, fewer, takes.there) in
-    record {
-      few = omega (arith, sum, no_more, fewer, there, up);
-      on = λ there is. subst (λ n. ContinuesAs old new start n (before ++ piece) left) (here there is) on_left;
-      settled = λ there is. subst (λ n. IsAtRecordBoundary new so_far n left) (here there is)
-          (subst (λ bytes. IsAtRecordBoundary new so_far (at + size) bytes) (sym of_left) takes.settled);
-    }
 
 -- no byte is lost between those that are left and those that are added
 pub passes_sum : (start at size : ℕ) (before piece pending rest left behind : List ℕ)

@@ -1,7 +1,9 @@
 -- A text without the spaces at its end, and what a label field holds.
-use Rattle.std.proofs.Common.{◌≡◌, ◌≢◌, ℕ, zero, suc, ◌+◌, ◌-◌, ◌<◌, ◌≤◌, Bool, true, false, ◌&&◌, List, [], ◌∷◌, ◌++◌, length, map, take, replicate, get_or, All, Some, slice_get, nat_le, ◌==◌, if◌then◌else◌, refl, ap, sym, ◌∙◌, subst, arith, length-append}
+use Rattle.std.proofs.lemmas.Bool.Decides.{nat_tests}
+use Rattle.std.proofs.lemmas.Int.{ints}
+use Rattle.std.proofs.Common.{◌≡◌, ◌≢◌, ℕ, zero, suc, ◌+◌, ◌-◌, ◌<◌, ◌≤◌, Bool, true, false, ◌&&◌, List, [], ◌∷◌, ◌++◌, length, map, take, replicate, get_or, All, Some, slice_get, ◌==◌, if◌then◌else◌, refl, ap, sym, ◌∙◌, subst, arith, length-append}
 use Rattle.std.proofs.Math.Seq.{take-length}
-use Rattle.std.proofs.lemmas.Bool.{and_parts, leb-true, le-leb, eqb-false, ne_eqb}
+use Rattle.std.proofs.lemmas.Bool.{le-leb, ne_eqb}
 use Rattle.std.proofs.lemmas.List.{append-nil, append_assoc, take_all, take_more, length-map, length-replicate}
 use Rattle.std.proofs.lemmas.List.Elements.{All-map, All-nil, All-cons, All-head, All-tail}
 use Rattle.design_model.specs.declared.design.TheConstants.{MAX_LABEL}
@@ -39,12 +41,7 @@ without_end_spaces-stays xs some other =
     ap without_end_spaces split ∙ without_end_spaces-other (take (length xs - 1) xs) (get_or xs (length xs - 1) 0) other ∙ sym split
 
 length-byte_unless_end_space : (x : ℕ) (rest : List ℕ) → length (byte_unless_end_space x rest) ≤ suc (length rest)
-length-byte_unless_end_space x [] = by_test (x == 32)
-  where
-    by_test : (b : Bool) → length (if b then [] else x ∷ []) ≤ 1
-    by_test true = omega arith
-    by_test false = omega arith
-length-byte_unless_end_space x (y ∷ rest) = omega arith
+length-byte_unless_end_space x rest = grind (arith, nat_tests, ints)
 
 length-without_end_spaces : (xs : List ℕ) → length (without_end_spaces xs) ≤ length xs
 length-without_end_spaces [] = omega arith
@@ -71,30 +68,14 @@ abbrev IsTrimmed : List ℕ → Type 0
 IsTrimmed xs = slice_get xs (length xs - 1) ≢ Some 32
 
 before_is_trimmed : (x : ℕ) (rest : List ℕ) → IsTrimmed rest → IsTrimmed (byte_unless_end_space x rest)
-before_is_trimmed x [] is = by_test (x == 32) refl
-  where
-    by_test : (b : Bool) → (x == 32) ≡ b → IsTrimmed (if b then [] else x ∷ [])
-    by_test true test = λ no. cc
-    by_test false test = λ no. eqb-false x 32 test (let same : x ≡ 32 = cc in same)
-before_is_trimmed x (y ∷ rest) is =
-    let next : length (x ∷ y ∷ rest) - 1 ≡ suc (length (y ∷ rest) - 1) = omega arith in
-    subst (λ n. slice_get (x ∷ y ∷ rest) n ≢ Some 32) (sym next) is
+before_is_trimmed x rest h1 = grind (arith, nat_tests, ints)
 
 trimmed_is_trimmed : (xs : List ℕ) → IsTrimmed (without_end_spaces xs)
 trimmed_is_trimmed [] = λ no. cc
 trimmed_is_trimmed (x ∷ xs) = before_is_trimmed x (without_end_spaces xs) (trimmed_is_trimmed xs)
 
-shown_printable : (byte : ℕ) → IsPrintable (printable_byte byte)
-shown_printable byte = by_test (nat_le 32 byte && nat_le byte 126) refl
-  where
-    by_test : (b : Bool) → (nat_le 32 byte && nat_le byte 126) ≡ b → IsPrintable (if b then byte else 63)
-    by_test true test = let both = and_parts (nat_le 32 byte) (nat_le byte 126) test in
-        record { from_space = leb-true 32 byte both.0; to_tilde = leb-true byte 126 both.1 }
-    by_test false test = record { from_space = omega arith; to_tilde = omega arith }
-
 All-printable_byte : (xs : List ℕ) → All (λ byte. IsPrintable (printable_byte byte)) xs
-All-printable_byte [] = All-nil (λ byte. IsPrintable (printable_byte byte))
-All-printable_byte (x ∷ xs) = All-cons (λ byte. IsPrintable (printable_byte byte)) x xs (shown_printable x) (All-printable_byte xs)
+All-printable_byte xs = grind (arith, nat_tests, ints)
 
 -- what a field holds may be a label
 pub label_in_is_label : (field : List ℕ) → length field ≤ MAX_LABEL → IsLabel (label_in field)

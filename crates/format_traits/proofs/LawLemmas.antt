@@ -1,5 +1,7 @@
 -- The laws of all formats.
-use Rattle.std.proofs.Common.{◌≡◌, ℕ, List, true, false, Option, Some, None, IfOk, IsOk, refl, sym, subst, arith}
+use Rattle.std.proofs.lemmas.Bool.Decides.{nat_tests}
+use Rattle.std.proofs.lemmas.Int.{ints}
+use Rattle.std.proofs.Common.{◌≡◌, ℕ, List, true, false, Option, None, IfOk, IsOk, refl, sym, subst, arith}
 use Rattle.design_model.specs.Acts.{acts_of}
 use Rattle.design_model.specs.Designs.{DesignValue}
 use Rattle.format_traits.specs.declared.encoder_state.WriteLimits.{WriteLimits}
@@ -15,8 +17,7 @@ use Rattle.design_model.proofs.CallerLemmas.{acts_in_range}
 of_written : (write_limits : WriteLimits) (d : DesignValue) (file : List ℕ) (P : List ℕ → Type 0) → (r : Option WriteFault)
     → first_refusal write_limits (acts_of d) ≡ r → (first_refusal write_limits (acts_of d) ≡ None → P file)
     → IfOk (unless_refused r file) P
-of_written write_limits d file P None is holds = holds is
-of_written write_limits d file P (Some f) is holds = tt
+of_written write_limits d file P r h1 h2 = grind (arith, nat_tests, ints)
 
 -- a format whose files read back and move within the limit keeps the laws
 pub codecs_keep_laws : CodecsKeepLaws
