@@ -1,4 +1,6 @@
 -- The records of acts, one after the other.
+use Rattle.std.proofs.lemmas.Bool.Decides.{nat_tests}
+use Rattle.std.proofs.lemmas.Int.{ints}
 use Rattle.std.proofs.Common.{◌≡◌, ℕ, suc, ◌+◌, ◌-◌, ◌<◌, Option, None, List, [], ◌∷◌, ◌++◌, map, refl, ap, sym, ◌∙◌, arith}
 use Rattle.std.proofs.lemmas.List.{append_assoc, append-nil}
 use Rattle.std.specs.List.{concat}
@@ -9,7 +11,7 @@ use Rattle.format_traits.specs.declared.fault.WriteFault.{WriteFault}
 use Rattle.format_traits.specs.declared.encoder_state.WriteLimits.{WriteLimits}
 use Rattle.format_traits.specs.declared.encoder_state.EncoderState.{EncoderState}
 use Rattle.record_formats.specs.MoveParts.{part_end, part_moves_from}
-use Rattle.format_traits.specs.Refusals.{encoder_state_after, or_else, refusal_of_act, first_refusal_from}
+use Rattle.format_traits.specs.Refusals.{encoder_state_after, refusal_of_act, first_refusal_from}
 use Rattle.record_formats.specs.RecordEncodings.{RecordEncoding, records_of_act, records_of_acts_from, encoder_state_after_acts}
 
 -- one jump more
@@ -31,10 +33,7 @@ concat-append (x ∷ xs) ys = ap (λ bytes. x ++ bytes) (concat-append xs ys) �
 -- jumps and a last record
 pub jumps_and : (out middle bytes : List ℕ) (jumps : List (List ℕ)) (last : List ℕ)
     → middle ≡ out ++ concat jumps → bytes ≡ middle ++ last → bytes ≡ out ++ concat (jumps ++ last ∷ [])
-jumps_and out middle bytes jumps last of_middle of_bytes =
-    of_bytes ∙ ap (λ bytes. bytes ++ last) of_middle ∙ append_assoc out (concat jumps) last
-    ∙ ap (λ bytes. out ++ bytes)
-    (sym (concat-append jumps (last ∷ []) ∙ ap (λ bytes. concat jumps ++ bytes) (append-nil last)))
+jumps_and out middle bytes jumps last of_middle of_bytes = grind (arith, nat_tests, append_assoc, concat-append, append-nil)
 
 -- the records of the first act, and those of the rest
 pub written_rest : (encoding : RecordEncoding) (write_limits : WriteLimits) (s s' : EncoderState) (a : NumberedAct)
@@ -44,26 +43,17 @@ pub written_rest : (encoding : RecordEncoding) (write_limits : WriteLimits) (s s
     → out ++ concat (records_of_acts_from encoding write_limits s acts) ≡ total
     → out' ++ concat (records_of_acts_from encoding write_limits s' rest) ≡ total
 written_rest encoding write_limits s s' a acts rest out out' total is after of_out all =
-    let others = records_of_acts_from encoding write_limits (encoder_state_after write_limits.limit s a.act) rest in
-    ap (λ t. out' ++ concat (records_of_acts_from encoding write_limits t rest)) after
-    ∙ ap (λ bytes. bytes ++ concat others) of_out
-    ∙ append_assoc out (concat (records_of_act encoding write_limits s a.act)) (concat others)
-    ∙ ap (λ bytes. out ++ bytes) (sym (concat-append (records_of_act encoding write_limits s a.act) others))
-    ∙ sym (ap (λ acts. out ++ concat (records_of_acts_from encoding write_limits s acts)) is) ∙ all
+    grind (arith, nat_tests, write_limits.limit, a.act, append_assoc, concat-append)
 
 -- the refusals after an act that is not refused
 pub refusal_rest : (write_limits : WriteLimits) (s s' : EncoderState) (a : NumberedAct) (acts rest : List NumberedAct)
     (total : Option WriteFault) → acts ≡ a ∷ rest → refusal_of_act write_limits s a ≡ None
     → s' ≡ encoder_state_after write_limits.limit s a.act
     → first_refusal_from write_limits s acts ≡ total → first_refusal_from write_limits s' rest ≡ total
-refusal_rest write_limits s s' a acts rest total is here after all =
-    ap (λ t. first_refusal_from write_limits t rest) after
-    ∙ sym (ap (λ refusal. or_else refusal (first_refusal_from write_limits (encoder_state_after write_limits.limit s a.act) rest)) here)
-    ∙ sym (ap (first_refusal_from write_limits s) is) ∙ all
+refusal_rest write_limits s s' a acts rest total h1 h2 h3 h4 = grind (arith, nat_tests, ints)
 
 -- how it stands after an act and the rest
 pub stands_rest : (write_limits : WriteLimits) (s s' : EncoderState) (a : NumberedAct) (acts rest : List NumberedAct) (total : EncoderState)
     → acts ≡ a ∷ rest → s' ≡ encoder_state_after write_limits.limit s a.act
     → encoder_state_after_acts write_limits.limit s acts ≡ total → encoder_state_after_acts write_limits.limit s' rest ≡ total
-stands_rest write_limits s s' a acts rest total is after all =
-    ap (λ t. encoder_state_after_acts write_limits.limit t rest) after ∙ sym (ap (encoder_state_after_acts write_limits.limit s) is) ∙ all
+stands_rest write_limits s s' a acts rest total h1 h2 h3 = grind (arith, nat_tests, ints)

@@ -1,9 +1,10 @@
 -- The parts of a move on one axis: how far each goes, and where each ends.
-use Rattle.std.proofs.Common.{◌≡◌, ℕ, zero, suc, ◌+◌, ◌-◌, ◌*◌, ◌/◌, ◌<◌, ◌≤◌, ℤ, pos, negsuc, neg_ℤ, ◌+ℤ◌, ◌-ℤ◌, ◌*ℤ◌, unsigned_abs, refl, ap, sym, ◌∙◌, arith}
+use Rattle.std.proofs.Common.{◌≡◌, ℕ, zero, suc, ◌+◌, ◌-◌, ◌*◌, ◌/◌, ◌<◌, ◌≤◌, ℤ, pos, negsuc, neg_ℤ, ◌+ℤ◌, ◌-ℤ◌, ◌*ℤ◌, unsigned_abs, ap, sym, ◌∙◌, arith}
 use Rattle.std.proofs.Math.Nat.{zero-div}
 use Rattle.std.proofs.lemmas.Int.{ints}
-use Rattle.std.proofs.lemmas.Nat.{div_below, le-div, mul-le}
+use Rattle.std.proofs.lemmas.Nat.{div_below, le-div}
 use Rattle.std.specs.Int.{int_div_euclid}
+use Rattle.std.proofs.lemmas.Bool.Decides.{nat_tests}
 
 -- where `count` of the n parts end
 abbrev pub axis_part : ℤ → ℕ → ℕ → ℤ
@@ -23,36 +24,13 @@ quotient_step v w n l some near =
     omega (arith, small)
 
 quotient_rises : (v w n : ℕ) → 0 < n → v ≤ w → v / n ≤ w / n
-quotient_rises v w n some less =
-    let small = div_below v n (w / n + 1) some (omega (arith, less)) in
-    omega (arith, small)
-
-product_rises : (a n count : ℕ) → count ≤ n → count * a ≤ n * a
-product_rises a n count less = mul-le count a n a less (omega arith)
+quotient_rises v w n h1 h2 = grind (arith, nat_tests, ints)
 
 floor_most : (a n count : ℕ) → 0 < n → count ≤ n → floor a n count ≤ a
-floor_most a n count some less =
-    let few = product_rises a n count less in
-    let small = div_below (count * a) n (a + 1) some (omega (arith, few, some)) in
-    omega (arith, small)
+floor_most a n count h1 h2 = grind (arith, nat_tests, ints)
 
 ceiling_most : (a n count : ℕ) → 0 < n → count ≤ n → ceiling a n count ≤ a
-ceiling_most a n count some less =
-    let few = product_rises a n count less in
-    let small = div_below (count * a + (n - 1)) n (a + 1) some (omega (arith, few, some)) in
-    omega (arith, small)
-
-floor_all : (a n : ℕ) → 0 < n → floor a n n ≡ a
-floor_all a n some =
-    let low = le-div a (n * a) n some (omega arith) in
-    let high = floor_most a n n some (omega arith) in
-    omega (arith, low, high)
-
-ceiling_all : (a n : ℕ) → 0 < n → ceiling a n n ≡ a
-ceiling_all a n some =
-    let low = le-div a (n * a + (n - 1)) n some (omega arith) in
-    let high = ceiling_most a n n some (omega arith) in
-    omega (arith, low, high)
+ceiling_most a n count h1 h2 = grind (arith, nat_tests, ints)
 
 -- one part more
 floor_step : (a n count l : ℕ) → 0 < n → a ≤ n * l
@@ -84,26 +62,16 @@ div_opposite (suc w) n some =
         let high = div_below (suc w + (n - 1)) n (w / n + 2) some (omega (arith, some)) in
         omega (arith, low, high)
 
-part_right : (a n count : ℕ) → axis_part (pos a) n count ≡ pos (floor a n count)
-part_right a n count = refl
-
 part_left : (a n count : ℕ) → 0 < n → axis_part (negsuc a) n count ≡ neg_ℤ (pos (ceiling (suc a) n count))
 part_left a n count some = div_opposite (count * suc a) n some
 
 -- all of the parts make up the whole
 pub axis_all : (z : ℤ) (n : ℕ) → 0 < n → axis_part z n n ≡ z
-axis_all (pos a) n some = ap pos (floor_all a n some)
-axis_all (negsuc a) n some =
-    part_left a n n some ∙ ap (λ c. neg_ℤ (pos c)) (ceiling_all (suc a) n some)
+axis_all z n h1 = grind (arith, nat_tests, ints)
 
 -- none of them make up nothing
 pub axis_none : (z : ℤ) (n : ℕ) → 0 < n → axis_part z n 0 ≡ pos 0
-axis_none (pos a) n some =
-    let none : floor a n 0 ≡ 0 = omega (arith, div_below (0 * a) n 1 some (omega (arith, some))) in
-    ap pos none
-axis_none (negsuc a) n some =
-    let none : ceiling (suc a) n 0 ≡ 0 = omega (arith, div_below (0 * suc a + (n - 1)) n 1 some (omega (arith, some))) in
-    part_left a n 0 some ∙ ap (λ c. neg_ℤ (pos c)) none
+axis_none z n h1 = grind (arith, nat_tests, ints)
 
 -- one part is at most l, where n times l are enough
 pub axis_step : (z : ℤ) (n count l : ℕ) → 0 < n → unsigned_abs z ≤ n * l
@@ -124,25 +92,10 @@ axis_step (negsuc a) n count l some near =
 -- the place after some parts lies between those before and after the whole
 pub axis_between : (x z : ℤ) (n count l : ℕ) → 0 < n → count ≤ n → unsigned_abs x ≤ l → unsigned_abs (x +ℤ z) ≤ l
     → unsigned_abs (x +ℤ axis_part z n count) ≤ l
-axis_between x (pos a) n count l some less here there =
-    between_right x a (floor a n count) l (floor_most a n count some less) here there
-  where
-    between_right : (x : ℤ) (a u l : ℕ) → u ≤ a → unsigned_abs x ≤ l → unsigned_abs (x +ℤ pos a) ≤ l
-        → unsigned_abs (x +ℤ pos u) ≤ l
-    between_right x a u l less here there = omega (arith, ints)
-axis_between x (negsuc a) n count l some less here there =
-    rw (part_left a n count some)
-    (between_left x a (ceiling (suc a) n count) l (ceiling_most (suc a) n count some less) here there)
-  where
-    between_left : (x : ℤ) (a u l : ℕ) → u ≤ suc a → unsigned_abs x ≤ l → unsigned_abs (x +ℤ negsuc a) ≤ l
-        → unsigned_abs (x +ℤ neg_ℤ (pos u)) ≤ l
-    between_left x a u l less here there = omega (arith, ints)
+axis_between x (pos a) n count l some less here there = grind (arith, nat_tests, floor_most)
+axis_between x (negsuc a) n count l some less here there = grind (arith, nat_tests, part_left, ceiling_most)
 
 -- the end of some parts is no farther than the end of the whole
 pub axis_small : (z : ℤ) (n count : ℕ) → 0 < n → count ≤ n → unsigned_abs (axis_part z n count) ≤ unsigned_abs z
 axis_small (pos a) n count some less = floor_most a n count some less
-axis_small (negsuc a) n count some less =
-    rw (part_left a n count some) (size_left (ceiling (suc a) n count) (ceiling_most (suc a) n count some less))
-  where
-    size_left : (u : ℕ) → u ≤ suc a → unsigned_abs (neg_ℤ (pos u)) ≤ suc a
-    size_left u small = omega (arith, ints)
+axis_small (negsuc a) n count some less = grind (arith, nat_tests, part_left, ceiling_most)

@@ -1,14 +1,14 @@
 -- The parts of a move between two needles: each is within the limit, and each ends between the two.
-use Rattle.std.proofs.Common.{◌≡◌, ℕ, ◌+◌, ◌-◌, ◌*◌, ◌/◌, ◌<◌, ◌≤◌, ℤ, pos, ◌+ℤ◌, ◌-ℤ◌, unsigned_abs, IsTrue, subst, sym, arith}
+use Rattle.std.proofs.Common.{◌≡◌, ℕ, ◌+◌, ◌-◌, ◌*◌, ◌/◌, ◌<◌, ◌≤◌, ℤ, ◌+ℤ◌, ◌-ℤ◌, unsigned_abs, IsTrue, arith}
 use Rattle.std.proofs.lemmas.Int.{ints}
-use Rattle.std.proofs.Math.Nat.{lt-div-mul-add}
 use Rattle.design_model.specs.declared.point.Point.{Point}
 use Rattle.design_model.specs.declared.point.TheConstants.{NEEDLE_LIMIT, JUMP_LIMIT}
 use Rattle.design_model.specs.Points.{is_point_within, move_between, move_size}
 use Rattle.format_traits.specs.MoveHops.{hops_of}
 use Rattle.record_formats.specs.MoveParts.{position_after_move, part_end}
-use Rattle.record_formats.proofs.rereading.Hops.{axis_part, axis_all, axis_none, axis_step, axis_between}
+use Rattle.record_formats.proofs.rereading.Hops.{axis_all, axis_step, axis_between}
 use Rattle.design_model.proofs.CallerLemmas.{point_of_parts, within_from, within_more, within_parts}
+use Rattle.std.proofs.lemmas.Bool.Decides.{nat_tests}
 
 -- a move that n moves within the limit can make up
 pub record Splits (limit : ℕ) (m : Point) (n : ℕ) : Type 0 where
@@ -21,26 +21,11 @@ splits_from limit m n some small = record { some = some; x = omega (arith, small
 
 -- the hops of a move are enough for it
 pub hops_enough : (limit : ℕ) (m : Point) → 0 < limit → move_size m ≤ hops_of limit m * limit
-hops_enough limit m some = enough (move_size m)
-  where
-    enough : (size : ℕ) → size ≤ (size + (limit - 1)) / limit * limit
-    enough size =
-        let over : size + (limit - 1) < (size + (limit - 1)) / limit * limit + limit = lt-div-mul-add some in
-        omega (arith, over, some)
+hops_enough limit m h1 = grind (arith, nat_tests, ints)
 
 -- a move without hops leaves the place
 pub no_hops : (limit : ℕ) (place p : Point) → 0 < limit → hops_of limit (move_between place p) ≡ 0 → place ≡ p
-no_hops limit place p some none =
-    let enough = hops_enough limit (move_between place p) some in
-    let less : move_size (move_between place p) ≤ 0 * limit =
-    subst (λ n. move_size (move_between place p) ≤ n * limit) none enough in
-    let small : move_size (move_between place p) ≤ 0 = omega (arith, less) in
-    let x : unsigned_abs (p.x -ℤ place.x) ≤ 0 = omega (arith, small) in
-    let y : unsigned_abs (p.y -ℤ place.y) ≤ 0 = omega (arith, small) in
-    point_of_parts (same place.x p.x x) (same place.y p.y y)
-  where
-    same : (a b : ℤ) → unsigned_abs (b -ℤ a) ≤ 0 → a ≡ b
-    same a b small = omega (arith, ints)
+no_hops limit place p h1 h2 = grind (arith, nat_tests, ints)
 
 pub part_within : (limit : ℕ) (m : Point) (n done : ℕ) → Splits limit m n
     → IsTrue (is_point_within limit (move_between (part_end m n done) (part_end m n (done + 1))))
@@ -51,11 +36,7 @@ pub part_all : (m : Point) (n : ℕ) → 0 < n → part_end m n n ≡ m
 part_all m n some = point_of_parts (axis_all m.x n some) (axis_all m.y n some)
 
 pub part_none : (place m : Point) (n : ℕ) → 0 < n → position_after_move place (part_end m n 0) ≡ place
-part_none place m n some = point_of_parts (none place.x (axis_part m.x n 0) (axis_none m.x n some))
-    (none place.y (axis_part m.y n 0) (axis_none m.y n some))
-  where
-    none : (x z : ℤ) → z ≡ pos 0 → x +ℤ z ≡ x
-    none x z is = omega (arith, ints)
+part_none place m n h1 = grind (arith, nat_tests, ints)
 
 -- a move on from a part
 pub moved-on : (place p q : Point) → position_after_move (position_after_move place p) (move_between p q) ≡ position_after_move place q
@@ -77,10 +58,7 @@ part_between place m n count limit some less here there =
 
 -- a move between two places leads from the one to the other
 pub moved-between : (place p : Point) → position_after_move place (move_between place p) ≡ p
-moved-between place p = point_of_parts (forth place.x p.x) (forth place.y p.y)
-  where
-    forth : (x y : ℤ) → x +ℤ (y -ℤ x) ≡ y
-    forth x y = omega (arith, ints)
+moved-between place p = grind (arith, nat_tests, ints)
 
 -- where a move lies, and into how many parts it is divided
 pub record Lies (limit : ℕ) (place m : Point) (n : ℕ) : Type 0 where
@@ -92,14 +70,9 @@ pub record Lies (limit : ℕ) (place m : Point) (n : ℕ) : Type 0 where
 pub part_in_range : (limit : ℕ) (place m : Point) (n count : ℕ) → Lies limit place m n → count ≤ n
     → IsTrue (is_point_within JUMP_LIMIT (position_after_move place (part_end m n count)))
 part_in_range limit place m n count lies less =
-    within_more NEEDLE_LIMIT JUMP_LIMIT (position_after_move place (part_end m n count)) (omega arith)
-    (part_between place m n count NEEDLE_LIMIT lies.splits.some less lies.here lies.there)
+    grind (arith, nat_tests, within_more, part_between, lies.splits.some, lies.here, lies.there)
 
 -- a move from a needle to a needle lies in range
 pub lies_from : (limit : ℕ) (place p : Point) (n : ℕ) → 0 < n → move_size (move_between place p) ≤ n * limit
     → IsTrue (is_point_within NEEDLE_LIMIT place) → IsTrue (is_point_within NEEDLE_LIMIT p) → Lies limit place (move_between place p) n
-lies_from limit place p n some small here there = record {
-  splits = splits_from limit (move_between place p) n some small;
-  here = here;
-  there = subst (λ q. IsTrue (is_point_within NEEDLE_LIMIT q)) (sym (moved-between place p)) there;
-}
+lies_from limit place p n h1 h2 h3 h4 = grind (arith, nat_tests, ints)

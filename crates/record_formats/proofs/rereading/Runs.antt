@@ -1,4 +1,6 @@
 -- How reading goes on over a run of jumps that make up a move, and a stitch after them.
+use Rattle.std.proofs.lemmas.Bool.Decides.{nat_tests}
+use Rattle.std.proofs.lemmas.Int.{ints}
 use Rattle.std.proofs.Common.{◌≡◌, ◌≢◌, ℕ, zero, suc, ◌+◌, ◌-◌, ◌<◌, ◌≤◌, Bool, true, false, not, ◌&&◌, IsTrue, List, [], ◌∷◌, ◌++◌, length, map, Option, Some, None, ◌==◌, if◌then◌else◌, refl, ap, sym, ◌∙◌, subst, arith}
 use Rattle.std.proofs.lemmas.Bool.{eqb-true, ne_eqb}
 use Rattle.std.proofs.lemmas.List.{append-nil, append_assoc}
@@ -36,12 +38,10 @@ jumped_after jumped zero = jumped
 jumped_after jumped (suc more) = true
 
 jumped_still : (more : ℕ) → jumped_after true more ≡ true
-jumped_still zero = refl
-jumped_still (suc more) = refl
+jumped_still more = grind (arith, nat_tests, ints)
 
 jumped_once : (jumped : Bool) (more : ℕ) → 0 < more → jumped_after jumped more ≡ true
-jumped_once jumped zero some = absurd (let no : ⊥ = omega (arith, some) in no)
-jumped_once jumped (suc more) some = refl
+jumped_once jumped more h1 = grind (arith, nat_tests, ints)
 
 trims_never : (run more : ℕ) → trims_in None run more ≡ 0
 trims_never run zero = refl
@@ -50,39 +50,24 @@ trims_never run (suc more) = omega (arith, trims_never (run + 1) more)
 -- a long run holds no further trim
 pub trims_over : (most run more : ℕ) → most < run → trims_in (Some most) run more ≡ 0
 trims_over most run zero over = refl
-trims_over most run (suc more) over =
-    let other : run ≢ most = λ same. omega (arith, same, over) in
-    let none = trims_over most (run + 1) more (omega (arith, over)) in
-    rw (ne_eqb run most other) (omega (arith, none))
+trims_over most run (suc more) over = grind (arith, nat_tests, ne_eqb, (trims_over most (run + 1) more (omega (arith, over))))
 
 -- a short one holds none
 pub trims_none : (most : Option ℕ) (run more : ℕ) → Spares most (run + more) → trims_in most run more ≡ 0
 trims_none None run more short = trims_never run more
 trims_none (Some most) run zero short = refl
 trims_none (Some most) run (suc more) short =
-    let other : run ≢ most = λ same. omega (arith, same, short) in
-    let none = trims_none (Some most) (run + 1) more (omega (arith, short)) in
-    rw (ne_eqb run most other) (omega (arith, none))
+    grind (arith, nat_tests, ne_eqb, (trims_none (Some most) (run + 1) more (omega (arith, short))))
 
 -- any other holds one at most
 pub trims_few : (most : Option ℕ) (run more : ℕ) → trims_in most run more ≤ 1
 trims_few None run more = omega (arith, trims_never run more)
 trims_few (Some most) run zero = omega arith
-trims_few (Some most) run (suc more) = first (run == most) (trims_in (Some most) (run + 1) more) refl
-    (λ last. trims_over most (run + 1) more (omega (arith, last))) (trims_few (Some most) (run + 1) more)
-  where
-    first : (b : Bool) (after : ℕ) → (run == most) ≡ b → (run ≡ most → after ≡ 0) → after ≤ 1
-        → (if b then 1 else 0) + after ≤ 1
-    first true after is none few =
-        let same : run ≡ most = eqb-true run most is in
-        let zero : after ≡ 0 = none same in
-        omega (arith, zero)
-    first false after is none few = omega (arith, few)
+trims_few (Some most) run (suc more) = grind (arith, nat_tests, trims_over, eqb-true, (trims_few (Some most) (run + 1) more))
 
 pub goes_as : {limit count : ℕ} {place : Point} {records other : Records} {loose jumped : Bool} {acts : List Act}
     → other ≡ records → GoesOn limit count place records loose jumped acts → GoesOn limit count place other loose jumped acts
-goes_as {limit = limit} {count = count} {place = place} {loose = loose} {jumped = jumped} {acts = acts} is goes =
-    subst (λ records. GoesOn limit count place records loose jumped acts) (sym is) goes
+goes_as h1 h2 = grind (arith, nat_tests, ints)
 
 -- a jump, whether it is taken for a trim too or not; only a loose thread may meet one that is
 goes_any : (cut : Bool) (limit at count : ℕ) (place m there : Point) (rest : Records) (loose jumped : Bool) (acts : List Act)
@@ -90,10 +75,7 @@ goes_any : (cut : Bool) (limit at count : ℕ) (place m there : Point) (rest : R
     → (loose ≡ false → cut ≡ false) → count + (if cut then 1 else 0) < MAX_COMMANDS
     → GoesOn limit (count + (if cut then 1 else 0) + 1) there rest loose true acts
     → GoesOn limit count place (next at (if cut then event.TrimmedJump m else event.Jump m) rest) loose jumped acts
-goes_any false limit at count place m there rest loose jumped acts near to here free few goes =
-    let none : count + 0 + 1 ≡ count + 1 = omega arith in
-    goes_jump limit at count place m there rest loose jumped acts near to here (omega (arith, few))
-    (subst (λ n. GoesOn limit n there rest loose true acts) none goes)
+goes_any false limit at count place m there rest loose jumped acts near to here free few goes = grind (arith, nat_tests, goes_jump)
 goes_any true limit at count place m there rest true jumped acts near to here free few goes =
     let two : count + 1 + 1 ≡ count + 2 = omega arith in
     goes_trimmed_jump limit at count place m there rest true jumped acts near to here few
@@ -103,113 +85,98 @@ goes_any true limit at count place m there rest false jumped acts near to here f
 
 -- a jump of a run that is spared is taken for a jump
 spared : (most : Option ℕ) (run more : ℕ) → Spares most (run + suc more) → is_at_max most run ≡ false
-spared None run more spares = refl
-spared (Some most) run more spares = ne_eqb run most (λ same. omega (arith, same, spares))
+spared most run more h1 = grind (arith, nat_tests, ints)
 
 spares_next : (most : Option ℕ) (run more : ℕ) → Spares most (run + suc more) → Spares most (run + 1 + more)
-spares_next None run more spares = tt
-spares_next (Some most) run more spares = omega (arith, spares)
-
--- jumps over the next parts of a move
-pub goes_parts : (read : ℕ → ℕ → List ℕ → Records) (encoding : RecordEncoding) (write_limits : WriteLimits) (taken : EncodedEvents)
-    (b : DecodesEncoding read encoding write_limits taken) (more at count run : ℕ) (place m : Point) (n done last : ℕ)
-    (rest : List ℕ) (loose jumped : Bool) (acts : List Act) → Lies write_limits.limit place m n → done + more ≡ last → last ≤ n
-    → (loose ≡ false → Spares taken.max_jumps (run + more))
-    → count + more + trims_in taken.max_jumps run more ≤ MAX_COMMANDS
-    → ((at' count' run' : ℕ) → count' ≡ count + more + trims_in taken.max_jumps run more
-    → GoesOn write_limits.limit count' (position_after_move place (part_end m n last)) (read run' at' rest) loose (jumped_after jumped more)
-    acts)
-    → GoesOn write_limits.limit count (position_after_move place (part_end m n done))
-    (read run at (concat (map encoding.jump (part_moves_from m n done more)) ++ rest)) loose jumped acts
-goes_parts read encoding write_limits taken b zero at count run place m n done last rest loose jumped acts lies sum less free few on =
-    let same : last ≡ done = omega (arith, sum) in
-    subst (λ d. GoesOn write_limits.limit count (position_after_move place (part_end m n d)) (read run at rest) loose jumped acts) same
-    (on at count run (omega arith))
-goes_parts read encoding write_limits taken b (suc more) at count run place m n done last rest loose jumped acts lies sum less free few on =
-    let step = move_between (part_end m n done) (part_end m n (done + 1)) in
-    let others = concat (map encoding.jump (part_moves_from m n (done + 1) more)) in
-    let near = part_within write_limits.limit m n done lies.splits in
-    let cut : ℕ = if is_at_max taken.max_jumps run then 1 else 0 in
-    goes_as (ap (read run at) (append_assoc (encoding.jump step) others rest) ∙ b.jump run at step (others ++ rest) near)
-    (goes_any (is_at_max taken.max_jumps run) write_limits.limit at count (position_after_move place (part_end m n done)) step
-    (position_after_move place (part_end m n (done + 1))) (read (run + 1) (at + length (encoding.jump step)) (others ++ rest)) loose jumped
-    acts
-    near (moved-on place (part_end m n done) (part_end m n (done + 1)))
-    (part_in_range write_limits.limit place m n (done + 1) lies (omega (arith, sum, less)))
-    (λ tied. spared taken.max_jumps run more (free tied)) (omega (arith, few))
-    (goes_parts read encoding write_limits taken b more (at + length (encoding.jump step)) (count + cut + 1) (run + 1) place m n
-    (done + 1) last rest loose true acts lies (omega (arith, sum)) less
-    (λ tied. spares_next taken.max_jumps run more (free tied)) (omega (arith, few))
-    (λ at' count' run' counted. subst (λ j. GoesOn write_limits.limit count' (position_after_move place (part_end m n last))
-    (read run' at' rest) loose j acts)
-    (sym (jumped_still more)) (on at' count' run' (omega (arith, counted))))))
+spares_next most run more h1 = grind (arith, nat_tests, ints)
 
 pub concat_last : (xs : List (List ℕ)) (last rest : List ℕ) → concat (xs ++ last ∷ []) ++ rest ≡ concat xs ++ (last ++ rest)
 concat_last [] last rest = ap (λ bytes. bytes ++ rest) (append-nil last)
 concat_last (x ∷ xs) last rest = append_assoc x (concat (xs ++ last ∷ [])) rest
-    ∙ ap (λ bytes. x ++ bytes) (concat_last xs last rest)
-    ∙ sym (append_assoc x (concat xs) (last ++ rest))
+    ∙ ap (λ bytes. x ++ bytes) (concat_last xs last rest) ∙ sym (append_assoc x (concat xs) (last ++ rest))
 
--- jumps over the first parts of a move, and a stitch over what is left of it
-goes_stitched : (read : ℕ → ℕ → List ℕ → Records) (encoding : RecordEncoding) (write_limits : WriteLimits) (taken : EncodedEvents)
-    (b : DecodesEncoding read encoding write_limits taken) (some at count run : ℕ) (place m there step : Point) (n : ℕ)
-    (rest : List ℕ) (loose jumped : Bool) (acts : List Act) → Lies write_limits.limit place m n → 0 < some → some ≤ n
-    → IsTrue (is_point_within write_limits.limit step) → position_after_move (position_after_move place (part_end m n some)) step ≡ there
-    → IsTrue (is_point_within NEEDLE_LIMIT there) → (loose ≡ false → Spares taken.max_jumps (run + some))
-    → count + some + trims_in taken.max_jumps run some < MAX_COMMANDS
-    → ((at' count' : ℕ) → count' ≡ count + some + trims_in taken.max_jumps run some + 1
-    → GoesOn write_limits.limit count' there (read 0 at' rest) false false acts)
-    → GoesOn write_limits.limit count place
-    (read run at (concat (map encoding.jump (part_moves_from m n 0 some) ++ encoding.stitch step ∷ []) ++ rest)) loose jumped
-    (act.Needle there (true && not loose) ∷ acts)
-goes_stitched read encoding write_limits taken b some at count run place m there step n rest loose jumped acts lies more less near to
-    here free few on =
-    let jumps = map encoding.jump (part_moves_from m n 0 some) in
-    goes_as (ap (read run at) (concat_last jumps (encoding.stitch step) rest))
-    (subst (λ q. GoesOn write_limits.limit count q (read run at (concat jumps ++ (encoding.stitch step ++ rest))) loose jumped
-    (act.Needle there (true && not loose) ∷ acts)) (part_none place m n lies.splits.some)
-    (goes_parts read encoding write_limits taken b some at count run place m n 0 some (encoding.stitch step ++ rest) loose jumped
-    (act.Needle there (true && not loose) ∷ acts) lies (omega arith) less free (omega (arith, few))
-    (λ at' count' run' counted. subst (λ j. GoesOn write_limits.limit count' (position_after_move place (part_end m n some))
-    (read run' at' (encoding.stitch step ++ rest)) loose j (act.Needle there (true && not loose) ∷ acts))
-    (sym (jumped_once jumped some more))
-    (goes_as (b.stitch run' at' step rest near)
-    (goes_stitch write_limits.limit at' count' (position_after_move place (part_end m n some)) step there
-    (read 0 (at' + length (encoding.stitch step)) rest) loose true acts near to here (omega (arith, few, counted))
-    (on (at' + length (encoding.stitch step)) (count' + 1) (omega (arith, counted))))))))
+-- what a reader that decodes each encoded record makes of the records of moves
+module _ (read : ℕ → ℕ → List ℕ → Records) (encoding : RecordEncoding) (write_limits : WriteLimits) (taken : EncodedEvents)
+    (b : DecodesEncoding read encoding write_limits taken) where
+  -- jumps over the next parts of a move
+  pub goes_parts : (more at count run : ℕ) (place m : Point) (n done last : ℕ) (rest : List ℕ) (loose jumped : Bool) (acts : List Act)
+      → Lies write_limits.limit place m n → done + more ≡ last → last ≤ n → (loose ≡ false → Spares taken.max_jumps (run + more))
+      → count + more + trims_in taken.max_jumps run more ≤ MAX_COMMANDS
+      → ((at' count' run' : ℕ) → count' ≡ count + more + trims_in taken.max_jumps run more → GoesOn write_limits.limit count'
+      (position_after_move place (part_end m n last)) (read run' at' rest) loose (jumped_after jumped more) acts)
+      → GoesOn write_limits.limit count (position_after_move place (part_end m n done)) (read run at (concat (map encoding.jump
+      (part_moves_from m n done more)) ++ rest)) loose jumped acts
+  goes_parts zero at count run place m n done last rest loose jumped acts lies sum less free few on =
+      let same : last ≡ done = omega (arith, sum) in
+      subst (λ d. GoesOn write_limits.limit count (position_after_move place (part_end m n d)) (read run at rest) loose jumped acts) same
+      (on at count run (omega arith))
+  goes_parts (suc more) at count run place m n done last rest loose jumped acts lies sum less free few on =
+      let step = move_between (part_end m n done) (part_end m n (done + 1)) in
+      let others = concat (map encoding.jump (part_moves_from m n (done + 1) more)) in
+      let near = part_within write_limits.limit m n done lies.splits in
+      let cut : ℕ = if is_at_max taken.max_jumps run then 1 else 0 in
+      goes_as (ap (read run at) (append_assoc (encoding.jump step) others rest) ∙ b.jump run at step (others ++ rest) near)
+      (goes_any (is_at_max taken.max_jumps run) write_limits.limit at count (position_after_move place (part_end m n done)) step
+      (position_after_move place (part_end m n (done + 1))) (read (run + 1) (at + length (encoding.jump step)) (others ++ rest)) loose jumped
+      acts near (moved-on place (part_end m n done) (part_end m n (done + 1)))
+      (part_in_range write_limits.limit place m n (done + 1) lies (omega (arith, sum, less)))
+      (λ tied. spared taken.max_jumps run more (free tied)) (omega (arith, few))
+      (goes_parts more (at + length (encoding.jump step)) (count + cut + 1) (run + 1) place m n
+      (done + 1) last rest loose true acts lies (omega (arith, sum)) less
+      (λ tied. spares_next taken.max_jumps run more (free tied)) (omega (arith, few))
+      (λ at' count' run' counted. subst (λ j. GoesOn write_limits.limit count' (position_after_move place (part_end m n last))
+      (read run' at' rest) loose j acts) (sym (jumped_still more)) (on at' count' run' (omega (arith, counted))))))
 
--- jumps that make up a move, and a stitch without a move
-pub goes_hops : (read : ℕ → ℕ → List ℕ → Records) (encoding : RecordEncoding) (write_limits : WriteLimits) (taken : EncodedEvents)
-    (b : DecodesEncoding read encoding write_limits taken) (at count run : ℕ) (place m there : Point) (n : ℕ) (rest : List ℕ)
-    (loose jumped : Bool) (acts : List Act) → Lies write_limits.limit place m n → position_after_move place m ≡ there
-    → (loose ≡ false → Spares taken.max_jumps (run + n)) → count + n + trims_in taken.max_jumps run n < MAX_COMMANDS
-    → ((at' count' : ℕ) → count' ≡ count + n + trims_in taken.max_jumps run n + 1
-    → GoesOn write_limits.limit count' there (read 0 at' rest) false false acts)
-    → GoesOn write_limits.limit count place (read run at (concat (hop_records encoding n m) ++ rest)) loose jumped
-    (act.Needle there (true && not loose) ∷ acts)
-goes_hops read encoding write_limits taken b at count run place m there n rest loose jumped acts lies to free few on =
-    goes_stitched read encoding write_limits taken b n at count run place m there origin n rest loose jumped acts lies
-    lies.splits.some (omega arith) (within_from write_limits.limit origin (omega arith) (omega arith))
-    (position_after_move-none (position_after_move place (part_end m n n)) ∙ ap (position_after_move place) (part_all m n lies.splits.some)
-    ∙ to)
-    (subst (λ q. IsTrue (is_point_within NEEDLE_LIMIT q)) to lies.there) free few on
+  -- jumps over the first parts of a move, and a stitch over what is left of it
+  goes_stitched : (some at count run : ℕ) (place m there step : Point) (n : ℕ) (rest : List ℕ) (loose jumped : Bool) (acts : List Act)
+      → Lies write_limits.limit place m n → 0 < some → some ≤ n → IsTrue (is_point_within write_limits.limit step)
+      → position_after_move (position_after_move place (part_end m n some)) step ≡ there → IsTrue (is_point_within NEEDLE_LIMIT there)
+      → (loose ≡ false → Spares taken.max_jumps (run + some)) → count + some + trims_in taken.max_jumps run some < MAX_COMMANDS
+      → ((at' count' : ℕ) → count' ≡ count + some + trims_in taken.max_jumps run some + 1 → GoesOn write_limits.limit count' there (read 0
+      at' rest) false false acts)
+      → GoesOn write_limits.limit count place (read run at (concat (map encoding.jump (part_moves_from m n 0 some) ++ encoding.stitch step ∷
+      []) ++ rest)) loose jumped (act.Needle there (true && not loose) ∷ acts)
+  goes_stitched some at count run place m there step n rest loose jumped acts lies more less near to here free few on =
+      let jumps = map encoding.jump (part_moves_from m n 0 some) in
+      goes_as (ap (read run at) (concat_last jumps (encoding.stitch step) rest))
+      (subst (λ q. GoesOn write_limits.limit count q (read run at (concat jumps ++ (encoding.stitch step ++ rest))) loose jumped
+      (act.Needle there (true && not loose) ∷ acts)) (part_none place m n lies.splits.some)
+      (goes_parts some at count run place m n 0 some (encoding.stitch step ++ rest) loose jumped
+      (act.Needle there (true && not loose) ∷ acts) lies (omega arith) less free (omega (arith, few))
+      (λ at' count' run' counted. subst (λ j. GoesOn write_limits.limit count' (position_after_move place (part_end m n some))
+      (read run' at' (encoding.stitch step ++ rest)) loose j (act.Needle there (true && not loose) ∷ acts))
+      (sym (jumped_once jumped some more)) (goes_as (b.stitch run' at' step rest near)
+      (goes_stitch write_limits.limit at' count' (position_after_move place (part_end m n some)) step there
+      (read 0 (at' + length (encoding.stitch step)) rest) loose true acts near to here (omega (arith, few, counted))
+      (on (at' + length (encoding.stitch step)) (count' + 1) (omega (arith, counted))))))))
 
--- jumps over all parts of a move but the last, and a stitch in its place
-pub goes_last_stitched : (read : ℕ → ℕ → List ℕ → Records) (encoding : RecordEncoding) (write_limits : WriteLimits) (taken : EncodedEvents)
-    (b : DecodesEncoding read encoding write_limits taken) (at count run : ℕ) (place m there : Point) (n : ℕ) (rest : List ℕ)
-    (loose jumped : Bool) (acts : List Act) → Lies write_limits.limit place m n → 1 < n → position_after_move place m ≡ there
-    → (loose ≡ false → Spares taken.max_jumps (run + (n - 1)))
-    → count + (n - 1) + trims_in taken.max_jumps run (n - 1) < MAX_COMMANDS
-    → ((at' count' : ℕ) → count' ≡ count + (n - 1) + trims_in taken.max_jumps run (n - 1) + 1
-    → GoesOn write_limits.limit count' there (read 0 at' rest) false false acts)
-    → GoesOn write_limits.limit count place (read run at (concat (stitched_hop_records encoding n m) ++ rest)) loose jumped
-    (act.Needle there (true && not loose) ∷ acts)
-goes_last_stitched read encoding write_limits taken b at count run place m there n rest loose jumped acts lies some to free few on =
-    let whole : part_end m n (n - 1 + 1) ≡ m =
-    ap (part_end m n) (let same : n - 1 + 1 ≡ n = omega (arith, some) in same) ∙ part_all m n lies.splits.some in
-    goes_stitched read encoding write_limits taken b (n - 1) at count run place m there (move_between (part_end m n (n - 1)) m) n rest
-    loose jumped acts lies (omega (arith, some)) (omega arith)
-    (subst (λ q. IsTrue (is_point_within write_limits.limit (move_between (part_end m n (n - 1)) q))) whole
-    (part_within write_limits.limit m n (n - 1) lies.splits))
-    (moved-on place (part_end m n (n - 1)) m ∙ to)
-    (subst (λ q. IsTrue (is_point_within NEEDLE_LIMIT q)) to lies.there) free few on
+  -- jumps that make up a move, and a stitch without a move
+  pub goes_hops : (at count run : ℕ) (place m there : Point) (n : ℕ) (rest : List ℕ) (loose jumped : Bool) (acts : List Act)
+      → Lies write_limits.limit place m n → position_after_move place m ≡ there → (loose ≡ false → Spares taken.max_jumps (run + n))
+      → count + n + trims_in taken.max_jumps run n < MAX_COMMANDS
+      → ((at' count' : ℕ) → count' ≡ count + n + trims_in taken.max_jumps run n + 1 → GoesOn write_limits.limit count' there (read 0 at'
+      rest) false false acts)
+      → GoesOn write_limits.limit count place (read run at (concat (hop_records encoding n m) ++ rest)) loose jumped (act.Needle there (true
+      && not loose) ∷ acts)
+  goes_hops at count run place m there n rest loose jumped acts lies to free few on =
+      goes_stitched n at count run place m there origin n rest loose jumped acts lies
+      lies.splits.some (omega arith) (within_from write_limits.limit origin (omega arith) (omega arith))
+      (position_after_move-none (position_after_move place (part_end m n n)) ∙ ap (position_after_move place) (part_all m n lies.splits.some)
+      ∙ to) (subst (λ q. IsTrue (is_point_within NEEDLE_LIMIT q)) to lies.there) free few on
+
+  -- jumps over all parts of a move but the last, and a stitch in its place
+  pub goes_last_stitched : (at count run : ℕ) (place m there : Point) (n : ℕ) (rest : List ℕ) (loose jumped : Bool) (acts : List Act)
+      → Lies write_limits.limit place m n → 1 < n → position_after_move place m ≡ there
+      → (loose ≡ false → Spares taken.max_jumps (run + (n - 1))) → count + (n - 1) + trims_in taken.max_jumps run (n - 1) < MAX_COMMANDS
+      → ((at' count' : ℕ) → count' ≡ count + (n - 1) + trims_in taken.max_jumps run (n - 1) + 1 → GoesOn write_limits.limit count' there
+      (read 0 at' rest) false false acts)
+      → GoesOn write_limits.limit count place (read run at (concat (stitched_hop_records encoding n m) ++ rest)) loose jumped (act.Needle
+      there (true && not loose) ∷ acts)
+  goes_last_stitched at count run place m there n rest loose jumped acts lies some to free few on =
+      let whole : part_end m n (n - 1 + 1) ≡ m =
+      ap (part_end m n) (let same : n - 1 + 1 ≡ n = omega (arith, some) in same) ∙ part_all m n lies.splits.some in
+      goes_stitched (n - 1) at count run place m there (move_between (part_end m n (n - 1)) m) n rest
+      loose jumped acts lies (omega (arith, some)) (omega arith)
+      (subst (λ q. IsTrue (is_point_within write_limits.limit (move_between (part_end m n (n - 1)) q))) whole
+      (part_within write_limits.limit m n (n - 1) lies.splits)) (moved-on place (part_end m n (n - 1)) m ∙ to)
+      (subst (λ q. IsTrue (is_point_within NEEDLE_LIMIT q)) to lies.there) free few on

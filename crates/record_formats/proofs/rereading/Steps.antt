@@ -1,6 +1,8 @@
 -- How reading goes on over one record, whatever comes after it.
-use Rattle.std.proofs.Common.{◌≡◌, ℕ, ◌+◌, ◌<◌, ◌≤◌, Bool, true, false, not, ◌&&◌, nat_le, IsTrue, List, [], ◌∷◌, ◌++◌, length, Ok, Result, refl, ap, sym, ◌∙◌, subst, arith}
-use Rattle.std.proofs.lemmas.Bool.{and_parts, and_from, lt-leb, le-leb}
+use Rattle.std.proofs.lemmas.Bool.Decides.{nat_tests}
+use Rattle.std.proofs.lemmas.Int.{ints}
+use Rattle.std.proofs.Common.{◌≡◌, ℕ, ◌+◌, ◌<◌, ◌≤◌, Bool, true, false, not, ◌&&◌, IsTrue, List, [], ◌∷◌, ◌++◌, length, Ok, Result, refl, ap, sym, ◌∙◌, subst, arith}
+use Rattle.std.proofs.lemmas.Bool.{and_from, lt-leb}
 use Rattle.std.specs.List.{list_all}
 use Rattle.design_model.specs.declared.act.Act.{Act}
 use Rattle.design_model.specs.declared.act.Act.TheVariants as act
@@ -17,7 +19,7 @@ use Rattle.record_formats.specs.declared.event.Event.TheVariants as event
 use Rattle.format_traits.specs.declared.fault.ReadFault.{ReadFault}
 use Rattle.record_formats.specs.MoveParts.{position_after_move}
 use Rattle.record_formats.specs.Readings.{FileCommands, with_commands_before, checked_command, checked_commands}
-use Rattle.record_formats.specs.Records.{Records, commands_of_event, position_after_event, moves_of_event, file_commands_from, are_accepted, moves_of_records_from, over, next}
+use Rattle.record_formats.specs.Records.{Records, commands_of_event, position_after_event, moves_of_event, file_commands_from, moves_of_records_from, over, next}
 use Rattle.record_formats.specs.RoundTrip.{is_stop_in_place}
 use Rattle.record_formats.proofs.PointLemmas.{position_after_move-none, same_points}
 use Rattle.design_model.proofs.CallerLemmas.{within_from}
@@ -45,18 +47,7 @@ event_within : (limit at count : ℕ) (place : Point) (e : Event) (rest : Record
     → IsTrue (list_all (λ move. is_point_within limit move)
     (moves_of_records_from (count + length (commands_of_event e place)) (position_after_event e place) rest))
     → IsTrue (list_all (λ move. is_point_within limit move) (moves_of_records_from count place (next at e rest)))
-event_within limit at count place e rest all few near more =
-    let kept : are_accepted count (commands_of_event e place) ≡ true = and_from (list_all is_command_in_range (commands_of_event e place))
-    (nat_le (count + length (commands_of_event e place)) MAX_COMMANDS) all (le-leb _ _ few) in
-    rw kept (both (moves_of_event e) (moves_of_records_from (count + length (commands_of_event e place)) (position_after_event e place)
-    rest) near more)
-  where
-    both : (xs ys : List Point) → IsTrue (list_all (λ move. is_point_within limit move) xs)
-        → IsTrue (list_all (λ move. is_point_within limit move) ys) → IsTrue (list_all (λ move. is_point_within limit move) (xs ++ ys))
-    both [] ys first second = second
-    both (x ∷ xs) ys first second =
-        let parts = and_parts (is_point_within limit x) (list_all (λ move. is_point_within limit move) xs) first in
-        and_from (is_point_within limit x) (list_all (λ move. is_point_within limit move) (xs ++ ys)) parts.0 (both xs ys parts.1 second)
+event_within limit at count place e rest h1 h2 h3 h4 = grind (arith, nat_tests, ints)
 
 -- a stitch
 pub goes_stitch : (limit at count : ℕ) (place m there : Point) (rest : Records) (loose jumped : Bool) (acts : List Act)

@@ -1,5 +1,5 @@
 -- How reading goes on over the records of a trim.
-use Rattle.std.proofs.Common.{◌≡◌, ℕ, ◌+◌, ◌<◌, ◌≤◌, ℤ, ◌+ℤ◌, unsigned_abs, Bool, true, false, IsTrue, List, [], ◌∷◌, length, refl, ap, sym, ◌∙◌, subst, arith}
+use Rattle.std.proofs.Common.{◌≡◌, ℕ, ◌+◌, ◌<◌, ◌≤◌, ℤ, ◌+ℤ◌, Bool, true, false, IsTrue, List, [], ◌∷◌, length, refl, ap, sym, ◌∙◌, subst, arith}
 use Rattle.std.proofs.lemmas.Bool.{and_parts}
 use Rattle.std.proofs.lemmas.Int.{ints}
 use Rattle.std.specs.List.{list_all}
@@ -17,7 +17,8 @@ use Rattle.record_formats.specs.RoundTrip.{BeginWithEvents, IsTrimSequence, are_
 use Rattle.record_formats.proofs.PointLemmas.{position_after_move-none}
 use Rattle.record_formats.proofs.rereading.Runs.{goes_as}
 use Rattle.record_formats.proofs.rereading.Steps.{GoesOn, goes_jump, goes_trimmed_jump, goes_trim}
-use Rattle.design_model.proofs.CallerLemmas.{point_of_parts, within_from, within_more, within_parts}
+use Rattle.design_model.proofs.CallerLemmas.{point_of_parts}
+use Rattle.std.proofs.lemmas.Bool.Decides.{nat_tests}
 
 moved-moved : (p q m : Point) → position_after_move (position_after_move p q) m ≡ position_after_move p (position_after_move q m)
 moved-moved p q m = point_of_parts (turned p.x q.x m.x) (turned p.y q.y m.y)
@@ -38,18 +39,11 @@ back_to place ms back = ap (λ r. position_after_moves r ms) (sym (position_afte
 -- a place after a move is at most so much farther
 farther : (far : ℕ) (place m : Point) → IsTrue (is_point_within far place)
     → IsTrue (is_point_within (far + move_size m) (position_after_move place m))
-farther far place m here =
-    let parts = within_parts far place here in
-    within_from (far + move_size m) (position_after_move place m)
-    (sum place.x m.x (move_size m) parts.0 (omega arith)) (sum place.y m.y (move_size m) parts.1 (omega arith))
-  where
-    sum : (x z : ℤ) (size : ℕ) → unsigned_abs x ≤ far → unsigned_abs z ≤ size → unsigned_abs (x +ℤ z) ≤ far + size
-    sum x z size small less = omega (arith, ints)
+farther far place m h1 = grind (arith, nat_tests, ints)
 
 in_jump_range : (far : ℕ) (place m : Point) (more : ℕ) → IsTrue (is_point_within far place) → far + (move_size m + more) ≤ JUMP_LIMIT
     → IsTrue (is_point_within JUMP_LIMIT (position_after_move place m))
-in_jump_range far place m more here room =
-    within_more (far + move_size m) JUMP_LIMIT (position_after_move place m) (omega (arith, room)) (farther far place m here)
+in_jump_range far place m more h1 h2 = grind (arith, nat_tests, ints)
 
 -- jumps of a loose thread
 goes_jumps : (events : List Event) (limit far count most : ℕ) (place : Point) (records rest : Records) (jumped : Bool)
