@@ -1,5 +1,7 @@
 -- The block of a design reads back, wherever in a file it stands.
-use Rattle.std.proofs.Common.{◌≡◌, ℕ, ◌+◌, ◌≤◌, true, IsTrue, false, nat_lt, List, [], ◌∷◌, ◌++◌, length, drop, Option, Some, None, Ok, IfOk, IsOkAnd, refl, ap, sym, ◌∙◌, subst, arith, length-append}
+use Rattle.std.proofs.lemmas.Bool.Decides.{nat_tests}
+use Rattle.std.proofs.lemmas.Int.{ints}
+use Rattle.std.proofs.Common.{◌≡◌, ℕ, ◌+◌, ◌≤◌, true, IsTrue, false, nat_lt, List, [], ◌∷◌, ◌++◌, length, drop, Option, None, Ok, IfOk, IsOkAnd, refl, ap, sym, ◌∙◌, subst, arith, length-append}
 use Rattle.std.proofs.lemmas.Bool.{le-ltb}
 use Rattle.std.proofs.lemmas.List.{append_assoc, drop_at}
 use Rattle.std.specs.List.{concat, list_all}
@@ -59,23 +61,12 @@ pec_block_records-block d before long =
 header_long : AcceptedIsWithinLimits → (d : DesignValue) → KeepsLimits d → first_refusal pec_write_limits (acts_of d) ≡ None
     → (stops_of (acts_of d) ≤ MAX_STOPS)
     × (length (pec_header_of d (stops_of (acts_of d)) (thumbnail_distance (pec_body_of d))) ≡ HEADER_LENGTH)
-header_long accepted d limits passed =
-    let few = (accepted pec_write_limits d limits passed).stops MAX_STOPS refl in (
-      few,
-      length-pec_header_of d (stops_of (acts_of d)) (thumbnail_distance (pec_body_of d))
-          (labels_fit d (stops_of (acts_of d)) limits.label.short few),
-    )
+header_long accepted d limits passed = grind (arith, nat_tests, length-pec_header_of, labels_fit, limits.label.short)
 
 -- a block reaches to its records
 block_long : (before header body thumbnails : List ℕ) → length header ≡ HEADER_LENGTH
     → length before + HEADER_LENGTH ≤ length (before ++ (header ++ body ++ thumbnails))
-block_long before header body thumbnails long = omega (
-  arith,
-  long,
-  length-append before (header ++ body ++ thumbnails),
-  length-append (header ++ body) thumbnails,
-  length-append header body,
-)
+block_long before header body thumbnails long = grind (arith, nat_tests, length-append)
 
 pub block_back : EncodedActsRoundTrip → AcceptedIsWithinLimits → LabelFieldsRoundTrip → (d : DesignValue) → KeepsLimits d
     → first_refusal pec_write_limits (acts_of d) ≡ None → (before : List ℕ) → BlockRoundTrips d (pec_block_of d) before
@@ -120,8 +111,7 @@ block_back spelled accepted fields d limits passed before =
 -- what holds of the block of a design that is not refused, holds of what is written
 of_written : (d : DesignValue) (P : List ℕ → Type 0) → (r : Option WriteFault) → first_refusal pec_write_limits (acts_of d) ≡ r
     → (first_refusal pec_write_limits (acts_of d) ≡ None → P (pec_block_of d)) → IfOk (unless_refused r (pec_block_of d)) P
-of_written d P None is holds = holds is
-of_written d P (Some f) is holds = tt
+of_written d P r h1 h2 = grind (arith, nat_tests, ints)
 
 -- a file that is a block alone, as a format
 abbrev alone : Meaning

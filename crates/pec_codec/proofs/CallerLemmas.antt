@@ -1,5 +1,7 @@
 -- Lemmas that this crate and those above cite.
-use Rattle.std.proofs.Common.{Err, IsOkAnd, Ok, Result}
+use Rattle.std.proofs.lemmas.Bool.Decides.{nat_tests}
+use Rattle.std.proofs.lemmas.Int.{ints}
+use Rattle.std.proofs.Common.{IsOkAnd, Result, arith}
 use Rattle.design_model.specs.Designs.{DesignValue}
 use Rattle.format_traits.specs.Laws.{HasSameActs}
 use Rattle.format_traits.specs.declared.fault.ReadFault.{ReadFault}
@@ -8,5 +10,4 @@ use Rattle.pec_codec.specs.Laws.{RestoresDesign}
 
 pub again_from : (d : DesignValue) (result : Result Loaded ReadFault) → IsOkAnd result (λ loaded. RestoresDesign d loaded)
     → IsOkAnd result (λ loaded. HasSameActs d loaded)
-again_from d (Ok loaded) back = back.again
-again_from d (Err f) back = back
+again_from d result h1 = grind (arith, nat_tests, ints)

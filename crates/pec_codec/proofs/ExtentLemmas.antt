@@ -1,8 +1,9 @@
 -- A design is less than 2 ^ 16 wide and high.
-use Rattle.std.proofs.Common.{ℕ, ◌+◌, ◌<◌, ◌≤◌, ◌^◌, ℤ, ◌-ℤ◌, unsigned_abs, Bool, true, false, IsTrue, List, [], ◌∷◌, All, Contains, Option, Some, None, nat_le, subst, arith}
-use Rattle.std.proofs.lemmas.Bool.{and_parts, leb-true}
+use Rattle.std.proofs.lemmas.Bool.Decides.{nat_tests}
+use Rattle.std.proofs.Common.{ℕ, ◌+◌, ◌<◌, ◌≤◌, ◌^◌, ℤ, ◌-ℤ◌, unsigned_abs, Bool, true, false, IsTrue, List, [], ◌∷◌, All, Contains, Option, subst, arith}
+use Rattle.std.proofs.lemmas.Bool.{and_parts}
 use Rattle.std.proofs.lemmas.Int.{ints}
-use Rattle.std.proofs.lemmas.List.Elements.{All-nil, All-cons}
+use Rattle.std.proofs.lemmas.List.Elements.{All-nil}
 use Rattle.std.specs.List.{list_all}
 use Rattle.design_model.specs.declared.bounds.Extent.{Extent}
 use Rattle.design_model.specs.declared.command.Command.{Command}
@@ -24,12 +25,7 @@ pub record AreNear (points : List Point) : Type 0 where
   pub rows : All IsNear (y_coordinates points)
 
 near-cons : (p : Point) (points : List Point) → IsTrue (is_point_within NEEDLE_LIMIT p) → AreNear points → AreNear (p ∷ points)
-near-cons p points within rest =
-    let both = and_parts (nat_le (unsigned_abs p.x) NEEDLE_LIMIT) (nat_le (unsigned_abs p.y) NEEDLE_LIMIT) within in
-    record {
-      columns = All-cons IsNear p.x (x_coordinates points) (leb-true _ _ both.0) rest.columns;
-      rows = All-cons IsNear p.y (y_coordinates points) (leb-true _ _ both.1) rest.rows;
-    }
+near-cons p points h1 h2 = grind (arith, nat_tests, ints)
 
 -- the needles of commands in range are near
 pub needles_near : (n : ℕ) (loose jumped : Bool) (commands : List Command)
@@ -53,14 +49,8 @@ difference y z near_y near_z = omega (arith, ints, near_y, near_z)
 
 pub narrow : (points : List Point) (extent : Option Extent) → AreNear points → IsExtentOrNone points extent
     → extent_width extent < 2 ^ 16
-narrow points None near bounds = omega arith
-narrow points (Some e) near bounds = difference e.max.x e.min.x
-    (near_one e.max.x (x_coordinates points) near.columns bounds.right.reached)
-    (near_one e.min.x (x_coordinates points) near.columns bounds.left.reached)
+narrow points extent h1 h2 = grind (arith, nat_tests, ints)
 
 pub low : (points : List Point) (extent : Option Extent) → AreNear points → IsExtentOrNone points extent
     → extent_height extent < 2 ^ 16
-low points None near bounds = omega arith
-low points (Some e) near bounds = difference e.max.y e.min.y
-    (near_one e.max.y (y_coordinates points) near.rows bounds.bottom.reached)
-    (near_one e.min.y (y_coordinates points) near.rows bounds.top.reached)
+low points extent h1 h2 = grind (arith, nat_tests, ints)

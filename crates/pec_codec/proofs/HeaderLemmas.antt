@@ -1,11 +1,12 @@
 -- The parts of a header.
-use Rattle.std.proofs.Common.{◌≡◌, ℕ, ◌+◌, ◌-◌, ◌≤◌, List, [], ◌∷◌, ◌++◌, length, replicate, codes, ap, sym, ◌∙◌, arith, length-append}
+use Rattle.std.proofs.lemmas.Bool.Decides.{nat_tests}
+use Rattle.std.proofs.Common.{◌≡◌, ℕ, ◌+◌, ◌-◌, ◌≤◌, List, [], ◌∷◌, ◌++◌, length, ap, sym, ◌∙◌, arith, length-append}
 use Rattle.std.proofs.lemmas.List.{append_assoc}
 use Rattle.std.proofs.lemmas.List.FromFn.{length-map-range_with_len, map-range_with_len_more}
 use Rattle.design_model.specs.declared.design.TheConstants.{MAX_LABEL}
 use Rattle.design_model.specs.Designs.{DesignValue, thread_of}
 use Rattle.design_model.specs.Extents.{extent_of}
-use Rattle.format_traits.specs.LabelFields.{padded_right, label_field}
+use Rattle.format_traits.specs.LabelFields.{padded_right}
 use Rattle.pec_codec.specs.declared.block.TheConstants.{HEADER_LENGTH, LABELS_LENGTH, MAX_STOPS}
 use Rattle.pec_codec.specs.Header.{distance_field, pec_header_of, labels_of, size_fields, threads_of}
 use Rattle.format_traits.proofs.CallerLemmas.{length-padded_right}
@@ -22,17 +23,7 @@ threads_more d count thread start out more of_thread of_out of_more =
 -- the label and the threads of as many blocks as there may be have room
 pub labels_fit : (d : DesignValue) (stops : ℕ) → length d.label ≤ MAX_LABEL → stops ≤ MAX_STOPS
     → length (labels_of d stops) ≤ LABELS_LENGTH
-labels_fit d stops short few = omega (
-  arith,
-  parts (label_field d.label) (threads_of d (stops + 1)) stops,
-  length-padded_right MAX_LABEL d.label short,
-  length-map-range_with_len (thread_of d) 0 (stops + 1),
-)
-  where
-    parts : (label threads : List ℕ) (stops : ℕ)
-        → length (codes "LA:" ++ label ++ 13 ∷ replicate 12 32 ++ 255 ∷ 0 ∷ 6 ∷ 38 ∷ replicate 12 32 ++ stops ∷ threads)
-        ≡ 33 + length label + length threads
-    parts label threads stops = simp length-append (omega arith)
+labels_fit d stops short few = grind (arith, nat_tests, d.label, length-padded_right, length-map-range_with_len, length-append)
 
 -- a header has all its bytes
 pub length-pec_header_of : (d : DesignValue) (stops distance : ℕ) → length (labels_of d stops) ≤ LABELS_LENGTH

@@ -1,4 +1,5 @@
 -- The label and the threads of a block are read back.
+use Rattle.std.proofs.lemmas.Bool.Decides.{nat_tests}
 use Rattle.std.proofs.Common.{◌≡◌, ℕ, zero, suc, ◌+◌, ◌-◌, ◌<◌, ◌≤◌, ◌%◌, List, [], ◌∷◌, ◌++◌, length, map, take, drop, replicate, codes, Some, unwrap_or, slice_get, slice_index, ap, sym, ◌∙◌, arith, length-append}
 use Rattle.std.proofs.lemmas.Bool.{ne_eqb}
 use Rattle.std.proofs.lemmas.List.{append_assoc, drop_at, get_or_at, take_at}
@@ -89,12 +90,8 @@ threads_in-block d short few =
 slice_get-threads : (f : ℕ → ℕ) (a n k : ℕ) → k < n → slice_get (map f (range_with_len a n)) k ≡ Some (f (a + k))
 slice_get-threads f a zero k few = absurd (omega arith)
 slice_get-threads f a (suc n) zero few = let same : a ≡ a + 0 = omega arith in ap (λ b. Some (f b)) same
-slice_get-threads f a (suc n) (suc k) few =
-    let same : a + 1 + k ≡ a + suc k = omega arith in
-    slice_get-threads f (a + 1) n k (omega arith) ∙ ap (λ b. Some (f b)) same
+slice_get-threads f a (suc n) (suc k) few = grind (arith, nat_tests, (slice_get-threads f (a + 1) n k (omega arith)))
 
 pub thread_of-threads : (d : DesignValue) (stops block : ℕ) → block ≤ stops
     → unwrap_or (slice_get (threads_of d (stops + 1)) block) (1 + block % 64) ≡ thread_of d block
-thread_of-threads d stops block few =
-    ap (λ kept. unwrap_or kept (1 + block % 64)) (slice_get-threads (thread_of d) 0 (stops + 1) block (omega arith))
-    ∙ ap (thread_of d) (omega arith)
+thread_of-threads d stops block few = grind (arith, nat_tests, slice_get-threads)

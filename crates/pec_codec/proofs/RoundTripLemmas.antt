@@ -1,6 +1,8 @@
 -- Each record is decoded as it was encoded, whatever bytes follow.
-use Rattle.std.proofs.Common.{◌≡◌, ℕ, ◌+◌, ◌*◌, ◌/◌, ◌%◌, ◌<◌, ◌≤◌, ℤ, unsigned_abs, Bool, true, false, ◌&&◌, IsTrue, List, [], ◌∷◌, ◌++◌, length, drop, Some, None, ◌==◌, nat_le, if◌then◌else◌, refl, ap, sym, ◌∙◌, arith}
-use Rattle.std.proofs.lemmas.Bool.{and_parts, leb-true, ne_eqb}
+use Rattle.std.proofs.lemmas.Bool.Decides.{nat_tests}
+use Rattle.std.proofs.lemmas.Int.{ints}
+use Rattle.std.proofs.Common.{◌≡◌, ℕ, ◌+◌, ◌*◌, ◌/◌, ◌%◌, ◌<◌, ◌≤◌, ℤ, unsigned_abs, Bool, true, false, ◌&&◌, IsTrue, List, [], ◌∷◌, ◌++◌, length, drop, Some, None, ◌==◌, if◌then◌else◌, refl, sym, ◌∙◌, arith}
+use Rattle.std.proofs.lemmas.Bool.{and_parts}
 use Rattle.design_model.specs.declared.point.Point.{Point}
 use Rattle.design_model.specs.Points.{is_point_within, origin}
 use Rattle.record_formats.specs.declared.event.Event.TheVariants as event
@@ -10,7 +12,7 @@ use Rattle.record_formats.specs.RoundTrip.{DecodesEncoding, EncodedEvents}
 use Rattle.pec_codec.specs.declared.block.TheConstants.{LIMIT}
 use Rattle.pec_codec.specs.declared.coordinate.Coordinate.{Coordinate}
 use Rattle.pec_codec.specs.Coordinates.{leading_coordinate, is_short_number, short_bytes, to_twos_complement}
-use Rattle.pec_codec.specs.Records.{move_record_in, next_record_in, pair_record_in, stop_record_in, event_of_pair, pec_records}
+use Rattle.pec_codec.specs.Records.{next_record_in, event_of_pair, pec_records}
 use Rattle.pec_codec.specs.RecordBytes.{long_record, pec_stop_record}
 use Rattle.pec_codec.specs.Writing.{pec_write_limits, pec_encoding}
 use Rattle.pec_codec.proofs.RecordLemmas.{record_first}
@@ -20,21 +22,10 @@ use Rattle.pec_codec.proofs.RecordByteLemmas.{coordinate_at, leading_coordinate-
 next_record_in-pair : (first second : ℕ) (rest : List ℕ) (x y : Coordinate) → first < 254
     → leading_coordinate (first ∷ second ∷ rest) ≡ Some x → leading_coordinate (drop x.size (first ∷ second ∷ rest)) ≡ Some y
     → next_record_in (first ∷ second ∷ rest) ≡ cut.Record (event_of_pair x y) (x.size + y.size)
-next_record_in-pair first second rest x y small of_x of_y =
-    let bytes = first ∷ second ∷ rest in
-    let no_end : first ≡ 255 → ⊥ = λ is. omega (arith, is, small) in
-    let no_stop : first ≡ 254 → ⊥ = λ is. omega (arith, is, small) in
-    ap (λ ends. if ends then cut.End else (if first == 254 && second == 176 then stop_record_in bytes
-    else move_record_in (leading_coordinate bytes) bytes)) (ne_eqb first 255 no_end)
-    ∙ ap (λ stops. if stops && second == 176 then stop_record_in bytes else move_record_in (leading_coordinate bytes) bytes)
-    (ne_eqb first 254 no_stop)
-    ∙ ap (λ c. move_record_in c bytes) of_x
-    ∙ ap (pair_record_in x) of_y
+next_record_in-pair first second rest x y h1 h2 h3 = grind (arith, nat_tests, ints)
 
 within_parts : (m : Point) → IsTrue (is_point_within LIMIT m) → (unsigned_abs m.x ≤ LIMIT) × (unsigned_abs m.y ≤ LIMIT)
-within_parts m within =
-    let both = and_parts (nat_le (unsigned_abs m.x) LIMIT) (nat_le (unsigned_abs m.y) LIMIT) within in
-    (leb-true _ _ both.0, leb-true _ _ both.1)
+within_parts m h1 = grind (arith, nat_tests, ints)
 
 -- a move of short numbers
 short_reads : (at : ℕ) (m : Point) (rest : List ℕ) → IsTrue (is_short_number m.x && is_short_number m.y)

@@ -1,5 +1,7 @@
 -- How long what is written is.
-use Rattle.std.proofs.Common.{◌≡◌, ℕ, zero, suc, ◌+◌, ◌*◌, ◌≤◌, max, Bool, true, false, ◌&&◌, nat_le, List, [], ◌∷◌, ◌++◌, length, map, replicate, Ok, if◌then◌else◌, refl, ap, ◌∙◌, subst, arith, length-append}
+use Rattle.std.proofs.lemmas.Bool.Decides.{nat_tests}
+use Rattle.std.proofs.lemmas.Int.{ints}
+use Rattle.std.proofs.Common.{◌≡◌, ℕ, zero, suc, ◌+◌, ◌*◌, ◌≤◌, max, Bool, true, false, ◌&&◌, List, [], ◌∷◌, ◌++◌, length, map, replicate, Ok, if◌then◌else◌, refl, ap, ◌∙◌, arith, length-append}
 use Rattle.std.proofs.lemmas.List.{append_assoc, replicate-append-replicate}
 use Rattle.std.specs.List.{concat}
 use Rattle.design_model.specs.declared.act.Act.{Act}
@@ -8,14 +10,14 @@ use Rattle.design_model.specs.declared.act.NumberedAct.{NumberedAct}
 use Rattle.design_model.specs.declared.command.Command.{Command}
 use Rattle.design_model.specs.declared.design.TheConstants.{MAX_COMMANDS}
 use Rattle.design_model.specs.declared.point.Point.{Point}
-use Rattle.design_model.specs.Acts.{acts_along, acts_of}
+use Rattle.design_model.specs.Acts.{acts_along}
 use Rattle.design_model.specs.Designs.{DesignValue, KeepsLimits}
-use Rattle.design_model.specs.Points.{origin, move_between}
+use Rattle.design_model.specs.Points.{move_between}
 use Rattle.format_traits.specs.declared.encoder_state.EncoderState.{EncoderState}
 use Rattle.format_traits.specs.Accepted.{AcceptedIsWithinLimits}
 use Rattle.format_traits.specs.MoveHops.{hops_of}
-use Rattle.record_formats.specs.MoveParts.{part_moves, part_moves_from}
-use Rattle.format_traits.specs.Refusals.{initial_encoder_state, encoder_state_after}
+use Rattle.record_formats.specs.MoveParts.{part_moves_from}
+use Rattle.format_traits.specs.Refusals.{encoder_state_after}
 use Rattle.format_traits.specs.Rooms.{room_of_act, room_of_needle, room_from}
 use Rattle.record_formats.specs.RecordEncodings.{AppendsRecords, hop_records, needle_records, records_of_acts_from, records_of_act}
 use Rattle.pec_codec.specs.declared.block.TheConstants.{LIMIT, MAX_STOPS, THUMBNAIL_LENGTH}
@@ -28,15 +30,12 @@ use Rattle.record_formats.proofs.CallerLemmas.{stops_along}
 
 length-concat-append : (xs ys : List (List ℕ)) → length (concat (xs ++ ys)) ≡ length (concat xs) + length (concat ys)
 length-concat-append [] ys = omega arith
-length-concat-append (x ∷ xs) ys =
-    length-append x (concat (xs ++ ys)) ∙ ap (λ n. length x + n) (length-concat-append xs ys)
-    ∙ omega (arith, length-append x (concat xs))
+length-concat-append (x ∷ xs) ys = grind (arith, nat_tests, length-append, (length-concat-append xs ys))
 
 -- a stitch, whether its numbers are short or not
 stitch_length : (short : Bool) (m : Point)
     → length (if short then short_bytes m.x ++ short_bytes m.y else long_record 0 m) ≤ 4
-stitch_length true m = omega arith
-stitch_length false m = omega arith
+stitch_length short m = grind (arith, nat_tests, ints)
 
 length-stitch : (m : Point) → length (pec_stitch_record m) ≤ 4
 length-stitch m = stitch_length (is_short_number m.x && is_short_number m.y) m
@@ -46,17 +45,11 @@ length-jumps m n done zero = refl
 length-jumps m n done (suc count) = omega (arith, length-jumps m n (done + 1) count)
 
 length-hops_of : (count : ℕ) (m : Point) → length (concat (hop_records pec_encoding count m)) ≤ 4 * (count + 1)
-length-hops_of count m = omega (
-  arith,
-  length-concat-append (map pec_jump_record (part_moves m count)) (pec_stitch_record origin ∷ []),
-  length-jumps m count 0 count,
-)
+length-hops_of count m = grind (arith, nat_tests, length-concat-append, length-jumps)
 
 needle_length : (loose float : Bool) (m : Point)
     → length (concat (needle_records pec_encoding pec_write_limits loose float m)) ≤ 4 * room_of_needle LIMIT loose float m
-needle_length true float m =
-    let jumps = hops_of LIMIT m in
-    omega (arith, length-hops_of jumps m, loose_room (nat_le jumps 2) jumps)
+needle_length true float m = grind (arith, nat_tests, length-hops_of, loose_room)
 needle_length false true m = length-hops_of (max 1 (hops_of LIMIT m)) m
 needle_length false false m =
     omega (arith, length-stitch m, length-append (pec_stitch_record m) [])
@@ -72,13 +65,8 @@ act_length before act.Stop = omega arith
 pub records_length : (before : EncoderState) (acts : List NumberedAct)
     → length (concat (records_of_acts_from pec_encoding pec_write_limits before acts)) ≤ 4 * room_from LIMIT before.loose before.place acts
 records_length before [] = omega arith
-records_length before (a ∷ rest) = omega (
-  arith,
-  length-concat-append (records_of_act pec_encoding pec_write_limits before a.act)
-      (records_of_acts_from pec_encoding pec_write_limits (encoder_state_after LIMIT before a.act) rest),
-  act_length before a.act,
-  records_length (encoder_state_after LIMIT before a.act) rest,
-)
+records_length before (a ∷ rest) =
+    grind (arith, nat_tests, length-concat-append, a.act, act_length, (records_length (encoder_state_after LIMIT before a.act) rest))
 
 -- one thumbnail more
 pub thumbnail_more : (start out more : List ℕ) (count : ℕ) → out ≡ start ++ replicate (THUMBNAIL_LENGTH * count) 0
@@ -94,28 +82,14 @@ thumbnail_more start out more count of_out of_more =
 pub body_put : (d : DesignValue) (commands : List Command) (out middle new : List ℕ) (state : EncoderState)
     → commands ≡ d.commands → AppendsRecords pec_encoding pec_write_limits (acts_along commands) out (Ok state) middle
     → new ≡ middle ++ 255 ∷ [] → AppendsBody d out (Ok state.stops) new
-body_put d commands out middle new state of_commands puts of_new =
-    let all : AppendsRecords pec_encoding pec_write_limits (acts_of d) out (Ok state) middle =
-    subst (λ cs. AppendsRecords pec_encoding pec_write_limits (acts_along cs) out (Ok state) middle) of_commands puts in (
-      all.0,
-      of_new ∙ ap (λ bytes. bytes ++ 255 ∷ []) all.1
-          ∙ append_assoc out (concat (records_of_acts_from pec_encoding pec_write_limits initial_encoder_state (acts_of d))) (255 ∷ []),
-      ap (λ s. s.stops) all.2 ∙ stops_along LIMIT initial_encoder_state (acts_of d) ∙ omega arith,
-    )
+body_put d commands out middle new state of_commands puts of_new = grind (arith, nat_tests, append_assoc, stops_along)
 
 -- the stops of a design that is not refused
 pub body_stops : (d : DesignValue) (out new : List ℕ) (stops : ℕ) → AcceptedIsWithinLimits → KeepsLimits d
     → AppendsBody d out (Ok stops) new → stops ≤ MAX_STOPS
-body_stops d out new stops accepted limits puts =
-    let most = (accepted pec_write_limits d limits puts.0).stops MAX_STOPS refl in
-    omega (arith, most, puts.2)
+body_stops d out new stops h1 h2 h3 = grind (arith, nat_tests, ints)
 
 -- and its records
 pub body_short : (d : DesignValue) (out new : List ℕ) (stops : ℕ) → AcceptedIsWithinLimits → KeepsLimits d
     → AppendsBody d out (Ok stops) new → length (pec_body_of d) ≤ 4 * MAX_COMMANDS + 1
-body_short d out new stops accepted limits puts = omega (
-  arith,
-  length-append (concat (records_of_acts_from pec_encoding pec_write_limits initial_encoder_state (acts_of d))) (255 ∷ []),
-  records_length initial_encoder_state (acts_of d),
-  (accepted pec_write_limits d limits puts.0).room,
-)
+body_short d out new stops accepted limits puts = grind (arith, nat_tests, length-append, records_length, puts.0)
