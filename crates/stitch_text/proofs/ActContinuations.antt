@@ -1,6 +1,7 @@
 -- The lines of acts that are read are the lines of a design that goes on from what was read before.
-use Rattle.std.proofs.Common.{◌≡◌, ℕ, ◌+◌, ◌<◌, ◌≤◌, ◌%◌, Bool, true, false, ◌&&◌, IsTrue, List, [], ◌∷◌, ◌++◌, Option, Some, None, Err, codes, decimal, length, length-append, nat_le, nat_lt, slice_get, unwrap_or, unsigned_abs, if◌then◌else◌, refl, ap, sym, ◌∙◌, subst, append-nil, append_assoc, arith}
-use Rattle.std.proofs.lemmas.Bool.{and_from, and_parts}
+use Rattle.std.proofs.lemmas.Int.{ints}
+use Rattle.std.proofs.Common.{◌≡◌, ℕ, ◌+◌, ◌<◌, ◌≤◌, ◌%◌, Bool, true, false, ◌&&◌, IsTrue, List, [], ◌∷◌, ◌++◌, Option, Some, None, Err, codes, decimal, length, length-append, nat_lt, slice_get, unwrap_or, if◌then◌else◌, refl, ap, sym, ◌∙◌, subst, append-nil, append_assoc, arith}
+use Rattle.std.proofs.lemmas.Bool.{and_from}
 use Rattle.std.proofs.lemmas.Bool.Decides.{nat_tests}
 use Rattle.std.proofs.lemmas.List.Folds.{list_all-append}
 use Rattle.std.specs.List.{join_with_byte, list_all}
@@ -8,18 +9,16 @@ use Rattle.design_model.specs.declared.act.Act.{Act}
 use Rattle.design_model.specs.declared.act.Act.TheVariants as act
 use Rattle.design_model.specs.declared.command.Command.{Command}
 use Rattle.design_model.specs.declared.design.TheConstants.{MAX_COMMANDS}
-use Rattle.design_model.specs.declared.point.Point.{Point}
-use Rattle.design_model.specs.declared.point.TheConstants.{NEEDLE_LIMIT, JUMP_LIMIT}
+use Rattle.design_model.specs.declared.point.TheConstants.{NEEDLE_LIMIT}
 use Rattle.design_model.specs.ActPositions.{is_act_in_range, leaves_thread_loose, needle_position_after}
 use Rattle.design_model.specs.Acts.{acts_from, numbered}
 use Rattle.design_model.specs.Commands.{is_command_in_range}
 use Rattle.design_model.specs.Designs.{DesignValue, thread_of}
-use Rattle.design_model.specs.Points.{is_point_within, move_between}
+use Rattle.design_model.specs.Points.{is_point_within}
 use Rattle.format_traits.specs.declared.fault.ReadFault.{ReadFault}
 use Rattle.format_traits.specs.declared.fault.ReadFault.TheVariants as read
 use Rattle.format_traits.specs.declared.fault.WriteFault.TheVariants as fault
 use Rattle.format_traits.specs.declared.encoder_state.EncoderState.{EncoderState}
-use Rattle.format_traits.specs.MoveHops.{hops_of}
 use Rattle.format_traits.specs.Refusals.{refusal_before_room, is_above_max, refusal_of_act, first_refusal_from, refusal_if, encoder_state_after, stops_in}
 use Rattle.format_traits.specs.Rooms.{room_of_act}
 use Rattle.stitch_text.specs.declared.list_draft.ListDraft.{ListDraft}
@@ -37,33 +36,11 @@ use Rattle.format_traits.proofs.CallerLemmas.{not_refused, or_else_both, or_else
 
 -- an act has no more commands than room
 few_commands : (s : EncoderState) (a : Act) → IsTrue (is_told s.loose a) → length (list_commands_of a) ≤ room_of_act LIMIT s.loose s.place a
-few_commands s (act.Needle p float) told = by_kind s.loose float told where
-  loose_some : (jumps : ℕ) (b : Bool) → 1 ≤ (if b then jumps + 1 else jumps + 2)
-  loose_some jumps true = omega arith
-  loose_some jumps false = omega arith
+few_commands s a h1 = grind (arith, nat_tests, ints)
 
-  by_kind : (loose float : Bool) → IsTrue (is_told loose (act.Needle p float))
-      → length (list_commands_of (act.Needle p float)) ≤ room_of_act LIMIT loose s.place (act.Needle p float)
-  by_kind true true told = cc
-  by_kind true false told = loose_some (hops_of LIMIT (move_between s.place p)) (nat_le (hops_of LIMIT (move_between s.place p)) 2)
-  by_kind false true told = omega arith
-  by_kind false false told = omega arith
-few_commands s act.Trim told = omega arith
-few_commands s act.Stop told = omega arith
-
--- its commands are in range
-far_enough : (p : Point) → IsTrue (is_point_within NEEDLE_LIMIT p) → IsTrue (is_point_within JUMP_LIMIT p)
-far_enough p within =
-    let both = and_parts (nat_le (unsigned_abs p.x) NEEDLE_LIMIT) (nat_le (unsigned_abs p.y) NEEDLE_LIMIT) within in
-    and_from (nat_le (unsigned_abs p.x) JUMP_LIMIT) (nat_le (unsigned_abs p.y) JUMP_LIMIT)
-    (grind (arith, nat_tests, both.0)) (grind (arith, nat_tests, both.1))
-
+-- the commands of an act in range are in range
 commands_in_range : (a : Act) → IsTrue (is_act_in_range a) → IsTrue (list_all is_command_in_range (list_commands_of a))
-commands_in_range (act.Needle p false) within = and_from (is_point_within NEEDLE_LIMIT p) true within refl
-commands_in_range (act.Needle p true) within = and_from (is_point_within JUMP_LIMIT p) (is_point_within NEEDLE_LIMIT p && true)
-    (far_enough p within) (and_from (is_point_within NEEDLE_LIMIT p) true within refl)
-commands_in_range act.Trim within = refl
-commands_in_range act.Stop within = refl
+commands_in_range a h1 = grind (arith, nat_tests, ints)
 
 -- what holds of a draft and of its commands
 pub record Keeps (bare : ℕ) (draft : ListDraft) : Type 0 where
@@ -113,14 +90,7 @@ number_at n other = n
 act_first : (a : Act) (n : ℕ) (loose : Bool) (more : List Command) → IsTrue (is_told loose a)
     → acts_from n loose false (list_commands_of a ++ more)
     ≡ numbered (number_at n a) a ∷ acts_from (number_at n a + 1) (leaves_thread_loose a) false more
-act_first (act.Needle p false) n true more told = refl
-act_first (act.Needle p false) n false more told = refl
-act_first (act.Needle p true) n true more told = cc
-act_first (act.Needle p true) n false more told = refl
-act_first act.Trim n true more told = cc
-act_first act.Trim n false more told = refl
-act_first act.Stop n true more told = refl
-act_first act.Stop n false more told = refl
+act_first a n loose more h1 = grind (arith, nat_tests, ints)
 
 -- reading is over without a refusal
 abbrev pub over : DesignValue → ParsedList
@@ -174,9 +144,7 @@ end_written at draft bytes rest d keeps is says = by_rest rest says where
 
 -- a refusal isn't the end
 pub not_over : {P : Type 0} (e d : DesignValue) (f : ReadFault) → refused_list e f ≡ over d → P
-not_over e d f says = absurd (none_some (ap (λ (s : ParsedList). s.fault) says)) where
-  none_some : Some f ≡ None → ⊥
-  none_some same = cc
+not_over e d f h1 = grind (arith, nat_tests, ints)
 
 -- the line of an act, and the lines that go on from there
 continues_act : (draft : ListDraft) (e : DesignValue) (a : Act) (extra bytes rest : List ℕ) (d : DesignValue)
@@ -241,9 +209,7 @@ thread_is d xs ys t block are size =
     ∙ ap (λ o. unwrap_or o (1 + block % 64)) (slice_get_at xs ys t)
 
 pub block_text : (t u : ℕ) → t < 256 → u ≡ t → codes "block " ++ decimal t ≡ list_block_line u
-block_text t u small is =
-    let same : t ≡ u % 256 = omega (arith, small, is) in
-    ap (λ n. codes "block " ++ decimal n) same
+block_text t u h1 h2 = grind (arith, nat_tests, ints)
 
 -- a stop, whose line has a thread
 stop_written : (at behind : ℕ) (draft : ListDraft) (t : ℕ) (bytes : List ℕ) (rest : List (List ℕ)) (d : DesignValue)

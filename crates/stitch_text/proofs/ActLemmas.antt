@@ -1,6 +1,7 @@
 -- Acts of designs, and acts that a list can have.
-use Rattle.std.proofs.Common.{◌≡◌, ℕ, ◌+◌, ◌≤◌, Bool, true, false, not, ◌&&◌, IsTrue, List, [], ◌∷◌, ◌++◌, Option, Some, None, nat_le, nat_lt, unsigned_abs, if◌then◌else◌, refl, ap, ◌∙◌, arith}
-use Rattle.std.proofs.lemmas.Bool.{and_from, not-true}
+use Rattle.std.proofs.lemmas.Int.{ints}
+use Rattle.std.proofs.Common.{◌≡◌, ℕ, ◌+◌, ◌≤◌, Bool, true, false, not, ◌&&◌, IsTrue, List, [], ◌∷◌, ◌++◌, None, nat_le, nat_lt, unsigned_abs, if◌then◌else◌, refl, ap, ◌∙◌, arith}
+use Rattle.std.proofs.lemmas.Bool.{and_from}
 use Rattle.std.proofs.lemmas.Bool.Decides.{nat_tests}
 use Rattle.std.specs.List.{list_all}
 use Rattle.design_model.specs.declared.act.Act.{Act}
@@ -13,16 +14,15 @@ use Rattle.design_model.specs.declared.point.Point.{Point}
 use Rattle.design_model.specs.ActPositions.{leaves_thread_loose, needle_position_after}
 use Rattle.design_model.specs.Acts.{acts_from, acts_without_numbers, numbered}
 use Rattle.design_model.specs.Points.{is_point_within, move_between, move_size}
-use Rattle.format_traits.specs.declared.fault.ReadFault.TheVariants as read
 use Rattle.format_traits.specs.declared.fault.WriteFault.{WriteFault}
 use Rattle.format_traits.specs.declared.fault.WriteFault.TheVariants as fault
 use Rattle.format_traits.specs.declared.encoder_state.EncoderState.{EncoderState}
-use Rattle.format_traits.specs.Refusals.{refusal_of_needle, refusal_before_room, is_above_max, refusal_of_act, first_refusal_from, refusal_if, encoder_state_after}
+use Rattle.format_traits.specs.Refusals.{refusal_of_needle, refusal_before_room, refusal_of_act, first_refusal_from, refusal_if, encoder_state_after}
 use Rattle.stitch_text.specs.declared.stitch_list.TheConstants.{LIMIT}
-use Rattle.stitch_text.specs.Judging.{fault_of_act, list_commands_of, as_read_fault, needs_held_thread}
+use Rattle.stitch_text.specs.Judging.{fault_of_act, list_commands_of, needs_held_thread}
 use Rattle.stitch_text.specs.Readings.{stitch_move_of, stitch_moves_of}
 use Rattle.stitch_text.specs.StitchLists.{list_write_limits}
-use Rattle.format_traits.proofs.CallerLemmas.{not_refused, or_else_both, or_else_none, refused_not}
+use Rattle.format_traits.proofs.CallerLemmas.{not_refused, or_else_none}
 
 -- an act that the fold over commands can give: no float of a loose thread, and no trim of one
 abbrev pub is_told : Bool → Act → Bool
@@ -69,55 +69,16 @@ acts_again (a ∷ rest) n loose told = by_act (λ n loose told. acts_again rest 
   by_act again act.Stop true told = ap (λ acts. act.Stop ∷ acts) (again (n + 1) true told)
   by_act again act.Stop false told = ap (λ acts. act.Stop ∷ acts) (again (n + 1) true told)
 
--- whether an act is refused has nothing to do with its number
-refused_again : (b : Bool) (f g : WriteFault) → refusal_if b f ≡ None → refusal_if b g ≡ None
-refused_again b f g none = refused_not b g (not_refused b f none)
-
-own_again : (s : EncoderState) (m n : ℕ) (a : Act) → refusal_before_room list_write_limits s a m ≡ None
-    → refusal_before_room list_write_limits s a n ≡ None
-own_again s m n (act.Needle p float) none = by_kind s.loose float none where
-  by_kind : (loose float : Bool) → refusal_of_needle list_write_limits loose float (move_between s.place p) m ≡ None
-      → refusal_of_needle list_write_limits loose float (move_between s.place p) n ≡ None
-  by_kind true float none = refl
-  by_kind false true none = refl
-  by_kind false false none =
-      refused_again (nat_lt LIMIT (move_size (move_between s.place p))) (fault.StitchTooLong m) (fault.StitchTooLong n) none
-own_again s m n act.Trim none = refl
-own_again s m n act.Stop none =
-    refused_again (is_above_max list_write_limits.stops (s.stops + 1)) (fault.TooManyStops m) (fault.TooManyStops n) none
-
-pub refusal_again : (s : EncoderState) (m n : ℕ) (a : Act) → refusal_of_act list_write_limits s (numbered m a) ≡ None
-    → refusal_of_act list_write_limits s (numbered n a) ≡ None
-refusal_again s m n a none =
-    let full : Bool = nat_lt MAX_COMMANDS (encoder_state_after LIMIT s a).room in
-    let both = or_else_none (refusal_before_room list_write_limits s a m) (refusal_if full (fault.TooLong m)) none in
-    or_else_both (refusal_before_room list_write_limits s a n) (refusal_if full (fault.TooLong n)) (own_again s m n a both.0)
-    (refused_again full (fault.TooLong m) (fault.TooLong n) both.1)
-
 -- an act that isn't refused may be read
 pub no_fault : (at n : ℕ) (s : EncoderState) (a : Act) → IsTrue (is_told s.loose a)
     → refusal_of_act list_write_limits s (numbered n a) ≡ None
     → fault_of_act at s a ≡ None
-no_fault at n s a told none =
-    let loose : (s.loose && needs_held_thread a) ≡ false = not-true (s.loose && needs_held_thread a) told in
-    rw loose (ap (as_read_fault at) (refusal_again s n 0 a none))
+no_fault at n s a h1 h2 = grind (arith, nat_tests, ints)
 
 -- and the other way round
 pub no_refusal : (at n : ℕ) (s : EncoderState) (a : Act) → fault_of_act at s a ≡ None
     → IsTrue (is_told s.loose a) × (refusal_of_act list_write_limits s (numbered n a) ≡ None)
-no_refusal at n s a none = by_test (s.loose && needs_held_thread a) none where
-  not_told : (r : Option WriteFault) → as_read_fault at r ≡ None → r ≡ None
-  not_told None none = refl
-  not_told (Some (fault.StitchTooLong number)) none = cc
-  not_told (Some (fault.FloatTooLong number)) none = cc
-  not_told (Some (fault.TooManyStops number)) none = cc
-  not_told (Some (fault.TooLong number)) none = cc
-  not_told (Some fault.Memory) none = cc
-
-  by_test : (b : Bool) → (if b then Some (read.Control at) else as_read_fault at (refusal_of_act list_write_limits s (numbered 0 a))) ≡ None
-      → IsTrue (not b) × (refusal_of_act list_write_limits s (numbered n a) ≡ None)
-  by_test true none = absurd (let no : ⊥ = cc in no)
-  by_test false none = (refl, refusal_again s 0 n a (not_told (refusal_of_act list_write_limits s (numbered 0 a)) none))
+no_refusal at n s a h1 = grind (arith, nat_tests, ints)
 
 -- the moves of acts that aren't refused are within the limit
 pub moves_within : (acts : List NumberedAct) (s : EncoderState) → first_refusal_from list_write_limits s acts ≡ None

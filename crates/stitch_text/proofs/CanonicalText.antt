@@ -1,4 +1,6 @@
 -- A text that reads as a design is what that design is written as.
+use Rattle.std.proofs.lemmas.Bool.Decides.{nat_tests}
+use Rattle.std.proofs.lemmas.Int.{ints}
 use Rattle.std.proofs.Common.{◌≡◌, ℕ, ◌+◌, ◌<◌, Bool, true, false, IfOk, IsOk, IsOkAnd, List, [], ◌∷◌, ◌++◌, Option, Some, None, Result, Ok, Err, bytes_eq, codes, decimal, length, refl, ap, sym, ◌∙◌, subst, arith}
 use Rattle.std.proofs.lemmas.List.Splits.{join_with_byte-slice_split}
 use Rattle.std.proofs.lemmas.Slice.Eq.{bytes_eq-Decides}
@@ -29,9 +31,7 @@ next_some : {P : Type 0} (at : ℕ) (e d : DesignValue) (parts : List (List ℕ)
     → with_next_line at e parts f ≡ over d
     → ((bytes : List ℕ) (rest : List (List ℕ)) → join_with_byte 10 parts ≡ bytes ++ 10 ∷ join_with_byte 10 rest
     → f bytes rest ≡ over d → P) → P
-next_some at e d [] f says on = not_over e d (read.Short at) says
-next_some at e d (rest ∷ []) f says on = not_over e d (read.Short (at + length rest)) says
-next_some at e d (bytes ∷ next ∷ more) f says on = on bytes (next ∷ more) refl says
+next_some at e d parts f h1 h2 = grind (arith, nat_tests, ints)
 
 -- the third line, and a design that goes on from there
 record FromBlock (label text : List ℕ) (d : DesignValue) : Type 0 where

@@ -1,15 +1,16 @@
 -- Floats are never refused.
-use Rattle.std.proofs.Common.{◌≡◌, ℕ, ◌+◌, Bool, true, false, List, [], ◌∷◌, Option, None, Some, Err, nat_lt, refl}
+use Rattle.std.proofs.lemmas.Bool.Decides.{nat_tests}
+use Rattle.std.proofs.lemmas.Int.{ints}
+use Rattle.std.proofs.Common.{◌≡◌, ℕ, ◌+◌, Bool, true, false, List, [], ◌∷◌, Option, None, Some, Err, nat_lt, refl, arith}
 use Rattle.design_model.specs.declared.act.Act.{Act}
 use Rattle.design_model.specs.declared.act.Act.TheVariants as act
 use Rattle.design_model.specs.declared.act.NumberedAct.{NumberedAct}
 use Rattle.design_model.specs.declared.design.TheConstants.{MAX_COMMANDS}
 use Rattle.design_model.specs.Acts.{acts_of}
-use Rattle.design_model.specs.Points.{move_between, move_size}
 use Rattle.format_traits.specs.declared.fault.WriteFault.{WriteFault}
 use Rattle.format_traits.specs.declared.fault.WriteFault.TheVariants as fault
 use Rattle.format_traits.specs.declared.encoder_state.EncoderState.{EncoderState}
-use Rattle.format_traits.specs.Refusals.{initial_encoder_state, first_refusal, refusal_of_needle, or_else, refusal_before_room, is_above_max, refusal_of_act, first_refusal_from, refusal_if, encoder_state_after, unless_refused}
+use Rattle.format_traits.specs.Refusals.{initial_encoder_state, first_refusal, or_else, refusal_before_room, refusal_of_act, first_refusal_from, refusal_if, encoder_state_after, unless_refused}
 use Rattle.stitch_text.specs.declared.stitch_list.TheConstants.{LIMIT}
 use Rattle.stitch_text.specs.Laws.{NoFloatIsTooLong}
 use Rattle.stitch_text.specs.StitchLists.{list_of, list_write_limits}
@@ -20,21 +21,13 @@ is_other (Some (fault.FloatTooLong number)) = false
 is_other refusal = true
 
 either_other : (one other : Option WriteFault) → is_other one ≡ true → is_other other ≡ true → is_other (or_else one other) ≡ true
-either_other None other first second = second
-either_other (Some f) other first second = first
+either_other one other h1 h2 = grind (arith, nat_tests, ints)
 
 where_other : (b : Bool) (f : WriteFault) → is_other (Some f) ≡ true → is_other (refusal_if b f) ≡ true
-where_other true f is = is
-where_other false f is = refl
+where_other b f h1 = grind (arith, nat_tests, ints)
 
 own_other : (s : EncoderState) (a : Act) (number : ℕ) → is_other (refusal_before_room list_write_limits s a number) ≡ true
-own_other s (act.Needle p float) number = by_kind s.loose float where
-  by_kind : (loose float : Bool) → is_other (refusal_of_needle list_write_limits loose float (move_between s.place p) number) ≡ true
-  by_kind true float = refl
-  by_kind false true = refl
-  by_kind false false = where_other (nat_lt LIMIT (move_size (move_between s.place p))) (fault.StitchTooLong number) refl
-own_other s act.Trim number = refl
-own_other s act.Stop number = where_other (is_above_max list_write_limits.stops (s.stops + 1)) (fault.TooManyStops number) refl
+own_other s a number = grind (arith, nat_tests, ints)
 
 -- none of any acts is
 all_other : (acts : List NumberedAct) (s : EncoderState) → is_other (first_refusal_from list_write_limits s acts) ≡ true

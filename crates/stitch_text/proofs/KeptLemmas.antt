@@ -1,15 +1,16 @@
 -- The label and the threads of a design are read back.
-use Rattle.std.proofs.Common.{◌≡◌, ℕ, zero, suc, ◌+◌, ◌<◌, ◌≤◌, ◌%◌, true, List, [], ◌∷◌, ◌++◌, Option, None, Some, Result, Ok, All, IsOkAnd, slice_get, unwrap_or, refl, ap, sym, ◌∙◌, subst, arith}
+use Rattle.std.proofs.lemmas.Bool.Decides.{nat_tests}
+use Rattle.std.proofs.lemmas.Int.{ints}
+use Rattle.std.proofs.Common.{◌≡◌, ℕ, zero, suc, ◌+◌, ◌<◌, ◌≤◌, ◌%◌, true, List, [], ◌∷◌, ◌++◌, None, Some, Ok, All, IsOkAnd, slice_get, unwrap_or, refl, ap, sym, ◌∙◌, subst, arith}
 use Rattle.std.proofs.lemmas.List.Elements.{All-head, All-tail}
 use Rattle.design_model.specs.declared.act.Act.{Act}
 use Rattle.design_model.specs.declared.act.Act.TheVariants as act
 use Rattle.design_model.specs.declared.act.NumberedAct.{NumberedAct}
 use Rattle.design_model.specs.Acts.{acts_of}
 use Rattle.design_model.specs.Designs.{DesignValue, thread_of}
-use Rattle.format_traits.specs.declared.fault.WriteFault.{WriteFault}
 use Rattle.format_traits.specs.declared.loaded.Loaded.{Loaded}
 use Rattle.format_traits.specs.Accepted.{AcceptedIsWithinLimits}
-use Rattle.format_traits.specs.Refusals.{first_refusal, stops_in, stops_of, unless_refused}
+use Rattle.format_traits.specs.Refusals.{first_refusal, stops_in, stops_of}
 use Rattle.stitch_text.specs.Laws.{HasLabelAndThreads, LabelAndThreadsRoundTrip}
 use Rattle.stitch_text.specs.Readings.{loaded_of_parsed, list_reads}
 use Rattle.stitch_text.specs.StitchLists.{list_of, list_write_limits, list_writes}
@@ -60,17 +61,7 @@ record IsWritten (d : DesignValue) (text : List ℕ) : Type 0 where
   is : list_of d ≡ text
 
 is_written : (d : DesignValue) (text : List ℕ) → list_writes d ≡ Ok text → IsWritten d text
-is_written d text written = by_refusal (first_refusal list_write_limits (acts_of d)) refl written where
-  ok : List ℕ → Result (List ℕ) WriteFault
-  ok bytes = Ok bytes
-
-  same_bytes : (one other : List ℕ) → ok one ≡ ok other → one ≡ other
-  same_bytes one other same = cc
-
-  by_refusal : (r : Option WriteFault) → first_refusal list_write_limits (acts_of d) ≡ r → unless_refused r (list_of d) ≡ ok text
-      → IsWritten d text
-  by_refusal None is says = record { none = is; is = same_bytes (list_of d) text says }
-  by_refusal (Some f) is says = absurd (let no : ⊥ = cc in no)
+is_written d text h1 = grind (arith, nat_tests, ints)
 
 -- label and threads are kept
 pub keeps_label_and_threads : AcceptedIsWithinLimits → LabelAndThreadsRoundTrip

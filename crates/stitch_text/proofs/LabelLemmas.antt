@@ -1,5 +1,6 @@
 -- Labels, and the lines that have them.
-use Rattle.std.proofs.Common.{◌≡◌, ◌≢◌, ℕ, ◌+◌, ◌-◌, ◌<◌, ◌&&◌, Bool, true, false, not, nat_le, List, [], ◌∷◌, ◌++◌, Option, None, Some, bytes_eq, length, length-append, get_or, slice_get, take, if◌then◌else◌, Bor, IfSome, MatchOption, subst, ap, sym, refl, ◌∙◌, arith}
+use Rattle.std.proofs.lemmas.Int.{ints}
+use Rattle.std.proofs.Common.{◌≡◌, ◌≢◌, ℕ, ◌+◌, ◌-◌, ◌<◌, ◌&&◌, Bool, true, false, not, nat_le, List, [], ◌∷◌, ◌++◌, Option, None, Some, length, length-append, get_or, slice_get, take, if◌then◌else◌, Bor, IfSome, MatchOption, ap, sym, refl, ◌∙◌, arith}
 use Rattle.std.proofs.lemmas.Bool.{and_from, and_parts, not-true}
 use Rattle.std.proofs.lemmas.Bool.Decides.{nat_tests}
 use Rattle.std.proofs.lemmas.List.Sums.{AllPass-from_list_all, list_all-from_AllPass}
@@ -23,29 +24,12 @@ between label =
 -- the line of a label is judged by the label
 pub said_by_label : (line label : List ℕ) → line ≡ label_line label
     → parsed_label line ≡ (if is_valid_label label then Some label else None)
-said_by_label line label is =
-    let same : in_brackets line ≡ label = ap in_brackets is ∙ between label in
-    let found : bytes_eq line (label_line (in_brackets line)) ≡ true =
-    (bytes_eq-Decides line (label_line (in_brackets line))).1 (is ∙ ap label_line (sym same)) in
-    ap (λ (b : Bool). if b && is_valid_label (in_brackets line) then Some (in_brackets line) else None) found
-    ∙ ap (λ one. if is_valid_label one then Some one else None) same
+said_by_label line label is = grind (arith, nat_tests, between, bytes_eq-Decides)
 
 -- the same, where the label is one and where it isn't
 pub label_yes : (line label : List ℕ) → line ≡ label_line label → is_valid_label label ≡ true → parsed_label line ≡ Some label
 label_yes line label is good =
     said_by_label line label is ∙ ap (λ (b : Bool). if b then Some label else None) good
-
-pub label_no : (line label : List ℕ) → line ≡ label_line label → is_valid_label label ≡ false → parsed_label line ≡ None
-label_no line label is bad =
-    said_by_label line label is ∙ ap (λ (b : Bool). if b then Some label else None) bad
-
--- another line has none
-pub no_label : (line : List ℕ) → ((label : List ℕ) → line ≡ label_line label → ⊥) → parsed_label line ≡ None
-no_label line other = by_test (bytes_eq line (label_line (in_brackets line))) refl where
-  by_test : (b : Bool) → bytes_eq line (label_line (in_brackets line)) ≡ b
-      → (if b && is_valid_label (in_brackets line) then Some (in_brackets line) else None) ≡ None
-  by_test true is = absurd (other (in_brackets line) ((bytes_eq-Decides line (label_line (in_brackets line))).0 is))
-  by_test false is = refl
 
 -- the byte at the end
 last_space : (label : List ℕ) → slice_get label (length label - 1) ≡ Some 32 → has_trailing_space label ≡ true
@@ -53,13 +37,10 @@ last_space label is =
     let last = get_or_from_slice_get label (length label - 1) 32 0 is in grind (arith, nat_tests, last)
 
 printable_from : (b : ℕ) → is_printable b ≡ true → IsPrintable b
-printable_from b is =
-    let both = and_parts (nat_le 32 b) (nat_le b 126) is in
-    record { from_space = grind (arith, nat_tests, both.0); to_tilde = grind (arith, nat_tests, both.1) }
+printable_from b h1 = grind (arith, nat_tests, ints)
 
 printable_to : (b : ℕ) → IsPrintable b → is_printable b ≡ true
-printable_to b is =
-    and_from (nat_le 32 b) (nat_le b 126) (grind (arith, nat_tests, is.from_space)) (grind (arith, nat_tests, is.to_tilde))
+printable_to b h1 = grind (arith, nat_tests, ints)
 
 -- the meaning of the test of a label
 pub label_from : (label : List ℕ) → is_valid_label label ≡ true → IsLabel label
@@ -96,8 +77,7 @@ label_to label is =
 pub before_last : (bytes : List ℕ) (r : Option (Bor (List ℕ)))
     → MatchOption r ((front : List ℕ) → bytes ≢ front ++ 93 ∷ []) (λ x. bytes ≡ x.now ++ 93 ∷ [])
     → IfSome r (λ label. bytes ≡ label.now ++ 93 ∷ [])
-before_last bytes None says = tt
-before_last bytes (Some x) says = says
+before_last bytes r h1 = grind (arith, nat_tests, ints)
 
 -- the meaning of the label of a line
 pub record HasLabel (line label : List ℕ) : Type 0 where
@@ -105,16 +85,4 @@ pub record HasLabel (line label : List ℕ) : Type 0 where
   pub good : is_valid_label label ≡ true
 
 pub label_is : (line label : List ℕ) → parsed_label line ≡ Some label → HasLabel line label
-label_is line label says =
-    by_tests (bytes_eq line (label_line (in_brackets line))) (is_valid_label (in_brackets line)) refl refl says where
-      none_label : None ≡ Some label → ⊥
-      none_label same = cc
-
-      by_tests : (same good : Bool) → bytes_eq line (label_line (in_brackets line)) ≡ same → is_valid_label (in_brackets line) ≡ good
-          → (if same && good then Some (in_brackets line) else None) ≡ Some label → HasLabel line label
-      by_tests false good is fine says = absurd (none_label says)
-      by_tests true false is fine says = absurd (none_label says)
-      by_tests true true is fine says = subst (λ label. HasLabel line label) (same_Some (in_brackets line) label says) (record {
-        is = (bytes_eq-Decides line (label_line (in_brackets line))).0 is;
-        good = fine;
-      })
+label_is line label says = grind (arith, nat_tests, same_Some, bytes_eq-Decides)

@@ -1,4 +1,5 @@
 -- Lines as texts: the parsed line of a text, and the canonical text of a line.
+use Rattle.std.proofs.lemmas.Int.{ints}
 use Rattle.std.proofs.Common.{◌≡◌, ℕ, ℤ, pos, negsuc, ◌<◌, ◌≤◌, ◌==◌, Bool, true, false, nat_le, nat_lt, unsigned_abs, List, [], ◌∷◌, ◌++◌, None, Some, All, IsTrue, bytes_eq, codes, length, length-append, if◌then◌else◌, subst, ap, sym, refl, ◌∙◌, arith}
 use Rattle.std.proofs.lemmas.Bool.{and_from, and_parts, not-true}
 use Rattle.std.proofs.lemmas.Bool.Decides.{nat_tests}
@@ -48,8 +49,7 @@ kept_apart word rest inner kept = list_all-append is_kept word (32 ∷ rest)
 
 -- a line that isn't long is read by its words
 short_said : (bytes : List ℕ) → length bytes ≤ 32 → parsed_list_line bytes ≡ parsed_list_words (words_in bytes)
-short_said bytes short =
-    let test : nat_lt MAX_LINE (length bytes) ≡ false = grind (arith, nat_tests, short) in rw test refl
+short_said bytes h1 = grind (arith, nat_tests, ints)
 
 -- the text of a line is parsed as the line, and has no end of a line in it
 pub record IsLine (bytes : List ℕ) (l : ListLine) : Type 0 where
@@ -104,9 +104,7 @@ has_point word p inner few within =
 -- a needle act
 said_point : (float : Bool) (p : Point) → IsNear p.x → IsNear p.y
     → parsed_needle float (canonical_number_of (signed_decimal p.x)) (canonical_number_of (signed_decimal p.y)) ≡ Some (line.Needle p float)
-said_point float p x y =
-    ap (λ one. parsed_needle float one (canonical_number_of (signed_decimal p.y))) x.read
-    ∙ ap (parsed_needle float (whole.Value p.x)) y.read
+said_point float p h1 h2 = grind (arith, nat_tests, ints)
 
 pub needle_is : (float : Bool) (p : Point) → IsTrue (is_point_within NEEDLE_LIMIT p) → IsLine (needle_line float p) (line.Needle p float)
 needle_is true p within =

@@ -1,10 +1,9 @@
 -- Numbers as words: the number of a word, and the canonical word of a number.
-use Rattle.std.proofs.Common.{◌≡◌, ℕ, ℤ, pos, negsuc, zero, suc, ◌<◌, ◌≤◌, ◌^◌, ◌==◌, ◌&&◌, ◌||◌, Bool, true, false, not, nat_le, unsigned_abs, List, [], ◌∷◌, length, get_or, if◌then◌else◌, int_le, true≢false, subst, ap, sym, refl, ◌∙◌, inl, inr, arith}
-use lib.Dec.{leb-zero}
-use Rattle.std.proofs.lemmas.Bool.{and_parts, cases_order, not-true}
+use Rattle.std.proofs.lemmas.Int.{ints}
+use Rattle.std.proofs.Common.{◌≡◌, ℕ, ℤ, pos, negsuc, zero, suc, ◌<◌, ◌≤◌, ◌^◌, ◌==◌, ◌&&◌, ◌||◌, Bool, true, false, not, unsigned_abs, List, [], ◌∷◌, length, get_or, if◌then◌else◌, int_le, true≢false, subst, ap, sym, refl, ◌∙◌, inl, inr, arith}
+use Rattle.std.proofs.lemmas.Bool.{cases_order, not-true}
 use Rattle.std.proofs.lemmas.Bool.Decides.{nat_tests}
 use Rattle.std.proofs.lemmas.Fmt.{decimal-digits_value, decimal_digit, digits_decimal, first_decimal}
-use Rattle.std.specs.Char.{is_ascii_digit}
 use Rattle.std.specs.Fmt.{decimal, signed_decimal}
 use Rattle.std.specs.List.{list_all}
 use Rattle.std.specs.Str.{all_ascii_digits}
@@ -22,28 +21,18 @@ signed_inner (negsuc n) small = digits_inner (decimal (suc n)) (digits_decimal d
 
 -- a number below zero is a minus sign and the digits of its size
 pub minus_first : (z : ℤ) → int_le (pos 0) z ≡ false → 45 ∷ decimal (unsigned_abs z) ≡ signed_decimal z
-minus_first (pos n) here = absurd (true≢false (sym (leb-zero n) ∙ here))
-minus_first (negsuc n) here = refl
+minus_first z h1 = grind (arith, nat_tests, ints)
 
 -- digits begin with no minus sign
 no_minus : (ds : List ℕ) → all_ascii_digits ds ≡ true → 0 < length ds → parsed_whole ds ≡ parsed_digits false ds
-no_minus [] digits some = absurd (omega arith)
-no_minus (b ∷ ds) digits some =
-    let both = and_parts (is_ascii_digit b) (all_ascii_digits ds) digits in
-    let test : (b == 45) ≡ false = grind (arith, nat_tests, both.0) in
-    rw test refl
+no_minus ds h1 h2 = grind (arith, nat_tests, ints)
 
 -- digits that begin above zero
 above_zero : (ds : List ℕ) → 48 < get_or ds 0 0 → has_leading_zero ds ≡ false
-above_zero [] more = refl
-above_zero (b ∷ ds) more = grind (arith, nat_tests, more)
+above_zero ds h1 = grind (arith, nat_tests, ints)
 
 plain_above_zero : (ds : List ℕ) → 48 < get_or ds 0 0 → is_canonical_number ds ≡ true
-plain_above_zero [] more = absurd (omega (arith, more))
-plain_above_zero (b ∷ ds) more =
-    let minus : (b == 45) ≡ false = grind (arith, nat_tests, more) in
-    let lead : (b == 48) ≡ false = grind (arith, nat_tests, more) in
-    rw (minus, lead) refl
+plain_above_zero ds h1 = grind (arith, nat_tests, ints)
 
 -- the canonical text of a number has no leading zero
 signed_plain : (z : ℤ) → unsigned_abs z ≤ 999999999 → is_canonical_number (signed_decimal z) ≡ true
@@ -69,9 +58,6 @@ pub record Spells (word : List ℕ) (z : ℤ) : Type 0 where
 no_value : (z : ℤ) → whole.NotANumber ≡ whole.Value z → ⊥
 no_value z is = cc
 
-outside_value : (z : ℤ) → whole.Outside ≡ whole.Value z → ⊥
-outside_value z is = cc
-
 same_value : (y z : ℤ) → whole.Value y ≡ whole.Value z → y ≡ z
 same_value y z is = cc
 
@@ -82,15 +68,7 @@ record AreRead (minus : Bool) (ds : List ℕ) (z : ℤ) : Type 0 where
   value : signed_number minus (digits_value 10 ds) ≡ z
 
 digits_are : (minus : Bool) (ds : List ℕ) (z : ℤ) → parsed_digits minus ds ≡ whole.Value z → AreRead minus ds z
-digits_are minus ds z says = by_tests (is_digit_string ds) (nat_le (digits_value 10 ds) 999999999) refl refl where
-  by_tests : (numeral small : Bool) → is_digit_string ds ≡ numeral → nat_le (digits_value 10 ds) 999999999 ≡ small → AreRead minus ds z
-  by_tests false small is fits = absurd (no_value z (rw is at says))
-  by_tests true false is fits = absurd (outside_value z (rw (is, fits) at says))
-  by_tests true true is fits = record {
-    numeral = is;
-    small = grind (arith, nat_tests, fits);
-    value = same_value (signed_number minus (digits_value 10 ds)) z (rw (is, fits) at says);
-  }
+digits_are minus ds z h1 = grind (arith, nat_tests, ints)
 
 -- digits without a leading zero are the canonical text of their number
 digits_spelled : (ds : List ℕ) → is_digit_string ds ≡ true → (get_or ds 0 0 ≡ 48 → length ds ≡ 1) → digits_value 10 ds ≤ 999999999

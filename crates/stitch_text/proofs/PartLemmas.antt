@@ -1,5 +1,7 @@
 -- The parts of bytes between marks, taken one after another.
-use Rattle.std.proofs.Common.{◌≡◌, ◌≢◌, ℕ, ◌==◌, Bool, true, false, cond, List, [], ◌∷◌, ◌++◌, ap, sym, refl, ◌∙◌}
+use Rattle.std.proofs.lemmas.Bool.Decides.{nat_tests}
+use Rattle.std.proofs.lemmas.Int.{ints}
+use Rattle.std.proofs.Common.{◌≡◌, ◌≢◌, ℕ, ◌==◌, Bool, cond, List, [], ◌∷◌, ◌++◌, ap, ◌∙◌, arith}
 use Rattle.std.specs.List.{onto_first}
 use Rattle.text_parts.specs.Parts.{parts_between}
 use Rattle.text_parts.proofs.CallerLemmas.{some_part}
@@ -18,33 +20,18 @@ onto_last (part ∷ next ∷ parts) behind = part ∷ onto_last (next ∷ parts)
 before_parts : (b : ℕ) (mark : Bool) (parts behind : List (List ℕ)) → parts ≢ [] → behind ≢ []
     → onto_last (cond mark ([] ∷ parts) (onto_first b parts)) behind
     ≡ cond mark ([] ∷ onto_last parts behind) (onto_first b (onto_last parts behind))
-before_parts b mark [] behind some more = absurd (some refl)
-before_parts b mark parts [] some more = absurd (more refl)
-before_parts b true (part ∷ parts) (next ∷ behind) some more = refl
-before_parts b false (part ∷ []) (next ∷ behind) some more = refl
-before_parts b false (part ∷ other ∷ parts) (next ∷ behind) some more = refl
+before_parts b mark parts behind h1 h2 = grind (arith, nat_tests, ints)
 
 -- the parts of bytes one after another
 parts_on : (mark : ℕ) (bytes more : List ℕ) → parts_between mark (bytes ++ more)
     ≡ onto_last (parts_between mark bytes) (parts_between mark more)
-parts_on mark [] more = behind_none (parts_between mark more) (some_part mark more) where
-  behind_none : (parts : List (List ℕ)) → parts ≢ [] → parts ≡ onto_part [] parts
-  behind_none [] some = absurd (some refl)
-  behind_none (part ∷ parts) some = refl
-parts_on mark (b ∷ bytes) more =
-    ap (λ parts. cond (b == mark) ([] ∷ parts) (onto_first b parts)) (parts_on mark bytes more)
-    ∙ sym (before_parts b (b == mark) (parts_between mark bytes) (parts_between mark more) (some_part mark bytes) (some_part mark more))
+parts_on mark [] more = grind (arith, nat_tests, some_part)
+parts_on mark (b ∷ bytes) more = grind (arith, nat_tests, before_parts, some_part, (parts_on mark bytes more))
 
 -- a part that has ended stays, whatever bytes follow
 pub ended_part : (mark : ℕ) (bytes line after more : List ℕ) → parts_between mark bytes ≡ line ∷ parts_between mark after
     → parts_between mark (bytes ++ more) ≡ line ∷ parts_between mark (after ++ more)
-ended_part mark bytes line after more are =
-    parts_on mark bytes more ∙ ap (λ parts. onto_last parts (parts_between mark more)) are
-    ∙ behind (parts_between mark after) (some_part mark after) ∙ ap (λ parts. line ∷ parts) (sym (parts_on mark after more)) where
-      behind : (parts : List (List ℕ)) → parts ≢ []
-          → onto_last (line ∷ parts) (parts_between mark more) ≡ line ∷ onto_last parts (parts_between mark more)
-      behind [] some = absurd (some refl)
-      behind (part ∷ parts) some = refl
+ended_part mark bytes line after more are = grind (arith, nat_tests, parts_on, some_part)
 
 -- a part that hasn't ended goes on
 pub open_part : (mark : ℕ) (part more : List ℕ) → parts_between mark part ≡ part ∷ []

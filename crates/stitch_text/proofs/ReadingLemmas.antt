@@ -1,5 +1,7 @@
 -- The lines of a text, judged one after another.
-use Rattle.std.proofs.Common.{◌≡◌, ◌≢◌, ℕ, ◌+◌, List, [], ◌∷◌, Option, Bool, false, Result, bytes_eq, codes, length, if◌then◌else◌, ap, sym, refl, ◌∙◌}
+use Rattle.std.proofs.lemmas.Bool.Decides.{nat_tests}
+use Rattle.std.proofs.lemmas.Int.{ints}
+use Rattle.std.proofs.Common.{◌≡◌, ◌≢◌, ℕ, ◌+◌, List, [], ◌∷◌, Option, Bool, false, Result, bytes_eq, codes, length, if◌then◌else◌, ap, sym, ◌∙◌, arith}
 use Rattle.design_model.specs.Designs.{DesignValue}
 use Rattle.format_traits.specs.declared.fault.ReadFault.{ReadFault}
 use Rattle.stitch_text.specs.declared.list_draft.ListDraft.{ListDraft}
@@ -14,8 +16,7 @@ use Rattle.text_parts.proofs.CallerLemmas.{some_part}
 -- a line that has an end
 next_of_more : (at : ℕ) (d : DesignValue) (line : List ℕ) (rest : List (List ℕ)) (f : List ℕ → List (List ℕ) → ParsedList)
     → rest ≢ [] → with_next_line at d (line ∷ rest) f ≡ f line rest
-next_of_more at d line [] f some = absurd (some refl)
-next_of_more at d line (next ∷ rest) f some = refl
+next_of_more at d line rest f h1 = grind (arith, nat_tests, ints)
 
 pub next_is : (at : ℕ) (d : DesignValue) (text line after : List ℕ) (f : List ℕ → List (List ℕ) → ParsedList)
     → parts_between 10 text ≡ line ∷ parts_between 10 after
@@ -28,8 +29,7 @@ acts_of_more : (at : ℕ) (draft : ListDraft) (line : List ℕ) (rest : List (Li
     → parsed_acts at draft (line ∷ rest)
     ≡ parsed_end_or_line at draft (parsed_list_line line) (ended_list (at + length line + 1) draft.design rest)
     (λ new. parsed_acts (at + length line + 1) new rest)
-acts_of_more at draft line [] some = absurd (some refl)
-acts_of_more at draft line (next ∷ rest) some = refl
+acts_of_more at draft line rest h1 = grind (arith, nat_tests, ints)
 
 pub acts_are : (at : ℕ) (draft : ListDraft) (text line after : List ℕ) → parts_between 10 text ≡ line ∷ parts_between 10 after
     → parsed_acts at draft (parts_between 10 text)
@@ -40,8 +40,7 @@ acts_are at draft text line after are =
 
 -- four words and more are no line
 four_words : (word x y : List ℕ) (words : List (List ℕ)) → words ≢ [] → parsed_list_words (word ∷ x ∷ y ∷ words) ≡ parsed_list_words []
-four_words word x y [] some = absurd (some refl)
-four_words word x y (next ∷ words) some = refl
+four_words word x y words h1 = grind (arith, nat_tests, ints)
 
 pub many_words : (word x behind y rest : List ℕ) → words_in behind ≡ y ∷ words_in rest
     → parsed_list_words (word ∷ x ∷ words_in behind) ≡ parsed_list_words []
@@ -51,9 +50,7 @@ many_words word x behind y rest are =
 -- another word before two or more is no line
 pub other_word : (word x : List ℕ) (words : List (List ℕ)) → words ≢ [] → bytes_eq word (codes "needle") ≡ false
     → bytes_eq word (codes "float") ≡ false → parsed_list_words (word ∷ x ∷ words) ≡ parsed_list_words []
-other_word word x [] some sewn float = absurd (some refl)
-other_word word x (y ∷ []) some sewn float = rw (sewn, float) refl
-other_word word x (y ∷ next ∷ words) some sewn float = refl
+other_word word x words h1 h2 h3 = grind (arith, nat_tests, ints)
 
 -- a line that is judged
 pub acts_judged : (at : ℕ) (draft : ListDraft) (text line after : List ℕ) (parsed : Option ListLine)
@@ -75,22 +72,16 @@ pub block_is : (at : ℕ) (d : DesignValue) (text line after : List ℕ) (thread
     → parts_between 10 text ≡ line ∷ parts_between 10 after
     → thread ≡ parsed_thread (parsed_list_line line)
     → parsed_from_block at d (parts_between 10 text) ≡ after_block_line at d line thread (parts_between 10 after)
-block_is at d text line after thread are is =
-    next_is at d text line after (λ bytes rest. after_block_line at d bytes (parsed_thread (parsed_list_line bytes)) rest) are
-    ∙ ap (λ one. after_block_line at d line one (parts_between 10 after)) (sym is)
+block_is at d text line after thread are is = grind (arith, nat_tests, next_is)
 
 -- the label
 pub label_is : (at : ℕ) (d : DesignValue) (text line after : List ℕ) (label : Option (List ℕ))
     → parts_between 10 text ≡ line ∷ parts_between 10 after
     → parsed_label line ≡ label → parsed_from_label at d (parts_between 10 text) ≡ after_label_line at d line label (parts_between 10 after)
-label_is at d text line after label are is =
-    next_is at d text line after (λ bytes rest. after_label_line at d bytes (parsed_label bytes) rest) are
-    ∙ ap (λ one. after_label_line at d line one (parts_between 10 after)) is
+label_is at d text line after label are is = grind (arith, nat_tests, next_is)
 
 -- the first line
 pub first_is : (at : ℕ) (d : DesignValue) (text line after : List ℕ) (first : Bool) → parts_between 10 text ≡ line ∷ parts_between 10 after
     → bytes_eq line signature_line ≡ first → parsed_from_signature at d (parts_between 10 text)
     ≡ after_signature_line at d first line (parts_between 10 after)
-first_is at d text line after first are is =
-    next_is at d text line after (λ bytes rest. after_signature_line at d (bytes_eq bytes signature_line) bytes rest) are
-    ∙ ap (λ one. after_signature_line at d one line (parts_between 10 after)) is
+first_is at d text line after first are is = grind (arith, nat_tests, next_is)

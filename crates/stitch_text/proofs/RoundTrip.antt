@@ -1,4 +1,5 @@
 -- What is written reads back.
+use Rattle.std.proofs.lemmas.Int.{ints}
 use Rattle.std.proofs.Common.{◌≡◌, ℕ, ◌+◌, ◌<◌, ◌≤◌, ◌%◌, ◌==◌, Bool, true, false, not, ◌&&◌, IsTrue, IsOkAnd, List, [], ◌∷◌, ◌++◌, Some, None, Result, Ok, Err, length, nat_le, if◌then◌else◌, refl, ap, sym, ◌∙◌, subst, append-nil, append_assoc, arith}
 use Rattle.std.proofs.lemmas.Bool.{and_from, and_parts}
 use Rattle.std.proofs.lemmas.Bool.Decides.{nat_tests}
@@ -78,8 +79,7 @@ said_all label threads commands = record {
 
 same_said : (label threads threads' : List ℕ) (commands commands' : List Command) → threads ≡ threads' → commands ≡ commands'
     → said_all label threads commands ≡ said_all label threads' commands'
-same_said label threads threads' commands commands' first second =
-    ap (λ (t : List ℕ). said_all label t commands) first ∙ ap (λ (c : List Command). said_all label threads' c) second
+same_said label threads threads' commands commands' h1 h2 = grind (arith, nat_tests, ints)
 
 -- a draft with one act more, by its threads
 abbrev taken_with : ListDraft → Act → List ℕ → Result ListDraft ReadFault
@@ -107,9 +107,7 @@ act_is thread stops act.Trim within = trim_is
 act_is thread stops act.Stop within = block_is (thread (stops + 1) % 256) (byte_below (thread (stops + 1)))
 
 not_last : (thread : ℕ → ℕ) (stops : ℕ) (a : Act) → is_end_line (Some (said_by thread stops a)) ≡ false
-not_last thread stops (act.Needle p float) = refl
-not_last thread stops act.Trim = refl
-not_last thread stops act.Stop = refl
+not_last thread stops a = grind (arith, nat_tests, ints)
 
 -- and is taken
 act_judged : (thread : ℕ → ℕ) (at : ℕ) (draft : ListDraft) (a : Act) → IsTrue (is_act_in_range a)

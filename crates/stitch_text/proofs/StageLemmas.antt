@@ -1,15 +1,16 @@
 -- The parsed list from a stage on, where the first line is incomplete.
-use Rattle.std.proofs.Common.{◌≡◌, ◌≢◌, ℕ, ◌+◌, ◌<◌, ◌≤◌, Bool, true, false, List, [], ◌∷◌, ◌++◌, Option, None, Some, bytes_eq, length, length-append, if◌then◌else◌, refl, ap, arith}
+use Rattle.std.proofs.lemmas.Bool.Decides.{nat_tests}
+use Rattle.std.proofs.lemmas.Int.{ints}
+use Rattle.std.proofs.Common.{◌≡◌, ◌≢◌, ℕ, ◌+◌, ◌<◌, ◌≤◌, Bool, false, List, [], ◌∷◌, ◌++◌, Option, None, Some, bytes_eq, length, length-append, if◌then◌else◌, refl, ap, arith}
 use Rattle.std.proofs.lemmas.Bool.{lt-ltb}
 use Rattle.std.proofs.lemmas.Slice.Eq.{bytes_eq-Decides}
-use Rattle.design_model.specs.Designs.{DesignValue}
 use Rattle.format_traits.specs.declared.fault.ReadFault.TheVariants as read
 use Rattle.stitch_text.specs.declared.list_draft.ListDraft.{ListDraft}
 use Rattle.stitch_text.specs.declared.list_stage.ListStage.{ListStage}
 use Rattle.stitch_text.specs.declared.list_stage.ListStage.TheVariants as stage
 use Rattle.stitch_text.specs.ListLines.{parsed_label, parsed_list_line, parsed_list_words}
 use Rattle.stitch_text.specs.ListStages.{stage_after_long_line, fault_at_end, max_waiting_in, parsed_parts}
-use Rattle.stitch_text.specs.Readings.{parsed_acts, after_block_line, after_label_line, after_signature_line, ended_list, parsed_end_or_line, refused_list, parsed_thread}
+use Rattle.stitch_text.specs.Readings.{ended_list, refused_list}
 use Rattle.stitch_text.specs.StitchLists.{signature_line}
 use Rattle.text_parts.specs.Parts.{words_in}
 use Rattle.stitch_text.proofs.LabelLemmas.{label_from, label_is}
@@ -17,10 +18,7 @@ use Rattle.stitch_text.proofs.PartLemmas.{onto_part}
 
 -- no first line is so long, no line of a label, and no other line
 long_first : (line : List ℕ) → 32 < length line → bytes_eq line signature_line ≡ false
-long_first line long = by_test (bytes_eq line signature_line) refl where
-  by_test : (b : Bool) → bytes_eq line signature_line ≡ b → bytes_eq line signature_line ≡ false
-  by_test true is = absurd (let same = ap length ((bytes_eq-Decides line signature_line).0 is) in omega (arith, same, long))
-  by_test false is = is
+long_first line long = grind (arith, nat_tests, bytes_eq-Decides)
 
 long_label : (line : List ℕ) → 32 < length line → parsed_label line ≡ None
 long_label line long = by_label_said (parsed_label line) refl where
@@ -64,43 +62,10 @@ goes_beyond draft s at part (end ∷ []) long some = by_stage s long where
   by_stage (stage.Long f) long = short
   by_stage stage.Ended long = behind_end part long
   by_stage (stage.Refused f) long = refl
-goes_beyond draft s at part (end ∷ next ∷ more) long some = by_stage s long where
-  d : DesignValue
-  d = draft.design
-
-  line : List ℕ
-  line = part ++ end
-
-  longer : 32 < length part → 32 < length line
-  longer long = omega (arith, long, length-append part end)
-
-  rest : List (List ℕ)
-  rest = next ∷ more
-
-  behind_end : (bytes : List ℕ) → 0 < length bytes → ended_list at d ((bytes ++ end) ∷ next ∷ more) ≡ refused_list d (read.Control at)
-  behind_end [] some = absurd (omega (arith, some))
-  behind_end (b ∷ bytes) some = refl
-
-  by_stage : (s : ListStage) → max_waiting_in s < length part
-      → parsed_parts draft s at ((part ++ end) ∷ next ∷ more)
-      ≡ parsed_parts draft (stage_after_long_line at s) (at + length part) (end ∷ next ∷ more)
-  by_stage stage.First long = ap (λ (b : Bool). after_signature_line at d b line rest) (long_first line (longer long))
-  by_stage stage.Label long = ap (λ o. after_label_line at d line o rest) (long_label line (longer long))
-  by_stage stage.Block long = ap (λ o. after_block_line at d line (parsed_thread o) rest) (long_line line (longer long))
-  by_stage stage.Acts long = ap (λ o. parsed_end_or_line at draft o (ended_list (at + length line + 1) d rest)
-      (λ new. parsed_acts (at + length line + 1) new rest)) (long_line line (longer long))
-  by_stage (stage.Long f) long = refl
-  by_stage stage.Ended long = behind_end part long
-  by_stage (stage.Refused f) long = refl
+goes_beyond draft s at part (end ∷ next ∷ more) long some =
+    grind (arith, nat_tests, draft.design, length-append, long_first, long_label, long_line)
 
 -- the parsed list of a text that ends in a line
 pub ends_here : (draft : ListDraft) (stage : ListStage) (at : ℕ) (part : List ℕ) → length part ≤ max_waiting_in stage
     → parsed_parts draft stage at (part ∷ []) ≡ record { design = draft.design; fault = fault_at_end (at + length part) stage }
-ends_here draft stage.First at part few = refl
-ends_here draft stage.Label at part few = refl
-ends_here draft stage.Block at part few = refl
-ends_here draft stage.Acts at part few = refl
-ends_here draft (stage.Long f) at part few = refl
-ends_here draft stage.Ended at [] few = refl
-ends_here draft stage.Ended at (b ∷ part) few = absurd (omega (arith, few))
-ends_here draft (stage.Refused f) at part few = refl
+ends_here draft stage at part h1 = grind (arith, nat_tests, ints)
