@@ -1,10 +1,10 @@
 -- How far needles reach from the origin is how far their extent does.
-use Rattle.std.proofs.Common.{◌≡◌, ◌≤◌, max, ℤ, pos, negsuc, Bool, true, false, List, [], ◌∷◌, map, refl, ◌∙◌, arith, if◌then◌else◌}
+use Rattle.std.proofs.lemmas.Bool.Decides.{nat_tests}
+use Rattle.std.proofs.Common.{◌≡◌, ◌≤◌, max, ℤ, List, [], ◌∷◌, map, refl, ◌∙◌, arith, if◌then◌else◌}
 use Rattle.std.proofs.lemmas.Int.{ints}
 use Rattle.std.proofs.Math.Nat.{zero-max}
 use Rattle.std.specs.Prelude.{◌≤ℤ◌, fold}
 use Rattle.std.specs.List.{cons_option}
-use Rattle.std.specs.Int.RustNames.{int_lt}
 use Rattle.std.specs.Int.{int_max, int_min}
 use Rattle.design_model.specs.declared.act.Act.{Act}
 use Rattle.design_model.specs.declared.act.Act.TheVariants as act
@@ -17,30 +17,16 @@ use Rattle.dst_codec.specs.Header.{size_above_zero, size_below_zero, extents_of,
 use Rattle.dst_codec.specs.Steps.{extents_from_origin}
 
 above_rises : (a b : ℤ) → a ≤ℤ b → size_above_zero a ≤ size_above_zero b
-above_rises (pos a) (pos b) le = omega (arith, ints)
-above_rises (pos a) (negsuc b) le = omega (arith, ints)
-above_rises (negsuc a) (pos b) le = omega arith
-above_rises (negsuc a) (negsuc b) le = omega arith
+above_rises a b h1 = grind (arith, nat_tests, ints)
 
 below_falls : (a b : ℤ) → a ≤ℤ b → size_below_zero b ≤ size_below_zero a
-below_falls (pos a) (pos b) le = omega arith
-below_falls (pos a) (negsuc b) le = omega (arith, ints)
-below_falls (negsuc a) (pos b) le = omega arith
-below_falls (negsuc a) (negsuc b) le = omega (arith, ints)
+below_falls a b h1 = grind (arith, nat_tests, ints)
 
 above_max : (a b : ℤ) → size_above_zero (int_max a b) ≡ max (size_above_zero a) (size_above_zero b)
-above_max a b = by (int_lt b a) refl
-  where
-    by : (t : Bool) → int_lt b a ≡ t → size_above_zero (if t then a else b) ≡ max (size_above_zero a) (size_above_zero b)
-    by true is = let le : b ≤ℤ a = omega (arith, ints) in omega (arith, above_rises b a le)
-    by false is = let le : a ≤ℤ b = omega (arith, ints) in omega (arith, above_rises a b le)
+above_max a b = grind (arith, nat_tests, ints)
 
 below_min : (a b : ℤ) → size_below_zero (int_min a b) ≡ max (size_below_zero a) (size_below_zero b)
-below_min a b = by (int_lt b a) refl
-  where
-    by : (t : Bool) → int_lt b a ≡ t → size_below_zero (if t then b else a) ≡ max (size_below_zero a) (size_below_zero b)
-    by true is = let le : b ≤ℤ a = omega (arith, ints) in omega (arith, below_falls b a le)
-    by false is = let le : a ≤ℤ b = omega (arith, ints) in omega (arith, below_falls a b le)
+below_min a b = grind (arith, nat_tests, ints)
 
 -- the greatest number of a coordinate, begun with another
 above_along : (f : Point → ℤ) (z : ℤ) (acts : List NumberedAct)
@@ -84,15 +70,4 @@ with_act a rest = record {
 -- the extent of the needles reaches as far as they do
 pub reached_extent : (acts : List NumberedAct) → extents_from_origin (extent_of_points (needle_points_of_acts acts)) ≡ extents_of acts
 reached_extent [] = refl
-reached_extent (a ∷ rest) = step a.act (reached_extent rest)
-  where
-    step : (a : Act) → extents_from_origin (extent_of_points (needle_points_of_acts rest)) ≡ extents_of rest
-        → extents_from_origin (extent_of_points (cons_option (act_point a) (needle_points_of_acts rest))) ≡ with_act a rest
-    step (act.Needle p float) is = rw (
-      above_along (λ q. q.x) p.x rest,
-      below_along (λ q. q.x) p.x rest,
-      below_along (λ q. q.y) p.y rest,
-      above_along (λ q. q.y) p.y rest,
-    ) refl
-    step act.Trim is = is ∙ simp zero-max
-    step act.Stop is = is ∙ simp zero-max
+reached_extent (a ∷ rest) = grind (arith, nat_tests, a.act, above_along, below_along, zero-max, (reached_extent rest))

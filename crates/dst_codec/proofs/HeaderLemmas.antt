@@ -1,5 +1,7 @@
 -- The fields of a header take 124 bytes and the header 512, where its numbers fit their places.
-use Rattle.std.proofs.Common.{◌≡◌, ℕ, ◌+◌, ◌-◌, ◌^◌, ◌<◌, ◌≤◌, ℤ, pos, negsuc, neg_ℤ, suc, unsigned_abs, IsTrue, List, [], ◌∷◌, ◌++◌, length, decimal, codes, replicate, refl, ap, arith, length-append, lit<}
+use Rattle.std.proofs.lemmas.Bool.Decides.{nat_tests}
+use Rattle.std.proofs.lemmas.Int.{ints}
+use Rattle.std.proofs.Common.{◌≡◌, ℕ, ◌+◌, ◌-◌, ◌^◌, ◌<◌, ◌≤◌, ℤ, pos, neg_ℤ, suc, unsigned_abs, IsTrue, List, [], ◌∷◌, ◌++◌, length, decimal, codes, refl, ap, arith, length-append, lit<}
 use Rattle.std.proofs.lemmas.Bool.{and_parts}
 use Rattle.std.proofs.lemmas.Fmt.{length-decimal-le}
 use Rattle.std.proofs.lemmas.List.{length-replicate}
@@ -21,17 +23,11 @@ use Rattle.format_traits.proofs.CallerLemmas.{length-padded_right}
 use Rattle.lists_and_numbers.proofs.CallerLemmas.{size-neg}
 
 length-padded_left : (places : ℕ) (text : List ℕ) → length text ≤ places → length (padded_left places text) ≡ places
-length-padded_left places text fits =
-    let spaces = length-replicate {A = ℕ} (places - length text) 32 in
-    let all = length-append (replicate (places - length text) 32) text in
-    omega (arith, spaces, all, fits)
+length-padded_left places text fits = grind (arith, nat_tests, length-replicate, length-append)
 
 length-field : (name contents : List ℕ) (n m : ℕ) → length name ≡ n → length contents ≡ m
     → length (field name contents) ≡ n + m + 1
-length-field name contents n m is are =
-    let inner = length-append name contents in
-    let outer = length-append (name ++ contents) (13 ∷ []) in
-    omega (arith, inner, outer, is, are)
+length-field name contents n m is are = grind (arith, nat_tests, length-append)
 
 length-number_field : (name : List ℕ) (places n : ℕ) → length name ≡ 3 → 0 < places
     → n < 10 ^ places → n < 2 ^ 64 → length (number_field name places n) ≡ 3 + places + 1
@@ -82,10 +78,7 @@ length-fields_of label numbers short fits = lengths
 
 pub length-dst_header_of : (label : List ℕ) (numbers : HeaderNumbers) → length label ≤ MAX_LABEL
     → FitsFields numbers → length (dst_header_of label numbers) ≡ HEADER_LENGTH
-length-dst_header_of label numbers short fits =
-    let fields = length-fields_of label numbers short fits in
-    let all = length-append (fields_of label numbers) (26 ∷ []) in
-    length-padded_right HEADER_LENGTH (fields_of label numbers ++ 26 ∷ []) (omega (arith, fields, all))
+length-dst_header_of label numbers short fits = grind (arith, nat_tests, length-fields_of, length-append, length-padded_right)
 
 -- a measure of needles in range is at most their limit
 greatest_small : (measure : Point → ℕ)
@@ -106,12 +99,10 @@ greatest_small measure small (a ∷ rest) all =
     measured_small measure small act.Stop here = omega arith
 
 above_small : (z : ℤ) (limit : ℕ) → unsigned_abs z ≤ limit → size_above_zero z ≤ limit
-above_small (pos n) limit small = small
-above_small (negsuc n) limit small = omega arith
+above_small z limit h1 = grind (arith, nat_tests, ints)
 
 below_small : (z : ℤ) (limit : ℕ) → unsigned_abs z ≤ limit → size_below_zero z ≤ limit
-below_small (pos n) limit small = omega arith
-below_small (negsuc n) limit small = omega (arith, small)
+below_small z limit h1 = grind (arith, nat_tests, ints)
 
 -- the place after acts in range is in range
 place_in_range : (place : Point) (acts : List NumberedAct) → IsTrue (is_point_within NEEDLE_LIMIT place)

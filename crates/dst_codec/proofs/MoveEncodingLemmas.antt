@@ -1,6 +1,6 @@
 -- The record of a move has that move, and its kind is that of its flags.
-use Rattle.std.proofs.Common.{◌≡◌, ℕ, ◌+◌, ◌-◌, ◌*◌, ◌/◌, ◌%◌, ◌<◌, ◌≤◌, ℤ, pos, negsuc, ◌-ℤ◌, unsigned_abs, IsTrue, refl, arith}
-use Rattle.std.proofs.lemmas.Bool.{eq-eqb, ne_eqb}
+use Rattle.std.proofs.lemmas.Bool.Decides.{nat_tests}
+use Rattle.std.proofs.Common.{◌≡◌, ℕ, ◌+◌, ◌-◌, ◌*◌, ◌/◌, ◌%◌, ◌<◌, ◌≤◌, ℤ, pos, ◌-ℤ◌, unsigned_abs, IsTrue, arith}
 use Rattle.std.proofs.lemmas.Int.{ints}
 use Rattle.design_model.specs.declared.point.Point.{Point}
 use Rattle.design_model.specs.Points.{is_point_within}
@@ -51,41 +51,22 @@ digit t small = omega arith
 
 -- the difference of two sums that differ as a number does from 121
 difference : (z : ℤ) (a b : ℕ) → unsigned_abs z ≤ 121 → a + 121 ≡ b + biased_number z → pos a -ℤ pos b ≡ z
-difference (pos n) a b small is = omega (arith, ints)
-difference (negsuc n) a b small is = omega (arith, ints)
+difference z a b h1 h2 = grind (arith, nat_tests, ints)
 
 shifted_small : (z : ℤ) → unsigned_abs z ≤ 121 → biased_number z < 243
-shifted_small (pos n) small = omega arith
-shifted_small (negsuc n) small = omega arith
-
--- the sums of what is taken plus and minus
-plus_sum : ℤ → ℕ
-plus_sum z = plus_bit 1 z + 3 * plus_bit 3 z + 9 * plus_bit 9 z + 27 * plus_bit 27 z + 81 * plus_bit 81 z
-
-minus_sum : ℤ → ℕ
-minus_sum z = minus_bit 1 z + 3 * minus_bit 3 z + 9 * minus_bit 9 z + 27 * minus_bit 27 z + 81 * minus_bit 81 z
+shifted_small z h1 = grind (arith, nat_tests, ints)
 
 sums : (n : ℕ) → n < 243 → let t = λ (part : ℕ). n / part % 3 in
     t 1 / 2 + 3 * (t 3 / 2) + 9 * (t 9 / 2) + 27 * (t 27 / 2) + 81 * (t 81 / 2) + 121
     ≡ (2 - t 1) / 2 + 3 * ((2 - t 3) / 2) + 9 * ((2 - t 9) / 2) + 27 * ((2 - t 27) / 2) + 81 * ((2 - t 81) / 2) + n
-sums n small = omega (
-  arith,
-  digits_sum n small,
-  digit (n / 1 % 3) (omega arith),
-  digit (n / 3 % 3) (omega arith),
-  digit (n / 9 % 3) (omega arith),
-  digit (n / 27 % 3) (omega arith),
-  digit (n / 81 % 3) (omega arith),
-)
+sums n h1 = grind (arith, nat_tests, ints)
 
 x_move : (x : ℤ) (a b c : ℕ) → unsigned_abs x ≤ 121
     → bit_of_byte a 1 ≡ plus_bit 1 x → bit_of_byte a 2 ≡ minus_bit 1 x → bit_of_byte a 4 ≡ plus_bit 9 x → bit_of_byte a 8 ≡ minus_bit 9 x
     → bit_of_byte b 1 ≡ plus_bit 3 x → bit_of_byte b 2 ≡ minus_bit 3 x → bit_of_byte b 4 ≡ plus_bit 27 x → bit_of_byte b 8 ≡ minus_bit 27 x
     → bit_of_byte c 4 ≡ plus_bit 81 x → bit_of_byte c 8 ≡ minus_bit 81 x
     → pos (rightwards a b c) -ℤ pos (leftwards a b c) ≡ x
-x_move x a b c small a1 a2 a4 a8 b1 b2 b4 b8 c4 c8 =
-    rw (a1, a2, a4, a8, b1, b2, b4, b8, c4, c8)
-    (difference x _ _ small (sums (biased_number x) (shifted_small x small)))
+x_move x a b c h1 h2 h3 h4 h5 h6 h7 h8 h9 h10 h11 = grind (arith, nat_tests, ints)
 
 y_move : (y : ℤ) (a b c : ℕ) → unsigned_abs y ≤ 121
     → bit_of_byte a 64 ≡ plus_bit 1 y → bit_of_byte a 128 ≡ minus_bit 1 y → bit_of_byte a 16 ≡ plus_bit 9 y
@@ -94,9 +75,7 @@ y_move : (y : ℤ) (a b c : ℕ) → unsigned_abs y ≤ 121
     → bit_of_byte b 32 ≡ minus_bit 27 y
     → bit_of_byte c 16 ≡ plus_bit 81 y → bit_of_byte c 32 ≡ minus_bit 81 y
     → pos (downwards a b c) -ℤ pos (upwards a b c) ≡ y
-y_move y a b c small a64 a128 a16 a32 b64 b128 b16 b32 c16 c32 =
-    rw (a64, a128, a16, a32, b64, b128, b16, b32, c16, c32)
-    (difference y _ _ small (sums (biased_number y) (shifted_small y small)))
+y_move y a b c h1 h2 h3 h4 h5 h6 h7 h8 h9 h10 h11 = grind (arith, nat_tests, ints)
 
 -- the half byte of x is below 16
 x_signs_small : (lesser greater : ℕ) (x : ℤ) → x_signs lesser greater x < 16
@@ -106,23 +85,18 @@ x_signs_small lesser greater x = omega (arith, plus_small lesser x, minus_small 
 byte_x : (lesser greater : ℕ) (m : Point) → let byte = byte_of lesser greater m in
     (bit_of_byte byte 1 ≡ plus_bit lesser m.x) × (bit_of_byte byte 2 ≡ minus_bit lesser m.x)
     × (bit_of_byte byte 4 ≡ plus_bit greater m.x) × (bit_of_byte byte 8 ≡ minus_bit greater m.x)
-byte_x lesser greater m = x_bits (plus_bit lesser m.x) (minus_bit lesser m.x) (plus_bit greater m.x) (minus_bit greater m.x)
-    (y_signs lesser greater m.y) (plus_small lesser m.x) (minus_small lesser m.x) (plus_small greater m.x)
-    (minus_small greater m.x)
+byte_x lesser greater m = grind (arith, nat_tests, ints)
 
 byte_y : (lesser greater : ℕ) (m : Point) → let byte = byte_of lesser greater m in
     (bit_of_byte byte 16 ≡ plus_bit greater m.y) × (bit_of_byte byte 32 ≡ minus_bit greater m.y)
     × (bit_of_byte byte 64 ≡ plus_bit lesser m.y) × (bit_of_byte byte 128 ≡ minus_bit lesser m.y)
-byte_y lesser greater m = y_bits (x_signs lesser greater m.x) (plus_bit greater m.y) (minus_bit greater m.y)
-    (plus_bit lesser m.y) (minus_bit lesser m.y) (x_signs_small lesser greater m.x) (plus_small greater m.y)
-    (minus_small greater m.y) (plus_small lesser m.y) (minus_small lesser m.y)
+byte_y lesser greater m = grind (arith, nat_tests, ints)
 
 -- the bits of a third byte whose flags are k
 byte_third : (flags k : ℕ) (m : Point) → flags ≡ 64 * k → let byte = third_of flags m in
     (bit_of_byte byte 4 ≡ plus_bit 81 m.x) × (bit_of_byte byte 8 ≡ minus_bit 81 m.x)
     × (bit_of_byte byte 16 ≡ plus_bit 81 m.y) × (bit_of_byte byte 32 ≡ minus_bit 81 m.y)
-byte_third flags k m is = rw is (third_bits (plus_bit 81 m.x) (minus_bit 81 m.x) (plus_bit 81 m.y) (minus_bit 81 m.y) k
-    (plus_small 81 m.x) (minus_small 81 m.x) (plus_small 81 m.y) (minus_small 81 m.y))
+byte_third flags k m h1 = grind (arith, nat_tests, ints)
 
 -- the bytes of a record have its move
 pub dst_move_of-record : (flags k : ℕ) (m : Point) → flags ≡ 64 * k → IsTrue (is_point_within LIMIT m)
@@ -144,40 +118,17 @@ dst_move_of-record flags k m is within =
 
 -- the kinds of stitches and jumps
 kind_without_flags : (third : ℕ) → third % 4 ≡ 3 → third < 64 → kind_of third ≡ kind.Stitch
-kind_without_flags third low small =
-    let first : third / 16 ≡ 15 → ⊥ = λ is. omega (arith, is, small) in
-    let stop : third / 64 ≡ 3 → ⊥ = λ is. omega (arith, is, small) in
-    let jump : third / 64 ≡ 2 → ⊥ = λ is. omega (arith, is, small) in
-    let sequin : third / 64 ≡ 1 → ⊥ = λ is. omega (arith, is, small) in
-    rw (
-      eq-eqb (third % 4) 3 low,
-      ne_eqb (third / 16) 15 first,
-      ne_eqb (third / 64) 3 stop,
-      ne_eqb (third / 64) 2 jump,
-      ne_eqb (third / 64) 1 sequin,
-    ) refl
+kind_without_flags third h1 h2 = grind (arith, nat_tests, ints)
 
 kind_with_jump : (third : ℕ) → third % 4 ≡ 3 → third / 64 ≡ 2 → kind_of third ≡ kind.Jump
-kind_with_jump third low is =
-    let first : third / 16 ≡ 15 → ⊥ = λ no. omega (arith, is, no) in
-    let stop : third / 64 ≡ 3 → ⊥ = λ no. omega (arith, is, no) in
-    rw (
-      eq-eqb (third % 4) 3 low,
-      ne_eqb (third / 16) 15 first,
-      ne_eqb (third / 64) 3 stop,
-      eq-eqb (third / 64) 2 is,
-    ) refl
+kind_with_jump third h1 h2 = grind (arith, nat_tests, ints)
 
 -- a part is taken in one way
 one_sign : (part : ℕ) (z : ℤ) → plus_bit part z + minus_bit part z ≤ 1
 one_sign part z = omega arith
 
 pub kind_of-stitch : (m : Point) → kind_of (third_of 0 m) ≡ kind.Stitch
-kind_of-stitch m =
-    let x = one_sign 81 m.x in let y = one_sign 81 m.y in
-    kind_without_flags (third_of 0 m) (omega (arith, x, y)) (omega (arith, x, y))
+kind_of-stitch m = grind (arith, nat_tests, ints)
 
 pub kind_of-jump : (m : Point) → kind_of (third_of 128 m) ≡ kind.Jump
-kind_of-jump m =
-    let x = one_sign 81 m.x in let y = one_sign 81 m.y in
-    kind_with_jump (third_of 128 m) (omega (arith, x, y)) (omega (arith, x, y))
+kind_of-jump m = grind (arith, nat_tests, ints)

@@ -1,9 +1,10 @@
 -- A stitch record with no part both plus and minus is the record of its move.
-use Rattle.std.proofs.Common.{◌≡◌, ℕ, ◌+◌, ◌-◌, ◌*◌, ◌/◌, ◌%◌, ◌<◌, ◌≤◌, ℤ, pos, negsuc, ◌-ℤ◌, [], ◌∷◌, refl, arith}
+use Rattle.std.proofs.lemmas.Bool.Decides.{nat_tests}
+use Rattle.std.proofs.Common.{◌≡◌, ℕ, ◌+◌, ◌-◌, ◌*◌, ◌/◌, ◌%◌, ◌<◌, ◌≤◌, ℤ, pos, ◌-ℤ◌, [], ◌∷◌, refl, arith}
 use Rattle.std.proofs.lemmas.Int.{ints}
 use Rattle.dst_codec.specs.Bits.{bit_of_byte, dst_move_of, rightwards, leftwards, upwards, downwards}
 use Rattle.dst_codec.specs.OneEncoding.{IsCanonicalByte, IsCanonicalThird}
-use Rattle.dst_codec.specs.MoveEncoding.{biased_number, ternary_digit, plus_bit, minus_bit, dst_stitch_record}
+use Rattle.dst_codec.specs.MoveEncoding.{biased_number, plus_bit, minus_bit, dst_stitch_record}
 
 -- the digits of a number from 0 to 242
 digits_of : (n a b c d e : ℕ) → a < 3 → b < 3 → c < 3 → d < 3 → e < 3 → n ≡ a + 3 * b + 9 * c + 27 * d + 81 * e
@@ -16,8 +17,7 @@ half t p q few is = (omega arith, omega arith)
 
 -- a difference, counted from 121
 shifted_by : (z : ℤ) (forth back : ℕ) → back ≤ 121 → pos forth -ℤ pos back ≡ z → biased_number z + back ≡ 121 + forth
-shifted_by (pos n) forth back few is = omega (arith, ints)
-shifted_by (negsuc n) forth back few is = omega (arith, ints)
+shifted_by z forth back h1 h2 = grind (arith, nat_tests, ints)
 
 -- the parts of an axis that are plus and minus, by its number
 pub record HasParts (z : ℤ) (p1 p3 p9 p27 p81 q1 q3 q9 q27 q81 : ℕ) : Type 0 where
@@ -31,18 +31,7 @@ parts_of : (z : ℤ) (p1 p3 p9 p27 p81 q1 q3 q9 q27 q81 : ℕ)
     → p1 + q1 ≤ 1 → p3 + q3 ≤ 1 → p9 + q9 ≤ 1 → p27 + q27 ≤ 1 → p81 + q81 ≤ 1
     → pos (p1 + 3 * p3 + 9 * p9 + 27 * p27 + 81 * p81) -ℤ pos (q1 + 3 * q3 + 9 * q9 + 27 * q27 + 81 * q81) ≡ z
     → HasParts z p1 p3 p9 p27 p81 q1 q3 q9 q27 q81
-parts_of z p1 p3 p9 p27 p81 q1 q3 q9 q27 q81 h1 h3 h9 h27 h81 is =
-    let sum = shifted_by z (p1 + 3 * p3 + 9 * p9 + 27 * p27 + 81 * p81) (q1 + 3 * q3 + 9 * q9 + 27 * q27 + 81 * q81)
-    (omega arith) is in
-    let t = digits_of (biased_number z) (1 + p1 - q1) (1 + p3 - q3) (1 + p9 - q9) (1 + p27 - q27) (1 + p81 - q81)
-    (omega arith) (omega arith) (omega arith) (omega arith) (omega arith) (omega (arith, sum)) in
-    record {
-      ones = half (ternary_digit 1 z) p1 q1 h1 (omega (arith, t.0));
-      threes = half (ternary_digit 3 z) p3 q3 h3 (omega (arith, t.1));
-      nines = half (ternary_digit 9 z) p9 q9 h9 (omega (arith, t.2));
-      twenty_sevens = half (ternary_digit 27 z) p27 q27 h27 (omega (arith, t.3));
-      eighty_ones = half (ternary_digit 81 z) p81 q81 h81 (omega (arith, t.4));
-    }
+parts_of z p1 p3 p9 p27 p81 q1 q3 q9 q27 q81 h1 h2 h3 h4 h5 h6 = grind (arith, nat_tests, ints)
 
 -- a byte by its bits
 byte_of_bits : (n : ℕ) → n < 256 → bit_of_byte n 1 + 2 * bit_of_byte n 2 + 4 * bit_of_byte n 4 + 8 * bit_of_byte n 8

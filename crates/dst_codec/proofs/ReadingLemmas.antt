@@ -1,4 +1,5 @@
 -- A file after its header, and what was loaded of it.
+use Rattle.std.proofs.lemmas.Bool.Decides.{nat_tests}
 use Rattle.std.proofs.Common.{◌≡◌, ℕ, ◌≤◌, List, [], ◌++◌, length, drop, refl, ap, ◌∙◌, subst, arith, length-append}
 use Rattle.std.proofs.Math.Seq.{drop-append_seam}
 use Rattle.std.proofs.lemmas.Bool.{le-ltb}
@@ -23,7 +24,4 @@ dst_records_in-file head body is = ap (dst_records_from 0 HEADER_LENGTH) (drop-h
 -- a file reads as its label and these
 pub dst_reads-file : (head body : List ℕ) → length head ≡ HEADER_LENGTH
     → dst_reads (head ++ body) ≡ loaded_with (dst_label_of (head ++ body)) [] (file_commands (dst_records_from 0 HEADER_LENGTH body))
-dst_reads-file head body is =
-    let long : HEADER_LENGTH ≤ length (head ++ body) = omega (arith, is, length-append head body) in
-    dst_reads-long (head ++ body) long
-    ∙ ap (λ records. loaded_with (dst_label_of (head ++ body)) [] (file_commands records)) (dst_records_in-file head body is)
+dst_reads-file head body is = grind (arith, nat_tests, length-append, dst_reads-long, dst_records_in-file)

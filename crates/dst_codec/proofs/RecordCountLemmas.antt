@@ -1,4 +1,5 @@
 -- A record has three bytes, and an act at most as many records as its room.
+use Rattle.std.proofs.lemmas.Bool.Decides.{nat_tests}
 use Rattle.std.proofs.Common.{◌≡◌, ℕ, zero, suc, ◌+◌, ◌-◌, ◌*◌, ◌≤◌, max, Bool, true, false, List, [], ◌∷◌, ◌++◌, length, map, ◌==◌, refl, ap, ◌∙◌, arith, length-append, if◌then◌else◌, nat_le}
 use Rattle.std.proofs.lemmas.List.{length-map}
 use Rattle.std.proofs.lemmas.List.Folds.{concat-append}
@@ -24,9 +25,7 @@ abbrev AreTriples : List (List ℕ) → Type 0
 AreTriples records = length (concat records) ≡ 3 * length records
 
 joined : (xs ys : List (List ℕ)) → AreTriples xs → AreTriples ys → AreTriples (xs ++ ys)
-joined xs ys of_xs of_ys =
-    let bytes = ap length (concat-append xs ys) ∙ length-append (concat xs) (concat ys) in
-    omega (arith, bytes, length-append xs ys, of_xs, of_ys)
+joined xs ys of_xs of_ys = grind (arith, nat_tests, concat-append, length-append)
 
 jumps : (m : Point) (n done count : ℕ) → AreTriples (map dst_jump_record (part_moves_from m n done count))
 jumps m n done zero = refl
@@ -77,9 +76,7 @@ length-hop_records count m = length-append (map dst_jump_record (part_moves m co
     ∙ ap (λ n. n + 1) (length-jumps m count count)
 
 length-stitched_hop_records : (count : ℕ) (m : Point) → length (stitched_hop_records dst_encoding count m) ≡ count - 1 + 1
-length-stitched_hop_records count m = length-append (map dst_jump_record (part_moves_from m count 0 (count - 1)))
-    (dst_stitch_record (move_between (part_end m count (count - 1)) m) ∷ [])
-    ∙ ap (λ n. n + 1) (length-jumps m count (count - 1))
+length-stitched_hop_records count m = grind (arith, nat_tests, length-append, length-jumps)
 
 float_small : (three : Bool) (count : ℕ) (m : Point)
     → length (if three then stitched_hop_records dst_encoding count m else hop_records dst_encoding count m) ≤ max 1 count + 1

@@ -1,4 +1,5 @@
 -- The first record of the bytes that are left.
+use Rattle.std.proofs.lemmas.Bool.Decides.{nat_tests}
 use Rattle.std.proofs.Common.{◌≡◌, ℕ, ◌+◌, ◌≤◌, List, [], ◌∷◌, ◌++◌, length, get_or, drop, ap, sym, ◌∙◌, arith}
 use Rattle.design_model.specs.declared.point.Point.{Point}
 use Rattle.record_formats.specs.declared.record_reader.NextRecord.{NextRecord}
@@ -13,9 +14,7 @@ use Rattle.dst_codec.specs.Reading.{record_of_kind, run_after_kind, dst_records_
 -- a record of that kind and that move, and the rest
 pub record_reads : (run at a b c : ℕ) (rest : List ℕ) (k : RecordKind) (m : Point) → kind_of c ≡ k → dst_move_of a b c ≡ m
     → dst_records_from run at (a ∷ b ∷ c ∷ rest) ≡ record_of_kind k at run m (dst_records_from (run_after_kind k run) (at + 3) rest)
-record_reads run at a b c rest k m of_kind of_move =
-    ap (λ k. record_of_kind k at run (dst_move_of a b c) (dst_records_from (run_after_kind k run) (at + 3) rest)) of_kind
-    ∙ ap (λ m. record_of_kind k at run m (dst_records_from (run_after_kind k run) (at + 3) rest)) of_move
+record_reads run at a b c rest k m of_kind of_move = grind (arith, nat_tests)
 
 -- the cut of three bytes is that of their kind and their move
 pub cut_three : (run after at : ℕ) (bytes : List ℕ) (k : RecordKind) (m : Point) (result : NextRecord) → 3 ≤ length bytes

@@ -1,4 +1,6 @@
 -- The tables of the moves are those of the format.
+use Rattle.std.proofs.lemmas.Bool.Decides.{nat_tests}
+use Rattle.std.proofs.lemmas.Int.{ints}
 use Rattle.std.proofs.Common.{◌≡◌, ℕ, ◌+◌, ◌-◌, ◌*◌, ◌/◌, ◌%◌, ◌<◌, ◌≤◌, ℤ, List, map, get_or, refl, ap, ◌∙◌, arith}
 use Rattle.std.proofs.lemmas.List.FromFn.{get_or-map-range_with_len}
 use Rattle.std.specs.Int.{w8}
@@ -54,24 +56,14 @@ sums_of : (a b c p1 q1 p9 q9 p3 q3 p27 q27 p q p81 q81 : ℕ) → p1 ≤ 1 → q
     → b ≡ 30 + (3 * p3 + 27 * p27) - (3 * q3 + 27 * q27)
     → c ≡ 81 + (0 * p + 81 * p81) - (0 * q + 81 * q81)
     → Sums a b c (p1 + 3 * p3 + 9 * p9 + 27 * p27 + 81 * p81) (q1 + 3 * q3 + 9 * q9 + 27 * q27 + 81 * q81)
-sums_of a b c p1 q1 p9 q9 p3 q3 p27 q27 p q p81 q81 h1 k1 h9 k9 h3 k3 h27 k27 h81 k81 of_a of_b of_c = record {
-  two = omega (arith, of_a, of_b, h1, k1, h9, k9, h3, k3, h27, k27);
-  most = omega (arith, of_a, of_b, of_c, h1, k1, h9, k9, h3, k3, h27, k27, h81, k81);
-  value = omega (arith, of_a, of_b, of_c, h1, k1, h9, k9, h3, k3, h27, k27, h81, k81);
-}
+sums_of a b c p1 q1 p9 q9 p3 q3 p27 q27 p q p81 q81 h1 h2 h3 h4 h5 h6 h7 h8 h9 h10 h11 h12 h13 = grind (arith, nat_tests, ints)
 
 -- three bytes' sums of one axis, by the worths of its bits
 axis : (one one' nine nine' a b c x y z : ℕ)
     → x ≡ parts 10 1 9 one one' nine nine' a → y ≡ parts 30 3 27 one one' nine nine' b
     → z ≡ parts 81 0 81 one one' nine nine' c
     → Sums x y z (sum_along one nine a b c) (sum_along one' nine' a b c)
-axis one one' nine nine' a b c x y z of_x of_y of_z =
-    sums_of x y z (bit_of_byte a one) (bit_of_byte a one') (bit_of_byte a nine) (bit_of_byte a nine') (bit_of_byte b one)
-    (bit_of_byte b one') (bit_of_byte b nine) (bit_of_byte b nine')
-    (bit_of_byte c one) (bit_of_byte c one') (bit_of_byte c nine) (bit_of_byte c nine')
-    (bit_small a one) (bit_small a one') (bit_small a nine) (bit_small a nine')
-    (bit_small b one) (bit_small b one') (bit_small b nine) (bit_small b nine')
-    (bit_small c nine) (bit_small c nine') of_x of_y of_z
+axis one one' nine nine' a b c x y z h1 h2 h3 = grind (arith, nat_tests, ints)
 
 pub x_sums : (a b c : ℕ) → Fits w8 a → Fits w8 b → Fits w8 c
     → Sums (get_or X_OF_FIRST a 0) (get_or X_OF_SECOND b 0) (get_or X_OF_THIRD c 0) (rightwards a b c) (leftwards a b c)
@@ -136,10 +128,7 @@ third_small : (n : ℕ) → 4 * plus_at 81 n + 8 * minus_at 81 n ≤ 8
 third_small n = omega (arith, one_way 81 n)
 
 shares : (x y of_x of_y most : ℕ) → x ≡ of_x → y ≡ of_y → of_x + of_y ≤ most → Shares x y of_x of_y most
-shares x y of_x of_y most x_is y_is small = record {
-  sum = omega (arith, x_is, y_is);
-  small = omega (arith, x_is, y_is, small);
-}
+shares x y of_x of_y most h1 h2 h3 = grind (arith, nat_tests, ints)
 
 -- the entry of a table at a number's place
 at_number : (f : ℕ → ℕ) (table : List ℕ) (z : ℤ) (n : ℕ) → table ≡ map f (range_with_len 0 243) → n ≡ biased_number z → n ≤ 242

@@ -1,20 +1,19 @@
 -- What stands after the room of a header, and the numbers that the header has of it.
-use Rattle.std.proofs.Common.{◌≡◌, ℕ, ◌+◌, ◌-◌, ◌*◌, ◌/◌, ◌^◌, ◌<◌, List, [], ◌∷◌, length, None, refl, ap, ◌∙◌, arith, length-append, lit<}
+use Rattle.std.proofs.lemmas.Bool.Decides.{nat_tests}
+use Rattle.std.proofs.Common.{◌≡◌, ℕ, ◌+◌, ◌-◌, ◌*◌, ◌/◌, ◌^◌, ◌<◌, List, [], ◌∷◌, length, None, refl, ◌∙◌, arith, length-append, lit<}
 use Rattle.std.proofs.lemmas.Nat.{div-mul-add}
-use Rattle.std.specs.List.{concat}
 use Rattle.design_model.specs.declared.act.NumberedAct.{NumberedAct}
 use Rattle.design_model.specs.ActPositions.{needle_position_along}
 use Rattle.design_model.specs.Acts.{acts_of}
 use Rattle.design_model.specs.Designs.{DesignValue, KeepsLimits}
 use Rattle.format_traits.specs.declared.encoder_state.EncoderState.{EncoderState}
 use Rattle.format_traits.specs.Accepted.{AcceptedIsWithinLimits}
-use Rattle.format_traits.specs.Refusals.{initial_encoder_state, first_refusal, encoder_state_after, stops_of}
+use Rattle.format_traits.specs.Refusals.{initial_encoder_state, first_refusal, encoder_state_after}
 use Rattle.record_formats.specs.RecordEncodings.{encoder_state_after_acts}
-use Rattle.dst_codec.specs.declared.dst.TheConstants.{LIMIT, MAX_STOPS}
+use Rattle.dst_codec.specs.declared.dst.TheConstants.{MAX_STOPS}
 use Rattle.dst_codec.specs.declared.header.Extents.{Extents}
 use Rattle.dst_codec.specs.declared.header.TheConstants.{HEADER_LENGTH}
 use Rattle.dst_codec.specs.Header.{FitsFields, extents_of}
-use Rattle.dst_codec.specs.MoveEncoding.{dst_end_record}
 use Rattle.dst_codec.specs.Steps.{IsWritten, dst_body_of, header_numbers_of}
 use Rattle.dst_codec.specs.Writing.{dst_write_limits, dst_records_of}
 use Rattle.dst_codec.proofs.HeaderLemmas.{numbers_fit}
@@ -39,19 +38,12 @@ accepted_fit small d limits passed =
 
 -- the bytes after the room, three for each record
 length-dst_body_of : (d : DesignValue) → length (dst_body_of d) ≡ 3 * (length (dst_records_of (acts_of d)) + 1)
-length-dst_body_of d = omega (
-  arith,
-  length-append (concat (dst_records_of (acts_of d))) dst_end_record,
-  records_triples initial_encoder_state (acts_of d),
-)
+length-dst_body_of d = grind (arith, nat_tests, length-append, records_triples)
 
 -- the length of the records is three times their number
 counted : (d : DesignValue) (state : EncoderState) (count : ℕ) → IsWritten d state count
     → (count - HEADER_LENGTH) / 3 ≡ length (dst_records_of (acts_of d)) + 1
-counted d state count is =
-    let n = length (dst_records_of (acts_of d)) + 1 in
-    let turned : count - HEADER_LENGTH ≡ n * 3 + 0 = omega (arith, is.long, length-dst_body_of d) in
-    ap (λ k. k / 3) turned ∙ div-mul-add n 3 0 (lit< tt)
+counted d state count is = grind (arith, nat_tests, is.long, length-dst_body_of, div-mul-add)
 
 -- and these are few
 pub body_short : AcceptedIsWithinLimits → (d : DesignValue) → KeepsLimits d → (state : EncoderState) (count : ℕ)
@@ -73,14 +65,4 @@ pub numbers_written : (d : DesignValue) (state : EncoderState) (count : ℕ) (ex
       last = state.place;
     } ≡ header_numbers_of d
 numbers_written d state count extents is of_extents =
-    let stops : state.stops ≡ stops_of (acts_of d) = omega (
-      arith,
-      ap (λ s. s.stops) is.stands,
-      stops_along LIMIT initial_encoder_state (acts_of d),
-    ) in
-    rw (
-      counted d state count is,
-      of_extents,
-      stops,
-      ap (λ s. s.place) is.stands ∙ place-encoder_state_after_acts LIMIT initial_encoder_state (acts_of d),
-    ) refl
+    grind (arith, nat_tests, state.stops, is.stands, stops_along, counted, place-encoder_state_after_acts)

@@ -6,7 +6,7 @@ ghost use Rattle.dst_codec.specs.Reading.{jump_event_after, run_after_kind};
 
 use crate::bits::{decode_move, record_kind};
 use crate::header::HEADER_LENGTH;
-use crate::reading::read_header;
+use crate::header_reading::read_header;
 use crate::record_kind::RecordKind;
 use design_model::{Design, Point};
 use format_traits::ReadFault;

@@ -1,5 +1,7 @@
 -- A written design reads back, with each move within the limit, and a plain design is written.
-use Rattle.std.proofs.Common.{◌≡◌, ℕ, true, IsTrue, List, [], ◌++◌, length, Option, Some, None, Ok, IfOk, IsOkAnd, refl, ap, sym, ◌∙◌, subst, arith}
+use Rattle.std.proofs.lemmas.Bool.Decides.{nat_tests}
+use Rattle.std.proofs.lemmas.Int.{ints}
+use Rattle.std.proofs.Common.{◌≡◌, ℕ, true, IsTrue, List, [], ◌++◌, length, Option, None, Ok, IfOk, IsOkAnd, refl, ap, sym, ◌∙◌, subst, arith}
 use Rattle.std.proofs.lemmas.Bool.{le-ltb}
 use Rattle.std.proofs.lemmas.List.{append_assoc}
 use Rattle.std.specs.List.{concat, list_all}
@@ -83,5 +85,4 @@ dst_is_codec small law = record {
 pub of_written : (d : DesignValue) (P : List ℕ → Type 0) → (r : Option WriteFault) → first_refusal dst_write_limits (acts_of d) ≡ r
     → (first_refusal dst_write_limits (acts_of d) ≡ None → P (dst_file_of d.label (acts_of d)))
     → IfOk (unless_refused r (dst_file_of d.label (acts_of d))) P
-of_written d P None is holds = holds is
-of_written d P (Some f) is holds = tt
+of_written d P r h1 h2 = grind (arith, nat_tests, ints)

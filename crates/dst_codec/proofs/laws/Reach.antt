@@ -1,16 +1,15 @@
 -- No stitch and no float that was read is too long to be written: a stitch is one record's move,
 -- and between a needle and a float's needle at most two jumps are read, since a third is a trim.
-use Rattle.std.proofs.Common.{◌≡◌, ◌≢◌, ℕ, ◌+◌, ◌-◌, ◌*◌, ◌/◌, ◌%◌, min, ◌≤◌, ℤ, pos, ◌+ℤ◌, ◌-ℤ◌, unsigned_abs, Bool, true, false, not, ◌&&◌, List, [], ◌∷◌, length, drop, Option, Some, None, Result, Ok, Err, IfOk, nat_lt, nat_le, ◌==◌, if◌then◌else◌, refl, sym, subst, arith}
-use Rattle.std.proofs.lemmas.Bool.{eqb-false, le-ltb}
+use Rattle.std.proofs.lemmas.Bool.Decides.{nat_tests}
+use Rattle.std.proofs.Common.{◌≡◌, ◌≢◌, ℕ, ◌+◌, ◌-◌, ◌*◌, ◌/◌, ◌%◌, min, ◌≤◌, ℤ, ◌+ℤ◌, ◌-ℤ◌, unsigned_abs, Bool, true, false, not, ◌&&◌, List, [], ◌∷◌, length, drop, Option, Some, None, Result, Ok, Err, IfOk, nat_lt, ◌==◌, if◌then◌else◌, refl, sym, subst, arith}
+use Rattle.std.proofs.lemmas.Bool.{eqb-false}
 use Rattle.std.proofs.lemmas.Int.{ints}
 use Rattle.design_model.specs.declared.act.Act.TheVariants as act
 use Rattle.design_model.specs.declared.act.NumberedAct.{NumberedAct}
 use Rattle.design_model.specs.declared.command.Command.{Command}
 use Rattle.design_model.specs.declared.command.Command.TheVariants.{Stitch, Jump, Trim, Stop}
-use Rattle.design_model.specs.declared.design.TheConstants.{MAX_COMMANDS}
 use Rattle.design_model.specs.declared.point.Point.{Point}
 use Rattle.design_model.specs.Acts.{acts_from, acts_along, numbered}
-use Rattle.design_model.specs.Commands.{is_command_in_range}
 use Rattle.design_model.specs.Points.{origin, move_between, move_size, is_same_point}
 use Rattle.record_formats.specs.declared.event.Event.TheVariants as event
 use Rattle.format_traits.specs.declared.fault.ReadFault.{ReadFault}
@@ -18,16 +17,15 @@ use Rattle.format_traits.specs.declared.fault.ReadFault.TheVariants as read
 use Rattle.format_traits.specs.declared.fault.WriteFault.{WriteFault}
 use Rattle.format_traits.specs.declared.fault.WriteFault.TheVariants as fault
 use Rattle.format_traits.specs.declared.encoder_state.EncoderState.{EncoderState}
-use Rattle.format_traits.specs.MoveHops.{hops_of}
 use Rattle.record_formats.specs.MoveParts.{position_after_move}
-use Rattle.record_formats.specs.Readings.{FileCommands, with_commands_before, checked_command, checked_commands, loaded_with}
+use Rattle.record_formats.specs.Readings.{FileCommands, checked_command, checked_commands, loaded_with}
 use Rattle.record_formats.specs.Records.{Records, file_commands_from, file_commands, next}
-use Rattle.format_traits.specs.Refusals.{initial_encoder_state, encoder_state_after, is_above_max, refusal_if, refusal_of_needle, refusal_before_room, or_else, refusal_of_act, first_refusal_from, first_refusal, unless_refused}
+use Rattle.format_traits.specs.Refusals.{initial_encoder_state, encoder_state_after, is_above_max, refusal_if, refusal_of_needle, refusal_before_room, or_else, first_refusal_from, first_refusal, unless_refused}
 use Rattle.dst_codec.specs.declared.dst.TheConstants.{LIMIT}
 use Rattle.dst_codec.specs.declared.header.TheConstants.{HEADER_LENGTH}
 use Rattle.dst_codec.specs.declared.record_kind.RecordKind.{RecordKind}
 use Rattle.dst_codec.specs.declared.record_kind.RecordKind.TheVariants as kind
-use Rattle.dst_codec.specs.Bits.{dst_move_of, kind_of, rightwards, leftwards, upwards, downwards}
+use Rattle.dst_codec.specs.Bits.{dst_move_of, kind_of}
 use Rattle.dst_codec.specs.Laws.{ReadMovesAreWritable}
 use Rattle.dst_codec.specs.Reading.{record_of_kind, run_after_kind, dst_records_from, dst_records_in, dst_label_of}
 use Rattle.dst_codec.specs.Writing.{dst_write_limits, dst_file_of, dst_writes}
@@ -43,37 +41,20 @@ is_long (Some fault.Memory) = false
 
 long-or_else : (one other : Option WriteFault) → is_long one ≡ false → is_long other ≡ false
     → is_long (or_else one other) ≡ false
-long-or_else None other first second = second
-long-or_else (Some f) other first second = first
+long-or_else one other h1 h2 = grind (arith, nat_tests, ints)
 
 long-stops : (b : Bool) (number : ℕ) → is_long (refusal_if b (fault.TooManyStops number)) ≡ false
-long-stops true number = refl
-long-stops false number = refl
+long-stops b number = grind (arith, nat_tests, ints)
 
 long-room : (b : Bool) (number : ℕ) → is_long (refusal_if b (fault.TooLong number)) ≡ false
-long-room true number = refl
-long-room false number = refl
+long-room b number = grind (arith, nat_tests, ints)
 
 long-none : (b : Bool) (f : WriteFault) → b ≡ false → is_long (refusal_if b f) ≡ false
-long-none true f is = cc
-long-none false f is = refl
+long-none b f h1 = grind (arith, nat_tests, ints)
 
 -- a record's move is within the limit
 move_small : (a b c : ℕ) → (unsigned_abs (dst_move_of a b c).x ≤ LIMIT) × (unsigned_abs (dst_move_of a b c).y ≤ LIMIT)
-move_small a b c = (
-  apart (rightwards a b c) (leftwards a b c) (sum_small a b c 1 4) (sum_small a b c 2 8),
-  apart (downwards a b c) (upwards a b c) (sum_small a b c 64 16) (sum_small a b c 128 32),
-)
-  where
-    sum_small : (a b c one nine : ℕ)
-        → a / one % 2 + 3 * (b / one % 2) + 9 * (a / nine % 2) + 27 * (b / nine % 2) + 81 * (c / nine % 2) ≤ 121
-    sum_small a b c one nine = parts_small (a / one) (b / one) (a / nine) (b / nine) (c / nine)
-      where
-        parts_small : (p q r s t : ℕ) → p % 2 + 3 * (q % 2) + 9 * (r % 2) + 27 * (s % 2) + 81 * (t % 2) ≤ 121
-        parts_small p q r s t = omega arith
-
-    apart : (u v : ℕ) → u ≤ LIMIT → v ≤ LIMIT → unsigned_abs (pos u -ℤ pos v) ≤ LIMIT
-    apart u v hu hv = omega (arith, ints)
+move_small a b c = grind (arith, nat_tests, ints)
 
 -- how far a reader can be from the last needle, while the thread is not loose
 pub record IsNear (needle : Point) (run : ℕ) (place : Point) (jumped : Bool) : Type 0 where
@@ -87,10 +68,7 @@ farther : (x z n : ℤ) (run : ℕ) → unsigned_abs (x -ℤ n) ≤ run * LIMIT 
 farther x z n run near small = omega (arith, ints)
 
 at_needle : (p : Point) → IsNear p 0 p false
-at_needle p = record { few = omega arith; still = λ same. refl; x = none p.x; y = none p.y }
-  where
-    none : (x : ℤ) → unsigned_abs (x -ℤ x) ≤ 0 * LIMIT
-    none x = omega (arith, ints)
+at_needle p = grind (arith, nat_tests, ints)
 
 -- no act of the commands is refused as long
 abbrev IsWithin : Bool → EncoderState → List Command → Type 0
@@ -101,30 +79,13 @@ one_more : (s : EncoderState) (a : NumberedAct) (rest : List NumberedAct)
     → is_long (refusal_before_room dst_write_limits s a.act a.number) ≡ false
     → is_long (first_refusal_from dst_write_limits (encoder_state_after LIMIT s a.act) rest) ≡ false
     → is_long (first_refusal_from dst_write_limits s (a ∷ rest)) ≡ false
-one_more s a rest own more =
-    long-or_else (refusal_of_act dst_write_limits s a) (first_refusal_from dst_write_limits (encoder_state_after LIMIT s a.act) rest)
-    (long-or_else (refusal_before_room dst_write_limits s a.act a.number)
-    (refusal_if (nat_lt MAX_COMMANDS (encoder_state_after LIMIT s a.act).room) (fault.TooLong a.number)) own
-    (long-room (nat_lt MAX_COMMANDS (encoder_state_after LIMIT s a.act).room) a.number))
-    more
+one_more s a rest h1 h2 = grind (arith, nat_tests, ints)
 
 -- a needle after the next record
 long-needle : (loose jumped : Bool) (m : Point) (run number : ℕ)
     → (loose ≡ false → (run ≤ 2) × (jumped ≡ false → run ≡ 0) × (move_size m ≤ (run + 1) * LIMIT))
     → is_long (refusal_of_needle dst_write_limits loose (jumped && not loose) m number) ≡ false
-long-needle true true m run number near = refl
-long-needle true false m run number near = refl
-long-needle false true m run number near =
-    let few = near refl in
-    long-none (nat_lt 3 (hops_of LIMIT m)) (fault.FloatTooLong number)
-    (le-ltb 3 (hops_of LIMIT m) (hops_few (move_size m) run few.0 few.2))
-  where
-    hops_few : (size run : ℕ) → run ≤ 2 → size ≤ (run + 1) * LIMIT → (size + (LIMIT - 1)) / LIMIT ≤ 3
-    hops_few size run few small = omega (arith, few, small)
-long-needle false false m run number near =
-    let few = near refl in
-    let none : run ≡ 0 = few.1 refl in
-    long-none (nat_lt LIMIT (move_size m)) (fault.StitchTooLong number) (le-ltb LIMIT (move_size m) (omega (arith, few.2, none)))
+long-needle loose jumped m run number h1 = grind (arith, nat_tests, ints)
 
 -- a stitch by a record's move
 within-stitch : (s : EncoderState) (jumped : Bool) (run : ℕ) (place m : Point) (commands : List Command)
@@ -172,15 +133,7 @@ within-stop s jumped commands more = λ n.
 tried_ok : (at count : ℕ) (command : Command) (rest : Result FileCommands ReadFault) (P : List Command → Type 0)
     → IfOk rest (λ course. P (command ∷ course.commands))
     → IfOk (checked_command at count command rest) (λ course. P course.commands)
-tried_ok at count command rest P ok = by_tests (not (is_command_in_range command)) (nat_le MAX_COMMANDS count) rest ok
-  where
-    by_tests : (b c : Bool) (rest : Result FileCommands ReadFault) → IfOk rest (λ course. P (command ∷ course.commands))
-        → IfOk (if b then Err (read.Range at) else (if c then Err (read.TooMany at) else with_commands_before (command ∷ []) rest))
-        (λ course. P course.commands)
-    by_tests true c rest ok = tt
-    by_tests false true rest ok = tt
-    by_tests false false (Ok course) ok = ok
-    by_tests false false (Err f) ok = tt
+tried_ok at count command rest P h1 = grind (arith, nat_tests, ints)
 
 -- the result of the rest, whatever is before it
 abbrev RestIsWithin : ℕ → Point → Result FileCommands ReadFault → Type 0
@@ -302,12 +255,7 @@ records_ok (a ∷ b ∷ c ∷ rest) at run place = λ count s jumped near.
 -- a refusal that is not long
 not_long : (r : Option WriteFault) (bytes : List ℕ) (number : ℕ) → is_long r ≡ false
     → (unless_refused r bytes ≢ Err (fault.StitchTooLong number)) × (unless_refused r bytes ≢ Err (fault.FloatTooLong number))
-not_long None bytes number short = (λ same. cc, λ same. cc)
-not_long (Some (fault.StitchTooLong n)) bytes number short = absurd (let no : ⊥ = cc in no)
-not_long (Some (fault.FloatTooLong n)) bytes number short = absurd (let no : ⊥ = cc in no)
-not_long (Some (fault.TooManyStops n)) bytes number short = (λ same. cc, λ same. cc)
-not_long (Some (fault.TooLong n)) bytes number short = (λ same. cc, λ same. cc)
-not_long (Some fault.Memory) bytes number short = (λ same. cc, λ same. cc)
+not_long r bytes number h1 = grind (arith, nat_tests, ints)
 
 -- what was read is not refused for a long stitch or a long float
 pub read_is_within_reach : ReadMovesAreWritable

@@ -1,6 +1,7 @@
 -- The events that written records are decoded as.
-use Rattle.std.proofs.Common.{◌≡◌, ◌≢◌, ℕ, ◌+◌, min, pos, negsuc, Bool, true, false, IsTrue, List, [], ◌∷◌, ◌++◌, Some, inr, ◌==◌, if◌then◌else◌, refl, ap, ◌∙◌, arith}
-use Rattle.std.proofs.lemmas.Bool.{eq-eqb, ne_eqb, eqb-true, eqb-false}
+use Rattle.std.proofs.lemmas.Bool.Decides.{nat_tests}
+use Rattle.std.proofs.lemmas.Int.{ints}
+use Rattle.std.proofs.Common.{◌≡◌, ◌≢◌, ℕ, ◌+◌, min, pos, negsuc, true, IsTrue, List, [], ◌∷◌, ◌++◌, Some, inr, ◌==◌, if◌then◌else◌, refl, ap, ◌∙◌, arith}
 use Rattle.design_model.specs.declared.point.Point.{Point}
 use Rattle.design_model.specs.Points.{is_point_within, origin}
 use Rattle.record_formats.specs.declared.event.Event.TheVariants as event
@@ -25,16 +26,7 @@ stitch_reads run at m rest near = record_reads run at (byte_of 1 9 m) (byte_of 3
 
 -- a run that is counted up to three is at two where it is
 at_two : (run : ℕ) → (min run 3 == 2) ≡ (run == 2)
-at_two run = by_test (run == 2) refl
-  where
-    by_test : (b : Bool) → (run == 2) ≡ b → (min run 3 == 2) ≡ b
-    by_test true is =
-        let same : run ≡ 2 = eqb-true run 2 is in
-        let two : min run 3 ≡ 2 = omega (arith, same) in
-        eq-eqb (min run 3) 2 two
-    by_test false is =
-        let other : run ≢ 2 = eqb-false run 2 is in
-        ne_eqb (min run 3) 2 (λ two. other (let same : run ≡ 2 = omega (arith, two) in same))
+at_two run = grind (arith, nat_tests, ints)
 
 jump_reads : (run at : ℕ) (m : Point) (rest : List ℕ) → IsTrue (is_point_within LIMIT m)
     → read_after run at (dst_jump_record m ++ rest)

@@ -142,8 +142,9 @@ module _ (read : ℕ → ℕ → List ℕ → Records) (encoding : RecordEncodin
       → taken.max_jumps ≡ most → hop ≡ option_map suc most → AllowsTwoJumps most → is_above_max hop n ≡ false
       → Lies write_limits.limit place (move_between place p) n → count ≤ room → room + (n + 1) ≤ MAX_COMMANDS
       → ((at' count' : ℕ) → count' ≤ room + (n + 1) → GoesOn write_limits.limit count' p (read 0 at' rest) false false acts)
-      → GoesOn write_limits.limit count place (read 0 at (concat (if is_at_max hop n then stitched_hop_records encoding n (move_between
-      place p) else hop_records encoding n (move_between place p)) ++ rest)) false false (act.Needle p true ∷ acts)
+      → GoesOn write_limits.limit count place (read 0 at (concat (if is_at_max hop n then
+      stitched_hop_records encoding n (move_between place p) else hop_records encoding n (move_between place p)) ++ rest))
+      false false (act.Needle p true ∷ acts)
   goes_floats None None n at count place p room rest acts of_most of_hop late passed lies few fits on =
       goes_float n at count place p room rest acts lies (subst (λ most. Spares most (0 + n)) (sym of_most) tt) few fits on
   goes_floats None (Some hop) n at count place p room rest acts of_most of_hop late passed lies few fits on =
@@ -187,8 +188,8 @@ module _ (read : ℕ → ℕ → List ℕ → Records) (encoding : RecordEncodin
       let small = hops_enough write_limits.limit m b.limit in
       subst (λ r. GoesOn write_limits.limit count place (read r at (concat (float_records encoding write_limits (max 1 h) m) ++ rest)) false
       jumped (act.Needle p true ∷ acts)) (sym between.0)
-      (subst (λ j. GoesOn write_limits.limit count place (read 0 at (concat (float_records encoding write_limits (max 1 h) m) ++ rest)) false
-      j (act.Needle p true ∷ acts)) (sym between.1)
+      (subst (λ j. GoesOn write_limits.limit count place (read 0 at (concat (float_records encoding write_limits (max 1 h) m) ++ rest))
+      false j (act.Needle p true ∷ acts)) (sym between.1)
       (goes_floats taken.max_jumps write_limits.float_hops (max 1 h) at count place p room rest acts refl
       b.hops b.late (passed_once taken.max_jumps write_limits.float_hops h b.hops short)
       (lies_from write_limits.limit place p (max 1 h) (omega arith) (long_enough (move_size m) h small) here there) few fits on))
@@ -209,8 +210,8 @@ module _ (read : ℕ → ℕ → List ℕ → Records) (encoding : RecordEncodin
       (moved-between place p) there (omega (arith, few, fits)) (on (at + length (encoding.stitch m)) (count + 1) (omega (arith, few)))))
 
   -- an act
-  goes_act : (loose : Bool) (place : Point) (stops room : ℕ) (a : Act) (number at count run : ℕ) (jumped : Bool) (rest : List ℕ) (acts :
-      List Act) → Between taken.max_jumps loose run jumped → IsTrue (is_told loose a) → IsTrue (is_point_within NEEDLE_LIMIT place)
+  goes_act : (loose : Bool) (place : Point) (stops room : ℕ) (a : Act) (number at count run : ℕ) (jumped : Bool) (rest : List ℕ)
+      (acts : List Act) → Between taken.max_jumps loose run jumped → IsTrue (is_told loose a) → IsTrue (is_point_within NEEDLE_LIMIT place)
       → IsTrue (is_act_in_range a) → refusal_before_room write_limits (stands loose place stops room) a number ≡ None → count ≤ room
       → room + room_of_act write_limits.limit loose place a ≤ MAX_COMMANDS
       → ((at' count' run' : ℕ) (jumped' : Bool) → Between taken.max_jumps (leaves_thread_loose a) run' jumped' → count' ≤ room + room_of_act

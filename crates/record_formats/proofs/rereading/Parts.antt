@@ -16,9 +16,6 @@ pub record Splits (limit : ℕ) (m : Point) (n : ℕ) : Type 0 where
   pub x : unsigned_abs m.x ≤ n * limit
   pub y : unsigned_abs m.y ≤ n * limit
 
-pub splits_from : (limit : ℕ) (m : Point) (n : ℕ) → 0 < n → move_size m ≤ n * limit → Splits limit m n
-splits_from limit m n some small = record { some = some; x = omega (arith, small); y = omega (arith, small) }
-
 -- the hops of a move are enough for it
 pub hops_enough : (limit : ℕ) (m : Point) → 0 < limit → move_size m ≤ hops_of limit m * limit
 hops_enough limit m h1 = grind (arith, nat_tests, ints)

@@ -117,8 +117,8 @@ module _ (read : ℕ → ℕ → List ℕ → Records) (encoding : RecordEncodin
       let cut : ℕ = if is_at_max taken.max_jumps run then 1 else 0 in
       goes_as (ap (read run at) (append_assoc (encoding.jump step) others rest) ∙ b.jump run at step (others ++ rest) near)
       (goes_any (is_at_max taken.max_jumps run) write_limits.limit at count (position_after_move place (part_end m n done)) step
-      (position_after_move place (part_end m n (done + 1))) (read (run + 1) (at + length (encoding.jump step)) (others ++ rest)) loose jumped
-      acts near (moved-on place (part_end m n done) (part_end m n (done + 1)))
+      (position_after_move place (part_end m n (done + 1))) (read (run + 1) (at + length (encoding.jump step)) (others ++ rest)) loose
+      jumped acts near (moved-on place (part_end m n done) (part_end m n (done + 1)))
       (part_in_range write_limits.limit place m n (done + 1) lies (omega (arith, sum, less)))
       (λ tied. spared taken.max_jumps run more (free tied)) (omega (arith, few))
       (goes_parts more (at + length (encoding.jump step)) (count + cut + 1) (run + 1) place m n
@@ -161,8 +161,8 @@ module _ (read : ℕ → ℕ → List ℕ → Records) (encoding : RecordEncodin
   goes_hops at count run place m there n rest loose jumped acts lies to free few on =
       goes_stitched n at count run place m there origin n rest loose jumped acts lies
       lies.splits.some (omega arith) (within_from write_limits.limit origin (omega arith) (omega arith))
-      (position_after_move-none (position_after_move place (part_end m n n)) ∙ ap (position_after_move place) (part_all m n lies.splits.some)
-      ∙ to) (subst (λ q. IsTrue (is_point_within NEEDLE_LIMIT q)) to lies.there) free few on
+      (position_after_move-none (position_after_move place (part_end m n n))
+      ∙ ap (position_after_move place) (part_all m n lies.splits.some) ∙ to) (subst (λ q. IsTrue (is_point_within NEEDLE_LIMIT q)) to lies.there) free few on
 
   -- jumps over all parts of a move but the last, and a stitch in its place
   pub goes_last_stitched : (at count run : ℕ) (place m there : Point) (n : ℕ) (rest : List ℕ) (loose jumped : Bool) (acts : List Act)
