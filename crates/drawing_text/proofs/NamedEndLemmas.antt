@@ -16,7 +16,7 @@ use Rattle.drawing_model.specs.GrowingDrawings.{and_then}
 use Rattle.drawing_model.specs.WalkEnds.{AreInDifferentPieces, has_end_at_spot, is_junction, walk_end_added}
 use Rattle.step_splitter.specs.Chains.{IsNeedlePoint, last_point_or}
 use Rattle.drawing_text.proofs.PrintedBlocks.{Rises, all_below, items_below, items_in, more_below, none_first, rises_of}
-use Rattle.drawing_text.proofs.PrintedDrawings.{all_middle, ended, found_from, found_in}
+use Rattle.drawing_text.proofs.PrintedDrawings.{ended, found_from, found_in}
 use Rattle.drawing_text.proofs.PrintedEnds.{end_at, unnumbered}
 use Rattle.drawing_text.specs.declared.draw_fault.DrawFault.{DrawFault}
 use Rattle.drawing_text.specs.declared.walk_end.WalkEnd.{WalkEnd}
@@ -24,7 +24,6 @@ use Rattle.drawing_text.specs.DrawingText.{at_line, drawing_with_ends}
 use Rattle.drawing_model.specs.EndOrders.{AreInBlockOrder}
 use Rattle.design_model.proofs.CallerLemmas.{same_is}
 use Rattle.drawing_model.proofs.CallerLemmas.{spot_comes}
-use Rattle.lists_and_numbers.proofs.CallerLemmas.{pairs_tail}
 use Rattle.step_splitter.proofs.CallerLemmas.{last_in_range}
 
 abbrev put_if : Bool → Spot → List Spot → List Spot
@@ -117,17 +116,6 @@ all_named kind threads starts ends ordered there =
     ap (λ (list : List Spot). list ++ named) (sym (none_first of_spot spots))
     ∙ (named_from kind 0 threads starts ends (rises_of of_spot spots ordered)
     ∙ (ap (λ (n : ℕ). items_below of_spot n spots) (omega arith) ∙ all_below of_spot (length threads) spots there))
-
-pairs_head : {A : Type 0} (R : A → A → Type 0) (x : A) (xs : List A) → AllPairs R (x ∷ xs) → All (R x) xs
-pairs_head R x xs pairs = λ k d there. pairs 0 (suc k) d (omega arith) (omega (arith, there))
-
-pairs_middle : {A : Type 0} (R : A → A → Type 0) (before : List A) (x : A) (after : List A) → AllPairs R (before ++ x ∷ after)
-    → All (λ a. R a x) before
-pairs_middle {A} R [] x after pairs = All-nil (λ (a : A). R a x)
-pairs_middle {A} R (b ∷ before) x after pairs =
-    All-cons (λ (a : A). R a x) b before
-    (all_middle (R b) before x after (pairs_head R b (before ++ x ∷ after) pairs))
-    (pairs_middle R before x after (pairs_tail R b (before ++ x ∷ after) pairs))
 
 -- one more start or end, and then the others
 one_added : (number : ℕ) (is_start : Bool) (spot : Spot) (d next : DrawingValue) (rest : List WalkEnd)

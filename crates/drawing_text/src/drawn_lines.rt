@@ -4,10 +4,10 @@ ghost use Rattle.drawing_text.specs.TextLines.{empty_draft};
 ghost use Rattle.drawing_text.specs.Words.{words_by_line};
 
 use crate::draft::DrawingDraft;
+use crate::draft_reading::draft_of_lines;
 use crate::draw_fault::{DrawFault, fault_with_line};
 use crate::limits::MAX_TEXT;
 use crate::reading::find_body;
-use crate::text_words::{next_line, without_return};
 use crate::version::Version;
 use crate::walk_end::WalkEnds;
 use drawing_model::Drawing;
@@ -40,17 +40,7 @@ fn lines_in(
     requires { first + length text.now ≤ MAX_TEXT + 1 }
     ensures { ReadsLines (lines_after version first empty_draft (words_by_line text.now)) result }
 {
-    let mut draft = DrawingDraft::new(alloc);
-    let mut number = first;
-    let mut rest = text;
-    while let Some((line, after)) = next_line(rest) {
-        match draft.take_line(alloc, version, number, without_return(line)) {
-            Ok(()) => {}
-            Err(kind) => return Err(fault_with_line(number, draft.opened, kind)),
-        }
-        number += 1;
-        rest = after;
-    }
+    let (draft, number) = draft_of_lines(alloc, version, first, text)?;
     drawn(version, number, draft)
 }
 

@@ -1,7 +1,5 @@
-ghost use Rattle.std.specs.Prelude.{◌≡◌, ◌++◌, ◌≤◌, IfOk, Ok, OnOk, codes, length, true};
-ghost use Rattle.drawing_model.specs.JoinedDrawings.{is_joined};
+ghost use Rattle.std.specs.Prelude.{◌≡◌, ◌++◌, IfOk, Ok, OnOk};
 ghost use Rattle.drawing_model.specs.WalkEnds.{HasNoEnds};
-ghost use Rattle.drawing_text.specs.CanonicalTexts.{block_text, canonical_text2};
 ghost use Rattle.drawing_text.specs.DrawingText.{drawing_of};
 ghost use Rattle.drawing_text.specs.DrawnTexts.{drawing_as_drawn};
 ghost use Rattle.drawing_text.specs.EndTexts.{block_text3, blocks_text3, canonical_text3, drawn_text, end_line_text, end_lines_text, with_ends_of};
@@ -11,7 +9,7 @@ ghost use Rattle.drawing_text.specs.TextLaws.{IsJoinedFrom};
 use crate::printing::{put_header, put_label, put_lines_of, put_number, put_point, spelled};
 use crate::theorems::drawn_texts_are_read;
 use crate::version::Version;
-use drawing_model::{Drawing, Spot, joined_drawings_stay};
+use drawing_model::{Drawing, Spot};
 use lists_and_numbers::{Bytes, Memory};
 use std::alloc::Global;
 
@@ -39,20 +37,6 @@ fn spelled_drawn(alloc: Global, drawn: &Drawing, joined: &Drawing) -> Result<Byt
         return spelled(alloc, Version::Two, drawn);
     }
     print_with_ends(alloc, drawn, joined)
-}
-
-/// Returns the canonical text of a drawing in version 3, which names its starts and ends. Reading the text of a
-/// joined drawing, whose starts and ends are in the order of their blocks, returns the drawing.
-pub fn print_drawing3(alloc: Global, d: &Drawing) -> Result<Bytes, Memory>
-    ensures value { IfOk result (λ text. text ≡ canonical_text3 d.now) }
-    ensures again { is_joined d.now ≡ true → HasOrderedEnds d.now
-        → IfOk result (λ text. drawing_of text ≡ Ok d.now) }
-{
-    d.keeps_limits();
-    joined_drawings_stay();
-    drawn_texts_are_read();
-    let text = print_with_ends(alloc, d, d)?;
-    Ok(text)
 }
 
 /// Returns the canonical text, in version 3, of lines as they are drawn, with the starts and ends of another

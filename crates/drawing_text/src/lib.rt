@@ -4,6 +4,7 @@
 
 mod coordinate_words;
 mod draft;
+mod draft_reading;
 mod draw_fault;
 mod drawn_lines;
 mod end_printing;
@@ -20,7 +21,7 @@ mod walk_end;
 
 pub use draw_fault::DrawFault;
 pub use drawn_lines::{DrawnLines, read_lines};
-pub use end_printing::{print_drawing3, print_drawn};
+pub use end_printing::print_drawn;
 pub use limits::MAX_TEXT;
 pub use printing::{print_drawing, print_drawing2};
 pub use reading::{read_as2, read_drawing};

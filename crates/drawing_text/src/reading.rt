@@ -3,7 +3,7 @@ ghost use Rattle.drawing_text.specs.DrawingText.{IsDrawingOfVersion, IsJoinedWit
 ghost use Rattle.drawing_text.specs.TextLines.{empty_draft};
 ghost use Rattle.drawing_text.specs.Words.{is_ignored_line, words_by_line, words_of_line};
 
-use crate::draft::DrawingDraft;
+use crate::draft_reading::draft_of_lines;
 use crate::draw_fault::{DrawFault, fault_with_line};
 use crate::limits::MAX_TEXT;
 use crate::text_words::{is_comment, next_line, next_word, only_word, without_return};
@@ -102,16 +102,6 @@ fn read_body(alloc: Global, version: Version, first: u32, text: &[u8]) -> Result
         (words_by_line text.now)) result }
     ensures meant { IfOk result (IsDrawingOfVersion version) }
 {
-    let mut draft = DrawingDraft::new(alloc);
-    let mut number = first;
-    let mut rest = text;
-    while let Some((line, after)) = next_line(rest) {
-        match draft.take_line(alloc, version, number, without_return(line)) {
-            Ok(()) => {}
-            Err(kind) => return Err(fault_with_line(number, draft.opened, kind)),
-        }
-        number += 1;
-        rest = after;
-    }
+    let (draft, number) = draft_of_lines(alloc, version, first, text)?;
     draft.finish(alloc, version, number)
 }

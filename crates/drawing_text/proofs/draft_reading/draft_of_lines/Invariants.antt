@@ -1,13 +1,16 @@
 use Rattle.std.proofs.Common.{◌≡◌, ◌+◌, ◌≤◌, length}
+use Rattle.drawing_text.specs.DrawingText.{drawing_after_lines}
 use Rattle.drawing_text.specs.DrawnTexts.{lines_after}
 use Rattle.drawing_text.specs.TextLines.{empty_draft}
 use Rattle.drawing_text.specs.Words.{words_by_line}
-use Rattle.drawing_text.proofs.drawn_lines.lines_in.Given as goal
+use Rattle.drawing_text.proofs.draft_reading.draft_of_lines.Given as goal
 
--- the draft is that of the lines so far, and the result depends on it and on those that are left
+-- the draft is that of the lines so far, and each result depends on it and on those that are left
 abbrev pub invariant-loop-line : goal.invariant-loop-line
 invariant-loop-line l = record {
-  read : lines_after l.version l.first empty_draft (words_by_line l.text)
+  drawing : drawing_after_lines l.version l.first empty_draft (words_by_line l.text)
+      ≡ drawing_after_lines l.version l.number l.draft (words_by_line l.rest);
+  lines : lines_after l.version l.first empty_draft (words_by_line l.text)
       ≡ lines_after l.version l.number l.draft (words_by_line l.rest);
   early : l.number + length l.rest ≤ 67108865;
 }
