@@ -1,5 +1,5 @@
 -- Lemmas that this crate and those above cite.
-use Rattle.std.proofs.Common.{All, AllPairs, Bool, Err, IfOk, List, Ok, Result, Some, [], ap, arith, false, get_or, length, not, refl, subst, suc, sym, true, ℕ, ◌++◌, ◌+◌, ◌-◌, ◌<◌, ◌==◌, ◌∙◌, ◌∷◌, ◌≡◌, ◌≢◌, ◌≤◌}
+use Rattle.std.proofs.Common.{All, AllPairs, Bool, Err, IfOk, List, Ok, Result, Some, [], ap, arith, false, get_or, length, not, refl, suc, true, ℕ, ◌++◌, ◌+◌, ◌-◌, ◌<◌, ◌∷◌, ◌≡◌, ◌≢◌, ◌≤◌}
 use Rattle.std.proofs.lemmas.Bool.{false_from_ne_true, or_from}
 use Rattle.std.proofs.lemmas.Bool.Decides.{nat_tests}
 use Rattle.std.proofs.lemmas.List.{length-append}
@@ -42,10 +42,7 @@ none_repeats (p ∷ rest) moving = none_after p rest moving
 -- whether the last block is empty
 pub last_by : (d : DrawingValue) (block : ℕ) (used : Bool) → length d.threads ≡ block + 1 → is_used d block ≡ used
     → is_last_empty d ≡ not used
-last_by d block used count is =
-    let some : (length d.threads == 0) ≡ false = grind (arith, nat_tests) in
-    let last : length d.threads - 1 ≡ block = omega arith in
-    rw (some, last, is) refl
+last_by d block used count is = grind (arith, nat_tests)
 
 -- What holds of all spots holds of one of them.
 pub in_middle : (P : Spot → Type 0) (before : List Spot) (spot : Spot) (rest : List Spot) → All P (before ++ spot ∷ rest) → P spot
@@ -94,14 +91,12 @@ last_point_or-get_or p (q ∷ rest) d = last_point_or-get_or q rest d
 pub ends_are : (points : List Point) (d : Point) → 1 ≤ length points
     → endpoints points ≡ get_or points 0 d ∷ get_or points (length points - 1) d ∷ []
 ends_are [] d some = absurd (omega arith)
-ends_are (p ∷ rest) d some =
-    ap (λ q. p ∷ q ∷ []) (last_point_or-get_or p rest d ∙ ap (λ i. get_or (p ∷ rest) i d) (omega arith))
+ends_are (p ∷ rest) d some = grind (arith, nat_tests, last_point_or-get_or p rest d)
 
 -- the last point by its place
 pub last_is : (points : List Point) (d : Point) → 1 ≤ length points → last_point points ≡ Some (get_or points (length points - 1) d)
 last_is [] d some = absurd (omega arith)
-last_is (p ∷ rest) d some =
-    ap (λ (q : Point). Some q) (last_point_or-get_or p rest d ∙ ap (λ i. get_or (p ∷ rest) i d) (omega arith))
+last_is (p ∷ rest) d some = grind (arith, nat_tests, last_point_or-get_or p rest d)
 
 -- the needle points of segments are as many as their steps
 segment_count : (step : ℕ) (p : Point) (points : List Point)
@@ -133,8 +128,7 @@ module _ (d : DrawingValue) (line : ℕ) (there : line < length d.lines) (keeps 
   points_are = ap optional_line_points (slice_get-get_or d.lines line no_line there)
 
   pub line_there : IsLine (points_of d line)
-  line_there = let Line : List Point → Type 0 = λ points. IsLine points in
-      subst Line (sym points_are) (keeps.lines line no_line there)
+  line_there = grind (arith, nat_tests, points_are)
 
   pub cost_is : length (needles_of_line d line) ≡ steps_of_line d.step (points_of d line) + 1
   cost_is = needle_count d.step (points_of d line) (omega (arith, line_there.long))

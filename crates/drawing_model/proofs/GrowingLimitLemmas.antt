@@ -1,5 +1,5 @@
 -- Growing drawings keep their limits. The finished ones are valid, and stay so when they are joined and get starts and ends.
-use Rattle.std.proofs.Common.{◌≡◌, ◌≢◌, ℕ, ◌<◌, ◌≤◌, inr, ◌==◌, Bool, true, false, not, nat_lt, List, [], ◌∷◌, Result, Ok, Err, IfOk, length, All, sym, refl, arith, if◌then◌else◌}
+use Rattle.std.proofs.Common.{◌≡◌, ◌≢◌, ℕ, ◌<◌, ◌≤◌, ◌==◌, Bool, true, false, not, nat_lt, List, [], ◌∷◌, Result, Ok, Err, IfOk, length, All, refl, arith, if◌then◌else◌}
 use Rattle.std.proofs.lemmas.Bool.{or_parts}
 use Rattle.std.proofs.lemmas.Bool.Decides.{nat_tests}
 use Rattle.std.proofs.lemmas.List.Elements.{All-cons, All-nil, All-push}
@@ -9,7 +9,7 @@ use Rattle.design_model.specs.declared.point.Point.{Point}
 use Rattle.step_splitter.specs.Chains.{IsNeedlePoint}
 use Rattle.line_sections.specs.declared.spot.Spot.{Spot}
 use Rattle.line_sections.specs.Lines.{LineValue}
-use Rattle.line_sections.specs.Sections.{SectionsAreWhole, SectionsHaveSegments, SectionsKeepSegments, WholeLinesStay, all_sections}
+use Rattle.line_sections.specs.Sections.{SectionsAreWhole, SectionsHaveSegments, SectionsKeepSegments, WholeLinesStay}
 use Rattle.drawing_model.specs.declared.draw_kind.DrawKind.{DrawKind}
 use Rattle.drawing_model.specs.declared.draw_kind.DrawKind.TheVariants as kind
 use Rattle.drawing_model.specs.Drawings.{DrawingValue, IsLine, KeepsDrawingLimits}
@@ -38,15 +38,7 @@ differ m n test = grind (arith, nat_tests, test)
 -- a growing drawing is a state of its maker
 made_of : (d : DrawingValue) (empty : Bool) → is_last_empty d ≡ empty → IsGrowingDrawing d
     → IsMakerState d empty (point_count d.lines) (step_count d.step d.lines)
-made_of d empty is grows = record {
-  head = grows.head;
-  blocks = grows.blocks;
-  lines = grows.lines;
-  no_ends = grows.no_ends;
-  last_is = sym is;
-  points_are = refl;
-  steps_are = refl;
-}
+made_of d empty is grows = grind (arith, nat_tests)
 
 grown_of : (d : DrawingValue) (empty : Bool) (points steps : ℕ) → IsMakerState d empty points steps → IsGrowingDrawing d
 grown_of d empty points steps made = record { head = made.head; blocks = made.blocks; lines = made.lines; no_ends = made.no_ends }
@@ -71,14 +63,10 @@ empty_grows label step head = record {
 }
 
 pub label_grows : LabelsKeepGrowing
-label_grows d word grows test =
-    grown_of (record d { label = word }) (is_last_empty d) _ _
-    (label_set d word (is_last_empty d) _ _ (made_of d (is_last_empty d) refl grows) test)
+label_grows d word grows test = grind (arith, nat_tests, grown_of, label_set d word (is_last_empty d))
 
 pub step_grows : StepsKeepGrowing
-step_grows d step grows none low high =
-    grown_of (record d { step = step }) (is_last_empty d) _ _
-    (step_set d step (is_last_empty d) _ _ (made_of d (is_last_empty d) refl grows) low high none)
+step_grows d step grows none low high = grind (arith, nat_tests, grown_of, step_set d step (is_last_empty d))
 
 pub block_grows : BlocksKeepGrowing
 block_grows d thread grows fits =
@@ -89,11 +77,7 @@ block_grows d thread grows fits =
 
 -- a line that passes the tests may be added
 comes : (d : DrawingValue) (points : List Point) → All IsNeedlePoint points → IfOk (steps_with_line d points) (MayCome d points)
-comes d points in_range = by_result (steps_with_line d points) refl
-  where
-    by_result : (r : Result ℕ DrawKind) → steps_with_line d points ≡ r → IfOk r (MayCome d points)
-    by_result (Ok steps) is = may_come d points steps in_range is
-    by_result (Err why) is = tt
+comes d points in_range = grind (arith, nat_tests, may_come d points)
 
 pub line_grows : LinesKeepGrowing
 line_grows d points grows =
@@ -116,14 +100,7 @@ no_more n limit test = grind (arith, nat_tests, test)
 -- sections of a valid drawing are its lines in a valid one
 pub joined_valid : SectionsKeepSegments → SectionsHaveSegments → WholeLinesStay → SectionsAreWhole → JoinedDrawingsAreValid
 joined_valid keep have stay whole d valid =
-    let sections : List LineValue = all_sections d.lines in
-    unless IsValidJoinedDrawing (nat_lt 1024 (length sections)) kind.TooManyLines _ (λ few.
-    unless IsValidJoinedDrawing (nat_lt 65536 (point_count sections)) kind.TooManyPoints _ (λ short.
-    record {
-      valid = all_kept keep have stay d d.lines sections sections valid.limits valid.ends refl refl refl
-          (no_more (length sections) 1024 few) short;
-      joined = whole d.lines;
-    }))
+    grind (arith, nat_tests, unless IsValidJoinedDrawing, all_kept keep have stay d d.lines, no_more)
 
 -- a spot that may be added is a junction in a piece of its own
 spots_apart : (lines : List LineValue) (spots : List Spot) (spot : Spot) → AreInDifferentPieces lines spots
@@ -146,33 +123,12 @@ spots_apart lines spots spot apart =
 -- the limits say nothing of starts and ends
 limits_with : (d : DrawingValue) (starts ends : List Spot) → KeepsDrawingLimits d
     → KeepsDrawingLimits (record d { starts = starts; ends = ends })
-limits_with d starts ends keeps = record {
-  label = keeps.label;
-  one_word = keeps.one_word;
-  step_from = keeps.step_from;
-  step_to = keeps.step_to;
-  blocks_from = keeps.blocks_from;
-  blocks_to = keeps.blocks_to;
-  threads = keeps.threads;
-  used = keeps.used;
-  there = keeps.there;
-  ordered = keeps.ordered;
-  lines = keeps.lines;
-  line_count = keeps.line_count;
-  point_count = keeps.point_count;
-  cost = keeps.cost;
-}
+limits_with d starts ends keeps = grind (arith, nat_tests)
 
 -- a valid joined drawing has other starts and ends where these are in different pieces
 with_ends : (d : DrawingValue) (starts ends : List Spot) → IsValidJoinedDrawing d → AreInDifferentPieces d.lines starts
     → AreInDifferentPieces d.lines ends → IsValidJoinedDrawing (record d { starts = starts; ends = ends })
-with_ends d starts ends is one two = record {
-  valid = record {
-    limits = limits_with d starts ends is.valid.limits;
-    ends = record { starts = one; ends = two; joined = inr is.joined };
-  };
-  joined = is.joined;
-}
+with_ends d starts ends is one two = grind (arith, nat_tests, limits_with d starts ends is.valid.limits)
 
 pub walk_end_valid : WalkEndsKeepValid
 walk_end_valid true d spot is =

@@ -1,5 +1,5 @@
 -- The drawing of all sections keeps the limits of drawings.
-use Rattle.std.proofs.Common.{◌≡◌, ℕ, zero, suc, ◌<◌, ◌≤◌, ◌⊎◌, inl, inr, true, false, nat_lt, List, [], ◌∷◌, ◌++◌, length, map, All, Contains, ap, sym, subst, ◌∙◌, refl, arith}
+use Rattle.std.proofs.Common.{◌≡◌, ℕ, zero, suc, ◌<◌, ◌≤◌, inl, inr, true, false, nat_lt, List, [], ◌∷◌, ◌++◌, length, map, All, Contains, ap, sym, subst, ◌∙◌, refl, arith}
 use Rattle.std.proofs.lemmas.Bool.Decides.{nat_tests}
 use Rattle.std.proofs.lemmas.List.{get_or-map, length-map, map-append}
 use Rattle.std.proofs.lemmas.List.Concat.{flat_map-cons}
@@ -8,13 +8,12 @@ use Rattle.std.specs.List.{flat_map}
 use Rattle.std.specs.List.Sorted.{IsNonDecreasing}
 use Rattle.design_model.specs.declared.point.Point.{Point}
 use Rattle.line_sections.specs.Lines.{LineValue}
-use Rattle.line_sections.specs.Sections.{SectionsHaveSegments, SectionsKeepSegments, WholeLinesStay, all_sections, are_whole_lines, is_shared_point, line_sections, lines_through, sections_of}
+use Rattle.line_sections.specs.Sections.{SectionsHaveSegments, SectionsKeepSegments, WholeLinesStay, all_sections, are_whole_lines, is_shared_point, line_sections, sections_of}
 use Rattle.drawing_model.specs.Drawings.{DrawingValue, IsLine, KeepsDrawingLimits}
 use Rattle.drawing_model.specs.GrowingDrawings.{point_count}
-use Rattle.drawing_model.specs.JoinedDrawings.{JoinedDrawingsStay, is_joined}
-use Rattle.drawing_model.specs.WalkEnds.{HasNoEnds, IsValidDrawing, HasValidEnds}
-use Rattle.drawing_model.proofs.MakerLemmas.{unended}
-use Rattle.drawing_model.proofs.SectionCosts.{AreSome, cost_kept, sections_sew, some_sections}
+use Rattle.drawing_model.specs.JoinedDrawings.{JoinedDrawingsStay}
+use Rattle.drawing_model.specs.WalkEnds.{IsValidDrawing, HasValidEnds}
+use Rattle.drawing_model.proofs.SectionCosts.{cost_kept, sections_sew, some_sections}
 
 -- what holds of all sections
 module _ (of_line : LineValue → List LineValue) where
@@ -111,16 +110,7 @@ in_block lines line = All-map (λ (l : LineValue). l.block ≡ line.block) (line
 -- and each line has one
 has_section : SectionsKeepSegments → (lines : List LineValue) (line : LineValue) → IsLine line.points
     → Contains (map (λ (l : LineValue). l.block) (line_sections lines line)) line.block
-has_section keep lines line able = from_some (sections_of (is_shared_point lines line.block) line.points)
-    (some_sections keep (is_shared_point lines line.block) line.points able)
-  where
-    from_some : (sections : List (List Point)) → AreSome sections
-        → Contains (map (λ (l : LineValue). l.block) (lines_through line.block sections)) line.block
-    from_some [] some = absurd (none_some some.first some.others some.is)
-      where
-        none_some : (first : List Point) (others : List (List Point)) → [] ≡ first ∷ others → ⊥
-        none_some first others is = cc
-    from_some (section ∷ rest) some = (0, omega arith, refl)
+has_section keep lines line able = grind (arith, nat_tests, some_sections keep (is_shared_point lines line.block) line.points able)
 
 keeps_joined : SectionsKeepSegments → SectionsHaveSegments → (d : DrawingValue) → KeepsDrawingLimits d
     → nat_lt 1024 (length (all_sections d.lines)) ≡ false
@@ -154,11 +144,7 @@ keeps_joined keep have d keeps few short = record {
 keeps_sections : SectionsKeepSegments → SectionsHaveSegments → (d : DrawingValue) (lines sections slice : List LineValue)
     → KeepsDrawingLimits d → lines ≡ d.lines → sections ≡ all_sections lines → slice ≡ sections → length sections ≤ 1024
     → nat_lt 65536 (point_count slice) ≡ false → KeepsDrawingLimits (record d { lines = sections })
-keeps_sections keep have d lines sections slice keeps same are slice_is few short =
-    let is : sections ≡ all_sections d.lines = are ∙ ap all_sections same in
-    subst (λ (s : List LineValue). KeepsDrawingLimits (record d { lines = s })) (sym is)
-    (keeps_joined keep have d keeps (ap (λ (s : List LineValue). nat_lt 1024 (length s)) (sym is) ∙ grind (arith, nat_tests, few))
-    (ap (λ (s : List LineValue). nat_lt 65536 (point_count s)) (sym is ∙ sym slice_is) ∙ short))
+keeps_sections keep have d lines sections slice keeps same are slice_is few short = grind (arith, nat_tests, keeps_joined keep have d keeps)
 
 -- lines that are whole are their own sections, since each has a point
 joined_same : WholeLinesStay → (lines : List LineValue) → All (λ (line : LineValue). IsLine line.points) lines
@@ -169,23 +155,13 @@ joined_same stay lines able =
 
 -- and so a drawing that is joined stays as it is
 pub joined_stay : WholeLinesStay → JoinedDrawingsStay
-joined_stay stay d keeps joined =
-    let is = joined_same stay d.lines keeps.lines joined in
-    let few : nat_lt 1024 (length d.lines) ≡ false = grind (arith, nat_tests, keeps.line_count) in
-    let short : nat_lt 65536 (point_count d.lines) ≡ false = grind (arith, nat_tests, keeps.point_count) in
-    rw (is, few, short) refl
+joined_stay stay d keeps joined = grind (arith, nat_tests, joined_same stay d.lines keeps.lines joined)
 
 -- and its starts and ends stay
 ends_kept : WholeLinesStay → (d : DrawingValue) (sections : List LineValue) → KeepsDrawingLimits d → HasValidEnds d
     → sections ≡ all_sections d.lines
     → HasValidEnds (record d { lines = sections })
-ends_kept stay d sections keeps ends are = by_joined ends.joined
-  where
-    by_joined : HasNoEnds d ⊎ (is_joined d ≡ true) → HasValidEnds (record d { lines = sections })
-    by_joined (inl none) = unended (record d { lines = sections }) (record { starts = none.starts; ends = none.ends })
-    by_joined (inr joined) =
-        subst (λ (s : List LineValue). HasValidEnds (record d { lines = s })) (sym (are ∙ joined_same stay d.lines keeps.lines joined))
-        (record { starts = ends.starts; ends = ends.ends; joined = inr joined })
+ends_kept stay d sections keeps ends are = grind (arith, nat_tests, joined_same stay d.lines keeps.lines)
 
 -- so all is kept
 pub all_kept : SectionsKeepSegments → SectionsHaveSegments → WholeLinesStay → (d : DrawingValue)

@@ -1,6 +1,6 @@
 -- Drawings that grow keep their limits.
-use Rattle.std.proofs.Common.{◌≡◌, ◌≢◌, ℕ, ◌+◌, ◌-◌, ◌<◌, ◌≤◌, inl, ◌==◌, Bool, true, false, ◌||◌, nat_le, nat_lt, List, [], ◌∷◌, ◌++◌, Result, Ok, Err, length, map, get_or, All, Contains, ap, sym, subst, ◌∙◌, refl, arith, length-append, eq-eqb, if◌then◌else◌}
-use Rattle.std.proofs.lemmas.Bool.{and_parts, both_ways, or_parts, or_right}
+use Rattle.std.proofs.Common.{◌≡◌, ◌≢◌, ℕ, ◌+◌, ◌-◌, ◌<◌, ◌≤◌, ◌==◌, Bool, true, false, nat_le, nat_lt, List, [], ◌∷◌, ◌++◌, Result, Ok, Err, length, map, get_or, All, Contains, sym, subst, ◌∙◌, refl, arith, length-append, eq-eqb, if◌then◌else◌}
+use Rattle.std.proofs.lemmas.Bool.{and_parts, or_parts, or_right}
 use Rattle.std.proofs.lemmas.Bool.Decides.{nat_tests}
 use Rattle.std.proofs.lemmas.List.{map-append}
 use Rattle.std.proofs.lemmas.List.Elements.{All-get_or, All-head, All-map, All-nil, All-push, All-weaker, Contains-append_left, Contains-append_right}
@@ -22,15 +22,14 @@ use Rattle.drawing_model.specs.Drawings.{DrawingValue, HasNoRepeat, IsLine, Keep
 use Rattle.drawing_model.specs.GrowingDrawings.{all_in_needle_range, has_repeated_point, is_drawing_label, is_last_empty, is_used, point_count, repeats_after, step_count, steps_with_line, with_new_block, with_new_line}
 use Rattle.drawing_model.specs.DrawingMakerInvariants.{AreBlocks, IsMakerState}
 use Rattle.drawing_model.specs.Needles.{steps_of_line}
-use Rattle.drawing_model.specs.WalkEnds.{AreInDifferentPieces, HasNoEnds, IsValidDrawing, HasValidEnds, is_junction}
+use Rattle.drawing_model.specs.WalkEnds.{HasNoEnds, IsValidDrawing, HasValidEnds, is_junction}
 use Rattle.drawing_model.proofs.CallerLemmas.{last_by, same_found}
 
 -- where no repeat is found, none is there
 keeps_moving : (p : Point) (rest : List Point) → repeats_after p rest ≡ false → HasNoRepeatAfter p rest
 keeps_moving p [] none = tt
 keeps_moving p (q ∷ rest) none =
-    let both = or_parts (is_same_point p q) (repeats_after q rest) none in
-    (λ same. both_ways (is_same_point p q) both.0 (same_found p q same), keeps_moving q rest both.1)
+    grind (arith, nat_tests, or_parts (is_same_point p q) (repeats_after q rest) none, same_found p q, keeps_moving q rest)
 
 pub no_repeat : (points : List Point) → has_repeated_point points ≡ false → HasNoRepeat points
 no_repeat [] none = tt
@@ -76,68 +75,27 @@ label_of word test =
 -- with another label
 pub label_set : (d : DrawingValue) (word : List ℕ) (empty : Bool) (points steps : ℕ) → IsMakerState d empty points steps
     → is_drawing_label word ≡ true → IsMakerState (record d { label = word }) empty points steps
-label_set d word empty points steps made test =
-    let labelled = label_of word test in
-    record {
-      head = record {
-        label_ok = labelled.0;
-        one_word = labelled.1;
-        step_from = made.head.step_from;
-        step_to = made.head.step_to;
-      };
-      blocks = made.blocks;
-      lines = made.lines;
-      no_ends = record { starts = made.no_ends.starts; ends = made.no_ends.ends };
-      last_is = made.last_is;
-      points_are = made.points_are;
-      steps_are = made.steps_are;
-    }
+label_set d word empty points steps made test = grind (arith, nat_tests, label_of word test)
 
 -- before any block there are no lines
 no_lines : (threads : List ℕ) (lines : List LineValue) → All (λ line. line.block < length threads) lines
     → length threads ≡ 0 → lines ≡ []
 no_lines threads [] there none = refl
-no_lines threads (line ∷ rest) there none =
-    absurd (omega (arith, All-head (λ l. l.block < length threads) line rest there))
+no_lines threads (line ∷ rest) there none = grind (arith, nat_tests, All-head (λ l. l.block < length threads) line rest there)
 
 -- and another step may be set
 pub step_set : (d : DrawingValue) (step : ℕ) (empty : Bool) (points steps : ℕ) → IsMakerState d empty points steps
     → 1 ≤ step → step ≤ 2047 → length d.threads ≡ 0 → IsMakerState (record d { step = step }) empty points steps
-step_set d step empty points steps made low high none =
-    let unlined = no_lines d.threads d.lines made.blocks.there none in
-    let before : step_count d.step d.lines ≡ 0 = ap (step_count d.step) unlined in
-    let after : step_count step d.lines ≡ 0 = ap (step_count step) unlined in
-    record {
-      head = record {
-        label_ok = made.head.label_ok;
-        one_word = made.head.one_word;
-        step_from = low;
-        step_to = high;
-      };
-      blocks = made.blocks;
-      lines = record {
-        each = made.lines.each;
-        line_count = made.lines.line_count;
-        points_to = made.lines.points_to;
-        cost = omega (arith, after);
-      };
-      no_ends = record { starts = made.no_ends.starts; ends = made.no_ends.ends };
-      last_is = made.last_is;
-      points_are = made.points_are;
-      steps_are = made.steps_are ∙ (before ∙ sym after);
-    }
+step_set d step empty points steps made low high none = grind (arith, nat_tests, no_lines d.threads d.lines made.blocks.there none)
 
 -- a block that a line is found in has a line
 used_by : (found : Bool) (block : ℕ) (line : LineValue) (lines : List LineValue) → (line.block == block) ≡ found
     → (list_any (λ l. l.block == block) lines ≡ true → Contains (map (λ l. l.block) lines) block)
     → list_any (λ l. l.block == block) (line ∷ lines) ≡ true
     → Contains (map (λ l. l.block) (line ∷ lines)) block
-used_by true block line lines test later some =
-    let same : line.block ≡ block = grind (arith, nat_tests, test) in
-    (0, omega arith, same)
+used_by true block line lines test later some = grind (arith, nat_tests)
 used_by false block line lines test later some =
-    let here : (false || list_any (λ (l : LineValue). l.block == block) lines) ≡ true = rw test at some in
-    Contains-append_right (line.block ∷ []) (map (λ (l : LineValue). l.block) lines) block (later here)
+    grind (arith, nat_tests, Contains-append_right (line.block ∷ []) (map (λ (l : LineValue). l.block) lines) block)
 
 used_there : (block : ℕ) (lines : List LineValue) → list_any (λ l. l.block == block) lines ≡ true
     → Contains (map (λ l. l.block) lines) block
@@ -156,8 +114,7 @@ unused block lines there = list_any_none (λ (l : LineValue). l.block == block) 
 last_used : (d : DrawingValue) (block : ℕ) (used : Bool) → length d.threads ≡ block + 1 → is_used d block ≡ used
     → is_last_empty d ≡ false → used ≡ true
 last_used d block true count is filled = refl
-last_used d block false count is filled =
-    absurd (both_ways (is_last_empty d) filled (last_by d block false count is))
+last_used d block false count is filled = grind (arith, nat_tests, last_by d block false count is)
 
 used_at : (d : DrawingValue) (block : ℕ) (last : Bool) → AreBlocks d.threads d.lines → is_last_empty d ≡ false
     → block < length d.threads → (block + 1 == length d.threads) ≡ last
@@ -169,8 +126,7 @@ used_at d block false blocks filled there test = blocks.used block (grind (arith
 
 used_all : (d : DrawingValue) → AreBlocks d.threads d.lines → is_last_empty d ≡ false → (block : ℕ)
     → block < length d.threads → Contains (map (λ line. line.block) d.lines) block
-used_all d blocks filled block there =
-    used_at d block (block + 1 == length d.threads) blocks filled there refl
+used_all d blocks filled block there = grind (arith, nat_tests, used_at d block (block + 1 == length d.threads) blocks filled there refl)
 
 -- with one block more
 pub block_put : (d : DrawingValue) (thread points steps : ℕ) → IsMakerState d false points steps → thread < 256
@@ -209,11 +165,7 @@ below_last : (lines : List LineValue) (count e : ℕ) → All (λ line. line.blo
     → 0 < length (map (λ (l : LineValue). l.block) lines)
     → get_or (map (λ (l : LineValue). l.block) lines) (length (map (λ (l : LineValue). l.block) lines) - 1) e ≤ count - 1
 below_last lines count e there some =
-    let numbers = map (λ (l : LineValue). l.block) lines in
-    let below : get_or numbers (length numbers - 1) e < count =
-    All-get_or (λ (n : ℕ). n < count) numbers (length numbers - 1) e (omega arith)
-    (All-map (λ (n : ℕ). n < count) (λ (l : LineValue). l.block) lines there) in
-    omega (arith, below)
+    grind (arith, nat_tests, All-get_or (λ (n : ℕ). n < count), All-map (λ (n : ℕ). n < count) (λ (l : LineValue). l.block) lines there)
 
 -- the results of the tests of a line that may be added
 pub record MayCome (d : DrawingValue) (points : List Point) (steps : ℕ) : Type 0 where
@@ -286,36 +238,11 @@ line_put d points empty count steps more made some comes =
 
 -- at its end
 drawn : (d : DrawingValue) (points steps : ℕ) → IsMakerState d false points steps → length d.threads ≢ 0 → KeepsDrawingLimits d
-drawn d points steps made some = record {
-  label = made.head.label_ok;
-  one_word = made.head.one_word;
-  step_from = made.head.step_from;
-  step_to = made.head.step_to;
-  blocks_from = omega (arith, some);
-  blocks_to = made.blocks.blocks_to;
-  threads = made.blocks.in_range;
-  used = used_all d made.blocks (sym made.last_is);
-  there = made.blocks.there;
-  ordered = made.blocks.ordered;
-  lines = made.lines.each;
-  line_count = made.lines.line_count;
-  point_count = made.lines.points_to;
-  cost = made.lines.cost;
-}
+drawn d points steps made some = grind (arith, nat_tests, used_all d made.blocks (sym made.last_is))
 
 -- where there is no start and no end, all is kept of them
 pub unended : (d : DrawingValue) → HasNoEnds d → HasValidEnds d
-unended d none = record {
-  starts = subst (AreInDifferentPieces d.lines) (sym none.starts) nothing;
-  ends = subst (AreInDifferentPieces d.lines) (sym none.ends) nothing;
-  joined = inl none;
-}
-  where
-    nothing : AreInDifferentPieces d.lines []
-    nothing = record {
-      there = All-nil (λ spot. is_junction d.lines spot ≡ true);
-      apart = λ i. λ j. λ s. λ less. λ below. absurd (omega (arith, below));
-    }
+unended d none = grind (arith, nat_tests, All-nil (λ spot. is_junction d.lines spot ≡ true))
 
 -- at its end it is a drawing
 pub drawn_all : (d : DrawingValue) (points steps : ℕ) → IsMakerState d false points steps → length d.threads ≢ 0 → IsValidDrawing d

@@ -1,4 +1,5 @@
 -- Needle points that come along a line, segment by segment.
+use Rattle.std.proofs.lemmas.Bool.Decides.{nat_tests}
 use Rattle.std.proofs.Common.{◌≡◌, ◌≢◌, ℕ, ◌+◌, ◌<◌, ◌≤◌, List, [], ◌∷◌, ◌++◌, Option, Some, None, length, get_or, take, All, ap, sym, subst, ◌∙◌, refl, arith}
 use Rattle.std.proofs.lemmas.List.{append_assoc, append-nil}
 use Rattle.std.proofs.lemmas.List.Elements.{All-append, All-cons, All-head, All-nil, All-tail}
@@ -116,18 +117,7 @@ next_segment step line before next rest after needles sewn is =
 pub all_sewn : (step : ℕ) (line : List Point) (before : Point) (rest needles : List Point)
     → IsSewn step line before rest needles → rest ≡ []
     → (needles ≡ needle_points step line) × LeadAlong step line needles
-all_sewn step line before rest needles sewn is =
-    let Sewn : List Point → Type 0 = λ r. IsSewn step line before r needles in
-    let whole : IsSewn step line before [] needles = subst Sewn is sewn in (
-      sym (append-nil needles) ∙ whole.sewn,
-      record {
-        first = whole.comes.first_is;
-        last = whole.comes.last ∙ sym whole.ends;
-        in_range = whole.comes.in_range;
-        close = whole.comes.close;
-        moving = whole.comes.moving;
-      },
-    )
+all_sewn step line before rest needles sewn is = grind (arith, nat_tests, append-nil needles)
 
 -- a line of a drawing costs no more than the entire drawing may
 module _ (d : DrawingValue) (line : ℕ) (there : line < length d.lines) (keeps : KeepsDrawingLimits d) where
@@ -139,9 +129,7 @@ module _ (d : DrawingValue) (line : ℕ) (there : line < length d.lines) (keeps 
       omega (arith, keeps.cost)
 
   pub few_points : length (points_of d line) ≤ 65536
-  few_points =
-      let part = get_or-le-sum_by (λ l. length l.points) d.lines line no_line there in
-      omega (arith, part, ap length (points_are d line there keeps), keeps.point_count)
+  few_points = grind (arith, nat_tests, get_or-le-sum_by (λ l. length l.points) d.lines line no_line there, points_are d line there keeps)
 
 -- what holds of a line's needle points
 pub needles_sound : (d : DrawingValue) (line : ℕ) (points : List Point) → line < length d.lines
@@ -157,10 +145,7 @@ needles_sound d line points there keeps is along = record {
 segments_lead : SplitPointsLead → (step : ℕ) → 1 ≤ step
     → (line : List Point) (before : Point) (rest needles : List Point)
     → IsSewn step line before rest needles → LeadAlong step line (needle_points step line)
-segments_lead lead step low line before [] needles sewn =
-    let done = all_sewn step line before [] needles sewn refl in
-    let Along : List Point → Type 0 = λ points. LeadAlong step line points in
-    subst Along done.0 done.1
+segments_lead lead step low line before [] needles sewn = grind (arith, nat_tests, all_sewn step line before [] needles sewn refl)
 segments_lead lead step low line before (next ∷ rest) needles sewn =
     let ends : List Point = split_points before next step in
     let leads = lead before next step sewn.moving.0 sewn.in_range (All-head IsNeedlePoint next rest sewn.rest_in_range) low in

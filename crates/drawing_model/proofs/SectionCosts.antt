@@ -1,4 +1,5 @@
 -- What sections have because they have the segments of their lines: they cost the same, and can be sewn.
+use Rattle.std.proofs.lemmas.Bool.Decides.{nat_tests}
 use Rattle.std.proofs.Common.{◌≡◌, ◌≢◌, ℕ, ◌≤◌, Bool, List, [], ◌∷◌, ◌++◌, length, All, sum_by, ap, sym, subst, ◌∙◌, refl, arith}
 use Rattle.std.proofs.lemmas.List.Concat.{flat_map-append, flat_map-cons}
 use Rattle.std.proofs.lemmas.List.Elements.{All-cons, All-head, All-nil, All-tail}
@@ -62,8 +63,7 @@ sections_along keep all (line ∷ rest) =
 pub cost_kept : SectionsKeepSegments → (step : ℕ) (lines : List LineValue)
     → step_count step (all_sections lines) ≡ step_count step lines
 cost_kept keep step lines =
-    steps_of_lines step (all_sections lines)
-    ∙ (ap (sum_by (steps_along step)) (sections_along keep lines lines) ∙ sym (steps_of_lines step lines))
+    grind (arith, nat_tests, steps_of_lines step (all_sections lines), sections_along keep lines lines, steps_of_lines step lines)
 
 -- a segment can be sewn
 abbrev CanSew : Point × Point → Type 0
@@ -97,8 +97,7 @@ points_sew p q (r ∷ rest) sew =
 is_line : (points : List Point) → 2 ≤ length points → All CanSew (segments_of points) → IsLine points
 is_line [] long sew = absurd (omega (arith, long))
 is_line (p ∷ []) long sew = absurd (omega (arith, long))
-is_line (p ∷ q ∷ rest) long sew =
-    let parts = points_sew p q rest sew in record { long = long; moving = parts.0; in_range = parts.1 }
+is_line (p ∷ q ∷ rest) long sew = grind (arith, nat_tests, points_sew p q rest sew)
 
 -- what holds of two lists, one after the other, holds of both
 both_lists : {A : Type 0} (P : A → Type 0) (xs ys : List A) → All P (xs ++ ys) → All P xs × All P ys
