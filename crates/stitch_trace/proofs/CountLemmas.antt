@@ -1,5 +1,5 @@
 -- The strands of a design that sews a link make a drawing, or exceed one of its counts.
-use Rattle.std.proofs.Common.{◌≡◌, ℕ, ◌+◌, ◌==◌, ◌≤◌, max, Bool, true, false, cond, nat_lt, List, [], ◌∷◌, ◌++◌, length, Option, Some, None, Result, Ok, Err, ap, sym, subst, ◌∙◌, refl, append_assoc, arith}
+use Rattle.std.proofs.Common.{◌≡◌, ℕ, ◌+◌, ◌==◌, ◌≤◌, max, Bool, true, false, cond, List, [], ◌∷◌, ◌++◌, length, Option, Some, None, Result, Ok, Err, ap, sym, subst, ◌∙◌, refl, append_assoc, arith}
 use Rattle.std.proofs.Math.Nat.{le-max_right}
 use Rattle.std.proofs.Math.Path.{ap₂}
 use Rattle.std.proofs.lemmas.Bool.Decides.{nat_tests}
@@ -11,12 +11,10 @@ use Rattle.design_model.specs.declared.point.Point.{Point}
 use Rattle.design_model.specs.ActKinds.{is_stop, needle_point, act_point, is_bare_stop}
 use Rattle.design_model.specs.Acts.{acts_of}
 use Rattle.design_model.specs.Blocks.{blocks_of, with_act_in_first_block}
-use Rattle.design_model.specs.Designs.{DesignValue, KeepsLimits, thread_of}
-use Rattle.line_sections.specs.Sections.{all_sections}
+use Rattle.design_model.specs.Designs.{DesignValue, thread_of}
 use Rattle.drawing_model.specs.declared.draw_kind.DrawKind.{DrawKind}
-use Rattle.drawing_model.specs.declared.draw_kind.DrawKind.TheVariants as kind
 use Rattle.drawing_model.specs.Drawings.{DrawingValue}
-use Rattle.drawing_model.specs.GrowingDrawings.{and_then, empty_drawing, finished_drawing, is_last_empty, point_count}
+use Rattle.drawing_model.specs.GrowingDrawings.{and_then, empty_drawing, finished_drawing, is_last_empty}
 use Rattle.drawing_model.specs.JoinedDrawings.{joined_drawing}
 use Rattle.stitch_trace.specs.declared.links.Link.{Link}
 use Rattle.stitch_trace.specs.declared.needle_moves.NeedleMove.{NeedleMove}
@@ -27,7 +25,7 @@ use Rattle.stitch_trace.specs.declared.trace_fault.TraceFault.TheVariants as fau
 use Rattle.stitch_trace.specs.Chains.{chains_of, has_links, is_sewn, new_links_of}
 use Rattle.stitch_trace.specs.TraceTheorems.{CountsAreLimits, IsCountLimit}
 use Rattle.stitch_trace.specs.Links.{first_too_long, link_size, links_in, longest, move_to_act, needle_moves_of, needle_moves_from}
-use Rattle.stitch_trace.specs.Traces.{drawing_with_strands, label_first_word, with_limit_fault, and_then_trace, trace_step, step_or_fault, strand_of, strands_added, strands_from, strands_of, traced}
+use Rattle.stitch_trace.specs.Traces.{drawing_with_strands, label_first_word, with_limit_fault, and_then_trace, trace_step, step_or_fault, strand_of, strands_added, strands_from, strands_of}
 use Rattle.stitch_trace.proofs.DistinctLemmas.{distinct_links}
 use Rattle.stitch_trace.proofs.DrawnLemmas.{ok_same}
 use Rattle.stitch_trace.proofs.FitLemmas.{AllFit, BlockSteps, acts_in_range, block_fits, each_block_steps, moves_are_steps}
@@ -83,11 +81,7 @@ first_more : (before : Option Point) (a : NumberedAct) (blocks : List (List Numb
     → links_in (move_to_act before a.number a.act ∷ []) ++ first_links (needle_point a) blocks
     ≡ first_links before (with_act_in_first_block a blocks)
 first_more before a [] = refl
-first_more before a (first ∷ rest) =
-    let move : NeedleMove = move_to_act before a.number a.act in
-    let moves : List NeedleMove = needle_moves_from (needle_point a) first in
-    sym (append_assoc (links_in (move ∷ [])) (links_in moves) (later_links rest))
-    ∙ ap (λ (links : List Link). links ++ later_links rest) (sym (links_cons move moves))
+first_more before a (first ∷ rest) = grind (arith, nat_tests, append_assoc, links_cons)
 
 flat_links : (before : Option Point) (acts : List NumberedAct)
     → links_in (needle_moves_from before acts) ≡ first_links before (blocks_of acts)
@@ -157,8 +151,7 @@ step_parts None (link ∷ rest) step is = (refl, ok_same (longest (link ∷ rest
 
 pub least_step : (links : List Link) → FirstHasSize links → has_links links ≡ true → 1 ≤ longest links
 least_step [] first some = absurd cc
-least_step (link ∷ rest) first some =
-    omega (arith, first, le-max_right 0 (link_size link), greatest_more (max 0 (link_size link)) rest)
+least_step (link ∷ rest) first some = grind (arith, nat_tests, le-max_right 0 (link_size link), greatest_more (max 0 (link_size link)) rest)
 
 never_limit : (found : Option ℕ) (links : List Link) (why : DrawKind) → step_or_fault found links ≡ Err (fault.Limit why) → ⊥
 never_limit (Some number) links why is = cc
@@ -167,14 +160,7 @@ never_limit None (link ∷ rest) why is = cc
 
 -- sections are refused for a count alone
 joined_refused : (d : DrawingValue) (why : DrawKind) → joined_drawing d ≡ Err why → IsCountLimit why
-joined_refused d why is = by_tests (nat_lt 1024 (length (all_sections d.lines))) (nat_lt 65536 (point_count (all_sections d.lines))) is
-  where
-    by_tests : (many long : Bool)
-        → cond many (Err kind.TooManyLines) (cond long (Err kind.TooManyPoints) (Ok (record d { lines = all_sections d.lines }))) ≡ Err why
-        → IsCountLimit why
-    by_tests true long is = counted kind.TooManyLines why tt is
-    by_tests false true is = counted kind.TooManyPoints why tt is
-    by_tests false false is = absurd cc
+joined_refused d why is = grind (arith, nat_tests)
 
 abbrev begun_with : DesignValue → ℕ → DrawingValue
 begun_with d step = empty_drawing (label_first_word d.label) step

@@ -1,5 +1,7 @@
 -- The new links of a block are its distinct links.
-use Rattle.std.proofs.Common.{◌≡◌, Bool, true, false, ◌||◌, ◌&&◌, cond, List, [], ◌∷◌, subst, ◌∙◌, refl, inl, inr}
+use Rattle.std.proofs.Common.{arith}
+use Rattle.std.proofs.lemmas.Bool.Decides.{nat_tests}
+use Rattle.std.proofs.Common.{◌≡◌, Bool, true, false, ◌||◌, cond, List, [], ◌∷◌, subst, refl, inl, inr}
 use Rattle.std.proofs.Math.Path.{ap₂}
 use Rattle.std.proofs.lemmas.Bool.{and_parts, or_cases, or_left, or_parts, or_right}
 use Rattle.std.specs.List.{list_all, list_any}
@@ -83,8 +85,7 @@ known before new link = is_sewn before link || is_sewn new link
 
 all_more : {X : Type 0} (f g : X → Bool) → ((x : X) → f x ≡ true → g x ≡ true) → (xs : List X) → list_all f xs ≡ true → list_all g xs ≡ true
 all_more f g more [] all = refl
-all_more f g more (x ∷ xs) all =
-    let both = and_parts (f x) (list_all f xs) all in rw (more x both.0, all_more f g more xs both.1) refl
+all_more f g more (x ∷ xs) all = grind (arith, nat_tests, and_parts (f x) (list_all f xs) all, all_more f g more xs)
 
 all_known : (before : List Link) (moves : List NeedleMove)
     → list_all (known before (links_in (new_moves before moves))) (links_in moves) ≡ true
@@ -128,7 +129,4 @@ all_known before (Sewn number link ∷ rest) = by_test (is_sewn before link) ref
         rw (here, all_more (known (link ∷ before) new) (known before (link ∷ new)) from_new (links_in rest) later) refl
 
 pub distinct_links : NewLinksAreDistinct
-distinct_links acts = record {
-  distinct = all_distinct [] (needle_moves_of acts);
-  all = all_known [] (needle_moves_of acts);
-}
+distinct_links acts = grind (arith, nat_tests, all_distinct [] (needle_moves_of acts), all_known [] (needle_moves_of acts))

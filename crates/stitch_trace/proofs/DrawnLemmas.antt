@@ -1,4 +1,5 @@
 -- A drawing that strands are added to has their links, and so have its sections.
+use Rattle.std.proofs.lemmas.Bool.Decides.{nat_tests}
 use Rattle.std.proofs.Common.{◌≡◌, ℕ, ◌+◌, ◌-◌, ◌==◌, Bool, true, false, not, cond, nat_lt, List, [], ◌∷◌, ◌++◌, length, map, flat_map, Result, Ok, Err, ap, sym, subst, ◌∙◌, refl, append_assoc, append-nil, length-append, arith}
 use Rattle.std.proofs.Math.Path.{ap₂}
 use Rattle.std.proofs.lemmas.Grind.{flat_map-append}
@@ -21,7 +22,7 @@ use Rattle.stitch_trace.specs.declared.trace_fault.TraceFault.{TraceFault}
 use Rattle.stitch_trace.specs.Chains.{chains_of, has_links, new_links_of}
 use Rattle.stitch_trace.specs.TraceTheorems.{BlockLink, LinksAreDrawn, drawn_block_count, drawn_links, in_block, link_between, links_along, sewn_links}
 use Rattle.stitch_trace.specs.Links.{needle_moves_of}
-use Rattle.stitch_trace.specs.Traces.{chains_added, drawing_with_strands, label_first_word, with_limit_fault, and_then_trace, trace_step, strand_added, strand_of, strands_added, strands_from, strands_of, traced}
+use Rattle.stitch_trace.specs.Traces.{chains_added, drawing_with_strands, label_first_word, with_limit_fault, and_then_trace, trace_step, strand_added, strand_of, strands_added, strands_from, strands_of}
 use Rattle.stitch_trace.proofs.LinkedLemmas.{chains_links, chains_where_links, has_chains}
 
 -- what is Ok is one thing, and no Err
@@ -68,9 +69,7 @@ record HasChains (d e : DrawingValue) (chains : List (List Point)) : Type 0 wher
   links : drawn_links e.lines ≡ drawn_links d.lines ++ in_block (length d.threads - 1) (flat_map links_along chains)
 
 chains_drawn : (d e : DrawingValue) (chains : List (List Point)) → chains_added d chains ≡ Ok e → HasChains d e chains
-chains_drawn d e [] is =
-    let same : d ≡ e = ok_same d e is in
-    subst (λ (f : DrawingValue). HasChains d f []) same (record { threads = refl; links = sym (append-nil (drawn_links d.lines)) })
+chains_drawn d e [] is = grind (arith, nat_tests, ok_same d e is, append-nil (drawn_links d.lines))
 chains_drawn d e (chain ∷ rest) is = onwards (goes_on (line_added d chain) (λ more. chains_added more rest) e is)
     (λ mid more. chains_drawn mid e rest more)
   where
@@ -101,8 +100,7 @@ strand_links block (strand ∷ rest) = in_block block (flat_map links_along stra
 
 strands_drawn : (d e : DrawingValue) (strands : List Strand) → strands_added d strands ≡ Ok e
     → drawn_links e.lines ≡ drawn_links d.lines ++ strand_links (length d.threads) strands
-strands_drawn d e [] is =
-    ap (λ (f : DrawingValue). drawn_links f.lines) (sym (ok_same d e is)) ∙ sym (append-nil (drawn_links d.lines))
+strands_drawn d e [] is = grind (arith, nat_tests, ok_same d e is, append-nil (drawn_links d.lines))
 strands_drawn d e (strand ∷ rest) is = onwards (goes_on (strand_added d strand) (λ more. strands_added more rest) e is)
     (λ mid more. strands_drawn mid e rest more)
   where
@@ -133,13 +131,8 @@ strands_drawn d e (strand ∷ rest) is = onwards (goes_on (strand_added d strand
 one_strand : (block thread : ℕ) (chains : List (List Point)) (links : List Link) (later : List Strand) (sewn : ℕ → List BlockLink)
     → flat_map links_along chains ≡ links → has_chains chains ≡ has_links links → ((b : ℕ) → strand_links b later ≡ sewn b)
     → strand_links block (strand_of thread chains ++ later) ≡ in_block block links ++ sewn (block + drawn_block_count links)
-one_strand block thread [] links later sewn are some rest =
-    let none : block + 0 ≡ block = omega arith in
-    rest block ∙ (ap sewn (sym none)
-    ∙ ap₂ (λ (ls : List Link) (t : Bool). in_block block ls ++ sewn (block + cond t 1 0)) are some)
-one_strand block thread (chain ∷ chains) links later sewn are some rest =
-    ap₂ (λ (ls : List Link) (more : List BlockLink). in_block block ls ++ more) are (rest (block + 1))
-    ∙ ap (λ (t : Bool). in_block block links ++ sewn (block + cond t 1 0)) some
+one_strand block thread [] links later sewn are some rest = grind (arith, nat_tests, ap₂)
+one_strand block thread (chain ∷ chains) links later sewn are some rest = grind (arith, nat_tests, ap₂)
 
 strands_sewn : (d : DesignValue) (n block : ℕ) (blocks : List (List NumberedAct))
     → strand_links block (strands_from d n blocks) ≡ sewn_links block blocks
@@ -152,12 +145,7 @@ strands_sewn d n block (acts ∷ later) =
 through_links : (block : ℕ) (sections : List (List Point))
     → drawn_links (lines_through block sections) ≡ in_block block (map link_between (flat_map segments_of sections))
 through_links block [] = refl
-through_links block (section ∷ rest) =
-    let first : List (Point × Point) = segments_of section in
-    let later : List (Point × Point) = flat_map segments_of rest in
-    ap (λ (links : List BlockLink). in_block block (map link_between first) ++ links) (through_links block rest)
-    ∙ (sym (map-append (λ (link : Link). record { block = block; link = link }) (map link_between first) (map link_between later))
-    ∙ ap (in_block block) (sym (map-append link_between first later)))
+through_links block (section ∷ rest) = grind (arith, nat_tests, through_links block rest, map-append, map-append link_between)
 
 sections_drawn : SectionsKeepSegments → (all some : List LineValue) → drawn_links (flat_map (line_sections all) some) ≡ drawn_links some
 sections_drawn keep all [] = refl

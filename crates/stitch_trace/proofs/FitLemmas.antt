@@ -1,5 +1,6 @@
 -- The chains of a design can be lines of a drawing whose step is its greatest link.
-use Rattle.std.proofs.Common.{◌≡◌, ℕ, ◌+◌, ◌*◌, ◌-◌, ◌/◌, ◌%◌, ◌<◌, ◌≤◌, max, min, Bool, true, false, ◌||◌, ◌&&◌, cond, List, [], ◌∷◌, ◌++◌, length, Option, Some, None, sym, subst, ◌∙◌, refl, arith, length-append}
+use Rattle.std.proofs.lemmas.Bool.Decides.{nat_tests}
+use Rattle.std.proofs.Common.{◌≡◌, ℕ, ◌+◌, ◌/◌, ◌%◌, ◌≤◌, min, Bool, true, false, cond, List, [], ◌∷◌, ◌++◌, length, Option, Some, None, sym, subst, ◌∙◌, refl, arith, length-append}
 use Rattle.std.proofs.Math.Nat.{le-max_right, mul-le-mul_right}
 use Rattle.std.proofs.lemmas.Bool.{and_parts, or_parts}
 use Rattle.std.proofs.lemmas.Grind.{div_ceil_times}
@@ -25,7 +26,7 @@ use Rattle.step_splitter.specs.Steps.{steps_of}
 use Rattle.stitch_trace.specs.declared.links.Link.{Link}
 use Rattle.stitch_trace.specs.declared.needle_moves.NeedleMove.{NeedleMove}
 use Rattle.stitch_trace.specs.declared.needle_moves.NeedleMove.TheVariants.{Stay, Gap, Sewn}
-use Rattle.stitch_trace.specs.Chains.{chains_of, is_sewn, new_moves, new_moves_of}
+use Rattle.stitch_trace.specs.Chains.{chains_of, new_moves, new_moves_of}
 use Rattle.stitch_trace.specs.Links.{link_size, links_in, move_to_act, needle_moves_of, needle_moves_from}
 use Rattle.stitch_trace.specs.Tracing.{chain_if_any, chains_after, extended_chain}
 use Rattle.stitch_trace.proofs.LinkedLemmas.{Follows, Linked, led_ends, moves_linked, new_linked}
@@ -84,11 +85,7 @@ after_needle : (step least : ℕ) (p q : Point) (number : ℕ) (later : List Nee
     → AreSteps step (cond t Stay (cond float Gap (Sewn number (record { from = p; to = q }))) ∷ later)
 after_needle step least p q number later from to true same float most rest = rest least most
 after_needle step least p q number later from to false same true most rest = rest least most
-after_needle step least p q number later from to false same false most rest =
-    let link : Link = record { from = p; to = q } in
-    let short : link_size link ≤ step =
-    omega (arith, most, greatest_more (max least (link_size link)) (links_in later), le-max_right least (link_size link)) in
-    (record { apart = same; from = from; to = to; short = short }, rest (max least (link_size link)) most)
+after_needle step least p q number later from to false same false most rest = grind (arith, nat_tests, greatest_more, le-max_right least)
 
 after_act : (step least : ℕ) (p : Point) (number : ℕ) (what : Act) (later : List NeedleMove) → is_point_within 30000 p ≡ true
     → is_act_in_range what ≡ true → greatest least (links_in (move_to_act (Some p) number what ∷ later)) ≤ step
@@ -123,13 +120,7 @@ pub new_are_steps : (step : ℕ) (before : List Link) (moves : List NeedleMove) 
 new_are_steps step before [] are = tt
 new_are_steps step before (Stay ∷ rest) are = new_are_steps step before rest are
 new_are_steps step before (Gap ∷ rest) are = new_are_steps step before rest are
-new_are_steps step before (Sewn number link ∷ rest) are =
-    by_test (is_sewn before link) (new_are_steps step (link ∷ before) rest are.1)
-  where
-    by_test : (t : Bool) → AreSteps step (new_moves (link ∷ before) rest)
-        → AreSteps step (cond t Gap (Sewn number link) ∷ new_moves (link ∷ before) rest)
-    by_test true later = later
-    by_test false later = (are.0, later)
+new_are_steps step before (Sewn number link ∷ rest) are = grind (arith, nat_tests, new_are_steps step (link ∷ before) rest are.1)
 
 -- the links of each block are such, those of the first where it comes after such an act
 abbrev pub BlockSteps : ℕ → List (List NumberedAct) → Type 0
@@ -212,14 +203,7 @@ FitSoFar step (p ∷ rest) = Fits step (p ∷ rest)
 
 led_fits : (step : ℕ) (begun : List Point) (place : Option Point) (link : Link) → 1 ≤ step → FitSoFar step begun
     → last_point begun ≡ place → Follows place link → IsStep step link → Fits step (extended_chain begun link)
-led_fits step [] place link some so_far ends follows is =
-    let one = one_step (link_size link) step some is.short in
-    record {
-      long = omega arith;
-      still = rw is.apart refl;
-      in_range = rw (is.from, is.to) refl;
-      cost = omega (arith, one);
-    }
+led_fits step [] place link some so_far ends follows is = grind (arith, nat_tests, one_step (link_size link) step some is.short)
 led_fits step (p ∷ rest) None link some so_far ends follows is = absurd cc
 led_fits step (p ∷ rest) (Some q) link some so_far ends follows is =
     let from : link.from ≡ last_point_or p rest = follows ∙ sym (some_same (last_point_or p rest) q ends) in

@@ -1,5 +1,5 @@
 -- Labels of one word.
-use Rattle.std.proofs.Common.{◌≡◌, ◌≢◌, ℕ, ◌+◌, ◌-◌, ◌≤◌, ◌<◌, ◌==◌, Bool, true, false, not, cond, List, [], ◌∷◌, suc, take, length, All, Option, Some, None, slice_get, get_or, Result, Ok, Err, ap, sym, subst, ◌∙◌, refl, arith}
+use Rattle.std.proofs.Common.{◌≡◌, ◌≢◌, ℕ, ◌+◌, ◌-◌, ◌≤◌, Bool, true, false, List, [], ◌∷◌, suc, take, length, All, Some, slice_get, ap, sym, subst, refl, arith}
 use Rattle.std.proofs.lemmas.Bool.Decides.{nat_tests}
 use Rattle.std.proofs.lemmas.List.Elements.{All-cons, All-nil, All-take}
 use Rattle.std.proofs.lemmas.List.{length-take}
@@ -22,10 +22,7 @@ no_space (byte ∷ rest) = by_test (no_space rest) (is_space byte) refl
         rw (is, next) (All-cons (λ (byte : ℕ). byte ≢ 32) byte (label_first_word rest) other later)
 
 none_at : (bytes : List ℕ) → All (λ byte. byte ≢ 32) bytes → (i : ℕ) → slice_get bytes i ≢ Some 32
-none_at bytes none i = by_place (λ (there : i < length bytes). none i 0 there)
-  where
-    by_place : (i < length bytes → get_or bytes i 0 ≢ 32) → slice_get bytes i ≢ Some 32
-    by_place other = λ (is : slice_get bytes i ≡ Some 32). other (slice_get_within bytes i 32 is) (get_or_from_slice_get bytes i 32 0 is)
+none_at bytes none i = grind (arith, nat_tests, slice_get_within bytes i 32, get_or_from_slice_get bytes i 32 0)
 
 -- and may be a label
 pub word_label : (label word : List ℕ) (n : ℕ) → word ≡ label_first_word label → word ≡ take n label → n ≤ length label → IsLabel label

@@ -1,18 +1,15 @@
 -- What refuses a traced drawing is one of its counts.
-use Rattle.std.proofs.Common.{◌≡◌, ℕ, ◌+◌, ◌-◌, ◌==◌, ◌≤◌, Bool, true, false, not, ◌||◌, ◌&&◌, cond, nat_lt, List, [], ◌∷◌, ◌++◌, length, Result, Ok, Err, ap, sym, subst, ◌∙◌, refl, length-append, arith}
+use Rattle.std.proofs.Common.{◌≡◌, ℕ, ◌+◌, ◌-◌, ◌==◌, ◌≤◌, true, false, not, List, [], ◌∷◌, length, Result, Ok, Err, ap, subst, refl, length-append, arith}
 use Rattle.std.proofs.lemmas.Bool.Decides.{nat_tests}
 use Rattle.std.proofs.lemmas.List.Folds.{list_any-append}
 use Rattle.std.proofs.lemmas.List.Sums.{sum_by-append}
-use Rattle.std.specs.List.{list_any}
 use Rattle.design_model.specs.declared.point.Point.{Point}
 use Rattle.line_sections.specs.Lines.{LineValue}
 use Rattle.drawing_model.specs.declared.draw_kind.DrawKind.{DrawKind}
-use Rattle.drawing_model.specs.declared.draw_kind.DrawKind.TheVariants as kind
 use Rattle.drawing_model.specs.Drawings.{DrawingValue}
-use Rattle.drawing_model.specs.GrowingDrawings.{and_then, block_added, is_last_empty, is_used, line_added, point_count, step_count, with_new_block, with_new_line}
+use Rattle.drawing_model.specs.GrowingDrawings.{and_then, block_added, is_last_empty, line_added, point_count, step_count, with_new_block, with_new_line}
 use Rattle.drawing_model.specs.Needles.{steps_of_line}
 use Rattle.stitch_trace.specs.declared.strands.Strand.{Strand}
-use Rattle.stitch_trace.specs.declared.trace_fault.TraceFault.TheVariants as fault
 use Rattle.stitch_trace.specs.TraceTheorems.{IsCountLimit}
 use Rattle.stitch_trace.specs.Traces.{chains_added, strand_added, strands_added}
 use Rattle.stitch_trace.proofs.DrawnLemmas.{GoesOn, block_is, goes_on, line_is, ok_same}
@@ -35,34 +32,7 @@ pub record IsReady (step : ℕ) (d : DrawingValue) : Type 0 where
 -- a line is refused for a count alone
 line_refused : (step : ℕ) (d : DrawingValue) (points : List Point) (why : DrawKind) → (length d.threads == 0) ≡ false
     → IsReady step d → Fits step points → line_added d points ≡ Err why → IsCountLimit why
-line_refused step d points why some ready fits is =
-    by_tests (length d.lines == 1024) (nat_lt 65536 (point_count d.lines + length points)) refl (sym tests ∙ is)
-  where
-    steps : ℕ
-    steps = step_count d.step d.lines + steps_of_line d.step points
-
-    tests : line_added d points ≡ and_then (cond (length d.lines == 1024) (Err kind.TooManyLines)
-        (cond (nat_lt 65536 (point_count d.lines + length points)) (Err kind.TooManyPoints)
-        (cond (nat_lt 200000 steps) (Err kind.TooMuchCost) (Ok steps)))) (λ steps. Ok (with_new_line d points))
-    tests =
-        let long : nat_lt (length points) 2 ≡ false = grind (arith, nat_tests, fits.long) in
-        rw (some, fits.in_range, long, fits.still) refl
-
-    by_tests : (many full : Bool) → nat_lt 65536 (point_count d.lines + length points) ≡ full
-        → and_then (cond many (Err kind.TooManyLines) (cond full (Err kind.TooManyPoints)
-        (cond (nat_lt 200000 steps) (Err kind.TooMuchCost) (Ok steps)))) (λ steps. Ok (with_new_line d points)) ≡ Err why → IsCountLimit why
-    by_tests true full room is = counted kind.TooManyLines why tt is
-    by_tests false true room is = counted kind.TooManyPoints why tt is
-    by_tests false false room is =
-        let low : step_count d.step d.lines ≤ point_count d.lines = rw ready.stepped ready.cost in
-        let more : steps_of_line d.step points ≤ length points = rw ready.stepped fits.cost in
-        let cheap : nat_lt 200000 steps ≡ false = grind (arith, nat_tests, low, more, room) in
-        let fine : and_then (cond (nat_lt 200000 steps) (Err kind.TooMuchCost) (Ok steps)) (λ steps. Ok (with_new_line d points))
-        ≡ Ok (with_new_line d points) = rw cheap refl in
-        absurd (never (sym fine ∙ is))
-      where
-        never : Ok (with_new_line d points) ≡ Err why → ⊥
-        never is = cc
+line_refused step d points why some ready fits is = grind (arith, nat_tests)
 
 line_ready : (step : ℕ) (d : DrawingValue) (points : List Point) → IsReady step d → Fits step points → IsReady step (with_new_line d points)
 line_ready step d points ready fits =
@@ -79,19 +49,7 @@ line_ready step d points ready fits =
     }
 
 line_used : (d : DrawingValue) (points : List Point) → is_last_empty (with_new_line d points) ≡ false
-line_used d points =
-    let block : ℕ = length d.threads - 1 in
-    let line : LineValue = record { block = block; points = points } in
-    let same : (block == block) ≡ true = grind (arith, nat_tests) in
-    let used : is_used (with_new_line d points) block ≡ true =
-    list_any-append (λ (l : LineValue). l.block == block) d.lines (line ∷ [])
-    ∙ (ap (λ (t : Bool). list_any (λ (l : LineValue). l.block == block) d.lines || (t || false)) same
-    ∙ or_true (list_any (λ (l : LineValue). l.block == block) d.lines)) in
-    rw used (and_false (not (length d.threads == 0)))
-  where
-    or_true : (t : Bool) → (t || true) ≡ true
-    or_true true = refl
-    or_true false = refl
+line_used d points = grind (arith, nat_tests, list_any-append, and_false (not (length d.threads == 0)))
 
 -- chains are refused for a count alone
 chains_refused : (step : ℕ) (d : DrawingValue) (chains : List (List Point)) (why : DrawKind) → (length d.threads == 0) ≡ false
@@ -114,8 +72,7 @@ record IsAfter (step : ℕ) (d e : DrawingValue) : Type 0 where
 
 after_chains : (step : ℕ) (d e : DrawingValue) (chains : List (List Point)) → IsReady step d → AllFit step chains
     → is_last_empty d ≡ false → chains_added d chains ≡ Ok e → IsAfter step d e
-after_chains step d e [] ready fit used is =
-    subst (IsAfter step d) (ok_same d e is) (record { threads = refl; ready = ready; used = used })
+after_chains step d e [] ready fit used is = grind (arith, nat_tests, ok_same d e is)
 after_chains step d e (chain ∷ rest) ready fit used is =
     onwards (goes_on (line_added d chain) (λ more. chains_added more rest) e is)
     (λ later. after_chains step (with_new_line d chain) e rest (line_ready step d chain ready fit.0) fit.1 (line_used d chain) later)
@@ -138,14 +95,7 @@ some_after step d e (chain ∷ rest) some ready fit is =
 
 block_refused : (d : DrawingValue) (thread : ℕ) (why : DrawKind) → is_last_empty d ≡ false → block_added d thread ≡ Err why
     → IsCountLimit why
-block_refused d thread why used is = by_test (length d.threads == 255) (sym test ∙ is)
-  where
-    test : block_added d thread ≡ cond (length d.threads == 255) (Err kind.TooManyBlocks) (Ok (with_new_block d thread))
-    test = rw used refl
-
-    by_test : (full : Bool) → cond full (Err kind.TooManyBlocks) (Ok (with_new_block d thread)) ≡ Err why → IsCountLimit why
-    by_test true is = counted kind.TooManyBlocks why tt is
-    by_test false is = absurd cc
+block_refused d thread why used is = grind (arith, nat_tests)
 
 -- strands with chains that fit
 abbrev pub StrandsFit : ℕ → List Strand → Type 0

@@ -1,4 +1,6 @@
 -- Links of a chain follow each other, so chains have the new links as their segments.
+use Rattle.std.proofs.Common.{arith}
+use Rattle.std.proofs.lemmas.Bool.Decides.{nat_tests}
 use Rattle.std.proofs.Common.{◌≡◌, ℕ, Bool, true, false, cond, List, [], ◌∷◌, ◌++◌, Option, Some, None, map, flat_map, ap, sym, subst, ◌∙◌, refl, append_assoc, append-nil}
 use Rattle.std.proofs.Math.Path.{ap₂}
 use Rattle.std.proofs.lemmas.Grind.{flat_map-append}
@@ -14,7 +16,7 @@ use Rattle.step_splitter.specs.Chains.{last_point_or}
 use Rattle.stitch_trace.specs.declared.links.Link.{Link}
 use Rattle.stitch_trace.specs.declared.needle_moves.NeedleMove.{NeedleMove}
 use Rattle.stitch_trace.specs.declared.needle_moves.NeedleMove.TheVariants.{Stay, Gap, Sewn}
-use Rattle.stitch_trace.specs.Chains.{chains_of, has_links, is_sewn, new_links_of, new_moves, new_moves_of}
+use Rattle.stitch_trace.specs.Chains.{chains_of, has_links, new_links_of, new_moves, new_moves_of}
 use Rattle.stitch_trace.specs.TraceTheorems.{link_between, links_along}
 use Rattle.stitch_trace.specs.Links.{links_in, move_to_act, needle_moves_of, needle_moves_from}
 use Rattle.stitch_trace.specs.Tracing.{chain_if_any, chains_after, extended_chain}
@@ -66,12 +68,7 @@ new_linked before place [] linked = tt
 new_linked before place (Stay ∷ rest) linked = new_linked before place rest linked
 new_linked before place (Gap ∷ rest) linked = new_linked before None rest linked
 new_linked before place (Sewn number link ∷ rest) linked =
-    by_test (is_sewn before link) (new_linked (link ∷ before) (Some link.to) rest linked.1)
-  where
-    by_test : (t : Bool) → Linked (Some link.to) (new_moves (link ∷ before) rest)
-        → Linked place (cond t Gap (Sewn number link) ∷ new_moves (link ∷ before) rest)
-    by_test true later = freed (Some link.to) (new_moves (link ∷ before) rest) later
-    by_test false later = (linked.0, later)
+    grind (arith, nat_tests, new_linked (link ∷ before) (Some link.to) rest linked.1, freed (Some link.to) (new_moves (link ∷ before) rest))
 
 -- a segment more
 led_segments : (p : Point) (rest : List Point) (q : Point) → map link_between (segments_from p (rest ++ q ∷ []))
@@ -88,9 +85,7 @@ led_links : (begun : List Point) (place : Option Point) (link : Link) → last_p
 led_links [] place link ends follows = refl
 led_links (p ∷ rest) None link ends follows = absurd cc
 led_links (p ∷ rest) (Some q) link ends follows =
-    led_segments p rest link.to
-    ∙ ap (λ (from : Point). map link_between (segments_from p rest) ++ record { from = from; to = link.to } ∷ [])
-    (some_same (last_point_or p rest) q ends ∙ sym follows)
+    grind (arith, nat_tests, led_segments p rest link.to, some_same (last_point_or p rest) q ends)
 
 pub led_ends : (begun : List Point) (link : Link) → last_point (extended_chain begun link) ≡ Some link.to
 led_ends [] link = refl

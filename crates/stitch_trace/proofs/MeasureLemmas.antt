@@ -1,5 +1,5 @@
 -- The greatest size of links.
-use Rattle.std.proofs.Common.{◌≡◌, ◌≢◌, ℕ, ℤ, ◌+◌, ◌≤◌, ◌==◌, ◌-ℤ◌, unsigned_abs, max, Bool, true, false, cond, List, [], ◌∷◌, fold, map, Option, Some, None, Result, Ok, Err, ◌∙◌, refl, arith}
+use Rattle.std.proofs.Common.{◌≡◌, ℕ, ◌≤◌, ◌==◌, ◌-ℤ◌, unsigned_abs, max, Bool, true, false, cond, List, [], ◌∷◌, fold, map, Option, Some, None, Result, Ok, Err, ◌∙◌, refl, arith}
 use Rattle.std.proofs.Math.Nat.{le-max_left, le-max_right}
 use Rattle.std.proofs.lemmas.Bool.Decides.{nat_tests, Decides-int_eq}
 use Rattle.std.proofs.lemmas.Bool.{both_ways}
@@ -15,7 +15,7 @@ use Rattle.stitch_trace.specs.declared.needle_moves.NeedleMove.{NeedleMove}
 use Rattle.stitch_trace.specs.declared.needle_moves.NeedleMove.TheVariants.{Stay, Gap, Sewn}
 use Rattle.stitch_trace.specs.declared.trace_fault.TraceFault.{TraceFault}
 use Rattle.stitch_trace.specs.declared.trace_fault.TraceFault.TheVariants as fault
-use Rattle.stitch_trace.specs.Links.{first_too_long, is_too_long, link_size, links_in, longest, move_to_act, needle_moves_of, needle_moves_from}
+use Rattle.stitch_trace.specs.Links.{first_too_long, link_size, links_in, longest, move_to_act, needle_moves_of, needle_moves_from}
 use Rattle.stitch_trace.specs.Traces.{trace_step, step_or_fault}
 use Rattle.stitch_trace.specs.Tracing.{max_size_after}
 use Rattle.lists_and_numbers.proofs.CallerLemmas.{no_difference}
@@ -50,19 +50,7 @@ measured_to : (longest : ℕ) (moves : List NeedleMove)
 measured_to longest [] = refl
 measured_to longest (Stay ∷ rest) = measured_to longest rest
 measured_to longest (Gap ∷ rest) = measured_to longest rest
-measured_to longest (Sewn number link ∷ rest) = by_test (measured_to (max longest (link_size link)) rest) (is_too_long link) refl
-  where
-    on : (found : Option ℕ) → comes_to (max longest (link_size link)) found (links_in rest)
-        ≡ comes_to longest found (link ∷ links_in rest)
-    on (Some number) = refl
-    on None = refl
-
-    by_test : max_size_after (max longest (link_size link)) rest
-        ≡ comes_to (max longest (link_size link)) (first_too_long rest) (links_in rest)
-        → (t : Bool) → is_too_long link ≡ t → max_size_after longest (Sewn number link ∷ rest)
-        ≡ comes_to longest (first_too_long (Sewn number link ∷ rest)) (link ∷ links_in rest)
-    by_test later true is = rw is refl
-    by_test later false is = rw is (later ∙ on (first_too_long rest))
+measured_to longest (Sewn number link ∷ rest) = grind (arith, nat_tests, measured_to (max longest (link_size link)) rest)
 
 -- the first of the links, if there is one, has a size
 abbrev pub FirstHasSize : List Link → Type 0
@@ -91,10 +79,7 @@ first_has_size (Some p) (a ∷ rest) =
 past_is : (found : Option ℕ) (links : List Link) → FirstHasSize links → comes_to 0 found links ≡ step_or_fault found links
 past_is (Some number) links first = refl
 past_is None [] first = refl
-past_is None (link ∷ rest) first =
-    let some : (greatest (max 0 (link_size link)) rest == 0) ≡ false =
-    grind (arith, nat_tests, le-max_right 0 (link_size link), greatest_more (max 0 (link_size link)) rest, first) in
-    rw some refl
+past_is None (link ∷ rest) first = grind (arith, nat_tests, le-max_right 0 (link_size link), greatest_more (max 0 (link_size link)) rest)
 
 -- measuring acts returns the step
 pub step_is : (acts : List NumberedAct) → max_size_after 0 (needle_moves_of acts) ≡ trace_step (needle_moves_of acts)

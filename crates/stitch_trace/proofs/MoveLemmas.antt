@@ -1,4 +1,6 @@
 -- New links by a test of what was sewn, and the chains of moves one after another.
+use Rattle.std.proofs.Common.{arith}
+use Rattle.std.proofs.lemmas.Bool.Decides.{nat_tests}
 use Rattle.std.proofs.Common.{◌≡◌, ℕ, Bool, true, false, ◌||◌, cond, List, [], ◌∷◌, ◌++◌, map, filter, ap, sym, ◌∙◌, refl, append_assoc, append-nil}
 use Rattle.std.proofs.Math.Path.{ap₂}
 use Rattle.std.proofs.lemmas.List.{map-append}
@@ -25,8 +27,7 @@ pub kept_both : (link back : Link) (old mid new : Link → Bool) → back ≡ re
     → ((q : Link) → mid q ≡ cond (is_same_directed_link link q) true (old q))
     → ((q : Link) → new q ≡ cond (is_same_directed_link back q) true (mid q)) → (q : Link) → new q ≡ (is_same_link link q || old q)
 kept_both link back old mid new is first second q =
-    second q ∙ (ap₂ (λ (b : Link) (t : Bool). cond (is_same_directed_link b q) true t) is (first q)
-    ∙ or_order (is_same_directed_link link q) (is_same_directed_link (reversed_link link) q) (old q))
+    grind (arith, nat_tests, ap₂, or_order (is_same_directed_link link q) (is_same_directed_link (reversed_link link) q) (old q))
 
 -- tests that agree find the same new links
 pub new_by_same : (f g : Link → Bool) → ((l : Link) → f l ≡ g l) → (moves : List NeedleMove) → new_moves_by f moves ≡ new_moves_by g moves
@@ -43,8 +44,7 @@ new_by_before : (before : List Link) (moves : List NeedleMove) → new_moves_by 
 new_by_before before [] = refl
 new_by_before before (Stay ∷ rest) = ap (λ (ms : List NeedleMove). Stay ∷ ms) (new_by_before before rest)
 new_by_before before (Gap ∷ rest) = ap (λ (ms : List NeedleMove). Gap ∷ ms) (new_by_before before rest)
-new_by_before before (Sewn number link ∷ rest) =
-    ap (λ (ms : List NeedleMove). cond (is_sewn before link) Gap (Sewn number link) ∷ ms) (new_by_before (link ∷ before) rest)
+new_by_before before (Sewn number link ∷ rest) = grind (arith, nat_tests, new_by_before (link ∷ before) rest)
 
 -- the runs, of which these links begin the first
 abbrev with_run : List Link → List (List Link) → List (List Link)
@@ -65,8 +65,7 @@ stay_parts run (first ∷ others) = refl
 sewn_parts : (number : ℕ) (link : Link) (run : List Link) (parts : List (List NeedleMove))
     → with_run run (map links_in (onto_first (Sewn number link) parts)) ≡ with_run (run ++ link ∷ []) (map links_in parts)
 sewn_parts number link run [] = refl
-sewn_parts number link run (first ∷ others) =
-    ap (λ (r : List Link). r ∷ map links_in others) (sym (append_assoc run (link ∷ []) (links_in first)))
+sewn_parts number link run (first ∷ others) = grind (arith, nat_tests, append_assoc run (link ∷ []) (links_in first))
 
 -- a run that is over
 ended_parts : (run : List Link) (parts : List (List Link))
@@ -74,8 +73,7 @@ ended_parts : (run : List Link) (parts : List (List Link))
 ended_parts [] [] = refl
 ended_parts [] (first ∷ others) = refl
 ended_parts (link ∷ rest) [] = ap (λ (r : List Link). points_through (link ∷ r) ∷ []) (sym (append-nil rest))
-ended_parts (link ∷ rest) (first ∷ others) =
-    ap (λ (r : List Link). points_through (link ∷ r) ∷ chains_through (first ∷ others)) (sym (append-nil rest))
+ended_parts (link ∷ rest) (first ∷ others) = grind (arith, nat_tests, append-nil rest)
 
 last_parts : (run : List Link) → chain_if_any (points_through run) ≡ chains_through ((run ++ []) ∷ [])
 last_parts [] = refl
@@ -83,18 +81,14 @@ last_parts (link ∷ rest) = ap (λ (r : List Link). points_through (link ∷ r)
 
 led_points : (run : List Link) (link : Link) → extended_chain (points_through run) link ≡ points_through (run ++ link ∷ [])
 led_points [] link = refl
-led_points (first ∷ rest) link =
-    ap (λ (ps : List Point). first.from ∷ ps) (sym (map-append (λ (one : Link). one.to) (first ∷ rest) (link ∷ [])))
+led_points (first ∷ rest) link = grind (arith, nat_tests, map-append (λ (one : Link). one.to) (first ∷ rest) (link ∷ []))
 
 -- chains that are made move by move are those between gaps
 chains_by_runs : (run : List Link) (moves : List NeedleMove)
     → chains_after (points_through run) moves ≡ chains_through (with_run run (parts_of moves))
 chains_by_runs run [] = last_parts run
-chains_by_runs run (Stay ∷ rest) =
-    chains_by_runs run rest ∙ ap chains_through (sym (stay_parts run (slice_split is_gap rest)))
-chains_by_runs run (Gap ∷ rest) =
-    ap (λ (later : List (List Point)). chain_if_any (points_through run) ++ later) (chains_by_runs [] rest)
-    ∙ ended_parts run (parts_of rest)
+chains_by_runs run (Stay ∷ rest) = grind (arith, nat_tests, chains_by_runs run rest, stay_parts run (slice_split is_gap rest))
+chains_by_runs run (Gap ∷ rest) = grind (arith, nat_tests, chains_by_runs [] rest, ended_parts run (parts_of rest))
 chains_by_runs run (Sewn number link ∷ rest) =
     ap (λ (ps : List Point). chains_after ps rest) (led_points run link)
     ∙ (chains_by_runs (run ++ link ∷ []) rest

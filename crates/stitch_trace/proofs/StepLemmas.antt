@@ -1,5 +1,5 @@
 -- Each segment of a traced drawing is one step.
-use Rattle.std.proofs.Common.{◌≡◌, ℕ, ◌+◌, ◌*◌, ◌/◌, ◌%◌, ◌==◌, ◌≤◌, min, Bool, true, false, ◌&&◌, cond, nat_lt, List, [], ◌∷◌, ◌++◌, length, None, Result, Ok, Err, ap, sym, subst, ◌∙◌, refl, arith}
+use Rattle.std.proofs.Common.{◌≡◌, ℕ, ◌+◌, ◌/◌, ◌%◌, ◌==◌, ◌≤◌, min, Bool, true, false, ◌&&◌, List, [], ◌∷◌, None, Result, Ok, Err, ap, sym, subst, ◌∙◌, refl, arith}
 use Rattle.std.proofs.Math.Nat.{mul-le-mul_right}
 use Rattle.std.proofs.lemmas.Bool.Decides.{nat_tests}
 use Rattle.std.proofs.lemmas.Grind.{div_ceil_times}
@@ -9,12 +9,11 @@ use Rattle.design_model.specs.declared.act.NumberedAct.{NumberedAct}
 use Rattle.design_model.specs.declared.point.Point.{Point}
 use Rattle.design_model.specs.Acts.{acts_of}
 use Rattle.design_model.specs.Blocks.{blocks_of}
-use Rattle.design_model.specs.Designs.{DesignValue, KeepsLimits}
-use Rattle.line_sections.specs.Sections.{SectionsKeepSegments, all_sections}
+use Rattle.design_model.specs.Designs.{DesignValue}
+use Rattle.line_sections.specs.Sections.{SectionsKeepSegments}
 use Rattle.drawing_model.specs.declared.draw_kind.DrawKind.{DrawKind}
-use Rattle.drawing_model.specs.declared.draw_kind.DrawKind.TheVariants as kind
 use Rattle.drawing_model.specs.Drawings.{DrawingValue}
-use Rattle.drawing_model.specs.GrowingDrawings.{and_then, block_added, empty_drawing, finished_drawing, line_added, point_count}
+use Rattle.drawing_model.specs.GrowingDrawings.{block_added, line_added}
 use Rattle.drawing_model.specs.JoinedDrawings.{joined_drawing}
 use Rattle.step_splitter.specs.Steps.{steps_of}
 use Rattle.stitch_trace.specs.declared.links.Link.{Link}
@@ -23,11 +22,11 @@ use Rattle.stitch_trace.specs.declared.needle_moves.NeedleMove.TheVariants.{Stay
 use Rattle.stitch_trace.specs.declared.strands.Strand.{Strand}
 use Rattle.stitch_trace.specs.declared.trace_fault.TraceFault.{TraceFault}
 use Rattle.stitch_trace.specs.Chains.{new_links_of, new_moves_of}
-use Rattle.stitch_trace.specs.TraceTheorems.{BlockLink, LinksAreSteps, drawn_block_count, drawn_links, in_block, is_one_step, sewn_links}
+use Rattle.stitch_trace.specs.TraceTheorems.{LinksAreSteps, drawn_block_count, in_block, is_one_step, sewn_links}
 use Rattle.stitch_trace.specs.Links.{first_too_long, link_size, links_in, needle_moves_of}
-use Rattle.stitch_trace.specs.Traces.{chains_added, drawing_with_strands, label_first_word, with_limit_fault, and_then_trace, trace_step, strand_added, strands_added, strands_of, traced}
+use Rattle.stitch_trace.specs.Traces.{chains_added, drawing_with_strands, with_limit_fault, and_then_trace, trace_step, strand_added, strands_added, strands_of}
 use Rattle.stitch_trace.proofs.CountLemmas.{least_step, step_parts}
-use Rattle.stitch_trace.proofs.DrawnLemmas.{GoesOn, block_is, finished_is, goes_on, line_is, links_drawn, ok_same}
+use Rattle.stitch_trace.proofs.DrawnLemmas.{block_is, finished_is, goes_on, line_is, links_drawn, ok_same}
 use Rattle.stitch_trace.proofs.FitLemmas.{AreSteps, BlockSteps, IsStep, acts_in_range, each_block_steps, moves_are_steps, new_are_steps, one_step}
 use Rattle.stitch_trace.proofs.MeasureLemmas.{first_has_size, size_apart}
 
@@ -82,23 +81,10 @@ strands_step d e (strand ∷ rest) is =
     ∙ ap (λ (f : DrawingValue). f.step) (block_is d inner.mid strand.thread inner.first))
 
 joined_step : (d e : DrawingValue) → joined_drawing d ≡ Ok e → e.step ≡ d.step
-joined_step d e is = by_tests (nat_lt 1024 (length (all_sections d.lines))) (nat_lt 65536 (point_count (all_sections d.lines))) is
-  where
-    by_tests : (many long : Bool)
-        → cond many (Err kind.TooManyLines) (cond long (Err kind.TooManyPoints) (Ok (record d { lines = all_sections d.lines }))) ≡ Ok e
-        → e.step ≡ d.step
-    by_tests true long is = absurd cc
-    by_tests false true is = absurd cc
-    by_tests false false is = ap (λ (f : DrawingValue). f.step) (sym (ok_same (record d { lines = all_sections d.lines }) e is))
+joined_step d e is = grind (arith, nat_tests, ok_same)
 
 through_step : (d : DesignValue) (step : ℕ) (e : DrawingValue) → drawing_with_strands d.label step (strands_of d) ≡ Ok e → e.step ≡ step
-through_step d step e is =
-    let begun : DrawingValue = empty_drawing (label_first_word d.label) step in
-    let outer = goes_on (and_then (strands_added begun (strands_of d)) finished_drawing) joined_drawing e is in
-    let inner = goes_on (strands_added begun (strands_of d)) finished_drawing outer.mid outer.first in
-    joined_step outer.mid e outer.then
-    ∙ (ap (λ (f : DrawingValue). f.step) (sym (finished_is inner.mid outer.mid inner.then))
-    ∙ strands_step begun inner.mid (strands_of d) inner.first)
+through_step d step e is = grind (arith, nat_tests, joined_step, finished_is, strands_step)
 
 pub links_steps : SectionsKeepSegments → LinksAreSteps
 links_steps keep d drawing keeps is =

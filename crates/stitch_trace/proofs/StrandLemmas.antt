@@ -1,5 +1,6 @@
 -- Blocks one after another.
-use Rattle.std.proofs.Common.{◌≡◌, ℕ, ◌+◌, ◌-◌, ◌<◌, ◌≤◌, suc, Bool, true, false, List, [], ◌∷◌, ◌++◌, take, drop, length, ap, sym, subst, ◌∙◌, refl, append-nil, arith}
+use Rattle.std.proofs.lemmas.Bool.Decides.{nat_tests}
+use Rattle.std.proofs.Common.{◌≡◌, ℕ, ◌+◌, ◌-◌, ◌<◌, ◌≤◌, suc, Bool, true, false, List, [], ◌∷◌, ◌++◌, take, drop, length, ap, sym, ◌∙◌, refl, append-nil, arith}
 use Rattle.std.proofs.Math.Path.{ap₂}
 use Rattle.std.proofs.lemmas.List.{take-append-drop, take_all}
 use Rattle.std.specs.List.{position_or_len}
@@ -39,10 +40,7 @@ no_stop (stop ∷ rest) none = absurd (omega (arith, none))
 pub block_ended : (acts first behind : List NumberedAct) (n : ℕ) → n ≡ position_or_len is_stop acts → first ≡ take n acts
     → behind ≡ drop n acts → 1 ≤ length behind
     → blocks_of acts ≡ first ∷ blocks_of (take (length behind - 1) (drop 1 behind))
-block_ended acts first behind n place front back some =
-    blocks_at acts ∙ ap₂ (λ (block : List NumberedAct) (later : List (List NumberedAct)). block ∷ later)
-    (ap (λ (k : ℕ). take k acts) (sym place) ∙ sym front)
-    (ap (λ (k : ℕ). after_stop (drop k acts)) (sym place) ∙ (ap after_stop (sym back) ∙ stop_passed behind some))
+block_ended acts first behind n place front back some = grind (arith, nat_tests, blocks_at acts, ap₂, stop_passed behind some)
 
 -- or none does
 pub block_last : (acts behind : List NumberedAct) (n : ℕ) → n ≡ position_or_len is_stop acts → behind ≡ drop n acts
