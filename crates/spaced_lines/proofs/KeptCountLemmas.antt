@@ -9,8 +9,8 @@ use Rattle.design_model.specs.Points.{is_same_point}
 use Rattle.line_sections.specs.declared.spot.Spot.{Spot}
 use Rattle.line_sections.specs.Lines.{LineValue}
 use Rattle.line_sections.specs.Sections.{is_shared_point, listed_in}
-use Rattle.spaced_lines.specs.SpacedLines.{is_spot_of, kept_after, may_leave_out, spaced_line, spaced_points}
-use Rattle.spaced_lines.proofs.SpacingLemmas.{tested_stay}
+use Rattle.spaced_lines.specs.SpacedLines.{is_spot_of, kept_after, spaced_line, spaced_points}
+use Rattle.spaced_lines.proofs.SpacingLemmas.{of_kept, tested_stay}
 use Rattle.design_model.proofs.CallerLemmas.{same_is}
 
 -- how many points pass a test
@@ -48,20 +48,10 @@ same_places stays t step points so =
     sym (places_tested stays t so (spaced_points stays step points))
     ∙ (ap (λ (xs : List Point). places t xs) (tested_stay stays step points) ∙ places_tested stays t so points)
 
-fewer_by : (stays t : Point → Bool) (step : ℕ) (a : Point) (since : List Point) (p b : Point) (rest : List Point) (out : Bool)
-    → places t (kept_after stays step a (since ++ p ∷ []) b rest) ≤ places t (b ∷ rest)
-    → places t (kept_after stays step p [] b rest) ≤ places t (b ∷ rest)
-    → places t (if out then kept_after stays step a (since ++ p ∷ []) b rest else p ∷ kept_after stays step p [] b rest)
-    ≤ places t (p ∷ b ∷ rest)
-fewer_by stays t step a since p b rest true left kept = omega (arith, left)
-fewer_by stays t step a since p b rest false left kept = omega (arith, kept)
-
 fewer_after : (stays t : Point → Bool) (step : ℕ) (a : Point) (since : List Point) (p : Point) (rest : List Point)
     → places t (kept_after stays step a since p rest) ≤ places t (p ∷ rest)
-fewer_after stays t step a since p [] = omega arith
-fewer_after stays t step a since p (b ∷ rest) =
-    fewer_by stays t step a since p b rest (may_leave_out stays step a since p b)
-    (fewer_after stays t step a (since ++ p ∷ []) b rest) (fewer_after stays t step p [] b rest)
+fewer_after stays t step = of_kept stays step (λ a since p rest kept. places t kept ≤ places t (p ∷ rest))
+    (λ a since p. omega arith) (λ a since p b rest is left. omega (arith, left)) (λ a since p b rest kept. omega (arith, kept))
 
 fewer_places : (stays t : Point → Bool) (step : ℕ) (points : List Point) → places t (spaced_points stays step points) ≤ places t points
 fewer_places stays t step [] = omega arith

@@ -5,8 +5,8 @@ use Rattle.std.proofs.lemmas.List.Elements.{All-head, All-tail}
 use Rattle.design_model.specs.declared.point.Point.{Point}
 use Rattle.drawing_model.specs.Drawings.{endpoints}
 use Rattle.line_sections.specs.Sections.{but_last, has_points, inner_points, sections_from, sections_of, sections_with_first}
-use Rattle.spaced_lines.specs.SpacedLines.{kept_after, may_leave_out, spaced_points}
-use Rattle.spaced_lines.proofs.SpacingLemmas.{untested}
+use Rattle.spaced_lines.specs.SpacedLines.{kept_after, spaced_points}
+use Rattle.spaced_lines.proofs.SpacingLemmas.{of_kept, untested}
 
 -- the ends of the sections from the point a on
 abbrev ends_from : (Point → Bool) → Point → List Point → List (List Point)
@@ -87,42 +87,25 @@ passed cut a p b rest whole =
 abbrev pub IsCutAlike : (cut again stays : Point → Bool) → Point → Type 0
 IsCutAlike cut again stays x = (again x ≡ cut x) × (stays x ≡ false → cut x ≡ false)
 
-kept_points_by : (stays : Point → Bool) (step : ℕ) (a : Point) (since : List Point) (p b : Point) (rest : List Point) (out : Bool)
-    → has_points (kept_after stays step a (since ++ p ∷ []) b rest) ≡ true
-    → has_points (if out then kept_after stays step a (since ++ p ∷ []) b rest else p ∷ kept_after stays step p [] b rest) ≡ true
-kept_points_by stays step a since p b rest true has = has
-kept_points_by stays step a since p b rest false has = refl
-
 kept_points : (stays : Point → Bool) (step : ℕ) (a : Point) (since : List Point) (p : Point) (rest : List Point)
     → has_points (kept_after stays step a since p rest) ≡ true
-kept_points stays step a since p [] = refl
-kept_points stays step a since p (b ∷ rest) =
-    kept_points_by stays step a since p b rest (may_leave_out stays step a since p b) (kept_points stays step a (since ++ p ∷ []) b rest)
-
-same_ends_by : (cut again stays : Point → Bool) (step : ℕ) (a : Point) (since : List Point) (p b : Point) (rest : List Point)
-    (out : Bool) → may_leave_out stays step a since p b ≡ out → IsCutAlike cut again stays p
-    → ends_from again a (kept_after stays step a (since ++ p ∷ []) b rest) ≡ ends_from cut a (b ∷ rest)
-    → ends_from again p (kept_after stays step p [] b rest) ≡ ends_from cut p (b ∷ rest)
-    → ends_from again a
-    (if out then kept_after stays step a (since ++ p ∷ []) b rest else p ∷ kept_after stays step p [] b rest)
-    ≡ ends_from cut a (p ∷ b ∷ rest)
-same_ends_by cut again stays step a since p b rest true is alike left kept =
-    left ∙ sym (passed cut a p b rest (alike.1 (untested stays step a since p b is)))
-same_ends_by cut again stays step a since p b rest false is alike left kept =
-    ends_step again a p (kept_after stays step p [] b rest)
-    ∙ (ap₂ (λ (c : Bool) (es : List (List Point)). ends_joined c a p es)
-    (ap₂ (λ (x y : Bool). x && y) (kept_points stays step p [] b rest) alike.0) kept
-    ∙ sym (ends_step cut a p (b ∷ rest)))
+kept_points stays step = of_kept stays step (λ a since p rest kept. has_points kept ≡ true) (λ a since p. refl)
+    (λ a since p b rest is left. left) (λ a since p b rest kept. refl)
 
 same_ends_after : (cut again stays : Point → Bool) (step : ℕ) (a : Point) (since : List Point) (p : Point) (rest : List Point)
     → All (IsCutAlike cut again stays) (but_last (p ∷ rest))
     → ends_from again a (kept_after stays step a since p rest) ≡ ends_from cut a (p ∷ rest)
-same_ends_after cut again stays step a since p [] alike = refl
-same_ends_after cut again stays step a since p (b ∷ rest) alike =
-    same_ends_by cut again stays step a since p b rest (may_leave_out stays step a since p b) refl
-    (All-head (IsCutAlike cut again stays) p (but_last (b ∷ rest)) alike)
-    (same_ends_after cut again stays step a (since ++ p ∷ []) b rest (All-tail (IsCutAlike cut again stays) p (but_last (b ∷ rest)) alike))
-    (same_ends_after cut again stays step p [] b rest (All-tail (IsCutAlike cut again stays) p (but_last (b ∷ rest)) alike))
+same_ends_after cut again stays step =
+    let Alike : Point → Type 0 = IsCutAlike cut again stays in
+    of_kept stays step (λ a since p rest kept. All Alike (but_last (p ∷ rest)) → ends_from again a kept ≡ ends_from cut a (p ∷ rest))
+    (λ a since p alike. refl)
+    (λ a since p b rest is left alike. left (All-tail Alike p (but_last (b ∷ rest)) alike)
+    ∙ sym (passed cut a p b rest ((All-head Alike p (but_last (b ∷ rest)) alike).1 (untested stays step a since p b is))))
+    (λ a since p b rest kept alike. ends_step again a p (kept_after stays step p [] b rest)
+    ∙ (ap₂ (λ (c : Bool) (es : List (List Point)). ends_joined c a p es)
+    (ap₂ (λ (x y : Bool). x && y) (kept_points stays step p [] b rest) (All-head Alike p (but_last (b ∷ rest)) alike).0)
+    (kept (All-tail Alike p (but_last (b ∷ rest)) alike))
+    ∙ sym (ends_step cut a p (b ∷ rest))))
 
 -- The sections of a spaced line have the ends of those of the line.
 pub same_ends : (cut again stays : Point → Bool) (step : ℕ) (points : List Point)

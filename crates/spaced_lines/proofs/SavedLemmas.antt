@@ -10,9 +10,9 @@ use Rattle.drawing_model.specs.Needles.{segment_steps}
 use Rattle.step_splitter.specs.Chains.{HasNoRepeatAfter, IsNeedlePoint, SplitPointsLead}
 use Rattle.step_splitter.specs.Steps.{steps_of}
 use Rattle.drawing_repairs.specs.Anchors.{distance_between}
-use Rattle.spaced_lines.specs.SpacedLines.{comes_near_all, is_stitch_for, kept_after, may_leave_out}
+use Rattle.spaced_lines.specs.SpacedLines.{comes_near_all, is_stitch_for, kept_after}
 use Rattle.spaced_lines.specs.SpacingLaws.{EachPointSavesAStep, SpacedLinesAreLines}
-use Rattle.spaced_lines.proofs.SpacingLemmas.{left_out_stitch, not_true}
+use Rattle.spaced_lines.proofs.SpacingLemmas.{left_out_stitch, not_true, of_kept}
 use Rattle.design_model.proofs.CallerLemmas.{point_itself}
 use Rattle.lists_and_numbers.proofs.CallerLemmas.{first_true, second_true}
 
@@ -36,48 +36,26 @@ stitch_is_step step a b points low is = one_step (distance_between a b) step low
     (leb-true (distance_between a b) step
     (first_true (nat_le (distance_between a b) step) (comes_near_all step a b points) (second_true (not (is_same_point a b)) _ is)))
 
-moving_by : (stays : Point → Bool) (step : ℕ) (a : Point) (since : List Point) (p b : Point) (rest : List Point) (out : Bool)
-    → may_leave_out stays step a since p b ≡ out → a ≢ p
-    → (a ≢ b → HasNoRepeatAfter a (kept_after stays step a (since ++ p ∷ []) b rest))
-    → HasNoRepeatAfter p (kept_after stays step p [] b rest)
-    → HasNoRepeatAfter a
-    (if out then kept_after stays step a (since ++ p ∷ []) b rest else p ∷ kept_after stays step p [] b rest)
-moving_by stays step a since p b rest true is moves left kept =
-    left (stitch_moves step a b (p ∷ since) (left_out_stitch stays step a since p b is))
-moving_by stays step a since p b rest false is moves left kept = (moves, kept)
-
 moving_after : (stays : Point → Bool) (step : ℕ) (a : Point) (since : List Point) (p : Point) (rest : List Point)
     → a ≢ p → HasNoRepeatAfter p rest → HasNoRepeatAfter a (kept_after stays step a since p rest)
-moving_after stays step a since p [] moves on = (moves, tt)
-moving_after stays step a since p (b ∷ rest) moves on =
-    moving_by stays step a since p b rest (may_leave_out stays step a since p b) refl moves
-    (λ apart. moving_after stays step a (since ++ p ∷ []) b rest apart on.1) (moving_after stays step p [] b rest on.0 on.1)
-
-all_by : (P : Point → Type 0) (stays : Point → Bool) (step : ℕ) (a : Point) (since : List Point) (p b : Point) (rest : List Point)
-    (out : Bool) → P p → All P (kept_after stays step a (since ++ p ∷ []) b rest) → All P (kept_after stays step p [] b rest)
-    → All P (if out then kept_after stays step a (since ++ p ∷ []) b rest else p ∷ kept_after stays step p [] b rest)
-all_by P stays step a since p b rest true one left kept = left
-all_by P stays step a since p b rest false one left kept = All-cons P p (kept_after stays step p [] b rest) one kept
+moving_after stays step =
+    of_kept stays step (λ a since p rest kept. a ≢ p → HasNoRepeatAfter p rest → HasNoRepeatAfter a kept)
+    (λ a since p moves on. (moves, tt))
+    (λ a since p b rest is left moves on. left (stitch_moves step a b (p ∷ since) (left_out_stitch stays step a since p b is)) on.1)
+    (λ a since p b rest kept moves on. (moves, kept on.0 on.1))
 
 all_after : (P : Point → Type 0) (stays : Point → Bool) (step : ℕ) (a : Point) (since : List Point) (p : Point) (rest : List Point)
     → P p → All P rest → All P (kept_after stays step a since p rest)
-all_after P stays step a since p [] one others = All-cons P p [] one (All-nil P)
-all_after P stays step a since p (b ∷ rest) one others =
-    all_by P stays step a since p b rest (may_leave_out stays step a since p b) one
-    (all_after P stays step a (since ++ p ∷ []) b rest (All-head P b rest others) (All-tail P b rest others))
-    (all_after P stays step p [] b rest (All-head P b rest others) (All-tail P b rest others))
-
-some_by : (stays : Point → Bool) (step : ℕ) (a : Point) (since : List Point) (p b : Point) (rest : List Point) (out : Bool)
-    → 1 ≤ length (kept_after stays step a (since ++ p ∷ []) b rest)
-    → 1 ≤ length (if out then kept_after stays step a (since ++ p ∷ []) b rest else p ∷ kept_after stays step p [] b rest)
-some_by stays step a since p b rest true left = left
-some_by stays step a since p b rest false left = omega arith
+all_after P stays step = of_kept stays step (λ a since p rest kept. P p → All P rest → All P kept)
+    (λ a since p one others. All-cons P p [] one (All-nil P))
+    (λ a since p b rest is left one others. left (All-head P b rest others) (All-tail P b rest others))
+    (λ a since p b rest kept one others. All-cons P p (kept_after stays step p [] b rest) one
+    (kept (All-head P b rest others) (All-tail P b rest others)))
 
 some_after : (stays : Point → Bool) (step : ℕ) (a : Point) (since : List Point) (p : Point) (rest : List Point)
     → 1 ≤ length (kept_after stays step a since p rest)
-some_after stays step a since p [] = omega arith
-some_after stays step a since p (b ∷ rest) = some_by stays step a since p b rest (may_leave_out stays step a since p b)
-    (some_after stays step a (since ++ p ∷ []) b rest)
+some_after stays step = of_kept stays step (λ a since p rest kept. 1 ≤ length kept) (λ a since p. omega arith)
+    (λ a since p b rest is left. left) (λ a since p b rest kept. omega arith)
 
 -- A line that can be sewn is one after it is spaced.
 pub lines_stay_lines : SpacedLinesAreLines
@@ -105,33 +83,20 @@ has_steps split step low p (b ∷ rest) one others moves =
     (omega (arith, lead.count, lead.some), has_steps split step low b rest next (All-tail IsNeedlePoint b rest others) moves.1)
 
 -- the points left out so far saved as many steps, of those from the kept point
-abbrev SavesAfter : (Point → Bool) → (step : ℕ) → (a : Point) → List Point → (p : Point) → List Point → (left spent : ℕ) → Type 0
-SavesAfter stays step a since p rest left spent =
-    segment_steps step a (kept_after stays step a since p rest) + (left + (length rest + 1))
-    ≤ (spent + segment_steps step p rest) + length (kept_after stays step a since p rest)
-
-saves_by : (stays : Point → Bool) (step : ℕ) (a : Point) (since : List Point) (p b : Point) (rest : List Point) (out : Bool)
-    (left spent : ℕ) → steps_of a p step + left ≤ spent → left + 1 ≤ spent
-    → SavesAfter stays step p [] b rest 0 (steps_of p b step)
-    → (out ≡ true → SavesAfter stays step a (since ++ p ∷ []) b rest (left + 1) (spent + steps_of p b step))
-    → (kept : List Point)
-    → kept ≡ (if out then kept_after stays step a (since ++ p ∷ []) b rest else p ∷ kept_after stays step p [] b rest)
-    → segment_steps step a kept + (left + (length (b ∷ rest) + 1))
-    ≤ (spent + segment_steps step p (b ∷ rest)) + length kept
-saves_by stays step a since p b rest true left spent most some on out kept is = rw is (let saves = out refl in omega (arith, saves))
-saves_by stays step a since p b rest false left spent most some on out kept is = rw is (omega (arith, most, some, on))
+abbrev SavesAfter : (step : ℕ) → (a p : Point) → (rest kept : List Point) → Type 0
+SavesAfter step a p rest kept = (left spent : ℕ) → HasSteps step p rest → steps_of a p step + left ≤ spent → left + 1 ≤ spent
+    → segment_steps step a kept + (left + (length rest + 1)) ≤ (spent + segment_steps step p rest) + length kept
 
 saves_after : (stays : Point → Bool) (step : ℕ) → 1 ≤ step → (a : Point) (since : List Point) (p : Point) (rest : List Point)
-    (left spent : ℕ) → HasSteps step p rest → steps_of a p step + left ≤ spent → left + 1 ≤ spent
-    → SavesAfter stays step a since p rest left spent
-saves_after stays step low a since p [] left spent steps most some = omega (arith, most)
-saves_after stays step low a since p (b ∷ rest) left spent steps most some =
-    saves_by stays step a since p b rest (may_leave_out stays step a since p b) left spent most some
-    (saves_after stays step low p [] b rest 0 (steps_of p b step) steps.1 (omega arith) (omega (arith, steps.0)))
-    (λ is. saves_after stays step low a (since ++ p ∷ []) b rest (left + 1) (spent + steps_of p b step) steps.1
+    → SavesAfter step a p rest (kept_after stays step a since p rest)
+saves_after stays step low = of_kept stays step (λ a since p rest kept. SavesAfter step a p rest kept)
+    (λ a since p left spent steps most some. omega (arith, most))
+    (λ a since p b rest is out left spent steps most some.
+    let saves = out (left + 1) (spent + steps_of p b step) steps.1
     (omega (arith, some, steps.0, stitch_is_step step a b (p ∷ since) low (left_out_stitch stays step a since p b is)))
-    (omega (arith, some, steps.0)))
-    (kept_after stays step a since p (b ∷ rest)) refl
+    (omega (arith, some, steps.0)) in omega (arith, saves))
+    (λ a since p b rest kept left spent steps most some.
+    let saves = kept 0 (steps_of p b step) steps.1 (omega arith) (omega (arith, steps.0)) in omega (arith, most, some, saves))
 
 -- Each point that is left out saves a step.
 pub each_saves : SplitPointsLead → EachPointSavesAStep

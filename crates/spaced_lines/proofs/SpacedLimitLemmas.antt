@@ -13,24 +13,15 @@ use Rattle.drawing_model.specs.WalkEnds.{is_junction}
 use Rattle.line_sections.specs.Lines.{LineValue}
 use Rattle.line_sections.specs.Sections.{all_sections}
 use Rattle.spaced_lines.specs.SpacedAnswers.{SpacedLinesKeepLimits}
-use Rattle.spaced_lines.specs.SpacedLines.{is_spot_of, kept_after, may_leave_out, spaced_line, spaced_lines, spaced_points}
+use Rattle.spaced_lines.specs.SpacedLines.{is_spot_of, kept_after, spaced_line, spaced_lines, spaced_points}
 use Rattle.spaced_lines.specs.SpacingLaws.{EachPointSavesAStep, SpacedLinesAreLines}
+use Rattle.spaced_lines.proofs.SpacingLemmas.{of_kept}
 
 -- a spaced line has no more points
-fewer_by : (stays : Point → Bool) (step : ℕ) (a : Point) (since : List Point) (p b : Point) (rest : List Point) (out : Bool)
-    → length (kept_after stays step a (since ++ p ∷ []) b rest) ≤ length rest + 1
-    → length (kept_after stays step p [] b rest) ≤ length rest + 1
-    → length (if out then kept_after stays step a (since ++ p ∷ []) b rest else p ∷ kept_after stays step p [] b rest)
-    ≤ length rest + 2
-fewer_by stays step a since p b rest true left kept = omega (arith, left)
-fewer_by stays step a since p b rest false left kept = omega (arith, kept)
-
 fewer_after : (stays : Point → Bool) (step : ℕ) (a : Point) (since : List Point) (p : Point) (rest : List Point)
     → length (kept_after stays step a since p rest) ≤ length rest + 1
-fewer_after stays step a since p [] = omega arith
-fewer_after stays step a since p (b ∷ rest) =
-    let most = fewer_by stays step a since p b rest (may_leave_out stays step a since p b)
-    (fewer_after stays step a (since ++ p ∷ []) b rest) (fewer_after stays step p [] b rest) in omega (arith, most)
+fewer_after stays step = of_kept stays step (λ a since p rest kept. length kept ≤ length rest + 1) (λ a since p. omega arith)
+    (λ a since p b rest is left. omega (arith, left)) (λ a since p b rest kept. omega (arith, kept))
 
 fewer_points : (stays : Point → Bool) (step : ℕ) (points : List Point) → length (spaced_points stays step points) ≤ length points
 fewer_points stays step [] = omega arith

@@ -18,6 +18,28 @@ pub not_true : (a : Bool) → not a ≡ true → a ≡ false
 not_true true is = cc
 not_true false is = refl
 
+-- What holds of the last point alone, and passes from the points kept after a point that is left out, or kept, to all those with it,
+-- holds of the points that a line keeps.
+module _ (stays : Point → Bool) (step : ℕ) (P : (a : Point) (since : List Point) (p : Point) (rest kept : List Point) → Type 0) where
+  kept_by : (a : Point) (since : List Point) (p b : Point) (rest : List Point) (out : Bool) → may_leave_out stays step a since p b ≡ out
+      → (may_leave_out stays step a since p b ≡ true → P a since p (b ∷ rest) (kept_after stays step a (since ++ p ∷ []) b rest))
+      → P a since p (b ∷ rest) (p ∷ kept_after stays step p [] b rest) → P a since p (b ∷ rest)
+      (if out then kept_after stays step a (since ++ p ∷ []) b rest else p ∷ kept_after stays step p [] b rest)
+  kept_by a since p b rest true is left kept = left is
+  kept_by a since p b rest false is left kept = kept
+
+  pub of_kept : ((a : Point) (since : List Point) (p : Point) → P a since p [] (p ∷ []))
+      → ((a : Point) (since : List Point) (p b : Point) (rest : List Point) → may_leave_out stays step a since p b ≡ true
+      → P a (since ++ p ∷ []) b rest (kept_after stays step a (since ++ p ∷ []) b rest)
+      → P a since p (b ∷ rest) (kept_after stays step a (since ++ p ∷ []) b rest))
+      → ((a : Point) (since : List Point) (p b : Point) (rest : List Point) → P p [] b rest (kept_after stays step p [] b rest)
+      → P a since p (b ∷ rest) (p ∷ kept_after stays step p [] b rest))
+      → (a : Point) (since : List Point) (p : Point) (rest : List Point) → P a since p rest (kept_after stays step a since p rest)
+  of_kept last left keep a since p [] = last a since p
+  of_kept last left keep a since p (b ∷ rest) = kept_by a since p b rest (may_leave_out stays step a since p b) refl
+      (λ is. left a since p b rest is (of_kept last left keep a (since ++ p ∷ []) b rest))
+      (keep a since p b rest (of_kept last left keep p [] b rest))
+
 -- the test of a point that is left out
 pub untested : (stays : Point → Bool) (step : ℕ) (a : Point) (since : List Point) (p b : Point)
     → may_leave_out stays step a since p b ≡ true → stays p ≡ false
@@ -49,26 +71,16 @@ left_out_stitch stays step a since p b is = second_true (not (stays p)) (is_stit
 abbrev StitchSoFar : ℕ → (a p : Point) → List Point → Type 0
 StitchSoFar step a p since = (since ≡ []) ⊎ (is_stitch_for step a p since ≡ true)
 
-stand_by : (stays : Point → Bool) (step : ℕ) (a : Point) (since : List Point) (p b : Point) (rest : List Point) (out : Bool)
-    → StitchSoFar step a p since → may_leave_out stays step a since p b ≡ out
-    → (StitchSoFar step a b (since ++ p ∷ [])
-    → StandFor step (a ∷ kept_after stays step a (since ++ p ∷ []) b rest) (a ∷ ((since ++ p ∷ []) ++ b ∷ rest)))
-    → StandFor step (p ∷ kept_after stays step p [] b rest) (p ∷ b ∷ rest)
-    → StandFor step (a ∷ (if out then kept_after stays step a (since ++ p ∷ []) b rest else p ∷ kept_after stays step p [] b rest))
-    (a ∷ (since ++ p ∷ b ∷ rest))
-stand_by stays step a since p b rest true so is left kept =
-    subst (λ (ps : List Point). StandFor step (a ∷ kept_after stays step a (since ++ p ∷ []) b rest) (a ∷ ps))
-    (append_assoc since (p ∷ []) (b ∷ rest))
-    (left (inr (stitch_with step a b p since (left_out_stitch stays step a since p b is))))
-stand_by stays step a since p b rest false so is left kept =
-    (p ∷ b ∷ rest, record { out = since; parts = refl; stitch = so }, kept)
-
 stand_after : (stays : Point → Bool) (step : ℕ) (a : Point) (since : List Point) (p : Point) (rest : List Point)
     → StitchSoFar step a p since → StandFor step (a ∷ kept_after stays step a since p rest) (a ∷ (since ++ p ∷ rest))
-stand_after stays step a since p [] so = (p ∷ [], record { out = since; parts = refl; stitch = so }, refl)
-stand_after stays step a since p (b ∷ rest) so =
-    stand_by stays step a since p b rest (may_leave_out stays step a since p b) so refl
-    (λ on. stand_after stays step a (since ++ p ∷ []) b rest on) (stand_after stays step p [] b rest (inl refl))
+stand_after stays step =
+    of_kept stays step (λ a since p rest kept. StitchSoFar step a p since → StandFor step (a ∷ kept) (a ∷ (since ++ p ∷ rest)))
+    (λ a since p so. (p ∷ [], record { out = since; parts = refl; stitch = so }, refl))
+    (λ a since p b rest is left so.
+    subst (λ (ps : List Point). StandFor step (a ∷ kept_after stays step a (since ++ p ∷ []) b rest) (a ∷ ps))
+    (append_assoc since (p ∷ []) (b ∷ rest))
+    (left (inr (stitch_with step a b p since (left_out_stitch stays step a since p b is)))))
+    (λ a since p b rest kept so. (p ∷ b ∷ rest, record { out = since; parts = refl; stitch = so }, kept (inl refl)))
 
 -- The points of a spaced line stand for those of the line.
 pub stand_for_all : (stays : Point → Bool) (step : ℕ) (points : List Point) → StandFor step (spaced_points stays step points) points
@@ -76,22 +88,12 @@ stand_for_all stays step [] = refl
 stand_for_all stays step (a ∷ []) = refl
 stand_for_all stays step (a ∷ p ∷ rest) = stand_after stays step a [] p rest (inl refl)
 
-tested_by : (stays : Point → Bool) (step : ℕ) (a : Point) (since : List Point) (p b : Point) (rest : List Point) (out : Bool)
-    → may_leave_out stays step a since p b ≡ out
-    → filter stays (kept_after stays step a (since ++ p ∷ []) b rest) ≡ filter stays (b ∷ rest)
-    → filter stays (kept_after stays step p [] b rest) ≡ filter stays (b ∷ rest)
-    → filter stays (if out then kept_after stays step a (since ++ p ∷ []) b rest else p ∷ kept_after stays step p [] b rest)
-    ≡ filter stays (p ∷ b ∷ rest)
-tested_by stays step a since p b rest true is left kept =
-    left ∙ sym (ap (λ (t : Bool). cond t (p ∷ filter stays (b ∷ rest)) (filter stays (b ∷ rest))) (untested stays step a since p b is))
-tested_by stays step a since p b rest false is left kept = ap (λ (ps : List Point). cond (stays p) (p ∷ ps) ps) kept
-
 tested_after : (stays : Point → Bool) (step : ℕ) (a : Point) (since : List Point) (p : Point) (rest : List Point)
     → filter stays (kept_after stays step a since p rest) ≡ filter stays (p ∷ rest)
-tested_after stays step a since p [] = refl
-tested_after stays step a since p (b ∷ rest) =
-    tested_by stays step a since p b rest (may_leave_out stays step a since p b) refl
-    (tested_after stays step a (since ++ p ∷ []) b rest) (tested_after stays step p [] b rest)
+tested_after stays step = of_kept stays step (λ a since p rest kept. filter stays kept ≡ filter stays (p ∷ rest)) (λ a since p. refl)
+    (λ a since p b rest is left. left
+    ∙ sym (ap (λ (t : Bool). cond t (p ∷ filter stays (b ∷ rest)) (filter stays (b ∷ rest))) (untested stays step a since p b is)))
+    (λ a since p b rest kept. ap (λ (ps : List Point). cond (stays p) (p ∷ ps) ps) kept)
 
 -- The points that pass the test stay.
 pub tested_stay : (stays : Point → Bool) (step : ℕ) (points : List Point)
@@ -100,24 +102,14 @@ tested_stay stays step [] = refl
 tested_stay stays step (a ∷ []) = refl
 tested_stay stays step (a ∷ p ∷ rest) = ap (λ (ps : List Point). cond (stays a) (a ∷ ps) ps) (tested_after stays step a [] p rest)
 
-last_by : (stays : Point → Bool) (step : ℕ) (x a : Point) (since : List Point) (p b : Point) (rest : List Point) (out : Bool)
-    → last_point_or x (kept_after stays step a (since ++ p ∷ []) b rest) ≡ last_point_or b rest
-    → last_point_or p (kept_after stays step p [] b rest) ≡ last_point_or b rest
-    → last_point_or x (if out then kept_after stays step a (since ++ p ∷ []) b rest else p ∷ kept_after stays step p [] b rest)
-    ≡ last_point_or b rest
-last_by stays step x a since p b rest true left kept = left
-last_by stays step x a since p b rest false left kept = kept
-
-last_after : (stays : Point → Bool) (step : ℕ) (x a : Point) (since : List Point) (p : Point) (rest : List Point)
+last_after : (stays : Point → Bool) (step : ℕ) (a : Point) (since : List Point) (p : Point) (rest : List Point) (x : Point)
     → last_point_or x (kept_after stays step a since p rest) ≡ last_point_or p rest
-last_after stays step x a since p [] = refl
-last_after stays step x a since p (b ∷ rest) =
-    last_by stays step x a since p b rest (may_leave_out stays step a since p b)
-    (last_after stays step x a (since ++ p ∷ []) b rest) (last_after stays step p p [] b rest)
+last_after stays step = of_kept stays step (λ a since p rest kept. (x : Point) → last_point_or x kept ≡ last_point_or p rest)
+    (λ a since p x. refl) (λ a since p b rest is left x. left x) (λ a since p b rest kept x. kept p)
 
 -- The ends of a line stay.
 pub ends_stay : (stays : Point → Bool) (step : ℕ) (points : List Point)
     → endpoints (spaced_points stays step points) ≡ endpoints points
 ends_stay stays step [] = refl
 ends_stay stays step (a ∷ []) = refl
-ends_stay stays step (a ∷ p ∷ rest) = ap (λ (l : Point). a ∷ l ∷ []) (last_after stays step a a [] p rest)
+ends_stay stays step (a ∷ p ∷ rest) = ap (λ (l : Point). a ∷ l ∷ []) (last_after stays step a [] p rest a)
