@@ -11,4 +11,3 @@ pub mod Snaps
 -- Theorems over these definitions.
 pub mod SnapLaws
 pub mod SecondSnaps
--- Spaced lines and drawings, and theorems over them.
