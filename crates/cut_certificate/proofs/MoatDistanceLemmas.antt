@@ -51,8 +51,26 @@ widths_but : (p q : Moat → Bool) (s : Moat) (t : ℕ) (ms : List Moat) → Lam
     → ((m : Moat) → IsOf ms m → q m ≡ true → (p m ≡ true) ⊎ (m ≡ s)) → width_sum q ms ≤ width_sum p ms + s.width
 widths_but p q s t [] l has f = omega arith
 widths_but p q s t (x ∷ xs) l has f =
-    elim (cases_Bool (q x))
-    [ inl passes ↦ elim (f x (inl refl) passes) [ inl too ↦ both_over (p x) (q x) s.width x.width (width_sum q xs) (width_sum p xs) (λ h. too) (widths_but p q s t xs l.1 has (λ m is. f m (inr is))) | inr same ↦ let rest = widths_mono q p xs (λ m is h. elim (f m (inr is) h) [ inl too ↦ too | inr again ↦ absurd (twice m is (same ∙ sym again) (subst (λ (z : Moat). has_member z.members t ≡ true) (sym again) has)) ]) in let width : x.width ≡ s.width = ap (λ (z : Moat). z.width) same in let over = one_over (p x) x.width (width_sum q xs) (width_sum p xs) rest in rw passes (omega (arith, width, over)) ] | inr misses ↦ both_over (p x) (q x) s.width x.width (width_sum q xs) (width_sum p xs) (λ h. absurd (both_ways (q x) misses h)) (widths_but p q s t xs l.1 has (λ m is. f m (inr is))) ]
+    elim (cases_Bool (q x)) [
+      | inl passes ↦
+          elim (f x (inl refl) passes) [
+            | inl too ↦
+                both_over (p x) (q x) s.width x.width (width_sum q xs) (width_sum p xs) (λ h. too)
+                (widths_but p q s t xs l.1 has (λ m is. f m (inr is)))
+            | inr same ↦
+                let rest = widths_mono q p xs (λ m is h. elim (f m (inr is) h) [
+                  | inl too ↦ too
+                  | inr again ↦ absurd (twice m is (same ∙ sym again) (subst (λ (z : Moat). has_member z.members t ≡ true) (sym again) has))
+                ])
+                in
+                let width : x.width ≡ s.width = ap (λ (z : Moat). z.width) same in
+                let over = one_over (p x) x.width (width_sum q xs) (width_sum p xs) rest in
+                rw passes (omega (arith, width, over))
+          ]
+      | inr misses ↦
+          both_over (p x) (q x) s.width x.width (width_sum q xs) (width_sum p xs) (λ h. absurd (both_ways (q x) misses h))
+          (widths_but p q s t xs l.1 has (λ m is. f m (inr is)))
+    ]
   where
     twice : (m : Moat) → IsOf xs m → x ≡ m → has_member m.members t ≡ true → ⊥
     twice m is same in_m = no_self m in_m (subst (λ (z : Moat). Apart z m) same (one_apart x xs m l.0 is))
@@ -134,8 +152,14 @@ lowered_by : (g : LiftInput) (stands : List TerminalState) (reaches : List (Vec 
     → distance_from g reaches t j (slice_get stands t) ≡ Some x → lowered_distance g stands reaches j far ts ≤ x
 lowered_by g stands reaches j far [] t x has is = absurd (both_ways false refl has)
 lowered_by g stands reaches j far (u ∷ ts) t x has is =
-    elim (or_cases (t == u) (has_member ts t) has)
-    [ inl same ↦ let first : distance_from g reaches u j (slice_get stands u) ≡ Some x = subst (λ (y : ℕ). distance_from g reaches y j (slice_get stands y) ≡ Some x) (eqb-true t u same) is in let rest = lowered_most g stands reaches j (lesser_of (distance_from g reaches u j (slice_get stands u)) far) ts in (omega (arith, rest, one (distance_from g reaches u j (slice_get stands u)) first)) | inr there ↦ lowered_by g stands reaches j (lesser_of (distance_from g reaches u j (slice_get stands u)) far) ts t x there is ]
+    elim (or_cases (t == u) (has_member ts t) has) [
+      | inl same ↦
+          let first : distance_from g reaches u j (slice_get stands u) ≡ Some x = subst
+          (λ (y : ℕ). distance_from g reaches y j (slice_get stands y) ≡ Some x) (eqb-true t u same) is in
+          let rest = lowered_most g stands reaches j (lesser_of (distance_from g reaches u j (slice_get stands u)) far) ts in
+          (omega (arith, rest, one (distance_from g reaches u j (slice_get stands u)) first))
+      | inr there ↦ lowered_by g stands reaches j (lesser_of (distance_from g reaches u j (slice_get stands u)) far) ts t x there is
+    ]
   where
     same_number : (a b : ℕ) → Some a ≡ Some b → a ≡ b
     same_number a b h = cc
@@ -206,8 +230,21 @@ most_by : (g : LiftInput) (s : Moat) (index : ℕ) (stands : List TerminalState)
     → Finds g s index stands reaches → j < g.size → has_member s.members t ≡ true
     → lowered_distance g stands reaches j far s.members ≤ distance_beyond g s j t
 most_by g s index stands reaches far j t f in_j has =
-    elim (f.progress.standing.held t (f.placed t has))
-    [ inl is ↦ let none : depth g s t ≡ 0 = depth_free g s index t (f.progress.standing.free t is) in let by = lowered_by g stands reaches j far s.members t (2 * g.least t j) has (ap (distance_from g reaches t j) is) in (omega (arith, none, by)) | inr p ↦ let o = p.3 in let inner = inside_next g s index stands reaches f p.1 o.moat t o.at o.done o.around has in let there = reach_there g (length s.members) index stands reaches p.1 o.moat f.progress o.at in let by = lowered_by g stands reaches j far s.members p.0 (slice_index there.0.items j - o.moat.width) (inner.1 p.0 o.first) (past g reaches p.0 j p.1 o.moat there.0 (slice_get stands p.0) p.2 o.at there.1) in let near = (f.progress.made p.1 o.moat there.0 o.at o.done there.1).most j t in_j o.around in let over = depth_first g s index t p.0 p.1 f.laminar o in (omega (arith, over, near, by)) ]
+    elim (f.progress.standing.held t (f.placed t has)) [
+      | inl is ↦
+          let none : depth g s t ≡ 0 = depth_free g s index t (f.progress.standing.free t is) in
+          let by = lowered_by g stands reaches j far s.members t (2 * g.least t j) has (ap (distance_from g reaches t j) is) in
+          (omega (arith, none, by))
+      | inr p ↦
+          let o = p.3 in
+          let inner = inside_next g s index stands reaches f p.1 o.moat t o.at o.done o.around has in
+          let there = reach_there g (length s.members) index stands reaches p.1 o.moat f.progress o.at in
+          let by = lowered_by g stands reaches j far s.members p.0 (slice_index there.0.items j - o.moat.width) (inner.1 p.0 o.first)
+          (past g reaches p.0 j p.1 o.moat there.0 (slice_get stands p.0) p.2 o.at there.1) in
+          let near = (f.progress.made p.1 o.moat there.0 o.at o.done there.1).most j t in_j o.around in
+          let over = depth_first g s index t p.0 p.1 f.laminar o in
+          (omega (arith, over, near, by))
+    ]
 
 -- so far is a junction beyond the smaller moats around one of the members at least
 abbrev IsFrom : LiftInput → Moat → ℕ → ℕ → Type 0

@@ -52,5 +52,12 @@ pub overlaps_fit : (g : LiftInput) (t x y : ℕ) (ms : List Moat) → ((s : Moat
     → overlaps g t x y ms ≤ y - x
 overlaps_fit g t x y [] f l = omega arith
 overlaps_fit g t x y (m ∷ ms) f l =
-    elim (cases_Bool (has_member m.members t))
-    [ inl has ↦ let left = overlaps_fit g t x (min (depth g m t) y) ms (λ z h. f z (inr h)) l.1 in let right = overlaps_fit g t (max (depth g m t + m.width) x) y ms (λ z h. f z (inr h)) l.1 in let both = rest_split g t x y m ms (f m (inl refl)) (λ z h. f z (inr h)) has l.0 in let all = whole (depth g m t) (depth g m t + m.width) x y _ _ (omega arith) left right in rw has (omega (arith, both, all)) | inr misses ↦ rw misses (omega (arith, overlaps_fit g t x y ms (λ z h. f z (inr h)) l.1)) ]
+    elim (cases_Bool (has_member m.members t)) [
+      | inl has ↦
+          let left = overlaps_fit g t x (min (depth g m t) y) ms (λ z h. f z (inr h)) l.1 in
+          let right = overlaps_fit g t (max (depth g m t + m.width) x) y ms (λ z h. f z (inr h)) l.1 in
+          let both = rest_split g t x y m ms (f m (inl refl)) (λ z h. f z (inr h)) has l.0 in
+          let all = whole (depth g m t) (depth g m t + m.width) x y _ _ (omega arith) left right in
+          rw has (omega (arith, both, all))
+      | inr misses ↦ rw misses (omega (arith, overlaps_fit g t x y ms (λ z h. f z (inr h)) l.1))
+    ]

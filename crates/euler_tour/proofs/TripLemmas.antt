@@ -236,8 +236,8 @@ pub first_kept : (lines : List ℕ) (edges : List Edge) (times left left2 out : 
     → head ≡ e.a → goal ≡ e.a → next ≡ e.b
     → IsTourInvariant lines edges times left (map (pass_from lines) out) home head goal at tail
     → IsTourInvariant lines edges times left2 (map (pass_from lines) out) home2 head goal at next
-first_kept lines edges times left left2 out home home2 head goal at tail next e is_left is_out is_home is_home2 rising beside is some is_head
-    is_goal is_next k =
+first_kept lines edges times left left2 out home home2 head goal at tail next e is_left is_out is_home is_home2 rising beside is some
+    is_head is_goal is_next k =
     rw (is_left, is_home2, is_home) record {
       counted = λ i. λ below. summed _ _ _ _ _ _ (ap (λ (ps : List Pass). passes (get_or lines i 0) ps) is_home)
           (count_step lines left 0 i rising within below some) (k.counted i below);
@@ -270,7 +270,8 @@ first_kept lines edges times left left2 out home home2 head goal at tail next e 
     by_line : (i : ℕ) (x : Edge) → slice_get edges i ≡ Some x → (t : Bool) → (get_or lines 0 0 == get_or lines i 0) ≡ t → 1 ≤ one_if t + 0
         → IsExhausted edges (decremented_at left 0) goal next x.a × IsExhausted edges (decremented_at left 0) goal next x.b
     by_line i x here true test least =
-        let one : e ≡ x = some_same e x (sym found ∙ ap (λ (n : ℕ). edge_of lines edges n) (same_number (get_or lines 0 0) (get_or lines i 0) test)
+        let one : e ≡ x = some_same e x (sym found
+        ∙ ap (λ (n : ℕ). edge_of lines edges n) (same_number (get_or lines 0 0) (get_or lines i 0) test)
         ∙ edge_found lines edges i x rising (subst (λ (n : ℕ). i < n) (sym beside) (slice_get_within edges i x here)) here) in
         (inr (inl (ap (λ (y : Edge). y.a) (sym one) ∙ sym is_goal)), inr (inr (ap (λ (y : Edge). y.b) (sym one) ∙ sym is_next)))
     by_line i x here false test least = absurd (omega arith)

@@ -234,8 +234,26 @@ pub can_pass : (p : PieceValue) → IsValidPiece p → (rows : RowsValue) → Ar
 can_pass p kept rows odd_rows pairs there each few copies adds =
     let sized : length copies ≡ length p.edges = adds.sized ∙ length-replicate (length p.edges) 0 in
     let up = up_within p.edges copies kept.costs sized in
-    record
-    { beside = sized ∙ sym kept.beside; even = λ v. even (degree (closing_edge (given_start p) (given_end p)) v) (degree p.edges v) (degree (edges_with_closing p) v) (pass_ends p.edges copies v) (copies_sum (edge_end_count v) p.edges copies) (copies_sum (edge_end_count v) p.edges (replicate (length p.edges) 0)) (pair_ends rows v pairs) (degree_append (closing_edge (given_start p) (given_end p)) p.edges v) (ends_are p.edges copies v sized) (none_cost (edge_end_count v) p.edges (length p.edges)) (adds.ends v) (pairs_parity p kept rows odd_rows pairs there each v); few = (omega (arith, count_is copies, up, sized, kept.beside, kept.few, adds.costs, none_cost edge_cost p.edges (length p.edges), few)) }
+    record {
+      beside = sized ∙ sym kept.beside;
+      even = λ v. even (degree (closing_edge (given_start p) (given_end p)) v) (degree p.edges v) (degree (edges_with_closing p) v)
+          (pass_ends p.edges copies v) (copies_sum (edge_end_count v) p.edges copies)
+          (copies_sum (edge_end_count v) p.edges (replicate (length p.edges) 0)) (pair_ends rows v pairs)
+          (degree_append (closing_edge (given_start p) (given_end p)) p.edges v) (ends_are p.edges copies v sized)
+          (none_cost (edge_end_count v) p.edges (length p.edges)) (adds.ends v) (pairs_parity p kept rows odd_rows pairs there each v);
+      few = (omega (
+        arith,
+        count_is copies,
+        up,
+        sized,
+        kept.beside,
+        kept.few,
+        adds.costs,
+        none_cost edge_cost p.edges
+            (length p.edges),
+        few,
+      ));
+    }
   where
     even : (c d k e s z q : ℕ) → k ≡ c + d → e ≡ d + s → z ≡ 0 → ((s + z) + q) % 2 ≡ 0 → (k + q) % 2 ≡ 0 → (c + e) % 2 ≡ 0
     even c d k e s z q a b n h g = omega arith
