@@ -21,7 +21,7 @@ use Rattle.line_graph.specs.SewnWalks.{FittingWalksAreSewable, IsSewable, Pieces
 use Rattle.route_core.specs.declared.routed.Routed.{Routed}
 use Rattle.route_core.specs.Doubles.{AreDoubled, IsDoubleOver, IsDoubled, IsDoubleCert}
 use Rattle.route_verdict.specs.SewingSteps.{AllDrawn}
-use Rattle.route_core.proofs.SewnPieces.{Sewn, able}
+use Rattle.route_core.proofs.SewnPieces.{Sewn, able, each_piece, zip_weaker}
 use Rattle.lists_and_numbers.proofs.CallerLemmas.{below_left, below_right}
 
 -- what doubles the pieces that are left has doubled all
@@ -87,35 +87,20 @@ good : (d : DrawingValue) → KeepsDrawingLimits d → FittingWalksAreSewable �
 good d keeps sews p cert below is run =
     let double : IsDoubleCert (piece_graph d p.lines) cert = subst (λ (g : PieceValue). IsDoubleCert g cert) is run in
     let sewable = sewable_so d p.lines cert.walk keeps sews below (subst IsValidPiece is p.kept) double.fitting in
-    record
-    { doubled = record { double = double.double; retraced = double.retraced; cuts = double.cuts; penetrations = sewable.penetrations ∙ ap (λ (n : ℕ). n + 1) double.cost }; sewn = record { canonical = doubles_spelled d p.lines cert _ keeps below sewable double.double.begins double.cuts; sewable = sewable; below = below; costs = (omega (arith, double.cost)) } }
-
-all_good : (d : DrawingValue) → KeepsDrawingLimits d → FittingWalksAreSewable → (pieces : List Piece) (certs : List PieceCert)
-    → All (λ line. line < length d.lines) (concat (lines_of_pieces pieces)) → All (λ (p : Piece). graph_of p ≡ piece_graph d p.lines) pieces
-    → AreDoubled pieces certs → AllZip (Good d) (lines_of_pieces pieces) certs
-all_good d keeps sews [] [] below each doubled = tt
-all_good d keeps sews [] (c ∷ certs) below each doubled = absurd doubled
-all_good d keeps sews (p ∷ pieces) [] below each doubled = absurd doubled
-all_good d keeps sews (p ∷ pieces) (c ∷ certs) below each doubled = (
-  good d keeps sews p c (below_left (length d.lines) p.lines (concat (lines_of_pieces pieces)) below)
-      (All-head (λ (p : Piece). graph_of p ≡ piece_graph d p.lines) p pieces each) doubled.0,
-  all_good d keeps sews pieces certs (below_right (length d.lines) p.lines (concat (lines_of_pieces pieces)) below)
-      (All-tail (λ (p : Piece). graph_of p ≡ piece_graph d p.lines) p pieces each) doubled.1,
-)
-
-doubled_of : (d : DrawingValue) (pieces : List (List ℕ)) (certs : List PieceCert) → AllZip (Good d) pieces certs
-    → AllZip (IsDoubled d) pieces certs
-doubled_of d [] [] all = tt
-doubled_of d [] (c ∷ certs) all = absurd all
-doubled_of d (p ∷ pieces) [] all = absurd all
-doubled_of d (p ∷ pieces) (c ∷ certs) all = (all.0.doubled, doubled_of d pieces certs all.1)
-
-sewn_of : (d : DrawingValue) (pieces : List (List ℕ)) (certs : List PieceCert) → AllZip (Good d) pieces certs
-    → AllZip (Sewn d) pieces certs
-sewn_of d [] [] all = tt
-sewn_of d [] (c ∷ certs) all = absurd all
-sewn_of d (p ∷ pieces) [] all = absurd all
-sewn_of d (p ∷ pieces) (c ∷ certs) all = (all.0.sewn, sewn_of d pieces certs all.1)
+    record {
+      doubled = record {
+        double = double.double;
+        retraced = double.retraced;
+        cuts = double.cuts;
+        penetrations = sewable.penetrations ∙ ap (λ (n : ℕ). n + 1) double.cost;
+      };
+      sewn = record {
+        canonical = doubles_spelled d p.lines cert _ keeps below sewable double.double.begins double.cuts;
+        sewable = sewable;
+        below = below;
+        costs = (omega (arith, double.cost));
+      };
+    }
 
 -- what is needed to sew the double walks, and what is then known
 pub record DoubleReady (d : DrawingValue) (pieces : List Piece) (certs : List PieceCert) : Type 0 where
@@ -127,14 +112,17 @@ pub record DoubleReady (d : DrawingValue) (pieces : List Piece) (certs : List Pi
 pub double_ready : (d : DrawingValue) → KeepsDrawingLimits d → FittingWalksAreSewable → PiecesKeepLimits
     → (pieces : List Piece) (certs : List PieceCert) → ArePiecesOf d pieces → AreDoubled pieces certs → DoubleReady d pieces certs
 double_ready d keeps sews limits pieces certs cut doubled =
-    let all = all_good d keeps sews pieces certs cut.are.there cut.each doubled in
-    let is = able d keeps limits (lines_of_pieces pieces) certs cut.are (sewn_of d (lines_of_pieces pieces) certs all) in
+    let lines = lines_of_pieces pieces in
+    let all = each_piece d (λ (p : Piece) (cert : PieceCert). IsDoubleCert (graph_of p) cert) (Good d) (good d keeps sews) pieces certs
+    cut.are.there cut.each doubled in
+    let is = able d keeps limits lines certs cut.are (zip_weaker (Good d) (Sewn d) (λ p. λ c. λ good. good.sewn) lines certs all) in
     record {
       drawn = is.drawn;
       room = is.room;
       over = λ r. λ same. λ design. record {
         pieces_are = cut.are;
-        each = subst (AllZip (IsDoubled d) (lines_of_pieces pieces)) (sym same) (doubled_of d (lines_of_pieces pieces) certs all);
+        each = subst (AllZip (IsDoubled d) lines) (sym same)
+            (zip_weaker (Good d) (IsDoubled d) (λ p. λ c. λ good. good.doubled) lines certs all);
         canonical = subst (All HasCanonicalText) (sym same) is.canonical;
         writable = subst (λ (cs : List PieceCert). AreWritable d.step (runs_of d (walks_of cs))) (sym same) is.writable;
         design = design ∙ ap (λ (cs : List PieceCert). sewn_design d (walks_of cs)) (sym same);

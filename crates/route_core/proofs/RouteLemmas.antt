@@ -19,7 +19,7 @@ use Rattle.route_core.specs.PieceCertificates.{CertifiesLeastWalk}
 use Rattle.route_core.specs.RoutedPieceCertificates.{AreRouted, IsRoutedPiece}
 use Rattle.route_core.specs.Routes.{IsLeastPieceRoute, IsRouteOver}
 use Rattle.route_verdict.specs.SewingSteps.{AllDrawn}
-use Rattle.route_core.proofs.SewnPieces.{Sewn, able}
+use Rattle.route_core.proofs.SewnPieces.{Sewn, able, each_piece, zip_weaker}
 use Rattle.lists_and_numbers.proofs.CallerLemmas.{below_left, below_right}
 
 -- what routes the pieces that are left has routed all
@@ -41,35 +41,15 @@ good d keeps sews keeps_total p cert below is routed =
     let proved = subst (λ (g : PieceValue). CertifiesLeastWalk g cert) is routed.proved in
     let kept = subst IsValidPiece is p.kept in
     let sewable = sews d p.lines cert.walk keeps below kept proved.fitting in
-    record
-    { best = record { proved = proved; penetrations = sewable.penetrations }; sewn = record { canonical = routed.canonical; sewable = sewable; below = below; costs = (omega (arith, keeps_total (piece_graph d p.lines) cert.cuts kept proved.packing, proved.total, proved.retraced)) } }
-
-all_good : (d : DrawingValue) → KeepsDrawingLimits d → FittingWalksAreSewable → BoundsTotal → (pieces : List Piece) (certs : List PieceCert)
-    → All (λ line. line < length d.lines) (concat (lines_of_pieces pieces)) → All (λ (p : Piece). graph_of p ≡ piece_graph d p.lines) pieces
-    → AreRouted pieces certs → AllZip (Good d) (lines_of_pieces pieces) certs
-all_good d keeps sews keeps_total [] [] below each routed = tt
-all_good d keeps sews keeps_total [] (c ∷ certs) below each routed = absurd routed
-all_good d keeps sews keeps_total (p ∷ pieces) [] below each routed = absurd routed
-all_good d keeps sews keeps_total (p ∷ pieces) (c ∷ certs) below each routed = (
-  good d keeps sews keeps_total p c (below_left (length d.lines) p.lines (concat (lines_of_pieces pieces)) below)
-      (All-head (λ (p : Piece). graph_of p ≡ piece_graph d p.lines) p pieces each) routed.0,
-  all_good d keeps sews keeps_total pieces certs (below_right (length d.lines) p.lines (concat (lines_of_pieces pieces)) below)
-      (All-tail (λ (p : Piece). graph_of p ≡ piece_graph d p.lines) p pieces each) routed.1,
-)
-
-best_of : (d : DrawingValue) (pieces : List (List ℕ)) (certs : List PieceCert) → AllZip (Good d) pieces certs
-    → AllZip (IsLeastPieceRoute d) pieces certs
-best_of d [] [] all = tt
-best_of d [] (c ∷ certs) all = absurd all
-best_of d (p ∷ pieces) [] all = absurd all
-best_of d (p ∷ pieces) (c ∷ certs) all = (all.0.best, best_of d pieces certs all.1)
-
-sewn_of : (d : DrawingValue) (pieces : List (List ℕ)) (certs : List PieceCert) → AllZip (Good d) pieces certs
-    → AllZip (Sewn d) pieces certs
-sewn_of d [] [] all = tt
-sewn_of d [] (c ∷ certs) all = absurd all
-sewn_of d (p ∷ pieces) [] all = absurd all
-sewn_of d (p ∷ pieces) (c ∷ certs) all = (all.0.sewn, sewn_of d pieces certs all.1)
+    record {
+      best = record { proved = proved; penetrations = sewable.penetrations };
+      sewn = record {
+        canonical = routed.canonical;
+        sewable = sewable;
+        below = below;
+        costs = (omega (arith, keeps_total (piece_graph d p.lines) cert.cuts kept proved.packing, proved.total, proved.retraced));
+      };
+    }
 
 -- what is needed to sew the certificates, and what is then known
 pub record Ready (d : DrawingValue) (pieces : List Piece) (certs : List PieceCert) : Type 0 where
@@ -82,14 +62,16 @@ pub ready : (d : DrawingValue) → KeepsDrawingLimits d → FittingWalksAreSewab
     → (pieces : List Piece) (certs : List PieceCert)
     → ArePiecesOf d pieces → AreRouted pieces certs → Ready d pieces certs
 ready d keeps sews limits keeps_total pieces certs cut routed =
-    let all = all_good d keeps sews keeps_total pieces certs cut.are.there cut.each routed in
-    let is = able d keeps limits (lines_of_pieces pieces) certs cut.are (sewn_of d (lines_of_pieces pieces) certs all) in
+    let lines = lines_of_pieces pieces in
+    let all = each_piece d IsRoutedPiece (Good d) (good d keeps sews keeps_total) pieces certs cut.are.there cut.each routed in
+    let is = able d keeps limits lines certs cut.are (zip_weaker (Good d) (Sewn d) (λ p. λ c. λ good. good.sewn) lines certs all) in
     record {
       drawn = is.drawn;
       room = is.room;
       route = λ r. λ same. λ design. record {
         pieces_are = cut.are;
-        best = subst (AllZip (IsLeastPieceRoute d) (lines_of_pieces pieces)) (sym same) (best_of d (lines_of_pieces pieces) certs all);
+        best = subst (AllZip (IsLeastPieceRoute d) lines) (sym same)
+            (zip_weaker (Good d) (IsLeastPieceRoute d) (λ p. λ c. λ good. good.best) lines certs all);
         canonical = subst (All HasCanonicalText) (sym same) is.canonical;
         writable = subst (λ (cs : List PieceCert). AreWritable d.step (runs_of d (walks_of cs))) (sym same) is.writable;
         design = design ∙ ap (λ (cs : List PieceCert). sewn_design d (walks_of cs)) (sym same);

@@ -3,10 +3,12 @@ use Rattle.std.proofs.lemmas.Bool.Decides.{nat_tests}
 use Rattle.std.proofs.Common.{◌≡◌, ◌≢◌, ◌≤◌, ◌<◌, ℕ, suc, ◌+◌, ◌*◌, List, [], ◌∷◌, length, All, Contains, sum_by, arith, refl, ap}
 use Rattle.std.proofs.lemmas.List.Elements.{All-cons, All-contains, All-head, All-nil, All-tail}
 use Rattle.std.proofs.lemmas.List.Sums.{sum_by-cons}
-use Rattle.std.specs.List.{AllZip}
+use Rattle.std.specs.List.{AllZip, concat}
 use Rattle.odd_cuts.specs.declared.certificate.PieceCert.{PieceCert}
 use Rattle.odd_cuts.specs.Certificates.{HasCanonicalText, walks_of}
 use Rattle.line_graph.specs.declared.pass.Pass.{Pass}
+use Rattle.line_graph.specs.declared.piece.Piece.{Piece}
+use Rattle.line_graph.specs.PiecesOfDrawings.{graph_of, lines_of_pieces}
 use Rattle.drawing_model.specs.Drawings.{DrawingValue, KeepsDrawingLimits}
 use Rattle.line_graph.specs.PieceGraphs.{piece_graph}
 use Rattle.line_graph.specs.Pieces.{ArePieces}
@@ -15,6 +17,40 @@ use Rattle.line_graph.specs.Runs.{AreNear, AreWritable, Run, commands_after, run
 use Rattle.line_graph.specs.SewnWalks.{ArePiecesWithin, GoesAlong, IsSewable, PiecesKeepLimits}
 use Rattle.route_verdict.specs.SewingSteps.{AllDrawn, AreDrawn}
 use Rattle.line_graph.proofs.CallerLemmas.{commands_count}
+use Rattle.lists_and_numbers.proofs.CallerLemmas.{below_left, below_right}
+
+-- what holds of the items of two lists, pair by pair, where it follows from what is known of each pair
+pub zip_weaker : {A B : Type 0} (P Q : A → B → Type 0) → ((x : A) (y : B) → P x y → Q x y) → (xs : List A) (ys : List B)
+    → AllZip P xs ys → AllZip Q xs ys
+zip_weaker P Q each [] [] all = tt
+zip_weaker P Q each [] (y ∷ ys) all = absurd all
+zip_weaker P Q each (x ∷ xs) [] all = absurd all
+zip_weaker P Q each (x ∷ xs) (y ∷ ys) all = (each x y all.0, zip_weaker P Q each xs ys all.1)
+
+-- what holds of each item of the second list
+zip_second : {A B : Type 0} (P : A → B → Type 0) (Q : B → Type 0) → ((x : A) (y : B) → P x y → Q y) → (xs : List A) (ys : List B)
+    → AllZip P xs ys → All Q ys
+zip_second P Q each [] [] all = All-nil Q
+zip_second P Q each [] (y ∷ ys) all = absurd all
+zip_second P Q each (x ∷ xs) [] all = absurd all
+zip_second P Q each (x ∷ xs) (y ∷ ys) all = All-cons Q y ys (each x y all.0) (zip_second P Q each xs ys all.1)
+
+-- what is known of the lines of pieces and their certificates, from what is known of each piece
+pub each_piece : (d : DrawingValue) (R : Piece → PieceCert → Type 0) (P : List ℕ → PieceCert → Type 0)
+    → ((p : Piece) (cert : PieceCert) → All (λ line. line < length d.lines) p.lines → graph_of p ≡ piece_graph d p.lines → R p cert
+    → P p.lines cert)
+    → (pieces : List Piece) (certs : List PieceCert)
+    → All (λ line. line < length d.lines) (concat (lines_of_pieces pieces)) → All (λ (p : Piece). graph_of p ≡ piece_graph d p.lines) pieces
+    → AllZip R pieces certs → AllZip P (lines_of_pieces pieces) certs
+each_piece d R P one [] [] below each all = tt
+each_piece d R P one [] (c ∷ certs) below each all = absurd all
+each_piece d R P one (p ∷ pieces) [] below each all = absurd all
+each_piece d R P one (p ∷ pieces) (c ∷ certs) below each all = (
+  one p c (below_left (length d.lines) p.lines (concat (lines_of_pieces pieces)) below)
+      (All-head (λ (p : Piece). graph_of p ≡ piece_graph d p.lines) p pieces each) all.0,
+  each_piece d R P one pieces certs (below_right (length d.lines) p.lines (concat (lines_of_pieces pieces)) below)
+      (All-tail (λ (p : Piece). graph_of p ≡ piece_graph d p.lines) p pieces each) all.1,
+)
 
 -- the walk of a piece can be sewn and printed, and costs no more than the lines twice
 pub record Sewn (d : DrawingValue) (lines : List ℕ) (cert : PieceCert) : Type 0 where
@@ -22,13 +58,6 @@ pub record Sewn (d : DrawingValue) (lines : List ℕ) (cert : PieceCert) : Type 
   pub sewable : IsSewable d lines cert.walk
   pub below : All (λ line. line < length d.lines) lines
   pub costs : walk_cost (piece_graph d lines) cert.walk ≤ 2 * piece_cost (piece_graph d lines)
-
-spelled_of : (d : DrawingValue) (pieces : List (List ℕ)) (certs : List PieceCert) → AllZip (Sewn d) pieces certs
-    → All HasCanonicalText certs
-spelled_of d [] [] all = All-nil HasCanonicalText
-spelled_of d [] (c ∷ certs) all = absurd all
-spelled_of d (p ∷ pieces) [] all = absurd all
-spelled_of d (p ∷ pieces) (c ∷ certs) all = All-cons HasCanonicalText c certs all.0.canonical (spelled_of d pieces certs all.1)
 
 along_of : (d : DrawingValue) (pieces : List (List ℕ)) (certs : List PieceCert) → AllZip (Sewn d) pieces certs
     → AllZip GoesAlong pieces (walks_of certs)
@@ -51,18 +80,14 @@ near_of d (p ∷ pieces) (c ∷ certs) all =
     All-cons (λ (run : Run). AreNear d.step run.needles) (run_of d c.walk) (runs_of d (walks_of certs)) all.0.sewable.near
     (near_of d pieces certs all.1)
 
-drawn_of : (d : DrawingValue) (pieces : List (List ℕ)) (certs : List PieceCert) → AllZip (Sewn d) pieces certs → AllDrawn d certs
-drawn_of d [] [] all = All-nil (λ (piece : PieceCert). AreDrawn d piece.walk)
-drawn_of d [] (c ∷ certs) all = absurd all
-drawn_of d (p ∷ pieces) [] all = absurd all
-drawn_of d (p ∷ pieces) (c ∷ certs) all =
-    All-cons (λ (piece : PieceCert). AreDrawn d piece.walk) c certs (drawn c.walk all.0.sewable.there) (drawn_of d pieces certs all.1)
+drawn_of : (d : DrawingValue) (p : List ℕ) (cert : PieceCert) → Sewn d p cert → AreDrawn d cert.walk
+drawn_of d p cert sewn = drawn cert.walk sewn.sewable.there
   where
     drawn : (walk : List Pass) → All (λ (pass : Pass). Contains p pass.line) walk → AreDrawn d walk
     drawn [] there = All-nil (λ (pass : Pass). pass.line < length d.lines)
     drawn (q ∷ walk) there =
         All-cons (λ (pass : Pass). pass.line < length d.lines) q walk
-        (All-contains (λ line. line < length d.lines) p q.line all.0.below (All-head (λ (pass : Pass). Contains p pass.line) q walk there))
+        (All-contains (λ line. line < length d.lines) p q.line sewn.below (All-head (λ (pass : Pass). Contains p pass.line) q walk there))
         (drawn walk (All-tail (λ (pass : Pass). Contains p pass.line) q walk there))
 
 -- the needles are at most twice the cost of the lines, and one for each piece
@@ -104,4 +129,7 @@ pub record Able (d : DrawingValue) (certs : List PieceCert) : Type 0 where
 pub able : (d : DrawingValue) → KeepsDrawingLimits d → PiecesKeepLimits → (pieces : List (List ℕ)) (certs : List PieceCert)
     → ArePieces d pieces
     → AllZip (Sewn d) pieces certs → Able d certs
-able d keeps limits pieces certs are all = grind (arith, nat_tests, writable, drawn_of, commands_count, spelled_of)
+able d keeps limits pieces certs are all =
+    let drawn = zip_second (Sewn d) (λ (c : PieceCert). AreDrawn d c.walk) (drawn_of d) pieces certs all in
+    let canonical = zip_second (Sewn d) HasCanonicalText (λ p. λ c. λ sewn. sewn.canonical) pieces certs all in
+    grind (arith, nat_tests, writable, drawn, canonical, commands_count)
