@@ -89,11 +89,6 @@ pub runs_differ : (d : DrawingValue) (acts : List NumberedAct) (certs : List Pie
     → first_differing_act 1 (acts_without_numbers acts) (sewn_acts_after 0 (runs_of d (walks_of certs))) ≡ Some number
 runs_differ d acts certs at before number left rest cert is on differs = grind (arith, nat_tests, left_first d before left rest cert is)
 
--- the walk of the next piece is drawn
-pub drawn_next : (d : DrawingValue) (left rest : List PieceCert) (cert : PieceCert) → left ≡ cert ∷ rest → AllDrawn d left
-    → AreDrawn d cert.walk
-drawn_next d left rest cert is drawn = All-head (λ (c : PieceCert). AreDrawn d c.walk) cert rest (subst (AllDrawn d) is drawn)
-
 -- an act that is left differs from the end
 pub more_left : (acts : List NumberedAct) (at : ℕ) → at < length acts
     → first_differing_act (at + 1) (acts_without_numbers (drop at acts)) [] ≡ Some (at + 1)

@@ -9,7 +9,7 @@ use line_graph::Piece;
 use odd_cuts::{PieceCert, check_cuts, check_walk, first_lent};
 
 /// Returns the reason that the certificate has another number of pieces than the drawing, if it has.
-pub(crate) fn wrong_count(certs: &[PieceCert], pieces: &[Piece]) -> Option<Reason>
+pub fn wrong_count(certs: &[PieceCert], pieces: &[Piece]) -> Option<Reason>
     requires found { length certs.now < 2 ^ 32 - 1 }
     requires drawn { length pieces.now ≤ MAX_LINES }
     ensures { result ≡ count_reason (length certs.now) (length pieces.now) }
@@ -24,7 +24,7 @@ pub(crate) fn wrong_count(certs: &[PieceCert], pieces: &[Piece]) -> Option<Reaso
 }
 
 /// Returns the first fault in the certificates of the pieces.
-pub(crate) fn wrong_piece(pieces: &[Piece], certs: &[PieceCert]) -> Option<Reason>
+pub fn wrong_piece(pieces: &[Piece], certs: &[PieceCert]) -> Option<Reason>
     requires few { length pieces.now ≤ MAX_LINES }
     requires short { All HasShortLists certs.now }
     ensures { result ≡ pieces_reason 1 (map graph_of pieces.now) certs.now }
