@@ -1,5 +1,5 @@
 -- Lemmas that this crate and those above cite.
-use Rattle.std.proofs.Common.{None, Option, Some, [], arith, refl, true, ℕ, ◌*◌, ◌+◌, ◌≡◌, ◌≤◌}
+use Rattle.std.proofs.Common.{None, Option, Some, [], arith, refl, true, ◌≡◌, ◌≤◌}
 use Rattle.std.proofs.lemmas.List.Elements.{All-nil}
 use Rattle.line_graph.specs.PieceGraphs.{PieceValue}
 use Rattle.line_graph.specs.PieceWalks.{is_fitting_walk, piece_cost, walk_cost}

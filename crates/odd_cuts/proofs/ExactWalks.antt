@@ -146,14 +146,7 @@ pub exact_walks : (p : PieceValue) (walk : List Pass) (r : Result ℕ WalkFault)
 exact_walks p walk (Ok cost) some is = sym (ap (λ (f : Option WalkFault). is_right f) is.0) ∙ fits_right p walk some
 exact_walks p walk (Err f) some is = sym (ap (λ (f : Option WalkFault). is_right f) is) ∙ fits_right p walk some
 
-right_none : {F : Type 0} (found : Option F) → is_right found ≡ true → found ≡ None
-right_none None is = refl
-right_none (Some found) is = absurd (cc)
-
 -- no fault is found exactly where the walk fits
 pub walks_exact : (p : PieceValue) (walk : List Pass) → IsValidPiece p
     → (walk_fault p walk ≡ None → is_fitting_walk p walk ≡ true) × (is_fitting_walk p walk ≡ true → walk_fault p walk ≡ None)
-walks_exact p walk keeps = (
-  λ none. sym (fits_right p walk keeps.some) ∙ ap (λ (f : Option WalkFault). is_right f) none,
-  λ fit. right_none (walk_fault p walk) (fits_right p walk keeps.some ∙ fit),
-)
+walks_exact p walk keeps = grind (arith, nat_tests, fits_right p walk keeps.some)

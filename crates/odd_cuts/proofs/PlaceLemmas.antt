@@ -22,8 +22,7 @@ earlier_none None = refl
 pub places_blank : (lines : List ℕ) (edges : List Edge) → length edges ≤ MAX_LINES → (line : ℕ)
     → earlier (edge_of lines edges line) (slice_get edges (get_or (replicate MAX_LINES MAX_LINES) line MAX_LINES))
     ≡ edge_of lines edges line
-places_blank lines edges few line =
-    rw (blank MAX_LINES MAX_LINES line, slice_get_past edges MAX_LINES few) (earlier_none (edge_of lines edges line))
+places_blank lines edges few line = search (arith, blank, slice_get_past, earlier_none)
 
 -- a line is none of greater ones
 pub none_above : (line : ℕ) (lines : List ℕ) (edges : List Edge) → all_greater line lines ≡ true → edge_of lines edges line ≡ None

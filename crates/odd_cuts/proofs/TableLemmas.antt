@@ -1,5 +1,5 @@
 -- Tables and lists by index.
-use Rattle.std.proofs.Common.{◌≡◌, ◌≤◌, ◌<◌, ℕ, zero, suc, ◌+◌, ◌&&◌, true, nat_lt, List, [], ◌∷◌, length, drop, get_or, replicate, set, arith, refl, ◌∙◌}
+use Rattle.std.proofs.Common.{◌≡◌, ◌≤◌, ◌<◌, ℕ, zero, suc, ◌+◌, true, List, [], ◌∷◌, length, drop, get_or, replicate, set, arith, refl, ◌∙◌}
 use Rattle.std.proofs.lemmas.Bool.{and_from, and_parts}
 use Rattle.std.proofs.lemmas.Bool.Decides.{nat_tests}
 use Rattle.std.proofs.lemmas.List.{at_drop_more, length-set}
@@ -22,17 +22,11 @@ at_place xs i d less = at_drop_more (λ ys. ys) xs i d less
 pub below_at : (most : ℕ) (xs : List ℕ) (i d : ℕ) → all_below most xs ≡ true → i < length xs → get_or xs i d < most
 below_at most [] i d below less = absurd (omega (arith, less))
 below_at most (x ∷ xs) zero d below less = grind (arith, nat_tests)
-below_at most (x ∷ xs) (suc i) d below less =
-    below_at most xs i d (and_parts (nat_lt x most) (all_below most xs) below).1 (omega (arith, less))
+below_at most (x ∷ xs) (suc i) d below less = grind (arith, nat_tests, below_at most xs i d, and_parts)
 
 ends_within : (count most : ℕ) (edges : List Edge) → count ≤ most → ends_below count edges ≡ true → ends_below most edges ≡ true
 ends_within count most [] less below = refl
-ends_within count most (e ∷ edges) less below =
-    let parts = and_parts (nat_lt e.a count && nat_lt e.b count) (ends_below count edges) below in
-    let both = and_parts (nat_lt e.a count) (nat_lt e.b count) parts.0 in
-    and_from (nat_lt e.a most && nat_lt e.b most) (ends_below most edges)
-    (and_from (nat_lt e.a most) (nat_lt e.b most) (grind (arith, nat_tests, both.0)) (grind (arith, nat_tests, both.1)))
-    (ends_within count most edges less parts.1)
+ends_within count most (e ∷ edges) less below = grind (arith, nat_tests, ends_within count most edges less, and_from, and_parts)
 
 -- the ends of the edges of a piece are few
 pub ends_few : (p : PieceValue) → IsValidPiece p → ends_below (MAX_LINES + 1) p.edges ≡ true

@@ -1,6 +1,6 @@
 -- The total of a packing is at most twice the cost of the lines, since each odd cut is crossed by a line.
 use Rattle.std.proofs.lemmas.Bool.Decides.{nat_tests}
-use Rattle.std.proofs.Common.{◌≡◌, ◌≤◌, ◌<◌, ℕ, zero, suc, ◌+◌, ◌*◌, ◌%◌, Bool, true, false, List, [], ◌∷◌, length, arith, refl, ◌∙◌, ap}
+use Rattle.std.proofs.Common.{◌≡◌, ◌≤◌, ◌<◌, ℕ, zero, suc, ◌+◌, ◌%◌, Bool, true, false, List, [], ◌∷◌, length, arith, refl, ◌∙◌, ap}
 use Rattle.line_graph.specs.declared.edge.Edge.{Edge}
 use Rattle.line_graph.specs.ValidPieces.{IsValidPiece, NoEdgeLeaves}
 use Rattle.line_graph.specs.PieceGraphs.{PieceValue, edges_with_closing, degrees_from}
