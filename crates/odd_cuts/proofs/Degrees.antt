@@ -16,9 +16,12 @@ odd_in s at [] = 0
 odd_in s at (d ∷ ds) = one_if (s at && is_odd d) + odd_in s (at + 1) ds
 
 -- how many of the numbers are in a set
-abbrev counted : (ℕ → Bool) → List ℕ → ℕ
+abbrev pub counted : (ℕ → Bool) → List ℕ → ℕ
 counted s [] = 0
 counted s (x ∷ xs) = cond (s x) (1 + counted s xs) (counted s xs)
+
+pub count_is : (test : ℕ → Bool) (xs : List ℕ) → counted test xs ≡ count_by test xs
+count_is test xs = is_count_by (counted test) test refl (λ x. λ xs. refl) xs
 
 counted_from : (s : ℕ → Bool) (es : List Edge) (at n : ℕ)
     → counted s (filter (λ j. is_odd (degree es j)) (range_with_len at n)) ≡ odd_in s at (degrees_from es at n)
@@ -29,8 +32,7 @@ counted_from s es at (suc n) = grind (arith, nat_tests, counted_from s es (at + 
 pub odd_counted : (s : ℕ → Bool) (es : List Edge) (at n : ℕ)
     → count_by s (filter (λ j. is_odd (degree es j)) (range_with_len at n)) ≡ odd_in s at (degrees_from es at n)
 odd_counted s es at n =
-    sym (is_count_by (counted s) s refl (λ x. λ xs. refl) (filter (λ j. is_odd (degree es j)) (range_with_len at n)))
-    ∙ counted_from s es at n
+    sym (count_is s (filter (λ j. is_odd (degree es j)) (range_with_len at n))) ∙ counted_from s es at n
 
 -- the degrees of the junctions in a set, added up
 abbrev held : (ℕ → Bool) → ℕ → List ℕ → ℕ

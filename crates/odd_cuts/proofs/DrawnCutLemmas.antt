@@ -1,8 +1,7 @@
 -- A packing over the graph of a piece is one over its lines.
 use Rattle.std.proofs.lemmas.Bool.Decides.{nat_tests}
-use Rattle.std.proofs.Common.{◌≡◌, ◌≤◌, ℕ, ◌+◌, ◌*◌, ◌%◌, Bool, cond, List, [], ◌∷◌, ◌++◌, map, option_map, Option, Some, None, All, sum_by, arith, refl, ◌∙◌}
+use Rattle.std.proofs.Common.{◌≡◌, ◌≤◌, ℕ, ◌+◌, ◌*◌, ◌%◌, Bool, cond, List, [], ◌∷◌, map, option_map, Option, Some, None, All, sum_by, arith, refl, ◌∙◌}
 use Rattle.std.proofs.lemmas.List.Elements.{All-weaker, All-cons, All-head, All-nil, All-tail}
-use Rattle.std.proofs.lemmas.List.Recursion.{is_count_by}
 use Rattle.std.specs.List.{count_by}
 use Rattle.std.specs.Option.{option_or}
 use Rattle.design_model.specs.declared.point.Point.{Point}
@@ -19,12 +18,8 @@ use Rattle.odd_cuts.specs.Cuts.{has_member, load_on}
 use Rattle.odd_cuts.specs.DrawnCuts.{IsOddOver, PackingsAreOverLines, given_apart, leads_out}
 use Rattle.odd_cuts.specs.Packings.{IsOddCut, odd_held}
 use Rattle.odd_cuts.proofs.Crossing.{crossing}
-use Rattle.odd_cuts.proofs.Duality.{held_crossing}
-
--- how many items pass a test
-abbrev counted : (ℕ → Bool) → List ℕ → ℕ
-counted test [] = 0
-counted test (x ∷ xs) = cond (test x) (1 + counted test xs) (counted test xs)
+use Rattle.odd_cuts.proofs.Degrees.{count_is, counted}
+use Rattle.odd_cuts.proofs.Duality.{held_crossing, sum_append}
 
 -- the edges that cross a set are those of the lines that lead out
 lines_out : (d : DrawingValue) (js : List Point) (set : ℕ → Bool) (out : ℕ → Bool) (lines : List ℕ)
@@ -32,13 +27,6 @@ lines_out : (d : DrawingValue) (js : List Point) (set : ℕ → Bool) (out : ℕ
     → edge_sum (crossing set) (map (edge_between d js) lines) ≡ counted out lines
 lines_out d js set out [] each = refl
 lines_out d js set out (line ∷ lines) each = rw (each line, lines_out d js set out lines each) (grind (arith, nat_tests))
-
-count_is : (test : ℕ → Bool) (lines : List ℕ) → counted test lines ≡ count_by test lines
-count_is test lines = is_count_by (counted test) test refl (λ x. λ xs. refl) lines
-
-sum_append : (f : Edge → ℕ) (xs ys : List Edge) → edge_sum f (xs ++ ys) ≡ edge_sum f xs + edge_sum f ys
-sum_append f [] ys = omega arith
-sum_append f (x ∷ xs) ys = grind (arith, nat_tests, sum_append f xs ys)
 
 -- the closing edge crosses a set that parts the start and the end
 closing_out : (d : DrawingValue) (lines : List ℕ) (cut : Cut) (start end : Option Point)

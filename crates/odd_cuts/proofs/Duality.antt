@@ -53,7 +53,7 @@ total_loads ns es y p (c ∷ cs) odd each =
         omega arith
 
 -- no line carries more than two halves for each of its steps
-abbrev Fits : List Cut → Edge → Type 0
+abbrev pub Fits : List Cut → Edge → Type 0
 Fits cuts e = load_on cuts e ≤ 2 * e.cost
 
 -- where each line carries at most twice its cost
@@ -103,7 +103,7 @@ led ns es walk None (Some b) first is = led_between ns es walk b b is
 led ns es walk None None None is = absurd (nowhere (walk_end_from ns es None walk) is)
 led ns es walk None None (Some a) is = grind (arith, nat_tests)
 
-sum_append : (f : Edge → ℕ) (xs ys : List Edge) → edge_sum f (xs ++ ys) ≡ edge_sum f xs + edge_sum f ys
+pub sum_append : (f : Edge → ℕ) (xs ys : List Edge) → edge_sum f (xs ++ ys) ≡ edge_sum f xs + edge_sum f ys
 sum_append f [] ys = omega arith
 sum_append f (x ∷ xs) ys = grind (arith, nat_tests, sum_append f xs ys)
 

@@ -1,5 +1,5 @@
 -- The check of cuts accepts exactly the packings with the total that is needed.
-use Rattle.std.proofs.Common.{◌≡◌, ◌≤◌, ◌<◌, ℕ, ◌+◌, ◌*◌, ◌==◌, Bool, true, false, cond, nat_lt, nat_le, List, [], ◌∷◌, length, All, Some, None, Result, Ok, Err, IsOk, arith, refl}
+use Rattle.std.proofs.Common.{◌≡◌, ◌<◌, ℕ, ◌+◌, ◌*◌, ◌==◌, Bool, true, false, cond, nat_lt, nat_le, List, [], ◌∷◌, length, All, Some, None, Result, Ok, Err, IsOk, arith, refl}
 use Rattle.std.proofs.lemmas.Bool.Decides.{nat_tests}
 use Rattle.std.proofs.lemmas.List.Elements.{All-cons, All-head, All-nil, All-tail}
 use Rattle.line_graph.specs.declared.edge.Edge.{Edge}
@@ -13,6 +13,7 @@ use Rattle.odd_cuts.specs.Cuts.{load_on, total_weight}
 use Rattle.odd_cuts.specs.Faults.{ReportsFault, first_fault}
 use Rattle.odd_cuts.specs.Packings.{IsOddCut, IsPacking}
 use Rattle.lists_and_numbers.proofs.CallerLemmas.{test_none}
+use Rattle.odd_cuts.proofs.Duality.{Fits}
 use Rattle.odd_cuts.proofs.CallerLemmas.{both_none}
 
 -- all members are junctions where none is a stranger
@@ -55,11 +56,7 @@ no_cut_faults p number (cut ∷ rest) are =
       no_cut_faults p (number + 1) rest (All-tail (IsOddCut p) cut rest are),
     ) refl
 
--- the edge carries no more than it may
-abbrev Fits : List Cut → Edge → Type 0
-Fits cuts e = load_on cuts e ≤ 2 * e.cost
-
--- each edge does where no line carries too much
+-- each edge carries no more than it may, where no load has a fault
 loads_right : (cuts : List Cut) (ns : List ℕ) (es : List Edge) → length ns ≡ length es → load_faults cuts ns es ≡ None → All (Fits cuts) es
 loads_right cuts [] [] beside is = All-nil (Fits cuts)
 loads_right cuts [] (e ∷ es) beside is = absurd (omega (arith, beside))
