@@ -6,7 +6,13 @@ use Rattle.std.proofs.lemmas.List.Elements.{All-append, All-nil}
 use Rattle.std.proofs.lemmas.Nat.{mul-le}
 use Rattle.std.specs.List.{range_with_len}
 use Rattle.sample_drawings.specs.Samples.{row_by_row}
-use Rattle.std.proofs.lemmas.List.FromFn.{counting_more}
+
+-- one number more
+range_more : (from n last : ℕ) → from + n ≡ last → range_with_len from (n + 1) ≡ range_with_len from n ++ last ∷ []
+range_more from zero last is = let same : from ≡ last = omega (arith, is) in ap (λ m. m ∷ []) same
+range_more from (suc n) last is =
+    let one : suc n + 1 ≡ suc (n + 1) = omega arith in
+    rw one (ap (λ ms. from ∷ ms) (range_more (from + 1) n last (omega (arith, is))))
 
 -- the item for one number more is at the end
 pub made_more : {T : Type 0} (make : ℕ → List T) (n : ℕ) (before so_far after : List T)
@@ -16,7 +22,7 @@ made_more make n before so_far after made put =
     put
     ∙ (ap (λ xs. xs ++ make n) made
     ∙ (flat_map_more make before (range_with_len 0 n) n
-    ∙ ap (λ ms. before ++ flat_map make ms) (sym (counting_more 0 n n (omega arith)))))
+    ∙ ap (λ ms. before ++ flat_map make ms) (sym (range_more 0 n n (omega arith)))))
 
 -- what holds of the items of each number holds of the concatenation
 all_made : {T : Type 0} (P : T → Type 0) (make : ℕ → List T) (from n : ℕ)
