@@ -179,8 +179,17 @@ decimal_read n small =
 
 pub signed_read : (z : ℤ) → unsigned_abs z ≤ 999999999 → parsed_whole (signed_decimal z) ≡ whole.Value z
 signed_read z h1 =
-    grind (arith, nat_tests, decimal_read, digits_decimal, decimal_model, decimal_nonempty, digits_read, numeral_some,
-      digits_value-decimal)
+    grind (
+      arith,
+      nat_tests,
+      decimal_read,
+      digits_decimal,
+      decimal_model,
+      decimal_nonempty,
+      digits_read,
+      numeral_some,
+      digits_value-decimal,
+    )
 
 -- a test that is one of two
 pub one_of : (s t : Bool) → (s || t) ≡ true → (s ≡ true) ⊎ (t ≡ true)

@@ -51,5 +51,21 @@ pub takes_lines : (old middle new : DecoderState) (so_far : DecodedSoFar) (at si
     → TakesLines old middle at bytes size → part ≡ drop size bytes → TakesBytes middle new so_far (at + size) part more
     → TakesBytes old new so_far at bytes (size + more)
 takes_lines old middle new so_far at size more bytes part lines is takes =
-    grind (arith, nat_tests, lines.there, takes.there, takes.few, length-drop, drop-drop, lines.on.rest, middle.rest, takes.on.rest,
-      new.rest, lines.on.decoded, middle.decoded, takes.on.decoded, new.decoded, takes.settled)
+    grind (
+      arith,
+      nat_tests,
+      lines.there,
+      takes.there,
+      takes.few,
+      length-drop,
+      drop-drop,
+      lines.on.rest,
+      middle.rest,
+      takes.on.rest,
+      new.rest,
+      lines.on.decoded,
+      middle.decoded,
+      takes.on.decoded,
+      new.decoded,
+      takes.settled,
+    )

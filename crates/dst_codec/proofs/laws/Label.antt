@@ -25,8 +25,19 @@ front z a b c d e f g h i j k l m n o is = simp append_assoc (take_at z _ 16 is)
 label_of-file : (label : List ℕ) (numbers : HeaderNumbers) (body : List ℕ) → length (label_field label) ≡ MAX_LABEL
     → dst_label_of (dst_header_of label numbers ++ body) ≡ label_in (label_field label)
 label_of-file label numbers body places =
-    grind (arith, nat_tests, front, numbers.records, numbers.stops, numbers.extents.right, numbers.extents.left, numbers.extents.up,
-      numbers.extents.down, numbers.last.x, numbers.last.y)
+    grind (
+      arith,
+      nat_tests,
+      front,
+      numbers.records,
+      numbers.stops,
+      numbers.extents.right,
+      numbers.extents.left,
+      numbers.extents.up,
+      numbers.extents.down,
+      numbers.last.x,
+      numbers.last.y,
+    )
 
 -- the label is read back
 pub label_reads_again : AcceptedIsWithinLimits → EncodedActsRoundTrip → LabelFieldsRoundTrip → LabelRoundTrips
