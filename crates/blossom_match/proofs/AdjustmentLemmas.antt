@@ -1,22 +1,19 @@
 -- After a change of duals the step can be made, and the invariants still hold.
 use Rattle.std.proofs.lemmas.Bool.Decides.{nat_tests}
-use Rattle.std.proofs.Common.{◌≡◌, ◌≢◌, ℕ, ◌+◌, ◌*◌, ◌^◌, ◌≤◌, ◌<◌, suc, zero, List, [], ◌∷◌, flat_map, length, drop, arith, refl, sym, ap, subst, ◌∙◌}
+use Rattle.std.proofs.Common.{◌≡◌, ◌≢◌, ℕ, ◌+◌, ◌*◌, ◌^◌, ◌≤◌, ◌<◌, suc, zero, List, [], ◌∷◌, flat_map, length, arith, refl, sym, ap, subst, ◌∙◌}
 use Rattle.odd_sets.specs.Lists.{Each}
 use Rattle.odd_sets.specs.DualSets.{DualSet, OddSetValue, apart, dual_sets, count, height, dual_load, with_dual}
 use Rattle.odd_sets.specs.MatchedSets.{match_members, match_dual_sets, IsMatch}
-use Rattle.odd_sets.specs.SoundSets.{IsSoundBranch, IsSoundMatch, IsSoundSet, IsTight}
-use Rattle.odd_sets.specs.Trees.{outer_with_both, one_if_both, branch_dual_sets, inner_dual_sets, inner_members, inner_sets, outer_members, outer_sets, IsAlternatingTree}
-use Rattle.odd_sets.specs.Expansions.{FirstCanExpand}
+use Rattle.odd_sets.specs.SoundSets.{IsSoundBranch, IsSoundMatch, IsSoundSet}
+use Rattle.odd_sets.specs.Trees.{outer_with_both, one_if_both, branch_dual_sets, inner_members, inner_sets, outer_members, outer_sets, IsAlternatingTree}
 use Rattle.blossom_match.specs.Searches.{stored_height, dual_height, search_holding_both, outer_vertices, IsStepReady, IsSearch}
-use Rattle.blossom_match.specs.LeastChanges.{IsLeastChange, CanSearch, FirstHasDual, IsReadyAfter, AllowsChange}
+use Rattle.blossom_match.specs.LeastChanges.{IsLeastChange, CanSearch, IsReadyAfter, AllowsChange}
 use Rattle.blossom_match.specs.Duals.{all_changed, changed_by, CanChange, CanChangeHeights, CanAdjust, ChangesDuals, CanStepAfter, Adjusts}
 use Rattle.odd_sets.specs.TableValue.{TableValue}
 use Rattle.odd_sets.specs.Tables.{entry, IsMetric, IsTable, HasTriangleInequality}
 use Rattle.odd_sets.specs.declared.table.TheConstants.{MAX_DISTANCE}
-use Rattle.odd_sets.specs.declared.odd_set.TightEdge.{TightEdge}
 use Rattle.odd_sets.specs.Values.{BranchValue, MatchValue, SearchValue}
 use Rattle.blossom_match.specs.declared.search.SearchStep.{SearchStep}
-use Rattle.blossom_match.specs.declared.search.SearchStep.TheVariants.{Augment, Grow, Shrink, Expand}
 use Rattle.blossom_match.specs.declared.least.DualChange.{DualChange}
 use Rattle.odd_sets.proofs.CallerLemmas.{each-right, count-append, members-append, some_member, base_in, grown-right, entry-comm, by_count}
 use Rattle.blossom_match.proofs.ScanLemmas.{apart_from}
@@ -24,11 +21,6 @@ use Rattle.blossom_match.proofs.SearchLemmas.{in_place, is_one, place_in}
 use Rattle.blossom_match.proofs.FreeLemmas.{load_of, load_of-comm, under}
 use Rattle.blossom_match.proofs.BoundLemmas.{height_limit, loads_apart}
 use Rattle.blossom_match.proofs.DualLemmas.{outer_with_both-comm, around_same_all, between_in, between_out, branches_load, branches_tall, counted, matches_same, drop_changed, each_split, firm_changed, grown_same, inner_same, inside, more_wide, one_place, outer_limit, outer_same, set_limit, sizes_same, sound_up, times_by, wide_tall, within}
-
--- the inner blossom at which the step is due has dual 0 after the change
-due_comes_apart : (by : ℕ) (bs : List BranchValue) → FirstHasDual by bs → FirstCanExpand (all_changed by bs)
-due_comes_apart by [] due = due
-due_comes_apart by (b ∷ bs) due = (omega (arith, due.0), due.1)
 
 none_below : (v : ℕ) (bs : List DualSet) → length bs ≡ 0 → height v bs ≡ 0
 none_below v [] e = refl
@@ -87,8 +79,7 @@ can_change t h s c is tri i b some =
 rise_case : (n by w limit : ℕ) → (o : ℕ) → o ≡ n → o ≤ 1 → w ≤ limit → (1 ≤ o → w + by ≤ limit) → w + by * o ≤ limit
 rise_case zero by w limit o e few low up = omega (arith, low, ap (λ (k : ℕ). by * k) e)
 rise_case (suc n) by w limit o e few low up =
-    let one : o ≡ 1 = omega (arith, e, few) in
-    omega (arith, up (omega (arith, one)), ap (λ (k : ℕ). by * k) one)
+    grind (arith, nat_tests)
 
 fall_case : (n by w : ℕ) → (i : ℕ) → i ≡ n → (1 ≤ i → by * i ≤ w) → by * i ≤ w
 fall_case zero by w i e down = omega (arith, ap (λ (k : ℕ). by * k) e)
@@ -215,16 +206,12 @@ loads_stay t h s r c i bd ch can a b la lb ne =
           a b (omega (arith, two, pb, is_one t b)) (omega (arith, two, pa, is_one t a)) apart,
     ))
 
--- an edge that is tight after the change
-tight_after : (d : TableValue) (k : ℕ → ℕ) (l : TightEdge) → k l.from + k l.to ≡ 2 * entry d l.from l.to → IsTight d k l
-tight_after d k l e = sym e
-
 due_ready : (step : SearchStep) (t : TableValue) (h k : ℕ → ℕ) (s r : SearchValue) (by : ℕ) → ChangesDuals by s r
     → ((x : ℕ) → 1 ≤ count x (outer_vertices s) → k x ≡ h x + by) →
     ((x : ℕ) → 1 ≤ count x (match_members s.rest) + count x s.free → k x ≡ h x)
     → ((x : ℕ) → count x (outer_vertices r) ≡ count x (outer_vertices s)) →
     IsReadyAfter t h s by step → IsStepReady t k r step
-due_ready step t h k s r by h1 h2 h3 h4 h5 = grind (arith, nat_tests, tight_after, around_same_all, drop_changed, due_comes_apart)
+due_ready step t h k s r by h1 h2 h3 h4 h5 = grind (arith, nat_tests, around_same_all, drop_changed)
 
 rise : (by k h i o : ℕ) → k + by * i ≡ h + by * o → i ≡ 0 → o ≡ 1 → k ≡ h + by
 rise by k h i o e g j = omega (arith, e, ap (λ (x : ℕ). by * x) g, ap (λ (x : ℕ). by * x) j)
@@ -317,19 +304,11 @@ changed_none by b e =
 
 all_none : (by : ℕ) (bs : List BranchValue) → by ≡ 0 → all_changed by bs ≡ bs
 all_none by [] e = refl
-all_none by (b ∷ bs) e = ap (λ (k : BranchValue). k ∷ all_changed by bs) (changed_none by b e)
-    ∙ ap (λ (ks : List BranchValue). b ∷ ks) (all_none by bs e)
+all_none by (b ∷ bs) e = grind (arith, nat_tests, changed_none, all_none by bs e)
 
 no_times : (by n : ℕ) → by ≡ 0 → by * n ≡ 0
 no_times by n e = omega (arith, ap (λ (k : ℕ). k * n) e)
 
 -- and so it does a search
 pub stays : (s : SearchValue) (c : DualChange) → c.by ≡ 0 → Adjusts s c s
-stays s c e = adjusts s s c (record {
-  heights = λ x. omega (arith, no_times);
-  size = refl;
-  root = ap (λ (w : ℕ). with_dual w s.root) (omega (arith, e));
-  tree = sym (all_none c.by s.tree e);
-  rest = refl;
-  free = refl;
-})
+stays s c h1 = grind (arith, nat_tests, adjusts, all_none)

@@ -1,6 +1,6 @@
 -- Loads between sets as heights, and the slack between places.
 use Rattle.std.proofs.lemmas.Bool.Decides.{nat_tests}
-use Rattle.std.proofs.Common.{◌≡◌, ◌≢◌, ℕ, ◌+◌, ◌-◌, ◌*◌, ◌<◌, ◌≤◌, ◌⊎◌, inl, inr, suc, zero, List, [], ◌∷◌, ◌++◌, length, get_or, arith, refl, sym, ap, subst, ◌∙◌}
+use Rattle.std.proofs.Common.{◌≡◌, ◌≢◌, ℕ, ◌+◌, ◌-◌, ◌*◌, ◌<◌, ◌≤◌, ◌⊎◌, List, [], ◌∷◌, ◌++◌, length, get_or, arith, refl, sym, ap, subst, ◌∙◌}
 use Rattle.odd_sets.specs.Lists.{Each}
 use Rattle.odd_sets.specs.DualSets.{OddSetValue, IsOddSet, dual_sets, count, height, dual_load}
 use Rattle.odd_sets.specs.MatchedSets.{match_members, match_dual_sets}
@@ -11,7 +11,7 @@ use Rattle.odd_sets.specs.Heights.{HeightsAre}
 use Rattle.odd_sets.specs.TableValue.{TableValue}
 use Rattle.odd_sets.specs.Tables.{entry, IsTable}
 use Rattle.blossom_match.specs.LeastChanges.{step_of, IsLeastChange, IsReadyAfter, IsLesserChange, IsBlossomDual}
-use Rattle.blossom_match.specs.OuterSlacks.{AreOuterSlacks, ReachesEither}
+use Rattle.blossom_match.specs.OuterSlacks.{AreOuterSlacks}
 use Rattle.blossom_match.specs.Candidates.{change_at, target_vertices, IsBestCandidate, IsCandidateAmong, CanFindEdge, IsCandidate, IsCandidateChange}
 use Rattle.odd_sets.specs.declared.table.TheConstants.{FAR}
 use Rattle.blossom_match.specs.declared.least.Target.{Target}
@@ -144,9 +144,6 @@ height_limit t h s x f is i hf = by_count (count x (outer_vertices s) + count x 
     let ne : x ≢ f = λ g. grind (arith, nat_tests, i.places f, is_one t f, hf, e) in
     omega (arith, i.slack x f lx hf ne, is.short x f lx lf))
 
-due_blossom : (t : TableValue) (h : ℕ → ℕ) (s : SearchValue) (c : DualChange) → IsBlossomDual s.tree c → IsReadyAfter t h s c.by c.step
-due_blossom t h s c f = subst (λ (st : SearchStep). IsReadyAfter t h s c.by st) (sym f.step) f.due
-
 aimed_case : (s : SearchValue) (hs reach : List ℕ) (k : Kind) (aim : Target) → IsCandidateAmong hs reach k (target_vertices s k) aim
     → IsCandidate s hs reach aim
 aimed_case s hs reach k aim a = record {
@@ -250,7 +247,7 @@ due_aimed t h s hs reach aim c i at is l =
 
 due_now : (t : TableValue) (h : ℕ → ℕ) (s : SearchValue) (old new : DualChange) → IsReadyAfter t h s old.by old.step
     → (new ≡ old) ⊎ IsBlossomDual s.tree new → IsReadyAfter t h s new.by new.step
-due_now t h s old new h1 h2 = grind (arith, nat_tests, due_blossom)
+due_now t h s old new h1 h2 = grind (arith, nat_tests)
 
 -- after the least of all changes no slack is negative, and its step can be made
 pub bounds_of : (t : TableValue) (h : ℕ → ℕ) (s : SearchValue) (hs reach : List ℕ) (first met grown crossed : Target)

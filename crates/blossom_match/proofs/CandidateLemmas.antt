@@ -1,8 +1,8 @@
 -- The vertex to which an edge becomes tight by the least change of duals.
 use Rattle.std.proofs.lemmas.Bool.Decides.{nat_tests}
-use Rattle.std.proofs.Common.{◌≡◌, ℕ, ◌+◌, ◌≤◌, ◌<◌, ◌⊎◌, inl, inr, List, [], ◌∷◌, length, take, drop, get_or, None, arith, sym, ap, subst, ◌∙◌}
+use Rattle.std.proofs.Common.{◌≡◌, ℕ, ◌+◌, ◌≤◌, ◌<◌, List, [], ◌∷◌, length, take, drop, get_or, None, arith, ap, ◌∙◌}
 use Rattle.odd_sets.specs.DualSets.{OddSetValue, count}
-use Rattle.odd_sets.specs.Trees.{outer_with_both, one_if_both, outer_members, outer_sets, count_holding_both}
+use Rattle.odd_sets.specs.Trees.{outer_with_both, outer_members, outer_sets, count_holding_both}
 use Rattle.blossom_match.specs.OuterSlacks.{slack_from, IsOuterSlack}
 use Rattle.blossom_match.specs.Candidates.{IsBestCandidate, IsCandidateAmong, CanFindEdge, FindsSlackInSet}
 use Rattle.odd_sets.specs.TableValue.{TableValue}
@@ -17,15 +17,11 @@ aims_in : (hs reach : List ℕ) (k : Kind) (xs zs : List ℕ) (aim : Target) →
     → IsCandidateAmong hs reach k zs aim
 aims_in hs reach k xs zs aim more a = record { kind = a.kind; there = omega (arith, a.there, more aim.to); near = a.near; by = a.by }
 
-aims_is : (hs reach : List ℕ) (k : Kind) (xs ys zs : List ℕ) (o m n : Target) → ((x : ℕ) → count x zs ≡ count x xs + count x ys)
-    → (m ≡ o) ⊎ IsCandidateAmong hs reach k xs m → (n ≡ m) ⊎ IsCandidateAmong hs reach k ys n → (n ≡ o) ⊎ IsCandidateAmong hs reach k zs n
-aims_is hs reach k xs ys zs o m n h1 h2 h3 = grind (arith, nat_tests, aims_in)
-
 -- the places of two lists
 pub aims_join : (hs reach : List ℕ) (k : Kind) (xs ys zs : List ℕ) (o m n : Target)
     → ((x : ℕ) → count x zs ≡ count x xs + count x ys)
     → IsBestCandidate hs reach k xs o m → IsBestCandidate hs reach k ys m n → IsBestCandidate hs reach k zs o n
-aims_join hs reach k xs ys zs o m n h1 h2 h3 = grind (arith, nat_tests, either, aims_is)
+aims_join hs reach k xs ys zs o m n h1 h2 h3 = grind (arith, nat_tests, either, aims_in)
 
 -- one place more
 pub aims_next : (hs reach : List ℕ) (k : Kind) (ys : List ℕ) (i : ℕ) (o m n : Target) → i < length ys

@@ -73,20 +73,7 @@ pub branches_tall : (x by : ℕ) (bs : List BranchValue) → Each (CanChange by)
     ≡ height x (branch_dual_sets bs) + by * count x (outer_members [] bs)
 branches_tall x by [] can = omega arith
 branches_tall x by (b ∷ bs) can =
-    let n = with_dual (b.inner.dual - by) b.inner in
-    let w = with_dual (b.outer.dual + by) b.outer in
-    omega (
-      arith,
-      branches_tall x by bs can.1,
-      narrow_tall x by b.inner can.0.wide,
-      wide_tall x by b.outer,
-      times_by by _ _ _ (count-append x b.inner.members (inner_members bs)),
-      times_by by _ _ _ (count-append x b.outer.members (outer_members [] bs)),
-      height-append x (dual_sets n) (dual_sets w ++ branch_dual_sets (all_changed by bs)),
-      height-append x (dual_sets w) (branch_dual_sets (all_changed by bs)),
-      height-append x (dual_sets b.inner) (dual_sets b.outer ++ branch_dual_sets bs),
-      height-append x (dual_sets b.outer) (branch_dual_sets bs),
-    )
+    grind (arith, nat_tests, narrow_tall, wide_tall, times_by, count-append, height-append, branches_tall x by bs can.1)
 
 -- a set of the outer sets, of the inner sets and of the others
 pub sound_up : (d : TableValue) (h k : ℕ → ℕ) (by : ℕ) (s : OddSetValue) → ((x : ℕ) → count x s.members ≤ 1)
@@ -224,13 +211,10 @@ pub within : (top old new by bo bi oo ii oa ob ia ib : ℕ) → new + by * bi �
     → (2 ≤ oa + ob → oo ≡ 0 → old + 2 * by ≤ top) → new ≤ top
 within top old new by zero bi oo ii oa ob ia ib e f g p q base one two = omega arith
 within top old new by (suc zero) zero oo ii oa ob ia ib e f g p q base one two =
-    let none : ia + ib ≡ 0 = omega arith in
-    let l : old + by ≤ top = one (omega arith) none (omega arith) in
-    omega (arith, l)
+    grind (arith, nat_tests)
 within top old new by (suc zero) (suc bi) oo ii oa ob ia ib e f g p q base one two = omega arith
 within top old new by (suc (suc zero)) zero oo ii oa ob ia ib e f g p q base one two =
-    let l : old + 2 * by ≤ top = two (omega arith) (omega arith) in
-    omega (arith, l)
+    grind (arith, nat_tests)
 within top old new by (suc (suc zero)) (suc bi) oo ii oa ob ia ib e f g p q base one two = absurd (omega arith)
 within top old new by (suc (suc (suc bo))) bi oo ii oa ob ia ib e f g p q base one two = absurd (omega arith)
 

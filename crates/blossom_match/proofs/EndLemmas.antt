@@ -36,7 +36,7 @@ below_case p q r x n h1 h2 h3 = grind (arith, nat_tests, ltb-true, eqb-true, ltb
 -- one place more
 pub places_more : (x n : ℕ) (xs new : List ℕ) → new ≡ xs ++ n ∷ [] → count x xs ≡ cond (ltb x n) 1 0 → count x new
     ≡ cond (ltb x (n + 1)) 1 0
-places_more x n xs new h1 h2 = grind (arith, nat_tests, count-append, below_case)
+places_more x n xs new h1 h2 = grind (arith, nat_tests, count-append, ltb-true, eqb-true, ltb-false, eqb-false)
 
 -- a free place has a cell
 pub place_there : (t : TableValue) (place : ℕ) (matches : List MatchValue) (free heights : List ℕ)
@@ -114,8 +114,7 @@ settled d h (c ∷ cs) j f = (
 missing : (x : ℕ) (xs : List ℕ) → count x xs ≡ 0 → All (λ (y : ℕ). x ≢ y) xs
 missing x [] none = All-nil (λ (y : ℕ). x ≢ y)
 missing x (y ∷ xs) none =
-    All-cons (λ (z : ℕ). x ≢ z) y xs (λ e. omega (arith, none, hit_same x, ap (λ (z : ℕ). one_if_equal x z) e))
-    (missing x xs (omega (arith, none)))
+    grind (arith, nat_tests, hit_same, missing x xs (omega (arith, none)))
 
 different : (xs : List ℕ) → ((x : ℕ) → count x xs ≤ 1) → AllPairs (λ (x y : ℕ). x ≢ y) xs
 different [] once = λ i j d less low. absurd (omega (arith, low))
@@ -149,8 +148,7 @@ pairs_all R (x ∷ xs) e = AllPairs-cons R x xs (each_all (R x) xs e.0) (pairs_a
 load_same : (a : ℕ) (bs : List DualSet) → dual_load a a bs ≡ 0
 load_same a [] = refl
 load_same a (s ∷ bs) =
-    let e : apart (count a s.members) (count a s.members) ≡ 0 = omega arith in
-    omega (arith, load_same a bs, ap (λ (k : ℕ). s.dual * k) e)
+    grind (arith, nat_tests, load_same a bs)
 
 load_case : (p : Bool) (t : TableValue) (h : ℕ → ℕ) (cs : List MatchValue) (a b : ℕ) → eqb a b ≡ p → IsPartialMatching t h cs []
     → a < t.places

@@ -1,6 +1,6 @@
 -- Free vertices and their initial duals: a search begins at one, and ends at another.
 use Rattle.std.proofs.lemmas.Bool.Decides.{nat_tests}
-use Rattle.std.proofs.Common.{◌≡◌, ◌≢◌, ℕ, ◌+◌, ◌*◌, ◌≤◌, ◌<◌, suc, zero, List, [], ◌∷◌, ◌++◌, length, Bool, true, false, cond, eqb, arith, refl, sym, ap, subst, ◌∙◌}
+use Rattle.std.proofs.Common.{◌≡◌, ◌≢◌, ℕ, ◌+◌, ◌*◌, ◌≤◌, ◌<◌, List, [], ◌∷◌, ◌++◌, length, Bool, cond, eqb, arith, refl, sym, ap, subst, ◌∙◌}
 use Rattle.std.proofs.lemmas.Bool.{eqb-true}
 use Rattle.odd_sets.proofs.CallerLemmas.{single_near, count-append, height-append, hit_is, hit_same, dual_load-append, dual_load-comm, load_alone, low, none_hold, made_kept, base_in, entry-comm, by_count}
 use Rattle.odd_sets.specs.SlackRows.{vertex_slacks}
@@ -9,8 +9,8 @@ use Rattle.odd_sets.specs.DualSets.{DualSet, OddSetValue, apart, dual_sets, coun
 use Rattle.odd_sets.specs.Blossoms.{vertex_set}
 use Rattle.odd_sets.specs.MatchedSets.{match_dual_sets}
 use Rattle.odd_sets.specs.SoundSets.{IsSoundBranch, IsSoundSet}
-use Rattle.odd_sets.specs.Trees.{branch_dual_sets, inner_members, outer_members, Augments, IsAlternatingTree}
-use Rattle.blossom_match.specs.Searches.{stored_height, dual_height, outer_vertices, EndsSearch, IsSearch, IsPartialMatching, CanStepAt}
+use Rattle.odd_sets.specs.Trees.{branch_dual_sets, Augments, IsAlternatingTree}
+use Rattle.blossom_match.specs.Searches.{stored_height, dual_height, EndsSearch, IsSearch, IsPartialMatching, CanStepAt}
 use Rattle.odd_sets.specs.TableValue.{TableValue}
 use Rattle.odd_sets.specs.Tables.{entry, IsTable}
 use Rattle.odd_sets.specs.declared.odd_set.TightEdge.{TightEdge}
@@ -60,18 +60,13 @@ load_case p q a b f w old top h1 h2 h3 h4 h5 h6 = grind (arith, nat_tests, eqb-t
 -- the load with the set of one place more
 single_load : (key : ℕ) (t : TableValue) (a b f w old top : ℕ) → a ≢ b → old ≤ top → (a ≡ f → old + w ≤ top) → (b ≡ f → old + w ≤ top)
     → old + dual_load a b (dual_sets (vertex_set key t f w)) ≤ top
-single_load key t a b f w old top h1 h2 h3 h4 = grind (arith, nat_tests, load_case)
-
-tall_case : (p : Bool) (x f w top old left was : ℕ) → eqb x f ≡ p → left + cond p 1 0 ≡ was → left ≡ 0 → (was ≡ 0 → top ≡ old)
-    → (x ≡ f → (top ≡ w) × (old ≡ 0)) →
-    top ≡ old + w * (cond p 1 0 + 0)
-tall_case p x f w top old left was h1 h2 h3 h4 h5 = grind (arith, nat_tests, eqb-true)
+single_load key t a b f w old top h1 h2 h3 h4 = grind (arith, nat_tests, eqb-true)
 
 -- the height with the set of one place more
 single_tall : (key : ℕ) (t : TableValue) (x f w top old left was : ℕ) → left + one_if_equal x f ≡ was → left ≡ 0 → (was ≡ 0 → top ≡ old)
     → (x ≡ f → (top ≡ w) × (old ≡ 0))
     → top ≡ old + height x (dual_sets (vertex_set key t f w))
-single_tall key t x f w top old left was n none tall same = omega (arith, tall_case (eqb x f) x f w top old left was refl n none tall same)
+single_tall key t x f w top old left was h1 h2 h3 h4 = grind (arith, nat_tests, eqb-true)
 
 -- in a search the slack between a free place and any other isn't negative
 load_slack : (t : TableValue) (h : ℕ → ℕ) (s : SearchValue) (x f : ℕ) → IsSearch t h s → x < t.places → 1 ≤ count f s.free → x ≢ f

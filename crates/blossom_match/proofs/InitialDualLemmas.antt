@@ -1,18 +1,16 @@
 -- The initial dual of a vertex rises, and two vertices are matched by a tight edge.
 use Rattle.std.proofs.lemmas.Bool.Decides.{nat_tests}
-use Rattle.std.proofs.Common.{◌≡◌, ◌≢◌, ℕ, ◌+◌, ◌*◌, ◌≤◌, ◌<◌, List, [], ◌∷◌, ◌++◌, length, get_or, set, Bool, true, false, cond, eqb, ltb, arith, refl, sym, ap, subst, ◌∙◌}
+use Rattle.std.proofs.Common.{◌≡◌, ℕ, ◌+◌, ◌*◌, ◌≤◌, List, [], ◌∷◌, ◌++◌, length, get_or, set, Bool, cond, ltb, arith, sym, ap, subst, ◌∙◌}
 use Rattle.std.proofs.Math.ListN.{get_or-eq_default}
 use Rattle.std.proofs.lemmas.Bool.{eqb-true, eqb-false, ltb-false}
 use Rattle.std.proofs.lemmas.List.{get_or-set_other, get_or-set_same}
 use Rattle.odd_sets.specs.DualSets.{count, one_if_equal}
-use Rattle.odd_sets.specs.Trees.{outer_members}
-use Rattle.blossom_match.specs.Searches.{stored_height, is_place, EndsSearch, IsStepReady, IsSearch, IsPartialMatching, CanStepAt}
+use Rattle.blossom_match.specs.Searches.{is_place, EndsSearch, IsPartialMatching, CanStepAt}
 use Rattle.blossom_match.specs.Phases.{BeginsSearch, IsPartialWithHeights}
 use Rattle.blossom_match.specs.InitialDuals.{AreWithinDistances, CanPair, FindsTight, KeepsSlack, HasFreeSlack, PairsFree}
 use Rattle.odd_sets.specs.TableValue.{TableValue}
 use Rattle.odd_sets.specs.Tables.{entry}
-use Rattle.odd_sets.specs.Values.{BranchValue, MatchValue, SearchValue, PartialMatchingValue}
-use Rattle.odd_sets.specs.DualSets.{OddSetValue}
+use Rattle.odd_sets.specs.Values.{MatchValue, SearchValue, PartialMatchingValue}
 use Rattle.blossom_match.specs.declared.search.SearchStep.TheVariants.{Augment}
 use Rattle.odd_sets.proofs.CallerLemmas.{not_hit, count-append, hit_same, entry-comm}
 use Rattle.blossom_match.proofs.SearchLemmas.{is_one, place_in}
@@ -22,15 +20,12 @@ use Rattle.blossom_match.proofs.EndLemmas.{begins}
 place_case : (b : Bool) (x n : ℕ) → ltb x n ≡ b → cond b 1 0 ≤ 0 → n ≤ x
 place_case b x n h1 h2 = grind (arith, nat_tests, ltb-false)
 
-no_place : (t : TableValue) (x : ℕ) → is_place t x ≡ 0 → t.places ≤ x
-no_place t x none = place_case (ltb x t.places) x t.places refl (omega (arith, none))
-
 -- all places free at half of their least distances
 pub half_free : (t : TableValue) (matches : List MatchValue) (free heights : List ℕ) → matches ≡ [] →
     ((x : ℕ) → count x free ≡ is_place t x)
     → AreWithinDistances t heights → length heights ≡ t.places →
     IsPartialWithHeights t matches free heights
-half_free t matches free heights h1 h2 h3 h4 = grind (arith, nat_tests, get_or-eq_default, no_place, place_in, entry-comm)
+half_free t matches free heights h1 h2 h3 h4 = grind (arith, nat_tests, get_or-eq_default, place_in, entry-comm, place_case)
 
 -- at its initial dual a free vertex has no negative slack to others
 pub free_lies : (t : TableValue) (matches : List MatchValue) (free heights : List ℕ) (place : ℕ)
@@ -41,39 +36,13 @@ free_lies t matches free heights place h1 h2 = grind (arith, nat_tests, place_in
 pub low_enough : (t : TableValue) (heights : List ℕ) (place price : ℕ) → KeepsSlack t heights place price → KeepsSlack t heights place 0
 low_enough t heights place price slack b lb ne = omega (arith, slack b lb ne)
 
-slack_case : (p q : Bool) (t : TableValue) (hs : List ℕ) (place price a f : ℕ) → eqb a place ≡ p → eqb f place ≡ q → place < length hs
-    → a < t.places → f < t.places → a ≢ f → KeepsSlack t hs place price →
-    get_or hs a 0 + get_or hs f 0 ≤ 2 * entry t a f → get_or (set hs place price) a 0 + get_or (set hs place price) f 0 ≤ 2 * entry t a f
-slack_case p q t hs place price a f h1 h2 h3 h4 h5 h6 h7 h8 =
-    grind (arith, nat_tests, eqb-true, get_or-set_same, get_or-set_other, eqb-false, entry-comm)
-
 -- a free vertex may have any initial dual that makes no slack negative
 pub risen : (t : TableValue) (matches : List MatchValue) (free heights new : List ℕ) (place price : ℕ)
     → IsPartialWithHeights t matches free heights
     → 1 ≤ count place free → KeepsSlack t heights place price → new ≡ set heights place price →
     length new ≡ length heights → IsPartialWithHeights t matches free new
-risen t matches free heights new place price st here slack e size =
-    let i = st.standing in
-    let h = λ (x : ℕ). get_or heights x 0 in
-    let low : place < length heights = omega (arith, st.size, place_in t place (omega (arith, here, i.places place))) in
-    let other : (x : ℕ) → x ≢ place → get_or new x 0 ≡ get_or heights x 0 = λ x ne. ap (λ (hs : List ℕ). get_or hs x 0) e
-    ∙ get_or-set_other heights place x price 0 ne in
-    let kept : (x : ℕ) → count x free ≡ 0 → get_or new x 0 ≡ get_or heights x 0 =
-    λ x none. other x (λ g. omega (arith, none, here, ap (λ (y : ℕ). count y free) g)) in
-    record {
-      standing = record {
-        tall = λ x none. kept x none ∙ i.tall x none;
-        slack = λ a f la hf ne. subst (λ (hs : List ℕ). get_or hs a 0 + get_or hs f 0 ≤ 2 * entry t a f) (sym e)
-            (slack_case (eqb a place) (eqb f place) t heights place price a f refl refl low la
-            (place_in t f (omega (arith, hf, i.places f))) ne slack (i.slack a f la hf ne));
-        places = i.places;
-        joined = i.joined;
-        firm = matches_same t h (λ (x : ℕ). get_or new x 0) matches i.joined i.firm
-            (λ x some. kept x (omega (arith, i.places x, is_one t x, some)));
-        loads = i.loads;
-      };
-      size = size ∙ st.size;
-    }
+risen t matches free heights new place price h1 h2 h3 h4 h5 =
+    grind (arith, nat_tests, place_in, get_or-set_other, matches_same, is_one, eqb-true, get_or-set_same, eqb-false, entry-comm)
 
 -- the free places in another order
 reordered : (t : TableValue) (matches : List MatchValue) (free other heights : List ℕ) → ((x : ℕ) → count x other ≡ count x free)

@@ -20,12 +20,8 @@ true_false e = cc
 abbrev one_if : Bool → ℕ
 one_if b = cond b 1 0
 
--- a hit is one from either side
-hit_cases : (p q : Bool) (x y : ℕ) → eqb x y ≡ p → eqb y x ≡ q → one_if p ≡ one_if q
-hit_cases p q x y h1 h2 = grind (arith, nat_tests, true_false, eq-eqb, eqb-true)
-
 hit_sym : (x y : ℕ) → one_if_equal x y ≡ one_if_equal y x
-hit_sym x y = hit_cases (eqb x y) (eqb y x) x y refl refl
+hit_sym x y = grind (arith, nat_tests, true_false, eq-eqb, eqb-true)
 
 -- the ends of the pairs that are among the places
 abbrev pub ends_in : List ℕ → List Pair → ℕ

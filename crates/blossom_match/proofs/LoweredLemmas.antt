@@ -1,17 +1,17 @@
 -- The slacks from the outer vertices after a change of duals.
 use Rattle.std.proofs.lemmas.Bool.Decides.{nat_tests}
-use Rattle.std.proofs.Common.{◌≡◌, ℕ, ◌+◌, ◌-◌, ◌*◌, ◌≤◌, ◌<◌, ◌⊎◌, inl, inr, List, [], ◌∷◌, length, get_or, arith, refl, sym, ap, subst, ◌∙◌, take, drop}
+use Rattle.std.proofs.Common.{◌≡◌, ℕ, ◌+◌, ◌-◌, ◌*◌, ◌≤◌, ◌<◌, inl, inr, List, [], ◌∷◌, length, get_or, arith, refl, sym, ap, subst, ◌∙◌, take, drop}
 use Rattle.blossom_match.proofs.OuterSlackLemmas.{reaches_apart}
 use Rattle.odd_sets.specs.DualSets.{OddSetValue, count}
 use Rattle.odd_sets.specs.Folds.{FoldsCells, FoldsOuters}
 use Rattle.odd_sets.specs.Lists.{Each}
 use Rattle.odd_sets.specs.SoundSets.{IsSoundBranch, IsSoundSet}
-use Rattle.odd_sets.specs.Trees.{outer_with_both, one_if_both, inner_members, outer_members, count_holding_both}
+use Rattle.odd_sets.specs.Trees.{outer_members, count_holding_both}
 use Rattle.blossom_match.specs.Searches.{stored_height, outer_vertices, Advances, CanStep, CanStepAt, ExpandsBranch, GrowsBranch, IsSearch}
 use Rattle.blossom_match.specs.Duals.{ChangesDuals}
 use Rattle.odd_sets.specs.Shrinks.{Shrinks}
 use Rattle.odd_sets.specs.SlackRows.{lowered_slack}
-use Rattle.blossom_match.specs.OuterSlacks.{slack_from, SearchHasSoundOuters, HasSlackCells, IsOuterSlack, AreOuterSlacks, AddsOuterSlacks, AreSearchSlacks, CarriesSlacks, ComputesRootSlacks, HasSlacks, HasSoundOuters, ReachesEither}
+use Rattle.blossom_match.specs.OuterSlacks.{slack_from, SearchHasSoundOuters, HasSlackCells, AreOuterSlacks, AddsOuterSlacks, AreSearchSlacks, CarriesSlacks, ComputesRootSlacks, HasSlacks, HasSoundOuters}
 use Rattle.odd_sets.specs.TableValue.{TableValue}
 use Rattle.odd_sets.specs.Tables.{IsTable}
 use Rattle.odd_sets.specs.declared.table.TheConstants.{FAR}
@@ -35,12 +35,9 @@ record IsRaised (t : TableValue) (by : ℕ) (s r : SearchValue) : Type 0 where
 times_one : (by n : ℕ) → n ≡ 1 → by * n ≡ by
 times_one by n e = omega (arith, ap (λ (k : ℕ). by * k) e)
 
-times_none : (by n : ℕ) → n ≡ 0 → by * n ≡ 0
-times_none by n e = omega (arith, ap (λ (k : ℕ). by * k) e)
-
 is_raised : (t : TableValue) (by : ℕ) (s r : SearchValue) → IsTable t → IsSearch t (stored_height s) s → ChangesDuals by s r
     → IsRaised t by s r
-is_raised t by s r h1 h2 h3 = grind (arith, nat_tests, place_in, outer_same, around_same_all, times_one, is_one, times_none)
+is_raised t by s r h1 h2 h3 = grind (arith, nat_tests, place_in, outer_same, around_same_all, is_one)
 
 left_lower : (t : TableValue) (by : ℕ) (s r : SearchValue) (a x : ℕ) → IsRaised t by s r → 1 ≤ count a (outer_vertices s)
     → slack_from t r.heights a x ≡ slack_from t s.heights a x - by

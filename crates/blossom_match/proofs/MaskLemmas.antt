@@ -1,14 +1,13 @@
 -- Masks that show the places of matches.
 use Rattle.std.proofs.lemmas.Bool.Decides.{nat_tests}
-use Rattle.std.proofs.Common.{◌≡◌, ◌≢◌, ℕ, ◌+◌, ◌-◌, ◌≤◌, ◌<◌, ◌⊎◌, inl, inr, suc, zero, List, [], ◌∷◌, ◌++◌, length, take, drop, map, get_or, max, min, arith, refl, sym, ap, subst, ◌∙◌, length-append}
+use Rattle.std.proofs.Common.{◌≡◌, ◌≢◌, ℕ, ◌+◌, ◌-◌, ◌≤◌, ◌<◌, List, [], ◌∷◌, ◌++◌, length, take, drop, map, get_or, min, arith, refl, sym, ap, subst, ◌∙◌, length-append}
 use Rattle.std.proofs.lemmas.Bool.{cases_lt}
 use Rattle.std.proofs.lemmas.List.{get_or-drop, get_or-take, length-map, take-append-drop}
 use Rattle.std.proofs.Math.Seq.{drop-append_seam}
-use Rattle.odd_sets.specs.DualSets.{OddSetValue, count}
+use Rattle.odd_sets.specs.DualSets.{count}
 use Rattle.odd_sets.specs.MatchedSets.{match_members}
-use Rattle.odd_sets.specs.Trees.{inner_members, outer_members}
 use Rattle.blossom_match.specs.Searches.{stored_height, Advances, CanStepAt, ExpandsBranch, GrowsBranch, IsSearch}
-use Rattle.odd_sets.specs.SlackRows.{lowered_slack, SetsCells}
+use Rattle.odd_sets.specs.SlackRows.{SetsCells}
 use Rattle.blossom_match.specs.Masks.{branch_members, masked_slack, IsMaskedSlack, IsMask, IsSearchMask}
 use Rattle.odd_sets.specs.TableValue.{TableValue}
 use Rattle.odd_sets.specs.Values.{BranchValue, MatchValue, SearchValue}
@@ -174,13 +173,9 @@ pub least_next : (hs reach mask : List ℕ) (i old new : ℕ) → new ≡ min (m
     → ((x : ℕ) → x < i → old ≤ masked_slack hs reach mask x) → (x : ℕ) → x < i + 1 → new ≤ masked_slack hs reach mask x
 least_next hs reach mask i old new h1 h2 x h3 = grind (arith, nat_tests, by_either, cases_lt)
 
--- a cell of a block
-block_cell : (xs : List ℕ) (at n i : ℕ) → i < n → get_or (take n (drop at xs)) i 0 ≡ get_or xs (at + i) 0
-block_cell xs at n i low = get_or-take n (drop at xs) i 0 low ∙ get_or-drop at xs i 0
-
 block_slack : (hs reach mask : List ℕ) (at n i : ℕ) → i < n
     → masked_slack (take n (drop at hs)) (take n (drop at reach)) (take n (drop at mask)) i ≡ masked_slack hs reach mask (at + i)
-block_slack hs reach mask at n i h1 = grind (arith, nat_tests, block_cell)
+block_slack hs reach mask at n i h1 = grind (arith, nat_tests, get_or-take, get_or-drop)
 
 -- a block that shows more than the slack at each place doesn't show it
 pub block_next : (hs reach mask : List ℕ) (at n least slack : ℕ) → slack < least

@@ -61,14 +61,7 @@ pub load_own : (a b w : ℕ) (ms : List ℕ) (was : List Moat) → count a ms �
     ≡ moat_load was a b + w * apart (count a ms) (count b ms)
 load_own a b zero ms was pa pb = omega (arith, sum_by-append (λ (m : Moat). cond (crosses_moat a b m) m.width 0) was [])
 load_own a b (suc w) ms was pa pb =
-    let m : Moat = record { members = ms; width = suc w } in
-    rw (own_wide w ms) (omega (
-      arith,
-      sum_by-append (λ (k : Moat). cond (crosses_moat a b k) k.width 0) was (m ∷ []),
-      sum_by-cons
-          (λ (k : Moat). cond (crosses_moat a b k) k.width 0) m [],
-      crossing a b (suc w) ms pa pb,
-    ))
+    grind (arith, nat_tests, suc, own_wide, sum_by-append, cond, sum_by-cons, crossing)
 
 pub width_own : (w : ℕ) (ms : List ℕ) (was : List Moat) → width_of (was ++ moat_of_set ms w) ≡ width_of was + w
 width_own w ms was = grind (arith, nat_tests, sum_by-append, own_wide)

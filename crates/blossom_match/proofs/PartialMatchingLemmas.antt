@@ -1,14 +1,14 @@
 -- The slots after a step.
 use Rattle.std.proofs.lemmas.Bool.Decides.{nat_tests}
-use Rattle.std.proofs.Common.{◌≡◌, ℕ, zero, suc, ◌+◌, ◌≤◌, List, [], ◌∷◌, ◌++◌, Bool, true, false, cond, ltb, None, arith, refl, sym, ap, subst, ◌∙◌}
+use Rattle.std.proofs.Common.{◌≡◌, ℕ, ◌+◌, ◌≤◌, List, [], ◌∷◌, ◌++◌, Bool, true, false, cond, ltb, None, arith, refl, sym, ap, subst}
 use Rattle.slab.specs.Slab.{get}
 use Rattle.odd_sets.specs.DualSets.{DualSet, OddSetValue, dual_sets, count, one_if_equal, key_count}
 use Rattle.odd_sets.specs.MatchedSets.{match_dual_sets}
 use Rattle.odd_sets.specs.Blossoms.{reversed_edge}
 use Rattle.blossom_match.specs.Searches.{CanStepAt}
 use Rattle.odd_sets.specs.Shrinks.{Shrinks}
-use Rattle.odd_sets.specs.Slots.{branches_in, matches_in, set_in, AreSets, InsertsSet, IsSet, Slots}
-use Rattle.odd_sets.specs.Trees.{all_dual_sets, branch_dual_sets, branch_by_edge, outer_members, inner_members, CanAugment, Augments, RemovesMatch}
+use Rattle.odd_sets.specs.Slots.{branches_in, matches_in, set_in, AreSets, InsertsSet, Slots}
+use Rattle.odd_sets.specs.Trees.{all_dual_sets, branch_dual_sets, branch_by_edge, CanAugment, Augments, RemovesMatch}
 use Rattle.odd_sets.specs.TableValue.{TableValue}
 use Rattle.odd_sets.specs.Values.{BranchValue, MatchValue, SearchValue}
 use Rattle.odd_sets.specs.declared.odd_set.TightEdge.{TightEdge}
@@ -29,7 +29,7 @@ once_case n k key was now h1 h2 h3 h4 = grind (arith, nat_tests, hit_is, hit_sam
 -- a set more
 pub more_sets : (old new : Slots) (key : ℕ) (was now : List DualSet) → InsertsSet old new key → AreSets old was
     → ((k : ℕ) → key_count k now ≡ key_count k was + one_if_equal k key) → AreSets new now
-more_sets old new key was now h1 h2 h3 = grind (arith, nat_tests, by_count, set_more, hit_is, once_case, unused)
+more_sets old new key was now h1 h2 h3 = grind (arith, nat_tests, by_count, set_more, hit_is, unused, hit_same)
 
 -- the other sets stay when one is inserted
 pub seat_stays : (old new : Slots) (key : ℕ) (bs : List DualSet) (s : Handle) → InsertsSet old new key → AreSets old bs
@@ -119,13 +119,10 @@ closed_sets old new blossom link root top tree now rest left ins sh e are =
     more_sets old new blossom.key (all_dual_sets root tree rest) (all_dual_sets top now left) ins are
     (λ k. grind (arith, nat_tests, all_uses k root tree rest, all_uses k top now left, sh.sums (key_count k) (key_count-append k)))
 
-once_met : (n x place outs free : ℕ) → one_if_equal x place ≡ n → (x ≡ place → outs ≡ 0) → outs ≤ 1 → one_if_equal x place + 0 + outs ≤ 1
-once_met n x place outs free h1 h2 h3 = grind (arith, nat_tests, hit_is, hit_same)
-
 -- the way to a free place can be paired
 pub can_augment : (t : TableValue) (link : TightEdge) (s : SearchValue) (m : OddSetValue) → CanStepAt t s (Augment link)
     → m.members ≡ link.to ∷ [] → CanAugment m link s.root s.tree
-can_augment t link s m h1 h2 = grind (arith, nat_tests, hit_same, once_met, is_one)
+can_augment t link s m h1 h2 = grind (arith, nat_tests, hit_same, is_one, hit_is)
 
 -- all sets of the tree and the one of the free place are matches
 pub met_sets : (old new : Slots) (link : TightEdge) (root m : OddSetValue) (tree : List BranchValue) (rest now : List MatchValue)

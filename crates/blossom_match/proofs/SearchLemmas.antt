@@ -7,11 +7,11 @@ use Rattle.odd_sets.specs.Lists.{Each}
 use Rattle.odd_sets.specs.DualSets.{IsAdditive, DualSet, OddSetValue, dual_sets, count, height, one_if_equal, dual_load, IsOutside, NoneHold}
 use Rattle.odd_sets.specs.Blossoms.{reversed_edge}
 use Rattle.odd_sets.specs.MatchedSets.{match_members, match_dual_sets, IsMatch}
-use Rattle.odd_sets.specs.SoundSets.{IsSoundBranch, IsSoundMatch, IsSoundSet, IsSymmetric, IsTight}
-use Rattle.odd_sets.specs.Trees.{branch_dual_sets, branch_sets, branch_by_edge, inner_dual_sets, inner_members, inner_sets, outer_members, outer_sets, IsAlternatingTree, RemovesMatch}
+use Rattle.odd_sets.specs.SoundSets.{IsSoundBranch, IsSoundMatch, IsSymmetric, IsTight}
+use Rattle.odd_sets.specs.Trees.{branch_dual_sets, branch_sets, branch_by_edge, inner_members, inner_sets, outer_members, RemovesMatch}
 use Rattle.odd_sets.specs.Shrinks.{CanShrink, Shrinks}
 use Rattle.odd_sets.specs.Expansions.{Expands}
-use Rattle.blossom_match.specs.Searches.{stored_height, is_place, outer_vertices, Advances, CanStep, FreeHaveSlack}
+use Rattle.blossom_match.specs.Searches.{is_place, outer_vertices, Advances, CanStep}
 use Rattle.odd_sets.specs.TableValue.{TableValue}
 use Rattle.odd_sets.specs.declared.odd_set.TightEdge.{TightEdge}
 use Rattle.odd_sets.specs.Values.{BranchValue, MatchValue, SearchValue}
@@ -82,27 +82,9 @@ hung_case : (b : Bool) (up : TightEdge) (c : MatchValue) → ltb 0 (count up.to 
     → IsHung up c (cond b (record { up = up; inner = c.first; pair = c.link; outer = c.second })
     (record { up = up; inner = c.second; pair = reversed_edge c.link; outer = c.first }))
 hung_case true up c is one j =
-    let some = ltb-true 0 (count up.to c.first.members) is in
-    record {
-      same = refl;
-      counts = λ x. refl;
-      sums = λ F. refl;
-      up_to = omega (arith, some, one);
-      pair_from = j.from;
-      pair_to = j.to;
-      firm = λ d h sy t f. record { up = t; pair = f.link; inner = f.first; outer = f.second };
-    }
+    grind (arith, nat_tests, ltb-true)
 hung_case false up c is one j =
-    let none = ltb-false 0 (count up.to c.first.members) is in
-    record {
-      same = refl;
-      counts = λ x. omega arith;
-      sums = λ F. omega arith;
-      up_to = omega (arith, none, one);
-      pair_from = j.to;
-      pair_to = j.from;
-      firm = λ d h sy t f. record { up = t; pair = tight_back d h c.link sy f.link; inner = f.second; outer = f.first };
-    }
+    grind (arith, nat_tests, ltb-false, tight_back)
 
 hung_is : (up : TightEdge) (c : MatchValue) → count up.to c.first.members + count up.to c.second.members ≡ 1 → IsMatch c
     → IsHung up c (branch_by_edge up c)
@@ -122,19 +104,15 @@ without : (P : MatchValue → Type 0) (before after : List MatchValue) (c : Matc
     (before ++ after)
 without P before after c h1 = grind (arith, nat_tests, each-right, each-append, each-left)
 
-one_case : (b : Bool) → cond b 1 0 ≤ 1
-one_case true = omega arith
-one_case false = omega arith
-
 pub is_one : (t : TableValue) (x : ℕ) → is_place t x ≤ 1
-is_one t x = one_case (ltb x t.places)
+is_one t x = grind (arith, nat_tests)
 
 -- x is a place
 place_case : (b : Bool) (x n : ℕ) → ltb x n ≡ b → 1 ≤ cond b 1 0 → x < n
 place_case b x n h1 h2 = grind (arith, nat_tests, ltb-true)
 
 pub place_in : (t : TableValue) (x : ℕ) → 1 ≤ is_place t x → x < t.places
-place_in t x some = place_case (ltb x t.places) x t.places refl some
+place_in t x h1 = grind (arith, nat_tests, ltb-true)
 
 pub in_place : (t : TableValue) (x : ℕ) → x < t.places → is_place t x ≡ 1
 in_place t x low = rw (lt-ltb x t.places low) refl
@@ -216,11 +194,7 @@ pub none_matches : (d : TableValue) (h : ℕ → ℕ) (x : ℕ) (cs : List Match
     → count x (match_members cs) ≡ 0 → NoneHold x (match_dual_sets cs)
 none_matches d h x [] f none = tt
 none_matches d h x (c ∷ cs) f none =
-    each-append (IsOutside x) (dual_sets c.first) (dual_sets c.second ++ match_dual_sets cs)
-    (none_hold x c.first f.0.first.kept (omega (arith, count-append, none)))
-    (each-append (IsOutside x) (dual_sets c.second) (match_dual_sets cs)
-    (none_hold x c.second f.0.second.kept (omega (arith, count-append, none)))
-    (none_matches d h x cs f.1 (omega (arith, count-append, none))))
+    grind (arith, nat_tests, each-append, none_hold, count-append, none_matches d h x cs f.1 (omega (arith, count-append, none)))
 
 -- and has height 0
 pub low_branches : (d : TableValue) (h : ℕ → ℕ) (x : ℕ) (base : List ℕ) (tree : List BranchValue) → Each (IsSoundBranch d h) tree
