@@ -11,8 +11,8 @@ use Rattle.record_formats.specs.RecordDecoding.{DecodesRecord}
 use Rattle.record_formats.specs.Records.{next, over}
 use Rattle.pec_codec.specs.Steps.{RecordFitsBytes}
 use Rattle.pec_codec.specs.declared.coordinate.Coordinate.{Coordinate}
-use Rattle.pec_codec.specs.Coordinates.{leading_coordinate, long_coordinate_in, coordinate_of_byte}
-use Rattle.pec_codec.specs.Records.{with_next_record, move_record_in, pair_record_in, stop_record_in, next_record_in, length_after_first, pec_records, records_after_skip}
+use Rattle.pec_codec.specs.Coordinates.{long_coordinate_in, coordinate_of_byte}
+use Rattle.pec_codec.specs.Records.{with_next_record, next_record_in, length_after_first, pec_records, records_after_skip}
 
 -- the records after the bytes of the record before
 skipped : (behind at : ℕ) (bytes : List ℕ) → behind ≤ length bytes
@@ -41,17 +41,11 @@ first_size : (short : Bool) (first : ℕ) (rest : List ℕ)
     → size_of (if short then Some (coordinate_of_byte first) else long_coordinate_in first rest) ≤ length (first ∷ rest)
 first_size short first rest = grind (arith, nat_tests, ints)
 
-size_there : (bytes : List ℕ) → size_of (leading_coordinate bytes) ≤ length bytes
-size_there bytes = grind (arith, nat_tests, ints)
-
 -- a coordinate that is whole stays as it is, whatever bytes follow
 first_stays : (short : Bool) (first : ℕ) (rest more : List ℕ) (x : Coordinate)
     → (if short then Some (coordinate_of_byte first) else long_coordinate_in first rest) ≡ Some x
     → (if short then Some (coordinate_of_byte first) else long_coordinate_in first (rest ++ more)) ≡ Some x
 first_stays short first rest more x h1 = grind (arith, nat_tests, ints)
-
-coordinate_stays : (bytes more : List ℕ) (x : Coordinate) → leading_coordinate bytes ≡ Some x → leading_coordinate (bytes ++ more) ≡ Some x
-coordinate_stays bytes more x h1 = grind (arith, nat_tests, ints)
 
 -- a record that is complete
 abbrev is_whole : NextRecord → Bool
@@ -59,34 +53,6 @@ is_whole cut.End = true
 is_whole (cut.Incomplete ended) = false
 is_whole (cut.Refused f) = true
 is_whole (cut.Record event size) = true
-
--- the same of a pair of coordinates
-pair_stays : (bytes more : List ℕ) (x : Coordinate) (y : Option Coordinate) (c : NextRecord) → x.size ≤ length bytes
-    → leading_coordinate (drop x.size bytes) ≡ y → c ≡ pair_record_in x y → is_whole c ≡ true
-    → c ≡ pair_record_in x (leading_coordinate (drop x.size (bytes ++ more)))
-pair_stays bytes more x None c there same is whole = absurd (false≢true (sym (ap is_whole is) ∙ whole))
-pair_stays bytes more x (Some y) c there same is whole = grind (arith, nat_tests, drop-append-le, x.size, coordinate_stays)
-
-move_stays : (bytes more : List ℕ) (x : Option Coordinate) (c : NextRecord) → leading_coordinate bytes ≡ x → c ≡ move_record_in x bytes
-    → is_whole c ≡ true → c ≡ move_record_in (leading_coordinate (bytes ++ more)) (bytes ++ more)
-move_stays bytes more x c h1 h2 h3 = grind (arith, nat_tests, ints)
-
--- one byte is no move
-lone_byte : (short : Bool) (first : ℕ)
-    → is_whole (move_record_in (if short then Some (coordinate_of_byte first) else None) (first ∷ [])) ≡ false
-lone_byte short first = grind (arith, nat_tests, ints)
-
-one_stays : (ends : Bool) (first : ℕ) (c other : NextRecord)
-    → c ≡ (if ends then cut.End else move_record_in (leading_coordinate (first ∷ [])) (first ∷ [])) → is_whole c ≡ true
-    → c ≡ (if ends then cut.End else other)
-one_stays ends first c other h1 h2 = grind (arith, nat_tests, ints)
-
-two_stay : (ends stops : Bool) (first second : ℕ) (rest more : List ℕ) (c : NextRecord) → let bytes = first ∷ second ∷ rest in
-    c ≡ (if ends then cut.End else (if stops then stop_record_in bytes else move_record_in (leading_coordinate bytes) bytes))
-    → is_whole c ≡ true
-    → c ≡ (if ends then cut.End else (if stops then stop_record_in (bytes ++ more)
-    else move_record_in (leading_coordinate (bytes ++ more)) (bytes ++ more)))
-two_stay ends stops first second rest more c h1 h2 = grind (arith, nat_tests, ints)
 
 -- what is cut stays as it is, whatever bytes follow
 cut_stays : (bytes more : List ℕ) (c : NextRecord) → c ≡ next_record_in bytes → is_whole c ≡ true → c ≡ next_record_in (bytes ++ more)
