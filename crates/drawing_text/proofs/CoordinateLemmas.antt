@@ -98,24 +98,14 @@ within_signed false size within = grind (arith, nat_tests)
 
 coordinate_of : (minus : Bool) (bytes : List ℕ) (size : ℕ) → is_digit_string bytes ≡ true → size ≡ digits_value 10 bytes
     → size ≤ NEEDLE_LIMIT → parsed_coordinate (parsed_digits minus bytes) ≡ Ok (signed_number minus size)
-coordinate_of minus bytes size digits value within =
-    let whole : nat_le size MAX_WHOLE ≡ true = grind (arith, nat_tests) in
-    rw (digits, ← value, whole, within_signed minus size within) refl
+coordinate_of minus bytes size digits value within = grind (arith, nat_tests, within_signed minus size within)
 
 pub begins_with_digits : (minus : Bool) (bytes : List ℕ) (count size : ℕ) (n : ℤ) (rest : List ℕ) → count ≢ 0
     → count ≤ length bytes → all_ascii_digits (take count bytes) ≡ true → size ≡ digits_value 10 (take count bytes)
     → size ≤ NEEDLE_LIMIT → rest ≡ drop count bytes → ends_word rest ≡ true → n ≡ signed_number minus size
     → BeginsWithDigits minus bytes n rest
 begins_with_digits minus bytes count size n rest some few digits value within left ends is =
-    let string = digit_string count bytes some few digits in
-    record {
-      count = count;
-      few = few;
-      digits = string;
-      left = left;
-      ends = rw (← left) ends;
-      value = rw is (coordinate_of minus (take count bytes) size string value within);
-    }
+    grind (arith, nat_tests, digit_string count bytes some few digits, coordinate_of minus (take count bytes) size)
 
 -- Lines of the same words begin with the same coordinate.
 pub same_words : (line from : List ℕ) (answer : Result ℤ DrawKind) (rest : List ℕ) → words_of_line from ≡ words_of_line line

@@ -51,9 +51,7 @@ put_before false spot xs ys = refl
 
 pub named_append : (kind : Bool) (xs ys : List WalkEnd) → named_in kind (xs ++ ys) ≡ named_in kind xs ++ named_in kind ys
 named_append kind [] ys = refl
-named_append kind (end ∷ rest) ys =
-    ap (put_if (is_kind kind end.is_start) end.spot) (named_append kind rest ys)
-    ∙ put_before (is_kind kind end.is_start) end.spot (named_in kind rest) (named_in kind ys)
+named_append kind (end ∷ rest) ys = grind (arith, nat_tests, named_append kind rest ys)
 
 named_own : (kind : Bool) (spots : List Spot) → named_in kind (map (end_at kind) spots) ≡ spots
 named_own true [] = refl
@@ -78,23 +76,15 @@ of_spot spot = spot.block
 named_found : (kind : Bool) (block : ℕ) (starts ends : List Spot)
     → named_in kind (found_in block starts ends) ≡ items_in of_spot block (chosen kind starts ends)
 named_found true block starts ends =
-    let first : List Spot = items_in of_spot block starts in
-    let last : List Spot = items_in of_spot block ends in
-    named_append true (map (end_at true) first) (map (end_at false) last)
-    ∙ (ap₂ (λ (xs ys : List Spot). xs ++ ys) (named_own true first) (named_other true last) ∙ append-nil first)
+    grind (arith, nat_tests, named_append true, ap₂ (λ (xs ys : List Spot). xs ++ ys), named_own true, named_other true, append-nil)
 named_found false block starts ends =
-    let first : List Spot = items_in of_spot block starts in
-    let last : List Spot = items_in of_spot block ends in
-    named_append false (map (end_at true) first) (map (end_at false) last)
-    ∙ ap₂ (λ (xs ys : List Spot). xs ++ ys) (named_other false first) (named_own false last)
+    grind (arith, nat_tests, named_append false, ap₂ (λ (xs ys : List Spot). xs ++ ys), named_other false, named_own false)
 
 -- the spots of the blocks before and those that the text of the other blocks names
 named_from : (kind : Bool) (block : ℕ) (threads : List ℕ) (starts ends : List Spot) → Rises of_spot (chosen kind starts ends)
     → items_below of_spot block (chosen kind starts ends) ++ named_in kind (found_from block threads starts ends)
     ≡ items_below of_spot (block + length threads) (chosen kind starts ends)
-named_from kind block [] starts ends rises =
-    append-nil (items_below of_spot block (chosen kind starts ends))
-    ∙ ap (λ (n : ℕ). items_below of_spot n (chosen kind starts ends)) (omega arith)
+named_from kind block [] starts ends rises = grind (arith, nat_tests, append-nil (items_below of_spot block (chosen kind starts ends)))
 named_from kind block (thread ∷ rest) starts ends rises =
     let spots : List Spot = chosen kind starts ends in
     let more : List Spot = named_in kind (found_from (block + 1) rest starts ends) in
@@ -121,8 +111,7 @@ all_named kind threads starts ends ordered there =
 one_added : (number : ℕ) (is_start : Bool) (spot : Spot) (d next : DrawingValue) (rest : List WalkEnd)
     (target : Result DrawingValue DrawFault) → walk_end_added is_start d spot ≡ Ok next → drawing_with_ends next rest ≡ target
     → and_then (at_line number 0 (walk_end_added is_start d spot)) (λ (e : DrawingValue). drawing_with_ends e rest) ≡ target
-one_added number is_start spot d next rest target is on =
-    ap (λ (r : Result DrawingValue DrawKind). and_then (at_line number 0 r) (λ (e : DrawingValue). drawing_with_ends e rest)) is ∙ on
+one_added number is_start spot d next rest target is on = grind (arith, nat_tests)
 
 -- the starts and ends so far and further ones are in different pieces
 record MayAdd (d : DrawingValue) (starts ends : List Spot) (named : List WalkEnd) : Type 0 where

@@ -1,4 +1,5 @@
 -- A text names starts and ends in the order of their blocks: each belongs to the last block so far.
+use Rattle.std.proofs.lemmas.Bool.Decides.{nat_tests}
 use Rattle.std.proofs.Common.{◌≡◌, ℕ, ◌+◌, ◌-◌, ◌<◌, ◌≤◌, ◌==◌, ◌&&◌, ◌||◌, Bool, true, false, not, nat_lt, List, [], ◌∷◌, ◌++◌, Option, Some, None, Ok, IfOk, length, map, codes, bytes_eq, All, sym, subst, refl, arith}
 use Rattle.std.proofs.lemmas.List.{length-append, map-append}
 use Rattle.std.proofs.lemmas.List.Elements.{All-get_or, All-head, All-map, All-nil, All-push, All-weaker}
@@ -50,8 +51,7 @@ record IsOrdered (draft : DrawingDraft) : Type 0 where
 name_ordered : (draft : DrawingDraft) (word : Option (List ℕ)) → IsOrdered draft → IfOk (with_name_line draft word) IsOrdered
 name_ordered draft None is = tt
 name_ordered draft (Some word) is =
-    where_true IsOrdered (is_drawing_label word && (not draft.named && is_before_blocks draft)) _ kind.BadWord
-    (λ test. record { ordered = is.ordered; below = is.below; none = record { starts = is.none.starts; ends = is.none.ends } })
+    grind (arith, nat_tests, where_true IsOrdered (is_drawing_label word && (not draft.named && is_before_blocks draft)))
 
 step_ordered : (draft : DrawingDraft) (word : Option (List ℕ)) → IsOrdered draft → IfOk (with_step_line draft word) IsOrdered
 step_ordered draft None is = tt
@@ -179,9 +179,7 @@ all_ordered d low (end ∷ rest) is reach rises =
 
 -- no spots are in order
 none_to : (spots : List Spot) → spots ≡ [] → IsOrderedTo 0 spots
-none_to spots none =
-    let To : List Spot → Type 0 = λ list. IsOrderedTo 0 list in
-    subst To (sym none) (record { rising = λ i j d less there. absurd (omega (arith, there)); to = All-nil (λ (s : Spot). s.block ≤ 0) })
+none_to spots none = grind (arith, nat_tests, All-nil (λ (s : Spot). s.block ≤ 0))
 
 none_ends : (d : DrawingValue) → HasNoEnds d → HasEndsTo 0 d
 none_ends d none = record { starts_to = none_to d.starts none.starts; ends_to = none_to d.ends none.ends }
@@ -225,11 +223,7 @@ lines_ordered version number draft (words ∷ rest) is =
     (λ next has. lines_ordered version (number + 1) next rest has)
 
 empty_ordered : IsOrdered empty_draft
-empty_ordered = record {
-  ordered = λ i j d less there. absurd (omega (arith, there));
-  below = All-nil (λ (e : WalkEnd). of_end e < 0);
-  none = record { starts = refl; ends = refl };
-}
+empty_ordered = grind (arith, nat_tests, All-nil (λ (e : WalkEnd). of_end e < 0))
 
 pub ends_ordered : TextsOrderEnds
 ends_ordered text d is =

@@ -38,8 +38,7 @@ point_read words rest after more points across down goes x y = record {
 pub point_in_range : (points : List Point) (across down : ℤ) → All IsNeedlePoint points
     → unsigned_abs across ≤ NEEDLE_LIMIT → unsigned_abs down ≤ NEEDLE_LIMIT
     → All IsNeedlePoint (points ++ record { x = across; y = down } ∷ [])
-point_in_range points across down in_range left right =
-    All-push IsNeedlePoint points (record { x = across; y = down }) in_range (grind (arith, nat_tests))
+point_in_range points across down in_range left right = grind (arith, nat_tests, All-push IsNeedlePoint points)
 
 -- a coordinate that isn't refused is within the limit
 pub coordinate_within : (answer : Result ℤ DrawKind) (n : ℤ) → answer ≡ Ok n → IfOk answer (λ m. unsigned_abs m ≤ NEEDLE_LIMIT)

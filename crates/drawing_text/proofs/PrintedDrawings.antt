@@ -153,9 +153,7 @@ last_filled d keeps = last_by d (length d.threads - 1) true (omega (arith, keeps
 
 -- the drawing without starts and ends is complete
 pub finished_whole : (d : DrawingValue) → KeepsDrawingLimits d → finished_drawing (ended d [] []) ≡ Ok (ended d [] [])
-finished_whole d keeps =
-    let some : (length d.threads == 0) ≡ false = grind (arith, nat_tests, keeps.blocks_from) in
-    rw (last_filled d keeps, some) refl
+finished_whole d keeps = grind (arith, nat_tests, last_filled d keeps)
 
 -- the starts and ends that the text of a block names
 abbrev pub found_in : ℕ → (starts ends : List Spot) → List WalkEnd

@@ -51,31 +51,9 @@ end_says : (version : Version) (number opened : ℕ) (named : Bool) (ends : List
     → draft_after_words version number (draft_of ends named opened d) (end_word is_start ∷ coordinates (spot.at ∷ []))
     ≡ Ok (draft_of (with_end ends number is_start spot) named opened d)
 end_says version number opened named ends d true spot may some inside =
-    let within = within_parts 30000 spot.at may.in_range in
-    let begun : (length d.threads == 0) ≡ false = grind (arith, nat_tests, some) in
-    let x : nat_le (unsigned_abs spot.at.x) 30000 ≡ true = grind (arith, nat_tests, within.0) in
-    let y : nat_le (unsigned_abs spot.at.y) 30000 ≡ true = grind (arith, nat_tests, within.1) in
-    rw (
-      may.allowed,
-      begun,
-      signed_read spot.at.x (omega (arith, within.0)),
-      x,
-      signed_read spot.at.y (omega (arith, within.1)),
-      y,
-    ) (ap (λ (block : ℕ). Ok (draft_of (with_end ends number true (record { block = block; at = spot.at })) named opened d)) (sym inside))
+    grind (arith, nat_tests, within_parts 30000 spot.at may.in_range, signed_read spot.at.x, signed_read spot.at.y)
 end_says version number opened named ends d false spot may some inside =
-    let within = within_parts 30000 spot.at may.in_range in
-    let begun : (length d.threads == 0) ≡ false = grind (arith, nat_tests, some) in
-    let x : nat_le (unsigned_abs spot.at.x) 30000 ≡ true = grind (arith, nat_tests, within.0) in
-    let y : nat_le (unsigned_abs spot.at.y) 30000 ≡ true = grind (arith, nat_tests, within.1) in
-    rw (
-      may.allowed,
-      begun,
-      signed_read spot.at.x (omega (arith, within.0)),
-      x,
-      signed_read spot.at.y (omega (arith, within.1)),
-      y,
-    ) (ap (λ (block : ℕ). Ok (draft_of (with_end ends number false (record { block = block; at = spot.at })) named opened d)) (sym inside))
+    grind (arith, nat_tests, within_parts 30000 spot.at may.in_range, signed_read spot.at.x, signed_read spot.at.y)
 
 -- a text is read to the target after the drawing so far and these starts and ends, whatever numbers their text lines have
 abbrev pub ReadsOn : {A : Type 0} → (ℕ → DrawingDraft → Result A DrawFault) → Version → Result A DrawFault → DrawingValue

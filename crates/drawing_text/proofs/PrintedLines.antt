@@ -44,10 +44,7 @@ pub line_judged : {A : Type 0} (close : ℕ → DrawingDraft → Result A DrawFa
     → AreWords words → draft_after_words version number draft (word ∷ words) ≡ Ok next
     → after_text close version number draft (words_by_line (word ++ (tail_of words ++ rest)))
     ≡ after_text close version (number + 1) next (words_by_line rest)
-line_judged close version number draft next word words rest is are says =
-    ap (after_text close version number draft) (line_read word words rest is are)
-    ∙ ap (λ (answer : Result DrawingDraft DrawKind). and_then (at_line number draft.opened answer)
-    (λ (after : DrawingDraft). after_text close version (number + 1) after (words_by_line rest))) says
+line_judged close version number draft next word words rest is are says = grind (arith, nat_tests, line_read word words rest is are)
 
 -- a draft whose step was given
 abbrev pub draft_of : List WalkEnd → Bool → ℕ → DrawingValue → DrawingDraft
@@ -74,8 +71,7 @@ coordinates (p ∷ rest) = signed_decimal p.x ∷ signed_decimal p.y ∷ coordin
 pub points_spelled : (points : List Point) → points_text points ≡ tail_of (coordinates points)
 points_spelled [] = refl
 points_spelled (p ∷ rest) =
-    append_assoc (32 ∷ signed_decimal p.x) (32 ∷ signed_decimal p.y) (points_text rest)
-    ∙ ap (λ more. 32 ∷ (signed_decimal p.x ++ (32 ∷ (signed_decimal p.y ++ more)))) (points_spelled rest)
+    grind (arith, nat_tests, append_assoc (32 ∷ signed_decimal p.x) (32 ∷ signed_decimal p.y) (points_text rest), points_spelled rest)
 
 pub coordinates_are : (points : List Point) → All IsNeedlePoint points → AreWords (coordinates points)
 coordinates_are [] in_range = tt
@@ -118,22 +114,7 @@ pub line_says : (version : Version) (number opened : ℕ) (named : Bool) (ends :
     → draft_after_words version number (draft_of ends named opened d) (codes "line" ∷ coordinates points)
     ≡ Ok (draft_of ends named opened (with_new_line d points))
 line_says version number opened named ends d points able room =
-    let begun : (length d.threads == 0) ≡ false = grind (arith, nat_tests, room.block) in
-    let long : nat_lt (length points) 2 ≡ false = grind (arith, nat_tests, able.long) in
-    let lines : (length d.lines == 1024) ≡ false = grind (arith, nat_tests, room.lines) in
-    let few : nat_lt 65536 (point_count d.lines + length points) ≡ false = grind (arith, nat_tests, room.points_to) in
-    let cheap : nat_lt 200000 (step_count d.step d.lines + steps_of_line d.step points) ≡ false =
-    grind (arith, nat_tests, room.steps_to) in
-    rw (
-      begun,
-      points_read points able.in_range,
-      in_range_found points able.in_range,
-      long,
-      none_repeats points able.moving,
-      lines,
-      few,
-      cheap,
-    ) refl
+    grind (arith, nat_tests, points_read points able.in_range, in_range_found points able.in_range, none_repeats points able.moving)
 
 -- the block of a text is added to the drawing
 pub color_says : (version : Version) (number opened : ℕ) (named : Bool) (ends : List WalkEnd) (d : DrawingValue) (thread : ℕ) → thread < 256
@@ -141,11 +122,7 @@ pub color_says : (version : Version) (number opened : ℕ) (named : Bool) (ends 
     → length d.threads < 255
     → draft_after_words version number (draft_of ends named opened d) (codes "color" ∷ decimal thread ∷ []) ≡ Ok (draft_of ends named number
     (with_new_block d thread))
-color_says version number opened named ends d thread fits filled room =
-    let low : nat_le 0 thread ≡ true = grind (arith, nat_tests) in
-    let high : nat_le thread 255 ≡ true = grind (arith, nat_tests, fits) in
-    let few : (length d.threads == 255) ≡ false = grind (arith, nat_tests, room) in
-    rw (decimal_read thread (omega (arith, fits)), low, high, filled, few) refl
+color_says version number opened named ends d thread fits filled room = grind (arith, nat_tests, decimal_read thread (omega (arith, fits)))
 
 -- a label is a word that may be one
 label_inner : (label : List ℕ) → list_all is_ascii_graphic label ≡ true → list_all is_inner label ≡ true
@@ -176,16 +153,11 @@ label_word (b ∷ label) is one_word some = record {
 pub name_says : (version : Version) (label : List ℕ) → IsLabel label → All (λ byte. byte ≢ 32) label
     → draft_after_words version 2 empty_draft (codes "name" ∷ label ∷ [])
     ≡ Ok (record empty_draft { named = true; drawing = record default_drawing { label = label } })
-name_says version label is one_word =
-    let short : nat_le (length label) 16 ≡ true = grind (arith, nat_tests, is.short) in
-    rw (short, label_graphic label is.printable one_word) refl
+name_says version label is one_word = grind (arith, nat_tests, label_graphic label is.printable one_word)
 
 -- a step is set
 pub step_says : (version : Version) (number : ℕ) (named : Bool) (label : List ℕ) (step : ℕ) → 1 ≤ step → step ≤ 2047
     → draft_after_words version number (record empty_draft { named = named; drawing = record default_drawing { label = label } })
     (codes "step" ∷ decimal step ∷ [])
     ≡ Ok (draft_of [] named 0 (record default_drawing { label = label; step = step }))
-step_says version number named label step from to =
-    let low : nat_le 1 step ≡ true = grind (arith, nat_tests, from) in
-    let high : nat_le step 2047 ≡ true = grind (arith, nat_tests, to) in
-    rw (decimal_read step (omega (arith, to)), low, high) refl
+step_says version number named label step from to = grind (arith, nat_tests, decimal_read step (omega (arith, to)))

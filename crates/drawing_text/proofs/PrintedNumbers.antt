@@ -35,7 +35,4 @@ decimal_word n small = record {
 
 pub signed_word : (z : ℤ) → unsigned_abs z < 2 ^ 64 → IsWord (signed_decimal z)
 signed_word (pos n) small = decimal_word n small
-signed_word (negsuc n) small = record {
-  filled = refl;
-  inner = (decimal_word (suc n) small).inner;
-}
+signed_word (negsuc n) small = grind (arith, nat_tests, decimal_word (suc n) small)

@@ -1,4 +1,6 @@
 -- Words that stand one space apart, and the lines that they make.
+use Rattle.std.proofs.Common.{arith}
+use Rattle.std.proofs.lemmas.Bool.Decides.{nat_tests}
 use Rattle.std.proofs.Common.{◌≡◌, ℕ, Bool, true, false, not, ◌==◌, ◌||◌, ◌&&◌, List, [], ◌∷◌, ◌++◌, map, filter, All, ap, sym, ◌∙◌, refl, append_assoc, append-nil}
 use Rattle.std.proofs.lemmas.Bool.{and_from, and_parts, not-true, or_parts}
 use Rattle.std.proofs.lemmas.List.Elements.{All-weaker}
@@ -37,9 +39,8 @@ spaced (word ∷ words) = 32 ∷ (word ++ spaced words)
 
 tail_parts : (words : List (List ℕ)) (rest : List ℕ) → tail_of words ++ rest ≡ spaced words ++ 10 ∷ rest
 tail_parts [] rest = refl
-tail_parts (word ∷ words) rest = ap (λ more. 32 ∷ more)
-    (append_assoc word (tail_of words) rest ∙ (ap (λ more. word ++ more) (tail_parts words rest)
-    ∙ sym (append_assoc word (spaced words) (10 ∷ rest))))
+tail_parts (word ∷ words) rest =
+    grind (arith, nat_tests, append_assoc word (tail_of words) rest, tail_parts words rest, append_assoc word (spaced words) (10 ∷ rest))
 
 -- bytes that end no line are on one line
 line_cut : (line rest : List ℕ) → list_all is_kept line ≡ true → text_lines (line ++ 10 ∷ rest) ≡ line ∷ text_lines rest
@@ -51,13 +52,8 @@ line_cut (b ∷ line) rest kept =
 
 return_kept : (line : List ℕ) → list_all is_kept line ≡ true → line_without_return line ≡ line
 return_kept [] kept = refl
-return_kept (b ∷ []) kept =
-    let both = and_parts (is_kept b) true kept in
-    let test = (or_parts (is_line_feed b) (b == 13) (not-true _ both.0)).1 in
-    rw test refl
-return_kept (b ∷ c ∷ line) kept =
-    let both = and_parts (is_kept b) (list_all is_kept (c ∷ line)) kept in
-    ap (λ more. b ∷ more) (return_kept (c ∷ line) both.1)
+return_kept (b ∷ []) kept = grind (arith, nat_tests, and_parts (is_kept b) true kept, or_parts (is_line_feed b) (b == 13), not-true)
+return_kept (b ∷ c ∷ line) kept = grind (arith, nat_tests, and_parts (is_kept b) (list_all is_kept (c ∷ line)) kept, return_kept (c ∷ line))
 
 -- the bytes of words end no line
 inner_kept : (word : List ℕ) → list_all is_inner word ≡ true → list_all is_kept word ≡ true
@@ -84,12 +80,10 @@ no_blank word inner = All-weaker (λ (b : ℕ). is_inner b ≡ true) (λ (b : �
 -- a word before a space, and a word before the end
 word_cut : (word rest : List ℕ) → IsWord word → words_of_line (word ++ 32 ∷ rest) ≡ word ∷ words_of_line rest
 word_cut word rest is =
-    ap (λ parts. filter is_filled parts) (slice_split_at is_blank_byte word 32 rest (no_blank word is.inner) refl)
-    ∙ rw is.filled refl
+    grind (arith, nat_tests, slice_split_at is_blank_byte word 32 rest (no_blank word is.inner) refl, no_blank word is.inner)
 
 last_word : (word : List ℕ) → IsWord word → words_of_line word ≡ word ∷ []
-last_word word is =
-    ap (λ parts. filter is_filled parts) (slice_split_none is_blank_byte word (no_blank word is.inner)) ∙ rw is.filled refl
+last_word word is = grind (arith, nat_tests, slice_split_none is_blank_byte word (no_blank word is.inner), no_blank word is.inner)
 
 spaced_words : (word : List ℕ) (words : List (List ℕ)) → IsWord word → AreWords words
     → words_of_line (word ++ spaced words) ≡ word ∷ words

@@ -67,12 +67,9 @@ made_of make lines = and_then (body_from 1 lines) make
 header_read : {A : Type 0} (make : Body → Result A DrawFault) (version : Version) (rest : List ℕ)
     → made_of make (words_by_line (header_text version ++ (10 ∷ rest)))
     ≡ make (record { version = version; header = 1; lines = words_by_line rest })
-header_read make version.One rest = ap (made_of make) (line_read (codes "redwork") (codes "1" ∷ []) rest
-    (record { filled = refl; inner = refl }) (record { filled = refl; inner = refl }, tt))
-header_read make version.Two rest = ap (made_of make) (line_read (codes "redwork") (codes "2" ∷ []) rest
-    (record { filled = refl; inner = refl }) (record { filled = refl; inner = refl }, tt))
-header_read make version.Three rest = ap (made_of make) (line_read (codes "redwork") (codes "3" ∷ []) rest
-    (record { filled = refl; inner = refl }) (record { filled = refl; inner = refl }, tt))
+header_read make version.One rest = grind (arith, nat_tests, line_read)
+header_read make version.Two rest = grind (arith, nat_tests, line_read)
+header_read make version.Three rest = grind (arith, nat_tests, line_read)
 
 drawing_from : (version : Version) (rest : List ℕ)
     → drawing_of (header_text version ++ (10 ∷ rest)) ≡ after_text (drawing_of_draft version) version 2 empty_draft (words_by_line rest)
@@ -101,8 +98,7 @@ after_header d blocks = label_text d.label ++ (number_line_text (codes "step ") 
 
 plain_text : (version : Version) (d : DrawingValue) → canonical_text_in version d
     ≡ header_text version ++ (10 ∷ after_header d (blocks_text3 0 d.threads (ended d [] [])))
-plain_text version d =
-    ap (λ (blocks : List ℕ). header_text version ++ (10 ∷ after_header d blocks)) (plain_blocks d 0 d.threads)
+plain_text version d = grind (arith, nat_tests, plain_blocks d 0 d.threads)
 
 ended_none : (d : DrawingValue) → HasNoEnds d → ended d [] [] ≡ d
 ended_none d none = ap₂ (λ (s e : List Spot). ended d s e) (sym none.starts) (sym none.ends)
@@ -118,12 +114,7 @@ joined_parts false false x y whole bare joined is = (refl, cc)
 -- drawn lines without starts and ends, joined
 bare_joined : (drawn joined : DrawingValue) → KeepsDrawingLimits drawn → IsJoinedFrom drawn joined
     → and_then (finished_drawing (ended drawn [] [])) joined_drawing ≡ Ok (ended joined [] [])
-bare_joined drawn joined keeps is =
-    let sections = all_sections drawn.lines in
-    let parts = joined_parts (nat_lt 1024 (length sections)) (nat_lt 65536 (point_count sections)) _ _
-    (record (with_ends_of drawn joined) { lines = sections }) (record (ended drawn [] []) { lines = sections }) joined is in
-    ap (λ (r : Result DrawingValue DrawKind). and_then r joined_drawing) (finished_whole drawn keeps)
-    ∙ (parts.0 ∙ ap (λ (d : DrawingValue). Ok (ended d [] [])) parts.1)
+bare_joined drawn joined keeps is = grind (arith, nat_tests, joined_parts, finished_whole drawn keeps)
 
 none_may : (version : Version) → All (IsNamable version) []
 none_may version = All-nil (IsNamable version)
@@ -162,10 +153,7 @@ spots_may d spots keeps apart = All-weaker (IsSpotBelow (length d.threads)) (IsN
 
 -- the threads of drawn lines are those of the joined drawing
 same_threads : (drawn joined : DrawingValue) → IsJoinedFrom drawn joined → drawn.threads ≡ joined.threads
-same_threads drawn joined is =
-    let sections = all_sections drawn.lines in
-    ap (λ (d : DrawingValue). d.threads) (joined_parts (nat_lt 1024 (length sections)) (nat_lt 65536 (point_count sections)) _ _
-    (record (with_ends_of drawn joined) { lines = sections }) drawn joined is).1
+same_threads drawn joined is = grind (arith, nat_tests, joined_parts)
 
 pub spelling3_read : CanonicalText3IsRead
 spelling3_read drawn joined keeps ordered is valid =

@@ -22,9 +22,7 @@ FirstLine text = let end = position_or_len is_line_feed text in
     text_lines text ≡ take end text ∷ text_lines (drop 1 (drop end text))
 
 longer_line : (b : ℕ) (rest : List ℕ) → is_line_feed b ≡ false → FirstLine rest → FirstLine (b ∷ rest)
-longer_line b rest test first =
-    let end = position_or_len is_line_feed rest in
-    rw (test, take_next end b rest, drop_next end b rest, first)
+longer_line b rest test first = grind (arith, nat_tests, take_next, drop_next)
 
 -- by the test of its first byte
 line_by : (t : Bool) (b : ℕ) (rest : List ℕ) → is_line_feed b ≡ t → (rest ≢ [] → FirstLine rest)
@@ -49,13 +47,7 @@ parts_by true b rest test parts = record {
   split = rw test refl;
   words = rw (test, test);
 }
-parts_by false b rest test parts =
-    let end = position_or_len is_blank_byte rest in
-    record {
-      more = parts.more;
-      split = rw (test, take_next end b rest, parts.split);
-      words = rw (test, drop_next end b rest) parts.words;
-    }
+parts_by false b rest test parts = grind (arith, nat_tests, take_next, drop_next)
 
 parts_of : (line : List ℕ) → Parts line
 parts_of [] = record { more = []; split = refl; words = refl }
@@ -105,9 +97,7 @@ some_word (b ∷ rest) some = word_by (is_blank_byte b) b rest refl (some_word r
 -- after the blanks there is nothing, or a word
 pub no_word : (line from : List ℕ) (start : ℕ) → start ≡ start_of line → from ≡ drop start line → length from ≡ 0
     → words_of_line line ≡ []
-no_word line from start starts are none =
-    let empty : drop (start_of line) line ≡ [] = nil_from_length _ (rw (← starts, ← are) none) in
-    words_skipped line ∙ ap words_of_line empty
+no_word line from start starts are none = grind (arith, nat_tests, nil_from_length, words_skipped line)
 
 -- a word at the beginning of a line, and what follows it
 pub record Taken (line word rest : List ℕ) : Type 0 where
@@ -118,23 +108,14 @@ pub word_taken : (line from word rest : List ℕ) (start end : ℕ) → start �
     → length from ≢ 0 → end ≡ position_or_len is_blank_byte from → word ≡ take end from → rest ≡ drop end from
     → Taken line word rest
 word_taken line from word rest start end starts are some ends taken left =
-    let same : from ≡ drop (start_of line) line = rw (← starts) are in
-    let First : List ℕ → Type 0 = λ bytes. FirstWord bytes in
-    let first : FirstWord from = subst First (sym same) (some_word line (λ none. some (ap length (same ∙ none)))) in
-    record {
-      words = words_skipped line ∙ (ap words_of_line (sym same) ∙ rw (taken, left, ends) first.0);
-      shorter = omega (arith, first.1, ap length left, length-drop end from, ap length are, length-drop start line);
-    }
+    grind (arith, nat_tests, some_word line, words_skipped line, length-drop end from, length-drop start line)
 
 -- a line ends with a carriage return, or with another byte
 pub return_dropped : (line : List ℕ) → get_or line (length line - 1) 0 ≡ 13
     → take (length line - 1) line ≡ line_without_return line
 return_dropped [] ends = refl
 return_dropped (b ∷ []) ends = let test : (b == 13) ≡ true = eq-eqb b 13 ends in rw test refl
-return_dropped (b ∷ c ∷ rest) ends =
-    let before : length (b ∷ c ∷ rest) - 1 ≡ suc (length (c ∷ rest) - 1) = omega arith in
-    let Ends : ℕ → Type 0 = λ n. get_or (b ∷ c ∷ rest) n 0 ≡ 13 in
-    rw before (ap (λ more. b ∷ more) (return_dropped (c ∷ rest) (subst Ends before ends)))
+return_dropped (b ∷ c ∷ rest) ends = grind (arith, nat_tests, return_dropped (c ∷ rest))
 
 pub no_return : (line : List ℕ) → get_or line (length line - 1) 0 ≢ 13 → line ≡ line_without_return line
 no_return [] ends = refl
