@@ -12,15 +12,9 @@ use Rattle.lists_and_numbers.proofs.CallerLemmas.{same_number}
 
 -- a spot is found to be equal to itself
 pub spot_found : (a : Spot) → is_same_spot a a ≡ true
-spot_found a =
-    let block : (a.block == a.block) ≡ true = grind (arith, nat_tests) in
-    let across : int_eq a.at.x a.at.x ≡ true = (Decides-int_eq a.at.x a.at.x).1 refl in
-    let down : int_eq a.at.y a.at.y ≡ true = (Decides-int_eq a.at.y a.at.y).1 refl in
-    rw (block, across, down) refl
+spot_found a = grind (arith, nat_tests, Decides-int_eq a.at.x a.at.x, Decides-int_eq a.at.y a.at.y)
 
 -- Spots that pass the test are equal.
 pub same_spot : (a b : Spot) → is_same_spot a b ≡ true → a ≡ b
 same_spot a b found =
-    let both = and_parts (a.block == b.block) (is_same_point a.at b.at) found in
-    ap (λ (n : ℕ). record { block = n; at = a.at }) (same_number a.block b.block both.0)
-    ∙ ap (λ (p : Point). record { block = b.block; at = p }) (same_is a.at b.at both.1)
+    grind (arith, nat_tests, and_parts (a.block == b.block) (is_same_point a.at b.at) found, same_number a.block b.block, same_is a.at b.at)

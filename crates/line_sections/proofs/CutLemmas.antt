@@ -18,20 +18,13 @@ use Rattle.line_sections.proofs.CallerLemmas.{same_spot, spot_found}
 -- a spot that is found to be another one
 turned : (a b : Spot) (t : Bool) → is_same_spot a b ≡ t → is_same_spot b a ≡ t
 turned a b true found = subst (λ (s : Spot). is_same_spot s a ≡ true) (same_spot a b found) (spot_found a)
-turned a b false missed = by_test (is_same_spot b a) refl
-  where
-    by_test : (t : Bool) → is_same_spot b a ≡ t → t ≡ false
-    by_test false is = refl
-    by_test true is = sym (subst (λ (s : Spot). is_same_spot s b ≡ true) (same_spot b a is) (spot_found b)) ∙ missed
+turned a b false missed = grind (arith, nat_tests, same_spot b a, spot_found b)
 
 -- a mark after one place more
 next_mark : (n : ℕ) → Some (is_some (mark_of n)) ≡ mark_of (n + 1)
 next_mark zero = refl
 next_mark (suc zero) = refl
-next_mark (suc (suc n)) = sym (ap mark_of (later n))
-  where
-    later : (n : ℕ) → suc (suc n) + 1 ≡ suc (suc (suc n))
-    later n = omega arith
+next_mark (suc (suc n)) = grind (arith, nat_tests)
 
 told_next : (spot : Spot) (spots : List Spot) (old new : Marks) → AreMarksOf spots old
     → ((other : Spot) → new other ≡ cond (is_same_spot spot other) (Some (is_some (old spot))) (old other))
