@@ -1,4 +1,5 @@
 -- The numbers on the way from one number to another.
+use Rattle.std.proofs.lemmas.Bool.Decides.{nat_tests}
 use Rattle.std.proofs.Common.{◌≡◌, ◌≢◌, ℕ, ℤ, pos, negsuc, ◌+◌, ◌-◌, ◌*◌, ◌/◌, ◌≤◌, ◌+ℤ◌, ◌-ℤ◌, ◌*ℤ◌, ◌<ℤ◌, ◌≤ℤ◌, unsigned_abs, zero, suc, refl, ap, sym, ◌∙◌, add-one, add-zero, arith}
 use Rattle.std.proofs.Math.IntN.{neg_ℤ}
 use Rattle.std.proofs.lemmas.Int.{ints, by_lt_z}
@@ -13,15 +14,8 @@ floor_up i n (negsuc d) low = absurd (omega (arith, ints))
 
 -- the quotient of a negated number is the negated quotient rounded up
 pub floor_negated : (m n : ℕ) → 1 ≤ n → floor_quotient (neg_ℤ (pos m)) n ≡ neg_ℤ (pos ((m + (n - 1)) / n))
-floor_negated zero n some =
-    let none : 0 / n ≡ 0 = div-eq_of_lt {n = 0} {m = n} (omega arith) in
-    let all : (0 + (n - 1)) / n ≡ 0 = div-eq_of_lt {n = 0 + (n - 1)} {m = n} (omega arith) in
-    rw (none, all)
-floor_negated (suc m) n some =
-    let same : suc m + (n - 1) ≡ m + n * 1 = omega arith in
-    let one_more : (suc m + (n - 1)) / n ≡ suc (m / n) =
-    ap (λ x. x / n) same ∙ (div-more m 1 n some ∙ add-one (m / n)) in
-    rw one_more
+floor_negated zero n some = grind (arith, nat_tests, div-eq_of_lt {n = 0}, div-eq_of_lt {n = 0 + (n - 1)})
+floor_negated (suc m) n some = grind (arith, nat_tests, div-more m 1 n some, add-one (m / n))
 
 -- a product with a negative number, over n
 pub floor_down : (i n : ℕ) (z : ℤ) → 1 ≤ n → z <ℤ pos 0
@@ -32,15 +26,12 @@ floor_down i n (negsuc d) some below = floor_negated (i * suc d) n some
 -- up the axis, the parts are added
 pub coordinate_on_segment-up : (from to : ℤ) (n i : ℕ) → from ≤ℤ to
     → coordinate_on_segment from to n i ≡ from +ℤ pos (i * unsigned_abs (to -ℤ from) / n)
-coordinate_on_segment-up from to n i up =
-    let f = floor_up i n (to -ℤ from) (omega (arith, ints)) in grind arith
+coordinate_on_segment-up from to n i up = grind (arith, nat_tests, floor_up i n (to -ℤ from) (omega (arith, ints)))
 
 -- down the axis, the parts are taken off, rounded up
 pub coordinate_on_segment-down : (from to : ℤ) (n i : ℕ) → 1 ≤ n → to <ℤ from
     → coordinate_on_segment from to n i ≡ from -ℤ pos ((i * unsigned_abs (to -ℤ from) + (n - 1)) / n)
-coordinate_on_segment-down from to n i some down =
-    let f = floor_down i n (to -ℤ from) some (omega (arith, ints)) in
-    omega (arith, ints)
+coordinate_on_segment-down from to n i some down = grind (arith, nat_tests, floor_down i n (to -ℤ from) some (omega (arith, ints)))
 
 -- the parts rounded down are those with nothing added
 whole : (m n : ℕ) → m / n ≡ (m + 0) / n

@@ -1,4 +1,5 @@
 -- The points on the way from p to q as a chain.
+use Rattle.std.proofs.lemmas.Bool.Decides.{nat_tests}
 use Rattle.std.proofs.Common.{◌≡◌, ◌≢◌, ℕ, zero, suc, ◌+◌, ◌*◌, ◌<◌, ◌≤◌, ◌-ℤ◌, map, All, unsigned_abs, IsTrue, ap, ◌∙◌, subst, arith}
 use Rattle.std.specs.List.{range_with_len}
 use Rattle.std.proofs.Math.Nat.{le-max_left, le-max_right}
@@ -17,15 +18,13 @@ close_along : (f : ℕ → Point) (limit a n : ℕ)
     → ((i : ℕ) → i < a + n → IsTrue (is_point_within limit (move_between (f i) (f (i + 1)))))
     → AreCloseAfter limit (f a) (map f (range_with_len (a + 1) n))
 close_along f limit a zero near = tt
-close_along f limit a (suc n) near =
-    (near a (omega arith), close_along f limit (a + 1) n (λ i h. near i (omega arith)))
+close_along f limit a (suc n) near = grind (arith, nat_tests, close_along f limit (a + 1) n (λ i h. near i (omega arith)))
 
 -- and where each differs from the next, they keep moving
 moving_along : (f : ℕ → Point) (a n : ℕ) → ((i : ℕ) → i < a + n → f i ≢ f (i + 1))
     → HasNoRepeatAfter (f a) (map f (range_with_len (a + 1) n))
 moving_along f a zero apart = tt
-moving_along f a (suc n) apart =
-    (apart a (omega arith), moving_along f (a + 1) n (λ i h. apart i (omega arith)))
+moving_along f a (suc n) apart = grind (arith, nat_tests, moving_along f (a + 1) n (λ i h. apart i (omega arith)))
 
 -- the last of the values in a row
 last_along : (f : ℕ → Point) (a n : ℕ) → last_point_or (f a) (map f (range_with_len (a + 1) n)) ≡ f (a + n)
@@ -35,9 +34,7 @@ last_along f a (suc n) = last_along f (a + 1) n ∙ ap f (omega arith)
 -- what holds of each value holds of the values in a row
 all_along : (P : Point → Type 0) (f : ℕ → Point) (n : ℕ) → ((i : ℕ) → i ≤ n → P (f i))
     → All P (map f (range_with_len 1 n))
-all_along P f n each k d h =
-    let within : k < n = omega (arith, length-map-range_with_len f 1 n) in
-    rw (get_or-map-range_with_len f 1 n k (k + 1) d within (omega arith)) (each (k + 1) (omega arith))
+all_along P f n each k d h = grind (arith, nat_tests, length-map-range_with_len f 1 n, get_or-map-range_with_len f 1 n k (k + 1) d)
 
 -- the way from p to q in that many steps
 module _ (p q : Point) (step n : ℕ) (some : 1 ≤ n) where

@@ -58,7 +58,5 @@ no_float_refitted limit loose place (act.Stop ∷ rest) = no_float_refitted limi
 -- the acts of a refit fit
 pub refitted_fits : (m : RefitMode) (limit : ℕ) (acts refitted : List Act) → 1 ≤ limit
     → refitted ≡ refitted_acts m limit acts → MeetsRefitGoal m limit refitted
-refitted_fits mode.Split limit acts refitted low is =
-    subst (λ xs. MeetsRefitGoal mode.Split limit xs) (sym is) (near_refitted limit true origin acts low)
-refitted_fits mode.Cut limit acts refitted low is =
-    subst (λ xs. MeetsRefitGoal mode.Cut limit xs) (sym is) (no_float_refitted limit true origin acts)
+refitted_fits mode.Split limit acts refitted low is = grind (arith, nat_tests, near_refitted limit true origin acts low)
+refitted_fits mode.Cut limit acts refitted low is = grind (arith, nat_tests, no_float_refitted limit true origin acts)

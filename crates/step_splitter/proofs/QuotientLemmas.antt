@@ -1,4 +1,5 @@
 -- Quotients of equal parts, as natural numbers: (i * d + c) / n for i from 0 to n.
+use Rattle.std.proofs.lemmas.Bool.Decides.{nat_tests}
 use Rattle.std.proofs.Common.{◌≡◌, ℕ, ◌+◌, ◌*◌, ◌/◌, ◌<◌, ◌≤◌, arith}
 use Rattle.std.proofs.lemmas.Grind.{div_ceil_times}
 use Rattle.std.proofs.lemmas.Nat.{le-div}
@@ -15,8 +16,7 @@ div_ceil_few s step low = let t = div_ceil_times s step low in grind arith
 
 -- a number up to the other is one part
 pub div_ceil_one : (s step : ℕ) → 1 ≤ s → s ≤ step → div_ceil s step ≡ 1
-div_ceil_one s step some few =
-    let t = div_ceil_times s step (omega (arith, some, few)) in grind arith
+div_ceil_one s step some few = grind (arith, nat_tests, div_ceil_times s step (omega (arith, some, few)))
 
 -- the number is at most the parts times the step
 pub div_ceil_covers : (s step : ℕ) → 1 ≤ step → s ≤ div_ceil s step * step
@@ -47,8 +47,7 @@ part_rises_little i d c n step some covers =
 
 -- the parts do not fall
 pub part_rises : (i d c n : ℕ) → 1 ≤ n → (i * d + c) / n ≤ ((i + 1) * d + c) / n
-part_rises i d c n some =
-    rw (next_part i d c) (div-mono (i * d + c) ((i * d + c) + d) n some (omega arith))
+part_rises i d c n some = grind (arith, nat_tests, next_part i d c, div-mono (i * d + c) ((i * d + c) + d) n some (omega arith))
 
 -- and each rises by at least 1 where there are no more parts than the distance
 pub part_moves : (i d c n : ℕ) → 1 ≤ n → n ≤ d → (i * d + c) / n + 1 ≤ ((i + 1) * d + c) / n
@@ -62,9 +61,7 @@ part_moves i d c n some far =
 
 -- the last part is the distance
 pub part_last : (d c n : ℕ) → c < n → (n * d + c) / n ≡ d
-part_last d c n small =
-    let swap : n * d + c ≡ c + n * d = omega arith in
-    rw swap (omega (arith, div-more c d n (omega arith), div-eq_of_lt {n = c} {m = n} small))
+part_last d c n small = grind (arith, nat_tests, div-more c d n (omega arith), div-eq_of_lt {n = c})
 
 -- no part passes the distance
 pub part_within : (i d c n : ℕ) → c < n → i ≤ n → (i * d + c) / n ≤ d

@@ -1,4 +1,5 @@
 -- Refitted acts and their commands, one act after the other.
+use Rattle.std.proofs.lemmas.Bool.Decides.{nat_tests}
 use Rattle.std.proofs.Common.{drop, get_or, add-one, Option, Some, Result, Ok, Err, IfErr, option_to_list, subst, ◌≡◌, ℕ, ◌+◌, ◌<◌, ◌≤◌, Bool, true, List, [], ◌∷◌, ◌++◌, length, map, refl, sym, ap, ◌∙◌, arith, append_assoc, append-nil}
 use Rattle.std.proofs.lemmas.List.{length-append}
 use Rattle.design_model.specs.declared.act.Act.{Act}
@@ -24,8 +25,7 @@ use Rattle.step_splitter.specs.RefitSteps.{AddsRefitCommands, IsRefitState, Refu
 pub commands_of_acts-append : (xs ys : List Act) → commands_of_acts (xs ++ ys) ≡ commands_of_acts xs ++ commands_of_acts ys
 commands_of_acts-append [] ys = refl
 commands_of_acts-append (x ∷ xs) ys =
-    ap (λ rest. commands_of_act x ++ rest) (commands_of_acts-append xs ys)
-    ∙ sym (append_assoc (commands_of_act x) (commands_of_acts xs) (commands_of_acts ys))
+    grind (arith, nat_tests, commands_of_acts-append xs ys, append_assoc (commands_of_act x) (commands_of_acts xs) (commands_of_acts ys))
 
 -- needles that are no floats are stitches
 pub stitches_at : (points : List Point) → commands_of_acts (needles_at points) ≡ map command.Stitch points
@@ -123,13 +123,9 @@ pub next_split : (m : RefitMode) (limit : ℕ) (acts : List NumberedAct) (out : 
     → IsRefitState m limit acts out loose place (acts_after walk (drop i commands))
     → IsRefitState m limit acts out loose place (option_to_list next ++ acts_after walk_new (drop (i + 1) commands))
 next_split m limit acts out loose place commands i walk walk_new next there gives g =
-    let split : drop i commands ≡ get_or commands i (command.Stitch origin) ∷ drop (i + 1) commands =
-    rw (add-one i) (drop-cons commands i (command.Stitch origin) there) in
-    subst (λ left. IsRefitState m limit acts out loose place left)
-    (ap (acts_after walk) split ∙ gives (drop (i + 1) commands)) g
+    grind (arith, nat_tests, add-one i, drop-cons commands i (command.Stitch origin) there)
 
 -- at the end all commands are there
 pub ends : (m : RefitMode) (limit : ℕ) (acts : List NumberedAct) (out : List Command) (loose : Bool) (place : Point)
     → IsRefitState m limit acts out loose place [] → out ≡ refitted_commands m limit acts
-ends m limit acts out loose place g =
-    g.commands ∙ ap (refitted_commands m limit) (sym (g.parts ∙ append-nil g.before))
+ends m limit acts out loose place g = grind (arith, nat_tests, append-nil g.before)

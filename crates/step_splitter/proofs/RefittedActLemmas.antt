@@ -1,4 +1,6 @@
 -- The commands of refitted acts have these acts again.
+use Rattle.std.proofs.Common.{arith}
+use Rattle.std.proofs.lemmas.Bool.Decides.{nat_tests}
 use Rattle.std.proofs.Common.{◌≡◌, ℕ, ◌+◌, Bool, true, false, not, ◌&&◌, List, [], ◌∷◌, ◌++◌, refl, ap, ◌∙◌}
 use Rattle.std.specs.Prelude.{if◌then◌else◌}
 use Rattle.design_model.specs.declared.act.Act.{Act}
@@ -39,15 +41,11 @@ told_again : (n : ℕ) (loose : Bool) (acts : List Act) → Follows loose acts
     → acts_without_numbers (acts_from n loose false (commands_of_acts acts)) ≡ acts
 told_again n loose [] follows = refl
 told_again n true (act.Needle p true ∷ rest) follows = cc
-told_again n false (act.Needle p true ∷ rest) follows =
-    ap (λ acts. act.Needle p true ∷ acts) (told_again (n + 1 + 1) false rest follows.1)
-told_again n loose (act.Needle p false ∷ rest) follows =
-    ap (λ acts. act.Needle p false ∷ acts) (told_again (n + 1) false rest follows)
+told_again n false (act.Needle p true ∷ rest) follows = grind (arith, nat_tests, told_again (n + 1 + 1) false rest follows.1)
+told_again n loose (act.Needle p false ∷ rest) follows = grind (arith, nat_tests, told_again (n + 1) false rest follows)
 told_again n true (act.Trim ∷ rest) follows = cc
-told_again n false (act.Trim ∷ rest) follows =
-    ap (λ acts. act.Trim ∷ acts) (told_again (n + 1) true rest follows.1)
-told_again n loose (act.Stop ∷ rest) follows =
-    ap (λ acts. act.Stop ∷ acts) (told_again (n + 1) true rest follows)
+told_again n false (act.Trim ∷ rest) follows = grind (arith, nat_tests, told_again (n + 1) true rest follows.1)
+told_again n loose (act.Stop ∷ rest) follows = grind (arith, nat_tests, told_again (n + 1) true rest follows)
 
 -- after needle acts that are no floats the thread isn't loose
 follows_needles : (points : List Point) (rest : List Act) → Follows false rest
@@ -76,15 +74,11 @@ follows_refitted mode.Cut limit loose place (act.Needle p false ∷ rest) follow
     follows_refitted mode.Cut limit false p rest follows
 follows_refitted m limit loose place (act.Trim ∷ rest) follows =
     (follows.0, follows_refitted m limit true place rest follows.1)
-follows_refitted m limit loose place (act.Stop ∷ rest) follows =
-    follows_refitted m limit true place rest follows
+follows_refitted m limit loose place (act.Stop ∷ rest) follows = grind (arith, nat_tests, follows_refitted m limit true place rest follows)
 
 -- the acts of the commands of refitted acts are the refitted acts
 pub refitted_told : (m : RefitMode) (limit : ℕ) (old new : List Command)
     → new ≡ commands_of_acts (refitted_acts m limit (acts_without_numbers (acts_along old)))
     → acts_without_numbers (acts_along new) ≡ refitted_acts m limit (acts_without_numbers (acts_along old))
 refitted_told m limit old new is =
-    let acts = acts_without_numbers (acts_along old) in
-    ap (λ cs. acts_without_numbers (acts_along cs)) is
-    ∙ told_again 1 true (refitted_acts m limit acts)
-    (follows_refitted m limit true origin acts (follows_told 1 true false old))
+    grind (arith, nat_tests, told_again 1 true, follows_refitted m limit true origin, follows_told 1 true false old)
