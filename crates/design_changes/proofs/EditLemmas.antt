@@ -1,5 +1,5 @@
 -- Edits one after another.
-use Rattle.std.proofs.Common.{◌≡◌, ℕ, List, [], ◌∷◌, Option, Some, None, IfSome, IsSome, inl, inr, Result, Ok, Err, refl, sym, subst}
+use Rattle.std.proofs.Common.{◌≡◌, ℕ, List, [], ◌∷◌, Option, Some, None, IfSome, IsSome, inl, inr, Result, Ok, Err, refl, subst}
 use Rattle.std.specs.Prelude.{unwrap_or}
 use Rattle.command_words.specs.Changes.{Change}
 use Rattle.command_words.specs.Arguments.{with_first_edit, parsed_edit, parsed_edits}
@@ -13,9 +13,6 @@ pub record GoesOn (words left : List (List ℕ)) (first now : DesignValue) : Typ
   pub rest : (limit : ℕ) (r : Result DesignValue ChangeFault) → BecomesAll limit (unwrap_or (parsed_edits left) []) now r
       → BecomesAll limit (unwrap_or (parsed_edits words) []) first r
 
-pub goes_first : (words : List (List ℕ)) (d : DesignValue) → IsSome (parsed_edits words) → GoesOn words words d d
-goes_first words d spelled = record { parsed = spelled; rest = λ limit r becomes. becomes }
-
 -- The edits of a list of arguments: the first, followed by the others.
 first_spelled : (first : Option Change) (later : Option (List Change)) → IsSome (with_first_edit first later) → IsSome first
 first_spelled (Some change) later some = refl
@@ -26,11 +23,6 @@ later_spelled (Some change) (Some changes) some = refl
 later_spelled (Some change) None some = some
 later_spelled None (Some changes) some = refl
 later_spelled None None some = some
-
-pub next_spelled : (words left : List (List ℕ)) (word : List ℕ) (more : List (List ℕ)) (first now : DesignValue)
-    → GoesOn words left first now → left ≡ word ∷ more → IsSome (parsed_edit word)
-next_spelled words left word more first now goes is = first_spelled (parsed_edit word) (parsed_edits more)
-    (subst (λ (ws : List (List ℕ)). IsSome (parsed_edits ws)) is goes.parsed)
 
 -- the first edit is made, and what the others make of that they make of the whole
 made_first : (limit : ℕ) (first : Option Change) (later : Option (List Change)) (old new : DesignValue)
@@ -73,8 +65,3 @@ goes_refused words left word more first now why goes is becomes limit =
     step on = on.rest limit (Err why) (refused_first limit (parsed_edit word) (parsed_edits more) now why
         (first_spelled (parsed_edit word) (parsed_edits more) on.parsed)
         (later_spelled (parsed_edit word) (parsed_edits more) on.parsed) (becomes limit))
-
-pub goes_done : (words left : List (List ℕ)) (first now : DesignValue) → GoesOn words left first now → left ≡ []
-    → (limit : ℕ) → BecomesAll limit (unwrap_or (parsed_edits words) []) first (Ok now)
-goes_done words left first now goes none limit = goes.rest limit (Ok now)
-    (subst (λ (ws : List (List ℕ)). BecomesAll limit (unwrap_or (parsed_edits ws) []) now (Ok now)) (sym none) refl)

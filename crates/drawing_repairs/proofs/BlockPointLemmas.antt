@@ -1,6 +1,6 @@
 -- What a test holds of, over the points of a block: the points that move, the ends of lines, and the points that lines list.
 use Rattle.std.proofs.Common.{◌≡◌, ℕ, zero, suc, ◌==◌, Bool, true, false, List, [], ◌∷◌, ◌++◌, map, filter, if◌then◌else◌, refl, ap, sym, subst, ◌∙◌, arith}
-use Rattle.std.proofs.lemmas.Bool.Decides.{Decides-eqb}
+use Rattle.std.proofs.lemmas.Bool.Decides.{Decides-eqb, nat_tests}
 use Rattle.std.proofs.lemmas.List.Folds.{list_all-append, list_all-map}
 use Rattle.std.specs.List.{All, flat_map, list_all}
 use Rattle.design_model.specs.declared.point.Point.{Point}
@@ -61,10 +61,7 @@ changed_if : (change : LineValue → LineValue) (line : LineValue) (some changed
     → flat_map (λ line. line.points) changed ≡ flat_map (λ line. (change line).points) some
     → flat_map (λ line. line.points) (if b then change line ∷ changed else changed)
     ≡ flat_map (λ line. (change line).points) (if c then line ∷ some else some)
-changed_if change line some changed true true is same = ap (λ (later : List Point). (change line).points ++ later) same
-changed_if change line some changed false false is same = same
-changed_if change line some changed true false is same = cc
-changed_if change line some changed false true is same = cc
+changed_if change line some changed b c h1 h2 = grind (arith, nat_tests)
 
 -- lines that were changed, each in its block, have the changed points there
 pub changed_block : (change : LineValue → LineValue) (keeps : (line : LineValue) → (change line).block ≡ line.block) (block : ℕ)

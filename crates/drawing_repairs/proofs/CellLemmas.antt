@@ -1,6 +1,7 @@
 -- The points of a cell have all those that are within the gap of a point in it: the nearest of all is the nearest of these.
-use Rattle.std.proofs.Common.{◌≡◌, ℕ, ℤ, pos, negsuc, ◌+◌, ◌-◌, ◌*◌, ◌/◌, ◌-ℤ◌, ◌<◌, ◌≤◌, ◌==◌, unsigned_abs, Bool, ◌&&◌, ◌||◌, true, false, nat_lt, List, [], ◌∷◌, ◌++◌, Option, Some, None, filter, if◌then◌else◌, refl, ap, sym, ◌∙◌, arith}
-use Rattle.std.proofs.lemmas.Bool.{leb-false, leb-true, ltb-true, and_from}
+use Rattle.std.proofs.lemmas.Bool.Decides.{nat_tests}
+use Rattle.std.proofs.Common.{◌≡◌, ℕ, ℤ, ◌+◌, ◌-◌, ◌*◌, ◌/◌, ◌-ℤ◌, ◌<◌, ◌≤◌, ◌==◌, unsigned_abs, Bool, ◌&&◌, ◌||◌, true, false, List, [], ◌∷◌, ◌++◌, Option, None, filter, if◌then◌else◌, refl, ap, ◌∙◌, arith}
+use Rattle.std.proofs.lemmas.Bool.{leb-true, and_from}
 use Rattle.std.proofs.lemmas.Int.{ints}
 use Rattle.std.proofs.lemmas.Nat.{div-add-mod', div_below, le-div, mod_below}
 use Rattle.std.specs.List.{list_any}
@@ -8,14 +9,11 @@ use Rattle.design_model.specs.declared.point.Point.{Point}
 use Rattle.drawing_review.specs.Frames.{grid_coordinate, grid_point}
 use Rattle.drawing_repairs.specs.Anchors.{distance_between, is_within_gap, nearer_anchor, nearest_after, nearest_anchor, with_anchor}
 use Rattle.drawing_repairs.specs.Cells.{AreInCells, CellPoints, cell_of, cell_side, first_reached, is_reached_at, last_reached, points_in_cell, reaches_cell}
-use Rattle.drawing_repairs.proofs.MoveLemmas.{IsNearChoice, near_one}
+use Rattle.drawing_repairs.proofs.MoveLemmas.{IsNearChoice}
 
 -- coordinates that count from the least are no farther apart
 grid_near : (gap : ℕ) (m n : ℤ) → unsigned_abs (n -ℤ m) ≤ gap → grid_coordinate n ≤ grid_coordinate m + gap
-grid_near gap (pos m) (pos n) near = omega (arith, ints, near)
-grid_near gap (pos m) (negsuc n) near = omega (arith, ints, near)
-grid_near gap (negsuc m) (pos n) near = omega (arith, ints, near)
-grid_near gap (negsuc m) (negsuc n) near = omega (arith, ints, near)
+grid_near gap m n h1 = grind (arith, nat_tests)
 
 turned : (gap : ℕ) (m n : ℤ) → unsigned_abs (n -ℤ m) ≤ gap → unsigned_abs (m -ℤ n) ≤ gap
 turned gap m n near = omega (arith, ints, near)
@@ -62,10 +60,7 @@ near_reaches gap p a is =
 any_one : (one kept rest : Bool) (x : Point) (xs : List Point) (test : Point → Bool) → test x ≡ one
     → (one ≡ true → kept ≡ true) → list_any test xs ≡ rest
     → list_any test (if kept then x ∷ xs else xs) ≡ (one || rest)
-any_one true true rest x xs test is keeps same = ap (λ (b : Bool). b || list_any test xs) is
-any_one true false rest x xs test is keeps same = let never : false ≡ true = keeps refl in cc
-any_one false true rest x xs test is keeps same = ap (λ (b : Bool). b || list_any test xs) is ∙ same
-any_one false false rest x xs test is keeps same = same
+any_one one kept rest x xs test h1 h2 h3 = grind (arith, nat_tests)
 
 -- what a test keeps has one that passes another where all have
 any_kept : (test keeps : Point → Bool) (xs : List Point) → ((x : Point) → test x ≡ true → keeps x ≡ true)
@@ -77,25 +72,13 @@ any_kept test keeps (x ∷ xs) within =
 -- a point that isn't within the gap changes no choice
 no_change : (gap : ℕ) (p a : Point) (best : Option Point) (b : Bool) → is_within_gap gap p a ≡ b → b ≡ false → IsNearChoice gap p best
     → nearer_anchor gap p best a ≡ best
-no_change gap p a None b is far near = ap (λ (b : Bool). if b then Some a else None) (is ∙ far)
-no_change gap p a (Some best) b is far near =
-    farther (nat_lt (distance_between p a) (distance_between p best)) refl
-  where
-    farther : (c : Bool) → nat_lt (distance_between p a) (distance_between p best) ≡ c → Some (if c then a else best) ≡ Some best
-    farther true less =
-        let nearer = ltb-true (distance_between p a) (distance_between p best) less in
-        let beyond = leb-false (distance_between p a) gap (is ∙ far) in
-        absurd (omega (arith, nearer, beyond, near))
-    farther false less = refl
+no_change gap p a best b h1 h2 h3 = grind (arith, nat_tests)
 
 nearest_one : (gap : ℕ) (p a : Point) (best : Option Point) (xs kept : List Point) (one keeps : Bool) → is_within_gap gap p a ≡ one
     → (one ≡ true → keeps ≡ true) → IsNearChoice gap p best
     → ((next : Option Point) → IsNearChoice gap p next → nearest_after gap p next kept ≡ nearest_after gap p next xs)
     → nearest_after gap p best (if keeps then a ∷ kept else kept) ≡ nearest_after gap p (nearer_anchor gap p best a) xs
-nearest_one gap p a best xs kept one true is within near same = same (nearer_anchor gap p best a) (near_one gap p a best near)
-nearest_one gap p a best xs kept true false is within near same = let never : false ≡ true = within refl in cc
-nearest_one gap p a best xs kept false false is within near same =
-    same best near ∙ ap (λ (next : Option Point). nearest_after gap p next xs) (sym (no_change gap p a best false is refl near))
+nearest_one gap p a best xs kept one keeps h1 h2 h3 h4 = grind (arith, nat_tests)
 
 nearest_kept : (gap : ℕ) (p : Point) (keeps : Point → Bool) (xs : List Point)
     → ((x : Point) → is_within_gap gap p x ≡ true → keeps x ≡ true) → (best : Option Point) → IsNearChoice gap p best

@@ -1,33 +1,19 @@
 -- No end of a group is due in a segment beyond its bounds, and the first group with a due end has the first one of all.
-use Rattle.std.proofs.Common.{◌≡◌, ℕ, ◌+◌, ◌-◌, Bool, true, false, not, ◌&&◌, ◌||◌, nat_lt, List, [], ◌∷◌, ◌++◌, Option, Some, None, is_some, if◌then◌else◌, refl, ap, sym, subst, ◌∙◌, arith}
-use Rattle.std.proofs.lemmas.Bool.{lt-ltb, ltb-true}
-use Rattle.std.specs.List.{flat_map, list_any}
+use Rattle.std.proofs.lemmas.Bool.Decides.{nat_tests}
+use Rattle.std.proofs.Common.{◌≡◌, ℕ, ◌+◌, ◌-◌, Bool, true, false, not, ◌&&◌, ◌||◌, List, [], ◌∷◌, ◌++◌, Option, Some, None, is_some, if◌then◌else◌, refl, ap, sym, ◌∙◌, arith}
+use Rattle.std.specs.List.{flat_map}
 use Rattle.design_model.specs.declared.point.Point.{Point}
-use Rattle.design_model.specs.Points.{is_same_point}
 use Rattle.drawing_review.specs.declared.grid_point.GridPoint.{GridPoint}
 use Rattle.drawing_review.specs.declared.segment.LineSegment.{LineSegment}
 use Rattle.drawing_review.specs.Frames.{are_apart, frame_around, grid_point}
 use Rattle.drawing_repairs.specs.declared.end_groups.EndBounds.{EndBounds}
 use Rattle.drawing_repairs.specs.EndGroups.{AreAround, AreBetween, is_beyond_gap, widened_bounds}
 use Rattle.drawing_repairs.specs.Listings.{due_end, is_due}
-use Rattle.lists_and_numbers.proofs.CallerLemmas.{either_way}
 
 -- a segment beyond the bounds is apart from the square around each end
 beyond_each : (gap : ℕ) (b : EndBounds) (p : GridPoint) (s : LineSegment) → AreAround b p p → is_beyond_gap gap b s ≡ true
     → are_apart (frame_around gap p) s.frame ≡ true
-beyond_each gap b p s around beyond = either_way _ _ _ _ to_left (either_way _ _ _ _ to_right (either_way _ _ _ _ to_top to_bottom)) beyond
-  where
-    to_left : nat_lt (b.greatest.x + gap) s.frame.left ≡ true → nat_lt (p.x + gap) s.frame.left ≡ true
-    to_left is = lt-ltb _ _ (omega (arith, ltb-true _ _ is, around.right))
-
-    to_right : nat_lt s.frame.right (b.least.x - gap) ≡ true → nat_lt s.frame.right (p.x - gap) ≡ true
-    to_right is = lt-ltb _ _ (omega (arith, ltb-true _ _ is, around.left))
-
-    to_top : nat_lt (b.greatest.y + gap) s.frame.top ≡ true → nat_lt (p.y + gap) s.frame.top ≡ true
-    to_top is = lt-ltb _ _ (omega (arith, ltb-true _ _ is, around.bottom))
-
-    to_bottom : nat_lt s.frame.bottom (b.least.y - gap) ≡ true → nat_lt s.frame.bottom (p.y - gap) ≡ true
-    to_bottom is = lt-ltb _ _ (omega (arith, ltb-true _ _ is, around.top))
+beyond_each gap b p s h1 h2 = grind (arith, nat_tests)
 
 not_near : (apart touches has : Bool) → apart ≡ true → ((not apart && touches) && not has) ≡ false
 not_near true touches has is = refl
@@ -35,9 +21,7 @@ not_near false touches has is = cc
 
 not_due : (gap : ℕ) (b : EndBounds) (listed : List Point) (s : LineSegment) (e : Point)
     → AreAround b (grid_point e) (grid_point e) → is_beyond_gap gap b s ≡ true → is_due gap listed s e ≡ false
-not_due gap b listed s e around beyond =
-    not_near (are_apart (frame_around gap (grid_point e)) s.frame) _ (list_any (is_same_point e) listed)
-    (beyond_each gap b (grid_point e) s around beyond)
+not_due gap b listed s e h1 h2 = grind (arith, nat_tests)
 
 -- No end between bounds is due in a segment beyond them.
 pub none_beyond : (gap : ℕ) (b : EndBounds) (listed : List Point) (s : LineSegment) (ends : List Point) → AreBetween b ends
@@ -52,24 +36,7 @@ pub widened_on : (c u : EndBounds) (e : Point) (rest left all : List Point)
     → ((b : EndBounds) → AreAround b c.least c.greatest → AreBetween b left → AreBetween b all)
     → left ≡ e ∷ rest → u ≡ widened_bounds c (grid_point e)
     → (b : EndBounds) → AreAround b u.least u.greatest → AreBetween b rest → AreBetween b all
-widened_on c u e rest left all before is widened b around more =
-    before b (record {
-      left = omega (arith, both.left);
-      right = omega (arith, both.right);
-      top = omega (arith, both.top);
-      bottom = omega (arith, both.bottom);
-    }) (subst (λ (ends : List Point). AreBetween b ends) (sym is) (
-      record {
-        left = omega (arith, both.left);
-        right = omega (arith, both.right);
-        top = omega (arith, both.top);
-        bottom = omega (arith, both.bottom);
-      },
-      more,
-    ))
-  where
-    both : AreAround b (widened_bounds c (grid_point e)).least (widened_bounds c (grid_point e)).greatest
-    both = subst (λ (d : EndBounds). AreAround b d.least d.greatest) widened around
+widened_on c u e rest left all h1 h2 h3 b h4 h5 = grind (arith, nat_tests)
 
 -- the first of two, if there is one
 abbrev pub first_of_two : Option Point → Option Point → Option Point

@@ -1,4 +1,5 @@
 -- A line is followed to its last point: each step passes a segment, or lists an end that wasn't listed.
+use Rattle.std.proofs.lemmas.Bool.Decides.{nat_tests}
 use Rattle.std.proofs.Common.{◌≡◌, ℕ, zero, suc, ◌+◌, ◌*◌, ◌≤◌, Bool, true, false, not, ◌&&◌, ◌||◌, List, [], ◌∷◌, ◌++◌, length, Option, Some, None, if◌then◌else◌, refl, ap, sym, subst, ◌∙◌, arith}
 use Rattle.std.proofs.lemmas.List.Folds.{list_any-append}
 use Rattle.std.specs.List.{list_any}
@@ -20,9 +21,7 @@ unlisted listed [] = 0
 unlisted listed (e ∷ rest) = one_unless (list_any (is_same_point e) listed) + unlisted listed rest
 
 fewer_unless : (a b : Bool) → one_unless (a || b) ≤ one_unless a
-fewer_unless true b = omega arith
-fewer_unless false true = omega arith
-fewer_unless false false = omega arith
+fewer_unless a b = grind (arith, nat_tests)
 
 at_most_one : (a : Bool) → one_unless a ≤ 1
 at_most_one true = omega arith
@@ -47,9 +46,7 @@ or_true true = refl
 or_true false = refl
 
 due_unlisted : (near has : Bool) → (near && not has) ≡ true → one_unless has ≡ 1
-due_unlisted true false is = refl
-due_unlisted true true is = cc
-due_unlisted false has is = cc
+due_unlisted near has h1 = grind (arith, nat_tests)
 
 listed_then : (e : Point) (listed : List Point) → is_same_point e e ≡ true
     → one_unless (list_any (is_same_point e) (listed ++ e ∷ [])) ≡ 0

@@ -1,5 +1,6 @@
 -- Lines that list the ends of their blocks have the ends that they had, and list no more when they are followed again.
-use Rattle.std.proofs.Common.{◌≡◌, ℕ, zero, suc, ◌==◌, Bool, true, false, List, [], ◌∷◌, ◌++◌, map, filter, Option, Some, None, if◌then◌else◌, refl, ap, sym, ◌∙◌}
+use Rattle.std.proofs.lemmas.Bool.Decides.{nat_tests}
+use Rattle.std.proofs.Common.{◌≡◌, ℕ, zero, suc, ◌==◌, Bool, List, [], ◌∷◌, ◌++◌, map, filter, Option, Some, None, if◌then◌else◌, refl, ap, sym, ◌∙◌, arith}
 use Rattle.std.specs.List.{flat_map}
 use Rattle.design_model.specs.declared.point.Point.{Point}
 use Rattle.line_sections.specs.Lines.{LineValue}
@@ -45,9 +46,7 @@ ends_of lines = flat_map (λ line. endpoints line.points) lines
 
 ends_if : (b : Bool) (x y : LineValue) (xs ys : List LineValue) → endpoints x.points ≡ endpoints y.points
     → ends_of xs ≡ ends_of ys → ends_of (if b then x ∷ xs else xs) ≡ ends_of (if b then y ∷ ys else ys)
-ends_if true x y xs ys one rest =
-    ap (λ (ends : List Point). ends ++ ends_of xs) one ∙ ap (λ (ends : List Point). endpoints y.points ++ ends) rest
-ends_if false x y xs ys one rest = rest
+ends_if b x y xs ys h1 h2 = grind (arith, nat_tests)
 
 -- a block has the ends that it had
 pub same_block_ends : (gap : ℕ) (all lines : List LineValue) (block : ℕ)

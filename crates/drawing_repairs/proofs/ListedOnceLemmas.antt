@@ -1,12 +1,10 @@
 -- A line that was followed stays as it is when it is followed again.
-use Rattle.std.proofs.Common.{◌≡◌, ℕ, zero, suc, Bool, true, false, not, ◌&&◌, ◌||◌, List, [], ◌∷◌, ◌++◌, Option, Some, None, if◌then◌else◌, refl, ap, sym, subst, ◌∙◌}
+use Rattle.std.proofs.lemmas.Bool.Decides.{nat_tests}
+use Rattle.std.proofs.Common.{◌≡◌, ℕ, zero, suc, Bool, false, ◌&&◌, ◌||◌, List, [], ◌∷◌, ◌++◌, Option, Some, None, if◌then◌else◌, refl, ap, sym, subst, ◌∙◌, arith}
 use Rattle.std.proofs.lemmas.List.Folds.{list_any-append}
 use Rattle.std.specs.List.{list_any}
 use Rattle.design_model.specs.declared.point.Point.{Point}
-use Rattle.design_model.specs.Points.{is_same_point}
 use Rattle.drawing_review.specs.declared.segment.LineSegment.{LineSegment}
-use Rattle.drawing_review.specs.Frames.{grid_point}
-use Rattle.drawing_review.specs.Meetings.{is_near}
 use Rattle.drawing_repairs.specs.Listings.{FollowedLine, due_end, due_ends, followed_by, followed_for, followed_line, followed_on, followed_points, segment_between, steps_to_follow, unfollowed_line, with_due_ends}
 use Rattle.drawing_repairs.specs.SnapLaws.{IsSettledTo}
 use Rattle.drawing_repairs.proofs.FollowLemmas.{followed_to_end}
@@ -21,12 +19,7 @@ joined_again [] at more = refl
 joined_again (a ∷ rest) at more = ap (λ (points : List Point). a ∷ points) (joined_again rest at more)
 
 one_later : (passed at end more : Bool) → ((passed || (at || more)) || (end || false)) ≡ (passed || (at || (end || more)))
-one_later true at end more = refl
-one_later false true end more = refl
-one_later false false true true = refl
-one_later false false true false = refl
-one_later false false false true = refl
-one_later false false false false = refl
+one_later passed at end more = grind (arith, nat_tests)
 
 by_same : (f : FollowedLine) (b : Point) (rest : List Point) (due : Option Point)
     → HaveSamePoints f.listed (f.passed ++ f.at ∷ b ∷ rest)
@@ -55,12 +48,7 @@ for_same (suc n) gap ends f same = for_same n gap ends (followed_on gap ends f f
 -- the same ends are due where a line lists the same points
 due_same : (gap : ℕ) (s : LineSegment) (xs ys ends : List Point) → HaveSamePoints xs ys
     → due_end gap xs s ends ≡ due_end gap ys s ends
-due_same gap s xs ys [] same = refl
-due_same gap s xs ys (e ∷ rest) same =
-    ap (λ (has : Bool). if is_near gap (grid_point e) s && not has then Some e else due_end gap xs s rest)
-    (same (is_same_point e))
-    ∙ ap (λ (later : Option Point). if is_near gap (grid_point e) s && not (list_any (is_same_point e) ys) then Some e else later)
-    (due_same gap s xs ys rest same)
+due_same gap s xs ys ends h1 = grind (arith, nat_tests)
 
 -- no end is due from a point on
 abbrev IsSettledFrom : ℕ → (ends listed : List Point) → Point → List Point → Type 0

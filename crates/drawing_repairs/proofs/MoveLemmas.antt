@@ -1,4 +1,5 @@
 -- A point moves no farther than the gap, and anchors are farther apart.
+use Rattle.std.proofs.lemmas.Bool.Decides.{nat_tests}
 use Rattle.std.proofs.Common.{◌≡◌, ℕ, ℤ, ◌-ℤ◌, ◌<◌, ◌≤◌, unsigned_abs, zero, suc, length, get_or, Bool, ◌||◌, true, false, nat_le, nat_lt, List, [], ◌∷◌, ◌++◌, Option, Some, None, if◌then◌else◌, refl, ap, sym, subst, ◌∙◌, arith}
 use Rattle.std.proofs.lemmas.Bool.{leb-false, leb-true, ltb-true, or_parts}
 use Rattle.std.proofs.lemmas.List.Quantifiers.{all_pairs_push}
@@ -53,9 +54,7 @@ point_at x y = record { x = x; y = y }
 
 -- Points that are 0 apart are the same.
 same_point : (p q : Point) → distance_between p q ≤ 0 → q ≡ p
-same_point p q near =
-    ap (λ (x : ℤ). point_at x q.y) (one_place p.x q.x (omega (arith, near)))
-    ∙ ap (λ (y : ℤ). point_at p.x y) (one_place p.y q.y (omega (arith, near)))
+same_point p q h1 = grind (arith, nat_tests)
 
 -- With a gap of 0 no point moves.
 pub stays : (anchors : List Point) (p : Point) → anchored 0 anchors p ≡ p
@@ -93,9 +92,7 @@ far_apart gap points = far_after gap [] points (none_pair gap)
 
 keeps_if : (p best a : Point) (b : Bool) → nat_lt (distance_between p a) (distance_between p best) ≡ b
     → distance_between p best ≡ 0 → (if b then a else best) ≡ best
-keeps_if p best a true is here =
-    let less = ltb-true (distance_between p a) (distance_between p best) is in absurd (omega (arith, less, here))
-keeps_if p best a false is here = refl
+keeps_if p best a b h1 h2 = grind (arith, nat_tests)
 
 -- an anchor at the point itself stays the nearest
 keeps_best : (gap : ℕ) (p best : Point) (rest : List Point) → distance_between p best ≡ 0
@@ -157,9 +154,7 @@ either_if P a best false is other = other
 
 nearer_holds : (P : Point → Type 0) (gap : ℕ) (p a : Point) (best : Option Point) → HoldsOfChoice P best → P a
     → HoldsOfChoice P (nearer_anchor gap p best a)
-nearer_holds P gap p a None so_far is = choice_if P a (nat_le (distance_between p a) gap) is
-nearer_holds P gap p a (Some best) so_far is =
-    either_if P a best (nat_lt (distance_between p a) (distance_between p best)) is so_far
+nearer_holds P gap p a best h1 h2 = grind (arith, nat_tests)
 
 -- what holds of all anchors holds of the nearest
 pub nearest_holds : (P : Point → Type 0) (gap : ℕ) (p : Point) (best : Option Point) (anchors : List Point) → HoldsOfChoice P best

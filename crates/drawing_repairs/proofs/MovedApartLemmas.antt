@@ -1,12 +1,13 @@
 -- Points of a block that moved are the same or farther apart than the gap.
+use Rattle.std.proofs.lemmas.Bool.Decides.{nat_tests}
 use Rattle.std.proofs.Common.{◌≡◌, ℕ, ℤ, ◌-ℤ◌, unsigned_abs, ◌<◌, ◌≤◌, zero, suc, length, get_or, Bool, ◌||◌, true, false, nat_le, nat_lt, List, [], ◌∷◌, ◌++◌, Option, Some, None, if◌then◌else◌, refl, ap, sym, subst, ◌∙◌, arith}
-use Rattle.std.proofs.lemmas.Bool.{leb-false, or_left, or_right}
+use Rattle.std.proofs.lemmas.Bool.{or_left, or_right}
 use Rattle.std.proofs.lemmas.Int.{ints}
 use Rattle.std.proofs.lemmas.List.Folds.{list_any-append}
 use Rattle.std.specs.List.{All, list_any}
 use Rattle.design_model.specs.declared.point.Point.{Point}
 use Rattle.drawing_repairs.specs.Anchors.{anchored, anchors_after, anchors_of, distance_between, is_within_gap, nearest_after, nearest_anchor, point_or, with_anchor}
-use Rattle.drawing_repairs.proofs.MoveLemmas.{HoldsOfChoice, far_apart, nearest_holds, same_place}
+use Rattle.drawing_repairs.proofs.MoveLemmas.{HoldsOfChoice, far_apart, nearest_holds}
 
 or_alone : (b : Bool) → b ≡ true → (b || false) ≡ true
 or_alone true is = refl
@@ -24,9 +25,7 @@ any_stays test gap anchors (p ∷ rest) any =
     any_stays test gap (with_anchor gap anchors p) rest (any_if test anchors p (list_any (is_within_gap gap p) anchors) any)
 
 itself_within : (gap : ℕ) (p : Point) (b : Bool) → nat_le (distance_between p p) gap ≡ b → b ≡ true
-itself_within gap p true is = refl
-itself_within gap p false is =
-    let far = leb-false (distance_between p p) gap is in let near = same_place p gap in absurd (omega (arith, far, near))
+itself_within gap p b h1 = grind (arith, nat_tests)
 
 any_then : (gap : ℕ) (anchors : List Point) (p : Point) (b : Bool) → list_any (is_within_gap gap p) anchors ≡ b
     → list_any (is_within_gap gap p) (if b then anchors else anchors ++ p ∷ []) ≡ true
@@ -93,12 +92,7 @@ abbrev pub IsOnlyNear : ℕ → Point → Point → Type 0
 IsOnlyNear gap p a = distance_between p a ≤ gap → a ≡ p
 
 by_order : (R : Type 0) (i j : ℕ) → (i < j → R) → (j < i → R) → (i ≡ j → R) → R
-by_order R zero zero before after same = same refl
-by_order R zero (suc j) before after same = before (omega arith)
-by_order R (suc i) zero before after same = after (omega arith)
-by_order R (suc i) (suc j) before after same =
-    by_order R i j (λ less. before (omega (arith, less))) (λ less. after (omega (arith, less)))
-    (λ is. same (ap (λ (n : ℕ). suc n) is))
+by_order R i j h1 h2 h3 = grind (arith, nat_tests)
 
 one_default : (xs : List Point) (i : ℕ) (d e : Point) → i < length xs → get_or xs i d ≡ get_or xs i e
 one_default [] i d e low = absurd (omega (arith, low))

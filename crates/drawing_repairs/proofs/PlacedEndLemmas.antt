@@ -1,6 +1,6 @@
 -- A point that a block lists moves to a point that the block of the snapped lines lists, and starts and ends move once.
 use Rattle.std.proofs.Common.{◌≡◌, ℕ, zero, suc, ◌==◌, Bool, true, false, ◌||◌, List, [], ◌∷◌, ◌++◌, map, filter, Option, Some, None, Ok, if◌then◌else◌, refl, ap, sym, subst, ◌∙◌, arith}
-use Rattle.std.proofs.lemmas.Bool.Decides.{Decides-eqb}
+use Rattle.std.proofs.lemmas.Bool.Decides.{Decides-eqb, nat_tests}
 use Rattle.std.proofs.lemmas.List.Folds.{list_any-append}
 use Rattle.std.specs.List.{All, flat_map, list_any}
 use Rattle.design_model.specs.declared.point.Point.{Point}
@@ -18,23 +18,16 @@ use Rattle.drawing_repairs.proofs.ListedOnceLemmas.{joined_again}
 use Rattle.drawing_repairs.proofs.SnappedLinesLemmas.{snapped_points_stay, one_holds, taken}
 use Rattle.design_model.proofs.CallerLemmas.{point_itself, same_is}
 use Rattle.lists_and_numbers.proofs.CallerLemmas.{either_way}
-use Rattle.std.proofs.lemmas.Bool.{or_right}
 
 merged : (a b c : Bool) → b ≡ a → (a || (b || c)) ≡ true → (a || c) ≡ true
-merged true b c is any = refl
-merged false true c is any = cc
-merged false false c is any = any
+merged a b c h1 h2 = grind (arith, nat_tests)
 
 kept_one : (x p q : Point) (rest : List Point) (b : Bool) → is_same_point p q ≡ b
     → list_any (is_same_point x) (p ∷ q ∷ rest) ≡ true
     → (list_any (is_same_point x) (p ∷ rest) ≡ true → list_any (is_same_point x) (p ∷ unrepeated_after p rest) ≡ true)
     → (list_any (is_same_point x) (q ∷ rest) ≡ true → list_any (is_same_point x) (q ∷ unrepeated_after q rest) ≡ true)
     → list_any (is_same_point x) (p ∷ (if b then unrepeated_after p rest else q ∷ unrepeated_after q rest)) ≡ true
-kept_one x p q rest true same any here later =
-    here (merged (is_same_point x p) (is_same_point x q) (list_any (is_same_point x) rest)
-    (ap (λ (y : Point). is_same_point x y) (sym (same_is p q same))) any)
-kept_one x p q rest false same any here later =
-    either_way (is_same_point x p) _ (is_same_point x p) _ (λ is. is) later any
+kept_one x p q rest b h1 h2 h3 h4 = grind (arith, nat_tests)
 
 -- a point that is listed is listed without repetitions
 kept_after : (x p : Point) (rest : List Point) → list_any (is_same_point x) (p ∷ rest) ≡ true
@@ -64,9 +57,7 @@ moved_any gap anchors p points any =
     kept_whole (anchored gap anchors p) (map (anchored gap anchors) points) (mapped (anchored gap anchors) p points any)
 
 one_in : (passed at end rest : Bool) → (passed || (at || rest)) ≡ true → (passed || (at || (end || rest))) ≡ true
-one_in true at end rest any = refl
-one_in false true end rest any = refl
-one_in false false end rest any = or_right end rest any
+one_in passed at end rest h1 = grind (arith, nat_tests)
 
 by_any : (test : Point → Bool) (f : FollowedLine) (b : Point) (rest : List Point) (due : Option Point)
     → list_any test (f.passed ++ f.at ∷ b ∷ rest) ≡ true → list_any test (followed_points (followed_by f b rest due)) ≡ true

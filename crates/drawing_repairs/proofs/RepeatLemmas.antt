@@ -1,9 +1,8 @@
 -- No point of a line repeats the one before: after it was moved, and after ends were put into it.
-use Rattle.std.proofs.Common.{◌≡◌, ◌≢◌, ℕ, ℤ, zero, suc, Bool, true, false, ◌&&◌, ◌||◌, List, [], ◌∷◌, ◌++◌, map, Option, Some, None, if◌then◌else◌, refl, ap, sym, subst, ◌∙◌}
-use Rattle.std.proofs.lemmas.Cmp.{int_eq_equiv}
+use Rattle.std.proofs.lemmas.Bool.Decides.{nat_tests}
+use Rattle.std.proofs.Common.{◌≡◌, ◌≢◌, ℕ, ℤ, zero, suc, Bool, true, false, ◌&&◌, ◌||◌, List, [], ◌∷◌, ◌++◌, map, Option, Some, None, if◌then◌else◌, refl, ap, sym, subst, ◌∙◌, arith}
 use Rattle.std.proofs.lemmas.List.Folds.{list_any-append}
 use Rattle.std.specs.List.{list_any}
-use Rattle.std.specs.Ordering.{int_eq}
 use Rattle.design_model.specs.declared.point.Point.{Point}
 use Rattle.design_model.specs.Points.{is_same_point}
 use Rattle.drawing_model.specs.GrowingDrawings.{has_repeated_point, repeats_after}
@@ -16,9 +15,7 @@ use Rattle.design_model.proofs.CallerLemmas.{same_is}
 use Rattle.std.proofs.lemmas.Bool.{or_from, or_parts}
 
 turned_same : (p q : Point) → is_same_point p q ≡ is_same_point q p
-turned_same p q =
-    ap (λ (x : Bool). x && int_eq p.y q.y) (int_eq_equiv.symm p.x q.x)
-    ∙ ap (λ (y : Bool). int_eq q.x p.x && y) (int_eq_equiv.symm p.y q.y)
+turned_same p q = grind (arith, nat_tests)
 
 differ : (p q : Point) (b : Bool) → is_same_point p q ≡ b → p ≢ q → b ≡ false
 differ p q true is other = absurd (other (same_is p q is))
@@ -62,9 +59,7 @@ none_moved gap anchors points = none_kept (map (anchored gap anchors) points)
 
 between : (at e b : Point) (rest : List Point) → repeats_after at (b ∷ rest) ≡ false → is_same_point at e ≡ false
     → is_same_point e b ≡ false → repeats_after at (e ∷ b ∷ rest) ≡ false
-between at e b rest none before after =
-    or_from (is_same_point at e) _ before
-    (or_from (is_same_point e b) _ after (or_parts (is_same_point at b) _ none).1)
+between at e b rest h1 h2 h3 = grind (arith, nat_tests)
 
 between_after : (a : Point) (more : List Point) (at e b : Point) (rest : List Point)
     → repeats_after a (more ++ at ∷ b ∷ rest) ≡ false → is_same_point at e ≡ false → is_same_point e b ≡ false

@@ -190,15 +190,7 @@ snap_by : (gap : ℕ) (d : DrawingValue) (starts ends : List Spot) (moved : List
     → kept_lines gap d.lines ≡ Ok moved → drawn_lines (record d { lines = listed_lines gap moved }) ≡ Ok drawn
     → joined_snap drawn (anchored_spots gap d.lines starts) (anchored_spots gap d.lines ends) ≡ Ok joined
     → snap_of gap d starts ends ≡ Ok (snap_value gap d.lines moved drawn joined)
-snap_by gap d starts ends moved drawn joined kept made joins =
-    ap (λ (r : Result (List LineValue) SnapFault). and_then r (λ (m : List LineValue).
-    and_then (within_limits (drawn_lines (record d { lines = listed_lines gap m }))) (λ (e : DrawingValue).
-    and_then (joined_snap e (anchored_spots gap d.lines starts) (anchored_spots gap d.lines ends)) (λ (j : DrawingValue).
-    Ok (snap_value gap d.lines m e j))))) kept
-    ∙ (ap (λ (r : Result DrawingValue DrawKind). and_then (within_limits r) (λ (e : DrawingValue).
-    and_then (joined_snap e (anchored_spots gap d.lines starts) (anchored_spots gap d.lines ends)) (λ (j : DrawingValue).
-    Ok (snap_value gap d.lines moved e j)))) made
-    ∙ ap (λ (r : Result DrawingValue SnapFault). and_then r (λ (j : DrawingValue). Ok (snap_value gap d.lines moved drawn j))) joins)
+snap_by gap d starts ends moved drawn joined h1 h2 h3 = cc
 
 -- the second snap of lines that were drawn in the order of their blocks
 second_snap : LinesInOrderAreDrawn → (gap : ℕ) (d : DrawingValue) (starts ends : List Spot) (moved : List LineValue)

@@ -1,5 +1,6 @@
 -- No end is due in a segment that was passed, nor after further ends are listed.
-use Rattle.std.proofs.Common.{◌≡◌, ℕ, zero, suc, Bool, true, false, not, ◌&&◌, ◌||◌, List, [], ◌∷◌, ◌++◌, Option, Some, None, if◌then◌else◌, refl, ap, sym, subst, ◌∙◌}
+use Rattle.std.proofs.lemmas.Bool.Decides.{nat_tests}
+use Rattle.std.proofs.Common.{◌≡◌, ℕ, zero, suc, Bool, true, false, not, ◌&&◌, ◌||◌, List, [], ◌∷◌, ◌++◌, Option, Some, None, if◌then◌else◌, refl, ap, sym, subst, ◌∙◌, arith}
 use Rattle.std.proofs.lemmas.List.Folds.{list_any-append}
 use Rattle.std.specs.List.{list_any}
 use Rattle.design_model.specs.declared.point.Point.{Point}
@@ -11,9 +12,7 @@ use Rattle.drawing_repairs.specs.Listings.{FollowedLine, due_end, followed_by, f
 use Rattle.drawing_repairs.specs.SnapLaws.{IsSettledTo}
 
 not_due : (near has more : Bool) → (near && not has) ≡ false → (near && not (has || more)) ≡ false
-not_due false has more is = refl
-not_due true true more is = refl
-not_due true false more is = cc
+not_due near has more h1 = grind (arith, nat_tests)
 
 none_by : (gap : ℕ) (s : LineSegment) (e x : Point) (listed rest : List Point) (later : Option Point) (due : Bool)
     → is_due gap listed s x ≡ due → (if due then Some x else later) ≡ None

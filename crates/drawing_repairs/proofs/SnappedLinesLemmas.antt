@@ -1,5 +1,5 @@
 -- Snapped lines stay as they are when they are snapped again.
-use Rattle.std.proofs.Common.{◌≡◌, ℕ, zero, suc, ◌+◌, ◌≤◌, ◌==◌, Bool, true, false, not, ◌||◌, nat_lt, List, [], ◌∷◌, ◌++◌, length, get_or, map, filter, Option, Some, None, Result, Ok, Err, if◌then◌else◌, refl, ap, sym, subst, ◌∙◌, arith}
+use Rattle.std.proofs.Common.{◌≡◌, ℕ, zero, suc, ◌+◌, ◌≤◌, ◌==◌, Bool, true, false, not, ◌||◌, nat_lt, List, [], ◌∷◌, ◌++◌, length, get_or, map, filter, Option, Some, None, Ok, if◌then◌else◌, refl, ap, sym, subst, ◌∙◌, arith}
 use Rattle.std.proofs.lemmas.Bool.Decides.{Decides-eqb, nat_tests}
 use Rattle.std.proofs.lemmas.List.{length-append}
 use Rattle.std.proofs.lemmas.List.Folds.{list_all-append, list_any_at}
@@ -10,7 +10,6 @@ use Rattle.line_sections.specs.Lines.{LineValue}
 use Rattle.line_sections.specs.Sections.{listed_in}
 use Rattle.drawing_model.specs.Drawings.{HasNoRepeat}
 use Rattle.drawing_model.specs.GrowingDrawings.{and_then, has_repeated_point}
-use Rattle.drawing_repairs.specs.declared.snap_fault.SnapFault.{SnapFault}
 use Rattle.drawing_repairs.specs.declared.snap_fault.SnapFault.TheVariants as fault
 use Rattle.drawing_repairs.specs.declared.vanished.VanishedLine.{VanishedLine}
 use Rattle.drawing_repairs.specs.Anchors.{anchored, anchors_of}
@@ -196,11 +195,7 @@ listed_longer gap ends (p ∷ rest) = for_longer (steps_to_follow ends rest) gap
 
 kept_if : (n : ℕ) (line : VanishedLine) (later : Option VanishedLine) (b : Bool) → nat_lt n 2 ≡ b
     → (if b then Some line else later) ≡ None → (nat_lt n 2 ≡ false) × (later ≡ None)
-kept_if n line later true is none = absurd (never line none)
-  where
-    never : (line : VanishedLine) → Some line ≡ None → ⊥
-    never line is = cc
-kept_if n line later false is none = (is, none)
+kept_if n line later b h1 h2 = grind (arith, nat_tests)
 
 longer : (n m : ℕ) → n ≤ m → nat_lt n 2 ≡ false → nat_lt m 2 ≡ false
 longer n m more is = grind (arith, nat_tests)
@@ -221,15 +216,7 @@ still_kept gap all (line ∷ rest) index none =
 pub taken : (gap : ℕ) (vanished : Option VanishedLine) (moved snapped : List LineValue)
     → and_then (unless_vanished vanished moved) (λ kept. Ok (listed_lines gap kept)) ≡ Ok snapped
     → (vanished ≡ None) × (listed_lines gap moved ≡ snapped)
-taken gap None moved snapped is = (refl, same_lines (listed_lines gap moved) snapped is)
-  where
-    same_lines : (some other : List LineValue) → ◌≡◌ {A = Result (List LineValue) SnapFault} (Ok some) (Ok other) → some ≡ other
-    same_lines some other is = cc
-taken gap (Some line) moved snapped is = absurd (never line snapped is)
-  where
-    never : (line : VanishedLine) (snapped : List LineValue)
-        → ◌≡◌ {A = Result (List LineValue) SnapFault} (Err (fault.Vanished line)) (Ok snapped) → ⊥
-    never line snapped is = cc
+taken gap vanished moved snapped h1 = grind (arith, nat_tests)
 
 snapped_again : (gap : ℕ) (lines : List LineValue) → vanished_from 0 (moved_lines gap lines) ≡ None
     → snapped_lines gap (snap_lines gap lines) ≡ Ok (snap_lines gap lines)
