@@ -15,6 +15,18 @@ abbrev one_unless : Bool → ℕ
 one_unless true = 0
 one_unless false = 1
 
+-- What passes from a line to the line after one step, and holds of a line, holds of that line after any number of steps.
+module _ (gap : ℕ) (ends : List Point) (P : FollowedLine → Type 0)
+    (passes : (f : FollowedLine) (b : Point) (rest : List Point) (due : Option Point)
+    → due_end gap f.listed (segment_between f.at b) ends ≡ due → f.left ≡ b ∷ rest → P f → P (followed_by f b rest due)) where
+  after_step : (f : FollowedLine) (left : List Point) → f.left ≡ left → P f → P (followed_on gap ends f left)
+  after_step f [] is has = has
+  after_step f (b ∷ rest) is has = passes f b rest (due_end gap f.listed (segment_between f.at b) ends) refl is has
+
+  pub after_steps : (n : ℕ) (f : FollowedLine) → P f → P (followed_for n gap ends f)
+  after_steps zero f has = has
+  after_steps (suc n) f has = after_steps n (followed_on gap ends f f.left) (after_step f f.left refl has)
+
 -- the number of ends that a line doesn't list
 abbrev unlisted : List Point → List Point → ℕ
 unlisted listed [] = 0

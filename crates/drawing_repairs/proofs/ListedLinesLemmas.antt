@@ -8,6 +8,7 @@ use Rattle.drawing_model.specs.Drawings.{endpoints}
 use Rattle.step_splitter.specs.Chains.{last_point_or}
 use Rattle.drawing_repairs.specs.Listings.{FollowedLine, block_ends, due_end, followed_by, followed_for, followed_on, followed_points, listed_line, listed_lines, segment_between, steps_to_follow, unfollowed_line, with_due_ends}
 use Rattle.drawing_repairs.proofs.ListedOnceLemmas.{joined_again, listed_once}
+use Rattle.drawing_repairs.proofs.FollowLemmas.{after_steps}
 
 last_stays : (a : Point) (more : List Point) (at e b : Point) (rest : List Point)
     → last_point_or a (more ++ at ∷ e ∷ b ∷ rest) ≡ last_point_or a (more ++ at ∷ b ∷ rest)
@@ -24,22 +25,13 @@ by_ends : (f : FollowedLine) (b : Point) (rest : List Point) (due : Option Point
 by_ends f b rest None = ap (λ (points : List Point). endpoints points) (joined_again f.passed f.at (b ∷ rest))
 by_ends f b rest (Some e) = ends_stay f.passed f.at e b rest
 
-on_ends : (gap : ℕ) (ends : List Point) (f : FollowedLine) (left : List Point) → f.left ≡ left
-    → endpoints (followed_points (followed_on gap ends f left)) ≡ endpoints (followed_points f)
-on_ends gap ends f [] is = refl
-on_ends gap ends f (b ∷ rest) is =
-    by_ends f b rest (due_end gap f.listed (segment_between f.at b) ends)
-    ∙ ap (λ (left : List Point). endpoints (f.passed ++ f.at ∷ left)) (sym is)
-
-for_ends : (n gap : ℕ) (ends : List Point) (f : FollowedLine)
-    → endpoints (followed_points (followed_for n gap ends f)) ≡ endpoints (followed_points f)
-for_ends zero gap ends f = refl
-for_ends (suc n) gap ends f = for_ends n gap ends (followed_on gap ends f f.left) ∙ on_ends gap ends f f.left refl
-
 -- a line has the ends that it had
 same_ends : (gap : ℕ) (ends points : List Point) → endpoints (with_due_ends gap ends points) ≡ endpoints points
 same_ends gap ends [] = refl
-same_ends gap ends (p ∷ rest) = for_ends (steps_to_follow ends rest) gap ends (unfollowed_line p rest)
+same_ends gap ends (p ∷ rest) = after_steps gap ends (λ f. endpoints (followed_points f) ≡ endpoints (p ∷ rest))
+    (λ f b more due is left same.
+    by_ends f b more due ∙ ap (λ (ls : List Point). endpoints (f.passed ++ f.at ∷ ls)) (sym left) ∙ same)
+    (steps_to_follow ends rest) (unfollowed_line p rest) refl
 
 abbrev ends_of : List LineValue → List Point
 ends_of lines = flat_map (λ line. endpoints line.points) lines

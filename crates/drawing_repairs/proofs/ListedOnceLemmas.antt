@@ -7,7 +7,7 @@ use Rattle.design_model.specs.declared.point.Point.{Point}
 use Rattle.drawing_review.specs.declared.segment.LineSegment.{LineSegment}
 use Rattle.drawing_repairs.specs.Listings.{FollowedLine, due_end, due_ends, followed_by, followed_for, followed_line, followed_on, followed_points, segment_between, steps_to_follow, unfollowed_line, with_due_ends}
 use Rattle.drawing_repairs.specs.SnapLaws.{IsSettledTo}
-use Rattle.drawing_repairs.proofs.FollowLemmas.{followed_to_end}
+use Rattle.drawing_repairs.proofs.FollowLemmas.{after_steps, followed_to_end}
 use Rattle.drawing_repairs.proofs.SettledLemmas.{none_due}
 
 -- two lists have the same points
@@ -32,18 +32,15 @@ by_same f b rest (Some e) same test =
     ∙ one_later (list_any test f.passed) (test f.at) (test e) (list_any test (b ∷ rest))
     ∙ sym (list_any-append test f.passed (f.at ∷ e ∷ b ∷ rest))
 
-pub on_same : (gap : ℕ) (ends : List Point) (f : FollowedLine) (left : List Point) → f.left ≡ left
-    → HaveSamePoints f.listed (followed_points f)
-    → let g = followed_on gap ends f left in HaveSamePoints g.listed (followed_points g)
-on_same gap ends f [] is same = same
-on_same gap ends f (b ∷ rest) is same =
-    by_same f b rest (due_end gap f.listed (segment_between f.at b) ends)
-    (subst (λ (left : List Point). HaveSamePoints f.listed (f.passed ++ f.at ∷ left)) is same)
+pub same_after : (f : FollowedLine) (b : Point) (rest : List Point) (due : Option Point) → f.left ≡ b ∷ rest
+    → HaveSamePoints f.listed (followed_points f) → let g = followed_by f b rest due in HaveSamePoints g.listed (followed_points g)
+same_after f b rest due is same =
+    by_same f b rest due (subst (λ (left : List Point). HaveSamePoints f.listed (f.passed ++ f.at ∷ left)) is same)
 
 for_same : (n gap : ℕ) (ends : List Point) (f : FollowedLine) → HaveSamePoints f.listed (followed_points f)
     → let g = followed_for n gap ends f in HaveSamePoints g.listed (followed_points g)
-for_same zero gap ends f same = same
-for_same (suc n) gap ends f same = for_same n gap ends (followed_on gap ends f f.left) (on_same gap ends f f.left refl same)
+for_same n gap ends = after_steps gap ends (λ f. HaveSamePoints f.listed (followed_points f))
+    (λ f b rest due is left same. same_after f b rest due left same) n
 
 -- the same ends are due where a line lists the same points
 due_same : (gap : ℕ) (s : LineSegment) (xs ys ends : List Point) → HaveSamePoints xs ys

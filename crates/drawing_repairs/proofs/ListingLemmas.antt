@@ -1,5 +1,5 @@
 -- What holds of the points of a line and of all ends holds of the points of the line with the ends that are due in it.
-use Rattle.std.proofs.Common.{◌≡◌, ℕ, zero, suc, Bool, true, false, ◌&&◌, List, [], ◌∷◌, Option, Some, None, if◌then◌else◌, refl, ◌∙◌}
+use Rattle.std.proofs.Common.{◌≡◌, ℕ, zero, suc, Bool, true, false, ◌&&◌, List, [], ◌∷◌, Option, Some, None, if◌then◌else◌, refl, ap, sym, subst, ◌∙◌}
 use Rattle.std.proofs.lemmas.List.Folds.{list_all-append}
 use Rattle.std.specs.List.{list_all}
 use Rattle.design_model.specs.declared.point.Point.{Point}
@@ -7,6 +7,7 @@ use Rattle.drawing_review.specs.declared.segment.LineSegment.{LineSegment}
 use Rattle.drawing_repairs.specs.Listings.{FollowedLine, due_end, followed_by, followed_for, followed_on, followed_points, is_due, segment_between, steps_to_follow, unfollowed_line, with_due_ends}
 use Rattle.lists_and_numbers.proofs.CallerLemmas.{first_true, second_true}
 use Rattle.std.proofs.lemmas.Bool.{and_from}
+use Rattle.drawing_repairs.proofs.FollowLemmas.{after_steps}
 
 -- the test holds of all parts of a line that is followed
 record Passes (test : Point → Bool) (f : FollowedLine) : Type 0 where
@@ -44,19 +45,6 @@ by_passes test f b rest (Some e) all next more end = record {
   left = and_from (test e) _ end (and_from (test b) _ next more);
 }
 
-on_passes : (test : Point → Bool) (gap : ℕ) (ends : List Point) (f : FollowedLine) (left : List Point)
-    → list_all test ends ≡ true → Passes test f → list_all test left ≡ true → Passes test (followed_on gap ends f left)
-on_passes test gap ends f [] of_ends all more = all
-on_passes test gap ends f (b ∷ rest) of_ends all more =
-    by_passes test f b rest (due_end gap f.listed (segment_between f.at b) ends) all (first_true _ _ more)
-    (second_true (test b) _ more) (due_passes test gap f.listed (segment_between f.at b) ends of_ends)
-
-for_passes : (test : Point → Bool) (n gap : ℕ) (ends : List Point) (f : FollowedLine) → list_all test ends ≡ true
-    → Passes test f → Passes test (followed_for n gap ends f)
-for_passes test zero gap ends f of_ends all = all
-for_passes test (suc n) gap ends f of_ends all =
-    for_passes test n gap ends (followed_on gap ends f f.left) of_ends (on_passes test gap ends f f.left of_ends all all.left)
-
 points_pass : (test : Point → Bool) (f : FollowedLine) → Passes test f → list_all test (followed_points f) ≡ true
 points_pass test f all = list_all-append test f.passed (f.at ∷ f.left) ∙ and_from _ _ all.passed (and_from _ _ all.at all.left)
 
@@ -66,7 +54,11 @@ pub ends_alone : (test : Point → Bool) (gap : ℕ) (ends points : List Point) 
 ends_alone test gap ends [] all of_ends = refl
 ends_alone test gap ends (p ∷ rest) all of_ends =
     points_pass test (followed_for (steps_to_follow ends rest) gap ends (unfollowed_line p rest))
-    (for_passes test (steps_to_follow ends rest) gap ends (unfollowed_line p rest) of_ends (record {
+    (after_steps gap ends (Passes test) (λ f b more due is left passes.
+    let next : list_all test (b ∷ more) ≡ true = ap (λ (ps : List Point). list_all test ps) (sym left) ∙ passes.left in
+    by_passes test f b more due passes (first_true _ _ next) (second_true (test b) _ next)
+    (subst (PassesIfAny test) is (due_passes test gap f.listed (segment_between f.at b) ends of_ends)))
+    (steps_to_follow ends rest) (unfollowed_line p rest) (record {
       passed = refl;
       at = first_true _ _ all;
       left = second_true (test p) _ all;

@@ -10,9 +10,10 @@ use Rattle.drawing_repairs.specs.Anchors.{anchored}
 use Rattle.drawing_repairs.specs.Listings.{FollowedLine, due_end, followed_by, followed_for, followed_on, followed_points, segment_between, steps_to_follow, unfollowed_line, with_due_ends}
 use Rattle.drawing_repairs.specs.MovedLines.{moved_points, unrepeated, unrepeated_after}
 use Rattle.drawing_repairs.proofs.DueLemmas.{due_is}
-use Rattle.drawing_repairs.proofs.ListedOnceLemmas.{HaveSamePoints, joined_again, on_same}
+use Rattle.drawing_repairs.proofs.ListedOnceLemmas.{HaveSamePoints, joined_again, same_after}
 use Rattle.design_model.proofs.CallerLemmas.{same_is}
 use Rattle.std.proofs.lemmas.Bool.{or_from, or_parts}
+use Rattle.drawing_repairs.proofs.FollowLemmas.{after_steps}
 
 turned_same : (p q : Point) → is_same_point p q ≡ is_same_point q p
 turned_same p q = grind (arith, nat_tests)
@@ -97,26 +98,15 @@ by_none gap ends f b rest (Some e) is same none =
     let other = unlisted_between f.passed f.at e b rest (sym (same (is_same_point e)) ∙ new.1) in
     none_between f.passed f.at e b rest none other.0 other.1
 
-on_none : (gap : ℕ) (ends : List Point) (f : FollowedLine) (left : List Point) → f.left ≡ left
-    → HaveSamePoints f.listed (followed_points f) → has_repeated_point (followed_points f) ≡ false
-    → has_repeated_point (followed_points (followed_on gap ends f left)) ≡ false
-on_none gap ends f [] is same none = none
-on_none gap ends f (b ∷ rest) is same none =
-    by_none gap ends f b rest (due_end gap f.listed (segment_between f.at b) ends) refl
-    (subst (λ (left : List Point). HaveSamePoints f.listed (f.passed ++ f.at ∷ left)) is same)
-    (subst (λ (left : List Point). has_repeated_point (f.passed ++ f.at ∷ left) ≡ false) is none)
-
-for_none : (n gap : ℕ) (ends : List Point) (f : FollowedLine) → HaveSamePoints f.listed (followed_points f)
-    → has_repeated_point (followed_points f) ≡ false
-    → has_repeated_point (followed_points (followed_for n gap ends f)) ≡ false
-for_none zero gap ends f same none = none
-for_none (suc n) gap ends f same none =
-    for_none n gap ends (followed_on gap ends f f.left) (on_same gap ends f f.left refl same)
-    (on_none gap ends f f.left refl same none)
-
 -- no point repeats the one before after ends were put into a line
 pub none_listed : (gap : ℕ) (ends points : List Point) → has_repeated_point points ≡ false
     → has_repeated_point (with_due_ends gap ends points) ≡ false
 none_listed gap ends [] none = refl
 none_listed gap ends (p ∷ rest) none =
-    for_none (steps_to_follow ends rest) gap ends (unfollowed_line p rest) (λ test. refl) none
+    (after_steps gap ends
+    (λ f. HaveSamePoints f.listed (followed_points f) × (has_repeated_point (followed_points f) ≡ false))
+    (λ f b more due is left has. (
+      same_after f b more due left has.0,
+      by_none gap ends f b more due is (subst (λ (ls : List Point). HaveSamePoints f.listed (f.passed ++ f.at ∷ ls)) left has.0)
+          (subst (λ (ls : List Point). has_repeated_point (f.passed ++ f.at ∷ ls) ≡ false) left has.1),
+    )) (steps_to_follow ends rest) (unfollowed_line p rest) ((λ test. refl), none)).1

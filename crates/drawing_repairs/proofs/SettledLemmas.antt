@@ -10,6 +10,7 @@ use Rattle.drawing_review.specs.Frames.{grid_point}
 use Rattle.drawing_review.specs.Meetings.{is_near}
 use Rattle.drawing_repairs.specs.Listings.{FollowedLine, due_end, followed_by, followed_for, followed_line, followed_on, is_due, segment_between, steps_to_follow, unfollowed_line}
 use Rattle.drawing_repairs.specs.SnapLaws.{IsSettledTo}
+use Rattle.drawing_repairs.proofs.FollowLemmas.{after_steps}
 
 not_due : (near has more : Bool) → (near && not has) ≡ false → (near && not (has || more)) ≡ false
 not_due near has more h1 = grind (arith, nat_tests)
@@ -52,18 +53,8 @@ by_settled : (gap : ℕ) (ends : List Point) (f : FollowedLine) (b : Point) (res
 by_settled gap ends f b rest None is settled = one_more gap ends f.listed f.passed f.at b settled is
 by_settled gap ends f b rest (Some e) is settled = still_settled gap ends e f.listed f.passed f.at settled
 
-on_settled : (gap : ℕ) (ends : List Point) (f : FollowedLine) (left : List Point) → IsSettledTo gap ends f.listed f.passed f.at
-    → let g = followed_on gap ends f left in IsSettledTo gap ends g.listed g.passed g.at
-on_settled gap ends f [] settled = settled
-on_settled gap ends f (b ∷ rest) settled =
-    by_settled gap ends f b rest (due_end gap f.listed (segment_between f.at b) ends) refl settled
-
-for_settled : (n gap : ℕ) (ends : List Point) (f : FollowedLine) → IsSettledTo gap ends f.listed f.passed f.at
-    → let g = followed_for n gap ends f in IsSettledTo gap ends g.listed g.passed g.at
-for_settled zero gap ends f settled = settled
-for_settled (suc n) gap ends f settled = for_settled n gap ends (followed_on gap ends f f.left) (on_settled gap ends f f.left settled)
-
 -- No end is due in a line that was followed.
 pub none_due : (gap : ℕ) (ends : List Point) (p : Point) (rest : List Point)
     → let f = followed_line gap ends p rest in IsSettledTo gap ends f.listed f.passed f.at
-none_due gap ends p rest = for_settled (steps_to_follow ends rest) gap ends (unfollowed_line p rest) tt
+none_due gap ends p rest = after_steps gap ends (λ f. IsSettledTo gap ends f.listed f.passed f.at)
+    (λ f b more due is left settled. by_settled gap ends f b more due is settled) (steps_to_follow ends rest) (unfollowed_line p rest) tt

@@ -26,6 +26,7 @@ use Rattle.drawing_repairs.proofs.SpreadLemmas.{only_stays}
 use Rattle.design_model.proofs.CallerLemmas.{point_itself, same_is}
 use Rattle.drawing_model.proofs.CallerLemmas.{none_repeats}
 use Rattle.lists_and_numbers.proofs.CallerLemmas.{first_true, second_true}
+use Rattle.drawing_repairs.proofs.FollowLemmas.{after_steps}
 
 -- the test whether a point is one of some
 abbrev is_one_of : List Point → Point → Bool
@@ -176,22 +177,12 @@ by_longer f b rest None = omega (arith, ap (λ (points : List Point). length poi
 by_longer f b rest (Some e) =
     omega (arith, length-append f.passed (f.at ∷ b ∷ rest), length-append f.passed (f.at ∷ e ∷ b ∷ rest))
 
-on_longer : (gap : ℕ) (ends : List Point) (f : FollowedLine) (left : List Point) → f.left ≡ left
-    → length (followed_points f) ≤ length (followed_points (followed_on gap ends f left))
-on_longer gap ends f [] is = omega arith
-on_longer gap ends f (b ∷ rest) is =
-    subst (λ (left : List Point). length (f.passed ++ f.at ∷ left) ≤ length (followed_points (followed_on gap ends f (b ∷ rest))))
-    (sym is) (by_longer f b rest (due_end gap f.listed (segment_between f.at b) ends))
-
-for_longer : (n gap : ℕ) (ends : List Point) (f : FollowedLine)
-    → length (followed_points f) ≤ length (followed_points (followed_for n gap ends f))
-for_longer zero gap ends f = omega arith
-for_longer (suc n) gap ends f =
-    omega (arith, on_longer gap ends f f.left refl, for_longer n gap ends (followed_on gap ends f f.left))
-
 listed_longer : (gap : ℕ) (ends points : List Point) → length points ≤ length (with_due_ends gap ends points)
 listed_longer gap ends [] = omega arith
-listed_longer gap ends (p ∷ rest) = for_longer (steps_to_follow ends rest) gap ends (unfollowed_line p rest)
+listed_longer gap ends (p ∷ rest) = after_steps gap ends (λ f. length (p ∷ rest) ≤ length (followed_points f))
+    (λ f b more due is left longer.
+    let same = ap (λ (ls : List Point). length (f.passed ++ f.at ∷ ls)) left in omega (arith, longer, by_longer f b more due, same))
+    (steps_to_follow ends rest) (unfollowed_line p rest) (omega arith)
 
 kept_if : (n : ℕ) (line : VanishedLine) (later : Option VanishedLine) (b : Bool) → nat_lt n 2 ≡ b
     → (if b then Some line else later) ≡ None → (nat_lt n 2 ≡ false) × (later ≡ None)
