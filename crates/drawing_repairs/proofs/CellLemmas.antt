@@ -1,6 +1,6 @@
 -- The points of a cell have all those that are within the gap of a point in it: the nearest of all is the nearest of these.
 use Rattle.std.proofs.lemmas.Bool.Decides.{nat_tests}
-use Rattle.std.proofs.Common.{◌≡◌, ℕ, ℤ, ◌+◌, ◌-◌, ◌*◌, ◌/◌, ◌-ℤ◌, ◌<◌, ◌≤◌, ◌==◌, unsigned_abs, Bool, ◌&&◌, ◌||◌, true, false, List, [], ◌∷◌, ◌++◌, Option, None, filter, if◌then◌else◌, refl, ap, ◌∙◌, arith}
+use Rattle.std.proofs.Common.{◌≡◌, ℕ, ℤ, ◌+◌, ◌-◌, ◌*◌, ◌/◌, ◌-ℤ◌, ◌<◌, ◌≤◌, ◌==◌, unsigned_abs, Bool, ◌&&◌, ◌||◌, true, List, [], ◌∷◌, ◌++◌, Option, None, filter, if◌then◌else◌, refl, ap, ◌∙◌, arith}
 use Rattle.std.proofs.lemmas.Bool.{leb-true, and_from}
 use Rattle.std.proofs.lemmas.Int.{ints}
 use Rattle.std.proofs.lemmas.Nat.{div-add-mod', div_below, le-div, mod_below}
@@ -68,11 +68,6 @@ any_kept : (test keeps : Point → Bool) (xs : List Point) → ((x : Point) → 
 any_kept test keeps [] within = refl
 any_kept test keeps (x ∷ xs) within =
     any_one (test x) (keeps x) (list_any test xs) x (filter keeps xs) test refl (within x) (any_kept test keeps xs within)
-
--- a point that isn't within the gap changes no choice
-no_change : (gap : ℕ) (p a : Point) (best : Option Point) (b : Bool) → is_within_gap gap p a ≡ b → b ≡ false → IsNearChoice gap p best
-    → nearer_anchor gap p best a ≡ best
-no_change gap p a best b h1 h2 h3 = grind (arith, nat_tests)
 
 nearest_one : (gap : ℕ) (p a : Point) (best : Option Point) (xs kept : List Point) (one keeps : Bool) → is_within_gap gap p a ≡ one
     → (one ≡ true → keeps ≡ true) → IsNearChoice gap p best

@@ -144,14 +144,6 @@ abbrev pub HoldsOfChoice : (Point → Type 0) → Option Point → Type 0
 HoldsOfChoice P None = Unit {0}
 HoldsOfChoice P (Some a) = P a
 
-choice_if : (P : Point → Type 0) (a : Point) (b : Bool) → P a → HoldsOfChoice P (if b then Some a else None)
-choice_if P a true is = is
-choice_if P a false is = tt
-
-either_if : (P : Point → Type 0) (a best : Point) (b : Bool) → P a → P best → P (if b then a else best)
-either_if P a best true is other = is
-either_if P a best false is other = other
-
 nearer_holds : (P : Point → Type 0) (gap : ℕ) (p a : Point) (best : Option Point) → HoldsOfChoice P best → P a
     → HoldsOfChoice P (nearer_anchor gap p best a)
 nearer_holds P gap p a best h1 h2 = grind (arith, nat_tests)

@@ -1,13 +1,13 @@
 -- No point of a line repeats the one before: after it was moved, and after ends were put into it.
 use Rattle.std.proofs.lemmas.Bool.Decides.{nat_tests}
-use Rattle.std.proofs.Common.{◌≡◌, ◌≢◌, ℕ, ℤ, zero, suc, Bool, true, false, ◌&&◌, ◌||◌, List, [], ◌∷◌, ◌++◌, map, Option, Some, None, if◌then◌else◌, refl, ap, sym, subst, ◌∙◌, arith}
+use Rattle.std.proofs.Common.{◌≡◌, ◌≢◌, ℕ, ℤ, Bool, true, false, ◌&&◌, ◌||◌, List, [], ◌∷◌, ◌++◌, map, Option, Some, None, if◌then◌else◌, refl, ap, sym, subst, ◌∙◌, arith}
 use Rattle.std.proofs.lemmas.List.Folds.{list_any-append}
 use Rattle.std.specs.List.{list_any}
 use Rattle.design_model.specs.declared.point.Point.{Point}
 use Rattle.design_model.specs.Points.{is_same_point}
 use Rattle.drawing_model.specs.GrowingDrawings.{has_repeated_point, repeats_after}
 use Rattle.drawing_repairs.specs.Anchors.{anchored}
-use Rattle.drawing_repairs.specs.Listings.{FollowedLine, due_end, followed_by, followed_for, followed_on, followed_points, segment_between, steps_to_follow, unfollowed_line, with_due_ends}
+use Rattle.drawing_repairs.specs.Listings.{FollowedLine, due_end, followed_by, followed_points, segment_between, steps_to_follow, unfollowed_line, with_due_ends}
 use Rattle.drawing_repairs.specs.MovedLines.{moved_points, unrepeated, unrepeated_after}
 use Rattle.drawing_repairs.proofs.DueLemmas.{due_is}
 use Rattle.drawing_repairs.proofs.ListedOnceLemmas.{HaveSamePoints, joined_again, same_after}

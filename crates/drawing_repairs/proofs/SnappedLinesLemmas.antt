@@ -13,7 +13,7 @@ use Rattle.drawing_model.specs.GrowingDrawings.{and_then, has_repeated_point}
 use Rattle.drawing_repairs.specs.declared.snap_fault.SnapFault.TheVariants as fault
 use Rattle.drawing_repairs.specs.declared.vanished.VanishedLine.{VanishedLine}
 use Rattle.drawing_repairs.specs.Anchors.{anchored, anchors_of}
-use Rattle.drawing_repairs.specs.Listings.{FollowedLine, added_ends, block_ends, due_end, due_ends, followed_by, followed_for, followed_on, followed_points, listed_line, listed_lines, segment_between, steps_to_follow, unfollowed_line, with_due_ends}
+use Rattle.drawing_repairs.specs.Listings.{FollowedLine, added_ends, block_ends, due_ends, followed_by, followed_points, listed_line, listed_lines, steps_to_follow, unfollowed_line, with_due_ends}
 use Rattle.drawing_repairs.specs.MovedLines.{block_anchors, changed_in, moved_line, moved_lines, moved_points, vanished_from}
 use Rattle.drawing_repairs.specs.Snaps.{snapped_lines, unless_vanished}
 use Rattle.drawing_repairs.proofs.BlockPointLemmas.{all_pass, block_ends_pass, each_passes, listed_block_passes, moved_block_passes}
