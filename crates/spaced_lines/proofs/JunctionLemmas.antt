@@ -1,6 +1,7 @@
 -- The spots at the ends of sections, in a set.
-use Rattle.std.proofs.Common.{◌≡◌, ◌∙◌, ℕ, ◌==◌, Bool, true, false, ◌&&◌, ◌||◌, cond, List, [], ◌∷◌, refl, ap, sym}
-use Rattle.std.proofs.Math.Path.{ap₂, fun_ext}
+use Rattle.std.proofs.lemmas.Bool.Decides.{nat_tests}
+use Rattle.std.proofs.Common.{◌≡◌, ◌∙◌, ℕ, ◌==◌, Bool, true, false, ◌&&◌, ◌||◌, cond, List, [], ◌∷◌, ap, sym, arith}
+use Rattle.std.proofs.Math.Path.{ap₂}
 use Rattle.std.proofs.lemmas.Cmp.{int_eq_equiv}
 use Rattle.std.specs.List.{list_any}
 use Rattle.design_model.specs.declared.point.Point.{Point}
@@ -11,7 +12,6 @@ use Rattle.line_sections.specs.declared.spot.Spot.{Spot}
 use Rattle.line_sections.specs.Lines.{LineValue}
 use Rattle.line_sections.specs.Spots.{is_same_spot}
 use Rattle.step_splitter.specs.Chains.{last_point_or}
-use Rattle.std.proofs.Math.Bool.{or-false}
 
 -- two points are the same either way
 pub point_either_way : (p q : Point) → is_same_point p q ≡ is_same_point q p
@@ -19,18 +19,11 @@ point_either_way p q = ap₂ (λ (a b : Bool). a && b) (int_eq_equiv.symm p.x q.
 
 -- what is found after two spots of a block were put in
 either_end : (a b c found : Bool) → cond (a && c) true (cond (a && b) true found) ≡ ((a && (b || (c || false))) || found)
-either_end true true true found = refl
-either_end true true false found = refl
-either_end true false true found = refl
-either_end true false false found = refl
-either_end false b c found = refl
+either_end a b c found = grind (arith, nat_tests)
 
 -- a spot that was found, or is an end of the next section or of a later one
 found_next : (found end later : Bool) → ((end || found) || later) ≡ (found || (end || later))
-found_next true true later = refl
-found_next true false later = refl
-found_next false true later = refl
-found_next false false later = refl
+found_next found end later = grind (arith, nat_tests)
 
 -- two spots of a block are put in
 both_put : (block : ℕ) (first last : Point) (old mid new : Spot → Bool)
@@ -57,8 +50,7 @@ ends_put section block first last after old mid new in_block points is_last one 
 -- spots that are found exactly where they are junctions
 pub all_junctions : (found : Spot → Bool) (sections left : List LineValue)
     → ((q : Spot) → (found q || is_junction left q) ≡ is_junction sections q) → left ≡ [] → found ≡ is_junction sections
-all_junctions found sections left are none = fun_ext (λ q. sym (or-false (found q))
-    ∙ (ap (λ (ls : List LineValue). found q || is_junction ls q) (sym none) ∙ are q))
+all_junctions found sections left h1 h2 = grind (arith, nat_tests)
 
 -- a spot is found after the ends of the next section were put in, or is an end of a later one
 pub junctions_go_on : (found new : Spot → Bool) (sections left rest : List LineValue) (section : LineValue)

@@ -1,7 +1,8 @@
 -- A block of spaced lines lists each junction as often as before, and each other point as often or less.
+use Rattle.std.proofs.lemmas.Bool.Decides.{nat_tests}
 use Rattle.std.proofs.Common.{◌≡◌, ◌∙◌, ℕ, ℤ, ◌+◌, ◌==◌, ◌≤◌, Bool, true, false, cond, nat_le, List, [], ◌∷◌, ◌++◌, map, filter, if◌then◌else◌, refl, ap, sym, arith}
 use Rattle.std.proofs.Math.Path.{ap₂}
-use Rattle.std.proofs.lemmas.Bool.{eqb-true, leb-false, leb-true}
+use Rattle.std.proofs.lemmas.Bool.{eqb-true}
 use Rattle.std.proofs.lemmas.List.Sums.{sum_by-cons}
 use Rattle.std.specs.List.{count_by, flat_map}
 use Rattle.design_model.specs.declared.point.Point.{Point}
@@ -28,12 +29,7 @@ places_append t (x ∷ xs) ys = omega (arith, places_append t xs ys)
 
 one_tested : (t : Point → Bool) (x : Point) (kept xs : List Point) (s u : Bool) → t x ≡ u → (u ≡ true → s ≡ true)
     → places t kept ≡ places t xs → places t (cond s (x ∷ kept) kept) ≡ places t (x ∷ xs)
-one_tested t x kept xs true u is so same = omega (arith, same)
-one_tested t x kept xs false false is so same = omega (arith, same, ap {B = ℕ} (λ (b : Bool). cond b 1 0) is)
-one_tested t x kept xs false true is so same = absurd (let no : ⊥ = no_way (so refl) in no)
-  where
-    no_way : false ≡ true → ⊥
-    no_way never = cc
+one_tested t x kept xs s u h1 h2 h3 = grind (arith, nat_tests)
 
 -- a test that only points that stay pass counts these alone
 places_tested : (stays t : Point → Bool) → ((x : Point) → t x ≡ true → stays x ≡ true) → (xs : List Point)
@@ -69,12 +65,10 @@ listed_one t line others true = places_append t line.points (points_along_lines 
 listed_one t line others false = omega arith
 
 where_true : (c : Bool) (m n : ℕ) → (c ≡ true → m ≡ n) → cond c m 0 ≡ cond c n 0
-where_true true m n same = same refl
-where_true false m n same = refl
+where_true c m n h1 = grind (arith, nat_tests)
 
 where_fewer : (c : Bool) (m n : ℕ) → m ≤ n → cond c m 0 ≤ cond c n 0
-where_fewer true m n few = few
-where_fewer false m n few = omega arith
+where_fewer c m n h1 = grind (arith, nat_tests)
 
 same_listed : (spots : Spot → Bool) (step block : ℕ) (t : Point → Bool) (lines : List LineValue)
     → ((line : LineValue) → (line.block == block) ≡ true
@@ -121,8 +115,7 @@ shared_same spots step block lines p stays =
         (λ x same. ap₂ (λ (b : ℕ) (q : Point). is_spot_of spots b q) (eqb-true line.block block here) (sym (same_is p x same)) ∙ stays)
 
 still_unshared : (m n : ℕ) → m ≤ n → nat_le 2 n ≡ false → (b : Bool) → nat_le 2 m ≡ b → b ≡ false
-still_unshared m n few is false so = refl
-still_unshared m n few is true so = absurd (omega (arith, few, leb-false 2 n is, leb-true 2 m so))
+still_unshared m n h1 h2 b h3 = grind (arith, nat_tests)
 
 -- a point that isn't shared isn't shared afterwards
 pub unshared_still : (spots : Spot → Bool) (step block : ℕ) (lines : List LineValue) (p : Point)

@@ -1,5 +1,6 @@
 -- The sections of a spaced line have the ends of the sections of the line, where both are cut alike.
-use Rattle.std.proofs.Common.{◌≡◌, ◌∙◌, ℕ, Bool, true, false, ◌&&◌, List, [], ◌∷◌, ◌++◌, map, All, if◌then◌else◌, refl, ap, sym}
+use Rattle.std.proofs.lemmas.Bool.Decides.{nat_tests}
+use Rattle.std.proofs.Common.{◌≡◌, ◌∙◌, ℕ, Bool, true, false, ◌&&◌, List, [], ◌∷◌, ◌++◌, map, All, if◌then◌else◌, refl, sym, arith}
 use Rattle.std.proofs.Math.Path.{ap₂}
 use Rattle.std.proofs.lemmas.List.Elements.{All-head, All-tail}
 use Rattle.design_model.specs.declared.point.Point.{Point}
@@ -28,15 +29,12 @@ ends_joined cut a q ends = if cut then (a ∷ q ∷ []) ∷ ends else ends_with 
 
 with_first_ends : (a : Point) (sections : List (List Point))
     → map (λ (s : List Point). endpoints s) (sections_with_first a sections) ≡ ends_with a (map (λ (s : List Point). endpoints s) sections)
-with_first_ends a [] = refl
-with_first_ends a ([] ∷ rest) = refl
-with_first_ends a ((x ∷ xs) ∷ rest) = refl
+with_first_ends a sections = grind (arith, nat_tests)
 
 ends_by : (a q : Point) (cut : Bool) (behind : List (List Point))
     → map (λ (s : List Point). endpoints s) (if cut then (a ∷ q ∷ []) ∷ behind else sections_with_first a behind)
     ≡ ends_joined cut a q (map (λ (s : List Point). endpoints s) behind)
-ends_by a q true behind = refl
-ends_by a q false behind = with_first_ends a behind
+ends_by a q cut behind = grind (arith, nat_tests)
 
 ends_step : (cut : Point → Bool) (a q : Point) (rest : List Point)
     → ends_from cut a (q ∷ rest) ≡ ends_joined (has_points rest && cut q) a q (ends_from cut q rest)
@@ -49,13 +47,10 @@ record BeginsAt (a : Point) (ends : List (List Point)) : Type 0 where
   is : ends ≡ (a ∷ more) ∷ others
 
 with_begins : (a : Point) (ends : List (List Point)) → BeginsAt a (ends_with a ends)
-with_begins a [] = record { more = a ∷ []; others = []; is = refl }
-with_begins a ([] ∷ rest) = record { more = a ∷ []; others = rest; is = refl }
-with_begins a ((x ∷ xs) ∷ rest) = record { more = xs; others = rest; is = refl }
+with_begins a ends = grind (arith, nat_tests)
 
 joined_begins : (cut : Bool) (a q : Point) (ends : List (List Point)) → BeginsAt a (ends_joined cut a q ends)
-joined_begins true a q ends = record { more = q ∷ []; others = ends; is = refl }
-joined_begins false a q ends = with_begins a ends
+joined_begins cut a q ends = grind (arith, nat_tests)
 
 ends_begin : (cut : Point → Bool) (a : Point) (rest : List Point) → BeginsAt a (ends_from cut a rest)
 ends_begin cut a [] = record { more = a ∷ []; others = []; is = refl }
@@ -64,24 +59,16 @@ ends_begin cut a (q ∷ rest) =
     record { more = begins.more; others = begins.others; is = ends_step cut a q rest ∙ begins.is }
 
 twice_begun : (a p x : Point) (ends : List (List Point)) → BeginsAt x ends → ends_with a (ends_with p ends) ≡ ends_with a ends
-twice_begun a p x ends begins =
-    ap (λ (es : List (List Point)). ends_with a (ends_with p es)) begins.is
-    ∙ sym (ap (λ (es : List (List Point)). ends_with a es) begins.is)
+twice_begun a p x ends h1 = cc
 
 passed_by : (cut : Bool) (a p b : Point) (ends : List (List Point)) → BeginsAt b ends
     → ends_with a (ends_joined cut p b ends) ≡ ends_joined cut a b ends
-passed_by true a p b ends begins = refl
-passed_by false a p b ends begins = twice_begun a p b ends begins
+passed_by cut a p b ends h1 = grind (arith, nat_tests)
 
 -- a point where the line isn't cut may be passed
 passed : (cut : Point → Bool) (a p b : Point) (rest : List Point) → cut p ≡ false
     → ends_from cut a (p ∷ b ∷ rest) ≡ ends_from cut a (b ∷ rest)
-passed cut a p b rest whole =
-    ends_step cut a p (b ∷ rest)
-    ∙ (ap (λ (c : Bool). ends_joined c a p (ends_from cut p (b ∷ rest))) whole
-    ∙ (ap (λ (es : List (List Point)). ends_with a es) (ends_step cut p b rest)
-    ∙ (passed_by (has_points rest && cut b) a p b (ends_from cut b rest) (ends_begin cut b rest)
-    ∙ sym (ends_step cut a b rest))))
+passed cut a p b rest h1 = grind (arith, nat_tests)
 
 -- a spaced line is cut as the line at a point, which isn't cut where it may be left out
 abbrev pub IsCutAlike : (cut again stays : Point → Bool) → Point → Type 0

@@ -1,5 +1,6 @@
 -- The sections of spaced lines have the ends of the sections of the lines.
-use Rattle.std.proofs.Common.{◌≡◌, ◌∙◌, ℕ, Bool, true, false, List, [], ◌∷◌, ◌++◌, map, All, refl, ap, sym}
+use Rattle.std.proofs.lemmas.Bool.Decides.{nat_tests}
+use Rattle.std.proofs.Common.{◌≡◌, ◌∙◌, ℕ, Bool, true, false, List, [], ◌∷◌, ◌++◌, map, All, refl, ap, sym, arith}
 use Rattle.std.proofs.Math.Path.{ap₂}
 use Rattle.std.proofs.lemmas.List.{map-append}
 use Rattle.std.proofs.lemmas.List.Elements.{All-head, All-tail}
@@ -29,16 +30,7 @@ through_ends block (section ∷ rest) =
 -- shared points stay, staying points are shared as before, and others aren't shared afterwards: then a spaced line is cut alike
 alike_by : (cut again stays : Point → Bool) (x : Point) (s c : Bool) → stays x ≡ s → cut x ≡ c → (c ≡ true → s ≡ true)
     → (stays x ≡ true → again x ≡ cut x) → (cut x ≡ false → again x ≡ false) → IsCutAlike cut again stays x
-alike_by cut again stays x true c is cut_is so same still = (same is, λ never. absurd (no_both (stays x) is never))
-  where
-    no_both : (t : Bool) → t ≡ true → t ≡ false → ⊥
-    no_both true is so = cc
-    no_both false is so = cc
-alike_by cut again stays x false false is cut_is so same still = (still cut_is ∙ sym cut_is, λ out. cut_is)
-alike_by cut again stays x false true is cut_is so same still = absurd (no_way (so refl))
-  where
-    no_way : false ≡ true → ⊥
-    no_way never = cc
+alike_by cut again stays x s c h1 h2 h3 h4 h5 = grind (arith, nat_tests)
 
 -- the points inside a line that are shared stay
 abbrev KeepsShared : List LineValue → LineValue → Type 0

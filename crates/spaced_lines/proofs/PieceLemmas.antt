@@ -1,5 +1,6 @@
 -- The pieces of a drawing depend on the blocks and the ends of its lines alone.
-use Rattle.std.proofs.Common.{◌≡◌, ◌∙◌, ℕ, ◌==◌, ◌<◌, Bool, false, ◌&&◌, List, [], ◌∷◌, Option, Some, None, length, map, slice_get, All, refl, ap, sym, arith}
+use Rattle.std.proofs.lemmas.Bool.Decides.{nat_tests}
+use Rattle.std.proofs.Common.{◌≡◌, ◌∙◌, ℕ, ◌==◌, ◌<◌, Bool, false, ◌&&◌, List, [], ◌∷◌, Option, Some, length, map, slice_get, All, ap, sym, arith}
 use Rattle.std.proofs.Math.Path.{ap₂}
 use Rattle.std.proofs.lemmas.List.{length-map}
 use Rattle.std.proofs.lemmas.List.Elements.{All-weaker}
@@ -16,13 +17,11 @@ use Rattle.line_sections.specs.Sections.{all_sections}
 use Rattle.spaced_lines.specs.SpacedLines.{spaced_lines}
 use Rattle.spaced_lines.specs.SpacingLaws.{PiecesStay}
 use Rattle.spaced_lines.proofs.KeptSectionLemmas.{sections_keep_ends}
-use Rattle.lists_and_numbers.proofs.CallerLemmas.{and_false}
 
 -- a line of which the ends are known
 ends_back : (o : Option LineValue) (ends : List Spot) → option_map end_spots o ≡ Some ends
     → (line : LineValue) × (o ≡ Some line) × (end_spots line ≡ ends)
-ends_back None ends is = absurd (let no : ⊥ = cc in no)
-ends_back (Some line) ends is = (line, refl, let same : end_spots line ≡ ends = cc in same)
+ends_back o ends h1 = grind (arith, nat_tests)
 
 line_with : (xs ys : List LineValue) → map end_spots xs ≡ map end_spots ys → (i : ℕ) (line : LineValue)
     → slice_get xs i ≡ Some line → (other : LineValue) × (slice_get ys i ≡ Some other) × (end_spots other ≡ end_spots line)
@@ -42,9 +41,7 @@ spots_touch (p ∷ ps) (q ∷ qs) = (p.block == q.block) && shares_point (points
 touch_by : (block other : ℕ) (ps qs : List Point)
     → touches (record { block = block; points = ps }) (record { block = other; points = qs })
     ≡ spots_touch (end_spots (record { block = block; points = ps })) (end_spots (record { block = other; points = qs }))
-touch_by block other [] qs = and_false (block == other)
-touch_by block other (p ∷ ps) [] = and_false (block == other)
-touch_by block other (p ∷ ps) (q ∷ qs) = refl
+touch_by block other ps qs = grind (arith, nat_tests)
 
 touch_by_spots : (a b : LineValue) → touches a b ≡ spots_touch (end_spots a) (end_spots b)
 touch_by_spots a b = touch_by a.block b.block a.points b.points

@@ -1,5 +1,6 @@
 -- A spaced line can be sewn, and each point that is left out saves a step.
-use Rattle.std.proofs.Common.{◌≡◌, ◌≢◌, ◌∙◌, ℕ, ◌+◌, ◌≤◌, Bool, true, false, not, nat_le, List, [], ◌∷◌, ◌++◌, length, All, if◌then◌else◌, ap, sym, arith}
+use Rattle.std.proofs.lemmas.Bool.Decides.{nat_tests}
+use Rattle.std.proofs.Common.{◌≡◌, ◌≢◌, ◌∙◌, ℕ, ◌+◌, ◌≤◌, Bool, true, not, nat_le, List, [], ◌∷◌, ◌++◌, length, All, if◌then◌else◌, arith}
 use Rattle.std.proofs.lemmas.Bool.{leb-true}
 use Rattle.std.proofs.lemmas.Grind.{div_ceil_times}
 use Rattle.std.proofs.lemmas.List.Elements.{All-cons, All-head, All-nil, All-tail}
@@ -12,19 +13,12 @@ use Rattle.step_splitter.specs.Steps.{steps_of}
 use Rattle.drawing_repairs.specs.Anchors.{distance_between}
 use Rattle.spaced_lines.specs.SpacedLines.{comes_near_all, is_stitch_for, kept_after}
 use Rattle.spaced_lines.specs.SpacingLaws.{EachPointSavesAStep, SpacedLinesAreLines}
-use Rattle.spaced_lines.proofs.SpacingLemmas.{left_out_stitch, not_true, of_kept}
-use Rattle.design_model.proofs.CallerLemmas.{point_itself}
+use Rattle.spaced_lines.proofs.SpacingLemmas.{left_out_stitch, of_kept}
 use Rattle.lists_and_numbers.proofs.CallerLemmas.{first_true, second_true}
 
 -- a stitch has a length
 stitch_moves : (step : ℕ) (a b : Point) (points : List Point) → is_stitch_for step a b points ≡ true → a ≢ b
-stitch_moves step a b points is same = no_both (is_same_point a b)
-    (not_true (is_same_point a b) (first_true (not (is_same_point a b)) _ is))
-    (ap (λ (x : Point). is_same_point a x) (sym same) ∙ point_itself a)
-  where
-    no_both : (t : Bool) → t ≡ false → t ≡ true → ⊥
-    no_both true is so = cc
-    no_both false is so = cc
+stitch_moves step a b points h1 = grind (arith, nat_tests)
 
 -- a stitch is one step
 one_step : (size step : ℕ) → 1 ≤ step → size ≤ step → div_ceil size step ≤ 1

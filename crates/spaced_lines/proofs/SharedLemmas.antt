@@ -1,6 +1,7 @@
 -- A shared point inside a line is the last point of a section.
-use Rattle.std.proofs.Common.{◌≡◌, ◌∙◌, ℕ, ◌==◌, Bool, true, false, ◌&&◌, ◌||◌, List, [], ◌∷◌, map, All, if◌then◌else◌, refl, ap, sym}
-use Rattle.std.proofs.lemmas.Bool.{eq-eqb, or_left, or_right}
+use Rattle.std.proofs.lemmas.Bool.Decides.{nat_tests}
+use Rattle.std.proofs.Common.{◌≡◌, ◌∙◌, ℕ, ◌==◌, Bool, true, false, ◌&&◌, ◌||◌, List, [], ◌∷◌, map, All, if◌then◌else◌, refl, arith}
+use Rattle.std.proofs.lemmas.Bool.{or_left, or_right}
 use Rattle.std.proofs.lemmas.List.Elements.{All-cons, All-nil}
 use Rattle.std.proofs.lemmas.List.Folds.{list_any-append}
 use Rattle.std.specs.List.{flat_map, list_any}
@@ -11,7 +12,6 @@ use Rattle.line_sections.specs.Lines.{LineValue}
 use Rattle.line_sections.specs.Sections.{but_last, inner_points, is_shared_point, line_sections, lines_through, sections_from, sections_of, sections_with_first}
 use Rattle.step_splitter.specs.Chains.{last_point_or}
 use Rattle.spaced_lines.specs.SpacingLaws.{SharedPointsAreJunctions}
-use Rattle.design_model.proofs.CallerLemmas.{point_itself}
 use Rattle.lists_and_numbers.proofs.CallerLemmas.{either_way}
 
 -- a section ends at a point
@@ -22,20 +22,15 @@ ends_last p (x ∷ rest) = is_same_point p (last_point_or x rest)
 -- with one more point in front, sections end where they ended
 ends_with_first : (p a : Point) (sections : List (List Point)) → list_any (ends_last p) sections ≡ true
     → list_any (ends_last p) (sections_with_first a sections) ≡ true
-ends_with_first p a [] ends = cc
-ends_with_first p a ([] ∷ rest) ends = or_right (is_same_point p a) (list_any (ends_last p) rest) ends
-ends_with_first p a ((x ∷ xs) ∷ rest) ends = ends
+ends_with_first p a sections h1 = grind (arith, nat_tests)
 
 cut_or_not : (p a q : Point) (behind : List (List Point)) (cut : Bool) → list_any (ends_last p) behind ≡ true
     → list_any (ends_last p) (if cut then (a ∷ q ∷ []) ∷ behind else sections_with_first a behind) ≡ true
-cut_or_not p a q behind true ends = or_right (is_same_point p q) (list_any (ends_last p) behind) ends
-cut_or_not p a q behind false ends = ends_with_first p a behind ends
+cut_or_not p a q behind cut h1 = grind (arith, nat_tests)
 
 cut_here : (p a q : Point) (behind : List (List Point)) (cut : Bool) → cut ≡ true → p ≡ q
     → list_any (ends_last p) (if cut then (a ∷ q ∷ []) ∷ behind else sections_with_first a behind) ≡ true
-cut_here p a q behind true is same =
-    or_left (is_same_point p q) (list_any (ends_last p) behind) (ap (λ (x : Point). is_same_point p x) (sym same) ∙ point_itself p)
-cut_here p a q behind false is same = cc
+cut_here p a q behind cut h1 h2 = grind (arith, nat_tests)
 
 -- a section ends at each point inside a line where the line is cut
 cut_points : (cut : Point → Bool) (a : Point) (rest : List Point)
@@ -61,15 +56,7 @@ any_mapped f g h (x ∷ xs) each any =
 -- a section that ends at a point has an end there
 last_is_end : (block : ℕ) (p : Point) (section : List Point) → ends_last p section ≡ true
     → has_end_at_spot (record { block = block; at = p }) (record { block = block; points = section }) ≡ true
-last_is_end block p [] ends = cc
-last_is_end block p (x ∷ rest) ends =
-    both (block == block) _ (eq-eqb block block refl)
-    (or_right (is_same_point p x) (is_same_point p (last_point_or x rest) || false)
-    (or_left (is_same_point p (last_point_or x rest)) false ends))
-  where
-    both : (a b : Bool) → a ≡ true → b ≡ true → (a && b) ≡ true
-    both true b is other = other
-    both false b is other = is
+last_is_end block p section h1 = grind (arith, nat_tests)
 
 -- the points inside a line where it is cut are ends of its sections
 cut_are_ends : (cut : Point → Bool) (line : LineValue)

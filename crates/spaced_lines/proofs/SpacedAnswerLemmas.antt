@@ -3,7 +3,7 @@ use Rattle.std.proofs.Common.{◌≡◌, ◌∙◌, ℕ, suc, ◌+◌, ◌≤◌
 use Rattle.std.proofs.Math.Path.{fun_ext}
 use Rattle.std.proofs.lemmas.Bool.Decides.{nat_tests}
 use Rattle.std.proofs.lemmas.List.{length-append, length-map}
-use Rattle.std.proofs.lemmas.List.Elements.{All-head, All-tail, All-weaker}
+use Rattle.std.proofs.lemmas.List.Elements.{All-head, All-tail}
 use Rattle.std.proofs.lemmas.List.Sums.{sum_by-append, sum_by-cons}
 use Rattle.std.proofs.lemmas.Result.{IfOk-at_ok}
 use Rattle.std.specs.List.{flat_map, list_any}
@@ -13,7 +13,7 @@ use Rattle.drawing_edits.specs.RedrawnDrawings.{with_starts_and_ends, with_walk_
 use Rattle.drawing_edits.specs.ValidRedraws.{LinesWithinLimitsAreDrawn}
 use Rattle.drawing_model.specs.declared.draw_kind.DrawKind.{DrawKind}
 use Rattle.drawing_model.specs.declared.draw_kind.DrawKind.TheVariants as kind
-use Rattle.drawing_model.specs.Drawings.{DrawingValue, IsLine, KeepsDrawingLimits, endpoints}
+use Rattle.drawing_model.specs.Drawings.{DrawingValue, KeepsDrawingLimits, endpoints}
 use Rattle.drawing_model.specs.GrowingDrawings.{and_then, point_count}
 use Rattle.drawing_model.specs.JoinedDrawings.{joined_drawing}
 use Rattle.drawing_model.specs.WalkEnds.{are_connected_spots, end_spots, is_junction, merged_representative, representative, spot_added}
@@ -86,8 +86,7 @@ abbrev is_end_in : Spot → List Spot → Bool
 is_end_in spot ends = list_any (λ one. (one.block == spot.block) && is_same_point spot.at one.at) ends
 
 spread : (x t r : Bool) → (x && (t || r)) ≡ ((x && t) || (x && r))
-spread true t r = refl
-spread false t r = refl
+spread x t r = grind (arith, nat_tests)
 
 end_by : (block : ℕ) (spot : Spot) (ps : List Point) → ((block == spot.block) && list_any (is_same_point spot.at) ps)
     ≡ is_end_in spot (map (λ p. record { block = block; at = p }) ps)
@@ -192,16 +191,13 @@ module _ (lines other : List LineValue) (same : map end_spots other ≡ map end_
 limited_by : (many long : Bool) (x y : DrawKind) (whole joined : DrawingValue) (more : DrawingValue → Result DrawingValue DrawKind)
     → and_then (if many then Err x else (if long then Err y else Ok whole)) more ≡ Ok joined
     → (many ≡ false) × (long ≡ false) × (more whole ≡ Ok joined)
-limited_by true long x y whole joined more is = absurd (let no : ⊥ = cc in no)
-limited_by false true x y whole joined more is = absurd (let no : ⊥ = cc in no)
-limited_by false false x y whole joined more is = (refl, refl, is)
+limited_by many long x y whole joined more h1 = grind (arith, nat_tests)
 
 fits : (m n limit : ℕ) → m ≤ n → nat_lt limit n ≡ false → nat_lt limit m ≡ false
 fits m n limit less is = grind (arith, nat_tests, less, is)
 
 sewn_lines : (d : DrawingValue) → KeepsDrawingLimits d → All (λ line. 1 ≤ length line.points) d.lines
-sewn_lines d keeps = All-weaker (λ (l : LineValue). IsLine l.points) (λ (l : LineValue). 1 ≤ length l.points)
-    (λ line is. omega (arith, is.long)) d.lines keeps.lines
+sewn_lines d h1 = grind (arith, nat_tests)
 
 pub none_refused : LinesWithinLimitsAreDrawn → SpacedLinesKeepLimits → SectionsKeepEnds → SpacingRefusesNone
 none_refused drawn_as keep alike d joined starts ends keeps no_starts no_ends is =

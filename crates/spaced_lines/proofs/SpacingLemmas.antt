@@ -1,5 +1,6 @@
 -- What spacing keeps of a line, by cases on whether a point is left out.
-use Rattle.std.proofs.Common.{◌≡◌, ◌∙◌, ℕ, ◌⊎◌, inl, inr, Bool, true, false, not, ◌&&◌, cond, nat_le, List, [], ◌∷◌, ◌++◌, filter, if◌then◌else◌, refl, ap, sym, subst, append_assoc}
+use Rattle.std.proofs.lemmas.Bool.Decides.{nat_tests}
+use Rattle.std.proofs.Common.{◌≡◌, ◌∙◌, ℕ, ◌⊎◌, inl, inr, Bool, true, false, not, ◌&&◌, cond, nat_le, List, [], ◌∷◌, ◌++◌, filter, if◌then◌else◌, refl, ap, sym, subst, append_assoc, arith}
 use Rattle.std.proofs.lemmas.List.Folds.{list_all-append}
 use Rattle.std.specs.List.{list_all}
 use Rattle.design_model.specs.declared.point.Point.{Point}
@@ -15,8 +16,7 @@ use Rattle.spaced_lines.specs.SpacingLaws.{StandFor}
 use Rattle.lists_and_numbers.proofs.CallerLemmas.{first_true, second_true}
 
 pub not_true : (a : Bool) → not a ≡ true → a ≡ false
-not_true true is = cc
-not_true false is = refl
+not_true a h1 = grind (arith, nat_tests)
 
 -- What holds of the last point alone, and passes from the points kept after a point that is left out, or kept, to all those with it,
 -- holds of the points that a line keeps.
@@ -46,10 +46,7 @@ pub untested : (stays : Point → Bool) (step : ℕ) (a : Point) (since : List P
 untested stays step a since p b is = not_true (stays p) (first_true (not (stays p)) (is_stitch_for step a b (p ∷ since)) is)
 
 and_turned : (a b : Bool) → (a && (b && true)) ≡ (b && a)
-and_turned true true = refl
-and_turned true false = refl
-and_turned false true = refl
-and_turned false false = refl
+and_turned a b = grind (arith, nat_tests)
 
 -- a segment comes near a point
 abbrev comes_by : ℕ → (a b p : Point) → Bool
