@@ -1,7 +1,9 @@
 -- Walks over pieces that can be sewn, and what is needed to sew them all.
 use Rattle.std.proofs.lemmas.Bool.Decides.{nat_tests}
 use Rattle.std.proofs.Common.{◌≡◌, ◌≢◌, ◌≤◌, ◌<◌, ℕ, suc, ◌+◌, ◌*◌, List, [], ◌∷◌, length, All, Contains, sum_by, arith, refl, ap}
-use Rattle.std.proofs.lemmas.List.Elements.{All-cons, All-contains, All-head, All-nil, All-tail}
+use Rattle.std.proofs.lemmas.List.{length-map}
+use Rattle.std.proofs.lemmas.List.Elements.{All-cons, All-contains, All-head, All-map, All-nil, All-tail}
+use Rattle.std.proofs.lemmas.Slice.Zip.{AllZip-long}
 use Rattle.std.proofs.lemmas.List.Sums.{sum_by-cons}
 use Rattle.std.specs.List.{AllZip, concat}
 use Rattle.odd_cuts.specs.declared.certificate.PieceCert.{PieceCert}
@@ -73,12 +75,11 @@ along_of d (p ∷ pieces) (c ∷ certs) all =
 
 near_of : (d : DrawingValue) (pieces : List (List ℕ)) (certs : List PieceCert) → AllZip (Sewn d) pieces certs
     → All (λ (run : Run). AreNear d.step run.needles) (runs_of d (walks_of certs))
-near_of d [] [] all = All-nil (λ (run : Run). AreNear d.step run.needles)
-near_of d [] (c ∷ certs) all = absurd all
-near_of d (p ∷ pieces) [] all = absurd all
-near_of d (p ∷ pieces) (c ∷ certs) all =
-    All-cons (λ (run : Run). AreNear d.step run.needles) (run_of d c.walk) (runs_of d (walks_of certs)) all.0.sewable.near
-    (near_of d pieces certs all.1)
+near_of d pieces certs all =
+    let near = zip_second (Sewn d) (λ (c : PieceCert). AreNear d.step (run_of d c.walk).needles) (λ p. λ c. λ sewn. sewn.sewable.near)
+    pieces certs all in
+    All-map (λ (run : Run). AreNear d.step run.needles) (run_of d) (walks_of certs)
+    (All-map (λ (walk : List Pass). AreNear d.step (run_of d walk).needles) (λ (c : PieceCert). c.walk) certs near)
 
 drawn_of : (d : DrawingValue) (p : List ℕ) (cert : PieceCert) → Sewn d p cert → AreDrawn d cert.walk
 drawn_of d p cert sewn = drawn cert.walk sewn.sewable.there
@@ -109,10 +110,8 @@ needles_few d (p ∷ pieces) (c ∷ certs) all =
 
 runs_count : (d : DrawingValue) (pieces : List (List ℕ)) (certs : List PieceCert) → AllZip (Sewn d) pieces certs
     → length (runs_of d (walks_of certs)) ≡ length pieces
-runs_count d [] [] all = refl
-runs_count d [] (c ∷ certs) all = absurd all
-runs_count d (p ∷ pieces) [] all = absurd all
-runs_count d (p ∷ pieces) (c ∷ certs) all = ap (λ (n : ℕ). suc n) (runs_count d pieces certs all.1)
+runs_count d pieces certs all =
+    omega (arith, length-map (walks_of certs) (run_of d), length-map certs (λ (c : PieceCert). c.walk), AllZip-long (Sewn d) pieces certs all)
 
 writable : (d : DrawingValue) → KeepsDrawingLimits d → (pieces : List (List ℕ)) (certs : List PieceCert) → ArePiecesWithin d pieces
     → AllZip (Sewn d) pieces certs
