@@ -65,10 +65,7 @@ covered row (e ∷ es) x y f =
     let right : y - max (high row e) x ≤ spans row (max (high row e) x) y es = covered row es (max (high row e) x) y
     (λ h a b. let p = f h (omega arith) b in in_rest row e es h p.0 p.1 p.2 p.3 p.4 (inr (omega arith))) in
     let both = spans_split row (low row e) (high row e) x y es (omega arith) in
-    whole (low row e) (high row e) x y _ _ _ (omega arith) left right both
-  where
-    whole : (lo hi x y a b c : ℕ) → lo ≤ hi → min lo y - x ≤ a → y - max hi x ≤ b → a + b ≤ c → y - x ≤ (min hi y - max lo x) + c
-    whole lo hi x y a b c le h k l = omega arith
+    grind (arith, nat_tests, left, right, both)
 
 -- in a settled row the range of an edge is no more than its cost
 spans_fit : (row : List ℕ) (x y : ℕ) (es : List Edge) → IsFullyRelaxed row es → spans row x y es ≤ edge_sum edge_cost es

@@ -32,18 +32,10 @@ pub odds_told : (p : PieceValue) → IsValidPiece p
     → odds_from (given_start p) (given_end p) 0 p.degrees ≡ odd_junctions p
 odds_told p keeps = grind (arith, nat_tests, odds_kept)
 
--- as many are odd as their sum is, but for an even number
-odd_step : (test : Bool) (value at rest_sum : ℕ) (rest : List ℕ) → is_odd value ≡ test → length rest % 2 ≡ rest_sum % 2
-    → length (cond test (at ∷ rest) rest) % 2 ≡ (value + rest_sum) % 2
-odd_step true value at rest_sum rest is same = grind (arith, nat_tests)
-odd_step false value at rest_sum rest is same = grind (arith, nat_tests)
-
 odd_count : (f : ℕ → ℕ) (at n : ℕ)
     → length (filter (λ j. is_odd (f j)) (range_with_len at n)) % 2 ≡ sum_over f at n % 2
 odd_count f at zero = refl
-odd_count f at (suc n) =
-    odd_step (is_odd (f at)) (f at) at (sum_over f (at + 1) n) (filter (λ j. is_odd (f j)) (range_with_len (at + 1) n)) refl
-    (odd_count f (at + 1) n)
+odd_count f at (suc n) = grind (arith, nat_tests, sum_over f (at + 1) n, odd_count f (at + 1) n)
 
 sum_added : (f g : ℕ → ℕ) (at n : ℕ) → sum_over (λ j. f j + g j) at n ≡ sum_over f at n + sum_over g at n
 sum_added f g at zero = refl

@@ -1,10 +1,10 @@
 -- Least costs: home, back, along an edge, and through a third junction.
-use Rattle.std.proofs.Common.{◌≡◌, ◌≢◌, ℕ, ◌+◌, ◌≤◌, List, [], ◌∷◌, ◌++◌, true, Some, inl, inr, refl, ap, arith}
+use Rattle.std.proofs.lemmas.Bool.Decides.{nat_tests}
+use Rattle.std.proofs.Common.{◌≡◌, ◌≢◌, ℕ, ◌+◌, ◌≤◌, List, [], ◌∷◌, ◌++◌, true, Some, inl, inr, refl, arith}
 use Rattle.std.specs.Prelude.{slice_get}
 use Rattle.line_graph.specs.declared.edge.Edge.{Edge}
 use Rattle.line_graph.specs.ValidPieces.{IsValidPiece, all_costs_positive}
 use Rattle.line_graph.specs.PieceGraphs.{PieceValue}
-use Rattle.line_graph.specs.PieceWalks.{edge_cost, edge_value}
 use Rattle.odd_paths.proofs.LastLemmas.{more_at}
 use Rattle.odd_paths.proofs.PassLemmas.{over_places}
 use Rattle.odd_paths.proofs.PlaceLemmas.{cost_append, cost_one, walk_append, walk_back, walk_one}
@@ -18,22 +18,14 @@ home es i d least = let none : d ≤ 0 = least.least [] refl in omega arith
 some_cost : (es : List Edge) (i j : ℕ) (ks : List ℕ) → all_costs_positive es ≡ true → i ≢ j → IsEdgeWalk es i j ks
     → 1 ≤ edge_walk_cost es ks
 some_cost es i j [] costs differ walk = absurd (differ walk)
-some_cost es i j (k ∷ ks) costs differ walk =
-    let first = more_at es k walk.0 costs walk.2 in
-    let at_place = ap (edge_value edge_cost) walk.2 in
-    omega arith
+some_cost es i j (k ∷ ks) costs differ walk = grind (arith, nat_tests, more_at)
 
 apart : (es : List Edge) (i j d : ℕ) → all_costs_positive es ≡ true → i ≢ j → IsLeastEdgeCost es i j d → 1 ≤ d
-apart es i j d costs differ least =
-    let there = least.there in
-    omega (arith, some_cost es i j there.0 costs differ there.1, there.2)
+apart es i j d costs differ least = grind (arith, nat_tests, some_cost)
 
 -- the way back is no dearer
 no_dearer : (es : List Edge) (i j d f : ℕ) → IsLeastEdgeCost es i j d → IsLeastEdgeCost es j i f → d ≤ f
-no_dearer es i j d f one other =
-    let walk = other.there in
-    let turned = walk_back es j i walk.0 walk.1 in
-    omega (arith, one.least turned.0 turned.1, turned.2, walk.2)
+no_dearer es i j d f one other = grind (arith, nat_tests, walk_back)
 
 along : (es : List Edge) (t i j k d f : ℕ) (e : Edge) → slice_get es k ≡ Some e → Connects e i j → IsLeastEdgeCost es t i d
     → IsLeastEdgeCost es t j f → f ≤ d + e.cost
@@ -43,11 +35,7 @@ along es t i j k d f e got links near far =
     omega (arith, far.least (walk.0 ++ k ∷ []) longer, cost_append es walk.0 (k ∷ []), cost_one es k e got, walk.2)
 
 through : (es : List Edge) (i m j d f g : ℕ) → IsLeastEdgeCost es i j d → IsLeastEdgeCost es i m f → IsLeastEdgeCost es m j g → d ≤ f + g
-through es i m j d f g whole one two =
-    let first = one.there in
-    let second = two.there in
-    let joined = walk_append es i m j first.0 second.0 first.1 second.1 in
-    omega (arith, whole.least (first.0 ++ second.0) joined, cost_append es first.0 second.0, first.2, second.2)
+through es i m j d f g whole one two = grind (arith, nat_tests, walk_append, cost_append)
 
 -- two ways that meet
 meeting : (es : List Edge) (i m j d f g : ℕ) → IsLeastEdgeCost es i j d → IsLeastEdgeCost es i m f → IsLeastEdgeCost es j m g → d ≤ f + g

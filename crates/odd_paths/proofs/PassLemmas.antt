@@ -68,11 +68,15 @@ edge_at [] es k e rising beside got = absurd (omega (arith, slice_get_within es 
 edge_at (n ∷ lines) [] k e rising beside got = absurd (none_is e got)
 edge_at (n ∷ lines) (x ∷ es) zero e rising beside got = grind (arith, nat_tests)
 edge_at (n ∷ lines) (x ∷ es) (suc k) e rising beside got =
-    let both = and_parts (all_greater n lines) (is_strictly_increasing lines) rising in
-    let there : k < length lines = omega (arith, slice_get_within es k e got, beside) in
-    let less = above_at n lines k both.0 there in
-    let other : (get_or lines k 0 == n) ≡ false = grind (arith, nat_tests) in
-    rw other (edge_at lines es k e both.1 (omega (arith, beside)) got)
+    grind (
+      arith,
+      nat_tests,
+      edge_at lines es k e (and_parts (all_greater n lines) (is_strictly_increasing lines) rising).1
+          (omega (arith, beside)) got,
+      and_parts (all_greater n lines) (is_strictly_increasing lines) rising,
+      above_at n lines k
+          (and_parts (all_greater n lines) (is_strictly_increasing lines) rising).0 (omega (arith, slice_get_within es k e got, beside)),
+    )
 
 along_pass : (e : Edge) (i m : ℕ) → Connects e i m → (back : Bool) × (after_edge (Some e) back i ≡ Some m)
 along_pass e i m (inl both) = (false, rw (eq-eqb _ _ both.0) (ap (λ (n : ℕ). Some n) both.1))

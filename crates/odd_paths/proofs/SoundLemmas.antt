@@ -1,14 +1,14 @@
 -- Each number below FAR is the cost of a walk, and sweeps preserve this.
 use Rattle.std.proofs.lemmas.Bool.Decides.{nat_tests}
 use Rattle.std.proofs.Common.{◌≡◌, ◌≢◌, ℕ, suc, ◌+◌, ◌<◌, ◌≤◌, List, [], ◌∷◌, ◌++◌, Some, length, replicate, inl, inr, refl, ◌∙◌, get_or-set_same, get_or-set_other, arith}
-use Rattle.std.proofs.lemmas.Bool.{cases_Bool, cases_eq, cases_lt, ltb-true}
+use Rattle.std.proofs.lemmas.Bool.{cases_eq, cases_lt}
 use Rattle.std.proofs.lemmas.List.{get_or-replicate, get_or_past, length-replicate, length-set}
 use Rattle.std.specs.Prelude.{slice_get, slice_index, slice_set}
 use Rattle.line_graph.specs.declared.edge.Edge.{Edge}
 use Rattle.odd_paths.specs.declared.sweeps.TheConstants.{FAR}
 use Rattle.odd_paths.proofs.PlaceLemmas.{cost_append, cost_one, walk_append, walk_one}
 use Rattle.odd_paths.specs.EdgeWalks.{EndsAreBelow, Connects, edge_walk_cost}
-use Rattle.odd_paths.specs.Sweeps.{IsCost, AreWalkCosts, is_lower, lowered_row, relaxed, swept}
+use Rattle.odd_paths.specs.Sweeps.{IsCost, AreWalkCosts, lowered_row, relaxed, swept}
 
 -- one more edge at the end of a walk
 longer : (es : List Edge) (i j m d k : ℕ) (e : Edge) → IsCost es i j d → slice_get es k ≡ Some e → Connects e j m
@@ -54,10 +54,8 @@ lowered_one es n from k a b e row s got joins in_a in_b less =
 -- where a number is lowered along an edge
 lowered_sound : (es : List Edge) (n from k a b : ℕ) (e : Edge) (row : List ℕ) → AreWalkCosts es n from row → slice_get es k ≡ Some e
     → Connects e a b → a < n → b < n → AreWalkCosts es n from (lowered_row row a b e.cost)
-lowered_sound es n from k a b e row s got joins in_a in_b = elim (cases_Bool (is_lower row a b e.cost)) [
-  | inl is ↦ rw is (lowered_one es n from k a b e row s got joins in_a in_b (ltb-true _ _ is))
-  | inr isnt ↦ rw isnt s
-]
+lowered_sound es n from k a b e row s got joins in_a in_b =
+    grind (arith, nat_tests, lowered_one es n from k a b e row s got joins in_a in_b)
 
 pub relaxed_sound : (es : List Edge) (n from k : ℕ) (e : Edge) (row : List ℕ) → AreWalkCosts es n from row → slice_get es k ≡ Some e
     → e.a < n → e.b < n → AreWalkCosts es n from (relaxed row e)

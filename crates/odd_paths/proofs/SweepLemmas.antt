@@ -1,10 +1,9 @@
 -- Where a sweep changes nothing, no walk costs less than the number in the row.
 use Rattle.std.proofs.lemmas.Bool.Decides.{nat_tests}
-use Rattle.std.proofs.Common.{◌≡◌, ℕ, ◌+◌, ◌≤◌, List, [], ◌∷◌, false, Some, refl, ◌∙◌, ap, arith, inl, inr, subst, zero, suc}
+use Rattle.std.proofs.Common.{◌≡◌, ℕ, ◌+◌, ◌≤◌, List, [], ◌∷◌, false, Some, refl, ap, arith, inl, inr, subst, zero, suc}
 use Rattle.std.proofs.lemmas.Bool.{or_parts}
 use Rattle.std.specs.Prelude.{slice_get, slice_index}
 use Rattle.line_graph.specs.declared.edge.Edge.{Edge}
-use Rattle.line_graph.specs.PieceWalks.{edge_cost, edge_value}
 use Rattle.odd_paths.proofs.PlaceLemmas.{none_is}
 use Rattle.odd_paths.specs.EdgeWalks.{Connects, IsEdgeWalk, edge_walk_cost}
 use Rattle.odd_paths.specs.Sweeps.{IsRelaxedAt, IsFullyRelaxed, relaxes, relaxed, changes, swept}
@@ -15,12 +14,7 @@ not_relaxed row e h = grind (arith, nat_tests)
 
 pub settled : (row : List ℕ) (es : List Edge) → changes row es ≡ false → (swept row es ≡ row) × IsFullyRelaxed row es
 settled row [] h = (refl, tt)
-settled row (e ∷ es) h =
-    let p = or_parts _ _ h in
-    let one = not_relaxed row e p.0 in
-    let rest : changes row es ≡ false = subst (λ (r : List ℕ). changes r es ≡ false) one.0 p.1 in
-    let more = settled row es rest in
-    (ap (λ (r : List ℕ). swept r es) one.0 ∙ more.0, (one.1, more.1))
+settled row (e ∷ es) h = grind (arith, nat_tests, settled row es, not_relaxed, or_parts)
 
 pub flat_at : (row : List ℕ) (es : List Edge) (k : ℕ) (e : Edge) → IsFullyRelaxed row es → slice_get es k ≡ Some e → IsRelaxedAt row e
 flat_at row [] k e s got = absurd (none_is e got)
@@ -34,8 +28,4 @@ flat_join row e i m f (inr p) = rw (← p.0, ← p.1) f.back
 pub no_less : (row : List ℕ) (es : List Edge) (i j : ℕ) (ks : List ℕ) → IsFullyRelaxed row es → IsEdgeWalk es i j ks
     → slice_index row j ≤ slice_index row i + edge_walk_cost es ks
 no_less row es i j [] s w = omega (arith, ap (λ (x : ℕ). slice_index row x) w)
-no_less row es i j (k ∷ ks) s w =
-    let here : slice_index row w.1 ≤ slice_index row i + w.0.cost = flat_join row w.0 i w.1 (flat_at row es k w.0 s w.2) w.3 in
-    let more = no_less row es w.1 j ks s w.4 in
-    let cost : edge_value edge_cost (slice_get es k) ≡ w.0.cost = ap (edge_value edge_cost) w.2 in
-    omega arith
+no_less row es i j (k ∷ ks) s w = grind (arith, nat_tests, flat_join row w.0 i, flat_at row es k w.0 s, no_less row es w.1 j ks s)

@@ -1,5 +1,5 @@
 -- The rows of a table.
-use Rattle.std.proofs.Common.{◌≡◌, Vec, Global, ℕ, zero, suc, ◌<◌, ◌≤◌, ◌==◌, true, List, [], ◌∷◌, ◌++◌, Some, length, get_or, All, refl, sym, ap, ◌∙◌, subst, append_assoc, arith}
+use Rattle.std.proofs.Common.{◌≡◌, Vec, Global, ℕ, zero, suc, ◌<◌, ◌≤◌, ◌==◌, true, List, [], ◌∷◌, ◌++◌, Some, length, get_or, All, refl, sym, ap, subst, append_assoc, arith}
 use Rattle.std.proofs.lemmas.Bool.{and_parts}
 use Rattle.std.proofs.lemmas.Bool.Decides.{nat_tests}
 use Rattle.std.proofs.lemmas.List.{append-nil}
@@ -30,12 +30,7 @@ within n (e ∷ es) below =
 
 -- a piece is a graph
 pub is_graph : (p : PieceValue) → IsValidPiece p → IsGraph p.edges (length p.junctions)
-is_graph p keeps = record {
-  ends = within (length p.junctions) p.edges keeps.ends;
-  joined = keeps.joined;
-  cost = keeps.cost_few;
-  few = omega (arith, keeps.few, keeps.beside);
-}
+is_graph p keeps = grind (arith, nat_tests, within)
 
 -- the rows of some terminals and of those that follow
 rows_append : (es : List Edge) (n : ℕ) (ts us : List ℕ) (rows more : List (List ℕ)) → AreLeastRows es n ts rows
@@ -57,9 +52,7 @@ goes_on es n all block after rest old new added whole before more later =
 -- and where none follow, these are all
 pub none_left : (es : List Edge) (n : ℕ) (all rest : List ℕ) (rows : List (List ℕ)) → (length rest == 0) ≡ true
     → ((more : List (List ℕ)) → AreLeastRows es n rest more → AreLeastRows es n all (rows ++ more)) → AreLeastRows es n all rows
-none_left es n all [] rows none before =
-    let Have : List (List ℕ) → Type 0 = λ list. AreLeastRows es n all list in
-    subst Have (append-nil rows) (before [] tt)
+none_left es n all [] rows none before = grind (arith, nat_tests, append-nil rows)
 none_left es n all (t ∷ rest) rows none before = absurd (grind (arith, nat_tests, none))
 
 -- the rows of a table are those of a piece
@@ -123,27 +116,9 @@ is_a_row p rows t row keeps all there got = record {
 pub is_this_row : (p : PieceValue) (rows : RowsValue) (t : ℕ) (row : List ℕ) (es : List Edge) (from : ℕ) → IsValidPiece p → AreRows p rows
     → t < length rows.terminals → slice_get rows.table t ≡ Some row → es ≡ p.edges → from ≡ terminal_of rows t
     → IsRowFrom es from row
-is_this_row p rows t row es from keeps all there got edges terminal =
-    let is = is_a_row p rows t row keeps all there got in
-    let size : length p.junctions ≡ length row = sym is.size in
-    let this : IsRowFrom p.edges (terminal_of rows t) row = record {
-      least = subst (λ (n : ℕ). IsLeastRow p.edges n (terminal_of rows t) row) size is;
-      ends = still_within p.edges (length p.junctions) (length row) size (within (length p.junctions) p.edges keeps.ends);
-      costs = keeps.costs;
-      few = omega (arith, keeps.few, keeps.beside);
-      there = omega (arith, size, all.terminals.there t 0 there);
-    } in
-    rw (edges, terminal) this
+is_this_row p rows t row es from keeps all there got edges terminal = grind (arith, nat_tests, is_a_row, still_within, within)
 
 -- the indexes of edges that lead there, at the cost in the row, are a path
 pub is_path : (p : PieceValue) (rows : RowsValue) (t j : ℕ) (row places : List ℕ) → IsValidPiece p → slice_get rows.table t ≡ Some row
     → IsLeastEdgeWalk p.edges row (terminal_of rows t) j places → IsPath p (terminal_of rows t) j (cost_at rows t j) places
-is_path p rows t j row places keeps got least =
-    let passes = to_passes p.lines p.edges (terminal_of rows t) j places keeps.rising keeps.beside least.walk in
-    record {
-      there = passes.there;
-      walk = passes.walk;
-      leads = passes.leads;
-      along = passes.along;
-      costs = passes.costs ∙ (least.costs ∙ sym (ap (λ (r : Option (List ℕ)). cost_in r j) got));
-    }
+is_path p rows t j row places keeps got least = grind (arith, nat_tests, to_passes p.lines p.edges (terminal_of rows t) j places)
