@@ -3,7 +3,7 @@ use Rattle.std.proofs.lemmas.Bool.Decides.{nat_tests}
 use Rattle.std.proofs.Common.{◌≡◌, ◌≤◌, ◌<◌, ◌^◌, ℕ, ◌+◌, List, [], ◌∷◌, ◌++◌, length, All, Contains, arith, true, sym, ap, ◌∙◌, subst}
 use Rattle.std.proofs.lemmas.List.{append-nil}
 use Rattle.std.proofs.lemmas.List.Elements.{All-cons, All-contains, All-head, All-nil, All-tail}
-use Rattle.std.specs.List.{AllZip, concat}
+use Rattle.std.specs.List.{AllZip}
 use Rattle.odd_cuts.specs.declared.certificate.PieceCert.{PieceCert}
 use Rattle.odd_cuts.specs.declared.cut.Cut.{Cut}
 use Rattle.odd_cuts.specs.Certificates.{HasCanonicalText, walks_of}
@@ -22,7 +22,6 @@ use Rattle.route_core.specs.declared.routed.Routed.{Routed}
 use Rattle.route_core.specs.Doubles.{AreDoubled, IsDoubleOver, IsDoubled, IsDoubleCert}
 use Rattle.route_verdict.specs.SewingSteps.{AllDrawn}
 use Rattle.route_core.proofs.SewnPieces.{Sewn, able, each_piece, zip_weaker}
-use Rattle.lists_and_numbers.proofs.CallerLemmas.{below_left, below_right}
 
 -- what doubles the pieces that are left has doubled all
 pub record LeftDoubles (pieces : List Piece) (certs : List PieceCert) (rest : List Piece) : Type 0 where

@@ -9,7 +9,7 @@ use Rattle.line_graph.specs.declared.edge.Edge.{Edge}
 use Rattle.line_graph.specs.declared.pass.Pass.{Pass}
 use Rattle.line_graph.specs.ValidPieces.{IsValidPiece, all_costs_positive}
 use Rattle.line_graph.specs.PieceGraphs.{PieceValue, one_if}
-use Rattle.line_graph.specs.PieceWalks.{all_greater, after_edge, edge_cost, edge_of, pass_end, edge_value, pass_sum, is_strictly_increasing, pass_start, walk_end_from}
+use Rattle.line_graph.specs.PieceWalks.{after_edge, edge_cost, edge_of, pass_end, edge_value, pass_sum, is_strictly_increasing, pass_start, walk_end_from}
 use Rattle.odd_paths.specs.LeastRows.{IsPath, RowsValue, cost_at, lines_at_indexes, terminal_of}
 use Rattle.route_core.specs.Copies.{AddsPairs, AddsCopies, total_copies, copies_sum, edge_end_count, index_sum}
 use Rattle.line_graph.proofs.CallerLemmas.{above_at, lost}
@@ -21,10 +21,7 @@ pub edge_at : (ns : List ℕ) (es : List Edge) (k : ℕ) → is_strictly_increas
 edge_at [] es k up same below = absurd (omega arith)
 edge_at (n ∷ ns) [] k up same below = absurd (omega arith)
 edge_at (n ∷ ns) (e ∷ es) zero up same below = rw (eq_self n) refl
-edge_at (n ∷ ns) (e ∷ es) (suc k) up same below =
-    let parts = and_parts (all_greater n ns) (is_strictly_increasing ns) up in
-    let other : (get_or ns k 0 == n) ≡ false = grind (arith, nat_tests, above_at n ns k parts.0 (omega arith)) in
-    rw other (edge_at ns es k parts.1 (omega arith) (omega arith))
+edge_at (n ∷ ns) (e ∷ es) (suc k) up same below = grind (arith, nat_tests, edge_at ns es k, above_at, and_parts)
 
 -- a sum over the passes of a walk is a sum over the places of its lines
 pub path_sum : (p : PieceValue) → IsValidPiece p → (f : Edge → ℕ) (walk : List Pass) (places : List ℕ)

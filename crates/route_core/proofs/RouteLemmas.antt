@@ -1,9 +1,8 @@
 -- The route of a drawing, from the certificates of its pieces.
 use Rattle.std.proofs.lemmas.Bool.Decides.{nat_tests}
-use Rattle.std.proofs.Common.{◌≡◌, ◌≤◌, ◌<◌, ℕ, List, [], ◌∷◌, ◌++◌, length, All, arith, sym, ◌∙◌, ap, subst}
+use Rattle.std.proofs.Common.{◌≡◌, ◌≤◌, ◌<◌, ℕ, List, [], ◌++◌, length, All, arith, sym, ◌∙◌, ap, subst}
 use Rattle.std.proofs.lemmas.List.{append-nil}
-use Rattle.std.proofs.lemmas.List.Elements.{All-head, All-tail}
-use Rattle.std.specs.List.{AllZip, concat}
+use Rattle.std.specs.List.{AllZip}
 use Rattle.odd_cuts.specs.declared.certificate.PieceCert.{PieceCert}
 use Rattle.odd_cuts.specs.PackingBounds.{BoundsTotal}
 use Rattle.odd_cuts.specs.Certificates.{HasCanonicalText, walks_of}
@@ -20,7 +19,6 @@ use Rattle.route_core.specs.RoutedPieceCertificates.{AreRouted, IsRoutedPiece}
 use Rattle.route_core.specs.Routes.{IsLeastPieceRoute, IsRouteOver}
 use Rattle.route_verdict.specs.SewingSteps.{AllDrawn}
 use Rattle.route_core.proofs.SewnPieces.{Sewn, able, each_piece, zip_weaker}
-use Rattle.lists_and_numbers.proofs.CallerLemmas.{below_left, below_right}
 
 -- what routes the pieces that are left has routed all
 pub record LeftPieces (pieces : List Piece) (certs : List PieceCert) (rest : List Piece) : Type 0 where

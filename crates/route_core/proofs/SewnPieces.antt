@@ -1,6 +1,6 @@
 -- Walks over pieces that can be sewn, and what is needed to sew them all.
 use Rattle.std.proofs.lemmas.Bool.Decides.{nat_tests}
-use Rattle.std.proofs.Common.{◌≡◌, ◌≢◌, ◌≤◌, ◌<◌, ℕ, suc, ◌+◌, ◌*◌, List, [], ◌∷◌, length, All, Contains, sum_by, arith, refl, ap}
+use Rattle.std.proofs.Common.{◌≡◌, ◌≢◌, ◌≤◌, ◌<◌, ℕ, ◌+◌, ◌*◌, List, [], ◌∷◌, length, All, Contains, sum_by, arith, refl}
 use Rattle.std.proofs.lemmas.List.{length-map}
 use Rattle.std.proofs.lemmas.List.Elements.{All-cons, All-contains, All-head, All-map, All-nil, All-tail}
 use Rattle.std.proofs.lemmas.Slice.Zip.{AllZip-long}
@@ -110,8 +110,7 @@ needles_few d (p ∷ pieces) (c ∷ certs) all =
 
 runs_count : (d : DrawingValue) (pieces : List (List ℕ)) (certs : List PieceCert) → AllZip (Sewn d) pieces certs
     → length (runs_of d (walks_of certs)) ≡ length pieces
-runs_count d pieces certs all =
-    omega (arith, length-map (walks_of certs) (run_of d), length-map certs (λ (c : PieceCert). c.walk), AllZip-long (Sewn d) pieces certs all)
+runs_count d pieces certs all = grind (arith, nat_tests, length-map, AllZip-long)
 
 writable : (d : DrawingValue) → KeepsDrawingLimits d → (pieces : List (List ℕ)) (certs : List PieceCert) → ArePiecesWithin d pieces
     → AllZip (Sewn d) pieces certs

@@ -1,10 +1,9 @@
 -- The route of a drawing: a least walk over each piece, with cuts that prove it least, and the
 -- design that sews these walks. Weights of cuts count halves of a step, costs count steps.
-use Rattle.std.specs.Prelude.{◌≡◌, ℕ, ◌+◌, List, length, map, All}
+use Rattle.std.specs.Prelude.{◌≡◌, ℕ, ◌+◌, List, length, All}
 use Rattle.std.specs.List.{AllZip}
 use Rattle.odd_cuts.specs.declared.certificate.PieceCert.{PieceCert}
 use Rattle.odd_cuts.specs.Certificates.{HasCanonicalText, walks_of}
-use Rattle.line_graph.specs.declared.pass.Pass.{Pass}
 use Rattle.drawing_model.specs.Drawings.{DrawingValue}
 use Rattle.line_graph.specs.PieceGraphs.{piece_graph}
 use Rattle.line_graph.specs.Pieces.{ArePieces}

@@ -1,4 +1,5 @@
-use Rattle.std.proofs.Common.{◌∙◌, ap, replicate, ℕ}
+use Rattle.std.proofs.lemmas.Bool.Decides.{nat_tests}
+use Rattle.std.proofs.Common.{◌∙◌, ap, replicate, ℕ, arith}
 use Rattle.line_graph.specs.PiecesOfDrawings.{graph_of}
 use Rattle.route_core.proofs.PairLemmas.{begun, ended, first_pair, goes_on, room_for_pair}
 use Rattle.route_core.proofs.copies.copies_of.Goals as goal
@@ -14,10 +15,7 @@ add_pair-requires-clause-pair c =
     first_pair c.args.rows.now c.loop-pair.rest.now c.in-Some.after.now c.in-Some.pair c.in-Some.ensures.some c.loop-pair.invariant.there
 
 pub add_pair-requires-clause-few : goal.add_pair-requires-clause-few
-add_pair-requires-clause-few c =
-    room_for_pair (graph_of c.args.p.now) c.args.rows.now c.args.pairs.now c.loop-pair.copies.items c.loop-pair.rest.now c.in-Some.after.now
-    c.in-Some.pair
-    c.in-Some.ensures.some c.loop-pair.invariant
+add_pair-requires-clause-few c = grind (arith, nat_tests, room_for_pair)
 
 pub loop-pair-preserved : goal.loop-pair-preserved
 loop-pair-preserved c =
@@ -26,6 +24,4 @@ loop-pair-preserved c =
     c.in-Some.ensures.some c.loop-pair.invariant c.in_ok-add_pair.ensures
 
 pub returns : goal.returns
-returns c =
-    ended (graph_of c.args.p.now) c.args.rows.now c.args.pairs.now c.loop-pair.copies.items c.loop-pair.rest.now c.in_default.ensures.none
-    c.loop-pair.invariant
+returns c = grind (arith, nat_tests, ended)

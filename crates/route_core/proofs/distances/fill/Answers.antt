@@ -1,3 +1,4 @@
+use Rattle.std.proofs.lemmas.Bool.Decides.{nat_tests}
 use Rattle.std.proofs.Common.{◌<◌, ap, arith, length}
 use Rattle.line_graph.specs.PiecesOfDrawings.{graph_of}
 use Rattle.route_core.proofs.DistanceLemmas.{filled_none, row_most, terminal_there}
@@ -5,11 +6,7 @@ use Rattle.route_core.proofs.distances.fill.Goals as goal
 use Rattle.odd_paths.proofs.CallerLemmas.{is_wide}
 
 pub loop-b-init : goal.loop-b-init
-loop-b-init c = record {
-  from = omega arith;
-  to = omega (arith, c.requires.there);
-  filled = filled_none c.args.rows.now c.args.a c.args.table.now;
-}
+loop-b-init c = grind (arith, nat_tests, filled_none)
 
 pub bounds-row-terminals : goal.bounds-row-terminals
 bounds-row-terminals c =
