@@ -23,9 +23,7 @@ use Rattle.text_parts.proofs.CallerLemmas.{some_part}
 -- the parts of a text have no line end
 onto_lacks : (b : ℕ) (parts : List (List ℕ)) → (b == 10) ≡ false → All Lacks parts → All Lacks (onto_first b parts)
 onto_lacks b [] test lack = grind (arith, nat_tests)
-onto_lacks b (part ∷ parts) test lack =
-    All-cons Lacks (b ∷ part) parts
-    (All-cons (λ (c : ℕ). (c == 10) ≡ false) b part test (All-head Lacks part parts lack)) (All-tail Lacks part parts lack)
+onto_lacks b (part ∷ parts) test lack = grind (arith, nat_tests, All-head Lacks part parts lack, All-tail Lacks part parts lack)
 
 -- by the test of the first byte
 next_lacks : (end : Bool) (b : ℕ) (text : List ℕ) → (b == 10) ≡ end → All Lacks (parts_between 10 text)
@@ -182,14 +180,12 @@ begins_no_more : (lines : List (List ℕ)) (bytes : List ℕ) (new : CertDraft) 
     → runs draft.Empty lines ≡ Some new → draft_with_text_line new bytes ≡ None → IsCertificatePrefix (ended lines ++ (bytes ++ 10 ∷ []))
     → ⊥
 begins_no_more lines bytes new lack lacks fit unfit begins =
-    let parts : (ended lines ++ (bytes ++ 10 ∷ [])) ++ begins.rest ≡ ended lines ++ (bytes ++ 10 ∷ begins.rest) =
-    append_assoc (ended lines) (bytes ++ 10 ∷ []) begins.rest
-    ∙ ap (λ (t : List ℕ). ended lines ++ t) (append_assoc bytes (10 ∷ []) begins.rest) in
-    let says : cert_of ((ended lines ++ (bytes ++ 10 ∷ [])) ++ begins.rest) ≡ Err (1 + length lines) =
-    ap cert_of parts ∙ (run_on lines draft.Empty new (bytes ++ 10 ∷ begins.rest) 1 lack fit
-    ∙ (next_judged (1 + length lines) new bytes begins.rest lacks
-    ∙ ap (λ (answer : Option CertDraft). goes_on (1 + length lines) answer (parts_between 10 begins.rest)) unfit)) in
-    ok_err begins.pieces (1 + length lines) (sym begins.says ∙ says)
+    let parts : (ended lines ++ (bytes ++ 10 ∷ [])) ++ begins.rest ≡ ended lines ++ (bytes ++ 10 ∷ begins.rest) = append_assoc
+    (ended lines) (bytes ++ 10 ∷ []) begins.rest ∙ ap (λ (t : List ℕ). ended lines ++ t) (append_assoc bytes (10 ∷ []) begins.rest) in
+    let says : cert_of ((ended lines ++ (bytes ++ 10 ∷ [])) ++ begins.rest) ≡ Err (1 + length lines) = ap cert_of parts ∙ (run_on
+    lines draft.Empty new (bytes ++ 10 ∷ begins.rest) 1 lack fit ∙ (next_judged (1 + length lines) new bytes begins.rest lacks ∙ ap
+    (λ (answer : Option CertDraft). goes_on (1 + length lines) answer (parts_between 10 begins.rest)) unfit)) in
+    grind (arith, nat_tests, parts, says)
 
 -- one line more of the first ones
 one_more : (parts : List (List ℕ)) (i : ℕ) → i < length parts

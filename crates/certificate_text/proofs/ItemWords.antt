@@ -1,5 +1,5 @@
 -- Passes and members as words: the meaning of words, and the text of that meaning.
-use Rattle.std.proofs.Common.{◌≡◌, ℕ, ◌+◌, ◌-◌, ◌<◌, ◌≤◌, ◌^◌, ◌==◌, Bool, true, false, nat_lt, List, [], ◌∷◌, Some, option_map, length, All, decimal, subst, ap, sym, refl, ◌∙◌, map, arith}
+use Rattle.std.proofs.Common.{◌≡◌, ℕ, ◌+◌, ◌-◌, ◌<◌, ◌≤◌, ◌^◌, ◌==◌, Bool, true, false, List, [], ◌∷◌, Some, option_map, length, All, decimal, subst, ap, sym, refl, ◌∙◌, map, arith}
 use Rattle.std.proofs.lemmas.Bool.{and_from, and_parts}
 use Rattle.std.proofs.lemmas.Bool.Decides.{nat_tests}
 use Rattle.std.proofs.lemmas.Fmt.{decimal_nonempty, digits_decimal}
@@ -93,9 +93,7 @@ reach_all (j ∷ members) = omega arith
 -- what is above a number is above a lesser one
 above_less : (j m : ℕ) (members : List ℕ) → j < m → all_greater m members ≡ true → all_greater j members ≡ true
 above_less j m [] less all = refl
-above_less j m (k ∷ members) less all =
-    let both = and_parts (nat_lt m k) (all_greater m members) all in
-    and_from (nat_lt j k) (all_greater j members) (grind (arith, nat_tests, less, both.0)) (above_less j m members less both.1)
+above_less j m (k ∷ members) less all = grind (arith, nat_tests, above_less j m members less, and_from, and_parts)
 
 -- members rise where each is above the one before it
 rises_from : (j : ℕ) (members : List ℕ) → Reaches (j + 1) members → is_strictly_increasing members ≡ true

@@ -60,15 +60,12 @@ members_inner (j ∷ members) have =
 words_read : (word : List ℕ) (words : List (List ℕ)) → list_all is_inner word ≡ true → AreWords words
     → words_in (word ++ spaced words) ≡ word ∷ words
 words_read word [] is are = grind (arith, nat_tests, append-nil, slice_split_none, no_space)
-words_read word (next ∷ words) is are =
-    slice_split_at (λ (b : ℕ). b == 32) word 32 (next ++ spaced words) (no_space word is) refl
-    ∙ ap (λ (more : List (List ℕ)). word ∷ more) (words_read next words are.0 are.1)
+words_read word (next ∷ words) is are = grind (arith, nat_tests, words_read next words, slice_split_at, spaced, no_space)
 
 -- nor do words after spaces
 spaced_kept : (words : List (List ℕ)) → AreWords words → list_all is_kept (spaced words) ≡ true
 spaced_kept [] are = refl
-spaced_kept (word ∷ words) are = list_all-append is_kept word (spaced words)
-    ∙ and_from (list_all is_kept word) (list_all is_kept (spaced words)) (inner_kept word are.0) (spaced_kept words are.1)
+spaced_kept (word ∷ words) are = grind (arith, nat_tests, spaced_kept words, list_all-append, is_kept, spaced, and_from, inner_kept)
 
 -- the words of a line
 abbrev line_words : CertLine → List (List ℕ)
