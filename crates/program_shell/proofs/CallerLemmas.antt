@@ -1,6 +1,6 @@
 -- Lemmas for the crates of programs: plans that read files one after another, plans that decide, and the end of a run.
 use Rattle.std.proofs.lemmas.Bool.Decides.{nat_tests}
-use Rattle.std.proofs.Common.{◌≡◌, ℕ, List, Option, Result, Ok, Err, ap, arith}
+use Rattle.std.proofs.Common.{◌≡◌, ℕ, List, Option, Result, Ok, Err, ap, refl, arith}
 use Rattle.outside_io.specs.Files.{Files}
 use Rattle.outside_io.specs.Views.{SinkView, StoreView}
 use Rattle.program_shell.specs.declared.failure.Failure.{Failure}
