@@ -1,6 +1,6 @@
 -- Outputs written one after another.
 use Rattle.std.proofs.lemmas.Bool.Decides.{nat_tests}
-use Rattle.std.proofs.Common.{◌≡◌, ◌≤◌, ◌++◌, ◌∷◌, [], ℕ, List, Option, Some, None, refl, sym, ap, subst, ◌∙◌, arith}
+use Rattle.std.proofs.Common.{◌≡◌, ◌++◌, ◌∷◌, [], ℕ, List, Option, Some, None, refl, sym, ap, subst, arith}
 use Rattle.outside_io.specs.Blames.{Blame, write_call}
 use Rattle.outside_io.specs.Causes.{CallFailed, HasNoNewFault}
 use Rattle.outside_io.specs.Files.{ChangesOnlyFile, Files, FileHolds}

@@ -3,7 +3,6 @@ use Rattle.std.proofs.lemmas.Bool.Decides.{nat_tests}
 use Rattle.std.proofs.Common.{◌≡◌, ◌++◌, ◌∷◌, [], ℕ, List, Option, Some, None, ap, subst, arith}
 use Rattle.outside_io.specs.Files.{Files}
 use Rattle.program_shell.specs.declared.failure.Failure.{Failure}
-use Rattle.program_shell.specs.declared.failure.Failure.TheVariants as failure
 use Rattle.program_shell.specs.declared.status.Status.{Status}
 use Rattle.program_shell.specs.ExactPlans.{IsSoundProgram}
 use Rattle.program_shell.specs.Plans.{Plan}
