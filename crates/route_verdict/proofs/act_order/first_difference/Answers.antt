@@ -9,12 +9,14 @@ use Rattle.route_verdict.proofs.act_order.first_difference.Goals as goal
 pub walk_needles-requires : goal.walk_needles-requires
 walk_needles-requires c =
     subst (λ (walk : List Pass). AreDrawn c.args.d.now walk) (sym c.as_slice.ensures)
-    (drawn_piece c.args.d.now c.loop-cert.rest.now c.in-Some.after.now c.in-Some.cert.now c.in-Some.ensures.some c.loop-cert.invariant.drawn)
+    (drawn_piece c.args.d.now c.loop-cert.rest.now c.in-Some.after.now c.in-Some.cert.now c.in-Some.ensures.some
+    c.loop-cert.invariant.drawn)
 
 pub block_of_walk-block-requires : goal.block_of_walk-block-requires
 block_of_walk-block-requires c =
     subst (λ (walk : List Pass). AreDrawn c.args.d.now walk) (sym c.as_slice-in-Some.ensures)
-    (drawn_piece c.args.d.now c.loop-cert.rest.now c.in-Some.after.now c.in-Some.cert.now c.in-Some.ensures.some c.loop-cert.invariant.drawn)
+    (drawn_piece c.args.d.now c.loop-cert.rest.now c.in-Some.after.now c.in-Some.cert.now c.in-Some.ensures.some
+    c.loop-cert.invariant.drawn)
 
 pub returns-in-Err : goal.returns-in-Err
 returns-in-Err c = sym (runs_differ c.args.d.now c.args.acts.now c.args.certs.now c.loop-cert.at c.loop-cert.before c.in-Err.number
