@@ -63,10 +63,6 @@ spot_marked spot again old new is updates all left marked = record {
       (λ other. updates other ∙ ap (λ (b : Bool). cond (is_same_spot spot other) (Some b) (old other)) is);
 }
 
--- before the first spot
-pub none_marked : (all : List Spot) (marks : Marks) → ((spot : Spot) → marks spot ≡ None) → AreMarked all all marks
-none_marked all marks none = record { before = []; split = refl; marked = none }
-
 -- the number of points of a block at a spot, line by line
 spot_counts : (block : ℕ) (p : Point) (lines : List LineValue)
     → count_by (is_same_spot (spot_at block p)) (flat_map spots_of lines) ≡ sum_by (counted (is_same_point p) block) lines
