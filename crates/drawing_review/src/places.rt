@@ -78,6 +78,7 @@ fn put_places(
     Ok(())
 }
 
+/// Adds the places of a segment's point where the point is an end of the line.
 fn put_end_if(
     places: &mut Places,
     is_end: bool,
@@ -93,22 +94,6 @@ fn put_end_if(
     if !is_end {
         return Ok(());
     }
-    put_end(places, gap, regions, s, p, at)?;
-    Ok(())
-}
-
-/// Adds the places of an end of a line.
-fn put_end(
-    places: &mut Places,
-    gap: u16,
-    regions: &[Region],
-    s: &LineSegment,
-    p: Point,
-    at: GridPoint,
-) -> Result<(), Memory>
-    ensures { OnOk result (places.new
-        ≡ places.old ++ places_of_end gap (flat_map (λ r. r) regions.now) s.now p at) }
-{
     let block = s.block;
     let is_loose = is_any(regions, Query::Near { gap, block, at });
     put_if(places, is_loose, PlaceKind::LooseEnd, s, p)?;
