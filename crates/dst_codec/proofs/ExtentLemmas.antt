@@ -16,12 +16,6 @@ use Rattle.dst_codec.specs.declared.header.Extents.{Extents}
 use Rattle.dst_codec.specs.Header.{size_above_zero, size_below_zero, extents_of, max_measure, needle_measure}
 use Rattle.dst_codec.specs.Steps.{extents_from_origin}
 
-above_rises : (a b : ℤ) → a ≤ℤ b → size_above_zero a ≤ size_above_zero b
-above_rises a b h1 = grind (arith, nat_tests, ints)
-
-below_falls : (a b : ℤ) → a ≤ℤ b → size_below_zero b ≤ size_below_zero a
-below_falls a b h1 = grind (arith, nat_tests, ints)
-
 above_max : (a b : ℤ) → size_above_zero (int_max a b) ≡ max (size_above_zero a) (size_above_zero b)
 above_max a b = grind (arith, nat_tests, ints)
 

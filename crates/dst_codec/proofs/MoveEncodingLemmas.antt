@@ -7,7 +7,7 @@ use Rattle.design_model.specs.Points.{is_point_within}
 use Rattle.dst_codec.specs.declared.dst.TheConstants.{LIMIT}
 use Rattle.dst_codec.specs.declared.record_kind.RecordKind.TheVariants as kind
 use Rattle.dst_codec.specs.Bits.{bit_of_byte, dst_move_of, kind_of, rightwards, leftwards, upwards, downwards}
-use Rattle.dst_codec.specs.MoveEncoding.{biased_number, ternary_digit, plus_bit, minus_bit, x_signs, y_signs}
+use Rattle.dst_codec.specs.MoveEncoding.{biased_number, plus_bit, minus_bit, x_signs, y_signs}
 use Rattle.design_model.proofs.CallerLemmas.{point_of_parts, within_parts}
 
 -- the third byte of a record with flags
@@ -18,33 +18,6 @@ third_of flags m = 3 + 4 * plus_bit 81 m.x + 8 * minus_bit 81 m.x + 16 * plus_bi
 abbrev pub byte_of : ℕ → ℕ → Point → ℕ
 byte_of lesser greater m = x_signs lesser greater m.x + 16 * y_signs lesser greater m.y
 
-plus_small : (part : ℕ) (z : ℤ) → plus_bit part z ≤ 1
-plus_small part z = let few : ternary_digit part z < 3 = omega arith in omega (arith, few)
-
-minus_small : (part : ℕ) (z : ℤ) → minus_bit part z ≤ 1
-minus_small part z = omega arith
-
--- the bits of a byte whose bits are given, those of x and those of y
-x_bits : (p q r s t : ℕ) → p ≤ 1 → q ≤ 1 → r ≤ 1 → s ≤ 1
-    → let byte = p + 2 * q + 4 * r + 8 * s + 16 * t in
-    (bit_of_byte byte 1 ≡ p) × (bit_of_byte byte 2 ≡ q) × (bit_of_byte byte 4 ≡ r) × (bit_of_byte byte 8 ≡ s)
-x_bits p q r s t hp hq hr hs = (omega arith, omega arith, omega arith, omega arith)
-
-y_bits : (t p q r s : ℕ) → t < 16 → p ≤ 1 → q ≤ 1 → r ≤ 1 → s ≤ 1
-    → let byte = t + 16 * (p + 2 * q + 4 * r + 8 * s) in
-    (bit_of_byte byte 16 ≡ p) × (bit_of_byte byte 32 ≡ q) × (bit_of_byte byte 64 ≡ r) × (bit_of_byte byte 128 ≡ s)
-y_bits t p q r s ht hp hq hr hs = (omega arith, omega arith, omega arith, omega arith)
-
-third_bits : (p q r s k : ℕ) → p ≤ 1 → q ≤ 1 → r ≤ 1 → s ≤ 1
-    → let byte = 3 + 4 * p + 8 * q + 16 * r + 32 * s + 64 * k in
-    (bit_of_byte byte 4 ≡ p) × (bit_of_byte byte 8 ≡ q) × (bit_of_byte byte 16 ≡ r) × (bit_of_byte byte 32 ≡ s)
-third_bits p q r s k hp hq hr hs = (omega arith, omega arith, omega arith, omega arith)
-
--- a number below 243 by its five digits
-digits_sum : (n : ℕ) → n < 243
-    → n / 1 % 3 + 3 * (n / 3 % 3) + 9 * (n / 9 % 3) + 27 * (n / 27 % 3) + 81 * (n / 81 % 3) ≡ n
-digits_sum n small = omega arith
-
 -- one digit taken plus, less what is taken minus
 digit : (t : ℕ) → t < 3 → t / 2 + 1 ≡ (2 - t) / 2 + t
 digit t small = omega arith
@@ -52,9 +25,6 @@ digit t small = omega arith
 -- the difference of two sums that differ as a number does from 121
 difference : (z : ℤ) (a b : ℕ) → unsigned_abs z ≤ 121 → a + 121 ≡ b + biased_number z → pos a -ℤ pos b ≡ z
 difference z a b h1 h2 = grind (arith, nat_tests, ints)
-
-shifted_small : (z : ℤ) → unsigned_abs z ≤ 121 → biased_number z < 243
-shifted_small z h1 = grind (arith, nat_tests, ints)
 
 sums : (n : ℕ) → n < 243 → let t = λ (part : ℕ). n / part % 3 in
     t 1 / 2 + 3 * (t 3 / 2) + 9 * (t 9 / 2) + 27 * (t 27 / 2) + 81 * (t 81 / 2) + 121
@@ -76,10 +46,6 @@ y_move : (y : ℤ) (a b c : ℕ) → unsigned_abs y ≤ 121
     → bit_of_byte c 16 ≡ plus_bit 81 y → bit_of_byte c 32 ≡ minus_bit 81 y
     → pos (downwards a b c) -ℤ pos (upwards a b c) ≡ y
 y_move y a b c h1 h2 h3 h4 h5 h6 h7 h8 h9 h10 h11 = grind (arith, nat_tests, ints)
-
--- the half byte of x is below 16
-x_signs_small : (lesser greater : ℕ) (x : ℤ) → x_signs lesser greater x < 16
-x_signs_small lesser greater x = omega (arith, plus_small lesser x, minus_small lesser x, plus_small greater x, minus_small greater x)
 
 -- the bits of a first or a second byte
 byte_x : (lesser greater : ℕ) (m : Point) → let byte = byte_of lesser greater m in
@@ -115,17 +81,6 @@ dst_move_of-record flags k m is within =
     y_move m.y (byte_of 1 9 m) (byte_of 3 27 m) (third_of flags m) small.1
     ay.2 ay.3 ay.0 ay.1 by.2 by.3 by.0 by.1 c.2 c.3 in
     point_of_parts x y
-
--- the kinds of stitches and jumps
-kind_without_flags : (third : ℕ) → third % 4 ≡ 3 → third < 64 → kind_of third ≡ kind.Stitch
-kind_without_flags third h1 h2 = grind (arith, nat_tests, ints)
-
-kind_with_jump : (third : ℕ) → third % 4 ≡ 3 → third / 64 ≡ 2 → kind_of third ≡ kind.Jump
-kind_with_jump third h1 h2 = grind (arith, nat_tests, ints)
-
--- a part is taken in one way
-one_sign : (part : ℕ) (z : ℤ) → plus_bit part z + minus_bit part z ≤ 1
-one_sign part z = omega arith
 
 pub kind_of-stitch : (m : Point) → kind_of (third_of 0 m) ≡ kind.Stitch
 kind_of-stitch m = grind (arith, nat_tests, ints)

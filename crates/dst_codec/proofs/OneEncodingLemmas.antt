@@ -4,20 +4,11 @@ use Rattle.std.proofs.Common.{◌≡◌, ℕ, ◌+◌, ◌-◌, ◌*◌, ◌/◌
 use Rattle.std.proofs.lemmas.Int.{ints}
 use Rattle.dst_codec.specs.Bits.{bit_of_byte, dst_move_of, rightwards, leftwards, upwards, downwards}
 use Rattle.dst_codec.specs.OneEncoding.{IsCanonicalByte, IsCanonicalThird}
-use Rattle.dst_codec.specs.MoveEncoding.{biased_number, plus_bit, minus_bit, dst_stitch_record}
-
--- the digits of a number from 0 to 242
-digits_of : (n a b c d e : ℕ) → a < 3 → b < 3 → c < 3 → d < 3 → e < 3 → n ≡ a + 3 * b + 9 * c + 27 * d + 81 * e
-    → (n / 1 % 3 ≡ a) × (n / 3 % 3 ≡ b) × (n / 9 % 3 ≡ c) × (n / 27 % 3 ≡ d) × (n / 81 % 3 ≡ e)
-digits_of n a b c d e ha hb hc hd he is = (omega arith, omega arith, omega arith, omega arith, omega arith)
+use Rattle.dst_codec.specs.MoveEncoding.{plus_bit, minus_bit, dst_stitch_record}
 
 -- a part that is plus, minus or neither, as a digit
 half : (t p q : ℕ) → p + q ≤ 1 → t + q ≡ 1 + p → (t / 2 ≡ p) × ((2 - t) / 2 ≡ q)
 half t p q few is = (omega arith, omega arith)
-
--- a difference, counted from 121
-shifted_by : (z : ℤ) (forth back : ℕ) → back ≤ 121 → pos forth -ℤ pos back ≡ z → biased_number z + back ≡ 121 + forth
-shifted_by z forth back h1 h2 = grind (arith, nat_tests, ints)
 
 -- the parts of an axis that are plus and minus, by its number
 pub record HasParts (z : ℤ) (p1 p3 p9 p27 p81 q1 q3 q9 q27 q81 : ℕ) : Type 0 where

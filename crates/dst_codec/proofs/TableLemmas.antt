@@ -40,23 +40,11 @@ y_second_is = refl
 y_third_is : Y_OF_THIRD ≡ map (parts 81 0 81 64 128 16 32) (range_with_len 0 256)
 y_third_is = refl
 
--- a bit is 0 or 1
-bit_small : (byte worth : ℕ) → bit_of_byte byte worth ≤ 1
-bit_small byte worth = omega arith
-
 -- entries of three tables, which count from the least, and their sum
 pub record Sums (a b c forth back : ℕ) : Type 0 where
   pub two : a + b ≤ 80
   pub most : a + b + c ≤ 242
   pub value : a + b + c + back ≡ 121 + forth
-
-sums_of : (a b c p1 q1 p9 q9 p3 q3 p27 q27 p q p81 q81 : ℕ) → p1 ≤ 1 → q1 ≤ 1 → p9 ≤ 1 → q9 ≤ 1 → p3 ≤ 1 → q3 ≤ 1
-    → p27 ≤ 1 → q27 ≤ 1 → p81 ≤ 1 → q81 ≤ 1
-    → a ≡ 10 + (1 * p1 + 9 * p9) - (1 * q1 + 9 * q9)
-    → b ≡ 30 + (3 * p3 + 27 * p27) - (3 * q3 + 27 * q27)
-    → c ≡ 81 + (0 * p + 81 * p81) - (0 * q + 81 * q81)
-    → Sums a b c (p1 + 3 * p3 + 9 * p9 + 27 * p27 + 81 * p81) (q1 + 3 * q3 + 9 * q9 + 27 * q27 + 81 * q81)
-sums_of a b c p1 q1 p9 q9 p3 q3 p27 q27 p q p81 q81 h1 h2 h3 h4 h5 h6 h7 h8 h9 h10 h11 h12 h13 = grind (arith, nat_tests, ints)
 
 -- three bytes' sums of one axis, by the worths of its bits
 axis : (one one' nine nine' a b c x y z : ℕ)

@@ -19,8 +19,8 @@ use Rattle.format_traits.specs.declared.fault.WriteFault.TheVariants as fault
 use Rattle.format_traits.specs.declared.encoder_state.EncoderState.{EncoderState}
 use Rattle.record_formats.specs.MoveParts.{position_after_move}
 use Rattle.record_formats.specs.Readings.{FileCommands, checked_command, checked_commands, loaded_with}
-use Rattle.record_formats.specs.Records.{Records, file_commands_from, file_commands, next}
-use Rattle.format_traits.specs.Refusals.{initial_encoder_state, encoder_state_after, is_above_max, refusal_if, refusal_of_needle, refusal_before_room, or_else, first_refusal_from, first_refusal, unless_refused}
+use Rattle.record_formats.specs.Records.{Records, next, file_commands_from, file_commands}
+use Rattle.format_traits.specs.Refusals.{initial_encoder_state, encoder_state_after, is_above_max, refusal_if, refusal_of_needle, refusal_before_room, first_refusal_from, first_refusal, unless_refused}
 use Rattle.dst_codec.specs.declared.dst.TheConstants.{LIMIT}
 use Rattle.dst_codec.specs.declared.header.TheConstants.{HEADER_LENGTH}
 use Rattle.dst_codec.specs.declared.record_kind.RecordKind.{RecordKind}
@@ -39,18 +39,8 @@ is_long (Some (fault.TooManyStops number)) = false
 is_long (Some (fault.TooLong number)) = false
 is_long (Some fault.Memory) = false
 
-long-or_else : (one other : Option WriteFault) → is_long one ≡ false → is_long other ≡ false
-    → is_long (or_else one other) ≡ false
-long-or_else one other h1 h2 = grind (arith, nat_tests, ints)
-
 long-stops : (b : Bool) (number : ℕ) → is_long (refusal_if b (fault.TooManyStops number)) ≡ false
 long-stops b number = grind (arith, nat_tests, ints)
-
-long-room : (b : Bool) (number : ℕ) → is_long (refusal_if b (fault.TooLong number)) ≡ false
-long-room b number = grind (arith, nat_tests, ints)
-
-long-none : (b : Bool) (f : WriteFault) → b ≡ false → is_long (refusal_if b f) ≡ false
-long-none b f h1 = grind (arith, nat_tests, ints)
 
 -- a record's move is within the limit
 move_small : (a b c : ℕ) → (unsigned_abs (dst_move_of a b c).x ≤ LIMIT) × (unsigned_abs (dst_move_of a b c).y ≤ LIMIT)
