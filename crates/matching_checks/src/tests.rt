@@ -7,6 +7,7 @@ use blossom_match::{Matching, Moat, Moats, Pair, Pairs, match_all};
 use lists_and_numbers::{Memory, Numbers};
 use odd_sets::DistTable;
 use std::alloc::Global;
+use std::process::Abort;
 use std::test::Fail;
 
 /// Returns the matching of a table with an even number of places that satisfies the triangle inequality.
@@ -33,6 +34,16 @@ fn an_entry_is_set_both_ways(rt: HostRuntime) -> Result<(), Fail> {
     Ok(())
 }
 
+/// Compares the cost of each table's matching with the given one.
+fn match_rows(rt: &impl Abort, alloc: Global, rows: &[(DistTable, u64)]) -> Result<(), Fail> {
+    for (t, total) in rows {
+        let m = matched(alloc, t)?;
+        assert_eq!(rt; fault(t, &m), "", "{total}");
+        assert_eq!(rt; cost(t, &m), *total, "{total}");
+    }
+    Ok(())
+}
+
 #[test]
 fn small_tables_have_their_least_matchings(rt: HostRuntime) -> Result<(), Fail> {
     let alloc = rt.alloc();
@@ -43,12 +54,7 @@ fn small_tables_have_their_least_matchings(rt: HostRuntime) -> Result<(), Fail> 
         (axis(alloc, &[3, 5, 0, 9])?, 7),
         (clusters(alloc, &[3, 3], 1, 10)?, 12),
     ];
-    for (t, total) in &rows {
-        let m = matched(alloc, t)?;
-        assert_eq!(rt; fault(t, &m), "", "{total}");
-        assert_eq!(rt; cost(t, &m), *total, "{total}");
-    }
-    Ok(())
+    match_rows(&rt, alloc, &rows)
 }
 
 #[test]
@@ -80,12 +86,7 @@ fn larger_tables_have_totals_known_by_hand(rt: HostRuntime) -> Result<(), Fail> 
             15 * 2 + 10 * 2 + 16 * 2 + 14,
         ),
     ];
-    for (t, total) in &rows {
-        let m = matched(alloc, t)?;
-        assert_eq!(rt; fault(t, &m), "", "{total}");
-        assert_eq!(rt; cost(t, &m), *total, "{total}");
-    }
-    Ok(())
+    match_rows(&rt, alloc, &rows)
 }
 
 #[test]
