@@ -1,5 +1,6 @@
 -- Drawn lines that are joined with starts and ends: the result has their sections and these starts and ends.
-use Rattle.std.proofs.Common.{◌≡◌, ◌∙◌, Bool, true, false, not, nat_lt, List, [], ◌∷◌, ◌++◌, Result, Ok, Err, IfOk, length, refl, ap, sym, subst, append_assoc, append-nil, All, if◌then◌else◌}
+use Rattle.std.proofs.lemmas.Bool.Decides.{nat_tests}
+use Rattle.std.proofs.Common.{◌≡◌, ◌∙◌, Bool, true, false, not, nat_lt, List, [], ◌∷◌, ◌++◌, Result, Ok, Err, IfOk, length, refl, ap, sym, subst, append_assoc, append-nil, All, if◌then◌else◌, arith}
 use Rattle.std.proofs.lemmas.List.Elements.{All-cons, All-head, All-nil}
 use Rattle.std.proofs.lemmas.Result.{IfOk-at_ok, IfOk-weaker}
 use Rattle.std.specs.List.{list_any}
@@ -41,16 +42,10 @@ module _ (lines : List LineValue) (spots : List Spot) (spot : Spot) where
   comes_last = last_by (is_junction lines spot) (list_any (λ (one : Spot). are_connected_spots lines one spot) spots) _ _ refl
 
 one_put : (is_start : Bool) (d : DrawingValue) (spot : Spot) → IfOk (walk_end_added is_start d spot) (HasSpots is_start d (spot ∷ []))
-one_put true d spot = after_both (IsLast d.lines d.starts spot) (HasSpots true d (spot ∷ [])) (spot_added d.lines d.starts spot)
-    (λ all. Ok (record d { starts = all })) (comes_last d.lines d.starts spot)
-    (λ all last. record { is = ap (λ (s : List Spot). record d { starts = s }) last.0; there = last.1 })
-one_put false d spot = after_both (IsLast d.lines d.ends spot) (HasSpots false d (spot ∷ [])) (spot_added d.lines d.ends spot)
-    (λ all. Ok (record d { ends = all })) (comes_last d.lines d.ends spot)
-    (λ all last. record { is = ap (λ (s : List Spot). record d { ends = s }) last.0; there = last.1 })
+one_put is_start d spot = grind (arith, nat_tests)
 
 lines_stay : (is_start : Bool) (d : DrawingValue) (spots : List Spot) → (with_spots is_start d spots).lines ≡ d.lines
-lines_stay true d spots = refl
-lines_stay false d spots = refl
+lines_stay is_start d spots = grind (arith, nat_tests)
 
 one_more : (is_start : Bool) (d : DrawingValue) (spot : Spot) (rest : List Spot)
     → with_spots is_start (with_spots is_start d (spot ∷ [])) rest ≡ with_spots is_start d (spot ∷ rest)

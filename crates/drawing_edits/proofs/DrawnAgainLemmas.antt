@@ -1,6 +1,6 @@
 -- Lines that can be drawn again block by block, in the order of their blocks, are the same lines.
 use Rattle.std.proofs.Common.{◌≡◌, ℕ, ◌+◌, ◌-◌, ◌==◌, Bool, true, false, List, [], ◌∷◌, ◌++◌, length, Result, Ok, Err, if◌then◌else◌, refl, ap, sym, subst, ◌∙◌, arith, append_assoc, append-nil}
-use Rattle.std.proofs.lemmas.Bool.Decides.{Decides-eqb}
+use Rattle.std.proofs.lemmas.Bool.Decides.{Decides-eqb, nat_tests}
 use Rattle.std.proofs.lemmas.List.{length-append}
 use Rattle.drawing_edits.specs.RedrawnDrawings.{line_added_if, with_blocks, with_lines_of}
 use Rattle.drawing_edits.specs.ValidRedraws.{LinesInOrderAreDrawn}
@@ -14,10 +14,7 @@ use Rattle.line_sections.specs.Lines.{LineValue}
 line_put : (a b : Bool) (x y : DrawKind) (steps : Result ℕ DrawKind) (new : DrawingValue)
     (more : DrawingValue → Result DrawingValue DrawKind) (e : DrawingValue)
     → and_then (if a then Err x else (if b then Err y else and_then steps (λ s. Ok new))) more ≡ Ok e → more new ≡ Ok e
-line_put true b x y steps new more e is = absurd (let no : ⊥ = cc in no)
-line_put false true x y steps new more e is = absurd (let no : ⊥ = cc in no)
-line_put false false x y (Ok s) new more e is = is
-line_put false false x y (Err why) new more e is = absurd (let no : ⊥ = cc in no)
+line_put a b x y steps new more e h1 = grind (arith, nat_tests)
 
 lines_if : (block : ℕ) (d : DrawingValue) (line : LineValue) (rest : List LineValue) (e : DrawingValue) → length d.threads ≡ block + 1
     → (b : Bool) → (line.block == block) ≡ b
@@ -46,9 +43,7 @@ lines_put block d (line ∷ rest) e last is =
 block_put : (a b : Bool) (x y : DrawKind) (new : DrawingValue) (more after : DrawingValue → Result DrawingValue DrawKind)
     (e : DrawingValue) → and_then (and_then (if a then Err x else (if b then Err y else Ok new)) more) after ≡ Ok e
     → and_then (more new) after ≡ Ok e
-block_put true b x y new more after e is = absurd (let no : ⊥ = cc in no)
-block_put false true x y new more after e is = absurd (let no : ⊥ = cc in no)
-block_put false false x y new more after e is = is
+block_put a b x y new more after e h1 = grind (arith, nat_tests)
 
 blocks_after : (r : Result DrawingValue DrawKind) (block : ℕ) (d : DrawingValue) (thread : ℕ) (rest : List ℕ) (lines : List LineValue)
     (e : DrawingValue) → length d.threads ≡ block → with_lines_of block (with_new_block d thread) lines ≡ r
@@ -81,9 +76,7 @@ blocks_put (thread ∷ rest) block d lines e last is =
     (λ next own more. blocks_put rest (block + 1) next lines e own more)
 
 finished_is : (a b : Bool) (x y : DrawKind) (d e : DrawingValue) → (if a then Err x else (if b then Err y else Ok d)) ≡ Ok e → e ≡ d
-finished_is true b x y d e is = absurd (let no : ⊥ = cc in no)
-finished_is false true x y d e is = absurd (let no : ⊥ = cc in no)
-finished_is false false x y d e is = cc
+finished_is a b x y d e h1 = grind (arith, nat_tests)
 
 drawn_by : (r : Result DrawingValue DrawKind) (v e : DrawingValue) → with_blocks (empty_drawing v.label v.step) 0 v.threads v.lines ≡ r
     → and_then r finished_drawing ≡ Ok e → e ≡ record v { lines = grouped 0 v.threads v.lines; starts = []; ends = [] }

@@ -1,4 +1,5 @@
 -- Edits keep starts and ends in the order of their blocks.
+use Rattle.std.proofs.lemmas.Bool.Decides.{nat_tests}
 use Rattle.std.proofs.Common.{◌≡◌, ◌<◌, ◌≤◌, ℕ, Bool, true, false, not, nat_lt, List, [], ◌∷◌, ◌++◌, length, map, take, drop, get_or, Result, Ok, Err, arith, refl, sym, ◌∙◌, ap, subst}
 use Rattle.std.proofs.lemmas.Bool.{ltb-false, ltb-true}
 use Rattle.std.proofs.lemmas.List.{drop-map, get_or-map, length-map, map-append, take-map}
@@ -77,10 +78,7 @@ spot_kept spot spots rise = subst IsNonDecreasing (sym shape)
 
 -- A drawing with the starts and ends of another one has their order.
 order_of_same : (d new : DrawingValue) → HasEndsOf d new → HasOrderedEnds d → HasOrderedEnds new
-order_of_same d new same ordered = record {
-  starts = subst AreInBlockOrder (sym same.starts) ordered.starts;
-  ends = subst AreInBlockOrder (sym same.ends) ordered.ends;
-}
+order_of_same d new h1 h2 = grind (arith, nat_tests)
 
 moved_order : (f : Point → Point) (d : DrawingValue) → HasOrderedEnds d → HasOrderedEnds (moved_drawing f d)
 moved_order f d ordered = record {

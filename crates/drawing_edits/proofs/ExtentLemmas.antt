@@ -1,6 +1,7 @@
 -- Extents of points, one line after another.
-use Rattle.std.proofs.Common.{◌≡◌, ℤ, Bool, true, false, ◌&&◌, cond, List, [], ◌∷◌, ◌++◌, Option, Some, None, refl, ap, ◌∙◌, sym, subst, map, nat_le, unsigned_abs}
-use Rattle.std.proofs.lemmas.Bool.{and_parts, and_from}
+use Rattle.std.proofs.lemmas.Bool.Decides.{nat_tests}
+use Rattle.std.proofs.lemmas.Int.{ints}
+use Rattle.std.proofs.Common.{◌≡◌, ℤ, Bool, true, ◌&&◌, cond, List, [], ◌∷◌, ◌++◌, Option, Some, None, refl, ap, ◌∙◌, sym, map, nat_le, unsigned_abs, arith}
 use Rattle.std.specs.Prelude.{fold}
 use Rattle.std.specs.Int.{int_max, int_min}
 use Rattle.design_model.specs.declared.bounds.Extent.{Extent}
@@ -22,9 +23,7 @@ abbrev corners : (a b c d : ℤ) → Extent
 corners a b c d = record { min = record { x = a; y = b }; max = record { x = c; y = d } }
 
 same_corners : (a b c d a' b' c' d' : ℤ) → a ≡ a' → b ≡ b' → c ≡ c' → d ≡ d' → corners a b c d ≡ corners a' b' c' d'
-same_corners a b c d a' b' c' d' p q r s =
-    ap (λ (i : ℤ). corners i b c d) p ∙ (ap (λ (i : ℤ). corners a' i c d) q
-    ∙ (ap (λ (i : ℤ). corners a' b' i d) r ∙ ap (λ (i : ℤ). corners a' b' c' i) s))
+same_corners a b c d a' b' c' d' h1 h2 h3 h4 = cc
 
 grown_more : (e : Extent) (ps qs : List Point) → grown_extent (grown_extent e ps) qs ≡ grown_extent e (ps ++ qs)
 grown_more e ps qs = same_corners _ _ _ _ _ _ _ _
@@ -51,32 +50,20 @@ next_line e e' whole line left more is grown before =
 -- one of two numbers
 one_of : (b : Bool) (x y : ℤ) → nat_le (unsigned_abs x) NEEDLE_LIMIT ≡ true → nat_le (unsigned_abs y) NEEDLE_LIMIT ≡ true
     → nat_le (unsigned_abs (cond b y x)) NEEDLE_LIMIT ≡ true
-one_of true x y one two = two
-one_of false x y one two = one
+one_of b x y h1 h2 = grind (arith, nat_tests)
 
 -- corners between needle points are needle points
 least_within : (p q : Point) → IsNeedlePoint p → IsNeedlePoint q
     → IsNeedlePoint (record { x = int_min p.x q.x; y = int_min p.y q.y })
-least_within p q one two =
-    let ps = and_parts (nat_le (unsigned_abs p.x) NEEDLE_LIMIT) (nat_le (unsigned_abs p.y) NEEDLE_LIMIT) one in
-    let qs = and_parts (nat_le (unsigned_abs q.x) NEEDLE_LIMIT) (nat_le (unsigned_abs q.y) NEEDLE_LIMIT) two in
-    and_from (nat_le (unsigned_abs (int_min p.x q.x)) NEEDLE_LIMIT) (nat_le (unsigned_abs (int_min p.y q.y)) NEEDLE_LIMIT)
-    (one_of _ p.x q.x ps.0 qs.0) (one_of _ p.y q.y ps.1 qs.1)
+least_within p q h1 h2 = grind (arith, nat_tests)
 
 greatest_within : (p q : Point) → IsNeedlePoint p → IsNeedlePoint q
     → IsNeedlePoint (record { x = int_max p.x q.x; y = int_max p.y q.y })
-greatest_within p q one two =
-    let ps = and_parts (nat_le (unsigned_abs p.x) NEEDLE_LIMIT) (nat_le (unsigned_abs p.y) NEEDLE_LIMIT) one in
-    let qs = and_parts (nat_le (unsigned_abs q.x) NEEDLE_LIMIT) (nat_le (unsigned_abs q.y) NEEDLE_LIMIT) two in
-    and_from (nat_le (unsigned_abs (int_max p.x q.x)) NEEDLE_LIMIT) (nat_le (unsigned_abs (int_max p.y q.y)) NEEDLE_LIMIT)
-    (one_of _ q.x p.x qs.0 ps.0) (one_of _ q.y p.y qs.1 ps.1)
+greatest_within p q h1 h2 = grind (arith, nat_tests)
 
 -- an extent of needle points, and one more needle point
 pub extent_within : (e : Extent) (at least greatest : Point) → IsNeedleExtent e → IsNeedlePoint at
     → least ≡ record { x = int_min e.min.x at.x; y = int_min e.min.y at.y }
     → greatest ≡ record { x = int_max e.max.x at.x; y = int_max e.max.y at.y }
     → IsNeedleExtent (record { min = least; max = greatest })
-extent_within e at least greatest is in_range low high = record {
-  min = subst IsNeedlePoint (sym low) (least_within e.min at is.min in_range);
-  max = subst IsNeedlePoint (sym high) (greatest_within e.max at is.max in_range);
-}
+extent_within e at least greatest h1 h2 h3 h4 = grind (arith, nat_tests, ints)

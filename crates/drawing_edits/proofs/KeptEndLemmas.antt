@@ -1,16 +1,15 @@
 -- A drawing that is drawn again has the given starts and ends.
-use Rattle.std.proofs.Common.{◌≡◌, ℕ, ◌+◌, ◌==◌, Bool, true, false, not, nat_lt, List, [], ◌∷◌, Result, Ok, Err, IfOk, length, refl, ap, if◌then◌else◌}
+use Rattle.std.proofs.lemmas.Bool.Decides.{nat_tests}
+use Rattle.std.proofs.Common.{◌≡◌, ℕ, ◌+◌, ◌==◌, Bool, List, [], ◌∷◌, Result, Ok, Err, IfOk, length, refl, ap, if◌then◌else◌, arith}
 use Rattle.std.proofs.lemmas.Result.{IfOk-at_ok, IfOk-weaker}
 use Rattle.design_model.specs.declared.point.Point.{Point}
 use Rattle.drawing_model.specs.declared.draw_kind.DrawKind.{DrawKind}
 use Rattle.drawing_model.specs.declared.draw_kind.DrawKind.TheVariants as kind
-use Rattle.drawing_model.specs.declared.limits.TheConstants.{MAX_BLOCKS, MAX_LINES, MAX_POINTS}
 use Rattle.drawing_model.specs.Drawings.{DrawingValue}
-use Rattle.drawing_model.specs.GrowingDrawings.{all_in_needle_range, and_then, block_added, empty_drawing, finished_drawing, is_last_empty, line_added, point_count, steps_with_line, with_new_block, with_new_line}
+use Rattle.drawing_model.specs.GrowingDrawings.{and_then, block_added, empty_drawing, finished_drawing, is_last_empty, line_added}
 use Rattle.drawing_model.specs.JoinedDrawings.{joined_drawing}
 use Rattle.drawing_model.specs.WalkEnds.{HasNoEnds}
 use Rattle.line_sections.specs.Lines.{LineValue}
-use Rattle.line_sections.specs.Sections.{all_sections}
 use Rattle.drawing_edits.specs.declared.edit_fault.EditFault.{EditFault}
 use Rattle.drawing_edits.specs.EditFaults.{edit_answer}
 use Rattle.drawing_edits.specs.KeptEnds.{HasEndsOf, IsPlacedEnd, PlacedEndsAreKept, RedrawnHasEnds}
@@ -22,23 +21,17 @@ use Rattle.drawing_model.proofs.CallerLemmas.{after_both}
 -- What holds where a test doesn't refuse holds after the test.
 unless : {A : Type 0} (P : A → Type 0) (test : Bool) (why : DrawKind) (r : Result A DrawKind) → IfOk r P
     → IfOk (if test then Err why else r) P
-unless P true why r next = tt
-unless P false why r next = next
+unless P test why r h1 = grind (arith, nat_tests)
 
 -- Nothing is asked of the value of a step.
 any : {A : Type 0} (r : Result A DrawKind) → IfOk r (λ a. Unit {0})
-any (Ok a) = tt
-any (Err why) = tt
+any r = grind (arith, nat_tests)
 
 line_keeps : (d : DrawingValue) (points : List Point) → HasNoEnds d → IfOk (line_added d points) HasNoEnds
-line_keeps d points has =
-    unless HasNoEnds (length d.threads == 0) kind.NoBlock _ (unless HasNoEnds (not (all_in_needle_range points)) kind.OutOfRange _
-    (after_both (λ n. Unit {0}) HasNoEnds (steps_with_line d points) (λ n. Ok (with_new_line d points)) (any (steps_with_line d points))
-    (λ n u. record { starts = has.starts; ends = has.ends })))
+line_keeps d points h1 = grind (arith, nat_tests)
 
 line_if_keeps : (b : Bool) (d : DrawingValue) (points : List Point) → HasNoEnds d → IfOk (line_added_if b d points) HasNoEnds
-line_if_keeps true d points has = line_keeps d points has
-line_if_keeps false d points has = has
+line_if_keeps b d points h1 = grind (arith, nat_tests)
 
 lines_keep : (block : ℕ) (d : DrawingValue) (lines : List LineValue) → HasNoEnds d → IfOk (with_lines_of block d lines) HasNoEnds
 lines_keep block d [] has = has
@@ -47,8 +40,7 @@ lines_keep block d (line ∷ rest) has = after_both HasNoEnds HasNoEnds (line_ad
     (λ next kept. lines_keep block next rest kept)
 
 block_keeps : (d : DrawingValue) (thread : ℕ) → HasNoEnds d → IfOk (block_added d thread) HasNoEnds
-block_keeps d thread has = unless HasNoEnds (is_last_empty d) kind.EmptyBlock _ (unless HasNoEnds (length d.threads == MAX_BLOCKS)
-    kind.TooManyBlocks (Ok (with_new_block d thread)) (record { starts = has.starts; ends = has.ends }))
+block_keeps d thread h1 = grind (arith, nat_tests)
 
 blocks_keep : (d : DrawingValue) (block : ℕ) (threads : List ℕ) (lines : List LineValue) → HasNoEnds d
     → IfOk (with_blocks d block threads lines) HasNoEnds
@@ -64,9 +56,7 @@ finish_keeps : (d : DrawingValue) → HasNoEnds d → IfOk (finished_drawing d) 
 finish_keeps d has = unless HasNoEnds (length d.threads == 0) kind.NoBlock _ (unless HasNoEnds (is_last_empty d) kind.EmptyBlock (Ok d) has)
 
 join_keeps : (d : DrawingValue) → HasNoEnds d → IfOk (joined_drawing d) HasNoEnds
-join_keeps d has = unless HasNoEnds (nat_lt MAX_LINES (length (all_sections d.lines))) kind.TooManyLines _
-    (unless HasNoEnds (nat_lt MAX_POINTS (point_count (all_sections d.lines))) kind.TooManyPoints
-    (Ok (record d { lines = all_sections d.lines })) (record { starts = has.starts; ends = has.ends }))
+join_keeps d h1 = grind (arith, nat_tests)
 
 -- Lines are drawn again without starts and ends.
 lines_alone : (d : DrawingValue) → IfOk (redrawn_lines d) HasNoEnds

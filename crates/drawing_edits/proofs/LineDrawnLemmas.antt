@@ -1,5 +1,5 @@
 -- Lines within the limits of a drawing are drawn again as they are.
-use Rattle.std.proofs.Common.{◌≡◌, ◌≢◌, ℕ, zero, suc, ℤ, ◌+◌, ◌-◌, ◌<◌, ◌≤◌, ◌==◌, Bool, true, false, ◌||◌, nat_lt, List, [], ◌∷◌, ◌++◌, length, map, Result, Ok, Err, All, Contains, if◌then◌else◌, refl, ap, sym, subst, ◌∙◌, arith, append_assoc, append-nil}
+use Rattle.std.proofs.Common.{◌≡◌, ◌≢◌, ℕ, zero, suc, ℤ, ◌+◌, ◌-◌, ◌<◌, ◌≤◌, ◌==◌, Bool, true, false, ◌||◌, nat_lt, List, [], ◌∷◌, ◌++◌, length, map, Result, Ok, All, Contains, if◌then◌else◌, refl, ap, sym, subst, ◌∙◌, arith, append_assoc, append-nil}
 use Rattle.std.proofs.lemmas.Bool.{or_left, or_right}
 use Rattle.std.proofs.lemmas.Bool.Decides.{Decides-eqb, nat_tests}
 use Rattle.std.proofs.lemmas.List.{length-append}
@@ -73,9 +73,7 @@ with_more d lines = record d { lines = d.lines ++ lines }
 -- A line of the last block is the line that is added.
 own_line : (block : ℕ) (d : DrawingValue) (line : LineValue) → length d.threads ≡ block + 1 → (line.block == block) ≡ true
     → with_new_line d line.points ≡ with_more d (line ∷ [])
-own_line block d line last same =
-    ap (λ (own : ℕ). with_more d (record { block = own; points = line.points } ∷ []))
-    (let is_own = (Decides-eqb line.block block).0 same in omega (arith, last, is_own))
+own_line block d line h1 h2 = grind (arith, nat_tests)
 
 lines_if : (block : ℕ) (d : DrawingValue) (line : LineValue) (rest after : List LineValue) → length d.threads ≡ block + 1
     → (b : Bool) → (line.block == block) ≡ b
@@ -117,16 +115,11 @@ kept_in block (line ∷ rest) some = by_test (line.block == block) refl some (ke
 
 -- A last block that has a line is not empty.
 filled_by : (d : DrawingValue) (block : ℕ) → length d.threads ≡ block + 1 → is_in block d.lines ≡ true → is_last_empty d ≡ false
-filled_by d block count is =
-    let some : (length d.threads == 0) ≡ false = grind (arith, nat_tests, count) in
-    let last : length d.threads - 1 ≡ block = omega (arith, count) in
-    rw (some, last, is) refl
+filled_by d block h1 h2 = grind (arith, nat_tests)
 
 block_comes : (d : DrawingValue) (thread : ℕ) → is_last_empty d ≡ false → length d.threads < MAX_BLOCKS
     → block_added d thread ≡ Ok (with_new_block d thread)
-block_comes d thread filled few =
-    let place : (length d.threads == 255) ≡ false = grind (arith, nat_tests, few) in
-    rw (filled, place) refl
+block_comes d thread h1 h2 = grind (arith, nat_tests)
 
 -- A drawing with more blocks and lines.
 abbrev grown : DrawingValue → List ℕ → List LineValue → DrawingValue
@@ -176,11 +169,7 @@ blocks_come (thread ∷ rest) block d lines last filled few used room =
     )
 
 finished : (d : DrawingValue) → 1 ≤ length d.threads → is_last_empty d ≡ false → finished_drawing d ≡ Ok d
-finished d some filled = by_tests (length d.threads == 0) (is_last_empty d) (grind (arith, nat_tests, some)) filled
-  where
-    by_tests : (none empty : Bool) → none ≡ false → empty ≡ false
-        → (if none then Err kind.NoBlock else (if empty then Err kind.EmptyBlock else Ok d)) ≡ Ok d
-    by_tests none empty some filled = rw (some, filled) refl
+finished d h1 h2 = grind (arith, nat_tests)
 
 -- Each block of a valid drawing has a line.
 found_in : (block : ℕ) (lines : List LineValue) → Contains (map (λ (line : LineValue). line.block) lines) block → is_in block lines ≡ true

@@ -1,4 +1,5 @@
 -- The pieces in order are the pieces of a drawing.
+use Rattle.std.proofs.lemmas.Bool.Decides.{nat_tests}
 use Rattle.std.proofs.Common.{◌≡◌, ◌≢◌, ◌<◌, ◌≤◌, inl, ℕ, ◌==◌, true, List, [], ◌∷◌, length, map, filter, get_or, Some, unwrap_or, All, Contains, arith, refl, sym, ◌∙◌, ap, subst}
 use Rattle.std.proofs.lemmas.List.Elements.{All-contains, All-filter, All-head, All-map, All-tail, filter_passes}
 use Rattle.std.proofs.lemmas.List.Kept.{IsStrictlyIncreasing-filter}
@@ -23,17 +24,14 @@ use Rattle.lists_and_numbers.proofs.CallerLemmas.{all_concat, concat_has, filter
 
 -- A list of points begins at its first point.
 begins : (ps : List Point) → 2 ≤ length ps → first_point ps ≡ Some (unwrap_or (first_point ps) origin)
-begins [] long = absurd (omega (arith, long))
-begins (p ∷ ps) long = refl
+begins ps h1 = grind (arith, nat_tests)
 
 -- A list with an item begins with one of its items.
 first_in : (xs : List ℕ) (x : ℕ) → Contains xs x → Contains xs (first_line xs)
-first_in [] x (k, below, is) = absurd (omega (arith, below))
-first_in (y ∷ xs) x has = (0, omega arith, refl)
+first_in xs x h1 = grind (arith, nat_tests)
 
 not_empty : (xs : List ℕ) (x : ℕ) → Contains xs x → xs ≢ []
-not_empty [] x has is = absurd (omega (arith, has.1))
-not_empty (y ∷ xs) x has is = absurd cc
+not_empty xs x h1 = grind (arith, nat_tests)
 
 module _ (d : DrawingValue) (limits : KeepsDrawingLimits d) (connected : SpotsAreConnected) where
   -- The representative of the spot where a line begins: lines of one piece have the same.

@@ -1,5 +1,6 @@
 -- The starts and ends of a drawing are needle points, as they are ends of its lines.
-use Rattle.std.proofs.Common.{◌≡◌, ◌==◌, ◌||◌, Bool, true, false, ℤ, List, [], ◌∷◌, All, refl, sym, subst, ◌∙◌}
+use Rattle.std.proofs.lemmas.Bool.Decides.{nat_tests}
+use Rattle.std.proofs.Common.{◌≡◌, ◌==◌, ◌||◌, Bool, true, false, ℤ, List, [], ◌∷◌, All, sym, subst, ◌∙◌, arith}
 use Rattle.std.proofs.lemmas.Bool.{and_parts}
 use Rattle.std.proofs.lemmas.List.Elements.{All-head, All-tail}
 use Rattle.std.specs.List.{list_any}
@@ -15,8 +16,7 @@ use Rattle.step_splitter.proofs.CallerLemmas.{last_in_range}
 
 -- one of two tests passes
 either_true : {R : Type 0} (a b : Bool) → (a || b) ≡ true → (a ≡ true → R) → (b ≡ true → R) → R
-either_true true b found one two = one refl
-either_true false b found one two = two found
+either_true a b h1 h2 h3 = grind (arith, nat_tests)
 
 end_in_range : (at : Point) (points : List Point) → All IsNeedlePoint points
     → list_any (is_same_point at) (endpoints points) ≡ true → IsNeedlePoint at

@@ -1,5 +1,6 @@
 -- A valid joined drawing is drawn again as it is.
-use Rattle.std.proofs.Common.{◌≡◌, true, false, List, [], ◌∷◌, ◌++◌, Result, Ok, ap, sym, subst, ◌∙◌, append_assoc, append-nil}
+use Rattle.std.proofs.lemmas.Bool.Decides.{nat_tests}
+use Rattle.std.proofs.Common.{◌≡◌, true, false, List, [], ◌∷◌, ◌++◌, Result, Ok, ap, sym, subst, ◌∙◌, append_assoc, append-nil, arith}
 use Rattle.line_sections.specs.declared.spot.Spot.{Spot}
 use Rattle.drawing_model.specs.declared.draw_kind.DrawKind.{DrawKind}
 use Rattle.drawing_model.specs.Drawings.{DrawingValue, KeepsDrawingLimits}
@@ -33,22 +34,7 @@ ends_come (spot ∷ rest) d apart =
 
 -- The limits say nothing of starts and ends.
 bare_keeps : (d : DrawingValue) → KeepsDrawingLimits d → KeepsDrawingLimits (record d { starts = []; ends = [] })
-bare_keeps d keeps = record {
-  label = keeps.label;
-  one_word = keeps.one_word;
-  step_from = keeps.step_from;
-  step_to = keeps.step_to;
-  blocks_from = keeps.blocks_from;
-  blocks_to = keeps.blocks_to;
-  threads = keeps.threads;
-  used = keeps.used;
-  there = keeps.there;
-  ordered = keeps.ordered;
-  lines = keeps.lines;
-  line_count = keeps.line_count;
-  point_count = keeps.point_count;
-  cost = keeps.cost;
-}
+bare_keeps d h1 = grind (arith, nat_tests)
 
 -- A valid joined drawing is drawn again as it is.
 pub valid_redrawn : JoinedDrawingsStay → ValidDrawingsAreRedrawn
