@@ -52,15 +52,6 @@ one_of : (b : Bool) (x y : ℤ) → nat_le (unsigned_abs x) NEEDLE_LIMIT ≡ tru
     → nat_le (unsigned_abs (cond b y x)) NEEDLE_LIMIT ≡ true
 one_of b x y h1 h2 = grind (arith, nat_tests)
 
--- corners between needle points are needle points
-least_within : (p q : Point) → IsNeedlePoint p → IsNeedlePoint q
-    → IsNeedlePoint (record { x = int_min p.x q.x; y = int_min p.y q.y })
-least_within p q h1 h2 = grind (arith, nat_tests)
-
-greatest_within : (p q : Point) → IsNeedlePoint p → IsNeedlePoint q
-    → IsNeedlePoint (record { x = int_max p.x q.x; y = int_max p.y q.y })
-greatest_within p q h1 h2 = grind (arith, nat_tests)
-
 -- an extent of needle points, and one more needle point
 pub extent_within : (e : Extent) (at least greatest : Point) → IsNeedleExtent e → IsNeedlePoint at
     → least ≡ record { x = int_min e.min.x at.x; y = int_min e.min.y at.y }

@@ -6,7 +6,7 @@ use Rattle.design_model.specs.declared.point.Point.{Point}
 use Rattle.drawing_model.specs.declared.draw_kind.DrawKind.{DrawKind}
 use Rattle.drawing_model.specs.declared.draw_kind.DrawKind.TheVariants as kind
 use Rattle.drawing_model.specs.Drawings.{DrawingValue}
-use Rattle.drawing_model.specs.GrowingDrawings.{and_then, block_added, empty_drawing, finished_drawing, is_last_empty, line_added}
+use Rattle.drawing_model.specs.GrowingDrawings.{and_then, block_added, empty_drawing, finished_drawing, is_last_empty}
 use Rattle.drawing_model.specs.JoinedDrawings.{joined_drawing}
 use Rattle.drawing_model.specs.WalkEnds.{HasNoEnds}
 use Rattle.line_sections.specs.Lines.{LineValue}
@@ -26,9 +26,6 @@ unless P test why r h1 = grind (arith, nat_tests)
 -- Nothing is asked of the value of a step.
 any : {A : Type 0} (r : Result A DrawKind) → IfOk r (λ a. Unit {0})
 any r = grind (arith, nat_tests)
-
-line_keeps : (d : DrawingValue) (points : List Point) → HasNoEnds d → IfOk (line_added d points) HasNoEnds
-line_keeps d points h1 = grind (arith, nat_tests)
 
 line_if_keeps : (b : Bool) (d : DrawingValue) (points : List Point) → HasNoEnds d → IfOk (line_added_if b d points) HasNoEnds
 line_if_keeps b d points h1 = grind (arith, nat_tests)

@@ -27,10 +27,6 @@ ends_with a (ends ∷ rest) = begun_at a ends ∷ rest
 abbrev ends_joined : Bool → (a q : Point) → List (List Point) → List (List Point)
 ends_joined cut a q ends = if cut then (a ∷ q ∷ []) ∷ ends else ends_with a ends
 
-with_first_ends : (a : Point) (sections : List (List Point))
-    → map (λ (s : List Point). endpoints s) (sections_with_first a sections) ≡ ends_with a (map (λ (s : List Point). endpoints s) sections)
-with_first_ends a sections = grind (arith, nat_tests)
-
 ends_by : (a q : Point) (cut : Bool) (behind : List (List Point))
     → map (λ (s : List Point). endpoints s) (if cut then (a ∷ q ∷ []) ∷ behind else sections_with_first a behind)
     ≡ ends_joined cut a q (map (λ (s : List Point). endpoints s) behind)
@@ -45,25 +41,6 @@ record BeginsAt (a : Point) (ends : List (List Point)) : Type 0 where
   more : List Point
   others : List (List Point)
   is : ends ≡ (a ∷ more) ∷ others
-
-with_begins : (a : Point) (ends : List (List Point)) → BeginsAt a (ends_with a ends)
-with_begins a ends = grind (arith, nat_tests)
-
-joined_begins : (cut : Bool) (a q : Point) (ends : List (List Point)) → BeginsAt a (ends_joined cut a q ends)
-joined_begins cut a q ends = grind (arith, nat_tests)
-
-ends_begin : (cut : Point → Bool) (a : Point) (rest : List Point) → BeginsAt a (ends_from cut a rest)
-ends_begin cut a [] = record { more = a ∷ []; others = []; is = refl }
-ends_begin cut a (q ∷ rest) =
-    let begins = joined_begins (has_points rest && cut q) a q (ends_from cut q rest) in
-    record { more = begins.more; others = begins.others; is = ends_step cut a q rest ∙ begins.is }
-
-twice_begun : (a p x : Point) (ends : List (List Point)) → BeginsAt x ends → ends_with a (ends_with p ends) ≡ ends_with a ends
-twice_begun a p x ends h1 = cc
-
-passed_by : (cut : Bool) (a p b : Point) (ends : List (List Point)) → BeginsAt b ends
-    → ends_with a (ends_joined cut p b ends) ≡ ends_joined cut a b ends
-passed_by cut a p b ends h1 = grind (arith, nat_tests)
 
 -- a point where the line isn't cut may be passed
 passed : (cut : Point → Bool) (a p b : Point) (rest : List Point) → cut p ≡ false

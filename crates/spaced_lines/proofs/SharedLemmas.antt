@@ -19,11 +19,6 @@ abbrev ends_last : Point → List Point → Bool
 ends_last p [] = false
 ends_last p (x ∷ rest) = is_same_point p (last_point_or x rest)
 
--- with one more point in front, sections end where they ended
-ends_with_first : (p a : Point) (sections : List (List Point)) → list_any (ends_last p) sections ≡ true
-    → list_any (ends_last p) (sections_with_first a sections) ≡ true
-ends_with_first p a sections h1 = grind (arith, nat_tests)
-
 cut_or_not : (p a q : Point) (behind : List (List Point)) (cut : Bool) → list_any (ends_last p) behind ≡ true
     → list_any (ends_last p) (if cut then (a ∷ q ∷ []) ∷ behind else sections_with_first a behind) ≡ true
 cut_or_not p a q behind cut h1 = grind (arith, nat_tests)
