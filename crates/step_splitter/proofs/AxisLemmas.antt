@@ -107,26 +107,23 @@ axis_moves from to n i some far =
 
 -- the way begins at the one number and ends at the other
 pub axis_first : (from to : ℤ) (n : ℕ) → 1 ≤ n → coordinate_on_segment from to n 0 ≡ from
-axis_first from to n some =
-    by_lt_z to from
-    (λ down. rw (coordinate_on_segment-down from to n 0 some down, none_down _ n some) (omega (arith, ints)))
-    (λ up. rw (coordinate_on_segment-up from to n 0 up, none_up _ n) (omega (arith, ints)))
+axis_first from to n some = grind (arith, nat_tests, by_lt_z, coordinate_on_segment-down, none_down, coordinate_on_segment-up, none_up)
 
 pub axis_last : (from to : ℤ) (n : ℕ) → 1 ≤ n → coordinate_on_segment from to n n ≡ to
-axis_last from to n some =
-    by_lt_z to from
-    (λ down. rw (
-      coordinate_on_segment-down from to n n some down,
-      part_last (unsigned_abs (to -ℤ from)) (n - 1) n (omega arith),
-    ) (grind (arith, ints)))
-    (λ up. rw (coordinate_on_segment-up from to n n up, whole_last (unsigned_abs (to -ℤ from)) n some) (grind (arith, ints)))
+axis_last from to n some = grind (arith, nat_tests, by_lt_z, coordinate_on_segment-down, part_last, coordinate_on_segment-up, whole_last)
 
 -- and stays within the limit of both
 pub axis_within : (from to : ℤ) (n i limit : ℕ) → 1 ≤ n → i ≤ n → unsigned_abs from ≤ limit
     → unsigned_abs to ≤ limit → unsigned_abs (coordinate_on_segment from to n i) ≤ limit
 axis_within from to n i limit some there from_in to_in =
-    by_lt_z to from
-    (λ down. rw (coordinate_on_segment-down from to n i some down)
-    (within_down from to _ limit down from_in to_in (part_within i _ (n - 1) n (omega arith) there)))
-    (λ up. rw (coordinate_on_segment-up from to n i up)
-    (within_up from to _ limit up from_in to_in (whole_within i _ n some there)))
+    grind (
+      arith,
+      nat_tests,
+      by_lt_z,
+      coordinate_on_segment-down,
+      within_down,
+      part_within,
+      coordinate_on_segment-up,
+      within_up,
+      whole_within,
+    )

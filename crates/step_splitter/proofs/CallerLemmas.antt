@@ -1,4 +1,5 @@
 -- Lemmas that this crate and those above cite.
+use Rattle.std.proofs.lemmas.Bool.Decides.{nat_tests}
 use Rattle.std.proofs.Common.{All, List, [], arith, unsigned_abs, ℕ, ℤ, ◌+◌, ◌-ℤ◌, ◌∷◌, ◌≤◌}
 use Rattle.std.proofs.Math.Nat.{max-le}
 use Rattle.std.proofs.lemmas.Int.{ints}
@@ -19,7 +20,4 @@ difference_few a b limit from to = grind (arith, ints)
 
 -- the move between two needle points has a limited size
 pub size_few : (p q : Point) → IsNeedlePoint p → IsNeedlePoint q → move_size (move_between p q) ≤ 60000
-size_few p q from to =
-    let a = within_parts 30000 p from in
-    let b = within_parts 30000 q to in
-    max-le (difference_few p.x q.x 30000 a.0 b.0) (difference_few p.y q.y 30000 a.1 b.1)
+size_few p q from to = grind (arith, nat_tests, within_parts, max-le, difference_few)

@@ -1,5 +1,5 @@
 -- Refitted acts fit.
-use Rattle.std.proofs.Common.{◌≡◌, ℕ, ◌≤◌, Bool, true, false, not, ◌&&◌, IsTrue, List, [], ◌∷◌, ◌++◌, refl, sym, subst, arith}
+use Rattle.std.proofs.Common.{◌≡◌, ℕ, ◌≤◌, Bool, true, false, not, ◌&&◌, IsTrue, List, [], ◌∷◌, ◌++◌, refl, arith}
 use Rattle.std.proofs.lemmas.Bool.Decides.{nat_tests}
 use Rattle.std.proofs.Math.Nat.{le-max_left, le-max_right}
 use Rattle.std.specs.Prelude.{if◌then◌else◌}
@@ -32,18 +32,14 @@ near_split : (limit : ℕ) (loose within : Bool) (place p : Point) (rest : List 
     ((if not loose && not within then needles_at (split_points place p limit) else act.Needle p false ∷ []) ++ rest)
 near_split limit true within place p rest low is near = (refl, near)
 near_split limit false true place p rest low is near = (is, near)
-near_split limit false false place p rest low is near =
-    let come = comes_close place p limit (size_far limit (move_between place p) is) low in
-    near_along limit place (split_points place p limit) rest come.0
-    (subst (λ q. AreNearActs limit false q rest) (sym come.1) near)
+near_split limit false false place p rest low is near = grind (arith, nat_tests, comes_close, size_far, near_along)
 
 near_refitted : (limit : ℕ) (loose : Bool) (place : Point) (acts : List Act) → 1 ≤ limit
     → AreNearActs limit loose place (refitted_from mode.Split limit loose place acts)
 near_refitted limit loose place [] low = tt
 near_refitted limit loose place (act.Needle p true ∷ rest) low = (refl, near_refitted limit false p rest low)
 near_refitted limit loose place (act.Needle p false ∷ rest) low =
-    near_split limit loose (is_point_within limit (move_between place p)) place p
-    (refitted_from mode.Split limit false p rest) low refl (near_refitted limit false p rest low)
+    grind (arith, nat_tests, near_split, (near_refitted limit false p rest low))
 near_refitted limit loose place (act.Trim ∷ rest) low = (refl, near_refitted limit true place rest low)
 near_refitted limit loose place (act.Stop ∷ rest) low = (refl, near_refitted limit true place rest low)
 

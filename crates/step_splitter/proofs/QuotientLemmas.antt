@@ -51,13 +51,7 @@ part_rises i d c n some = grind (arith, nat_tests, next_part i d c, div-mono (i 
 
 -- and each rises by at least 1 where there are no more parts than the distance
 pub part_moves : (i d c n : ℕ) → 1 ≤ n → n ≤ d → (i * d + c) / n + 1 ≤ ((i + 1) * d + c) / n
-part_moves i d c n some far =
-    rw (next_part i d c)
-    (omega (
-      arith,
-      div-mono ((i * d + c) + n * 1) ((i * d + c) + d) n some (omega arith),
-      div-more (i * d + c) 1 n some,
-    ))
+part_moves i d c n some far = grind (arith, nat_tests, next_part, div-mono, div-more)
 
 -- the last part is the distance
 pub part_last : (d c n : ℕ) → c < n → (n * d + c) / n ≡ d
@@ -65,9 +59,4 @@ part_last d c n small = grind (arith, nat_tests, div-more c d n (omega arith), d
 
 -- no part passes the distance
 pub part_within : (i d c n : ℕ) → c < n → i ≤ n → (i * d + c) / n ≤ d
-part_within i d c n small there =
-    omega (
-      arith,
-      div-mono (i * d + c) (n * d + c) n (omega arith) (omega (arith, mul-le-mul_right d there)),
-      part_last d c n small,
-    )
+part_within i d c n small there = grind (arith, nat_tests, div-mono, mul-le-mul_right, part_last)

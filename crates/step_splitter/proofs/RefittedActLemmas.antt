@@ -1,7 +1,7 @@
 -- The commands of refitted acts have these acts again.
 use Rattle.std.proofs.Common.{arith}
 use Rattle.std.proofs.lemmas.Bool.Decides.{nat_tests}
-use Rattle.std.proofs.Common.{◌≡◌, ℕ, ◌+◌, Bool, true, false, not, ◌&&◌, List, [], ◌∷◌, ◌++◌, refl, ap, ◌∙◌}
+use Rattle.std.proofs.Common.{◌≡◌, ℕ, ◌+◌, Bool, true, false, not, ◌&&◌, List, [], ◌∷◌, ◌++◌, refl, ◌∙◌}
 use Rattle.std.specs.Prelude.{if◌then◌else◌}
 use Rattle.design_model.specs.declared.act.Act.{Act}
 use Rattle.design_model.specs.declared.act.Act.TheVariants as act
@@ -12,8 +12,7 @@ use Rattle.design_model.specs.Acts.{acts_along, acts_from, acts_without_numbers}
 use Rattle.design_model.specs.Points.{origin}
 use Rattle.step_splitter.specs.declared.refitting.RefitMode.{RefitMode}
 use Rattle.step_splitter.specs.declared.refitting.RefitMode.TheVariants as mode
-use Rattle.step_splitter.specs.Refits.{commands_of_acts, is_beyond_limit, needles_at, refitted_acts, refitted_from}
-use Rattle.step_splitter.specs.Steps.{split_points}
+use Rattle.step_splitter.specs.Refits.{commands_of_acts, needles_at, refitted_acts, refitted_from}
 
 -- no float and no trim where the thread is loose
 abbrev pub Follows : Bool → List Act → Type 0
@@ -66,8 +65,7 @@ follows_refitted m limit loose place [] follows = tt
 follows_refitted mode.Split limit loose place (act.Needle p true ∷ rest) follows =
     (follows.0, follows_refitted mode.Split limit false p rest follows.1)
 follows_refitted mode.Split limit loose place (act.Needle p false ∷ rest) follows =
-    follows_split loose (is_beyond_limit limit place p) p (split_points place p limit)
-    (refitted_from mode.Split limit false p rest) (follows_refitted mode.Split limit false p rest follows)
+    grind (arith, nat_tests, follows_split, (follows_refitted mode.Split limit false p rest follows))
 follows_refitted mode.Cut limit loose place (act.Needle p true ∷ rest) follows =
     (follows.0, follows_refitted mode.Cut limit false p rest follows.1)
 follows_refitted mode.Cut limit loose place (act.Needle p false ∷ rest) follows =
