@@ -13,12 +13,12 @@ ghost use Rattle.program_shell.specs.StepOutcomes.{RunsPlan, RunsPurePlan};
 use crate::space_texts::{print_space, space_failure};
 use drawing_inputs::drawing_failure;
 use drawing_model::Drawing;
-use spaced_lines::{SpacedDrawing, space};
 use drawing_text::{print_drawn, read_drawing, read_lines, texts_order_ends};
 use line_graph::pieces;
 use lists_and_numbers::Memory;
 use outside_io::Store;
 use program_shell::{Failure, Output, Product, one_output, read_input};
+use spaced_lines::{SpacedDrawing, space};
 use std::alloc::Global;
 
 /// Spaces a drawing, and writes its lines whole, with its starts and ends.
