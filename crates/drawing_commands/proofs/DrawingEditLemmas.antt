@@ -61,10 +61,6 @@ pub record EditsGoOn (start number : ℕ) (words left : List (List ℕ)) (first 
   pub parsed : IsSome (parsed_drawing_edits left)
   pub rest : edits_applied number (drawing_edits_of left) now ≡ edits_applied start (drawing_edits_of words) first
 
-pub edits_begin : (start : ℕ) (words : List (List ℕ)) (d : DrawingValue) → IsSome (parsed_drawing_edits words)
-    → EditsGoOn start start words words d d
-edits_begin start words d some = record { parsed = some; rest = refl }
-
 pub next_parsed : (start number : ℕ) (words left : List (List ℕ)) (word : List ℕ) (more : List (List ℕ)) (first now : DrawingValue)
     → EditsGoOn start number words left first now → left ≡ word ∷ more → IsSome (parsed_drawing_edit word)
 next_parsed start number words left word more first now goes is = first_parsed (parsed_drawing_edit word) (parsed_drawing_edits more)
@@ -90,11 +86,6 @@ edits_refused start number words left word more first now why goes is refused =
     let on = subst (λ (ws : List (List ℕ)). EditsGoOn start number words ws first now) is goes in
     subst (λ (r : Result DrawingValue BadEdit). IsSpecified bad_edit_is_out_of_memory r (Err (bad_at number why))) on.rest
     (refused_first number (parsed_drawing_edit word) (parsed_drawing_edits more) now why on.parsed refused)
-
-pub edits_done : (start number : ℕ) (words left : List (List ℕ)) (first now : DrawingValue)
-    → EditsGoOn start number words left first now → left ≡ [] → edits_applied start (drawing_edits_of words) first ≡ Ok now
-edits_done start number words left first now goes none =
-    sym (subst (λ (ws : List (List ℕ)). EditsGoOn start number words ws first now) none goes).rest
 
 -- after the first edit the others have the numbers from 2 on
 pub edits_from : (word : List ℕ) (more : List (List ℕ)) (d next : DrawingValue) (r : Result DrawingValue BadEdit)

@@ -7,8 +7,7 @@ use Rattle.drawing_repairs.specs.declared.snapping.SnappedDrawing.{SnappedDrawin
 use Rattle.drawing_repairs.specs.AnchoredSpots.{anchored_spots}
 use Rattle.drawing_repairs.specs.Snaps.{snap_is_out_of_memory, snap_of}
 use Rattle.drawing_text.specs.declared.draw_fault.DrawFault.{DrawFault}
-use Rattle.drawing_text.specs.declared.drawn_lines.DrawnLines.{DrawnLines}
-use Rattle.drawing_text.specs.DrawnTexts.{lines_of}
+use Rattle.drawing_inputs.specs.declared.drawing_lines.LinesRead.{LinesRead}
 use Rattle.drawing_model.specs.EndOrders.{AreInBlockOrder, HasOrderedEnds}
 use Rattle.drawing_model.specs.Drawings.{DrawingValue}
 use Rattle.line_sections.specs.declared.spot.Spot.{Spot}
@@ -21,8 +20,7 @@ use Rattle.program_shell.specs.ExactPlans.{IsExact}
 use Rattle.program_shell.specs.Plans.{Makes}
 use Rattle.program_shell.specs.Products.{ProductValue, output_names}
 use Rattle.program_shell.specs.StepOutcomes.{RunsPurePlan}
-use Rattle.drawing_commands.specs.FaultTexts.{plan_after_reading}
-use Rattle.drawing_commands.specs.SnapOrders.{IsSnapFailure, SnapOrder, snap_lines, snap_made}
+use Rattle.drawing_commands.specs.SnapOrders.{IsSnapFailure, SnapOrder, snap_made, snap_read}
 
 -- A drawing that can't be snapped is refused with the text about its fault.
 pub snap_refused : (order : SnapOrder) (d : DrawingValue) (said : Result SnappedDrawing SnapFault) (fault : SnapFault) (why : Failure)
@@ -63,16 +61,11 @@ made_exact : (order : SnapOrder) (d : DrawingValue) (read : Result SnappedDrawin
 made_exact order d (Ok snap) = tt
 made_exact order d (Err fault) = tt
 
-lines_exact : (order : SnapOrder) (d : DrawingValue) (read : Result DrawnLines DrawFault)
-    → IsExact (plan_after_reading order.input (λ drawn. snap_made order d (snap_of order.gap drawn.drawing d.starts d.ends)) read)
-lines_exact order d (Ok drawn) = made_exact order d (snap_of order.gap drawn.drawing d.starts d.ends)
-lines_exact order d (Err fault) = tt
-
 -- The plan of `snap` decides.
-pub snap_exact : (order : SnapOrder) (bytes : List ℕ) (read : Result DrawingValue DrawFault)
-    → IsExact (plan_after_reading order.input (snap_lines order bytes) read)
-snap_exact order bytes (Ok d) = lines_exact order d (lines_of bytes)
-snap_exact order bytes (Err fault) = tt
+pub snap_exact : (order : SnapOrder) (read : Result LinesRead DrawFault) → IsExact (snap_read order read)
+snap_exact order (Ok read) =
+    made_exact order read.drawing (snap_of order.gap read.drawn.drawing read.drawing.starts read.drawing.ends)
+snap_exact order (Err fault) = tt
 
 made_outputs : (order : SnapOrder) (d : DrawingValue) (files : Option Files) (product : ProductValue)
     (read : Result SnappedDrawing SnapFault) → Makes (snap_made order d read) files product
@@ -80,19 +73,9 @@ made_outputs : (order : SnapOrder) (d : DrawingValue) (files : Option Files) (pr
 made_outputs order d files product (Ok snap) is = ap (λ (p : ProductValue). output_names p.outputs) is.made
 made_outputs order d files product (Err fault) never = absurd never
 
-lines_outputs : (order : SnapOrder) (d : DrawingValue) (files : Option Files) (product : ProductValue)
-    (read : Result DrawnLines DrawFault)
-    → Makes (plan_after_reading order.input (λ drawn. snap_made order d (snap_of order.gap drawn.drawing d.starts d.ends)) read) files
-    product
-    → output_names product.outputs ≡ order.output ∷ []
-lines_outputs order d files product (Ok drawn) makes =
-    made_outputs order d files product (snap_of order.gap drawn.drawing d.starts d.ends) makes
-lines_outputs order d files product (Err fault) never = absurd never
-
 -- The products of `snap` have one output.
-pub snap_outputs : (order : SnapOrder) (bytes : List ℕ) (files : Option Files) (product : ProductValue)
-    (read : Result DrawingValue DrawFault)
-    → Makes (plan_after_reading order.input (snap_lines order bytes) read) files product
-    → output_names product.outputs ≡ order.output ∷ []
-snap_outputs order bytes files product (Ok d) makes = lines_outputs order d files product (lines_of bytes) makes
-snap_outputs order bytes files product (Err fault) never = absurd never
+pub snap_outputs : (order : SnapOrder) (files : Option Files) (product : ProductValue) (read : Result LinesRead DrawFault)
+    → Makes (snap_read order read) files product → output_names product.outputs ≡ order.output ∷ []
+snap_outputs order files product (Ok read) makes = made_outputs order read.drawing files product
+    (snap_of order.gap read.drawn.drawing read.drawing.starts read.drawing.ends) makes
+snap_outputs order files product (Err fault) never = absurd never

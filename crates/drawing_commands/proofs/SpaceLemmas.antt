@@ -4,8 +4,7 @@ use Rattle.lists_and_numbers.specs.OutOfMemory.{IsSpecified, UnlessOutOfMemory}
 use Rattle.spaced_lines.specs.declared.spaced_drawing.SpacedDrawing.{SpacedDrawing}
 use Rattle.spaced_lines.specs.SpacedDrawings.{space_of}
 use Rattle.drawing_text.specs.declared.draw_fault.DrawFault.{DrawFault}
-use Rattle.drawing_text.specs.declared.drawn_lines.DrawnLines.{DrawnLines}
-use Rattle.drawing_text.specs.DrawnTexts.{lines_of}
+use Rattle.drawing_inputs.specs.declared.drawing_lines.LinesRead.{LinesRead}
 use Rattle.drawing_model.specs.declared.draw_kind.DrawKind.{DrawKind}
 use Rattle.drawing_model.specs.Drawings.{DrawingValue}
 use Rattle.drawing_model.specs.GrowingDrawings.{draw_is_out_of_memory}
@@ -19,8 +18,7 @@ use Rattle.program_shell.specs.Plans.{Makes}
 use Rattle.program_shell.specs.Products.{ProductValue, output_names}
 use Rattle.program_shell.specs.StepOutcomes.{RunsPurePlan}
 use Rattle.drawing_model.specs.EndOrders.{AreInBlockOrder, HasOrderedEnds}
-use Rattle.drawing_commands.specs.FaultTexts.{plan_after_reading}
-use Rattle.drawing_commands.specs.SpaceOrders.{IsSpaceFailure, SpaceOrder, space_lines, space_made}
+use Rattle.drawing_commands.specs.SpaceOrders.{IsSpaceFailure, SpaceOrder, space_made, space_read}
 
 -- A spaced drawing with a fault is refused with the text about it.
 pub space_refused : (order : SpaceOrder) (drawn : DrawingValue) (said : Result SpacedDrawing DrawKind) (kind : DrawKind) (why : Failure)
@@ -42,17 +40,11 @@ made_exact : (order : SpaceOrder) (drawn : DrawingValue) (spaced : Result Spaced
 made_exact order drawn (Ok spaced) = tt
 made_exact order drawn (Err kind) = tt
 
-lines_exact : (order : SpaceOrder) (d : DrawingValue) (read : Result DrawnLines DrawFault)
-    → IsExact (plan_after_reading order.input (λ drawn.
-    space_made order drawn.drawing (space_of drawn.drawing d.starts d.ends)) read)
-lines_exact order d (Ok drawn) = made_exact order drawn.drawing (space_of drawn.drawing d.starts d.ends)
-lines_exact order d (Err fault) = tt
-
 -- The plan of `space` decides.
-pub space_exact : (order : SpaceOrder) (bytes : List ℕ) (read : Result DrawingValue DrawFault)
-    → IsExact (plan_after_reading order.input (space_lines order bytes) read)
-space_exact order bytes (Ok d) = lines_exact order d (lines_of bytes)
-space_exact order bytes (Err fault) = tt
+pub space_exact : (order : SpaceOrder) (read : Result LinesRead DrawFault) → IsExact (space_read order read)
+space_exact order (Ok read) =
+    made_exact order read.drawn.drawing (space_of read.drawn.drawing read.drawing.starts read.drawing.ends)
+space_exact order (Err fault) = tt
 
 made_outputs : (order : SpaceOrder) (drawn : DrawingValue) (files : Option Files) (product : ProductValue)
     (spaced : Result SpacedDrawing DrawKind) → Makes (space_made order drawn spaced) files product
@@ -60,22 +52,12 @@ made_outputs : (order : SpaceOrder) (drawn : DrawingValue) (files : Option Files
 made_outputs order drawn files product (Ok spaced) is = ap (λ (p : ProductValue). output_names p.outputs) is.made
 made_outputs order drawn files product (Err kind) never = absurd never
 
-lines_outputs : (order : SpaceOrder) (d : DrawingValue) (files : Option Files) (product : ProductValue)
-    (read : Result DrawnLines DrawFault)
-    → Makes (plan_after_reading order.input (λ drawn.
-    space_made order drawn.drawing (space_of drawn.drawing d.starts d.ends)) read) files product
-    → output_names product.outputs ≡ order.output ∷ []
-lines_outputs order d files product (Ok drawn) makes =
-    made_outputs order drawn.drawing files product (space_of drawn.drawing d.starts d.ends) makes
-lines_outputs order d files product (Err fault) never = absurd never
-
 -- The products of `space` have one output.
-pub space_outputs : (order : SpaceOrder) (bytes : List ℕ) (files : Option Files) (product : ProductValue)
-    (read : Result DrawingValue DrawFault)
-    → Makes (plan_after_reading order.input (space_lines order bytes) read) files product
-    → output_names product.outputs ≡ order.output ∷ []
-space_outputs order bytes files product (Ok d) makes = lines_outputs order d files product (lines_of bytes) makes
-space_outputs order bytes files product (Err fault) never = absurd never
+pub space_outputs : (order : SpaceOrder) (files : Option Files) (product : ProductValue) (read : Result LinesRead DrawFault)
+    → Makes (space_read order read) files product → output_names product.outputs ≡ order.output ∷ []
+space_outputs order files product (Ok read) makes = made_outputs order read.drawn.drawing files product
+    (space_of read.drawn.drawing read.drawing.starts read.drawing.ends) makes
+space_outputs order files product (Err fault) never = absurd never
 
 -- A drawing with the starts and ends of another has them in order where that one has.
 pub space_ordered : (d joined : DrawingValue) → HasOrderedEnds d → joined.starts ≡ d.starts → joined.ends ≡ d.ends

@@ -6,6 +6,7 @@ use Rattle.drawing_edits.specs.declared.edit_fault.EditFault.{EditFault}
 use Rattle.drawing_edits.specs.declared.edit_fault.EditFault.TheVariants as fault
 use Rattle.drawing_edits.specs.EditedDrawings.{edited_drawing}
 use Rattle.drawing_edits.specs.EditFaults.{edit_is_out_of_memory}
+use Rattle.drawing_text.specs.declared.draw_fault.DrawFault.{DrawFault}
 use Rattle.drawing_text.specs.DrawingText.{drawing_of}
 use Rattle.drawing_text.specs.EndTexts.{drawn_text}
 use Rattle.drawing_model.specs.Drawings.{DrawingValue}
@@ -71,11 +72,11 @@ abbrev pub edited_plan : (input output : List ℕ) → Result DrawingValue BadEd
 edited_plan input output (Ok d) = accepts (IsEdited output d)
 edited_plan input output (Err bad) = refuses (bad_edit_text input bad)
 
--- The plan for the bytes of the file: the drawing is edited, and a fault is refused.
-abbrev pub drawing_edit_read : DrawingEditOrder → List ℕ → Plan
-drawing_edit_read order bytes = plan_after_reading order.input (λ d.
-    edited_plan order.input order.output (edits_applied 1 order.edits d)) (drawing_of bytes)
+-- The plan for the result of reading the drawing: it is edited, and a fault is refused.
+abbrev pub drawing_edit_read : DrawingEditOrder → Result DrawingValue DrawFault → Plan
+drawing_edit_read order = plan_after_reading order.input (λ d.
+    edited_plan order.input order.output (edits_applied 1 order.edits d))
 
 -- The plan of `edit`: read the drawing file, then write the edited drawing.
 abbrev pub drawing_edit_plan : DrawingEditOrder → Plan
-drawing_edit_plan order = reads order.input (drawing_edit_read order)
+drawing_edit_plan order = reads order.input (λ bytes. drawing_edit_read order (drawing_of bytes))

@@ -1,10 +1,11 @@
 -- The command `look`: a report on the pieces of a drawing and on the places that were probably not
 -- meant. The pieces are those that are sewn, the places are in the lines as they are drawn.
-use Rattle.std.specs.Prelude.{◌≡◌, ℕ, List}
+use Rattle.std.specs.Prelude.{◌≡◌, ℕ, List, Result}
 use Rattle.drawing_review.specs.Places.{places_of_lines}
 use Rattle.drawing_text.specs.declared.drawn_lines.DrawnLines.{DrawnLines}
-use Rattle.drawing_text.specs.DrawingText.{drawing_of}
-use Rattle.drawing_text.specs.DrawnTexts.{lines_of}
+use Rattle.drawing_text.specs.declared.draw_fault.DrawFault.{DrawFault}
+use Rattle.drawing_inputs.specs.declared.drawing_lines.LinesRead.{LinesRead}
+use Rattle.drawing_inputs.specs.DrawingLines.{lines_read}
 use Rattle.drawing_model.specs.Drawings.{DrawingValue}
 use Rattle.line_graph.specs.declared.piece.Piece.{Piece}
 use Rattle.line_graph.specs.PiecesOfDrawings.{ArePiecesOf}
@@ -32,13 +33,11 @@ pub record IsLook (gap : ℕ) (d : DrawingValue) (drawn : DrawnLines)
   pub made : product ≡ report_product (look_report pieces (stitches_of_pieces d pieces)
       (places_of_lines drawn.drawing.step gap drawn.drawing.lines))
 
--- The plan for the bytes of the file: a drawing is accepted, and a fault is refused.
-abbrev pub look_read : LookOrder → List ℕ → Plan
-look_read order bytes =
-    plan_after_reading order.file (λ d.
-    plan_after_reading order.file (λ drawn. accepts (IsLook order.gap d drawn)) (lines_of bytes))
-    (drawing_of bytes)
+-- The plan for the result of reading the drawing: it is accepted, and a fault is refused.
+abbrev pub look_read : LookOrder → Result LinesRead DrawFault → Plan
+look_read order =
+    plan_after_reading order.file (λ read. accepts (IsLook order.gap read.drawing read.drawn))
 
 -- The plan of `look`: read the drawing file, then print the report.
 abbrev pub look_plan : LookOrder → Plan
-look_plan order = reads order.file (look_read order)
+look_plan order = reads order.file (λ bytes. look_read order (lines_read bytes))

@@ -6,7 +6,10 @@ use Rattle.drawing_repairs.specs.declared.snapping.SnappedDrawing.{SnappedDrawin
 use Rattle.drawing_repairs.specs.SecondSnaps.{StaysSnapped}
 use Rattle.drawing_repairs.specs.Snaps.{snap_is_out_of_memory, snap_of}
 use Rattle.drawing_text.specs.DrawingText.{drawing_of}
-use Rattle.drawing_text.specs.DrawnTexts.{drawing_as_drawn, lines_of}
+use Rattle.drawing_text.specs.DrawnTexts.{drawing_as_drawn}
+use Rattle.drawing_text.specs.declared.draw_fault.DrawFault.{DrawFault}
+use Rattle.drawing_inputs.specs.declared.drawing_lines.LinesRead.{LinesRead}
+use Rattle.drawing_inputs.specs.DrawingLines.{lines_read}
 use Rattle.drawing_text.specs.EndTexts.{drawn_text, with_ends_of}
 use Rattle.drawing_model.specs.Drawings.{DrawingValue}
 use Rattle.line_graph.specs.declared.piece.Piece.{Piece}
@@ -53,20 +56,19 @@ abbrev pub snap_made : SnapOrder → DrawingValue → Result SnappedDrawing Snap
 snap_made order d (Ok snap) = accepts (IsSnapProduct order.gap order.output d snap)
 snap_made order d (Err fault) = refuses (snap_fault_text order.input fault)
 
--- The plan for the drawing of a text and the result of reading its lines: these are snapped, with
--- the starts and ends of the drawing.
-abbrev pub snap_lines : SnapOrder → List ℕ → DrawingValue → Plan
-snap_lines order bytes d = plan_after_reading order.input (λ drawn.
-    snap_made order d (snap_of order.gap drawn.drawing d.starts d.ends)) (lines_of bytes)
+-- The plan for a drawing and its lines as they are drawn: these are snapped, with the starts and
+-- ends of the drawing.
+abbrev pub snap_lines : SnapOrder → LinesRead → Plan
+snap_lines order read = snap_made order read.drawing
+    (snap_of order.gap read.drawn.drawing read.drawing.starts read.drawing.ends)
 
--- The plan for the bytes of the file.
-abbrev pub snap_read : SnapOrder → List ℕ → Plan
-snap_read order bytes =
-    plan_after_reading order.input (snap_lines order bytes) (drawing_of bytes)
+-- The plan for the result of reading the drawing: a fault is refused.
+abbrev pub snap_read : SnapOrder → Result LinesRead DrawFault → Plan
+snap_read order = plan_after_reading order.input (snap_lines order)
 
 -- The plan of `snap`: read the drawing file, then write the snapped drawing.
 abbrev pub snap_plan : SnapOrder → Plan
-snap_plan order = reads order.input (snap_read order)
+snap_plan order = reads order.input (λ bytes. snap_read order (lines_read bytes))
 
 -- The failure for a drawing that can't be snapped: a refusal with the text about it, or out of
 -- memory. A fault that is out of memory isn't refused.

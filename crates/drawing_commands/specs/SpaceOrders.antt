@@ -4,7 +4,10 @@ use Rattle.std.specs.Prelude.{◌≡◌, ℕ, false, List, ◌++◌, length, Res
 use Rattle.spaced_lines.specs.declared.spaced_drawing.SpacedDrawing.{SpacedDrawing}
 use Rattle.spaced_lines.specs.SpacedDrawings.{space_of}
 use Rattle.drawing_text.specs.DrawingText.{drawing_of}
-use Rattle.drawing_text.specs.DrawnTexts.{drawing_as_drawn, lines_of}
+use Rattle.drawing_text.specs.DrawnTexts.{drawing_as_drawn}
+use Rattle.drawing_text.specs.declared.draw_fault.DrawFault.{DrawFault}
+use Rattle.drawing_inputs.specs.declared.drawing_lines.LinesRead.{LinesRead}
+use Rattle.drawing_inputs.specs.DrawingLines.{lines_read}
 use Rattle.drawing_text.specs.EndTexts.{drawn_text, with_ends_of}
 use Rattle.drawing_model.specs.declared.draw_kind.DrawKind.{DrawKind}
 use Rattle.line_graph.specs.declared.piece.Piece.{Piece}
@@ -58,19 +61,19 @@ abbrev pub space_made : SpaceOrder → DrawingValue → Result SpacedDrawing Dra
 space_made order drawn (Ok spaced) = accepts (IsSpaceProduct order.output drawn spaced)
 space_made order drawn (Err why) = refuses (text_about order.input (draw_kind_text why))
 
--- The plan for the drawing of a text and the result of reading its lines.
-abbrev pub space_lines : SpaceOrder → List ℕ → DrawingValue → Plan
-space_lines order bytes d = plan_after_reading order.input (λ drawn.
-    space_made order drawn.drawing (space_of drawn.drawing d.starts d.ends)) (lines_of bytes)
+-- The plan for a drawing and its lines as they are drawn: these are spaced, with the starts and
+-- ends of the drawing.
+abbrev pub space_lines : SpaceOrder → LinesRead → Plan
+space_lines order read = space_made order read.drawn.drawing
+    (space_of read.drawn.drawing read.drawing.starts read.drawing.ends)
 
--- The plan for the bytes of the file.
-abbrev pub space_read : SpaceOrder → List ℕ → Plan
-space_read order bytes =
-    plan_after_reading order.input (space_lines order bytes) (drawing_of bytes)
+-- The plan for the result of reading the drawing: a fault is refused.
+abbrev pub space_read : SpaceOrder → Result LinesRead DrawFault → Plan
+space_read order = plan_after_reading order.input (space_lines order)
 
 -- The plan of `space`: read the drawing file, then write the spaced drawing.
 abbrev pub space_plan : SpaceOrder → Plan
-space_plan order = reads order.input (space_read order)
+space_plan order = reads order.input (λ bytes. space_read order (lines_read bytes))
 
 -- The failure for a spaced drawing with a fault: a refusal with the text about it, or out of
 -- memory. A fault that is out of memory isn't refused.

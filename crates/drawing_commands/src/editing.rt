@@ -1,10 +1,9 @@
 ghost use Rattle.std.specs.Prelude.{◌≡◌, ◌∷◌, ◌<◌, ◌≤◌, [], Ok, IfOk, IfSome, IsSome, length, map, string_bytes, true};
 ghost use Rattle.lists_and_numbers.specs.OutOfMemory.{IsSpecified};
-ghost use Rattle.drawing_commands.specs.DrawingEditing.{IsEdited, bad_edit_is_out_of_memory, drawing_edit_order, drawing_edit_plan, drawing_edit_read, edited_plan, edits_applied};
+ghost use Rattle.drawing_commands.specs.DrawingEditing.{IsEdited, bad_edit_is_out_of_memory, drawing_edit_order, drawing_edit_plan, edited_plan, edits_applied};
 ghost use Rattle.drawing_commands.specs.DrawingEditWords.{drawing_edits_of, parsed_drawing_edit, parsed_drawing_edits};
 ghost use Rattle.drawing_edits.specs.EditedDrawings.{IsDrawingEdit, edited_drawing};
 ghost use Rattle.drawing_edits.specs.EditFaults.{edit_is_out_of_memory};
-ghost use Rattle.drawing_text.specs.declared.limits.TheConstants.{MAX_TEXT};
 ghost use Rattle.drawing_text.specs.DrawingText.{drawing_of};
 ghost use Rattle.drawing_text.specs.EndTexts.{drawn_text};
 ghost use Rattle.drawing_model.specs.EndOrders.{HasOrderedEnds};
@@ -18,13 +17,13 @@ use crate::bad_edit::BadEdit;
 use crate::drawing_edit_words::parse_drawing_edit;
 use crate::edit_failures::edit_failure;
 use drawing_edits::{DrawingEdit, EditFault, edit_drawing, edits_keep_ends_by_block};
-use drawing_inputs::drawing_failure;
+use drawing_inputs::drawing_in;
 use drawing_model::{Drawing, drawing_cost, joined_drawings_stay};
-use drawing_text::{print_drawn, read_drawing, texts_order_ends};
+use drawing_text::{print_drawn, texts_order_ends};
 use line_graph::pieces;
 use lists_and_numbers::{Bytes, Memory};
 use outside_io::Store;
-use program_shell::{Failure, Output, Product, one_output, read_input};
+use program_shell::{Failure, Output, Product, one_output};
 use program_texts::print_migration;
 use std::alloc::Global;
 
@@ -44,31 +43,9 @@ pub(crate) fn edit<'a, S: Store>(
         (drawing_edits_of (map (λ word. string_bytes word) edits.now))))
         (S.view store.old) (S.view store.new) result }
 {
-    let bytes = read_input(alloc, store, input)?;
-    edit_at(alloc, input, output, edits, bytes.as_slice())
-}
-
-fn edit_at<'a>(
-    alloc: Global,
-    input: &'a str,
-    output: &'a str,
-    edits: &[String],
-    bytes: &[u8],
-) -> Result<Product<'a>, Failure<'a>>
-    requires output { IsFileName output.now }
-    requires edits { IsSome (parsed_drawing_edits (map (λ word. string_bytes word) edits.now)) }
-    requires some { 1 ≤ length edits.now }
-    requires short { length bytes.now ≤ MAX_TEXT }
-    ensures { RunsPurePlan (drawing_edit_read (drawing_edit_order input.now output.now
-        (drawing_edits_of (map (λ word. string_bytes word) edits.now))) bytes.now) result }
-{
-    match read_drawing(alloc, bytes) {
-        Ok(drawing) => {
-            texts_order_ends();
-            edit_read(alloc, input, output, edits, &drawing)
-        }
-        Err(fault) => Err(drawing_failure(alloc, input, fault)),
-    }
+    texts_order_ends();
+    let drawing = drawing_in(alloc, store, input)?;
+    edit_read(alloc, input, output, edits, &drawing)
 }
 
 fn edit_read<'a>(

@@ -1,23 +1,18 @@
-ghost use Rattle.std.specs.Prelude.{◌≡◌, ◌≤◌, IfOk, length};
-ghost use Rattle.drawing_commands.specs.FaultTexts.{plan_after_reading};
-ghost use Rattle.drawing_commands.specs.Looks.{IsLook, look_order, look_plan, look_read};
-ghost use Rattle.drawing_text.specs.declared.limits.TheConstants.{MAX_TEXT};
-ghost use Rattle.drawing_text.specs.DrawnTexts.{lines_of};
+ghost use Rattle.std.specs.Prelude.{IfOk};
+ghost use Rattle.drawing_commands.specs.Looks.{IsLook, look_order, look_plan};
 ghost use Rattle.outside_io.specs.Files.{IsFileName};
 ghost use Rattle.program_shell.specs.Plans.{accepts};
 ghost use Rattle.program_shell.specs.Products.{product_value};
 ghost use Rattle.program_shell.specs.StepOutcomes.{RunsPlan, RunsPurePlan};
 
 use crate::look_texts::print_look;
-use drawing_inputs::drawing_failure;
-use drawing_model::Drawing;
+use drawing_inputs::{LinesRead, lines_in};
 use drawing_review::review;
-use drawing_text::{DrawnLines, read_drawing, read_lines};
 use line_graph::pieces;
 use lists_and_numbers::Memory;
 use outside_io::Store;
 use piece_stitches::piece_stitches;
-use program_shell::{Failure, Product, only_report, read_input};
+use program_shell::{Failure, Product, only_report};
 use std::alloc::Global;
 
 /// Makes the report on a drawing.
@@ -30,65 +25,25 @@ pub(crate) fn look<'a, S: Store>(
     requires { IsFileName file.now }
     ensures { RunsPlan (look_plan (look_order file.now gap)) (S.view store.old) (S.view store.new) result }
 {
-    let bytes = read_input(alloc, store, file)?;
-    look_at(alloc, file, gap, bytes.as_slice())
+    let read = lines_in(alloc, store, file)?;
+    looked(alloc, gap, &read)
 }
 
-fn look_at<'a>(
-    alloc: Global,
-    file: &'a str,
-    gap: u16,
-    bytes: &[u8],
-) -> Result<Product<'a>, Failure<'a>>
-    requires { length bytes.now ≤ MAX_TEXT }
-    ensures { RunsPurePlan (look_read (look_order file.now gap) bytes.now) result }
+fn looked<'a>(alloc: Global, gap: u16, read: &LinesRead) -> Result<Product<'a>, Failure<'a>>
+    ensures { RunsPurePlan (accepts (IsLook gap read.now.drawing read.now.drawn)) result }
 {
-    match read_drawing(alloc, bytes) {
-        Ok(drawing) => look_on(alloc, file, gap, bytes, &drawing),
-        Err(fault) => Err(drawing_failure(alloc, file, fault)),
-    }
-}
-
-fn look_on<'a>(
-    alloc: Global,
-    file: &'a str,
-    gap: u16,
-    bytes: &[u8],
-    drawing: &Drawing,
-) -> Result<Product<'a>, Failure<'a>>
-    requires { length bytes.now ≤ MAX_TEXT }
-    ensures { RunsPurePlan (plan_after_reading file.now (λ drawn.
-        accepts (IsLook gap drawing.now drawn)) (lines_of bytes.now)) result }
-{
-    match read_lines(alloc, bytes) {
-        Ok(drawn) => looked(alloc, gap, drawing, &drawn),
-        Err(fault) => Err(drawing_failure(alloc, file, fault)),
-    }
-}
-
-fn looked<'a>(
-    alloc: Global,
-    gap: u16,
-    drawing: &Drawing,
-    drawn: &DrawnLines,
-) -> Result<Product<'a>, Failure<'a>>
-    ensures { RunsPurePlan (accepts (IsLook gap drawing.now drawn.now)) result }
-{
-    let product = look_product(alloc, gap, drawing, drawn)?;
+    let product = look_product(alloc, gap, read)?;
     Ok(product)
 }
 
-fn look_product<'a>(
-    alloc: Global,
-    gap: u16,
-    drawing: &Drawing,
-    drawn: &DrawnLines,
-) -> Result<Product<'a>, Memory>
-    ensures { IfOk result (λ product. IsLook gap drawing.now drawn.now (product_value product)) }
+fn look_product<'a>(alloc: Global, gap: u16, read: &LinesRead) -> Result<Product<'a>, Memory>
+    ensures { IfOk result (λ product.
+        IsLook gap read.now.drawing read.now.drawn (product_value product)) }
 {
-    let pieces = pieces(alloc, drawing)?;
-    let stitches = piece_stitches(alloc, drawing, pieces.as_slice())?;
-    let places = review(alloc, drawn.drawing.step(), gap, drawn.drawing.lines())?;
+    let pieces = pieces(alloc, &read.drawing)?;
+    let stitches = piece_stitches(alloc, &read.drawing, pieces.as_slice())?;
+    let lines = &read.drawn.drawing;
+    let places = review(alloc, lines.step(), gap, lines.lines())?;
     let report = print_look(
         alloc,
         pieces.as_slice(),

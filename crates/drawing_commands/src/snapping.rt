@@ -1,9 +1,6 @@
-ghost use Rattle.std.specs.Prelude.{ℕ, ◌≤◌, IfOk, length};
-ghost use Rattle.drawing_commands.specs.FaultTexts.{plan_after_reading};
-ghost use Rattle.drawing_commands.specs.SnapOrders.{IsSnapProduct, snap_lines, snap_made, snap_order, snap_plan, snap_read};
+ghost use Rattle.std.specs.Prelude.{ℕ, IfOk};
+ghost use Rattle.drawing_commands.specs.SnapOrders.{IsSnapProduct, snap_lines, snap_order, snap_plan};
 ghost use Rattle.drawing_repairs.specs.SecondSnaps.{StaysSnapped};
-ghost use Rattle.drawing_repairs.specs.Snaps.{snap_of};
-ghost use Rattle.drawing_text.specs.declared.limits.TheConstants.{MAX_TEXT};
 ghost use Rattle.drawing_model.specs.EndOrders.{HasOrderedEnds};
 ghost use Rattle.drawing_text.specs.TextLaws.{IsJoinedFrom};
 ghost use Rattle.drawing_model.specs.WalkEnds.{HasNoEnds};
@@ -12,14 +9,14 @@ ghost use Rattle.program_shell.specs.Products.{product_value};
 ghost use Rattle.program_shell.specs.StepOutcomes.{RunsPlan, RunsPurePlan};
 
 use crate::snap_texts::{print_snap, snap_failure};
-use drawing_inputs::drawing_failure;
+use drawing_inputs::{LinesRead, lines_in};
 use drawing_model::Drawing;
 use drawing_repairs::{SnappedDrawing, snap};
-use drawing_text::{print_drawn, read_drawing, read_lines, texts_order_ends};
+use drawing_text::print_drawn;
 use line_graph::pieces;
 use lists_and_numbers::Memory;
 use outside_io::Store;
-use program_shell::{Failure, Output, Product, one_output, read_input};
+use program_shell::{Failure, Output, Product, one_output};
 use std::alloc::Global;
 
 /// Snaps a drawing, and writes its lines whole, with its starts and ends.
@@ -35,48 +32,8 @@ pub(crate) fn snap_file<'a, S: Store>(
     ensures { RunsPlan (snap_plan (snap_order gap input.now output.now)) (S.view store.old)
         (S.view store.new) result }
 {
-    let bytes = read_input(alloc, store, input)?;
-    snap_text(alloc, gap, input, output, bytes.as_slice())
-}
-
-fn snap_text<'a>(
-    alloc: Global,
-    gap: u16,
-    input: &'a str,
-    output: &'a str,
-    bytes: &[u8],
-) -> Result<Product<'a>, Failure<'a>>
-    requires short { length bytes.now ≤ MAX_TEXT }
-    requires output { IsFileName output.now }
-    ensures { RunsPurePlan (snap_read (snap_order gap input.now output.now) bytes.now) result }
-{
-    match read_drawing(alloc, bytes) {
-        Ok(drawing) => {
-            texts_order_ends();
-            snap_drawing(alloc, gap, input, output, bytes, &drawing)
-        }
-        Err(fault) => Err(drawing_failure(alloc, input, fault)),
-    }
-}
-
-fn snap_drawing<'a>(
-    alloc: Global,
-    gap: u16,
-    input: &'a str,
-    output: &'a str,
-    bytes: &[u8],
-    drawing: &Drawing,
-) -> Result<Product<'a>, Failure<'a>>
-    requires short { length bytes.now ≤ MAX_TEXT }
-    requires output { IsFileName output.now }
-    requires ordered { HasOrderedEnds drawing.now }
-    ensures { RunsPurePlan
-        (snap_lines (snap_order gap input.now output.now) bytes.now drawing.now) result }
-{
-    match read_lines(alloc, bytes) {
-        Ok(drawn) => snap_lines_of(alloc, gap, input, output, drawing, &drawn.drawing),
-        Err(fault) => Err(drawing_failure(alloc, input, fault)),
-    }
+    let read = lines_in(alloc, store, input)?;
+    snap_lines_of(alloc, gap, input, output, &read)
 }
 
 /// Snaps the lines of a drawing as they are drawn, with its starts and ends.
@@ -85,15 +42,20 @@ fn snap_lines_of<'a>(
     gap: u16,
     input: &'a str,
     output: &'a str,
-    drawing: &Drawing,
-    drawn: &Drawing,
+    read: &LinesRead,
 ) -> Result<Product<'a>, Failure<'a>>
     requires output { IsFileName output.now }
-    requires ordered { HasOrderedEnds drawing.now }
-    ensures { RunsPurePlan (snap_made (snap_order gap input.now output.now) drawing.now
-        (snap_of gap drawn.now drawing.now.starts drawing.now.ends)) result }
+    requires ordered { HasOrderedEnds read.now.drawing }
+    ensures { RunsPurePlan (snap_lines (snap_order gap input.now output.now) read.now) result }
 {
-    match snap(alloc, gap, drawn, drawing.starts(), drawing.ends()) {
+    let drawing = &read.drawing;
+    match snap(
+        alloc,
+        gap,
+        &read.drawn.drawing,
+        drawing.starts(),
+        drawing.ends(),
+    ) {
         Ok(snapped) => {
             let product = snap_product(alloc, output, drawing, &snapped)?;
             Ok(product)

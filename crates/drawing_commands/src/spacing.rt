@@ -1,8 +1,5 @@
-ghost use Rattle.std.specs.Prelude.{◌≤◌, IfOk, length};
-ghost use Rattle.drawing_commands.specs.FaultTexts.{plan_after_reading};
-ghost use Rattle.drawing_commands.specs.SpaceOrders.{IsSpaceProduct, space_lines, space_made, space_order, space_plan, space_read};
-ghost use Rattle.spaced_lines.specs.SpacedDrawings.{space_of};
-ghost use Rattle.drawing_text.specs.declared.limits.TheConstants.{MAX_TEXT};
+ghost use Rattle.std.specs.Prelude.{IfOk};
+ghost use Rattle.drawing_commands.specs.SpaceOrders.{IsSpaceProduct, space_lines, space_order, space_plan};
 ghost use Rattle.drawing_model.specs.EndOrders.{HasOrderedEnds};
 ghost use Rattle.drawing_text.specs.TextLaws.{IsJoinedFrom};
 ghost use Rattle.drawing_model.specs.WalkEnds.{HasNoEnds};
@@ -11,13 +8,13 @@ ghost use Rattle.program_shell.specs.Products.{product_value};
 ghost use Rattle.program_shell.specs.StepOutcomes.{RunsPlan, RunsPurePlan};
 
 use crate::space_texts::{print_space, space_failure};
-use drawing_inputs::drawing_failure;
+use drawing_inputs::{LinesRead, lines_in};
 use drawing_model::Drawing;
-use drawing_text::{print_drawn, read_drawing, read_lines, texts_order_ends};
+use drawing_text::print_drawn;
 use line_graph::pieces;
 use lists_and_numbers::Memory;
 use outside_io::Store;
-use program_shell::{Failure, Output, Product, one_output, read_input};
+use program_shell::{Failure, Output, Product, one_output};
 use spaced_lines::{SpacedDrawing, space};
 use std::alloc::Global;
 
@@ -33,46 +30,8 @@ pub(crate) fn space_file<'a, S: Store>(
     ensures { RunsPlan (space_plan (space_order input.now output.now)) (S.view store.old)
         (S.view store.new) result }
 {
-    let bytes = read_input(alloc, store, input)?;
-    space_text(alloc, input, output, bytes.as_slice())
-}
-
-fn space_text<'a>(
-    alloc: Global,
-    input: &'a str,
-    output: &'a str,
-    bytes: &[u8],
-) -> Result<Product<'a>, Failure<'a>>
-    requires short { length bytes.now ≤ MAX_TEXT }
-    requires output { IsFileName output.now }
-    ensures { RunsPurePlan (space_read (space_order input.now output.now) bytes.now) result }
-{
-    match read_drawing(alloc, bytes) {
-        Ok(drawing) => {
-            texts_order_ends();
-            space_drawing(alloc, input, output, bytes, &drawing)
-        }
-        Err(fault) => Err(drawing_failure(alloc, input, fault)),
-    }
-}
-
-fn space_drawing<'a>(
-    alloc: Global,
-    input: &'a str,
-    output: &'a str,
-    bytes: &[u8],
-    drawing: &Drawing,
-) -> Result<Product<'a>, Failure<'a>>
-    requires short { length bytes.now ≤ MAX_TEXT }
-    requires output { IsFileName output.now }
-    requires ordered { HasOrderedEnds drawing.now }
-    ensures { RunsPurePlan
-        (space_lines (space_order input.now output.now) bytes.now drawing.now) result }
-{
-    match read_lines(alloc, bytes) {
-        Ok(drawn) => space_lines_of(alloc, input, output, drawing, &drawn.drawing),
-        Err(fault) => Err(drawing_failure(alloc, input, fault)),
-    }
+    let read = lines_in(alloc, store, input)?;
+    space_lines_of(alloc, input, output, &read)
 }
 
 /// Spaces lines as they are drawn, with the starts and ends of their drawing.
@@ -80,15 +39,14 @@ fn space_lines_of<'a>(
     alloc: Global,
     input: &'a str,
     output: &'a str,
-    drawing: &Drawing,
-    drawn: &Drawing,
+    read: &LinesRead,
 ) -> Result<Product<'a>, Failure<'a>>
     requires output { IsFileName output.now }
-    requires ordered { HasOrderedEnds drawing.now }
-    ensures { RunsPurePlan (space_made (space_order input.now output.now) drawn.now
-        (space_of drawn.now drawing.now.starts drawing.now.ends)) result }
+    requires ordered { HasOrderedEnds read.now.drawing }
+    ensures { RunsPurePlan (space_lines (space_order input.now output.now) read.now) result }
 {
-    match space(alloc, drawn, drawing.starts(), drawing.ends()) {
+    let drawn = &read.drawn.drawing;
+    match space(alloc, drawn, read.drawing.starts(), read.drawing.ends()) {
         Ok(spaced) => {
             let product = space_product(alloc, output, drawn, &spaced)?;
             Ok(product)

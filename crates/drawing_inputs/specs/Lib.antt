@@ -1,1 +1,2 @@
 pub mod FaultFailures
+pub mod DrawingLines

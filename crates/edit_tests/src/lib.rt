@@ -8,5 +8,7 @@ mod edit_runs;
 mod snap_runs;
 #[cfg(test)]
 mod space_runs;
+#[cfg(test)]
+mod table_runs;
 
 pub use contents::file_content;

@@ -1,22 +1,6 @@
 //! Runs of `stitch_drawing space` over files in memory.
-use crate::contents::file_content;
-use drawing_commands::run;
-use outside_io::{MemSink, MemStore};
-use std::alloc::Global;
+use crate::table_runs::{Run, USAGE, play};
 use std::test::Fail;
-
-/// A run of `space`: its further arguments; and what it leaves: its status, what it prints on standard output and
-/// on standard error, and the content of `out.rw`.
-type Run = (
-    &'static [&'static str],
-    u8,
-    &'static str,
-    &'static str,
-    &'static str,
-);
-
-const USAGE: &str =
-    "usage: stitch_drawing look DRAWING [GAP]\n       stitch_drawing snap GAP DRAWING OUT\n       stitch_drawing space DRAWING OUT\n       stitch_drawing edit DRAWING OUT EDIT...\n";
 
 /// Points 4 apart on a line with stitches of 10, the same line spaced, points beside a stitch by 4 and by 3 tenths
 /// of a step, lines that meet inside, the same in version 1, and texts with faults.
@@ -50,92 +34,67 @@ const FILES: [(&str, &str); 7] = [
 
 const RUNS: [Run; 11] = [
     (
-        &["dense.rw", "out.rw"],
+        &["space", "dense.rw", "out.rw"],
         0,
         "points 6 to 4 cost 5 to 3 pieces 1\n",
         "",
         "redwork 2\nstep 10\ncolor 1\nline 0 0 8 0 16 0 20 0\n",
     ),
     (
-        &["spaced.rw", "out.rw"],
+        &["space", "spaced.rw", "out.rw"],
         0,
         "points 4 to 4 cost 3 to 3 pieces 1\n",
         "",
         "redwork 2\nstep 10\ncolor 1\nline 0 0 8 0 16 0 20 0\n",
     ),
     (
-        &["beside.rw", "out.rw"],
+        &["space", "beside.rw", "out.rw"],
         0,
         "points 6 to 5 cost 4 to 3 pieces 2\n",
         "",
         "redwork 2\nstep 30\ncolor 1\nline 0 0 10 4 20 0\nline 0 50 20 50\n",
     ),
     (
-        &["ends.rw", "out.rw"],
+        &["space", "ends.rw", "out.rw"],
         0,
         "points 10 to 7 cost 8 to 5 pieces 2\n",
         "",
         "redwork 3\nname K\nstep 20\ncolor 5\nline 0 0 12 1 30 0\nline 12 1 12 40\nstart 0 0\nend 12 40\ncolor 7\nline 0 9 10 9\n",
     ),
     (
-        &["one.rw", "out.rw"],
+        &["space", "one.rw", "out.rw"],
         0,
         "points 5 to 5 cost 3 to 3 pieces 1\n",
         "",
         "redwork 2\nstep 20\ncolor 1\nline 0 0 8 0 16 0\nline 8 0 8 5\n",
     ),
     (
-        &["bad.rw", "out.rw"],
+        &["space", "bad.rw", "out.rw"],
         1,
         "",
         "stitch_drawing: bad.rw: line 3: too few points\n",
         "",
     ),
     (
-        &["astray.rw", "out.rw"],
+        &["space", "astray.rw", "out.rw"],
         1,
         "",
         "stitch_drawing: astray.rw: line 4: not a junction\n",
         "",
     ),
     (
-        &["none.rw", "out.rw"],
+        &["space", "none.rw", "out.rw"],
         3,
         "",
         "stitch_drawing: cannot read none.rw\n",
         "",
     ),
-    (&["out.rw", "out.rw"], 2, "", USAGE, ""),
-    (&["dense.rw"], 2, "", USAGE, ""),
-    (&["dense.rw", "out.rw", "3"], 2, "", USAGE, ""),
+    (&["space", "out.rw", "out.rw"], 2, "", USAGE, ""),
+    (&["space", "dense.rw"], 2, "", USAGE, ""),
+    (&["space", "dense.rw", "out.rw", "3"], 2, "", USAGE, ""),
 ];
-
-fn stocked(alloc: Global) -> Result<MemStore, Fail> {
-    let mut store = MemStore::new(alloc);
-    for (name, text) in FILES {
-        store.put_file(name, text.as_bytes())?;
-    }
-    store.prepare("out.rw", 1_000)?;
-    Ok(store)
-}
 
 #[test]
 fn space_leaves_the_spaced_drawing(rt: HostRuntime) -> Result<(), Fail> {
-    let alloc = rt.alloc();
-    for (words, status, printed, reported, content) in &RUNS {
-        let mut store = stocked(alloc)?;
-        let mut out = MemSink::new(alloc, 1_000)?;
-        let mut err = MemSink::new(alloc, 1_000)?;
-        let mut given = Vec::new(alloc);
-        given.push(String::from_str(alloc, "space")?)?;
-        for word in *words {
-            given.push(String::from_str(alloc, word)?)?;
-        }
-        let ended = run(alloc, &given, &mut store, &mut out, &mut err);
-        assert_eq!(rt; out.taken(), printed.as_bytes());
-        assert_eq!(rt; err.taken(), reported.as_bytes());
-        assert_eq!(rt; ended as u8, *status);
-        assert_eq!(rt; file_content(&store, "out.rw"), content.as_bytes());
-    }
-    Ok(())
+    play(&rt, rt.alloc(), &FILES, &RUNS)
 }

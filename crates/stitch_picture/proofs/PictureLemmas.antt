@@ -9,7 +9,8 @@ use Rattle.line_graph.specs.UniquePieces.{PiecesAreUnique}
 use Rattle.odd_cuts.specs.declared.certificate.PieceCert.{PieceCert}
 use Rattle.program_shell.specs.ExactPlans.{IsSoundProgram}
 use Rattle.program_shell.specs.Products.{ProductValue}
-use Rattle.stitch_picture.specs.DrawnPictures.{IsPictureDrawn, drawn_read, lines_read}
+use Rattle.drawing_inputs.specs.DrawingLines.{lines_read}
+use Rattle.stitch_picture.specs.DrawnPictures.{IsPictureDrawn, drawn_read}
 use Rattle.stitch_picture.specs.Orders.{PictureOrder, picture_outputs, picture_plan, picture_program, drawing, proving, showing}
 use Rattle.stitch_picture.specs.Pictures.{picture_read}
 use Rattle.stitch_picture.specs.Proofs.{IsNoProof, IsProofPicture, IsProofShown, proof_cert, proof_drawing, proof_plan}

@@ -2,23 +2,16 @@
 use Rattle.std.specs.Prelude.{◌≡◌, ℕ, List, [], Result, Ok, Err}
 use Rattle.drawing_picture.specs.DrawingPictures.{IsDrawingPicture}
 use Rattle.drawing_text.specs.declared.draw_fault.DrawFault.{DrawFault}
-use Rattle.drawing_text.specs.DrawingText.{drawing_of}
-use Rattle.drawing_text.specs.DrawnTexts.{lines_of}
-use Rattle.drawing_model.specs.GrowingDrawings.{and_then}
 use Rattle.program_shell.specs.Plans.{Plan, accepts, reads, refuses}
 use Rattle.program_shell.specs.Products.{ProductValue, one_file_product}
 use Rattle.program_texts.specs.DrawingTexts.{draw_fault_text}
-use Rattle.stitch_picture.specs.declared.reading.LinesRead.{LinesRead}
+use Rattle.drawing_inputs.specs.declared.drawing_lines.LinesRead.{LinesRead}
+use Rattle.drawing_inputs.specs.DrawingLines.{lines_read}
 
 -- An order: the picture of a drawing, by the names of the two files.
 pub record DrawnOrder : Type 0 where
   pub drawing : List ℕ
   pub output : List ℕ
-
--- The drawing that a text describes, and its lines as they are drawn, or the first fault.
-abbrev pub lines_read : List ℕ → Result LinesRead DrawFault
-lines_read text = and_then (drawing_of text) (λ d. and_then (lines_of text) (λ drawn.
-    Ok (record { drawing = d; drawn = drawn })))
 
 -- The product is the picture of the drawing.
 pub record IsPictureDrawn (order : DrawnOrder) (read : LinesRead) (product : ProductValue)

@@ -4,8 +4,8 @@ ghost use Rattle.stitch_picture.specs.DrawnPictures.{drawn_plan, drawn_read};
 ghost use Rattle.stitch_picture.specs.Orders.{drawn_order};
 ghost use Rattle.stitch_picture.specs.Words.{AreFileNames, requested_file};
 
-use crate::reading::{LinesRead, lines_in};
 use crate::words::FileNames;
+use drawing_inputs::{LinesRead, lines_in};
 use drawing_picture::picture_of_drawing;
 use lists_and_numbers::Bytes;
 use outside_io::Store;

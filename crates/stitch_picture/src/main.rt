@@ -5,7 +5,6 @@
 mod drawing;
 mod drawn;
 mod proving;
-mod reading;
 mod running;
 #[cfg(test)]
 mod tests;

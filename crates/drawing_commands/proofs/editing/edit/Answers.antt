@@ -1,10 +1,12 @@
 use Rattle.std.proofs.Common.{map, string_bytes}
-use Rattle.program_shell.proofs.CallerLemmas.{settles_next}
+use Rattle.program_shell.proofs.CallerLemmas.{settles_taken}
 use Rattle.drawing_commands.specs.DrawingEditing.{drawing_edit_order, drawing_edit_read}
 use Rattle.drawing_commands.specs.DrawingEditWords.{drawing_edits_of}
 use Rattle.drawing_commands.proofs.editing.edit.Goals as goal
 
+pub edit_read-requires-clause-ordered : goal.edit_read-requires-clause-ordered
+edit_read-requires-clause-ordered g c = c.texts_order_ends.ensures c.in_ok-drawing.ensures.bytes _ c.in_ok-drawing.ensures.is
+
 pub returns : goal.returns
-returns g c = settles_next _ _ (drawing_edit_read (drawing_edit_order c.args.input.now c.args.output.now
-    (drawing_edits_of (map (λ word. string_bytes word) c.args.edits.now)))) _ _ _ c.in_ok-bytes.ensures
-    (rw c.as_slice.ensures at c.edit_at.ensures)
+returns g c = settles_taken _ _ (drawing_edit_read (drawing_edit_order c.args.input.now c.args.output.now
+    (drawing_edits_of (map (λ word. string_bytes word) c.args.edits.now)))) _ _ _ _ c.in_ok-drawing.ensures c.edit_read.ensures

@@ -1,7 +1,7 @@
-use Rattle.program_shell.proofs.CallerLemmas.{settles_next}
+use Rattle.program_shell.proofs.CallerLemmas.{settles_taken}
 use Rattle.drawing_commands.specs.SnapOrders.{snap_order, snap_read}
 use Rattle.drawing_commands.proofs.snapping.snap_file.Goals as goal
 
 pub returns : goal.returns
-returns g c = settles_next _ _ (snap_read (snap_order c.args.gap c.args.input.now c.args.output.now)) _ _ _ c.in_ok-bytes.ensures
-    (rw c.as_slice.ensures at c.snap_text.ensures)
+returns g c = settles_taken _ _ (snap_read (snap_order c.args.gap c.args.input.now c.args.output.now)) _ _ _ _
+    c.in_ok-read.ensures.takes c.snap_lines_of.ensures

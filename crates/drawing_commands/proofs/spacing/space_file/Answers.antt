@@ -1,7 +1,7 @@
-use Rattle.program_shell.proofs.CallerLemmas.{settles_next}
+use Rattle.program_shell.proofs.CallerLemmas.{settles_taken}
 use Rattle.drawing_commands.specs.SpaceOrders.{space_order, space_read}
 use Rattle.drawing_commands.proofs.spacing.space_file.Goals as goal
 
 pub returns : goal.returns
-returns g c = settles_next _ _ (space_read (space_order c.args.input.now c.args.output.now)) _ _ _ c.in_ok-bytes.ensures
-    (rw c.as_slice.ensures at c.space_text.ensures)
+returns g c = settles_taken _ _ (space_read (space_order c.args.input.now c.args.output.now)) _ _ _ _
+    c.in_ok-read.ensures.takes c.space_lines_of.ensures

@@ -5,4 +5,5 @@ use Rattle.stitch_picture.specs.Words.{requested_file}
 use Rattle.stitch_picture.proofs.drawn.draw_lines.Goals as goal
 
 pub returns : goal.returns
-returns g c = settles_taken _ _ (drawn_read (drawn_order (requested_file c.args.names))) _ _ _ _ c.in_ok-read.ensures c.lines_drawn.ensures
+returns g c = settles_taken _ _ (drawn_read (drawn_order (requested_file c.args.names))) _ _ _ _
+    c.in_ok-read.ensures.takes c.lines_drawn.ensures
