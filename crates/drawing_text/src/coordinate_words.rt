@@ -15,6 +15,7 @@ use drawing_model::DrawKind;
 /// Returns the coordinate that the first word of a line denotes, or its fault, and the line after the word.
 /// A short word behind one space or none is read in one pass over its bytes.
 #[tactic(auto, using(crate::proofs::CoordinateLemmas::same_words))]
+#[inline(always)]
 pub fn next_coordinate(line: &[u8]) -> Option<(Result<i32, DrawKind>, &[u8])>
     ensures some { IfSome result (λ r. BeginsWithCoordinate line.now r.0 r.1.now) }
     ensures within { IfSome result (λ r. IfOk r.0 (λ n. unsigned_abs n ≤ needle_limit)) }
@@ -57,9 +58,10 @@ fn after_space(line: &[u8]) -> &[u8]
     }
 }
 
-#[tactic(auto, using(crate::proofs::CoordinateLemmas::digits_alone, crate::proofs::CoordinateLemmas::digits_behind_minus))]
 /// Returns the coordinate of at most five digits at the beginning of a line, which may have a minus sign
 /// before them, and the line after them.
+#[tactic(auto, using(crate::proofs::CoordinateLemmas::digits_alone, crate::proofs::CoordinateLemmas::digits_behind_minus))]
+#[inline(always)]
 fn short_coordinate(from: &[u8]) -> Option<(i32, &[u8])>
     ensures some { IfSome result (λ r. BeginsWithCoordinate from.now (Ok r.0) r.1.now) }
     ensures within { IfSome result (λ r. unsigned_abs r.0 ≤ needle_limit) }
@@ -82,6 +84,7 @@ fn after_minus(from: &[u8]) -> Option<&[u8]>
 }
 
 #[tactic(auto, using(crate::proofs::CoordinateLemmas::begins_with_digits))]
+#[inline(always)]
 fn short_number(minus: bool, bytes: &[u8]) -> Option<(i32, &[u8])>
     ensures some { IfSome result (λ r. BeginsWithDigits minus bytes.now r.0 r.1.now) }
     ensures within { IfSome result (λ r. unsigned_abs r.0 ≤ needle_limit) }
@@ -137,6 +140,7 @@ fn five_digits(a: u8, b: u8, c: u8, d: u8, e: u8) -> (usize, u32)
 }
 
 /// Returns the same for few bytes, one by one.
+#[inline(never)]
 fn few_digits(bytes: &[u8]) -> (usize, u32)
     ensures within { result.0 ≤ length bytes.now }
     ensures digits { all_ascii_digits (take result.0 bytes.now) ≡ true }

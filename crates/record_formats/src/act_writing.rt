@@ -45,9 +45,8 @@ pub fn put_acts<W: RecordWriter>(
 
 /// Appends the records of an act and updates the encoder state, or reports why the format cannot write the
 /// act.
-// Nearly all acts are needles that are sewn on: their code is in the loop. All other acts go to another
-// function, with copies of the act and of the encoder state: references to the originals would keep both in
-// memory for the entire loop.
+// Nearly all acts are needles that are sewn on: their code is in the loop, and that of all other acts is in a
+// function of its own.
 #[inline(always)]
 fn put_act<W: RecordWriter>(
     writer: &W,
@@ -65,17 +64,33 @@ fn put_act<W: RecordWriter>(
         Act::Needle { float: false, .. } if !state.loose => {
             put_act_here(writer, out, state, act)
         }
-        _ => {
-            let copy = NumberedAct {
-                number: act.number,
-                act: act.act,
-            };
-            let mut after = *state;
-            put_act_apart(writer, out, &mut after, copy)?;
-            *state = after;
-            Ok(())
-        }
+        _ => put_act_copied(writer, out, state, act),
     }
+}
+
+/// Appends the records of an act from copies of the act and of the encoder state. References to the originals
+/// would keep both in memory for the entire loop.
+#[inline(always)]
+fn put_act_copied<W: RecordWriter>(
+    writer: &W,
+    out: &mut Bytes,
+    state: &mut EncoderState,
+    act: NumberedAct,
+) -> Result<(), WriteFault>
+    requires sound { IsEncoderStateInRange state.old }
+    requires act { IsTrue (is_act_in_range act.act) }
+    ensures value { AppendsActRecords (W.encoding writer.now) (W.write_limits writer.now) state.old act
+        out.old result state.new out.new }
+    ensures sound { OnOk result (IsEncoderStateInRange state.new) }
+{
+    let copy = NumberedAct {
+        number: act.number,
+        act: act.act,
+    };
+    let mut after = *state;
+    put_act_apart(writer, out, &mut after, copy)?;
+    *state = after;
+    Ok(())
 }
 
 // All acts take the same steps, but loose needles and stops have calls of their own: LLVM then knows the act

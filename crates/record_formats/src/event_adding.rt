@@ -12,16 +12,8 @@ use crate::move_parts::moved;
 use design_model::{Command, Design, Point};
 use format_traits::ReadFault;
 
-/// An event, and the offset of its record.
-#[derive(Clone, Copy)]
-struct EventAt {
-    at: u64,
-    event: Event,
-}
-
-// One match with three arms. A stitch and a jump take the same steps, each in a copy of its own. All other
-// events go to another function, as a copy: a reference to the event would keep it in memory for the entire
-// loop, and the result as well. A second match, or more arms, would cost a table jump at each record.
+// One match with three arms. A stitch and a jump take the same steps, each in a copy of its own, and all
+// other events go to another function. A second match, or more arms, would cost a table jump at each record.
 /// Adds the commands of the record at an offset to a design, and returns the hoop's position after it.
 #[inline(always)]
 pub(crate) fn keep_event(
@@ -41,13 +33,39 @@ pub(crate) fn keep_event(
     match event {
         Event::Stitch(_) => keep_here(design, at, place, event),
         Event::Jump(_) => keep_here(design, at, place, event),
-        _ => {
-            let copy = EventAt { at, event };
-            let there = place_after_cut(place, copy.event);
-            keep_cut(design, copy.at, copy.event, there)?;
-            Ok(there)
-        }
+        _ => keep_cut_copied(design, at, place, event),
     }
+}
+
+/// An event, and the offset of its record.
+#[derive(Clone, Copy)]
+struct EventAt {
+    at: u64,
+    event: Event,
+}
+
+/// Adds the commands of an event that trims or stops, from a copy of it, and returns the position after it. A
+/// reference to the event would keep it in memory for the entire loop, and the result as well.
+#[inline(always)]
+fn keep_cut_copied(
+    design: &mut Design,
+    at: u64,
+    place: Point,
+    event: Event,
+) -> Result<Point, ReadFault>
+    requires cuts { trims_or_stops event ≡ true }
+    requires place { IsTrue (is_point_within JUMP_LIMIT place) }
+    requires small { IsTrue (list_all (λ move. is_point_within MAX_RECORD_MOVE move)
+        (moves_of_event event)) }
+    ensures value { AddsCommands at (commands_of_event event place) design.old result design.new }
+    ensures place { IfOk result (λ there. there ≡ position_after_event event place) }
+    ensures range { IfOk result (λ there. IsTrue (is_point_within JUMP_LIMIT there)) }
+    ensures others { SameButCommands design.old design.new }
+{
+    let copy = EventAt { at, event };
+    let there = place_after_cut(place, copy.event);
+    keep_cut(design, copy.at, copy.event, there)?;
+    Ok(there)
 }
 
 #[inline(always)]
