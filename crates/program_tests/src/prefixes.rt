@@ -121,13 +121,18 @@ fn shows(
     Ok(())
 }
 
+fn route_words(alloc: Global, written: &str) -> Result<String, Fail> {
+    let words = format!(in alloc; "route a.rw {written} b.cert")?;
+    Ok(words)
+}
+
 #[test]
 fn each_first_part_of_a_file_is_shown_or_refused(rt: HostRuntime) -> Result<(), Fail> {
     for file in FILES {
         let mut store = stocked(rt.alloc(), SQUARE)?;
         let mut out = MemSink::new(rt.alloc(), 1_000)?;
         let mut err = MemSink::new(rt.alloc(), 0)?;
-        let words = format!(in rt.alloc(); "route a.rw {} b.cert", file.written)?;
+        let words = route_words(rt.alloc(), file.written)?;
         answer(rt.alloc(), &words, &mut store, &mut out, &mut err)?;
         let bytes = Vec::from_slice(rt.alloc(), store.file(file.written).ok_or("no file")?)?;
         assert_eq!(rt; bytes.len(), file.length, "{}", file.written);
