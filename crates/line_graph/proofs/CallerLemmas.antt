@@ -39,7 +39,8 @@ above_at n (m ∷ ms) zero rising there = grind (arith, nat_tests, and_parts (na
 above_at n (m ∷ ms) (suc k) rising there = above_at n ms k (and_parts (nat_lt n m) (all_greater n ms) rising).1 (omega arith)
 
 -- the line back adds its ends
-pub degree_closed : (from to : Option ℕ) (es : List Edge) (j : ℕ) → degree (closing_edge from to ++ es) j ≡ closing_ends from to j + degree es j
+pub degree_closed : (from to : Option ℕ) (es : List Edge) (j : ℕ)
+    → degree (closing_edge from to ++ es) j ≡ closing_ends from to j + degree es j
 degree_closed (Some f) (Some t) es j = refl
 degree_closed (Some f) None es j = omega arith
 degree_closed None to es j = omega arith

@@ -112,7 +112,8 @@ below_right n (x ∷ xs) ys all = below_right n xs ys (All-tail (λ line. line <
 
 -- a row after a call on its slice
 pub front_written : (len : ℕ) (new old : List ℕ) → length new ≡ len → take len (new ++ drop (length new) old) ≡ new
-front_written len new old h = subst (λ (n : ℕ). take n (new ++ drop (length new) old) ≡ new) h (take-append_seam new (drop (length new) old))
+front_written len new old h =
+    subst (λ (n : ℕ). take n (new ++ drop (length new) old) ≡ new) h (take-append_seam new (drop (length new) old))
 
 pub suc_zero : (n : ℕ) → (suc n == 0) ≡ false
 suc_zero n = grind (arith, nat_tests)

@@ -1,4 +1,5 @@
-//! Lists that grow, whole numbers in texts, want of memory, and lemmas on plain lists that several crates cite.
+//! Lists that grow, whole numbers in texts, the error of a lack of memory, and lemmas on plain lists that several
+//! crates cite.
 #![tactic(auto)]
 
 mod items;

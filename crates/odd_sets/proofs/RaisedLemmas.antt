@@ -63,7 +63,8 @@ pub inner_places : (x : ℕ) (tree : List BranchValue) (i : ℕ) (b : BranchValu
 inner_places x tree i b h1 h2 = grind (arith, nat_tests, drop_here, count-append)
 
 -- the vertices of the outer set at an index of the branches in slots, and those after it
-pub outers_at : (x : ℕ) (sets : Slots) (bs : List Branch) (i : ℕ) → i < length bs → count x (outer_members [] (drop i (branches_in sets bs)))
+pub outers_at : (x : ℕ) (sets : Slots) (bs : List Branch) (i : ℕ) → i < length bs
+    → count x (outer_members [] (drop i (branches_in sets bs)))
     ≡ count x (branch_in sets (get_or bs i no_branch)).outer.members + count x (outer_members [] (drop (i + 1) (branches_in sets bs)))
 outers_at x sets bs i low = outer_places x (branches_in sets bs) i (branch_in sets (get_or bs i no_branch))
     (mapped_low (branch_in sets) bs i low) (mapped_item (branch_in sets) bs i no_branch)

@@ -36,7 +36,8 @@ pub fn put_around(
     part: Part<'_>,
     after: &[u8],
 ) -> Result<(), Memory>
-    ensures { OnOk result (text.new ≡ text.old ++ joined (before.now ∷ part_text part.entry ∷ after.now ∷ [])) }
+    ensures { OnOk result (text.new
+        ≡ text.old ++ joined (before.now ∷ part_text part.entry ∷ after.now ∷ [])) }
 {
     put(text, &[Part::Text(before), part, Part::Text(after)])
 }

@@ -162,7 +162,8 @@ module _ (read : ℕ → ℕ → List ℕ → Records) (encoding : RecordEncodin
       goes_stitched n at count run place m there origin n rest loose jumped acts lies
       lies.splits.some (omega arith) (within_from write_limits.limit origin (omega arith) (omega arith))
       (position_after_move-none (position_after_move place (part_end m n n))
-      ∙ ap (position_after_move place) (part_all m n lies.splits.some) ∙ to) (subst (λ q. IsTrue (is_point_within NEEDLE_LIMIT q)) to lies.there) free few on
+      ∙ ap (position_after_move place) (part_all m n lies.splits.some) ∙ to)
+      (subst (λ q. IsTrue (is_point_within NEEDLE_LIMIT q)) to lies.there) free few on
 
   -- jumps over all parts of a move but the last, and a stitch in its place
   pub goes_last_stitched : (at count run : ℕ) (place m there : Point) (n : ℕ) (rest : List ℕ) (loose jumped : Bool) (acts : List Act)

@@ -5,8 +5,12 @@ use Rattle.odd_sets.proofs.heights.lower_inners.Goals as goal
 
 pub lower-requires-clause-within : goal.lower-requires-clause-within
 lower-requires-clause-within c = λ x here.
-    c.loop-b.invariant.within x (omega
-    (arith, here, inners_at x c.args.sets.now c.args.tree.now c.loop-b.b-index c.loop-b-test.true, ap (λ (xs : List ℕ). count x xs) c.members.ensures))
+    c.loop-b.invariant.within x (omega (
+      arith,
+      here,
+      inners_at x c.args.sets.now c.args.tree.now c.loop-b.b-index c.loop-b-test.true,
+      ap (λ (xs : List ℕ). count x xs) c.members.ensures,
+    ))
 
 pub lower-requires-clause-fits : goal.lower-requires-clause-fits
 lower-requires-clause-fits c = λ x.

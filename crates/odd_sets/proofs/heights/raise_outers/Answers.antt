@@ -5,8 +5,12 @@ use Rattle.odd_sets.proofs.heights.raise_outers.Goals as goal
 
 pub raise-requires-clause-within : goal.raise-requires-clause-within
 raise-requires-clause-within c = λ x here.
-    c.loop-b.invariant.within x (omega
-    (arith, here, outers_at x c.args.sets.now c.args.tree.now c.loop-b.b-index c.loop-b-test.true, ap (λ (xs : List ℕ). count x xs) c.members.ensures))
+    c.loop-b.invariant.within x (omega (
+      arith,
+      here,
+      outers_at x c.args.sets.now c.args.tree.now c.loop-b.b-index c.loop-b-test.true,
+      ap (λ (xs : List ℕ). count x xs) c.members.ensures,
+    ))
 
 pub raise-requires-clause-fits : goal.raise-requires-clause-fits
 raise-requires-clause-fits c = λ x.
