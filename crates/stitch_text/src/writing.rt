@@ -89,17 +89,33 @@ fn put_act(
         Act::Needle { float: false, .. } if !state.loose => {
             put_act_here(text, state, design, act)
         }
-        _ => {
-            let copy = NumberedAct {
-                number: act.number,
-                act: act.act,
-            };
-            let mut after = *state;
-            put_act_apart(text, &mut after, design, copy)?;
-            *state = after;
-            Ok(())
-        }
+        _ => put_act_copied(text, state, design, act),
     }
+}
+
+/// Appends the line of an act from copies of the act and of the encoder state. References to the originals
+/// would keep both in memory for the entire loop.
+#[inline(always)]
+fn put_act_copied(
+    text: &mut Bytes,
+    state: &mut EncoderState,
+    design: &Design,
+    act: NumberedAct,
+) -> Result<(), WriteFault>
+    requires sound { IsEncoderStateInRange state.old }
+    requires act { IsTrue (is_act_in_range act.act) }
+    ensures value { PutsLine (thread_of design.now) state.old act text.old result
+        state.new text.new }
+    ensures sound { OnOk result (IsEncoderStateInRange state.new) }
+{
+    let copy = NumberedAct {
+        number: act.number,
+        act: act.act,
+    };
+    let mut after = *state;
+    put_act_apart(text, &mut after, design, copy)?;
+    *state = after;
+    Ok(())
 }
 
 #[cold]
