@@ -1,11 +1,11 @@
 -- The bytes of a file that were fed, and the result at its end.
-use Rattle.std.proofs.Common.{◌≡◌, ℕ, ◌+◌, ◌≤◌, List, [], ◌++◌, length, take, Option, Result, refl, ap, sym, subst, ◌∙◌, length-append, append_assoc}
+use Rattle.std.proofs.Common.{◌≡◌, ℕ, ◌+◌, ◌≤◌, List, [], ◌++◌, length, take, Option, Result, ap, sym, subst, ◌∙◌, length-append, append_assoc}
 use Rattle.std.proofs.lemmas.List.{length-take-le}
 use Rattle.outside_io.specs.FileParts.{IsContentPrefix, IsFilePrefix, IsNextPart}
 use Rattle.outside_io.specs.Files.{Files}
 use Rattle.format_traits.specs.declared.fault.ReadFault.{ReadFault}
 use Rattle.format_traits.specs.declared.loaded.Loaded.{Loaded}
-use Rattle.format_traits.specs.Feeding.{FeedState, IsFed, HasNothingFed}
+use Rattle.format_traits.specs.Feeding.{FeedState, IsFed}
 use Rattle.design_files.specs.Loading.{IsFedWith}
 
 -- the first n bytes of the file were fed
@@ -15,16 +15,6 @@ pub record IsPartFed (reads : List ℕ → Result Loaded ReadFault) (files : Opt
     pub long : length bytes ≡ at
     pub begun : IsFilePrefix files name bytes
     pub fed : IsFedWith reads bytes f
-
--- at first nothing was
-pub none_fed : (reads : List ℕ → Result Loaded ReadFault) (shown : _) (files : Option Files) (name : List ℕ) (f : FeedState)
-    → HasNothingFed reads shown f → IsPartFed reads files name 0 f
-none_fed reads shown files name f fresh = record {
-  bytes = [];
-  long = refl;
-  begun = λ told is content there. refl;
-  fed = record { sound = fresh.sound; taken = fresh.taken; rest = fresh.rest };
-}
 
 -- then the next part is
 pub more_fed : (reads : List ℕ → Result Loaded ReadFault) (files here : Option Files) (name : List ℕ) (at count : ℕ)

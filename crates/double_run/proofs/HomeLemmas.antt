@@ -53,11 +53,6 @@ begins_kept lines edges root = record {
         apart : false ≡ true → ⊥
         apart is = cc
 
--- the first line begins at the root
-pub root_is : (edges : List Edge) (e : Edge) → slice_get edges 0 ≡ Some e → root_junction edges ≡ e.a
-root_is [] e there = absurd (cc)
-root_is (x ∷ edges) e there = ap (λ (y : Edge). y.a) (some_same x e there)
-
 -- a walk that begins with the first line starts at the root
 starts_first : (p : PieceValue) (walk : List Pass) → IsValidPiece p → BeginsWith (first_line p.lines) walk
     → walk_start p.lines p.edges walk ≡ Some (root_junction p.edges)

@@ -7,4 +7,3 @@ mod fault_failures;
 
 pub use drawing_files::{drawing_as2_in, drawing_in};
 pub use drawing_lines::{LinesRead, lines_in};
-pub use fault_failures::drawing_failure;

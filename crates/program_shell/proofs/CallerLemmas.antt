@@ -13,7 +13,7 @@ use Rattle.program_shell.specs.Programs.{Program}
 use Rattle.program_shell.specs.Runs.{RunEnds}
 use Rattle.program_shell.specs.RunViews.{Views, views_of}
 use Rattle.program_shell.specs.FinishedRuns.{FinishesRun}
-use Rattle.program_shell.specs.StepOutcomes.{CanFinish, IsFailureOf, IsParsedInput, IsPlanResult, ParsesInput, ReadsInput, RunsPlan, RunsPurePlan, RunsRequest}
+use Rattle.program_shell.specs.StepOutcomes.{CanFinish, IsFailureOf, IsParsedInput, ParsesInput, ReadsInput, RunsPlan, RunsPurePlan, RunsRequest}
 use Rattle.program_shell.proofs.RunLemmas.{run_ends}
 use Rattle.program_shell.proofs.RunOutcomes.{finished}
 
@@ -21,13 +21,6 @@ use Rattle.program_shell.proofs.RunOutcomes.{finished}
 halts_next : (name bytes : List ℕ) (next : List ℕ → Plan) (store store' : StoreView) (why : Failure)
     → IsInputContent store.files name bytes → IsFailureOf (next bytes) store store' why → IsFailureOf (reads name next) store store' why
 halts_next name bytes next store store' why h1 h2 = grind (arith, nat_tests)
-
--- A file is read, and the result of the plan is that of its rest.
-prepares_from : (name bytes : List ℕ) (next : List ℕ → Plan) (store store' : StoreView) (result : Result Product Failure)
-    → IsInputContent store.files name bytes → IsPlanResult (next bytes) store store' result
-    → IsPlanResult (reads name next) store store' result
-prepares_from name bytes next store store' (Ok product) input (makes, fit, same) = ((bytes, input, makes), fit, same)
-prepares_from name bytes next store store' (Err why) input halts = halts_next name bytes next store store' why input halts
 
 pub prepares_next : (name bytes : List ℕ) (next : List ℕ → Plan) (store mid store' : StoreView) (result : Result Product Failure)
     → ReadsInput name store mid (Ok bytes) → RunsPlan (next bytes) mid store' result → RunsPlan (reads name next) store store' result

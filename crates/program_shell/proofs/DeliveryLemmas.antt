@@ -86,10 +86,6 @@ pub record WritesOn (outputs left : List OutputValue) (before now : StoreView) :
   pub done : (after : StoreView) → WroteAll left now after → WroteAll outputs before after
   pub stops : (name : List ℕ) (after : StoreView) → WroteUpTo left name now after → WroteUpTo outputs name before after
 
-pub writes_first : (outputs : List OutputValue) (s : StoreView) → HaveFileNames outputs → HaveDistinctNames outputs
-    → WritesOn outputs outputs s s
-writes_first outputs s h1 h2 = grind (arith, nat_tests)
-
 pub writes_on : (outputs left : List OutputValue) (o : OutputValue) (rest : List OutputValue) (before now next : StoreView)
     → WritesOn outputs left before now → left ≡ o ∷ rest → FileHolds next.files o.name o.content
     → ChangesOnlyFile now.files next.files o.name → HasNoNewFault now next

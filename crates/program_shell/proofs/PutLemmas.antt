@@ -1,13 +1,11 @@
 -- Puts one after another.
-use Rattle.std.proofs.Common.{IsErrAnd, ◌≡◌, ◌++◌, ℕ, List, [], Option, Some, None, Result, Ok, Err, sym, ap, refl, subst, ◌∙◌, append_assoc, append-nil, take, drop, OnOk, OnErr, inl, inr}
+use Rattle.std.proofs.Common.{IsErrAnd, ◌≡◌, ◌++◌, ℕ, List, [], Option, Some, None, Result, Ok, Err, sym, ap, refl, subst, ◌∙◌, append_assoc, append-nil, take, drop}
 use Rattle.std.proofs.lemmas.List.{take-append-drop}
 use Rattle.outside_io.specs.declared.store.Failed.{Failed}
 use Rattle.outside_io.specs.Causes.{with_bytes_taken}
 use Rattle.outside_io.specs.Counts.{Rose}
-use Rattle.program_shell.specs.declared.status.Status.{Status}
-use Rattle.program_shell.specs.declared.status.Status.TheVariants as status
 use Rattle.program_shell.specs.PutSteps.{Gathers}
-use Rattle.program_shell.specs.Puts.{ReportsLineWithStatus, PutFailed, Puts, with_bytes_put}
+use Rattle.program_shell.specs.Puts.{PutFailed, Puts, with_bytes_put}
 use Rattle.outside_io.specs.Views.{SinkView}
 
 -- what a sink shows, by its parts
@@ -65,9 +63,6 @@ pub record PutsOn (whole left : List ℕ) (before now : SinkView) : Type 0 where
   pub ok : (after : SinkView) → after ≡ with_bytes_put now left → after ≡ with_bytes_put before whole
   pub err : (after : SinkView) → PutFailed now after left → PutFailed before after whole
 
-pub puts_first : (whole : List ℕ) (s : SinkView) → PutsOn whole whole s s
-puts_first whole s = record { ok = λ after is. is; err = λ after broke. broke }
-
 pub puts_on : (whole left piece rest : List ℕ) (before now next : SinkView) → PutsOn whole left before now
     → left ≡ piece ++ rest → next ≡ with_bytes_put now piece → PutsOn whole rest before next
 puts_on whole left piece rest before now next on is taken = record {
@@ -81,13 +76,6 @@ pub puts_broke : (whole left piece rest : List ℕ) (before now next : SinkView)
     → left ≡ piece ++ rest → PutFailed now next piece → PutFailed before next whole
 puts_broke whole left piece rest before now next on is broke =
     on.err next (subst (λ (xs : List ℕ). PutFailed now next xs) (sym is) (broke-more now next piece rest broke))
-
--- The planned status if a text was put, and `Fault` if not, report that text.
-pub told_by : {T : Type 0} (text : List ℕ) (before after : SinkView) (planned : Status) (put : Result T Failed) (s : Status)
-    → Puts text before after put → OnOk put (s ≡ planned) → OnErr put (s ≡ status.Fault)
-    → ReportsLineWithStatus text planned before after s
-told_by text before after planned (Ok _) s puts ok err = inl (ok, puts.ok)
-told_by text before after planned (Err _) s puts ok err = inr (err, puts.err)
 
 -- a piece is gathered, and then what is left is
 pub gathers_on : (whole left piece rest line next_line first : List ℕ) (before now next : SinkView)

@@ -1,6 +1,6 @@
 -- Reports of pieces, one after another.
-use Rattle.std.proofs.Common.{◌≡◌, ℕ, suc, ◌+◌, ◌<◌, ◌≤◌, List, [], ◌∷◌, ◌++◌, length, All, refl, sym, ap, subst, ◌∙◌, arith}
-use Rattle.std.proofs.lemmas.List.{append-nil, append_assoc}
+use Rattle.std.proofs.Common.{◌≡◌, ℕ, suc, ◌+◌, ◌<◌, ◌≤◌, List, [], ◌∷◌, ◌++◌, length, All, sym, ap, subst, ◌∙◌, arith}
+use Rattle.std.proofs.lemmas.List.{append_assoc}
 use Rattle.std.proofs.lemmas.List.Elements.{All-tail}
 use Rattle.odd_cuts.specs.declared.certificate.PieceCert.{PieceCert}
 use Rattle.line_graph.specs.declared.piece.Piece.{Piece}
@@ -25,21 +25,6 @@ reports_on whole so_far next number rest more left after p cert on is are put = 
         → reports_from number ps cs ≡ piece_report (graph_of p) number cert ∷ reports_from (number + 1) more after
     both ps cs one other = ap (λ (qs : List Piece). reports_from number qs cs) one
         ∙ ap (λ (ds : List PieceCert). reports_from number (p ∷ more) ds) other
-
--- where no piece is left, or no certificate, the reports so far are all
-pub reports_done : (whole so_far : List PieceReport) (number : ℕ) (rest : List Piece) (left : List PieceCert)
-    → ReportsOn whole so_far number rest left → rest ≡ [] → so_far ≡ whole
-reports_done whole so_far number rest left on none =
-    sym (append-nil so_far) ∙ ap (λ (ps : List Piece). so_far ++ reports_from number ps left) (sym none) ∙ on.are
-
-pub reports_short : (whole so_far : List PieceReport) (number : ℕ) (rest : List Piece) (left : List PieceCert)
-    → ReportsOn whole so_far number rest left → left ≡ [] → so_far ≡ whole
-reports_short whole so_far number rest left on none =
-    sym (append-nil so_far) ∙ ap (λ (rs : List PieceReport). so_far ++ rs) (sym (none_from rest left none)) ∙ on.are
-  where
-    none_from : (ps : List Piece) (cs : List PieceCert) → cs ≡ [] → reports_from number ps cs ≡ []
-    none_from [] cs is = refl
-    none_from (p ∷ ps) cs is = ap (λ (ds : List PieceCert). reports_from number (p ∷ ps) ds) is
 
 -- The blocks of the pieces after one, and their number.
 pub blocks_behind : (rest more : List Piece) (p : Piece) → All (λ (q : Piece). q.block < 255) rest → rest ≡ p ∷ more

@@ -10,7 +10,6 @@ mod verdict;
 mod walk_needles;
 
 pub use judging::judge;
-pub use piece_reasons::{wrong_count, wrong_piece};
 pub use sewing::sew;
 pub use theorems::{correct_routes_are_accepted, yes_is_least_redwork};
 pub use verdict::{Reason, Verdict};
