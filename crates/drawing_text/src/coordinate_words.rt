@@ -12,6 +12,7 @@ use crate::text_words::{is_blank, next_word};
 use design_model::NEEDLE_LIMIT;
 use drawing_model::DrawKind;
 
+// Inline down to the digits: as calls they would pass each position and each result through memory.
 /// Returns the coordinate that the first word of a line denotes, or its fault, and the line after the word.
 /// A short word behind one space or none is read in one pass over its bytes.
 #[tactic(auto, using(crate::proofs::CoordinateLemmas::same_words))]

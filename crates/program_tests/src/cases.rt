@@ -120,7 +120,7 @@ fn is_held(store: &MemStore, name: &str, holds: FileContent) -> bool {
     }
 }
 
-/// Returns the arguments that spaces separate.
+/// Returns the arguments that spaces separate: two spaces in a row have an empty one between them.
 pub fn arguments(alloc: Global, words: &str) -> Result<Vec<String>, Fail> {
     let mut owned = Vec::new(alloc);
     if words.is_empty() {
