@@ -1,4 +1,5 @@
 ghost use Rattle.std.specs.Prelude.{◌≡◌};
+ghost use Rattle.program_shell.specs.declared.failure.Failure.TheVariants as failure;
 
 use lists_and_numbers::Memory;
 
@@ -18,8 +19,6 @@ pub enum Failure<'a> {
 }
 
 impl<'a> From<Memory> for Failure<'a> {
-    ghost use Rattle.program_shell.specs.declared.failure.Failure.TheVariants as failure;
-
     ghost from_gives = { λ _ e. e ≡ failure.Memory };
 
     fn from(_error: Memory) -> Failure<'a> {
