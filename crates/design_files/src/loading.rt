@@ -2,6 +2,7 @@ ghost use Rattle.std.specs.Prelude.{◌≡◌};
 ghost use Rattle.design_files.specs.Loading.{FeedsFile, Loads};
 ghost use Rattle.format_traits.specs.Feeding.{HasNothingFed};
 ghost use Rattle.outside_io.specs.Files.{IsFileName};
+ghost use Rattle.design_files.specs.declared.loading.LoadFault.TheVariants as load;
 
 use format_traits::{Format, Loaded, ReadFault, begin_by, feed_by, finish_by};
 use lists_and_numbers::Memory;
@@ -17,8 +18,6 @@ pub enum LoadFault {
 }
 
 impl From<GetFault> for LoadFault {
-    ghost use Rattle.design_files.specs.declared.loading.LoadFault.TheVariants as load;
-
     ghost from_gives = { λ g e. e ≡ load.Get g };
 
     fn from(fault: GetFault) -> LoadFault {

@@ -1,5 +1,6 @@
 ghost use Rattle.std.specs.Prelude.{◌≡◌};
 ghost use Rattle.stitch_trace.specs.Traces.{IsRefusalOf};
+ghost use Rattle.stitch_trace.specs.declared.trace_fault.TraceFault.TheVariants as fault;
 
 use drawing_model::DrawKind;
 use lists_and_numbers::Memory;
@@ -18,16 +19,6 @@ pub enum TraceFault {
     Memory,
 }
 
-impl From<Memory> for TraceFault {
-    ghost use Rattle.stitch_trace.specs.declared.trace_fault.TraceFault.TheVariants as fault;
-
-    ghost from_gives = { λ _ e. e ≡ fault.Memory };
-
-    fn from(_memory: Memory) -> TraceFault {
-        TraceFault::Memory
-    }
-}
-
 /// Returns the fault of a trace for a fault of its drawing.
 pub fn refusal_of(kind: DrawKind) -> TraceFault
     ensures { IsRefusalOf kind result }
@@ -35,5 +26,13 @@ pub fn refusal_of(kind: DrawKind) -> TraceFault
     match kind {
         DrawKind::Memory => TraceFault::Memory,
         _ => TraceFault::Limit { kind },
+    }
+}
+
+impl From<Memory> for TraceFault {
+    ghost from_gives = { λ _ e. e ≡ fault.Memory };
+
+    fn from(_memory: Memory) -> TraceFault {
+        TraceFault::Memory
     }
 }
