@@ -15,12 +15,12 @@ use Rattle.odd_sets.specs.declared.table.TheConstants.{MAX_DISTANCE}
 use Rattle.odd_sets.specs.Values.{BranchValue, MatchValue, SearchValue}
 use Rattle.blossom_match.specs.declared.search.SearchStep.{SearchStep}
 use Rattle.blossom_match.specs.declared.least.DualChange.{DualChange}
-use Rattle.odd_sets.proofs.CallerLemmas.{each-right, count-append, members-append, some_member, base_in, grown-right, entry-comm, by_count}
+use Rattle.odd_sets.proofs.CallerLemmas.{each-right, count-append, members-append, some_member, base_in, grown-right, entry-comm, by_count, more_by}
 use Rattle.blossom_match.proofs.ScanLemmas.{apart_from}
 use Rattle.blossom_match.proofs.SearchLemmas.{in_place, is_one, place_in}
 use Rattle.blossom_match.proofs.FreeLemmas.{load_of, load_of-comm, under}
 use Rattle.blossom_match.proofs.BoundLemmas.{height_limit, loads_apart}
-use Rattle.blossom_match.proofs.DualLemmas.{outer_with_both-comm, around_same_all, between_in, between_out, branches_load, branches_tall, counted, matches_same, drop_changed, each_split, firm_changed, grown_same, inner_same, inside, more_wide, one_place, outer_limit, outer_same, set_limit, sizes_same, sound_up, times_by, wide_tall, within}
+use Rattle.blossom_match.proofs.DualLemmas.{outer_with_both-comm, around_same_all, between_in, between_out, branches_load, branches_tall, counted, matches_same, drop_changed, each_split, firm_changed, grown_same, inner_same, inside, more_wide, one_place, outer_limit, outer_same, set_limit, sizes_same, sound_up, wide_tall, within}
 
 none_below : (v : ℕ) (bs : List DualSet) → length bs ≡ 0 → height v bs ≡ 0
 none_below v [] e = refl
@@ -131,7 +131,7 @@ moved by s r ch can x =
       ap (λ (v : OddSetValue). height x (dual_sets v)) ch.root,
       ap (λ (ks : List BranchValue). height x (branch_dual_sets ks)) ch.tree,
       ap (λ (cs : List MatchValue). height x (match_dual_sets cs)) ch.rest,
-      times_by by _ _ _ (members-append outer_sets x s.root.members [] s.tree),
+      more_by by _ _ _ (members-append outer_sets x s.root.members [] s.tree),
     )
 
 one_slack : (t : TableValue) (h : ℕ → ℕ) (s : SearchValue) (c : DualChange) (a b : ℕ) → IsSearch t h s → IsLeastChange t h s c

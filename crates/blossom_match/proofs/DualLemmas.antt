@@ -17,7 +17,7 @@ use Rattle.odd_sets.specs.Slots.{branch_in, branches_in, AreSets, Slots}
 use Rattle.odd_sets.specs.declared.branches.Branch.{Branch}
 use Rattle.blossom_match.specs.declared.least.DualChange.{DualChange}
 use Rattle.std.proofs.lemmas.List.Edits.{map_over_more}
-use Rattle.odd_sets.proofs.CallerLemmas.{get_or_self, mapped_drop, no_branch, all_uses, sets_fewer, key_count-append, count-append, height-append, hit_is, dual_load-append, size-append, some_member, base_in, outer_members_base}
+use Rattle.odd_sets.proofs.CallerLemmas.{get_or_self, mapped_drop, no_branch, all_uses, sets_fewer, key_count-append, count-append, height-append, hit_is, dual_load-append, size-append, some_member, base_in, more_by, outer_members_base}
 use Rattle.blossom_match.proofs.SearchLemmas.{place_in}
 
 -- members stay
@@ -56,9 +56,6 @@ narrowed w by c low =
     let f : ((w - by) + by) * c ≡ w * c = ap (λ (k : ℕ). k * c) e in
     omega (arith, f)
 
-pub times_by : (by m n k : ℕ) → m ≡ n + k → by * m ≡ by * n + by * k
-times_by by m n k e = let f = ap (λ (x : ℕ). by * x) e in omega (arith, f)
-
 pub wide_tall : (x by : ℕ) (s : OddSetValue) → height x (dual_sets (with_dual (s.dual + by) s))
     ≡ height x (dual_sets s) + by * count x s.members
 wide_tall x by s = omega arith
@@ -73,7 +70,7 @@ pub branches_tall : (x by : ℕ) (bs : List BranchValue) → Each (CanChange by)
     ≡ height x (branch_dual_sets bs) + by * count x (outer_members [] bs)
 branches_tall x by [] can = omega arith
 branches_tall x by (b ∷ bs) can =
-    grind (arith, nat_tests, narrow_tall, wide_tall, times_by, count-append, height-append, branches_tall x by bs can.1)
+    grind (arith, nat_tests, narrow_tall, wide_tall, more_by, count-append, height-append, branches_tall x by bs can.1)
 
 -- a set of the outer sets, of the inner sets and of the others
 pub sound_up : (d : TableValue) (h k : ℕ → ℕ) (by : ℕ) (s : OddSetValue) → ((x : ℕ) → count x s.members ≤ 1)

@@ -1,6 +1,6 @@
 -- The slacks from the outer vertices after a change of duals.
 use Rattle.std.proofs.lemmas.Bool.Decides.{nat_tests}
-use Rattle.std.proofs.Common.{◌≡◌, ℕ, ◌+◌, ◌-◌, ◌*◌, ◌≤◌, ◌<◌, inl, inr, List, [], ◌∷◌, length, get_or, arith, refl, sym, ap, subst, ◌∙◌, take, drop}
+use Rattle.std.proofs.Common.{◌≡◌, ℕ, ◌+◌, ◌-◌, ◌≤◌, ◌<◌, inl, inr, List, [], ◌∷◌, length, get_or, arith, refl, sym, ap, subst, ◌∙◌, take, drop}
 use Rattle.blossom_match.proofs.OuterSlackLemmas.{reaches_apart}
 use Rattle.odd_sets.specs.DualSets.{OddSetValue, count}
 use Rattle.odd_sets.specs.Folds.{FoldsCells, FoldsOuters}
@@ -31,9 +31,6 @@ record IsRaised (t : TableValue) (by : ℕ) (s r : SearchValue) : Type 0 where
   pub outs : (a : ℕ) → count a (outer_vertices r) ≡ count a (outer_vertices s)
   pub holds : (a x : ℕ) → count_holding_both a x r.root r.tree ≡ count_holding_both a x s.root s.tree
   pub high : (a : ℕ) → 1 ≤ count a (outer_vertices s) → get_or r.heights a 0 ≡ get_or s.heights a 0 + by
-
-times_one : (by n : ℕ) → n ≡ 1 → by * n ≡ by
-times_one by n e = omega (arith, ap (λ (k : ℕ). by * k) e)
 
 is_raised : (t : TableValue) (by : ℕ) (s r : SearchValue) → IsTable t → IsSearch t (stored_height s) s → ChangesDuals by s r
     → IsRaised t by s r

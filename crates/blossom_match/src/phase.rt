@@ -93,12 +93,12 @@ fn advance(
 {
     let change = least(t, reach, mask, &s);
     if change.by == 0 {
-        let next = take_step(alloc, t, s, change.step, reach, mask)?;
+        let next = take_step(alloc, t, reach, mask, s, change.step)?;
         return Ok(next);
     }
     let adjusted = adjust(s, change);
     lower_slacks(change.by, reach);
-    let next = take_step(alloc, t, adjusted, change.step, reach, mask)?;
+    let next = take_step(alloc, t, reach, mask, adjusted, change.step)?;
     Ok(next)
 }
 
@@ -106,10 +106,10 @@ fn advance(
 fn take_step(
     alloc: Global,
     t: &DistTable,
-    s: Search,
-    step: SearchStep,
     reach: &mut [u32],
     mask: &mut [u32],
+    s: Search,
+    step: SearchStep,
 ) -> Result<StepResult, Memory>
     requires step { CanStepAt t.now (search_value s) step }
     requires reaches { AreSearchSlacks t.now (search_value s) reach.old }
