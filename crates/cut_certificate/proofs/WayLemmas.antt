@@ -9,7 +9,7 @@ use Rattle.blossom_match.specs.declared.matching.Moat.{Moat}
 use Rattle.blossom_match.specs.Matchings.{IsOddMoat}
 use Rattle.drawing_model.specs.declared.limits.TheConstants.{MAX_COST}
 use Rattle.odd_paths.specs.LeastRows.{RowsValue, cost_in, length_in}
-use Rattle.cut_certificate.specs.declared.single_moat.TheConstants.{FAR}
+use Rattle.cut_certificate.specs.declared.single_moat.TheConstants.{MAX_REACH}
 use Rattle.cut_certificate.specs.declared.terminal_state.TerminalState.{TerminalState}
 use Rattle.cut_certificate.specs.declared.terminal_state.TerminalState.TheVariants as stand
 use Rattle.cut_certificate.specs.Levels.{LiftInput, lift_input}
@@ -63,26 +63,26 @@ have_ways rows size moats s stands reaches can next =
       wide = λ c v at there. (let o = next.progress.standing.first t c at in (next.progress.made c o.moat v o.at o.done there).sized);
     }
 
--- a list of FAR that is lowered to all distances has those from the next moat
+-- a list of MAX_REACH that is lowered to all distances has those from the next moat
 pub reach_made : (rows : RowsValue) (size : ℕ) (moats : List Moat) (s : Moat) (stands : List TerminalState) (reaches : List (Vec ℕ Global))
     (len : ℕ)
     (far now new members : List ℕ) → HasRowsForMoats rows size moats → IsNextMoat (lift_input rows size moats) s stands reaches
-    → far ≡ replicate size FAR
+    → far ≡ replicate size MAX_REACH
     → now ≡ far → len ≡ size → length new ≡ length now → members ≡ s.members
     → ((j : ℕ) → j < length now → slice_index new j
     ≡ lowered_distance (lift_input rows (length now) moats) stands reaches j (slice_index now j)
     members)
     → AreDistancesFrom (lift_input rows size moats) s (take len (new ++ drop (length new) far))
 reach_made rows size moats s stands reaches len far now new members can next is are sized long same value =
-    let wide : length now ≡ size = ap (λ (l : List ℕ). length l) (are ∙ is) ∙ length-replicate size FAR in subst
+    let wide : length now ≡ size = ap (λ (l : List ℕ). length l) (are ∙ is) ∙ length-replicate size MAX_REACH in subst
     (AreDistancesFrom (lift_input rows size moats) s) (sym (front_written len new far (long ∙ wide ∙ sym sized))) (reach_found
-    (lift_input rows size moats) s next.index stands reaches new FAR
+    (lift_input rows size moats) s next.index stands reaches new MAX_REACH
     (finds rows size moats s next.index stands reaches can next.at next.progress)
     (long ∙ wide) (λ t j in_t in_j. let low = can.low t j in_t in_j in
     (omega (arith, low))) (λ j in_j. value j (omega arith) ∙ ap
     (λ (x : ℕ). lowered_distance (lift_input rows size moats) stands reaches j x members)
-    (ap (λ (l : List ℕ). slice_index l j) (are ∙ is) ∙ get_or-replicate size j FAR 0 in_j) ∙ ap
-    (lowered_distance (lift_input rows size moats) stands reaches j FAR) same))
+    (ap (λ (l : List ℕ). slice_index l j) (are ∙ is) ∙ get_or-replicate size j MAX_REACH 0 in_j) ∙ ap
+    (lowered_distance (lift_input rows size moats) stands reaches j MAX_REACH) same))
 
 -- the most members so far
 pub most_more : (ms : List Moat) (i old new : ℕ) (m : Moat) → i < length ms → m ≡ get_or ms i m
@@ -101,11 +101,11 @@ most_all ms i most le all = subst (λ (l : List Moat). All (λ (x : Moat). lengt
 -- each terminal of the next moat has a distance, as the code reads terminals and numbers
 pub all_ways : (rows : RowsValue) (size : ℕ) (moats : List Moat) (s : Moat) (stands : List TerminalState) (reaches : List (Vec ℕ Global))
     (far now members : List ℕ) → HasRowsForMoats rows size moats → IsNextMoat (lift_input rows size moats) s stands reaches
-    → far ≡ replicate size FAR
+    → far ≡ replicate size MAX_REACH
     → now ≡ far
     → members ≡ s.members → All (HasDistance rows (length now) moats stands reaches) members
 all_ways rows size moats s stands reaches far now members can next is are same =
     subst (λ (n : ℕ). All (HasDistance rows n moats stands reaches) members)
-    (sym (ap (λ (l : List ℕ). length l) (are ∙ is) ∙ length-replicate size FAR))
+    (sym (ap (λ (l : List ℕ). length l) (are ∙ is) ∙ length-replicate size MAX_REACH))
     (subst (λ (ts : List ℕ). All (HasDistance rows size moats stands reaches) ts) (sym same)
     (have_ways rows size moats s stands reaches can next))

@@ -11,7 +11,7 @@ use odd_paths::Rows;
 use std::alloc::Global;
 
 /// The maximum distance of a junction from a moat, in halves of a step.
-const FAR: u32 = 2 * MAX_COST;
+const MAX_REACH: u32 = 2 * MAX_COST;
 
 /// Returns the distances of all junctions from the next moat.
 pub fn distances_of(
@@ -28,7 +28,7 @@ pub fn distances_of(
     ensures { IfOk result (λ reach. AreDistancesFrom (lift_input rows.now size moats.now) s.now
         reach.items) }
 {
-    let mut reach = vec![in alloc; FAR; size]?;
+    let mut reach = vec![in alloc; MAX_REACH; size]?;
     lower_all(
         &mut reach,
         rows,
@@ -57,7 +57,7 @@ fn lower_all(
 {
     let mut rest = places;
     while let [t, after @ ..] = rest {
-        lower(reach, rows, moats, stands, reaches, *t);
+        lower(reach, *t, rows, moats, stands, reaches);
         rest = after;
     }
 }
@@ -65,11 +65,11 @@ fn lower_all(
 /// Lowers distances to those from a terminal.
 fn lower(
     reach: &mut [u32],
+    t: u32,
     rows: &Rows,
     moats: &[Moat],
     stands: &[TerminalState],
     reaches: &[Vec<u32>],
-    t: u32,
 )
     requires can { HasRowsForMoats rows.now (length reach.old) moats.now }
     requires way { HasDistance rows.now (length reach.old) moats.now stands.now reaches.now t }
