@@ -6,7 +6,7 @@ use Rattle.std.proofs.lemmas.List.{get_or-replicate, length-map, length-replicat
 use Rattle.std.proofs.Math.Seq.{map-set_same}
 use Rattle.std.specs.Prelude.{slice_index, slice_set}
 use Rattle.odd_paths.specs.declared.lanes.TheConstants.{LANES}
-use Rattle.odd_paths.specs.declared.sweeps.TheConstants.{FAR}
+use Rattle.odd_paths.specs.declared.sweeps.TheConstants.{NO_WALK}
 use Rattle.line_graph.specs.declared.edge.Edge.{Edge}
 use Rattle.odd_paths.proofs.RowLemmas.{is_row}
 use Rattle.odd_paths.proofs.SoundLemmas.{at_other, at_same, begun, get_replicate, most_set}
@@ -51,10 +51,10 @@ lane_lowered i a b cost lane table is =
           rw high (map-set_same (λ (l : List ℕ). slice_index l i) table b lane [] value)
     ]
 
-pub capped_lane : (table : List (List ℕ)) (a i : ℕ) → IsCapped table → i < LANES → slice_index (get_or table a []) i ≤ FAR
+pub capped_lane : (table : List (List ℕ)) (a i : ℕ) → IsCapped table → i < LANES → slice_index (get_or table a []) i ≤ NO_WALK
 capped_lane table a i capped there = omega (arith, capped i there a, column_at i a table)
 
--- so no number comes above FAR
+-- so no number comes above NO_WALK
 pub capped_lowered : (table new : List (List ℕ)) (a b cost : ℕ) → b < length table → IsCapped table
     → ((i : ℕ) → i < LANES → lane_column i new ≡ lowered_row (lane_column i table) a b cost) → IsCapped new
 capped_lowered table new a b cost there capped value i in_i j = grind (arith, nat_tests, length-map, lowered_low)
@@ -77,16 +77,16 @@ map_replicate : (f : List ℕ → ℕ) (n : ℕ) (lane : List ℕ) → map f (re
 map_replicate f zero lane = refl
 map_replicate f (suc n) lane = ap (λ (rest : List ℕ). f lane ∷ rest) (map_replicate f n lane)
 
-column_blank : (n i : ℕ) → i < LANES → lane_column i (replicate n (replicate LANES FAR)) ≡ replicate n FAR
+column_blank : (n i : ℕ) → i < LANES → lane_column i (replicate n (replicate LANES NO_WALK)) ≡ replicate n NO_WALK
 column_blank n i there = grind (arith, nat_tests, map_replicate, get_or-replicate)
 
-pub capped_blank : (n : ℕ) (table : List (List ℕ)) → table ≡ replicate n (replicate LANES FAR) → IsCapped table
+pub capped_blank : (n : ℕ) (table : List (List ℕ)) → table ≡ replicate n (replicate LANES NO_WALK) → IsCapped table
 capped_blank n table blank i there j =
     let column_is = ap (λ (t : List (List ℕ)). lane_column i t) blank ∙ column_blank n i there in
-    rw column_is (get_replicate n j FAR)
+    rw column_is (get_replicate n j NO_WALK)
 
 -- a table that has begun and then settled has the rows of the terminals as its columns
-pub columns_settled : (es : List Edge) (n : ℕ) (ts : List ℕ) (old between new : List (List ℕ)) → old ≡ replicate n (replicate LANES FAR)
+pub columns_settled : (es : List Edge) (n : ℕ) (ts : List ℕ) (old between new : List (List ℕ)) → old ≡ replicate n (replicate LANES NO_WALK)
     → IsGraph es n → length ts ≤ LANES → All (λ t. t < n) ts
     → length between ≡ length old → HaveStarts ts old between → KeepsCosts es between new
     → ((i : ℕ) → i < LANES → IsFullyRelaxed (lane_column i new) es) → AreLeastColumns es n ts new
@@ -94,8 +94,8 @@ columns_settled es n ts old between new blank graph few there size started keeps
     let in_lanes : i < LANES = omega (arith, few, in_i) in
     let from : ℕ = slice_index ts i in
     let column_is = ap (λ (t : List (List ℕ)). lane_column i t) blank ∙ column_blank n i in_lanes in
-    let count : length between ≡ n = size ∙ (ap (λ (t : List (List ℕ)). length t) blank ∙ length-replicate n (replicate LANES FAR)) in
-    let is : lane_column i between ≡ slice_set (replicate n FAR) from 0 =
+    let count : length between ≡ n = size ∙ (ap (λ (t : List (List ℕ)). length t) blank ∙ length-replicate n (replicate LANES NO_WALK)) in
+    let is : lane_column i between ≡ slice_set (replicate n NO_WALK) from 0 =
     started i in_i ∙ ap (λ (row : List ℕ). slice_set row from 0) column_is in
     let first : AreWalkCosts es (length between) from (lane_column i between) = rw (is, count) (begun es n from (there i 0 in_i)) in
     let last : AreWalkCosts es n from (lane_column i new) =

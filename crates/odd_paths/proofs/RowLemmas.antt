@@ -7,7 +7,7 @@ use Rattle.line_graph.specs.declared.edge.Edge.{Edge}
 use Rattle.drawing_model.specs.declared.limits.TheConstants.{MAX_COST}
 use Rattle.line_graph.specs.ValidPieces.{NoEdgeLeaves}
 use Rattle.line_graph.specs.PieceWalks.{edge_cost, edge_sum}
-use Rattle.odd_paths.specs.declared.sweeps.TheConstants.{FAR}
+use Rattle.odd_paths.specs.declared.sweeps.TheConstants.{NO_WALK}
 use Rattle.odd_paths.proofs.CoverLemmas.{rises_within}
 use Rattle.odd_paths.proofs.PlaceLemmas.{below_at, cost_within}
 use Rattle.odd_paths.proofs.SoundLemmas.{begun, swept_sound}
@@ -17,28 +17,28 @@ use Rattle.odd_paths.specs.Sweeps.{IsFullyRelaxed, AreWalkCosts, KeepsWalkCosts,
 use Rattle.lists_and_numbers.proofs.CallerLemmas.{front_written, same_test}
 
 near_most : (es : List Edge) (n from : ℕ) (row : List ℕ) → AreWalkCosts es n from row → IsFullyRelaxed row es
-    → (i : ℕ) → i < n → slice_index row i < FAR → slice_index row i ≤ edge_sum edge_cost es
+    → (i : ℕ) → i < n → slice_index row i < NO_WALK → slice_index row i ≤ edge_sum edge_cost es
 near_most es n from row s flat i there near = grind (arith, nat_tests, rises_within)
 
 -- an edge from such a junction leads to such a junction
 pass_on : (es : List Edge) (n from : ℕ) (row : List ℕ) → AreWalkCosts es n from row → IsFullyRelaxed row es
     → edge_sum edge_cost es ≤ MAX_COST
     → (i j c : ℕ) → i < n → c ≤ edge_sum edge_cost es → slice_index row j ≤ slice_index row i + c
-    → nat_lt (slice_index row i) FAR ≡ true → nat_lt (slice_index row j) FAR ≡ true
+    → nat_lt (slice_index row i) NO_WALK ≡ true → nat_lt (slice_index row j) NO_WALK ≡ true
 pass_on es n from row s flat small i j c there within rise near =
     let low = near_most es n from row s flat i there (ltb-true _ _ near) in
     lt-ltb _ _ (omega arith)
 
 none_leaves : (es : List Edge) (n from : ℕ) (row : List ℕ) → AreWalkCosts es n from row → IsFullyRelaxed row es → EndsAreBelow n es
-    → edge_sum edge_cost es ≤ MAX_COST → NoEdgeLeaves es (λ i. nat_lt (slice_index row i) FAR)
+    → edge_sum edge_cost es ≤ MAX_COST → NoEdgeLeaves es (λ i. nat_lt (slice_index row i) NO_WALK)
 none_leaves es n from row s flat within small k e got = grind (arith, nat_tests, below_at, cost_within, flat_at, same_test, pass_on)
 
 reached : (es : List Edge) (n from : ℕ) (row : List ℕ) → AreWalkCosts es n from row → IsFullyRelaxed row es → IsGraph es n
-    → from < n → (j : ℕ) → j < n → slice_index row j < FAR
+    → from < n → (j : ℕ) → j < n → slice_index row j < NO_WALK
 reached es n from row s flat graph in_n j in_j =
     let closed = none_leaves es n from row s flat graph.ends graph.cost in
-    let all = graph.joined (λ i. nat_lt (slice_index row i) FAR) closed from j in_n in_j in
-    let start : nat_lt (slice_index row from) FAR ≡ true = rw s.start refl in
+    let all = graph.joined (λ i. nat_lt (slice_index row i) NO_WALK) closed from j in_n in_j in
+    let start : nat_lt (slice_index row from) NO_WALK ≡ true = rw s.start refl in
     ltb-true _ _ (sym all ∙ start)
 
 -- the row at the end
@@ -65,10 +65,10 @@ pub settled_new : (es : List Edge) (row new : List ℕ) → new ≡ swept row es
 settled_new es row new value h = subst (λ (r : List ℕ). IsFullyRelaxed r es) (sym value) (settled_row es row h)
 
 pub last_row : (es : List Edge) (n from len : ℕ) (now new row : List ℕ) → IsGraph es n → from < n
-    → now ≡ slice_set row from 0 → row ≡ replicate n FAR → len ≡ n → length new ≡ length now
+    → now ≡ slice_set row from 0 → row ≡ replicate n NO_WALK → len ≡ n → length new ≡ length now
     → KeepsWalkCosts es now new → IsFullyRelaxed new es → IsLeastRow es n from (take len (new ++ drop (length new) (slice_set row from 0)))
 last_row es n from len now new row graph lt is row_is len_is size kept flat =
-    let first : now ≡ slice_set (replicate n FAR) from 0 = is ∙ ap (λ (r : List ℕ). slice_set r from 0) row_is in
+    let first : now ≡ slice_set (replicate n NO_WALK) from 0 = is ∙ ap (λ (r : List ℕ). slice_set r from 0) row_is in
     let at_start : AreWalkCosts es n from now = subst (λ (r : List ℕ). AreWalkCosts es n from r) (sym first) (begun es n from lt) in
     let whole : length now ≡ n = at_start.size in
     let before : AreWalkCosts es (length now) from now = subst (λ (m : ℕ). AreWalkCosts es m from now) (sym whole) at_start in

@@ -1,11 +1,11 @@
--- Each number below FAR is the cost of a walk, and sweeps preserve this.
+-- Each number below NO_WALK is the cost of a walk, and sweeps preserve this.
 use Rattle.std.proofs.lemmas.Bool.Decides.{nat_tests}
 use Rattle.std.proofs.Common.{◌≡◌, ◌≢◌, ℕ, suc, ◌+◌, ◌<◌, ◌≤◌, List, [], ◌∷◌, ◌++◌, Some, length, replicate, inl, inr, refl, ◌∙◌, get_or-set_same, get_or-set_other, arith}
 use Rattle.std.proofs.lemmas.Bool.{cases_eq, cases_lt}
 use Rattle.std.proofs.lemmas.List.{get_or-replicate, get_or_past, length-replicate, length-set}
 use Rattle.std.specs.Prelude.{slice_get, slice_index, slice_set}
 use Rattle.line_graph.specs.declared.edge.Edge.{Edge}
-use Rattle.odd_paths.specs.declared.sweeps.TheConstants.{FAR}
+use Rattle.odd_paths.specs.declared.sweeps.TheConstants.{NO_WALK}
 use Rattle.odd_paths.proofs.PlaceLemmas.{cost_append, cost_one, walk_append, walk_one}
 use Rattle.odd_paths.specs.EdgeWalks.{EndsAreBelow, Connects, edge_walk_cost}
 use Rattle.odd_paths.specs.Sweeps.{IsCost, AreWalkCosts, lowered_row, relaxed, swept}
@@ -30,8 +30,8 @@ pub most_set : (row : List ℕ) (b v top : ℕ) → b < length row → v ≤ top
 most_set row b v top lt le f j = grind (arith, nat_tests, cases_eq, at_same, at_other)
 
 walks_set : (es : List Edge) (n from : ℕ) (row : List ℕ) (b v : ℕ) → b < length row → IsCost es from b v
-    → ((j : ℕ) → j < n → slice_index row j < FAR → IsCost es from j (slice_index row j))
-    → (j : ℕ) → j < n → slice_index (slice_set row b v) j < FAR → IsCost es from j (slice_index (slice_set row b v) j)
+    → ((j : ℕ) → j < n → slice_index row j < NO_WALK → IsCost es from j (slice_index row j))
+    → (j : ℕ) → j < n → slice_index (slice_set row b v) j < NO_WALK → IsCost es from j (slice_index (slice_set row b v) j)
 walks_set es n from row b v lt w f j within near = grind (arith, nat_tests, cases_eq, at_same, at_other)
 
 -- one number is lowered
@@ -47,7 +47,7 @@ lowered_one es n from k a b e row s got joins in_a in_b less =
     record {
       size = length-set row b (slice_index row a + e.cost) ∙ s.size;
       start = at_other row b (slice_index row a + e.cost) from (grind (arith, nat_tests, less, start)) ∙ s.start;
-      most = most_set row b (slice_index row a + e.cost) FAR lt (omega arith) s.most;
+      most = most_set row b (slice_index row a + e.cost) NO_WALK lt (omega arith) s.most;
       walks = walks_set es n from row b (slice_index row a + e.cost) lt cost s.walks;
     }
 
@@ -80,16 +80,16 @@ swept_sound es n from row ends s = swept_on es n from row es (λ e i h. (i, h)) 
 pub get_replicate : (n j v : ℕ) → slice_index (replicate n v) j ≤ v
 get_replicate n j v = grind (arith, nat_tests, cases_lt, get_or-replicate, get_or_past, length-replicate)
 
-pub begun : (es : List Edge) (n from : ℕ) → from < n → AreWalkCosts es n from (slice_set (replicate n FAR) from 0)
+pub begun : (es : List Edge) (n from : ℕ) → from < n → AreWalkCosts es n from (slice_set (replicate n NO_WALK) from 0)
 begun es n from lt =
-    let size : length (replicate n FAR) ≡ n = length-replicate n FAR in
-    let within : from < length (replicate n FAR) = omega arith in
+    let size : length (replicate n NO_WALK) ≡ n = length-replicate n NO_WALK in
+    let within : from < length (replicate n NO_WALK) = omega arith in
     record {
-      size = length-set (replicate n FAR) from 0 ∙ size;
-      start = at_same (replicate n FAR) from 0 from refl within;
-      most = most_set (replicate n FAR) from 0 FAR within (omega arith) (λ j. get_replicate n j FAR);
-      walks = walks_set es n from (replicate n FAR) from 0 within ([], refl, refl) (no_walk n);
+      size = length-set (replicate n NO_WALK) from 0 ∙ size;
+      start = at_same (replicate n NO_WALK) from 0 from refl within;
+      most = most_set (replicate n NO_WALK) from 0 NO_WALK within (omega arith) (λ j. get_replicate n j NO_WALK);
+      walks = walks_set es n from (replicate n NO_WALK) from 0 within ([], refl, refl) (no_walk n);
     }
   where
-    no_walk : (n j : ℕ) → j < n → slice_index (replicate n FAR) j < FAR → IsCost es from j (slice_index (replicate n FAR) j)
-    no_walk n j in_n low = let far = get_or-replicate n j FAR 0 in_n in absurd (omega (arith, far, low))
+    no_walk : (n j : ℕ) → j < n → slice_index (replicate n NO_WALK) j < NO_WALK → IsCost es from j (slice_index (replicate n NO_WALK) j)
+    no_walk n j in_n low = let far = get_or-replicate n j NO_WALK 0 in_n in absurd (omega (arith, far, low))

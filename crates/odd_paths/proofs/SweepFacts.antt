@@ -1,7 +1,7 @@
 -- Worked values of sweeps, last edges and columns.
 use Rattle.std.proofs.Common.{◌≡◌, ℕ, true, false, List, [], ◌∷◌, Some, None, refl}
 use Rattle.line_graph.specs.declared.edge.Edge.{Edge}
-use Rattle.odd_paths.specs.declared.sweeps.TheConstants.{FAR}
+use Rattle.odd_paths.specs.declared.sweeps.TheConstants.{NO_WALK}
 use Rattle.odd_paths.specs.Lanes.{lane_column, terminal_columns, relaxed_cost, weight}
 use Rattle.odd_paths.specs.LastEdges.{last_edge_from}
 use Rattle.odd_paths.specs.EdgeWalks.{edge_walk_cost}
@@ -18,13 +18,13 @@ abbrev back : List Edge
 back = edge 1 2 5 ∷ edge 1 0 3 ∷ []
 
 -- in good order one sweep is enough, else each sweep goes one edge further
-pub known_sweep : swept (0 ∷ FAR ∷ FAR ∷ []) forth ≡ 0 ∷ 3 ∷ 8 ∷ []
+pub known_sweep : swept (0 ∷ NO_WALK ∷ NO_WALK ∷ []) forth ≡ 0 ∷ 3 ∷ 8 ∷ []
 known_sweep = refl
 
-pub known_sweeps : (swept (0 ∷ FAR ∷ FAR ∷ []) back ≡ 0 ∷ 3 ∷ FAR ∷ []) × (swept (0 ∷ 3 ∷ FAR ∷ []) back ≡ 0 ∷ 3 ∷ 8 ∷ [])
+pub known_sweeps : (swept (0 ∷ NO_WALK ∷ NO_WALK ∷ []) back ≡ 0 ∷ 3 ∷ NO_WALK ∷ []) × (swept (0 ∷ 3 ∷ NO_WALK ∷ []) back ≡ 0 ∷ 3 ∷ 8 ∷ [])
 known_sweeps = (refl, refl)
 
-pub known_changes : (changes (0 ∷ 3 ∷ FAR ∷ []) back ≡ true) × (changes (0 ∷ 3 ∷ 8 ∷ []) back ≡ false)
+pub known_changes : (changes (0 ∷ 3 ∷ NO_WALK ∷ []) back ≡ true) × (changes (0 ∷ 3 ∷ 8 ∷ []) back ≡ false)
 known_changes = (refl, refl)
 
 -- an equal cost lowers nothing

@@ -6,7 +6,7 @@ use Rattle.line_graph.specs.declared.edge.Edge.{Edge}
 use Rattle.drawing_model.specs.declared.limits.TheConstants.{MAX_COST}
 use Rattle.line_graph.specs.PieceWalks.{edge_cost, edge_sum}
 use Rattle.odd_paths.specs.declared.lanes.TheConstants.{LANES}
-use Rattle.odd_paths.specs.declared.sweeps.TheConstants.{FAR}
+use Rattle.odd_paths.specs.declared.sweeps.TheConstants.{NO_WALK}
 use Rattle.odd_paths.specs.EdgeWalks.{EndsAreBelow, AreLeastRows, IsLeastRow}
 use Rattle.odd_paths.specs.Sweeps.{AreWalkCosts}
 
@@ -41,12 +41,12 @@ lists_of rows = map (λ row. row.items) rows
 abbrev pub weight : List (List ℕ) → ℕ
 weight table = sum_by sum table
 
--- No number of a table is above FAR.
+-- No number of a table is above NO_WALK.
 abbrev pub IsCapped : List (List ℕ) → Type 0
-IsCapped table = EachLane (λ i. (j : ℕ) → slice_index (lane_column i table) j ≤ FAR)
+IsCapped table = EachLane (λ i. (j : ℕ) → slice_index (lane_column i table) j ≤ NO_WALK)
 
 -- A table that edges can relax: their ends are junctions, their costs are within the limit, and no
--- number is above FAR.
+-- number is above NO_WALK.
 pub record CanRelax (es : List Edge) (table : List (List ℕ)) : Type 0 where
   pub ends : EndsAreBelow (length table) es
   pub cost : edge_sum edge_cost es ≤ MAX_COST

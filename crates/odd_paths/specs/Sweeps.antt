@@ -1,8 +1,8 @@
 -- Relaxation of a row of costs by the edges of a piece, after R. Bellman, "On a routing problem",
--- Quarterly of Applied Mathematics 16 (1958). A cell is FAR while no walk is known.
+-- Quarterly of Applied Mathematics 16 (1958). A cell is NO_WALK while no walk is known.
 use Rattle.std.specs.Prelude.{◌≡◌, ◌<◌, ◌≤◌, length, ℕ, ◌+◌, List, [], ◌∷◌, Bool, false, nat_lt, ◌||◌, if◌then◌else◌, slice_index, slice_set}
 use Rattle.line_graph.specs.declared.edge.Edge.{Edge}
-use Rattle.odd_paths.specs.declared.sweeps.TheConstants.{FAR}
+use Rattle.odd_paths.specs.declared.sweeps.TheConstants.{NO_WALK}
 use Rattle.odd_paths.specs.EdgeWalks.{IsEdgeWalk, edge_walk_cost}
 
 -- The number at a plus the cost is less than the number at b.
@@ -48,12 +48,12 @@ IsFullyRelaxed row (e ∷ es) = IsRelaxedAt row e × IsFullyRelaxed row es
 abbrev pub IsCost : List Edge → ℕ → ℕ → ℕ → Type 0
 IsCost es i j d = (ks : List ℕ) × IsEdgeWalk es i j ks × (edge_walk_cost es ks ≡ d)
 
--- Each number below FAR is the cost of a walk from a junction, whose own number is 0.
+-- Each number below NO_WALK is the cost of a walk from a junction, whose own number is 0.
 pub record AreWalkCosts (es : List Edge) (n from : ℕ) (row : List ℕ) : Type 0 where
   pub size : length row ≡ n
   pub start : slice_index row from ≡ 0
-  pub most : (j : ℕ) → slice_index row j ≤ FAR
-  pub walks : (j : ℕ) → j < n → slice_index row j < FAR → IsCost es from j (slice_index row j)
+  pub most : (j : ℕ) → slice_index row j ≤ NO_WALK
+  pub walks : (j : ℕ) → j < n → slice_index row j < NO_WALK → IsCost es from j (slice_index row j)
 
 -- Numbers that are costs of walks stay costs of walks.
 abbrev pub KeepsWalkCosts : List Edge → (old new : List ℕ) → Type 0

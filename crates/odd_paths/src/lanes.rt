@@ -1,7 +1,7 @@
 ghost use Rattle.std.specs.Prelude.{◌≡◌, ◌+◌, ◌<◌, ◌≤◌, ◌||◌, false, length, slice_index, sum};
 ghost use Rattle.drawing_model.specs.declared.limits.TheConstants.{MAX_COST};
 ghost use Rattle.line_graph.specs.PieceGraphs.{one_if};
-ghost use Rattle.odd_paths.specs.declared.sweeps.TheConstants.{FAR};
+ghost use Rattle.odd_paths.specs.declared.sweeps.TheConstants.{NO_WALK};
 ghost use Rattle.odd_paths.specs.Lanes.{EachLane, IsCapped, IsNoLower, CanRelax, lane_column, relaxed_cost, weight};
 ghost use Rattle.odd_paths.specs.Sweeps.{changes, is_lower, lowered_row, relaxed, relaxes, swept};
 
@@ -71,7 +71,7 @@ fn lower(table: &mut [[u32; LANES]], a: u32, b: u32, cost: u32) -> bool
 
 /// Sets each number of a lane to the minimum of its value, and of the near lane's number plus the cost.
 fn lower_lane(lane: &mut [u32; LANES], near: [u32; LANES], cost: u32) -> bool
-    requires capped { EachLane (λ i. slice_index near i ≤ FAR) }
+    requires capped { EachLane (λ i. slice_index near i ≤ NO_WALK) }
     requires cost { cost ≤ MAX_COST }
     ensures value { EachLane (λ i. slice_index lane.new i ≡ relaxed_cost near lane.old cost i) }
     ensures reported { result ≡ false → EachLane (λ i. IsNoLower near lane.old cost i) }

@@ -1,7 +1,7 @@
 ghost use Rattle.std.specs.Prelude.{◌<◌, IfOk};
 ghost use Rattle.odd_paths.specs.EdgeWalks.{IsGraph, IsLeastRow};
 
-use crate::sweeps::{FAR, settle};
+use crate::sweeps::{NO_WALK, settle};
 use line_graph::Edge;
 use lists_and_numbers::Memory;
 use std::alloc::Global;
@@ -12,7 +12,7 @@ pub fn least_row(alloc: Global, edges: &[Edge], n: usize, from: u32) -> Result<V
     requires from { from < n }
     ensures { IfOk result (λ row. IsLeastRow edges.now n from row.items) }
 {
-    let mut row = vec![in alloc; FAR; n]?;
+    let mut row = vec![in alloc; NO_WALK; n]?;
     row[from as usize] = 0;
     settle(&mut row, edges);
     Ok(row)

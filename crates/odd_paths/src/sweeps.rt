@@ -5,7 +5,7 @@ ghost use Rattle.odd_paths.specs.Sweeps.{IsFullyRelaxed, KeepsWalkCosts, changes
 use line_graph::Edge;
 
 /// A cost above that of each walk: no walk is known.
-pub const FAR: u32 = 2_147_483_648;
+pub const NO_WALK: u32 = 2_147_483_648;
 
 /// Relaxes all edges in order until nothing changes.
 pub fn settle(row: &mut [u32], edges: &[Edge])

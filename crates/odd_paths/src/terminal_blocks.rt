@@ -1,13 +1,13 @@
 ghost use Rattle.std.specs.Prelude.{ℕ, ◌≡◌, ◌≢◌, ◌++◌, ◌<◌, ◌≤◌, false, All, IfOk, OnOk, length, replicate, slice_index, slice_set};
 ghost use Rattle.drawing_model.specs.declared.limits.TheConstants.{MAX_LINES};
-ghost use Rattle.odd_paths.specs.declared.sweeps.TheConstants.{FAR};
+ghost use Rattle.odd_paths.specs.declared.sweeps.TheConstants.{NO_WALK};
 ghost use Rattle.odd_paths.specs.Lanes.{AddsColumns, AddsRows, AreLeastColumns, HaveStarts, IsCapped, lane_column};
 ghost use Rattle.odd_paths.specs.EdgeWalks.{EndsAreBelow, IsGraph};
 
 use crate::edge_order::order_by;
 use crate::lanes::LANES;
 use crate::rounds::settle;
-use crate::sweeps::FAR;
+use crate::sweeps::NO_WALK;
 use line_graph::Edge;
 use lists_and_numbers::Memory;
 use std::alloc::Global;
@@ -73,11 +73,11 @@ fn columns(
 
 /// Returns a table in which no walk is known.
 fn blank(alloc: Global, n: usize) -> Result<Vec<[u32; LANES]>, Memory>
-    ensures { IfOk result (λ table. table.items ≡ replicate n (replicate LANES FAR)) }
+    ensures { IfOk result (λ table. table.items ≡ replicate n (replicate LANES NO_WALK)) }
 {
     let mut table = Vec::with_capacity(alloc, n)?;
     for _lane in 0..n {
-        table.push([FAR; LANES])?;
+        table.push([NO_WALK; LANES])?;
     }
     Ok(table)
 }
@@ -90,7 +90,7 @@ fn fill(
     terminals: &[u32],
     order: &[u64],
 ) -> bool
-    requires blank { table.old ≡ replicate n (replicate LANES FAR) }
+    requires blank { table.old ≡ replicate n (replicate LANES NO_WALK) }
     requires graph { IsGraph edges.now n }
     requires few { length terminals.now ≤ LANES }
     requires there { All (λ t. t < n) terminals.now }

@@ -1,4 +1,4 @@
-ghost use Rattle.std.specs.Prelude.{◌≡◌, ◌<◌, IfOk, length, reverse};
+ghost use Rattle.std.specs.Prelude.{◌≡◌, ◌<◌, IfOk, length};
 ghost use Rattle.odd_paths.specs.LastEdges.{IsLeastEdgeWalk, IsRowFrom, is_last_edge, last_edge_from};
 ghost use Rattle.odd_paths.specs.EdgeWalks.{EndsAreBelow};
 
@@ -18,23 +18,6 @@ pub fn places(
     requires j { j < length row.now }
     ensures { IfOk result (λ places. IsLeastEdgeWalk edges.now row.now from j places.items) }
 {
-    let mut places = places_back(alloc, row, edges, from, j)?;
-    places.reverse();
-    Ok(places)
-}
-
-/// Returns the indexes of the edges of a least walk, the last one first.
-fn places_back(
-    alloc: Global,
-    row: &[u32],
-    edges: &[Edge],
-    from: u32,
-    j: u32,
-) -> Result<Vec<u32>, Memory>
-    requires row { IsRowFrom edges.now from row.now }
-    requires j { j < length row.now }
-    ensures { IfOk result (λ places. IsLeastEdgeWalk edges.now row.now from j (reverse places.items)) }
-{
     let mut places = Vec::new(alloc);
     let mut at = j;
     while at != from {
@@ -46,6 +29,7 @@ fn places_back(
             None => unreachable!(),
         }
     }
+    places.reverse();
     Ok(places)
 }
 

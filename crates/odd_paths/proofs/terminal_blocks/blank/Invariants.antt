@@ -1,8 +1,8 @@
 use Rattle.std.proofs.Common.{◌≡◌, replicate}
 use Rattle.odd_paths.specs.declared.lanes.TheConstants.{LANES}
-use Rattle.odd_paths.specs.declared.sweeps.TheConstants.{FAR}
+use Rattle.odd_paths.specs.declared.sweeps.TheConstants.{NO_WALK}
 use Rattle.odd_paths.proofs.terminal_blocks.blank.Given as goal
 
 -- the lanes so far
 abbrev pub invariant-loop-lane : goal.invariant-loop-lane
-invariant-loop-lane l = l.table.items ≡ replicate l._lane (replicate LANES FAR)
+invariant-loop-lane l = l.table.items ≡ replicate l._lane (replicate LANES NO_WALK)

@@ -1,6 +1,6 @@
 use Rattle.std.proofs.Common.{◌≡◌, ◌++◌, ◌∷◌, [], ◌∙◌, sym, arith}
 use Rattle.odd_paths.proofs.LastLemmas.{arrived, never, onward, place_fits}
-use Rattle.odd_paths.proofs.walk_back.places_back.Goals as goal
+use Rattle.odd_paths.proofs.walk_back.places.Goals as goal
 
 pub overflow_cast-place : goal.overflow_cast-place
 overflow_cast-place c =
@@ -29,5 +29,5 @@ unreachable-requires c =
 
 pub returns : goal.returns
 returns c =
-    arrived c.args.edges.now c.args.row.now c.args.from c.args.j c.loop-at.at c.loop-at.places.items c.requires.row.least
-    c.requires.row.there c.loop-at-test.false c.loop-at.invariant.walk c.loop-at.invariant.cost
+    rw c.reverse.ensures.items (arrived c.args.edges.now c.args.row.now c.args.from c.args.j c.loop-at.at c.loop-at.places.items
+    c.requires.row.least c.requires.row.there c.loop-at-test.false c.loop-at.invariant.walk c.loop-at.invariant.cost)
