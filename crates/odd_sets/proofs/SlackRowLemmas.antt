@@ -1,6 +1,6 @@
 -- The slacks from sets to the vertices outside them.
 use Rattle.std.proofs.lemmas.Bool.Decides.{nat_tests}
-use Rattle.std.proofs.Common.{◌≡◌, ◌≢◌, ℕ, ◌+◌, ◌-◌, ◌*◌, ◌≤◌, ◌<◌, ◌⊎◌, inl, inr, List, [], ◌∷◌, ◌++◌, length, take, get_or, set, map, min, Bool, true, false, cond, eqb, arith, refl, sym, ap, subst, ◌∙◌, get_or-set_other, get_or-set_same}
+use Rattle.std.proofs.Common.{◌≡◌, ◌≢◌, ℕ, ◌+◌, ◌-◌, ◌*◌, ◌≤◌, ◌<◌, ◌⊎◌, inl, inr, List, [], ◌∷◌, ◌++◌, length, take, get_or, set, map, min, Bool, true, false, cond, eqb, arith, refl, ap, ◌∙◌, get_or-set_other, get_or-set_same}
 use Rattle.std.proofs.lemmas.Bool.{cases_lt, eqb-false, eqb-true, ltb-true, ltb-false}
 use Rattle.std.proofs.lemmas.Grind.{same_number_lists}
 use Rattle.std.proofs.lemmas.List.FromFn.{get_or-map-range_with_len, length-map-range_with_len}
@@ -94,9 +94,6 @@ pub record IsLeftAt (t : TableValue) (h : ℕ → ℕ) (xs : List ℕ) (x left :
   pub a : ℕ
   pub here : 1 ≤ count a xs
   pub exact : left ≡ 2 * entry t a x - h a
-
-times_one : (by n : ℕ) → n ≡ 1 → by * n ≡ by
-times_one by n e = omega (arith, ap (λ (k : ℕ). by * k) e)
 
 -- the height of a member is the dual and the heights inside
 over : (t : TableValue) (h : ℕ → ℕ) (s : OddSetValue) (a : ℕ) → IsSoundSet t h s → count a s.members ≡ 1 → s.dual + height a s.below ≡ h a
