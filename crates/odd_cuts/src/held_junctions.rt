@@ -1,8 +1,9 @@
-ghost use Rattle.std.specs.Prelude.{◌≡◌, ℕ, ◌+◌, ◌<◌, ◌≤◌, ◌==◌, ◌||◌, false, get_or, length};
+ghost use Rattle.std.specs.Prelude.{◌≡◌, ℕ, ◌+◌, ◌≤◌, false, get_or, length};
 ghost use Rattle.odd_cuts.specs.CheckTables.{AreMemberFlags, AreParities, odd_among, parities_from};
 ghost use Rattle.line_graph.specs.PiecesOfDrawings.{graph_of};
 ghost use Rattle.drawing_model.specs.declared.limits.TheConstants.{MAX_LINES as most_lines};
 
+use crate::flags::set_flag;
 use arrayvec::ArrayVec;
 use line_graph::{Piece, is_odd_at};
 
@@ -14,10 +15,8 @@ pub(crate) fn held_by(members: &[u32]) -> [bool; MAX_JUNCTIONS]
     ensures { AreMemberFlags members.now result }
 {
     let mut held = none_held();
-    let mut rest = members;
-    while let [j, after @ ..] = rest {
-        hold(&mut held, *j);
-        rest = after;
+    for j in members {
+        set_flag(&mut held, *j);
     }
     held
 }
@@ -27,17 +26,6 @@ fn none_held() -> [bool; MAX_JUNCTIONS]
     ensures { (j : ℕ) → get_or result j false ≡ false }
 {
     [false; MAX_JUNCTIONS]
-}
-
-/// Marks a member.
-fn hold(held: &mut [bool; MAX_JUNCTIONS], member: u32)
-    ensures { (j : ℕ) → j < most_lines + 1
-        → get_or held.new j false ≡ (j == member || get_or held.old j false) }
-{
-    let member = member as usize;
-    if member < MAX_JUNCTIONS {
-        held[member] = true;
-    }
 }
 
 /// Returns whether each junction of a piece is odd. A required start and end are flipped where they differ.

@@ -6,6 +6,7 @@ mod cut;
 mod cut_check;
 mod fault_theorems;
 mod faults;
+mod flags;
 mod held_junctions;
 mod line_indexes;
 mod line_loads;
