@@ -47,11 +47,11 @@ fn listed(alloc: Global, d: &Drawing, pieces: &[Piece]) -> Result<Items<PieceSti
     let Some((first, more)) = first_lent(pieces) else {
         return Ok(all);
     };
-    put_stitches(alloc, &mut all, d, first, 0)?;
+    put_stitches(alloc, d, first, 0, &mut all)?;
     let mut before = first;
     let mut rest = more;
     while let Some((piece, more)) = first_lent(rest) {
-        put_stitches(alloc, &mut all, d, piece, travel(before, piece))?;
+        put_stitches(alloc, d, piece, travel(before, piece), &mut all)?;
         before = piece;
         rest = more;
     }
@@ -60,10 +60,10 @@ fn listed(alloc: Global, d: &Drawing, pieces: &[Piece]) -> Result<Items<PieceSti
 
 fn put_stitches(
     alloc: Global,
-    all: &mut Items<PieceStitches>,
     d: &Drawing,
     piece: &Piece,
     travel: u128,
+    all: &mut Items<PieceStitches>,
 ) -> Result<(), Memory>
     requires lines { HasLinesOf d.now piece.now }
     requires travel { travel < 2 ^ 64 }
@@ -83,10 +83,8 @@ pub fn thread_of(all: &[PieceStitches]) -> u128
     ensures { result ≡ total_thread all.now }
 {
     let mut thread = 0;
-    let mut rest = all;
-    while let [stitches, after @ ..] = rest {
+    for stitches in all {
         thread += stitches.summary.thread;
-        rest = after;
     }
     thread
 }
@@ -97,10 +95,8 @@ pub fn travel_of(all: &[PieceStitches]) -> u128
     ensures { result ≡ total_travel all.now }
 {
     let mut travel = 0;
-    let mut rest = all;
-    while let [stitches, after @ ..] = rest {
+    for stitches in all {
         travel += stitches.travel;
-        rest = after;
     }
     travel
 }
