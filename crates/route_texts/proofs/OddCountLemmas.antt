@@ -1,5 +1,5 @@
 -- The number of odd junctions, from the degrees of all junctions.
-use Rattle.std.proofs.Common.{◌≡◌, ℕ, zero, suc, ◌+◌, ◌≤◌, Bool, true, false, List, ◌∷◌, ◌++◌, Option, length, ap, ◌∙◌, refl, arith}
+use Rattle.std.proofs.Common.{◌≡◌, ℕ, zero, suc, ◌+◌, Bool, true, false, List, ◌∷◌, ◌++◌, Option, length, ap, ◌∙◌, refl, arith}
 use Rattle.std.specs.List.{filter, range_with_len}
 use Rattle.std.specs.Prelude.{cond}
 use Rattle.line_graph.specs.declared.edge.Edge.{Edge}

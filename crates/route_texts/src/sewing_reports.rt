@@ -105,10 +105,8 @@ fn print_reports(alloc: Global, way: Sewing, pieces: &[PieceReport]) -> Result<B
 fn piece_place(alloc: Global, report: PieceReport) -> Result<String, Memory>
     ensures { IfOk result (λ text. string_bytes text ≡ piece_position_text report) }
 {
-    let block = report.block;
-    let piece = report.piece;
-    let lines = report.lines;
-    let text = format!(in alloc; "block {block} piece {piece} lines {lines}")?;
+    let PieceReport { block, piece, .. } = report;
+    let text = format!(in alloc; "block {block} piece {piece} lines {}", report.lines)?;
     Ok(text)
 }
 
@@ -127,8 +125,7 @@ fn route_cost(alloc: Global, report: PieceReport) -> Result<String, Memory>
     requires { penetrations_of report < 2 ^ 32 }
     ensures { IfOk result (λ text. string_bytes text ≡ route_cost_text report) }
 {
-    let cost = report.cost;
-    let retraced = report.retraced;
+    let PieceReport { cost, retraced, .. } = report;
     let penetrations = cost + retraced + 1;
     let text = format!(in alloc; " cost {cost} retraced {retraced} penetrations {penetrations}\n")?;
     Ok(text)

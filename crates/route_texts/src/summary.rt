@@ -34,31 +34,26 @@ pub fn print_summary(alloc: Global, s: Summary) -> Result<Bytes, Memory>
 fn counts_text(alloc: Global, s: Summary) -> Result<String, Memory>
     ensures { IfOk result (λ text. string_bytes text ≡ summary_counts s) }
 {
-    let number = s.number;
-    let lines = s.lines;
-    let junctions = s.junctions;
-    let text = format!(in alloc; "sample {number}\nlines {lines}\njunctions {junctions}\n")?;
+    let text = format!(in alloc;
+        "sample {}\nlines {}\njunctions {}\n",
+        s.number, s.lines, s.junctions
+    )?;
     Ok(text)
 }
 
 fn odds_text(alloc: Global, s: Summary) -> Result<String, Memory>
     ensures { IfOk result (λ text. string_bytes text ≡ summary_odds s) }
 {
-    let odd = s.odd;
-    let pieces = s.pieces;
-    let cost = s.cost;
-    let text = format!(in alloc; "odd {odd}\npieces {pieces}\ncost {cost}\n")?;
+    let text = format!(in alloc; "odd {}\npieces {}\ncost {}\n", s.odd, s.pieces, s.cost)?;
     Ok(text)
 }
 
 fn costs_text(alloc: Global, s: Summary) -> Result<String, Memory>
     ensures { IfOk result (λ text. string_bytes text ≡ summary_costs s) }
 {
-    let retraced = s.retraced;
-    let penetrations = s.penetrations;
-    let cuts = s.cuts;
     let text = format!(in alloc;
-        "retraced {retraced}\npenetrations {penetrations}\ncuts {cuts}\n"
+        "retraced {}\npenetrations {}\ncuts {}\n",
+        s.retraced, s.penetrations, s.cuts
     )?;
     Ok(text)
 }
