@@ -1,5 +1,4 @@
 ghost use Rattle.std.specs.Prelude.{◌≡◌, ◌++◌, ◌+◌, ◌≤◌, ◌^◌, ◌<◌, IfOk, OnOk, decimal, length};
-ghost use Rattle.std.specs.Fmt.{signed_decimal};
 ghost use Rattle.design_model.specs.declared.design.TheConstants.{MAX_COMMANDS};
 ghost use Rattle.program_texts.specs.DesignReports.{written_report, block_report_line, block_lines, count_lines, ended_line, extent_line, labelled_number_line, labelled_number, coordinates_text, show_report, title_lines};
 
@@ -108,9 +107,11 @@ fn put_block(text: &mut Bytes, number: u32, thread: u8, needles: u32) -> Result<
 fn put_point(text: &mut Bytes, point: Point) -> Result<(), Memory>
     ensures { OnOk result (text.new ≡ text.old ++ coordinates_text point) }
 {
-    put_signed(text, point.x)?;
+    let mut x = Buffer::new();
+    let mut y = Buffer::new();
+    text.append(x.format(point.x).as_bytes())?;
     text.append(b" ")?;
-    put_signed(text, point.y)?;
+    text.append(y.format(point.y).as_bytes())?;
     Ok(())
 }
 
@@ -128,14 +129,6 @@ fn put_number(text: &mut Bytes, word: &[u8], number: u32) -> Result<(), Memory>
 {
     let mut buffer = Buffer::new();
     text.append(word)?;
-    text.append(buffer.format(number).as_bytes())?;
-    Ok(())
-}
-
-fn put_signed(text: &mut Bytes, number: i32) -> Result<(), Memory>
-    ensures { OnOk result (text.new ≡ text.old ++ signed_decimal number) }
-{
-    let mut buffer = Buffer::new();
     text.append(buffer.format(number).as_bytes())?;
     Ok(())
 }

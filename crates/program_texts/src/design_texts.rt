@@ -28,7 +28,7 @@ pub fn describe_write_fault(
     ensures { IfOk result (λ text. string_bytes text ≡ write_fault_text name.now limit fault) }
 {
     match fault {
-        WriteFault::StitchTooLong { number } => describe_long_stitch(alloc, name, number, limit),
+        WriteFault::StitchTooLong { number } => long_stitch(alloc, name, number, limit),
         WriteFault::FloatTooLong { number } => {
             describe_command(alloc, name, number, "float too long")
         }
@@ -42,12 +42,7 @@ pub fn describe_write_fault(
     }
 }
 
-fn describe_long_stitch(
-    alloc: Global,
-    name: &str,
-    number: u32,
-    limit: u32,
-) -> Result<String, Memory>
+fn long_stitch(alloc: Global, name: &str, number: u32, limit: u32) -> Result<String, Memory>
     ensures { IfOk result (λ text. string_bytes text ≡ long_stitch_text name.now number limit) }
 {
     let text = format!(in alloc; "{name}: command {number}: stitch longer than {limit}")?;
