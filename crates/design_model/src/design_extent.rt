@@ -33,6 +33,20 @@ fn extent_in(commands: &[Command]) -> Option<Extent>
     extent
 }
 
+/// Returns the smallest extent that contains an extent and points, in tenths of a millimetre. Allocates
+/// nothing.
+pub fn extent_over(extent: Option<Extent>, points: &[Point]) -> Option<Extent>
+    ensures { result ≡ grown_optional_extent extent points.now }
+{
+    let mut over = extent;
+    let mut rest = points;
+    while let [point, after @ ..] = rest {
+        over = Some(extent_with(over, *point));
+        rest = after;
+    }
+    over
+}
+
 fn extent_with(extent: Option<Extent>, at: Point) -> Extent
     ensures { grown_optional_extent extent (at ∷ []) ≡ Some result }
 {

@@ -24,7 +24,7 @@ pub use bounds::{Extent, height, width};
 pub use command::Command;
 pub use design::{Design, MAX_COMMANDS, MAX_LABEL, MAX_THREADS, ModelFault};
 pub use design_counts::counts;
-pub use design_extent::extent;
+pub use design_extent::{extent, extent_over};
 pub use lists::{Acts, Commands, Points};
 pub use point::{JUMP_LIMIT, NEEDLE_LIMIT, Point};
 pub use tally::Counts;

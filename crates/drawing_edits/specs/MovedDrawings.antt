@@ -1,8 +1,7 @@
 -- Moves of a drawing: maps over its points, in whole tenths of a millimetre; x grows to the right,
 -- y downwards.
-use Rattle.std.specs.Prelude.{ℕ, ℤ, pos, ◌+ℤ◌, neg_ℤ, List, Option, Some, None, map}
+use Rattle.std.specs.Prelude.{ℕ, ℤ, pos, ◌+ℤ◌, neg_ℤ, Option, Some, None, map}
 use Rattle.std.specs.Int.{int_div_euclid}
-use Rattle.std.specs.List.{flat_map}
 use Rattle.design_edits.specs.declared.axis.Axis.{Axis}
 use Rattle.design_edits.specs.Moves.{mirror_point, shift_point, turn_point}
 use Rattle.design_model.specs.declared.bounds.Extent.{Extent}
@@ -11,7 +10,7 @@ use Rattle.design_model.specs.Extents.{extent_of_points}
 use Rattle.design_model.specs.Points.{origin}
 use Rattle.drawing_model.specs.Drawings.{DrawingValue}
 use Rattle.line_sections.specs.declared.spot.Spot.{Spot}
-use Rattle.line_sections.specs.Lines.{LineValue}
+use Rattle.line_sections.specs.Lines.{LineValue, points_of_lines}
 use Rattle.step_splitter.specs.Chains.{IsNeedlePoint}
 
 -- A line with each point mapped.
@@ -42,10 +41,6 @@ turned_drawing quarters d = moved_drawing (turn_point quarters) d
 abbrev pub mirrored_drawing : Axis → DrawingValue → DrawingValue
 mirrored_drawing a d = moved_drawing (mirror_point a) d
 
--- The points of lines, in order.
-abbrev pub points_along : List LineValue → List Point
-points_along lines = flat_map (λ line. line.points) lines
-
 -- The middle of an extent, with halves rounded to the left and upwards. It is the origin for none.
 abbrev pub middle_of : Option Extent → Point
 middle_of None = origin
@@ -56,7 +51,7 @@ middle_of (Some extent) = record {
 
 -- The middle of the extent of a drawing's points.
 abbrev pub middle_of_drawing : DrawingValue → Point
-middle_of_drawing d = middle_of (extent_of_points (points_along d.lines))
+middle_of_drawing d = middle_of (extent_of_points (points_of_lines d.lines))
 
 -- The drawing, shifted so that its middle comes to the origin.
 abbrev pub centred_drawing : DrawingValue → DrawingValue

@@ -1,15 +1,16 @@
-ghost use Rattle.std.specs.Prelude.{◌≡◌, ◌≤◌, ◌∷◌, [], All, IfSome, IsTrue, Some, neg_ℤ, pos, unsigned_abs, ◌+ℤ◌};
-ghost use Rattle.std.specs.Int.{int_div_euclid, int_min, int_max};
+ghost use Rattle.std.specs.Prelude.{◌≡◌, ◌≤◌, IfSome, IsTrue, neg_ℤ, pos, unsigned_abs, ◌+ℤ◌};
+ghost use Rattle.std.specs.Int.{int_div_euclid};
 ghost use Rattle.design_edits.specs.Motions.{is_small_motion, motion_map};
 ghost use Rattle.design_edits.specs.Moves.{shift_point};
 ghost use Rattle.design_model.specs.declared.point.TheConstants.{NEEDLE_LIMIT};
-ghost use Rattle.design_model.specs.Extents.{extent_of_points, grown_optional_extent};
-ghost use Rattle.drawing_edits.specs.MovedDrawings.{IsNeedleExtent, middle_of, middle_of_drawing, points_along};
-ghost use Rattle.step_splitter.specs.Chains.{IsNeedlePoint};
+ghost use Rattle.design_model.specs.Extents.{extent_of_points};
+ghost use Rattle.drawing_edits.specs.MovedDrawings.{IsNeedleExtent, middle_of, middle_of_drawing};
+ghost use Rattle.line_sections.specs.Lines.{points_of_lines};
 
 use design_edits::Motion;
 use design_model::{Extent, Point};
 use drawing_model::Drawing;
+use line_sections::lines_extent;
 
 /// Returns the shift that brings the middle of a drawing's points to the origin.
 pub fn centring(d: &Drawing) -> Motion
@@ -58,61 +59,9 @@ fn halfway(low: i32, high: i32) -> i32
 
 /// Returns the extent of a drawing's points, in tenths of a millimetre.
 fn extent(d: &Drawing) -> Option<Extent>
-    ensures value { result ≡ extent_of_points (points_along d.now.lines) }
+    ensures value { result ≡ extent_of_points (points_of_lines d.now.lines) }
     ensures within { IfSome result IsNeedleExtent }
 {
     d.keeps_limits();
-    let mut extent = None;
-    for line in d.lines() {
-        extent = extent_over(extent, line.points());
-    }
-    extent
-}
-
-fn extent_over(extent: Option<Extent>, points: &[Point]) -> Option<Extent>
-    requires extent { IfSome extent IsNeedleExtent }
-    requires points { All IsNeedlePoint points.now }
-    ensures value { result ≡ grown_optional_extent extent points.now }
-    ensures within { IfSome result IsNeedleExtent }
-{
-    let mut over = extent;
-    let mut rest = points;
-    while let [point, after @ ..] = rest {
-        over = Some(extent_with(over, *point));
-        rest = after;
-    }
-    over
-}
-
-fn extent_with(extent: Option<Extent>, at: Point) -> Extent
-    requires extent { IfSome extent IsNeedleExtent }
-    requires at { IsNeedlePoint at }
-    ensures value { grown_optional_extent extent (at ∷ []) ≡ Some result }
-    ensures within { IsNeedleExtent result }
-{
-    match extent {
-        Some(before) => Extent {
-            min: least_corner(before.min, at),
-            max: greatest_corner(before.max, at),
-        },
-        None => Extent { min: at, max: at },
-    }
-}
-
-fn least_corner(corner: Point, at: Point) -> Point
-    ensures { result ≡ record { x = int_min corner.x at.x; y = int_min corner.y at.y } }
-{
-    Point {
-        x: corner.x.min(at.x),
-        y: corner.y.min(at.y),
-    }
-}
-
-fn greatest_corner(corner: Point, at: Point) -> Point
-    ensures { result ≡ record { x = int_max corner.x at.x; y = int_max corner.y at.y } }
-{
-    Point {
-        x: corner.x.max(at.x),
-        y: corner.y.max(at.y),
-    }
+    lines_extent(d.lines())
 }

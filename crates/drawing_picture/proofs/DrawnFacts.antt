@@ -2,14 +2,16 @@
 use Rattle.std.proofs.Common.{◌≡◌, pos, negsuc, true, false, [], ◌∷◌, ◌++◌, Some, None, codes, refl}
 use Rattle.std.specs.Fmt.{digits}
 use Rattle.std.specs.List.{flat_map}
+use Rattle.design_model.specs.Extents.{extent_of_points}
 use Rattle.design_picture.specs.Captions.{block_place, block_swatch}
 use Rattle.design_picture.specs.Pictures.{thread_start}
 use Rattle.design_picture.specs.Threads.{move_text, shape_end, straight_text}
 use Rattle.drawing_picture.specs.DrawingCaptions.{even_dot, junction_dot, odd_counts, odd_dot, piece_counts, thread_end, thread_lines}
 use Rattle.drawing_picture.specs.JunctionMarks.{loose_points, marks_of_piece, odd_marks}
-use Rattle.drawing_picture.specs.LinePaths.{line_paths, lines_extent}
+use Rattle.drawing_picture.specs.LinePaths.{line_paths}
 use Rattle.drawing_review.specs.declared.place.PlaceKind.TheVariants as place
 use Rattle.line_graph.specs.PieceGraphs.{PieceValue}
+use Rattle.line_sections.specs.Lines.{points_of_lines}
 use Rattle.picture_parts.specs.Colours.{colour_of_thread}
 use Rattle.picture_parts.specs.Parts.{joined}
 use Rattle.drawing_picture.proofs.BandFacts.{at, point}
@@ -23,8 +25,8 @@ pub known_paths : line_paths (5 ∷ 20 ∷ []) (record { block = 0; points = at 
 unfolding joined digits thread_start move_text straight_text shape_end colour_of_thread
 known_paths = refl
 
-pub known_extent : lines_extent (record { block = 0; points = at 4 ∷ point (pos 9) (negsuc 4) ∷ [] }
-    ∷ record { block = 1; points = at 1 ∷ [] } ∷ [])
+pub known_extent : extent_of_points (points_of_lines (record { block = 0; points = at 4 ∷ point (pos 9) (negsuc 4) ∷ [] }
+    ∷ record { block = 1; points = at 1 ∷ [] } ∷ []))
     ≡ Some (record { min = point (pos 1) (negsuc 4); max = point (pos 9) (pos 0) })
 known_extent = refl
 

@@ -1,9 +1,11 @@
 -- The picture of a drawing: its lines in the colours of their threads, a dot at each junction, and
 -- marks at given starts and ends and at loose ends. The pieces are those that are sewn, the loose
 -- ends are of the lines as they are drawn.
-use Rattle.std.specs.Prelude.{◌≡◌, ℕ, List, ◌++◌, length, map}
+use Rattle.std.specs.Prelude.{◌≡◌, ℕ, List, ◌++◌, Option, length, map}
 use Rattle.std.specs.List.{flat_map}
+use Rattle.design_model.specs.declared.bounds.Extent.{Extent}
 use Rattle.design_model.specs.declared.point.Point.{Point}
+use Rattle.design_model.specs.Extents.{extent_of_points}
 use Rattle.design_picture.specs.declared.layout.Area.{Area}
 use Rattle.design_picture.specs.Captions.{group_end, label_line, scale_bar}
 use Rattle.design_picture.specs.Layouts.{area_of, below_start, lower_left, opening_group, sheet_of}
@@ -11,18 +13,22 @@ use Rattle.drawing_picture.specs.declared.junction_marks.JunctionMark.{JunctionM
 use Rattle.drawing_picture.specs.declared.loose_ends.TheConstants.{LOOSE_GAP}
 use Rattle.drawing_picture.specs.DrawingCaptions.{drawing_title, end_text, junction_dot, loose_ring, mark_keys, odd_counts, piece_counts, start_text, thread_legend}
 use Rattle.drawing_picture.specs.JunctionMarks.{loose_points, marks_of_pieces, odd_marks}
-use Rattle.drawing_picture.specs.LinePaths.{line_paths, lines_extent}
+use Rattle.drawing_picture.specs.LinePaths.{line_paths}
 use Rattle.drawing_review.specs.Places.{places_of_lines}
 use Rattle.drawing_model.specs.Drawings.{DrawingValue}
 use Rattle.line_graph.specs.PieceGraphs.{PieceValue, piece_graph}
 use Rattle.line_graph.specs.Pieces.{ArePieces}
-use Rattle.line_sections.specs.Lines.{LineValue}
+use Rattle.line_sections.specs.Lines.{LineValue, points_of_lines}
 use Rattle.picture_parts.specs.Sheets.{foot_text, head_text}
+
+-- The extent of a drawing's points.
+abbrev pub drawn_extent : DrawingValue → Option Extent
+drawn_extent d = extent_of_points (points_of_lines d.lines)
 
 -- The area of a drawing: its legend has a line for each block.
 abbrev pub drawing_area : DrawingValue → Area
 drawing_area d =
-    area_of (lines_extent d.lines) (record { width = 0; height = 0 }) (length d.threads)
+    area_of (drawn_extent d) (record { width = 0; height = 0 }) (length d.threads)
 
 -- The text before the lines.
 unfoldable pub drawing_top : DrawingValue → List ℕ
@@ -36,7 +42,7 @@ drawing_marks d marks loose = flat_map junction_dot marks ++ (flat_map start_tex
 
 -- The texts below the lines, without the legend.
 unfoldable pub drawing_caption : DrawingValue → ℕ → List JunctionMark → List Point → List ℕ
-drawing_caption d pieces marks loose = scale_bar ++ (label_line d.label (lines_extent d.lines)
+drawing_caption d pieces marks loose = scale_bar ++ (label_line d.label (drawn_extent d)
     ++ (piece_counts pieces (length d.lines) (length marks)
     ++ (odd_counts (odd_marks marks) (length loose) ++ mark_keys)))
 

@@ -1,10 +1,8 @@
 -- The lines of a drawing as paths in the colours of their threads. A path is straight from each
 -- point of its line to the next.
-use Rattle.std.specs.Prelude.{ℕ, List, [], ◌∷◌, ◌++◌, Option, slice_get, unwrap_or}
+use Rattle.std.specs.Prelude.{ℕ, List, [], ◌∷◌, ◌++◌, slice_get, unwrap_or}
 use Rattle.std.specs.List.{flat_map}
-use Rattle.design_model.specs.declared.bounds.Extent.{Extent}
 use Rattle.design_model.specs.declared.point.Point.{Point}
-use Rattle.design_model.specs.Extents.{extent_of_points}
 use Rattle.design_picture.specs.Pictures.{thread_start}
 use Rattle.design_picture.specs.Threads.{move_text, shape_end, straight_text}
 use Rattle.line_sections.specs.Lines.{LineValue}
@@ -27,11 +25,3 @@ line_path threads line = thread_start (block_colour threads line.block)
 -- Lines in order.
 abbrev pub line_paths : List ℕ → List LineValue → List ℕ
 line_paths threads lines = flat_map (line_path threads) lines
-
--- The points of lines.
-abbrev pub points_of_lines : List LineValue → List Point
-points_of_lines lines = flat_map (λ (line : LineValue). line.points) lines
-
--- The extent of the points of lines.
-abbrev pub lines_extent : List LineValue → Option Extent
-lines_extent lines = extent_of_points (points_of_lines lines)

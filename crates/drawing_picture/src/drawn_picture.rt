@@ -7,7 +7,6 @@ use crate::drawing_captions::{
 };
 use crate::junction_marks::{JunctionMark, junction_marks, odd_count};
 use crate::line_paths::put_line_paths;
-use crate::lines_extent::lines_extent;
 use crate::loose_ends::loose_ends;
 use design_model::Point;
 use design_picture::{
@@ -16,7 +15,7 @@ use design_picture::{
 };
 use drawing_model::Drawing;
 use line_graph::pieces;
-use line_sections::Line;
+use line_sections::{Line, lines_extent};
 use lists_and_numbers::{Bytes, Memory};
 use picture_parts::{put_foot, put_head};
 use std::alloc::Global;

@@ -12,7 +12,6 @@ mod half_steps;
 mod junction_marks;
 mod line_bands;
 mod line_paths;
-mod lines_extent;
 mod loose_ends;
 mod proof_captions;
 mod proof_picture;

@@ -5,13 +5,13 @@ use Rattle.std.proofs.lemmas.List.Elements.{All-map, All-weaker}
 use Rattle.std.specs.List.{count_by, fold, list_all, list_any}
 use Rattle.design_model.specs.declared.point.Point.{Point}
 use Rattle.design_model.specs.Points.{is_same_point}
-use Rattle.drawing_edits.specs.MovedDrawings.{moved_drawing, points_along, with_moved_line, with_moved_spot}
+use Rattle.drawing_edits.specs.MovedDrawings.{moved_drawing, with_moved_line, with_moved_spot}
 use Rattle.drawing_model.specs.Drawings.{DrawingValue, KeepsDrawingLimits, endpoints}
 use Rattle.drawing_model.specs.GrowingLimits.{IsValidJoinedDrawing}
 use Rattle.drawing_model.specs.JoinedDrawings.{is_joined}
 use Rattle.drawing_model.specs.WalkEnds.{AreInDifferentPieces, are_connected_spots, end_spots, has_end_at_spot, is_junction, merged_representative, representative}
 use Rattle.line_sections.specs.declared.spot.Spot.{Spot}
-use Rattle.line_sections.specs.Lines.{LineValue}
+use Rattle.line_sections.specs.Lines.{LineValue, points_of_lines}
 use Rattle.line_sections.specs.Sections.{but_last, inner_points, is_shared_point, is_whole_line, listed_in}
 use Rattle.line_sections.specs.Spots.{is_same_spot}
 use Rattle.edit_laws.proofs.MovedLines.{endpoints_moved, listed_moved}
@@ -37,9 +37,9 @@ listing_moved f [] block = refl
 listing_moved f (line ∷ rest) block = by_test (line.block == block) (listing_moved f rest block)
   where
     by_test : (b : Bool) → listed_in (map (with_moved_line f) rest) block ≡ map f (listed_in rest block)
-        → points_along (if b then with_moved_line f line ∷ in_block block (map (with_moved_line f) rest)
+        → points_of_lines (if b then with_moved_line f line ∷ in_block block (map (with_moved_line f) rest)
         else in_block block (map (with_moved_line f) rest))
-        ≡ map f (points_along (if b then line ∷ in_block block rest else in_block block rest))
+        ≡ map f (points_of_lines (if b then line ∷ in_block block rest else in_block block rest))
     by_test true later = ap (λ (ps : List Point). map f line.points ++ ps) later ∙ sym (map-append f line.points (listed_in rest block))
     by_test false later = later
 

@@ -4,6 +4,7 @@
 
 mod cut_lines;
 mod line;
+mod line_extents;
 mod listed_points;
 mod points;
 mod spot;
@@ -12,6 +13,7 @@ mod whole_lines;
 
 pub use cut_lines::sections;
 pub use line::Line;
+pub use line_extents::lines_extent;
 pub use points::first_point;
 pub use spot::Spot;
 pub use theorems::{sections_are_whole, sections_keep_segments, whole_lines_stay};
