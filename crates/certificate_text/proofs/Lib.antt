@@ -1,4 +1,3 @@
-mod NumeralLemmas
 mod PartLemmas
 mod WordsLemmas
 mod ReadingLemmas

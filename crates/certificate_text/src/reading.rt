@@ -1,5 +1,6 @@
 ghost use Rattle.std.specs.Prelude.{◌≡◌, ◌≤◌, All, IfOk, length};
 ghost use Rattle.odd_cuts.specs.Certificates.{HasCanonicalText};
+ghost use Rattle.certificate_text.specs.declared.reading.CertFault.TheVariants as fault;
 ghost use Rattle.certificate_text.specs.CertificateTexts.{certificate_text};
 ghost use Rattle.certificate_text.specs.ReadCertificates.{AreFew, ReadsCert, cert_of};
 
@@ -23,8 +24,6 @@ pub enum CertFault {
 }
 
 impl From<Memory> for CertFault {
-    ghost use Rattle.certificate_text.specs.declared.reading.CertFault.TheVariants as fault;
-
     ghost from_gives = { λ _ e. e ≡ fault.Memory };
 
     fn from(_memory: Memory) -> CertFault {

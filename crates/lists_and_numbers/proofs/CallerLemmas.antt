@@ -1,5 +1,5 @@
 -- Lemmas that this crate and those above cite.
-use Rattle.std.proofs.Common.{All, Bool, Contains, List, None, Some, [], ap, arith, bytes_eq, cond, drop, false, filter, get_or, inl, inr, length, map, nat_le, nat_lt, neg_ℤ, negsuc, pos, refl, subst, suc, sym, take, true, unsigned_abs, zero, ℕ, ℤ, ◌&&◌, ◌*◌, ◌++◌, ◌+ℤ◌, ◌+◌, ◌-ℤ◌, ◌-◌, ◌/◌, ◌<◌, ◌==◌, ◌^◌, ◌||◌, ◌∙◌, ◌∷◌, ◌≡◌, ◌≢◌, ◌≤◌, ◌⊎◌}
+use Rattle.std.proofs.Common.{All, Bool, Contains, List, None, Some, [], ap, arith, bytes_eq, cond, drop, false, filter, get_or, length, map, nat_lt, neg_ℤ, pos, refl, subst, suc, sym, take, true, unsigned_abs, zero, ℕ, ℤ, ◌&&◌, ◌*◌, ◌++◌, ◌+ℤ◌, ◌+◌, ◌-ℤ◌, ◌-◌, ◌/◌, ◌<◌, ◌==◌, ◌||◌, ◌∷◌, ◌≡◌, ◌≢◌, ◌≤◌, ◌⊎◌}
 use Rattle.std.proofs.Math.Seq.{take-append_seam}
 use Rattle.std.proofs.lemmas.Bool.{and_parts, or_left, or_right}
 use Rattle.std.proofs.lemmas.Bool.Decides.{nat_tests}

@@ -8,4 +8,4 @@ mod whole_number;
 
 pub use items::{Bytes, Items, Numbers};
 pub use memory::Memory;
-pub use whole_number::{MAX_WHOLE, Whole, parse_whole};
+pub use whole_number::{MAX_WHOLE, Whole, are_digits, capped_value, parse_whole};

@@ -1,4 +1,4 @@
-ghost use Rattle.std.specs.Prelude.{◌≡◌, ◌+◌, ◌*◌, ◌≤◌, ◌∷◌, min, true, false, IfSome, IfNone};
+ghost use Rattle.std.specs.Prelude.{◌≡◌, ◌+◌, ◌*◌, ◌≤◌, ◌∷◌, ◌^◌, min, true, false, IfSome, IfNone};
 ghost use Rattle.std.specs.Char.{digit_value, is_ascii_digit};
 ghost use Rattle.std.specs.Str.{all_ascii_digits};
 ghost use Rattle.std.specs.Str.Parse.{digits_value};
@@ -45,11 +45,11 @@ fn parse_signed(minus: bool, digits: &[u8]) -> Whole
     if !is_numeral(digits) {
         return Whole::NotANumber;
     }
-    let size = capped_value(digits);
-    if size > MAX_WHOLE {
+    let size = capped_value(digits, MAX_WHOLE as u64 + 1);
+    if size > MAX_WHOLE as u64 {
         return Whole::Outside;
     }
-    Whole::Value(signed(minus, size))
+    Whole::Value(signed(minus, size as u32))
 }
 
 fn signed(minus: bool, size: u32) -> i32
@@ -65,7 +65,8 @@ fn is_numeral(digits: &[u8]) -> bool
     !digits.is_empty() && are_digits(digits)
 }
 
-fn are_digits(bytes: &[u8]) -> bool
+/// Returns whether all bytes are digits of ASCII.
+pub fn are_digits(bytes: &[u8]) -> bool
     ensures { result ≡ all_ascii_digits bytes.now }
 {
     for byte in bytes {
@@ -76,25 +77,27 @@ fn are_digits(bytes: &[u8]) -> bool
     true
 }
 
-/// Returns the number that digits write, capped at `MAX_WHOLE` + 1.
+/// Returns the number that digits write, or `most` where that is less.
+#[inline]
 #[tactic(auto, using(crate::proofs::WholeLemmas::capped_more, crate::proofs::CallerLemmas::digit_among))]
-fn capped_value(digits: &[u8]) -> u32
-    requires { all_ascii_digits digits.now ≡ true }
-    ensures { result ≡ min (digits_value 10 digits.now) (MAX_WHOLE + 1) }
+pub fn capped_value(digits: &[u8], most: u64) -> u64
+    requires digits { all_ascii_digits digits.now ≡ true }
+    requires most { most ≤ 2 ^ 32 }
+    ensures { result ≡ min (digits_value 10 digits.now) most }
 {
-    let mut value: u32 = 0;
+    let mut value: u64 = 0;
     for digit in digits {
-        value = capped_with(value, *digit);
+        value = capped_with(value, *digit, most);
     }
     value
 }
 
 /// Returns the capped value with one more digit at the end.
-fn capped_with(value: u32, digit: u8) -> u32
+fn capped_with(value: u64, digit: u8, most: u64) -> u64
     requires digit { is_ascii_digit digit ≡ true }
-    requires value { value ≤ MAX_WHOLE + 1 }
-    ensures { result ≡ min (value * 10 + digit_value digit) (MAX_WHOLE + 1) }
+    requires value { value ≤ most }
+    requires most { most ≤ 2 ^ 32 }
+    ensures { result ≡ min (value * 10 + digit_value digit) most }
 {
-    let longer = value as u64 * 10 + (digit - b'0') as u64;
-    longer.min(MAX_WHOLE as u64 + 1) as u32
+    (value * 10 + u64::from(digit - b'0')).min(most)
 }
