@@ -9,7 +9,8 @@ use Rattle.design_model.specs.Designs.{DesignValue, KeepsLimits}
 use Rattle.format_traits.specs.declared.encoder_state.EncoderState.{EncoderState}
 use Rattle.format_traits.specs.Accepted.{AcceptedIsWithinLimits}
 use Rattle.format_traits.specs.Refusals.{initial_encoder_state, first_refusal, encoder_state_after}
-use Rattle.record_formats.specs.RecordEncodings.{encoder_state_after_acts}
+use Rattle.format_traits.specs.ActWriting.{encoder_state_after_acts}
+use Rattle.format_traits.proofs.CallerLemmas.{stops_along}
 use Rattle.dst_codec.specs.declared.dst.TheConstants.{MAX_STOPS}
 use Rattle.dst_codec.specs.declared.header.Extents.{Extents}
 use Rattle.dst_codec.specs.declared.header.TheConstants.{HEADER_LENGTH}
@@ -18,7 +19,6 @@ use Rattle.dst_codec.specs.Steps.{IsWritten, dst_body_of, header_numbers_of}
 use Rattle.dst_codec.specs.Writing.{dst_write_limits, dst_records_of}
 use Rattle.dst_codec.proofs.HeaderLemmas.{numbers_fit}
 use Rattle.dst_codec.proofs.RecordCountLemmas.{records_small, records_triples}
-use Rattle.record_formats.proofs.CallerLemmas.{stops_along}
 
 -- and the place
 place-encoder_state_after_acts : (limit : ℕ) (before : EncoderState) (acts : List NumberedAct)

@@ -6,7 +6,7 @@ use Rattle.design_model.specs.Acts.{acts_of}
 use Rattle.design_model.specs.Designs.{DesignValue}
 use Rattle.format_traits.specs.declared.encoder_state.EncoderState.{EncoderState}
 use Rattle.format_traits.specs.Refusals.{initial_encoder_state, first_refusal}
-use Rattle.record_formats.specs.RecordEncodings.{encoder_state_after_acts}
+use Rattle.format_traits.specs.ActWriting.{encoder_state_after_acts}
 use Rattle.dst_codec.specs.declared.dst.TheConstants.{LIMIT}
 use Rattle.dst_codec.specs.declared.header.Extents.{Extents}
 use Rattle.dst_codec.specs.declared.header.HeaderNumbers.{HeaderNumbers}

@@ -2,6 +2,7 @@ pub mod Faults
 pub mod MoveHops
 pub mod Rooms
 pub mod Refusals
+pub mod ActWriting
 pub mod Accepted
 pub mod PlainDesigns
 pub mod LabelFields

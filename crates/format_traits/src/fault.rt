@@ -1,4 +1,6 @@
 ghost use Rattle.std.specs.Prelude.{◌≡◌};
+ghost use Rattle.format_traits.specs.declared.fault.ReadFault.TheVariants as read;
+ghost use Rattle.format_traits.specs.declared.fault.WriteFault.TheVariants as write;
 
 use lists_and_numbers::Memory;
 use thiserror::Error;
@@ -50,9 +52,7 @@ pub enum WriteFault {
 }
 
 impl From<Memory> for ReadFault {
-    ghost use Rattle.format_traits.specs.declared.fault.ReadFault.TheVariants as fault;
-
-    ghost from_gives = { λ _ e. e ≡ fault.Memory };
+    ghost from_gives = { λ _ e. e ≡ read.Memory };
 
     fn from(_error: Memory) -> ReadFault {
         ReadFault::Memory
@@ -60,9 +60,7 @@ impl From<Memory> for ReadFault {
 }
 
 impl From<Memory> for WriteFault {
-    ghost use Rattle.format_traits.specs.declared.fault.WriteFault.TheVariants as fault;
-
-    ghost from_gives = { λ _ e. e ≡ fault.Memory };
+    ghost from_gives = { λ _ e. e ≡ write.Memory };
 
     fn from(_error: Memory) -> WriteFault {
         WriteFault::Memory

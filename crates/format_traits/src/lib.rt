@@ -2,6 +2,7 @@
 //! Feeds, decoders, refusals, labels and the lookup of a format by the ending of a name are here too.
 #![tactic(auto)]
 
+mod act_writing;
 mod boxed;
 mod chunk_passing;
 mod decoder;
@@ -17,6 +18,7 @@ mod lookup;
 mod move_hops;
 mod theorems;
 
+pub use act_writing::{ActWriter, put_each_act};
 pub use boxed::{begin_by, encode_by, ext_of, feed_by, finish_by, limit_of};
 pub use chunk_passing::decode_whole;
 pub use decoder::{Decoder, MAX_PENDING};

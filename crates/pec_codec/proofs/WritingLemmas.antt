@@ -25,8 +25,7 @@ use Rattle.pec_codec.specs.Coordinates.{is_short_number, short_bytes}
 use Rattle.pec_codec.specs.RecordBytes.{pec_jump_record, long_record, pec_stitch_record}
 use Rattle.pec_codec.specs.Writing.{pec_body_of, pec_write_limits, pec_encoding}
 use Rattle.pec_codec.specs.Steps.{AppendsBody}
-use Rattle.format_traits.proofs.CallerLemmas.{loose_room}
-use Rattle.record_formats.proofs.CallerLemmas.{stops_along}
+use Rattle.format_traits.proofs.CallerLemmas.{loose_room, stops_along}
 
 length-concat-append : (xs ys : List (List ℕ)) → length (concat (xs ++ ys)) ≡ length (concat xs) + length (concat ys)
 length-concat-append [] ys = omega arith

@@ -1,4 +1,3 @@
-pub mod CallerLemmas
 pub mod CommandAddingLemmas
 pub mod PointLemmas
 pub mod HeaderLemmas

@@ -1,7 +1,6 @@
 -- The records of acts, one after the other.
 use Rattle.std.proofs.lemmas.Bool.Decides.{nat_tests}
-use Rattle.std.proofs.lemmas.Int.{ints}
-use Rattle.std.proofs.Common.{◌≡◌, ℕ, suc, ◌+◌, ◌-◌, ◌<◌, Option, None, List, [], ◌∷◌, ◌++◌, map, refl, ap, sym, ◌∙◌, arith}
+use Rattle.std.proofs.Common.{◌≡◌, ℕ, suc, ◌+◌, ◌-◌, ◌<◌, List, Result, Ok, Err, [], ◌∷◌, ◌++◌, map, refl, ap, sym, ◌∙◌, arith}
 use Rattle.std.proofs.lemmas.List.{append_assoc, append-nil}
 use Rattle.std.specs.List.{concat}
 use Rattle.design_model.specs.declared.act.NumberedAct.{NumberedAct}
@@ -11,8 +10,9 @@ use Rattle.format_traits.specs.declared.fault.WriteFault.{WriteFault}
 use Rattle.format_traits.specs.declared.encoder_state.WriteLimits.{WriteLimits}
 use Rattle.format_traits.specs.declared.encoder_state.EncoderState.{EncoderState}
 use Rattle.record_formats.specs.MoveParts.{part_end, part_moves_from}
-use Rattle.format_traits.specs.Refusals.{encoder_state_after, refusal_of_act, first_refusal_from}
-use Rattle.record_formats.specs.RecordEncodings.{RecordEncoding, records_of_act, records_of_acts_from, encoder_state_after_acts}
+use Rattle.format_traits.specs.ActWriting.{AppendsActs, bytes_of_acts_from}
+use Rattle.format_traits.specs.Refusals.{encoder_state_after, initial_encoder_state}
+use Rattle.record_formats.specs.RecordEncodings.{AppendsRecords, RecordEncoding, records_of_act, records_of_acts_from}
 
 -- one jump more
 pub jump_more : (jump : Point → List ℕ) (out out' total : List ℕ) (m : Point) (n done wanted : ℕ) → done < wanted
@@ -35,25 +35,22 @@ pub jumps_and : (out middle bytes : List ℕ) (jumps : List (List ℕ)) (last : 
     → middle ≡ out ++ concat jumps → bytes ≡ middle ++ last → bytes ≡ out ++ concat (jumps ++ last ∷ [])
 jumps_and out middle bytes jumps last of_middle of_bytes = grind (arith, nat_tests, append_assoc, concat-append, append-nil)
 
--- the records of the first act, and those of the rest
-pub written_rest : (encoding : RecordEncoding) (write_limits : WriteLimits) (s s' : EncoderState) (a : NumberedAct)
-    (acts rest : List NumberedAct)
-    (out out' total : List ℕ) → acts ≡ a ∷ rest → s' ≡ encoder_state_after write_limits.limit s a.act
-    → out' ≡ out ++ concat (records_of_act encoding write_limits s a.act)
-    → out ++ concat (records_of_acts_from encoding write_limits s acts) ≡ total
-    → out' ++ concat (records_of_acts_from encoding write_limits s' rest) ≡ total
-written_rest encoding write_limits s s' a acts rest out out' total is after of_out all =
-    grind (arith, nat_tests, write_limits.limit, a.act, append_assoc, concat-append)
+-- the records of acts, act by act
+joined : (encoding : RecordEncoding) (write_limits : WriteLimits) (before : EncoderState) (acts : List NumberedAct)
+    → bytes_of_acts_from (λ before act. concat (records_of_act encoding write_limits before act)) write_limits.limit before acts
+    ≡ concat (records_of_acts_from encoding write_limits before acts)
+joined encoding write_limits before [] = refl
+joined encoding write_limits before (a ∷ rest) =
+    let own = records_of_act encoding write_limits before a.act in
+    let after = encoder_state_after write_limits.limit before a.act in
+    ap (λ bytes. concat own ++ bytes) (joined encoding write_limits after rest)
+    ∙ sym (concat-append own (records_of_acts_from encoding write_limits after rest))
 
--- the refusals after an act that is not refused
-pub refusal_rest : (write_limits : WriteLimits) (s s' : EncoderState) (a : NumberedAct) (acts rest : List NumberedAct)
-    (total : Option WriteFault) → acts ≡ a ∷ rest → refusal_of_act write_limits s a ≡ None
-    → s' ≡ encoder_state_after write_limits.limit s a.act
-    → first_refusal_from write_limits s acts ≡ total → first_refusal_from write_limits s' rest ≡ total
-refusal_rest write_limits s s' a acts rest total h1 h2 h3 h4 = grind (arith, nat_tests, ints)
-
--- how it stands after an act and the rest
-pub stands_rest : (write_limits : WriteLimits) (s s' : EncoderState) (a : NumberedAct) (acts rest : List NumberedAct) (total : EncoderState)
-    → acts ≡ a ∷ rest → s' ≡ encoder_state_after write_limits.limit s a.act
-    → encoder_state_after_acts write_limits.limit s acts ≡ total → encoder_state_after_acts write_limits.limit s' rest ≡ total
-stands_rest write_limits s s' a acts rest total h1 h2 h3 = grind (arith, nat_tests, ints)
+-- acts that are appended are their records
+pub records_put : (encoding : RecordEncoding) (write_limits : WriteLimits) (acts : List NumberedAct) (old new : List ℕ)
+    (result : Result EncoderState WriteFault)
+    → AppendsActs (λ before act. concat (records_of_act encoding write_limits before act)) write_limits acts old result new
+    → AppendsRecords encoding write_limits acts old result new
+records_put encoding write_limits acts old new (Ok state) is =
+    (is.0, is.1 ∙ ap (λ bytes. old ++ bytes) (joined encoding write_limits initial_encoder_state acts), is.2)
+records_put encoding write_limits acts old new (Err f) is = is

@@ -12,7 +12,8 @@ use Rattle.format_traits.specs.declared.encoder_state.WriteLimits.{WriteLimits}
 use Rattle.format_traits.specs.declared.encoder_state.EncoderState.{EncoderState}
 use Rattle.format_traits.specs.MoveHops.{hops_of}
 use Rattle.record_formats.specs.MoveParts.{part_end, part_moves, part_moves_from}
-use Rattle.format_traits.specs.Refusals.{initial_encoder_state, encoder_state_after, refusal_before_room, refusal_of_act, first_refusal, IsSpecifiedRefusal}
+use Rattle.format_traits.specs.ActWriting.{encoder_state_after_acts}
+use Rattle.format_traits.specs.Refusals.{initial_encoder_state, encoder_state_after, first_refusal, IsSpecifiedRefusal}
 
 -- The bytes of a format's records. A stitch and a jump depend on their moves, and a stop on the
 -- number of stops before it. A trim may take several records.
@@ -71,29 +72,6 @@ records_of_acts_from encoding write_limits before (a ∷ rest) = records_of_act 
 abbrev pub records_of_acts : RecordEncoding → WriteLimits → List NumberedAct → List (List ℕ)
 records_of_acts encoding write_limits acts = records_of_acts_from encoding write_limits
     initial_encoder_state acts
-
--- The encoder's state after all of the acts.
-abbrev pub encoder_state_after_acts : ℕ → EncoderState → List NumberedAct → EncoderState
-encoder_state_after_acts limit before [] = before
-encoder_state_after_acts limit before (a ∷ rest) = encoder_state_after_acts limit
-    (encoder_state_after limit before a.act) rest
-
--- An act that is not refused before its room is counted.
-abbrev pub IsAcceptedAct : WriteLimits → EncoderState → Act → Type 0
-IsAcceptedAct write_limits before act = (number : ℕ)
-    × (refusal_before_room write_limits before act number ≡ None)
-
--- Meaning of each answer of appending an act's records to bytes.
-abbrev pub AppendsActRecords : {T : Type 0} → RecordEncoding → WriteLimits → EncoderState
-    → NumberedAct → List ℕ
-    → Result T WriteFault → EncoderState
-    → List ℕ → Type 0
-AppendsActRecords encoding write_limits before a old (Ok _) after
-    new = (refusal_of_act write_limits before a ≡ None)
-    × (new ≡ old ++ concat (records_of_act encoding write_limits before a.act))
-    × (after ≡ encoder_state_after write_limits.limit before a.act)
-AppendsActRecords encoding write_limits before a old (Err f) after new = IsSpecifiedRefusal
-    (refusal_of_act write_limits before a) f
 
 -- Meaning of each answer of appending the records of all acts to bytes.
 abbrev pub AppendsRecords : RecordEncoding → WriteLimits → List NumberedAct → List ℕ

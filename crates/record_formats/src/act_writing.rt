@@ -1,26 +1,25 @@
 ghost use Rattle.std.specs.Prelude.{◌≡◌, ◌<◌, ◌≤◌, ◌*◌, ◌++◌, ◌||◌, map, length, IsTrue, OnOk};
 ghost use Rattle.std.specs.List.{concat, list_all};
 ghost use Rattle.design_model.specs.declared.design.TheConstants.{MAX_COMMANDS};
-ghost use Rattle.design_model.specs.declared.point.TheConstants.{NEEDLE_LIMIT};
 ghost use Rattle.design_model.specs.Acts.{acts_along};
-ghost use Rattle.design_model.specs.ActPositions.{is_act_in_range};
 ghost use Rattle.design_model.specs.Commands.{is_command_in_range};
 ghost use Rattle.design_model.specs.Points.{is_point_within, move_size};
 ghost use Rattle.format_traits.specs.declared.move_hops.TheConstants.{MAX_MOVE};
 ghost use Rattle.record_formats.specs.declared.move_parts.TheConstants.{MAX_HOPS};
 ghost use Rattle.record_formats.specs.MoveParts.{part_moves_from};
-ghost use Rattle.format_traits.specs.Refusals.{IsEncoderStateInRange};
-ghost use Rattle.record_formats.specs.RecordEncodings.{IsAcceptedAct, AppendsActRecords, AppendsRecords, float_records, hop_records, is_at_max, needle_records, records_of_act, stitched_hop_records};
+ghost use Rattle.record_formats.specs.RecordEncodings.{AppendsRecords, float_records, hop_records, is_at_max, needle_records, records_of_act, stitched_hop_records};
 
 use crate::move_parts::{MAX_HOPS, part_move};
 use crate::record_writer::RecordWriter;
-use design_model::{Act, ActScanner, Command, MAX_COMMANDS, NEEDLE_LIMIT, NumberedAct, Point};
-use format_traits::{EncoderState, MAX_MOVE, WriteFault, hops, move_between};
+use design_model::{Act, Command, MAX_COMMANDS, Point};
+use format_traits::{
+    ActWriter, EncoderState, MAX_MOVE, WriteFault, WriteLimits, hops, move_between, put_each_act,
+};
 use lists_and_numbers::{Bytes, Memory};
 
 /// Appends the records of a design's acts, and returns the encoder's state after them. An act that the format
 /// cannot write is reported; the contents of `out` are not specified then.
-pub fn put_acts<W: RecordWriter>(
+pub fn put_acts<W: RecordWriter + Copy>(
     writer: &W,
     out: &mut Bytes,
     commands: &[Command],
@@ -30,139 +29,40 @@ pub fn put_acts<W: RecordWriter>(
     ensures { AppendsRecords (W.encoding writer.now) (W.write_limits writer.now) (acts_along commands.now)
         out.old result out.new }
 {
-    let mut state = EncoderState::new();
-    let mut walk = ActScanner::new();
-    for command in commands {
-        let Some(act) = walk.next(*command) else {
-            continue;
-        };
-        if let Err(fault) = put_act(writer, out, &mut state, act) {
-            return Err(fault);
+    put_each_act(&ActRecords { writer: *writer }, out, commands)
+}
+
+/// The writer of acts as records.
+#[derive(Clone, Copy)]
+struct ActRecords<W: RecordWriter + Copy> {
+    writer: W,
+}
+
+impl<W: RecordWriter + Copy> ActWriter for ActRecords<W> {
+    ghost write_limits = { λ r. W.write_limits r.writer };
+
+    ghost act_bytes = { λ r before act. concat
+        (records_of_act (W.encoding r.writer) (W.write_limits r.writer) before act) };
+
+    #[inline(always)]
+    fn write_limits(&self) -> WriteLimits {
+        self.writer.write_limits()
+    }
+
+    // Inlined, since a call would keep the loop's encoder state in memory.
+    #[inline(always)]
+    fn put_accepted(&self, out: &mut Bytes, before: &EncoderState, act: Act) -> Result<(), Memory> {
+        match act {
+            Act::Needle { at, float } => put_needle(
+                &self.writer,
+                out,
+                before.loose,
+                float,
+                move_between(before.place, at),
+            ),
+            Act::Trim => self.writer.put_trim(out),
+            Act::Stop => self.writer.put_stop(out, before.stops),
         }
-    }
-    Ok(state)
-}
-
-/// Appends the records of an act and updates the encoder state, or reports why the format cannot write the
-/// act.
-// Nearly all acts are needles that are sewn on: their code is in the loop, and that of all other acts is in a
-// function of its own.
-#[inline(always)]
-fn put_act<W: RecordWriter>(
-    writer: &W,
-    out: &mut Bytes,
-    state: &mut EncoderState,
-    act: NumberedAct,
-) -> Result<(), WriteFault>
-    requires sound { IsEncoderStateInRange state.old }
-    requires act { IsTrue (is_act_in_range act.act) }
-    ensures value { AppendsActRecords (W.encoding writer.now) (W.write_limits writer.now) state.old act
-        out.old result state.new out.new }
-    ensures sound { OnOk result (IsEncoderStateInRange state.new) }
-{
-    match act.act {
-        Act::Needle { float: false, .. } if !state.loose => {
-            put_act_here(writer, out, state, act)
-        }
-        _ => put_act_copied(writer, out, state, act),
-    }
-}
-
-/// Appends the records of an act from copies of the act and of the encoder state. References to the originals
-/// would keep both in memory for the entire loop.
-#[inline(always)]
-fn put_act_copied<W: RecordWriter>(
-    writer: &W,
-    out: &mut Bytes,
-    state: &mut EncoderState,
-    act: NumberedAct,
-) -> Result<(), WriteFault>
-    requires sound { IsEncoderStateInRange state.old }
-    requires act { IsTrue (is_act_in_range act.act) }
-    ensures value { AppendsActRecords (W.encoding writer.now) (W.write_limits writer.now) state.old act
-        out.old result state.new out.new }
-    ensures sound { OnOk result (IsEncoderStateInRange state.new) }
-{
-    let copy = NumberedAct {
-        number: act.number,
-        act: act.act,
-    };
-    let mut after = *state;
-    put_act_apart(writer, out, &mut after, copy)?;
-    *state = after;
-    Ok(())
-}
-
-// All acts take the same steps, but loose needles and stops have calls of their own: LLVM then knows the act
-// in each copy, and the hops are counted once.
-#[cold]
-#[inline(never)]
-fn put_act_apart<W: RecordWriter>(
-    writer: &W,
-    out: &mut Bytes,
-    state: &mut EncoderState,
-    act: NumberedAct,
-) -> Result<(), WriteFault>
-    requires sound { IsEncoderStateInRange state.old }
-    requires act { IsTrue (is_act_in_range act.act) }
-    ensures value { AppendsActRecords (W.encoding writer.now) (W.write_limits writer.now) state.old act
-        out.old result state.new out.new }
-    ensures sound { OnOk result (IsEncoderStateInRange state.new) }
-{
-    match act.act {
-        Act::Needle { .. } if state.loose => put_act_here(writer, out, state, act),
-        Act::Stop => put_act_here(writer, out, state, act),
-        _ => put_act_here(writer, out, state, act),
-    }
-}
-
-#[inline(always)]
-fn put_act_here<W: RecordWriter>(
-    writer: &W,
-    out: &mut Bytes,
-    state: &mut EncoderState,
-    act: NumberedAct,
-) -> Result<(), WriteFault>
-    requires sound { IsEncoderStateInRange state.old }
-    requires act { IsTrue (is_act_in_range act.act) }
-    ensures value { AppendsActRecords (W.encoding writer.now) (W.write_limits writer.now) state.old act
-        out.old result state.new out.new }
-    ensures sound { OnOk result (IsEncoderStateInRange state.new) }
-{
-    let before = *state;
-    let write_limits = writer.write_limits();
-    if let Some(fault) = write_limits.refusal(&before, act.number, act.act) {
-        return Err(fault);
-    }
-    put_act_records(writer, out, &before, act.act)?;
-    *state = before.after(write_limits.limit, act.act);
-    Ok(())
-}
-
-// Inlined, since a call would keep the loop's encoder state in memory.
-#[inline(always)]
-fn put_act_records<W: RecordWriter>(
-    writer: &W,
-    out: &mut Bytes,
-    before: &EncoderState,
-    act: Act,
-) -> Result<(), Memory>
-    requires place { IsTrue (is_point_within NEEDLE_LIMIT before.now.place) }
-    requires act { IsTrue (is_act_in_range act) }
-    requires accepted { IsAcceptedAct (W.write_limits writer.now) before.now act }
-    ensures { OnOk result (out.new ≡ out.old
-        ++ concat (records_of_act (W.encoding writer.now) (W.write_limits writer.now) before.now act)) }
-{
-    match act {
-        Act::Needle { at, float } => put_needle(
-            writer,
-            out,
-            before.loose,
-            float,
-            move_between(before.place, at),
-        ),
-        Act::Trim => writer.put_trim(out),
-        Act::Stop => writer.put_stop(out, before.stops),
     }
 }
 

@@ -1,3 +1,4 @@
+pub mod WriterLemmas
 mod PartLemmas
 mod ReadingLemmas
 mod LabelLemmas
@@ -11,7 +12,6 @@ mod ActContinuations
 pub mod CanonicalText
 pub mod KeptLemmas
 mod FloatLemmas
-mod WriterLemmas
 mod ListFacts
 mod LawFacts
 mod LineFacts
