@@ -5,7 +5,7 @@ use design_model::{
 use std::alloc::Global;
 use std::test::Fail;
 use step_splitter::{MAX_STEP, RefitFault, RefitMode, refit, split, steps};
-use test_values::design_of;
+use test_values::{design_of, large};
 
 fn at(place: (i32, i32)) -> Point {
     Point {
@@ -164,32 +164,16 @@ fn a_refit_stops_at_the_act_with_a_command_too_many(rt: HostRuntime) -> Result<(
     Ok(())
 }
 
-/// A label, a thread, and 10,000 commands: needle acts, floats of 150 and trims, or stops at three places.
-fn large(alloc: Global) -> Result<Design, ModelFault> {
-    let mut design = Design::new(alloc);
-    design.set_label(b"Rose of Damascus");
-    design.push_thread(9);
-    for round in 0..2_500u32 {
-        let x = (round % 100) as i32;
-        design.push(stitch(x, 0))?;
-        design.push(stitch(x, 100))?;
-        design.push(if round % 2 == 0 {
+#[test]
+fn a_large_design_is_split_and_cut(rt: HostRuntime) -> Result<(), Fail> {
+    let design = large(rt.alloc(), &[9], |x| {
+        let third = if x % 2 == 0 {
             jump(x, 5)
         } else {
             stitch(x, 30)
-        })?;
-        design.push(if round % 700 == 699 {
-            Command::Stop
-        } else {
-            stitch(x, 60)
-        })?;
-    }
-    Ok(design)
-}
-
-#[test]
-fn a_large_design_is_split_and_cut(rt: HostRuntime) -> Result<(), Fail> {
-    let design = large(rt.alloc())?;
+        };
+        [stitch(x, 0), stitch(x, 100), third, stitch(x, 60)]
+    })?;
     let split = refit(rt.alloc(), &design, 50, RefitMode::Split)
         .ok()
         .ok_or("no memory")?;

@@ -1,11 +1,11 @@
+use crate::stitch;
 use design_model::{
     Act, Acts, Command, Design, Extent, ModelFault, NumberedAct, Point, acts, block_counts, counts,
     extent, height, width,
 };
 use lists_and_numbers::{Bytes, Memory, Whole, parse_whole};
-use std::alloc::Global;
 use std::test::Fail;
-use test_values::design_of;
+use test_values::{design_of, large};
 
 fn at(x: i32) -> Point {
     Point { x, y: 0 }
@@ -189,7 +189,7 @@ fn one_thread_and_one_point_are_put_in_place(rt: HostRuntime) -> Result<(), Fail
     }
     let moved = [
         Command::Jump(place(32_767, 0)),
-        Command::Stitch(place(0, -30_000)),
+        stitch(0, -30_000),
         MIXED[2],
         MIXED[3],
         MIXED[4],
@@ -203,38 +203,16 @@ fn one_thread_and_one_point_are_put_in_place(rt: HostRuntime) -> Result<(), Fail
     Ok(())
 }
 
-/// A design with a label and three threads.
-fn labelled(alloc: Global) -> Design {
-    let mut design = Design::new(alloc);
-    design.set_label(b"Rose of Damascus");
-    design.push_thread(9);
-    design.push_thread(200);
-    design.push_thread(64);
-    design
-}
-
-/// A design with a label, three threads and 10,000 commands: 2,500 times a jump, two needles, and a trim, but a
-/// stop in three cases.
-fn large(alloc: Global) -> Result<Design, ModelFault> {
-    let mut design = labelled(alloc);
-    for round in 0..2500u32 {
-        let x = (round % 100) as i32;
-        design.push(Command::Jump(place(x, 0)))?;
-        design.push(Command::Stitch(place(x, 7)))?;
-        design.push(Command::Stitch(place(x, 8)))?;
-        let last = if round % 700 == 699 {
-            Command::Stop
-        } else {
-            Command::Trim
-        };
-        design.push(last)?;
-    }
-    Ok(design)
-}
-
 #[test]
 fn a_design_as_large_as_a_real_one_is_kept_and_told_whole(rt: HostRuntime) -> Result<(), Fail> {
-    let design = large(rt.alloc())?;
+    let design = large(rt.alloc(), &[9, 200, 64], |x| {
+        [
+            Command::Jump(at(x)),
+            stitch(x, 7),
+            stitch(x, 8),
+            Command::Trim,
+        ]
+    })?;
     assert_eq!(rt; design.label(), b"Rose of Damascus".as_slice());
     assert_eq!(rt; design.threads(), [9, 200, 64].as_slice());
     assert_eq!(rt; [design.thread(2), design.thread(3)], [64, 4]);

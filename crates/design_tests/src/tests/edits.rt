@@ -1,8 +1,8 @@
+use crate::stitch;
 use design_edits::{Axis, EditFault, MAX_SHIFT, mirror, recolour, shift, turn};
 use design_model::{Command, Design, ModelFault, Point};
-use std::alloc::Global;
 use std::test::Fail;
-use test_values::design_of;
+use test_values::{design_of, large};
 
 fn at(x: i32, y: i32) -> Point {
     Point { x, y }
@@ -27,25 +27,19 @@ fn a_quarter_turn_takes_the_right_downwards(rt: HostRuntime) -> Result<(), Fail>
     let mut design = filled(&rt, &SAMPLE)?;
     turn(&mut design, 1);
     let turned = [
-        Command::Stitch(at(0, 30)),
+        stitch(0, 30),
         Command::Jump(at(1, 32_767)),
         Command::Trim,
         Command::Stop,
-        Command::Stitch(at(-7, -2)),
+        stitch(-7, -2),
     ];
     assert_eq!(rt; design.commands(), turned.as_slice());
     turn(&mut design, 3);
     assert_eq!(rt; design.commands(), SAMPLE.as_slice());
     turn(&mut design, 2);
-    assert_eq!(rt;
-        design.commands().first(),
-        Some(&Command::Stitch(at(-30, 0)))
-    );
+    assert_eq!(rt; design.commands().first(), Some(&stitch(-30, 0)));
     turn(&mut design, 0);
-    assert_eq!(rt;
-        design.commands().first(),
-        Some(&Command::Stitch(at(-30, 0)))
-    );
+    assert_eq!(rt; design.commands().first(), Some(&stitch(-30, 0)));
     Ok(())
 }
 
@@ -53,12 +47,9 @@ fn a_quarter_turn_takes_the_right_downwards(rt: HostRuntime) -> Result<(), Fail>
 fn a_mirroring_changes_the_signs_of_one_axis(rt: HostRuntime) -> Result<(), Fail> {
     let mut design = filled(&rt, &SAMPLE)?;
     mirror(&mut design, Axis::Y);
-    assert_eq!(rt;
-        design.commands().last(),
-        Some(&Command::Stitch(at(-2, -7)))
-    );
+    assert_eq!(rt; design.commands().last(), Some(&stitch(-2, -7)));
     mirror(&mut design, Axis::X);
-    assert_eq!(rt; design.commands().last(), Some(&Command::Stitch(at(2, -7))));
+    assert_eq!(rt; design.commands().last(), Some(&stitch(2, -7)));
     Ok(())
 }
 
@@ -88,14 +79,11 @@ fn a_shift_out_of_range_changes_nothing(rt: HostRuntime) -> Result<(), Fail> {
 
 #[test]
 fn a_needle_at_one_may_go_to_the_edge(rt: HostRuntime) -> Result<(), Fail> {
-    let mut design = filled(&rt, &[Command::Stitch(at(1, 0))])?;
+    let mut design = filled(&rt, &[stitch(1, 0)])?;
     let refused = Err(EditFault::Range { number: 1 });
     assert_eq!(rt; shift(&mut design, 30_000, 0), refused);
     assert_eq!(rt; shift(&mut design, 29_999, 0), Ok(()));
-    assert_eq!(rt;
-        design.commands(),
-        [Command::Stitch(at(30_000, 0))].as_slice()
-    );
+    assert_eq!(rt; design.commands(), [stitch(30_000, 0)].as_slice());
     Ok(())
 }
 
@@ -123,43 +111,22 @@ fn there_are_at_most_255_places(rt: HostRuntime) -> Result<(), Fail> {
     Ok(())
 }
 
-/// A label, a thread, and 10,000 commands in four blocks.
-fn large(alloc: Global) -> Result<Design, ModelFault> {
-    let mut design = Design::new(alloc);
-    design.set_label(b"Rose of Damascus");
-    design.push_thread(9);
-    for round in 0..2_500u32 {
-        let x = (round % 100) as i32;
-        design.push(Command::Jump(at(x, 100)))?;
-        design.push(Command::Stitch(at(x, 0)))?;
-        design.push(Command::Stitch(at(x, 50)))?;
-        design.push(if round % 700 == 699 {
-            Command::Stop
-        } else {
-            Command::Trim
-        })?;
-    }
-    Ok(design)
-}
-
 #[test]
 fn a_large_design_is_edited_to_its_end(rt: HostRuntime) -> Result<(), Fail> {
-    let mut design = large(rt.alloc())?;
+    let mut design = large(rt.alloc(), &[9], |x| {
+        [
+            Command::Jump(at(x, 100)),
+            stitch(x, 0),
+            stitch(x, 50),
+            Command::Trim,
+        ]
+    })?;
     assert_eq!(rt; shift(&mut design, -200, 1_000), Ok(()));
-    assert_eq!(rt;
-        design.commands().get(9_998),
-        Some(&Command::Stitch(at(-101, 1_050)))
-    );
+    assert_eq!(rt; design.commands().get(9_998), Some(&stitch(-101, 1_050)));
     turn(&mut design, 1);
-    assert_eq!(rt;
-        design.commands().get(9_998),
-        Some(&Command::Stitch(at(-1_050, -101)))
-    );
+    assert_eq!(rt; design.commands().get(9_998), Some(&stitch(-1_050, -101)));
     mirror(&mut design, Axis::Y);
-    assert_eq!(rt;
-        design.commands().get(9_998),
-        Some(&Command::Stitch(at(-1_050, 101)))
-    );
+    assert_eq!(rt; design.commands().get(9_998), Some(&stitch(-1_050, 101)));
     assert_eq!(rt;
         design.commands().get(9_996),
         Some(&Command::Jump(at(-1_100, 101)))

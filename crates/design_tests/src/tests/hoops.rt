@@ -1,6 +1,8 @@
+use crate::stitch;
 use design_model::{Command, Design, ModelFault, Point};
 use hoop_check::{Fit, fits};
 use std::test::Fail;
+use test_values::large;
 
 fn sewn(rt: &HostRuntime, points: &[(i32, i32)]) -> Result<Design, ModelFault> {
     let mut design = Design::new(rt.alloc());
@@ -17,38 +19,15 @@ fn a_design_fits_upright_turned_or_not(rt: HostRuntime) -> Result<(), Fail> {
     let line = sewn(&rt, &[(0, 0), (30, 0)])?;
     let slant = sewn(&rt, &[(7, -1), (-5, 3)])?;
     let none = sewn(&rt, &[])?;
+    let over = |over_x, over_y| Fit::No { over_x, over_y };
     let table = [
         (&corner, 30, 30, Fit::Upright),
-        (
-            &corner,
-            20,
-            25,
-            Fit::No {
-                over_x: 10,
-                over_y: 5,
-            },
-        ),
+        (&corner, 20, 25, over(10, 5)),
         (&line, 10, 30, Fit::Turned),
-        (
-            &line,
-            29,
-            29,
-            Fit::No {
-                over_x: 1,
-                over_y: 0,
-            },
-        ),
+        (&line, 29, 29, over(1, 0)),
         (&slant, 12, 4, Fit::Upright),
         (&slant, 4, 12, Fit::Turned),
-        (
-            &slant,
-            11,
-            11,
-            Fit::No {
-                over_x: 1,
-                over_y: 0,
-            },
-        ),
+        (&slant, 11, 11, over(1, 0)),
         (&none, 0, 0, Fit::Upright),
     ];
     for (design, w, h, fit) in table {
@@ -57,26 +36,13 @@ fn a_design_fits_upright_turned_or_not(rt: HostRuntime) -> Result<(), Fail> {
     Ok(())
 }
 
-/// A block of 10,000 needles and jumps, 99 wide and 200 high.
-fn large(rt: &HostRuntime) -> Result<Design, ModelFault> {
-    let mut design = Design::new(rt.alloc());
-    for round in 0..2_500u32 {
-        let x = (round % 100) as i32;
-        design.push(Command::Stitch(Point { x, y: 300 }))?;
-        design.push(Command::Jump(Point { x: 900, y: x }))?;
-        design.push(Command::Stitch(Point { x, y: 100 }))?;
-        design.push(if round % 700 == 699 {
-            Command::Stop
-        } else {
-            Command::Trim
-        })?;
-    }
-    Ok(design)
-}
-
+/// The needles of this design are 99 wide and 200 high.
 #[test]
 fn a_large_design_fits_by_all_its_needles(rt: HostRuntime) -> Result<(), Fail> {
-    let design = large(&rt)?;
+    let design = large(rt.alloc(), &[], |x| {
+        let outside = Command::Jump(Point { x: 900, y: x });
+        [stitch(x, 300), outside, stitch(x, 100), Command::Trim]
+    })?;
     assert_eq!(rt; fits(&design, 99, 200), Fit::Upright);
     assert_eq!(rt; fits(&design, 200, 99), Fit::Turned);
     let over = Fit::No {

@@ -1,0 +1,7 @@
+mod colours;
+mod designs;
+mod edits;
+mod hoops;
+mod pictures;
+mod refits;
+mod stores;
