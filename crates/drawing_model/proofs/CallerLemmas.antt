@@ -1,5 +1,5 @@
 -- Lemmas that this crate and those above cite.
-use Rattle.std.proofs.Common.{All, AllPairs, Bool, Err, IfOk, List, Ok, Result, Some, [], ap, arith, false, get_or, length, not, refl, suc, true, ℕ, ◌++◌, ◌+◌, ◌-◌, ◌<◌, ◌∷◌, ◌≡◌, ◌≢◌, ◌≤◌}
+use Rattle.std.proofs.Common.{All, AllPairs, Bool, Err, IfOk, List, Ok, Result, Some, [], ap, arith, false, get_or, if◌then◌else◌, length, not, refl, suc, true, ℕ, ◌++◌, ◌+◌, ◌-◌, ◌<◌, ◌∷◌, ◌≡◌, ◌≢◌, ◌≤◌}
 use Rattle.std.proofs.lemmas.Bool.{false_from_ne_true, or_from}
 use Rattle.std.proofs.lemmas.Bool.Decides.{nat_tests}
 use Rattle.std.proofs.lemmas.List.{length-append}
@@ -12,10 +12,11 @@ use Rattle.design_model.specs.Points.{is_same_point}
 use Rattle.design_model.specs.declared.point.Point.{Point}
 use Rattle.design_model.proofs.CallerLemmas.{point_itself, same_is}
 use Rattle.drawing_model.specs.Drawings.{DrawingValue, HasNoRepeat, IsLine, KeepsDrawingLimits, last_point, optional_line_points, points_of, endpoints}
-use Rattle.drawing_model.specs.GrowingDrawings.{and_then, has_repeated_point, is_last_empty, is_used, repeats_after}
+use Rattle.drawing_model.specs.GrowingDrawings.{and_then, finished_drawing, has_repeated_point, is_last_empty, is_used, repeats_after}
+use Rattle.drawing_model.specs.JoinedDrawings.{joined_drawing}
 use Rattle.drawing_model.specs.LineNeedles.{needles_of_line}
 use Rattle.drawing_model.specs.Needles.{steps_of_line, needle_points, segment_points, segment_steps}
-use Rattle.drawing_model.specs.WalkEnds.{AreInDifferentPieces, are_connected_spots, is_junction, spot_added}
+use Rattle.drawing_model.specs.WalkEnds.{AreInDifferentPieces, HasNoEnds, are_connected_spots, is_junction, spot_added}
 use Rattle.drawing_model.specs.declared.draw_kind.DrawKind.{DrawKind}
 use Rattle.line_sections.specs.Lines.{LineValue}
 use Rattle.line_sections.specs.declared.spot.Spot.{Spot}
@@ -72,10 +73,23 @@ spot_comes lines before spot rest apart =
     rw (there, alone) refl
 
 -- What holds after the second of two steps.
-pub after_both : {A B : Type 0} (P : A → Type 0) (Q : B → Type 0) (r : Result A DrawKind) (next : A → Result B DrawKind) → IfOk r P
+pub after_both : {A B F : Type 0} (P : A → Type 0) (Q : B → Type 0) (r : Result A F) (next : A → Result B F) → IfOk r P
     → ((a : A) → P a → IfOk (next a) Q) → IfOk (and_then r next) Q
 after_both P Q (Ok a) next has later = later a has
 after_both P Q (Err why) next has later = tt
+
+-- What holds where a test doesn't refuse holds after the test.
+pub unless : {A : Type 0} (P : A → Type 0) (test : Bool) (r : Result A DrawKind) (why : DrawKind) → (test ≡ false → IfOk r P)
+    → IfOk (if test then Err why else r) P
+unless P true r why next = tt
+unless P false r why next = next refl
+
+-- A drawing without starts and ends has none when it is finished or joined.
+pub finished_none : (d : DrawingValue) → HasNoEnds d → IfOk (finished_drawing d) HasNoEnds
+finished_none d none = grind (arith, nat_tests)
+
+pub joined_none : (d : DrawingValue) → HasNoEnds d → IfOk (joined_drawing d) HasNoEnds
+joined_none d none = grind (arith, nat_tests)
 
 pub close_on : (step : ℕ) (p : Point) (xs ys : List Point) → AreCloseAfter step p xs
     → AreCloseAfter step (last_point_or p xs) ys → AreCloseAfter step p (xs ++ ys)

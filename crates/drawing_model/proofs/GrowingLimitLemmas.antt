@@ -1,6 +1,6 @@
 -- Growing drawings keep their limits. The finished ones are valid, and stay so when they are joined and get starts and ends.
-use Rattle.std.proofs.Common.{◌≡◌, ◌≢◌, ℕ, ◌<◌, ◌≤◌, ◌==◌, Bool, true, false, not, nat_lt, List, [], ◌∷◌, Result, Ok, Err, IfOk, length, All, refl, arith, if◌then◌else◌}
-use Rattle.std.proofs.lemmas.Bool.{or_parts}
+use Rattle.std.proofs.Common.{◌≡◌, ℕ, ◌<◌, ◌≤◌, ◌==◌, Bool, true, false, not, nat_lt, List, [], ◌∷◌, Ok, IfOk, length, All, refl, arith}
+use Rattle.std.proofs.lemmas.Bool.{eqb-false, or_parts}
 use Rattle.std.proofs.lemmas.Bool.Decides.{nat_tests}
 use Rattle.std.proofs.lemmas.List.Elements.{All-cons, All-nil, All-push}
 use Rattle.std.proofs.lemmas.List.Quantifiers.{all_pairs_push}
@@ -10,7 +10,6 @@ use Rattle.step_splitter.specs.Chains.{IsNeedlePoint}
 use Rattle.line_sections.specs.declared.spot.Spot.{Spot}
 use Rattle.line_sections.specs.Lines.{LineValue}
 use Rattle.line_sections.specs.Sections.{SectionsAreWhole, SectionsHaveSegments, SectionsKeepSegments, WholeLinesStay}
-use Rattle.drawing_model.specs.declared.draw_kind.DrawKind.{DrawKind}
 use Rattle.drawing_model.specs.declared.draw_kind.DrawKind.TheVariants as kind
 use Rattle.drawing_model.specs.Drawings.{DrawingValue, IsLine, KeepsDrawingLimits}
 use Rattle.drawing_model.specs.DrawingMakerInvariants.{IsMakerState}
@@ -19,21 +18,12 @@ use Rattle.drawing_model.specs.GrowingLimits.{BlocksKeepGrowing, EmptyDrawingsGr
 use Rattle.drawing_model.specs.WalkEnds.{AreInDifferentPieces, IsValidDrawing, are_connected_spots, is_junction, spot_added}
 use Rattle.drawing_model.proofs.KeptSections.{all_kept}
 use Rattle.drawing_model.proofs.MakerLemmas.{MayCome, all_in_range, block_put, drawn_all, label_set, line_put, may_come, step_set}
-use Rattle.drawing_model.proofs.CallerLemmas.{after_both}
+use Rattle.drawing_model.proofs.CallerLemmas.{after_both, unless}
 use Rattle.lists_and_numbers.proofs.CallerLemmas.{some_of}
-
--- what holds where a test doesn't refuse holds after the test
-unless : {A : Type 0} (P : A → Type 0) (test : Bool) (why : DrawKind) (r : Result A DrawKind) → (test ≡ false → IfOk r P)
-    → IfOk (if test then Err why else r) P
-unless P true why r next = tt
-unless P false why r next = next refl
 
 not_false : (t : Bool) → not t ≡ false → t ≡ true
 not_false true is = refl
 not_false false is = absurd cc
-
-differ : (m n : ℕ) → (m == n) ≡ false → m ≢ n
-differ m n test = grind (arith, nat_tests, test)
 
 -- a growing drawing is a state of its maker
 made_of : (d : DrawingValue) (empty : Bool) → is_last_empty d ≡ empty → IsGrowingDrawing d
@@ -70,10 +60,10 @@ step_grows d step grows none low high = grind (arith, nat_tests, grown_of, step_
 
 pub block_grows : BlocksKeepGrowing
 block_grows d thread grows fits =
-    unless IsGrowingDrawing (is_last_empty d) kind.EmptyBlock _ (λ filled.
-    unless IsGrowingDrawing (length d.threads == 255) kind.TooManyBlocks _ (λ few.
+    unless IsGrowingDrawing (is_last_empty d) _ kind.EmptyBlock (λ filled.
+    unless IsGrowingDrawing (length d.threads == 255) _ kind.TooManyBlocks (λ few.
     grown_of (with_new_block d thread) true _ _
-    (block_put d thread _ _ (made_of d false filled grows) fits (differ (length d.threads) 255 few))))
+    (block_put d thread _ _ (made_of d false filled grows) fits (eqb-false (length d.threads) 255 few))))
 
 -- a line that passes the tests may be added
 comes : (d : DrawingValue) (points : List Point) → All IsNeedlePoint points → IfOk (steps_with_line d points) (MayCome d points)
@@ -81,8 +71,8 @@ comes d points in_range = grind (arith, nat_tests, may_come d points)
 
 pub line_grows : LinesKeepGrowing
 line_grows d points grows =
-    unless IsGrowingDrawing (length d.threads == 0) kind.NoBlock _ (λ some.
-    unless IsGrowingDrawing (not (all_in_needle_range points)) kind.OutOfRange _ (λ near.
+    unless IsGrowingDrawing (length d.threads == 0) _ kind.NoBlock (λ some.
+    unless IsGrowingDrawing (not (all_in_needle_range points)) _ kind.OutOfRange (λ near.
     after_both (MayCome d points) IsGrowingDrawing (steps_with_line d points) (λ steps. Ok (with_new_line d points))
     (comes d points (all_in_range points (not_false (all_in_needle_range points) near)))
     (λ steps may. grown_of (with_new_line d points) false _ _
@@ -90,9 +80,9 @@ line_grows d points grows =
 
 pub finished_valid : FinishedDrawingsAreValid
 finished_valid d grows =
-    unless IsValidDrawing (length d.threads == 0) kind.NoBlock _ (λ some.
-    unless IsValidDrawing (is_last_empty d) kind.EmptyBlock (Ok d) (λ filled.
-    drawn_all d _ _ (made_of d false filled grows) (differ (length d.threads) 0 some)))
+    unless IsValidDrawing (length d.threads == 0) _ kind.NoBlock (λ some.
+    unless IsValidDrawing (is_last_empty d) (Ok d) kind.EmptyBlock (λ filled.
+    drawn_all d _ _ (made_of d false filled grows) (eqb-false (length d.threads) 0 some)))
 
 no_more : (n limit : ℕ) → nat_lt limit n ≡ false → n ≤ limit
 no_more n limit test = grind (arith, nat_tests, test)
@@ -106,8 +96,8 @@ joined_valid keep have stay whole d valid =
 spots_apart : (lines : List LineValue) (spots : List Spot) (spot : Spot) → AreInDifferentPieces lines spots
     → IfOk (spot_added lines spots spot) (AreInDifferentPieces lines)
 spots_apart lines spots spot apart =
-    unless (AreInDifferentPieces lines) (not (is_junction lines spot)) kind.NoJunction _ (λ there.
-    unless (AreInDifferentPieces lines) (list_any (λ (one : Spot). are_connected_spots lines one spot) spots) kind.EndRepeated _
+    unless (AreInDifferentPieces lines) (not (is_junction lines spot)) _ kind.NoJunction (λ there.
+    unless (AreInDifferentPieces lines) (list_any (λ (one : Spot). are_connected_spots lines one spot) spots) _ kind.EndRepeated
     (λ none. record {
       there = All-push (λ (s : Spot). is_junction lines s ≡ true) spots spot apart.there (not_false (is_junction lines spot) there);
       apart = all_pairs_push (λ (a b : Spot). are_connected_spots lines a b ≡ false) spots spot apart.apart (none_of spots none);

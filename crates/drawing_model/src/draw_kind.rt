@@ -1,4 +1,5 @@
 ghost use Rattle.std.specs.Prelude.{◌≡◌};
+ghost use Rattle.drawing_model.specs.declared.draw_kind.DrawKind.TheVariants as kind;
 
 use lists_and_numbers::Memory;
 use std::alloc::AllocFailed;
@@ -38,22 +39,18 @@ pub enum DrawKind {
     Memory,
 }
 
-impl From<Memory> for DrawKind {
-    ghost use Rattle.drawing_model.specs.declared.draw_kind.DrawKind.TheVariants as kind;
-
+impl<T: Drop> From<AllocFailed<T>> for DrawKind {
     ghost from_gives = { λ _ e. e ≡ kind.Memory };
 
-    fn from(_memory: Memory) -> DrawKind {
+    fn from(_error: AllocFailed<T>) -> DrawKind {
         DrawKind::Memory
     }
 }
 
-impl<T: Drop> From<AllocFailed<T>> for DrawKind {
-    ghost use Rattle.drawing_model.specs.declared.draw_kind.DrawKind.TheVariants as kind;
-
+impl From<Memory> for DrawKind {
     ghost from_gives = { λ _ e. e ≡ kind.Memory };
 
-    fn from(_error: AllocFailed<T>) -> DrawKind {
+    fn from(_memory: Memory) -> DrawKind {
         DrawKind::Memory
     }
 }

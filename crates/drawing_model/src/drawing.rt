@@ -1,5 +1,9 @@
 ghost use Rattle.std.specs.Prelude.{◌≡◌, ◌<◌, ◌≤◌, IfOk, length, slice_index};
+ghost use Rattle.design_model.specs.Labels.{IsLabel};
 ghost use Rattle.drawing_model.specs.declared.limits.TheConstants.{MAX_LINES};
+ghost use Rattle.drawing_model.specs.Drawings.{DrawingValue, KeepsDrawingLimits, block_of, points_of};
+ghost use Rattle.drawing_model.specs.DrawingsOfParts.{drawing_of_parts};
+ghost use Rattle.drawing_model.specs.WalkEnds.{HasValidEnds, IsValidDrawing};
 
 use crate::drawing_parts::DrawingParts;
 use crate::limits::MAX_BLOCKS;
@@ -20,10 +24,6 @@ pub struct Drawing {
 }
 
 impl Model for Drawing {
-    ghost use Rattle.drawing_model.specs.Drawings.{DrawingValue};
-    ghost use Rattle.drawing_model.specs.DrawingsOfParts.{drawing_of_parts};
-    ghost use Rattle.drawing_model.specs.WalkEnds.{IsValidDrawing};
-
     ghost Value = { DrawingValue };
 
     ghost view = { λ d. drawing_of_parts d.parts };
@@ -32,11 +32,6 @@ impl Model for Drawing {
 }
 
 impl Drawing {
-    ghost use Rattle.design_model.specs.Labels.{IsLabel};
-    ghost use Rattle.drawing_model.specs.Drawings.{KeepsDrawingLimits, points_of, block_of};
-    ghost use Rattle.drawing_model.specs.DrawingsOfParts.{drawing_of_parts};
-    ghost use Rattle.drawing_model.specs.WalkEnds.{IsValidDrawing, HasValidEnds};
-
     /// Returns the drawing with the given parts.
     pub(crate) fn of_parts(parts: DrawingParts) -> Drawing
         requires { IsValidDrawing (drawing_of_parts parts) }
