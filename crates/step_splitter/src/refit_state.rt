@@ -62,40 +62,19 @@ impl RefitState {
         ensures room { OnOk result (length out.new.commands ≤ MAX_COMMANDS) }
         ensures place { OnOk result (IsNeedlePoint self.new.place) }
     {
-        match next {
-            Some(act) => self.put_act(alloc, out, limit, mode, act),
-            None => Ok(()),
+        let Some(act) = next else {
+            return Ok(());
+        };
+        if let Err(fault) = put_refitted(alloc, out, limit, mode, self, act) {
+            return Err(fault);
         }
-    }
-
-    /// Adds the commands for an act, and updates the state.
-    fn put_act(
-        &mut self,
-        alloc: Global,
-        out: &mut Design,
-        limit: u32,
-        mode: RefitMode,
-        act: NumberedAct,
-    ) -> Result<(), RefitFault>
-        requires low { 1 ≤ limit }
-        requires high { limit ≤ MAX_STEP }
-        requires place { IsNeedlePoint self.old.place }
-        requires act { IsTrue (is_act_in_range act.act) }
-        requires room { length out.old.commands ≤ MAX_COMMANDS }
-        ensures commands { AddsRefitCommands act.number
-            (commands_of_acts (refitted_act mode limit self.old.loose self.old.place act.act))
-            out.old result out.new }
-        ensures loose { OnOk result (self.new.loose ≡ leaves_thread_loose act.act) }
-        ensures place { OnOk result (self.new.place ≡ needle_position_after self.old.place act.act) }
-        ensures in_range { OnOk result (IsNeedlePoint self.new.place) }
-    {
-        put_refitted(alloc, out, limit, mode, self, act)?;
         self.loose = act.act.is_loose_after();
         self.place = act.act.place_after(self.place);
         Ok(())
     }
 }
 
+/// Adds the commands for an act.
 fn put_refitted(
     alloc: Global,
     out: &mut Design,

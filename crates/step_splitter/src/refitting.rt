@@ -6,6 +6,7 @@ ghost use Rattle.design_model.specs.Commands.{is_command_in_range};
 ghost use Rattle.step_splitter.specs.declared.segment.TheConstants.{MAX_STEP};
 ghost use Rattle.step_splitter.specs.Refits.{MeetsRefitGoal, Refits, refitted_acts};
 ghost use Rattle.step_splitter.specs.RefitSteps.{RefitsAll};
+ghost use Rattle.step_splitter.specs.declared.refitting.RefitFault.TheVariants as fault;
 
 use crate::refit_state::RefitState;
 use design_model::{ActScanner, Command, Design};
@@ -29,16 +30,6 @@ pub enum RefitFault {
     TooMany { number: u32 },
     /// Memory could not be allocated.
     Memory,
-}
-
-impl From<Memory> for RefitFault {
-    ghost use Rattle.step_splitter.specs.declared.refitting.RefitFault.TheVariants as fault;
-
-    ghost from_gives = { λ _ e. e ≡ fault.Memory };
-
-    fn from(_error: Memory) -> RefitFault {
-        RefitFault::Memory
-    }
 }
 
 /// Returns a design with the same label and threads, whose acts are changed in the given mode. The limit is
@@ -89,4 +80,12 @@ fn refit_commands(
         }
     }
     Ok(())
+}
+
+impl From<Memory> for RefitFault {
+    ghost from_gives = { λ _ e. e ≡ fault.Memory };
+
+    fn from(_error: Memory) -> RefitFault {
+        RefitFault::Memory
+    }
 }
