@@ -11,15 +11,16 @@ use Rattle.line_graph.specs.PieceWalks.{pass_end, piece_cost, pass_start, walk_c
 use Rattle.double_run.specs.declared.legs.DirectedLeg.{DirectedLeg}
 use Rattle.double_run.specs.declared.traversal.Traversal.{Traversal}
 use Rattle.double_run.specs.DoubleWalks.{IsDouble}
-use Rattle.double_run.specs.Cursors.{AreTraversalTables}
+use Rattle.euler_tour.specs.Cursors.{AreCursors, SkipsEnd}
+use Rattle.euler_tour.specs.declared.line_ends.LineEnds.{LineEnds}
 use Rattle.euler_tour.specs.LineEnds.{AreBefore, AreLast}
-use Rattle.double_run.specs.Traversals.{IsTraversal, HasTraversalTables, IsTraversalInvariant, KeepsTraversal, IsLegFrom, legs_are_below, edge_at, is_exhausted, leg_pass, leg_return, root_junction}
+use Rattle.double_run.specs.Traversals.{IsTraversal, HasTraversalTables, IsTraversalInvariant, KeepsTraversal, WasPassed, IsLegFrom, legs_are_below, edge_at, is_exhausted, leg_pass, leg_return, root_junction}
 use Rattle.double_run.specs.TraversalSteps.{GoesOut, IsTraversalDone, IsTraversalStep, remaining_count}
-use Rattle.double_run.proofs.CursorLemmas.{back_ready, begins_ready, marked_at, marked_stays, out_ready, over_less, over_ready}
+use Rattle.double_run.proofs.CursorLemmas.{marked_at, marked_stays, out_ready}
 use Rattle.double_run.proofs.HomeLemmas.{begins_kept, home_cost, home_double}
 use Rattle.double_run.proofs.MetLemmas.{found_at}
 use Rattle.double_run.proofs.OutingLemmas.{back_kept, back_less, out_kept, out_less, there_push}
-use Rattle.euler_tour.proofs.CallerLemmas.{ends_are_below}
+use Rattle.euler_tour.proofs.CallerLemmas.{cursors_begin, cursors_skip, cursors_stay, ends_are_below, skipped_less}
 use Rattle.line_graph.proofs.CallerLemmas.{begins_on, edge_there}
 
 -- the first line begins at the root, which is a junction
@@ -47,11 +48,12 @@ begins_all p walk out passed edges is_walk is_out is_passed are =
 -- and it has its chains
 pub begins_chains : (p : PieceValue) (passed : List Bool) (last before : List ℕ) (edges : List Edge) → IsValidPiece p → edges ≡ p.edges
     → length last ≡ length p.junctions → length before ≡ 2 * length p.edges → AreBefore p.edges before
-    → AreLast p.edges (2 * length p.edges) last
-    → AreTraversalTables p.edges (length p.junctions) passed last before (slice_index_or edges 0 (record { a = 0; b = 0; cost = 0 })).a
+    → AreLast p.edges (2 * length p.edges) last → AreCursors p.edges (length p.junctions) (WasPassed passed) last before
+    (slice_index_or edges 0 (record { a = 0; b = 0; cost = 0 })).a
 begins_chains p passed last before edges kept are is_last is_before linked ends =
     rw (are, root_at p.edges)
-    (begins_ready p.edges (length p.junctions) passed last before (root_junction p.edges) is_last is_before (root_below p kept) linked ends)
+    (cursors_begin p.edges (length p.junctions) (WasPassed passed) last before (root_junction p.edges) is_last is_before
+    (root_below p kept) linked ends)
 
 -- a step out
 pub out_step : (p : PieceValue) (old : Traversal) (walk : List Pass) (out : Vec DirectedLeg Global) (passed : Vec Bool Global) (at : ℕ)
@@ -88,26 +90,19 @@ pub set_off : (p : PieceValue) (old new : Traversal) → old.walk ≡ [] → Goe
 set_off p old new blank out = grind (arith, nat_tests)
 
 -- a skipped end
-pub over_step : (p : PieceValue) (old : Traversal) (last : Vec ℕ Global) (end : ℕ) → KeepsTraversal p old → HasTraversalTables p old
-    → get_or old.ends.last.items old.at 0 ≡ end + 1 → get_or old.passed.items (end / 2) false ≡ true
-    → last.items ≡ set old.ends.last.items old.at (get_or old.ends.before.items end 0)
-    → IsTraversalStep p old (record {
-      walk = old.walk;
-      ends = record { last = last; before = old.ends.before };
-      out = old.out;
-      passed = old.passed;
-      at = old.at;
-    })
-over_step p old last end keeps ready here gone is_last = record {
+pub over_step : (p : PieceValue) (old : Traversal) (ends : LineEnds) (end : ℕ) → KeepsTraversal p old → HasTraversalTables p old
+    → get_or old.ends.last.items old.at 0 ≡ end + 1 → get_or old.passed.items (end / 2) false ≡ true → SkipsEnd old.at end old.ends ends
+    → IsTraversalStep p old (record { walk = old.walk; ends = ends; out = old.out; passed = old.passed; at = old.at })
+over_step p old ends end keeps ready here gone skips = record {
   on = record {
     keeps = keeps;
-    ready = over_ready p.edges (length p.junctions) old.passed.items old.ends.last.items last.items old.ends.before.items old.at end is_last
-        here gone ready;
+    ready = rw skips.before (cursors_skip p.edges (length p.junctions) (WasPassed old.passed.items) old.ends.last.items
+        old.ends.before.items old.at ends.last.items end skips.last here gone ready);
     begins = λ h. h;
     first = λ h. h;
   };
-  less = over_less p.edges (length p.junctions) old.passed.items old.ends.last.items last.items old.ends.before.items old.at end
-      (2 * remaining_count old.passed.items + length old.out.items) is_last here ready;
+  less = skipped_less p.edges (length p.junctions) (WasPassed old.passed.items) old.ends.last.items old.ends.before.items old.at
+      (2 * remaining_count old.passed.items + length old.out.items) ends.last.items end skips.last here ready;
 }
 
 -- the edge of the last leg
@@ -132,8 +127,9 @@ back_step p old walk out at leg kept keeps ready spent is_out is_walk is_at = re
   on = record {
     keeps = rw (is_walk, is_next) (back_kept p.lines p.edges old.walk out.items old.passed.items (root_junction p.edges) old.at leg
         e.0 kept.rising kept.beside e.1 spent (rw is_out at keeps));
-    ready = rw is_next (back_ready p.edges (length p.junctions) old.passed.items old.ends.last.items old.ends.before.items old.at
-        (pass_start e.0 leg.back) (leg_below (length p.junctions) p.edges leg.place e.0 leg.back kept.ends e.1).0 ready);
+    ready = rw is_next (cursors_stay p.edges (length p.junctions) (WasPassed old.passed.items) old.ends.last.items old.ends.before.items
+        old.at (WasPassed old.passed.items) (pass_start e.0 leg.back) (λ k was. was)
+        (leg_below (length p.junctions) p.edges leg.place e.0 leg.back kept.ends e.1).0 ready);
     begins = λ h. rw is_walk (begins_on (first_line p.lines) old.walk (leg_return p.lines leg ∷ []) h);
     first = λ h. h;
   };

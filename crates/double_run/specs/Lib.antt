@@ -1,6 +1,5 @@
 -- Read this one first: what a double walk is.
 pub mod DoubleWalks
--- The modules of the algorithm: cursors over line ends, and the traversal.
-pub mod Cursors
+-- The modules of the algorithm: the traversal and its steps.
 pub mod Traversals
 pub mod TraversalSteps

@@ -1,5 +1,5 @@
 -- The steps of a traversal.
-use Rattle.std.specs.Prelude.{◌≡◌, ℕ, ◌+◌, ◌*◌, ◌/◌, ◌<◌, Bool, true, false, not, List, [], ◌∷◌, ◌++◌, Result, Ok, Err, length, get_or, sum_by}
+use Rattle.std.specs.Prelude.{◌≡◌, ℕ, ◌+◌, ◌*◌, ◌<◌, Bool, true, false, not, List, [], ◌∷◌, ◌++◌, Result, Ok, Err, length, get_or, sum_by}
 use Rattle.lists_and_numbers.specs.declared.memory.Memory.{Memory}
 use Rattle.line_graph.specs.PieceGraphs.{PieceValue, one_if}
 use Rattle.line_graph.specs.Pieces.{first_line}
@@ -35,12 +35,6 @@ pub record GoesOut (p : PieceValue) (old new : Traversal) (leg : DirectedLeg) : 
   pub made : IsTraversalStep p old new
   pub walk : new.walk ≡ old.walk ++ leg_pass p.lines leg ∷ []
   pub marked : get_or new.passed.items leg.place false ≡ true
-
--- The cursor moves past an end whose line was passed, for any piece.
-abbrev pub SkipsTraversalEnd : ℕ → Traversal → Traversal → Type 0
-SkipsTraversalEnd end old new = (p : PieceValue) → KeepsTraversal p old → HasTraversalTables p old
-    → get_or old.ends.last.items old.at 0 ≡ end + 1
-    → get_or old.passed.items (end / 2) false ≡ true → IsTraversalStep p old new
 
 -- A traversal is finished: the stack is empty, and the junction is exhausted.
 pub record IsTraversalDone (p : PieceValue) (old new : Traversal) : Type 0 where

@@ -9,7 +9,7 @@ use Rattle.line_graph.specs.PieceWalks.{BeginsWith, edge_cost, pass_sum, pass_st
 use Rattle.double_run.specs.declared.legs.DirectedLeg.{DirectedLeg}
 use Rattle.double_run.specs.declared.traversal.Traversal.{Traversal}
 use Rattle.double_run.specs.DoubleWalks.{directed_passes}
-use Rattle.double_run.specs.Cursors.{AreTraversalTables}
+use Rattle.euler_tour.specs.Cursors.{AreCursors}
 
 -- The pass along a leg.
 abbrev pub leg_pass : List ℕ → DirectedLeg → Pass
@@ -27,6 +27,10 @@ return_walk lines (leg ∷ out) = return_walk lines out ++ leg_return lines leg 
 -- An edge has an end at a junction.
 abbrev pub has_end_at : Edge → ℕ → Bool
 has_end_at e j = e.a == j || e.b == j
+
+-- The line at an index was passed.
+abbrev pub WasPassed : List Bool → ℕ → Type 0
+WasPassed passed k = get_or passed k false ≡ true
 
 -- A junction was visited: some passed line ends there.
 abbrev pub is_visited : List Bool → List Edge → ℕ → Bool
@@ -103,7 +107,7 @@ KeepsTraversal p o = IsTraversalInvariant p.lines p.edges o.walk o.out.items o.p
 -- The linked lists and cursors of a traversal fit the piece.
 abbrev pub HasTraversalTables : PieceValue → Traversal → Type 0
 HasTraversalTables p o =
-    AreTraversalTables p.edges (length p.junctions) o.passed.items o.ends.last.items
+    AreCursors p.edges (length p.junctions) (WasPassed o.passed.items) o.ends.last.items
     o.ends.before.items o.at
 
 -- A traversal over a piece that began with the first line, forwards.

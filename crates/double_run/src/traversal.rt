@@ -1,10 +1,10 @@
 ghost use Rattle.std.specs.Prelude.{◌≡◌, ◌<◌, [], IfOk, OnOk, false, true, length};
 ghost use Rattle.double_run.specs.Traversals.{IsTraversal, HasTraversalTables, KeepsTraversal, IsLegFrom, is_exhausted};
-ghost use Rattle.double_run.specs.TraversalSteps.{GoesOut, SkipsTraversalEnd, StepsTraversal};
+ghost use Rattle.double_run.specs.TraversalSteps.{GoesOut, StepsTraversal};
 ghost use Rattle.line_graph.specs.PiecesOfDrawings.{graph_of};
 
 use crate::legs::{DirectedLeg, end_of_leg, leg_from, start_of_leg};
-use euler_tour::{LineEnds, chain, put_number};
+use euler_tour::{LineEnds, chain, skip_end};
 use line_graph::{Piece, Walk};
 use lists_and_numbers::Memory;
 use std::alloc::Global;
@@ -46,7 +46,7 @@ pub fn step(o: &mut Traversal, p: &Piece) -> Result<bool, Memory>
     }
     let leg = leg_from(number - 1);
     if o.passed[leg.place as usize] {
-        skip_end(o, number - 1);
+        skip_end(&mut o.ends, o.at, number - 1);
         return Ok(true);
     }
     go_out(o, p, leg)?;
@@ -82,15 +82,6 @@ fn go_out(o: &mut Traversal, p: &Piece, leg: DirectedLeg) -> Result<(), Memory>
     o.passed[leg.place as usize] = true;
     o.at = end_of_leg(p.edges.as_slice()[leg.place as usize], leg.back);
     Ok(())
-}
-
-/// Skips an end whose line was passed.
-fn skip_end(o: &mut Traversal, end: u32)
-    requires junction { o.old.at < length o.old.ends.last.items }
-    requires end { end < length o.old.ends.before.items }
-    ensures { SkipsTraversalEnd end o.old o.new }
-{
-    put_number(&mut o.ends.last, o.at, o.ends.before[end as usize]);
 }
 
 /// Comes back along the last leg of the stack, if there is one.

@@ -1,5 +1,5 @@
 -- Each step of a partial tour leads to a partial tour.
-use Rattle.std.proofs.Common.{◌≡◌, ◌≤◌, ◌<◌, ℕ, ◌+◌, ◌*◌, ◌/◌, List, [], ◌∷◌, ◌++◌, length, get_or, set, slice_get, sum_by, false, Option, None, Some, Vec, Global, arith, ap, ◌∙◌, subst, sym}
+use Rattle.std.proofs.Common.{◌≡◌, ◌≤◌, ℕ, ◌+◌, ◌*◌, ◌/◌, List, [], ◌∷◌, ◌++◌, length, get_or, slice_get, sum_by, false, Option, None, Some, Vec, Global, arith, ap, ◌∙◌, subst, sym}
 use Rattle.line_graph.specs.declared.edge.Edge.{Edge}
 use Rattle.line_graph.specs.declared.pass.Pass.{Pass}
 use Rattle.line_graph.specs.ValidPieces.{IsValidPiece}
@@ -8,15 +8,16 @@ use Rattle.line_graph.specs.Pieces.{first_line}
 use Rattle.euler_tour.specs.declared.line_ends.LineEnds.{LineEnds}
 use Rattle.euler_tour.specs.declared.partial_tour.PartialTour.{PartialTour}
 use Rattle.euler_tour.specs.RemainingLines.{remaining_ends, remaining_sum, decremented_at, one_of, pass_counts}
+use Rattle.euler_tour.specs.Cursors.{SkipsEnd}
 use Rattle.euler_tour.specs.LineEnds.{AreBefore, AreLast, junction_across, junction_at, pass_to}
 use Rattle.euler_tour.specs.Tours.{CanPass}
 use Rattle.euler_tour.specs.PartialTours.{BeginsTour, IsEmptyTour, HasTourTables, IsTourStep, first_edge_start, first_edge_end, tour_end, tour_start, or_first_start}
-use Rattle.euler_tour.proofs.CursorLemmas.{back_ready, begins_ready, before_less, out_ready, over_ready}
+use Rattle.euler_tour.proofs.CursorLemmas.{back_ready, begins_ready, out_ready, over_ready}
 use Rattle.euler_tour.proofs.EndLemmas.{across_below, junction_below}
 use Rattle.euler_tour.proofs.LeftLemmas.{times_at, times_length}
 use Rattle.euler_tour.proofs.TourLemmas.{begins_with, first_edge, goal_below, none_said}
-use Rattle.euler_tour.proofs.TripLemmas.{back_kept, back_less, first_kept, out_kept, out_less, over_less}
-use Rattle.euler_tour.proofs.CallerLemmas.{end_within}
+use Rattle.euler_tour.proofs.TripLemmas.{back_kept, back_less, first_kept, out_kept, out_less}
+use Rattle.euler_tour.proofs.CallerLemmas.{end_within, skipped_less}
 use Rattle.line_graph.proofs.CallerLemmas.{begins_on, first_is}
 
 -- the sum of the cursors of a partial tour
@@ -41,7 +42,7 @@ out_step p t left out end next kept ready here some is_left is_out beyond = reco
 }
   where
     there : junction_at p.edges end ≡ Some t.at
-    there = (ready.cursors t.at ready.below).there end here
+    there = (ready.chains.cursors t.at ready.chains.below).there end here
 
 -- a step back to an end, and home along its line
 pub back_step : (p : PieceValue) (t : PartialTour) (out : Vec ℕ Global) (home : List Pass) (end from : ℕ) → IsValidPiece p
@@ -62,24 +63,16 @@ back_step p t out home end from kept ready stuck is_out is_home starts = record 
 }
 
 -- an end whose line doesn't remain is skipped
-pub over_step : (p : PieceValue) (t : PartialTour) (last : Vec ℕ Global) (end : ℕ) → HasTourTables p t
+pub over_step : (p : PieceValue) (t : PartialTour) (ends : LineEnds) (end : ℕ) → HasTourTables p t
     → get_or t.ends.last.items t.at 0 ≡ end + 1
-    → get_or t.left.items (end / 2) 0 ≡ 0 → last.items ≡ set t.ends.last.items t.at (get_or t.ends.before.items end 0)
-    → IsTourStep p t (record {
-      left = t.left;
-      ends = record { last = last; before = t.ends.before };
-      out = t.out;
-      home = t.home;
-      at = t.at;
-      tail = t.tail;
-    })
-over_step p t last end ready here none is_last = record {
-  ready = over_ready p.edges (length p.junctions) t.left.items t.ends.last.items last.items t.ends.before.items t.out.items t.at end is_last
-      here none ready;
+    → get_or t.left.items (end / 2) 0 ≡ 0 → SkipsEnd t.at end t.ends ends
+    → IsTourStep p t (record { left = t.left; ends = ends; out = t.out; home = t.home; at = t.at; tail = t.tail })
+over_step p t ends end ready here none skips = record {
+  ready = rw skips.before (over_ready p.edges (length p.junctions) t.left.items t.ends.last.items ends.last.items t.ends.before.items
+      t.out.items t.at end skips.last here none ready);
   keeps = λ copies. λ k. record { keeps = k.keeps; begins = k.begins };
-  less = over_less (2 * remaining_sum one_of p.edges t.left.items + length t.out.items) t.ends.last.items last.items t.at end
-      (get_or t.ends.before.items end 0) is_last (subst (λ (n : ℕ). t.at < n) (sym ready.last_beside) ready.below) here
-      (before_less p.edges (length p.junctions) t.left.items t.ends.last.items t.ends.before.items t.out.items t.at end here ready);
+  less = skipped_less p.edges (length p.junctions) (λ k. get_or t.left.items k 0 ≡ 0) t.ends.last.items t.ends.before.items t.at
+      (2 * remaining_sum one_of p.edges t.left.items + length t.out.items) ends.last.items end skips.last here ready.chains;
 }
 
 -- the partial tour before its first step

@@ -1,8 +1,7 @@
 -- The invariant of a partial tour, at each step.
 use Rattle.std.proofs.lemmas.Bool.Decides.{nat_tests}
-use Rattle.std.proofs.Common.{◌≡◌, ◌≤◌, ◌<◌, inl, inr, ℕ, zero, suc, ◌+◌, ◌*◌, ◌/◌, ◌%◌, ◌==◌, Bool, true, false, not, List, [], ◌∷◌, ◌++◌, map, length, get_or, set, slice_get, sum_by, Option, Some, None, arith, refl, sym, ◌∙◌, ap, subst, length-append}
+use Rattle.std.proofs.Common.{◌≡◌, ◌≤◌, ◌<◌, inl, inr, ℕ, zero, suc, ◌+◌, ◌*◌, ◌/◌, ◌%◌, ◌==◌, Bool, true, false, not, List, [], ◌∷◌, ◌++◌, map, length, get_or, slice_get, Option, Some, None, arith, refl, sym, ◌∙◌, ap, subst, length-append}
 use Rattle.std.proofs.lemmas.List.{map-append}
-use Rattle.std.proofs.lemmas.List.Sums.{sum_by-set}
 use Rattle.std.proofs.lemmas.Option.{slice_get_within}
 use Rattle.line_graph.specs.declared.edge.Edge.{Edge}
 use Rattle.line_graph.specs.declared.pass.Pass.{Pass}
@@ -212,12 +211,6 @@ pub back_less : (u sum : ℕ) (out xs : List ℕ) (end : ℕ) → out ≡ xs ++ 
 back_less u sum out xs end is = grind (arith, nat_tests, length-append)
 
 -- ---- a skipped end
-
--- the rank decreases
-pub over_less : (u : ℕ) (last last2 : List ℕ) (at end number : ℕ) → last2 ≡ set last at number → at < length last
-    → get_or last at 0 ≡ end + 1
-    → number < end + 1 → u + sum_by (λ (n : ℕ). n) last2 < u + sum_by (λ (n : ℕ). n) last
-over_less u last last2 at end number is there here low = grind (arith, nat_tests, sum_by-set (λ (n : ℕ). n) last at number 0 there)
 
 -- ---- the beginning
 

@@ -1,6 +1,6 @@
 -- Partial tours: the state of Hierholzer's algorithm. The way out is its stack, and the walk home
 -- is the tour.
-use Rattle.std.specs.Prelude.{◌≡◌, ℕ, ◌+◌, ◌*◌, ◌/◌, ◌%◌, ◌<◌, ◌≤◌, ◌==◌, ◌⊎◌, Bool, true, false, List, [], ◌∷◌, Option, Some, None, Result, Ok, Err, length, map, get_or, slice_get, sum_by}
+use Rattle.std.specs.Prelude.{◌≡◌, ℕ, ◌+◌, ◌*◌, ◌%◌, ◌<◌, ◌≤◌, ◌==◌, ◌⊎◌, Bool, true, false, List, [], ◌∷◌, Option, Some, None, Result, Ok, Err, length, map, get_or, slice_get, sum_by}
 use Rattle.lists_and_numbers.specs.declared.memory.Memory.{Memory}
 use Rattle.line_graph.specs.declared.edge.Edge.{Edge}
 use Rattle.line_graph.specs.declared.pass.Pass.{Pass}
@@ -8,8 +8,9 @@ use Rattle.line_graph.specs.ValidPieces.{all_below}
 use Rattle.line_graph.specs.PieceGraphs.{PieceValue, one_if, given_start, given_end}
 use Rattle.line_graph.specs.Pieces.{first_line}
 use Rattle.line_graph.specs.PieceWalks.{BeginsWith, pass_sum, passes, walk_end_from}
-use Rattle.euler_tour.specs.RemainingLines.{IsTourCursor, remaining_ends, remaining_sum, one_of, pass_counts}
-use Rattle.euler_tour.specs.LineEnds.{AreBefore, pass_from}
+use Rattle.euler_tour.specs.RemainingLines.{remaining_ends, remaining_sum, one_of, pass_counts}
+use Rattle.euler_tour.specs.Cursors.{AreCursors}
+use Rattle.euler_tour.specs.LineEnds.{pass_from}
 use Rattle.euler_tour.specs.declared.partial_tour.PartialTour.{PartialTour}
 
 -- The junction where the first line starts.
@@ -75,12 +76,8 @@ pub record IsPartialTour (p : PieceValue) (copies : List ℕ) (t : PartialTour) 
 pub record AreTourTables (edges : List Edge) (count : ℕ) (left last before out : List ℕ) (at : ℕ)
     : Type 0 where
   pub left_beside : length left ≡ length edges
-  pub last_beside : length last ≡ count
-  pub before_beside : length before ≡ 2 * length edges
-  pub below : at < count
   pub ends : all_below (2 * length edges) out ≡ true
-  pub linked : AreBefore edges before
-  pub cursors : (j : ℕ) → j < count → IsTourCursor edges left j (get_or last j 0)
+  pub chains : AreCursors edges count (λ k. get_or left k 0 ≡ 0) last before at
 
 -- The tables of a partial tour fit the piece.
 abbrev pub HasTourTables : PieceValue → PartialTour → Type 0
@@ -128,9 +125,3 @@ abbrev pub StepsTour : PieceValue → PartialTour → PartialTour → Result Boo
 StepsTour p old new (Ok true) = IsTourStep p old new
 StepsTour p old new (Ok false) = IsTourFinished p old new
 StepsTour p old new (Err e) = Unit {0}
-
--- The cursor moves past an end whose line doesn't remain, for any piece.
-abbrev pub SkipsTourEnd : ℕ → PartialTour → PartialTour → Type 0
-SkipsTourEnd end old new = (p : PieceValue) → HasTourTables p old
-    → get_or old.ends.last.items old.at 0 ≡ end + 1 → get_or old.left.items (end / 2) 0 ≡ 0
-    → IsTourStep p old new

@@ -1,8 +1,7 @@
 -- The passes of lines that remain: a list of numbers, one for each edge.
-use Rattle.std.specs.Prelude.{◌≡◌, ℕ, zero, suc, ◌+◌, ◌-◌, ◌*◌, ◌/◌, ◌≤◌, ◌==◌, List, [], ◌∷◌, Some, length, get_or}
+use Rattle.std.specs.Prelude.{ℕ, zero, suc, ◌+◌, ◌-◌, ◌*◌, ◌==◌, List, [], ◌∷◌}
 use Rattle.line_graph.specs.declared.edge.Edge.{Edge}
 use Rattle.line_graph.specs.PieceGraphs.{one_if}
-use Rattle.euler_tour.specs.LineEnds.{junction_at}
 
 -- The number of passes of each line: one, and one more for each of its copies.
 abbrev pub pass_counts : List ℕ → List ℕ
@@ -32,10 +31,3 @@ abbrev pub decremented_at : List ℕ → ℕ → List ℕ
 decremented_at [] place = []
 decremented_at (n ∷ left) zero = (n - 1) ∷ left
 decremented_at (n ∷ left) (suc place) = n ∷ decremented_at left place
-
--- A cursor at a junction: the number of an end there, after which no end there has a line that
--- remains.
-pub record IsTourCursor (edges : List Edge) (left : List ℕ) (j number : ℕ) : Type 0 where
-  pub within : number ≤ 2 * length edges
-  pub there : (end : ℕ) → number ≡ end + 1 → junction_at edges end ≡ Some j
-  pub over : (end : ℕ) → number ≤ end → junction_at edges end ≡ Some j → get_or left (end / 2) 0 ≡ 0

@@ -8,4 +8,4 @@ mod partial_tour;
 mod remaining_lines;
 
 pub use closed_walk::tour;
-pub use line_ends::{LineEnds, chain, put_number};
+pub use line_ends::{LineEnds, chain, skip_end};

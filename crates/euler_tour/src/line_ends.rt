@@ -1,4 +1,5 @@
 ghost use Rattle.std.specs.Prelude.{◌≡◌, ◌+◌, ◌*◌, ◌/◌, ◌<◌, true, Some, length, set, IfOk, OnOk};
+ghost use Rattle.euler_tour.specs.Cursors.{SkipsEnd};
 ghost use Rattle.euler_tour.specs.LineEnds.{AddsEnd, junction_at, junction_across, pass_to, AreBefore, AreLast};
 ghost use Rattle.line_graph.specs.ValidPieces.{ends_below};
 ghost use Rattle.line_graph.specs.PieceGraphs.{is_odd as odd};
@@ -36,8 +37,18 @@ pub fn chain(alloc: Global, edges: &[Edge], junctions: usize) -> Result<LineEnds
     Ok(ends)
 }
 
+/// Moves the cursor of a junction from an end to the one before it.
+pub fn skip_end(ends: &mut LineEnds, junction: u32, end: u32)
+    requires junction { junction < length ends.old.last.items }
+    requires end { end < length ends.old.before.items }
+    ensures { SkipsEnd junction end ends.old ends.new }
+{
+    let number = ends.before[end as usize];
+    put_number(&mut ends.last, junction, number);
+}
+
 /// Sets the number of the last end at a junction.
-pub fn put_number(last: &mut Vec<u32>, junction: u32, number: u32)
+fn put_number(last: &mut Vec<u32>, junction: u32, number: u32)
     requires { junction < length last.old.items }
     ensures { last.new.items ≡ set last.old.items junction number }
 {

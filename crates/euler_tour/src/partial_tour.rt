@@ -1,13 +1,13 @@
 ghost use Rattle.std.specs.Prelude.{◌≡◌, ◌+◌, ◌/◌, ◌<◌, ◌≤◌, false, None, length, get_or, IfOk, OnOk};
 ghost use Rattle.euler_tour.specs.RemainingLines.{remaining_ends};
 ghost use Rattle.euler_tour.specs.Tours.{CanPass};
-ghost use Rattle.euler_tour.specs.PartialTours.{BeginsTour, IsEmptyTour, HasTourTables, IsTourStep, IsTourInvariantOf, IsPartialTour, SkipsTourEnd, StepsTour, first_edge_end, tour_end, tour_start, or_first_start};
+ghost use Rattle.euler_tour.specs.PartialTours.{BeginsTour, IsEmptyTour, HasTourTables, IsTourStep, IsTourInvariantOf, IsPartialTour, StepsTour, first_edge_end, tour_end, tour_start, or_first_start};
 ghost use Rattle.line_graph.specs.PiecesOfDrawings.{graph_of};
 ghost use Rattle.line_graph.specs.PieceGraphs.{given_start};
 ghost use Rattle.line_graph.specs.Pieces.{first_line};
 
 use crate::line_ends::{
-    LineEnds, chain, junction_beyond, junction_of, line_index_of, pass_back, put_number,
+    LineEnds, chain, junction_beyond, junction_of, line_index_of, pass_back, skip_end,
 };
 use crate::remaining_lines::{all_times, take_one};
 use line_graph::{Edge, Pass, Piece, Walk};
@@ -53,7 +53,7 @@ pub fn step(t: &mut PartialTour, p: &Piece) -> Result<bool, Memory>
     }
     let end = number - 1;
     if t.left[line_index_of(end)] == 0 {
-        skip_end(t, end);
+        skip_end(&mut t.ends, t.at, end);
         return Ok(true);
     }
     go_out(t, p, end)?;
@@ -102,15 +102,6 @@ fn go_out(t: &mut PartialTour, p: &Piece, end: u32) -> Result<(), Memory>
     take_one(&mut t.left, line_index_of(end));
     t.at = junction_beyond(p.edges.as_slice(), end);
     Ok(())
-}
-
-/// Skips an end whose line doesn't remain.
-fn skip_end(t: &mut PartialTour, end: u32)
-    requires junction { t.old.at < length t.old.ends.last.items }
-    requires end { end < length t.old.ends.before.items }
-    ensures { SkipsTourEnd end t.old t.new }
-{
-    put_number(&mut t.ends.last, t.at, t.ends.before[end as usize]);
 }
 
 /// Pops the last pass, and appends it to the walk home, reversed.

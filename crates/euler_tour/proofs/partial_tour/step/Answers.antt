@@ -1,27 +1,27 @@
-use Rattle.std.proofs.Common.{ℕ, ◌∙◌, subst, sym}
+use Rattle.std.proofs.Common.{◌∙◌, arith, sym}
 use Rattle.std.proofs.lemmas.Grind.{get_or_default_zero}
 use Rattle.line_graph.specs.PiecesOfDrawings.{graph_of}
-use Rattle.euler_tour.specs.RemainingLines.{IsTourCursor}
-use Rattle.euler_tour.proofs.CursorLemmas.{cursor_none, cursor_place, read_cursor}
+use Rattle.euler_tour.proofs.CallerLemmas.{cursor_read, end_low}
+use Rattle.euler_tour.proofs.CursorLemmas.{none_remains}
+use Rattle.euler_tour.proofs.StepLemmas.{over_step}
 use Rattle.euler_tour.proofs.partial_tour.step.Goals as goal
 use Rattle.lists_and_numbers.proofs.CallerLemmas.{one_before}
 
 pub go_back-requires-clause-stuck : goal.go_back-requires-clause-stuck
 go_back-requires-clause-stuck c =
-    let t = c.args.t.now in
-    let edges = c.args.p.now.edges in
-    let number = read_cursor edges _ t.left.items t.ends.last.items t.ends.before.items t.out.items t.at _ c.index-number.ensures
-    c.requires in
-    cursor_none edges t.left.items t.at
-    (subst (λ (n : ℕ). IsTourCursor edges t.left.items t.at n) (number ∙ c.if-number-eq0.true) (c.requires.cursors t.at c.requires.below))
+    none_remains _ _ _ _ _ _ _ c.requires
+    (cursor_read _ _ _ _ _ _ _ c.index-number.ensures c.requires.chains ∙ c.if-number-eq0.true)
+
+pub skip_end-requires-clause-end : goal.skip_end-requires-clause-end
+skip_end-requires-clause-end c =
+    let here = cursor_read _ _ _ _ _ _ _ c.index-number.ensures c.requires.chains ∙ one_before _ c.if-number-eq0.false in
+    omega (arith, end_low _ _ _ _ _ _ _ here c.requires.chains, c.requires.chains.before_beside)
 
 pub returns-then-index-eq0 : goal.returns-then-index-eq0
 returns-then-index-eq0 c =
     let t = c.args.t.now in
-    let edges = c.args.p.now.edges in
-    let number = read_cursor edges _ t.left.items t.ends.last.items t.ends.before.items t.out.items t.at _ c.index-number.ensures
-    c.requires in
-    let here = number ∙ one_before _ c.if-number-eq0.false in
-    let place = cursor_place edges _ t.left.items t.ends.last.items t.ends.before.items t.out.items t.at _ here c.requires in
-    let none = sym (rw c.line_index_of.ensures at c.index.ensures ∙ get_or_default_zero t.left.items _ _ place) ∙ c.if-index-eq0.true in
-    c.skip_end.ensures (graph_of c.args.p.now) c.requires here none
+    let here = cursor_read _ _ _ _ _ _ _ c.index-number.ensures c.requires.chains ∙ one_before _ c.if-number-eq0.false in
+    let low = end_low _ _ _ _ _ _ _ here c.requires.chains in
+    let none = sym (rw c.line_index_of.ensures at c.index.ensures
+    ∙ get_or_default_zero t.left.items _ _ (omega (arith, low, c.requires.left_beside))) ∙ c.if-index-eq0.true in
+    over_step (graph_of c.args.p.now) t c.skip_end.new.ends _ c.requires here none c.skip_end.ensures
