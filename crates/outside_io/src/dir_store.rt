@@ -137,7 +137,17 @@ fn read_next<R: Files>(
     ensures { IfOk result (λ count. count ≤ length buf.new) }
 {
     settle(rt, begun)?;
-    read_from(rt, opened, name, at, buf)
+    if let Some(reading) = opened {
+        if reading.at == at && reading.name.as_slice() == name.as_bytes() {
+            return read_on(reading, buf);
+        }
+    }
+    let mut reading = open_at(rt, name, at)?;
+    let count = read_on(&mut reading, buf)?;
+    if count > 0 {
+        *opened = Some(reading);
+    }
+    Ok(count)
 }
 
 /// Completes a pending file, then begins the named one.
@@ -175,31 +185,6 @@ fn settle<R: Files>(rt: &R, begun: &mut Option<NewFile<R::File>>) -> io::Result<
         Some(new) => new.take_place(rt, &[]),
         None => Ok(()),
     }
-}
-
-/// Continues in the open file if it is at that offset, else opens the file. A file that returned bytes is
-/// kept open.
-fn read_from<R: Files>(
-    rt: &R,
-    opened: &mut Option<OpenedFile<R::File>>,
-    name: &str,
-    at: u64,
-    buf: &mut [u8],
-) -> io::Result<usize>
-    requires { length name.now ≤ MAX_NAME }
-    ensures { IfOk result (λ count. count ≤ length buf.new) }
-{
-    if let Some(reading) = opened {
-        if reading.at == at && reading.name.as_slice() == name.as_bytes() {
-            return read_on(reading, buf);
-        }
-    }
-    let mut reading = open_at(rt, name, at)?;
-    let count = read_on(&mut reading, buf)?;
-    if count > 0 {
-        *opened = Some(reading);
-    }
-    Ok(count)
 }
 
 /// Reads from the current offset of an open file.

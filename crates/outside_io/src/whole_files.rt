@@ -4,6 +4,7 @@ ghost use Rattle.outside_io.specs.Causes.{ReadsWholeFile, WriteCause, get_is_out
 ghost use Rattle.outside_io.specs.Counts.{IsFaultless};
 ghost use Rattle.outside_io.specs.FileParts.{ReadsNextPart};
 ghost use Rattle.outside_io.specs.Files.{ChangesOnlyFile, FileHolds, IsFileName, WhereVisible};
+ghost use Rattle.outside_io.specs.declared.whole_files.GetFault.TheVariants as fault;
 
 use crate::limits::MAX_FILE;
 use crate::store::{Failed, ReadStop, Store};
@@ -27,8 +28,6 @@ pub enum GetFault {
 }
 
 impl From<Memory> for GetFault {
-    ghost use Rattle.outside_io.specs.declared.whole_files.GetFault.TheVariants as fault;
-
     ghost from_gives = { λ _ e. e ≡ fault.Memory };
 
     fn from(_error: Memory) -> GetFault {
@@ -52,20 +51,6 @@ pub fn read_whole<S: Store>(
     ensures decided { IsFaultless (S.view store.old).faults (S.view store.new).faults →
         WhereVisible (S.view store.old).files
         (λ visible. IsSpecified get_is_out_of_memory (whole_file_result (visible name.now) limit) result) }
-{
-    read_in_order(alloc, store, name, limit)
-}
-
-fn read_in_order<S: Store>(
-    alloc: Global,
-    store: &mut S,
-    name: &str,
-    limit: u64,
-) -> Result<Bytes, GetFault>
-    requires name { IsFileName name.now }
-    requires limit { limit ≤ MAX_FILE }
-    ensures reads { ReadsWholeFile name.now limit (S.view store.old) (S.view store.new) result }
-    ensures same { (S.view store.new).files ≡ (S.view store.old).files }
 {
     let mut bytes = Bytes::new(alloc);
     let mut buffer = [0u8; READ_SIZE];

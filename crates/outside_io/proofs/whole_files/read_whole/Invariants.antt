@@ -1,7 +1,7 @@
 use Rattle.std.proofs.Common.{◌≡◌, ℕ, ◌≤◌, List, Some, ◌+◌, ◌-◌, length, take}
 use Rattle.outside_io.specs.Causes.{HasNoNewFault}
 use Rattle.outside_io.specs.FileParts.{IsFilePrefix}
-use Rattle.outside_io.proofs.whole_files.read_in_order.Given as goal
+use Rattle.outside_io.proofs.whole_files.read_whole.Given as goal
 
 -- The bytes read so far are a prefix of the file, if it is visible.
 abbrev pub invariant-loop-bytes : goal.invariant-loop-bytes
