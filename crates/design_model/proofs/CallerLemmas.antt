@@ -18,6 +18,10 @@ use Rattle.design_model.specs.declared.point.Point.{Point}
 pub same_is : (p q : Point) → is_same_point p q ≡ true → p ≡ q
 same_is p q found = grind (arith, nat_tests, and_parts, ap₂)
 
+-- two points are the same either way
+pub same_back : (p q : Point) → is_same_point p q ≡ is_same_point q p
+same_back p q = grind (arith, nat_tests)
+
 pub point_itself : (p : Point) → is_same_point p p ≡ true
 point_itself p = and_from (int_eq p.x p.x) (int_eq p.y p.y) ((Decides-int_eq p.x p.x).1 refl) ((Decides-int_eq p.y p.y).1 refl)
 

@@ -2,6 +2,7 @@ ghost use Rattle.std.specs.Prelude.{◌≡◌, ◌<◌, ◌≤◌, ◌∷◌, �
 ghost use Rattle.std.specs.List.{list_all};
 ghost use Rattle.design_model.specs.Commands.{is_command_in_range, command_with_point, command_accepts_point};
 ghost use Rattle.design_model.specs.Labels.{IsLabel};
+ghost use Rattle.design_model.specs.declared.design.ModelFault.TheVariants as fault;
 
 use crate::command::Command;
 use crate::point::Point;
@@ -28,16 +29,6 @@ pub enum ModelFault {
     TooMany,
     /// Out of memory.
     Memory,
-}
-
-impl<T: Drop> From<AllocFailed<T>> for ModelFault {
-    ghost use Rattle.design_model.specs.declared.design.ModelFault.TheVariants as fault;
-
-    ghost from_gives = { λ _ e. e ≡ fault.Memory };
-
-    fn from(_error: AllocFailed<T>) -> ModelFault {
-        ModelFault::Memory
-    }
 }
 
 /// An embroidery design: a label, the thread numbers of the first blocks, and the commands.
@@ -199,4 +190,12 @@ fn move_one(commands: &mut Vec<Command>, index: usize, point: Point)
 {
     let command = commands[index];
     commands[index] = command.moved_to(point);
+}
+
+impl<T: Drop> From<AllocFailed<T>> for ModelFault {
+    ghost from_gives = { λ _ e. e ≡ fault.Memory };
+
+    fn from(_error: AllocFailed<T>) -> ModelFault {
+        ModelFault::Memory
+    }
 }
