@@ -1,14 +1,17 @@
 -- Lemmas that this crate and those above cite.
-use Rattle.std.proofs.Common.{AllPairs, List, None, Option, Some, [], ap, arith, false, get_or, length, map, nat_lt, refl, replicate, slice_get, subst, suc, sum_by, sym, true, zero, ℕ, ◌&&◌, ◌*◌, ◌++◌, ◌+◌, ◌-◌, ◌<◌, ◌==◌, ◌∷◌, ◌≡◌, ◌≤◌}
+use mathlib.Core.List.{reverse_aux}
+use Rattle.std.proofs.Common.{All, AllPairs, List, None, Option, Some, [], ap, arith, false, get_or, length, map, nat_lt, refl, replicate, slice_get, subst, suc, sum_by, sym, true, zero, ℕ, ◌&&◌, ◌*◌, ◌++◌, ◌+◌, ◌-◌, ◌<◌, ◌==◌, ◌∷◌, ◌≡◌, ◌≤◌}
 use Rattle.std.proofs.lemmas.Bool.{and_parts, ltb-true}
 use Rattle.std.proofs.lemmas.Bool.Decides.{nat_tests}
 use Rattle.std.proofs.lemmas.List.{length-append, length-map, length-replicate}
+use Rattle.std.proofs.lemmas.List.Elements.{All-cons, All-head, All-tail}
 use Rattle.std.proofs.lemmas.List.Kept.{AllPairs-from_increasing}
 use Rattle.std.proofs.lemmas.List.Sums.{sum_by-cons}
 use Rattle.std.specs.List.Sorted.{IsStrictlyIncreasing}
 use Rattle.std.specs.Option.{option_or}
 use Rattle.design_model.specs.declared.command.Command.TheVariants.{Stitch, Stop, Trim}
 use Rattle.design_model.specs.declared.point.Point.{Point}
+use Rattle.step_splitter.specs.Chains.{IsNeedlePoint}
 use Rattle.line_graph.specs.ClosedDegrees.{closing_ends}
 use Rattle.line_graph.specs.PieceGraphs.{PieceValue, closing_edge, degree, degrees_from, is_odd}
 use Rattle.line_graph.specs.PieceWalks.{BeginsWith, after_pass, all_greater, are_same_junction, edge_of, is_strictly_increasing, walk_end_from}
@@ -21,6 +24,12 @@ use Rattle.drawing_model.specs.declared.limits.TheConstants.{MAX_LINES}
 use Rattle.line_graph.specs.declared.pass.Pass.{Pass}
 use Rattle.line_graph.specs.declared.piece.Piece.{Piece}
 use Rattle.lists_and_numbers.proofs.CallerLemmas.{differs_back, eq_self}
+
+-- needle points are in range the other way round
+pub range_back : (xs r : List Point) → All IsNeedlePoint xs → All IsNeedlePoint r → All IsNeedlePoint (reverse_aux xs r)
+range_back [] r forth back = back
+range_back (x ∷ xs) r forth back =
+    range_back xs (x ∷ r) (All-tail IsNeedlePoint x xs forth) (All-cons IsNeedlePoint x r (All-head IsNeedlePoint x xs forth) back)
 
 -- from nowhere no walk leads anywhere
 pub lost : (lines : List ℕ) (edges : List Edge) (walk : List Pass) (to : ℕ) → walk_end_from lines edges None walk ≡ Some to → ⊥

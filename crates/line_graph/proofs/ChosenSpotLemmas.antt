@@ -1,6 +1,6 @@
 -- The choosing of starts and ends: labels decide which spots are connected.
 use Rattle.std.proofs.Common.{◌≡◌, ◌<◌, ◌≤◌, ◌⊎◌, ℕ, ◌==◌, Bool, true, false, ◌||◌, List, [], ◌∷◌, ◌++◌, length, get_or, set, Some, Ok, Err, ◌≢◌, All, arith, refl, sym, ◌∙◌, ap, subst}
-use Rattle.std.proofs.lemmas.Bool.{and_parts, both_ways, or_parts}
+use Rattle.std.proofs.lemmas.Bool.{and_parts, eqb-false, or_parts}
 use Rattle.std.proofs.lemmas.Bool.Decides.{nat_tests}
 use Rattle.std.proofs.lemmas.List.{get_or-set_other, get_or-set_same, get_or_default, length-set}
 use Rattle.std.proofs.lemmas.List.Elements.{All-cons, All-head, All-nil, All-push, All-tail}
@@ -148,14 +148,11 @@ one_chosen lines labels old new spot here apart below spots taken chosen = recor
     turned m n true is = grind (arith, nat_tests)
     turned m n false is = grind (arith, nat_tests)
 
-    differ : (m n : ℕ) → (m == n) ≡ false → m ≡ n → ⊥
-    differ m n test is = both_ways (m == n) test (grind (arith, nat_tests, is))
-
     at_label : (label : ℕ) (t : Bool) → (label == label_at lines labels spot) ≡ t
         → get_or (set old.taken.items (label_at lines labels spot) true) label false
         ≡ list_any (λ (s : Spot). label_at lines labels s == label) (old.spots.items ++ spot ∷ [])
     at_label label true is = grind (arith, nat_tests, same_number label, get_or-set_same, or_true, with_one label true, turned label)
-    at_label label false is = grind (arith, nat_tests, get_or-set_other, differ label, or_false, with_one label false, turned label)
+    at_label label false is = grind (arith, nat_tests, get_or-set_other, eqb-false label, or_false, with_one label false, turned label)
 
 -- a junction that is to be added, whose first line was looked for
 module _ (d : DrawingValue) (labels : List ℕ) (old : ChosenSpots) (spot : Spot) (line : ℕ) (lines : List LineValue)

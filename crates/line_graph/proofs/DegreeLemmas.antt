@@ -1,13 +1,12 @@
 -- Degrees of junctions, counted line end by line end.
 use Rattle.std.proofs.Common.{◌≡◌, ◌<◌, ◌≤◌, ℕ, zero, suc, ◌+◌, ◌*◌, ◌==◌, true, false, List, [], ◌∷◌, ◌++◌, length, get_or, set, take, replicate, nat_lt, ◌&&◌, All, arith, refl, sym, ◌∙◌, ap}
-use Rattle.std.proofs.lemmas.Bool.{and_parts}
+use Rattle.std.proofs.lemmas.Bool.{and_parts, eqb-false}
 use Rattle.std.proofs.lemmas.Bool.Decides.{nat_tests}
 use Rattle.std.proofs.lemmas.List.{get_or-set_other, get_or-set_same, length-take, take_more}
 use Rattle.std.proofs.lemmas.List.Elements.{All-cons, All-nil}
 use Rattle.line_graph.specs.declared.edge.Edge.{Edge}
 use Rattle.line_graph.specs.ValidPieces.{ends_below}
 use Rattle.line_graph.specs.PieceGraphs.{one_if, degree, degrees_from}
-use Rattle.line_graph.proofs.LabelLemmas.{not_same}
 use Rattle.lists_and_numbers.proofs.CallerLemmas.{same_number}
 
 -- an edge for a place where there is none
@@ -108,7 +107,7 @@ count_few edges at n k ds is =
 -- one more line end makes none of them greater by more
 pub set_few : (ds : List ℕ) (k j count : ℕ) → k < length ds → count ≡ get_or ds k 0 → get_or (set ds k (count + 1)) j 0 ≤ get_or ds j 0 + 1
 set_few ds k j count below is =
-    grind (arith, nat_tests, get_or-set_same ds k (count + 1) 0 below, same_number j k, get_or-set_other ds k j (count + 1) 0, not_same j k)
+    grind (arith, nat_tests, get_or-set_same ds k (count + 1) 0 below, same_number j k, get_or-set_other ds k j (count + 1) 0, eqb-false j)
 
 -- no line end is counted at first
 pub none_counted : (at n : ℕ) → replicate n 0 ≡ degrees_from [] at n

@@ -1,6 +1,6 @@
 -- What lowering labels keeps.
-use Rattle.std.proofs.Common.{◌≡◌, ◌≢◌, ◌≤◌, ◌<◌, ◌⊎◌, inl, inr, ℕ, suc, ◌+◌, ◌==◌, Bool, true, false, ◌||◌, List, [], ◌∷◌, ◌++◌, length, get_or, set, take, min, All, sum_by, arith, refl, sym, ◌∙◌, ap, subst}
-use Rattle.std.proofs.lemmas.Bool.{both_ways, or_parts}
+use Rattle.std.proofs.Common.{◌≡◌, ◌≤◌, ◌<◌, ◌⊎◌, inl, inr, ℕ, suc, ◌+◌, ◌==◌, Bool, true, false, ◌||◌, List, [], ◌∷◌, ◌++◌, length, get_or, set, take, min, All, sum_by, arith, refl, sym, ◌∙◌, ap, subst}
+use Rattle.std.proofs.lemmas.Bool.{eqb-false, or_parts}
 use Rattle.std.proofs.lemmas.Bool.Decides.{nat_tests}
 use Rattle.std.proofs.lemmas.List.{get_or-set_other, get_or-set_same, length-set, take_more}
 use Rattle.std.proofs.lemmas.List.Elements.{All-append, All-cons, All-head, All-nil}
@@ -27,10 +27,6 @@ joined_back d i j one = leads_back d i j one.0 one.1
 pub joined_on : (d : DrawingValue) (i j k : ℕ) → AreConnected d i j → AreConnected d j k → AreConnected d i k
 joined_on d i j k one two = (one.0 ++ two.0, leads_on d i j k one.0 two.0 one.1 two.1)
 
--- numbers that are found to differ do
-pub not_same : (m n : ℕ) → (m == n) ≡ false → m ≢ n
-not_same m n test one = both_ways (m == n) test (grind (arith, nat_tests, one))
-
 -- one label lowered keeps what holds of each label, if it holds of the new one
 lowered_each : (P : ℕ → ℕ → Type 0) (line label : ℕ) (old new : List ℕ) (changed : Bool) → LowersOneLabel line label old new changed
     → P line label
@@ -47,7 +43,7 @@ lowered_each P line label old new true is new_one each i below =
         let one : i ≡ line = same_number i line test in
         subst (λ (k : ℕ). P k (get_or (set old line label) k 0)) (sym one)
         (subst (λ (k : ℕ). P line k) (sym (get_or-set_same old line label 0 (subst (λ (k : ℕ). k < length old) one within))) new_one)
-    by_test false test = subst (λ (k : ℕ). P i k) (sym (get_or-set_other old line i label 0 (not_same i line test))) (each i within)
+    by_test false test = subst (λ (k : ℕ). P i k) (sym (get_or-set_other old line i label 0 (eqb-false i line test))) (each i within)
 
 -- lowering keeps the number of labels
 lowered_sized : (line label : ℕ) (old new : List ℕ) (changed : Bool) → LowersOneLabel line label old new changed → length new ≡ length old

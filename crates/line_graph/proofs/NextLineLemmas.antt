@@ -6,9 +6,9 @@ use Rattle.std.proofs.lemmas.Grind.{get_or-set_at}
 use Rattle.line_graph.specs.LineLabels.{AreAtMostIndex}
 use Rattle.line_graph.specs.NextLines.{AreNextFrom, IsFirstLabelled, lines_labelled_from}
 use Rattle.line_graph.specs.PieceLabels.{has_label, lines_labelled}
-use Rattle.line_graph.proofs.LabelLemmas.{not_same}
 use Rattle.line_graph.proofs.PieceLabelLemmas.{labels_take}
 use Rattle.lists_and_numbers.proofs.CallerLemmas.{filter_skips, same_number}
+use Rattle.std.proofs.lemmas.Bool.{eqb-false}
 
 module _ (labels next more : List ℕ) (line : ℕ) (below : line < length labels) (low : AreAtMostIndex labels)
     (is : more ≡ set (set next (get_or labels line 0) line) line (get_or next (get_or labels line 0) 0))
@@ -54,14 +54,14 @@ module _ (labels next more : List ℕ) (line : ℕ) (below : line < length label
     where
       by_test : (t : Bool) → (label == j) ≡ t → IsFirstLabelled labels j line (get_or more j 0)
       by_test true test = grind (arith, nat_tests, same_number label, at_label, first_here)
-      by_test false test = grind (arith, nat_tests, not_same label, elsewhere, first_after)
+      by_test false test = grind (arith, nat_tests, eqb-false label, elsewhere, first_after)
 
   seen_late : (j : ℕ) → line ≤ j → j < length labels → IsFirstLabelled labels (get_or labels j 0) (j + 1) (get_or more j 0)
   seen_late j from less = by_test (j == line) refl
     where
       by_test : (t : Bool) → (j == line) ≡ t → IsFirstLabelled labels (get_or labels j 0) (j + 1) (get_or more j 0)
       by_test true test = grind (arith, nat_tests, same_number, at_line, up_to)
-      by_test false test = grind (arith, nat_tests, not_same, elsewhere, up_to)
+      by_test false test = grind (arith, nat_tests, eqb-false, elsewhere, up_to)
 
   -- a line more
   pub one_seen : AreNextFrom labels line more

@@ -1,15 +1,14 @@
 -- Lines that touch, turned.
-use Rattle.std.proofs.Common.{◌≡◌, ◌==◌, Bool, true, ◌||◌, List, [], ◌∷◌, inl, inr, sym, refl, arith}
+use Rattle.std.proofs.Common.{◌≡◌, ◌==◌, Bool, true, ◌||◌, List, [], ◌∷◌, inl, inr, refl, arith, ◌∙◌}
 use Rattle.std.proofs.lemmas.Bool.{and_parts, or_cases, or_left, or_right}
 use Rattle.std.proofs.lemmas.Bool.Decides.{nat_tests}
 use Rattle.std.specs.List.{list_any}
 use Rattle.design_model.specs.declared.point.Point.{Point}
 use Rattle.design_model.specs.Points.{is_same_point}
 use Rattle.line_sections.specs.Lines.{LineValue}
-use Rattle.drawing_model.proofs.CallerLemmas.{same_found}
 use Rattle.line_graph.specs.Pieces.{shares_point, touches}
 use Rattle.drawing_model.specs.Drawings.{endpoints}
-use Rattle.design_model.proofs.CallerLemmas.{same_is}
+use Rattle.design_model.proofs.CallerLemmas.{same_back}
 
 -- a test that passes where another does
 any_more : {X : Type 0} (f g : X → Bool) → ((x : X) → f x ≡ true → g x ≡ true) → (xs : List X)
@@ -20,9 +19,6 @@ any_more f g more (x ∷ xs) some = elim (or_cases (f x) (list_any f xs) some) [
   | inr later ↦ or_right (g x) (list_any g xs) (any_more f g more xs later)
 ]
 
-same_turned : (p q : Point) → is_same_point p q ≡ true → is_same_point q p ≡ true
-same_turned p q found = same_found q p (sym (same_is p q found))
-
 -- what one list shares with another, the other shares with it
 shares_turned : (ps qs : List Point) → shares_point ps qs ≡ true → shares_point qs ps ≡ true
 shares_turned [] qs shared = absurd cc
@@ -30,7 +26,7 @@ shares_turned (p ∷ ps) qs shared =
     let goal : Point → Bool = λ q. is_same_point q p || list_any (is_same_point q) ps in
     elim (or_cases (list_any (is_same_point p) qs) (shares_point ps qs) shared) [
       | inl here ↦ any_more (is_same_point p) goal
-          (λ q found. or_left (is_same_point q p) (list_any (is_same_point q) ps) (same_turned p q found)) qs here
+          (λ q found. or_left (is_same_point q p) (list_any (is_same_point q) ps) (same_back q p ∙ found)) qs here
       | inr later ↦ any_more (λ q. list_any (is_same_point q) ps) goal
           (λ q found. or_right (is_same_point q p) (list_any (is_same_point q) ps) found) qs (shares_turned ps qs later)
     ]

@@ -14,7 +14,7 @@ use Rattle.drawing_model.specs.Drawings.{DrawingValue, KeepsDrawingLimits, first
 use Rattle.line_graph.specs.PieceGraphs.{edge_between, junctions_of, junction_number, with_points, with_point}
 use Rattle.line_graph.proofs.JunctionLemmas.{put_found, put_keeps, seen_keeps, seen_on}
 use Rattle.drawing_model.proofs.CallerLemmas.{same_found, line_there}
-use Rattle.design_model.proofs.CallerLemmas.{same_is}
+use Rattle.design_model.proofs.CallerLemmas.{same_back}
 
 -- a point is the first of a list, or the last
 abbrev pub IsTip : List Point → Point → Type 0
@@ -98,10 +98,6 @@ edges_within d keeps lines there =
     × (e.b < length (junctions_of d lines))) (edge_between d (junctions_of d lines)) lines
     (λ k. λ x. λ below. edge_within d keeps lines (get_or lines k x) (there k x below) (Contains-get_or lines k x below))
 
--- points that are the same either way round
-differ_turned : (p q : Point) → is_same_point p q ≡ false → is_same_point q p ≡ false
-differ_turned p q apart = grind (arith, nat_tests, same_found p q, same_is q p)
-
 -- where nothing is found, nothing is
 none_found : (test : Point → Bool) (xs : List Point) → list_any test xs ≡ false → All (λ x. test x ≡ false) xs
 none_found test [] none = All-nil (λ x. test x ≡ false)
@@ -117,7 +113,7 @@ points_differ points (p ∷ more) differ = points_differ (with_point points p) m
         → AllPairs (λ a b. is_same_point a b ≡ false) (cond t points (points ++ p ∷ []))
     by_test true is = differ
     by_test false is = all_pairs_push (λ a b. is_same_point a b ≡ false) points p differ
-        (λ k. λ x. λ below. differ_turned p (get_or points k x) (none_found (is_same_point p) points is k x below))
+        (λ k. λ x. λ below. same_back (get_or points k x) p ∙ none_found (is_same_point p) points is k x below)
 
 -- so all junctions of a piece differ
 pub junctions_differ : (d : DrawingValue) (lines : List ℕ) → AllPairs (λ a b. is_same_point a b ≡ false) (junctions_of d lines)
@@ -165,5 +161,5 @@ pub number_is : (d : DrawingValue) (lines : List ℕ) (j : ℕ) (x : Point) → 
 number_is d lines j x below =
     let js : List Point = junctions_of d lines in
     position_or_len_is (is_same_point (get_or js j x)) js j x (omega (arith, below))
-    (λ k. λ less. differ_turned (get_or js k x) (get_or js j x) (junctions_differ d lines k j x less below))
+    (λ k. λ less. same_back (get_or js j x) (get_or js k x) ∙ junctions_differ d lines k j x less below)
     (λ there. same_found (get_or js j x) (get_or js j x) refl)

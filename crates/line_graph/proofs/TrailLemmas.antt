@@ -9,6 +9,7 @@ use Rattle.design_model.specs.Points.{is_point_within, move_between}
 use Rattle.step_splitter.specs.Chains.{IsNeedlePoint, AreCloseAfter, last_point_or}
 use Rattle.drawing_model.specs.Drawings.{first_point, last_point}
 use Rattle.drawing_model.specs.LineNeedles.{AreClose}
+use Rattle.line_graph.proofs.CallerLemmas.{range_back}
 use Rattle.lists_and_numbers.proofs.CallerLemmas.{some_same}
 
 -- points from one to another
@@ -43,11 +44,6 @@ first_back p (x ∷ xs) r = first_back x xs (p ∷ r)
 last_back : (p : Point) (xs r : List Point) → last_point (reverse_aux xs (p ∷ r)) ≡ Some (last_point_or p r)
 last_back p [] r = refl
 last_back p (x ∷ xs) r = last_back x xs (p ∷ r)
-
-range_back : (xs r : List Point) → All IsNeedlePoint xs → All IsNeedlePoint r → All IsNeedlePoint (reverse_aux xs r)
-range_back [] r forth back = back
-range_back (x ∷ xs) r forth back =
-    range_back xs (x ∷ r) (All-tail IsNeedlePoint x xs forth) (All-cons IsNeedlePoint x r (All-head IsNeedlePoint x xs forth) back)
 
 -- points reversed are a trail the other way
 pub trail_back : (step : ℕ) (from to : Point) (points : List Point) → Trail step from to points → Trail step to from (reverse points)
