@@ -1,12 +1,11 @@
 -- A drawing that is drawn again has the given starts and ends.
 use Rattle.std.proofs.lemmas.Bool.Decides.{nat_tests}
-use Rattle.std.proofs.Common.{◌≡◌, ℕ, ◌+◌, ◌==◌, Bool, List, [], ◌∷◌, Result, Ok, Err, IfOk, length, refl, ap, if◌then◌else◌, arith}
+use Rattle.std.proofs.Common.{◌≡◌, ℕ, ◌+◌, ◌==◌, Bool, List, [], ◌∷◌, Result, Ok, Err, IfOk, refl, ap, arith}
 use Rattle.std.proofs.lemmas.Result.{IfOk-at_ok, IfOk-weaker}
 use Rattle.design_model.specs.declared.point.Point.{Point}
 use Rattle.drawing_model.specs.declared.draw_kind.DrawKind.{DrawKind}
-use Rattle.drawing_model.specs.declared.draw_kind.DrawKind.TheVariants as kind
 use Rattle.drawing_model.specs.Drawings.{DrawingValue}
-use Rattle.drawing_model.specs.GrowingDrawings.{and_then, block_added, empty_drawing, finished_drawing, is_last_empty}
+use Rattle.drawing_model.specs.GrowingDrawings.{and_then, block_added, empty_drawing, finished_drawing}
 use Rattle.drawing_model.specs.JoinedDrawings.{joined_drawing}
 use Rattle.drawing_model.specs.WalkEnds.{HasNoEnds}
 use Rattle.line_sections.specs.Lines.{LineValue}
@@ -16,16 +15,7 @@ use Rattle.drawing_edits.specs.KeptEnds.{HasEndsOf, IsPlacedEnd, PlacedEndsAreKe
 use Rattle.drawing_edits.specs.PlacedEnds.{lines_listing, only_block, with_end_at}
 use Rattle.drawing_edits.specs.RedrawnDrawings.{drawn_lines, line_added_if, redrawn, redrawn_lines, with_blocks, with_lines_of, with_starts_and_ends}
 use Rattle.drawing_edits.proofs.CallerLemmas.{HasBoth, both_put}
-use Rattle.drawing_model.proofs.CallerLemmas.{after_both}
-
--- What holds where a test doesn't refuse holds after the test.
-unless : {A : Type 0} (P : A → Type 0) (test : Bool) (why : DrawKind) (r : Result A DrawKind) → IfOk r P
-    → IfOk (if test then Err why else r) P
-unless P test why r h1 = grind (arith, nat_tests)
-
--- Nothing is asked of the value of a step.
-any : {A : Type 0} (r : Result A DrawKind) → IfOk r (λ a. Unit {0})
-any r = grind (arith, nat_tests)
+use Rattle.drawing_model.proofs.CallerLemmas.{after_both, finished_none, joined_none}
 
 line_if_keeps : (b : Bool) (d : DrawingValue) (points : List Point) → HasNoEnds d → IfOk (line_added_if b d points) HasNoEnds
 line_if_keeps b d points h1 = grind (arith, nat_tests)
@@ -49,18 +39,12 @@ blocks_keep d block (thread ∷ rest) lines has =
     (λ opened kept. lines_keep block opened lines kept))
     (λ next kept. blocks_keep next (block + 1) rest lines kept)
 
-finish_keeps : (d : DrawingValue) → HasNoEnds d → IfOk (finished_drawing d) HasNoEnds
-finish_keeps d has = unless HasNoEnds (length d.threads == 0) kind.NoBlock _ (unless HasNoEnds (is_last_empty d) kind.EmptyBlock (Ok d) has)
-
-join_keeps : (d : DrawingValue) → HasNoEnds d → IfOk (joined_drawing d) HasNoEnds
-join_keeps d h1 = grind (arith, nat_tests)
-
 -- Lines are drawn again without starts and ends.
 lines_alone : (d : DrawingValue) → IfOk (redrawn_lines d) HasNoEnds
 lines_alone d =
     after_both HasNoEnds HasNoEnds (drawn_lines d) joined_drawing
     (after_both HasNoEnds HasNoEnds (with_blocks (empty_drawing d.label d.step) 0 d.threads d.lines) finished_drawing
-    (blocks_keep (empty_drawing d.label d.step) 0 d.threads d.lines (record { starts = refl; ends = refl })) finish_keeps) join_keeps
+    (blocks_keep (empty_drawing d.label d.step) 0 d.threads d.lines (record { starts = refl; ends = refl })) finished_none) joined_none
 
 -- The drawing that is drawn again from a value has its starts and ends.
 pub redrawn_kept : RedrawnHasEnds

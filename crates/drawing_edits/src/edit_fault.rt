@@ -1,4 +1,6 @@
 ghost use Rattle.std.specs.Prelude.{◌≡◌};
+ghost use Rattle.drawing_edits.specs.declared.edit_fault.EditFault.TheVariants as fault;
+ghost use Rattle.drawing_model.specs.declared.draw_kind.DrawKind.TheVariants as kind;
 
 use drawing_model::DrawKind;
 use lists_and_numbers::Memory;
@@ -19,9 +21,7 @@ pub enum EditFault {
 }
 
 impl From<DrawKind> for EditFault {
-    ghost use Rattle.drawing_edits.specs.declared.edit_fault.EditFault.TheVariants as fault;
-
-    ghost from_gives = { λ kind e. e ≡ fault.Draw kind };
+    ghost from_gives = { λ given e. e ≡ fault.Draw given };
 
     fn from(kind: DrawKind) -> EditFault {
         EditFault::Draw(kind)
@@ -29,9 +29,6 @@ impl From<DrawKind> for EditFault {
 }
 
 impl From<Memory> for EditFault {
-    ghost use Rattle.drawing_edits.specs.declared.edit_fault.EditFault.TheVariants as fault;
-    ghost use Rattle.drawing_model.specs.declared.draw_kind.DrawKind.TheVariants as kind;
-
     ghost from_gives = { λ _ e. e ≡ fault.Draw kind.Memory };
 
     fn from(_memory: Memory) -> EditFault {

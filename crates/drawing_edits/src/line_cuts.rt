@@ -14,10 +14,8 @@ pub fn cut_lines(alloc: Global, lines: &[Line], spot: Spot) -> Result<Items<Line
     ensures { IfOk result (λ cut. cut ≡ flat_map (line_cut_at spot) lines.now) }
 {
     let mut cut = Items::new(alloc);
-    let mut rest = lines;
-    while let [line, after @ ..] = rest {
+    for line in lines {
         put_cut(alloc, line, spot, &mut cut)?;
-        rest = after;
     }
     Ok(cut)
 }
@@ -30,11 +28,11 @@ fn put_cut(alloc: Global, line: &Line, spot: Spot, cut: &mut Items<Line>) -> Res
     let points = line.points();
     let index = index_of(points, spot.at);
     if block == spot.block && is_inner(index, points) {
-        put_line(alloc, block, &points[..index + 1], cut)?;
-        put_line(alloc, block, points.split_at(index).1, cut)?;
+        put_line(alloc, cut, block, &points[..index + 1])?;
+        put_line(alloc, cut, block, points.split_at(index).1)?;
         return Ok(());
     }
-    put_line(alloc, block, points, cut)?;
+    put_line(alloc, cut, block, points)?;
     Ok(())
 }
 

@@ -8,9 +8,9 @@ use std::alloc::Global;
 /// Adds a line of a block through the given points, in tenths of a millimetre.
 pub fn put_line(
     alloc: Global,
+    lines: &mut Items<Line>,
     block: u32,
     points: &[Point],
-    lines: &mut Items<Line>,
 ) -> Result<(), Memory>
     ensures { OnOk result
         (lines.new ≡ lines.old ++ record { block = block; points = points.now } ∷ []) }

@@ -159,6 +159,6 @@ fn put_numbered(
     requires { line < length d.now.lines }
     ensures { OnOk result (lines.new ≡ lines.old ++ line_numbered d.now line ∷ []) }
 {
-    put_line(alloc, d.line_block(line), d.line_points(line), lines)?;
+    put_line(alloc, lines, d.line_block(line), d.line_points(line))?;
     Ok(())
 }

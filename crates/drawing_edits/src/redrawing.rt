@@ -34,30 +34,9 @@ pub fn redraw(
     }))) result }
     ensures joined { IfOk result (λ new. is_joined new ≡ true) }
 {
-    let new = draw(alloc, d, step, lines, starts, ends)?;
-    Ok(new)
-}
-
-fn draw(
-    alloc: Global,
-    d: &Drawing,
-    step: u32,
-    lines: &[Line],
-    starts: &[Spot],
-    ends: &[Spot],
-) -> Result<Drawing, DrawKind>
-    requires low { 1 ≤ step }
-    requires high { step ≤ MAX_STEP }
-    ensures answer { IsSpecified draw_is_out_of_memory (redrawn (record d.now {
-      step = step;
-      lines = lines.now;
-      starts = starts.now;
-      ends = ends.now;
-    })) result }
-    ensures joined { IfOk result (λ new. is_joined new ≡ true) }
-{
     let drawn = draw_lines(alloc, d, step, lines)?;
-    joined_with_ends(alloc, &drawn, starts, ends)
+    let new = joined_with_ends(alloc, &drawn, starts, ends)?;
+    Ok(new)
 }
 
 /// Returns the drawing, before its lines are joined, that has the label and the threads of a drawing, and the
@@ -96,23 +75,9 @@ pub fn joined_with_ends(
     ensures starts { IfOk result (λ new. new.starts ≡ starts.now) }
     ensures ends { IfOk result (λ new. new.ends ≡ ends.now) }
 {
-    let new = join_with_ends(alloc, drawn, starts, ends)?;
-    Ok(new)
-}
-
-fn join_with_ends(
-    alloc: Global,
-    drawn: &Drawing,
-    starts: &[Spot],
-    ends: &[Spot],
-) -> Result<Drawing, DrawKind>
-    requires { HasNoEnds drawn.now }
-    ensures answer { IsSpecified draw_is_out_of_memory (and_then (joined_drawing drawn.now)
-        (λ joined. with_starts_and_ends joined starts.now ends.now)) result }
-    ensures joined { IfOk result (λ new. is_joined new ≡ true) }
-{
     let joined = join(alloc, drawn)?;
-    put_ends(alloc, joined, starts, ends)
+    let new = put_ends(alloc, joined, starts, ends)?;
+    Ok(new)
 }
 
 /// Adds blocks of the given threads, with their lines.
@@ -126,11 +91,9 @@ fn put_blocks(
     ensures { AddsAsSpecified (with_blocks maker.old 0 threads.now lines.now) result maker.new }
 {
     let mut block: u32 = 0;
-    let mut rest = threads;
-    while let [thread, after @ ..] = rest {
+    for thread in threads {
         put_block(alloc, maker, *thread, block, lines)?;
         block += 1;
-        rest = after;
     }
     Ok(())
 }
