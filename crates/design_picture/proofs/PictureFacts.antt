@@ -12,11 +12,12 @@ use Rattle.design_picture.specs.Hoops.{hoop_as_fits, offset_text}
 use Rattle.design_picture.specs.Layers.{layer_text}
 use Rattle.design_picture.specs.Layouts.{area_of, sheet_of}
 use Rattle.design_picture.specs.Strokes.{pen_of, strokes_of}
-use Rattle.design_picture.specs.Threads.{arc_text, arrow_shape, colour_change_text, hole_shape, move_text, shape_end, straight_text, travel_shape}
+use Rattle.design_picture.specs.Threads.{arc_text, arrow_shape, hole_shape, travel_shape}
 use Rattle.hoop_check.specs.declared.fitting.Fit.TheVariants as fit
 use Rattle.picture_parts.specs.Colours.{colour_of_thread}
 use Rattle.picture_parts.specs.Lengths.{length_of, square_of, whole_root}
-use Rattle.picture_parts.specs.Parts.{joined}
+use Rattle.picture_parts.specs.Parts.{filled, joined}
+use Rattle.picture_parts.specs.Paths.{coloured_path, move_text, path_end, straight_text}
 
 abbrev pub point : ℤ → ℤ → Point
 point x y = record { x = x; y = y }
@@ -62,7 +63,7 @@ known_pen = refl
 -- The second pass is an arc of 3 mm: 900 / 32 is 28, and 2 more.
 pub known_threads : layer_text layer.Threads shown_strokes ≡ (10 ∷ codes "M0,0L30,0A30,30,0,0,1,0,0'/>")
     ++ (10 ∷ codes "<path class='thread' stroke='#0a55a3' d='") ++ (10 ∷ codes "M3,-4") ++ (10 ∷ codes "M3,6")
-unfolding joined digits move_text straight_text arc_text colour_change_text colour_of_thread square_of
+unfolding joined filled digits move_text straight_text arc_text path_end coloured_path colour_of_thread square_of
 known_threads = refl
 
 pub known_holes : layer_text layer.Holes shown_strokes ≡ codes "M0,0h0M30,0h0M0,0h0M3,-4h0M3,6h0"
@@ -70,22 +71,22 @@ unfolding joined digits hole_shape
 known_holes = refl
 
 pub known_seconds : layer_text layer.Seconds shown_strokes ≡ (10 ∷ codes "M30,0A30,30,0,0,1,0,0")
-unfolding joined digits move_text arc_text square_of
+unfolding joined filled digits move_text arc_text square_of
 known_seconds = refl
 
 pub known_arrows : layer_text layer.Arrows shown_strokes ≡ codes "<path class='arrow' d='M30,0A30,30,0,0,1,0,0'/>" ++ 10 ∷ []
-unfolding joined digits arrow_shape arc_text shape_end square_of
+unfolding joined filled digits arrow_shape arc_text path_end square_of
 known_arrows = refl
 
 -- No way leads to the first piece.
 pub known_travels : layer_text layer.Travels shown_strokes ≡ codes "<path class='travel' d='M0,0L3,-4'/>"
     ++ 10 ∷ codes "<path class='travel' d='M3,-4L3,6'/>" ++ 10 ∷ []
-unfolding joined digits travel_shape
+unfolding joined filled digits travel_shape
 known_travels = refl
 
 -- A hoop of 10 mm by 20 mm around 5 mm by 20.1 mm begins 2.5 mm to the left, and 0.05 mm below; it is turned where only that fits.
-pub known_offsets : offset_text 100 50 ++ (codes " " ++ offset_text 200 201) ≡ codes "-25.0 0.5"
-unfolding offset_text joined digits
+pub known_offsets : offset_text [] 100 50 ++ offset_text (codes " ") 200 201 ≡ codes "-25.0 0.5"
+unfolding offset_text filled digits
 known_offsets = refl
 
 pub known_hoops : map (hoop_as_fits (record { width = 1; height = 2 })) (fit.Upright ∷ fit.Turned ∷ fit.No 3 4 ∷ [])

@@ -1,13 +1,14 @@
 -- A hoop around a design: both have one middle. The hoop is turned where the design fits it only
 -- so, and red where the design doesn't fit.
 use Rattle.std.specs.Prelude.{ℕ, ◌-◌, ◌*◌, nat_le, List, [], ◌∷◌, ◌++◌, Some, codes, if◌then◌else◌}
+use Rattle.std.specs.Fmt.{decimal}
 use Rattle.design_model.specs.declared.bounds.Extent.{Extent}
+use Rattle.design_model.specs.declared.point.Point.{Point}
 use Rattle.design_model.specs.Extents.{extent_height, extent_width}
 use Rattle.design_picture.specs.declared.hoop.Hoop.{Hoop}
 use Rattle.hoop_check.specs.declared.fitting.Fit.{Fit}
 use Rattle.hoop_check.specs.declared.fitting.Fit.TheVariants as fit
-use Rattle.picture_parts.specs.Parts.{joined, mm_text, point_text}
-use Rattle.picture_parts.specs.Sheets.{rectangle_text}
+use Rattle.picture_parts.specs.Parts.{ended, filled, mm_text, point_text}
 
 -- The hoop as a design fits it.
 abbrev pub hoop_as_fits : Hoop → Fit → Hoop
@@ -21,24 +22,24 @@ hoop_class fit.Upright = codes "line"
 hoop_class fit.Turned = codes "line"
 hoop_class (fit.No over_x over_y) = codes "line over"
 
--- The beginning of a hoop's outline.
-unfoldable pub outline_start : List ℕ → List ℕ
-outline_start class = joined (codes "<path class='" ∷ class ∷ codes "' d='M" ∷ [])
+-- The beginning of a hoop's outline, at the corner of the design.
+unfoldable pub hoop_start : List ℕ → Point → List ℕ
+hoop_start class corner = filled (codes "<path class='@' d='M@") (class ∷ point_text corner ∷ [])
 
 -- Where a hoop's side begins from the design's side: half of what it is longer, to the left or
--- above.
-unfoldable pub offset_text : ℕ → ℕ → List ℕ
-offset_text hoop design = if nat_le design hoop
-    then joined (codes "-" ∷ mm_text ((hoop - design) * 5) ∷ [])
-    else joined (mm_text ((design - hoop) * 5) ∷ [])
+-- above. Other characters come before it.
+unfoldable pub offset_text : List ℕ → ℕ → ℕ → List ℕ
+offset_text before hoop design = if nat_le design hoop
+    then filled (codes "@-@") (before ∷ mm_text ((hoop - design) * 5) ∷ [])
+    else filled (codes "@@") (before ∷ mm_text ((design - hoop) * 5) ∷ [])
 
--- The upper left corner of a hoop around an extent.
-unfoldable pub hoop_corner : Extent → Hoop → List ℕ
-hoop_corner extent hoop = joined (point_text extent.min ∷ codes "m" ∷ [])
-    ++ (offset_text hoop.width (extent_width (Some extent)) ++ (joined (codes "," ∷ [])
-    ++ offset_text hoop.height (extent_height (Some extent))))
+-- The four sides of a hoop, from its upper left corner on.
+unfoldable pub hoop_end : Hoop → List ℕ
+hoop_end hoop = filled (ended (codes "h@v@h-@z'/>"))
+    (decimal hoop.width ∷ decimal hoop.height ∷ decimal hoop.width ∷ [])
 
--- The outline of a hoop.
+-- The outline of a hoop around an extent.
 unfoldable pub hoop_text : Extent → Hoop → Fit → List ℕ
-hoop_text extent hoop fit = outline_start (hoop_class fit)
-    ++ (hoop_corner extent hoop ++ rectangle_text hoop.width hoop.height)
+hoop_text extent hoop fit = hoop_start (hoop_class fit) extent.min
+    ++ (offset_text (codes "m") hoop.width (extent_width (Some extent))
+    ++ (offset_text (codes ",") hoop.height (extent_height (Some extent)) ++ hoop_end hoop))

@@ -1,6 +1,6 @@
 -- Where the parts of a picture are: what is shown, with space around it, and texts below it.
 -- Lengths are in tenths of a millimetre.
-use Rattle.std.specs.Prelude.{ℕ, ◌+◌, ◌-◌, ◌*◌, ◌/◌, max, List, [], ◌∷◌, Option, Some, None, codes}
+use Rattle.std.specs.Prelude.{ℕ, ◌+◌, ◌-◌, ◌*◌, ◌/◌, max, List, [], ◌∷◌, ◌++◌, Option, Some, None, codes}
 use Rattle.std.specs.Fmt.{decimal}
 use Rattle.design_model.specs.declared.bounds.Extent.{Extent}
 use Rattle.design_model.specs.declared.point.Point.{Point}
@@ -11,7 +11,8 @@ use Rattle.design_picture.specs.declared.hoop.Hoop.{Hoop}
 use Rattle.design_picture.specs.declared.layout.Area.{Area}
 use Rattle.design_picture.specs.declared.layout.TheConstants.{MARGIN, MIN_WIDTH, TEXT_HEIGHT}
 use Rattle.picture_parts.specs.declared.sheet.Sheet.{Sheet}
-use Rattle.picture_parts.specs.Parts.{ended, joined, point_text}
+use Rattle.picture_parts.specs.Parts.{ended, escaped_text, filled, mm_text, point_text}
+use Rattle.picture_parts.specs.Sheets.{head_text}
 
 -- The corners of an extent; the origin for both without one.
 abbrev pub corners : Option Extent → Extent
@@ -40,16 +41,25 @@ sheet_of area = record {
       + LINE_HEIGHT * area.lines;
 }
 
--- The group of what is shown, moved by the space around it.
-unfoldable pub opening_group : Area → List ℕ
-opening_group area = joined (codes "<g transform='translate(" ∷ decimal area.side ∷ codes ","
-    ∷ decimal area.above ∷ ended (codes ")'>") ∷ [])
+-- The title and what a picture shows in words, and the group of what is shown, moved by the space
+-- around it.
+unfoldable pub title_text : Area → (label words : List ℕ) → List ℕ
+title_text area label words = filled (codes "<title>Embroidery @</title>" ++ (10 ∷ codes "<desc>@"
+    ++ (ended (codes "</desc>") ++ ended (codes "<g transform='translate(@,@)'>"))))
+    (escaped_text label ∷ words ∷ decimal area.side ∷ decimal area.above ∷ [])
+
+-- The text before what is shown.
+unfoldable pub top_text : Area → (label words : List ℕ) → List ℕ
+top_text area label words = head_text (sheet_of area) ++ title_text area label words
 
 -- The lower left corner of what is shown.
 abbrev pub lower_left : Extent → Point
 lower_left corners = record { x = corners.min.x; y = corners.max.y }
 
--- The group of the texts below what is shown.
-unfoldable pub below_start : Point → ℕ → List ℕ
-below_start corner above = joined (codes "<g transform='translate(" ∷ point_text corner
-    ∷ codes ") translate(0," ∷ decimal above ∷ ended (codes ")'>") ∷ [])
+-- The group of the texts below what is shown, with a bar of 10 mm, a label and a size.
+unfoldable pub below_start : Point → ℕ → List ℕ → (width height : ℕ) → List ℕ
+below_start corner above label width height =
+    filled (ended (codes "<g transform='translate(@) translate(0,@)'>")
+    ++ (codes "<path class='line' d='M0,-6v12m0,-6h100m0,-6v12'/><text x='112' y='7'>10 mm</text>"
+    ++ (10 ∷ ended (codes "<text y='44'>@ @ x @ mm</text>"))))
+    (point_text corner ∷ decimal above ∷ escaped_text label ∷ mm_text width ∷ mm_text height ∷ [])

@@ -4,7 +4,7 @@ pub mod Layouts
 pub mod Hoops
 pub mod Captions
 pub mod Layers
-pub mod Marks
+pub mod StrokeMarks
 pub mod Threads
 -- The strokes of a design, which the layers show.
 pub mod Strokes

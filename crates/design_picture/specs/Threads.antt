@@ -8,24 +8,13 @@ use Rattle.design_picture.specs.declared.strokes.Stroke.TheVariants.{Begin, Floa
 use Rattle.design_picture.specs.declared.threads.TheConstants.{MIN_SHOWN}
 use Rattle.picture_parts.specs.Colours.{colour_of_thread}
 use Rattle.picture_parts.specs.Lengths.{square_of}
-use Rattle.picture_parts.specs.Parts.{ended, joined, point_text}
-
--- The end of a shape.
-unfoldable pub shape_end : List ℕ
-shape_end = joined (ended (codes "'/>") ∷ [])
-
--- The thread begins again at a point.
-unfoldable pub move_text : Point → List ℕ
-move_text p = joined ((10 ∷ codes "M") ∷ point_text p ∷ [])
-
--- A straight stitch to a point.
-unfoldable pub straight_text : Point → List ℕ
-straight_text p = joined (codes "L" ∷ point_text p ∷ [])
+use Rattle.picture_parts.specs.Parts.{ended, filled, joined, point_text}
+use Rattle.picture_parts.specs.Paths.{coloured_path, move_text, path_end, straight_text}
 
 -- A stitch to a point as an arc of a radius.
 unfoldable pub arc_text : ℕ → Point → List ℕ
-arc_text bow p = joined (codes "A" ∷ decimal bow ∷ codes "," ∷ decimal bow ∷ codes ",0,0,1,"
-    ∷ point_text p ∷ [])
+arc_text bow p = filled (codes "A@,@,0,0,1,@")
+    (decimal bow ∷ decimal bow ∷ point_text p ∷ [])
 
 -- The radius of the arc of a stitch that was sewn once, twice or more often before, so that the arc
 -- is some 4, 8 or 12 tenths of a millimetre beside the straight line.
@@ -38,9 +27,8 @@ abbrev pub sewn_text : ℕ → Point → Point → List ℕ
 sewn_text pass p q = if pass == 0 then straight_text q else arc_text (bow_of pass p q) q
 
 -- The thread of the next block.
-unfoldable pub colour_change_text : List ℕ → List ℕ
-colour_change_text colour = joined ((codes "'/>" ++ 10 ∷ codes "<path class='thread' stroke='")
-    ∷ colour ∷ codes "' d='" ∷ [])
+abbrev pub colour_change_text : ℕ → List ℕ
+colour_change_text thread = path_end ++ coloured_path (codes "thread") (colour_of_thread thread)
 
 -- The thread of a stroke.
 abbrev pub thread_text : Stroke → List ℕ
@@ -48,7 +36,7 @@ thread_text (Begin piece opens from p) = move_text p
 thread_text (Float from p) = move_text p
 thread_text (Sewn pass arrow from p) = sewn_text pass from p
 thread_text (Trim p) = []
-thread_text (Stop ended next) = colour_change_text (colour_of_thread next)
+thread_text (Stop ended next) = colour_change_text next
 
 -- A stitch that was sewn before, alone.
 abbrev pub second_shape : ℕ → Point → Point → List ℕ
@@ -84,11 +72,11 @@ hole_text (Stop ended next) = []
 
 -- The beginning of an arrow's stitch.
 unfoldable pub arrow_shape : Point → List ℕ
-arrow_shape p = joined (codes "<path class='arrow' d='M" ∷ point_text p ∷ [])
+arrow_shape p = joined (codes "<path class='arrow' d='M" ∷ point_text p ∷ [] ∷ [])
 
 -- The arrow at the end of a stitch that has one.
 abbrev pub arrow_if : Bool → ℕ → Point → Point → List ℕ
-arrow_if arrow pass p q = if arrow then arrow_shape p ++ (sewn_text pass p q ++ shape_end) else []
+arrow_if arrow pass p q = if arrow then arrow_shape p ++ (sewn_text pass p q ++ path_end) else []
 
 -- The arrow of a stroke.
 abbrev pub arrow_text : Stroke → List ℕ
@@ -100,8 +88,8 @@ arrow_text (Stop ended next) = []
 
 -- The way from one needle to another without a stitch.
 unfoldable pub travel_shape : Point → Point → List ℕ
-travel_shape p q = joined (codes "<path class='travel' d='M" ∷ point_text p ∷ codes "L"
-    ∷ point_text q ∷ ended (codes "'/>") ∷ [])
+travel_shape p q = filled (ended (codes "<path class='travel' d='M@L@'/>"))
+    (point_text p ∷ point_text q ∷ [])
 
 -- The way to a piece; none leads to the first.
 abbrev pub way_text : ℕ → Point → Point → List ℕ

@@ -1,9 +1,9 @@
 ghost use Rattle.std.specs.Prelude.{◌≡◌, ◌++◌, ◌<◌, ◌*◌, ◌^◌, OnOk};
-ghost use Rattle.design_picture.specs.Captions.{block_line, block_place, block_swatch, block_words, legend_text};
+ghost use Rattle.design_picture.specs.Captions.{block_line, block_start, block_words, legend_text};
 
 use crate::strokes::{BlockEnd, Stroke};
 use lists_and_numbers::{Bytes, Memory};
-use picture_parts::{Part, put, put_around, thread_colour};
+use picture_parts::{Part, put, thread_colour};
 
 /// The height of a line of text below the picture, in tenths of a millimetre.
 pub const LINE_HEIGHT: u64 = 28;
@@ -23,36 +23,27 @@ pub(crate) fn put_block_line(text: &mut Bytes, stroke: Stroke) -> Result<(), Mem
 pub(crate) fn put_block(text: &mut Bytes, block: BlockEnd) -> Result<(), Memory>
     ensures { OnOk result (text.new ≡ text.old ++ block_line block) }
 {
-    put_place(text, block.block)?;
-    put_swatch(text, thread_colour(block.thread), block.thread)?;
+    put_block_start(text, block.block, thread_colour(block.thread), block.thread)?;
     put_words(text, block)?;
     Ok(())
 }
 
-/// Begins the line of a block.
-#[tactic(auto, unfolding(crate::specs::Captions::block_place))]
-pub fn put_place(text: &mut Bytes, block: u32) -> Result<(), Memory>
-    ensures { OnOk result (text.new ≡ text.old ++ block_place block) }
-{
-    put_around(
-        text,
-        b"<g transform='translate(0,",
-        Part::Number((LINE_HEIGHT * block as u64) as u128),
-        b")'>",
-    )
-}
-
-/// Appends the colour and the number of a thread.
-#[tactic(auto, unfolding(crate::specs::Captions::block_swatch))]
-pub fn put_swatch(text: &mut Bytes, colour: &[u8], thread: u8) -> Result<(), Memory>
-    ensures { OnOk result (text.new ≡ text.old ++ block_swatch colour.now thread) }
+/// Begins the line of a block, with the colour and the number of its thread.
+#[tactic(auto, unfolding(crate::specs::Captions::block_start))]
+pub fn put_block_start(
+    text: &mut Bytes,
+    block: u32,
+    colour: &[u8],
+    thread: u8,
+) -> Result<(), Memory>
+    ensures { OnOk result (text.new ≡ text.old ++ block_start block colour.now thread) }
 {
     put(
         text,
+        b"<g transform='translate(0,@)'><path stroke-width='14' d='M7,-7h26' stroke='@'/><text x='52'>thread @",
         &[
-            Part::Text(b"<path stroke-width='14' d='M7,-7h26' stroke='"),
+            Part::Number((LINE_HEIGHT * block as u64) as u128),
             Part::Text(colour),
-            Part::Text(b"'/><text x='52'>thread "),
             Part::Number(thread as u128),
         ],
     )
@@ -64,12 +55,10 @@ fn put_words(text: &mut Bytes, block: BlockEnd) -> Result<(), Memory>
 {
     put(
         text,
+        b"</text><text x='170'>needles @</text><text x='350'>length @ mm</text></g>\n",
         &[
-            Part::Text(b"</text><text x='170'>needles "),
             Part::Number(block.needles as u128),
-            Part::Text(b"</text><text x='350'>length "),
             Part::Mm(block.sewn / 100),
-            Part::Text(b" mm</text></g>\n"),
         ],
     )
 }

@@ -1,10 +1,10 @@
 ghost use Rattle.std.specs.Prelude.{◌≡◌, ◌++◌, ◌≤◌, OnOk};
-ghost use Rattle.design_picture.specs.Hoops.{hoop_as_fits, hoop_class, hoop_corner, hoop_text, offset_text, outline_start};
+ghost use Rattle.design_picture.specs.Hoops.{hoop_as_fits, hoop_class, hoop_end, hoop_start, hoop_text, offset_text};
 
 use design_model::{Extent, Point, height, width};
 use hoop_check::Fit;
 use lists_and_numbers::{Bytes, Memory};
-use picture_parts::{Part, put, put_around, put_rectangle};
+use picture_parts::{Part, put};
 
 /// A hoop, in tenths of a millimetre.
 #[derive(Clone, Copy)]
@@ -31,9 +31,10 @@ pub(crate) fn as_fits(hoop: Hoop, fit: Fit) -> Hoop
 pub(crate) fn put_hoop(text: &mut Bytes, extent: Extent, hoop: Hoop, fit: Fit) -> Result<(), Memory>
     ensures { OnOk result (text.new ≡ text.old ++ hoop_text extent hoop fit) }
 {
-    put_outline_start(text, class_of(fit))?;
-    put_corner(text, extent, hoop)?;
-    put_rectangle(text, hoop.width as u64, hoop.height as u64)?;
+    put_hoop_start(text, class_of(fit), extent.min)?;
+    put_offset(text, b"m", hoop.width, width(Some(extent)))?;
+    put_offset(text, b",", hoop.height, height(Some(extent)))?;
+    put_hoop_end(text, hoop)?;
     Ok(())
 }
 
@@ -47,36 +48,39 @@ fn class_of(fit: Fit) -> &'static [u8]
     }
 }
 
-/// Begins the outline of a hoop.
-#[tactic(auto, unfolding(crate::specs::Hoops::outline_start))]
-fn put_outline_start(text: &mut Bytes, class: &[u8]) -> Result<(), Memory>
-    ensures { OnOk result (text.new ≡ text.old ++ outline_start class.now) }
+#[tactic(auto, unfolding(crate::specs::Hoops::hoop_start))]
+fn put_hoop_start(text: &mut Bytes, class: &[u8], corner: Point) -> Result<(), Memory>
+    ensures { OnOk result (text.new ≡ text.old ++ hoop_start class.now corner) }
 {
-    put_around(text, b"<path class='", Part::Text(class), b"' d='M")
+    put(
+        text,
+        b"<path class='@' d='M@",
+        &[Part::Text(class), Part::At(corner)],
+    )
 }
 
-#[tactic(auto, unfolding(crate::specs::Hoops::hoop_corner))]
-fn put_corner(text: &mut Bytes, extent: Extent, hoop: Hoop) -> Result<(), Memory>
-    ensures { OnOk result (text.new ≡ text.old ++ hoop_corner extent hoop) }
-{
-    put(text, &[Part::At(extent.min), Part::Text(b"m")])?;
-    put_offset(text, hoop.width, width(Some(extent)))?;
-    put(text, &[Part::Text(b",")])?;
-    put_offset(text, hoop.height, height(Some(extent)))?;
-    Ok(())
-}
-
-/// Appends where a hoop's side begins from the design's side, so that they have one middle.
+/// Appends where a hoop's side begins from the design's side, so that they have one middle, after other characters.
 #[tactic(auto, unfolding(crate::specs::Hoops::offset_text))]
-fn put_offset(text: &mut Bytes, hoop: u32, design: u32) -> Result<(), Memory>
-    ensures { OnOk result (text.new ≡ text.old ++ offset_text hoop design) }
+fn put_offset(text: &mut Bytes, before: &[u8], hoop: u32, design: u32) -> Result<(), Memory>
+    ensures { OnOk result (text.new ≡ text.old ++ offset_text before.now hoop design) }
 {
     if design <= hoop {
-        put(
-            text,
-            &[Part::Text(b"-"), Part::Mm((hoop - design) as u128 * 5)],
-        )
-    } else {
-        put(text, &[Part::Mm((design - hoop) as u128 * 5)])
+        let less = (hoop - design) as u128 * 5;
+        return put(text, b"@-@", &[Part::Text(before), Part::Mm(less)]);
     }
+    let more = (design - hoop) as u128 * 5;
+    put(text, b"@@", &[Part::Text(before), Part::Mm(more)])
+}
+
+/// Appends the four sides of a hoop, from its upper left corner on.
+#[tactic(auto, unfolding(crate::specs::Hoops::hoop_end))]
+fn put_hoop_end(text: &mut Bytes, hoop: Hoop) -> Result<(), Memory>
+    ensures { OnOk result (text.new ≡ text.old ++ hoop_end hoop) }
+{
+    let width = Part::Number(hoop.width as u128);
+    put(
+        text,
+        b"h@v@h-@z'/>\n",
+        &[width, Part::Number(hoop.height as u128), width],
+    )
 }

@@ -1,11 +1,12 @@
 ghost use Rattle.std.specs.Prelude.{◌≡◌, ◌++◌, OnOk};
-ghost use Rattle.design_picture.specs.Layers.{layer_text, stroke_text};
+ghost use Rattle.design_picture.specs.Layers.{layer_text, path_layer, stroke_text};
 
 use crate::block_line::put_block_line;
-use crate::marks::put_mark;
+use crate::marks::put_stroke_marks;
 use crate::strokes::Stroke;
 use crate::threads::{put_arrow, put_hole, put_second, put_thread, put_travel};
 use lists_and_numbers::{Bytes, Memory};
+use picture_parts::{put_path_end, put_path_start};
 
 /// A layer of the picture, which has its text of each stroke.
 #[derive(Clone, Copy)]
@@ -45,7 +46,23 @@ fn put_stroke(text: &mut Bytes, layer: Layer, stroke: Stroke) -> Result<(), Memo
         Layer::Seconds => put_second(text, stroke),
         Layer::Holes => put_hole(text, stroke),
         Layer::Arrows => put_arrow(text, stroke),
-        Layer::Marks => put_mark(text, stroke),
+        Layer::Marks => put_stroke_marks(text, stroke),
         Layer::Legend => put_block_line(text, stroke),
     }
+}
+
+/// Appends a layer that is one path of a class.
+#[tactic(auto, unfolding(crate::specs::Layers::path_layer))]
+pub fn put_path_layer(
+    text: &mut Bytes,
+    class: &[u8],
+    layer: Layer,
+    strokes: &[Stroke],
+) -> Result<(), Memory>
+    ensures { OnOk result (text.new ≡ text.old ++ path_layer class.now layer strokes.now) }
+{
+    put_path_start(text, class)?;
+    put_layer(text, layer, strokes)?;
+    put_path_end(text)?;
+    Ok(())
 }

@@ -1,11 +1,12 @@
 ghost use Rattle.std.specs.Prelude.{◌≡◌, ◌++◌, ◌≤◌, ◌<◌, ◌^◌, OnOk};
-ghost use Rattle.design_picture.specs.Layouts.{area_of as area_around, below_start, corners, lower_left, opening_group, side_of, sheet_of as sheet_around};
+ghost use Rattle.design_picture.specs.Layouts.{area_of as area_around, below_start, corners, lower_left, side_of, sheet_of as sheet_around, title_text, top_text};
+ghost use Rattle.design_model.specs.Extents.{extent_height, extent_width};
 
 use crate::block_line::LINE_HEIGHT;
 use crate::hoop::Hoop;
 use design_model::{Extent, Point, height, width};
 use lists_and_numbers::{Bytes, Memory};
-use picture_parts::{Part, Sheet, put};
+use picture_parts::{Part, Sheet, put, put_head};
 
 /// The space around what is shown, in tenths of a millimetre.
 pub const MARGIN: u32 = 60;
@@ -61,7 +62,7 @@ pub(crate) fn corners_in(extent: Option<Extent>) -> Extent
 }
 
 /// Returns the sheet of an area.
-pub fn sheet_of(area: Area) -> Sheet
+fn sheet_of(area: Area) -> Sheet
     requires side { area.side < 2 ^ 32 }
     requires above { area.above < 2 ^ 32 }
     ensures { result ≡ sheet_around area }
@@ -76,42 +77,88 @@ pub fn sheet_of(area: Area) -> Sheet
     }
 }
 
-/// Begins the group of what is shown, which is moved by the space around it.
-#[tactic(auto, unfolding(crate::specs::Layouts::opening_group))]
-pub fn put_opening_group(text: &mut Bytes, area: Area) -> Result<(), Memory>
-    ensures { OnOk result (text.new ≡ text.old ++ opening_group area) }
+/// Appends what comes before the shapes of a picture: its sheet, its title, which is its label, and what it shows
+/// in words. The group of what is shown begins, which is moved by the space around it.
+#[tactic(auto, unfolding(crate::specs::Layouts::top_text))]
+pub fn put_top(text: &mut Bytes, area: Area, label: &[u8], words: &[u8]) -> Result<(), Memory>
+    requires side { area.side < 2 ^ 32 }
+    requires above { area.above < 2 ^ 32 }
+    ensures { OnOk result (text.new ≡ text.old ++ top_text area label.now words.now) }
+{
+    put_head(text, sheet_of(area))?;
+    put_title(text, area, label, words)?;
+    Ok(())
+}
+
+#[tactic(auto, unfolding(crate::specs::Layouts::title_text))]
+fn put_title<'a>(
+    text: &mut Bytes,
+    area: Area,
+    label: &'a [u8],
+    words: &'a [u8],
+) -> Result<(), Memory>
+    ensures { OnOk result (text.new ≡ text.old ++ title_text area label.now words.now) }
 {
     put(
         text,
+        b"<title>Embroidery @</title>\n<desc>@</desc>\n<g transform='translate(@,@)'>\n",
         &[
-            Part::Text(b"<g transform='translate("),
+            Part::Escaped(label),
+            Part::Text(words),
             Part::Number(area.side as u128),
-            Part::Text(b","),
             Part::Number(area.above as u128),
-            Part::Text(b")'>\n"),
         ],
     )
 }
 
-/// Begins the group of the texts below what is shown.
+/// Begins the group of the texts below what is shown, with a bar of 10 mm, the label, and the size of an extent.
+pub fn put_below_start(
+    text: &mut Bytes,
+    area: Area,
+    label: &[u8],
+    extent: Option<Extent>,
+) -> Result<(), Memory>
+    ensures { OnOk result (text.new ≡ text.old ++ below_start (lower_left area.corners) area.above
+        label.now (extent_width extent) (extent_height extent)) }
+{
+    put_label(
+        text,
+        left_below(area.corners),
+        area.above,
+        label,
+        width(extent),
+        height(extent),
+    )
+}
+
 #[tactic(auto, unfolding(crate::specs::Layouts::below_start))]
-pub fn put_below_start(text: &mut Bytes, corner: Point, above: u64) -> Result<(), Memory>
-    ensures { OnOk result (text.new ≡ text.old ++ below_start corner above) }
+fn put_label(
+    text: &mut Bytes,
+    corner: Point,
+    above: u64,
+    label: &[u8],
+    width: u32,
+    height: u32,
+) -> Result<(), Memory>
+    ensures { OnOk result (text.new ≡ text.old ++ below_start corner above label.now width height) }
 {
     put(
         text,
+        b"<g transform='translate(@) translate(0,@)'>\n\
+        <path class='line' d='M0,-6v12m0,-6h100m0,-6v12'/><text x='112' y='7'>10 mm</text>\n\
+        <text y='44'>@ @ x @ mm</text>\n",
         &[
-            Part::Text(b"<g transform='translate("),
             Part::At(corner),
-            Part::Text(b") translate(0,"),
             Part::Number(above as u128),
-            Part::Text(b")'>\n"),
+            Part::Escaped(label),
+            Part::Mm(width as u128),
+            Part::Mm(height as u128),
         ],
     )
 }
 
 /// Returns the lower left corner of what is shown.
-pub fn left_below(corners: Extent) -> Point
+fn left_below(corners: Extent) -> Point
     ensures { result ≡ lower_left corners }
 {
     Point {

@@ -1,10 +1,13 @@
 ghost use Rattle.std.specs.Prelude.{◌≡◌, ◌++◌, OnOk};
-ghost use Rattle.design_picture.specs.Threads.{arc_text, arrow_shape, arrow_text, colour_change_text, hole_shape, hole_text, move_text, is_long, bow_of, second_shape, second_text, sewn_text, straight_text, thread_text, travel_shape, travel_text, long_hole_text, arrow_if, shape_end, way_text};
+ghost use Rattle.design_picture.specs.Threads.{arc_text, arrow_shape, arrow_text, colour_change_text, hole_shape, hole_text, is_long, bow_of, second_shape, second_text, sewn_text, thread_text, travel_shape, travel_text, long_hole_text, arrow_if, way_text};
 
 use crate::strokes::Stroke;
 use design_model::Point;
 use lists_and_numbers::{Bytes, Memory};
-use picture_parts::{Part, put, put_around, square_between, thread_colour};
+use picture_parts::{
+    Part, put, put_around, put_coloured_path, put_move, put_path_end, put_straight, square_between,
+    thread_colour,
+};
 
 /// The shortest stitch whose needle hole is shown, in tenths of a millimetre on its longer axis.
 pub const MIN_SHOWN: u32 = 7;
@@ -17,16 +20,8 @@ pub(crate) fn put_thread(text: &mut Bytes, stroke: Stroke) -> Result<(), Memory>
         Stroke::Begin { at, .. } | Stroke::Float { at, .. } => put_move(text, at),
         Stroke::Sewn { pass, from, at, .. } => put_sewn(text, pass, from, at),
         Stroke::Trim { .. } => Ok(()),
-        Stroke::Stop { next, .. } => put_colour_change(text, thread_colour(next)),
+        Stroke::Stop { next, .. } => put_colour_change(text, next),
     }
-}
-
-/// Begins a thread at a point.
-#[tactic(auto, unfolding(crate::specs::Threads::move_text))]
-pub fn put_move(text: &mut Bytes, at: Point) -> Result<(), Memory>
-    ensures { OnOk result (text.new ≡ text.old ++ move_text at) }
-{
-    put(text, &[Part::Text(b"\nM"), Part::At(at)])
 }
 
 /// Appends a stitch: a straight line, or an arc where it was sewn before.
@@ -40,29 +35,12 @@ fn put_sewn(text: &mut Bytes, pass: u32, from: Point, at: Point) -> Result<(), M
     }
 }
 
-/// Appends a straight stitch to a point.
-#[tactic(auto, unfolding(crate::specs::Threads::straight_text))]
-pub fn put_straight(text: &mut Bytes, at: Point) -> Result<(), Memory>
-    ensures { OnOk result (text.new ≡ text.old ++ straight_text at) }
-{
-    put(text, &[Part::Text(b"L"), Part::At(at)])
-}
-
 #[tactic(auto, unfolding(crate::specs::Threads::arc_text))]
 fn put_arc(text: &mut Bytes, bow: u128, at: Point) -> Result<(), Memory>
     ensures { OnOk result (text.new ≡ text.old ++ arc_text bow at) }
 {
-    put(
-        text,
-        &[
-            Part::Text(b"A"),
-            Part::Number(bow),
-            Part::Text(b","),
-            Part::Number(bow),
-            Part::Text(b",0,0,1,"),
-            Part::At(at),
-        ],
-    )
+    let bow = Part::Number(bow);
+    put(text, b"A@,@,0,0,1,@", &[bow, bow, Part::At(at)])
 }
 
 /// Returns the radius of the arc for a stitch that was sewn before. It differs from pass to pass.
@@ -79,16 +57,13 @@ fn bow(pass: u32, from: Point, at: Point) -> u128
     square / 96 + 6
 }
 
-#[tactic(auto, unfolding(crate::specs::Threads::colour_change_text))]
-fn put_colour_change(text: &mut Bytes, colour: &[u8]) -> Result<(), Memory>
-    ensures { OnOk result (text.new ≡ text.old ++ colour_change_text colour.now) }
+/// Ends the thread of a block, and begins the next.
+fn put_colour_change(text: &mut Bytes, thread: u8) -> Result<(), Memory>
+    ensures { OnOk result (text.new ≡ text.old ++ colour_change_text thread) }
 {
-    put_around(
-        text,
-        b"'/>\n<path class='thread' stroke='",
-        Part::Text(colour),
-        b"' d='",
-    )
+    put_path_end(text)?;
+    put_coloured_path(text, b"thread", thread_colour(thread))?;
+    Ok(())
 }
 
 /// Appends a stitch that was sewn before.
@@ -142,7 +117,7 @@ fn is_shown(from: Point, at: Point) -> bool
 fn put_hole_shape(text: &mut Bytes, at: Point) -> Result<(), Memory>
     ensures { OnOk result (text.new ≡ text.old ++ hole_shape at) }
 {
-    put_around(text, b"M", Part::At(at), b"h0")
+    put_around(text, b"M", at, b"h0")
 }
 
 /// Appends the arrow of a stitch that has one.
@@ -175,26 +150,15 @@ fn put_arrow_if(
     }
     put_arrow_shape(text, from)?;
     put_sewn(text, pass, from, at)?;
-    put_shape_end(text)?;
+    put_path_end(text)?;
     Ok(())
-}
-
-/// Ends a shape.
-#[tactic(auto, unfolding(crate::specs::Threads::shape_end))]
-pub fn put_shape_end(text: &mut Bytes) -> Result<(), Memory>
-    ensures { OnOk result (text.new ≡ text.old ++ shape_end) }
-{
-    put(text, &[Part::Text(b"'/>\n")])
 }
 
 #[tactic(auto, unfolding(crate::specs::Threads::arrow_shape))]
 fn put_arrow_shape(text: &mut Bytes, from: Point) -> Result<(), Memory>
     ensures { OnOk result (text.new ≡ text.old ++ arrow_shape from) }
 {
-    put(
-        text,
-        &[Part::Text(b"<path class='arrow' d='M"), Part::At(from)],
-    )
+    put_around(text, b"<path class='arrow' d='M", from, b"")
 }
 
 /// Appends the way of a loose thread, or a float.
@@ -228,12 +192,7 @@ fn put_travel_shape(text: &mut Bytes, from: Point, at: Point) -> Result<(), Memo
 {
     put(
         text,
-        &[
-            Part::Text(b"<path class='travel' d='M"),
-            Part::At(from),
-            Part::Text(b"L"),
-            Part::At(at),
-            Part::Text(b"'/>\n"),
-        ],
+        b"<path class='travel' d='M@L@'/>\n",
+        &[Part::At(from), Part::At(at)],
     )
 }

@@ -2,12 +2,12 @@
 use Rattle.std.proofs.Common.{◌≡◌, ℕ, ℤ, pos, negsuc, List, [], ◌∷◌, ◌++◌, codes, map, refl}
 use Rattle.std.specs.Fmt.{digits}
 use Rattle.design_model.specs.declared.point.Point.{Point}
-use Rattle.design_picture.specs.Threads.{shape_end}
 use Rattle.drawing_picture.specs.BandLaws.{band_length}
 use Rattle.drawing_picture.specs.Bands.{Band, bands_from, half_steps}
 use Rattle.drawing_picture.specs.BandTexts.{band_start, band_text, colour_of_cut, way_point}
 use Rattle.odd_cuts.specs.declared.cut.Cut.{Cut}
-use Rattle.picture_parts.specs.Parts.{joined}
+use Rattle.picture_parts.specs.Parts.{filled, joined}
+use Rattle.picture_parts.specs.Paths.{path_end}
 
 abbrev pub point : ℤ → ℤ → Point
 point x y = record { x = x; y = y }
@@ -46,7 +46,7 @@ known_length = refl
 -- The eighth cut has the colour of the second.
 pub known_band : band_text (record { cut = cut 1 []; number = 7; way = at 3 ∷ point (negsuc 0) (pos 2) ∷ [] })
     ≡ codes "<path class='band' stroke='#e6ab02' d='M3,0 -1,2 '/>" ++ 10 ∷ []
-unfolding joined digits band_start way_point shape_end
+unfolding joined filled digits band_start way_point path_end
 known_band = refl
 
 pub known_cut_colours : map colour_of_cut (0 ∷ 2 ∷ 3 ∷ 4 ∷ 5 ∷ 6 ∷ [])

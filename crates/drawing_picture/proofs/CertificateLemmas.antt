@@ -1,5 +1,5 @@
 -- Certificates without a fault can be sewn, and what they sew is least redwork.
-use Rattle.std.proofs.Common.{◌≡◌, ◌≤◌, ◌<◌, ℕ, suc, ◌+◌, ◌-◌, ◌*◌, ◌==◌, List, [], ◌∷◌, ◌++◌, None, length, map, All, Contains, sum_by, arith, refl, ap, subst, ◌∙◌}
+use Rattle.std.proofs.Common.{◌≡◌, ◌≤◌, ◌<◌, ℕ, suc, ◌+◌, ◌*◌, List, [], ◌∷◌, None, length, map, All, Contains, sum_by, arith, refl, ap, subst, ◌∙◌}
 use Rattle.std.proofs.lemmas.List.{length-map}
 use Rattle.std.proofs.lemmas.List.Elements.{All-cons, All-contains, All-head, All-nil, All-tail}
 use Rattle.std.proofs.lemmas.List.Sums.{sum_by-cons}
@@ -25,7 +25,6 @@ use Rattle.line_graph.specs.SewnWalks.{ArePiecesWithin, FittingWalksAreSewable, 
 use Rattle.line_graph.specs.UniquePieces.{PiecesAreUnique}
 use Rattle.line_graph.specs.ValidPieces.{IsValidPiece}
 use Rattle.line_graph.specs.Walks.{needles_of_walk}
-use Rattle.route_verdict.specs.declared.verdict.Reason.TheVariants as reason
 use Rattle.route_verdict.specs.SewingSteps.{AllDrawn, AreDrawn}
 use Rattle.route_verdict.specs.Verdicts.{IsCorrectPieceCert, IsCorrectRoute, count_reason, piece_reason, pieces_reason}
 use Rattle.route_verdict.specs.VerdictTheorems.{CorrectRoutesAreAccepted, YesIsLeastRedwork}

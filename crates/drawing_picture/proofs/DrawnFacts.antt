@@ -3,17 +3,17 @@ use Rattle.std.proofs.Common.{◌≡◌, pos, negsuc, true, false, [], ◌∷◌
 use Rattle.std.specs.Fmt.{digits}
 use Rattle.std.specs.List.{flat_map}
 use Rattle.design_model.specs.Extents.{extent_of_points}
-use Rattle.design_picture.specs.Captions.{block_place, block_swatch}
-use Rattle.design_picture.specs.Pictures.{thread_start}
-use Rattle.design_picture.specs.Threads.{move_text, shape_end, straight_text}
-use Rattle.drawing_picture.specs.DrawingCaptions.{even_dot, junction_dot, odd_counts, odd_dot, piece_counts, thread_end, thread_lines}
+use Rattle.design_picture.specs.Captions.{block_start}
+use Rattle.drawing_picture.specs.DrawingCaptions.{counts_text, junction_dot, thread_end, thread_lines}
 use Rattle.drawing_picture.specs.JunctionMarks.{loose_points, marks_of_piece, odd_marks}
 use Rattle.drawing_picture.specs.LinePaths.{line_paths}
 use Rattle.drawing_review.specs.declared.place.PlaceKind.TheVariants as place
 use Rattle.line_graph.specs.PieceGraphs.{PieceValue}
 use Rattle.line_sections.specs.Lines.{points_of_lines}
 use Rattle.picture_parts.specs.Colours.{colour_of_thread}
-use Rattle.picture_parts.specs.Parts.{joined}
+use Rattle.picture_parts.specs.Marks.{mark_text, shape_at}
+use Rattle.picture_parts.specs.Parts.{filled, joined}
+use Rattle.picture_parts.specs.Paths.{coloured_path, move_text, path_end, straight_text}
 use Rattle.drawing_picture.proofs.BandFacts.{at, point}
 
 -- Two lines in blocks of the threads 5 and 20: each is a path through its points, in its colour.
@@ -22,7 +22,7 @@ pub known_paths : line_paths (5 ∷ 20 ∷ []) (record { block = 0; points = at 
     ≡ codes "<path class='thread' stroke='#ed171f' d='"
     ++ (10 ∷ codes "M0,0L20,0L20,-5'/>" ++ (10 ∷ codes "<path class='thread' stroke='#000000' d='"
     ++ (10 ∷ codes "M7,0L9,0'/>" ++ 10 ∷ [])))
-unfolding joined digits thread_start move_text straight_text shape_end colour_of_thread
+unfolding joined filled digits coloured_path move_text straight_text path_end colour_of_thread
 known_paths = refl
 
 pub known_extent : extent_of_points (points_of_lines (record { block = 0; points = at 4 ∷ point (pos 9) (negsuc 4) ∷ [] }
@@ -64,16 +64,16 @@ known_loose = refl
 pub known_dots : flat_map junction_dot (record { at = at 7; is_odd = true } ∷ record { at = at 9; is_odd = false } ∷ [])
     ≡ codes "<path fill='#ffd400' stroke='#222' stroke-width='2' d='M7,0m-9,0a9,9,0,1,0,18,0a9,9,0,1,0,-18,0'/>"
     ++ (10 ∷ codes "<path fill='#222' d='M9,0m-5,0a5,5,0,1,0,10,0a5,5,0,1,0,-10,0'/>" ++ 10 ∷ [])
-unfolding joined digits odd_dot even_dot
+unfolding filled digits mark_text shape_at
 known_dots = refl
 
-pub known_counts : piece_counts 2 30 4 ++ odd_counts 1 0
+pub known_counts : counts_text 2 30 4 1 0
     ≡ codes "<text y='72'>pieces 2, lines 30, junctions 4</text>"
     ++ (10 ∷ codes "<text y='100'>odd junctions 1, loose ends 0</text>" ++ 10 ∷ [])
-unfolding joined digits piece_counts odd_counts
+unfolding filled digits counts_text
 known_counts = refl
 
 pub known_threads : thread_lines 1 (5 ∷ []) ≡ codes "<g transform='translate(0,28)'><path stroke-width='14' d='M7,-7h26' stroke='#ed171f'/>"
     ++ (codes "<text x='52'>thread 5</text></g>" ++ 10 ∷ [])
-unfolding joined digits block_place block_swatch thread_end colour_of_thread
+unfolding filled digits block_start thread_end colour_of_thread
 known_threads = refl

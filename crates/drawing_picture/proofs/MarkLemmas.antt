@@ -3,7 +3,7 @@ use Rattle.std.proofs.Common.{◌≡◌, ℕ, ◌+◌, ◌≤◌, Bool, true, fa
 use Rattle.std.specs.List.{filter, flat_map, range_with_len}
 use Rattle.std.specs.Prelude.{cond}
 use Rattle.design_model.specs.declared.point.Point.{Point}
-use Rattle.design_picture.specs.Threads.{move_text, straight_text}
+use Rattle.picture_parts.specs.Paths.{move_text, straight_text}
 use Rattle.drawing_picture.specs.declared.junction_marks.JunctionMark.{JunctionMark}
 use Rattle.drawing_picture.specs.JunctionMarks.{marks_from, marks_of_piece, odd_marks}
 use Rattle.drawing_picture.specs.DrawnLaws.{DrawnSegment, MarksShowJunctions, PathsShowSegments, segments_through}

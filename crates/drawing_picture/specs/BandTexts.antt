@@ -1,14 +1,14 @@
 -- The texts of bands.
 use Rattle.std.specs.Prelude.{ℕ, ◌%◌, ◌==◌, List, [], ◌∷◌, ◌++◌, codes, if◌then◌else◌, map}
 use Rattle.design_model.specs.declared.point.Point.{Point}
-use Rattle.design_picture.specs.Threads.{shape_end}
 use Rattle.drawing_picture.specs.Bands.{Band, bands_on}
 use Rattle.line_graph.specs.declared.edge.Edge.{Edge}
 use Rattle.drawing_model.specs.Drawings.{DrawingValue}
 use Rattle.line_graph.specs.PieceGraphs.{PieceValue}
 use Rattle.odd_cuts.specs.declared.certificate.PieceCert.{PieceCert}
 use Rattle.odd_cuts.specs.declared.cut.Cut.{Cut}
-use Rattle.picture_parts.specs.Parts.{ended, joined, point_text}
+use Rattle.picture_parts.specs.Parts.{ended, filled, joined, point_text}
+use Rattle.picture_parts.specs.Paths.{path_end}
 
 -- The colour of the cut with the given number: six colours, again and again.
 abbrev pub colour_of_cut : ℕ → List ℕ
@@ -20,11 +20,11 @@ colour_of_cut number = if number % 6 == 0 then codes "#1b9e77"
 
 -- The beginning of a band of a colour.
 unfoldable pub band_start : List ℕ → List ℕ
-band_start colour = joined (codes "<path class='band' stroke='" ∷ colour ∷ codes "' d='M" ∷ [])
+band_start colour = filled (codes "<path class='band' stroke='@' d='M") (colour ∷ [])
 
 -- A point of a way.
 unfoldable pub way_point : Point → List ℕ
-way_point p = joined (point_text p ∷ codes " " ∷ [])
+way_point p = joined ([] ∷ point_text p ∷ codes " " ∷ [])
 
 -- The points of a way.
 abbrev pub way_points : List Point → List ℕ
@@ -32,7 +32,7 @@ way_points points = joined (map way_point points)
 
 -- A band.
 abbrev pub band_text : Band → List ℕ
-band_text band = band_start (colour_of_cut band.number) ++ (way_points band.way ++ shape_end)
+band_text band = band_start (colour_of_cut band.number) ++ (way_points band.way ++ path_end)
 
 -- The bands on a line.
 abbrev pub line_bands : DrawingValue → List Cut → ℕ → Edge → List ℕ
@@ -52,6 +52,6 @@ bands_of_pieces d (p ∷ pieces) [] = []
 bands_of_pieces d (p ∷ pieces) (cert ∷ certs) =
     bands_of_lines d cert.cuts p.lines p.edges ++ bands_of_pieces d pieces certs
 
--- The beginning of the bands, whose points are in half tenths of a millimetre.
-unfoldable pub bands_start : List ℕ
-bands_start = joined (ended (codes "<g transform='scale(.5)'>") ∷ [])
+-- The group of bands, whose points are in half tenths of a millimetre.
+unfoldable pub band_group : List ℕ → List ℕ
+band_group bands = filled (codes "<g transform='scale(.5)'>" ++ (10 ∷ ended (codes "@</g>"))) (bands ∷ [])

@@ -2,7 +2,7 @@
 use Rattle.std.specs.Prelude.{◌≡◌, List, [], ◌∷◌, ◌++◌, length, map}
 use Rattle.std.specs.List.{flat_map, range_with_len}
 use Rattle.design_model.specs.declared.point.Point.{Point}
-use Rattle.design_picture.specs.Threads.{move_text, straight_text}
+use Rattle.picture_parts.specs.Paths.{move_text, straight_text}
 use Rattle.drawing_picture.specs.declared.junction_marks.JunctionMark.{JunctionMark}
 use Rattle.drawing_picture.specs.JunctionMarks.{marks_of_piece, odd_marks}
 use Rattle.drawing_picture.specs.LinePaths.{path_text}

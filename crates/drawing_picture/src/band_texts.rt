@@ -1,11 +1,10 @@
 ghost use Rattle.std.specs.Prelude.{◌≡◌, ◌+◌, ◌++◌, OnOk, map, take};
-ghost use Rattle.design_picture.specs.Threads.{shape_end};
-ghost use Rattle.drawing_picture.specs.BandTexts.{band_start, bands_start, colour_of_cut, way_point, way_points};
+ghost use Rattle.drawing_picture.specs.BandTexts.{band_start, colour_of_cut, way_point, way_points};
+ghost use Rattle.picture_parts.specs.Paths.{path_end};
 
 use design_model::Point;
-use design_picture::put_shape_end;
 use lists_and_numbers::{Bytes, Memory};
-use picture_parts::{Part, put, put_around};
+use picture_parts::{Part, put, put_around, put_path_end};
 
 /// Appends the band of a cut, which begins with the first of the given half steps.
 pub(crate) fn put_band(
@@ -15,11 +14,11 @@ pub(crate) fn put_band(
     way: &[Point],
 ) -> Result<(), Memory>
     ensures { OnOk result (text.new ≡ text.old ++ (band_start (colour_of_cut number)
-        ++ (way_points (take (weight + 1) way.now) ++ shape_end))) }
+        ++ (way_points (take (weight + 1) way.now) ++ path_end))) }
 {
     put_band_start(text, cut_colour(number))?;
     put_way(text, beginning(way, weight))?;
-    put_shape_end(text)?;
+    put_path_end(text)?;
     Ok(())
 }
 
@@ -41,11 +40,10 @@ fn cut_colour(number: usize) -> &'static [u8]
 fn put_band_start(text: &mut Bytes, colour: &[u8]) -> Result<(), Memory>
     ensures { OnOk result (text.new ≡ text.old ++ band_start colour.now) }
 {
-    put_around(
+    put(
         text,
-        b"<path class='band' stroke='",
-        Part::Text(colour),
-        b"' d='M",
+        b"<path class='band' stroke='@' d='M",
+        &[Part::Text(colour)],
     )
 }
 
@@ -71,13 +69,5 @@ fn put_way(text: &mut Bytes, way: &[Point]) -> Result<(), Memory>
 fn put_way_point(text: &mut Bytes, at: Point) -> Result<(), Memory>
     ensures { OnOk result (text.new ≡ text.old ++ way_point at) }
 {
-    put(text, &[Part::At(at), Part::Text(b" ")])
-}
-
-/// Begins the group of the bands.
-#[tactic(auto, unfolding(crate::specs::BandTexts::bands_start))]
-pub(crate) fn put_bands_start(text: &mut Bytes) -> Result<(), Memory>
-    ensures { OnOk result (text.new ≡ text.old ++ bands_start) }
-{
-    put(text, &[Part::Text(b"<g transform='scale(.5)'>\n")])
+    put_around(text, b"", at, b" ")
 }

@@ -1,14 +1,13 @@
 ghost use Rattle.std.specs.Prelude.{◌≡◌, ◌++◌, OnOk};
 ghost use Rattle.std.specs.List.{flat_map};
-ghost use Rattle.design_picture.specs.Threads.{straight_text};
 ghost use Rattle.drawing_picture.specs.LinePaths.{block_colour, line_path, line_paths, path_text};
+ghost use Rattle.picture_parts.specs.Paths.{straight_text};
 
 use design_model::Point;
-use design_picture::{put_move, put_shape_end, put_straight, put_thread_start};
 use line_sections::Line;
 use lists_and_numbers::{Bytes, Memory};
 use odd_cuts::{first_and_rest, first_lent};
-use picture_parts::thread_colour;
+use picture_parts::{put_coloured_path, put_move, put_path_end, put_straight, thread_colour};
 
 /// Appends the paths of lines, where the blocks have the given threads.
 pub(crate) fn put_line_paths(text: &mut Bytes, threads: &[u8], lines: &[Line]) -> Result<(), Memory>
@@ -25,9 +24,9 @@ pub(crate) fn put_line_paths(text: &mut Bytes, threads: &[u8], lines: &[Line]) -
 fn put_line_path(text: &mut Bytes, threads: &[u8], line: &Line) -> Result<(), Memory>
     ensures { OnOk result (text.new ≡ text.old ++ line_path threads.now line.now) }
 {
-    put_thread_start(text, colour_in(threads, line.block()))?;
+    put_coloured_path(text, b"thread", colour_in(threads, line.block()))?;
     put_path(text, line.points())?;
-    put_shape_end(text)?;
+    put_path_end(text)?;
     Ok(())
 }
 

@@ -1,10 +1,19 @@
 ghost use Rattle.std.specs.Prelude.{◌≡◌, ◌+◌, ◌++◌, ◌<◌, ◌-◌, ◌^◌, IfOk, OnOk, length};
-ghost use Rattle.drawing_picture.specs.ProofPictures.{band_lines, reason_lines, reason_start, retraced_steps, why_lines};
+ghost use Rattle.drawing_picture.specs.ProofPictures.{reason_lines, retraced_steps};
+ghost use Rattle.drawing_picture.specs.BandTexts.{band_group};
 
-use design_picture::{LINE_HEIGHT, put_group_end};
+use design_picture::LINE_HEIGHT;
 use lists_and_numbers::{Bytes, Memory};
 use odd_cuts::{PieceCert, first_lent};
-use picture_parts::{Part, put, put_around};
+use picture_parts::{Part, put};
+
+/// Why no shorter thread exists, without its last line.
+const REASON: &[u8] =
+    b"<text class='small' y='24'>Blue: sewn again. Bands of one colour: a cut, round the junctions</text>\n\
+<text class='small' y='46'>that it holds, as wide as its weight. No thread is shorter: an odd</text>\n\
+<text class='small' y='68'>number of lines leads out of each cut (a given end's way back to</text>\n\
+<text class='small' y='90'>the start is one), so a thread passes the width of its band once</text>\n\
+<text class='small' y='112'>more than the lines ask, and all bands together are as wide as</text>\n";
 
 /// The height of the reason, in lines of the legend.
 pub const REASON_LINES: u32 = 5;
@@ -28,61 +37,26 @@ pub(crate) fn steps_again(certs: &[PieceCert]) -> u64
 pub(crate) fn put_reason(text: &mut Bytes, lines: u32, steps: u64) -> Result<(), Memory>
     ensures { OnOk result (text.new ≡ text.old ++ reason_lines lines steps) }
 {
-    put_reason_start(text, lines)?;
-    put_band_lines(text)?;
-    put_why_lines(text, steps)?;
-    put_group_end(text)?;
-    Ok(())
-}
-
-#[tactic(auto, unfolding(crate::specs::ProofPictures::reason_start))]
-fn put_reason_start(text: &mut Bytes, lines: u32) -> Result<(), Memory>
-    ensures { OnOk result (text.new ≡ text.old ++ reason_start lines) }
-{
-    put_around(
-        text,
-        b"<g transform='translate(0,",
-        Part::Number((170 + LINE_HEIGHT * lines as u64) as u128),
-        b")'>\n",
-    )
-}
-
-#[tactic(auto, unfolding(crate::specs::ProofPictures::band_lines))]
-fn put_band_lines(text: &mut Bytes) -> Result<(), Memory>
-    ensures { OnOk result (text.new ≡ text.old ++ band_lines) }
-{
     put(
         text,
+        b"<g transform='translate(0,@)'>\n@\
+        <text class='small' y='134'>what is sewn again: steps @.</text>\n</g>\n",
         &[
-            Part::Text(
-                b"<text class='small' y='24'>Blue: sewn again. Bands of one colour: a cut, round the junctions</text>\n",
-            ),
-            Part::Text(
-                b"<text class='small' y='46'>that it holds, as wide as its weight. No thread is shorter: an odd</text>\n",
-            ),
-        ],
-    )
-}
-
-#[tactic(auto, unfolding(crate::specs::ProofPictures::why_lines))]
-fn put_why_lines(text: &mut Bytes, steps: u64) -> Result<(), Memory>
-    ensures { OnOk result (text.new ≡ text.old ++ why_lines steps) }
-{
-    put(
-        text,
-        &[
-            Part::Text(
-                b"<text class='small' y='68'>number of lines leads out of each cut (a given end's way back to</text>\n",
-            ),
-            Part::Text(
-                b"<text class='small' y='90'>the start is one), so a thread passes the width of its band once</text>\n",
-            ),
-            Part::Text(
-                b"<text class='small' y='112'>more than the lines ask, and all bands together are as wide as</text>\n",
-            ),
-            Part::Text(b"<text class='small' y='134'>what is sewn again: steps "),
+            Part::Number((170 + LINE_HEIGHT * lines as u64) as u128),
+            Part::Text(REASON),
             Part::Number(steps as u128),
-            Part::Text(b".</text>\n"),
         ],
+    )
+}
+
+/// Appends the group of bands, whose points are in half tenths of a millimetre.
+#[tactic(auto, unfolding(crate::specs::BandTexts::band_group))]
+pub(crate) fn put_band_group(text: &mut Bytes, bands: &[u8]) -> Result<(), Memory>
+    ensures { OnOk result (text.new ≡ text.old ++ band_group bands.now) }
+{
+    put(
+        text,
+        b"<g transform='scale(.5)'>\n@</g>\n",
+        &[Part::Text(bands)],
     )
 }

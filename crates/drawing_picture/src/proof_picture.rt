@@ -2,23 +2,21 @@ ghost use Rattle.std.specs.Prelude.{◌≡◌, ◌++◌, ◌<◌, ◌-◌, ◌^�
 ghost use Rattle.design_model.specs.declared.design.TheConstants.{MAX_COMMANDS};
 ghost use Rattle.design_picture.specs.Pens.{HasCounted};
 ghost use Rattle.drawing_picture.specs.BandTexts.{bands_of_pieces};
-ghost use Rattle.drawing_picture.specs.ProofPictures.{proof_area as area_of_proof, proof_below, proof_layers, proof_of_design, proof_top, proof_with, retraced_steps, second_layer, second_start};
+ghost use Rattle.drawing_picture.specs.ProofPictures.{proof_area as area_of_proof, proof_of_design, proof_with, retraced_steps};
 ghost use Rattle.line_graph.specs.PiecesOfDrawings.{graph_of};
 
-use crate::band_texts::put_bands_start;
 use crate::line_bands::put_pieces;
-use crate::proof_captions::{REASON_LINES, put_reason, steps_again};
-use design_model::{Design, counts, extent};
+use crate::proof_captions::{REASON_LINES, put_band_group, put_reason, steps_again};
+use design_model::{Design, extent};
 use design_picture::{
-    Area, Hoop, Layer, Pen, Stroke, Strokes, area_of, left_below, put_below_start, put_caption,
-    put_group_end, put_holes, put_last_mark, put_layer, put_legend, put_opening_group,
-    put_shape_end, put_strokes, put_threads, put_title, sheet_of,
+    Area, Hoop, Layer, Pen, Stroke, Strokes, area_of, put_below, put_design_top, put_over,
+    put_path_layer, put_strokes, put_threads,
 };
 use drawing_model::Drawing;
 use line_graph::Piece;
 use lists_and_numbers::{Bytes, Memory};
 use odd_cuts::PieceCert;
-use picture_parts::{Part, put, put_foot, put_head};
+use picture_parts::put_foot;
 use std::alloc::Global;
 
 /// Returns the picture of a design that sews the walks of certificates, with the cuts as bands.
@@ -61,27 +59,16 @@ fn drawn(
     ensures { IfOk result (λ text. text ≡ proof_with design.now bands.now steps strokes.now pen) }
 {
     let mut text = Bytes::new(alloc);
-    put_top(&mut text, design, pen)?;
-    put_bands_start(&mut text)?;
-    text.append(bands)?;
-    put_group_end(&mut text)?;
-    put_layers(&mut text, design, strokes, pen)?;
-    put_below(&mut text, design, steps, strokes, pen)?;
+    let area = proof_area(design, pen);
+    put_design_top(&mut text, design, area)?;
+    put_band_group(&mut text, bands)?;
+    put_threads(&mut text, design, strokes)?;
+    put_path_layer(&mut text, b"second", Layer::Seconds, strokes)?;
+    put_over(&mut text, strokes, pen)?;
+    put_below(&mut text, design, area, strokes, pen)?;
+    put_reason(&mut text, pen.stops + 1, steps)?;
     put_foot(&mut text)?;
     Ok(text)
-}
-
-/// Appends what comes before the bands.
-#[tactic(auto, unfolding(crate::specs::ProofPictures::proof_top))]
-fn put_top(text: &mut Bytes, design: &Design, pen: Pen) -> Result<(), Memory>
-    requires { HasCounted MAX_COMMANDS pen }
-    ensures { OnOk result (text.new ≡ text.old ++ proof_top design.now pen) }
-{
-    let area = proof_area(design, pen);
-    put_head(text, sheet_of(area))?;
-    put_title(text, design.label())?;
-    put_opening_group(text, area)?;
-    Ok(())
 }
 
 fn proof_area(design: &Design, pen: Pen) -> Area
@@ -95,59 +82,4 @@ fn proof_area(design: &Design, pen: Pen) -> Area
         height: 0,
     };
     area_of(extent(design), none, pen.stops + 1 + REASON_LINES)
-}
-
-/// Appends the threads.
-#[tactic(auto, unfolding(crate::specs::ProofPictures::proof_layers))]
-fn put_layers(text: &mut Bytes, design: &Design, strokes: &[Stroke], pen: Pen) -> Result<(), Memory>
-    ensures { OnOk result (text.new ≡ text.old ++ proof_layers design.now strokes.now pen) }
-{
-    put_layer(text, Layer::Travels, strokes)?;
-    put_threads(text, design.thread(0), strokes)?;
-    put_seconds(text, strokes)?;
-    put_holes(text, strokes)?;
-    put_layer(text, Layer::Arrows, strokes)?;
-    put_layer(text, Layer::Marks, strokes)?;
-    put_last_mark(text, pen)?;
-    Ok(())
-}
-
-/// Appends what is sewn again.
-#[tactic(auto, unfolding(crate::specs::ProofPictures::second_layer))]
-fn put_seconds(text: &mut Bytes, strokes: &[Stroke]) -> Result<(), Memory>
-    ensures { OnOk result (text.new ≡ text.old ++ second_layer strokes.now) }
-{
-    put_second_start(text)?;
-    put_layer(text, Layer::Seconds, strokes)?;
-    put_shape_end(text)?;
-    Ok(())
-}
-
-#[tactic(auto, unfolding(crate::specs::ProofPictures::second_start))]
-fn put_second_start(text: &mut Bytes) -> Result<(), Memory>
-    ensures { OnOk result (text.new ≡ text.old ++ second_start) }
-{
-    put(text, &[Part::Text(b"<path class='second' d='")])
-}
-
-/// Appends the texts below the threads.
-#[tactic(auto, unfolding(crate::specs::ProofPictures::proof_below))]
-fn put_below(
-    text: &mut Bytes,
-    design: &Design,
-    steps: u64,
-    strokes: &[Stroke],
-    pen: Pen,
-) -> Result<(), Memory>
-    requires { HasCounted MAX_COMMANDS pen }
-    ensures { OnOk result (text.new ≡ text.old ++ proof_below design.now steps strokes.now pen) }
-{
-    let area = proof_area(design, pen);
-    put_below_start(text, left_below(area.corners), area.above)?;
-    put_caption(text, design.label(), extent(design), counts(design), pen)?;
-    put_legend(text, design, strokes, pen)?;
-    put_reason(text, pen.stops + 1, steps)?;
-    put_group_end(text)?;
-    put_group_end(text)?;
-    Ok(())
 }

@@ -1,3 +1,4 @@
 pub mod CallerLemmas
+mod TemplateLemmas
 mod RootLemmas
 mod PartFacts

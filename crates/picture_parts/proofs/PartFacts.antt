@@ -1,11 +1,11 @@
 -- Worked values of parts, colours and lengths.
-use Rattle.std.proofs.Common.{◌≡◌, ℤ, pos, negsuc, [], ◌∷◌, codes, map, refl}
+use Rattle.std.proofs.Common.{◌≡◌, ℤ, pos, negsuc, [], ◌∷◌, ◌++◌, codes, map, refl}
 use Rattle.std.specs.Fmt.{digits}
 use Rattle.design_model.specs.declared.point.Point.{Point}
 use Rattle.picture_parts.specs.Colours.{colour_of_thread}
 use Rattle.picture_parts.specs.Lengths.{length_of, square_of, whole_root}
-use Rattle.picture_parts.specs.Parts.{ended, escaped_text, joined, mm_text}
-use Rattle.picture_parts.specs.Sheets.{view_text}
+use Rattle.picture_parts.specs.Parts.{escaped_text, filled, joined, mm_text}
+use Rattle.picture_parts.specs.Sheets.{head_text, style_text}
 
 abbrev pub point : ℤ → ℤ → Point
 point x y = record { x = x; y = y }
@@ -29,8 +29,15 @@ pub known_escapes : escaped_text (codes "A<B&C>") ≡ codes "A&lt;B&amp;C>"
 unfolding joined
 known_escapes = refl
 
+-- Two parts, then more of either kind than of the other.
+pub known_filled : filled (codes "a@b@c") (codes "1" ∷ codes "@" ∷ []) ++ (filled (codes "@@") (codes "2" ∷ [])
+    ++ filled (codes "d") (codes "3" ∷ [])) ≡ codes "a1b@c2@d3"
+unfolding filled
+known_filled = refl
+
 -- 30 mm by 26 mm, from 5 mm left of the origin
-pub known_view : view_text (record { corner = point (negsuc 49) (pos 7); width = 300; height = 260 })
-    ≡ ended (codes "mm' viewBox='-50,7,300,260'>")
-unfolding view_text joined digits
-known_view = refl
+pub known_head : head_text (record { corner = point (negsuc 49) (pos 7); width = 300; height = 260 })
+    ≡ codes "<svg xmlns='http://www.w3.org/2000/svg' width='30.0mm' height='26.0mm' viewBox='-50,7,300,260'>"
+    ++ (10 ∷ codes "<path fill='#d9d1be' d='M-50,7h300v260h-300z'/>" ++ (10 ∷ style_text))
+unfolding head_text filled digits
+known_head = refl

@@ -1,9 +1,10 @@
 -- SVG texts in parts. Points are in tenths of a millimetre, y downwards.
-use Rattle.std.specs.Prelude.{ℕ, ◌/◌, ◌%◌, ◌==◌, List, [], ◌∷◌, ◌++◌, codes, map, if◌then◌else◌}
+use Rattle.std.specs.Prelude.{ℕ, ◌+◌, ◌/◌, ◌%◌, ◌==◌, List, [], ◌∷◌, ◌++◌, codes, drop, length, map, if◌then◌else◌}
 use Rattle.std.specs.Fmt.{decimal, signed_decimal}
 use Rattle.design_model.specs.declared.point.Point.{Point}
 use Rattle.picture_parts.specs.declared.parts.Part.{Part}
-use Rattle.picture_parts.specs.declared.parts.Part.TheVariants.{Text, Number, At, Mm}
+use Rattle.picture_parts.specs.declared.parts.Part.TheVariants.{Text, Escaped, Number, At, Mm}
+use Rattle.text_parts.specs.Parts.{parts_between}
 
 -- The text of parts in order.
 unfoldable pub joined : List (List ℕ) → List ℕ
@@ -18,13 +19,6 @@ point_text p = signed_decimal p.x ++ (codes "," ++ signed_decimal p.y)
 abbrev pub mm_text : ℕ → List ℕ
 mm_text tenths = decimal (tenths / 10) ++ (codes "." ++ decimal (tenths % 10))
 
--- The text of a part.
-abbrev pub part_text : Part → List ℕ
-part_text (Text bytes) = bytes.now
-part_text (Number n) = decimal n
-part_text (At p) = point_text p
-part_text (Mm tenths) = mm_text tenths
-
 -- A line of text, with its end.
 abbrev pub ended : List ℕ → List ℕ
 ended line = line ++ 10 ∷ []
@@ -37,3 +31,29 @@ escaped_byte byte = if byte == 60 then codes "&lt;"
 -- A label in XML.
 abbrev pub escaped_text : List ℕ → List ℕ
 escaped_text label = joined (map escaped_byte label)
+
+-- The text of a part.
+abbrev pub part_text : Part → List ℕ
+part_text (Text bytes) = bytes.now
+part_text (Escaped label) = escaped_text label.now
+part_text (Number n) = decimal n
+part_text (At p) = point_text p
+part_text (Mm tenths) = mm_text tenths
+
+-- The first of some texts; the empty text for none.
+abbrev pub first_text : List (List ℕ) → List ℕ
+first_text [] = []
+first_text (text ∷ rest) = text
+
+-- A template before its first mark, `@` (64), or all of it without a mark.
+abbrev pub text_before : List ℕ → List ℕ
+text_before template = first_text (parts_between 64 template)
+
+-- A template after its first mark.
+abbrev pub text_after : List ℕ → List ℕ
+text_after template = drop (length (text_before template) + 1) template
+
+-- A template with texts in the places of its marks, in order.
+unfoldable pub filled : List ℕ → List (List ℕ) → List ℕ
+filled template [] = template
+filled template (part ∷ rest) = text_before template ++ (part ++ filled (text_after template) rest)

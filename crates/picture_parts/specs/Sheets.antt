@@ -3,62 +3,44 @@
 use Rattle.std.specs.Prelude.{ℕ, List, [], ◌∷◌, ◌++◌, codes}
 use Rattle.std.specs.Fmt.{decimal}
 use Rattle.picture_parts.specs.declared.sheet.Sheet.{Sheet}
-use Rattle.picture_parts.specs.Parts.{ended, joined, mm_text, point_text}
+use Rattle.picture_parts.specs.Parts.{ended, filled, mm_text, point_text}
 
--- The beginning of a picture, with its size in millimetres.
-unfoldable pub size_text : Sheet → List ℕ
-size_text sheet = joined (codes "<svg xmlns='http://www.w3.org/2000/svg' width='"
-    ∷ mm_text sheet.width ∷ codes "mm' height='" ∷ mm_text sheet.height ∷ [])
-
--- The rectangle that a picture shows.
-unfoldable pub view_text : Sheet → List ℕ
-view_text sheet = joined (codes "mm' viewBox='" ∷ point_text sheet.corner ∷ codes ","
-    ∷ decimal sheet.width ∷ codes "," ∷ decimal sheet.height ∷ ended (codes "'>") ∷ [])
-
--- The four sides of a rectangle, from its upper left corner on.
-unfoldable pub rectangle_text : ℕ → ℕ → List ℕ
-rectangle_text width height = joined (codes "h" ∷ decimal width ∷ codes "v" ∷ decimal height
-    ∷ codes "h-" ∷ decimal width ∷ ended (codes "z'/>") ∷ [])
-
--- The sheet in the colour of unbleached cloth.
-unfoldable pub frame_text : Sheet → List ℕ
-frame_text sheet = joined (codes "<path fill='#d9d1be' d='M" ∷ point_text sheet.corner ∷ [])
-    ++ rectangle_text sheet.width sheet.height
-
--- The styles of texts, threads, needle holes, travels, marks and bands.
-unfoldable pub style_text : List ℕ
+-- The styles of texts, threads, needle holes, travels, marks and bands, and the arrows along a
+-- thread and along a travel.
+abbrev pub style_text : List ℕ
 style_text =
-    joined ((codes "<style>text{font:22px sans-serif;fill:#222;paint-order:stroke;stroke:#d9d1be;s"
-    ++ (codes "troke-width:5;stroke-linejoin:round}" ++ 10 ∷ []))
-    ∷ (codes "path{stroke-linecap:round;stroke-linejoin:round}.thread{fill:none;"
-    ++ (codes "stroke-width:3}.second{fill:none;stroke-width:3;stroke:#1d3bd1}" ++ 10 ∷ []))
-    ∷ (codes ".hole{fill:none;stroke:#222;stroke-width:2.6}.line{fill:none;stroke:#555;strok"
-    ++ (codes "e-width:1.5}" ++ 10 ∷ []))
-    ∷ (codes ".travel{fill:none;stroke:#555;stroke-width:1.5;stroke-dasharray:6 5;marker-end"
-    ++ (codes ":url(#way)}.arrow{fill:none;stroke:none;marker-end:url(#dart)}" ++ 10 ∷ []))
-    ∷ (codes ".start{fill:#1a7f37;stroke:#fff;stroke-width:1.5}.end{fill:#b3261e;stroke:#fff"
+    codes "<style>text{font:22px sans-serif;fill:#222;paint-order:stroke;stroke:#d9d1be;s"
+    ++ (codes "troke-width:5;stroke-linejoin:round}"
+    ++ (10 ∷ codes "path{stroke-linecap:round;stroke-linejoin:round}.thread{fill:none;"
+    ++ (codes "stroke-width:3}.second{fill:none;stroke-width:3;stroke:#1d3bd1}"
+    ++ (10 ∷ codes ".hole{fill:none;stroke:#222;stroke-width:2.6}.line{fill:none;stroke:#555;strok"
+    ++ (codes "e-width:1.5}"
+    ++ (10 ∷ codes ".travel{fill:none;stroke:#555;stroke-width:1.5;stroke-dasharray:6 5;marker-end"
+    ++ (codes ":url(#way)}.arrow{fill:none;stroke:none;marker-end:url(#dart)}"
+    ++ (10 ∷ codes ".start{fill:#1a7f37;stroke:#fff;stroke-width:1.5}.end{fill:#b3261e;stroke:#fff"
     ++ (codes ";stroke-width:1.5}.trim{fill:none;stroke:#222;stroke-width:2}.stop{fill:#fff;s"
-    ++ (codes "troke:#222;stroke-width:2}" ++ 10 ∷ [])))
-    ∷ (codes ".small{font-size:17px}.over{stroke:#d00}.band{fill:none;stroke-width:30;stroke"
-    ++ (codes "-linecap:butt;opacity:.6}</style>" ++ 10 ∷ [])) ∷ [])
+    ++ (codes "troke:#222;stroke-width:2}"
+    ++ (10 ∷ codes ".small{font-size:17px}.over{stroke:#d00}.band{fill:none;stroke-width:30;stroke"
+    ++ (codes "-linecap:butt;opacity:.6}</style>"
+    ++ (10 ∷ codes "<defs><marker id='dart' markerUnits='userSpaceOnUse' markerWidth='16' markerHe"
+    ++ (codes "ight='16' refX='17' refY='8' orient='auto'>"
+    ++ (codes "<path d='M3,2.5L15,8L3,13.5L6,8z' fill='#222' stroke='#fff' stroke-width='1'/>"
+    ++ (codes "</marker>"
+    ++ (10 ∷ codes "<marker id='way' markerUnits='userSpaceOnUse' markerWidth='16' markerHeight='1"
+    ++ (codes "6' refX='19' refY='8' orient='auto'>"
+    ++ (codes "<path d='M4,3L13,8L4,13' fill='none' stroke='#555' stroke-width='1.5'/></marke"
+    ++ (ended (codes "r></defs>")))))))))))))))))))))
 
--- The arrows along a thread and along a travel.
-unfoldable pub arrows_text : List ℕ
-arrows_text =
-    joined ((codes "<defs><marker id='dart' markerUnits='userSpaceOnUse' markerWidth='16' markerHe"
-    ++ (codes "ight='16' refX='17' refY='8' orient='auto'>"))
-    ∷ (codes "<path d='M3,2.5L15,8L3,13.5L6,8z' fill='#222' stroke='#fff' stroke-width='1'/>"
-    ++ (codes "</marker>" ++ 10 ∷ []))
-    ∷ (codes "<marker id='way' markerUnits='userSpaceOnUse' markerWidth='16' markerHeight='1"
-    ++ (codes "6' refX='19' refY='8' orient='auto'>"))
-    ∷ (codes "<path d='M4,3L13,8L4,13' fill='none' stroke='#555' stroke-width='1.5'/></marke"
-    ++ (codes "r></defs>" ++ 10 ∷ [])) ∷ [])
-
--- The text before the shapes of a picture.
+-- The text before the title of a picture: its size in millimetres, the rectangle that it shows, the
+-- sheet in the colour of unbleached cloth, styles and arrows.
 unfoldable pub head_text : Sheet → List ℕ
-head_text sheet = size_text sheet ++ (view_text sheet ++ (frame_text sheet
-    ++ (style_text ++ arrows_text)))
+head_text sheet = filled (codes "<svg xmlns='http://www.w3.org/2000/svg' width='@mm' height='@mm'"
+    ++ (codes " viewBox='@,@,@'>" ++ (10 ∷ codes "<path fill='#d9d1be' d='M@h@v@h-@z'/>"
+    ++ (10 ∷ codes "@"))))
+    (mm_text sheet.width ∷ mm_text sheet.height ∷ point_text sheet.corner ∷ decimal sheet.width
+    ∷ decimal sheet.height ∷ point_text sheet.corner ∷ decimal sheet.width ∷ decimal sheet.height
+    ∷ decimal sheet.width ∷ style_text ∷ [])
 
--- The end of a picture.
+-- The end of a picture, and of the two groups that it ends with.
 unfoldable pub foot_text : List ℕ
-foot_text = joined (ended (codes "</svg>") ∷ [])
+foot_text = filled (ended (codes "</g>") ++ (ended (codes "</g>") ++ ended (codes "</svg>"))) []

@@ -1,16 +1,20 @@
 ghost use Rattle.std.specs.Prelude.{◌≡◌, ◌++◌, ◌∷◌, [], OnOk, map};
 ghost use Rattle.std.specs.Fmt.{decimal, signed_decimal};
-ghost use Rattle.picture_parts.specs.Parts.{joined, mm_text, part_text, point_text};
+ghost use Rattle.picture_parts.specs.Parts.{filled, joined, mm_text, part_text, point_text, text_after, text_before};
 
+use crate::escapes::put_escaped;
 use design_model::Point;
 use itoa::Buffer;
 use lists_and_numbers::{Bytes, Memory};
+use text_parts::split_first;
 
 /// A part of an SVG text.
 #[derive(Clone, Copy)]
 pub enum Part<'a> {
     /// Characters that stay as they are.
     Text(&'a [u8]),
+    /// Characters of a label, with those escaped that XML uses itself.
+    Escaped(&'a [u8]),
     /// A number in decimals.
     Number(u128),
     /// A point, in tenths of a millimetre.
@@ -19,27 +23,42 @@ pub enum Part<'a> {
     Mm(u128),
 }
 
-/// Appends parts in order.
-pub fn put(text: &mut Bytes, parts: &[Part<'_>]) -> Result<(), Memory>
-    ensures { OnOk result (text.new ≡ text.old ++ joined (map part_text parts.now)) }
+/// Appends a template with the parts in the places of its marks `@`, in order.
+pub fn put(text: &mut Bytes, template: &[u8], parts: &[Part<'_>]) -> Result<(), Memory>
+    ensures { OnOk result (text.new ≡ text.old ++ filled template.now (map part_text parts.now)) }
 {
+    let mut rest = template;
     for part in parts {
+        let (before, after) = split_template(rest);
+        text.append(before)?;
         put_part(text, *part)?;
+        rest = after;
     }
+    text.append(rest)?;
     Ok(())
 }
 
-/// Appends characters, a part, and characters after it.
-pub fn put_around(
-    text: &mut Bytes,
-    before: &[u8],
-    part: Part<'_>,
-    after: &[u8],
-) -> Result<(), Memory>
-    ensures { OnOk result (text.new
-        ≡ text.old ++ joined (before.now ∷ part_text part.entry ∷ after.now ∷ [])) }
+/// Returns the bytes of a template before its first mark, and those after it.
+fn split_template(template: &[u8]) -> (&[u8], &[u8])
+    ensures before { result.0.now ≡ text_before template.now }
+    ensures after { result.1.now ≡ text_after template.now }
 {
-    put(text, &[Part::Text(before), part, Part::Text(after)])
+    match split_first(template, b'@') {
+        Some(parts) => parts,
+        None => (template, b""),
+    }
+}
+
+/// Appends characters, a point, and characters after it.
+#[tactic(auto, unfolding(crate::specs::Parts::joined))]
+pub fn put_around(text: &mut Bytes, before: &[u8], at: Point, after: &[u8]) -> Result<(), Memory>
+    ensures { OnOk result (text.new
+        ≡ text.old ++ joined (before.now ∷ point_text at ∷ after.now ∷ [])) }
+{
+    text.append(before)?;
+    put_point(text, at)?;
+    text.append(after)?;
+    Ok(())
 }
 
 fn put_part(text: &mut Bytes, part: Part<'_>) -> Result<(), Memory>
@@ -47,6 +66,7 @@ fn put_part(text: &mut Bytes, part: Part<'_>) -> Result<(), Memory>
 {
     match part {
         Part::Text(bytes) => text.append(bytes)?,
+        Part::Escaped(label) => put_escaped(text, label)?,
         Part::Number(number) => put_number(text, number)?,
         Part::At(point) => put_point(text, point)?,
         Part::Mm(tenths) => put_mm(text, tenths)?,

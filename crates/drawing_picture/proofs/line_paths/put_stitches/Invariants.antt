@@ -1,6 +1,6 @@
 use Rattle.std.proofs.Common.{◌≡◌, ◌++◌, length}
 use Rattle.std.specs.List.{flat_map}
-use Rattle.design_picture.specs.Threads.{straight_text}
+use Rattle.picture_parts.specs.Paths.{straight_text}
 use Rattle.drawing_picture.proofs.line_paths.put_stitches.Given as goal
 
 -- the stitches so far, and those to the points that are left, are all

@@ -1,0 +1,24 @@
+-- Paths: shapes of lines, whose look depends on their class.
+use Rattle.std.specs.Prelude.{ℕ, List, [], ◌∷◌, codes}
+use Rattle.design_model.specs.declared.point.Point.{Point}
+use Rattle.picture_parts.specs.Parts.{ended, filled, joined, point_text}
+
+-- The beginning of the path of a class.
+unfoldable pub path_start : List ℕ → List ℕ
+path_start class = filled (codes "<path class='@' d='") (class ∷ [])
+
+-- The beginning of the path of a class and a colour.
+unfoldable pub coloured_path : List ℕ → List ℕ → List ℕ
+coloured_path class colour = filled (codes "<path class='@' stroke='@' d='") (class ∷ colour ∷ [])
+
+-- A path goes on at a point.
+unfoldable pub move_text : Point → List ℕ
+move_text p = joined ((10 ∷ codes "M") ∷ point_text p ∷ [] ∷ [])
+
+-- A straight line to a point.
+unfoldable pub straight_text : Point → List ℕ
+straight_text p = joined (codes "L" ∷ point_text p ∷ [] ∷ [])
+
+-- The end of a path.
+unfoldable pub path_end : List ℕ
+path_end = filled (ended (codes "'/>")) []
