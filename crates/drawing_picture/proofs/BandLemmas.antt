@@ -2,7 +2,7 @@
 use Rattle.std.proofs.Common.{◌≡◌, ◌≤◌, ℕ, ◌+◌, ◌-◌, ◌*◌, Bool, true, false, if◌then◌else◌, List, [], ◌∷◌, ◌++◌, drop, length, map, reverse, sum_by, take, arith, refl, sym, ap, ◌∙◌}
 use Rattle.std.proofs.lemmas.List.{append_assoc, length-drop, length-reverse, length-take-le}
 use Rattle.std.proofs.lemmas.List.Sums.{sum_by-cons}
-use Rattle.std.specs.List.{filter}
+use Rattle.std.specs.List.{filter, flat_map}
 use Rattle.design_model.specs.declared.point.Point.{Point}
 use Rattle.drawing_picture.specs.BandLaws.{BandsShowLoads, band_length}
 use Rattle.drawing_picture.specs.Bands.{Band, band_along, bands_from, half_steps, half_steps_from, half_steps_of_line, middle_between}
@@ -15,7 +15,6 @@ use Rattle.line_graph.specs.PiecesOfDrawings.{graph_of}
 use Rattle.odd_cuts.specs.declared.certificate.PieceCert.{PieceCert}
 use Rattle.odd_cuts.specs.declared.cut.Cut.{Cut}
 use Rattle.odd_cuts.specs.Cuts.{crosses, has_member, load_on}
-use Rattle.picture_parts.specs.Parts.{joined}
 
 -- the load of one cut
 abbrev share : Edge → Cut → ℕ
@@ -130,10 +129,9 @@ bands_show needles d cuts line e keeps there few =
 
 -- a band is added, and those that are left
 adds_band : (text text' : List ℕ) (band : Band) (bands : List Band) → text' ≡ text ++ band_text band
-    → text' ++ joined (map band_text bands) ≡ text ++ joined (map band_text (band ∷ bands))
-unfolding joined
+    → text' ++ flat_map band_text bands ≡ text ++ flat_map band_text (band ∷ bands)
 adds_band text text' band bands is =
-    ap (λ t. t ++ joined (map band_text bands)) is ∙ append_assoc text (band_text band) (joined (map band_text bands))
+    ap (λ t. t ++ flat_map band_text bands) is ∙ append_assoc text (band_text band) (flat_map band_text bands)
 
 -- two more half steps, and those of the needle points that are left
 pub half_steps_next : (points points' : List Point) (p q m n : Point) (left rest all : List Point) → left ≡ q ∷ rest
@@ -170,18 +168,18 @@ pieces_next d text text' whole p pieces pieces' cert certs certs' is are added b
 module _ (text : List ℕ) (number : ℕ) (cut : Cut) (e : Edge) (ahead back : List Point) where
   pub band_ahead : (text' : List ℕ) (free : List Point) → has_member cut.members e.a ≡ true → has_member cut.members e.b ≡ false
       → text' ≡ text ++ band_text (band_along number cut ahead) → free ≡ drop cut.weight ahead → (rest : List Cut)
-      → text' ++ joined (map band_text (bands_from (number + 1) rest e free back))
-      ≡ text ++ joined (map band_text (bands_from number (cut ∷ rest) e ahead back))
+      → text' ++ flat_map band_text (bands_from (number + 1) rest e free back)
+      ≡ text ++ flat_map band_text (bands_from number (cut ∷ rest) e ahead back)
   band_ahead text' free first last added is rest =
-      ap (λ (f : List Point). text' ++ joined (map band_text (bands_from (number + 1) rest e f back))) is
+      ap (λ (f : List Point). text' ++ flat_map band_text (bands_from (number + 1) rest e f back)) is
       ∙ rw (first, last) (adds_band text text' (band_along number cut ahead)
       (bands_from (number + 1) rest e (drop cut.weight ahead) back) added)
 
   pub band_back : (text' : List ℕ) (free : List Point) → has_member cut.members e.a ≡ false → has_member cut.members e.b ≡ true
       → text' ≡ text ++ band_text (band_along number cut back) → free ≡ drop cut.weight back → (rest : List Cut)
-      → text' ++ joined (map band_text (bands_from (number + 1) rest e ahead free))
-      ≡ text ++ joined (map band_text (bands_from number (cut ∷ rest) e ahead back))
+      → text' ++ flat_map band_text (bands_from (number + 1) rest e ahead free)
+      ≡ text ++ flat_map band_text (bands_from number (cut ∷ rest) e ahead back)
   band_back text' free first last added is rest =
-      ap (λ (f : List Point). text' ++ joined (map band_text (bands_from (number + 1) rest e ahead f))) is
+      ap (λ (f : List Point). text' ++ flat_map band_text (bands_from (number + 1) rest e ahead f)) is
       ∙ rw (first, last) (adds_band text text' (band_along number cut back)
       (bands_from (number + 1) rest e ahead (drop cut.weight back)) added)

@@ -1,5 +1,6 @@
 -- The texts of bands.
-use Rattle.std.specs.Prelude.{ℕ, ◌%◌, ◌==◌, List, [], ◌∷◌, ◌++◌, codes, if◌then◌else◌, map}
+use Rattle.std.specs.Prelude.{ℕ, ◌%◌, ◌==◌, List, [], ◌∷◌, ◌++◌, codes, if◌then◌else◌}
+use Rattle.std.specs.List.{flat_map}
 use Rattle.design_model.specs.declared.point.Point.{Point}
 use Rattle.drawing_picture.specs.Bands.{Band, bands_on}
 use Rattle.line_graph.specs.declared.edge.Edge.{Edge}
@@ -28,7 +29,7 @@ way_point p = joined ([] ∷ point_text p ∷ codes " " ∷ [])
 
 -- The points of a way.
 abbrev pub way_points : List Point → List ℕ
-way_points points = joined (map way_point points)
+way_points points = flat_map way_point points
 
 -- A band.
 abbrev pub band_text : Band → List ℕ
@@ -36,7 +37,7 @@ band_text band = band_start (colour_of_cut band.number) ++ (way_points band.way 
 
 -- The bands on a line.
 abbrev pub line_bands : DrawingValue → List Cut → ℕ → Edge → List ℕ
-line_bands d cuts line e = joined (map band_text (bands_on d cuts line e))
+line_bands d cuts line e = flat_map band_text (bands_on d cuts line e)
 
 -- The bands on lines, which are those edges of their piece.
 abbrev pub bands_of_lines : DrawingValue → List Cut → List ℕ → List Edge → List ℕ

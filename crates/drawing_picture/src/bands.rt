@@ -1,9 +1,9 @@
-ghost use Rattle.std.specs.Prelude.{◌≡◌, ◌+◌, ◌++◌, ◌∷◌, ◌<◌, ◌^◌, List, IfOk, OnOk, drop, map};
+ghost use Rattle.std.specs.Prelude.{◌≡◌, ◌+◌, ◌++◌, ◌∷◌, ◌<◌, ◌^◌, List, IfOk, OnOk, drop};
+ghost use Rattle.std.specs.List.{flat_map};
 ghost use Rattle.drawing_picture.specs.Bands.{bands_from};
 ghost use Rattle.drawing_picture.specs.BandTexts.{band_text};
 ghost use Rattle.odd_cuts.specs.Cuts.{has_member};
 ghost use Rattle.odd_cuts.specs.declared.cut.Cut.{Cut as CutValue};
-ghost use Rattle.picture_parts.specs.Parts.{joined};
 
 use crate::band_texts::put_band;
 use design_model::Point;
@@ -26,7 +26,7 @@ pub(crate) fn put_bands(
     ways: FreeWays<'_>,
 ) -> Result<(), Memory>
     ensures { OnOk result (text.new ≡ text.old
-        ++ joined (map band_text (bands_from 0 cuts.now e ways.entry.ahead.now ways.entry.back.now))) }
+        ++ flat_map band_text (bands_from 0 cuts.now e ways.entry.ahead.now ways.entry.back.now)) }
 {
     let mut free = ways;
     let mut number = 0;
@@ -50,8 +50,8 @@ fn put_cut<'a>(
 ) -> Result<FreeWays<'a>, Memory>
     requires { number + 1 < 2 ^ 64 }
     ensures { IfOk result (λ free. (rest : List CutValue) →
-        text.new ++ joined (map band_text (bands_from (number + 1) rest e free.ahead.now free.back.now))
-        ≡ text.old ++ joined (map band_text (bands_from number (cut.now ∷ rest) e ways.entry.ahead.now ways.entry.back.now))) }
+        text.new ++ flat_map band_text (bands_from (number + 1) rest e free.ahead.now free.back.now)
+        ≡ text.old ++ flat_map band_text (bands_from number (cut.now ∷ rest) e ways.entry.ahead.now ways.entry.back.now)) }
 {
     let last = holds(cut, e.b);
     if holds(cut, e.a) {

@@ -21,16 +21,6 @@ pub enum ProofFault {
     Memory,
 }
 
-impl From<Memory> for ProofFault {
-    ghost use Rattle.drawing_picture.specs.declared.certificate_check.ProofFault.TheVariants as fault;
-
-    ghost from_gives = { λ _ e. e ≡ fault.Memory };
-
-    fn from(_memory: Memory) -> ProofFault {
-        ProofFault::Memory
-    }
-}
-
 /// Returns the picture of the proof that a certificate is of a drawing. Errors: `Wrong` where the certificate
 /// proves nothing of the drawing, with its first fault; or `Memory`.
 pub fn picture_of_proof(alloc: Global, d: &Drawing, cert: &Cert) -> Result<Bytes, ProofFault>
@@ -38,12 +28,10 @@ pub fn picture_of_proof(alloc: Global, d: &Drawing, cert: &Cert) -> Result<Bytes
     requires short { All HasShortLists cert.now.pieces }
     ensures { IsProofResult d.now cert.now.pieces result }
 {
-    match first_fault(alloc, d, cert)? {
-        Some(reason) => Err(ProofFault::Wrong(reason)),
-        None => {
-            let text = right_picture(alloc, d, cert)?;
-            Ok(text)
-        }
+    match first_fault(alloc, d, cert) {
+        Ok(Some(reason)) => Err(ProofFault::Wrong(reason)),
+        Ok(None) => right_picture(alloc, d, cert).map_err(|_| ProofFault::Memory),
+        Err(_) => Err(ProofFault::Memory),
     }
 }
 

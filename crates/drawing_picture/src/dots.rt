@@ -8,17 +8,14 @@ use crate::junction_marks::JunctionMark;
 use design_model::Point;
 use drawing_model::Spot;
 use lists_and_numbers::{Bytes, Memory};
-use odd_cuts::first_and_rest;
 use picture_parts::{Mark, put_mark};
 
 /// Appends the dots of junctions.
 pub(crate) fn put_dots(text: &mut Bytes, marks: &[JunctionMark]) -> Result<(), Memory>
     ensures { OnOk result (text.new ≡ text.old ++ flat_map junction_dot marks.now) }
 {
-    let mut rest = marks;
-    while let Some((mark, after)) = first_and_rest(rest) {
-        put_dot(text, mark)?;
-        rest = after;
+    for mark in marks {
+        put_dot(text, *mark)?;
     }
     Ok(())
 }
@@ -36,10 +33,8 @@ fn put_dot(text: &mut Bytes, mark: JunctionMark) -> Result<(), Memory>
 pub(crate) fn put_spots(text: &mut Bytes, mark: Mark, spots: &[Spot]) -> Result<(), Memory>
     ensures { OnOk result (text.new ≡ text.old ++ flat_map (spot_mark mark) spots.now) }
 {
-    let mut rest = spots;
-    while let Some((spot, after)) = first_and_rest(rest) {
+    for spot in spots {
         put_mark(text, mark, spot.at)?;
-        rest = after;
     }
     Ok(())
 }
@@ -48,10 +43,8 @@ pub(crate) fn put_spots(text: &mut Bytes, mark: Mark, spots: &[Spot]) -> Result<
 pub(crate) fn put_loose_rings(text: &mut Bytes, points: &[Point]) -> Result<(), Memory>
     ensures { OnOk result (text.new ≡ text.old ++ flat_map (mark_text mark.Loose) points.now) }
 {
-    let mut rest = points;
-    while let Some((point, after)) = first_and_rest(rest) {
-        put_mark(text, Mark::Loose, point)?;
-        rest = after;
+    for point in points {
+        put_mark(text, Mark::Loose, *point)?;
     }
     Ok(())
 }

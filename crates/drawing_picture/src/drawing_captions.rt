@@ -5,7 +5,6 @@ ghost use Rattle.drawing_model.specs.declared.limits.TheConstants.{MAX_BLOCKS};
 use design_model::Point;
 use design_picture::put_block_start;
 use lists_and_numbers::{Bytes, Memory};
-use odd_cuts::first_and_rest;
 use picture_parts::{Mark, Part, put, put_mark, thread_colour};
 
 /// What the picture of a drawing shows.
@@ -67,11 +66,9 @@ pub(crate) fn put_thread_lines(text: &mut Bytes, threads: &[u8]) -> Result<(), M
     ensures { OnOk result (text.new ≡ text.old ++ thread_lines 1 threads.now) }
 {
     let mut block = 1;
-    let mut rest = threads;
-    while let Some((thread, after)) = first_and_rest(rest) {
-        put_thread_line(text, block, thread)?;
+    for thread in threads {
+        put_thread_line(text, block, *thread)?;
         block += 1;
-        rest = after;
     }
     Ok(())
 }

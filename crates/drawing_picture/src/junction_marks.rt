@@ -8,7 +8,7 @@ ghost use Rattle.line_graph.specs.PiecesOfDrawings.{graph_of};
 use design_model::Point;
 use line_graph::{Piece, is_odd_at};
 use lists_and_numbers::{Items, Memory};
-use odd_cuts::{first_and_rest, first_lent};
+use odd_cuts::first_and_rest;
 use std::alloc::Global;
 
 /// The mark of a junction: where it is, and whether it is odd.
@@ -26,10 +26,8 @@ pub(crate) fn junction_marks(alloc: Global, pieces: &[Piece]) -> Result<Junction
     ensures { IfOk result (λ marks. marks ≡ marks_of_pieces (map graph_of pieces.now)) }
 {
     let mut marks = JunctionMarks::new(alloc);
-    let mut rest = pieces;
-    while let Some((piece, after)) = first_lent(rest) {
+    for piece in pieces {
         put_piece(&mut marks, piece)?;
-        rest = after;
     }
     Ok(marks)
 }
@@ -81,10 +79,8 @@ pub(crate) fn odd_count(marks: &[JunctionMark]) -> u64
     ensures { result ≡ odd_marks marks.now }
 {
     let mut odd: u64 = 0;
-    let mut rest = marks;
-    while let Some((mark, after)) = first_and_rest(rest) {
+    for mark in marks {
         odd += u64::from(mark.is_odd);
-        rest = after;
     }
     odd
 }

@@ -6,17 +6,15 @@ ghost use Rattle.picture_parts.specs.Paths.{straight_text};
 use design_model::Point;
 use line_sections::Line;
 use lists_and_numbers::{Bytes, Memory};
-use odd_cuts::{first_and_rest, first_lent};
+use odd_cuts::first_and_rest;
 use picture_parts::{put_coloured_path, put_move, put_path_end, put_straight, thread_colour};
 
 /// Appends the paths of lines, where the blocks have the given threads.
 pub(crate) fn put_line_paths(text: &mut Bytes, threads: &[u8], lines: &[Line]) -> Result<(), Memory>
     ensures { OnOk result (text.new ≡ text.old ++ line_paths threads.now lines.now) }
 {
-    let mut rest = lines;
-    while let Some((line, after)) = first_lent(rest) {
+    for line in lines {
         put_line_path(text, threads, line)?;
-        rest = after;
     }
     Ok(())
 }
@@ -56,10 +54,8 @@ fn put_path(text: &mut Bytes, points: &[Point]) -> Result<(), Memory>
 fn put_stitches(text: &mut Bytes, points: &[Point]) -> Result<(), Memory>
     ensures { OnOk result (text.new ≡ text.old ++ flat_map straight_text points.now) }
 {
-    let mut rest = points;
-    while let Some((point, after)) = first_and_rest(rest) {
-        put_straight(text, point)?;
-        rest = after;
+    for point in points {
+        put_straight(text, *point)?;
     }
     Ok(())
 }

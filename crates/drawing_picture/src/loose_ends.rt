@@ -6,7 +6,6 @@ use design_model::Points;
 use drawing_review::{Place, PlaceKind, review};
 use line_sections::Line;
 use lists_and_numbers::Memory;
-use odd_cuts::first_and_rest;
 use std::alloc::Global;
 
 /// The distance at which an end of a line is loose, in tenths of a millimetre.
@@ -24,10 +23,8 @@ fn loose_in(alloc: Global, places: &[Place]) -> Result<Points, Memory>
     ensures { IfOk result (λ points. points ≡ loose_points places.now) }
 {
     let mut points = Points::new(alloc);
-    let mut rest = places;
-    while let Some((place, after)) = first_and_rest(rest) {
-        put_loose(&mut points, place)?;
-        rest = after;
+    for place in places {
+        put_loose(&mut points, *place)?;
     }
     Ok(points)
 }

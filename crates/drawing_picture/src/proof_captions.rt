@@ -4,7 +4,7 @@ ghost use Rattle.drawing_picture.specs.BandTexts.{band_group};
 
 use design_picture::LINE_HEIGHT;
 use lists_and_numbers::{Bytes, Memory};
-use odd_cuts::{PieceCert, first_lent};
+use odd_cuts::PieceCert;
 use picture_parts::{Part, put};
 
 /// Why no shorter thread exists, without its last line.
@@ -24,10 +24,8 @@ pub(crate) fn steps_again(certs: &[PieceCert]) -> u64
     ensures { result ≡ retraced_steps certs.now }
 {
     let mut steps: u64 = 0;
-    let mut rest = certs;
-    while let Some((cert, after)) = first_lent(rest) {
+    for cert in certs {
         steps += u64::from(cert.retraced);
-        rest = after;
     }
     steps
 }

@@ -1,11 +1,8 @@
-use Rattle.std.proofs.Common.{◌≡◌, ◌++◌, length}
+use Rattle.std.proofs.Common.{◌++◌, ◌≡◌, drop}
 use Rattle.std.specs.List.{flat_map}
 use Rattle.drawing_picture.specs.DrawingCaptions.{junction_dot}
 use Rattle.drawing_picture.proofs.dots.put_dots.Given as goal
 
 -- the marks so far, and those that are left, are all
 abbrev pub invariant-loop-mark : goal.invariant-loop-mark
-invariant-loop-mark l = l.text ++ flat_map junction_dot l.rest ≡ l.fn.text ++ flat_map junction_dot l.marks
-
-abbrev pub decreases-loop-mark : goal.decreases-loop-mark
-decreases-loop-mark l = length l.rest
+invariant-loop-mark l = l.text ++ flat_map junction_dot (drop l.mark-index l.marks) ≡ l.fn.text ++ flat_map junction_dot l.marks

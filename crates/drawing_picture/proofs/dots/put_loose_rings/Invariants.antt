@@ -1,4 +1,4 @@
-use Rattle.std.proofs.Common.{◌≡◌, ◌++◌, length}
+use Rattle.std.proofs.Common.{◌++◌, ◌≡◌, drop}
 use Rattle.std.specs.List.{flat_map}
 use Rattle.picture_parts.specs.declared.marks.Mark.TheVariants as mark
 use Rattle.picture_parts.specs.Marks.{mark_text}
@@ -6,7 +6,4 @@ use Rattle.drawing_picture.proofs.dots.put_loose_rings.Given as goal
 
 -- the marks so far, and those that are left, are all
 abbrev pub invariant-loop-point : goal.invariant-loop-point
-invariant-loop-point l = l.text ++ flat_map (mark_text mark.Loose) l.rest ≡ l.fn.text ++ flat_map (mark_text mark.Loose) l.points
-
-abbrev pub decreases-loop-point : goal.decreases-loop-point
-decreases-loop-point l = length l.rest
+invariant-loop-point l = l.text ++ flat_map (mark_text mark.Loose) (drop l.point-index l.points) ≡ l.fn.text ++ flat_map (mark_text mark.Loose) l.points

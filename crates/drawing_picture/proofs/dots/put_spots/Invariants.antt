@@ -1,11 +1,8 @@
-use Rattle.std.proofs.Common.{◌≡◌, ◌++◌, length}
+use Rattle.std.proofs.Common.{◌++◌, ◌≡◌, drop}
 use Rattle.std.specs.List.{flat_map}
 use Rattle.drawing_picture.specs.DrawingCaptions.{spot_mark}
 use Rattle.drawing_picture.proofs.dots.put_spots.Given as goal
 
 -- the marks so far, and those that are left, are all
 abbrev pub invariant-loop-spot : goal.invariant-loop-spot
-invariant-loop-spot l = l.text ++ flat_map (spot_mark l.mark) l.rest ≡ l.fn.text ++ flat_map (spot_mark l.mark) l.spots
-
-abbrev pub decreases-loop-spot : goal.decreases-loop-spot
-decreases-loop-spot l = length l.rest
+invariant-loop-spot l = l.text ++ flat_map (spot_mark l.mark) (drop l.spot-index l.spots) ≡ l.fn.text ++ flat_map (spot_mark l.mark) l.spots

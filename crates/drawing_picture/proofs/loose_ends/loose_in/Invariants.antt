@@ -1,10 +1,7 @@
-use Rattle.std.proofs.Common.{◌≡◌, ◌++◌, length}
+use Rattle.std.proofs.Common.{◌++◌, ◌≡◌, drop}
 use Rattle.drawing_picture.specs.JunctionMarks.{loose_points}
 use Rattle.drawing_picture.proofs.loose_ends.loose_in.Given as goal
 
 -- the loose ends so far, and those of the places that are left, are all
 abbrev pub invariant-loop-place : goal.invariant-loop-place
-invariant-loop-place l = l.points ++ loose_points l.rest ≡ loose_points l.places
-
-abbrev pub decreases-loop-place : goal.decreases-loop-place
-decreases-loop-place l = length l.rest
+invariant-loop-place l = l.points ++ loose_points (drop l.place-index l.places) ≡ loose_points l.places
