@@ -1,3 +1,6 @@
+ghost use Rattle.std.specs.Prelude.{refl};
+ghost use Rattle.dst_codec.specs.Format.{dst_meaning};
+
 use crate::jump_runs::JumpRun;
 use crate::writing::write_file;
 use design_model::Design;
@@ -27,9 +30,6 @@ pub const WRITE_LIMITS: WriteLimits = WriteLimits {
 pub struct DstCodec;
 
 impl Codec for DstCodec {
-    ghost use Rattle.std.specs.Prelude.{refl};
-    ghost use Rattle.dst_codec.specs.Format.{dst_meaning};
-
     type Decoder = RecordDecoder<JumpRun>;
 
     ghost codec_meaning = { dst_meaning };

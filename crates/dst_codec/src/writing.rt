@@ -13,7 +13,7 @@ use crate::theorems::written_reads_again;
 use design_model::Design;
 use format_traits::{EncoderState, WriteFault, accepted_designs_are_small, put_spaces, with_front};
 use lists_and_numbers::Bytes;
-use record_formats::put_acts;
+use record_formats::ActRecords;
 use std::alloc::Global;
 
 /// The record of the end.
@@ -28,7 +28,7 @@ pub fn write_file(alloc: Global, design: &Design) -> Result<Bytes, WriteFault>
     let commands = design.commands();
     let mut file = Bytes::new(alloc);
     put_spaces(&mut file, HEADER_LENGTH)?;
-    let state = put_acts(&DstWriter, &mut file, commands)?;
+    let state = ActRecords(DstWriter).put_acts(&mut file, commands)?;
     file.append(&END)?;
     let numbers = header_numbers(design, &state, file.len());
     let header = new_header(alloc, design.label(), &numbers)?;

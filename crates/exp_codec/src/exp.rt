@@ -1,3 +1,6 @@
+ghost use Rattle.std.specs.Prelude.{refl};
+ghost use Rattle.exp_codec.specs.Format.{exp_meaning};
+
 use crate::units::Units;
 use crate::writing::write_file;
 use design_model::Design;
@@ -14,9 +17,6 @@ pub const LIMIT: u32 = 127;
 pub struct ExpCodec;
 
 impl Codec for ExpCodec {
-    ghost use Rattle.std.specs.Prelude.{refl};
-    ghost use Rattle.exp_codec.specs.Format.{exp_meaning};
-
     type Decoder = RecordDecoder<Units>;
 
     ghost codec_meaning = { exp_meaning };

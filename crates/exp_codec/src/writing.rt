@@ -7,7 +7,7 @@ use crate::unit_writer::UnitWriter;
 use design_model::Design;
 use format_traits::WriteFault;
 use lists_and_numbers::Bytes;
-use record_formats::put_acts;
+use record_formats::ActRecords;
 use std::alloc::Global;
 
 /// Writes a design as a file.
@@ -17,6 +17,6 @@ pub fn write_file(alloc: Global, design: &Design) -> Result<Bytes, WriteFault>
 {
     written_reads_again();
     let mut file = Bytes::new(alloc);
-    put_acts(&UnitWriter, &mut file, design.commands())?;
+    ActRecords(UnitWriter).put_acts(&mut file, design.commands())?;
     Ok(file)
 }

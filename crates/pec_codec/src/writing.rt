@@ -14,7 +14,7 @@ use crate::theorems::{blocks_read_back, designs_keep_limits};
 use design_model::Design;
 use format_traits::{WriteFault, accepted_designs_are_small, put_spaces, with_front};
 use lists_and_numbers::{Bytes, Memory};
-use record_formats::put_acts;
+use record_formats::ActRecords;
 use std::alloc::Global;
 
 /// The end of the records.
@@ -54,7 +54,7 @@ fn put_body(out: &mut Bytes, design: &Design) -> Result<u32, WriteFault>
 {
     accepted_designs_are_small();
     let commands = design.commands();
-    let state = put_acts(&PecRecords, out, commands)?;
+    let state = ActRecords(PecRecords).put_acts(out, commands)?;
     out.push(END)?;
     Ok(state.stops)
 }

@@ -1,10 +1,10 @@
-ghost use Rattle.std.specs.Prelude.{◌≡◌, IsTrue};
+ghost use Rattle.std.specs.Prelude.{◌≡◌, IsTrue, IfOk};
 ghost use Rattle.std.specs.List.{list_all};
 ghost use Rattle.design_model.specs.declared.point.TheConstants.{JUMP_LIMIT};
 ghost use Rattle.design_model.specs.Points.{is_point_within};
 ghost use Rattle.record_formats.specs.declared.record_reader.TheConstants.{MAX_RECORD_MOVE};
 ghost use Rattle.record_formats.specs.CommandAdding.{AddsCommands, SameButCommands};
-ghost use Rattle.record_formats.specs.Records.{event_commands_at, moves_of_event, position_after_event};
+ghost use Rattle.record_formats.specs.Records.{commands_of_event, event_commands_at, moves_of_event, position_after_event};
 
 use crate::command_adding::{keep, keep_both};
 use crate::event::Event;
@@ -14,14 +14,6 @@ use format_traits::ReadFault;
 
 /// A way to add the commands of an event to a design.
 pub(crate) trait EventAdding {
-    ghost use Rattle.std.specs.Prelude.{◌≡◌, IsTrue, IfOk};
-    ghost use Rattle.std.specs.List.{list_all};
-    ghost use Rattle.design_model.specs.declared.point.TheConstants.{JUMP_LIMIT};
-    ghost use Rattle.design_model.specs.Points.{is_point_within};
-    ghost use Rattle.record_formats.specs.declared.record_reader.TheConstants.{MAX_RECORD_MOVE};
-    ghost use Rattle.record_formats.specs.CommandAdding.{AddsCommands, SameButCommands};
-    ghost use Rattle.record_formats.specs.Records.{commands_of_event, moves_of_event, position_after_event};
-
     /// Adds the commands of the record at an offset, and returns the hoop's position after it.
     fn add(design: &mut Design, at: u64, place: Point, event: Event) -> Result<Point, ReadFault>
         requires place { IsTrue (is_point_within JUMP_LIMIT place) }

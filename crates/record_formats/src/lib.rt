@@ -14,7 +14,7 @@ mod record_stage;
 mod record_writer;
 mod theorems;
 
-pub use act_writing::put_acts;
+pub use act_writing::ActRecords;
 pub use event::Event;
 pub use move_parts::{MAX_HOPS, moved, part_move};
 pub use record_decoder::RecordDecoder;

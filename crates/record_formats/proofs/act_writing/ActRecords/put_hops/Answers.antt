@@ -2,11 +2,11 @@ use Rattle.std.proofs.Common.{map}
 use Rattle.design_model.specs.Points.{origin}
 use Rattle.record_formats.specs.MoveParts.{part_moves}
 use Rattle.record_formats.proofs.WriterLemmas.{jumps_and}
-use Rattle.record_formats.proofs.act_writing.put_hops.Goals as goal
+use Rattle.record_formats.proofs.act_writing.ActRecords.put_hops.Goals as goal
 
 pub returns : goal.returns
 returns g c =
-    let encoding = g.W.RecordWriter.encoding c.args.writer.now in
+    let encoding = g.W.RecordWriter.encoding c.args.self.now.0 in
     jumps_and c.args.out.now c.put_jumps.new.out c.put_stitch.new.out
     (map encoding.jump (part_moves c.args.step c.args.count)) (encoding.stitch origin)
     c.in_ok-put_jumps.ensures c.in_ok-put_stitch.ensures

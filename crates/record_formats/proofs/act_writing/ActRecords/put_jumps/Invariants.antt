@@ -1,10 +1,10 @@
 use Rattle.std.proofs.Common.{◌≡◌, ◌-◌, ◌++◌, map}
 use Rattle.std.specs.List.{concat}
 use Rattle.record_formats.specs.MoveParts.{part_moves_from}
-use Rattle.record_formats.proofs.act_writing.put_jumps.Given as goal
+use Rattle.record_formats.proofs.act_writing.ActRecords.put_jumps.Given as goal
 
 -- the jumps so far, and those of the parts that are left
 abbrev pub invariant-loop-done : goal.invariant-loop-done
-invariant-loop-done g l = l.out ++ concat (map (g.W.RecordWriter.encoding l.writer).jump
+invariant-loop-done g l = l.out ++ concat (map (g.W.RecordWriter.encoding l.self.0).jump
     (part_moves_from l.step l.count l.done (l.wanted - l.done)))
-    ≡ l.fn.out ++ concat (map (g.W.RecordWriter.encoding l.writer).jump (part_moves_from l.step l.count 0 l.wanted))
+    ≡ l.fn.out ++ concat (map (g.W.RecordWriter.encoding l.self.0).jump (part_moves_from l.step l.count 0 l.wanted))
