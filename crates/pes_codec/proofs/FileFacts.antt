@@ -8,8 +8,9 @@ use Rattle.format_traits.specs.declared.fault.ReadFault.TheVariants as fault
 use Rattle.pes_codec.specs.declared.front.TheConstants.{OFFSET_END, PEC_BLOCK_OFFSET}
 use Rattle.pes_codec.specs.Files.{block_offset_in, pec_front, pes_front}
 use Rattle.pes_codec.specs.Formats.{pec_meaning, pes_meaning}
-use Rattle.pes_codec.specs.Reading.{pec_moves, pec_reads, pec_shown, pes_moves, pes_reads, pes_shown}
-use Rattle.pes_codec.specs.Writing.{pec_writes, pes_writes}
+use Rattle.pes_codec.specs.declared.file_kind.FileKind.TheVariants.{Pec, Pes}
+use Rattle.pes_codec.specs.Reading.{file_moves, file_reads, file_shown}
+use Rattle.pes_codec.specs.Writing.{file_writes}
 
 -- one stitch at the origin
 abbrev stitch : DesignValue
@@ -23,15 +24,15 @@ pub known_pes_front : pes_front ≡ 0x23 ∷ 0x50 ∷ 0x45 ∷ 0x53 ∷ 0x30 ∷
     ∷ 0x00 ∷ 0x00 ∷ 0x00 ∷ 0x00 ∷ 0x00 ∷ 0x00 ∷ 0x00 ∷ 0x00 ∷ 0x00 ∷ 0x00 ∷ []
 known_pes_front = refl
 
-pub known_pec_length : IsOkAnd (pec_writes stitch) (λ bytes. length bytes ≡ 995)
+pub known_pec_length : IsOkAnd (file_writes Pec stitch) (λ bytes. length bytes ≡ 995)
 known_pec_length = refl
 
-pub known_pes_length : IsOkAnd (pes_writes stitch) (λ bytes. length bytes ≡ 1009)
+pub known_pes_length : IsOkAnd (file_writes Pes stitch) (λ bytes. length bytes ≡ 1009)
 known_pes_length = refl
 
 -- the front stands before the block
-pub known_begins : IsOkAnd (pec_writes stitch) (λ bytes. take 11 bytes ≡ pec_front ++ codes "LA:")
-    × IsOkAnd (pes_writes stitch) (λ bytes. take 25 bytes ≡ pes_front ++ codes "LA:")
+pub known_begins : IsOkAnd (file_writes Pec stitch) (λ bytes. take 11 bytes ≡ pec_front ++ codes "LA:")
+    × IsOkAnd (file_writes Pes stitch) (λ bytes. take 25 bytes ≡ pes_front ++ codes "LA:")
 known_begins = (refl, refl)
 
 pub known_pec_front : pec_front ≡ 0x23 ∷ 0x50 ∷ 0x45 ∷ 0x43 ∷ 0x30 ∷ 0x30 ∷ 0x30 ∷ 0x31 ∷ []
@@ -45,50 +46,50 @@ pub known_offset_end : OFFSET_END ≡ 12
 known_offset_end = refl
 
 -- the four bytes after a signature are not looked at, whatever they are
-pub known_pec_version : pec_reads (codes "#PECxyz!") ≡ Err (fault.Short 8)
+pub known_pec_version : file_reads Pec (codes "#PECxyz!") ≡ Err (fault.Short 8)
 known_pec_version = refl
 
-pub known_pec_alone : pec_reads (codes "#PEC") ≡ Err (fault.Short 4)
+pub known_pec_alone : file_reads Pec (codes "#PEC") ≡ Err (fault.Short 4)
 known_pec_alone = refl
 
-pub known_pes_version : pes_reads (codes "#PESxyz!" ++ 0xFF ∷ 0x00 ∷ 0x00 ∷ 0x00 ∷ []) ≡ Err (fault.Short 12)
+pub known_pes_version : file_reads Pes (codes "#PESxyz!" ++ 0xFF ∷ 0x00 ∷ 0x00 ∷ 0x00 ∷ []) ≡ Err (fault.Short 12)
 known_pes_version = refl
 
-pub known_pes_alone : pes_reads (codes "#PES") ≡ Err (fault.Short 4)
+pub known_pes_alone : file_reads Pes (codes "#PES") ≡ Err (fault.Short 4)
 known_pes_alone = refl
 
 -- neither signature stands for the other, nor do small letters
-pub known_pes_as_pec : pec_reads (codes "#PES0001") ≡ Err (fault.Signature 0)
+pub known_pes_as_pec : file_reads Pec (codes "#PES0001") ≡ Err (fault.Signature 0)
 known_pes_as_pec = refl
 
-pub known_pec_as_pes : pes_reads (codes "#PEC0001") ≡ Err (fault.Signature 0)
+pub known_pec_as_pes : file_reads Pes (codes "#PEC0001") ≡ Err (fault.Signature 0)
 known_pec_as_pes = refl
 
-pub known_small : pes_reads (codes "#pes0001") ≡ Err (fault.Signature 0)
+pub known_small : file_reads Pes (codes "#pes0001") ≡ Err (fault.Signature 0)
 known_small = refl
 
 -- the offset is a word of 32 bits, the low byte first
 pub known_offset : block_offset_in (codes "#PES0060" ++ 0x01 ∷ 0x02 ∷ 0x03 ∷ 0x80 ∷ []) ≡ 2147680769
 known_offset = refl
 
-pub known_signature : pec_reads (codes "#PAC0001") ≡ Err (fault.Signature 0)
+pub known_signature : file_reads Pec (codes "#PAC0001") ≡ Err (fault.Signature 0)
 known_signature = refl
 
-pub known_short_pec : pec_reads (codes "#PEC0001") ≡ Err (fault.Short 8)
+pub known_short_pec : file_reads Pec (codes "#PEC0001") ≡ Err (fault.Short 8)
 known_short_pec = refl
 
 -- fewer bytes than the signature has are not it
-pub known_no_signature : pes_reads (codes "#PE") ≡ Err (fault.Signature 0)
+pub known_no_signature : file_reads Pes (codes "#PE") ≡ Err (fault.Signature 0)
 known_no_signature = refl
 
-pub known_short_pes : pes_reads (codes "#PES0001" ++ 0x16 ∷ 0x00 ∷ 0x00 ∷ []) ≡ Err (fault.Short 11)
+pub known_short_pes : file_reads Pes (codes "#PES0001" ++ 0x16 ∷ 0x00 ∷ 0x00 ∷ []) ≡ Err (fault.Short 11)
 known_short_pes = refl
 
-pub known_far_block : pes_reads (codes "#PES0001" ++ 0xFF ∷ 0xFF ∷ 0xFF ∷ 0xFF ∷ []) ≡ Err (fault.Short 12)
+pub known_far_block : file_reads Pes (codes "#PES0001" ++ 0xFF ∷ 0xFF ∷ 0xFF ∷ 0xFF ∷ []) ≡ Err (fault.Short 12)
 known_far_block = refl
 
 -- a block at the beginning of its own file: 33 threads of number 32, one stitch, and the end
-pub known_own_front : IsOkAnd (pes_reads (codes "#PES0001" ++ 0x00 ∷ 0x00 ∷ 0x00 ∷ 0x00 ∷ replicate 516 32 ++ 0x00 ∷ 0x00
+pub known_own_front : IsOkAnd (file_reads Pes (codes "#PES0001" ++ 0x00 ∷ 0x00 ∷ 0x00 ∷ 0x00 ∷ replicate 516 32 ++ 0x00 ∷ 0x00
     ∷ 0xFF ∷ [])) (λ loaded. loaded ≡ record {
       design = record { label = []; threads = replicate 33 32; commands = Stitch origin ∷ [] };
       ended = true;
@@ -103,21 +104,21 @@ abbrev target : Point
 target = record { x = pos 5; y = pos 7 }
 
 -- it stands at offset 8 of a PEC file, and here at 14 of a PES file
-pub known_pec_moves : pec_moves (codes "#PEC0001" ++ block) ≡ target ∷ []
+pub known_pec_moves : file_moves Pec (codes "#PEC0001" ++ block) ≡ target ∷ []
 known_pec_moves = refl
 
-pub known_pec_shown : pec_shown (codes "#PEC0001" ++ block) ≡ Stitch target ∷ []
+pub known_pec_shown : file_shown Pec (codes "#PEC0001" ++ block) ≡ Stitch target ∷ []
 known_pec_shown = refl
 
-pub known_pes_moves : pes_moves (codes "#PES0001" ++ 0x0E ∷ 0x00 ∷ 0x00 ∷ 0x00 ∷ 0x00 ∷ 0x00 ∷ block) ≡ target ∷ []
+pub known_pes_moves : file_moves Pes (codes "#PES0001" ++ 0x0E ∷ 0x00 ∷ 0x00 ∷ 0x00 ∷ 0x00 ∷ 0x00 ∷ block) ≡ target ∷ []
 known_pes_moves = refl
 
-pub known_pes_shown : pes_shown (codes "#PES0001" ++ 0x0E ∷ 0x00 ∷ 0x00 ∷ 0x00 ∷ 0x00 ∷ 0x00 ∷ block) ≡ Stitch target ∷ []
+pub known_pes_shown : file_shown Pes (codes "#PES0001" ++ 0x0E ∷ 0x00 ∷ 0x00 ∷ 0x00 ∷ 0x00 ∷ 0x00 ∷ block) ≡ Stitch target ∷ []
 known_pes_shown = refl
 
 -- a file that isn't known moves and shows nothing
-pub known_other_moves : pec_moves (codes "#PES0001" ++ block) ≡ []
+pub known_other_moves : file_moves Pec (codes "#PES0001" ++ block) ≡ []
 known_other_moves = refl
 
-pub known_other_shown : pec_shown (codes "#PES0001" ++ block) ≡ []
+pub known_other_shown : file_shown Pec (codes "#PES0001" ++ block) ≡ []
 known_other_shown = refl

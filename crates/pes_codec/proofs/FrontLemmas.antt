@@ -1,5 +1,5 @@
 -- Formats whose files are a front and a block.
-use Rattle.std.proofs.Common.{◌≡◌, ℕ, ◌≤◌, true, false, drop, IsTrue, nat_lt, List, [], ◌++◌, length, Result, Ok, Err, IfOk, IsOk, IsOkAnd, if◌then◌else◌, refl, ap, sym, subst, arith, length-append}
+use Rattle.std.proofs.Common.{◌≡◌, ℕ, ◌≤◌, true, false, drop, IsTrue, nat_lt, List, ◌++◌, length, Result, Ok, Err, IfOk, IsOk, IsOkAnd, refl, ap, sym, subst, arith, length-append}
 use Rattle.std.proofs.lemmas.Bool.{le-ltb}
 use Rattle.std.specs.List.{list_all}
 use Rattle.design_model.specs.Designs.{DesignValue}
@@ -13,11 +13,11 @@ use Rattle.pec_codec.specs.declared.block.TheConstants.{LIMIT}
 use Rattle.pec_codec.specs.Laws.{RestoresDesign, KeepsBlockLaws, BlockRoundTrips}
 use Rattle.pec_codec.specs.Reading.{pec_block_layout, pec_block_moves, pec_block_reads}
 use Rattle.pec_codec.specs.Writing.{pec_block_writes}
-use Rattle.pes_codec.specs.declared.front.TheConstants.{OFFSET_END}
-use Rattle.pes_codec.specs.Files.{pec_front, pes_front}
-use Rattle.pes_codec.specs.Formats.{pec_meaning, pes_meaning}
+use Rattle.pes_codec.specs.declared.file_kind.FileKind.{FileKind}
+use Rattle.pes_codec.specs.declared.file_kind.FileKind.TheVariants.{Pec, Pes}
+use Rattle.pes_codec.specs.Formats.{file_meaning}
 use Rattle.pes_codec.specs.Laws.{RoundTripsWithThreads}
-use Rattle.pes_codec.specs.Fronts.{FrontLayout, pec_front_layout, pes_front_layout, file_reads_from}
+use Rattle.pes_codec.specs.Fronts.{front_layout_of, front_of}
 use Rattle.pes_codec.specs.Writing.{after_front}
 use Rattle.pec_codec.proofs.CallerLemmas.{again_from}
 
@@ -68,33 +68,28 @@ reads_whole m front is d laws =
     (λ block. (before : List ℕ) → BlockRoundTrips d block before) (whole_file m front is d) (pec_block_writes d) laws.back)
 
 -- a front that is known, and the block after it
-behind_front : (front_layout : FrontLayout) (front block : List ℕ) → front_layout.known (front ++ block) ≡ true
-    → front_layout.length ≤ length front → front_layout.block (front ++ block) ≡ length front
-    → file_reads_from front_layout 0 (front ++ block) ≡ pec_block_reads (length front) (front ++ block)
-behind_front front_layout front block known long is =
-    let bytes = front ++ block in
-    let both = length-append front block in
-    let whole : front_layout.length ≤ length bytes = omega (arith, long, both) in
-    let there : length front ≤ length bytes = omega (arith, both) in
-    rw (known, le-ltb (length bytes) front_layout.length whole, is, le-ltb (length bytes) (length front) there)
-    (ap (λ n. layout_reads pec_block_layout n (drop (length front) bytes)) (omega arith))
+record IsKnownFront (kind : FileKind) (block : List ℕ) : Type 0 where
+  known : (front_layout_of kind).known (front_of kind ++ block) ≡ true
+  long : (front_layout_of kind).length ≤ length (front_of kind)
+  is : (front_layout_of kind).block (front_of kind ++ block) ≡ length (front_of kind)
 
-pub pec_is_behind : IsBehind pec_meaning pec_front
-pec_is_behind = record {
+fronts_are_known : (kind : FileKind) (block : List ℕ) → IsKnownFront kind block
+fronts_are_known Pec block = record { known = refl; long = omega arith; is = refl }
+fronts_are_known Pes block = record { known = refl; long = omega arith; is = refl }
+
+pub is_behind : (kind : FileKind) → IsBehind (file_meaning kind) (front_of kind)
+is_behind kind = record {
   limit = refl;
   writes = λ d. refl;
-  reads = λ block. behind_front pec_front_layout pec_front block refl (omega arith) refl;
-  moves = λ block. refl;
-}
+  reads = λ block.
+      let front = fronts_are_known kind block in
+      rw (front.known, whole block, front.is, there block)
+      (ap (λ n. layout_reads pec_block_layout n (drop (length (front_of kind)) (front_of kind ++ block))) (omega arith));
+  moves = λ block. let front = fronts_are_known kind block in rw (front.known, whole block, front.is) refl;
+} where
+  whole : (block : List ℕ) → nat_lt (length (front_of kind ++ block)) (front_layout_of kind).length ≡ false
+  whole block = le-ltb (length (front_of kind ++ block)) (front_layout_of kind).length
+      (omega (arith, (fronts_are_known kind block).long, length-append (front_of kind) block))
 
--- a written PES file contains the offset of its block
-long_front : (block : List ℕ) → nat_lt (length (pes_front ++ block)) OFFSET_END ≡ false
-long_front block = le-ltb (length (pes_front ++ block)) OFFSET_END (omega (arith, length-append pes_front block))
-
-pub pes_is_behind : IsBehind pes_meaning pes_front
-pes_is_behind = record {
-  limit = refl;
-  writes = λ d. refl;
-  reads = λ block. behind_front pes_front_layout pes_front block refl (omega arith) refl;
-  moves = λ block. ap (λ short. if short then [] else pec_block_moves 22 (pes_front ++ block)) (long_front block);
-}
+  there : (block : List ℕ) → nat_lt (length (front_of kind ++ block)) (length (front_of kind)) ≡ false
+  there block = le-ltb (length (front_of kind ++ block)) (length (front_of kind)) (omega (arith, length-append (front_of kind) block))

@@ -1,14 +1,16 @@
 -- The front of a file: the bytes by which its format is recognised, and which contain the offset of
 -- its block.
-use Rattle.std.specs.Prelude.{ℕ, ◌+◌, List, [], Bool, length, drop, nat_lt, Result, Err, if◌then◌else◌}
+use Rattle.std.specs.Prelude.{ℕ, ◌+◌, List, [], Bool, length, drop, nat_lt, Result, Err, codes, if◌then◌else◌}
 use Rattle.design_model.specs.declared.command.Command.{Command}
 use Rattle.format_traits.specs.declared.fault.ReadFault.{ReadFault}
 use Rattle.format_traits.specs.declared.fault.ReadFault.TheVariants as fault
 use Rattle.format_traits.specs.declared.loaded.Loaded.{Loaded}
 use Rattle.record_formats.specs.Layouts.{layout_decoded, layout_reads}
 use Rattle.pec_codec.specs.Reading.{pec_block_layout}
+use Rattle.pes_codec.specs.declared.file_kind.FileKind.{FileKind}
+use Rattle.pes_codec.specs.declared.file_kind.FileKind.TheVariants.{Pec, Pes}
 use Rattle.pes_codec.specs.declared.front.TheConstants.{OFFSET_END, PEC_BLOCK_OFFSET}
-use Rattle.pes_codec.specs.Files.{block_offset_in, is_pec_file, is_pes_file}
+use Rattle.pes_codec.specs.Files.{block_offset_in, is_pec_file, is_pes_file, pec_front, pes_front}
 
 -- The layout of a front: its length, the test that recognises the format, and the offset of the
 -- block.
@@ -17,19 +19,25 @@ pub record FrontLayout : Type 0 where
   pub known : List ℕ → Bool
   pub block : List ℕ → ℕ
 
--- The front of a PEC file, whose block has a fixed offset.
-abbrev pub pec_front_layout : FrontLayout
-pec_front_layout = record {
+-- The front of a kind of files. The block of a PEC file has a fixed offset. A PES file contains the
+-- offset of its block, which may begin within the front.
+abbrev pub front_layout_of : FileKind → FrontLayout
+front_layout_of Pec = record {
   length = PEC_BLOCK_OFFSET;
   known = is_pec_file;
-  block = λ bytes.
-      PEC_BLOCK_OFFSET;
+  block = λ bytes. PEC_BLOCK_OFFSET;
 }
+front_layout_of Pes = record { length = OFFSET_END; known = is_pes_file; block = block_offset_in }
 
--- The front of a PES file, which contains the offset of the block. The block may begin within the
--- front.
-abbrev pub pes_front_layout : FrontLayout
-pes_front_layout = record { length = OFFSET_END; known = is_pes_file; block = block_offset_in }
+-- The front of a written file.
+abbrev pub front_of : FileKind → List ℕ
+front_of Pec = pec_front
+front_of Pes = pes_front
+
+-- The ending of the files' names.
+abbrev pub ending_of : FileKind → List ℕ
+ending_of Pec = codes "pec"
+ending_of Pes = codes "pes"
 
 -- The result of bytes at an offset, of which the first `skip` are before the block.
 abbrev pub reads_after_skip : ℕ → ℕ → List ℕ → Result Loaded ReadFault

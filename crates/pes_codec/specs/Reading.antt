@@ -5,34 +5,20 @@ use Rattle.design_model.specs.declared.point.Point.{Point}
 use Rattle.format_traits.specs.declared.fault.ReadFault.{ReadFault}
 use Rattle.format_traits.specs.declared.loaded.Loaded.{Loaded}
 use Rattle.pec_codec.specs.Reading.{pec_block_moves}
-use Rattle.pes_codec.specs.declared.front.TheConstants.{OFFSET_END, PEC_BLOCK_OFFSET}
-use Rattle.pes_codec.specs.Files.{block_offset_in, is_pec_file, is_pes_file}
-use Rattle.pes_codec.specs.Fronts.{file_decoded_from, pec_front_layout, pes_front_layout, file_reads_from}
+use Rattle.pes_codec.specs.declared.file_kind.FileKind.{FileKind}
+use Rattle.pes_codec.specs.Fronts.{file_decoded_from, front_layout_of, file_reads_from}
 
--- The result of reading a PEC file.
-abbrev pub pec_reads : List ℕ → Result Loaded ReadFault
-pec_reads bytes = file_reads_from pec_front_layout 0 bytes
+-- The result of reading a file.
+abbrev pub file_reads : FileKind → List ℕ → Result Loaded ReadFault
+file_reads kind bytes = file_reads_from (front_layout_of kind) 0 bytes
 
--- The commands of a PEC file's records that are complete in the bytes.
-abbrev pub pec_shown : List ℕ → List Command
-pec_shown bytes = file_decoded_from pec_front_layout 0 bytes
+-- The commands of a file's records that are complete in the bytes.
+abbrev pub file_shown : FileKind → List ℕ → List Command
+file_shown kind bytes = file_decoded_from (front_layout_of kind) 0 bytes
 
--- The moves of a PEC file's records, before its end or its first refusal.
-abbrev pub pec_moves : List ℕ → List Point
-pec_moves bytes = if is_pec_file bytes then pec_block_moves PEC_BLOCK_OFFSET bytes else []
-
--- The result of reading a PES file.
-abbrev pub pes_reads : List ℕ → Result Loaded ReadFault
-pes_reads bytes = file_reads_from pes_front_layout 0 bytes
-
--- The commands of a PES file's records that are complete in the bytes.
-abbrev pub pes_shown : List ℕ → List Command
-pes_shown bytes = file_decoded_from pes_front_layout 0 bytes
-
--- The moves of a PES file's records, before its end or its first refusal.
-abbrev pub pes_moves : List ℕ → List Point
-pes_moves bytes =
-    if is_pes_file bytes
-    then (if nat_lt (length bytes) OFFSET_END then [] else pec_block_moves (block_offset_in bytes)
-    bytes)
+-- The moves of a file's records, before its end or its first refusal.
+abbrev pub file_moves : FileKind → List ℕ → List Point
+file_moves kind bytes = let front = front_layout_of kind in
+    if front.known bytes
+    then (if nat_lt (length bytes) front.length then [] else pec_block_moves (front.block bytes) bytes)
     else []

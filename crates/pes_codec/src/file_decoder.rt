@@ -1,4 +1,4 @@
-use crate::file_front::FileFront;
+use crate::file_formats::FileFormat;
 use crate::file_stage::FileStage;
 use design_model::Command;
 use format_traits::{Decoder, Loaded, ReadFault};
@@ -6,25 +6,26 @@ use lists_and_numbers::Memory;
 use pec_codec::{PecRecords, block_decoder};
 use record_formats::RecordDecoder;
 use std::alloc::Global;
+use std::marker::PhantomData;
 
 /// The decoder of files whose block comes after a front.
 #[derive(Drop)]
-pub struct FileDecoder<F: FileFront + Drop> {
-    front: F,
+pub struct FileDecoder<F: FileFormat + Drop> {
+    of: PhantomData<F>,
     block: RecordDecoder<PecRecords>,
     stage: FileStage,
 }
 
-impl<F: FileFront + Drop> FileDecoder<F> {
+impl<F: FileFormat + Drop> FileDecoder<F> {
     ghost use Rattle.std.specs.Prelude.{◌≡◌, ◌+◌, ◌<◌, ◌^◌, IfOk, length};
     ghost use Rattle.format_traits.specs.DecoderStates.{TakesBytes};
     ghost use Rattle.pes_codec.specs.FileStates.{file_so_far_at, file_state_at, file_state_before_block, file_start_state};
-    ghost use Rattle.pes_codec.specs.Fronts.{front_fault};
+    ghost use Rattle.pes_codec.specs.Fronts.{front_fault, front_layout_of};
 
     /// Returns a decoder, which must begin before it takes bytes.
-    pub fn new(alloc: Global, front: F) -> Self {
+    pub fn new(alloc: Global) -> Self {
         FileDecoder {
-            front,
+            of: PhantomData,
             block: block_decoder(alloc),
             stage: FileStage::Block,
         }
@@ -33,9 +34,9 @@ impl<F: FileFront + Drop> FileDecoder<F> {
     /// Returns the refusal of a file that ends in its front.
     fn front_fault(&self, at: u64, bytes: &[u8]) -> ReadFault
         requires { at + length bytes.now < 2 ^ 64 }
-        ensures { result ≡ front_fault F.front_layout at bytes.now }
+        ensures { result ≡ front_fault (front_layout_of F.kind) at bytes.now }
     {
-        if self.front.is_known(bytes) {
+        if F::kind().is_known(bytes) {
             ReadFault::Short {
                 at: at + bytes.len() as u64,
             }
@@ -46,21 +47,22 @@ impl<F: FileFront + Drop> FileDecoder<F> {
 
     fn take_front(&mut self, at: u64, bytes: &[u8]) -> Result<usize, Memory>
         requires { at + length bytes.now < 2 ^ 64 }
-        ensures { IfOk result (λ size. TakesBytes (file_start_state F.front_layout)
-            (file_state_at F.front_layout
+        ensures { IfOk result (λ size. TakesBytes (file_start_state (front_layout_of F.kind))
+            (file_state_at (front_layout_of F.kind)
             (⟦<RecordDecoder<PecRecords> as Decoder>⟧.decoder_state self.new.block) self.new.stage)
             (file_so_far_at (⟦<RecordDecoder<PecRecords> as Decoder>⟧.so_far self.new.block) self.new.stage)
             at bytes.now size) }
     {
-        if bytes.len() < self.front.length() {
+        let kind = F::kind();
+        if bytes.len() < kind.length() {
             self.stage = FileStage::Front(self.front_fault(at, bytes));
             return Ok(0);
         }
-        if !self.front.is_known(bytes) {
+        if !kind.is_known(bytes) {
             self.stage = FileStage::Refused(ReadFault::Signature { at });
             return Ok(bytes.len());
         }
-        let skip = self.front.block(bytes) as u64;
+        let skip = kind.block(bytes) as u64;
         self.take_before(at, skip, bytes)
     }
 
@@ -68,7 +70,7 @@ impl<F: FileFront + Drop> FileDecoder<F> {
     fn take_before(&mut self, at: u64, skip: u64, bytes: &[u8]) -> Result<usize, Memory>
         requires { at + length bytes.now < 2 ^ 64 }
         ensures { IfOk result (λ size. TakesBytes (file_state_before_block skip)
-            (file_state_at F.front_layout
+            (file_state_at (front_layout_of F.kind)
             (⟦<RecordDecoder<PecRecords> as Decoder>⟧.decoder_state self.new.block) self.new.stage)
             (file_so_far_at (⟦<RecordDecoder<PecRecords> as Decoder>⟧.so_far self.new.block) self.new.stage)
             at bytes.now size) }
@@ -89,12 +91,13 @@ impl<F: FileFront + Drop> FileDecoder<F> {
     }
 }
 
-impl<F: FileFront + Drop> Decoder for FileDecoder<F> {
+impl<F: FileFormat + Drop> Decoder for FileDecoder<F> {
     ghost use Rattle.pes_codec.specs.FileStates.{file_so_far_at, file_state_at, file_start_state};
+    ghost use Rattle.pes_codec.specs.Fronts.{front_layout_of};
 
-    ghost fresh = { file_start_state F.front_layout };
+    ghost fresh = { file_start_state (front_layout_of F.kind) };
 
-    ghost decoder_state = { λ d. file_state_at F.front_layout
+    ghost decoder_state = { λ d. file_state_at (front_layout_of F.kind)
         (⟦<RecordDecoder<PecRecords> as Decoder>⟧.decoder_state d.block) d.stage };
 
     ghost so_far = { λ d. file_so_far_at (⟦<RecordDecoder<PecRecords> as Decoder>⟧.so_far d.block)

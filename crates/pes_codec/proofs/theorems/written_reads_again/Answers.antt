@@ -1,10 +1,11 @@
-use Rattle.pes_codec.specs.Files.{pec_front, pes_front}
-use Rattle.pes_codec.specs.Formats.{pec_meaning, pes_meaning}
-use Rattle.pes_codec.proofs.FrontLemmas.{keeps_laws, pec_is_behind, pes_is_behind}
+use Rattle.pes_codec.specs.declared.file_kind.FileKind.TheVariants.{Pec, Pes}
+use Rattle.pes_codec.specs.Formats.{file_meaning}
+use Rattle.pes_codec.specs.Fronts.{front_of}
+use Rattle.pes_codec.proofs.FrontLemmas.{is_behind, keeps_laws}
 use Rattle.pes_codec.proofs.theorems.written_reads_again.Goals as goal
 
-pub returns-clause-pec : goal.returns-clause-pec
-returns-clause-pec c = λ d limits. keeps_laws pec_meaning pec_front pec_is_behind d (c.blocks_read_back.ensures d limits)
-
-pub returns-clause-pes : goal.returns-clause-pes
-returns-clause-pes c = λ d limits. keeps_laws pes_meaning pes_front pes_is_behind d (c.blocks_read_back.ensures d limits)
+pub returns : goal.returns
+returns c = record {
+  pec = λ d limits. keeps_laws (file_meaning Pec) (front_of Pec) (is_behind Pec) d (c.blocks_read_back.ensures d limits);
+  pes = λ d limits. keeps_laws (file_meaning Pes) (front_of Pes) (is_behind Pes) d (c.blocks_read_back.ensures d limits);
+}
