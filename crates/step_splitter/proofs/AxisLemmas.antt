@@ -4,7 +4,7 @@ use Rattle.std.proofs.Common.{◌≡◌, ◌≢◌, ℕ, ℤ, pos, negsuc, ◌+�
 use Rattle.std.proofs.Math.IntN.{neg_ℤ}
 use Rattle.std.proofs.lemmas.Int.{ints, by_lt_z}
 use Rattle.std.proofs.Math.Nat.{div-eq_of_lt, zero-div}
-use Rattle.step_splitter.proofs.QuotientLemmas.{div-more, part_last, part_moves, part_rises, part_rises_little, part_within}
+use Rattle.step_splitter.proofs.QuotientLemmas.{div-more, part_last, part_rises, part_rises_little, part_within, next_part, div-mono}
 use Rattle.step_splitter.specs.Steps.{floor_quotient, coordinate_on_segment}
 
 -- a product with a number that isn't negative, over n
@@ -45,7 +45,7 @@ whole_rises_little i d n step some covers =
     rw (whole (i * d) n, whole ((i + 1) * d) n) (part_rises_little i d 0 n step some covers)
 
 whole_moves : (i d n : ℕ) → 1 ≤ n → n ≤ d → i * d / n + 1 ≤ (i + 1) * d / n
-whole_moves i d n some far = rw (whole (i * d) n, whole ((i + 1) * d) n) (part_moves i d 0 n some far)
+whole_moves i d n some far = rw (whole (i * d) n, whole ((i + 1) * d) n) (grind (arith, nat_tests, next_part, div-mono, div-more))
 
 whole_within : (i d n : ℕ) → 1 ≤ n → i ≤ n → i * d / n ≤ d
 whole_within i d n some there = rw (whole (i * d) n) (part_within i d 0 n some there)
@@ -101,7 +101,7 @@ pub axis_moves : (from to : ℤ) (n i : ℕ) → 1 ≤ n → n ≤ unsigned_abs 
 axis_moves from to n i some far =
     by_lt_z to from
     (λ down. rw (coordinate_on_segment-down from to n (i + 1) some down, coordinate_on_segment-down from to n i some down)
-    (apart_down from _ _ (part_moves i _ (n - 1) n some far)))
+    (apart_down from _ _ (grind (arith, nat_tests, next_part, div-mono, div-more))))
     (λ up. rw (coordinate_on_segment-up from to n (i + 1) up, coordinate_on_segment-up from to n i up)
     (apart_up from _ _ (whole_moves i _ n some far)))
 

@@ -15,10 +15,6 @@ use Rattle.step_splitter.specs.Chains.{AreCloseAfter, last_point_or}
 use Rattle.step_splitter.specs.Refits.{MeetsRefitGoal, AreNearActs, is_no_float, needles_at, refitted_acts, refitted_from}
 use Rattle.step_splitter.specs.Steps.{split_points}
 
--- a move beyond a limit has a size
-size_far : (limit : ℕ) (m : Point) → is_point_within limit m ≡ false → 1 ≤ move_size m
-size_far limit m far = grind (arith, nat_tests, le-max_left, le-max_right)
-
 -- needles that keep close keep near
 near_along : (limit : ℕ) (place : Point) (points : List Point) (rest : List Act) → AreCloseAfter limit place points
     → AreNearActs limit false (last_point_or place points) rest → AreNearActs limit false place (needles_at points ++ rest)
@@ -32,7 +28,7 @@ near_split : (limit : ℕ) (loose within : Bool) (place p : Point) (rest : List 
     ((if not loose && not within then needles_at (split_points place p limit) else act.Needle p false ∷ []) ++ rest)
 near_split limit true within place p rest low is near = (refl, near)
 near_split limit false true place p rest low is near = (is, near)
-near_split limit false false place p rest low is near = grind (arith, nat_tests, comes_close, size_far, near_along)
+near_split limit false false place p rest low is near = grind (arith, nat_tests, comes_close, le-max_left, le-max_right, near_along)
 
 near_refitted : (limit : ℕ) (loose : Bool) (place : Point) (acts : List Act) → 1 ≤ limit
     → AreNearActs limit loose place (refitted_from mode.Split limit loose place acts)

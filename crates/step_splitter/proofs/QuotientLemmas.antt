@@ -14,10 +14,6 @@ div_ceil_some s step some low = let t = div_ceil_times s step low in grind arith
 pub div_ceil_few : (s step : ℕ) → 1 ≤ step → div_ceil s step ≤ s
 div_ceil_few s step low = let t = div_ceil_times s step low in grind arith
 
--- a number up to the other is one part
-pub div_ceil_one : (s step : ℕ) → 1 ≤ s → s ≤ step → div_ceil s step ≡ 1
-div_ceil_one s step some few = grind (arith, nat_tests, div_ceil_times s step (omega (arith, some, few)))
-
 -- the number is at most the parts times the step
 pub div_ceil_covers : (s step : ℕ) → 1 ≤ step → s ≤ div_ceil s step * step
 div_ceil_covers s step low = (div_ceil_times s step low).0
@@ -31,7 +27,7 @@ pub div-more : (x k n : ℕ) → 1 ≤ n → (x + n * k) / n ≡ x / n + k
 div-more x k n some = add-mul-div_left x k some
 
 -- one part more is the distance more
-next_part : (i d c : ℕ) → (i + 1) * d + c ≡ (i * d + c) + d
+pub next_part : (i d c : ℕ) → (i + 1) * d + c ≡ (i * d + c) + d
 next_part i d c = omega arith
 
 -- one part more adds at most the step
@@ -48,10 +44,6 @@ part_rises_little i d c n step some covers =
 -- the parts do not fall
 pub part_rises : (i d c n : ℕ) → 1 ≤ n → (i * d + c) / n ≤ ((i + 1) * d + c) / n
 part_rises i d c n some = grind (arith, nat_tests, next_part i d c, div-mono (i * d + c) ((i * d + c) + d) n some (omega arith))
-
--- and each rises by at least 1 where there are no more parts than the distance
-pub part_moves : (i d c n : ℕ) → 1 ≤ n → n ≤ d → (i * d + c) / n + 1 ≤ ((i + 1) * d + c) / n
-part_moves i d c n some far = grind (arith, nat_tests, next_part, div-mono, div-more)
 
 -- the last part is the distance
 pub part_last : (d c n : ℕ) → c < n → (n * d + c) / n ≡ d

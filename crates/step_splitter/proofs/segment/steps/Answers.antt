@@ -1,15 +1,17 @@
 use Rattle.std.proofs.Common.{◌≡◌, ◌≤◌, rules, arith, sym}
 use Rattle.step_splitter.proofs.PointLemmas.{size_some}
-use Rattle.step_splitter.proofs.QuotientLemmas.{div_ceil_few, div_ceil_one, div_ceil_some}
+use Rattle.step_splitter.proofs.QuotientLemmas.{div_ceil_few, div_ceil_some}
 use Rattle.design_model.specs.Points.{move_between, move_size}
 use Rattle.step_splitter.specs.Steps.{steps_of}
 use Rattle.step_splitter.proofs.segment.steps.Goals as goal
 use Rattle.step_splitter.proofs.CallerLemmas.{size_few}
+use Rattle.std.proofs.lemmas.Grind.{div_ceil_times}
+use Rattle.std.proofs.lemmas.Bool.Decides.{nat_tests}
 
 pub returns-then-longer-step-clause-value : goal.returns-then-longer-step-clause-value
 returns-then-longer-step-clause-value c =
     let few : move_size (move_between c.args.p c.args.q) ≤ c.args.step = search rules in
-    sym (div_ceil_one _ c.args.step (size_some c.args.p c.args.q c.requires.differ) few)
+    sym (grind (arith, nat_tests, div_ceil_times, c.args.step, (size_some c.args.p c.args.q c.requires.differ)))
 
 pub returns-clause-some : goal.returns-clause-some
 returns-clause-some c =
