@@ -1,6 +1,6 @@
 -- A text names starts and ends in the order of their blocks: each belongs to the last block so far.
 use Rattle.std.proofs.lemmas.Bool.Decides.{nat_tests}
-use Rattle.std.proofs.Common.{◌≡◌, ℕ, ◌+◌, ◌-◌, ◌<◌, ◌≤◌, ◌==◌, ◌&&◌, ◌||◌, Bool, true, false, not, nat_lt, List, [], ◌∷◌, ◌++◌, Option, Some, None, Ok, IfOk, length, map, codes, bytes_eq, All, sym, subst, refl, arith}
+use Rattle.std.proofs.Common.{◌≡◌, ℕ, ◌+◌, ◌-◌, ◌<◌, ◌≤◌, ◌==◌, ◌&&◌, ◌||◌, Bool, true, false, not, List, [], ◌∷◌, ◌++◌, Option, Some, None, Ok, IfOk, length, map, codes, bytes_eq, All, sym, subst, arith}
 use Rattle.std.proofs.lemmas.List.{length-append, map-append}
 use Rattle.std.proofs.lemmas.List.Elements.{All-get_or, All-head, All-map, All-nil, All-push, All-weaker}
 use Rattle.std.proofs.lemmas.List.Sorted.{IsNonDecreasingBy-push}
@@ -8,15 +8,15 @@ use Rattle.std.specs.List.{list_any}
 use Rattle.std.specs.List.Sorted.{IsNonDecreasing}
 use Rattle.lists_and_numbers.specs.WholeNumbers.{parsed_whole}
 use Rattle.line_sections.specs.declared.spot.Spot.{Spot}
-use Rattle.line_sections.specs.Sections.{all_sections}
 use Rattle.line_sections.specs.Lines.{LineValue}
 use Rattle.drawing_model.specs.declared.draw_kind.DrawKind.TheVariants as kind
 use Rattle.drawing_model.specs.Drawings.{DrawingValue}
-use Rattle.drawing_model.specs.GrowingDrawings.{all_in_needle_range, and_then, block_added, finished_drawing, is_drawing_label, is_last_empty, line_added, point_count, steps_with_line, with_new_line}
+use Rattle.drawing_model.specs.GrowingDrawings.{all_in_needle_range, and_then, block_added, finished_drawing, is_drawing_label, is_last_empty, line_added, steps_with_line, with_new_line}
 use Rattle.drawing_model.specs.JoinedDrawings.{joined_drawing}
 use Rattle.drawing_model.specs.WalkEnds.{HasNoEnds, are_connected_spots, is_junction, spot_added, walk_end_added}
+use Rattle.drawing_model.proofs.CallerLemmas.{after_both, finished_none, joined_none, unless}
 use Rattle.drawing_text.proofs.PrintedBlocks.{Rises, rises_of}
-use Rattle.drawing_text.proofs.ValidTextLemmas.{after_both, any_ok, either, located, unless, value_of, weaker, where_true}
+use Rattle.drawing_text.proofs.ValidTextLemmas.{any_ok, either, located, value_of, weaker, where_true}
 use Rattle.drawing_text.specs.declared.draft.DrawingDraft.{DrawingDraft}
 use Rattle.drawing_text.specs.declared.version.Version.{Version}
 use Rattle.drawing_text.specs.declared.version.Version.TheVariants as version
@@ -186,17 +186,6 @@ none_ends d none = record { starts_to = none_to d.starts none.starts; ends_to = 
 
 no_ends_ordered : (d : DrawingValue) → HasNoEnds d → HasOrderedEnds d
 no_ends_ordered d none = let is = none_ends d none in record { starts = is.starts_to.rising; ends = is.ends_to.rising }
-
-finished_none : (d : DrawingValue) → HasNoEnds d → IfOk (finished_drawing d) HasNoEnds
-finished_none d none =
-    unless HasNoEnds (length d.threads == 0) _ kind.NoBlock (λ some.
-    unless HasNoEnds (is_last_empty d) (Ok d) kind.EmptyBlock (λ filled. none))
-
-joined_none : (d : DrawingValue) → HasNoEnds d → IfOk (joined_drawing d) HasNoEnds
-joined_none d none =
-    unless HasNoEnds (nat_lt 1024 (length (all_sections d.lines))) _ kind.TooManyLines (λ few.
-    unless HasNoEnds (nat_lt 65536 (point_count (all_sections d.lines))) (Ok (record d { lines = all_sections d.lines })) kind.TooManyPoints
-    (λ short. record { starts = none.starts; ends = none.ends }))
 
 draft_joined : (number : ℕ) (draft : DrawingDraft) → IsOrdered draft → IfOk (joined_at number draft) HasNoEnds
 draft_joined number draft is =

@@ -1,5 +1,5 @@
 -- The drafts after the lines of a canonical text.
-use Rattle.std.proofs.Common.{◌≡◌, ◌≢◌, ℕ, ◌+◌, ◌<◌, ◌≤◌, ◌==◌, Bool, true, false, nat_le, nat_lt, unsigned_abs, List, [], ◌∷◌, ◌++◌, Result, Ok, length, codes, All, ap, ◌∙◌, refl, append_assoc, arith}
+use Rattle.std.proofs.Common.{◌≡◌, ◌≢◌, ℕ, ◌+◌, ◌<◌, ◌≤◌, Bool, true, false, nat_le, unsigned_abs, List, [], ◌∷◌, ◌++◌, Result, Ok, length, codes, All, refl, append_assoc, arith}
 use Rattle.std.proofs.lemmas.Bool.{and_from, and_parts}
 use Rattle.std.proofs.lemmas.Bool.Decides.{nat_tests}
 use Rattle.std.proofs.lemmas.List.Elements.{All-head, All-tail}
@@ -11,12 +11,11 @@ use Rattle.design_model.specs.declared.point.Point.{Point}
 use Rattle.design_model.specs.Labels.{IsLabel, IsPrintable}
 use Rattle.design_model.specs.Points.{is_point_within}
 use Rattle.step_splitter.specs.Chains.{IsNeedlePoint}
-use Rattle.drawing_model.specs.declared.draw_kind.DrawKind.{DrawKind}
 use Rattle.drawing_model.specs.Drawings.{DrawingValue, IsLine}
 use Rattle.drawing_model.specs.GrowingDrawings.{and_then, all_in_needle_range, is_last_empty, point_count, step_count, with_new_block, with_new_line}
 use Rattle.drawing_model.specs.Needles.{steps_of_line}
 use Rattle.drawing_text.proofs.PrintedNumbers.{signed_word}
-use Rattle.drawing_text.proofs.PrintedWords.{AreWords, IsWord, is_inner, line_read, tail_of}
+use Rattle.drawing_text.proofs.PrintedWords.{AreWords, IsWord, is_printed_byte, line_read, tail_of}
 use Rattle.drawing_text.specs.declared.draft.DrawingDraft.{DrawingDraft}
 use Rattle.drawing_text.specs.declared.draw_fault.DrawFault.{DrawFault}
 use Rattle.drawing_text.specs.declared.walk_end.WalkEnd.{WalkEnd}
@@ -125,11 +124,11 @@ pub color_says : (version : Version) (number opened : ℕ) (named : Bool) (ends 
 color_says version number opened named ends d thread fits filled room = grind (arith, nat_tests, decimal_read thread (omega (arith, fits)))
 
 -- a label is a word that may be one
-label_inner : (label : List ℕ) → list_all is_ascii_graphic label ≡ true → list_all is_inner label ≡ true
+label_inner : (label : List ℕ) → list_all is_ascii_graphic label ≡ true → list_all is_printed_byte label ≡ true
 label_inner [] graphic = refl
 label_inner (b ∷ label) graphic =
     let both = and_parts (is_ascii_graphic b) (list_all is_ascii_graphic label) graphic in
-    and_from (is_inner b) (list_all is_inner label) (grind (arith, nat_tests, both.0)) (label_inner label both.1)
+    and_from (is_printed_byte b) (list_all is_printed_byte label) (grind (arith, nat_tests, both.0)) (label_inner label both.1)
 
 label_graphic : (label : List ℕ) → All IsPrintable label → All (λ byte. byte ≢ 32) label
     → list_all is_ascii_graphic label ≡ true

@@ -1,7 +1,7 @@
 -- Words that stand one space apart, and the lines that they make.
 use Rattle.std.proofs.Common.{arith}
 use Rattle.std.proofs.lemmas.Bool.Decides.{nat_tests}
-use Rattle.std.proofs.Common.{◌≡◌, ℕ, Bool, true, false, not, ◌==◌, ◌||◌, ◌&&◌, List, [], ◌∷◌, ◌++◌, map, filter, All, ap, sym, ◌∙◌, refl, append_assoc, append-nil}
+use Rattle.std.proofs.Common.{◌≡◌, ℕ, Bool, true, false, not, ◌==◌, ◌||◌, ◌&&◌, List, [], ◌∷◌, ◌++◌, map, All, ap, sym, ◌∙◌, refl, append_assoc, append-nil}
 use Rattle.std.proofs.lemmas.Bool.{and_from, and_parts, not-true, or_parts}
 use Rattle.std.proofs.lemmas.List.Elements.{All-weaker}
 use Rattle.std.proofs.lemmas.List.Folds.{list_all-append}
@@ -11,17 +11,17 @@ use Rattle.std.specs.List.{list_all}
 use Rattle.drawing_text.specs.Words.{is_blank_byte, is_filled, is_line_feed, text_lines, line_without_return, words_by_line, words_of_line}
 
 -- a byte that ends no line
-abbrev is_kept : ℕ → Bool
-is_kept b = not (is_line_feed b || b == 13)
+abbrev is_line_byte : ℕ → Bool
+is_line_byte b = not (is_line_feed b || b == 13)
 
 -- a byte that ends neither a line nor a word
-abbrev pub is_inner : ℕ → Bool
-is_inner b = not (is_blank_byte b) && is_kept b
+abbrev pub is_printed_byte : ℕ → Bool
+is_printed_byte b = not (is_blank_byte b) && is_line_byte b
 
 -- a word that can be printed
 pub record IsWord (word : List ℕ) : Type 0 where
   pub filled : is_filled word ≡ true
-  pub inner : list_all is_inner word ≡ true
+  pub inner : list_all is_printed_byte word ≡ true
 
 abbrev pub AreWords : List (List ℕ) → Type 0
 AreWords [] = Unit {0}
@@ -43,39 +43,41 @@ tail_parts (word ∷ words) rest =
     grind (arith, nat_tests, append_assoc word (tail_of words) rest, tail_parts words rest, append_assoc word (spaced words) (10 ∷ rest))
 
 -- bytes that end no line are on one line
-line_cut : (line rest : List ℕ) → list_all is_kept line ≡ true → text_lines (line ++ 10 ∷ rest) ≡ line ∷ text_lines rest
+line_cut : (line rest : List ℕ) → list_all is_line_byte line ≡ true → text_lines (line ++ 10 ∷ rest) ≡ line ∷ text_lines rest
 line_cut [] rest kept = refl
 line_cut (b ∷ line) rest kept =
-    let both = and_parts (is_kept b) (list_all is_kept line) kept in
+    let both = and_parts (is_line_byte b) (list_all is_line_byte line) kept in
     let test = (or_parts (is_line_feed b) (b == 13) (not-true _ both.0)).0 in
     rw (test, line_cut line rest both.1)
 
-return_kept : (line : List ℕ) → list_all is_kept line ≡ true → line_without_return line ≡ line
+return_kept : (line : List ℕ) → list_all is_line_byte line ≡ true → line_without_return line ≡ line
 return_kept [] kept = refl
-return_kept (b ∷ []) kept = grind (arith, nat_tests, and_parts (is_kept b) true kept, or_parts (is_line_feed b) (b == 13), not-true)
-return_kept (b ∷ c ∷ line) kept = grind (arith, nat_tests, and_parts (is_kept b) (list_all is_kept (c ∷ line)) kept, return_kept (c ∷ line))
+return_kept (b ∷ []) kept = grind (arith, nat_tests, and_parts (is_line_byte b) true kept, or_parts (is_line_feed b) (b == 13), not-true)
+return_kept (b ∷ c ∷ line) kept =
+    grind (arith, nat_tests, and_parts (is_line_byte b) (list_all is_line_byte (c ∷ line)) kept, return_kept (c ∷ line))
 
 -- the bytes of words end no line
-inner_kept : (word : List ℕ) → list_all is_inner word ≡ true → list_all is_kept word ≡ true
-inner_kept [] inner = refl
-inner_kept (b ∷ word) inner =
-    let both = and_parts (is_inner b) (list_all is_inner word) inner in
-    and_from (is_kept b) (list_all is_kept word) (and_parts (not (is_blank_byte b)) (is_kept b) both.0).1 (inner_kept word both.1)
+word_on_line : (word : List ℕ) → list_all is_printed_byte word ≡ true → list_all is_line_byte word ≡ true
+word_on_line [] inner = refl
+word_on_line (b ∷ word) inner =
+    let both = and_parts (is_printed_byte b) (list_all is_printed_byte word) inner in
+    and_from (is_line_byte b) (list_all is_line_byte word)
+    (and_parts (not (is_blank_byte b)) (is_line_byte b) both.0).1 (word_on_line word both.1)
 
-kept_on : (first second : List ℕ) → list_all is_kept first ≡ true → list_all is_kept second ≡ true
-    → list_all is_kept (first ++ second) ≡ true
+kept_on : (first second : List ℕ) → list_all is_line_byte first ≡ true → list_all is_line_byte second ≡ true
+    → list_all is_line_byte (first ++ second) ≡ true
 kept_on first second one other =
-    list_all-append is_kept first second ∙ and_from (list_all is_kept first) (list_all is_kept second) one other
+    list_all-append is_line_byte first second ∙ and_from (list_all is_line_byte first) (list_all is_line_byte second) one other
 
-spaced_kept : (words : List (List ℕ)) → AreWords words → list_all is_kept (spaced words) ≡ true
-spaced_kept [] are = refl
-spaced_kept (word ∷ words) are = kept_on word (spaced words) (inner_kept word are.0.inner) (spaced_kept words are.1)
+words_on_line : (words : List (List ℕ)) → AreWords words → list_all is_line_byte (spaced words) ≡ true
+words_on_line [] are = refl
+words_on_line (word ∷ words) are = kept_on word (spaced words) (word_on_line word are.0.inner) (words_on_line words are.1)
 
 -- no byte of a word is a blank
-no_blank : (word : List ℕ) → list_all is_inner word ≡ true → All (λ b. is_blank_byte b ≡ false) word
-no_blank word inner = All-weaker (λ (b : ℕ). is_inner b ≡ true) (λ (b : ℕ). is_blank_byte b ≡ false)
-    (λ b test. not-true (is_blank_byte b) (and_parts (not (is_blank_byte b)) (is_kept b) test).0) word
-    (AllPass-from_list_all is_inner word inner)
+no_blank : (word : List ℕ) → list_all is_printed_byte word ≡ true → All (λ b. is_blank_byte b ≡ false) word
+no_blank word inner = All-weaker (λ (b : ℕ). is_printed_byte b ≡ true) (λ (b : ℕ). is_blank_byte b ≡ false)
+    (λ b test. not-true (is_blank_byte b) (and_parts (not (is_blank_byte b)) (is_line_byte b) test).0) word
+    (AllPass-from_list_all is_printed_byte word inner)
 
 -- a word before a space, and a word before the end
 word_cut : (word rest : List ℕ) → IsWord word → words_of_line (word ++ 32 ∷ rest) ≡ word ∷ words_of_line rest
@@ -96,7 +98,7 @@ pub line_read : (word : List ℕ) (words : List (List ℕ)) (rest : List ℕ) �
     → words_by_line (word ++ (tail_of words ++ rest)) ≡ (word ∷ words) ∷ words_by_line rest
 line_read word words rest is are =
     let line : List ℕ = word ++ spaced words in
-    let kept = kept_on word (spaced words) (inner_kept word is.inner) (spaced_kept words are) in
+    let kept = kept_on word (spaced words) (word_on_line word is.inner) (words_on_line words are) in
     let whole : word ++ (tail_of words ++ rest) ≡ line ++ 10 ∷ rest =
     ap (λ more. word ++ more) (tail_parts words rest) ∙ sym (append_assoc word (spaced words) (10 ∷ rest)) in
     let first : words_of_line (line_without_return line) ≡ word ∷ words =

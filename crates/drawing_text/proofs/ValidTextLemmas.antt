@@ -13,6 +13,7 @@ use Rattle.drawing_model.specs.GrowingDrawings.{and_then, block_added, finished_
 use Rattle.drawing_model.specs.GrowingLimits.{BlocksKeepGrowing, EmptyDrawingsGrow, FinishedDrawingsAreValid, IsGrowingDrawing, IsValidJoinedDrawing, JoinedDrawingsAreValid, LabelsKeepGrowing, LinesKeepGrowing, StepsKeepGrowing, WalkEndsKeepValid}
 use Rattle.drawing_model.specs.JoinedDrawings.{joined_drawing}
 use Rattle.drawing_model.specs.WalkEnds.{IsValidDrawing, walk_end_added}
+use Rattle.drawing_model.proofs.CallerLemmas.{after_both, unless}
 use Rattle.drawing_text.specs.declared.draft.DrawingDraft.{DrawingDraft}
 use Rattle.drawing_text.specs.declared.version.Version.{Version}
 use Rattle.drawing_text.specs.declared.version.Version.TheVariants as version
@@ -21,12 +22,6 @@ use Rattle.drawing_text.specs.DrawingText.{Body, at_line, body_of_text, drawing_
 use Rattle.drawing_text.specs.TextLines.{allows_ends, count_in_range, draft_after_words, empty_draft, is_before_blocks, parsed_count, parsed_point, parsed_points, with_color_line, with_name_line, with_points_line, with_step_line, with_walk_end_line}
 use Rattle.drawing_text.specs.ValidTexts.{TextsAs2DefineValidDrawings, TextsDefineValidDrawings}
 use Rattle.drawing_text.specs.Words.{begins_comment, single_word}
-
--- what holds where a test doesn't refuse holds after the test
-pub unless : {A : Type 0} (P : A → Type 0) (test : Bool) (r : Result A DrawKind) (why : DrawKind) → (test ≡ false → IfOk r P)
-    → IfOk (if test then Err why else r) P
-unless P true r why next = tt
-unless P false r why next = next refl
 
 -- what holds where a test allows it holds after the test
 pub where_true : {A : Type 0} (P : A → Type 0) (test : Bool) (r : Result A DrawKind) (why : DrawKind) → (test ≡ true → IfOk r P)
@@ -39,12 +34,6 @@ pub either : {A : Type 0} (P : A → Type 0) (test : Bool) (r s : Result A DrawK
     → IfOk (if test then r else s) P
 either P true r s one two = one
 either P false r s one two = two
-
--- what holds after the second of two steps
-pub after_both : {A B F : Type 0} (P : A → Type 0) (Q : B → Type 0) (r : Result A F) (next : A → Result B F) → IfOk r P
-    → ((a : A) → P a → IfOk (next a) Q) → IfOk (and_then r next) Q
-after_both P Q (Ok a) next has later = later a has
-after_both P Q (Err why) next has later = tt
 
 -- a step of which nothing is needed
 pub any_ok : {A F : Type 0} (r : Result A F) → IfOk r (λ a. Unit {0})

@@ -31,9 +31,9 @@ pub fn print_drawing2(alloc: Global, d: &Drawing) -> Result<Bytes, Memory>
     ensures value { IfOk result (λ text. text ≡ canonical_text2 d.now) }
     ensures again { IfOk result (λ text. drawing_of text ≡ Ok d.now) }
 {
-    d.keeps_limits();
     joined_drawings_stay();
     drawn_texts_are_read();
+    d.keeps_limits();
     let text = spelled(alloc, Version::Two, d)?;
     Ok(text)
 }

@@ -84,16 +84,12 @@ fn version_named(line: &[u8]) -> Option<Version>
 fn version_of_word(word: &[u8]) -> Option<Version>
     ensures { result ≡ parsed_version word.now }
 {
-    if equals_text(word, "1") {
-        return Some(Version::One);
+    match word {
+        [b'1'] => Some(Version::One),
+        [b'2'] => Some(Version::Two),
+        [b'3'] => Some(Version::Three),
+        _ => None,
     }
-    if equals_text(word, "2") {
-        return Some(Version::Two);
-    }
-    if equals_text(word, "3") {
-        return Some(Version::Three);
-    }
-    None
 }
 
 fn read_body(alloc: Global, version: Version, first: u32, text: &[u8]) -> Result<Drawing, DrawFault>
