@@ -7,6 +7,6 @@ mod MatchLemmas
 mod PassLemmas
 mod LeastCertLemmas
 mod SewnPieces
-mod RouteLemmas
 mod DoubleLemmas
+mod RouteLemmas
 mod RouteFacts

@@ -5,8 +5,6 @@ use Rattle.std.specs.List.{AllZip}
 use Rattle.odd_cuts.specs.declared.certificate.PieceCert.{PieceCert}
 use Rattle.odd_cuts.specs.Certificates.{HasCanonicalText, walks_of}
 use Rattle.double_run.specs.DoubleWalks.{IsDouble, without_ends}
-use Rattle.line_graph.specs.declared.piece.Piece.{Piece}
-use Rattle.line_graph.specs.PiecesOfDrawings.{graph_of}
 use Rattle.drawing_model.specs.Drawings.{DrawingValue}
 use Rattle.line_graph.specs.PieceGraphs.{PieceValue, piece_graph}
 use Rattle.line_graph.specs.Pieces.{ArePieces}
@@ -40,8 +38,3 @@ pub record IsDoubleCert (p : PieceValue) (cert : PieceCert) : Type 0 where
   pub cost : walk_cost p cert.walk ≡ 2 * piece_cost p
   pub retraced : cert.retraced ≡ piece_cost p
   pub cuts : cert.cuts ≡ []
-
--- Certificates with double walks, one for each piece in order.
-abbrev pub AreDoubled : List Piece → List PieceCert → Type 0
-AreDoubled pieces certs =
-    AllZip (λ (p : Piece) (cert : PieceCert). IsDoubleCert (graph_of p) cert) pieces certs

@@ -11,3 +11,5 @@ pub mod RoutedPieceCertificates
 -- Read this one first: the route of a drawing.
 pub mod Routes
 pub mod Doubles
+-- Both, by kind, for this crate alone.
+pub mod RunKinds

@@ -1,6 +1,4 @@
 -- The certificates of the pieces of a drawing. Used only inside this crate.
-use Rattle.std.specs.Prelude.{List}
-use Rattle.std.specs.List.{AllZip}
 use Rattle.odd_cuts.specs.declared.certificate.PieceCert.{PieceCert}
 use Rattle.odd_cuts.specs.Certificates.{HasCanonicalText}
 use Rattle.line_graph.specs.declared.piece.Piece.{Piece}
@@ -11,7 +9,3 @@ use Rattle.route_core.specs.PieceCertificates.{CertifiesLeastWalk}
 pub record IsRoutedPiece (p : Piece) (cert : PieceCert) : Type 0 where
   pub proved : CertifiesLeastWalk (graph_of p) cert
   pub canonical : HasCanonicalText cert
-
--- Certificates with least walks, one for each piece in order.
-abbrev pub AreRouted : List Piece → List PieceCert → Type 0
-AreRouted pieces certs = AllZip IsRoutedPiece pieces certs

@@ -7,6 +7,7 @@ mod doubling;
 mod piece_route;
 mod routed;
 mod routing;
+mod runs;
 
 pub use doubling::double_pieces;
 pub use route_verdict::{Reason, Verdict, judge, sew};
