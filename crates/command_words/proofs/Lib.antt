@@ -1,2 +1,2 @@
 pub mod WordFacts
-pub mod WordLemmas
+pub mod CallerLemmas

@@ -1,5 +1,6 @@
 -- Arguments that represent numbers and changes.
-use Rattle.std.specs.Prelude.{ℕ, ℤ, pos, negsuc, unsigned_abs, Bool, true, false, ◌&&◌, ◌||◌, nat_le, List, [], ◌∷◌, ◌++◌, Option, Some, None, bytes_eq, codes, ◌==◌, if◌then◌else◌}
+use Rattle.std.specs.Prelude.{ℕ, ℤ, pos, negsuc, unsigned_abs, Bool, true, false, ◌&&◌, ◌||◌, nat_le, List, [], ◌∷◌, ◌++◌, Option, Some, None, bytes_eq, codes, option_map, ◌==◌, if◌then◌else◌}
+use Rattle.design_model.specs.declared.point.Point.{Point}
 use Rattle.design_edits.specs.declared.axis.Axis.TheVariants.{X, Y}
 use Rattle.design_edits.specs.declared.motion.TheConstants.{MAX_SHIFT}
 use Rattle.lists_and_numbers.specs.declared.whole_number.Whole.{Whole}
@@ -52,17 +53,21 @@ hoop_side word = natural_within 1 MAX_SIDE (parsed_whole word)
 abbrev pub sample_number : List ℕ → Option ℕ
 sample_number word = natural_within 1 MAX_SAMPLE (parsed_whole word)
 
--- The shift by two numbers, if there are both.
-abbrev pub shift_if_both : Option ℤ → Option ℤ → Option Change
-shift_if_both (Some dx) (Some dy) = Some (shift dx dy)
-shift_if_both None dy = None
-shift_if_both (Some dx) None = None
+-- The point with two coordinates, if there are both.
+abbrev pub point_if_both : Option ℤ → Option ℤ → Option Point
+point_if_both (Some x) (Some y) = Some (record { x = x; y = y })
+point_if_both None y = None
+point_if_both (Some x) None = None
+
+-- The point by the numbers before and after a comma, each at most `most` in absolute value.
+abbrev pub point_within : ℕ → Option (List ℕ × List ℕ) → Option Point
+point_within most None = None
+point_within most (Some (x, y)) = point_if_both (integer_within most (parsed_whole x))
+    (integer_within most (parsed_whole y))
 
 -- The shift by the numbers before and after a comma, each at most MAX_SHIFT in absolute value.
 abbrev pub parsed_shift : Option (List ℕ × List ℕ) → Option Change
-parsed_shift None = None
-parsed_shift (Some (dx, dy)) = shift_if_both (integer_within MAX_SHIFT (parsed_whole dx))
-    (integer_within MAX_SHIFT (parsed_whole dy))
+parsed_shift parts = option_map (λ by. shift by.x by.y) (point_within MAX_SHIFT parts)
 
 -- The turn by a number of quarters, if there is one.
 abbrev pub turn_if_some : Option ℕ → Option Change
@@ -110,16 +115,20 @@ parsed_edit_parts (Some (name, value)) = parsed_named_edit name value
 abbrev pub parsed_edit : List ℕ → Option Change
 parsed_edit word = parsed_edit_parts (split_at_byte equals_sign word)
 
--- The list of changes with one more in front, if both exist.
-abbrev pub with_first_edit : Option Change → Option (List Change) → Option (List Change)
+-- The list of edits with one more in front, if both exist.
+abbrev pub with_first_edit : {E : Type 0} → Option E → Option (List E) → Option (List E)
 with_first_edit (Some first) (Some later) = Some (first ∷ later)
 with_first_edit None later = None
 with_first_edit (Some first) None = None
 
+-- What arguments represent, if each of them represents something.
+abbrev pub all_parsed : {E : Type 0} → (List ℕ → Option E) → List (List ℕ) → Option (List E)
+all_parsed parsed [] = Some []
+all_parsed parsed (word ∷ words) = with_first_edit (parsed word) (all_parsed parsed words)
+
 -- The changes that arguments represent, if each of them is an edit.
 abbrev pub parsed_edits : List (List ℕ) → Option (List Change)
-parsed_edits [] = Some []
-parsed_edits (word ∷ words) = with_first_edit (parsed_edit word) (parsed_edits words)
+parsed_edits words = all_parsed parsed_edit words
 
 -- The test whether two arguments are two given texts, in either order.
 abbrev pub are_in_either_order : (a b one two : List ℕ) → Bool

@@ -1,7 +1,7 @@
-ghost use Rattle.std.specs.Prelude.{◌≡◌, IfSome, option_map};
+ghost use Rattle.std.specs.Prelude.{◌≡◌, ◌≤◌, IfSome, option_map, unsigned_abs};
 ghost use Rattle.command_words.specs.Edits.{IsEditInBounds, change_of_edit};
 ghost use Rattle.lists_and_numbers.specs.WholeNumbers.{parsed_whole};
-ghost use Rattle.command_words.specs.Arguments.{natural_within, comma, parsed_named_edit, parsed_edit, parsed_mirror, split_at_byte, parsed_shift, parsed_block_thread, turn_if_some};
+ghost use Rattle.command_words.specs.Arguments.{natural_within, comma, parsed_named_edit, parsed_edit, parsed_mirror, split_at_byte, parsed_block_thread, point_within, turn_if_some};
 
 use crate::number_words::{parse_integer, parse_natural};
 use design_edits::{Axis, MAX_SHIFT};
@@ -25,45 +25,33 @@ pub fn parse_edit(word: &[u8]) -> Option<Edit>
     ensures value { option_map change_of_edit result ≡ parsed_edit word.now }
     ensures small { IfSome result IsEditInBounds }
 {
-    match split_once(word, b'=') {
-        Some((name, value)) => parse_named_edit(name, value),
-        None => None,
-    }
+    let (name, value) = split_once(word, b'=')?;
+    parse_named_edit(name, value)
 }
 
 fn parse_named_edit(name: &[u8], value: &[u8]) -> Option<Edit>
     ensures value { option_map change_of_edit result ≡ parsed_named_edit name.now value.now }
     ensures small { IfSome result IsEditInBounds }
 {
-    if name == b"shift".as_slice() {
-        return parse_shift(value);
+    match name {
+        name if name == b"shift".as_slice() => parse_point(MAX_SHIFT, value).map(Edit::Shift),
+        name if name == b"turn".as_slice() => parse_turn(value),
+        name if name == b"mirror".as_slice() => parse_mirror(value),
+        name if name == b"thread".as_slice() => parse_thread(value),
+        _ => None,
     }
-    if name == b"turn".as_slice() {
-        return parse_turn(value);
-    }
-    if name == b"mirror".as_slice() {
-        return parse_mirror(value);
-    }
-    if name == b"thread".as_slice() {
-        return parse_thread(value);
-    }
-    None
 }
 
-fn parse_shift(value: &[u8]) -> Option<Edit>
-    ensures value { option_map change_of_edit result ≡ parsed_shift (split_at_byte comma value.now) }
-    ensures small { IfSome result IsEditInBounds }
+/// Parses a point, whose coordinates have absolute values of at most `most`, from the numbers before and after a
+/// comma.
+pub fn parse_point(most: u32, value: &[u8]) -> Option<Point>
+    ensures value { result ≡ point_within most (split_at_byte comma value.now) }
+    ensures small { IfSome result (λ at. (unsigned_abs at.x ≤ most) × (unsigned_abs at.y ≤ most)) }
 {
-    let Some((across, down)) = split_once(value, b',') else {
-        return None;
-    };
-    let Some(dx) = parse_integer(MAX_SHIFT, across) else {
-        return None;
-    };
-    let Some(dy) = parse_integer(MAX_SHIFT, down) else {
-        return None;
-    };
-    Some(Edit::Shift(Point { x: dx, y: dy }))
+    let (across, down) = split_once(value, b',')?;
+    let x = parse_integer(most, across)?;
+    let y = parse_integer(most, down)?;
+    Some(Point { x, y })
 }
 
 fn parse_turn(value: &[u8]) -> Option<Edit>
@@ -71,38 +59,28 @@ fn parse_turn(value: &[u8]) -> Option<Edit>
         ≡ turn_if_some (natural_within 0 3 (parsed_whole value.now)) }
     ensures small { IfSome result IsEditInBounds }
 {
-    match parse_natural(0, 3, value) {
-        Some(quarters) => Some(Edit::Turn { quarters }),
-        None => None,
-    }
+    let quarters = parse_natural(0, 3, value)?;
+    Some(Edit::Turn { quarters })
 }
 
 fn parse_mirror(value: &[u8]) -> Option<Edit>
     ensures value { option_map change_of_edit result ≡ parsed_mirror value.now }
     ensures small { IfSome result IsEditInBounds }
 {
-    if value == b"x".as_slice() {
-        return Some(Edit::Mirror(Axis::X));
+    match value {
+        b"x" => Some(Edit::Mirror(Axis::X)),
+        b"y" => Some(Edit::Mirror(Axis::Y)),
+        _ => None,
     }
-    if value == b"y".as_slice() {
-        return Some(Edit::Mirror(Axis::Y));
-    }
-    None
 }
 
 fn parse_thread(value: &[u8]) -> Option<Edit>
     ensures value { option_map change_of_edit result ≡ parsed_block_thread (split_at_byte comma value.now) }
     ensures small { IfSome result IsEditInBounds }
 {
-    let Some((block, number)) = split_once(value, b',') else {
-        return None;
-    };
-    let Some(place) = parse_natural(1, 255, block) else {
-        return None;
-    };
-    let Some(thread) = parse_natural(0, 255, number) else {
-        return None;
-    };
+    let (block, number) = split_once(value, b',')?;
+    let place = parse_natural(1, 255, block)?;
+    let thread = parse_natural(0, 255, number)?;
     Some(Edit::Thread {
         place,
         thread: thread as u8,

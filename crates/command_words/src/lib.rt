@@ -3,11 +3,13 @@
 #![tactic(auto)]
 
 mod edit_words;
+mod names;
 mod number_words;
 mod request_words;
 mod requests;
 
-pub use edit_words::{Edit, parse_edit, split_once};
+pub use edit_words::{Edit, parse_edit, parse_point, split_once};
+pub use names::{FileNames, RouteNames, file_names, named_rest, only_name, route_names};
 pub use number_words::{parse_integer, parse_natural};
 pub use request_words::{MAX_SAMPLE, MAX_SIDE, request};
-pub use requests::{CheckNames, Request, RewriteNames, RouteNames};
+pub use requests::Request;

@@ -1,11 +1,13 @@
 ghost use Rattle.std.specs.Prelude.{◌≡◌, IfSome, codes, is_some, map, option_map, string_bytes};
-ghost use Rattle.command_words.specs.Requests.{parsed_command, parsed_check, parsed_convert, parsed_double, parsed_edit_request, parsed_hoop, parsed_migrate, parsed_request, parsed_route, parsed_sample, parsed_show, parsed_trace, hoop_with, sample_with};
+ghost use Rattle.command_words.specs.Names.{names_and_rest, three_words};
+ghost use Rattle.command_words.specs.Requests.{parsed_convert, parsed_edit_request, parsed_hoop, parsed_request, parsed_sample};
 ghost use Rattle.command_words.specs.ValidRequests.{IsValidRequest, request_value};
-ghost use Rattle.command_words.specs.Arguments.{are_in_either_order, parsed_edits, parsed_refits, sample_number, hoop_side};
+ghost use Rattle.command_words.specs.Arguments.{are_in_either_order, parsed_edits, parsed_refits};
 
 use crate::edit_words::parse_edit;
+use crate::names::{file_names, named_rest, only_name, route_names, three};
 use crate::number_words::parse_natural;
-use crate::requests::{CheckNames, Request, RewriteNames, RouteNames};
+use crate::requests::Request;
 use outside_io::is_name;
 
 /// The maximum side of a hoop, in tenths of a millimetre.
@@ -24,110 +26,40 @@ pub fn request(words: &[String]) -> Option<Request<'_>>
     ensures sound { IfSome result IsValidRequest }
 {
     match words {
-        [command, rest @ ..] => parse_command(command.as_str(), rest),
-        [] => None,
-    }
-}
-
-fn parse_command<'a>(command: &str, words: &'a [String]) -> Option<Request<'a>>
-    ensures value { option_map request_value result
-        ≡ parsed_command command.now (map (λ word. string_bytes word) words.now) }
-    ensures sound { IfSome result IsValidRequest }
-{
-    if command == "route" {
-        return route_request(words);
-    }
-    if command == "check" {
-        return check_request(words);
-    }
-    if command == "convert" {
-        return convert_request(words);
-    }
-    if command == "show" {
-        return show_request(words);
-    }
-    if command == "edit" {
-        return edit_request(words);
-    }
-    if command == "hoop" {
-        return hoop_request(words);
-    }
-    if command == "sample" {
-        return sample_request(words);
-    }
-    if command == "migrate" {
-        return migrate_request(words);
-    }
-    if command == "trace" {
-        return trace_request(words);
-    }
-    if command == "double" {
-        return double_request(words);
-    }
-    None
-}
-
-fn route_request(words: &[String]) -> Option<Request<'_>>
-    ensures value { option_map request_value result
-        ≡ parsed_route (map (λ word. string_bytes word) words.now) }
-    ensures sound { IfSome result IsValidRequest }
-{
-    let [drawing, out, cert] = words else {
-        return None;
-    };
-    if is_name(drawing.as_str()) && is_name(out.as_str()) && is_name(cert.as_str()) {
-        Some(Request::Route(RouteNames {
-            drawing: drawing.as_str(),
-            out: out.as_str(),
-            cert: cert.as_str(),
-        }))
-    } else {
-        None
-    }
-}
-
-fn check_request(words: &[String]) -> Option<Request<'_>>
-    ensures value { option_map request_value result
-        ≡ parsed_check (map (λ word. string_bytes word) words.now) }
-    ensures sound { IfSome result IsValidRequest }
-{
-    let [drawing, file, cert] = words else {
-        return None;
-    };
-    if is_name(drawing.as_str()) && is_name(file.as_str()) && is_name(cert.as_str()) {
-        Some(Request::Check(CheckNames {
-            drawing: drawing.as_str(),
-            file: file.as_str(),
-            cert: cert.as_str(),
-        }))
-    } else {
-        None
+        [command, rest @ ..] if command.as_str() == "route" => route_names(rest).map(
+            Request::Route,
+        ),
+        [command, rest @ ..] if command.as_str() == "check" => route_names(rest).map(
+            Request::Check,
+        ),
+        [command, rest @ ..] if command.as_str() == "convert" => convert_request(rest),
+        [command, rest @ ..] if command.as_str() == "show" => only_name(rest).map(Request::Show),
+        [command, rest @ ..] if command.as_str() == "edit" => edit_request(rest),
+        [command, rest @ ..] if command.as_str() == "hoop" => hoop_request(rest),
+        [command, rest @ ..] if command.as_str() == "sample" => sample_request(rest),
+        [command, rest @ ..] if command.as_str() == "migrate" => file_names(rest).map(
+            Request::Migrate,
+        ),
+        [command, rest @ ..] if command.as_str() == "trace" => file_names(rest).map(Request::Trace),
+        [command, rest @ ..] if command.as_str() == "double" => route_names(rest).map(
+            Request::Double,
+        ),
+        _ => None,
     }
 }
 
 fn convert_request(words: &[String]) -> Option<Request<'_>>
     ensures value { option_map request_value result
-        ≡ parsed_convert (map (λ word. string_bytes word) words.now) }
+        ≡ parsed_convert (names_and_rest (map (λ word. string_bytes word) words.now)) }
     ensures sound { IfSome result IsValidRequest }
 {
-    let [input, output, flags @ ..] = words else {
-        return None;
-    };
-    let Some((splits, cuts)) = parse_refits(flags) else {
-        return None;
-    };
-    if is_name(input.as_str()) && is_name(output.as_str()) {
-        Some(Request::Convert {
-            names: RewriteNames {
-                input: input.as_str(),
-                output: output.as_str(),
-            },
-            splits,
-            cuts,
-        })
-    } else {
-        None
-    }
+    let (names, flags) = named_rest(words)?;
+    let (splits, cuts) = parse_refits(flags)?;
+    Some(Request::Convert {
+        names,
+        splits,
+        cuts,
+    })
 }
 
 /// Parses the flags of `convert`: whether to split stitches, and whether to cut floats.
@@ -149,44 +81,16 @@ fn are_both(first: &str, second: &str) -> bool
     first == "--split" && second == "--cut" || first == "--cut" && second == "--split"
 }
 
-fn show_request(words: &[String]) -> Option<Request<'_>>
-    ensures value { option_map request_value result
-        ≡ parsed_show (map (λ word. string_bytes word) words.now) }
-    ensures sound { IfSome result IsValidRequest }
-{
-    let [file] = words else {
-        return None;
-    };
-    if is_name(file.as_str()) {
-        Some(Request::Show(file.as_str()))
-    } else {
-        None
-    }
-}
-
-#[tactic(auto, using(crate::proofs::WordLemmas::few_no_edit))]
 fn edit_request(words: &[String]) -> Option<Request<'_>>
     ensures value { option_map request_value result
-        ≡ parsed_edit_request (map (λ word. string_bytes word) words.now) }
+        ≡ parsed_edit_request (names_and_rest (map (λ word. string_bytes word) words.now)) }
     ensures sound { IfSome result IsValidRequest }
 {
-    let [input, output, edits @ ..] = words else {
-        return None;
-    };
+    let (names, edits) = named_rest(words)?;
     if edits.is_empty() || !are_edits(edits) {
         return None;
     }
-    if is_name(input.as_str()) && is_name(output.as_str()) {
-        Some(Request::Edit {
-            names: RewriteNames {
-                input: input.as_str(),
-                output: output.as_str(),
-            },
-            edits,
-        })
-    } else {
-        None
-    }
+    Some(Request::Edit { names, edits })
 }
 
 /// Returns whether each argument is an edit.
@@ -204,26 +108,12 @@ fn are_edits(words: &[String]) -> bool
 
 fn hoop_request(words: &[String]) -> Option<Request<'_>>
     ensures value { option_map request_value result
-        ≡ parsed_hoop (map (λ word. string_bytes word) words.now) }
+        ≡ parsed_hoop (three_words (map (λ word. string_bytes word) words.now)) }
     ensures sound { IfSome result IsValidRequest }
 {
-    match words {
-        [file, width, height] => parse_hoop(file.as_str(), width.as_bytes(), height.as_bytes()),
-        _ => None,
-    }
-}
-
-fn parse_hoop<'a>(file: &'a str, width: &[u8], height: &[u8]) -> Option<Request<'a>>
-    ensures value { option_map request_value result
-        ≡ hoop_with file.now (hoop_side width.now) (hoop_side height.now) }
-    ensures sound { IfSome result IsValidRequest }
-{
-    let Some(width) = parse_natural(1, MAX_SIDE, width) else {
-        return None;
-    };
-    let Some(height) = parse_natural(1, MAX_SIDE, height) else {
-        return None;
-    };
+    let (file, width, height) = three(words)?;
+    let width = parse_natural(1, MAX_SIDE, width.as_bytes())?;
+    let height = parse_natural(1, MAX_SIDE, height.as_bytes())?;
     if is_name(file) {
         Some(Request::Hoop {
             file,
@@ -241,76 +131,11 @@ fn sample_request(words: &[String]) -> Option<Request<'_>>
     ensures sound { IfSome result IsValidRequest }
 {
     match words {
-        [number, drawing] => parse_sample(number.as_bytes(), drawing.as_str()),
-        _ => None,
-    }
-}
-
-fn parse_sample<'a>(number: &[u8], drawing: &'a str) -> Option<Request<'a>>
-    ensures value { option_map request_value result ≡ sample_with (sample_number number.now) drawing.now }
-    ensures sound { IfSome result IsValidRequest }
-{
-    let Some(number) = parse_natural(1, MAX_SAMPLE, number) else {
-        return None;
-    };
-    if is_name(drawing) {
-        Some(Request::Sample { number, drawing })
-    } else {
-        None
-    }
-}
-
-fn migrate_request(words: &[String]) -> Option<Request<'_>>
-    ensures value { option_map request_value result
-        ≡ parsed_migrate (map (λ word. string_bytes word) words.now) }
-    ensures sound { IfSome result IsValidRequest }
-{
-    let [input, output] = words else {
-        return None;
-    };
-    if is_name(input.as_str()) && is_name(output.as_str()) {
-        Some(Request::Migrate {
-            input: input.as_str(),
-            output: output.as_str(),
-        })
-    } else {
-        None
-    }
-}
-
-fn trace_request(words: &[String]) -> Option<Request<'_>>
-    ensures value { option_map request_value result
-        ≡ parsed_trace (map (λ word. string_bytes word) words.now) }
-    ensures sound { IfSome result IsValidRequest }
-{
-    let [design, drawing] = words else {
-        return None;
-    };
-    if is_name(design.as_str()) && is_name(drawing.as_str()) {
-        Some(Request::Trace {
-            file: design.as_str(),
-            drawing: drawing.as_str(),
-        })
-    } else {
-        None
-    }
-}
-
-fn double_request(words: &[String]) -> Option<Request<'_>>
-    ensures value { option_map request_value result
-        ≡ parsed_double (map (λ word. string_bytes word) words.now) }
-    ensures sound { IfSome result IsValidRequest }
-{
-    let [drawing, output, cert] = words else {
-        return None;
-    };
-    if is_name(drawing.as_str()) && is_name(output.as_str()) && is_name(cert.as_str()) {
-        Some(Request::Double(RouteNames {
-            drawing: drawing.as_str(),
-            out: output.as_str(),
-            cert: cert.as_str(),
-        }))
-    } else {
-        None
+        [number, rest @ ..] => {
+            let number = parse_natural(1, MAX_SAMPLE, number.as_bytes())?;
+            let drawing = only_name(rest)?;
+            Some(Request::Sample { number, drawing })
+        }
+        [] => None,
     }
 }

@@ -2,6 +2,7 @@
 use Rattle.std.proofs.Common.{◌≡◌, ℕ, List, [], ◌∷◌, Option, Some, None, IfSome, IsSome, inl, inr, Result, Ok, Err, refl, subst}
 use Rattle.std.specs.Prelude.{unwrap_or}
 use Rattle.command_words.specs.Changes.{Change}
+use Rattle.command_words.proofs.CallerLemmas.{first_parsed, later_parsed}
 use Rattle.command_words.specs.Arguments.{with_first_edit, parsed_edit, parsed_edits}
 use Rattle.design_model.specs.Designs.{DesignValue}
 use Rattle.design_changes.specs.declared.change_faults.ChangeFault.{ChangeFault}
@@ -12,17 +13,6 @@ pub record GoesOn (words left : List (List ℕ)) (first now : DesignValue) : Typ
   pub parsed : IsSome (parsed_edits left)
   pub rest : (limit : ℕ) (r : Result DesignValue ChangeFault) → BecomesAll limit (unwrap_or (parsed_edits left) []) now r
       → BecomesAll limit (unwrap_or (parsed_edits words) []) first r
-
--- The edits of a list of arguments: the first, followed by the others.
-first_spelled : (first : Option Change) (later : Option (List Change)) → IsSome (with_first_edit first later) → IsSome first
-first_spelled (Some change) later some = refl
-first_spelled None later some = some
-
-later_spelled : (first : Option Change) (later : Option (List Change)) → IsSome (with_first_edit first later) → IsSome later
-later_spelled (Some change) (Some changes) some = refl
-later_spelled (Some change) None some = some
-later_spelled None (Some changes) some = refl
-later_spelled None None some = some
 
 -- the first edit is made, and what the others make of that they make of the whole
 made_first : (limit : ℕ) (first : Option Change) (later : Option (List Change)) (old new : DesignValue)
@@ -48,10 +38,10 @@ goes_on words left word more first now next goes is becomes =
   where
     step : GoesOn words (word ∷ more) first now → GoesOn words more first next
     step on = record {
-      parsed = later_spelled (parsed_edit word) (parsed_edits more) on.parsed;
+      parsed = later_parsed (parsed_edit word) (parsed_edits more) on.parsed;
       rest = λ limit r rest. on.rest limit r (made_first limit (parsed_edit word) (parsed_edits more) now next r
-          (first_spelled (parsed_edit word) (parsed_edits more) on.parsed)
-          (later_spelled (parsed_edit word) (parsed_edits more) on.parsed) (becomes limit) rest);
+          (first_parsed (parsed_edit word) (parsed_edits more) on.parsed)
+          (later_parsed (parsed_edit word) (parsed_edits more) on.parsed) (becomes limit) rest);
     }
 
 pub goes_refused : (words left : List (List ℕ)) (word : List ℕ) (more : List (List ℕ)) (first now : DesignValue) (why : ChangeFault)
@@ -63,5 +53,5 @@ goes_refused words left word more first now why goes is becomes limit =
   where
     step : GoesOn words (word ∷ more) first now → BecomesAll limit (unwrap_or (parsed_edits words) []) first (Err why)
     step on = on.rest limit (Err why) (refused_first limit (parsed_edit word) (parsed_edits more) now why
-        (first_spelled (parsed_edit word) (parsed_edits more) on.parsed)
-        (later_spelled (parsed_edit word) (parsed_edits more) on.parsed) (becomes limit))
+        (first_parsed (parsed_edit word) (parsed_edits more) on.parsed)
+        (later_parsed (parsed_edit word) (parsed_edits more) on.parsed) (becomes limit))

@@ -1,7 +1,9 @@
 -- Edits of a drawing, one after another.
-use Rattle.std.proofs.Common.{◌≡◌, ◌∙◌, ℕ, ◌+◌, Bool, true, false, List, [], ◌∷◌, Option, Some, None, IfSome, IsSome, Result, Ok, Err, refl, ap, sym, subst}
-use Rattle.std.specs.Prelude.{is_some, unwrap_or}
+use Rattle.std.proofs.Common.{◌≡◌, ◌∙◌, ℕ, ◌+◌, Bool, true, false, List, [], ◌∷◌, Option, Some, None, IfSome, IsSome, Result, Ok, Err, ap, sym, subst}
+use Rattle.std.specs.Prelude.{unwrap_or}
 use Rattle.lists_and_numbers.specs.OutOfMemory.{IsSpecified, UnlessOutOfMemory}
+use Rattle.command_words.proofs.CallerLemmas.{first_parsed, later_parsed}
+use Rattle.command_words.specs.Arguments.{with_first_edit}
 use Rattle.drawing_edits.specs.declared.drawing_edit.DrawingEdit.{DrawingEdit}
 use Rattle.drawing_edits.specs.declared.edit_fault.EditFault.{EditFault}
 use Rattle.drawing_edits.specs.EditedDrawings.{edited_drawing}
@@ -10,25 +12,12 @@ use Rattle.drawing_model.specs.Drawings.{DrawingValue}
 use Rattle.drawing_model.specs.GrowingDrawings.{and_then}
 use Rattle.drawing_commands.specs.declared.bad_edit.BadEdit.{BadEdit}
 use Rattle.drawing_commands.specs.DrawingEditing.{at_edit, bad_edit_is_out_of_memory, edits_applied}
-use Rattle.drawing_commands.specs.DrawingEditWords.{drawing_edits_of, parsed_drawing_edit, parsed_drawing_edits, with_first_drawing_edit}
-
--- the first of some edits, and the others
-pub first_parsed : (first : Option DrawingEdit) (later : Option (List DrawingEdit)) → IsSome (with_first_drawing_edit first later)
-    → IsSome first
-first_parsed (Some one) later some = refl
-first_parsed None later some = some
-
-pub later_parsed : (first : Option DrawingEdit) (later : Option (List DrawingEdit)) → IsSome (with_first_drawing_edit first later)
-    → IsSome later
-later_parsed (Some one) (Some edits) some = refl
-later_parsed (Some one) None some = some
-later_parsed None (Some edits) some = refl
-later_parsed None None some = some
+use Rattle.drawing_commands.specs.DrawingEditWords.{drawing_edits_of, parsed_drawing_edit, parsed_drawing_edits}
 
 -- the first edit is applied, and the others to what it gives
 applied_first : (number : ℕ) (first : Option DrawingEdit) (later : Option (List DrawingEdit)) (d next : DrawingValue)
-    → IsSome (with_first_drawing_edit first later) → IfSome first (λ one. edited_drawing one d ≡ Ok next)
-    → edits_applied number (unwrap_or (with_first_drawing_edit first later) []) d ≡ edits_applied (number + 1) (unwrap_or later []) next
+    → IsSome (with_first_edit first later) → IfSome first (λ one. edited_drawing one d ≡ Ok next)
+    → edits_applied number (unwrap_or (with_first_edit first later) []) d ≡ edits_applied (number + 1) (unwrap_or later []) next
 applied_first number (Some one) (Some edits) d next some is =
     ap (λ (r : Result DrawingValue EditFault). and_then (at_edit number r) (λ mid. edits_applied (number + 1) edits mid)) is
 applied_first number (Some one) None d next some is = absurd (let no : ⊥ = cc in no)
@@ -46,9 +35,9 @@ refused_at number false said edits why is =
     ap (λ (r : Result DrawingValue EditFault). and_then (at_edit number r) (λ mid. edits_applied (number + 1) edits mid)) is
 
 refused_first : (number : ℕ) (first : Option DrawingEdit) (later : Option (List DrawingEdit)) (d : DrawingValue) (why : EditFault)
-    → IsSome (with_first_drawing_edit first later)
+    → IsSome (with_first_edit first later)
     → IfSome first (λ one. IsSpecified {A = DrawingValue} edit_is_out_of_memory (edited_drawing one d) (Err why))
-    → IsSpecified bad_edit_is_out_of_memory (edits_applied number (unwrap_or (with_first_drawing_edit first later) []) d)
+    → IsSpecified bad_edit_is_out_of_memory (edits_applied number (unwrap_or (with_first_edit first later) []) d)
     (Err (bad_at number why))
 refused_first number (Some one) (Some edits) d why some is =
     refused_at number (edit_is_out_of_memory why) (edited_drawing one d) edits why is
@@ -102,10 +91,3 @@ pub first_refused : (word : List ℕ) (more : List (List ℕ)) (d : DrawingValue
     → IsSpecified bad_edit_is_out_of_memory (edits_applied 1 (drawing_edits_of (word ∷ more)) d)
     (Err (record { number = 1; fault = why }))
 first_refused word more d why some is = refused_first 1 (parsed_drawing_edit word) (parsed_drawing_edits more) d why some is
-
--- an edit in front of others: the others determine whether all are edits
-pub parsed_before : (first : Option DrawingEdit) (later : Option (List DrawingEdit)) (one : DrawingEdit) → Some one ≡ first
-    → is_some later ≡ is_some (with_first_drawing_edit first later)
-parsed_before (Some one) (Some edits) other is = refl
-parsed_before (Some one) None other is = refl
-parsed_before None later other is = cc

@@ -1,6 +1,4 @@
-mod FaultLemmas
 mod LookFacts
-mod WordLemmas
 mod SnapLemmas
 mod SpaceLemmas
 pub mod DrawingEditLemmas

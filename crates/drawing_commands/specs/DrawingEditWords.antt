@@ -1,10 +1,9 @@
 -- The edits of a drawing that arguments represent: `shift=DX,DY`, `turn=Q`, `mirror=x` and
 -- `mirror=y` as of a design, `centre`, `step=N`, `order=P,Q`, `start=X,Y` and `end=X,Y`.
-use Rattle.std.specs.Prelude.{ℕ, ℤ, List, [], ◌∷◌, Option, Some, None, bytes_eq, codes, option_map, unwrap_or, if◌then◌else◌}
-use Rattle.command_words.specs.Arguments.{comma, equals_sign, integer_within, natural_within, parsed_edit, split_at_byte}
+use Rattle.std.specs.Prelude.{ℕ, List, [], Option, Some, None, bytes_eq, codes, option_map, unwrap_or, if◌then◌else◌}
+use Rattle.command_words.specs.Arguments.{all_parsed, comma, equals_sign, natural_within, parsed_edit, point_within, split_at_byte}
 use Rattle.command_words.specs.Changes.{Change, mirror, shift, turn}
 use Rattle.design_edits.specs.declared.motion.Motion.TheVariants as motion
-use Rattle.design_model.specs.declared.point.Point.{Point}
 use Rattle.design_model.specs.declared.point.TheConstants.{NEEDLE_LIMIT}
 use Rattle.lists_and_numbers.specs.WholeNumbers.{parsed_whole}
 use Rattle.drawing_edits.specs.declared.drawing_edit.DrawingEdit.{DrawingEdit}
@@ -20,11 +19,6 @@ moving_edit (Some (turn quarters)) = Some (edit.Move (motion.Turn quarters))
 moving_edit (Some (mirror axis)) = Some (edit.Move (motion.Mirror axis))
 moving_edit (Some other) = None
 
--- The edit that sets the longest step, if there is a number.
-abbrev pub step_edit_of : Option ℕ → Option DrawingEdit
-step_edit_of None = None
-step_edit_of (Some step) = Some (edit.Step step)
-
 -- The edit that orders two pieces, if there are both numbers.
 abbrev pub order_if_both : Option ℕ → Option ℕ → Option DrawingEdit
 order_if_both (Some first) (Some second) = Some (edit.Order first second)
@@ -38,28 +32,16 @@ parsed_order (Some (first, second)) =
     order_if_both (natural_within 1 MAX_LINES (parsed_whole first))
     (natural_within 1 MAX_LINES (parsed_whole second))
 
--- The point with two coordinates, if there are both.
-abbrev pub point_if_both : Option ℤ → Option ℤ → Option Point
-point_if_both (Some x) (Some y) = Some (record { x = x; y = y })
-point_if_both None y = None
-point_if_both (Some x) None = None
-
--- The point by the numbers before and after a comma, each at most NEEDLE_LIMIT in absolute value.
-abbrev pub parsed_coordinates : Option (List ℕ × List ℕ) → Option Point
-parsed_coordinates None = None
-parsed_coordinates (Some (x, y)) = point_if_both (integer_within NEEDLE_LIMIT (parsed_whole x))
-    (integer_within NEEDLE_LIMIT (parsed_whole y))
-
 -- The edit of an argument with the given name before the equals sign and value after it.
 abbrev pub parsed_named_drawing_edit : List ℕ → (name value : List ℕ) → Option DrawingEdit
 parsed_named_drawing_edit word name value =
     if bytes_eq name (codes "step")
-    then step_edit_of (natural_within 1 MAX_STEP (parsed_whole value))
+    then option_map edit.Step (natural_within 1 MAX_STEP (parsed_whole value))
     else if bytes_eq name (codes "order") then parsed_order (split_at_byte comma value)
     else if bytes_eq name (codes "start")
-    then option_map edit.Start (parsed_coordinates (split_at_byte comma value))
+    then option_map edit.Start (point_within NEEDLE_LIMIT (split_at_byte comma value))
     else if bytes_eq name (codes "end")
-    then option_map edit.End (parsed_coordinates (split_at_byte comma value))
+    then option_map edit.End (point_within NEEDLE_LIMIT (split_at_byte comma value))
     else moving_edit (parsed_edit word)
 
 -- The edit of an argument with the given parts before and after the equals sign.
@@ -73,18 +55,9 @@ parsed_drawing_edit word =
     if bytes_eq word (codes "centre") then Some edit.Centre
     else parsed_drawing_edit_parts word (split_at_byte equals_sign word)
 
--- The list of edits with one more in front, if both exist.
-abbrev pub with_first_drawing_edit : Option DrawingEdit → Option (List DrawingEdit)
-    → Option (List DrawingEdit)
-with_first_drawing_edit (Some first) (Some later) = Some (first ∷ later)
-with_first_drawing_edit None later = None
-with_first_drawing_edit (Some first) None = None
-
 -- The edits that arguments represent, if each of them is an edit of a drawing.
 abbrev pub parsed_drawing_edits : List (List ℕ) → Option (List DrawingEdit)
-parsed_drawing_edits [] = Some []
-parsed_drawing_edits (word ∷ words) =
-    with_first_drawing_edit (parsed_drawing_edit word) (parsed_drawing_edits words)
+parsed_drawing_edits words = all_parsed parsed_drawing_edit words
 
 -- The edits that arguments represent, or none where one of them represents no edit.
 abbrev pub drawing_edits_of : List (List ℕ) → List DrawingEdit

@@ -4,13 +4,13 @@ pub use Rattle.program_shell.specs.RunViews
 pub mod FaultTexts
 pub mod LookTexts
 pub mod Looks
+pub mod WholeProducts
 pub mod SnapTexts
 pub mod SnapOrders
 pub mod SpaceTexts
 pub mod SpaceOrders
 pub mod DrawingEditWords
 pub mod DrawingEditing
-pub mod EditFailures
 pub mod Requests
 -- Read this one first: the commands, their plans, and the program.
 pub mod Commands

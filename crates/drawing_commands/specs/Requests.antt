@@ -1,8 +1,11 @@
 -- What the arguments of stitch_drawing request: a command and its arguments.
-use Rattle.std.specs.Prelude.{ℕ, ◌≤◌, pos, negsuc, not, ◌&&◌, List, [], ◌∷◌, Option, Some, None, IsSome, bytes_eq, codes, length, map, nat_le, string_bytes, if◌then◌else◌}
+use Rattle.std.specs.Prelude.{ℕ, ◌≤◌, pos, negsuc, List, [], ◌∷◌, Option, Some, None, IsSome, bytes_eq, codes, length, map, nat_le, option_map, string_bytes, if◌then◌else◌}
 use Rattle.lists_and_numbers.specs.declared.whole_number.Whole.{Whole}
 use Rattle.lists_and_numbers.specs.declared.whole_number.Whole.TheVariants as whole
 use Rattle.lists_and_numbers.specs.WholeNumbers.{parsed_whole}
+use Rattle.command_words.specs.declared.names.FileNames.{FileNames}
+use Rattle.command_words.specs.Names.{names_and_rest, two_names}
+use Rattle.command_words.specs.ValidNames.{AreFileNames}
 use Rattle.outside_io.specs.Files.{IsFileName, is_file_name}
 use Rattle.drawing_commands.specs.declared.requests.DrawingRequest.{DrawingRequest}
 use Rattle.drawing_commands.specs.declared.requests.DrawingRequest.TheVariants as request
@@ -24,27 +27,26 @@ pub data DrawingOrder : Type 0 where
 -- The order of a request of the program.
 abbrev pub order_of_request : DrawingRequest → DrawingOrder
 order_of_request (request.Look file gap) = looking (look_order file.now gap)
-order_of_request (request.Snap gap input output) =
-    snapping (snap_order gap input.now output.now)
-order_of_request (request.Space input output) = spacing (space_order input.now output.now)
-order_of_request (request.Edit input output edits) =
-    editing (drawing_edit_order input.now output.now
+order_of_request (request.Snap gap names) =
+    snapping (snap_order gap names.input.now names.output.now)
+order_of_request (request.Space names) = spacing (space_order names.input.now names.output.now)
+order_of_request (request.Edit names edits) =
+    editing (drawing_edit_order names.input.now names.output.now
     (drawing_edits_of (map (λ word. string_bytes word) edits.now)))
 
 -- The names of `edit` are file names, and there are edits.
-pub record IsEditRequest (input output : List ℕ) (edits : List (List ℕ)) : Type 0 where
-  pub named : IsFileName input
-  pub named_output : IsFileName output
+pub record IsEditRequest (names : FileNames) (edits : List (List ℕ)) : Type 0 where
+  pub named : AreFileNames names
   pub parsed : IsSome (parsed_drawing_edits edits)
   pub some : 1 ≤ length edits
 
 -- The names of a request are file names, and its edits are edits.
 abbrev pub HasFileNames : DrawingRequest → Type 0
 HasFileNames (request.Look file gap) = IsFileName file.now
-HasFileNames (request.Snap gap input output) = IsFileName input.now × IsFileName output.now
-HasFileNames (request.Space input output) = IsFileName input.now × IsFileName output.now
-HasFileNames (request.Edit input output edits) =
-    IsEditRequest input.now output.now (map (λ word. string_bytes word) edits.now)
+HasFileNames (request.Snap gap names) = AreFileNames names
+HasFileNames (request.Space names) = AreFileNames names
+HasFileNames (request.Edit names edits) =
+    IsEditRequest names (map (λ word. string_bytes word) edits.now)
 
 -- The gap that a number denotes, in tenths of a millimetre, if it is in range.
 abbrev pub gap_of : Whole → Option ℕ
@@ -65,43 +67,37 @@ parsed_look (file ∷ []) = look_with_gap file (Some DEFAULT_GAP)
 parsed_look (file ∷ gap ∷ []) = look_with_gap file (gap_of (parsed_whole gap))
 parsed_look words = None
 
--- The order of `snap` with an optional gap, if its names are different file names.
-abbrev pub snap_with_gap : Option ℕ → (input output : List ℕ) → Option DrawingOrder
-snap_with_gap None input output = None
-snap_with_gap (Some gap) input output =
-    if is_file_name input && is_file_name output && not (bytes_eq input output)
-    then Some (snapping (snap_order gap input output)) else None
+-- The two names, if they differ.
+abbrev pub if_apart : Option (List ℕ × List ℕ) → Option (List ℕ × List ℕ)
+if_apart (Some (input, output)) = if bytes_eq input output then None else Some (input, output)
+if_apart None = None
 
--- The order of `snap` with the given arguments, if there is one.
+-- The order of `snap` with an optional gap and optional names.
+abbrev pub snap_with_gap : Option ℕ → Option (List ℕ × List ℕ) → Option DrawingOrder
+snap_with_gap None names = None
+snap_with_gap (Some gap) names = option_map (λ n. snapping (snap_order gap n.0 n.1)) names
+
+-- The order of `snap` with the given arguments, if there is one: a gap, and two different file
+-- names.
 abbrev pub parsed_snap : List (List ℕ) → Option DrawingOrder
-parsed_snap (gap ∷ input ∷ output ∷ []) = snap_with_gap (gap_of (parsed_whole gap)) input output
-parsed_snap words = None
-
--- The order of `space`, if its names are different file names.
-abbrev pub space_with_names : (input output : List ℕ) → Option DrawingOrder
-space_with_names input output =
-    if is_file_name input && is_file_name output && not (bytes_eq input output)
-    then Some (spacing (space_order input output)) else None
-
--- The order of `space` with the given arguments, if there is one.
-abbrev pub parsed_space : List (List ℕ) → Option DrawingOrder
-parsed_space (input ∷ output ∷ []) = space_with_names input output
-parsed_space words = None
+parsed_snap (gap ∷ rest) =
+    snap_with_gap (gap_of (parsed_whole gap)) (if_apart (two_names (names_and_rest rest)))
+parsed_snap [] = None
 
 -- The order of `edit` with the given edits, if there are any and the names differ.
-abbrev pub edit_order_with : (input output : List ℕ) → Option (List DrawingEdit)
+abbrev pub edit_order_with : Option (List ℕ × List ℕ) → Option (List DrawingEdit)
     → Option DrawingOrder
-edit_order_with input output None = None
-edit_order_with input output (Some []) = None
-edit_order_with input output (Some (first ∷ later)) =
-    if not (bytes_eq input output) && (is_file_name input && is_file_name output)
-    then Some (editing (drawing_edit_order input output (first ∷ later))) else None
+edit_order_with names None = None
+edit_order_with names (Some []) = None
+edit_order_with names (Some (first ∷ later)) =
+    option_map (λ n. editing (drawing_edit_order n.0 n.1 (first ∷ later))) names
 
--- The order of `edit` with the given arguments, if there is one.
-abbrev pub parsed_drawing_edit_request : List (List ℕ) → Option DrawingOrder
-parsed_drawing_edit_request (input ∷ output ∷ words) =
-    edit_order_with input output (parsed_drawing_edits words)
-parsed_drawing_edit_request words = None
+-- The order of `edit` with two file names and the arguments after them, if there is one.
+abbrev pub parsed_drawing_edit_request : Option (List ℕ × List ℕ × List (List ℕ))
+    → Option DrawingOrder
+parsed_drawing_edit_request (Some (input, output, words)) =
+    edit_order_with (if_apart (Some (input, output))) (parsed_drawing_edits words)
+parsed_drawing_edit_request None = None
 
 -- The order that the arguments request, or none.
 abbrev pub drawing_order_of : List (List ℕ) → Option DrawingOrder
@@ -109,6 +105,8 @@ drawing_order_of [] = None
 drawing_order_of (command ∷ words) =
     if bytes_eq command (codes "look") then parsed_look words
     else if bytes_eq command (codes "snap") then parsed_snap words
-    else if bytes_eq command (codes "space") then parsed_space words
-    else if bytes_eq command (codes "edit") then parsed_drawing_edit_request words
+    else if bytes_eq command (codes "space") then option_map
+    (λ names. spacing (space_order names.0 names.1)) (if_apart (two_names (names_and_rest words)))
+    else if bytes_eq command (codes "edit")
+    then parsed_drawing_edit_request (names_and_rest words)
     else None

@@ -1,26 +1,22 @@
 -- The command `space`: a drawing is written without the points for which one stitch stands. Its
 -- lines are written whole, as they were drawn, with its starts and ends. Costs count steps.
-use Rattle.std.specs.Prelude.{◌≡◌, ℕ, false, List, ◌++◌, length, Result, Ok, Err, string_bytes}
+use Rattle.std.specs.Prelude.{ℕ, List, ◌++◌, length, Result, Ok, Err}
 use Rattle.spaced_lines.specs.declared.spaced_drawing.SpacedDrawing.{SpacedDrawing}
 use Rattle.spaced_lines.specs.SpacedDrawings.{space_of}
-use Rattle.drawing_text.specs.DrawingText.{drawing_of}
-use Rattle.drawing_text.specs.DrawnTexts.{drawing_as_drawn}
 use Rattle.drawing_text.specs.declared.draw_fault.DrawFault.{DrawFault}
 use Rattle.drawing_inputs.specs.declared.drawing_lines.LinesRead.{LinesRead}
 use Rattle.drawing_inputs.specs.DrawingLines.{lines_read}
-use Rattle.drawing_text.specs.EndTexts.{drawn_text, with_ends_of}
 use Rattle.drawing_model.specs.declared.draw_kind.DrawKind.{DrawKind}
 use Rattle.line_graph.specs.declared.piece.Piece.{Piece}
 use Rattle.drawing_model.specs.Drawings.{DrawingValue}
-use Rattle.drawing_model.specs.GrowingDrawings.{draw_is_out_of_memory, point_count, step_count}
+use Rattle.drawing_model.specs.GrowingDrawings.{point_count, step_count}
 use Rattle.line_graph.specs.PiecesOfDrawings.{ArePiecesOf}
-use Rattle.program_shell.specs.declared.failure.Failure.{Failure}
-use Rattle.program_shell.specs.declared.failure.Failure.TheVariants as failure
 use Rattle.program_shell.specs.FileTexts.{text_about}
 use Rattle.program_shell.specs.Plans.{Plan, accepts, reads, refuses}
-use Rattle.program_shell.specs.Products.{ProductValue, one_file_product}
+use Rattle.program_shell.specs.Products.{ProductValue}
 use Rattle.program_texts.specs.DrawingTexts.{draw_kind_text}
 use Rattle.drawing_commands.specs.FaultTexts.{plan_after_reading}
+use Rattle.drawing_commands.specs.WholeProducts.{IsWholeProduct}
 use Rattle.drawing_commands.specs.SpaceTexts.{cost_change_text, point_change_text}
 
 -- The order of `space`: the drawing to read, and the file to write.
@@ -39,21 +35,14 @@ space_report before after pieces =
     ++ cost_change_text (step_count before.step before.lines) (step_count after.step after.lines)
     pieces
 
--- The text of a spaced drawing: its lines as they are drawn, with its starts and ends.
-abbrev pub spaced_text : SpacedDrawing → List ℕ
-spaced_text spaced = drawn_text (with_ends_of spaced.drawn spaced.joined)
-
--- The product of `space`: the text of the spaced drawing, and a report on its lines and on those
--- before. The text is read as the joined drawing, and its lines as they are drawn. The pieces are
--- those that are sewn.
+-- The product of `space`: the spaced lines, written whole, and a report on them and on the lines
+-- before. The pieces are those that are sewn.
 pub record IsSpaceProduct (output : List ℕ) (before : DrawingValue) (spaced : SpacedDrawing)
     (product : ProductValue) : Type 0 where
   pub pieces : List Piece
   pub pieces_are : ArePiecesOf spaced.joined pieces
-  pub again : drawing_of (spaced_text spaced) ≡ Ok spaced.joined
-  pub lines : drawing_as_drawn (spaced_text spaced) ≡ Ok spaced.drawn
-  pub made : product ≡ one_file_product output (spaced_text spaced)
-      (space_report before spaced.drawn (length pieces))
+  pub written : IsWholeProduct output spaced.drawn spaced.joined
+      (space_report before spaced.drawn (length pieces)) product
 
 -- The plan for lines as they are drawn and their spaced drawing: it is accepted, and a fault is
 -- refused.
@@ -74,11 +63,3 @@ space_read order = plan_after_reading order.input (space_lines order)
 -- The plan of `space`: read the drawing file, then write the spaced drawing.
 abbrev pub space_plan : SpaceOrder → Plan
 space_plan order = reads order.input (λ bytes. space_read order (lines_read bytes))
-
--- The failure for a spaced drawing with a fault: a refusal with the text about it, or out of
--- memory. A fault that is out of memory isn't refused.
-abbrev pub IsSpaceFailure : List ℕ → DrawKind → Failure → Type 0
-IsSpaceFailure name why (failure.Refused text) =
-    (string_bytes text ≡ text_about name (draw_kind_text why)) × (draw_is_out_of_memory why ≡ false)
-IsSpaceFailure name why failure.Memory = Unit {0}
-IsSpaceFailure name why other = ⊥

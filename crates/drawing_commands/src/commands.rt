@@ -9,7 +9,7 @@ use crate::requests::{DrawingRequest, drawing_request};
 use crate::snapping::snap_file;
 use crate::spacing::space_file;
 use outside_io::Store;
-use program_shell::{Failure, Product};
+use program_shell::{Failure, Made};
 use std::alloc::Global;
 
 /// Makes the product that the arguments request. Reads the inputs from the store, and writes nothing.
@@ -17,23 +17,15 @@ pub(crate) fn make_product<'a, S: Store>(
     alloc: Global,
     words: &'a [String],
     store: &mut S,
-) -> Result<Product<'a>, Failure<'a>>
+) -> Made<'a>
     ensures { RunsRequest stitch_drawing (drawing_order_of (map (λ word. string_bytes word) words.now))
         (S.view store.old) (S.view store.new) result }
 {
     match drawing_request(words) {
         Some(DrawingRequest::Look { file, gap }) => look(alloc, file, gap, store),
-        Some(DrawingRequest::Snap { gap, input, output }) => {
-            snap_file(alloc, gap, input, output, store)
-        }
-        Some(DrawingRequest::Space { input, output }) => space_file(alloc, input, output, store),
-        Some(
-            DrawingRequest::Edit {
-                input,
-                output,
-                edits,
-            },
-        ) => edit(alloc, input, output, edits, store),
+        Some(DrawingRequest::Snap { gap, names }) => snap_file(alloc, gap, names, store),
+        Some(DrawingRequest::Space(names)) => space_file(alloc, names, store),
+        Some(DrawingRequest::Edit { names, edits }) => edit(alloc, names, edits, store),
         None => Err(Failure::BadArguments),
     }
 }

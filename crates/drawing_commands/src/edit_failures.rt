@@ -1,35 +1,23 @@
 ghost use Rattle.std.specs.Prelude.{◌≡◌, ◌++◌, IfOk, codes, decimal, string_bytes};
-ghost use Rattle.drawing_commands.specs.DrawingEditing.{bad_edit_text};
-ghost use Rattle.drawing_commands.specs.EditFailures.{IsEditFailure};
-ghost use Rattle.drawing_edits.specs.EditFaults.{edit_is_out_of_memory};
-ghost use Rattle.drawing_model.specs.GrowingDrawings.{draw_is_out_of_memory};
+ghost use Rattle.drawing_commands.specs.DrawingEditing.{bad_edit_is_out_of_memory, bad_edit_text};
 ghost use Rattle.program_shell.specs.FileTexts.{text_at};
-ghost use Rattle.program_shell.specs.StepOutcomes.{IsRefusalWith};
+ghost use Rattle.program_shell.specs.StepOutcomes.{IsFaultFailure, IsRefusalWith};
 
 use crate::bad_edit::BadEdit;
 use drawing_edits::EditFault;
 use drawing_model::DrawKind;
 use lists_and_numbers::Memory;
-use program_shell::{Failure, describe_part};
+use program_shell::{Failure, describe_part, refused};
 use program_texts::describe_kind;
 use std::alloc::Global;
 
 /// Returns the failure for an edit that is refused.
 pub(crate) fn edit_failure<'a>(alloc: Global, name: &str, bad: BadEdit) -> Failure<'a>
-    ensures { IsEditFailure name.now bad result }
+    ensures { IsFaultFailure (bad_edit_is_out_of_memory bad) (bad_edit_text name.now bad) result }
 {
-    if is_memory(bad.fault) {
-        return Failure::Memory;
-    }
-    bad_edit(alloc, name, bad)
-}
-
-fn is_memory(fault: EditFault) -> bool
-    ensures { result ≡ edit_is_out_of_memory fault }
-{
-    match fault {
-        EditFault::Draw(DrawKind::Memory) => true,
-        _ => false,
+    match bad.fault {
+        EditFault::Draw(DrawKind::Memory) => Failure::Memory,
+        _ => bad_edit(alloc, name, bad),
     }
 }
 
@@ -37,10 +25,7 @@ fn is_memory(fault: EditFault) -> bool
 fn bad_edit<'a>(alloc: Global, name: &str, bad: BadEdit) -> Failure<'a>
     ensures { IsRefusalWith (bad_edit_text name.now bad) result }
 {
-    match describe_edit(alloc, name, bad) {
-        Ok(text) => Failure::Refused(text),
-        Err(Memory) => Failure::Memory,
-    }
+    refused(describe_edit(alloc, name, bad))
 }
 
 fn describe_edit(alloc: Global, name: &str, bad: BadEdit) -> Result<String, Memory>

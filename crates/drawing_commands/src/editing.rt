@@ -8,6 +8,7 @@ ghost use Rattle.drawing_text.specs.DrawingText.{drawing_of};
 ghost use Rattle.drawing_text.specs.EndTexts.{drawn_text};
 ghost use Rattle.drawing_model.specs.EndOrders.{HasOrderedEnds};
 ghost use Rattle.drawing_model.specs.JoinedDrawings.{is_joined};
+ghost use Rattle.command_words.specs.ValidNames.{AreFileNames};
 ghost use Rattle.outside_io.specs.Files.{IsFileName};
 ghost use Rattle.program_shell.specs.Plans.{accepts};
 ghost use Rattle.program_shell.specs.Products.{product_value};
@@ -16,55 +17,53 @@ ghost use Rattle.program_shell.specs.StepOutcomes.{RunsPlan, RunsPurePlan};
 use crate::bad_edit::BadEdit;
 use crate::drawing_edit_words::parse_drawing_edit;
 use crate::edit_failures::edit_failure;
+use command_words::FileNames;
 use drawing_edits::{DrawingEdit, EditFault, edit_drawing, edits_keep_ends_by_block};
 use drawing_inputs::drawing_in;
-use drawing_model::{Drawing, drawing_cost, joined_drawings_stay};
+use drawing_model::{Drawing, joined_drawings_stay};
 use drawing_text::{print_drawn, texts_order_ends};
 use line_graph::pieces;
 use lists_and_numbers::{Bytes, Memory};
 use outside_io::Store;
-use program_shell::{Failure, Output, Product, one_output};
+use program_shell::{Made, Product, one_output};
 use program_texts::print_migration;
 use std::alloc::Global;
 
 /// Edits a drawing, and reports on it.
 pub(crate) fn edit<'a, S: Store>(
     alloc: Global,
-    input: &'a str,
-    output: &'a str,
+    names: FileNames<'a>,
     edits: &[String],
     store: &mut S,
-) -> Result<Product<'a>, Failure<'a>>
-    requires input { IsFileName input.now }
-    requires output { IsFileName output.now }
+) -> Made<'a>
+    requires names { AreFileNames names }
     requires edits { IsSome (parsed_drawing_edits (map (λ word. string_bytes word) edits.now)) }
     requires some { 1 ≤ length edits.now }
-    ensures { RunsPlan (drawing_edit_plan (drawing_edit_order input.now output.now
+    ensures { RunsPlan (drawing_edit_plan (drawing_edit_order names.entry.input.now names.entry.output.now
         (drawing_edits_of (map (λ word. string_bytes word) edits.now))))
         (S.view store.old) (S.view store.new) result }
 {
     texts_order_ends();
-    let drawing = drawing_in(alloc, store, input)?;
-    edit_read(alloc, input, output, edits, &drawing)
+    let drawing = drawing_in(alloc, store, names.input)?;
+    edit_read(alloc, names, edits, &drawing)
 }
 
 fn edit_read<'a>(
     alloc: Global,
-    input: &'a str,
-    output: &'a str,
+    names: FileNames<'a>,
     edits: &[String],
     drawing: &Drawing,
-) -> Result<Product<'a>, Failure<'a>>
-    requires output { IsFileName output.now }
+) -> Made<'a>
+    requires names { AreFileNames names }
     requires edits { IsSome (parsed_drawing_edits (map (λ word. string_bytes word) edits.now)) }
     requires some { 1 ≤ length edits.now }
     requires ordered { HasOrderedEnds drawing.now }
-    ensures { RunsPurePlan (edited_plan input.now output.now (edits_applied 1
+    ensures { RunsPurePlan (edited_plan names.entry.input.now names.entry.output.now (edits_applied 1
         (drawing_edits_of (map (λ word. string_bytes word) edits.now)) drawing.now)) result }
 {
     match edited(alloc, drawing, edits) {
-        Ok(drawing) => written(alloc, output, &drawing),
-        Err(bad) => Err(edit_failure(alloc, input, bad)),
+        Ok(drawing) => written(alloc, names.output, &drawing),
+        Err(bad) => Err(edit_failure(alloc, names.input, bad)),
     }
 }
 
@@ -154,11 +153,7 @@ fn apply(alloc: Global, drawing: &Drawing, edit: DrawingEdit) -> Result<Drawing,
     Ok(edited)
 }
 
-fn written<'a>(
-    alloc: Global,
-    output: &'a str,
-    drawing: &Drawing,
-) -> Result<Product<'a>, Failure<'a>>
+fn written<'a>(alloc: Global, output: &'a str, drawing: &Drawing) -> Made<'a>
     requires output { IsFileName output.now }
     requires joined { is_joined drawing.now ≡ true }
     requires ordered { HasOrderedEnds drawing.now }
@@ -178,18 +173,9 @@ fn edited_product<'a>(
     ensures { IfOk result (λ product. IsEdited output.now drawing.now (product_value product)) }
 {
     let pieces = pieces(alloc, drawing)?;
-    let report = print_migration(
-        alloc,
-        drawing.line_count(),
-        pieces.len(),
-        drawing_cost(drawing),
-    )?;
+    let report = print_migration(alloc, drawing, pieces.len())?;
     let content = text_of(alloc, drawing)?;
-    let written = Output {
-        name: output,
-        content,
-    };
-    let product = one_output(alloc, written, report)?;
+    let product = one_output(alloc, output, content, report)?;
     Ok(product)
 }
 

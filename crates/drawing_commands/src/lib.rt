@@ -14,6 +14,7 @@ mod snap_texts;
 mod snapping;
 mod space_texts;
 mod spacing;
+mod whole_files;
 
 pub use program_shell::Status;
 pub use requests::{DrawingRequest, MAX_GAP, drawing_request};

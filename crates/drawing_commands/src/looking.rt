@@ -12,16 +12,11 @@ use line_graph::pieces;
 use lists_and_numbers::Memory;
 use outside_io::Store;
 use piece_stitches::piece_stitches;
-use program_shell::{Failure, Product, only_report};
+use program_shell::{Made, Product, only_report};
 use std::alloc::Global;
 
 /// Makes the report on a drawing.
-pub(crate) fn look<'a, S: Store>(
-    alloc: Global,
-    file: &'a str,
-    gap: u16,
-    store: &mut S,
-) -> Result<Product<'a>, Failure<'a>>
+pub(crate) fn look<'a, S: Store>(alloc: Global, file: &'a str, gap: u16, store: &mut S) -> Made<'a>
     requires { IsFileName file.now }
     ensures { RunsPlan (look_plan (look_order file.now gap)) (S.view store.old) (S.view store.new) result }
 {
@@ -29,7 +24,7 @@ pub(crate) fn look<'a, S: Store>(
     looked(alloc, gap, &read)
 }
 
-fn looked<'a>(alloc: Global, gap: u16, read: &LinesRead) -> Result<Product<'a>, Failure<'a>>
+fn looked<'a>(alloc: Global, gap: u16, read: &LinesRead) -> Made<'a>
     ensures { RunsPurePlan (accepts (IsLook gap read.now.drawing read.now.drawn)) result }
 {
     let product = look_product(alloc, gap, read)?;

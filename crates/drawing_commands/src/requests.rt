@@ -1,10 +1,12 @@
 ghost use Rattle.std.specs.Prelude.{◌≡◌, Some, IfSome, map, option_map, string_bytes};
 ghost use Rattle.lists_and_numbers.specs.declared.whole_number.Whole.TheVariants as whole;
 ghost use Rattle.lists_and_numbers.specs.WholeNumbers.{parsed_whole};
-ghost use Rattle.drawing_commands.specs.DrawingEditWords.{parsed_drawing_edits};
-ghost use Rattle.drawing_commands.specs.Requests.{HasFileNames, drawing_order_of, edit_order_with, gap_of, look_with_gap, order_of_request, parsed_drawing_edit_request, parsed_look, parsed_snap, parsed_space, snap_with_gap, space_with_names};
+ghost use Rattle.command_words.specs.Names.{names_and_rest};
+ghost use Rattle.command_words.specs.ValidNames.{AreFileNames, file_names_value};
+ghost use Rattle.drawing_commands.specs.Requests.{HasFileNames, drawing_order_of, gap_of, if_apart, look_with_gap, order_of_request, parsed_drawing_edit_request, parsed_look, parsed_snap};
 
 use crate::drawing_edit_words::are_drawing_edits;
+use command_words::{FileNames, file_names, named_rest};
 use lists_and_numbers::{Whole, parse_whole};
 use outside_io::is_name;
 
@@ -25,18 +27,13 @@ pub enum DrawingRequest<'a> {
     /// A snapped drawing, with a gap in tenths of a millimetre.
     Snap {
         gap: u16,
-        input: &'a str,
-        output: &'a str,
+        names: FileNames<'a>,
     },
     /// A spaced drawing.
-    Space {
-        input: &'a str,
-        output: &'a str,
-    },
+    Space(FileNames<'a>),
     /// An edited drawing. The edits are arguments.
     Edit {
-        input: &'a str,
-        output: &'a str,
+        names: FileNames<'a>,
         edits: &'a [String],
     },
 }
@@ -51,7 +48,9 @@ pub fn drawing_request(words: &[String]) -> Option<DrawingRequest<'_>>
     match words {
         [command, rest @ ..] if command.as_str() == "look" => look_request(rest),
         [command, rest @ ..] if command.as_str() == "snap" => snap_request(rest),
-        [command, rest @ ..] if command.as_str() == "space" => space_request(rest),
+        [command, rest @ ..] if command.as_str() == "space" => {
+            apart(file_names(rest)?).map(DrawingRequest::Space)
+        }
         [command, rest @ ..] if command.as_str() == "edit" => edit_request(rest),
         _ => None,
     }
@@ -64,45 +63,8 @@ fn look_request(words: &[String]) -> Option<DrawingRequest<'_>>
 {
     match words {
         [file] => named_look(file.as_str(), DEFAULT_GAP),
-        [file, gap] => {
-            let gap = parse_gap(gap.as_bytes())?;
-            named_look(file.as_str(), gap)
-        }
+        [file, gap] => named_look(file.as_str(), parse_gap(gap.as_bytes())?),
         _ => None,
-    }
-}
-
-fn edit_request(words: &[String]) -> Option<DrawingRequest<'_>>
-    ensures value { option_map order_of_request result
-        ≡ parsed_drawing_edit_request (map (λ word. string_bytes word) words.now) }
-    ensures sound { IfSome result HasFileNames }
-{
-    match words {
-        [input, output, edits @ ..] => named_edit(input.as_str(), output.as_str(), edits),
-        _ => None,
-    }
-}
-
-fn named_edit<'a>(
-    input: &'a str,
-    output: &'a str,
-    edits: &'a [String],
-) -> Option<DrawingRequest<'a>>
-    ensures value { option_map order_of_request result ≡ edit_order_with input.now output.now
-        (parsed_drawing_edits (map (λ word. string_bytes word) edits.now)) }
-    ensures sound { IfSome result HasFileNames }
-{
-    if edits.is_empty() || !are_drawing_edits(edits) || input == output {
-        return None;
-    }
-    if is_name(input) && is_name(output) {
-        Some(DrawingRequest::Edit {
-            input,
-            output,
-            edits,
-        })
-    } else {
-        None
     }
 }
 
@@ -122,46 +84,38 @@ fn snap_request(words: &[String]) -> Option<DrawingRequest<'_>>
         ≡ parsed_snap (map (λ word. string_bytes word) words.now) }
     ensures sound { IfSome result HasFileNames }
 {
-    let [gap, input, output] = words else {
+    let [gap, rest @ ..] = words else {
         return None;
     };
     let gap = parse_gap(gap.as_bytes())?;
-    named_snap(gap, input.as_str(), output.as_str())
+    let names = apart(file_names(rest)?)?;
+    Some(DrawingRequest::Snap { gap, names })
 }
 
-/// Returns the request of `snap` on two files, whose names must differ.
-fn named_snap<'a>(gap: u16, input: &'a str, output: &'a str) -> Option<DrawingRequest<'a>>
-    ensures value { option_map order_of_request result
-        ≡ snap_with_gap (Some gap) input.now output.now }
+fn edit_request(words: &[String]) -> Option<DrawingRequest<'_>>
+    ensures value { option_map order_of_request result ≡ parsed_drawing_edit_request
+        (names_and_rest (map (λ word. string_bytes word) words.now)) }
     ensures sound { IfSome result HasFileNames }
 {
-    if is_name(input) && is_name(output) && input != output {
-        Some(DrawingRequest::Snap { gap, input, output })
-    } else {
-        None
+    let (names, edits) = named_rest(words)?;
+    if edits.is_empty() || !are_drawing_edits(edits) {
+        return None;
     }
+    let names = apart(names)?;
+    Some(DrawingRequest::Edit { names, edits })
 }
 
-fn space_request(words: &[String]) -> Option<DrawingRequest<'_>>
-    ensures value { option_map order_of_request result
-        ≡ parsed_space (map (λ word. string_bytes word) words.now) }
-    ensures sound { IfSome result HasFileNames }
+/// Returns two names that differ.
+fn apart(names: FileNames<'_>) -> Option<FileNames<'_>>
+    requires { AreFileNames names }
+    ensures value { option_map file_names_value result
+        ≡ if_apart (Some (names.entry.input.now, names.entry.output.now)) }
+    ensures names { IfSome result AreFileNames }
 {
-    match words {
-        [input, output] => named_space(input.as_str(), output.as_str()),
-        _ => None,
-    }
-}
-
-/// Returns the request of `space` on two files, whose names must differ.
-fn named_space<'a>(input: &'a str, output: &'a str) -> Option<DrawingRequest<'a>>
-    ensures value { option_map order_of_request result ≡ space_with_names input.now output.now }
-    ensures sound { IfSome result HasFileNames }
-{
-    if is_name(input) && is_name(output) && input != output {
-        Some(DrawingRequest::Space { input, output })
-    } else {
+    if names.input == names.output {
         None
+    } else {
+        Some(names)
     }
 }
 

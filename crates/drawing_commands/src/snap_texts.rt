@@ -1,13 +1,12 @@
 ghost use Rattle.std.specs.Prelude.{◌≡◌, IfOk, string_bytes};
-ghost use Rattle.drawing_commands.specs.SnapOrders.{IsSnapFailure};
 ghost use Rattle.drawing_commands.specs.SnapTexts.{snap_fault_text, snap_report, vanished_text};
 ghost use Rattle.drawing_repairs.specs.Snaps.{snap_is_out_of_memory};
-ghost use Rattle.program_shell.specs.StepOutcomes.{IsRefusalWith};
+ghost use Rattle.program_shell.specs.StepOutcomes.{IsFaultFailure, IsRefusalWith};
 
 use drawing_model::DrawKind;
 use drawing_repairs::{SnapFault, VanishedLine};
 use lists_and_numbers::{Bytes, Memory};
-use program_shell::{Failure, bytes_of, describe_file};
+use program_shell::{Failure, bytes_of, describe_file, refused};
 use program_texts::kind_text;
 use std::alloc::Global;
 
@@ -41,20 +40,11 @@ fn snap_line(
 
 /// Returns the failure for a drawing that can't be snapped.
 pub(crate) fn snap_failure<'a>(alloc: Global, name: &str, fault: SnapFault) -> Failure<'a>
-    ensures { IsSnapFailure name.now fault result }
-{
-    if is_memory(fault) {
-        return Failure::Memory;
-    }
-    not_snapped(alloc, name, fault)
-}
-
-fn is_memory(fault: SnapFault) -> bool
-    ensures { result ≡ snap_is_out_of_memory fault }
+    ensures { IsFaultFailure (snap_is_out_of_memory fault) (snap_fault_text name.now fault) result }
 {
     match fault {
-        SnapFault::Limit(DrawKind::Memory) => true,
-        _ => false,
+        SnapFault::Limit(DrawKind::Memory) => Failure::Memory,
+        other => not_snapped(alloc, name, other),
     }
 }
 
@@ -62,10 +52,7 @@ fn is_memory(fault: SnapFault) -> bool
 fn not_snapped<'a>(alloc: Global, name: &str, fault: SnapFault) -> Failure<'a>
     ensures { IsRefusalWith (snap_fault_text name.now fault) result }
 {
-    match describe_snap_fault(alloc, name, fault) {
-        Ok(text) => Failure::Refused(text),
-        Err(Memory) => Failure::Memory,
-    }
+    refused(describe_snap_fault(alloc, name, fault))
 }
 
 fn describe_snap_fault(alloc: Global, name: &str, fault: SnapFault) -> Result<String, Memory>

@@ -1,52 +1,45 @@
 ghost use Rattle.std.specs.Prelude.{ℕ, IfOk};
+ghost use Rattle.command_words.specs.ValidNames.{AreFileNames};
 ghost use Rattle.drawing_commands.specs.SnapOrders.{IsSnapProduct, snap_lines, snap_order, snap_plan};
-ghost use Rattle.drawing_repairs.specs.SecondSnaps.{StaysSnapped};
+ghost use Rattle.drawing_commands.specs.WholeProducts.{IsWhole};
 ghost use Rattle.drawing_model.specs.EndOrders.{HasOrderedEnds};
-ghost use Rattle.drawing_text.specs.TextLaws.{IsJoinedFrom};
-ghost use Rattle.drawing_model.specs.WalkEnds.{HasNoEnds};
-ghost use Rattle.outside_io.specs.Files.{IsFileName};
+ghost use Rattle.drawing_repairs.specs.SecondSnaps.{StaysSnapped};
 ghost use Rattle.program_shell.specs.Products.{product_value};
 ghost use Rattle.program_shell.specs.StepOutcomes.{RunsPlan, RunsPurePlan};
 
 use crate::snap_texts::{print_snap, snap_failure};
+use crate::whole_files::whole_product;
+use command_words::FileNames;
 use drawing_inputs::{LinesRead, lines_in};
 use drawing_model::Drawing;
 use drawing_repairs::{SnappedDrawing, snap};
-use drawing_text::print_drawn;
 use line_graph::pieces;
 use lists_and_numbers::Memory;
 use outside_io::Store;
-use program_shell::{Failure, Output, Product, one_output};
+use program_shell::{Made, Product};
 use std::alloc::Global;
 
 /// Snaps a drawing, and writes its lines whole, with its starts and ends.
 pub(crate) fn snap_file<'a, S: Store>(
     alloc: Global,
     gap: u16,
-    input: &'a str,
-    output: &'a str,
+    names: FileNames<'a>,
     store: &mut S,
-) -> Result<Product<'a>, Failure<'a>>
-    requires input { IsFileName input.now }
-    requires output { IsFileName output.now }
-    ensures { RunsPlan (snap_plan (snap_order gap input.now output.now)) (S.view store.old)
-        (S.view store.new) result }
+) -> Made<'a>
+    requires { AreFileNames names }
+    ensures { RunsPlan (snap_plan (snap_order gap names.entry.input.now names.entry.output.now))
+        (S.view store.old) (S.view store.new) result }
 {
-    let read = lines_in(alloc, store, input)?;
-    snap_lines_of(alloc, gap, input, output, &read)
+    let read = lines_in(alloc, store, names.input)?;
+    snap_lines_of(alloc, gap, names, &read)
 }
 
 /// Snaps the lines of a drawing as they are drawn, with its starts and ends.
-fn snap_lines_of<'a>(
-    alloc: Global,
-    gap: u16,
-    input: &'a str,
-    output: &'a str,
-    read: &LinesRead,
-) -> Result<Product<'a>, Failure<'a>>
-    requires output { IsFileName output.now }
+fn snap_lines_of<'a>(alloc: Global, gap: u16, names: FileNames<'a>, read: &LinesRead) -> Made<'a>
+    requires names { AreFileNames names }
     requires ordered { HasOrderedEnds read.now.drawing }
-    ensures { RunsPurePlan (snap_lines (snap_order gap input.now output.now) read.now) result }
+    ensures { RunsPurePlan (snap_lines (snap_order gap names.entry.input.now names.entry.output.now)
+        read.now) result }
 {
     let drawing = &read.drawing;
     match snap(
@@ -57,10 +50,10 @@ fn snap_lines_of<'a>(
         drawing.ends(),
     ) {
         Ok(snapped) => {
-            let product = snap_product(alloc, output, drawing, &snapped)?;
+            let product = snap_product(alloc, names.output, drawing, &snapped)?;
             Ok(product)
         }
-        Err(fault) => Err(snap_failure(alloc, input, fault)),
+        Err(fault) => Err(snap_failure(alloc, names.input, fault)),
     }
 }
 
@@ -70,9 +63,7 @@ fn snap_product<'a>(
     drawing: &Drawing,
     snapped: &SnappedDrawing,
 ) -> Result<Product<'a>, Memory>
-    requires whole { IsJoinedFrom snapped.now.drawn snapped.now.joined }
-    requires ordered { HasOrderedEnds snapped.now.joined }
-    requires no_ends { HasNoEnds snapped.now.drawn }
+    requires { IsWhole snapped.now.drawn snapped.now.joined }
     ensures { (gap : ℕ) → StaysSnapped gap snapped.now → IfOk result (λ product.
         IsSnapProduct gap output.now drawing.now snapped.now (product_value product)) }
 {
@@ -85,14 +76,6 @@ fn snap_product<'a>(
         before.len(),
         after.len(),
     )?;
-    let content = print_drawn(alloc, &snapped.drawn, &snapped.joined)?;
-    let product = one_output(
-        alloc,
-        Output {
-            name: output,
-            content,
-        },
-        report,
-    )?;
+    let product = whole_product(alloc, output, &snapped.drawn, &snapped.joined, report)?;
     Ok(product)
 }

@@ -1,14 +1,14 @@
 ghost use Rattle.std.specs.Prelude.{◌≡◌, IfOk, string_bytes};
-ghost use Rattle.drawing_commands.specs.SpaceOrders.{IsSpaceFailure, space_report};
+ghost use Rattle.drawing_commands.specs.SpaceOrders.{space_report};
 ghost use Rattle.drawing_commands.specs.SpaceTexts.{cost_change_text, point_change_text};
 ghost use Rattle.drawing_model.specs.GrowingDrawings.{draw_is_out_of_memory, point_count};
 ghost use Rattle.program_shell.specs.FileTexts.{text_about};
-ghost use Rattle.program_shell.specs.StepOutcomes.{IsRefusalWith};
+ghost use Rattle.program_shell.specs.StepOutcomes.{IsFaultFailure, IsRefusalWith};
 ghost use Rattle.program_texts.specs.DrawingTexts.{draw_kind_text};
 
 use drawing_model::{DrawKind, Drawing, drawing_cost};
 use lists_and_numbers::{Bytes, Memory};
-use program_shell::{Failure, bytes_of, describe_file};
+use program_shell::{Failure, bytes_of, describe_file, refused};
 use program_texts::kind_text;
 use std::alloc::Global;
 
@@ -58,7 +58,7 @@ fn point_total(d: &Drawing) -> usize
 
 /// Returns the failure for a spaced drawing with a fault.
 pub(crate) fn space_failure<'a>(alloc: Global, name: &str, why: DrawKind) -> Failure<'a>
-    ensures { IsSpaceFailure name.now why result }
+    ensures { IsFaultFailure (draw_is_out_of_memory why) (text_about name.now (draw_kind_text why)) result }
 {
     match why {
         DrawKind::Memory => Failure::Memory,
@@ -70,8 +70,5 @@ pub(crate) fn space_failure<'a>(alloc: Global, name: &str, why: DrawKind) -> Fai
 fn not_spaced<'a>(alloc: Global, name: &str, why: DrawKind) -> Failure<'a>
     ensures { IsRefusalWith (text_about name.now (draw_kind_text why)) result }
 {
-    match describe_file(alloc, name, kind_text(why)) {
-        Ok(text) => Failure::Refused(text),
-        Err(Memory) => Failure::Memory,
-    }
+    refused(describe_file(alloc, name, kind_text(why)))
 }

@@ -1,2 +1,1 @@
-pub mod FaultFailures
 pub mod DrawingLines

@@ -8,16 +8,12 @@ use crate::fault_failures::drawing_failure;
 use drawing_model::Drawing;
 use drawing_text::{read_as2, read_drawing};
 use outside_io::Store;
-use program_shell::{Failure, read_input};
+use program_shell::{Step, read_input};
 use std::alloc::Global;
 
 /// Reads and parses the drawing of an input file. Errors: the file is missing, can't be read or is too long; or
 /// the first fault of its text, with its line.
-pub fn drawing_in<'a, S: Store>(
-    alloc: Global,
-    store: &mut S,
-    name: &'a str,
-) -> Result<Drawing, Failure<'a>>
+pub fn drawing_in<'a, S: Store>(alloc: Global, store: &mut S, name: &'a str) -> Step<'a, Drawing>
     requires { IsFileName name.now }
     ensures { ParsesInput drawing_of (draw_fault_text name.now) name.now (S.view store.old)
         (S.view store.new) result }
@@ -34,7 +30,7 @@ pub fn drawing_as2_in<'a, S: Store>(
     alloc: Global,
     store: &mut S,
     name: &'a str,
-) -> Result<Drawing, Failure<'a>>
+) -> Step<'a, Drawing>
     requires { IsFileName name.now }
     ensures takes { ParsesInput drawing_as2 (draw_fault_text name.now) name.now (S.view store.old)
         (S.view store.new) result }

@@ -12,7 +12,7 @@ use crate::fault_failures::drawing_failure;
 use drawing_model::Drawing;
 use drawing_text::{DrawFault, DrawnLines, read_drawing, read_lines, texts_order_ends};
 use outside_io::Store;
-use program_shell::{Failure, read_input};
+use program_shell::{Step, read_input};
 use std::alloc::Global;
 
 /// A drawing, and its lines as they are drawn.
@@ -23,11 +23,7 @@ pub struct LinesRead {
 }
 
 /// Reads and parses the drawing of an input file, and its lines as they are drawn. Errors: as for a drawing.
-pub fn lines_in<'a, S: Store>(
-    alloc: Global,
-    store: &mut S,
-    name: &'a str,
-) -> Result<LinesRead, Failure<'a>>
+pub fn lines_in<'a, S: Store>(alloc: Global, store: &mut S, name: &'a str) -> Step<'a, LinesRead>
     requires { IsFileName name.now }
     ensures takes { ParsesInput lines_read (draw_fault_text name.now) name.now (S.view store.old)
         (S.view store.new) result }

@@ -1,9 +1,11 @@
 -- Lemmas for the crates of programs: plans that read files one after another, plans that decide, and the end of a run.
 use Rattle.std.proofs.lemmas.Bool.Decides.{nat_tests}
-use Rattle.std.proofs.Common.{◌≡◌, ℕ, List, Option, Result, Ok, Err, ap, refl, arith}
+use Rattle.std.proofs.Common.{◌≡◌, ℕ, Bool, false, List, Option, Result, Ok, Err, ap, refl, subst, sym, arith}
+use Rattle.lists_and_numbers.specs.OutOfMemory.{IsSpecified, UnlessOutOfMemory}
 use Rattle.outside_io.specs.Files.{Files}
 use Rattle.outside_io.specs.Views.{SinkView, StoreView}
 use Rattle.program_shell.specs.declared.failure.Failure.{Failure}
+use Rattle.program_shell.specs.declared.failure.Failure.TheVariants as failure
 use Rattle.program_shell.specs.declared.product.Product.{Product}
 use Rattle.program_shell.specs.declared.status.Status.{Status}
 use Rattle.program_shell.specs.ExactPlans.{IsExact, IsSoundProgram}
@@ -13,7 +15,7 @@ use Rattle.program_shell.specs.Programs.{Program}
 use Rattle.program_shell.specs.Runs.{RunEnds}
 use Rattle.program_shell.specs.RunViews.{Views, views_of}
 use Rattle.program_shell.specs.FinishedRuns.{FinishesRun}
-use Rattle.program_shell.specs.StepOutcomes.{CanFinish, IsFailureOf, IsParsedInput, ParsesInput, ReadsInput, RunsPlan, RunsPurePlan, RunsRequest}
+use Rattle.program_shell.specs.StepOutcomes.{CanFinish, IsFailureOf, IsFaultFailure, IsParsedInput, ParsesInput, ReadsInput, RunsPlan, RunsPurePlan, RunsRequest}
 use Rattle.program_shell.proofs.RunLemmas.{run_ends}
 use Rattle.program_shell.proofs.RunOutcomes.{finished}
 
@@ -48,6 +50,23 @@ pub settles_taken : {V F : Type 0} (name : List ℕ) (says : List ℕ → Result
     → RunsPurePlan (next (Ok value)) result → RunsPlan (reads name (λ bytes. next (says bytes))) store store' result
 settles_taken name says next store store' value result input settles =
     takes_next name says next store store' store' value result input (record { is = settles.at store' })
+
+-- A fault that is reported is the specified one, unless it is out of memory.
+pub fault_found : {V F : Type 0} (is_memory : F → Bool) (said : Result V F) (fault : F) → IsSpecified is_memory said (Err fault)
+    → is_memory fault ≡ false → said ≡ Err fault
+fault_found is_memory said fault spec known = subst (λ (b : Bool). UnlessOutOfMemory b (said ≡ Err fault)) known spec
+
+-- A fault is refused with the text about it, if the plan for it is this refusal.
+pub fault_refused : {V F : Type 0} (is_memory : F → Bool) (text : List ℕ) (next : Result V F → Plan) (said : Result V F) (fault : F)
+    (why : Failure) → ((w : Failure) → RunsPurePlan (refuses text) (Err w) → RunsPurePlan (next (Err fault)) (Err w))
+    → IsSpecified is_memory said (Err fault) → IsFaultFailure (is_memory fault) text why → RunsPurePlan (next said) (Err why)
+fault_refused is_memory text next said fault failure.BadArguments so spec never = absurd never
+fault_refused is_memory text next said fault (failure.MissingInput missing) so spec never = absurd never
+fault_refused is_memory text next said fault (failure.ReadFailed lost) so spec never = absurd never
+fault_refused {V} {F} is_memory text next said fault (failure.Refused printed) so spec (is, known) =
+    subst (λ (r : Result V F). RunsPurePlan (next r) (Err (failure.Refused printed))) (sym (fault_found is_memory said fault spec known))
+    (so (failure.Refused printed) (record { at = λ (store : StoreView). (is, refl) }))
+fault_refused is_memory text next said fault failure.Memory so spec out = record { at = λ (store : StoreView). refl }
 
 -- The result of a request can be finished.
 pub can_finish : {Order : Type 0} (program : Program Order) (requested : Option Order) (store mid : StoreView)

@@ -1,5 +1,5 @@
 -- The outcomes of the steps of a run: reading an input, and running a plan.
-use Rattle.std.specs.Prelude.{◌≡◌, ◌⊎◌, ℕ, List, Option, Some, None, Result, Ok, Err, string_bytes}
+use Rattle.std.specs.Prelude.{◌≡◌, ◌⊎◌, ℕ, Bool, false, List, Option, Some, None, Result, Ok, Err, string_bytes}
 use Rattle.outside_io.specs.Blames.{read_call}
 use Rattle.outside_io.specs.Causes.{CallFailed}
 use Rattle.outside_io.specs.Files.{LacksFile}
@@ -38,6 +38,14 @@ abbrev pub IsRefusalWith : List ℕ → Failure → Type 0
 IsRefusalWith expected (failure.Refused text) = string_bytes text ≡ expected
 IsRefusalWith expected failure.Memory = Unit {0}
 IsRefusalWith expected other = ⊥
+
+-- The failure for a fault, given whether it is out of memory: a refusal with the text about it, or
+-- out of memory. A fault that is out of memory isn't refused.
+abbrev pub IsFaultFailure : Bool → List ℕ → Failure → Type 0
+IsFaultFailure memory expected (failure.Refused text) =
+    (string_bytes text ≡ expected) × (memory ≡ false)
+IsFaultFailure memory expected failure.Memory = Unit {0}
+IsFaultFailure memory expected other = ⊥
 
 -- A product that can be delivered: its outputs have distinct file names.
 pub record IsDeliverable (product : ProductValue) : Type 0 where

@@ -1,5 +1,6 @@
-ghost use Rattle.std.specs.Prelude.{◌≡◌};
+ghost use Rattle.std.specs.Prelude.{◌≡◌, IfOk, List, string_bytes, ℕ};
 ghost use Rattle.program_shell.specs.declared.failure.Failure.TheVariants as failure;
+ghost use Rattle.program_shell.specs.StepOutcomes.{IsRefusalWith};
 
 use lists_and_numbers::Memory;
 
@@ -18,10 +19,24 @@ pub enum Failure<'a> {
     Memory,
 }
 
+/// What a step of an order returns: its value, or the failure for which there is none.
+pub type Step<'a, T> = Result<T, Failure<'a>>;
+
 impl<'a> From<Memory> for Failure<'a> {
     ghost from_gives = { λ _ e. e ≡ failure.Memory };
 
     fn from(_error: Memory) -> Failure<'a> {
         Failure::Memory
+    }
+}
+
+/// Returns the refusal with a text, or out of memory where there is none.
+pub fn refused<'a>(text: Result<String, Memory>) -> Failure<'a>
+    ensures { (expected : List ℕ) → IfOk text (λ is. string_bytes is ≡ expected)
+        → IsRefusalWith expected result }
+{
+    match text {
+        Ok(text) => Failure::Refused(text),
+        Err(Memory) => Failure::Memory,
     }
 }

@@ -2,7 +2,7 @@ ghost use Rattle.std.specs.Prelude.{◌≡◌, IfOk, codes, string_bytes};
 ghost use Rattle.program_shell.specs.FileTexts.{read_fault_text, text_about, text_at};
 ghost use Rattle.program_shell.specs.StepOutcomes.{IsRefusalWith};
 
-use crate::failure::Failure;
+use crate::failure::{Failure, refused};
 use format_traits::ReadFault;
 use lists_and_numbers::Memory;
 use std::alloc::Global;
@@ -39,10 +39,7 @@ pub fn refused_part<'a>(
 ) -> Failure<'a>
     ensures { IsRefusalWith (text_at name.now part.now number what.now) result }
 {
-    match describe_part(alloc, name, part, number, what) {
-        Ok(text) => Failure::Refused(text),
-        Err(Memory) => Failure::Memory,
-    }
+    refused(describe_part(alloc, name, part, number, what))
 }
 
 /// Returns the text about a file that does not conform to its format.

@@ -3,9 +3,8 @@ ghost use Rattle.program_shell.specs.FinishedRuns.{FinishesRun};
 ghost use Rattle.program_shell.specs.StepOutcomes.{CanFinish};
 
 use crate::delivery::deliver;
-use crate::failure::Failure;
 use crate::messages::report_failure;
-use crate::product::Product;
+use crate::product::Made;
 use crate::status::Status;
 use outside_io::{Sink, Store};
 
@@ -14,7 +13,7 @@ use outside_io::{Sink, Store};
 pub fn finish<S: Store, O: Sink, E: Sink>(
     program: &[u8],
     usage: &[u8],
-    made: Result<Product<'_>, Failure<'_>>,
+    made: Made<'_>,
     store: &mut S,
     out: &mut O,
     err: &mut E,

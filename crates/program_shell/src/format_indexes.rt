@@ -4,12 +4,11 @@ ghost use Rattle.outside_io.specs.Files.{IsFileName};
 ghost use Rattle.program_shell.specs.FileTexts.{read_fault_text};
 ghost use Rattle.program_shell.specs.StepOutcomes.{IsRefusalWith, ParsesInput};
 
-use crate::failure::Failure;
+use crate::failure::{Failure, Step, refused};
 use crate::file_texts::describe_read_fault;
 use crate::reading::read_failure;
 use design_files::{LoadFault, load};
 use format_traits::{Format, Loaded, ReadFault};
-use lists_and_numbers::Memory;
 use outside_io::Store;
 use std::alloc::Global;
 
@@ -28,7 +27,7 @@ pub fn load_at<'a, S: Store>(
     place: usize,
     store: &mut S,
     name: &'a str,
-) -> Result<Loaded, Failure<'a>>
+) -> Step<'a, Loaded>
     requires place { place < length formats.old }
     requires name { IsFileName name.now }
     ensures loads { (m : Meaning) → slice_get (map (λ f. meaning f) formats.old) place ≡ Some m
@@ -43,7 +42,7 @@ fn load_input<'a, S: Store>(
     format: &mut Box<dyn Format>,
     store: &mut S,
     name: &'a str,
-) -> Result<Loaded, Failure<'a>>
+) -> Step<'a, Loaded>
     requires { IsFileName name.now }
     ensures loads { ParsesInput (meaning format.old).reads (read_fault_text name.now) name.now
         (S.view store.old) (S.view store.new) result }
@@ -60,8 +59,5 @@ fn load_input<'a, S: Store>(
 fn bad_file<'a>(alloc: Global, name: &'a str, fault: ReadFault) -> Failure<'a>
     ensures { IsRefusalWith (read_fault_text name.now fault) result }
 {
-    match describe_read_fault(alloc, name, fault) {
-        Ok(text) => Failure::Refused(text),
-        Err(Memory) => Failure::Memory,
-    }
+    refused(describe_read_fault(alloc, name, fault))
 }

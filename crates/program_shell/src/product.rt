@@ -1,6 +1,7 @@
 ghost use Rattle.std.specs.Prelude.{◌≡◌, ◌∷◌, [], IfOk};
 ghost use Rattle.program_shell.specs.Products.{one_file_product, report_product, product_value, two_file_product, output_value};
 
+use crate::failure::Step;
 use lists_and_numbers::{Bytes, Items, Memory};
 use std::alloc::Global;
 
@@ -18,6 +19,9 @@ pub struct Product<'a> {
     pub report: Bytes,
 }
 
+/// What an order makes: its product, or the failure for which there is none.
+pub type Made<'a> = Step<'a, Product<'a>>;
+
 /// Returns a product that writes no file.
 pub fn only_report<'a>(alloc: Global, report: Bytes) -> Product<'a>
     ensures { product_value result ≡ report_product report }
@@ -28,17 +32,18 @@ pub fn only_report<'a>(alloc: Global, report: Bytes) -> Product<'a>
     }
 }
 
-/// Returns a product that writes one file.
+/// Returns a product that writes one file, of that name and content.
 pub fn one_output<'a>(
     alloc: Global,
-    output: Output<'a>,
+    name: &'a str,
+    content: Bytes,
     report: Bytes,
 ) -> Result<Product<'a>, Memory>
     ensures { IfOk result (λ product. product_value product
-        ≡ one_file_product output.entry.name.now output.entry.content report) }
+        ≡ one_file_product name.now content report) }
 {
     let mut outputs = Items::new(alloc);
-    outputs.push(output)?;
+    outputs.push(Output { name, content })?;
     Ok(Product { outputs, report })
 }
 

@@ -8,8 +8,8 @@ use crate::status::Status;
 use arrayvec::ArrayVec;
 use outside_io::{Failed, Sink};
 
-/// The size of the line buffer: the longest file name, and the rest of a line about it.
-const LINE_ROOM: usize = 4_608;
+/// The line buffer: room for the longest file name, and the rest of a line about it.
+type Line = ArrayVec<u8, 4_608>;
 
 /// Puts one text.
 pub fn put_one<E: Sink>(err: &mut E, text: &[u8]) -> Result<(), Failed>
@@ -32,11 +32,7 @@ fn put_all<E: Sink>(err: &mut E, pieces: &[&[u8]]) -> Result<(), Failed>
 }
 
 /// Appends a piece to the line buffer. If it does not fit, puts the buffer, and then the piece.
-fn gather<E: Sink>(
-    err: &mut E,
-    line: &mut ArrayVec<u8, LINE_ROOM>,
-    piece: &[u8],
-) -> Result<(), Failed>
+fn gather<E: Sink>(err: &mut E, line: &mut Line, piece: &[u8]) -> Result<(), Failed>
     ensures { Gathers (line.old.items ++ piece.now) line.new.items (E.view err.old)
         (E.view err.new) result }
 {
@@ -47,11 +43,7 @@ fn gather<E: Sink>(
 }
 
 /// Puts the line buffer and then a piece, and empties the buffer.
-fn put_both<E: Sink>(
-    err: &mut E,
-    line: &mut ArrayVec<u8, LINE_ROOM>,
-    piece: &[u8],
-) -> Result<(), Failed>
+fn put_both<E: Sink>(err: &mut E, line: &mut Line, piece: &[u8]) -> Result<(), Failed>
     ensures { Gathers (line.old.items ++ piece.now) line.new.items (E.view err.old)
         (E.view err.new) result }
 {

@@ -6,18 +6,14 @@ ghost use Rattle.outside_io.specs.Views.{StoreView};
 ghost use Rattle.program_shell.specs.FileTexts.{too_long_text};
 ghost use Rattle.program_shell.specs.StepOutcomes.{IsRefusalWith, ReadsInput};
 
-use crate::failure::Failure;
+use crate::failure::{Failure, Step};
 use crate::file_texts::describe_file;
 use lists_and_numbers::{Bytes, Memory};
 use outside_io::{GetFault, MAX_FILE, Store, read_whole};
 use std::alloc::Global;
 
 /// Reads the bytes of an input file.
-pub fn read_input<'a, S: Store>(
-    alloc: Global,
-    store: &mut S,
-    name: &'a str,
-) -> Result<Bytes, Failure<'a>>
+pub fn read_input<'a, S: Store>(alloc: Global, store: &mut S, name: &'a str) -> Step<'a, Bytes>
     requires { IsFileName name.now }
     ensures { ReadsInput name.now (S.view store.old) (S.view store.new) result }
 {

@@ -1,15 +1,19 @@
-ghost use Rattle.std.specs.Prelude.{◌≡◌, IfOk};
+ghost use Rattle.std.specs.Prelude.{◌≡◌, IfOk, length};
+ghost use Rattle.drawing_model.specs.GrowingDrawings.{step_count};
 ghost use Rattle.program_texts.specs.MigrationReports.{migrate_report};
 
+use drawing_model::{Drawing, drawing_cost};
 use lists_and_numbers::{Bytes, Memory};
 use program_shell::bytes_of;
 use std::alloc::Global;
 
-/// Returns the report of a migration: the number of lines and pieces of a drawing, and the cost of its lines
-/// in steps.
-pub fn print_migration(alloc: Global, lines: u32, pieces: usize, cost: u32) -> Result<Bytes, Memory>
-    ensures { IfOk result (λ text. text ≡ migrate_report lines pieces cost) }
+/// Returns the report of a migration of a drawing with that number of pieces: the numbers of lines and pieces,
+/// and the cost of the lines in steps.
+pub fn print_migration(alloc: Global, drawing: &Drawing, pieces: usize) -> Result<Bytes, Memory>
+    ensures { IfOk result (λ text. text ≡ migrate_report (length drawing.now.lines) pieces
+        (step_count drawing.now.step drawing.now.lines)) }
 {
+    let (lines, cost) = (drawing.line_count(), drawing_cost(drawing));
     let line = format!(in alloc; "lines {lines} pieces {pieces} cost {cost}\n")?;
     let text = bytes_of(alloc, line.as_bytes())?;
     Ok(text)

@@ -1,7 +1,7 @@
 -- The command `check`: does a design sew a drawing by the walks of a certificate, and does the
 -- certificate prove that no walks cost less?
 use Rattle.std.specs.Prelude.{◌≡◌, ℕ, List, ◌++◌, Option, Some, None, Result, Ok, Err, codes}
-use Rattle.command_words.specs.declared.requests.CheckNames.{CheckNames}
+use Rattle.command_words.specs.declared.names.RouteNames.{RouteNames}
 use Rattle.odd_cuts.specs.declared.certificate.PieceCert.{PieceCert}
 use Rattle.lists_and_numbers.specs.TextLines.{newline}
 use Rattle.certificate_text.specs.ReadCertificates.{cert_of}
@@ -31,10 +31,10 @@ pub record CheckOrder : Type 0 where
   pub format : Meaning
 
 -- The order with the names of the arguments and the format.
-abbrev pub check_order : CheckNames → Meaning → CheckOrder
+abbrev pub check_order : RouteNames → Meaning → CheckOrder
 check_order names format = record {
   drawing = names.drawing.now;
-  file = names.file.now;
+  file = names.design.now;
   cert = names.cert.now;
   format = format;
 }

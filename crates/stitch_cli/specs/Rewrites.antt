@@ -8,7 +8,7 @@ use Rattle.format_traits.specs.declared.loaded.Loaded.{Loaded}
 use Rattle.format_traits.specs.Laws.{MovesWithin, RoundTrips}
 use Rattle.format_traits.specs.Meanings.{Meaning}
 use Rattle.program_texts.specs.DesignReports.{written_report}
-use Rattle.command_words.specs.declared.requests.RewriteNames.{RewriteNames}
+use Rattle.command_words.specs.declared.names.FileNames.{FileNames}
 use Rattle.command_words.specs.Changes.{Change}
 use Rattle.design_changes.specs.declared.change_faults.ChangeFault.{ChangeFault}
 use Rattle.design_changes.specs.declared.change_faults.ChangeFault.TheVariants as change
@@ -28,7 +28,7 @@ pub record RewriteOrder : Type 0 where
   pub changes : List Change
 
 -- The order of `convert` or `edit`, from its names, the formats and the changes.
-abbrev pub rewrite_order : RewriteNames → Meaning → Meaning → List Change → RewriteOrder
+abbrev pub rewrite_order : FileNames → Meaning → Meaning → List Change → RewriteOrder
 rewrite_order names source target changes = record {
   input = names.input.now;
   output = names.output.now;

@@ -2,7 +2,7 @@
 -- steps.
 use Rattle.std.specs.Prelude.{◌≡◌, ℕ, ◌+◌, nat_lt, Bool, true, false, ◌&&◌, not, List, [], ◌∷◌, Option, Some, None, Result, Ok, Err, IsOkAnd, bytes_eq, if◌then◌else◌}
 use Rattle.odd_cuts.specs.declared.certificate.PieceCert.{PieceCert}
-use Rattle.command_words.specs.declared.requests.RouteNames.{RouteNames}
+use Rattle.command_words.specs.declared.names.RouteNames.{RouteNames}
 use Rattle.design_model.specs.Acts.{acts_of}
 use Rattle.format_traits.specs.Laws.{MovesWithin}
 use Rattle.format_traits.specs.Meanings.{Meaning}
@@ -30,7 +30,7 @@ pub record SewingOrder : Type 0 where
 abbrev pub sewing_order : RouteNames → Meaning → SewingOrder
 sewing_order names format = record {
   drawing = names.drawing.now;
-  out = names.out.now;
+  out = names.design.now;
   cert = names.cert.now;
   format = format;
 }

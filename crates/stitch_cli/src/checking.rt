@@ -1,5 +1,5 @@
 ghost use Rattle.std.specs.Prelude.{◌≡◌, ◌<◌, ◌-◌, ◌≤◌, ◌^◌, All, Ok, Some, length, map, option_map, slice_get};
-ghost use Rattle.command_words.specs.ValidRequests.{AreCheckNames};
+ghost use Rattle.command_words.specs.ValidNames.{AreRouteNames};
 ghost use Rattle.certificate_text.specs.ReadCertificates.{cert_of};
 ghost use Rattle.format_traits.specs.Meanings.{Meaning};
 ghost use Rattle.outside_io.specs.declared.limits.TheConstants.{MAX_FILE};
@@ -11,14 +11,14 @@ ghost use Rattle.program_shell.specs.StepOutcomes.{IsRefusalWith, RunsPlan, Runs
 ghost use Rattle.program_shell.specs.Plans.{satisfies};
 
 use certificate_text::{CertFault, read_cert};
-use command_words::CheckNames;
+use command_words::RouteNames;
 use design_model::Design;
 use drawing_inputs::drawing_in;
 use drawing_model::Drawing;
 use format_traits::{Format, Loaded, find};
 use odd_cuts::Cert;
 use outside_io::Store;
-use program_shell::{Failure, Product, bytes_of, load_at, only_report, read_input, refused_part};
+use program_shell::{Failure, Made, bytes_of, load_at, only_report, read_input, refused_part};
 use route_texts::describe_reason;
 use route_verdict::{Verdict, judge};
 use std::alloc::Global;
@@ -27,18 +27,18 @@ use std::alloc::Global;
 /// least. Reads the drawing, the design and the certificate, in this order.
 pub(crate) fn check<'a, S: Store>(
     alloc: Global,
-    names: CheckNames<'a>,
+    names: RouteNames<'a>,
     formats: &mut [Box<dyn Format>],
     store: &mut S,
-) -> Result<Product<'a>, Failure<'a>>
-    requires { AreCheckNames names }
+) -> Made<'a>
+    requires { AreRouteNames names }
     ensures answers { RunsRequest stitch (option_map (λ o. checking o)
-        (complete_check names.entry.drawing.now names.entry.file.now names.entry.cert.now
-        (format_of (map (λ f. meaning f) formats.old) names.entry.file.now)))
+        (complete_check names.entry.drawing.now names.entry.design.now names.entry.cert.now
+        (format_of (map (λ f. meaning f) formats.old) names.entry.design.now)))
         (S.view store.old) (S.view store.new) result }
     ensures same { map (λ f. meaning f) formats.new ≡ map (λ f. meaning f) formats.old }
 {
-    match find(formats, names.file) {
+    match find(formats, names.design) {
         Some(place) => check_by(alloc, names, formats, place, store),
         None => Err(Failure::BadArguments),
     }
@@ -47,12 +47,12 @@ pub(crate) fn check<'a, S: Store>(
 /// Checks by the format of the design, given by its index.
 fn check_by<'a, S: Store>(
     alloc: Global,
-    names: CheckNames<'a>,
+    names: RouteNames<'a>,
     formats: &mut [Box<dyn Format>],
     place: usize,
     store: &mut S,
-) -> Result<Product<'a>, Failure<'a>>
-    requires names { AreCheckNames names }
+) -> Made<'a>
+    requires names { AreRouteNames names }
     requires place { place < length formats.old }
     ensures prepares { (m : Meaning) → slice_get (map (λ f. meaning f) formats.old) place ≡ Some m
         → RunsPlan (check_plan (check_order names.entry m)) (S.view store.old) (S.view store.new) result }
@@ -64,31 +64,31 @@ fn check_by<'a, S: Store>(
 
 fn check_file<'a, S: Store>(
     alloc: Global,
-    names: CheckNames<'a>,
+    names: RouteNames<'a>,
     formats: &mut [Box<dyn Format>],
     place: usize,
     drawing: &Drawing,
     store: &mut S,
-) -> Result<Product<'a>, Failure<'a>>
-    requires names { AreCheckNames names }
+) -> Made<'a>
+    requires names { AreRouteNames names }
     requires place { place < length formats.old }
     ensures prepares { (m : Meaning) → slice_get (map (λ f. meaning f) formats.old) place ≡ Some m
         → RunsPlan (check_drawing (check_order names.entry m) (Ok drawing.now))
         (S.view store.old) (S.view store.new) result }
     ensures same { map (λ f. meaning f) formats.new ≡ map (λ f. meaning f) formats.old }
 {
-    let loaded = load_at(alloc, formats, place, store, names.file)?;
+    let loaded = load_at(alloc, formats, place, store, names.design)?;
     check_loaded(alloc, names, drawing, &loaded, store)
 }
 
 fn check_loaded<'a, S: Store>(
     alloc: Global,
-    names: CheckNames<'a>,
+    names: RouteNames<'a>,
     drawing: &Drawing,
     loaded: &Loaded,
     store: &mut S,
-) -> Result<Product<'a>, Failure<'a>>
-    requires names { AreCheckNames names }
+) -> Made<'a>
+    requires names { AreRouteNames names }
     ensures { (m : Meaning) → RunsPlan (check_design (check_order names.entry m) drawing.now
         (Ok loaded.now)) (S.view store.old) (S.view store.new) result }
 {
@@ -98,11 +98,11 @@ fn check_loaded<'a, S: Store>(
 
 fn check_text<'a>(
     alloc: Global,
-    names: CheckNames<'a>,
+    names: RouteNames<'a>,
     drawing: &Drawing,
     design: &Design,
     bytes: &[u8],
-) -> Result<Product<'a>, Failure<'a>>
+) -> Made<'a>
     requires short { length bytes.now ≤ MAX_FILE }
     ensures { (m : Meaning) → RunsPurePlan (check_cert (check_order names.entry m) drawing.now
         design.now (cert_of bytes.now)) result }
@@ -122,12 +122,7 @@ fn bad_line<'a>(alloc: Global, name: &str, number: u32) -> Failure<'a>
 }
 
 /// Returns the product of the verdict, or the failure of the check.
-fn judged<'a>(
-    alloc: Global,
-    drawing: &Drawing,
-    design: &Design,
-    cert: &Cert,
-) -> Result<Product<'a>, Failure<'a>>
+fn judged<'a>(alloc: Global, drawing: &Drawing, design: &Design, cert: &Cert) -> Made<'a>
     requires few { length cert.now.pieces < 2 ^ 32 - 1 }
     requires short { All HasShortLists cert.now.pieces }
     ensures { RunsPurePlan (satisfies (IsCheckResult drawing.now design.now cert.now.pieces)) result }

@@ -14,7 +14,7 @@ use command_words::{Request, request};
 use design_changes::Changes;
 use format_traits::Format;
 use outside_io::Store;
-use program_shell::{Failure, Product};
+use program_shell::{Failure, Made};
 use route_texts::Sewing;
 use std::alloc::Global;
 
@@ -24,7 +24,7 @@ pub(crate) fn make_product<'a, S: Store>(
     words: &'a [String],
     formats: &mut [Box<dyn Format>],
     store: &mut S,
-) -> Result<Product<'a>, Failure<'a>>
+) -> Made<'a>
     ensures answers { RunsRequest stitch
         (order_of (map (λ f. meaning f) formats.old) (map string_bytes words.now))
         (S.view store.old) (S.view store.new) result }
@@ -56,8 +56,8 @@ pub(crate) fn make_product<'a, S: Store>(
             },
         ) => hoop(alloc, file, width, height, formats, store),
         Some(Request::Sample { number, drawing }) => sample(alloc, number, drawing),
-        Some(Request::Migrate { input, output }) => migrate(alloc, input, output, store),
-        Some(Request::Trace { file, drawing }) => trace_file(alloc, file, drawing, formats, store),
+        Some(Request::Migrate(names)) => migrate(alloc, names, store),
+        Some(Request::Trace(names)) => trace_file(alloc, names, formats, store),
         None => Err(Failure::BadArguments),
     }
 }

@@ -9,7 +9,7 @@ ghost use Rattle.stitch_cli.specs.Hoops.{complete_hoop, hoop_fitted, hoop_order,
 use format_traits::{Format, find};
 use hoop_check::{Fit, fits};
 use outside_io::Store;
-use program_shell::{Failure, Product, bytes_of, load_at, only_report};
+use program_shell::{Failure, Made, bytes_of, load_at, only_report};
 use program_texts::describe_too_large;
 use std::alloc::Global;
 
@@ -21,7 +21,7 @@ pub(crate) fn hoop<'a, S: Store>(
     height: u32,
     formats: &mut [Box<dyn Format>],
     store: &mut S,
-) -> Result<Product<'a>, Failure<'a>>
+) -> Made<'a>
     requires { IsFileName file.now }
     ensures answers { RunsRequest stitch (option_map (λ o. hooping o) (complete_hoop file.now width height
         (format_of (map (λ f. meaning f) formats.old) file.now)))
@@ -43,7 +43,7 @@ fn hoop_by<'a, S: Store>(
     width: u32,
     height: u32,
     store: &mut S,
-) -> Result<Product<'a>, Failure<'a>>
+) -> Made<'a>
     requires name { IsFileName file.now }
     requires place { place < length formats.old }
     ensures prepares { (m : Meaning) → slice_get (map (λ f. meaning f) formats.old) place ≡ Some m
@@ -55,7 +55,7 @@ fn hoop_by<'a, S: Store>(
     fitted(alloc, fits(&loaded.design, width, height))
 }
 
-fn fitted<'a>(alloc: Global, fit: Fit) -> Result<Product<'a>, Failure<'a>>
+fn fitted<'a>(alloc: Global, fit: Fit) -> Made<'a>
     ensures { RunsPurePlan (hoop_fitted fit) result }
 {
     match fit {

@@ -1,53 +1,43 @@
 ghost use Rattle.std.specs.Prelude.{IfOk, option_map};
 ghost use Rattle.drawing_text.specs.DrawingText.{IsJoinedWithoutEnds};
-ghost use Rattle.outside_io.specs.Files.{IsFileName};
+ghost use Rattle.command_words.specs.ValidNames.{AreFileNames};
 ghost use Rattle.program_shell.specs.StepOutcomes.{RunsPlan, RunsRequest};
 ghost use Rattle.stitch_cli.specs.Commands.{stitch, migrating};
 ghost use Rattle.stitch_cli.specs.Migrations.{IsMigrated, complete_migrate, migrate_order, migrate_plan};
 ghost use Rattle.program_shell.specs.Products.{product_value};
 
+use command_words::FileNames;
 use drawing_inputs::drawing_as2_in;
-use drawing_model::{Drawing, drawing_cost};
+use drawing_model::Drawing;
 use drawing_text::print_drawing2;
 use line_graph::pieces;
 use lists_and_numbers::Memory;
 use outside_io::Store;
-use program_shell::{Failure, Output, Product, one_output};
+use program_shell::{Failure, Made, Product, one_output};
 use program_texts::print_migration;
 use std::alloc::Global;
 
 /// Rewrites a drawing as the canonical text of version 2, and reports on it.
-pub(crate) fn migrate<'a, S: Store>(
-    alloc: Global,
-    input: &'a str,
-    output: &'a str,
-    store: &mut S,
-) -> Result<Product<'a>, Failure<'a>>
-    requires input { IsFileName input.now }
-    requires output { IsFileName output.now }
-    ensures { RunsRequest stitch (option_map (λ o. migrating o) (complete_migrate input.now output.now))
+pub(crate) fn migrate<'a, S: Store>(alloc: Global, names: FileNames<'a>, store: &mut S) -> Made<'a>
+    requires { AreFileNames names }
+    ensures { RunsRequest stitch (option_map (λ o. migrating o)
+        (complete_migrate names.entry.input.now names.entry.output.now))
         (S.view store.old) (S.view store.new) result }
 {
-    if input == output {
+    if names.input == names.output {
         return Err(Failure::BadArguments);
     }
-    migrate_apart(alloc, input, output, store)
+    migrate_apart(alloc, names, store)
 }
 
 /// Rewrites a drawing to a file of another name.
-fn migrate_apart<'a, S: Store>(
-    alloc: Global,
-    input: &'a str,
-    output: &'a str,
-    store: &mut S,
-) -> Result<Product<'a>, Failure<'a>>
-    requires input { IsFileName input.now }
-    requires output { IsFileName output.now }
-    ensures { RunsPlan (migrate_plan (migrate_order input.now output.now))
+fn migrate_apart<'a, S: Store>(alloc: Global, names: FileNames<'a>, store: &mut S) -> Made<'a>
+    requires { AreFileNames names }
+    ensures { RunsPlan (migrate_plan (migrate_order names.entry.input.now names.entry.output.now))
         (S.view store.old) (S.view store.new) result }
 {
-    let drawing = drawing_as2_in(alloc, store, input)?;
-    let product = migrated(alloc, output, &drawing)?;
+    let drawing = drawing_as2_in(alloc, store, names.input)?;
+    let product = migrated(alloc, names.output, &drawing)?;
     Ok(product)
 }
 
@@ -56,17 +46,8 @@ fn migrated<'a>(alloc: Global, output: &'a str, drawing: &Drawing) -> Result<Pro
     ensures { IfOk result (λ product. IsMigrated output.now drawing.now (product_value product)) }
 {
     let pieces = pieces(alloc, drawing)?;
-    let report = print_migration(
-        alloc,
-        drawing.line_count(),
-        pieces.len(),
-        drawing_cost(drawing),
-    )?;
+    let report = print_migration(alloc, drawing, pieces.len())?;
     let content = print_drawing2(alloc, drawing)?;
-    let written = Output {
-        name: output,
-        content,
-    };
-    let product = one_output(alloc, written, report)?;
+    let product = one_output(alloc, output, content, report)?;
     Ok(product)
 }

@@ -1,5 +1,5 @@
 ghost use Rattle.std.specs.Prelude.{◌≡◌, ◌<◌, IfOk, Some, length, map, option_map, slice_get, string_bytes};
-ghost use Rattle.command_words.specs.ValidRequests.{AreRewriteNames};
+ghost use Rattle.command_words.specs.ValidNames.{AreFileNames};
 ghost use Rattle.format_traits.specs.Endings.{format_of};
 ghost use Rattle.format_traits.specs.Meanings.{Meaning};
 ghost use Rattle.outside_io.specs.Files.{IsFileName};
@@ -10,13 +10,13 @@ ghost use Rattle.stitch_cli.specs.RewriteSteps.{IsChangeFailure, IsEncodeResult}
 ghost use Rattle.stitch_cli.specs.Rewrites.{IsRewriteResult, change_text, complete_rewrite, rewrite_order, rewrite_plan};
 ghost use Rattle.program_shell.specs.Plans.{satisfies};
 
-use command_words::RewriteNames;
+use command_words::FileNames;
 use design_changes::{ChangeFailure, ChangeFault, Changes, changed};
 use design_model::{Design, counts};
 use format_traits::{Format, Loaded, WriteFault, encode_by, find, limit_of};
 use lists_and_numbers::Memory;
 use outside_io::Store;
-use program_shell::{Failure, Output, Product, format_at, load_at, one_output};
+use program_shell::{Failure, Made, format_at, load_at, one_output, refused};
 use program_texts::{describe_command, describe_no_place, describe_write_fault, print_written};
 use std::alloc::Global;
 
@@ -30,12 +30,12 @@ struct FormatIndexes {
 /// Reads the design of a file, changes it, and encodes it as another file.
 pub(crate) fn rewrite<'a, S: Store>(
     alloc: Global,
-    names: RewriteNames<'a>,
+    names: FileNames<'a>,
     changes: &Changes<'_>,
     formats: &mut [Box<dyn Format>],
     store: &mut S,
-) -> Result<Product<'a>, Failure<'a>>
-    requires names { AreRewriteNames names }
+) -> Made<'a>
+    requires names { AreFileNames names }
     requires changes { AreValidChanges changes.now }
     ensures answers { RunsRequest stitch (option_map (λ o. rewriting o)
         (complete_rewrite names.entry.input.now names.entry.output.now (change_list changes.now)
@@ -60,13 +60,13 @@ pub(crate) fn rewrite<'a, S: Store>(
 /// Rewrites a file by the two formats, given by their indexes. They may be one.
 fn rewrite_by<'a, S: Store>(
     alloc: Global,
-    names: RewriteNames<'a>,
+    names: FileNames<'a>,
     formats: &mut [Box<dyn Format>],
     places: FormatIndexes,
     changes: &Changes<'_>,
     store: &mut S,
-) -> Result<Product<'a>, Failure<'a>>
-    requires names { AreRewriteNames names }
+) -> Made<'a>
+    requires names { AreFileNames names }
     requires source { places.source < length formats.old }
     requires target { places.target < length formats.old }
     requires changes { AreValidChanges changes.now }
@@ -89,12 +89,12 @@ fn rewrite_by<'a, S: Store>(
 
 fn rewrite_loaded<'a>(
     alloc: Global,
-    names: RewriteNames<'a>,
+    names: FileNames<'a>,
     loaded: Loaded,
     target: &Box<dyn Format>,
     changes: &Changes<'_>,
-) -> Result<Product<'a>, Failure<'a>>
-    requires names { AreRewriteNames names }
+) -> Made<'a>
+    requires names { AreFileNames names }
     requires changes { AreValidChanges changes.now }
     ensures { (source : Meaning) → RunsPurePlan (satisfies
         (IsRewriteResult (rewrite_order names.entry source (meaning target.now)
@@ -107,7 +107,7 @@ fn rewrite_loaded<'a>(
     }
 }
 
-fn change_failure<'a>(alloc: Global, names: RewriteNames<'_>, why: ChangeFailure) -> Failure<'a>
+fn change_failure<'a>(alloc: Global, names: FileNames<'_>, why: ChangeFailure) -> Failure<'a>
     ensures { IsChangeFailure names.entry.input.now names.entry.output.now why result }
 {
     match why {
@@ -117,18 +117,15 @@ fn change_failure<'a>(alloc: Global, names: RewriteNames<'_>, why: ChangeFailure
 }
 
 /// Returns the refusal of a change, or out of memory.
-fn change_refused<'a>(alloc: Global, names: RewriteNames<'_>, fault: ChangeFault) -> Failure<'a>
+fn change_refused<'a>(alloc: Global, names: FileNames<'_>, fault: ChangeFault) -> Failure<'a>
     ensures { IsRefusalWith (change_text names.entry.input.now names.entry.output.now fault) result }
 {
-    match describe_change(alloc, names, fault) {
-        Ok(text) => Failure::Refused(text),
-        Err(Memory) => Failure::Memory,
-    }
+    refused(describe_change(alloc, names, fault))
 }
 
 fn describe_change(
     alloc: Global,
-    names: RewriteNames<'_>,
+    names: FileNames<'_>,
     fault: ChangeFault,
 ) -> Result<String, Memory>
     ensures { IfOk result (λ text. string_bytes text
@@ -156,14 +153,14 @@ fn encoded_product<'a>(
     name: &'a str,
     target: &Box<dyn Format>,
     design: &Design,
-) -> Result<Product<'a>, Failure<'a>>
+) -> Made<'a>
     requires { IsFileName name.now }
     ensures { RunsPurePlan (satisfies (IsEncodeResult name.now (meaning target.now) design.now)) result }
 {
     match encode_by(alloc, target, design) {
         Ok(content) => {
             let report = print_written(alloc, counts(design))?;
-            let product = one_output(alloc, Output { name, content }, report)?;
+            let product = one_output(alloc, name, content, report)?;
             Ok(product)
         }
         Err(WriteFault::Memory) => Err(Failure::Memory),

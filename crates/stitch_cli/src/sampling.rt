@@ -11,18 +11,14 @@ use drawing_model::Drawing;
 use drawing_text::print_drawing;
 use line_graph::pieces;
 use lists_and_numbers::Memory;
-use program_shell::{Failure, Output, Product, one_output};
+use program_shell::{Made, Product, one_output};
 use route_core::route_pieces;
 use route_texts::{print_summary, summary_of};
 use sample_drawings::sample_drawing;
 use std::alloc::Global;
 
 /// Makes the sample drawing of a number, and a summary of a route of it.
-pub(crate) fn sample<'a>(
-    alloc: Global,
-    number: u32,
-    name: &'a str,
-) -> Result<Product<'a>, Failure<'a>>
+pub(crate) fn sample<'a>(alloc: Global, number: u32, name: &'a str) -> Made<'a>
     requires low { 1 ≤ number }
     requires high { number ≤ MAX_NUMBER }
     requires name { IsFileName name.now }
@@ -63,11 +59,8 @@ fn reported<'a>(
         pieces.as_slice(),
         routed.cert.pieces.as_slice(),
     )?;
-    let output = Output {
-        name,
-        content: print_drawing(alloc, drawing)?,
-    };
+    let content = print_drawing(alloc, drawing)?;
     let report = print_summary(alloc, summary)?;
-    let product = one_output(alloc, output, report)?;
+    let product = one_output(alloc, name, content, report)?;
     Ok(product)
 }

@@ -1,6 +1,6 @@
 ghost use Rattle.std.specs.Prelude.{◌≡◌, ◌≢◌, ◌≤◌, IfOk, map, option_map};
 ghost use Rattle.std.specs.Bool.{OnTrue};
-ghost use Rattle.command_words.specs.ValidRequests.{AreRouteNames};
+ghost use Rattle.command_words.specs.ValidNames.{AreRouteNames};
 ghost use Rattle.format_traits.specs.declared.format_object.TheConstants.{MIN_LIMIT};
 ghost use Rattle.format_traits.specs.Endings.{format_of};
 ghost use Rattle.format_traits.specs.PlainDesigns.{IsPlain};
@@ -21,7 +21,7 @@ use format_traits::{Format, WriteFault, encode_by, ext_of, find, limit_of};
 use line_graph::{Piece, pieces, runs_are_sewn};
 use lists_and_numbers::{Bytes, Memory};
 use outside_io::Store;
-use program_shell::{Failure, Output, Product, format_at, two_outputs};
+use program_shell::{Failure, Made, Output, Product, format_at, two_outputs};
 use program_texts::describe_step;
 use route_core::{Routed, double_pieces, route_pieces};
 use route_texts::{Sewing, print_sewing};
@@ -34,28 +34,28 @@ pub(crate) fn sew<'a, S: Store>(
     names: RouteNames<'a>,
     formats: &[Box<dyn Format>],
     store: &mut S,
-) -> Result<Product<'a>, Failure<'a>>
+) -> Made<'a>
     requires { AreRouteNames names }
     ensures { RunsRequest stitch (option_map (λ o. sewing way o)
-        (complete_sewing names.entry.drawing.now names.entry.out.now names.entry.cert.now
-        (format_of (map (λ f. meaning f) formats.now) names.entry.out.now)))
+        (complete_sewing names.entry.drawing.now names.entry.design.now names.entry.cert.now
+        (format_of (map (λ f. meaning f) formats.now) names.entry.design.now)))
         (S.view store.old) (S.view store.new) result }
 {
     if !are_apart(names) {
         return Err(Failure::BadArguments);
     }
-    match find(formats, names.out) {
+    match find(formats, names.design) {
         Some(place) => sew_by(alloc, way, names, format_at(formats, place), store),
         None => Err(Failure::BadArguments),
     }
 }
 
 fn are_apart(names: RouteNames<'_>) -> bool
-    ensures value { result ≡ names_differ names.entry.drawing.now names.entry.out.now
+    ensures value { result ≡ names_differ names.entry.drawing.now names.entry.design.now
         names.entry.cert.now }
-    ensures written { OnTrue result (names.entry.cert.now ≢ names.entry.out.now) }
+    ensures written { OnTrue result (names.entry.cert.now ≢ names.entry.design.now) }
 {
-    names.drawing != names.out && names.drawing != names.cert && names.out != names.cert
+    names.drawing != names.design && names.drawing != names.cert && names.design != names.cert
 }
 
 /// Reads the drawing, and sews it by a format.
@@ -65,9 +65,9 @@ fn sew_by<'a, S: Store>(
     names: RouteNames<'a>,
     format: &Box<dyn Format>,
     store: &mut S,
-) -> Result<Product<'a>, Failure<'a>>
+) -> Made<'a>
     requires names { AreRouteNames names }
-    requires apart { names.cert.now ≢ names.out.now }
+    requires apart { names.cert.now ≢ names.design.now }
     ensures { RunsPlan (sewing_plan (IsSewnBy way) (sewing_order names.entry (meaning format.now)))
         (S.view store.old) (S.view store.new) result }
 {
@@ -81,9 +81,9 @@ fn sew_drawing<'a>(
     names: RouteNames<'a>,
     format: &Box<dyn Format>,
     drawing: &Drawing,
-) -> Result<Product<'a>, Failure<'a>>
+) -> Made<'a>
     requires names { AreRouteNames names }
-    requires apart { names.cert.now ≢ names.out.now }
+    requires apart { names.cert.now ≢ names.design.now }
     ensures { RunsPurePlan (sewing_drawing (IsSewnBy way) (sewing_order names.entry (meaning format.now))
         drawing.now) result }
 {
@@ -148,14 +148,14 @@ fn sewn_product<'a>(
       name = names.entry.cert.now;
       content = cert_text;
     })
-        (record { name = names.entry.out.now; content = design_file }) report) }
+        (record { name = names.entry.design.now; content = design_file }) report) }
 {
     let first = Output {
         name: names.cert,
         content: cert_text,
     };
     let second = Output {
-        name: names.out,
+        name: names.design,
         content: design_file,
     };
     let product = two_outputs(alloc, first, second, report)?;

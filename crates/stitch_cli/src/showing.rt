@@ -8,7 +8,7 @@ ghost use Rattle.stitch_cli.specs.Shows.{complete_show, show_order, show_plan, s
 
 use format_traits::{Format, Loaded, ext_of, find};
 use outside_io::Store;
-use program_shell::{Failure, Product, format_at, load_at, only_report};
+use program_shell::{Failure, Made, format_at, load_at, only_report};
 use program_texts::print_loaded;
 use std::alloc::Global;
 
@@ -18,7 +18,7 @@ pub(crate) fn show<'a, S: Store>(
     file: &'a str,
     formats: &mut [Box<dyn Format>],
     store: &mut S,
-) -> Result<Product<'a>, Failure<'a>>
+) -> Made<'a>
     requires { IsFileName file.now }
     ensures answers { RunsRequest stitch (option_map (λ o. showing o) (complete_show file.now
         (format_of (map (λ f. meaning f) formats.old) file.now)))
@@ -38,7 +38,7 @@ fn show_by<'a, S: Store>(
     formats: &mut [Box<dyn Format>],
     place: usize,
     store: &mut S,
-) -> Result<Product<'a>, Failure<'a>>
+) -> Made<'a>
     requires name { IsFileName file.now }
     requires place { place < length formats.old }
     ensures prepares { (m : Meaning) → slice_get (map (λ f. meaning f) formats.old) place ≡ Some m
@@ -49,12 +49,7 @@ fn show_by<'a, S: Store>(
     shown(alloc, file, format_at(formats, place), &loaded)
 }
 
-fn shown<'a>(
-    alloc: Global,
-    file: &'a str,
-    format: &Box<dyn Format>,
-    loaded: &Loaded,
-) -> Result<Product<'a>, Failure<'a>>
+fn shown<'a>(alloc: Global, file: &'a str, format: &Box<dyn Format>, loaded: &Loaded) -> Made<'a>
     ensures { RunsPurePlan (show_read (show_order file.now (meaning format.now)) (Ok loaded.now)) result }
 {
     let report = print_loaded(alloc, ext_of(format), loaded)?;

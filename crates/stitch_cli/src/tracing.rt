@@ -2,7 +2,7 @@ ghost use Rattle.std.specs.Prelude.{◌≡◌, ◌<◌, IfOk, Some, length, map,
 ghost use Rattle.format_traits.specs.Endings.{format_of};
 ghost use Rattle.format_traits.specs.Meanings.{Meaning};
 ghost use Rattle.drawing_text.specs.DrawingText.{IsJoinedWithoutEnds};
-ghost use Rattle.outside_io.specs.Files.{IsFileName};
+ghost use Rattle.command_words.specs.ValidNames.{AreFileNames};
 ghost use Rattle.program_texts.specs.DrawingTexts.{trace_fault_text};
 ghost use Rattle.stitch_trace.specs.Traces.{traced};
 ghost use Rattle.program_shell.specs.StepOutcomes.{IsRefusalWith, RunsPlan, RunsPurePlan, RunsRequest};
@@ -10,13 +10,14 @@ ghost use Rattle.stitch_cli.specs.Commands.{stitch, tracing};
 ghost use Rattle.program_shell.specs.Products.{product_value};
 ghost use Rattle.stitch_cli.specs.Tracings.{IsTraced, complete_trace, trace_made, trace_order, trace_plan};
 
+use command_words::FileNames;
 use design_model::Design;
 use drawing_model::Drawing;
 use drawing_text::print_drawing2;
 use format_traits::{Format, find};
 use lists_and_numbers::Memory;
 use outside_io::Store;
-use program_shell::{Failure, Output, Product, load_at, one_output};
+use program_shell::{Failure, Made, Product, load_at, one_output, refused};
 use program_texts::{describe_trace_fault, print_tracing};
 use std::alloc::Global;
 use stitch_trace::{TraceFault, trace};
@@ -24,23 +25,22 @@ use stitch_trace::{TraceFault, trace};
 /// Traces the drawing of what a file sews: makes the canonical text of version 2, and a report on it.
 pub(crate) fn trace_file<'a, S: Store>(
     alloc: Global,
-    file: &'a str,
-    drawing: &'a str,
+    names: FileNames<'a>,
     formats: &mut [Box<dyn Format>],
     store: &mut S,
-) -> Result<Product<'a>, Failure<'a>>
-    requires file { IsFileName file.now }
-    requires drawing { IsFileName drawing.now }
-    ensures answers { RunsRequest stitch (option_map (λ o. tracing o) (complete_trace file.now drawing.now
-        (format_of (map (λ f. meaning f) formats.old) file.now)))
+) -> Made<'a>
+    requires { AreFileNames names }
+    ensures answers { RunsRequest stitch (option_map (λ o. tracing o) (complete_trace names.entry.input.now
+        names.entry.output.now
+        (format_of (map (λ f. meaning f) formats.old) names.entry.input.now)))
         (S.view store.old) (S.view store.new) result }
     ensures same { map (λ f. meaning f) formats.new ≡ map (λ f. meaning f) formats.old }
 {
-    if file == drawing {
+    if names.input == names.output {
         return Err(Failure::BadArguments);
     }
-    match find(formats, file) {
-        Some(place) => trace_by(alloc, file, drawing, formats, place, store),
+    match find(formats, names.input) {
+        Some(place) => trace_by(alloc, names, formats, place, store),
         None => Err(Failure::BadArguments),
     }
 }
@@ -48,42 +48,35 @@ pub(crate) fn trace_file<'a, S: Store>(
 /// Traces a file by its format, given by its index.
 fn trace_by<'a, S: Store>(
     alloc: Global,
-    file: &'a str,
-    drawing: &'a str,
+    names: FileNames<'a>,
     formats: &mut [Box<dyn Format>],
     place: usize,
     store: &mut S,
-) -> Result<Product<'a>, Failure<'a>>
-    requires file { IsFileName file.now }
-    requires drawing { IsFileName drawing.now }
+) -> Made<'a>
+    requires names { AreFileNames names }
     requires place { place < length formats.old }
     ensures prepares { (m : Meaning) → slice_get (map (λ f. meaning f) formats.old) place ≡ Some m
-        → RunsPlan (trace_plan (trace_order file.now drawing.now m)) (S.view store.old) (S.view store.new)
+        → RunsPlan (trace_plan (trace_order names.entry.input.now names.entry.output.now m)) (S.view store.old) (S.view store.new)
         result }
     ensures same { map (λ f. meaning f) formats.new ≡ map (λ f. meaning f) formats.old }
 {
-    let loaded = load_at(alloc, formats, place, store, file)?;
-    trace_design(alloc, file, drawing, &loaded.design)
+    let loaded = load_at(alloc, formats, place, store, names.input)?;
+    trace_design(alloc, names, &loaded.design)
 }
 
-fn trace_design<'a>(
-    alloc: Global,
-    file: &'a str,
-    drawing: &'a str,
-    design: &Design,
-) -> Result<Product<'a>, Failure<'a>>
-    requires { IsFileName drawing.now }
+fn trace_design<'a>(alloc: Global, names: FileNames<'a>, design: &Design) -> Made<'a>
+    requires { AreFileNames names }
     ensures { (m : Meaning) → RunsPurePlan
-        (trace_made (trace_order file.now drawing.now m) (traced design.now))
+        (trace_made (trace_order names.entry.input.now names.entry.output.now m) (traced design.now))
         result }
 {
     match trace(alloc, design) {
         Ok(lines) => {
-            let product = traced_product(alloc, drawing, &lines)?;
+            let product = traced_product(alloc, names.output, &lines)?;
             Ok(product)
         }
         Err(TraceFault::Memory) => Err(Failure::Memory),
-        Err(fault) => Err(not_traceable(alloc, file, fault)),
+        Err(fault) => Err(not_traceable(alloc, names.input, fault)),
     }
 }
 
@@ -91,10 +84,7 @@ fn trace_design<'a>(
 fn not_traceable<'a>(alloc: Global, file: &str, fault: TraceFault) -> Failure<'a>
     ensures { IsRefusalWith (trace_fault_text file.now fault) result }
 {
-    match describe_trace_fault(alloc, file, fault) {
-        Ok(text) => Failure::Refused(text),
-        Err(Memory) => Failure::Memory,
-    }
+    refused(describe_trace_fault(alloc, file, fault))
 }
 
 fn traced_product<'a>(
@@ -107,6 +97,6 @@ fn traced_product<'a>(
 {
     let report = print_tracing(alloc, drawing)?;
     let content = print_drawing2(alloc, drawing)?;
-    let product = one_output(alloc, Output { name, content }, report)?;
+    let product = one_output(alloc, name, content, report)?;
     Ok(product)
 }

@@ -1,2 +1,1 @@
 -- Formats at places of a list.
-use Rattle.std.proofs.Common.{◌≡◌, ℕ, ◌∙◌}

@@ -1,8 +1,7 @@
 -- What the arguments of stitch_picture request: the picture of a file, with the two sides of a hoop
 -- or none, or the picture of a proof.
-use Rattle.std.specs.Prelude.{ℕ, zero, suc, ℤ, pos, negsuc, ◌-◌, Bool, ◌&&◌, not, List, [], ◌∷◌, Option, Some, None, bytes_eq, codes, drop, length, nat_le, if◌then◌else◌}
-use Rattle.lists_and_numbers.specs.declared.whole_number.Whole.{Whole}
-use Rattle.lists_and_numbers.specs.declared.whole_number.Whole.TheVariants as whole
+use Rattle.std.specs.Prelude.{ℕ, ◌-◌, Bool, ◌&&◌, not, List, [], ◌∷◌, Option, Some, None, bytes_eq, codes, drop, length, if◌then◌else◌}
+use Rattle.command_words.specs.Arguments.{natural_within}
 use Rattle.lists_and_numbers.specs.WholeNumbers.{parsed_whole}
 use Rattle.design_picture.specs.declared.hoop.Hoop.{Hoop}
 use Rattle.outside_io.specs.Files.{IsFileName, is_file_name}
@@ -86,21 +85,9 @@ proof_request drawing cert output =
     && not (bytes_eq drawing output) && not (bytes_eq cert output)
     then Some (proof (record { drawing = drawing; cert = cert; output = output })) else None
 
--- The side that a number stands for, from 1 to the greatest.
-abbrev pub side_of_number : ℤ → Option ℕ
-side_of_number (pos zero) = None
-side_of_number (pos (suc n)) = if nat_le (suc n) MAX_HOOP_SIDE then Some (suc n) else None
-side_of_number (negsuc n) = None
-
--- The side of a parsed number.
-abbrev pub side_of_whole : Whole → Option ℕ
-side_of_whole (whole.Value z) = side_of_number z
-side_of_whole whole.Outside = None
-side_of_whole whole.NotANumber = None
-
--- The side that an argument stands for, in tenths of a millimetre.
+-- The side that an argument stands for, in tenths of a millimetre, from 1 to the greatest.
 abbrev pub side_word : List ℕ → Option ℕ
-side_word word = side_of_whole (parsed_whole word)
+side_word word = natural_within 1 MAX_HOOP_SIDE (parsed_whole word)
 
 -- The hoop of two sides, if there are both.
 abbrev pub hoop_of_sides : Option ℕ → Option ℕ → Option Hoop

@@ -10,7 +10,7 @@ use design_picture::picture;
 use format_traits::{Format, Loaded};
 use lists_and_numbers::Bytes;
 use outside_io::Store;
-use program_shell::{Failure, Output, Product, format_at, load_at, one_output};
+use program_shell::{Made, format_at, load_at, one_output};
 use std::alloc::Global;
 
 /// Makes the picture of the design in a file. `place` is the index of the format of the file.
@@ -20,7 +20,7 @@ pub(crate) fn draw<'a, S: Store>(
     formats: &mut [Box<dyn Format>],
     place: usize,
     store: &mut S,
-) -> Result<Product<'a>, Failure<'a>>
+) -> Made<'a>
     requires names { AreFileNames names }
     requires place { place < length formats.old }
     ensures prepares { (m : Meaning) → slice_get (map (λ f. meaning f) formats.old) place ≡ Some m
@@ -37,16 +37,12 @@ fn drawn<'a>(
     names: FileNames<'a>,
     format: &Box<dyn Format>,
     loaded: &Loaded,
-) -> Result<Product<'a>, Failure<'a>>
+) -> Made<'a>
     requires names { AreFileNames names }
     ensures { RunsPurePlan (picture_read (order_made (requested_file names.entry) (meaning format.now))
         (Ok loaded.now)) result }
 {
     let text = picture(alloc, &loaded.design, names.hoop)?;
-    let output = Output {
-        name: names.output,
-        content: text,
-    };
-    let product = one_output(alloc, output, Bytes::new(alloc))?;
+    let product = one_output(alloc, names.output, text, Bytes::new(alloc))?;
     Ok(product)
 }

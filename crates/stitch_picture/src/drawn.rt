@@ -9,7 +9,7 @@ use drawing_inputs::{LinesRead, lines_in};
 use drawing_picture::picture_of_drawing;
 use lists_and_numbers::Bytes;
 use outside_io::Store;
-use program_shell::{Failure, Output, Product, one_output};
+use program_shell::{Made, one_output};
 use std::alloc::Global;
 
 /// Makes the picture of a drawing.
@@ -17,7 +17,7 @@ pub(crate) fn draw_lines<'a, S: Store>(
     alloc: Global,
     names: FileNames<'a>,
     store: &mut S,
-) -> Result<Product<'a>, Failure<'a>>
+) -> Made<'a>
     requires { AreFileNames names }
     ensures { RunsPlan (drawn_plan (drawn_order (requested_file names.entry))) (S.view store.old)
         (S.view store.new) result }
@@ -26,19 +26,11 @@ pub(crate) fn draw_lines<'a, S: Store>(
     lines_drawn(alloc, names, &read)
 }
 
-fn lines_drawn<'a>(
-    alloc: Global,
-    names: FileNames<'a>,
-    read: &LinesRead,
-) -> Result<Product<'a>, Failure<'a>>
+fn lines_drawn<'a>(alloc: Global, names: FileNames<'a>, read: &LinesRead) -> Made<'a>
     requires { AreFileNames names }
     ensures { RunsPurePlan (drawn_read (drawn_order (requested_file names.entry)) (Ok read.now)) result }
 {
     let text = picture_of_drawing(alloc, &read.drawing, read.drawn.drawing.lines())?;
-    let output = Output {
-        name: names.output,
-        content: text,
-    };
-    let product = one_output(alloc, output, Bytes::new(alloc))?;
+    let product = one_output(alloc, names.output, text, Bytes::new(alloc))?;
     Ok(product)
 }

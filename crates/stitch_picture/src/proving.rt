@@ -16,16 +16,12 @@ use drawing_picture::{ProofFault, picture_of_proof};
 use lists_and_numbers::Bytes;
 use odd_cuts::Cert;
 use outside_io::Store;
-use program_shell::{Failure, Output, Product, one_output, read_input, refused_part};
+use program_shell::{Failure, Made, one_output, read_input, refused_part};
 use route_texts::describe_reason;
 use std::alloc::Global;
 
 /// Makes the picture of the proof that a certificate is of a drawing. Reads the drawing, then the certificate.
-pub(crate) fn prove<'a, S: Store>(
-    alloc: Global,
-    names: ProofNames<'a>,
-    store: &mut S,
-) -> Result<Product<'a>, Failure<'a>>
+pub(crate) fn prove<'a, S: Store>(alloc: Global, names: ProofNames<'a>, store: &mut S) -> Made<'a>
     requires { AreProofNames names }
     ensures { RunsPlan (proof_plan (proof_order names.entry)) (S.view store.old) (S.view store.new) result }
 {
@@ -38,7 +34,7 @@ fn prove_drawing<'a, S: Store>(
     names: ProofNames<'a>,
     drawing: &Drawing,
     store: &mut S,
-) -> Result<Product<'a>, Failure<'a>>
+) -> Made<'a>
     requires { AreProofNames names }
     ensures { RunsPlan (proof_drawing (proof_order names.entry) (Ok drawing.now)) (S.view store.old)
         (S.view store.new) result }
@@ -47,12 +43,7 @@ fn prove_drawing<'a, S: Store>(
     prove_text(alloc, names, drawing, bytes.as_slice())
 }
 
-fn prove_text<'a>(
-    alloc: Global,
-    names: ProofNames<'a>,
-    drawing: &Drawing,
-    bytes: &[u8],
-) -> Result<Product<'a>, Failure<'a>>
+fn prove_text<'a>(alloc: Global, names: ProofNames<'a>, drawing: &Drawing, bytes: &[u8]) -> Made<'a>
     requires names { AreProofNames names }
     requires short { length bytes.now ≤ MAX_FILE }
     ensures { RunsPurePlan (proof_cert (proof_order names.entry) drawing.now (cert_of bytes.now)) result }
@@ -72,12 +63,7 @@ fn bad_line<'a>(alloc: Global, name: &str, number: u32) -> Failure<'a>
 }
 
 /// Returns the product of a proof, or the refusal of a certificate that proves nothing.
-fn shown<'a>(
-    alloc: Global,
-    names: ProofNames<'a>,
-    drawing: &Drawing,
-    cert: &Cert,
-) -> Result<Product<'a>, Failure<'a>>
+fn shown<'a>(alloc: Global, names: ProofNames<'a>, drawing: &Drawing, cert: &Cert) -> Made<'a>
     requires names { AreProofNames names }
     requires few { length cert.now.pieces < 2 ^ 32 - 1 }
     requires short { All HasShortLists cert.now.pieces }
@@ -86,11 +72,7 @@ fn shown<'a>(
 {
     match picture_of_proof(alloc, drawing, cert) {
         Ok(text) => {
-            let output = Output {
-                name: names.output,
-                content: text,
-            };
-            let product = one_output(alloc, output, Bytes::new(alloc))?;
+            let product = one_output(alloc, names.output, text, Bytes::new(alloc))?;
             Ok(product)
         }
         Err(ProofFault::Memory) => Err(Failure::Memory),

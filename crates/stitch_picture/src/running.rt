@@ -13,7 +13,7 @@ use crate::words::{FileNames, PictureRequest, request};
 use format_traits::{Format, find};
 use line_graph::pieces_are_unique;
 use outside_io::{Sink, Store};
-use program_shell::{Failure, Product, Status, finish};
+use program_shell::{Failure, Made, Status, finish};
 use std::alloc::Global;
 
 /// The name of the program.
@@ -49,7 +49,7 @@ fn make<'a, S: Store>(
     words: &'a [String],
     formats: &mut [Box<dyn Format>],
     store: &mut S,
-) -> Result<Product<'a>, Failure<'a>>
+) -> Made<'a>
     ensures { RunsRequest picture_program (picture_order (map (λ f. meaning f) formats.old)
         (map string_bytes words.now)) (S.view store.old) (S.view store.new) result }
 {
@@ -65,7 +65,7 @@ fn make_picture<'a, S: Store>(
     names: FileNames<'a>,
     formats: &mut [Box<dyn Format>],
     store: &mut S,
-) -> Result<Product<'a>, Failure<'a>>
+) -> Made<'a>
     requires { AreFileNames names }
     ensures { RunsRequest picture_program (order_with (requested_file names.entry)
         (format_of (map (λ f. meaning f) formats.old) names.entry.input.now))
@@ -78,11 +78,7 @@ fn make_picture<'a, S: Store>(
 }
 
 /// Makes the picture of a drawing, which has no hoop.
-fn make_drawing<'a, S: Store>(
-    alloc: Global,
-    names: FileNames<'a>,
-    store: &mut S,
-) -> Result<Product<'a>, Failure<'a>>
+fn make_drawing<'a, S: Store>(alloc: Global, names: FileNames<'a>, store: &mut S) -> Made<'a>
     requires { AreFileNames names }
     ensures { RunsRequest picture_program (order_without_format (requested_file names.entry) names.entry.hoop)
         (S.view store.old) (S.view store.new) result }

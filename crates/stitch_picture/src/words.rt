@@ -1,8 +1,8 @@
 ghost use Rattle.std.specs.Prelude.{◌≡◌, IfSome, map, option_map, string_bytes};
-ghost use Rattle.stitch_picture.specs.Words.{AreGoodNames, has_svg_ending, hoop_of_sides, picture_request, proof_request, request_of, request_with, request_words, side_of_number, side_word};
+ghost use Rattle.stitch_picture.specs.Words.{AreGoodNames, has_svg_ending, hoop_of_sides, picture_request, proof_request, request_of, request_words, side_word};
 
+use command_words::parse_natural;
 use design_picture::Hoop;
-use lists_and_numbers::{Whole, parse_whole};
 use outside_io::is_name;
 
 /// The greatest side of a hoop, in tenths of a millimetre.
@@ -41,58 +41,20 @@ pub(crate) fn request(words: &[String]) -> Option<PictureRequest<'_>>
     match words {
         [input, output] => request_of_names(input.as_str(), output.as_str(), None),
         [drawing, cert, output] => proof_of_names(drawing.as_str(), cert.as_str(), output.as_str()),
-        [input, output, width, height] => request_with_hoop(
-            input.as_str(),
-            output.as_str(),
-            hoop_in(width.as_bytes(), height.as_bytes()),
-        ),
+        [input, output, width, height] => {
+            let hoop = hoop_in(width.as_bytes(), height.as_bytes())?;
+            request_of_names(input.as_str(), output.as_str(), Some(hoop))
+        }
         _ => None,
-    }
-}
-
-fn request_with_hoop<'a>(
-    input: &'a str,
-    output: &'a str,
-    hoop: Option<Hoop>,
-) -> Option<PictureRequest<'a>>
-    ensures value { option_map picture_request result ≡ request_with input.now output.now hoop }
-    ensures names { IfSome result AreGoodNames }
-{
-    match hoop {
-        Some(hoop) => request_of_names(input, output, Some(hoop)),
-        None => None,
     }
 }
 
 fn hoop_in(width: &[u8], height: &[u8]) -> Option<Hoop>
     ensures { result ≡ hoop_of_sides (side_word width.now) (side_word height.now) }
 {
-    let width = side_in(width)?;
-    let height = side_in(height)?;
+    let width = parse_natural(1, MAX_HOOP_SIDE, width)?;
+    let height = parse_natural(1, MAX_HOOP_SIDE, height)?;
     Some(Hoop { width, height })
-}
-
-fn side_in(word: &[u8]) -> Option<u32>
-    ensures { result ≡ side_word word.now }
-{
-    match parse_whole(word) {
-        Whole::Value(number) => side(number),
-        Whole::Outside => None,
-        Whole::NotANumber => None,
-    }
-}
-
-fn side(number: i32) -> Option<u32>
-    ensures { result ≡ side_of_number number }
-{
-    if number <= 0 {
-        return None;
-    }
-    let side = number.unsigned_abs();
-    if side > MAX_HOOP_SIDE {
-        return None;
-    }
-    Some(side)
 }
 
 fn request_of_names<'a>(

@@ -2,10 +2,10 @@ use Rattle.std.proofs.Common.{map, string_bytes, sym, ◌∙◌}
 use Rattle.std.proofs.lemmas.List.{at_drop_more}
 use Rattle.std.specs.Prelude.{is_some}
 use Rattle.command_words.specs.Arguments.{parsed_edits}
-use Rattle.command_words.proofs.WordLemmas.{spelled_before}
+use Rattle.command_words.proofs.CallerLemmas.{parsed_before}
 use Rattle.command_words.proofs.request_words.are_edits.Goals as goal
 
 pub loop-word-preserved : goal.loop-word-preserved
-loop-word-preserved c = spelled_before _ _ _ (rw (c.as_bytes.ensures.value, c.word-item.is) at c.in-Some.ensures.value)
+loop-word-preserved c = parsed_before _ _ _ (rw (c.as_bytes.ensures.value, c.word-item.is) at c.in-Some.ensures.value)
     ∙ (sym (at_drop_more (λ words. is_some (parsed_edits (map (λ word. string_bytes word) words))) c.args.words.now
     c.loop-word.word-index _ c.loop-word-test.true) ∙ c.loop-word.invariant)

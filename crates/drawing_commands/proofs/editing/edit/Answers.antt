@@ -8,5 +8,5 @@ pub edit_read-requires-clause-ordered : goal.edit_read-requires-clause-ordered
 edit_read-requires-clause-ordered g c = c.texts_order_ends.ensures c.in_ok-drawing.ensures.bytes _ c.in_ok-drawing.ensures.is
 
 pub returns : goal.returns
-returns g c = settles_taken _ _ (drawing_edit_read (drawing_edit_order c.args.input.now c.args.output.now
+returns g c = settles_taken _ _ (drawing_edit_read (drawing_edit_order c.args.names.input.now c.args.names.output.now
     (drawing_edits_of (map (λ word. string_bytes word) c.args.edits.now)))) _ _ _ _ c.in_ok-drawing.ensures c.edit_read.ensures

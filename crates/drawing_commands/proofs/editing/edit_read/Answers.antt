@@ -1,5 +1,7 @@
-use Rattle.drawing_commands.proofs.FaultLemmas.{refused_edit}
+use Rattle.program_shell.proofs.CallerLemmas.{fault_refused}
+use Rattle.drawing_commands.specs.DrawingEditing.{bad_edit_is_out_of_memory, edited_plan}
 use Rattle.drawing_commands.proofs.editing.edit_read.Goals as goal
 
 pub returns-in-Err : goal.returns-in-Err
-returns-in-Err c = refused_edit _ _ _ _ _ c.in-Err.ensures.answer c.edit_failure.ensures
+returns-in-Err c = fault_refused bad_edit_is_out_of_memory _ (edited_plan c.args.names.input.now c.args.names.output.now) _ _ _
+    (λ why is. is) c.in-Err.ensures.answer c.edit_failure.ensures

@@ -17,4 +17,4 @@ summary_of-requires-clause-few c = rw (c.as_slice-2.ensures, c.as_slice-3.ensure
 pub returns : goal.returns
 returns c = sample_makes _ _ _ _ _ _ _ _ c.in_ok-pieces.ensures.cut (rw c.as_slice.ensures at c.in_ok-routed.ensures)
     (rw (c.as_slice-2.ensures, c.as_slice-3.ensures, c.line_count.ensures.value) at c.in_ok-summary.ensures)
-    c.in_ok-print_drawing.ensures.value c.in_ok-report.ensures c.in_ok-product.ensures
+    c.in_ok-content.ensures.value c.in_ok-report.ensures c.in_ok-product.ensures

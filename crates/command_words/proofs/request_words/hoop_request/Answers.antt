@@ -1,9 +1,0 @@
-use Rattle.command_words.proofs.WordLemmas.{few_no_hoop, many_no_hoop}
-use Rattle.command_words.proofs.request_words.hoop_request.Goals as goal
-use Rattle.command_words.proofs.request_words.hoop_request.Goals.{in_default-via-then-words-lt3, in_default-via-else-words-lt3+else-words-lt4}
-
-pub returns-in_default-clause-value : goal.returns-in_default-clause-value
-returns-in_default-clause-value c = elim c.in_default.branch [
-  | in_default-via-then-words-lt3 w ↦ few_no_hoop _ _ w.if-words-lt3-1.true
-  | in_default-via-else-words-lt3+else-words-lt4 w ↦ many_no_hoop _ _ w.if-words-lt4-1.false
-]

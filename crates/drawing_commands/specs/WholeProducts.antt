@@ -1,0 +1,29 @@
+-- Drawings whose lines are written whole, as they are drawn, with starts and ends.
+use Rattle.std.specs.Prelude.{◌≡◌, ℕ, List, Ok}
+use Rattle.drawing_model.specs.Drawings.{DrawingValue}
+use Rattle.drawing_model.specs.EndOrders.{HasOrderedEnds}
+use Rattle.drawing_model.specs.WalkEnds.{HasNoEnds}
+use Rattle.drawing_text.specs.DrawingText.{drawing_of}
+use Rattle.drawing_text.specs.DrawnTexts.{drawing_as_drawn}
+use Rattle.drawing_text.specs.EndTexts.{drawn_text, with_ends_of}
+use Rattle.drawing_text.specs.TextLaws.{IsJoinedFrom}
+use Rattle.program_shell.specs.Products.{ProductValue, one_file_product}
+
+-- Lines as they are drawn, without starts and ends, and the drawing that they are joined to, whose
+-- starts and ends are in the order of their blocks.
+pub record IsWhole (drawn joined : DrawingValue) : Type 0 where
+  pub whole : IsJoinedFrom drawn joined
+  pub ordered : HasOrderedEnds joined
+  pub no_ends : HasNoEnds drawn
+
+-- The text of lines as they are drawn, with the starts and ends of the joined drawing.
+abbrev pub whole_text : (drawn joined : DrawingValue) → List ℕ
+whole_text drawn joined = drawn_text (with_ends_of drawn joined)
+
+-- The product that writes lines as they are drawn, with a report. The text is read as the joined
+-- drawing, and its lines as they are drawn.
+pub record IsWholeProduct (output : List ℕ) (drawn joined : DrawingValue) (report : List ℕ)
+    (product : ProductValue) : Type 0 where
+  pub again : drawing_of (whole_text drawn joined) ≡ Ok joined
+  pub lines : drawing_as_drawn (whole_text drawn joined) ≡ Ok drawn
+  pub made : product ≡ one_file_product output (whole_text drawn joined) report
