@@ -16,7 +16,7 @@ use Rattle.design_picture.specs.Threads.{arc_text, arrow_shape, hole_shape, trav
 use Rattle.hoop_check.specs.declared.fitting.Fit.TheVariants as fit
 use Rattle.picture_parts.specs.Colours.{colour_of_thread}
 use Rattle.picture_parts.specs.Lengths.{length_of, square_of, whole_root}
-use Rattle.picture_parts.specs.Parts.{filled, joined}
+use Rattle.picture_parts.specs.Parts.{around, filled}
 use Rattle.picture_parts.specs.Paths.{coloured_path, move_text, path_end, straight_text}
 
 abbrev pub point : ℤ → ℤ → Point
@@ -63,25 +63,25 @@ known_pen = refl
 -- The second pass is an arc of 3 mm: 900 / 32 is 28, and 2 more.
 pub known_threads : layer_text layer.Threads shown_strokes ≡ (10 ∷ codes "M0,0L30,0A30,30,0,0,1,0,0'/>")
     ++ (10 ∷ codes "<path class='thread' stroke='#0a55a3' d='") ++ (10 ∷ codes "M3,-4") ++ (10 ∷ codes "M3,6")
-unfolding joined filled digits move_text straight_text arc_text path_end coloured_path colour_of_thread square_of
+unfolding around filled digits move_text straight_text arc_text path_end coloured_path colour_of_thread square_of
 known_threads = refl
 
 pub known_holes : layer_text layer.Holes shown_strokes ≡ codes "M0,0h0M30,0h0M0,0h0M3,-4h0M3,6h0"
-unfolding joined digits hole_shape
+unfolding around digits hole_shape
 known_holes = refl
 
 pub known_seconds : layer_text layer.Seconds shown_strokes ≡ (10 ∷ codes "M30,0A30,30,0,0,1,0,0")
-unfolding joined filled digits move_text arc_text square_of
+unfolding around filled digits move_text arc_text square_of
 known_seconds = refl
 
 pub known_arrows : layer_text layer.Arrows shown_strokes ≡ codes "<path class='arrow' d='M30,0A30,30,0,0,1,0,0'/>" ++ 10 ∷ []
-unfolding joined filled digits arrow_shape arc_text path_end square_of
+unfolding around filled digits arrow_shape arc_text path_end square_of
 known_arrows = refl
 
 -- No way leads to the first piece.
 pub known_travels : layer_text layer.Travels shown_strokes ≡ codes "<path class='travel' d='M0,0L3,-4'/>"
     ++ 10 ∷ codes "<path class='travel' d='M3,-4L3,6'/>" ++ 10 ∷ []
-unfolding joined filled digits travel_shape
+unfolding filled digits travel_shape
 known_travels = refl
 
 -- A hoop of 10 mm by 20 mm around 5 mm by 20.1 mm begins 2.5 mm to the left, and 0.05 mm below; it is turned where only that fits.

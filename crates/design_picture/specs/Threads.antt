@@ -8,7 +8,7 @@ use Rattle.design_picture.specs.declared.strokes.Stroke.TheVariants.{Begin, Floa
 use Rattle.design_picture.specs.declared.threads.TheConstants.{MIN_SHOWN}
 use Rattle.picture_parts.specs.Colours.{colour_of_thread}
 use Rattle.picture_parts.specs.Lengths.{square_of}
-use Rattle.picture_parts.specs.Parts.{ended, filled, joined, point_text}
+use Rattle.picture_parts.specs.Parts.{around, ended, filled, point_text}
 use Rattle.picture_parts.specs.Paths.{coloured_path, move_text, path_end, straight_text}
 
 -- A stitch to a point as an arc of a radius.
@@ -56,7 +56,7 @@ is_long p q = nat_le MIN_SHOWN (max (unsigned_abs (q.x -ℤ p.x)) (unsigned_abs 
 
 -- A needle hole.
 unfoldable pub hole_shape : Point → List ℕ
-hole_shape p = joined (codes "M" ∷ point_text p ∷ codes "h0" ∷ [])
+hole_shape p = around (codes "M") p (codes "h0")
 
 -- The needle hole at the end of a stitch that is long enough.
 abbrev pub long_hole_text : Point → Point → List ℕ
@@ -72,7 +72,7 @@ hole_text (Stop ended next) = []
 
 -- The beginning of an arrow's stitch.
 unfoldable pub arrow_shape : Point → List ℕ
-arrow_shape p = joined (codes "<path class='arrow' d='M" ∷ point_text p ∷ [] ∷ [])
+arrow_shape p = around (codes "<path class='arrow' d='M") p []
 
 -- The arrow at the end of a stitch that has one.
 abbrev pub arrow_if : Bool → ℕ → Point → Point → List ℕ

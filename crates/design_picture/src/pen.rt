@@ -1,5 +1,5 @@
 ghost use Rattle.std.specs.Prelude.{◌≡◌, ◌+◌, ◌*◌, ◌<◌, ◌≤◌, ◌^◌};
-ghost use Rattle.design_picture.specs.Pens.{first_pen, needle_down, thread_cut, pen_after, HasCounted};
+ghost use Rattle.design_picture.specs.Pens.{first_pen, needle_down, pen_after, HasCounted};
 
 use design_model::{Act, Point};
 use picture_parts::length_between;
@@ -58,8 +58,17 @@ impl Pen {
     {
         match act {
             Act::Needle { at, .. } => self.down(index, at),
-            Act::Trim => self.cut(index),
-            Act::Stop => self.stopped(index),
+            Act::Trim => Pen {
+                loose: true,
+                ..self
+            },
+            Act::Stop => Pen {
+                stops: self.stops + 1,
+                loose: true,
+                needles: 0,
+                sewn: 0,
+                ..self
+            },
         }
     }
 
@@ -71,31 +80,27 @@ impl Pen {
     {
         let length = length_between(self.place, at);
         if self.loose {
-            self.begun(index, at, length)
-        } else {
-            self.sewn_on(index, at, length)
+            return Pen {
+                pieces: self.pieces + 1,
+                place: at,
+                loose: false,
+                since: ARROW_GAP / 2,
+                needles: self.needles + 1,
+                travel: self.travel_with(index, length),
+                ..self
+            };
         }
-    }
-
-    ghost use Rattle.design_picture.specs.Pens.{piece_begun, thread_sewn, since_arrow, travel_more, block_stopped};
-
-    fn begun(self, index: u32, at: Point, length: u128) -> Pen
-        requires counted { HasCounted index self }
-        requires few { index + 1 < 2 ^ 32 }
-        requires short { length < 2 ^ 64 }
-        ensures value { result ≡ piece_begun self at length }
-        ensures counted { HasCounted (index + 1) result }
-    {
         Pen {
-            pieces: self.pieces + 1,
             place: at,
-            loose: false,
-            since: ARROW_GAP / 2,
+            since: self.since_last() + length,
             needles: self.needles + 1,
-            travel: self.travel_with(index, length),
+            sewn: self.sewn + length,
+            thread: self.thread + length,
             ..self
         }
     }
+
+    ghost use Rattle.design_picture.specs.Pens.{since_arrow, travel_more};
 
     fn travel_with(self, index: u32, length: u128) -> u128
         requires counted { HasCounted index self }
@@ -110,23 +115,6 @@ impl Pen {
         self.travel + length
     }
 
-    fn sewn_on(self, index: u32, at: Point, length: u128) -> Pen
-        requires counted { HasCounted index self }
-        requires few { index + 1 < 2 ^ 32 }
-        requires short { length < 2 ^ 64 }
-        ensures value { result ≡ thread_sewn self at length }
-        ensures counted { HasCounted (index + 1) result }
-    {
-        Pen {
-            place: at,
-            since: self.since_last() + length,
-            needles: self.needles + 1,
-            sewn: self.sewn + length,
-            thread: self.thread + length,
-            ..self
-        }
-    }
-
     fn since_last(self) -> u128
         ensures value { result ≡ since_arrow self }
         ensures most { result < ARROW_GAP }
@@ -135,32 +123,5 @@ impl Pen {
             return 0;
         }
         self.since
-    }
-
-    fn cut(self, index: u32) -> Pen
-        requires counted { HasCounted index self }
-        requires few { index + 1 < 2 ^ 32 }
-        ensures value { result ≡ thread_cut self }
-        ensures counted { HasCounted (index + 1) result }
-    {
-        Pen {
-            loose: true,
-            ..self
-        }
-    }
-
-    fn stopped(self, index: u32) -> Pen
-        requires counted { HasCounted index self }
-        requires few { index + 1 < 2 ^ 32 }
-        ensures value { result ≡ block_stopped self }
-        ensures counted { HasCounted (index + 1) result }
-    {
-        Pen {
-            stops: self.stops + 1,
-            loose: true,
-            needles: 0,
-            sewn: 0,
-            ..self
-        }
     }
 }

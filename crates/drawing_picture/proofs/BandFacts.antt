@@ -6,7 +6,7 @@ use Rattle.drawing_picture.specs.BandLaws.{band_length}
 use Rattle.drawing_picture.specs.Bands.{Band, bands_from, half_steps}
 use Rattle.drawing_picture.specs.BandTexts.{band_start, band_text, colour_of_cut, way_point}
 use Rattle.odd_cuts.specs.declared.cut.Cut.{Cut}
-use Rattle.picture_parts.specs.Parts.{filled, joined}
+use Rattle.picture_parts.specs.Parts.{around, filled}
 use Rattle.picture_parts.specs.Paths.{path_end}
 
 abbrev pub point : ℤ → ℤ → Point
@@ -46,7 +46,7 @@ known_length = refl
 -- The eighth cut has the colour of the second.
 pub known_band : band_text (record { cut = cut 1 []; number = 7; way = at 3 ∷ point (negsuc 0) (pos 2) ∷ [] })
     ≡ codes "<path class='band' stroke='#e6ab02' d='M3,0 -1,2 '/>" ++ 10 ∷ []
-unfolding joined filled digits band_start way_point path_end
+unfolding around filled digits band_start way_point path_end
 known_band = refl
 
 pub known_cut_colours : map colour_of_cut (0 ∷ 2 ∷ 3 ∷ 4 ∷ 5 ∷ 6 ∷ [])

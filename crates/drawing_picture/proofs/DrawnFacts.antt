@@ -12,7 +12,7 @@ use Rattle.line_graph.specs.PieceGraphs.{PieceValue}
 use Rattle.line_sections.specs.Lines.{points_of_lines}
 use Rattle.picture_parts.specs.Colours.{colour_of_thread}
 use Rattle.picture_parts.specs.Marks.{mark_text, shape_at}
-use Rattle.picture_parts.specs.Parts.{filled, joined}
+use Rattle.picture_parts.specs.Parts.{around, filled}
 use Rattle.picture_parts.specs.Paths.{coloured_path, move_text, path_end, straight_text}
 use Rattle.drawing_picture.proofs.BandFacts.{at, point}
 
@@ -22,7 +22,7 @@ pub known_paths : line_paths (5 ∷ 20 ∷ []) (record { block = 0; points = at 
     ≡ codes "<path class='thread' stroke='#ed171f' d='"
     ++ (10 ∷ codes "M0,0L20,0L20,-5'/>" ++ (10 ∷ codes "<path class='thread' stroke='#000000' d='"
     ++ (10 ∷ codes "M7,0L9,0'/>" ++ 10 ∷ [])))
-unfolding joined filled digits coloured_path move_text straight_text path_end colour_of_thread
+unfolding around filled digits coloured_path move_text straight_text path_end colour_of_thread
 known_paths = refl
 
 pub known_extent : extent_of_points (points_of_lines (record { block = 0; points = at 4 ∷ point (pos 9) (negsuc 4) ∷ [] }

@@ -8,7 +8,7 @@ use Rattle.drawing_model.specs.Drawings.{DrawingValue}
 use Rattle.line_graph.specs.PieceGraphs.{PieceValue}
 use Rattle.odd_cuts.specs.declared.certificate.PieceCert.{PieceCert}
 use Rattle.odd_cuts.specs.declared.cut.Cut.{Cut}
-use Rattle.picture_parts.specs.Parts.{ended, filled, joined, point_text}
+use Rattle.picture_parts.specs.Parts.{around, ended, filled}
 use Rattle.picture_parts.specs.Paths.{path_end}
 
 -- The colour of the cut with the given number: six colours, again and again.
@@ -25,7 +25,7 @@ band_start colour = filled (codes "<path class='band' stroke='@' d='M") (colour 
 
 -- A point of a way.
 unfoldable pub way_point : Point → List ℕ
-way_point p = joined ([] ∷ point_text p ∷ codes " " ∷ [])
+way_point p = around [] p (codes " ")
 
 -- The points of a way.
 abbrev pub way_points : List Point → List ℕ

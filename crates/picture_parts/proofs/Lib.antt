@@ -1,4 +1,3 @@
-pub mod CallerLemmas
 mod TemplateLemmas
 mod RootLemmas
 mod PartFacts

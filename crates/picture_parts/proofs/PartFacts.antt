@@ -4,7 +4,7 @@ use Rattle.std.specs.Fmt.{digits}
 use Rattle.design_model.specs.declared.point.Point.{Point}
 use Rattle.picture_parts.specs.Colours.{colour_of_thread}
 use Rattle.picture_parts.specs.Lengths.{length_of, square_of, whole_root}
-use Rattle.picture_parts.specs.Parts.{escaped_text, filled, joined, mm_text}
+use Rattle.picture_parts.specs.Parts.{escaped_text, filled, mm_text}
 use Rattle.picture_parts.specs.Sheets.{head_text, style_text}
 
 abbrev pub point : ℤ → ℤ → Point
@@ -26,7 +26,6 @@ unfolding digits
 known_mm = refl
 
 pub known_escapes : escaped_text (codes "A<B&C>") ≡ codes "A&lt;B&amp;C>"
-unfolding joined
 known_escapes = refl
 
 -- Two parts, then more of either kind than of the other.

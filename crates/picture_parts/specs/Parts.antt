@@ -1,19 +1,19 @@
 -- SVG texts in parts. Points are in tenths of a millimetre, y downwards.
-use Rattle.std.specs.Prelude.{ℕ, ◌+◌, ◌/◌, ◌%◌, ◌==◌, List, [], ◌∷◌, ◌++◌, codes, drop, length, map, if◌then◌else◌}
+use Rattle.std.specs.Prelude.{ℕ, ◌+◌, ◌/◌, ◌%◌, ◌==◌, List, [], ◌∷◌, ◌++◌, codes, drop, length, if◌then◌else◌}
+use Rattle.std.specs.List.{flat_map}
 use Rattle.std.specs.Fmt.{decimal, signed_decimal}
 use Rattle.design_model.specs.declared.point.Point.{Point}
 use Rattle.picture_parts.specs.declared.parts.Part.{Part}
 use Rattle.picture_parts.specs.declared.parts.Part.TheVariants.{Text, Escaped, Number, At, Mm}
 use Rattle.text_parts.specs.Parts.{parts_between}
 
--- The text of parts in order.
-unfoldable pub joined : List (List ℕ) → List ℕ
-joined [] = []
-joined (part ∷ rest) = part ++ joined rest
-
 -- The text of a point.
 abbrev pub point_text : Point → List ℕ
 point_text p = signed_decimal p.x ++ (codes "," ++ signed_decimal p.y)
+
+-- A point between other characters.
+unfoldable pub around : List ℕ → Point → List ℕ → List ℕ
+around before p after = before ++ (point_text p ++ after)
 
 -- The text of a length in millimetres, from tenths of a millimetre.
 abbrev pub mm_text : ℕ → List ℕ
@@ -30,7 +30,7 @@ escaped_byte byte = if byte == 60 then codes "&lt;"
 
 -- A label in XML.
 abbrev pub escaped_text : List ℕ → List ℕ
-escaped_text label = joined (map escaped_byte label)
+escaped_text label = flat_map escaped_byte label
 
 -- The text of a part.
 abbrev pub part_text : Part → List ℕ

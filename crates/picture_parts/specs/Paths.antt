@@ -1,7 +1,7 @@
 -- Paths: shapes of lines, whose look depends on their class.
 use Rattle.std.specs.Prelude.{ℕ, List, [], ◌∷◌, codes}
 use Rattle.design_model.specs.declared.point.Point.{Point}
-use Rattle.picture_parts.specs.Parts.{ended, filled, joined, point_text}
+use Rattle.picture_parts.specs.Parts.{around, ended, filled}
 
 -- The beginning of the path of a class.
 unfoldable pub path_start : List ℕ → List ℕ
@@ -13,11 +13,11 @@ coloured_path class colour = filled (codes "<path class='@' stroke='@' d='") (cl
 
 -- A path goes on at a point.
 unfoldable pub move_text : Point → List ℕ
-move_text p = joined ((10 ∷ codes "M") ∷ point_text p ∷ [] ∷ [])
+move_text p = around (10 ∷ codes "M") p []
 
 -- A straight line to a point.
 unfoldable pub straight_text : Point → List ℕ
-straight_text p = joined (codes "L" ∷ point_text p ∷ [] ∷ [])
+straight_text p = around (codes "L") p []
 
 -- The end of a path.
 unfoldable pub path_end : List ℕ

@@ -1,5 +1,5 @@
-ghost use Rattle.std.specs.Prelude.{◌≡◌, ◌++◌, OnOk, map};
-ghost use Rattle.picture_parts.specs.Parts.{escaped_byte, escaped_text, joined};
+ghost use Rattle.std.specs.Prelude.{◌≡◌, ◌++◌, OnOk};
+ghost use Rattle.picture_parts.specs.Parts.{escaped_byte, escaped_text};
 
 use lists_and_numbers::{Bytes, Memory};
 

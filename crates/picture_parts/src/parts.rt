@@ -1,6 +1,6 @@
-ghost use Rattle.std.specs.Prelude.{◌≡◌, ◌++◌, ◌∷◌, [], OnOk, map};
+ghost use Rattle.std.specs.Prelude.{◌≡◌, ◌++◌, OnOk, map};
 ghost use Rattle.std.specs.Fmt.{decimal, signed_decimal};
-ghost use Rattle.picture_parts.specs.Parts.{filled, joined, mm_text, part_text, point_text, text_after, text_before};
+ghost use Rattle.picture_parts.specs.Parts.{around, filled, mm_text, part_text, point_text, text_after, text_before};
 
 use crate::escapes::put_escaped;
 use design_model::Point;
@@ -50,10 +50,9 @@ fn split_template(template: &[u8]) -> (&[u8], &[u8])
 }
 
 /// Appends characters, a point, and characters after it.
-#[tactic(auto, unfolding(crate::specs::Parts::joined))]
+#[tactic(auto, unfolding(crate::specs::Parts::around))]
 pub fn put_around(text: &mut Bytes, before: &[u8], at: Point, after: &[u8]) -> Result<(), Memory>
-    ensures { OnOk result (text.new
-        ≡ text.old ++ joined (before.now ∷ point_text at ∷ after.now ∷ [])) }
+    ensures { OnOk result (text.new ≡ text.old ++ around before.now at after.now) }
 {
     text.append(before)?;
     put_point(text, at)?;
