@@ -29,19 +29,19 @@ use Rattle.certificate_text.proofs.NumberWords.{above_read, number_read, pass_wo
 use Rattle.certificate_text.proofs.UniqueTexts.{HasText}
 use Rattle.certificate_text.proofs.ReadingLemmas.{goes_on, line_judged}
 use Rattle.lists_and_numbers.proofs.CallerLemmas.{decimal_model}
-use Rattle.text_parts.proofs.CallerLemmas.{digits_inner, inner_kept, is_inner, is_kept, no_space}
+use Rattle.text_parts.proofs.CallerLemmas.{digits_inner, inner_kept, is_word_byte, is_line_byte, no_space}
 
 -- words of such bytes
 abbrev AreWords : List (List ℕ) → Type 0
 AreWords [] = Unit {0}
-AreWords (word ∷ words) = (list_all is_inner word ≡ true) × AreWords words
+AreWords (word ∷ words) = (list_all is_word_byte word ≡ true) × AreWords words
 
 -- a printed number is one word
-number_word : (n : ℕ) → n < 2 ^ 32 → list_all is_inner (decimal n) ≡ true
+number_word : (n : ℕ) → n < 2 ^ 32 → list_all is_word_byte (decimal n) ≡ true
 number_word n small = digits_inner (decimal n) (digits_decimal decimal_model n (omega (arith, small)))
 
 -- a printed pass is one word
-pass_inner : (pass : Pass) → HasPass pass → list_all is_inner (pass_word pass) ≡ true
+pass_inner : (pass : Pass) → HasPass pass → list_all is_word_byte (pass_word pass) ≡ true
 pass_inner pass has = grind (arith, nat_tests, pass_word pass, number_word (pass.line + 1) has)
 
 -- so are those of a walk
@@ -57,15 +57,15 @@ members_inner (j ∷ members) have =
     (number_word (j + 1) (All-head HasMember j members have), members_inner members (All-tail HasMember j members have))
 
 -- words that stand one space apart are read
-words_read : (word : List ℕ) (words : List (List ℕ)) → list_all is_inner word ≡ true → AreWords words
+words_read : (word : List ℕ) (words : List (List ℕ)) → list_all is_word_byte word ≡ true → AreWords words
     → words_in (word ++ spaced words) ≡ word ∷ words
 words_read word [] is are = grind (arith, nat_tests, append-nil, slice_split_none, no_space)
 words_read word (next ∷ words) is are = grind (arith, nat_tests, words_read next words, slice_split_at, spaced, no_space)
 
 -- nor do words after spaces
-spaced_kept : (words : List (List ℕ)) → AreWords words → list_all is_kept (spaced words) ≡ true
+spaced_kept : (words : List (List ℕ)) → AreWords words → list_all is_line_byte (spaced words) ≡ true
 spaced_kept [] are = refl
-spaced_kept (word ∷ words) are = grind (arith, nat_tests, spaced_kept words, list_all-append, is_kept, spaced, and_from, inner_kept)
+spaced_kept (word ∷ words) are = grind (arith, nat_tests, spaced_kept words, list_all-append, is_line_byte, spaced, and_from, inner_kept)
 
 -- the words of a line
 abbrev line_words : CertLine → List (List ℕ)
@@ -101,7 +101,7 @@ line_inner line.End has = (refl, tt)
 -- so it is one line, of these words
 record IsLine (l : CertLine) : Type 0 where
   words : words_in (line_bytes l) ≡ line_words l
-  kept : list_all is_kept (line_bytes l) ≡ true
+  kept : list_all is_line_byte (line_bytes l) ≡ true
 
 -- each line that can be printed is such a line
 is_line : (l : CertLine) → HasLine l → IsLine l
@@ -110,8 +110,8 @@ is_line l has =
     let inner = subst (λ (words : List (List ℕ)). AreWords words) of.split (line_inner l has) in
     record {
       words = ap words_in of.bytes_are ∙ (words_read of.first of.rest inner.0 inner.1 ∙ sym of.split);
-      kept = ap (list_all is_kept) of.bytes_are ∙ (list_all-append is_kept of.first (spaced of.rest)
-          ∙ and_from (list_all is_kept of.first) (list_all is_kept (spaced of.rest)) (inner_kept of.first inner.0)
+      kept = ap (list_all is_line_byte) of.bytes_are ∙ (list_all-append is_line_byte of.first (spaced of.rest)
+          ∙ and_from (list_all is_line_byte of.first) (list_all is_line_byte (spaced of.rest)) (inner_kept of.first inner.0)
           (spaced_kept of.rest inner.1));
     }
 
@@ -153,8 +153,8 @@ pub line_before : (said new : CertDraft) (l : CertLine) (text : List ℕ) (piece
     → draft_with_line said l ≡ Some new → SayOn new text pieces → SayOn said (line_bytes l ++ 10 ∷ text) pieces
 line_before said new l text pieces has fits rest number =
     let kept : Lacks (line_bytes l) =
-    All-weaker (λ (b : ℕ). is_kept b ≡ true) (λ (b : ℕ). (b == 10) ≡ false) (λ b test. not-true (b == 10) test)
-    (line_bytes l) (AllPass-from_list_all is_kept (line_bytes l) (is_line l has).kept) in
+    All-weaker (λ (b : ℕ). is_line_byte b ≡ true) (λ (b : ℕ). (b == 10) ≡ false) (λ b test. not-true (b == 10) test)
+    (line_bytes l) (AllPass-from_list_all is_line_byte (line_bytes l) (is_line l has).kept) in
     let next : draft_with_text_line said (line_bytes l) ≡ Some new =
     ap (λ one. option_and_then (draft_with_line said) one) (line_read l has) ∙ fits in
     next_judged number said (line_bytes l) text kept

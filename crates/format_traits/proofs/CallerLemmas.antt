@@ -1,9 +1,15 @@
 -- Lemmas that this crate and those above cite.
 use Rattle.std.proofs.lemmas.Bool.Decides.{nat_tests}
 use Rattle.std.proofs.lemmas.Int.{ints}
-use Rattle.std.proofs.Common.{Bool, List, [], ◌∷◌, None, Option, Some, ap, arith, false, if◌then◌else◌, length, length-append, replicate, slice_get, ℕ, ◌+◌, ◌-◌, ◌∙◌, ◌≡◌, ◌≤◌}
+use Rattle.std.proofs.Common.{Bool, IsTrue, List, [], ◌∷◌, None, Option, Some, ap, arith, false, true, not, refl, ◌&&◌, if◌then◌else◌, length, length-append, replicate, slice_get, ℕ, ◌+◌, ◌-◌, ◌∙◌, ◌≡◌, ◌≤◌}
 use Rattle.std.proofs.lemmas.List.{length-replicate}
+use Rattle.design_model.specs.declared.act.Act.{Act}
+use Rattle.design_model.specs.declared.act.Act.TheVariants as act
 use Rattle.design_model.specs.declared.act.NumberedAct.{NumberedAct}
+use Rattle.design_model.specs.declared.command.Command.{Command}
+use Rattle.design_model.specs.declared.command.Command.TheVariants.{Stitch, Jump, Trim, Stop}
+use Rattle.design_model.specs.ActPositions.{leaves_thread_loose}
+use Rattle.design_model.specs.Acts.{acts_from}
 use Rattle.format_traits.specs.ActWriting.{encoder_state_after_acts}
 use Rattle.format_traits.specs.LabelFields.{padded_right}
 use Rattle.format_traits.specs.Meanings.{Meaning}
@@ -42,3 +48,26 @@ pub stops_along : (limit : ℕ) (before : EncoderState) (acts : List NumberedAct
     → (encoder_state_after_acts limit before acts).stops ≡ before.stops + stops_of acts
 stops_along limit before [] = omega arith
 stops_along limit before (a ∷ rest) = stops_along limit (encoder_state_after limit before a.act) rest ∙ omega arith
+
+-- an act that the fold over commands can give: no float of a loose thread, and no trim of one
+abbrev pub is_told : Bool → Act → Bool
+is_told loose (act.Needle p float) = not (loose && float)
+is_told loose act.Trim = not loose
+is_told loose act.Stop = true
+
+-- all acts are so
+abbrev pub are_told : Bool → List NumberedAct → Bool
+are_told loose [] = true
+are_told loose (a ∷ rest) = is_told loose a.act && are_told (leaves_thread_loose a.act) rest
+
+-- the fold over commands gives no other acts
+pub told : (n : ℕ) (loose jumped : Bool) (commands : List Command)
+    → IsTrue (are_told loose (acts_from n loose jumped commands))
+told n loose jumped [] = refl
+told n true true (Stitch p ∷ rest) = told (n + 1) false false rest
+told n true false (Stitch p ∷ rest) = told (n + 1) false false rest
+told n false jumped (Stitch p ∷ rest) = told (n + 1) false false rest
+told n loose jumped (Jump p ∷ rest) = told (n + 1) loose true rest
+told n true jumped (Trim ∷ rest) = told (n + 1) true jumped rest
+told n false jumped (Trim ∷ rest) = told (n + 1) true false rest
+told n loose jumped (Stop ∷ rest) = told (n + 1) true false rest

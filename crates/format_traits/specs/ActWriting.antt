@@ -39,7 +39,8 @@ AppendsAct act_bytes write_limits before a old (Err f) after new = IsSpecifiedRe
 -- Meaning of each answer of appending all acts to bytes.
 abbrev pub AppendsActs : (EncoderState → Act → List ℕ) → WriteLimits → List NumberedAct → List ℕ
     → Result EncoderState WriteFault → List ℕ → Type 0
-AppendsActs act_bytes write_limits acts old (Ok state) new = (first_refusal write_limits acts ≡ None)
+AppendsActs act_bytes write_limits acts old (Ok state) new =
+    (first_refusal write_limits acts ≡ None)
     × (new ≡ old ++ bytes_of_acts_from act_bytes write_limits.limit initial_encoder_state acts)
     × (state ≡ encoder_state_after_acts write_limits.limit initial_encoder_state acts)
 AppendsActs act_bytes write_limits acts old (Err f) new = IsSpecifiedRefusal

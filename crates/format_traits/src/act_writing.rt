@@ -41,8 +41,8 @@ pub trait ActWriter {
         ensures { OnOk result (out.new ≡ out.old ++ act_bytes self.now before.now act) };
 }
 
-/// Appends a design's acts, and returns the encoder's state after them. An act that the format cannot write is
-/// reported; the contents of `out` are not specified then.
+/// Appends a design's acts, and returns the encoder's state after them. An act that the format cannot write
+/// is reported; the contents of `out` are not specified then.
 pub fn put_each_act<W: ActWriter>(
     writer: &W,
     out: &mut Bytes,
@@ -50,8 +50,8 @@ pub fn put_each_act<W: ActWriter>(
 ) -> Result<EncoderState, WriteFault>
     requires count { length commands.now ≤ MAX_COMMANDS }
     requires in_range { IsTrue (list_all is_command_in_range commands.now) }
-    ensures { AppendsActs (W.act_bytes writer.now) (W.write_limits writer.now) (acts_along commands.now)
-        out.old result out.new }
+    ensures { AppendsActs (W.act_bytes writer.now) (W.write_limits writer.now)
+        (acts_along commands.now) out.old result out.new }
 {
     let mut state = EncoderState::new();
     let mut walk = ActScanner::new();
@@ -80,12 +80,12 @@ trait ActPut<W: ActWriter> {
     fn put(writer: &W, out: &mut Bytes, state: &mut EncoderState, act: NumberedAct) -> Written
         requires sound { IsEncoderStateInRange state.old }
         requires act { IsTrue (is_act_in_range act.act) }
-        ensures value { AppendsAct (W.act_bytes writer.now) (W.write_limits writer.now) state.old act
-            out.old result state.new out.new }
+        ensures value { AppendsAct (W.act_bytes writer.now) (W.write_limits writer.now) state.old
+            act out.old result state.new out.new }
         ensures sound { OnOk result (IsEncoderStateInRange state.new) };
 }
 
-/// In the loop where nearly all acts belong, which are needles that are sewn on; else apart from it.
+/// In the loop, where nearly all acts are needles that are sewn on; any other act apart from it.
 struct Sorted;
 
 impl<W: ActWriter> ActPut<W> for Sorted {
@@ -98,8 +98,8 @@ impl<W: ActWriter> ActPut<W> for Sorted {
     }
 }
 
-/// Apart from the loop, from copies of the act and of the encoder state. References to the originals would keep
-/// both in memory for the entire loop.
+/// Apart from the loop, from copies of the act and of the encoder state. References to the originals would
+/// keep both in memory for the entire loop.
 struct Copied;
 
 impl<W: ActWriter> ActPut<W> for Copied {

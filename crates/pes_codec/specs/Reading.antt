@@ -20,5 +20,5 @@ file_shown kind bytes = file_decoded_from (front_layout_of kind) 0 bytes
 abbrev pub file_moves : FileKind → List ℕ → List Point
 file_moves kind bytes = let front = front_layout_of kind in
     if front.known bytes
-    then (if nat_lt (length bytes) front.length then [] else pec_block_moves (front.block bytes) bytes)
-    else []
+    then (if nat_lt (length bytes) front.length then []
+    else pec_block_moves (front.block bytes) bytes) else []

@@ -1,5 +1,6 @@
-ghost use Rattle.std.specs.Prelude.{IfOk};
-ghost use Rattle.format_traits.specs.Laws.{EncodesTo, KeepsLaws};
+ghost use Rattle.std.specs.Prelude.{IfOk, IsOk, refl};
+ghost use Rattle.format_traits.specs.Laws.{EncodesTo, KeepsLaws, MovesWithin, RoundTrips};
+ghost use Rattle.format_traits.specs.PlainDesigns.{IsPlain};
 ghost use Rattle.pes_codec.specs.Formats.{file_meaning};
 ghost use Rattle.pes_codec.specs.Laws.{RoundTripsWithThreads};
 ghost use Rattle.pes_codec.specs.Writing.{file_writes};
@@ -15,12 +16,6 @@ use pec_codec::LIMIT;
 use std::alloc::Global;
 
 impl<F: FileFormat + Drop> Codec for FileDecoder<F> {
-    ghost use Rattle.std.specs.Prelude.{IfOk, IsOk, refl};
-    ghost use Rattle.format_traits.specs.Laws.{MovesWithin, RoundTrips, EncodesTo};
-    ghost use Rattle.format_traits.specs.PlainDesigns.{IsPlain};
-    ghost use Rattle.pes_codec.specs.Formats.{file_meaning};
-    ghost use Rattle.pes_codec.specs.Laws.{RoundTripsWithThreads};
-
     type Decoder = FileDecoder<F>;
 
     ghost codec_meaning = { file_meaning F.kind };
@@ -45,7 +40,8 @@ impl<F: FileFormat + Drop> Codec for FileDecoder<F> {
             → IsOk ((file_meaning F.kind).writes design.now) }
 
         // The label and the thread of each colour block are read back too.
-        ensures whole { IfOk result (λ bytes. RoundTripsWithThreads (file_meaning F.kind) design.now bytes) }
+        ensures whole { IfOk result
+            (λ bytes. RoundTripsWithThreads (file_meaning F.kind) design.now bytes) }
     {
         write_file(alloc, F::kind(), design)
     }

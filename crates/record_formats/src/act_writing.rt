@@ -22,8 +22,8 @@ use lists_and_numbers::{Bytes, Memory};
 pub struct ActRecords<W: RecordWriter + Copy>(pub W);
 
 impl<W: RecordWriter + Copy> ActRecords<W> {
-    /// Appends the records of a design's acts, and returns the encoder's state after them. An act that the format
-    /// cannot write is reported; the contents of `out` are not specified then.
+    /// Appends the records of a design's acts, and returns the encoder's state after them. An act that the
+    /// format cannot write is reported; the contents of `out` are not specified then.
     pub fn put_acts(
         &self,
         out: &mut Bytes,
@@ -31,8 +31,8 @@ impl<W: RecordWriter + Copy> ActRecords<W> {
     ) -> Result<EncoderState, WriteFault>
         requires count { length commands.now ≤ MAX_COMMANDS }
         requires in_range { IsTrue (list_all is_command_in_range commands.now) }
-        ensures { AppendsRecords (W.encoding self.now.0) (W.write_limits self.now.0) (acts_along commands.now)
-            out.old result out.new }
+        ensures { AppendsRecords (W.encoding self.now.0) (W.write_limits self.now.0)
+            (acts_along commands.now) out.old result out.new }
     {
         put_each_act(self, out, commands)
     }
@@ -46,9 +46,10 @@ impl<W: RecordWriter + Copy> ActRecords<W> {
         step: Point,
     ) -> Result<(), Memory>
         requires size { move_size step ≤ MAX_MOVE }
-        requires accepted { IsTrue (loose || float || is_point_within (W.write_limits self.now.0).limit step) }
-        ensures { OnOk result (out.new ≡ out.old
-            ++ concat (needle_records (W.encoding self.now.0) (W.write_limits self.now.0) loose float step)) }
+        requires accepted { IsTrue (loose || float
+            || is_point_within (W.write_limits self.now.0).limit step) }
+        ensures { OnOk result (out.new ≡ out.old ++ concat (needle_records (W.encoding self.now.0)
+            (W.write_limits self.now.0) loose float step)) }
     {
         if loose {
             return self.put_hops(out, hops(self.0.write_limits().limit, step), step);
@@ -65,8 +66,8 @@ impl<W: RecordWriter + Copy> ActRecords<W> {
         requires size { move_size step ≤ MAX_MOVE }
         requires most { count ≤ MAX_HOPS }
         requires enough { move_size step ≤ (W.write_limits self.now.0).limit * count }
-        ensures { OnOk result (out.new ≡ out.old
-            ++ concat (float_records (W.encoding self.now.0) (W.write_limits self.now.0) count step)) }
+        ensures { OnOk result (out.new ≡ out.old ++ concat (float_records (W.encoding self.now.0)
+            (W.write_limits self.now.0) count step)) }
     {
         if equals_max(self.0.write_limits().float_hops, count) {
             self.put_jumps(out, count, count - 1, step)?;
@@ -81,7 +82,8 @@ impl<W: RecordWriter + Copy> ActRecords<W> {
         requires size { move_size step ≤ MAX_MOVE }
         requires most { count ≤ MAX_HOPS }
         requires enough { move_size step ≤ (W.write_limits self.now.0).limit * count }
-        ensures { OnOk result (out.new ≡ out.old ++ concat (hop_records (W.encoding self.now.0) count step)) }
+        ensures { OnOk result (out.new ≡ out.old
+            ++ concat (hop_records (W.encoding self.now.0) count step)) }
     {
         self.put_jumps(out, count, count, step)?;
         self.0.put_stitch(out, Point { x: 0, y: 0 })?;
@@ -107,7 +109,8 @@ impl<W: RecordWriter + Copy> ActRecords<W> {
 impl<W: RecordWriter + Copy> ActWriter for ActRecords<W> {
     ghost write_limits = { λ r. W.write_limits r.0 };
 
-    ghost act_bytes = { λ r before act. concat (records_of_act (W.encoding r.0) (W.write_limits r.0) before act) };
+    ghost act_bytes = { λ r before act. concat
+        (records_of_act (W.encoding r.0) (W.write_limits r.0) before act) };
 
     #[inline(always)]
     fn write_limits(&self) -> WriteLimits {

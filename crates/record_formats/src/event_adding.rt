@@ -27,7 +27,7 @@ pub(crate) trait EventAdding {
 
 // One match with three arms. A stitch and a jump take the same steps, each in a copy of its own, and all
 // other events go to another function. A second match, or more arms, would cost a table jump at each record.
-/// In the loop of the readers where nearly all events belong, which are stitches and jumps; else apart from it.
+/// In the readers' loop, where nearly all events are stitches and jumps; any other event apart from it.
 pub(crate) struct Sorted;
 
 impl EventAdding for Sorted {
@@ -48,8 +48,8 @@ struct EventAt {
     event: Event,
 }
 
-/// Apart from the loop, from a copy of the event. A reference to the event would keep it in memory for the entire
-/// loop, and the result as well.
+/// Apart from the loop, from a copy of the event. A reference to the event would keep it in memory for the
+/// entire loop, and the result as well.
 struct Copied;
 
 impl EventAdding for Copied {

@@ -1,6 +1,6 @@
 -- The lines of acts that are read are the lines of a design that goes on from what was read before.
 use Rattle.std.proofs.lemmas.Int.{ints}
-use Rattle.std.proofs.Common.{◌≡◌, ℕ, ◌+◌, ◌<◌, ◌≤◌, ◌%◌, Bool, true, false, ◌&&◌, IsTrue, List, [], ◌∷◌, ◌++◌, Option, Some, None, Err, codes, decimal, length, length-append, nat_lt, slice_get, unwrap_or, if◌then◌else◌, refl, ap, sym, ◌∙◌, subst, append-nil, append_assoc, arith}
+use Rattle.std.proofs.Common.{◌≡◌, ℕ, ◌+◌, ◌<◌, ◌≤◌, ◌%◌, Bool, true, false, IsTrue, List, [], ◌∷◌, ◌++◌, Option, Some, None, Err, codes, decimal, length, length-append, nat_lt, slice_get, unwrap_or, if◌then◌else◌, refl, ap, sym, ◌∙◌, subst, append-nil, append_assoc, arith}
 use Rattle.std.proofs.lemmas.Bool.{and_from}
 use Rattle.std.proofs.lemmas.Bool.Decides.{nat_tests}
 use Rattle.std.proofs.lemmas.List.Folds.{list_all-append}
@@ -30,9 +30,9 @@ use Rattle.stitch_text.specs.ListLines.{parsed_list_line}
 use Rattle.stitch_text.specs.Judging.{fault_of_act, list_commands_of, draft_with_checked_act, unless_fault, with_act, with_block_thread}
 use Rattle.stitch_text.specs.Readings.{ParsedList, parsed_acts, ended_list, continued_with, parsed_end_or_line, refused_list}
 use Rattle.stitch_text.specs.StitchLists.{act_line, act_lines, list_block_line, list_write_limits}
-use Rattle.stitch_text.proofs.ActLemmas.{is_told, no_refusal}
+use Rattle.stitch_text.proofs.ActLemmas.{no_refusal}
 use Rattle.stitch_text.proofs.LineLemmas.{line_is}
-use Rattle.format_traits.proofs.CallerLemmas.{not_refused, or_else_both, or_else_none}
+use Rattle.format_traits.proofs.CallerLemmas.{is_told, not_refused, or_else_both, or_else_none}
 
 -- an act has no more commands than room
 few_commands : (s : EncoderState) (a : Act) → IsTrue (is_told s.loose a) → length (list_commands_of a) ≤ room_of_act LIMIT s.loose s.place a

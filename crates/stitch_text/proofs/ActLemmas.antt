@@ -1,6 +1,6 @@
 -- Acts of designs, and acts that a list can have.
 use Rattle.std.proofs.lemmas.Int.{ints}
-use Rattle.std.proofs.Common.{◌≡◌, ℕ, ◌+◌, ◌≤◌, Bool, true, false, not, ◌&&◌, IsTrue, List, [], ◌∷◌, ◌++◌, None, nat_le, nat_lt, unsigned_abs, if◌then◌else◌, refl, ap, ◌∙◌, arith}
+use Rattle.std.proofs.Common.{◌≡◌, ℕ, ◌+◌, ◌≤◌, Bool, true, false, ◌&&◌, IsTrue, List, [], ◌∷◌, ◌++◌, None, nat_le, nat_lt, unsigned_abs, refl, ap, arith}
 use Rattle.std.proofs.lemmas.Bool.{and_from}
 use Rattle.std.proofs.lemmas.Bool.Decides.{nat_tests}
 use Rattle.std.specs.List.{list_all}
@@ -8,7 +8,6 @@ use Rattle.design_model.specs.declared.act.Act.{Act}
 use Rattle.design_model.specs.declared.act.Act.TheVariants as act
 use Rattle.design_model.specs.declared.act.NumberedAct.{NumberedAct}
 use Rattle.design_model.specs.declared.command.Command.{Command}
-use Rattle.design_model.specs.declared.command.Command.TheVariants.{Stitch, Jump, Trim, Stop}
 use Rattle.design_model.specs.declared.design.TheConstants.{MAX_COMMANDS}
 use Rattle.design_model.specs.declared.point.Point.{Point}
 use Rattle.design_model.specs.ActPositions.{leaves_thread_loose, needle_position_after}
@@ -19,32 +18,10 @@ use Rattle.format_traits.specs.declared.fault.WriteFault.TheVariants as fault
 use Rattle.format_traits.specs.declared.encoder_state.EncoderState.{EncoderState}
 use Rattle.format_traits.specs.Refusals.{refusal_of_needle, refusal_before_room, refusal_of_act, first_refusal_from, refusal_if, encoder_state_after}
 use Rattle.stitch_text.specs.declared.stitch_list.TheConstants.{LIMIT}
-use Rattle.stitch_text.specs.Judging.{fault_of_act, list_commands_of, needs_held_thread}
+use Rattle.stitch_text.specs.Judging.{fault_of_act, list_commands_of}
 use Rattle.stitch_text.specs.Readings.{stitch_move_of, stitch_moves_of}
 use Rattle.stitch_text.specs.StitchLists.{list_write_limits}
-use Rattle.format_traits.proofs.CallerLemmas.{not_refused, or_else_none}
-
--- an act that the fold over commands can give: no float of a loose thread, and no trim of one
-abbrev pub is_told : Bool → Act → Bool
-is_told loose a = not (loose && needs_held_thread a)
-
--- all acts are so
-abbrev pub are_told : Bool → List NumberedAct → Bool
-are_told loose [] = true
-are_told loose (a ∷ rest) = is_told loose a.act && are_told (leaves_thread_loose a.act) rest
-
--- the fold over commands gives no other acts
-pub told : (n : ℕ) (loose jumped : Bool) (commands : List Command)
-    → IsTrue (are_told loose (acts_from n loose jumped commands))
-told n loose jumped [] = refl
-told n true true (Stitch p ∷ rest) = told (n + 1) false false rest
-told n true false (Stitch p ∷ rest) = told (n + 1) false false rest
-told n false jumped (Stitch p ∷ rest) = told (n + 1) false false rest
-told n loose jumped (Jump p ∷ rest) = told (n + 1) loose true rest
-told n true jumped (Trim ∷ rest) = told (n + 1) true jumped rest
-told n false jumped (Trim ∷ rest) = told (n + 1) true false rest
-told n true jumped (Stop ∷ rest) = told (n + 1) true false rest
-told n false jumped (Stop ∷ rest) = told (n + 1) true false rest
+use Rattle.format_traits.proofs.CallerLemmas.{are_told, is_told, not_refused, or_else_none}
 
 -- the commands of acts
 abbrev pub commands_along : List NumberedAct → List Command

@@ -25,27 +25,27 @@ use Rattle.stitch_text.specs.Words.{canonical_number_of}
 use Rattle.text_parts.specs.Parts.{words_in}
 use Rattle.stitch_text.proofs.NumberLemmas.{number_is, number_read, signed_inner}
 use Rattle.lists_and_numbers.proofs.CallerLemmas.{same_word}
-use Rattle.text_parts.proofs.CallerLemmas.{inner_kept, is_inner, is_kept, no_space}
+use Rattle.text_parts.proofs.CallerLemmas.{inner_kept, is_word_byte, is_line_byte, no_space}
 
 -- no byte ends a line
 abbrev pub Lacks : List ℕ → Type 0
 Lacks bytes = All (λ b. (b == 10) ≡ false) bytes
 
-pub lacks_from : (bytes : List ℕ) → list_all is_kept bytes ≡ true → Lacks bytes
-lacks_from bytes kept = All-weaker (λ (b : ℕ). is_kept b ≡ true) (λ (b : ℕ). (b == 10) ≡ false)
-    (λ b test. not-true (b == 10) test) bytes (AllPass-from_list_all is_kept bytes kept)
+pub lacks_from : (bytes : List ℕ) → list_all is_line_byte bytes ≡ true → Lacks bytes
+lacks_from bytes kept = All-weaker (λ (b : ℕ). is_line_byte b ≡ true) (λ (b : ℕ). (b == 10) ≡ false)
+    (λ b test. not-true (b == 10) test) bytes (AllPass-from_list_all is_line_byte bytes kept)
 
 -- words that stand one space apart
-word_apart : (word rest : List ℕ) → list_all is_inner word ≡ true → words_in (word ++ 32 ∷ rest) ≡ word ∷ words_in rest
+word_apart : (word rest : List ℕ) → list_all is_word_byte word ≡ true → words_in (word ++ 32 ∷ rest) ≡ word ∷ words_in rest
 word_apart word rest inner = slice_split_at (λ (b : ℕ). b == 32) word 32 rest (no_space word inner) refl
 
-word_last : (word : List ℕ) → list_all is_inner word ≡ true → words_in word ≡ word ∷ []
+word_last : (word : List ℕ) → list_all is_word_byte word ≡ true → words_in word ≡ word ∷ []
 word_last word inner = slice_split_none (λ (b : ℕ). b == 32) word (no_space word inner)
 
-kept_apart : (word rest : List ℕ) → list_all is_inner word ≡ true → list_all is_kept rest ≡ true
-    → list_all is_kept (word ++ 32 ∷ rest) ≡ true
-kept_apart word rest inner kept = list_all-append is_kept word (32 ∷ rest)
-    ∙ and_from (list_all is_kept word) (list_all is_kept rest) (inner_kept word inner) kept
+kept_apart : (word rest : List ℕ) → list_all is_word_byte word ≡ true → list_all is_line_byte rest ≡ true
+    → list_all is_line_byte (word ++ 32 ∷ rest) ≡ true
+kept_apart word rest inner kept = list_all-append is_line_byte word (32 ∷ rest)
+    ∙ and_from (list_all is_line_byte word) (list_all is_line_byte rest) (inner_kept word inner) kept
 
 -- a line that isn't long is read by its words
 short_said : (bytes : List ℕ) → length bytes ≤ 32 → parsed_list_line bytes ≡ parsed_list_words (words_in bytes)
@@ -59,7 +59,7 @@ pub record IsLine (bytes : List ℕ) (l : ListLine) : Type 0 where
 -- the coordinates of a needle
 pub record IsNear (z : ℤ) : Type 0 where
   pub size : unsigned_abs z ≤ 30000
-  pub inner : list_all is_inner (signed_decimal z) ≡ true
+  pub inner : list_all is_word_byte (signed_decimal z) ≡ true
   pub short : length (signed_decimal z) ≤ 6
   pub read : canonical_number_of (signed_decimal z) ≡ whole.Value z
 
@@ -84,7 +84,7 @@ record HasPoint (word : List ℕ) (p : Point) : Type 0 where
   parsed : parsed_list_line (point_line word p) ≡ parsed_list_words (word ∷ signed_decimal p.x ∷ signed_decimal p.y ∷ [])
   kept : Lacks (point_line word p)
 
-has_point : (word : List ℕ) (p : Point) → list_all is_inner word ≡ true → length word ≤ 6
+has_point : (word : List ℕ) (p : Point) → list_all is_word_byte word ≡ true → length word ≤ 6
     → IsTrue (is_point_within NEEDLE_LIMIT p) → HasPoint word p
 has_point word p inner few within =
     let both = near_both p within in

@@ -30,13 +30,13 @@ use Rattle.stitch_text.specs.Readings.{ParsedList, parsed_acts, begun_draft, is_
 use Rattle.stitch_text.specs.StitchLists.{act_line, act_lines, list_block_line, signature_line, label_line, list_of, list_write_limits}
 use Rattle.stitch_text.specs.Words.{has_trailing_space, is_valid_label, is_printable}
 use Rattle.text_parts.specs.Parts.{parts_between}
-use Rattle.stitch_text.proofs.ActLemmas.{acts_again, are_told, commands_along, is_told, moves_within, no_fault, told}
+use Rattle.stitch_text.proofs.ActLemmas.{acts_again, commands_along, moves_within, no_fault}
 use Rattle.stitch_text.proofs.LabelLemmas.{label_to, label_yes}
 use Rattle.stitch_text.proofs.LineLemmas.{IsLine, Lacks, block_is, lacks_from, needle_is, trim_is}
 use Rattle.stitch_text.proofs.ReadingLemmas.{acts_judged, first_is, label_is}
 use Rattle.stitch_text.proofs.ReadingLemmas.{block_is as first_block_is}
-use Rattle.format_traits.proofs.CallerLemmas.{or_else_none}
-use Rattle.text_parts.proofs.CallerLemmas.{is_kept}
+use Rattle.format_traits.proofs.CallerLemmas.{are_told, is_told, or_else_none, told}
+use Rattle.text_parts.proofs.CallerLemmas.{is_line_byte}
 
 -- a line before others
 pub line_before : (bytes text : List ℕ) → Lacks bytes → parts_between 10 (bytes ++ 10 ∷ text) ≡ bytes ∷ parts_between 10 text
@@ -152,18 +152,18 @@ acts_read thread (a ∷ rest) draft at told in_range none =
     (append_assoc draft.design.commands (list_commands_of a.act) (commands_along rest))
 
 -- the line of a label is one
-label_kept : (label : List ℕ) → list_all is_printable label ≡ true → list_all is_kept label ≡ true
+label_kept : (label : List ℕ) → list_all is_printable label ≡ true → list_all is_line_byte label ≡ true
 label_kept [] printable = refl
 label_kept (b ∷ label) printable =
     let both = and_parts (is_printable b) (list_all is_printable label) printable in
-    and_from (is_kept b) (list_all is_kept label) (grind (arith, nat_tests, both.0)) (label_kept label both.1)
+    and_from (is_line_byte b) (list_all is_line_byte label) (grind (arith, nat_tests, both.0)) (label_kept label both.1)
 
 label_lacks : (label : List ℕ) → is_valid_label label ≡ true → Lacks (label_line label)
 label_lacks label is =
     let outer = and_parts (nat_le (length label) 16) (list_all is_printable label && not (has_trailing_space label)) is in
     let inner = and_parts (list_all is_printable label) (not (has_trailing_space label)) outer.1 in
-    lacks_from (label_line label) (list_all-append is_kept label (93 ∷ [])
-    ∙ and_from (list_all is_kept label) true (label_kept label inner.0) refl)
+    lacks_from (label_line label) (list_all-append is_line_byte label (93 ∷ [])
+    ∙ and_from (list_all is_line_byte label) true (label_kept label inner.0) refl)
 
 -- the threads in the list of a design
 abbrev pub threads_told : DesignValue → List ℕ

@@ -1,4 +1,5 @@
-ghost use Rattle.std.specs.Prelude.{◌≡◌};
+ghost use Rattle.std.specs.Prelude.{◌≡◌, refl};
+ghost use Rattle.stitch_text.specs.Format.{list_meaning};
 ghost use Rattle.stitch_text.specs.StitchLists.{list_write_limits};
 
 use crate::list_decoder::ListDecoder;
@@ -30,9 +31,6 @@ pub(crate) fn write_limits() -> WriteLimits
 pub struct ListCodec;
 
 impl Codec for ListCodec {
-    ghost use Rattle.std.specs.Prelude.{refl};
-    ghost use Rattle.stitch_text.specs.Format.{list_meaning};
-
     type Decoder = ListDecoder;
 
     ghost codec_meaning = { list_meaning };

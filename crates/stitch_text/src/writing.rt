@@ -70,7 +70,8 @@ impl ActWriter for LineWriter<'_> {
 
     ghost write_limits = { λ _. list_write_limits };
 
-    ghost act_bytes = { λ w before act. act_line (thread_of w.design.now) before.stops act ++ 10 ∷ [] };
+    ghost act_bytes = { λ w before act.
+        act_line (thread_of w.design.now) before.stops act ++ 10 ∷ [] };
 
     #[inline(always)]
     fn write_limits(&self) -> WriteLimits {

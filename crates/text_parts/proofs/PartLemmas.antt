@@ -10,7 +10,7 @@ use Rattle.std.specs.Option.{unwrap_or}
 use Rattle.text_parts.specs.Parts.{parts_between}
 
 -- one byte more is left out
-drop_one : (place : ℕ) (bytes : List ℕ) → drop 1 (drop place bytes) ≡ drop (place + 1) bytes
+pub drop_one : (place : ℕ) (bytes : List ℕ) → drop 1 (drop place bytes) ≡ drop (place + 1) bytes
 drop_one zero bytes = refl
 drop_one (suc place) [] = sym (drop-nil (suc place + 1))
 drop_one (suc place) (b ∷ bytes) =

@@ -5,6 +5,7 @@ ghost use Rattle.text_parts.specs.Parts.{parts_between};
 use memchr::memchr;
 
 /// Returns the bytes before the first mark and those after it, if there is a mark.
+#[inline(always)]
 pub fn split_first(bytes: &[u8], mark: u8) -> Option<(&[u8], &[u8])>
     ensures some { IfSome result (λ r. parts_between mark bytes.now
         ≡ r.0.now ∷ parts_between mark r.1.now) }
@@ -13,7 +14,12 @@ pub fn split_first(bytes: &[u8], mark: u8) -> Option<(&[u8], &[u8])>
         (λ r. length r.0.now + 1 + length r.1.now ≡ length bytes.now) }
     ensures none { IfNone result (parts_between mark bytes.now ≡ bytes.now ∷ []) }
 {
-    split_around(bytes, mark, first_index(bytes, mark))
+    let (before, from) = bytes.split_at(first_index(bytes, mark));
+    if from.is_empty() {
+        return None;
+    }
+    let (_, behind) = from.split_at(1);
+    Some((before, behind))
 }
 
 /// Returns the bytes before the first end of a line (10) and those after it, if there is one.
@@ -25,33 +31,18 @@ pub fn split_line(bytes: &[u8]) -> Option<(&[u8], &[u8])>
         (λ r. length r.0.now + 1 + length r.1.now ≡ length bytes.now) }
     ensures none { IfNone result (parts_between 10 bytes.now ≡ bytes.now ∷ []) }
 {
-    split_around(bytes, b'\n', line_length(bytes))
-}
-
-#[inline(always)]
-fn split_around(bytes: &[u8], mark: u8, place: usize) -> Option<(&[u8], &[u8])>
-    requires value { place ≡ position_or_len (λ b. b == mark) bytes.now }
-    requires within { place ≤ length bytes.now }
-    ensures some { IfSome result (λ r. parts_between mark bytes.now
-        ≡ r.0.now ∷ parts_between mark r.1.now) }
-    ensures rest { IfSome result (λ r. r.1.now ≡ drop (length r.0.now + 1) bytes.now) }
-    ensures sizes { IfSome result
-        (λ r. length r.0.now + 1 + length r.1.now ≡ length bytes.now) }
-    ensures none { IfNone result (parts_between mark bytes.now ≡ bytes.now ∷ []) }
-{
-    let (before, from) = bytes.split_at(place);
-    if from.is_empty() {
-        return None;
-    }
-    let (_, behind) = from.split_at(1);
-    Some((before, behind))
+    split_first(bytes, b'\n')
 }
 
 // A word is short, and searched byte by byte; a line is not.
+#[inline(always)]
 fn first_index(bytes: &[u8], mark: u8) -> usize
     ensures value { result ≡ position_or_len (λ b. b == mark) bytes.now }
     ensures within { result ≤ length bytes.now }
 {
+    if mark == b'\n' {
+        return line_length(bytes);
+    }
     for (index, byte) in bytes.iter().enumerate() {
         if *byte == mark {
             return index;

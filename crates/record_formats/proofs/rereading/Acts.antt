@@ -32,23 +32,12 @@ use Rattle.record_formats.proofs.rereading.Runs.{Spares, trims_in, trims_over, t
 use Rattle.record_formats.proofs.rereading.Steps.{GoesOn, goes_end, goes_stitch, goes_stop}
 use Rattle.record_formats.proofs.rereading.Trims.{goes_trimmed}
 use Rattle.design_model.proofs.CallerLemmas.{are_in_range, within_from}
-use Rattle.format_traits.proofs.CallerLemmas.{not_refused, or_else_none}
+use Rattle.format_traits.proofs.CallerLemmas.{are_told, is_told, not_refused, or_else_none}
 
 -- how a reader stands between acts: after a needle no jump came, after others the run is over or long
 abbrev pub Between : Option ℕ → Bool → ℕ → Bool → Type 0
 Between most true run jumped = IsPastTrimmedJump most run
 Between most false run jumped = (run ≡ 0) × (jumped ≡ false)
-
--- an act that the fold over commands can give: no float of a loose thread, and no trim of one
-abbrev pub is_told : Bool → Act → Bool
-is_told loose (act.Needle p float) = not (loose && float)
-is_told loose act.Trim = not loose
-is_told loose act.Stop = true
-
--- all acts are so
-abbrev pub are_told : Bool → List NumberedAct → Bool
-are_told loose [] = true
-are_told loose (a ∷ rest) = is_told loose a.act && are_told (leaves_thread_loose a.act) rest
 
 range_after : (place : Point) (a : Act) → IsTrue (is_point_within NEEDLE_LIMIT place) → IsTrue (is_act_in_range a)
     → IsTrue (is_point_within NEEDLE_LIMIT (needle_position_after place a))
