@@ -2,22 +2,8 @@
 //! places that were probably not meant.
 #![tactic(auto)]
 
-#[cfg(test)]
-mod cut_drawings;
-#[cfg(test)]
-mod drawings;
-#[cfg(test)]
-mod joined_drawings;
-#[cfg(test)]
-mod places;
 mod point_lists;
 #[cfg(test)]
-mod samples;
-#[cfg(test)]
-mod sections;
-#[cfg(test)]
-mod texts;
-#[cfg(test)]
-mod traces;
+mod tests;
 
 pub use point_lists::points_of;

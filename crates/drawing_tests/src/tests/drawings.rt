@@ -2,6 +2,7 @@ use crate::points_of;
 use design_model::{Point, Points};
 use drawing_model::{DrawKind, Drawing, DrawingMaker, MAX_STEP, is_label_word, needles};
 use std::alloc::Global;
+use std::process::Abort;
 use std::test::Fail;
 
 /// A part of a drawing in the making: a block of the given thread, or a line through the given places.
@@ -39,11 +40,9 @@ fn fault(alloc: Global, step: u32, parts: &[DrawingPart]) -> Option<DrawKind> {
     grown(alloc, step, parts).err()
 }
 
-#[test]
-fn a_drawing_has_the_blocks_and_lines_that_it_grew_by(rt: HostRuntime) -> Result<(), Fail> {
-    let d = grown(rt.alloc(), 30, &SQUARES).ok().ok_or("two squares")?;
+/// Compares a drawing with the two squares, except for its label.
+pub fn compare_squares(rt: &impl Abort, d: &Drawing) {
     assert_eq!(rt; d.step(), 30);
-    assert!(rt; d.label() == b"rose".as_slice());
     assert!(rt; d.threads() == [3, 9].as_slice());
     assert_eq!(rt; d.block_count(), 2);
     assert_eq!(rt; d.line_count(), 2);
@@ -53,6 +52,13 @@ fn a_drawing_has_the_blocks_and_lines_that_it_grew_by(rt: HostRuntime) -> Result
         assert_eq!(rt; d.line_block(1), 1);
         assert!(rt; d.line_points(1).first() == Some(&Point { x: 300, y: 0 }));
     }
+}
+
+#[test]
+fn a_drawing_has_the_blocks_and_lines_that_it_grew_by(rt: HostRuntime) -> Result<(), Fail> {
+    let d = grown(rt.alloc(), 30, &SQUARES).ok().ok_or("two squares")?;
+    assert!(rt; d.label() == b"rose".as_slice());
+    compare_squares(&rt, &d);
     Ok(())
 }
 

@@ -5,7 +5,7 @@ use std::alloc::Global;
 use std::test::Fail;
 
 /// Lines, each by its block and its places.
-type Places = &'static [(u32, &'static [(i32, i32)])];
+pub type Places = &'static [(u32, &'static [(i32, i32)])];
 
 /// Lines, and their sections.
 struct Case {
@@ -71,7 +71,8 @@ const CASES: [Case; 5] = [
     },
 ];
 
-fn lines(alloc: Global, places: Places) -> Result<Vec<Line>, Memory> {
+/// Returns these lines.
+pub fn lines(alloc: Global, places: Places) -> Result<Vec<Line>, Memory> {
     let mut lines = Vec::new(alloc);
     for (block, places) in places {
         lines.push(Line::new(*block, points_of(alloc, places)?))?;

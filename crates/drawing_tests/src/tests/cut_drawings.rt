@@ -1,7 +1,7 @@
 ghost use Rattle.std.specs.Prelude.{◌<◌};
 
-use crate::drawings::DrawingPart::{self, Block, Line};
-use crate::drawings::grown;
+use super::drawings::DrawingPart::{self, Block, Line};
+use super::drawings::grown;
 use crate::points_of;
 use design_model::Point;
 use drawing_model::{DrawKind, Drawing, DrawingMaker};
@@ -11,14 +11,13 @@ use std::alloc::Global;
 use std::test::Fail;
 
 /// An expected piece: its block, its lines, junctions, edges and degrees.
-#[derive(Clone, Copy)]
-struct Wanted {
-    block: u32,
-    lines: &'static [u32],
-    junctions: &'static [(i32, i32)],
-    edges: &'static [(u32, u32, u32)],
-    degrees: &'static [u32],
-}
+type Wanted = (
+    u32,
+    &'static [u32],
+    &'static [(i32, i32)],
+    &'static [(u32, u32, u32)],
+    &'static [u32],
+);
 
 const TRIANGLES: [DrawingPart; 7] = [
     Block(1),
@@ -59,11 +58,11 @@ const CROSSING: [DrawingPart; 5] = [
 const TABLE: [(&[DrawingPart], &[Wanted]); 4] = [
     (
         &TRIANGLES,
-        &[Wanted {
-            block: 0,
-            lines: &[0, 1, 2, 3, 4, 5],
-            junctions: &[(0, 0), (50, 0), (0, 30), (90, 0), (90, 20)],
-            edges: &[
+        &[(
+            0,
+            &[0, 1, 2, 3, 4, 5],
+            &[(0, 0), (50, 0), (0, 30), (90, 0), (90, 20)],
+            &[
                 (0, 1, 5),
                 (1, 2, 5),
                 (2, 0, 3),
@@ -71,55 +70,43 @@ const TABLE: [(&[DrawingPart], &[Wanted]); 4] = [
                 (1, 4, 4),
                 (4, 3, 2),
             ],
-            degrees: &[2, 4, 2, 2, 2],
-        }],
+            &[2, 4, 2, 2, 2],
+        )],
     ),
     (
         &LOLLIPOP,
         &[
-            Wanted {
-                block: 0,
-                lines: &[0],
-                junctions: &[(0, 0), (20, 0)],
-                edges: &[(0, 1, 2)],
-                degrees: &[1, 1],
-            },
-            Wanted {
-                block: 1,
-                lines: &[1, 2],
-                junctions: &[(20, 0), (0, 0)],
-                edges: &[(0, 0, 6), (1, 0, 2)],
-                degrees: &[3, 1],
-            },
+            (0, &[0], &[(0, 0), (20, 0)], &[(0, 1, 2)], &[1, 1]),
+            (
+                1,
+                &[1, 2],
+                &[(20, 0), (0, 0)],
+                &[(0, 0, 6), (1, 0, 2)],
+                &[3, 1],
+            ),
         ],
     ),
     (
         &THETA,
-        &[Wanted {
-            block: 0,
-            lines: &[0, 1, 2],
-            junctions: &[(0, 0), (10, 0)],
-            edges: &[(0, 1, 1), (1, 0, 2), (0, 1, 7)],
-            degrees: &[3, 3],
-        }],
+        &[(
+            0,
+            &[0, 1, 2],
+            &[(0, 0), (10, 0)],
+            &[(0, 1, 1), (1, 0, 2), (0, 1, 7)],
+            &[3, 3],
+        )],
     ),
     (
         &CROSSING,
         &[
-            Wanted {
-                block: 0,
-                lines: &[0, 1, 3],
-                junctions: &[(0, 0), (20, 20), (20, 0), (0, 20)],
-                edges: &[(0, 1, 2), (2, 3, 2), (3, 1, 2)],
-                degrees: &[1, 2, 1, 2],
-            },
-            Wanted {
-                block: 0,
-                lines: &[2],
-                junctions: &[(10, 10), (15, 5)],
-                edges: &[(0, 1, 1)],
-                degrees: &[1, 1],
-            },
+            (
+                0,
+                &[0, 1, 3],
+                &[(0, 0), (20, 20), (20, 0), (0, 20)],
+                &[(0, 1, 2), (2, 3, 2), (3, 1, 2)],
+                &[1, 2, 1, 2],
+            ),
+            (0, &[2], &[(10, 10), (15, 5)], &[(0, 1, 1)], &[1, 1]),
         ],
     ),
 ];
@@ -138,14 +125,15 @@ fn edges(alloc: Global, ends: &[(u32, u32, u32)]) -> Result<Edges, DrawKind> {
 
 /// Returns whether a piece is the expected one.
 fn is_wanted(alloc: Global, piece: &Piece, wanted: &Wanted) -> Result<bool, DrawKind> {
-    let junctions = points_of(alloc, wanted.junctions)?;
-    let edges = edges(alloc, wanted.edges)?;
+    let (block, lines, junctions, ends, degrees) = *wanted;
+    let junctions = points_of(alloc, junctions)?;
+    let edges = edges(alloc, ends)?;
     Ok(
-        piece.block == wanted.block
-            && piece.lines.as_slice() == wanted.lines
+        piece.block == block
+            && piece.lines.as_slice() == lines
             && piece.junctions.as_slice() == junctions.as_slice()
             && piece.edges.as_slice() == edges.as_slice()
-            && piece.degrees.as_slice() == wanted.degrees
+            && piece.degrees.as_slice() == degrees
             && piece.start.is_none()
             && piece.end.is_none(),
     )

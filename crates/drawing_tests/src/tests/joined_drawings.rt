@@ -1,5 +1,5 @@
-use crate::drawings::DrawingPart::{Block, Line};
-use crate::drawings::grown;
+use super::drawings::DrawingPart::{Block, Line};
+use super::drawings::grown;
 use crate::points_of;
 use design_model::{Point, Points};
 use drawing_model::{DrawKind, Drawing, DrawingMaker, join, joined};

@@ -1,0 +1,196 @@
+use super::drawings::compare_squares;
+use drawing_model::DrawKind::{
+    self, BadHeader, BadNumber, BadWord, EmptyBlock, FewPoints, NoBlock, OutOfRange, RepeatedPoint,
+    TooManyBlocks, TooManyLines, TooManyPoints, TooMuchCost,
+};
+use drawing_model::Drawing;
+use drawing_text::{
+    DrawFault, MAX_TEXT, print_drawing, print_drawing2, read_as2, read_drawing, read_lines,
+};
+use lists_and_numbers::Bytes;
+use std::alloc::Global;
+use std::test::Fail;
+use test_values::repeated;
+
+fn drawing(alloc: Global, text: &[u8]) -> Result<Drawing, DrawFault> {
+    if text.len() > MAX_TEXT {
+        let kind = DrawKind::Memory;
+        return Err(DrawFault { number: 0, kind });
+    }
+    read_drawing(alloc, text)
+}
+
+/// The canonical text of a drawing, if it has no start and no end.
+fn printed(alloc: Global, d: &Drawing) -> Option<Bytes> {
+    let [] = d.starts() else {
+        return None;
+    };
+    let [] = d.ends() else {
+        return None;
+    };
+    print_drawing(alloc, d).ok()
+}
+
+fn fault(alloc: Global, text: &[u8]) -> (u32, Option<DrawKind>) {
+    match drawing(alloc, text) {
+        Ok(_) => (0, None),
+        Err(fault) => (fault.number, Some(fault.kind)),
+    }
+}
+
+const SQUARES: &str = "redwork 1
+step 30
+color 3
+line 0 0 30 0 30 30 0 30 0 0
+color 9
+line 300 0 330 0 330 30 300 30 300 0
+";
+
+#[test]
+fn a_drawing_of_two_blocks_is_read_and_printed_again(rt: HostRuntime) -> Result<(), Fail> {
+    let d = drawing(rt.alloc(), SQUARES.as_bytes())
+        .ok()
+        .ok_or("two squares")?;
+    let text = printed(rt.alloc(), &d).ok_or("no text")?;
+    assert!(rt; text.as_slice() == SQUARES.as_bytes());
+    compare_squares(&rt, &d);
+    Ok(())
+}
+
+#[test]
+fn texts_of_any_spelling_are_read(rt: HostRuntime) -> Result<(), Fail> {
+    let table = [
+        "redwork 1\nname Rose\ncolor 7\nline 0 0 5 5",
+        "\n# a rose\n\tredwork \t 1\r\nname Rose\r\n  # red\r\ncolor 007\r\nline -0 0 05 5\r\n",
+        "redwork 1\nstep 25\nname Rose\n\ncolor 7\nline 0 0 5 5\n\n#\n \n",
+    ];
+    for text in table {
+        let d = drawing(rt.alloc(), text.as_bytes())
+            .ok()
+            .ok_or("a drawing")?;
+        let plain = printed(rt.alloc(), &d).ok_or("no text")?;
+        let wanted = "redwork 1\nname Rose\nstep 25\ncolor 7\nline 0 0 5 5\n";
+        assert!(rt; plain.as_slice() == wanted.as_bytes(), "{text}");
+    }
+    Ok(())
+}
+
+/// Two lines through one point, after a header.
+const CROSSING: &str = "step 10\ncolor 1\nline 0 0 10 0 20 0\nline 10 -10 10 0 10 10\n";
+
+/// The sections of these two lines, in the canonical text of version 2.
+const CROSSED: &str = "redwork 2
+step 10
+color 1
+line 0 0 10 0
+line 10 0 20 0
+line 10 -10 10 0
+line 10 0 10 10
+";
+
+#[test]
+fn lines_of_version_2_meet_at_shared_points(rt: HostRuntime) -> Result<(), Fail> {
+    for (header, lines) in [("redwork 1\n", 2), ("redwork 2\n", 4)] {
+        let text = repeated(rt.alloc(), header.as_bytes(), CROSSING.as_bytes(), 1, b"")
+            .ok()
+            .ok_or("no memory")?;
+        let d = drawing(rt.alloc(), text.as_slice())
+            .ok()
+            .ok_or("a drawing")?;
+        assert_eq!(rt; d.line_count(), lines);
+        if text.len() <= MAX_TEXT {
+            let whole = read_as2(rt.alloc(), text.as_slice())
+                .ok()
+                .ok_or("a drawing")?;
+            let plain = print_drawing2(rt.alloc(), &whole).ok().ok_or("no memory")?;
+            assert!(rt; plain.as_slice() == CROSSED.as_bytes(), "{header}");
+        }
+    }
+    Ok(())
+}
+
+#[test]
+fn the_first_fault_of_a_text_is_told_with_its_line(rt: HostRuntime) {
+    let table = [
+        // Faults of a head.
+        ("", 1, BadHeader),
+        ("# a\n\n", 3, BadHeader),
+        ("redwork 01\n", 1, BadHeader),
+        ("redwork 4\n", 1, BadHeader),
+        ("redwork 2 1\n", 1, BadHeader),
+        ("redwork 2\nfoo\n", 2, BadWord),
+        ("redwork 2\nname a\n", 3, NoBlock),
+        ("redwork 1\nfoo\n", 2, BadWord),
+        ("redwork 1\nstep 5\nstep 5\n", 3, BadWord),
+        ("redwork 1\ncolor 1\nname a\n", 3, BadWord),
+        ("redwork 1\nname a\r\r\n", 2, BadWord),
+        ("redwork 1\nstep +5\n", 2, BadNumber),
+        ("redwork 1\nstep 99999999999999999999x\n", 2, BadNumber),
+        ("redwork 1\nstep 99999999999999999999\n", 2, OutOfRange),
+        ("redwork 1\nstep 2048\n", 2, OutOfRange),
+        // Faults of a block.
+        ("redwork 1\ncolor 256\n", 2, OutOfRange),
+        ("redwork 1\ncolor 1\n", 2, EmptyBlock),
+        ("redwork 1\ncolor 1\n#\ncolor 2\n", 2, EmptyBlock),
+        ("redwork 1\ncolor 1\nfoo\n", 3, BadWord),
+        ("redwork 1\ncolor 1\ncolor x\n", 3, BadNumber),
+        ("redwork 1\ncolor 1\nline 0 0\ncolor 2\n", 3, FewPoints),
+        ("redwork 1\nname a\n", 3, NoBlock),
+        ("redwork 1\nline 0 0 x\n", 2, NoBlock),
+        ("redwork 1\ncolor 1\nline 30001 x\n", 3, OutOfRange),
+        ("redwork 1\ncolor 1\nline x 30001\n", 3, BadNumber),
+        ("redwork 1\ncolor 1\nline 0 0 0 0 1\n", 3, FewPoints),
+        ("redwork 1\ncolor 1\nline 0 0 0 -0\n", 3, RepeatedPoint),
+    ];
+    for (text, number, kind) in table {
+        let found = fault(rt.alloc(), text.as_bytes());
+        assert!(rt; found == (number, Some(kind)), "{text}");
+    }
+}
+
+#[test]
+fn a_drawing_has_so_many_blocks_lines_points_and_steps(rt: HostRuntime) -> Result<(), Fail> {
+    let (blocks, block) = ("redwork 1\n", "color 1\nline 0 0 1 0\n");
+    let (lines, line) = ("redwork 1\ncolor 1\n", "line 0 0 1 0\n");
+    let (points, pair) = ("redwork 1\nstep 2047\ncolor 1\nline", " 0 0 1 0");
+    let steps = "redwork 1\nstep 1\ncolor 1\n";
+    let cases = [
+        (blocks, block, 255, "", 0, None),
+        (blocks, block, 256, "", 512, Some(TooManyBlocks)),
+        (lines, line, 1_024, "", 0, None),
+        (lines, line, 1_025, "", 1_027, Some(TooManyLines)),
+        (points, pair, 32_768, "\n", 0, None),
+        (points, pair, 32_768, " 0 0\n", 4, Some(TooManyPoints)),
+        (points, pair, 32_768, " 0 0 0\n", 4, Some(FewPoints)),
+        (steps, "line 0 0 20000 0\n", 10, "", 0, None),
+        (steps, "line 0 0 30000 0\n", 7, "", 10, Some(TooMuchCost)),
+    ];
+    for (head, middle, times, end, number, kind) in cases {
+        let (head, middle, end) = (head.as_bytes(), middle.as_bytes(), end.as_bytes());
+        let text = repeated(rt.alloc(), head, middle, times, end)?;
+        let found = fault(rt.alloc(), text.as_slice());
+        assert!(rt; found == (number, kind), "{times} times {middle:?}");
+    }
+    Ok(())
+}
+
+#[test]
+fn the_longest_text_is_read_in_one_pass(rt: HostRuntime) -> Result<(), Fail> {
+    let head = b"redwork 1\ncolor 1\nline 0 0 1 0\n";
+    let text = repeated(rt.alloc(), head, b"# sixteen bytes\n", 4_194_301, b"")
+        .ok()
+        .ok_or("no memory")?;
+    assert!(rt; text.len() > MAX_TEXT - 32);
+    assert!(rt; fault(rt.alloc(), text.as_slice()) == (0, None));
+    Ok(())
+}
+
+#[test]
+fn lines_are_read_as_they_are_drawn(rt: HostRuntime) -> Result<(), Fail> {
+    let text = b"redwork 3\ncolor 1\nline 0 0 9 0 9 9\nline 9 -9 9 0\nend 5 5\n";
+    let drawn = read_lines(rt.alloc(), text).ok().ok_or("lines")?;
+    assert_eq!(rt; drawn.drawing.line_count(), 2);
+    assert_eq!(rt; drawn.ends.len(), 1);
+    assert_eq!(rt; fault(rt.alloc(), text).0, 5);
+    Ok(())
+}
