@@ -47,11 +47,6 @@ ends_put section block first last after old mid new in_block points is_last one 
     ∙ ap₂ (λ (b : ℕ) (ends : List Point). ((b == q.block) && list_any (is_same_point q.at) ends) || old q) in_block
     (ap (λ (l : Point). first ∷ l ∷ []) is_last ∙ sym (ap (λ (ps : List Point). endpoints ps) points))
 
--- spots that are found exactly where they are junctions
-pub all_junctions : (found : Spot → Bool) (sections left : List LineValue)
-    → ((q : Spot) → (found q || is_junction left q) ≡ is_junction sections q) → left ≡ [] → found ≡ is_junction sections
-all_junctions found sections left h1 h2 = grind (arith, nat_tests)
-
 -- a spot is found after the ends of the next section were put in, or is an end of a later one
 pub junctions_go_on : (found new : Spot → Bool) (sections left rest : List LineValue) (section : LineValue)
     → ((q : Spot) → (found q || is_junction left q) ≡ is_junction sections q) → left ≡ section ∷ rest

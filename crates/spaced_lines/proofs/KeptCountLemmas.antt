@@ -27,16 +27,12 @@ places_append : (t : Point → Bool) (xs ys : List Point) → places t (xs ++ ys
 places_append t [] ys = omega arith
 places_append t (x ∷ xs) ys = omega (arith, places_append t xs ys)
 
-one_tested : (t : Point → Bool) (x : Point) (kept xs : List Point) (s u : Bool) → t x ≡ u → (u ≡ true → s ≡ true)
-    → places t kept ≡ places t xs → places t (cond s (x ∷ kept) kept) ≡ places t (x ∷ xs)
-one_tested t x kept xs s u h1 h2 h3 = grind (arith, nat_tests)
-
 -- a test that only points that stay pass counts these alone
 places_tested : (stays t : Point → Bool) → ((x : Point) → t x ≡ true → stays x ≡ true) → (xs : List Point)
     → places t (filter stays xs) ≡ places t xs
 places_tested stays t so [] = refl
 places_tested stays t so (x ∷ xs) =
-    one_tested t x (filter stays xs) xs (stays x) (t x) refl (so x) (places_tested stays t so xs)
+    grind (arith, nat_tests, (filter stays xs), (places_tested stays t so xs))
 
 same_places : (stays t : Point → Bool) (step : ℕ) (points : List Point) → ((x : Point) → t x ≡ true → stays x ≡ true)
     → places t (spaced_points stays step points) ≡ places t points
@@ -64,9 +60,6 @@ listed_one : (t : Point → Bool) (line : LineValue) (others : List LineValue) (
 listed_one t line others true = places_append t line.points (points_along_lines others)
 listed_one t line others false = omega arith
 
-where_true : (c : Bool) (m n : ℕ) → (c ≡ true → m ≡ n) → cond c m 0 ≡ cond c n 0
-where_true c m n h1 = grind (arith, nat_tests)
-
 where_fewer : (c : Bool) (m n : ℕ) → m ≤ n → cond c m 0 ≤ cond c n 0
 where_fewer c m n h1 = grind (arith, nat_tests)
 
@@ -80,7 +73,7 @@ same_listed spots step block t (line ∷ rest) same =
     (filter (λ (l : LineValue). l.block == block) (map (spaced_line spots step) rest)) (line.block == block) in
     let other = listed_one t line (filter (λ (l : LineValue). l.block == block) rest) (line.block == block) in
     one ∙ (ap₂ (λ (m n : ℕ). m + n)
-    (where_true (line.block == block) (places t (spaced_line spots step line).points) (places t line.points) (same line))
+    (grind (arith, nat_tests, (line.block == block)))
     (same_listed spots step block t rest same) ∙ sym other)
 
 fewer_listed : (spots : Spot → Bool) (step block : ℕ) (t : Point → Bool) (lines : List LineValue)
@@ -114,19 +107,9 @@ shared_same spots step block lines p stays =
     each line here = same_places (is_spot_of spots line.block) (is_same_point p) step line.points
         (λ x same. ap₂ (λ (b : ℕ) (q : Point). is_spot_of spots b q) (eqb-true line.block block here) (sym (same_is p x same)) ∙ stays)
 
-still_unshared : (m n : ℕ) → m ≤ n → nat_le 2 n ≡ false → (b : Bool) → nat_le 2 m ≡ b → b ≡ false
-still_unshared m n h1 h2 b h3 = grind (arith, nat_tests)
-
 -- a point that isn't shared isn't shared afterwards
 pub unshared_still : (spots : Spot → Bool) (step block : ℕ) (lines : List LineValue) (p : Point)
     → is_shared_point lines block p ≡ false → is_shared_point (map (spaced_line spots step) lines) block p ≡ false
 unshared_still spots step block lines p is =
-    still_unshared (count_by (is_same_point p) (listed_in (map (spaced_line spots step) lines) block))
-    (count_by (is_same_point p) (listed_in lines block))
-    (omega (
-      arith,
-      counted (is_same_point p) (listed_in (map (spaced_line spots step) lines) block),
-      counted (is_same_point p) (listed_in lines block),
-      fewer_listed spots step block (is_same_point p) lines,
-    ))
-    is _ refl
+    grind (arith, nat_tests, counted (is_same_point p) (listed_in (map (spaced_line spots step) lines) block), counted (is_same_point p)
+        (listed_in lines block), fewer_listed spots step block (is_same_point p) lines, )

@@ -27,14 +27,9 @@ ends_with a (ends ∷ rest) = begun_at a ends ∷ rest
 abbrev ends_joined : Bool → (a q : Point) → List (List Point) → List (List Point)
 ends_joined cut a q ends = if cut then (a ∷ q ∷ []) ∷ ends else ends_with a ends
 
-ends_by : (a q : Point) (cut : Bool) (behind : List (List Point))
-    → map (λ (s : List Point). endpoints s) (if cut then (a ∷ q ∷ []) ∷ behind else sections_with_first a behind)
-    ≡ ends_joined cut a q (map (λ (s : List Point). endpoints s) behind)
-ends_by a q cut behind = grind (arith, nat_tests)
-
 ends_step : (cut : Point → Bool) (a q : Point) (rest : List Point)
     → ends_from cut a (q ∷ rest) ≡ ends_joined (has_points rest && cut q) a q (ends_from cut q rest)
-ends_step cut a q rest = ends_by a q (has_points rest && cut q) (sections_from cut q rest)
+ends_step cut a q rest = grind (arith, nat_tests)
 
 -- the first section begins at the point a
 record BeginsAt (a : Point) (ends : List (List Point)) : Type 0 where

@@ -16,10 +16,6 @@ use Rattle.spaced_lines.specs.SpacingLaws.{EachPointSavesAStep, SpacedLinesAreLi
 use Rattle.spaced_lines.proofs.SpacingLemmas.{left_out_stitch, of_kept}
 use Rattle.lists_and_numbers.proofs.CallerLemmas.{first_true, second_true}
 
--- a stitch has a length
-stitch_moves : (step : ℕ) (a b : Point) (points : List Point) → is_stitch_for step a b points ≡ true → a ≢ b
-stitch_moves step a b points h1 = grind (arith, nat_tests)
-
 -- a stitch is one step
 one_step : (size step : ℕ) → 1 ≤ step → size ≤ step → div_ceil size step ≤ 1
 one_step size step low most = let t = div_ceil_times size step low in grind arith
@@ -35,7 +31,7 @@ moving_after : (stays : Point → Bool) (step : ℕ) (a : Point) (since : List P
 moving_after stays step =
     of_kept stays step (λ a since p rest kept. a ≢ p → HasNoRepeatAfter p rest → HasNoRepeatAfter a kept)
     (λ a since p moves on. (moves, tt))
-    (λ a since p b rest is left moves on. left (stitch_moves step a b (p ∷ since) (left_out_stitch stays step a since p b is)) on.1)
+    (λ a since p b rest is left moves on. left (grind (arith, nat_tests, (left_out_stitch stays step a since p b is))) on.1)
     (λ a since p b rest kept moves on. (moves, kept on.0 on.1))
 
 all_after : (P : Point → Type 0) (stays : Point → Bool) (step : ℕ) (a : Point) (since : List Point) (p : Point) (rest : List Point)

@@ -196,9 +196,6 @@ limited_by many long x y whole joined more h1 = grind (arith, nat_tests)
 fits : (m n limit : ℕ) → m ≤ n → nat_lt limit n ≡ false → nat_lt limit m ≡ false
 fits m n limit less is = grind (arith, nat_tests, less, is)
 
-sewn_lines : (d : DrawingValue) → KeepsDrawingLimits d → All (λ line. 1 ≤ length line.points) d.lines
-sewn_lines d h1 = grind (arith, nat_tests)
-
 pub none_refused : LinesWithinLimitsAreDrawn → SpacedLinesKeepLimits → SectionsKeepEnds → SpacingRefusesNone
 none_refused drawn_as keep alike d joined starts ends keeps no_starts no_ends is =
     let lines : List LineValue = spaced_lines d.step d.lines in
@@ -213,9 +210,9 @@ none_refused drawn_as keep alike d joined starts ends keeps no_starts no_ends is
     sym (length-map new end_spots) ∙ ap (λ (e : List (List Spot)). length e) same ∙ length-map old end_spots in
     let lines_same : length lines ≡ length d.lines =
     length-map d.lines (spaced_line (is_junction (all_sections d.lines)) d.step) in
-    let size_new = all_size lines lines (sewn_lines spaced (keep d keeps)) in
-    let size_old = all_size d.lines d.lines (sewn_lines d keeps) in
-    let fewer = points_less d.step d.lines (sewn_lines d keeps) in
+    let size_new = all_size lines lines (grind (arith, nat_tests)) in
+    let size_old = all_size d.lines d.lines (grind (arith, nat_tests)) in
+    let fewer = points_less d.step d.lines (grind (arith, nat_tests)) in
     let short : point_count new ≤ point_count old = omega (arith, as_many, lines_same, size_new, size_old, fewer) in
     let few : nat_lt 1024 (length new) ≡ false = ap (λ (n : ℕ). nat_lt 1024 n) as_many ∙ parts.0 in
     let small : nat_lt 65536 (point_count new) ≡ false = fits (point_count new) (point_count old) 65536 short parts.1 in

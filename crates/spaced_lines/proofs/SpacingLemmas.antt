@@ -15,9 +15,6 @@ use Rattle.spaced_lines.specs.SpacedLines.{is_stitch_for, kept_after, leeway_of,
 use Rattle.spaced_lines.specs.SpacingLaws.{StandFor}
 use Rattle.lists_and_numbers.proofs.CallerLemmas.{first_true, second_true}
 
-pub not_true : (a : Bool) → not a ≡ true → a ≡ false
-not_true a h1 = grind (arith, nat_tests)
-
 -- What holds of the last point alone, and passes from the points kept after a point that is left out, or kept, to all those with it,
 -- holds of the points that a line keeps.
 module _ (stays : Point → Bool) (step : ℕ) (P : (a : Point) (since : List Point) (p : Point) (rest kept : List Point) → Type 0) where
@@ -43,7 +40,7 @@ module _ (stays : Point → Bool) (step : ℕ) (P : (a : Point) (since : List Po
 -- the test of a point that is left out
 pub untested : (stays : Point → Bool) (step : ℕ) (a : Point) (since : List Point) (p b : Point)
     → may_leave_out stays step a since p b ≡ true → stays p ≡ false
-untested stays step a since p b is = not_true (stays p) (first_true (not (stays p)) (is_stitch_for step a b (p ∷ since)) is)
+untested stays step a since p b is = grind (arith, nat_tests, (first_true (not (stays p)) (is_stitch_for step a b (p ∷ since)) is))
 
 and_turned : (a b : Bool) → (a && (b && true)) ≡ (b && a)
 and_turned a b = grind (arith, nat_tests)

@@ -1,14 +1,15 @@
-use Rattle.std.proofs.Common.{drop}
+use Rattle.std.proofs.Common.{drop, arith}
 use Rattle.std.proofs.lemmas.List.{drop_all, drop_more}
 use Rattle.std.specs.HashSet.{contains}
 use Rattle.line_sections.specs.Spots.{is_same_spot}
-use Rattle.spaced_lines.proofs.JunctionLemmas.{all_junctions, junctions_go_on}
+use Rattle.spaced_lines.proofs.JunctionLemmas.{junctions_go_on}
 use Rattle.spaced_lines.proofs.junction_spots.junctions.Goals as goal
+use Rattle.std.proofs.lemmas.Bool.Decides.{nat_tests}
 
 pub returns : goal.returns
-returns c = all_junctions (contains is_same_spot c.loop-section.junctions) c.args.sections.now
-    (drop c.loop-section.section-index c.args.sections.now) c.loop-section.invariant
-    (drop_all c.loop-section.section-index c.args.sections.now c.loop-section-test.false)
+returns c =
+    grind (arith, nat_tests, c.args.sections.now, (drop c.loop-section.section-index c.args.sections.now), c.loop-section.invariant,
+    (drop_all c.loop-section.section-index c.args.sections.now c.loop-section-test.false))
 
 pub loop-section-preserved : goal.loop-section-preserved
 loop-section-preserved c = junctions_go_on (contains is_same_spot c.loop-section.junctions)
