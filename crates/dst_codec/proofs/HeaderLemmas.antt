@@ -25,21 +25,17 @@ use Rattle.lists_and_numbers.proofs.CallerLemmas.{size-neg}
 length-padded_left : (places : ℕ) (text : List ℕ) → length text ≤ places → length (padded_left places text) ≡ places
 length-padded_left places text fits = grind (arith, nat_tests, length-replicate, length-append)
 
-length-field : (name contents : List ℕ) (n m : ℕ) → length name ≡ n → length contents ≡ m
-    → length (field name contents) ≡ n + m + 1
-length-field name contents n m is are = grind (arith, nat_tests, length-append)
-
 length-number_field : (name : List ℕ) (places n : ℕ) → length name ≡ 3 → 0 < places
     → n < 10 ^ places → n < 2 ^ 64 → length (number_field name places n) ≡ 3 + places + 1
-length-number_field name places n is some fits small = length-field name (padded_left places (decimal n)) 3 places is
-    (length-padded_left places (decimal n) (length-decimal-le places n some fits small))
+length-number_field name places n is some fits small =
+    grind (arith, nat_tests, length-append, (length-padded_left places (decimal n) (length-decimal-le places n some fits small)))
 
 length-signed_field : (name : List ℕ) (z : ℤ) → length name ≡ 3 → unsigned_abs z < 10 ^ 5
     → length (signed_field name z) ≡ 10
 length-signed_field name z is fits =
     let digits = length-padded_left 5 (decimal (unsigned_abs z))
     (length-decimal-le 5 (unsigned_abs z) (lit< tt) fits (omega (arith, fits))) in
-    length-field name (sign_code z ∷ padded_left 5 (decimal (unsigned_abs z))) 3 6 is (ap suc digits)
+    grind (arith, nat_tests, length-append, (ap suc digits))
 
 lengths : (a b c d e f g h i j k l : List ℕ) → length a ≡ 20 → length b ≡ 11 → length c ≡ 7
     → length d ≡ 9 → length e ≡ 9 → length f ≡ 9 → length g ≡ 9
@@ -63,7 +59,7 @@ length-fields_of label numbers short fits = lengths
     (signed_field (codes "MX:") (pos 0))
     (signed_field (codes "MY:") (pos 0))
     (field (codes "PD:") (codes "******"))
-    (length-field (codes "LA:") (label_field label) 3 MAX_LABEL refl (length-padded_right MAX_LABEL label short))
+    (grind (arith, nat_tests, length-append, (codes "LA:"), (length-padded_right MAX_LABEL label short)))
     (length-number_field (codes "ST:") 7 numbers.records refl (lit< tt) fits.records (omega (arith, fits.records)))
     (length-number_field (codes "CO:") 3 numbers.stops refl (lit< tt) fits.stops (omega (arith, fits.stops)))
     (length-number_field (codes "+X:") 5 numbers.extents.right refl (lit< tt) fits.right (omega (arith, fits.right)))
@@ -98,12 +94,6 @@ greatest_small measure small (a ∷ rest) all =
     measured_small measure small act.Trim here = omega arith
     measured_small measure small act.Stop here = omega arith
 
-above_small : (z : ℤ) (limit : ℕ) → unsigned_abs z ≤ limit → size_above_zero z ≤ limit
-above_small z limit h1 = grind (arith, nat_tests, ints)
-
-below_small : (z : ℤ) (limit : ℕ) → unsigned_abs z ≤ limit → size_below_zero z ≤ limit
-below_small z limit h1 = grind (arith, nat_tests, ints)
-
 -- the place after acts in range is in range
 place_in_range : (place : Point) (acts : List NumberedAct) → IsTrue (is_point_within NEEDLE_LIMIT place)
     → IsTrue (are_in_range acts) → IsTrue (is_point_within NEEDLE_LIMIT (needle_position_along place acts))
@@ -123,13 +113,16 @@ pub numbers_fit : (acts : List NumberedAct) (count : ℕ) → IsTrue (are_in_ran
     → count < 10 ^ 7 → stops_of acts < 10 ^ 3 → FitsFields (numbers_of acts count)
 numbers_fit acts count all few few_stops =
     let last = within_parts NEEDLE_LIMIT (needle_position_along origin acts) (place_in_range origin acts refl all) in
-    let right = greatest_small (λ p. size_above_zero p.x) (λ p here. above_small p.x NEEDLE_LIMIT (within_parts NEEDLE_LIMIT p here).0) acts
+    let right = greatest_small (λ p. size_above_zero p.x) (λ p here. grind (arith, nat_tests, p.x, (within_parts NEEDLE_LIMIT p here).0))
+        acts
     all in
-    let left = greatest_small (λ p. size_below_zero p.x) (λ p here. below_small p.x NEEDLE_LIMIT (within_parts NEEDLE_LIMIT p here).0) acts
+    let left = greatest_small (λ p. size_below_zero p.x) (λ p here. grind (arith, nat_tests, p.x, (within_parts NEEDLE_LIMIT p here).0))
+        acts
     all in
-    let up = greatest_small (λ p. size_below_zero p.y) (λ p here. below_small p.y NEEDLE_LIMIT (within_parts NEEDLE_LIMIT p here).1) acts
+    let up = greatest_small (λ p. size_below_zero p.y) (λ p here. grind (arith, nat_tests, p.y, (within_parts NEEDLE_LIMIT p here).1)) acts
     all in
-    let down = greatest_small (λ p. size_above_zero p.y) (λ p here. above_small p.y NEEDLE_LIMIT (within_parts NEEDLE_LIMIT p here).1) acts
+    let down = greatest_small (λ p. size_above_zero p.y) (λ p here. grind (arith, nat_tests, p.y, (within_parts NEEDLE_LIMIT p here).1))
+        acts
     all in
     record {
       records = few;

@@ -82,8 +82,3 @@ dst_move_of-record flags k m is within =
     ay.2 ay.3 ay.0 ay.1 by.2 by.3 by.0 by.1 c.2 c.3 in
     point_of_parts x y
 
-pub kind_of-stitch : (m : Point) → kind_of (third_of 0 m) ≡ kind.Stitch
-kind_of-stitch m = grind (arith, nat_tests, ints)
-
-pub kind_of-jump : (m : Point) → kind_of (third_of 128 m) ≡ kind.Jump
-kind_of-jump m = grind (arith, nat_tests, ints)

@@ -24,19 +24,18 @@ use Rattle.format_traits.proofs.CallerLemmas.{loose_room}
 abbrev AreTriples : List (List ℕ) → Type 0
 AreTriples records = length (concat records) ≡ 3 * length records
 
-joined : (xs ys : List (List ℕ)) → AreTriples xs → AreTriples ys → AreTriples (xs ++ ys)
-joined xs ys of_xs of_ys = grind (arith, nat_tests, concat-append, length-append)
-
 jumps : (m : Point) (n done count : ℕ) → AreTriples (map dst_jump_record (part_moves_from m n done count))
 jumps m n done zero = refl
 jumps m n done (suc count) = omega (arith, jumps m n (done + 1) count)
 
 hops_triples : (count : ℕ) (m : Point) → AreTriples (hop_records dst_encoding count m)
-hops_triples count m = joined (map dst_jump_record (part_moves m count)) (dst_stitch_record origin ∷ []) (jumps m count 0 count) refl
+hops_triples count m =
+    grind (arith, nat_tests, concat-append, length-append, (map dst_jump_record (part_moves m count)), (jumps m count 0 count))
 
 stitched_triples : (count : ℕ) (m : Point) → AreTriples (stitched_hop_records dst_encoding count m)
-stitched_triples count m = joined (map dst_jump_record (part_moves_from m count 0 (count - 1)))
-    (dst_stitch_record (move_between (part_end m count (count - 1)) m) ∷ []) (jumps m count 0 (count - 1)) refl
+stitched_triples count m =
+    grind (arith, nat_tests, concat-append, length-append, (map dst_jump_record (part_moves_from m count 0 (count - 1))), (jumps m count 0
+    (count - 1)))
 
 -- the records of a float, whether its jumps are three or not
 float_triples : (three : Bool) (count : ℕ) (m : Point)
@@ -61,8 +60,7 @@ pub records_triples : (s : EncoderState) (acts : List NumberedAct)
 records_triples s [] = refl
 records_triples s (a ∷ rest) =
     let after = encoder_state_after LIMIT s a.act in
-    joined (records_of_act dst_encoding dst_write_limits s a.act) (records_of_acts_from dst_encoding dst_write_limits after rest)
-    (act_triples s a.act) (records_triples after rest)
+    grind (arith, nat_tests, concat-append, length-append, (act_triples s a.act), (records_triples after rest))
 
 length-part_moves_from : (m : Point) (n done count : ℕ) → length (part_moves_from m n done count) ≡ count
 length-part_moves_from m n done zero = refl

@@ -145,7 +145,3 @@ third_shares x y i j of_x of_y small_x small_y = shares _ _ _ _ 63
     (at_number (λ n. 16 * plus_at 81 n + 32 * minus_at 81 n) THIRD_OF_Y y j third_of_y_is of_y small_y)
     (omega (arith, third_small (biased_number x), third_small (biased_number y)))
 
--- the third byte with its flags
-pub with_flags : (sum p q r s flags : ℕ) → sum ≡ (3 + 4 * p + 8 * q) + (16 * r + 32 * s)
-    → sum + flags ≡ 3 + 4 * p + 8 * q + 16 * r + 32 * s + flags
-with_flags sum p q r s flags is = omega (arith, is)

@@ -21,7 +21,7 @@ use Rattle.dst_codec.proofs.HeaderLemmas.{numbers_fit}
 use Rattle.dst_codec.proofs.RecordCountLemmas.{records_small, records_triples}
 
 -- and the place
-place-encoder_state_after_acts : (limit : ℕ) (before : EncoderState) (acts : List NumberedAct)
+pub place-encoder_state_after_acts : (limit : ℕ) (before : EncoderState) (acts : List NumberedAct)
     → (encoder_state_after_acts limit before acts).place ≡ needle_position_along before.place acts
 place-encoder_state_after_acts limit before [] = refl
 place-encoder_state_after_acts limit before (a ∷ rest) = place-encoder_state_after_acts limit (encoder_state_after limit before a.act) rest
@@ -36,14 +36,10 @@ accepted_fit small d limits passed =
     numbers_fit (acts_of d) (length (dst_records_of (acts_of d)) + 1) few.in_range
     (omega (arith, records, few.room)) (omega (arith, stops))
 
--- the bytes after the room, three for each record
-length-dst_body_of : (d : DesignValue) → length (dst_body_of d) ≡ 3 * (length (dst_records_of (acts_of d)) + 1)
-length-dst_body_of d = grind (arith, nat_tests, length-append, records_triples)
-
 -- the length of the records is three times their number
-counted : (d : DesignValue) (state : EncoderState) (count : ℕ) → IsWritten d state count
+pub counted : (d : DesignValue) (state : EncoderState) (count : ℕ) → IsWritten d state count
     → (count - HEADER_LENGTH) / 3 ≡ length (dst_records_of (acts_of d)) + 1
-counted d state count is = grind (arith, nat_tests, is.long, length-dst_body_of, div-mul-add)
+counted d state count is = grind (arith, nat_tests, is.long, length-append, records_triples, div-mul-add)
 
 -- and these are few
 pub body_short : AcceptedIsWithinLimits → (d : DesignValue) → KeepsLimits d → (state : EncoderState) (count : ℕ)
@@ -55,14 +51,3 @@ body_short small d limits state count is = omega (
   (small dst_write_limits d limits is.passed).room,
 )
 
--- the numbers of the header
-pub numbers_written : (d : DesignValue) (state : EncoderState) (count : ℕ) (extents : Extents)
-    → IsWritten d state count → extents ≡ extents_of (acts_of d)
-    → record {
-      records = (count - HEADER_LENGTH) / 3;
-      stops = state.stops;
-      extents = extents;
-      last = state.place;
-    } ≡ header_numbers_of d
-numbers_written d state count extents is of_extents =
-    grind (arith, nat_tests, state.stops, is.stands, stops_along, counted, place-encoder_state_after_acts)

@@ -42,10 +42,6 @@ is_long (Some fault.Memory) = false
 long-stops : (b : Bool) (number : ℕ) → is_long (refusal_if b (fault.TooManyStops number)) ≡ false
 long-stops b number = grind (arith, nat_tests, ints)
 
--- a record's move is within the limit
-move_small : (a b c : ℕ) → (unsigned_abs (dst_move_of a b c).x ≤ LIMIT) × (unsigned_abs (dst_move_of a b c).y ≤ LIMIT)
-move_small a b c = grind (arith, nat_tests, ints)
-
 -- how far a reader can be from the last needle, while the thread is not loose
 pub record IsNear (needle : Point) (run : ℕ) (place : Point) (jumped : Bool) : Type 0 where
   pub few : run ≤ 2
@@ -238,7 +234,7 @@ records_ok [] at run place = λ count s jumped near. λ n. refl
 records_ok (a ∷ []) at run place = λ count s jumped near. λ n. refl
 records_ok (a ∷ b ∷ []) at run place = λ count s jumped near. λ n. refl
 records_ok (a ∷ b ∷ c ∷ rest) at run place = λ count s jumped near.
-    record_ok (kind_of c) at count run place (dst_move_of a b c) s jumped (move_small a b c) near
+    record_ok (kind_of c) at count run place (dst_move_of a b c) s jumped (grind (arith, nat_tests)) near
     (dst_records_from (run_after_kind (kind_of c) run) (at + 3) rest)
     (records_ok rest (at + 3) (run_after_kind (kind_of c) run) (position_after_move place (dst_move_of a b c)))
 

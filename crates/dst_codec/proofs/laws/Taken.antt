@@ -13,7 +13,7 @@ use Rattle.dst_codec.specs.Reading.{dst_records_from}
 use Rattle.dst_codec.specs.MoveEncoding.{dst_stitch_record, dst_jump_record, dst_end_record}
 use Rattle.dst_codec.specs.Writing.{dst_encoding, dst_write_limits}
 use Rattle.dst_codec.proofs.RunLemmas.{record_reads}
-use Rattle.dst_codec.proofs.MoveEncodingLemmas.{byte_of, third_of, dst_move_of-record, kind_of-stitch, kind_of-jump}
+use Rattle.dst_codec.proofs.MoveEncodingLemmas.{byte_of, third_of, dst_move_of-record}
 
 -- the records of a reader after n jump records
 abbrev pub read_after : ℕ → ℕ → List ℕ → Records
@@ -22,11 +22,7 @@ read_after run = dst_records_from (min run 3)
 stitch_reads : (run at : ℕ) (m : Point) (rest : List ℕ) → IsTrue (is_point_within LIMIT m)
     → dst_records_from run at (dst_stitch_record m ++ rest) ≡ next at (event.Stitch m) (dst_records_from 0 (at + 3) rest)
 stitch_reads run at m rest near = record_reads run at (byte_of 1 9 m) (byte_of 3 27 m) (third_of 0 m) rest kind.Stitch m
-    (kind_of-stitch m) (dst_move_of-record 0 0 m refl near)
-
--- a run that is counted up to three is at two where it is
-at_two : (run : ℕ) → (min run 3 == 2) ≡ (run == 2)
-at_two run = grind (arith, nat_tests, ints)
+    (grind (arith, nat_tests)) (dst_move_of-record 0 0 m refl near)
 
 jump_reads : (run at : ℕ) (m : Point) (rest : List ℕ) → IsTrue (is_point_within LIMIT m)
     → read_after run at (dst_jump_record m ++ rest)
@@ -34,9 +30,9 @@ jump_reads : (run at : ℕ) (m : Point) (rest : List ℕ) → IsTrue (is_point_w
 jump_reads run at m rest near =
     let longer : min (min run 3 + 1) 3 ≡ min (run + 1) 3 = omega arith in
     record_reads (min run 3) at (byte_of 1 9 m) (byte_of 3 27 m) (third_of 128 m) rest kind.Jump m
-    (kind_of-jump m) (dst_move_of-record 128 2 m refl near)
+    (grind (arith, nat_tests)) (dst_move_of-record 128 2 m refl near)
     ∙ ap (λ b. next at (if b then event.TrimmedJump m else event.Jump m) (dst_records_from (min (min run 3 + 1) 3) (at + 3) rest))
-    (at_two run)
+    (grind (arith, nat_tests))
     ∙ ap (λ n. next at (if run == 2 then event.TrimmedJump m else event.Jump m) (dst_records_from n (at + 3) rest)) longer
 
 -- the first two jumps of a trim, and the third

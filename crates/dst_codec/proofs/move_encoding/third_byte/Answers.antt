@@ -1,7 +1,8 @@
 use Rattle.std.proofs.Common.{◌≡◌, arith, rules}
 use Rattle.dst_codec.specs.MoveEncoding.{plus_bit, minus_bit, biased_number}
-use Rattle.dst_codec.proofs.TableLemmas.{fits_byte, third_shares, with_flags}
+use Rattle.dst_codec.proofs.TableLemmas.{fits_byte, third_shares}
 use Rattle.dst_codec.proofs.move_encoding.third_byte.Goals as goal
+use Rattle.std.proofs.lemmas.Bool.Decides.{nat_tests}
 
 pub overflow_add-result : goal.overflow_add-result
 overflow_add-result c =
@@ -24,4 +25,4 @@ returns c =
     let of_x : c.biased.result ≡ biased_number x = search rules in
     let of_y : c.biased-2.result ≡ biased_number y = search rules in
     let shares = third_shares x y _ _ of_x of_y c.biased.ensures.small c.biased-2.ensures.small in
-    with_flags _ (plus_bit 81 x) (minus_bit 81 x) (plus_bit 81 y) (minus_bit 81 y) c.args.flags shares.sum
+    grind (arith, nat_tests, c.args.flags, shares.sum)

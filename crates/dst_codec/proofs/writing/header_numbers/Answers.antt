@@ -1,7 +1,9 @@
 use Rattle.std.proofs.Common.{arith, subst, sym}
 use Rattle.dst_codec.specs.Header.{FitsFields}
-use Rattle.dst_codec.proofs.WritingLemmas.{accepted_fit, body_short, numbers_written}
+use Rattle.dst_codec.proofs.WritingLemmas.{accepted_fit, body_short, counted, place-encoder_state_after_acts}
 use Rattle.dst_codec.proofs.writing.header_numbers.Goals as goal
+use Rattle.record_formats.proofs.CallerLemmas.{stops_along}
+use Rattle.std.proofs.lemmas.Bool.Decides.{nat_tests}
 
 pub overflow_cast-result : goal.overflow_cast-result
 overflow_cast-result c = omega (
@@ -11,8 +13,9 @@ overflow_cast-result c = omega (
 )
 
 pub returns-clause-value : goal.returns-clause-value
-returns-clause-value c = numbers_written c.args.design.now c.args.state.now c.args.length c.needle_extents.result
-    c.requires.written c.needle_extents.ensures
+returns-clause-value c =
+    grind (arith, nat_tests, stops_along, counted, place-encoder_state_after_acts, c.args.design.now, c.args.state.now, c.args.length,
+    c.needle_extents.result, c.requires.written, c.needle_extents.ensures)
 
 pub returns-clause-fits : goal.returns-clause-fits
 returns-clause-fits c = subst FitsFields (sym (returns-clause-value c))
