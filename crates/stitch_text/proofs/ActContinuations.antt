@@ -38,10 +38,6 @@ use Rattle.format_traits.proofs.CallerLemmas.{is_told, not_refused, or_else_both
 few_commands : (s : EncoderState) (a : Act) → IsTrue (is_told s.loose a) → length (list_commands_of a) ≤ room_of_act LIMIT s.loose s.place a
 few_commands s a h1 = grind (arith, nat_tests, ints)
 
--- the commands of an act in range are in range
-commands_in_range : (a : Act) → IsTrue (is_act_in_range a) → IsTrue (list_all is_command_in_range (list_commands_of a))
-commands_in_range a h1 = grind (arith, nat_tests, ints)
-
 -- what holds of a draft and of its commands
 pub record Keeps (bare : ℕ) (draft : ListDraft) : Type 0 where
   pub sound : IsSoundDraftLacking bare draft
@@ -68,7 +64,7 @@ act_keeps draft a keeps within told none =
       };
       in_range = list_all-append is_command_in_range draft.design.commands (list_commands_of a)
           ∙ and_from (list_all is_command_in_range draft.design.commands) (list_all is_command_in_range (list_commands_of a)) keeps.in_range
-          (commands_in_range a within);
+          (grind (arith, nat_tests));
     } where
       place_is : (b : Act) → IsTrue (is_act_in_range b) → IsTrue (is_point_within NEEDLE_LIMIT (needle_position_after draft.state.place b))
       place_is (act.Needle p float) within = within

@@ -46,12 +46,6 @@ acts_again (a ∷ rest) n loose told = by_act (λ n loose told. acts_again rest 
   by_act again act.Stop true told = ap (λ acts. act.Stop ∷ acts) (again (n + 1) true told)
   by_act again act.Stop false told = ap (λ acts. act.Stop ∷ acts) (again (n + 1) true told)
 
--- an act that isn't refused may be read
-pub no_fault : (at n : ℕ) (s : EncoderState) (a : Act) → IsTrue (is_told s.loose a)
-    → refusal_of_act list_write_limits s (numbered n a) ≡ None
-    → fault_of_act at s a ≡ None
-no_fault at n s a h1 h2 = grind (arith, nat_tests, ints)
-
 -- and the other way round
 pub no_refusal : (at n : ℕ) (s : EncoderState) (a : Act) → fault_of_act at s a ≡ None
     → IsTrue (is_told s.loose a) × (refusal_of_act list_write_limits s (numbered n a) ≡ None)

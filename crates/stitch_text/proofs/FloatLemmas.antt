@@ -22,12 +22,6 @@ is_other refusal = true
 either_other : (one other : Option WriteFault) → is_other one ≡ true → is_other other ≡ true → is_other (or_else one other) ≡ true
 either_other one other h1 h2 = grind (arith, nat_tests, ints)
 
-where_other : (b : Bool) (f : WriteFault) → is_other (Some f) ≡ true → is_other (refusal_if b f) ≡ true
-where_other b f h1 = grind (arith, nat_tests, ints)
-
-own_other : (s : EncoderState) (a : Act) (number : ℕ) → is_other (refusal_before_room list_write_limits s a number) ≡ true
-own_other s a number = grind (arith, nat_tests, ints)
-
 -- none of any acts is
 all_other : (acts : List NumberedAct) (s : EncoderState) → is_other (first_refusal_from list_write_limits s acts) ≡ true
 all_other [] s = refl
@@ -35,8 +29,8 @@ all_other (a ∷ rest) s =
     let after = encoder_state_after LIMIT s a.act in
     either_other (refusal_of_act list_write_limits s a) (first_refusal_from list_write_limits after rest)
     (either_other (refusal_before_room list_write_limits s a.act a.number)
-    (refusal_if (nat_lt MAX_COMMANDS after.room) (fault.TooLong a.number)) (own_other s a.act a.number)
-    (where_other (nat_lt MAX_COMMANDS after.room) (fault.TooLong a.number) refl))
+    (refusal_if (nat_lt MAX_COMMANDS after.room) (fault.TooLong a.number)) (grind (arith, nat_tests, a.act, a.number))
+    (grind (arith, nat_tests, (nat_lt MAX_COMMANDS after.room), (fault.TooLong a.number))))
     (all_other rest after)
 
 pub no_float_is_too_long : NoFloatIsTooLong

@@ -36,12 +36,6 @@ last_space : (label : List ℕ) → slice_get label (length label - 1) ≡ Some 
 last_space label is =
     let last = get_or_from_slice_get label (length label - 1) 32 0 is in grind (arith, nat_tests, last)
 
-printable_from : (b : ℕ) → is_printable b ≡ true → IsPrintable b
-printable_from b h1 = grind (arith, nat_tests, ints)
-
-printable_to : (b : ℕ) → IsPrintable b → is_printable b ≡ true
-printable_to b h1 = grind (arith, nat_tests, ints)
-
 -- the meaning of the test of a label
 pub label_from : (label : List ℕ) → is_valid_label label ≡ true → IsLabel label
 label_from label is =
@@ -50,7 +44,7 @@ label_from label is =
     let all = AllPass-from_list_all is_printable label inner.0 in
     record {
       short = grind (arith, nat_tests, outer.0);
-      printable = λ k d there. printable_from (get_or label k d) (all k d there);
+      printable = λ k d there. grind (arith, nat_tests, (get_or label k d));
       trimmed = λ space. false_true (sym (not-true (has_trailing_space label) inner.1) ∙ last_space label space);
     }
 
@@ -60,7 +54,7 @@ label_to label is =
     and_from (nat_le (length label) 16) (list_all is_printable label && not (has_trailing_space label))
     (grind (arith, nat_tests, is.short))
     (and_from (list_all is_printable label) (not (has_trailing_space label))
-    (list_all-from_AllPass is_printable label (λ k d there. printable_to (get_or label k d) (is.printable k d there)))
+    (list_all-from_AllPass is_printable label (λ k d there. grind (arith, nat_tests, (get_or label k d), (is.printable k d there))))
     (by_end (has_trailing_space label) refl)) where
       last_is : (label : List ℕ) → has_trailing_space label ≡ true → slice_get label (length label - 1) ≡ Some 32
       last_is [] space = absurd (false_true space)
@@ -72,12 +66,6 @@ label_to label is =
       by_end : (b : Bool) → has_trailing_space label ≡ b → not b ≡ true
       by_end false is_not = refl
       by_end true space = absurd (is.trimmed (last_is label space))
-
--- what stands before the last byte, where that is a bracket
-pub before_last : (bytes : List ℕ) (r : Option (Bor (List ℕ)))
-    → MatchOption r ((front : List ℕ) → bytes ≢ front ++ 93 ∷ []) (λ x. bytes ≡ x.now ++ 93 ∷ [])
-    → IfSome r (λ label. bytes ≡ label.now ++ 93 ∷ [])
-before_last bytes r h1 = grind (arith, nat_tests, ints)
 
 -- the meaning of the label of a line
 pub record HasLabel (line label : List ℕ) : Type 0 where

@@ -8,8 +8,8 @@ use Rattle.stitch_text.specs.declared.list_stage.ListStage.{ListStage}
 use Rattle.stitch_text.specs.ListStages.{TakesLine, TakesLines, stage_after_long_line, max_waiting_in, parsed_parts, list_so_far_at, list_state_at}
 use Rattle.stitch_text.specs.Readings.{ParsedList, loaded_of_parsed}
 use Rattle.text_parts.specs.Parts.{parts_between}
-use Rattle.stitch_text.proofs.PartLemmas.{ended_part, open_part}
-use Rattle.stitch_text.proofs.StageLemmas.{ends_here, goes_beyond}
+use Rattle.stitch_text.proofs.PartLemmas.{open_part, parts_on}
+use Rattle.stitch_text.proofs.StageLemmas.{goes_beyond}
 use Rattle.text_parts.proofs.CallerLemmas.{some_part}
 
 -- a line that has ended is taken
@@ -28,23 +28,9 @@ line_on old draft new was now start at there whole rest line after on are takes 
 
   parsed : (more : List ℕ) → parsed_parts draft was at (parts_between 10 (rest ++ more))
       ≡ parsed_parts new now there (parts_between 10 (after ++ more))
-  parsed more = ap (parsed_parts draft was at) (ended_part 10 rest line after more are)
+  parsed more = ap (parsed_parts draft was at) (grind (arith, nat_tests, parts_on, some_part))
       ∙ by_parts (parts_between 10 (after ++ more)) (some_part 10 (after ++ more))
       ∙ ap (λ n. parsed_parts new now n (parts_between 10 (after ++ more))) (sym is)
-
--- what is left once a line more was taken
-pub left_of : (bytes rest line after : List ℕ) → rest ≡ drop (length bytes - length rest) bytes → length rest ≤ length bytes
-    → after ≡ drop (length line + 1) rest → length line + 1 + length after ≡ length rest
-    → after ≡ drop (length bytes - length after) bytes
-left_of bytes rest line after left there behind sizes = grind (arith, nat_tests, drop-drop)
-
--- a line that hasn't ended is taken, since it is too long to be right
-pub takes_beyond : (draft : ListDraft) (stage later : ListStage) (at most : ℕ) (part : List ℕ) → parts_between 10 part ≡ part ∷ []
-    → most ≡ max_waiting_in stage → most < length part → later ≡ stage_after_long_line at stage
-    → TakesBytes (list_state_at draft stage) (list_state_at draft later) (list_so_far_at draft (at + length part) later) at part
-    (length part)
-takes_beyond draft stage later at most part one of_most long of_later =
-    grind (arith, nat_tests, drop_all, open_part, goes_beyond, some_part, draft.design, ends_here)
 
 -- lines that have ended are taken, and then what is left of the bytes or nothing of it
 pub takes_lines : (old middle new : DecoderState) (so_far : DecodedSoFar) (at size more : ℕ) (bytes part : List ℕ)

@@ -54,10 +54,6 @@ pub record Spells (word : List ℕ) (z : ℤ) : Type 0 where
   pub is : signed_decimal z ≡ word
   pub small : unsigned_abs z ≤ 999999999
 
--- no number is no value
-no_value : (z : ℤ) → whole.NotANumber ≡ whole.Value z → ⊥
-no_value z is = cc
-
 same_value : (y z : ℤ) → whole.Value y ≡ whole.Value z → y ≡ z
 same_value y z is = cc
 
@@ -66,9 +62,6 @@ record AreRead (minus : Bool) (ds : List ℕ) (z : ℤ) : Type 0 where
   numeral : is_digit_string ds ≡ true
   small : digits_value 10 ds ≤ 999999999
   value : signed_number minus (digits_value 10 ds) ≡ z
-
-digits_are : (minus : Bool) (ds : List ℕ) (z : ℤ) → parsed_digits minus ds ≡ whole.Value z → AreRead minus ds z
-digits_are minus ds z h1 = grind (arith, nat_tests, ints)
 
 -- digits without a leading zero are the canonical text of their number
 digits_spelled : (ds : List ℕ) → is_digit_string ds ≡ true → (get_or ds 0 0 ≡ 48 → length ds ≡ 1) → digits_value 10 ds ≤ 999999999
@@ -106,16 +99,16 @@ plus_is b ds z lead read =
 
 -- a word is the canonical text of the number that is read from it
 pub number_is : (word : List ℕ) (z : ℤ) → canonical_number_of word ≡ whole.Value z → Spells word z
-number_is [] z says = absurd (no_value z says)
+number_is [] z says = absurd (grind (arith, nat_tests))
 number_is (b ∷ ds) z says = by_tests (is_canonical_number (b ∷ ds)) (b == 45) refl refl where
   by_tests : (plain minus : Bool) → is_canonical_number (b ∷ ds) ≡ plain → (b == 45) ≡ minus → Spells (b ∷ ds) z
-  by_tests false minus is sign = absurd (no_value z (rw is at says))
+  by_tests false minus is sign = absurd (grind (arith, nat_tests, (rw is at says)))
   by_tests true true is sign =
       let first : b ≡ 45 = grind (arith, nat_tests, sign) in
       let lead : not (has_leading_zero ds) ≡ true = rw sign at is in
       let read : parsed_digits true ds ≡ whole.Value z = rw (is, sign) at says in
-      subst (λ (b : ℕ). Spells (b ∷ ds) z) (sym first) (minus_is ds z (not-true (has_leading_zero ds) lead) (digits_are true ds z read))
+      subst (λ (b : ℕ). Spells (b ∷ ds) z) (sym first) (minus_is ds z (not-true (has_leading_zero ds) lead) (grind (arith, nat_tests)))
   by_tests true false is sign =
       let lead : (not (b == 48) || length ds == 0) ≡ true = rw sign at is in
       let read : parsed_digits false (b ∷ ds) ≡ whole.Value z = rw (is, sign) at says in
-      plus_is b ds z lead (digits_are false (b ∷ ds) z read)
+      plus_is b ds z lead (grind (arith, nat_tests))

@@ -16,22 +16,11 @@ onto_last [] behind = behind
 onto_last (part ∷ []) behind = onto_part part behind
 onto_last (part ∷ next ∷ parts) behind = part ∷ onto_last (next ∷ parts) behind
 
--- a byte stands before parts, or a mark
-before_parts : (b : ℕ) (mark : Bool) (parts behind : List (List ℕ)) → parts ≢ [] → behind ≢ []
-    → onto_last (cond mark ([] ∷ parts) (onto_first b parts)) behind
-    ≡ cond mark ([] ∷ onto_last parts behind) (onto_first b (onto_last parts behind))
-before_parts b mark parts behind h1 h2 = grind (arith, nat_tests, ints)
-
 -- the parts of bytes one after another
-parts_on : (mark : ℕ) (bytes more : List ℕ) → parts_between mark (bytes ++ more)
+pub parts_on : (mark : ℕ) (bytes more : List ℕ) → parts_between mark (bytes ++ more)
     ≡ onto_last (parts_between mark bytes) (parts_between mark more)
 parts_on mark [] more = grind (arith, nat_tests, some_part)
-parts_on mark (b ∷ bytes) more = grind (arith, nat_tests, before_parts, some_part, (parts_on mark bytes more))
-
--- a part that has ended stays, whatever bytes follow
-pub ended_part : (mark : ℕ) (bytes line after more : List ℕ) → parts_between mark bytes ≡ line ∷ parts_between mark after
-    → parts_between mark (bytes ++ more) ≡ line ∷ parts_between mark (after ++ more)
-ended_part mark bytes line after more are = grind (arith, nat_tests, parts_on, some_part)
+parts_on mark (b ∷ bytes) more = grind (arith, nat_tests, some_part, (parts_on mark bytes more))
 
 -- a part that hasn't ended goes on
 pub open_part : (mark : ℕ) (part more : List ℕ) → parts_between mark part ≡ part ∷ []

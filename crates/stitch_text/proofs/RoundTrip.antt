@@ -30,7 +30,7 @@ use Rattle.stitch_text.specs.Readings.{ParsedList, parsed_acts, begun_draft, is_
 use Rattle.stitch_text.specs.StitchLists.{act_line, act_lines, list_block_line, signature_line, label_line, list_of, list_write_limits}
 use Rattle.stitch_text.specs.Words.{has_trailing_space, is_valid_label, is_printable}
 use Rattle.text_parts.specs.Parts.{parts_between}
-use Rattle.stitch_text.proofs.ActLemmas.{acts_again, commands_along, moves_within, no_fault}
+use Rattle.stitch_text.proofs.ActLemmas.{acts_again, commands_along, moves_within}
 use Rattle.stitch_text.proofs.LabelLemmas.{label_to, label_yes}
 use Rattle.stitch_text.proofs.LineLemmas.{IsLine, Lacks, block_is, lacks_from, needle_is, trim_is}
 use Rattle.stitch_text.proofs.ReadingLemmas.{acts_judged, first_is, label_is}
@@ -95,19 +95,12 @@ taken_with draft a threads = Ok (record {
 same_taken : (draft : ListDraft) (a : Act) → taken_with draft a draft.design.threads ≡ taken_with draft a (draft.design.threads ++ [])
 same_taken draft a = ap (λ (t : List ℕ). taken_with draft a t) (sym (append-nil draft.design.threads))
 
--- a thread is a byte
-byte_below : (n : ℕ) → n % 256 < 256
-byte_below n = omega arith
-
 -- the line of an act is parsed as the act
 act_is : (thread : ℕ → ℕ) (stops : ℕ) (a : Act) → IsTrue (is_act_in_range a)
     → IsLine (act_line thread stops a) (said_by thread stops a)
 act_is thread stops (act.Needle p float) within = needle_is float p within
 act_is thread stops act.Trim within = trim_is
-act_is thread stops act.Stop within = block_is (thread (stops + 1) % 256) (byte_below (thread (stops + 1)))
-
-not_last : (thread : ℕ → ℕ) (stops : ℕ) (a : Act) → is_end_line (Some (said_by thread stops a)) ≡ false
-not_last thread stops a = grind (arith, nat_tests, ints)
+act_is thread stops act.Stop within = block_is (thread (stops + 1) % 256) (grind (arith, nat_tests))
 
 -- and is taken
 act_judged : (thread : ℕ → ℕ) (at : ℕ) (draft : ListDraft) (a : Act) → IsTrue (is_act_in_range a)
@@ -144,8 +137,8 @@ acts_read thread (a ∷ rest) draft at told in_range none =
     let text = act_lines thread s.stops (a ∷ rest) in
     let behind = act_lines thread after.stops rest in
     sym (acts_judged at draft text line behind (Some (said_by thread s.stops a.act)) (Ok new) (parsed_acts at draft (parts_between 10 text))
-    refl (line_before line behind one.kept) (sym one.parsed) (not_last thread s.stops a.act)
-    (act_judged thread at draft a.act ranges.0 (no_fault at a.number s a.act both.0 first.0)))
+    refl (line_before line behind one.kept) (sym one.parsed) (grind (arith, nat_tests, s.stops, a.act))
+    (act_judged thread at draft a.act ranges.0 (grind (arith, nat_tests, a.number, a.act, both.0, first.0))))
     ∙ acts_read thread rest new (at + length line + 1) both.1 ranges.1 first.1
     ∙ same_said draft.design.label _ _ _ _
     (append_assoc draft.design.threads (threads_in thread s.stops a.act) (threads_along thread after.stops rest))
@@ -178,7 +171,7 @@ list_said small d limits none =
     let third = list_block_line (thread_of d 0) ++ 10 ∷ lines in
     let second = label_line d.label ++ 10 ∷ third in
     let good = label_to d.label limits.label in
-    let block = block_is thread (byte_below (thread_of d 0)) in
+    let block = block_is thread (grind (arith, nat_tests)) in
     let head : Lacks signature_line = lacks_from signature_line refl in
     let named = with_label empty_design d.label in
     let at = length signature_line + 1 in

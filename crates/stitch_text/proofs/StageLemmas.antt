@@ -16,10 +16,6 @@ use Rattle.text_parts.specs.Parts.{words_in}
 use Rattle.stitch_text.proofs.LabelLemmas.{label_from, label_is}
 use Rattle.stitch_text.proofs.PartLemmas.{onto_part}
 
--- no first line is so long, no line of a label, and no other line
-long_first : (line : List ℕ) → 32 < length line → bytes_eq line signature_line ≡ false
-long_first line long = grind (arith, nat_tests, bytes_eq-Decides)
-
 long_label : (line : List ℕ) → 32 < length line → parsed_label line ≡ None
 long_label line long = by_label_said (parsed_label line) refl where
   by_label_said : (o : Option (List ℕ)) → parsed_label line ≡ o → parsed_label line ≡ None
@@ -63,9 +59,5 @@ goes_beyond draft s at part (end ∷ []) long some = by_stage s long where
   by_stage stage.Ended long = behind_end part long
   by_stage (stage.Refused f) long = refl
 goes_beyond draft s at part (end ∷ next ∷ more) long some =
-    grind (arith, nat_tests, draft.design, length-append, long_first, long_label, long_line)
+    grind (arith, nat_tests, draft.design, length-append, bytes_eq-Decides, long_label, long_line)
 
--- the parsed list of a text that ends in a line
-pub ends_here : (draft : ListDraft) (stage : ListStage) (at : ℕ) (part : List ℕ) → length part ≤ max_waiting_in stage
-    → parsed_parts draft stage at (part ∷ []) ≡ record { design = draft.design; fault = fault_at_end (at + length part) stage }
-ends_here draft stage at part h1 = grind (arith, nat_tests, ints)

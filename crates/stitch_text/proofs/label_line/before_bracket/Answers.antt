@@ -1,9 +1,9 @@
-use Rattle.std.proofs.Common.{◌∷◌, []}
-use Rattle.std.proofs.lemmas.Bool.Decides.{Decides-eqb}
+use Rattle.std.proofs.Common.{◌∷◌, [], arith}
+use Rattle.std.proofs.lemmas.Bool.Decides.{Decides-eqb, nat_tests}
 use Rattle.std.proofs.lemmas.Slice.Eq.{strip_suffix_is}
-use Rattle.stitch_text.proofs.LabelLemmas.{before_last}
 use Rattle.stitch_text.proofs.label_line.before_bracket.Goals as goal
 
 pub returns-clause-some : goal.returns-clause-some
-returns-clause-some c = before_last c.args.bytes.now c.strip_suffix.result
-    (strip_suffix_is Decides-eqb c.args.bytes.now (93 ∷ []) c.strip_suffix.result c.strip_suffix.ensures.cases)
+returns-clause-some c =
+    grind (arith, nat_tests, c.args.bytes.now, c.strip_suffix.result, (strip_suffix_is Decides-eqb c.args.bytes.now (93 ∷ [])
+    c.strip_suffix.result c.strip_suffix.ensures.cases))

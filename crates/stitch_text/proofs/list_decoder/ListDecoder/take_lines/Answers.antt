@@ -1,6 +1,8 @@
 use Rattle.std.proofs.Common.{arith}
-use Rattle.stitch_text.proofs.ListStateLemmas.{left_of, line_on}
+use Rattle.stitch_text.proofs.ListStateLemmas.{line_on}
 use Rattle.stitch_text.proofs.list_decoder.ListDecoder.take_lines.Goals as goal
+use Rattle.std.proofs.lemmas.List.{drop-drop}
+use Rattle.std.proofs.lemmas.Bool.Decides.{nat_tests}
 
 pub loop-line-preserved : goal.loop-line-preserved
 loop-line-preserved c =
@@ -9,8 +11,9 @@ loop-line-preserved c =
     record {
       at = omega (arith, kept.at, split.sizes);
       there = omega (arith, kept.there, split.sizes);
-      left = left_of c.args.bytes.now c.loop-line.rest.now c.in-Some.line.now c.in-Some.after.now
-          kept.left kept.there split.rest split.sizes;
+      left =
+          grind (arith, nat_tests, drop-drop, c.args.bytes.now, c.loop-line.rest.now, c.in-Some.line.now, c.in-Some.after.now, kept.left,
+          kept.there, split.rest, split.sizes);
       on = line_on _ _ _ _ _ c.args.start c.loop-line.at _ c.args.bytes.now c.loop-line.rest.now c.in-Some.line.now c.in-Some.after.now
           kept.on split.some c.in_ok-take_line.ensures (omega arith);
     }

@@ -1,6 +1,12 @@
-use Rattle.stitch_text.proofs.ListStateLemmas.{takes_beyond}
 use Rattle.stitch_text.proofs.list_decoder.ListDecoder.take_part.Goals as goal
+use Rattle.std.proofs.lemmas.List.{drop_all}
+use Rattle.stitch_text.proofs.PartLemmas.{open_part}
+use Rattle.stitch_text.proofs.StageLemmas.{goes_beyond}
+use Rattle.text_parts.proofs.CallerLemmas.{some_part}
+use Rattle.std.proofs.Common.{arith}
+use Rattle.std.proofs.lemmas.Bool.Decides.{nat_tests}
 
 pub returns : goal.returns
-returns c = takes_beyond c.args.self.now.draft c.args.self.now.stage _ c.args.at _ c.args.part.now c.requires.line
-    c.max_waiting.ensures c.if-part-max_waiting.false c.after_long_line-self.ensures
+returns c =
+    grind (arith, nat_tests, drop_all, open_part, goes_beyond, some_part, c.args.self.now.draft, c.args.self.now.stage, c.args.at,
+    c.args.part.now, c.requires.line, c.max_waiting.ensures, c.if-part-max_waiting.false, c.after_long_line-self.ensures)
