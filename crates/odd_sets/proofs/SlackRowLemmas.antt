@@ -133,8 +133,8 @@ least_with t h p ps x k once none lx later =
     let c = λ (y : ℕ). count-append y p.odd_set.members (members_in ps) in
     let out : count x p.odd_set.members ≡ 0 = omega (arith, none, c x) in
     let one = lowered_slack p.odd_set.dual (get_or p.odd_set.near x 0) in
-    grind (arith, nat_tests, count-append, p.odd_set.members, (near_is t h p.odd_set x k (λ y. omega (arith, once y, c y)) out lx),
-        lowered_less p.odd_set.dual (get_or p.odd_set.near x 0), k.near.0.short x out lx, (cases_lt one (least_part_slack ps x)))
+    grind (arith, nat_tests, count-append, (near_is t h p.odd_set x k (λ y. omega (arith, once y, c y)) out lx),
+          lowered_less p.odd_set.dual (get_or p.odd_set.near x 0), k.near.0.short x out lx, (cases_lt one (least_part_slack ps x)))
 
 least_rest : (t : TableValue) (h : ℕ → ℕ) (ps : List PartValue) (x : ℕ) → Each (IsSoundPart t h) ps
     → ((y : ℕ) → count y (members_in ps) ≤ 1) → count x (members_in ps) ≡ 0 → x < t.places

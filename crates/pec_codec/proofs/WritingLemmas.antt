@@ -65,7 +65,7 @@ pub records_length : (before : EncoderState) (acts : List NumberedAct)
     → length (concat (records_of_acts_from pec_encoding pec_write_limits before acts)) ≤ 4 * room_from LIMIT before.loose before.place acts
 records_length before [] = omega arith
 records_length before (a ∷ rest) =
-    grind (arith, nat_tests, length-concat-append, a.act, act_length, (records_length (encoder_state_after LIMIT before a.act) rest))
+    grind (arith, nat_tests, length-concat-append, act_length, (records_length (encoder_state_after LIMIT before a.act) rest))
 
 -- one thumbnail more
 pub thumbnail_more : (start out more : List ℕ) (count : ℕ) → out ≡ start ++ replicate (THUMBNAIL_LENGTH * count) 0

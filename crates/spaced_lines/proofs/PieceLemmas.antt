@@ -39,7 +39,7 @@ spots_touch (p ∷ ps) [] = false
 spots_touch (p ∷ ps) (q ∷ qs) = (p.block == q.block) && shares_point (points_at (p ∷ ps)) (points_at (q ∷ qs))
 
 touch_by_spots : (a b : LineValue) → touches a b ≡ spots_touch (end_spots a) (end_spots b)
-touch_by_spots a b = grind (arith, nat_tests, a.block, b.block, a.points, b.points)
+touch_by_spots a b = grind (arith, nat_tests)
 
 touch_alike : (d e : DrawingValue) → map end_spots d.lines ≡ map end_spots e.lines → (i j : ℕ) → LinesTouch d i j → LinesTouch e i j
 touch_alike d e same i j is =

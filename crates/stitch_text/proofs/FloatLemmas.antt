@@ -29,7 +29,7 @@ all_other (a ∷ rest) s =
     let after = encoder_state_after LIMIT s a.act in
     either_other (refusal_of_act list_write_limits s a) (first_refusal_from list_write_limits after rest)
     (either_other (refusal_before_room list_write_limits s a.act a.number)
-    (refusal_if (nat_lt MAX_COMMANDS after.room) (fault.TooLong a.number)) (grind (arith, nat_tests, a.act, a.number))
+    (refusal_if (nat_lt MAX_COMMANDS after.room) (fault.TooLong a.number)) (grind (arith, nat_tests))
     (grind (arith, nat_tests, (nat_lt MAX_COMMANDS after.room), (fault.TooLong a.number))))
     (all_other rest after)
 

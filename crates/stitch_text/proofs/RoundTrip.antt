@@ -137,8 +137,8 @@ acts_read thread (a ∷ rest) draft at told in_range none =
     let text = act_lines thread s.stops (a ∷ rest) in
     let behind = act_lines thread after.stops rest in
     sym (acts_judged at draft text line behind (Some (said_by thread s.stops a.act)) (Ok new) (parsed_acts at draft (parts_between 10 text))
-    refl (line_before line behind one.kept) (sym one.parsed) (grind (arith, nat_tests, s.stops, a.act))
-    (act_judged thread at draft a.act ranges.0 (grind (arith, nat_tests, a.number, a.act, both.0, first.0))))
+    refl (line_before line behind one.kept) (sym one.parsed) (grind (arith, nat_tests))
+    (act_judged thread at draft a.act ranges.0 (grind (arith, nat_tests, both.0, first.0))))
     ∙ acts_read thread rest new (at + length line + 1) both.1 ranges.1 first.1
     ∙ same_said draft.design.label _ _ _ _
     (append_assoc draft.design.threads (threads_in thread s.stops a.act) (threads_along thread after.stops rest))

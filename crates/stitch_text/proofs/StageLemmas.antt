@@ -59,5 +59,5 @@ goes_beyond draft s at part (end ∷ []) long some = by_stage s long where
   by_stage stage.Ended long = behind_end part long
   by_stage (stage.Refused f) long = refl
 goes_beyond draft s at part (end ∷ next ∷ more) long some =
-    grind (arith, nat_tests, draft.design, length-append, bytes_eq-Decides, long_label, long_line)
+    grind (arith, nat_tests, length-append, bytes_eq-Decides, long_label, long_line)
 

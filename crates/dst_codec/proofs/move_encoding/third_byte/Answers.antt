@@ -25,4 +25,4 @@ returns c =
     let of_x : c.biased.result ≡ biased_number x = search rules in
     let of_y : c.biased-2.result ≡ biased_number y = search rules in
     let shares = third_shares x y _ _ of_x of_y c.biased.ensures.small c.biased-2.ensures.small in
-    grind (arith, nat_tests, c.args.flags, shares.sum)
+    grind (arith, nat_tests, shares.sum)

@@ -14,8 +14,7 @@ overflow_cast-result c = omega (
 
 pub returns-clause-value : goal.returns-clause-value
 returns-clause-value c =
-    grind (arith, nat_tests, stops_along, counted, place-encoder_state_after_acts, c.args.design.now, c.args.state.now, c.args.length,
-    c.needle_extents.result, c.requires.written, c.needle_extents.ensures)
+    grind (arith, nat_tests, stops_along, counted, place-encoder_state_after_acts, c.requires.written, c.needle_extents.ensures)
 
 pub returns-clause-fits : goal.returns-clause-fits
 returns-clause-fits c = subst FitsFields (sym (returns-clause-value c))

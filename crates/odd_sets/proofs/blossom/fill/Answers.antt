@@ -10,5 +10,5 @@ use Rattle.std.proofs.lemmas.Bool.Decides.{nat_tests}
 pub returns : goal.returns
 returns c =
     grind (arith, nat_tests, length-map-range_with_len, same_number_lists, by_count, blossom_other, blossom_own, at_row,
-        c.args.members.now, c.merge_all.new.cells, c.put.new.cells, c.requires.members, c.put.auto.cells, c.merge_all.auto.cells,
-        c.merge_all.ensures, c.put.ensures.on, c.put.ensures.off)
+          c.merge_all.new.cells, c.put.new.cells, c.requires.members, c.put.auto.cells, c.merge_all.auto.cells, c.merge_all.ensures,
+          c.put.ensures.on, c.put.ensures.off)

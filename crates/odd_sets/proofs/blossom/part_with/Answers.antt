@@ -9,9 +9,10 @@ use Rattle.std.proofs.lemmas.Bool.Decides.{nat_tests}
 
 pub loop-i-preserved : goal.loop-i-preserved
 loop-i-preserved c =
-    grind (arith, nat_tests, drop-cons, add-one, count-append, c.args.place, c.loop-i.i, (mapped_low (part_in c.args.sets.now)
-    c.args.parts.now c.loop-i.i c.loop-i-test.true), (mapped_item (part_in c.args.sets.now) c.args.parts.now c.loop-i.i no_part),
-    (c.holds.ensures.no c.if-holds.false), c.loop-i.invariant)
+    grind (arith, nat_tests, drop-cons, add-one, count-append, c.loop-i.i,
+          (mapped_low (part_in c.args.sets.now) c.args.parts.now c.loop-i.i c.loop-i-test.true),
+          (mapped_item (part_in c.args.sets.now) c.args.parts.now c.loop-i.i no_part), (c.holds.ensures.no c.if-holds.false),
+          c.loop-i.invariant)
 
 pub returns-then-holds-clause-there : goal.returns-then-holds-clause-there
 returns-then-holds-clause-there c =

@@ -22,6 +22,5 @@ loop-m-preserved c = λ x.
     let h = c.requires.within m (count_at c.args.members.now c.loop-m.m-index c.loop-m-test.true) in
     lowered x c.loop-m.m-index m c.args.by c.args.members.now c.loop-m.heights _ _ c.loop-m-test.true refl
     (omega (arith, h, c.loop-m.auto.heights))
-    (grind (arith, nat_tests, at_drop, eq-eqb, c.loop-m.m-index, c.args.by, c.args.members.now, c.loop-m-test.true, (c.requires.fits m),
-        (c.loop-m.invariant m)))
+    (grind (arith, nat_tests, at_drop, eq-eqb, c.loop-m.m-index, c.loop-m-test.true, (c.requires.fits m), (c.loop-m.invariant m)))
     (c.loop-m.invariant x)

@@ -10,9 +10,9 @@ use Rattle.std.proofs.lemmas.Bool.Decides.{nat_tests}
 pub loop-i-preserved : goal.loop-i-preserved
 loop-i-preserved c =
     let none = c.holds.ensures.no c.if-holds.false in
-    grind (arith, nat_tests, match_here, count-append, c.args.place, c.loop-i.i, (mapped_low (match_in c.args.sets.now) c.args.matches.now
-        c.loop-i.i c.loop-i-test.true), (mapped_item (match_in c.args.sets.now) c.args.matches.now c.loop-i.i no_match), none.0, none.1,
-        c.loop-i.invariant)
+    grind (arith, nat_tests, match_here, count-append, c.loop-i.i,
+          (mapped_low (match_in c.args.sets.now) c.args.matches.now c.loop-i.i c.loop-i-test.true),
+          (mapped_item (match_in c.args.sets.now) c.args.matches.now c.loop-i.i no_match), none.0, none.1, c.loop-i.invariant)
 
 pub returns-then-holds-clause-there : goal.returns-then-holds-clause-there
 returns-then-holds-clause-there c =

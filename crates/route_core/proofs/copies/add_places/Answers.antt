@@ -5,8 +5,7 @@ use Rattle.std.proofs.lemmas.Bool.Decides.{nat_tests}
 
 pub add_one-requires-clause-few : goal.add_one-requires-clause-few
 add_one-requires-clause-few c =
-    grind (arith, nat_tests, get_within, ap, c.loop-k.copies.items, c.loop-k.rest.now, c.in-Some.after.now, c.in-Some.k,
-        c.in-Some.ensures.some, c.loop-k.invariant.few)
+    grind (arith, nat_tests, get_within, ap, c.in-Some.k, c.in-Some.ensures.some, c.loop-k.invariant.few)
 
 pub loop-k-preserved : goal.loop-k-preserved
 loop-k-preserved c =
@@ -17,7 +16,6 @@ loop-k-preserved c =
     record {
       there = left.there;
       few = left.few;
-      whole = λ new. λ adds. i.whole new (grind (arith, nat_tests, more_length, more_up, more_sum, c.loop-k.rest.now, c.in-Some.after.now,
-          c.in-Some.k, c.in-Some.ensures.some, c.add_one.ensures, (first_below cs c.loop-k.rest.now c.in-Some.after.now c.in-Some.k
-          c.in-Some.ensures.some i.there)));
+      whole = λ new. λ adds. i.whole new (grind (arith, nat_tests, more_length, more_up, more_sum, c.in-Some.k, c.in-Some.ensures.some,
+            c.add_one.ensures, (first_below cs c.loop-k.rest.now c.in-Some.after.now c.in-Some.k c.in-Some.ensures.some i.there)));
     }

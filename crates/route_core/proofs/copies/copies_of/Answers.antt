@@ -7,9 +7,9 @@ use Rattle.std.proofs.lemmas.List.{length-replicate}
 
 pub loop-pair-init : goal.loop-pair-init
 loop-pair-init c =
-    grind (arith, nat_tests, length-replicate, none_cost, c.args.rows.now, c.args.pairs.now, c.in_ok-copies.copies.items,
-        (c.in_ok-copies.ensures.items_if_clones_equal (λ y. λ h. h) ∙ ap (λ (n : ℕ). replicate n 0) c.len.ensures), c.requires.pairs,
-        c.requires.few)
+    grind (arith, nat_tests, length-replicate, none_cost,
+          (c.in_ok-copies.ensures.items_if_clones_equal (λ y. λ h. h) ∙ ap (λ (n : ℕ). replicate n 0) c.len.ensures), c.requires.pairs,
+          c.requires.few)
 
 pub add_pair-requires-clause-pair : goal.add_pair-requires-clause-pair
 add_pair-requires-clause-pair c =

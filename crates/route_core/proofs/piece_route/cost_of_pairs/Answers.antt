@@ -10,6 +10,5 @@ loop-pair-preserved c = record {
   there = All-tail (IsPairOf c.args.rows.now) c.in-Some.pair c.in-Some.after.now
       (subst (λ (qs : List Pair). All (IsPairOf c.args.rows.now) qs) c.in-Some.ensures.some c.loop-pair.invariant.there);
   whole =
-      grind (arith, nat_tests, ap, c.args.rows.now, c.args.pairs.now, c.loop-pair.rest.now, c.in-Some.after.now, c.in-Some.pair,
-      c.loop-pair.cost, c.cost_of_pair-cost.result, c.in-Some.ensures.some, c.cost_of_pair-cost.ensures, c.loop-pair.invariant.whole);
+      grind (arith, nat_tests, ap, c.in-Some.pair, c.in-Some.ensures.some, c.cost_of_pair-cost.ensures, c.loop-pair.invariant.whole);
 }

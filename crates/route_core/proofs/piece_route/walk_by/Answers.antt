@@ -16,6 +16,5 @@ tour-requires c =
 
 pub returns : goal.returns
 returns c =
-    grind (arith, nat_tests, count_is, length-replicate, cost_is, none_cost, c.args.p.now.kept, c.args.rows.now, c.args.pairs.now,
-        c.in_ok-copies.copies.items, c.in_ok-walk.walk, c.in_ok-copies.ensures, (subst (λ (copies : List ℕ). IsTour (graph_of
-        c.args.p.now) copies c.in_ok-walk.walk) c.deref.ensures.value c.in_ok-walk.ensures))
+    grind (arith, nat_tests, count_is, length-replicate, cost_is, none_cost, c.in_ok-walk.walk, c.in_ok-copies.ensures,
+          (subst (λ (copies : List ℕ). IsTour (graph_of c.args.p.now) copies c.in_ok-walk.walk) c.deref.ensures.value c.in_ok-walk.ensures))

@@ -11,7 +11,7 @@ use Rattle.std.proofs.lemmas.Bool.Decides.{nat_tests}
 pub returns-then-longer-step-clause-value : goal.returns-then-longer-step-clause-value
 returns-then-longer-step-clause-value c =
     let few : move_size (move_between c.args.p c.args.q) ≤ c.args.step = search rules in
-    sym (grind (arith, nat_tests, div_ceil_times, c.args.step, (size_some c.args.p c.args.q c.requires.differ)))
+    sym (grind (arith, nat_tests, div_ceil_times, (size_some c.args.p c.args.q c.requires.differ)))
 
 pub returns-clause-some : goal.returns-clause-some
 returns-clause-some c =

@@ -25,7 +25,7 @@ returns-then-holds c =
       goes = λ link root tree left bs sh e g.
           let kept = last_kept link root tree left bs b _ _ _ _ sh g e in
           chaining_ends link root tree bs _ _ _ _ _ _ (chaining_left link root tree left bs b _ _ _ _ _ g e here
-          (grind (arith, nat_tests, c.args.self.now.way.from, c.args.self.now.to, c.requires)) kept.0 kept.1
+          (grind (arith, nat_tests, c.requires)) kept.0 kept.1
           (ap (λ (ps : List BlossomPart). parts_in sets ps) parts)) second.way (second.to ∙ first.to);
     }
 

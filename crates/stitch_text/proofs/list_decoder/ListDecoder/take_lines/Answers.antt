@@ -12,8 +12,7 @@ loop-line-preserved c =
       at = omega (arith, kept.at, split.sizes);
       there = omega (arith, kept.there, split.sizes);
       left =
-          grind (arith, nat_tests, drop-drop, c.args.bytes.now, c.loop-line.rest.now, c.in-Some.line.now, c.in-Some.after.now, kept.left,
-          kept.there, split.rest, split.sizes);
+          grind (arith, nat_tests, drop-drop, kept.left, kept.there, split.sizes);
       on = line_on _ _ _ _ _ c.args.start c.loop-line.at _ c.args.bytes.now c.loop-line.rest.now c.in-Some.line.now c.in-Some.after.now
           kept.on split.some c.in_ok-take_line.ensures (omega arith);
     }
