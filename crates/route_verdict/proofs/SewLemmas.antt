@@ -1,10 +1,9 @@
 -- Walks sewn one after another.
 use Rattle.std.proofs.lemmas.Bool.Decides.{nat_tests}
 use Rattle.std.proofs.Common.{◌≡◌, ◌≤◌, ◌<◌, ℕ, ◌+◌, Bool, true, false, cond, List, [], ◌∷◌, ◌++◌, length, drop, reverse, All, arith, sym, ◌∙◌, ap, subst}
-use mathlib.Core.List.{reverse_aux}
 use Rattle.std.proofs.lemmas.List.{append_assoc, length-append}
 use Rattle.std.proofs.lemmas.List.Concat.{flat_map-cons}
-use Rattle.std.proofs.lemmas.List.Elements.{All-append, All-cons, All-head, All-nil, All-tail}
+use Rattle.std.proofs.lemmas.List.Elements.{All-append, All-head, All-nil, All-tail}
 use Rattle.odd_cuts.specs.declared.certificate.PieceCert.{PieceCert}
 use Rattle.design_model.specs.declared.command.Command.{Command}
 use Rattle.design_model.specs.declared.point.Point.{Point}
@@ -14,6 +13,7 @@ use Rattle.line_graph.specs.declared.pass.Pass.{Pass}
 use Rattle.drawing_model.specs.Drawings.{DrawingValue, KeepsDrawingLimits}
 use Rattle.line_graph.specs.Runs.{block_of_passes, commands_after, runs_of}
 use Rattle.drawing_model.specs.LineNeedles.{NeedlesLeadAlong, needles_of_line}
+use Rattle.line_graph.proofs.CallerLemmas.{range_back}
 use Rattle.line_graph.specs.Walks.{needles_of_pass, needles_of_walk}
 use Rattle.odd_cuts.specs.Certificates.{walks_of}
 use Rattle.design_model.specs.LongerDesigns.{with_commands}
@@ -27,11 +27,6 @@ later_more d old points left after pass is needles are put = grind (arith, nat_t
 
 pub drawn_rest : (d : DrawingValue) (left after : List Pass) (pass : Pass) → left ≡ pass ∷ after → AreDrawn d left → AreDrawn d after
 drawn_rest d left after pass is drawn = All-tail (λ (p : Pass). p.line < length d.lines) pass after (subst (AreDrawn d) is drawn)
-
-range_back : (xs r : List Point) → All IsNeedlePoint xs → All IsNeedlePoint r → All IsNeedlePoint (reverse_aux xs r)
-range_back [] r forth back = back
-range_back (x ∷ xs) r forth back =
-    range_back xs (x ∷ r) (All-tail IsNeedlePoint x xs forth) (All-cons IsNeedlePoint x r (All-head IsNeedlePoint x xs forth) back)
 
 either : (ps : List Point) (back : Bool) → All IsNeedlePoint ps → All IsNeedlePoint (cond back (reverse ps) ps)
 either ps true all = range_back ps [] all (All-nil IsNeedlePoint)
