@@ -2,8 +2,8 @@
 use Rattle.std.proofs.lemmas.Bool.Decides.{nat_tests}
 use Rattle.std.proofs.Common.{◌≡◌, ◌∙◌, ℕ, ◌==◌, Bool, true, false, ◌&&◌, ◌||◌, cond, List, [], ◌∷◌, ap, sym, arith}
 use Rattle.std.proofs.Math.Path.{ap₂}
-use Rattle.std.proofs.lemmas.Cmp.{int_eq_equiv}
 use Rattle.std.specs.List.{list_any}
+use Rattle.design_model.proofs.CallerLemmas.{same_back}
 use Rattle.design_model.specs.declared.point.Point.{Point}
 use Rattle.design_model.specs.Points.{is_same_point}
 use Rattle.drawing_model.specs.Drawings.{endpoints}
@@ -12,10 +12,6 @@ use Rattle.line_sections.specs.declared.spot.Spot.{Spot}
 use Rattle.line_sections.specs.Lines.{LineValue}
 use Rattle.line_sections.specs.Spots.{is_same_spot}
 use Rattle.step_splitter.specs.Chains.{last_point_or}
-
--- two points are the same either way
-pub point_either_way : (p q : Point) → is_same_point p q ≡ is_same_point q p
-point_either_way p q = ap₂ (λ (a b : Bool). a && b) (int_eq_equiv.symm p.x q.x) (int_eq_equiv.symm p.y q.y)
 
 -- what is found after two spots of a block were put in
 either_end : (a b c found : Bool) → cond (a && c) true (cond (a && b) true found) ≡ ((a && (b || (c || false))) || found)
@@ -33,7 +29,7 @@ both_put : (block : ℕ) (first last : Point) (old mid new : Spot → Bool)
 both_put block first last old mid new one two q =
     two q ∙ (ap (λ (b : Bool). cond (is_same_spot (record { block = block; at = last }) q) true b) (one q)
     ∙ (ap₂ (λ (a b : Bool). cond ((block == q.block) && b) true (cond ((block == q.block) && a) true (old q)))
-    (point_either_way first q.at) (point_either_way last q.at)
+    (same_back first q.at) (same_back last q.at)
     ∙ either_end (block == q.block) (is_same_point q.at first) (is_same_point q.at last) (old q)))
 
 -- the ends of a section are put in
