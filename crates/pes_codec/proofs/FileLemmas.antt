@@ -1,5 +1,6 @@
 -- The results of the bytes of a file, up to its block and from there on.
-use Rattle.std.proofs.Common.{◌≡◌, ℕ, ◌+◌, ◌-◌, ◌<◌, ◌≤◌, Bool, true, false, List, [], ◌++◌, length, drop, nat_lt, Result, Ok, Err, IfOk, if◌then◌else◌, refl, ap, sym, ◌∙◌, arith, length-append}
+use Rattle.std.proofs.lemmas.Bool.Decides.{nat_tests}
+use Rattle.std.proofs.Common.{◌≡◌, ℕ, ◌+◌, ◌-◌, ◌<◌, ◌≤◌, Bool, true, false, List, [], ◌++◌, length, drop, nat_lt, Result, Ok, Err, IfOk, refl, ap, sym, ◌∙◌, arith, length-append}
 use Rattle.std.proofs.Math.Seq.{drop-append-add}
 use Rattle.std.proofs.lemmas.Bool.{le-ltb, lt-ltb, ltb-false, ltb-true}
 use Rattle.std.proofs.lemmas.List.{drop-append-le, drop-drop, drop_all, length-drop}
@@ -11,28 +12,52 @@ use Rattle.format_traits.specs.DecoderStates.{IsSameDecoderState, DecodedSoFar, 
 use Rattle.pec_codec.specs.Reading.{pec_block_layout}
 use Rattle.pes_codec.specs.declared.file_stage.FileStage.TheVariants as stage
 use Rattle.pes_codec.specs.FileStates.{file_so_far_at, file_state_at, file_state_before_block, file_start_state}
-use Rattle.pes_codec.specs.Fronts.{FrontLayout, front_fault, decoded_after_skip, file_decoded_from, reads_after_skip, file_reads_from}
+use Rattle.pes_codec.specs.Fronts.{FrontLayout, after_skip, front_fault, from_front, decoded_after_skip, file_decoded_from, reads_after_skip, file_reads_from}
 
--- the front is not whole
-short_reads : (front_layout : FrontLayout) (at : ℕ) (bytes : List ℕ) → length bytes < front_layout.length
-    → file_reads_from front_layout at bytes ≡ Err (front_fault front_layout at bytes)
-short_reads front_layout at bytes short = by_known (front_layout.known bytes)
+-- fewer bytes than stand before the block
+test_on : (l m skip : ℕ) → l < skip → nat_lt (l + m) skip ≡ nat_lt m (skip - l)
+test_on l m skip less = by_test (nat_lt m (skip - l)) refl
   where
-    by_known : (known : Bool)
-        → (if known then (if nat_lt (length bytes) front_layout.length then Err (fault.Short (at + length bytes))
-        else reads_after_skip (front_layout.block bytes) at bytes) else Err (fault.Signature at))
-        ≡ Err (if known then fault.Short (at + length bytes) else fault.Signature at)
-    by_known true = rw (lt-ltb (length bytes) front_layout.length short) refl
-    by_known false = refl
+    by_test : (b : Bool) → nat_lt m (skip - l) ≡ b → nat_lt (l + m) skip ≡ nat_lt m (skip - l)
+    by_test true is = let below = ltb-true m (skip - l) is in lt-ltb (l + m) skip (omega (arith, below)) ∙ sym is
+    by_test false is = let above = ltb-false m (skip - l) is in le-ltb (l + m) skip (omega (arith, above, less)) ∙ sym is
 
-short_given : (front_layout : FrontLayout) (at : ℕ) (bytes : List ℕ) → length bytes < front_layout.length
-    → file_decoded_from front_layout at bytes ≡ []
-short_given front_layout at bytes short = by_known (front_layout.known bytes)
-  where
-    by_known : (known : Bool) → (if known then (if nat_lt (length bytes) front_layout.length then []
-        else decoded_after_skip (front_layout.block bytes) at bytes) else []) ≡ []
-    by_known true = rw (lt-ltb (length bytes) front_layout.length short) refl
-    by_known false = refl
+module _ {A : Type 0} (none : ReadFault → A) (block : ℕ → List ℕ → A) where
+  -- the front is not whole
+  short_front : (front_layout : FrontLayout) (at : ℕ) (bytes : List ℕ) → length bytes < front_layout.length
+      → from_front none block front_layout at bytes ≡ none (front_fault front_layout at bytes)
+  short_front front_layout at bytes short = grind (arith, nat_tests)
+
+  -- the front is whole and known
+  known_front : (front_layout : FrontLayout) (at skip : ℕ) (bytes : List ℕ) → front_layout.known bytes ≡ true
+      → front_layout.length ≤ length bytes → front_layout.block bytes ≡ skip
+      → from_front none block front_layout at bytes ≡ after_skip none block skip at bytes
+  known_front front_layout at skip bytes known long is = rw (known, le-ltb (length bytes) front_layout.length long)
+      (ap (λ skip. after_skip none block skip at bytes) is)
+
+  -- no byte before the block
+  none_before : (at skip : ℕ) → 0 < skip → after_skip none block skip at [] ≡ none (fault.Short at)
+  none_before at skip some = rw (lt-ltb 0 skip some) (ap (λ n. none (fault.Short n)) (omega arith))
+
+  -- fewer bytes than are before the block
+  before_on : (at skip : ℕ) (bytes more : List ℕ) → length bytes < skip
+      → after_skip none block skip at (bytes ++ more) ≡ after_skip none block (skip - length bytes) (at + length bytes) more
+  before_on at skip bytes more less =
+      let l = length bytes in
+      let both : length (bytes ++ more) ≡ l + length more = length-append bytes more in
+      let test : nat_lt (length (bytes ++ more)) skip ≡ nat_lt (length more) (skip - l) =
+      ap (λ n. nat_lt n skip) both ∙ test_on l (length more) skip less in
+      let end : at + length (bytes ++ more) ≡ (at + l) + length more = omega (arith, both) in
+      let parts : l + (skip - l) ≡ skip = omega (arith, less) in
+      let place : at + skip ≡ (at + l) + (skip - l) = omega (arith, less) in
+      let left : drop skip (bytes ++ more) ≡ drop (skip - l) more =
+      ap (λ n. drop n (bytes ++ more)) (sym parts) ∙ drop-append-add bytes more (skip - l) in
+      rw (test, end, place, left) refl
+
+  -- all bytes before the block
+  after_all : (at skip : ℕ) (bytes : List ℕ) → skip ≤ length bytes
+      → after_skip none block skip at bytes ≡ block (at + skip) (drop skip bytes)
+  after_all at skip bytes there = rw (le-ltb (length bytes) skip there) refl
 
 pub front_short : (front_layout : FrontLayout) (block : DecoderState) (so_far : DecodedSoFar) (at told : ℕ) (bytes : List ℕ) (f : ReadFault)
     → length bytes < told → told ≡ front_layout.length → told < 528 → f ≡ front_fault front_layout at bytes
@@ -49,23 +74,10 @@ front_short front_layout block so_far at told bytes f short is few of_fault =
         decoded = λ more. ap (λ n. file_decoded_from front_layout n (bytes ++ more)) (sym here);
       };
       settled = record {
-        answer = ap (λ n. file_reads_from front_layout n bytes) here ∙ short_reads front_layout at bytes less ∙ ap Err (sym of_fault);
-        commands = ap (λ n. file_decoded_from front_layout n bytes) here ∙ short_given front_layout at bytes less;
+        answer = ap (λ n. file_reads_from front_layout n bytes) here ∙ short_front Err (layout_reads pec_block_layout) front_layout at bytes less ∙ ap Err (sym of_fault);
+        commands = ap (λ n. file_decoded_from front_layout n bytes) here ∙ short_front (λ _. []) (layout_decoded pec_block_layout) front_layout at bytes less;
       };
     }
-
--- the front is whole and known
-known_reads : (front_layout : FrontLayout) (at skip : ℕ) (bytes : List ℕ) → front_layout.known bytes ≡ true
-    → front_layout.length ≤ length bytes
-    → front_layout.block bytes ≡ skip → file_reads_from front_layout at bytes ≡ reads_after_skip skip at bytes
-known_reads front_layout at skip bytes known long is = rw (known, le-ltb (length bytes) front_layout.length long)
-    (ap (λ skip. reads_after_skip skip at bytes) is)
-
-known_given : (front_layout : FrontLayout) (at skip : ℕ) (bytes : List ℕ) → front_layout.known bytes ≡ true
-    → front_layout.length ≤ length bytes
-    → front_layout.block bytes ≡ skip → file_decoded_from front_layout at bytes ≡ decoded_after_skip skip at bytes
-known_given front_layout at skip bytes known long is = rw (known, le-ltb (length bytes) front_layout.length long)
-    (ap (λ skip. decoded_after_skip skip at bytes) is)
 
 pub front_known : (front_layout : FrontLayout) (new : DecoderState) (so_far : DecodedSoFar) (at skip : ℕ) (bytes : List ℕ)
     (result : Result ℕ Memory)
@@ -80,56 +92,13 @@ front_known front_layout new so_far at skip bytes (Ok size) long known is takes 
       there = takes.there;
       few = takes.few;
       on = record {
-        rest = λ more. known_reads front_layout at skip (bytes ++ more) (known more) (longer more) (is more) ∙ takes.on.rest more;
-        decoded = λ more. known_given front_layout at skip (bytes ++ more) (known more) (longer more) (is more) ∙ takes.on.decoded more;
+        rest = λ more. known_front Err (layout_reads pec_block_layout) front_layout at skip (bytes ++ more) (known more) (longer more) (is more) ∙ takes.on.rest more;
+        decoded = λ more. known_front (λ _. []) (layout_decoded pec_block_layout) front_layout at skip (bytes ++ more) (known more) (longer more) (is more) ∙ takes.on.decoded more;
       };
       settled = takes.settled;
     }
 
--- fewer bytes than stand before the block
-test_on : (l m skip : ℕ) → l < skip → nat_lt (l + m) skip ≡ nat_lt m (skip - l)
-test_on l m skip less = by_test (nat_lt m (skip - l)) refl
-  where
-    by_test : (b : Bool) → nat_lt m (skip - l) ≡ b → nat_lt (l + m) skip ≡ nat_lt m (skip - l)
-    by_test true is = let below = ltb-true m (skip - l) is in lt-ltb (l + m) skip (omega (arith, below)) ∙ sym is
-    by_test false is = let above = ltb-false m (skip - l) is in le-ltb (l + m) skip (omega (arith, above, less)) ∙ sym is
-
-before_on : (at skip : ℕ) (bytes more : List ℕ) → length bytes < skip
-    → reads_after_skip skip at (bytes ++ more) ≡ reads_after_skip (skip - length bytes) (at + length bytes) more
-before_on at skip bytes more less =
-    let l = length bytes in
-    let both : length (bytes ++ more) ≡ l + length more = length-append bytes more in
-    let test : nat_lt (length (bytes ++ more)) skip ≡ nat_lt (length more) (skip - l) =
-    ap (λ n. nat_lt n skip) both ∙ test_on l (length more) skip less in
-    let end : at + length (bytes ++ more) ≡ (at + l) + length more = omega (arith, both) in
-    let parts : l + (skip - l) ≡ skip = omega (arith, less) in
-    let place : at + skip ≡ (at + l) + (skip - l) = omega (arith, less) in
-    let left : drop skip (bytes ++ more) ≡ drop (skip - l) more =
-    ap (λ n. drop n (bytes ++ more)) (sym parts) ∙ drop-append-add bytes more (skip - l) in
-    ap (λ b. if b then Err (fault.Short (at + length (bytes ++ more))) else layout_reads pec_block_layout (at + skip)
-    (drop skip (bytes ++ more))) test
-    ∙ ap (λ n. if nat_lt (length more) (skip - l) then Err (fault.Short n) else layout_reads pec_block_layout (at + skip)
-    (drop skip (bytes ++ more))) end
-    ∙ ap (λ n. if nat_lt (length more) (skip - l) then Err (fault.Short ((at + l) + length more))
-    else layout_reads pec_block_layout n (drop skip (bytes ++ more))) place
-    ∙ ap (λ rest. if nat_lt (length more) (skip - l) then Err (fault.Short ((at + l) + length more))
-    else layout_reads pec_block_layout ((at + l) + (skip - l)) rest) left
-
-before_gives : (at skip : ℕ) (bytes more : List ℕ) → length bytes < skip
-    → decoded_after_skip skip at (bytes ++ more) ≡ decoded_after_skip (skip - length bytes) (at + length bytes) more
-before_gives at skip bytes more less =
-    let l = length bytes in
-    let both : length (bytes ++ more) ≡ l + length more = length-append bytes more in
-    let test : nat_lt (length (bytes ++ more)) skip ≡ nat_lt (length more) (skip - l) =
-    ap (λ n. nat_lt n skip) both ∙ test_on l (length more) skip less in
-    let parts : l + (skip - l) ≡ skip = omega (arith, less) in
-    let place : at + skip ≡ (at + l) + (skip - l) = omega (arith, less) in
-    let left : drop skip (bytes ++ more) ≡ drop (skip - l) more =
-    ap (λ n. drop n (bytes ++ more)) (sym parts) ∙ drop-append-add bytes more (skip - l) in
-    ap (λ b. if b then [] else layout_decoded pec_block_layout (at + skip) (drop skip (bytes ++ more))) test
-    ∙ ap (λ n. if nat_lt (length more) (skip - l) then [] else layout_decoded pec_block_layout n (drop skip (bytes ++ more))) place
-    ∙ ap (λ rest. if nat_lt (length more) (skip - l) then [] else layout_decoded pec_block_layout ((at + l) + (skip - l)) rest) left
-
+-- fewer bytes than are before the block
 pub before_short : (front_layout : FrontLayout) (block : DecoderState) (so_far : DecodedSoFar) (at skip : ℕ) (bytes : List ℕ)
     → length bytes < skip
     → let far = stage.Before (skip - length bytes) (at + length bytes) in
@@ -138,23 +107,19 @@ before_short front_layout block so_far at skip bytes less =
     let l = length bytes in
     let none : drop l bytes ≡ [] = drop_all l bytes (omega arith) in
     let some : 0 < skip - l = omega (arith, less) in
-    let end : (at + l) + 0 ≡ at + l = omega arith in
     record {
       there = omega arith;
       few = omega arith;
       on = record {
-        rest = λ more. before_on at skip bytes more less ∙ ap (λ left. reads_after_skip (skip - l) (at + l) (left ++ more)) (sym none);
-        decoded = λ more. before_gives at skip bytes more less
+        rest = λ more. before_on Err (layout_reads pec_block_layout) at skip bytes more less
+            ∙ ap (λ left. reads_after_skip (skip - l) (at + l) (left ++ more)) (sym none);
+        decoded = λ more. before_on (λ _. []) (layout_decoded pec_block_layout) at skip bytes more less
             ∙ ap (λ left. decoded_after_skip (skip - l) (at + l) (left ++ more)) (sym none);
       };
       settled = record {
-        answer = ap (reads_after_skip (skip - l) (at + l)) none
-            ∙ ap (λ b. if b then Err (fault.Short ((at + l) + 0)) else layout_reads pec_block_layout ((at + l) + (skip - l))
-            (drop (skip - l) []))
-            (lt-ltb 0 (skip - l) some) ∙ ap (λ n. Err (fault.Short n)) end;
+        answer = ap (reads_after_skip (skip - l) (at + l)) none ∙ none_before Err (layout_reads pec_block_layout) (at + l) (skip - l) some;
         commands = ap (decoded_after_skip (skip - l) (at + l)) none
-            ∙ ap (λ b. if b then [] else layout_decoded pec_block_layout ((at + l) + (skip - l)) (drop (skip - l) []))
-            (lt-ltb 0 (skip - l) some);
+            ∙ none_before (λ _. []) (layout_decoded pec_block_layout) (at + l) (skip - l) some;
       };
     }
 
@@ -170,20 +135,17 @@ before_long front_layout begun new so_far at skip size bytes back there of_back 
     let few = takes.few in
     let far : (at + skip) + size ≡ at + (skip + size) = omega arith in
     let gone : drop size back ≡ drop (skip + size) bytes = ap (drop size) of_back ∙ drop-drop size skip bytes in
-    let test : (more : List ℕ) → nat_lt (length (bytes ++ more)) skip ≡ false =
-    λ more. le-ltb (length (bytes ++ more)) skip (omega (arith, there, length-append bytes more)) in
+    let longer : (more : List ℕ) → skip ≤ length (bytes ++ more) = λ more. omega (arith, there, length-append bytes more) in
     let behind : (more : List ℕ) → drop skip (bytes ++ more) ≡ back ++ more =
     λ more. drop-append-le skip bytes more there ∙ ap (λ back. back ++ more) (sym of_back) in
     record {
       there = omega (arith, left, in_back, there);
       few = omega (arith, left, few, there);
       on = record {
-        rest = λ more. ap (λ b. if b then Err (fault.Short (at + length (bytes ++ more))) else layout_reads pec_block_layout (at + skip)
-            (drop skip
-            (bytes ++ more))) (test more)
+        rest = λ more. after_all Err (layout_reads pec_block_layout) at skip (bytes ++ more) (longer more)
             ∙ ap (layout_reads pec_block_layout (at + skip)) (behind more) ∙ sym (same.rest (at + skip) (back ++ more)) ∙ takes.on.rest more
             ∙ ap (λ n. new.rest n (drop size back ++ more)) far ∙ ap (λ gone. new.rest (at + (skip + size)) (gone ++ more)) gone;
-        decoded = λ more. ap (λ b. if b then [] else layout_decoded pec_block_layout (at + skip) (drop skip (bytes ++ more))) (test more)
+        decoded = λ more. after_all (λ _. []) (layout_decoded pec_block_layout) at skip (bytes ++ more) (longer more)
             ∙ ap (layout_decoded pec_block_layout (at + skip)) (behind more) ∙ sym (same.decoded (at + skip) (back ++ more))
             ∙ takes.on.decoded more
             ∙ ap (λ n. new.decoded n (drop size back ++ more)) far ∙ ap (λ gone. new.decoded (at + (skip + size)) (gone ++ more)) gone;

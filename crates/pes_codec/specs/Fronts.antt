@@ -39,33 +39,38 @@ abbrev pub ending_of : FileKind → List ℕ
 ending_of Pec = codes "pec"
 ending_of Pes = codes "pes"
 
--- The result of bytes at an offset, of which the first `skip` are before the block.
+-- What bytes at an offset give, of which the first `skip` are before the block: what the block
+-- gives, or `none` of the refusal.
+abbrev pub after_skip : {A : Type 0} → (ReadFault → A) → (ℕ → List ℕ → A) → ℕ → ℕ → List ℕ → A
+after_skip none block skip at bytes =
+    if nat_lt (length bytes) skip then none (fault.Short (at + length bytes))
+    else block (at + skip) (drop skip bytes)
+
+-- What a file gives whose first byte has the offset `at`.
+abbrev pub from_front : {A : Type 0} → (ReadFault → A) → (ℕ → List ℕ → A) → FrontLayout → ℕ
+    → List ℕ → A
+from_front none block front_layout at bytes =
+    if front_layout.known bytes
+    then (if nat_lt (length bytes) front_layout.length then none (fault.Short (at + length bytes))
+    else after_skip none block (front_layout.block bytes) at bytes)
+    else none (fault.Signature at)
+
+-- The result of the bytes after `skip` others, and of a file.
 abbrev pub reads_after_skip : ℕ → ℕ → List ℕ → Result Loaded ReadFault
-reads_after_skip skip at bytes =
-    if nat_lt (length bytes) skip then Err (fault.Short (at + length bytes))
-    else layout_reads pec_block_layout (at + skip) (drop skip bytes)
+reads_after_skip skip at bytes = after_skip Err (layout_reads pec_block_layout) skip at bytes
 
--- The commands of bytes at an offset, of which the first `skip` are before the block.
-abbrev pub decoded_after_skip : ℕ → ℕ → List ℕ → List Command
-decoded_after_skip skip at bytes =
-    if nat_lt (length bytes) skip then [] else layout_decoded pec_block_layout (at + skip)
-    (drop skip bytes)
-
--- The result of a file whose first byte has the offset `at`.
 abbrev pub file_reads_from : FrontLayout → ℕ → List ℕ → Result Loaded ReadFault
-file_reads_from front_layout at bytes =
-    if front_layout.known bytes
-    then (if nat_lt (length bytes) front_layout.length then Err (fault.Short (at + length bytes))
-    else reads_after_skip (front_layout.block bytes) at bytes)
-    else Err (fault.Signature at)
+file_reads_from front_layout at bytes = from_front Err (layout_reads pec_block_layout) front_layout
+    at bytes
 
--- The commands of a file whose first byte has the offset `at`.
+-- The commands of the bytes after `skip` others, and of a file.
+abbrev pub decoded_after_skip : ℕ → ℕ → List ℕ → List Command
+decoded_after_skip skip at bytes = after_skip (λ _. []) (layout_decoded pec_block_layout) skip at
+    bytes
+
 abbrev pub file_decoded_from : FrontLayout → ℕ → List ℕ → List Command
-file_decoded_from front_layout at bytes =
-    if front_layout.known bytes
-    then (if nat_lt (length bytes) front_layout.length then []
-    else decoded_after_skip (front_layout.block bytes) at bytes)
-    else []
+file_decoded_from front_layout at bytes = from_front (λ _. []) (layout_decoded pec_block_layout)
+    front_layout at bytes
 
 -- The refusal of a file that ends in its front.
 abbrev pub front_fault : FrontLayout → ℕ → List ℕ → ReadFault
