@@ -8,12 +8,10 @@ pub passes_on : {old middle new : DecoderState} {so_far : DecodedSoFar} (start a
     → ContinuesAs old middle start at whole (pending ++ rest) → TakesBytes middle new so_far at pending size
     → left ++ behind ≡ drop size pending ++ rest → ContinuesAs old new start (at + size) whole (left ++ behind)
 passes_on {old} {middle} {new} start at size whole pending rest left behind on takes same = record {
-  rest = λ more. on.rest more ∙ ap (middle.rest at) (append_assoc pending rest more) ∙ takes.on.rest (rest ++ more)
-      ∙ ap (new.rest (at + size)) (sym (append_assoc (drop size pending) rest more))
-      ∙ ap (λ bytes. new.rest (at + size) (bytes ++ more)) (sym same);
-  decoded = λ more. on.decoded more ∙ ap (middle.decoded at) (append_assoc pending rest more) ∙ takes.on.decoded (rest ++ more)
-      ∙ ap (new.decoded (at + size)) (sym (append_assoc (drop size pending) rest more))
-      ∙ ap (λ bytes. new.decoded (at + size) (bytes ++ more)) (sym same);
+  rest = λ more. on.rest more
+      ∙ rw (same, append_assoc pending rest more, append_assoc (drop size pending) rest more) (takes.on.rest (rest ++ more));
+  decoded = λ more. on.decoded more
+      ∙ rw (same, append_assoc pending rest more, append_assoc (drop size pending) rest more) (takes.on.decoded (rest ++ more));
 }
 
 -- no byte is lost between those that are left and those that are added

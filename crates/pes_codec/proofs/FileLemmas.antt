@@ -12,7 +12,7 @@ use Rattle.format_traits.specs.DecoderStates.{IsSameDecoderState, DecodedSoFar, 
 use Rattle.pec_codec.specs.Reading.{pec_block_layout}
 use Rattle.pes_codec.specs.declared.file_stage.FileStage.TheVariants as stage
 use Rattle.pes_codec.specs.FileStates.{file_so_far_at, file_state_at, file_state_before_block, file_start_state}
-use Rattle.pes_codec.specs.Fronts.{FrontLayout, after_skip, front_fault, from_front, decoded_after_skip, file_decoded_from, reads_after_skip, file_reads_from}
+use Rattle.pes_codec.specs.Fronts.{FrontLayout, after_skip, front_fault, from_front}
 
 -- fewer bytes than stand before the block
 test_on : (l m skip : ℕ) → l < skip → nat_lt (l + m) skip ≡ nat_lt m (skip - l)
@@ -70,12 +70,12 @@ front_short front_layout block so_far at told bytes f short is few of_fault =
       there = omega arith;
       few = omega (arith, short, few);
       on = record {
-        rest = λ more. ap (λ n. file_reads_from front_layout n (bytes ++ more)) (sym here);
-        decoded = λ more. ap (λ n. file_decoded_from front_layout n (bytes ++ more)) (sym here);
+        rest = λ more. rw here refl;
+        decoded = λ more. rw here refl;
       };
       settled = record {
-        answer = ap (λ n. file_reads_from front_layout n bytes) here ∙ short_front Err (layout_reads pec_block_layout) front_layout at bytes less ∙ ap Err (sym of_fault);
-        commands = ap (λ n. file_decoded_from front_layout n bytes) here ∙ short_front (λ _. []) (layout_decoded pec_block_layout) front_layout at bytes less;
+        answer = rw (here, of_fault) (short_front Err (layout_reads pec_block_layout) front_layout at bytes less);
+        commands = rw here (short_front (λ _. []) (layout_decoded pec_block_layout) front_layout at bytes less);
       };
     }
 
@@ -92,8 +92,10 @@ front_known front_layout new so_far at skip bytes (Ok size) long known is takes 
       there = takes.there;
       few = takes.few;
       on = record {
-        rest = λ more. known_front Err (layout_reads pec_block_layout) front_layout at skip (bytes ++ more) (known more) (longer more) (is more) ∙ takes.on.rest more;
-        decoded = λ more. known_front (λ _. []) (layout_decoded pec_block_layout) front_layout at skip (bytes ++ more) (known more) (longer more) (is more) ∙ takes.on.decoded more;
+        rest = λ more. known_front Err (layout_reads pec_block_layout) front_layout at skip (bytes ++ more)
+            (known more) (longer more) (is more) ∙ takes.on.rest more;
+        decoded = λ more. known_front (λ _. []) (layout_decoded pec_block_layout) front_layout at skip (bytes ++ more)
+            (known more) (longer more) (is more) ∙ takes.on.decoded more;
       };
       settled = takes.settled;
     }
@@ -111,15 +113,12 @@ before_short front_layout block so_far at skip bytes less =
       there = omega arith;
       few = omega arith;
       on = record {
-        rest = λ more. before_on Err (layout_reads pec_block_layout) at skip bytes more less
-            ∙ ap (λ left. reads_after_skip (skip - l) (at + l) (left ++ more)) (sym none);
-        decoded = λ more. before_on (λ _. []) (layout_decoded pec_block_layout) at skip bytes more less
-            ∙ ap (λ left. decoded_after_skip (skip - l) (at + l) (left ++ more)) (sym none);
+        rest = λ more. rw none (before_on Err (layout_reads pec_block_layout) at skip bytes more less);
+        decoded = λ more. rw none (before_on (λ _. []) (layout_decoded pec_block_layout) at skip bytes more less);
       };
       settled = record {
-        answer = ap (reads_after_skip (skip - l) (at + l)) none ∙ none_before Err (layout_reads pec_block_layout) (at + l) (skip - l) some;
-        commands = ap (decoded_after_skip (skip - l) (at + l)) none
-            ∙ none_before (λ _. []) (layout_decoded pec_block_layout) (at + l) (skip - l) some;
+        answer = rw none (none_before Err (layout_reads pec_block_layout) (at + l) (skip - l) some);
+        commands = rw none (none_before (λ _. []) (layout_decoded pec_block_layout) (at + l) (skip - l) some);
       };
     }
 
@@ -133,8 +132,8 @@ before_long front_layout begun new so_far at skip size bytes back there of_back 
     let left : length back ≡ length bytes - skip = ap length of_back ∙ length-drop skip bytes in
     let in_back = takes.there in
     let few = takes.few in
-    let far : (at + skip) + size ≡ at + (skip + size) = omega arith in
-    let gone : drop size back ≡ drop (skip + size) bytes = ap (drop size) of_back ∙ drop-drop size skip bytes in
+    let far : at + (skip + size) ≡ (at + skip) + size = omega arith in
+    let gone : drop (skip + size) bytes ≡ drop size back = sym (ap (drop size) of_back ∙ drop-drop size skip bytes) in
     let longer : (more : List ℕ) → skip ≤ length (bytes ++ more) = λ more. omega (arith, there, length-append bytes more) in
     let behind : (more : List ℕ) → drop skip (bytes ++ more) ≡ back ++ more =
     λ more. drop-append-le skip bytes more there ∙ ap (λ back. back ++ more) (sym of_back) in
@@ -143,17 +142,12 @@ before_long front_layout begun new so_far at skip size bytes back there of_back 
       few = omega (arith, left, few, there);
       on = record {
         rest = λ more. after_all Err (layout_reads pec_block_layout) at skip (bytes ++ more) (longer more)
-            ∙ ap (layout_reads pec_block_layout (at + skip)) (behind more) ∙ sym (same.rest (at + skip) (back ++ more)) ∙ takes.on.rest more
-            ∙ ap (λ n. new.rest n (drop size back ++ more)) far ∙ ap (λ gone. new.rest (at + (skip + size)) (gone ++ more)) gone;
+            ∙ rw (behind more) (sym (same.rest (at + skip) (back ++ more)) ∙ rw (gone, far) (takes.on.rest more));
         decoded = λ more. after_all (λ _. []) (layout_decoded pec_block_layout) at skip (bytes ++ more) (longer more)
-            ∙ ap (layout_decoded pec_block_layout (at + skip)) (behind more) ∙ sym (same.decoded (at + skip) (back ++ more))
-            ∙ takes.on.decoded more
-            ∙ ap (λ n. new.decoded n (drop size back ++ more)) far ∙ ap (λ gone. new.decoded (at + (skip + size)) (gone ++ more)) gone;
+            ∙ rw (behind more) (sym (same.decoded (at + skip) (back ++ more)) ∙ rw (gone, far) (takes.on.decoded more));
       };
       settled = record {
-        answer = ap (λ gone. new.rest (at + (skip + size)) gone) (sym gone) ∙ ap (λ n. new.rest n (drop size back)) (sym far)
-            ∙ takes.settled.answer;
-        commands = ap (λ gone. new.decoded (at + (skip + size)) gone) (sym gone) ∙ ap (λ n. new.decoded n (drop size back)) (sym far)
-            ∙ takes.settled.commands;
+        answer = rw (gone, far) takes.settled.answer;
+        commands = rw (gone, far) takes.settled.commands;
       };
     }

@@ -31,14 +31,8 @@ takes_behind fresh middle new so_far at least header size bytes front back whole
       there = omega (arith, parts, there);
       few = omega (arith, parts, few);
       on = record {
-        rest = λ more. ap (λ bytes. fresh.rest at (bytes ++ more)) whole ∙ ap (fresh.rest at) (append_assoc front back more)
-            ∙ on.rest (back ++ more) ∙ takes.on.rest more
-            ∙ ap (λ n. new.rest n (drop size back ++ more)) (sym far)
-            ∙ ap (λ left. new.rest (at + (header + size)) (left ++ more)) (sym left);
-        decoded = λ more. ap (λ bytes. fresh.decoded at (bytes ++ more)) whole ∙ ap (fresh.decoded at) (append_assoc front back more)
-            ∙ on.decoded (back ++ more) ∙ takes.on.decoded more
-            ∙ ap (λ n. new.decoded n (drop size back ++ more)) (sym far)
-            ∙ ap (λ left. new.decoded (at + (header + size)) (left ++ more)) (sym left);
+        rest = λ more. rw (left, far, whole, append_assoc front back more, on.rest (back ++ more)) (takes.on.rest more);
+        decoded = λ more. rw (left, far, whole, append_assoc front back more, on.decoded (back ++ more)) (takes.on.decoded more);
       };
       settled = subst (λ n. IsAtRecordBoundary new so_far n (drop (header + size) bytes)) (sym far)
           (subst (λ left. IsAtRecordBoundary new so_far ((at + header) + size) left) (sym left) takes.settled);
