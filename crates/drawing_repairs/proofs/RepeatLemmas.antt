@@ -1,6 +1,6 @@
 -- No point of a line repeats the one before: after it was moved, and after ends were put into it.
 use Rattle.std.proofs.lemmas.Bool.Decides.{nat_tests}
-use Rattle.std.proofs.Common.{◌≡◌, ◌≢◌, ℕ, ℤ, Bool, true, false, ◌&&◌, ◌||◌, List, [], ◌∷◌, ◌++◌, map, Option, Some, None, if◌then◌else◌, refl, ap, sym, subst, ◌∙◌, arith}
+use Rattle.std.proofs.Common.{◌≡◌, ◌≢◌, ℕ, Bool, true, false, List, [], ◌∷◌, ◌++◌, map, Option, Some, None, if◌then◌else◌, refl, ap, sym, subst, ◌∙◌, arith}
 use Rattle.std.proofs.lemmas.List.Folds.{list_any-append}
 use Rattle.std.specs.List.{list_any}
 use Rattle.design_model.specs.declared.point.Point.{Point}
@@ -11,12 +11,9 @@ use Rattle.drawing_repairs.specs.Listings.{FollowedLine, due_end, followed_by, f
 use Rattle.drawing_repairs.specs.MovedLines.{moved_points, unrepeated, unrepeated_after}
 use Rattle.drawing_repairs.proofs.DueLemmas.{due_is}
 use Rattle.drawing_repairs.proofs.ListedOnceLemmas.{HaveSamePoints, joined_again, same_after}
-use Rattle.design_model.proofs.CallerLemmas.{same_is}
+use Rattle.design_model.proofs.CallerLemmas.{same_back, same_is}
 use Rattle.std.proofs.lemmas.Bool.{or_from, or_parts}
 use Rattle.drawing_repairs.proofs.FollowLemmas.{after_steps}
-
-turned_same : (p q : Point) → is_same_point p q ≡ is_same_point q p
-turned_same p q = grind (arith, nat_tests)
 
 differ : (p q : Point) (b : Bool) → is_same_point p q ≡ b → p ≢ q → b ≡ false
 differ p q true is other = absurd (other (same_is p q is))
@@ -85,7 +82,7 @@ unlisted_between passed at e b rest none =
     let split = or_parts (list_any (is_same_point e) passed) _
     (sym (list_any-append (is_same_point e) passed (at ∷ b ∷ rest)) ∙ none) in
     let parts = or_parts (is_same_point e at) _ split.1 in
-    (turned_same at e ∙ parts.0, (or_parts (is_same_point e b) _ parts.1).0)
+    (same_back at e ∙ parts.0, (or_parts (is_same_point e b) _ parts.1).0)
 
 by_none : (gap : ℕ) (ends : List Point) (f : FollowedLine) (b : Point) (rest : List Point) (due : Option Point)
     → due_end gap f.listed (segment_between f.at b) ends ≡ due → HaveSamePoints f.listed (f.passed ++ f.at ∷ b ∷ rest)

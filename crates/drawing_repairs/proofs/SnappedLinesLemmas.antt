@@ -10,8 +10,7 @@ use Rattle.line_sections.specs.Lines.{LineValue}
 use Rattle.line_sections.specs.Sections.{listed_in}
 use Rattle.drawing_model.specs.Drawings.{HasNoRepeat}
 use Rattle.drawing_model.specs.GrowingDrawings.{and_then, has_repeated_point}
-use Rattle.drawing_repairs.specs.declared.snap_fault.SnapFault.TheVariants as fault
-use Rattle.drawing_repairs.specs.declared.vanished.VanishedLine.{VanishedLine}
+use Rattle.drawing_repairs.specs.declared.snap_fault.VanishedLine.{VanishedLine}
 use Rattle.drawing_repairs.specs.Anchors.{anchored, anchors_of}
 use Rattle.drawing_repairs.specs.Listings.{FollowedLine, added_ends, block_ends, due_ends, followed_by, followed_points, listed_line, listed_lines, steps_to_follow, unfollowed_line, with_due_ends}
 use Rattle.drawing_repairs.specs.MovedLines.{block_anchors, changed_in, moved_line, moved_lines, moved_points, vanished_from}

@@ -6,7 +6,7 @@ use Rattle.design_model.specs.declared.point.Point.{Point}
 use Rattle.design_model.specs.Points.{is_same_point}
 use Rattle.line_sections.specs.Lines.{LineValue}
 use Rattle.line_sections.specs.Sections.{listed_in}
-use Rattle.drawing_repairs.specs.declared.vanished.VanishedLine.{VanishedLine}
+use Rattle.drawing_repairs.specs.declared.snap_fault.VanishedLine.{VanishedLine}
 use Rattle.drawing_repairs.specs.Anchors.{anchored, anchors_of}
 
 -- The points after p without those that repeat the one before.

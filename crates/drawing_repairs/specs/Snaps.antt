@@ -12,7 +12,7 @@ use Rattle.line_sections.specs.declared.spot.Spot.{Spot}
 use Rattle.drawing_repairs.specs.declared.snap_fault.SnapFault.{SnapFault}
 use Rattle.drawing_repairs.specs.declared.snap_fault.SnapFault.TheVariants as fault
 use Rattle.drawing_repairs.specs.declared.snapping.SnappedDrawing.{SnappedDrawing}
-use Rattle.drawing_repairs.specs.declared.vanished.VanishedLine.{VanishedLine}
+use Rattle.drawing_repairs.specs.declared.snap_fault.VanishedLine.{VanishedLine}
 use Rattle.drawing_repairs.specs.AnchoredSpots.{anchored_spots}
 use Rattle.drawing_repairs.specs.Listings.{added_ends, listed_lines}
 use Rattle.drawing_repairs.specs.MovedLines.{changed_in, moved_lines, vanished_from}

@@ -1,4 +1,4 @@
-ghost use Rattle.std.specs.Prelude.{◌≡◌, ◌∷◌, [], IfOk, IfSome, IfNone};
+ghost use Rattle.std.specs.Prelude.{◌≡◌, IfOk};
 ghost use Rattle.std.specs.List.{flat_map, list_any};
 ghost use Rattle.design_model.specs.Points.{is_same_point};
 ghost use Rattle.drawing_repairs.specs.EndGroups.{AreBetween, is_beyond_gap, widened_bounds};
@@ -38,7 +38,14 @@ impl BlockEnds {
     pub fn of(alloc: Global, all: Points) -> Result<BlockEnds, Memory>
         ensures { IfOk result (λ ends. ends ≡ all) }
     {
-        let groups = groups(alloc, all.as_slice())?;
+        let mut groups = Vec::new(alloc);
+        let mut rest = all.as_slice();
+        while !rest.is_empty() {
+            let (next, after) = rest.split_at(rest.len().min(GROUP));
+            let group = EndGroup::of(alloc, next)?;
+            groups.push(group)?;
+            rest = after;
+        }
         Ok(BlockEnds { all, groups })
     }
 
@@ -113,21 +120,6 @@ fn is_beyond(gap: u16, bounds: EndBounds, s: &LineSegment) -> bool
         || s.frame.bottom < bounds.least.y.saturating_sub(gap) as u32
 }
 
-/// Returns the groups of some ends.
-fn groups(alloc: Global, some: &[Point]) -> Result<Vec<EndGroup>, Memory>
-    ensures { IfOk result (λ groups. flat_map (λ g. g) groups.items ≡ some.now) }
-{
-    let mut groups = Vec::new(alloc);
-    let mut rest = some;
-    while !rest.is_empty() {
-        let (next, after) = rest.split_at(rest.len().min(GROUP));
-        let group = EndGroup::of(alloc, next)?;
-        groups.push(group)?;
-        rest = after;
-    }
-    Ok(groups)
-}
-
 /// Returns bounds between which some ends lie.
 fn bounds_of(some: &[Point]) -> EndBounds
     ensures { AreBetween result some.now }
@@ -167,7 +159,7 @@ fn first_due_in(gap: u16, listed: &[Point], s: &LineSegment, groups: &[EndGroup]
     ensures { result ≡ due_end gap listed.now s.now (flat_map (λ g. g) groups.now) }
 {
     let mut rest = groups;
-    while let Some((group, after)) = first_group(rest) {
+    while let Some((group, after)) = rest.split_first() {
         let due = group.first_due(gap, listed, s);
         if due.is_some() {
             return due;
@@ -175,16 +167,6 @@ fn first_due_in(gap: u16, listed: &[Point], s: &LineSegment, groups: &[EndGroup]
         rest = after;
     }
     None
-}
-
-fn first_group(groups: &[EndGroup]) -> Option<(&EndGroup, &[EndGroup])>
-    ensures some { IfSome result (λ r. groups.now ≡ r.0.now ∷ r.1.now) }
-    ensures none { IfNone result (groups.now ≡ []) }
-{
-    match groups {
-        [first, after @ ..] => Some((first, after)),
-        [] => None,
-    }
 }
 
 /// Returns the first end that is due in a segment of a line that lists the given points.

@@ -12,16 +12,14 @@ mod second_snaps;
 mod snap_fault;
 mod snapping;
 mod theorems;
-mod vanished;
 
 pub use anchors::distance;
 pub use listing::{last_or, lone_segment};
 pub use repeated_snaps::snapping_twice_is_once;
 pub use second_snaps::snapped_drawings_stay;
-pub use snap_fault::SnapFault;
+pub use snap_fault::{SnapFault, VanishedLine};
 pub use snapping::{SnappedDrawing, snap};
 pub use theorems::{
     anchors_are_apart, ends_are_put_where_they_lie, lines_list_ends_once, listings_add_ends_alone,
     points_move_within_gap,
 };
-pub use vanished::VanishedLine;

@@ -59,10 +59,8 @@ fn ends_in(alloc: Global, lines: &[Line], block: u32) -> Result<BlockEnds, Memor
     ensures { IfOk result (λ ends. ends ≡ block_ends lines.now block) }
 {
     let mut ends = Points::new(alloc);
-    let mut rest = lines;
-    while let [line, after @ ..] = rest {
+    for line in lines {
         put_ends_if_in(&mut ends, line, block)?;
-        rest = after;
     }
     let ends = BlockEnds::of(alloc, ends)?;
     Ok(ends)

@@ -5,7 +5,7 @@ ghost use Rattle.drawing_repairs.specs.Anchors.{anchored};
 ghost use Rattle.drawing_repairs.specs.MovedLines.{block_anchors, changed_in, changed_points, moved_line, moved_lines, unrepeated, unrepeated_after, vanished_from};
 
 use crate::anchors::Anchors;
-use crate::vanished::VanishedLine;
+use crate::snap_fault::VanishedLine;
 use design_model::{Point, Points};
 use line_sections::{Line, first_point};
 use lists_and_numbers::Memory;

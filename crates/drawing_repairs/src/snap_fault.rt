@@ -1,8 +1,16 @@
 ghost use Rattle.std.specs.Prelude.{◌≡◌};
+ghost use Rattle.drawing_model.specs.declared.draw_kind.DrawKind.TheVariants as kind;
+ghost use Rattle.drawing_repairs.specs.declared.snap_fault.SnapFault.TheVariants as fault;
 
-use crate::vanished::VanishedLine;
 use drawing_model::DrawKind;
 use lists_and_numbers::Memory;
+
+/// A line that would vanish: the indexes of its block and of the line among all lines.
+#[derive(Clone, Copy, Debug, PartialEq)]
+pub struct VanishedLine {
+    pub block: u32,
+    pub line: usize,
+}
 
 /// The reason why a drawing can't be snapped.
 #[derive(Clone, Copy)]
@@ -14,9 +22,6 @@ pub enum SnapFault {
 }
 
 impl From<Memory> for SnapFault {
-    ghost use Rattle.drawing_model.specs.declared.draw_kind.DrawKind.TheVariants as kind;
-    ghost use Rattle.drawing_repairs.specs.declared.snap_fault.SnapFault.TheVariants as fault;
-
     ghost from_gives = { λ _ e. e ≡ fault.Limit kind.Memory };
 
     fn from(_memory: Memory) -> SnapFault {
@@ -25,9 +30,7 @@ impl From<Memory> for SnapFault {
 }
 
 impl From<DrawKind> for SnapFault {
-    ghost use Rattle.drawing_repairs.specs.declared.snap_fault.SnapFault.TheVariants as fault;
-
-    ghost from_gives = { λ kind e. e ≡ fault.Limit kind };
+    ghost from_gives = { λ given e. e ≡ fault.Limit given };
 
     fn from(kind: DrawKind) -> SnapFault {
         SnapFault::Limit(kind)

@@ -1,11 +1,11 @@
-ghost use Rattle.std.specs.Prelude.{◌≡◌, ◌++◌, IfOk, OnOk, Ok, map};
+ghost use Rattle.std.specs.Prelude.{◌≡◌, ◌++◌, IfOk, OnOk, Ok};
 ghost use Rattle.lists_and_numbers.specs.OutOfMemory.{IsSpecified};
 ghost use Rattle.drawing_model.specs.JoinedDrawings.{joined_drawing};
 ghost use Rattle.drawing_model.specs.WalkEnds.{HasNoEnds};
 ghost use Rattle.drawing_repairs.specs.AnchoredSpots.{anchored_spots};
 ghost use Rattle.drawing_repairs.specs.MovedLines.{changed_in};
 ghost use Rattle.drawing_repairs.specs.SecondSnaps.{StaysSnapped};
-ghost use Rattle.drawing_repairs.specs.Snaps.{joined_snap, kept_lines, snap_is_out_of_memory, snap_of};
+ghost use Rattle.drawing_repairs.specs.Snaps.{kept_lines, snap_is_out_of_memory, snap_of};
 
 use crate::anchored_spots::anchor_spots;
 use crate::listing::listed as with_listings;
@@ -50,25 +50,6 @@ pub fn snap(
 {
     d.keeps_limits();
     snapped_drawings_stay();
-    let snapped = snap_drawn(alloc, gap, d, starts, ends)?;
-    Ok(snapped)
-}
-
-fn snap_drawn(
-    alloc: Global,
-    gap: u16,
-    d: &Drawing,
-    starts: &[Spot],
-    ends: &[Spot],
-) -> Result<SnappedDrawing, SnapFault>
-    ensures answer { IsSpecified snap_is_out_of_memory (snap_of gap d.now starts.now ends.now) result }
-    ensures whole { IfOk result (λ snap. joined_drawing
-        (record snap.drawn { starts = snap.joined.starts; ends = snap.joined.ends }) ≡ Ok snap.joined) }
-    ensures no_ends { IfOk result (λ snap. HasNoEnds snap.drawn) }
-    ensures starts { IfOk result (λ snap.
-        snap.joined.starts ≡ anchored_spots gap d.now.lines starts.now) }
-    ensures ends { IfOk result (λ snap. snap.joined.ends ≡ anchored_spots gap d.now.lines ends.now) }
-{
     let mut moved = Points::new(alloc);
     let kept = kept(alloc, gap, d.lines(), &mut moved)?;
     let mut listed = Points::new(alloc);
