@@ -1,4 +1,4 @@
-ghost use Rattle.std.specs.Prelude.{◌≡◌, ◌<◌, [], IfOk, OnOk, false, true, length};
+ghost use Rattle.std.specs.Prelude.{◌≡◌, ◌<◌, [], IfOk, OnOk, false, true};
 ghost use Rattle.double_run.specs.Traversals.{IsTraversal, HasTraversalTables, KeepsTraversal, IsLegFrom, is_exhausted};
 ghost use Rattle.double_run.specs.TraversalSteps.{GoesOut, StepsTraversal};
 ghost use Rattle.line_graph.specs.PiecesOfDrawings.{graph_of};

@@ -2,10 +2,9 @@ ghost use Rattle.std.specs.Prelude.{◌≡◌, ◌≢◌, ◌≤◌, [], ◌∷�
 ghost use Rattle.design_model.specs.declared.act.NumberedAct.{NumberedAct as NumberedActValue};
 ghost use Rattle.design_model.specs.declared.command.Command.TheVariants as command;
 ghost use Rattle.design_model.specs.declared.design.TheConstants.{MAX_COMMANDS};
-ghost use Rattle.design_model.specs.declared.point.TheConstants.{NEEDLE_LIMIT};
-ghost use Rattle.design_model.specs.ActPositions.{is_act_in_range, leaves_thread_loose, needle_position_after};
+ghost use Rattle.design_model.specs.ActPositions.{is_act_in_range};
 ghost use Rattle.design_model.specs.Commands.{is_command_in_range};
-ghost use Rattle.design_model.specs.Points.{is_point_within, origin};
+ghost use Rattle.design_model.specs.Points.{origin};
 ghost use Rattle.step_splitter.specs.declared.segment.TheConstants.{MAX_STEP};
 ghost use Rattle.step_splitter.specs.Chains.{IsNeedlePoint};
 ghost use Rattle.step_splitter.specs.Refits.{commands_of_acts, cut_needle, is_beyond_limit, needles_at, refitted_act, split_needle};
