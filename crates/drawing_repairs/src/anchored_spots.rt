@@ -24,12 +24,10 @@ pub fn anchor_spots(
     };
     let mut block = first.block;
     let mut anchors = anchors_in(alloc, gap, lines, block)?;
-    let mut rest = spots;
-    while let [spot, after @ ..] = rest {
+    for spot in spots {
         anchors = anchors_for(alloc, gap, lines, spot.block, block, anchors)?;
         block = spot.block;
         put_anchored(lines, &anchors, *spot, &mut moved)?;
-        rest = after;
     }
     Ok(moved)
 }

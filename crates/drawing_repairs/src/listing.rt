@@ -26,12 +26,10 @@ pub fn listed(
     let mut listed = Vec::new(alloc);
     let mut block = 0;
     let mut ends = ends_in(alloc, lines, block)?;
-    let mut rest = lines;
-    while let [line, after @ ..] = rest {
+    for line in lines {
         ends = ends_for(alloc, lines, line.block(), block, ends)?;
         block = line.block();
         put_listed(alloc, gap, lines, &ends, line, &mut listed, added)?;
-        rest = after;
     }
     Ok(listed)
 }
@@ -92,10 +90,8 @@ pub fn last_or(first: Point, points: &[Point]) -> Point
     ensures { result ≡ last_point_or first points.now }
 {
     let mut last = first;
-    let mut rest = points;
-    while let [p, after @ ..] = rest {
+    for p in points {
         last = *p;
-        rest = after;
     }
     last
 }
@@ -274,10 +270,8 @@ impl Followed {
 fn put_all(left: &mut VecDeque<Point>, points: &[Point]) -> Result<(), Memory>
     ensures { OnOk result (left.new.items ≡ left.old.items ++ points.now) }
 {
-    let mut rest = points;
-    while let [p, after @ ..] = rest {
+    for p in points {
         left.push_back(*p)?;
-        rest = after;
     }
     Ok(())
 }

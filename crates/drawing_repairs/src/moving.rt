@@ -25,12 +25,10 @@ pub fn moved(
     let mut moved = Vec::new(alloc);
     let mut block = 0;
     let mut anchors = anchors_in(alloc, gap, lines, block)?;
-    let mut rest = lines;
-    while let [line, after @ ..] = rest {
+    for line in lines {
         anchors = anchors_for(alloc, gap, lines, line.block(), block, anchors)?;
         block = line.block();
         put_moved(alloc, lines, &anchors, line, &mut moved, changed)?;
-        rest = after;
     }
     Ok(moved)
 }
@@ -71,10 +69,8 @@ fn points_in(alloc: Global, lines: &[Line], block: u32) -> Result<Points, Memory
     ensures { IfOk result (λ points. points ≡ listed_in lines.now block) }
 {
     let mut points = Points::new(alloc);
-    let mut rest = lines;
-    while let [line, after @ ..] = rest {
+    for line in lines {
         put_if_in(&mut points, line, block)?;
-        rest = after;
     }
     Ok(points)
 }
