@@ -25,15 +25,6 @@ const NO_PROOF: &[u8] = b"redwork-certificate 1\npiece 2\nwalk 1 -1\ncut 3 1\nen
 const LOOSE: &[u8] =
     b"redwork 3\nname loose\nstep 10\ncolor 5\nline 0 0 20 0\nline 20 0 40 0 40 10\ncolor 1\nline 0 20 18 20\nline 20 15 20 30\n";
 
-/// Parts of its picture: the lines, the junctions of the first piece, the loose end, and the counts.
-const PARTS_OF_LOOSE: [&[u8]; 5] = [
-    b"<path class='thread' stroke='#ed171f' d='\nM0,0L20,0'/>\n<path class='thread' stroke='#ed171f' d='\nM20,0L40,0L40,10'/>\n",
-    b"d='M0,0m-9,0a9,9,0,1,0,18,0a9,9,0,1,0,-18,0'/>\n<path fill='#222' d='M20,0m-5,0a5,5,0,1,0,10,0a5,5,0,1,0,-10,0'/>\n",
-    b"<path fill='none' stroke='#d00' stroke-width='3' d='M18,20m-15,0a15,15,0,1,0,30,0a15,15,0,1,0,-30,0'/>\n<g transform='translate(0,30) translate(0,60)'>\n",
-    b"pieces 3, lines 4, junctions 7</text>\n<text y='100'>odd junctions 6, loose ends 1</text>\n",
-    b"d='M7,-7h26' stroke='#0e1f7c'/><text x='52'>thread 1</text></g>\n",
-];
-
 const TEXT_OF_USAGE: &str =
     "usage: stitch_picture FILE OUT.svg [WIDTH HEIGHT]\n       stitch_picture DRAWING OUT.svg\n       stitch_picture DRAWING CERT OUT.svg\n";
 
@@ -93,6 +84,41 @@ const CASES: [PictureCase; 18] = [
     ),
 ];
 
+/// Arguments, and parts of the picture that they make.
+type DrawnCase = (&'static [&'static str], &'static [&'static [u8]]);
+
+/// What is sewn again is drawn beside the first; a proof shows what is sewn again and its cuts; a drawing shows its
+/// lines, the junctions of its first piece, its loose end, and the counts.
+const PICTURES: [DrawnCase; 3] = [
+    (
+        &["a.lst", "a.svg"],
+        &[
+            b"<path class='thread' stroke='#ed171f' d='\nM0,0L30,0L60,0A30,30,0,0,1,30,0A30,30,0,0,1,0,0'/>\n",
+            b"<path class='hole' d='M0,0h0M30,0h0M60,0h0M30,0h0M0,0h0'/>\n",
+            b"needles 5, pieces 1, trims 1, stops 0</text>\n",
+            b"thread 5</text><text x='170'>needles 5</text><text x='350'>length 12.0 mm</text></g>\n",
+        ],
+    ),
+    (
+        &["a.rw", "a.cert", "a.svg"],
+        &[
+            b"<g transform='scale(.5)'>\n<path class='band' stroke='#1b9e77' d='M0,0 10,0 20,0 30,0 40,0 '/>\n</g>\n",
+            b"<path class='second' d='\nM20,0A5,5,0,0,1,10,0\nM10,0A5,5,0,0,1,0,0'/>\n",
+            b"what is sewn again: steps 2.</text>\n",
+        ],
+    ),
+    (
+        &["loose.rw", "a.svg"],
+        &[
+            b"<path class='thread' stroke='#ed171f' d='\nM0,0L20,0'/>\n<path class='thread' stroke='#ed171f' d='\nM20,0L40,0L40,10'/>\n",
+            b"d='M0,0m-9,0a9,9,0,1,0,18,0a9,9,0,1,0,-18,0'/>\n<path fill='#222' d='M20,0m-5,0a5,5,0,1,0,10,0a5,5,0,1,0,-10,0'/>\n",
+            b"<path fill='none' stroke='#d00' stroke-width='3' d='M18,20m-15,0a15,15,0,1,0,30,0a15,15,0,1,0,-30,0'/>\n<g transform='translate(0,30) translate(0,60)'>\n",
+            b"pieces 3, lines 4, junctions 7</text>\n<text y='100'>odd junctions 6, loose ends 1</text>\n",
+            b"d='M7,-7h26' stroke='#0e1f7c'/><text x='52'>thread 1</text></g>\n",
+        ],
+    ),
+];
+
 #[test]
 fn each_run_prints_its_line_and_ends_with_its_status(rt: HostRuntime) -> Result<(), Fail> {
     for (words, status, line) in CASES {
@@ -108,69 +134,16 @@ fn each_run_prints_its_line_and_ends_with_its_status(rt: HostRuntime) -> Result<
 }
 
 #[test]
-fn what_is_sewn_again_is_drawn_beside_the_first(rt: HostRuntime) -> Result<(), Fail> {
-    let mut store = stocked(rt.alloc())?;
-    let mut out = MemSink::new(rt.alloc(), 100)?;
-    let mut err = MemSink::new(rt.alloc(), 1_000)?;
-    answer(
-        rt.alloc(),
-        &["a.lst", "a.svg"],
-        &mut store,
-        &mut out,
-        &mut err,
-    )?;
-    let parts: [&[u8]; 4] = [
-        b"<path class='thread' stroke='#ed171f' d='\nM0,0L30,0L60,0A30,30,0,0,1,30,0A30,30,0,0,1,0,0'/>\n",
-        b"<path class='hole' d='M0,0h0M30,0h0M60,0h0M30,0h0M0,0h0'/>\n",
-        b"needles 5, pieces 1, trims 1, stops 0</text>\n",
-        b"thread 5</text><text x='170'>needles 5</text><text x='350'>length 12.0 mm</text></g>\n",
-    ];
-    let picture = store.file("a.svg").unwrap_or(b"");
-    for part in parts {
-        assert!(rt; has(picture, part), "{part:?}");
-    }
-    Ok(())
-}
-
-#[test]
-fn a_proof_shows_what_is_sewn_again_and_its_cuts(rt: HostRuntime) -> Result<(), Fail> {
-    let mut store = stocked(rt.alloc())?;
-    let mut out = MemSink::new(rt.alloc(), 100)?;
-    let mut err = MemSink::new(rt.alloc(), 1_000)?;
-    answer(
-        rt.alloc(),
-        &["a.rw", "a.cert", "a.svg"],
-        &mut store,
-        &mut out,
-        &mut err,
-    )?;
-    let parts: [&[u8]; 3] = [
-        b"<g transform='scale(.5)'>\n<path class='band' stroke='#1b9e77' d='M0,0 10,0 20,0 30,0 40,0 '/>\n</g>\n",
-        b"<path class='second' d='\nM20,0A5,5,0,0,1,10,0\nM10,0A5,5,0,0,1,0,0'/>\n",
-        b"what is sewn again: steps 2.</text>\n",
-    ];
-    let picture = store.file("a.svg").unwrap_or(b"");
-    for part in parts {
-        assert!(rt; has(picture, part), "{part:?}");
-    }
-    Ok(())
-}
-
-#[test]
-fn a_drawing_shows_its_lines_junctions_and_loose_ends(rt: HostRuntime) -> Result<(), Fail> {
-    let mut store = stocked(rt.alloc())?;
-    let mut out = MemSink::new(rt.alloc(), 100)?;
-    let mut err = MemSink::new(rt.alloc(), 1_000)?;
-    answer(
-        rt.alloc(),
-        &["loose.rw", "a.svg"],
-        &mut store,
-        &mut out,
-        &mut err,
-    )?;
-    let picture = store.file("a.svg").unwrap_or(b"");
-    for part in PARTS_OF_LOOSE {
-        assert!(rt; has(picture, part), "{part:?}");
+fn each_picture_has_its_parts(rt: HostRuntime) -> Result<(), Fail> {
+    for (words, parts) in PICTURES {
+        let mut store = stocked(rt.alloc())?;
+        let mut out = MemSink::new(rt.alloc(), 100)?;
+        let mut err = MemSink::new(rt.alloc(), 1_000)?;
+        answer(rt.alloc(), words, &mut store, &mut out, &mut err)?;
+        let picture = store.file("a.svg").unwrap_or(b"");
+        for part in parts {
+            assert!(rt; has(picture, part), "{words:?} {part:?}");
+        }
     }
     Ok(())
 }
