@@ -54,20 +54,7 @@ fn middle(p: Point, q: Point) -> Point
 pub(crate) fn reversed(alloc: Global, points: &[Point]) -> Result<Points, Memory>
     ensures { IfOk result (λ turned. turned ≡ reverse points.now) }
 {
-    let mut turned = Vec::new(alloc);
-    turned.extend_from_slice(points)?;
-    turn_all(&mut turned);
-    Ok(Points::from_vec(turned))
-}
-
-fn turn_all(points: &mut Vec<Point>)
-    ensures { points.new.items ≡ reverse points.old.items }
-{
-    turn(points);
-}
-
-fn turn(points: &mut [Point])
-    ensures { points.new ≡ reverse points.old }
-{
-    points.reverse();
+    let mut ahead = Points::new(alloc);
+    ahead.append(points)?;
+    Ok(ahead.reversed())
 }

@@ -1,4 +1,4 @@
-ghost use Rattle.std.specs.Prelude.{◌≡◌, ◌==◌, ◌∷◌, ◌++◌, [], length, OnOk, OnErr};
+ghost use Rattle.std.specs.Prelude.{◌≡◌, ◌==◌, ◌∷◌, ◌++◌, [], length, reverse, OnOk, OnErr};
 
 use crate::memory::Memory;
 use std::alloc::Global;
@@ -48,6 +48,15 @@ impl<T> Items<T> {
         held
     }
 
+    /// Returns the list in the opposite order, without allocating.
+    pub fn reversed(self) -> Self
+        ensures { result ≡ reverse self }
+    {
+        let Items { mut held } = self;
+        turn_all(&mut held);
+        Items { held }
+    }
+
     pub fn as_slice(&self) -> &[T]
         ensures { result.now ≡ self.now }
     {
@@ -87,4 +96,16 @@ impl<T: Copy> Items<T> {
         self.held.extend_from_slice(more)?;
         Ok(())
     }
+}
+
+fn turn_all<T>(items: &mut Vec<T>)
+    ensures { items.new.items ≡ reverse items.old.items }
+{
+    turn(items);
+}
+
+fn turn<T>(items: &mut [T])
+    ensures { items.new ≡ reverse items.old }
+{
+    items.reverse();
 }

@@ -50,24 +50,10 @@ fn pass_needles(alloc: Global, d: &Drawing, pass: Pass) -> Result<Points, Memory
 fn directed(points: Points, back: bool) -> Points
     ensures { result ≡ (if back then reverse points else points) }
 {
-    if !back {
-        return points;
+    if back {
+        return points.reversed();
     }
-    let mut turned = points.into_vec();
-    turn_all(&mut turned);
-    Points::from_vec(turned)
-}
-
-fn turn_all(points: &mut Vec<Point>)
-    ensures { points.new.items ≡ reverse points.old.items }
-{
-    turn(points);
-}
-
-fn turn(points: &mut [Point])
-    ensures { points.new ≡ reverse points.old }
-{
-    points.reverse();
+    points
 }
 
 fn after_first(points: &[Point]) -> &[Point]
