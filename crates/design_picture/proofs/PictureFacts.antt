@@ -1,5 +1,5 @@
 -- Worked values of strokes and of what is drawn of them, by hand.
-use Rattle.std.proofs.Common.{◌≡◌, ℤ, pos, negsuc, List, [], ◌∷◌, ◌++◌, true, false, Some, codes, map, refl}
+use Rattle.std.proofs.Common.{◌≡◌, ℕ, ℤ, Bool, pos, negsuc, List, [], ◌∷◌, ◌++◌, true, false, Some, codes, map, refl}
 use Rattle.std.specs.Fmt.{digits}
 use Rattle.design_model.specs.declared.command.Command.TheVariants.{Stitch, Jump}
 use Rattle.design_model.specs.declared.command.Command.TheVariants as command
@@ -31,14 +31,21 @@ forth_and_back = record {
       ∷ Stitch (point (pos 3) (negsuc 3)) ∷ Jump (point (pos 9) (pos 9)) ∷ Stitch (point (pos 3) (pos 6)) ∷ [];
 }
 
+-- A piece that opens its block, and a stitch.
+abbrev pub begun : ℕ → Point → Point → Stroke
+begun piece from at = Begin (record { piece = piece; opens = true; from = from; at = at })
+
+abbrev pub sewn : ℕ → Bool → Point → Point → Stroke
+sewn pass arrow from at = Sewn (record { pass = pass; arrow = arrow; from = from; at = at })
+
 -- The stitch back was sewn before. It has the first arrow, since 5.5 mm of thread come before its needle.
 abbrev pub shown_strokes : List Stroke
-shown_strokes = Begin 1 true (point (pos 0) (pos 0)) (point (pos 0) (pos 0))
-    ∷ Sewn 0 false (point (pos 0) (pos 0)) (point (pos 30) (pos 0))
-    ∷ Sewn 1 true (point (pos 30) (pos 0)) (point (pos 0) (pos 0))
+shown_strokes = begun 1 (point (pos 0) (pos 0)) (point (pos 0) (pos 0))
+    ∷ sewn 0 false (point (pos 0) (pos 0)) (point (pos 30) (pos 0))
+    ∷ sewn 1 true (point (pos 30) (pos 0)) (point (pos 0) (pos 0))
     ∷ Trim (point (pos 0) (pos 0))
     ∷ Stop (record { at = point (pos 0) (pos 0); block = 1; thread = 5; needles = 3; sewn = 6000 }) 2
-    ∷ Begin 2 true (point (pos 0) (pos 0)) (point (pos 3) (negsuc 3))
+    ∷ begun 2 (point (pos 0) (pos 0)) (point (pos 3) (negsuc 3))
     ∷ Float (point (pos 3) (negsuc 3)) (point (pos 3) (pos 6)) ∷ []
 
 pub known_strokes : strokes_of forth_and_back ≡ shown_strokes

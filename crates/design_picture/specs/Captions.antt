@@ -57,8 +57,8 @@ block_line block =
 
 -- The legend's line of a stroke that ends a block.
 abbrev pub legend_text : Stroke → List ℕ
-legend_text (Begin piece opens from p) = []
+legend_text (Begin start) = []
 legend_text (Float from p) = []
-legend_text (Sewn pass arrow from p) = []
+legend_text (Sewn stitch) = []
 legend_text (Trim p) = []
 legend_text (Stop ended next) = block_line ended

@@ -11,9 +11,9 @@ use Rattle.design_picture.specs.Strokes.{strokes_of}
 
 -- The act that a stroke shows: a needle at a point, a trim or a stop.
 abbrev pub shown_act : Stroke → Act
-shown_act (Begin piece opens from p) = act.Needle p false
+shown_act (Begin start) = act.Needle start.at false
 shown_act (Float from p) = act.Needle p false
-shown_act (Sewn pass arrow from p) = act.Needle p false
+shown_act (Sewn stitch) = act.Needle stitch.at false
 shown_act (Trim p) = act.Trim
 shown_act (Stop ended next) = act.Stop
 

@@ -42,9 +42,20 @@ stitch_to pen p = record { from = pen.place; to = p }
 -- stitch.
 abbrev pub needle_stroke : Pen → StitchPasses → Bool → Point → Stroke
 needle_stroke pen passes float p =
-    if pen.loose then Begin (pen.pieces + 1) (pen.needles == 0) pen.place p
+    if pen.loose
+    then Begin (record {
+      piece = pen.pieces + 1;
+      opens = pen.needles == 0;
+      from = pen.place;
+      at = p;
+    })
     else (if float then Float pen.place p
-    else Sewn (earlier_passes passes (stitch_to pen p)) (nat_le ARROW_GAP pen.since) pen.place p)
+    else Sewn (record {
+      pass = earlier_passes passes (stitch_to pen p);
+      arrow = nat_le ARROW_GAP pen.since;
+      from = pen.place;
+      at = p;
+    }))
 
 -- The passes of each stitch after a needle.
 abbrev pub needle_passes : Pen → StitchPasses → Bool → Point → StitchPasses

@@ -14,8 +14,7 @@ pub(crate) fn put_block_line(text: &mut Bytes, stroke: Stroke) -> Result<(), Mem
 {
     match stroke {
         Stroke::Stop { ended, .. } => put_block(text, ended),
-        Stroke::Begin { .. } | Stroke::Float { .. } | Stroke::Sewn { .. } | Stroke::Trim { .. } =>
-            Ok(()),
+        Stroke::Begin(_) | Stroke::Float { .. } | Stroke::Sewn(_) | Stroke::Trim { .. } => Ok(()),
     }
 }
 

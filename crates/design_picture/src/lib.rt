@@ -22,5 +22,5 @@ pub use layers::{Layer, put_path_layer};
 pub use layout::{Area, area_of, put_below_start, put_top};
 pub use pen::Pen;
 pub use showing::{picture, put_below, put_design_top, put_over, put_threads};
-pub use strokes::{BlockEnd, Stroke, Strokes, put_strokes};
+pub use strokes::{BlockEnd, PieceStart, SewnStitch, Stroke, Strokes, put_strokes};
 pub use theorems::strokes_show_acts;

@@ -3,7 +3,7 @@ ghost use Rattle.design_picture.specs.StrokeMarks.{begin_text, opening_text, pie
 ghost use Rattle.picture_parts.specs.Marks.{mark_text};
 ghost use Rattle.picture_parts.specs.declared.marks.Mark.TheVariants as mark;
 
-use crate::strokes::Stroke;
+use crate::strokes::{PieceStart, Stroke};
 use design_model::Point;
 use lists_and_numbers::{Bytes, Memory};
 use picture_parts::{Mark, Part, put, put_mark};
@@ -13,45 +13,40 @@ pub(crate) fn put_stroke_marks(text: &mut Bytes, stroke: Stroke) -> Result<(), M
     ensures { OnOk result (text.new ≡ text.old ++ stroke_marks stroke) }
 {
     match stroke {
-        Stroke::Begin {
-            piece,
-            opens,
-            at,
-            ..
-        } => put_begin(text, piece, opens, at),
-        Stroke::Float { .. } | Stroke::Sewn { .. } => Ok(()),
+        Stroke::Begin(start) => put_begin(text, start),
+        Stroke::Float { .. } | Stroke::Sewn(_) => Ok(()),
         Stroke::Trim { at } => put_mark(text, Mark::Trim, at),
         Stroke::Stop { ended, .. } => put_stop_marks(text, ended.at),
     }
 }
 
 /// Appends the marks of a piece's first needle.
-fn put_begin(text: &mut Bytes, piece: u32, opens: bool, at: Point) -> Result<(), Memory>
-    ensures { OnOk result (text.new ≡ text.old ++ begin_text piece opens at) }
+fn put_begin(text: &mut Bytes, start: PieceStart) -> Result<(), Memory>
+    ensures { OnOk result (text.new ≡ text.old ++ begin_text start) }
 {
-    put_opening(text, opens, at)?;
-    put_piece_number(text, piece, at)?;
+    put_opening(text, start)?;
+    put_piece_number(text, start)?;
     Ok(())
 }
 
-fn put_opening(text: &mut Bytes, opens: bool, at: Point) -> Result<(), Memory>
-    ensures { OnOk result (text.new ≡ text.old ++ opening_text opens at) }
+fn put_opening(text: &mut Bytes, start: PieceStart) -> Result<(), Memory>
+    ensures { OnOk result (text.new ≡ text.old ++ opening_text start) }
 {
-    if opens {
-        return put_mark(text, Mark::Start, at);
+    if start.opens {
+        return put_mark(text, Mark::Start, start.at);
     }
     Ok(())
 }
 
 /// Appends the number of a piece, above its first needle.
 #[tactic(auto, unfolding(crate::specs::StrokeMarks::piece_number))]
-fn put_piece_number(text: &mut Bytes, piece: u32, at: Point) -> Result<(), Memory>
-    ensures { OnOk result (text.new ≡ text.old ++ piece_number piece at) }
+fn put_piece_number(text: &mut Bytes, start: PieceStart) -> Result<(), Memory>
+    ensures { OnOk result (text.new ≡ text.old ++ piece_number start) }
 {
     put(
         text,
         b"<text x='-4' y='-10' text-anchor='end' transform='translate(@)'>@</text>\n",
-        &[Part::At(at), Part::Number(piece as u128)],
+        &[Part::At(start.at), Part::Number(start.piece as u128)],
     )
 }
 

@@ -27,37 +27,37 @@ pub struct BlockEnd {
     pub sewn: u128,
 }
 
+/// A needle where a piece begins. Pieces count from 1; the first of a block opens it.
+#[derive(Clone, Copy)]
+pub struct PieceStart {
+    pub piece: u32,
+    pub opens: bool,
+    pub from: Point,
+    pub at: Point,
+}
+
+/// A stitch, sewn a number of times before, with an arrow or none.
+#[derive(Clone, Copy)]
+pub struct SewnStitch {
+    pub pass: u32,
+    pub arrow: bool,
+    pub from: Point,
+    pub at: Point,
+}
+
 /// What a picture shows of an act.
 #[derive(Clone, Copy)]
 pub enum Stroke {
-    /// A needle where a piece begins. Pieces count from 1; the first of a block opens it.
-    Begin {
-        piece: u32,
-        opens: bool,
-        from: Point,
-        at: Point,
-    },
+    /// A needle where a piece begins.
+    Begin(PieceStart),
     /// A needle to which a jump carried the thread.
-    Float {
-        from: Point,
-        at: Point,
-    },
-    /// A stitch, sewn a number of times before, with an arrow or none.
-    Sewn {
-        pass: u32,
-        arrow: bool,
-        from: Point,
-        at: Point,
-    },
+    Float { from: Point, at: Point },
+    /// A stitch.
+    Sewn(SewnStitch),
     /// A trim at the last needle.
-    Trim {
-        at: Point,
-    },
+    Trim { at: Point },
     /// A stop, and the thread of the next block.
-    Stop {
-        ended: BlockEnd,
-        next: u8,
-    },
+    Stop { ended: BlockEnd, next: u8 },
 }
 
 /// Strokes, in the order of their acts.
@@ -153,23 +153,23 @@ fn needle(
 {
     let from = pen.place;
     if pen.loose {
-        return Ok(Stroke::Begin {
+        return Ok(Stroke::Begin(PieceStart {
             piece: pen.pieces + 1,
             opens: pen.needles == 0,
             from,
             at,
-        });
+        }));
     }
     if float {
         return Ok(Stroke::Float { from, at });
     }
     let pass = pass(passes, PointPair { from, to: at })?;
-    Ok(Stroke::Sewn {
+    Ok(Stroke::Sewn(SewnStitch {
         pass,
         arrow: pen.since >= ARROW_GAP,
         from,
         at,
-    })
+    }))
 }
 
 fn stop(design: &Design, pen: Pen) -> Stroke

@@ -1,7 +1,7 @@
 ghost use Rattle.std.specs.Prelude.{◌≡◌, ◌++◌, OnOk};
 ghost use Rattle.design_picture.specs.Threads.{arc_text, arrow_shape, arrow_text, colour_change_text, hole_shape, hole_text, is_long, bow_of, second_shape, second_text, sewn_text, thread_text, travel_shape, travel_text, long_hole_text, arrow_if, way_text};
 
-use crate::strokes::Stroke;
+use crate::strokes::{PieceStart, SewnStitch, Stroke};
 use design_model::Point;
 use lists_and_numbers::{Bytes, Memory};
 use picture_parts::{
@@ -17,21 +17,22 @@ pub(crate) fn put_thread(text: &mut Bytes, stroke: Stroke) -> Result<(), Memory>
     ensures { OnOk result (text.new ≡ text.old ++ thread_text stroke) }
 {
     match stroke {
-        Stroke::Begin { at, .. } | Stroke::Float { at, .. } => put_move(text, at),
-        Stroke::Sewn { pass, from, at, .. } => put_sewn(text, pass, from, at),
+        Stroke::Begin(start) => put_move(text, start.at),
+        Stroke::Float { at, .. } => put_move(text, at),
+        Stroke::Sewn(stitch) => put_sewn(text, stitch),
         Stroke::Trim { .. } => Ok(()),
         Stroke::Stop { next, .. } => put_colour_change(text, next),
     }
 }
 
 /// Appends a stitch: a straight line, or an arc where it was sewn before.
-fn put_sewn(text: &mut Bytes, pass: u32, from: Point, at: Point) -> Result<(), Memory>
-    ensures { OnOk result (text.new ≡ text.old ++ sewn_text pass from at) }
+fn put_sewn(text: &mut Bytes, stitch: SewnStitch) -> Result<(), Memory>
+    ensures { OnOk result (text.new ≡ text.old ++ sewn_text stitch) }
 {
-    if pass == 0 {
-        put_straight(text, at)
+    if stitch.pass == 0 {
+        put_straight(text, stitch.at)
     } else {
-        put_arc(text, bow(pass, from, at), at)
+        put_arc(text, bow(stitch), stitch.at)
     }
 }
 
@@ -44,14 +45,14 @@ fn put_arc(text: &mut Bytes, bow: u128, at: Point) -> Result<(), Memory>
 }
 
 /// Returns the radius of the arc for a stitch that was sewn before. It differs from pass to pass.
-fn bow(pass: u32, from: Point, at: Point) -> u128
-    ensures { result ≡ bow_of pass from at }
+fn bow(stitch: SewnStitch) -> u128
+    ensures { result ≡ bow_of stitch }
 {
-    let square = square_between(from, at);
-    if pass == 1 {
+    let square = square_between(stitch.from, stitch.at);
+    if stitch.pass == 1 {
         return square / 32 + 2;
     }
-    if pass == 2 {
+    if stitch.pass == 2 {
         return square / 64 + 4;
     }
     square / 96 + 6
@@ -70,20 +71,20 @@ fn put_colour_change(text: &mut Bytes, thread: u8) -> Result<(), Memory>
 pub(crate) fn put_second(text: &mut Bytes, stroke: Stroke) -> Result<(), Memory>
     ensures { OnOk result (text.new ≡ text.old ++ second_text stroke) }
 {
-    if let Stroke::Sewn { pass, from, at, .. } = stroke {
-        return put_second_shape(text, pass, from, at);
+    if let Stroke::Sewn(stitch) = stroke {
+        return put_second_shape(text, stitch);
     }
     Ok(())
 }
 
-fn put_second_shape(text: &mut Bytes, pass: u32, from: Point, at: Point) -> Result<(), Memory>
-    ensures { OnOk result (text.new ≡ text.old ++ second_shape pass from at) }
+fn put_second_shape(text: &mut Bytes, stitch: SewnStitch) -> Result<(), Memory>
+    ensures { OnOk result (text.new ≡ text.old ++ second_shape stitch) }
 {
-    if pass == 0 {
+    if stitch.pass == 0 {
         return Ok(());
     }
-    put_move(text, from)?;
-    put_arc(text, bow(pass, from, at), at)?;
+    put_move(text, stitch.from)?;
+    put_arc(text, bow(stitch), stitch.at)?;
     Ok(())
 }
 
@@ -92,17 +93,18 @@ pub(crate) fn put_hole(text: &mut Bytes, stroke: Stroke) -> Result<(), Memory>
     ensures { OnOk result (text.new ≡ text.old ++ hole_text stroke) }
 {
     match stroke {
-        Stroke::Begin { at, .. } | Stroke::Float { at, .. } => put_hole_shape(text, at),
-        Stroke::Sewn { from, at, .. } => put_long_hole(text, from, at),
+        Stroke::Begin(start) => put_hole_shape(text, start.at),
+        Stroke::Float { at, .. } => put_hole_shape(text, at),
+        Stroke::Sewn(stitch) => put_long_hole(text, stitch),
         Stroke::Trim { .. } | Stroke::Stop { .. } => Ok(()),
     }
 }
 
-fn put_long_hole(text: &mut Bytes, from: Point, at: Point) -> Result<(), Memory>
-    ensures { OnOk result (text.new ≡ text.old ++ long_hole_text from at) }
+fn put_long_hole(text: &mut Bytes, stitch: SewnStitch) -> Result<(), Memory>
+    ensures { OnOk result (text.new ≡ text.old ++ long_hole_text stitch) }
 {
-    if is_shown(from, at) {
-        return put_hole_shape(text, at);
+    if is_shown(stitch.from, stitch.at) {
+        return put_hole_shape(text, stitch.at);
     }
     Ok(())
 }
@@ -124,32 +126,20 @@ fn put_hole_shape(text: &mut Bytes, at: Point) -> Result<(), Memory>
 pub(crate) fn put_arrow(text: &mut Bytes, stroke: Stroke) -> Result<(), Memory>
     ensures { OnOk result (text.new ≡ text.old ++ arrow_text stroke) }
 {
-    if let Stroke::Sewn {
-        pass,
-        arrow,
-        from,
-        at,
-    } = stroke
-    {
-        return put_arrow_if(text, arrow, pass, from, at);
+    if let Stroke::Sewn(stitch) = stroke {
+        return put_arrow_if(text, stitch);
     }
     Ok(())
 }
 
-fn put_arrow_if(
-    text: &mut Bytes,
-    arrow: bool,
-    pass: u32,
-    from: Point,
-    at: Point,
-) -> Result<(), Memory>
-    ensures { OnOk result (text.new ≡ text.old ++ arrow_if arrow pass from at) }
+fn put_arrow_if(text: &mut Bytes, stitch: SewnStitch) -> Result<(), Memory>
+    ensures { OnOk result (text.new ≡ text.old ++ arrow_if stitch) }
 {
-    if !arrow {
+    if !stitch.arrow {
         return Ok(());
     }
-    put_arrow_shape(text, from)?;
-    put_sewn(text, pass, from, at)?;
+    put_arrow_shape(text, stitch.from)?;
+    put_sewn(text, stitch)?;
     put_path_end(text)?;
     Ok(())
 }
@@ -166,24 +156,19 @@ pub(crate) fn put_travel(text: &mut Bytes, stroke: Stroke) -> Result<(), Memory>
     ensures { OnOk result (text.new ≡ text.old ++ travel_text stroke) }
 {
     match stroke {
-        Stroke::Begin {
-            piece,
-            from,
-            at,
-            ..
-        } => put_way(text, piece, from, at),
+        Stroke::Begin(start) => put_way(text, start),
         Stroke::Float { from, at } => put_travel_shape(text, from, at),
-        Stroke::Sewn { .. } | Stroke::Trim { .. } | Stroke::Stop { .. } => Ok(()),
+        Stroke::Sewn(_) | Stroke::Trim { .. } | Stroke::Stop { .. } => Ok(()),
     }
 }
 
-fn put_way(text: &mut Bytes, piece: u32, from: Point, at: Point) -> Result<(), Memory>
-    ensures { OnOk result (text.new ≡ text.old ++ way_text piece from at) }
+fn put_way(text: &mut Bytes, start: PieceStart) -> Result<(), Memory>
+    ensures { OnOk result (text.new ≡ text.old ++ way_text start) }
 {
-    if piece == 1 {
+    if start.piece == 1 {
         return Ok(());
     }
-    put_travel_shape(text, from, at)
+    put_travel_shape(text, start.from, start.at)
 }
 
 #[tactic(auto, unfolding(crate::specs::Threads::travel_shape))]

@@ -55,4 +55,5 @@ bands_of_pieces d (p ∷ pieces) (cert ∷ certs) =
 
 -- The group of bands, whose points are in half tenths of a millimetre.
 unfoldable pub band_group : List ℕ → List ℕ
-band_group bands = filled (codes "<g transform='scale(.5)'>" ++ (10 ∷ ended (codes "@</g>"))) (bands ∷ [])
+band_group bands =
+    filled (ended (codes "<g transform='scale(.5)'>") ++ ended (codes "@</g>")) (bands ∷ [])

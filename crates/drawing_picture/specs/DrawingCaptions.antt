@@ -1,5 +1,5 @@
--- The texts of the picture of a drawing: its marks, and below it the counts, the meaning of the marks
--- and a line for the thread of each block.
+-- The texts of the picture of a drawing: its marks, and below it the counts, the meaning of the
+-- marks and a line for the thread of each block.
 use Rattle.std.specs.Prelude.{ℕ, pos, ◌+◌, List, [], ◌∷◌, ◌++◌, codes, if◌then◌else◌}
 use Rattle.std.specs.Fmt.{decimal}
 use Rattle.design_model.specs.declared.point.Point.{Point}
@@ -14,8 +14,8 @@ use Rattle.picture_parts.specs.Parts.{ended, filled}
 
 -- What the picture of a drawing shows, in words.
 abbrev pub drawing_words : List ℕ
-drawing_words = codes "The lines of a drawing, with a dot at each junction: black where it is even, "
-    ++ codes "larger and yellow where it is odd."
+drawing_words = codes "The lines of a drawing, with a dot at each junction: black where it is even"
+    ++ codes ", larger and yellow where it is odd."
 
 -- The dot of a junction's mark.
 abbrev pub junction_dot : JunctionMark → List ℕ

@@ -1,9 +1,12 @@
-ghost use Rattle.std.specs.Prelude.{◌≡◌, ◌++◌, ◌<◌, All, OnOk, length, map};
-ghost use Rattle.drawing_picture.specs.BandTexts.{bands_of_lines, bands_of_pieces, line_bands};
+ghost use Rattle.std.specs.Prelude.{◌≡◌, ◌++◌, ◌<◌, All, OnOk, length, map, reverse};
+ghost use Rattle.drawing_picture.specs.BandTexts.{band_text, bands_of_lines, bands_of_pieces};
+ghost use Rattle.drawing_picture.specs.Bands.{bands_from};
+ghost use Rattle.std.specs.List.{flat_map};
 ghost use Rattle.line_graph.specs.PiecesOfDrawings.{ArePiecesOf, graph_of};
 
 use crate::bands::{FreeWays, put_bands};
 use crate::half_steps::{half_steps_of, reversed};
+use design_model::Point;
 use drawing_model::Drawing;
 use line_graph::{Edge, Piece};
 use lists_and_numbers::{Bytes, Memory};
@@ -60,31 +63,27 @@ fn put_lines(
         first_and_rest(left),
         first_and_rest(drawn),
     ) {
-        put_line(alloc, text, d, cuts, line, edge)?;
+        let ahead = half_steps_of(alloc, d, line)?;
+        put_line(alloc, text, cuts, edge, ahead.as_slice())?;
         left = lines_after;
         drawn = edges_after;
     }
     Ok(())
 }
 
-/// Appends the bands of cuts on a line, which is that edge of its piece.
+/// Appends the bands of cuts on a line, which is that edge of its piece, by its half steps from its first point.
 fn put_line(
     alloc: Global,
     text: &mut Bytes,
-    d: &Drawing,
     cuts: &[Cut],
-    line: u32,
     edge: Edge,
+    ahead: &[Point],
 ) -> Result<(), Memory>
-    requires { line < length d.now.lines }
-    ensures { OnOk result (text.new ≡ text.old ++ line_bands d.now cuts.now line edge) }
+    ensures { OnOk result (text.new ≡ text.old
+        ++ flat_map band_text (bands_from 0 cuts.now edge ahead.now (reverse ahead.now))) }
 {
-    let ahead = half_steps_of(alloc, d, line)?;
-    let back = reversed(alloc, ahead.as_slice())?;
-    let ways = FreeWays {
-        ahead: ahead.as_slice(),
-        back: back.as_slice(),
-    };
-    put_bands(text, cuts, edge, ways)?;
+    let back = reversed(alloc, ahead)?;
+    let back = back.as_slice();
+    put_bands(text, cuts, edge, FreeWays { ahead, back })?;
     Ok(())
 }

@@ -6,4 +6,5 @@ use Rattle.drawing_picture.proofs.dots.put_loose_rings.Given as goal
 
 -- the marks so far, and those that are left, are all
 abbrev pub invariant-loop-point : goal.invariant-loop-point
-invariant-loop-point l = l.text ++ flat_map (mark_text mark.Loose) (drop l.point-index l.points) ≡ l.fn.text ++ flat_map (mark_text mark.Loose) l.points
+invariant-loop-point l = l.text ++ flat_map (mark_text mark.Loose) (drop l.point-index l.points)
+    ≡ l.fn.text ++ flat_map (mark_text mark.Loose) l.points

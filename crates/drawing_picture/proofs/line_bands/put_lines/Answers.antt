@@ -8,6 +8,6 @@ loop-line-preserved c = record {
   there = All-tail (λ line. line < length c.args.d.now.lines) c.in-Some-Some.line c.in-Some-Some.lines_after.now
       (subst (λ (ls : List ℕ). All (λ line. line < length c.args.d.now.lines) ls) c.in-Some-Some.ensures.some c.loop-line.invariant.there);
   bands = bands_next c.args.d.now c.args.cuts.now _ _ _ _ _ _ _ _ _ c.in-Some-Some.ensures.some
-      c.in-Some-Some.ensures'.some c.in_ok-put_line.ensures
+      c.in-Some-Some.ensures'.some (rw (c.as_slice.ensures, c.in_ok-ahead.ensures) at c.in_ok-put_line.ensures)
       c.loop-line.invariant.bands;
 }
