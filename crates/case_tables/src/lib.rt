@@ -3,9 +3,9 @@
 
 mod cases;
 mod checks;
+mod commands;
 mod doubles;
 mod held_parts;
-mod looks;
 mod macros;
 mod routes;
 mod starts_and_ends;
@@ -16,7 +16,6 @@ pub use cases::{Case, CaseStep, ExpectedText, FailingCalls, FileContent};
 pub use checks::{JUDGED, READ_IN_ORDER, SAMPLED};
 pub use doubles::DOUBLED;
 pub use held_parts::has_part;
-pub use looks::{DrawingRun, LOOKED, LOOKED_AT};
 pub use routes::{CLOSED, MEETING, NOT_ROUTED, PATTERN};
 pub use starts_and_ends::ENDED;
 pub use traces::TRACED;

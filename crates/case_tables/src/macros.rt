@@ -51,3 +51,33 @@ macro_rules! refused {
         $crate::step!($words, 1, $crate::ExpectedText::Exactly(""), $err, &[])
     };
 }
+
+/// A step that fails because it cannot read or write a file, with its line.
+#[macro_export]
+macro_rules! faulted {
+    ($words:expr => $err:expr) => {
+        $crate::faulted!($words => $err, &[])
+    };
+    ($words:expr => $err:expr, $after:expr) => {
+        $crate::step!($words, 3, $crate::ExpectedText::Exactly(""), $err, $after)
+    };
+}
+
+/// A case of these files, and of commands one after another.
+#[macro_export]
+macro_rules! case {
+    ($($file:expr),*; $($step:expr),*) => {
+        $crate::Case {
+            before: &[$($file),*],
+            steps: &[$($step),*],
+        }
+    };
+}
+
+/// A case of the drawing `a.rw` of this text, and of commands one after another.
+#[macro_export]
+macro_rules! drawn {
+    ($text:expr; $($step:expr),*) => {
+        $crate::case!($crate::with_bytes!("a.rw" => $text); $($step),*)
+    };
+}

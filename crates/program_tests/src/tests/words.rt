@@ -1,4 +1,4 @@
-use crate::cases::play;
+use super::cases::play;
 use case_tables::{Case, ExpectedText, step};
 use std::test::Fail;
 use stitch_cli::Status;

@@ -1,12 +1,9 @@
-/// A run: its arguments, separated by spaces; the calls that fail, from 1 on, of the store and of the puts on standard
-/// output and on standard error, 0 for none; and what it leaves: its status and what it prints on both.
-pub type DrawingRun = (&'static str, [u64; 3], u8, &'static str, &'static str);
-
-const USAGE: &str =
-    "usage: stitch_drawing look DRAWING [GAP]\n       stitch_drawing snap GAP DRAWING OUT\n       stitch_drawing space DRAWING OUT\n       stitch_drawing edit DRAWING OUT EDIT...\n";
+//! Runs of `stitch_drawing look`, and of other commands that no other table has, over files in memory.
+use super::table_runs::Run;
+use crate::{done, faulted, refused, unasked};
 
 /// Two lines, one of which ends beside the other, and one that crosses.
-pub static LOOKED_AT: &[(&str, &str)] = &[
+pub const FILES: &[(&str, &str)] = &[
     (
         "ok.rw",
         "redwork 2\nstep 10\ncolor 1\nline 0 0 40 0 80 0\nline 40 0 40 40\n",
@@ -34,70 +31,32 @@ pub static LOOKED_AT: &[(&str, &str)] = &[
     ),
 ];
 
-/// A run that is done, with its report.
-macro_rules! ran {
-    ($words:expr => $out:expr) => {
-        ($words, [0, 0, 0], 0, $out, "")
-    };
-}
-
-/// A run that is refused, with its line.
-macro_rules! not_run {
-    ($words:expr => $err:expr) => {
-        ($words, [0, 0, 0], 1, "", $err)
-    };
-}
-
-/// A run whose arguments request nothing.
-macro_rules! unasked {
-    ($words:expr) => {
-        ($words, [0, 0, 0], 2, "", USAGE)
-    };
-}
-
-pub static LOOKED: &[DrawingRun] = &[
-    ran!("look ok.rw" =>
+pub const RUNS: &[Run] = &[
+    done!("look ok.rw" =>
         "block 1 piece 1 lines 3 junctions 4 odd 4 stitches 12 shortest 10 longest 10 short 0 thread 120 travel 0\npieces 1 places 0 thread 120 travel 0\n"),
-    ran!("look near.rw" =>
+    done!("look near.rw" =>
         "block 1 piece 1 lines 1 junctions 2 odd 2 stitches 8 shortest 10 longest 10 short 0 thread 80 travel 0\nblock 1 piece 2 lines 1 junctions 2 odd 2 stitches 4 shortest 9 longest 10 short 3 thread 37 travel 40\nblock 1 piece 3 lines 1 junctions 2 odd 2 stitches 4 shortest 10 longest 10 short 0 thread 40 travel 30\nblock 1 line 3 at 20 -20: crossing\npieces 3 places 1 thread 157 travel 70\n"),
-    ran!("look near.rw 3" =>
+    done!("look near.rw 3" =>
         "block 1 piece 1 lines 1 junctions 2 odd 2 stitches 8 shortest 10 longest 10 short 0 thread 80 travel 0\nblock 1 piece 2 lines 1 junctions 2 odd 2 stitches 4 shortest 9 longest 10 short 3 thread 37 travel 40\nblock 1 piece 3 lines 1 junctions 2 odd 2 stitches 4 shortest 10 longest 10 short 0 thread 40 travel 30\nblock 1 line 2 at 40 3: loose end\nblock 1 line 3 at 20 -20: crossing\npieces 3 places 2 thread 157 travel 70\n"),
-    ran!("look one.rw 0" =>
+    done!("look one.rw 0" =>
         "block 1 piece 1 lines 2 junctions 3 odd 2 stitches 5 shortest 5 longest 10 short 1 thread 45 travel 0\nblock 1 piece 2 lines 1 junctions 2 odd 2 stitches 3 shortest 10 longest 10 short 0 thread 30 travel 20\nblock 1 line 2 at 20 0: unlisted meeting\nblock 1 line 3 at 0 0: short point spacing\npieces 2 places 2 thread 75 travel 20\n"),
-    not_run!("look bad.rw" => "stitch_drawing: bad.rw: line 3: too few points\n"),
-    (
-        "look none.rw",
-        [0, 0, 0],
-        3,
-        "",
-        "stitch_drawing: cannot read none.rw\n",
-    ),
-    (
-        "look ok.rw",
-        [1, 0, 0],
-        3,
-        "",
-        "stitch_drawing: cannot read ok.rw\n",
-    ),
-    (
-        "look ok.rw",
-        [0, 1, 0],
-        3,
-        "",
-        "stitch_drawing: cannot print\n",
-    ),
-    ("look bad.rw", [0, 0, 1], 3, "", ""),
-    ran!("look ok.rw 100" =>
+    refused!("look bad.rw" =>
+        "stitch_drawing: bad.rw: line 3: too few points\n"),
+    faulted!("look none.rw" => "stitch_drawing: cannot read none.rw\n"),
+    faulted!("look ok.rw", [1, 0, 0] => "stitch_drawing: cannot read ok.rw\n"),
+    faulted!("look ok.rw", [0, 1, 0] => "stitch_drawing: cannot print\n"),
+    faulted!("look bad.rw", [0, 0, 1] => ""),
+    done!("look ok.rw 100" =>
         "block 1 piece 1 lines 3 junctions 4 odd 4 stitches 12 shortest 10 longest 10 short 0 thread 120 travel 0\nblock 1 line 1 at 0 0: loose end\nblock 1 line 1 at 80 0: loose end\nblock 1 line 2 at 40 40: loose end\npieces 1 places 3 thread 120 travel 0\n"),
     unasked!("look ok.rw 101"),
     unasked!("look ok.rw -1"),
     unasked!("look "),
-    ran!("snap 2 loose.rw out.rw" => "moved 1 listed 1 pieces 4 to 2\n"),
-    ran!("snap 1 loose.rw out.rw" => "moved 0 listed 0 pieces 4 to 4\n"),
-    not_run!("snap 3 short.rw out.rw" =>
+    done!("snap 2 loose.rw out.rw" => "moved 1 listed 1 pieces 4 to 2\n"),
+    done!("snap 1 loose.rw out.rw" => "moved 0 listed 0 pieces 4 to 4\n"),
+    refused!("snap 3 short.rw out.rw" =>
         "stitch_drawing: short.rw: block 2 line 2: would vanish\n"),
-    ran!("snap 2 ended.rw out.rw" => "moved 0 listed 0 pieces 1 to 1\n"),
-    not_run!("snap 2 bad.rw out.rw" => "stitch_drawing: bad.rw: line 3: too few points\n"),
+    done!("snap 2 ended.rw out.rw" => "moved 0 listed 0 pieces 1 to 1\n"),
+    refused!("snap 2 bad.rw out.rw" => "stitch_drawing: bad.rw: line 3: too few points\n"),
     unasked!("snap 101 loose.rw out.rw"),
     unasked!("snap 2 loose.rw loose.rw"),
     unasked!("snap 2 loose.rw"),

@@ -1,4 +1,4 @@
-use crate::cases::{answer, stocked};
+use super::cases::{answer, stocked};
 use case_tables::{FileContent, with_bytes};
 use outside_io::{MemSink, MemStore};
 use std::alloc::Global;

@@ -1,5 +1,5 @@
 //! A stitch file is fed to its format part by part, and not decoded as a whole.
-use crate::cases::{arguments, behind};
+use super::cases::{arguments, behind};
 use design_model::{Command, Design};
 use dst_codec::Dst;
 use format_traits::{Format, Loaded, ReadFault, WriteFault};

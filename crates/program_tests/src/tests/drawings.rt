@@ -1,4 +1,4 @@
-use crate::cases::play;
+use super::cases::play;
 use case_tables::{
     CLOSED, DOUBLED, ENDED, JUDGED, MEETING, NOT_MIGRATED, NOT_ROUTED, PATTERN, READ_IN_ORDER,
     SAMPLED, TRACED, VERSIONS,

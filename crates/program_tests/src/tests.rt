@@ -1,0 +1,10 @@
+mod cases;
+mod drawings;
+mod feeding;
+mod files;
+mod limits;
+mod lists;
+mod outside;
+mod prefixes;
+mod rewrites;
+mod words;
