@@ -34,27 +34,22 @@ fn an_entry_is_set_both_ways(rt: HostRuntime) -> Result<(), Fail> {
     Ok(())
 }
 
-/// Compares the cost of each table's matching with the given one.
-fn match_rows(rt: &impl Abort, alloc: Global, rows: &[(DistTable, u64)]) -> Result<(), Fail> {
-    for (t, total) in rows {
-        let m = matched(alloc, t)?;
-        assert_eq!(rt; fault(t, &m), "", "{total}");
-        assert_eq!(rt; cost(t, &m), *total, "{total}");
-    }
+/// Compares the cost of a table's matching with the given one.
+fn costs(rt: &impl Abort, alloc: Global, t: &DistTable, total: u64) -> Result<(), Fail> {
+    let m = matched(alloc, t)?;
+    assert_eq!(rt; fault(t, &m), "", "{total}");
+    assert_eq!(rt; cost(t, &m), total, "{total}");
     Ok(())
 }
 
 #[test]
 fn small_tables_have_their_least_matchings(rt: HostRuntime) -> Result<(), Fail> {
     let alloc = rt.alloc();
-    let rows = [
-        (star(alloc, 0, 0)?, 0),
-        (star(alloc, 2, 200_000)?, 200_000),
-        (star(alloc, 4, 1)?, 2),
-        (axis(alloc, &[3, 5, 0, 9])?, 7),
-        (clusters(alloc, &[3, 3], 1, 10)?, 12),
-    ];
-    match_rows(&rt, alloc, &rows)
+    costs(&rt, alloc, &star(alloc, 0, 0)?, 0)?;
+    costs(&rt, alloc, &star(alloc, 2, 200_000)?, 200_000)?;
+    costs(&rt, alloc, &star(alloc, 4, 1)?, 2)?;
+    costs(&rt, alloc, &axis(alloc, &[3, 5, 0, 9])?, 7)?;
+    costs(&rt, alloc, &clusters(alloc, &[3, 3], 1, 10)?, 12)
 }
 
 #[test]
@@ -67,48 +62,47 @@ fn an_empty_table_has_no_pair_and_no_moat(rt: HostRuntime) -> Result<(), Fail> {
 #[test]
 fn larger_tables_have_totals_known_by_hand(rt: HostRuntime) -> Result<(), Fail> {
     let alloc = rt.alloc();
-    let rows = [
-        // each pair costs 2
-        (star(alloc, 12, 2)?, 12),
-        // neighbours pair up
-        (
-            axis(alloc, &[20, 0, 31, 1, 7, 11, 28, 18, 32, 40, 37, 25])?,
-            1 + 4 + 2 + 3 + 1 + 3,
-        ),
-        // two pairs in the five, one in the three, and one across
-        (clusters(alloc, &[5, 3], 2, 14)?, 2 + 2 + 2 + 14),
-        // three odd clusters and one more place, two pairs across
-        (clusters(alloc, &[3, 3, 3, 1], 2, 9)?, 2 + 2 + 2 + 9 + 9),
-        // as many places as a large drawing has odd junctions
-        (star(alloc, 100, 2)?, 100),
-        (
-            clusters(alloc, &[31, 20, 33], 2, 14)?,
-            15 * 2 + 10 * 2 + 16 * 2 + 14,
-        ),
-    ];
-    match_rows(&rt, alloc, &rows)
+    // each pair costs 2
+    costs(&rt, alloc, &star(alloc, 12, 2)?, 12)?;
+    // neighbours pair up
+    let places = [20, 0, 31, 1, 7, 11, 28, 18, 32, 40, 37, 25];
+    costs(&rt, alloc, &axis(alloc, &places)?, 1 + 4 + 2 + 3 + 1 + 3)?;
+    // two pairs in the five, one in the three, and one across
+    costs(
+        &rt,
+        alloc,
+        &clusters(alloc, &[5, 3], 2, 14)?,
+        2 + 2 + 2 + 14,
+    )?;
+    // three odd clusters and one more place, two pairs across
+    costs(
+        &rt,
+        alloc,
+        &clusters(alloc, &[3, 3, 3, 1], 2, 9)?,
+        2 + 2 + 2 + 9 + 9,
+    )?;
+    // as many places as a large drawing has odd junctions
+    costs(&rt, alloc, &star(alloc, 100, 2)?, 100)?;
+    let total = 15 * 2 + 10 * 2 + 16 * 2 + 14;
+    costs(&rt, alloc, &clusters(alloc, &[31, 20, 33], 2, 14)?, total)
 }
 
 #[test]
 fn random_tables_have_the_totals_of_another_program(rt: HostRuntime) -> Result<(), Fail> {
     let alloc = rt.alloc();
-    // places, seed and total; distances from 20 to 40, by networkx
-    let rows = [
-        (6, 1, 76),
-        (6, 4, 79),
-        (8, 1, 89),
-        (8, 3, 103),
-        (10, 2, 123),
-        (14, 1, 154),
-        (14, 4, 150),
-        (20, 1, 216),
-        (30, 5, 313),
+    // places, and each seed with its total; distances from 20 to 40, by networkx
+    let rows: [(usize, &[(u64, u64)]); 6] = [
+        (6, &[(1, 76), (4, 79)]),
+        (8, &[(1, 89), (3, 103)]),
+        (10, &[(2, 123)]),
+        (14, &[(1, 154), (4, 150)]),
+        (20, &[(1, 216)]),
+        (30, &[(5, 313)]),
     ];
-    for (n, seed, total) in &rows {
-        let t = random(alloc, *n, *seed)?;
-        let m = matched(alloc, &t)?;
-        assert_eq!(rt; fault(&t, &m), "", "{n} {seed}");
-        assert_eq!(rt; cost(&t, &m), *total, "{n} {seed}");
+    for (n, totals) in rows {
+        for (seed, total) in totals {
+            costs(&rt, alloc, &random(alloc, n, *seed)?, *total)?;
+        }
     }
     Ok(())
 }
