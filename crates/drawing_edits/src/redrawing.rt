@@ -120,10 +120,8 @@ fn put_lines_of(
 ) -> Result<(), DrawKind>
     ensures { AddsAsSpecified (with_lines_of block maker.old lines.now) result maker.new }
 {
-    let mut rest = lines;
-    while let [line, after @ ..] = rest {
+    for line in lines {
         put_line_in(alloc, maker, block, line)?;
-        rest = after;
     }
     Ok(())
 }
@@ -169,10 +167,8 @@ fn put_ends(
 fn put_spots(maker: &mut EndsMaker, is_start: bool, spots: &[Spot]) -> Result<(), DrawKind>
     ensures { AddsAsSpecified (with_walk_ends is_start maker.old spots.now) result maker.new }
 {
-    let mut rest = spots;
-    while let [spot, after @ ..] = rest {
+    for spot in spots {
         put_spot(maker, is_start, *spot)?;
-        rest = after;
     }
     Ok(())
 }
