@@ -2,9 +2,13 @@
 use Rattle.std.specs.Prelude.{ℕ, ◌&&◌, List, [], ◌∷◌, Option, Some, None, if◌then◌else◌}
 use Rattle.outside_io.specs.Files.{is_file_name}
 
+-- The argument, if it is a file name.
+abbrev pub if_named : List ℕ → Option (List ℕ)
+if_named word = if is_file_name word then Some word else None
+
 -- The one argument, if it is a file name.
 abbrev pub one_name : List (List ℕ) → Option (List ℕ)
-one_name (name ∷ []) = if is_file_name name then Some name else None
+one_name (name ∷ []) = if_named name
 one_name words = None
 
 -- The two file names with which arguments begin, and the arguments after them.

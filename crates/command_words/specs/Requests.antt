@@ -1,8 +1,7 @@
 -- The requests that the arguments of the program represent. A name is the bytes of an argument.
 use Rattle.std.specs.Prelude.{ℕ, Bool, List, [], ◌∷◌, Option, Some, None, bytes_eq, codes, option_map, if◌then◌else◌}
 use Rattle.command_words.specs.Changes.{Change}
-use Rattle.outside_io.specs.Files.{is_file_name}
-use Rattle.command_words.specs.Names.{names_and_rest, one_name, three_names, three_words, two_names}
+use Rattle.command_words.specs.Names.{if_named, names_and_rest, one_name, three_names, three_words, two_names}
 use Rattle.command_words.specs.Arguments.{parsed_edits, parsed_refits, sample_number, hoop_side}
 
 -- A request, with a case for each command.
@@ -35,8 +34,8 @@ parsed_edit_request None = None
 abbrev pub hoop_with : List ℕ → Option ℕ → Option ℕ → Option RequestValue
 hoop_with file None height = None
 hoop_with file (Some width) None = None
-hoop_with file (Some width) (Some height) = if is_file_name file then Some (hoop file width height)
-    else None
+hoop_with file (Some width) (Some height) =
+    option_map (λ name. hoop name width height) (if_named file)
 
 -- The request to compare a file with a hoop, by a name and two sides.
 abbrev pub parsed_hoop : Option (List ℕ × List ℕ × List ℕ) → Option RequestValue

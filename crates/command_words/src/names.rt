@@ -1,6 +1,6 @@
 ghost use Rattle.std.specs.Prelude.{◌≡◌, IfSome, map, option_map, string_bytes};
 ghost use Rattle.outside_io.specs.Files.{IsFileName};
-ghost use Rattle.command_words.specs.Names.{names_and_rest, one_name, three_names, three_words, two_names};
+ghost use Rattle.command_words.specs.Names.{if_named, names_and_rest, one_name, three_names, three_words, two_names};
 ghost use Rattle.command_words.specs.ValidNames.{AreFileNames, AreRouteNames, file_names_value, route_names_value};
 
 use outside_io::is_name;
@@ -20,6 +20,14 @@ pub struct RouteNames<'a> {
     pub cert: &'a str,
 }
 
+/// Returns an argument, if it is a file name.
+pub fn file_name(word: &str) -> Option<&str>
+    ensures value { option_map (λ name. name.now) result ≡ if_named word.now }
+    ensures name { IfSome result (λ name. IsFileName name.now) }
+{
+    if is_name(word) { Some(word) } else { None }
+}
+
 /// Returns the one argument, if it is a file name.
 pub fn only_name(words: &[String]) -> Option<&str>
     ensures value { option_map (λ name. name.now) result
@@ -27,7 +35,7 @@ pub fn only_name(words: &[String]) -> Option<&str>
     ensures name { IfSome result (λ name. IsFileName name.now) }
 {
     match words {
-        [name] if is_name(name.as_str()) => Some(name.as_str()),
+        [name] => file_name(name.as_str()),
         _ => None,
     }
 }

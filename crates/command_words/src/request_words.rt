@@ -5,10 +5,9 @@ ghost use Rattle.command_words.specs.ValidRequests.{IsValidRequest, request_valu
 ghost use Rattle.command_words.specs.Arguments.{are_in_either_order, parsed_edits, parsed_refits};
 
 use crate::edit_words::parse_edit;
-use crate::names::{file_names, named_rest, only_name, route_names, three};
+use crate::names::{file_name, file_names, named_rest, only_name, route_names, three};
 use crate::number_words::parse_natural;
 use crate::requests::Request;
-use outside_io::is_name;
 
 /// The maximum side of a hoop, in tenths of a millimetre.
 pub const MAX_SIDE: u32 = 60_000;
@@ -114,15 +113,12 @@ fn hoop_request(words: &[String]) -> Option<Request<'_>>
     let (file, width, height) = three(words)?;
     let width = parse_natural(1, MAX_SIDE, width.as_bytes())?;
     let height = parse_natural(1, MAX_SIDE, height.as_bytes())?;
-    if is_name(file) {
-        Some(Request::Hoop {
-            file,
-            width,
-            height,
-        })
-    } else {
-        None
-    }
+    let file = file_name(file)?;
+    Some(Request::Hoop {
+        file,
+        width,
+        height,
+    })
 }
 
 fn sample_request(words: &[String]) -> Option<Request<'_>>

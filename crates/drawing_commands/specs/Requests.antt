@@ -4,9 +4,9 @@ use Rattle.lists_and_numbers.specs.declared.whole_number.Whole.{Whole}
 use Rattle.lists_and_numbers.specs.declared.whole_number.Whole.TheVariants as whole
 use Rattle.lists_and_numbers.specs.WholeNumbers.{parsed_whole}
 use Rattle.command_words.specs.declared.names.FileNames.{FileNames}
-use Rattle.command_words.specs.Names.{names_and_rest, two_names}
+use Rattle.command_words.specs.Names.{if_named, names_and_rest, two_names}
 use Rattle.command_words.specs.ValidNames.{AreFileNames}
-use Rattle.outside_io.specs.Files.{IsFileName, is_file_name}
+use Rattle.outside_io.specs.Files.{IsFileName}
 use Rattle.drawing_commands.specs.declared.requests.DrawingRequest.{DrawingRequest}
 use Rattle.drawing_commands.specs.declared.requests.DrawingRequest.TheVariants as request
 use Rattle.drawing_commands.specs.declared.requests.TheConstants.{DEFAULT_GAP, MAX_GAP}
@@ -58,8 +58,7 @@ gap_of whole.NotANumber = None
 -- The order of `look` with an optional gap, if its name is a file name.
 abbrev pub look_with_gap : List ℕ → Option ℕ → Option DrawingOrder
 look_with_gap file None = None
-look_with_gap file (Some gap) =
-    if is_file_name file then Some (looking (look_order file gap)) else None
+look_with_gap file (Some gap) = option_map (λ name. looking (look_order name gap)) (if_named file)
 
 -- The order of `look` with the given arguments, if there is one.
 abbrev pub parsed_look : List (List ℕ) → Option DrawingOrder

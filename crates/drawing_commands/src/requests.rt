@@ -3,12 +3,11 @@ ghost use Rattle.lists_and_numbers.specs.declared.whole_number.Whole.TheVariants
 ghost use Rattle.lists_and_numbers.specs.WholeNumbers.{parsed_whole};
 ghost use Rattle.command_words.specs.Names.{names_and_rest};
 ghost use Rattle.command_words.specs.ValidNames.{AreFileNames, file_names_value};
-ghost use Rattle.drawing_commands.specs.Requests.{HasFileNames, drawing_order_of, gap_of, if_apart, look_with_gap, order_of_request, parsed_drawing_edit_request, parsed_look, parsed_snap};
+ghost use Rattle.drawing_commands.specs.Requests.{HasFileNames, drawing_order_of, gap_of, if_apart, order_of_request, parsed_drawing_edit_request, parsed_look, parsed_snap};
 
 use crate::drawing_edit_words::are_drawing_edits;
-use command_words::{FileNames, file_names, named_rest};
+use command_words::{FileNames, file_name, file_names, named_rest};
 use lists_and_numbers::{Whole, parse_whole};
-use outside_io::is_name;
 
 /// The gap where none is given, in tenths of a millimetre.
 const DEFAULT_GAP: u16 = 2;
@@ -62,20 +61,17 @@ fn look_request(words: &[String]) -> Option<DrawingRequest<'_>>
     ensures sound { IfSome result HasFileNames }
 {
     match words {
-        [file] => named_look(file.as_str(), DEFAULT_GAP),
-        [file, gap] => named_look(file.as_str(), parse_gap(gap.as_bytes())?),
+        [file] => {
+            let file = file_name(file.as_str())?;
+            let gap = DEFAULT_GAP;
+            Some(DrawingRequest::Look { file, gap })
+        }
+        [file, gap] => {
+            let gap = parse_gap(gap.as_bytes())?;
+            let file = file_name(file.as_str())?;
+            Some(DrawingRequest::Look { file, gap })
+        }
         _ => None,
-    }
-}
-
-fn named_look(file: &str, gap: u16) -> Option<DrawingRequest<'_>>
-    ensures value { option_map order_of_request result ≡ look_with_gap file.now (Some gap) }
-    ensures sound { IfSome result HasFileNames }
-{
-    if is_name(file) {
-        Some(DrawingRequest::Look { file, gap })
-    } else {
-        None
     }
 }
 
