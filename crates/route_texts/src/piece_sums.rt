@@ -3,7 +3,7 @@ ghost use Rattle.drawing_model.specs.declared.limits.TheConstants.{MAX_BLOCKS, M
 ghost use Rattle.line_graph.specs.PieceGraphs.{one_if};
 ghost use Rattle.line_graph.specs.PiecesOfDrawings.{graph_of};
 ghost use Rattle.route_texts.specs.OddCounts.{odd_number};
-ghost use Rattle.route_texts.specs.PieceReports.{reports_from};
+ghost use Rattle.route_texts.specs.PieceReports.{AreReportable, reports_from};
 ghost use Rattle.route_texts.specs.PieceSums.{junctions_of_piece, total_junctions, odd_junctions_of_piece, total_odd_junctions, sample_summary};
 ghost use Rattle.route_texts.specs.SewingReports.{penetrations_of};
 
@@ -23,9 +23,7 @@ pub fn summary_of(
     pieces: &[Piece],
     certs: &[PieceCert],
 ) -> Result<Summary, Memory>
-    requires blocks { All (λ p. p.block < MAX_BLOCKS) pieces.now }
-    requires most { length pieces.now ≤ MAX_LINES }
-    requires few { sum_by penetrations_of (reports_from 1 pieces.now certs.now) < 2 ^ 32 }
+    requires { AreReportable pieces.now certs.now }
     ensures { IfOk result (λ s. s ≡ sample_summary number lines pieces.now
         (reports_from 1 pieces.now certs.now)) }
 {

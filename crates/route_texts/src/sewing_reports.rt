@@ -1,7 +1,7 @@
 ghost use Rattle.std.specs.Prelude.{◌≡◌, ◌<◌, ◌≤◌, ◌^◌, All, IfOk, length, string_bytes, sum_by};
 ghost use Rattle.drawing_model.specs.declared.limits.TheConstants.{MAX_BLOCKS, MAX_LINES};
 ghost use Rattle.line_graph.specs.PiecesOfDrawings.{graph_of};
-ghost use Rattle.route_texts.specs.PieceReports.{reports_from, piece_report};
+ghost use Rattle.route_texts.specs.PieceReports.{AreReportable, piece_report, reports_from};
 ghost use Rattle.route_texts.specs.SewingReports.{cost_text, double_cost_text, penetrations_of, piece_position_text, route_cost_text, sewing_report, totals_text};
 
 use line_graph::Piece;
@@ -36,9 +36,7 @@ pub fn print_sewing(
     pieces: &[Piece],
     certs: &[PieceCert],
 ) -> Result<Bytes, Memory>
-    requires blocks { All (λ p. p.block < MAX_BLOCKS) pieces.now }
-    requires lines { length pieces.now ≤ MAX_LINES }
-    requires few { sum_by penetrations_of (reports_from 1 pieces.now certs.now) < 2 ^ 32 }
+    requires { AreReportable pieces.now certs.now }
     ensures { IfOk result (λ text. text ≡ sewing_report way (reports_from 1 pieces.now certs.now)) }
 {
     let reports = reports_of(alloc, pieces, certs)?;
