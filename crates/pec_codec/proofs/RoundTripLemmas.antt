@@ -57,8 +57,8 @@ long_reads k at m rest few within =
     record_first at 4 (event_of_pair x y) (high k m.x ∷ low m.x ∷ high k m.y ∷ low m.y ∷ rest)
     (sym (next_record_in-pair (high k m.x) (low m.x) (high k m.y ∷ low m.y ∷ rest) x y
     (omega (arith, few, unsigned_long m.x))
-    (grind (arith, nat_tests, m.x, small.0))
-    (grind (arith, nat_tests, m.y, small.1))))
+    (grind (arith, nat_tests, small.0))
+    (grind (arith, nat_tests, small.1))))
     (omega arith) (omega arith)
 
 -- a stitch, whether its numbers are short or not

@@ -7,5 +7,5 @@ use Rattle.std.proofs.lemmas.Bool.Decides.{nat_tests}
 
 pub returns-clause-short : goal.returns-clause-short
 returns-clause-short c =
-    grind (arith, nat_tests, length-padded_right, length-map-range_with_len, length-append, c.args.design.now, c.args.stops, (subst (λ
-    label. length label ≤ MAX_LABEL) c.label.ensures.value c.label.ensures.limits.short), c.requires)
+    grind (arith, nat_tests, length-padded_right, length-map-range_with_len, length-append, (subst (λ label. length label ≤ MAX_LABEL)
+        c.label.ensures.value c.label.ensures.limits.short), c.requires)

@@ -6,8 +6,8 @@ use Rattle.std.proofs.lemmas.Bool.Decides.{nat_tests}
 
 pub size_word-requires : goal.size_word-requires
 size_word-requires c = subst (λ (n : ℕ). n < 2 ^ 16) (sym c.width.ensures)
-    (grind (arith, nat_tests, c.extent-extent.result, (needles_near 1 true false c.args.design.now.commands
-        c.designs_keep_limits.ensures.in_range), c.extent-extent.ensures.bounds))
+    (grind (arith, nat_tests, (needles_near 1 true false c.args.design.now.commands c.designs_keep_limits.ensures.in_range),
+        c.extent-extent.ensures.bounds))
 
 pub size_word-requires-2 : goal.size_word-requires-2
 size_word-requires-2 c = subst (λ (n : ℕ). n < 2 ^ 16) (sym c.height.ensures)

@@ -7,16 +7,15 @@ use Rattle.record_formats.proofs.CallerLemmas.{stops_along}
 
 pub returns-clause-value : goal.returns-clause-value
 returns-clause-value c =
-    grind (arith, nat_tests, append_assoc, stops_along, c.args.design.now, c.commands-commands.result.now, c.args.out.now,
-    c.put_acts.new.out, c.push.new.self, c.in_ok-state.state, c.commands-commands.ensures.value, c.in_ok-state.ensures,
-    c.in_ok-push.ensures.ok)
+    grind (arith, nat_tests, append_assoc, stops_along, c.put_acts.new.out, c.push.new.self, c.in_ok-state.state,
+        c.commands-commands.ensures.value, c.in_ok-state.ensures, c.in_ok-push.ensures.ok)
 
 pub returns-clause-stops : goal.returns-clause-stops
 returns-clause-stops c =
-    grind (arith, nat_tests, c.args.design.now, c.args.out.now, c.push.new.self, c.in_ok-state.state.stops,
-    c.accepted_designs_are_small.ensures, c.commands-commands.ensures.limits, (returns-clause-value c))
+    grind (arith, nat_tests, c.push.new.self, c.accepted_designs_are_small.ensures, c.commands-commands.ensures.limits,
+        (returns-clause-value c))
 
 pub returns-clause-short : goal.returns-clause-short
 returns-clause-short c =
-    grind (arith, nat_tests, length-append, records_length, c.args.design.now, c.args.out.now, c.push.new.self, c.in_ok-state.state.stops,
-    c.accepted_designs_are_small.ensures, c.commands-commands.ensures.limits, (returns-clause-value c))
+    grind (arith, nat_tests, length-append, records_length, c.push.new.self, c.accepted_designs_are_small.ensures,
+        c.commands-commands.ensures.limits, (returns-clause-value c))
