@@ -1,11 +1,10 @@
 -- SVG texts in parts. Points are in tenths of a millimetre, y downwards.
-use Rattle.std.specs.Prelude.{ℕ, ◌+◌, ◌/◌, ◌%◌, ◌==◌, List, [], ◌∷◌, ◌++◌, codes, drop, length, if◌then◌else◌}
-use Rattle.std.specs.List.{flat_map}
+use Rattle.std.specs.Prelude.{ℕ, ◌+◌, ◌/◌, ◌%◌, ◌==◌, List, [], ◌∷◌, ◌++◌, codes, drop, take, if◌then◌else◌}
+use Rattle.std.specs.List.{flat_map, position_or_len}
 use Rattle.std.specs.Fmt.{decimal, signed_decimal}
 use Rattle.design_model.specs.declared.point.Point.{Point}
 use Rattle.picture_parts.specs.declared.parts.Part.{Part}
 use Rattle.picture_parts.specs.declared.parts.Part.TheVariants.{Text, Escaped, Number, At, Mm}
-use Rattle.text_parts.specs.Parts.{parts_between}
 
 -- The text of a point.
 abbrev pub point_text : Point → List ℕ
@@ -40,18 +39,17 @@ part_text (Number n) = decimal n
 part_text (At p) = point_text p
 part_text (Mm tenths) = mm_text tenths
 
--- The first of some texts; the empty text for none.
-abbrev pub first_text : List (List ℕ) → List ℕ
-first_text [] = []
-first_text (text ∷ rest) = text
+-- The number of bytes of a template before its first mark, `@` (64), or of all without a mark.
+abbrev pub length_to_mark : List ℕ → ℕ
+length_to_mark template = position_or_len (λ byte. byte == 64) template
 
--- A template before its first mark, `@` (64), or all of it without a mark.
+-- A template before its first mark.
 abbrev pub text_before : List ℕ → List ℕ
-text_before template = first_text (parts_between 64 template)
+text_before template = take (length_to_mark template) template
 
 -- A template after its first mark.
 abbrev pub text_after : List ℕ → List ℕ
-text_after template = drop (length (text_before template) + 1) template
+text_after template = drop (length_to_mark template + 1) template
 
 -- A template with texts in the places of its marks, in order.
 unfoldable pub filled : List ℕ → List (List ℕ) → List ℕ

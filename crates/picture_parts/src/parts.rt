@@ -6,7 +6,7 @@ use crate::escapes::put_escaped;
 use design_model::Point;
 use itoa::Buffer;
 use lists_and_numbers::{Bytes, Memory};
-use text_parts::split_first;
+use text_parts::length_before;
 
 /// A part of an SVG text.
 #[derive(Clone, Copy)]
@@ -43,9 +43,10 @@ fn split_template(template: &[u8]) -> (&[u8], &[u8])
     ensures before { result.0.now ≡ text_before template.now }
     ensures after { result.1.now ≡ text_after template.now }
 {
-    match split_first(template, b'@') {
-        Some(parts) => parts,
-        None => (template, b""),
+    let (before, from) = template.split_at(length_before(template, b'@'));
+    match from {
+        [_, after @ ..] => (before, after),
+        [] => (before, from),
     }
 }
 

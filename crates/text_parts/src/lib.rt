@@ -4,5 +4,5 @@
 mod splits;
 mod words;
 
-pub use splits::{line_length, split_first, split_line};
+pub use splits::{length_before, line_length, split_first, split_line};
 pub use words::equals_text;

@@ -57,5 +57,14 @@ pub fn line_length(bytes: &[u8]) -> usize
     ensures value { result ≡ position_or_len (λ b. b == 10) bytes.now }
     ensures within { result ≤ length bytes.now }
 {
-    memchr(b'\n', bytes).unwrap_or(bytes.len())
+    length_before(bytes, b'\n')
+}
+
+/// Returns the number of bytes before the first mark, or of all bytes if there is none.
+#[inline]
+pub fn length_before(bytes: &[u8], mark: u8) -> usize
+    ensures value { result ≡ position_or_len (λ b. b == mark) bytes.now }
+    ensures within { result ≤ length bytes.now }
+{
+    memchr(mark, bytes).unwrap_or(bytes.len())
 }
