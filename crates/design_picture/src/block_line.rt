@@ -1,4 +1,4 @@
-ghost use Rattle.std.specs.Prelude.{◌≡◌, ◌++◌, ◌<◌, ◌*◌, ◌^◌, OnOk};
+ghost use Rattle.std.specs.Prelude.{◌≡◌, ◌++◌, OnOk};
 ghost use Rattle.design_picture.specs.Captions.{block_line, block_start, block_words, legend_text};
 
 use crate::strokes::{BlockEnd, Stroke};

@@ -1,4 +1,4 @@
-ghost use Rattle.std.specs.Prelude.{◌≡◌, ◌++◌, ◌≤◌, OnOk};
+ghost use Rattle.std.specs.Prelude.{◌≡◌, ◌++◌, OnOk};
 ghost use Rattle.design_picture.specs.Hoops.{hoop_as_fits, hoop_class, hoop_end, hoop_start, hoop_text, offset_text};
 
 use design_model::{Extent, Point, height, width};

@@ -1,4 +1,4 @@
-ghost use Rattle.std.specs.Prelude.{◌≡◌, ◌++◌, ◌<◌, ◌^◌, IfOk, OnOk, length};
+ghost use Rattle.std.specs.Prelude.{◌≡◌, ◌++◌, ◌<◌, ◌^◌, IfOk, OnOk};
 ghost use Rattle.drawing_picture.specs.DrawingPictures.{IsDrawingPicture, drawing_area as area_of_drawing, drawing_below, drawing_marks, drawing_top, drawing_with};
 
 use crate::dots::{put_dots, put_loose_rings, put_spots};

@@ -1,5 +1,4 @@
 ghost use Rattle.std.specs.Prelude.{◌≡◌, ◌+◌, ◌++◌, ◌≤◌, IfOk, OnOk, length, map};
-ghost use Rattle.std.specs.List.{flat_map};
 ghost use Rattle.drawing_picture.specs.JunctionMarks.{marks_of_piece, marks_of_pieces, odd_marks};
 ghost use Rattle.drawing_picture.specs.TestedMarks.{tested_marks};
 ghost use Rattle.drawing_model.specs.declared.limits.TheConstants.{MAX_LINES};

@@ -1,4 +1,4 @@
-ghost use Rattle.std.specs.Prelude.{◌≡◌, ◌+◌, ◌++◌, ◌<◌, ◌-◌, ◌^◌, IfOk, OnOk, length};
+ghost use Rattle.std.specs.Prelude.{◌≡◌, ◌+◌, ◌++◌, ◌<◌, ◌-◌, ◌^◌, OnOk, length};
 ghost use Rattle.drawing_picture.specs.ProofPictures.{reason_lines, retraced_steps};
 ghost use Rattle.drawing_picture.specs.BandTexts.{band_group};
 
