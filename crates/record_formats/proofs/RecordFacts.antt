@@ -11,7 +11,7 @@ use Rattle.record_formats.specs.declared.move_parts.TheConstants.{MAX_HOPS}
 use Rattle.record_formats.specs.declared.record_reader.TheConstants.{MAX_RECORD_MOVE}
 use Rattle.record_formats.specs.Layouts.{Layout, layout_decoded, layout_reads}
 use Rattle.record_formats.specs.MoveParts.{part_moves}
-use Rattle.record_formats.specs.Records.{Records, file_commands, decoded_commands_from, decoded_commands, moves_of_records_from, moves_of_records, file_commands_from, over, refused, next}
+use Rattle.record_formats.specs.Records.{Records, file_commands, trims_or_stops, decoded_commands_from, decoded_commands, moves_of_records_from, moves_of_records, file_commands_from, over, refused, next}
 use Rattle.record_formats.specs.RecordEncodings.{RecordEncoding, records_of_acts}
 
 abbrev pub point : ℤ → ℤ → Point
@@ -108,6 +108,12 @@ pub known_counted : (file_commands_from 999999 (point (pos 0) (pos 0)) two_recor
     × (decoded_commands_from 999999 (point (pos 0) (pos 0)) two_records ≡ Trim ∷ [])
     × (moves_of_records_from 999999 (point (pos 0) (pos 0)) two_records ≡ [])
 known_counted = (refl, refl, refl)
+
+-- which events trim or stop
+pub known_cuts : map trims_or_stops (event.Stitch (point (pos 0) (pos 0)) ∷ event.Jump (point (pos 0) (pos 0))
+    ∷ event.TrimmedJump (point (pos 0) (pos 0)) ∷ event.Trim ∷ event.Stop ∷ event.StopBy (point (pos 0) (pos 0)) ∷ [])
+    ≡ false ∷ false ∷ true ∷ true ∷ true ∷ true ∷ []
+known_cuts = refl
 
 -- a header of a label and a thread, and records of stitches whose moves are their number and their offset
 abbrev two_bytes : Layout

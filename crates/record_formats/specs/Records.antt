@@ -1,6 +1,6 @@
 -- The records of a file, in any format, and the commands that are computed from them. Each record
 -- begins at an offset of the file and stands for one event.
-use Rattle.std.specs.Prelude.{ℕ, ◌+◌, Bool, ◌&&◌, List, [], ◌∷◌, ◌++◌, length, nat_le, nat_lt, Result, Ok, Err, if◌then◌else◌}
+use Rattle.std.specs.Prelude.{ℕ, ◌+◌, Bool, true, false, ◌&&◌, List, [], ◌∷◌, ◌++◌, length, nat_le, nat_lt, Result, Ok, Err, if◌then◌else◌}
 use Rattle.std.specs.List.{list_all}
 use Rattle.design_model.specs.declared.command.Command.{Command}
 use Rattle.design_model.specs.declared.command.Command.TheVariants as command
@@ -43,6 +43,15 @@ event_commands_at (event.TrimmedJump m) there = command.Trim ∷ command.Jump th
 event_commands_at event.Trim there = command.Trim ∷ []
 event_commands_at event.Stop there = command.Stop ∷ []
 event_commands_at (event.StopBy m) there = stop_commands m there
+
+-- True for an event that cuts the thread or stops.
+abbrev pub trims_or_stops : Event → Bool
+trims_or_stops (event.Stitch m) = false
+trims_or_stops (event.Jump m) = false
+trims_or_stops (event.TrimmedJump m) = true
+trims_or_stops event.Trim = true
+trims_or_stops event.Stop = true
+trims_or_stops (event.StopBy m) = true
 
 -- The commands of an event, by the position before it.
 abbrev pub commands_of_event : Event → Point → List Command

@@ -5,7 +5,7 @@ ghost use Rattle.record_formats.specs.declared.record_stage.RecordStage.TheVaria
 ghost use Rattle.record_formats.specs.RecordStates.{record_so_far_at, record_state_at};
 ghost use Rattle.format_traits.specs.DecoderStates.{TakesBytes};
 
-use crate::event_adding::{EventAdding, Sorted};
+use crate::event_adding::keep_event;
 use crate::record_reader::{NextRecord, RecordReader};
 use crate::record_stage::RecordStage;
 use design_model::{Design, Point};
@@ -41,7 +41,7 @@ pub fn read_records<R: RecordReader>(
     let mut rest = bytes;
     loop {
         match reader.next(at, rest) {
-            NextRecord::Record { event, size } => match Sorted::add(design, at, place, event) {
+            NextRecord::Record { event, size } => match keep_event(design, at, place, event) {
                 Ok(there) => {
                     place = there;
                     at += size as u64;
