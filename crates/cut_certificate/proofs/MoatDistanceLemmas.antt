@@ -230,7 +230,7 @@ most_by g s index stands reaches far j t f in_j has =
           let inner = inside_next g s index stands reaches f p.1 o.moat t o.at o.done o.around has in
           let there = reach_there g (length s.members) index stands reaches p.1 o.moat f.progress o.at in
           let by = lowered_by g stands reaches j far s.members p.0 (slice_index there.0.items j - o.moat.width) (inner.1 p.0 o.first)
-          (grind (arith, nat_tests, p.0, p.1, o.moat, there.0, (slice_get stands p.0), p.2, o.at, there.1)) in
+          (grind (arith, nat_tests, p.0, p.1, there.0, p.2, there.1)) in
           let near = (f.progress.made p.1 o.moat there.0 o.at o.done there.1).most j t in_j o.around in
           let over = depth_first g s index t p.0 p.1 f.laminar o in
           (omega (arith, over, near, by))
@@ -253,7 +253,7 @@ from_some g s index stands reaches j t x (Some (stand.First c)) f in_j has at is
     let inner = inside_next g s index stands reaches f c o.moat t o.at o.done o.around has in
     let there = reach_there g (length s.members) index stands reaches c o.moat f.progress o.at in
     let same = same_number (slice_index there.0.items j - o.moat.width) x
-    (sym (grind (arith, nat_tests, o.moat, there.0, (Some (stand.First c)), o.at, there.1)) ∙ is) in
+    (sym (grind (arith, nat_tests, there.0, there.1)) ∙ is) in
     let p = (f.progress.made c o.moat there.0 o.at o.done there.1).some j in_j in
     let over : depth g o.moat p.0 + o.moat.width ≤ depth g s p.0 = above g o.moat s p.0 (is_of g.moats c o.moat o.at) p.1 inner.0 in
     (p.0, inner.1 p.0 p.1, omega (arith, over, p.2, same))

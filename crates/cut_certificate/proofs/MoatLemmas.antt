@@ -67,7 +67,7 @@ pub widths_with : (p q : Moat → Bool) (s : Moat) (ms : List Moat) → IsOf ms 
 widths_with p q s [] is misses passes f = absurd is
 widths_with p q s (m ∷ ms) (inl same) misses passes f = grind (arith, nat_tests, widths_mono p q ms (λ x h. f x (inr h)))
 widths_with p q s (m ∷ ms) (inr is) misses passes f =
-    grind (arith, nat_tests, s.width, m.width, (widths_with p q s ms is misses passes (λ x h. f x (inr h))))
+    grind (arith, nat_tests, (widths_with p q s ms is misses passes (λ x h. f x (inr h))))
 
 turned : (a b : Moat) → Apart a b → Apart b a
 turned a b (inl d) = inl (λ t x y. d t y x)

@@ -52,7 +52,7 @@ finds rows size moats s index stands reaches can at progress =
       at = at;
       smaller = smaller (length rows.terminals) moats index s can.odd can.laminar at;
       placed = λ t has. held_below (length rows.terminals) t s.members (below (length rows.terminals) s.members odd.below) has;
-      some = grind (arith, nat_tests, (length s.members), odd.odd);
+      some = grind (arith, nat_tests, odd.odd);
       progress = progress;
     }
 

@@ -23,11 +23,10 @@ loop-index-preserved c =
     next_lifted (piece_site (graph_of c.args.p.now) c.args.rows.now c.as_slice-moats.result.now) c.loop-index.index
     c.index-moats-index.result c.loop-index.cuts
     c.add_cuts.new.cuts c.loop-index-test.true c.index-moats-index.is c.loop-index.invariant
-    (grind (arith, nat_tests, (piece_site (graph_of c.args.p.now) c.args.rows.now c.as_slice-moats.result.now), c.loop-index.cuts,
-        c.add_cuts.new.cuts, (reach_at (graph_of c.args.p.now) c.args.rows.now c.as_slice-moats.result.now c.len.result c.loop-index.index
-        c.index-moats-index.result c.in_ok-reaches.reaches.items c.index.result.now c.as_slice.result.now c.len.ensures
-        c.in_ok-reaches.ensures c.loop-index-test.true c.index-moats-index.is c.index.ensures c.as_slice.ensures.value), (ap (λ (m :
-        Moat). m.width) (sym c.index-moats-index.is)), c.in_ok-add_cuts.ensures))
+    (grind (arith, nat_tests, (reach_at (graph_of c.args.p.now) c.args.rows.now c.as_slice-moats.result.now c.len.result
+        c.loop-index.index c.index-moats-index.result c.in_ok-reaches.reaches.items c.index.result.now c.as_slice.result.now c.len.ensures
+            c.in_ok-reaches.ensures c.loop-index-test.true c.index-moats-index.is c.index.ensures c.as_slice.ensures.value), (ap (λ (m :
+                Moat). m.width) (sym c.index-moats-index.is)), c.in_ok-add_cuts.ensures))
 
 pub returns : goal.returns
 returns c =

@@ -14,12 +14,13 @@ lower_twice-requires-clause-low c = λ j lt.
 pub lower_past-requires : goal.lower_past-requires
 lower_past-requires c = record {
   size =
-      grind (arith, nat_tests, slice_get_read, (length c.args.reach.now), c.in-First.c, c.requires.way, c.state_at.ensures, c.in-First.is,
-      (c.requires.way.beside c.in-First.c c.in-First.ensures), c.index-reaches-c.is, c.as_slice.ensures.value);
+      grind (arith, nat_tests, slice_get_read, c.in-First.c, c.requires.way, c.state_at.ensures, c.in-First.is,
+            (c.requires.way.beside c.in-First.c c.in-First.ensures), c.index-reaches-c.is, c.as_slice.ensures.value);
 }
 
 pub returns-in-First-clause-value : goal.returns-in-First-clause-value
 returns-in-First-clause-value c = λ j lt.
-    grind (arith, nat_tests, slice_get_read, c.in-First.c, c.state_at.ensures, c.in-First.is, (c.requires.way.moat c.in-First.c
-        c.in-First.ensures), c.index-moats-c.is, (c.requires.way.beside c.in-First.c c.in-First.ensures), c.index-reaches-c.is,
-        c.as_slice.ensures.value, (c.lower_past.ensures.value j lt))
+    grind (arith, nat_tests, slice_get_read, c.in-First.c, c.state_at.ensures, c.in-First.is,
+          (c.requires.way.moat c.in-First.c c.in-First.ensures), c.index-moats-c.is,
+          (c.requires.way.beside c.in-First.c c.in-First.ensures), c.index-reaches-c.is, c.as_slice.ensures.value,
+          (c.lower_past.ensures.value j lt))
