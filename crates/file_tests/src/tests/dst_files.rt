@@ -1,5 +1,5 @@
-use crate::feeding::{compare_counts, feed, read_all, written};
-use crate::large_designs::{compare_reread, stops};
+use super::feeding::{compare_counts, feed, read_all, written};
+use super::large_designs::{compare_reread, stops};
 use crate::square;
 use design_model::{Command, Point};
 use dst_codec::{Dst, decode_move, encode_move};
@@ -12,6 +12,10 @@ use test_values::repeated;
 
 fn read(rt: &impl Abort, alloc: Global, bytes: &[u8]) -> Result<Loaded, ReadFault> {
     read_all(rt, &mut Dst::new(alloc), alloc, bytes)
+}
+
+fn at(x: i32, y: i32) -> Point {
+    Point { x, y }
 }
 
 /// The fields of the header of the square's file and the byte 1A, which spaces follow.
@@ -28,7 +32,7 @@ const RECORDS: [u8; 27] = [
 #[test]
 fn a_square_has_its_539_bytes(rt: HostRuntime) -> Result<(), Fail> {
     let alloc = rt.alloc();
-    let design = square(alloc).ok().ok_or("no design")?;
+    let design = square(alloc)?;
     let expected = repeated(alloc, FIELDS, b" ", 512 - 125, &RECORDS)?;
     let file = written(&Dst::new(alloc), alloc, &design)?;
     assert_eq!(rt; file.as_slice(), expected.as_slice());
@@ -44,20 +48,20 @@ fn file_of(alloc: Global, records: &[u8]) -> Result<Bytes, Memory> {
 #[test]
 fn a_square_reads_as_its_needles_and_a_trim(rt: HostRuntime) -> Result<(), Fail> {
     let alloc = rt.alloc();
-    let design = square(alloc).ok().ok_or("no design")?;
+    let design = square(alloc)?;
     let file = written(&Dst::new(alloc), alloc, &design)?;
-    let loaded = read(&rt, alloc, file.as_slice()).ok().ok_or("not read")?;
+    let loaded = read(&rt, alloc, file.as_slice())?;
     assert_eq!(rt; loaded.ended, true);
     let expected = [
-        Command::Stitch(Point { x: 0, y: 0 }),
-        Command::Stitch(Point { x: 30, y: 0 }),
-        Command::Stitch(Point { x: 30, y: 30 }),
-        Command::Stitch(Point { x: 0, y: 30 }),
-        Command::Stitch(Point { x: 0, y: 0 }),
-        Command::Jump(Point { x: 2, y: 2 }),
-        Command::Jump(Point { x: -2, y: -2 }),
+        Command::Stitch(at(0, 0)),
+        Command::Stitch(at(30, 0)),
+        Command::Stitch(at(30, 30)),
+        Command::Stitch(at(0, 30)),
+        Command::Stitch(at(0, 0)),
+        Command::Jump(at(2, 2)),
+        Command::Jump(at(-2, -2)),
         Command::Trim,
-        Command::Jump(Point { x: 0, y: 0 }),
+        Command::Jump(at(0, 0)),
     ];
     assert_eq!(rt; loaded.design.commands(), expected.as_slice());
     Ok(())
@@ -72,7 +76,7 @@ fn the_third_jump_of_a_run_reads_as_a_trim_too(rt: HostRuntime) -> Result<(), Fa
             file.append(&[0, 0, 0x83])?;
         }
         file.append(&[0, 0, 0x03, 0, 0, 0xF3])?;
-        let loaded = read(&rt, alloc, file.as_slice()).ok().ok_or("not read")?;
+        let loaded = read(&rt, alloc, file.as_slice())?;
         assert_eq!(rt; loaded.design.commands().len(), commands, "{jumps} jumps");
     }
     Ok(())
@@ -82,11 +86,11 @@ fn the_third_jump_of_a_run_reads_as_a_trim_too(rt: HostRuntime) -> Result<(), Fa
 fn a_file_without_an_end_is_read(rt: HostRuntime) -> Result<(), Fail> {
     let alloc = rt.alloc();
     let file = file_of(alloc, &[0x00, 0x05, 0x03, 0x00, 0x05])?;
-    let loaded = read(&rt, alloc, file.as_slice()).ok().ok_or("not read")?;
+    let loaded = read(&rt, alloc, file.as_slice())?;
     assert_eq!(rt; loaded.ended, false);
     assert_eq!(rt;
         loaded.design.commands(),
-        [Command::Stitch(Point { x: 30, y: 0 })].as_slice()
+        [Command::Stitch(at(30, 0))].as_slice()
     );
     Ok(())
 }
@@ -94,21 +98,20 @@ fn a_file_without_an_end_is_read(rt: HostRuntime) -> Result<(), Fail> {
 #[test]
 fn a_file_is_refused_at_its_first_fault(rt: HostRuntime) -> Result<(), Fail> {
     let alloc = rt.alloc();
-    let short = repeated(alloc, b"", b" ", 511, b"")?;
-    assert_eq!(rt;
-        read(&rt, alloc, short.as_slice()).err(),
-        Some(ReadFault::Short { at: 511 })
-    );
-    let file = file_of(alloc, [[0x05, 0x05, 0x07]; 248].as_flattened())?;
-    assert_eq!(rt;
-        read(&rt, alloc, file.as_slice()).err(),
-        Some(ReadFault::Range { at: 1253 })
-    );
-    let sequin = file_of(alloc, &[0x00, 0x00, 0x43])?;
-    assert_eq!(rt;
-        read(&rt, alloc, sequin.as_slice()).err(),
-        Some(ReadFault::Sequin { at: 512 })
-    );
+    let far = file_of(alloc, [[0x05, 0x05, 0x07]; 248].as_flattened())?;
+    for (file, fault) in [
+        (
+            repeated(alloc, b"", b" ", 511, b"")?,
+            ReadFault::Short { at: 511 },
+        ),
+        (far, ReadFault::Range { at: 1253 }),
+        (
+            file_of(alloc, &[0x00, 0x00, 0x43])?,
+            ReadFault::Sequin { at: 512 },
+        ),
+    ] {
+        assert_eq!(rt; read(&rt, alloc, file.as_slice()).err(), Some(fault));
+    }
     Ok(())
 }
 
@@ -120,24 +123,10 @@ fn a_command_is_told_once_its_record_is_whole(rt: HostRuntime) -> Result<(), Fai
         feed(&rt, &mut format, &[*byte])?;
         assert_eq!(rt; format.so_far().len(), 0);
     }
-    let cases = [
-        (0x00, 0),
-        (0x00, 0),
-        (0x03, 1),
-        (0x00, 1),
-        (0x05, 1),
-        (0x03, 2),
-        (0x00, 2),
-        (0x00, 2),
-        (0x43, 2),
-        (0x00, 2),
-        (0x50, 2),
-        (0x03, 2),
-    ];
-    compare_counts(&rt, &mut format, &cases)?;
-    assert_eq!(rt; format.taken(), 524);
-    assert_eq!(rt; format.finish().err(), Some(ReadFault::Sequin { at: 518 }));
-    Ok(())
+    let bytes = [0, 0, 0x03, 0, 0x05, 0x03, 0, 0, 0x43, 0, 0x50, 0x03];
+    let counts = [0, 0, 1, 1, 1, 2, 2, 2, 2, 2, 2, 2];
+    let fault = ReadFault::Sequin { at: 518 };
+    Ok(compare_counts(&rt, &mut format, &bytes, &counts, 524, fault)?)
 }
 
 #[test]
@@ -153,9 +142,9 @@ fn a_design_of_a_thousand_stops_is_refused_at_the_last(rt: HostRuntime) -> Resul
 
 #[test]
 fn the_greatest_moves_have_their_one_spelling(rt: HostRuntime) {
-    assert_eq!(rt; decode_move([0x05, 0x05, 0x07]), Point { x: 121, y: 0 });
-    assert_eq!(rt; decode_move([0x50, 0x50, 0x13]), Point { x: 0, y: 121 });
-    assert_eq!(rt; decode_move([0x82, 0x41, 0x83]), Point { x: 2, y: 2 });
+    assert_eq!(rt; decode_move([0x05, 0x05, 0x07]), at(121, 0));
+    assert_eq!(rt; decode_move([0x50, 0x50, 0x13]), at(0, 121));
+    assert_eq!(rt; decode_move([0x82, 0x41, 0x83]), at(2, 2));
     assert_eq!(rt; encode_move(121, 0), [0x05, 0x05, 0x07]);
     assert_eq!(rt; encode_move(0, 121), [0x50, 0x50, 0x13]);
     assert_eq!(rt; encode_move(-121, 0), [0x0A, 0x0A, 0x0B]);

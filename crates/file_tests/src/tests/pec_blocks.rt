@@ -1,9 +1,10 @@
 ghost use Rattle.std.specs.Prelude.{◌≡◌, IsOk, false};
 
-use crate::feeding::{SIZES, parts};
-use crate::large_designs::{compare_large, large, stops};
+use super::feeding::{SIZES, compare_parts};
+use super::large_designs::{compare_large, floating, stops};
 use design_model::{Command, Point};
-use format_traits::{Fed, Loaded, MAX_FED, ReadFault, WriteFault};
+use format_traits::ReadFault::{self, Range, Short};
+use format_traits::{Fed, Loaded, MAX_FED, WriteFault};
 use lists_and_numbers::{Bytes, Memory};
 use pec_codec::{BlockReader, read_block, write_block};
 use std::alloc::Global;
@@ -61,12 +62,7 @@ fn read(rt: &impl Abort, alloc: Global, bytes: &[u8], at: u32) -> Result<Loaded,
         for piece in block.chunks(size) {
             reader.feed(rt, piece)?;
         }
-        let fed = reader.finish();
-        assert_eq!(rt;
-            fed.as_ref().map(parts),
-            whole.as_ref().map(parts),
-            "pieces of {size}"
-        );
+        compare_parts(rt, size, &reader.finish(), &whole);
     }
     whole
 }
@@ -98,8 +94,8 @@ fn a_design_of_three_blocks_is_written(rt: HostRuntime) -> Result<(), Fail> {
         Command::Stop,
         at(125, -63),
     ];
-    let design = design_of(alloc, &commands).ok().ok_or("no design")?;
-    let block = write_block(alloc, &design).ok().ok_or("not written")?;
+    let design = design_of(alloc, &commands)?;
+    let block = write_block(alloc, &design)?;
     let bytes = block.as_slice();
     assert_eq!(rt; bytes.len(), 528 + 19 + 4 * 228);
     assert_eq!(rt; &bytes[48..53], [2, 1, 2, 3, b' '].as_slice());
@@ -116,7 +112,7 @@ fn a_design_of_three_blocks_is_written(rt: HostRuntime) -> Result<(), Fail> {
 fn a_block_is_read_at_its_offset(rt: HostRuntime) -> Result<(), Fail> {
     let alloc = rt.alloc();
     let file = file_of(alloc, 1, &[0x00, 0x00, 0x81, 0xF4, 0x80, 0x00, 0xFF])?;
-    let loaded = read(&rt, alloc, file.as_slice(), 1).ok().ok_or("not read")?;
+    let loaded = read(&rt, alloc, file.as_slice(), 1)?;
     assert_eq!(rt; loaded.ended, true);
     assert_eq!(rt; loaded.design.commands(), [at(0, 0), at(500, 0)].as_slice());
     assert_eq!(rt; loaded.design.threads().len(), 33);
@@ -128,26 +124,14 @@ fn a_block_is_read_at_its_offset(rt: HostRuntime) -> Result<(), Fail> {
 fn a_block_is_refused_at_its_first_fault(rt: HostRuntime) -> Result<(), Fail> {
     let alloc = rt.alloc();
     let bytes = block_of(alloc, &[0x87, 0xFF, 0x00])?;
-    for (start, short) in [
-        (3, None),
-        (4, Some(531)),
-        (18_446_744_073_709_551_615, Some(531)),
-    ] {
-        let fault = match short {
-            Some(at) => Some(ReadFault::Short { at }),
-            None => None,
-        };
-        assert_eq!(rt;
-            read_block(alloc, bytes.as_slice(), start).err(),
-            fault,
-            "{start}"
-        );
+    let short = Some(Short { at: 531 });
+    for (start, fault) in [(3, None), (4, short), (u64::MAX, short)] {
+        let found = read_block(alloc, bytes.as_slice(), start).err();
+        assert_eq!(rt; found, fault, "{start}");
     }
     let far = block_of(alloc, [[0x87, 0xFF, 0x00]; 15].as_flattened())?;
-    assert_eq!(rt;
-        read(&rt, alloc, far.as_slice(), 0).err(),
-        Some(ReadFault::Range { at: 528 + 14 * 3 })
-    );
+    let fault = read(&rt, alloc, far.as_slice(), 0).err();
+    assert_eq!(rt; fault, Some(Range { at: 528 + 14 * 3 }));
     Ok(())
 }
 
@@ -170,9 +154,10 @@ fn a_block_is_read_and_refused_wherever_it_begins(rt: HostRuntime) -> Result<(),
         }
         let front = repeated(alloc, b"", b"\x07", start, b"")?;
         let short = repeated(alloc, front.as_slice(), b" ", 527, b"")?;
+        let fault = read(&rt, alloc, short.as_slice(), start).err();
         assert_eq!(rt;
-            read(&rt, alloc, short.as_slice(), start).err(),
-            Some(ReadFault::Short {
+            fault,
+            Some(Short {
                 at: start as u64 + 527
             })
         );
@@ -191,12 +176,8 @@ fn a_point_out_of_range_leaves_the_commands_before_it(rt: HostRuntime) -> Result
             reader.feed(&rt, piece)?;
             assert_eq!(rt; reader.reader.so_far().len(), 14);
         }
-        assert_eq!(rt;
-            reader.finish().err(),
-            Some(ReadFault::Range {
-                at: start as u64 + 570
-            })
-        );
+        let at = start as u64 + 570;
+        assert_eq!(rt; reader.finish().err(), Some(Range { at }));
     }
     Ok(())
 }
@@ -215,11 +196,9 @@ fn a_design_of_255_stops_is_refused_at_the_last(rt: HostRuntime) -> Result<(), F
 #[test]
 fn a_large_design_reads_again(rt: HostRuntime) -> Result<(), Fail> {
     let alloc = rt.alloc();
-    let design = large(alloc, 7)?;
-    let block = write_block(alloc, &design).ok().ok_or("not written")?;
-    let loaded = read(&rt, alloc, block.as_slice(), 0)
-        .ok()
-        .ok_or("not read")?;
+    let design = floating(alloc, 7)?;
+    let block = write_block(alloc, &design)?;
+    let loaded = read(&rt, alloc, block.as_slice(), 0)?;
     compare_large(&rt, &loaded, b"Rose of Damascus", &[9, 200, 64, 4]);
     Ok(())
 }

@@ -1,8 +1,9 @@
-use crate::feeding::{feed, read_all, written};
-use crate::large_designs::{compare_large, large};
+use super::feeding::{feed, read_all, written};
+use super::large_designs::{compare_large, floating};
 use crate::square;
 use design_model::{Command, Design, ModelFault, Point};
-use format_traits::{Format, Loaded, ReadFault};
+use format_traits::ReadFault::{self, Short, Signature};
+use format_traits::{Format, Loaded};
 use lists_and_numbers::{Bytes, Memory};
 use pes_codec::{Pec, Pes};
 use std::alloc::Global;
@@ -23,17 +24,6 @@ const RECORDS: [u8; 15] = [
     0x00, 0x00, 0x1E, 0x00, 0x00, 0x1E, 0x62, 0x00, 0x00, 0x62, 0xA0, 0x00, 0xA0, 0x00, 0xFF,
 ];
 
-/// The commands of the records of the square.
-const READ: [Command; 7] = [
-    Command::Stitch(Point { x: 0, y: 0 }),
-    Command::Stitch(Point { x: 30, y: 0 }),
-    Command::Stitch(Point { x: 30, y: 30 }),
-    Command::Stitch(Point { x: 0, y: 30 }),
-    Command::Stitch(Point { x: 0, y: 0 }),
-    Command::Trim,
-    Command::Jump(Point { x: 0, y: 0 }),
-];
-
 fn at(x: i32, y: i32) -> Command {
     Command::Stitch(Point { x, y })
 }
@@ -45,21 +35,37 @@ fn square_in_5(alloc: Global) -> Result<Design, ModelFault> {
     Ok(design)
 }
 
+/// Compares the file of the square with its length and with bytes at some offsets, and what is read of it.
+fn compare_square(
+    rt: &impl Abort,
+    file: &[u8],
+    length: usize,
+    parts: &[(usize, &[u8])],
+    loaded: &Loaded,
+) {
+    assert_eq!(rt; file.len(), length);
+    for (offset, part) in parts {
+        let (_, rest) = file.split_at_checked(*offset).unwrap_or((file, &[]));
+        assert!(rt; rest.starts_with(part), "at {offset}");
+    }
+    assert_eq!(rt; loaded.ended, true);
+    assert_eq!(rt; loaded.design.threads(), [5].as_slice());
+}
+
 #[test]
 fn a_square_is_written_and_read_as_pec(rt: HostRuntime) -> Result<(), Fail> {
     let alloc = rt.alloc();
-    let design = square_in_5(alloc).ok().ok_or("no design")?;
+    let design = square_in_5(alloc)?;
     let file = written(&Pec::new(alloc), alloc, &design)?;
-    let bytes = file.as_slice();
-    assert_eq!(rt; bytes.len(), 1007);
-    assert_eq!(rt; &bytes[..11], b"#PEC0001LA:".as_slice());
-    assert_eq!(rt; &bytes[56..59], [0, 5, b' '].as_slice());
-    assert_eq!(rt; &bytes[522..525], [0x1F, 0, 0].as_slice());
-    assert_eq!(rt; &bytes[528..532], [0x1E, 0, 0x1E, 0].as_slice());
-    assert_eq!(rt; &bytes[536..551], RECORDS.as_slice());
-    let loaded = read_pec(&rt, alloc, bytes).ok().ok_or("not read")?;
-    assert_eq!(rt; loaded.ended, true);
-    assert_eq!(rt; loaded.design.threads(), [5].as_slice());
+    let parts: [(usize, &[u8]); 5] = [
+        (0, b"#PEC0001LA:"),
+        (56, &[0, 5, b' ']),
+        (522, &[0x1F, 0, 0]),
+        (528, &[0x1E, 0, 0x1E, 0]),
+        (536, &RECORDS),
+    ];
+    let loaded = read_pec(&rt, alloc, file.as_slice())?;
+    compare_square(&rt, file.as_slice(), 1_007, &parts, &loaded);
     assert_eq!(rt; loaded.design.commands().len(), 7);
     Ok(())
 }
@@ -67,41 +73,32 @@ fn a_square_is_written_and_read_as_pec(rt: HostRuntime) -> Result<(), Fail> {
 #[test]
 fn a_square_is_written_and_read_as_pes(rt: HostRuntime) -> Result<(), Fail> {
     let alloc = rt.alloc();
-    let design = square_in_5(alloc).ok().ok_or("no design")?;
+    let design = square_in_5(alloc)?;
     let file = written(&Pes::new(alloc), alloc, &design)?;
-    let bytes = file.as_slice();
-    assert_eq!(rt; bytes.len(), 1021);
-    assert_eq!(rt; &bytes[..12], b"#PES0001\x16\x00\x00\x00".as_slice());
-    assert_eq!(rt; &bytes[550..565], RECORDS.as_slice());
-    let loaded = read_pes(&rt, alloc, bytes).ok().ok_or("not read")?;
-    assert_eq!(rt; loaded.ended, true);
-    assert_eq!(rt; loaded.design.threads(), [5].as_slice());
+    let parts: [(usize, &[u8]); 2] = [(0, b"#PES0001\x16\x00\x00\x00"), (550, &RECORDS)];
+    let loaded = read_pes(&rt, alloc, file.as_slice())?;
+    compare_square(&rt, file.as_slice(), 1_021, &parts, &loaded);
     Ok(())
 }
 
 #[test]
 fn files_are_refused_by_signature_and_length(rt: HostRuntime) -> Result<(), Fail> {
     let alloc = rt.alloc();
-    let cases = [
-        (b"#PAC0001".as_slice(), ReadFault::Signature { at: 0 }),
-        (b"#PE".as_slice(), ReadFault::Signature { at: 0 }),
-        (b"#PES0001".as_slice(), ReadFault::Short { at: 8 }),
-        (
-            b"#PES0001\xFF\xFF\xFF\xFF".as_slice(),
-            ReadFault::Short { at: 12 },
-        ),
+    let cases: [(&[u8], ReadFault); 4] = [
+        (b"#PAC0001", Signature { at: 0 }),
+        (b"#PE", Signature { at: 0 }),
+        (b"#PES0001", Short { at: 8 }),
+        (b"#PES0001\xFF\xFF\xFF\xFF", Short { at: 12 }),
     ];
     for (bytes, fault) in cases {
         assert_eq!(rt; read_pes(&rt, alloc, bytes).err(), Some(fault), "{bytes:?}");
     }
-    assert_eq!(rt;
-        read_pec(&rt, alloc, b"#PAC0001").err(),
-        Some(ReadFault::Signature { at: 0 })
-    );
-    assert_eq!(rt;
-        read_pec(&rt, alloc, b"#PEC0001").err(),
-        Some(ReadFault::Short { at: 8 })
-    );
+    for (bytes, fault) in [
+        (b"#PAC0001", Signature { at: 0 }),
+        (b"#PEC0001", Short { at: 8 }),
+    ] {
+        assert_eq!(rt; read_pec(&rt, alloc, bytes).err(), Some(fault), "{bytes:?}");
+    }
     Ok(())
 }
 
@@ -117,20 +114,22 @@ const FAR: [[u8; 3]; 15] = [[0x87, 0xFF, 0x00]; 15];
 #[test]
 fn a_block_is_read_and_refused_wherever_it_begins(rt: HostRuntime) -> Result<(), Fail> {
     let alloc = rt.alloc();
+    let mut expected = square(alloc)?;
+    expected.push(Command::Jump(Point { x: 0, y: 0 }))?;
     for (front, filler, range) in [
         (b"#PES0001\x16\x00\x00\x00".as_slice(), 10, 592),
         (b"#PES0001\x58\x02\x00\x00".as_slice(), 588, 1_170),
     ] {
         let sound = file_of(alloc, front, filler, &RECORDS)?;
         let loaded = read_pes(&rt, alloc, sound.as_slice())?;
-        assert_eq!(rt; loaded.design.commands(), READ.as_slice());
+        assert_eq!(rt; loaded.design.commands(), expected.commands());
         let faulty = file_of(alloc, front, filler, FAR.as_flattened())?;
         let fault = read_pes(&rt, alloc, faulty.as_slice()).err();
         assert_eq!(rt; fault, Some(ReadFault::Range { at: range }));
     }
     let cut = file_of(alloc, b"#PES0001\xE8\x03\x00\x00", 10, &RECORDS)?;
     let fault = read_pes(&rt, alloc, cut.as_slice()).err();
-    assert_eq!(rt; fault, Some(ReadFault::Short { at: 565 }));
+    assert_eq!(rt; fault, Some(Short { at: 565 }));
     Ok(())
 }
 
@@ -152,9 +151,7 @@ fn a_block_may_begin_in_the_front_of_its_file(rt: HostRuntime) -> Result<(), Fai
     let alloc = rt.alloc();
     let front = b"#PES0001\x00\x00\x00\x00";
     let file = repeated(alloc, front, b" ", 516, &[0x00, 0x00, 0xFF])?;
-    let loaded = read_pes(&rt, alloc, file.as_slice())
-        .ok()
-        .ok_or("not read")?;
+    let loaded = read_pes(&rt, alloc, file.as_slice())?;
     assert_eq!(rt; loaded.design.commands(), [at(0, 0)].as_slice());
     assert_eq!(rt; loaded.design.threads(), [32; 33].as_slice());
     assert_eq!(rt; loaded.design.label(), [].as_slice());
@@ -165,7 +162,7 @@ fn a_block_may_begin_in_the_front_of_its_file(rt: HostRuntime) -> Result<(), Fai
 #[test]
 fn a_large_design_reads_again_at_any_offset(rt: HostRuntime) -> Result<(), Fail> {
     let alloc = rt.alloc();
-    let design = large(alloc, 7)?;
+    let design = floating(alloc, 7)?;
     let pes = written(&Pes::new(alloc), alloc, &design)?;
     let pec = written(&Pec::new(alloc), alloc, &design)?;
     let block = pec.as_slice().get(8..).ok_or("no block")?;

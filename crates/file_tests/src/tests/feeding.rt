@@ -17,8 +17,22 @@ pub fn feed<F: Format>(rt: &impl Abort, format: &mut F, piece: &[u8]) -> Result<
     format.feed(piece)
 }
 
+/// Compares what was read of chunks of one size with what was read at once.
+pub fn compare_parts(
+    rt: &impl Abort,
+    size: usize,
+    fed: &Result<Loaded, ReadFault>,
+    whole: &Result<Loaded, ReadFault>,
+) {
+    assert_eq!(rt;
+        fed.as_ref().map(parts),
+        whole.as_ref().map(parts),
+        "pieces of {size}"
+    );
+}
+
 /// Returns the label, the threads, the commands and the end of a loaded design.
-pub fn parts(loaded: &Loaded) -> (&[u8], &[u8], &[Command], bool) {
+fn parts(loaded: &Loaded) -> (&[u8], &[u8], &[Command], bool) {
     let design = &loaded.design;
     (
         design.label(),
@@ -42,26 +56,28 @@ pub fn read_all<F: Format>(
             feed(rt, format, piece)?;
         }
         assert_eq!(rt; format.taken(), bytes.len() as u64);
-        let fed = format.finish();
-        assert_eq!(rt;
-            fed.as_ref().map(parts),
-            whole.as_ref().map(parts),
-            "pieces of {size}"
-        );
+        compare_parts(rt, size, &format.finish(), &whole);
     }
     whole
 }
 
-/// Feeds bytes one by one, and compares the number of commands after each byte with the number beside it.
+/// Feeds bytes one by one, and compares the number of commands after each byte with the number at its index, and then
+/// the number of all bytes and the refusal of the file.
 pub fn compare_counts<F: Format>(
     rt: &impl Abort,
     format: &mut F,
-    cases: &[(u8, usize)],
+    bytes: &[u8],
+    counts: &[usize],
+    taken: u64,
+    fault: ReadFault,
 ) -> Result<(), Memory> {
-    for (byte, count) in cases {
+    assert_eq!(rt; bytes.len(), counts.len());
+    for (byte, count) in bytes.iter().zip(counts.iter()) {
         feed(rt, format, &[*byte])?;
         assert_eq!(rt; format.so_far().len(), *count, "{} bytes", format.taken());
     }
+    assert_eq!(rt; format.taken(), taken);
+    assert_eq!(rt; format.finish().err(), Some(fault));
     Ok(())
 }
 

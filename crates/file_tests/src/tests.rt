@@ -1,0 +1,9 @@
+mod dst_files;
+mod exp_files;
+mod feeding;
+mod labels;
+mod large_designs;
+mod list_chunks;
+mod lists;
+mod pec_blocks;
+mod pes_files;
