@@ -2,22 +2,8 @@
 //! lifting needs.
 #![tactic(auto)]
 
-#[cfg(test)]
-mod cert_parts;
-#[cfg(test)]
-mod cert_texts;
-#[cfg(test)]
-mod cut_checks;
-#[cfg(test)]
-mod double_walks;
-#[cfg(test)]
-mod lifts;
 mod moat_checks;
 #[cfg(test)]
-mod routes;
-#[cfg(test)]
-mod tours;
-#[cfg(test)]
-mod verdicts;
+mod tests;
 
 pub use moat_checks::keep_loads;

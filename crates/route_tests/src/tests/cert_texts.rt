@@ -6,7 +6,6 @@ use line_graph::Pass;
 use lists_and_numbers::{Bytes, Memory};
 use odd_cuts::Cert;
 use std::alloc::Global;
-use std::process::Abort;
 use std::test::Fail;
 use test_values::repeated;
 
@@ -54,73 +53,82 @@ fn the_first_line_and_the_last_line_have_one_spelling(rt: HostRuntime) {
     }
 }
 
-/// For each text after a first line, the number of the first bad line, or 0 where there is none.
-fn tells_each(rt: &impl Abort, alloc: Global, table: &[(&str, u32)]) -> Result<(), Fail> {
-    for (rest, number) in table {
-        let text = repeated(alloc, b"redwork-certificate 1\n", rest.as_bytes(), 1, b"")
-            .ok()
-            .ok_or("no memory")?;
-        assert!(rt; bad_line(alloc, text.as_slice()) == Some(*number), "{rest}");
+/// Texts after a first line, by the number of their first bad line, or 0 where there is none.
+const FOLLOWING: [(u32, &[&str]); 5] = [
+    (
+        0,
+        &[
+            "piece 0\nwalk 1\ncut 1\nend\n",
+            "piece 4294967295\nwalk -4294967295\ncut 4294967295 4294967295\nend\n",
+        ],
+    ),
+    (
+        2,
+        &[
+            "piece 01\nwalk 1\nend\n",
+            "piece 4294967296\nwalk 1\nend\n",
+            "piece 99999999999999999999999999999999\nwalk 1\nend\n",
+            "piece -1\nwalk 1\nend\n",
+            "piece  0\nwalk 1\nend\n",
+            "piece 0 0\nwalk 1\nend\n",
+            "piece\nwalk 1\nend\n",
+            "walk 1\nend\n",
+            "cut 1 1\nend\n",
+        ],
+    ),
+    (
+        3,
+        &[
+            "piece 0\nend\n",
+            "piece 0\npiece 0\nwalk 1\nend\n",
+            "piece 0\ncut 1 1\nwalk 1\nend\n",
+            "piece 0\nwalk\nend\n",
+            "piece 0\nwalk \nend\n",
+            "piece 0\nwalk 0\nend\n",
+            "piece 0\nwalk -0\nend\n",
+            "piece 0\nwalk -\nend\n",
+            "piece 0\nwalk 1  2\nend\n",
+            "piece 0\nwalk 1 2 \nend\n",
+            "piece 0\nwalk 1\t2\nend\n",
+            "piece 0\nwalk 1\r\nend\n",
+            "piece 0\nwalk 4294967296\nend\n",
+            "piece 0\nwalk 1",
+        ],
+    ),
+    (
+        4,
+        &[
+            "piece 0\nwalk 1\n",
+            "piece 0\nwalk 1\nwalk 1\nend\n",
+            "piece 0\nwalk 1\ncut\nend\n",
+            "piece 0\nwalk 1\ncut 0 1\nend\n",
+            "piece 0\nwalk 1\ncut 1 2 1\nend\n",
+            "piece 0\nwalk 1\ncut 1 1 1\nend\n",
+            "piece 0\nwalk 1\ncut 1 0\nend\n",
+            "piece 0\nwalk 1\nCut 1 1\nend\n",
+        ],
+    ),
+    (6, &["piece 0\nwalk 1\ncut 1\npiece 1\nend\n"]),
+];
+
+#[test]
+fn the_first_line_that_does_not_fit_is_told(rt: HostRuntime) -> Result<(), Fail> {
+    for (number, texts) in FOLLOWING {
+        for rest in texts {
+            let text = repeated(
+                rt.alloc(),
+                b"redwork-certificate 1\n",
+                rest.as_bytes(),
+                1,
+                b"",
+            )?;
+            assert!(rt;
+                bad_line(rt.alloc(), text.as_slice()) == Some(number),
+                "{rest}"
+            );
+        }
     }
     Ok(())
-}
-
-#[test]
-fn the_first_line_that_is_no_piece_is_told(rt: HostRuntime) -> Result<(), Fail> {
-    let table = [
-        ("piece 01\nwalk 1\nend\n", 2),
-        ("piece 4294967296\nwalk 1\nend\n", 2),
-        ("piece 99999999999999999999999999999999\nwalk 1\nend\n", 2),
-        ("piece -1\nwalk 1\nend\n", 2),
-        ("piece  0\nwalk 1\nend\n", 2),
-        ("piece 0 0\nwalk 1\nend\n", 2),
-        ("piece\nwalk 1\nend\n", 2),
-        ("walk 1\nend\n", 2),
-        ("cut 1 1\nend\n", 2),
-    ];
-    tells_each(&rt, rt.alloc(), &table)
-}
-
-#[test]
-fn the_first_line_of_a_walk_that_does_not_fit_is_told(rt: HostRuntime) -> Result<(), Fail> {
-    let table = [
-        ("piece 0\nend\n", 3),
-        ("piece 0\npiece 0\nwalk 1\nend\n", 3),
-        ("piece 0\ncut 1 1\nwalk 1\nend\n", 3),
-        ("piece 0\nwalk\nend\n", 3),
-        ("piece 0\nwalk \nend\n", 3),
-        ("piece 0\nwalk 0\nend\n", 3),
-        ("piece 0\nwalk -0\nend\n", 3),
-        ("piece 0\nwalk -\nend\n", 3),
-        ("piece 0\nwalk 1  2\nend\n", 3),
-        ("piece 0\nwalk 1 2 \nend\n", 3),
-        ("piece 0\nwalk 1\t2\nend\n", 3),
-        ("piece 0\nwalk 1\r\nend\n", 3),
-        ("piece 0\nwalk 4294967296\nend\n", 3),
-        ("piece 0\nwalk 1", 3),
-    ];
-    tells_each(&rt, rt.alloc(), &table)
-}
-
-#[test]
-fn the_first_line_behind_a_walk_that_does_not_fit_is_told(rt: HostRuntime) -> Result<(), Fail> {
-    let table = [
-        ("piece 0\nwalk 1\n", 4),
-        ("piece 0\nwalk 1\nwalk 1\nend\n", 4),
-        ("piece 0\nwalk 1\ncut\nend\n", 4),
-        ("piece 0\nwalk 1\ncut 0 1\nend\n", 4),
-        ("piece 0\nwalk 1\ncut 1 2 1\nend\n", 4),
-        ("piece 0\nwalk 1\ncut 1 1 1\nend\n", 4),
-        ("piece 0\nwalk 1\ncut 1 0\nend\n", 4),
-        ("piece 0\nwalk 1\nCut 1 1\nend\n", 4),
-        ("piece 0\nwalk 1\ncut 1\npiece 1\nend\n", 6),
-        ("piece 0\nwalk 1\ncut 1\nend\n", 0),
-        (
-            "piece 4294967295\nwalk -4294967295\ncut 4294967295 4294967295\nend\n",
-            0,
-        ),
-    ];
-    tells_each(&rt, rt.alloc(), &table)
 }
 
 const TWO_PIECES: &str = "redwork-certificate 1

@@ -2,7 +2,7 @@ use Rattle.std.proofs.Common.{List, refl, subst, sym, ℕ, ◌∙◌}
 use Rattle.line_graph.specs.PiecesOfDrawings.{graph_of}
 use Rattle.odd_paths.specs.LeastRows.{AreTerminals}
 use Rattle.route_tests.proofs.LiftableMoats.{moats_are}
-use Rattle.route_tests.proofs.lifts.lifted.Goals as goal
+use Rattle.route_tests.proofs.tests.lifts.lifted.Goals as goal
 use Rattle.odd_paths.proofs.CallerLemmas.{odds_are_terminals}
 
 pub rows-requires : goal.rows-requires

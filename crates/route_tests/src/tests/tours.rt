@@ -7,6 +7,7 @@ use euler_tour::tour;
 use line_graph::{Edge, Pass, Piece};
 use lists_and_numbers::{Items, Memory};
 use std::alloc::Global;
+use std::process::Abort;
 use std::test::Fail;
 
 fn edge(cost: u32) -> Edge
@@ -42,38 +43,29 @@ fn piece(alloc: Global, start: Option<u32>, end: Option<u32>) -> Result<Piece, M
     })
 }
 
-fn passes(walk: &[Pass]) -> [(u32, bool); 4] {
-    let mut told = [(9, false); 4];
-    for (k, pass) in walk.iter().enumerate() {
-        if k < 4 {
-            told[k] = (pass.line, pass.back);
-        }
+/// Compares the lines of the passes, and whether they are backwards, with the expected ones.
+fn compare(rt: &impl Abort, walk: &[Pass], wanted: &[(u32, bool)]) {
+    assert_eq!(rt; walk.len(), wanted.len());
+    for (pass, wanted) in walk.iter().zip(wanted.iter()) {
+        assert_eq!(rt; (pass.line, pass.back), *wanted);
     }
-    told
 }
 
 #[test]
 fn a_closed_walk_begins_with_the_first_line_and_passes_it_again(
     rt: HostRuntime,
 ) -> Result<(), Fail> {
-    let p = piece(rt.alloc(), None, None).ok().ok_or("no memory")?;
-    let walk = tour(rt.alloc(), &p, &[1, 0, 0]).ok().ok_or("no memory")?;
-    assert_eq!(rt; walk.len(), 4);
-    assert_eq!(rt;
-        passes(walk.as_slice()),
-        [(0, false), (0, true), (1, false), (2, true)]
-    );
+    let p = piece(rt.alloc(), None, None)?;
+    let walk = tour(rt.alloc(), &p, &[1, 0, 0])?;
+    let wanted = [(0, false), (0, true), (1, false), (2, true)];
+    compare(&rt, walk.as_slice(), &wanted);
     Ok(())
 }
 
 #[test]
 fn an_open_walk_leads_from_start_to_end(rt: HostRuntime) -> Result<(), Fail> {
-    let p = piece(rt.alloc(), Some(1), Some(0)).ok().ok_or("no memory")?;
-    let walk = tour(rt.alloc(), &p, &[0, 0, 0]).ok().ok_or("no memory")?;
-    assert_eq!(rt; walk.len(), 3);
-    assert_eq!(rt;
-        passes(walk.as_slice()),
-        [(0, true), (1, false), (2, true), (9, false)]
-    );
+    let p = piece(rt.alloc(), Some(1), Some(0))?;
+    let walk = tour(rt.alloc(), &p, &[0, 0, 0])?;
+    compare(&rt, walk.as_slice(), &[(0, true), (1, false), (2, true)]);
     Ok(())
 }

@@ -1,15 +1,14 @@
 ghost use Rattle.std.specs.Prelude.{◌+◌, ◌≤◌, IfOk, OnOk, length};
 ghost use Rattle.odd_cuts.specs.CutFaults.{HaveNumberedMembers};
 
-use crate::cert_parts::{members_of, pass_of};
-use drawing_text::{MAX_TEXT, read_drawing};
+use super::cert_parts::{members_of, pass_of};
+use super::routes::drawing_of;
 use line_graph::{Pass, Piece, Pieces, pieces};
 use lists_and_numbers::Memory;
 use odd_cuts::{Cut, CutFault, Cuts, WalkFault, check_cuts, check_walk};
 use std::alloc::Global;
 use std::process::Abort;
 use std::test::Fail;
-use test_values::repeated;
 
 /// The lines 1, 3 and 6 from one junction to the others, the last of them towards it. The lines between them
 /// are in another piece.
@@ -38,13 +37,7 @@ line 30 30 0 30
 
 /// Returns the pieces of the drawing of a text and a few more lines.
 fn pieces_of(alloc: Global, text: &str, more: &str) -> Result<Pieces, Fail> {
-    let text = repeated(alloc, text.as_bytes(), b"", 0, more.as_bytes())?;
-    if text.len() > MAX_TEXT {
-        return Err("a long text".into());
-    }
-    let d = read_drawing(alloc, text.as_slice())
-        .ok()
-        .ok_or("no drawing")?;
+    let d = drawing_of(alloc, text, more)?;
     Ok(pieces(alloc, &d)?)
 }
 
@@ -181,7 +174,7 @@ fn says_each(
     let star = pieces_of(alloc, STAR, "")?;
     let p = first_of(&star)?;
     for (table, says) in cases {
-        let answer = said(alloc, p, 6, *table).ok().ok_or("no memory")?;
+        let answer = said(alloc, p, 6, *table)?;
         assert_eq!(rt; answer, *says);
     }
     Ok(())
@@ -253,12 +246,9 @@ fn start_and_end_are_odd_no_more(rt: HostRuntime) -> Result<(), Fail> {
     let star = pieces_of(rt.alloc(), STAR, "start 20 0\nend 0 10\n")?;
     let p = first_of(&star)?;
     let third = said(rt.alloc(), p, 3, [THIRD, NONE, NONE, NONE]);
-    assert_eq!(rt; third.ok().ok_or("no memory")?, Ok(()));
+    assert_eq!(rt; third?, Ok(()));
     let end = said(rt.alloc(), p, 3, [(6, [4, 0, 0]), NONE, NONE, NONE]);
-    assert_eq!(rt;
-        end.ok().ok_or("no memory")?,
-        Err(CutFault::EvenCut { cut: 1, odd: 0 })
-    );
+    assert_eq!(rt; end?, Err(CutFault::EvenCut { cut: 1, odd: 0 }));
     Ok(())
 }
 
@@ -266,29 +256,18 @@ fn start_and_end_are_odd_no_more(rt: HostRuntime) -> Result<(), Fail> {
 fn halves_at_four_junctions_are_a_packing(rt: HostRuntime) -> Result<(), Fail> {
     let complete = pieces_of(rt.alloc(), COMPLETE, "")?;
     let p = first_of(&complete)?;
-    let halves = [
-        (1, [1, 0, 0]),
-        (1, [2, 0, 0]),
-        (1, [3, 0, 0]),
-        (1, [4, 0, 0]),
-    ];
-    assert_eq!(rt;
-        said(rt.alloc(), p, 2, halves).ok().ok_or("no memory")?,
-        Ok(())
-    );
-    let whole = [
-        (2, [1, 0, 0]),
-        (1, [2, 0, 0]),
-        (1, [3, 0, 0]),
-        (0, [0, 0, 0]),
-    ];
-    assert_eq!(rt;
-        said(rt.alloc(), p, 2, whole).ok().ok_or("no memory")?,
-        Err(CutFault::Overload {
-            line: 1,
-            load: 3,
-            allowed: 2
-        })
-    );
+    let others = [(1, [2, 0, 0]), (1, [3, 0, 0])];
+    let overload = CutFault::Overload {
+        line: 1,
+        load: 3,
+        allowed: 2,
+    };
+    for (first, last, says) in [
+        ((1, [1, 0, 0]), (1, [4, 0, 0]), Ok(())),
+        ((2, [1, 0, 0]), NONE, Err(overload)),
+    ] {
+        let cuts = [first, others[0], others[1], last];
+        assert_eq!(rt; said(rt.alloc(), p, 2, cuts)?, says);
+    }
     Ok(())
 }

@@ -1,5 +1,5 @@
 use Rattle.std.proofs.Common.{◌<◌, ◌+◌, ◌^◌, All}
-use Rattle.route_tests.proofs.cert_parts.members_of.Given as goal
+use Rattle.route_tests.proofs.tests.cert_parts.members_of.Given as goal
 
 -- the members so far
 abbrev pub invariant-loop-number : goal.invariant-loop-number

@@ -1,5 +1,5 @@
 use Rattle.route_tests.proofs.TreeFacts.{keeps_tree}
-use Rattle.route_tests.proofs.lifts.tree.Goals as goal
+use Rattle.route_tests.proofs.tests.lifts.tree.Goals as goal
 
 pub invariant_of-result : goal.invariant_of-result
 invariant_of-result c =

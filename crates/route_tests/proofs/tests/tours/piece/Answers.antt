@@ -1,5 +1,5 @@
 use Rattle.route_tests.proofs.LensFacts.{keeps_between}
-use Rattle.route_tests.proofs.tours.piece.Goals as goal
+use Rattle.route_tests.proofs.tests.tours.piece.Goals as goal
 
 pub invariant_of-result : goal.invariant_of-result
 invariant_of-result c =

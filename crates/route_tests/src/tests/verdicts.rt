@@ -1,7 +1,7 @@
 ghost use Rattle.std.specs.Prelude.{◌≤◌, All, IfOk, length};
 ghost use Rattle.route_verdict.specs.Verdicts.{HasShortLists};
 
-use crate::cert_parts::{members_of, pass_of};
+use super::cert_parts::{members_of, pass_of};
 use design_model::{Command, Design, ModelFault, Point};
 use drawing_model::{DrawKind, Drawing, DrawingMaker};
 use drawing_tests::points_of;
@@ -159,14 +159,10 @@ fn the_first_thing_that_is_wrong_is_told(rt: HostRuntime) -> Result<(), Fail> {
         ((4, [-1, 1], 8, [2, 0]), no(Reason::Acts { number: 1 })),
     ];
     for (said, says) in cases {
-        let given = verdict(rt.alloc(), &d, &design, &[said])
-            .ok()
-            .ok_or("no memory")?;
+        let given = verdict(rt.alloc(), &d, &design, &[said])?;
         assert!(rt; given == says, "{said:?}");
     }
-    let none = verdict(rt.alloc(), &d, &design, &[])
-        .ok()
-        .ok_or("no memory")?;
+    let none = verdict(rt.alloc(), &d, &design, &[])?;
     assert!(rt; none == no(Reason::Pieces { found: 0, drawn: 1 }));
     Ok(())
 }
@@ -210,9 +206,7 @@ fn the_first_act_that_differs_is_told(rt: HostRuntime) -> Result<(), Fail> {
     ];
     for (commands, says) in cases {
         let design = design_of(rt.alloc(), &commands)?;
-        let given = verdict(rt.alloc(), &d, &design, &[said])
-            .ok()
-            .ok_or("no memory")?;
+        let given = verdict(rt.alloc(), &d, &design, &[said])?;
         assert!(rt; given == says, "{commands:?}");
     }
     Ok(())
@@ -253,9 +247,7 @@ fn the_second_piece_is_judged_by_its_own_lines(rt: HostRuntime) -> Result<(), Fa
         ((2, [2, -2], 4, [1, 0]), no(Reason::Acts { number: 6 })),
     ];
     for (second, says) in cases {
-        let given = verdict(rt.alloc(), &d, &design, &[first, second])
-            .ok()
-            .ok_or("no memory")?;
+        let given = verdict(rt.alloc(), &d, &design, &[first, second])?;
         assert!(rt; given == says, "{second:?}");
     }
     Ok(())

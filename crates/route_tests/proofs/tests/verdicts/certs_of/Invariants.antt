@@ -1,6 +1,6 @@
 use Rattle.std.proofs.Common.{◌≤◌, All, length}
 use Rattle.route_verdict.specs.Verdicts.{HasShortLists}
-use Rattle.route_tests.proofs.verdicts.certs_of.Given as goal
+use Rattle.route_tests.proofs.tests.verdicts.certs_of.Given as goal
 
 -- the certificates so far
 abbrev pub invariant-loop-said : goal.invariant-loop-said
