@@ -2,6 +2,7 @@
 use crate::running::run;
 use exp_codec::Exp;
 use format_traits::Format;
+use memchr::memmem;
 use outside_io::{MemSink, MemStore};
 use program_shell::Status;
 use std::alloc::Global;
@@ -142,19 +143,10 @@ fn each_picture_has_its_parts(rt: HostRuntime) -> Result<(), Fail> {
         answer(rt.alloc(), words, &mut store, &mut out, &mut err)?;
         let picture = store.file("a.svg").unwrap_or(b"");
         for part in parts {
-            assert!(rt; has(picture, part), "{words:?} {part:?}");
+            assert!(rt; memmem::find(picture, part).is_some(), "{words:?} {part:?}");
         }
     }
     Ok(())
-}
-
-fn has(text: &[u8], part: &[u8]) -> bool {
-    for start in 0..text.len() {
-        if text[start..].starts_with(part) {
-            return true;
-        }
-    }
-    false
 }
 
 /// Returns a store with a design, a drawing with two certificates, a bad file, and room for pictures.
