@@ -145,6 +145,10 @@ one_slack t h s c a b i bd lb ha none apart = by_count (count b (outer_vertices 
 abbrev apart_of : ℕ → ℕ → OddSetValue → ℕ
 apart_of a b n = apart (count a n.members) (count b n.members)
 
+sum_all : (by r1 r2 r3 s1 s2 s3 c2 ao bo bi : ℕ) → r1 ≡ s1 + by * ao → r2 ≡ c2 → r3 ≡ s3 → c2 + by * bi ≡ s2 + by * bo
+    → r1 + r2 + r3 + by * bi ≡ s1 + s2 + s3 + by * (ao + bo)
+sum_all by r1 r2 r3 s1 s2 s3 c2 ao bo bi e f g k = omega arith
+
 -- the load between two places stays within its bound
 loads_stay : (t : TableValue) (h : ℕ → ℕ) (s r : SearchValue) (c : DualChange) → IsSearch t h s → IsLeastChange t h s c
     → ChangesDuals c.by s r
@@ -166,7 +170,11 @@ loads_stay t h s r c i bd ch can a b la lb ne =
     let pb = i.places b in
     within (2 * entry t a b) (load_of s a b) (load_of r a b) by bo (between_in a b tree) (search_holding_both a b s) (inside a b tree)
     (count a (outer_vertices s)) (count b (outer_vertices s)) (count a (inner_members tree)) (count b (inner_members tree))
-    (grind (arith, nat_tests, (between_out a b tree), (between_in a b tree), (branches_load a b by tree can)))
+    (sum_all by (dual_load a b (dual_sets r.root)) (dual_load a b (branch_dual_sets r.tree)) (dual_load a b (match_dual_sets r.rest))
+    (dual_load a b (dual_sets s.root)) (dual_load a b (branch_dual_sets tree)) (dual_load a b (match_dual_sets s.rest))
+    (dual_load a b (branch_dual_sets (all_changed by tree))) (apart_of a b s.root) (between_out a b tree) (between_in a b tree) root
+    branches rest
+    (branches_load a b by tree can))
     (omega (arith, counted a b (flat_map outer_sets tree), oa, ob)) (counted a b (flat_map inner_sets tree))
     (omega (arith, pa, is_one t a)) (omega (arith, pb, is_one t b)) (i.loads a b la lb ne)
     (λ some none apart. by_count (count a (outer_vertices s))

@@ -108,12 +108,15 @@ matched_slack t h s a b i ha hb =
       tall_set t h s b i (omega (arith, hb)),
     )
 
+pub apart_differ : (s : SearchValue) (a b : ℕ) → 1 ≤ count a (outer_vertices s) → search_holding_both a b s ≡ 0 → a ≢ b
+apart_differ s a b h1 h2 = grind (arith, nat_tests, around_same)
+
 outer_slack : (t : TableValue) (h : ℕ → ℕ) (s : SearchValue) (a b : ℕ) → IsSearch t h s → 1 ≤ count a (outer_vertices s)
     → 1 ≤ count b (outer_vertices s)
     → search_holding_both a b s ≡ 0 → h a + h b ≤ 2 * entry t a b
 outer_slack t h s a b i ha hb apart =
     let l = i.loads a b (place_in t a (omega (arith, i.places a, ha))) (place_in t b (omega (arith, i.places b, hb)))
-    (grind (arith, nat_tests, around_same)) in
+    (apart_differ s a b ha apart) in
     omega (arith, l, loads_apart t h s a b i ha apart, tall_set t h s a i (omega (arith, ha)), tall_set t h s b i (omega (arith, hb)))
 
 set_in_root : (s : SearchValue) (r : ℕ) → 1 ≤ count r s.root.members → 1 ≤ count r (outer_vertices s)
@@ -174,6 +177,10 @@ aimed t h s hs reach first met grown crossed a =
     (still_aimed s hs reach kind.Augment first met (aimed_case s hs reach kind.Augment first a.at_first) a.at_met.is) a.at_grown.is)
     a.at_crossed.is
 
+goal_there : (k : Kind) (t : TableValue) (h : ℕ → ℕ) (s : SearchValue) (x : ℕ) → IsSearch t h s → 1 ≤ count x (target_vertices s k)
+    → x < t.places
+goal_there k t h s x h1 h2 = grind (arith, nat_tests, place_in)
+
 -- an outer vertex has the slack of the last candidate
 pub leads_on : (t : TableValue) (h : ℕ → ℕ) (s : SearchValue) (hs reach : List ℕ) (first met grown crossed : Target)
     → IsAimedAt t h s hs reach first met grown crossed → CanFindEdge t hs s.root s.tree reach crossed
@@ -187,7 +194,7 @@ leads_on t h s hs reach first met grown crossed a =
         once = λ x. omega (arith, i.places x, is_one t x);
       };
       reaches = a.reaches;
-      within = grind (arith, nat_tests, place_in, crossed.kind, on.there);
+      within = goal_there crossed.kind t h s crossed.to i on.there;
       near = on.near;
     }
 

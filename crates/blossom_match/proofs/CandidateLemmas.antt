@@ -23,6 +23,12 @@ pub aims_join : (hs reach : List ℕ) (k : Kind) (xs ys zs : List ℕ) (o m n : 
     → IsBestCandidate hs reach k xs o m → IsBestCandidate hs reach k ys m n → IsBestCandidate hs reach k zs o n
 aims_join hs reach k xs ys zs o m n h1 h2 h3 = grind (arith, nat_tests, either, aims_in)
 
+-- one place more
+pub aims_next : (hs reach : List ℕ) (k : Kind) (ys : List ℕ) (i : ℕ) (o m n : Target) → i < length ys
+    → IsBestCandidate hs reach k (take i ys) o m
+    → IsBestCandidate hs reach k (get_or ys i 0 ∷ []) m n → IsBestCandidate hs reach k (take (i + 1) ys) o n
+aims_next hs reach k ys i o m n h1 h2 h3 = grind (arith, nat_tests, aims_join, number_here, count-append)
+
 -- one outer set more
 pub aims_outer : (hs reach : List ℕ) (k : Kind) (base : List ℕ) (tree : List BranchValue) (i : ℕ) (b : BranchValue) (o m n : Target)
     → i < length tree → b ≡ get_or tree i b → IsBestCandidate hs reach k (outer_members base (take i tree)) o m

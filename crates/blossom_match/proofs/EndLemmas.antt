@@ -33,6 +33,11 @@ use Rattle.blossom_match.proofs.SearchLemmas.{is_one, place_in}
 below_case : (p q r : Bool) (x n : ℕ) → ltb x n ≡ p → eqb x n ≡ q → ltb x (n + 1) ≡ r → cond p 1 0 + (cond q 1 0 + 0) ≡ cond r 1 0
 below_case p q r x n h1 h2 h3 = grind (arith, nat_tests, ltb-true, eqb-true, ltb-false, eqb-false)
 
+-- one place more
+pub places_more : (x n : ℕ) (xs new : List ℕ) → new ≡ xs ++ n ∷ [] → count x xs ≡ cond (ltb x n) 1 0 → count x new
+    ≡ cond (ltb x (n + 1)) 1 0
+places_more x n xs new h1 h2 = grind (arith, nat_tests, count-append, ltb-true, eqb-true, ltb-false, eqb-false)
+
 -- a free place has a cell
 pub place_there : (t : TableValue) (place : ℕ) (matches : List MatchValue) (free heights : List ℕ)
     → IsPartialWithHeights t matches (free ++ place ∷ []) heights → place < length heights

@@ -88,20 +88,24 @@ still_reaches t by s r old new is i ch reaches size at =
           (reaches.is x lx);
     }
 
+-- what the sets of a search make of its heights
+pub searched : (t : TableValue) (s : SearchValue) → IsSearch t (stored_height s) s → SearchHasSoundOuters t s
+searched t s h1 = grind (arith, nat_tests, is_one)
+
 -- the slacks from a root without branches
 pub begins_reach : (t : TableValue) (s : SearchValue) (new : List ℕ) → IsSearch t (stored_height s) s → s.tree ≡ []
     → length new ≡ t.places → ComputesRootSlacks s.root new → AreSearchSlacks t s new
 begins_reach t s new i none size all =
     subst (λ (ks : List BranchValue). AreOuterSlacks t s.heights s.root ks new) (sym none)
-    (all t s.heights (subst (λ (ks : List BranchValue). HasSoundOuters t s.heights s.root ks) none (grind (arith, nat_tests, is_one))) size)
+    (all t s.heights (subst (λ (ks : List BranchValue). HasSoundOuters t s.heights s.root ks) none (searched t s i)) size)
 
 -- the search that the step leads to
 can_take_at : (t : TableValue) (s r : SearchValue) (st now : SearchStep) → st ≡ now → CanStepAt t s st → Advances s now r
     → SearchHasSoundOuters t r
 can_take_at t s r st now e k adv =
     let on = subst (λ (st : SearchStep). CanStepAt t s st) e k in
-    grind (arith, nat_tests, is_one, (subst (λ (hs : List ℕ). IsSearch t (λ (x : ℕ). get_or hs x 0) r) (sym adv.heights) (adv.search t
-        (stored_height s) on.search on.ready)))
+    searched t r (subst (λ (hs : List ℕ). IsSearch t (λ (x : ℕ). get_or hs x 0) r) (sym adv.heights)
+    (adv.search t (stored_height s) on.search on.ready))
 
 pub is_reachable : (t : TableValue) (s r : SearchValue) (st now : SearchStep) (reach : List ℕ) → st ≡ now → CanStepAt t s st
     → Advances s now r

@@ -64,6 +64,12 @@ set_both (suc n) zero t hs root bs b reach new a c e f ha hc la lc apart r k = i
 set_both zero (suc m) t hs root bs b reach new a c e f ha hc la lc apart r k = inr (k.least c a (omega (arith, f)) la e)
 set_both (suc n) (suc m) t hs root bs b reach new a c e f ha hc la lc apart r k = absurd (omega (arith, e, f, apart))
 
+-- one branch more
+old_reached : (t : TableValue) (hs : List ℕ) (root : OddSetValue) (bs : List BranchValue) (b : BranchValue) (x old now : ℕ)
+    → ((y : ℕ) → count y (outer_members root.members bs) + count y b.outer.members ≤ 1) → now ≡ old
+    → (old ≡ FAR) ⊎ IsOuterSlack t hs root bs x old → (now ≡ FAR) ⊎ IsOuterSlack t hs root (bs ++ b ∷ []) x now
+old_reached t hs root bs b x old now h1 h2 h3 = grind (arith, nat_tests, members_push, around_append)
+
 -- one outer set more
 set_reached : (t : TableValue) (hs : List ℕ) (root : OddSetValue) (bs : List BranchValue) (b : BranchValue) (reach new : List ℕ)
     → ((y : ℕ) → count y (outer_members root.members bs) + count y b.outer.members ≤ 1)
@@ -78,7 +84,7 @@ set_reached t hs root bs b reach new once r k = record {
       (omega (arith, ha, members_push)) (omega (arith, hc, members_push)) la lc (omega (arith, apart, around_append)) r k;
   is = λ x lx. by_count (count x b.outer.members)
       (λ e. by_either
-      (λ same. grind (arith, nat_tests, members_push, around_append, (get_or reach x 0), (get_or new x 0), (r.is x lx)))
+      (λ same. old_reached t hs root bs b x (get_or reach x 0) (get_or new x 0) once same (r.is x lx))
       (λ l. let out : count l.a (outer_members root.members bs) ≡ 0 = omega (arith, once l.a, l.here) in
       inr (record {
         a = l.a;
@@ -87,8 +93,15 @@ set_reached t hs root bs b reach new once r k = record {
         exact = l.exact;
       }))
       (k.is x lx e))
-      (λ e. grind (arith, nat_tests, members_push, around_append, (get_or reach x 0), (get_or new x 0), (k.kept x lx e), (r.is x lx)));
+      (λ e. old_reached t hs root bs b x (get_or reach x 0) (get_or new x 0) once (k.kept x lx e) (r.is x lx));
 }
+
+-- the row of the next branch has a cell for each place
+pub fits_row : (tree : List BranchValue) (i : ℕ) (b : BranchValue) (first cells : List ℕ)
+    → Each (λ (k : BranchValue). HasSlacks (length first) k.outer) tree → i < length tree → b ≡ get_or tree i b
+    → length cells ≡ length first
+    → HasSlacks (length cells) b.outer
+fits_row tree i b first cells h1 h2 h3 h4 = grind (arith, nat_tests, each_here)
 
 -- the branches so far and the next one, beside others
 pub reaches_next : (t : TableValue) (hs : List ℕ) (root : OddSetValue) (before tree : List BranchValue) (i : ℕ) (b : BranchValue)
@@ -165,6 +178,10 @@ reaches_root t hs root reach new can size same far merged =
 -- the rows of a search have a cell for each place
 pub has_root_row : (s : SearchValue) (cells : List ℕ) → HasSlackCells s cells → HasSlacks (length cells) s.root
 has_root_row s cells r = r.can.sound.near.0.size ∙ sym r.size
+
+pub have_outer_rows : (s : SearchValue) (cells : List ℕ) → HasSlackCells s cells
+    → Each (λ (b : BranchValue). HasSlacks (length cells) b.outer) s.tree
+have_outer_rows s cells h1 = grind (arith, nat_tests, each-map)
 
 -- the places of an outer set are outer places
 pub outer_within : (x : ℕ) (base : List ℕ) (tree : List BranchValue) (i : ℕ) (b : BranchValue) → i < length tree → b ≡ get_or tree i b

@@ -19,13 +19,17 @@ use Rattle.blossom_match.specs.declared.search.SearchStep.TheVariants.{Augment}
 use Rattle.odd_sets.proofs.CallerLemmas.{dual_sets-append, bands_push, hit_is, hit_same, key_count-append, inserted_keeps, keep_branches, keep_matches, keep_seat, no_slot, has_slot, set_more, sets_fewer, all_uses, by_count}
 use Rattle.blossom_match.proofs.SearchLemmas.{is_one}
 
+-- a vacant key is that of no set
+pub unused : (sets : Slots) (key : ℕ) (bs : List DualSet) → AreSets sets bs → get sets key ≡ None → key_count key bs ≡ 0
+unused sets key bs h1 h2 = grind (arith, nat_tests, by_count, no_slot, has_slot)
+
 once_case : (n k key was now : ℕ) → one_if_equal k key ≡ n → now ≡ was + one_if_equal k key → was ≤ 1 → (k ≡ key → was ≡ 0) → now ≤ 1
 once_case n k key was now h1 h2 h3 h4 = grind (arith, nat_tests, hit_is, hit_same)
 
 -- a set more
 pub more_sets : (old new : Slots) (key : ℕ) (was now : List DualSet) → InsertsSet old new key → AreSets old was
     → ((k : ℕ) → key_count k now ≡ key_count k was + one_if_equal k key) → AreSets new now
-more_sets old new key was now h1 h2 h3 = grind (arith, nat_tests, by_count, set_more, hit_is, no_slot, has_slot, hit_same)
+more_sets old new key was now h1 h2 h3 = grind (arith, nat_tests, by_count, set_more, hit_is, unused, hit_same)
 
 -- the other sets stay when one is inserted
 pub seat_stays : (old new : Slots) (key : ℕ) (bs : List DualSet) (s : Handle) → InsertsSet old new key → AreSets old bs
@@ -114,6 +118,11 @@ pub closed_sets : (old new : Slots) (blossom : OddSetValue) (link : TightEdge) (
 closed_sets old new blossom link root top tree now rest left ins sh e are =
     more_sets old new blossom.key (all_dual_sets root tree rest) (all_dual_sets top now left) ins are
     (λ k. grind (arith, nat_tests, all_uses k root tree rest, all_uses k top now left, sh.sums (key_count k) (key_count-append k)))
+
+-- the way to a free place can be paired
+pub can_augment : (t : TableValue) (link : TightEdge) (s : SearchValue) (m : OddSetValue) → CanStepAt t s (Augment link)
+    → m.members ≡ link.to ∷ [] → CanAugment m link s.root s.tree
+can_augment t link s m h1 h2 = grind (arith, nat_tests, hit_same, is_one, hit_is)
 
 -- all sets of the tree and the one of the free place are matches
 pub met_sets : (old new : Slots) (link : TightEdge) (root m : OddSetValue) (tree : List BranchValue) (rest now : List MatchValue)

@@ -39,6 +39,10 @@ pub record Narrowing (tree : List BranchValue) (i : ℕ) (old new : DualChange) 
   pub wide : Each (AllowsChange new.by) (take i tree)
   pub is : (new ≡ old) ⊎ IsBlossomDual tree new
 
+narrowing_is : (tree : List BranchValue) (i : ℕ) (b : BranchValue) (o m n : DualChange) → i < length tree → b ≡ get_or tree i b → (m ≡ o)
+    ⊎ IsBlossomDual tree m → (n ≡ m) ⊎ IsBranchDual b i n → (n ≡ o) ⊎ IsBlossomDual tree n
+narrowing_is tree i b o m n h1 h2 h3 h4 = grind (arith, nat_tests, drop_here)
+
 pub narrowing_more : (tree : List BranchValue) (i : ℕ) (b : BranchValue) (o m n : DualChange) → i < length tree → b ≡ get_or tree i b
     → Narrowing tree i o m → IsLesserChangeAt b i m n → Narrowing tree (i + 1) o n
 narrowing_more tree i b o m n low is one two = record {
@@ -46,7 +50,7 @@ narrowing_more tree i b o m n low is one two = record {
   wide = subst (λ (ks : List BranchValue). Each (AllowsChange n.by) ks) (sym (take_here tree i b low is))
       (each-push (AllowsChange n.by) (take i tree) b (each-map (AllowsChange m.by) (AllowsChange n.by)
       (λ k w some. omega (arith, w some, two.less)) (take i tree) one.wide) two.wide);
-  is = grind (arith, nat_tests, drop_here, one.is, two.is);
+  is = narrowing_is tree i b o m n low is one.is two.is;
 }
 
 pub narrowing_start : (tree : List BranchValue) (o : DualChange) → Narrowing tree 0 o o

@@ -221,3 +221,6 @@ taken_place x xs new i place low is e =
       ap (λ (ys : List ℕ). count x ys) here,
     )
 
+-- the edge closes a blossom
+pub can_shrink : (link : TightEdge) (s : SearchValue) → CanStep s (Shrink link) → CanShrink link s.root s.tree
+can_shrink link s h1 = grind (arith, nat_tests, is_one, place_in, entry-comm)

@@ -51,6 +51,9 @@ head_of all left old now was so_far c rest taking e =
       size_second = omega (arith, sizes_of c rest, t.fewer);
     }
 
+joined_lists : (was a b c : List Moat) (x y z : List Moat) → a ≡ was ++ x → b ≡ a ++ y → c ≡ b ++ z → c ≡ was ++ (x ++ (y ++ z))
+joined_lists was a b c x y z h1 h2 h3 = grind (arith, nat_tests, append_assoc)
+
 pub taking_more : (all left : List MatchValue) (old now mid end new : List Pair) (was a b z : List Moat) (c : MatchValue)
     (rest : List MatchValue) →
     IsTakingApart all left old now was a → left ≡ c ∷ rest → TakesApartSet c.link.from c.first now mid a b
@@ -89,7 +92,7 @@ taking_more all left old now mid end new was a b z c rest taking e one two pushe
       taken = t.taken ++ both;
       rest = λ x. omega (arith, t.rest x, places_of x c rest, count-append);
       moats = t.moats ++ (one.moats ++ two.moats);
-      is = grind (arith, nat_tests, append_assoc, t.moats, one.moats, two.moats, t.is, one.is, two.is);
+      is = joined_lists was a b z t.moats one.moats two.moats t.is one.is two.is;
       lie = lie_both t.taken both (t.taken ++ both) t.moats (one.moats ++ two.moats) t.lie
           (lie_both c.first.members c.second.members both one.moats two.moats one.lie two.lie
           (λ x. omega (arith, places_of x c rest, t.once x, t.rest x)) (λ x. omega (arith, count-append)))
@@ -181,7 +184,7 @@ takes_blossom left s p cs old mid new was a b now once o own first t =
         load_own x y s.dual s.members was (once x) (once y),
       );
       moats = moat_of_set s.members s.dual ++ (first.moats ++ t.moats);
-      is = grind (arith, nat_tests, append_assoc, first.moats, t.moats, first.is, t.is);
+      is = joined_lists was a b now (moat_of_set s.members s.dual) first.moats t.moats own first.is t.is;
       lie = lie_own s.dual s.members p.members (match_members cs) first.moats t.moats other.0 left o.odd first.lie t.lie
           (λ x. omega (arith, o.places x, once x)) (λ x. omega (arith, o.places x))
           (omega (arith, other.1, o.places other.0, once other.0)) (omega (arith, other.1, o.places other.0))

@@ -69,6 +69,10 @@ fits p rows moats law are = record {
       (are.rows_are.least t j in_t in_j) (are.rows_are.least u j in_u in_j);
 }
 
+line : (p : PieceValue) (rows : RowsValue) (moats : List Moat) → AreDistances p → AreLiftableMoats p rows moats → (k : ℕ) (e : Edge)
+    → slice_get p.edges k ≡ Some e → e.a < length p.junctions → e.b < length p.junctions → IsLine (piece_site p rows moats) e.a e.b e.cost
+line p rows moats law are k e at in_a in_b = grind (arith, nat_tests)
+
 -- the edge carries no more than two halves for each of its steps
 abbrev Carries : List Cut → Edge → Type 0
 Carries cuts e = load_on cuts e ≤ 2 * e.cost
@@ -82,7 +86,7 @@ loads p rows moats cuts kept law are l k d lt = carried (get_or p.edges k d) (sl
     carried : (e : Edge) → slice_get p.edges k ≡ Some e → (e.a < length p.junctions) × (e.b < length p.junctions) → Carries cuts e
     carried e at ends =
         let most = carries (piece_site p rows moats) (fits p rows moats law are) e.a e.b e.cost ends.0 ends.1
-        (grind (arith, nat_tests, ends.0, ends.1)) in
+        (line p rows moats law are k e at ends.0 ends.1) in
         omega (arith, l.loads e ends.0 ends.1, most)
 
 odd_cut : (p : PieceValue) (rows : RowsValue) (moats : List Moat) → AreDistances p → AreLiftableMoats p rows moats → (c : Cut)
@@ -141,6 +145,16 @@ reach_at p rows moats size index s reaches v read sized all lt at is same =
     (subst (AreDistancesFrom (lift_input rows size moats) s) (sym same)
     (all.1 index s v (slice_get_read moats (length moats) index s refl lt at)
     (slice_get_read reaches (length reaches) index v refl (omega (arith, all.0)) is)))
+
+-- it has no more numbers than a piece has junctions
+pub reach_few : (p : PieceValue) (rows : RowsValue) (moats : List Moat) (s : Moat) (read : List ℕ) → IsValidPiece p
+    → AreDistancesFrom (piece_site p rows moats) s read → length read ≤ MAX_LINES + 1
+reach_few p rows moats s read kept is = omega (arith, is.sized, kept.junctions_few, kept.few)
+
+-- and makes the cuts of its moat
+pub cuts_of : (g : LiftInput) (s : Moat) (read : List ℕ) (width : ℕ) (old new : List Cut) → AreDistancesFrom g s read → width ≡ s.width
+    → AddsCuts (AreCutsTo read width) old new → AddsCuts (AreCutsOf g s) old new
+cuts_of g s read width old new is wide adds = grind (arith, nat_tests)
 
 -- after the last moat
 pub lifted_by : (p : PieceValue) (rows : RowsValue) (moats seen : List Moat) (i : ℕ) (cuts : List Cut) → seen ≡ moats → IsValidPiece p

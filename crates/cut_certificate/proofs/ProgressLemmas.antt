@@ -39,6 +39,9 @@ smaller n ms index s odd l at c m t at_m (inl less) in_m in_s = less
 smaller n ms index s odd l at c m t at_m (inr as_many) in_m in_s =
     grind (arith, nat_tests, apart_at n ms c index m s odd l at_m at as_many.1)
 
+odd_some : (k : ℕ) → k % 2 ≡ 1 → 1 ≤ k
+odd_some k odd = omega arith
+
 -- what the next moat finds
 pub finds : (rows : RowsValue) (size : ℕ) (moats : List Moat) (s : Moat) (index : ℕ) (stands : List TerminalState)
     (reaches : List (Vec ℕ Global))
@@ -52,7 +55,7 @@ finds rows size moats s index stands reaches can at progress =
       at = at;
       smaller = smaller (length rows.terminals) moats index s can.odd can.laminar at;
       placed = λ t has. held_below (length rows.terminals) t s.members (below (length rows.terminals) s.members odd.below) has;
-      some = grind (arith, nat_tests, odd.odd);
+      some = odd_some (length s.members) odd.odd;
       progress = progress;
     }
 

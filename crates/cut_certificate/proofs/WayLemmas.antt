@@ -16,7 +16,7 @@ use Rattle.cut_certificate.specs.Levels.{LiftInput, lift_input}
 use Rattle.cut_certificate.specs.MoatDistances.{HasRowsForMoats, HasDistance, IsNextMoat, AreDistancesFrom, lesser_of, lowered_distance, distance_from}
 use Rattle.cut_certificate.proofs.ProgressLemmas.{finds}
 use Rattle.cut_certificate.proofs.LaminarLemmas.{of_all}
-use Rattle.cut_certificate.proofs.MoatDistanceLemmas.{reach_found}
+use Rattle.cut_certificate.proofs.MoatDistanceLemmas.{past, reach_found}
 use Rattle.cut_certificate.proofs.TerminalStateLemmas.{is_of}
 use Rattle.lists_and_numbers.proofs.CallerLemmas.{front_written}
 
@@ -27,6 +27,23 @@ pub row_low : (rows : RowsValue) (size : ℕ) (moats : List Moat) (t : ℕ) (row
 row_low rows size moats t row j can in_t at lt =
     let long : length row ≡ size = ap length_in (sym at) ∙ can.wide t in_t in
     subst (λ (o : Option (List ℕ)). cost_in o j ≤ MAX_COST) at (can.low t j in_t (omega arith))
+
+-- the distances from a processed moat are as many as a row has
+pub reach_wide : (rows : RowsValue) (size : ℕ) (moats : List Moat) (stands : List TerminalState) (reaches : List (Vec ℕ Global)) (t c : ℕ)
+    (place : TerminalState)
+    (v : Vec ℕ Global) (seen : List ℕ) → HasDistance rows size moats stands reaches t → slice_get stands t ≡ Some place
+    → place ≡ stand.First c
+    → c < length reaches → v ≡ get_or reaches c v → seen ≡ v.items → length seen ≡ size
+reach_wide rows size moats stands reaches t c place v seen has at is lt read are = grind (arith, nat_tests, slice_get_read)
+
+-- lowered to the distances from the outermost moat whose first member is the terminal
+pub first_way : (g : LiftInput) (stands : List TerminalState) (reaches : List (Vec ℕ Global)) (t j c : ℕ) (place : TerminalState) (m : Moat)
+    (v : Vec ℕ Global)
+    (seen : List ℕ) (old new : ℕ) → slice_get stands t ≡ Some place → place ≡ stand.First c → c < length g.moats → m ≡ get_or g.moats c m
+    → c < length reaches → v ≡ get_or reaches c v → seen ≡ v.items → new ≡ min (slice_index seen j - (get_or g.moats c m).width) old
+    → new ≡ lesser_of (distance_from g reaches t j (slice_get stands t)) old
+first_way g stands reaches t j c place m v seen old new at is in_moats at_m in_reaches at_v are value =
+    grind (arith, nat_tests, past, slice_get_read)
 
 -- each terminal of the next moat has a distance
 pub have_ways : (rows : RowsValue) (size : ℕ) (moats : List Moat) (s : Moat) (stands : List TerminalState) (reaches : List (Vec ℕ Global))

@@ -19,13 +19,18 @@ only_kept : (test : Bool) (at : ℕ) (rest : List ℕ) → singleton_if test at 
 only_kept true at rest = refl
 only_kept false at rest = refl
 
-pub odds_kept : (from to : Option ℕ) (es : List Edge) (at n : ℕ)
+odds_kept : (from to : Option ℕ) (es : List Edge) (at n : ℕ)
     → odds_from from to at (degrees_from es at n)
     ≡ filter (λ j. is_odd (degree (closing_edge from to ++ es) j)) (range_with_len at n)
 odds_kept from to es at zero = refl
 odds_kept from to es at (suc n) =
     rw (degree_closed from to es at, ← odds_kept from to es (at + 1) n)
     (only_kept (is_odd (closing_ends from to at + degree es at)) at (odds_from from to (at + 1) (degrees_from es (at + 1) n)))
+
+-- the degrees give the odd junctions
+pub odds_told : (p : PieceValue) → IsValidPiece p
+    → odds_from (given_start p) (given_end p) 0 p.degrees ≡ odd_junctions p
+odds_told p keeps = grind (arith, nat_tests, odds_kept)
 
 odd_count : (f : ℕ → ℕ) (at n : ℕ)
     → length (filter (λ j. is_odd (f j)) (range_with_len at n)) % 2 ≡ sum_over f at n % 2

@@ -1,15 +1,15 @@
 -- Columns of tables of lanes.
 use Rattle.std.proofs.lemmas.Bool.Decides.{nat_tests}
 use Rattle.std.proofs.Common.{◌≡◌, Vec, Global, ◌≢◌, ℕ, zero, suc, ◌+◌, ◌<◌, ◌≤◌, List, [], ◌∷◌, All, length, min, replicate, map, get_or, inl, inr, refl, ap, ◌∙◌, subst, arith}
-use Rattle.std.proofs.lemmas.Bool.{cases_Bool, cases_eq, ltb-false, ltb-true, cases_lt}
-use Rattle.std.proofs.lemmas.List.{get_or-replicate, length-map, length-replicate, map-set, get_or_past}
+use Rattle.std.proofs.lemmas.Bool.{cases_Bool, cases_eq, ltb-false, ltb-true}
+use Rattle.std.proofs.lemmas.List.{get_or-replicate, length-map, length-replicate, map-set}
 use Rattle.std.proofs.Math.Seq.{map-set_same}
 use Rattle.std.specs.Prelude.{slice_index, slice_set}
 use Rattle.odd_paths.specs.declared.lanes.TheConstants.{LANES}
 use Rattle.odd_paths.specs.declared.sweeps.TheConstants.{NO_WALK}
 use Rattle.line_graph.specs.declared.edge.Edge.{Edge}
 use Rattle.odd_paths.proofs.RowLemmas.{is_row}
-use Rattle.odd_paths.proofs.SoundLemmas.{at_other, at_same, begun, most_set}
+use Rattle.odd_paths.proofs.SoundLemmas.{at_other, at_same, begun, get_replicate, most_set}
 use Rattle.odd_paths.specs.Lanes.{AddsColumns, AddsRows, AreLeastColumns, HaveStarts, IsCapped, KeepsCosts, lane_column, terminal_columns}
 use Rattle.odd_paths.specs.EdgeWalks.{AreLeastRows, IsGraph, IsLeastRow}
 use Rattle.odd_paths.specs.Sweeps.{IsFullyRelaxed, AreWalkCosts, is_lower, lowered_row}
@@ -59,6 +59,11 @@ pub capped_lowered : (table new : List (List ℕ)) (a b cost : ℕ) → b < leng
     → ((i : ℕ) → i < LANES → lane_column i new ≡ lowered_row (lane_column i table) a b cost) → IsCapped new
 capped_lowered table new a b cost there capped value i in_i j = grind (arith, nat_tests, length-map, lowered_low)
 
+-- a lane that is reached begins its column
+pub lane_reached : (i t : ℕ) (lane : List ℕ) (table : List (List ℕ)) → slice_index lane i ≡ 0
+    → lane_column i (slice_set table t lane) ≡ slice_set (lane_column i table) t 0
+lane_reached i t lane table here = grind (arith, nat_tests, map-set)
+
 pub lane_kept : (k t : ℕ) (lane : List ℕ) (table : List (List ℕ)) → slice_index lane k ≡ slice_index (get_or table t []) k
     → lane_column k (slice_set table t lane) ≡ lane_column k table
 lane_kept k t lane table same = map-set_same (λ (l : List ℕ). slice_index l k) table t lane [] same
@@ -78,7 +83,7 @@ column_blank n i there = grind (arith, nat_tests, map_replicate, get_or-replicat
 pub capped_blank : (n : ℕ) (table : List (List ℕ)) → table ≡ replicate n (replicate LANES NO_WALK) → IsCapped table
 capped_blank n table blank i there j =
     let column_is = ap (λ (t : List (List ℕ)). lane_column i t) blank ∙ column_blank n i there in
-    rw column_is (grind (arith, nat_tests, cases_lt, get_or-replicate, get_or_past, length-replicate))
+    rw column_is (get_replicate n j NO_WALK)
 
 -- a table that has begun and then settled has the rows of the terminals as its columns
 pub columns_settled : (es : List Edge) (n : ℕ) (ts : List ℕ) (old between new : List (List ℕ)) → old ≡ replicate n (replicate LANES NO_WALK)

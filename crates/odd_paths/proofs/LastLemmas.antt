@@ -23,6 +23,13 @@ pub record IsLast (row : List ℕ) (e : Edge) (m j : ℕ) : Type 0 where
 abbrev pub Comes : List Edge → List ℕ → ℕ → ℕ → ℕ → Type 0
 Comes es row j k m = (e : Edge) × (slice_get es k ≡ Some e) × IsLast row e m j
 
+-- the test finds such an edge, in both directions
+forth_told : (row : List ℕ) (e : Edge) (j m : ℕ) → is_last_edge row e.a e.b e.cost j ≡ true → e.a ≡ m → IsLast row e m j
+forth_told row e j m is same = grind (arith, nat_tests)
+
+back_told : (row : List ℕ) (e : Edge) (j m : ℕ) → is_last_edge row e.b e.a e.cost j ≡ true → e.b ≡ m → IsLast row e m j
+back_told row e j m is same = grind (arith, nat_tests)
+
 told_one_way : (row : List ℕ) (e : Edge) (j m : ℕ) → IsLast row e m j → is_last_edge row e.a e.b e.cost j ≡ false
     → is_last_edge row e.b e.a e.cost j ≡ false → ⊥
 told_one_way row e j m last forth back = grind (arith, nat_tests)
@@ -41,11 +48,11 @@ found_in row j k (e ∷ es) r h =
     go on true q is other h =
         let same = some_same (k, e.a) r h in
         let from : e.a ≡ r.1 = ap (λ (x : ℕ × ℕ). x.1) same in
-        (0, omega (arith, ap (λ (x : ℕ × ℕ). x.0) same), (e, refl, grind (arith, nat_tests, r.1)))
+        (0, omega (arith, ap (λ (x : ℕ × ℕ). x.0) same), (e, refl, forth_told row e j r.1 is from))
     go on false true is other h =
         let same = some_same (k, e.b) r h in
         let from : e.b ≡ r.1 = ap (λ (x : ℕ × ℕ). x.1) same in
-        (0, omega (arith, ap (λ (x : ℕ × ℕ). x.0) same), (e, refl, grind (arith, nat_tests, r.1)))
+        (0, omega (arith, ap (λ (x : ℕ × ℕ). x.0) same), (e, refl, back_told row e j r.1 other from))
     go on false false is other h =
         let p = on h in
         (suc p.0, omega (arith, p.1), p.2)

@@ -76,6 +76,10 @@ pub swept_sound : (es : List Edge) (n from : ℕ) (row : List ℕ) → EndsAreBe
     → AreWalkCosts es n from (swept row es)
 swept_sound es n from row ends s = swept_on es n from row es (λ e i h. (i, h)) ends s
 
+-- the row with which a search begins
+pub get_replicate : (n j v : ℕ) → slice_index (replicate n v) j ≤ v
+get_replicate n j v = grind (arith, nat_tests, cases_lt, get_or-replicate, get_or_past, length-replicate)
+
 pub begun : (es : List Edge) (n from : ℕ) → from < n → AreWalkCosts es n from (slice_set (replicate n NO_WALK) from 0)
 begun es n from lt =
     let size : length (replicate n NO_WALK) ≡ n = length-replicate n NO_WALK in
@@ -83,8 +87,7 @@ begun es n from lt =
     record {
       size = length-set (replicate n NO_WALK) from 0 ∙ size;
       start = at_same (replicate n NO_WALK) from 0 from refl within;
-      most = most_set (replicate n NO_WALK) from 0 NO_WALK within (omega arith) (λ j. grind (arith, nat_tests, cases_lt, get_or-replicate,
-          get_or_past, length-replicate));
+      most = most_set (replicate n NO_WALK) from 0 NO_WALK within (omega arith) (λ j. get_replicate n j NO_WALK);
       walks = walks_set es n from (replicate n NO_WALK) from 0 within ([], refl, refl) (no_walk n);
     }
   where

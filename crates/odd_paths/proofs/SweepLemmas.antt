@@ -9,9 +9,12 @@ use Rattle.odd_paths.specs.EdgeWalks.{Connects, IsEdgeWalk, edge_walk_cost}
 use Rattle.odd_paths.specs.Sweeps.{IsRelaxedAt, IsFullyRelaxed, relaxes, relaxed, changes, swept}
 use Rattle.lists_and_numbers.proofs.CallerLemmas.{some_same}
 
+not_relaxed : (row : List ℕ) (e : Edge) → relaxes row e ≡ false → (relaxed row e ≡ row) × IsRelaxedAt row e
+not_relaxed row e h = grind (arith, nat_tests)
+
 pub settled : (row : List ℕ) (es : List Edge) → changes row es ≡ false → (swept row es ≡ row) × IsFullyRelaxed row es
 settled row [] h = (refl, tt)
-settled row (e ∷ es) h = grind (arith, nat_tests, settled row es, or_parts)
+settled row (e ∷ es) h = grind (arith, nat_tests, settled row es, not_relaxed, or_parts)
 
 pub flat_at : (row : List ℕ) (es : List Edge) (k : ℕ) (e : Edge) → IsFullyRelaxed row es → slice_get es k ≡ Some e → IsRelaxedAt row e
 flat_at row [] k e s got = absurd (none_is e got)

@@ -19,7 +19,7 @@ use Rattle.odd_paths.specs.EdgeWalks.{EndsAreBelow, AreLeastRows, IsGraph, IsLea
 use Rattle.lists_and_numbers.proofs.CallerLemmas.{some_same}
 
 -- the ends of the edges of a piece
-pub within : (n : ℕ) (es : List Edge) → ends_below n es ≡ true → EndsAreBelow n es
+within : (n : ℕ) (es : List Edge) → ends_below n es ≡ true → EndsAreBelow n es
 within n [] below = tt
 within n (e ∷ es) below =
     let both = and_parts (nat_lt e.a n && nat_lt e.b n) (ends_below n es) below in
@@ -27,6 +27,10 @@ within n (e ∷ es) below =
     let a_there : e.a < n = grind (arith, nat_tests) in
     let b_there : e.b < n = grind (arith, nat_tests) in
     (a_there, b_there, within n es both.1)
+
+-- a piece is a graph
+pub is_graph : (p : PieceValue) → IsValidPiece p → IsGraph p.edges (length p.junctions)
+is_graph p keeps = grind (arith, nat_tests, within)
 
 -- the rows of some terminals and of those that follow
 rows_append : (es : List Edge) (n : ℕ) (ts us : List ℕ) (rows more : List (List ℕ)) → AreLeastRows es n ts rows

@@ -48,6 +48,11 @@ paid_turned d (x ∷ xs) ys l =
     (paid_turned d xs (ys ++ x ∷ []) (subst (λ (zs : List PartValue). AreTightInside d (cycle_edges zs)) (append_assoc xs ys (x ∷ []))
     (paid_by_one d x (xs ++ ys) l)))
 
+-- the part at the index does not hold the place: a later one does
+pub held_later : (x : ℕ) (ps : List PartValue) (i : ℕ) (p : PartValue) → i < length ps → p ≡ get_or ps i p → count x p.odd_set.members ≡ 0 →
+    1 ≤ count x (members_in (drop i ps)) → 1 ≤ count x (members_in (drop (i + 1) ps))
+held_later x ps i p h1 h2 h3 h4 = grind (arith, nat_tests, drop-cons, add-one, count-append)
+
 -- an additive quantity of the parts doesn't change when they are rotated
 pub sum_turned : (G : List PartValue → ℕ) → ((ps qs : List PartValue) → G (ps ++ qs) ≡ G ps + G qs) → (i : ℕ) (ps : List PartValue)
     → G (drop i ps ++ take i ps) ≡ G ps
@@ -82,10 +87,14 @@ pub holds_here : (x : ℕ) (ps : List PartValue) (i : ℕ) (p : PartValue) → i
     → PartHoldsAt x ps i
 holds_here x ps i p low is here = subst (FirstPartHolds x) (sym (drop_here ps i p low is)) here
 
+-- a rotated list, by the value of each item
+turned_list : {X Y : Type 0} (f : X → Y) (old new : List X) (at : ℕ) → new ≡ drop at old ++ take at old
+    → map f new ≡ drop at (map f old) ++ take at (map f old)
+turned_list f old new at h1 = grind (arith, nat_tests, map-append, mapped_drop, mapped_take)
+
 pub turned_in : {X Y : Type 0} (f : X → Y) (old new : List X) (at : ℕ) → at < length old → new ≡ drop at old ++ take at old
     → IsRotated (map f old) (map f new)
-turned_in f old new at low is = record { at = at; within = mapped_low f old at low; is =
-    grind (arith, nat_tests, map-append, mapped_drop, mapped_take) }
+turned_in f old new at low is = record { at = at; within = mapped_low f old at low; is = turned_list f old new at is }
 
 first_before : (x : ℕ) (ps qs : List PartValue) → FirstPartHolds x ps → FirstPartHolds x (ps ++ qs)
 first_before x [] qs first = absurd first
@@ -94,5 +103,5 @@ first_before x (p ∷ ps) qs first = first
 pub first_turned : {X : Type 0} (f : X → PartValue) (x : ℕ) (old new : List X) (at : ℕ) → new ≡ drop at old ++ take at old
     → PartHoldsAt x (map f old) at → FirstPartHolds x (map f new)
 first_turned f x old new at is holds =
-    subst (FirstPartHolds x) (sym (grind (arith, nat_tests, map-append, mapped_drop, mapped_take)))
+    subst (FirstPartHolds x) (sym (turned_list f old new at is))
     (first_before x (drop at (map f old)) (take at (map f old)) holds)

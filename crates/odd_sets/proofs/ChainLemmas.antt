@@ -22,6 +22,10 @@ around_append a b xs ys = sets-append outer_sets (one_if_both a b) xs ys
 pub tight_back : (d : TableValue) (h : ℕ → ℕ) (l : TightEdge) → IsSymmetric d → IsTight d h l → IsTight d h (reversed_edge l)
 tight_back d h l sy t = omega (arith, sy l.from l.to, t)
 
+-- a set that holds one of two places, and not both
+pub no_other : (a b : ℕ) (s : OddSetValue) → one_if_both a b s ≡ 0 → 1 ≤ count a s.members → count b s.members ≡ 0
+no_other a b s none here = omega (arith, none, here)
+
 pub chaining_left : (link : TightEdge) (root : OddSetValue) (tree left bs : List BranchValue) (b : BranchValue)
     (chain next : List PartValue)
     (aside : List BranchValue) (way : TightEdge) (to : ℕ) →

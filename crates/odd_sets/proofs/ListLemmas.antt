@@ -139,3 +139,6 @@ pub none_left : {X : Type 0} (xs : List X) → length xs ≡ 0 → xs ≡ []
 none_left [] none = refl
 none_left (x ∷ xs) none = absurd (omega (arith, none))
 
+pub mapped_two : {X Y : Type 0} (f : X → Y) (xs ys : List X) (x y : X) → xs ≡ (ys ++ x ∷ []) ++ y ∷ []
+    → map f xs ≡ (map f ys ++ f x ∷ []) ++ f y ∷ []
+mapped_two f xs ys x y h1 = grind (arith, nat_tests, mapped_last, map-append)

@@ -33,6 +33,11 @@ pub members_matched : (x : ℕ) (ps : List PartValue) → length ps % 2 ≡ 0 �
     (match_members (matches_along ps))
 members_matched x ps even = ap (λ (ss : List OddSetValue). count x (members_onto [] ss)) (sets_matched ps even)
 
+-- the blossom edges inside the parts stay tight when the blossom is rotated
+tolls_turned : (d : TableValue) (i : ℕ) (ps : List PartValue) → AreTightInside d (blossom_edges_in ps)
+    → AreTightInside d (blossom_edges_in (drop i ps ++ take i ps))
+tolls_turned d i ps h1 = grind (arith, nat_tests, each-flat_map, each-turned, each-apart)
+
 pub joined_along : (p e : PartValue) (ps : List PartValue) → length ps % 2 ≡ 0 → IsPartPath p (ps ++ e ∷ [])
     → Each IsMatch (matches_along ps)
 joined_along p e [] even l = tt
@@ -58,10 +63,13 @@ paid_along d p e (q ∷ r ∷ ps) even l all =
       paid_along d r e ps less l.1.1 (each-right (IsTightInside d) r.odd_set.blossom_edges (blossom_edges_in ps) rest),
     )
 
+hit_one : (b : Bool) (left m : ℕ) → eqb left m ≡ b → cond b 1 0 + 0 ≡ 1 → left ≡ m
+hit_one b left m h1 h2 = grind (arith, nat_tests, eqb-true)
+
 single_count : (left x : ℕ) (ms : List ℕ) → length ms ≡ 1 → count left ms ≡ 1 → count x ms ≡ one_if_equal x left
 single_count left x [] one there = absurd (omega arith)
 single_count left x (m ∷ []) one there =
-    grind (arith, nat_tests, eqb-true, eqb, cond)
+    grind (arith, nat_tests, hit_one, eqb, cond)
 single_count left x (m ∷ n ∷ ms) one there = absurd (omega arith)
 
 opens_single : (left key w : ℕ) (ms near : List ℕ) → length ms ≡ 1 → count left ms ≡ 1 → OpensAt left (odd_set_of key ms w near []) None []
@@ -105,7 +113,7 @@ paid_turned_all d old p ps i e even all =
     let inside : AreTightInside d (blossom_edges_in old) = each-right (IsTightInside d) (cycle_edges old) (blossom_edges_in old) all in
     let parts : AreTightInside d (blossom_edges_in (p ∷ ps)) = subst (λ (qs : List PartValue). AreTightInside d (blossom_edges_in qs))
     (sym e)
-    (grind (arith, nat_tests, each-flat_map, each-turned, each-apart)) in (
+    (tolls_turned d i old inside) in (
       each-left (IsTightInside d) p.odd_set.blossom_edges (blossom_edges_in ps) parts,
       paid_along d p p ps even blossom (each-right (IsTightInside d) p.odd_set.blossom_edges (blossom_edges_in ps) parts),
     )

@@ -48,10 +48,19 @@ lowered x i m w ms hs rest top lt is there low e =
     lowered_by (eqb x m) x m w (count x (drop (i + 1) ms)) rest top hs refl there low
     (e ∙ ap (λ (k : ℕ). top + w * k) (at_drop x i m ms lt is))
 
+-- what is still to fall is high enough
+pub lowers : (i m w : ℕ) (ms : List ℕ) (now old all : ℕ) → i < length ms → m ≡ get_or ms i 0 → w * all ≤ old → now + w * all
+    ≡ old + w * count m (drop i ms) → w ≤ now
+lowers i m w ms now old all h1 h2 h3 h4 = grind (arith, nat_tests, at_drop, eq-eqb)
+
 -- the places of the branches from one on
 pub outer_places : (x : ℕ) (tree : List BranchValue) (i : ℕ) (b : BranchValue) → i < length tree → b ≡ get_or tree i b →
     count x (outer_members [] (drop i tree)) ≡ count x b.outer.members + count x (outer_members [] (drop (i + 1) tree))
 outer_places x tree i b h1 h2 = grind (arith, nat_tests, drop_here, count-append)
+
+pub inner_places : (x : ℕ) (tree : List BranchValue) (i : ℕ) (b : BranchValue) → i < length tree → b ≡ get_or tree i b →
+    count x (inner_members (drop i tree)) ≡ count x b.inner.members + count x (inner_members (drop (i + 1) tree))
+inner_places x tree i b h1 h2 = grind (arith, nat_tests, drop_here, count-append)
 
 -- the vertices of the outer set at an index of the branches in slots, and those after it
 pub outers_at : (x : ℕ) (sets : Slots) (bs : List Branch) (i : ℕ) → i < length bs
@@ -62,8 +71,8 @@ outers_at x sets bs i low = outer_places x (branches_in sets bs) i (branch_in se
 
 pub inners_at : (x : ℕ) (sets : Slots) (bs : List Branch) (i : ℕ) → i < length bs → count x (inner_members (drop i (branches_in sets bs)))
     ≡ count x (branch_in sets (get_or bs i no_branch)).inner.members + count x (inner_members (drop (i + 1) (branches_in sets bs)))
-inners_at x sets bs i low =
-    grind (arith, nat_tests, drop_here, count-append, (mapped_low (branch_in sets) bs i low), (mapped_item (branch_in sets) bs i no_branch))
+inners_at x sets bs i low = inner_places x (branches_in sets bs) i (branch_in sets (get_or bs i no_branch))
+    (mapped_low (branch_in sets) bs i low) (mapped_item (branch_in sets) bs i no_branch)
 
 pub more_by : (by all here rest : ℕ) → all ≡ here + rest → by * all ≡ by * here + by * rest
 more_by by all here rest e = let f = ap (λ (k : ℕ). by * k) e in omega (arith, f)

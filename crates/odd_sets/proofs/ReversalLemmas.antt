@@ -114,6 +114,10 @@ mirror_places x ps = omega (arith, members_each, mirror_sum (λ (s : OddSetValue
 mirror_bands : (F : List DualSet → ℕ) → IsAdditive F → (ps : List PartValue) → F (dual_sets_in (reversed_blossom ps)) ≡ F (dual_sets_in ps)
 mirror_bands F add ps = omega (arith, bands_each F add, mirror_sum (λ (s : OddSetValue). F (dual_sets s)) ps)
 
+mirror_firm : (d : TableValue) (h : ℕ → ℕ) → IsSymmetric d → (ps : List PartValue) → Each (IsSoundPart d h) ps
+    → Each (IsSoundPart d h) (reversed_blossom ps)
+mirror_firm d h h1 ps h2 = grind (arith, nat_tests, tight_back, last_firm, told_firm)
+
 -- a part that holds the place, and the parts before it
 record HeldAt (x : ℕ) (ps : List PartValue) (i : ℕ) : Type 0 where
   before : List PartValue
@@ -228,8 +232,8 @@ goes_back entry exit old blossom back i is turned first low holds odd e =
           ∙ members_turned x turned.at old;
       sums = λ F add. mirror_bands F add blossom ∙ ap (λ (qs : List PartValue). F (dual_sets_in qs)) turned.is
           ∙ bands_turned F add turned.at old;
-      firm = λ d h sy f. grind (arith, nat_tests, tight_back, last_firm, told_firm, (subst (λ (qs : List PartValue). Each (IsSoundPart d
-          h) qs) (sym turned.is) (each-turned (IsSoundPart d h) turned.at old f)));
+      firm = λ d h sy f. mirror_firm d h sy blossom (subst (λ (qs : List PartValue). Each (IsSoundPart d h) qs) (sym turned.is)
+          (each-turned (IsSoundPart d h) turned.at old f));
     })
 
 pub turned_places : (x : ℕ) (old blossom : List PartValue) → IsRotated old blossom → count x (members_in blossom) ≡ count x (members_in old)

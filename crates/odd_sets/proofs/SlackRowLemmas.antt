@@ -62,7 +62,7 @@ pub lowered_less : (by left : ℕ) → lowered_slack by left ≤ left
 lowered_less by left = grind (arith, nat_tests)
 
 -- a cell of a row that is made cell by cell
-pub at_row : (f : ℕ → ℕ) (n x : ℕ) → x < n → get_or (map f (range_with_len 0 n)) x 0 ≡ f x
+at_row : (f : ℕ → ℕ) (n x : ℕ) → x < n → get_or (map f (range_with_len 0 n)) x 0 ≡ f x
 at_row f n x lx = get_or-map-range_with_len f 0 n x x 0 lx (omega arith)
 
 own_case : (b : Bool) (v : ℕ) → 1 ≤ cond b 1 0 + 0 → cond b FAR v ≡ FAR
@@ -125,6 +125,10 @@ least_low t h (p ∷ ps) a x f once here none lx =
     (omega (arith, none, cx)) lx
     (λ e. least_low t h ps a x f.1 (omega (arith, once, ca)) (omega (arith, here, ca, e)) (omega (arith, none, cx)) lx)
 
+min_case : (t : TableValue) (h : ℕ → ℕ) (xs ys : List ℕ) (x one rest : ℕ) → IsLeftAt t h xs x one
+    → (rest ≡ FAR) ⊎ IsLeftAt t h ys x rest → one < FAR → (one < rest) ⊎ (rest ≤ one) → IsLeftAt t h (xs ++ ys) x (min one rest)
+min_case t h xs ys x one rest h1 h2 h3 h4 = grind (arith, nat_tests, count-append)
+
 least_with : (t : TableValue) (h : ℕ → ℕ) (p : PartValue) (ps : List PartValue) (x : ℕ) → IsSoundSet t h p.odd_set
     → ((y : ℕ) → count y (members_in (p ∷ ps)) ≤ 1) → count x (members_in (p ∷ ps)) ≡ 0 → x < t.places
     → (least_part_slack ps x ≡ FAR) ⊎ IsLeftAt t h (members_in ps) x (least_part_slack ps x)
@@ -133,8 +137,9 @@ least_with t h p ps x k once none lx later =
     let c = λ (y : ℕ). count-append y p.odd_set.members (members_in ps) in
     let out : count x p.odd_set.members ≡ 0 = omega (arith, none, c x) in
     let one = lowered_slack p.odd_set.dual (get_or p.odd_set.near x 0) in
-    grind (arith, nat_tests, count-append, (near_is t h p.odd_set x k (λ y. omega (arith, once y, c y)) out lx),
-          lowered_less p.odd_set.dual (get_or p.odd_set.near x 0), k.near.0.short x out lx, (cases_lt one (least_part_slack ps x)))
+    min_case t h p.odd_set.members (members_in ps) x one (least_part_slack ps x)
+    (near_is t h p.odd_set x k (λ y. omega (arith, once y, c y)) out lx) later
+    (omega (arith, lowered_less p.odd_set.dual (get_or p.odd_set.near x 0), k.near.0.short x out lx)) (cases_lt one (least_part_slack ps x))
 
 least_rest : (t : TableValue) (h : ℕ → ℕ) (ps : List PartValue) (x : ℕ) → Each (IsSoundPart t h) ps
     → ((y : ℕ) → count y (members_in ps) ≤ 1) → count x (members_in ps) ≡ 0 → x < t.places
@@ -155,10 +160,10 @@ least_is t h p ps x f once none lx =
     (least_rest t h ps x f.1 (λ y. omega (arith, once y, c y)) (omega (arith, none, c x)) lx)
 
 -- a blossom's cell at a member, and at any other place
-pub blossom_own : (ps : List PartValue) (x : ℕ) → 1 ≤ count x (members_in ps) → blossom_slack ps x ≡ FAR
+blossom_own : (ps : List PartValue) (x : ℕ) → 1 ≤ count x (members_in ps) → blossom_slack ps x ≡ FAR
 blossom_own ps x h1 = grind (arith, nat_tests, ltb-false)
 
-pub blossom_other : (ps : List PartValue) (x : ℕ) → count x (members_in ps) ≡ 0 → blossom_slack ps x ≡ least_part_slack ps x
+blossom_other : (ps : List PartValue) (x : ℕ) → count x (members_in ps) ≡ 0 → blossom_slack ps x ≡ least_part_slack ps x
 blossom_other ps x h1 = grind (arith, nat_tests, ltb-true)
 
 least_short : (p : PartValue) (ps : List PartValue) (x : ℕ) → get_or p.odd_set.near x 0 < FAR → least_part_slack (p ∷ ps) x < FAR
@@ -212,3 +217,9 @@ merge_next n parts i p near dual cells new low is e f merged size so_far x lx =
       ap (λ (ks : List PartValue). least_part_slack ks x) (take_here parts i p low is),
     )
 
+-- merged cells that are cleared at the members are the row
+pub row_is : (n : ℕ) (ps : List PartValue) (members mid new : List ℕ) → members ≡ members_in ps → length new ≡ n
+    → ((x : ℕ) → x < n → get_or mid x 0 ≡ least_part_slack ps x) → ((x : ℕ) → 1 ≤ count x members → get_or new x 0 ≡ FAR)
+    → ((x : ℕ) → count x members ≡ 0 → get_or new x 0 ≡ get_or mid x 0) → new ≡ blossom_slacks_of n ps
+row_is n ps members mid new h1 h2 h3 h4 h5 =
+    grind (arith, nat_tests, length-map-range_with_len, same_number_lists, by_count, blossom_other, blossom_own, at_row)

@@ -54,9 +54,15 @@ set_either : (cells : List ℕ) (i j k d : ℕ) → i < length cells → j < len
 set_either cells i j k d low lower (inl e) = other_case (eqb k j) cells i j k d low lower refl e
 set_either cells i j k d low lower (inr e) = set_same (set cells i d) j k d (omega (arith, lower, length-set cells i d)) e
 
+on_pair : (n u v x y a b : ℕ) → IsPair u v x y → x ≡ a → y ≡ b → (u * n + v ≡ a * n + b) ⊎ (u * n + v ≡ b * n + a)
+on_pair n u v x y a b h1 h2 h3 = grind (arith, nat_tests)
+
 swapped : {P Q : Type 0} → P ⊎ Q → Q ⊎ P
 swapped (inl p) = inr p
 swapped (inr q) = inl q
+
+off_pair : (u v x y a b : ℕ) → IsPair u v x y → (eqb x a && eqb y b) ≡ false → (eqb x b && eqb y a) ≡ false → u ≡ a → v ≡ b → ⊥
+off_pair u v x y a b h1 h2 h3 h4 h5 = grind (arith, nat_tests, eq-eqb)
 
 by_tests : (t s : Bool) (cells : List ℕ) (n a b d u v x y : ℕ) → length cells ≡ n * n → a < n → b < n → u < n → v < n → IsPair u v x y
     → (eqb x a && eqb y b) ≡ t → (eqb x b && eqb y a) ≡ s →
@@ -65,17 +71,17 @@ by_tests true s cells n a b d u v x y len la lb lu lv pair e f =
     let both = both_true (eqb x a) (eqb y b) e in
     set_either cells (a * n + b) (b * n + a) (u * n + v) d (omega (arith, len, in_cells n a b la lb))
     (omega (arith, len, in_cells n b a lb la))
-    (grind (arith, nat_tests, (eqb-true x a both.0), (eqb-true y b both.1)))
+    (on_pair n u v x y a b pair (eqb-true x a both.0) (eqb-true y b both.1))
 by_tests false true cells n a b d u v x y len la lb lu lv pair e f =
     let both = both_true (eqb x b) (eqb y a) f in
     set_either cells (a * n + b) (b * n + a) (u * n + v) d (omega (arith, len, in_cells n a b la lb))
     (omega (arith, len, in_cells n b a lb la))
-    (swapped (grind (arith, nat_tests, (eqb-true x b both.0), (eqb-true y a both.1))))
+    (swapped (on_pair n u v x y b a pair (eqb-true x b both.0) (eqb-true y a both.1)))
 by_tests false false cells n a b d u v x y len la lb lu lv pair e f =
     get_or-set_other (set cells (a * n + b) d) (b * n + a) (u * n + v) d 0
-    (λ g. let s = same_cell n b a u v la lv g in grind (arith, nat_tests, eq-eqb, s.0, s.1))
+    (λ g. let s = same_cell n b a u v la lv g in off_pair u v x y b a pair f e s.0 s.1)
     ∙ get_or-set_other cells (a * n + b) (u * n + v) d 0
-    (λ g. let s = same_cell n a b u v lb lv g in grind (arith, nat_tests, eq-eqb, s.0, s.1))
+    (λ g. let s = same_cell n a b u v lb lv g in off_pair u v x y a b pair e f s.0 s.1)
 
 ordered : (x y : ℕ) → (x < y) ⊎ (y ≤ x) → IsPair (min x y) (max x y) x y
 ordered x y (inl less) = inl (omega (arith, less), omega (arith, less))

@@ -25,13 +25,11 @@ use Rattle.pec_codec.specs.Laws.{BlocksKeepLaws, RestoresDesign, BlockRoundTrips
 use Rattle.pec_codec.specs.Reading.{pec_block_moves, pec_block_reads, pec_block_records, pec_block_shown}
 use Rattle.pec_codec.specs.Records.{pec_records}
 use Rattle.pec_codec.specs.Writing.{pec_block_of, pec_body_of, thumbnail_distance, pec_write_limits, pec_encoding, thumbnails_of, pec_block_writes}
-use Rattle.pec_codec.proofs.HeaderLemmas.{length-pec_header_of}
+use Rattle.pec_codec.proofs.HeaderLemmas.{labels_fit, length-pec_header_of}
 use Rattle.pec_codec.proofs.LabelLemmas.{pec_label_of-block, thread_of-threads, threads_in-block}
 use Rattle.pec_codec.proofs.ReadingLemmas.{reads-long}
 use Rattle.pec_codec.proofs.RoundTripLemmas.{rereads, taken}
 use Rattle.pec_codec.proofs.CallerLemmas.{again_from}
-use Rattle.format_traits.proofs.CallerLemmas.{length-padded_right}
-use Rattle.std.proofs.lemmas.List.FromFn.{length-map-range_with_len}
 
 -- the end, and what follows it
 abbrev tail_of : DesignValue → List ℕ
@@ -63,8 +61,7 @@ pec_block_records-block d before long =
 header_long : AcceptedIsWithinLimits → (d : DesignValue) → KeepsLimits d → first_refusal pec_write_limits (acts_of d) ≡ None
     → (stops_of (acts_of d) ≤ MAX_STOPS)
     × (length (pec_header_of d (stops_of (acts_of d)) (thumbnail_distance (pec_body_of d))) ≡ HEADER_LENGTH)
-header_long accepted d limits passed =
-    grind (arith, nat_tests, length-pec_header_of, length-padded_right, length-map-range_with_len, length-append, limits.label.short)
+header_long accepted d limits passed = grind (arith, nat_tests, length-pec_header_of, labels_fit, limits.label.short)
 
 -- a block reaches to its records
 block_long : (before header body thumbnails : List ℕ) → length header ≡ HEADER_LENGTH

@@ -24,13 +24,16 @@ pub record AreNear (points : List Point) : Type 0 where
   pub columns : All IsNear (x_coordinates points)
   pub rows : All IsNear (y_coordinates points)
 
+near-cons : (p : Point) (points : List Point) → IsTrue (is_point_within NEEDLE_LIMIT p) → AreNear points → AreNear (p ∷ points)
+near-cons p points h1 h2 = grind (arith, nat_tests, ints)
+
 -- the needles of commands in range are near
 pub needles_near : (n : ℕ) (loose jumped : Bool) (commands : List Command)
     → IsTrue (list_all is_command_in_range commands) → AreNear (needle_points_of_acts (acts_from n loose jumped commands))
 needles_near n loose jumped [] all = record { columns = All-nil IsNear; rows = All-nil IsNear }
 needles_near n loose jumped (Stitch p ∷ rest) all =
     let both = and_parts (is_command_in_range (Stitch p)) (list_all is_command_in_range rest) all in
-    grind (arith, nat_tests, both.0, (needles_near (n + 1) false false rest both.1))
+    near-cons p (needle_points_of_acts (acts_from (n + 1) false false rest)) both.0 (needles_near (n + 1) false false rest both.1)
 needles_near n loose jumped (Jump p ∷ rest) all = needles_near (n + 1) loose true rest
     (and_parts (is_command_in_range (Jump p)) (list_all is_command_in_range rest) all).1
 needles_near n true jumped (Trim ∷ rest) all = needles_near (n + 1) true jumped rest all
@@ -43,6 +46,10 @@ near_one z zs all (k, below, is) = subst IsNear is (all k z below)
 
 difference : (y z : ℤ) → IsNear y → IsNear z → unsigned_abs (y -ℤ z) < 2 ^ 16
 difference y z near_y near_z = omega (arith, ints, near_y, near_z)
+
+pub narrow : (points : List Point) (extent : Option Extent) → AreNear points → IsExtentOrNone points extent
+    → extent_width extent < 2 ^ 16
+narrow points extent h1 h2 = grind (arith, nat_tests, ints)
 
 pub low : (points : List Point) (extent : Option Extent) → AreNear points → IsExtentOrNone points extent
     → extent_height extent < 2 ^ 16

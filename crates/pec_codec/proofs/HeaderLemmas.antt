@@ -20,6 +20,11 @@ threads_more d count thread start out more of_thread of_out of_more =
     ∙ ap (λ byte. start ++ (threads_of d count ++ byte ∷ [])) of_thread
     ∙ ap (λ bytes. start ++ bytes) (sym one)
 
+-- the label and the threads of as many blocks as there may be have room
+pub labels_fit : (d : DesignValue) (stops : ℕ) → length d.label ≤ MAX_LABEL → stops ≤ MAX_STOPS
+    → length (labels_of d stops) ≤ LABELS_LENGTH
+labels_fit d stops short few = grind (arith, nat_tests, d.label, length-padded_right, length-map-range_with_len, length-append)
+
 -- a header has all its bytes
 pub length-pec_header_of : (d : DesignValue) (stops distance : ℕ) → length (labels_of d stops) ≤ LABELS_LENGTH
     → length (pec_header_of d stops distance) ≡ HEADER_LENGTH

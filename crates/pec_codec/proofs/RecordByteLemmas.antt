@@ -21,3 +21,8 @@ pub leading_coordinate-short : (z : ℤ) (rest : List ℕ) → IsTrue (is_short_
     → leading_coordinate (to_twos_complement 64 z ∷ rest) ≡ Some (coordinate_at 1 z false false)
 leading_coordinate-short z rest h1 = grind (arith, nat_tests, ints)
 
+-- what a number in two bytes reads as, whatever follows
+pub leading_coordinate-long : (k : ℕ) (z : ℤ) (rest : List ℕ) → k < 4 → unsigned_abs z ≤ LIMIT
+    → leading_coordinate ((128 + 16 * k + to_twos_complement 2048 z / 256) ∷ to_twos_complement 2048 z % 256 ∷ rest)
+    ≡ Some (coordinate_at 2 z (k / 2 == 1) (k % 2 == 1))
+leading_coordinate-long k z rest h1 h2 = grind (arith, nat_tests, ints)

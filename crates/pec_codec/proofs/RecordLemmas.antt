@@ -54,6 +54,10 @@ is_whole (cut.Incomplete ended) = false
 is_whole (cut.Refused f) = true
 is_whole (cut.Record event size) = true
 
+-- what is cut stays as it is, whatever bytes follow
+cut_stays : (bytes more : List ℕ) (c : NextRecord) → c ≡ next_record_in bytes → is_whole c ≡ true → c ≡ next_record_in (bytes ++ more)
+cut_stays bytes more c h1 h2 = grind (arith, nat_tests, ints)
+
 -- no bytes decode to an incomplete record
 none_cut : (c : NextRecord) → c ≡ next_record_in [] → is_whole c ≡ true → ⊥
 none_cut c is whole = false≢true (sym (ap is_whole is) ∙ whole)
@@ -63,7 +67,7 @@ pub cuts_record : (at : ℕ) (bytes : List ℕ) (c : NextRecord) → c ≡ next_
     → DecodesRecord pec_records pec_records at bytes c
 cuts_record at [] cut.End is fits = absurd (none_cut cut.End is refl)
 cuts_record at (byte ∷ rest) cut.End is fits =
-    λ more. cut_first at byte (rest ++ more) cut.End (grind (arith, nat_tests, cut.End))
+    λ more. cut_first at byte (rest ++ more) cut.End (cut_stays (byte ∷ rest) more cut.End is refl)
 cuts_record at [] (cut.Incomplete ended) is fits = record {
   few = fits;
   same = λ at bytes. refl;
@@ -76,11 +80,11 @@ cuts_record at (byte ∷ rest) (cut.Incomplete ended) is fits = record {
 }
 cuts_record at [] (cut.Refused f) is fits = absurd (none_cut (cut.Refused f) is refl)
 cuts_record at (byte ∷ rest) (cut.Refused f) is fits =
-    λ more. cut_first at byte (rest ++ more) (cut.Refused f) (grind (arith, nat_tests, (cut.Refused f)))
+    λ more. cut_first at byte (rest ++ more) (cut.Refused f) (cut_stays (byte ∷ rest) more (cut.Refused f) is refl)
 cuts_record at bytes (cut.Record event size) is fits = record {
   some = fits.0;
   there = fits.1;
-  is = λ more. record_first at size event (bytes ++ more) (grind (arith, nat_tests, (cut.Record event size))) fits.0
+  is = λ more. record_first at size event (bytes ++ more) (cut_stays bytes more (cut.Record event size) is refl) fits.0
       (omega (arith, fits.1, length-append bytes more))
       ∙ ap (λ left. next at event (pec_records (at + size) left)) (drop-append-le size bytes more fits.1);
   small = fits.2;

@@ -16,7 +16,7 @@ use Rattle.pec_codec.specs.Records.{next_record_in, event_of_pair, pec_records}
 use Rattle.pec_codec.specs.RecordBytes.{long_record, pec_stop_record}
 use Rattle.pec_codec.specs.Writing.{pec_write_limits, pec_encoding}
 use Rattle.pec_codec.proofs.RecordLemmas.{record_first}
-use Rattle.pec_codec.proofs.RecordByteLemmas.{coordinate_at, leading_coordinate-short, unsigned_long, unsigned_short}
+use Rattle.pec_codec.proofs.RecordByteLemmas.{coordinate_at, leading_coordinate-long, leading_coordinate-short, unsigned_long, unsigned_short}
 
 -- two coordinates of which the first is neither the end nor a stop
 next_record_in-pair : (first second : ℕ) (rest : List ℕ) (x y : Coordinate) → first < 254
@@ -57,8 +57,8 @@ long_reads k at m rest few within =
     record_first at 4 (event_of_pair x y) (high k m.x ∷ low m.x ∷ high k m.y ∷ low m.y ∷ rest)
     (sym (next_record_in-pair (high k m.x) (low m.x) (high k m.y ∷ low m.y ∷ rest) x y
     (omega (arith, few, unsigned_long m.x))
-    (grind (arith, nat_tests, small.0))
-    (grind (arith, nat_tests, small.1))))
+    (leading_coordinate-long k m.x (high k m.y ∷ low m.y ∷ rest) few small.0)
+    (leading_coordinate-long k m.y rest few small.1)))
     (omega arith) (omega arith)
 
 -- a stitch, whether its numbers are short or not

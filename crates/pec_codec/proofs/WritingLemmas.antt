@@ -31,17 +31,25 @@ length-concat-append : (xs ys : List (List ℕ)) → length (concat (xs ++ ys)) 
 length-concat-append [] ys = omega arith
 length-concat-append (x ∷ xs) ys = grind (arith, nat_tests, length-append, (length-concat-append xs ys))
 
+-- a stitch, whether its numbers are short or not
+stitch_length : (short : Bool) (m : Point)
+    → length (if short then short_bytes m.x ++ short_bytes m.y else long_record 0 m) ≤ 4
+stitch_length short m = grind (arith, nat_tests, ints)
+
 length-stitch : (m : Point) → length (pec_stitch_record m) ≤ 4
-length-stitch m = grind (arith, nat_tests)
+length-stitch m = stitch_length (is_short_number m.x && is_short_number m.y) m
 
 length-jumps : (m : Point) (n done count : ℕ) → length (concat (map pec_jump_record (part_moves_from m n done count))) ≡ 4 * count
 length-jumps m n done zero = refl
 length-jumps m n done (suc count) = omega (arith, length-jumps m n (done + 1) count)
 
+length-hops_of : (count : ℕ) (m : Point) → length (concat (hop_records pec_encoding count m)) ≤ 4 * (count + 1)
+length-hops_of count m = grind (arith, nat_tests, length-concat-append, length-jumps)
+
 needle_length : (loose float : Bool) (m : Point)
     → length (concat (needle_records pec_encoding pec_write_limits loose float m)) ≤ 4 * room_of_needle LIMIT loose float m
-needle_length true float m = grind (arith, nat_tests, length-concat-append, length-jumps, loose_room)
-needle_length false true m = grind (arith, nat_tests, length-concat-append, length-jumps, (max 1 (hops_of LIMIT m)))
+needle_length true float m = grind (arith, nat_tests, length-hops_of, loose_room)
+needle_length false true m = length-hops_of (max 1 (hops_of LIMIT m)) m
 needle_length false false m =
     omega (arith, length-stitch m, length-append (pec_stitch_record m) [])
 
@@ -57,7 +65,7 @@ pub records_length : (before : EncoderState) (acts : List NumberedAct)
     → length (concat (records_of_acts_from pec_encoding pec_write_limits before acts)) ≤ 4 * room_from LIMIT before.loose before.place acts
 records_length before [] = omega arith
 records_length before (a ∷ rest) =
-    grind (arith, nat_tests, length-concat-append, act_length, (records_length (encoder_state_after LIMIT before a.act) rest))
+    grind (arith, nat_tests, length-concat-append, a.act, act_length, (records_length (encoder_state_after LIMIT before a.act) rest))
 
 -- one thumbnail more
 pub thumbnail_more : (start out more : List ℕ) (count : ℕ) → out ≡ start ++ replicate (THUMBNAIL_LENGTH * count) 0
@@ -69,3 +77,18 @@ thumbnail_more start out more count of_out of_more =
     ∙ ap (λ bytes. start ++ bytes) (replicate-append-replicate {A = ℕ} (THUMBNAIL_LENGTH * count) THUMBNAIL_LENGTH 0)
     ∙ ap (λ n. start ++ replicate n 0) all
 
+-- the records of all acts, and the end
+pub body_put : (d : DesignValue) (commands : List Command) (out middle new : List ℕ) (state : EncoderState)
+    → commands ≡ d.commands → AppendsRecords pec_encoding pec_write_limits (acts_along commands) out (Ok state) middle
+    → new ≡ middle ++ 255 ∷ [] → AppendsBody d out (Ok state.stops) new
+body_put d commands out middle new state of_commands puts of_new = grind (arith, nat_tests, append_assoc, stops_along)
+
+-- the stops of a design that is not refused
+pub body_stops : (d : DesignValue) (out new : List ℕ) (stops : ℕ) → AcceptedIsWithinLimits → KeepsLimits d
+    → AppendsBody d out (Ok stops) new → stops ≤ MAX_STOPS
+body_stops d out new stops h1 h2 h3 = grind (arith, nat_tests, ints)
+
+-- and its records
+pub body_short : (d : DesignValue) (out new : List ℕ) (stops : ℕ) → AcceptedIsWithinLimits → KeepsLimits d
+    → AppendsBody d out (Ok stops) new → length (pec_body_of d) ≤ 4 * MAX_COMMANDS + 1
+body_short d out new stops accepted limits puts = grind (arith, nat_tests, length-append, records_length, puts.0)

@@ -37,6 +37,10 @@ more_sum f (e ∷ edges) (c ∷ cs) (suc k) below same = grind (arith, nat_tests
 pub adds_none : (cs places : List ℕ) → places ≡ [] → AddsCopies cs places cs
 adds_none cs places is = grind (arith, nat_tests)
 
+pub adds_one : (cs next places rest new : List ℕ) (k : ℕ) → places ≡ k ∷ rest → next ≡ incremented_at cs k → k < length cs
+    → AddsCopies next rest new → AddsCopies cs places new
+adds_one cs next places rest new k is more below adds = grind (arith, nat_tests, more_length, more_up, more_sum)
+
 -- what is left to add, after one place
 pub record Left (cs places : List ℕ) : Type 0 where
   pub there : All (λ k. k < length cs) places
@@ -51,6 +55,9 @@ left_one cs next places rest k is more there few =
       there = rw (more_length cs k) (All-tail (λ k. k < length cs) k rest here);
       few = omega (arith, more_up cs k below, ap length is, few);
     })
+
+pub has_room : (cs places rest : List ℕ) (k : ℕ) → places ≡ k ∷ rest → total_copies cs + length places < 2 ^ 32 → get_or cs k 0 < 2 ^ 32 - 1
+has_room cs places rest k is few = omega (arith, get_within cs k, ap length is, few)
 
 pub first_below : (cs places rest : List ℕ) (k : ℕ) → places ≡ k ∷ rest → All (λ k. k < length cs) places → k < length cs
 first_below cs places rest k is there = All-head (λ k. k < length cs) k rest (subst (λ (ps : List ℕ). All (λ k. k < length cs) ps) is there)

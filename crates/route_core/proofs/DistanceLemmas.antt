@@ -11,6 +11,9 @@ use Rattle.route_core.specs.Distances.{HasFilledEntries, is_filled_entry}
 none_before : (a x y : ℕ) → x < y → is_filled_entry a (a + 1) x y ≡ false
 none_before a x y xy = grind (arith, nat_tests)
 
+pub filled_none : (rows : RowsValue) (a : ℕ) (t : TableValue) → HasFilledEntries rows a (a + 1) t t
+filled_none rows a t = grind (arith, nat_tests)
+
 -- a terminal is a junction
 pub terminal_there : (p : PieceValue) (rows : RowsValue) (terminals : List ℕ) (b : ℕ) → AreRows p rows → rows.terminals ≡ terminals
     → b < length terminals → get_or terminals b 0 < length p.junctions

@@ -47,13 +47,19 @@ doubles_spelled d lines cert first keeps below sewable begins none = record {
 abbrev unended : DrawingValue → DrawingValue
 unended d = record d { starts = []; ends = [] }
 
+unended_keeps : (d : DrawingValue) → KeepsDrawingLimits d → KeepsDrawingLimits (unended d)
+unended_keeps d keeps = grind (arith, nat_tests)
+
+unended_kept : (d : DrawingValue) (lines : List ℕ) → IsValidPiece (piece_graph d lines) → IsValidPiece (piece_graph (unended d) lines)
+unended_kept d lines kept = grind (arith, nat_tests)
+
 -- a walk that fits a piece without them can be sewn
 sewable_so : (d : DrawingValue) (lines : List ℕ) (walk : List Pass) → KeepsDrawingLimits d → FittingWalksAreSewable
     → All (λ line. line < length d.lines) lines → IsValidPiece (piece_graph d lines)
     → is_fitting_walk (without_ends (piece_graph d lines)) walk ≡ true
     → IsSewable d lines walk
 sewable_so d lines walk keeps sews below kept fit =
-    let s = sews (unended d) lines walk (grind (arith, nat_tests)) below (grind (arith, nat_tests)) fit in
+    let s = sews (unended d) lines walk (unended_keeps d keeps) below (unended_kept d lines kept) fit in
     record { there = s.there; penetrations = s.penetrations; near = s.near }
 
 -- all that is known of a piece and its double walk

@@ -94,3 +94,8 @@ spelled p kept rows pairs moats cert lifted walk = record {
     few_members : (n lines : ℕ) (js : List ℕ) → n ≤ lines + 1 → lines ≤ 1024 → All (λ j. j < n) js → All (λ j. j + 1 < 2 ^ 32) js
     few_members n lines js a b few = λ i. λ d. λ below. omega (arith, few i d below, a, b)
 
+-- what is left of the pairs costs what is left
+pub cost_goes_on : (rows : RowsValue) (pairs left rest : List Pair) (q : Pair) (cost one : ℕ) → left ≡ q ∷ rest → one
+    ≡ pair_costs rows (q ∷ [])
+    → cost + pair_costs rows left ≡ pair_costs rows pairs → cost + one + pair_costs rows rest ≡ pair_costs rows pairs
+cost_goes_on rows pairs left rest q cost one is cost_is whole = omega (arith, ap (pair_costs rows) is, cost_is, whole)

@@ -141,3 +141,7 @@ is_matched p rows t odd_rows table is_table pairs moats m =
       paid = m.paid ∙ ap (λ (k : ℕ). 2 * k) (sym (costs_are p rows t table pairs there));
     }
 
+-- the distances of the rows of odd junctions
+pub table_is : (p : PieceValue) (rows : RowsValue) (odds : List ℕ) (t : TableValue) → AreOddRows p rows → rows.terminals ≡ odds
+    → t.places ≡ length odds → HasDistances rows t → IsTableOf p rows t
+table_is p rows odds t odd_rows is places distances = grind (arith, nat_tests)

@@ -8,6 +8,7 @@ use Rattle.line_graph.specs.declared.edge.Edge.{Edge}
 use Rattle.line_graph.specs.PieceGraphs.{PieceValue}
 use Rattle.line_graph.specs.PieceWalks.{edge_cost}
 use Rattle.odd_paths.specs.LeastRows.{RowsValue}
+use Rattle.route_core.proofs.PathLemmas.{adds_more, adds_no_pairs}
 use Rattle.route_core.specs.Copies.{AddsPairs, IsPairOf, copies_sum, pair_costs}
 
 -- what adds the pairs that are left has added all of them
@@ -22,8 +23,17 @@ none_cost f [] n = refl
 none_cost f (e ∷ es) zero = refl
 none_cost f (e ∷ es) (suc n) = grind (arith, nat_tests, none_cost f es n)
 
+pub begun : (p : PieceValue) (rows : RowsValue) (pairs : List Pair) (cs : List ℕ) → cs ≡ replicate (length p.edges) 0
+    → All (IsPairOf rows) pairs → pair_costs rows pairs < 2 ^ 32 → LeftPairs p rows pairs cs pairs
+begun p rows pairs cs is there few = grind (arith, nat_tests, length-replicate, none_cost)
+
 pub first_pair : (rows : RowsValue) (pairs rest : List Pair) (q : Pair) → pairs ≡ q ∷ rest → All (IsPairOf rows) pairs → IsPairOf rows q
 first_pair rows pairs rest q is there = All-head (IsPairOf rows) q rest (subst (λ (qs : List Pair). All (IsPairOf rows) qs) is there)
+
+pub room_for_pair : (p : PieceValue) (rows : RowsValue) (pairs : List Pair) (cs : List ℕ) (left rest : List Pair) (q : Pair) → left
+    ≡ q ∷ rest
+    → LeftPairs p rows pairs cs left → copies_sum edge_cost p.edges cs + pair_costs rows (q ∷ []) < 2 ^ 32
+room_for_pair p rows pairs cs left rest q is l = omega (arith, l.few, ap (pair_costs rows) is)
 
 pub goes_on : (p : PieceValue) (rows : RowsValue) (pairs : List Pair) (cs next : List ℕ) (left rest : List Pair) (q : Pair) → left
     ≡ q ∷ rest
@@ -33,9 +43,9 @@ goes_on p rows pairs cs next left rest q is l adds = record {
   sized = adds.sized ∙ l.sized;
   few = omega (arith, l.few, ap (pair_costs rows) is, adds.costs);
   whole = λ new. λ more. l.whole new (subst (λ (qs : List Pair). AddsPairs p rows qs cs new) (sym is)
-      (grind (arith, nat_tests)));
+      (adds_more p rows q rest cs next new adds more));
 }
 
 pub ended : (p : PieceValue) (rows : RowsValue) (pairs : List Pair) (cs : List ℕ) (left : List Pair) → left ≡ []
     → LeftPairs p rows pairs cs left → AddsPairs p rows pairs (replicate (length p.edges) 0) cs
-ended p rows pairs cs left is l = l.whole cs (subst (λ (qs : List Pair). AddsPairs p rows qs cs cs) (sym is) (grind (arith, nat_tests)))
+ended p rows pairs cs left is l = l.whole cs (subst (λ (qs : List Pair). AddsPairs p rows qs cs cs) (sym is) (adds_no_pairs p rows cs))

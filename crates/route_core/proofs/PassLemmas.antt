@@ -148,12 +148,12 @@ ends_are [] copies v sized = refl
 ends_are (e ∷ es) [] v sized = absurd (omega arith)
 ends_are (e ∷ es) (c ∷ copies) v sized = grind (arith, nat_tests, ends_are es copies v (omega arith))
 
-pub cost_is : (es : List Edge) (copies : List ℕ) → copies_cost es copies ≡ copies_sum edge_cost es copies
+cost_is : (es : List Edge) (copies : List ℕ) → copies_cost es copies ≡ copies_sum edge_cost es copies
 cost_is [] copies = refl
 cost_is (e ∷ es) [] = refl
 cost_is (e ∷ es) (c ∷ copies) = rw (cost_is es copies) refl
 
-pub count_is : (copies : List ℕ) → pass_count copies ≡ total_copies copies + length copies
+count_is : (copies : List ℕ) → pass_count copies ≡ total_copies copies + length copies
 count_is [] = refl
 count_is (c ∷ copies) = omega (arith, sum_by-cons (λ (c : ℕ). c + 1) c copies, count_is copies)
 
@@ -258,3 +258,7 @@ can_pass p kept rows odd_rows pairs there each few copies adds =
     even : (c d k e s z q : ℕ) → k ≡ c + d → e ≡ d + s → z ≡ 0 → ((s + z) + q) % 2 ≡ 0 → (k + q) % 2 ≡ 0 → (c + e) % 2 ≡ 0
     even c d k e s z q a b n h g = omega arith
 
+-- and a tour over them is a walk by the pairs
+pub walk_is : (p : PieceValue) → IsValidPiece p → (rows : RowsValue) (pairs : List Pair) (copies : List ℕ) (walk : List Pass)
+    → AddsPairs p rows pairs (replicate (length p.edges) 0) copies → IsTour p copies walk → IsWalkBy p rows pairs walk
+walk_is p kept rows pairs copies walk adds tour = grind (arith, nat_tests, count_is, length-replicate, cost_is, none_cost)

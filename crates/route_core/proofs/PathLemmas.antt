@@ -142,3 +142,10 @@ adds_pair p kept rows q old new places sized path adds = record {
     ends : (n o s w i j : ℕ) → n ≡ o + s → w ≡ s → ((w + i) + j) % 2 ≡ 0 → ((n + o) + ((i + j) + 0)) % 2 ≡ 0
     ends n o s w i j is same even = omega arith
 
+-- copies for a pair, and then for further ones
+pub adds_more : (p : PieceValue) (rows : RowsValue) (q : Pair) (pairs : List Pair) (old next new : List ℕ)
+    → AddsPairs p rows (q ∷ []) old next → AddsPairs p rows pairs next new → AddsPairs p rows (q ∷ pairs) old new
+adds_more p rows q pairs old next new one rest = grind (arith, nat_tests)
+
+pub adds_no_pairs : (p : PieceValue) (rows : RowsValue) (cs : List ℕ) → AddsPairs p rows [] cs cs
+adds_no_pairs p rows cs = omega arith

@@ -108,10 +108,14 @@ needles_few d (p ∷ pieces) (c ∷ certs) all =
       sum_by-cons (λ lines. piece_cost (piece_graph d lines)) p pieces,
     )
 
+runs_count : (d : DrawingValue) (pieces : List (List ℕ)) (certs : List PieceCert) → AllZip (Sewn d) pieces certs
+    → length (runs_of d (walks_of certs)) ≡ length pieces
+runs_count d pieces certs all = grind (arith, nat_tests, length-map, AllZip-long)
+
 writable : (d : DrawingValue) → KeepsDrawingLimits d → (pieces : List (List ℕ)) (certs : List PieceCert) → ArePiecesWithin d pieces
     → AllZip (Sewn d) pieces certs
     → AreWritable d.step (runs_of d (walks_of certs))
-writable d keeps pieces certs within all = grind (arith, nat_tests, near_of, length-map, AllZip-long, needles_few, along_of)
+writable d keeps pieces certs within all = grind (arith, nat_tests, near_of, runs_count, needles_few, along_of)
 
 -- what is needed to sew the certificates, and what is then known
 pub record Able (d : DrawingValue) (certs : List PieceCert) : Type 0 where

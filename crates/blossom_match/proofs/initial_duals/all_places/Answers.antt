@@ -1,12 +1,10 @@
 use Rattle.std.proofs.lemmas.Bool.Decides.{nat_tests}
 use Rattle.std.proofs.Common.{arith, length-append, length, ℕ, List, ◌∷◌, [], ap}
+use Rattle.blossom_match.proofs.EndLemmas.{places_more}
 use Rattle.blossom_match.proofs.initial_duals.all_places.Goals as goal
-use Rattle.odd_sets.proofs.CallerLemmas.{count-append}
-use Rattle.std.proofs.lemmas.Bool.{ltb-true, eqb-true, ltb-false, eqb-false}
 
 pub loop-place-preserved : goal.loop-place-preserved
 loop-place-preserved c = record {
-  counts = λ x. grind (arith, nat_tests, count-append, ltb-true, eqb-true, ltb-false, eqb-false, c.in_ok-push.ensures.items,
-      (c.loop-place.invariant.counts x));
+  counts = λ x. places_more x c.loop-place.place c.loop-place.places.items _ c.in_ok-push.ensures.items (c.loop-place.invariant.counts x);
   size = grind (arith, nat_tests, c.loop-place.invariant.size, length-append c.loop-place.places.items (c.loop-place.place ∷ []));
 }

@@ -3,9 +3,9 @@ use Rattle.std.proofs.Common.{get_or, arith, refl, sym, List, ◌++◌, subst}
 use Rattle.std.proofs.lemmas.List.{append-nil, length-map, take_all}
 use Rattle.blossom_match.specs.OuterSlacks.{AreOuterSlacks}
 use Rattle.odd_sets.specs.Values.{BranchValue}
-use Rattle.blossom_match.proofs.OuterSlackLemmas.{reaches_next}
+use Rattle.blossom_match.proofs.OuterSlackLemmas.{fits_row, reaches_next}
 use Rattle.odd_sets.specs.Slots.{branch_in, branches_in}
-use Rattle.odd_sets.proofs.CallerLemmas.{mapped_item, mapped_low, no_branch, each_here}
+use Rattle.odd_sets.proofs.CallerLemmas.{mapped_item, mapped_low, no_branch}
 use Rattle.blossom_match.proofs.outer_slacks.add_branch_slacks.Goals as goal
 
 pub loop-b-init : goal.loop-b-init
@@ -17,9 +17,11 @@ loop-b-init c = record {
 
 pub add_set_slacks-requires : goal.add_set_slacks-requires
 add_set_slacks-requires c =
-    grind (arith, nat_tests, each_here, c.loop-b.b-index, c.loop-b.reach, c.requires, (mapped_low (branch_in c.args.sets.now)
-        c.args.tree.now c.loop-b.b-index c.loop-b-test.true), (mapped_item (branch_in c.args.sets.now) c.args.tree.now c.loop-b.b-index
-        no_branch), c.loop-b.invariant.size)
+    fits_row (branches_in c.args.sets.now c.args.tree.now) c.loop-b.b-index (branch_in c.args.sets.now
+    (get_or c.args.tree.now c.loop-b.b-index no_branch)) c.args.reach.now c.loop-b.reach c.requires
+    (mapped_low (branch_in c.args.sets.now) c.args.tree.now c.loop-b.b-index c.loop-b-test.true)
+    (mapped_item (branch_in c.args.sets.now) c.args.tree.now c.loop-b.b-index no_branch)
+    c.loop-b.invariant.size
 
 pub loop-b-preserved : goal.loop-b-preserved
 loop-b-preserved c = record {

@@ -5,9 +5,9 @@ use Rattle.odd_sets.specs.Slots.{branch_in, branches_in}
 use Rattle.blossom_match.specs.States.{search_value}
 use Rattle.odd_sets.specs.Values.{BranchValue}
 use Rattle.odd_sets.specs.declared.branches.Branch.{Branch}
-use Rattle.odd_sets.proofs.CallerLemmas.{each-drop, each-take, mapped_cut, each-map}
+use Rattle.odd_sets.proofs.CallerLemmas.{each-drop, each-take, mapped_cut}
+use Rattle.blossom_match.proofs.OuterSlackLemmas.{have_outer_rows}
 use Rattle.blossom_match.proofs.outer_slacks.add_slacks_from.Goals as goal
-use Rattle.std.proofs.lemmas.Bool.Decides.{nat_tests}
 
 pub add_branch_slacks-requires : goal.add_branch_slacks-requires
 add_branch_slacks-requires c =
@@ -17,7 +17,7 @@ add_branch_slacks-requires c =
     subst (λ (ks : List BranchValue). Each row ks)
     (sym (mapped_cut (branch_in c.args.s.now.sets) n c.args.at c.deref.result.now
     ∙ ap (λ (ks : List Branch). take n (drop c.args.at (branches_in c.args.s.now.sets ks))) c.deref.ensures.value))
-    (each-take row n (drop c.args.at s.tree) (each-drop row c.args.at s.tree (grind (arith, nat_tests, each-map, c.requires.can))))
+    (each-take row n (drop c.args.at s.tree) (each-drop row c.args.at s.tree (have_outer_rows s c.args.reach.now c.requires.can)))
 
 pub returns : goal.returns
 returns c =

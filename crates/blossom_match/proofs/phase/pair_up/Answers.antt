@@ -4,11 +4,9 @@ use Rattle.blossom_match.specs.Searches.{stored_height}
 use Rattle.odd_sets.specs.Slots.{matches_in}
 use Rattle.blossom_match.specs.States.{search_value}
 use Rattle.blossom_match.proofs.EndLemmas.{begins, place_there}
-use Rattle.blossom_match.proofs.LoweredLemmas.{begins_reach}
+use Rattle.blossom_match.proofs.LoweredLemmas.{begins_reach, searched}
 use Rattle.blossom_match.proofs.MaskLemmas.{have_cells, masks_anew}
 use Rattle.blossom_match.proofs.phase.pair_up.Goals as goal
-use Rattle.blossom_match.proofs.SearchLemmas.{is_one}
-use Rattle.std.proofs.lemmas.Bool.Decides.{nat_tests}
 
 pub begin-requires-clause-cell : goal.begin-requires-clause-cell
 begin-requires-clause-cell c = place_there c.args.t.now c.args.place (matches_in c.args.from.sets c.args.from.matches.items)
@@ -24,7 +22,7 @@ begin_slacks-requires c =
     let s = begins c.args.t.now c.args.place (matches_in c.args.from.sets c.args.from.matches.items) c.args.from.free.items
     c.args.from.heights.items (search_value c.in_ok-now.now)
     c.requires.stands c.requires.some c.in_ok-now.ensures in
-    record { t = c.args.t.now; can = grind (arith, nat_tests, is_one, s.search); size = c.requires.size }
+    record { t = c.args.t.now; can = searched c.args.t.now (search_value c.in_ok-now.now) s.search; size = c.requires.size }
 
 pub show_from-requires-clause-cells : goal.show_from-requires-clause-cells
 show_from-requires-clause-cells c =

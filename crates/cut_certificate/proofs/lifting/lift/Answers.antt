@@ -1,10 +1,9 @@
-use Rattle.std.proofs.Common.{ap, sym, arith}
+use Rattle.std.proofs.Common.{ap, sym}
 use Rattle.blossom_match.specs.declared.matching.Moat.{Moat}
 use Rattle.line_graph.specs.PiecesOfDrawings.{graph_of}
-use Rattle.cut_certificate.proofs.FitLemmas.{can_reach, lifted_by, piece_site, reach_at}
+use Rattle.cut_certificate.proofs.FitLemmas.{can_reach, cuts_of, lifted_by, piece_site, reach_at, reach_few}
 use Rattle.cut_certificate.proofs.LiftLemmas.{next_lifted}
 use Rattle.cut_certificate.proofs.lifting.lift.Goals as goal
-use Rattle.std.proofs.lemmas.Bool.Decides.{nat_tests}
 
 pub reaches-requires : goal.reaches-requires
 reaches-requires c =
@@ -14,19 +13,26 @@ reaches-requires c =
 
 pub add_cuts-requires : goal.add_cuts-requires
 add_cuts-requires c =
-    grind (arith, nat_tests, (reach_at (graph_of c.args.p.now) c.args.rows.now c.as_slice-moats.result.now c.len.result c.loop-index.index
-        c.index-moats-index.result c.in_ok-reaches.reaches.items c.index.result.now c.as_slice.result.now c.len.ensures
-        c.in_ok-reaches.ensures c.loop-index-test.true c.index-moats-index.is c.index.ensures c.as_slice.ensures.value))
+    reach_few (graph_of c.args.p.now) c.args.rows.now c.as_slice-moats.result.now c.index-moats-index.result c.as_slice.result.now
+    c.args.p.now.kept
+    (reach_at (graph_of c.args.p.now) c.args.rows.now c.as_slice-moats.result.now c.len.result c.loop-index.index c.index-moats-index.result
+    c.in_ok-reaches.reaches.items c.index.result.now c.as_slice.result.now c.len.ensures c.in_ok-reaches.ensures c.loop-index-test.true
+    c.index-moats-index.is
+    c.index.ensures c.as_slice.ensures.value)
 
 pub loop-index-preserved : goal.loop-index-preserved
 loop-index-preserved c =
     next_lifted (piece_site (graph_of c.args.p.now) c.args.rows.now c.as_slice-moats.result.now) c.loop-index.index
     c.index-moats-index.result c.loop-index.cuts
     c.add_cuts.new.cuts c.loop-index-test.true c.index-moats-index.is c.loop-index.invariant
-    (grind (arith, nat_tests, (reach_at (graph_of c.args.p.now) c.args.rows.now c.as_slice-moats.result.now c.len.result
-        c.loop-index.index c.index-moats-index.result c.in_ok-reaches.reaches.items c.index.result.now c.as_slice.result.now c.len.ensures
-            c.in_ok-reaches.ensures c.loop-index-test.true c.index-moats-index.is c.index.ensures c.as_slice.ensures.value), (ap (λ (m :
-                Moat). m.width) (sym c.index-moats-index.is)), c.in_ok-add_cuts.ensures))
+    (cuts_of (piece_site (graph_of c.args.p.now) c.args.rows.now c.as_slice-moats.result.now) c.index-moats-index.result
+    c.as_slice.result.now
+    _ c.loop-index.cuts c.add_cuts.new.cuts
+    (reach_at (graph_of c.args.p.now) c.args.rows.now c.as_slice-moats.result.now c.len.result c.loop-index.index c.index-moats-index.result
+    c.in_ok-reaches.reaches.items c.index.result.now c.as_slice.result.now c.len.ensures c.in_ok-reaches.ensures c.loop-index-test.true
+    c.index-moats-index.is
+    c.index.ensures c.as_slice.ensures.value)
+    (ap (λ (m : Moat). m.width) (sym c.index-moats-index.is)) c.in_ok-add_cuts.ensures)
 
 pub returns : goal.returns
 returns c =

@@ -1,18 +1,17 @@
-use Rattle.std.proofs.Common.{get_or, arith}
-use Rattle.odd_sets.proofs.MatchLemmas.{match_holds, match_here}
+use Rattle.std.proofs.Common.{get_or}
+use Rattle.odd_sets.proofs.MatchLemmas.{match_holds, match_later}
 use Rattle.odd_sets.specs.Slots.{match_in, matches_in}
 use Rattle.odd_sets.proofs.ListLemmas.{mapped_item, mapped_low}
 use Rattle.odd_sets.proofs.HandleLemmas.{no_match}
 use Rattle.odd_sets.proofs.matches.match_with.Goals as goal
-use Rattle.odd_sets.proofs.SumLemmas.{count-append}
-use Rattle.std.proofs.lemmas.Bool.Decides.{nat_tests}
 
 pub loop-i-preserved : goal.loop-i-preserved
 loop-i-preserved c =
     let none = c.holds.ensures.no c.if-holds.false in
-    grind (arith, nat_tests, match_here, count-append, c.loop-i.i,
-          (mapped_low (match_in c.args.sets.now) c.args.matches.now c.loop-i.i c.loop-i-test.true),
-          (mapped_item (match_in c.args.sets.now) c.args.matches.now c.loop-i.i no_match), none.0, none.1, c.loop-i.invariant)
+    match_later c.args.place (matches_in c.args.sets.now c.args.matches.now) c.loop-i.i
+    (match_in c.args.sets.now (get_or c.args.matches.now c.loop-i.i no_match))
+    (mapped_low (match_in c.args.sets.now) c.args.matches.now c.loop-i.i c.loop-i-test.true)
+    (mapped_item (match_in c.args.sets.now) c.args.matches.now c.loop-i.i no_match) none.0 none.1 c.loop-i.invariant
 
 pub returns-then-holds-clause-there : goal.returns-then-holds-clause-there
 returns-then-holds-clause-there c =

@@ -1,11 +1,9 @@
-use Rattle.route_core.proofs.CopyLemmas.{first_below, left_one, get_within, more_length, more_up, more_sum}
+use Rattle.route_core.proofs.CopyLemmas.{adds_one, first_below, has_room, left_one}
 use Rattle.route_core.proofs.copies.add_places.Goals as goal
-use Rattle.std.proofs.Common.{ap, arith}
-use Rattle.std.proofs.lemmas.Bool.Decides.{nat_tests}
 
 pub add_one-requires-clause-few : goal.add_one-requires-clause-few
 add_one-requires-clause-few c =
-    grind (arith, nat_tests, get_within, ap, c.in-Some.k, c.in-Some.ensures.some, c.loop-k.invariant.few)
+    has_room c.loop-k.copies.items c.loop-k.rest.now c.in-Some.after.now c.in-Some.k c.in-Some.ensures.some c.loop-k.invariant.few
 
 pub loop-k-preserved : goal.loop-k-preserved
 loop-k-preserved c =
@@ -16,6 +14,7 @@ loop-k-preserved c =
     record {
       there = left.there;
       few = left.few;
-      whole = λ new. λ adds. i.whole new (grind (arith, nat_tests, more_length, more_up, more_sum, c.in-Some.k, c.in-Some.ensures.some,
-            c.add_one.ensures, (first_below cs c.loop-k.rest.now c.in-Some.after.now c.in-Some.k c.in-Some.ensures.some i.there)));
+      whole = λ new. λ adds. i.whole new (adds_one cs next c.loop-k.rest.now c.in-Some.after.now new c.in-Some.k c.in-Some.ensures.some
+          c.add_one.ensures
+          (first_below cs c.loop-k.rest.now c.in-Some.after.now c.in-Some.k c.in-Some.ensures.some i.there) adds);
     }

@@ -1,22 +1,21 @@
 use Rattle.std.proofs.lemmas.Bool.Decides.{nat_tests}
 use Rattle.std.proofs.Common.{◌∙◌, ap, replicate, ℕ, arith}
 use Rattle.line_graph.specs.PiecesOfDrawings.{graph_of}
-use Rattle.route_core.proofs.PairLemmas.{ended, first_pair, goes_on, none_cost}
+use Rattle.route_core.proofs.PairLemmas.{begun, ended, first_pair, goes_on, room_for_pair}
 use Rattle.route_core.proofs.copies.copies_of.Goals as goal
-use Rattle.std.proofs.lemmas.List.{length-replicate}
 
 pub loop-pair-init : goal.loop-pair-init
 loop-pair-init c =
-    grind (arith, nat_tests, length-replicate, none_cost,
-          (c.in_ok-copies.ensures.items_if_clones_equal (λ y. λ h. h) ∙ ap (λ (n : ℕ). replicate n 0) c.len.ensures), c.requires.pairs,
-          c.requires.few)
+    begun (graph_of c.args.p.now) c.args.rows.now c.args.pairs.now c.in_ok-copies.copies.items
+    (c.in_ok-copies.ensures.items_if_clones_equal (λ y. λ h. h) ∙ ap (λ (n : ℕ). replicate n 0) c.len.ensures) c.requires.pairs
+    c.requires.few
 
 pub add_pair-requires-clause-pair : goal.add_pair-requires-clause-pair
 add_pair-requires-clause-pair c =
     first_pair c.args.rows.now c.loop-pair.rest.now c.in-Some.after.now c.in-Some.pair c.in-Some.ensures.some c.loop-pair.invariant.there
 
 pub add_pair-requires-clause-few : goal.add_pair-requires-clause-few
-add_pair-requires-clause-few c = grind (arith, nat_tests, ap)
+add_pair-requires-clause-few c = grind (arith, nat_tests, room_for_pair)
 
 pub loop-pair-preserved : goal.loop-pair-preserved
 loop-pair-preserved c =

@@ -1,11 +1,8 @@
-use Rattle.std.proofs.Common.{List, ℕ, subst, sym, arith}
+use Rattle.std.proofs.Common.{List, ℕ, subst, sym}
 use Rattle.euler_tour.specs.Tours.{CanPass, IsTour}
 use Rattle.line_graph.specs.PiecesOfDrawings.{graph_of}
-use Rattle.route_core.proofs.PassLemmas.{can_pass, count_is, cost_is}
+use Rattle.route_core.proofs.PassLemmas.{can_pass, walk_is}
 use Rattle.route_core.proofs.piece_route.walk_by.Goals as goal
-use Rattle.std.proofs.lemmas.List.{length-replicate}
-use Rattle.route_core.proofs.PairLemmas.{none_cost}
-use Rattle.std.proofs.lemmas.Bool.Decides.{nat_tests}
 
 pub tour-requires : goal.tour-requires
 tour-requires c =
@@ -16,5 +13,6 @@ tour-requires c =
 
 pub returns : goal.returns
 returns c =
-    grind (arith, nat_tests, count_is, length-replicate, cost_is, none_cost, c.in_ok-walk.walk, c.in_ok-copies.ensures,
-          (subst (λ (copies : List ℕ). IsTour (graph_of c.args.p.now) copies c.in_ok-walk.walk) c.deref.ensures.value c.in_ok-walk.ensures))
+    walk_is (graph_of c.args.p.now) c.args.p.now.kept c.args.rows.now c.args.pairs.now c.in_ok-copies.copies.items c.in_ok-walk.walk
+    c.in_ok-copies.ensures
+    (subst (λ (copies : List ℕ). IsTour (graph_of c.args.p.now) copies c.in_ok-walk.walk) c.deref.ensures.value c.in_ok-walk.ensures)
