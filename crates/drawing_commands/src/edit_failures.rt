@@ -61,6 +61,5 @@ fn describe_no_piece(alloc: Global, name: &str, edit: u64, piece: u32) -> Result
     ensures { IfOk result (λ text.
         string_bytes text ≡ text_at name.now (codes "edit") edit (codes "no piece " ++ decimal piece)) }
 {
-    let text = format!(in alloc; "{name}: edit {edit}: no piece {piece}")?;
-    Ok(text)
+    Ok(format!(in alloc; "{name}: edit {edit}: no piece {piece}")?)
 }

@@ -36,8 +36,7 @@ fn totals_line(alloc: Global, pieces: usize, places: usize) -> Result<String, Me
     ensures { IfOk result (λ text. string_bytes text
         ≡ codes "pieces " ++ (decimal pieces ++ (codes " places " ++ decimal places))) }
 {
-    let text = format!(in alloc; "pieces {pieces} places {places}")?;
-    Ok(text)
+    Ok(format!(in alloc; "pieces {pieces} places {places}")?)
 }
 
 fn lengths_line(alloc: Global, thread: u128, travel: u128) -> Result<String, Memory>
@@ -45,8 +44,7 @@ fn lengths_line(alloc: Global, thread: u128, travel: u128) -> Result<String, Mem
 {
     let thread = thread / 100;
     let travel = travel / 100;
-    let text = format!(in alloc; " thread {thread} travel {travel}\n")?;
-    Ok(text)
+    Ok(format!(in alloc; " thread {thread} travel {travel}\n")?)
 }
 
 fn put_pieces(
@@ -97,10 +95,9 @@ fn summary_text(alloc: Global, summary: &StitchSummary) -> Result<String, Memory
     let shortest = summary.shortest / 100;
     let longest = summary.longest / 100;
     let short = summary.short;
-    let text = format!(in alloc;
+    Ok(format!(in alloc;
         " stitches {stitches} shortest {shortest} longest {longest} short {short}"
-    )?;
-    Ok(text)
+    )?)
 }
 
 fn piece_start(alloc: Global, block: u32, index: usize) -> Result<String, Memory>
@@ -109,16 +106,14 @@ fn piece_start(alloc: Global, block: u32, index: usize) -> Result<String, Memory
 {
     let block = block as u128 + 1;
     let number = index as u128 + 1;
-    let text = format!(in alloc; "block {block} piece {number}")?;
-    Ok(text)
+    Ok(format!(in alloc; "block {block} piece {number}")?)
 }
 
 fn counts_text(alloc: Global, lines: usize, junctions: usize, odd: usize) -> Result<String, Memory>
     ensures { IfOk result (λ text. string_bytes text ≡ codes " lines " ++ (decimal lines
         ++ (codes " junctions " ++ (decimal junctions ++ (codes " odd " ++ decimal odd))))) }
 {
-    let text = format!(in alloc; " lines {lines} junctions {junctions} odd {odd}")?;
-    Ok(text)
+    Ok(format!(in alloc; " lines {lines} junctions {junctions} odd {odd}")?)
 }
 
 fn odd_count(alloc: Global, piece: &Piece) -> Result<usize, Memory>
@@ -155,8 +150,7 @@ fn place_start(alloc: Global, place: &Place) -> Result<String, Memory>
 {
     let block = place.block as u128 + 1;
     let line = place.line as u128 + 1;
-    let text = format!(in alloc; "block {block} line {line} at ")?;
-    Ok(text)
+    Ok(format!(in alloc; "block {block} line {line} at ")?)
 }
 
 fn place_rest(alloc: Global, place: &Place) -> Result<String, Memory>
@@ -165,8 +159,7 @@ fn place_rest(alloc: Global, place: &Place) -> Result<String, Memory>
     let x = place.at.x;
     let y = place.at.y;
     let what = name_of(place.kind);
-    let text = format!(in alloc; "{x} {y}: {what}\n")?;
-    Ok(text)
+    Ok(format!(in alloc; "{x} {y}: {what}\n")?)
 }
 
 /// Returns the name of what a place is.

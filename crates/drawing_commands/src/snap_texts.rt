@@ -34,8 +34,7 @@ fn snap_line(
 ) -> Result<String, Memory>
     ensures { IfOk result (λ text. string_bytes text ≡ snap_report moved listed before after) }
 {
-    let text = format!(in alloc; "moved {moved} listed {listed} pieces {before} to {after}\n")?;
-    Ok(text)
+    Ok(format!(in alloc; "moved {moved} listed {listed} pieces {before} to {after}\n")?)
 }
 
 /// Returns the failure for a drawing that can't be snapped.
@@ -70,6 +69,5 @@ fn describe_vanished(alloc: Global, name: &str, vanished: VanishedLine) -> Resul
 {
     let block = vanished.block as u128 + 1;
     let line = vanished.line as u128 + 1;
-    let text = format!(in alloc; "{name}: block {block} line {line}: would vanish")?;
-    Ok(text)
+    Ok(format!(in alloc; "{name}: block {block} line {line}: would vanish")?)
 }

@@ -31,15 +31,13 @@ pub(crate) fn print_space(
 fn describe_points(alloc: Global, before: usize, after: usize) -> Result<String, Memory>
     ensures { IfOk result (λ text. string_bytes text ≡ point_change_text before after) }
 {
-    let text = format!(in alloc; "points {before} to {after} ")?;
-    Ok(text)
+    Ok(format!(in alloc; "points {before} to {after} ")?)
 }
 
 fn describe_costs(alloc: Global, before: u32, after: u32, pieces: usize) -> Result<String, Memory>
     ensures { IfOk result (λ text. string_bytes text ≡ cost_change_text before after pieces) }
 {
-    let text = format!(in alloc; "cost {before} to {after} pieces {pieces}\n")?;
-    Ok(text)
+    Ok(format!(in alloc; "cost {before} to {after} pieces {pieces}\n")?)
 }
 
 /// Returns the number of points of a drawing's lines.

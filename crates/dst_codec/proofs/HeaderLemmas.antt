@@ -114,15 +114,15 @@ pub numbers_fit : (acts : List NumberedAct) (count : ℕ) → IsTrue (are_in_ran
 numbers_fit acts count all few few_stops =
     let last = within_parts NEEDLE_LIMIT (needle_position_along origin acts) (place_in_range origin acts refl all) in
     let right = greatest_small (λ p. size_above_zero p.x) (λ p here. grind (arith, nat_tests, (within_parts NEEDLE_LIMIT p here).0))
-        acts
+    acts
     all in
     let left = greatest_small (λ p. size_below_zero p.x) (λ p here. grind (arith, nat_tests, (within_parts NEEDLE_LIMIT p here).0))
-        acts
+    acts
     all in
     let up = greatest_small (λ p. size_below_zero p.y) (λ p here. grind (arith, nat_tests, (within_parts NEEDLE_LIMIT p here).1)) acts
     all in
     let down = greatest_small (λ p. size_above_zero p.y) (λ p here. grind (arith, nat_tests, (within_parts NEEDLE_LIMIT p here).1))
-        acts
+    acts
     all in
     record {
       records = few;

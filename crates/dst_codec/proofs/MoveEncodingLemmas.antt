@@ -81,4 +81,3 @@ dst_move_of-record flags k m is within =
     y_move m.y (byte_of 1 9 m) (byte_of 3 27 m) (third_of flags m) small.1
     ay.2 ay.3 ay.0 ay.1 by.2 by.3 by.0 by.1 c.2 c.3 in
     point_of_parts x y
-

@@ -34,8 +34,14 @@ hops_triples count m =
 
 stitched_triples : (count : ℕ) (m : Point) → AreTriples (stitched_hop_records dst_encoding count m)
 stitched_triples count m =
-    grind (arith, nat_tests, concat-append, length-append, (map dst_jump_record (part_moves_from m count 0 (count - 1))), (jumps m count 0
-    (count - 1)))
+    grind (
+      arith,
+      nat_tests,
+      concat-append,
+      length-append,
+      (map dst_jump_record (part_moves_from m count 0 (count - 1))),
+      (jumps m count 0 (count - 1)),
+    )
 
 -- the records of a float, whether its jumps are three or not
 float_triples : (three : Bool) (count : ℕ) (m : Point)

@@ -144,4 +144,3 @@ third_shares x y i j of_x of_y small_x small_y = shares _ _ _ _ 63
     (at_number (λ n. 3 + 4 * plus_at 81 n + 8 * minus_at 81 n) THIRD_OF_X x i third_of_x_is of_x small_x)
     (at_number (λ n. 16 * plus_at 81 n + 32 * minus_at 81 n) THIRD_OF_Y y j third_of_y_is of_y small_y)
     (omega (arith, third_small (biased_number x), third_small (biased_number y)))
-

@@ -50,4 +50,3 @@ body_short small d limits state count is = omega (
   records_small initial_encoder_state (acts_of d),
   (small dst_write_limits d limits is.passed).room,
 )
-

@@ -11,8 +11,7 @@ use std::alloc::Global;
 pub fn describe_file(alloc: Global, name: &str, what: &str) -> Result<String, Memory>
     ensures { IfOk result (λ text. string_bytes text ≡ text_about name.now what.now) }
 {
-    let text = format!(in alloc; "{name}: {what}")?;
-    Ok(text)
+    Ok(format!(in alloc; "{name}: {what}")?)
 }
 
 /// Returns a text about a numbered part of a file.
@@ -25,8 +24,7 @@ pub fn describe_part(
 ) -> Result<String, Memory>
     ensures { IfOk result (λ text. string_bytes text ≡ text_at name.now part.now number what.now) }
 {
-    let text = format!(in alloc; "{name}: {part} {number}: {what}")?;
-    Ok(text)
+    Ok(format!(in alloc; "{name}: {part} {number}: {what}")?)
 }
 
 /// Returns the refusal of a file at a numbered part, or out of memory.

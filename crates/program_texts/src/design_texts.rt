@@ -45,8 +45,7 @@ pub fn describe_write_fault(
 fn long_stitch(alloc: Global, name: &str, number: u32, limit: u32) -> Result<String, Memory>
     ensures { IfOk result (λ text. string_bytes text ≡ long_stitch_text name.now number limit) }
 {
-    let text = format!(in alloc; "{name}: command {number}: stitch longer than {limit}")?;
-    Ok(text)
+    Ok(format!(in alloc; "{name}: command {number}: stitch longer than {limit}")?)
 }
 
 /// Returns the text about a colour place, numbered from 1, that a design does not have, with the number of
@@ -59,14 +58,12 @@ pub fn describe_no_place(
 ) -> Result<String, Memory>
     ensures { IfOk result (λ text. string_bytes text ≡ no_colour_place_text name.now place count) }
 {
-    let text = format!(in alloc; "{name}: no colour place {place}, there are {count}")?;
-    Ok(text)
+    Ok(format!(in alloc; "{name}: no colour place {place}, there are {count}")?)
 }
 
 /// Returns the text about a design that exceeds a hoop, by these tenths of a millimetre on each axis.
 pub fn describe_too_large(alloc: Global, x: u32, y: u32) -> Result<String, Memory>
     ensures { IfOk result (λ text. string_bytes text ≡ too_large_text x y) }
 {
-    let text = format!(in alloc; "too large by {x} {y}")?;
-    Ok(text)
+    Ok(format!(in alloc; "too large by {x} {y}")?)
 }

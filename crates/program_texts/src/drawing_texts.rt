@@ -42,8 +42,7 @@ pub fn describe_step(
 ) -> Result<String, Memory>
     ensures { IfOk result (λ text. string_bytes text ≡ step_limit_text name.now step limit ending.now) }
 {
-    let text = format!(in alloc; "{name}: step {step} is above {limit}, the limit of {ending}")?;
-    Ok(text)
+    Ok(format!(in alloc; "{name}: step {step} is above {limit}, the limit of {ending}")?)
 }
 
 /// Returns the text about a design that has no traced drawing.

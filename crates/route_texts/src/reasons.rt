@@ -52,15 +52,13 @@ fn describe_retraced(alloc: Global, piece: u32, said: u32, found: u64) -> Result
 fn describe_piece(alloc: Global, piece: u32, what: &str) -> Result<String, Memory>
     ensures { IfOk result (λ text. string_bytes text ≡ piece_fault_text piece what.now) }
 {
-    let text = format!(in alloc; "no: piece {piece}: {what}")?;
-    Ok(text)
+    Ok(format!(in alloc; "no: piece {piece}: {what}")?)
 }
 
 fn retraced_costs(alloc: Global, said: u32, found: u64) -> Result<String, Memory>
     ensures { IfOk result (λ text. string_bytes text ≡ retraced_text said found) }
 {
-    let text = format!(in alloc; "retraced {said} said, {found} found")?;
-    Ok(text)
+    Ok(format!(in alloc; "retraced {said} said, {found} found")?)
 }
 
 fn walk_fault(alloc: Global, fault: WalkFault) -> Result<String, Memory>
@@ -88,8 +86,7 @@ fn walk_fault(alloc: Global, fault: WalkFault) -> Result<String, Memory>
 fn copied(alloc: Global, what: &str) -> Result<String, Memory>
     ensures { IfOk result (λ text. string_bytes text ≡ what.now) }
 {
-    let text = format!(in alloc; "{what}")?;
-    Ok(text)
+    Ok(format!(in alloc; "{what}")?)
 }
 
 fn cut_fault(alloc: Global, fault: CutFault) -> Result<String, Memory>

@@ -104,8 +104,7 @@ fn piece_place(alloc: Global, report: PieceReport) -> Result<String, Memory>
     ensures { IfOk result (λ text. string_bytes text ≡ piece_position_text report) }
 {
     let PieceReport { block, piece, .. } = report;
-    let text = format!(in alloc; "block {block} piece {piece} lines {}", report.lines)?;
-    Ok(text)
+    Ok(format!(in alloc; "block {block} piece {piece} lines {}", report.lines)?)
 }
 
 /// Returns the costs of a piece, as that way reports them.
@@ -125,8 +124,7 @@ fn route_cost(alloc: Global, report: PieceReport) -> Result<String, Memory>
 {
     let PieceReport { cost, retraced, .. } = report;
     let penetrations = cost + retraced + 1;
-    let text = format!(in alloc; " cost {cost} retraced {retraced} penetrations {penetrations}\n")?;
-    Ok(text)
+    Ok(format!(in alloc; " cost {cost} retraced {retraced} penetrations {penetrations}\n")?)
 }
 
 fn double_cost(alloc: Global, report: PieceReport) -> Result<String, Memory>
@@ -135,14 +133,12 @@ fn double_cost(alloc: Global, report: PieceReport) -> Result<String, Memory>
 {
     let cost = report.cost;
     let penetrations = cost + report.retraced + 1;
-    let text = format!(in alloc; " cost {cost} penetrations {penetrations}\n")?;
-    Ok(text)
+    Ok(format!(in alloc; " cost {cost} penetrations {penetrations}\n")?)
 }
 
 /// Returns the line of the totals.
 fn totals_line(alloc: Global, pieces: usize, penetrations: u32) -> Result<String, Memory>
     ensures { IfOk result (λ text. string_bytes text ≡ totals_text pieces penetrations) }
 {
-    let text = format!(in alloc; "pieces {pieces} penetrations {penetrations}\n")?;
-    Ok(text)
+    Ok(format!(in alloc; "pieces {pieces} penetrations {penetrations}\n")?)
 }

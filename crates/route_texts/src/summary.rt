@@ -34,26 +34,23 @@ pub fn print_summary(alloc: Global, s: Summary) -> Result<Bytes, Memory>
 fn counts_text(alloc: Global, s: Summary) -> Result<String, Memory>
     ensures { IfOk result (λ text. string_bytes text ≡ summary_counts s) }
 {
-    let text = format!(in alloc;
+    Ok(format!(in alloc;
         "sample {}\nlines {}\njunctions {}\n",
         s.number, s.lines, s.junctions
-    )?;
-    Ok(text)
+    )?)
 }
 
 fn odds_text(alloc: Global, s: Summary) -> Result<String, Memory>
     ensures { IfOk result (λ text. string_bytes text ≡ summary_odds s) }
 {
-    let text = format!(in alloc; "odd {}\npieces {}\ncost {}\n", s.odd, s.pieces, s.cost)?;
-    Ok(text)
+    Ok(format!(in alloc; "odd {}\npieces {}\ncost {}\n", s.odd, s.pieces, s.cost)?)
 }
 
 fn costs_text(alloc: Global, s: Summary) -> Result<String, Memory>
     ensures { IfOk result (λ text. string_bytes text ≡ summary_costs s) }
 {
-    let text = format!(in alloc;
+    Ok(format!(in alloc;
         "retraced {}\npenetrations {}\ncuts {}\n",
         s.retraced, s.penetrations, s.cuts
-    )?;
-    Ok(text)
+    )?)
 }

@@ -111,5 +111,10 @@ shared_same spots step block lines p stays =
 pub unshared_still : (spots : Spot → Bool) (step block : ℕ) (lines : List LineValue) (p : Point)
     → is_shared_point lines block p ≡ false → is_shared_point (map (spaced_line spots step) lines) block p ≡ false
 unshared_still spots step block lines p is =
-    grind (arith, nat_tests, counted (is_same_point p) (listed_in (map (spaced_line spots step) lines) block), counted (is_same_point p)
-        (listed_in lines block), fewer_listed spots step block (is_same_point p) lines, )
+    grind (
+      arith,
+      nat_tests,
+      counted (is_same_point p) (listed_in (map (spaced_line spots step) lines) block),
+      counted (is_same_point p) (listed_in lines block),
+      fewer_listed spots step block (is_same_point p) lines,
+    )

@@ -60,4 +60,3 @@ goes_beyond draft s at part (end ∷ []) long some = by_stage s long where
   by_stage (stage.Refused f) long = refl
 goes_beyond draft s at part (end ∷ next ∷ more) long some =
     grind (arith, nat_tests, length-append, bytes_eq-Decides, long_label, long_line)
-

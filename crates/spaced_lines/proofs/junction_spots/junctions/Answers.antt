@@ -8,8 +8,13 @@ use Rattle.std.proofs.lemmas.Bool.Decides.{nat_tests}
 
 pub returns : goal.returns
 returns c =
-    grind (arith, nat_tests, (drop c.loop-section.section-index c.args.sections.now), c.loop-section.invariant,
-          (drop_all c.loop-section.section-index c.args.sections.now c.loop-section-test.false))
+    grind (
+      arith,
+      nat_tests,
+      (drop c.loop-section.section-index c.args.sections.now),
+      c.loop-section.invariant,
+      (drop_all c.loop-section.section-index c.args.sections.now c.loop-section-test.false),
+    )
 
 pub loop-section-preserved : goal.loop-section-preserved
 loop-section-preserved c = junctions_go_on (contains is_same_spot c.loop-section.junctions)

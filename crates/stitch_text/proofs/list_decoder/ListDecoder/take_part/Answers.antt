@@ -8,5 +8,15 @@ use Rattle.std.proofs.lemmas.Bool.Decides.{nat_tests}
 
 pub returns : goal.returns
 returns c =
-    grind (arith, nat_tests, drop_all, open_part, goes_beyond, some_part, c.requires.line, c.max_waiting.ensures,
-          c.if-part-max_waiting.false, c.after_long_line-self.ensures)
+    grind (
+      arith,
+      nat_tests,
+      drop_all,
+      open_part,
+      goes_beyond,
+      some_part,
+      c.requires.line,
+      c.max_waiting.ensures,
+      c.if-part-max_waiting.false,
+      c.after_long_line-self.ensures,
+    )
