@@ -25,8 +25,7 @@ with_first_byte byte (Some (before, after)) = Some (byte ∷ before, after)
 -- The parts of a text before and after the first occurrence of a byte, if there is one.
 abbrev pub split_at_byte : ℕ → List ℕ → Option (List ℕ × List ℕ)
 split_at_byte c [] = None
-split_at_byte c (byte ∷ rest) = if byte == c then Some ([], rest) else with_first_byte byte
-    (split_at_byte c rest)
+split_at_byte c (b ∷ bs) = if b == c then Some ([], bs) else with_first_byte b (split_at_byte c bs)
 
 -- The integer of a parsed number, if its absolute value is at most `most`.
 abbrev pub integer_within : ℕ → Whole → Option ℤ

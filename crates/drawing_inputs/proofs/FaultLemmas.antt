@@ -20,7 +20,8 @@ found said fault spec known =
 
 pub refused : {V : Type 0} (says : List ℕ → Result V DrawFault) (name bytes : List ℕ) (old new : StoreView) (fault : DrawFault)
     (why : Failure) → ReadsInput name old new (Ok bytes) → IsSpecified draw_fault_is_out_of_memory (says bytes) (Err fault)
-    → IsFaultFailure (draw_is_out_of_memory fault.kind) (draw_fault_text name fault) why → ParsesInput says (draw_fault_text name) name old new (Err why)
+    → IsFaultFailure (draw_is_out_of_memory fault.kind) (draw_fault_text name fault) why
+    → ParsesInput says (draw_fault_text name) name old new (Err why)
 refused says name bytes old new fault failure.BadArguments read spec never = absurd never
 refused says name bytes old new fault (failure.MissingInput missing) read spec never = absurd never
 refused says name bytes old new fault (failure.ReadFailed lost) read spec never = absurd never

@@ -54,7 +54,7 @@ picture_request (request.File names) = picture (requested_file names)
 picture_request (request.Proof names) = proof (proof_order names)
 
 -- The names for the picture of a file are file names.
-pub record AreFileNames (names : FileNames) : Type 0 where
+pub record ArePictureNames (names : FileNames) : Type 0 where
   pub input : IsFileName names.input.now
   pub output : IsFileName names.output.now
 
@@ -66,7 +66,7 @@ pub record AreProofNames (names : ProofNames) : Type 0 where
 
 -- The names of a request are file names.
 abbrev pub AreGoodNames : PictureRequest → Type 0
-AreGoodNames (request.File names) = AreFileNames names
+AreGoodNames (request.File names) = ArePictureNames names
 AreGoodNames (request.Proof names) = AreProofNames names
 
 -- The request of two names with a hoop or none, if both are file names, the second is that of a

@@ -3,7 +3,7 @@ ghost use Rattle.format_traits.specs.Meanings.{Meaning};
 ghost use Rattle.program_shell.specs.StepOutcomes.{RunsPlan, RunsPurePlan};
 ghost use Rattle.stitch_picture.specs.Orders.{order_made};
 ghost use Rattle.stitch_picture.specs.Pictures.{design_picture_plan, picture_read};
-ghost use Rattle.stitch_picture.specs.Words.{AreFileNames, requested_file};
+ghost use Rattle.stitch_picture.specs.Words.{ArePictureNames, requested_file};
 
 use crate::words::FileNames;
 use design_picture::picture;
@@ -21,7 +21,7 @@ pub(crate) fn draw<'a, S: Store>(
     place: usize,
     store: &mut S,
 ) -> Made<'a>
-    requires names { AreFileNames names }
+    requires names { ArePictureNames names }
     requires place { place < length formats.old }
     ensures prepares { (m : Meaning) → slice_get (map (λ f. meaning f) formats.old) place ≡ Some m
         → RunsPlan (design_picture_plan (order_made (requested_file names.entry) m))
@@ -38,7 +38,7 @@ fn drawn<'a>(
     format: &Box<dyn Format>,
     loaded: &Loaded,
 ) -> Made<'a>
-    requires names { AreFileNames names }
+    requires names { ArePictureNames names }
     ensures { RunsPurePlan (picture_read (order_made (requested_file names.entry) (meaning format.now))
         (Ok loaded.now)) result }
 {

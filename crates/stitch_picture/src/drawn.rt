@@ -2,7 +2,7 @@ ghost use Rattle.std.specs.Prelude.{Ok};
 ghost use Rattle.program_shell.specs.StepOutcomes.{RunsPlan, RunsPurePlan};
 ghost use Rattle.stitch_picture.specs.DrawnPictures.{drawn_plan, drawn_read};
 ghost use Rattle.stitch_picture.specs.Orders.{drawn_order};
-ghost use Rattle.stitch_picture.specs.Words.{AreFileNames, requested_file};
+ghost use Rattle.stitch_picture.specs.Words.{ArePictureNames, requested_file};
 
 use crate::words::FileNames;
 use drawing_inputs::{LinesRead, lines_in};
@@ -18,7 +18,7 @@ pub(crate) fn draw_lines<'a, S: Store>(
     names: FileNames<'a>,
     store: &mut S,
 ) -> Made<'a>
-    requires { AreFileNames names }
+    requires { ArePictureNames names }
     ensures { RunsPlan (drawn_plan (drawn_order (requested_file names.entry))) (S.view store.old)
         (S.view store.new) result }
 {
@@ -27,7 +27,7 @@ pub(crate) fn draw_lines<'a, S: Store>(
 }
 
 fn lines_drawn<'a>(alloc: Global, names: FileNames<'a>, read: &LinesRead) -> Made<'a>
-    requires { AreFileNames names }
+    requires { ArePictureNames names }
     ensures { RunsPurePlan (drawn_read (drawn_order (requested_file names.entry)) (Ok read.now)) result }
 {
     let text = picture_of_drawing(alloc, &read.drawing, read.drawn.drawing.lines())?;

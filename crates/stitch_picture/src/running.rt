@@ -4,7 +4,7 @@ ghost use Rattle.program_shell.specs.Runs.{RunEnds};
 ghost use Rattle.program_shell.specs.RunViews.{views_of};
 ghost use Rattle.program_shell.specs.StepOutcomes.{RunsRequest};
 ghost use Rattle.stitch_picture.specs.Orders.{order_with, order_without_format, picture_order, picture_program};
-ghost use Rattle.stitch_picture.specs.Words.{AreFileNames, requested_file};
+ghost use Rattle.stitch_picture.specs.Words.{ArePictureNames, requested_file};
 
 use crate::drawing::draw;
 use crate::drawn::draw_lines;
@@ -66,7 +66,7 @@ fn make_picture<'a, S: Store>(
     formats: &mut [Box<dyn Format>],
     store: &mut S,
 ) -> Made<'a>
-    requires { AreFileNames names }
+    requires { ArePictureNames names }
     ensures { RunsRequest picture_program (order_with (requested_file names.entry)
         (format_of (map (λ f. meaning f) formats.old) names.entry.input.now))
         (S.view store.old) (S.view store.new) result }
@@ -79,7 +79,7 @@ fn make_picture<'a, S: Store>(
 
 /// Makes the picture of a drawing, which has no hoop.
 fn make_drawing<'a, S: Store>(alloc: Global, names: FileNames<'a>, store: &mut S) -> Made<'a>
-    requires { AreFileNames names }
+    requires { ArePictureNames names }
     ensures { RunsRequest picture_program (order_without_format (requested_file names.entry) names.entry.hoop)
         (S.view store.old) (S.view store.new) result }
 {
