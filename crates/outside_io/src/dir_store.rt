@@ -124,7 +124,7 @@ impl<'a, R: Files> Store for DirStore<'a, R> {
     }
 }
 
-/// Completes a pending file, then reads.
+/// Completes a pending file, then continues in the open file if it is at that offset, else opens the file.
 fn read_next<R: Files>(
     rt: &R,
     begun: &mut Option<NewFile<R::File>>,
@@ -142,6 +142,23 @@ fn read_next<R: Files>(
             return read_on(reading, buf);
         }
     }
+    open_and_read(rt, opened, name, at, buf)
+}
+
+// A function of its own: inlined, the space for the name of the opened file would be cleared at each read.
+/// Opens a file and reads from it at that offset. A file that returned bytes is kept open.
+#[cold]
+#[inline(never)]
+fn open_and_read<R: Files>(
+    rt: &R,
+    opened: &mut Option<OpenedFile<R::File>>,
+    name: &str,
+    at: u64,
+    buf: &mut [u8],
+) -> io::Result<usize>
+    requires { length name.now ≤ MAX_NAME }
+    ensures { IfOk result (λ count. count ≤ length buf.new) }
+{
     let mut reading = open_at(rt, name, at)?;
     let count = read_on(&mut reading, buf)?;
     if count > 0 {
