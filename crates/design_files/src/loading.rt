@@ -3,7 +3,6 @@ ghost use Rattle.design_files.specs.declared.loading.LoadFault.TheVariants as lo
 ghost use Rattle.design_files.specs.Loading.{FeedsFile, Loads};
 ghost use Rattle.format_traits.specs.Feeding.{HasNothingFed};
 ghost use Rattle.outside_io.specs.Files.{IsFileName};
-ghost use Rattle.design_files.specs.declared.loading.LoadFault.TheVariants as load;
 
 use format_traits::{Format, Loaded, ReadFault, begin_by, feed_by, finish_by};
 use lists_and_numbers::Memory;
