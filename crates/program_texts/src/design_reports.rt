@@ -8,8 +8,11 @@ use itoa::Buffer;
 use lists_and_numbers::{Bytes, Memory};
 use std::alloc::Global;
 
+// A function of its own: inlined in a program's large function, its loops over commands would keep their counts in
+// memory.
 /// Returns the report on a file of the format with that ending: its label, counts, extent, whether it has an
 /// end, and its blocks.
+#[inline(never)]
 pub fn print_loaded(alloc: Global, ending: &str, loaded: &Loaded) -> Result<Bytes, Memory>
     ensures { IfOk result (λ text. text ≡ show_report ending.now loaded.now) }
 {
