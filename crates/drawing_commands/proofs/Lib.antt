@@ -5,3 +5,4 @@ pub mod DrawingEditLemmas
 pub mod RequestLemmas
 mod CommandLemmas
 mod EditFacts
+mod ProductFacts
