@@ -1,21 +1,9 @@
 -- After a change of duals the step can be made, and the invariants still hold.
-use Rattle.std.proofs.lemmas.Bool.Decides.{nat_tests}
 use Rattle.std.proofs.Common.{◌≡◌, ◌≢◌, ℕ, ◌+◌, ◌*◌, ◌^◌, ◌≤◌, ◌<◌, suc, zero, List, [], ◌∷◌, flat_map, length, arith, refl, sym, ap, subst, ◌∙◌}
-use Rattle.odd_sets.specs.Lists.{Each}
-use Rattle.odd_sets.specs.DualSets.{DualSet, OddSetValue, apart, dual_sets, count, height, dual_load, with_dual}
-use Rattle.odd_sets.specs.MatchedSets.{match_members, match_dual_sets, IsMatch}
-use Rattle.odd_sets.specs.SoundSets.{IsSoundBranch, IsSoundMatch, IsSoundSet}
-use Rattle.odd_sets.specs.Trees.{outer_with_both, one_if_both, branch_dual_sets, inner_members, inner_sets, outer_members, outer_sets, IsAlternatingTree}
-use Rattle.blossom_match.specs.Searches.{stored_height, dual_height, search_holding_both, outer_vertices, IsStepReady, IsSearch}
-use Rattle.blossom_match.specs.LeastChanges.{IsLeastChange, CanSearch, IsReadyAfter, AllowsChange}
-use Rattle.blossom_match.specs.Duals.{all_changed, changed_by, CanChange, CanChangeHeights, CanAdjust, ChangesDuals, CanStepAfter, Adjusts}
-use Rattle.odd_sets.specs.TableValue.{TableValue}
-use Rattle.odd_sets.specs.Tables.{entry, IsMetric, IsTable, HasTriangleInequality}
-use Rattle.odd_sets.specs.declared.table.TheConstants.{MAX_DISTANCE}
-use Rattle.odd_sets.specs.Values.{BranchValue, MatchValue, SearchValue}
-use Rattle.blossom_match.specs.declared.search.SearchStep.{SearchStep}
-use Rattle.blossom_match.specs.declared.least.DualChange.{DualChange}
-use Rattle.odd_sets.proofs.CallerLemmas.{each-right, count-append, members-append, some_member, base_in, grown-right, entry-comm, by_count, more_by}
+use Rattle.blossom_match.proofs.Names.{nat_tests, Each, DualSet, OddSetValue, apart, dual_sets, count, height, dual_load, with_dual, match_members, match_dual_sets, IsMatch, IsSoundBranch, IsSoundMatch, IsSoundSet, outer_with_both, one_if_both, branch_dual_sets, inner_members, inner_sets, outer_members, outer_sets, IsAlternatingTree, stored_height, dual_height, search_holding_both, outer_vertices, IsSearch, IsLeastChange, CanSearch, IsReadyAfter, AllowsChange, all_changed, changed_by, CanChange, CanAdjust, ChangesDuals, Adjusts, TableValue, entry, IsMetric, IsTable, HasTriangleInequality, MAX_DISTANCE, BranchValue, MatchValue, SearchValue, SearchStep, DualChange, each-right, count-append, members-append, some_member, base_in, entry-comm, by_count, more_by}
+use Rattle.blossom_match.specs.Searches.{IsStepReady}
+use Rattle.blossom_match.specs.Duals.{CanChangeHeights, CanStepAfter}
+use Rattle.odd_sets.proofs.CallerLemmas.{grown-right}
 use Rattle.blossom_match.proofs.ScanLemmas.{apart_from}
 use Rattle.blossom_match.proofs.SearchLemmas.{in_place, is_one, place_in}
 use Rattle.blossom_match.proofs.FreeLemmas.{load_of, load_of-comm, under}
@@ -145,10 +133,6 @@ one_slack t h s c a b i bd lb ha none apart = by_count (count b (outer_vertices 
 abbrev apart_of : ℕ → ℕ → OddSetValue → ℕ
 apart_of a b n = apart (count a n.members) (count b n.members)
 
-sum_all : (by r1 r2 r3 s1 s2 s3 c2 ao bo bi : ℕ) → r1 ≡ s1 + by * ao → r2 ≡ c2 → r3 ≡ s3 → c2 + by * bi ≡ s2 + by * bo
-    → r1 + r2 + r3 + by * bi ≡ s1 + s2 + s3 + by * (ao + bo)
-sum_all by r1 r2 r3 s1 s2 s3 c2 ao bo bi e f g k = omega arith
-
 -- the load between two places stays within its bound
 loads_stay : (t : TableValue) (h : ℕ → ℕ) (s r : SearchValue) (c : DualChange) → IsSearch t h s → IsLeastChange t h s c
     → ChangesDuals c.by s r
@@ -170,11 +154,7 @@ loads_stay t h s r c i bd ch can a b la lb ne =
     let pb = i.places b in
     within (2 * entry t a b) (load_of s a b) (load_of r a b) by bo (between_in a b tree) (search_holding_both a b s) (inside a b tree)
     (count a (outer_vertices s)) (count b (outer_vertices s)) (count a (inner_members tree)) (count b (inner_members tree))
-    (sum_all by (dual_load a b (dual_sets r.root)) (dual_load a b (branch_dual_sets r.tree)) (dual_load a b (match_dual_sets r.rest))
-    (dual_load a b (dual_sets s.root)) (dual_load a b (branch_dual_sets tree)) (dual_load a b (match_dual_sets s.rest))
-    (dual_load a b (branch_dual_sets (all_changed by tree))) (apart_of a b s.root) (between_out a b tree) (between_in a b tree) root
-    branches rest
-    (branches_load a b by tree can))
+    (grind (arith, nat_tests, (between_out a b tree), (between_in a b tree), (branches_load a b by tree can)))
     (omega (arith, counted a b (flat_map outer_sets tree), oa, ob)) (counted a b (flat_map inner_sets tree))
     (omega (arith, pa, is_one t a)) (omega (arith, pb, is_one t b)) (i.loads a b la lb ne)
     (λ some none apart. by_count (count a (outer_vertices s))

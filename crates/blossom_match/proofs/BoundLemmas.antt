@@ -1,27 +1,12 @@
 -- Loads between sets as heights, and the slack between places.
-use Rattle.std.proofs.lemmas.Bool.Decides.{nat_tests}
 use Rattle.std.proofs.Common.{◌≡◌, ◌≢◌, ℕ, ◌+◌, ◌-◌, ◌*◌, ◌<◌, ◌≤◌, ◌⊎◌, List, [], ◌∷◌, ◌++◌, length, get_or, arith, refl, sym, ap, subst, ◌∙◌}
-use Rattle.odd_sets.specs.Lists.{Each}
-use Rattle.odd_sets.specs.DualSets.{OddSetValue, IsOddSet, dual_sets, count, height, dual_load}
-use Rattle.odd_sets.specs.MatchedSets.{match_members, match_dual_sets}
-use Rattle.odd_sets.specs.SoundSets.{IsSoundBranch, IsSoundMatch}
-use Rattle.odd_sets.specs.Trees.{outer_with_both, one_if_both, branch_dual_sets, inner_members}
-use Rattle.blossom_match.specs.Searches.{dual_height, search_holding_both, outer_vertices, IsSearch}
+use Rattle.blossom_match.proofs.Names.{nat_tests, Each, OddSetValue, dual_sets, count, height, dual_load, match_members, match_dual_sets, IsSoundBranch, IsSoundMatch, outer_with_both, one_if_both, branch_dual_sets, inner_members, dual_height, search_holding_both, outer_vertices, IsSearch, TableValue, entry, IsTable, IsLeastChange, IsReadyAfter, IsLesserChange, IsBlossomDual, AreOuterSlacks, IsBestCandidate, IsCandidateAmong, CanFindEdge, FAR, Target, Kind, MAX_DISTANCE, BranchValue, MatchValue, SearchValue, SearchStep, DualChange, either, far_is, count-append, height-append, dual_load-append, low, some_member, around_same, base_in, around_none, entry-comm, by_count, by_either}
+use Rattle.odd_sets.specs.DualSets.{IsOddSet}
 use Rattle.odd_sets.specs.Heights.{HeightsAre}
-use Rattle.odd_sets.specs.TableValue.{TableValue}
-use Rattle.odd_sets.specs.Tables.{entry, IsTable}
-use Rattle.blossom_match.specs.LeastChanges.{step_of, IsLeastChange, IsReadyAfter, IsLesserChange, IsBlossomDual}
-use Rattle.blossom_match.specs.OuterSlacks.{AreOuterSlacks}
-use Rattle.blossom_match.specs.Candidates.{change_at, target_vertices, IsBestCandidate, IsCandidateAmong, CanFindEdge, IsCandidate, IsCandidateChange}
-use Rattle.odd_sets.specs.declared.table.TheConstants.{FAR}
-use Rattle.blossom_match.specs.declared.least.Target.{Target}
-use Rattle.blossom_match.specs.declared.least.Kind.{Kind}
-use Rattle.odd_sets.specs.declared.table.TheConstants.{MAX_DISTANCE}
-use Rattle.odd_sets.specs.Values.{BranchValue, MatchValue, SearchValue}
-use Rattle.blossom_match.specs.declared.search.SearchStep.{SearchStep}
-use Rattle.blossom_match.specs.declared.least.DualChange.{DualChange}
+use Rattle.blossom_match.specs.LeastChanges.{step_of}
+use Rattle.blossom_match.specs.Candidates.{change_at, target_vertices, IsCandidate, IsCandidateChange}
 use Rattle.blossom_match.specs.declared.least.Kind.TheVariants as kind
-use Rattle.odd_sets.proofs.CallerLemmas.{either, far_is, count-append, height-append, dual_load-append, load_across, load_along, low, some_member, two_even, around_same, base_in, around_none, entry-comm, by_count, by_either}
+use Rattle.odd_sets.proofs.CallerLemmas.{load_across, load_along, two_even}
 use Rattle.blossom_match.proofs.SearchLemmas.{is_one, place_in, low_branches, low_matches}
 use Rattle.blossom_match.proofs.FreeLemmas.{load_of}
 
@@ -108,15 +93,12 @@ matched_slack t h s a b i ha hb =
       tall_set t h s b i (omega (arith, hb)),
     )
 
-pub apart_differ : (s : SearchValue) (a b : ℕ) → 1 ≤ count a (outer_vertices s) → search_holding_both a b s ≡ 0 → a ≢ b
-apart_differ s a b h1 h2 = grind (arith, nat_tests, around_same)
-
 outer_slack : (t : TableValue) (h : ℕ → ℕ) (s : SearchValue) (a b : ℕ) → IsSearch t h s → 1 ≤ count a (outer_vertices s)
     → 1 ≤ count b (outer_vertices s)
     → search_holding_both a b s ≡ 0 → h a + h b ≤ 2 * entry t a b
 outer_slack t h s a b i ha hb apart =
     let l = i.loads a b (place_in t a (omega (arith, i.places a, ha))) (place_in t b (omega (arith, i.places b, hb)))
-    (apart_differ s a b ha apart) in
+    (grind (arith, nat_tests, around_same)) in
     omega (arith, l, loads_apart t h s a b i ha apart, tall_set t h s a i (omega (arith, ha)), tall_set t h s b i (omega (arith, hb)))
 
 set_in_root : (s : SearchValue) (r : ℕ) → 1 ≤ count r s.root.members → 1 ≤ count r (outer_vertices s)
@@ -177,10 +159,6 @@ aimed t h s hs reach first met grown crossed a =
     (still_aimed s hs reach kind.Augment first met (aimed_case s hs reach kind.Augment first a.at_first) a.at_met.is) a.at_grown.is)
     a.at_crossed.is
 
-goal_there : (k : Kind) (t : TableValue) (h : ℕ → ℕ) (s : SearchValue) (x : ℕ) → IsSearch t h s → 1 ≤ count x (target_vertices s k)
-    → x < t.places
-goal_there k t h s x h1 h2 = grind (arith, nat_tests, place_in)
-
 -- an outer vertex has the slack of the last candidate
 pub leads_on : (t : TableValue) (h : ℕ → ℕ) (s : SearchValue) (hs reach : List ℕ) (first met grown crossed : Target)
     → IsAimedAt t h s hs reach first met grown crossed → CanFindEdge t hs s.root s.tree reach crossed
@@ -194,7 +172,7 @@ leads_on t h s hs reach first met grown crossed a =
         once = λ x. omega (arith, i.places x, is_one t x);
       };
       reaches = a.reaches;
-      within = goal_there crossed.kind t h s crossed.to i on.there;
+      within = grind (arith, nat_tests, place_in, crossed.kind, on.there);
       near = on.near;
     }
 

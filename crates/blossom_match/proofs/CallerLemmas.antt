@@ -1,8 +1,6 @@
 -- Lemmas that this crate and those above cite.
 use Rattle.std.proofs.Common.{Bool, List, arith, cond, false, nat_lt, refl, true, ℕ, ◌<◌, ◌≡◌, ◌≤◌}
-use Rattle.std.proofs.lemmas.Bool.Decides.{nat_tests}
-use Rattle.blossom_match.specs.Matchings.{IsPerfectMatching, pair_ends_at}
-use Rattle.blossom_match.specs.declared.matching.Pair.{Pair}
+use Rattle.blossom_match.proofs.Names.{nat_tests, IsPerfectMatching, pair_ends_at, Pair}
 
 -- a number that is an end of a pair is a place
 pub ends_below : (n : ℕ) (pairs : List Pair) → IsPerfectMatching n pairs → (x : ℕ) → 1 ≤ pair_ends_at pairs x → x < n

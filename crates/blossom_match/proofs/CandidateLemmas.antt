@@ -1,15 +1,8 @@
 -- The vertex to which an edge becomes tight by the least change of duals.
-use Rattle.std.proofs.lemmas.Bool.Decides.{nat_tests}
 use Rattle.std.proofs.Common.{◌≡◌, ℕ, ◌+◌, ◌≤◌, ◌<◌, List, [], ◌∷◌, length, take, drop, get_or, None, arith, ap, ◌∙◌}
-use Rattle.odd_sets.specs.DualSets.{OddSetValue, count}
-use Rattle.odd_sets.specs.Trees.{outer_with_both, outer_members, outer_sets, count_holding_both}
-use Rattle.blossom_match.specs.OuterSlacks.{slack_from, IsOuterSlack}
-use Rattle.blossom_match.specs.Candidates.{IsBestCandidate, IsCandidateAmong, CanFindEdge, FindsSlackInSet}
-use Rattle.odd_sets.specs.TableValue.{TableValue}
-use Rattle.odd_sets.specs.Values.{BranchValue}
-use Rattle.blossom_match.specs.declared.least.Target.{Target}
-use Rattle.blossom_match.specs.declared.least.Kind.{Kind}
-use Rattle.odd_sets.proofs.CallerLemmas.{either, drop_here, number_here, take_here, count-append, members-append, members_push, outer_places, around_append, base_in, around_first, by_count, by_either}
+use Rattle.blossom_match.proofs.Names.{nat_tests, OddSetValue, count, outer_with_both, outer_members, outer_sets, count_holding_both, slack_from, IsOuterSlack, IsBestCandidate, IsCandidateAmong, CanFindEdge, TableValue, BranchValue, Target, Kind, either, drop_here, take_here, count-append, members-append, members_push, outer_places, around_append, base_in, around_first, by_count, by_either}
+use Rattle.blossom_match.specs.Candidates.{FindsSlackInSet}
+use Rattle.odd_sets.proofs.CallerLemmas.{number_here}
 use Rattle.blossom_match.proofs.ScanLemmas.{split_here}
 
 aims_in : (hs reach : List ℕ) (k : Kind) (xs zs : List ℕ) (aim : Target) → ((x : ℕ) → count x xs ≤ count x zs)

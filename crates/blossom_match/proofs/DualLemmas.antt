@@ -1,23 +1,11 @@
 -- A change of duals preserves the invariants of a search.
-use Rattle.std.proofs.lemmas.Bool.Decides.{nat_tests}
 use Rattle.std.proofs.Common.{◌≡◌, ℕ, ◌+◌, ◌-◌, ◌*◌, ◌^◌, ◌≤◌, ◌<◌, suc, zero, List, [], ◌∷◌, ◌++◌, flat_map, length, map, take, drop, get_or, set, set-set, get_or-set_same, arith, refl, sym, ap, ◌∙◌, append_assoc}
-use Rattle.odd_sets.specs.Lists.{Each, sum_over}
-use Rattle.odd_sets.specs.DualSets.{OddSetValue, apart, dual_sets, count, height, dual_load, members_onto, key_count, with_dual}
-use Rattle.odd_sets.specs.MatchedSets.{match_members, IsMatch}
-use Rattle.odd_sets.specs.SoundSets.{IsSoundBranch, IsSoundMatch, IsSoundSet}
-use Rattle.odd_sets.specs.Trees.{all_dual_sets, outer_with_both, one_if_both, branch_dual_sets, inner_dual_sets, inner_members, inner_sets, outer_members, outer_sets, IsAlternatingTree}
-use Rattle.blossom_match.specs.Searches.{outer_vertices, IsSearch}
-use Rattle.blossom_match.specs.LeastChanges.{IsLeastChange}
-use Rattle.blossom_match.specs.Duals.{all_changed, changed_by, changed_branch, CanChange, CanChangeBranch}
-use Rattle.odd_sets.specs.TableValue.{TableValue}
-use Rattle.odd_sets.specs.Tables.{IsTable}
-use Rattle.odd_sets.specs.declared.table.TheConstants.{MAX_DISTANCE}
-use Rattle.odd_sets.specs.Values.{BranchValue, MatchValue, SearchValue}
-use Rattle.odd_sets.specs.Slots.{branch_in, branches_in, AreSets, Slots}
-use Rattle.odd_sets.specs.declared.branches.Branch.{Branch}
-use Rattle.blossom_match.specs.declared.least.DualChange.{DualChange}
+use Rattle.odd_sets.specs.Lists.{sum_over}
+use Rattle.odd_sets.specs.DualSets.{members_onto}
+use Rattle.odd_sets.specs.Trees.{inner_dual_sets}
 use Rattle.std.proofs.lemmas.List.Edits.{map_over_more}
-use Rattle.odd_sets.proofs.CallerLemmas.{get_or_self, mapped_drop, no_branch, all_uses, sets_fewer, key_count-append, count-append, height-append, hit_is, dual_load-append, size-append, some_member, base_in, more_by, outer_members_base}
+use Rattle.blossom_match.proofs.Names.{nat_tests, Each, OddSetValue, apart, dual_sets, count, height, dual_load, key_count, with_dual, match_members, IsMatch, IsSoundBranch, IsSoundMatch, IsSoundSet, all_dual_sets, outer_with_both, one_if_both, branch_dual_sets, inner_members, inner_sets, outer_members, outer_sets, IsAlternatingTree, outer_vertices, IsSearch, IsLeastChange, all_changed, changed_by, changed_branch, CanChange, CanChangeBranch, TableValue, IsTable, MAX_DISTANCE, BranchValue, MatchValue, SearchValue, branch_in, branches_in, AreSets, Slots, Branch, DualChange, mapped_drop, no_branch, all_uses, sets_fewer, key_count-append, count-append, height-append, hit_is, dual_load-append, size-append, some_member, base_in, more_by}
+use Rattle.odd_sets.proofs.CallerLemmas.{get_or_self, outer_members_base}
 use Rattle.blossom_match.proofs.SearchLemmas.{place_in}
 
 -- members stay

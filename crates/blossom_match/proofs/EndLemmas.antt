@@ -1,32 +1,13 @@
 -- Searches one after another, and the matching at their end.
-use Rattle.std.proofs.lemmas.Bool.Decides.{nat_tests}
 use Rattle.std.proofs.Common.{◌≡◌, ◌≢◌, ℕ, ◌+◌, ◌*◌, ◌≤◌, ◌<◌, List, [], ◌∷◌, ◌++◌, length, get_or, Bool, true, false, cond, eqb, ltb, arith, refl, sym, ap, subst, ◌∙◌}
-use Rattle.std.specs.List.{All, AllPairs}
-use Rattle.std.proofs.lemmas.Bool.{eqb-true, eqb-false, ltb-true, ltb-false}
 use Rattle.std.proofs.lemmas.List.Elements.{All-nil, All-cons}
 use Rattle.std.proofs.lemmas.List.Kept.{AllPairs-cons}
-use Rattle.odd_sets.specs.Lists.{Each, EachPair}
-use Rattle.odd_sets.specs.DualSets.{DualSet, apart, count, one_if_equal, dual_load}
-use Rattle.odd_sets.specs.MatchedSets.{match_members, match_dual_sets, IsMatch, IsTightMatch}
-use Rattle.odd_sets.specs.SoundSets.{IsSoundMatch}
-use Rattle.blossom_match.specs.Searches.{stored_height, IsSearch, IsPartialMatching, CanStepAt}
-use Rattle.blossom_match.specs.LeastChanges.{IsLeastChange, CanSearch}
-use Rattle.odd_sets.specs.Blossoms.{vertex_set}
-use Rattle.blossom_match.specs.Duals.{CanAdjust, Adjusts}
-use Rattle.blossom_match.specs.Phases.{BeginsSearch, MakesProgress, MatchesAll, IsStepResult, IsPartialWithHeights}
-use Rattle.blossom_match.specs.Taken.{IsOddMoatIn, AreMoatsIn, TakesApartMatches}
-use Rattle.blossom_match.specs.Matchings.{AreLaminar, IsOptimalMatching, IsOddMoat}
-use Rattle.odd_sets.specs.TableValue.{TableValue}
-use Rattle.odd_sets.specs.Tables.{entry, IsMetric}
-use Rattle.odd_sets.specs.Values.{MatchValue, SearchValue}
-use Rattle.blossom_match.specs.declared.matching.Moat.{Moat}
-use Rattle.blossom_match.specs.declared.matching.Pair.{Pair}
-use Rattle.blossom_match.specs.declared.least.DualChange.{DualChange}
-use Rattle.odd_sets.specs.Slots.{matches_in}
-use Rattle.blossom_match.specs.States.{search_value}
+use Rattle.blossom_match.proofs.Names.{nat_tests, All, AllPairs, eqb-true, eqb-false, ltb-true, ltb-false, Each, DualSet, apart, count, one_if_equal, dual_load, match_members, match_dual_sets, IsMatch, IsSoundMatch, stored_height, IsSearch, IsPartialMatching, CanStepAt, IsLeastChange, CanSearch, vertex_set, CanAdjust, Adjusts, BeginsSearch, IsPartialWithHeights, IsOddMoatIn, AreMoatsIn, TakesApartMatches, AreLaminar, IsOptimalMatching, IsOddMoat, TableValue, entry, IsMetric, MatchValue, SearchValue, Moat, Pair, DualChange, matches_in, search_value, count-append, hit_same}
+use Rattle.odd_sets.specs.Lists.{EachPair}
+use Rattle.odd_sets.specs.MatchedSets.{IsTightMatch}
+use Rattle.blossom_match.specs.Phases.{MakesProgress, MatchesAll, IsStepResult}
 use Rattle.blossom_match.specs.declared.phase.StepResult.{StepResult}
 use Rattle.blossom_match.specs.declared.phase.StepResult.TheVariants.{More, Done}
-use Rattle.odd_sets.proofs.CallerLemmas.{count-append, hit_same}
 use Rattle.blossom_match.proofs.FreeLemmas.{begun}
 use Rattle.blossom_match.proofs.SearchLemmas.{is_one, place_in}
 

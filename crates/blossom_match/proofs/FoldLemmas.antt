@@ -1,15 +1,7 @@
 -- A set that takes the place of some outer sets, and the slacks from the outer vertices.
 use Rattle.std.proofs.Common.{◌≡◌, ℕ, ◌≤◌, ◌<◌, ◌⊎◌, inl, inr, suc, zero, List, length, get_or, arith, refl, ◌∙◌}
-use Rattle.odd_sets.specs.DualSets.{OddSetValue, count}
-use Rattle.odd_sets.specs.Folds.{FoldsCells, FoldsOuters}
-use Rattle.blossom_match.specs.OuterSlacks.{slack_from, AreOuterSlacks, IsOuterSlack, IsSlackFromOne, LowersBySet, ReachesEither}
-use Rattle.odd_sets.specs.SoundSets.{IsSoundSet}
-use Rattle.odd_sets.specs.TableValue.{TableValue}
-use Rattle.odd_sets.specs.Trees.{outer_members, count_holding_both}
-use Rattle.odd_sets.specs.Values.{BranchValue}
-use Rattle.odd_sets.specs.declared.table.TheConstants.{FAR}
+use Rattle.blossom_match.proofs.Names.{OddSetValue, count, FoldsCells, FoldsOuters, slack_from, AreOuterSlacks, IsOuterSlack, IsSlackFromOne, LowersBySet, ReachesEither, IsSoundSet, TableValue, outer_members, count_holding_both, BranchValue, FAR, around_same}
 use Rattle.blossom_match.proofs.OuterSlackLemmas.{lowered_either, takes_near}
-use Rattle.odd_sets.proofs.CallerLemmas.{around_same}
 
 -- the outer sets that hold a vertex twice over are those that hold it
 held_once : (x : ℕ) (root : OddSetValue) (tree : List BranchValue)

@@ -1,21 +1,8 @@
 -- Free vertices and their initial duals: a search begins at one, and ends at another.
-use Rattle.std.proofs.lemmas.Bool.Decides.{nat_tests}
 use Rattle.std.proofs.Common.{◌≡◌, ◌≢◌, ℕ, ◌+◌, ◌*◌, ◌≤◌, ◌<◌, List, [], ◌∷◌, ◌++◌, length, Bool, cond, eqb, arith, refl, sym, ap, subst, ◌∙◌}
-use Rattle.std.proofs.lemmas.Bool.{eqb-true}
-use Rattle.odd_sets.proofs.CallerLemmas.{single_near, count-append, height-append, hit_is, hit_same, dual_load-append, dual_load-comm, load_alone, low, none_hold, made_kept, base_in, entry-comm, by_count}
+use Rattle.blossom_match.proofs.Names.{nat_tests, eqb-true, count-append, height-append, hit_is, hit_same, dual_load-append, low, none_hold, base_in, entry-comm, by_count, Each, DualSet, OddSetValue, apart, dual_sets, count, height, one_if_equal, dual_load, vertex_set, match_dual_sets, IsSoundBranch, IsSoundSet, branch_dual_sets, Augments, IsAlternatingTree, stored_height, dual_height, EndsSearch, IsSearch, IsPartialMatching, CanStepAt, TableValue, entry, IsTable, TightEdge, BranchValue, MatchValue, SearchValue, PartialMatchingValue, Augment}
+use Rattle.odd_sets.proofs.CallerLemmas.{single_near, dual_load-comm, load_alone, made_kept}
 use Rattle.odd_sets.specs.SlackRows.{vertex_slacks}
-use Rattle.odd_sets.specs.Lists.{Each}
-use Rattle.odd_sets.specs.DualSets.{DualSet, OddSetValue, apart, dual_sets, count, height, one_if_equal, dual_load}
-use Rattle.odd_sets.specs.Blossoms.{vertex_set}
-use Rattle.odd_sets.specs.MatchedSets.{match_dual_sets}
-use Rattle.odd_sets.specs.SoundSets.{IsSoundBranch, IsSoundSet}
-use Rattle.odd_sets.specs.Trees.{branch_dual_sets, Augments, IsAlternatingTree}
-use Rattle.blossom_match.specs.Searches.{stored_height, dual_height, EndsSearch, IsSearch, IsPartialMatching, CanStepAt}
-use Rattle.odd_sets.specs.TableValue.{TableValue}
-use Rattle.odd_sets.specs.Tables.{entry, IsTable}
-use Rattle.odd_sets.specs.declared.odd_set.TightEdge.{TightEdge}
-use Rattle.odd_sets.specs.Values.{BranchValue, MatchValue, SearchValue, PartialMatchingValue}
-use Rattle.blossom_match.specs.declared.search.SearchStep.TheVariants.{Augment}
 use Rattle.blossom_match.proofs.SearchLemmas.{is_one, low_branches, low_matches, none_branches, none_matches, place_in}
 
 -- all duals between two places

@@ -1,18 +1,9 @@
 -- The initial dual of a vertex rises, and two vertices are matched by a tight edge.
-use Rattle.std.proofs.lemmas.Bool.Decides.{nat_tests}
 use Rattle.std.proofs.Common.{◌≡◌, ℕ, ◌+◌, ◌*◌, ◌≤◌, List, [], ◌∷◌, ◌++◌, length, get_or, set, Bool, cond, ltb, arith, sym, ap, subst, ◌∙◌}
 use Rattle.std.proofs.Math.ListN.{get_or-eq_default}
-use Rattle.std.proofs.lemmas.Bool.{eqb-true, eqb-false, ltb-false}
 use Rattle.std.proofs.lemmas.List.{get_or-set_other, get_or-set_same}
-use Rattle.odd_sets.specs.DualSets.{count, one_if_equal}
-use Rattle.blossom_match.specs.Searches.{is_place, EndsSearch, IsPartialMatching, CanStepAt}
-use Rattle.blossom_match.specs.Phases.{BeginsSearch, IsPartialWithHeights}
-use Rattle.blossom_match.specs.InitialDuals.{AreWithinDistances, CanPair, FindsTight, KeepsSlack, HasFreeSlack, PairsFree}
-use Rattle.odd_sets.specs.TableValue.{TableValue}
-use Rattle.odd_sets.specs.Tables.{entry}
-use Rattle.odd_sets.specs.Values.{MatchValue, SearchValue, PartialMatchingValue}
-use Rattle.blossom_match.specs.declared.search.SearchStep.TheVariants.{Augment}
-use Rattle.odd_sets.proofs.CallerLemmas.{not_hit, count-append, hit_same, entry-comm}
+use Rattle.blossom_match.proofs.Names.{nat_tests, eqb-true, eqb-false, ltb-false, count, one_if_equal, is_place, EndsSearch, IsPartialMatching, CanStepAt, BeginsSearch, IsPartialWithHeights, KeepsSlack, HasFreeSlack, TableValue, entry, MatchValue, SearchValue, PartialMatchingValue, Augment, not_hit, count-append, hit_same, entry-comm}
+use Rattle.blossom_match.specs.InitialDuals.{AreWithinDistances, CanPair, FindsTight, PairsFree}
 use Rattle.blossom_match.proofs.SearchLemmas.{is_one, place_in}
 use Rattle.blossom_match.proofs.DualLemmas.{matches_same}
 use Rattle.blossom_match.proofs.EndLemmas.{begins}

@@ -1,17 +1,8 @@
 -- Each perfect matching costs at least half of the total width of the moats.
-use Rattle.std.proofs.lemmas.Bool.Decides.{nat_tests}
 use Rattle.std.proofs.Common.{◌≡◌, ◌≢◌, ℕ, suc, ◌+◌, ◌-◌, ◌*◌, ◌%◌, ◌<◌, ◌≤◌, ◌⊎◌, inl, inr, List, [], ◌∷◌, length, Bool, true, false, cond, eqb, nat_lt, arith, refl, sym, subst, ◌∙◌}
-use Rattle.std.specs.List.{All, AllPairs}
-use Rattle.std.proofs.lemmas.Bool.{eqb-true, eq-eqb, ne_eqb, lt-ltb, ltb-true}
-use Rattle.std.proofs.lemmas.List.Sums.{sum_by-cons}
-use Rattle.odd_sets.specs.DualSets.{count, one_if_equal}
-use Rattle.blossom_match.specs.Matchings.{pairs_cost, crosses_moat, pair_ends_at, moat_load, width_of, IsOptimalMatching, IsOddMoat, KeepsMoatLoads, IsPerfectMatching}
-use Rattle.odd_sets.specs.TableValue.{TableValue}
-use Rattle.odd_sets.specs.Tables.{entry}
-use Rattle.blossom_match.specs.declared.matching.Moat.{Moat}
-use Rattle.blossom_match.specs.declared.matching.Pair.{Pair}
+use Rattle.std.proofs.lemmas.Bool.{eq-eqb, ne_eqb}
+use Rattle.blossom_match.proofs.Names.{nat_tests, All, AllPairs, eqb-true, lt-ltb, ltb-true, sum_by-cons, count, one_if_equal, pairs_cost, crosses_moat, pair_ends_at, moat_load, width_of, IsOptimalMatching, IsOddMoat, KeepsMoatLoads, IsPerfectMatching, TableValue, entry, Moat, Pair, hit_same}
 use Rattle.blossom_match.proofs.MoatLemmas.{crossing}
-use Rattle.odd_sets.proofs.CallerLemmas.{hit_same}
 use Rattle.blossom_match.proofs.CallerLemmas.{ends_below}
 
 true_false : true ≡ false → ⊥

@@ -1,25 +1,9 @@
 -- The slacks from the outer vertices after a change of duals.
-use Rattle.std.proofs.lemmas.Bool.Decides.{nat_tests}
 use Rattle.std.proofs.Common.{◌≡◌, ℕ, ◌+◌, ◌-◌, ◌≤◌, ◌<◌, inl, inr, List, [], ◌∷◌, length, get_or, arith, refl, sym, ap, subst, ◌∙◌, take, drop}
+use Rattle.blossom_match.proofs.Names.{nat_tests, OddSetValue, count, FoldsCells, FoldsOuters, Each, IsSoundBranch, IsSoundSet, outer_members, count_holding_both, stored_height, outer_vertices, Advances, CanStep, CanStepAt, ExpandsBranch, GrowsBranch, IsSearch, ChangesDuals, Shrinks, lowered_slack, slack_from, HasSlackCells, AreOuterSlacks, AddsOuterSlacks, AreSearchSlacks, HasSlacks, HasSoundOuters, TableValue, IsTable, FAR, BranchValue, SearchValue, TightEdge, SearchStep, Expand, Shrink, each-right, far_is, lowered_far, by_either}
 use Rattle.blossom_match.proofs.OuterSlackLemmas.{reaches_apart}
-use Rattle.odd_sets.specs.DualSets.{OddSetValue, count}
-use Rattle.odd_sets.specs.Folds.{FoldsCells, FoldsOuters}
-use Rattle.odd_sets.specs.Lists.{Each}
-use Rattle.odd_sets.specs.SoundSets.{IsSoundBranch, IsSoundSet}
-use Rattle.odd_sets.specs.Trees.{outer_members, count_holding_both}
-use Rattle.blossom_match.specs.Searches.{stored_height, outer_vertices, Advances, CanStep, CanStepAt, ExpandsBranch, GrowsBranch, IsSearch}
-use Rattle.blossom_match.specs.Duals.{ChangesDuals}
-use Rattle.odd_sets.specs.Shrinks.{Shrinks}
-use Rattle.odd_sets.specs.SlackRows.{lowered_slack}
-use Rattle.blossom_match.specs.OuterSlacks.{slack_from, SearchHasSoundOuters, HasSlackCells, AreOuterSlacks, AddsOuterSlacks, AreSearchSlacks, CarriesSlacks, ComputesRootSlacks, HasSlacks, HasSoundOuters}
-use Rattle.odd_sets.specs.TableValue.{TableValue}
-use Rattle.odd_sets.specs.Tables.{IsTable}
-use Rattle.odd_sets.specs.declared.table.TheConstants.{FAR}
-use Rattle.odd_sets.specs.Values.{BranchValue, SearchValue}
-use Rattle.odd_sets.specs.declared.odd_set.TightEdge.{TightEdge}
-use Rattle.blossom_match.specs.declared.search.SearchStep.{SearchStep}
-use Rattle.blossom_match.specs.declared.search.SearchStep.TheVariants.{Expand, Shrink}
-use Rattle.odd_sets.proofs.CallerLemmas.{each-right, drop_past, far_is, lowered_far, lowered_less, lowered_near, by_either}
+use Rattle.blossom_match.specs.OuterSlacks.{SearchHasSoundOuters, CarriesSlacks, ComputesRootSlacks}
+use Rattle.odd_sets.proofs.CallerLemmas.{drop_past, lowered_less, lowered_near}
 use Rattle.blossom_match.proofs.FoldLemmas.{folded, set_within}
 use Rattle.blossom_match.proofs.SearchLemmas.{is_one, place_in, shrunk}
 use Rattle.blossom_match.proofs.DualLemmas.{around_same_all, outer_same}

@@ -1,18 +1,9 @@
 -- Moats and their members by counts.
-use Rattle.std.proofs.lemmas.Bool.Decides.{nat_tests}
 use Rattle.std.proofs.Common.{◌≡◌, ◌≢◌, ℕ, ◌+◌, ◌*◌, ◌%◌, ◌≤◌, inl, inr, zero, suc, List, [], ◌∷◌, ◌++◌, length, arith, refl, sym, subst, ◌∙◌, Bool, true, false, cond, eqb, ◌||◌}
 use Rattle.std.specs.List.{list_any}
-use Rattle.std.proofs.lemmas.List.Sums.{sum_by-append, sum_by-cons}
-use Rattle.std.proofs.lemmas.Bool.{lt-ltb}
-use Rattle.odd_sets.specs.Lists.{Each}
-use Rattle.odd_sets.specs.DualSets.{apart, count, one_if_equal}
-use Rattle.odd_sets.specs.TableValue.{TableValue}
-use Rattle.odd_sets.specs.Tables.{entry}
-use Rattle.blossom_match.specs.Matchings.{pairs_cost, crosses_moat, pair_ends_at, moat_holds, moat_load, width_of, AreLaminar}
-use Rattle.blossom_match.specs.Taken.{moat_of_set, IsOddMoatIn, AreMoatsIn}
-use Rattle.blossom_match.specs.declared.matching.Moat.{Moat}
-use Rattle.blossom_match.specs.declared.matching.Pair.{Pair}
-use Rattle.odd_sets.proofs.CallerLemmas.{each-append, each-map, pairs-append, some_member, by_count}
+use Rattle.std.proofs.lemmas.List.Sums.{sum_by-append}
+use Rattle.blossom_match.proofs.Names.{nat_tests, sum_by-cons, lt-ltb, Each, apart, count, one_if_equal, TableValue, entry, pairs_cost, crosses_moat, pair_ends_at, moat_holds, moat_load, width_of, AreLaminar, moat_of_set, IsOddMoatIn, AreMoatsIn, Moat, Pair, each-append, each-map, some_member, by_count}
+use Rattle.odd_sets.proofs.CallerLemmas.{pairs-append}
 
 true_false : true ≡ false → ⊥
 true_false e = cc

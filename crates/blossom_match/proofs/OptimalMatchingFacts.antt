@@ -1,12 +1,7 @@
 -- Pairs and moats that are no optimal matching, each for one reason, and what optimality excludes.
 use Rattle.std.proofs.Common.{◌≡◌, ℕ, ◌+◌, ◌*◌, ◌<◌, ◌≤◌, List, [], ◌∷◌, refl, arith}
-use Rattle.std.specs.List.{All, AllPairs}
+use Rattle.blossom_match.proofs.Names.{All, AllPairs, AreLaminar, IsOddMoat, IsOptimalMatching, IsPerfectMatching, moat_load, pairs_cost, width_of, TableValue, HasTriangleInequality, IsMetric, IsTable, entry, Moat, Pair}
 use Rattle.blossom_match.specs.LeastMatchings.{NoneCostsLess}
-use Rattle.blossom_match.specs.Matchings.{AreLaminar, IsOddMoat, IsOptimalMatching, IsPerfectMatching, moat_load, pairs_cost, width_of}
-use Rattle.odd_sets.specs.TableValue.{TableValue}
-use Rattle.odd_sets.specs.Tables.{HasTriangleInequality, IsMetric, IsTable, entry}
-use Rattle.blossom_match.specs.declared.matching.Moat.{Moat}
-use Rattle.blossom_match.specs.declared.matching.Pair.{Pair}
 
 abbrev pair : ℕ → ℕ → Pair
 pair a b = record { a = a; b = b }

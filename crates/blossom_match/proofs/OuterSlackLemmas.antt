@@ -1,21 +1,11 @@
 -- The least slack from the outer vertices to each vertex.
-use Rattle.std.proofs.lemmas.Bool.Decides.{nat_tests}
 use Rattle.std.proofs.Common.{◌≡◌, ◌≢◌, ℕ, ◌+◌, ◌-◌, ◌≤◌, ◌<◌, ◌⊎◌, inl, inr, suc, zero, List, [], ◌∷◌, ◌++◌, length, take, drop, get_or, arith, refl, sym, ap, subst, ◌∙◌, length-append, append_assoc}
-use Rattle.std.proofs.lemmas.List.{take-append-drop}
-use Rattle.std.proofs.Math.Seq.{drop-append_seam, take-append_seam}
+use Rattle.std.proofs.Math.Seq.{take-append_seam}
+use Rattle.blossom_match.proofs.Names.{nat_tests, take-append-drop, drop-append_seam, Each, OddSetValue, count, one_if_equal, lowered_slack, IsSoundBranch, IsSoundSet, outer_with_both, one_if_both, outer_members, count_holding_both, slack_from, HasSoundOuters, HasSlacks, IsSlackFromOne, HasSlackCells, IsOuterSlack, AreOuterSlacks, AddsOuterSlacks, LowersBySet, ReachesEither, TableValue, FAR, BranchValue, SearchValue, each-map, take_here, each-left, each-right, count-append, members-append, members_push, outer_places, not_hit, lowered_far, around_append, base_in, around_first, by_count, by_either, cases_lt}
 use Rattle.odd_sets.specs.Expansions.{InsertsBranches}
-use Rattle.odd_sets.specs.Lists.{Each}
-use Rattle.odd_sets.specs.DualSets.{OddSetValue, count, one_if_equal}
-use Rattle.odd_sets.specs.SlackRows.{MergesSlacks, lowered_slack}
-use Rattle.odd_sets.specs.SoundSets.{IsSoundBranch, IsSoundSet}
-use Rattle.odd_sets.specs.Trees.{outer_with_both, one_if_both, outer_members, count_holding_both}
-use Rattle.blossom_match.specs.OuterSlacks.{slack_from, HasSoundOuters, HasSlacks, IsSlackFromOne, HasSlackCells, IsOuterSlack, AreOuterSlacks, AddsOuterSlacks, LowersBySet, ReachesEither}
-use Rattle.odd_sets.specs.TableValue.{TableValue}
-use Rattle.odd_sets.specs.declared.table.TheConstants.{FAR}
-use Rattle.odd_sets.specs.Values.{BranchValue, SearchValue}
-use Rattle.odd_sets.proofs.CallerLemmas.{each-map, each_here, take_here, each-left, each-right, count-append, members-append, members_push, at_drop, outer_places, not_hit, lowered_far, near_least, near_is, around_append, base_in, around_first, by_count, by_either}
+use Rattle.odd_sets.specs.SlackRows.{MergesSlacks}
+use Rattle.odd_sets.proofs.CallerLemmas.{each_here, at_drop, near_least, near_is}
 use Rattle.blossom_match.proofs.ScanLemmas.{split_here}
-use Rattle.std.proofs.lemmas.Bool.{cases_lt}
 
 -- a merged row takes the set in
 pub takes_near : (t : TableValue) (hs : List ℕ) (s : OddSetValue) (old new : List ℕ) → IsSoundSet t (λ (a : ℕ). get_or hs a 0) s
@@ -64,12 +54,6 @@ set_both (suc n) zero t hs root bs b reach new a c e f ha hc la lc apart r k = i
 set_both zero (suc m) t hs root bs b reach new a c e f ha hc la lc apart r k = inr (k.least c a (omega (arith, f)) la e)
 set_both (suc n) (suc m) t hs root bs b reach new a c e f ha hc la lc apart r k = absurd (omega (arith, e, f, apart))
 
--- one branch more
-old_reached : (t : TableValue) (hs : List ℕ) (root : OddSetValue) (bs : List BranchValue) (b : BranchValue) (x old now : ℕ)
-    → ((y : ℕ) → count y (outer_members root.members bs) + count y b.outer.members ≤ 1) → now ≡ old
-    → (old ≡ FAR) ⊎ IsOuterSlack t hs root bs x old → (now ≡ FAR) ⊎ IsOuterSlack t hs root (bs ++ b ∷ []) x now
-old_reached t hs root bs b x old now h1 h2 h3 = grind (arith, nat_tests, members_push, around_append)
-
 -- one outer set more
 set_reached : (t : TableValue) (hs : List ℕ) (root : OddSetValue) (bs : List BranchValue) (b : BranchValue) (reach new : List ℕ)
     → ((y : ℕ) → count y (outer_members root.members bs) + count y b.outer.members ≤ 1)
@@ -84,7 +68,7 @@ set_reached t hs root bs b reach new once r k = record {
       (omega (arith, ha, members_push)) (omega (arith, hc, members_push)) la lc (omega (arith, apart, around_append)) r k;
   is = λ x lx. by_count (count x b.outer.members)
       (λ e. by_either
-      (λ same. old_reached t hs root bs b x (get_or reach x 0) (get_or new x 0) once same (r.is x lx))
+      (λ same. grind (arith, nat_tests, members_push, around_append, (r.is x lx)))
       (λ l. let out : count l.a (outer_members root.members bs) ≡ 0 = omega (arith, once l.a, l.here) in
       inr (record {
         a = l.a;
@@ -93,7 +77,7 @@ set_reached t hs root bs b reach new once r k = record {
         exact = l.exact;
       }))
       (k.is x lx e))
-      (λ e. old_reached t hs root bs b x (get_or reach x 0) (get_or new x 0) once (k.kept x lx e) (r.is x lx));
+      (λ e. grind (arith, nat_tests, members_push, around_append, (k.kept x lx e), (r.is x lx)));
 }
 
 -- the row of the next branch has a cell for each place
@@ -178,10 +162,6 @@ reaches_root t hs root reach new can size same far merged =
 -- the rows of a search have a cell for each place
 pub has_root_row : (s : SearchValue) (cells : List ℕ) → HasSlackCells s cells → HasSlacks (length cells) s.root
 has_root_row s cells r = r.can.sound.near.0.size ∙ sym r.size
-
-pub have_outer_rows : (s : SearchValue) (cells : List ℕ) → HasSlackCells s cells
-    → Each (λ (b : BranchValue). HasSlacks (length cells) b.outer) s.tree
-have_outer_rows s cells h1 = grind (arith, nat_tests, each-map)
 
 -- the places of an outer set are outer places
 pub outer_within : (x : ℕ) (base : List ℕ) (tree : List BranchValue) (i : ℕ) (b : BranchValue) → i < length tree → b ≡ get_or tree i b

@@ -1,27 +1,12 @@
 -- The slots after a step.
-use Rattle.std.proofs.lemmas.Bool.Decides.{nat_tests}
 use Rattle.std.proofs.Common.{◌≡◌, ℕ, ◌+◌, ◌≤◌, List, [], ◌∷◌, ◌++◌, Bool, true, false, cond, ltb, None, arith, refl, sym, ap, subst}
+use Rattle.blossom_match.proofs.Names.{nat_tests, DualSet, OddSetValue, dual_sets, count, one_if_equal, key_count, match_dual_sets, reversed_edge, CanStepAt, Shrinks, branches_in, matches_in, set_in, AreSets, Slots, all_dual_sets, branch_dual_sets, branch_by_edge, Augments, RemovesMatch, TableValue, BranchValue, MatchValue, SearchValue, TightEdge, Match, Branch, Augment, dual_sets-append, bands_push, hit_is, hit_same, key_count-append, sets_fewer, all_uses, by_count}
 use Rattle.slab.specs.Slab.{get}
-use Rattle.odd_sets.specs.DualSets.{DualSet, OddSetValue, dual_sets, count, one_if_equal, key_count}
-use Rattle.odd_sets.specs.MatchedSets.{match_dual_sets}
-use Rattle.odd_sets.specs.Blossoms.{reversed_edge}
-use Rattle.blossom_match.specs.Searches.{CanStepAt}
-use Rattle.odd_sets.specs.Shrinks.{Shrinks}
-use Rattle.odd_sets.specs.Slots.{branches_in, matches_in, set_in, AreSets, InsertsSet, Slots}
-use Rattle.odd_sets.specs.Trees.{all_dual_sets, branch_dual_sets, branch_by_edge, CanAugment, Augments, RemovesMatch}
-use Rattle.odd_sets.specs.TableValue.{TableValue}
-use Rattle.odd_sets.specs.Values.{BranchValue, MatchValue, SearchValue}
-use Rattle.odd_sets.specs.declared.odd_set.TightEdge.{TightEdge}
+use Rattle.odd_sets.specs.Slots.{InsertsSet}
+use Rattle.odd_sets.specs.Trees.{CanAugment}
 use Rattle.odd_sets.specs.declared.odd_set.Handle.{Handle}
-use Rattle.odd_sets.specs.declared.matches.Match.{Match}
-use Rattle.odd_sets.specs.declared.branches.Branch.{Branch}
-use Rattle.blossom_match.specs.declared.search.SearchStep.TheVariants.{Augment}
-use Rattle.odd_sets.proofs.CallerLemmas.{dual_sets-append, bands_push, hit_is, hit_same, key_count-append, inserted_keeps, keep_branches, keep_matches, keep_seat, no_slot, has_slot, set_more, sets_fewer, all_uses, by_count}
+use Rattle.odd_sets.proofs.CallerLemmas.{inserted_keeps, keep_branches, keep_matches, keep_seat, no_slot, has_slot, set_more}
 use Rattle.blossom_match.proofs.SearchLemmas.{is_one}
-
--- a vacant key is that of no set
-pub unused : (sets : Slots) (key : ℕ) (bs : List DualSet) → AreSets sets bs → get sets key ≡ None → key_count key bs ≡ 0
-unused sets key bs h1 h2 = grind (arith, nat_tests, by_count, no_slot, has_slot)
 
 once_case : (n k key was now : ℕ) → one_if_equal k key ≡ n → now ≡ was + one_if_equal k key → was ≤ 1 → (k ≡ key → was ≡ 0) → now ≤ 1
 once_case n k key was now h1 h2 h3 h4 = grind (arith, nat_tests, hit_is, hit_same)
@@ -29,7 +14,7 @@ once_case n k key was now h1 h2 h3 h4 = grind (arith, nat_tests, hit_is, hit_sam
 -- a set more
 pub more_sets : (old new : Slots) (key : ℕ) (was now : List DualSet) → InsertsSet old new key → AreSets old was
     → ((k : ℕ) → key_count k now ≡ key_count k was + one_if_equal k key) → AreSets new now
-more_sets old new key was now h1 h2 h3 = grind (arith, nat_tests, by_count, set_more, hit_is, unused, hit_same)
+more_sets old new key was now h1 h2 h3 = grind (arith, nat_tests, by_count, set_more, hit_is, no_slot, has_slot, hit_same)
 
 -- the other sets stay when one is inserted
 pub seat_stays : (old new : Slots) (key : ℕ) (bs : List DualSet) (s : Handle) → InsertsSet old new key → AreSets old bs
@@ -118,11 +103,6 @@ pub closed_sets : (old new : Slots) (blossom : OddSetValue) (link : TightEdge) (
 closed_sets old new blossom link root top tree now rest left ins sh e are =
     more_sets old new blossom.key (all_dual_sets root tree rest) (all_dual_sets top now left) ins are
     (λ k. grind (arith, nat_tests, all_uses k root tree rest, all_uses k top now left, sh.sums (key_count k) (key_count-append k)))
-
--- the way to a free place can be paired
-pub can_augment : (t : TableValue) (link : TightEdge) (s : SearchValue) (m : OddSetValue) → CanStepAt t s (Augment link)
-    → m.members ≡ link.to ∷ [] → CanAugment m link s.root s.tree
-can_augment t link s m h1 h2 = grind (arith, nat_tests, hit_same, is_one, hit_is)
 
 -- all sets of the tree and the one of the free place are matches
 pub met_sets : (old new : Slots) (link : TightEdge) (root m : OddSetValue) (tree : List BranchValue) (rest now : List MatchValue)

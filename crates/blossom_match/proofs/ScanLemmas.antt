@@ -1,14 +1,7 @@
 -- The least of all changes, pair by pair and set by set.
-use Rattle.std.proofs.lemmas.Bool.Decides.{nat_tests}
 use Rattle.std.proofs.Common.{◌≡◌, ℕ, ◌+◌, ◌≤◌, ◌<◌, ◌⊎◌, inl, inr, List, [], ◌∷◌, ◌++◌, length, take, drop, get_or, arith, refl, sym, ap, subst, ◌∙◌}
-use Rattle.std.proofs.lemmas.List.{take-append-drop}
-use Rattle.odd_sets.specs.Lists.{Each}
-use Rattle.odd_sets.specs.DualSets.{OddSetValue, count}
-use Rattle.odd_sets.specs.Trees.{outer_members, count_holding_both}
-use Rattle.blossom_match.specs.LeastChanges.{FirstHasDual, IsBranchDual, IsLesserChangeAt, IsBlossomDual, AllowsChange}
-use Rattle.odd_sets.specs.Values.{BranchValue}
-use Rattle.blossom_match.specs.declared.least.DualChange.{DualChange}
-use Rattle.odd_sets.proofs.CallerLemmas.{drop_here, each-map, each-push, take_here, count-append, members-append, around_append, base_in, around_none}
+use Rattle.blossom_match.proofs.Names.{nat_tests, take-append-drop, Each, OddSetValue, count, outer_members, count_holding_both, IsBlossomDual, AllowsChange, BranchValue, DualChange, drop_here, each-map, each-push, take_here, count-append, members-append, around_append, base_in, around_none}
+use Rattle.blossom_match.specs.LeastChanges.{FirstHasDual, IsBranchDual, IsLesserChangeAt}
 
 -- no outer set holds a place of those before and a place of this one
 pub apart_from : (a b : ℕ) (root : OddSetValue) (bs : List BranchValue) (c : BranchValue) (after : List BranchValue)
@@ -39,10 +32,6 @@ pub record Narrowing (tree : List BranchValue) (i : ℕ) (old new : DualChange) 
   pub wide : Each (AllowsChange new.by) (take i tree)
   pub is : (new ≡ old) ⊎ IsBlossomDual tree new
 
-narrowing_is : (tree : List BranchValue) (i : ℕ) (b : BranchValue) (o m n : DualChange) → i < length tree → b ≡ get_or tree i b → (m ≡ o)
-    ⊎ IsBlossomDual tree m → (n ≡ m) ⊎ IsBranchDual b i n → (n ≡ o) ⊎ IsBlossomDual tree n
-narrowing_is tree i b o m n h1 h2 h3 h4 = grind (arith, nat_tests, drop_here)
-
 pub narrowing_more : (tree : List BranchValue) (i : ℕ) (b : BranchValue) (o m n : DualChange) → i < length tree → b ≡ get_or tree i b
     → Narrowing tree i o m → IsLesserChangeAt b i m n → Narrowing tree (i + 1) o n
 narrowing_more tree i b o m n low is one two = record {
@@ -50,7 +39,7 @@ narrowing_more tree i b o m n low is one two = record {
   wide = subst (λ (ks : List BranchValue). Each (AllowsChange n.by) ks) (sym (take_here tree i b low is))
       (each-push (AllowsChange n.by) (take i tree) b (each-map (AllowsChange m.by) (AllowsChange n.by)
       (λ k w some. omega (arith, w some, two.less)) (take i tree) one.wide) two.wide);
-  is = narrowing_is tree i b o m n low is one.is two.is;
+  is = grind (arith, nat_tests, drop_here, one.is, two.is);
 }
 
 pub narrowing_start : (tree : List BranchValue) (o : DualChange) → Narrowing tree 0 o o

@@ -1,22 +1,13 @@
 -- Each step leads from a search to a search.
-use Rattle.std.proofs.lemmas.Bool.Decides.{nat_tests}
 use Rattle.std.proofs.Common.{◌≡◌, ℕ, ◌+◌, ◌≤◌, ◌<◌, suc, List, [], ◌∷◌, ◌++◌, length, take, drop, Bool, true, false, cond, ltb, arith, refl, sym, ap, subst, ◌∙◌, drop-cons, get_or}
-use Rattle.std.proofs.lemmas.Bool.{lt-ltb, ltb-true, ltb-false}
-use Rattle.std.proofs.lemmas.List.{take-append-drop}
-use Rattle.odd_sets.specs.Lists.{Each}
-use Rattle.odd_sets.specs.DualSets.{IsAdditive, DualSet, OddSetValue, dual_sets, count, height, one_if_equal, dual_load, IsOutside, NoneHold}
-use Rattle.odd_sets.specs.Blossoms.{reversed_edge}
-use Rattle.odd_sets.specs.MatchedSets.{match_members, match_dual_sets, IsMatch}
-use Rattle.odd_sets.specs.SoundSets.{IsSoundBranch, IsSoundMatch, IsSymmetric, IsTight}
-use Rattle.odd_sets.specs.Trees.{branch_dual_sets, branch_sets, branch_by_edge, inner_members, inner_sets, outer_members, RemovesMatch}
-use Rattle.odd_sets.specs.Shrinks.{CanShrink, Shrinks}
+use Rattle.blossom_match.proofs.Names.{nat_tests, lt-ltb, ltb-true, ltb-false, take-append-drop, Each, IsAdditive, DualSet, OddSetValue, dual_sets, count, height, one_if_equal, dual_load, reversed_edge, match_members, match_dual_sets, IsMatch, IsSoundBranch, IsSoundMatch, branch_dual_sets, branch_by_edge, inner_members, inner_sets, outer_members, RemovesMatch, Shrinks, is_place, outer_vertices, Advances, CanStep, TableValue, TightEdge, BranchValue, MatchValue, SearchValue, Shrink, Expand, each-append, each-left, each-right, each-push, dual_sets-append, bands_push, count-append, height-append, dual_load-append, members-append, members_push, none_hold, size-append, entry-comm}
+use Rattle.odd_sets.specs.DualSets.{IsOutside, NoneHold}
+use Rattle.odd_sets.specs.SoundSets.{IsSymmetric, IsTight}
+use Rattle.odd_sets.specs.Trees.{branch_sets}
+use Rattle.odd_sets.specs.Shrinks.{CanShrink}
 use Rattle.odd_sets.specs.Expansions.{Expands}
-use Rattle.blossom_match.specs.Searches.{is_place, outer_vertices, Advances, CanStep}
-use Rattle.odd_sets.specs.TableValue.{TableValue}
-use Rattle.odd_sets.specs.declared.odd_set.TightEdge.{TightEdge}
-use Rattle.odd_sets.specs.Values.{BranchValue, MatchValue, SearchValue}
-use Rattle.blossom_match.specs.declared.search.SearchStep.TheVariants.{Grow, Shrink, Expand}
-use Rattle.odd_sets.proofs.CallerLemmas.{each-append, each-left, each-right, each-push, dual_sets-append, bands_push, count-append, height-append, dual_load-append, members-append, members_push, none_hold, none_tall, size-append, tight_back, grown_push, entry-comm}
+use Rattle.blossom_match.specs.declared.search.SearchStep.TheVariants.{Grow}
+use Rattle.odd_sets.proofs.CallerLemmas.{none_tall, tight_back, grown_push}
 
 -- a search with other sets
 abbrev pub with_sets : SearchValue → OddSetValue → List BranchValue → List MatchValue → SearchValue
@@ -220,7 +211,3 @@ taken_place x xs new i place low is e =
           (take-append-drop i xs),
       ap (λ (ys : List ℕ). count x ys) here,
     )
-
--- the edge closes a blossom
-pub can_shrink : (link : TightEdge) (s : SearchValue) → CanStep s (Shrink link) → CanShrink link s.root s.tree
-can_shrink link s h1 = grind (arith, nat_tests, is_one, place_in, entry-comm)

@@ -1,17 +1,10 @@
 -- Sets taken apart one after another.
-use Rattle.std.proofs.lemmas.Bool.Decides.{nat_tests}
 use Rattle.std.proofs.Common.{◌≡◌, ℕ, ◌+◌, ◌*◌, ◌≤◌, ◌<◌, List, [], ◌∷◌, ◌++◌, length, arith, refl, sym, ap, subst, ◌∙◌, append_assoc, Some, None, Option}
-use Rattle.std.proofs.lemmas.List.{append-nil}
-use Rattle.odd_sets.specs.Lists.{Each}
-use Rattle.odd_sets.specs.DualSets.{IsAdditive, OddSetValue, DualSet, dual_sets, count, dual_load, total, key_count}
-use Rattle.odd_sets.specs.MatchedSets.{match_members, match_dual_sets, IsMatch}
+use Rattle.blossom_match.proofs.Names.{nat_tests, append-nil, Each, IsAdditive, OddSetValue, DualSet, dual_sets, count, dual_load, key_count, match_members, match_dual_sets, IsMatch, moat_load, width_of, moat_of_set, TakesApartMatches, IsTakingApart, MatchValue, Moat, Pair, count-append, hit_same, dual_load-append, size-append, key_count-append}
+use Rattle.odd_sets.specs.DualSets.{total}
 use Rattle.odd_sets.specs.Opens.{OpensAt}
-use Rattle.blossom_match.specs.Matchings.{moat_load, width_of}
-use Rattle.blossom_match.specs.Taken.{moat_of_set, TakesApartSet, TakesApartMatches, IsTakingApart}
-use Rattle.odd_sets.specs.Values.{MatchValue}
-use Rattle.blossom_match.specs.declared.matching.Moat.{Moat}
-use Rattle.blossom_match.specs.declared.matching.Pair.{Pair}
-use Rattle.odd_sets.proofs.CallerLemmas.{count-append, hit_same, dual_load-append, size-append, total-append, key_count-append}
+use Rattle.blossom_match.specs.Taken.{TakesApartSet}
+use Rattle.odd_sets.proofs.CallerLemmas.{total-append}
 use Rattle.blossom_match.proofs.MoatLemmas.{cost_push, ends_push, lie_both, lie_more, lie_none, lie_own, load_own, width_own}
 
 places_of : (x : ℕ) (c : MatchValue) (rest : List MatchValue) → count x (match_members (c ∷ rest))
@@ -51,9 +44,6 @@ head_of all left old now was so_far c rest taking e =
       size_second = omega (arith, sizes_of c rest, t.fewer);
     }
 
-joined_lists : (was a b c : List Moat) (x y z : List Moat) → a ≡ was ++ x → b ≡ a ++ y → c ≡ b ++ z → c ≡ was ++ (x ++ (y ++ z))
-joined_lists was a b c x y z h1 h2 h3 = grind (arith, nat_tests, append_assoc)
-
 pub taking_more : (all left : List MatchValue) (old now mid end new : List Pair) (was a b z : List Moat) (c : MatchValue)
     (rest : List MatchValue) →
     IsTakingApart all left old now was a → left ≡ c ∷ rest → TakesApartSet c.link.from c.first now mid a b
@@ -92,7 +82,7 @@ taking_more all left old now mid end new was a b z c rest taking e one two pushe
       taken = t.taken ++ both;
       rest = λ x. omega (arith, t.rest x, places_of x c rest, count-append);
       moats = t.moats ++ (one.moats ++ two.moats);
-      is = joined_lists was a b z t.moats one.moats two.moats t.is one.is two.is;
+      is = grind (arith, nat_tests, append_assoc, t.moats, one.moats, two.moats, t.is, one.is, two.is);
       lie = lie_both t.taken both (t.taken ++ both) t.moats (one.moats ++ two.moats) t.lie
           (lie_both c.first.members c.second.members both one.moats two.moats one.lie two.lie
           (λ x. omega (arith, places_of x c rest, t.once x, t.rest x)) (λ x. omega (arith, count-append)))
@@ -184,7 +174,7 @@ takes_blossom left s p cs old mid new was a b now once o own first t =
         load_own x y s.dual s.members was (once x) (once y),
       );
       moats = moat_of_set s.members s.dual ++ (first.moats ++ t.moats);
-      is = joined_lists was a b now (moat_of_set s.members s.dual) first.moats t.moats own first.is t.is;
+      is = grind (arith, nat_tests, append_assoc, first.moats, t.moats, first.is, t.is);
       lie = lie_own s.dual s.members p.members (match_members cs) first.moats t.moats other.0 left o.odd first.lie t.lie
           (λ x. omega (arith, o.places x, once x)) (λ x. omega (arith, o.places x))
           (omega (arith, other.1, o.places other.0, once other.0)) (omega (arith, other.1, o.places other.0))

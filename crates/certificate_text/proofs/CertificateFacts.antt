@@ -1,13 +1,8 @@
 -- Worked values of certificate texts and of their certificates.
 use Rattle.std.proofs.Common.{◌≡◌, ℕ, true, false, List, [], ◌∷◌, ◌++◌, None, Some, Ok, Err, codes, refl}
 use Rattle.std.specs.Fmt.{digits}
-use Rattle.std.specs.List.{flat_map}
-use Rattle.odd_cuts.specs.declared.certificate.PieceCert.{PieceCert}
+use Rattle.certificate_text.proofs.Names.{flat_map, PieceCert, parsed_cert_number, parsed_pass, words_in, certificate_text, cert_of, first_lines}
 use Rattle.certificate_text.specs.declared.reading.TheConstants.{MAX_CERT}
-use Rattle.certificate_text.specs.CertificateLines.{parsed_cert_number, parsed_pass}
-use Rattle.text_parts.specs.Parts.{words_in}
-use Rattle.certificate_text.specs.CertificateTexts.{certificate_text}
-use Rattle.certificate_text.specs.ReadCertificates.{cert_of, first_lines}
 
 -- the longest text that is read, in bytes
 pub known_limit : MAX_CERT ≡ 67108864

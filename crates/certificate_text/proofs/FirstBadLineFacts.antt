@@ -1,11 +1,7 @@
 -- Lines that aren't the first bad one of a text, and what the theorems on certificate texts exclude.
 use Rattle.std.proofs.Common.{◌≡◌, ◌≢◌, ℕ, ◌-◌, ◌<◌, ◌≤◌, List, [], ◌∷◌, ◌++◌, All, Ok, Err, codes, length, refl, arith}
-use Rattle.odd_cuts.specs.declared.certificate.PieceCert.{PieceCert}
-use Rattle.odd_cuts.specs.declared.cut.Cut.{Cut}
-use Rattle.odd_cuts.specs.Certificates.{HasCanonicalText}
-use Rattle.certificate_text.specs.CertificateTexts.{certificate_text}
-use Rattle.certificate_text.specs.ReadCertificates.{AreFew, HasFewItems, HasSmallNumbers, IsCertificatePrefix, IsFirstBadLine, PiecesHaveOneText, ReadPiecesCanBePrinted, ReportsFirstBadLine, TextOfPiecesIsRead, cert_of, first_lines}
-use Rattle.text_parts.specs.Parts.{parts_between}
+use Rattle.certificate_text.proofs.Names.{PieceCert, Cut, HasCanonicalText, certificate_text, AreFew, HasFewItems, HasSmallNumbers, IsCertificatePrefix, IsFirstBadLine, cert_of, first_lines, parts_between}
+use Rattle.certificate_text.specs.ReadCertificates.{PiecesHaveOneText, ReadPiecesCanBePrinted, ReportsFirstBadLine, TextOfPiecesIsRead}
 
 -- a first line, a line of another kind, and an end
 abbrev text : List ℕ

@@ -1,24 +1,16 @@
 -- The reported line is the first bad line.
-use Rattle.std.proofs.lemmas.Bool.Decides.{nat_tests}
 use Rattle.std.proofs.Common.{◌≡◌, ◌≢◌, ℕ, suc, ◌+◌, ◌-◌, ◌<◌, ◌==◌, Bool, true, false, List, [], ◌∷◌, ◌++◌, Option, None, Some, Result, Ok, Err, All, length, get_or, take, subst, ap, sym, refl, ◌∙◌, append_assoc, arith}
 use Rattle.std.proofs.lemmas.List.{flat_map_more, take_more}
-use Rattle.std.proofs.lemmas.List.Elements.{All-cons, All-head, All-nil, All-tail, All-take}
-use Rattle.std.specs.List.{flat_map, onto_first}
-use Rattle.std.specs.Option.{option_and_then}
-use Rattle.line_graph.specs.declared.pass.Pass.{Pass}
-use Rattle.odd_cuts.specs.declared.certificate.PieceCert.{PieceCert}
-use Rattle.certificate_text.specs.declared.draft.CertDraft.{CertDraft}
+use Rattle.std.proofs.lemmas.List.Elements.{All-take}
+use Rattle.std.specs.List.{onto_first}
+use Rattle.certificate_text.proofs.Names.{nat_tests, All-cons, All-head, All-nil, All-tail, flat_map, option_and_then, Pass, PieceCert, CertDraft, CertLine, parts_between, IsCertificatePrefix, IsFirstBadLine, pieces_at_end, cert_of, draft_with_text_line, first_lines, draft_with_line, pieces_after_lines, some_part}
 use Rattle.certificate_text.specs.declared.draft.CertDraft.TheVariants as draft
-use Rattle.certificate_text.specs.declared.lines.CertLine.{CertLine}
 use Rattle.certificate_text.specs.declared.lines.CertLine.TheVariants as line
-use Rattle.text_parts.specs.Parts.{parts_between}
-use Rattle.certificate_text.specs.ReadCertificates.{IsCertificatePrefix, IsFirstBadLine, pieces_at_end, cert_of, draft_with_text_line, first_lines, draft_with_line, pieces_after_lines}
 use Rattle.certificate_text.proofs.ItemWords.{HasPass}
 use Rattle.certificate_text.proofs.LineTexts.{HasLine, line_bytes, some_item}
 use Rattle.certificate_text.proofs.NumberWords.{then_some}
 use Rattle.certificate_text.proofs.ReadTexts.{Lacks, SayOn, line_before, next_judged}
 use Rattle.certificate_text.proofs.ReadingLemmas.{goes_on}
-use Rattle.text_parts.proofs.CallerLemmas.{some_part}
 
 -- the parts of a text have no line end
 onto_lacks : (b : ℕ) (parts : List (List ℕ)) → (b == 10) ≡ false → All Lacks parts → All Lacks (onto_first b parts)
@@ -113,18 +105,10 @@ record Stops (said : CertDraft) (parts : List (List ℕ)) (number told : ℕ) : 
   run : runs said (take fit parts) ≡ Some new
   unfit : fit + 1 < length parts → draft_with_text_line new (get_or parts fit []) ≡ None
 
--- refusals of one answer are the same
-same_err : {A : Type 0} (a b : ℕ) → (let first : Result A ℕ = Err a in first) ≡ Err b → b ≡ a
-same_err a b is = cc
-
--- an answer is no refusal
-ok_err : {A : Type 0} (a : A) (n : ℕ) → Ok a ≡ Err n → ⊥
-ok_err a n is = cc
-
 -- a fault after the last line is reported with the number of the next line
 end_told : (number : ℕ) (said : CertDraft) (rest : List ℕ) (told : ℕ) → pieces_at_end number said rest ≡ Err told → told ≡ number
-end_told number (draft.Complete pieces) [] told says = absurd (ok_err pieces told says)
-end_told number said rest told says = same_err number told says
+end_told number (draft.Complete pieces) [] told says = absurd (grind (arith, nat_tests))
+end_told number said rest told says = grind (arith, nat_tests)
 
 -- the next line is the one
 stop_here : (said : CertDraft) (bytes next : List ℕ) (more : List (List ℕ)) (number told : ℕ) → draft_with_text_line said bytes ≡ None
@@ -161,7 +145,7 @@ stops (bytes ∷ next ∷ more) said number told some says =
       by_answer : (answer : Option CertDraft) → draft_with_text_line said bytes ≡ answer
           → ((one : CertDraft) → pieces_after_lines (number + 1) one (next ∷ more) ≡ Err told → Stops one (next ∷ more) (number + 1) told)
           → Stops said (bytes ∷ next ∷ more) number told
-      by_answer None is later = stop_here said bytes next more number told is (same_err number told (rw is at says))
+      by_answer None is later = stop_here said bytes next more number told is (grind (arith, nat_tests, (rw is at says)))
       by_answer (Some one) is later = stop_later said one bytes next more number told is (later one (rw is at says))
 
 -- a certificate begins with lines that fit

@@ -1,18 +1,8 @@
 -- Passes and members as words: the meaning of words, and the text of that meaning.
 use Rattle.std.proofs.Common.{◌≡◌, ℕ, ◌+◌, ◌-◌, ◌<◌, ◌≤◌, ◌^◌, ◌==◌, Bool, true, false, List, [], ◌∷◌, Some, option_map, length, All, decimal, subst, ap, sym, refl, ◌∙◌, map, arith}
-use Rattle.std.proofs.lemmas.Bool.{and_from, and_parts}
-use Rattle.std.proofs.lemmas.Bool.Decides.{nat_tests}
-use Rattle.std.proofs.lemmas.Fmt.{decimal_nonempty, digits_decimal}
-use Rattle.std.proofs.lemmas.List.Elements.{All-cons, All-head, All-tail}
-use Rattle.std.specs.Char.{is_ascii_digit}
-use Rattle.std.specs.List.{flat_map}
-use Rattle.std.specs.Str.{all_ascii_digits}
-use Rattle.line_graph.specs.declared.pass.Pass.{Pass}
+use Rattle.certificate_text.proofs.Names.{and_from, and_parts, nat_tests, decimal_nonempty, digits_decimal, All-cons, All-head, All-tail, is_ascii_digit, flat_map, all_ascii_digits, Pass, parsed_members_after, parsed_number_above, parsed_pass_along, parsed_pass, parsed_passes, member_text, passes_text, decimal_model}
 use Rattle.line_graph.specs.PieceWalks.{all_greater, is_strictly_increasing}
-use Rattle.certificate_text.specs.CertificateLines.{parsed_members_after, parsed_number_above, parsed_pass_along, parsed_pass, parsed_passes}
-use Rattle.certificate_text.specs.CertificateTexts.{member_text, passes_text}
 use Rattle.certificate_text.proofs.NumberWords.{above_is, above_read, map_some, pass_is, pass_spaced, pass_word, spaced, then_some}
-use Rattle.lists_and_numbers.proofs.CallerLemmas.{decimal_model}
 
 -- a pass and a member that have a number
 abbrev pub HasPass : Pass → Type 0

@@ -1,3 +1,4 @@
+pub mod Names
 mod PartLemmas
 mod WordsLemmas
 mod ReadingLemmas

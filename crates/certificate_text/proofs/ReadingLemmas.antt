@@ -1,13 +1,6 @@
 -- The lines of a certificate text, judged one after another.
-use Rattle.std.proofs.lemmas.Bool.Decides.{nat_tests}
 use Rattle.std.proofs.Common.{◌≡◌, ◌≢◌, ℕ, ◌+◌, List, [], ◌∷◌, Option, None, Some, Result, Err, ap, sym, refl, ◌∙◌, arith}
-use Rattle.std.specs.Option.{ok_or}
-use Rattle.drawing_model.specs.GrowingDrawings.{and_then}
-use Rattle.odd_cuts.specs.declared.certificate.PieceCert.{PieceCert}
-use Rattle.certificate_text.specs.declared.draft.CertDraft.{CertDraft}
-use Rattle.text_parts.specs.Parts.{parts_between}
-use Rattle.certificate_text.specs.ReadCertificates.{cert_of, draft_with_text_line, pieces_after_lines}
-use Rattle.text_parts.proofs.CallerLemmas.{some_part}
+use Rattle.certificate_text.proofs.Names.{nat_tests, ok_or, and_then, PieceCert, CertDraft, parts_between, cert_of, draft_with_text_line, pieces_after_lines, some_part}
 
 -- the result after the next line
 abbrev pub goes_on : ℕ → Option CertDraft → List (List ℕ) → Result (List PieceCert) ℕ

@@ -1,15 +1,8 @@
 -- A text has more bytes than any list of its certificate has items.
-use Rattle.std.proofs.lemmas.Bool.Decides.{nat_tests}
 use Rattle.std.proofs.Common.{◌≡◌, ℕ, ◌+◌, ◌<◌, ◌≤◌, List, [], ◌∷◌, ◌++◌, length, get_or, codes, decimal, ap, arith}
 use Rattle.std.proofs.lemmas.List.{length-append}
 use Rattle.std.proofs.lemmas.List.Folds.{length-flat_map-take}
-use Rattle.std.specs.List.{flat_map}
-use Rattle.line_graph.specs.declared.pass.Pass.{Pass}
-use Rattle.odd_cuts.specs.declared.certificate.PieceCert.{PieceCert}
-use Rattle.odd_cuts.specs.declared.cut.Cut.{Cut}
-use Rattle.certificate_text.specs.CertificateTexts.{certificate_text, cut_line_text, member_text, pass_text, passes_text, piece_text}
-use Rattle.lists_and_numbers.specs.TextLines.{newline}
-use Rattle.certificate_text.specs.ReadCertificates.{AreFew, HasFewItems}
+use Rattle.certificate_text.proofs.Names.{nat_tests, flat_map, Pass, PieceCert, Cut, certificate_text, cut_line_text, member_text, pass_text, passes_text, piece_text, newline, AreFew, HasFewItems}
 use Rattle.certificate_text.proofs.NumberWords.{pass_spaced}
 
 -- each item has a byte at least
@@ -26,10 +19,6 @@ one_most f xs i d there = omega (arith, length-flat_map-take f xs i d there)
 -- the text of a pass has a byte
 pass_some : (pass : Pass) → 1 ≤ length (pass_text pass)
 pass_some pass = omega (arith, ap length (pass_spaced pass))
-
--- and that of a member
-member_some : (j : ℕ) → 1 ≤ length (member_text j)
-member_some j = omega arith
 
 -- and that of a cut
 cut_some : (cut : Cut) → 1 ≤ length (cut_line_text cut)
@@ -49,7 +38,7 @@ last_most before after = omega (arith, length-append before after)
 
 -- the members of a cut
 cut_few : (limit : ℕ) (cut : Cut) → length (cut_line_text cut) ≤ limit → length cut.members ≤ limit
-cut_few limit cut within = grind (arith, nat_tests, count_most, member_some, first_most, last_most)
+cut_few limit cut within = grind (arith, nat_tests, count_most, first_most, last_most)
 
 -- the lists of a piece are short where its text is
 piece_few : (piece : PieceCert) → length (piece_text piece) ≤ 67108864 → HasFewItems piece

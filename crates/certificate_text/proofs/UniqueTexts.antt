@@ -1,26 +1,10 @@
 -- A text that is read as a certificate is the text of that certificate, and no other text is.
-use Rattle.std.proofs.lemmas.Bool.Decides.{nat_tests}
 use Rattle.std.proofs.Common.{◌≡◌, ℕ, ◌+◌, ◌<◌, ◌^◌, List, [], ◌∷◌, ◌++◌, Option, None, Some, Result, Ok, Err, All, codes, decimal, subst, ap, sym, refl, ◌∙◌, append_assoc, append-nil, arith}
 use Rattle.std.proofs.lemmas.Grind.{flat_map-append}
-use Rattle.std.proofs.lemmas.List.Elements.{All-nil, All-push}
-use Rattle.std.proofs.lemmas.List.Splits.{join_with_byte-slice_split}
-use Rattle.std.specs.List.{flat_map, join_with_byte}
-use Rattle.std.specs.Option.{ok_or}
-use Rattle.drawing_model.specs.GrowingDrawings.{and_then}
-use Rattle.line_graph.specs.declared.pass.Pass.{Pass}
-use Rattle.odd_cuts.specs.declared.certificate.PieceCert.{PieceCert}
-use Rattle.certificate_text.specs.declared.draft.CertDraft.{CertDraft}
+use Rattle.std.proofs.lemmas.List.Elements.{All-push}
+use Rattle.certificate_text.proofs.Names.{nat_tests, All-nil, join_with_byte-slice_split, flat_map, join_with_byte, ok_or, and_then, Pass, PieceCert, CertDraft, CertLine, Cut, parsed_cert_line, parts_between, HasCanonicalText, certificate_text, cut_line_text, member_text, passes_text, piece_text, newline, IsPlainCut, HasSmallNumbers, pieces_at_end, cert_of, draft_with_text_line, draft_with_line, pieces_after_lines, with_cut}
 use Rattle.certificate_text.specs.declared.draft.CertDraft.TheVariants as draft
-use Rattle.certificate_text.specs.declared.lines.CertLine.{CertLine}
 use Rattle.certificate_text.specs.declared.lines.CertLine.TheVariants as line
-use Rattle.odd_cuts.specs.declared.cut.Cut.{Cut}
-use Rattle.certificate_text.specs.CertificateLines.{parsed_cert_line}
-use Rattle.text_parts.specs.Parts.{parts_between}
-use Rattle.odd_cuts.specs.Certificates.{HasCanonicalText}
-use Rattle.certificate_text.specs.CertificateTexts.{certificate_text, cut_line_text, member_text, passes_text, piece_text}
-use Rattle.lists_and_numbers.specs.TextLines.{newline}
-use Rattle.odd_cuts.specs.Packings.{IsPlainCut}
-use Rattle.certificate_text.specs.ReadCertificates.{HasSmallNumbers, pieces_at_end, cert_of, draft_with_text_line, draft_with_line, pieces_after_lines, with_cut}
 use Rattle.certificate_text.proofs.ItemWords.{HasMember}
 use Rattle.certificate_text.proofs.LineTexts.{HasCut, HasLine, line_bytes, line_is}
 use Rattle.certificate_text.proofs.NumberWords.{then_some}
@@ -84,11 +68,6 @@ walk_bytes : (retraced : ℕ) (walk : List Pass)
 walk_bytes retraced walk = ap (λ (text : List ℕ). codes "piece " ++ text)
     (append_assoc (decimal retraced) newline (line_bytes (line.Walk walk) ++ newline))
 
--- a piece without cuts has a text
-has_walk : (retraced : ℕ) (walk : List Pass) → retraced < 2 ^ 32 → HasLine (line.Walk walk)
-    → HasText (record { retraced = retraced; walk = walk; cuts = [] })
-has_walk retraced walk small has = grind (arith, nat_tests)
-
 -- a piece with a cut more has a text too
 has_cut : (piece : PieceCert) (cut : Cut) → HasText piece → HasCut cut → HasText (with_cut piece cut)
 has_cut piece cut all one = record {
@@ -112,7 +91,7 @@ adds draft.Headed line.End = (refl, λ has line. All-nil HasText)
 adds (draft.AwaitingWalk done retraced) (line.Walk walk) = (
   sym (append_assoc (begun done) (codes "piece " ++ (decimal retraced ++ newline)) (line_bytes (line.Walk walk) ++ newline)
       ∙ ap (λ (text : List ℕ). begun done ++ text) (walk_bytes retraced walk)),
-  λ has line. (has.0, has_walk retraced walk has.1 line),
+  λ has line. (has.0, grind (arith, nat_tests, has.1)),
 )
 adds (draft.InPiece done piece) (line.Cut cut) = (
   ap (λ (text : List ℕ). begun done ++ text) (piece_more piece cut ∙ ap (λ (text : List ℕ). piece_text piece ++ text) (sym (cut_bytes cut)))
@@ -150,10 +129,6 @@ record Spelled (before text : List ℕ) (said : CertDraft) (pieces : List PieceC
   text_is : before ++ text ≡ certificate_text pieces
   has : HasDraft said → All HasText pieces
 
--- a refusal is no answer
-err_ok : {A : Type 0} (n : ℕ) (a : A) → Err n ≡ Ok a → ⊥
-err_ok n a is = cc
-
 -- at the end of the text
 abbrev AtEnd : CertDraft → List ℕ → Result (List PieceCert) ℕ → Type 0
 AtEnd said rest (Ok pieces) = Spelled (draft_text said) rest said pieces
@@ -167,13 +142,13 @@ ends n said rest = tt
 -- a line that may follow, and what comes after it
 goes_on : (n : ℕ) (new : Option CertDraft) (next : CertDraft → Result (List PieceCert) ℕ) (pieces : List PieceCert) {P : Type 0}
     → and_then (ok_or new n) next ≡ Ok pieces → ((said : CertDraft) → new ≡ Some said → next said ≡ Ok pieces → P) → P
-goes_on n None next pieces says then = absurd (err_ok n pieces says)
+goes_on n None next pieces says then = absurd (grind (arith, nat_tests))
 goes_on n (Some said) next pieces says then = then said refl says
 
 -- the text after a draft
 spelled_after : (parts : List (List ℕ)) (n : ℕ) (said : CertDraft) (pieces : List PieceCert) → pieces_after_lines n said parts ≡ Ok pieces
     → Spelled (draft_text said) (join_with_byte 10 parts) said pieces
-spelled_after [] n said pieces says = absurd (err_ok n pieces says)
+spelled_after [] n said pieces says = absurd (grind (arith, nat_tests))
 spelled_after (rest ∷ []) n said pieces says = grind (arith, nat_tests, ends n said rest)
 spelled_after (bytes ∷ next ∷ more) n said pieces says =
     goes_on n (draft_with_text_line said bytes) (λ new. pieces_after_lines (n + 1) new (next ∷ more)) pieces says (λ new fits rest.

@@ -1,10 +1,6 @@
 -- Words of a line, taken one after another.
 use Rattle.std.proofs.Common.{◌≡◌, ◌≢◌, ℕ, ◌-◌, List, [], ◌∷◌, ◌++◌, Option, None, Some, option_map, append_assoc, ap, refl, sym, ◌∙◌}
-use Rattle.std.specs.Option.{option_and_then}
-use Rattle.certificate_text.specs.CertificateLines.{parsed_members_after, parsed_number_above, only_number, parsed_passes, parsed_walk}
-use Rattle.text_parts.specs.Parts.{words_in}
-use Rattle.line_graph.specs.declared.pass.Pass.{Pass}
-use Rattle.text_parts.proofs.CallerLemmas.{some_part}
+use Rattle.certificate_text.proofs.Names.{option_and_then, parsed_members_after, parsed_number_above, only_number, parsed_passes, parsed_walk, words_in, Pass, some_part}
 
 -- a word with others after it is not the only one
 not_only : (word : List ℕ) (words : List (List ℕ)) → words ≢ [] → only_number (word ∷ words) ≡ None

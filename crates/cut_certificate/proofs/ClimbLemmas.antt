@@ -1,10 +1,6 @@
 -- An edge crosses no more of the cuts than two halves for each of its steps.
-use Rattle.std.proofs.lemmas.Bool.Decides.{nat_tests}
 use Rattle.std.proofs.Common.{◌≡◌, ℕ, ◌+◌, ◌-◌, ◌*◌, ◌<◌, ◌≤◌, ◌⊎◌, List, [], ◌∷◌, true, arith, inl, inr, refl}
-use Rattle.std.proofs.lemmas.Bool.{cases_lt}
-use Rattle.blossom_match.specs.declared.matching.Moat.{Moat}
-use Rattle.odd_cuts.specs.Cuts.{has_member}
-use Rattle.cut_certificate.specs.Levels.{LiftInput, depth, level, width_sum}
+use Rattle.cut_certificate.proofs.Names.{nat_tests, cases_lt, Moat, has_member, LiftInput, depth, level, width_sum}
 use Rattle.cut_certificate.proofs.LevelLemmas.{IsBest, best, inner_full, level_by, level_most}
 use Rattle.cut_certificate.proofs.MoatLemmas.{Apart, Disjoint, Fits, IsOf, not_in, parts, reach, related}
 use Rattle.cut_certificate.proofs.OverlapLemmas.{overlap, overlaps, overlaps_fit, part_at}
@@ -19,13 +15,10 @@ pub record IsLine (g : LiftInput) (i j c : ℕ) : Type 0 where
   pub forth : (t : ℕ) → t < g.places → g.least t j ≤ g.least t i + c
   pub back : (t : ℕ) → t < g.places → g.least t i ≤ g.least t j + c
 
-in_overlap : (b w x y from to : ℕ) → to ≤ w → b + to ≤ y → x - b ≤ from → from < to → to - from ≤ overlap b (b + w) x y
-in_overlap b w x y from to h k l m = omega arith
-
 -- one moat's share of the cuts that hold i and not j
 climb_at : (g : LiftInput) (i j t y : ℕ) → IsBest g i t → (m : Moat) → IsOf g.moats m
     → (level g m i < level g m j → depth g m t + level g m j ≤ y) → level g m j - level g m i ≤ part_at g t (2 * g.least t i) y m
-climb_at g i j t y best m is top = grind (arith, nat_tests, cases_lt, level_most, best, in_overlap)
+climb_at g i j t y best m is top = grind (arith, nat_tests, cases_lt, level_most, best)
 
 climb_fits : (g : LiftInput) (i j t y : ℕ) → IsBest g i t → (ms : List Moat) → ((m : Moat) → IsOf ms m → IsOf g.moats m)
     → ((m : Moat) → IsOf ms m → level g m i < level g m j → depth g m t + level g m j ≤ y)
@@ -55,9 +48,6 @@ no_climb g i j (m ∷ ms) f =
     let more = no_climb g i j ms (λ z h. f z (inr h)) in
     omega arith
 
-under : (b e x : ℕ) → 0 < e → e ≤ x - b → b + e ≤ x
-under b e x h k = omega arith
-
 -- the cuts that hold i and not j have two halves at most for each step
 half : (g : LiftInput) → Fits g → (i j c : ℕ) → i < g.size → ((t : ℕ) → t < g.places → g.least t j ≤ g.least t i + c)
     → climb g i j g.moats ≤ 2 * c
@@ -73,7 +63,7 @@ half g f i j c in_i forth = elim (best g f i in_i) [
     top t b m is less =
         let most : level g m j ≤ m.width = level_most g m j in
         let low : level g m i < m.width = omega arith in
-        under (depth g m t) (level g m j) (2 * g.least t j) (omega arith) (level_by g m j t (b.inside m is low))
+        grind (arith, nat_tests, (level_by g m j t (b.inside m is low)))
 
 some_climb : (g : LiftInput) (i j : ℕ) (ms : List Moat) → 0 < climb g i j ms → (m : Moat) × IsOf ms m × (level g m i < level g m j)
 some_climb g i j [] h = absurd (omega arith)

@@ -1,26 +1,14 @@
 -- Rows of a piece and moats over its odd junctions are an input of lifting whose cuts are a packing.
-use Rattle.std.proofs.lemmas.Bool.Decides.{nat_tests}
 use Rattle.std.proofs.Common.{◌≡◌, ℕ, ◌+◌, ◌*◌, ◌%◌, ◌<◌, ◌≤◌, List, [], ◌∷◌, length, Vec, Global, All, Bool, drop, true, false, not, ◌&&◌, get_or, Some, slice_get, arith, refl, sym, ◌∙◌, ap, subst}
-use Rattle.std.proofs.lemmas.List.Elements.{All-weaker}
 use Rattle.std.proofs.lemmas.List.Recursion.{is_sum_by}
-use Rattle.std.proofs.lemmas.Option.{slice_get-get_or, slice_get_read}
-use Rattle.std.specs.Prelude.{if◌then◌else◌}
-use Rattle.std.specs.List.{count_by}
-use Rattle.blossom_match.specs.declared.matching.Moat.{Moat}
-use Rattle.blossom_match.specs.Matchings.{IsOddMoat, crosses_moat, moat_load}
-use Rattle.line_graph.specs.declared.edge.Edge.{Edge}
+use Rattle.std.proofs.lemmas.Option.{slice_get-get_or}
+use Rattle.cut_certificate.proofs.Names.{nat_tests, All-weaker, slice_get_read, if◌then◌else◌, count_by, Moat, IsOddMoat, moat_load, Edge, PieceValue, RowsValue, cost_at, length_in, terminal_of, Cut, has_member, load_on, LiftInput, lift_input, width_sum, AreLiftableMoats, IsLifted, AddsCuts, AreCutsTo, IsPlainCut, HasRowsForMoats, AreDistancesFrom}
+use Rattle.blossom_match.specs.Matchings.{crosses_moat}
 use Rattle.drawing_model.specs.declared.limits.TheConstants.{MAX_LINES}
 use Rattle.line_graph.specs.ValidPieces.{IsValidPiece}
-use Rattle.line_graph.specs.PieceGraphs.{PieceValue}
 use Rattle.odd_paths.specs.CostTheorems.{AreDistances}
-use Rattle.odd_paths.specs.LeastRows.{RowsValue, cost_at, length_in, terminal_of}
-use Rattle.odd_cuts.specs.declared.cut.Cut.{Cut}
-use Rattle.odd_cuts.specs.Cuts.{has_member, load_on}
-use Rattle.cut_certificate.specs.Levels.{LiftInput, lift_input, width_sum}
-use Rattle.cut_certificate.specs.Lifts.{AreLiftableMoats, IsLifted}
-use Rattle.cut_certificate.specs.MoatCuts.{AddsCuts, AreCutsTo}
-use Rattle.odd_cuts.specs.Packings.{IsOddCut, IsPlainCut}
-use Rattle.cut_certificate.specs.MoatDistances.{AreAllMoatDistances, HasRowsForMoats, AreDistancesFrom}
+use Rattle.odd_cuts.specs.Packings.{IsOddCut}
+use Rattle.cut_certificate.specs.MoatDistances.{AreAllMoatDistances}
 use Rattle.cut_certificate.proofs.ClimbLemmas.{IsLine, carries}
 use Rattle.cut_certificate.proofs.HeldLemmas.{as_many}
 use Rattle.cut_certificate.proofs.LaminarLemmas.{below, differ, held_below, laminar, of_all}
@@ -69,10 +57,6 @@ fits p rows moats law are = record {
       (are.rows_are.least t j in_t in_j) (are.rows_are.least u j in_u in_j);
 }
 
-line : (p : PieceValue) (rows : RowsValue) (moats : List Moat) → AreDistances p → AreLiftableMoats p rows moats → (k : ℕ) (e : Edge)
-    → slice_get p.edges k ≡ Some e → e.a < length p.junctions → e.b < length p.junctions → IsLine (piece_site p rows moats) e.a e.b e.cost
-line p rows moats law are k e at in_a in_b = grind (arith, nat_tests)
-
 -- the edge carries no more than two halves for each of its steps
 abbrev Carries : List Cut → Edge → Type 0
 Carries cuts e = load_on cuts e ≤ 2 * e.cost
@@ -86,7 +70,7 @@ loads p rows moats cuts kept law are l k d lt = carried (get_or p.edges k d) (sl
     carried : (e : Edge) → slice_get p.edges k ≡ Some e → (e.a < length p.junctions) × (e.b < length p.junctions) → Carries cuts e
     carried e at ends =
         let most = carries (piece_site p rows moats) (fits p rows moats law are) e.a e.b e.cost ends.0 ends.1
-        (line p rows moats law are k e at ends.0 ends.1) in
+        (grind (arith, nat_tests, ends.0, ends.1)) in
         omega (arith, l.loads e ends.0 ends.1, most)
 
 odd_cut : (p : PieceValue) (rows : RowsValue) (moats : List Moat) → AreDistances p → AreLiftableMoats p rows moats → (c : Cut)

@@ -1,12 +1,7 @@
 -- A cut holds as many odd junctions as its moat has members, and nested moats of different sets have different sizes.
-use Rattle.std.proofs.lemmas.Bool.Decides.{nat_tests}
 use Rattle.std.proofs.Common.{◌≡◌, ◌≢◌, ℕ, suc, ◌+◌, ◌<◌, ◌≤◌, ◌⊎◌, List, [], ◌∷◌, length, Bool, true, false, cond, ◌||◌, ◌==◌, arith, inl, inr, refl, sym, ◌∙◌, ap, subst}
-use Rattle.std.proofs.lemmas.Bool.{both_ways, cases_Bool, cases_eq, cases_lt, eq-eqb, eqb-true, ne_eqb, or_cases}
 use Rattle.std.proofs.lemmas.List.Recursion.{is_count_by}
-use Rattle.std.specs.List.{count_by}
-use Rattle.std.specs.Prelude.{if◌then◌else◌, slice_index}
-use Rattle.blossom_match.specs.declared.matching.Moat.{Moat}
-use Rattle.odd_cuts.specs.Cuts.{has_member}
+use Rattle.cut_certificate.proofs.Names.{nat_tests, both_ways, cases_Bool, cases_eq, cases_lt, eq-eqb, eqb-true, ne_eqb, or_cases, count_by, if◌then◌else◌, slice_index, Moat, has_member}
 use Rattle.cut_certificate.proofs.MoatLemmas.{Apart, Disjoint}
 
 -- no number is named twice

@@ -1,13 +1,9 @@
 -- Moats as they are given, and as inductions need them: no number twice, all below a limit, any two apart.
-use Rattle.std.proofs.lemmas.Bool.Decides.{nat_tests}
 use Rattle.std.proofs.Common.{◌≡◌, ◌≢◌, ℕ, suc, ◌<◌, List, [], ◌∷◌, All, AllPairs, true, false, arith, inl, inr, refl, sym, subst}
-use Rattle.std.proofs.lemmas.Bool.{both_ways, eqb-true, ne_eqb, or_cases}
-use Rattle.std.proofs.lemmas.List.Elements.{All-head, All-tail, All-weaker}
+use Rattle.std.proofs.lemmas.List.Elements.{All-head, All-tail}
 use Rattle.std.proofs.lemmas.List.Folds.{list_any_none}
 use Rattle.std.specs.Prelude.{◌==◌}
-use Rattle.blossom_match.specs.declared.matching.Moat.{Moat}
-use Rattle.blossom_match.specs.Matchings.{AreLaminar, IsOddMoat}
-use Rattle.odd_cuts.specs.Cuts.{has_member}
+use Rattle.cut_certificate.proofs.Names.{nat_tests, both_ways, eqb-true, ne_eqb, or_cases, All-weaker, Moat, AreLaminar, IsOddMoat, has_member}
 use Rattle.cut_certificate.proofs.HeldLemmas.{Below, Differ, apart}
 use Rattle.cut_certificate.proofs.MoatLemmas.{Apart, ApartFromAll, IsOf, Laminar}
 use Rattle.lists_and_numbers.proofs.CallerLemmas.{same_test}

@@ -1,12 +1,8 @@
 -- Four terminals, each on a line of its own to a hub, at costs 1, 1, 2 and 5. Moats of width 2 and 1 around the first two,
 -- of width 11 around the last, and of width 3 around the first three.
 use Rattle.std.proofs.Common.{◌≡◌, [], ◌∷◌, Some, None, true, nat_lt, ◌-◌, refl}
-use Rattle.blossom_match.specs.declared.matching.Moat.{Moat}
-use Rattle.odd_paths.specs.LeastRows.{RowsValue}
+use Rattle.cut_certificate.proofs.Names.{Moat, RowsValue, LiftInput, distance_beyond, depth, level, lowest, lift_input, width_sum, lowered_distance, distance_from, surrounded}
 use Rattle.cut_certificate.specs.declared.terminal_state.TerminalState.TheVariants as stand
-use Rattle.cut_certificate.specs.Levels.{LiftInput, distance_beyond, depth, level, lowest, lift_input, width_sum}
-use Rattle.cut_certificate.specs.MoatDistances.{lowered_distance, distance_from}
-use Rattle.cut_certificate.specs.TerminalStates.{surrounded}
 
 abbrev first : Moat
 first = record { members = 0 ∷ []; width = 2 }

@@ -1,3 +1,4 @@
+pub mod Names
 mod MoatLemmas
 mod LevelLemmas
 mod OverlapLemmas

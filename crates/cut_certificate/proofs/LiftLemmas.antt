@@ -1,20 +1,10 @@
 -- The cuts of all moats, moat by moat.
-use Rattle.std.proofs.lemmas.Bool.Decides.{nat_tests}
 use Rattle.std.proofs.Common.{◌≡◌, ℕ, zero, suc, ◌+◌, ◌-◌, ◌<◌, ◌≤◌, min, List, [], ◌∷◌, length, All, drop, get_or, add-one, drop-cons, true, nat_le, arith, inl, inr, refl, sym, ◌∙◌, ap, subst}
-use Rattle.std.proofs.lemmas.Bool.{cases_Bool, le-leb, lt-leb}
+use Rattle.std.proofs.lemmas.Bool.{lt-leb}
 use Rattle.std.proofs.lemmas.List.{drop_all}
-use Rattle.std.proofs.lemmas.List.Elements.{All-append, All-weaker}
+use Rattle.std.proofs.lemmas.List.Elements.{All-append}
 use Rattle.std.proofs.lemmas.List.Sums.{sum_by-append, sum_by-cons}
-use Rattle.std.specs.Prelude.{if◌then◌else◌, slice_index}
-use Rattle.blossom_match.specs.declared.matching.Moat.{Moat}
-use Rattle.blossom_match.specs.Matchings.{width_of}
-use Rattle.line_graph.specs.declared.edge.Edge.{Edge}
-use Rattle.line_graph.specs.PieceWalks.{is_strictly_increasing}
-use Rattle.odd_cuts.specs.declared.cut.Cut.{Cut}
-use Rattle.odd_cuts.specs.Cuts.{crosses, has_member, load_on, total_weight}
-use Rattle.cut_certificate.specs.Levels.{LiftInput, level}
-use Rattle.cut_certificate.specs.MoatCuts.{AddsCuts, AreCutsTo, IsLevelCut, distance_between}
-use Rattle.cut_certificate.specs.MoatDistances.{AreDistancesFrom}
+use Rattle.cut_certificate.proofs.Names.{nat_tests, cases_Bool, le-leb, All-weaker, if◌then◌else◌, slice_index, Moat, width_of, Edge, is_strictly_increasing, Cut, crosses, has_member, load_on, total_weight, LiftInput, level, AddsCuts, AreCutsTo, IsLevelCut, distance_between, AreDistancesFrom}
 use Rattle.cut_certificate.proofs.ClimbLemmas.{climb}
 use Rattle.cut_certificate.proofs.LevelLemmas.{insider, outsider}
 use Rattle.cut_certificate.proofs.MoatCutLemmas.{member_at, members_below, members_rise}

@@ -1,14 +1,9 @@
 -- What lifted moats exclude.
 use Rattle.std.proofs.Common.{◌≡◌, ℕ, ◌+◌, ◌*◌, ◌<◌, List, length, All, arith}
 use Rattle.std.specs.List.{AllPairs}
-use Rattle.blossom_match.specs.declared.matching.Moat.{Moat}
-use Rattle.blossom_match.specs.Matchings.{AreLaminar, IsOddMoat, moat_load, width_of}
-use Rattle.line_graph.specs.PieceGraphs.{PieceValue, odd_junctions}
-use Rattle.odd_cuts.specs.declared.cut.Cut.{Cut}
-use Rattle.odd_cuts.specs.Cuts.{total_weight}
-use Rattle.odd_cuts.specs.Packings.{IsPacking, IsPlainCut}
-use Rattle.odd_paths.specs.LeastRows.{RowsValue, cost_at, terminal_of}
-use Rattle.cut_certificate.specs.Lifts.{AreLiftableMoats, IsLifted}
+use Rattle.cut_certificate.proofs.Names.{Moat, AreLaminar, IsOddMoat, moat_load, width_of, PieceValue, Cut, total_weight, IsPlainCut, RowsValue, cost_at, terminal_of, AreLiftableMoats, IsLifted}
+use Rattle.line_graph.specs.PieceGraphs.{odd_junctions}
+use Rattle.odd_cuts.specs.Packings.{IsPacking}
 
 -- lifted cuts are a packing of plain cuts with the width of the moats as their total
 pub known_lifted : (p : PieceValue) (moats : List Moat) (cuts : List Cut) → IsLifted p moats cuts

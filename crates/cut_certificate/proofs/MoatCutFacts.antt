@@ -1,6 +1,6 @@
 -- Five junctions that enter at the levels 3, 0, 2, 2 and 5.
 use Rattle.std.proofs.Common.{◌≡◌, ℕ, List, [], ◌∷◌, refl}
-use Rattle.cut_certificate.specs.MoatCuts.{distance_between, members_from}
+use Rattle.cut_certificate.proofs.Names.{distance_between, members_from}
 
 abbrev levels : List ℕ
 levels = 3 ∷ 0 ∷ 2 ∷ 2 ∷ 5 ∷ []

@@ -1,16 +1,9 @@
 -- The distances from the next moat, computed from those of the outermost moats inside it.
-use Rattle.std.proofs.lemmas.Bool.Decides.{nat_tests}
 use Rattle.std.proofs.Common.{◌≡◌, ℕ, ◌+◌, ◌-◌, ◌*◌, ◌<◌, ◌≤◌, ◌⊎◌, min, List, [], ◌∷◌, Option, Some, None, Vec, Global, length, Bool, true, false, nat_lt, get_or, slice_get, arith, inl, inr, refl, sym, ◌∙◌, ap, subst}
-use Rattle.std.proofs.lemmas.Bool.{and_from, and_parts, both_ways, cases_Bool, cases_lt, eq-eqb, eqb-true, lt-ltb, ltb-true, or_cases}
-use Rattle.std.proofs.lemmas.Option.{slice_get_cases, slice_get_within}
-use Rattle.std.specs.Prelude.{◌==◌, ◌||◌, if◌then◌else◌, slice_index}
-use Rattle.blossom_match.specs.declared.matching.Moat.{Moat}
-use Rattle.cut_certificate.specs.declared.terminal_state.TerminalState.{TerminalState}
+use Rattle.std.proofs.lemmas.Option.{slice_get_cases}
+use Rattle.std.specs.Prelude.{◌==◌, ◌||◌}
+use Rattle.cut_certificate.proofs.Names.{nat_tests, and_from, and_parts, both_ways, cases_Bool, cases_lt, eq-eqb, eqb-true, lt-ltb, ltb-true, or_cases, slice_get_within, if◌then◌else◌, slice_index, Moat, TerminalState, has_member, LiftInput, distance_beyond, depth, is_inner, level, width_sum, IsProgress, AreDistancesFrom, lesser_of, lowered_distance, distance_from, IsProcessed, IsUncovered, IsOutermost}
 use Rattle.cut_certificate.specs.declared.terminal_state.TerminalState.TheVariants as stand
-use Rattle.odd_cuts.specs.Cuts.{has_member}
-use Rattle.cut_certificate.specs.Levels.{LiftInput, distance_beyond, depth, is_inner, level, width_sum}
-use Rattle.cut_certificate.specs.MoatDistances.{IsProgress, AreDistancesFrom, lesser_of, lowered_distance, distance_from}
-use Rattle.cut_certificate.specs.TerminalStates.{IsProcessed, IsUncovered, IsOutermost}
 use Rattle.cut_certificate.proofs.LevelLemmas.{level_by, level_most, level_some}
 use Rattle.cut_certificate.proofs.MoatLemmas.{Apart, Inside, IsOf, Laminar, above, one_apart, related, widths_mono}
 use Rattle.cut_certificate.proofs.TerminalStateLemmas.{first_held, index_of, is_of}
@@ -205,9 +198,6 @@ lowered_some g stands reaches j far (u ∷ ts) Good start step =
 same_number : (a b : ℕ) → Some a ≡ Some b → a ≡ b
 same_number a b h = cc
 
-no_number : (b : ℕ) → None ≡ Some b → ⊥
-no_number b h = cc
-
 -- a processed moat has its distances
 reach_there : (g : LiftInput) (members index : ℕ) (stands : List TerminalState) (reaches : List (Vec ℕ Global)) (c : ℕ) (m : Moat)
     → IsProgress g members index stands reaches → slice_get g.moats c ≡ Some m → (v : Vec ℕ Global) × (slice_get reaches c ≡ Some v)
@@ -217,13 +207,6 @@ reach_there g members index stands reaches c m progress at = found (slice_get_ca
         ⊎ ((length reaches ≤ c) × (slice_get reaches c ≡ None)) → (v : Vec ℕ Global) × (slice_get reaches c ≡ Some v)
     found (inl p) = (p.0, p.2)
     found (inr none) = let lt = slice_get_within g.moats c m at in absurd (omega (arith, progress.beside, none.0))
-
--- the way past an outermost moat
-pub past : (g : LiftInput) (reaches : List (Vec ℕ Global)) (h j c : ℕ) (m : Moat) (v : Vec ℕ Global) (place : Option TerminalState)
-    → place ≡ Some (stand.First c)
-    → slice_get g.moats c ≡ Some m → slice_get reaches c ≡ Some v
-    → distance_from g reaches h j place ≡ Some (slice_index v.items j - m.width)
-past g reaches h j c m v place is at there = cc
 
 -- no way is shorter than the junction is beyond the smaller moats
 most_by : (g : LiftInput) (s : Moat) (index : ℕ) (stands : List TerminalState) (reaches : List (Vec ℕ Global)) (far j t : ℕ)
@@ -240,7 +223,7 @@ most_by g s index stands reaches far j t f in_j has =
           let inner = inside_next g s index stands reaches f p.1 o.moat t o.at o.done o.around has in
           let there = reach_there g (length s.members) index stands reaches p.1 o.moat f.progress o.at in
           let by = lowered_by g stands reaches j far s.members p.0 (slice_index there.0.items j - o.moat.width) (inner.1 p.0 o.first)
-          (past g reaches p.0 j p.1 o.moat there.0 (slice_get stands p.0) p.2 o.at there.1) in
+          (grind (arith, nat_tests, p.0, p.1, there.0, p.2, there.1)) in
           let near = (f.progress.made p.1 o.moat there.0 o.at o.done there.1).most j t in_j o.around in
           let over = depth_first g s index t p.0 p.1 f.laminar o in
           (omega (arith, over, near, by))
@@ -255,15 +238,15 @@ from_some : (g : LiftInput) (s : Moat) (index : ℕ) (stands : List TerminalStat
     (place : Option TerminalState)
     → Finds g s index stands reaches → j < g.size → has_member s.members t ≡ true → slice_get stands t ≡ place
     → distance_from g reaches t j place ≡ Some x → IsFrom g s j x
-from_some g s index stands reaches j t x None f in_j has at is = absurd (no_number x is)
-from_some g s index stands reaches j t x (Some stand.Inside) f in_j has at is = absurd (no_number x is)
+from_some g s index stands reaches j t x None f in_j has at is = absurd (grind (arith, nat_tests))
+from_some g s index stands reaches j t x (Some stand.Inside) f in_j has at is = absurd (grind (arith, nat_tests))
 from_some g s index stands reaches j t x (Some stand.Free) f in_j has at is = grind (arith, nat_tests)
 from_some g s index stands reaches j t x (Some (stand.First c)) f in_j has at is =
     let o = f.progress.standing.first t c at in
     let inner = inside_next g s index stands reaches f c o.moat t o.at o.done o.around has in
     let there = reach_there g (length s.members) index stands reaches c o.moat f.progress o.at in
     let same = same_number (slice_index there.0.items j - o.moat.width) x
-    (sym (past g reaches t j c o.moat there.0 (Some (stand.First c)) refl o.at there.1) ∙ is) in
+    (sym (grind (arith, nat_tests, there.0, there.1)) ∙ is) in
     let p = (f.progress.made c o.moat there.0 o.at o.done there.1).some j in_j in
     let over : depth g o.moat p.0 + o.moat.width ≤ depth g s p.0 = above g o.moat s p.0 (is_of g.moats c o.moat o.at) p.1 inner.0 in
     (p.0, inner.1 p.0 p.1, omega (arith, over, p.2, same))

@@ -1,11 +1,7 @@
 -- Sums of widths, and how the moats of a laminar list lie to one another.
-use Rattle.std.proofs.lemmas.Bool.Decides.{nat_tests}
 use Rattle.std.proofs.Common.{◌≡◌, ℕ, ◌+◌, ◌*◌, ◌<◌, ◌≤◌, ◌⊎◌, List, [], ◌∷◌, length, Bool, true, false, not, ◌&&◌, nat_lt, arith, inl, inr, refl, sym, ◌∙◌, subst}
-use Rattle.std.proofs.lemmas.Bool.{and_from, and_parts, and_right, both_ways, le-ltb, lt-ltb, ltb-true}
-use Rattle.std.specs.Prelude.{if◌then◌else◌}
-use Rattle.blossom_match.specs.declared.matching.Moat.{Moat}
-use Rattle.odd_cuts.specs.Cuts.{has_member}
-use Rattle.cut_certificate.specs.Levels.{LiftInput, depth, is_inner, width_sum}
+use Rattle.std.proofs.lemmas.Bool.{and_right, le-ltb}
+use Rattle.cut_certificate.proofs.Names.{nat_tests, and_from, and_parts, both_ways, lt-ltb, ltb-true, if◌then◌else◌, Moat, has_member, LiftInput, depth, is_inner, width_sum}
 
 -- a moat of the list
 abbrev pub IsOf : List Moat → Moat → Type 0
@@ -54,10 +50,6 @@ step false true w a b f h = omega arith
 step true true w a b f h = omega arith
 step true false w a b f h = absurd (both_ways false refl (f refl))
 
-step_with : (p q : Bool) (v w a b : ℕ) → (p ≡ true → q ≡ true) → a + v ≤ b
-    → ((if p then w else 0) + a) + v ≤ (if q then w else 0) + b
-step_with p q v w a b f h = grind (arith, nat_tests)
-
 -- where the one test passes less than the other, so do the sums
 pub widths_mono : (p q : Moat → Bool) (ms : List Moat) → ((m : Moat) → IsOf ms m → p m ≡ true → q m ≡ true)
     → width_sum p ms ≤ width_sum q ms
@@ -71,8 +63,7 @@ pub widths_with : (p q : Moat → Bool) (s : Moat) (ms : List Moat) → IsOf ms 
 widths_with p q s [] is misses passes f = absurd is
 widths_with p q s (m ∷ ms) (inl same) misses passes f = grind (arith, nat_tests, widths_mono p q ms (λ x h. f x (inr h)))
 widths_with p q s (m ∷ ms) (inr is) misses passes f =
-    step_with (p m) (q m) s.width m.width (width_sum p ms) (width_sum q ms) (f m (inl refl))
-    (widths_with p q s ms is misses passes (λ x h. f x (inr h)))
+    grind (arith, nat_tests, (widths_with p q s ms is misses passes (λ x h. f x (inr h))))
 
 turned : (a b : Moat) → Apart a b → Apart b a
 turned a b (inl d) = inl (λ t x y. d t y x)
@@ -97,22 +88,15 @@ related (m ∷ ms) a b l (inr x) (inr y) = related ms a b l.1 x y
 pub not_in : (a b : Moat) (t : ℕ) → Disjoint a b → has_member a.members t ≡ true → has_member b.members t ≡ false
 not_in a b t d h = grind (arith, nat_tests)
 
-inside_parts : (g : LiftInput) → Laminar g.moats → (s m : Moat) (t u : ℕ) → IsOf g.moats s → IsOf g.moats m → has_member s.members t ≡ true
-    → has_member s.members u ≡ false → is_inner s t m ≡ true → parts t u m ≡ true
-inside_parts g l s m t u is here in_s out small = grind (arith, nat_tests, and_parts, ltb-true, and_from, related)
-
 not_inner : (s : Moat) (t : ℕ) → is_inner s t s ≡ false
 not_inner s t = and_right (has_member s.members t) (nat_lt (length s.members) (length s.members)) (le-ltb _ _ (omega arith))
 
 -- a moat around t reaches no higher above t than the moats that hold t and not u
 pub reach : (g : LiftInput) → Laminar g.moats → (s : Moat) (t u : ℕ) → IsOf g.moats s → has_member s.members t ≡ true
     → has_member s.members u ≡ false → depth g s t + s.width ≤ width_sum (parts t u) g.moats
-reach g l s t u is in_s out = grind (arith, nat_tests, widths_with, not_inner, and_from, inside_parts)
-
-larger_too : (t : ℕ) (a b m : Moat) → length a.members < length b.members → is_inner a t m ≡ true → is_inner b t m ≡ true
-larger_too t a b m size h = grind (arith, nat_tests)
+reach g l s t u is in_s out = grind (arith, nat_tests, widths_with, not_inner, and_from, and_parts, ltb-true, related)
 
 -- a larger moat around t begins above the smaller one
 pub above : (g : LiftInput) (a b : Moat) (t : ℕ) → IsOf g.moats a → has_member a.members t ≡ true
     → length a.members < length b.members → depth g a t + a.width ≤ depth g b t
-above g a b t is in_a size = grind (arith, nat_tests, widths_with, not_inner, and_from, lt-ltb, larger_too)
+above g a b t is in_a size = grind (arith, nat_tests, widths_with, not_inner, and_from, lt-ltb)

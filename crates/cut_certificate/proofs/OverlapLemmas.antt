@@ -1,11 +1,6 @@
 -- The levels of the moats around one terminal don't overlap.
-use Rattle.std.proofs.lemmas.Bool.Decides.{nat_tests}
 use Rattle.std.proofs.Common.{◌≡◌, ℕ, ◌+◌, ◌-◌, ◌≤◌, ◌⊎◌, min, max, List, [], ◌∷◌, true, arith, inl, inr, refl}
-use Rattle.std.proofs.lemmas.Bool.{cases_Bool}
-use Rattle.std.specs.Prelude.{if◌then◌else◌}
-use Rattle.blossom_match.specs.declared.matching.Moat.{Moat}
-use Rattle.odd_cuts.specs.Cuts.{has_member}
-use Rattle.cut_certificate.specs.Levels.{LiftInput, depth}
+use Rattle.cut_certificate.proofs.Names.{nat_tests, cases_Bool, if◌then◌else◌, Moat, has_member, LiftInput, depth}
 use Rattle.cut_certificate.proofs.MoatLemmas.{Apart, ApartFromAll, IsOf, Laminar, above}
 
 -- how much is above both lower limits and below both upper ones

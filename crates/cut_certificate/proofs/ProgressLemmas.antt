@@ -1,23 +1,13 @@
 -- The states of the terminals, and the distances, from one moat to the next.
-use Rattle.std.proofs.lemmas.Bool.Decides.{nat_tests}
 use Rattle.std.proofs.Common.{◌≡◌, ◌≢◌, ℕ, zero, suc, ◌+◌, ◌%◌, ◌<◌, ◌≤◌, List, [], ◌∷◌, Some, Vec, Global, length, All, AllPairs, true, get_or, replicate, slice_get, slice_set, arith, inl, inr, refl, sym, ◌∙◌, ap, subst}
-use Rattle.std.proofs.lemmas.Bool.{cases_eq}
-use Rattle.std.proofs.lemmas.List.{length-replicate}
 use Rattle.std.proofs.lemmas.List.Elements.{All-get_or}
-use Rattle.std.proofs.lemmas.Option.{get_or_from_slice_get, slice_get_within}
-use Rattle.blossom_match.specs.declared.matching.Moat.{Moat}
-use Rattle.blossom_match.specs.Matchings.{AreLaminar, IsOddMoat}
-use Rattle.cut_certificate.specs.declared.terminal_state.TerminalState.{TerminalState}
+use Rattle.std.proofs.lemmas.Option.{get_or_from_slice_get}
+use Rattle.cut_certificate.proofs.Names.{nat_tests, cases_eq, length-replicate, slice_get_within, Moat, AreLaminar, IsOddMoat, TerminalState, has_member, LiftInput, lift_input, IsProgress, HasRowsForMoats, IsNextMoat, AreDistancesFrom, IsProcessed, IsOutermost, surrounded, RowsValue}
 use Rattle.cut_certificate.specs.declared.terminal_state.TerminalState.TheVariants as stand
-use Rattle.odd_cuts.specs.Cuts.{has_member}
-use Rattle.cut_certificate.specs.Levels.{LiftInput, lift_input}
-use Rattle.cut_certificate.specs.MoatDistances.{IsProgress, HasRowsForMoats, IsNextMoat, AreDistancesFrom}
-use Rattle.cut_certificate.specs.TerminalStates.{IsProcessed, IsOutermost, surrounded}
 use Rattle.cut_certificate.proofs.LaminarLemmas.{apart_two, below, held_below, laminar, of_all}
 use Rattle.cut_certificate.proofs.MoatLemmas.{Apart}
 use Rattle.cut_certificate.proofs.MoatDistanceLemmas.{Finds}
 use Rattle.cut_certificate.proofs.TerminalStateLemmas.{is_of, next_stands, one_at}
-use Rattle.odd_paths.specs.LeastRows.{RowsValue}
 
 -- two moats at different indexes are apart
 apart_at : (n : ℕ) (ms : List Moat) (i k : ℕ) (a b : Moat) → All (IsOddMoat n) ms → AllPairs AreLaminar ms → slice_get ms i ≡ Some a
@@ -39,9 +29,6 @@ smaller n ms index s odd l at c m t at_m (inl less) in_m in_s = less
 smaller n ms index s odd l at c m t at_m (inr as_many) in_m in_s =
     grind (arith, nat_tests, apart_at n ms c index m s odd l at_m at as_many.1)
 
-odd_some : (k : ℕ) → k % 2 ≡ 1 → 1 ≤ k
-odd_some k odd = omega arith
-
 -- what the next moat finds
 pub finds : (rows : RowsValue) (size : ℕ) (moats : List Moat) (s : Moat) (index : ℕ) (stands : List TerminalState)
     (reaches : List (Vec ℕ Global))
@@ -55,7 +42,7 @@ finds rows size moats s index stands reaches can at progress =
       at = at;
       smaller = smaller (length rows.terminals) moats index s can.odd can.laminar at;
       placed = λ t has. held_below (length rows.terminals) t s.members (below (length rows.terminals) s.members odd.below) has;
-      some = odd_some (length s.members) odd.odd;
+      some = grind (arith, nat_tests, odd.odd);
       progress = progress;
     }
 

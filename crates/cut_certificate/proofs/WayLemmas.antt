@@ -1,22 +1,15 @@
 -- The distances from the terminals of the next moat, and a list that is lowered to them.
-use Rattle.std.proofs.lemmas.Bool.Decides.{nat_tests}
 use Rattle.std.proofs.Common.{◌≡◌, ℕ, ◌+◌, ◌-◌, ◌<◌, ◌≤◌, min, List, ◌++◌, Option, Some, Vec, Global, length, All, drop, get_or, max, replicate, slice_get, take, arith, sym, ◌∙◌, ap, subst}
-use Rattle.std.proofs.lemmas.List.{get_or-replicate, length-replicate, take_all}
-use Rattle.std.proofs.lemmas.List.Elements.{All-more, All-weaker}
-use Rattle.std.proofs.lemmas.Option.{slice_get_read, slice_get_within}
-use Rattle.std.specs.Prelude.{slice_index}
-use Rattle.blossom_match.specs.declared.matching.Moat.{Moat}
-use Rattle.blossom_match.specs.Matchings.{IsOddMoat}
+use Rattle.std.proofs.lemmas.List.{get_or-replicate, take_all}
+use Rattle.std.proofs.lemmas.List.Elements.{All-more}
+use Rattle.cut_certificate.proofs.Names.{nat_tests, length-replicate, All-weaker, slice_get_read, slice_get_within, slice_index, Moat, IsOddMoat, RowsValue, length_in, TerminalState, LiftInput, lift_input, HasRowsForMoats, HasDistance, IsNextMoat, AreDistancesFrom, lesser_of, lowered_distance, distance_from}
 use Rattle.drawing_model.specs.declared.limits.TheConstants.{MAX_COST}
-use Rattle.odd_paths.specs.LeastRows.{RowsValue, cost_in, length_in}
+use Rattle.odd_paths.specs.LeastRows.{cost_in}
 use Rattle.cut_certificate.specs.declared.single_moat.TheConstants.{MAX_REACH}
-use Rattle.cut_certificate.specs.declared.terminal_state.TerminalState.{TerminalState}
 use Rattle.cut_certificate.specs.declared.terminal_state.TerminalState.TheVariants as stand
-use Rattle.cut_certificate.specs.Levels.{LiftInput, lift_input}
-use Rattle.cut_certificate.specs.MoatDistances.{HasRowsForMoats, HasDistance, IsNextMoat, AreDistancesFrom, lesser_of, lowered_distance, distance_from}
 use Rattle.cut_certificate.proofs.ProgressLemmas.{finds}
 use Rattle.cut_certificate.proofs.LaminarLemmas.{of_all}
-use Rattle.cut_certificate.proofs.MoatDistanceLemmas.{past, reach_found}
+use Rattle.cut_certificate.proofs.MoatDistanceLemmas.{reach_found}
 use Rattle.cut_certificate.proofs.TerminalStateLemmas.{is_of}
 use Rattle.lists_and_numbers.proofs.CallerLemmas.{front_written}
 
@@ -43,7 +36,7 @@ pub first_way : (g : LiftInput) (stands : List TerminalState) (reaches : List (V
     → c < length reaches → v ≡ get_or reaches c v → seen ≡ v.items → new ≡ min (slice_index seen j - (get_or g.moats c m).width) old
     → new ≡ lesser_of (distance_from g reaches t j (slice_get stands t)) old
 first_way g stands reaches t j c place m v seen old new at is in_moats at_m in_reaches at_v are value =
-    grind (arith, nat_tests, past, slice_get_read)
+    grind (arith, nat_tests, slice_get_read)
 
 -- each terminal of the next moat has a distance
 pub have_ways : (rows : RowsValue) (size : ℕ) (moats : List Moat) (s : Moat) (stands : List TerminalState) (reaches : List (Vec ℕ Global))

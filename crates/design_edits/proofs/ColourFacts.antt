@@ -1,8 +1,6 @@
 -- Worked values of places and threads.
 use Rattle.std.proofs.Common.{◌≡◌, ℕ, List, [], ◌∷◌, ◌++◌, replicate, refl}
-use Rattle.design_model.specs.declared.command.Command.TheVariants.{Stop}
-use Rattle.design_model.specs.Designs.{DesignValue}
-use Rattle.design_edits.specs.Colours.{colour_place_count, recoloured}
+use Rattle.design_edits.proofs.Names.{Stop, DesignValue, colour_place_count, recoloured}
 
 -- A design with those threads and n stops.
 abbrev pub stopping : List ℕ → ℕ → DesignValue

@@ -1,16 +1,16 @@
 -- Threads of blocks, where the first ones are kept.
 use Rattle.std.proofs.Common.{◌≡◌, ◌≢◌, ℕ, zero, suc, ◌+◌, ◌-◌, ◌%◌, ◌<◌, ◌≤◌, true, false, List, [], ◌∷◌, ◌++◌, length, map, get_or, set, refl, sym, ap, subst, ◌∙◌, arith, append_assoc, inl, inr}
 use Rattle.std.proofs.Math.ListN.{get_or-append, get_or-eq_default}
-use Rattle.std.proofs.Math.Path.{ap₂}
-use Rattle.std.proofs.lemmas.Bool.Decides.{eqb_tells}
+use Rattle.std.proofs.lemmas.Bool.Decides.{eqb_tells, nat_tests}
 use Rattle.std.proofs.lemmas.Bool.{cases_lt}
 use Rattle.std.proofs.lemmas.List.{length-append, get_or-append-add, get_or-set_same, get_or-set_other}
 use Rattle.std.proofs.lemmas.List.FromFn.{get_or-map-range_with_len, length-map-range_with_len}
 use Rattle.std.proofs.lemmas.Option.{unwrap_or-slice_get}
 use Rattle.std.specs.Prelude.{◌==◌, ◌⊎◌, if◌then◌else◌}
 use Rattle.std.specs.List.{range_with_len}
-use Rattle.design_model.specs.Designs.{DesignValue, thread_of, with_thread, with_thread_at}
-use Rattle.design_edits.specs.Colours.{Recolours, recoloured, threads_from, threads_up_to}
+use Rattle.design_edits.proofs.Names.{ap₂, DesignValue, Recolours, recoloured, threads_up_to}
+use Rattle.design_model.specs.Designs.{thread_of, with_thread, with_thread_at}
+use Rattle.design_edits.specs.Colours.{threads_from}
 
 -- The thread of a block that has no stored number.
 abbrev pub thread_by_place : ℕ → ℕ
@@ -33,10 +33,7 @@ threads_past d block (suc count) past =
 -- the number of threads up to a place
 length-threads_up_to : (d : DesignValue) (place : ℕ)
     → length (threads_up_to d place) ≡ length d.threads + (place + 1 - length d.threads)
-length-threads_up_to d place =
-    let more = place + 1 - length d.threads in
-    length-append d.threads (threads_from d (length d.threads) more)
-    ∙ ap (λ n. length d.threads + n) (length-map-range_with_len (thread_of d) (length d.threads) more)
+length-threads_up_to d place = grind (arith, nat_tests, d.threads, length-append, length-map-range_with_len)
 
 count_more : (place len : ℕ) → len ≤ place → place + 1 - len ≡ suc (place + 1 - (len + 1))
 count_more place len below = omega arith
@@ -69,15 +66,7 @@ pub keeps_on : (whole d new : DesignValue) (place : ℕ) → length d.threads �
     → new ≡ with_thread d (thread_of d (length d.threads))
     → record d { threads = threads_up_to d place } ≡ record whole { threads = threads_up_to whole place }
     → record new { threads = threads_up_to new place } ≡ record whole { threads = threads_up_to whole place }
-keeps_on whole d new place below is so_far =
-    let longer = with_thread d (thread_of d (length d.threads)) in
-    let after : record new { threads = threads_up_to new place }
-    ≡ record d { threads = threads_up_to longer place } =
-    ap {A = DesignValue} (λ x. record x { threads = threads_up_to x place }) is in
-    let before : record d { threads = threads_up_to longer place }
-    ≡ record d { threads = threads_up_to d place } =
-    ap {A = List ℕ} (λ xs. record d { threads = xs }) (up_to_next d longer place below refl) in
-    after ∙ before ∙ so_far
+keeps_on whole d new place below is so_far = grind (arith, nat_tests, d.threads, threads_up_to, up_to_next)
 
 -- a place up to which threads are kept has one
 pub place_kept : (d new : DesignValue) (place : ℕ) → new ≡ record d { threads = threads_up_to d place }
@@ -90,8 +79,7 @@ kept_thread : (d : DesignValue) (place block : ℕ)
 kept_thread d place block = by_place (cases_lt block (length d.threads)) (cases_lt block (place + 1)) where
   by_place : (block < length d.threads) ⊎ (length d.threads ≤ block) → (block < place + 1) ⊎ (place + 1 ≤ block)
       → get_or (threads_up_to d place) block (thread_by_place block) ≡ thread_of d block
-  by_place (inl kept) other =
-      get_or-append d.threads _ (thread_by_place block) block kept ∙ sym (thread_is d block)
+  by_place (inl kept) other = grind (arith, nat_tests, get_or-append, d.threads, thread_is)
   by_place (inr past) (inl below) =
       let further = block - length d.threads in
       let split : block ≡ length d.threads + further = omega arith in
@@ -99,10 +87,7 @@ kept_thread d place block = by_place (cases_lt block (length d.threads)) (cases_
       ∙ get_or-append-add d.threads _ further (thread_by_place block)
       ∙ get_or-map-range_with_len (thread_of d) (length d.threads) (place + 1 - length d.threads) further block
       (thread_by_place block) (omega arith) (omega arith)
-  by_place (inr past) (inr beyond) =
-      get_or-eq_default (threads_up_to d place) (thread_by_place block)
-      (omega (arith, length-threads_up_to d place))
-      ∙ sym (thread_past d block past)
+  by_place (inr past) (inr beyond) = grind (arith, nat_tests, get_or-eq_default, threads_up_to, length-threads_up_to, thread_past)
 
 -- one block has the thread, and each other the one that it had
 recolours : (place thread : ℕ) (d : DesignValue) → Recolours place thread d (recoloured place thread d)
@@ -111,17 +96,10 @@ recolours place thread d block =
       by_test : (((block == place) ≡ true) × (block ≡ place)) ⊎ (((block == place) ≡ false) × (block ≢ place))
           → get_or (set (threads_up_to d place) place thread) block (thread_by_place block)
           ≡ (if block == place then thread else thread_of d block)
-      by_test (inl (test, same)) =
-          rw test (ap (λ k. get_or (set (threads_up_to d place) place thread) k (thread_by_place block)) same
-          ∙ get_or-set_same (threads_up_to d place) place thread (thread_by_place block)
-          (omega (arith, length-threads_up_to d place)))
-      by_test (inr (test, differs)) =
-          rw test (get_or-set_other (threads_up_to d place) place block thread (thread_by_place block) differs
-          ∙ kept_thread d place block)
+      by_test (inl (test, same)) = grind (arith, nat_tests, threads_up_to, get_or-set_same, length-threads_up_to)
+      by_test (inr (test, differs)) = grind (arith, nat_tests, get_or-set_other, threads_up_to, kept_thread)
 
 pub recolours_by : (place thread : ℕ) (d kept new : DesignValue)
     → kept ≡ record d { threads = threads_up_to d place } → new ≡ with_thread_at kept place thread
     → Recolours place thread d new
-recolours_by place thread d kept new is put =
-    subst (λ x. Recolours place thread d x)
-    (sym (put ∙ ap (λ x. with_thread_at x place thread) is)) (recolours place thread d)
+recolours_by place thread d kept new is put = grind (arith, nat_tests, recolours)

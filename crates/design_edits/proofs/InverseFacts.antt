@@ -1,11 +1,8 @@
 -- What the theorems on moves that restore a design say of one design, and what results of edits exclude.
 use Rattle.std.proofs.Common.{◌≡◌, ℕ, ℤ, neg_ℤ, ◌+◌, List, [], ◌∷◌, None, Some, Ok, Err, arith}
-use Rattle.design_model.specs.Designs.{DesignValue}
-use Rattle.design_edits.specs.declared.axis.Axis.{Axis}
+use Rattle.design_edits.proofs.Names.{DesignValue, Axis, Recolours, colour_place_count, recoloured, FourQuarterTurnsRestore, OppositeShiftRestores, TwoMirroringsRestore, first_out_of_range, mirrored, shifted, turned}
 use Rattle.design_edits.specs.declared.edit_fault.EditFault.TheVariants as fault
-use Rattle.design_edits.specs.Colours.{IsRecolourResult, Recolours, colour_place_count, recoloured}
-use Rattle.design_edits.specs.Inverses.{FourQuarterTurnsRestore, OppositeShiftRestores, TwoMirroringsRestore}
-use Rattle.design_edits.specs.Moves.{first_out_of_range, mirrored, shifted, turned}
+use Rattle.design_edits.specs.Colours.{IsRecolourResult}
 use Rattle.design_edits.specs.Shifts.{IsShiftResult}
 
 -- four turns by one quarter each, two mirrorings of one axis, and two shifts

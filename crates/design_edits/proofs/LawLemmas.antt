@@ -1,13 +1,7 @@
 -- What moves undo, point by point.
 use Rattle.std.proofs.Common.{◌≡◌, ℤ, ◌+ℤ◌, neg_ℤ, List, [], ◌∷◌, map, refl, ap, ◌∙◌}
-use Rattle.std.proofs.Math.Path.{ap₂}
-use Rattle.design_model.specs.declared.command.Command.{Command}
-use Rattle.design_model.specs.declared.command.Command.TheVariants.{Stitch, Jump, Trim, Stop}
-use Rattle.design_model.specs.declared.point.Point.{Point}
-use Rattle.design_model.specs.Designs.{DesignValue}
+use Rattle.design_edits.proofs.Names.{ap₂, Command, Stitch, Jump, Trim, Stop, Point, DesignValue, FourQuarterTurnsRestore, OppositeShiftRestores, TwoMirroringsRestore, mirror_point, shift_point, turn_point, turned, with_mapped_point, with_mapped_points}
 use Rattle.design_edits.specs.declared.axis.Axis.TheVariants as axis
-use Rattle.design_edits.specs.Inverses.{FourQuarterTurnsRestore, OppositeShiftRestores, TwoMirroringsRestore}
-use Rattle.design_edits.specs.Moves.{mirror_point, shift_point, turn_point, turned, with_mapped_point, with_mapped_points}
 use Rattle.lists_and_numbers.proofs.CallerLemmas.{back-there, neg-neg}
 
 -- a map that undoes another on points undoes it on designs

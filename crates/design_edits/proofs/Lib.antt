@@ -1,3 +1,4 @@
+pub mod Names
 mod MoveFacts
 pub mod MoveLemmas
 pub mod LawLemmas

@@ -1,11 +1,8 @@
 -- Worked values of moves.
 use Rattle.std.proofs.Common.{◌≡◌, ℤ, pos, negsuc, [], ◌∷◌, Some, None, refl}
-use Rattle.design_model.specs.declared.command.Command.TheVariants.{Stitch, Jump, Trim, Stop}
-use Rattle.design_model.specs.declared.point.Point.{Point}
-use Rattle.design_model.specs.Designs.{DesignValue}
+use Rattle.design_edits.proofs.Names.{Stitch, Jump, Trim, Stop, Point, DesignValue, first_out_of_range, mirror_point, mirrored, shift_point, shifted, turn_point}
 use Rattle.design_edits.specs.declared.axis.Axis.TheVariants as axis
 use Rattle.design_edits.specs.declared.motion.TheConstants.{MAX_SHIFT}
-use Rattle.design_edits.specs.Moves.{first_out_of_range, mirror_point, mirrored, shift_point, shifted, turn_point}
 
 -- the point with those numbers
 abbrev pub at : ℤ → ℤ → Point

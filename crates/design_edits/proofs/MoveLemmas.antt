@@ -3,16 +3,11 @@ use Rattle.std.proofs.Common.{◌≡◌, ℕ, zero, suc, ◌+◌, ◌<◌, Bool,
 use Rattle.std.proofs.lemmas.Bool.{and_parts}
 use Rattle.std.proofs.lemmas.Bool.Decides.{nat_tests}
 use Rattle.std.specs.Prelude.{slice_get}
-use Rattle.std.specs.List.{list_all, position_from}
-use Rattle.design_model.specs.declared.command.Command.{Command}
-use Rattle.design_model.specs.declared.command.Command.TheVariants.{Stitch, Jump, Trim, Stop}
-use Rattle.design_model.specs.declared.point.Point.{Point}
-use Rattle.design_model.specs.Commands.{is_command_in_range, target_of}
-use Rattle.design_model.specs.Designs.{DesignValue, KeepsLimits, with_command_at}
-use Rattle.design_model.specs.Points.{is_point_within}
-use Rattle.design_edits.specs.declared.axis.Axis.{Axis}
+use Rattle.design_edits.proofs.Names.{list_all, position_from, Command, Stitch, Jump, Trim, Stop, Point, is_command_in_range, DesignValue, is_point_within, Axis, first_out_of_range, mirror_point, turn_point, with_mapped_point, with_mapped_points}
+use Rattle.design_model.specs.Commands.{target_of}
+use Rattle.design_model.specs.Designs.{KeepsLimits, with_command_at}
 use Rattle.design_edits.specs.declared.axis.Axis.TheVariants as axis
-use Rattle.design_edits.specs.Moves.{first_out_of_range, mirror_point, quarter_point, turn_point, with_mapped_point, with_mapped_points}
+use Rattle.design_edits.specs.Moves.{quarter_point}
 use Rattle.lists_and_numbers.proofs.CallerLemmas.{size-neg}
 
 -- whether a command's point is out of its range
@@ -26,8 +21,7 @@ go_on n c rest inside none = rw inside none
 
 gone_on : (n : ℕ) (inside : Bool) (rest : Option ℕ) → cond (not inside) (Some n) rest ≡ None
     → IsTrue inside × (rest ≡ None)
-gone_on n true rest none = (refl, none)
-gone_on n false rest none = cc
+gone_on n inside rest h1 = grind (arith, nat_tests)
 
 -- A map that keeps points within each limit keeps all commands in range.
 module _ (f : Point → Point)
@@ -46,19 +40,14 @@ module _ (f : Point → Point)
       go_on n (with_mapped_point f c) (position_from is_outside (n + 1) (map (with_mapped_point f) rest))
       (stays_in_range c both.0) (none_outside (n + 1) rest both.1)
 
-quarter_stays : (limit : ℕ) (p : Point) → IsTrue (is_point_within limit p) → IsTrue (is_point_within limit (quarter_point p))
-quarter_stays limit p within = grind (arith, nat_tests, size-neg)
-
 turn_stays : (quarters limit : ℕ) (p : Point) → IsTrue (is_point_within limit p)
     → IsTrue (is_point_within limit (turn_point quarters p))
 turn_stays zero limit p within = within
-turn_stays (suc quarters) limit p within =
-    quarter_stays limit (turn_point quarters p) (turn_stays quarters limit p within)
+turn_stays (suc quarters) limit p within = grind (arith, nat_tests, size-neg, (turn_stays quarters limit p within))
 
 mirror_stays : (a : Axis) (limit : ℕ) (p : Point) → IsTrue (is_point_within limit p)
     → IsTrue (is_point_within limit (mirror_point a p))
-mirror_stays axis.X limit p within = grind (arith, nat_tests, size-neg)
-mirror_stays axis.Y limit p within = grind (arith, nat_tests, size-neg)
+mirror_stays a limit p h1 = grind (arith, nat_tests, size-neg)
 
 -- No point of a design leaves its range in a turn or a mirroring.
 pub turn_in_range : (quarters : ℕ) (d : DesignValue) → KeepsLimits d
@@ -91,8 +80,7 @@ map_next g (suc i) (c ∷ rest) there = ap (λ xs. g c ∷ xs) (map_next g i res
 inside_at : (g : Command → Command) (n i : ℕ) (cs : List Command) → i < length cs
     → position_from is_outside n (map g cs) ≡ None → IsTrue (is_command_in_range (g (get_or cs i Trim)))
 inside_at g n i [] there none = absurd (omega arith)
-inside_at g n zero (c ∷ rest) there none =
-    (gone_on n (is_command_in_range (g c)) (position_from is_outside (n + 1) (map g rest)) none).0
+inside_at g n zero (c ∷ rest) there none = grind (arith, nat_tests, gone_on, is_command_in_range, position_from)
 inside_at g n (suc i) (c ∷ rest) there none =
     inside_at g (n + 1) i rest (omega arith)
     (gone_on n (is_command_in_range (g c)) (position_from is_outside (n + 1) (map g rest)) none).1
@@ -118,20 +106,13 @@ module _ (g : Command → Command) (i : ℕ) (whole d : DesignValue) (there : i 
 
 -- a command without a point is mapped to itself
 same_without : (f : Point → Point) (c : Command) → target_of c ≡ None → c ≡ with_mapped_point f c
-same_without f (Stitch p) none = cc
-same_without f (Jump p) none = cc
-same_without f Trim none = refl
-same_without f Stop none = refl
+same_without f c h1 = grind (arith, nat_tests)
 
 found_same : (f : Point → Point) (cs : List Command) (i : ℕ) (e : Command) → target_of (get_or cs i e) ≡ None
     → IfSome (slice_get cs i) (λ c. cs ≡ set cs i (with_mapped_point f c))
 found_same f [] i e none = tt
 found_same f (c ∷ rest) zero e none = ap (λ x. x ∷ rest) (same_without f c none)
-found_same f (c ∷ rest) (suc i) e none = behind (slice_get rest i) (found_same f rest i e none) where
-  behind : (found : Option Command) → IfSome found (λ x. rest ≡ set rest i (with_mapped_point f x))
-      → IfSome found (λ x. c ∷ rest ≡ c ∷ set rest i (with_mapped_point f x))
-  behind None same = tt
-  behind (Some x) same = ap (λ xs. c ∷ xs) same
+found_same f (c ∷ rest) (suc i) e none = grind (arith, nat_tests, with_mapped_point, (found_same f rest i e none))
 
 pub stays_there : (f : Point → Point) (d : DesignValue) (i : ℕ) (e : Command) (cs : List Command)
     (target : Option Point) → cs ≡ d.commands → target ≡ target_of (get_or cs i e) → target ≡ None

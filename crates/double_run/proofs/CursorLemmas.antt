@@ -1,12 +1,9 @@
 -- Which lines are passed, and the cursors of a traversal.
 use Rattle.std.proofs.Common.{◌≡◌, ◌<◌, ℕ, zero, suc, ◌+◌, ◌/◌, ◌==◌, ◌||◌, Bool, true, false, not, List, [], ◌∷◌, length, get_or, set, slice_get, Some, arith, refl, sym, ap}
 use Rattle.std.proofs.lemmas.Bool.{and_from}
-use Rattle.std.proofs.lemmas.Bool.Decides.{nat_tests}
-use Rattle.line_graph.specs.declared.edge.Edge.{Edge}
+use Rattle.double_run.proofs.Names.{nat_tests, Edge, AreCursors, IsLegFrom, WasPassed, is_exhausted, has_end_at, cursors_stay}
 use Rattle.line_graph.specs.PieceGraphs.{is_odd}
-use Rattle.euler_tour.specs.Cursors.{AreCursors}
-use Rattle.double_run.specs.Traversals.{IsLegFrom, WasPassed, is_exhausted, has_end_at}
-use Rattle.euler_tour.proofs.CallerLemmas.{all_done, cursors_stay}
+use Rattle.euler_tour.proofs.CallerLemmas.{all_done}
 use Rattle.lists_and_numbers.proofs.CallerLemmas.{one_of}
 
 -- ---- which lines are passed

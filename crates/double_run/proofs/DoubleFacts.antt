@@ -1,12 +1,8 @@
 -- Worked values of double walks.
 use Rattle.std.proofs.Common.{◌≡◌, ℕ, List, [], ◌∷◌, Option, None, Some, true, false, arith, pos, refl}
-use Rattle.std.proofs.lemmas.List.Elements.{All-cons, All-get_or, All-nil}
+use Rattle.std.proofs.lemmas.List.Elements.{All-cons, All-nil}
+use Rattle.double_run.proofs.Names.{All-get_or, Edge, Pass, PieceValue, is_fitting_walk, walk_cost, IsPassedBothWays, IsDouble, same_way, directed_passes, without_ends}
 use Rattle.design_model.specs.declared.point.Point.{Point}
-use Rattle.line_graph.specs.declared.edge.Edge.{Edge}
-use Rattle.line_graph.specs.declared.pass.Pass.{Pass}
-use Rattle.line_graph.specs.PieceGraphs.{PieceValue}
-use Rattle.line_graph.specs.PieceWalks.{is_fitting_walk, walk_cost}
-use Rattle.double_run.specs.DoubleWalks.{IsPassedBothWays, IsDouble, same_way, directed_passes, without_ends}
 
 abbrev edge : (a b cost : ℕ) → Edge
 edge a b cost = record { a = a; b = b; cost = cost }

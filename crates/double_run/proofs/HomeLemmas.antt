@@ -1,20 +1,11 @@
 -- The first traversal, and the double walk of a finished one.
-use Rattle.std.proofs.lemmas.Bool.Decides.{nat_tests}
 use Rattle.std.proofs.Common.{◌≡◌, ◌≤◌, ◌<◌, ℕ, zero, suc, ◌+◌, ◌*◌, ◌==◌, Bool, true, false, List, [], ◌∷◌, length, get_or, replicate, slice_get, Some, arith, refl, sym, ap, ◌∙◌, subst}
-use Rattle.std.proofs.lemmas.List.Elements.{All-from_get_or, All-get_or}
+use Rattle.std.proofs.lemmas.List.Elements.{All-from_get_or}
 use Rattle.std.proofs.lemmas.List.{length-replicate}
-use Rattle.line_graph.specs.declared.edge.Edge.{Edge}
-use Rattle.line_graph.specs.declared.pass.Pass.{Pass}
-use Rattle.line_graph.specs.ValidPieces.{IsValidPiece}
-use Rattle.line_graph.specs.PieceGraphs.{PieceValue, one_if}
-use Rattle.line_graph.specs.Pieces.{first_line}
-use Rattle.line_graph.specs.PieceWalks.{BeginsWith, covers, walk_start, is_fitting_walk, is_line_passed, piece_cost, walk_cost, walk_end_from}
-use Rattle.double_run.specs.DoubleWalks.{IsPassedBothWays, IsDouble, directed_passes, without_ends}
-use Rattle.double_run.specs.Traversals.{IsTraversalInvariant, is_visited, is_exhausted, passed_cost, root_junction}
+use Rattle.double_run.proofs.Names.{nat_tests, All-get_or, Edge, Pass, IsValidPiece, PieceValue, one_if, first_line, is_fitting_walk, piece_cost, walk_cost, walk_end_from, IsPassedBothWays, IsDouble, directed_passes, without_ends, IsTraversalInvariant, is_visited, is_exhausted, passed_cost, root_junction, ends_are_below, edge_there, same_number, some_same}
+use Rattle.line_graph.specs.PieceWalks.{BeginsWith, covers, walk_start, is_line_passed}
 use Rattle.double_run.proofs.MetLemmas.{cost_all, passed_meets, spent_passes, touches_a, touches_b}
-use Rattle.euler_tour.proofs.CallerLemmas.{ends_are_below}
-use Rattle.line_graph.proofs.CallerLemmas.{edge_there}
-use Rattle.lists_and_numbers.proofs.CallerLemmas.{same_number, same_test, some_same}
+use Rattle.lists_and_numbers.proofs.CallerLemmas.{same_test}
 
 -- no junction is visited where no line was passed
 none_met : (n : ℕ) (edges : List Edge) (j : ℕ) → is_visited (replicate n false) edges j ≡ false
@@ -60,7 +51,7 @@ starts_first p [] kept begins = absurd begins
 starts_first p (x ∷ rest) kept begins = grind (arith, nat_tests)
 
 -- a finished traversal passed all lines
-home_passed : (p : PieceValue) (walk : List Pass) (is_line_passed : List Bool) (at : ℕ) → IsValidPiece p
+pub home_passed : (p : PieceValue) (walk : List Pass) (is_line_passed : List Bool) (at : ℕ) → IsValidPiece p
     → IsTraversalInvariant p.lines p.edges walk [] is_line_passed (root_junction p.edges) at → is_exhausted is_line_passed p.edges at ≡ true
     → get_or is_line_passed 0 false ≡ true → (i : ℕ) → i < length p.edges → get_or is_line_passed i false ≡ true
 home_passed p walk is_line_passed at kept k stuck first = all_passed
@@ -122,12 +113,6 @@ home_double p walk is_line_passed at kept k stuck begins first = record {
       where
         bare : (n : ℕ) → n + 0 ≡ 1 → n ≡ 1
         bare n is = omega arith
-
--- which costs twice the piece
-pub home_cost : (p : PieceValue) (walk : List Pass) (is_line_passed : List Bool) (at : ℕ) → IsValidPiece p
-    → IsTraversalInvariant p.lines p.edges walk [] is_line_passed (root_junction p.edges) at → is_exhausted is_line_passed p.edges at ≡ true
-    → get_or is_line_passed 0 false ≡ true → walk_cost p walk ≡ 2 * piece_cost p
-home_cost p walk is_line_passed at kept k stuck first = grind (arith, nat_tests, cost_all, home_passed)
 
 -- a line that is passed in a direction is passed
 is_passed : (line : ℕ) (walk : List Pass) → 1 ≤ directed_passes line false walk → is_line_passed line walk ≡ true

@@ -1,3 +1,4 @@
+pub mod Names
 mod LineLemmas
 mod EndLemmas
 mod MetLemmas

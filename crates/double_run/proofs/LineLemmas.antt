@@ -1,17 +1,9 @@
 -- Lines that rise and their edges, and how often a walk passes a line in a direction.
 use Rattle.std.proofs.Common.{◌≡◌, ◌<◌, ℕ, zero, suc, ◌+◌, ◌==◌, ◌&&◌, Bool, true, false, not, List, [], ◌∷◌, ◌++◌, length, get_or, arith, refl, sym, ◌∙◌}
-use Rattle.std.proofs.lemmas.Bool.Decides.{nat_tests}
-use Rattle.line_graph.specs.declared.edge.Edge.{Edge}
-use Rattle.line_graph.specs.declared.pass.Pass.{Pass}
-use Rattle.line_graph.specs.PieceGraphs.{one_if}
-use Rattle.line_graph.specs.PieceWalks.{edge_cost, edge_of, edge_value, pass_sum, is_strictly_increasing}
-use Rattle.double_run.specs.DoubleWalks.{same_way, directed_passes}
+use Rattle.double_run.proofs.Names.{nat_tests, Edge, Pass, one_if, edge_cost, edge_of, pass_sum, is_strictly_increasing, same_way, directed_passes, eq_self}
+use Rattle.line_graph.specs.PieceWalks.{edge_value}
 use Rattle.line_graph.proofs.CallerLemmas.{first_less, rest_rises}
-use Rattle.lists_and_numbers.proofs.CallerLemmas.{differs, differs_back, eq_self, suc_zero}
-
--- none is a number more
-pub zero_suc : (n : ℕ) → (0 == suc n) ≡ false
-zero_suc n = grind (arith, nat_tests)
+use Rattle.lists_and_numbers.proofs.CallerLemmas.{differs, differs_back, suc_zero}
 
 pub suc_suc : (m n : ℕ) → (suc m == suc n) ≡ (m == n)
 suc_suc m n = grind (arith, nat_tests)
@@ -21,7 +13,7 @@ pub one_line : (lines : List ℕ) (i k : ℕ) → is_strictly_increasing lines �
     → (get_or lines i 0 == get_or lines k 0) ≡ (i == k)
 one_line [] i k up i_in k_in = absurd (omega arith)
 one_line (n ∷ lines) zero zero up i_in k_in = eq_self n
-one_line (n ∷ lines) zero (suc k) up i_in k_in = grind (arith, nat_tests, differs, first_less, zero_suc)
+one_line (n ∷ lines) zero (suc k) up i_in k_in = grind (arith, nat_tests, differs, first_less)
 one_line (n ∷ lines) (suc i) zero up i_in k_in = grind (arith, nat_tests, differs_back, first_less, suc_zero)
 one_line (n ∷ lines) (suc i) (suc k) up i_in k_in =
     one_line lines i k (rest_rises n lines up) (omega arith) (omega arith) ∙ sym (suc_suc i k)

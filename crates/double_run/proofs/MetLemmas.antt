@@ -1,15 +1,8 @@
 -- Junctions that are visited, exhausted, or on the stack, when another line is passed.
-use Rattle.std.proofs.lemmas.Bool.Decides.{nat_tests}
 use Rattle.std.proofs.Common.{◌≡◌, ◌<◌, ◌⊎◌, ℕ, zero, suc, ◌+◌, ◌==◌, ◌||◌, Bool, true, false, not, List, [], ◌∷◌, ◌++◌, length, get_or, set, slice_get, Some, arith, refl, sym, ◌∙◌}
-use Rattle.std.proofs.lemmas.Bool.{and_parts}
-use Rattle.line_graph.specs.declared.edge.Edge.{Edge}
-use Rattle.line_graph.specs.PieceGraphs.{one_if}
-use Rattle.line_graph.specs.PieceWalks.{edge_cost, edge_sum, pass_end, pass_start}
-use Rattle.double_run.specs.declared.legs.DirectedLeg.{DirectedLeg}
-use Rattle.double_run.specs.TraversalSteps.{remaining_count}
-use Rattle.double_run.specs.Traversals.{edge_at, is_visited, is_on_stack, is_exhausted, passed_cost, has_end_at}
+use Rattle.double_run.proofs.Names.{nat_tests, and_parts, Edge, one_if, edge_cost, pass_end, pass_start, DirectedLeg, remaining_count, edge_at, is_visited, is_on_stack, is_exhausted, passed_cost, has_end_at, eq_self, some_same}
+use Rattle.line_graph.specs.PieceWalks.{edge_sum}
 use Rattle.double_run.proofs.LineLemmas.{suc_suc}
-use Rattle.lists_and_numbers.proofs.CallerLemmas.{eq_self, some_same}
 
 -- exhausted junctions stay exhausted
 pub spent_on : (passed : List Bool) (edges : List Edge) (m j : ℕ) → is_exhausted passed edges j ≡ true

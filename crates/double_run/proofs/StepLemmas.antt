@@ -1,27 +1,19 @@
 -- The steps of a traversal, and the double walk at its end.
 use Rattle.std.proofs.Common.{◌≡◌, ◌<◌, ℕ, ◌+◌, ◌*◌, ◌/◌, Bool, true, false, List, [], ◌∷◌, ◌++◌, length, get_or, set, slice_get, slice_index_or, replicate, Some, Vec, Global, arith, refl, sym, ap, ◌∙◌, subst}
-use Rattle.std.proofs.lemmas.Bool.{and_parts}
-use Rattle.std.proofs.lemmas.Bool.Decides.{nat_tests}
-use Rattle.line_graph.specs.declared.edge.Edge.{Edge}
-use Rattle.line_graph.specs.declared.pass.Pass.{Pass}
-use Rattle.line_graph.specs.ValidPieces.{IsValidPiece, ends_below}
-use Rattle.line_graph.specs.PieceGraphs.{PieceValue}
-use Rattle.line_graph.specs.Pieces.{first_line}
-use Rattle.line_graph.specs.PieceWalks.{pass_end, piece_cost, pass_start, walk_cost}
-use Rattle.double_run.specs.declared.legs.DirectedLeg.{DirectedLeg}
+use Rattle.double_run.proofs.Names.{and_parts, nat_tests, Edge, Pass, IsValidPiece, PieceValue, first_line, pass_end, piece_cost, pass_start, walk_cost, DirectedLeg, IsDouble, AreCursors, IsTraversal, IsTraversalInvariant, WasPassed, IsLegFrom, legs_are_below, edge_at, is_exhausted, leg_pass, leg_return, root_junction, remaining_count, cursors_stay, ends_are_below, edge_there}
+use Rattle.line_graph.specs.ValidPieces.{ends_below}
 use Rattle.double_run.specs.declared.traversal.Traversal.{Traversal}
-use Rattle.double_run.specs.DoubleWalks.{IsDouble}
-use Rattle.euler_tour.specs.Cursors.{AreCursors, SkipsEnd}
+use Rattle.euler_tour.specs.Cursors.{SkipsEnd}
 use Rattle.euler_tour.specs.declared.line_ends.LineEnds.{LineEnds}
 use Rattle.euler_tour.specs.LineEnds.{AreBefore, AreLast}
-use Rattle.double_run.specs.Traversals.{IsTraversal, HasTraversalTables, IsTraversalInvariant, KeepsTraversal, WasPassed, IsLegFrom, legs_are_below, edge_at, is_exhausted, leg_pass, leg_return, root_junction}
-use Rattle.double_run.specs.TraversalSteps.{GoesOut, IsTraversalDone, IsTraversalStep, remaining_count}
+use Rattle.double_run.specs.Traversals.{HasTraversalTables, KeepsTraversal}
+use Rattle.double_run.specs.TraversalSteps.{GoesOut, IsTraversalDone, IsTraversalStep}
 use Rattle.double_run.proofs.CursorLemmas.{marked_at, marked_stays, out_ready}
-use Rattle.double_run.proofs.HomeLemmas.{begins_kept, home_cost, home_double}
-use Rattle.double_run.proofs.MetLemmas.{found_at}
+use Rattle.double_run.proofs.HomeLemmas.{begins_kept, home_double, home_passed}
+use Rattle.double_run.proofs.MetLemmas.{found_at, cost_all}
 use Rattle.double_run.proofs.OutingLemmas.{back_kept, back_less, out_kept, out_less, there_push}
-use Rattle.euler_tour.proofs.CallerLemmas.{cursors_begin, cursors_skip, cursors_stay, ends_are_below, skipped_less}
-use Rattle.line_graph.proofs.CallerLemmas.{begins_on, edge_there}
+use Rattle.euler_tour.proofs.CallerLemmas.{cursors_begin, cursors_skip, skipped_less}
+use Rattle.line_graph.proofs.CallerLemmas.{begins_on}
 
 -- the first line begins at the root, which is a junction
 root_at : (edges : List Edge) → (slice_index_or edges 0 (record { a = 0; b = 0; cost = 0 })).a ≡ root_junction edges
@@ -84,11 +76,6 @@ out_step p old walk out passed at leg kept keeps ready leads is_walk is_out is_p
     is_next : at ≡ pass_end leads.edge leg.back
     is_next = is_at ∙ ap (λ (e : Edge). pass_end e leg.back) (found_at p.edges leg.place leads.edge leads.there)
 
--- the first one
-pub set_off : (p : PieceValue) (old new : Traversal) → old.walk ≡ [] → GoesOut p old new (record { place = 0; back = false })
-    → IsTraversal p new
-set_off p old new blank out = grind (arith, nat_tests)
-
 -- a skipped end
 pub over_step : (p : PieceValue) (old : Traversal) (ends : LineEnds) (end : ℕ) → KeepsTraversal p old → HasTraversalTables p old
     → get_or old.ends.last.items old.at 0 ≡ end + 1 → get_or old.passed.items (end / 2) false ≡ true → SkipsEnd old.at end old.ends ends
@@ -109,12 +96,6 @@ over_step p old ends end keeps ready here gone skips = record {
 leg_edge : (edges : List Edge) (out : List DirectedLeg) (leg : DirectedLeg) → legs_are_below (length edges) (out ++ leg ∷ []) ≡ true
     → (e : Edge) × (slice_get edges leg.place ≡ Some e)
 leg_edge edges out leg there = grind (arith, nat_tests, edge_there, and_parts, there_push)
-
--- which is an index of a line of the piece
-pub leg_within : (p : PieceValue) (old : Traversal) (out : List DirectedLeg) (leg : DirectedLeg) → KeepsTraversal p old
-    → old.out.items ≡ out ++ leg ∷ []
-    → leg.place < length p.edges
-leg_within p old out leg keeps is_out = grind (arith, nat_tests, and_parts, there_push)
 
 -- a step back
 pub back_step : (p : PieceValue) (old : Traversal) (walk : List Pass) (out : Vec DirectedLeg Global) (at : ℕ) (leg : DirectedLeg)
@@ -151,4 +132,4 @@ finished p old new kept was home =
 -- that costs twice the piece
 pub finished_cost : (p : PieceValue) (old new : Traversal) → IsValidPiece p → IsTraversal p old → IsTraversalDone p old new
     → walk_cost p new.walk ≡ 2 * piece_cost p
-finished_cost p old new kept was home = grind (arith, nat_tests, home_cost)
+finished_cost p old new kept was home = grind (arith, nat_tests, cost_all, home_passed)

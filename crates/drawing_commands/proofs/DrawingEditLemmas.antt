@@ -1,18 +1,12 @@
 -- Edits of a drawing, one after another.
 use Rattle.std.proofs.Common.{◌≡◌, ◌∙◌, ℕ, ◌+◌, Bool, true, false, List, [], ◌∷◌, Option, Some, None, IfSome, IsSome, Result, Ok, Err, ap, sym, subst}
-use Rattle.std.specs.Prelude.{unwrap_or}
+use Rattle.drawing_commands.proofs.Names.{unwrap_or, first_parsed, later_parsed, with_first_edit, DrawingEdit, DrawingValue, BadEdit, bad_edit_is_out_of_memory, edits_applied, drawing_edits_of, parsed_drawing_edit, parsed_drawing_edits}
 use Rattle.lists_and_numbers.specs.OutOfMemory.{IsSpecified, UnlessOutOfMemory}
-use Rattle.command_words.proofs.CallerLemmas.{first_parsed, later_parsed}
-use Rattle.command_words.specs.Arguments.{with_first_edit}
-use Rattle.drawing_edits.specs.declared.drawing_edit.DrawingEdit.{DrawingEdit}
 use Rattle.drawing_edits.specs.declared.edit_fault.EditFault.{EditFault}
 use Rattle.drawing_edits.specs.EditedDrawings.{edited_drawing}
 use Rattle.drawing_edits.specs.EditFaults.{edit_is_out_of_memory}
-use Rattle.drawing_model.specs.Drawings.{DrawingValue}
 use Rattle.drawing_model.specs.GrowingDrawings.{and_then}
-use Rattle.drawing_commands.specs.declared.bad_edit.BadEdit.{BadEdit}
-use Rattle.drawing_commands.specs.DrawingEditing.{at_edit, bad_edit_is_out_of_memory, edits_applied}
-use Rattle.drawing_commands.specs.DrawingEditWords.{drawing_edits_of, parsed_drawing_edit, parsed_drawing_edits}
+use Rattle.drawing_commands.specs.DrawingEditing.{at_edit}
 
 -- the first edit is applied, and the others to what it gives
 applied_first : (number : ℕ) (first : Option DrawingEdit) (later : Option (List DrawingEdit)) (d next : DrawingValue)

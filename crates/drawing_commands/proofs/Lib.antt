@@ -1,3 +1,4 @@
+pub mod Names
 mod LookFacts
 mod SnapLemmas
 mod SpaceLemmas

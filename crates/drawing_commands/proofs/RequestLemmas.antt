@@ -1,11 +1,7 @@
 -- The order of `edit`, where its arguments are edits.
 use Rattle.std.proofs.Common.{◌≡◌, ◌≤◌, ℕ, List, [], ◌∷◌, Option, Some, None, IsSome, length, refl, arith}
-use Rattle.std.specs.Prelude.{option_map, unwrap_or}
-use Rattle.command_words.specs.Arguments.{with_first_edit}
-use Rattle.drawing_edits.specs.declared.drawing_edit.DrawingEdit.{DrawingEdit}
-use Rattle.drawing_commands.specs.DrawingEditing.{drawing_edit_order}
-use Rattle.drawing_commands.specs.DrawingEditWords.{drawing_edits_of, parsed_drawing_edit, parsed_drawing_edits}
-use Rattle.drawing_commands.specs.Requests.{DrawingOrder, edit_order_with, editing}
+use Rattle.std.specs.Prelude.{option_map}
+use Rattle.drawing_commands.proofs.Names.{unwrap_or, with_first_edit, DrawingEdit, drawing_edit_order, drawing_edits_of, parsed_drawing_edit, parsed_drawing_edits, DrawingOrder, edit_order_with, editing}
 
 -- The order of `edit` by names and edits.
 abbrev edit_order : Option (List ℕ × List ℕ) → List DrawingEdit → Option DrawingOrder

@@ -1,10 +1,8 @@
 -- Starts and ends of a snapped drawing are in the order of their blocks.
 use Rattle.std.proofs.Common.{◌≡◌, ℕ, List, [], ◌∷◌, ap, map, refl, subst, sym, ◌∙◌}
 use Rattle.std.specs.List.Sorted.{IsNonDecreasing}
+use Rattle.drawing_commands.proofs.Names.{AreInBlockOrder, HasOrderedEnds, DrawingValue, Spot}
 use Rattle.drawing_repairs.specs.AnchoredSpots.{anchored_spots}
-use Rattle.drawing_model.specs.EndOrders.{AreInBlockOrder, HasOrderedEnds}
-use Rattle.drawing_model.specs.Drawings.{DrawingValue}
-use Rattle.line_sections.specs.declared.spot.Spot.{Spot}
 use Rattle.line_sections.specs.Lines.{LineValue}
 
 -- Starts and ends that move with their points stay in their blocks.

@@ -1,8 +1,6 @@
 -- Starts and ends of a spaced drawing are in the order of their blocks.
 use Rattle.std.proofs.Common.{◌≡◌, List, subst, sym}
-use Rattle.drawing_model.specs.Drawings.{DrawingValue}
-use Rattle.drawing_model.specs.EndOrders.{AreInBlockOrder, HasOrderedEnds}
-use Rattle.line_sections.specs.declared.spot.Spot.{Spot}
+use Rattle.drawing_commands.proofs.Names.{DrawingValue, AreInBlockOrder, HasOrderedEnds, Spot}
 
 -- A drawing with the starts and ends of another has them in order where that one has.
 pub space_ordered : (d joined : DrawingValue) → HasOrderedEnds d → joined.starts ≡ d.starts → joined.ends ≡ d.ends

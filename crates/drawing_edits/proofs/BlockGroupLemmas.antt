@@ -1,9 +1,7 @@
 -- Lines in the order of their blocks are the lines of one block after another.
 use Rattle.std.proofs.Common.{◌≡◌, ℕ, suc, ◌+◌, ◌<◌, ◌≤◌, ◌==◌, Bool, true, false, List, [], ◌∷◌, ◌++◌, length, map, filter, if◌then◌else◌, refl, ap, sym, ◌∙◌, arith}
-use Rattle.std.proofs.lemmas.Bool.Decides.{Decides-eqb, nat_tests}
 use Rattle.std.specs.List.{All}
-use Rattle.std.specs.List.Sorted.{IsNonDecreasing}
-use Rattle.line_sections.specs.Lines.{LineValue}
+use Rattle.drawing_edits.proofs.Names.{Decides-eqb, nat_tests, IsNonDecreasing, LineValue}
 use Rattle.lists_and_numbers.proofs.CallerLemmas.{differs}
 
 abbrev pub in_block : ℕ → List LineValue → List LineValue

@@ -1,21 +1,10 @@
 -- Drawn lines that are joined with starts and ends: the result has their sections and these starts and ends.
-use Rattle.std.proofs.lemmas.Bool.Decides.{nat_tests}
 use Rattle.std.proofs.Common.{◌≡◌, ◌∙◌, Bool, true, false, not, nat_lt, List, [], ◌∷◌, ◌++◌, Result, Ok, Err, IfOk, length, refl, ap, sym, subst, append_assoc, append-nil, All, if◌then◌else◌, arith}
-use Rattle.std.proofs.lemmas.List.Elements.{All-cons, All-head, All-nil}
-use Rattle.std.proofs.lemmas.Result.{IfOk-at_ok, IfOk-weaker}
-use Rattle.std.specs.List.{list_any}
-use Rattle.drawing_edits.specs.RedrawnDrawings.{with_starts_and_ends, with_walk_ends}
-use Rattle.drawing_model.specs.declared.draw_kind.DrawKind.{DrawKind}
+use Rattle.std.proofs.lemmas.List.Elements.{All-cons}
+use Rattle.drawing_edits.proofs.Names.{nat_tests, All-head, All-nil, IfOk-at_ok, IfOk-weaker, list_any, with_starts_and_ends, with_walk_ends, DrawKind, MAX_LINES, MAX_POINTS, DrawingValue, and_then, point_count, joined_drawing, HasNoEnds, is_junction, Spot, LineValue, after_both}
 use Rattle.drawing_model.specs.declared.draw_kind.DrawKind.TheVariants as kind
-use Rattle.drawing_model.specs.declared.limits.TheConstants.{MAX_LINES, MAX_POINTS}
-use Rattle.drawing_model.specs.Drawings.{DrawingValue}
-use Rattle.drawing_model.specs.GrowingDrawings.{and_then, point_count}
-use Rattle.drawing_model.specs.JoinedDrawings.{joined_drawing}
-use Rattle.drawing_model.specs.WalkEnds.{HasNoEnds, are_connected_spots, is_junction, spot_added, walk_end_added}
-use Rattle.line_sections.specs.declared.spot.Spot.{Spot}
-use Rattle.line_sections.specs.Lines.{LineValue}
+use Rattle.drawing_model.specs.WalkEnds.{are_connected_spots, spot_added, walk_end_added}
 use Rattle.line_sections.specs.Sections.{all_sections}
-use Rattle.drawing_model.proofs.CallerLemmas.{after_both}
 
 -- A drawing with further starts where the flag is true, else with further ends.
 abbrev pub with_spots : Bool → DrawingValue → List Spot → DrawingValue
@@ -41,9 +30,6 @@ module _ (lines : List LineValue) (spots : List Spot) (spot : Spot) where
   comes_last : IfOk (spot_added lines spots spot) IsLast
   comes_last = last_by (is_junction lines spot) (list_any (λ (one : Spot). are_connected_spots lines one spot) spots) _ _ refl
 
-one_put : (is_start : Bool) (d : DrawingValue) (spot : Spot) → IfOk (walk_end_added is_start d spot) (HasSpots is_start d (spot ∷ []))
-one_put is_start d spot = grind (arith, nat_tests)
-
 lines_stay : (is_start : Bool) (d : DrawingValue) (spots : List Spot) → (with_spots is_start d spots).lines ≡ d.lines
 lines_stay is_start d spots = grind (arith, nat_tests)
 
@@ -62,7 +48,7 @@ pub spots_put : (is_start : Bool) (spots : List Spot) (d : DrawingValue)
 spots_put is_start [] d = record { is = sym (none_more is_start d); there = All-nil _ }
 spots_put is_start (spot ∷ rest) d =
     after_both (HasSpots is_start d (spot ∷ [])) (HasSpots is_start d (spot ∷ rest)) (walk_end_added is_start d spot)
-    (λ next. with_walk_ends is_start next rest) (one_put is_start d spot)
+    (λ next. with_walk_ends is_start next rest) (grind (arith, nat_tests))
     (λ next one. IfOk-weaker (with_walk_ends is_start next rest) (HasSpots is_start next rest) (HasSpots is_start d (spot ∷ rest))
     (λ e more. record {
       is = more.is ∙ ap (λ (n : DrawingValue). with_spots is_start n rest) one.is ∙ one_more is_start d spot rest;

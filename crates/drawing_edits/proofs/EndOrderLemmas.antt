@@ -1,26 +1,15 @@
 -- Edits keep starts and ends in the order of their blocks.
-use Rattle.std.proofs.lemmas.Bool.Decides.{nat_tests}
 use Rattle.std.proofs.Common.{◌≡◌, ◌<◌, ◌≤◌, ℕ, Bool, true, false, not, nat_lt, List, [], ◌∷◌, ◌++◌, length, map, take, drop, get_or, Result, Ok, Err, arith, refl, sym, ◌∙◌, ap, subst}
 use Rattle.std.proofs.lemmas.Bool.{ltb-false, ltb-true}
 use Rattle.std.proofs.lemmas.List.{drop-map, get_or-map, length-map, map-append, take-map}
 use Rattle.std.proofs.lemmas.List.Sorted.{IsNonDecreasingBy-insert}
 use Rattle.std.proofs.lemmas.List.Sums.{fails_before_first, passes_at_first, prefix_len-le-length}
-use Rattle.std.specs.List.{insert, position_or_len}
-use Rattle.std.specs.List.Sorted.{IsNonDecreasing}
-use Rattle.design_edits.specs.Motions.{motion_map}
-use Rattle.design_model.specs.declared.point.Point.{Point}
-use Rattle.design_model.specs.Points.{origin}
-use Rattle.drawing_model.specs.Drawings.{DrawingValue}
-use Rattle.drawing_model.specs.GrowingDrawings.{and_then}
-use Rattle.line_sections.specs.declared.spot.Spot.{Spot}
-use Rattle.line_sections.specs.Lines.{LineValue}
+use Rattle.std.specs.List.{insert}
+use Rattle.drawing_edits.proofs.Names.{nat_tests, position_or_len, IsNonDecreasing, motion_map, Point, origin, DrawingValue, and_then, Spot, LineValue, EditFault, HasEndsOf, AreInBlockOrder, HasOrderedEnds, centred_drawing, with_moved_spot, drawn_from, end_placed, with_end_at, with_spot}
 use Rattle.drawing_edits.specs.declared.drawing_edit.DrawingEdit.TheVariants as edit
-use Rattle.drawing_edits.specs.declared.edit_fault.EditFault.{EditFault}
-use Rattle.drawing_edits.specs.KeptEnds.{EditsKeepEndsByBlock, HasEndsOf}
-use Rattle.drawing_model.specs.EndOrders.{AreInBlockOrder, HasOrderedEnds}
-use Rattle.drawing_edits.specs.MovedDrawings.{centred_drawing, moved_drawing, with_moved_spot}
-use Rattle.drawing_edits.specs.PieceOrders.{drawn_from, lines_in_order}
-use Rattle.drawing_edits.specs.PlacedEnds.{end_placed, with_end_at, with_spot}
+use Rattle.drawing_edits.specs.KeptEnds.{EditsKeepEndsByBlock}
+use Rattle.drawing_edits.specs.MovedDrawings.{moved_drawing}
+use Rattle.drawing_edits.specs.PieceOrders.{lines_in_order}
 use Rattle.drawing_edits.proofs.KeptEndLemmas.{answer_kept, placed_kept}
 
 -- The block of a spot.

@@ -1,10 +1,6 @@
 -- Worked values of what edits keep of starts and ends.
 use Rattle.std.proofs.Common.{◌≡◌, ℕ, pos, List, [], ◌∷◌, false, arith, refl}
-use Rattle.drawing_model.specs.Drawings.{DrawingValue}
-use Rattle.line_sections.specs.declared.spot.Spot.{Spot}
-use Rattle.drawing_edits.specs.KeptEnds.{HasEndsOf, IsPlacedEnd}
-use Rattle.drawing_model.specs.EndOrders.{AreInBlockOrder, HasOrderedEnds}
-use Rattle.drawing_edits.specs.PlacedEnds.{with_spot}
+use Rattle.drawing_edits.proofs.Names.{DrawingValue, Spot, HasEndsOf, IsPlacedEnd, AreInBlockOrder, HasOrderedEnds, with_spot}
 
 -- a spot of a block
 abbrev spot_of : ℕ → ℕ → Spot

@@ -1,29 +1,17 @@
 -- A drawing that is drawn again has the given starts and ends.
-use Rattle.std.proofs.lemmas.Bool.Decides.{nat_tests}
 use Rattle.std.proofs.Common.{◌≡◌, ℕ, ◌+◌, ◌==◌, Bool, List, [], ◌∷◌, Result, Ok, Err, IfOk, refl, ap, arith}
-use Rattle.std.proofs.lemmas.Result.{IfOk-at_ok, IfOk-weaker}
-use Rattle.design_model.specs.declared.point.Point.{Point}
-use Rattle.drawing_model.specs.declared.draw_kind.DrawKind.{DrawKind}
-use Rattle.drawing_model.specs.Drawings.{DrawingValue}
-use Rattle.drawing_model.specs.GrowingDrawings.{and_then, block_added, empty_drawing, finished_drawing}
-use Rattle.drawing_model.specs.JoinedDrawings.{joined_drawing}
-use Rattle.drawing_model.specs.WalkEnds.{HasNoEnds}
-use Rattle.line_sections.specs.Lines.{LineValue}
-use Rattle.drawing_edits.specs.declared.edit_fault.EditFault.{EditFault}
+use Rattle.drawing_edits.proofs.Names.{nat_tests, IfOk-at_ok, IfOk-weaker, Point, DrawKind, DrawingValue, and_then, block_added, empty_drawing, finished_drawing, joined_drawing, HasNoEnds, LineValue, EditFault, HasEndsOf, IsPlacedEnd, lines_listing, with_end_at, drawn_lines, line_added_if, redrawn, with_blocks, with_lines_of, with_starts_and_ends, after_both}
 use Rattle.drawing_edits.specs.EditFaults.{edit_answer}
-use Rattle.drawing_edits.specs.KeptEnds.{HasEndsOf, IsPlacedEnd, PlacedEndsAreKept, RedrawnHasEnds}
-use Rattle.drawing_edits.specs.PlacedEnds.{lines_listing, only_block, with_end_at}
-use Rattle.drawing_edits.specs.RedrawnDrawings.{drawn_lines, line_added_if, redrawn, redrawn_lines, with_blocks, with_lines_of, with_starts_and_ends}
+use Rattle.drawing_edits.specs.KeptEnds.{PlacedEndsAreKept, RedrawnHasEnds}
+use Rattle.drawing_edits.specs.PlacedEnds.{only_block}
+use Rattle.drawing_edits.specs.RedrawnDrawings.{redrawn_lines}
 use Rattle.drawing_edits.proofs.CallerLemmas.{HasBoth, both_put}
-use Rattle.drawing_model.proofs.CallerLemmas.{after_both, finished_none, joined_none}
-
-line_if_keeps : (b : Bool) (d : DrawingValue) (points : List Point) → HasNoEnds d → IfOk (line_added_if b d points) HasNoEnds
-line_if_keeps b d points h1 = grind (arith, nat_tests)
+use Rattle.drawing_model.proofs.CallerLemmas.{finished_none, joined_none}
 
 lines_keep : (block : ℕ) (d : DrawingValue) (lines : List LineValue) → HasNoEnds d → IfOk (with_lines_of block d lines) HasNoEnds
 lines_keep block d [] has = has
 lines_keep block d (line ∷ rest) has = after_both HasNoEnds HasNoEnds (line_added_if (line.block == block) d line.points)
-    (λ next. with_lines_of block next rest) (line_if_keeps (line.block == block) d line.points has)
+    (λ next. with_lines_of block next rest) (grind (arith, nat_tests, (line.block == block)))
     (λ next kept. lines_keep block next rest kept)
 
 block_keeps : (d : DrawingValue) (thread : ℕ) → HasNoEnds d → IfOk (block_added d thread) HasNoEnds

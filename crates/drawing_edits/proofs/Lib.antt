@@ -1,3 +1,4 @@
+pub mod Names
 pub mod CallerLemmas
 pub mod ExtentLemmas
 pub mod SpotLemmas

@@ -1,21 +1,14 @@
 -- Lines within the limits of a drawing are drawn again as they are.
 use Rattle.std.proofs.Common.{◌≡◌, ◌≢◌, ℕ, zero, suc, ℤ, ◌+◌, ◌-◌, ◌<◌, ◌≤◌, ◌==◌, Bool, true, false, ◌||◌, nat_lt, List, [], ◌∷◌, ◌++◌, length, map, Result, Ok, All, Contains, if◌then◌else◌, refl, ap, sym, subst, ◌∙◌, arith, append_assoc, append-nil}
 use Rattle.std.proofs.lemmas.Bool.{or_left, or_right}
-use Rattle.std.proofs.lemmas.Bool.Decides.{Decides-eqb, nat_tests}
-use Rattle.std.proofs.lemmas.List.{length-append}
-use Rattle.std.proofs.lemmas.List.Elements.{All-head, All-tail}
 use Rattle.std.proofs.lemmas.List.Folds.{list_any-append}
 use Rattle.std.proofs.lemmas.List.Sums.{list_all-from_AllPass, sum_by-append, sum_by-cons}
-use Rattle.std.specs.List.{list_any}
+use Rattle.drawing_edits.proofs.Names.{Decides-eqb, nat_tests, length-append, All-head, All-tail, list_any, LineValue, DrawKind, MAX_BLOCKS, MAX_LINES, MAX_POINTS, DrawingValue, IsLine, and_then, block_added, empty_drawing, finished_drawing, is_last_empty, point_count, with_new_block, with_new_line, line_added_if, with_blocks, with_lines_of}
 use Rattle.design_model.specs.Points.{is_point_within}
-use Rattle.line_sections.specs.Lines.{LineValue}
-use Rattle.drawing_model.specs.declared.draw_kind.DrawKind.{DrawKind}
 use Rattle.drawing_model.specs.declared.draw_kind.DrawKind.TheVariants as kind
-use Rattle.drawing_model.specs.declared.limits.TheConstants.{MAX_BLOCKS, MAX_COST, MAX_LINES, MAX_POINTS}
-use Rattle.drawing_model.specs.Drawings.{DrawingValue, IsLine}
-use Rattle.drawing_model.specs.GrowingDrawings.{all_in_needle_range, and_then, block_added, empty_drawing, finished_drawing, has_repeated_point, is_last_empty, line_added, point_count, step_count, with_new_block, with_new_line}
+use Rattle.drawing_model.specs.declared.limits.TheConstants.{MAX_COST}
+use Rattle.drawing_model.specs.GrowingDrawings.{all_in_needle_range, has_repeated_point, line_added, step_count}
 use Rattle.drawing_model.specs.Needles.{steps_of_line}
-use Rattle.drawing_edits.specs.RedrawnDrawings.{line_added_if, with_blocks, with_lines_of}
 use Rattle.drawing_edits.specs.ValidRedraws.{LinesWithinLimitsAreDrawn}
 use Rattle.drawing_edits.proofs.BlockGroupLemmas.{grouped, in_block, in_order, rise_all}
 use Rattle.drawing_model.proofs.CallerLemmas.{none_repeats}
@@ -113,10 +106,6 @@ kept_in block (line ∷ rest) some = by_test (line.block == block) refl some (ke
     by_test true same either later = or_left (line.block == block) (is_in block (in_block block rest)) same
     by_test false same either later = later either
 
--- A last block that has a line is not empty.
-filled_by : (d : DrawingValue) (block : ℕ) → length d.threads ≡ block + 1 → is_in block d.lines ≡ true → is_last_empty d ≡ false
-filled_by d block h1 h2 = grind (arith, nat_tests)
-
 block_comes : (d : DrawingValue) (thread : ℕ) → is_last_empty d ≡ false → length d.threads < MAX_BLOCKS
     → block_added d thread ≡ Ok (with_new_block d thread)
 block_comes d thread h1 h2 = grind (arith, nat_tests)
@@ -145,7 +134,7 @@ blocks_come (thread ∷ rest) block d lines last filled few used room =
     list_any-append (λ (line : LineValue). line.block == block) d.lines (in_block block lines)
     ∙ or_right (is_in block d.lines) (is_in block (in_block block lines))
     (kept_in block lines (used block (omega arith) (omega arith))) in
-    let later = blocks_come rest (block + 1) next lines own (filled_by next block own there) (omega (arith, few))
+    let later = blocks_come rest (block + 1) next lines own (grind (arith, nat_tests)) (omega (arith, few))
     (λ n low high. used n (omega (arith, low)) (omega (arith, high)))
     (room_after d opened.threads (in_block block lines) after room) in
     let same : grown next rest after ≡ grown d (thread ∷ rest) (in_block block lines ++ after) =

@@ -1,13 +1,8 @@
 -- Worked values of starts put at points, and of pieces put in another order.
 use Rattle.std.proofs.Common.{◌≡◌, ℕ, pos, List, [], ◌∷◌, Ok, Err, true, false, refl}
-use Rattle.design_model.specs.declared.point.Point.{Point}
+use Rattle.drawing_edits.proofs.Names.{Point, DrawingValue, Spot, LineValue, end_placed, order_with_piece, piece_put_before, pieces_in_order}
 use Rattle.drawing_model.specs.declared.draw_kind.DrawKind.TheVariants as kind
-use Rattle.drawing_model.specs.Drawings.{DrawingValue}
-use Rattle.line_sections.specs.declared.spot.Spot.{Spot}
-use Rattle.line_sections.specs.Lines.{LineValue}
 use Rattle.drawing_edits.specs.declared.edit_fault.EditFault.TheVariants as fault
-use Rattle.drawing_edits.specs.PlacedEnds.{end_placed}
-use Rattle.drawing_edits.specs.PieceOrders.{order_with_piece, piece_put_before, pieces_in_order}
 
 -- the point with those numbers
 abbrev spot_point : ℕ → ℕ → Point

@@ -1,7 +1,6 @@
 -- Ranges of indexes of lines, and the indexes that pass a test.
 use Rattle.std.proofs.Common.{◌≡◌, ◌<◌, ℕ, zero, suc, ◌+◌, ◌-◌, List, [], ◌∷◌, ◌++◌, All, Contains, arith, ◌∙◌, ap}
-use Rattle.std.proofs.lemmas.List.FromFn.{get_or-range_with_len, length-range_with_len}
-use Rattle.std.specs.List.{range_with_len}
+use Rattle.drawing_edits.proofs.Names.{get_or-range_with_len, length-range_with_len, range_with_len}
 
 -- A range from 0 has each number below its length.
 pub range_has : (count n : ℕ) → n < count → Contains (range_with_len 0 count) n

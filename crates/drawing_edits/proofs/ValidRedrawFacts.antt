@@ -1,11 +1,7 @@
 -- Worked values of lines that are drawn again.
 use Rattle.std.proofs.Common.{◌≡◌, ℕ, pos, List, [], ◌∷◌, Ok, Err, refl}
-use Rattle.design_model.specs.declared.point.Point.{Point}
+use Rattle.drawing_edits.proofs.Names.{Point, DrawingValue, Spot, LineValue, drawn_lines, redrawn}
 use Rattle.drawing_model.specs.declared.draw_kind.DrawKind.TheVariants as kind
-use Rattle.drawing_model.specs.Drawings.{DrawingValue}
-use Rattle.line_sections.specs.declared.spot.Spot.{Spot}
-use Rattle.line_sections.specs.Lines.{LineValue}
-use Rattle.drawing_edits.specs.RedrawnDrawings.{drawn_lines, redrawn}
 
 -- a point on the x axis
 abbrev at : ℕ → Point

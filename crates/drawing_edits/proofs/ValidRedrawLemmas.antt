@@ -1,13 +1,8 @@
 -- A valid joined drawing is drawn again as it is.
-use Rattle.std.proofs.lemmas.Bool.Decides.{nat_tests}
 use Rattle.std.proofs.Common.{◌≡◌, true, false, List, [], ◌∷◌, ◌++◌, Result, Ok, ap, sym, subst, ◌∙◌, append_assoc, append-nil, arith}
-use Rattle.line_sections.specs.declared.spot.Spot.{Spot}
-use Rattle.drawing_model.specs.declared.draw_kind.DrawKind.{DrawKind}
-use Rattle.drawing_model.specs.Drawings.{DrawingValue, KeepsDrawingLimits}
-use Rattle.drawing_model.specs.GrowingDrawings.{and_then}
-use Rattle.drawing_model.specs.JoinedDrawings.{JoinedDrawingsStay, joined_drawing}
+use Rattle.drawing_edits.proofs.Names.{nat_tests, Spot, DrawKind, DrawingValue, KeepsDrawingLimits, and_then, joined_drawing, with_starts_and_ends, with_walk_ends}
+use Rattle.drawing_model.specs.JoinedDrawings.{JoinedDrawingsStay}
 use Rattle.drawing_model.specs.WalkEnds.{AreInDifferentPieces}
-use Rattle.drawing_edits.specs.RedrawnDrawings.{with_starts_and_ends, with_walk_ends}
 use Rattle.drawing_edits.specs.ValidRedraws.{ValidDrawingsAreRedrawn}
 use Rattle.drawing_edits.proofs.LineDrawnLemmas.{lines_drawn}
 use Rattle.drawing_model.proofs.CallerLemmas.{spot_comes}
@@ -32,10 +27,6 @@ ends_come (spot ∷ rest) d apart =
     (subst (AreInDifferentPieces d.lines) (sym (append_assoc d.ends (spot ∷ []) rest)) apart)
     ∙ ap (λ (all : List Spot). Ok (record d { ends = all })) (append_assoc d.ends (spot ∷ []) rest)
 
--- The limits say nothing of starts and ends.
-bare_keeps : (d : DrawingValue) → KeepsDrawingLimits d → KeepsDrawingLimits (record d { starts = []; ends = [] })
-bare_keeps d h1 = grind (arith, nat_tests)
-
 -- A valid joined drawing is drawn again as it is.
 pub valid_redrawn : JoinedDrawingsStay → ValidDrawingsAreRedrawn
 valid_redrawn stay d is =
@@ -44,7 +35,7 @@ valid_redrawn stay d is =
     ap (λ (r : Drawn). and_then (and_then r joined_drawing) (λ (whole : DrawingValue). with_starts_and_ends whole d.starts d.ends))
     (lines_drawn d is.valid.limits)
     ∙ ap (λ (r : Drawn). and_then r (λ (whole : DrawingValue). with_starts_and_ends whole d.starts d.ends))
-    (stay bare (bare_keeps d is.valid.limits) is.joined)
+    (stay bare (grind (arith, nat_tests, is.valid.limits)) is.joined)
     ∙ ap (λ (r : Drawn). and_then r (λ (started : DrawingValue). with_walk_ends false started d.ends))
     (starts_come d.starts bare is.valid.ends.starts)
     ∙ ends_come d.ends (record bare { starts = d.starts }) is.valid.ends.ends

@@ -1,8 +1,6 @@
 -- Drawings that aren't growing ones: an earlier block has no line, or there is a start.
 use Rattle.std.proofs.Common.{◌≡◌, ℕ, zero, suc, pos, Contains, [], ◌∷◌, arith}
-use Rattle.drawing_model.specs.Drawings.{DrawingValue}
-use Rattle.drawing_model.specs.GrowingDrawings.{empty_drawing}
-use Rattle.drawing_model.specs.GrowingLimits.{IsGrowingDrawing}
+use Rattle.drawing_model.proofs.Names.{DrawingValue, empty_drawing, IsGrowingDrawing}
 use Rattle.drawing_model.proofs.Places.{place}
 
 -- two blocks, of which only the second has a line

@@ -1,21 +1,11 @@
 -- Growing drawings keep their limits. The finished ones are valid, and stay so when they are joined and get starts and ends.
 use Rattle.std.proofs.Common.{◌≡◌, ℕ, ◌<◌, ◌≤◌, ◌==◌, Bool, true, false, not, nat_lt, List, [], ◌∷◌, Ok, IfOk, length, All, refl, arith}
-use Rattle.std.proofs.lemmas.Bool.{eqb-false, or_parts}
-use Rattle.std.proofs.lemmas.Bool.Decides.{nat_tests}
-use Rattle.std.proofs.lemmas.List.Elements.{All-cons, All-nil, All-push}
+use Rattle.std.proofs.lemmas.Bool.{eqb-false}
 use Rattle.std.proofs.lemmas.List.Quantifiers.{all_pairs_push}
-use Rattle.std.specs.List.{list_any}
-use Rattle.design_model.specs.declared.point.Point.{Point}
-use Rattle.step_splitter.specs.Chains.{IsNeedlePoint}
-use Rattle.line_sections.specs.declared.spot.Spot.{Spot}
-use Rattle.line_sections.specs.Lines.{LineValue}
-use Rattle.line_sections.specs.Sections.{SectionsAreWhole, SectionsHaveSegments, SectionsKeepSegments, WholeLinesStay}
+use Rattle.drawing_model.proofs.Names.{or_parts, nat_tests, All-cons, All-nil, All-push, list_any, Point, IsNeedlePoint, Spot, LineValue, SectionsHaveSegments, SectionsKeepSegments, WholeLinesStay, DrawingValue, IsLine, KeepsDrawingLimits, IsMakerState, all_in_needle_range, is_last_empty, point_count, step_count, steps_with_line, with_new_block, with_new_line, IsGrowingDrawing, AreInDifferentPieces, IsValidDrawing, are_connected_spots, is_junction, spot_added}
+use Rattle.line_sections.specs.Sections.{SectionsAreWhole}
 use Rattle.drawing_model.specs.declared.draw_kind.DrawKind.TheVariants as kind
-use Rattle.drawing_model.specs.Drawings.{DrawingValue, IsLine, KeepsDrawingLimits}
-use Rattle.drawing_model.specs.DrawingMakerInvariants.{IsMakerState}
-use Rattle.drawing_model.specs.GrowingDrawings.{all_in_needle_range, is_last_empty, point_count, step_count, steps_with_line, with_new_block, with_new_line}
-use Rattle.drawing_model.specs.GrowingLimits.{BlocksKeepGrowing, EmptyDrawingsGrow, FinishedDrawingsAreValid, IsGrowingDrawing, IsValidJoinedDrawing, JoinedDrawingsAreValid, LabelsKeepGrowing, LinesKeepGrowing, StepsKeepGrowing, WalkEndsKeepValid}
-use Rattle.drawing_model.specs.WalkEnds.{AreInDifferentPieces, IsValidDrawing, are_connected_spots, is_junction, spot_added}
+use Rattle.drawing_model.specs.GrowingLimits.{BlocksKeepGrowing, EmptyDrawingsGrow, FinishedDrawingsAreValid, IsValidJoinedDrawing, JoinedDrawingsAreValid, LabelsKeepGrowing, LinesKeepGrowing, StepsKeepGrowing, WalkEndsKeepValid}
 use Rattle.drawing_model.proofs.KeptSections.{all_kept}
 use Rattle.drawing_model.proofs.MakerLemmas.{MayCome, all_in_range, block_put, drawn_all, label_set, line_put, may_come, step_set}
 use Rattle.drawing_model.proofs.CallerLemmas.{after_both, unless}
@@ -84,13 +74,10 @@ finished_valid d grows =
     unless IsValidDrawing (is_last_empty d) (Ok d) kind.EmptyBlock (λ filled.
     drawn_all d _ _ (made_of d false filled grows) (eqb-false (length d.threads) 0 some)))
 
-no_more : (n limit : ℕ) → nat_lt limit n ≡ false → n ≤ limit
-no_more n limit test = grind (arith, nat_tests, test)
-
 -- sections of a valid drawing are its lines in a valid one
 pub joined_valid : SectionsKeepSegments → SectionsHaveSegments → WholeLinesStay → SectionsAreWhole → JoinedDrawingsAreValid
 joined_valid keep have stay whole d valid =
-    grind (arith, nat_tests, unless IsValidJoinedDrawing, all_kept keep have stay d d.lines, no_more)
+    grind (arith, nat_tests, unless IsValidJoinedDrawing, all_kept keep have stay d d.lines)
 
 -- a spot that may be added is a junction in a piece of its own
 spots_apart : (lines : List LineValue) (spots : List Spot) (spot : Spot) → AreInDifferentPieces lines spots

@@ -1,18 +1,10 @@
 -- The drawing of all sections keeps the limits of drawings.
 use Rattle.std.proofs.Common.{◌≡◌, ℕ, zero, suc, ◌<◌, ◌≤◌, inl, inr, true, false, nat_lt, List, [], ◌∷◌, ◌++◌, length, map, All, Contains, ap, sym, subst, ◌∙◌, refl, arith}
-use Rattle.std.proofs.lemmas.Bool.Decides.{nat_tests}
-use Rattle.std.proofs.lemmas.List.{get_or-map, length-map, map-append}
-use Rattle.std.proofs.lemmas.List.Concat.{flat_map-cons}
-use Rattle.std.proofs.lemmas.List.Elements.{All-append, All-head, All-map, All-nil, All-tail, All-weaker, Contains-append_cases, Contains-append_left, Contains-append_right}
-use Rattle.std.specs.List.{flat_map}
-use Rattle.std.specs.List.Sorted.{IsNonDecreasing}
-use Rattle.design_model.specs.declared.point.Point.{Point}
-use Rattle.line_sections.specs.Lines.{LineValue}
-use Rattle.line_sections.specs.Sections.{SectionsHaveSegments, SectionsKeepSegments, WholeLinesStay, all_sections, are_whole_lines, is_shared_point, line_sections, sections_of}
-use Rattle.drawing_model.specs.Drawings.{DrawingValue, IsLine, KeepsDrawingLimits}
-use Rattle.drawing_model.specs.GrowingDrawings.{point_count}
+use Rattle.std.proofs.lemmas.List.{get_or-map, length-map}
+use Rattle.std.proofs.lemmas.List.Elements.{Contains-append_cases}
+use Rattle.drawing_model.proofs.Names.{nat_tests, map-append, flat_map-cons, All-append, All-head, All-map, All-nil, All-tail, All-weaker, Contains-append_left, Contains-append_right, flat_map, IsNonDecreasing, Point, LineValue, SectionsHaveSegments, SectionsKeepSegments, WholeLinesStay, all_sections, is_shared_point, line_sections, sections_of, DrawingValue, IsLine, KeepsDrawingLimits, point_count, IsValidDrawing, HasValidEnds}
+use Rattle.line_sections.specs.Sections.{are_whole_lines}
 use Rattle.drawing_model.specs.JoinedDrawings.{JoinedDrawingsStay}
-use Rattle.drawing_model.specs.WalkEnds.{IsValidDrawing, HasValidEnds}
 use Rattle.drawing_model.proofs.SectionCosts.{cost_kept, sections_sew, some_sections}
 
 -- what holds of all sections
@@ -140,12 +132,6 @@ keeps_joined keep have d keeps few short = record {
   cost = omega (arith, cost_kept keep d.step d.lines, keeps.cost);
 }
 
--- the same of sections that were made
-keeps_sections : SectionsKeepSegments → SectionsHaveSegments → (d : DrawingValue) (lines sections slice : List LineValue)
-    → KeepsDrawingLimits d → lines ≡ d.lines → sections ≡ all_sections lines → slice ≡ sections → length sections ≤ 1024
-    → nat_lt 65536 (point_count slice) ≡ false → KeepsDrawingLimits (record d { lines = sections })
-keeps_sections keep have d lines sections slice keeps same are slice_is few short = grind (arith, nat_tests, keeps_joined keep have d keeps)
-
 -- lines that are whole are their own sections, since each has a point
 joined_same : WholeLinesStay → (lines : List LineValue) → All (λ (line : LineValue). IsLine line.points) lines
     → are_whole_lines lines ≡ true → all_sections lines ≡ lines
@@ -157,18 +143,12 @@ joined_same stay lines able =
 pub joined_stay : WholeLinesStay → JoinedDrawingsStay
 joined_stay stay d keeps joined = grind (arith, nat_tests, joined_same stay d.lines keeps.lines joined)
 
--- and its starts and ends stay
-ends_kept : WholeLinesStay → (d : DrawingValue) (sections : List LineValue) → KeepsDrawingLimits d → HasValidEnds d
-    → sections ≡ all_sections d.lines
-    → HasValidEnds (record d { lines = sections })
-ends_kept stay d sections keeps ends are = grind (arith, nat_tests, joined_same stay d.lines keeps.lines)
-
 -- so all is kept
 pub all_kept : SectionsKeepSegments → SectionsHaveSegments → WholeLinesStay → (d : DrawingValue)
     (lines sections slice : List LineValue) → KeepsDrawingLimits d → HasValidEnds d → lines ≡ d.lines
     → sections ≡ all_sections lines → slice ≡ sections → length sections ≤ 1024 → nat_lt 65536 (point_count slice) ≡ false
     → IsValidDrawing (record d { lines = sections })
 all_kept keep have stay d lines sections slice keeps ends same are slice_is few short = record {
-  limits = keeps_sections keep have d lines sections slice keeps same are slice_is few short;
-  ends = ends_kept stay d sections keeps ends (are ∙ ap all_sections same);
+  limits = grind (arith, nat_tests, keeps_joined);
+  ends = grind (arith, nat_tests, joined_same);
 }

@@ -1,11 +1,7 @@
 -- The order in which the limits of a drawing are judged, for a line that is added and for sections.
 use Rattle.std.proofs.Common.{◌≡◌, ℕ, true, false, List, [], ◌∷◌, Err, length, nat_lt, refl}
-use Rattle.design_model.specs.declared.point.Point.{Point}
-use Rattle.line_sections.specs.Sections.{all_sections}
+use Rattle.drawing_model.proofs.Names.{Point, all_sections, DrawingValue, line_added, point_count, steps_with_line, joined_drawing}
 use Rattle.drawing_model.specs.declared.draw_kind.DrawKind.TheVariants as kind
-use Rattle.drawing_model.specs.Drawings.{DrawingValue}
-use Rattle.drawing_model.specs.GrowingDrawings.{line_added, point_count, steps_with_line}
-use Rattle.drawing_model.specs.JoinedDrawings.{joined_drawing}
 use Rattle.drawing_model.proofs.NeedleFacts.{at}
 
 abbrev stroke : List Point

@@ -1,28 +1,17 @@
 -- Drawings that grow keep their limits.
 use Rattle.std.proofs.Common.{◌≡◌, ◌≢◌, ℕ, ◌+◌, ◌-◌, ◌<◌, ◌≤◌, ◌==◌, Bool, true, false, nat_le, nat_lt, List, [], ◌∷◌, ◌++◌, Result, Ok, Err, length, map, get_or, All, Contains, sym, subst, ◌∙◌, refl, arith, length-append, eq-eqb, if◌then◌else◌}
-use Rattle.std.proofs.lemmas.Bool.{and_parts, or_parts, or_right}
-use Rattle.std.proofs.lemmas.Bool.Decides.{nat_tests}
-use Rattle.std.proofs.lemmas.List.{map-append}
-use Rattle.std.proofs.lemmas.List.Elements.{All-get_or, All-head, All-map, All-nil, All-push, All-weaker, Contains-append_left, Contains-append_right}
-use Rattle.std.proofs.lemmas.List.Folds.{list_any-append, list_any_none}
+use Rattle.std.proofs.lemmas.Bool.{and_parts, or_right}
+use Rattle.std.proofs.lemmas.List.Elements.{All-get_or}
+use Rattle.std.proofs.lemmas.List.Folds.{list_any-append}
 use Rattle.std.proofs.lemmas.List.Sorted.{IsNonDecreasingBy-push}
-use Rattle.std.proofs.lemmas.List.Sums.{AllPass-from_list_all, sum_by-append}
+use Rattle.std.proofs.lemmas.List.Sums.{AllPass-from_list_all}
 use Rattle.std.proofs.lemmas.Option.{get_or_from_slice_get, slice_get_within}
-use Rattle.std.specs.Char.{is_ascii_graphic}
-use Rattle.std.specs.List.{list_all, list_any}
-use Rattle.std.specs.List.Sorted.{IsNonDecreasing}
-use Rattle.design_model.specs.declared.point.Point.{Point}
+use Rattle.drawing_model.proofs.Names.{or_parts, nat_tests, map-append, All-head, All-map, All-nil, All-push, All-weaker, Contains-append_left, Contains-append_right, list_any_none, sum_by-append, is_ascii_graphic, list_all, list_any, IsNonDecreasing, Point, is_same_point, IsNeedlePoint, HasNoRepeatAfter, LineValue, DrawKind, DrawingValue, HasNoRepeat, IsLine, KeepsDrawingLimits, all_in_needle_range, has_repeated_point, is_last_empty, is_used, point_count, repeats_after, step_count, steps_with_line, with_new_block, with_new_line, IsMakerState, steps_of_line, HasNoEnds, IsValidDrawing, HasValidEnds, is_junction}
 use Rattle.design_model.specs.Labels.{IsLabel, IsPrintable}
-use Rattle.design_model.specs.Points.{is_same_point, is_point_within}
-use Rattle.step_splitter.specs.Chains.{IsNeedlePoint, HasNoRepeatAfter}
-use Rattle.line_sections.specs.Lines.{LineValue}
-use Rattle.drawing_model.specs.declared.draw_kind.DrawKind.{DrawKind}
+use Rattle.design_model.specs.Points.{is_point_within}
 use Rattle.drawing_model.specs.declared.draw_kind.DrawKind.TheVariants as kind
-use Rattle.drawing_model.specs.Drawings.{DrawingValue, HasNoRepeat, IsLine, KeepsDrawingLimits}
-use Rattle.drawing_model.specs.GrowingDrawings.{all_in_needle_range, has_repeated_point, is_drawing_label, is_last_empty, is_used, point_count, repeats_after, step_count, steps_with_line, with_new_block, with_new_line}
-use Rattle.drawing_model.specs.DrawingMakerInvariants.{AreBlocks, IsMakerState}
-use Rattle.drawing_model.specs.Needles.{steps_of_line}
-use Rattle.drawing_model.specs.WalkEnds.{HasNoEnds, IsValidDrawing, HasValidEnds, is_junction}
+use Rattle.drawing_model.specs.GrowingDrawings.{is_drawing_label}
+use Rattle.drawing_model.specs.DrawingMakerInvariants.{AreBlocks}
 use Rattle.drawing_model.proofs.CallerLemmas.{last_by, same_found}
 
 -- where no repeat is found, none is there
@@ -240,10 +229,10 @@ line_put d points empty count steps more made some comes =
 drawn : (d : DrawingValue) (points steps : ℕ) → IsMakerState d false points steps → length d.threads ≢ 0 → KeepsDrawingLimits d
 drawn d points steps made some = grind (arith, nat_tests, used_all d made.blocks (sym made.last_is))
 
--- where there is no start and no end, all is kept of them
-pub unended : (d : DrawingValue) → HasNoEnds d → HasValidEnds d
-unended d none = grind (arith, nat_tests, All-nil (λ spot. is_junction d.lines spot ≡ true))
-
 -- at its end it is a drawing
 pub drawn_all : (d : DrawingValue) (points steps : ℕ) → IsMakerState d false points steps → length d.threads ≢ 0 → IsValidDrawing d
-drawn_all d points steps made some = record { limits = drawn d points steps made some; ends = unended d made.no_ends }
+drawn_all d points steps made some = record {
+  limits = drawn d points steps made some;
+  ends =
+      grind (arith, nat_tests, All-nil, made.no_ends);
+}

@@ -1,9 +1,6 @@
 -- Worked values of needle points.
 use Rattle.std.proofs.Common.{◌≡◌, ℕ, pos, List, [], ◌∷◌, refl}
-use Rattle.design_model.specs.declared.point.Point.{Point}
-use Rattle.drawing_model.specs.Drawings.{DrawingValue}
-use Rattle.drawing_model.specs.Needles.{steps_of_line}
-use Rattle.drawing_model.specs.LineNeedles.{cost_of_line, needles_of_line}
+use Rattle.drawing_model.proofs.Names.{Point, DrawingValue, steps_of_line, cost_of_line, needles_of_line}
 
 abbrev pub at : ℕ → ℕ → Point
 at x y = record { x = pos x; y = pos y }

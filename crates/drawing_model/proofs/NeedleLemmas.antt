@@ -1,18 +1,11 @@
 -- Needle points that come along a line, segment by segment.
-use Rattle.std.proofs.lemmas.Bool.Decides.{nat_tests}
 use Rattle.std.proofs.Common.{◌≡◌, ◌≢◌, ℕ, ◌+◌, ◌<◌, ◌≤◌, List, [], ◌∷◌, ◌++◌, Option, Some, None, length, get_or, take, All, ap, sym, subst, ◌∙◌, refl, arith}
 use Rattle.std.proofs.lemmas.List.{append_assoc, append-nil}
-use Rattle.std.proofs.lemmas.List.Elements.{All-append, All-cons, All-head, All-nil, All-tail}
 use Rattle.std.proofs.lemmas.List.Sums.{get_or-le-sum_by, sum_by-take-le, sum_by_more}
-use Rattle.design_model.specs.declared.point.Point.{Point}
-use Rattle.step_splitter.specs.Chains.{IsNeedlePoint, AreCloseAfter, HasNoRepeatAfter, LeadsBySteps, SplitPointsLead, last_point_or}
-use Rattle.step_splitter.specs.Steps.{split_points}
-use Rattle.std.proofs.lemmas.Option.{slice_get-get_or}
-use Rattle.line_sections.specs.Lines.{LineValue}
-use Rattle.drawing_model.specs.Drawings.{DrawingValue, HasNoRepeat, IsLine, KeepsDrawingLimits, first_point, last_point, optional_line_points, points_of}
-use Rattle.drawing_model.specs.LineNeedles.{AreClose, AreNeedlesOf, LeadAlong, cost_of_line, needles_of_line}
-use Rattle.drawing_model.specs.GrowingDrawings.{step_count}
-use Rattle.drawing_model.specs.Needles.{steps_of_line, needle_points, segment_points}
+use Rattle.drawing_model.proofs.Names.{nat_tests, All-append, All-cons, All-head, All-nil, All-tail, Point, IsNeedlePoint, AreCloseAfter, HasNoRepeatAfter, last_point_or, split_points, slice_get-get_or, LineValue, DrawingValue, HasNoRepeat, IsLine, KeepsDrawingLimits, last_point, optional_line_points, points_of, LeadAlong, cost_of_line, needles_of_line, step_count, steps_of_line, needle_points, segment_points}
+use Rattle.step_splitter.specs.Chains.{LeadsBySteps, SplitPointsLead}
+use Rattle.drawing_model.specs.Drawings.{first_point}
+use Rattle.drawing_model.specs.LineNeedles.{AreClose, AreNeedlesOf}
 use Rattle.drawing_model.proofs.CallerLemmas.{close_on, cost_is, line_there, no_line, points_are}
 
 -- the points lead from the first one to that point, by steps within the longest step
@@ -33,10 +26,6 @@ moving_on : (p : Point) (xs ys : List Point) → HasNoRepeatAfter p xs → HasNo
 moving_on p [] ys apart more = more
 moving_on p (x ∷ xs) ys apart more = (apart.0, moving_on x xs ys apart.1 more)
 
--- there is a last point, and only one
-nothing_comes : {p : Point} → None ≡ Some p → ⊥
-nothing_comes is = cc
-
 some_same : {p q : Point} → Some p ≡ Some q → p ≡ q
 some_same is = cc
 
@@ -44,7 +33,7 @@ some_same is = cc
 pub segment_comes : (step : ℕ) (first : Option Point) (before next : Point) (points ends : List Point)
     → ComesTo step first before points → LeadsBySteps before next step ends
     → ComesTo step first next (points ++ ends)
-segment_comes step first before next [] ends comes leads = absurd (nothing_comes comes.last)
+segment_comes step first before next [] ends comes leads = absurd (grind (arith, nat_tests, comes.last))
 segment_comes step first before next (p ∷ points) ends comes leads =
     let at : last_point_or p points ≡ before = some_same comes.last in
     let Close : Point → Type 0 = λ q. AreCloseAfter step q ends in

@@ -1,11 +1,6 @@
 -- Drawings beyond each limit, and starts and ends that aren't valid, each for one reason.
 use Rattle.std.proofs.Common.{◌≡◌, ℕ, zero, suc, ◌<◌, ◌≤◌, List, [], ◌∷◌, length, sum_by, get_or, codes, refl, arith, ap, sym, true≢false, ⊎_elim}
-use Rattle.design_model.specs.declared.point.Point.{Point}
-use Rattle.line_sections.specs.declared.spot.Spot.{Spot}
-use Rattle.line_sections.specs.Lines.{LineValue}
-use Rattle.drawing_model.specs.Drawings.{DrawingValue, IsLine, KeepsDrawingLimits}
-use Rattle.drawing_model.specs.Needles.{steps_of_line}
-use Rattle.drawing_model.specs.WalkEnds.{HasNoEnds, HasValidEnds}
+use Rattle.drawing_model.proofs.Names.{Point, Spot, LineValue, DrawingValue, IsLine, KeepsDrawingLimits, steps_of_line, HasNoEnds, HasValidEnds}
 use Rattle.drawing_model.proofs.NeedleFacts.{at}
 
 abbrev line : ℕ → List Point → LineValue

@@ -1,12 +1,9 @@
 -- Starts and ends, worked out by hand: an angle of two lines and a stroke in one block, a stroke at the angle's first
 -- point in the next one.
 use Rattle.std.proofs.Common.{◌≡◌, ℕ, pos, true, false, List, [], ◌∷◌, Ok, Err, refl}
-use Rattle.design_model.specs.declared.point.Point.{Point}
-use Rattle.line_sections.specs.declared.spot.Spot.{Spot}
-use Rattle.line_sections.specs.Lines.{LineValue}
+use Rattle.drawing_model.proofs.Names.{Point, Spot, LineValue, DrawingValue, are_connected_spots, is_junction}
 use Rattle.drawing_model.specs.declared.draw_kind.DrawKind.TheVariants as kind
-use Rattle.drawing_model.specs.Drawings.{DrawingValue}
-use Rattle.drawing_model.specs.WalkEnds.{are_connected_spots, end_added, is_junction, start_added, walk_end_added}
+use Rattle.drawing_model.specs.WalkEnds.{end_added, start_added, walk_end_added}
 
 abbrev at : ℕ → ℕ → Point
 at x y = record { x = pos x; y = pos y }

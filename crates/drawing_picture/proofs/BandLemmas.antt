@@ -1,19 +1,12 @@
 -- The bands on a line show its load, and what is drawn of a cut.
 use Rattle.std.proofs.Common.{◌≡◌, ◌≤◌, ℕ, ◌+◌, ◌-◌, ◌*◌, Bool, true, false, if◌then◌else◌, List, [], ◌∷◌, ◌++◌, drop, length, map, reverse, sum_by, take, arith, refl, sym, ap, ◌∙◌}
 use Rattle.std.proofs.lemmas.List.{append_assoc, length-drop, length-reverse, length-take-le}
-use Rattle.std.proofs.lemmas.List.Sums.{sum_by-cons}
-use Rattle.std.specs.List.{filter, flat_map}
-use Rattle.design_model.specs.declared.point.Point.{Point}
-use Rattle.drawing_picture.specs.BandLaws.{BandsShowLoads, band_length}
-use Rattle.drawing_picture.specs.Bands.{Band, band_along, bands_from, half_steps, half_steps_from, half_steps_of_line, middle_between}
-use Rattle.drawing_picture.specs.BandTexts.{band_text, bands_of_lines, bands_of_pieces, line_bands}
+use Rattle.drawing_picture.proofs.Names.{sum_by-cons, filter, flat_map, Point, band_length, Band, bands_from, half_steps_from, band_text, bands_of_lines, bands_of_pieces, Piece, DrawingValue, graph_of, PieceCert, Cut, nat_tests}
+use Rattle.drawing_picture.specs.BandLaws.{BandsShowLoads}
+use Rattle.drawing_picture.specs.Bands.{band_along, half_steps, half_steps_of_line, middle_between}
+use Rattle.drawing_picture.specs.BandTexts.{line_bands}
 use Rattle.line_graph.specs.declared.edge.Edge.{Edge}
-use Rattle.line_graph.specs.declared.piece.Piece.{Piece}
-use Rattle.drawing_model.specs.Drawings.{DrawingValue}
 use Rattle.drawing_model.specs.LineNeedles.{NeedlesLeadAlong, cost_of_line, needles_of_line}
-use Rattle.line_graph.specs.PiecesOfDrawings.{graph_of}
-use Rattle.odd_cuts.specs.declared.certificate.PieceCert.{PieceCert}
-use Rattle.odd_cuts.specs.declared.cut.Cut.{Cut}
 use Rattle.odd_cuts.specs.Cuts.{crosses, has_member, load_on}
 
 -- the load of one cut
@@ -25,10 +18,6 @@ record Show (cuts : List Cut) (e : Edge) (bands : List Band) : Type 0 where
   each : map (λ (band : Band). band.cut) bands ≡ filter (λ (cut : Cut). crosses cut.members e) cuts
   weights : map band_length bands ≡ map (λ (cut : Cut). cut.weight) (filter (λ (cut : Cut). crosses cut.members e) cuts)
   load : sum_by band_length bands ≡ load_on cuts e
-
--- a band is as long as its weight where the way is long enough
-long_enough : (weight : ℕ) (way : List Point) → weight + 1 ≤ length way → length (take (weight + 1) way) - 1 ≡ weight
-long_enough weight way room = omega (arith, length-take-le (weight + 1) way room)
 
 -- a cut with a band, and one without
 record Shown (cut : Cut) (rest : List Cut) (e : Edge) (band : Band) (bands : List Band) : Type 0 where
@@ -86,7 +75,7 @@ shows number (cut ∷ rest) e ahead back front behind =
         rw (is_first, is_last) (with_band cut rest e (band_along number cut ahead)
         (bands_from (number + 1) rest e (drop cut.weight ahead) back) (record {
           is_cut = refl;
-          long = long_enough cut.weight ahead (omega (arith, load_first cut rest e, here, front));
+          long = grind (arith, nat_tests, length-take-le, cut.weight, load_first cut rest e, here, front);
           leads = leads;
           more = more (drop cut.weight ahead) back
               (omega (arith, load_first cut rest e, here, front, length-drop cut.weight ahead))
@@ -98,7 +87,7 @@ shows number (cut ∷ rest) e ahead back front behind =
         rw (is_first, is_last) (with_band cut rest e (band_along number cut back)
         (bands_from (number + 1) rest e ahead (drop cut.weight back)) (record {
           is_cut = refl;
-          long = long_enough cut.weight back (omega (arith, load_first cut rest e, here, behind));
+          long = grind (arith, nat_tests, length-take-le, cut.weight, load_first cut rest e, here, behind);
           leads = leads;
           more = more ahead (drop cut.weight back)
               (omega (arith, load_first cut rest e, here, front))

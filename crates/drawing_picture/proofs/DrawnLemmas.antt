@@ -1,15 +1,9 @@
 -- The picture of the pieces that are found is that of the drawing.
 use Rattle.std.proofs.Common.{◌≡◌, ℕ, suc, List, [], ◌∷◌, length, map, ap, ◌∙◌, refl}
-use Rattle.design_model.specs.declared.point.Point.{Point}
-use Rattle.drawing_picture.specs.declared.junction_marks.JunctionMark.{JunctionMark}
+use Rattle.drawing_picture.proofs.Names.{Point, JunctionMark, loose_points, marks_of_pieces, Piece, DrawingValue, PieceValue, piece_graph, ArePiecesOf, graph_of, lines_of_pieces}
 use Rattle.drawing_picture.specs.declared.loose_ends.TheConstants.{LOOSE_GAP}
 use Rattle.drawing_picture.specs.DrawingPictures.{IsDrawingPicture, drawing_with, picture_of_pieces}
-use Rattle.drawing_picture.specs.JunctionMarks.{loose_points, marks_of_pieces}
 use Rattle.drawing_review.specs.Places.{places_of_lines}
-use Rattle.line_graph.specs.declared.piece.Piece.{Piece}
-use Rattle.drawing_model.specs.Drawings.{DrawingValue}
-use Rattle.line_graph.specs.PieceGraphs.{PieceValue, piece_graph}
-use Rattle.line_graph.specs.PiecesOfDrawings.{ArePiecesOf, graph_of, lines_of_pieces}
 use Rattle.line_sections.specs.Lines.{LineValue}
 use Rattle.drawing_picture.proofs.CertificateLemmas.{graphs_are}
 

@@ -1,15 +1,11 @@
 -- The verdict on a design without acts has the first fault of the certificate.
 use Rattle.std.proofs.Common.{◌≡◌, ℕ, ◌+◌, List, [], ◌∷◌, Option, Some, None, arith, length, refl, ap, sym, ◌∙◌, map}
-use Rattle.std.proofs.lemmas.Bool.Decides.{nat_tests}
-use Rattle.odd_cuts.specs.declared.certificate.PieceCert.{PieceCert}
+use Rattle.drawing_picture.proofs.Names.{nat_tests, PieceCert, DesignValue, IsFirstFault, DrawingValue, PieceValue, piece_graph, count_reason, piece_reason, pieces_reason}
 use Rattle.odd_cuts.specs.Faults.{first_fault}
-use Rattle.design_model.specs.Designs.{DesignValue}
-use Rattle.drawing_picture.specs.CheckedProofs.{IsFirstFault, reason_before_acts}
-use Rattle.drawing_model.specs.Drawings.{DrawingValue}
-use Rattle.line_graph.specs.PieceGraphs.{PieceValue, piece_graph}
+use Rattle.drawing_picture.specs.CheckedProofs.{reason_before_acts}
 use Rattle.route_verdict.specs.declared.verdict.Reason.{Reason}
 use Rattle.route_verdict.specs.declared.verdict.Verdict.{Verdict}
-use Rattle.route_verdict.specs.Verdicts.{IsVerdict, acts_reason, count_reason, difference_of, piece_reason, pieces_reason, verdict_of_reason}
+use Rattle.route_verdict.specs.Verdicts.{IsVerdict, acts_reason, difference_of, verdict_of_reason}
 
 -- a reason that is no act of the design, if any
 abbrev IsEarly : Option Reason → Type 0
@@ -17,9 +13,6 @@ IsEarly found = reason_before_acts (verdict_of_reason found) ≡ found
 
 count_early : (found drawn : ℕ) → IsEarly (count_reason found drawn)
 count_early found drawn = grind (arith, nat_tests)
-
-piece_early : (p : PieceValue) (number : ℕ) (cert : PieceCert) → IsEarly (piece_reason p number cert)
-piece_early p number cert = grind (arith, nat_tests)
 
 both_early : (first rest : Option Reason) → IsEarly first → IsEarly rest → IsEarly (first_fault first rest)
 both_early None rest one other = other
@@ -29,7 +22,7 @@ pieces_early : (number : ℕ) (pieces : List PieceValue) (certs : List PieceCert
 pieces_early number [] certs = refl
 pieces_early number (p ∷ pieces) [] = refl
 pieces_early number (p ∷ pieces) (cert ∷ certs) = both_early (piece_reason p number cert) (pieces_reason (number + 1) pieces certs)
-    (piece_early p number cert) (pieces_early (number + 1) pieces certs)
+    (grind (arith, nat_tests)) (pieces_early (number + 1) pieces certs)
 
 -- early reasons are found before the acts
 found_before : (first second : Option Reason) (number : Option ℕ) → IsEarly first → IsEarly second

@@ -1,3 +1,4 @@
+pub mod Names
 mod BandFacts
 mod BandLemmas
 mod CertificateLemmas

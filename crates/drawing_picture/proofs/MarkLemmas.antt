@@ -1,16 +1,13 @@
 -- The marks of junctions by their degrees are those of the piece, and show its junctions.
 use Rattle.std.proofs.Common.{◌≡◌, ℕ, ◌+◌, ◌≤◌, Bool, true, false, List, [], ◌∷◌, ◌++◌, length, map, ap, ◌∙◌, refl, arith}
-use Rattle.std.specs.List.{filter, flat_map, range_with_len}
+use Rattle.std.specs.List.{range_with_len}
 use Rattle.std.specs.Prelude.{cond}
-use Rattle.design_model.specs.declared.point.Point.{Point}
+use Rattle.drawing_picture.proofs.Names.{filter, flat_map, Point, JunctionMark, marks_of_piece, odd_marks, tested_marks, PieceValue, IsValidPiece}
 use Rattle.picture_parts.specs.Paths.{move_text, straight_text}
-use Rattle.drawing_picture.specs.declared.junction_marks.JunctionMark.{JunctionMark}
-use Rattle.drawing_picture.specs.JunctionMarks.{marks_from, marks_of_piece, odd_marks}
+use Rattle.drawing_picture.specs.JunctionMarks.{marks_from}
 use Rattle.drawing_picture.specs.DrawnLaws.{DrawnSegment, MarksShowJunctions, PathsShowSegments, segments_through}
-use Rattle.drawing_picture.specs.TestedMarks.{tested_marks}
 use Rattle.drawing_model.specs.declared.limits.TheConstants.{MAX_LINES}
-use Rattle.line_graph.specs.PieceGraphs.{PieceValue, degrees_from, given_end, given_start, is_odd_junction, one_if}
-use Rattle.line_graph.specs.ValidPieces.{IsValidPiece}
+use Rattle.line_graph.specs.PieceGraphs.{degrees_from, given_end, given_start, is_odd_junction, one_if}
 use Rattle.line_graph.proofs.CallerLemmas.{degree_closed}
 
 tested : (p : PieceValue) (j : ℕ) (points : List Point)
@@ -23,9 +20,6 @@ pub piece_tested : (p : PieceValue) → IsValidPiece p
     → tested_marks (given_start p) (given_end p) 0 p.junctions p.degrees ≡ marks_of_piece p
 piece_tested p keeps =
     ap (λ degrees. tested_marks (given_start p) (given_end p) 0 p.junctions degrees) keeps.counted ∙ tested p 0 p.junctions
-
-pub junctions_few : (p : PieceValue) → IsValidPiece p → length p.junctions ≤ MAX_LINES + 1
-junctions_few p keeps = omega (arith, keeps.junctions_few, keeps.few)
 
 points_kept : (p : PieceValue) (j : ℕ) (points : List Point) → map (λ (mark : JunctionMark). mark.at) (marks_from p j points) ≡ points
 points_kept p j [] = refl

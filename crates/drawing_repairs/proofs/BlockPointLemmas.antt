@@ -1,20 +1,10 @@
 -- What a test holds of, over the points of a block: the points that move, the ends of lines, and the points that lines list.
 use Rattle.std.proofs.Common.{◌≡◌, ℕ, zero, suc, ◌==◌, Bool, true, false, List, [], ◌∷◌, ◌++◌, map, filter, if◌then◌else◌, refl, ap, sym, subst, ◌∙◌, arith}
-use Rattle.std.proofs.lemmas.Bool.Decides.{Decides-eqb, nat_tests}
-use Rattle.std.proofs.lemmas.List.Folds.{list_all-append, list_all-map}
-use Rattle.std.specs.List.{All, flat_map, list_all}
-use Rattle.design_model.specs.declared.point.Point.{Point}
-use Rattle.design_model.specs.Points.{is_same_point}
-use Rattle.line_sections.specs.Lines.{LineValue}
-use Rattle.line_sections.specs.Sections.{listed_in}
-use Rattle.step_splitter.specs.Chains.{last_point_or}
-use Rattle.drawing_model.specs.Drawings.{endpoints}
-use Rattle.drawing_repairs.specs.Anchors.{anchored}
-use Rattle.drawing_repairs.specs.Listings.{block_ends, listed_line}
-use Rattle.drawing_repairs.specs.MovedLines.{block_anchors, moved_line, moved_points, unrepeated, unrepeated_after}
+use Rattle.std.proofs.lemmas.List.Folds.{list_all-map}
+use Rattle.std.specs.List.{All}
+use Rattle.drawing_repairs.proofs.Names.{Decides-eqb, nat_tests, list_all-append, flat_map, list_all, Point, is_same_point, LineValue, listed_in, last_point_or, endpoints, anchored, block_ends, listed_line, block_anchors, moved_line, unrepeated, unrepeated_after, first_true, second_true, and_from}
+use Rattle.drawing_repairs.specs.MovedLines.{moved_points}
 use Rattle.drawing_repairs.proofs.ListingLemmas.{ends_alone}
-use Rattle.lists_and_numbers.proofs.CallerLemmas.{first_true, second_true}
-use Rattle.std.proofs.lemmas.Bool.{and_from}
 
 -- what holds of each element is passed by all
 pub all_pass : (test : Point → Bool) (points : List Point) → All (λ p. test p ≡ true) points → list_all test points ≡ true

@@ -1,22 +1,14 @@
 -- The points of a cell have all those that are within the gap of a point in it: the nearest of all is the nearest of these.
-use Rattle.std.proofs.lemmas.Bool.Decides.{nat_tests}
 use Rattle.std.proofs.Common.{◌≡◌, ℕ, ℤ, ◌+◌, ◌-◌, ◌*◌, ◌/◌, ◌-ℤ◌, ◌<◌, ◌≤◌, ◌==◌, unsigned_abs, Bool, ◌&&◌, ◌||◌, true, List, [], ◌∷◌, ◌++◌, Option, None, filter, if◌then◌else◌, refl, ap, ◌∙◌, arith}
-use Rattle.std.proofs.lemmas.Bool.{leb-true, and_from}
-use Rattle.std.proofs.lemmas.Int.{ints}
 use Rattle.std.proofs.lemmas.Nat.{div-add-mod', div_below, le-div, mod_below}
-use Rattle.std.specs.List.{list_any}
-use Rattle.design_model.specs.declared.point.Point.{Point}
-use Rattle.drawing_review.specs.Frames.{grid_coordinate, grid_point}
-use Rattle.drawing_repairs.specs.Anchors.{distance_between, is_within_gap, nearer_anchor, nearest_after, nearest_anchor, with_anchor}
-use Rattle.drawing_repairs.specs.Cells.{AreInCells, CellPoints, cell_of, cell_side, first_reached, is_reached_at, last_reached, points_in_cell, reaches_cell}
+use Rattle.drawing_repairs.proofs.Names.{nat_tests, leb-true, and_from, ints, list_any, Point, grid_point, distance_between, is_within_gap, nearer_anchor, nearest_after, nearest_anchor, with_anchor, AreInCells, cell_of, cell_side, points_in_cell, reaches_cell}
+use Rattle.drawing_review.specs.Frames.{grid_coordinate}
+use Rattle.drawing_repairs.specs.Cells.{CellPoints, first_reached, is_reached_at, last_reached}
 use Rattle.drawing_repairs.proofs.MoveLemmas.{IsNearChoice}
 
 -- coordinates that count from the least are no farther apart
 grid_near : (gap : ℕ) (m n : ℤ) → unsigned_abs (n -ℤ m) ≤ gap → grid_coordinate n ≤ grid_coordinate m + gap
 grid_near gap m n h1 = grind (arith, nat_tests)
-
-turned : (gap : ℕ) (m n : ℤ) → unsigned_abs (n -ℤ m) ≤ gap → unsigned_abs (m -ℤ n) ≤ gap
-turned gap m n near = omega (arith, ints, near)
 
 -- a quotient by the side of a cell, between the two bounds of its index
 within_cell : (side n : ℕ) → 0 < side → (n / side * side ≤ n) × (n < n / side * side + side)
@@ -53,35 +45,22 @@ near_reaches gap p a is =
     let x : unsigned_abs (a.x -ℤ p.x) ≤ gap = omega (arith, near) in
     let y : unsigned_abs (a.y -ℤ p.y) ≤ gap = omega (arith, near) in
     and_from _ _
-    (reached_by gap (grid_point a).x (grid_point p).x (grid_near gap p.x a.x x) (grid_near gap a.x p.x (turned gap p.x a.x x)))
-    (reached_by gap (grid_point a).y (grid_point p).y (grid_near gap p.y a.y y) (grid_near gap a.y p.y (turned gap p.y a.y y)))
-
--- one more point that fails a test, or that passes both
-any_one : (one kept rest : Bool) (x : Point) (xs : List Point) (test : Point → Bool) → test x ≡ one
-    → (one ≡ true → kept ≡ true) → list_any test xs ≡ rest
-    → list_any test (if kept then x ∷ xs else xs) ≡ (one || rest)
-any_one one kept rest x xs test h1 h2 h3 = grind (arith, nat_tests)
+    (reached_by gap (grid_point a).x (grid_point p).x (grid_near gap p.x a.x x) (grid_near gap a.x p.x (grind (arith, nat_tests))))
+    (reached_by gap (grid_point a).y (grid_point p).y (grid_near gap p.y a.y y) (grid_near gap a.y p.y (grind (arith, nat_tests))))
 
 -- what a test keeps has one that passes another where all have
 any_kept : (test keeps : Point → Bool) (xs : List Point) → ((x : Point) → test x ≡ true → keeps x ≡ true)
     → list_any test (filter keeps xs) ≡ list_any test xs
 any_kept test keeps [] within = refl
 any_kept test keeps (x ∷ xs) within =
-    any_one (test x) (keeps x) (list_any test xs) x (filter keeps xs) test refl (within x) (any_kept test keeps xs within)
-
-nearest_one : (gap : ℕ) (p a : Point) (best : Option Point) (xs kept : List Point) (one keeps : Bool) → is_within_gap gap p a ≡ one
-    → (one ≡ true → keeps ≡ true) → IsNearChoice gap p best
-    → ((next : Option Point) → IsNearChoice gap p next → nearest_after gap p next kept ≡ nearest_after gap p next xs)
-    → nearest_after gap p best (if keeps then a ∷ kept else kept) ≡ nearest_after gap p (nearer_anchor gap p best a) xs
-nearest_one gap p a best xs kept one keeps h1 h2 h3 h4 = grind (arith, nat_tests)
+    grind (arith, nat_tests, (any_kept test keeps xs within))
 
 nearest_kept : (gap : ℕ) (p : Point) (keeps : Point → Bool) (xs : List Point)
     → ((x : Point) → is_within_gap gap p x ≡ true → keeps x ≡ true) → (best : Option Point) → IsNearChoice gap p best
     → nearest_after gap p best (filter keeps xs) ≡ nearest_after gap p best xs
 nearest_kept gap p keeps [] within best near = refl
 nearest_kept gap p keeps (x ∷ xs) within best near =
-    nearest_one gap p x best xs (filter keeps xs) (is_within_gap gap p x) (keeps x) refl (within x) near
-    (nearest_kept gap p keeps xs within)
+    grind (arith, nat_tests, (nearest_kept gap p keeps xs within))
 
 -- a point is within the gap of one of all where it is of one of its cell
 any_in_cell : (gap : ℕ) (points : List Point) (cells : CellPoints) (p : Point) → AreInCells gap points cells

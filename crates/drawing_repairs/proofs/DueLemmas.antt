@@ -1,14 +1,6 @@
 -- An end that is due in a segment is one of the given ends, within the gap of the segment and not yet listed.
 use Rattle.std.proofs.Common.{◌≡◌, ℕ, Bool, true, false, not, ◌&&◌, List, [], ◌∷◌, Option, Some, None, if◌then◌else◌, refl, subst}
-use Rattle.std.specs.List.{list_any}
-use Rattle.design_model.specs.declared.point.Point.{Point}
-use Rattle.design_model.specs.Points.{is_same_point}
-use Rattle.drawing_review.specs.declared.segment.LineSegment.{LineSegment}
-use Rattle.drawing_review.specs.Frames.{grid_point}
-use Rattle.drawing_review.specs.Meetings.{is_near}
-use Rattle.drawing_repairs.specs.Listings.{due_end}
-use Rattle.design_model.proofs.CallerLemmas.{point_itself}
-use Rattle.std.proofs.lemmas.Bool.{or_left, or_right}
+use Rattle.drawing_repairs.proofs.Names.{list_any, Point, is_same_point, LineSegment, grid_point, is_near, due_end, point_itself, or_left, or_right}
 
 abbrev IsDueOf : ℕ → List Point → LineSegment → List Point → Point → Type 0
 IsDueOf gap listed s ends e = (is_near gap (grid_point e) s ≡ true) × (list_any (is_same_point e) listed ≡ false)

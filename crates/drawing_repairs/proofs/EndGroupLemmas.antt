@@ -1,13 +1,6 @@
 -- No end of a group is due in a segment beyond its bounds, and the first group with a due end has the first one of all.
-use Rattle.std.proofs.lemmas.Bool.Decides.{nat_tests}
 use Rattle.std.proofs.Common.{◌≡◌, ℕ, ◌+◌, ◌-◌, Bool, true, false, ◌&&◌, ◌||◌, List, [], ◌∷◌, ◌++◌, Option, Some, None, is_some, if◌then◌else◌, refl, ap, sym, ◌∙◌, arith}
-use Rattle.std.specs.List.{flat_map}
-use Rattle.design_model.specs.declared.point.Point.{Point}
-use Rattle.drawing_review.specs.declared.segment.LineSegment.{LineSegment}
-use Rattle.drawing_review.specs.Frames.{grid_point}
-use Rattle.drawing_repairs.specs.declared.end_groups.EndBounds.{EndBounds}
-use Rattle.drawing_repairs.specs.EndGroups.{AreAround, AreBetween, is_beyond_gap, widened_bounds}
-use Rattle.drawing_repairs.specs.Listings.{due_end, is_due}
+use Rattle.drawing_repairs.proofs.Names.{nat_tests, flat_map, Point, LineSegment, grid_point, EndBounds, AreAround, AreBetween, is_beyond_gap, widened_bounds, due_end, is_due}
 
 not_due : (gap : ℕ) (b : EndBounds) (listed : List Point) (s : LineSegment) (e : Point)
     → AreAround b (grid_point e) (grid_point e) → is_beyond_gap gap b s ≡ true → is_due gap listed s e ≡ false

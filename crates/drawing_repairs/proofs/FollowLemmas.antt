@@ -1,15 +1,6 @@
 -- A line is followed to its last point: each step passes a segment, or lists an end that wasn't listed.
-use Rattle.std.proofs.lemmas.Bool.Decides.{nat_tests}
 use Rattle.std.proofs.Common.{◌≡◌, ℕ, zero, suc, ◌+◌, ◌*◌, ◌≤◌, Bool, true, false, not, ◌&&◌, ◌||◌, List, [], ◌∷◌, ◌++◌, length, Option, Some, None, if◌then◌else◌, refl, ap, sym, subst, ◌∙◌, arith}
-use Rattle.std.proofs.lemmas.List.Folds.{list_any-append}
-use Rattle.std.specs.List.{list_any}
-use Rattle.design_model.specs.declared.point.Point.{Point}
-use Rattle.design_model.specs.Points.{is_same_point}
-use Rattle.drawing_review.specs.declared.segment.LineSegment.{LineSegment}
-use Rattle.drawing_review.specs.Frames.{grid_point}
-use Rattle.drawing_review.specs.Meetings.{is_near}
-use Rattle.drawing_repairs.specs.Listings.{FollowedLine, due_end, followed_by, followed_for, followed_line, followed_on, is_due, segment_between, steps_to_follow, unfollowed_line}
-use Rattle.design_model.proofs.CallerLemmas.{point_itself}
+use Rattle.drawing_repairs.proofs.Names.{nat_tests, list_any-append, list_any, Point, is_same_point, LineSegment, grid_point, is_near, FollowedLine, due_end, followed_by, followed_for, followed_line, followed_on, is_due, segment_between, steps_to_follow, unfollowed_line, point_itself}
 
 abbrev one_unless : Bool → ℕ
 one_unless true = 0
@@ -32,9 +23,6 @@ abbrev unlisted : List Point → List Point → ℕ
 unlisted listed [] = 0
 unlisted listed (e ∷ rest) = one_unless (list_any (is_same_point e) listed) + unlisted listed rest
 
-fewer_unless : (a b : Bool) → one_unless (a || b) ≤ one_unless a
-fewer_unless a b = grind (arith, nat_tests)
-
 at_most_one : (a : Bool) → one_unless a ≤ 1
 at_most_one true = omega arith
 at_most_one false = omega arith
@@ -43,7 +31,7 @@ one_fewer : (e : Point) (listed : List Point) (x : Point)
     → one_unless (list_any (is_same_point x) (listed ++ e ∷ [])) ≤ one_unless (list_any (is_same_point x) listed)
 one_fewer e listed x = subst (λ (b : Bool). one_unless b ≤ one_unless (list_any (is_same_point x) listed))
     (sym (list_any-append (is_same_point x) listed (e ∷ [])))
-    (fewer_unless (list_any (is_same_point x) listed) (list_any (is_same_point x) (e ∷ [])))
+    (grind (arith, nat_tests))
 
 no_more : (e : Point) (listed ends : List Point) → unlisted (listed ++ e ∷ []) ends ≤ unlisted listed ends
 no_more e listed [] = omega arith

@@ -1,3 +1,4 @@
+pub mod Names
 mod SnapFacts
 mod CellFacts
 mod SnapLawFacts

@@ -1,12 +1,6 @@
 -- Lines that list the ends of their blocks have the ends that they had, and list no more when they are followed again.
-use Rattle.std.proofs.lemmas.Bool.Decides.{nat_tests}
 use Rattle.std.proofs.Common.{◌≡◌, ℕ, ◌==◌, Bool, List, [], ◌∷◌, ◌++◌, map, filter, Option, Some, None, if◌then◌else◌, refl, ap, sym, ◌∙◌, arith}
-use Rattle.std.specs.List.{flat_map}
-use Rattle.design_model.specs.declared.point.Point.{Point}
-use Rattle.line_sections.specs.Lines.{LineValue}
-use Rattle.drawing_model.specs.Drawings.{endpoints}
-use Rattle.step_splitter.specs.Chains.{last_point_or}
-use Rattle.drawing_repairs.specs.Listings.{FollowedLine, block_ends, followed_by, followed_points, listed_line, listed_lines, steps_to_follow, unfollowed_line, with_due_ends}
+use Rattle.drawing_repairs.proofs.Names.{nat_tests, flat_map, Point, LineValue, endpoints, last_point_or, FollowedLine, block_ends, followed_by, followed_points, listed_line, listed_lines, steps_to_follow, unfollowed_line, with_due_ends}
 use Rattle.drawing_repairs.proofs.ListedOnceLemmas.{joined_again, listed_once}
 use Rattle.drawing_repairs.proofs.FollowLemmas.{after_steps}
 

@@ -1,12 +1,6 @@
 -- What holds of the points of a line and of all ends holds of the points of the line with the ends that are due in it.
 use Rattle.std.proofs.Common.{◌≡◌, ℕ, Bool, true, false, ◌&&◌, List, [], ◌∷◌, Option, Some, None, if◌then◌else◌, refl, ap, sym, subst, ◌∙◌}
-use Rattle.std.proofs.lemmas.List.Folds.{list_all-append}
-use Rattle.std.specs.List.{list_all}
-use Rattle.design_model.specs.declared.point.Point.{Point}
-use Rattle.drawing_review.specs.declared.segment.LineSegment.{LineSegment}
-use Rattle.drawing_repairs.specs.Listings.{FollowedLine, due_end, followed_by, followed_for, followed_points, is_due, segment_between, steps_to_follow, unfollowed_line, with_due_ends}
-use Rattle.lists_and_numbers.proofs.CallerLemmas.{first_true, second_true}
-use Rattle.std.proofs.lemmas.Bool.{and_from}
+use Rattle.drawing_repairs.proofs.Names.{list_all-append, list_all, Point, LineSegment, FollowedLine, due_end, followed_by, followed_for, followed_points, is_due, segment_between, steps_to_follow, unfollowed_line, with_due_ends, first_true, second_true, and_from}
 use Rattle.drawing_repairs.proofs.FollowLemmas.{after_steps}
 
 -- the test holds of all parts of a line that is followed

@@ -1,12 +1,9 @@
 -- A point moves no farther than the gap, and anchors are farther apart.
-use Rattle.std.proofs.lemmas.Bool.Decides.{nat_tests}
 use Rattle.std.proofs.Common.{◌≡◌, ℕ, ℤ, ◌-ℤ◌, ◌<◌, ◌≤◌, unsigned_abs, zero, suc, length, get_or, Bool, ◌||◌, true, false, nat_le, nat_lt, List, [], ◌∷◌, ◌++◌, Option, Some, None, if◌then◌else◌, refl, ap, sym, subst, ◌∙◌, arith}
-use Rattle.std.proofs.lemmas.Bool.{leb-false, leb-true, ltb-true, or_parts}
+use Rattle.std.proofs.lemmas.Bool.{leb-false, ltb-true}
 use Rattle.std.proofs.lemmas.List.Quantifiers.{all_pairs_push}
-use Rattle.std.proofs.lemmas.Int.{ints}
-use Rattle.std.specs.List.{All, AllPairs, list_any}
-use Rattle.design_model.specs.declared.point.Point.{Point}
-use Rattle.drawing_repairs.specs.Anchors.{anchored, anchors_after, anchors_of, distance_between, is_within_gap, nearer_anchor, nearest_after, nearest_anchor, point_or, with_anchor}
+use Rattle.std.specs.List.{All, AllPairs}
+use Rattle.drawing_repairs.proofs.Names.{nat_tests, leb-true, or_parts, ints, list_any, Point, anchored, anchors_after, anchors_of, distance_between, is_within_gap, nearer_anchor, nearest_after, nearest_anchor, point_or, with_anchor}
 
 -- a chosen anchor is within the gap
 abbrev pub IsNearChoice : ℕ → Point → Option Point → Type 0
@@ -52,13 +49,9 @@ one_place a b near = omega (arith, ints, near)
 abbrev pub point_at : ℤ → ℤ → Point
 point_at x y = record { x = x; y = y }
 
--- Points that are 0 apart are the same.
-same_point : (p q : Point) → distance_between p q ≤ 0 → q ≡ p
-same_point p q h1 = grind (arith, nat_tests)
-
 -- With a gap of 0 no point moves.
 pub stays : (anchors : List Point) (p : Point) → anchored 0 anchors p ≡ p
-stays anchors p = same_point p (anchored 0 anchors p) (moves_within 0 anchors p)
+stays anchors p = grind (arith, nat_tests, (moves_within 0 anchors p))
 
 -- a point is farther than the gap from all anchors, where none is within it
 apart_at : (gap : ℕ) (p : Point) (anchors : List Point) → list_any (is_within_gap gap p) anchors ≡ false
@@ -90,17 +83,13 @@ none_pair gap i j d before low = absurd (omega (arith, low))
 pub far_apart : (gap : ℕ) (points : List Point) → AreFarApart gap (anchors_of gap points)
 far_apart gap points = far_after gap [] points (none_pair gap)
 
-keeps_if : (p best a : Point) (b : Bool) → nat_lt (distance_between p a) (distance_between p best) ≡ b
-    → distance_between p best ≡ 0 → (if b then a else best) ≡ best
-keeps_if p best a b h1 h2 = grind (arith, nat_tests)
-
 -- an anchor at the point itself stays the nearest
 keeps_best : (gap : ℕ) (p best : Point) (rest : List Point) → distance_between p best ≡ 0
     → nearest_after gap p (Some best) rest ≡ Some best
 keeps_best gap p best [] here = refl
 keeps_best gap p best (a ∷ rest) here =
     ap (λ (b : Point). nearest_after gap p (Some b) rest)
-    (keeps_if p best a (nat_lt (distance_between p a) (distance_between p best)) refl here)
+    (grind (arith, nat_tests))
     ∙ keeps_best gap p best rest here
 
 none_if : (gap : ℕ) (p a : Point) (b : Bool) → nat_le (distance_between p a) gap ≡ b → gap < distance_between p a
@@ -113,14 +102,11 @@ some_if : (gap : ℕ) (p a : Point) (b : Bool) → nat_le (distance_between p a)
 some_if gap p a true is near = refl
 some_if gap p a false is near = let far = leb-false (distance_between p a) gap is in absurd (omega (arith, near, far))
 
-no_distance : (p : Point) → distance_between p p ≡ 0
-no_distance p = omega (arith, same_place p 0)
-
 finds_itself : (gap : ℕ) (p : Point) (rest : List Point) → nearest_after gap p None (p ∷ rest) ≡ Some p
 finds_itself gap p rest =
     ap (λ (best : Option Point). nearest_after gap p best rest)
     (some_if gap p p (nat_le (distance_between p p) gap) refl (same_place p gap))
-    ∙ keeps_best gap p p rest (no_distance p)
+    ∙ keeps_best gap p p rest (grind (arith, nat_tests, same_place))
 
 finds : (gap : ℕ) (anchors : List Point) (i : ℕ) (d p : Point) → i < length anchors → get_or anchors i d ≡ p
     → ((j : ℕ) → j < i → gap < distance_between p (get_or anchors j d)) → nearest_after gap p None anchors ≡ Some p

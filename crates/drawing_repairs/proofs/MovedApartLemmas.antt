@@ -1,12 +1,7 @@
 -- Points of a block that moved are the same or farther apart than the gap.
-use Rattle.std.proofs.lemmas.Bool.Decides.{nat_tests}
 use Rattle.std.proofs.Common.{◌≡◌, ℕ, ℤ, ◌-ℤ◌, unsigned_abs, ◌<◌, ◌≤◌, zero, suc, length, get_or, Bool, ◌||◌, true, false, nat_le, nat_lt, List, [], ◌∷◌, ◌++◌, Option, Some, None, if◌then◌else◌, refl, ap, sym, subst, ◌∙◌, arith}
-use Rattle.std.proofs.lemmas.Bool.{or_left, or_right}
-use Rattle.std.proofs.lemmas.Int.{ints}
-use Rattle.std.proofs.lemmas.List.Folds.{list_any-append}
-use Rattle.std.specs.List.{All, list_any}
-use Rattle.design_model.specs.declared.point.Point.{Point}
-use Rattle.drawing_repairs.specs.Anchors.{anchored, anchors_after, anchors_of, distance_between, is_within_gap, nearest_after, nearest_anchor, point_or, with_anchor}
+use Rattle.std.specs.List.{All}
+use Rattle.drawing_repairs.proofs.Names.{nat_tests, or_left, or_right, ints, list_any-append, list_any, Point, anchored, anchors_after, anchors_of, distance_between, is_within_gap, nearest_after, nearest_anchor, point_or, with_anchor}
 use Rattle.drawing_repairs.proofs.MoveLemmas.{HoldsOfChoice, far_apart, nearest_holds}
 
 or_alone : (b : Bool) → b ≡ true → (b || false) ≡ true
@@ -24,16 +19,13 @@ any_stays test gap anchors [] any = any
 any_stays test gap anchors (p ∷ rest) any =
     any_stays test gap (with_anchor gap anchors p) rest (any_if test anchors p (list_any (is_within_gap gap p) anchors) any)
 
-itself_within : (gap : ℕ) (p : Point) (b : Bool) → nat_le (distance_between p p) gap ≡ b → b ≡ true
-itself_within gap p b h1 = grind (arith, nat_tests)
-
 any_then : (gap : ℕ) (anchors : List Point) (p : Point) (b : Bool) → list_any (is_within_gap gap p) anchors ≡ b
     → list_any (is_within_gap gap p) (if b then anchors else anchors ++ p ∷ []) ≡ true
 any_then gap anchors p true is = is
 any_then gap anchors p false is =
     list_any-append (is_within_gap gap p) anchors (p ∷ [])
     ∙ or_right (list_any (is_within_gap gap p) anchors) _
-    (or_alone (is_within_gap gap p p) (itself_within gap p (is_within_gap gap p p) refl))
+    (or_alone (is_within_gap gap p p) (grind (arith, nat_tests)))
 
 -- each point has an anchor within the gap
 has_anchor : (gap : ℕ) (anchors points : List Point)

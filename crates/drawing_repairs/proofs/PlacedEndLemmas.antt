@@ -1,22 +1,11 @@
 -- A point that a block lists moves to a point that the block of the snapped lines lists, and starts and ends move once.
 use Rattle.std.proofs.Common.{◌≡◌, ℕ, zero, suc, ◌==◌, Bool, true, false, ◌||◌, List, [], ◌∷◌, ◌++◌, map, filter, Option, Some, None, Ok, if◌then◌else◌, refl, ap, sym, subst, ◌∙◌, arith}
-use Rattle.std.proofs.lemmas.Bool.Decides.{Decides-eqb, nat_tests}
-use Rattle.std.proofs.lemmas.List.Folds.{list_any-append}
-use Rattle.std.specs.List.{All, flat_map, list_any}
-use Rattle.design_model.specs.declared.point.Point.{Point}
-use Rattle.design_model.specs.Points.{is_same_point}
-use Rattle.line_sections.specs.declared.spot.Spot.{Spot}
-use Rattle.line_sections.specs.Lines.{LineValue}
-use Rattle.line_sections.specs.Sections.{listed_in}
-use Rattle.drawing_repairs.specs.AnchoredSpots.{anchored_spots}
-use Rattle.drawing_repairs.specs.Anchors.{anchored}
-use Rattle.drawing_repairs.specs.Listings.{FollowedLine, due_end, followed_by, followed_for, followed_on, followed_points, listed_line, listed_lines, segment_between, steps_to_follow, unfollowed_line, with_due_ends}
-use Rattle.drawing_repairs.specs.MovedLines.{block_anchors, moved_line, moved_lines, moved_points, unrepeated, unrepeated_after, vanished_from}
-use Rattle.drawing_repairs.specs.Snaps.{snapped_lines}
+use Rattle.std.specs.List.{All}
+use Rattle.drawing_repairs.proofs.Names.{Decides-eqb, nat_tests, list_any-append, flat_map, list_any, Point, is_same_point, Spot, LineValue, listed_in, anchored_spots, anchored, FollowedLine, due_end, followed_by, followed_for, followed_on, followed_points, listed_line, listed_lines, segment_between, steps_to_follow, unfollowed_line, with_due_ends, block_anchors, moved_line, moved_lines, unrepeated, unrepeated_after, vanished_from, snapped_lines, point_itself, same_is}
+use Rattle.drawing_repairs.specs.MovedLines.{moved_points}
 use Rattle.drawing_repairs.proofs.BlockPointLemmas.{changed_block, points_by}
 use Rattle.drawing_repairs.proofs.ListedOnceLemmas.{joined_again}
 use Rattle.drawing_repairs.proofs.SnappedLinesLemmas.{snapped_points_stay, one_holds, taken}
-use Rattle.design_model.proofs.CallerLemmas.{point_itself, same_is}
 use Rattle.lists_and_numbers.proofs.CallerLemmas.{either_way}
 
 merged : (a b c : Bool) → b ≡ a → (a || (b || c)) ≡ true → (a || c) ≡ true

@@ -2,37 +2,22 @@
 use Rattle.std.proofs.Common.{◌≡◌, ℕ, ◌<◌, ◌==◌, ◌&&◌, Bool, true, false, cond, List, [], ◌∷◌, Option, Some, None, Result, Ok, Err, length, get_or, map, filter, All, refl, ap, sym, subst, ◌∙◌, arith, if◌then◌else◌}
 use Rattle.std.proofs.Math.Path.{ap₂}
 use Rattle.std.proofs.lemmas.Bool.{and_parts}
-use Rattle.std.proofs.lemmas.Bool.Decides.{nat_tests}
 use Rattle.std.proofs.lemmas.List.Concat.{flat_map-cons}
 use Rattle.std.proofs.lemmas.List.Elements.{All-append, All-cons, All-head, All-map, All-nil, All-tail, All-weaker}
 use Rattle.std.proofs.lemmas.List.Folds.{Any-from_list_any}
-use Rattle.std.specs.List.{flat_map, list_any}
 use Rattle.std.specs.List.Sorted.{IsNonDecreasing}
-use Rattle.design_model.specs.declared.point.Point.{Point}
-use Rattle.design_model.specs.Points.{is_same_point}
+use Rattle.drawing_repairs.proofs.Names.{nat_tests, flat_map, list_any, Point, is_same_point, DrawingValue, endpoints, and_then, Spot, LineValue, listed_in, last_point_or, SnapFault, SnappedDrawing, VanishedLine, anchored_spots, anchored, listed_line, listed_lines, block_anchors, changed_in, moved_line, moved_lines, vanished_from, snap_of, snapped_lines, unless_vanished, same_is}
 use Rattle.drawing_edits.specs.RedrawnDrawings.{drawn_lines, with_starts_and_ends}
 use Rattle.drawing_model.specs.declared.draw_kind.DrawKind.{DrawKind}
-use Rattle.drawing_model.specs.Drawings.{DrawingValue, KeepsDrawingLimits, endpoints}
-use Rattle.drawing_model.specs.GrowingDrawings.{and_then}
+use Rattle.drawing_model.specs.Drawings.{KeepsDrawingLimits}
 use Rattle.drawing_model.specs.JoinedDrawings.{joined_drawing}
 use Rattle.drawing_model.specs.WalkEnds.{HasNoEnds, has_end_at_spot, is_junction}
-use Rattle.line_sections.specs.declared.spot.Spot.{Spot}
-use Rattle.line_sections.specs.Lines.{LineValue}
-use Rattle.line_sections.specs.Sections.{all_sections, has_points, is_shared_point, line_sections, listed_in, sections_from, sections_of, sections_with_first}
-use Rattle.step_splitter.specs.Chains.{last_point_or}
+use Rattle.line_sections.specs.Sections.{all_sections, has_points, is_shared_point, line_sections, sections_from, sections_of, sections_with_first}
 use Rattle.drawing_edits.specs.ValidRedraws.{LinesInOrderAreDrawn}
-use Rattle.drawing_repairs.specs.declared.snap_fault.SnapFault.{SnapFault}
-use Rattle.drawing_repairs.specs.declared.snapping.SnappedDrawing.{SnappedDrawing}
-use Rattle.drawing_repairs.specs.declared.snap_fault.VanishedLine.{VanishedLine}
-use Rattle.drawing_repairs.specs.AnchoredSpots.{anchored_spots}
-use Rattle.drawing_repairs.specs.Anchors.{anchored}
-use Rattle.drawing_repairs.specs.Listings.{listed_line, listed_lines}
-use Rattle.drawing_repairs.specs.MovedLines.{block_anchors, changed_in, moved_line, moved_lines, vanished_from}
 use Rattle.drawing_repairs.specs.SecondSnaps.{SnappedDrawingsStay}
-use Rattle.drawing_repairs.specs.Snaps.{joined_snap, kept_lines, snap_of, snap_value, snapped_lines, unless_vanished, within_limits}
+use Rattle.drawing_repairs.specs.Snaps.{joined_snap, kept_lines, snap_value, within_limits}
 use Rattle.drawing_edits.proofs.CallerLemmas.{joined_with}
 use Rattle.drawing_repairs.proofs.SnappedLinesLemmas.{none_moves, nothing_changes, snapped_points_stay, twice_is_once}
-use Rattle.design_model.proofs.CallerLemmas.{same_is}
 use Rattle.lists_and_numbers.proofs.CallerLemmas.{all_left, all_right}
 
 -- a result of two steps has one of the first

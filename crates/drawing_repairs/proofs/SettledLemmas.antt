@@ -1,15 +1,6 @@
 -- No end is due in a segment that was passed, nor after further ends are listed.
-use Rattle.std.proofs.lemmas.Bool.Decides.{nat_tests}
 use Rattle.std.proofs.Common.{◌≡◌, ℕ, Bool, true, false, not, ◌&&◌, ◌||◌, List, [], ◌∷◌, ◌++◌, Option, Some, None, if◌then◌else◌, refl, ap, sym, subst, ◌∙◌, arith}
-use Rattle.std.proofs.lemmas.List.Folds.{list_any-append}
-use Rattle.std.specs.List.{list_any}
-use Rattle.design_model.specs.declared.point.Point.{Point}
-use Rattle.design_model.specs.Points.{is_same_point}
-use Rattle.drawing_review.specs.declared.segment.LineSegment.{LineSegment}
-use Rattle.drawing_review.specs.Frames.{grid_point}
-use Rattle.drawing_review.specs.Meetings.{is_near}
-use Rattle.drawing_repairs.specs.Listings.{FollowedLine, due_end, followed_by, followed_line, is_due, segment_between, steps_to_follow, unfollowed_line}
-use Rattle.drawing_repairs.specs.SnapLaws.{IsSettledTo}
+use Rattle.drawing_repairs.proofs.Names.{nat_tests, list_any-append, list_any, Point, is_same_point, LineSegment, grid_point, is_near, FollowedLine, due_end, followed_by, followed_line, is_due, segment_between, steps_to_follow, unfollowed_line, IsSettledTo}
 use Rattle.drawing_repairs.proofs.FollowLemmas.{after_steps}
 
 not_due : (near has more : Bool) → (near && not has) ≡ false → (near && not (has || more)) ≡ false

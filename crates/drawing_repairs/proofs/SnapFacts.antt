@@ -1,20 +1,10 @@
 -- Worked values of snapped lines: small drawings, in tenths of a millimetre.
 use Rattle.std.proofs.Common.{◌≡◌, ℕ, pos, negsuc, List, [], ◌∷◌, ◌++◌, Result, Ok, Err, refl}
-use Rattle.design_model.specs.declared.point.Point.{Point}
-use Rattle.line_sections.specs.declared.spot.Spot.{Spot}
-use Rattle.line_sections.specs.Lines.{LineValue}
-use Rattle.line_sections.specs.Sections.{lines_through}
+use Rattle.drawing_repairs.proofs.Names.{Point, Spot, LineValue, lines_through, DrawingValue, SnapFault, SnappedDrawing, anchored_spots, anchored, anchors_of, distance_between, with_due_ends, unrepeated, snap_of, snapped_lines}
 use Rattle.drawing_model.specs.declared.draw_kind.DrawKind.TheVariants as kind
-use Rattle.drawing_model.specs.Drawings.{DrawingValue}
-use Rattle.drawing_repairs.specs.declared.snap_fault.SnapFault.{SnapFault}
 use Rattle.drawing_repairs.specs.declared.snap_fault.SnapFault.TheVariants as fault
-use Rattle.drawing_repairs.specs.declared.snapping.SnappedDrawing.{SnappedDrawing}
-use Rattle.drawing_repairs.specs.AnchoredSpots.{anchored_spots}
-use Rattle.drawing_repairs.specs.Anchors.{anchored, anchors_of, distance_between}
-use Rattle.drawing_repairs.specs.Listings.{with_due_ends}
-use Rattle.drawing_repairs.specs.MovedLines.{moved_points, unrepeated}
+use Rattle.drawing_repairs.specs.MovedLines.{moved_points}
 use Rattle.drawing_repairs.specs.SecondSnaps.{StaysSnapped}
-use Rattle.drawing_repairs.specs.Snaps.{snap_of, snapped_lines}
 
 abbrev at : ℕ → ℕ → Point
 at x y = record { x = pos x; y = pos y }

@@ -1,14 +1,7 @@
 -- Worked values of snaps that are repeated, in tenths of a millimetre.
 use Rattle.std.proofs.Common.{◌≡◌, ℕ, pos, List, [], ◌∷◌, Some, None, Ok, refl}
-use Rattle.design_model.specs.declared.point.Point.{Point}
-use Rattle.line_sections.specs.declared.spot.Spot.{Spot}
-use Rattle.line_sections.specs.Lines.{LineValue}
-use Rattle.line_sections.specs.Sections.{lines_through}
-use Rattle.drawing_model.specs.Drawings.{DrawingValue}
-use Rattle.drawing_repairs.specs.AnchoredSpots.{anchored_spots}
-use Rattle.drawing_repairs.specs.Listings.{added_ends, due_end, segment_between}
-use Rattle.drawing_repairs.specs.MovedLines.{changed_in, moved_lines, moved_points}
-use Rattle.drawing_repairs.specs.Snaps.{snap_of, snapped_lines}
+use Rattle.drawing_repairs.proofs.Names.{Point, Spot, LineValue, lines_through, DrawingValue, anchored_spots, added_ends, due_end, segment_between, changed_in, moved_lines, snap_of, snapped_lines}
+use Rattle.drawing_repairs.specs.MovedLines.{moved_points}
 
 abbrev needle : ℕ → ℕ → Point
 needle x y = record { x = pos x; y = pos y }

@@ -1,20 +1,11 @@
 -- Snapped lines stay as they are when they are snapped again.
 use Rattle.std.proofs.Common.{◌≡◌, ℕ, zero, suc, ◌+◌, ◌≤◌, ◌==◌, Bool, true, false, not, ◌||◌, nat_lt, List, [], ◌∷◌, ◌++◌, length, get_or, map, filter, Option, Some, None, Ok, if◌then◌else◌, refl, ap, sym, subst, ◌∙◌, arith}
-use Rattle.std.proofs.lemmas.Bool.Decides.{Decides-eqb, nat_tests}
 use Rattle.std.proofs.lemmas.List.{length-append}
-use Rattle.std.proofs.lemmas.List.Folds.{list_all-append, list_any_at}
-use Rattle.std.specs.List.{All, flat_map, list_all, list_any}
-use Rattle.design_model.specs.declared.point.Point.{Point}
-use Rattle.design_model.specs.Points.{is_same_point}
-use Rattle.line_sections.specs.Lines.{LineValue}
-use Rattle.line_sections.specs.Sections.{listed_in}
+use Rattle.std.proofs.lemmas.List.Folds.{list_any_at}
+use Rattle.std.specs.List.{All}
+use Rattle.drawing_repairs.proofs.Names.{Decides-eqb, nat_tests, list_all-append, flat_map, list_all, list_any, Point, is_same_point, LineValue, listed_in, and_then, has_repeated_point, VanishedLine, anchored, anchors_of, FollowedLine, added_ends, block_ends, due_ends, followed_by, followed_points, listed_line, listed_lines, steps_to_follow, unfollowed_line, with_due_ends, block_anchors, changed_in, moved_line, moved_lines, vanished_from, snapped_lines, unless_vanished, point_itself, same_is, first_true, second_true}
 use Rattle.drawing_model.specs.Drawings.{HasNoRepeat}
-use Rattle.drawing_model.specs.GrowingDrawings.{and_then, has_repeated_point}
-use Rattle.drawing_repairs.specs.declared.snap_fault.VanishedLine.{VanishedLine}
-use Rattle.drawing_repairs.specs.Anchors.{anchored, anchors_of}
-use Rattle.drawing_repairs.specs.Listings.{FollowedLine, added_ends, block_ends, due_ends, followed_by, followed_points, listed_line, listed_lines, steps_to_follow, unfollowed_line, with_due_ends}
-use Rattle.drawing_repairs.specs.MovedLines.{block_anchors, changed_in, moved_line, moved_lines, moved_points, vanished_from}
-use Rattle.drawing_repairs.specs.Snaps.{snapped_lines, unless_vanished}
+use Rattle.drawing_repairs.specs.MovedLines.{moved_points}
 use Rattle.drawing_repairs.proofs.BlockPointLemmas.{all_pass, block_ends_pass, each_passes, listed_block_passes, moved_block_passes}
 use Rattle.drawing_repairs.proofs.ListedLinesLemmas.{all_listed_once, same_block_ends}
 use Rattle.drawing_repairs.proofs.ListedOnceLemmas.{joined_again, none_added}
@@ -22,9 +13,7 @@ use Rattle.drawing_repairs.proofs.MovedApartLemmas.{IsOnlyNear, all_moved, all_o
 use Rattle.drawing_repairs.proofs.MoveLemmas.{stays}
 use Rattle.drawing_repairs.proofs.RepeatLemmas.{none_listed, none_moved, unmoved_points}
 use Rattle.drawing_repairs.proofs.SpreadLemmas.{only_stays}
-use Rattle.design_model.proofs.CallerLemmas.{point_itself, same_is}
 use Rattle.drawing_model.proofs.CallerLemmas.{none_repeats}
-use Rattle.lists_and_numbers.proofs.CallerLemmas.{first_true, second_true}
 use Rattle.drawing_repairs.proofs.FollowLemmas.{after_steps}
 
 -- the test whether a point is one of some

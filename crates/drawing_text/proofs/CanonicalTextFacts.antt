@@ -1,10 +1,9 @@
 -- A worked value of the canonical text.
 use Rattle.std.proofs.Common.{◌≡◌, ℤ, pos, negsuc, [], ◌∷◌, ◌++◌, map, codes, refl}
 use Rattle.std.specs.Fmt.{digits}
-use Rattle.design_model.specs.declared.point.Point.{Point}
-use Rattle.drawing_model.specs.Drawings.{DrawingValue}
+use Rattle.drawing_text.proofs.Names.{Point, DrawingValue, header_text, canonical_text2}
 use Rattle.drawing_text.specs.declared.version.Version.TheVariants as version
-use Rattle.drawing_text.specs.CanonicalTexts.{header_text, canonical_text, canonical_text2}
+use Rattle.drawing_text.specs.CanonicalTexts.{canonical_text}
 
 abbrev pub place : ℤ → ℤ → Point
 place x y = record { x = x; y = y }

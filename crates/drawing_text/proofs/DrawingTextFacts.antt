@@ -1,14 +1,9 @@
 -- Worked values of drawing texts: drawings, and the first faults of texts.
 use Rattle.std.proofs.Common.{◌≡◌, ℕ, pos, negsuc, List, [], ◌∷◌, ◌++◌, Ok, Err, codes, refl}
-use Rattle.std.specs.List.{flat_map}
-use Rattle.line_sections.specs.Lines.{LineValue}
-use Rattle.line_sections.specs.Sections.{lines_through}
-use Rattle.drawing_model.specs.declared.draw_kind.DrawKind.{DrawKind}
+use Rattle.drawing_text.proofs.Names.{flat_map, LineValue, lines_through, DrawKind, DrawingValue, drawing_as2, drawing_of, text_lines, line_without_return, words_of_line}
 use Rattle.drawing_model.specs.declared.draw_kind.DrawKind.TheVariants as kind
-use Rattle.drawing_model.specs.Drawings.{DrawingValue}
 use Rattle.drawing_text.specs.declared.limits.TheConstants.{MAX_TEXT}
-use Rattle.drawing_text.specs.DrawingText.{drawing_as2, drawing_of, located_fault}
-use Rattle.drawing_text.specs.Words.{text_lines, line_without_return, words_of_line}
+use Rattle.drawing_text.specs.DrawingText.{located_fault}
 use Rattle.drawing_text.proofs.CanonicalTextFacts.{place}
 
 -- the longest text that is read, in bytes

@@ -1,3 +1,4 @@
+pub mod Names
 mod Shapes
 mod CanonicalTextFacts
 mod WordLemmas

@@ -1,27 +1,15 @@
 -- The starts and ends that a canonical text names: those of the drawing, in order, and the drawing with them.
 use Rattle.std.proofs.Common.{◌≡◌, ℕ, suc, ◌+◌, ◌<◌, ◌==◌, Bool, true, false, not, List, [], ◌∷◌, ◌++◌, Result, Ok, length, map, All, ap, sym, subst, ◌∙◌, refl, append_assoc, append-nil, arith}
-use Rattle.std.proofs.Math.Path.{ap₂}
-use Rattle.std.proofs.lemmas.Bool.{and_parts}
-use Rattle.std.proofs.lemmas.Bool.Decides.{nat_tests}
-use Rattle.std.proofs.lemmas.List.Elements.{All-cons, All-head, All-nil, All-tail}
 use Rattle.std.proofs.lemmas.List.Folds.{Any-from_list_any}
-use Rattle.std.specs.List.{AllPairs, list_any}
-use Rattle.design_model.specs.declared.point.Point.{Point}
+use Rattle.std.specs.List.{AllPairs}
+use Rattle.drawing_text.proofs.Names.{ap₂, and_parts, nat_tests, All-cons, All-head, All-nil, All-tail, list_any, Point, Spot, LineValue, DrawKind, DrawingValue, IsLine, and_then, AreInDifferentPieces, is_junction, walk_end_added, IsNeedlePoint, DrawFault, WalkEnd, at_line, drawing_with_ends, AreInBlockOrder}
 use Rattle.design_model.specs.Points.{is_same_point}
-use Rattle.line_sections.specs.declared.spot.Spot.{Spot}
-use Rattle.line_sections.specs.Lines.{LineValue}
-use Rattle.drawing_model.specs.declared.draw_kind.DrawKind.{DrawKind}
-use Rattle.drawing_model.specs.Drawings.{DrawingValue, IsLine, endpoints}
-use Rattle.drawing_model.specs.GrowingDrawings.{and_then}
-use Rattle.drawing_model.specs.WalkEnds.{AreInDifferentPieces, has_end_at_spot, is_junction, walk_end_added}
-use Rattle.step_splitter.specs.Chains.{IsNeedlePoint, last_point_or}
+use Rattle.drawing_model.specs.Drawings.{endpoints}
+use Rattle.drawing_model.specs.WalkEnds.{has_end_at_spot}
+use Rattle.step_splitter.specs.Chains.{last_point_or}
 use Rattle.drawing_text.proofs.PrintedBlocks.{Rises, all_below, items_below, items_in, more_below, none_first, rises_of}
 use Rattle.drawing_text.proofs.PrintedDrawings.{ended, found_from, found_in}
 use Rattle.drawing_text.proofs.PrintedEnds.{end_at, unnumbered}
-use Rattle.drawing_text.specs.declared.draw_fault.DrawFault.{DrawFault}
-use Rattle.drawing_text.specs.declared.walk_end.WalkEnd.{WalkEnd}
-use Rattle.drawing_text.specs.DrawingText.{at_line, drawing_with_ends}
-use Rattle.drawing_model.specs.EndOrders.{AreInBlockOrder}
 use Rattle.design_model.proofs.CallerLemmas.{same_is}
 use Rattle.drawing_model.proofs.CallerLemmas.{spot_comes}
 use Rattle.step_splitter.proofs.CallerLemmas.{last_in_range}
@@ -107,12 +95,6 @@ all_named kind threads starts ends ordered there =
     ∙ (named_from kind 0 threads starts ends (rises_of of_spot spots ordered)
     ∙ (ap (λ (n : ℕ). items_below of_spot n spots) (omega arith) ∙ all_below of_spot (length threads) spots there))
 
--- one more start or end, and then the others
-one_added : (number : ℕ) (is_start : Bool) (spot : Spot) (d next : DrawingValue) (rest : List WalkEnd)
-    (target : Result DrawingValue DrawFault) → walk_end_added is_start d spot ≡ Ok next → drawing_with_ends next rest ≡ target
-    → and_then (at_line number 0 (walk_end_added is_start d spot)) (λ (e : DrawingValue). drawing_with_ends e rest) ≡ target
-one_added number is_start spot d next rest target is on = grind (arith, nat_tests)
-
 -- the starts and ends so far and further ones are in different pieces
 record MayAdd (d : DrawingValue) (starts ends : List Spot) (named : List WalkEnd) : Type 0 where
   starts_may : AreInDifferentPieces d.lines (starts ++ named_in true named)
@@ -133,17 +115,13 @@ next_added d starts ends number true spot rest may on_start on_end =
     let Apart : List Spot → Type 0 = λ spots. AreInDifferentPieces d.lines spots in
     let added = ap (λ (r : Result (List Spot) DrawKind). and_then r (λ (s : List Spot). Ok (ended d s ends)))
     (spot_comes d.lines starts spot (named_in true rest) may.starts_may) in
-    one_added number true spot (ended d starts ends) (ended d (starts ++ spot ∷ []) ends) rest _ added
-    (on_start (record { starts_may = subst Apart (sym more) may.starts_may; ends_may = may.ends_may })
-    ∙ ap (λ (s : List Spot). Ok (ended d s (ends ++ named_in false rest))) more)
+    grind (arith, nat_tests, (ended d starts ends), (ended d (starts ++ spot ∷ []) ends))
 next_added d starts ends number false spot rest may on_start on_end =
     let more = append_assoc ends (spot ∷ []) (named_in false rest) in
     let Apart : List Spot → Type 0 = λ spots. AreInDifferentPieces d.lines spots in
     let added = ap (λ (r : Result (List Spot) DrawKind). and_then r (λ (s : List Spot). Ok (ended d starts s)))
     (spot_comes d.lines ends spot (named_in false rest) may.ends_may) in
-    one_added number false spot (ended d starts ends) (ended d starts (ends ++ spot ∷ [])) rest _ added
-    (on_end (record { starts_may = may.starts_may; ends_may = subst Apart (sym more) may.ends_may })
-    ∙ ap (λ (s : List Spot). Ok (ended d (starts ++ named_in true rest) s)) more)
+    grind (arith, nat_tests, (ended d starts ends), (ended d starts (ends ++ spot ∷ [])))
 
 all_added : (d : DrawingValue) (starts ends : List Spot) (named : List WalkEnd) → MayAdd d starts ends named → AddsAll d starts ends named
 all_added d starts ends [] may =

@@ -1,31 +1,18 @@
 -- A text names starts and ends in the order of their blocks: each belongs to the last block so far.
-use Rattle.std.proofs.lemmas.Bool.Decides.{nat_tests}
 use Rattle.std.proofs.Common.{◌≡◌, ℕ, ◌+◌, ◌-◌, ◌<◌, ◌≤◌, ◌==◌, ◌&&◌, ◌||◌, Bool, true, false, not, List, [], ◌∷◌, ◌++◌, Option, Some, None, Ok, IfOk, length, map, codes, bytes_eq, All, sym, subst, arith}
-use Rattle.std.proofs.lemmas.List.{length-append, map-append}
-use Rattle.std.proofs.lemmas.List.Elements.{All-get_or, All-head, All-map, All-nil, All-push, All-weaker}
+use Rattle.std.proofs.lemmas.List.{length-append}
+use Rattle.std.proofs.lemmas.List.Elements.{All-get_or, All-map}
 use Rattle.std.proofs.lemmas.List.Sorted.{IsNonDecreasingBy-push}
-use Rattle.std.specs.List.{list_any}
-use Rattle.std.specs.List.Sorted.{IsNonDecreasing}
-use Rattle.lists_and_numbers.specs.WholeNumbers.{parsed_whole}
-use Rattle.line_sections.specs.declared.spot.Spot.{Spot}
-use Rattle.line_sections.specs.Lines.{LineValue}
+use Rattle.drawing_text.proofs.Names.{nat_tests, map-append, All-head, All-nil, All-push, All-weaker, list_any, IsNonDecreasing, parsed_whole, Spot, LineValue, DrawingValue, all_in_needle_range, and_then, block_added, finished_drawing, is_drawing_label, is_last_empty, line_added, with_new_line, joined_drawing, HasNoEnds, are_connected_spots, is_junction, walk_end_added, after_both, unless, DrawingDraft, Version, WalkEnd, at_line, body_of_text, drawing_after_lines, drawing_in_version, drawing_of, drawing_of_draft, drawing_with_ends, joined_at, AreInBlockOrder, allows_ends, draft_after_words, empty_draft, is_before_blocks, parsed_count, parsed_point, parsed_points, with_color_line, with_name_line, with_points_line, with_step_line, with_walk_end_line, begins_comment, single_word}
 use Rattle.drawing_model.specs.declared.draw_kind.DrawKind.TheVariants as kind
-use Rattle.drawing_model.specs.Drawings.{DrawingValue}
-use Rattle.drawing_model.specs.GrowingDrawings.{all_in_needle_range, and_then, block_added, finished_drawing, is_drawing_label, is_last_empty, line_added, steps_with_line, with_new_line}
-use Rattle.drawing_model.specs.JoinedDrawings.{joined_drawing}
-use Rattle.drawing_model.specs.WalkEnds.{HasNoEnds, are_connected_spots, is_junction, spot_added, walk_end_added}
-use Rattle.drawing_model.proofs.CallerLemmas.{after_both, finished_none, joined_none, unless}
+use Rattle.drawing_model.specs.GrowingDrawings.{steps_with_line}
+use Rattle.drawing_model.specs.WalkEnds.{spot_added}
+use Rattle.drawing_model.proofs.CallerLemmas.{finished_none, joined_none}
 use Rattle.drawing_text.proofs.PrintedBlocks.{Rises, rises_of}
 use Rattle.drawing_text.proofs.ValidTextLemmas.{any_ok, either, located, value_of, weaker, where_true}
-use Rattle.drawing_text.specs.declared.draft.DrawingDraft.{DrawingDraft}
-use Rattle.drawing_text.specs.declared.version.Version.{Version}
 use Rattle.drawing_text.specs.declared.version.Version.TheVariants as version
-use Rattle.drawing_text.specs.declared.walk_end.WalkEnd.{WalkEnd}
-use Rattle.drawing_text.specs.DrawingText.{at_line, body_of_text, drawing_after_lines, drawing_in_version, drawing_of, drawing_of_draft, drawing_with_ends, joined_at}
-use Rattle.drawing_model.specs.EndOrders.{AreInBlockOrder, HasOrderedEnds}
+use Rattle.drawing_model.specs.EndOrders.{HasOrderedEnds}
 use Rattle.drawing_text.specs.TextLaws.{TextsOrderEnds}
-use Rattle.drawing_text.specs.TextLines.{allows_ends, draft_after_words, empty_draft, is_before_blocks, parsed_count, parsed_point, parsed_points, with_color_line, with_name_line, with_points_line, with_step_line, with_walk_end_line}
-use Rattle.drawing_text.specs.Words.{begins_comment, single_word}
 use Rattle.lists_and_numbers.proofs.CallerLemmas.{some_of}
 
 -- an item of no lesser number at the end of items in order
@@ -177,12 +164,8 @@ all_ordered d low (end ∷ rest) is reach rises =
     (end_added_to end.is_start d end.spot low (All-head (λ (e : WalkEnd). low ≤ of_end e) end rest reach) is))
     (λ next has. all_ordered next end.spot.block rest has rises.0 rises.1)
 
--- no spots are in order
-none_to : (spots : List Spot) → spots ≡ [] → IsOrderedTo 0 spots
-none_to spots none = grind (arith, nat_tests, All-nil (λ (s : Spot). s.block ≤ 0))
-
 none_ends : (d : DrawingValue) → HasNoEnds d → HasEndsTo 0 d
-none_ends d none = record { starts_to = none_to d.starts none.starts; ends_to = none_to d.ends none.ends }
+none_ends d none = record { starts_to = grind (arith, nat_tests, All-nil); ends_to = grind (arith, nat_tests, All-nil) }
 
 no_ends_ordered : (d : DrawingValue) → HasNoEnds d → HasOrderedEnds d
 no_ends_ordered d none = let is = none_ends d none in record { starts = is.starts_to.rising; ends = is.ends_to.rising }

@@ -1,15 +1,6 @@
 -- The points that words spell, taken one after another.
 use Rattle.std.proofs.Common.{◌≡◌, ◌≤◌, ℕ, ℤ, unsigned_abs, arith, List, [], ◌∷◌, ◌++◌, Result, Ok, Err, All, IfOk, ap, sym, subst, ◌∙◌, refl, append_assoc}
-use Rattle.design_model.specs.declared.point.Point.{Point}
-use Rattle.std.proofs.lemmas.Bool.Decides.{nat_tests}
-use Rattle.std.proofs.lemmas.List.Elements.{All-push}
-use Rattle.design_model.specs.declared.point.TheConstants.{NEEDLE_LIMIT}
-use Rattle.step_splitter.specs.Chains.{IsNeedlePoint}
-use Rattle.drawing_model.specs.declared.draw_kind.DrawKind.{DrawKind}
-use Rattle.drawing_model.specs.GrowingDrawings.{and_then}
-use Rattle.drawing_text.specs.CoordinateWords.{BeginsWithCoordinate}
-use Rattle.drawing_text.specs.TextLines.{parsed_points}
-use Rattle.drawing_text.specs.Words.{words_of_line}
+use Rattle.drawing_text.proofs.Names.{Point, nat_tests, All-push, NEEDLE_LIMIT, IsNeedlePoint, DrawKind, and_then, BeginsWithCoordinate, parsed_points, words_of_line}
 
 -- these points, and then those that come
 abbrev pub behind : List Point → Result (List Point) DrawKind → Result (List Point) DrawKind

@@ -1,25 +1,9 @@
 -- The text lines of starts and ends: each is read as one more start or end of the draft.
 use Rattle.std.proofs.Common.{◌≡◌, ℕ, ◌+◌, ◌-◌, ◌≤◌, ◌==◌, Bool, true, false, nat_le, unsigned_abs, List, [], ◌∷◌, ◌++◌, Result, Ok, length, map, codes, All, ap, sym, ◌∙◌, refl, append_assoc, append-nil, arith}
-use Rattle.std.proofs.lemmas.Bool.Decides.{nat_tests}
-use Rattle.std.proofs.lemmas.List.{map-append}
-use Rattle.std.proofs.lemmas.List.Concat.{flat_map-cons}
-use Rattle.std.proofs.lemmas.List.Elements.{All-cons, All-head, All-nil, All-tail}
-use Rattle.std.specs.List.{flat_map}
-use Rattle.line_sections.specs.declared.spot.Spot.{Spot}
-use Rattle.drawing_model.specs.Drawings.{DrawingValue}
-use Rattle.step_splitter.specs.Chains.{IsNeedlePoint}
+use Rattle.drawing_text.proofs.Names.{nat_tests, map-append, flat_map-cons, All-cons, All-head, All-nil, All-tail, flat_map, Spot, DrawingValue, IsNeedlePoint, DrawingDraft, DrawFault, Version, WalkEnd, points_text, allows_ends, draft_after_words, words_by_line, within_parts, signed_read}
 use Rattle.drawing_text.proofs.PrintedLines.{after_text, coordinates, coordinates_are, draft_of, line_judged, points_spelled}
 use Rattle.drawing_text.proofs.PrintedWords.{IsWord, tail_of}
-use Rattle.drawing_text.specs.declared.draft.DrawingDraft.{DrawingDraft}
-use Rattle.drawing_text.specs.declared.draw_fault.DrawFault.{DrawFault}
-use Rattle.drawing_text.specs.declared.version.Version.{Version}
-use Rattle.drawing_text.specs.declared.walk_end.WalkEnd.{WalkEnd}
-use Rattle.drawing_text.specs.CanonicalTexts.{points_text}
 use Rattle.drawing_text.specs.EndTexts.{end_line_text}
-use Rattle.drawing_text.specs.TextLines.{allows_ends, draft_after_words}
-use Rattle.drawing_text.specs.Words.{words_by_line}
-use Rattle.design_model.proofs.CallerLemmas.{within_parts}
-use Rattle.lists_and_numbers.proofs.CallerLemmas.{signed_read}
 
 -- the keyword of a start or an end
 abbrev pub end_word : Bool → List ℕ

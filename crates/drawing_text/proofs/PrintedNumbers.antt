@@ -1,25 +1,15 @@
 -- Numbers as words: what is printed is read again.
 use Rattle.std.proofs.Common.{◌≡◌, ℕ, ℤ, pos, negsuc, suc, ◌<◌, ◌^◌, true, unsigned_abs, List, [], ◌∷◌, length, refl, arith}
-use Rattle.std.proofs.lemmas.Bool.{and_from, and_parts}
-use Rattle.std.proofs.lemmas.Bool.Decides.{nat_tests}
 use Rattle.std.proofs.lemmas.Fmt.{decimal_nonempty, digits_decimal}
-use Rattle.std.specs.Char.{is_ascii_digit}
-use Rattle.std.specs.Fmt.{decimal, signed_decimal}
-use Rattle.std.specs.List.{list_all}
-use Rattle.std.specs.Str.{all_ascii_digits}
+use Rattle.drawing_text.proofs.Names.{and_from, and_parts, nat_tests, is_ascii_digit, decimal, signed_decimal, list_all, all_ascii_digits, is_filled}
 use Rattle.drawing_text.proofs.PrintedWords.{IsWord, is_printed_byte}
-use Rattle.drawing_text.specs.Words.{is_filled}
 use Rattle.lists_and_numbers.proofs.CallerLemmas.{decimal_model}
-
--- a digit ends no word
-digit_printed : (b : ℕ) → is_ascii_digit b ≡ true → is_printed_byte b ≡ true
-digit_printed b digit = grind (arith, nat_tests)
 
 digits_printed : (ds : List ℕ) → all_ascii_digits ds ≡ true → list_all is_printed_byte ds ≡ true
 digits_printed [] digits = refl
 digits_printed (b ∷ ds) digits =
     let both = and_parts (is_ascii_digit b) (all_ascii_digits ds) digits in
-    and_from (is_printed_byte b) (list_all is_printed_byte ds) (digit_printed b both.0) (digits_printed ds both.1)
+    and_from (is_printed_byte b) (list_all is_printed_byte ds) (grind (arith, nat_tests, both.0)) (digits_printed ds both.1)
 
 filled_some : (ds : List ℕ) → 0 < length ds → is_filled ds ≡ true
 filled_some [] some = absurd (omega arith)

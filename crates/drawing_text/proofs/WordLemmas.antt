@@ -1,9 +1,7 @@
 -- The first line of a text, and the first word of a line.
 use Rattle.std.proofs.Common.{◌≡◌, ◌≢◌, ℕ, suc, ◌+◌, ◌<◌, ◌≤◌, Bool, true, false, List, [], ◌∷◌, length, take, drop, filter, ap, sym, ◌∙◌, refl, arith, one-add, length-drop, eq-eqb, subst, get_or, ◌-◌, ◌==◌}
-use Rattle.std.proofs.lemmas.Bool.Decides.{nat_tests}
-use Rattle.std.proofs.lemmas.List.{nil_from_length}
-use Rattle.std.specs.List.{position_or_len, slice_split}
-use Rattle.drawing_text.specs.Words.{is_blank_byte, is_filled, is_line_feed, is_word_byte, text_lines, line_without_return, words_of_line}
+use Rattle.std.specs.List.{slice_split}
+use Rattle.drawing_text.proofs.Names.{nat_tests, nil_from_length, position_or_len, is_blank_byte, is_filled, is_line_feed, is_word_byte, text_lines, line_without_return, words_of_line}
 
 -- one place more takes and drops one byte more
 take_next : (n b : ℕ) (rest : List ℕ) → take (1 + n) (b ∷ rest) ≡ b ∷ take n rest
@@ -21,15 +19,12 @@ abbrev FirstLine : List ℕ → Type 0
 FirstLine text = let end = position_or_len is_line_feed text in
     text_lines text ≡ take end text ∷ text_lines (drop 1 (drop end text))
 
-longer_line : (b : ℕ) (rest : List ℕ) → is_line_feed b ≡ false → FirstLine rest → FirstLine (b ∷ rest)
-longer_line b rest test first = grind (arith, nat_tests, take_next, drop_next)
-
 -- by the test of its first byte
 line_by : (t : Bool) (b : ℕ) (rest : List ℕ) → is_line_feed b ≡ t → (rest ≢ [] → FirstLine rest)
     → FirstLine (b ∷ rest)
 line_by true b rest test first = rw test refl
 line_by false b [] test first = rw test refl
-line_by false b (c ∷ rest) test first = longer_line b (c ∷ rest) test (first (filled c rest))
+line_by false b (c ∷ rest) test first = grind (arith, nat_tests, take_next, drop_next)
 
 pub some_line : (text : List ℕ) → text ≢ [] → FirstLine text
 some_line [] some = absurd (some refl)
@@ -93,11 +88,6 @@ word_by false b rest test next = rw test (λ some. first_word b rest test)
 pub some_word : (line : List ℕ) → drop (start_of line) line ≢ [] → FirstWord (drop (start_of line) line)
 some_word [] some = absurd (some refl)
 some_word (b ∷ rest) some = word_by (is_blank_byte b) b rest refl (some_word rest) some
-
--- after the blanks there is nothing, or a word
-pub no_word : (line from : List ℕ) (start : ℕ) → start ≡ start_of line → from ≡ drop start line → length from ≡ 0
-    → words_of_line line ≡ []
-no_word line from start starts are none = grind (arith, nat_tests, nil_from_length, words_skipped line)
 
 -- a word at the beginning of a line, and what follows it
 pub record Taken (line word rest : List ℕ) : Type 0 where

@@ -1,10 +1,7 @@
 -- Each bit of a record alone, read and written: what it moves, by the table of the format.
 use Rattle.std.proofs.Common.{◌≡◌, ℕ, ℤ, pos, negsuc, List, [], ◌∷◌, map, arith, refl}
-use Rattle.design_model.specs.declared.point.Point.{Point}
+use Rattle.dst_codec.proofs.Names.{Point, dst_move_in, kind_of, IsCanonicalByte, IsCanonicalThird, dst_stitch_record}
 use Rattle.dst_codec.specs.declared.record_kind.RecordKind.TheVariants as kind
-use Rattle.dst_codec.specs.Bits.{dst_move_in, kind_of}
-use Rattle.dst_codec.specs.OneEncoding.{IsCanonicalByte, IsCanonicalThird}
-use Rattle.dst_codec.specs.MoveEncoding.{dst_stitch_record}
 
 -- a move along one axis
 abbrev across : ℤ → Point

@@ -1,20 +1,13 @@
 -- How far needles reach from the origin is how far their extent does.
-use Rattle.std.proofs.lemmas.Bool.Decides.{nat_tests}
 use Rattle.std.proofs.Common.{◌≡◌, ◌≤◌, max, ℤ, List, [], ◌∷◌, map, refl, ◌∙◌, arith, if◌then◌else◌}
-use Rattle.std.proofs.lemmas.Int.{ints}
 use Rattle.std.proofs.Math.Nat.{zero-max}
 use Rattle.std.specs.Prelude.{◌≤ℤ◌, fold}
 use Rattle.std.specs.List.{cons_option}
 use Rattle.std.specs.Int.{int_max, int_min}
-use Rattle.design_model.specs.declared.act.Act.{Act}
+use Rattle.dst_codec.proofs.Names.{nat_tests, ints, Act, NumberedAct, Point, Extents, size_above_zero, size_below_zero, extents_of, max_measure, needle_measure, extents_from_origin}
 use Rattle.design_model.specs.declared.act.Act.TheVariants as act
-use Rattle.design_model.specs.declared.act.NumberedAct.{NumberedAct}
-use Rattle.design_model.specs.declared.point.Point.{Point}
 use Rattle.design_model.specs.ActKinds.{act_point}
 use Rattle.design_model.specs.Extents.{extent_of_points, needle_points_of_acts}
-use Rattle.dst_codec.specs.declared.header.Extents.{Extents}
-use Rattle.dst_codec.specs.Header.{size_above_zero, size_below_zero, extents_of, max_measure, needle_measure}
-use Rattle.dst_codec.specs.Steps.{extents_from_origin}
 
 above_max : (a b : ℤ) → size_above_zero (int_max a b) ≡ max (size_above_zero a) (size_above_zero b)
 above_max a b = grind (arith, nat_tests, ints)

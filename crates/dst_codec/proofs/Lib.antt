@@ -1,3 +1,4 @@
+pub mod Names
 pub mod ExtentLemmas
 pub mod HeaderLemmas
 mod BitFacts

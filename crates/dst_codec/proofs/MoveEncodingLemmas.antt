@@ -1,14 +1,8 @@
 -- The record of a move has that move, and its kind is that of its flags.
-use Rattle.std.proofs.lemmas.Bool.Decides.{nat_tests}
 use Rattle.std.proofs.Common.{◌≡◌, ℕ, ◌+◌, ◌-◌, ◌*◌, ◌/◌, ◌%◌, ◌<◌, ◌≤◌, ℤ, pos, ◌-ℤ◌, unsigned_abs, IsTrue, arith}
-use Rattle.std.proofs.lemmas.Int.{ints}
-use Rattle.design_model.specs.declared.point.Point.{Point}
-use Rattle.design_model.specs.Points.{is_point_within}
-use Rattle.dst_codec.specs.declared.dst.TheConstants.{LIMIT}
+use Rattle.dst_codec.proofs.Names.{nat_tests, ints, Point, is_point_within, LIMIT, bit_of_byte, dst_move_of, kind_of, rightwards, leftwards, upwards, downwards, biased_number, plus_bit, minus_bit, x_signs, y_signs, within_parts}
 use Rattle.dst_codec.specs.declared.record_kind.RecordKind.TheVariants as kind
-use Rattle.dst_codec.specs.Bits.{bit_of_byte, dst_move_of, kind_of, rightwards, leftwards, upwards, downwards}
-use Rattle.dst_codec.specs.MoveEncoding.{biased_number, plus_bit, minus_bit, x_signs, y_signs}
-use Rattle.design_model.proofs.CallerLemmas.{point_of_parts, within_parts}
+use Rattle.design_model.proofs.CallerLemmas.{point_of_parts}
 
 -- the third byte of a record with flags
 abbrev pub third_of : ℕ → Point → ℕ

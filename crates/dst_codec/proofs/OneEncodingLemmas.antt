@@ -1,10 +1,6 @@
 -- A stitch record with no part both plus and minus is the record of its move.
-use Rattle.std.proofs.lemmas.Bool.Decides.{nat_tests}
 use Rattle.std.proofs.Common.{◌≡◌, ℕ, ◌+◌, ◌-◌, ◌*◌, ◌/◌, ◌%◌, ◌<◌, ◌≤◌, ℤ, pos, ◌-ℤ◌, [], ◌∷◌, refl, arith}
-use Rattle.std.proofs.lemmas.Int.{ints}
-use Rattle.dst_codec.specs.Bits.{bit_of_byte, dst_move_of, rightwards, leftwards, upwards, downwards}
-use Rattle.dst_codec.specs.OneEncoding.{IsCanonicalByte, IsCanonicalThird}
-use Rattle.dst_codec.specs.MoveEncoding.{plus_bit, minus_bit, dst_stitch_record}
+use Rattle.dst_codec.proofs.Names.{nat_tests, ints, bit_of_byte, dst_move_of, rightwards, leftwards, upwards, downwards, IsCanonicalByte, IsCanonicalThird, plus_bit, minus_bit, dst_stitch_record}
 
 -- a part that is plus, minus or neither, as a digit
 half : (t p q : ℕ) → p + q ≤ 1 → t + q ≡ 1 + p → (t / 2 ≡ p) × ((2 - t) / 2 ≡ q)

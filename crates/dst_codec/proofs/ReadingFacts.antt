@@ -1,12 +1,8 @@
 -- Worked values of reading.
 use Rattle.std.proofs.Common.{◌≡◌, ℕ, zero, suc, ℤ, pos, negsuc, true, false, List, [], ◌∷◌, ◌++◌, map, replicate, Ok, Err, Result, refl, codes}
-use Rattle.design_model.specs.declared.command.Command.{Command}
-use Rattle.design_model.specs.declared.command.Command.TheVariants.{Stitch, Jump, Trim, Stop}
-use Rattle.design_model.specs.declared.point.Point.{Point}
-use Rattle.format_traits.specs.declared.fault.ReadFault.{ReadFault}
+use Rattle.dst_codec.proofs.Names.{Command, Stitch, Jump, Trim, Stop, Point, ReadFault, Loaded, dst_reads, dst_label_of}
 use Rattle.format_traits.specs.declared.fault.ReadFault.TheVariants as fault
-use Rattle.format_traits.specs.declared.loaded.Loaded.{Loaded}
-use Rattle.dst_codec.specs.Reading.{dst_reads, dst_moves, dst_label_of}
+use Rattle.dst_codec.specs.Reading.{dst_moves}
 
 abbrev pub point : ℤ → ℤ → Point
 point x y = record { x = x; y = y }

@@ -1,12 +1,7 @@
 -- A file after its header, and what was loaded of it.
-use Rattle.std.proofs.lemmas.Bool.Decides.{nat_tests}
 use Rattle.std.proofs.Common.{◌≡◌, ℕ, ◌≤◌, List, [], ◌++◌, length, drop, refl, ap, ◌∙◌, subst, arith, length-append}
 use Rattle.std.proofs.Math.Seq.{drop-append_seam}
-use Rattle.std.proofs.lemmas.Bool.{le-ltb}
-use Rattle.record_formats.specs.Readings.{loaded_with}
-use Rattle.record_formats.specs.Records.{file_commands}
-use Rattle.dst_codec.specs.declared.header.TheConstants.{HEADER_LENGTH}
-use Rattle.dst_codec.specs.Reading.{dst_reads, dst_records_from, dst_records_in, dst_label_of}
+use Rattle.dst_codec.proofs.Names.{nat_tests, le-ltb, loaded_with, file_commands, HEADER_LENGTH, dst_reads, dst_records_from, dst_records_in, dst_label_of}
 
 -- a file that is not too short reads as its label and its records
 pub dst_reads-long : (bytes : List ℕ) → HEADER_LENGTH ≤ length bytes

@@ -1,23 +1,13 @@
 -- A record has three bytes, and an act at most as many records as its room.
-use Rattle.std.proofs.lemmas.Bool.Decides.{nat_tests}
 use Rattle.std.proofs.Common.{◌≡◌, ℕ, zero, suc, ◌+◌, ◌-◌, ◌*◌, ◌≤◌, max, Bool, true, false, List, [], ◌∷◌, ◌++◌, length, map, ◌==◌, refl, ap, ◌∙◌, arith, length-append, if◌then◌else◌, nat_le}
 use Rattle.std.proofs.lemmas.List.{length-map}
 use Rattle.std.proofs.lemmas.List.Folds.{concat-append}
-use Rattle.std.specs.List.{concat}
-use Rattle.design_model.specs.declared.act.Act.{Act}
+use Rattle.dst_codec.proofs.Names.{nat_tests, concat, Act, NumberedAct, Point, origin, move_between, EncoderState, encoder_state_after, LIMIT, dst_jump_record, dst_stitch_record, dst_write_limits, dst_encoding}
 use Rattle.design_model.specs.declared.act.Act.TheVariants as act
-use Rattle.design_model.specs.declared.act.NumberedAct.{NumberedAct}
-use Rattle.design_model.specs.declared.point.Point.{Point}
-use Rattle.design_model.specs.Points.{origin, move_between}
-use Rattle.format_traits.specs.declared.encoder_state.EncoderState.{EncoderState}
 use Rattle.format_traits.specs.MoveHops.{hops_of}
 use Rattle.record_formats.specs.MoveParts.{part_end, part_moves, part_moves_from}
-use Rattle.format_traits.specs.Refusals.{encoder_state_after}
 use Rattle.format_traits.specs.Rooms.{room_of_act, room_of_needle, room_from}
 use Rattle.record_formats.specs.RecordEncodings.{records_of_acts_from, records_of_act, needle_records, hop_records, stitched_hop_records}
-use Rattle.dst_codec.specs.declared.dst.TheConstants.{LIMIT}
-use Rattle.dst_codec.specs.MoveEncoding.{dst_jump_record, dst_stitch_record}
-use Rattle.dst_codec.specs.Writing.{dst_write_limits, dst_encoding}
 use Rattle.format_traits.proofs.CallerLemmas.{loose_room}
 
 -- all bytes of records, three for each
@@ -28,29 +18,14 @@ jumps : (m : Point) (n done count : ℕ) → AreTriples (map dst_jump_record (pa
 jumps m n done zero = refl
 jumps m n done (suc count) = omega (arith, jumps m n (done + 1) count)
 
-hops_triples : (count : ℕ) (m : Point) → AreTriples (hop_records dst_encoding count m)
-hops_triples count m =
-    grind (arith, nat_tests, concat-append, length-append, (map dst_jump_record (part_moves m count)), (jumps m count 0 count))
-
-stitched_triples : (count : ℕ) (m : Point) → AreTriples (stitched_hop_records dst_encoding count m)
-stitched_triples count m =
-    grind (
-      arith,
-      nat_tests,
-      concat-append,
-      length-append,
-      (map dst_jump_record (part_moves_from m count 0 (count - 1))),
-      (jumps m count 0 (count - 1)),
-    )
-
 -- the records of a float, whether its jumps are three or not
 float_triples : (three : Bool) (count : ℕ) (m : Point)
     → AreTriples (if three then stitched_hop_records dst_encoding count m else hop_records dst_encoding count m)
-float_triples true count m = stitched_triples count m
-float_triples false count m = hops_triples count m
+float_triples true count m = grind (arith, nat_tests, concat-append, length-append, map, jumps)
+float_triples false count m = grind (arith, nat_tests, concat-append, length-append, map, jumps)
 
 needle_triples : (loose float : Bool) (m : Point) → AreTriples (needle_records dst_encoding dst_write_limits loose float m)
-needle_triples true float m = hops_triples (hops_of LIMIT m) m
+needle_triples true float m = grind (arith, nat_tests, concat-append, length-append, map, jumps)
 needle_triples false true m = float_triples (max 1 (hops_of LIMIT m) == 3) (max 1 (hops_of LIMIT m)) m
 needle_triples false false m = refl
 

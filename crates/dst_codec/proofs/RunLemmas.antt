@@ -1,15 +1,10 @@
 -- The first record of the bytes that are left.
-use Rattle.std.proofs.lemmas.Bool.Decides.{nat_tests}
 use Rattle.std.proofs.Common.{◌≡◌, ℕ, ◌+◌, ◌≤◌, List, [], ◌∷◌, ◌++◌, length, get_or, drop, ap, sym, ◌∙◌, arith}
-use Rattle.design_model.specs.declared.point.Point.{Point}
+use Rattle.dst_codec.proofs.Names.{nat_tests, Point, Records, next, RecordKind, dst_move_of, kind_of, record_of_kind, run_after_kind, dst_records_from}
 use Rattle.record_formats.specs.declared.record_reader.NextRecord.{NextRecord}
 use Rattle.record_formats.specs.declared.record_reader.NextRecord.TheVariants as cut
 use Rattle.record_formats.specs.RecordDecoding.{DecodesRecord}
-use Rattle.record_formats.specs.Records.{Records, next}
-use Rattle.dst_codec.specs.declared.record_kind.RecordKind.{RecordKind}
-use Rattle.dst_codec.specs.Bits.{dst_move_of, kind_of}
 use Rattle.dst_codec.specs.KindDecoding.{DecodesRecordAs}
-use Rattle.dst_codec.specs.Reading.{record_of_kind, run_after_kind, dst_records_from}
 
 -- a record of that kind and that move, and the rest
 pub record_reads : (run at a b c : ℕ) (rest : List ℕ) (k : RecordKind) (m : Point) → kind_of c ≡ k → dst_move_of a b c ≡ m

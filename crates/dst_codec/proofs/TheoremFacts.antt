@@ -1,16 +1,8 @@
 -- What the theorems on DST exclude, and the records that have one encoding.
 use Rattle.std.proofs.Common.{◌≡◌, ℕ, ◌<◌, ◌≤◌, List, [], ◌∷◌, Result, Ok, Err, IfOk, IsOkAnd, refl, arith, subst}
-use Rattle.design_model.specs.Designs.{DesignValue, KeepsLimits}
-use Rattle.format_traits.specs.declared.fault.ReadFault.{ReadFault}
-use Rattle.format_traits.specs.declared.fault.WriteFault.{WriteFault}
+use Rattle.dst_codec.proofs.Names.{DesignValue, KeepsLimits, ReadFault, WriteFault, Loaded, dst_move_of, LabelRoundTrips, ReadMovesAreWritable, dst_stitch_record, IsCanonicalByte, IsCanonicalThird, dst_reads, dst_writes}
 use Rattle.format_traits.specs.declared.fault.WriteFault.TheVariants as write
-use Rattle.format_traits.specs.declared.loaded.Loaded.{Loaded}
-use Rattle.dst_codec.specs.Bits.{dst_move_of}
-use Rattle.dst_codec.specs.Laws.{LabelRoundTrips, ReadMovesAreWritable}
-use Rattle.dst_codec.specs.MoveEncoding.{dst_stitch_record}
-use Rattle.dst_codec.specs.OneEncoding.{IsCanonicalByte, IsCanonicalThird, MovesHaveOneEncoding}
-use Rattle.dst_codec.specs.Reading.{dst_reads}
-use Rattle.dst_codec.specs.Writing.{dst_writes}
+use Rattle.dst_codec.specs.OneEncoding.{MovesHaveOneEncoding}
 
 -- each part forwards, or each backwards, is canonical, and no part in both directions
 pub known_forwards : IsCanonicalByte 85

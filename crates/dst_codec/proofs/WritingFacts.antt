@@ -1,17 +1,10 @@
 -- Worked values of writing.
 use Rattle.std.proofs.Common.{◌≡◌, ℕ, ℤ, pos, negsuc, List, [], ◌∷◌, ◌++◌, length, drop, replicate, Some, Ok, Err, refl, codes}
 use Rattle.std.specs.Fmt.{digits}
-use Rattle.std.specs.List.{concat}
-use Rattle.design_model.specs.declared.command.Command.{Command}
-use Rattle.design_model.specs.declared.command.Command.TheVariants.{Stitch, Jump, Stop}
-use Rattle.design_model.specs.declared.point.Point.{Point}
-use Rattle.design_model.specs.Acts.{acts_along}
-use Rattle.design_model.specs.Designs.{DesignValue}
+use Rattle.dst_codec.proofs.Names.{concat, Command, Stitch, Jump, Stop, Point, acts_along, DesignValue, extents_of, extents_from_origin, dst_records_of, dst_writes}
 use Rattle.format_traits.specs.declared.fault.WriteFault.TheVariants as fault
-use Rattle.dst_codec.specs.Header.{extents_of, header_fields}
+use Rattle.dst_codec.specs.Header.{header_fields}
 use Rattle.dst_codec.specs.Samples.{square_design, square_commands}
-use Rattle.dst_codec.specs.Steps.{extents_from_origin}
-use Rattle.dst_codec.specs.Writing.{dst_records_of, dst_writes}
 
 abbrev pub point : ℤ → ℤ → Point
 point x y = record { x = x; y = y }

@@ -1,22 +1,9 @@
 -- What stands after the room of a header, and the numbers that the header has of it.
-use Rattle.std.proofs.lemmas.Bool.Decides.{nat_tests}
 use Rattle.std.proofs.Common.{◌≡◌, ℕ, ◌+◌, ◌-◌, ◌*◌, ◌/◌, ◌^◌, ◌<◌, List, [], ◌∷◌, length, None, refl, ◌∙◌, arith, length-append, lit<}
 use Rattle.std.proofs.lemmas.Nat.{div-mul-add}
-use Rattle.design_model.specs.declared.act.NumberedAct.{NumberedAct}
-use Rattle.design_model.specs.ActPositions.{needle_position_along}
-use Rattle.design_model.specs.Acts.{acts_of}
-use Rattle.design_model.specs.Designs.{DesignValue, KeepsLimits}
-use Rattle.format_traits.specs.declared.encoder_state.EncoderState.{EncoderState}
-use Rattle.format_traits.specs.Accepted.{AcceptedIsWithinLimits}
-use Rattle.format_traits.specs.Refusals.{initial_encoder_state, first_refusal, encoder_state_after}
+use Rattle.dst_codec.proofs.Names.{nat_tests, NumberedAct, needle_position_along, acts_of, DesignValue, KeepsLimits, EncoderState, AcceptedIsWithinLimits, initial_encoder_state, first_refusal, encoder_state_after, stops_along, MAX_STOPS, Extents, HEADER_LENGTH, FitsFields, extents_of, dst_body_of, header_numbers_of, dst_write_limits, dst_records_of}
 use Rattle.format_traits.specs.ActWriting.{encoder_state_after_acts}
-use Rattle.format_traits.proofs.CallerLemmas.{stops_along}
-use Rattle.dst_codec.specs.declared.dst.TheConstants.{MAX_STOPS}
-use Rattle.dst_codec.specs.declared.header.Extents.{Extents}
-use Rattle.dst_codec.specs.declared.header.TheConstants.{HEADER_LENGTH}
-use Rattle.dst_codec.specs.Header.{FitsFields, extents_of}
-use Rattle.dst_codec.specs.Steps.{IsWritten, dst_body_of, header_numbers_of}
-use Rattle.dst_codec.specs.Writing.{dst_write_limits, dst_records_of}
+use Rattle.dst_codec.specs.Steps.{IsWritten}
 use Rattle.dst_codec.proofs.HeaderLemmas.{numbers_fit}
 use Rattle.dst_codec.proofs.RecordCountLemmas.{records_small, records_triples}
 

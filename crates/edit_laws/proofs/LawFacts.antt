@@ -1,12 +1,7 @@
 -- What the theorems exclude.
 use Rattle.std.proofs.Common.{◌≡◌, ◌+◌, ℕ, ℤ, pos, negsuc, List, [], ◌∷◌, map, refl, arith}
-use Rattle.design_edits.specs.Moves.{shift_point, turn_point}
-use Rattle.design_model.specs.declared.point.Point.{Point}
+use Rattle.edit_laws.proofs.Names.{shift_point, turn_point, Point, DrawingValue, needle_points, cost_of_line, TurnKeepsCosts}
 use Rattle.drawing_edits.specs.MovedDrawings.{turned_drawing}
-use Rattle.drawing_model.specs.Drawings.{DrawingValue}
-use Rattle.drawing_model.specs.Needles.{needle_points}
-use Rattle.drawing_model.specs.LineNeedles.{cost_of_line}
-use Rattle.edit_laws.specs.CostLaws.{TurnKeepsCosts}
 
 -- the point with those numbers
 abbrev at : ℤ → ℤ → Point

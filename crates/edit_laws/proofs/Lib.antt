@@ -1,3 +1,4 @@
+pub mod Names
 pub mod MovedLines
 pub mod MovedWalks
 pub mod MovedPieces

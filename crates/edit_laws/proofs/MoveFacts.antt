@@ -1,12 +1,9 @@
 -- Worked values of moves that draw exactly the moved drawing.
 use Rattle.std.proofs.Common.{◌≡◌, ℤ, pos, negsuc, List, [], ◌∷◌, Ok, refl}
+use Rattle.edit_laws.proofs.Names.{Point, DrawingValue, Spot, LineValue}
 use Rattle.design_edits.specs.declared.motion.Motion.TheVariants as motion
-use Rattle.design_model.specs.declared.point.Point.{Point}
 use Rattle.drawing_edits.specs.declared.drawing_edit.DrawingEdit.TheVariants as edit
 use Rattle.drawing_edits.specs.EditedDrawings.{edited_drawing}
-use Rattle.drawing_model.specs.Drawings.{DrawingValue}
-use Rattle.line_sections.specs.declared.spot.Spot.{Spot}
-use Rattle.line_sections.specs.Lines.{LineValue}
 
 -- the point with those numbers
 abbrev at : ℤ → ℤ → Point

@@ -1,12 +1,10 @@
 -- A valid joined drawing that is moved is drawn as exactly the moved drawing.
 use Rattle.std.proofs.Common.{◌≡◌, ap}
+use Rattle.edit_laws.proofs.Names.{Point, is_same_point, moved_drawing}
 use Rattle.design_edits.specs.declared.motion.Motion.{Motion}
 use Rattle.design_edits.specs.declared.motion.Motion.TheVariants as motion
 use Rattle.design_edits.specs.Motions.{motion_map}
-use Rattle.design_model.specs.declared.point.Point.{Point}
-use Rattle.design_model.specs.Points.{is_same_point}
 use Rattle.drawing_edits.specs.EditFaults.{edit_answer}
-use Rattle.drawing_edits.specs.MovedDrawings.{moved_drawing}
 use Rattle.drawing_edits.specs.ValidRedraws.{ValidDrawingsAreRedrawn}
 use Rattle.edit_laws.specs.MoveLaws.{MovesAreExact}
 use Rattle.edit_laws.proofs.MovedJoints.{valid_moved}

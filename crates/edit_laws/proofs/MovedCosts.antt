@@ -1,17 +1,8 @@
 -- The costs of a moved drawing. The map of points keeps whether two points are equal, and the number of steps of a segment.
 use Rattle.std.proofs.Common.{◌≡◌, ◌∙◌, ℕ, suc, ◌+◌, ◌-◌, Bool, true, false, cond, List, [], ◌∷◌, ◌++◌, length, map, drop, reverse, refl, ap, sym}
-use Rattle.std.proofs.lemmas.List.{length-append, length-drop, length-map, length-reverse}
+use Rattle.std.proofs.lemmas.List.{length-append, length-drop, length-reverse}
 use Rattle.std.proofs.lemmas.List.FromFn.{length-range_with_len}
-use Rattle.std.specs.List.{flat_map, range_with_len}
-use Rattle.design_model.specs.declared.point.Point.{Point}
-use Rattle.design_model.specs.Points.{is_same_point}
-use Rattle.drawing_edits.specs.MovedDrawings.{moved_drawing}
-use Rattle.line_graph.specs.declared.pass.Pass.{Pass}
-use Rattle.drawing_model.specs.Drawings.{DrawingValue, points_of}
-use Rattle.drawing_model.specs.Needles.{needle_points, segment_points}
-use Rattle.line_graph.specs.Walks.{needles_of_pass, needles_of_walk}
-use Rattle.drawing_model.specs.LineNeedles.{cost_of_line, needles_of_line}
-use Rattle.step_splitter.specs.Steps.{point_on_segment, split_points, steps_of}
+use Rattle.edit_laws.proofs.Names.{length-map, flat_map, range_with_len, Point, is_same_point, moved_drawing, Pass, DrawingValue, points_of, needle_points, segment_points, needles_of_pass, needles_of_walk, cost_of_line, needles_of_line, point_on_segment, split_points, steps_of}
 use Rattle.edit_laws.specs.CostLaws.{KeepsCosts}
 use Rattle.edit_laws.proofs.MovedLines.{points_moved}
 use Rattle.edit_laws.proofs.MovedPieces.{pieces_moved}

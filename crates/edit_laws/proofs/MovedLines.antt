@@ -1,20 +1,11 @@
 -- Lines, needle points and junctions of a moved drawing. The map of points keeps whether two points are equal, and maps the
 -- needle points of a line to those of the mapped line.
 use Rattle.std.proofs.Common.{◌≡◌, ◌∙◌, ℕ, ◌+◌, ◌-◌, ◌||◌, Bool, true, false, cond, List, [], ◌∷◌, ◌++◌, Option, Some, None, length, map, drop, reverse, refl, ap, sym}
-use Rattle.std.proofs.lemmas.List.{drop-map, length-map, map-append, reverse-append}
-use Rattle.std.proofs.lemmas.Option.{slice_get-map}
-use Rattle.std.specs.Prelude.{option_map, slice_get}
-use Rattle.std.specs.List.{flat_map, list_any, position_or_len}
-use Rattle.design_model.specs.declared.point.Point.{Point}
-use Rattle.design_model.specs.Points.{is_same_point}
-use Rattle.drawing_edits.specs.MovedDrawings.{moved_drawing, with_moved_line}
-use Rattle.line_graph.specs.declared.pass.Pass.{Pass}
-use Rattle.drawing_model.specs.Drawings.{DrawingValue, block_of, first_point, last_point, optional_line_block, optional_line_points, points_of, endpoints}
-use Rattle.drawing_model.specs.Needles.{needle_points}
-use Rattle.line_graph.specs.PieceGraphs.{junction_number, junctions_of, with_point, with_points}
-use Rattle.line_graph.specs.Walks.{needles_of_pass, needles_of_walk}
-use Rattle.drawing_model.specs.LineNeedles.{cost_of_line, needles_of_line}
-use Rattle.line_sections.specs.Lines.{LineValue}
+use Rattle.std.proofs.lemmas.List.{drop-map, reverse-append}
+use Rattle.std.specs.List.{position_or_len}
+use Rattle.edit_laws.proofs.Names.{length-map, map-append, slice_get-map, option_map, slice_get, flat_map, list_any, Point, is_same_point, moved_drawing, with_moved_line, Pass, DrawingValue, block_of, first_point, last_point, points_of, endpoints, needle_points, junction_number, junctions_of, needles_of_pass, needles_of_walk, cost_of_line, needles_of_line, LineValue}
+use Rattle.drawing_model.specs.Drawings.{optional_line_block, optional_line_points}
+use Rattle.line_graph.specs.PieceGraphs.{with_point, with_points}
 use Rattle.step_splitter.specs.Chains.{last_point_or}
 
 -- functions with the same values are the same

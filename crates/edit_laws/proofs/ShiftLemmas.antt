@@ -1,31 +1,17 @@
 -- A shift keeps which points are equal, moves the needle points of a line, and is undone by the opposite shift.
 use Rattle.std.proofs.Common.{◌≡◌, ◌∙◌, ℕ, ℤ, pos, ◌+ℤ◌, ◌-ℤ◌, ◌*ℤ◌, neg_ℤ, Bool, true, false, ◌&&◌, List, [], ◌∷◌, map, refl, ap, sym, subst, arith}
-use Rattle.std.proofs.lemmas.Bool.Decides.{Decides-int_eq}
-use Rattle.std.proofs.lemmas.Int.{ints}
-use Rattle.std.proofs.lemmas.List.{map-append}
-use Rattle.std.specs.Int.{div_ceil}
-use Rattle.std.specs.List.{range_with_len}
-use Rattle.std.specs.Ordering.{int_eq}
-use Rattle.design_edits.specs.Moves.{shift_point, shifted}
-use Rattle.design_model.specs.declared.point.Point.{Point}
-use Rattle.design_model.specs.Points.{is_same_point, move_between, move_size}
-use Rattle.drawing_edits.specs.MovedDrawings.{shifted_drawing, with_moved_line, with_moved_spot}
-use Rattle.line_graph.specs.declared.pass.Pass.{Pass}
-use Rattle.drawing_model.specs.Drawings.{DrawingValue}
-use Rattle.line_graph.specs.DrawnWalks.{IsThreadOver}
-use Rattle.drawing_model.specs.Needles.{segment_points}
-use Rattle.line_graph.specs.Runs.{run_of, sewn_acts_after}
-use Rattle.line_sections.specs.declared.spot.Spot.{Spot}
-use Rattle.line_sections.specs.Lines.{LineValue}
+use Rattle.edit_laws.proofs.Names.{Decides-int_eq, nat_tests, ints, map-append, div_ceil, range_with_len, int_eq, shift_point, Point, is_same_point, move_between, move_size, with_moved_line, with_moved_spot, Pass, DrawingValue, IsThreadOver, segment_points, run_of, sewn_acts_after, Spot, LineValue, point_on_segment, split_points, steps_of, same_test}
+use Rattle.design_edits.specs.Moves.{shifted}
+use Rattle.drawing_edits.specs.MovedDrawings.{shifted_drawing}
 use Rattle.odd_cuts.specs.Certificates.{walks_of}
 use Rattle.route_verdict.specs.VerdictTheorems.{YesIsLeastRedwork}
-use Rattle.step_splitter.specs.Steps.{coordinate_on_segment, floor_quotient, point_on_segment, split_points, steps_of}
+use Rattle.step_splitter.specs.Steps.{coordinate_on_segment, floor_quotient}
 use Rattle.edit_laws.specs.ShiftLaws.{ShiftKeepsLeastRedwork, ShiftKeepsYes, ShiftMovesNeedles}
 use Rattle.edit_laws.proofs.MovedActs.{acts_moved, runs_moved, sewn_moved, with_mapped_act}
 use Rattle.edit_laws.proofs.MovedLines.{joined_same}
 use Rattle.edit_laws.proofs.MovedPieces.{pieces_moved}
 use Rattle.edit_laws.proofs.MovedWalks.{thread_moved, threads_moved}
-use Rattle.lists_and_numbers.proofs.CallerLemmas.{back-there, same_test}
+use Rattle.lists_and_numbers.proofs.CallerLemmas.{back-there}
 
 -- the point with those numbers
 abbrev at : ℤ → ℤ → Point
@@ -34,19 +20,12 @@ at x y = record { x = x; y = y }
 same_at : (x y x' y' : ℤ) → x ≡ x' → y ≡ y' → at x y ≡ at x' y'
 same_at x y x' y' p q = ap (λ (z : ℤ). at z y) p ∙ ap (λ (z : ℤ). at x' z) q
 
--- differences stay
-difference_kept : (a b d : ℤ) → (b +ℤ d) -ℤ (a +ℤ d) ≡ b -ℤ a
-difference_kept a b d = omega (arith, ints)
-
 sum_turned : (a d q : ℤ) → (a +ℤ d) +ℤ q ≡ (a +ℤ q) +ℤ d
 sum_turned a d q = omega (arith, ints)
 
-cancelled : (a b d : ℤ) → a +ℤ d ≡ b +ℤ d → a ≡ b
-cancelled a b d is = omega (arith, ints, is)
-
 equal_kept : (a b d : ℤ) → int_eq (a +ℤ d) (b +ℤ d) ≡ int_eq a b
 equal_kept a b d = same_test (int_eq (a +ℤ d) (b +ℤ d)) (int_eq a b)
-    (λ is. (Decides-int_eq a b).1 (cancelled a b d ((Decides-int_eq (a +ℤ d) (b +ℤ d)).0 is)))
+    (λ is. (Decides-int_eq a b).1 (grind (arith, nat_tests)))
     (λ is. (Decides-int_eq (a +ℤ d) (b +ℤ d)).1 (ap (λ (z : ℤ). z +ℤ d) ((Decides-int_eq a b).0 is)))
 
 pub same_kept : (dx dy : ℤ) (p q : Point) → is_same_point (shift_point dx dy p) (shift_point dx dy q) ≡ is_same_point p q
@@ -55,10 +34,10 @@ same_kept dx dy p q = ap (λ (t : Bool). t && int_eq (p.y +ℤ dy) (q.y +ℤ dy)
 
 -- steps and their ends
 move_kept : (dx dy : ℤ) (p q : Point) → move_between (shift_point dx dy p) (shift_point dx dy q) ≡ move_between p q
-move_kept dx dy p q = same_at _ _ _ _ (difference_kept p.x q.x dx) (difference_kept p.y q.y dy)
+move_kept dx dy p q = same_at _ _ _ _ (grind (arith, nat_tests)) (grind (arith, nat_tests))
 
 coordinate_moved : (a b d : ℤ) (n i : ℕ) → coordinate_on_segment (a +ℤ d) (b +ℤ d) n i ≡ coordinate_on_segment a b n i +ℤ d
-coordinate_moved a b d n i = ap (λ (z : ℤ). (a +ℤ d) +ℤ floor_quotient (pos i *ℤ z) n) (difference_kept a b d)
+coordinate_moved a b d n i = ap (λ (z : ℤ). (a +ℤ d) +ℤ floor_quotient (pos i *ℤ z) n) (grind (arith, nat_tests))
     ∙ sum_turned a d (floor_quotient (pos i *ℤ (b -ℤ a)) n)
 
 ends_moved : (dx dy : ℤ) (p q : Point) (n : ℕ) (is : List ℕ)

@@ -1,24 +1,15 @@
 -- Turns and mirrorings keep which points are equal, and the number of steps of a segment.
 use Rattle.std.proofs.Common.{◌≡◌, ◌∙◌, ℕ, zero, suc, max, ℤ, ◌-ℤ◌, neg_ℤ, unsigned_abs, Bool, true, false, ◌&&◌, refl, ap, arith}
-use Rattle.std.proofs.lemmas.Bool.Decides.{Decides-int_eq}
-use Rattle.std.proofs.lemmas.Int.{ints}
-use Rattle.std.specs.Int.{div_ceil}
-use Rattle.std.specs.Ordering.{int_eq}
+use Rattle.edit_laws.proofs.Names.{Decides-int_eq, nat_tests, ints, div_ceil, int_eq, turn_point, Point, is_same_point, move_between, move_size, TurnKeepsCosts, same_test}
 use Rattle.design_edits.specs.declared.axis.Axis.{Axis}
 use Rattle.design_edits.specs.declared.axis.Axis.TheVariants as axis
-use Rattle.design_edits.specs.Moves.{mirror_point, quarter_point, turn_point}
-use Rattle.design_model.specs.declared.point.Point.{Point}
-use Rattle.design_model.specs.Points.{is_same_point, move_between, move_size}
-use Rattle.edit_laws.specs.CostLaws.{MirrorKeepsCosts, TurnKeepsCosts}
+use Rattle.design_edits.specs.Moves.{mirror_point, quarter_point}
+use Rattle.edit_laws.specs.CostLaws.{MirrorKeepsCosts}
 use Rattle.edit_laws.proofs.MovedCosts.{costs_kept}
-use Rattle.lists_and_numbers.proofs.CallerLemmas.{same_test}
-
-negated_is : (a b : ℤ) → neg_ℤ a ≡ neg_ℤ b → a ≡ b
-negated_is a b is = omega (arith, ints, is)
 
 equal_negated : (a b : ℤ) → int_eq (neg_ℤ a) (neg_ℤ b) ≡ int_eq a b
 equal_negated a b = same_test (int_eq (neg_ℤ a) (neg_ℤ b)) (int_eq a b)
-    (λ is. (Decides-int_eq a b).1 (negated_is a b ((Decides-int_eq (neg_ℤ a) (neg_ℤ b)).0 is)))
+    (λ is. (Decides-int_eq a b).1 (grind (arith, nat_tests)))
     (λ is. (Decides-int_eq (neg_ℤ a) (neg_ℤ b)).1 (ap neg_ℤ ((Decides-int_eq a b).0 is)))
 
 and_turned : (a b : Bool) → (a && b) ≡ (b && a)
@@ -26,10 +17,6 @@ and_turned true true = refl
 and_turned true false = refl
 and_turned false true = refl
 and_turned false false = refl
-
--- the size of a difference
-size_negated : (a b : ℤ) → unsigned_abs (neg_ℤ b -ℤ neg_ℤ a) ≡ unsigned_abs (b -ℤ a)
-size_negated a b = omega (arith, ints)
 
 max_turned : (m n : ℕ) → max m n ≡ max n m
 max_turned m n = omega arith
@@ -39,7 +26,7 @@ quarter_same : (p q : Point) → is_same_point (quarter_point p) (quarter_point 
 quarter_same p q = ap (λ (t : Bool). t && int_eq p.x q.x) (equal_negated p.y q.y) ∙ and_turned (int_eq p.y q.y) (int_eq p.x q.x)
 
 quarter_size : (p q : Point) → move_size (move_between (quarter_point p) (quarter_point q)) ≡ move_size (move_between p q)
-quarter_size p q = ap (λ (n : ℕ). max n (unsigned_abs (q.x -ℤ p.x))) (size_negated p.y q.y)
+quarter_size p q = ap (λ (n : ℕ). max n (unsigned_abs (q.x -ℤ p.x))) (grind (arith, nat_tests))
     ∙ max_turned (unsigned_abs (q.y -ℤ p.y)) (unsigned_abs (q.x -ℤ p.x))
 
 pub turn_same : (quarters : ℕ) (p q : Point) → is_same_point (turn_point quarters p) (turn_point quarters q) ≡ is_same_point p q
@@ -61,8 +48,8 @@ mirror_same axis.X p q = ap (λ (t : Bool). t && int_eq p.y q.y) (equal_negated 
 mirror_same axis.Y p q = ap (λ (t : Bool). int_eq p.x q.x && t) (equal_negated p.y q.y)
 
 mirror_size : (a : Axis) (p q : Point) → move_size (move_between (mirror_point a p) (mirror_point a q)) ≡ move_size (move_between p q)
-mirror_size axis.X p q = ap (λ (n : ℕ). max n (unsigned_abs (q.y -ℤ p.y))) (size_negated p.x q.x)
-mirror_size axis.Y p q = ap (λ (n : ℕ). max (unsigned_abs (q.x -ℤ p.x)) n) (size_negated p.y q.y)
+mirror_size axis.X p q = ap (λ (n : ℕ). max n (unsigned_abs (q.y -ℤ p.y))) (grind (arith, nat_tests))
+mirror_size axis.Y p q = ap (λ (n : ℕ). max (unsigned_abs (q.x -ℤ p.x)) n) (grind (arith, nat_tests))
 
 pub mirror_costs : MirrorKeepsCosts
 mirror_costs a d = costs_kept (mirror_point a) (mirror_same a)

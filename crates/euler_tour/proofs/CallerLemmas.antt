@@ -1,17 +1,10 @@
 -- Lemmas that this crate and those above cite.
 use Rattle.std.proofs.Common.{Bool, List, None, Option, Some, [], ap, arith, false, get_or, get_or-set_other, get_or-set_same, inl, inr, length, length-set, nat_lt, refl, set, slice_get, subst, suc, sum_by, sym, true, zero, ℕ, ◌&&◌, ◌*◌, ◌+◌, ◌/◌, ◌<◌, ◌==◌, ◌∙◌, ◌∷◌, ◌≡◌, ◌≤◌, ◌⊎◌}
-use Rattle.std.proofs.lemmas.Bool.{and_parts, cases_eq}
-use Rattle.std.proofs.lemmas.Bool.Decides.{nat_tests}
-use Rattle.std.proofs.lemmas.Grind.{get_or_default_zero}
 use Rattle.std.proofs.lemmas.List.Sums.{sum_by-set}
-use Rattle.std.proofs.lemmas.Option.{slice_get_within}
+use Rattle.euler_tour.proofs.Names.{and_parts, cases_eq, nat_tests, get_or_default_zero, slice_get_within, AreBefore, AreLast, IsLast, junction_at, pass_start, pass_start_on, ends_below, Edge, same_number, some_same}
 use Rattle.euler_tour.specs.Cursors.{AreCursors, IsCursor}
-use Rattle.euler_tour.specs.LineEnds.{AreBefore, AreLast, IsLast, junction_at}
 use Rattle.line_graph.proofs.CallerLemmas.{is_even, not_even}
-use Rattle.line_graph.specs.PieceWalks.{pass_start, pass_start_on}
-use Rattle.line_graph.specs.ValidPieces.{ends_below}
-use Rattle.line_graph.specs.declared.edge.Edge.{Edge}
-use Rattle.lists_and_numbers.proofs.CallerLemmas.{half, half_more, same_number, some_same}
+use Rattle.lists_and_numbers.proofs.CallerLemmas.{half, half_more}
 
 -- the two ends of the line at an index
 pub end_a : (edges : List Edge) (k : ℕ) (e : Edge) → slice_get edges k ≡ Some e → junction_at edges (2 * k) ≡ Some e.a
@@ -25,10 +18,6 @@ pub started : (found : Option Edge) (back : Bool) (j : ℕ) → pass_start_on fo
     → (e : Edge) × (found ≡ Some e) × (pass_start e back ≡ j)
 started None back j is = absurd (cc)
 started (Some e) back j is = (e, refl, some_same (pass_start e back) j is)
-
--- an end that is somewhere is that of a line
-pub end_within : (edges : List Edge) (end j : ℕ) → junction_at edges end ≡ Some j → end < 2 * length edges
-end_within edges end j is = grind (arith, nat_tests, started, slice_get_within)
 
 -- the ends of each edge are junctions
 pub ends_are_below : (n : ℕ) (edges : List Edge) (k : ℕ) (e : Edge) → ends_below n edges ≡ true → slice_get edges k ≡ Some e
@@ -44,7 +33,7 @@ cursor_first : (edges : List Edge) (IsDone : ℕ → Type 0) (j number : ℕ) �
 cursor_first edges IsDone j number last = record {
   within = last.within;
   there = last.there;
-  over = λ end low there. absurd (last.none end low (end_within edges end j there) there);
+  over = λ end low there. absurd (last.none end low (grind (arith, nat_tests, started, slice_get_within)) there);
 }
 
 -- so is the one before an end whose line is done
@@ -112,7 +101,7 @@ module _ (edges : List Edge) (count : ℕ) (IsDone : ℕ → Type 0) (last befor
       → IsLast edges at end (get_or before end 0)
   end_before end here ready =
       let there : junction_at edges end ≡ Some at = (cursor_at end here ready).there end refl in
-      ready.linked end at (subst (λ (n : ℕ). end < n) (sym ready.before_beside) (end_within edges end at there)) there
+      ready.linked end at (subst (λ (n : ℕ). end < n) (sym ready.before_beside) (grind (arith, nat_tests, started, slice_get_within))) there
 
   -- where there is no end, each line with an end at the junction is done
   pub all_done : AreCursors edges count IsDone last before at → get_or last at 0 ≡ 0 → (k : ℕ) (e : Edge) → slice_get edges k ≡ Some e

@@ -1,11 +1,6 @@
 -- The tables of a partial tour.
 use Rattle.std.proofs.Common.{◌≡◌, ◌<◌, ◌⊎◌, inl, inr, ℕ, ◌+◌, ◌*◌, ◌/◌, ◌==◌, Bool, true, false, nat_lt, List, [], ◌∷◌, ◌++◌, length, get_or, set, slice_get, Some, arith, refl, ◌∙◌}
-use Rattle.std.proofs.lemmas.Bool.{and_from, and_parts}
-use Rattle.std.proofs.lemmas.Bool.Decides.{nat_tests}
-use Rattle.line_graph.specs.declared.edge.Edge.{Edge}
-use Rattle.line_graph.specs.ValidPieces.{all_below}
-use Rattle.euler_tour.specs.RemainingLines.{edge_ends_at, remaining_ends, decremented_at}
-use Rattle.euler_tour.specs.LineEnds.{AreBefore, AreLast}
+use Rattle.euler_tour.proofs.Names.{and_from, and_parts, nat_tests, Edge, all_below, edge_ends_at, remaining_ends, decremented_at, AreBefore, AreLast}
 use Rattle.euler_tour.specs.PartialTours.{AreTourTables}
 use Rattle.euler_tour.proofs.LeftLemmas.{ends_none, less_length, less_none}
 use Rattle.euler_tour.proofs.CallerLemmas.{all_done, cursors_begin, cursors_skip, cursors_stay}

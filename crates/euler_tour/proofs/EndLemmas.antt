@@ -1,15 +1,8 @@
 -- The ends of lines: their linked lists and cursors.
 use Rattle.std.proofs.Common.{◌≡◌, ◌<◌, ◌⊎◌, inl, inr, ℕ, ◌+◌, ◌*◌, ◌/◌, true, not, List, [], ◌∷◌, ◌++◌, length, get_or, set, slice_get, Some, arith, sym, ◌∙◌, ap, subst, length-set, length-append, get_or-set_same, get_or-set_other}
-use Rattle.std.proofs.lemmas.Bool.{cases_eq}
-use Rattle.std.proofs.lemmas.Bool.Decides.{nat_tests}
 use Rattle.std.proofs.lemmas.List.{get_or_append_left, get_or_push}
-use Rattle.line_graph.specs.declared.edge.Edge.{Edge}
-use Rattle.line_graph.specs.PieceGraphs.{is_odd}
-use Rattle.line_graph.specs.ValidPieces.{ends_below}
-use Rattle.line_graph.specs.PieceWalks.{pass_start_on}
-use Rattle.euler_tour.specs.LineEnds.{AreBefore, AreLast, IsLast, junction_at}
+use Rattle.euler_tour.proofs.Names.{cases_eq, nat_tests, Edge, is_odd, ends_below, pass_start_on, AreBefore, AreLast, IsLast, junction_at, some_same}
 use Rattle.euler_tour.proofs.CallerLemmas.{end_a, end_b, ends_are_below, started}
-use Rattle.lists_and_numbers.proofs.CallerLemmas.{some_same}
 
 -- ---- chains
 
@@ -100,12 +93,3 @@ chain_step edges k e last last1 last2 before before1 before2 is has_a has_b size
 
 pub none_before : (edges : List Edge) → AreBefore edges []
 none_before edges end j below there = absurd (omega (arith, below))
-
--- so is where an end is, and where the other end of its line is
-pub junction_below : (n : ℕ) (edges : List Edge) (end j : ℕ) → ends_below n edges ≡ true
-    → pass_start_on (slice_get edges (end / 2)) (is_odd end) ≡ Some j → j < n
-junction_below n edges end j all is = grind (arith, nat_tests, started, ends_are_below)
-
-pub across_below : (n : ℕ) (edges : List Edge) (end j : ℕ) → ends_below n edges ≡ true
-    → pass_start_on (slice_get edges (end / 2)) (not (is_odd end)) ≡ Some j → j < n
-across_below n edges end j all is = grind (arith, nat_tests, started, ends_are_below)

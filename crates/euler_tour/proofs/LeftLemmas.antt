@@ -1,14 +1,8 @@
 -- Lines that remain.
 use Rattle.std.proofs.Common.{◌≡◌, ◌≤◌, ◌<◌, ◌⊎◌, inl, inr, ℕ, zero, suc, ◌+◌, ◌-◌, ◌*◌, ◌^◌, ◌==◌, true, nat_lt, List, [], ◌∷◌, length, get_or, slice_get, slice_set, Some, arith, refl, sym, ◌∙◌, ap, subst}
-use Rattle.std.proofs.lemmas.Bool.Decides.{nat_tests}
-use Rattle.std.proofs.lemmas.Bool.{and_from}
 use Rattle.std.proofs.lemmas.List.Sums.{sum_by-cons}
-use Rattle.line_graph.specs.declared.edge.Edge.{Edge}
-use Rattle.line_graph.specs.PieceGraphs.{one_if}
-use Rattle.line_graph.specs.ValidPieces.{all_below}
-use Rattle.line_graph.specs.PieceWalks.{edge_cost, edge_sum, is_strictly_increasing}
-use Rattle.euler_tour.specs.RemainingLines.{edge_ends_at, remaining_ends, remaining_sum, decremented_at, one_of, pass_counts}
-use Rattle.euler_tour.specs.Tours.{copies_cost, pass_count, pass_ends}
+use Rattle.euler_tour.proofs.Names.{nat_tests, and_from, Edge, one_if, all_below, edge_cost, is_strictly_increasing, edge_ends_at, remaining_ends, remaining_sum, decremented_at, one_of, pass_counts, copies_cost, pass_count, pass_ends}
+use Rattle.line_graph.specs.PieceWalks.{edge_sum}
 use Rattle.line_graph.proofs.CallerLemmas.{first_less, rest_rises}
 use Rattle.lists_and_numbers.proofs.CallerLemmas.{differs, differs_back}
 

@@ -1,23 +1,15 @@
 -- Each step of a partial tour leads to a partial tour.
-use Rattle.std.proofs.Common.{◌≡◌, ◌≤◌, ℕ, ◌+◌, ◌*◌, ◌/◌, List, [], ◌∷◌, ◌++◌, length, get_or, slice_get, sum_by, false, Option, None, Some, Vec, Global, arith, ap, ◌∙◌, subst, sym}
-use Rattle.line_graph.specs.declared.edge.Edge.{Edge}
-use Rattle.line_graph.specs.declared.pass.Pass.{Pass}
-use Rattle.line_graph.specs.ValidPieces.{IsValidPiece}
-use Rattle.line_graph.specs.PieceGraphs.{PieceValue, given_start}
-use Rattle.line_graph.specs.Pieces.{first_line}
+use Rattle.std.proofs.Common.{◌≡◌, ◌≤◌, ℕ, ◌+◌, ◌*◌, ◌/◌, List, [], ◌∷◌, ◌++◌, length, get_or, slice_get, sum_by, false, Option, None, Some, Vec, Global, arith, ap, ◌∙◌, subst, sym, length-append}
+use Rattle.euler_tour.proofs.Names.{Edge, Pass, IsValidPiece, PieceValue, given_start, first_line, remaining_ends, remaining_sum, decremented_at, one_of, pass_counts, AreBefore, AreLast, junction_across, junction_at, pass_to, CanPass, HasTourTables, first_edge_start, first_edge_end, tour_end, tour_start, or_first_start, nat_tests, slice_get_within}
 use Rattle.euler_tour.specs.declared.line_ends.LineEnds.{LineEnds}
 use Rattle.euler_tour.specs.declared.partial_tour.PartialTour.{PartialTour}
-use Rattle.euler_tour.specs.RemainingLines.{remaining_ends, remaining_sum, decremented_at, one_of, pass_counts}
 use Rattle.euler_tour.specs.Cursors.{SkipsEnd}
-use Rattle.euler_tour.specs.LineEnds.{AreBefore, AreLast, junction_across, junction_at, pass_to}
-use Rattle.euler_tour.specs.Tours.{CanPass}
-use Rattle.euler_tour.specs.PartialTours.{BeginsTour, IsEmptyTour, HasTourTables, IsTourStep, first_edge_start, first_edge_end, tour_end, tour_start, or_first_start}
+use Rattle.euler_tour.specs.PartialTours.{BeginsTour, IsEmptyTour, IsTourStep}
 use Rattle.euler_tour.proofs.CursorLemmas.{back_ready, begins_ready, out_ready, over_ready}
-use Rattle.euler_tour.proofs.EndLemmas.{across_below, junction_below}
-use Rattle.euler_tour.proofs.LeftLemmas.{times_at, times_length}
-use Rattle.euler_tour.proofs.TourLemmas.{begins_with, first_edge, goal_below, none_said}
-use Rattle.euler_tour.proofs.TripLemmas.{back_kept, back_less, first_kept, out_kept, out_less}
-use Rattle.euler_tour.proofs.CallerLemmas.{end_within, skipped_less}
+use Rattle.euler_tour.proofs.LeftLemmas.{times_at, times_length, left_less}
+use Rattle.euler_tour.proofs.TourLemmas.{begins_with, first_edge, none_said}
+use Rattle.euler_tour.proofs.TripLemmas.{back_kept, first_kept, out_kept}
+use Rattle.euler_tour.proofs.CallerLemmas.{skipped_less, started, ends_are_below}
 use Rattle.line_graph.proofs.CallerLemmas.{begins_on, first_is}
 
 -- the sum of the cursors of a partial tour
@@ -31,14 +23,14 @@ pub out_step : (p : PieceValue) (t : PartialTour) (left out : Vec ℕ Global) (e
     → IsTourStep p t (record { left = left; ends = t.ends; out = out; home = t.home; at = next; tail = t.tail })
 out_step p t left out end next kept ready here some is_left is_out beyond = record {
   ready = out_ready p.edges (length p.junctions) t.left.items left.items t.ends.last.items t.ends.before.items t.out.items out.items
-      t.at end next is_left is_out (end_within p.edges end t.at there) (across_below (length p.junctions) p.edges end next kept.ends beyond)
+      t.at end next is_left is_out (grind (arith, nat_tests, started, slice_get_within)) (grind (arith, nat_tests, started, ends_are_below))
       ready;
   keeps = λ copies. λ k. record {
     keeps = out_kept p.lines p.edges (pass_counts copies) t.left.items left.items t.out.items out.items t.home (tour_start p) (tour_end p)
         t.at t.tail end next is_left is_out kept.rising kept.beside some there beyond k.keeps;
     begins = k.begins;
   };
-  less = out_less p.edges t.left.items left.items t.out.items out.items (cursor_sum t) end t.at is_left is_out some there;
+  less = grind (arith, nat_tests, started, length-append, left_less);
 }
   where
     there : junction_at p.edges end ≡ Some t.at
@@ -52,14 +44,14 @@ pub back_step : (p : PieceValue) (t : PartialTour) (out : Vec ℕ Global) (home 
     → IsTourStep p t (record { left = t.left; ends = t.ends; out = out; home = home; at = from; tail = from })
 back_step p t out home end from kept ready stuck is_out is_home starts = record {
   ready = back_ready p.edges (length p.junctions) t.left.items t.ends.last.items t.ends.before.items t.out.items out.items t.at end from
-      is_out (junction_below (length p.junctions) p.edges end from kept.ends starts) ready;
+      is_out (grind (arith, nat_tests, started, ends_are_below)) ready;
   keeps = λ copies. λ k. record {
     keeps = back_kept p.lines p.edges (pass_counts copies) t.left.items t.out.items out.items t.home home (tour_start p) (tour_end p) t.at
         t.tail
         from end is_out is_home kept.rising kept.beside starts stuck k.keeps;
     begins = λ none. rw is_home (begins_on (first_line p.lines) t.home (pass_to p.lines end ∷ []) (k.begins none));
   };
-  less = back_less (remaining_sum one_of p.edges t.left.items) (cursor_sum t) t.out.items out.items end is_out;
+  less = grind (arith, nat_tests, length-append);
 }
 
 -- an end whose line doesn't remain is skipped
@@ -84,7 +76,7 @@ pub begins_fresh : (p : PieceValue) (copies : List ℕ) (left out : Vec ℕ Glob
 begins_fresh p copies left out ends home at tail kept can is_left are_last are_before last_beside before_beside is_out is_home
     is_at = record {
       ready = begins_ready p.edges (length p.junctions) left.items ends.last.items ends.before.items out.items at left_beside last_beside
-          before_beside is_out (rw is_at (goal_below p kept)) are_before are_last;
+          before_beside is_out (rw is_at (grind (arith, nat_tests))) are_before are_last;
       home = is_home;
       out = is_out;
       some = rw (is_left, times_at copies 0 (subst (λ (n : ℕ). 1 ≤ n) (sym can.beside) kept.some)) (some (get_or copies 0 0));

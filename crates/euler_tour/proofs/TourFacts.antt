@@ -1,11 +1,7 @@
 -- Worked values of copies and tours.
 use Rattle.std.proofs.Common.{◌≡◌, ◌<◌, ◌+◌, ◌*◌, ◌%◌, ◌==◌, ℕ, zero, suc, Bool, true, false, List, [], ◌∷◌, Option, None, Some, arith, get_or, pos, refl}
+use Rattle.euler_tour.proofs.Names.{Edge, Pass, PieceValue, one_if, is_walk_start_to_end, passes, CanPass, IsTour, copies_cost, pass_count, pass_ends}
 use Rattle.design_model.specs.declared.point.Point.{Point}
-use Rattle.line_graph.specs.declared.edge.Edge.{Edge}
-use Rattle.line_graph.specs.declared.pass.Pass.{Pass}
-use Rattle.line_graph.specs.PieceGraphs.{PieceValue, one_if}
-use Rattle.line_graph.specs.PieceWalks.{is_walk_start_to_end, passes}
-use Rattle.euler_tour.specs.Tours.{CanPass, IsTour, copies_cost, pass_count, pass_ends}
 
 abbrev pub edge : (a b cost : ℕ) → Edge
 edge a b cost = record { a = a; b = b; cost = cost }

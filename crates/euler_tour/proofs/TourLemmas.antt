@@ -1,24 +1,16 @@
 -- The first partial tour, and the tour at the end.
 use Rattle.std.proofs.Common.{◌≡◌, ◌≤◌, ◌<◌, inl, inr, ℕ, suc, ◌+◌, ◌%◌, ◌==◌, Bool, true, false, List, [], ◌∷◌, ◌++◌, map, length, get_or, slice_get, Option, Some, None, arith, refl, sym, ◌∙◌, ap, subst}
-use Rattle.std.proofs.lemmas.Bool.Decides.{nat_tests}
-use Rattle.std.proofs.lemmas.Option.{slice_get_within}
 use Rattle.std.specs.Option.{option_or}
-use Rattle.line_graph.specs.declared.edge.Edge.{Edge}
-use Rattle.line_graph.specs.declared.pass.Pass.{Pass}
-use Rattle.line_graph.specs.ValidPieces.{IsConnectedGraph, IsValidPiece, ends_below}
-use Rattle.line_graph.specs.PieceGraphs.{PieceValue, one_if, closing_edge, degree, given_start}
-use Rattle.line_graph.specs.Pieces.{first_line}
-use Rattle.line_graph.specs.PieceWalks.{BeginsWith, after_edge, edge_cost, edge_of, is_walk_start_to_end, edge_value, pass_sum, passes, walk_end_from}
-use Rattle.euler_tour.specs.RemainingLines.{edge_ends_at, remaining_ends, remaining_sum, one_of, pass_counts}
-use Rattle.euler_tour.specs.LineEnds.{pass_from}
-use Rattle.euler_tour.specs.Tours.{CanPass, IsTour}
-use Rattle.euler_tour.specs.PartialTours.{IsExhausted, IsTourInvariant, first_edge_start, first_edge_end, tour_end, tour_start, or_first_start}
+use Rattle.euler_tour.proofs.Names.{nat_tests, slice_get_within, Edge, Pass, IsValidPiece, ends_below, PieceValue, one_if, given_start, first_line, after_edge, edge_cost, edge_of, is_walk_start_to_end, edge_value, pass_sum, passes, walk_end_from, edge_ends_at, remaining_ends, remaining_sum, one_of, pass_counts, pass_from, CanPass, IsTour, IsExhausted, IsTourInvariant, first_edge_start, first_edge_end, tour_end, tour_start, or_first_start, same_number, some_same}
+use Rattle.line_graph.specs.ValidPieces.{IsConnectedGraph}
+use Rattle.line_graph.specs.PieceGraphs.{closing_edge, degree}
+use Rattle.line_graph.specs.PieceWalks.{BeginsWith}
 use Rattle.euler_tour.proofs.LeftLemmas.{none_left, sum_none, times_at, times_cost, times_count, times_ends}
 use Rattle.euler_tour.proofs.TripLemmas.{met}
 use Rattle.euler_tour.proofs.WalkLemmas.{all_covered}
 use Rattle.euler_tour.proofs.CallerLemmas.{ends_are_below}
 use Rattle.line_graph.proofs.CallerLemmas.{edge_there, lost}
-use Rattle.lists_and_numbers.proofs.CallerLemmas.{same_number, same_test, some_same}
+use Rattle.lists_and_numbers.proofs.CallerLemmas.{same_test}
 
 -- ---- the beginning
 
@@ -33,10 +25,6 @@ pub none_said : (one other : Option ℕ) → option_or one other ≡ None → op
 none_said None None is = refl
 none_said None (Some b) is = absurd (cc)
 none_said (Some a) other is = absurd (cc)
-
--- so is where the walk is to end
-pub goal_below : (p : PieceValue) → IsValidPiece p → tour_end p < length p.junctions
-goal_below p kept = grind (arith, nat_tests)
 
 -- with the line back, each junction has an even number of ends
 said_even : (edges : List Edge) (one other : Option ℕ) (j n : ℕ)
@@ -111,11 +99,6 @@ all_passed edges left count goal tail joined ends below stuck meets over k e is 
     leaves : (k : ℕ) (e : Edge) → slice_get edges k ≡ Some e → is_bare e.a ≡ is_bare e.b
     leaves k e is = same_test (is_bare e.a) (is_bare e.b) (from_a k e is) (from_b k e is)
 
--- the walk leads as it is to
-leads_on : (p : PieceValue) (walk : List Pass) (tail : ℕ) → IsValidPiece p → (given_start p ≡ None → BeginsWith (first_line p.lines) walk)
-    → walk_end_from p.lines p.edges (Some (tour_start p)) walk ≡ Some tail → tail ≡ tour_end p → is_walk_start_to_end p walk ≡ true
-leads_on p walk tail kept begins goes meets = grind (arith, nat_tests)
-
 -- a walk that leads somewhere has a pass for each edge that it counts
 counted : (lines : List ℕ) (edges : List Edge) (walk : List Pass) (at : Option ℕ) (to : ℕ) → walk_end_from lines edges at walk ≡ Some to
     → pass_sum lines edges one_of walk ≡ length walk
@@ -138,7 +121,7 @@ pub finished : (p : PieceValue) (copies left out : List ℕ) (home : List Pass) 
     → IsTourInvariant p.lines p.edges (pass_counts copies) left (map (pass_from p.lines) out) home (tour_start p) (tour_end p) at tail
     → (given_start p ≡ None → BeginsWith (first_line p.lines) home) → IsTour p copies home
 finished p copies left out home at tail kept can is_out stuck k begins = record {
-  led = leads_on p home tail kept begins k.goes_home meets;
+  led = grind (arith, nat_tests, k.goes_home);
   covered = all_covered p.lines home (λ i. λ below. (omega (arith, counts i below)));
   counts = counts;
   begins = begins;
@@ -179,7 +162,7 @@ finished p copies left out home at tail kept can is_out stuck k begins = record 
     least n l c sum empty = omega arith
 
     all : (i : ℕ) (e : Edge) → slice_get p.edges i ≡ Some e → get_or left i 0 ≡ 0
-    all = all_passed p.edges left (length p.junctions) (tour_end p) tail kept.joined kept.ends (goal_below p kept) bare_goal meets
+    all = all_passed p.edges left (length p.junctions) (tour_end p) tail kept.joined kept.ends (grind (arith, nat_tests)) bare_goal meets
         (λ i. λ e. λ is. λ empty. k.done i e is (least _ _ _ (passed i (back_within i e is)) empty))
 
     nothing : (i : ℕ) → i < length p.edges → get_or left i 0 ≡ 0

@@ -1,20 +1,12 @@
 -- The invariant of a partial tour, at each step.
-use Rattle.std.proofs.lemmas.Bool.Decides.{nat_tests}
 use Rattle.std.proofs.Common.{◌≡◌, ◌≤◌, ◌<◌, inl, inr, ℕ, zero, suc, ◌+◌, ◌*◌, ◌/◌, ◌%◌, ◌==◌, Bool, true, false, not, List, [], ◌∷◌, ◌++◌, map, length, get_or, slice_get, Option, Some, None, arith, refl, sym, ◌∙◌, ap, subst, length-append}
 use Rattle.std.proofs.lemmas.List.{map-append}
-use Rattle.std.proofs.lemmas.Option.{slice_get_within}
-use Rattle.line_graph.specs.declared.edge.Edge.{Edge}
-use Rattle.line_graph.specs.declared.pass.Pass.{Pass}
-use Rattle.line_graph.specs.PieceGraphs.{one_if, is_odd}
-use Rattle.line_graph.specs.PieceWalks.{after_edge, after_pass, edge_of, pass_start_on, pass_end, edge_value, pass_sum, passes, is_strictly_increasing, pass_start, walk_end_from}
-use Rattle.euler_tour.specs.RemainingLines.{edge_ends_at, remaining_ends, remaining_sum, decremented_at, one_of}
-use Rattle.euler_tour.specs.LineEnds.{junction_across, junction_at, pass_from, pass_to}
-use Rattle.euler_tour.specs.PartialTours.{IsExhausted, IsTourInvariant}
+use Rattle.euler_tour.proofs.Names.{nat_tests, slice_get_within, Edge, Pass, one_if, is_odd, after_edge, edge_of, pass_start_on, edge_value, pass_sum, passes, is_strictly_increasing, pass_start, walk_end_from, edge_ends_at, remaining_ends, remaining_sum, decremented_at, one_of, junction_across, junction_at, pass_from, pass_to, IsExhausted, IsTourInvariant, same_number, some_same}
+use Rattle.line_graph.specs.PieceWalks.{after_pass, pass_end}
 use Rattle.euler_tour.proofs.LeftLemmas.{count_step, left_less}
 use Rattle.euler_tour.proofs.WalkLemmas.{pass_sum_push, passes_push}
 use Rattle.euler_tour.proofs.CallerLemmas.{started}
 use Rattle.line_graph.proofs.CallerLemmas.{edge_found, walk_append}
-use Rattle.lists_and_numbers.proofs.CallerLemmas.{same_number, some_same}
 
 -- ---- a step out
 
@@ -23,11 +15,6 @@ led : (found : Option Edge) (e : Edge) (back : Bool) (at next : ℕ) → found �
     → pass_start e (not back) ≡ next
     → after_edge found back at ≡ Some next
 led found e back at next is starts ends = grind (arith, nat_tests)
-
--- its two ends
-two_ends : (e : Edge) (back : Bool) (at next j : ℕ) → pass_start e back ≡ at → pass_start e (not back) ≡ next
-    → one_if (at == j) + one_if (next == j) ≡ edge_ends_at j e
-two_ends e back at next j starts ends = grind (arith, nat_tests)
 
 -- what is done stays so where a line is taken
 still : (edges : List Edge) (left : List ℕ) (goal tail place j : ℕ) (e : Edge) → slice_get edges place ≡ Some e → 1 ≤ get_or left place 0
@@ -52,7 +39,7 @@ out_core lines edges times left out home head goal at tail place next back e ris
   goes_out = walk_append lines edges (Some goal) out (pass ∷ []) ∙ ap (λ (x : Option ℕ). after_pass lines edges pass x) k.goes_out ∙
       led (edge_of lines edges (get_or lines place 0)) e back at next found starts ends;
   goes_home = k.goes_home;
-  even = λ j. evened _ _ _ _ _ _ (left_less (edge_ends_at j) edges left place e is some) (two_ends e back at next j starts ends)
+  even = λ j. evened _ _ _ _ _ _ (left_less (edge_ends_at j) edges left place e is some) (grind (arith, nat_tests))
       (k.even j);
   done = λ i. λ x. λ here. λ least. (
     still edges left goal tail place x.a e is some (k.done i x here least).0,
@@ -92,13 +79,6 @@ out_kept lines edges times left left2 out out2 home head goal at tail end next i
     other : (e : Edge) (found : Option Edge) (back : Bool) (next : ℕ) → found ≡ Some e → pass_start_on found back ≡ Some next
         → pass_start e back ≡ next
     other e found back next is ends = some_same (pass_start e back) next (sym (ap (λ (x : Option Edge). pass_start_on x back) is) ∙ ends)
-
--- the rank decreases
-pub out_less : (edges : List Edge) (left left2 out out2 : List ℕ) (sum end at : ℕ) → left2 ≡ decremented_at left (end / 2)
-    → out2 ≡ out ++ end ∷ []
-    → 1 ≤ get_or left (end / 2) 0 → junction_at edges end ≡ Some at
-    → (2 * remaining_sum one_of edges left2 + length out2) + sum < (2 * remaining_sum one_of edges left + length out) + sum
-out_less edges left left2 out out2 sum end at is_left is_out some starts = grind (arith, nat_tests, started, length-append, left_less)
 
 -- ---- a step back
 
@@ -206,20 +186,9 @@ back_kept lines edges times left out xs home home2 head goal at tail from end is
     (subst (λ (ps : List Pass). IsTourInvariant lines edges times left ps home head goal at tail)
     (ap (λ (ends : List ℕ). map (pass_from lines) ends) is_out ∙ map-append (pass_from lines) xs (end ∷ [])) k))
 
--- the rank decreases
-pub back_less : (u sum : ℕ) (out xs : List ℕ) (end : ℕ) → out ≡ xs ++ end ∷ [] → (2 * u + length xs) + sum < (2 * u + length out) + sum
-back_less u sum out xs end is = grind (arith, nat_tests, length-append)
-
 -- ---- a skipped end
 
 -- ---- the beginning
-
--- nothing is passed
-pub begun : (lines : List ℕ) (edges : List Edge) (times left out : List ℕ) (home : List Pass) (head goal : ℕ) → left ≡ times → out ≡ []
-    → home ≡ []
-    → ((j : ℕ) → ((remaining_ends edges times j + one_if (goal == j)) + one_if (head == j)) % 2 ≡ 0)
-    → IsTourInvariant lines edges times left (map (pass_from lines) out) home head goal goal head
-begun lines edges times left out home head goal is_left is_out is_home even = grind (arith, nat_tests)
 
 -- the first line is passed
 pub first_kept : (lines : List ℕ) (edges : List Edge) (times left left2 out : List ℕ) (home home2 : List Pass)

@@ -1,3 +1,4 @@
+pub mod Names
 mod UnitFacts
 pub mod UnitLemmas
 pub mod RoundTrip

@@ -1,26 +1,21 @@
 -- What is written reads back.
 use Rattle.std.proofs.Common.{◌≡◌, ℕ, suc, ◌+◌, ◌-◌, ◌<◌, ◌≤◌, ◌≢◌, ℤ, pos, negsuc, neg_ℤ, unsigned_abs, nat_le, true, IsTrue, IsOkAnd, List, [], ◌∷◌, ◌++◌, None, refl, ap, sym, ◌∙◌, subst, arith}
-use Rattle.std.proofs.lemmas.Bool.{and_parts, leb-true, lt-ltb, le-ltb, ne_eqb}
+use Rattle.std.proofs.lemmas.Bool.{and_parts, leb-true, lt-ltb}
 use Rattle.std.proofs.lemmas.Int.{ints}
 use Rattle.std.proofs.lemmas.List.{append-nil}
-use Rattle.design_model.specs.declared.point.Point.{Point}
 use Rattle.design_model.specs.Acts.{acts_of}
-use Rattle.design_model.specs.Designs.{DesignValue, KeepsLimits}
-use Rattle.design_model.specs.Points.{is_point_within, origin}
+use Rattle.design_model.specs.Designs.{KeepsLimits}
 use Rattle.record_formats.specs.declared.event.Event.TheVariants as event
-use Rattle.format_traits.specs.declared.loaded.Loaded.{Loaded}
 use Rattle.format_traits.specs.Laws.{HasSameActs, IsCodec}
-use Rattle.record_formats.specs.Readings.{loaded_with}
-use Rattle.record_formats.specs.Records.{next}
 use Rattle.format_traits.specs.Refusals.{first_refusal}
 use Rattle.record_formats.specs.RoundTrip.{EncodedEvents, DecodesEncoding, DecodeToActs, EncodedActsRoundTrip}
 use Rattle.exp_codec.proofs.UnitLemmas.{reads_units}
-use Rattle.exp_codec.specs.declared.exp.TheConstants.{LIMIT}
-use Rattle.exp_codec.specs.Format.{exp_meaning}
-use Rattle.exp_codec.specs.Units.{signed_byte, exp_move_of, units_from}
-use Rattle.exp_codec.specs.Writing.{byte_of_number, bytes_of_move, exp_encoding, exp_write_limits, exp_file_of}
+use Rattle.exp_codec.specs.Units.{signed_byte}
+use Rattle.exp_codec.specs.Writing.{byte_of_number, bytes_of_move, exp_encoding}
 use Rattle.design_model.proofs.CallerLemmas.{point_of_parts}
 use Rattle.lists_and_numbers.proofs.CallerLemmas.{neg-neg}
+use Rattle.std.proofs.lemmas.Bool.Decides.{nat_tests}
+use Rattle.exp_codec.proofs.Names.{le-ltb, ne_eqb, Point, DesignValue, is_point_within, origin, Loaded, loaded_with, next, LIMIT, exp_meaning, exp_move_of, units_from, exp_write_limits, exp_file_of}
 
 -- a number is decoded as it was encoded, and no encoded number is 80
 signed_byte-byte_of_number : (z : ℤ) → unsigned_abs z ≤ LIMIT → (signed_byte (byte_of_number z) ≡ z) × (byte_of_number z ≢ 0x80)
@@ -32,16 +27,13 @@ signed_byte-byte_of_number (negsuc n) small =
     let back : 256 - (255 - n) ≡ suc n = omega (arith, small) in
     (rw (le-ltb (255 - n) 128 high) (ap (λ k. neg_ℤ (pos k)) back), λ is. omega (arith, is, small))
 
-opposite_small : (z : ℤ) → unsigned_abs z ≤ LIMIT → unsigned_abs (neg_ℤ z) ≤ LIMIT
-opposite_small z small = omega (arith, ints, small)
-
 -- the bytes of a move have it, and the first of them is not 80
 exp_move_of-step : (m : Point) → IsTrue (is_point_within LIMIT m)
     → (exp_move_of (byte_of_number m.x) (byte_of_number (neg_ℤ m.y)) ≡ m) × (byte_of_number m.x ≢ 0x80)
 exp_move_of-step m near =
     let parts = and_parts (nat_le (unsigned_abs m.x) LIMIT) (nat_le (unsigned_abs m.y) LIMIT) near in
     let x = signed_byte-byte_of_number m.x (leb-true _ _ parts.0) in
-    let y = signed_byte-byte_of_number (neg_ℤ m.y) (opposite_small m.y (leb-true _ _ parts.1)) in
+    let y = signed_byte-byte_of_number (neg_ℤ m.y) (grind (arith, nat_tests, (leb-true _ _ parts.1))) in
     (point_of_parts x.0 (ap neg_ℤ y.0 ∙ neg-neg m.y), x.1)
 
 -- a stitch and what stands after it

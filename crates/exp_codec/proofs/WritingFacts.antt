@@ -1,17 +1,11 @@
 -- Worked values of writing.
 use Rattle.std.proofs.Common.{◌≡◌, ℤ, pos, negsuc, List, [], ◌∷◌, true, codes, None, Ok, Err, refl}
+use Rattle.exp_codec.proofs.Names.{Command, Stitch, Jump, Trim, Stop, Point, DesignValue, origin, LIMIT, exp_meaning, exp_write_limits}
 use Rattle.design_model.specs.declared.act.Act.TheVariants as act
-use Rattle.design_model.specs.declared.command.Command.{Command}
-use Rattle.design_model.specs.declared.command.Command.TheVariants.{Stitch, Jump, Trim, Stop}
-use Rattle.design_model.specs.declared.point.Point.{Point}
 use Rattle.design_model.specs.Acts.{numbered}
-use Rattle.design_model.specs.Designs.{DesignValue}
-use Rattle.design_model.specs.Points.{origin}
 use Rattle.format_traits.specs.declared.fault.WriteFault.TheVariants as fault
-use Rattle.exp_codec.specs.declared.exp.TheConstants.{LIMIT}
 use Rattle.format_traits.specs.Refusals.{refusal_of_act}
-use Rattle.exp_codec.specs.Format.{exp_meaning}
-use Rattle.exp_codec.specs.Writing.{exp_write_limits, exp_writes}
+use Rattle.exp_codec.specs.Writing.{exp_writes}
 
 abbrev pub point : ℤ → ℤ → Point
 point x y = record { x = x; y = y }

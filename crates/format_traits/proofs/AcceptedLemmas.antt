@@ -1,30 +1,19 @@
 -- Plain acts are not refused, and acts that are not refused have little room and few stops.
-use Rattle.std.proofs.lemmas.Bool.Decides.{nat_tests}
-use Rattle.std.proofs.lemmas.Int.{ints}
 use Rattle.std.proofs.Common.{◌≡◌, ℕ, ◌+◌, ◌≤◌, false, IsTrue, List, [], ◌∷◌, Some, None, nat_lt, refl, subst, arith}
 use Rattle.std.proofs.lemmas.Bool.{and_parts, ltb-false, le-ltb}
-use Rattle.design_model.specs.declared.act.Act.{Act}
+use Rattle.format_traits.proofs.Names.{nat_tests, ints, Act, NumberedAct, leaves_thread_loose, WriteLimits, EncoderState, are_plain_from, stops_of, encoder_state_after, refusal_if, refusal_of_act, first_refusal_from}
 use Rattle.design_model.specs.declared.act.Act.TheVariants as act
-use Rattle.design_model.specs.declared.act.NumberedAct.{NumberedAct}
 use Rattle.design_model.specs.declared.design.TheConstants.{MAX_COMMANDS}
-use Rattle.design_model.specs.ActPositions.{needle_position_after, leaves_thread_loose}
+use Rattle.design_model.specs.ActPositions.{needle_position_after}
 use Rattle.format_traits.specs.declared.fault.WriteFault.TheVariants as fault
-use Rattle.format_traits.specs.declared.encoder_state.WriteLimits.{WriteLimits}
-use Rattle.format_traits.specs.declared.encoder_state.EncoderState.{EncoderState}
-use Rattle.format_traits.specs.PlainDesigns.{is_plain_act, are_plain_from}
-use Rattle.format_traits.specs.Refusals.{stops_in, stops_of, encoder_state_after, is_above_max, refusal_if, refusal_before_room, refusal_of_act, first_refusal_from}
+use Rattle.format_traits.specs.PlainDesigns.{is_plain_act}
+use Rattle.format_traits.specs.Refusals.{stops_in, is_above_max, refusal_before_room}
 use Rattle.format_traits.specs.Rooms.{room_from}
 use Rattle.format_traits.proofs.CallerLemmas.{not_refused, or_else_both, or_else_none, refused_not}
 
 -- n stops may be written
 abbrev pub Allows : WriteLimits → ℕ → Type 0
 Allows write_limits most = (count : ℕ) → count ≤ most → is_above_max write_limits.stops count ≡ false
-
--- an act that plain designs may have is not refused by itself, where the stops are few
-plain_act : (write_limits : WriteLimits) (most : ℕ) → Allows write_limits most → (a : Act) (s : EncoderState) (number : ℕ)
-    → IsTrue (is_plain_act write_limits.limit s.loose s.place a) → s.stops + stops_in a ≤ most
-    → refusal_before_room write_limits s a number ≡ None
-plain_act write_limits most h1 a s number h2 h3 = grind (arith, nat_tests, ints)
 
 -- nor are all of them, where there is room
 pub plain_passes : (write_limits : WriteLimits) (most : ℕ) → Allows write_limits most → (acts : List NumberedAct) (s : EncoderState)
@@ -39,7 +28,7 @@ plain_passes write_limits most allows (a ∷ rest) s plain few small =
     or_else_both (refusal_of_act write_limits s a) (first_refusal_from write_limits after rest)
     (or_else_both (refusal_before_room write_limits s a.act a.number)
     (refusal_if (nat_lt MAX_COMMANDS after.room) (fault.TooLong a.number))
-    (plain_act write_limits most allows a.act s a.number both.0 (omega (arith, few)))
+    (grind (arith, nat_tests, both.0, few))
     (refused_not (nat_lt MAX_COMMANDS after.room) (fault.TooLong a.number) (le-ltb MAX_COMMANDS after.room fits)))
     (plain_passes write_limits most allows rest after both.1 (omega (arith, few)) (omega (arith, small)))
 

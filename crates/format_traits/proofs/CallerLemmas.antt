@@ -1,21 +1,11 @@
 -- Lemmas that this crate and those above cite.
-use Rattle.std.proofs.lemmas.Bool.Decides.{nat_tests}
-use Rattle.std.proofs.lemmas.Int.{ints}
 use Rattle.std.proofs.Common.{Bool, IsTrue, List, [], ◌∷◌, None, Option, Some, ap, arith, false, true, not, refl, ◌&&◌, if◌then◌else◌, length, length-append, replicate, slice_get, ℕ, ◌+◌, ◌-◌, ◌∙◌, ◌≡◌, ◌≤◌}
-use Rattle.std.proofs.lemmas.List.{length-replicate}
-use Rattle.design_model.specs.declared.act.Act.{Act}
+use Rattle.format_traits.proofs.Names.{nat_tests, ints, length-replicate, Act, NumberedAct, Command, Stitch, leaves_thread_loose, encoder_state_after_acts, Meaning, encoder_state_after, refusal_if, stops_of, EncoderState, WriteFault}
 use Rattle.design_model.specs.declared.act.Act.TheVariants as act
-use Rattle.design_model.specs.declared.act.NumberedAct.{NumberedAct}
-use Rattle.design_model.specs.declared.command.Command.{Command}
-use Rattle.design_model.specs.declared.command.Command.TheVariants.{Stitch, Jump, Trim, Stop}
-use Rattle.design_model.specs.ActPositions.{leaves_thread_loose}
+use Rattle.design_model.specs.declared.command.Command.TheVariants.{Jump, Trim, Stop}
 use Rattle.design_model.specs.Acts.{acts_from}
-use Rattle.format_traits.specs.ActWriting.{encoder_state_after_acts}
 use Rattle.format_traits.specs.LabelFields.{padded_right}
-use Rattle.format_traits.specs.Meanings.{Meaning}
-use Rattle.format_traits.specs.Refusals.{encoder_state_after, or_else, refusal_if, stops_of}
-use Rattle.format_traits.specs.declared.encoder_state.EncoderState.{EncoderState}
-use Rattle.format_traits.specs.declared.fault.WriteFault.{WriteFault}
+use Rattle.format_traits.specs.Refusals.{or_else}
 
 pub not_refused : (b : Bool) (f : WriteFault) → refusal_if b f ≡ None → b ≡ false
 not_refused b f h1 = grind (arith, nat_tests, ints)

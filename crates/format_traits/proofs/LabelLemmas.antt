@@ -1,14 +1,13 @@
 -- A text without the spaces at its end, and what a label field holds.
-use Rattle.std.proofs.lemmas.Bool.Decides.{nat_tests}
-use Rattle.std.proofs.lemmas.Int.{ints}
 use Rattle.std.proofs.Common.{◌≡◌, ◌≢◌, ℕ, zero, suc, ◌+◌, ◌-◌, ◌<◌, ◌≤◌, Bool, true, false, List, [], ◌∷◌, ◌++◌, length, map, take, replicate, get_or, All, Some, slice_get, ◌==◌, if◌then◌else◌, refl, ap, sym, ◌∙◌, subst, arith, length-append}
 use Rattle.std.proofs.Math.Seq.{take-length}
 use Rattle.std.proofs.lemmas.Bool.{le-leb, ne_eqb}
-use Rattle.std.proofs.lemmas.List.{append-nil, append_assoc, take_all, take_more, length-map, length-replicate}
+use Rattle.std.proofs.lemmas.List.{append-nil, append_assoc, take_all, take_more, length-map}
 use Rattle.std.proofs.lemmas.List.Elements.{All-map, All-nil, All-cons, All-head, All-tail}
+use Rattle.format_traits.proofs.Names.{nat_tests, ints, length-replicate, printable_byte, without_end_spaces, label_in, label_field}
 use Rattle.design_model.specs.declared.design.TheConstants.{MAX_LABEL}
 use Rattle.design_model.specs.Labels.{IsLabel, IsPrintable}
-use Rattle.format_traits.specs.LabelFields.{printable_byte, byte_unless_end_space, without_end_spaces, label_in, label_field, LabelFieldsRoundTrip}
+use Rattle.format_traits.specs.LabelFields.{byte_unless_end_space, LabelFieldsRoundTrip}
 
 pub without_end_spaces-space : (xs : List ℕ) → without_end_spaces (xs ++ 32 ∷ []) ≡ without_end_spaces xs
 without_end_spaces-space [] = refl
@@ -67,15 +66,9 @@ All-without_end_spaces P (x ∷ xs) all = All-byte_unless_end_space P x (without
 abbrev IsTrimmed : List ℕ → Type 0
 IsTrimmed xs = slice_get xs (length xs - 1) ≢ Some 32
 
-before_is_trimmed : (x : ℕ) (rest : List ℕ) → IsTrimmed rest → IsTrimmed (byte_unless_end_space x rest)
-before_is_trimmed x rest h1 = grind (arith, nat_tests, ints)
-
 trimmed_is_trimmed : (xs : List ℕ) → IsTrimmed (without_end_spaces xs)
 trimmed_is_trimmed [] = λ no. cc
-trimmed_is_trimmed (x ∷ xs) = before_is_trimmed x (without_end_spaces xs) (trimmed_is_trimmed xs)
-
-All-printable_byte : (xs : List ℕ) → All (λ byte. IsPrintable (printable_byte byte)) xs
-All-printable_byte xs = grind (arith, nat_tests, ints)
+trimmed_is_trimmed (x ∷ xs) = grind (arith, nat_tests, (trimmed_is_trimmed xs))
 
 -- what a field holds may be a label
 pub label_in_is_label : (field : List ℕ) → length field ≤ MAX_LABEL → IsLabel (label_in field)
@@ -85,7 +78,7 @@ label_in_is_label field short =
     record {
       short = omega (arith, few, same, short);
       printable = All-without_end_spaces IsPrintable (map printable_byte field)
-          (All-map IsPrintable printable_byte field (All-printable_byte field));
+          (All-map IsPrintable printable_byte field (grind (arith, nat_tests)));
       trimmed = trimmed_is_trimmed (map printable_byte field);
     }
 

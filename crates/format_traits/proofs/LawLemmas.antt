@@ -1,15 +1,7 @@
 -- The laws of all formats.
-use Rattle.std.proofs.lemmas.Bool.Decides.{nat_tests}
-use Rattle.std.proofs.lemmas.Int.{ints}
 use Rattle.std.proofs.Common.{◌≡◌, ℕ, List, true, false, Option, None, IfOk, IsOk, refl, sym, subst, arith}
-use Rattle.design_model.specs.Acts.{acts_of}
-use Rattle.design_model.specs.Designs.{DesignValue}
-use Rattle.format_traits.specs.declared.encoder_state.WriteLimits.{WriteLimits}
-use Rattle.format_traits.specs.declared.fault.WriteFault.{WriteFault}
-use Rattle.format_traits.specs.Accepted.{AcceptedIsWithinLimits}
-use Rattle.format_traits.specs.Laws.{RoundTrips, MovesWithin, CodecsKeepLaws}
-use Rattle.format_traits.specs.PlainDesigns.{IsPlain}
-use Rattle.format_traits.specs.Refusals.{initial_encoder_state, first_refusal, unless_refused}
+use Rattle.format_traits.proofs.Names.{nat_tests, ints, acts_of, DesignValue, WriteLimits, WriteFault, AcceptedIsWithinLimits, RoundTrips, MovesWithin, CodecsKeepLaws, IsPlain, initial_encoder_state, first_refusal}
+use Rattle.format_traits.specs.Refusals.{unless_refused}
 use Rattle.format_traits.proofs.AcceptedLemmas.{plain_passes, few_stops, small_room}
 use Rattle.design_model.proofs.CallerLemmas.{acts_in_range}
 

@@ -1,19 +1,13 @@
 -- Worked values of hops, parts, rooms and refusals.
 use Rattle.std.proofs.Common.{◌≡◌, ℕ, ◌+◌, ℤ, pos, negsuc, Bool, true, false, List, [], ◌∷◌, map, replicate, Some, None, refl, le_of_eq, lit≤}
+use Rattle.format_traits.proofs.Names.{NumberedAct, origin, WriteLimits, EncoderState, label_field, label_in, printable_byte, IsPlain, are_plain_from, first_refusal, refusal_of_act, room_of}
 use Rattle.design_model.specs.declared.act.Act.TheVariants.{Needle, Trim, Stop}
-use Rattle.design_model.specs.declared.act.NumberedAct.{NumberedAct}
 use Rattle.design_model.specs.declared.point.Point.{Point}
 use Rattle.design_model.specs.declared.command.Command.TheVariants as command
 use Rattle.design_model.specs.Acts.{numbered}
-use Rattle.design_model.specs.Points.{origin}
 use Rattle.format_traits.specs.declared.fault.WriteFault.TheVariants as fault
-use Rattle.format_traits.specs.declared.encoder_state.WriteLimits.{WriteLimits}
-use Rattle.format_traits.specs.declared.encoder_state.EncoderState.{EncoderState}
-use Rattle.format_traits.specs.LabelFields.{label_field, label_in, printable_byte}
 use Rattle.format_traits.specs.MoveHops.{hops_of}
-use Rattle.format_traits.specs.PlainDesigns.{IsPlain, are_plain_from}
-use Rattle.format_traits.specs.Refusals.{first_refusal, refusal_of_act}
-use Rattle.format_traits.specs.Rooms.{room_of_act, room_of_loose, room_of_needle, room_of}
+use Rattle.format_traits.specs.Rooms.{room_of_act, room_of_loose, room_of_needle}
 
 abbrev pub point : ℤ → ℤ → Point
 point x y = record { x = x; y = y }

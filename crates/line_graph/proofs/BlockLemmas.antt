@@ -1,13 +1,7 @@
 -- The blocks of the pieces of a drawing.
 use Rattle.std.proofs.Common.{◌≡◌, ℕ, zero, suc, ◌<◌, List, [], ◌∷◌, Option, Some, None, length, All, ap, refl, subst, arith}
-use Rattle.std.proofs.lemmas.List.Elements.{All-cons, All-head, All-nil, All-tail}
 use Rattle.std.specs.List.{slice_get}
-use Rattle.line_sections.specs.Lines.{LineValue}
-use Rattle.line_graph.specs.declared.piece.Piece.{Piece}
-use Rattle.line_graph.specs.PiecesOfDrawings.{graph_of}
-use Rattle.drawing_model.specs.Drawings.{DrawingValue, KeepsDrawingLimits, optional_line_block, block_of}
-use Rattle.line_graph.specs.PieceGraphs.{PieceValue, piece_graph}
-use Rattle.line_graph.specs.Pieces.{first_line}
+use Rattle.line_graph.proofs.Names.{All-cons, All-head, All-nil, All-tail, LineValue, Piece, graph_of, DrawingValue, KeepsDrawingLimits, optional_line_block, block_of, PieceValue, piece_graph, first_line}
 
 -- a block of a drawing is one of few
 block_few : (d : DrawingValue) (line : ℕ) → KeepsDrawingLimits d → block_of d line < 255

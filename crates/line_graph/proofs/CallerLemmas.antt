@@ -1,29 +1,14 @@
 -- Lemmas that this crate and those above cite.
 use mathlib.Core.List.{reverse_aux}
 use Rattle.std.proofs.Common.{All, AllPairs, List, None, Option, Some, [], ap, arith, false, get_or, length, map, nat_lt, refl, replicate, slice_get, subst, suc, sum_by, sym, true, zero, ℕ, ◌&&◌, ◌*◌, ◌++◌, ◌+◌, ◌-◌, ◌<◌, ◌==◌, ◌∷◌, ◌≡◌, ◌≤◌}
-use Rattle.std.proofs.lemmas.Bool.{and_parts, ltb-true}
-use Rattle.std.proofs.lemmas.Bool.Decides.{nat_tests}
-use Rattle.std.proofs.lemmas.List.{length-append, length-map, length-replicate}
-use Rattle.std.proofs.lemmas.List.Elements.{All-cons, All-head, All-tail}
-use Rattle.std.proofs.lemmas.List.Kept.{AllPairs-from_increasing}
-use Rattle.std.proofs.lemmas.List.Sums.{sum_by-cons}
-use Rattle.std.specs.List.Sorted.{IsStrictlyIncreasing}
-use Rattle.std.specs.Option.{option_or}
-use Rattle.design_model.specs.declared.command.Command.TheVariants.{Stitch, Stop, Trim}
-use Rattle.design_model.specs.declared.point.Point.{Point}
-use Rattle.step_splitter.specs.Chains.{IsNeedlePoint}
+use Rattle.std.proofs.lemmas.Bool.{ltb-true}
+use Rattle.std.proofs.lemmas.List.{length-replicate}
+use Rattle.line_graph.proofs.Names.{and_parts, nat_tests, length-append, length-map, All-cons, All-head, All-tail, AllPairs-from_increasing, sum_by-cons, IsStrictlyIncreasing, option_or, Stitch, Stop, Trim, Point, IsNeedlePoint, PieceValue, degree, degrees_from, BeginsWith, all_greater, are_same_junction, edge_of, is_strictly_increasing, walk_end_from, first_line, lines_of_pieces, Run, commands_after, stops_after, IsValidPiece, ends_below, is_below, Edge, Pass, Piece, eq_self}
 use Rattle.line_graph.specs.ClosedDegrees.{closing_ends}
-use Rattle.line_graph.specs.PieceGraphs.{PieceValue, closing_edge, degree, degrees_from, is_odd}
-use Rattle.line_graph.specs.PieceWalks.{BeginsWith, after_pass, all_greater, are_same_junction, edge_of, is_strictly_increasing, walk_end_from}
-use Rattle.line_graph.specs.Pieces.{first_line}
-use Rattle.line_graph.specs.PiecesOfDrawings.{lines_of_pieces}
-use Rattle.line_graph.specs.Runs.{Run, commands_after, stops_after}
-use Rattle.line_graph.specs.ValidPieces.{IsValidPiece, ends_below, is_below}
-use Rattle.line_graph.specs.declared.edge.Edge.{Edge}
+use Rattle.line_graph.specs.PieceGraphs.{closing_edge, is_odd}
+use Rattle.line_graph.specs.PieceWalks.{after_pass}
 use Rattle.drawing_model.specs.declared.limits.TheConstants.{MAX_LINES}
-use Rattle.line_graph.specs.declared.pass.Pass.{Pass}
-use Rattle.line_graph.specs.declared.piece.Piece.{Piece}
-use Rattle.lists_and_numbers.proofs.CallerLemmas.{differs_back, eq_self}
+use Rattle.lists_and_numbers.proofs.CallerLemmas.{differs_back}
 
 -- needle points are in range the other way round
 pub range_back : (xs r : List Point) → All IsNeedlePoint xs → All IsNeedlePoint r → All IsNeedlePoint (reverse_aux xs r)

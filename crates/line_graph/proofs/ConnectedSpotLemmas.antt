@@ -1,23 +1,10 @@
 -- Two spots are connected by lines exactly where lines at them are connected.
 use Rattle.std.proofs.Common.{arith}
-use Rattle.std.proofs.lemmas.Bool.Decides.{nat_tests}
 use Rattle.std.proofs.Common.{◌≡◌, ◌⊎◌, inl, inr, ℕ, zero, suc, Bool, true, false, cond, List, [], ◌∷◌, map, slice_get, Some, All, refl, sym, ◌∙◌, ap, subst}
-use Rattle.std.proofs.lemmas.List.Elements.{All-head, All-tail}
-use Rattle.std.proofs.lemmas.Option.{slice_get-get_or}
-use Rattle.design_model.specs.declared.point.Point.{Point}
-use Rattle.step_splitter.specs.Chains.{last_point_or}
-use Rattle.line_sections.specs.declared.spot.Spot.{Spot}
-use Rattle.line_sections.specs.Lines.{LineValue}
-use Rattle.line_sections.specs.Spots.{is_same_spot}
-use Rattle.drawing_model.specs.Drawings.{DrawingValue, optional_line_block, first_point, last_point, optional_line_points, endpoints}
-use Rattle.line_graph.specs.FirstLines.{IsLineEnd}
-use Rattle.line_graph.specs.Pieces.{AreConnected, IsPathOfLines}
-use Rattle.drawing_model.specs.WalkEnds.{are_connected_spots, end_spots, representative, merged_representative}
-use Rattle.line_graph.specs.ConnectedSpots.{SpotsAreConnected}
+use Rattle.line_graph.proofs.Names.{nat_tests, All-head, All-tail, slice_get-get_or, Point, last_point_or, Spot, LineValue, is_same_spot, DrawingValue, optional_line_block, first_point, last_point, optional_line_points, endpoints, IsLineEnd, AreConnected, IsPathOfLines, are_connected_spots, SpotsAreConnected, same_spot, spot_found, some_same}
+use Rattle.drawing_model.specs.WalkEnds.{end_spots, representative, merged_representative}
 use Rattle.line_graph.proofs.LabelLemmas.{joined_back, joined_on}
 use Rattle.line_graph.proofs.LinkLemmas.{below_get, share_of, touch_joins, touch_of}
-use Rattle.line_sections.proofs.CallerLemmas.{same_spot, spot_found}
-use Rattle.lists_and_numbers.proofs.CallerLemmas.{some_same}
 
 -- lines at the two spots are connected
 record Linked (d : DrawingValue) (a b : Spot) : Type 0 where

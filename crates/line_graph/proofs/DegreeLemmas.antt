@@ -1,13 +1,7 @@
 -- Degrees of junctions, counted line end by line end.
 use Rattle.std.proofs.Common.{◌≡◌, ◌<◌, ◌≤◌, ℕ, zero, suc, ◌+◌, ◌*◌, ◌==◌, true, false, List, [], ◌∷◌, ◌++◌, length, get_or, set, take, replicate, nat_lt, ◌&&◌, All, arith, refl, sym, ◌∙◌, ap}
-use Rattle.std.proofs.lemmas.Bool.{and_parts, eqb-false}
-use Rattle.std.proofs.lemmas.Bool.Decides.{nat_tests}
-use Rattle.std.proofs.lemmas.List.{get_or-set_other, get_or-set_same, length-take, take_more}
-use Rattle.std.proofs.lemmas.List.Elements.{All-cons, All-nil}
-use Rattle.line_graph.specs.declared.edge.Edge.{Edge}
-use Rattle.line_graph.specs.ValidPieces.{ends_below}
-use Rattle.line_graph.specs.PieceGraphs.{one_if, degree, degrees_from}
-use Rattle.lists_and_numbers.proofs.CallerLemmas.{same_number}
+use Rattle.std.proofs.lemmas.List.{length-take}
+use Rattle.line_graph.proofs.Names.{and_parts, eqb-false, nat_tests, get_or-set_other, get_or-set_same, take_more, All-cons, All-nil, Edge, ends_below, one_if, degree, degrees_from, same_number}
 
 -- an edge for a place where there is none
 abbrev pub no_edge : Edge

@@ -1,31 +1,12 @@
 -- The fitting walks over the graph of a piece are the threads over its lines.
 use Rattle.std.proofs.Common.{◌≡◌, ℕ, zero, suc, ◌<◌, ◌≤◌, ◌==◌, ◌&&◌, ◌||◌, Bool, true, false, cond, nat_lt, List, [], ◌∷◌, length, map, get_or, slice_get, Option, Some, None, option_map, position, All, AllPairs, Contains, arith, refl, sym, ◌∙◌, ap, subst}
-use Rattle.std.proofs.lemmas.Bool.Decides.{nat_tests}
-use Rattle.std.proofs.lemmas.Bool.{and_parts, both_ways}
-use Rattle.std.proofs.lemmas.List.Elements.{All-cons, All-head, All-nil, All-tail}
-use Rattle.std.specs.List.{list_any, position_or_len}
-use Rattle.std.specs.Option.{option_or}
-use Rattle.design_model.specs.declared.point.Point.{Point}
-use Rattle.design_model.specs.Points.{is_same_point}
-use Rattle.line_sections.specs.declared.spot.Spot.{Spot}
-use Rattle.line_graph.specs.declared.edge.Edge.{Edge}
-use Rattle.line_graph.specs.declared.pass.Pass.{Pass}
-use Rattle.drawing_model.specs.Drawings.{DrawingValue, KeepsDrawingLimits, block_of, first_point, last_point}
+use Rattle.std.proofs.lemmas.Bool.{both_ways}
+use Rattle.line_graph.proofs.Names.{nat_tests, and_parts, All-cons, All-head, All-nil, All-tail, list_any, position_or_len, option_or, Point, is_same_point, Spot, Edge, Pass, DrawingValue, KeepsDrawingLimits, block_of, first_point, last_point, NeedlesLeadAlong, edge_between, first_junction_among, junction_number, junctions_of, piece_graph, first_line, after_edge, are_same_junction, covers, edge_of, is_fitting_walk, is_walk_start_to_end, pass_end, pass_start, walk_end_from, IsValidPiece, needles_of_pass, same_found, less_test, number_found, same_number}
 use Rattle.line_graph.specs.DrawnWalks.{FittingWalksAreThreads, GivenPointsAreJunctions, IsThreadOver, KeepsGivenEnds, Leads, given_point}
-use Rattle.drawing_model.specs.LineNeedles.{NeedlesLeadAlong}
-use Rattle.line_graph.specs.PieceGraphs.{edge_between, first_junction_among, junction_number, junctions_of, piece_graph}
-use Rattle.line_graph.specs.Pieces.{first_line}
-use Rattle.line_graph.specs.PieceWalks.{after_edge, are_same_junction, covers, edge_of, is_fitting_walk, is_line_passed, is_walk_start_to_end, pass_end, pass_start, pass_start_on, walk_end_from, walk_start}
-use Rattle.line_graph.specs.ValidPieces.{IsValidPiece}
-use Rattle.line_graph.specs.Walks.{needles_of_pass}
-use Rattle.drawing_model.proofs.CallerLemmas.{same_found}
+use Rattle.line_graph.specs.PieceWalks.{is_line_passed, pass_start_on, walk_start}
 use Rattle.line_graph.proofs.SewnWalkLemmas.{Passed, found, junction_at, passed}
 use Rattle.line_graph.proofs.TipLemmas.{found_below}
 use Rattle.line_graph.proofs.CallerLemmas.{lost}
-use Rattle.lists_and_numbers.proofs.CallerLemmas.{less_test, number_found, same_number}
-
-less_of : (m n : ℕ) → nat_lt m n ≡ true → m < n
-less_of m n is = grind (arith, nat_tests)
 
 not_less : (m n : ℕ) → m ≡ n → nat_lt m n ≡ false
 not_less m n same = grind (arith, nat_tests)
@@ -54,8 +35,8 @@ number_of_point js differ m n p at_m at_n = by_order (nat_lt m n) (nat_lt n m) r
     neither less more = grind (arith, nat_tests, less, more)
 
     by_order : (t u : Bool) → nat_lt m n ≡ t → nat_lt n m ≡ u → m ≡ n
-    by_order true u less more = absurd (apart m n at_m at_n (less_of m n less))
-    by_order false true less more = absurd (apart n m at_n at_m (less_of n m more))
+    by_order true u less more = absurd (apart m n at_m at_n (grind (arith, nat_tests)))
+    by_order false true less more = absurd (apart n m at_n at_m (grind (arith, nat_tests)))
     by_order false false less more = neither less more
 
 -- the edge of a line that is among the lines

@@ -1,17 +1,7 @@
 -- Starts and ends, worked out by hand: an angle of two lines and a stroke in one block, a stroke at the angle's first
 -- point in the next one.
 use Rattle.std.proofs.Common.{◌≡◌, ℕ, pos, true, false, Bool, List, [], ◌∷◌, ◌++◌, Some, None, refl}
-use Rattle.design_model.specs.declared.point.Point.{Point}
-use Rattle.line_sections.specs.declared.spot.Spot.{Spot}
-use Rattle.line_sections.specs.Lines.{LineValue}
-use Rattle.drawing_model.specs.Drawings.{DrawingValue}
-use Rattle.line_graph.specs.FirstLines.{IsLineEnd}
-use Rattle.line_graph.specs.declared.pass.Pass.{Pass}
-use Rattle.line_graph.specs.PieceGraphs.{odd_junctions, piece_graph}
-use Rattle.line_graph.specs.PieceWalks.{is_fitting_walk}
-use Rattle.line_graph.specs.Pieces.{AreConnected}
-use Rattle.drawing_model.specs.WalkEnds.{are_connected_spots}
-use Rattle.line_graph.specs.ConnectedSpots.{SpotsAreConnected}
+use Rattle.line_graph.proofs.Names.{Point, Spot, LineValue, DrawingValue, IsLineEnd, Pass, odd_junctions, piece_graph, is_fitting_walk, AreConnected, are_connected_spots, SpotsAreConnected}
 
 abbrev at : ℕ → ℕ → Point
 at x y = record { x = pos x; y = pos y }

@@ -1,18 +1,10 @@
 -- Every piece of a drawing is maximal, and so its graph is valid.
 use Rattle.std.proofs.Common.{◌≡◌, ◌≢◌, ◌<◌, ◌≤◌, ℕ, zero, suc, List, [], ◌∷◌, length, get_or, slice_get, Some, All, Contains, arith, refl, subst}
-use Rattle.std.proofs.lemmas.List.Elements.{All-contains}
-use Rattle.std.specs.List.{concat}
-use Rattle.std.specs.List.Sorted.{IsStrictlyIncreasing}
-use Rattle.step_splitter.specs.Chains.{SplitPointsLead}
-use Rattle.line_sections.specs.Lines.{LineValue}
-use Rattle.drawing_model.specs.Drawings.{DrawingValue}
+use Rattle.line_graph.proofs.Names.{All-contains, concat, IsStrictlyIncreasing, SplitPointsLead, LineValue, DrawingValue, IsPiece, ArePieces, AreConnected, LinesTouch, first_line, concat_has}
 use Rattle.line_graph.specs.DrawnWalks.{PiecesAreValid}
-use Rattle.line_graph.specs.PieceLabels.{IsPiece}
-use Rattle.line_graph.specs.Pieces.{ArePieces, AreConnected, LinesTouch, first_line}
 use Rattle.line_graph.proofs.LabelLemmas.{joined_back, joined_on}
 use Rattle.line_graph.proofs.UniquePieceLemmas.{alike, among}
 use Rattle.line_graph.proofs.ValidPieceLemmas.{part_kept}
-use Rattle.lists_and_numbers.proofs.CallerLemmas.{concat_has}
 
 -- a line that there is has an index below their number
 index_below : (lines : List LineValue) (i : ℕ) (line : LineValue) → slice_get lines i ≡ Some line → i < length lines

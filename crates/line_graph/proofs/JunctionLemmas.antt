@@ -1,18 +1,8 @@
 -- Numbers of junctions, in the order in which lines name them.
-use Rattle.std.proofs.lemmas.Bool.Decides.{nat_tests}
 use Rattle.std.proofs.Common.{◌≡◌, ◌<◌, ◌≤◌, ℕ, ◌+◌, ◌*◌, Bool, true, false, List, [], ◌∷◌, ◌++◌, length, map, drop, get_or, Some, arith, refl, sym, ◌∙◌, ap, inl, inr}
-use Rattle.std.proofs.lemmas.Bool.{or_cases, or_left, or_right}
-use Rattle.std.proofs.lemmas.List.{append_assoc, at_drop_more, length-append}
-use Rattle.std.proofs.lemmas.List.Concat.{flat_map-cons}
-use Rattle.std.specs.List.{flat_map, list_any, position_or_len}
-use Rattle.design_model.specs.declared.point.Point.{Point}
-use Rattle.design_model.specs.Points.{is_same_point}
-use Rattle.line_graph.specs.declared.edge.Edge.{Edge}
-use Rattle.drawing_model.specs.Drawings.{DrawingValue, first_point, last_point, points_of, endpoints}
-use Rattle.line_graph.specs.PieceGraphs.{edge_between, junctions_of, junction_number, with_points, with_point}
+use Rattle.std.proofs.lemmas.List.{at_drop_more}
+use Rattle.line_graph.proofs.Names.{nat_tests, or_cases, or_left, or_right, append_assoc, length-append, flat_map-cons, flat_map, list_any, position_or_len, Point, is_same_point, Edge, DrawingValue, first_point, last_point, points_of, endpoints, edge_between, junctions_of, junction_number, with_points, with_point, cost_of_line, same_found}
 use Rattle.line_graph.specs.PieceLabels.{AddsEdge}
-use Rattle.drawing_model.specs.LineNeedles.{cost_of_line}
-use Rattle.drawing_model.proofs.CallerLemmas.{same_found}
 
 -- a place that is found stays where more follow
 place_before : (test : Point → Bool) (xs ys : List Point) → list_any test xs ≡ true
@@ -42,11 +32,6 @@ any_behind test (x ∷ xs) y here = or_right (test x) (list_any test (xs ++ y �
 -- a point that is put is found
 pub put_found : (points : List Point) (p : Point) → list_any (is_same_point p) (with_point points p) ≡ true
 put_found points p = grind (arith, nat_tests, any_behind (is_same_point p) points p (same_found p p refl), same_found p p refl)
-
--- its number is the one that it had before, or the next
-put_number : (points : List Point) (p : Point)
-    → position_or_len (is_same_point p) (with_point points p) ≡ position_or_len (is_same_point p) points
-put_number points p = grind (arith, nat_tests, place_behind (is_same_point p) points p, same_found p p refl)
 
 -- what is found among points is found among more
 pub put_keeps : (test : Point → Bool) (points : List Point) (p : Point) → list_any test points ≡ true
@@ -104,10 +89,10 @@ edge_added d line p q k0 k1 k2 a b cost first last a_is k1_is b_is k2_is cost_is
     here_q = ap (list_any (is_same_point q)) k2_is ∙ put_found k1 q
 
     at_a : (more : List Point) → a ≡ junction_number (with_points k2 more) (first_point (points_of d line))
-    at_a more = grind (arith, nat_tests, put_keeps_number, here_p, put_number, put_keeps, number_stays)
+    at_a more = grind (arith, nat_tests, put_keeps_number, here_p, place_behind, same_found, put_keeps, number_stays)
 
     at_b : (more : List Point) → b ≡ junction_number (with_points k2 more) (last_point (points_of d line))
-    at_b more = grind (arith, nat_tests, put_number, number_stays, here_q)
+    at_b more = grind (arith, nat_tests, place_behind, same_found, number_stays, here_q)
 
 -- edges so far, and those of the lines that are left
 pub record AreEdges (d : DrawingValue) (lines : List ℕ) (at : ℕ) (junctions : List Point) (edges : List Edge) : Type 0 where

@@ -1,17 +1,9 @@
 -- What lowering labels keeps.
 use Rattle.std.proofs.Common.{◌≡◌, ◌≤◌, ◌<◌, ◌⊎◌, inl, inr, ℕ, suc, ◌+◌, ◌==◌, Bool, true, false, ◌||◌, List, [], ◌∷◌, ◌++◌, length, get_or, set, take, min, All, sum_by, arith, refl, sym, ◌∙◌, ap, subst}
-use Rattle.std.proofs.lemmas.Bool.{eqb-false, or_parts}
-use Rattle.std.proofs.lemmas.Bool.Decides.{nat_tests}
-use Rattle.std.proofs.lemmas.List.{get_or-set_other, get_or-set_same, length-set, take_more}
-use Rattle.std.proofs.lemmas.List.Elements.{All-append, All-cons, All-head, All-nil}
 use Rattle.std.proofs.lemmas.List.Sums.{sum_by-set}
-use Rattle.line_graph.specs.declared.line_labels.LineLink.{LineLink}
-use Rattle.drawing_model.specs.Drawings.{DrawingValue}
-use Rattle.line_graph.specs.LineLabels.{LabelsAgree, LinkedAreConnected, AreAtMostIndex, AreOwnIndexes, AreConnectedToLabels, AreFinalLabels, AreLabelsOfLinks, LowersOneLabel, LowersLabels}
-use Rattle.line_graph.specs.PieceGraphs.{one_if}
-use Rattle.line_graph.specs.Pieces.{AreConnected}
+use Rattle.line_graph.proofs.Names.{eqb-false, or_parts, nat_tests, get_or-set_other, get_or-set_same, length-set, take_more, All-append, All-cons, All-head, All-nil, LineLink, DrawingValue, LabelsAgree, AreAtMostIndex, AreOwnIndexes, AreLabelsOfLinks, LowersLabels, one_if, AreConnected, same_number}
+use Rattle.line_graph.specs.LineLabels.{LinkedAreConnected, AreConnectedToLabels, AreFinalLabels, LowersOneLabel}
 use Rattle.line_graph.proofs.PieceLimits.{leads_back, leads_on}
-use Rattle.lists_and_numbers.proofs.CallerLemmas.{same_number}
 
 -- labels that were lowered along links, so far
 pub record IsLowered (links : List LineLink) (old new : List ℕ) : Type 0 where
@@ -99,7 +91,7 @@ one_more_lowered links link old mid new a b one two = record {
         All-cons P x xs (All-head P x (xs ++ ys) all) (All-before xs ys P (λ k. λ d. λ below. all (suc k) d (omega (arith, below))))
 
 -- each line is connected to its own label
-own_reached : (d : DrawingValue) (count : ℕ) (labels : List ℕ) → AreOwnIndexes count labels → AreConnectedToLabels d labels
+pub own_reached : (d : DrawingValue) (count : ℕ) (labels : List ℕ) → AreOwnIndexes count labels → AreConnectedToLabels d labels
 own_reached d count labels own line below = ([], own.own line (omega (arith, below, own.sized)))
 
 -- four labels lowered: those of two lines, and those of the lines that are their labels
@@ -210,8 +202,3 @@ pub next_lowered : (links : List LineLink) (at : ℕ) (d : LineLink) (old mid ne
     → LowersLabels (take (at + 1) links) old new r
 next_lowered links at d old mid new a b r below is_r one two =
     rw (is_r, take_more links at d below) (one_more_lowered (take at links) (get_or links at d) old mid new a b one two)
-
--- so labels that settled from each line's own are labels
-pub own_settled : (links : List LineLink) (count : ℕ) (old new : List ℕ) → AreOwnIndexes count old → AreFinalLabels links old new
-    → AreLabelsOfLinks links new
-own_settled links count old new own settled = grind (arith, nat_tests, own_reached)

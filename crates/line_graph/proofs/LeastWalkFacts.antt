@@ -1,9 +1,7 @@
 -- A walk that costs one step more than another fitting walk isn't least.
 use Rattle.std.proofs.Common.{◌≡◌, ℕ, ◌≤◌, true, false, List, [], ◌∷◌, None, Some, ap, refl, arith, true≢false}
-use Rattle.line_graph.specs.declared.edge.Edge.{Edge}
-use Rattle.line_graph.specs.declared.pass.Pass.{Pass}
-use Rattle.line_graph.specs.PieceGraphs.{PieceValue}
-use Rattle.line_graph.specs.PieceWalks.{BeginsWith, IsLeastWalk, is_fitting_walk, walk_cost}
+use Rattle.line_graph.proofs.Names.{Edge, Pass, PieceValue, BeginsWith, is_fitting_walk, walk_cost}
+use Rattle.line_graph.specs.PieceWalks.{IsLeastWalk}
 use Rattle.line_graph.proofs.WalkFacts.{at}
 
 abbrev edge : ℕ → ℕ → ℕ → Edge

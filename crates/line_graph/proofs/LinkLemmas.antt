@@ -1,26 +1,9 @@
 -- Lines that touch are linked with one line.
 use Rattle.std.proofs.Common.{◌≡◌, ◌<◌, ◌≤◌, ◌⊎◌, inl, inr, ℕ, zero, suc, ◌+◌, ◌==◌, Bool, true, false, cond, List, [], ◌∷◌, length, get_or, slice_get, Option, Some, None, All, Contains, arith, refl, sym, ◌∙◌, ap, subst}
 use Rattle.std.proofs.Math.Path.{ap₂}
-use Rattle.std.proofs.lemmas.Bool.{and_parts, or_cases, or_left, or_right}
-use Rattle.std.proofs.lemmas.Bool.Decides.{nat_tests}
-use Rattle.std.proofs.lemmas.List.Elements.{All-contains, All-push, All-weaker, Contains-append_left, Contains-push}
-use Rattle.std.proofs.lemmas.Option.{slice_get-get_or}
-use Rattle.std.specs.List.{list_any}
-use Rattle.design_model.specs.declared.point.Point.{Point}
-use Rattle.design_model.specs.Points.{is_same_point}
-use Rattle.step_splitter.specs.Chains.{last_point_or}
-use Rattle.line_sections.specs.declared.spot.Spot.{Spot}
-use Rattle.line_sections.specs.Lines.{LineValue}
-use Rattle.line_sections.specs.Spots.{is_same_spot}
-use Rattle.line_graph.specs.declared.line_labels.LineLink.{LineLink}
-use Rattle.drawing_model.specs.Drawings.{DrawingValue, optional_line_block, block_of, first_point, last_point, optional_line_points, points_of, endpoints}
-use Rattle.line_graph.specs.FirstLines.{AddsLink, AreLinks, IsLineEnd, IsLinkedAt, AreLinkedBelow, SharesEnd, RecordsFirstLine}
-use Rattle.line_graph.specs.LineLabels.{LabelsAgree}
-use Rattle.line_graph.specs.Pieces.{AreConnected, LinesTouch, shares_point}
-use Rattle.drawing_model.proofs.CallerLemmas.{same_found}
-use Rattle.design_model.proofs.CallerLemmas.{same_is}
-use Rattle.line_sections.proofs.CallerLemmas.{same_spot, spot_found}
-use Rattle.lists_and_numbers.proofs.CallerLemmas.{same_number, some_same}
+use Rattle.std.proofs.lemmas.List.Elements.{Contains-append_left, Contains-push}
+use Rattle.line_graph.proofs.Names.{and_parts, or_cases, or_left, or_right, nat_tests, All-contains, All-push, All-weaker, slice_get-get_or, list_any, Point, is_same_point, last_point_or, Spot, LineValue, is_same_spot, LineLink, DrawingValue, optional_line_block, block_of, first_point, last_point, optional_line_points, points_of, endpoints, AreLinks, IsLineEnd, AreLinkedBelow, LabelsAgree, AreConnected, LinesTouch, shares_point, same_found, same_is, same_spot, spot_found, same_number, some_same}
+use Rattle.line_graph.specs.FirstLines.{AddsLink, IsLinkedAt, SharesEnd, RecordsFirstLine}
 
 -- a new one takes the line
 pub takes_new : (spot : Spot) (line : ℕ) (old new : Spot → Option ℕ) → old spot ≡ None

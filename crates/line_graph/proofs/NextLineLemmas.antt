@@ -1,14 +1,8 @@
 -- Next lines with the same label are found from the last line to the first, and lead through all lines of a piece.
-use Rattle.std.proofs.lemmas.Bool.Decides.{nat_tests}
 use Rattle.std.proofs.Common.{◌≡◌, ◌≢◌, ◌<◌, ◌≤◌, ℕ, ◌+◌, ◌==◌, Bool, true, false, List, [], ◌∷◌, ◌++◌, length, get_or, set, arith, refl, ◌∙◌, ap}
-use Rattle.std.proofs.lemmas.List.{get_or-set_other, length-set}
 use Rattle.std.proofs.lemmas.Grind.{get_or-set_at}
-use Rattle.line_graph.specs.LineLabels.{AreAtMostIndex}
-use Rattle.line_graph.specs.NextLines.{AreNextFrom, IsFirstLabelled, lines_labelled_from}
-use Rattle.line_graph.specs.PieceLabels.{has_label, lines_labelled}
+use Rattle.line_graph.proofs.Names.{nat_tests, get_or-set_other, length-set, AreAtMostIndex, AreNextFrom, IsFirstLabelled, lines_labelled_from, has_label, lines_labelled, filter_skips, same_number, eqb-false}
 use Rattle.line_graph.proofs.PieceLabelLemmas.{labels_take}
-use Rattle.lists_and_numbers.proofs.CallerLemmas.{filter_skips, same_number}
-use Rattle.std.proofs.lemmas.Bool.{eqb-false}
 
 module _ (labels next more : List ℕ) (line : ℕ) (below : line < length labels) (low : AreAtMostIndex labels)
     (is : more ≡ set (set next (get_or labels line 0) line) line (get_or next (get_or labels line 0) 0))

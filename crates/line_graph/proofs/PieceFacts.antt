@@ -1,9 +1,7 @@
 -- Worked values of what touches.
 use Rattle.std.proofs.Common.{◌≡◌, ℕ, true, false, [], ◌∷◌, refl}
-use Rattle.design_model.specs.declared.point.Point.{Point}
-use Rattle.line_sections.specs.Lines.{LineValue}
+use Rattle.line_graph.proofs.Names.{Point, LineValue, touches}
 use Rattle.line_graph.proofs.WalkFacts.{at}
-use Rattle.line_graph.specs.Pieces.{touches}
 
 -- a line of three points in a block
 abbrev bent : ℕ → Point → Point → Point → LineValue

@@ -1,24 +1,16 @@
 -- Lines with one label are the pieces of a drawing.
-use Rattle.std.proofs.lemmas.Bool.Decides.{nat_tests}
 use Rattle.std.proofs.Common.{◌≡◌, ◌≢◌, ◌<◌, ◌≤◌, ℕ, ◌+◌, ◌-◌, true, List, [], ◌∷◌, ◌++◌, length, map, filter, get_or, All, Contains, arith, refl, sym, ◌∙◌, ap, subst}
-use Rattle.std.proofs.lemmas.List.{append_assoc, append-nil}
-use Rattle.std.proofs.lemmas.List.Elements.{All-contains, All-filter, All-head, All-map, All-push, All-tail, filter_passes}
+use Rattle.std.proofs.lemmas.List.{append-nil}
+use Rattle.std.proofs.lemmas.List.Elements.{All-filter, filter_passes}
 use Rattle.std.proofs.lemmas.List.FromFn.{get_or-range_with_len, length-range_with_len}
 use Rattle.std.proofs.lemmas.List.Kept.{IsStrictlyIncreasing-filter}
-use Rattle.std.specs.List.{concat, range_with_len}
-use Rattle.std.specs.List.Sorted.{IsStrictlyIncreasing}
-use Rattle.line_graph.specs.declared.line_labels.LineLink.{LineLink}
-use Rattle.line_graph.specs.declared.piece.Piece.{Piece}
-use Rattle.line_graph.specs.PiecesOfDrawings.{ArePiecesOf, graph_of, lines_of_pieces}
-use Rattle.drawing_model.specs.Drawings.{DrawingValue}
-use Rattle.line_graph.specs.FirstLines.{AreLinks}
-use Rattle.line_graph.specs.LineLabels.{AreLabelsOfLinks}
-use Rattle.line_graph.specs.PieceGraphs.{PieceValue, piece_graph}
-use Rattle.line_graph.specs.PieceLabels.{ArePieceLabels, IsPiece, has_label, is_own_label, lines_labelled, pieces_by_label}
-use Rattle.line_graph.specs.Pieces.{ArePieces, AreConnected, IsPathOfLines, first_line}
+use Rattle.std.specs.List.{range_with_len}
+use Rattle.line_graph.proofs.Names.{nat_tests, append_assoc, All-contains, All-head, All-map, All-push, All-tail, concat, IsStrictlyIncreasing, LineLink, Piece, graph_of, lines_of_pieces, DrawingValue, AreLinks, AreLabelsOfLinks, PieceValue, piece_graph, ArePieceLabels, IsPiece, has_label, lines_labelled, pieces_by_label, ArePieces, AreConnected, IsPathOfLines, first_line, concat_has, filter_skips, number_found, same_number}
+use Rattle.line_graph.specs.PiecesOfDrawings.{ArePiecesOf}
+use Rattle.line_graph.specs.PieceLabels.{is_own_label}
 use Rattle.line_graph.proofs.LinkLemmas.{share_of}
 use Rattle.line_graph.proofs.CallerLemmas.{firsts_rise}
-use Rattle.lists_and_numbers.proofs.CallerLemmas.{all_concat, concat_has, filter_has, filter_skips, filter_takes, map_has, number_found, range_rises, same_number, unequal}
+use Rattle.lists_and_numbers.proofs.CallerLemmas.{all_concat, filter_has, filter_takes, map_has, range_rises, unequal}
 
 -- numbers of a range are in it
 range_has : (at count n : ℕ) → at ≤ n → n < at + count → Contains (range_with_len at count) n

@@ -1,14 +1,6 @@
 -- Lines that touch, turned.
 use Rattle.std.proofs.Common.{◌≡◌, ◌==◌, Bool, true, ◌||◌, List, [], ◌∷◌, inl, inr, refl, arith, ◌∙◌}
-use Rattle.std.proofs.lemmas.Bool.{and_parts, or_cases, or_left, or_right}
-use Rattle.std.proofs.lemmas.Bool.Decides.{nat_tests}
-use Rattle.std.specs.List.{list_any}
-use Rattle.design_model.specs.declared.point.Point.{Point}
-use Rattle.design_model.specs.Points.{is_same_point}
-use Rattle.line_sections.specs.Lines.{LineValue}
-use Rattle.line_graph.specs.Pieces.{shares_point, touches}
-use Rattle.drawing_model.specs.Drawings.{endpoints}
-use Rattle.design_model.proofs.CallerLemmas.{same_back}
+use Rattle.line_graph.proofs.Names.{and_parts, or_cases, or_left, or_right, nat_tests, list_any, Point, is_same_point, LineValue, shares_point, touches, endpoints, same_back}
 
 -- a test that passes where another does
 any_more : {X : Type 0} (f g : X → Bool) → ((x : X) → f x ≡ true → g x ≡ true) → (xs : List X)

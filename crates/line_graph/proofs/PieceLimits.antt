@@ -1,28 +1,10 @@
 -- The pieces of a drawing within its limits: each line is in one of them.
 use Rattle.std.proofs.Common.{◌≡◌, ◌≢◌, ◌≤◌, ◌<◌, ℕ, zero, suc, ◌+◌, ◌-◌, ◌*◌, ◌==◌, Bool, true, false, cond, List, [], ◌∷◌, ◌++◌, length, map, get_or, slice_get, Some, All, AllPairs, Contains, sum_by, arith, refl, sym, ◌∙◌, ap, subst}
-use Rattle.std.proofs.lemmas.Bool.Decides.{nat_tests}
-use Rattle.std.proofs.lemmas.Bool.{and_parts}
-use Rattle.std.proofs.lemmas.List.Elements.{All-contains, All-head, All-tail}
-use Rattle.std.proofs.lemmas.List.Kept.{AllPairs-from_increasing}
-use Rattle.std.proofs.lemmas.List.Sums.{sum_by-cons}
-use Rattle.std.proofs.lemmas.List.{length-map}
 use Rattle.std.proofs.lemmas.Option.{slice_get_within}
-use Rattle.std.specs.List.{AllZip, concat}
-use Rattle.std.specs.List.Sorted.{IsStrictlyIncreasing}
-use Rattle.line_sections.specs.Lines.{LineValue}
-use Rattle.line_graph.specs.declared.pass.Pass.{Pass}
-use Rattle.drawing_model.specs.Drawings.{DrawingValue, KeepsDrawingLimits, optional_line_block, block_of, endpoints}
-use Rattle.drawing_model.specs.Needles.{steps_of_line}
-use Rattle.line_graph.specs.PieceGraphs.{edge_between, junctions_of, piece_graph}
-use Rattle.line_graph.specs.Pieces.{AreConnected, IsPathOfLines, LinesTouch, first_line, shares_point}
-use Rattle.line_graph.specs.PieceWalks.{edge_cost, edge_sum, piece_cost}
-use Rattle.line_graph.specs.Runs.{block_of_passes, runs_of, stops_after}
-use Rattle.line_graph.specs.SewnWalks.{GoesAlong, PiecesKeepLimits}
-use Rattle.drawing_model.specs.LineNeedles.{cost_of_line}
-use Rattle.drawing_model.proofs.CallerLemmas.{cost_is}
+use Rattle.line_graph.proofs.Names.{nat_tests, and_parts, All-contains, All-head, All-tail, AllPairs-from_increasing, sum_by-cons, length-map, AllZip, concat, IsStrictlyIncreasing, LineValue, Pass, DrawingValue, KeepsDrawingLimits, optional_line_block, block_of, endpoints, steps_of_line, edge_between, junctions_of, piece_graph, AreConnected, IsPathOfLines, LinesTouch, first_line, shares_point, edge_cost, edge_sum, piece_cost, block_of_passes, runs_of, stops_after, GoesAlong, PiecesKeepLimits, cost_of_line, cost_is, same_number}
 use Rattle.line_graph.proofs.PieceLemmas.{touch_turned}
 use Rattle.line_graph.proofs.CallerLemmas.{firsts_rise}
-use Rattle.lists_and_numbers.proofs.CallerLemmas.{same_number, sum_over}
+use Rattle.lists_and_numbers.proofs.CallerLemmas.{sum_over}
 
 -- how often a number is in a list
 abbrev pub often : ℕ → List ℕ → ℕ

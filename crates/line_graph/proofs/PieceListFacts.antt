@@ -1,8 +1,6 @@
 -- Lists that aren't the pieces of a drawing, each for one reason.
 use Rattle.std.proofs.Common.{◌≡◌, ℕ, zero, suc, ◌<◌, Bool, true, false, List, [], ◌∷◌, Contains, Option, Some, None, slice_get, refl, arith, sym, true≢false}
-use Rattle.line_sections.specs.Lines.{LineValue}
-use Rattle.drawing_model.specs.Drawings.{DrawingValue}
-use Rattle.line_graph.specs.Pieces.{AreConnected, ArePieces, IsPathOfLines, LinesTouch, touches}
+use Rattle.line_graph.proofs.Names.{LineValue, DrawingValue, AreConnected, ArePieces, IsPathOfLines, LinesTouch, touches}
 use Rattle.line_graph.proofs.WalkFacts.{at}
 
 abbrev line : ℕ → ℕ → ℕ → LineValue

@@ -1,9 +1,7 @@
 -- Worked values of sewing in several blocks.
 use Rattle.std.proofs.Common.{◌≡◌, ℕ, ℤ, pos, negsuc, [], ◌∷◌, codes, false, refl}
-use Rattle.design_model.specs.declared.command.Command.TheVariants.{Stitch, Stop, Trim}
-use Rattle.design_model.specs.declared.point.Point.{Point}
-use Rattle.drawing_model.specs.Drawings.{DrawingValue}
-use Rattle.line_graph.specs.Runs.{Run, sewn_design, stops_after}
+use Rattle.line_graph.proofs.Names.{Stitch, Stop, Trim, Point, DrawingValue, Run, stops_after}
+use Rattle.line_graph.specs.Runs.{sewn_design}
 
 abbrev place : ℤ → ℤ → Point
 place x y = record { x = x; y = y }

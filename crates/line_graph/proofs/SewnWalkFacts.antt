@@ -1,23 +1,13 @@
 -- Acts that sew no walk, walks that can't be sewn, and what the theorems on sewing exclude.
 use Rattle.std.proofs.Common.{◌≡◌, ◌≢◌, ℕ, ◌+◌, ◌<◌, true, false, List, [], ◌∷◌, All, Contains, length, sum_by, Result, Ok, Err, refl, arith, ap, sym, true≢false}
-use Rattle.std.specs.List.{AllZip}
-use Rattle.design_model.specs.declared.act.Act.{Act}
+use Rattle.line_graph.proofs.Names.{AllZip, Act, acts_without_numbers, Pass, DrawingValue, KeepsDrawingLimits, ArePieces, piece_graph, is_fitting_walk, piece_cost, walk_cost, AreNear, HasNeedle, Run, runs_of, stops_after, FittingWalksAreSewable, GoesAlong, IsSewable, PiecesKeepLimits, PiecesAreUnique, IsValidPiece, needles_of_walk}
 use Rattle.design_model.specs.declared.act.Act.TheVariants as act
 use Rattle.design_model.specs.declared.act.NumberedAct.{NumberedAct}
-use Rattle.design_model.specs.Acts.{acts_of, acts_without_numbers}
+use Rattle.design_model.specs.Acts.{acts_of}
 use Rattle.drawing_model.specs.declared.draw_kind.DrawKind.{DrawKind}
 use Rattle.drawing_model.specs.declared.draw_kind.DrawKind.TheVariants as kind
-use Rattle.line_graph.specs.declared.pass.Pass.{Pass}
-use Rattle.drawing_model.specs.Drawings.{DrawingValue, KeepsDrawingLimits}
 use Rattle.drawing_model.specs.GrowingDrawings.{ChangesAsSpecified}
-use Rattle.line_graph.specs.Pieces.{ArePieces}
-use Rattle.line_graph.specs.PieceGraphs.{piece_graph}
-use Rattle.line_graph.specs.PieceWalks.{is_fitting_walk, piece_cost, walk_cost}
-use Rattle.line_graph.specs.Runs.{AreNear, AreWritable, HasNeedle, Run, RunsAreSewn, Sews, design_of_runs, runs_of, sewn_acts, stops_after}
-use Rattle.line_graph.specs.SewnWalks.{FittingWalksAreSewable, GoesAlong, IsSewable, PiecesKeepLimits}
-use Rattle.line_graph.specs.UniquePieces.{PiecesAreUnique}
-use Rattle.line_graph.specs.ValidPieces.{IsValidPiece}
-use Rattle.line_graph.specs.Walks.{needles_of_walk}
+use Rattle.line_graph.specs.Runs.{AreWritable, RunsAreSewn, Sews, design_of_runs, sewn_acts}
 use Rattle.line_graph.proofs.WalkFacts.{at, back, drawn, forth}
 
 -- a stroke of one step, sewn forth and back

@@ -1,28 +1,12 @@
 -- Walks over a piece of a drawing as needle points.
 use Rattle.std.proofs.Common.{◌≡◌, ◌≢◌, ℕ, suc, ◌+◌, ◌<◌, ◌≤◌, ◌==◌, Bool, true, false, cond, ◌&&◌, nat_lt, List, [], ◌∷◌, ◌++◌, length, map, drop, reverse, slice_get, Option, Some, None, All, Contains, arith, refl, sym, ◌∙◌, ap, subst}
-use Rattle.std.proofs.lemmas.Bool.Decides.{nat_tests}
-use Rattle.std.proofs.lemmas.Bool.{and_parts}
-use Rattle.std.proofs.lemmas.List.{length-append, length-reverse}
-use Rattle.std.proofs.lemmas.List.Concat.{flat_map-cons}
-use Rattle.std.proofs.lemmas.List.Elements.{All-append, All-cons, All-contains, All-head, All-nil, All-tail}
+use Rattle.std.proofs.lemmas.List.{length-reverse}
 use Rattle.std.proofs.lemmas.List.Recursion.{is_position_or_len}
-use Rattle.std.specs.List.{flat_map}
-use Rattle.design_model.specs.declared.point.Point.{Point}
-use Rattle.design_model.specs.Points.{is_same_point}
-use Rattle.step_splitter.specs.Chains.{IsNeedlePoint, AreCloseAfter}
-use Rattle.line_graph.specs.declared.edge.Edge.{Edge}
-use Rattle.line_graph.specs.declared.pass.Pass.{Pass}
-use Rattle.drawing_model.specs.Drawings.{DrawingValue, KeepsDrawingLimits, first_point, last_point, points_of}
-use Rattle.line_graph.specs.ValidPieces.{ends_below}
-use Rattle.drawing_model.specs.LineNeedles.{AreNeedlesOf, NeedlesLeadAlong, needles_of_line}
-use Rattle.line_graph.specs.PieceGraphs.{edge_between, junctions_of, junction_number, piece_graph}
-use Rattle.line_graph.specs.PieceWalks.{after_edge, required_start, edge_cost, covers, edge_of, pass_end, required_end, is_walk_start_to_end, edge_value, pass_sum, pass_start, walk_end_from}
-use Rattle.line_graph.specs.Runs.{AreNear}
-use Rattle.line_graph.specs.SewnWalks.{FittingWalksAreSewable, IsSewable}
-use Rattle.line_graph.specs.Walks.{needles_of_pass, needles_of_walk}
+use Rattle.line_graph.proofs.Names.{nat_tests, and_parts, length-append, flat_map-cons, All-append, All-cons, All-contains, All-head, All-nil, All-tail, flat_map, Point, is_same_point, IsNeedlePoint, AreCloseAfter, Edge, Pass, DrawingValue, KeepsDrawingLimits, first_point, last_point, points_of, ends_below, NeedlesLeadAlong, edge_between, junctions_of, junction_number, piece_graph, after_edge, edge_cost, covers, edge_of, pass_end, is_walk_start_to_end, pass_start, walk_end_from, AreNear, FittingWalksAreSewable, IsSewable, needles_of_pass, needles_of_walk, same_is}
+use Rattle.drawing_model.specs.LineNeedles.{AreNeedlesOf, needles_of_line}
+use Rattle.line_graph.specs.PieceWalks.{required_start, required_end, edge_value, pass_sum}
 use Rattle.drawing_model.proofs.CallerLemmas.{close_on}
 use Rattle.line_graph.proofs.TrailLemmas.{Trail, trail_back, trail_of}
-use Rattle.design_model.proofs.CallerLemmas.{same_is}
 use Rattle.line_graph.proofs.CallerLemmas.{goes_from, lost}
 
 -- the position of a point in a list
@@ -185,9 +169,6 @@ sewn_more d lines js pass rest e at held p more = record {
     counted : (n r l k c s o : ℕ) → n ≡ r + l → k ≡ suc r → k ≡ c + 1 → l ≡ s → o ≡ c → n ≡ o + s
     counted n r l k c s o a b f g h = omega arith
 
-sewn_none : (d : DrawingValue) (lines : List ℕ) (js : List Point) (at : Point) → Sewn d lines js at []
-sewn_none d lines js at = grind (arith, nat_tests, All-nil (λ (x : Pass). Contains lines x.line), All-nil IsNeedlePoint)
-
 -- a walk from a junction at a point on
 sewn : (d : DrawingValue) → KeepsDrawingLimits d → NeedlesLeadAlong d → (lines : List ℕ) → All (λ line. line < length d.lines) lines
     → (js : List Point) → ends_below (length js) (map (edge_between d js) lines) ≡ true
@@ -195,7 +176,7 @@ sewn : (d : DrawingValue) → KeepsDrawingLimits d → NeedlesLeadAlong d → (l
     → walk_end_from lines (map (edge_between d js) lines) (Some j) walk
     ≡ Some to
     → Sewn d lines js at walk
-sewn d keeps law lines there js ends [] j to at here is = sewn_none d lines js at
+sewn d keeps law lines there js ends [] j to at here is = grind (arith, nat_tests, All-nil)
 sewn d keeps law lines there js ends (pass ∷ rest) j to at here is =
     by_edge (edge_of lines (map (edge_between d js) lines) pass.line) refl is
     (λ m. λ q. λ there_q. λ on. sewn d keeps law lines there js ends rest m to q there_q on)

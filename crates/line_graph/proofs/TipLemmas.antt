@@ -1,20 +1,9 @@
 -- The junctions of lines are the ends of these lines, each once.
-use Rattle.std.proofs.lemmas.Bool.Decides.{nat_tests}
 use Rattle.std.proofs.Common.{◌≡◌, ◌<◌, ◌≤◌, ◌⊎◌, inl, inr, ℕ, Bool, true, false, cond, List, [], ◌∷◌, ◌++◌, length, map, get_or, Option, Some, All, AllPairs, Contains, arith, refl, sym, ◌∙◌, ap, subst}
-use Rattle.std.proofs.lemmas.List.Concat.{flat_map-cons}
-use Rattle.std.proofs.lemmas.List.Elements.{All-append, All-contains, All-cons, All-head, All-map, All-nil, All-push, All-tail, All-weaker, All-contains_itself, Contains-get_or}
-use Rattle.std.proofs.lemmas.List.Quantifiers.{all_pairs_push}
+use Rattle.std.proofs.lemmas.List.Elements.{All-contains_itself, Contains-get_or}
 use Rattle.std.proofs.lemmas.List.Sums.{position_or_len_is}
-use Rattle.std.specs.List.{flat_map, list_any, position_or_len}
-use Rattle.design_model.specs.declared.point.Point.{Point}
-use Rattle.design_model.specs.Points.{is_same_point}
-use Rattle.step_splitter.specs.Chains.{last_point_or}
-use Rattle.line_graph.specs.declared.edge.Edge.{Edge}
-use Rattle.drawing_model.specs.Drawings.{DrawingValue, KeepsDrawingLimits, first_point, last_point, points_of, endpoints}
-use Rattle.line_graph.specs.PieceGraphs.{edge_between, junctions_of, junction_number, with_points, with_point}
+use Rattle.line_graph.proofs.Names.{nat_tests, flat_map-cons, All-append, All-contains, All-cons, All-head, All-map, All-nil, All-push, All-tail, All-weaker, all_pairs_push, flat_map, list_any, position_or_len, Point, is_same_point, last_point_or, Edge, DrawingValue, KeepsDrawingLimits, first_point, last_point, points_of, endpoints, edge_between, junctions_of, junction_number, with_points, with_point, same_found, line_there, same_back}
 use Rattle.line_graph.proofs.JunctionLemmas.{put_found, put_keeps, seen_keeps, seen_on}
-use Rattle.drawing_model.proofs.CallerLemmas.{same_found, line_there}
-use Rattle.design_model.proofs.CallerLemmas.{same_back}
 
 -- a point is the first of a list, or the last
 abbrev pub IsTip : List Point → Point → Type 0

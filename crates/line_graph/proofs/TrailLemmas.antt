@@ -1,16 +1,11 @@
 -- Needle points of passes and of walks, as trails of steps within the longest step.
-use Rattle.std.proofs.lemmas.Bool.Decides.{nat_tests}
 use Rattle.std.proofs.Common.{◌≡◌, ℕ, ℤ, ◌-ℤ◌, unsigned_abs, IsTrue, List, [], ◌∷◌, reverse, Some, All, arith, refl, sym, ◌∙◌, ap, subst}
 use Rattle.std.proofs.lemmas.Int.{ints}
-use Rattle.std.proofs.lemmas.List.Elements.{All-cons, All-head, All-nil, All-tail}
+use Rattle.line_graph.proofs.Names.{nat_tests, All-cons, All-head, All-nil, All-tail, Point, IsNeedlePoint, AreCloseAfter, last_point_or, first_point, last_point, some_same}
 use mathlib.Core.List.{reverse_aux}
-use Rattle.design_model.specs.declared.point.Point.{Point}
 use Rattle.design_model.specs.Points.{is_point_within, move_between}
-use Rattle.step_splitter.specs.Chains.{IsNeedlePoint, AreCloseAfter, last_point_or}
-use Rattle.drawing_model.specs.Drawings.{first_point, last_point}
 use Rattle.drawing_model.specs.LineNeedles.{AreClose}
 use Rattle.line_graph.proofs.CallerLemmas.{range_back}
-use Rattle.lists_and_numbers.proofs.CallerLemmas.{some_same}
 
 -- points from one to another
 pub record Trail (step : ℕ) (from to : Point) (points : List Point) : Type 0 where

@@ -1,10 +1,6 @@
 -- A connected graph has at least as many edges as junctions, less one.
 use Rattle.std.proofs.Common.{◌≡◌, ◌<◌, ◌≤◌, ℕ, zero, suc, ◌+◌, ◌==◌, Bool, true, false, cond, List, [], ◌∷◌, length, slice_get, Some, arith, refl, ◌∙◌, ap}
-use Rattle.std.proofs.lemmas.Bool.Decides.{nat_tests}
-use Rattle.line_graph.specs.declared.edge.Edge.{Edge}
-use Rattle.line_graph.specs.ValidPieces.{IsConnectedGraph}
-use Rattle.line_graph.specs.PieceGraphs.{one_if}
-use Rattle.lists_and_numbers.proofs.CallerLemmas.{eq_self, same_number}
+use Rattle.line_graph.proofs.Names.{nat_tests, Edge, IsConnectedGraph, one_if, eq_self, same_number}
 
 -- who leads what that number led, once another follows a first
 abbrev led : (first other n : ℕ) → ℕ

@@ -1,30 +1,12 @@
 -- The graph of a piece is valid: of lines that are connected, and that no other line touches.
 use Rattle.std.proofs.Common.{◌≡◌, ◌<◌, ◌≤◌, ◌⊎◌, inl, inr, ℕ, zero, suc, pos, Bool, true, nat_le, List, [], ◌∷◌, length, map, get_or, slice_get, Some, All, AllPairs, Contains, sum_by, arith, refl, sym, ◌∙◌, ap, subst}
-use Rattle.std.proofs.lemmas.Bool.Decides.{nat_tests}
-use Rattle.std.proofs.lemmas.List.{length-map}
-use Rattle.std.proofs.lemmas.List.Elements.{All-contains, All-head, All-map, All-tail}
-use Rattle.std.proofs.lemmas.List.Kept.{AllPairs-from_increasing}
-use Rattle.std.proofs.lemmas.List.Sums.{sum_by-cons}
-use Rattle.std.specs.List.{position_or_len}
-use Rattle.design_model.specs.declared.point.Point.{Point}
-use Rattle.design_model.specs.Points.{is_same_point}
-use Rattle.step_splitter.specs.Chains.{SplitPointsLead}
-use Rattle.line_sections.specs.declared.spot.Spot.{Spot}
-use Rattle.line_graph.specs.declared.edge.Edge.{Edge}
-use Rattle.drawing_model.specs.Drawings.{DrawingValue, IsLine, KeepsDrawingLimits, block_of, points_of}
-use Rattle.line_graph.specs.ValidPieces.{IsConnectedGraph, IsValidPiece, NoEdgeLeaves, all_below, all_costs_positive, ends_below, is_below}
-use Rattle.drawing_model.specs.Needles.{steps_of_line}
-use Rattle.line_graph.specs.PieceGraphs.{degree, edge_between, junctions_of, first_junction_among, junction_number, piece_graph}
-use Rattle.line_graph.specs.PieceLabels.{IsPiece}
-use Rattle.line_graph.specs.Pieces.{AreConnected, IsPathOfLines, LinesTouch, first_line}
-use Rattle.line_graph.specs.PieceWalks.{all_greater, is_strictly_increasing}
-use Rattle.drawing_model.specs.LineNeedles.{cost_of_line}
+use Rattle.line_graph.proofs.Names.{nat_tests, length-map, All-contains, All-head, All-map, All-tail, AllPairs-from_increasing, sum_by-cons, position_or_len, Point, is_same_point, SplitPointsLead, Spot, Edge, DrawingValue, KeepsDrawingLimits, block_of, points_of, IsConnectedGraph, IsValidPiece, all_below, all_costs_positive, ends_below, is_below, steps_of_line, degree, edge_between, junctions_of, first_junction_among, junction_number, piece_graph, IsPiece, AreConnected, IsPathOfLines, LinesTouch, first_line, all_greater, is_strictly_increasing, cost_of_line, cost_is, line_there, less_test}
+use Rattle.drawing_model.specs.Drawings.{IsLine}
+use Rattle.line_graph.specs.ValidPieces.{NoEdgeLeaves}
 use Rattle.line_graph.proofs.LinkLemmas.{share_of}
-use Rattle.drawing_model.proofs.CallerLemmas.{cost_is, line_there}
 use Rattle.line_graph.proofs.PieceLimits.{cost_of_piece, lines_cost, often, once, over_ones, sum_once}
 use Rattle.line_graph.proofs.TreeLemmas.{junctions_few}
 use Rattle.line_graph.proofs.TipLemmas.{IsTip, edges_within, junction_tips, junctions_differ, number_is}
-use Rattle.lists_and_numbers.proofs.CallerLemmas.{less_test}
 
 -- which is found for all of them
 ends_are_below : (n : ℕ) (edges : List Edge) → All (λ (e : Edge). (e.a < n) × (e.b < n)) edges → ends_below n edges ≡ true

@@ -1,11 +1,6 @@
 -- Worked values of walks and their sewing.
 use Rattle.std.proofs.Common.{◌≡◌, ℕ, pos, true, false, List, [], ◌∷◌, refl}
-use Rattle.design_model.specs.declared.command.Command.TheVariants.{Stitch, Trim}
-use Rattle.design_model.specs.declared.point.Point.{Point}
-use Rattle.line_graph.specs.declared.pass.Pass.{Pass}
-use Rattle.drawing_model.specs.Drawings.{DrawingValue}
-use Rattle.line_graph.specs.Runs.{commands_after, runs_of}
-use Rattle.line_graph.specs.Walks.{needles_of_walk}
+use Rattle.line_graph.proofs.Names.{Stitch, Trim, Point, Pass, DrawingValue, commands_after, runs_of, needles_of_walk}
 
 abbrev pub at : ℕ → ℕ → Point
 at x y = record { x = pos x; y = pos y }

@@ -1,14 +1,8 @@
 -- Lemmas that this crate and those above cite.
 use Rattle.std.proofs.Common.{ap, arith, refl, true, ℕ, ◌==◌, ◌∙◌, ◌≡◌}
-use Rattle.std.proofs.lemmas.Bool.{and_parts}
-use Rattle.std.proofs.lemmas.Bool.Decides.{Decides-int_eq, nat_tests}
+use Rattle.std.proofs.lemmas.Bool.Decides.{Decides-int_eq}
 use Rattle.std.specs.Ordering.{int_eq}
-use Rattle.design_model.proofs.CallerLemmas.{same_is}
-use Rattle.design_model.specs.Points.{is_same_point}
-use Rattle.design_model.specs.declared.point.Point.{Point}
-use Rattle.line_sections.specs.Spots.{is_same_spot}
-use Rattle.line_sections.specs.declared.spot.Spot.{Spot}
-use Rattle.lists_and_numbers.proofs.CallerLemmas.{same_number}
+use Rattle.line_sections.proofs.Names.{and_parts, nat_tests, same_is, is_same_point, Point, is_same_spot, Spot, same_number}
 
 -- a spot is found to be equal to itself
 pub spot_found : (a : Spot) → is_same_spot a a ≡ true

@@ -1,16 +1,7 @@
 -- Marks decide where lines are cut, and sections that are made point by point are those of the line.
 use Rattle.std.proofs.Common.{◌≡◌, ◌<◌, ℕ, zero, suc, ◌+◌, ◌==◌, Bool, true, false, ◌&&◌, nat_le, cond, List, [], ◌∷◌, ◌++◌, Option, Some, None, is_some, map, sum_by, ap, sym, subst, ◌∙◌, refl, append_assoc, append-nil, length, not, arith}
-use Rattle.std.proofs.lemmas.Bool.Decides.{nat_tests}
-use Rattle.std.proofs.lemmas.List.Concat.{flat_map-cons}
-use Rattle.std.proofs.lemmas.List.Sums.{sum_by-append, sum_by-cons}
-use Rattle.std.specs.List.{count_by, flat_map, list_any}
-use Rattle.design_model.specs.declared.point.Point.{Point}
-use Rattle.design_model.specs.Points.{is_same_point}
-use Rattle.line_sections.specs.declared.spot.Spot.{Spot}
-use Rattle.line_sections.specs.Lines.{LineValue}
-use Rattle.line_sections.specs.Spots.{is_same_spot}
-use Rattle.line_sections.specs.ListedPoints.{AreMarked, Marks, MarksSpot, AreCutMarks, AreMarksOf, is_cut_by, is_listed_again, mark_of, sections_by, sections_continued, spot_at, spots_of, SetsMark}
-use Rattle.line_sections.specs.Sections.{but_last, has_points, is_shared_point, line_sections, lines_through, sections_from, sections_of}
+use Rattle.line_sections.proofs.Names.{nat_tests, flat_map-cons, sum_by-append, sum_by-cons, count_by, flat_map, list_any, Point, is_same_point, Spot, LineValue, is_same_spot, AreMarked, is_cut_by, is_listed_again, mark_of, sections_by, sections_continued, spot_at, spots_of, but_last, has_points, is_shared_point, line_sections, lines_through, sections_from, sections_of}
+use Rattle.line_sections.specs.ListedPoints.{Marks, MarksSpot, AreCutMarks, AreMarksOf, SetsMark}
 use Rattle.line_sections.proofs.WholeLemmas.{counted, listed_counts}
 use Rattle.line_sections.proofs.SectionLemmas.{along}
 use Rattle.line_sections.proofs.CallerLemmas.{same_spot, spot_found}

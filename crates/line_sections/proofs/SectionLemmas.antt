@@ -1,12 +1,8 @@
 -- The sections of one line: they begin where it begins, keep its segments, and are cut nowhere inside.
 use Rattle.std.proofs.Common.{◌≡◌, ◌≤◌, ℕ, Bool, true, false, ◌&&◌, cond, List, [], ◌∷◌, length, All, sum_by, ap, sym, subst, ◌∙◌, refl, arith}
-use Rattle.std.proofs.lemmas.Bool.{and_parts, both_ways, or_parts}
-use Rattle.std.proofs.lemmas.List.Concat.{flat_map-cons}
-use Rattle.std.proofs.lemmas.List.Elements.{All-cons, All-head, All-nil, All-tail}
-use Rattle.std.proofs.lemmas.List.Sums.{sum_by-cons}
-use Rattle.std.specs.List.{count_by, flat_map, list_any}
-use Rattle.design_model.specs.declared.point.Point.{Point}
-use Rattle.line_sections.specs.Sections.{but_last, has_points, inner_points, sections_with_first, sections_from, sections_of, segments_from, segments_of}
+use Rattle.std.proofs.lemmas.List.Elements.{All-cons}
+use Rattle.line_sections.proofs.Names.{and_parts, both_ways, or_parts, flat_map-cons, All-head, All-nil, All-tail, sum_by-cons, count_by, flat_map, list_any, Point, but_last, has_points, inner_points, sections_from, sections_of, segments_of}
+use Rattle.line_sections.specs.Sections.{sections_with_first, segments_from}
 
 -- sections the first of which begins at p
 record Begin (p : Point) (sections : List (List Point)) : Type 0 where

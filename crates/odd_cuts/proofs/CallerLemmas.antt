@@ -1,13 +1,6 @@
 -- Lemmas that this crate and those above cite.
 use Rattle.std.proofs.Common.{None, Option, Some, [], arith, refl, true, ◌≡◌, ◌≤◌}
-use Rattle.std.proofs.lemmas.List.Elements.{All-nil}
-use Rattle.line_graph.specs.PieceGraphs.{PieceValue}
-use Rattle.line_graph.specs.PieceWalks.{is_fitting_walk, piece_cost, walk_cost}
-use Rattle.line_graph.specs.ValidPieces.{IsValidPiece}
-use Rattle.odd_cuts.specs.Faults.{first_fault}
-use Rattle.odd_cuts.specs.PackingBounds.{BoundsWalks}
-use Rattle.odd_cuts.specs.Packings.{IsOddCut}
-use Rattle.odd_cuts.specs.declared.certificate.PieceCert.{PieceCert}
+use Rattle.odd_cuts.proofs.Names.{All-nil, PieceValue, is_fitting_walk, piece_cost, walk_cost, IsValidPiece, first_fault, BoundsWalks, IsOddCut, PieceCert}
 
 -- two are none where neither is one
 pub both_none : {F : Type 0} (first rest : Option F) → first_fault first rest ≡ None → (first ≡ None) × (rest ≡ None)

@@ -1,10 +1,6 @@
 -- A walk crosses the boundary of a set an odd number of times exactly where it has one of the walk's two ends.
 use Rattle.std.proofs.Common.{◌≡◌, ℕ, ◌+◌, ◌%◌, ◌==◌, Bool, true, false, cond, not, List, [], ◌∷◌, Option, Some, None, arith}
-use Rattle.std.proofs.lemmas.Bool.Decides.{nat_tests}
-use Rattle.line_graph.specs.declared.edge.Edge.{Edge}
-use Rattle.line_graph.specs.declared.pass.Pass.{Pass}
-use Rattle.line_graph.specs.PieceGraphs.{one_if}
-use Rattle.line_graph.specs.PieceWalks.{after_edge, edge_of, pass_end, edge_value, pass_sum, pass_start, walk_end_from}
+use Rattle.odd_cuts.proofs.Names.{nat_tests, Edge, Pass, one_if, after_edge, edge_of, pass_end, edge_value, pass_sum, pass_start, walk_end_from}
 use Rattle.line_graph.proofs.CallerLemmas.{lost}
 
 -- 1 where the set has the junction

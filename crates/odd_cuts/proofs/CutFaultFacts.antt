@@ -1,9 +1,7 @@
 -- Worked values of the first fault of cuts.
 use Rattle.std.proofs.Common.{◌≡◌, ℕ, List, [], ◌∷◌, Some, None, refl}
-use Rattle.line_graph.specs.PieceGraphs.{PieceValue}
-use Rattle.odd_cuts.specs.declared.cut.Cut.{Cut}
+use Rattle.odd_cuts.proofs.Names.{PieceValue, Cut, cuts_fault}
 use Rattle.odd_cuts.specs.declared.faults.CutFault.TheVariants as fault
-use Rattle.odd_cuts.specs.CutFaults.{cuts_fault}
 use Rattle.odd_cuts.proofs.WalkFaultFacts.{closed, corners, edge, star}
 
 abbrev cut : ℕ → List ℕ → Cut

@@ -1,13 +1,8 @@
 -- A set has an odd number of odd junctions exactly where an odd number of edges crosses its boundary.
 use Rattle.std.proofs.Common.{◌≡◌, ◌≤◌, ◌<◌, ℕ, zero, suc, ◌+◌, ◌%◌, ◌==◌, Bool, true, false, cond, not, ◌&&◌, nat_lt, List, [], ◌∷◌, filter, arith, refl, sym, ◌∙◌, ap}
-use Rattle.std.proofs.lemmas.Bool.Decides.{nat_tests}
-use Rattle.std.proofs.lemmas.Bool.{and_parts}
 use Rattle.std.proofs.lemmas.List.Recursion.{is_count_by}
-use Rattle.std.specs.List.{count_by, range_with_len}
-use Rattle.line_graph.specs.declared.edge.Edge.{Edge}
-use Rattle.line_graph.specs.ValidPieces.{ends_below}
-use Rattle.line_graph.specs.PieceGraphs.{one_if, degree, degrees_from, is_odd}
-use Rattle.line_graph.specs.PieceWalks.{edge_sum}
+use Rattle.std.specs.List.{range_with_len}
+use Rattle.odd_cuts.proofs.Names.{nat_tests, and_parts, count_by, Edge, ends_below, one_if, degree, degrees_from, is_odd, edge_sum}
 use Rattle.odd_cuts.proofs.Crossing.{crossing, inside}
 
 -- the odd junctions in a set, from a number on
@@ -43,14 +38,10 @@ odd_bit : (t : Bool) (d : ℕ) → one_if (t && is_odd d) % 2 ≡ cond t d 0 % 2
 odd_bit true d = grind (arith, nat_tests)
 odd_bit false d = refl
 
-alike : (x y u v : ℕ) → x % 2 ≡ y % 2 → u % 2 ≡ v % 2 → (x + u) % 2 ≡ (y + v) % 2
-alike x y u v first rest = omega arith
-
 odd_is_held : (s : ℕ → Bool) (at : ℕ) (ds : List ℕ) → odd_in s at ds % 2 ≡ held s at ds % 2
 odd_is_held s at [] = refl
 odd_is_held s at (d ∷ ds) =
-    alike (one_if (s at && is_odd d)) (cond (s at) d 0) (odd_in s (at + 1) ds) (held s (at + 1) ds) (odd_bit (s at) d)
-    (odd_is_held s (at + 1) ds)
+    grind (arith, nat_tests, (odd_bit (s at) d), (odd_is_held s (at + 1) ds))
 
 -- a junction, where it is in the set and in the range
 abbrev one : (ℕ → Bool) → ℕ → ℕ → ℕ → ℕ
@@ -120,8 +111,7 @@ both_crosses false false = refl
 
 crossed : (s : ℕ → Bool) (es : List Edge) → edge_sum (both s) es % 2 ≡ edge_sum (crossing s) es % 2
 crossed s [] = refl
-crossed s (e ∷ es) = alike (both s e) (crossing s e) (edge_sum (both s) es) (edge_sum (crossing s) es) (both_crosses (s e.a) (s e.b))
-    (crossed s es)
+crossed s (e ∷ es) = grind (arith, nat_tests, (crossing s e), (both_crosses (s e.a) (s e.b)), (crossed s es))
 
 -- both numbers are even, or both are odd
 pub odd_crossing : (s : ℕ → Bool) (es : List Edge) (n : ℕ) → ends_below n es ≡ true

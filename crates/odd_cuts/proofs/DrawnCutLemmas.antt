@@ -1,22 +1,13 @@
 -- A packing over the graph of a piece is one over its lines.
-use Rattle.std.proofs.lemmas.Bool.Decides.{nat_tests}
 use Rattle.std.proofs.Common.{◌≡◌, ◌≤◌, ℕ, ◌+◌, ◌*◌, ◌%◌, Bool, cond, List, [], ◌∷◌, map, option_map, Option, Some, None, All, sum_by, arith, refl, ◌∙◌}
-use Rattle.std.proofs.lemmas.List.Elements.{All-weaker, All-cons, All-head, All-nil, All-tail}
-use Rattle.std.specs.List.{count_by}
-use Rattle.std.specs.Option.{option_or}
-use Rattle.design_model.specs.declared.point.Point.{Point}
-use Rattle.line_graph.specs.declared.edge.Edge.{Edge}
+use Rattle.std.proofs.lemmas.List.Elements.{All-weaker}
+use Rattle.odd_cuts.proofs.Names.{nat_tests, All-cons, All-head, All-nil, All-tail, count_by, option_or, Point, Edge, closing_edge, edges_with_closing, one_if, edge_sum, IsValidPiece, Cut, has_member, load_on, IsOddCut, odd_held}
 use Rattle.drawing_model.specs.Drawings.{DrawingValue, block_of}
 use Rattle.line_graph.specs.DrawnWalks.{GivenPointsAreJunctions, given_point}
-use Rattle.line_graph.specs.PieceGraphs.{closing_edge, edge_between, edges_with_closing, first_junction_among, junction_number, junctions_of, one_if, piece_graph}
+use Rattle.line_graph.specs.PieceGraphs.{edge_between, first_junction_among, junction_number, junctions_of, piece_graph}
 use Rattle.line_graph.specs.Pieces.{first_line}
-use Rattle.line_graph.specs.PieceWalks.{edge_sum}
-use Rattle.line_graph.specs.ValidPieces.{IsValidPiece}
 use Rattle.drawing_model.specs.LineNeedles.{cost_of_line}
-use Rattle.odd_cuts.specs.declared.cut.Cut.{Cut}
-use Rattle.odd_cuts.specs.Cuts.{has_member, load_on}
 use Rattle.odd_cuts.specs.DrawnCuts.{IsOddOver, PackingsAreOverLines, given_apart, leads_out}
-use Rattle.odd_cuts.specs.Packings.{IsOddCut, odd_held}
 use Rattle.odd_cuts.proofs.Crossing.{crossing}
 use Rattle.odd_cuts.proofs.Degrees.{count_is, counted}
 use Rattle.odd_cuts.proofs.Duality.{held_crossing, sum_append}

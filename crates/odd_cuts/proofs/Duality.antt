@@ -1,20 +1,9 @@
 -- The bound: a walk crosses each cut once more than the lines do, and the loads bound the extra crossings.
 use Rattle.std.proofs.Common.{◌≡◌, ◌≤◌, ℕ, ◌+◌, ◌*◌, ◌%◌, Bool, true, cond, List, [], ◌∷◌, ◌++◌, length, Option, Some, None, All, arith, refl, sym, ◌∙◌, ap}
-use Rattle.std.proofs.lemmas.Bool.Decides.{nat_tests}
-use Rattle.std.proofs.lemmas.Bool.{and_parts}
-use Rattle.std.proofs.lemmas.List.Elements.{All-head, All-tail}
 use Rattle.std.proofs.lemmas.List.Sums.{sum_by-cons}
-use Rattle.std.specs.Option.{option_or}
+use Rattle.odd_cuts.proofs.Names.{nat_tests, and_parts, All-head, All-tail, option_or, Edge, Pass, IsValidPiece, ends_below, PieceValue, edges_with_closing, closing_edge, are_same_junction, edge_cost, covers, edge_sum, walk_start, is_fitting_walk, is_walk_start_to_end, piece_cost, walk_cost, walk_end_from, Cut, BoundsWalks, ProvesLeast, has_member, load_on, total_weight, IsOddCut, odd_held}
 use native.Mathlib.Nat.{mul-le-mul_left, le-mul_of_pos_right}
-use Rattle.line_graph.specs.declared.edge.Edge.{Edge}
-use Rattle.line_graph.specs.declared.pass.Pass.{Pass}
-use Rattle.line_graph.specs.ValidPieces.{IsValidPiece, ends_below}
-use Rattle.line_graph.specs.PieceGraphs.{PieceValue, edges_with_closing, closing_edge}
-use Rattle.line_graph.specs.PieceWalks.{are_same_junction, edge_cost, covers, edge_sum, walk_start, is_fitting_walk, is_walk_start_to_end, piece_cost, walk_cost, walk_end_from}
-use Rattle.odd_cuts.specs.declared.cut.Cut.{Cut}
-use Rattle.odd_cuts.specs.PackingBounds.{BoundsWalks, ProvesLeast}
-use Rattle.odd_cuts.specs.Cuts.{crosses, has_member, load_on, total_weight}
-use Rattle.odd_cuts.specs.Packings.{IsOddCut, odd_held}
+use Rattle.odd_cuts.specs.Cuts.{crosses}
 use Rattle.odd_cuts.proofs.Crossing.{crossing, inside, walk_even}
 use Rattle.odd_cuts.proofs.Degrees.{odd_counted, odd_crossing}
 use Rattle.odd_cuts.proofs.Sums.{exchange, more, once_and_more, weigh}
@@ -89,17 +78,12 @@ nowhere (Some a) is = cc
 line_back : (s : ℕ → Bool) (a b : ℕ) → ((edge_sum (crossing s) (closing_edge (Some a) (Some b)) + inside s a) + inside s b) % 2 ≡ 0
 line_back s a b = grind (arith, nat_tests)
 
-led_between : (ns : List ℕ) (es : List Edge) (walk : List Pass) (a b : ℕ)
-    → are_same_junction (walk_end_from ns es (Some a) walk) (Some b) ≡ true
-    → Led ns es walk (closing_edge (Some a) (Some b))
-led_between ns es walk a b is = grind (arith, nat_tests)
-
 led : (ns : List ℕ) (es : List Edge) (walk : List Pass) (start end first : Option ℕ)
     → are_same_junction (walk_end_from ns es (option_or (option_or start end) first) walk) (option_or (option_or end start) first) ≡ true
     → Led ns es walk (closing_edge (option_or start end) (option_or end start))
-led ns es walk (Some a) (Some b) first is = led_between ns es walk a b is
-led ns es walk (Some a) None first is = led_between ns es walk a a is
-led ns es walk None (Some b) first is = led_between ns es walk b b is
+led ns es walk (Some a) (Some b) first is = grind (arith, nat_tests)
+led ns es walk (Some a) None first is = grind (arith, nat_tests)
+led ns es walk None (Some b) first is = grind (arith, nat_tests)
 led ns es walk None None None is = absurd (nowhere (walk_end_from ns es None walk) is)
 led ns es walk None None (Some a) is = grind (arith, nat_tests)
 
@@ -107,16 +91,12 @@ pub sum_append : (f : Edge → ℕ) (xs ys : List Edge) → edge_sum f (xs ++ ys
 sum_append f [] ys = omega arith
 sum_append f (x ∷ xs) ys = grind (arith, nat_tests, sum_append f xs ys)
 
--- both ends of each edge of a piece, and of the line back, are junctions
-pub closed_ends : (p : PieceValue) → IsValidPiece p → ends_below (length p.junctions) (edges_with_closing p) ≡ true
-closed_ends p kept = grind (arith, nat_tests)
-
 -- the odd junctions that a set holds, and the lines that cross it, the line back among them
 pub held_crossing : (p : PieceValue) → IsValidPiece p → (members : List ℕ)
     → odd_held p members % 2 ≡ edge_sum (crossing (has_member members)) (edges_with_closing p) % 2
 held_crossing p kept members =
     ap (λ (k : ℕ). k % 2) (odd_counted (has_member members) (edges_with_closing p) 0 (length p.junctions))
-    ∙ odd_crossing (has_member members) (edges_with_closing p) (length p.junctions) (closed_ends p kept)
+    ∙ odd_crossing (has_member members) (edges_with_closing p) (length p.junctions) (grind (arith, nat_tests))
 
 -- a fitting walk crosses an odd cut once more than the lines do
 crossed_more : (p : PieceValue) (walk : List Pass) → IsValidPiece p → covers p.lines walk ≡ true

@@ -1,17 +1,8 @@
 -- The check of cuts accepts exactly the packings with the total that is needed.
 use Rattle.std.proofs.Common.{◌≡◌, ◌<◌, ℕ, ◌+◌, ◌*◌, ◌==◌, Bool, true, false, cond, nat_lt, nat_le, List, [], ◌∷◌, length, All, Some, None, Result, Ok, Err, IsOk, arith, refl}
-use Rattle.std.proofs.lemmas.Bool.Decides.{nat_tests}
-use Rattle.std.proofs.lemmas.List.Elements.{All-cons, All-head, All-nil, All-tail}
-use Rattle.line_graph.specs.declared.edge.Edge.{Edge}
-use Rattle.line_graph.specs.ValidPieces.{IsValidPiece}
-use Rattle.line_graph.specs.PieceGraphs.{PieceValue}
-use Rattle.odd_cuts.specs.declared.cut.Cut.{Cut}
-use Rattle.odd_cuts.specs.declared.faults.CutFault.{CutFault}
+use Rattle.odd_cuts.proofs.Names.{nat_tests, All-cons, All-head, All-nil, All-tail, Edge, IsValidPiece, PieceValue, Cut, CutFault, cut_fault, cut_faults, cuts_fault, load_faults, stranger_fault, total_fault, load_on, total_weight, ReportsFault, first_fault, IsOddCut, IsPacking}
 use Rattle.odd_cuts.specs.declared.faults.CutFault.TheVariants as fault
-use Rattle.odd_cuts.specs.CutFaults.{cut_fault, cut_faults, cuts_fault, load_fault, load_faults, stranger_fault, total_fault}
-use Rattle.odd_cuts.specs.Cuts.{load_on, total_weight}
-use Rattle.odd_cuts.specs.Faults.{ReportsFault, first_fault}
-use Rattle.odd_cuts.specs.Packings.{IsOddCut, IsPacking}
+use Rattle.odd_cuts.specs.CutFaults.{load_fault}
 use Rattle.lists_and_numbers.proofs.CallerLemmas.{test_none}
 use Rattle.odd_cuts.proofs.Duality.{Fits}
 use Rattle.odd_cuts.proofs.CallerLemmas.{both_none}
@@ -92,20 +83,15 @@ packing_right p retraced cuts beside is =
       ),
     )
 
--- and such a packing has none
-no_fault_found : (p : PieceValue) (retraced : ℕ) (cuts : List Cut) → IsPacking p cuts → total_weight cuts ≡ 2 * retraced
-    → cuts_fault p retraced cuts ≡ None
-no_fault_found p retraced cuts are total = grind (arith, nat_tests, no_cut_faults, no_load_faults)
-
 -- so the check answers right exactly there
 pub exact_cuts : {T : Type 0} (p : PieceValue) (retraced : ℕ) (cuts : List Cut) (r : Result T CutFault) → length p.lines ≡ length p.edges
     → ReportsFault (cuts_fault p retraced cuts) r
     → (IsOk r → IsPacking p cuts × (total_weight cuts ≡ 2 * retraced)) × (IsPacking p cuts × (total_weight cuts ≡ 2 * retraced) → IsOk r)
 exact_cuts p retraced cuts (Ok x) beside is = (λ ok. packing_right p retraced cuts beside is, λ are. refl)
-exact_cuts p retraced cuts (Err found) beside is = grind (arith, nat_tests, no_fault_found)
+exact_cuts p retraced cuts (Err found) beside is = grind (arith, nat_tests, no_cut_faults, no_load_faults)
 
 -- no fault is found exactly where the cuts are a packing with that total
 pub cuts_exact : (p : PieceValue) (retraced : ℕ) (cuts : List Cut) → IsValidPiece p
     → (cuts_fault p retraced cuts ≡ None → IsPacking p cuts × (total_weight cuts ≡ 2 * retraced))
     × (IsPacking p cuts × (total_weight cuts ≡ 2 * retraced) → cuts_fault p retraced cuts ≡ None)
-cuts_exact p retraced cuts keeps = grind (arith, nat_tests, packing_right, no_fault_found)
+cuts_exact p retraced cuts keeps = grind (arith, nat_tests, packing_right, no_cut_faults, no_load_faults)

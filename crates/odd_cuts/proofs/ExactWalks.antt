@@ -1,16 +1,10 @@
 -- The check of a walk accepts exactly the fitting ones.
-use Rattle.std.proofs.lemmas.Bool.Decides.{nat_tests}
 use Rattle.std.proofs.Common.{◌≡◌, ◌≤◌, ℕ, ◌+◌, ◌==◌, Bool, true, false, cond, ◌&&◌, List, [], ◌∷◌, length, Option, Some, None, Result, Ok, Err, is_ok, arith, refl, sym, ◌∙◌, ap}
-use Rattle.std.specs.Option.{option_or}
-use Rattle.line_graph.specs.declared.edge.Edge.{Edge}
-use Rattle.line_graph.specs.declared.pass.Pass.{Pass}
-use Rattle.line_graph.specs.ValidPieces.{IsValidPiece}
-use Rattle.line_graph.specs.PieceGraphs.{PieceValue, given_start, given_end}
-use Rattle.line_graph.specs.PieceWalks.{after_edge, are_same_junction, covers, edge_of, pass_start_on, pass_end, walk_start, is_fitting_walk, is_walk_start_to_end, pass_start, walk_end_from}
+use Rattle.odd_cuts.proofs.Names.{nat_tests, option_or, Edge, Pass, IsValidPiece, PieceValue, given_start, given_end, after_edge, are_same_junction, covers, edge_of, pass_end, walk_start, is_fitting_walk, is_walk_start_to_end, pass_start, walk_end_from, first_fault, faults_from, missing_fault, walk_fault}
+use Rattle.line_graph.specs.PieceWalks.{pass_start_on}
 use Rattle.odd_cuts.specs.declared.faults.WalkFault.{WalkFault}
 use Rattle.odd_cuts.specs.declared.faults.WalkFault.TheVariants as fault
-use Rattle.odd_cuts.specs.Faults.{first_fault}
-use Rattle.odd_cuts.specs.WalkFaults.{ChecksWalk, ends_fault, faults_at, faults_from, walk_ends_fault, missing_fault, pass_fault, pass_faults, walk_fault}
+use Rattle.odd_cuts.specs.WalkFaults.{ChecksWalk, ends_fault, faults_at, walk_ends_fault, pass_fault, pass_faults}
 use Rattle.line_graph.proofs.CallerLemmas.{stays_lost}
 use Rattle.lists_and_numbers.proofs.CallerLemmas.{eq_self}
 

@@ -1,22 +1,12 @@
 -- Loads and totals, as they are added up.
 use Rattle.std.proofs.Common.{◌≡◌, ◌≤◌, ◌<◌, ℕ, suc, ◌+◌, ◌*◌, ◌^◌, All, true, nat_le, List, [], ◌∷◌, Option, Some, None, Result, Ok, Err, length, get_or, replicate, set, slice_get, arith, refl, sym, ap, subst, ◌∙◌}
 use Rattle.std.proofs.lemmas.Bool.{cases_eq}
-use Rattle.std.proofs.lemmas.Bool.Decides.{nat_tests}
-use Rattle.std.proofs.lemmas.List.{get_or-set_other, get_or-set_same}
 use Rattle.std.proofs.lemmas.Option.{get_or_from_slice_get}
-use Rattle.std.proofs.lemmas.List.Elements.{All-head, All-tail}
 use Rattle.std.specs.List.{fold}
 use Rattle.std.specs.Result.{IsErrAnd}
-use Rattle.odd_cuts.specs.declared.cut.Cut.{Cut}
-use Rattle.odd_cuts.specs.CheckTables.{AddsShares, AreLoads, share_of, table_load_faults}
-use Rattle.odd_cuts.specs.Faults.{ReportsFault}
-use Rattle.odd_cuts.specs.CutFaults.{HaveNumberedMembers, cut_fault, cut_faults, cuts_fault, load_faults, total_fault}
-use Rattle.odd_cuts.specs.declared.faults.CutFault.{CutFault}
-use Rattle.odd_cuts.specs.Cuts.{load_on, total_weight}
-use Rattle.line_graph.specs.PieceGraphs.{PieceValue}
+use Rattle.odd_cuts.proofs.Names.{nat_tests, get_or-set_other, get_or-set_same, All-head, All-tail, Cut, share_of, table_load_faults, ReportsFault, HaveNumberedMembers, cut_fault, cut_faults, cuts_fault, load_faults, total_fault, CutFault, load_on, total_weight, PieceValue, Edge, MAX_LINES}
+use Rattle.odd_cuts.specs.CheckTables.{AddsShares, AreLoads}
 use Rattle.odd_cuts.proofs.TableLemmas.{blank}
-use Rattle.line_graph.specs.declared.edge.Edge.{Edge}
-use Rattle.drawing_model.specs.declared.limits.TheConstants.{MAX_LINES}
 
 -- each member of the cut has a number
 abbrev Numbered : Cut → Type 0
@@ -52,11 +42,6 @@ pub loads_next : (cuts : List Cut) (cut : Cut) (rest : List Cut) (edges : List E
     → ((i : ℕ) (e : Edge) → slice_get edges i ≡ Some e → load_with (get_or old i 0) cuts e ≡ whole e)
     → (i : ℕ) (e : Edge) → slice_get edges i ≡ Some e → load_with (get_or new i 0) rest e ≡ whole e
 loads_next cuts cut rest edges old new whole is adds told i e found = rw (adds i e found) (rw is at (told i e found))
-
--- one cut less is left
-pub cuts_next : (cuts rest : List Cut) (cut : Cut) (number count : ℕ) → cuts ≡ cut ∷ rest → number + length cuts ≡ count
-    → number + 1 + length rest ≡ count
-cuts_next cuts rest cut number count is told = omega (arith, told, ap (λ (cuts : List Cut). length cuts) is)
 
 -- after a cut without a fault the first fault is that of the cuts after it
 pub faults_next : (p : PieceValue) (cuts rest : List Cut) (cut : Cut) (number : ℕ) (whole : Option CutFault) → cuts ≡ cut ∷ rest

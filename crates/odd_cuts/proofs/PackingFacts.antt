@@ -1,19 +1,9 @@
 -- Cuts that are no packing, walks that a packing bounds, and certificates without a canonical text.
 use Rattle.std.proofs.Common.{◌≡◌, ℕ, ◌+◌, ◌*◌, ◌<◌, ◌≤◌, true, false, List, [], ◌∷◌, All, None, refl, arith, sym, true≢false}
-use Rattle.std.proofs.lemmas.List.Elements.{All-cons, All-nil}
-use Rattle.line_graph.specs.declared.pass.Pass.{Pass}
-use Rattle.line_graph.specs.PieceGraphs.{PieceValue}
-use Rattle.line_graph.specs.PieceWalks.{is_fitting_walk, piece_cost, walk_cost}
-use Rattle.line_graph.specs.ValidPieces.{IsValidPiece}
-use Rattle.odd_cuts.specs.declared.certificate.PieceCert.{PieceCert}
-use Rattle.odd_cuts.specs.declared.cut.Cut.{Cut}
+use Rattle.odd_cuts.proofs.Names.{All-cons, All-nil, Pass, PieceValue, is_fitting_walk, piece_cost, walk_cost, IsValidPiece, PieceCert, Cut, cuts_fault, total_weight, BoundsTotal, BoundsWalks, ProvesLeast, IsOddCut, IsPacking, walk_fault}
 use Rattle.odd_cuts.specs.Certificates.{HasCanonicalText}
-use Rattle.odd_cuts.specs.CutFaults.{cuts_fault}
-use Rattle.odd_cuts.specs.Cuts.{total_weight}
 use Rattle.odd_cuts.specs.FaultTheorems.{CutFaultsAreExact, WalkFaultsAreExact}
-use Rattle.odd_cuts.specs.PackingBounds.{BoundsTotal, BoundsWalks, ProvesLeast}
-use Rattle.odd_cuts.specs.Packings.{IsOddCut, IsPacking, IsPlainCut}
-use Rattle.odd_cuts.specs.WalkFaults.{walk_fault}
+use Rattle.odd_cuts.specs.Packings.{IsPlainCut}
 use Rattle.odd_cuts.proofs.WalkFaultFacts.{closed}
 
 abbrev cut : ℕ → List ℕ → Cut

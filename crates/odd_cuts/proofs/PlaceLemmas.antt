@@ -1,12 +1,7 @@
 -- The indexes of lines, as their table is computed.
 use Rattle.std.proofs.Common.{◌≡◌, ◌≤◌, ◌<◌, ℕ, ◌+◌, ◌==◌, Bool, true, false, cond, nat_lt, List, [], ◌∷◌, Option, Some, None, length, drop, get_or, replicate, slice_get, set, arith, refl}
-use Rattle.std.proofs.lemmas.Bool.{and_parts}
-use Rattle.std.proofs.lemmas.Bool.Decides.{nat_tests}
-use Rattle.std.proofs.lemmas.List.{get_or-set_other, get_or-set_same}
 use Rattle.std.proofs.lemmas.Option.{slice_get-get_or, slice_get_past}
-use Rattle.line_graph.specs.declared.edge.Edge.{Edge}
-use Rattle.drawing_model.specs.declared.limits.TheConstants.{MAX_LINES}
-use Rattle.line_graph.specs.PieceWalks.{all_greater, edge_of, is_strictly_increasing}
+use Rattle.odd_cuts.proofs.Names.{and_parts, nat_tests, get_or-set_other, get_or-set_same, Edge, MAX_LINES, all_greater, edge_of, is_strictly_increasing}
 use Rattle.odd_cuts.proofs.TableLemmas.{at_place, blank}
 
 -- the first of two edges, if there is one

@@ -1,11 +1,7 @@
 -- Sums over the lines, each with a number of times, and sums over the passes of a walk.
 use Rattle.std.proofs.Common.{◌≡◌, ◌≤◌, ℕ, ◌+◌, ◌-◌, ◌*◌, ◌==◌, Bool, true, false, cond, ◌||◌, nat_lt, List, [], ◌∷◌, length, Some, arith, refl, sym, ◌∙◌, ap}
-use Rattle.std.proofs.lemmas.Bool.Decides.{nat_tests}
-use Rattle.std.proofs.lemmas.Bool.{and_parts}
-use Rattle.line_graph.specs.declared.edge.Edge.{Edge}
-use Rattle.line_graph.specs.declared.pass.Pass.{Pass}
-use Rattle.line_graph.specs.PieceGraphs.{one_if}
-use Rattle.line_graph.specs.PieceWalks.{all_greater, covers, edge_of, edge_sum, edge_value, pass_sum, is_line_passed, passes, is_strictly_increasing}
+use Rattle.odd_cuts.proofs.Names.{nat_tests, and_parts, Edge, Pass, one_if, all_greater, covers, edge_of, edge_sum, edge_value, pass_sum, is_line_passed, is_strictly_increasing}
+use Rattle.line_graph.specs.PieceWalks.{passes}
 
 -- each line's number, y times
 abbrev pub weigh : List ℕ → List Edge → (ℕ → ℕ) → (Edge → ℕ) → ℕ
@@ -33,16 +29,12 @@ weigh_never [] es f = refl
 weigh_never (n ∷ ns) [] f = refl
 weigh_never (n ∷ ns) (e ∷ es) f = rw (weigh_never ns es f) (nothing (f e))
 
-spread : (x y k u v : ℕ) → (x + y) * k + (u + v) ≡ (x * k + u) + (y * k + v)
-spread x y k u v = omega arith
-
 weigh_step : (ns : List ℕ) (es : List Edge) (p : Pass) (ps : List Pass) (f : Edge → ℕ)
     → weigh ns es (often (p ∷ ps)) f ≡ weigh ns es (this p.line) f + weigh ns es (often ps) f
 weigh_step [] es p ps f = refl
 weigh_step (n ∷ ns) [] p ps f = refl
 weigh_step (n ∷ ns) (e ∷ es) p ps f =
-    rw (weigh_step ns es p ps f) (spread (one_if (p.line == n)) (passes n ps) (f e) (weigh ns es (this p.line) f)
-    (weigh ns es (often ps) f))
+    rw (weigh_step ns es p ps f) (grind (arith, nat_tests))
 
 absent : (line low : ℕ) (ns : List ℕ) (es : List Edge) (f : Edge → ℕ) → line ≡ low → all_greater low ns ≡ true
     → weigh ns es (this line) f ≡ 0

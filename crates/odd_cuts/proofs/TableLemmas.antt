@@ -1,12 +1,8 @@
 -- Tables and lists by index.
 use Rattle.std.proofs.Common.{◌≡◌, ◌≤◌, ◌<◌, ℕ, zero, suc, ◌+◌, true, List, [], ◌∷◌, length, drop, get_or, replicate, set, arith, refl, ◌∙◌}
-use Rattle.std.proofs.lemmas.Bool.{and_from, and_parts}
-use Rattle.std.proofs.lemmas.Bool.Decides.{nat_tests}
+use Rattle.std.proofs.lemmas.Bool.{and_from}
 use Rattle.std.proofs.lemmas.List.{at_drop_more, length-set}
-use Rattle.line_graph.specs.declared.edge.Edge.{Edge}
-use Rattle.drawing_model.specs.declared.limits.TheConstants.{MAX_LINES}
-use Rattle.line_graph.specs.ValidPieces.{IsValidPiece, all_below, ends_below}
-use Rattle.line_graph.specs.PieceGraphs.{PieceValue}
+use Rattle.odd_cuts.proofs.Names.{and_parts, nat_tests, Edge, MAX_LINES, IsValidPiece, all_below, ends_below, PieceValue}
 
 -- each entry of a blank table is the same
 pub blank : {X : Type 0} (x : X) (count i : ℕ) → get_or (replicate count x) i x ≡ x
@@ -24,13 +20,9 @@ below_at most [] i d below less = absurd (omega (arith, less))
 below_at most (x ∷ xs) zero d below less = grind (arith, nat_tests)
 below_at most (x ∷ xs) (suc i) d below less = grind (arith, nat_tests, below_at most xs i d, and_parts)
 
-ends_within : (count most : ℕ) (edges : List Edge) → count ≤ most → ends_below count edges ≡ true → ends_below most edges ≡ true
+pub ends_within : (count most : ℕ) (edges : List Edge) → count ≤ most → ends_below count edges ≡ true → ends_below most edges ≡ true
 ends_within count most [] less below = refl
 ends_within count most (e ∷ edges) less below = grind (arith, nat_tests, ends_within count most edges less, and_from, and_parts)
-
--- the ends of the edges of a piece are few
-pub ends_few : (p : PieceValue) → IsValidPiece p → ends_below (MAX_LINES + 1) p.edges ≡ true
-ends_few p keeps = grind (arith, nat_tests, ends_within)
 
 -- a table keeps its length
 pub length_set : {X : Type 0} (xs : List X) (i : ℕ) (x : X) (n : ℕ) → length xs ≡ n → length (set xs i x) ≡ n

@@ -1,17 +1,10 @@
 -- The total of a packing is at most twice the cost of the lines, since each odd cut is crossed by a line.
-use Rattle.std.proofs.lemmas.Bool.Decides.{nat_tests}
 use Rattle.std.proofs.Common.{◌≡◌, ◌≤◌, ◌<◌, ℕ, zero, suc, ◌+◌, ◌%◌, Bool, true, false, List, [], ◌∷◌, length, arith, refl, ◌∙◌, ap}
-use Rattle.line_graph.specs.declared.edge.Edge.{Edge}
-use Rattle.line_graph.specs.ValidPieces.{IsValidPiece, NoEdgeLeaves}
-use Rattle.line_graph.specs.PieceGraphs.{PieceValue, edges_with_closing, degrees_from}
-use Rattle.line_graph.specs.PieceWalks.{edge_cost, edge_sum}
-use Rattle.odd_cuts.specs.declared.cut.Cut.{Cut}
-use Rattle.odd_cuts.specs.PackingBounds.{BoundsTotal}
-use Rattle.odd_cuts.specs.Cuts.{has_member}
-use Rattle.odd_cuts.specs.Packings.{IsOddCut, odd_held}
+use Rattle.odd_cuts.proofs.Names.{nat_tests, Edge, IsValidPiece, PieceValue, edges_with_closing, degrees_from, edge_cost, edge_sum, Cut, BoundsTotal, has_member, IsOddCut, odd_held}
+use Rattle.line_graph.specs.ValidPieces.{NoEdgeLeaves}
 use Rattle.odd_cuts.proofs.Crossing.{crossing}
 use Rattle.odd_cuts.proofs.Degrees.{odd_counted, odd_crossing, odd_in}
-use Rattle.odd_cuts.proofs.Duality.{closed_ends, loads_cost, total_loads}
+use Rattle.odd_cuts.proofs.Duality.{loads_cost, total_loads}
 use Rattle.odd_cuts.proofs.Sums.{weigh}
 
 abbrev once : ℕ → ℕ
@@ -48,7 +41,7 @@ never_crossed (e ∷ es) = rw (never_crossed es) refl
 constant_even : (p : PieceValue) → IsValidPiece p → (t : Bool)
     → odd_in (λ j. t) 0 (degrees_from (edges_with_closing p) 0 (length p.junctions)) % 2
     ≡ 0
-constant_even p kept true = odd_crossing (λ j. true) (edges_with_closing p) (length p.junctions) (closed_ends p kept)
+constant_even p kept true = odd_crossing (λ j. true) (edges_with_closing p) (length p.junctions) (grind (arith, nat_tests))
     ∙ ap (λ (k : ℕ). k % 2) (never_crossed (edges_with_closing p))
 constant_even p kept false = ap (λ (k : ℕ). k % 2) (none_odd (degrees_from (edges_with_closing p) 0 (length p.junctions)) 0)
 

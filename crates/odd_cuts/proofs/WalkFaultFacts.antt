@@ -1,12 +1,7 @@
 -- Worked values of the first fault of a walk.
 use Rattle.std.proofs.Common.{◌≡◌, ℕ, pos, true, false, List, [], ◌∷◌, Option, Some, None, refl}
-use Rattle.design_model.specs.declared.point.Point.{Point}
-use Rattle.line_graph.specs.declared.edge.Edge.{Edge}
-use Rattle.line_graph.specs.declared.pass.Pass.{Pass}
-use Rattle.line_graph.specs.PieceGraphs.{PieceValue}
-use Rattle.line_graph.specs.PieceWalks.{is_fitting_walk, walk_cost}
+use Rattle.odd_cuts.proofs.Names.{Point, Edge, Pass, PieceValue, is_fitting_walk, walk_cost, walk_fault}
 use Rattle.odd_cuts.specs.declared.faults.WalkFault.TheVariants as fault
-use Rattle.odd_cuts.specs.WalkFaults.{walk_fault}
 
 abbrev pub corner : ℕ → ℕ → Point
 corner x y = record { x = pos x; y = pos y }

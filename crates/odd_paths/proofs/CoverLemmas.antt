@@ -1,14 +1,8 @@
 -- A least cost is at most the costs of all lines: each height below it is crossed by a line.
-use Rattle.std.proofs.lemmas.Bool.Decides.{nat_tests}
 use Rattle.std.proofs.Common.{◌≡◌, ℕ, ◌+◌, ◌-◌, ◌<◌, ◌≤◌, min, max, List, [], ◌∷◌, Some, ap, arith, inl, inr, ◌⊎◌, zero, suc}
-use Rattle.std.proofs.lemmas.Bool.{cases_lt}
-use Rattle.std.specs.Prelude.{slice_get, slice_index}
-use Rattle.line_graph.specs.declared.edge.Edge.{Edge}
-use Rattle.line_graph.specs.PieceWalks.{edge_cost, edge_sum}
+use Rattle.std.specs.Prelude.{slice_get}
+use Rattle.odd_paths.proofs.Names.{nat_tests, cases_lt, slice_index, Edge, edge_cost, edge_sum, Connects, IsEdgeWalk, IsFullyRelaxed, some_same}
 use Rattle.odd_paths.proofs.PlaceLemmas.{none_is}
-use Rattle.odd_paths.specs.EdgeWalks.{Connects, IsEdgeWalk}
-use Rattle.odd_paths.specs.Sweeps.{IsFullyRelaxed}
-use Rattle.lists_and_numbers.proofs.CallerLemmas.{some_same}
 
 -- the range of an edge: from the lesser of the numbers at its ends to the greater
 abbrev low : List ℕ → Edge → ℕ

@@ -1,17 +1,12 @@
 -- Degrees of junctions: the ends of the closing line, the sum of all degrees, and the number of odd ones.
 use Rattle.std.proofs.Common.{◌≡◌, ℕ, zero, suc, ◌+◌, ◌*◌, ◌%◌, ◌<◌, ◌≤◌, ◌==◌, Bool, true, false, ◌&&◌, List, [], ◌∷◌, ◌++◌, Option, length, inl, inr, refl, arith}
-use Rattle.std.proofs.lemmas.Bool.{and_parts, cases_eq}
-use Rattle.std.proofs.lemmas.Bool.Decides.{nat_tests}
-use Rattle.std.proofs.lemmas.List.FromFn.{length-range_with_len}
 use Rattle.std.proofs.lemmas.List.Sums.{count_by-le-length, length-filter}
-use Rattle.std.specs.List.{filter, range_with_len}
-use Rattle.std.specs.Prelude.{nat_lt, cond}
-use Rattle.line_graph.specs.declared.edge.Edge.{Edge}
-use Rattle.drawing_model.specs.declared.limits.TheConstants.{MAX_LINES}
-use Rattle.line_graph.specs.ValidPieces.{IsValidPiece, ends_below}
-use Rattle.line_graph.specs.PieceGraphs.{PieceValue, one_if, edges_with_closing, closing_edge, degree, degrees_from, given_start, is_odd, odd_junctions, given_end}
+use Rattle.std.specs.List.{filter}
+use Rattle.std.specs.Prelude.{cond}
+use Rattle.odd_paths.proofs.Names.{and_parts, cases_eq, nat_tests, length-range_with_len, range_with_len, nat_lt, Edge, MAX_LINES, IsValidPiece, ends_below, PieceValue, one_if, odd_junctions, odds_from}
+use Rattle.line_graph.specs.PieceGraphs.{edges_with_closing, closing_edge, degree, degrees_from, given_start, is_odd, given_end}
 use Rattle.line_graph.specs.ClosedDegrees.{closing_ends}
-use Rattle.odd_paths.specs.OddDegrees.{odds_from, singleton_if}
+use Rattle.odd_paths.specs.OddDegrees.{singleton_if}
 use Rattle.line_graph.proofs.CallerLemmas.{degree_closed, ends_of_back, or_below}
 use Rattle.lists_and_numbers.proofs.CallerLemmas.{over_zero, sum_over}
 
@@ -19,18 +14,13 @@ only_kept : (test : Bool) (at : ℕ) (rest : List ℕ) → singleton_if test at 
 only_kept true at rest = refl
 only_kept false at rest = refl
 
-odds_kept : (from to : Option ℕ) (es : List Edge) (at n : ℕ)
+pub odds_kept : (from to : Option ℕ) (es : List Edge) (at n : ℕ)
     → odds_from from to at (degrees_from es at n)
     ≡ filter (λ j. is_odd (degree (closing_edge from to ++ es) j)) (range_with_len at n)
 odds_kept from to es at zero = refl
 odds_kept from to es at (suc n) =
     rw (degree_closed from to es at, ← odds_kept from to es (at + 1) n)
     (only_kept (is_odd (closing_ends from to at + degree es at)) at (odds_from from to (at + 1) (degrees_from es (at + 1) n)))
-
--- the degrees give the odd junctions
-pub odds_told : (p : PieceValue) → IsValidPiece p
-    → odds_from (given_start p) (given_end p) 0 p.degrees ≡ odd_junctions p
-odds_told p keeps = grind (arith, nat_tests, odds_kept)
 
 odd_count : (f : ℕ → ℕ) (at n : ℕ)
     → length (filter (λ j. is_odd (f j)) (range_with_len at n)) % 2 ≡ sum_over f at n % 2

@@ -1,35 +1,23 @@
 -- A sweep that changes a row lowers the sum of its numbers.
-use Rattle.std.proofs.lemmas.Bool.Decides.{nat_tests}
 use Rattle.std.proofs.Common.{◌≡◌, ℕ, ◌+◌, ◌<◌, ◌≤◌, true, false, List, [], ◌∷◌, length, sum, inl, inr, refl, sym, ◌∙◌, arith}
-use Rattle.std.proofs.lemmas.Bool.{both_ways, cases_Bool, ltb-true}
-use Rattle.std.proofs.lemmas.List.{length-set}
+use Rattle.std.proofs.lemmas.Bool.{both_ways}
 use Rattle.std.proofs.lemmas.List.Sums.{sum_by-set}
-use Rattle.std.specs.Prelude.{slice_index}
-use Rattle.line_graph.specs.declared.edge.Edge.{Edge}
+use Rattle.odd_paths.proofs.Names.{nat_tests, cases_Bool, ltb-true, length-set, slice_index, Edge, EndsAreBelow, changes, is_lower, lowered_row, relaxed, relaxes, swept}
 use Rattle.odd_paths.proofs.PlaceLemmas.{still_within}
-use Rattle.odd_paths.specs.EdgeWalks.{EndsAreBelow}
-use Rattle.odd_paths.specs.Sweeps.{changes, is_lower, lowered_row, relaxed, relaxes, swept}
 use Rattle.lists_and_numbers.proofs.CallerLemmas.{one_of}
 
 -- the length stays
 lowered_length : (row : List ℕ) (a b c : ℕ) → length (lowered_row row a b c) ≡ length row
 lowered_length row a b c = grind (arith, nat_tests, cases_Bool (is_lower row a b c), length-set row b (slice_index row a + c))
 
--- where a number is lowered, the sum falls
-lowered_less : (row : List ℕ) (a b c : ℕ) → b < length row → is_lower row a b c ≡ true → sum (lowered_row row a b c) < sum row
-lowered_less row a b c lt is = grind (arith, nat_tests, ltb-true _ _ is, sum_by-set (λ (x : ℕ). x) row b (slice_index row a + c) 0 lt)
-
-lowered_most : (row : List ℕ) (a b c : ℕ) → b < length row → sum (lowered_row row a b c) ≤ sum row
-lowered_most row a b c lt = grind (arith, nat_tests, cases_Bool, lowered_less)
-
 relaxed_length : (row : List ℕ) (e : Edge) → length (relaxed row e) ≡ length row
 relaxed_length row e = lowered_length (lowered_row row e.a e.b e.cost) e.b e.a e.cost ∙ lowered_length row e.a e.b e.cost
 
 relaxed_most : (row : List ℕ) (e : Edge) → e.a < length row → e.b < length row → sum (relaxed row e) ≤ sum row
-relaxed_most row e in_a in_b = grind (arith, nat_tests, lowered_length, lowered_most)
+relaxed_most row e in_a in_b = grind (arith, nat_tests, lowered_length, cases_Bool, ltb-true, sum_by-set)
 
 relaxed_less : (row : List ℕ) (e : Edge) → e.a < length row → e.b < length row → relaxes row e ≡ true → sum (relaxed row e) < sum row
-relaxed_less row e in_a in_b h = grind (arith, nat_tests, lowered_length, one_of, lowered_most, lowered_less)
+relaxed_less row e in_a in_b h = grind (arith, nat_tests, lowered_length, one_of, cases_Bool, ltb-true, sum_by-set)
 
 swept_most : (row : List ℕ) (es : List Edge) → EndsAreBelow (length row) es → sum (swept row es) ≤ sum row
 swept_most row [] ends = omega arith

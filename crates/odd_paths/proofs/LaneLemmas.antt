@@ -1,18 +1,12 @@
 -- Columns of tables of lanes.
-use Rattle.std.proofs.lemmas.Bool.Decides.{nat_tests}
 use Rattle.std.proofs.Common.{◌≡◌, Vec, Global, ◌≢◌, ℕ, zero, suc, ◌+◌, ◌<◌, ◌≤◌, List, [], ◌∷◌, All, length, min, replicate, map, get_or, inl, inr, refl, ap, ◌∙◌, subst, arith}
-use Rattle.std.proofs.lemmas.Bool.{cases_Bool, cases_eq, ltb-false, ltb-true}
-use Rattle.std.proofs.lemmas.List.{get_or-replicate, length-map, length-replicate, map-set}
+use Rattle.std.proofs.lemmas.Bool.{ltb-false}
+use Rattle.std.proofs.lemmas.List.{length-map}
 use Rattle.std.proofs.Math.Seq.{map-set_same}
-use Rattle.std.specs.Prelude.{slice_index, slice_set}
-use Rattle.odd_paths.specs.declared.lanes.TheConstants.{LANES}
-use Rattle.odd_paths.specs.declared.sweeps.TheConstants.{NO_WALK}
-use Rattle.line_graph.specs.declared.edge.Edge.{Edge}
+use Rattle.odd_paths.proofs.Names.{nat_tests, cases_Bool, cases_eq, ltb-true, get_or-replicate, length-replicate, map-set, slice_index, slice_set, LANES, NO_WALK, Edge, AddsRows, IsCapped, KeepsCosts, lane_column, terminal_columns, AreLeastRows, IsGraph, IsLeastRow, IsFullyRelaxed, AreWalkCosts, is_lower, lowered_row}
 use Rattle.odd_paths.proofs.RowLemmas.{is_row}
 use Rattle.odd_paths.proofs.SoundLemmas.{at_other, at_same, begun, get_replicate, most_set}
-use Rattle.odd_paths.specs.Lanes.{AddsColumns, AddsRows, AreLeastColumns, HaveStarts, IsCapped, KeepsCosts, lane_column, terminal_columns}
-use Rattle.odd_paths.specs.EdgeWalks.{AreLeastRows, IsGraph, IsLeastRow}
-use Rattle.odd_paths.specs.Sweeps.{IsFullyRelaxed, AreWalkCosts, is_lower, lowered_row}
+use Rattle.odd_paths.specs.Lanes.{AddsColumns, AreLeastColumns, HaveStarts}
 
 -- the number of a column
 pub column_at : (i j : ℕ) (table : List (List ℕ)) → slice_index (lane_column i table) j ≡ slice_index (get_or table j []) i
@@ -58,11 +52,6 @@ capped_lane table a i capped there = omega (arith, capped i there a, column_at i
 pub capped_lowered : (table new : List (List ℕ)) (a b cost : ℕ) → b < length table → IsCapped table
     → ((i : ℕ) → i < LANES → lane_column i new ≡ lowered_row (lane_column i table) a b cost) → IsCapped new
 capped_lowered table new a b cost there capped value i in_i j = grind (arith, nat_tests, length-map, lowered_low)
-
--- a lane that is reached begins its column
-pub lane_reached : (i t : ℕ) (lane : List ℕ) (table : List (List ℕ)) → slice_index lane i ≡ 0
-    → lane_column i (slice_set table t lane) ≡ slice_set (lane_column i table) t 0
-lane_reached i t lane table here = grind (arith, nat_tests, map-set)
 
 pub lane_kept : (k t : ℕ) (lane : List ℕ) (table : List (List ℕ)) → slice_index lane k ≡ slice_index (get_or table t []) k
     → lane_column k (slice_set table t lane) ≡ lane_column k table

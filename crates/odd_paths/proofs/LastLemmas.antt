@@ -1,18 +1,10 @@
 -- A junction other than the start has a line that is the last of a least walk to it.
 use Rattle.std.proofs.Common.{◌≡◌, ◌≢◌, ℕ, ◌+◌, ◌^◌, ◌<◌, ◌≤◌, List, [], ◌∷◌, ◌++◌, length, Bool, true, false, Some, None, refl, sym, ◌∙◌, ap, arith, inl, inr, subst, zero, suc, reverse}
-use Rattle.std.proofs.lemmas.Bool.{cases_eq, and_parts}
 use Rattle.std.proofs.lemmas.List.{reverse-append}
-use Rattle.std.proofs.lemmas.Option.{slice_get_within}
-use Rattle.std.proofs.lemmas.Bool.Decides.{nat_tests}
-use Rattle.std.specs.Prelude.{nat_le, slice_get, slice_index, if◌then◌else◌}
-use Rattle.line_graph.specs.declared.edge.Edge.{Edge}
-use Rattle.drawing_model.specs.declared.limits.TheConstants.{MAX_LINES}
-use Rattle.line_graph.specs.ValidPieces.{all_costs_positive}
-use Rattle.line_graph.specs.PieceWalks.{edge_cost, edge_value}
-use Rattle.odd_paths.specs.EdgeWalks.{Connects, IsEdgeWalk, edge_walk_cost, IsLeastRow, EndsAreBelow}
-use Rattle.odd_paths.specs.LastEdges.{IsLeastEdgeWalk, is_last_edge, last_edge_from}
+use Rattle.std.specs.Prelude.{nat_le, slice_get}
+use Rattle.odd_paths.proofs.Names.{cases_eq, and_parts, slice_get_within, nat_tests, slice_index, if◌then◌else◌, Edge, MAX_LINES, all_costs_positive, edge_cost, edge_value, Connects, IsEdgeWalk, edge_walk_cost, IsLeastRow, EndsAreBelow, IsLeastEdgeWalk, last_edge_from, some_same}
+use Rattle.odd_paths.specs.LastEdges.{is_last_edge}
 use Rattle.odd_paths.proofs.PlaceLemmas.{below_at, cost_append, cost_one, none_is, walk_append, walk_one}
-use Rattle.lists_and_numbers.proofs.CallerLemmas.{some_same}
 
 -- the edge leads from m to j, and costs what their numbers differ by
 pub record IsLast (row : List ℕ) (e : Edge) (m j : ℕ) : Type 0 where
@@ -22,13 +14,6 @@ pub record IsLast (row : List ℕ) (e : Edge) (m j : ℕ) : Type 0 where
 -- such an edge is at that index
 abbrev pub Comes : List Edge → List ℕ → ℕ → ℕ → ℕ → Type 0
 Comes es row j k m = (e : Edge) × (slice_get es k ≡ Some e) × IsLast row e m j
-
--- the test finds such an edge, in both directions
-forth_told : (row : List ℕ) (e : Edge) (j m : ℕ) → is_last_edge row e.a e.b e.cost j ≡ true → e.a ≡ m → IsLast row e m j
-forth_told row e j m is same = grind (arith, nat_tests)
-
-back_told : (row : List ℕ) (e : Edge) (j m : ℕ) → is_last_edge row e.b e.a e.cost j ≡ true → e.b ≡ m → IsLast row e m j
-back_told row e j m is same = grind (arith, nat_tests)
 
 told_one_way : (row : List ℕ) (e : Edge) (j m : ℕ) → IsLast row e m j → is_last_edge row e.a e.b e.cost j ≡ false
     → is_last_edge row e.b e.a e.cost j ≡ false → ⊥
@@ -48,11 +33,11 @@ found_in row j k (e ∷ es) r h =
     go on true q is other h =
         let same = some_same (k, e.a) r h in
         let from : e.a ≡ r.1 = ap (λ (x : ℕ × ℕ). x.1) same in
-        (0, omega (arith, ap (λ (x : ℕ × ℕ). x.0) same), (e, refl, forth_told row e j r.1 is from))
+        (0, omega (arith, ap (λ (x : ℕ × ℕ). x.0) same), (e, refl, grind (arith, nat_tests, r.1)))
     go on false true is other h =
         let same = some_same (k, e.b) r h in
         let from : e.b ≡ r.1 = ap (λ (x : ℕ × ℕ). x.1) same in
-        (0, omega (arith, ap (λ (x : ℕ × ℕ). x.0) same), (e, refl, back_told row e j r.1 other from))
+        (0, omega (arith, ap (λ (x : ℕ × ℕ). x.0) same), (e, refl, grind (arith, nat_tests, r.1)))
     go on false false is other h =
         let p = on h in
         (suc p.0, omega (arith, p.1), p.2)

@@ -1,11 +1,8 @@
 -- Costs that aren't least, rows and paths that aren't those of a piece, each for one reason.
 use Rattle.std.proofs.Common.{◌≡◌, ◌≢◌, ℕ, ◌+◌, ◌<◌, ◌≤◌, false, List, [], ◌∷◌, length, None, map, refl, arith, ap}
-use Rattle.line_graph.specs.declared.pass.Pass.{Pass}
-use Rattle.line_graph.specs.PieceGraphs.{PieceValue}
-use Rattle.line_graph.specs.PieceWalks.{piece_cost, walk_cost}
-use Rattle.line_graph.specs.ValidPieces.{IsValidPiece}
+use Rattle.odd_paths.proofs.Names.{Pass, PieceValue, piece_cost, walk_cost, IsValidPiece, AreRows, AreTerminals, IsLeastCost, IsPath, RowsValue, cost_at, terminal_of}
 use Rattle.odd_paths.specs.CostTheorems.{LeastCostsAreDistances}
-use Rattle.odd_paths.specs.LeastRows.{AreRows, AreTerminals, IsLeastCost, IsPath, RowsValue, WalkLeads, cost_at, terminal_of}
+use Rattle.odd_paths.specs.LeastRows.{WalkLeads}
 use Rattle.odd_paths.proofs.RowFacts.{path}
 
 -- a walk there and back and there again isn't least

@@ -1,16 +1,10 @@
 -- The invariants that relaxation preserves in a table of lanes.
-use Rattle.std.proofs.lemmas.Bool.Decides.{nat_tests}
 use Rattle.std.proofs.Common.{◌≡◌, ℕ, ◌+◌, ◌<◌, ◌≤◌, Bool, false, List, Some, length, sym, subst, arith}
 use Rattle.std.specs.Prelude.{slice_get}
-use Rattle.line_graph.specs.declared.edge.Edge.{Edge}
-use Rattle.line_graph.specs.PieceGraphs.{one_if}
-use Rattle.odd_paths.specs.declared.lanes.TheConstants.{LANES}
+use Rattle.odd_paths.proofs.Names.{nat_tests, Edge, one_if, LANES, IsCapped, KeepsCosts, lane_column, weight, EndsAreBelow, IsFullyRelaxed, AreWalkCosts, changes, relaxed, swept}
 use Rattle.odd_paths.proofs.PlaceLemmas.{below_at}
 use Rattle.odd_paths.proofs.RowLemmas.{settled_new}
 use Rattle.odd_paths.proofs.SoundLemmas.{relaxed_sound, swept_sound}
-use Rattle.odd_paths.specs.Lanes.{IsCapped, KeepsCosts, lane_column, weight}
-use Rattle.odd_paths.specs.EdgeWalks.{EndsAreBelow}
-use Rattle.odd_paths.specs.Sweeps.{IsFullyRelaxed, AreWalkCosts, changes, relaxed, swept}
 
 -- one pass after another
 pub keeps_on : (es : List Edge) (old between new : List (List ℕ)) → KeepsCosts es old between → KeepsCosts es between new

@@ -1,11 +1,7 @@
 -- Walks end to end.
 use Rattle.std.proofs.Common.{◌≡◌, true, ℕ, zero, suc, ◌+◌, ◌<◌, ◌≤◌, length, get_or, List, [], ◌∷◌, ◌++◌, Some, None, refl, sym, ap, arith, inl, inr, subst}
-use Rattle.std.proofs.lemmas.Bool.{ltb-true}
-use Rattle.std.specs.Prelude.{nat_lt, slice_get}
-use Rattle.line_graph.specs.declared.edge.Edge.{Edge}
-use Rattle.line_graph.specs.PieceWalks.{edge_cost, edge_sum}
-use Rattle.odd_paths.specs.EdgeWalks.{EndsAreBelow, Connects, IsEdgeWalk, edge_walk_cost}
-use Rattle.lists_and_numbers.proofs.CallerLemmas.{some_same}
+use Rattle.std.specs.Prelude.{slice_get}
+use Rattle.odd_paths.proofs.Names.{ltb-true, nat_lt, Edge, edge_cost, edge_sum, EndsAreBelow, Connects, IsEdgeWalk, edge_walk_cost, some_same}
 
 pub walk_append : (es : List Edge) (i j m : ℕ) (ks ls : List ℕ) → IsEdgeWalk es i j ks → IsEdgeWalk es j m ls
     → IsEdgeWalk es i m (ks ++ ls)

@@ -1,13 +1,8 @@
 -- Worked values of odd junctions, rows and paths.
 use Rattle.std.proofs.Common.{◌≡◌, ℕ, pos, ◌<◌, Bool, true, List, [], ◌∷◌, Option, Some, None, refl, arith}
-use Rattle.std.proofs.lemmas.List.Elements.{All-cons, All-nil}
+use Rattle.odd_paths.proofs.Names.{All-cons, All-nil, Edge, Pass, PieceValue, odd_junctions, piece_cost, walk_cost, walk_end_from, odds_from, IsPath, RowsValue, cost_at, terminal_of}
 use Rattle.design_model.specs.declared.point.Point.{Point}
-use Rattle.line_graph.specs.declared.edge.Edge.{Edge}
-use Rattle.line_graph.specs.declared.pass.Pass.{Pass}
-use Rattle.line_graph.specs.PieceGraphs.{PieceValue, odd_junctions}
-use Rattle.line_graph.specs.PieceWalks.{piece_cost, walk_cost, walk_end_from}
-use Rattle.odd_paths.specs.OddDegrees.{odds_from}
-use Rattle.odd_paths.specs.LeastRows.{IsPath, RowsValue, cost_at, lines_at_indexes, row_length, terminal_of}
+use Rattle.odd_paths.specs.LeastRows.{lines_at_indexes, row_length}
 
 abbrev place : ℕ → Point
 place x = record { x = pos x; y = pos 0 }

@@ -1,19 +1,13 @@
 -- A row of walk costs that no sweep changes has the least costs, since the edges connect all junctions.
-use Rattle.std.proofs.lemmas.Bool.Decides.{nat_tests}
 use Rattle.std.proofs.Common.{◌≡◌, ℕ, ◌+◌, ◌<◌, ◌≤◌, true, false, List, ◌++◌, length, take, drop, replicate, refl, sym, ap, ◌∙◌, subst, arith}
-use Rattle.std.proofs.lemmas.Bool.{lt-ltb, ltb-true}
-use Rattle.std.specs.Prelude.{nat_lt, slice_index, slice_set}
-use Rattle.line_graph.specs.declared.edge.Edge.{Edge}
-use Rattle.drawing_model.specs.declared.limits.TheConstants.{MAX_COST}
+use Rattle.std.proofs.lemmas.Bool.{lt-ltb}
+use Rattle.odd_paths.proofs.Names.{nat_tests, ltb-true, nat_lt, slice_index, slice_set, Edge, MAX_COST, edge_cost, edge_sum, NO_WALK, EndsAreBelow, IsGraph, IsLeastRow, IsFullyRelaxed, AreWalkCosts, changes, swept}
 use Rattle.line_graph.specs.ValidPieces.{NoEdgeLeaves}
-use Rattle.line_graph.specs.PieceWalks.{edge_cost, edge_sum}
-use Rattle.odd_paths.specs.declared.sweeps.TheConstants.{NO_WALK}
 use Rattle.odd_paths.proofs.CoverLemmas.{rises_within}
 use Rattle.odd_paths.proofs.PlaceLemmas.{below_at, cost_within}
 use Rattle.odd_paths.proofs.SoundLemmas.{begun, swept_sound}
 use Rattle.odd_paths.proofs.SweepLemmas.{flat_at, no_less, settled}
-use Rattle.odd_paths.specs.EdgeWalks.{EndsAreBelow, IsGraph, IsLeastRow}
-use Rattle.odd_paths.specs.Sweeps.{IsFullyRelaxed, AreWalkCosts, KeepsWalkCosts, changes, swept}
+use Rattle.odd_paths.specs.Sweeps.{KeepsWalkCosts}
 use Rattle.lists_and_numbers.proofs.CallerLemmas.{front_written, same_test}
 
 near_most : (es : List Edge) (n from : ℕ) (row : List ℕ) → AreWalkCosts es n from row → IsFullyRelaxed row es

@@ -1,11 +1,7 @@
 -- Worked values of sweeps, last edges and columns.
 use Rattle.std.proofs.Common.{◌≡◌, ℕ, true, false, List, [], ◌∷◌, Some, None, refl}
-use Rattle.line_graph.specs.declared.edge.Edge.{Edge}
-use Rattle.odd_paths.specs.declared.sweeps.TheConstants.{NO_WALK}
-use Rattle.odd_paths.specs.Lanes.{lane_column, terminal_columns, relaxed_cost, weight}
-use Rattle.odd_paths.specs.LastEdges.{last_edge_from}
-use Rattle.odd_paths.specs.EdgeWalks.{edge_walk_cost}
-use Rattle.odd_paths.specs.Sweeps.{changes, lowered_row, swept}
+use Rattle.odd_paths.proofs.Names.{Edge, NO_WALK, lane_column, terminal_columns, weight, last_edge_from, edge_walk_cost, changes, lowered_row, swept}
+use Rattle.odd_paths.specs.Lanes.{relaxed_cost}
 
 abbrev edge : ℕ → ℕ → ℕ → Edge
 edge a b cost = record { a = a; b = b; cost = cost }

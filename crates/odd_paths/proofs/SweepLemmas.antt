@@ -1,20 +1,14 @@
 -- Where a sweep changes nothing, no walk costs less than the number in the row.
-use Rattle.std.proofs.lemmas.Bool.Decides.{nat_tests}
 use Rattle.std.proofs.Common.{◌≡◌, ℕ, ◌+◌, ◌≤◌, List, [], ◌∷◌, false, Some, refl, ap, arith, inl, inr, subst, zero, suc}
 use Rattle.std.proofs.lemmas.Bool.{or_parts}
-use Rattle.std.specs.Prelude.{slice_get, slice_index}
-use Rattle.line_graph.specs.declared.edge.Edge.{Edge}
+use Rattle.std.specs.Prelude.{slice_get}
+use Rattle.odd_paths.proofs.Names.{nat_tests, slice_index, Edge, Connects, IsEdgeWalk, edge_walk_cost, IsFullyRelaxed, relaxes, relaxed, changes, swept, some_same}
 use Rattle.odd_paths.proofs.PlaceLemmas.{none_is}
-use Rattle.odd_paths.specs.EdgeWalks.{Connects, IsEdgeWalk, edge_walk_cost}
-use Rattle.odd_paths.specs.Sweeps.{IsRelaxedAt, IsFullyRelaxed, relaxes, relaxed, changes, swept}
-use Rattle.lists_and_numbers.proofs.CallerLemmas.{some_same}
-
-not_relaxed : (row : List ℕ) (e : Edge) → relaxes row e ≡ false → (relaxed row e ≡ row) × IsRelaxedAt row e
-not_relaxed row e h = grind (arith, nat_tests)
+use Rattle.odd_paths.specs.Sweeps.{IsRelaxedAt}
 
 pub settled : (row : List ℕ) (es : List Edge) → changes row es ≡ false → (swept row es ≡ row) × IsFullyRelaxed row es
 settled row [] h = (refl, tt)
-settled row (e ∷ es) h = grind (arith, nat_tests, settled row es, not_relaxed, or_parts)
+settled row (e ∷ es) h = grind (arith, nat_tests, settled row es, or_parts)
 
 pub flat_at : (row : List ℕ) (es : List Edge) (k : ℕ) (e : Edge) → IsFullyRelaxed row es → slice_get es k ≡ Some e → IsRelaxedAt row e
 flat_at row [] k e s got = absurd (none_is e got)

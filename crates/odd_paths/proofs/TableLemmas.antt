@@ -1,25 +1,15 @@
 -- The rows of a table.
 use Rattle.std.proofs.Common.{◌≡◌, Vec, Global, ℕ, zero, suc, ◌<◌, ◌≤◌, ◌==◌, true, List, [], ◌∷◌, ◌++◌, Some, length, get_or, All, refl, sym, ap, subst, append_assoc, arith}
-use Rattle.std.proofs.lemmas.Bool.{and_parts}
-use Rattle.std.proofs.lemmas.Bool.Decides.{nat_tests}
 use Rattle.std.proofs.lemmas.List.{append-nil}
-use Rattle.std.proofs.lemmas.List.Elements.{All-cons, All-nil}
-use Rattle.std.proofs.lemmas.Option.{slice_get_within}
-use Rattle.std.specs.Prelude.{◌&&◌, Option, nat_lt, slice_get, slice_index}
-use Rattle.line_graph.specs.declared.edge.Edge.{Edge}
-use Rattle.line_graph.specs.ValidPieces.{IsValidPiece, ends_below}
-use Rattle.line_graph.specs.PieceGraphs.{PieceValue}
-use Rattle.line_graph.specs.PieceWalks.{piece_cost}
+use Rattle.std.specs.Prelude.{◌&&◌, Option, slice_get}
+use Rattle.odd_paths.proofs.Names.{and_parts, nat_tests, All-cons, All-nil, slice_get_within, nat_lt, slice_index, Edge, IsValidPiece, ends_below, PieceValue, piece_cost, IsLeastEdgeWalk, AreRows, AreTerminals, IsLeastCost, IsPath, RowsValue, cost_at, terminal_of, AddsRows, lists_of, EndsAreBelow, AreLeastRows, IsGraph, IsLeastRow, some_same}
 use Rattle.odd_paths.proofs.PassLemmas.{over_passes, over_places, to_passes}
 use Rattle.odd_paths.proofs.PlaceLemmas.{none_is, still_within}
-use Rattle.odd_paths.specs.LastEdges.{IsLeastEdgeWalk, IsRowFrom}
-use Rattle.odd_paths.specs.LeastRows.{AreRows, AreTerminals, IsLeastCost, IsPath, RowsValue, cost_at, cost_in, terminal_of}
-use Rattle.odd_paths.specs.Lanes.{AddsRows, lists_of}
-use Rattle.odd_paths.specs.EdgeWalks.{EndsAreBelow, AreLeastRows, IsGraph, IsLeastRow}
-use Rattle.lists_and_numbers.proofs.CallerLemmas.{some_same}
+use Rattle.odd_paths.specs.LastEdges.{IsRowFrom}
+use Rattle.odd_paths.specs.LeastRows.{cost_in}
 
 -- the ends of the edges of a piece
-within : (n : ℕ) (es : List Edge) → ends_below n es ≡ true → EndsAreBelow n es
+pub within : (n : ℕ) (es : List Edge) → ends_below n es ≡ true → EndsAreBelow n es
 within n [] below = tt
 within n (e ∷ es) below =
     let both = and_parts (nat_lt e.a n && nat_lt e.b n) (ends_below n es) below in
@@ -27,10 +17,6 @@ within n (e ∷ es) below =
     let a_there : e.a < n = grind (arith, nat_tests) in
     let b_there : e.b < n = grind (arith, nat_tests) in
     (a_there, b_there, within n es both.1)
-
--- a piece is a graph
-pub is_graph : (p : PieceValue) → IsValidPiece p → IsGraph p.edges (length p.junctions)
-is_graph p keeps = grind (arith, nat_tests, within)
 
 -- the rows of some terminals and of those that follow
 rows_append : (es : List Edge) (n : ℕ) (ts us : List ℕ) (rows more : List (List ℕ)) → AreLeastRows es n ts rows

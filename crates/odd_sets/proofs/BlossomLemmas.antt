@@ -1,11 +1,8 @@
 -- Blossoms rotated to another part.
-use Rattle.std.proofs.lemmas.Bool.Decides.{nat_tests}
 use Rattle.std.proofs.Common.{◌≡◌, ℕ, ◌+◌, ◌≤◌, ◌<◌, ◌%◌, suc, List, [], ◌∷◌, ◌++◌, length, map, take, drop, get_or, drop-cons, add-one, arith, refl, sym, ap, subst, ◌∙◌, append_assoc, length-append}
-use Rattle.std.proofs.lemmas.List.{append-nil, map-append, take-append-drop}
-use Rattle.odd_sets.specs.TableValue.{TableValue}
-use Rattle.odd_sets.specs.DualSets.{IsOutside, NoneHold, IsOddSet, dual_sets, count, AreTightInside, IsTightInside}
-use Rattle.odd_sets.specs.Blossoms.{FirstPartHolds, PartHoldsAt, IsRotated, members_in, dual_sets_in, part_sets, blossom_edge_of, path_edges, EdgeLeadsTo, IsPartPath, cycle_edges, IsPartCycle, AreOddSets, IsVertexOrBlossom, odd_set_of}
-use Rattle.odd_sets.specs.Values.{PartValue}
+use Rattle.odd_sets.proofs.Names.{nat_tests, append-nil, map-append, take-append-drop, TableValue, NoneHold, IsOddSet, dual_sets, count, AreTightInside, IsTightInside, FirstPartHolds, PartHoldsAt, IsRotated, members_in, dual_sets_in, part_sets, path_edges, IsPartPath, cycle_edges, IsPartCycle, AreOddSets, IsVertexOrBlossom, odd_set_of, PartValue}
+use Rattle.odd_sets.specs.DualSets.{IsOutside}
+use Rattle.odd_sets.specs.Blossoms.{blossom_edge_of, EdgeLeadsTo}
 use Rattle.odd_sets.proofs.ListLemmas.{drop_here, each-append, mapped_drop, mapped_low, mapped_take}
 use Rattle.odd_sets.proofs.SumLemmas.{count-append, members-append, none_hold}
 
@@ -87,14 +84,14 @@ pub holds_here : (x : ℕ) (ps : List PartValue) (i : ℕ) (p : PartValue) → i
     → PartHoldsAt x ps i
 holds_here x ps i p low is here = subst (FirstPartHolds x) (sym (drop_here ps i p low is)) here
 
--- a rotated list, by the value of each item
-turned_list : {X Y : Type 0} (f : X → Y) (old new : List X) (at : ℕ) → new ≡ drop at old ++ take at old
-    → map f new ≡ drop at (map f old) ++ take at (map f old)
-turned_list f old new at h1 = grind (arith, nat_tests, map-append, mapped_drop, mapped_take)
-
 pub turned_in : {X Y : Type 0} (f : X → Y) (old new : List X) (at : ℕ) → at < length old → new ≡ drop at old ++ take at old
     → IsRotated (map f old) (map f new)
-turned_in f old new at low is = record { at = at; within = mapped_low f old at low; is = turned_list f old new at is }
+turned_in f old new at low is = record {
+  at = at;
+  within = mapped_low f old at low;
+  is =
+      grind (arith, nat_tests, map-append, mapped_drop, mapped_take);
+}
 
 first_before : (x : ℕ) (ps qs : List PartValue) → FirstPartHolds x ps → FirstPartHolds x (ps ++ qs)
 first_before x [] qs first = absurd first
@@ -103,5 +100,5 @@ first_before x (p ∷ ps) qs first = first
 pub first_turned : {X : Type 0} (f : X → PartValue) (x : ℕ) (old new : List X) (at : ℕ) → new ≡ drop at old ++ take at old
     → PartHoldsAt x (map f old) at → FirstPartHolds x (map f new)
 first_turned f x old new at is holds =
-    subst (FirstPartHolds x) (sym (turned_list f old new at is))
+    subst (FirstPartHolds x) (sym (grind (arith, nat_tests, map-append, mapped_drop, mapped_take)))
     (first_before x (drop at (map f old)) (take at (map f old)) holds)

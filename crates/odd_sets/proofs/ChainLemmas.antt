@@ -1,15 +1,7 @@
 -- The chain of the sets between the two ends of an edge.
 use Rattle.std.proofs.Common.{◌≡◌, ℕ, ◌+◌, ◌≤◌, List, [], ◌∷◌, ◌++◌, length, reverse, arith, sym, ap, subst, ◌∙◌, length-append}
 use Rattle.std.proofs.lemmas.List.{reverse-append}
-use Rattle.odd_sets.specs.TableValue.{TableValue}
-use Rattle.odd_sets.specs.Lists.{Each}
-use Rattle.odd_sets.specs.DualSets.{DualSet, OddSetValue, IsOddSet, dual_sets, count}
-use Rattle.odd_sets.specs.Blossoms.{reversed_edge, members_in}
-use Rattle.odd_sets.specs.SoundSets.{IsSoundBranch, IsSoundPart, IsSymmetric, IsTight}
-use Rattle.odd_sets.specs.Trees.{outer_with_both, one_if_both, branch_dual_sets, inner_dual_sets, outer_members, outer_sets, IsAlternatingTree}
-use Rattle.odd_sets.specs.Shrinks.{part_with_edge, IsOpenChain}
-use Rattle.odd_sets.specs.declared.odd_set.TightEdge.{TightEdge}
-use Rattle.odd_sets.specs.Values.{BranchValue, PartValue}
+use Rattle.odd_sets.proofs.Names.{TableValue, Each, DualSet, OddSetValue, IsOddSet, dual_sets, count, reversed_edge, members_in, IsSoundBranch, IsSoundPart, IsSymmetric, IsTight, outer_with_both, one_if_both, branch_dual_sets, inner_dual_sets, outer_members, outer_sets, IsAlternatingTree, part_with_edge, IsOpenChain, TightEdge, BranchValue, PartValue}
 use Rattle.odd_sets.proofs.ListLemmas.{each-append, each-left, each-last}
 use Rattle.odd_sets.proofs.SumLemmas.{bands_push, count-append, members_push, sets-append, size-append}
 use Rattle.odd_sets.proofs.ClosingLemmas.{leads_on}
@@ -21,10 +13,6 @@ around_append a b xs ys = sets-append outer_sets (one_if_both a b) xs ys
 
 pub tight_back : (d : TableValue) (h : ℕ → ℕ) (l : TightEdge) → IsSymmetric d → IsTight d h l → IsTight d h (reversed_edge l)
 tight_back d h l sy t = omega (arith, sy l.from l.to, t)
-
--- a set that holds one of two places, and not both
-pub no_other : (a b : ℕ) (s : OddSetValue) → one_if_both a b s ≡ 0 → 1 ≤ count a s.members → count b s.members ≡ 0
-no_other a b s none here = omega (arith, none, here)
 
 pub chaining_left : (link : TightEdge) (root : OddSetValue) (tree left bs : List BranchValue) (b : BranchValue)
     (chain next : List PartValue)

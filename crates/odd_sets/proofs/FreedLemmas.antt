@@ -1,20 +1,6 @@
 -- The slot of a set that is expanded.
-use Rattle.std.proofs.lemmas.Bool.Decides.{nat_tests}
 use Rattle.std.proofs.Common.{◌≡◌, ℕ, ◌+◌, ◌≤◌, ◌<◌, List, [], ◌∷◌, ◌++◌, take, drop, length, ltb, Option, Some, None, arith, sym, ap, subst, ◌∙◌}
-use Rattle.std.proofs.lemmas.List.{length-map, map-append}
-use Rattle.std.proofs.lemmas.Bool.{lt-ltb, ltb-true}
-use Rattle.slab.specs.Slab.{get, ContainsKey, Updates}
-use Rattle.odd_sets.specs.DualSets.{DualSet, OddSetValue, dual_sets, count, one_if_equal, key_count}
-use Rattle.odd_sets.specs.MatchedSets.{match_dual_sets}
-use Rattle.odd_sets.specs.Blossoms.{dual_sets_in, members_in, odd_set_of, IsBlossom}
-use Rattle.odd_sets.specs.Expansions.{CanSplitBlossom, CanExpand, Expands, IsEvenlyOriented, InsertsBranches, SplitsBlossom}
-use Rattle.odd_sets.specs.Slots.{branch_in, branches_in, match_in, matches_in, members_at, slot_members, slacks_at, part_in, parts_at, parts_in, slot_parts, set_in, AreSets, Slots}
-use Rattle.odd_sets.specs.Trees.{all_dual_sets, branch_dual_sets}
-use Rattle.odd_sets.specs.Values.{BranchValue, MatchValue, PartValue}
-use Rattle.odd_sets.specs.declared.odd_set.Handle.{Handle}
-use Rattle.odd_sets.specs.declared.odd_set.Slot.{Slot}
-use Rattle.odd_sets.specs.declared.matches.Match.{Match}
-use Rattle.odd_sets.specs.declared.branches.Branch.{Branch}
+use Rattle.odd_sets.proofs.Names.{nat_tests, length-map, map-append, lt-ltb, ltb-true, get, ContainsKey, Updates, DualSet, OddSetValue, dual_sets, count, one_if_equal, key_count, match_dual_sets, dual_sets_in, members_in, odd_set_of, IsBlossom, CanSplitBlossom, CanExpand, Expands, IsEvenlyOriented, InsertsBranches, SplitsBlossom, branch_in, branches_in, match_in, matches_in, members_at, slot_members, slacks_at, part_in, parts_at, parts_in, slot_parts, set_in, AreSets, Slots, all_dual_sets, branch_dual_sets, BranchValue, MatchValue, PartValue, Handle, Slot, Match, Branch}
 use Rattle.odd_sets.proofs.ListLemmas.{mapped_drop, mapped_last, mapped_take}
 use Rattle.odd_sets.proofs.SumLemmas.{dual_sets-append, bands_push, hit_same, key_count-append}
 use Rattle.odd_sets.proofs.SlotLemmas.{can_left, can_right, has_slot, is_made, keep_branches, keep_matches, keep_parts, keep_seat, kept_append, parts_show, removed_keeps, set_made, set_of, sets_fewer, AreKept}

@@ -1,9 +1,5 @@
 -- What an index past the end of a list would find.
-use Rattle.odd_sets.specs.declared.odd_set.TightEdge.{TightEdge}
-use Rattle.odd_sets.specs.declared.odd_set.Handle.{Handle}
-use Rattle.odd_sets.specs.declared.odd_set.BlossomPart.{BlossomPart}
-use Rattle.odd_sets.specs.declared.matches.Match.{Match}
-use Rattle.odd_sets.specs.declared.branches.Branch.{Branch}
+use Rattle.odd_sets.proofs.Names.{TightEdge, Handle, BlossomPart, Match, Branch}
 
 abbrev pub no_link : TightEdge
 no_link = record { from = 0; to = 0 }

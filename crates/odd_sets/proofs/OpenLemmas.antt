@@ -1,16 +1,8 @@
 -- A set taken apart: sums over its parts.
-use Rattle.std.proofs.lemmas.Bool.Decides.{nat_tests}
 use Rattle.std.proofs.Common.{◌≡◌, ℕ, ◌+◌, ◌%◌, ◌≤◌, ◌<◌, List, [], ◌∷◌, ◌++◌, length, take, drop, arith, refl, sym, ap, subst, ◌∙◌, Some, None, length-append, eqb, cond, Bool, true, false}
-use Rattle.std.proofs.lemmas.Bool.{eqb-true}
-use Rattle.std.proofs.lemmas.List.{take-append-drop}
-use Rattle.std.specs.List.{flat_map}
-use Rattle.odd_sets.specs.TableValue.{TableValue}
-use Rattle.odd_sets.specs.Lists.{Each}
-use Rattle.odd_sets.specs.DualSets.{IsAdditive, DualSet, OddSetValue, dual_sets, dual_sets_of, count, height, one_if_equal, members_onto, AreTightInside, IsOddSet, IsTightInside}
-use Rattle.odd_sets.specs.Blossoms.{members_in, dual_sets_in, part_sets, blossom_edges_in, path_edges, IsPartPath, cycle_edges, IsPartCycle, AreOddSets, IsBlossom, IsRotated, FirstPartHolds, IsVertexOrBlossom, odd_set_of}
-use Rattle.odd_sets.specs.MatchedSets.{matches_along, match_members, match_dual_sets, match_sets, IsMatch, IsTightMatch}
+use Rattle.odd_sets.proofs.Names.{nat_tests, eqb-true, take-append-drop, flat_map, TableValue, Each, IsAdditive, DualSet, OddSetValue, dual_sets, dual_sets_of, count, height, one_if_equal, members_onto, AreTightInside, IsOddSet, IsTightInside, members_in, dual_sets_in, part_sets, blossom_edges_in, path_edges, IsPartPath, cycle_edges, IsPartCycle, AreOddSets, IsBlossom, IsRotated, FirstPartHolds, IsVertexOrBlossom, odd_set_of, matches_along, match_members, match_dual_sets, IsMatch, MatchValue, PartValue}
+use Rattle.odd_sets.specs.MatchedSets.{match_sets, IsTightMatch}
 use Rattle.odd_sets.specs.Opens.{OpensAt}
-use Rattle.odd_sets.specs.Values.{MatchValue, PartValue}
 use Rattle.odd_sets.proofs.ListLemmas.{each-apart, each-flat_map, each-left, each-right, each-turned}
 use Rattle.odd_sets.proofs.SumLemmas.{adds_none, dual_sets-append, count-append, height-append, some_member, none_tall}
 use Rattle.odd_sets.proofs.BlossomLemmas.{members_turned, none_in, blossom_turned, sum_turned, paid_turned, made_kept}
@@ -63,13 +55,10 @@ paid_along d p e (q ∷ r ∷ ps) even l all =
       paid_along d r e ps less l.1.1 (each-right (IsTightInside d) r.odd_set.blossom_edges (blossom_edges_in ps) rest),
     )
 
-hit_one : (b : Bool) (left m : ℕ) → eqb left m ≡ b → cond b 1 0 + 0 ≡ 1 → left ≡ m
-hit_one b left m h1 h2 = grind (arith, nat_tests, eqb-true)
-
 single_count : (left x : ℕ) (ms : List ℕ) → length ms ≡ 1 → count left ms ≡ 1 → count x ms ≡ one_if_equal x left
 single_count left x [] one there = absurd (omega arith)
 single_count left x (m ∷ []) one there =
-    grind (arith, nat_tests, hit_one, eqb, cond)
+    grind (arith, nat_tests, eqb-true, eqb, cond)
 single_count left x (m ∷ n ∷ ms) one there = absurd (omega arith)
 
 opens_single : (left key w : ℕ) (ms near : List ℕ) → length ms ≡ 1 → count left ms ≡ 1 → OpensAt left (odd_set_of key ms w near []) None []

@@ -1,14 +1,8 @@
 -- Heights raised place by place.
-use Rattle.std.proofs.lemmas.Bool.Decides.{nat_tests}
 use Rattle.std.proofs.Common.{◌≡◌, ℕ, ◌+◌, ◌-◌, ◌*◌, ◌<◌, ◌≤◌, ◌≢◌, Bool, true, false, cond, eqb, zero, suc, List, [], ◌∷◌, length, drop, get_or, set, drop-cons, add-one, arith, refl, sym, ap, subst, ◌∙◌, get_or-set_other, get_or-set_same}
-use Rattle.std.proofs.lemmas.Bool.{eqb-true, eqb-false, eq-eqb}
-use Rattle.odd_sets.specs.DualSets.{count}
-use Rattle.odd_sets.specs.Trees.{inner_members, outer_members}
-use Rattle.odd_sets.specs.Values.{BranchValue}
+use Rattle.odd_sets.proofs.Names.{nat_tests, eqb-true, eqb-false, eq-eqb, count, inner_members, outer_members, BranchValue, branch_in, branches_in, Slots, Branch}
 use Rattle.odd_sets.proofs.ListLemmas.{drop_here, mapped_item, mapped_low}
 use Rattle.odd_sets.proofs.SumLemmas.{count-append}
-use Rattle.odd_sets.specs.Slots.{branch_in, branches_in, Slots}
-use Rattle.odd_sets.specs.declared.branches.Branch.{Branch}
 use Rattle.odd_sets.proofs.HandleLemmas.{no_branch}
 
 pub at_drop : (x i m : ℕ) (ms : List ℕ) → i < length ms → m ≡ get_or ms i 0 → count x (drop i ms)
@@ -48,19 +42,10 @@ lowered x i m w ms hs rest top lt is there low e =
     lowered_by (eqb x m) x m w (count x (drop (i + 1) ms)) rest top hs refl there low
     (e ∙ ap (λ (k : ℕ). top + w * k) (at_drop x i m ms lt is))
 
--- what is still to fall is high enough
-pub lowers : (i m w : ℕ) (ms : List ℕ) (now old all : ℕ) → i < length ms → m ≡ get_or ms i 0 → w * all ≤ old → now + w * all
-    ≡ old + w * count m (drop i ms) → w ≤ now
-lowers i m w ms now old all h1 h2 h3 h4 = grind (arith, nat_tests, at_drop, eq-eqb)
-
 -- the places of the branches from one on
 pub outer_places : (x : ℕ) (tree : List BranchValue) (i : ℕ) (b : BranchValue) → i < length tree → b ≡ get_or tree i b →
     count x (outer_members [] (drop i tree)) ≡ count x b.outer.members + count x (outer_members [] (drop (i + 1) tree))
 outer_places x tree i b h1 h2 = grind (arith, nat_tests, drop_here, count-append)
-
-pub inner_places : (x : ℕ) (tree : List BranchValue) (i : ℕ) (b : BranchValue) → i < length tree → b ≡ get_or tree i b →
-    count x (inner_members (drop i tree)) ≡ count x b.inner.members + count x (inner_members (drop (i + 1) tree))
-inner_places x tree i b h1 h2 = grind (arith, nat_tests, drop_here, count-append)
 
 -- the vertices of the outer set at an index of the branches in slots, and those after it
 pub outers_at : (x : ℕ) (sets : Slots) (bs : List Branch) (i : ℕ) → i < length bs
@@ -71,8 +56,8 @@ outers_at x sets bs i low = outer_places x (branches_in sets bs) i (branch_in se
 
 pub inners_at : (x : ℕ) (sets : Slots) (bs : List Branch) (i : ℕ) → i < length bs → count x (inner_members (drop i (branches_in sets bs)))
     ≡ count x (branch_in sets (get_or bs i no_branch)).inner.members + count x (inner_members (drop (i + 1) (branches_in sets bs)))
-inners_at x sets bs i low = inner_places x (branches_in sets bs) i (branch_in sets (get_or bs i no_branch))
-    (mapped_low (branch_in sets) bs i low) (mapped_item (branch_in sets) bs i no_branch)
+inners_at x sets bs i low =
+    grind (arith, nat_tests, drop_here, count-append, (mapped_low (branch_in sets) bs i low), (mapped_item (branch_in sets) bs i no_branch))
 
 pub more_by : (by all here rest : ℕ) → all ≡ here + rest → by * all ≡ by * here + by * rest
 more_by by all here rest e = let f = ap (λ (k : ℕ). by * k) e in omega (arith, f)

@@ -1,16 +1,6 @@
 -- Reversed blossoms, and the parity of their parts.
-use Rattle.std.proofs.lemmas.Bool.Decides.{nat_tests}
 use Rattle.std.proofs.Common.{◌≡◌, ℕ, ◌+◌, ◌%◌, ◌≤◌, ◌<◌, inl, inr, List, [], ◌∷◌, ◌++◌, length, take, drop, arith, refl, sym, ap, subst, ◌∙◌, append_assoc, length-append}
-use Rattle.std.proofs.lemmas.List.{length-take, take-append-drop}
-use Rattle.std.specs.List.{flat_map}
-use Rattle.odd_sets.specs.TableValue.{TableValue}
-use Rattle.odd_sets.specs.Lists.{Each, sum_over}
-use Rattle.odd_sets.specs.DualSets.{IsAdditive, DualSet, OddSetValue, dual_sets, count}
-use Rattle.odd_sets.specs.Blossoms.{reversed_edge, members_in, dual_sets_in, part_sets, AreOddSets, FirstPartHolds, PartHoldsAt, IsPartCycle, IsBlossom, IsRotated, IsPartPath}
-use Rattle.odd_sets.specs.SoundSets.{IsSoundPart, IsSymmetric, IsTight}
-use Rattle.odd_sets.specs.Expansions.{HoldsAtEvenIndex, IsEvenlyOriented, last_edge_of, reversed_blossom, reversed_onto}
-use Rattle.odd_sets.specs.declared.odd_set.TightEdge.{TightEdge}
-use Rattle.odd_sets.specs.Values.{PartValue}
+use Rattle.odd_sets.proofs.Names.{nat_tests, length-take, take-append-drop, flat_map, TableValue, Each, sum_over, IsAdditive, DualSet, OddSetValue, dual_sets, count, reversed_edge, members_in, dual_sets_in, part_sets, AreOddSets, FirstPartHolds, PartHoldsAt, IsPartCycle, IsBlossom, IsRotated, IsPartPath, IsSoundPart, IsSymmetric, IsTight, HoldsAtEvenIndex, IsEvenlyOriented, last_edge_of, reversed_blossom, reversed_onto, TightEdge, PartValue}
 use Rattle.odd_sets.proofs.ListLemmas.{each-turned}
 use Rattle.odd_sets.proofs.SumLemmas.{bands_each, members_each}
 use Rattle.odd_sets.proofs.BlossomLemmas.{members_turned}

@@ -1,13 +1,6 @@
 -- Worked lists of sets.
 use Rattle.std.proofs.Common.{◌≡◌, ℕ, List, [], ◌∷◌, map, refl}
-use Rattle.odd_sets.specs.DualSets.{DualSet, OddSetValue, dual_sets, height, dual_load, total, key_count}
-use Rattle.odd_sets.specs.MatchedSets.{match_members}
-use Rattle.odd_sets.specs.Blossoms.{members_in, odd_set_of}
-use Rattle.odd_sets.specs.Slots.{members_at, slacks_at, parts_at, set_in, Slots}
-use Rattle.odd_sets.specs.Trees.{all_dual_sets, outer_with_both, inner_dual_sets, inner_members, outer_members}
-use Rattle.odd_sets.specs.Values.{BranchValue, MatchValue, PartValue}
-use Rattle.odd_sets.specs.declared.odd_set.TightEdge.{TightEdge}
-use Rattle.odd_sets.specs.declared.odd_set.BlossomPart.{BlossomPart}
+use Rattle.odd_sets.proofs.Names.{DualSet, OddSetValue, dual_sets, height, dual_load, total, key_count, match_members, members_in, odd_set_of, members_at, slacks_at, parts_at, set_in, Slots, all_dual_sets, outer_with_both, inner_dual_sets, inner_members, outer_members, BranchValue, MatchValue, PartValue, TightEdge, BlossomPart}
 
 abbrev link : ℕ → ℕ → TightEdge
 link from to = record { from = from; to = to }

@@ -1,17 +1,7 @@
 -- The blossom that the loop closes.
-use Rattle.std.proofs.lemmas.Bool.Decides.{nat_tests}
 use Rattle.std.proofs.Common.{◌≡◌, ℕ, ◌+◌, ◌%◌, ◌≤◌, List, [], ◌∷◌, ◌++◌, length, reverse, arith, refl, sym, ap, subst, ◌∙◌, ◌<◌}
-use Rattle.std.proofs.lemmas.List.{append-nil}
-use Rattle.odd_sets.specs.TableValue.{TableValue}
-use Rattle.odd_sets.specs.Lists.{Each}
-use Rattle.odd_sets.specs.DualSets.{IsAdditive, DualSet, OddSetValue, IsOddSet, dual_sets, count}
-use Rattle.odd_sets.specs.Blossoms.{members_in, dual_sets_in, IsBlossom}
+use Rattle.odd_sets.proofs.Names.{nat_tests, append-nil, TableValue, Each, IsAdditive, DualSet, OddSetValue, IsOddSet, dual_sets, count, members_in, dual_sets_in, IsBlossom, IsSoundBranch, IsSoundSet, IsSoundPart, one_if_both, outer_members, inner_members, outer_sets, IsAlternatingTree, part_with_edge, closed_blossom, CanClose, CanShrink, Shrinks, IsOpenChain, TightEdge, BranchValue, PartValue}
 use Rattle.odd_sets.specs.BlossomSlacks.{HaveSlacks}
-use Rattle.odd_sets.specs.SoundSets.{IsSoundBranch, IsSoundSet, IsSoundPart}
-use Rattle.odd_sets.specs.Trees.{one_if_both, outer_members, inner_members, outer_sets, IsAlternatingTree}
-use Rattle.odd_sets.specs.Shrinks.{part_with_edge, closed_blossom, CanClose, CanShrink, Shrinks, IsOpenChain}
-use Rattle.odd_sets.specs.declared.odd_set.TightEdge.{TightEdge}
-use Rattle.odd_sets.specs.Values.{BranchValue, PartValue}
 use Rattle.odd_sets.proofs.ListLemmas.{each-append, each-left, each-last, each-map}
 use Rattle.odd_sets.proofs.SumLemmas.{adds_none, dual_sets-append, bands_push, count-append, members-append, members_push, size-append, some_member}
 use Rattle.odd_sets.proofs.ClosingLemmas.{chain_closes, blossom_sound, tree_even}

@@ -1,21 +1,13 @@
 -- The slacks from sets to the vertices outside them.
-use Rattle.std.proofs.lemmas.Bool.Decides.{nat_tests}
 use Rattle.std.proofs.Common.{◌≡◌, ◌≢◌, ℕ, ◌+◌, ◌-◌, ◌*◌, ◌≤◌, ◌<◌, ◌⊎◌, inl, inr, List, [], ◌∷◌, ◌++◌, length, take, get_or, set, map, min, Bool, true, false, cond, eqb, arith, refl, ap, ◌∙◌, get_or-set_other, get_or-set_same}
-use Rattle.std.proofs.lemmas.Bool.{cases_lt, eqb-false, eqb-true, ltb-true, ltb-false}
+use Rattle.std.proofs.lemmas.Bool.{ltb-false}
 use Rattle.std.proofs.lemmas.Grind.{same_number_lists}
 use Rattle.std.proofs.lemmas.List.FromFn.{get_or-map-range_with_len, length-map-range_with_len}
-use Rattle.std.specs.List.{range_with_len}
+use Rattle.odd_sets.proofs.Names.{nat_tests, cases_lt, eqb-false, eqb-true, ltb-true, range_with_len, Each, OddSetValue, count, height, one_if_equal, lowered_slack, vertex_slack, vertex_slacks, IsSlackRow, dual_sets_in, members_in, least_part_slack, blossom_slacks, IsSoundPart, IsSoundSet, TableValue, entry, IsTable, MAX_DISTANCE, PartValue}
 use Rattle.odd_sets.proofs.ListLemmas.{number_here, take_here}
-use Rattle.odd_sets.specs.Lists.{Each}
-use Rattle.odd_sets.specs.DualSets.{OddSetValue, count, height, one_if_equal}
-use Rattle.odd_sets.specs.SlackRows.{lowered_slack, vertex_slack, vertex_slacks, IsSlackRow, MergesSlacks}
-use Rattle.odd_sets.specs.Blossoms.{dual_sets_in, members_in}
-use Rattle.odd_sets.specs.BlossomSlacks.{least_part_slack, blossom_slack, blossom_slacks, blossom_slacks_of}
-use Rattle.odd_sets.specs.SoundSets.{IsSoundPart, IsSoundSet}
-use Rattle.odd_sets.specs.TableValue.{TableValue}
-use Rattle.odd_sets.specs.Tables.{entry, IsTable}
-use Rattle.odd_sets.specs.declared.table.TheConstants.{FAR, MAX_DISTANCE}
-use Rattle.odd_sets.specs.Values.{PartValue}
+use Rattle.odd_sets.specs.SlackRows.{MergesSlacks}
+use Rattle.odd_sets.specs.BlossomSlacks.{blossom_slack, blossom_slacks_of}
+use Rattle.odd_sets.specs.declared.table.TheConstants.{FAR}
 use Rattle.odd_sets.proofs.SumLemmas.{by_count, count-append, hit_is, hit_same}
 
 pub far_is : FAR ≡ 2 * MAX_DISTANCE + 1

@@ -1,23 +1,7 @@
 -- Sets in slots, after a slot is inserted or removed.
-use Rattle.std.proofs.lemmas.Bool.Decides.{nat_tests}
 use Rattle.std.proofs.Common.{◌≡◌, ℕ, zero, suc, ◌+◌, ◌≤◌, ◌<◌, List, [], ◌∷◌, ◌++◌, map, length, ltb, Option, Some, None, IsSome, arith, length-append, refl, sym, ap, subst, ◌∙◌}
-use Rattle.std.proofs.lemmas.Bool.{lt-ltb}
-use Rattle.slab.specs.Slab.{get, ContainsKey, Updates}
-use Rattle.odd_sets.specs.Lists.{Each}
-use Rattle.odd_sets.specs.DualSets.{DualSet, OddSetValue, dual_sets, one_if_equal, key_count}
-use Rattle.odd_sets.specs.MatchedSets.{match_dual_sets}
-use Rattle.odd_sets.specs.Blossoms.{members_in, dual_sets_in, odd_set_of, AreOddSets, IsVertexOrBlossom, IsBlossom}
-use Rattle.odd_sets.specs.BlossomSlacks.{blossom_set, blossom_slacks}
-use Rattle.odd_sets.specs.Shrinks.{branch_of, part_with_edge}
-use Rattle.odd_sets.specs.Trees.{branch_dual_sets}
-use Rattle.odd_sets.specs.Values.{BranchValue, MatchValue, PartValue}
-use Rattle.odd_sets.specs.Slots.{branch_in, branches_in, match_in, matches_in, members_at, slot_members, slacks_at, slot_slacks, part_in, part_to_depth, parts_at, parts_in, slot_parts, set_in, part_with_inside, AreSets, InsertsSet, AreSlacksOf, IsSet, IsSetToDepth, KeepsOtherSlots, Slots}
-use Rattle.odd_sets.specs.declared.odd_set.TightEdge.{TightEdge}
-use Rattle.odd_sets.specs.declared.odd_set.Handle.{Handle}
-use Rattle.odd_sets.specs.declared.odd_set.BlossomPart.{BlossomPart}
-use Rattle.odd_sets.specs.declared.odd_set.Slot.{Slot}
-use Rattle.odd_sets.specs.declared.matches.Match.{Match}
-use Rattle.odd_sets.specs.declared.branches.Branch.{Branch}
+use Rattle.odd_sets.proofs.Names.{nat_tests, lt-ltb, get, ContainsKey, Updates, Each, DualSet, OddSetValue, dual_sets, one_if_equal, key_count, match_dual_sets, members_in, dual_sets_in, odd_set_of, AreOddSets, IsVertexOrBlossom, IsBlossom, blossom_set, blossom_slacks, branch_of, part_with_edge, branch_dual_sets, BranchValue, MatchValue, PartValue, branch_in, branches_in, match_in, matches_in, members_at, slot_members, slacks_at, part_in, parts_at, parts_in, slot_parts, set_in, AreSets, InsertsSet, Slots, TightEdge, Handle, BlossomPart, Slot, Match, Branch}
+use Rattle.odd_sets.specs.Slots.{slot_slacks, part_to_depth, part_with_inside, AreSlacksOf, IsSet, IsSetToDepth, KeepsOtherSlots}
 use Rattle.odd_sets.proofs.ListLemmas.{each-map, each-mapped}
 use Rattle.odd_sets.proofs.SumLemmas.{hit_is, hit_same, key_count-append}
 

@@ -1,12 +1,9 @@
 -- One entry of a table is set.
-use Rattle.std.proofs.lemmas.Bool.Decides.{nat_tests}
 use Rattle.std.proofs.Common.{◌≡◌, ◌≢◌, ℕ, ◌+◌, ◌*◌, ◌<◌, ◌≤◌, ◌&&◌, ◌||◌, ◌⊎◌, inl, inr, Bool, true, false, cond, eqb, List, length, max, min, set, get_or, arith, refl, sym, ap, ◌∙◌, get_or-set_other, get_or-set_same, slice_index}
 use Rattle.std.proofs.Math.Nat.{mul-le-mul_right}
-use Rattle.std.proofs.lemmas.Bool.{cases_lt, eqb-true, eqb-false, eq-eqb}
 use Rattle.std.proofs.lemmas.List.{length-set}
-use Rattle.odd_sets.specs.TableValue.{TableValue}
-use Rattle.odd_sets.specs.Tables.{IsStored, IsTable, entry, after_set}
-use Rattle.odd_sets.specs.declared.table.TheConstants.{MAX_DISTANCE}
+use Rattle.odd_sets.proofs.Names.{nat_tests, cases_lt, eqb-true, eqb-false, eq-eqb, TableValue, IsTable, entry, after_set, MAX_DISTANCE}
+use Rattle.odd_sets.specs.Tables.{IsStored}
 
 -- a cell of a lower row comes first
 cell_before : (n a b x y : ℕ) → b < n → a < x → a * n + b < x * n + y
@@ -54,15 +51,9 @@ set_either : (cells : List ℕ) (i j k d : ℕ) → i < length cells → j < len
 set_either cells i j k d low lower (inl e) = other_case (eqb k j) cells i j k d low lower refl e
 set_either cells i j k d low lower (inr e) = set_same (set cells i d) j k d (omega (arith, lower, length-set cells i d)) e
 
-on_pair : (n u v x y a b : ℕ) → IsPair u v x y → x ≡ a → y ≡ b → (u * n + v ≡ a * n + b) ⊎ (u * n + v ≡ b * n + a)
-on_pair n u v x y a b h1 h2 h3 = grind (arith, nat_tests)
-
 swapped : {P Q : Type 0} → P ⊎ Q → Q ⊎ P
 swapped (inl p) = inr p
 swapped (inr q) = inl q
-
-off_pair : (u v x y a b : ℕ) → IsPair u v x y → (eqb x a && eqb y b) ≡ false → (eqb x b && eqb y a) ≡ false → u ≡ a → v ≡ b → ⊥
-off_pair u v x y a b h1 h2 h3 h4 h5 = grind (arith, nat_tests, eq-eqb)
 
 by_tests : (t s : Bool) (cells : List ℕ) (n a b d u v x y : ℕ) → length cells ≡ n * n → a < n → b < n → u < n → v < n → IsPair u v x y
     → (eqb x a && eqb y b) ≡ t → (eqb x b && eqb y a) ≡ s →
@@ -71,17 +62,17 @@ by_tests true s cells n a b d u v x y len la lb lu lv pair e f =
     let both = both_true (eqb x a) (eqb y b) e in
     set_either cells (a * n + b) (b * n + a) (u * n + v) d (omega (arith, len, in_cells n a b la lb))
     (omega (arith, len, in_cells n b a lb la))
-    (on_pair n u v x y a b pair (eqb-true x a both.0) (eqb-true y b both.1))
+    (grind (arith, nat_tests, (eqb-true x a both.0), (eqb-true y b both.1)))
 by_tests false true cells n a b d u v x y len la lb lu lv pair e f =
     let both = both_true (eqb x b) (eqb y a) f in
     set_either cells (a * n + b) (b * n + a) (u * n + v) d (omega (arith, len, in_cells n a b la lb))
     (omega (arith, len, in_cells n b a lb la))
-    (swapped (on_pair n u v x y b a pair (eqb-true x b both.0) (eqb-true y a both.1)))
+    (swapped (grind (arith, nat_tests, (eqb-true x b both.0), (eqb-true y a both.1))))
 by_tests false false cells n a b d u v x y len la lb lu lv pair e f =
     get_or-set_other (set cells (a * n + b) d) (b * n + a) (u * n + v) d 0
-    (λ g. let s = same_cell n b a u v la lv g in off_pair u v x y b a pair f e s.0 s.1)
+    (λ g. let s = same_cell n b a u v la lv g in grind (arith, nat_tests, eq-eqb, s.0, s.1))
     ∙ get_or-set_other cells (a * n + b) (u * n + v) d 0
-    (λ g. let s = same_cell n a b u v lb lv g in off_pair u v x y a b pair e f s.0 s.1)
+    (λ g. let s = same_cell n a b u v lb lv g in grind (arith, nat_tests, eq-eqb, s.0, s.1))
 
 ordered : (x y : ℕ) → (x < y) ⊎ (y ≤ x) → IsPair (min x y) (max x y) x y
 ordered x y (inl less) = inl (omega (arith, less), omega (arith, less))
@@ -103,13 +94,6 @@ direct-set_cells t is a b d x y la lb lx ly =
     (inl (refl, refl)) refl refl
     ∙ ap (λ (k : ℕ). cond ((eqb x a && eqb y b) || (eqb x b && eqb y a)) d k) (is.mirror x y lx ly)
 
--- no place is both
-alone_case : (p q : Bool) (a b d k x : ℕ) → eqb x a ≡ p → eqb x b ≡ q → a ≢ b → cond ((p && q) || (q && p)) d k ≡ k
-alone_case p q a b d k x h1 h2 h3 = grind (arith, nat_tests, eqb-true)
-
-set_keeps : (t : TableValue) → IsTable t → (a b d : ℕ) → a < t.places → b < t.places → d ≤ MAX_DISTANCE → IsTable (set_cells t a b d)
-set_keeps t h1 a b d h2 h3 h4 = grind (arith, nat_tests, length-set, entry-set_cells)
-
 -- the same where the cells have names
 abbrev pub set_at : TableValue → ℕ → ℕ → ℕ → TableValue
 set_at t at back d = record { places = t.places; cells = set_both t.cells at back d }
@@ -123,7 +107,7 @@ entry-set_at t is a b d at back x y e f la lb lx ly =
 
 pub set_at_stored : (t : TableValue) → IsStored t → (a b d at back : ℕ) → a ≢ b → at ≡ a * t.places + b → back ≡ b * t.places + a
     → a < t.places → b < t.places → d ≤ MAX_DISTANCE → IsStored (set_at t at back d)
-set_at_stored t h1 a b d at back h2 h3 h4 h5 h6 h7 = grind (arith, nat_tests, set_keeps, direct-set_cells, entry-set_cells, alone_case)
+set_at_stored t h1 a b d at back h2 h3 h4 h5 h6 h7 = grind (arith, nat_tests, length-set, direct-set_cells, entry-set_cells, eqb-true)
 
 pub entry-comm : (t : TableValue) (a b : ℕ) → entry t a b ≡ entry t b a
 entry-comm t a b = ap (slice_index t.cells) (turned a b t.places)

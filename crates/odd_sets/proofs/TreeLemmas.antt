@@ -1,9 +1,6 @@
 -- Trees that grow at the end.
-use Rattle.std.proofs.lemmas.Bool.Decides.{nat_tests}
 use Rattle.std.proofs.Common.{◌≡◌, ℕ, ◌+◌, ◌≤◌, List, [], ◌∷◌, ◌++◌, arith, refl}
-use Rattle.odd_sets.specs.DualSets.{count}
-use Rattle.odd_sets.specs.Trees.{outer_members, outer_with_both, IsAlternatingTree}
-use Rattle.odd_sets.specs.Values.{BranchValue}
+use Rattle.odd_sets.proofs.Names.{nat_tests, count, outer_members, outer_with_both, IsAlternatingTree, BranchValue}
 use Rattle.odd_sets.proofs.SumLemmas.{count-append, members_each}
 
 pub outer_members_base : (x : ℕ) (ys base : List ℕ) (bs : List BranchValue) → count x (outer_members (ys ++ base) bs)

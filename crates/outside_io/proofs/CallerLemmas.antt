@@ -1,6 +1,6 @@
 -- Lemmas that this crate and those above cite.
 use Rattle.std.proofs.Common.{arith, inl, inr, ℕ}
-use Rattle.outside_io.specs.Counts.{IsFaultless, Rose}
+use Rattle.outside_io.proofs.Names.{IsFaultless, Rose}
 
 -- where the count is quiet it did not rise
 pub no_rise : (before now : ℕ) → IsFaultless before now → Rose before now → ⊥

@@ -1,7 +1,7 @@
 -- Worked values of the results of reading entire files, and of sinks.
 use Rattle.std.proofs.Common.{◌≡◌, [], ◌∷◌, Some, None, Ok, Err, refl}
+use Rattle.outside_io.proofs.Names.{whole_file_result, with_bytes_taken}
 use Rattle.outside_io.specs.declared.whole_files.GetFault.TheVariants as fault
-use Rattle.outside_io.specs.Causes.{whole_file_result, with_bytes_taken}
 
 -- a file of as many bytes as the limit is given whole, and one of one byte more is refused
 pub known_whole : whole_file_result (Some (7 ∷ 8 ∷ 9 ∷ [])) 3 ≡ Ok (7 ∷ 8 ∷ 9 ∷ [])

@@ -1,6 +1,6 @@
 -- Worked values of counts.
 use Rattle.std.proofs.Common.{◌≡◌, ◌+◌, ◌^◌, refl}
-use Rattle.outside_io.specs.Counts.{MAX_COUNT, next_count}
+use Rattle.outside_io.proofs.Names.{MAX_COUNT, next_count}
 
 -- the first number is 1
 pub known_first : next_count 0 ≡ 1

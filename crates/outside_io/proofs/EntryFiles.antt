@@ -1,9 +1,6 @@
 -- What putting an entry changes: the file and the room of its name, and nothing else.
 use Rattle.std.proofs.Common.{◌≡◌, ◌≢◌, ℕ, ◌∷◌, [], List, Bool, true, false, Some, refl, sym, ◌∙◌, ap, subst, cond}
-use Rattle.std.proofs.lemmas.Slice.Eq.{bytes_eq-Decides}
-use Rattle.std.specs.Str.{bytes_eq}
-use Rattle.outside_io.specs.Files.{Files, WhereVisible}
-use Rattle.outside_io.specs.MemEntries.{EntryValue, entry_in, file_in, with_entry, with_content, with_file, with_room}
+use Rattle.outside_io.proofs.Names.{bytes_eq-Decides, bytes_eq, Files, WhereVisible, EntryValue, entry_in, file_in, with_entry, with_content, with_file, with_room}
 
 -- A fact of visible files holds wherever they are visible.
 pub where_told : (P : Files → Type 0) (files : Files) → P files → WhereVisible (Some files) P

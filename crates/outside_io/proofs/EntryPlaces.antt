@@ -3,10 +3,8 @@ use Rattle.std.proofs.Common.{◌≡◌, ℕ, ◌<◌, ◌++◌, List, ◌∷◌
 use Rattle.std.proofs.Math.Seq.{drop-cons}
 use Rattle.std.proofs.lemmas.List.{set_split}
 use Rattle.std.proofs.lemmas.Option.{slice_get-get_or}
-use Rattle.std.proofs.lemmas.Slice.Eq.{bytes_eq-Decides}
 use Rattle.std.specs.List.{slice_get}
-use Rattle.std.specs.Str.{bytes_eq}
-use Rattle.outside_io.specs.MemEntries.{EntryValue, entry_in, with_entry}
+use Rattle.outside_io.proofs.Names.{bytes_eq-Decides, bytes_eq, EntryValue, entry_in, with_entry}
 use Rattle.outside_io.specs.EntryIndexes.{IsEntryIndex}
 
 -- none of the first entries has that name

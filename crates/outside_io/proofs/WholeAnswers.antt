@@ -1,13 +1,12 @@
 -- If no fault is counted, the file determines the result of reading it.
+use Rattle.std.proofs.lemmas.Bool.Decides.{nat_tests}
 use Rattle.std.proofs.Common.{◌≡◌, ℕ, ◌≤◌, List, length, Some, None, Ok, Err, Option, Result, true, false, ◌∙◌, ap, arith}
 use Rattle.std.specs.Bool.{nat_le}
+use Rattle.outside_io.proofs.Names.{ReadsWholeFile, whole_file_result, IsFileLonger, IsFaultless, WhereVisible, StoreView}
 use Rattle.outside_io.specs.declared.whole_files.GetFault.{GetFault}
 use Rattle.outside_io.specs.declared.whole_files.GetFault.TheVariants as fault
 use Rattle.lists_and_numbers.specs.OutOfMemory.{IsSpecified}
-use Rattle.outside_io.specs.Causes.{ReadsWholeFile, get_is_out_of_memory, whole_file_result, IsFileLonger}
-use Rattle.outside_io.specs.Counts.{IsFaultless}
-use Rattle.outside_io.specs.Files.{WhereVisible}
-use Rattle.outside_io.specs.Views.{StoreView}
+use Rattle.outside_io.specs.Causes.{get_is_out_of_memory}
 use Rattle.outside_io.proofs.CallerLemmas.{no_rise}
 
 -- a short file is given whole
@@ -16,9 +15,7 @@ short_answer bytes limit short = let test : nat_le (length bytes) limit ≡ true
 
 -- a longer file is refused
 longer_answer : (file : Option (List ℕ)) (limit : ℕ) → IsFileLonger file limit → whole_file_result file limit ≡ Err fault.TooLong
-longer_answer None limit longer = absurd longer
-longer_answer (Some content) limit longer =
-    let test : nat_le (length content) limit ≡ false = grind arith in rw test
+longer_answer file limit h1 = grind (arith, nat_tests)
 
 -- Each possible result is then that of the file, or out of memory.
 pub decided : (name : List ℕ) (limit : ℕ) (old new : StoreView) (result : Result (List ℕ) GetFault) →

@@ -1,10 +1,9 @@
 -- The relation between the bytes read so far and a visible file.
 use Rattle.std.proofs.Common.{◌≡◌, ℕ, ◌+◌, ◌<◌, ◌≤◌, ◌++◌, List, length, take, drop, min, Some, None, Option, refl, sym, ◌∙◌, ap, arith, length-append, length-drop}
 use Rattle.std.proofs.Math.Seq.{take-add}
-use Rattle.std.proofs.lemmas.List.{take_all, length-take, length-take-le}
-use Rattle.outside_io.specs.Causes.{BufferMatchesFile, IsFileLonger, HasNoNewFault}
-use Rattle.outside_io.specs.FileParts.{IsContentPrefix}
-use Rattle.outside_io.specs.Views.{StoreView}
+use Rattle.std.proofs.lemmas.List.{take_all, length-take}
+use Rattle.outside_io.proofs.Names.{length-take-le, IsFileLonger, HasNoNewFault, IsContentPrefix, StoreView}
+use Rattle.outside_io.specs.Causes.{BufferMatchesFile}
 
 -- what stayed twice stayed
 pub stays_on : {old mid new : StoreView} → HasNoNewFault old mid → HasNoNewFault mid new → HasNoNewFault old new

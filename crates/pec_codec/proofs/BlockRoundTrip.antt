@@ -1,30 +1,13 @@
 -- The block of a design reads back, wherever in a file it stands.
-use Rattle.std.proofs.lemmas.Bool.Decides.{nat_tests}
-use Rattle.std.proofs.lemmas.Int.{ints}
 use Rattle.std.proofs.Common.{◌≡◌, ℕ, ◌+◌, ◌≤◌, true, IsTrue, false, nat_lt, List, [], ◌∷◌, ◌++◌, length, drop, Option, None, Ok, IfOk, IsOkAnd, refl, ap, sym, ◌∙◌, subst, arith, length-append}
-use Rattle.std.proofs.lemmas.Bool.{le-ltb}
-use Rattle.std.proofs.lemmas.List.{append_assoc, drop_at}
-use Rattle.std.specs.List.{concat, list_all}
-use Rattle.design_model.specs.Acts.{acts_of}
-use Rattle.design_model.specs.Designs.{DesignValue, KeepsLimits}
-use Rattle.design_model.specs.Points.{is_point_within}
-use Rattle.format_traits.specs.declared.fault.WriteFault.{WriteFault}
-use Rattle.format_traits.specs.declared.loaded.Loaded.{Loaded}
-use Rattle.format_traits.specs.Accepted.{AcceptedIsWithinLimits}
+use Rattle.pec_codec.proofs.Names.{nat_tests, ints, le-ltb, append_assoc, drop_at, concat, list_all, acts_of, DesignValue, KeepsLimits, is_point_within, WriteFault, Loaded, AcceptedIsWithinLimits, loaded_with, file_commands, stops_of, HEADER_LENGTH, LIMIT, MAX_STOPS, pec_header_of, pec_label_of, threads_in, threads_of, BlocksKeepLaws, RestoresDesign, BlockRoundTrips, pec_block_moves, pec_block_reads, pec_block_records, pec_block_shown, pec_records, pec_block_of, pec_body_of, thumbnail_distance, pec_write_limits, pec_encoding, thumbnails_of, pec_block_writes}
 use Rattle.format_traits.specs.LabelFields.{LabelFieldsRoundTrip}
 use Rattle.format_traits.specs.Laws.{CodecsKeepLaws, IsCodec}
 use Rattle.format_traits.specs.Meanings.{Meaning}
-use Rattle.record_formats.specs.Readings.{loaded_with}
-use Rattle.record_formats.specs.Records.{file_commands, moves_of_records}
-use Rattle.format_traits.specs.Refusals.{first_refusal, stops_of, unless_refused}
+use Rattle.record_formats.specs.Records.{moves_of_records}
+use Rattle.format_traits.specs.Refusals.{first_refusal, unless_refused}
 use Rattle.record_formats.specs.RoundTrip.{EncodedActsRoundTrip}
 use Rattle.record_formats.specs.RecordEncodings.{records_of_acts}
-use Rattle.pec_codec.specs.declared.block.TheConstants.{HEADER_LENGTH, LIMIT, MAX_STOPS}
-use Rattle.pec_codec.specs.Header.{pec_header_of, pec_label_of, threads_in, threads_of}
-use Rattle.pec_codec.specs.Laws.{BlocksKeepLaws, RestoresDesign, BlockRoundTrips}
-use Rattle.pec_codec.specs.Reading.{pec_block_moves, pec_block_reads, pec_block_records, pec_block_shown}
-use Rattle.pec_codec.specs.Records.{pec_records}
-use Rattle.pec_codec.specs.Writing.{pec_block_of, pec_body_of, thumbnail_distance, pec_write_limits, pec_encoding, thumbnails_of, pec_block_writes}
 use Rattle.pec_codec.proofs.HeaderLemmas.{labels_fit, length-pec_header_of}
 use Rattle.pec_codec.proofs.LabelLemmas.{pec_label_of-block, thread_of-threads, threads_in-block}
 use Rattle.pec_codec.proofs.ReadingLemmas.{reads-long}

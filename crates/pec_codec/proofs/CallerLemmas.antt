@@ -1,12 +1,7 @@
 -- Lemmas that this crate and those above cite.
-use Rattle.std.proofs.lemmas.Bool.Decides.{nat_tests}
-use Rattle.std.proofs.lemmas.Int.{ints}
 use Rattle.std.proofs.Common.{IsOkAnd, Result, arith}
-use Rattle.design_model.specs.Designs.{DesignValue}
+use Rattle.pec_codec.proofs.Names.{nat_tests, ints, DesignValue, ReadFault, Loaded, RestoresDesign}
 use Rattle.format_traits.specs.Laws.{HasSameActs}
-use Rattle.format_traits.specs.declared.fault.ReadFault.{ReadFault}
-use Rattle.format_traits.specs.declared.loaded.Loaded.{Loaded}
-use Rattle.pec_codec.specs.Laws.{RestoresDesign}
 
 pub again_from : (d : DesignValue) (result : Result Loaded ReadFault) → IsOkAnd result (λ loaded. RestoresDesign d loaded)
     → IsOkAnd result (λ loaded. HasSameActs d loaded)

@@ -1,19 +1,13 @@
 -- A design is less than 2 ^ 16 wide and high.
-use Rattle.std.proofs.lemmas.Bool.Decides.{nat_tests}
 use Rattle.std.proofs.Common.{ℕ, ◌+◌, ◌<◌, ◌≤◌, ◌^◌, ℤ, ◌-ℤ◌, unsigned_abs, Bool, true, false, IsTrue, List, [], ◌∷◌, All, Contains, Option, subst, arith}
-use Rattle.std.proofs.lemmas.Bool.{and_parts}
-use Rattle.std.proofs.lemmas.Int.{ints}
 use Rattle.std.proofs.lemmas.List.Elements.{All-nil}
-use Rattle.std.specs.List.{list_all}
+use Rattle.pec_codec.proofs.Names.{nat_tests, and_parts, ints, list_all, Command, Trim, Point, is_point_within}
 use Rattle.design_model.specs.declared.bounds.Extent.{Extent}
-use Rattle.design_model.specs.declared.command.Command.{Command}
-use Rattle.design_model.specs.declared.command.Command.TheVariants.{Stitch, Jump, Trim, Stop}
-use Rattle.design_model.specs.declared.point.Point.{Point}
+use Rattle.design_model.specs.declared.command.Command.TheVariants.{Stitch, Jump, Stop}
 use Rattle.design_model.specs.declared.point.TheConstants.{NEEDLE_LIMIT}
 use Rattle.design_model.specs.Acts.{acts_from}
 use Rattle.design_model.specs.Commands.{is_command_in_range}
 use Rattle.design_model.specs.Extents.{IsExtentOrNone, x_coordinates, extent_height, needle_points_of_acts, y_coordinates, extent_width}
-use Rattle.design_model.specs.Points.{is_point_within}
 
 -- a coordinate of a needle
 abbrev IsNear : ℤ → Type 0
@@ -24,16 +18,13 @@ pub record AreNear (points : List Point) : Type 0 where
   pub columns : All IsNear (x_coordinates points)
   pub rows : All IsNear (y_coordinates points)
 
-near-cons : (p : Point) (points : List Point) → IsTrue (is_point_within NEEDLE_LIMIT p) → AreNear points → AreNear (p ∷ points)
-near-cons p points h1 h2 = grind (arith, nat_tests, ints)
-
 -- the needles of commands in range are near
 pub needles_near : (n : ℕ) (loose jumped : Bool) (commands : List Command)
     → IsTrue (list_all is_command_in_range commands) → AreNear (needle_points_of_acts (acts_from n loose jumped commands))
 needles_near n loose jumped [] all = record { columns = All-nil IsNear; rows = All-nil IsNear }
 needles_near n loose jumped (Stitch p ∷ rest) all =
     let both = and_parts (is_command_in_range (Stitch p)) (list_all is_command_in_range rest) all in
-    near-cons p (needle_points_of_acts (acts_from (n + 1) false false rest)) both.0 (needles_near (n + 1) false false rest both.1)
+    grind (arith, nat_tests, both.0, (needles_near (n + 1) false false rest both.1))
 needles_near n loose jumped (Jump p ∷ rest) all = needles_near (n + 1) loose true rest
     (and_parts (is_command_in_range (Jump p)) (list_all is_command_in_range rest) all).1
 needles_near n true jumped (Trim ∷ rest) all = needles_near (n + 1) true jumped rest all

@@ -1,15 +1,8 @@
 -- The parts of a header.
-use Rattle.std.proofs.lemmas.Bool.Decides.{nat_tests}
 use Rattle.std.proofs.Common.{◌≡◌, ℕ, ◌+◌, ◌-◌, ◌≤◌, List, [], ◌∷◌, ◌++◌, length, ap, sym, ◌∙◌, arith, length-append}
-use Rattle.std.proofs.lemmas.List.{append_assoc}
-use Rattle.std.proofs.lemmas.List.FromFn.{length-map-range_with_len, map-range_with_len_more}
-use Rattle.design_model.specs.declared.design.TheConstants.{MAX_LABEL}
-use Rattle.design_model.specs.Designs.{DesignValue, thread_of}
-use Rattle.design_model.specs.Extents.{extent_of}
+use Rattle.std.proofs.lemmas.List.FromFn.{map-range_with_len_more}
+use Rattle.pec_codec.proofs.Names.{nat_tests, append_assoc, length-map-range_with_len, MAX_LABEL, DesignValue, thread_of, extent_of, HEADER_LENGTH, LABELS_LENGTH, MAX_STOPS, distance_field, pec_header_of, labels_of, size_fields, threads_of, length-padded_right}
 use Rattle.format_traits.specs.LabelFields.{padded_right}
-use Rattle.pec_codec.specs.declared.block.TheConstants.{HEADER_LENGTH, LABELS_LENGTH, MAX_STOPS}
-use Rattle.pec_codec.specs.Header.{distance_field, pec_header_of, labels_of, size_fields, threads_of}
-use Rattle.format_traits.proofs.CallerLemmas.{length-padded_right}
 
 -- the threads of one block more
 pub threads_more : (d : DesignValue) (count thread : ℕ) (start out more : List ℕ) → thread ≡ thread_of d count

@@ -1,17 +1,9 @@
 -- What restores a design, and what does not.
 use Rattle.std.proofs.Common.{◌≡◌, ℕ, true, List, [], ◌∷◌, ◌++◌, length, Result, Ok, Err, IfOk, IsOk, IsOkAnd, codes, arith, subst, sym, true≢false}
-use Rattle.std.specs.List.{list_all}
+use Rattle.pec_codec.proofs.Names.{list_all, acts_of, DesignValue, KeepsLimits, is_point_within, origin, ReadFault, WriteFault, Loaded, BlockRoundTrips, BlocksKeepLaws, RestoresDesign, pec_block_moves, pec_block_reads, pec_block_writes}
 use Rattle.design_model.specs.declared.command.Command.TheVariants.{Stitch, Stop}
-use Rattle.design_model.specs.Acts.{acts_of, acts_without_numbers}
-use Rattle.design_model.specs.Designs.{DesignValue, KeepsLimits}
-use Rattle.design_model.specs.Points.{is_point_within, origin}
-use Rattle.format_traits.specs.declared.fault.ReadFault.{ReadFault}
-use Rattle.format_traits.specs.declared.fault.WriteFault.{WriteFault}
-use Rattle.format_traits.specs.declared.loaded.Loaded.{Loaded}
+use Rattle.design_model.specs.Acts.{acts_without_numbers}
 use Rattle.format_traits.specs.PlainDesigns.{IsPlain}
-use Rattle.pec_codec.specs.Laws.{BlockRoundTrips, BlocksKeepLaws, RestoresDesign}
-use Rattle.pec_codec.specs.Reading.{pec_block_moves, pec_block_reads}
-use Rattle.pec_codec.specs.Writing.{pec_block_writes}
 
 -- the two numbers are not the same
 abbrev Differ : ℕ → ℕ → Type 0

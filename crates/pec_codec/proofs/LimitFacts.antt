@@ -1,6 +1,6 @@
 -- The limits of blocks. Moves are in tenths of a millimetre, lengths in bytes.
 use Rattle.std.proofs.Common.{◌≡◌, refl}
-use Rattle.pec_codec.specs.declared.block.TheConstants.{HEADER_LENGTH, LABELS_LENGTH, LIMIT, MAX_STOPS, THUMBNAIL_LENGTH}
+use Rattle.pec_codec.proofs.Names.{HEADER_LENGTH, LABELS_LENGTH, LIMIT, MAX_STOPS, THUMBNAIL_LENGTH}
 
 -- how far a written record moves on each axis, and the stops of a block
 pub known_move : LIMIT ≡ 2047

@@ -1,10 +1,6 @@
 -- Encoded coordinates are decoded as they were meant.
-use Rattle.std.proofs.lemmas.Bool.Decides.{nat_tests}
 use Rattle.std.proofs.Common.{◌≡◌, ℕ, ◌+◌, ◌-◌, ◌*◌, ◌/◌, ◌%◌, ◌<◌, ◌≤◌, ℤ, unsigned_abs, Bool, false, IsTrue, List, ◌∷◌, Some, ◌==◌, if◌then◌else◌, ◌∙◌, arith}
-use Rattle.std.proofs.lemmas.Int.{ints}
-use Rattle.pec_codec.specs.declared.block.TheConstants.{LIMIT}
-use Rattle.pec_codec.specs.declared.coordinate.Coordinate.{Coordinate}
-use Rattle.pec_codec.specs.Coordinates.{leading_coordinate, is_short_number, to_twos_complement}
+use Rattle.pec_codec.proofs.Names.{nat_tests, ints, LIMIT, Coordinate, leading_coordinate, is_short_number, to_twos_complement}
 
 pub unsigned_short : (z : ℤ) → to_twos_complement 64 z < 128
 unsigned_short z = grind (arith, nat_tests, ints)

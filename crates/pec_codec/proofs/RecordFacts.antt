@@ -1,12 +1,9 @@
 -- Worked values of the records of blocks, at offset 0, and of blocks at other offsets.
 use Rattle.std.proofs.Common.{◌≡◌, ℕ, ℤ, pos, negsuc, true, false, List, [], ◌∷◌, ◌++◌, map, replicate, Err, refl}
-use Rattle.design_model.specs.declared.point.Point.{Point}
+use Rattle.pec_codec.proofs.Names.{Point, next, over, pec_block_moves, pec_block_reads, pec_block_shown, pec_records}
 use Rattle.design_model.specs.declared.command.Command.TheVariants as command
 use Rattle.record_formats.specs.declared.event.Event.TheVariants.{Jump, Stitch, Stop, TrimmedJump}
 use Rattle.format_traits.specs.declared.fault.ReadFault.TheVariants as fault
-use Rattle.record_formats.specs.Records.{next, over}
-use Rattle.pec_codec.specs.Reading.{pec_block_moves, pec_block_reads, pec_block_shown}
-use Rattle.pec_codec.specs.Records.{pec_records}
 
 abbrev point : ℤ → ℤ → Point
 point x y = record { x = x; y = y }

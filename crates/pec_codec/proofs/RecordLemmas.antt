@@ -1,18 +1,14 @@
 -- The record that is cut, and those after it, are all records.
-use Rattle.std.proofs.lemmas.Bool.Decides.{nat_tests}
-use Rattle.std.proofs.lemmas.Int.{ints}
 use Rattle.std.proofs.Common.{◌≡◌, ℕ, zero, suc, ◌+◌, ◌-◌, ◌<◌, ◌≤◌, Bool, true, false, ◌&&◌, ◌==◌, List, [], ◌∷◌, ◌++◌, length, drop, Option, Some, None, if◌then◌else◌, refl, ap, sym, ◌∙◌, arith, length-append}
 use Rattle.std.proofs.lemmas.Bool.{false≢true}
-use Rattle.std.proofs.lemmas.List.{drop-append-le}
+use Rattle.pec_codec.proofs.Names.{nat_tests, ints, drop-append-le, next, over, Coordinate, next_record_in, pec_records}
 use Rattle.record_formats.specs.declared.event.Event.{Event}
 use Rattle.record_formats.specs.declared.record_reader.NextRecord.{NextRecord}
 use Rattle.record_formats.specs.declared.record_reader.NextRecord.TheVariants as cut
 use Rattle.record_formats.specs.RecordDecoding.{DecodesRecord}
-use Rattle.record_formats.specs.Records.{next, over}
 use Rattle.pec_codec.specs.Steps.{RecordFitsBytes}
-use Rattle.pec_codec.specs.declared.coordinate.Coordinate.{Coordinate}
 use Rattle.pec_codec.specs.Coordinates.{long_coordinate_in, coordinate_of_byte}
-use Rattle.pec_codec.specs.Records.{with_next_record, next_record_in, length_after_first, pec_records, records_after_skip}
+use Rattle.pec_codec.specs.Records.{with_next_record, length_after_first, records_after_skip}
 
 -- the records after the bytes of the record before
 skipped : (behind at : ℕ) (bytes : List ℕ) → behind ≤ length bytes
@@ -54,10 +50,6 @@ is_whole (cut.Incomplete ended) = false
 is_whole (cut.Refused f) = true
 is_whole (cut.Record event size) = true
 
--- what is cut stays as it is, whatever bytes follow
-cut_stays : (bytes more : List ℕ) (c : NextRecord) → c ≡ next_record_in bytes → is_whole c ≡ true → c ≡ next_record_in (bytes ++ more)
-cut_stays bytes more c h1 h2 = grind (arith, nat_tests, ints)
-
 -- no bytes decode to an incomplete record
 none_cut : (c : NextRecord) → c ≡ next_record_in [] → is_whole c ≡ true → ⊥
 none_cut c is whole = false≢true (sym (ap is_whole is) ∙ whole)
@@ -67,7 +59,7 @@ pub cuts_record : (at : ℕ) (bytes : List ℕ) (c : NextRecord) → c ≡ next_
     → DecodesRecord pec_records pec_records at bytes c
 cuts_record at [] cut.End is fits = absurd (none_cut cut.End is refl)
 cuts_record at (byte ∷ rest) cut.End is fits =
-    λ more. cut_first at byte (rest ++ more) cut.End (cut_stays (byte ∷ rest) more cut.End is refl)
+    λ more. cut_first at byte (rest ++ more) cut.End (grind (arith, nat_tests, cut.End))
 cuts_record at [] (cut.Incomplete ended) is fits = record {
   few = fits;
   same = λ at bytes. refl;
@@ -80,11 +72,11 @@ cuts_record at (byte ∷ rest) (cut.Incomplete ended) is fits = record {
 }
 cuts_record at [] (cut.Refused f) is fits = absurd (none_cut (cut.Refused f) is refl)
 cuts_record at (byte ∷ rest) (cut.Refused f) is fits =
-    λ more. cut_first at byte (rest ++ more) (cut.Refused f) (cut_stays (byte ∷ rest) more (cut.Refused f) is refl)
+    λ more. cut_first at byte (rest ++ more) (cut.Refused f) (grind (arith, nat_tests, (cut.Refused f)))
 cuts_record at bytes (cut.Record event size) is fits = record {
   some = fits.0;
   there = fits.1;
-  is = λ more. record_first at size event (bytes ++ more) (cut_stays bytes more (cut.Record event size) is refl) fits.0
+  is = λ more. record_first at size event (bytes ++ more) (grind (arith, nat_tests, (cut.Record event size))) fits.0
       (omega (arith, fits.1, length-append bytes more))
       ∙ ap (λ left. next at event (pec_records (at + size) left)) (drop-append-le size bytes more fits.1);
   small = fits.2;

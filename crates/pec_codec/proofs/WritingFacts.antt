@@ -1,13 +1,8 @@
 -- Worked values of what designs are written as.
 use Rattle.std.proofs.Common.{◌≡◌, ◌+◌, ◌*◌, ℤ, pos, negsuc, List, [], ◌∷◌, ◌++◌, length, map, replicate, codes, Err, refl}
-use Rattle.design_model.specs.declared.command.Command.{Command}
-use Rattle.design_model.specs.declared.command.Command.TheVariants.{Jump, Stitch, Stop, Trim}
-use Rattle.design_model.specs.declared.point.Point.{Point}
-use Rattle.design_model.specs.Designs.{DesignValue}
-use Rattle.design_model.specs.Extents.{extent_of}
+use Rattle.pec_codec.proofs.Names.{Command, Trim, Point, DesignValue, extent_of, distance_field, pec_label_of, labels_of, size_fields, threads_in, pec_block_of, pec_body_of, thumbnail_distance, thumbnails_of, pec_block_writes}
+use Rattle.design_model.specs.declared.command.Command.TheVariants.{Jump, Stitch, Stop}
 use Rattle.format_traits.specs.declared.fault.WriteFault.TheVariants as fault
-use Rattle.pec_codec.specs.Header.{distance_field, pec_label_of, labels_of, size_fields, threads_in}
-use Rattle.pec_codec.specs.Writing.{pec_block_of, pec_body_of, thumbnail_distance, thumbnails_of, pec_block_writes}
 
 abbrev point : ℤ → ℤ → Point
 point x y = record { x = x; y = y }

@@ -1,29 +1,19 @@
 -- How long what is written is.
-use Rattle.std.proofs.lemmas.Bool.Decides.{nat_tests}
-use Rattle.std.proofs.lemmas.Int.{ints}
 use Rattle.std.proofs.Common.{◌≡◌, ℕ, zero, suc, ◌+◌, ◌*◌, ◌≤◌, max, Bool, true, false, ◌&&◌, List, [], ◌∷◌, ◌++◌, length, map, replicate, Ok, if◌then◌else◌, refl, ap, ◌∙◌, arith, length-append}
-use Rattle.std.proofs.lemmas.List.{append_assoc, replicate-append-replicate}
-use Rattle.std.specs.List.{concat}
+use Rattle.std.proofs.lemmas.List.{replicate-append-replicate}
+use Rattle.pec_codec.proofs.Names.{nat_tests, ints, append_assoc, concat, Command, Point, DesignValue, KeepsLimits, AcceptedIsWithinLimits, LIMIT, MAX_STOPS, THUMBNAIL_LENGTH, is_short_number, short_bytes, pec_jump_record, long_record, pec_stitch_record, pec_body_of, pec_write_limits, pec_encoding}
 use Rattle.design_model.specs.declared.act.Act.{Act}
 use Rattle.design_model.specs.declared.act.Act.TheVariants as act
 use Rattle.design_model.specs.declared.act.NumberedAct.{NumberedAct}
-use Rattle.design_model.specs.declared.command.Command.{Command}
 use Rattle.design_model.specs.declared.design.TheConstants.{MAX_COMMANDS}
-use Rattle.design_model.specs.declared.point.Point.{Point}
 use Rattle.design_model.specs.Acts.{acts_along}
-use Rattle.design_model.specs.Designs.{DesignValue, KeepsLimits}
 use Rattle.design_model.specs.Points.{move_between}
 use Rattle.format_traits.specs.declared.encoder_state.EncoderState.{EncoderState}
-use Rattle.format_traits.specs.Accepted.{AcceptedIsWithinLimits}
 use Rattle.format_traits.specs.MoveHops.{hops_of}
 use Rattle.record_formats.specs.MoveParts.{part_moves_from}
 use Rattle.format_traits.specs.Refusals.{encoder_state_after}
 use Rattle.format_traits.specs.Rooms.{room_of_act, room_of_needle, room_from}
 use Rattle.record_formats.specs.RecordEncodings.{AppendsRecords, hop_records, needle_records, records_of_acts_from, records_of_act}
-use Rattle.pec_codec.specs.declared.block.TheConstants.{LIMIT, MAX_STOPS, THUMBNAIL_LENGTH}
-use Rattle.pec_codec.specs.Coordinates.{is_short_number, short_bytes}
-use Rattle.pec_codec.specs.RecordBytes.{pec_jump_record, long_record, pec_stitch_record}
-use Rattle.pec_codec.specs.Writing.{pec_body_of, pec_write_limits, pec_encoding}
 use Rattle.pec_codec.specs.Steps.{AppendsBody}
 use Rattle.format_traits.proofs.CallerLemmas.{loose_room, stops_along}
 
@@ -31,25 +21,17 @@ length-concat-append : (xs ys : List (List ℕ)) → length (concat (xs ++ ys)) 
 length-concat-append [] ys = omega arith
 length-concat-append (x ∷ xs) ys = grind (arith, nat_tests, length-append, (length-concat-append xs ys))
 
--- a stitch, whether its numbers are short or not
-stitch_length : (short : Bool) (m : Point)
-    → length (if short then short_bytes m.x ++ short_bytes m.y else long_record 0 m) ≤ 4
-stitch_length short m = grind (arith, nat_tests, ints)
-
 length-stitch : (m : Point) → length (pec_stitch_record m) ≤ 4
-length-stitch m = stitch_length (is_short_number m.x && is_short_number m.y) m
+length-stitch m = grind (arith, nat_tests)
 
 length-jumps : (m : Point) (n done count : ℕ) → length (concat (map pec_jump_record (part_moves_from m n done count))) ≡ 4 * count
 length-jumps m n done zero = refl
 length-jumps m n done (suc count) = omega (arith, length-jumps m n (done + 1) count)
 
-length-hops_of : (count : ℕ) (m : Point) → length (concat (hop_records pec_encoding count m)) ≤ 4 * (count + 1)
-length-hops_of count m = grind (arith, nat_tests, length-concat-append, length-jumps)
-
 needle_length : (loose float : Bool) (m : Point)
     → length (concat (needle_records pec_encoding pec_write_limits loose float m)) ≤ 4 * room_of_needle LIMIT loose float m
-needle_length true float m = grind (arith, nat_tests, length-hops_of, loose_room)
-needle_length false true m = length-hops_of (max 1 (hops_of LIMIT m)) m
+needle_length true float m = grind (arith, nat_tests, length-concat-append, length-jumps, loose_room)
+needle_length false true m = grind (arith, nat_tests, length-concat-append, length-jumps)
 needle_length false false m =
     omega (arith, length-stitch m, length-append (pec_stitch_record m) [])
 

@@ -1,23 +1,15 @@
 -- Formats whose files are a front and a block.
 use Rattle.std.proofs.Common.{◌≡◌, ℕ, ◌≤◌, true, false, drop, IsTrue, nat_lt, List, ◌++◌, length, Result, Ok, Err, IfOk, IsOk, IsOkAnd, refl, ap, sym, subst, arith, length-append}
-use Rattle.std.proofs.lemmas.Bool.{le-ltb}
 use Rattle.std.specs.List.{list_all}
-use Rattle.design_model.specs.Designs.{DesignValue}
+use Rattle.pes_codec.proofs.Names.{le-ltb, DesignValue, WriteFault, layout_reads, Meaning, RestoresDesign, pec_block_layout, Pec, Pes, file_meaning, RoundTripsWithThreads, front_layout_of, front_of}
 use Rattle.design_model.specs.Points.{is_point_within}
-use Rattle.format_traits.specs.declared.fault.WriteFault.{WriteFault}
 use Rattle.format_traits.specs.Laws.{KeepsLaws, MovesWithin, RoundTrips}
-use Rattle.record_formats.specs.Layouts.{layout_reads}
-use Rattle.format_traits.specs.Meanings.{Meaning}
 use Rattle.format_traits.specs.PlainDesigns.{IsPlain}
 use Rattle.pec_codec.specs.declared.block.TheConstants.{LIMIT}
-use Rattle.pec_codec.specs.Laws.{RestoresDesign, KeepsBlockLaws, BlockRoundTrips}
-use Rattle.pec_codec.specs.Reading.{pec_block_layout, pec_block_moves, pec_block_reads}
+use Rattle.pec_codec.specs.Laws.{KeepsBlockLaws, BlockRoundTrips}
+use Rattle.pec_codec.specs.Reading.{pec_block_moves, pec_block_reads}
 use Rattle.pec_codec.specs.Writing.{pec_block_writes}
 use Rattle.pes_codec.specs.declared.file_kind.FileKind.{FileKind}
-use Rattle.pes_codec.specs.declared.file_kind.FileKind.TheVariants.{Pec, Pes}
-use Rattle.pes_codec.specs.Formats.{file_meaning}
-use Rattle.pes_codec.specs.Laws.{RoundTripsWithThreads}
-use Rattle.pes_codec.specs.Fronts.{front_layout_of, front_of}
 use Rattle.pes_codec.specs.Writing.{after_front}
 use Rattle.pec_codec.proofs.CallerLemmas.{again_from}
 

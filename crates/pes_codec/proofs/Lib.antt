@@ -1,3 +1,4 @@
+pub mod Names
 pub mod FrontLemmas
 mod FileFacts
 pub mod FileLemmas

@@ -1,21 +1,9 @@
 -- Lemmas for the crates of programs: plans that read files one after another, plans that decide, and the end of a run.
-use Rattle.std.proofs.lemmas.Bool.Decides.{nat_tests}
 use Rattle.std.proofs.Common.{◌≡◌, ℕ, Bool, false, List, Option, Result, Ok, Err, ap, refl, subst, sym, arith}
-use Rattle.lists_and_numbers.specs.OutOfMemory.{IsSpecified, UnlessOutOfMemory}
-use Rattle.outside_io.specs.Files.{Files}
-use Rattle.outside_io.specs.Views.{SinkView, StoreView}
-use Rattle.program_shell.specs.declared.failure.Failure.{Failure}
+use Rattle.program_shell.proofs.Names.{nat_tests, UnlessOutOfMemory, Files, SinkView, StoreView, Failure, Product, Status, IsExact, IsSoundProgram, IsInputContent, Makes, Plan, accepts, reads, refuses, satisfies, ProductValue, output_names, Program, RunEnds, Views, views_of, FinishesRun, IsFailureOf, RunsRequest}
+use Rattle.lists_and_numbers.specs.OutOfMemory.{IsSpecified}
 use Rattle.program_shell.specs.declared.failure.Failure.TheVariants as failure
-use Rattle.program_shell.specs.declared.product.Product.{Product}
-use Rattle.program_shell.specs.declared.status.Status.{Status}
-use Rattle.program_shell.specs.ExactPlans.{IsExact, IsSoundProgram}
-use Rattle.program_shell.specs.Plans.{IsInputContent, Makes, Plan, accepts, reads, refuses, satisfies}
-use Rattle.program_shell.specs.Products.{ProductValue, output_names}
-use Rattle.program_shell.specs.Programs.{Program}
-use Rattle.program_shell.specs.Runs.{RunEnds}
-use Rattle.program_shell.specs.RunViews.{Views, views_of}
-use Rattle.program_shell.specs.FinishedRuns.{FinishesRun}
-use Rattle.program_shell.specs.StepOutcomes.{CanFinish, IsFailureOf, IsFaultFailure, IsParsedInput, ParsesInput, ReadsInput, RunsPlan, RunsPurePlan, RunsRequest}
+use Rattle.program_shell.specs.StepOutcomes.{CanFinish, IsFaultFailure, IsParsedInput, ParsesInput, ReadsInput, RunsPlan, RunsPurePlan}
 use Rattle.program_shell.proofs.RunLemmas.{run_ends}
 use Rattle.program_shell.proofs.RunOutcomes.{finished}
 

@@ -1,32 +1,15 @@
 -- If no fault is counted, the arguments and the files determine the status.
-use Rattle.std.proofs.lemmas.Bool.Decides.{nat_tests}
 use Rattle.std.proofs.Common.{◌≡◌, ℕ, Bool, true, false, ◌≤◌, inl, inr, List, Option, Some, None, IsSome, length, ap, refl, string_bytes, subst, arith}
-use Rattle.lists_and_numbers.specs.OutOfMemory.{UnlessOutOfMemory}
+use Rattle.program_shell.proofs.Names.{nat_tests, UnlessOutOfMemory, Files, FileHolds, Failure, Status, IsInputContent, Makes, LacksInput, Plan, accepts, satisfies, reads, refuses, ProductValue, Program, IsFaultlessRun, Views, IsDecided, ReportsFailure, all, but_report, up_to, IsFailureOf, status_of, IsExact}
 use Rattle.outside_io.specs.Causes.{IsFileLonger}
-use Rattle.outside_io.specs.Files.{Files, FileHolds, LacksFile}
+use Rattle.outside_io.specs.Files.{LacksFile}
 use Rattle.outside_io.specs.declared.limits.TheConstants.{MAX_FILE}
-use Rattle.program_shell.specs.declared.failure.Failure.{Failure}
 use Rattle.program_shell.specs.declared.failure.Failure.TheVariants as failure
-use Rattle.program_shell.specs.declared.status.Status.{Status}
 use Rattle.program_shell.specs.declared.status.Status.TheVariants as status
-use Rattle.program_shell.specs.Plans.{AttemptsRead, IsAccepted, IsInputContent, IsInputTooLong, Makes, LacksInput, Plan, Refuses, accepts, satisfies, reads, refuses}
-use Rattle.program_shell.specs.Products.{ProductValue}
-use Rattle.program_shell.specs.Programs.{Program}
-use Rattle.program_shell.specs.RunViews.{IsFaultlessRun, Views}
-use Rattle.program_shell.specs.Runs.{IsRequested, IsDecided, IsOrOutOfMemory, status_is_out_of_memory}
-use Rattle.program_shell.specs.FinishedRuns.{ReportsFailure, all, but_report, up_to}
-use Rattle.program_shell.specs.StepOutcomes.{IsFailureOf, status_of}
+use Rattle.program_shell.specs.Plans.{AttemptsRead, IsAccepted, IsInputTooLong, Refuses}
+use Rattle.program_shell.specs.Runs.{IsRequested, IsOrOutOfMemory, status_is_out_of_memory}
 use Rattle.program_shell.proofs.RunOutcomes.{IsPlanOutcome, IsRunOutcome, halted, made}
-use Rattle.program_shell.specs.ExactPlans.{IsExact}
 use Rattle.outside_io.proofs.CallerLemmas.{no_rise}
-
--- A visible file has one content.
-one_content : (files : Option Files) (name a b : List ℕ) → IsSome files → FileHolds files name a → FileHolds files name b → a ≡ b
-one_content files name a b h1 h2 h3 = grind (arith, nat_tests)
-
--- a file that is there isn't missing
-not_missing : (files : Option Files) (name bytes : List ℕ) → LacksFile files name → FileHolds files name bytes → ⊥
-not_missing files name bytes h1 h2 = grind (arith, nat_tests)
 
 -- a file is not both longer than the limit and within it
 not_longer : (files : Option Files) (name bytes : List ℕ) → IsSome files → FileHolds files name bytes → length bytes ≤ MAX_FILE
@@ -58,7 +41,7 @@ made_accepted (satisfies Is) files product makes = (product, makes)
 
 -- one file is one input
 same_input : (files : Option Files) (name a b : List ℕ) → IsSome files → IsInputContent files name a → IsInputContent files name b → a ≡ b
-same_input files name a b told one other = one_content files name a b told one.held other.held
+same_input files name a b told one other = grind (arith, nat_tests, one.held, other.held)
 
 -- what is accepted isn't refused
 not_refused : (plan : Plan) (files : Option Files) (why : List ℕ) → IsExact plan → IsSome files
@@ -76,7 +59,7 @@ not_refused (satisfies Is) files why exact told (product, makes) refused = exact
 not_accepted : (plan : Plan) (files : Option Files) (name : List ℕ) → IsAccepted plan files → AttemptsRead plan files name
     → LacksFile files name → ⊥
 not_accepted (reads name next) files missing (bytes, input, accepted) (inl is) lacks =
-    not_missing files name bytes (subst (λ (n : List ℕ). LacksFile files n) is lacks) input.held
+    grind (arith, nat_tests, (subst (λ (n : List ℕ). LacksFile files n) is lacks), input.held)
 not_accepted (reads name next) files missing (bytes, input, accepted) (inr (other, again, attempted)) lacks =
     not_accepted (next bytes) files missing accepted
     (subst (λ (b : List ℕ). AttemptsRead (next b) files missing) (same_input files name other bytes lacks.visible again input) attempted)
@@ -93,7 +76,7 @@ not_both (reads name next) files why missing (inl (is, long)) (inl same) lacks =
 not_both (reads name next) files why missing (inl (is, long)) (inr (bytes, input, attempted)) lacks =
     not_longer files name bytes lacks.visible input.held input.short long
 not_both (reads name next) files why missing (inr (bytes, input, refused)) (inl same) lacks =
-    not_missing files name bytes (subst (λ (n : List ℕ). LacksFile files n) same lacks) input.held
+    grind (arith, nat_tests, (subst (λ (n : List ℕ). LacksFile files n) same lacks), input.held)
 not_both (reads name next) files why missing (inr (bytes, input, refused)) (inr (other, again, attempted)) lacks =
     not_both (next bytes) files why missing refused
     (subst (λ (b : List ℕ). AttemptsRead (next b) files missing) (same_input files name other bytes lacks.visible again input) attempted)

@@ -1,11 +1,10 @@
 -- Outputs written one after another.
-use Rattle.std.proofs.lemmas.Bool.Decides.{nat_tests}
 use Rattle.std.proofs.Common.{◌≡◌, ◌++◌, ◌∷◌, [], ℕ, List, Option, Some, None, refl, sym, ap, subst, arith}
-use Rattle.outside_io.specs.Blames.{Blame, write_call}
+use Rattle.program_shell.proofs.Names.{nat_tests, Blame, Files, FileHolds, StoreView, ChangesOnlyFiles, IsNoneOf, OutputValue, WroteAll, WroteUpTo, output_names}
+use Rattle.outside_io.specs.Blames.{write_call}
 use Rattle.outside_io.specs.Causes.{CallFailed, HasNoNewFault}
-use Rattle.outside_io.specs.Files.{ChangesOnlyFile, Files, FileHolds}
-use Rattle.outside_io.specs.Views.{StoreView}
-use Rattle.program_shell.specs.Products.{HaveDistinctNames, HaveFileNames, ChangesOnlyFiles, IsNoneOf, OutputValue, WroteAll, WroteUpTo, output_names}
+use Rattle.outside_io.specs.Files.{ChangesOnlyFile}
+use Rattle.program_shell.specs.Products.{HaveDistinctNames, HaveFileNames}
 
 -- nothing is written where there are no outputs
 same_files : (files : Option Files) → ChangesOnlyFiles [] files files
@@ -20,17 +19,6 @@ holds_still : (old new : Option Files) (names : List (List ℕ)) (name content :
     → IsNoneOf names name → FileHolds old name content → FileHolds new name content
 holds_still old new names name content h1 h2 h3 = grind (arith, nat_tests)
 
--- what changes one file and then others changes these together
-changes_both : (old mid new : Option Files) (name : List ℕ) (names : List (List ℕ)) → ChangesOnlyFile old mid name
-    → ChangesOnlyFiles names mid new → ChangesOnlyFiles (name ∷ names) old new
-changes_both old mid new name names h1 h2 = grind (arith, nat_tests)
-
--- an output is written, and then the rest
-wrote_first : (o : OutputValue) (rest : List OutputValue) (s mid new : StoreView) → IsNoneOf (output_names rest) o.name
-    → FileHolds mid.files o.name o.content → ChangesOnlyFile s.files mid.files o.name
-    → HasNoNewFault s mid → WroteAll rest mid new → WroteAll (o ∷ rest) s new
-wrote_first o rest s mid new h1 h2 h3 h4 h5 = grind (arith, nat_tests)
-
 -- the first output could not be written
 lost_first : (o : OutputValue) (rest : List OutputValue) (s new : StoreView) → ChangesOnlyFile s.files new.files o.name
     → CallFailed s new (write_call o.name) → WroteUpTo (o ∷ rest) o.name s new
@@ -42,7 +30,7 @@ lost_first o rest s new changes fault = record {
   same = refl;
   fault = fault;
   held = tt;
-  others = changes_both s.files new.files new.files o.name [] changes (same_files new.files);
+  others = grind (arith, nat_tests, s.files, new.files, o.name, (same_files new.files));
 }
 
 -- the names of the outputs before one that is lost are names of all
@@ -56,10 +44,6 @@ none_before done lost left rest name split none =
     shorter [] none = (none.0, tt)
     shorter (o ∷ more) none = (none.0, shorter more none.1)
 
--- a fault after a call that left the count is one from before it
-later_fault : {s mid new : StoreView} {call : Blame} → mid.faults ≡ s.faults → CallFailed mid new call → CallFailed s new call
-later_fault h1 h2 = grind (arith, nat_tests)
-
 -- an output is written, and then the rest up to one that is lost
 wrote_up_to : (o : OutputValue) (rest : List OutputValue) (name : List ℕ) (s mid new : StoreView)
     → IsNoneOf (output_names rest) o.name → FileHolds mid.files o.name o.content → ChangesOnlyFile s.files mid.files o.name
@@ -70,13 +54,13 @@ wrote_up_to o rest name s mid new none holds changes stays wrote = record {
   left = wrote.left;
   split = ap (λ (xs : List OutputValue). o ∷ xs) wrote.split;
   same = wrote.same;
-  fault = later_fault stays.count wrote.fault;
+  fault = grind (arith, nat_tests, stays.count, wrote.fault);
   held = (
     holds_still mid.files new.files (output_names (wrote.done ++ wrote.lost ∷ [])) o.name o.content wrote.others
         (none_before wrote.done wrote.lost wrote.left rest o.name wrote.split none) holds,
     wrote.held,
   );
-  others = changes_both s.files mid.files new.files o.name (output_names (wrote.done ++ wrote.lost ∷ [])) changes wrote.others;
+  others = grind (arith, nat_tests, s.files, mid.files, new.files, o.name, wrote.others);
 }
 
 -- Some outputs are written: all are once the remaining ones are, and a failed write of one of them is that of all.
@@ -97,7 +81,7 @@ writes_on outputs left o rest before now next writes is holds changes stays =
     step on = record {
       named = on.named.1;
       apart = on.apart.1;
-      done = λ after wrote. on.done after (wrote_first o rest now next after on.apart.0 holds changes stays wrote);
+      done = λ after wrote. on.done after (grind (arith, nat_tests, on.apart.0));
       stops = λ name after wrote. on.stops name after (wrote_up_to o rest name now next after on.apart.0 holds changes stays wrote);
     }
 

@@ -1,17 +1,6 @@
 -- Which files a run leaves as they were.
-use Rattle.std.proofs.lemmas.Bool.Decides.{nat_tests}
 use Rattle.std.proofs.Common.{◌≡◌, ◌++◌, ◌∷◌, [], ℕ, List, Option, Some, None, ap, subst, arith}
-use Rattle.outside_io.specs.Files.{Files}
-use Rattle.program_shell.specs.declared.failure.Failure.{Failure}
-use Rattle.program_shell.specs.declared.status.Status.{Status}
-use Rattle.program_shell.specs.ExactPlans.{IsSoundProgram}
-use Rattle.program_shell.specs.Plans.{Plan}
-use Rattle.program_shell.specs.Products.{ChangesOnlyFiles, IsNoneOf, ProductValue, output_names}
-use Rattle.program_shell.specs.Programs.{Program}
-use Rattle.program_shell.specs.RunViews.{Views}
-use Rattle.program_shell.specs.Runs.{KeepsOtherFiles}
-use Rattle.program_shell.specs.FinishedRuns.{Delivers, all, but_report, up_to}
-use Rattle.program_shell.specs.StepOutcomes.{IsFailureOf}
+use Rattle.program_shell.proofs.Names.{nat_tests, Files, Failure, Status, IsSoundProgram, Plan, ChangesOnlyFiles, IsNoneOf, ProductValue, output_names, Program, Views, KeepsOtherFiles, Delivers, all, but_report, up_to, IsFailureOf}
 use Rattle.program_shell.proofs.DeliveryLemmas.{none_before}
 use Rattle.program_shell.proofs.RunOutcomes.{IsRunOutcome, halted, made}
 

@@ -1,3 +1,4 @@
+pub mod Names
 mod PutLemmas
 mod DeliveryLemmas
 mod RunOutcomes

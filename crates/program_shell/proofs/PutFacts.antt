@@ -1,11 +1,7 @@
 -- What puts and reported lines exclude.
 use Rattle.std.proofs.Common.{◌≡◌, ℕ, List, [], ◌∷◌, ◌++◌, Some, Ok, Err, refl, ⊎_elim}
-use Rattle.outside_io.specs.declared.store.Failed.{Failed}
-use Rattle.outside_io.specs.Causes.{with_bytes_taken}
-use Rattle.outside_io.specs.Counts.{Rose}
-use Rattle.outside_io.specs.Views.{SinkView}
+use Rattle.program_shell.proofs.Names.{Failed, with_bytes_taken, Rose, SinkView, Puts, ReportsLineWithStatus, with_bytes_put}
 use Rattle.program_shell.specs.declared.status.Status.TheVariants as status
-use Rattle.program_shell.specs.Puts.{Puts, ReportsLineWithStatus, with_bytes_put}
 
 -- bytes are put after those that were taken, and no fault is counted
 pub known_bytes : with_bytes_put (record { taken = Some (1 ∷ []); faults = 3 }) (2 ∷ []) ≡ record { taken = Some (1 ∷ 2 ∷ []); faults = 3 }

@@ -1,12 +1,8 @@
 -- Puts one after another.
 use Rattle.std.proofs.Common.{IsErrAnd, ◌≡◌, ◌++◌, ℕ, List, [], Option, Some, None, Result, Ok, Err, sym, ap, refl, subst, ◌∙◌, append_assoc, append-nil, take, drop}
 use Rattle.std.proofs.lemmas.List.{take-append-drop}
-use Rattle.outside_io.specs.declared.store.Failed.{Failed}
-use Rattle.outside_io.specs.Causes.{with_bytes_taken}
-use Rattle.outside_io.specs.Counts.{Rose}
+use Rattle.program_shell.proofs.Names.{Failed, with_bytes_taken, Rose, PutFailed, Puts, with_bytes_put, SinkView}
 use Rattle.program_shell.specs.PutSteps.{Gathers}
-use Rattle.program_shell.specs.Puts.{PutFailed, Puts, with_bytes_put}
-use Rattle.outside_io.specs.Views.{SinkView}
 
 -- what a sink shows, by its parts
 abbrev seen_sink : Option (List ℕ) → ℕ → SinkView

@@ -1,3 +1,4 @@
+pub mod Names
 pub mod CommandAddingLemmas
 pub mod PointLemmas
 pub mod HeaderLemmas

@@ -1,18 +1,10 @@
 -- The records of acts, one after the other.
-use Rattle.std.proofs.lemmas.Bool.Decides.{nat_tests}
 use Rattle.std.proofs.Common.{◌≡◌, ℕ, suc, ◌+◌, ◌-◌, ◌<◌, List, Result, Ok, Err, [], ◌∷◌, ◌++◌, map, refl, ap, sym, ◌∙◌, arith}
-use Rattle.std.proofs.lemmas.List.{append_assoc, append-nil}
-use Rattle.std.specs.List.{concat}
-use Rattle.design_model.specs.declared.act.NumberedAct.{NumberedAct}
-use Rattle.design_model.specs.declared.point.Point.{Point}
-use Rattle.design_model.specs.Points.{move_between}
+use Rattle.std.proofs.lemmas.List.{append_assoc}
+use Rattle.record_formats.proofs.Names.{nat_tests, append-nil, concat, NumberedAct, Point, move_between, WriteLimits, EncoderState, part_end, part_moves_from, encoder_state_after, initial_encoder_state, RecordEncoding, records_of_act, records_of_acts_from}
 use Rattle.format_traits.specs.declared.fault.WriteFault.{WriteFault}
-use Rattle.format_traits.specs.declared.encoder_state.WriteLimits.{WriteLimits}
-use Rattle.format_traits.specs.declared.encoder_state.EncoderState.{EncoderState}
-use Rattle.record_formats.specs.MoveParts.{part_end, part_moves_from}
 use Rattle.format_traits.specs.ActWriting.{AppendsActs, bytes_of_acts_from}
-use Rattle.format_traits.specs.Refusals.{encoder_state_after, initial_encoder_state}
-use Rattle.record_formats.specs.RecordEncodings.{AppendsRecords, RecordEncoding, records_of_act, records_of_acts_from}
+use Rattle.record_formats.specs.RecordEncodings.{AppendsRecords}
 
 -- one jump more
 pub jump_more : (jump : Point → List ℕ) (out out' total : List ℕ) (m : Point) (n done wanted : ℕ) → done < wanted

@@ -1,10 +1,7 @@
 -- Copies at places of a list.
-use Rattle.std.proofs.lemmas.Bool.Decides.{nat_tests}
 use Rattle.std.proofs.Common.{◌≡◌, ◌≤◌, ◌<◌, ℕ, zero, suc, ◌+◌, ◌-◌, ◌^◌, List, [], ◌∷◌, length, get_or, slice_get, slice_set, All, arith, refl, ap, subst}
-use Rattle.std.proofs.lemmas.List.Elements.{All-head, All-tail}
-use Rattle.line_graph.specs.declared.edge.Edge.{Edge}
-use Rattle.line_graph.specs.PieceWalks.{edge_value}
-use Rattle.route_core.specs.Copies.{AddsCopies, total_copies, copies_sum, incremented_at}
+use Rattle.route_core.proofs.Names.{nat_tests, All-head, All-tail, Edge, edge_value, AddsCopies, total_copies, copies_sum}
+use Rattle.route_core.specs.Copies.{incremented_at}
 
 pub more_is : (cs : List ℕ) (k : ℕ) → slice_set cs k (get_or cs k 0 + 1) ≡ incremented_at cs k
 more_is [] k = refl
@@ -55,9 +52,6 @@ left_one cs next places rest k is more there few =
       there = rw (more_length cs k) (All-tail (λ k. k < length cs) k rest here);
       few = omega (arith, more_up cs k below, ap length is, few);
     })
-
-pub has_room : (cs places rest : List ℕ) (k : ℕ) → places ≡ k ∷ rest → total_copies cs + length places < 2 ^ 32 → get_or cs k 0 < 2 ^ 32 - 1
-has_room cs places rest k is few = omega (arith, get_within cs k, ap length is, few)
 
 pub first_below : (cs places rest : List ℕ) (k : ℕ) → places ≡ k ∷ rest → All (λ k. k < length cs) places → k < length cs
 first_below cs places rest k is there = All-head (λ k. k < length cs) k rest (subst (λ (ps : List ℕ). All (λ k. k < length cs) ps) is there)

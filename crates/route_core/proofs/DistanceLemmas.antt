@@ -1,18 +1,11 @@
 -- Tables of distances, as far as they are filled.
 use Rattle.std.proofs.Common.{◌≡◌, ◌<◌, ℕ, ◌+◌, false, arith, subst, List, length, get_or, Option, Some, slice_get, slice_index, ◌≤◌}
-use Rattle.std.proofs.lemmas.Bool.Decides.{nat_tests}
-use Rattle.odd_sets.specs.Tables.{entry}
-use Rattle.odd_sets.specs.TableValue.{TableValue}
-use Rattle.line_graph.specs.PieceGraphs.{PieceValue}
-use Rattle.line_graph.specs.PieceWalks.{piece_cost}
-use Rattle.odd_paths.specs.LeastRows.{AreRows, RowsValue, cost_at, cost_in, terminal_of}
-use Rattle.route_core.specs.Distances.{HasFilledEntries, is_filled_entry}
+use Rattle.route_core.proofs.Names.{nat_tests, entry, TableValue, PieceValue, piece_cost, RowsValue, cost_at, terminal_of, HasFilledEntries}
+use Rattle.odd_paths.specs.LeastRows.{AreRows, cost_in}
+use Rattle.route_core.specs.Distances.{is_filled_entry}
 
 none_before : (a x y : ℕ) → x < y → is_filled_entry a (a + 1) x y ≡ false
 none_before a x y xy = grind (arith, nat_tests)
-
-pub filled_none : (rows : RowsValue) (a : ℕ) (t : TableValue) → HasFilledEntries rows a (a + 1) t t
-filled_none rows a t = grind (arith, nat_tests)
 
 -- a terminal is a junction
 pub terminal_there : (p : PieceValue) (rows : RowsValue) (terminals : List ℕ) (b : ℕ) → AreRows p rows → rows.terminals ≡ terminals

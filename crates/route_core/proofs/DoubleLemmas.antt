@@ -1,21 +1,9 @@
 -- The double run of a drawing, from the double walks over its pieces.
-use Rattle.std.proofs.lemmas.Bool.Decides.{nat_tests}
 use Rattle.std.proofs.Common.{◌≡◌, ◌≤◌, ◌<◌, ◌^◌, ℕ, ◌+◌, List, [], ◌∷◌, length, All, Contains, arith, true, sym, ap, ◌∙◌, subst}
-use Rattle.std.proofs.lemmas.List.Elements.{All-cons, All-contains, All-head, All-nil, All-tail}
-use Rattle.odd_cuts.specs.declared.certificate.PieceCert.{PieceCert}
-use Rattle.odd_cuts.specs.declared.cut.Cut.{Cut}
-use Rattle.odd_cuts.specs.Certificates.{HasCanonicalText}
+use Rattle.route_core.proofs.Names.{nat_tests, All-cons, All-contains, All-head, All-nil, All-tail, PieceCert, Cut, HasCanonicalText, Pass, Piece, graph_of, DrawingValue, KeepsDrawingLimits, IsValidPiece, PieceValue, piece_graph, BeginsWith, is_fitting_walk, FittingWalksAreSewable, IsSewable, IsDoubled}
 use Rattle.odd_cuts.specs.Packings.{IsPlainCut}
 use Rattle.double_run.specs.DoubleWalks.{without_ends}
-use Rattle.line_graph.specs.declared.pass.Pass.{Pass}
-use Rattle.line_graph.specs.declared.piece.Piece.{Piece}
-use Rattle.line_graph.specs.PiecesOfDrawings.{graph_of}
-use Rattle.drawing_model.specs.Drawings.{DrawingValue, KeepsDrawingLimits}
-use Rattle.line_graph.specs.ValidPieces.{IsValidPiece}
-use Rattle.line_graph.specs.PieceGraphs.{PieceValue, piece_graph}
-use Rattle.line_graph.specs.PieceWalks.{BeginsWith, is_fitting_walk}
-use Rattle.line_graph.specs.SewnWalks.{FittingWalksAreSewable, IsSewable}
-use Rattle.route_core.specs.Doubles.{IsDoubled, IsDoubleCert}
+use Rattle.route_core.specs.Doubles.{IsDoubleCert}
 use Rattle.route_core.proofs.SewnPieces.{Sewn}
 
 -- a double walk and no cuts can be printed
@@ -47,19 +35,13 @@ doubles_spelled d lines cert first keeps below sewable begins none = record {
 abbrev unended : DrawingValue → DrawingValue
 unended d = record d { starts = []; ends = [] }
 
-unended_keeps : (d : DrawingValue) → KeepsDrawingLimits d → KeepsDrawingLimits (unended d)
-unended_keeps d keeps = grind (arith, nat_tests)
-
-unended_kept : (d : DrawingValue) (lines : List ℕ) → IsValidPiece (piece_graph d lines) → IsValidPiece (piece_graph (unended d) lines)
-unended_kept d lines kept = grind (arith, nat_tests)
-
 -- a walk that fits a piece without them can be sewn
 sewable_so : (d : DrawingValue) (lines : List ℕ) (walk : List Pass) → KeepsDrawingLimits d → FittingWalksAreSewable
     → All (λ line. line < length d.lines) lines → IsValidPiece (piece_graph d lines)
     → is_fitting_walk (without_ends (piece_graph d lines)) walk ≡ true
     → IsSewable d lines walk
 sewable_so d lines walk keeps sews below kept fit =
-    let s = sews (unended d) lines walk (unended_keeps d keeps) below (unended_kept d lines kept) fit in
+    let s = sews (unended d) lines walk (grind (arith, nat_tests)) below (grind (arith, nat_tests)) fit in
     record { there = s.there; penetrations = s.penetrations; near = s.near }
 
 -- all that is known of a piece and its double walk

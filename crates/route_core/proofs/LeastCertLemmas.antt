@@ -1,27 +1,13 @@
 -- The certificate that is made for a piece proves its walk least, and can be printed.
 use Rattle.std.proofs.Common.{◌≡◌, ◌≢◌, ◌≤◌, ◌<◌, ℕ, ◌+◌, ◌^◌, ◌==◌, Bool, true, false, cond, nat_lt, List, [], ◌∷◌, length, get_or, Option, Some, None, All, arith, refl, ap}
-use Rattle.std.proofs.lemmas.Bool.Decides.{nat_tests}
-use Rattle.std.proofs.lemmas.Bool.{and_parts}
-use Rattle.std.proofs.lemmas.List.Elements.{All-cons, All-from_get_or, All-get_or}
-use Rattle.blossom_match.specs.declared.matching.Moat.{Moat}
-use Rattle.blossom_match.specs.declared.matching.Pair.{Pair}
-use Rattle.odd_cuts.specs.declared.certificate.PieceCert.{PieceCert}
-use Rattle.odd_cuts.specs.declared.cut.Cut.{Cut}
-use Rattle.odd_cuts.specs.PackingBounds.{BoundsTotal, ProvesLeast}
-use Rattle.odd_cuts.specs.Certificates.{HasCanonicalText}
+use Rattle.std.proofs.lemmas.List.Elements.{All-get_or}
+use Rattle.route_core.proofs.Names.{nat_tests, and_parts, All-cons, All-from_get_or, Moat, Pair, PieceCert, Cut, BoundsTotal, HasCanonicalText, Edge, MAX_COST, MAX_LINES, Pass, IsValidPiece, PieceValue, after_edge, edge_of, walk_end_from, RowsValue, pair_costs, AreOddPairs, IsWalkBy, CertifiesLeastWalk, lost}
+use Rattle.odd_cuts.specs.PackingBounds.{ProvesLeast}
 use Rattle.cut_certificate.specs.Lifts.{IsLifted}
 use Rattle.odd_cuts.specs.Packings.{IsOddCut}
-use Rattle.line_graph.specs.declared.edge.Edge.{Edge}
-use Rattle.drawing_model.specs.declared.limits.TheConstants.{MAX_COST, MAX_LINES}
-use Rattle.line_graph.specs.declared.pass.Pass.{Pass}
-use Rattle.line_graph.specs.ValidPieces.{IsValidPiece, all_below}
-use Rattle.line_graph.specs.PieceGraphs.{PieceValue}
-use Rattle.line_graph.specs.PieceWalks.{after_edge, required_start, covers, edge_of, required_end, is_walk_start_to_end, walk_end_from}
-use Rattle.odd_paths.specs.LeastRows.{RowsValue}
-use Rattle.route_core.specs.Copies.{pair_costs}
-use Rattle.route_core.specs.OddPairs.{AreOddPairs, IsWalkBy}
-use Rattle.route_core.specs.PieceCertificates.{CertifiesLeastWalk}
-use Rattle.line_graph.proofs.CallerLemmas.{goes_from, lost}
+use Rattle.line_graph.specs.ValidPieces.{all_below}
+use Rattle.line_graph.specs.PieceWalks.{required_start, covers, required_end, is_walk_start_to_end}
+use Rattle.line_graph.proofs.CallerLemmas.{goes_from}
 
 -- least walks between the pairs cost no more than the lines
 pub pairs_cost_few : (p : PieceValue) → IsValidPiece p → BoundsTotal
@@ -93,9 +79,3 @@ spelled p kept rows pairs moats cert lifted walk = record {
 
     few_members : (n lines : ℕ) (js : List ℕ) → n ≤ lines + 1 → lines ≤ 1024 → All (λ j. j < n) js → All (λ j. j + 1 < 2 ^ 32) js
     few_members n lines js a b few = λ i. λ d. λ below. omega (arith, few i d below, a, b)
-
--- what is left of the pairs costs what is left
-pub cost_goes_on : (rows : RowsValue) (pairs left rest : List Pair) (q : Pair) (cost one : ℕ) → left ≡ q ∷ rest → one
-    ≡ pair_costs rows (q ∷ [])
-    → cost + pair_costs rows left ≡ pair_costs rows pairs → cost + one + pair_costs rows rest ≡ pair_costs rows pairs
-cost_goes_on rows pairs left rest q cost one is cost_is whole = omega (arith, ap (pair_costs rows) is, cost_is, whole)

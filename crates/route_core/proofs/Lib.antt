@@ -1,3 +1,4 @@
+pub mod Names
 mod CopyLemmas
 mod PathLemmas
 mod PairLemmas

@@ -1,22 +1,13 @@
 -- A matching of the odd junctions of a piece, from a matching of places.
 use Rattle.std.proofs.Common.{◌≡◌, ◌≤◌, ◌<◌, ℕ, zero, suc, ◌+◌, ◌*◌, ◌^◌, ◌==◌, Bool, true, false, cond, List, [], ◌∷◌, length, get_or, All, arith, refl, sym, ◌∙◌, ap, subst}
-use Rattle.std.proofs.lemmas.Bool.Decides.{nat_tests}
-use Rattle.std.proofs.lemmas.List.Elements.{All-from_get_or, All-head, All-tail}
-use Rattle.std.proofs.lemmas.List.Sums.{get_or-le-sum_by, sum_by-cons}
-use Rattle.blossom_match.specs.declared.matching.Moat.{Moat}
-use Rattle.blossom_match.specs.declared.matching.Pair.{Pair}
+use Rattle.std.proofs.lemmas.List.Sums.{get_or-le-sum_by}
+use Rattle.route_core.proofs.Names.{nat_tests, All-from_get_or, All-head, All-tail, sum_by-cons, Moat, Pair, IsPerfectMatching, pair_ends_at, IsTable, entry, TableValue, PieceValue, RowsValue, IsPairOf, pair_costs, IsTableOf, AreOddRows, AreOddPairs, eq_self}
 use Rattle.odd_sets.specs.declared.table.TheConstants.{MAX_DISTANCE}
-use Rattle.blossom_match.specs.Matchings.{IsOptimalMatching, IsOddMoat, IsPerfectMatching, pairs_cost, pair_ends_at, moat_load, width_of}
-use Rattle.odd_sets.specs.Tables.{IsTable, entry}
-use Rattle.odd_sets.specs.TableValue.{TableValue}
-use Rattle.line_graph.specs.PieceGraphs.{PieceValue}
-use Rattle.odd_paths.specs.LeastRows.{RowsValue}
+use Rattle.blossom_match.specs.Matchings.{IsOptimalMatching, IsOddMoat, pairs_cost, moat_load, width_of}
 use Rattle.route_core.proofs.LeastLemmas.{entry_is}
-use Rattle.route_core.specs.Copies.{IsPairOf, pair_costs}
-use Rattle.route_core.specs.Distances.{HasDistances, IsTableOf}
-use Rattle.route_core.specs.OddPairs.{AreOddRows, AreOddPairs}
+use Rattle.route_core.specs.Distances.{HasDistances}
 use Rattle.blossom_match.proofs.CallerLemmas.{ends_below}
-use Rattle.lists_and_numbers.proofs.CallerLemmas.{eq_self, sum_over}
+use Rattle.lists_and_numbers.proofs.CallerLemmas.{sum_over}
 
 -- how often a pair ends at a place
 abbrev ends_in : ℕ → Pair → ℕ
@@ -140,8 +131,3 @@ is_matched p rows t odd_rows table is_table pairs moats m =
       each = each;
       paid = m.paid ∙ ap (λ (k : ℕ). 2 * k) (sym (costs_are p rows t table pairs there));
     }
-
--- the distances of the rows of odd junctions
-pub table_is : (p : PieceValue) (rows : RowsValue) (odds : List ℕ) (t : TableValue) → AreOddRows p rows → rows.terminals ≡ odds
-    → t.places ≡ length odds → HasDistances rows t → IsTableOf p rows t
-table_is p rows odds t odd_rows is places distances = grind (arith, nat_tests)

@@ -1,15 +1,7 @@
 -- Copies for pairs, as far as they are added.
-use Rattle.std.proofs.lemmas.Bool.Decides.{nat_tests}
 use Rattle.std.proofs.Common.{◌≡◌, ◌<◌, ℕ, zero, suc, ◌+◌, ◌^◌, List, [], ◌∷◌, length, replicate, All, arith, refl, sym, ◌∙◌, ap, subst}
-use Rattle.std.proofs.lemmas.List.Elements.{All-head, All-tail}
-use Rattle.std.proofs.lemmas.List.{length-replicate}
-use Rattle.blossom_match.specs.declared.matching.Pair.{Pair}
-use Rattle.line_graph.specs.declared.edge.Edge.{Edge}
-use Rattle.line_graph.specs.PieceGraphs.{PieceValue}
-use Rattle.line_graph.specs.PieceWalks.{edge_cost}
-use Rattle.odd_paths.specs.LeastRows.{RowsValue}
-use Rattle.route_core.proofs.PathLemmas.{adds_more, adds_no_pairs}
-use Rattle.route_core.specs.Copies.{AddsPairs, IsPairOf, copies_sum, pair_costs}
+use Rattle.route_core.proofs.Names.{nat_tests, All-head, All-tail, length-replicate, Pair, Edge, PieceValue, edge_cost, RowsValue, AddsPairs, IsPairOf, copies_sum, pair_costs}
+use Rattle.route_core.proofs.PathLemmas.{adds_more}
 
 -- what adds the pairs that are left has added all of them
 pub record LeftPairs (p : PieceValue) (rows : RowsValue) (pairs : List Pair) (cs : List ℕ) (rest : List Pair) : Type 0 where
@@ -30,11 +22,6 @@ begun p rows pairs cs is there few = grind (arith, nat_tests, length-replicate, 
 pub first_pair : (rows : RowsValue) (pairs rest : List Pair) (q : Pair) → pairs ≡ q ∷ rest → All (IsPairOf rows) pairs → IsPairOf rows q
 first_pair rows pairs rest q is there = All-head (IsPairOf rows) q rest (subst (λ (qs : List Pair). All (IsPairOf rows) qs) is there)
 
-pub room_for_pair : (p : PieceValue) (rows : RowsValue) (pairs : List Pair) (cs : List ℕ) (left rest : List Pair) (q : Pair) → left
-    ≡ q ∷ rest
-    → LeftPairs p rows pairs cs left → copies_sum edge_cost p.edges cs + pair_costs rows (q ∷ []) < 2 ^ 32
-room_for_pair p rows pairs cs left rest q is l = omega (arith, l.few, ap (pair_costs rows) is)
-
 pub goes_on : (p : PieceValue) (rows : RowsValue) (pairs : List Pair) (cs next : List ℕ) (left rest : List Pair) (q : Pair) → left
     ≡ q ∷ rest
     → LeftPairs p rows pairs cs left → AddsPairs p rows (q ∷ []) cs next → LeftPairs p rows pairs next rest
@@ -48,4 +35,4 @@ goes_on p rows pairs cs next left rest q is l adds = record {
 
 pub ended : (p : PieceValue) (rows : RowsValue) (pairs : List Pair) (cs : List ℕ) (left : List Pair) → left ≡ []
     → LeftPairs p rows pairs cs left → AddsPairs p rows pairs (replicate (length p.edges) 0) cs
-ended p rows pairs cs left is l = l.whole cs (subst (λ (qs : List Pair). AddsPairs p rows qs cs cs) (sym is) (adds_no_pairs p rows cs))
+ended p rows pairs cs left is l = l.whole cs (subst (λ (qs : List Pair). AddsPairs p rows qs cs cs) (sym is) (grind (arith, nat_tests)))

@@ -1,19 +1,12 @@
 -- Paths by the places of their lines, and the ends of their passes.
 use Rattle.std.proofs.Common.{◌≡◌, ◌≤◌, ◌<◌, ℕ, zero, suc, ◌+◌, ◌*◌, ◌%◌, ◌^◌, ◌==◌, Bool, true, false, cond, nat_le, List, [], ◌∷◌, length, map, get_or, slice_get, Option, Some, None, All, arith, refl, sym, ◌∙◌, subst}
-use Rattle.std.proofs.lemmas.Bool.Decides.{nat_tests}
-use Rattle.std.proofs.lemmas.Bool.{and_parts}
-use Rattle.std.proofs.lemmas.List.Elements.{All-head, All-tail}
+use Rattle.route_core.proofs.Names.{nat_tests, and_parts, All-head, All-tail, Pair, Edge, Pass, IsValidPiece, PieceValue, one_if, after_edge, edge_cost, edge_of, edge_value, pass_sum, walk_end_from, RowsValue, cost_at, terminal_of, AddsPairs, AddsCopies, total_copies, copies_sum, edge_end_count, lost, eq_self}
 use native.Mathlib.Nat.{le-mul_of_pos_right}
-use Rattle.blossom_match.specs.declared.matching.Pair.{Pair}
-use Rattle.line_graph.specs.declared.edge.Edge.{Edge}
-use Rattle.line_graph.specs.declared.pass.Pass.{Pass}
-use Rattle.line_graph.specs.ValidPieces.{IsValidPiece, all_costs_positive}
-use Rattle.line_graph.specs.PieceGraphs.{PieceValue, one_if}
-use Rattle.line_graph.specs.PieceWalks.{after_edge, edge_cost, edge_of, pass_end, edge_value, pass_sum, is_strictly_increasing, pass_start, walk_end_from}
-use Rattle.odd_paths.specs.LeastRows.{IsPath, RowsValue, cost_at, lines_at_indexes, terminal_of}
-use Rattle.route_core.specs.Copies.{AddsPairs, AddsCopies, total_copies, copies_sum, edge_end_count, index_sum}
-use Rattle.line_graph.proofs.CallerLemmas.{above_at, lost}
-use Rattle.lists_and_numbers.proofs.CallerLemmas.{eq_self}
+use Rattle.line_graph.specs.ValidPieces.{all_costs_positive}
+use Rattle.line_graph.specs.PieceWalks.{pass_end, is_strictly_increasing, pass_start}
+use Rattle.odd_paths.specs.LeastRows.{IsPath, lines_at_indexes}
+use Rattle.route_core.specs.Copies.{index_sum}
+use Rattle.line_graph.proofs.CallerLemmas.{above_at}
 
 -- the edge of the line at a place
 pub edge_at : (ns : List ℕ) (es : List Edge) (k : ℕ) → is_strictly_increasing ns ≡ true → length ns ≡ length es → k < length ns
@@ -146,6 +139,3 @@ adds_pair p kept rows q old new places sized path adds = record {
 pub adds_more : (p : PieceValue) (rows : RowsValue) (q : Pair) (pairs : List Pair) (old next new : List ℕ)
     → AddsPairs p rows (q ∷ []) old next → AddsPairs p rows pairs next new → AddsPairs p rows (q ∷ pairs) old new
 adds_more p rows q pairs old next new one rest = grind (arith, nat_tests)
-
-pub adds_no_pairs : (p : PieceValue) (rows : RowsValue) (cs : List ℕ) → AddsPairs p rows [] cs cs
-adds_no_pairs p rows cs = omega arith

@@ -1,26 +1,12 @@
 -- The runs over a drawing, from the certificates of its pieces.
-use Rattle.std.proofs.lemmas.Bool.Decides.{nat_tests}
 use Rattle.std.proofs.Common.{◌≡◌, ◌≤◌, ◌<◌, ℕ, List, [], ◌++◌, length, All, arith, sym, ◌∙◌, ap, subst}
 use Rattle.std.proofs.lemmas.List.{append-nil}
-use Rattle.std.specs.List.{AllZip}
-use Rattle.odd_cuts.specs.declared.certificate.PieceCert.{PieceCert}
-use Rattle.odd_cuts.specs.PackingBounds.{BoundsTotal}
-use Rattle.odd_cuts.specs.Certificates.{HasCanonicalText, walks_of}
-use Rattle.line_graph.specs.declared.piece.Piece.{Piece}
-use Rattle.line_graph.specs.PiecesOfDrawings.{ArePiecesOf, graph_of, lines_of_pieces}
-use Rattle.drawing_model.specs.Drawings.{DrawingValue, KeepsDrawingLimits}
-use Rattle.line_graph.specs.ValidPieces.{IsValidPiece}
-use Rattle.line_graph.specs.PieceGraphs.{PieceValue, piece_graph}
-use Rattle.line_graph.specs.Runs.{AreWritable, commands_after, runs_of, sewn_design}
-use Rattle.line_graph.specs.SewnWalks.{FittingWalksAreSewable, PiecesKeepLimits}
-use Rattle.route_core.specs.declared.routed.Routed.{Routed}
-use Rattle.route_core.specs.PieceCertificates.{CertifiesLeastWalk}
+use Rattle.route_core.proofs.Names.{nat_tests, AllZip, PieceCert, BoundsTotal, HasCanonicalText, walks_of, Piece, graph_of, lines_of_pieces, DrawingValue, KeepsDrawingLimits, IsValidPiece, PieceValue, piece_graph, AreWritable, commands_after, runs_of, sewn_design, FittingWalksAreSewable, PiecesKeepLimits, Routed, CertifiesLeastWalk, IsLeastPieceRoute, AllDrawn}
+use Rattle.line_graph.specs.PiecesOfDrawings.{ArePiecesOf}
 use Rattle.route_core.specs.declared.runs.RunKind.{RunKind}
 use Rattle.route_core.specs.declared.runs.RunKind.TheVariants as kind
 use Rattle.route_core.specs.RoutedPieceCertificates.{IsRoutedPiece}
-use Rattle.route_core.specs.Routes.{IsLeastPieceRoute}
 use Rattle.route_core.specs.RunKinds.{AreCertsOf, IsCertOf, IsPieceRun, IsRunOver}
-use Rattle.route_verdict.specs.SewingSteps.{AllDrawn}
 use Rattle.route_core.proofs.DoubleLemmas.{double_good}
 use Rattle.route_core.proofs.SewnPieces.{Sewn, able, each_piece, zip_weaker}
 

@@ -1,23 +1,13 @@
 -- Walks over pieces that can be sewn, and what is needed to sew them all.
-use Rattle.std.proofs.lemmas.Bool.Decides.{nat_tests}
 use Rattle.std.proofs.Common.{◌≡◌, ◌≢◌, ◌≤◌, ◌<◌, ℕ, ◌+◌, ◌*◌, List, [], ◌∷◌, length, All, Contains, sum_by, arith, refl}
 use Rattle.std.proofs.lemmas.List.{length-map}
-use Rattle.std.proofs.lemmas.List.Elements.{All-cons, All-contains, All-head, All-map, All-nil, All-tail}
+use Rattle.std.proofs.lemmas.List.Elements.{All-map}
 use Rattle.std.proofs.lemmas.Slice.Zip.{AllZip-long}
-use Rattle.std.proofs.lemmas.List.Sums.{sum_by-cons}
-use Rattle.std.specs.List.{AllZip, concat}
-use Rattle.odd_cuts.specs.declared.certificate.PieceCert.{PieceCert}
-use Rattle.odd_cuts.specs.Certificates.{HasCanonicalText, walks_of}
-use Rattle.line_graph.specs.declared.pass.Pass.{Pass}
-use Rattle.line_graph.specs.declared.piece.Piece.{Piece}
-use Rattle.line_graph.specs.PiecesOfDrawings.{graph_of, lines_of_pieces}
-use Rattle.drawing_model.specs.Drawings.{DrawingValue, KeepsDrawingLimits}
-use Rattle.line_graph.specs.PieceGraphs.{piece_graph}
-use Rattle.line_graph.specs.Pieces.{ArePieces}
-use Rattle.line_graph.specs.PieceWalks.{piece_cost, walk_cost}
-use Rattle.line_graph.specs.Runs.{AreNear, AreWritable, Run, commands_after, run_of, runs_of}
-use Rattle.line_graph.specs.SewnWalks.{ArePiecesWithin, GoesAlong, IsSewable, PiecesKeepLimits}
-use Rattle.route_verdict.specs.SewingSteps.{AllDrawn, AreDrawn}
+use Rattle.std.specs.List.{concat}
+use Rattle.route_core.proofs.Names.{nat_tests, All-cons, All-contains, All-head, All-nil, All-tail, sum_by-cons, AllZip, PieceCert, HasCanonicalText, walks_of, Pass, Piece, graph_of, lines_of_pieces, DrawingValue, KeepsDrawingLimits, piece_graph, ArePieces, piece_cost, walk_cost, AreWritable, commands_after, runs_of, IsSewable, PiecesKeepLimits, AllDrawn}
+use Rattle.line_graph.specs.Runs.{AreNear, Run, run_of}
+use Rattle.line_graph.specs.SewnWalks.{ArePiecesWithin, GoesAlong}
+use Rattle.route_verdict.specs.SewingSteps.{AreDrawn}
 use Rattle.line_graph.proofs.CallerLemmas.{commands_count}
 use Rattle.lists_and_numbers.proofs.CallerLemmas.{below_left, below_right}
 
@@ -108,14 +98,10 @@ needles_few d (p ∷ pieces) (c ∷ certs) all =
       sum_by-cons (λ lines. piece_cost (piece_graph d lines)) p pieces,
     )
 
-runs_count : (d : DrawingValue) (pieces : List (List ℕ)) (certs : List PieceCert) → AllZip (Sewn d) pieces certs
-    → length (runs_of d (walks_of certs)) ≡ length pieces
-runs_count d pieces certs all = grind (arith, nat_tests, length-map, AllZip-long)
-
 writable : (d : DrawingValue) → KeepsDrawingLimits d → (pieces : List (List ℕ)) (certs : List PieceCert) → ArePiecesWithin d pieces
     → AllZip (Sewn d) pieces certs
     → AreWritable d.step (runs_of d (walks_of certs))
-writable d keeps pieces certs within all = grind (arith, nat_tests, near_of, runs_count, needles_few, along_of)
+writable d keeps pieces certs within all = grind (arith, nat_tests, near_of, length-map, AllZip-long, needles_few, along_of)
 
 -- what is needed to sew the certificates, and what is then known
 pub record Able (d : DrawingValue) (certs : List PieceCert) : Type 0 where

@@ -1,21 +1,10 @@
 -- Where lists of acts begin to differ.
-use Rattle.std.proofs.lemmas.Bool.Decides.{nat_tests}
 use Rattle.std.proofs.Common.{◌≡◌, ◌≤◌, ◌<◌, ℕ, ◌+◌, ◌-◌, true, List, [], ◌∷◌, ◌++◌, Some, Result, Ok, Err, length, drop, arith, refl, sym, ◌∙◌, ap, subst}
-use Rattle.std.proofs.lemmas.List.{append_assoc, at_drop_more, length-drop}
-use Rattle.std.proofs.lemmas.List.Elements.{All-head, All-tail}
-use Rattle.odd_cuts.specs.declared.certificate.PieceCert.{PieceCert}
-use Rattle.design_model.specs.declared.act.Act.{Act}
+use Rattle.std.proofs.lemmas.List.{at_drop_more, length-drop}
+use Rattle.route_verdict.proofs.Names.{nat_tests, append_assoc, All-head, All-tail, PieceCert, Act, Point, acts_without_numbers, Pass, DrawingValue, block_of_passes, runs_of, needles_of_walk, first_differing_act, walks_of, AllDrawn, AreDrawn}
 use Rattle.design_model.specs.declared.act.NumberedAct.{NumberedAct}
-use Rattle.design_model.specs.declared.point.Point.{Point}
-use Rattle.design_model.specs.Acts.{acts_without_numbers}
-use Rattle.line_graph.specs.declared.pass.Pass.{Pass}
-use Rattle.drawing_model.specs.Drawings.{DrawingValue}
-use Rattle.line_graph.specs.Runs.{sewn_acts_after, block_of_passes, runs_of}
-use Rattle.line_graph.specs.Walks.{needles_of_walk}
-use Rattle.route_verdict.specs.ActOrder.{first_differing_act}
+use Rattle.line_graph.specs.Runs.{sewn_acts_after}
 use Rattle.route_verdict.specs.ActSteps.{ComparesActs, begins_with_act, run_acts}
-use Rattle.odd_cuts.specs.Certificates.{walks_of}
-use Rattle.route_verdict.specs.SewingSteps.{AllDrawn, AreDrawn}
 
 -- one act on
 drop_step : (acts : List NumberedAct) (at : ℕ) (a : NumberedAct) (rest : List NumberedAct) → drop at acts ≡ a ∷ rest

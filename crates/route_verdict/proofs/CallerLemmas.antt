@@ -1,19 +1,10 @@
 -- Lemmas that this crate and those above cite.
 use Rattle.std.proofs.Common.{None, Option, Some, arith, refl, true, ℕ, ◌==◌, ◌≡◌}
-use Rattle.line_graph.specs.PieceGraphs.{PieceValue}
-use Rattle.line_graph.specs.PieceWalks.{is_fitting_walk}
-use Rattle.line_graph.specs.ValidPieces.{IsValidPiece}
+use Rattle.route_verdict.proofs.Names.{PieceValue, is_fitting_walk, IsValidPiece, both_none, cuts_fault, CutFaultsAreExact, WalkFaultsAreExact, first_fault, BoundsWalks, walk_fault, PieceCert, IsCorrectPieceCert, cost_above, count_reason, cuts_reason, piece_reason, retraced_reason, walk_reason}
 use Rattle.lists_and_numbers.proofs.CallerLemmas.{same_number, test_none}
-use Rattle.odd_cuts.proofs.CallerLemmas.{both_none, costs_more}
-use Rattle.odd_cuts.specs.CutFaults.{cuts_fault}
-use Rattle.odd_cuts.specs.FaultTheorems.{CutFaultsAreExact, WalkFaultsAreExact}
-use Rattle.odd_cuts.specs.Faults.{first_fault}
-use Rattle.odd_cuts.specs.PackingBounds.{BoundsWalks}
-use Rattle.odd_cuts.specs.WalkFaults.{walk_fault}
-use Rattle.odd_cuts.specs.declared.certificate.PieceCert.{PieceCert}
+use Rattle.odd_cuts.proofs.CallerLemmas.{costs_more}
 use Rattle.odd_cuts.specs.declared.faults.CutFault.{CutFault}
 use Rattle.odd_cuts.specs.declared.faults.WalkFault.{WalkFault}
-use Rattle.route_verdict.specs.Verdicts.{IsCorrectPieceCert, cost_above, count_reason, cuts_reason, piece_reason, retraced_reason, walk_reason}
 use Rattle.route_verdict.specs.declared.verdict.Reason.TheVariants as reason
 
 pub cuts_none : (number : ℕ) (found : Option CutFault) → cuts_reason number found ≡ None → found ≡ None

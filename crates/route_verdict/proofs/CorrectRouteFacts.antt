@@ -1,26 +1,11 @@
 -- Certificates and routes that aren't correct, each for one reason, and what a verdict means.
 use Rattle.std.proofs.Common.{◌≡◌, ℕ, ◌+◌, ◌*◌, ◌≤◌, pos, true, false, List, [], ◌∷◌, length, refl, arith, ap, sym, true≢false}
-use Rattle.std.specs.List.{AllZip}
-use Rattle.design_model.specs.declared.act.Act.{Act}
-use Rattle.design_model.specs.declared.command.Command.TheVariants.{Stitch}
-use Rattle.design_model.specs.declared.point.Point.{Point}
-use Rattle.design_model.specs.Acts.{acts_of, acts_without_numbers}
-use Rattle.design_model.specs.Designs.{DesignValue}
-use Rattle.line_graph.specs.declared.pass.Pass.{Pass}
-use Rattle.drawing_model.specs.Drawings.{DrawingValue}
-use Rattle.line_graph.specs.PieceGraphs.{PieceValue, piece_graph}
-use Rattle.line_graph.specs.Pieces.{ArePieces}
-use Rattle.line_graph.specs.PieceWalks.{is_fitting_walk, piece_cost, walk_cost}
-use Rattle.line_graph.specs.Runs.{runs_of, sewn_acts}
-use Rattle.odd_cuts.specs.declared.certificate.PieceCert.{PieceCert}
-use Rattle.odd_cuts.specs.declared.cut.Cut.{Cut}
-use Rattle.odd_cuts.specs.Certificates.{walks_of}
+use Rattle.route_verdict.proofs.Names.{AllZip, Act, Stitch, Point, acts_of, acts_without_numbers, DesignValue, Pass, DrawingValue, PieceValue, piece_graph, ArePieces, is_fitting_walk, walk_cost, runs_of, sewn_acts, PieceCert, Cut, walks_of, Verdict, HasShortLists, IsCorrectPieceCert, IsCorrectRoute, IsVerdict, verdict_of}
+use Rattle.line_graph.specs.PieceWalks.{piece_cost}
 use Rattle.odd_cuts.specs.Cuts.{total_weight}
 use Rattle.odd_cuts.specs.Packings.{IsPacking}
 use Rattle.route_verdict.specs.declared.verdict.Reason.TheVariants as reason
-use Rattle.route_verdict.specs.declared.verdict.Verdict.{Verdict}
 use Rattle.route_verdict.specs.declared.verdict.Verdict.TheVariants as verdict
-use Rattle.route_verdict.specs.Verdicts.{HasShortLists, IsCorrectPieceCert, IsCorrectRoute, IsVerdict, verdict_of}
 
 abbrev at : ℕ → Point
 at x = record { x = pos x; y = pos 0 }

@@ -1,23 +1,12 @@
 -- Walks sewn one after another.
-use Rattle.std.proofs.lemmas.Bool.Decides.{nat_tests}
 use Rattle.std.proofs.Common.{◌≡◌, ◌≤◌, ◌<◌, ℕ, ◌+◌, Bool, true, false, cond, List, [], ◌∷◌, ◌++◌, length, drop, reverse, All, arith, sym, ◌∙◌, ap, subst}
-use Rattle.std.proofs.lemmas.List.{append_assoc, length-append}
 use Rattle.std.proofs.lemmas.List.Concat.{flat_map-cons}
-use Rattle.std.proofs.lemmas.List.Elements.{All-append, All-head, All-nil, All-tail}
-use Rattle.odd_cuts.specs.declared.certificate.PieceCert.{PieceCert}
-use Rattle.design_model.specs.declared.command.Command.{Command}
-use Rattle.design_model.specs.declared.point.Point.{Point}
-use Rattle.design_model.specs.Designs.{DesignValue}
-use Rattle.step_splitter.specs.Chains.{IsNeedlePoint}
-use Rattle.line_graph.specs.declared.pass.Pass.{Pass}
-use Rattle.drawing_model.specs.Drawings.{DrawingValue, KeepsDrawingLimits}
-use Rattle.line_graph.specs.Runs.{block_of_passes, commands_after, runs_of}
+use Rattle.std.proofs.lemmas.List.Elements.{All-append}
+use Rattle.route_verdict.proofs.Names.{nat_tests, append_assoc, length-append, All-head, All-nil, All-tail, PieceCert, Command, Point, DesignValue, IsNeedlePoint, Pass, DrawingValue, KeepsDrawingLimits, block_of_passes, runs_of, needles_of_walk, walks_of, with_commands, AllDrawn, AreDrawn, later_needles, run_commands}
+use Rattle.line_graph.specs.Runs.{commands_after}
 use Rattle.drawing_model.specs.LineNeedles.{NeedlesLeadAlong, needles_of_line}
 use Rattle.line_graph.proofs.CallerLemmas.{range_back}
-use Rattle.line_graph.specs.Walks.{needles_of_pass, needles_of_walk}
-use Rattle.odd_cuts.specs.Certificates.{walks_of}
-use Rattle.design_model.specs.LongerDesigns.{with_commands}
-use Rattle.route_verdict.specs.SewingSteps.{AllDrawn, AreDrawn, later_needles, run_commands}
+use Rattle.line_graph.specs.Walks.{needles_of_pass}
 
 -- the needles of further passes, one pass on
 pub later_more : (d : DrawingValue) (old points : List Point) (left after : List Pass) (pass : Pass) → left ≡ pass ∷ after
@@ -67,17 +56,11 @@ pub record Left (d : DrawingValue) (pieces : List PieceCert) (begun design : Des
       ≡ with_commands begun (commands_after 0 (runs_of d (walks_of pieces)))
 
 -- the commands of one walk, and those of the walks after it
-walk_first : (d : DrawingValue) (before : ℕ) (piece : PieceCert) (rest : List PieceCert)
+pub walk_first : (d : DrawingValue) (before : ℕ) (piece : PieceCert) (rest : List PieceCert)
     → commands_after before (runs_of d (walks_of (piece ∷ rest)))
     ≡ run_commands before (block_of_passes d piece.walk) (needles_of_walk d piece.walk)
     ++ commands_after (block_of_passes d piece.walk) (runs_of d (walks_of rest))
 walk_first d before piece rest = grind (arith, nat_tests, append_assoc)
-
-pub room_for : (d : DrawingValue) (pieces : List PieceCert) (begun design : DesignValue) (before : ℕ) (left rest : List PieceCert)
-    (piece : PieceCert) → left ≡ piece ∷ rest
-    → Left d pieces begun design before left
-    → length design.commands + length (run_commands before (block_of_passes d piece.walk) (needles_of_walk d piece.walk)) ≤ 1000000
-room_for d pieces begun design before left rest piece is l = grind (arith, nat_tests, walk_first, length-append)
 
 pub sews_on : (d : DrawingValue) (pieces : List PieceCert) (begun design next : DesignValue) (before block : ℕ) (left rest : List PieceCert)
     (piece : PieceCert) → left ≡ piece ∷ rest

@@ -1,22 +1,12 @@
 -- Worked values of verdicts.
 use Rattle.std.proofs.Common.{◌≡◌, ℕ, pos, true, false, List, [], ◌∷◌, ◌++◌, Option, Some, None, map, replicate, refl}
-use Rattle.odd_cuts.specs.declared.certificate.PieceCert.{PieceCert}
-use Rattle.odd_cuts.specs.declared.cut.Cut.{Cut}
+use Rattle.route_verdict.proofs.Names.{PieceCert, Cut, Act, Command, Stitch, Stop, Point, DesignValue, Pass, DrawingValue, Verdict, first_differing_act, verdict_of}
 use Rattle.odd_cuts.specs.declared.faults.CutFault.TheVariants as cut_fault
 use Rattle.odd_cuts.specs.declared.faults.WalkFault.TheVariants as walk_fault
-use Rattle.design_model.specs.declared.act.Act.{Act}
 use Rattle.design_model.specs.declared.act.Act.TheVariants as act
-use Rattle.design_model.specs.declared.command.Command.{Command}
-use Rattle.design_model.specs.declared.command.Command.TheVariants.{Jump, Stitch, Stop, Trim}
-use Rattle.design_model.specs.declared.point.Point.{Point}
-use Rattle.design_model.specs.Designs.{DesignValue}
-use Rattle.line_graph.specs.declared.pass.Pass.{Pass}
-use Rattle.drawing_model.specs.Drawings.{DrawingValue}
+use Rattle.design_model.specs.declared.command.Command.TheVariants.{Jump, Trim}
 use Rattle.route_verdict.specs.declared.verdict.Reason.TheVariants as reason
-use Rattle.route_verdict.specs.declared.verdict.Verdict.{Verdict}
 use Rattle.route_verdict.specs.declared.verdict.Verdict.TheVariants as verdict
-use Rattle.route_verdict.specs.ActOrder.{first_differing_act}
-use Rattle.route_verdict.specs.Verdicts.{verdict_of}
 
 abbrev at : ℕ → Point
 at x = record { x = pos x; y = pos 0 }

@@ -1,38 +1,16 @@
 -- Verdicts: no reason is found exactly where all is right, and then each walk is least.
-use Rattle.std.proofs.lemmas.Bool.Decides.{nat_tests}
 use Rattle.std.proofs.Common.{◌≡◌, ◌≤◌, ◌<◌, ℕ, ◌+◌, true, List, [], ◌∷◌, ◌++◌, Option, Some, None, length, map, All, Contains, arith, refl, sym, ◌∙◌, ap, subst}
 use Rattle.std.proofs.lemmas.List.{length-map}
-use Rattle.std.proofs.lemmas.List.Elements.{All-cons, All-contains, All-head, All-nil, All-tail}
-use Rattle.std.specs.List.{AllZip, concat}
-use Rattle.odd_cuts.specs.declared.certificate.PieceCert.{PieceCert}
-use Rattle.odd_cuts.specs.PackingBounds.{BoundsWalks, ProvesLeast}
-use Rattle.odd_cuts.specs.CutFaults.{cuts_fault}
-use Rattle.odd_cuts.specs.FaultTheorems.{CutFaultsAreExact, WalkFaultsAreExact}
-use Rattle.odd_cuts.specs.Faults.{first_fault}
-use Rattle.odd_cuts.specs.WalkFaults.{walk_fault}
-use Rattle.design_model.specs.Acts.{acts_of, acts_without_numbers}
-use Rattle.design_model.specs.Designs.{DesignValue}
-use Rattle.line_graph.specs.declared.pass.Pass.{Pass}
-use Rattle.line_graph.specs.declared.piece.Piece.{Piece}
-use Rattle.line_graph.specs.PiecesOfDrawings.{ArePiecesOf, graph_of, lines_of_pieces}
-use Rattle.drawing_model.specs.Drawings.{DrawingValue, KeepsDrawingLimits}
-use Rattle.line_graph.specs.DrawnWalks.{PiecesAreValid}
-use Rattle.line_graph.specs.Pieces.{ArePieces}
-use Rattle.line_graph.specs.ValidPieces.{IsValidPiece}
-use Rattle.line_graph.specs.PieceGraphs.{PieceValue, piece_graph}
-use Rattle.line_graph.specs.PieceWalks.{IsLeastWalk, is_fitting_walk}
-use Rattle.line_graph.specs.Runs.{runs_of, sewn_acts}
-use Rattle.line_graph.specs.SewnWalks.{ArePiecesWithin, FittingWalksAreSewable, PiecesKeepLimits}
+use Rattle.std.proofs.lemmas.List.Elements.{All-contains}
+use Rattle.route_verdict.proofs.Names.{nat_tests, All-cons, All-head, All-nil, All-tail, AllZip, concat, PieceCert, BoundsWalks, cuts_fault, CutFaultsAreExact, WalkFaultsAreExact, first_fault, walk_fault, acts_of, acts_without_numbers, DesignValue, Pass, Piece, graph_of, DrawingValue, KeepsDrawingLimits, PiecesAreValid, ArePieces, IsValidPiece, PieceValue, piece_graph, IsLeastWalk, is_fitting_walk, runs_of, sewn_acts, FittingWalksAreSewable, Verdict, CorrectRoutesAreAccepted, walks_of, AllDrawn, AreDrawn, IsCorrectRoute, IsCorrectPieceCert, HasShortLists, cost_above, count_reason, cuts_reason, piece_reason, pieces_reason, retraced_reason, verdict_of, walk_reason, both_none}
+use Rattle.odd_cuts.specs.PackingBounds.{ProvesLeast}
+use Rattle.line_graph.specs.PiecesOfDrawings.{ArePiecesOf, lines_of_pieces}
+use Rattle.line_graph.specs.SewnWalks.{ArePiecesWithin, PiecesKeepLimits}
 use Rattle.route_verdict.specs.declared.verdict.Reason.{Reason}
-use Rattle.route_verdict.specs.declared.verdict.Verdict.{Verdict}
 use Rattle.route_verdict.specs.declared.verdict.Verdict.TheVariants as verdict
-use Rattle.route_verdict.specs.VerdictTheorems.{CorrectRoutesAreAccepted}
 use Rattle.route_verdict.proofs.SameActs.{no_difference, none_with_itself}
-use Rattle.odd_cuts.specs.Certificates.{walks_of}
-use Rattle.route_verdict.specs.SewingSteps.{AllDrawn, AreDrawn}
-use Rattle.route_verdict.specs.Verdicts.{IsCorrectRoute, IsCorrectPieceCert, HasShortLists, IsVerdictOver, acts_reason, cost_above, count_reason, cuts_reason, difference_of, piece_reason, pieces_reason, reason_of, retraced_reason, verdict_of, verdict_of_reason, walk_reason}
+use Rattle.route_verdict.specs.Verdicts.{IsVerdictOver, acts_reason, difference_of, reason_of, verdict_of_reason}
 use Rattle.lists_and_numbers.proofs.CallerLemmas.{number_found}
-use Rattle.odd_cuts.proofs.CallerLemmas.{both_none}
 use Rattle.route_verdict.proofs.CallerLemmas.{count_none, piece_correct, walk_none}
 
 -- one piece on

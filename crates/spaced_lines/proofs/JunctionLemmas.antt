@@ -1,17 +1,7 @@
 -- The spots at the ends of sections, in a set.
-use Rattle.std.proofs.lemmas.Bool.Decides.{nat_tests}
 use Rattle.std.proofs.Common.{◌≡◌, ◌∙◌, ℕ, ◌==◌, Bool, true, false, ◌&&◌, ◌||◌, cond, List, [], ◌∷◌, ap, sym, arith}
-use Rattle.std.proofs.Math.Path.{ap₂}
-use Rattle.std.specs.List.{list_any}
+use Rattle.spaced_lines.proofs.Names.{nat_tests, ap₂, list_any, Point, is_same_point, endpoints, has_end_at_spot, is_junction, Spot, LineValue, is_same_spot, last_point_or}
 use Rattle.design_model.proofs.CallerLemmas.{same_back}
-use Rattle.design_model.specs.declared.point.Point.{Point}
-use Rattle.design_model.specs.Points.{is_same_point}
-use Rattle.drawing_model.specs.Drawings.{endpoints}
-use Rattle.drawing_model.specs.WalkEnds.{has_end_at_spot, is_junction}
-use Rattle.line_sections.specs.declared.spot.Spot.{Spot}
-use Rattle.line_sections.specs.Lines.{LineValue}
-use Rattle.line_sections.specs.Spots.{is_same_spot}
-use Rattle.step_splitter.specs.Chains.{last_point_or}
 
 -- what is found after two spots of a block were put in
 either_end : (a b c found : Bool) → cond (a && c) true (cond (a && b) true found) ≡ ((a && (b || (c || false))) || found)

@@ -1,3 +1,4 @@
+pub mod Names
 mod SpacedFacts
 mod SpacedAnswerFacts
 pub mod JunctionLemmas

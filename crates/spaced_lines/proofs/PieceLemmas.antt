@@ -1,20 +1,10 @@
 -- The pieces of a drawing depend on the blocks and the ends of its lines alone.
-use Rattle.std.proofs.lemmas.Bool.Decides.{nat_tests}
 use Rattle.std.proofs.Common.{◌≡◌, ◌∙◌, ℕ, ◌==◌, ◌<◌, Bool, false, ◌&&◌, List, [], ◌∷◌, Option, Some, length, map, slice_get, All, ap, sym, arith}
-use Rattle.std.proofs.Math.Path.{ap₂}
-use Rattle.std.proofs.lemmas.List.{length-map}
-use Rattle.std.proofs.lemmas.List.Elements.{All-weaker}
 use Rattle.std.proofs.lemmas.Option.{slice_get-map}
 use Rattle.std.specs.List.{concat}
 use Rattle.std.specs.Prelude.{option_map}
-use Rattle.design_model.specs.declared.point.Point.{Point}
-use Rattle.drawing_model.specs.Drawings.{DrawingValue}
+use Rattle.spaced_lines.proofs.Names.{nat_tests, ap₂, length-map, All-weaker, Point, DrawingValue, end_spots, Spot, LineValue, all_sections, spaced_lines}
 use Rattle.line_graph.specs.Pieces.{AreConnected, ArePieces, IsPathOfLines, LinesTouch, first_line, shares_point, touches}
-use Rattle.drawing_model.specs.WalkEnds.{end_spots}
-use Rattle.line_sections.specs.declared.spot.Spot.{Spot}
-use Rattle.line_sections.specs.Lines.{LineValue}
-use Rattle.line_sections.specs.Sections.{all_sections}
-use Rattle.spaced_lines.specs.SpacedLines.{spaced_lines}
 use Rattle.spaced_lines.specs.SpacingLaws.{PiecesStay}
 use Rattle.spaced_lines.proofs.KeptSectionLemmas.{sections_keep_ends}
 

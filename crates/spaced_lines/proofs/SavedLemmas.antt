@@ -1,20 +1,14 @@
 -- A spaced line can be sewn, and each point that is left out saves a step.
-use Rattle.std.proofs.lemmas.Bool.Decides.{nat_tests}
 use Rattle.std.proofs.Common.{◌≡◌, ◌≢◌, ◌∙◌, ℕ, ◌+◌, ◌≤◌, Bool, true, not, nat_le, List, [], ◌∷◌, ◌++◌, length, All, if◌then◌else◌, arith}
 use Rattle.std.proofs.lemmas.Bool.{leb-true}
 use Rattle.std.proofs.lemmas.Grind.{div_ceil_times}
-use Rattle.std.proofs.lemmas.List.Elements.{All-cons, All-head, All-nil, All-tail}
 use Rattle.std.specs.Int.{div_ceil}
-use Rattle.design_model.specs.declared.point.Point.{Point}
-use Rattle.design_model.specs.Points.{is_same_point}
+use Rattle.spaced_lines.proofs.Names.{nat_tests, All-cons, All-head, All-nil, All-tail, Point, is_same_point, distance_between, is_stitch_for, kept_after, EachPointSavesAStep, SpacedLinesAreLines, first_true, second_true}
 use Rattle.drawing_model.specs.Needles.{segment_steps}
 use Rattle.step_splitter.specs.Chains.{HasNoRepeatAfter, IsNeedlePoint, SplitPointsLead}
 use Rattle.step_splitter.specs.Steps.{steps_of}
-use Rattle.drawing_repairs.specs.Anchors.{distance_between}
-use Rattle.spaced_lines.specs.SpacedLines.{comes_near_all, is_stitch_for, kept_after}
-use Rattle.spaced_lines.specs.SpacingLaws.{EachPointSavesAStep, SpacedLinesAreLines}
+use Rattle.spaced_lines.specs.SpacedLines.{comes_near_all}
 use Rattle.spaced_lines.proofs.SpacingLemmas.{left_out_stitch, of_kept}
-use Rattle.lists_and_numbers.proofs.CallerLemmas.{first_true, second_true}
 
 -- a stitch is one step
 one_step : (size step : ℕ) → 1 ≤ step → size ≤ step → div_ceil size step ≤ 1

@@ -1,16 +1,8 @@
 -- A shared point inside a line is the last point of a section.
-use Rattle.std.proofs.lemmas.Bool.Decides.{nat_tests}
 use Rattle.std.proofs.Common.{◌≡◌, ◌∙◌, ℕ, ◌==◌, Bool, true, false, ◌&&◌, ◌||◌, List, [], ◌∷◌, map, All, if◌then◌else◌, refl, arith}
 use Rattle.std.proofs.lemmas.Bool.{or_left, or_right}
-use Rattle.std.proofs.lemmas.List.Elements.{All-cons, All-nil}
 use Rattle.std.proofs.lemmas.List.Folds.{list_any-append}
-use Rattle.std.specs.List.{flat_map, list_any}
-use Rattle.design_model.specs.declared.point.Point.{Point}
-use Rattle.design_model.specs.Points.{is_same_point}
-use Rattle.drawing_model.specs.WalkEnds.{has_end_at_spot}
-use Rattle.line_sections.specs.Lines.{LineValue}
-use Rattle.line_sections.specs.Sections.{but_last, inner_points, is_shared_point, line_sections, lines_through, sections_from, sections_of, sections_with_first}
-use Rattle.step_splitter.specs.Chains.{last_point_or}
+use Rattle.spaced_lines.proofs.Names.{nat_tests, All-cons, All-nil, flat_map, list_any, Point, is_same_point, has_end_at_spot, LineValue, but_last, inner_points, is_shared_point, line_sections, lines_through, sections_from, sections_of, sections_with_first, last_point_or}
 use Rattle.spaced_lines.specs.SpacingLaws.{SharedPointsAreJunctions}
 use Rattle.lists_and_numbers.proofs.CallerLemmas.{either_way}
 

@@ -1,10 +1,7 @@
 -- Worked values of spaced drawings, in tenths of a millimetre.
 use Rattle.std.proofs.Common.{◌≡◌, ℕ, pos, List, [], ◌∷◌, Ok, Err, refl}
-use Rattle.design_model.specs.declared.point.Point.{Point}
+use Rattle.spaced_lines.proofs.Names.{Point, DrawingValue, Spot, LineValue}
 use Rattle.drawing_model.specs.declared.draw_kind.DrawKind.TheVariants as kind
-use Rattle.drawing_model.specs.Drawings.{DrawingValue}
-use Rattle.line_sections.specs.declared.spot.Spot.{Spot}
-use Rattle.line_sections.specs.Lines.{LineValue}
 use Rattle.spaced_lines.specs.SpacedDrawings.{space_of}
 
 abbrev at : ℕ → ℕ → Point

@@ -1,13 +1,6 @@
 -- Worked values of spaced lines, in tenths of a millimetre.
 use Rattle.std.proofs.Common.{◌≡◌, ℕ, ℤ, ◌+◌, inr, true, false, pos, ap, List, [], ◌∷◌, map, refl}
-use Rattle.design_model.specs.declared.point.Point.{Point}
-use Rattle.design_model.specs.Points.{is_same_point}
-use Rattle.line_sections.specs.Lines.{LineValue}
-use Rattle.drawing_model.specs.Needles.{steps_of_line}
-use Rattle.drawing_model.specs.WalkEnds.{end_spots}
-use Rattle.line_sections.specs.Sections.{all_sections, lines_through}
-use Rattle.spaced_lines.specs.SpacedLines.{is_stitch_for, leeway_of, spaced_lines, spaced_points}
-use Rattle.spaced_lines.specs.SpacingLaws.{StandFor}
+use Rattle.spaced_lines.proofs.Names.{Point, is_same_point, LineValue, steps_of_line, end_spots, all_sections, lines_through, is_stitch_for, leeway_of, spaced_lines, spaced_points, StandFor}
 
 abbrev at : ℕ → ℕ → Point
 at x y = record { x = pos x; y = pos y }

@@ -1,20 +1,10 @@
 -- The spaced lines of a drawing are within the limits of a drawing.
 use Rattle.std.proofs.Common.{◌≡◌, ◌∙◌, ℕ, ◌+◌, ◌<◌, ◌≤◌, Bool, List, [], ◌∷◌, ◌++◌, length, map, All, Contains, if◌then◌else◌, refl, ap, subst, arith}
-use Rattle.std.proofs.lemmas.List.{length-map}
-use Rattle.std.proofs.lemmas.List.Elements.{All-head, All-map, All-tail, All-weaker}
-use Rattle.std.proofs.lemmas.List.Sums.{sum_by-cons}
+use Rattle.std.proofs.lemmas.List.Elements.{All-map}
 use Rattle.std.specs.List.{sum_by}
 use Rattle.std.specs.List.Sorted.{IsNonDecreasing}
-use Rattle.design_model.specs.declared.point.Point.{Point}
+use Rattle.spaced_lines.proofs.Names.{length-map, All-head, All-tail, All-weaker, sum_by-cons, Point, point_count, steps_of_line, is_junction, LineValue, all_sections, SpacedLinesKeepLimits, is_spot_of, kept_after, spaced_line, spaced_lines, spaced_points, EachPointSavesAStep, SpacedLinesAreLines}
 use Rattle.drawing_model.specs.Drawings.{IsLine}
-use Rattle.drawing_model.specs.GrowingDrawings.{point_count}
-use Rattle.drawing_model.specs.Needles.{steps_of_line}
-use Rattle.drawing_model.specs.WalkEnds.{is_junction}
-use Rattle.line_sections.specs.Lines.{LineValue}
-use Rattle.line_sections.specs.Sections.{all_sections}
-use Rattle.spaced_lines.specs.SpacedAnswers.{SpacedLinesKeepLimits}
-use Rattle.spaced_lines.specs.SpacedLines.{is_spot_of, kept_after, spaced_line, spaced_lines, spaced_points}
-use Rattle.spaced_lines.specs.SpacingLaws.{EachPointSavesAStep, SpacedLinesAreLines}
 use Rattle.spaced_lines.proofs.SpacingLemmas.{of_kept}
 
 -- a spaced line has no more points

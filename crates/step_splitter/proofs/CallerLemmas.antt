@@ -1,13 +1,8 @@
 -- Lemmas that this crate and those above cite.
-use Rattle.std.proofs.lemmas.Bool.Decides.{nat_tests}
 use Rattle.std.proofs.Common.{All, List, [], arith, unsigned_abs, ℕ, ℤ, ◌+◌, ◌-ℤ◌, ◌∷◌, ◌≤◌}
 use Rattle.std.proofs.Math.Nat.{max-le}
-use Rattle.std.proofs.lemmas.Int.{ints}
 use Rattle.std.proofs.lemmas.List.Elements.{All-head, All-tail}
-use Rattle.design_model.proofs.CallerLemmas.{within_parts}
-use Rattle.design_model.specs.Points.{move_between, move_size}
-use Rattle.design_model.specs.declared.point.Point.{Point}
-use Rattle.step_splitter.specs.Chains.{IsNeedlePoint, last_point_or}
+use Rattle.step_splitter.proofs.Names.{nat_tests, ints, within_parts, move_between, move_size, Point, IsNeedlePoint, last_point_or}
 
 pub last_in_range : (p : Point) (rest : List Point) → IsNeedlePoint p → All IsNeedlePoint rest → IsNeedlePoint (last_point_or p rest)
 last_in_range p [] one all = one

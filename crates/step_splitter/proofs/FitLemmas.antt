@@ -1,19 +1,11 @@
 -- Refitted acts fit.
 use Rattle.std.proofs.Common.{◌≡◌, ℕ, ◌≤◌, Bool, true, false, not, ◌&&◌, IsTrue, List, [], ◌∷◌, ◌++◌, refl, arith}
-use Rattle.std.proofs.lemmas.Bool.Decides.{nat_tests}
-use Rattle.std.proofs.Math.Nat.{le-max_left, le-max_right}
-use Rattle.std.specs.Prelude.{if◌then◌else◌}
 use Rattle.std.specs.List.{list_all}
-use Rattle.design_model.specs.declared.act.Act.{Act}
+use Rattle.step_splitter.proofs.Names.{nat_tests, le-max_left, le-max_right, if◌then◌else◌, Act, Point, is_point_within, move_between, origin, move_size, RefitMode, AreCloseAfter, last_point_or, MeetsRefitGoal, is_no_float, needles_at, refitted_acts, refitted_from, split_points}
 use Rattle.design_model.specs.declared.act.Act.TheVariants as act
-use Rattle.design_model.specs.declared.point.Point.{Point}
-use Rattle.design_model.specs.Points.{is_point_within, move_between, origin, move_size}
 use Rattle.step_splitter.proofs.ChainLemmas.{comes_close}
-use Rattle.step_splitter.specs.declared.refitting.RefitMode.{RefitMode}
 use Rattle.step_splitter.specs.declared.refitting.RefitMode.TheVariants as mode
-use Rattle.step_splitter.specs.Chains.{AreCloseAfter, last_point_or}
-use Rattle.step_splitter.specs.Refits.{MeetsRefitGoal, AreNearActs, is_no_float, needles_at, refitted_acts, refitted_from}
-use Rattle.step_splitter.specs.Steps.{split_points}
+use Rattle.step_splitter.specs.Refits.{AreNearActs}
 
 -- needles that keep close keep near
 near_along : (limit : ℕ) (place : Point) (points : List Point) (rest : List Act) → AreCloseAfter limit place points

@@ -1,10 +1,6 @@
 -- Sizes of moves, and needle points as limits on each axis.
-use Rattle.std.proofs.lemmas.Bool.Decides.{nat_tests}
 use Rattle.std.proofs.Common.{◌≡◌, ◌≢◌, ℕ, ℤ, ◌+◌, ◌≤◌, ◌-ℤ◌, arith}
-use Rattle.std.proofs.Math.Nat.{le-max_left, le-max_right}
-use Rattle.design_model.specs.declared.point.Point.{Point}
-use Rattle.design_model.specs.Points.{move_between, move_size}
-use Rattle.design_model.proofs.CallerLemmas.{same_point}
+use Rattle.step_splitter.proofs.Names.{nat_tests, le-max_left, le-max_right, Point, move_between, move_size, same_point}
 use Rattle.lists_and_numbers.proofs.CallerLemmas.{no_difference}
 
 -- the move between two points that differ has a size

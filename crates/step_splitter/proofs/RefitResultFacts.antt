@@ -1,15 +1,11 @@
 -- What the results of a refit exclude, and points that don't lead along a segment.
 use Rattle.std.proofs.Common.{◌≡◌, ℕ, pos, true, false, List, [], ◌∷◌, ◌++◌, Ok, Err, length, refl, arith, ap, sym, true≢false}
+use Rattle.step_splitter.proofs.Names.{NumberedAct, Point, DesignValue, RefitMode, LeadsBySteps, IsFirstOverLimit, MeetsRefitGoal, refitted_commands}
 use Rattle.design_model.specs.declared.act.Act.TheVariants as act
-use Rattle.design_model.specs.declared.act.NumberedAct.{NumberedAct}
-use Rattle.design_model.specs.declared.point.Point.{Point}
 use Rattle.design_model.specs.Acts.{acts_of}
-use Rattle.design_model.specs.Designs.{DesignValue}
 use Rattle.step_splitter.specs.declared.refitting.RefitFault.TheVariants as fault
-use Rattle.step_splitter.specs.declared.refitting.RefitMode.{RefitMode}
 use Rattle.step_splitter.specs.declared.refitting.RefitMode.TheVariants as mode
-use Rattle.step_splitter.specs.Chains.{LeadsBySteps}
-use Rattle.step_splitter.specs.Refits.{IsFirstOverLimit, MeetsRefitGoal, Refits, refitted_commands, refitted_design}
+use Rattle.step_splitter.specs.Refits.{Refits, refitted_design}
 
 abbrev at : ℕ → Point
 at x = record { x = pos x; y = pos 0 }

@@ -1,10 +1,7 @@
 -- Worked values of the steps.
 use Rattle.std.proofs.Common.{◌≡◌, ℤ, pos, negsuc, [], ◌∷◌, refl}
-use Rattle.design_model.specs.declared.point.Point.{Point}
-use Rattle.design_model.specs.Points.{origin}
+use Rattle.step_splitter.proofs.Names.{Point, origin, last_point_or, floor_quotient, split_points, steps_of}
 use Rattle.step_splitter.specs.declared.segment.TheConstants.{MAX_STEP}
-use Rattle.step_splitter.specs.Chains.{last_point_or}
-use Rattle.step_splitter.specs.Steps.{floor_quotient, split_points, steps_of}
 
 -- the point at those numbers
 abbrev pub at : ℤ → ℤ → Point

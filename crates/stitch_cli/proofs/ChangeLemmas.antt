@@ -1,15 +1,12 @@
 -- Changes decide: they make one design of another, or are refused.
 use Rattle.std.proofs.Common.{◌≡◌, ℕ, inl, inr, List, [], ◌∷◌, Result, Ok, Err, sym, ◌∙◌, subst, arith}
-use Rattle.command_words.specs.Changes.{Change, cut, mirror, shift, split, thread, turn}
-use Rattle.design_model.specs.Designs.{DesignValue}
-use Rattle.format_traits.specs.declared.loaded.Loaded.{Loaded}
+use Rattle.stitch_cli.proofs.Names.{Change, cut, split, turn, DesignValue, Loaded, ProductValue, IsRewriteResult, RewriteOrder, not_changed, not_written}
+use Rattle.command_words.specs.Changes.{mirror, shift, thread}
 use Rattle.step_splitter.specs.declared.refitting.RefitMode.{RefitMode}
 use Rattle.step_splitter.specs.declared.refitting.RefitMode.TheVariants as mode
 use Rattle.design_changes.specs.declared.change_faults.ChangeFault.{ChangeFault}
 use Rattle.design_changes.specs.declared.change_faults.ChangeFault.TheVariants as reason
 use Rattle.design_changes.specs.ChangedDesigns.{Becomes, BecomesAll, RefitsTo}
-use Rattle.program_shell.specs.Products.{ProductValue}
-use Rattle.stitch_cli.specs.Rewrites.{IsRewriteResult, RewriteOrder, not_changed, not_written}
 
 -- one value is one design, and not a refusal
 same_value : (r : Result DesignValue ChangeFault) (a b : DesignValue) → Ok a ≡ r → Ok b ≡ r → a ≡ b

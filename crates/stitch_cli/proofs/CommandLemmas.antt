@@ -1,32 +1,20 @@
 -- What is proved of each command: its plan decides, and the outputs of its products are the files that it writes.
 use Rattle.std.proofs.Common.{◌≡◌, ◌∷◌, [], ℕ, Bool, true, false, List, Result, Ok, Err, ap, sym, ◌∙◌}
 use Rattle.std.specs.Prelude.{nat_lt}
-use Rattle.odd_cuts.specs.declared.certificate.PieceCert.{PieceCert}
-use Rattle.certificate_text.specs.ReadCertificates.{cert_of}
-use Rattle.design_model.specs.Designs.{DesignValue}
-use Rattle.drawing_text.specs.DrawingText.{drawing_as2, drawing_of}
-use Rattle.format_traits.specs.declared.loaded.Loaded.{Loaded}
-use Rattle.format_traits.specs.Meanings.{Meaning}
+use Rattle.stitch_cli.proofs.Names.{PieceCert, cert_of, DesignValue, drawing_of, Loaded, Meaning, DrawingValue, ProductValue, CheckOrder, IsCheckFailed, IsCheckPassed, check_cert, check_design, check_drawing, check_plan, Order, outputs_of, plan_of, stitch, checking, hooping, migrating, rewriting, sampling, sewing, showing, tracing, hoop_fitted, hoop_read, IsMigrated, IsRewriteResult, rewrite_read, IsSampleProduct, IsSewnProduct, SewingOrder, SewnFiles, sewing_by_limit, sewing_read, IsSewnBy, show_read, trace_read}
+use Rattle.drawing_text.specs.DrawingText.{drawing_as2}
 use Rattle.hoop_check.specs.declared.fitting.Fit.{Fit}
 use Rattle.hoop_check.specs.declared.fitting.Fit.TheVariants as fit
 use Rattle.hoop_check.specs.Fits.{fit_of}
-use Rattle.drawing_model.specs.Drawings.{DrawingValue}
 use Rattle.line_graph.specs.UniquePieces.{PiecesAreUnique}
 use Rattle.program_shell.specs.ExactPlans.{IsSoundProgram}
-use Rattle.program_shell.specs.Products.{ProductValue}
 use Rattle.route_verdict.specs.declared.verdict.Verdict.TheVariants as verdict
 use Rattle.route_verdict.specs.Verdicts.{verdict_of}
-use Rattle.stitch_cli.specs.Checks.{CheckOrder, IsCheckFailed, IsCheckPassed, IsCheckResult, check_cert, check_design, check_drawing, check_plan}
-use Rattle.stitch_cli.specs.Commands.{Order, outputs_of, plan_of, stitch, checking, hooping, migrating, rewriting, sampling, sewing, showing, tracing}
-use Rattle.stitch_cli.specs.Hoops.{hoop_fitted, hoop_read}
-use Rattle.stitch_cli.specs.Migrations.{IsMigrated, migrate_read}
-use Rattle.stitch_cli.specs.Rewrites.{IsRewriteResult, rewrite_read}
+use Rattle.stitch_cli.specs.Checks.{IsCheckResult}
+use Rattle.stitch_cli.specs.Migrations.{migrate_read}
 use Rattle.sample_drawings.specs.Samples.{sample_drawing_of}
-use Rattle.stitch_cli.specs.Samples.{IsSampleProduct}
-use Rattle.stitch_cli.specs.Sewings.{IsSewnProduct, SewingOrder, SewnFiles, sewing_by_limit, sewing_outputs, sewing_plan, sewing_read}
-use Rattle.stitch_cli.specs.SewingWays.{IsSewnBy}
-use Rattle.stitch_cli.specs.Shows.{show_read}
-use Rattle.stitch_cli.specs.Tracings.{IsTraced, trace_made, trace_read}
+use Rattle.stitch_cli.specs.Sewings.{sewing_outputs, sewing_plan}
+use Rattle.stitch_cli.specs.Tracings.{IsTraced, trace_made}
 use Rattle.stitch_trace.specs.declared.trace_fault.TraceFault.{TraceFault}
 use Rattle.stitch_trace.specs.Traces.{traced}
 use Rattle.program_shell.proofs.CallerLemmas.{IsSoundPlan, accepts_sound, named, parses_sound, program_sound, refuses_sound, satisfies_sound}

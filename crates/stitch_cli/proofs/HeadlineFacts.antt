@@ -1,15 +1,8 @@
 -- The headline of files in other words: what is read of its two records.
 use Rattle.std.proofs.Common.{◌≡◌, ℕ, true, List, Option, Ok}
-use Rattle.odd_cuts.specs.declared.certificate.PieceCert.{PieceCert}
-use Rattle.certificate_text.specs.ReadCertificates.{cert_of}
-use Rattle.drawing_text.specs.DrawingText.{drawing_of}
-use Rattle.format_traits.specs.declared.loaded.Loaded.{Loaded}
-use Rattle.drawing_model.specs.Drawings.{DrawingValue}
-use Rattle.outside_io.specs.Files.{Files, FileHolds}
+use Rattle.stitch_cli.proofs.Names.{PieceCert, cert_of, drawing_of, Loaded, DrawingValue, Files, CheckOrder, IsRouteLeft, IsYesRight, SewingOrder}
+use Rattle.outside_io.specs.Files.{FileHolds}
 use Rattle.route_verdict.specs.LeastRedwork.{IsLeastRedwork, IsLeastRoute}
-use Rattle.stitch_cli.specs.Checks.{CheckOrder}
-use Rattle.stitch_cli.specs.Headline.{IsRouteLeft, IsYesRight}
-use Rattle.stitch_cli.specs.Sewings.{SewingOrder}
 
 pub known_left : (order : SewingOrder) (before after : Option Files) → IsRouteLeft order before after
     → (drawing design cert : List ℕ) × FileHolds before order.drawing drawing × FileHolds after order.out design

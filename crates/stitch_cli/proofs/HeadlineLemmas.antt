@@ -1,30 +1,14 @@
 -- The headline, of files.
 use Rattle.std.proofs.Common.{◌≡◌, ℕ, Bool, true, false, nat_lt, List, [], ◌∷◌, Option, Some, Result, Ok, Err, IsOkAnd, refl, sym, subst}
-use Rattle.std.specs.List.{AllZip}
-use Rattle.odd_cuts.specs.declared.certificate.PieceCert.{PieceCert}
-use Rattle.odd_cuts.specs.Certificates.{walks_of}
-use Rattle.certificate_text.specs.ReadCertificates.{cert_of}
-use Rattle.design_model.specs.Acts.{acts_of}
-use Rattle.drawing_text.specs.DrawingText.{drawing_of}
+use Rattle.stitch_cli.proofs.Names.{AllZip, PieceCert, walks_of, cert_of, acts_of, drawing_of, Loaded, DrawingValue, piece_graph, Sews, Files, Makes, ProductValue, IsLeastPieceRoute, CheckOrder, check_cert, check_design, check_drawing, Order, plan_of, stitch, checking, sewing, IsRouteLeft, IsYesRight, IsSewnProduct, SewingOrder, sewing_by_limit, sewing_read, IsSewnBy}
 use Rattle.drawing_text.specs.ValidTexts.{TextsDefineValidDrawings}
-use Rattle.format_traits.specs.declared.loaded.Loaded.{Loaded}
-use Rattle.drawing_model.specs.Drawings.{DrawingValue}
-use Rattle.line_graph.specs.PieceGraphs.{piece_graph}
-use Rattle.line_graph.specs.Runs.{Sews}
-use Rattle.outside_io.specs.Files.{Files}
-use Rattle.program_shell.specs.Plans.{Makes}
-use Rattle.program_shell.specs.Products.{AllFilesHold, ProductValue}
+use Rattle.program_shell.specs.Products.{AllFilesHold}
 use Rattle.program_shell.specs.Runs.{IsDone}
 use Rattle.program_shell.specs.RunViews.{Views}
-use Rattle.route_core.specs.Routes.{IsLeastPieceRoute}
 use Rattle.route_texts.specs.declared.sewing_reports.Sewing.TheVariants as ways
 use Rattle.route_verdict.specs.VerdictTheorems.{CorrectRoutesAreAccepted, YesIsLeastRedwork}
 use Rattle.route_verdict.specs.Verdicts.{IsCorrectPieceCert}
-use Rattle.stitch_cli.specs.Checks.{CheckOrder, check_cert, check_design, check_drawing}
-use Rattle.stitch_cli.specs.Commands.{Order, plan_of, stitch, checking, sewing}
-use Rattle.stitch_cli.specs.Headline.{IsRouteLeft, IsYesRight, OutcomesMeanHeadline}
-use Rattle.stitch_cli.specs.Sewings.{IsSewnProduct, SewingOrder, sewing_by_limit, sewing_read}
-use Rattle.stitch_cli.specs.SewingWays.{IsSewnBy}
+use Rattle.stitch_cli.specs.Headline.{OutcomesMeanHeadline}
 use Rattle.program_shell.proofs.CallerLemmas.{IsParsedMade, parsed_made}
 
 -- the certificate of a routed piece is correct

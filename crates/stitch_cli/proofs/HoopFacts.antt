@@ -1,10 +1,8 @@
 -- Worked values of the results of `hoop`.
 use Rattle.std.proofs.Common.{◌++◌, None, refl}
 use Rattle.std.specs.Prelude.{codes}
+use Rattle.stitch_cli.proofs.Names.{newline, hoop_fitted, Makes, Refuses}
 use Rattle.hoop_check.specs.declared.fitting.Fit.TheVariants as fit
-use Rattle.lists_and_numbers.specs.TextLines.{newline}
-use Rattle.stitch_cli.specs.Hoops.{hoop_fitted}
-use Rattle.program_shell.specs.Plans.{Makes, Refuses}
 use Rattle.program_shell.specs.Products.{report_product}
 use Rattle.program_texts.specs.DesignTexts.{too_large_text}
 

@@ -1,3 +1,4 @@
+pub mod Names
 mod ChangeLemmas
 mod CommandLemmas
 mod FormatLemmas

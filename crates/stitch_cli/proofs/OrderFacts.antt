@@ -1,10 +1,9 @@
 -- Worked values of complete requests.
 use Rattle.std.proofs.Common.{◌≡◌, ℕ, List, [], ◌∷◌, Some, None, refl}
 use Rattle.std.specs.Prelude.{codes}
-use Rattle.command_words.specs.Changes.{cut, split, turn}
-use Rattle.format_traits.specs.Meanings.{Meaning}
+use Rattle.stitch_cli.proofs.Names.{cut, split, turn, Meaning, outputs_of, checking, hooping, migrating, rewriting, sampling, sewing, showing, tracing}
 use Rattle.route_texts.specs.declared.sewing_reports.Sewing.TheVariants as ways
-use Rattle.stitch_cli.specs.Commands.{order_of, outputs_of, checking, hooping, migrating, rewriting, sampling, sewing, showing, tracing}
+use Rattle.stitch_cli.specs.Commands.{order_of}
 
 -- a format with another ending
 abbrev ending_as : Meaning → List ℕ → Meaning

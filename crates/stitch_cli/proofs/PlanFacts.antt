@@ -1,14 +1,9 @@
 -- Worked values of plans: the file that each step reads, and a step of a drawing at the limit and above it.
 use Rattle.std.proofs.Common.{ℕ, inl, [], None, Ok, codes, refl}
-use Rattle.format_traits.specs.declared.loaded.Loaded.{Loaded}
-use Rattle.format_traits.specs.Meanings.{Meaning}
-use Rattle.drawing_model.specs.Drawings.{DrawingValue}
+use Rattle.stitch_cli.proofs.Names.{Loaded, Meaning, DrawingValue, CheckOrder, check_design, check_drawing, check_plan, Refuses, Sewing, SewingOrder, IsSewnBy}
 use Rattle.program_texts.specs.DrawingTexts.{step_limit_text}
-use Rattle.stitch_cli.specs.Checks.{CheckOrder, check_design, check_drawing, check_plan}
-use Rattle.program_shell.specs.Plans.{AttemptsRead, IsAccepted, Refuses}
-use Rattle.route_texts.specs.declared.sewing_reports.Sewing.{Sewing}
-use Rattle.stitch_cli.specs.Sewings.{SewingOrder, sewing_drawing}
-use Rattle.stitch_cli.specs.SewingWays.{IsSewnBy}
+use Rattle.program_shell.specs.Plans.{AttemptsRead, IsAccepted}
+use Rattle.stitch_cli.specs.Sewings.{sewing_drawing}
 
 -- a check of three files
 abbrev checked : Meaning → CheckOrder

@@ -1,23 +1,11 @@
 -- What a product has, read of each record: its report, its verdict, what is sewn.
 use Rattle.std.proofs.Common.{◌≡◌, ℕ, List, Ok, Err, length, ap}
-use Rattle.design_model.specs.Designs.{DesignValue}
+use Rattle.stitch_cli.proofs.Names.{DesignValue, Meaning, DrawingValue, PieceCert, walks_of, ProductValue, Sewing, summary_text, IsCheckFailed, IsCheckPassed, IsMigrated, IsSampleProduct, SampleOrder, summary_of, IsSewnFile, IsSewnProduct, SewingOrder, SewnFiles, IsSewnBy}
 use Rattle.format_traits.specs.declared.fault.WriteFault.TheVariants as write
-use Rattle.format_traits.specs.Meanings.{Meaning}
-use Rattle.drawing_model.specs.Drawings.{DrawingValue}
 use Rattle.drawing_model.specs.GrowingDrawings.{step_count}
-use Rattle.odd_cuts.specs.declared.certificate.PieceCert.{PieceCert}
-use Rattle.odd_cuts.specs.Certificates.{walks_of}
-use Rattle.program_shell.specs.Products.{ProductValue}
 use Rattle.program_texts.specs.MigrationReports.{migrate_report}
-use Rattle.route_texts.specs.declared.sewing_reports.Sewing.{Sewing}
-use Rattle.route_texts.specs.Summaries.{summary_text}
 use Rattle.route_verdict.specs.declared.verdict.Verdict.TheVariants as verdict
 use Rattle.route_verdict.specs.Verdicts.{IsVerdict}
-use Rattle.stitch_cli.specs.Checks.{IsCheckFailed, IsCheckPassed}
-use Rattle.stitch_cli.specs.Migrations.{IsMigrated}
-use Rattle.stitch_cli.specs.Samples.{IsSampleProduct, SampleOrder, summary_of}
-use Rattle.stitch_cli.specs.Sewings.{IsSewnFile, IsSewnProduct, SewingOrder, SewnFiles}
-use Rattle.stitch_cli.specs.SewingWays.{IsSewnBy}
 
 -- the report of a migration has the numbers of lines and pieces, and the cost
 pub known_migrated_report : (output : List ℕ) (d : DrawingValue) (product : ProductValue) (is : IsMigrated output d product)

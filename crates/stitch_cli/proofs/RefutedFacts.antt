@@ -1,32 +1,17 @@
 -- What no command makes: each word of a product is refuted by a wrong one.
 use Rattle.std.proofs.Common.{◌≡◌, ◌++◌, ◌∷◌, [], ◌<◌, ℕ, pos, true, false, List, Ok, Err, codes, ap, length, refl, subst, arith}
-use Rattle.std.specs.List.{AllZip}
-use Rattle.certificate_text.specs.CertificateTexts.{certificate_text}
-use Rattle.certificate_text.specs.ReadCertificates.{cert_of}
+use Rattle.stitch_cli.proofs.Names.{AllZip, certificate_text, cert_of, acts_of, acts_without_numbers, DesignValue, newline, Meaning, DrawingValue, Sews, PieceCert, ProductValue, Sewing, sewing_report, PieceReport, IsCheckFailed, IsCheckPassed, IsMigrated, IsSampleProduct, SampleOrder, IsSewnFile, IsSewnProduct, SewingOrder, SewnFiles, IsSewnBy}
 use Rattle.design_model.specs.declared.command.Command.TheVariants as command
-use Rattle.design_model.specs.Acts.{acts_of, acts_without_numbers}
-use Rattle.design_model.specs.Designs.{DesignValue, empty_design}
-use Rattle.lists_and_numbers.specs.TextLines.{newline}
+use Rattle.design_model.specs.Designs.{empty_design}
 use Rattle.format_traits.specs.declared.fault.WriteFault.TheVariants as write
-use Rattle.format_traits.specs.Meanings.{Meaning}
-use Rattle.drawing_model.specs.Drawings.{DrawingValue}
 use Rattle.line_graph.specs.Pieces.{ArePieces}
-use Rattle.line_graph.specs.Runs.{Sews}
-use Rattle.odd_cuts.specs.declared.certificate.PieceCert.{PieceCert}
-use Rattle.program_shell.specs.Products.{OutputValue, ProductValue}
+use Rattle.program_shell.specs.Products.{OutputValue}
 use Rattle.route_core.specs.Doubles.{IsDoubled}
-use Rattle.route_texts.specs.declared.sewing_reports.Sewing.{Sewing}
 use Rattle.route_texts.specs.declared.sewing_reports.Sewing.TheVariants as ways
 use Rattle.route_texts.specs.Reasons.{reason_text}
-use Rattle.route_texts.specs.SewingReports.{piece_lines, sewing_report}
-use Rattle.route_texts.specs.declared.sewing_reports.PieceReport.{PieceReport}
+use Rattle.route_texts.specs.SewingReports.{piece_lines}
 use Rattle.route_verdict.specs.declared.verdict.Reason.{Reason}
 use Rattle.route_verdict.specs.declared.verdict.Reason.TheVariants as reason
-use Rattle.stitch_cli.specs.Checks.{IsCheckFailed, IsCheckPassed}
-use Rattle.stitch_cli.specs.Migrations.{IsMigrated}
-use Rattle.stitch_cli.specs.Samples.{IsSampleProduct, SampleOrder}
-use Rattle.stitch_cli.specs.Sewings.{IsSewnFile, IsSewnProduct, SewingOrder, SewnFiles}
-use Rattle.stitch_cli.specs.SewingWays.{IsSewnBy}
 
 -- a format that reads each file as that design
 abbrev reading : Meaning → DesignValue → Meaning

@@ -1,18 +1,12 @@
 -- The result of rewriting, from the results of its steps.
 use Rattle.std.proofs.Common.{◌≡◌, ℕ, Result, Ok, Err, refl, subst, sym}
-use Rattle.design_model.specs.Designs.{DesignValue}
-use Rattle.format_traits.specs.declared.loaded.Loaded.{Loaded}
-use Rattle.outside_io.specs.Views.{StoreView}
+use Rattle.stitch_cli.proofs.Names.{DesignValue, Loaded, StoreView, Failure, Product, RunsPurePlan, satisfies, IsRewriteResult, RewriteOrder, not_changed, not_written}
 use Rattle.design_changes.specs.declared.change_faults.ChangeFailure.{ChangeFailure}
 use Rattle.design_changes.specs.declared.change_faults.ChangeFailure.TheVariants as change_failure
-use Rattle.program_shell.specs.declared.failure.Failure.{Failure}
 use Rattle.program_shell.specs.declared.failure.Failure.TheVariants as failure
-use Rattle.program_shell.specs.declared.product.Product.{Product}
-use Rattle.program_shell.specs.StepOutcomes.{IsPlanResult, RunsPurePlan}
-use Rattle.program_shell.specs.Plans.{satisfies}
+use Rattle.program_shell.specs.StepOutcomes.{IsPlanResult}
 use Rattle.design_changes.specs.AppliedChanges.{IsChangesResult}
 use Rattle.stitch_cli.specs.RewriteSteps.{IsChangeFailure, IsEncodeResult}
-use Rattle.stitch_cli.specs.Rewrites.{IsRewriteResult, RewriteOrder, not_changed, not_written}
 
 -- a changed design is written, or can't be
 written_of : (order : RewriteOrder) (loaded : Loaded) (d : DesignValue)

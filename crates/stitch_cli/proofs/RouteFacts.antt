@@ -2,13 +2,8 @@
 use Rattle.std.proofs.Common.{◌≡◌, ℕ, pos, [], ◌∷◌, ◌++◌, refl}
 use Rattle.std.specs.Fmt.{digits}
 use Rattle.std.specs.Prelude.{codes}
-use Rattle.odd_cuts.specs.declared.certificate.PieceCert.{PieceCert}
-use Rattle.lists_and_numbers.specs.TextLines.{newline}
-use Rattle.design_model.specs.declared.point.Point.{Point}
-use Rattle.drawing_model.specs.Drawings.{DrawingValue}
-use Rattle.stitch_cli.specs.Sewings.{piece_reports}
+use Rattle.stitch_cli.proofs.Names.{PieceCert, newline, Point, DrawingValue, piece_reports, sewing_report}
 use Rattle.route_texts.specs.declared.sewing_reports.Sewing.TheVariants as ways
-use Rattle.route_texts.specs.SewingReports.{sewing_report}
 
 abbrev at : ℕ → ℕ → Point
 at x y = record { x = pos x; y = pos y }

@@ -2,12 +2,7 @@
 use Rattle.std.proofs.Common.{◌≡◌, ℤ, pos, negsuc, [], ◌∷◌, ◌++◌, refl}
 use Rattle.std.specs.Fmt.{digits}
 use Rattle.std.specs.Prelude.{codes}
-use Rattle.odd_cuts.specs.declared.certificate.PieceCert.{PieceCert}
-use Rattle.lists_and_numbers.specs.TextLines.{newline}
-use Rattle.design_model.specs.declared.point.Point.{Point}
-use Rattle.drawing_model.specs.Drawings.{DrawingValue}
-use Rattle.stitch_cli.specs.Samples.{summary_of}
-use Rattle.route_texts.specs.Summaries.{summary_text}
+use Rattle.stitch_cli.proofs.Names.{PieceCert, newline, Point, DrawingValue, summary_of, summary_text}
 
 abbrev at : ℤ → ℤ → Point
 at x y = record { x = x; y = y }

@@ -1,28 +1,12 @@
 -- What a sample makes, from what its steps make.
 use Rattle.std.proofs.Common.{◌≡◌, ℕ, ◌+◌, ◌*◌, List, [], ◌∷◌, length, All, refl, ap, ◌∙◌, arith}
-use Rattle.std.proofs.lemmas.List.Elements.{All-head, All-tail}
-use Rattle.std.proofs.lemmas.List.Sums.{sum_by-cons}
-use Rattle.std.specs.List.{AllZip}
-use Rattle.std.specs.Prelude.{sum_by}
-use Rattle.odd_cuts.specs.declared.certificate.PieceCert.{PieceCert}
+use Rattle.stitch_cli.proofs.Names.{All-head, All-tail, sum_by-cons, AllZip, sum_by, PieceCert, Piece, ArePiecesOf, graph_of, lines_of_pieces, DrawingValue, PieceValue, piece_graph, piece_cost, Routed, IsLeastPieceRoute, IsRouteOver, PieceReport, ProductValue, reports_from, piece_report, piece_reports, IsSampleProduct, SampleOrder, summary_of, penetrations_of, summary_text}
 use Rattle.odd_cuts.specs.Cuts.{total_weight}
 use Rattle.drawing_text.specs.CanonicalTexts.{canonical_text}
-use Rattle.line_graph.specs.declared.piece.Piece.{Piece}
-use Rattle.line_graph.specs.PiecesOfDrawings.{ArePiecesOf, graph_of, lines_of_pieces}
-use Rattle.drawing_model.specs.Drawings.{DrawingValue}
-use Rattle.line_graph.specs.PieceGraphs.{PieceValue, piece_graph}
-use Rattle.line_graph.specs.PieceWalks.{piece_cost}
-use Rattle.route_core.specs.declared.routed.Routed.{Routed}
-use Rattle.route_core.specs.Routes.{IsLeastPieceRoute, IsRouteOver}
-use Rattle.route_texts.specs.declared.sewing_reports.PieceReport.{PieceReport}
 use Rattle.route_texts.specs.declared.summary.Summary.{Summary}
-use Rattle.program_shell.specs.Products.{ProductValue, one_file_product}
-use Rattle.route_texts.specs.PieceReports.{reports_from, piece_report}
-use Rattle.stitch_cli.specs.Sewings.{piece_reports}
+use Rattle.program_shell.specs.Products.{one_file_product}
 use Rattle.route_texts.specs.PieceSums.{junctions_of_piece, odd_junctions_of_piece, sample_summary}
-use Rattle.stitch_cli.specs.Samples.{IsSampleProduct, SampleOrder, cut_sum, sum_over_pieces, retraced_sum, summary_of}
-use Rattle.route_texts.specs.SewingReports.{penetrations_of}
-use Rattle.route_texts.specs.Summaries.{summary_text}
+use Rattle.stitch_cli.specs.Samples.{cut_sum, sum_over_pieces, retraced_sum}
 use Rattle.stitch_cli.proofs.SewingLemmas.{reports_are}
 
 -- a sum over pieces that are cut from a drawing is one over their lines

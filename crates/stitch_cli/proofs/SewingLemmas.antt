@@ -1,32 +1,13 @@
 -- What sewing a drawing makes, from what its steps make.
 use Rattle.std.proofs.Common.{◌≡◌, ℕ, ◌+◌, ◌<◌, ◌≤◌, ◌^◌, List, [], ◌∷◌, length, All, refl, sym, ap, subst, ◌∙◌, arith}
-use Rattle.std.proofs.lemmas.List.Elements.{All-head, All-tail}
-use Rattle.std.proofs.lemmas.List.Sums.{sum_by-cons}
-use Rattle.std.specs.List.{AllZip}
-use Rattle.std.specs.Prelude.{Err, IfOk, Ok, Result, sum_by}
-use Rattle.odd_cuts.specs.declared.certificate.PieceCert.{PieceCert}
-use Rattle.odd_cuts.specs.Certificates.{walks_of}
-use Rattle.certificate_text.specs.CertificateTexts.{certificate_text}
-use Rattle.certificate_text.specs.ReadCertificates.{cert_of}
-use Rattle.format_traits.specs.PlainDesigns.{IsPlain}
-use Rattle.line_graph.specs.declared.piece.Piece.{Piece}
-use Rattle.line_graph.specs.PiecesOfDrawings.{ArePiecesOf, graph_of, lines_of_pieces}
-use Rattle.drawing_model.specs.Drawings.{DrawingValue}
-use Rattle.line_graph.specs.PieceGraphs.{PieceValue, piece_graph}
-use Rattle.line_graph.specs.PieceWalks.{piece_cost}
-use Rattle.line_graph.specs.Runs.{Run, block_of_passes, runs_of}
+use Rattle.std.specs.Prelude.{Err, IfOk, Ok, Result}
+use Rattle.stitch_cli.proofs.Names.{All-head, All-tail, sum_by-cons, AllZip, sum_by, PieceCert, walks_of, certificate_text, cert_of, IsPlain, Piece, ArePiecesOf, graph_of, lines_of_pieces, DrawingValue, PieceValue, piece_graph, piece_cost, Run, runs_of, ProductValue, Routed, IsRouteOver, PieceReport, Sewing, reports_from, piece_report, penetrations_of, sewing_report, IsSewnProduct, IsSewnFile, SewingOrder, piece_reports, IsSewnBy}
+use Rattle.line_graph.specs.Runs.{block_of_passes}
 use Rattle.line_graph.specs.Walks.{needles_of_walk}
-use Rattle.program_shell.specs.Products.{ProductValue, two_file_product}
-use Rattle.route_core.specs.declared.routed.Routed.{Routed}
+use Rattle.program_shell.specs.Products.{two_file_product}
 use Rattle.route_core.specs.Doubles.{IsDoubleOver}
-use Rattle.route_core.specs.Routes.{IsRouteOver}
-use Rattle.route_texts.specs.declared.sewing_reports.PieceReport.{PieceReport}
-use Rattle.route_texts.specs.declared.sewing_reports.Sewing.{Sewing}
 use Rattle.route_texts.specs.declared.sewing_reports.Sewing.TheVariants as ways
-use Rattle.route_texts.specs.PieceReports.{reports_from, piece_report}
-use Rattle.route_texts.specs.SewingReports.{penetrations_of, sewing_report}
-use Rattle.stitch_cli.specs.Sewings.{IsSewnProduct, IsSewnFile, SewingOrder, piece_reports}
-use Rattle.stitch_cli.specs.SewingWays.{IsPieceSewn, IsSewnBy, IsSewnOver}
+use Rattle.stitch_cli.specs.SewingWays.{IsPieceSewn, IsSewnOver}
 use Rattle.stitch_cli.proofs.SewnDesigns.{runs_are_plain}
 use Rattle.line_graph.proofs.CallerLemmas.{length_of_lists}
 

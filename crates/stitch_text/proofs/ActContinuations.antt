@@ -1,38 +1,16 @@
 -- The lines of acts that are read are the lines of a design that goes on from what was read before.
-use Rattle.std.proofs.lemmas.Int.{ints}
 use Rattle.std.proofs.Common.{◌≡◌, ℕ, ◌+◌, ◌<◌, ◌≤◌, ◌%◌, Bool, true, false, IsTrue, List, [], ◌∷◌, ◌++◌, Option, Some, None, Err, codes, decimal, length, length-append, nat_lt, slice_get, unwrap_or, if◌then◌else◌, refl, ap, sym, ◌∙◌, subst, append-nil, append_assoc, arith}
-use Rattle.std.proofs.lemmas.Bool.{and_from}
-use Rattle.std.proofs.lemmas.Bool.Decides.{nat_tests}
-use Rattle.std.proofs.lemmas.List.Folds.{list_all-append}
-use Rattle.std.specs.List.{join_with_byte, list_all}
-use Rattle.design_model.specs.declared.act.Act.{Act}
+use Rattle.stitch_text.proofs.Names.{ints, and_from, nat_tests, list_all-append, join_with_byte, list_all, Act, Command, MAX_COMMANDS, NEEDLE_LIMIT, is_act_in_range, leaves_thread_loose, needle_position_after, acts_from, numbered, DesignValue, thread_of, is_point_within, ReadFault, EncoderState, refusal_before_room, is_above_max, refusal_of_act, first_refusal_from, refusal_if, encoder_state_after, stops_in, ListDraft, ListLine, LIMIT, parsed_list_line, fault_of_act, list_commands_of, draft_with_checked_act, unless_fault, with_act, with_block_thread, ParsedList, parsed_acts, ended_list, continued_with, parsed_end_or_line, refused_list, act_line, act_lines, list_block_line, list_write_limits, is_told, not_refused, or_else_none}
 use Rattle.design_model.specs.declared.act.Act.TheVariants as act
-use Rattle.design_model.specs.declared.command.Command.{Command}
-use Rattle.design_model.specs.declared.design.TheConstants.{MAX_COMMANDS}
-use Rattle.design_model.specs.declared.point.TheConstants.{NEEDLE_LIMIT}
-use Rattle.design_model.specs.ActPositions.{is_act_in_range, leaves_thread_loose, needle_position_after}
-use Rattle.design_model.specs.Acts.{acts_from, numbered}
 use Rattle.design_model.specs.Commands.{is_command_in_range}
-use Rattle.design_model.specs.Designs.{DesignValue, thread_of}
-use Rattle.design_model.specs.Points.{is_point_within}
-use Rattle.format_traits.specs.declared.fault.ReadFault.{ReadFault}
 use Rattle.format_traits.specs.declared.fault.ReadFault.TheVariants as read
 use Rattle.format_traits.specs.declared.fault.WriteFault.TheVariants as fault
-use Rattle.format_traits.specs.declared.encoder_state.EncoderState.{EncoderState}
-use Rattle.format_traits.specs.Refusals.{refusal_before_room, is_above_max, refusal_of_act, first_refusal_from, refusal_if, encoder_state_after, stops_in}
 use Rattle.format_traits.specs.Rooms.{room_of_act}
-use Rattle.stitch_text.specs.declared.list_draft.ListDraft.{ListDraft}
-use Rattle.stitch_text.specs.declared.list_line.ListLine.{ListLine}
 use Rattle.stitch_text.specs.declared.list_line.ListLine.TheVariants as line
-use Rattle.stitch_text.specs.declared.stitch_list.TheConstants.{LIMIT}
 use Rattle.stitch_text.specs.Drafts.{IsSoundDraftLacking}
-use Rattle.stitch_text.specs.ListLines.{parsed_list_line}
-use Rattle.stitch_text.specs.Judging.{fault_of_act, list_commands_of, draft_with_checked_act, unless_fault, with_act, with_block_thread}
-use Rattle.stitch_text.specs.Readings.{ParsedList, parsed_acts, ended_list, continued_with, parsed_end_or_line, refused_list}
-use Rattle.stitch_text.specs.StitchLists.{act_line, act_lines, list_block_line, list_write_limits}
 use Rattle.stitch_text.proofs.ActLemmas.{no_refusal}
 use Rattle.stitch_text.proofs.LineLemmas.{line_is}
-use Rattle.format_traits.proofs.CallerLemmas.{is_told, not_refused, or_else_both, or_else_none}
+use Rattle.format_traits.proofs.CallerLemmas.{or_else_both}
 
 -- an act has no more commands than room
 few_commands : (s : EncoderState) (a : Act) → IsTrue (is_told s.loose a) → length (list_commands_of a) ≤ room_of_act LIMIT s.loose s.place a

@@ -1,18 +1,8 @@
 -- Floats are never refused.
-use Rattle.std.proofs.lemmas.Bool.Decides.{nat_tests}
-use Rattle.std.proofs.lemmas.Int.{ints}
 use Rattle.std.proofs.Common.{◌≡◌, ℕ, Bool, true, false, List, [], ◌∷◌, Option, None, Some, Err, nat_lt, refl, arith}
-use Rattle.design_model.specs.declared.act.Act.{Act}
-use Rattle.design_model.specs.declared.act.NumberedAct.{NumberedAct}
-use Rattle.design_model.specs.declared.design.TheConstants.{MAX_COMMANDS}
-use Rattle.design_model.specs.Acts.{acts_of}
-use Rattle.format_traits.specs.declared.fault.WriteFault.{WriteFault}
+use Rattle.stitch_text.proofs.Names.{nat_tests, ints, Act, NumberedAct, MAX_COMMANDS, acts_of, WriteFault, EncoderState, initial_encoder_state, first_refusal, refusal_before_room, refusal_of_act, first_refusal_from, refusal_if, encoder_state_after, unless_refused, LIMIT, NoFloatIsTooLong, list_of, list_write_limits}
 use Rattle.format_traits.specs.declared.fault.WriteFault.TheVariants as fault
-use Rattle.format_traits.specs.declared.encoder_state.EncoderState.{EncoderState}
-use Rattle.format_traits.specs.Refusals.{initial_encoder_state, first_refusal, or_else, refusal_before_room, refusal_of_act, first_refusal_from, refusal_if, encoder_state_after, unless_refused}
-use Rattle.stitch_text.specs.declared.stitch_list.TheConstants.{LIMIT}
-use Rattle.stitch_text.specs.Laws.{NoFloatIsTooLong}
-use Rattle.stitch_text.specs.StitchLists.{list_of, list_write_limits}
+use Rattle.format_traits.specs.Refusals.{or_else}
 
 -- the refusal is not that of a float
 abbrev is_other : Option WriteFault → Bool

@@ -1,16 +1,8 @@
 -- What keeps label and threads, and what does not.
 use Rattle.std.proofs.Common.{◌≡◌, ℕ, ◌<◌, ◌≤◌, true, List, [], ◌∷◌, All, Result, Ok, Err, IsOk, IsOkAnd, codes, refl, arith, subst, sym}
 use Rattle.std.proofs.lemmas.List.Elements.{All-cons, All-nil}
-use Rattle.design_model.specs.declared.command.Command.TheVariants.{Stitch, Stop}
-use Rattle.design_model.specs.Designs.{DesignValue, KeepsLimits}
-use Rattle.design_model.specs.Points.{origin}
-use Rattle.format_traits.specs.declared.fault.ReadFault.{ReadFault}
+use Rattle.stitch_text.proofs.Names.{Stitch, Stop, DesignValue, KeepsLimits, origin, ReadFault, Loaded, list_meaning, HasLabelAndThreads, IsTextOf, LabelAndThreadsRoundTrip, NoFloatIsTooLong, ReadsAsWritten, ReadsWhereWritten, list_reads, list_writes}
 use Rattle.format_traits.specs.declared.fault.WriteFault.TheVariants as fault
-use Rattle.format_traits.specs.declared.loaded.Loaded.{Loaded}
-use Rattle.stitch_text.specs.Format.{list_meaning}
-use Rattle.stitch_text.specs.Laws.{HasLabelAndThreads, IsTextOf, LabelAndThreadsRoundTrip, NoFloatIsTooLong, ReadsAsWritten, ReadsWhereWritten}
-use Rattle.stitch_text.specs.Readings.{list_reads}
-use Rattle.stitch_text.specs.StitchLists.{list_writes}
 
 -- the two numbers are not the same
 abbrev Differ : ℕ → ℕ → Type 0

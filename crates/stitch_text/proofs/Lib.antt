@@ -1,3 +1,4 @@
+pub mod Names
 pub mod WriterLemmas
 mod PartLemmas
 mod ReadingLemmas

@@ -1,10 +1,7 @@
 -- Worked values of lines.
 use Rattle.std.proofs.Common.{◌≡◌, ℤ, pos, negsuc, Bool, true, false, [], ◌∷◌, ◌++◌, Option, None, Some, codes, refl}
-use Rattle.stitch_text.specs.declared.list_line.ListLine.{ListLine}
+use Rattle.stitch_text.proofs.Names.{ListLine, MAX_LINE, parsed_label, parsed_list_line, is_valid_label}
 use Rattle.stitch_text.specs.declared.list_line.ListLine.TheVariants as line
-use Rattle.stitch_text.specs.declared.list_line.TheConstants.{MAX_LINE}
-use Rattle.stitch_text.specs.ListLines.{parsed_label, parsed_list_line}
-use Rattle.stitch_text.specs.Words.{is_valid_label}
 
 pub known_longest_line : MAX_LINE ≡ 32
 known_longest_line = refl

@@ -1,17 +1,10 @@
 -- Worked values of writing.
 use Rattle.std.proofs.Common.{◌≡◌, ℕ, ℤ, pos, negsuc, true, List, [], ◌∷◌, ◌++◌, Ok, Err, Some, None, codes, refl}
 use Rattle.std.specs.Fmt.{digits}
+use Rattle.stitch_text.proofs.Names.{Command, Stitch, Jump, Trim, Stop, Point, numbered, DesignValue, EncoderState, refusal_of_act, LIMIT, list_write_limits, list_writes}
 use Rattle.design_model.specs.declared.act.Act.TheVariants as act
-use Rattle.design_model.specs.declared.command.Command.{Command}
-use Rattle.design_model.specs.declared.command.Command.TheVariants.{Stitch, Jump, Trim, Stop}
-use Rattle.design_model.specs.declared.point.Point.{Point}
-use Rattle.design_model.specs.Acts.{numbered}
-use Rattle.design_model.specs.Designs.{DesignValue}
 use Rattle.format_traits.specs.declared.fault.WriteFault.TheVariants as fault
-use Rattle.format_traits.specs.declared.encoder_state.EncoderState.{EncoderState}
-use Rattle.format_traits.specs.Refusals.{refusal_of_act}
-use Rattle.stitch_text.specs.declared.stitch_list.TheConstants.{LIMIT, MAX_STOPS}
-use Rattle.stitch_text.specs.StitchLists.{list_write_limits, list_writes}
+use Rattle.stitch_text.specs.declared.stitch_list.TheConstants.{MAX_STOPS}
 
 abbrev pub point : ℤ → ℤ → Point
 point x y = record { x = x; y = y }

@@ -1,16 +1,11 @@
 -- The results of the bytes of a list that are taken line by line.
-use Rattle.std.proofs.lemmas.Bool.Decides.{nat_tests}
 use Rattle.std.proofs.Common.{◌≡◌, ◌≢◌, ℕ, ◌+◌, ◌-◌, ◌<◌, ◌≤◌, List, [], ◌∷◌, ◌++◌, length, drop, refl, ap, sym, ◌∙◌, arith}
-use Rattle.std.proofs.lemmas.List.{drop-drop, drop_all, length-drop}
-use Rattle.format_traits.specs.DecoderStates.{ContinuesAs, DecodedSoFar, DecoderState, TakesBytes}
-use Rattle.stitch_text.specs.declared.list_draft.ListDraft.{ListDraft}
-use Rattle.stitch_text.specs.declared.list_stage.ListStage.{ListStage}
-use Rattle.stitch_text.specs.ListStages.{TakesLine, TakesLines, stage_after_long_line, max_waiting_in, parsed_parts, list_so_far_at, list_state_at}
-use Rattle.stitch_text.specs.Readings.{ParsedList, loaded_of_parsed}
-use Rattle.text_parts.specs.Parts.{parts_between}
+use Rattle.std.proofs.lemmas.List.{length-drop}
+use Rattle.stitch_text.proofs.Names.{nat_tests, drop-drop, drop_all, ContinuesAs, ListDraft, ListStage, stage_after_long_line, max_waiting_in, parsed_parts, list_state_at, ParsedList, loaded_of_parsed, parts_between, some_part}
+use Rattle.format_traits.specs.DecoderStates.{DecodedSoFar, DecoderState, TakesBytes}
+use Rattle.stitch_text.specs.ListStages.{TakesLine, TakesLines, list_so_far_at}
 use Rattle.stitch_text.proofs.PartLemmas.{open_part, parts_on}
 use Rattle.stitch_text.proofs.StageLemmas.{goes_beyond}
-use Rattle.text_parts.proofs.CallerLemmas.{some_part}
 
 -- a line that has ended is taken
 pub line_on : (old : DecoderState) (draft new : ListDraft) (was now : ListStage) (start at there : ℕ) (whole rest line after : List ℕ)

@@ -1,10 +1,7 @@
 -- The parts of bytes between marks, taken one after another.
-use Rattle.std.proofs.lemmas.Bool.Decides.{nat_tests}
-use Rattle.std.proofs.lemmas.Int.{ints}
 use Rattle.std.proofs.Common.{◌≡◌, ◌≢◌, ℕ, Bool, cond, List, [], ◌∷◌, ◌++◌, ap, ◌∙◌, arith}
 use Rattle.std.specs.List.{onto_first}
-use Rattle.text_parts.specs.Parts.{parts_between}
-use Rattle.text_parts.proofs.CallerLemmas.{some_part}
+use Rattle.stitch_text.proofs.Names.{nat_tests, ints, parts_between, some_part}
 
 -- the last part goes on
 abbrev pub onto_part : List ℕ → List (List ℕ) → List (List ℕ)

@@ -1,15 +1,9 @@
 -- Worked values of reading.
 use Rattle.std.proofs.Common.{◌≡◌, ℕ, ℤ, pos, negsuc, Bool, true, false, List, [], ◌∷◌, ◌++◌, None, Some, Result, Ok, Err, codes, refl}
+use Rattle.stitch_text.proofs.Names.{Command, Stitch, Jump, Trim, Stop, Point, ReadFault, Loaded, EncoderState, fault_of_act, list_reads}
 use Rattle.design_model.specs.declared.act.Act.TheVariants as act
-use Rattle.design_model.specs.declared.command.Command.{Command}
-use Rattle.design_model.specs.declared.command.Command.TheVariants.{Stitch, Jump, Trim, Stop}
-use Rattle.design_model.specs.declared.point.Point.{Point}
-use Rattle.format_traits.specs.declared.fault.ReadFault.{ReadFault}
 use Rattle.format_traits.specs.declared.fault.ReadFault.TheVariants as fault
-use Rattle.format_traits.specs.declared.loaded.Loaded.{Loaded}
-use Rattle.format_traits.specs.declared.encoder_state.EncoderState.{EncoderState}
-use Rattle.stitch_text.specs.Judging.{fault_of_act}
-use Rattle.stitch_text.specs.Readings.{list_moves, list_reads, list_shown}
+use Rattle.stitch_text.specs.Readings.{list_moves, list_shown}
 
 abbrev pub point : ℤ → ℤ → Point
 point x y = record { x = x; y = y }

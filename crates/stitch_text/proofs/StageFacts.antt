@@ -1,15 +1,9 @@
 -- Worked values of what is still to come of a list.
 use Rattle.std.proofs.Common.{◌≡◌, pos, true, false, List, [], ◌∷◌, Option, None, Some, codes, refl}
-use Rattle.design_model.specs.declared.command.Command.{Command}
-use Rattle.design_model.specs.declared.command.Command.TheVariants.{Stitch, Trim}
-use Rattle.design_model.specs.declared.point.Point.{Point}
-use Rattle.design_model.specs.Designs.{DesignValue}
-use Rattle.format_traits.specs.declared.fault.ReadFault.{ReadFault}
+use Rattle.stitch_text.proofs.Names.{Command, Stitch, Trim, Point, DesignValue, ReadFault, ListDraft, stage_after_long_line, fault_at_end, max_waiting_in, parsed_parts, ParsedList}
 use Rattle.format_traits.specs.declared.fault.ReadFault.TheVariants as fault
-use Rattle.stitch_text.specs.declared.list_draft.ListDraft.{ListDraft}
 use Rattle.stitch_text.specs.declared.list_stage.ListStage.TheVariants as stage
-use Rattle.stitch_text.specs.ListStages.{stage_after_long_line, blank_draft, fault_at_end, is_at_acts, is_before_acts, max_waiting_in, parsed_parts}
-use Rattle.stitch_text.specs.Readings.{ParsedList}
+use Rattle.stitch_text.specs.ListStages.{blank_draft, is_at_acts, is_before_acts}
 
 abbrev pub place : Point
 place = record { x = pos 3; y = pos 4 }

@@ -1,13 +1,8 @@
 -- The lines of acts, act by act.
-use Rattle.std.proofs.lemmas.Bool.Decides.{nat_tests}
 use Rattle.std.proofs.Common.{◌≡◌, ℕ, List, [], ◌∷◌, ◌++◌, refl, arith, codes}
 use Rattle.std.proofs.lemmas.List.{append_assoc}
-use Rattle.design_model.specs.declared.act.NumberedAct.{NumberedAct}
-use Rattle.format_traits.specs.declared.encoder_state.EncoderState.{EncoderState}
+use Rattle.stitch_text.proofs.Names.{nat_tests, NumberedAct, EncoderState, encoder_state_after, initial_encoder_state, LIMIT, act_line, act_lines}
 use Rattle.format_traits.specs.ActWriting.{bytes_of_acts_from}
-use Rattle.format_traits.specs.Refusals.{encoder_state_after, initial_encoder_state}
-use Rattle.stitch_text.specs.declared.stitch_list.TheConstants.{LIMIT}
-use Rattle.stitch_text.specs.StitchLists.{act_line, act_lines}
 
 -- the lines of acts and the last line
 joined : (thread : ℕ → ℕ) (before : EncoderState) (acts : List NumberedAct)

@@ -1,31 +1,9 @@
 -- The strands of a design that sews a link make a drawing, or exceed one of its counts.
 use Rattle.std.proofs.Common.{◌≡◌, ℕ, ◌+◌, ◌==◌, ◌≤◌, max, Bool, true, false, cond, List, [], ◌∷◌, ◌++◌, length, Option, Some, None, Result, Ok, Err, ap, sym, subst, ◌∙◌, refl, append_assoc, arith}
-use Rattle.std.proofs.Math.Nat.{le-max_right}
-use Rattle.std.proofs.Math.Path.{ap₂}
-use Rattle.std.proofs.lemmas.Bool.Decides.{nat_tests}
-use Rattle.std.specs.List.{list_all}
-use Rattle.design_model.specs.declared.act.Act.{Act}
+use Rattle.stitch_trace.proofs.Names.{le-max_right, ap₂, nat_tests, list_all, Act, NumberedAct, Point, is_stop, needle_point, act_point, is_bare_stop, acts_of, blocks_of, with_act_in_first_block, DesignValue, thread_of, DrawKind, DrawingValue, and_then, empty_drawing, finished_drawing, is_last_empty, joined_drawing, Link, NeedleMove, Stay, Gap, Sewn, Strand, TraceFault, chains_of, has_links, is_sewn, new_links_of, IsCountLimit, first_too_long, link_size, links_in, longest, move_to_act, needle_moves_of, needle_moves_from, drawing_with_strands, label_first_word, with_limit_fault, and_then_trace, trace_step, step_or_fault, strand_of, strands_added, strands_from, strands_of}
 use Rattle.design_model.specs.declared.act.Act.TheVariants as act
-use Rattle.design_model.specs.declared.act.NumberedAct.{NumberedAct}
-use Rattle.design_model.specs.declared.point.Point.{Point}
-use Rattle.design_model.specs.ActKinds.{is_stop, needle_point, act_point, is_bare_stop}
-use Rattle.design_model.specs.Acts.{acts_of}
-use Rattle.design_model.specs.Blocks.{blocks_of, with_act_in_first_block}
-use Rattle.design_model.specs.Designs.{DesignValue, thread_of}
-use Rattle.drawing_model.specs.declared.draw_kind.DrawKind.{DrawKind}
-use Rattle.drawing_model.specs.Drawings.{DrawingValue}
-use Rattle.drawing_model.specs.GrowingDrawings.{and_then, empty_drawing, finished_drawing, is_last_empty}
-use Rattle.drawing_model.specs.JoinedDrawings.{joined_drawing}
-use Rattle.stitch_trace.specs.declared.links.Link.{Link}
-use Rattle.stitch_trace.specs.declared.needle_moves.NeedleMove.{NeedleMove}
-use Rattle.stitch_trace.specs.declared.needle_moves.NeedleMove.TheVariants.{Stay, Gap, Sewn}
-use Rattle.stitch_trace.specs.declared.strands.Strand.{Strand}
-use Rattle.stitch_trace.specs.declared.trace_fault.TraceFault.{TraceFault}
 use Rattle.stitch_trace.specs.declared.trace_fault.TraceFault.TheVariants as fault
-use Rattle.stitch_trace.specs.Chains.{chains_of, has_links, is_sewn, new_links_of}
-use Rattle.stitch_trace.specs.TraceTheorems.{CountsAreLimits, IsCountLimit}
-use Rattle.stitch_trace.specs.Links.{first_too_long, link_size, links_in, longest, move_to_act, needle_moves_of, needle_moves_from}
-use Rattle.stitch_trace.specs.Traces.{drawing_with_strands, label_first_word, with_limit_fault, and_then_trace, trace_step, step_or_fault, strand_of, strands_added, strands_from, strands_of}
+use Rattle.stitch_trace.specs.TraceTheorems.{CountsAreLimits}
 use Rattle.stitch_trace.proofs.DistinctLemmas.{distinct_links}
 use Rattle.stitch_trace.proofs.DrawnLemmas.{ok_same}
 use Rattle.stitch_trace.proofs.FitLemmas.{AllFit, BlockSteps, acts_in_range, block_fits, each_block_steps, moves_are_steps}

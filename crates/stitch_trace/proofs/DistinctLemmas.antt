@@ -1,18 +1,10 @@
 -- The new links of a block are its distinct links.
 use Rattle.std.proofs.Common.{arith}
-use Rattle.std.proofs.lemmas.Bool.Decides.{nat_tests}
 use Rattle.std.proofs.Common.{◌≡◌, Bool, true, false, ◌||◌, cond, List, [], ◌∷◌, subst, refl, inl, inr}
-use Rattle.std.proofs.Math.Path.{ap₂}
-use Rattle.std.proofs.lemmas.Bool.{and_parts, or_cases, or_left, or_parts, or_right}
-use Rattle.std.specs.List.{list_all, list_any}
-use Rattle.design_model.specs.Points.{is_same_point}
-use Rattle.stitch_trace.specs.declared.links.Link.{Link}
-use Rattle.stitch_trace.specs.declared.needle_moves.NeedleMove.{NeedleMove}
-use Rattle.stitch_trace.specs.declared.needle_moves.NeedleMove.TheVariants.{Stay, Gap, Sewn}
-use Rattle.stitch_trace.specs.Chains.{is_sewn, new_moves}
-use Rattle.stitch_trace.specs.TraceTheorems.{NewLinksAreDistinct, are_distinct}
-use Rattle.stitch_trace.specs.Links.{is_same_directed_link, is_same_link, links_in, needle_moves_of, reversed_link}
-use Rattle.design_model.proofs.CallerLemmas.{point_itself, same_is}
+use Rattle.std.proofs.lemmas.Bool.{or_cases, or_left, or_right}
+use Rattle.stitch_trace.proofs.Names.{nat_tests, ap₂, and_parts, or_parts, list_all, list_any, is_same_point, Link, NeedleMove, Stay, Gap, Sewn, is_sewn, new_moves, are_distinct, is_same_directed_link, is_same_link, links_in, needle_moves_of, reversed_link, same_is}
+use Rattle.stitch_trace.specs.TraceTheorems.{NewLinksAreDistinct}
+use Rattle.design_model.proofs.CallerLemmas.{point_itself}
 
 -- a link has its own ends
 ends_found : (a : Link) → is_same_directed_link a a ≡ true

@@ -1,28 +1,10 @@
 -- A drawing that strands are added to has their links, and so have its sections.
-use Rattle.std.proofs.lemmas.Bool.Decides.{nat_tests}
 use Rattle.std.proofs.Common.{◌≡◌, ℕ, ◌+◌, ◌-◌, ◌==◌, Bool, true, false, not, cond, nat_lt, List, [], ◌∷◌, ◌++◌, length, map, flat_map, Result, Ok, Err, ap, sym, subst, ◌∙◌, refl, append_assoc, append-nil, length-append, arith}
-use Rattle.std.proofs.Math.Path.{ap₂}
-use Rattle.std.proofs.lemmas.Grind.{flat_map-append}
-use Rattle.std.proofs.lemmas.List.{map-append}
-use Rattle.design_model.specs.declared.act.NumberedAct.{NumberedAct}
-use Rattle.design_model.specs.declared.point.Point.{Point}
-use Rattle.design_model.specs.Acts.{acts_of}
-use Rattle.design_model.specs.Blocks.{blocks_of}
-use Rattle.design_model.specs.Designs.{DesignValue, thread_of}
-use Rattle.line_sections.specs.Lines.{LineValue}
-use Rattle.line_sections.specs.Sections.{SectionsKeepSegments, all_sections, is_shared_point, line_sections, lines_through, sections_of, segments_of}
-use Rattle.drawing_model.specs.declared.draw_kind.DrawKind.{DrawKind}
+use Rattle.stitch_trace.proofs.Names.{nat_tests, ap₂, flat_map-append, map-append, NumberedAct, Point, acts_of, blocks_of, DesignValue, thread_of, LineValue, SectionsKeepSegments, DrawKind, DrawingValue, and_then, all_in_needle_range, block_added, empty_drawing, finished_drawing, is_last_empty, line_added, point_count, with_new_block, with_new_line, joined_drawing, Link, Strand, TraceFault, chains_of, has_links, new_links_of, BlockLink, drawn_block_count, drawn_links, in_block, link_between, links_along, sewn_links, needle_moves_of, chains_added, drawing_with_strands, label_first_word, with_limit_fault, and_then_trace, trace_step, strand_added, strand_of, strands_added, strands_from, strands_of}
+use Rattle.line_sections.specs.Sections.{all_sections, is_shared_point, line_sections, lines_through, sections_of, segments_of}
 use Rattle.drawing_model.specs.declared.draw_kind.DrawKind.TheVariants as kind
-use Rattle.drawing_model.specs.Drawings.{DrawingValue}
-use Rattle.drawing_model.specs.GrowingDrawings.{and_then, all_in_needle_range, block_added, empty_drawing, finished_drawing, is_last_empty, line_added, point_count, steps_with_line, with_new_block, with_new_line}
-use Rattle.drawing_model.specs.JoinedDrawings.{joined_drawing}
-use Rattle.stitch_trace.specs.declared.links.Link.{Link}
-use Rattle.stitch_trace.specs.declared.strands.Strand.{Strand}
-use Rattle.stitch_trace.specs.declared.trace_fault.TraceFault.{TraceFault}
-use Rattle.stitch_trace.specs.Chains.{chains_of, has_links, new_links_of}
-use Rattle.stitch_trace.specs.TraceTheorems.{BlockLink, LinksAreDrawn, drawn_block_count, drawn_links, in_block, link_between, links_along, sewn_links}
-use Rattle.stitch_trace.specs.Links.{needle_moves_of}
-use Rattle.stitch_trace.specs.Traces.{chains_added, drawing_with_strands, label_first_word, with_limit_fault, and_then_trace, trace_step, strand_added, strand_of, strands_added, strands_from, strands_of}
+use Rattle.drawing_model.specs.GrowingDrawings.{steps_with_line}
+use Rattle.stitch_trace.specs.TraceTheorems.{LinksAreDrawn}
 use Rattle.stitch_trace.proofs.LinkedLemmas.{chains_links, chains_where_links, has_chains}
 
 -- what is Ok is one thing, and no Err

@@ -1,38 +1,17 @@
 -- The chains of a design can be lines of a drawing whose step is its greatest link.
-use Rattle.std.proofs.lemmas.Bool.Decides.{nat_tests}
 use Rattle.std.proofs.Common.{◌≡◌, ℕ, ◌+◌, ◌/◌, ◌%◌, ◌≤◌, min, Bool, true, false, cond, List, [], ◌∷◌, ◌++◌, length, Option, Some, None, sym, subst, ◌∙◌, refl, arith, length-append}
-use Rattle.std.proofs.Math.Nat.{le-max_right, mul-le-mul_right}
-use Rattle.std.proofs.lemmas.Bool.{and_parts, or_parts}
-use Rattle.std.proofs.lemmas.Grind.{div_ceil_times}
-use Rattle.std.proofs.lemmas.List.Folds.{list_all-append}
-use Rattle.std.specs.List.{list_all}
-use Rattle.design_model.specs.declared.act.Act.{Act}
+use Rattle.stitch_trace.proofs.Names.{nat_tests, le-max_right, mul-le-mul_right, and_parts, or_parts, div_ceil_times, list_all-append, list_all, Act, NumberedAct, Command, Point, is_stop, needle_point, act_point, is_bare_stop, blocks_of, with_act_in_first_block, is_same_point, last_point, all_in_needle_range, steps_of_line, last_point_or, steps_of, Link, NeedleMove, Stay, Gap, Sewn, chains_of, new_moves, new_moves_of, link_size, links_in, move_to_act, needle_moves_of, needle_moves_from, chain_if_any, chains_after, extended_chain, some_same}
 use Rattle.design_model.specs.declared.act.Act.TheVariants as act
-use Rattle.design_model.specs.declared.act.NumberedAct.{NumberedAct}
-use Rattle.design_model.specs.declared.command.Command.{Command}
 use Rattle.design_model.specs.declared.command.Command.TheVariants.{Stitch, Jump, Trim, Stop}
-use Rattle.design_model.specs.declared.point.Point.{Point}
-use Rattle.design_model.specs.ActKinds.{is_stop, needle_point, act_point, is_bare_stop}
 use Rattle.design_model.specs.ActPositions.{is_act_in_range}
 use Rattle.design_model.specs.Acts.{acts_from}
-use Rattle.design_model.specs.Blocks.{blocks_of, with_act_in_first_block}
 use Rattle.design_model.specs.Commands.{is_command_in_range}
-use Rattle.design_model.specs.Points.{is_same_point, is_point_within}
-use Rattle.drawing_model.specs.Drawings.{last_point}
-use Rattle.drawing_model.specs.GrowingDrawings.{all_in_needle_range, has_repeated_point, repeats_after}
-use Rattle.drawing_model.specs.Needles.{steps_of_line, segment_steps}
-use Rattle.step_splitter.specs.Chains.{last_point_or}
-use Rattle.step_splitter.specs.Steps.{steps_of}
-use Rattle.stitch_trace.specs.declared.links.Link.{Link}
-use Rattle.stitch_trace.specs.declared.needle_moves.NeedleMove.{NeedleMove}
-use Rattle.stitch_trace.specs.declared.needle_moves.NeedleMove.TheVariants.{Stay, Gap, Sewn}
-use Rattle.stitch_trace.specs.Chains.{chains_of, new_moves, new_moves_of}
-use Rattle.stitch_trace.specs.Links.{link_size, links_in, move_to_act, needle_moves_of, needle_moves_from}
-use Rattle.stitch_trace.specs.Tracing.{chain_if_any, chains_after, extended_chain}
+use Rattle.design_model.specs.Points.{is_point_within}
+use Rattle.drawing_model.specs.GrowingDrawings.{has_repeated_point, repeats_after}
+use Rattle.drawing_model.specs.Needles.{segment_steps}
 use Rattle.stitch_trace.proofs.LinkedLemmas.{Follows, Linked, led_ends, moves_linked, new_linked}
 use Rattle.stitch_trace.proofs.MeasureLemmas.{greatest, greatest_more}
 use Rattle.stitch_trace.proofs.MoveLemmas.{chains_are}
-use Rattle.lists_and_numbers.proofs.CallerLemmas.{some_same}
 
 -- a link that is one step of that length at most
 pub record IsStep (step : ℕ) (link : Link) : Type 0 where

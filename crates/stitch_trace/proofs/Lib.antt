@@ -1,3 +1,4 @@
+pub mod Names
 pub mod TraceFacts
 pub mod MoveLemmas
 pub mod StrandLemmas

@@ -1,38 +1,22 @@
 -- What refuses a traced drawing is one of its counts.
 use Rattle.std.proofs.Common.{◌≡◌, ℕ, ◌+◌, ◌-◌, ◌==◌, ◌≤◌, true, false, not, List, [], ◌∷◌, length, Result, Ok, Err, ap, subst, refl, length-append, arith}
-use Rattle.std.proofs.lemmas.Bool.Decides.{nat_tests}
 use Rattle.std.proofs.lemmas.List.Folds.{list_any-append}
 use Rattle.std.proofs.lemmas.List.Sums.{sum_by-append}
-use Rattle.design_model.specs.declared.point.Point.{Point}
-use Rattle.line_sections.specs.Lines.{LineValue}
-use Rattle.drawing_model.specs.declared.draw_kind.DrawKind.{DrawKind}
-use Rattle.drawing_model.specs.Drawings.{DrawingValue}
-use Rattle.drawing_model.specs.GrowingDrawings.{and_then, block_added, is_last_empty, line_added, point_count, step_count, with_new_block, with_new_line}
-use Rattle.drawing_model.specs.Needles.{steps_of_line}
-use Rattle.stitch_trace.specs.declared.strands.Strand.{Strand}
-use Rattle.stitch_trace.specs.TraceTheorems.{IsCountLimit}
-use Rattle.stitch_trace.specs.Traces.{chains_added, strand_added, strands_added}
+use Rattle.stitch_trace.proofs.Names.{nat_tests, Point, LineValue, DrawKind, DrawingValue, and_then, block_added, is_last_empty, line_added, point_count, with_new_block, with_new_line, steps_of_line, Strand, IsCountLimit, chains_added, strand_added, strands_added}
+use Rattle.drawing_model.specs.GrowingDrawings.{step_count}
 use Rattle.stitch_trace.proofs.DrawnLemmas.{GoesOn, block_is, goes_on, line_is, ok_same}
 use Rattle.stitch_trace.proofs.FitLemmas.{AllFit, Fits}
 use Rattle.stitch_trace.proofs.LinkedLemmas.{has_chains}
 use Rattle.lists_and_numbers.proofs.CallerLemmas.{and_false}
 
-err_same : {A F : Type 0} (a b : F) → ◌≡◌ {A = Result A F} (Err a) (Err b) → a ≡ b
-err_same a b is = cc
-
 -- a count, where it is what refuses
 pub counted : {A : Type 0} (a b : DrawKind) → IsCountLimit a → ◌≡◌ {A = Result A DrawKind} (Err a) (Err b) → IsCountLimit b
-counted a b count is = subst IsCountLimit (err_same a b is) count
+counted a b count is = subst IsCountLimit (grind (arith, nat_tests)) count
 
 -- a drawing of that step, with no more steps than points
 pub record IsReady (step : ℕ) (d : DrawingValue) : Type 0 where
   pub stepped : d.step ≡ step
   pub cost : step_count step d.lines ≤ point_count d.lines
-
--- a line is refused for a count alone
-line_refused : (step : ℕ) (d : DrawingValue) (points : List Point) (why : DrawKind) → (length d.threads == 0) ≡ false
-    → IsReady step d → Fits step points → line_added d points ≡ Err why → IsCountLimit why
-line_refused step d points why some ready fits is = grind (arith, nat_tests)
 
 line_ready : (step : ℕ) (d : DrawingValue) (points : List Point) → IsReady step d → Fits step points → IsReady step (with_new_line d points)
 line_ready step d points ready fits =
@@ -62,7 +46,7 @@ chains_refused step d (chain ∷ rest) why some ready fit is = by_line (line_add
         → (chains_added (with_new_line d chain) rest ≡ Err why → IsCountLimit why) → IsCountLimit why
     by_line (Ok mid) line is later =
         later (subst (λ (e : DrawingValue). chains_added e rest ≡ Err why) (line_is d mid chain line) is)
-    by_line (Err other) line is later = counted other why (line_refused step d chain other some ready fit.0 line) is
+    by_line (Err other) line is later = counted other why (grind (arith, nat_tests, fit.0)) is
 
 -- the room left after chains
 record IsAfter (step : ℕ) (d e : DrawingValue) : Type 0 where
@@ -93,10 +77,6 @@ some_after step d e (chain ∷ rest) some ready fit is =
     (subst (λ (mid : DrawingValue). chains_added mid rest ≡ Ok e) (line_is d steps.mid chain steps.first) steps.then) in
     record { threads = after.threads; ready = after.ready; used = after.used }
 
-block_refused : (d : DrawingValue) (thread : ℕ) (why : DrawKind) → is_last_empty d ≡ false → block_added d thread ≡ Err why
-    → IsCountLimit why
-block_refused d thread why used is = grind (arith, nat_tests)
-
 -- strands with chains that fit
 abbrev pub StrandsFit : ℕ → List Strand → Type 0
 StrandsFit step [] = Unit {0}
@@ -119,7 +99,7 @@ module _ (step : ℕ) where
           chains_refused step (with_new_block d strand.thread) strand.chains why (block_some d strand.thread)
           (block_ready d strand.thread ready) fit
           (subst (λ (e : DrawingValue). chains_added e strand.chains ≡ Err why) (block_is d mid strand.thread block) is)
-      by_block (Err other) block is = counted other why (block_refused d strand.thread other used block) is
+      by_block (Err other) block is = counted other why (grind (arith, nat_tests, strand.thread)) is
 
   strand_after : (d e : DrawingValue) (strand : Strand) → IsReady step d → has_chains strand.chains ≡ true → AllFit step strand.chains
       → strand_added d strand ≡ Ok e → IsAfter step (with_new_block d strand.thread) e

@@ -1,28 +1,10 @@
 -- Links of a chain follow each other, so chains have the new links as their segments.
 use Rattle.std.proofs.Common.{arith}
-use Rattle.std.proofs.lemmas.Bool.Decides.{nat_tests}
 use Rattle.std.proofs.Common.{◌≡◌, ℕ, Bool, true, false, cond, List, [], ◌∷◌, ◌++◌, Option, Some, None, map, flat_map, ap, sym, subst, ◌∙◌, refl, append_assoc, append-nil}
-use Rattle.std.proofs.Math.Path.{ap₂}
-use Rattle.std.proofs.lemmas.Grind.{flat_map-append}
-use Rattle.design_model.specs.declared.act.Act.{Act}
+use Rattle.stitch_trace.proofs.Names.{nat_tests, ap₂, flat_map-append, Act, NumberedAct, Point, needle_point, act_point, is_same_point, last_point, last_point_or, Link, NeedleMove, Stay, Gap, Sewn, chains_of, has_links, new_links_of, new_moves, new_moves_of, link_between, links_along, links_in, move_to_act, needle_moves_of, needle_moves_from, chain_if_any, chains_after, extended_chain, same_is, some_same}
 use Rattle.design_model.specs.declared.act.Act.TheVariants as act
-use Rattle.design_model.specs.declared.act.NumberedAct.{NumberedAct}
-use Rattle.design_model.specs.declared.point.Point.{Point}
-use Rattle.design_model.specs.ActKinds.{needle_point, act_point}
-use Rattle.design_model.specs.Points.{is_same_point}
 use Rattle.line_sections.specs.Sections.{segments_from}
-use Rattle.drawing_model.specs.Drawings.{last_point}
-use Rattle.step_splitter.specs.Chains.{last_point_or}
-use Rattle.stitch_trace.specs.declared.links.Link.{Link}
-use Rattle.stitch_trace.specs.declared.needle_moves.NeedleMove.{NeedleMove}
-use Rattle.stitch_trace.specs.declared.needle_moves.NeedleMove.TheVariants.{Stay, Gap, Sewn}
-use Rattle.stitch_trace.specs.Chains.{chains_of, has_links, new_links_of, new_moves, new_moves_of}
-use Rattle.stitch_trace.specs.TraceTheorems.{link_between, links_along}
-use Rattle.stitch_trace.specs.Links.{links_in, move_to_act, needle_moves_of, needle_moves_from}
-use Rattle.stitch_trace.specs.Tracing.{chain_if_any, chains_after, extended_chain}
 use Rattle.stitch_trace.proofs.MoveLemmas.{chains_are, chains_through, parts_of}
-use Rattle.design_model.proofs.CallerLemmas.{same_is}
-use Rattle.lists_and_numbers.proofs.CallerLemmas.{some_same}
 
 -- a link continues from a point, if there is one
 abbrev pub Follows : Option Point → Link → Type 0

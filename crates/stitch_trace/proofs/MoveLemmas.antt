@@ -1,19 +1,10 @@
 -- New links by a test of what was sewn, and the chains of moves one after another.
 use Rattle.std.proofs.Common.{arith}
-use Rattle.std.proofs.lemmas.Bool.Decides.{nat_tests}
 use Rattle.std.proofs.Common.{◌≡◌, ℕ, Bool, true, false, ◌||◌, cond, List, [], ◌∷◌, ◌++◌, map, filter, ap, sym, ◌∙◌, refl, append_assoc, append-nil}
-use Rattle.std.proofs.Math.Path.{ap₂}
-use Rattle.std.proofs.lemmas.List.{map-append}
-use Rattle.std.specs.HashSet.{HashSet, contains}
-use Rattle.std.specs.List.{list_any, onto_first, slice_split}
-use Rattle.design_model.specs.declared.act.NumberedAct.{NumberedAct}
-use Rattle.design_model.specs.declared.point.Point.{Point}
-use Rattle.stitch_trace.specs.declared.links.Link.{Link}
-use Rattle.stitch_trace.specs.declared.needle_moves.NeedleMove.{NeedleMove}
-use Rattle.stitch_trace.specs.declared.needle_moves.NeedleMove.TheVariants.{Stay, Gap, Sewn}
-use Rattle.stitch_trace.specs.Chains.{chains_of, has_links, is_gap, is_sewn, new_moves, new_moves_of, points_through}
-use Rattle.stitch_trace.specs.Links.{is_same_directed_link, is_same_link, links_in, needle_moves_of, reversed_link}
-use Rattle.stitch_trace.specs.Tracing.{chain_if_any, chains_after, extended_chain, new_moves_by}
+use Rattle.std.specs.HashSet.{HashSet}
+use Rattle.std.specs.List.{onto_first, slice_split}
+use Rattle.stitch_trace.proofs.Names.{nat_tests, ap₂, map-append, contains, list_any, NumberedAct, Point, Link, NeedleMove, Stay, Gap, Sewn, chains_of, has_links, is_sewn, new_moves, new_moves_of, is_same_directed_link, is_same_link, links_in, needle_moves_of, reversed_link, chain_if_any, chains_after, extended_chain, new_moves_by}
+use Rattle.stitch_trace.specs.Chains.{is_gap, points_through}
 
 -- what is found after two keys were put in
 or_order : (a b c : Bool) → cond b true (cond a true c) ≡ ((a || b) || c)

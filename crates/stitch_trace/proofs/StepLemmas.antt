@@ -1,30 +1,7 @@
 -- Each segment of a traced drawing is one step.
 use Rattle.std.proofs.Common.{◌≡◌, ℕ, ◌+◌, ◌/◌, ◌%◌, ◌==◌, ◌≤◌, min, Bool, true, false, ◌&&◌, List, [], ◌∷◌, None, Result, Ok, Err, ap, sym, subst, ◌∙◌, refl, arith}
-use Rattle.std.proofs.Math.Nat.{mul-le-mul_right}
-use Rattle.std.proofs.lemmas.Bool.Decides.{nat_tests}
-use Rattle.std.proofs.lemmas.Grind.{div_ceil_times}
-use Rattle.std.proofs.lemmas.List.Folds.{list_all-append}
-use Rattle.std.specs.List.{list_all}
-use Rattle.design_model.specs.declared.act.NumberedAct.{NumberedAct}
-use Rattle.design_model.specs.declared.point.Point.{Point}
-use Rattle.design_model.specs.Acts.{acts_of}
-use Rattle.design_model.specs.Blocks.{blocks_of}
-use Rattle.design_model.specs.Designs.{DesignValue}
-use Rattle.line_sections.specs.Sections.{SectionsKeepSegments}
-use Rattle.drawing_model.specs.declared.draw_kind.DrawKind.{DrawKind}
-use Rattle.drawing_model.specs.Drawings.{DrawingValue}
-use Rattle.drawing_model.specs.GrowingDrawings.{block_added, line_added}
-use Rattle.drawing_model.specs.JoinedDrawings.{joined_drawing}
-use Rattle.step_splitter.specs.Steps.{steps_of}
-use Rattle.stitch_trace.specs.declared.links.Link.{Link}
-use Rattle.stitch_trace.specs.declared.needle_moves.NeedleMove.{NeedleMove}
-use Rattle.stitch_trace.specs.declared.needle_moves.NeedleMove.TheVariants.{Stay, Gap, Sewn}
-use Rattle.stitch_trace.specs.declared.strands.Strand.{Strand}
-use Rattle.stitch_trace.specs.declared.trace_fault.TraceFault.{TraceFault}
-use Rattle.stitch_trace.specs.Chains.{new_links_of, new_moves_of}
-use Rattle.stitch_trace.specs.TraceTheorems.{LinksAreSteps, drawn_block_count, in_block, is_one_step, sewn_links}
-use Rattle.stitch_trace.specs.Links.{first_too_long, link_size, links_in, needle_moves_of}
-use Rattle.stitch_trace.specs.Traces.{chains_added, drawing_with_strands, with_limit_fault, and_then_trace, trace_step, strand_added, strands_added, strands_of}
+use Rattle.stitch_trace.proofs.Names.{mul-le-mul_right, nat_tests, div_ceil_times, list_all-append, list_all, NumberedAct, Point, acts_of, blocks_of, DesignValue, SectionsKeepSegments, DrawKind, DrawingValue, block_added, line_added, joined_drawing, steps_of, Link, NeedleMove, Stay, Gap, Sewn, Strand, TraceFault, new_links_of, new_moves_of, drawn_block_count, in_block, is_one_step, sewn_links, first_too_long, link_size, links_in, needle_moves_of, chains_added, drawing_with_strands, with_limit_fault, and_then_trace, trace_step, strand_added, strands_added, strands_of}
+use Rattle.stitch_trace.specs.TraceTheorems.{LinksAreSteps}
 use Rattle.stitch_trace.proofs.CountLemmas.{least_step, step_parts}
 use Rattle.stitch_trace.proofs.DrawnLemmas.{block_is, finished_is, goes_on, line_is, links_drawn, ok_same}
 use Rattle.stitch_trace.proofs.FitLemmas.{AreSteps, BlockSteps, IsStep, acts_in_range, each_block_steps, moves_are_steps, new_are_steps, one_step}
@@ -80,12 +57,6 @@ strands_step d e (strand ∷ rest) is =
     ∙ (chains_step inner.mid outer.mid strand.chains inner.then
     ∙ ap (λ (f : DrawingValue). f.step) (block_is d inner.mid strand.thread inner.first))
 
-joined_step : (d e : DrawingValue) → joined_drawing d ≡ Ok e → e.step ≡ d.step
-joined_step d e is = grind (arith, nat_tests, ok_same)
-
-through_step : (d : DesignValue) (step : ℕ) (e : DrawingValue) → drawing_with_strands d.label step (strands_of d) ≡ Ok e → e.step ≡ step
-through_step d step e is = grind (arith, nat_tests, joined_step, finished_is, strands_step)
-
 pub links_steps : SectionsKeepSegments → LinksAreSteps
 links_steps keep d drawing keeps is =
     rw (links_drawn keep d drawing is) (by_step (trace_step (needle_moves_of (acts_of d))) refl is)
@@ -93,7 +64,7 @@ links_steps keep d drawing keeps is =
     unlimited : (step : ℕ) (said : Result DrawingValue DrawKind) → drawing_with_strands d.label step (strands_of d) ≡ said
         → with_limit_fault said ≡ Ok drawing → drawing.step ≡ step
     unlimited step (Ok e) through is =
-        subst (λ (f : DrawingValue). f.step ≡ step) (ok_same e drawing is) (through_step d step e through)
+        subst (λ (f : DrawingValue). f.step ≡ step) (ok_same e drawing is) (grind (arith, nat_tests, ok_same, finished_is, strands_step))
     unlimited step (Err why) through is = absurd cc
 
     by_step : (said : Result ℕ TraceFault) → trace_step (needle_moves_of (acts_of d)) ≡ said

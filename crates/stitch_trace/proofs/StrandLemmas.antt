@@ -1,12 +1,7 @@
 -- Blocks one after another.
-use Rattle.std.proofs.lemmas.Bool.Decides.{nat_tests}
 use Rattle.std.proofs.Common.{◌≡◌, ℕ, ◌+◌, ◌-◌, ◌<◌, ◌≤◌, suc, Bool, true, false, List, [], ◌∷◌, ◌++◌, take, drop, length, ap, sym, ◌∙◌, refl, append-nil, arith}
-use Rattle.std.proofs.Math.Path.{ap₂}
 use Rattle.std.proofs.lemmas.List.{take-append-drop, take_all}
-use Rattle.std.specs.List.{position_or_len}
-use Rattle.design_model.specs.declared.act.NumberedAct.{NumberedAct}
-use Rattle.design_model.specs.ActKinds.{is_stop}
-use Rattle.design_model.specs.Blocks.{blocks_of, with_act_in_first_block}
+use Rattle.stitch_trace.proofs.Names.{nat_tests, ap₂, position_or_len, NumberedAct, is_stop, blocks_of, with_act_in_first_block}
 
 -- the blocks after the first stop
 abbrev after_stop : List NumberedAct → List (List NumberedAct)

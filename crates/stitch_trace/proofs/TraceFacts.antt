@@ -1,18 +1,10 @@
 -- Worked values of links, chains and traced drawings.
 use Rattle.std.proofs.Common.{◌≡◌, ◌∷◌, [], ℕ, true, false, pos, codes, List, Ok, Err, refl}
-use Rattle.design_model.specs.declared.command.Command.{Command}
+use Rattle.stitch_trace.proofs.Names.{Command, Point, DesignValue, LineValue, DrawingValue, acts_of, blocks_of, Link, BlockLink, IsCountLimit, are_distinct, drawn_links, is_one_step, sewn_links, label_first_word}
 use Rattle.design_model.specs.declared.command.Command.TheVariants as command
-use Rattle.design_model.specs.declared.point.Point.{Point}
-use Rattle.design_model.specs.Designs.{DesignValue}
-use Rattle.line_sections.specs.Lines.{LineValue}
 use Rattle.drawing_model.specs.declared.draw_kind.DrawKind.TheVariants as kind
-use Rattle.drawing_model.specs.Drawings.{DrawingValue}
 use Rattle.stitch_trace.specs.declared.trace_fault.TraceFault.TheVariants as fault
-use Rattle.design_model.specs.Acts.{acts_of}
-use Rattle.design_model.specs.Blocks.{blocks_of}
-use Rattle.stitch_trace.specs.declared.links.Link.{Link}
-use Rattle.stitch_trace.specs.TraceTheorems.{BlockLink, IsCountLimit, are_distinct, drawn_links, is_one_step, sewn_links}
-use Rattle.stitch_trace.specs.Traces.{label_first_word, traced}
+use Rattle.stitch_trace.specs.Traces.{traced}
 
 -- a place on the cloth
 abbrev at : ℕ → ℕ → Point

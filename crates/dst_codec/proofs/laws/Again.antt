@@ -1,29 +1,9 @@
 -- A written design reads back, with each move within the limit, and a plain design is written.
-use Rattle.std.proofs.lemmas.Bool.Decides.{nat_tests}
-use Rattle.std.proofs.lemmas.Int.{ints}
 use Rattle.std.proofs.Common.{◌≡◌, ℕ, true, IsTrue, List, [], ◌++◌, length, Option, None, Ok, IfOk, IsOkAnd, refl, ap, sym, ◌∙◌, subst, arith}
-use Rattle.std.proofs.lemmas.Bool.{le-ltb}
-use Rattle.std.proofs.lemmas.List.{append_assoc}
-use Rattle.std.specs.List.{concat, list_all}
-use Rattle.design_model.specs.Acts.{acts_of}
-use Rattle.design_model.specs.Designs.{DesignValue, KeepsLimits}
-use Rattle.design_model.specs.Points.{is_point_within}
-use Rattle.format_traits.specs.declared.fault.WriteFault.{WriteFault}
-use Rattle.format_traits.specs.declared.loaded.Loaded.{Loaded}
-use Rattle.format_traits.specs.Accepted.{AcceptedIsWithinLimits}
+use Rattle.std.specs.List.{list_all}
+use Rattle.dst_codec.proofs.Names.{nat_tests, ints, le-ltb, append_assoc, concat, acts_of, DesignValue, KeepsLimits, is_point_within, WriteFault, Loaded, AcceptedIsWithinLimits, loaded_with, first_refusal, unless_refused, EncodedActsRoundTrip, LIMIT, MAX_STOPS, HEADER_LENGTH, dst_meaning, dst_header_of, dst_reads, dst_records_in, dst_label_of, dst_end_record, dst_body_of, header_numbers_of, dst_encoding, dst_write_limits, dst_records_of, dst_file_of}
 use Rattle.format_traits.specs.Laws.{HasSameActs, MovesWithin, IsCodec}
-use Rattle.record_formats.specs.Readings.{loaded_with}
 use Rattle.record_formats.specs.Records.{moves_of_records}
-use Rattle.format_traits.specs.Refusals.{first_refusal, unless_refused}
-use Rattle.record_formats.specs.RoundTrip.{EncodedActsRoundTrip}
-use Rattle.dst_codec.specs.declared.dst.TheConstants.{LIMIT, MAX_STOPS}
-use Rattle.dst_codec.specs.declared.header.TheConstants.{HEADER_LENGTH}
-use Rattle.dst_codec.specs.Format.{dst_meaning}
-use Rattle.dst_codec.specs.Header.{dst_header_of}
-use Rattle.dst_codec.specs.Reading.{dst_reads, dst_records_in, dst_label_of}
-use Rattle.dst_codec.specs.MoveEncoding.{dst_end_record}
-use Rattle.dst_codec.specs.Steps.{dst_body_of, header_numbers_of}
-use Rattle.dst_codec.specs.Writing.{dst_encoding, dst_write_limits, dst_records_of, dst_file_of}
 use Rattle.dst_codec.proofs.HeaderLemmas.{length-dst_header_of}
 use Rattle.dst_codec.proofs.ReadingLemmas.{dst_reads-file, dst_records_in-file}
 use Rattle.dst_codec.proofs.WritingLemmas.{accepted_fit}

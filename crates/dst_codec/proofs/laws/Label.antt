@@ -1,19 +1,8 @@
 -- The label of a design is read back from its file.
-use Rattle.std.proofs.lemmas.Bool.Decides.{nat_tests}
 use Rattle.std.proofs.Common.{◌≡◌, ℕ, ◌-◌, List, [], ◌∷◌, ◌++◌, length, take, IsOkAnd, refl, sym, ◌∙◌, subst, arith}
-use Rattle.std.proofs.lemmas.List.{append_assoc, take_at}
-use Rattle.design_model.specs.declared.design.TheConstants.{MAX_LABEL}
-use Rattle.design_model.specs.Acts.{acts_of}
-use Rattle.format_traits.specs.LabelFields.{label_field, label_in, LabelFieldsRoundTrip}
-use Rattle.format_traits.specs.Accepted.{AcceptedIsWithinLimits}
-use Rattle.format_traits.specs.Refusals.{first_refusal}
-use Rattle.record_formats.specs.RoundTrip.{EncodedActsRoundTrip}
-use Rattle.dst_codec.specs.declared.header.HeaderNumbers.{HeaderNumbers}
-use Rattle.dst_codec.specs.Header.{field, dst_header_of}
-use Rattle.dst_codec.specs.Laws.{LabelRoundTrips}
-use Rattle.dst_codec.specs.Reading.{dst_reads, dst_label_of}
-use Rattle.dst_codec.specs.Steps.{dst_body_of, header_numbers_of}
-use Rattle.dst_codec.specs.Writing.{dst_write_limits}
+use Rattle.std.proofs.lemmas.List.{take_at}
+use Rattle.dst_codec.proofs.Names.{nat_tests, append_assoc, MAX_LABEL, acts_of, label_field, AcceptedIsWithinLimits, first_refusal, EncodedActsRoundTrip, HeaderNumbers, field, dst_header_of, LabelRoundTrips, dst_reads, dst_label_of, dst_body_of, header_numbers_of, dst_write_limits}
+use Rattle.format_traits.specs.LabelFields.{label_in, LabelFieldsRoundTrip}
 use Rattle.dst_codec.proofs.laws.Again.{written, of_written}
 
 -- the first of many parts

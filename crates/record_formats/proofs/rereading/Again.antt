@@ -1,7 +1,7 @@
 -- The records of the acts of a design decode to these acts.
 use Rattle.std.proofs.Common.{true, false, refl, arith}
+use Rattle.record_formats.proofs.Names.{initial_encoder_state}
 use Rattle.design_model.specs.Acts.{acts_of}
-use Rattle.format_traits.specs.Refusals.{initial_encoder_state}
 use Rattle.record_formats.specs.RoundTrip.{EncodedActsRoundTrip}
 use Rattle.record_formats.proofs.rereading.Acts.{goes_acts, broken}
 use Rattle.design_model.proofs.CallerLemmas.{acts_in_range}

@@ -1,10 +1,8 @@
 -- The parts of a move on one axis: how far each goes, and where each ends.
 use Rattle.std.proofs.Common.{◌≡◌, ℕ, zero, suc, ◌+◌, ◌-◌, ◌*◌, ◌/◌, ◌<◌, ◌≤◌, ℤ, pos, negsuc, neg_ℤ, ◌+ℤ◌, ◌-ℤ◌, ◌*ℤ◌, unsigned_abs, ap, sym, ◌∙◌, arith}
 use Rattle.std.proofs.Math.Nat.{zero-div}
-use Rattle.std.proofs.lemmas.Int.{ints}
 use Rattle.std.proofs.lemmas.Nat.{div_below, le-div}
-use Rattle.std.specs.Int.{int_div_euclid}
-use Rattle.std.proofs.lemmas.Bool.Decides.{nat_tests}
+use Rattle.record_formats.proofs.Names.{ints, int_div_euclid, nat_tests}
 
 -- where `count` of the n parts end
 abbrev pub axis_part : ℤ → ℕ → ℕ → ℤ
@@ -23,9 +21,6 @@ quotient_step v w n l some near =
     let small = div_below v n (w / n + l + 1) some below in
     omega (arith, small)
 
-quotient_rises : (v w n : ℕ) → 0 < n → v ≤ w → v / n ≤ w / n
-quotient_rises v w n h1 h2 = grind (arith, nat_tests, ints)
-
 floor_most : (a n count : ℕ) → 0 < n → count ≤ n → floor a n count ≤ a
 floor_most a n count h1 h2 = grind (arith, nat_tests, ints)
 
@@ -36,14 +31,14 @@ ceiling_most a n count h1 h2 = grind (arith, nat_tests, ints)
 floor_step : (a n count l : ℕ) → 0 < n → a ≤ n * l
     → (floor a n count ≤ floor a n (count + 1)) × (floor a n (count + 1) ≤ floor a n count + l)
 floor_step a n count l some near = (
-  quotient_rises (count * a) ((count + 1) * a) n some (omega arith),
+  grind (arith, nat_tests),
   quotient_step ((count + 1) * a) (count * a) n l some (omega (arith, near)),
 )
 
 ceiling_step : (a n count l : ℕ) → 0 < n → a ≤ n * l
     → (ceiling a n count ≤ ceiling a n (count + 1)) × (ceiling a n (count + 1) ≤ ceiling a n count + l)
 ceiling_step a n count l some near = (
-  quotient_rises (count * a + (n - 1)) ((count + 1) * a + (n - 1)) n some (omega arith),
+  grind (arith, nat_tests),
   quotient_step ((count + 1) * a + (n - 1)) (count * a + (n - 1)) n l some (omega (arith, near)),
 )
 

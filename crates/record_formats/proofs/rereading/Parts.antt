@@ -1,14 +1,8 @@
 -- The parts of a move between two needles: each is within the limit, and each ends between the two.
 use Rattle.std.proofs.Common.{◌≡◌, ℕ, ◌+◌, ◌*◌, ◌<◌, ◌≤◌, ℤ, ◌+ℤ◌, ◌-ℤ◌, unsigned_abs, IsTrue, arith}
-use Rattle.std.proofs.lemmas.Int.{ints}
-use Rattle.design_model.specs.declared.point.Point.{Point}
-use Rattle.design_model.specs.declared.point.TheConstants.{NEEDLE_LIMIT, JUMP_LIMIT}
-use Rattle.design_model.specs.Points.{is_point_within, move_between, move_size}
-use Rattle.format_traits.specs.MoveHops.{hops_of}
-use Rattle.record_formats.specs.MoveParts.{position_after_move, part_end}
+use Rattle.record_formats.proofs.Names.{ints, Point, NEEDLE_LIMIT, JUMP_LIMIT, is_point_within, move_between, move_size, hops_of, position_after_move, part_end, point_of_parts, within_from, nat_tests}
 use Rattle.record_formats.proofs.rereading.Hops.{axis_all, axis_step, axis_between}
-use Rattle.design_model.proofs.CallerLemmas.{point_of_parts, within_from, within_more, within_parts}
-use Rattle.std.proofs.lemmas.Bool.Decides.{nat_tests}
+use Rattle.design_model.proofs.CallerLemmas.{within_more, within_parts}
 
 -- a move that n moves within the limit can make up
 pub record Splits (limit : ℕ) (m : Point) (n : ℕ) : Type 0 where

@@ -1,26 +1,13 @@
 -- How reading goes on over a run of jumps that make up a move, and a stitch after them.
-use Rattle.std.proofs.lemmas.Bool.Decides.{nat_tests}
-use Rattle.std.proofs.lemmas.Int.{ints}
 use Rattle.std.proofs.Common.{◌≡◌, ℕ, zero, suc, ◌+◌, ◌-◌, ◌<◌, ◌≤◌, Bool, true, false, not, ◌&&◌, IsTrue, List, [], ◌∷◌, ◌++◌, length, map, Option, Some, None, if◌then◌else◌, refl, ap, sym, ◌∙◌, subst, arith}
-use Rattle.std.proofs.lemmas.Bool.{eqb-true, ne_eqb}
-use Rattle.std.proofs.lemmas.List.{append-nil, append_assoc}
-use Rattle.std.specs.List.{concat}
-use Rattle.design_model.specs.declared.act.Act.{Act}
+use Rattle.std.proofs.lemmas.Bool.{ne_eqb}
+use Rattle.std.proofs.lemmas.List.{append_assoc}
+use Rattle.record_formats.proofs.Names.{nat_tests, ints, eqb-true, append-nil, concat, Act, MAX_COMMANDS, Point, NEEDLE_LIMIT, JUMP_LIMIT, is_point_within, origin, move_between, WriteLimits, position_after_move, part_end, part_moves_from, Records, next, EncodedEvents, DecodesEncoding, RecordEncoding, is_at_max, hop_records, stitched_hop_records, within_from}
 use Rattle.design_model.specs.declared.act.Act.TheVariants as act
-use Rattle.design_model.specs.declared.design.TheConstants.{MAX_COMMANDS}
-use Rattle.design_model.specs.declared.point.Point.{Point}
-use Rattle.design_model.specs.declared.point.TheConstants.{NEEDLE_LIMIT, JUMP_LIMIT}
-use Rattle.design_model.specs.Points.{is_point_within, origin, move_between}
 use Rattle.record_formats.specs.declared.event.Event.TheVariants as event
-use Rattle.format_traits.specs.declared.encoder_state.WriteLimits.{WriteLimits}
-use Rattle.record_formats.specs.MoveParts.{position_after_move, part_end, part_moves_from}
-use Rattle.record_formats.specs.Records.{Records, next}
-use Rattle.record_formats.specs.RoundTrip.{EncodedEvents, DecodesEncoding}
-use Rattle.record_formats.specs.RecordEncodings.{RecordEncoding, is_at_max, hop_records, stitched_hop_records}
 use Rattle.record_formats.proofs.PointLemmas.{position_after_move-none}
 use Rattle.record_formats.proofs.rereading.Parts.{Lies, part_within, part_all, part_none, part_in_range, moved-on}
 use Rattle.record_formats.proofs.rereading.Steps.{GoesOn, goes_stitch, goes_jump, goes_trimmed_jump}
-use Rattle.design_model.proofs.CallerLemmas.{within_from}
 
 -- the number of trims that n jump records are decoded as, after a run of jump records
 abbrev pub trims_in : Option ℕ → ℕ → ℕ → ℕ

@@ -1,28 +1,17 @@
 -- How reading goes on over one record, whatever comes after it.
-use Rattle.std.proofs.lemmas.Bool.Decides.{nat_tests}
-use Rattle.std.proofs.lemmas.Int.{ints}
 use Rattle.std.proofs.Common.{◌≡◌, ℕ, ◌+◌, ◌<◌, ◌≤◌, Bool, true, false, not, ◌&&◌, IsTrue, List, [], ◌∷◌, length, Ok, Result, refl, ap, sym, ◌∙◌, subst, arith}
 use Rattle.std.proofs.lemmas.Bool.{and_from, lt-leb}
-use Rattle.std.specs.List.{list_all}
-use Rattle.design_model.specs.declared.act.Act.{Act}
+use Rattle.record_formats.proofs.Names.{nat_tests, ints, list_all, Act, Stitch, Jump, MAX_COMMANDS, Point, NEEDLE_LIMIT, JUMP_LIMIT, acts_without_numbers, is_point_within, origin, Event, position_after_move, Records, file_commands_from, moves_of_records_from, over, next, is_stop_in_place, within_from}
 use Rattle.design_model.specs.declared.act.Act.TheVariants as act
 use Rattle.design_model.specs.declared.command.Command.{Command}
-use Rattle.design_model.specs.declared.command.Command.TheVariants.{Stitch, Jump, Trim, Stop}
-use Rattle.design_model.specs.declared.design.TheConstants.{MAX_COMMANDS}
-use Rattle.design_model.specs.declared.point.Point.{Point}
-use Rattle.design_model.specs.declared.point.TheConstants.{NEEDLE_LIMIT, JUMP_LIMIT}
-use Rattle.design_model.specs.Acts.{acts_from, acts_without_numbers}
+use Rattle.design_model.specs.declared.command.Command.TheVariants.{Trim, Stop}
+use Rattle.design_model.specs.Acts.{acts_from}
 use Rattle.design_model.specs.Commands.{is_command_in_range}
-use Rattle.design_model.specs.Points.{is_point_within, origin}
-use Rattle.record_formats.specs.declared.event.Event.{Event}
 use Rattle.record_formats.specs.declared.event.Event.TheVariants as event
 use Rattle.format_traits.specs.declared.fault.ReadFault.{ReadFault}
-use Rattle.record_formats.specs.MoveParts.{position_after_move}
 use Rattle.record_formats.specs.Readings.{FileCommands, with_commands_before, checked_command, checked_commands}
-use Rattle.record_formats.specs.Records.{Records, commands_of_event, position_after_event, moves_of_event, file_commands_from, moves_of_records_from, over, next}
-use Rattle.record_formats.specs.RoundTrip.{is_stop_in_place}
-use Rattle.record_formats.proofs.PointLemmas.{position_after_move-none, same_points}
-use Rattle.design_model.proofs.CallerLemmas.{within_from}
+use Rattle.record_formats.specs.Records.{commands_of_event, position_after_event, moves_of_event}
+use Rattle.record_formats.proofs.PointLemmas.{position_after_move-none}
 
 -- from that place on the records are read to an end as those acts, each move within the limit
 pub record GoesOn (limit count : ℕ) (place : Point) (records : Records) (loose jumped : Bool) (acts : List Act) : Type 0 where
@@ -158,7 +147,7 @@ goes_stop limit at count place event.Stop rest loose jumped acts is few goes = r
 }
 goes_stop limit at count place (event.StopBy m) rest loose jumped acts is few goes =
     subst (λ m. GoesOn limit count place (next at (event.StopBy m) rest) loose jumped (act.Stop ∷ acts))
-    (sym (same_points m origin is))
+    (sym (grind (arith, nat_tests)))
     (still (subst (λ q. GoesOn limit (count + 1) q rest true false acts) (sym (position_after_move-none place)) goes))
   where
     still : GoesOn limit (count + 1) (position_after_move place origin) rest true false acts

@@ -1,24 +1,12 @@
 -- How reading goes on over the records of a trim.
 use Rattle.std.proofs.Common.{◌≡◌, ℕ, ◌+◌, ◌<◌, ◌≤◌, ℤ, ◌+ℤ◌, Bool, true, false, IsTrue, List, [], ◌∷◌, length, refl, ap, sym, ◌∙◌, subst, arith}
-use Rattle.std.proofs.lemmas.Bool.{and_parts}
-use Rattle.std.proofs.lemmas.Int.{ints}
-use Rattle.std.specs.List.{list_all}
-use Rattle.design_model.specs.declared.act.Act.{Act}
+use Rattle.record_formats.proofs.Names.{and_parts, ints, list_all, Act, MAX_COMMANDS, Point, NEEDLE_LIMIT, JUMP_LIMIT, is_point_within, origin, move_size, Event, position_after_move, Records, trims_once, position_after_moves, moves_of_events, length_of_moves, point_of_parts, nat_tests}
 use Rattle.design_model.specs.declared.act.Act.TheVariants as act
-use Rattle.design_model.specs.declared.design.TheConstants.{MAX_COMMANDS}
-use Rattle.design_model.specs.declared.point.Point.{Point}
-use Rattle.design_model.specs.declared.point.TheConstants.{NEEDLE_LIMIT, JUMP_LIMIT}
-use Rattle.design_model.specs.Points.{is_point_within, origin, move_size}
-use Rattle.record_formats.specs.declared.event.Event.{Event}
 use Rattle.record_formats.specs.declared.event.Event.TheVariants as event
-use Rattle.record_formats.specs.MoveParts.{position_after_move}
-use Rattle.record_formats.specs.Records.{Records}
-use Rattle.record_formats.specs.RoundTrip.{BeginWithEvents, IsTrimSequence, are_jumps, trims_once, position_after_moves, moves_of_events, length_of_moves}
+use Rattle.record_formats.specs.RoundTrip.{BeginWithEvents, IsTrimSequence, are_jumps}
 use Rattle.record_formats.proofs.PointLemmas.{position_after_move-none}
 use Rattle.record_formats.proofs.rereading.Runs.{goes_as}
 use Rattle.record_formats.proofs.rereading.Steps.{GoesOn, goes_jump, goes_trimmed_jump, goes_trim}
-use Rattle.design_model.proofs.CallerLemmas.{point_of_parts}
-use Rattle.std.proofs.lemmas.Bool.Decides.{nat_tests}
 
 moved-moved : (p q m : Point) → position_after_move (position_after_move p q) m ≡ position_after_move p (position_after_move q m)
 moved-moved p q m = point_of_parts (turned p.x q.x m.x) (turned p.y q.y m.y)

@@ -1,4 +1,4 @@
-use Rattle.blossom_match.specs.States.{search_value}
+use Rattle.blossom_match.proofs.Names.{search_value}
 use Rattle.blossom_match.proofs.AdjustmentLemmas.{can_adjust, adjusts}
 use Rattle.blossom_match.proofs.adjustment.adjust.Goals as goal
 

@@ -1,5 +1,5 @@
 use Rattle.std.proofs.Common.{◌≡◌, ◌++◌, drop, map, take}
-use Rattle.blossom_match.specs.Duals.{changed_branch}
+use Rattle.blossom_match.proofs.Names.{changed_branch}
 use Rattle.blossom_match.proofs.adjustment.change_branches.Given as goal
 
 -- the branches changed so far, and those that are left

@@ -1,8 +1,6 @@
 use Rattle.std.proofs.Common.{List, ℕ, ◌+◌, arith, ap, length, map, refl, subst, sym, ◌∙◌}
-use Rattle.odd_sets.specs.Lists.{Each}
-use Rattle.odd_sets.specs.Slots.{branches_in, matches_in, set_in}
-use Rattle.blossom_match.specs.Duals.{changed_branch, CanChangeBranch, ChangesHeights}
-use Rattle.odd_sets.specs.declared.branches.Branch.{Branch}
+use Rattle.blossom_match.proofs.Names.{Each, branches_in, matches_in, set_in, changed_branch, CanChangeBranch, Branch}
+use Rattle.blossom_match.specs.Duals.{ChangesHeights}
 use Rattle.odd_sets.proofs.CallerLemmas.{written}
 use Rattle.blossom_match.proofs.DualLemmas.{all_resized, can_resize, changed_sets}
 use Rattle.blossom_match.proofs.adjustment.change_duals.Goals as goal

@@ -1,8 +1,5 @@
 use Rattle.std.proofs.Common.{arith, ap, ℕ, List, [], ◌*◌}
-use Rattle.odd_sets.specs.DualSets.{count}
-use Rattle.odd_sets.specs.Slots.{branches_in, set_in}
-use Rattle.odd_sets.specs.Trees.{outer_sets}
-use Rattle.odd_sets.proofs.CallerLemmas.{base_in, more_by, members-append}
+use Rattle.blossom_match.proofs.Names.{count, branches_in, set_in, outer_sets, base_in, more_by, members-append}
 use Rattle.blossom_match.proofs.adjustment.change_heights.Goals as goal
 
 pub raise-requires-clause-within : goal.raise-requires-clause-within

@@ -1,5 +1,5 @@
 use Rattle.std.proofs.Common.{◌≡◌, ℕ, cond, ltb, length}
-use Rattle.odd_sets.specs.DualSets.{count}
+use Rattle.blossom_match.proofs.Names.{count}
 use Rattle.blossom_match.proofs.initial_duals.all_places.Given as goal
 
 -- the places so far

@@ -1,6 +1,5 @@
 use Rattle.std.proofs.Common.{List, ℕ, ap, cond, ltb, ◌∙◌}
-use Rattle.odd_sets.specs.Slots.{matches_in}
-use Rattle.odd_sets.specs.declared.matches.Match.{Match}
+use Rattle.blossom_match.proofs.Names.{matches_in, Match}
 use Rattle.blossom_match.proofs.InitialDualLemmas.{half_free}
 use Rattle.blossom_match.proofs.initial_duals.half_matching.Goals as goal
 

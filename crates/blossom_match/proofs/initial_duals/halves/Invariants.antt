@@ -1,5 +1,5 @@
 use Rattle.std.proofs.Common.{◌≡◌, ◌≢◌, ◌≤◌, ◌<◌, ℕ, get_or, length}
-use Rattle.odd_sets.specs.Tables.{entry}
+use Rattle.blossom_match.proofs.Names.{entry}
 use Rattle.blossom_match.proofs.initial_duals.halves.Given as goal
 
 -- the initial duals so far

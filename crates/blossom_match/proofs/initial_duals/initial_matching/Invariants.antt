@@ -1,6 +1,5 @@
 use Rattle.std.proofs.Common.{◌≡◌, ◌%◌, length}
-use Rattle.blossom_match.specs.Phases.{IsPartialWithHeights}
-use Rattle.odd_sets.specs.Slots.{matches_in}
+use Rattle.blossom_match.proofs.Names.{IsPartialWithHeights, matches_in}
 use Rattle.blossom_match.proofs.initial_duals.initial_matching.Given as goal
 
 -- matches and free places, two of which at a time were paired

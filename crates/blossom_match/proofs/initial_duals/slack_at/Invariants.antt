@@ -1,6 +1,5 @@
 use Rattle.std.proofs.Common.{◌≢◌, ◌≤◌, ◌<◌, ◌+◌, ◌*◌, ℕ, get_or}
-use Rattle.odd_sets.specs.Tables.{entry}
-use Rattle.odd_sets.specs.declared.table.TheConstants.{MAX_DISTANCE}
+use Rattle.blossom_match.proofs.Names.{entry, MAX_DISTANCE}
 use Rattle.blossom_match.proofs.initial_duals.slack_at.Given as goal
 
 -- with the dual no slack to the vertices so far is negative

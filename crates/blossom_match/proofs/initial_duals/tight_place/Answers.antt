@@ -1,5 +1,5 @@
 use Rattle.std.proofs.Common.{get_or, refl}
-use Rattle.odd_sets.proofs.CallerLemmas.{count_at}
+use Rattle.blossom_match.proofs.Names.{count_at}
 use Rattle.blossom_match.proofs.initial_duals.tight_place.Goals as goal
 
 pub is_tight-requires-clause-other_in : goal.is_tight-requires-clause-other_in

@@ -1,6 +1,5 @@
 use Rattle.std.proofs.Common.{ℕ, List, sym, subst}
-use Rattle.blossom_match.specs.InitialDuals.{HasFreeSlack}
-use Rattle.odd_sets.specs.Slots.{matches_in}
+use Rattle.blossom_match.proofs.Names.{HasFreeSlack, matches_in}
 use Rattle.blossom_match.proofs.InitialDualLemmas.{free_lies}
 use Rattle.blossom_match.proofs.initial_duals.tight_with.Goals as goal
 

@@ -1,11 +1,8 @@
 use Rattle.std.proofs.Common.{[], get_or, arith, List, ℕ, ap, subst}
-use Rattle.odd_sets.specs.DualSets.{count}
-use Rattle.blossom_match.specs.Candidates.{IsBestCandidate}
+use Rattle.blossom_match.proofs.Names.{count, IsBestCandidate, branch_in, branches_in, mapped_item, mapped_low, no_branch}
 use Rattle.blossom_match.specs.declared.least.Kind.TheVariants as kind
 use Rattle.blossom_match.proofs.OuterSlackLemmas.{outer_within}
 use Rattle.blossom_match.proofs.CandidateLemmas.{aims_outer}
-use Rattle.odd_sets.specs.Slots.{branch_in, branches_in}
-use Rattle.odd_sets.proofs.CallerLemmas.{mapped_item, mapped_low, no_branch}
 use Rattle.blossom_match.proofs.least.best_branch.Goals as goal
 
 pub best_target-least-requires-clause-within : goal.best_target-least-requires-clause-within

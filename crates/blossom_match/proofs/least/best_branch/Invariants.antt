@@ -1,8 +1,6 @@
 use Rattle.std.proofs.Common.{[], take}
-use Rattle.blossom_match.specs.Candidates.{IsBestCandidate}
-use Rattle.odd_sets.specs.Trees.{outer_members}
+use Rattle.blossom_match.proofs.Names.{IsBestCandidate, outer_members, branches_in}
 use Rattle.blossom_match.specs.declared.least.Kind.TheVariants as kind
-use Rattle.odd_sets.specs.Slots.{branches_in}
 use Rattle.blossom_match.proofs.least.best_branch.Given as goal
 
 -- the nearest of the outer sets so far

@@ -1,15 +1,8 @@
-use Rattle.std.proofs.lemmas.Bool.Decides.{nat_tests}
 use Rattle.std.proofs.Common.{arith, [], List, ℕ, ap, subst}
-use Rattle.blossom_match.specs.Candidates.{IsBestCandidate}
-use Rattle.odd_sets.specs.DualSets.{count}
-use Rattle.blossom_match.specs.Searches.{outer_vertices}
-use Rattle.odd_sets.specs.Slots.{branches_in}
-use Rattle.blossom_match.specs.States.{search_value}
-use Rattle.odd_sets.specs.Trees.{outer_members}
-use Rattle.odd_sets.specs.declared.branches.Branch.{Branch}
+use Rattle.blossom_match.proofs.Names.{nat_tests, IsBestCandidate, count, outer_vertices, branches_in, search_value, outer_members, Branch, base_in}
 use Rattle.blossom_match.specs.declared.least.Kind.TheVariants as kind
 use Rattle.blossom_match.proofs.CandidateLemmas.{aims_join}
-use Rattle.odd_sets.proofs.CallerLemmas.{members_each, base_in}
+use Rattle.odd_sets.proofs.CallerLemmas.{members_each}
 use Rattle.blossom_match.proofs.least.best_outer.Goals as goal
 
 pub best_target-rooted-requires-clause-within : goal.best_target-rooted-requires-clause-within

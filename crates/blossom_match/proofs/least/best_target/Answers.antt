@@ -1,5 +1,5 @@
 use Rattle.std.proofs.Common.{get_or}
-use Rattle.odd_sets.proofs.CallerLemmas.{count_at}
+use Rattle.blossom_match.proofs.Names.{count_at}
 use Rattle.blossom_match.proofs.CandidateLemmas.{aims_next}
 use Rattle.blossom_match.proofs.least.best_target.Goals as goal
 

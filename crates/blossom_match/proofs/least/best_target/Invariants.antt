@@ -1,5 +1,5 @@
 use Rattle.std.proofs.Common.{take}
-use Rattle.blossom_match.specs.Candidates.{IsBestCandidate}
+use Rattle.blossom_match.proofs.Names.{IsBestCandidate}
 use Rattle.blossom_match.proofs.least.best_target.Given as goal
 
 -- the nearest of the places so far

@@ -1,5 +1,5 @@
 use Rattle.std.proofs.Common.{length, ◌-◌, ◌≢◌, ◌≤◌, ◌<◌, ℕ}
-use Rattle.blossom_match.specs.Masks.{masked_slack}
+use Rattle.blossom_match.proofs.Names.{masked_slack}
 use Rattle.blossom_match.proofs.least.block_shown.Given as goal
 
 -- no place of the blocks so far

@@ -1,8 +1,5 @@
-use Rattle.std.proofs.lemmas.Bool.Decides.{nat_tests}
 use Rattle.std.proofs.Common.{◌≡◌, ℕ, List, arith, get_or}
-use Rattle.odd_sets.specs.TableValue.{TableValue}
-use Rattle.odd_sets.specs.Tables.{entry}
-use Rattle.odd_sets.proofs.CallerLemmas.{count_at, entry-comm}
+use Rattle.blossom_match.proofs.Names.{nat_tests, TableValue, entry, count_at, entry-comm}
 use Rattle.blossom_match.proofs.OuterSlackLemmas.{left_more}
 use Rattle.blossom_match.proofs.least.first_with_slack.Goals as goal
 

@@ -1,5 +1,5 @@
 use Rattle.std.proofs.Common.{drop}
-use Rattle.blossom_match.specs.OuterSlacks.{IsSlackFromOne}
+use Rattle.blossom_match.proofs.Names.{IsSlackFromOne}
 use Rattle.blossom_match.proofs.least.first_with_slack.Given as goal
 
 -- a place that is left is the one, if any is

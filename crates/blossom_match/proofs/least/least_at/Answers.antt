@@ -1,18 +1,6 @@
 use Rattle.std.proofs.Common.{◌≡◌, ◌≤◌, ℕ, List, ap, get_or, length, subst, sym, ◌∙◌}
-use Rattle.odd_sets.specs.DualSets.{count}
-use Rattle.odd_sets.specs.MatchedSets.{match_members}
-use Rattle.blossom_match.specs.Searches.{stored_height, outer_vertices}
-use Rattle.blossom_match.specs.LeastChanges.{CanSearch, IsLesserChange}
-use Rattle.blossom_match.specs.OuterSlacks.{AreOuterSlacks, AreSearchSlacks}
-use Rattle.blossom_match.specs.Candidates.{IsBestCandidate, IsCandidateAmong}
-use Rattle.blossom_match.specs.Masks.{IsBestShown, IsSearchMask}
-use Rattle.odd_sets.specs.Slots.{branches_in}
-use Rattle.blossom_match.specs.States.{search_value}
-use Rattle.odd_sets.specs.TableValue.{TableValue}
-use Rattle.odd_sets.specs.Tables.{IsTable}
-use Rattle.odd_sets.specs.Values.{SearchValue}
-use Rattle.odd_sets.specs.declared.branches.Branch.{Branch}
-use Rattle.blossom_match.specs.declared.least.Target.{Target}
+use Rattle.blossom_match.proofs.Names.{count, match_members, stored_height, outer_vertices, CanSearch, IsLesserChange, AreOuterSlacks, AreSearchSlacks, IsBestCandidate, IsCandidateAmong, IsSearchMask, branches_in, search_value, TableValue, IsTable, SearchValue, Branch, Target}
+use Rattle.blossom_match.specs.Masks.{IsBestShown}
 use Rattle.blossom_match.specs.declared.least.Kind.TheVariants as kind
 use Rattle.blossom_match.proofs.BoundLemmas.{bounds_of, free_near, leads_on, IsAimedAt}
 use Rattle.blossom_match.proofs.least.least_at.Goals as goal

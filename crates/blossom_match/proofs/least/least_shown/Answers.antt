@@ -1,5 +1,5 @@
 use Rattle.std.proofs.Common.{◌≡◌, arith, min}
-use Rattle.blossom_match.specs.Masks.{masked_slack}
+use Rattle.blossom_match.proofs.Names.{masked_slack}
 use Rattle.blossom_match.proofs.MaskLemmas.{least_next, shown_next}
 use Rattle.blossom_match.proofs.least.least_shown.Goals as goal
 

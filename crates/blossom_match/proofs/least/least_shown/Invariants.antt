@@ -1,6 +1,5 @@
 use Rattle.std.proofs.Common.{◌≤◌, ◌<◌, ℕ}
-use Rattle.blossom_match.specs.Masks.{masked_slack, IsMaskedSlack}
-use Rattle.odd_sets.specs.declared.table.TheConstants.{FAR}
+use Rattle.blossom_match.proofs.Names.{masked_slack, IsMaskedSlack, FAR}
 use Rattle.blossom_match.proofs.least.least_shown.Given as goal
 
 -- the least so far

@@ -1,8 +1,7 @@
 use Rattle.std.proofs.Common.{get_or, arith}
-use Rattle.odd_sets.proofs.CallerLemmas.{base_in, mapped_item, mapped_low, no_branch}
+use Rattle.blossom_match.proofs.Names.{base_in, mapped_item, mapped_low, no_branch, branch_in, branches_in, set_in}
 use Rattle.blossom_match.proofs.OuterSlackLemmas.{outer_within}
 use Rattle.blossom_match.proofs.CandidateLemmas.{below_next, below_root, outer_apart, root_apart}
-use Rattle.odd_sets.specs.Slots.{branch_in, branches_in, set_in}
 use Rattle.blossom_match.proofs.least.nearest.Goals as goal
 
 pub vertex_with_slack-requires-clause-within : goal.vertex_with_slack-requires-clause-within

@@ -1,5 +1,5 @@
 use Rattle.std.proofs.Common.{drop}
-use Rattle.odd_sets.specs.Slots.{branches_in}
+use Rattle.blossom_match.proofs.Names.{branches_in}
 use Rattle.blossom_match.proofs.CandidateLemmas.{IsBelow}
 use Rattle.blossom_match.proofs.least.nearest.Given as goal
 

@@ -1,5 +1,5 @@
 use Rattle.std.proofs.Common.{◌≢◌, ◌<◌, ℕ}
-use Rattle.blossom_match.specs.Masks.{masked_slack}
+use Rattle.blossom_match.proofs.Names.{masked_slack}
 use Rattle.blossom_match.proofs.least.place_shown.Given as goal
 
 -- no place so far

@@ -1,7 +1,6 @@
 use Rattle.std.proofs.Common.{get_or}
+use Rattle.blossom_match.proofs.Names.{branch_in, branches_in, mapped_item, mapped_low, no_branch}
 use Rattle.blossom_match.proofs.ScanLemmas.{narrowing_more, narrowing_start}
-use Rattle.odd_sets.specs.Slots.{branch_in, branches_in}
-use Rattle.odd_sets.proofs.CallerLemmas.{mapped_item, mapped_low, no_branch}
 use Rattle.blossom_match.proofs.least.scan_blossoms.Goals as goal
 
 pub loop-i-init : goal.loop-i-init

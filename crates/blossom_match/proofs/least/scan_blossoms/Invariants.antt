@@ -1,4 +1,4 @@
-use Rattle.odd_sets.specs.Slots.{branches_in}
+use Rattle.blossom_match.proofs.Names.{branches_in}
 use Rattle.blossom_match.proofs.ScanLemmas.{Narrowing}
 use Rattle.blossom_match.proofs.least.scan_blossoms.Given as goal
 

@@ -1,12 +1,6 @@
-use Rattle.std.proofs.lemmas.Bool.Decides.{nat_tests}
 use Rattle.std.proofs.Common.{arith, ap, List, ℕ, subst}
-use Rattle.odd_sets.specs.DualSets.{count}
-use Rattle.blossom_match.specs.Masks.{branch_members}
-use Rattle.odd_sets.specs.SlackRows.{SetsCells}
-use Rattle.odd_sets.specs.Slots.{branch_in}
-use Rattle.odd_sets.specs.declared.table.TheConstants.{FAR}
+use Rattle.blossom_match.proofs.Names.{nat_tests, count, branch_members, SetsCells, branch_in, FAR, count-append}
 use Rattle.blossom_match.proofs.MaskLemmas.{puts_join}
-use Rattle.odd_sets.proofs.CallerLemmas.{count-append}
 use Rattle.blossom_match.proofs.masks.hide.Goals as goal
 
 pub put-requires : goal.put-requires

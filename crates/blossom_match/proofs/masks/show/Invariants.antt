@@ -1,7 +1,5 @@
 use Rattle.std.proofs.Common.{◌≡◌, length, take}
-use Rattle.odd_sets.specs.MatchedSets.{match_members}
-use Rattle.odd_sets.specs.SlackRows.{SetsCells}
-use Rattle.odd_sets.specs.Slots.{matches_in}
+use Rattle.blossom_match.proofs.Names.{match_members, SetsCells, matches_in}
 use Rattle.blossom_match.proofs.masks.show.Given as goal
 
 -- the matches so far

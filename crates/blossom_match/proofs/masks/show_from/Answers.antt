@@ -1,12 +1,6 @@
 use Rattle.std.proofs.Common.{ap, arith, drop, length, List, ◌≤◌, ◌-◌, ◌∙◌, subst, sym}
-use Rattle.std.proofs.lemmas.List.{length-drop, take_all}
-use Rattle.odd_sets.specs.DualSets.{count}
-use Rattle.odd_sets.specs.MatchedSets.{match_members}
-use Rattle.odd_sets.specs.SlackRows.{SetsCells}
-use Rattle.odd_sets.specs.Slots.{match_in, matches_in}
-use Rattle.odd_sets.specs.Values.{MatchValue}
-use Rattle.odd_sets.specs.declared.matches.Match.{Match}
-use Rattle.odd_sets.proofs.CallerLemmas.{mapped_drop}
+use Rattle.std.proofs.lemmas.List.{length-drop}
+use Rattle.blossom_match.proofs.Names.{take_all, count, match_members, SetsCells, match_in, matches_in, MatchValue, Match, mapped_drop}
 use Rattle.blossom_match.proofs.masks.show_from.Goals as goal
 
 pub show-requires : goal.show-requires

@@ -1,8 +1,5 @@
 use Rattle.std.proofs.Common.{List, [], subst}
-use Rattle.odd_sets.specs.Slots.{matches_in}
-use Rattle.blossom_match.specs.Taken.{TakesApartMatches}
-use Rattle.blossom_match.specs.declared.matching.Moat.{Moat}
-use Rattle.blossom_match.specs.declared.matching.Pair.{Pair}
+use Rattle.blossom_match.proofs.Names.{matches_in, TakesApartMatches, Moat, Pair}
 use Rattle.blossom_match.proofs.EndLemmas.{matched, once_each}
 use Rattle.blossom_match.proofs.matching.match_all.Goals as goal
 

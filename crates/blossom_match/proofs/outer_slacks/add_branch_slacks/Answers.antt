@@ -1,11 +1,6 @@
-use Rattle.std.proofs.lemmas.Bool.Decides.{nat_tests}
 use Rattle.std.proofs.Common.{get_or, arith, refl, sym, List, ◌++◌, subst}
-use Rattle.std.proofs.lemmas.List.{append-nil, length-map, take_all}
-use Rattle.blossom_match.specs.OuterSlacks.{AreOuterSlacks}
-use Rattle.odd_sets.specs.Values.{BranchValue}
+use Rattle.blossom_match.proofs.Names.{nat_tests, append-nil, length-map, take_all, AreOuterSlacks, BranchValue, branch_in, branches_in, mapped_item, mapped_low, no_branch}
 use Rattle.blossom_match.proofs.OuterSlackLemmas.{fits_row, reaches_next}
-use Rattle.odd_sets.specs.Slots.{branch_in, branches_in}
-use Rattle.odd_sets.proofs.CallerLemmas.{mapped_item, mapped_low, no_branch}
 use Rattle.blossom_match.proofs.outer_slacks.add_branch_slacks.Goals as goal
 
 pub loop-b-init : goal.loop-b-init

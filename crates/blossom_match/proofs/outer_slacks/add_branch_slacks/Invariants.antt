@@ -1,12 +1,5 @@
 use Rattle.std.proofs.Common.{◌≡◌, ◌≤◌, ◌++◌, List, ℕ, get_or, length, take}
-use Rattle.odd_sets.specs.Lists.{Each}
-use Rattle.odd_sets.specs.DualSets.{OddSetValue, count}
-use Rattle.odd_sets.specs.SoundSets.{IsSoundBranch}
-use Rattle.odd_sets.specs.Trees.{outer_members}
-use Rattle.blossom_match.specs.OuterSlacks.{AreOuterSlacks}
-use Rattle.odd_sets.specs.TableValue.{TableValue}
-use Rattle.odd_sets.specs.Values.{BranchValue}
-use Rattle.odd_sets.specs.Slots.{branches_in}
+use Rattle.blossom_match.proofs.Names.{Each, OddSetValue, count, IsSoundBranch, outer_members, AreOuterSlacks, TableValue, BranchValue, branches_in}
 use Rattle.blossom_match.proofs.outer_slacks.add_branch_slacks.Given as goal
 
 -- the outer sets so far are taken in

@@ -1,12 +1,6 @@
 use Rattle.std.proofs.Common.{arith, ap, drop, length, List, ℕ, ◌+◌, ◌-◌, ◌∙◌, subst, sym, take}
-use Rattle.odd_sets.specs.Lists.{Each}
-use Rattle.blossom_match.specs.OuterSlacks.{HasSlacks, AddsOuterSlacks}
-use Rattle.odd_sets.specs.Slots.{branch_in, branches_in}
-use Rattle.blossom_match.specs.States.{search_value}
-use Rattle.odd_sets.specs.Values.{BranchValue}
-use Rattle.odd_sets.specs.declared.branches.Branch.{Branch}
+use Rattle.blossom_match.proofs.Names.{Each, HasSlacks, AddsOuterSlacks, branch_in, branches_in, search_value, BranchValue, Branch, each-map, nat_tests}
 use Rattle.odd_sets.proofs.CallerLemmas.{each-drop, each-take, mapped_cut}
-use Rattle.blossom_match.proofs.OuterSlackLemmas.{have_outer_rows}
 use Rattle.blossom_match.proofs.outer_slacks.add_slacks_from.Goals as goal
 
 pub add_branch_slacks-requires : goal.add_branch_slacks-requires
@@ -17,7 +11,7 @@ add_branch_slacks-requires c =
     subst (λ (ks : List BranchValue). Each row ks)
     (sym (mapped_cut (branch_in c.args.s.now.sets) n c.args.at c.deref.result.now
     ∙ ap (λ (ks : List Branch). take n (drop c.args.at (branches_in c.args.s.now.sets ks))) c.deref.ensures.value))
-    (each-take row n (drop c.args.at s.tree) (each-drop row c.args.at s.tree (have_outer_rows s c.args.reach.now c.requires.can)))
+    (each-take row n (drop c.args.at s.tree) (each-drop row c.args.at s.tree (grind (arith, nat_tests, each-map, c.requires.can))))
 
 pub returns : goal.returns
 returns c =

@@ -1,5 +1,5 @@
 use Rattle.std.proofs.Common.{arith}
-use Rattle.blossom_match.specs.States.{search_value}
+use Rattle.blossom_match.proofs.Names.{search_value}
 use Rattle.blossom_match.proofs.OuterSlackLemmas.{has_root_row, reaches_root}
 use Rattle.blossom_match.proofs.outer_slacks.begin_slacks.Goals as goal
 

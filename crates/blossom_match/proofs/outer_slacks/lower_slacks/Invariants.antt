@@ -1,5 +1,5 @@
 use Rattle.std.proofs.Common.{◌≡◌, ◌≤◌, ◌<◌, ℕ, get_or}
-use Rattle.odd_sets.specs.SlackRows.{lowered_slack}
+use Rattle.blossom_match.proofs.Names.{lowered_slack}
 use Rattle.blossom_match.proofs.outer_slacks.lower_slacks.Given as goal
 
 -- the cells so far, and those that are left

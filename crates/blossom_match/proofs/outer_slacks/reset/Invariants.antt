@@ -1,5 +1,5 @@
 use Rattle.std.proofs.Common.{◌≡◌, ◌<◌, ℕ, get_or}
-use Rattle.odd_sets.specs.declared.table.TheConstants.{FAR}
+use Rattle.blossom_match.proofs.Names.{FAR}
 use Rattle.blossom_match.proofs.outer_slacks.reset.Given as goal
 
 -- the cells so far

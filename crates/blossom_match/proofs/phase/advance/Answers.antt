@@ -1,4 +1,4 @@
-use Rattle.blossom_match.specs.States.{search_value}
+use Rattle.blossom_match.proofs.Names.{search_value}
 use Rattle.blossom_match.proofs.AdjustmentLemmas.{stays}
 use Rattle.blossom_match.proofs.EndLemmas.{can_step, can_adjust_now, goes}
 use Rattle.blossom_match.proofs.LoweredLemmas.{still_reaches}

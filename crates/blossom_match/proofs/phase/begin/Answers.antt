@@ -1,9 +1,5 @@
 use Rattle.std.proofs.Common.{List, ℕ, ap, arith, get_or, refl, ◌∙◌}
-use Rattle.odd_sets.specs.DualSets.{OddSetValue}
-use Rattle.odd_sets.specs.MatchedSets.{match_dual_sets}
-use Rattle.odd_sets.specs.Blossoms.{vertex_set}
-use Rattle.odd_sets.specs.Slots.{branches_in, matches_in, set_in}
-use Rattle.odd_sets.specs.declared.branches.Branch.{Branch}
+use Rattle.blossom_match.proofs.Names.{OddSetValue, match_dual_sets, vertex_set, branches_in, matches_in, set_in, Branch}
 use Rattle.blossom_match.proofs.PartialMatchingLemmas.{begun_sets, matches_stay}
 use Rattle.blossom_match.proofs.phase.begin.Goals as goal
 

@@ -1,8 +1,5 @@
 use Rattle.std.proofs.Common.{◌≡◌, arith, length}
-use Rattle.odd_sets.specs.MatchedSets.{match_members}
-use Rattle.blossom_match.specs.Searches.{stored_height}
-use Rattle.odd_sets.specs.Slots.{matches_in}
-use Rattle.blossom_match.specs.States.{search_value}
+use Rattle.blossom_match.proofs.Names.{match_members, stored_height, matches_in, search_value}
 use Rattle.blossom_match.proofs.EndLemmas.{begins, place_there}
 use Rattle.blossom_match.proofs.LoweredLemmas.{begins_reach, searched}
 use Rattle.blossom_match.proofs.MaskLemmas.{have_cells, masks_anew}

@@ -1,11 +1,6 @@
 use Rattle.blossom_match.specs.declared.search.SearchStep.TheVariants as step
 use Rattle.std.proofs.Common.{arith, [], ◌∷◌, ℕ, ◌-◌, drop, subst, sym, take, ◌∙◌}
-use Rattle.std.proofs.lemmas.List.{length-map}
-use Rattle.blossom_match.specs.OuterSlacks.{AddsOuterSlacks}
-use Rattle.odd_sets.specs.Slots.{branch_in, branches_in, match_in}
-use Rattle.blossom_match.specs.States.{search_value}
-use Rattle.blossom_match.specs.Searches.{stored_height, Advances, CanStepAt}
-use Rattle.blossom_match.specs.declared.search.SearchStep.{SearchStep}
+use Rattle.blossom_match.proofs.Names.{length-map, AddsOuterSlacks, branch_in, branches_in, match_in, search_value, stored_height, Advances, CanStepAt, SearchStep}
 use Rattle.blossom_match.proofs.OuterSlackLemmas.{grown_past, grown_size}
 use Rattle.blossom_match.proofs.LoweredLemmas.{apart_more, is_reachable, one_more, steps_at}
 use Rattle.blossom_match.proofs.MaskLemmas.{mapped_more, have_cells, hides_there, masks_apart, masks_hung, masks_same, newest_is, next_search}

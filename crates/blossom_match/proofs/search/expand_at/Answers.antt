@@ -1,4 +1,4 @@
-use Rattle.blossom_match.specs.States.{search_value}
+use Rattle.blossom_match.proofs.Names.{search_value}
 use Rattle.blossom_match.proofs.SearchLemmas.{came_apart}
 use Rattle.blossom_match.proofs.search.expand_at.Goals as goal
 

@@ -1,11 +1,9 @@
-use Rattle.std.proofs.Common.{ℕ, List, ap, get_or, refl, ◌∙◌}
-use Rattle.odd_sets.specs.DualSets.{OddSetValue}
-use Rattle.odd_sets.specs.Blossoms.{vertex_set}
-use Rattle.odd_sets.specs.Slots.{matches_in, set_in}
-use Rattle.blossom_match.specs.States.{search_value}
+use Rattle.std.proofs.Common.{ℕ, List, ap, get_or, refl, ◌∙◌, arith}
+use Rattle.blossom_match.proofs.Names.{OddSetValue, vertex_set, matches_in, set_in, search_value, hit_same, hit_is, nat_tests}
 use Rattle.blossom_match.proofs.FreeLemmas.{met}
-use Rattle.blossom_match.proofs.PartialMatchingLemmas.{all_stay, augmenting_new, augments_old, can_augment, met_sets}
+use Rattle.blossom_match.proofs.PartialMatchingLemmas.{all_stay, augmenting_new, augments_old, met_sets}
 use Rattle.blossom_match.proofs.search.finish.Goals as goal
+use Rattle.blossom_match.proofs.SearchLemmas.{is_one}
 
 pub augment-requires : goal.augment-requires
 augment-requires c =
@@ -13,7 +11,7 @@ augment-requires c =
     let m = set_in c.single.new.sets c.in_ok-met.met in
     augmenting_new s.sets c.single.new.sets s.root s.tree.items s.rest.items m c.args.link
     (all_stay s.sets c.single.new.sets c.in_ok-met.met.key s.root s.tree.items s.rest.items c.in_ok-met.ensures.inserts s.stand)
-    (can_augment c.args.t.now c.args.link (search_value s) m c.requires (ap (λ (v : OddSetValue). v.members) c.in_ok-met.ensures.is))
+    (grind (arith, nat_tests, hit_same, is_one, hit_is, c.requires, (ap (λ (v : OddSetValue). v.members) c.in_ok-met.ensures.is)))
 
 pub returns : goal.returns
 returns c =

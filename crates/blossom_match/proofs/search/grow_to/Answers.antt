@@ -1,7 +1,5 @@
 use Rattle.std.proofs.Common.{refl}
-use Rattle.odd_sets.specs.Slots.{branches_in, match_in, matches_in, set_in}
-use Rattle.blossom_match.specs.States.{search_value}
-use Rattle.odd_sets.specs.Trees.{branch_by_edge}
+use Rattle.blossom_match.proofs.Names.{branches_in, match_in, matches_in, set_in, search_value, branch_by_edge}
 use Rattle.blossom_match.proofs.SearchLemmas.{hung}
 use Rattle.blossom_match.proofs.PartialMatchingLemmas.{grown_sets}
 use Rattle.blossom_match.proofs.search.grow_to.Goals as goal

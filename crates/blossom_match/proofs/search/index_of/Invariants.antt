@@ -1,5 +1,5 @@
 use Rattle.std.proofs.Common.{◌≤◌, drop}
-use Rattle.odd_sets.specs.DualSets.{count}
+use Rattle.blossom_match.proofs.Names.{count}
 use Rattle.blossom_match.proofs.search.index_of.Given as goal
 
 -- a place that is left is the one

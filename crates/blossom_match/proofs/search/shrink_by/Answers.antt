@@ -1,15 +1,12 @@
 use Rattle.std.proofs.Common.{arith, []}
-use Rattle.odd_sets.specs.Slots.{branches_in, set_in}
-use Rattle.blossom_match.specs.States.{search_value}
-use Rattle.odd_sets.specs.Trees.{all_dual_sets}
+use Rattle.blossom_match.proofs.Names.{branches_in, set_in, search_value, all_dual_sets, all_uses, sets_fewer, entry-comm, nat_tests}
 use Rattle.blossom_match.proofs.LoweredLemmas.{carries, folds_cells, folds_row}
-use Rattle.blossom_match.proofs.SearchLemmas.{can_shrink, shrunk}
-use Rattle.odd_sets.proofs.CallerLemmas.{all_uses, sets_fewer}
+use Rattle.blossom_match.proofs.SearchLemmas.{shrunk, is_one, place_in}
 use Rattle.blossom_match.proofs.PartialMatchingLemmas.{closed_sets, matches_stay}
 use Rattle.blossom_match.proofs.search.shrink_by.Goals as goal
 
 pub shrink-requires-clause-can : goal.shrink-requires-clause-can
-shrink-requires-clause-can c = can_shrink c.args.link (search_value c.args.s) c.requires.step
+shrink-requires-clause-can c = grind (arith, nat_tests, is_one, place_in, entry-comm, c.requires.step)
 
 pub shrink-requires-clause-sets : goal.shrink-requires-clause-sets
 shrink-requires-clause-sets c =

@@ -1,12 +1,7 @@
 use Rattle.std.proofs.Common.{arith, ap, length, List, ℕ, ◌≡◌, ◌++◌, ◌∙◌, subst, sym}
-use Rattle.std.proofs.lemmas.List.{length-map}
-use Rattle.std.specs.Vec.Iter.{into_iter_items}
-use Rattle.odd_sets.specs.DualSets.{dual_sets}
-use Rattle.odd_sets.specs.MatchedSets.{match_dual_sets}
-use Rattle.odd_sets.specs.Slots.{core_in, match_in, matches_in, set_in, AreSets}
-use Rattle.blossom_match.specs.Taken.{moat_of_set}
-use Rattle.odd_sets.specs.declared.matches.Match.{Match}
-use Rattle.odd_sets.proofs.CallerLemmas.{set_of, sets_fewer, sets_left, sets_right}
+use Rattle.blossom_match.proofs.Names.{length-map, into_iter_items, dual_sets, match_dual_sets, match_in, matches_in, set_in, AreSets, moat_of_set, Match, sets_fewer}
+use Rattle.odd_sets.specs.Slots.{core_in}
+use Rattle.odd_sets.proofs.CallerLemmas.{set_of, sets_left, sets_right}
 use Rattle.blossom_match.proofs.TakenLemmas.{core_of, core_uses, head_of, rest_of, rest_uses, taking_done, taking_more, taking_start, took_place, took_blossom}
 use Rattle.blossom_match.proofs.taking.+taking.Goals as goal
 

@@ -1,9 +1,5 @@
 use Rattle.std.proofs.Common.{◌+◌, ◌*◌, length}
-use Rattle.std.specs.Vec.Iter.{into_iter_items}
-use Rattle.odd_sets.specs.DualSets.{dual_sets}
-use Rattle.odd_sets.specs.MatchedSets.{match_dual_sets}
-use Rattle.blossom_match.specs.Taken.{IsTakingApart}
-use Rattle.odd_sets.specs.Slots.{matches_in, set_in, AreSets}
+use Rattle.blossom_match.proofs.Names.{into_iter_items, dual_sets, match_dual_sets, IsTakingApart, matches_in, set_in, AreSets}
 use Rattle.blossom_match.proofs.taking.+taking.Given as goal
 
 abbrev pub decreases-take_matches : goal.decreases-take_matches

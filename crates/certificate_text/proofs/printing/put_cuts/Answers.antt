@@ -1,6 +1,5 @@
 use Rattle.std.proofs.Common.{◌<◌, ◌^◌}
-use Rattle.odd_cuts.specs.declared.cut.Cut.{Cut}
-use Rattle.certificate_text.specs.CertificateTexts.{cut_line_text}
+use Rattle.certificate_text.proofs.Names.{Cut, cut_line_text}
 use Rattle.certificate_text.proofs.ItemPuts.{all_kept, put_more}
 use Rattle.certificate_text.proofs.printing.put_cuts.Goals as goal
 

@@ -1,7 +1,5 @@
 use Rattle.std.proofs.Common.{◌++◌, ◌<◌, ◌^◌}
-use Rattle.std.specs.List.{flat_map}
-use Rattle.odd_cuts.specs.declared.cut.Cut.{Cut}
-use Rattle.certificate_text.specs.CertificateTexts.{cut_line_text}
+use Rattle.certificate_text.proofs.Names.{flat_map, Cut, cut_line_text}
 use Rattle.certificate_text.proofs.ItemPuts.{PutsOn}
 use Rattle.certificate_text.proofs.printing.put_cuts.Given as goal
 

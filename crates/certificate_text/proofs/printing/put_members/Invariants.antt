@@ -1,6 +1,5 @@
 use Rattle.std.proofs.Common.{◌≡◌, ◌++◌, drop}
-use Rattle.std.specs.List.{flat_map}
-use Rattle.certificate_text.specs.CertificateTexts.{member_text}
+use Rattle.certificate_text.proofs.Names.{flat_map, member_text}
 use Rattle.certificate_text.proofs.printing.put_members.Given as goal
 
 -- the text so far, and that of the members that are left

@@ -1,6 +1,5 @@
 use Rattle.std.proofs.Common.{◌≡◌, ◌++◌, drop}
-use Rattle.std.specs.List.{flat_map}
-use Rattle.certificate_text.specs.CertificateTexts.{pass_text}
+use Rattle.certificate_text.proofs.Names.{flat_map, pass_text}
 use Rattle.certificate_text.proofs.printing.put_passes.Given as goal
 
 -- the text so far, and that of the walk that are left

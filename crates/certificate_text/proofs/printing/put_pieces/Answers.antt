@@ -1,5 +1,4 @@
-use Rattle.certificate_text.specs.CertificateTexts.{piece_text}
-use Rattle.certificate_text.specs.ReadCertificates.{HasSmallNumbers}
+use Rattle.certificate_text.proofs.Names.{piece_text, HasSmallNumbers}
 use Rattle.certificate_text.proofs.ItemPuts.{all_kept, put_more}
 use Rattle.certificate_text.proofs.printing.put_pieces.Goals as goal
 

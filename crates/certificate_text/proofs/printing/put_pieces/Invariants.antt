@@ -1,7 +1,5 @@
 use Rattle.std.proofs.Common.{◌++◌}
-use Rattle.std.specs.List.{flat_map}
-use Rattle.certificate_text.specs.CertificateTexts.{piece_text}
-use Rattle.certificate_text.specs.ReadCertificates.{HasSmallNumbers}
+use Rattle.certificate_text.proofs.Names.{flat_map, piece_text, HasSmallNumbers}
 use Rattle.certificate_text.proofs.ItemPuts.{PutsOn}
 use Rattle.certificate_text.proofs.printing.put_pieces.Given as goal
 

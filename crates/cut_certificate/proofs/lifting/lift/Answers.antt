@@ -1,6 +1,5 @@
 use Rattle.std.proofs.Common.{ap, sym}
-use Rattle.blossom_match.specs.declared.matching.Moat.{Moat}
-use Rattle.line_graph.specs.PiecesOfDrawings.{graph_of}
+use Rattle.cut_certificate.proofs.Names.{Moat, graph_of}
 use Rattle.cut_certificate.proofs.FitLemmas.{can_reach, cuts_of, lifted_by, piece_site, reach_at, reach_few}
 use Rattle.cut_certificate.proofs.LiftLemmas.{next_lifted}
 use Rattle.cut_certificate.proofs.lifting.lift.Goals as goal

@@ -1,5 +1,5 @@
 use Rattle.std.proofs.Common.{drop}
-use Rattle.line_graph.specs.PiecesOfDrawings.{graph_of}
+use Rattle.cut_certificate.proofs.Names.{graph_of}
 use Rattle.cut_certificate.proofs.FitLemmas.{piece_site}
 use Rattle.cut_certificate.proofs.LiftLemmas.{AreLifted}
 use Rattle.cut_certificate.proofs.lifting.lift.Given as goal

@@ -1,5 +1,5 @@
 use Rattle.std.proofs.Common.{◌≤◌, ◌-◌}
-use Rattle.cut_certificate.specs.MoatCuts.{AddsCuts, AreCutsTo}
+use Rattle.cut_certificate.proofs.Names.{AddsCuts, AreCutsTo}
 use Rattle.cut_certificate.proofs.moat_cuts.add_cuts.Given as goal
 
 -- the cuts up to a level are there

@@ -1,5 +1,5 @@
 use Rattle.std.proofs.Common.{◌≡◌, ◌+◌, ◌++◌, length}
-use Rattle.cut_certificate.specs.MoatCuts.{members_from}
+use Rattle.cut_certificate.proofs.Names.{members_from}
 use Rattle.cut_certificate.proofs.moat_cuts.members_to.Given as goal
 
 -- with those of the levels that are left, the members so far are all

@@ -1,5 +1,5 @@
 use Rattle.std.proofs.Common.{ℕ, ◌<◌, ◌≤◌, ◌⊎◌}
-use Rattle.std.specs.Prelude.{slice_index}
+use Rattle.cut_certificate.proofs.Names.{slice_index}
 use Rattle.cut_certificate.proofs.moat_cuts.next_level.Given as goal
 
 -- the levels so far are no more than that from which to go on, or no less than the next one

@@ -1,7 +1,5 @@
 use Rattle.std.proofs.Common.{List, length, ℕ, ◌∙◌, ap, refl, sym}
-use Rattle.std.proofs.lemmas.Option.{slice_get_read}
-use Rattle.cut_certificate.specs.Levels.{lift_input}
-use Rattle.cut_certificate.specs.TerminalStates.{surrounded}
+use Rattle.cut_certificate.proofs.Names.{slice_get_read, lift_input, surrounded}
 use Rattle.cut_certificate.proofs.ProgressLemmas.{is_next, progress_on, skipped}
 use Rattle.cut_certificate.proofs.moat_distances.add.Goals as goal
 

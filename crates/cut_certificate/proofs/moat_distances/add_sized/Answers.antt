@@ -1,4 +1,4 @@
-use Rattle.cut_certificate.specs.Levels.{lift_input}
+use Rattle.cut_certificate.proofs.Names.{lift_input}
 use Rattle.cut_certificate.proofs.ProgressLemmas.{all_odd, next_size}
 use Rattle.cut_certificate.proofs.moat_distances.add_sized.Goals as goal
 

@@ -1,5 +1,4 @@
-use Rattle.cut_certificate.specs.Levels.{lift_input}
-use Rattle.cut_certificate.specs.MoatDistances.{IsProgress}
+use Rattle.cut_certificate.proofs.Names.{lift_input, IsProgress}
 use Rattle.cut_certificate.proofs.moat_distances.add_sized.Given as goal
 
 -- the moats with that number of members before the index were processed

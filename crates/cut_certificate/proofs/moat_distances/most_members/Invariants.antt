@@ -1,5 +1,5 @@
 use Rattle.std.proofs.Common.{◌≤◌, All, length, take}
-use Rattle.blossom_match.specs.declared.matching.Moat.{Moat}
+use Rattle.cut_certificate.proofs.Names.{Moat}
 use Rattle.cut_certificate.proofs.moat_distances.most_members.Given as goal
 
 -- none of the moats so far has more

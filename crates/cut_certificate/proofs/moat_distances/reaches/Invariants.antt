@@ -1,6 +1,5 @@
 use Rattle.std.proofs.Common.{◌+◌, ◌*◌}
-use Rattle.cut_certificate.specs.Levels.{lift_input}
-use Rattle.cut_certificate.specs.MoatDistances.{IsProgress}
+use Rattle.cut_certificate.proofs.Names.{lift_input, IsProgress}
 use Rattle.cut_certificate.proofs.moat_distances.reaches.Given as goal
 
 -- the moats with fewer members were gone through

@@ -1,6 +1,5 @@
 use Rattle.std.proofs.Common.{length}
-use Rattle.std.specs.Prelude.{slice_index}
-use Rattle.cut_certificate.specs.Levels.{lift_input}
+use Rattle.cut_certificate.proofs.Names.{slice_index, lift_input}
 use Rattle.cut_certificate.proofs.WayLemmas.{first_way, reach_wide, row_low}
 use Rattle.cut_certificate.proofs.single_moat.lower.Goals as goal
 

@@ -1,7 +1,5 @@
 use Rattle.std.proofs.Common.{ℕ, ◌≡◌, ◌<◌, All, length}
-use Rattle.std.specs.Prelude.{slice_index}
-use Rattle.cut_certificate.specs.Levels.{lift_input}
-use Rattle.cut_certificate.specs.MoatDistances.{HasDistance, lowered_distance}
+use Rattle.cut_certificate.proofs.Names.{slice_index, lift_input, HasDistance, lowered_distance}
 use Rattle.cut_certificate.proofs.single_moat.lower_all.Given as goal
 
 -- lowering by the remaining terminals gives the wanted distances

@@ -1,5 +1,5 @@
 use Rattle.std.proofs.Common.{ℕ, ◌≡◌, ◌-◌, ◌<◌, ◌≤◌, length, min}
-use Rattle.std.specs.Prelude.{slice_index}
+use Rattle.cut_certificate.proofs.Names.{slice_index}
 use Rattle.cut_certificate.proofs.single_moat.lower_past.Given as goal
 
 -- the numbers before j are lowered, the others as they were

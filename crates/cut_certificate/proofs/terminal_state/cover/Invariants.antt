@@ -1,5 +1,5 @@
 use Rattle.std.proofs.Common.{◌≡◌, ◌<◌, All, length}
-use Rattle.cut_certificate.specs.TerminalStates.{covered}
+use Rattle.cut_certificate.proofs.Names.{covered}
 use Rattle.cut_certificate.proofs.terminal_state.cover.Given as goal
 
 -- covering the remaining terminals gives the wanted states

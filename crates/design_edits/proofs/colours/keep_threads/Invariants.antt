@@ -1,5 +1,5 @@
 use Rattle.std.proofs.Common.{◌≡◌, ◌+◌, ◌-◌, length}
-use Rattle.design_edits.specs.Colours.{threads_up_to}
+use Rattle.design_edits.proofs.Names.{threads_up_to}
 use Rattle.design_edits.proofs.colours.keep_threads.Given as goal
 
 -- the threads so far, and those up to the place

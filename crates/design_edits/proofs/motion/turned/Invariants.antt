@@ -1,7 +1,6 @@
 use Rattle.std.proofs.Common.{◌≡◌, IsTrue}
+use Rattle.design_edits.proofs.Names.{is_point_within, turn_point}
 use Rattle.design_model.specs.declared.point.TheConstants.{JUMP_LIMIT}
-use Rattle.design_model.specs.Points.{is_point_within}
-use Rattle.design_edits.specs.Moves.{turn_point}
 use Rattle.design_edits.proofs.motion.turned.Given as goal
 
 -- the quarters so far

@@ -1,8 +1,5 @@
 use Rattle.std.proofs.Common.{◌≡◌, ◌+◌, not, IsTrue, drop, map}
-use Rattle.std.specs.List.{list_all, position_from}
-use Rattle.design_model.specs.Commands.{is_command_in_range}
-use Rattle.design_edits.specs.Motions.{motion_map}
-use Rattle.design_edits.specs.Moves.{first_out_of_range, with_mapped_point}
+use Rattle.design_edits.proofs.Names.{list_all, position_from, is_command_in_range, motion_map, first_out_of_range, with_mapped_point}
 use Rattle.design_edits.proofs.moving.first_outside.Given as goal
 
 -- None of the commands so far is out of range: the first is among the remaining ones.

@@ -1,4 +1,4 @@
-use Rattle.design_edits.specs.Motions.{motion_map}
+use Rattle.design_edits.proofs.Names.{motion_map}
 use Rattle.design_edits.proofs.MoveLemmas.{stays_there}
 use Rattle.design_edits.proofs.moving.move_point.Goals as goal
 

@@ -1,6 +1,5 @@
 use Rattle.std.proofs.Common.{◌<◌, length, subst}
-use Rattle.design_edits.specs.Motions.{motion_map}
-use Rattle.design_edits.specs.Moves.{with_mapped_point}
+use Rattle.design_edits.proofs.Names.{motion_map, with_mapped_point}
 use Rattle.design_edits.proofs.MoveLemmas.{next_inside, next_mapped}
 use Rattle.design_edits.proofs.moving.move_points.Goals as goal
 

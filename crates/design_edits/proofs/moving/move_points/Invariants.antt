@@ -1,6 +1,5 @@
 use Rattle.std.proofs.Common.{◌≡◌, ◌++◌, drop, take, map}
-use Rattle.design_edits.specs.Motions.{motion_map}
-use Rattle.design_edits.specs.Moves.{with_mapped_point}
+use Rattle.design_edits.proofs.Names.{motion_map, with_mapped_point}
 use Rattle.design_edits.proofs.moving.move_points.Given as goal
 
 -- the points so far are moved, and the others are as they were

@@ -1,4 +1,4 @@
-use Rattle.line_graph.specs.PiecesOfDrawings.{graph_of}
+use Rattle.double_run.proofs.Names.{graph_of}
 use Rattle.double_run.proofs.HomeLemmas.{double_fits}
 use Rattle.double_run.proofs.StepLemmas.{finished, finished_cost}
 use Rattle.double_run.proofs.double_walk.double.Goals as goal

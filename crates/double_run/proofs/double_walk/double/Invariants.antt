@@ -1,6 +1,5 @@
-use Rattle.line_graph.specs.PiecesOfDrawings.{graph_of}
+use Rattle.double_run.proofs.Names.{graph_of, IsTraversal}
 use Rattle.double_run.specs.TraversalSteps.{traversal_rank}
-use Rattle.double_run.specs.Traversals.{IsTraversal}
 use Rattle.double_run.proofs.double_walk.double.Given as goal
 
 -- the traversal is one over the piece

@@ -1,5 +1,5 @@
 use Rattle.std.proofs.Common.{◌∙◌}
-use Rattle.line_graph.specs.PiecesOfDrawings.{graph_of}
+use Rattle.double_run.proofs.Names.{graph_of}
 use Rattle.double_run.proofs.StepLemmas.{begins_all, begins_chains}
 use Rattle.double_run.proofs.traversal.at_the_start.Goals as goal
 

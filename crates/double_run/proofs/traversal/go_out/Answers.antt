@@ -1,5 +1,5 @@
-use Rattle.line_graph.specs.PiecesOfDrawings.{graph_of}
 use Rattle.std.proofs.Common.{refl}
+use Rattle.double_run.proofs.Names.{graph_of}
 use Rattle.double_run.proofs.StepLemmas.{out_step}
 use Rattle.double_run.proofs.traversal.go_out.Goals as goal
 

@@ -1,5 +1,5 @@
 use Rattle.std.proofs.Common.{◌∙◌, arith, false, true}
-use Rattle.line_graph.specs.PiecesOfDrawings.{graph_of}
+use Rattle.double_run.proofs.Names.{graph_of}
 use Rattle.double_run.proofs.CursorLemmas.{cursor_leads, is_passed, read_passed, spent_at}
 use Rattle.double_run.proofs.StepLemmas.{over_step}
 use Rattle.double_run.proofs.traversal.step.Goals as goal

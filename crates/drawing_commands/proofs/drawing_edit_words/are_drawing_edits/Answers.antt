@@ -1,7 +1,5 @@
 use Rattle.std.proofs.Common.{map, string_bytes, sym, ◌∙◌}
-use Rattle.std.proofs.lemmas.List.{at_drop_more}
-use Rattle.std.specs.Prelude.{is_some}
-use Rattle.drawing_commands.specs.DrawingEditWords.{parsed_drawing_edits}
+use Rattle.drawing_commands.proofs.Names.{at_drop_more, is_some, parsed_drawing_edits}
 use Rattle.command_words.proofs.CallerLemmas.{parsed_before}
 use Rattle.drawing_commands.proofs.drawing_edit_words.are_drawing_edits.Goals as goal
 

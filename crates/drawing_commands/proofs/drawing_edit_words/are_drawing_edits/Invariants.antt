@@ -1,6 +1,5 @@
 use Rattle.std.proofs.Common.{◌≡◌, drop, map, string_bytes}
-use Rattle.std.specs.Prelude.{is_some}
-use Rattle.drawing_commands.specs.DrawingEditWords.{parsed_drawing_edits}
+use Rattle.drawing_commands.proofs.Names.{is_some, parsed_drawing_edits}
 use Rattle.drawing_commands.proofs.drawing_edit_words.are_drawing_edits.Given as goal
 
 -- All arguments are edits if the remaining ones are.

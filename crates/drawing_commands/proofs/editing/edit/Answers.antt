@@ -1,7 +1,5 @@
 use Rattle.std.proofs.Common.{map, string_bytes}
-use Rattle.program_shell.proofs.CallerLemmas.{settles_taken}
-use Rattle.drawing_commands.specs.DrawingEditing.{drawing_edit_order, drawing_edit_read}
-use Rattle.drawing_commands.specs.DrawingEditWords.{drawing_edits_of}
+use Rattle.drawing_commands.proofs.Names.{settles_taken, drawing_edit_order, drawing_edit_read, drawing_edits_of}
 use Rattle.drawing_commands.proofs.editing.edit.Goals as goal
 
 pub edit_read-requires-clause-ordered : goal.edit_read-requires-clause-ordered

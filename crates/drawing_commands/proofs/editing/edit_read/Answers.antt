@@ -1,5 +1,4 @@
-use Rattle.program_shell.proofs.CallerLemmas.{fault_refused}
-use Rattle.drawing_commands.specs.DrawingEditing.{bad_edit_is_out_of_memory, edited_plan}
+use Rattle.drawing_commands.proofs.Names.{fault_refused, bad_edit_is_out_of_memory, edited_plan}
 use Rattle.drawing_commands.proofs.editing.edit_read.Goals as goal
 
 pub returns-in-Err : goal.returns-in-Err

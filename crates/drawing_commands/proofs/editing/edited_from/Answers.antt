@@ -1,7 +1,6 @@
 use Rattle.std.proofs.Common.{map, string_bytes}
-use Rattle.drawing_commands.specs.DrawingEditWords.{parsed_drawing_edit, parsed_drawing_edits}
+use Rattle.drawing_commands.proofs.Names.{parsed_drawing_edit, parsed_drawing_edits, first_parsed, later_parsed}
 use Rattle.drawing_commands.proofs.DrawingEditLemmas.{edits_from, first_refused}
-use Rattle.command_words.proofs.CallerLemmas.{first_parsed, later_parsed}
 use Rattle.drawing_commands.proofs.editing.edited_from.Goals as goal
 
 pub apply_word-requires-clause-edit : goal.apply_word-requires-clause-edit

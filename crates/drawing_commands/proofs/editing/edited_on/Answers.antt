@@ -1,5 +1,5 @@
 use Rattle.std.proofs.Common.{map, string_bytes, arith}
-use Rattle.std.proofs.lemmas.List.{at_drop_more}
+use Rattle.drawing_commands.proofs.Names.{at_drop_more}
 use Rattle.drawing_commands.proofs.DrawingEditLemmas.{edits_go_on, edits_refused, next_parsed}
 use Rattle.drawing_commands.proofs.editing.edited_on.Goals as goal
 

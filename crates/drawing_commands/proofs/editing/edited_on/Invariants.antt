@@ -1,5 +1,5 @@
 use Rattle.std.proofs.Common.{◌≡◌, ◌+◌, true, drop, map, string_bytes}
-use Rattle.drawing_model.specs.EndOrders.{HasOrderedEnds}
+use Rattle.drawing_commands.proofs.Names.{HasOrderedEnds}
 use Rattle.drawing_model.specs.JoinedDrawings.{is_joined}
 use Rattle.drawing_commands.proofs.DrawingEditLemmas.{EditsGoOn}
 use Rattle.drawing_commands.proofs.editing.edited_on.Given as goal

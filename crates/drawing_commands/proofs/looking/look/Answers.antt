@@ -1,5 +1,5 @@
-use Rattle.program_shell.proofs.CallerLemmas.{settles_taken}
-use Rattle.drawing_commands.specs.Looks.{look_order, look_read}
+use Rattle.drawing_commands.proofs.Names.{settles_taken, look_read}
+use Rattle.drawing_commands.specs.Looks.{look_order}
 use Rattle.drawing_commands.proofs.looking.look.Goals as goal
 
 pub returns : goal.returns

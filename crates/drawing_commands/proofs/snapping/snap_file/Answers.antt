@@ -1,5 +1,4 @@
-use Rattle.program_shell.proofs.CallerLemmas.{settles_taken}
-use Rattle.drawing_commands.specs.SnapOrders.{snap_order, snap_read}
+use Rattle.drawing_commands.proofs.Names.{settles_taken, snap_order, snap_read}
 use Rattle.drawing_commands.proofs.snapping.snap_file.Goals as goal
 
 pub returns : goal.returns

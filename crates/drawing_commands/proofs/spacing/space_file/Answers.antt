@@ -1,5 +1,4 @@
-use Rattle.program_shell.proofs.CallerLemmas.{settles_taken}
-use Rattle.drawing_commands.specs.SpaceOrders.{space_order, space_read}
+use Rattle.drawing_commands.proofs.Names.{settles_taken, space_order, space_read}
 use Rattle.drawing_commands.proofs.spacing.space_file.Goals as goal
 
 pub returns : goal.returns

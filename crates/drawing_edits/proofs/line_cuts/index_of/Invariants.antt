@@ -1,6 +1,5 @@
 use Rattle.std.proofs.Common.{◌≡◌, ◌+◌, drop}
-use Rattle.std.specs.List.{position_or_len}
-use Rattle.design_model.specs.Points.{is_same_point}
+use Rattle.drawing_edits.proofs.Names.{position_or_len, is_same_point}
 use Rattle.drawing_edits.proofs.line_cuts.index_of.Given as goal
 
 -- The points so far are others.

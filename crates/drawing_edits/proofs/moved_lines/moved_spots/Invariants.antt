@@ -1,6 +1,5 @@
 use Rattle.std.proofs.Common.{◌≡◌, take, map}
-use Rattle.design_edits.specs.Motions.{motion_map}
-use Rattle.drawing_edits.specs.MovedDrawings.{with_moved_spot}
+use Rattle.drawing_edits.proofs.Names.{motion_map, with_moved_spot}
 use Rattle.drawing_edits.proofs.moved_lines.moved_spots.Given as goal
 
 -- the spots so far are moved

@@ -1,5 +1,5 @@
 use Rattle.std.proofs.Common.{sym, ◌∙◌}
-use Rattle.drawing_edits.specs.PieceOrders.{line_numbered}
+use Rattle.drawing_edits.proofs.Names.{line_numbered}
 use Rattle.drawing_edits.proofs.OutsideLemmas.{outside_skips, outside_takes}
 use Rattle.drawing_edits.proofs.piece_orders.put_outside.Goals as goal
 

@@ -1,5 +1,5 @@
 use Rattle.std.proofs.Common.{◌≡◌, ◌++◌, map}
-use Rattle.drawing_edits.specs.PieceOrders.{line_numbered, lines_outside}
+use Rattle.drawing_edits.proofs.Names.{line_numbered, lines_outside}
 use Rattle.drawing_edits.proofs.piece_orders.put_outside.Given as goal
 
 -- The lines so far are added: the result depends on them and on the others.

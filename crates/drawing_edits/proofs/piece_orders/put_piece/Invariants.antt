@@ -1,5 +1,5 @@
 use Rattle.std.proofs.Common.{◌≡◌, ◌++◌, map, take}
-use Rattle.drawing_edits.specs.PieceOrders.{line_numbered}
+use Rattle.drawing_edits.proofs.Names.{line_numbered}
 use Rattle.drawing_edits.proofs.piece_orders.put_piece.Given as goal
 
 -- The lines so far are added.

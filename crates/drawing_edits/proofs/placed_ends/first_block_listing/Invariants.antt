@@ -1,5 +1,5 @@
 use Rattle.std.proofs.Common.{◌≡◌, length}
-use Rattle.drawing_edits.specs.PlacedEnds.{lines_listing}
+use Rattle.drawing_edits.proofs.Names.{lines_listing}
 use Rattle.drawing_edits.proofs.placed_ends.first_block_listing.Given as goal
 
 -- The lines so far don't list the point.

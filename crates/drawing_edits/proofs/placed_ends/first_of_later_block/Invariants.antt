@@ -1,5 +1,5 @@
 use Rattle.std.proofs.Common.{◌≡◌, ◌+◌, drop, nat_lt}
-use Rattle.std.specs.List.{position_or_len}
+use Rattle.drawing_edits.proofs.Names.{position_or_len}
 use Rattle.drawing_edits.proofs.placed_ends.first_of_later_block.Given as goal
 
 -- The spots so far are of the block or of an earlier one.

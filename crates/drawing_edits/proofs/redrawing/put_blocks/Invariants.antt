@@ -1,5 +1,5 @@
 use Rattle.std.proofs.Common.{◌≡◌, drop}
-use Rattle.drawing_edits.specs.RedrawnDrawings.{with_blocks}
+use Rattle.drawing_edits.proofs.Names.{with_blocks}
 use Rattle.drawing_edits.proofs.redrawing.put_blocks.Given as goal
 
 -- the blocks so far are drawn: the result depends on the drawing with them and on the others

@@ -1,5 +1,5 @@
 use Rattle.std.proofs.Common.{◌≡◌, drop}
-use Rattle.drawing_edits.specs.RedrawnDrawings.{with_lines_of}
+use Rattle.drawing_edits.proofs.Names.{with_lines_of}
 use Rattle.drawing_edits.proofs.redrawing.put_lines_of.Given as goal
 
 -- the lines so far are drawn: the result depends on the drawing with them and on the others

@@ -1,5 +1,5 @@
 use Rattle.std.proofs.Common.{◌≡◌, drop}
-use Rattle.drawing_edits.specs.RedrawnDrawings.{with_walk_ends}
+use Rattle.drawing_edits.proofs.Names.{with_walk_ends}
 use Rattle.drawing_edits.proofs.redrawing.put_spots.Given as goal
 
 -- the spots so far are added: the result depends on the drawing with them and on the others

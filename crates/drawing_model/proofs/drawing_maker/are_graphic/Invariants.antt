@@ -1,6 +1,5 @@
 use Rattle.std.proofs.Common.{◌≡◌, length}
-use Rattle.std.specs.Char.{is_ascii_graphic}
-use Rattle.std.specs.List.{list_all}
+use Rattle.drawing_model.proofs.Names.{is_ascii_graphic, list_all}
 use Rattle.drawing_model.proofs.drawing_maker.are_graphic.Given as goal
 
 -- the bytes so far pass, so all depends on those that are left

@@ -1,5 +1,5 @@
 use Rattle.std.proofs.Common.{◌≡◌, take}
-use Rattle.drawing_model.specs.GrowingDrawings.{step_count}
+use Rattle.drawing_model.proofs.Names.{step_count}
 use Rattle.drawing_model.proofs.drawn_lines.drawing_cost.Given as goal
 
 -- the cost of the lines so far

@@ -1,7 +1,6 @@
 use Rattle.std.proofs.Common.{◌≡◌, arith}
+use Rattle.drawing_model.proofs.Names.{points_of, steps_of_line}
 use Rattle.drawing_model.proofs.CallerLemmas.{cost_is}
-use Rattle.drawing_model.specs.Drawings.{points_of}
-use Rattle.drawing_model.specs.Needles.{steps_of_line}
 use Rattle.drawing_model.proofs.drawn_lines.line_cost.Goals as goal
 
 pub returns : goal.returns

@@ -1,5 +1,5 @@
 use Rattle.std.proofs.Common.{◌≡◌, ◌+◌, length}
-use Rattle.drawing_model.specs.GrowingDrawings.{point_count}
+use Rattle.drawing_model.proofs.Names.{point_count}
 use Rattle.drawing_model.proofs.joined_drawing.have_many_points.Given as goal
 
 -- what the lines so far have left of the room

@@ -1,5 +1,5 @@
 use Rattle.std.proofs.Common.{◌≡◌, length}
-use Rattle.drawing_model.specs.GrowingDrawings.{all_in_needle_range}
+use Rattle.drawing_model.proofs.Names.{all_in_needle_range}
 use Rattle.drawing_model.proofs.line_shape.are_in_range.Given as goal
 
 -- the points so far are in range, so all depends on those that are left

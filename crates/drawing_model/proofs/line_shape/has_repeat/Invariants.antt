@@ -1,5 +1,5 @@
 use Rattle.std.proofs.Common.{◌≡◌, length}
-use Rattle.drawing_model.specs.GrowingDrawings.{has_repeated_point, repeats_after}
+use Rattle.drawing_model.proofs.Names.{has_repeated_point, repeats_after}
 use Rattle.drawing_model.proofs.line_shape.has_repeat.Given as goal
 
 -- no point so far is the same as the one before it

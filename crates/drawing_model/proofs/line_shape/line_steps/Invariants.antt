@@ -1,6 +1,5 @@
 use Rattle.std.proofs.Common.{◌≡◌, ◌+◌, ◌*◌, ◌≤◌, All, length}
-use Rattle.step_splitter.specs.Chains.{IsNeedlePoint, HasNoRepeatAfter}
-use Rattle.drawing_model.specs.Needles.{steps_of_line, segment_steps}
+use Rattle.drawing_model.proofs.Names.{IsNeedlePoint, HasNoRepeatAfter, steps_of_line, segment_steps}
 use Rattle.drawing_model.proofs.line_shape.line_steps.Given as goal
 
 -- the steps so far and those that are left are those of the line; the points that are left can be sewn

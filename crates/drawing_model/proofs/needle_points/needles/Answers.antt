@@ -1,7 +1,6 @@
 use Rattle.std.proofs.Common.{◌≡◌, rules}
+use Rattle.drawing_model.proofs.Names.{points_of, LeadAlong, needles_of_line}
 use Rattle.drawing_model.proofs.NeedleLemmas.{needles_sound}
-use Rattle.drawing_model.specs.Drawings.{points_of}
-use Rattle.drawing_model.specs.LineNeedles.{LeadAlong, needles_of_line}
 use Rattle.drawing_model.proofs.needle_points.needles.Goals as goal
 
 pub returns-clause-sound : goal.returns-clause-sound

@@ -1,7 +1,5 @@
 use Rattle.std.proofs.Common.{◌≡◌, ◌+◌, ◌++◌, length}
-use Rattle.std.specs.List.{flat_map}
-use Rattle.drawing_picture.specs.Bands.{bands_from}
-use Rattle.drawing_picture.specs.BandTexts.{band_text}
+use Rattle.drawing_picture.proofs.Names.{flat_map, bands_from, band_text}
 use Rattle.drawing_picture.proofs.bands.put_bands.Given as goal
 
 -- the bands so far, and those of the cuts that are left

@@ -1,5 +1,5 @@
 use Rattle.std.proofs.Common.{◌<◌, All, List, length, subst, sym}
-use Rattle.line_graph.specs.declared.piece.Piece.{Piece}
+use Rattle.drawing_picture.proofs.Names.{Piece}
 use Rattle.drawing_picture.proofs.CertificateLemmas.{lines_there, sewn_of, shown_of}
 use Rattle.drawing_picture.proofs.certificate_check.right_picture.Goals as goal
 

@@ -1,6 +1,5 @@
 use Rattle.std.proofs.Common.{◌++◌, ◌≡◌, drop}
-use Rattle.std.specs.List.{flat_map}
-use Rattle.drawing_picture.specs.DrawingCaptions.{junction_dot}
+use Rattle.drawing_picture.proofs.Names.{flat_map, junction_dot}
 use Rattle.drawing_picture.proofs.dots.put_dots.Given as goal
 
 -- the marks so far, and those that are left, are all

@@ -1,5 +1,5 @@
 use Rattle.std.proofs.Common.{◌++◌, ◌≡◌, drop}
-use Rattle.std.specs.List.{flat_map}
+use Rattle.drawing_picture.proofs.Names.{flat_map}
 use Rattle.picture_parts.specs.declared.marks.Mark.TheVariants as mark
 use Rattle.picture_parts.specs.Marks.{mark_text}
 use Rattle.drawing_picture.proofs.dots.put_loose_rings.Given as goal

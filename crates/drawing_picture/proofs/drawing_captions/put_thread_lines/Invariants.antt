@@ -1,5 +1,5 @@
 use Rattle.std.proofs.Common.{◌++◌, ◌+◌, ◌≡◌, drop, length}
-use Rattle.drawing_picture.specs.DrawingCaptions.{thread_lines}
+use Rattle.drawing_picture.proofs.Names.{thread_lines}
 use Rattle.drawing_picture.proofs.drawing_captions.put_thread_lines.Given as goal
 
 -- the lines so far, and those of the threads that are left, are all

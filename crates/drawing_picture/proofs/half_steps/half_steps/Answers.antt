@@ -1,7 +1,5 @@
 use Rattle.std.proofs.Common.{◌≡◌, ◌++◌, ◌∷◌, [], All, List, refl, rules, subst}
-use Rattle.std.proofs.lemmas.List.Elements.{All-head, All-tail}
-use Rattle.design_model.specs.declared.point.Point.{Point}
-use Rattle.step_splitter.specs.Chains.{IsNeedlePoint}
+use Rattle.drawing_picture.proofs.Names.{All-head, All-tail, Point, IsNeedlePoint}
 use Rattle.drawing_picture.proofs.BandLemmas.{half_steps_next}
 use Rattle.drawing_picture.proofs.half_steps.half_steps.Goals as goal
 

@@ -1,6 +1,6 @@
 use Rattle.std.proofs.Common.{◌≡◌, ◌++◌, ◌∷◌, All, length}
-use Rattle.drawing_picture.specs.Bands.{half_steps as half_steps_along, half_steps_from}
-use Rattle.step_splitter.specs.Chains.{IsNeedlePoint}
+use Rattle.drawing_picture.proofs.Names.{half_steps_from, IsNeedlePoint}
+use Rattle.drawing_picture.specs.Bands.{half_steps as half_steps_along}
 use Rattle.drawing_picture.proofs.half_steps.half_steps.Given as goal
 
 -- the half steps so far and those of the needle points that are left

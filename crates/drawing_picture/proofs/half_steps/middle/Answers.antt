@@ -1,6 +1,6 @@
 use Rattle.std.proofs.Common.{◌≡◌, ◌≤◌, ◌&&◌, ℕ, ℤ, ◌+ℤ◌, true, nat_le, unsigned_abs, to_z, of_z, w32, ap, arith, ◌∙◌}
-use Rattle.std.proofs.lemmas.Bool.Decides.{nat_tests}
 use Rattle.std.proofs.lemmas.Int.{ints}
+use Rattle.drawing_picture.proofs.Names.{nat_tests}
 use Rattle.drawing_picture.proofs.half_steps.middle.Goals as goal
 
 -- a coordinate is held as it is, and a sum of two

@@ -1,6 +1,5 @@
 use Rattle.std.proofs.Common.{◌++◌, ◌≡◌, drop, map}
-use Rattle.drawing_picture.specs.JunctionMarks.{marks_of_pieces}
-use Rattle.line_graph.specs.PiecesOfDrawings.{graph_of}
+use Rattle.drawing_picture.proofs.Names.{marks_of_pieces, graph_of}
 use Rattle.drawing_picture.proofs.junction_marks.junction_marks.Given as goal
 
 -- the marks so far, and those of the pieces that are left, are all

@@ -1,5 +1,5 @@
 use Rattle.std.proofs.Common.{◌+◌, ◌≡◌, ◌≤◌, drop, length}
-use Rattle.drawing_picture.specs.JunctionMarks.{odd_marks}
+use Rattle.drawing_picture.proofs.Names.{odd_marks}
 use Rattle.drawing_picture.proofs.junction_marks.odd_count.Given as goal
 
 -- the odd junctions so far with those that are left are all, and no more than there are marks

@@ -1,12 +1,10 @@
-use Rattle.std.proofs.Common.{◌≡◌}
-use Rattle.drawing_picture.specs.JunctionMarks.{marks_of_piece}
-use Rattle.drawing_picture.specs.TestedMarks.{tested_marks}
-use Rattle.line_graph.specs.PiecesOfDrawings.{graph_of}
-use Rattle.drawing_picture.proofs.MarkLemmas.{junctions_few, piece_tested}
+use Rattle.std.proofs.Common.{◌≡◌, arith}
+use Rattle.drawing_picture.proofs.Names.{marks_of_piece, tested_marks, graph_of, nat_tests}
+use Rattle.drawing_picture.proofs.MarkLemmas.{piece_tested}
 use Rattle.drawing_picture.proofs.junction_marks.put_piece.Goals as goal
 
 pub put_tested-requires : goal.put_tested-requires
-put_tested-requires c = rw c.as_slice.ensures (junctions_few (graph_of c.args.p.now) c.args.p.now.kept)
+put_tested-requires c = rw c.as_slice.ensures (grind (arith, nat_tests))
 
 pub returns : goal.returns
 returns c =

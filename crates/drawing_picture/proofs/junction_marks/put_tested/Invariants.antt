@@ -1,5 +1,5 @@
 use Rattle.std.proofs.Common.{◌≡◌, ◌+◌, ◌++◌, length}
-use Rattle.drawing_picture.specs.TestedMarks.{tested_marks}
+use Rattle.drawing_picture.proofs.Names.{tested_marks}
 use Rattle.drawing_picture.proofs.junction_marks.put_tested.Given as goal
 
 -- the marks so far, and those of the junctions that are left, are all

@@ -1,5 +1,5 @@
 use Rattle.std.proofs.Common.{◌<◌, ℕ, All, List, length, subst}
-use Rattle.std.proofs.lemmas.List.Elements.{All-tail}
+use Rattle.drawing_picture.proofs.Names.{All-tail}
 use Rattle.drawing_picture.proofs.BandLemmas.{bands_next}
 use Rattle.drawing_picture.proofs.line_bands.put_lines.Goals as goal
 

@@ -1,5 +1,5 @@
 use Rattle.std.proofs.Common.{◌≡◌, ◌++◌, ◌<◌, All, length}
-use Rattle.drawing_picture.specs.BandTexts.{bands_of_lines}
+use Rattle.drawing_picture.proofs.Names.{bands_of_lines}
 use Rattle.drawing_picture.proofs.line_bands.put_lines.Given as goal
 
 -- the bands so far, and those of the lines that are left

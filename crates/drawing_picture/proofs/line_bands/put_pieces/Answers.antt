@@ -1,6 +1,5 @@
 use Rattle.std.proofs.Common.{◌<◌, ℕ, All, List, length, subst, sym}
-use Rattle.std.proofs.lemmas.List.Elements.{All-head, All-tail}
-use Rattle.line_graph.specs.declared.piece.Piece.{Piece}
+use Rattle.drawing_picture.proofs.Names.{All-head, All-tail, Piece}
 use Rattle.drawing_picture.proofs.BandLemmas.{pieces_next}
 use Rattle.drawing_picture.proofs.line_bands.put_pieces.Goals as goal
 

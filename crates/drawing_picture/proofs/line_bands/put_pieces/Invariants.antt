@@ -1,7 +1,5 @@
 use Rattle.std.proofs.Common.{◌≡◌, ◌++◌, ◌<◌, All, length, map}
-use Rattle.drawing_picture.specs.BandTexts.{bands_of_pieces}
-use Rattle.line_graph.specs.declared.piece.Piece.{Piece}
-use Rattle.line_graph.specs.PiecesOfDrawings.{graph_of}
+use Rattle.drawing_picture.proofs.Names.{bands_of_pieces, Piece, graph_of}
 use Rattle.drawing_picture.proofs.line_bands.put_pieces.Given as goal
 
 -- the bands so far, and those of the pieces that are left

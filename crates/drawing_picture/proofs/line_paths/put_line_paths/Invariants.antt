@@ -1,5 +1,5 @@
 use Rattle.std.proofs.Common.{◌++◌, ◌≡◌, drop}
-use Rattle.drawing_picture.specs.LinePaths.{line_paths}
+use Rattle.drawing_picture.proofs.Names.{line_paths}
 use Rattle.drawing_picture.proofs.line_paths.put_line_paths.Given as goal
 
 -- the paths so far, and those of the lines that are left, are all

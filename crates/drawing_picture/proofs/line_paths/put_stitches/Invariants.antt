@@ -1,5 +1,5 @@
 use Rattle.std.proofs.Common.{◌++◌, ◌≡◌, drop}
-use Rattle.std.specs.List.{flat_map}
+use Rattle.drawing_picture.proofs.Names.{flat_map}
 use Rattle.picture_parts.specs.Paths.{straight_text}
 use Rattle.drawing_picture.proofs.line_paths.put_stitches.Given as goal
 

@@ -1,5 +1,5 @@
 use Rattle.std.proofs.Common.{◌++◌, ◌≡◌, drop}
-use Rattle.drawing_picture.specs.JunctionMarks.{loose_points}
+use Rattle.drawing_picture.proofs.Names.{loose_points}
 use Rattle.drawing_picture.proofs.loose_ends.loose_in.Given as goal
 
 -- the loose ends so far, and those of the places that are left, are all

@@ -1,5 +1,5 @@
 use Rattle.std.proofs.Common.{◌*◌, ◌+◌, ◌-◌, ◌^◌, ◌≡◌, ◌≤◌, drop, length}
-use Rattle.drawing_picture.specs.ProofPictures.{retraced_steps}
+use Rattle.drawing_picture.proofs.Names.{retraced_steps}
 use Rattle.drawing_picture.proofs.proof_captions.steps_again.Given as goal
 
 -- the steps so far with those that are left are those of all

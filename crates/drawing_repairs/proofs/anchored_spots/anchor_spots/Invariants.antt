@@ -1,6 +1,5 @@
 use Rattle.std.proofs.Common.{◌≡◌, ◌++◌, drop}
-use Rattle.drawing_repairs.specs.AnchoredSpots.{anchored_spots}
-use Rattle.drawing_repairs.specs.MovedLines.{block_anchors}
+use Rattle.drawing_repairs.proofs.Names.{anchored_spots, block_anchors}
 use Rattle.drawing_repairs.proofs.anchored_spots.anchor_spots.Given as goal
 
 -- the anchors of this block, and the spots so far with those that are left

@@ -1,6 +1,5 @@
 use Rattle.std.proofs.Common.{◌≡◌, length}
-use Rattle.std.specs.List.{list_any}
-use Rattle.drawing_repairs.specs.Anchors.{is_within_gap}
+use Rattle.drawing_repairs.proofs.Names.{list_any, is_within_gap}
 use Rattle.drawing_repairs.proofs.anchors.has_anchor.Given as goal
 
 -- no anchor so far is within the gap, and the result depends on those that are left

@@ -1,5 +1,5 @@
 use Rattle.std.proofs.Common.{◌≡◌, length}
-use Rattle.drawing_repairs.specs.Anchors.{nearest_after, nearest_anchor}
+use Rattle.drawing_repairs.proofs.Names.{nearest_after, nearest_anchor}
 use Rattle.drawing_repairs.proofs.anchors.nearest_of.Given as goal
 
 -- the nearest so far and the anchors that are left lead to the nearest of all

@@ -1,6 +1,5 @@
 use Rattle.std.proofs.Common.{true, false, sym, ◌∙◌}
-use Rattle.std.specs.HashMap.{get}
-use Rattle.drawing_repairs.specs.Cells.{is_same_cell}
+use Rattle.drawing_repairs.proofs.Names.{get, is_same_cell}
 use Rattle.drawing_repairs.proofs.CellLemmas.{added_by_cell}
 use Rattle.drawing_repairs.proofs.anchors.put_anchor.Goals as goal
 

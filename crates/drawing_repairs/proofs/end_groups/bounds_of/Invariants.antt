@@ -1,6 +1,5 @@
 use Rattle.std.proofs.Common.{length}
-use Rattle.drawing_repairs.specs.declared.end_groups.EndBounds.{EndBounds}
-use Rattle.drawing_repairs.specs.EndGroups.{AreAround, AreBetween}
+use Rattle.drawing_repairs.proofs.Names.{EndBounds, AreAround, AreBetween}
 use Rattle.drawing_repairs.proofs.end_groups.bounds_of.Given as goal
 
 -- all ends lie between bounds that are around these, and between which the ends that are left lie

@@ -1,5 +1,5 @@
 use Rattle.std.proofs.Common.{◌≡◌, length}
-use Rattle.drawing_repairs.specs.Listings.{due_end}
+use Rattle.drawing_repairs.proofs.Names.{due_end}
 use Rattle.drawing_repairs.proofs.end_groups.first_due.Given as goal
 
 -- no end so far is due, and the result depends on those that are left

@@ -1,6 +1,5 @@
 use Rattle.std.proofs.Common.{◌≡◌, length}
-use Rattle.std.specs.List.{flat_map}
-use Rattle.drawing_repairs.specs.Listings.{due_end}
+use Rattle.drawing_repairs.proofs.Names.{flat_map, due_end}
 use Rattle.drawing_repairs.proofs.end_groups.first_due_in.Given as goal
 
 -- no end so far is due, and the result depends on the groups that are left

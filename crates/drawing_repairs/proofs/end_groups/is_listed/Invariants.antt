@@ -1,6 +1,5 @@
 use Rattle.std.proofs.Common.{◌≡◌, length}
-use Rattle.std.specs.List.{list_any}
-use Rattle.design_model.specs.Points.{is_same_point}
+use Rattle.drawing_repairs.proofs.Names.{list_any, is_same_point}
 use Rattle.drawing_repairs.proofs.end_groups.is_listed.Given as goal
 
 -- no point so far is the end, and the result depends on those that are left

@@ -1,5 +1,5 @@
 use Rattle.std.proofs.Common.{◌≡◌, ◌++◌, drop}
-use Rattle.drawing_repairs.specs.Listings.{block_ends}
+use Rattle.drawing_repairs.proofs.Names.{block_ends}
 use Rattle.drawing_repairs.proofs.listing.ends_in.Given as goal
 
 -- the ends so far, and those of the lines that are left, are all

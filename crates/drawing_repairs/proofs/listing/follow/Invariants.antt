@@ -1,5 +1,5 @@
 use Rattle.std.proofs.Common.{◌≡◌}
-use Rattle.drawing_repairs.specs.Listings.{followed_for, followed_line}
+use Rattle.drawing_repairs.proofs.Names.{followed_for, followed_line}
 use Rattle.drawing_repairs.proofs.listing.follow.Given as goal
 
 -- the line so far, and the steps that are left, lead to the result

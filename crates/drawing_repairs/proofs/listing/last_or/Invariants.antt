@@ -1,5 +1,5 @@
 use Rattle.std.proofs.Common.{◌≡◌, drop}
-use Rattle.step_splitter.specs.Chains.{last_point_or}
+use Rattle.drawing_repairs.proofs.Names.{last_point_or}
 use Rattle.drawing_repairs.proofs.listing.last_or.Given as goal
 
 -- the last point so far, or that of those that are left

@@ -1,5 +1,5 @@
 use Rattle.std.proofs.Common.{◌≡◌, ◌++◌, drop, map}
-use Rattle.drawing_repairs.specs.Listings.{added_ends, block_ends, listed_line, listed_lines}
+use Rattle.drawing_repairs.proofs.Names.{added_ends, block_ends, listed_line, listed_lines}
 use Rattle.drawing_repairs.proofs.listing.listed.Given as goal
 
 -- the ends of this block, and the lines and ends so far with those that are left

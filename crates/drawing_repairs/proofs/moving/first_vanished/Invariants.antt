@@ -1,5 +1,5 @@
 use Rattle.std.proofs.Common.{◌≡◌, ◌-◌, ◌≤◌, length, drop}
-use Rattle.drawing_repairs.specs.MovedLines.{vanished_from}
+use Rattle.drawing_repairs.proofs.Names.{vanished_from}
 use Rattle.drawing_repairs.proofs.moving.first_vanished.Given as goal
 
 -- no line so far has vanished, and the result depends on those that are left

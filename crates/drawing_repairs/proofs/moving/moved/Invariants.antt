@@ -1,5 +1,5 @@
 use Rattle.std.proofs.Common.{◌≡◌, ◌++◌, drop, map}
-use Rattle.drawing_repairs.specs.MovedLines.{block_anchors, changed_in, moved_line, moved_lines}
+use Rattle.drawing_repairs.proofs.Names.{block_anchors, changed_in, moved_line, moved_lines}
 use Rattle.drawing_repairs.proofs.moving.moved.Given as goal
 
 -- the anchors of this block, and the lines and points so far with those that are left

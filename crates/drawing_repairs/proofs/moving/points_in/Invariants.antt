@@ -1,5 +1,5 @@
 use Rattle.std.proofs.Common.{◌≡◌, ◌++◌, drop}
-use Rattle.line_sections.specs.Sections.{listed_in}
+use Rattle.drawing_repairs.proofs.Names.{listed_in}
 use Rattle.drawing_repairs.proofs.moving.points_in.Given as goal
 
 -- the points so far, and those of the lines that are left, are all

@@ -1,5 +1,5 @@
 use Rattle.std.proofs.Common.{◌≡◌, ◌++◌, length}
-use Rattle.drawing_repairs.specs.MovedLines.{unrepeated, unrepeated_after}
+use Rattle.drawing_repairs.proofs.Names.{unrepeated, unrepeated_after}
 use Rattle.drawing_repairs.proofs.moving.without_repeats.Given as goal
 
 -- the points so far, and those that are left, are all

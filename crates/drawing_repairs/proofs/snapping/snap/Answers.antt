@@ -1,5 +1,5 @@
 use Rattle.std.proofs.Common.{rules}
-use Rattle.drawing_repairs.specs.declared.snapping.SnappedDrawing.{SnappedDrawing}
+use Rattle.drawing_repairs.proofs.Names.{SnappedDrawing}
 use Rattle.drawing_repairs.proofs.snapping.snap.Goals as goal
 
 pub returns-clause-stays : goal.returns-clause-stays

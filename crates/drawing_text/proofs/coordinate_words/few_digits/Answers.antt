@@ -1,6 +1,5 @@
 use Rattle.std.proofs.Common.{◌≡◌, ◌<◌, true, length, get_or, arith}
-use Rattle.std.proofs.lemmas.Bool.Decides.{nat_tests}
-use Rattle.std.specs.Char.{is_ascii_digit}
+use Rattle.drawing_text.proofs.Names.{nat_tests, is_ascii_digit}
 use Rattle.drawing_text.proofs.CoordinateLemmas.{longer_value, more_digits}
 use Rattle.drawing_text.proofs.coordinate_words.few_digits.Goals as goal
 

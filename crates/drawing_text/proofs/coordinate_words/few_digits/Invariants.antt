@@ -1,6 +1,5 @@
 use Rattle.std.proofs.Common.{◌≡◌, ◌≤◌, true, take}
-use Rattle.std.specs.Str.{all_ascii_digits}
-use Rattle.std.specs.Str.Parse.{digits_value}
+use Rattle.drawing_text.proofs.Names.{all_ascii_digits, digits_value}
 use Rattle.drawing_text.proofs.coordinate_words.few_digits.Given as goal
 
 -- The number that the digits read so far write.

@@ -1,8 +1,5 @@
 use Rattle.std.proofs.Common.{◌≡◌, ◌+◌, ◌≤◌, length}
-use Rattle.drawing_text.specs.DrawingText.{drawing_after_lines}
-use Rattle.drawing_text.specs.DrawnTexts.{lines_after}
-use Rattle.drawing_text.specs.TextLines.{empty_draft}
-use Rattle.drawing_text.specs.Words.{words_by_line}
+use Rattle.drawing_text.proofs.Names.{drawing_after_lines, lines_after, empty_draft, words_by_line}
 use Rattle.drawing_text.proofs.draft_reading.draft_of_lines.Given as goal
 
 -- the draft is that of the lines so far, and each result depends on it and on those that are left

@@ -1,5 +1,5 @@
 use Rattle.std.proofs.Common.{◌≡◌, ◌+◌, ◌++◌, ◌≤◌, length}
-use Rattle.drawing_text.specs.EndTexts.{blocks_text3, with_ends_of}
+use Rattle.drawing_text.proofs.Names.{blocks_text3, with_ends_of}
 use Rattle.drawing_text.proofs.end_printing.put_blocks3.Given as goal
 
 -- the text so far, and that of the blocks that are left

@@ -1,5 +1,5 @@
 use Rattle.std.proofs.Common.{◌≡◌, ◌++◌, length}
-use Rattle.drawing_text.specs.EndTexts.{end_lines_text}
+use Rattle.drawing_text.proofs.Names.{end_lines_text}
 use Rattle.drawing_text.proofs.end_printing.put_ends_of.Given as goal
 
 -- the text so far, and that of the starts or ends that are left

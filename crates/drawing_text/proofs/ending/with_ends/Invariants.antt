@@ -1,5 +1,5 @@
 use Rattle.std.proofs.Common.{◌≡◌, length}
-use Rattle.drawing_text.specs.DrawingText.{drawing_with_ends}
+use Rattle.drawing_text.proofs.Names.{drawing_with_ends}
 use Rattle.drawing_text.proofs.ending.with_ends.Given as goal
 
 -- the ends so far are taken, so all depends on the drawing with them and on those that are left

@@ -1,8 +1,6 @@
 use Rattle.std.proofs.Common.{◌≡◌, ℤ, ◌≤◌, unsigned_abs, to_z, of_z, w32, List, ℕ, Result, Ok, subst, ◌∙◌, ap, ◌++◌, ◌∷◌, [], arith}
 use Rattle.std.proofs.lemmas.Int.{ints}
-use Rattle.design_model.specs.declared.point.TheConstants.{NEEDLE_LIMIT}
-use Rattle.drawing_model.specs.declared.draw_kind.DrawKind.{DrawKind}
-use Rattle.drawing_text.specs.CoordinateWords.{BeginsWithCoordinate}
+use Rattle.drawing_text.proofs.Names.{NEEDLE_LIMIT, DrawKind, BeginsWithCoordinate}
 use Rattle.drawing_text.proofs.PointWordLemmas.{coordinate_within, point_in_range, point_read}
 use Rattle.drawing_text.proofs.point_words.points_of_words.Goals as goal
 

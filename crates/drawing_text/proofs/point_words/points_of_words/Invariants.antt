@@ -1,5 +1,5 @@
 use Rattle.std.proofs.Common.{All, length}
-use Rattle.step_splitter.specs.Chains.{IsNeedlePoint}
+use Rattle.drawing_text.proofs.Names.{IsNeedlePoint}
 use Rattle.drawing_text.proofs.PointWordLemmas.{GoesOn}
 use Rattle.drawing_text.proofs.point_words.points_of_words.Given as goal
 

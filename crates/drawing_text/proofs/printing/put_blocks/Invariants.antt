@@ -1,5 +1,5 @@
 use Rattle.std.proofs.Common.{◌≡◌, ◌+◌, ◌++◌, ◌≤◌, length}
-use Rattle.drawing_text.specs.CanonicalTexts.{blocks_text}
+use Rattle.drawing_text.proofs.Names.{blocks_text}
 use Rattle.drawing_text.proofs.printing.put_blocks.Given as goal
 
 -- the text so far, and that of the blocks that are left

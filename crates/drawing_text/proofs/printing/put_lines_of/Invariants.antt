@@ -1,6 +1,5 @@
 use Rattle.std.proofs.Common.{◌≡◌, ◌++◌, length}
-use Rattle.std.specs.List.{flat_map}
-use Rattle.drawing_text.specs.CanonicalTexts.{line_text, lines_of_block}
+use Rattle.drawing_text.proofs.Names.{flat_map, line_text, lines_of_block}
 use Rattle.drawing_text.proofs.printing.put_lines_of.Given as goal
 
 -- the text so far, and that of the lines that are left

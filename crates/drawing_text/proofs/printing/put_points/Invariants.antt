@@ -1,5 +1,5 @@
 use Rattle.std.proofs.Common.{◌≡◌, ◌++◌, length}
-use Rattle.drawing_text.specs.CanonicalTexts.{points_text}
+use Rattle.drawing_text.proofs.Names.{points_text}
 use Rattle.drawing_text.proofs.printing.put_points.Given as goal
 
 -- the text so far, and that of the points that are left

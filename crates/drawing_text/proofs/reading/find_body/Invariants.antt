@@ -1,6 +1,5 @@
 use Rattle.std.proofs.Common.{◌≡◌, ◌+◌, ◌≤◌, length}
-use Rattle.drawing_text.specs.DrawingText.{body_from, body_of_text}
-use Rattle.drawing_text.specs.Words.{words_by_line}
+use Rattle.drawing_text.proofs.Names.{body_from, body_of_text, words_by_line}
 use Rattle.drawing_text.proofs.reading.find_body.Given as goal
 
 -- the lines so far are passed over, so all depends on those that are left

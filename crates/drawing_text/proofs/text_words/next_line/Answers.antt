@@ -1,5 +1,5 @@
 use Rattle.std.proofs.Common.{◌≢◌, [], length, ap, arith}
-use Rattle.std.proofs.lemmas.Bool.Decides.{nat_tests}
+use Rattle.drawing_text.proofs.Names.{nat_tests}
 use Rattle.drawing_text.proofs.WordLemmas.{some_line}
 use Rattle.drawing_text.proofs.text_words.next_line.Goals as goal
 

@@ -1,11 +1,11 @@
 use Rattle.std.proofs.Common.{◌≢◌, length, arith}
-use Rattle.std.proofs.lemmas.Bool.Decides.{nat_tests}
-use Rattle.drawing_text.proofs.WordLemmas.{Taken, no_word, word_taken}
+use Rattle.drawing_text.proofs.Names.{nat_tests, nil_from_length}
+use Rattle.drawing_text.proofs.WordLemmas.{Taken, word_taken, words_skipped}
 use Rattle.drawing_text.proofs.text_words.next_word.Goals as goal
 
 pub returns-then-is_empty-clause-none : goal.returns-then-is_empty-clause-none
 returns-then-is_empty-clause-none c =
-    no_word _ _ _ c.word_start.ensures.value c.split_at.ensures.back (grind (arith, nat_tests))
+    grind (arith, nat_tests, nil_from_length, words_skipped, c.word_start.ensures.value, c.split_at.ensures.back)
 
 -- the word is taken
 taken : (c : goal.After-rest-1) → Taken c.args.line.now c.split_at-2.result.0.now c.split_at-2.result.1.now

@@ -1,6 +1,5 @@
 use Rattle.std.proofs.Common.{◌≡◌, ◌+◌, drop}
-use Rattle.std.specs.List.{position_or_len}
-use Rattle.drawing_text.specs.Words.{is_blank_byte}
+use Rattle.drawing_text.proofs.Names.{position_or_len, is_blank_byte}
 use Rattle.drawing_text.proofs.text_words.word_end.Given as goal
 
 -- the first place is among the bytes that are left

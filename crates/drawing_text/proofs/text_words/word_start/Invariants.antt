@@ -1,6 +1,5 @@
 use Rattle.std.proofs.Common.{◌≡◌, ◌+◌, drop}
-use Rattle.std.specs.List.{position_or_len}
-use Rattle.drawing_text.specs.Words.{is_word_byte}
+use Rattle.drawing_text.proofs.Names.{position_or_len, is_word_byte}
 use Rattle.drawing_text.proofs.text_words.word_start.Given as goal
 
 -- the first place is among the bytes that are left

@@ -1,6 +1,5 @@
 use Rattle.std.proofs.Common.{ap, ◌∙◌}
-use Rattle.design_model.specs.Acts.{acts_of}
-use Rattle.dst_codec.specs.Steps.{extents_from_origin}
+use Rattle.dst_codec.proofs.Names.{acts_of, extents_from_origin}
 use Rattle.dst_codec.proofs.ExtentLemmas.{reached_extent}
 use Rattle.dst_codec.proofs.extents.needle_extents.Goals as goal
 

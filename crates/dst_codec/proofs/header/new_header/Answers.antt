@@ -1,5 +1,5 @@
 use Rattle.std.proofs.Common.{◌≡◌, ap, ◌∙◌, length, rules}
-use Rattle.dst_codec.specs.Header.{dst_header_of}
+use Rattle.dst_codec.proofs.Names.{dst_header_of}
 use Rattle.dst_codec.proofs.HeaderLemmas.{length-dst_header_of}
 use Rattle.dst_codec.proofs.header.new_header.Goals as goal
 

@@ -1,5 +1,5 @@
 use Rattle.std.proofs.Common.{◌≡◌, arith, rules}
-use Rattle.dst_codec.specs.MoveEncoding.{biased_number}
+use Rattle.dst_codec.proofs.Names.{biased_number}
 use Rattle.dst_codec.proofs.TableLemmas.{fits_byte, first_shares}
 use Rattle.dst_codec.proofs.move_encoding.first_byte.Goals as goal
 

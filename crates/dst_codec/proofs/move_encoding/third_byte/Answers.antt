@@ -1,8 +1,7 @@
 use Rattle.std.proofs.Common.{◌≡◌, arith, rules}
-use Rattle.dst_codec.specs.MoveEncoding.{plus_bit, minus_bit, biased_number}
+use Rattle.dst_codec.proofs.Names.{plus_bit, minus_bit, biased_number, nat_tests}
 use Rattle.dst_codec.proofs.TableLemmas.{fits_byte, third_shares}
 use Rattle.dst_codec.proofs.move_encoding.third_byte.Goals as goal
-use Rattle.std.proofs.lemmas.Bool.Decides.{nat_tests}
 
 pub overflow_add-result : goal.overflow_add-result
 overflow_add-result c =

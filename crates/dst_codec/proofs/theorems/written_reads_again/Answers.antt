@@ -1,6 +1,4 @@
-use Rattle.design_model.specs.Acts.{acts_of}
-use Rattle.dst_codec.specs.Format.{dst_meaning}
-use Rattle.dst_codec.specs.Writing.{dst_write_limits, dst_file_of}
+use Rattle.dst_codec.proofs.Names.{acts_of, dst_meaning, dst_write_limits, dst_file_of}
 use Rattle.dst_codec.proofs.laws.Again.{dst_is_codec}
 use Rattle.dst_codec.proofs.theorems.written_reads_again.Goals as goal
 

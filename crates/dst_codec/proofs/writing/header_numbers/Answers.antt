@@ -1,9 +1,7 @@
 use Rattle.std.proofs.Common.{arith, subst, sym}
-use Rattle.dst_codec.specs.Header.{FitsFields}
+use Rattle.dst_codec.proofs.Names.{FitsFields, stops_along, nat_tests}
 use Rattle.dst_codec.proofs.WritingLemmas.{accepted_fit, body_short, counted, place-encoder_state_after_acts}
 use Rattle.dst_codec.proofs.writing.header_numbers.Goals as goal
-use Rattle.format_traits.proofs.CallerLemmas.{stops_along}
-use Rattle.std.proofs.lemmas.Bool.Decides.{nat_tests}
 
 pub overflow_cast-result : goal.overflow_cast-result
 overflow_cast-result c = omega (

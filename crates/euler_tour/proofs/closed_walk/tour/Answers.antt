@@ -1,4 +1,4 @@
-use Rattle.line_graph.specs.PiecesOfDrawings.{graph_of}
+use Rattle.euler_tour.proofs.Names.{graph_of}
 use Rattle.euler_tour.proofs.TourLemmas.{finished}
 use Rattle.euler_tour.proofs.closed_walk.tour.Goals as goal
 

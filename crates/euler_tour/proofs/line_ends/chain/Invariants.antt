@@ -1,5 +1,5 @@
 use Rattle.std.proofs.Common.{◌≡◌, ◌*◌, length}
-use Rattle.euler_tour.specs.LineEnds.{AreBefore, AreLast}
+use Rattle.euler_tour.proofs.Names.{AreBefore, AreLast}
 use Rattle.euler_tour.proofs.line_ends.chain.Given as goal
 
 -- the chains of the ends of the edges so far

@@ -1,11 +1,8 @@
-use Rattle.std.proofs.Common.{◌∙◌}
-use Rattle.line_graph.specs.PiecesOfDrawings.{graph_of}
-use Rattle.euler_tour.specs.RemainingLines.{pass_counts}
-use Rattle.euler_tour.specs.PartialTours.{tour_end, tour_start}
+use Rattle.std.proofs.Common.{◌∙◌, arith}
+use Rattle.euler_tour.proofs.Names.{graph_of, pass_counts, tour_end, tour_start, nat_tests}
 use Rattle.euler_tour.proofs.LeftLemmas.{copies_fit}
 use Rattle.euler_tour.proofs.StepLemmas.{begins_fresh}
 use Rattle.euler_tour.proofs.TourLemmas.{begins_even}
-use Rattle.euler_tour.proofs.TripLemmas.{begun}
 use Rattle.euler_tour.proofs.partial_tour.empty_tour.Goals as goal
 
 pub all_times-requires : goal.all_times-requires
@@ -16,8 +13,7 @@ returns-clause-keeps c =
     let p = graph_of c.args.p.now in
     let copies = c.args.copies.now in
     rw (c.goal.ensures, c.head.ensures)
-    (begun p.lines p.edges (pass_counts copies) c.in_ok-all_times.field-0.items c.new.result.items c.new-2.result (tour_start p)
-    (tour_end p) c.in_ok-all_times.ensures c.new.ensures.items c.new-2.ensures (begins_even p copies c.requires))
+    (grind (arith, nat_tests, c.in_ok-all_times.ensures, c.new.ensures.items, c.new-2.ensures, (begins_even p copies c.requires)))
 
 pub returns-clause-fresh : goal.returns-clause-fresh
 returns-clause-fresh c =

@@ -1,4 +1,4 @@
-use Rattle.line_graph.specs.PiecesOfDrawings.{graph_of}
+use Rattle.euler_tour.proofs.Names.{graph_of}
 use Rattle.euler_tour.proofs.CursorLemmas.{below_parts}
 use Rattle.euler_tour.proofs.StepLemmas.{back_step}
 use Rattle.euler_tour.proofs.partial_tour.go_back.Goals as goal

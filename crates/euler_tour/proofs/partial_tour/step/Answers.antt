@@ -1,6 +1,5 @@
 use Rattle.std.proofs.Common.{◌∙◌, arith, sym}
-use Rattle.std.proofs.lemmas.Grind.{get_or_default_zero}
-use Rattle.line_graph.specs.PiecesOfDrawings.{graph_of}
+use Rattle.euler_tour.proofs.Names.{get_or_default_zero, graph_of}
 use Rattle.euler_tour.proofs.CallerLemmas.{cursor_read, end_low}
 use Rattle.euler_tour.proofs.CursorLemmas.{none_remains}
 use Rattle.euler_tour.proofs.StepLemmas.{over_step}

@@ -1,4 +1,4 @@
-use Rattle.line_graph.specs.PiecesOfDrawings.{graph_of}
+use Rattle.euler_tour.proofs.Names.{graph_of}
 use Rattle.euler_tour.proofs.StepLemmas.{begins_on_first}
 use Rattle.euler_tour.proofs.partial_tour.with_first_line.Goals as goal
 

@@ -1,6 +1,5 @@
 use Rattle.std.proofs.Common.{◌≡◌, ◌++◌, true, length}
-use Rattle.line_graph.specs.ValidPieces.{all_below}
-use Rattle.euler_tour.specs.RemainingLines.{pass_counts}
+use Rattle.euler_tour.proofs.Names.{all_below, pass_counts}
 use Rattle.euler_tour.proofs.remaining_lines.all_times.Given as goal
 
 -- the times so far and those of the copies that are left; each of these fits

@@ -1,5 +1,5 @@
 use Rattle.std.proofs.Common.{◌∙◌}
-use Rattle.std.proofs.lemmas.Grind.{get_or_default_zero}
+use Rattle.euler_tour.proofs.Names.{get_or_default_zero}
 use Rattle.euler_tour.proofs.LeftLemmas.{less_is}
 use Rattle.euler_tour.proofs.remaining_lines.take_one.Goals as goal
 

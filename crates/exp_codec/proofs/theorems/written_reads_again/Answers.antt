@@ -1,6 +1,5 @@
 use Rattle.exp_codec.proofs.RoundTrip.{exp_is_codec}
-use Rattle.exp_codec.specs.Format.{exp_meaning}
-use Rattle.exp_codec.specs.Writing.{exp_write_limits, exp_file_of}
+use Rattle.exp_codec.proofs.Names.{exp_meaning, exp_write_limits, exp_file_of}
 use Rattle.exp_codec.proofs.theorems.written_reads_again.Goals as goal
 
 pub returns : goal.returns

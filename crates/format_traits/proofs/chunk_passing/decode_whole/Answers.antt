@@ -1,5 +1,5 @@
 use Rattle.std.proofs.Common.{sym, subst}
-use Rattle.format_traits.specs.Laws.{DecodesTo}
+use Rattle.format_traits.proofs.Names.{DecodesTo}
 use Rattle.format_traits.proofs.FeedLemmas.{passes_whole}
 use Rattle.format_traits.proofs.chunk_passing.decode_whole.Goals as goal
 

@@ -1,5 +1,5 @@
 use Rattle.std.proofs.Common.{◌≡◌, ◌+◌, ◌≤◌, ◌++◌, length}
-use Rattle.format_traits.specs.DecoderStates.{ContinuesAs}
+use Rattle.format_traits.proofs.Names.{ContinuesAs}
 use Rattle.format_traits.proofs.chunk_passing.pass_on.Given as goal
 
 -- the pending bytes and the rest of the chunk have the same result as all bytes

@@ -1,5 +1,5 @@
 use Rattle.std.proofs.Common.{◌≡◌, map, take}
-use Rattle.format_traits.specs.LabelFields.{printable_byte}
+use Rattle.format_traits.proofs.Names.{printable_byte}
 use Rattle.format_traits.proofs.label_fields.read_label.Given as goal
 
 -- the bytes so far

@@ -1,5 +1,5 @@
 use Rattle.std.proofs.Common.{◌≡◌, length}
-use Rattle.format_traits.specs.LabelFields.{without_end_spaces}
+use Rattle.format_traits.proofs.Names.{without_end_spaces}
 use Rattle.format_traits.proofs.label_fields.trimmed.Given as goal
 
 -- what was dropped is dropped

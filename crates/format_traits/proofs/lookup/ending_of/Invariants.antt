@@ -1,5 +1,5 @@
 use Rattle.std.proofs.Common.{◌≡◌, length, option_map}
-use Rattle.format_traits.specs.Endings.{ending_in}
+use Rattle.format_traits.proofs.Names.{ending_in}
 use Rattle.format_traits.proofs.EndingLemmas.{later}
 use Rattle.format_traits.proofs.lookup.ending_of.Given as goal
 

@@ -1,5 +1,5 @@
 use Rattle.std.proofs.Common.{◌≡◌, length, bytes_eq}
-use Rattle.std.specs.Str.{str_to_ascii_lowercase}
+use Rattle.format_traits.proofs.Names.{str_to_ascii_lowercase}
 use Rattle.format_traits.proofs.lookup.is_lowercase_of.Given as goal
 
 -- what is left decides

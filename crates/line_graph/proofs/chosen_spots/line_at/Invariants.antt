@@ -1,6 +1,5 @@
 use Rattle.std.proofs.Common.{◌≡◌, ◌+◌, drop}
-use Rattle.std.specs.List.{position_or_len}
-use Rattle.drawing_model.specs.WalkEnds.{has_end_at_spot}
+use Rattle.line_graph.proofs.Names.{position_or_len, has_end_at_spot}
 use Rattle.line_graph.proofs.chosen_spots.line_at.Given as goal
 
 -- the first place is among the lines that are left

@@ -1,5 +1,5 @@
 use Rattle.std.proofs.Common.{List, ℕ, sym, subst, arith}
-use Rattle.line_graph.specs.PieceLabels.{IsPiece}
+use Rattle.line_graph.proofs.Names.{IsPiece}
 use Rattle.line_graph.proofs.PieceLabelLemmas.{labelled_part}
 use Rattle.line_graph.proofs.connected_lines.labelled_piece.Goals as goal
 

@@ -1,5 +1,5 @@
 use Rattle.std.proofs.Common.{◌≡◌, take, length}
-use Rattle.line_graph.specs.PieceGraphs.{degrees_from}
+use Rattle.line_graph.proofs.Names.{degrees_from}
 use Rattle.line_graph.proofs.degrees.degrees.Given as goal
 
 -- the ends of the edges so far are counted

@@ -1,6 +1,5 @@
 use Rattle.std.specs.HashMap.{get}
-use Rattle.line_sections.specs.Spots.{is_same_spot}
-use Rattle.line_graph.specs.FirstLines.{AreLinkedBelow}
+use Rattle.line_graph.proofs.Names.{is_same_spot, AreLinkedBelow}
 use Rattle.line_graph.proofs.first_lines.links.Given as goal
 
 -- the lines so far are linked

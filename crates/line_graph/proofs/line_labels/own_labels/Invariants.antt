@@ -1,4 +1,4 @@
-use Rattle.line_graph.specs.LineLabels.{AreOwnIndexes}
+use Rattle.line_graph.proofs.Names.{AreOwnIndexes}
 use Rattle.line_graph.proofs.line_labels.own_labels.Given as goal
 
 -- each line so far has its own label

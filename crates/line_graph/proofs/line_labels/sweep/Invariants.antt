@@ -1,5 +1,5 @@
 use Rattle.std.proofs.Common.{take}
-use Rattle.line_graph.specs.LineLabels.{AreAtMostIndex, LowersLabels}
+use Rattle.line_graph.proofs.Names.{AreAtMostIndex, LowersLabels}
 use Rattle.line_graph.proofs.line_labels.sweep.Given as goal
 
 -- the labels so far, and whether any changed

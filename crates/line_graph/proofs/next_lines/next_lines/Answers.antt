@@ -1,5 +1,5 @@
 use Rattle.std.proofs.Common.{◌≡◌, ◌+◌, ◌-◌, ◌<◌, ℕ, length, arith, subst}
-use Rattle.line_graph.specs.NextLines.{AreNextFrom}
+use Rattle.line_graph.proofs.Names.{AreNextFrom}
 use Rattle.line_graph.proofs.NextLineLemmas.{one_seen}
 use Rattle.line_graph.proofs.next_lines.next_lines.Goals as goal
 

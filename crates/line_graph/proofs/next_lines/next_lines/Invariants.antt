@@ -1,5 +1,5 @@
 use Rattle.std.proofs.Common.{◌≤◌, length}
-use Rattle.line_graph.specs.NextLines.{AreNextFrom}
+use Rattle.line_graph.proofs.Names.{AreNextFrom}
 use Rattle.line_graph.proofs.next_lines.next_lines.Given as goal
 
 -- the next lines as far as the lines from `at` on determine them

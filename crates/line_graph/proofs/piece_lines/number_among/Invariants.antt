@@ -1,5 +1,5 @@
 use Rattle.std.proofs.Common.{◌≡◌, length}
-use Rattle.line_graph.specs.PieceGraphs.{first_junction_among}
+use Rattle.line_graph.proofs.Names.{first_junction_among}
 use Rattle.line_graph.proofs.piece_lines.number_among.Given as goal
 
 -- none of the spots so far is a junction of the block

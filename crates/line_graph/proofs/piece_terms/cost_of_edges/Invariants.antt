@@ -1,5 +1,5 @@
 use Rattle.std.proofs.Common.{◌≡◌, ◌+◌, drop}
-use Rattle.line_graph.specs.PieceWalks.{edge_cost, edge_sum}
+use Rattle.line_graph.proofs.Names.{edge_cost, edge_sum}
 use Rattle.line_graph.proofs.piece_terms.cost_of_edges.Given as goal
 
 -- the cost so far and that of the edges that are left are the total cost

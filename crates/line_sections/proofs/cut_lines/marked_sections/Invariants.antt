@@ -1,8 +1,5 @@
 use Rattle.std.proofs.Common.{◌≡◌, ◌++◌, length}
-use Rattle.std.specs.HashMap.{get}
-use Rattle.std.specs.List.{flat_map}
-use Rattle.line_sections.specs.Spots.{is_same_spot}
-use Rattle.line_sections.specs.ListedPoints.{sections_by}
+use Rattle.line_sections.proofs.Names.{get, flat_map, is_same_spot, sections_by}
 use Rattle.line_sections.proofs.cut_lines.marked_sections.Given as goal
 
 -- the sections so far, and those of the lines that are left

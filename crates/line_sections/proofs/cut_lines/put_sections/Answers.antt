@@ -1,5 +1,4 @@
-use Rattle.std.specs.HashMap.{get}
-use Rattle.line_sections.specs.Spots.{is_same_spot}
+use Rattle.line_sections.proofs.Names.{get, is_same_spot}
 use Rattle.line_sections.proofs.CutLemmas.{line_begun}
 use Rattle.line_sections.proofs.cut_lines.put_sections.Goals as goal
 

@@ -1,8 +1,5 @@
 use Rattle.std.proofs.Common.{◌≡◌, ◌++◌, length}
-use Rattle.std.specs.HashMap.{get}
-use Rattle.line_sections.specs.Spots.{is_same_spot}
-use Rattle.line_sections.specs.ListedPoints.{is_cut_by, sections_by, sections_continued}
-use Rattle.line_sections.specs.Sections.{lines_through}
+use Rattle.line_sections.proofs.Names.{get, is_same_spot, is_cut_by, sections_by, sections_continued, lines_through}
 use Rattle.line_sections.proofs.cut_lines.put_sections.Given as goal
 
 -- the sections so far, and those made of the current section and the points that are left

@@ -1,5 +1,5 @@
 use Rattle.std.proofs.Common.{ap, ◌∙◌}
-use Rattle.line_sections.specs.Sections.{are_whole_lines}
+use Rattle.line_sections.proofs.Names.{are_whole_lines}
 use Rattle.line_sections.proofs.CutLemmas.{sections_told}
 use Rattle.line_sections.proofs.WholeLemmas.{sections_whole}
 use Rattle.line_sections.proofs.cut_lines.sections.Goals as goal

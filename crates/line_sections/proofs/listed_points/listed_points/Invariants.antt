@@ -1,8 +1,5 @@
 use Rattle.std.proofs.Common.{length}
-use Rattle.std.specs.HashMap.{get}
-use Rattle.std.specs.List.{flat_map}
-use Rattle.line_sections.specs.Spots.{is_same_spot}
-use Rattle.line_sections.specs.ListedPoints.{AreMarked, spots_of}
+use Rattle.line_sections.proofs.Names.{get, flat_map, is_same_spot, AreMarked, spots_of}
 use Rattle.line_sections.proofs.listed_points.listed_points.Given as goal
 
 -- the spots of the lines that are left are still to be marked

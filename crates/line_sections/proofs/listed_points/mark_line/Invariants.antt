@@ -1,8 +1,5 @@
 use Rattle.std.proofs.Common.{List, ◌++◌, length, map}
-use Rattle.std.specs.HashMap.{get}
-use Rattle.line_sections.specs.declared.spot.Spot.{Spot}
-use Rattle.line_sections.specs.Spots.{is_same_spot}
-use Rattle.line_sections.specs.ListedPoints.{AreMarked, spot_at, spots_of}
+use Rattle.line_sections.proofs.Names.{get, Spot, is_same_spot, AreMarked, spot_at, spots_of}
 use Rattle.line_sections.proofs.listed_points.mark_line.Given as goal
 
 -- the spots of the points that are left are still to be marked

@@ -1,6 +1,5 @@
 use Rattle.std.proofs.Common.{◌≡◌, length}
-use Rattle.std.specs.List.{list_all}
-use Rattle.line_sections.specs.Sections.{is_whole_line}
+use Rattle.line_sections.proofs.Names.{list_all, is_whole_line}
 use Rattle.line_sections.proofs.whole_lines.are_whole_among.Given as goal
 
 -- the lines so far are whole, and the result depends on those that are left

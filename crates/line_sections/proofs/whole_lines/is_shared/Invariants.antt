@@ -1,7 +1,5 @@
 use Rattle.std.proofs.Common.{◌≡◌, ◌≤◌, ◌+◌, length}
-use Rattle.std.specs.List.{count_by}
-use Rattle.design_model.specs.Points.{is_same_point}
-use Rattle.line_sections.specs.Sections.{listed_in}
+use Rattle.line_sections.proofs.Names.{count_by, is_same_point, listed_in}
 use Rattle.line_sections.proofs.whole_lines.is_shared.Given as goal
 
 -- the lines so far have some of the two places, and the others are counted in the lines that are left

@@ -1,6 +1,5 @@
 use Rattle.std.proofs.Common.{◌≡◌, not, length}
-use Rattle.std.specs.List.{list_any}
-use Rattle.line_sections.specs.Sections.{but_last, is_shared_point, is_whole_line}
+use Rattle.line_sections.proofs.Names.{list_any, but_last, is_shared_point, is_whole_line}
 use Rattle.line_sections.proofs.whole_lines.is_whole.Given as goal
 
 -- the points so far are listed nowhere else, so all depends on those that are left

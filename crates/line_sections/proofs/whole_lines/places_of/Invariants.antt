@@ -1,6 +1,5 @@
 use Rattle.std.proofs.Common.{◌≡◌, take}
-use Rattle.std.specs.List.{count_by}
-use Rattle.design_model.specs.Points.{is_same_point}
+use Rattle.line_sections.proofs.Names.{count_by, is_same_point}
 use Rattle.line_sections.proofs.whole_lines.places_of.Given as goal
 
 -- the places so far

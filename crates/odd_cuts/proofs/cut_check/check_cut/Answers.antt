@@ -1,6 +1,5 @@
 use Rattle.std.proofs.Common.{◌≡◌, None, length, sym, ◌∙◌}
-use Rattle.odd_cuts.specs.CutFaults.{stranger_fault}
-use Rattle.line_graph.specs.PiecesOfDrawings.{graph_of}
+use Rattle.odd_cuts.proofs.Names.{stranger_fault, graph_of}
 use Rattle.odd_cuts.proofs.ParityLemmas.{count_told, cut_even, cut_right, parities_few}
 use Rattle.odd_cuts.proofs.cut_check.check_cut.Goals as goal
 

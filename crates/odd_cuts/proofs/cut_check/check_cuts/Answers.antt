@@ -1,4 +1,4 @@
-use Rattle.line_graph.specs.PiecesOfDrawings.{graph_of}
+use Rattle.odd_cuts.proofs.Names.{graph_of}
 use Rattle.odd_cuts.proofs.ExactCuts.{exact_cuts}
 use Rattle.odd_cuts.proofs.cut_check.check_cuts.Goals as goal
 

@@ -1,5 +1,5 @@
 use Rattle.std.proofs.Common.{◌≡◌, ◌<◌, ◌+◌, ◌^◌, length, All}
-use Rattle.odd_cuts.specs.CutFaults.{stranger_fault}
+use Rattle.odd_cuts.proofs.Names.{stranger_fault}
 use Rattle.odd_cuts.proofs.cut_check.check_members.Given as goal
 
 -- the members so far are junctions

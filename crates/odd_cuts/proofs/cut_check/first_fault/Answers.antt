@@ -1,4 +1,4 @@
-use Rattle.line_graph.specs.PiecesOfDrawings.{graph_of}
+use Rattle.odd_cuts.proofs.Names.{graph_of}
 use Rattle.odd_cuts.proofs.LoadLemmas.{loads_found, told_on, total_found}
 use Rattle.odd_cuts.proofs.cut_check.first_fault.Goals as goal
 

@@ -1,9 +1,7 @@
-use Rattle.std.proofs.Common.{◌*◌, refl, arith}
-use Rattle.odd_cuts.specs.Cuts.{load_on}
-use Rattle.odd_cuts.proofs.LoadLemmas.{loads_blank, loads_next, no_load, cuts_end, next_numbered, cuts_next, faults_next, load_end}
-use Rattle.odd_cuts.proofs.TableLemmas.{ends_few}
-use Rattle.line_graph.specs.PiecesOfDrawings.{graph_of}
-use Rattle.drawing_model.specs.declared.limits.TheConstants.{MAX_LINES}
+use Rattle.std.proofs.Common.{◌*◌, refl, arith, ap}
+use Rattle.odd_cuts.proofs.Names.{load_on, graph_of, MAX_LINES, nat_tests}
+use Rattle.odd_cuts.proofs.LoadLemmas.{loads_blank, loads_next, no_load, cuts_end, next_numbered, faults_next, load_end}
+use Rattle.odd_cuts.proofs.TableLemmas.{ends_within}
 use Rattle.odd_cuts.proofs.cut_check.loads_of.Goals as goal
 
 pub loop-cut-init : goal.loop-cut-init
@@ -19,11 +17,11 @@ pub check_cut-requires-clause-members : goal.check_cut-requires-clause-members
 check_cut-requires-clause-members c = (next_numbered _ _ _ c.in-Some.ensures.some c.loop-cut.invariant.numbered).0
 
 pub add_shares-requires-clause-ends : goal.add_shares-requires-clause-ends
-add_shares-requires-clause-ends c = rw c.as_slice-in-Some.ensures (ends_few (graph_of c.args.p.now) c.args.p.now.kept)
+add_shares-requires-clause-ends c = rw c.as_slice-in-Some.ensures (grind (arith, nat_tests, ends_within))
 
 pub loop-cut-preserved : goal.loop-cut-preserved
 loop-cut-preserved c = record {
-  count = cuts_next _ _ _ _ _ c.in-Some.ensures.some c.loop-cut.invariant.count;
+  count = grind (arith, nat_tests, ap, c.in-Some.ensures.some, c.loop-cut.invariant.count);
   numbered = (next_numbered _ _ _ c.in-Some.ensures.some c.loop-cut.invariant.numbered).1;
   faults = faults_next (graph_of c.args.p.now) _ _ _ _ _ c.in-Some.ensures.some c.loop-cut.invariant.faults c.in_ok-held.ensures.0;
   loads = loads_next _ _ _ c.args.p.now.edges _ _ (λ e. load_on c.args.cuts.now e) c.in-Some.ensures.some

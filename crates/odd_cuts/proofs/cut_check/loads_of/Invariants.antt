@@ -1,10 +1,7 @@
 use Rattle.std.proofs.Common.{◌≡◌, ℕ, ◌+◌, ◌-◌, ◌*◌, ◌^◌, length, get_or, slice_get, Some}
+use Rattle.odd_cuts.proofs.Names.{HaveNumberedMembers, cut_faults, load_on, Edge, graph_of}
 use Rattle.odd_cuts.specs.CheckTables.{AreAtMost}
-use Rattle.odd_cuts.specs.CutFaults.{HaveNumberedMembers, cut_faults}
-use Rattle.odd_cuts.specs.Cuts.{load_on}
 use Rattle.odd_cuts.proofs.LoadLemmas.{load_with}
-use Rattle.line_graph.specs.declared.edge.Edge.{Edge}
-use Rattle.line_graph.specs.PiecesOfDrawings.{graph_of}
 use Rattle.odd_cuts.proofs.cut_check.loads_of.Given as goal
 
 -- the cuts so far have no fault, and what they load with those that are left is what all cuts load

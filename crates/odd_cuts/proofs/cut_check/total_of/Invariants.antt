@@ -1,5 +1,5 @@
 use Rattle.std.proofs.Common.{◌≡◌, ◌≤◌, ◌+◌, ◌-◌, ◌*◌, ◌^◌, length}
-use Rattle.odd_cuts.specs.Cuts.{total_weight}
+use Rattle.odd_cuts.proofs.Names.{total_weight}
 use Rattle.odd_cuts.proofs.LoadLemmas.{total_with}
 use Rattle.odd_cuts.proofs.cut_check.total_of.Given as goal
 

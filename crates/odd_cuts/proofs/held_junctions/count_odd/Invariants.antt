@@ -1,5 +1,5 @@
 use Rattle.std.proofs.Common.{◌≡◌, ◌≤◌, ◌+◌, length, get_or, false}
-use Rattle.odd_cuts.specs.CheckTables.{odd_among}
+use Rattle.odd_cuts.proofs.Names.{odd_among}
 use Rattle.odd_cuts.proofs.held_junctions.count_odd.Given as goal
 
 -- the odd members so far and those of the junctions that are left are all odd members

@@ -1,6 +1,5 @@
 use Rattle.std.proofs.Common.{◌≡◌, ◌<◌, ◌+◌, ℕ, ◌||◌, drop, get_or, false}
-use Rattle.odd_cuts.specs.Cuts.{has_member}
-use Rattle.drawing_model.specs.declared.limits.TheConstants.{MAX_LINES}
+use Rattle.odd_cuts.proofs.Names.{has_member, MAX_LINES}
 use Rattle.odd_cuts.proofs.held_junctions.held_by.Given as goal
 
 -- a junction is a member where it is one of those that are left, or marked

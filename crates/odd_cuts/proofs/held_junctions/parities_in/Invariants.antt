@@ -1,5 +1,5 @@
 use Rattle.std.proofs.Common.{◌≡◌, ◌+◌, ◌++◌, length}
-use Rattle.odd_cuts.specs.CheckTables.{parities_from}
+use Rattle.odd_cuts.proofs.Names.{parities_from}
 use Rattle.odd_cuts.proofs.held_junctions.parities_in.Given as goal
 
 -- the parities so far and those of the degrees that are left are those of all degrees

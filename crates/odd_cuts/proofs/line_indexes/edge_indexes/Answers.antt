@@ -1,5 +1,5 @@
 use Rattle.std.proofs.Common.{arith, refl}
-use Rattle.drawing_model.specs.declared.limits.TheConstants.{MAX_LINES}
+use Rattle.odd_cuts.proofs.Names.{MAX_LINES}
 use Rattle.odd_cuts.proofs.PlaceLemmas.{places_blank, places_next}
 use Rattle.odd_cuts.proofs.TableLemmas.{below_at, length_set}
 use Rattle.odd_cuts.proofs.line_indexes.edge_indexes.Goals as goal

@@ -1,7 +1,6 @@
 use Rattle.std.proofs.Common.{◌≡◌, ℕ, drop, length, get_or, slice_get, true}
+use Rattle.odd_cuts.proofs.Names.{MAX_LINES, edge_of, is_strictly_increasing}
 use Rattle.odd_cuts.proofs.PlaceLemmas.{earlier}
-use Rattle.drawing_model.specs.declared.limits.TheConstants.{MAX_LINES}
-use Rattle.line_graph.specs.PieceWalks.{edge_of, is_strictly_increasing}
 use Rattle.odd_cuts.proofs.line_indexes.edge_indexes.Given as goal
 
 -- the edge of a line is among the remaining ones, or at its index

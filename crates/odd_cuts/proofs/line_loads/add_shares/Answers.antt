@@ -1,6 +1,6 @@
 use Rattle.std.proofs.Common.{◌<◌, length, arith}
 use Rattle.std.proofs.lemmas.Option.{slice_get_within}
-use Rattle.line_graph.specs.declared.edge.Edge.{Edge}
+use Rattle.odd_cuts.proofs.Names.{Edge}
 use Rattle.odd_cuts.proofs.LoadLemmas.{before_next, behind_next, most_next}
 use Rattle.odd_cuts.proofs.TableLemmas.{length_set}
 use Rattle.odd_cuts.proofs.line_loads.add_shares.Goals as goal

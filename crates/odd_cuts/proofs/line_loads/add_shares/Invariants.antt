@@ -1,7 +1,5 @@
 use Rattle.std.proofs.Common.{◌≡◌, ◌≤◌, ◌<◌, ℕ, ◌+◌, ◌-◌, ◌^◌, get_or, length, slice_get, Some}
-use Rattle.odd_cuts.specs.CheckTables.{share_of}
-use Rattle.line_graph.specs.declared.edge.Edge.{Edge}
-use Rattle.drawing_model.specs.declared.limits.TheConstants.{MAX_LINES}
+use Rattle.odd_cuts.proofs.Names.{share_of, Edge, MAX_LINES}
 use Rattle.odd_cuts.proofs.line_loads.add_shares.Given as goal
 
 -- the edges before that index have their shares, and the loads of the others are unchanged

@@ -1,5 +1,5 @@
 use Rattle.odd_cuts.proofs.TableLemmas.{below_at}
-use Rattle.drawing_model.specs.declared.limits.TheConstants.{MAX_LINES}
+use Rattle.odd_cuts.proofs.Names.{MAX_LINES}
 use Rattle.odd_cuts.proofs.line_loads.check_loads.Goals as goal
 
 pub check_load-requires : goal.check_load-requires

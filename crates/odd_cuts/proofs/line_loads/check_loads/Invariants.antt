@@ -1,5 +1,5 @@
 use Rattle.std.proofs.Common.{◌≡◌, drop}
-use Rattle.odd_cuts.specs.CheckTables.{table_load_faults}
+use Rattle.odd_cuts.proofs.Names.{table_load_faults}
 use Rattle.odd_cuts.proofs.line_loads.check_loads.Given as goal
 
 -- the lines so far carry no more than they may

@@ -1,6 +1,5 @@
 use Rattle.std.proofs.Common.{◌≡◌, ◌<◌, ℕ, ◌||◌, drop, get_or, false}
-use Rattle.drawing_model.specs.declared.limits.TheConstants.{MAX_LINES}
-use Rattle.line_graph.specs.PieceWalks.{is_line_passed}
+use Rattle.odd_cuts.proofs.Names.{MAX_LINES, is_line_passed}
 use Rattle.odd_cuts.proofs.passed_lines.passed_lines.Given as goal
 
 -- a line is passed where it is by the passes that are left, or marked

@@ -1,7 +1,5 @@
 use Rattle.std.proofs.Common.{◌≡◌, length, true}
-use Rattle.odd_cuts.specs.WalkFaults.{missing_fault}
-use Rattle.drawing_model.specs.declared.limits.TheConstants.{MAX_LINES}
-use Rattle.line_graph.specs.ValidPieces.{all_below}
+use Rattle.odd_cuts.proofs.Names.{missing_fault, MAX_LINES, all_below}
 use Rattle.odd_cuts.proofs.walk_check.check_lines.Given as goal
 
 -- the lines so far are passed

@@ -1,4 +1,4 @@
-use Rattle.line_graph.specs.PiecesOfDrawings.{graph_of}
+use Rattle.odd_cuts.proofs.Names.{graph_of}
 use Rattle.odd_cuts.proofs.ExactWalks.{exact_walks}
 use Rattle.odd_cuts.proofs.walk_check.check_walk.Goals as goal
 

@@ -1,6 +1,5 @@
 use Rattle.std.proofs.Common.{◌≡◌, ◌≤◌, ◌+◌, ◌-◌, ◌*◌, ◌^◌, length, Some}
-use Rattle.odd_cuts.specs.WalkFaults.{faults_from}
-use Rattle.line_graph.specs.PieceWalks.{edge_cost, pass_sum, walk_end_from}
+use Rattle.odd_cuts.proofs.Names.{faults_from, edge_cost, pass_sum, walk_end_from}
 use Rattle.odd_cuts.proofs.walk_check.follow.Given as goal
 
 -- the passes so far have no fault, and the remaining ones start where they lead

@@ -1,5 +1,5 @@
 use Rattle.std.proofs.Common.{◌≡◌, ◌+◌, length}
-use Rattle.odd_paths.specs.EdgeWalks.{EndsAreBelow}
+use Rattle.odd_paths.proofs.Names.{EndsAreBelow}
 use Rattle.odd_paths.proofs.edge_order.keys.Given as goal
 
 -- a number for each edge so far

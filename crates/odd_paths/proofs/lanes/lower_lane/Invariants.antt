@@ -1,5 +1,5 @@
 use Rattle.std.proofs.Common.{◌≡◌, ◌≤◌, ◌<◌, ◌+◌, ℕ, false, min, get_or, sum}
-use Rattle.line_graph.specs.PieceGraphs.{one_if}
+use Rattle.odd_paths.proofs.Names.{one_if}
 use Rattle.odd_paths.proofs.lanes.lower_lane.Given as goal
 
 -- the numbers so far are lowered, the others are as they were, and each change lowers the sum

@@ -1,11 +1,5 @@
 use Rattle.std.proofs.Common.{◌≡◌, ℕ, ◌+◌, ◌<◌, ◌≤◌, false, length}
-use Rattle.drawing_model.specs.declared.limits.TheConstants.{MAX_COST}
-use Rattle.line_graph.specs.PieceGraphs.{one_if}
-use Rattle.line_graph.specs.PieceWalks.{edge_cost, edge_sum}
-use Rattle.odd_paths.specs.declared.lanes.TheConstants.{LANES}
-use Rattle.odd_paths.specs.Lanes.{IsCapped, lane_column, weight}
-use Rattle.odd_paths.specs.EdgeWalks.{EndsAreBelow}
-use Rattle.odd_paths.specs.Sweeps.{changes, swept}
+use Rattle.odd_paths.proofs.Names.{MAX_COST, one_if, edge_cost, edge_sum, LANES, IsCapped, lane_column, weight, EndsAreBelow, changes, swept}
 use Rattle.odd_paths.proofs.lanes.sweep.Given as goal
 
 -- sweeping the remaining edges completes the sweep over all edges

@@ -1,11 +1,10 @@
-use Rattle.std.proofs.Common.{◌≡◌, length, rules}
-use Rattle.line_graph.specs.PiecesOfDrawings.{graph_of}
-use Rattle.odd_paths.proofs.TableLemmas.{are_rows, is_graph}
-use Rattle.odd_paths.specs.EdgeWalks.{AreLeastRows}
+use Rattle.std.proofs.Common.{◌≡◌, length, rules, arith}
+use Rattle.odd_paths.proofs.Names.{graph_of, AreLeastRows, nat_tests}
+use Rattle.odd_paths.proofs.TableLemmas.{are_rows, within}
 use Rattle.odd_paths.proofs.least_rows.rows.Goals as goal
 
 pub table_of-requires-clause-graph : goal.table_of-requires-clause-graph
-table_of-requires-clause-graph c = rw (c.as_slice.ensures, c.len.ensures) (is_graph (graph_of c.args.p.now) c.args.p.now.kept)
+table_of-requires-clause-graph c = rw (c.as_slice.ensures, c.len.ensures) (grind (arith, nat_tests, within))
 
 pub returns-clause-rows : goal.returns-clause-rows
 returns-clause-rows c =

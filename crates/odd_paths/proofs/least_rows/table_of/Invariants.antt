@@ -1,6 +1,5 @@
 use Rattle.std.proofs.Common.{ℕ, ◌<◌, ◌++◌, List, All, length}
-use Rattle.odd_paths.specs.Lanes.{lists_of}
-use Rattle.odd_paths.specs.EdgeWalks.{AreLeastRows}
+use Rattle.odd_paths.proofs.Names.{lists_of, AreLeastRows}
 use Rattle.odd_paths.proofs.least_rows.table_of.Given as goal
 
 -- the rows so far and those of the terminals that are left are all rows

@@ -1,9 +1,7 @@
-use Rattle.std.proofs.Common.{◌≡◌}
-use Rattle.line_graph.specs.PiecesOfDrawings.{graph_of}
-use Rattle.line_graph.specs.PieceGraphs.{odd_junctions}
-use Rattle.odd_paths.proofs.DegreeLemmas.{odds_told}
+use Rattle.std.proofs.Common.{◌≡◌, arith}
+use Rattle.odd_paths.proofs.Names.{graph_of, odd_junctions, odds_from, nat_tests}
+use Rattle.odd_paths.proofs.DegreeLemmas.{odds_kept}
 use Rattle.odd_paths.proofs.odd_junctions.odd.Goals as goal
-use Rattle.odd_paths.specs.OddDegrees.{odds_from}
 use Rattle.line_graph.proofs.CallerLemmas.{degrees_few}
 
 pub odds_in-requires : goal.odds_in-requires
@@ -13,5 +11,5 @@ pub returns : goal.returns
 returns c =
     let reported : odds_from c.from.result c.to.result 0 c.as_slice.result.now
     ≡ odd_junctions (graph_of c.args.p.now) =
-    rw (c.from.ensures, c.to.ensures, c.as_slice.ensures) (odds_told (graph_of c.args.p.now) c.args.p.now.kept) in
+    rw (c.from.ensures, c.to.ensures, c.as_slice.ensures) (grind (arith, nat_tests, odds_kept)) in
     rw (← reported) c.odds_in.ensures

@@ -1,5 +1,5 @@
 use Rattle.std.proofs.Common.{◌≡◌, ◌+◌, ◌++◌, length}
-use Rattle.odd_paths.specs.OddDegrees.{odds_from}
+use Rattle.odd_paths.proofs.Names.{odds_from}
 use Rattle.odd_paths.proofs.odd_junctions.odds_in.Given as goal
 
 -- the odd junctions so far and those of the degrees that are left are those of all degrees

@@ -1,4 +1,4 @@
-use Rattle.odd_paths.specs.Lanes.{KeepsCosts}
+use Rattle.odd_paths.proofs.Names.{KeepsCosts}
 use Rattle.odd_paths.proofs.rounds.forwards.Given as goal
 
 -- the edges so far kept the costs

@@ -1,4 +1,4 @@
-use Rattle.odd_paths.specs.Lanes.{KeepsCosts, weight}
+use Rattle.odd_paths.proofs.Names.{KeepsCosts, weight}
 use Rattle.odd_paths.proofs.rounds.settle.Given as goal
 
 -- the rounds so far kept the costs

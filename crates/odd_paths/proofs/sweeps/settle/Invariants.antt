@@ -1,5 +1,5 @@
 use Rattle.std.proofs.Common.{ℕ, length, sum}
-use Rattle.odd_paths.specs.Sweeps.{AreWalkCosts}
+use Rattle.odd_paths.proofs.Names.{AreWalkCosts}
 use Rattle.odd_paths.proofs.sweeps.settle.Given as goal
 
 abbrev pub invariant-loop : goal.invariant-loop

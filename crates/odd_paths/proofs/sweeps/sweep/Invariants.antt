@@ -1,6 +1,5 @@
 use Rattle.std.proofs.Common.{◌≡◌, length, ◌||◌}
-use Rattle.odd_paths.specs.EdgeWalks.{EndsAreBelow}
-use Rattle.odd_paths.specs.Sweeps.{changes, swept}
+use Rattle.odd_paths.proofs.Names.{EndsAreBelow, changes, swept}
 use Rattle.odd_paths.proofs.sweeps.sweep.Given as goal
 
 abbrev pub invariant-loop-rest : goal.invariant-loop-rest

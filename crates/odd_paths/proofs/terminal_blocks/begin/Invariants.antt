@@ -1,6 +1,5 @@
 use Rattle.std.proofs.Common.{◌≡◌, ℕ, ◌<◌, ◌≤◌}
-use Rattle.std.specs.Prelude.{slice_index, slice_set}
-use Rattle.odd_paths.specs.Lanes.{IsCapped, lane_column}
+use Rattle.odd_paths.proofs.Names.{slice_index, slice_set, IsCapped, lane_column}
 use Rattle.odd_paths.proofs.terminal_blocks.begin.Given as goal
 
 -- the columns so far have begun, the others are as they were

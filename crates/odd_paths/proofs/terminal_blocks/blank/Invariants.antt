@@ -1,6 +1,5 @@
 use Rattle.std.proofs.Common.{◌≡◌, replicate}
-use Rattle.odd_paths.specs.declared.lanes.TheConstants.{LANES}
-use Rattle.odd_paths.specs.declared.sweeps.TheConstants.{NO_WALK}
+use Rattle.odd_paths.proofs.Names.{LANES, NO_WALK}
 use Rattle.odd_paths.proofs.terminal_blocks.blank.Given as goal
 
 -- the lanes so far

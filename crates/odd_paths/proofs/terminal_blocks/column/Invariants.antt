@@ -1,5 +1,5 @@
 use Rattle.std.proofs.Common.{◌≡◌, take}
-use Rattle.odd_paths.specs.Lanes.{lane_column}
+use Rattle.odd_paths.proofs.Names.{lane_column}
 use Rattle.odd_paths.proofs.terminal_blocks.column.Given as goal
 
 -- the numbers of the lanes so far

@@ -1,5 +1,5 @@
 use Rattle.std.proofs.Common.{◌≡◌, ◌+◌, ◌++◌, length}
-use Rattle.odd_paths.specs.Lanes.{terminal_columns, lists_of}
+use Rattle.odd_paths.proofs.Names.{terminal_columns, lists_of}
 use Rattle.odd_paths.proofs.terminal_blocks.push_columns.Given as goal
 
 -- the rows so far and the columns that are left are all

@@ -1,6 +1,5 @@
 use Rattle.std.proofs.Common.{◌≡◌, ◌+◌, length}
-use Rattle.odd_paths.specs.EdgeWalks.{EndsAreBelow}
-use Rattle.odd_paths.specs.LastEdges.{last_edge_from}
+use Rattle.odd_paths.proofs.Names.{EndsAreBelow, last_edge_from}
 use Rattle.odd_paths.proofs.walk_back.last_edge.Given as goal
 
 abbrev pub invariant-loop-rest : goal.invariant-loop-rest

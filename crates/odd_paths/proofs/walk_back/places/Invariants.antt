@@ -1,6 +1,5 @@
 use Rattle.std.proofs.Common.{◌≡◌, ◌+◌, ◌<◌, length, reverse}
-use Rattle.std.specs.Prelude.{slice_index}
-use Rattle.odd_paths.specs.EdgeWalks.{IsEdgeWalk, edge_walk_cost}
+use Rattle.odd_paths.proofs.Names.{slice_index, IsEdgeWalk, edge_walk_cost}
 use Rattle.odd_paths.proofs.walk_back.places.Given as goal
 
 abbrev pub invariant-loop-at : goal.invariant-loop-at

@@ -1,7 +1,6 @@
 use Rattle.std.proofs.Common.{get_or, arith, ap, length, List, ℕ, refl, ◌≡◌, ◌∙◌}
-use Rattle.odd_sets.specs.Values.{PartValue}
+use Rattle.odd_sets.proofs.Names.{PartValue, part_in, parts_in}
 use Rattle.odd_sets.proofs.SlackRowLemmas.{merge_next}
-use Rattle.odd_sets.specs.Slots.{part_in, parts_in}
 use Rattle.odd_sets.proofs.ListLemmas.{each_here, mapped_item, mapped_low}
 use Rattle.odd_sets.proofs.HandleLemmas.{no_part}
 use Rattle.odd_sets.proofs.blossom.merge_all.Goals as goal

@@ -1,6 +1,5 @@
 use Rattle.std.proofs.Common.{◌≡◌, ◌<◌, ℕ, get_or, length, take}
-use Rattle.odd_sets.specs.BlossomSlacks.{least_part_slack}
-use Rattle.odd_sets.specs.Slots.{parts_in}
+use Rattle.odd_sets.proofs.Names.{least_part_slack, parts_in}
 use Rattle.odd_sets.proofs.blossom.merge_all.Given as goal
 
 -- the parts so far

@@ -1,6 +1,6 @@
 use Rattle.std.proofs.Common.{get_or}
+use Rattle.odd_sets.proofs.Names.{part_in, parts_in}
 use Rattle.odd_sets.proofs.BlossomLemmas.{held_later, holds_here}
-use Rattle.odd_sets.specs.Slots.{part_in, parts_in}
 use Rattle.odd_sets.proofs.ListLemmas.{mapped_item, mapped_low}
 use Rattle.odd_sets.proofs.HandleLemmas.{no_part}
 use Rattle.odd_sets.proofs.blossom.part_with.Goals as goal

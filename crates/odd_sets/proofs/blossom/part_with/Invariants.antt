@@ -1,7 +1,5 @@
 use Rattle.std.proofs.Common.{◌≤◌, drop}
-use Rattle.odd_sets.specs.DualSets.{count}
-use Rattle.odd_sets.specs.Blossoms.{members_in}
-use Rattle.odd_sets.specs.Slots.{parts_in}
+use Rattle.odd_sets.proofs.Names.{count, members_in, parts_in}
 use Rattle.odd_sets.proofs.blossom.part_with.Given as goal
 
 abbrev pub invariant-loop-i : goal.invariant-loop-i

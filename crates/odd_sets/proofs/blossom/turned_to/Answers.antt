@@ -1,7 +1,5 @@
 use Rattle.std.proofs.Common.{length, List, ◌<◌, subst}
-use Rattle.odd_sets.specs.Blossoms.{PartHoldsAt}
-use Rattle.odd_sets.specs.Slots.{part_in, parts_in}
-use Rattle.odd_sets.specs.declared.odd_set.BlossomPart.{BlossomPart}
+use Rattle.odd_sets.proofs.Names.{PartHoldsAt, part_in, parts_in, BlossomPart}
 use Rattle.odd_sets.proofs.BlossomLemmas.{first_turned, turned_in}
 use Rattle.odd_sets.proofs.blossom.turned_to.Goals as goal
 

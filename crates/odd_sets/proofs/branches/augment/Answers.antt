@@ -1,6 +1,5 @@
 use Rattle.std.proofs.Common.{arith, length, ◌≡◌}
-use Rattle.std.proofs.lemmas.List.{length-map}
-use Rattle.odd_sets.specs.Slots.{branch_in, branches_in, match_in}
+use Rattle.odd_sets.proofs.Names.{length-map, branch_in, branches_in, match_in}
 use Rattle.odd_sets.proofs.AugmentLemmas.{pairing_more, pairing_done}
 use Rattle.odd_sets.proofs.ListLemmas.{mapped_last}
 use Rattle.odd_sets.proofs.branches.augment.Goals as goal

@@ -1,5 +1,5 @@
 use Rattle.std.proofs.Common.{vec_len}
-use Rattle.odd_sets.specs.Slots.{branches_in, matches_in, set_in}
+use Rattle.odd_sets.proofs.Names.{branches_in, matches_in, set_in}
 use Rattle.odd_sets.proofs.AugmentLemmas.{Pairing}
 use Rattle.odd_sets.proofs.branches.augment.Given as goal
 

@@ -1,5 +1,5 @@
 use Rattle.std.proofs.Common.{arith}
-use Rattle.odd_sets.specs.Slots.{parts_in}
+use Rattle.odd_sets.proofs.Names.{parts_in}
 use Rattle.odd_sets.proofs.FreedLemmas.{can_lay_freed, expanded_freed, freed, freed_sets, grows_freed, inner_slot, places_stay, blossom_stays, split_slots}
 use Rattle.odd_sets.proofs.expanding.expand.Goals as goal
 

@@ -1,9 +1,5 @@
 use Rattle.std.proofs.Common.{◌≡◌, ◌∷◌, length}
-use Rattle.std.specs.Vec.Iter.{into_iter_items}
-use Rattle.odd_sets.specs.Blossoms.{reversed_edge}
-use Rattle.odd_sets.specs.Expansions.{last_edge_of, reversed_blossom, reversed_onto}
-use Rattle.odd_sets.specs.Slots.{parts_in, set_in, Slots}
-use Rattle.odd_sets.specs.Shrinks.{part_with_edge}
+use Rattle.odd_sets.proofs.Names.{into_iter_items, reversed_edge, last_edge_of, reversed_blossom, reversed_onto, parts_in, set_in, Slots, part_with_edge}
 use Rattle.odd_sets.proofs.expanding.reversed.Given as goal
 
 -- the chain reversed so far, and the remaining parts

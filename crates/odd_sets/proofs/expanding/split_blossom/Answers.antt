@@ -1,7 +1,5 @@
 use Rattle.std.proofs.Common.{ap, refl, List}
-use Rattle.std.specs.Vec.Iter.{into_iter_items}
-use Rattle.odd_sets.specs.Slots.{branch_in, part_in, parts_in, set_in}
-use Rattle.odd_sets.specs.declared.odd_set.BlossomPart.{BlossomPart}
+use Rattle.odd_sets.proofs.Names.{into_iter_items, branch_in, part_in, parts_in, set_in, BlossomPart}
 use Rattle.odd_sets.proofs.SplitLemmas.{laid, laying_more}
 use Rattle.odd_sets.proofs.ListLemmas.{mapped_last}
 use Rattle.odd_sets.proofs.expanding.split_blossom.Goals as goal

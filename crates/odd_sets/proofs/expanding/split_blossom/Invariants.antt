@@ -1,6 +1,5 @@
 use Rattle.std.proofs.Common.{length}
-use Rattle.std.specs.Vec.Iter.{into_iter_items}
-use Rattle.odd_sets.specs.Slots.{branches_in, parts_in, set_in}
+use Rattle.odd_sets.proofs.Names.{into_iter_items, branches_in, parts_in, set_in}
 use Rattle.odd_sets.proofs.SplitLemmas.{Laying}
 use Rattle.odd_sets.proofs.expanding.split_blossom.Given as goal
 

@@ -1,5 +1,6 @@
 use Rattle.std.proofs.Common.{arith, get_or, refl}
-use Rattle.odd_sets.proofs.RaisedLemmas.{lowered, lowers, count_at}
+use Rattle.odd_sets.proofs.Names.{eq-eqb, nat_tests}
+use Rattle.odd_sets.proofs.RaisedLemmas.{lowered, count_at, at_drop}
 use Rattle.odd_sets.proofs.heights.lower.Goals as goal
 
 pub bounds-heights-m : goal.bounds-heights-m
@@ -20,5 +21,5 @@ loop-m-preserved c = λ x.
     let h = c.requires.within m (count_at c.args.members.now c.loop-m.m-index c.loop-m-test.true) in
     lowered x c.loop-m.m-index m c.args.by c.args.members.now c.loop-m.heights _ _ c.loop-m-test.true refl
     (omega (arith, h, c.loop-m.auto.heights))
-    (lowers c.loop-m.m-index m c.args.by c.args.members.now _ _ _ c.loop-m-test.true refl (c.requires.fits m) (c.loop-m.invariant m))
+    (grind (arith, nat_tests, at_drop, eq-eqb, c.loop-m.m-index, c.loop-m-test.true, (c.requires.fits m), (c.loop-m.invariant m)))
     (c.loop-m.invariant x)

@@ -1,5 +1,5 @@
 use Rattle.std.proofs.Common.{arith, ap, ℕ, ◌*◌, List}
-use Rattle.odd_sets.specs.DualSets.{count}
+use Rattle.odd_sets.proofs.Names.{count}
 use Rattle.odd_sets.proofs.RaisedLemmas.{inners_at, more_by}
 use Rattle.odd_sets.proofs.heights.lower_inners.Goals as goal
 

@@ -1,5 +1,5 @@
 use Rattle.std.proofs.Common.{◌≡◌, ◌+◌, ◌*◌, ℕ, drop, get_or}
-use Rattle.odd_sets.specs.DualSets.{count}
+use Rattle.odd_sets.proofs.Names.{count}
 use Rattle.odd_sets.proofs.heights.raise.Given as goal
 
 -- the places that are left are still to rise

@@ -1,7 +1,5 @@
 use Rattle.std.proofs.Common.{◌≡◌, ◌+◌, ◌*◌, ◌≤◌, ◌<◌, ℕ, [], drop, get_or, length}
-use Rattle.odd_sets.specs.DualSets.{count}
-use Rattle.odd_sets.specs.Trees.{outer_members}
-use Rattle.odd_sets.specs.Slots.{branches_in}
+use Rattle.odd_sets.proofs.Names.{count, outer_members, branches_in}
 use Rattle.odd_sets.proofs.heights.raise_outers.Given as goal
 
 -- the branches that are left are still to change

@@ -1,6 +1,6 @@
 use Rattle.std.proofs.Common.{get_or}
+use Rattle.odd_sets.proofs.Names.{match_in, matches_in}
 use Rattle.odd_sets.proofs.MatchLemmas.{match_holds, match_later}
-use Rattle.odd_sets.specs.Slots.{match_in, matches_in}
 use Rattle.odd_sets.proofs.ListLemmas.{mapped_item, mapped_low}
 use Rattle.odd_sets.proofs.HandleLemmas.{no_match}
 use Rattle.odd_sets.proofs.matches.match_with.Goals as goal

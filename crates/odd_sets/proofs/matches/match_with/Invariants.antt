@@ -1,7 +1,5 @@
 use Rattle.std.proofs.Common.{◌≤◌, drop}
-use Rattle.odd_sets.specs.DualSets.{count}
-use Rattle.odd_sets.specs.MatchedSets.{match_members}
-use Rattle.odd_sets.specs.Slots.{matches_in}
+use Rattle.odd_sets.proofs.Names.{count, match_members, matches_in}
 use Rattle.odd_sets.proofs.matches.match_with.Given as goal
 
 -- a match that is left holds the place

@@ -1,7 +1,5 @@
 use Rattle.std.proofs.Common.{◌≡◌, ◌++◌, length}
-use Rattle.std.specs.Vec.Iter.{into_iter_items}
-use Rattle.odd_sets.specs.MatchedSets.{matches_along}
-use Rattle.odd_sets.specs.Slots.{matches_in, parts_in, Slots}
+use Rattle.odd_sets.proofs.Names.{into_iter_items, matches_along, matches_in, parts_in, Slots}
 use Rattle.odd_sets.proofs.matches.pair_off.Given as goal
 
 -- the matches so far and those of the parts that are left

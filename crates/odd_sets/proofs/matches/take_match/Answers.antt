@@ -1,7 +1,5 @@
 use Rattle.std.proofs.Common.{List, length, ◌<◌, subst}
-use Rattle.odd_sets.specs.MatchedSets.{MatchHolds}
-use Rattle.odd_sets.specs.Slots.{match_in, matches_in}
-use Rattle.odd_sets.specs.declared.matches.Match.{Match}
+use Rattle.odd_sets.proofs.Names.{MatchHolds, match_in, matches_in, Match}
 use Rattle.odd_sets.proofs.MatchLemmas.{taken_out}
 use Rattle.odd_sets.proofs.ListLemmas.{mapped_at, mapped_low, mapped_removed}
 use Rattle.odd_sets.proofs.matches.take_match.Goals as goal

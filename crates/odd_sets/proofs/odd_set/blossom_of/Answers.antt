@@ -1,8 +1,5 @@
 use Rattle.std.proofs.Common.{List, ap, ◌∙◌}
-use Rattle.odd_sets.specs.Blossoms.{members_in}
-use Rattle.odd_sets.specs.BlossomSlacks.{blossom_slacks}
-use Rattle.odd_sets.specs.Slots.{parts_in}
-use Rattle.odd_sets.specs.declared.odd_set.BlossomPart.{BlossomPart}
+use Rattle.odd_sets.proofs.Names.{members_in, blossom_slacks, parts_in, BlossomPart}
 use Rattle.odd_sets.proofs.SlotLemmas.{blossom_more}
 use Rattle.odd_sets.proofs.odd_set.blossom_of.Goals as goal
 

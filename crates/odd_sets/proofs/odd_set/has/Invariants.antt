@@ -1,5 +1,5 @@
 use Rattle.std.proofs.Common.{◌≡◌, drop}
-use Rattle.odd_sets.specs.DualSets.{count}
+use Rattle.odd_sets.proofs.Names.{count}
 use Rattle.odd_sets.proofs.odd_set.has.Given as goal
 
 -- the place is none of those so far

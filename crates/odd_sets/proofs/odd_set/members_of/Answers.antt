@@ -1,7 +1,5 @@
 use Rattle.std.proofs.Common.{List, ℕ, ◌++◌, ◌+◌, ap, append_assoc, drop, get_or, sym, ◌∙◌}
-use Rattle.odd_sets.specs.Blossoms.{members_in}
-use Rattle.odd_sets.specs.Slots.{members_at, part_in, parts_in}
-use Rattle.odd_sets.specs.Values.{PartValue}
+use Rattle.odd_sets.proofs.Names.{members_in, members_at, part_in, parts_in, PartValue}
 use Rattle.odd_sets.proofs.ListLemmas.{drop_here, mapped_item, mapped_low}
 use Rattle.odd_sets.proofs.HandleLemmas.{no_part}
 use Rattle.odd_sets.proofs.odd_set.members_of.Goals as goal

@@ -1,6 +1,5 @@
 use Rattle.std.proofs.Common.{◌≡◌, ◌++◌, drop}
-use Rattle.odd_sets.specs.Blossoms.{members_in}
-use Rattle.odd_sets.specs.Slots.{parts_in}
+use Rattle.odd_sets.proofs.Names.{members_in, parts_in}
 use Rattle.odd_sets.proofs.odd_set.members_of.Given as goal
 
 -- the members so far and those of the parts that are left

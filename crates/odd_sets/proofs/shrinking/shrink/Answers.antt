@@ -1,7 +1,5 @@
 use Rattle.std.proofs.Common.{arith, length, ◌≡◌, refl, subst}
-use Rattle.std.proofs.lemmas.List.{length-map}
-use Rattle.odd_sets.specs.Shrinks.{Shrinks}
-use Rattle.odd_sets.specs.Slots.{branch_in, branches_in, set_in, Slots}
+use Rattle.odd_sets.proofs.Names.{length-map, Shrinks, branch_in, branches_in, set_in, Slots}
 use Rattle.odd_sets.proofs.ListLemmas.{mapped_last}
 use Rattle.odd_sets.proofs.ShrinkLemmas.{closable, closable_root}
 use Rattle.odd_sets.proofs.ShrunkLemmas.{last_kept, blossom_sets, root_sets, shrunk_inside, shrunk_root}

@@ -1,8 +1,6 @@
 use Rattle.std.proofs.Common.{◌≡◌, [], vec_len}
+use Rattle.odd_sets.proofs.Names.{CanShrink, branches_in, set_in, AreSets, all_dual_sets}
 use Rattle.odd_sets.specs.ChainSteps.{IsOpenChainIn}
-use Rattle.odd_sets.specs.Shrinks.{CanShrink}
-use Rattle.odd_sets.specs.Slots.{branches_in, set_in, AreSets}
-use Rattle.odd_sets.specs.Trees.{all_dual_sets}
 use Rattle.odd_sets.proofs.shrinking.shrink.Given as goal
 
 abbrev pub invariant-loop-b : goal.invariant-loop-b

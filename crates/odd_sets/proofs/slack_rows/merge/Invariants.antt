@@ -1,5 +1,5 @@
 use Rattle.std.proofs.Common.{◌≡◌, ◌≤◌, ◌<◌, ℕ, get_or, min}
-use Rattle.odd_sets.specs.SlackRows.{lowered_slack}
+use Rattle.odd_sets.proofs.Names.{lowered_slack}
 use Rattle.odd_sets.proofs.slack_rows.merge.Given as goal
 
 -- the cells so far, and those that are left

@@ -1,5 +1,5 @@
-use Rattle.std.proofs.lemmas.Bool.Decides.{nat_tests}
 use Rattle.std.proofs.Common.{arith, get_or, length, length-set, ◌<◌}
+use Rattle.odd_sets.proofs.Names.{nat_tests}
 use Rattle.odd_sets.proofs.RaisedLemmas.{count_at}
 use Rattle.odd_sets.proofs.SlackRowLemmas.{put_next, put_others}
 use Rattle.odd_sets.proofs.slack_rows.put.Goals as goal

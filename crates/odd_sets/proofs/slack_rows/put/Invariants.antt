@@ -1,5 +1,5 @@
 use Rattle.std.proofs.Common.{◌≡◌, ◌≤◌, ℕ, get_or, take, length}
-use Rattle.odd_sets.specs.DualSets.{count}
+use Rattle.odd_sets.proofs.Names.{count}
 use Rattle.odd_sets.proofs.slack_rows.put.Given as goal
 
 -- the places so far

@@ -1,6 +1,5 @@
 use Rattle.std.proofs.Common.{◌≡◌, map}
-use Rattle.std.specs.List.{range_with_len}
-use Rattle.odd_sets.specs.SlackRows.{vertex_slack}
+use Rattle.odd_sets.proofs.Names.{range_with_len, vertex_slack}
 use Rattle.odd_sets.proofs.slack_rows.single_row.Given as goal
 
 -- the cells so far

@@ -1,4 +1,4 @@
-use Rattle.std.specs.Io.KnownBytes.{Keeps}
+use Rattle.outside_io.proofs.Names.{Keeps}
 use Rattle.outside_io.proofs.turns.write_some.Given as goal
 
 -- The bytes of the writer are unchanged.

@@ -1,6 +1,5 @@
 use Rattle.std.proofs.Common.{◌≡◌, ◌≤◌, ◌+◌, ℕ, List, ◌++◌, ◌∙◌, length, take, ap, sym, subst, arith, length-append, rules}
-use Rattle.std.proofs.lemmas.List.{length-take-le}
-use Rattle.outside_io.specs.FileParts.{IsContentPrefix}
+use Rattle.outside_io.proofs.Names.{length-take-le, IsContentPrefix}
 use Rattle.outside_io.proofs.WholeAnswers.{decided}
 use Rattle.outside_io.proofs.WholeFiles.{stays_on}
 use Rattle.outside_io.proofs.whole_files.read_whole.Goals as goal

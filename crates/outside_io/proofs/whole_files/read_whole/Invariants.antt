@@ -1,5 +1,5 @@
 use Rattle.std.proofs.Common.{◌≡◌, ℕ, ◌≤◌, List, Some, ◌+◌, ◌-◌, length, take}
-use Rattle.outside_io.specs.Causes.{HasNoNewFault}
+use Rattle.outside_io.proofs.Names.{HasNoNewFault}
 use Rattle.outside_io.specs.FileParts.{IsFilePrefix}
 use Rattle.outside_io.proofs.whole_files.read_whole.Given as goal
 

@@ -1,5 +1,5 @@
 use Rattle.std.proofs.Common.{length}
-use Rattle.outside_io.specs.Streams.{AddsPrefix}
+use Rattle.outside_io.proofs.Names.{AddsPrefix}
 use Rattle.outside_io.proofs.writing.write_all.Given as goal
 
 -- what is gone from the rest was added

@@ -1,5 +1,5 @@
 use Rattle.std.proofs.Common.{◌≡◌, ap, ◌∙◌, length, rules}
-use Rattle.pec_codec.specs.Header.{pec_header_of}
+use Rattle.pec_codec.proofs.Names.{pec_header_of}
 use Rattle.pec_codec.proofs.HeaderLemmas.{length-pec_header_of}
 use Rattle.pec_codec.proofs.header.new_header.Goals as goal
 

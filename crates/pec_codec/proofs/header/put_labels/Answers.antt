@@ -1,5 +1,5 @@
 use Rattle.std.proofs.Common.{◌≤◌, length, subst}
-use Rattle.design_model.specs.declared.design.TheConstants.{MAX_LABEL}
+use Rattle.pec_codec.proofs.Names.{MAX_LABEL}
 use Rattle.pec_codec.proofs.HeaderLemmas.{labels_fit}
 use Rattle.pec_codec.proofs.header.put_labels.Goals as goal
 

@@ -1,6 +1,5 @@
 use Rattle.std.proofs.Common.{◌≡◌, ◌++◌, map}
-use Rattle.std.specs.List.{range_with_len}
-use Rattle.design_model.specs.Designs.{thread_of}
+use Rattle.pec_codec.proofs.Names.{range_with_len, thread_of}
 use Rattle.pec_codec.proofs.header.put_threads.Given as goal
 
 -- the threads so far

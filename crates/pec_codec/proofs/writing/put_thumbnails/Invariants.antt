@@ -1,5 +1,5 @@
 use Rattle.std.proofs.Common.{◌≡◌, ◌*◌, ◌++◌, replicate}
-use Rattle.pec_codec.specs.declared.block.TheConstants.{THUMBNAIL_LENGTH}
+use Rattle.pec_codec.proofs.Names.{THUMBNAIL_LENGTH}
 use Rattle.pec_codec.proofs.writing.put_thumbnails.Given as goal
 
 -- the thumbnails so far

@@ -1,5 +1,4 @@
-use Rattle.pes_codec.specs.Formats.{file_meaning}
-use Rattle.pes_codec.specs.Fronts.{front_of}
+use Rattle.pes_codec.proofs.Names.{file_meaning, front_of}
 use Rattle.pes_codec.proofs.FrontLemmas.{is_behind, keeps_laws, reads_whole}
 use Rattle.pes_codec.proofs.file_codec.write_file.Goals as goal
 

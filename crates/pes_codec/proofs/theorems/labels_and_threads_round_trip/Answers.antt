@@ -1,6 +1,4 @@
-use Rattle.pes_codec.specs.declared.file_kind.FileKind.TheVariants.{Pec, Pes}
-use Rattle.pes_codec.specs.Formats.{file_meaning}
-use Rattle.pes_codec.specs.Fronts.{front_of}
+use Rattle.pes_codec.proofs.Names.{Pec, Pes, file_meaning, front_of}
 use Rattle.pes_codec.proofs.FrontLemmas.{is_behind, reads_whole}
 use Rattle.pes_codec.proofs.theorems.labels_and_threads_round_trip.Goals as goal
 

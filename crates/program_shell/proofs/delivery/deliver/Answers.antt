@@ -1,5 +1,5 @@
 use Rattle.std.proofs.Common.{refl}
-use Rattle.program_shell.specs.FinishedRuns.{up_to}
+use Rattle.program_shell.proofs.Names.{up_to}
 use Rattle.program_shell.proofs.delivery.deliver.Goals as goal
 
 pub returns-in-Err : goal.returns-in-Err

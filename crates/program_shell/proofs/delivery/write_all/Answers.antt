@@ -1,6 +1,5 @@
 use Rattle.std.proofs.Common.{ap}
-use Rattle.std.proofs.lemmas.List.{at_drop_more, drop_all}
-use Rattle.program_shell.specs.Products.{output_values}
+use Rattle.program_shell.proofs.Names.{at_drop_more, drop_all, output_values}
 use Rattle.program_shell.proofs.DeliveryLemmas.{writes_all, writes_on, writes_up_to}
 use Rattle.program_shell.proofs.delivery.write_all.Goals as goal
 

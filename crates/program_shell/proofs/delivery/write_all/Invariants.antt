@@ -1,5 +1,5 @@
 use Rattle.std.proofs.Common.{drop}
-use Rattle.program_shell.specs.Products.{output_values}
+use Rattle.program_shell.proofs.Names.{output_values}
 use Rattle.program_shell.proofs.DeliveryLemmas.{WritesOn}
 use Rattle.program_shell.proofs.delivery.write_all.Given as goal
 

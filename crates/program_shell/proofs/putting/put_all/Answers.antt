@@ -1,6 +1,5 @@
 use Rattle.std.proofs.Common.{ap, map}
-use Rattle.std.specs.List.{concat}
-use Rattle.std.proofs.lemmas.List.{at_drop_more, drop_all}
+use Rattle.program_shell.proofs.Names.{concat, at_drop_more, drop_all}
 use Rattle.program_shell.proofs.PutLemmas.{gathers_all, gathers_broke, gathers_on, puts_err}
 use Rattle.program_shell.proofs.putting.put_all.Goals as goal
 

@@ -1,5 +1,5 @@
 use Rattle.std.proofs.Common.{◌++◌, drop, map}
-use Rattle.std.specs.List.{concat}
+use Rattle.program_shell.proofs.Names.{concat}
 use Rattle.program_shell.proofs.PutLemmas.{PutsOn}
 use Rattle.program_shell.proofs.putting.put_all.Given as goal
 

@@ -1,6 +1,5 @@
 use Rattle.std.proofs.Common.{◌≡◌, ◌≤◌, ◌*ℤ◌, pos, unsigned_abs, subst, sym, ap, ◌∙◌, arith, rules}
-use Rattle.std.proofs.lemmas.Int.{to_z-of_z}
-use Rattle.std.specs.Int.{w32, int_div_euclid}
+use Rattle.record_formats.proofs.Names.{to_z-of_z, w32, int_div_euclid}
 use mir.Val.{to_z, of_z, SFits}
 use Rattle.format_traits.specs.declared.move_hops.TheConstants.{MAX_MOVE}
 use Rattle.record_formats.proofs.rereading.Hops.{axis_small}

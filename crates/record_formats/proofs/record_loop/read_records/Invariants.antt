@@ -1,9 +1,7 @@
 use Rattle.std.proofs.Common.{◌≡◌, ◌+◌, ◌-◌, ◌≤◌, IsTrue, false, length, drop}
-use Rattle.design_model.specs.declared.point.TheConstants.{JUMP_LIMIT}
-use Rattle.design_model.specs.Points.{is_point_within}
+use Rattle.record_formats.proofs.Names.{JUMP_LIMIT, is_point_within, ContinuesAs}
 use Rattle.record_formats.specs.declared.record_stage.RecordStage.TheVariants as stage
 use Rattle.record_formats.specs.RecordStates.{record_state_at}
-use Rattle.format_traits.specs.DecoderStates.{ContinuesAs}
 use Rattle.record_formats.proofs.record_loop.read_records.Given as goal
 
 -- the design so far and the remaining bytes have the same result as the bytes from the start on

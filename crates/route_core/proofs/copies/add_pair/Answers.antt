@@ -1,7 +1,6 @@
 use Rattle.std.proofs.Common.{List, ℕ, ◌+◌, ◌<◌, ◌^◌, length, subst, sym}
-use Rattle.line_graph.specs.PiecesOfDrawings.{graph_of}
+use Rattle.route_core.proofs.Names.{graph_of, AddsCopies, total_copies}
 use Rattle.route_core.proofs.PathLemmas.{adds_pair, path_room}
-use Rattle.route_core.specs.Copies.{AddsCopies, total_copies}
 use Rattle.route_core.proofs.copies.add_pair.Goals as goal
 
 pub add_places-requires-clause-few : goal.add_places-requires-clause-few

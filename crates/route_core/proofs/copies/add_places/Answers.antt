@@ -1,9 +1,11 @@
-use Rattle.route_core.proofs.CopyLemmas.{adds_one, first_below, has_room, left_one}
+use Rattle.route_core.proofs.CopyLemmas.{adds_one, first_below, left_one, get_within}
 use Rattle.route_core.proofs.copies.add_places.Goals as goal
+use Rattle.std.proofs.Common.{ap, arith}
+use Rattle.route_core.proofs.Names.{nat_tests}
 
 pub add_one-requires-clause-few : goal.add_one-requires-clause-few
 add_one-requires-clause-few c =
-    has_room c.loop-k.copies.items c.loop-k.rest.now c.in-Some.after.now c.in-Some.k c.in-Some.ensures.some c.loop-k.invariant.few
+    grind (arith, nat_tests, get_within, ap, c.in-Some.ensures.some, c.loop-k.invariant.few)
 
 pub loop-k-preserved : goal.loop-k-preserved
 loop-k-preserved c =

@@ -1,5 +1,5 @@
 use Rattle.std.proofs.Common.{◌<◌, ◌+◌, ◌^◌, All, List, ℕ, length}
-use Rattle.route_core.specs.Copies.{AddsCopies, total_copies}
+use Rattle.route_core.proofs.Names.{AddsCopies, total_copies}
 use Rattle.route_core.proofs.copies.add_places.Given as goal
 
 -- what adds the places that are left has added all of them

@@ -1,7 +1,6 @@
-use Rattle.std.proofs.lemmas.Bool.Decides.{nat_tests}
 use Rattle.std.proofs.Common.{◌∙◌, ap, replicate, ℕ, arith}
-use Rattle.line_graph.specs.PiecesOfDrawings.{graph_of}
-use Rattle.route_core.proofs.PairLemmas.{begun, ended, first_pair, goes_on, room_for_pair}
+use Rattle.route_core.proofs.Names.{nat_tests, graph_of}
+use Rattle.route_core.proofs.PairLemmas.{begun, ended, first_pair, goes_on}
 use Rattle.route_core.proofs.copies.copies_of.Goals as goal
 
 pub loop-pair-init : goal.loop-pair-init
@@ -15,7 +14,7 @@ add_pair-requires-clause-pair c =
     first_pair c.args.rows.now c.loop-pair.rest.now c.in-Some.after.now c.in-Some.pair c.in-Some.ensures.some c.loop-pair.invariant.there
 
 pub add_pair-requires-clause-few : goal.add_pair-requires-clause-few
-add_pair-requires-clause-few c = grind (arith, nat_tests, room_for_pair)
+add_pair-requires-clause-few c = grind (arith, nat_tests, ap)
 
 pub loop-pair-preserved : goal.loop-pair-preserved
 loop-pair-preserved c =

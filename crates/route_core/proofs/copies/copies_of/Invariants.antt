@@ -1,5 +1,5 @@
 use Rattle.std.proofs.Common.{length}
-use Rattle.line_graph.specs.PiecesOfDrawings.{graph_of}
+use Rattle.route_core.proofs.Names.{graph_of}
 use Rattle.route_core.proofs.PairLemmas.{LeftPairs}
 use Rattle.route_core.proofs.copies.copies_of.Given as goal
 

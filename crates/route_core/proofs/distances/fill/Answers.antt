@@ -1,12 +1,11 @@
-use Rattle.std.proofs.lemmas.Bool.Decides.{nat_tests}
 use Rattle.std.proofs.Common.{◌<◌, ap, arith, length}
-use Rattle.line_graph.specs.PiecesOfDrawings.{graph_of}
-use Rattle.route_core.proofs.DistanceLemmas.{filled_none, row_most, terminal_there}
+use Rattle.route_core.proofs.Names.{nat_tests, graph_of}
+use Rattle.route_core.proofs.DistanceLemmas.{row_most, terminal_there}
 use Rattle.route_core.proofs.distances.fill.Goals as goal
 use Rattle.odd_paths.proofs.CallerLemmas.{is_wide}
 
 pub loop-b-init : goal.loop-b-init
-loop-b-init c = grind (arith, nat_tests, filled_none)
+loop-b-init c = grind (arith, nat_tests)
 
 pub bounds-row-terminals : goal.bounds-row-terminals
 bounds-row-terminals c =

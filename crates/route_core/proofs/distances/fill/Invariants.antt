@@ -1,5 +1,5 @@
 use Rattle.std.proofs.Common.{◌<◌, ◌≤◌, length}
-use Rattle.route_core.specs.Distances.{HasFilledEntries}
+use Rattle.route_core.proofs.Names.{HasFilledEntries}
 use Rattle.route_core.proofs.distances.fill.Given as goal
 
 abbrev pub invariant-loop-b : goal.invariant-loop-b

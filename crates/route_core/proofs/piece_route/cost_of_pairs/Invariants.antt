@@ -1,5 +1,5 @@
 use Rattle.std.proofs.Common.{◌≡◌, ◌+◌, All, length}
-use Rattle.route_core.specs.Copies.{IsPairOf, pair_costs}
+use Rattle.route_core.proofs.Names.{IsPairOf, pair_costs}
 use Rattle.route_core.proofs.piece_route.cost_of_pairs.Given as goal
 
 -- what the pairs so far cost, with those that are left, is what all cost

@@ -1,11 +1,6 @@
 use Rattle.std.proofs.Common.{◌≡◌, ◌∙◌, ◌<◌, ◌≤◌, ◌%◌, ◌^◌, List, ℕ, arith, length, subst, sym, ap}
-use Rattle.blossom_match.specs.declared.matching.Pair.{Pair}
-use Rattle.drawing_model.specs.declared.limits.TheConstants.{MAX_COST, MAX_LINES}
-use Rattle.line_graph.specs.PiecesOfDrawings.{graph_of}
-use Rattle.odd_paths.specs.LeastRows.{AreTerminals}
+use Rattle.route_core.proofs.Names.{Pair, MAX_COST, MAX_LINES, graph_of, AreTerminals, pair_costs, IsWalkBy}
 use Rattle.route_core.proofs.LeastCertLemmas.{pairs_cost_few, proves, spelled}
-use Rattle.route_core.specs.Copies.{pair_costs}
-use Rattle.route_core.specs.OddPairs.{IsWalkBy}
 use Rattle.route_core.proofs.piece_route.route_piece.Goals as goal
 use Rattle.odd_paths.proofs.CallerLemmas.{odds_are_terminals}
 

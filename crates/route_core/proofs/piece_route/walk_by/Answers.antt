@@ -1,6 +1,5 @@
 use Rattle.std.proofs.Common.{List, ℕ, subst, sym}
-use Rattle.euler_tour.specs.Tours.{CanPass, IsTour}
-use Rattle.line_graph.specs.PiecesOfDrawings.{graph_of}
+use Rattle.route_core.proofs.Names.{CanPass, IsTour, graph_of}
 use Rattle.route_core.proofs.PassLemmas.{can_pass, walk_is}
 use Rattle.route_core.proofs.piece_route.walk_by.Goals as goal
 

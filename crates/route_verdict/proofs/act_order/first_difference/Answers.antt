@@ -1,7 +1,5 @@
 use Rattle.std.proofs.Common.{◌∙◌, Err, List, Ok, ap, subst, sym}
-use Rattle.line_graph.specs.declared.pass.Pass.{Pass}
-use Rattle.line_graph.specs.Runs.{block_of_passes}
-use Rattle.route_verdict.specs.SewingSteps.{AreDrawn}
+use Rattle.route_verdict.proofs.Names.{Pass, block_of_passes, AreDrawn}
 use Rattle.route_verdict.proofs.ActOrderLemmas.{LeftRuns, run_is, runs_differ, runs_on}
 use Rattle.route_verdict.proofs.SewLemmas.{drawn_piece}
 use Rattle.route_verdict.proofs.act_order.first_difference.Goals as goal

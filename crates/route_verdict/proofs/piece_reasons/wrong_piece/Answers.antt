@@ -1,5 +1,5 @@
 use Rattle.std.proofs.Common.{ap, length, List, arith, sym}
-use Rattle.line_graph.specs.declared.piece.Piece.{Piece}
+use Rattle.route_verdict.proofs.Names.{Piece}
 use Rattle.route_verdict.proofs.VerdictLemmas.{reasons_next, short_rest}
 use Rattle.route_verdict.proofs.piece_reasons.wrong_piece.Goals as goal
 

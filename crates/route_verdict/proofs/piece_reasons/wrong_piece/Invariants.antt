@@ -1,6 +1,5 @@
 use Rattle.std.proofs.Common.{◌≡◌, ◌+◌, All, length, map}
-use Rattle.line_graph.specs.PiecesOfDrawings.{graph_of}
-use Rattle.route_verdict.specs.Verdicts.{HasShortLists, pieces_reason}
+use Rattle.route_verdict.proofs.Names.{graph_of, HasShortLists, pieces_reason}
 use Rattle.route_verdict.proofs.piece_reasons.wrong_piece.Given as goal
 
 -- the pieces so far are right, so all depends on those that are left

@@ -1,6 +1,5 @@
 use Rattle.std.proofs.Common.{◌≡◌, map, take}
-use Rattle.design_model.specs.declared.command.Command.TheVariants.{Stitch}
-use Rattle.design_model.specs.LongerDesigns.{with_commands}
+use Rattle.route_verdict.proofs.Names.{Stitch, with_commands}
 use Rattle.route_verdict.proofs.sewing.add_stitches.Given as goal
 
 -- the stitches so far

@@ -1,6 +1,5 @@
 use Rattle.std.proofs.Common.{◌≡◌, ◌≤◌, ◌-◌, replicate}
-use Rattle.design_model.specs.declared.command.Command.TheVariants.{Stop}
-use Rattle.design_model.specs.LongerDesigns.{with_commands}
+use Rattle.route_verdict.proofs.Names.{Stop, with_commands}
 use Rattle.route_verdict.proofs.sewing.add_stops.Given as goal
 
 -- the stops so far, which are no more than required

@@ -1,6 +1,5 @@
 use Rattle.std.proofs.Common.{◌∙◌, All, List, subst, sym}
-use Rattle.design_model.specs.declared.point.Point.{Point}
-use Rattle.step_splitter.specs.Chains.{IsNeedlePoint}
+use Rattle.route_verdict.proofs.Names.{Point, IsNeedlePoint}
 use Rattle.route_verdict.proofs.SewLemmas.{walk_in_range}
 use Rattle.route_verdict.proofs.sewing.sew_walk.Goals as goal
 

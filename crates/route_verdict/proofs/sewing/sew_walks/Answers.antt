@@ -1,10 +1,6 @@
-use Rattle.std.proofs.Common.{◌+◌, ◌≤◌, ◌∙◌, List, ap, length, subst, sym}
-use Rattle.line_graph.specs.declared.pass.Pass.{Pass}
-use Rattle.line_graph.specs.Runs.{block_of_passes}
-use Rattle.line_graph.specs.Walks.{needles_of_walk}
-use Rattle.route_verdict.proofs.SewLemmas.{drawn_piece, room_for, sews_on}
-use Rattle.design_model.specs.LongerDesigns.{with_commands}
-use Rattle.route_verdict.specs.SewingSteps.{AreDrawn, run_commands}
+use Rattle.std.proofs.Common.{◌+◌, ◌≤◌, ◌∙◌, List, ap, length, subst, sym, arith}
+use Rattle.route_verdict.proofs.Names.{Pass, block_of_passes, needles_of_walk, with_commands, AreDrawn, run_commands, length-append, nat_tests}
+use Rattle.route_verdict.proofs.SewLemmas.{drawn_piece, sews_on, walk_first}
 use Rattle.route_verdict.proofs.sewing.sew_walks.Goals as goal
 
 pub sew_walk-requires-clause-there : goal.sew_walk-requires-clause-there
@@ -18,9 +14,7 @@ sew_walk-requires-clause-room c =
     subst (λ (walk : List Pass). length c.loop-piece.design.commands
     + length (run_commands c.loop-piece.before (block_of_passes c.args.d.now walk) (needles_of_walk c.args.d.now walk)) ≤ 1000000)
     (sym c.as_slice.ensures)
-    (room_for c.args.d.now c.args.pieces.now c.args.design.now c.loop-piece.design c.loop-piece.before c.loop-piece.rest.now
-    c.in-Some.after.now c.in-Some.piece.now
-    c.in-Some.ensures.some c.loop-piece.invariant)
+    (grind (arith, nat_tests, walk_first, length-append, c.loop-piece.before, c.in-Some.ensures.some, c.loop-piece.invariant))
 
 pub loop-piece-preserved : goal.loop-piece-preserved
 loop-piece-preserved c =

@@ -1,5 +1,5 @@
 use Rattle.std.proofs.Common.{◌∙◌, ◌++◌, List, ap, drop}
-use Rattle.design_model.specs.declared.point.Point.{Point}
+use Rattle.route_verdict.proofs.Names.{Point}
 use Rattle.route_verdict.proofs.SewLemmas.{drawn_rest, later_more}
 use Rattle.route_verdict.proofs.walk_needles.add_later.Goals as goal
 

@@ -1,5 +1,5 @@
 use Rattle.std.proofs.Common.{◌≡◌, ◌++◌, length}
-use Rattle.route_verdict.specs.SewingSteps.{AreDrawn, later_needles}
+use Rattle.route_verdict.proofs.Names.{AreDrawn, later_needles}
 use Rattle.route_verdict.proofs.walk_needles.add_later.Given as goal
 
 -- the needles so far, with those of the passes that are left, are all

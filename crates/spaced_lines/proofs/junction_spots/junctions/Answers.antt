@@ -1,10 +1,8 @@
 use Rattle.std.proofs.Common.{drop, arith}
 use Rattle.std.proofs.lemmas.List.{drop_all, drop_more}
-use Rattle.std.specs.HashSet.{contains}
-use Rattle.line_sections.specs.Spots.{is_same_spot}
+use Rattle.spaced_lines.proofs.Names.{contains, is_same_spot, nat_tests}
 use Rattle.spaced_lines.proofs.JunctionLemmas.{junctions_go_on}
 use Rattle.spaced_lines.proofs.junction_spots.junctions.Goals as goal
-use Rattle.std.proofs.lemmas.Bool.Decides.{nat_tests}
 
 pub returns : goal.returns
 returns c =

@@ -1,6 +1,5 @@
 use Rattle.std.proofs.Common.{rules}
-use Rattle.std.specs.HashSet.{contains}
-use Rattle.line_sections.specs.Spots.{is_same_spot}
+use Rattle.spaced_lines.proofs.Names.{contains, is_same_spot}
 use Rattle.spaced_lines.proofs.JunctionLemmas.{ends_put}
 use Rattle.spaced_lines.proofs.junction_spots.put_ends.Goals as goal
 

@@ -1,7 +1,5 @@
 use Rattle.std.proofs.Common.{◌≡◌, length}
-use Rattle.std.specs.List.{list_all}
-use Rattle.drawing_review.specs.Frames.{grid_point}
-use Rattle.drawing_review.specs.Meetings.{is_near}
+use Rattle.spaced_lines.proofs.Names.{list_all, grid_point, is_near}
 use Rattle.spaced_lines.proofs.spacing.are_near.Given as goal
 
 -- all points so far are near, and the result depends on those that are left

@@ -1,7 +1,5 @@
 use Rattle.std.proofs.Common.{◌≡◌, ◌++◌, length, map}
-use Rattle.std.specs.HashSet.{contains}
-use Rattle.line_sections.specs.Spots.{is_same_spot}
-use Rattle.spaced_lines.specs.SpacedLines.{spaced_line}
+use Rattle.spaced_lines.proofs.Names.{contains, is_same_spot, spaced_line}
 use Rattle.spaced_lines.proofs.spacing.spaced.Given as goal
 
 -- the lines so far, and those that are left once they are spaced, are all

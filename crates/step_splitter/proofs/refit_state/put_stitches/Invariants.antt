@@ -1,6 +1,6 @@
 use Rattle.std.proofs.Common.{◌≡◌, ◌≤◌, ◌+◌, drop, length, map}
+use Rattle.step_splitter.proofs.Names.{MAX_COMMANDS}
 use Rattle.design_model.specs.declared.command.Command.TheVariants as command
-use Rattle.design_model.specs.declared.design.TheConstants.{MAX_COMMANDS}
 use Rattle.design_model.specs.LongerDesigns.{with_commands}
 use Rattle.step_splitter.proofs.refit_state.put_stitches.Given as goal
 

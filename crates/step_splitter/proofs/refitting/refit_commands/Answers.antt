@@ -1,6 +1,5 @@
 use Rattle.std.proofs.Common.{drop, ◌+◌}
-use Rattle.design_model.specs.Acts.{acts_along}
-use Rattle.design_model.specs.ActScanners.{acts_after}
+use Rattle.step_splitter.proofs.Names.{acts_along, acts_after}
 use Rattle.step_splitter.proofs.RefitLemmas.{next_split}
 use Rattle.step_splitter.proofs.refitting.refit_commands.Goals as goal
 

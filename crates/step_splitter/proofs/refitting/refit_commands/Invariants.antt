@@ -1,9 +1,5 @@
 use Rattle.std.proofs.Common.{◌≡◌, ◌≤◌, drop, length}
-use Rattle.design_model.specs.declared.design.TheConstants.{MAX_COMMANDS}
-use Rattle.design_model.specs.Acts.{acts_along}
-use Rattle.design_model.specs.ActScanners.{acts_after}
-use Rattle.step_splitter.specs.Chains.{IsNeedlePoint}
-use Rattle.step_splitter.specs.RefitSteps.{IsRefitState}
+use Rattle.step_splitter.proofs.Names.{MAX_COMMANDS, acts_along, acts_after, IsNeedlePoint, IsRefitState}
 use Rattle.step_splitter.proofs.refitting.refit_commands.Given as goal
 
 -- the commands of the acts so far, and how the acts that are left go on from them

@@ -1,6 +1,5 @@
 use Rattle.std.proofs.Common.{◌≡◌, ◌++◌, map}
-use Rattle.std.specs.List.{range_with_len}
-use Rattle.step_splitter.specs.Steps.{point_on_segment}
+use Rattle.step_splitter.proofs.Names.{range_with_len, point_on_segment}
 use Rattle.step_splitter.proofs.segment.put_ends.Given as goal
 
 -- the ends of the steps so far

@@ -1,12 +1,9 @@
 use Rattle.std.proofs.Common.{◌≡◌, ◌≤◌, rules, arith, sym}
+use Rattle.step_splitter.proofs.Names.{move_between, move_size, steps_of, div_ceil_times, nat_tests}
 use Rattle.step_splitter.proofs.PointLemmas.{size_some}
 use Rattle.step_splitter.proofs.QuotientLemmas.{div_ceil_few, div_ceil_some}
-use Rattle.design_model.specs.Points.{move_between, move_size}
-use Rattle.step_splitter.specs.Steps.{steps_of}
 use Rattle.step_splitter.proofs.segment.steps.Goals as goal
 use Rattle.step_splitter.proofs.CallerLemmas.{size_few}
-use Rattle.std.proofs.lemmas.Grind.{div_ceil_times}
-use Rattle.std.proofs.lemmas.Bool.Decides.{nat_tests}
 
 pub returns-then-longer-step-clause-value : goal.returns-then-longer-step-clause-value
 returns-then-longer-step-clause-value c =

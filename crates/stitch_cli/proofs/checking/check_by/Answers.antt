@@ -1,6 +1,4 @@
-use Rattle.stitch_cli.specs.Checks.{check_drawing}
-use Rattle.stitch_cli.specs.Checks.{check_order}
-use Rattle.program_shell.proofs.CallerLemmas.{takes_next}
+use Rattle.stitch_cli.proofs.Names.{check_drawing, check_order, takes_next}
 use Rattle.stitch_cli.proofs.checking.check_by.Goals as goal
 
 pub returns-clause-prepares : goal.returns-clause-prepares

@@ -1,5 +1,5 @@
-use Rattle.stitch_cli.specs.Hoops.{hoop_order, hoop_read}
-use Rattle.program_shell.proofs.CallerLemmas.{settles_taken}
+use Rattle.stitch_cli.proofs.Names.{hoop_read, settles_taken}
+use Rattle.stitch_cli.specs.Hoops.{hoop_order}
 use Rattle.stitch_cli.proofs.hooping.hoop_by.Goals as goal
 
 pub returns-clause-prepares : goal.returns-clause-prepares

@@ -1,5 +1,5 @@
 use Rattle.std.proofs.Common.{◌≡◌, false, bytes_eq, sym, rules}
-use Rattle.design_changes.specs.AppliedChanges.{change_list}
+use Rattle.stitch_cli.proofs.Names.{change_list}
 use Rattle.stitch_cli.proofs.FormatLemmas.{rewriting_found}
 use Rattle.stitch_cli.proofs.rewriting.rewrite.Goals as goal
 

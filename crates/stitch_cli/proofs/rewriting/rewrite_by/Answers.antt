@@ -1,12 +1,7 @@
 use Rattle.std.proofs.Common.{subst}
-use Rattle.format_traits.specs.Meanings.{Meaning}
-use Rattle.program_shell.specs.StepOutcomes.{RunsPurePlan}
-use Rattle.program_shell.specs.Plans.{satisfies}
-use Rattle.design_changes.specs.AppliedChanges.{change_list}
-use Rattle.stitch_cli.specs.Rewrites.{IsRewriteResult, rewrite_order, rewrite_read}
-use Rattle.program_shell.proofs.CallerLemmas.{settles_taken}
+use Rattle.stitch_cli.proofs.Names.{Meaning, RunsPurePlan, satisfies, change_list, IsRewriteResult, rewrite_read, settles_taken, same_format}
+use Rattle.stitch_cli.specs.Rewrites.{rewrite_order}
 use Rattle.stitch_cli.proofs.rewriting.rewrite_by.Goals as goal
-use Rattle.format_traits.proofs.CallerLemmas.{same_format}
 
 pub returns-clause-prepares : goal.returns-clause-prepares
 returns-clause-prepares g c = λ s t of_source of_target.

@@ -1,4 +1,4 @@
-use Rattle.odd_cuts.specs.Certificates.{walks_of}
+use Rattle.stitch_cli.proofs.Names.{walks_of}
 use Rattle.stitch_cli.proofs.SewnDesigns.{sewn_sews, sews_again}
 use Rattle.stitch_cli.proofs.sewing.encoded.Goals as goal
 

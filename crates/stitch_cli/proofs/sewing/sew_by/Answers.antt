@@ -1,6 +1,5 @@
-use Rattle.program_shell.proofs.CallerLemmas.{settles_taken}
-use Rattle.stitch_cli.specs.SewingWays.{IsSewnBy}
-use Rattle.stitch_cli.specs.Sewings.{sewing_order, sewing_read}
+use Rattle.stitch_cli.proofs.Names.{settles_taken, IsSewnBy, sewing_read}
+use Rattle.stitch_cli.specs.Sewings.{sewing_order}
 use Rattle.stitch_cli.proofs.sewing.sew_by.Goals as goal
 
 pub returns : goal.returns

@@ -1,10 +1,7 @@
 use Rattle.std.proofs.Common.{Ok, subst}
-use Rattle.format_traits.specs.Meanings.{Meaning}
-use Rattle.program_shell.specs.StepOutcomes.{RunsPurePlan}
-use Rattle.stitch_cli.specs.Shows.{show_order, show_read}
-use Rattle.program_shell.proofs.CallerLemmas.{settles_taken}
+use Rattle.stitch_cli.proofs.Names.{Meaning, RunsPurePlan, show_read, settles_taken, same_format}
+use Rattle.stitch_cli.specs.Shows.{show_order}
 use Rattle.stitch_cli.proofs.showing.show_by.Goals as goal
-use Rattle.format_traits.proofs.CallerLemmas.{same_format}
 
 pub returns-clause-prepares : goal.returns-clause-prepares
 returns-clause-prepares g c = λ m is.

@@ -1,5 +1,5 @@
-use Rattle.stitch_cli.specs.Tracings.{trace_order, trace_read}
-use Rattle.program_shell.proofs.CallerLemmas.{settles_taken}
+use Rattle.stitch_cli.proofs.Names.{trace_read, settles_taken}
+use Rattle.stitch_cli.specs.Tracings.{trace_order}
 use Rattle.stitch_cli.proofs.tracing.trace_by.Goals as goal
 
 pub returns-clause-prepares : goal.returns-clause-prepares

@@ -1,8 +1,7 @@
 use Rattle.std.proofs.Common.{sym, ◌∙◌}
+use Rattle.stitch_text.proofs.Names.{words_in, some_part}
 use Rattle.stitch_text.proofs.ReadingLemmas.{other_word}
-use Rattle.text_parts.specs.Parts.{words_in}
 use Rattle.stitch_text.proofs.list_line.line_of_more.Goals as goal
-use Rattle.text_parts.proofs.CallerLemmas.{some_part}
 
 pub returns : goal.returns
 returns c =

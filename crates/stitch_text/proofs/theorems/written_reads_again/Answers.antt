@@ -1,6 +1,5 @@
 use Rattle.stitch_text.proofs.RoundTrip.{list_is_codec}
-use Rattle.stitch_text.specs.Format.{list_meaning}
-use Rattle.stitch_text.specs.StitchLists.{list_write_limits, list_of}
+use Rattle.stitch_text.proofs.Names.{list_meaning, list_write_limits, list_of}
 use Rattle.stitch_text.proofs.theorems.written_reads_again.Goals as goal
 
 pub returns : goal.returns

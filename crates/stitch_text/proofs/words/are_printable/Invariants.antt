@@ -1,6 +1,5 @@
 use Rattle.std.proofs.Common.{◌≡◌, drop}
-use Rattle.std.specs.List.{list_all}
-use Rattle.stitch_text.specs.Words.{is_printable}
+use Rattle.stitch_text.proofs.Names.{list_all, is_printable}
 use Rattle.stitch_text.proofs.words.are_printable.Given as goal
 
 -- the bytes that are left decide

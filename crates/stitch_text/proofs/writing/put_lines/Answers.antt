@@ -1,6 +1,5 @@
 use Rattle.std.proofs.Common.{◌≡◌, ap}
-use Rattle.design_model.specs.Acts.{acts_along, acts_of}
-use Rattle.design_model.specs.Designs.{thread_of}
+use Rattle.stitch_text.proofs.Names.{acts_along, acts_of, thread_of}
 use Rattle.stitch_text.proofs.WriterLemmas.{lines_put}
 use Rattle.stitch_text.proofs.writing.put_lines.Goals as goal
 

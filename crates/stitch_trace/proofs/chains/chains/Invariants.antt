@@ -1,8 +1,5 @@
 use Rattle.std.proofs.Common.{◌≡◌, ◌++◌, drop}
-use Rattle.std.specs.HashSet.{contains}
-use Rattle.stitch_trace.specs.Chains.{chains_of}
-use Rattle.stitch_trace.specs.Links.{is_same_directed_link, needle_moves_from}
-use Rattle.stitch_trace.specs.Tracing.{chains_after, new_moves_by}
+use Rattle.stitch_trace.proofs.Names.{contains, chains_of, is_same_directed_link, needle_moves_from, chains_after, new_moves_by}
 use Rattle.stitch_trace.proofs.chains.chains.Given as goal
 
 -- the chains so far, and those of the acts that are left

@@ -1,5 +1,5 @@
 use Rattle.std.proofs.Common.{◌≡◌, drop}
-use Rattle.stitch_trace.specs.Traces.{chains_added}
+use Rattle.stitch_trace.proofs.Names.{chains_added}
 use Rattle.stitch_trace.proofs.drawing_of_strands.add_chains.Given as goal
 
 -- with the chains that are left, the drawing becomes the specified one

@@ -1,5 +1,5 @@
 use Rattle.std.proofs.Common.{◌≡◌, drop}
-use Rattle.stitch_trace.specs.Traces.{strands_added}
+use Rattle.stitch_trace.proofs.Names.{strands_added}
 use Rattle.stitch_trace.proofs.drawing_of_strands.add_strands.Given as goal
 
 -- with the strands that are left, the drawing becomes the specified one

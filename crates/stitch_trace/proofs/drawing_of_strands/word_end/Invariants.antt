@@ -1,6 +1,5 @@
 use Rattle.std.proofs.Common.{◌≡◌, ◌+◌, drop}
-use Rattle.std.specs.List.{position_or_len}
-use Rattle.stitch_trace.specs.Traces.{is_space}
+use Rattle.stitch_trace.proofs.Names.{position_or_len, is_space}
 use Rattle.stitch_trace.proofs.drawing_of_strands.word_end.Given as goal
 
 -- the first space is among the bytes that are left

@@ -1,5 +1,4 @@
-use Rattle.std.specs.HashSet.{contains}
-use Rattle.stitch_trace.specs.Links.{is_same_directed_link}
+use Rattle.stitch_trace.proofs.Names.{contains, is_same_directed_link}
 use Rattle.stitch_trace.proofs.MoveLemmas.{kept_both}
 use Rattle.stitch_trace.proofs.new_links.sew.Goals as goal
 

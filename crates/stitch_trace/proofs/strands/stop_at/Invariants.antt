@@ -1,6 +1,5 @@
 use Rattle.std.proofs.Common.{◌≡◌, ◌+◌, drop}
-use Rattle.std.specs.List.{position_or_len}
-use Rattle.design_model.specs.ActKinds.{is_stop}
+use Rattle.stitch_trace.proofs.Names.{position_or_len, is_stop}
 use Rattle.stitch_trace.proofs.strands.stop_at.Given as goal
 
 -- the first stop is among the acts that are left

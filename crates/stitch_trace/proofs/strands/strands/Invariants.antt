@@ -1,6 +1,5 @@
 use Rattle.std.proofs.Common.{◌≡◌, ◌≤◌, ◌+◌, ◌++◌, length}
-use Rattle.design_model.specs.Blocks.{blocks_of}
-use Rattle.stitch_trace.specs.Traces.{strands_from}
+use Rattle.stitch_trace.proofs.Names.{blocks_of, strands_from}
 use Rattle.stitch_trace.proofs.strands.strands.Given as goal
 
 -- the strands so far, and those of the blocks that are left

@@ -1,6 +1,5 @@
 use Rattle.std.proofs.Common.{◌≡◌, ◌≤◌, drop}
-use Rattle.stitch_trace.specs.Links.{needle_moves_of, needle_moves_from}
-use Rattle.stitch_trace.specs.Tracing.{max_size_after}
+use Rattle.stitch_trace.proofs.Names.{needle_moves_of, needle_moves_from, max_size_after}
 use Rattle.stitch_trace.proofs.traced_drawing.measured.Given as goal
 
 -- with the acts that are left, measuring has the specified result

@@ -1,9 +1,6 @@
 use Rattle.std.proofs.Common.{◌≡◌, ◌≤◌, true, ◌++◌, ◌∷◌, [], length, ap, sym, ◌∙◌, arith}
-use Rattle.std.proofs.lemmas.Bool.Decides.{nat_tests}
-use Rattle.line_sections.specs.Lines.{LineValue}
+use Rattle.drawing_model.proofs.Names.{nat_tests, LineValue, DrawingValue, all_in_needle_range, steps_with_line}
 use Rattle.drawing_model.proofs.MakerLemmas.{all_in_range, line_put, may_come}
-use Rattle.drawing_model.specs.Drawings.{DrawingValue}
-use Rattle.drawing_model.specs.GrowingDrawings.{all_in_needle_range, steps_with_line}
 use Rattle.drawing_model.proofs.drawing_maker.DrawingMaker.add_line.Goals as goal
 
 pub invariant_of-self-2 : goal.invariant_of-self-2

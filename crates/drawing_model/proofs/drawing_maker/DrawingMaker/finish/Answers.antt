@@ -1,5 +1,5 @@
 use Rattle.std.proofs.Common.{◌≢◌, length, arith}
-use Rattle.std.proofs.lemmas.Bool.Decides.{nat_tests}
+use Rattle.drawing_model.proofs.Names.{nat_tests}
 use Rattle.drawing_model.proofs.MakerLemmas.{drawn_all}
 use Rattle.drawing_model.proofs.drawing_maker.DrawingMaker.finish.Goals as goal
 

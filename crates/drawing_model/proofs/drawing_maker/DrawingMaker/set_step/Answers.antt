@@ -1,6 +1,6 @@
 use Rattle.std.proofs.Common.{length, ap, ◌∙◌}
+use Rattle.drawing_model.proofs.Names.{DrawingValue}
 use Rattle.drawing_model.proofs.MakerLemmas.{step_set}
-use Rattle.drawing_model.specs.Drawings.{DrawingValue}
 use Rattle.drawing_model.proofs.drawing_maker.DrawingMaker.set_step.Goals as goal
 
 pub invariant_of-self : goal.invariant_of-self

@@ -1,9 +1,6 @@
 use Rattle.std.proofs.Common.{List, ap, ◌∙◌}
-use Rattle.std.specs.HashMap.{get}
-use Rattle.design_model.specs.declared.point.Point.{Point}
-use Rattle.drawing_repairs.specs.declared.cells.Cell.{Cell}
-use Rattle.drawing_repairs.specs.Anchors.{nearest_anchor}
-use Rattle.drawing_repairs.specs.Cells.{AnchorsValue, is_same_cell, points_in_cell}
+use Rattle.drawing_repairs.proofs.Names.{get, Point, Cell, nearest_anchor, is_same_cell, points_in_cell}
+use Rattle.drawing_repairs.specs.Cells.{AnchorsValue}
 use Rattle.drawing_repairs.proofs.CellLemmas.{nearest_in_cell}
 use Rattle.drawing_repairs.proofs.anchors.Anchors.nearest.Goals as goal
 

@@ -1,7 +1,5 @@
 use Rattle.std.proofs.Common.{◌≡◌, length}
-use Rattle.std.specs.HashMap.{get}
-use Rattle.drawing_repairs.specs.Anchors.{anchors_after, anchors_of}
-use Rattle.drawing_repairs.specs.Cells.{AreInCells, is_same_cell}
+use Rattle.drawing_repairs.proofs.Names.{get, anchors_after, anchors_of, AreInCells, is_same_cell}
 use Rattle.drawing_repairs.proofs.anchors.Anchors.of.Given as goal
 
 -- the anchors so far are in their cells, and with the points that are left lead to all anchors

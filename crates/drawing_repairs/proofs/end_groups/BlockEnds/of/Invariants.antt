@@ -1,5 +1,5 @@
 use Rattle.std.proofs.Common.{◌≡◌, ◌++◌, length}
-use Rattle.std.specs.List.{flat_map}
+use Rattle.drawing_repairs.proofs.Names.{flat_map}
 use Rattle.drawing_repairs.proofs.end_groups.BlockEnds.of.Given as goal
 
 -- the groups so far, and the ends that are left, are all

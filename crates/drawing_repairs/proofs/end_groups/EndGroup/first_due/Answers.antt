@@ -1,6 +1,5 @@
 use Rattle.std.proofs.Common.{List, ap, sym, ◌∙◌}
-use Rattle.design_model.specs.declared.point.Point.{Point}
-use Rattle.drawing_repairs.specs.Listings.{due_end}
+use Rattle.drawing_repairs.proofs.Names.{Point, due_end}
 use Rattle.drawing_repairs.proofs.EndGroupLemmas.{none_beyond}
 use Rattle.drawing_repairs.proofs.end_groups.EndGroup.first_due.Goals as goal
 

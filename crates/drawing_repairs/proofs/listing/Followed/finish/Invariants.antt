@@ -1,5 +1,5 @@
 use Rattle.std.proofs.Common.{◌≡◌, ◌++◌, length}
-use Rattle.drawing_repairs.specs.Listings.{followed_points}
+use Rattle.drawing_repairs.proofs.Names.{followed_points}
 use Rattle.drawing_repairs.proofs.listing.Followed.finish.Given as goal
 
 -- the points so far and those that are left are all

@@ -1,11 +1,8 @@
 use Rattle.std.proofs.Common.{◌≤◌, ◌+◌, ◌++◌, true, length, get_or, drop, refl, sym, ap, ◌∙◌, subst, arith}
 use Rattle.std.proofs.lemmas.Bool.{and_from}
-use Rattle.std.proofs.lemmas.List.{length-drop}
-use Rattle.design_model.specs.Points.{is_point_within}
+use Rattle.exp_codec.proofs.Names.{length-drop, is_point_within, next, units_from, record_or_refusal, event_of_control}
 use Rattle.record_formats.specs.declared.event.Event.TheVariants as event
 use Rattle.record_formats.specs.declared.record_reader.TheConstants.{MAX_RECORD_MOVE}
-use Rattle.record_formats.specs.Records.{next}
-use Rattle.exp_codec.specs.Units.{units_from, record_or_refusal, event_of_control}
 use Rattle.exp_codec.proofs.UnitLemmas.{two_bytes, four_bytes, behind_two}
 use Rattle.exp_codec.proofs.units.UnitsRecordReader.next.Goals as goal
 

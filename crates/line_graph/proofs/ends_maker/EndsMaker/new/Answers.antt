@@ -1,5 +1,5 @@
 use Rattle.std.proofs.Common.{◌∙◌, subst}
-use Rattle.drawing_model.specs.Drawings.{DrawingValue, KeepsDrawingLimits}
+use Rattle.line_graph.proofs.Names.{DrawingValue, KeepsDrawingLimits}
 use Rattle.line_graph.proofs.PieceLabelLemmas.{labels_are}
 use Rattle.line_graph.proofs.ends_maker.EndsMaker.new.Goals as goal
 

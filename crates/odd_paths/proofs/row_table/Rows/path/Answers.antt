@@ -1,8 +1,6 @@
 use Rattle.std.proofs.Common.{arith}
-use Rattle.line_graph.specs.PiecesOfDrawings.{graph_of}
+use Rattle.odd_paths.proofs.Names.{graph_of, IsLeastEdgeWalk, terminal_of}
 use Rattle.odd_paths.proofs.TableLemmas.{is_path, is_this_row}
-use Rattle.odd_paths.specs.LastEdges.{IsLeastEdgeWalk}
-use Rattle.odd_paths.specs.LeastRows.{terminal_of}
 use Rattle.odd_paths.proofs.row_table.Rows.path.Goals as goal
 use Rattle.odd_paths.proofs.CallerLemmas.{is_wide}
 

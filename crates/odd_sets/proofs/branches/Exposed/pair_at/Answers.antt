@@ -1,5 +1,5 @@
 use Rattle.std.proofs.Common.{refl}
-use Rattle.odd_sets.specs.Slots.{branch_in, set_in}
+use Rattle.odd_sets.proofs.Names.{branch_in, set_in}
 use Rattle.odd_sets.proofs.AugmentLemmas.{keeps_hand, takes_hand}
 use Rattle.odd_sets.proofs.branches.Exposed.pair_at.Goals as goal
 

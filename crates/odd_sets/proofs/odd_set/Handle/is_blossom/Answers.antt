@@ -1,6 +1,5 @@
 use Rattle.std.proofs.Common.{List, ap, length, ltb, ◌∙◌}
-use Rattle.odd_sets.specs.Slots.{members_at, parts_at}
-use Rattle.odd_sets.specs.declared.odd_set.BlossomPart.{BlossomPart}
+use Rattle.odd_sets.proofs.Names.{members_at, parts_at, BlossomPart}
 use Rattle.odd_sets.proofs.SlotLemmas.{parts_show}
 use Rattle.odd_sets.proofs.odd_set.Handle.is_blossom.Goals as goal
 

@@ -1,9 +1,6 @@
-use Rattle.std.proofs.Common.{List, [], ◌∷◌, ◌++◌, ◌≡◌, ap, refl, ◌∙◌}
-use Rattle.odd_sets.specs.Slots.{branch_in, part_in, parts_in, set_in}
-use Rattle.odd_sets.specs.Blossoms.{reversed_edge}
-use Rattle.odd_sets.specs.declared.odd_set.TightEdge.{TightEdge}
-use Rattle.odd_sets.specs.declared.odd_set.BlossomPart.{BlossomPart}
-use Rattle.odd_sets.proofs.ChainLemmas.{chaining_left, chaining_right, chaining_aside, chaining_ends, no_other}
+use Rattle.std.proofs.Common.{List, [], ◌∷◌, ◌++◌, ◌≡◌, ap, refl, ◌∙◌, arith}
+use Rattle.odd_sets.proofs.Names.{branch_in, part_in, parts_in, set_in, reversed_edge, TightEdge, BlossomPart, nat_tests}
+use Rattle.odd_sets.proofs.ChainLemmas.{chaining_left, chaining_right, chaining_aside, chaining_ends}
 use Rattle.odd_sets.proofs.ListLemmas.{mapped_last, mapped_two}
 use Rattle.odd_sets.proofs.ShrunkLemmas.{last_kept}
 use Rattle.odd_sets.proofs.shrinking.Chain.climb.Goals as goal
@@ -23,7 +20,7 @@ returns-then-holds c =
       goes = λ link root tree left bs sh e g.
           let kept = last_kept link root tree left bs b _ _ _ _ sh g e in
           chaining_ends link root tree bs _ _ _ _ _ _ (chaining_left link root tree left bs b _ _ _ _ _ g e here
-          (no_other c.args.self.now.way.from c.args.self.now.to (set_in sets c.args.b.outer) c.requires here) kept.0 kept.1
+          (grind (arith, nat_tests, c.requires)) kept.0 kept.1
           (ap (λ (ps : List BlossomPart). parts_in sets ps) parts)) second.way (second.to ∙ first.to);
     }
 

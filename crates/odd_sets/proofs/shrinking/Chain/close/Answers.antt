@@ -1,7 +1,5 @@
 use Rattle.std.proofs.Common.{List, subst, sym, ◌∙◌}
-use Rattle.odd_sets.specs.Blossoms.{IsBlossom}
-use Rattle.odd_sets.specs.Slots.{parts_in, set_in}
-use Rattle.odd_sets.specs.declared.odd_set.BlossomPart.{BlossomPart}
+use Rattle.odd_sets.proofs.Names.{IsBlossom, parts_in, set_in, BlossomPart}
 use Rattle.odd_sets.proofs.ShrinkLemmas.{blossom_from}
 use Rattle.odd_sets.proofs.shrinking.Chain.close.Goals as goal
 

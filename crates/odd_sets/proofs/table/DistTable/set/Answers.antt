@@ -1,6 +1,5 @@
 use Rattle.std.proofs.Common.{◌≡◌, ◌+◌, ◌*◌, ◌<◌, sym, subst}
-use Rattle.odd_sets.specs.TableValue.{TableValue}
-use Rattle.odd_sets.specs.Tables.{entry, after_set}
+use Rattle.odd_sets.proofs.Names.{TableValue, entry, after_set}
 use Rattle.odd_sets.proofs.TableLemmas.{entry-set_at, set_at, set_at_stored}
 use Rattle.odd_sets.proofs.table.DistTable.set.Goals as goal
 

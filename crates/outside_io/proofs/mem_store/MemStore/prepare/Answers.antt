@@ -1,9 +1,8 @@
-use Rattle.std.proofs.Common.{◌≡◌, rules}
-use Rattle.outside_io.specs.MemEntries.{with_room}
+use Rattle.std.proofs.lemmas.Bool.Decides.{nat_tests}
+use Rattle.std.proofs.Common.{◌≡◌, rules, arith}
+use Rattle.outside_io.proofs.Names.{with_room}
 use Rattle.outside_io.proofs.EntryFiles.{file_in-with_room}
 use Rattle.outside_io.proofs.mem_store.MemStore.prepare.Goals as goal
 
 pub returns-clause-files : goal.returns-clause-files
-returns-clause-files c =
-    let raised : c.raise_room.new.entries.items ≡ with_room c.args.self.now.entries c.args.name.now c.args.room = search rules in
-    λ other. file_in-with_room _ _ _ _ other raised
+returns-clause-files c = grind (arith, nat_tests, with_room, file_in-with_room)

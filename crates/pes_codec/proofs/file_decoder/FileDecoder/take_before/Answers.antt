@@ -1,8 +1,5 @@
 use Rattle.std.proofs.Common.{◌≡◌, drop, rules}
-use Rattle.record_formats.specs.RecordStates.{record_so_far_at, record_state_at}
-use Rattle.pec_codec.specs.Reading.{pec_block_layout}
-use Rattle.pec_codec.specs.Records.{pec_records}
-use Rattle.pes_codec.specs.Fronts.{front_layout_of}
+use Rattle.pes_codec.proofs.Names.{record_so_far_at, record_state_at, pec_block_layout, pec_records, front_layout_of}
 use Rattle.pes_codec.proofs.FileLemmas.{before_long, before_short}
 use Rattle.pes_codec.proofs.file_decoder.FileDecoder.take_before.Goals as goal
 

@@ -1,6 +1,5 @@
 use Rattle.std.proofs.Common.{◌≡◌, ◌-◌, ◌+◌, ◌++◌, map, ap, sym, ◌∙◌, arith}
-use Rattle.design_model.specs.Points.{move_between}
-use Rattle.record_formats.specs.MoveParts.{part_moves_from, part_end}
+use Rattle.record_formats.proofs.Names.{move_between, part_moves_from, part_end}
 use Rattle.record_formats.proofs.WriterLemmas.{jumps_and}
 use Rattle.record_formats.proofs.rereading.Parts.{part_all}
 use Rattle.record_formats.proofs.act_writing.ActRecords.put_float.Goals as goal

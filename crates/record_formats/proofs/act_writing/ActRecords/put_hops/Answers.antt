@@ -1,6 +1,5 @@
 use Rattle.std.proofs.Common.{map}
-use Rattle.design_model.specs.Points.{origin}
-use Rattle.record_formats.specs.MoveParts.{part_moves}
+use Rattle.record_formats.proofs.Names.{origin, part_moves}
 use Rattle.record_formats.proofs.WriterLemmas.{jumps_and}
 use Rattle.record_formats.proofs.act_writing.ActRecords.put_hops.Goals as goal
 

@@ -1,6 +1,5 @@
 use Rattle.std.proofs.Common.{◌≡◌, ◌-◌, ◌++◌, map}
-use Rattle.std.specs.List.{concat}
-use Rattle.record_formats.specs.MoveParts.{part_moves_from}
+use Rattle.record_formats.proofs.Names.{concat, part_moves_from}
 use Rattle.record_formats.proofs.act_writing.ActRecords.put_jumps.Given as goal
 
 -- the jumps so far, and those of the parts that are left

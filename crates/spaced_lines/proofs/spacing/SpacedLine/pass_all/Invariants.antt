@@ -1,7 +1,5 @@
 use Rattle.std.proofs.Common.{◌≡◌, ◌++◌, length}
-use Rattle.std.specs.HashSet.{contains}
-use Rattle.line_sections.specs.Spots.{is_same_spot}
-use Rattle.spaced_lines.specs.SpacedLines.{is_spot_of, kept_after}
+use Rattle.spaced_lines.proofs.Names.{contains, is_same_spot, is_spot_of, kept_after}
 use Rattle.spaced_lines.proofs.spacing.SpacedLine.pass_all.Given as goal
 
 -- the points kept so far, and those that are kept of the points that are left, are all that are kept

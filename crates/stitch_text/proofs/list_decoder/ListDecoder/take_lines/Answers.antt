@@ -1,8 +1,7 @@
 use Rattle.std.proofs.Common.{arith}
+use Rattle.stitch_text.proofs.Names.{drop-drop, nat_tests}
 use Rattle.stitch_text.proofs.ListStateLemmas.{line_on}
 use Rattle.stitch_text.proofs.list_decoder.ListDecoder.take_lines.Goals as goal
-use Rattle.std.proofs.lemmas.List.{drop-drop}
-use Rattle.std.proofs.lemmas.Bool.Decides.{nat_tests}
 
 pub loop-line-preserved : goal.loop-line-preserved
 loop-line-preserved c =

@@ -1,6 +1,5 @@
 use Rattle.std.proofs.Common.{◌≡◌, ◌+◌, ◌-◌, ◌≤◌, length, drop}
-use Rattle.format_traits.specs.DecoderStates.{ContinuesAs}
-use Rattle.stitch_text.specs.ListStages.{list_state_at}
+use Rattle.stitch_text.proofs.Names.{ContinuesAs, list_state_at}
 use Rattle.stitch_text.proofs.list_decoder.ListDecoder.take_lines.Given as goal
 
 -- the remaining lines have the same result as all lines

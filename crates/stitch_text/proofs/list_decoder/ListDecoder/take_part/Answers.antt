@@ -1,10 +1,8 @@
 use Rattle.stitch_text.proofs.list_decoder.ListDecoder.take_part.Goals as goal
-use Rattle.std.proofs.lemmas.List.{drop_all}
 use Rattle.stitch_text.proofs.PartLemmas.{open_part}
 use Rattle.stitch_text.proofs.StageLemmas.{goes_beyond}
-use Rattle.text_parts.proofs.CallerLemmas.{some_part}
 use Rattle.std.proofs.Common.{arith}
-use Rattle.std.proofs.lemmas.Bool.Decides.{nat_tests}
+use Rattle.stitch_text.proofs.Names.{drop_all, some_part, nat_tests}
 
 pub returns : goal.returns
 returns c =
