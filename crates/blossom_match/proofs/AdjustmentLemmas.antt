@@ -1,9 +1,6 @@
 -- After a change of duals the step can be made, and the invariants still hold.
 use Rattle.std.proofs.Common.{◌≡◌, ◌≢◌, ℕ, ◌+◌, ◌*◌, ◌^◌, ◌≤◌, ◌<◌, suc, zero, List, [], ◌∷◌, flat_map, length, arith, refl, sym, ap, subst, ◌∙◌}
-use Rattle.blossom_match.proofs.Names.{nat_tests, Each, DualSet, OddSetValue, apart, dual_sets, count, height, dual_load, with_dual, match_members, match_dual_sets, IsMatch, IsSoundBranch, IsSoundMatch, IsSoundSet, outer_with_both, one_if_both, branch_dual_sets, inner_members, inner_sets, outer_members, outer_sets, IsAlternatingTree, stored_height, dual_height, search_holding_both, outer_vertices, IsSearch, IsLeastChange, CanSearch, IsReadyAfter, AllowsChange, all_changed, changed_by, CanChange, CanAdjust, ChangesDuals, Adjusts, TableValue, entry, IsMetric, IsTable, HasTriangleInequality, MAX_DISTANCE, BranchValue, MatchValue, SearchValue, SearchStep, DualChange, each-right, count-append, members-append, some_member, base_in, entry-comm, by_count, more_by}
-use Rattle.blossom_match.specs.Searches.{IsStepReady}
-use Rattle.blossom_match.specs.Duals.{CanChangeHeights, CanStepAfter}
-use Rattle.odd_sets.proofs.CallerLemmas.{grown-right}
+use Rattle.blossom_match.proofs.Names.{nat_tests, Each, DualSet, OddSetValue, apart, dual_sets, count, height, dual_load, with_dual, match_members, match_dual_sets, IsMatch, IsSoundBranch, IsSoundMatch, IsSoundSet, outer_with_both, one_if_both, branch_dual_sets, inner_members, inner_sets, outer_members, outer_sets, IsAlternatingTree, stored_height, dual_height, search_holding_both, outer_vertices, IsSearch, IsLeastChange, CanSearch, IsReadyAfter, AllowsChange, all_changed, changed_by, CanChange, CanAdjust, ChangesDuals, Adjusts, TableValue, entry, IsMetric, IsTable, HasTriangleInequality, MAX_DISTANCE, BranchValue, MatchValue, SearchValue, SearchStep, DualChange, each-right, count-append, members-append, some_member, base_in, entry-comm, by_count, more_by, IsStepReady, CanChangeHeights, CanStepAfter, grown-right}
 use Rattle.blossom_match.proofs.ScanLemmas.{apart_from}
 use Rattle.blossom_match.proofs.SearchLemmas.{in_place, is_one, place_in}
 use Rattle.blossom_match.proofs.FreeLemmas.{load_of, load_of-comm, under}

@@ -1,12 +1,8 @@
 -- Loads between sets as heights, and the slack between places.
 use Rattle.std.proofs.Common.{◌≡◌, ◌≢◌, ℕ, ◌+◌, ◌-◌, ◌*◌, ◌<◌, ◌≤◌, ◌⊎◌, List, [], ◌∷◌, ◌++◌, length, get_or, arith, refl, sym, ap, subst, ◌∙◌}
-use Rattle.blossom_match.proofs.Names.{nat_tests, Each, OddSetValue, dual_sets, count, height, dual_load, match_members, match_dual_sets, IsSoundBranch, IsSoundMatch, outer_with_both, one_if_both, branch_dual_sets, inner_members, dual_height, search_holding_both, outer_vertices, IsSearch, TableValue, entry, IsTable, IsLeastChange, IsReadyAfter, IsLesserChange, IsBlossomDual, AreOuterSlacks, IsBestCandidate, IsCandidateAmong, CanFindEdge, FAR, Target, Kind, MAX_DISTANCE, BranchValue, MatchValue, SearchValue, SearchStep, DualChange, either, far_is, count-append, height-append, dual_load-append, low, some_member, around_same, base_in, around_none, entry-comm, by_count, by_either}
-use Rattle.odd_sets.specs.DualSets.{IsOddSet}
+use Rattle.blossom_match.proofs.Names.{nat_tests, Each, OddSetValue, dual_sets, count, height, dual_load, match_members, match_dual_sets, IsSoundBranch, IsSoundMatch, outer_with_both, one_if_both, branch_dual_sets, inner_members, dual_height, search_holding_both, outer_vertices, IsSearch, TableValue, entry, IsTable, IsLeastChange, IsReadyAfter, IsLesserChange, IsBlossomDual, AreOuterSlacks, IsBestCandidate, IsCandidateAmong, CanFindEdge, FAR, Target, Kind, MAX_DISTANCE, BranchValue, MatchValue, SearchValue, SearchStep, DualChange, either, far_is, count-append, height-append, dual_load-append, low, some_member, around_same, base_in, around_none, entry-comm, by_count, by_either, IsOddSet, step_of, change_at, target_vertices, IsCandidate, IsCandidateChange, load_across, load_along, two_even}
 use Rattle.odd_sets.specs.Heights.{HeightsAre}
-use Rattle.blossom_match.specs.LeastChanges.{step_of}
-use Rattle.blossom_match.specs.Candidates.{change_at, target_vertices, IsCandidate, IsCandidateChange}
 use Rattle.blossom_match.specs.declared.least.Kind.TheVariants as kind
-use Rattle.odd_sets.proofs.CallerLemmas.{load_across, load_along, two_even}
 use Rattle.blossom_match.proofs.SearchLemmas.{is_one, place_in, low_branches, low_matches}
 use Rattle.blossom_match.proofs.FreeLemmas.{load_of}
 

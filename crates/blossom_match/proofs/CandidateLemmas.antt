@@ -1,8 +1,6 @@
 -- The vertex to which an edge becomes tight by the least change of duals.
 use Rattle.std.proofs.Common.{◌≡◌, ℕ, ◌+◌, ◌≤◌, ◌<◌, List, [], ◌∷◌, length, take, drop, get_or, None, arith, ap, ◌∙◌}
-use Rattle.blossom_match.proofs.Names.{nat_tests, OddSetValue, count, outer_with_both, outer_members, outer_sets, count_holding_both, slack_from, IsOuterSlack, IsBestCandidate, IsCandidateAmong, CanFindEdge, TableValue, BranchValue, Target, Kind, either, drop_here, take_here, count-append, members-append, members_push, outer_places, around_append, base_in, around_first, by_count, by_either}
-use Rattle.blossom_match.specs.Candidates.{FindsSlackInSet}
-use Rattle.odd_sets.proofs.CallerLemmas.{number_here}
+use Rattle.blossom_match.proofs.Names.{nat_tests, OddSetValue, count, outer_with_both, outer_members, outer_sets, count_holding_both, slack_from, IsOuterSlack, IsBestCandidate, IsCandidateAmong, CanFindEdge, TableValue, BranchValue, Target, Kind, either, drop_here, take_here, count-append, members-append, members_push, outer_places, around_append, base_in, around_first, by_count, by_either, FindsSlackInSet, number_here}
 use Rattle.blossom_match.proofs.ScanLemmas.{split_here}
 
 aims_in : (hs reach : List ℕ) (k : Kind) (xs zs : List ℕ) (aim : Target) → ((x : ℕ) → count x xs ≤ count x zs)

@@ -1,11 +1,7 @@
 -- A change of duals preserves the invariants of a search.
 use Rattle.std.proofs.Common.{◌≡◌, ℕ, ◌+◌, ◌-◌, ◌*◌, ◌^◌, ◌≤◌, ◌<◌, suc, zero, List, [], ◌∷◌, ◌++◌, flat_map, length, map, take, drop, get_or, set, set-set, get_or-set_same, arith, refl, sym, ap, ◌∙◌, append_assoc}
-use Rattle.odd_sets.specs.Lists.{sum_over}
-use Rattle.odd_sets.specs.DualSets.{members_onto}
-use Rattle.odd_sets.specs.Trees.{inner_dual_sets}
 use Rattle.std.proofs.lemmas.List.Edits.{map_over_more}
-use Rattle.blossom_match.proofs.Names.{nat_tests, Each, OddSetValue, apart, dual_sets, count, height, dual_load, key_count, with_dual, match_members, IsMatch, IsSoundBranch, IsSoundMatch, IsSoundSet, all_dual_sets, outer_with_both, one_if_both, branch_dual_sets, inner_members, inner_sets, outer_members, outer_sets, IsAlternatingTree, outer_vertices, IsSearch, IsLeastChange, all_changed, changed_by, changed_branch, CanChange, CanChangeBranch, TableValue, IsTable, MAX_DISTANCE, BranchValue, MatchValue, SearchValue, branch_in, branches_in, AreSets, Slots, Branch, DualChange, mapped_drop, no_branch, all_uses, sets_fewer, key_count-append, count-append, height-append, hit_is, dual_load-append, size-append, some_member, base_in, more_by}
-use Rattle.odd_sets.proofs.CallerLemmas.{get_or_self, outer_members_base}
+use Rattle.blossom_match.proofs.Names.{nat_tests, Each, OddSetValue, apart, dual_sets, count, height, dual_load, key_count, with_dual, match_members, IsMatch, IsSoundBranch, IsSoundMatch, IsSoundSet, all_dual_sets, outer_with_both, one_if_both, branch_dual_sets, inner_members, inner_sets, outer_members, outer_sets, IsAlternatingTree, outer_vertices, IsSearch, IsLeastChange, all_changed, changed_by, changed_branch, CanChange, CanChangeBranch, TableValue, IsTable, MAX_DISTANCE, BranchValue, MatchValue, SearchValue, branch_in, branches_in, AreSets, Slots, Branch, DualChange, mapped_drop, no_branch, all_uses, sets_fewer, key_count-append, count-append, height-append, hit_is, dual_load-append, size-append, some_member, base_in, more_by, sum_over, members_onto, inner_dual_sets, get_or_self, outer_members_base}
 use Rattle.blossom_match.proofs.SearchLemmas.{place_in}
 
 -- members stay

@@ -1,9 +1,7 @@
 -- Worked values of blossoms that close, and of the slacks after it.
 use Rattle.std.proofs.Common.{◌≡◌, ℕ, inl, inr, List, [], ◌∷◌, arith, refl}
-use Rattle.blossom_match.proofs.Names.{vertex_set, OddSetValue, FoldsCells, FoldsOuters, count_holding_both, slack_from, ReachesEither, TableValue, BranchValue, TightEdge}
-use Rattle.odd_sets.specs.Blossoms.{odd_set_of}
+use Rattle.blossom_match.proofs.Names.{vertex_set, OddSetValue, FoldsCells, FoldsOuters, count_holding_both, slack_from, ReachesEither, TableValue, BranchValue, TightEdge, odd_set_of, PartValue}
 use Rattle.odd_sets.specs.BlossomSlacks.{blossom_set}
-use Rattle.odd_sets.specs.Values.{PartValue}
 
 -- 0, 1 and 2 are 2 from each other; 3 is 5 from 0, 4 from 1 and 6 from 2
 abbrev four : TableValue

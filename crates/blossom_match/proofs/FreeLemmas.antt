@@ -1,8 +1,6 @@
 -- Free vertices and their initial duals: a search begins at one, and ends at another.
 use Rattle.std.proofs.Common.{◌≡◌, ◌≢◌, ℕ, ◌+◌, ◌*◌, ◌≤◌, ◌<◌, List, [], ◌∷◌, ◌++◌, length, Bool, cond, eqb, arith, refl, sym, ap, subst, ◌∙◌}
-use Rattle.blossom_match.proofs.Names.{nat_tests, eqb-true, count-append, height-append, hit_is, hit_same, dual_load-append, low, none_hold, base_in, entry-comm, by_count, Each, DualSet, OddSetValue, apart, dual_sets, count, height, one_if_equal, dual_load, vertex_set, match_dual_sets, IsSoundBranch, IsSoundSet, branch_dual_sets, Augments, IsAlternatingTree, stored_height, dual_height, EndsSearch, IsSearch, IsPartialMatching, CanStepAt, TableValue, entry, IsTable, TightEdge, BranchValue, MatchValue, SearchValue, PartialMatchingValue, Augment}
-use Rattle.odd_sets.proofs.CallerLemmas.{single_near, dual_load-comm, load_alone, made_kept}
-use Rattle.odd_sets.specs.SlackRows.{vertex_slacks}
+use Rattle.blossom_match.proofs.Names.{nat_tests, eqb-true, count-append, height-append, hit_is, hit_same, dual_load-append, low, none_hold, base_in, entry-comm, by_count, Each, DualSet, OddSetValue, apart, dual_sets, count, height, one_if_equal, dual_load, vertex_set, match_dual_sets, IsSoundBranch, IsSoundSet, branch_dual_sets, Augments, IsAlternatingTree, stored_height, dual_height, EndsSearch, IsSearch, IsPartialMatching, CanStepAt, TableValue, entry, IsTable, TightEdge, BranchValue, MatchValue, SearchValue, PartialMatchingValue, Augment, single_near, dual_load-comm, load_alone, made_kept, vertex_slacks}
 use Rattle.blossom_match.proofs.SearchLemmas.{is_one, low_branches, low_matches, none_branches, none_matches, place_in}
 
 -- all duals between two places

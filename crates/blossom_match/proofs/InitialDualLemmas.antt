@@ -1,9 +1,8 @@
 -- The initial dual of a vertex rises, and two vertices are matched by a tight edge.
 use Rattle.std.proofs.Common.{◌≡◌, ℕ, ◌+◌, ◌*◌, ◌≤◌, List, [], ◌∷◌, ◌++◌, length, get_or, set, Bool, cond, ltb, arith, sym, ap, subst, ◌∙◌}
 use Rattle.std.proofs.Math.ListN.{get_or-eq_default}
-use Rattle.std.proofs.lemmas.List.{get_or-set_other, get_or-set_same}
-use Rattle.blossom_match.proofs.Names.{nat_tests, eqb-true, eqb-false, ltb-false, count, one_if_equal, is_place, EndsSearch, IsPartialMatching, CanStepAt, BeginsSearch, IsPartialWithHeights, KeepsSlack, HasFreeSlack, TableValue, entry, MatchValue, SearchValue, PartialMatchingValue, Augment, not_hit, count-append, hit_same, entry-comm}
-use Rattle.blossom_match.specs.InitialDuals.{AreWithinDistances, CanPair, FindsTight, PairsFree}
+use Rattle.std.proofs.lemmas.List.{get_or-set_same}
+use Rattle.blossom_match.proofs.Names.{nat_tests, eqb-true, eqb-false, ltb-false, count, one_if_equal, is_place, EndsSearch, IsPartialMatching, CanStepAt, BeginsSearch, IsPartialWithHeights, KeepsSlack, HasFreeSlack, TableValue, entry, MatchValue, SearchValue, PartialMatchingValue, Augment, not_hit, count-append, hit_same, entry-comm, get_or-set_other, AreWithinDistances, CanPair, FindsTight, PairsFree}
 use Rattle.blossom_match.proofs.SearchLemmas.{is_one, place_in}
 use Rattle.blossom_match.proofs.DualLemmas.{matches_same}
 use Rattle.blossom_match.proofs.EndLemmas.{begins}

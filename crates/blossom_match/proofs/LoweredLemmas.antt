@@ -1,9 +1,7 @@
 -- The slacks from the outer vertices after a change of duals.
 use Rattle.std.proofs.Common.{◌≡◌, ℕ, ◌+◌, ◌-◌, ◌≤◌, ◌<◌, inl, inr, List, [], ◌∷◌, length, get_or, arith, refl, sym, ap, subst, ◌∙◌, take, drop}
-use Rattle.blossom_match.proofs.Names.{nat_tests, OddSetValue, count, FoldsCells, FoldsOuters, Each, IsSoundBranch, IsSoundSet, outer_members, count_holding_both, stored_height, outer_vertices, Advances, CanStep, CanStepAt, ExpandsBranch, GrowsBranch, IsSearch, ChangesDuals, Shrinks, lowered_slack, slack_from, HasSlackCells, AreOuterSlacks, AddsOuterSlacks, AreSearchSlacks, HasSlacks, HasSoundOuters, TableValue, IsTable, FAR, BranchValue, SearchValue, TightEdge, SearchStep, Expand, Shrink, each-right, far_is, lowered_far, by_either}
+use Rattle.blossom_match.proofs.Names.{nat_tests, OddSetValue, count, FoldsCells, FoldsOuters, Each, IsSoundBranch, IsSoundSet, outer_members, count_holding_both, stored_height, outer_vertices, Advances, CanStep, CanStepAt, ExpandsBranch, GrowsBranch, IsSearch, ChangesDuals, Shrinks, lowered_slack, slack_from, HasSlackCells, AreOuterSlacks, AddsOuterSlacks, AreSearchSlacks, HasSlacks, HasSoundOuters, TableValue, IsTable, FAR, BranchValue, SearchValue, TightEdge, SearchStep, Expand, Shrink, each-right, far_is, lowered_far, by_either, SearchHasSoundOuters, CarriesSlacks, ComputesRootSlacks, drop_past, lowered_less, lowered_near}
 use Rattle.blossom_match.proofs.OuterSlackLemmas.{reaches_apart}
-use Rattle.blossom_match.specs.OuterSlacks.{SearchHasSoundOuters, CarriesSlacks, ComputesRootSlacks}
-use Rattle.odd_sets.proofs.CallerLemmas.{drop_past, lowered_less, lowered_near}
 use Rattle.blossom_match.proofs.FoldLemmas.{folded, set_within}
 use Rattle.blossom_match.proofs.SearchLemmas.{is_one, place_in, shrunk}
 use Rattle.blossom_match.proofs.DualLemmas.{around_same_all, outer_same}

@@ -1,9 +1,6 @@
 -- Masks that show the places of matches.
 use Rattle.std.proofs.Common.{◌≡◌, ◌≢◌, ℕ, ◌+◌, ◌-◌, ◌≤◌, ◌<◌, List, [], ◌∷◌, ◌++◌, length, take, drop, map, get_or, min, arith, refl, sym, ap, subst, ◌∙◌, length-append}
-use Rattle.std.proofs.lemmas.List.{get_or-drop, get_or-take}
-use Rattle.blossom_match.proofs.Names.{nat_tests, cases_lt, length-map, take-append-drop, drop-append_seam, count, match_members, stored_height, Advances, CanStepAt, ExpandsBranch, GrowsBranch, IsSearch, SetsCells, branch_members, masked_slack, IsMaskedSlack, IsSearchMask, TableValue, BranchValue, MatchValue, SearchValue, SearchStep, FAR, take_here, count-append, members-append, members_push, by_count, by_either}
-use Rattle.blossom_match.specs.Masks.{IsMask}
-use Rattle.odd_sets.proofs.CallerLemmas.{mapped_at, match_here}
+use Rattle.blossom_match.proofs.Names.{nat_tests, cases_lt, length-map, take-append-drop, drop-append_seam, count, match_members, stored_height, Advances, CanStepAt, ExpandsBranch, GrowsBranch, IsSearch, SetsCells, branch_members, masked_slack, IsMaskedSlack, IsSearchMask, TableValue, BranchValue, MatchValue, SearchValue, SearchStep, FAR, take_here, count-append, members-append, members_push, by_count, by_either, get_or-drop, get_or-take, IsMask, mapped_at, match_here}
 use Rattle.blossom_match.proofs.SearchLemmas.{is_one, place_in}
 
 pub puts_join : (left : ℕ) (xs ys zs old mid new : List ℕ) → ((x : ℕ) → count x zs ≡ count x xs + count x ys) → SetsCells left xs old mid

@@ -1,7 +1,6 @@
 -- Worked values of matchings with moats.
 use Rattle.std.proofs.Common.{◌≡◌, ℕ, ◌≤◌, ◌<◌, true, false, List, [], ◌∷◌, refl, sym, arith, ⊎_elim, true≢false}
-use Rattle.blossom_match.proofs.Names.{TableValue, IsTable, HasTriangleInequality, entry, AreLaminar, IsOptimalMatching, IsOddMoat, KeepsMoatLoads, IsPerfectMatching, pairs_cost, crosses_moat, pair_ends_at, moat_holds, moat_load, width_of, Moat, Pair}
-use Rattle.odd_sets.specs.Tables.{IsStored, after_set}
+use Rattle.blossom_match.proofs.Names.{TableValue, IsTable, HasTriangleInequality, entry, AreLaminar, IsOptimalMatching, IsOddMoat, KeepsMoatLoads, IsPerfectMatching, pairs_cost, crosses_moat, pair_ends_at, moat_holds, moat_load, width_of, Moat, Pair, IsStored, after_set}
 
 abbrev pair : ℕ → ℕ → Pair
 pair a b = record { a = a; b = b }

@@ -1,9 +1,6 @@
 -- Moats and their members by counts.
 use Rattle.std.proofs.Common.{◌≡◌, ◌≢◌, ℕ, ◌+◌, ◌*◌, ◌%◌, ◌≤◌, inl, inr, zero, suc, List, [], ◌∷◌, ◌++◌, length, arith, refl, sym, subst, ◌∙◌, Bool, true, false, cond, eqb, ◌||◌}
-use Rattle.std.specs.List.{list_any}
-use Rattle.std.proofs.lemmas.List.Sums.{sum_by-append}
-use Rattle.blossom_match.proofs.Names.{nat_tests, sum_by-cons, lt-ltb, Each, apart, count, one_if_equal, TableValue, entry, pairs_cost, crosses_moat, pair_ends_at, moat_holds, moat_load, width_of, AreLaminar, moat_of_set, IsOddMoatIn, AreMoatsIn, Moat, Pair, each-append, each-map, some_member, by_count}
-use Rattle.odd_sets.proofs.CallerLemmas.{pairs-append}
+use Rattle.blossom_match.proofs.Names.{nat_tests, sum_by-cons, lt-ltb, Each, apart, count, one_if_equal, TableValue, entry, pairs_cost, crosses_moat, pair_ends_at, moat_holds, moat_load, width_of, AreLaminar, moat_of_set, IsOddMoatIn, AreMoatsIn, Moat, Pair, each-append, each-map, some_member, by_count, list_any, sum_by-append, pairs-append}
 
 true_false : true ≡ false → ⊥
 true_false e = cc

@@ -1,11 +1,8 @@
 -- The slots after a step.
 use Rattle.std.proofs.Common.{◌≡◌, ℕ, ◌+◌, ◌≤◌, List, [], ◌∷◌, ◌++◌, Bool, true, false, cond, ltb, None, arith, refl, sym, ap, subst}
-use Rattle.blossom_match.proofs.Names.{nat_tests, DualSet, OddSetValue, dual_sets, count, one_if_equal, key_count, match_dual_sets, reversed_edge, CanStepAt, Shrinks, branches_in, matches_in, set_in, AreSets, Slots, all_dual_sets, branch_dual_sets, branch_by_edge, Augments, RemovesMatch, TableValue, BranchValue, MatchValue, SearchValue, TightEdge, Match, Branch, Augment, dual_sets-append, bands_push, hit_is, hit_same, key_count-append, sets_fewer, all_uses, by_count}
+use Rattle.blossom_match.proofs.Names.{nat_tests, DualSet, OddSetValue, dual_sets, count, one_if_equal, key_count, match_dual_sets, reversed_edge, CanStepAt, Shrinks, branches_in, matches_in, set_in, AreSets, Slots, all_dual_sets, branch_dual_sets, branch_by_edge, Augments, RemovesMatch, TableValue, BranchValue, MatchValue, SearchValue, TightEdge, Match, Branch, Augment, dual_sets-append, bands_push, hit_is, hit_same, key_count-append, sets_fewer, all_uses, by_count, InsertsSet, CanAugment, inserted_keeps, keep_branches, keep_matches, keep_seat, no_slot, has_slot, set_more}
 use Rattle.slab.specs.Slab.{get}
-use Rattle.odd_sets.specs.Slots.{InsertsSet}
-use Rattle.odd_sets.specs.Trees.{CanAugment}
 use Rattle.odd_sets.specs.declared.odd_set.Handle.{Handle}
-use Rattle.odd_sets.proofs.CallerLemmas.{inserted_keeps, keep_branches, keep_matches, keep_seat, no_slot, has_slot, set_more}
 use Rattle.blossom_match.proofs.SearchLemmas.{is_one}
 
 once_case : (n k key was now : ℕ) → one_if_equal k key ≡ n → now ≡ was + one_if_equal k key → was ≤ 1 → (k ≡ key → was ≡ 0) → now ≤ 1

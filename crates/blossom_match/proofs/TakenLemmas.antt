@@ -1,10 +1,7 @@
 -- Sets taken apart one after another.
 use Rattle.std.proofs.Common.{◌≡◌, ℕ, ◌+◌, ◌*◌, ◌≤◌, ◌<◌, List, [], ◌∷◌, ◌++◌, length, arith, refl, sym, ap, subst, ◌∙◌, append_assoc, Some, None, Option}
-use Rattle.blossom_match.proofs.Names.{nat_tests, append-nil, Each, IsAdditive, OddSetValue, DualSet, dual_sets, count, dual_load, key_count, match_members, match_dual_sets, IsMatch, moat_load, width_of, moat_of_set, TakesApartMatches, IsTakingApart, MatchValue, Moat, Pair, count-append, hit_same, dual_load-append, size-append, key_count-append}
-use Rattle.odd_sets.specs.DualSets.{total}
+use Rattle.blossom_match.proofs.Names.{nat_tests, append-nil, Each, IsAdditive, OddSetValue, DualSet, dual_sets, count, dual_load, key_count, match_members, match_dual_sets, IsMatch, moat_load, width_of, moat_of_set, TakesApartMatches, IsTakingApart, MatchValue, Moat, Pair, count-append, hit_same, dual_load-append, size-append, key_count-append, total, TakesApartSet, total-append}
 use Rattle.odd_sets.specs.Opens.{OpensAt}
-use Rattle.blossom_match.specs.Taken.{TakesApartSet}
-use Rattle.odd_sets.proofs.CallerLemmas.{total-append}
 use Rattle.blossom_match.proofs.MoatLemmas.{cost_push, ends_push, lie_both, lie_more, lie_none, lie_own, load_own, width_own}
 
 places_of : (x : ℕ) (c : MatchValue) (rest : List MatchValue) → count x (match_members (c ∷ rest))

@@ -1,7 +1,6 @@
 -- Lines that aren't the first bad one of a text, and what the theorems on certificate texts exclude.
 use Rattle.std.proofs.Common.{◌≡◌, ◌≢◌, ℕ, ◌-◌, ◌<◌, ◌≤◌, List, [], ◌∷◌, ◌++◌, All, Ok, Err, codes, length, refl, arith}
-use Rattle.certificate_text.proofs.Names.{PieceCert, Cut, HasCanonicalText, certificate_text, AreFew, HasFewItems, HasSmallNumbers, IsCertificatePrefix, IsFirstBadLine, cert_of, first_lines, parts_between}
-use Rattle.certificate_text.specs.ReadCertificates.{PiecesHaveOneText, ReadPiecesCanBePrinted, ReportsFirstBadLine, TextOfPiecesIsRead}
+use Rattle.certificate_text.proofs.Names.{PieceCert, Cut, HasCanonicalText, certificate_text, AreFew, HasFewItems, HasSmallNumbers, IsCertificatePrefix, IsFirstBadLine, cert_of, first_lines, parts_between, PiecesHaveOneText, ReadPiecesCanBePrinted, ReportsFirstBadLine, TextOfPiecesIsRead}
 
 -- a first line, a line of another kind, and an end
 abbrev text : List ℕ

@@ -1,8 +1,6 @@
 -- The texts of items, put one after another, where each item is found to keep a fact.
 use Rattle.std.proofs.Common.{◌≡◌, ℕ, ◌+◌, ◌<◌, ◌≤◌, List, ◌++◌, All, length, get_or, take, drop, subst, ap, sym, ◌∙◌, append_assoc}
-use Rattle.std.proofs.lemmas.List.{at_drop_more, take_all}
-use Rattle.std.proofs.lemmas.List.Elements.{All-more}
-use Rattle.certificate_text.proofs.Names.{flat_map}
+use Rattle.certificate_text.proofs.Names.{flat_map, at_drop_more, take_all, All-more}
 
 -- the texts so far, and those of the items that are left; the items so far keep the fact
 pub record PutsOn {X : Type 0} (f : X → List ℕ) (Keeps : X → Type 0) (items : List X) (i : ℕ) (text whole : List ℕ) : Type 0 where

@@ -1,11 +1,9 @@
 -- The lines of a certificate as texts: the meaning of a line, and the text of that meaning.
 use Rattle.std.proofs.Common.{◌≡◌, ◌≢◌, ℕ, ◌<◌, ◌^◌, Bool, true, false, List, [], ◌∷◌, ◌++◌, Some, option_map, All, bytes_eq, codes, decimal, subst, ap, sym, refl, ◌∙◌, map, append-nil}
-use Rattle.certificate_text.proofs.Names.{join_with_byte-slice_split, none-some, same_Some, flat_map, join_with_byte, Pass, CertLine, Cut, parsed_cut, parsed_cert_line, parsed_members_after, parsed_number_above, parsed_cert_number, only_number, parsed_passes, parsed_walk, words_in, member_text, passes_text, IsPlainCut}
+use Rattle.certificate_text.proofs.Names.{join_with_byte-slice_split, none-some, same_Some, flat_map, join_with_byte, Pass, CertLine, Cut, parsed_cut, parsed_cert_line, parsed_members_after, parsed_number_above, parsed_cert_number, only_number, parsed_passes, parsed_walk, words_in, member_text, passes_text, IsPlainCut, parsed_cert_words, same_word}
 use Rattle.certificate_text.specs.declared.lines.CertLine.TheVariants as line
-use Rattle.certificate_text.specs.CertificateLines.{parsed_cert_words}
 use Rattle.certificate_text.proofs.ItemWords.{HasMember, HasPass, members_are, members_spaced, passes_are, passes_spaced}
 use Rattle.certificate_text.proofs.NumberWords.{above_is, map_some, number_is, pass_word, spaced, then_some}
-use Rattle.lists_and_numbers.proofs.CallerLemmas.{same_word}
 
 -- a cut that can be printed
 pub record HasCut (cut : Cut) : Type 0 where

@@ -1,12 +1,7 @@
 -- Numbers, passes and members as words: the meaning of a word, and the text of that meaning.
 use Rattle.std.proofs.Common.{◌≡◌, ℕ, ◌+◌, ◌-◌, ◌<◌, ◌^◌, ◌==◌, Bool, true, false, nat_lt, List, [], ◌∷◌, ◌++◌, Option, None, Some, option_map, length, get_or, decimal, if◌then◌else◌, subst, ap, sym, refl, ◌∙◌, inl, inr, arith}
-use Rattle.std.proofs.lemmas.Bool.{cases_order}
-use Rattle.std.proofs.lemmas.Fmt.{decimal-digits_value, decimal_digit, digits_value-decimal, first_decimal}
-use Rattle.std.proofs.lemmas.Option.{cond_some}
 use Rattle.std.specs.Str.Parse.{digits_value}
-use Rattle.certificate_text.proofs.Names.{and_from, and_parts, nat_tests, decimal_nonempty, digits_decimal, none-some, same_Some, is_ascii_digit, flat_map, option_and_then, all_ascii_digits, Pass, parsed_number_above, parsed_cert_number, parsed_pass_along, parsed_pass, pass_text, decimal_model}
-use Rattle.certificate_text.specs.CertificateLines.{is_canonical_numeral, small_number}
-use Rattle.lists_and_numbers.proofs.CallerLemmas.{false_true}
+use Rattle.certificate_text.proofs.Names.{and_from, and_parts, nat_tests, decimal_nonempty, digits_decimal, none-some, same_Some, is_ascii_digit, flat_map, option_and_then, all_ascii_digits, Pass, parsed_number_above, parsed_cert_number, parsed_pass_along, parsed_pass, pass_text, decimal_model, cases_order, decimal-digits_value, decimal_digit, digits_value-decimal, first_decimal, cond_some, is_canonical_numeral, small_number, false_true}
 
 -- the parts of a result that is present
 pub if_some : {A : Type 0} (test : Bool) (o : Option A) (a : A) → (if test then o else None) ≡ Some a

@@ -1,12 +1,7 @@
 -- The text of a certificate is read as that certificate.
 use Rattle.std.proofs.Common.{◌≡◌, ◌≢◌, ℕ, ◌+◌, ◌<◌, ◌^◌, ◌==◌, true, false, List, [], ◌∷◌, ◌++◌, Option, Some, Ok, All, codes, decimal, map, subst, ap, sym, refl, ◌∙◌, append_assoc, append-nil, arith}
-use Rattle.std.proofs.lemmas.Bool.{not-true}
-use Rattle.std.proofs.lemmas.List.Elements.{All-weaker}
-use Rattle.std.proofs.lemmas.List.Folds.{list_all-append}
-use Rattle.std.proofs.lemmas.List.Splits.{slice_split_at, slice_split_none}
 use Rattle.std.proofs.lemmas.List.Sums.{AllPass-from_list_all}
-use Rattle.std.specs.List.{list_all}
-use Rattle.certificate_text.proofs.Names.{nat_tests, and_from, digits_decimal, All-head, All-tail, flat_map, option_and_then, Pass, PieceCert, CertDraft, CertLine, Cut, parsed_cut, parsed_cert_line, parsed_walk, parts_between, words_in, HasCanonicalText, certificate_text, cut_line_text, member_text, passes_text, piece_text, newline, IsPlainCut, HasSmallNumbers, cert_of, draft_with_text_line, draft_with_line, pieces_after_lines, with_cut, decimal_model}
+use Rattle.certificate_text.proofs.Names.{nat_tests, and_from, digits_decimal, All-head, All-tail, flat_map, option_and_then, Pass, PieceCert, CertDraft, CertLine, Cut, parsed_cut, parsed_cert_line, parsed_walk, parts_between, words_in, HasCanonicalText, certificate_text, cut_line_text, member_text, passes_text, piece_text, newline, IsPlainCut, HasSmallNumbers, cert_of, draft_with_text_line, draft_with_line, pieces_after_lines, with_cut, decimal_model, not-true, All-weaker, list_all-append, slice_split_at, slice_split_none, list_all, digits_inner, inner_kept, is_word_byte, is_line_byte, no_space}
 use Rattle.certificate_text.specs.declared.draft.CertDraft.TheVariants as draft
 use Rattle.certificate_text.specs.declared.lines.CertLine.TheVariants as line
 use Rattle.certificate_text.proofs.ItemWords.{HasMember, HasPass, member_word, members_read, members_spaced, passes_read, passes_spaced, reach_all}
@@ -14,7 +9,6 @@ use Rattle.certificate_text.proofs.LineTexts.{HasCut, HasLine, line_bytes}
 use Rattle.certificate_text.proofs.NumberWords.{above_read, number_read, pass_word, spaced}
 use Rattle.certificate_text.proofs.UniqueTexts.{HasText}
 use Rattle.certificate_text.proofs.ReadingLemmas.{goes_on, line_judged}
-use Rattle.text_parts.proofs.CallerLemmas.{digits_inner, inner_kept, is_word_byte, is_line_byte, no_space}
 
 -- words of such bytes
 abbrev AreWords : List (List ℕ) → Type 0

@@ -1,8 +1,7 @@
 -- A text that is read as a certificate is the text of that certificate, and no other text is.
 use Rattle.std.proofs.Common.{◌≡◌, ℕ, ◌+◌, ◌<◌, ◌^◌, List, [], ◌∷◌, ◌++◌, Option, None, Some, Result, Ok, Err, All, codes, decimal, subst, ap, sym, refl, ◌∙◌, append_assoc, append-nil, arith}
 use Rattle.std.proofs.lemmas.Grind.{flat_map-append}
-use Rattle.std.proofs.lemmas.List.Elements.{All-push}
-use Rattle.certificate_text.proofs.Names.{nat_tests, All-nil, join_with_byte-slice_split, flat_map, join_with_byte, ok_or, and_then, Pass, PieceCert, CertDraft, CertLine, Cut, parsed_cert_line, parts_between, HasCanonicalText, certificate_text, cut_line_text, member_text, passes_text, piece_text, newline, IsPlainCut, HasSmallNumbers, pieces_at_end, cert_of, draft_with_text_line, draft_with_line, pieces_after_lines, with_cut}
+use Rattle.certificate_text.proofs.Names.{nat_tests, All-nil, join_with_byte-slice_split, flat_map, join_with_byte, ok_or, and_then, Pass, PieceCert, CertDraft, CertLine, Cut, parsed_cert_line, parts_between, HasCanonicalText, certificate_text, cut_line_text, member_text, passes_text, piece_text, newline, IsPlainCut, HasSmallNumbers, pieces_at_end, cert_of, draft_with_text_line, draft_with_line, pieces_after_lines, with_cut, All-push}
 use Rattle.certificate_text.specs.declared.draft.CertDraft.TheVariants as draft
 use Rattle.certificate_text.specs.declared.lines.CertLine.TheVariants as line
 use Rattle.certificate_text.proofs.ItemWords.{HasMember}

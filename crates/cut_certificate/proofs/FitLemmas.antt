@@ -1,14 +1,8 @@
 -- Rows of a piece and moats over its odd junctions are an input of lifting whose cuts are a packing.
 use Rattle.std.proofs.Common.{◌≡◌, ℕ, ◌+◌, ◌*◌, ◌%◌, ◌<◌, ◌≤◌, List, [], ◌∷◌, length, Vec, Global, All, Bool, drop, true, false, not, ◌&&◌, get_or, Some, slice_get, arith, refl, sym, ◌∙◌, ap, subst}
-use Rattle.std.proofs.lemmas.List.Recursion.{is_sum_by}
-use Rattle.std.proofs.lemmas.Option.{slice_get-get_or}
-use Rattle.cut_certificate.proofs.Names.{nat_tests, All-weaker, slice_get_read, if◌then◌else◌, count_by, Moat, IsOddMoat, moat_load, Edge, PieceValue, RowsValue, cost_at, length_in, terminal_of, Cut, has_member, load_on, LiftInput, lift_input, width_sum, AreLiftableMoats, IsLifted, AddsCuts, AreCutsTo, IsPlainCut, HasRowsForMoats, AreDistancesFrom}
-use Rattle.blossom_match.specs.Matchings.{crosses_moat}
-use Rattle.drawing_model.specs.declared.limits.TheConstants.{MAX_LINES}
+use Rattle.cut_certificate.proofs.Names.{nat_tests, All-weaker, slice_get_read, if◌then◌else◌, count_by, Moat, IsOddMoat, moat_load, Edge, PieceValue, RowsValue, cost_at, length_in, terminal_of, Cut, has_member, load_on, LiftInput, lift_input, width_sum, AreLiftableMoats, IsLifted, AddsCuts, AreCutsTo, IsPlainCut, HasRowsForMoats, AreDistancesFrom, is_sum_by, slice_get-get_or, crosses_moat, MAX_LINES, IsOddCut, AreAllMoatDistances}
 use Rattle.line_graph.specs.ValidPieces.{IsValidPiece}
 use Rattle.odd_paths.specs.CostTheorems.{AreDistances}
-use Rattle.odd_cuts.specs.Packings.{IsOddCut}
-use Rattle.cut_certificate.specs.MoatDistances.{AreAllMoatDistances}
 use Rattle.cut_certificate.proofs.ClimbLemmas.{IsLine, carries}
 use Rattle.cut_certificate.proofs.HeldLemmas.{as_many}
 use Rattle.cut_certificate.proofs.LaminarLemmas.{below, differ, held_below, laminar, of_all}

@@ -1,7 +1,6 @@
 -- A cut holds as many odd junctions as its moat has members, and nested moats of different sets have different sizes.
 use Rattle.std.proofs.Common.{◌≡◌, ◌≢◌, ℕ, suc, ◌+◌, ◌<◌, ◌≤◌, ◌⊎◌, List, [], ◌∷◌, length, Bool, true, false, cond, ◌||◌, ◌==◌, arith, inl, inr, refl, sym, ◌∙◌, ap, subst}
-use Rattle.std.proofs.lemmas.List.Recursion.{is_count_by}
-use Rattle.cut_certificate.proofs.Names.{nat_tests, both_ways, cases_Bool, cases_eq, cases_lt, eq-eqb, eqb-true, ne_eqb, or_cases, count_by, if◌then◌else◌, slice_index, Moat, has_member}
+use Rattle.cut_certificate.proofs.Names.{nat_tests, both_ways, cases_Bool, cases_eq, cases_lt, eq-eqb, eqb-true, ne_eqb, or_cases, count_by, if◌then◌else◌, slice_index, Moat, has_member, is_count_by}
 use Rattle.cut_certificate.proofs.MoatLemmas.{Apart, Disjoint}
 
 -- no number is named twice

@@ -1,12 +1,10 @@
 -- Moats as they are given, and as inductions need them: no number twice, all below a limit, any two apart.
 use Rattle.std.proofs.Common.{◌≡◌, ◌≢◌, ℕ, suc, ◌<◌, List, [], ◌∷◌, All, AllPairs, true, false, arith, inl, inr, refl, sym, subst}
-use Rattle.std.proofs.lemmas.List.Elements.{All-head, All-tail}
 use Rattle.std.proofs.lemmas.List.Folds.{list_any_none}
 use Rattle.std.specs.Prelude.{◌==◌}
-use Rattle.cut_certificate.proofs.Names.{nat_tests, both_ways, eqb-true, ne_eqb, or_cases, All-weaker, Moat, AreLaminar, IsOddMoat, has_member}
+use Rattle.cut_certificate.proofs.Names.{nat_tests, both_ways, eqb-true, ne_eqb, or_cases, All-weaker, Moat, AreLaminar, IsOddMoat, has_member, All-head, All-tail, same_test}
 use Rattle.cut_certificate.proofs.HeldLemmas.{Below, Differ, apart}
 use Rattle.cut_certificate.proofs.MoatLemmas.{Apart, ApartFromAll, IsOf, Laminar}
-use Rattle.lists_and_numbers.proofs.CallerLemmas.{same_test}
 
 not_held : (x : ℕ) (xs : List ℕ) → All (λ y. x ≢ y) xs → has_member xs x ≡ false
 not_held x xs all = grind (arith, nat_tests, list_any_none, All-weaker, ne_eqb)

@@ -1,7 +1,6 @@
 -- The levels at which junctions enter the cuts of moats, and for each junction a terminal that puts it into every cut that holds it.
 use Rattle.std.proofs.Common.{◌≡◌, ℕ, ◌+◌, ◌-◌, ◌*◌, ◌<◌, ◌≤◌, ◌⊎◌, min, List, [], ◌∷◌, length, Bool, true, false, ◌==◌, nat_lt, arith, inl, inr, refl, sym, ap, subst}
-use Rattle.std.proofs.lemmas.Bool.{or_right}
-use Rattle.cut_certificate.proofs.Names.{nat_tests, both_ways, cases_Bool, cases_lt, eq-eqb, eqb-true, lt-ltb, ltb-true, or_cases, Moat, has_member, LiftInput, distance_beyond, depth, level, lowest, width_sum}
+use Rattle.cut_certificate.proofs.Names.{nat_tests, both_ways, cases_Bool, cases_lt, eq-eqb, eqb-true, lt-ltb, ltb-true, or_cases, Moat, has_member, LiftInput, distance_beyond, depth, level, lowest, width_sum, or_right}
 use Rattle.cut_certificate.proofs.MoatLemmas.{Apart, Disjoint, Fits, Inside, IsOf, above, not_in, parts, reach, related}
 
 -- the least number is no more than the limit

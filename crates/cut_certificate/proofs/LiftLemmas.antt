@@ -1,10 +1,6 @@
 -- The cuts of all moats, moat by moat.
 use Rattle.std.proofs.Common.{◌≡◌, ℕ, zero, suc, ◌+◌, ◌-◌, ◌<◌, ◌≤◌, min, List, [], ◌∷◌, length, All, drop, get_or, add-one, drop-cons, true, nat_le, arith, inl, inr, refl, sym, ◌∙◌, ap, subst}
-use Rattle.std.proofs.lemmas.Bool.{lt-leb}
-use Rattle.std.proofs.lemmas.List.{drop_all}
-use Rattle.std.proofs.lemmas.List.Elements.{All-append}
-use Rattle.std.proofs.lemmas.List.Sums.{sum_by-append, sum_by-cons}
-use Rattle.cut_certificate.proofs.Names.{nat_tests, cases_Bool, le-leb, All-weaker, if◌then◌else◌, slice_index, Moat, width_of, Edge, is_strictly_increasing, Cut, crosses, has_member, load_on, total_weight, LiftInput, level, AddsCuts, AreCutsTo, IsLevelCut, distance_between, AreDistancesFrom}
+use Rattle.cut_certificate.proofs.Names.{nat_tests, cases_Bool, le-leb, All-weaker, if◌then◌else◌, slice_index, Moat, width_of, Edge, is_strictly_increasing, Cut, crosses, has_member, load_on, total_weight, LiftInput, level, AddsCuts, AreCutsTo, IsLevelCut, distance_between, AreDistancesFrom, lt-leb, drop_all, All-append, sum_by-append, sum_by-cons}
 use Rattle.cut_certificate.proofs.ClimbLemmas.{climb}
 use Rattle.cut_certificate.proofs.LevelLemmas.{insider, outsider}
 use Rattle.cut_certificate.proofs.MoatCutLemmas.{member_at, members_below, members_rise}

@@ -1,9 +1,7 @@
 -- What lifted moats exclude.
 use Rattle.std.proofs.Common.{◌≡◌, ℕ, ◌+◌, ◌*◌, ◌<◌, List, length, All, arith}
 use Rattle.std.specs.List.{AllPairs}
-use Rattle.cut_certificate.proofs.Names.{Moat, AreLaminar, IsOddMoat, moat_load, width_of, PieceValue, Cut, total_weight, IsPlainCut, RowsValue, cost_at, terminal_of, AreLiftableMoats, IsLifted}
-use Rattle.line_graph.specs.PieceGraphs.{odd_junctions}
-use Rattle.odd_cuts.specs.Packings.{IsPacking}
+use Rattle.cut_certificate.proofs.Names.{Moat, AreLaminar, IsOddMoat, moat_load, width_of, PieceValue, Cut, total_weight, IsPlainCut, RowsValue, cost_at, terminal_of, AreLiftableMoats, IsLifted, odd_junctions, IsPacking}
 
 -- lifted cuts are a packing of plain cuts with the width of the moats as their total
 pub known_lifted : (p : PieceValue) (moats : List Moat) (cuts : List Cut) → IsLifted p moats cuts

@@ -1,9 +1,6 @@
 -- The cuts of one moat, level by level at which a junction enters.
 use Rattle.std.proofs.Common.{◌≡◌, ℕ, zero, suc, ◌+◌, ◌-◌, ◌<◌, ◌≤◌, ◌⊎◌, min, List, [], ◌∷◌, ◌++◌, length, All, Bool, true, false, not, ◌==◌, nat_le, append_assoc, arith, inl, inr, refl, sym, ◌∙◌, ap}
-use Rattle.std.proofs.lemmas.List.Elements.{All-nil, All-push}
-use Rattle.std.proofs.lemmas.List.Sums.{sum_by_push}
-use Rattle.cut_certificate.proofs.Names.{nat_tests, and_from, eq-eqb, le-leb, All-weaker, if◌then◌else◌, slice_index, Edge, is_strictly_increasing, Cut, crosses, has_member, load_on, AddsCuts, AreCutsTo, IsLevelCut, distance_between, members_from}
-use Rattle.line_graph.specs.PieceWalks.{all_greater}
+use Rattle.cut_certificate.proofs.Names.{nat_tests, and_from, eq-eqb, le-leb, All-weaker, if◌then◌else◌, slice_index, Edge, is_strictly_increasing, Cut, crosses, has_member, load_on, AddsCuts, AreCutsTo, IsLevelCut, distance_between, members_from, All-nil, All-push, sum_by_push, all_greater}
 
 none_before : (k h j : ℕ) (es : List ℕ) → j < k → has_member (members_from k h es) j ≡ false
 none_before k h j [] lt = refl

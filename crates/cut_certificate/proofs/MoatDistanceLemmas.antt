@@ -1,8 +1,7 @@
 -- The distances from the next moat, computed from those of the outermost moats inside it.
 use Rattle.std.proofs.Common.{◌≡◌, ℕ, ◌+◌, ◌-◌, ◌*◌, ◌<◌, ◌≤◌, ◌⊎◌, min, List, [], ◌∷◌, Option, Some, None, Vec, Global, length, Bool, true, false, nat_lt, get_or, slice_get, arith, inl, inr, refl, sym, ◌∙◌, ap, subst}
-use Rattle.std.proofs.lemmas.Option.{slice_get_cases}
 use Rattle.std.specs.Prelude.{◌==◌, ◌||◌}
-use Rattle.cut_certificate.proofs.Names.{nat_tests, and_from, and_parts, both_ways, cases_Bool, cases_lt, eq-eqb, eqb-true, lt-ltb, ltb-true, or_cases, slice_get_within, if◌then◌else◌, slice_index, Moat, TerminalState, has_member, LiftInput, distance_beyond, depth, is_inner, level, width_sum, IsProgress, AreDistancesFrom, lesser_of, lowered_distance, distance_from, IsProcessed, IsUncovered, IsOutermost}
+use Rattle.cut_certificate.proofs.Names.{nat_tests, and_from, and_parts, both_ways, cases_Bool, cases_lt, eq-eqb, eqb-true, lt-ltb, ltb-true, or_cases, slice_get_within, if◌then◌else◌, slice_index, Moat, TerminalState, has_member, LiftInput, distance_beyond, depth, is_inner, level, width_sum, IsProgress, AreDistancesFrom, lesser_of, lowered_distance, distance_from, IsProcessed, IsUncovered, IsOutermost, slice_get_cases}
 use Rattle.cut_certificate.specs.declared.terminal_state.TerminalState.TheVariants as stand
 use Rattle.cut_certificate.proofs.LevelLemmas.{level_by, level_most, level_some}
 use Rattle.cut_certificate.proofs.MoatLemmas.{Apart, Inside, IsOf, Laminar, above, one_apart, related, widths_mono}

@@ -1,7 +1,6 @@
 -- Sums of widths, and how the moats of a laminar list lie to one another.
 use Rattle.std.proofs.Common.{◌≡◌, ℕ, ◌+◌, ◌*◌, ◌<◌, ◌≤◌, ◌⊎◌, List, [], ◌∷◌, length, Bool, true, false, not, ◌&&◌, nat_lt, arith, inl, inr, refl, sym, ◌∙◌, subst}
-use Rattle.std.proofs.lemmas.Bool.{and_right, le-ltb}
-use Rattle.cut_certificate.proofs.Names.{nat_tests, and_from, and_parts, both_ways, lt-ltb, ltb-true, if◌then◌else◌, Moat, has_member, LiftInput, depth, is_inner, width_sum}
+use Rattle.cut_certificate.proofs.Names.{nat_tests, and_from, and_parts, both_ways, lt-ltb, ltb-true, if◌then◌else◌, Moat, has_member, LiftInput, depth, is_inner, width_sum, and_right, le-ltb}
 
 -- a moat of the list
 abbrev pub IsOf : List Moat → Moat → Type 0

@@ -1,8 +1,6 @@
 -- The states of the terminals, and the distances, from one moat to the next.
 use Rattle.std.proofs.Common.{◌≡◌, ◌≢◌, ℕ, zero, suc, ◌+◌, ◌%◌, ◌<◌, ◌≤◌, List, [], ◌∷◌, Some, Vec, Global, length, All, AllPairs, true, get_or, replicate, slice_get, slice_set, arith, inl, inr, refl, sym, ◌∙◌, ap, subst}
-use Rattle.std.proofs.lemmas.List.Elements.{All-get_or}
-use Rattle.std.proofs.lemmas.Option.{get_or_from_slice_get}
-use Rattle.cut_certificate.proofs.Names.{nat_tests, cases_eq, length-replicate, slice_get_within, Moat, AreLaminar, IsOddMoat, TerminalState, has_member, LiftInput, lift_input, IsProgress, HasRowsForMoats, IsNextMoat, AreDistancesFrom, IsProcessed, IsOutermost, surrounded, RowsValue}
+use Rattle.cut_certificate.proofs.Names.{nat_tests, cases_eq, length-replicate, slice_get_within, Moat, AreLaminar, IsOddMoat, TerminalState, has_member, LiftInput, lift_input, IsProgress, HasRowsForMoats, IsNextMoat, AreDistancesFrom, IsProcessed, IsOutermost, surrounded, RowsValue, All-get_or, get_or_from_slice_get}
 use Rattle.cut_certificate.specs.declared.terminal_state.TerminalState.TheVariants as stand
 use Rattle.cut_certificate.proofs.LaminarLemmas.{apart_two, below, held_below, laminar, of_all}
 use Rattle.cut_certificate.proofs.MoatLemmas.{Apart}

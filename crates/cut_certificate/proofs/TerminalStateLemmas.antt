@@ -1,9 +1,8 @@
 -- The states of terminals after another moat was processed.
 use Rattle.std.proofs.Common.{◌≡◌, ◌≢◌, ℕ, zero, suc, ◌+◌, ◌<◌, ◌≤◌, ◌⊎◌, List, [], ◌∷◌, Some, length, true, false, slice_get, slice_set, arith, inl, inr, refl, sym, ◌∙◌, ap, subst}
 use Rattle.std.specs.Prelude.{◌==◌}
-use Rattle.cut_certificate.proofs.Names.{nat_tests, both_ways, cases_Bool, cases_eq, eq-eqb, eqb-true, ne_eqb, or_cases, slice_get_within, slice_index, Moat, TerminalState, has_member, IsProcessed, IsUncovered, IsOutermost, covered, surrounded}
+use Rattle.cut_certificate.proofs.Names.{nat_tests, both_ways, cases_Bool, cases_eq, eq-eqb, eqb-true, ne_eqb, or_cases, slice_get_within, slice_index, Moat, TerminalState, has_member, IsProcessed, IsUncovered, IsOutermost, covered, surrounded, AreTerminalStates, IsFirst}
 use Rattle.cut_certificate.specs.declared.terminal_state.TerminalState.TheVariants as stand
-use Rattle.cut_certificate.specs.TerminalStates.{AreTerminalStates, IsFirst}
 use Rattle.cut_certificate.proofs.MoatLemmas.{IsOf, Laminar, related}
 
 set_here : (xs : List TerminalState) (i : ℕ) (v : TerminalState) → i < length xs → slice_get (slice_set xs i v) i ≡ Some v

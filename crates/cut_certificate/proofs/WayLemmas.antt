@@ -1,17 +1,12 @@
 -- The distances from the terminals of the next moat, and a list that is lowered to them.
 use Rattle.std.proofs.Common.{◌≡◌, ℕ, ◌+◌, ◌-◌, ◌<◌, ◌≤◌, min, List, ◌++◌, Option, Some, Vec, Global, length, All, drop, get_or, max, replicate, slice_get, take, arith, sym, ◌∙◌, ap, subst}
-use Rattle.std.proofs.lemmas.List.{get_or-replicate, take_all}
-use Rattle.std.proofs.lemmas.List.Elements.{All-more}
-use Rattle.cut_certificate.proofs.Names.{nat_tests, length-replicate, All-weaker, slice_get_read, slice_get_within, slice_index, Moat, IsOddMoat, RowsValue, length_in, TerminalState, LiftInput, lift_input, HasRowsForMoats, HasDistance, IsNextMoat, AreDistancesFrom, lesser_of, lowered_distance, distance_from}
-use Rattle.drawing_model.specs.declared.limits.TheConstants.{MAX_COST}
-use Rattle.odd_paths.specs.LeastRows.{cost_in}
+use Rattle.cut_certificate.proofs.Names.{nat_tests, length-replicate, All-weaker, slice_get_read, slice_get_within, slice_index, Moat, IsOddMoat, RowsValue, length_in, TerminalState, LiftInput, lift_input, HasRowsForMoats, HasDistance, IsNextMoat, AreDistancesFrom, lesser_of, lowered_distance, distance_from, get_or-replicate, take_all, All-more, MAX_COST, cost_in, front_written}
 use Rattle.cut_certificate.specs.declared.single_moat.TheConstants.{MAX_REACH}
 use Rattle.cut_certificate.specs.declared.terminal_state.TerminalState.TheVariants as stand
 use Rattle.cut_certificate.proofs.ProgressLemmas.{finds}
 use Rattle.cut_certificate.proofs.LaminarLemmas.{of_all}
 use Rattle.cut_certificate.proofs.MoatDistanceLemmas.{reach_found}
 use Rattle.cut_certificate.proofs.TerminalStateLemmas.{is_of}
-use Rattle.lists_and_numbers.proofs.CallerLemmas.{front_written}
 
 -- no number of a row is above the greatest cost
 pub row_low : (rows : RowsValue) (size : ℕ) (moats : List Moat) (t : ℕ) (row : List ℕ) (j : ℕ) → HasRowsForMoats rows size moats

@@ -1,16 +1,10 @@
 -- Threads of blocks, where the first ones are kept.
 use Rattle.std.proofs.Common.{◌≡◌, ◌≢◌, ℕ, zero, suc, ◌+◌, ◌-◌, ◌%◌, ◌<◌, ◌≤◌, true, false, List, [], ◌∷◌, ◌++◌, length, map, get_or, set, refl, sym, ap, subst, ◌∙◌, arith, append_assoc, inl, inr}
 use Rattle.std.proofs.Math.ListN.{get_or-append, get_or-eq_default}
-use Rattle.std.proofs.lemmas.Bool.Decides.{eqb_tells, nat_tests}
-use Rattle.std.proofs.lemmas.Bool.{cases_lt}
 use Rattle.std.proofs.lemmas.List.{length-append, get_or-append-add, get_or-set_same, get_or-set_other}
 use Rattle.std.proofs.lemmas.List.FromFn.{get_or-map-range_with_len, length-map-range_with_len}
 use Rattle.std.proofs.lemmas.Option.{unwrap_or-slice_get}
-use Rattle.std.specs.Prelude.{◌==◌, ◌⊎◌, if◌then◌else◌}
-use Rattle.std.specs.List.{range_with_len}
-use Rattle.design_edits.proofs.Names.{ap₂, DesignValue, Recolours, recoloured, threads_up_to}
-use Rattle.design_model.specs.Designs.{thread_of, with_thread, with_thread_at}
-use Rattle.design_edits.specs.Colours.{threads_from}
+use Rattle.design_edits.proofs.Names.{ap₂, DesignValue, Recolours, recoloured, threads_up_to, eqb_tells, nat_tests, cases_lt, ◌==◌, ◌⊎◌, if◌then◌else◌, range_with_len, thread_of, with_thread, with_thread_at, threads_from}
 
 -- The thread of a block that has no stored number.
 abbrev pub thread_by_place : ℕ → ℕ

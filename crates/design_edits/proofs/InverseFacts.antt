@@ -1,8 +1,7 @@
 -- What the theorems on moves that restore a design say of one design, and what results of edits exclude.
 use Rattle.std.proofs.Common.{◌≡◌, ℕ, ℤ, neg_ℤ, ◌+◌, List, [], ◌∷◌, None, Some, Ok, Err, arith}
-use Rattle.design_edits.proofs.Names.{DesignValue, Axis, Recolours, colour_place_count, recoloured, FourQuarterTurnsRestore, OppositeShiftRestores, TwoMirroringsRestore, first_out_of_range, mirrored, shifted, turned}
+use Rattle.design_edits.proofs.Names.{DesignValue, Axis, Recolours, colour_place_count, recoloured, FourQuarterTurnsRestore, OppositeShiftRestores, TwoMirroringsRestore, first_out_of_range, mirrored, shifted, turned, IsRecolourResult}
 use Rattle.design_edits.specs.declared.edit_fault.EditFault.TheVariants as fault
-use Rattle.design_edits.specs.Colours.{IsRecolourResult}
 use Rattle.design_edits.specs.Shifts.{IsShiftResult}
 
 -- four turns by one quarter each, two mirrorings of one axis, and two shifts

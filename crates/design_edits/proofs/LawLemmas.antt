@@ -1,8 +1,7 @@
 -- What moves undo, point by point.
 use Rattle.std.proofs.Common.{◌≡◌, ℤ, ◌+ℤ◌, neg_ℤ, List, [], ◌∷◌, map, refl, ap, ◌∙◌}
-use Rattle.design_edits.proofs.Names.{ap₂, Command, Stitch, Jump, Trim, Stop, Point, DesignValue, FourQuarterTurnsRestore, OppositeShiftRestores, TwoMirroringsRestore, mirror_point, shift_point, turn_point, turned, with_mapped_point, with_mapped_points}
+use Rattle.design_edits.proofs.Names.{ap₂, Command, Stitch, Jump, Trim, Stop, Point, DesignValue, FourQuarterTurnsRestore, OppositeShiftRestores, TwoMirroringsRestore, mirror_point, shift_point, turn_point, turned, with_mapped_point, with_mapped_points, back-there, neg-neg}
 use Rattle.design_edits.specs.declared.axis.Axis.TheVariants as axis
-use Rattle.lists_and_numbers.proofs.CallerLemmas.{back-there, neg-neg}
 
 -- a map that undoes another on points undoes it on designs
 module _ (undo f : Point → Point) (undone : (p : Point) → undo (f p) ≡ p) where

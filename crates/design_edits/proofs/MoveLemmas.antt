@@ -1,14 +1,7 @@
 -- Commands that are moved one after the other.
 use Rattle.std.proofs.Common.{◌≡◌, ℕ, zero, suc, ◌+◌, ◌<◌, Bool, true, false, not, cond, IsTrue, ℤ, add-one, List, [], ◌∷◌, ◌++◌, Option, Some, None, IfSome, length, get_or, set, take, drop, map, refl, ap, ◌∙◌, subst, arith}
-use Rattle.std.proofs.lemmas.Bool.{and_parts}
-use Rattle.std.proofs.lemmas.Bool.Decides.{nat_tests}
-use Rattle.std.specs.Prelude.{slice_get}
-use Rattle.design_edits.proofs.Names.{list_all, position_from, Command, Stitch, Jump, Trim, Stop, Point, is_command_in_range, DesignValue, is_point_within, Axis, first_out_of_range, mirror_point, turn_point, with_mapped_point, with_mapped_points}
-use Rattle.design_model.specs.Commands.{target_of}
-use Rattle.design_model.specs.Designs.{KeepsLimits, with_command_at}
+use Rattle.design_edits.proofs.Names.{list_all, position_from, Command, Stitch, Jump, Trim, Stop, Point, is_command_in_range, DesignValue, is_point_within, Axis, first_out_of_range, mirror_point, turn_point, with_mapped_point, with_mapped_points, and_parts, nat_tests, slice_get, target_of, KeepsLimits, with_command_at, quarter_point, size-neg}
 use Rattle.design_edits.specs.declared.axis.Axis.TheVariants as axis
-use Rattle.design_edits.specs.Moves.{quarter_point}
-use Rattle.lists_and_numbers.proofs.CallerLemmas.{size-neg}
 
 -- whether a command's point is out of its range
 abbrev pub is_outside : Command → Bool

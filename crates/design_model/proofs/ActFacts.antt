@@ -1,9 +1,8 @@
 -- Worked values of the acts.
 use Rattle.std.proofs.Common.{◌≡◌, ℤ, pos, true, false, [], ◌∷◌, refl}
+use Rattle.design_model.proofs.Names.{Stitch, Jump, Point, acts_along, acts_without_numbers, numbered}
 use Rattle.design_model.specs.declared.act.Act.TheVariants as act
-use Rattle.design_model.specs.declared.command.Command.TheVariants.{Stitch, Jump, Trim, Stop}
-use Rattle.design_model.specs.declared.point.Point.{Point}
-use Rattle.design_model.specs.Acts.{acts_along, acts_without_numbers, numbered}
+use Rattle.design_model.specs.declared.command.Command.TheVariants.{Trim, Stop}
 
 -- the point at that x on the axis
 abbrev pub at : ℤ → Point

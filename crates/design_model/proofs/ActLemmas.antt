@@ -1,12 +1,6 @@
 -- The acts of commands in range are in range.
-use Rattle.std.proofs.lemmas.Bool.Decides.{nat_tests}
 use Rattle.std.proofs.Common.{◌≡◌, ℕ, ◌+◌, Bool, true, IsTrue, [], ◌∷◌, ◌++◌, Option, Some, None, IfSome, refl, arith}
-use Rattle.std.proofs.lemmas.Bool.{and_parts, and_from}
-use Rattle.design_model.specs.declared.act.Act.{Act}
-use Rattle.design_model.specs.declared.command.Command.{Command}
-use Rattle.design_model.specs.Acts.{acts_from, numbered_act_list}
-use Rattle.design_model.specs.Commands.{is_command_in_range}
-use Rattle.design_model.specs.ActPositions.{is_act_in_range}
+use Rattle.design_model.proofs.Names.{nat_tests, and_parts, and_from, Act, Command, acts_from, numbered_act_list, is_command_in_range, is_act_in_range}
 use Rattle.design_model.proofs.CallerLemmas.{acts_in_range, are_in_range}
 
 -- the act of a command in range is in range

@@ -1,9 +1,8 @@
 -- Worked values of the needles of each block.
 use Rattle.std.proofs.Common.{◌≡◌, pos, false, [], ◌∷◌, map, refl}
+use Rattle.design_model.proofs.Names.{Stitch, Jump, acts_along, acts_without_numbers, blocks_of, needles_by_block}
 use Rattle.design_model.specs.declared.act.Act.TheVariants as act
-use Rattle.design_model.specs.declared.command.Command.TheVariants.{Stitch, Jump, Trim, Stop}
-use Rattle.design_model.specs.Acts.{acts_along, acts_without_numbers}
-use Rattle.design_model.specs.Blocks.{blocks_of, needles_by_block}
+use Rattle.design_model.specs.declared.command.Command.TheVariants.{Trim, Stop}
 use Rattle.design_model.proofs.ActFacts.{at}
 
 -- a design without commands has one block, without needles

@@ -1,15 +1,11 @@
 -- Needles of blocks, where a block is begun.
-use Rattle.std.proofs.lemmas.Bool.Decides.{nat_tests}
 use Rattle.std.proofs.Common.{◌≡◌, ℕ, ◌+◌, Bool, true, false, List, [], ◌∷◌, ◌++◌, length, refl, ap, sym, ◌∙◌, arith, append_assoc, add-zero, zero-add}
 use Rattle.std.proofs.lemmas.List.{length-map}
 use Rattle.std.proofs.lemmas.List.Sums.{sum_by-cons}
-use Rattle.std.specs.Prelude.{count_by, map, if◌then◌else◌}
-use Rattle.design_model.specs.declared.act.Act.{Act}
+use Rattle.std.specs.Prelude.{map}
+use Rattle.design_model.proofs.Names.{nat_tests, count_by, if◌then◌else◌, Act, NumberedAct, numbered, blocks_of, continued_block_counts, with_act_in_first_block, needles_by_block, with_needles_in_first_block}
 use Rattle.design_model.specs.declared.act.Act.TheVariants as act
-use Rattle.design_model.specs.declared.act.NumberedAct.{NumberedAct}
 use Rattle.design_model.specs.ActKinds.{is_needle, is_stop}
-use Rattle.design_model.specs.Acts.{numbered}
-use Rattle.design_model.specs.Blocks.{blocks_of, continued_block_counts, with_act_in_first_block, needles_by_block, with_needles_in_first_block}
 
 -- The blocks of an act and of the acts after it start with a block, to which no needle is added.
 none_more_in : (a : NumberedAct) (stops : Bool) (later : List (List NumberedAct))

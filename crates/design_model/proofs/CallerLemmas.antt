@@ -1,18 +1,9 @@
 -- Lemmas that this crate and those above cite.
 use Rattle.std.proofs.Common.{Bool, IsTrue, List, [], arith, false, refl, true, unsigned_abs, ℕ, ℤ, ◌+◌, ◌∷◌, ◌≡◌, ◌≤◌}
 use Rattle.std.proofs.Math.Path.{ap₂}
-use Rattle.std.proofs.lemmas.Bool.{and_from, and_parts}
-use Rattle.std.proofs.lemmas.Bool.Decides.{Decides-int_eq, nat_tests}
-use Rattle.std.specs.List.{list_all}
 use Rattle.std.specs.Ordering.{int_eq}
-use Rattle.design_model.specs.ActPositions.{is_act_in_range}
-use Rattle.design_model.specs.Acts.{acts_from}
-use Rattle.design_model.specs.Commands.{is_command_in_range}
-use Rattle.design_model.specs.Points.{is_point_within, is_same_point}
-use Rattle.design_model.specs.declared.act.NumberedAct.{NumberedAct}
-use Rattle.design_model.specs.declared.command.Command.{Command}
-use Rattle.design_model.specs.declared.command.Command.TheVariants.{Jump, Stitch, Stop, Trim}
-use Rattle.design_model.specs.declared.point.Point.{Point}
+use Rattle.design_model.proofs.Names.{and_from, and_parts, Decides-int_eq, nat_tests, list_all, is_act_in_range, acts_from, is_command_in_range, is_point_within, is_same_point, NumberedAct, Command, Jump, Stitch, Point}
+use Rattle.design_model.specs.declared.command.Command.TheVariants.{Stop, Trim}
 
 -- points that are found to be the same are the same
 pub same_is : (p q : Point) → is_same_point p q ≡ true → p ≡ q

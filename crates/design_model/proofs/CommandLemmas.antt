@@ -1,13 +1,8 @@
 -- Commands of which one is moved to another point.
-use Rattle.std.proofs.lemmas.Bool.Decides.{nat_tests}
 use Rattle.std.proofs.Common.{ap, ◌≡◌, ℕ, zero, suc, IsTrue, List, [], ◌∷◌, Option, Some, None, IfSome, IsSomeAnd, get_or, set, refl, arith}
-use Rattle.std.proofs.lemmas.Bool.{and_parts, and_from}
 use Rattle.std.specs.Prelude.{slice_get}
-use Rattle.std.specs.List.{list_all}
-use Rattle.design_model.specs.declared.command.Command.{Command}
-use Rattle.design_model.specs.declared.command.Command.TheVariants.{Stitch, Jump, Trim, Stop}
-use Rattle.design_model.specs.declared.point.Point.{Point}
-use Rattle.design_model.specs.Commands.{is_command_in_range, command_with_point, command_accepts_point}
+use Rattle.design_model.proofs.Names.{nat_tests, and_parts, and_from, list_all, Command, Stitch, Jump, Point, is_command_in_range, command_with_point, command_accepts_point}
+use Rattle.design_model.specs.declared.command.Command.TheVariants.{Trim, Stop}
 
 -- A command that accepts a point is in range there.
 taken_in_range : (c : Command) (p : Point) → IsTrue (command_accepts_point c p) → IsTrue (is_command_in_range (command_with_point c p))

@@ -1,7 +1,7 @@
 -- Worked values of the counts.
 use Rattle.std.proofs.Common.{◌≡◌, pos, [], ◌∷◌, refl}
-use Rattle.design_model.specs.declared.command.Command.TheVariants.{Stitch, Jump, Trim, Stop}
-use Rattle.design_model.specs.Counts.{counts_of_commands}
+use Rattle.design_model.proofs.Names.{Stitch, Jump, counts_of_commands}
+use Rattle.design_model.specs.declared.command.Command.TheVariants.{Trim, Stop}
 use Rattle.design_model.proofs.ActFacts.{at}
 
 -- nothing is counted of no commands

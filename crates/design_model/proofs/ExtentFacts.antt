@@ -1,9 +1,7 @@
 -- Worked values of the extent.
 use Rattle.std.proofs.Common.{◌≡◌, ℤ, pos, negsuc, [], ◌∷◌, Some, None, refl}
-use Rattle.design_model.specs.declared.command.Command.TheVariants.{Stitch, Jump, Trim, Stop}
-use Rattle.design_model.specs.declared.point.Point.{Point}
-use Rattle.design_model.specs.Acts.{acts_along}
-use Rattle.design_model.specs.Extents.{IsExtentOrNone, extent_of_points, extent_height, needle_points_of_acts, extent_width}
+use Rattle.design_model.proofs.Names.{Stitch, Jump, Point, acts_along, IsExtentOrNone, extent_of_points, extent_height, needle_points_of_acts, extent_width}
+use Rattle.design_model.specs.declared.command.Command.TheVariants.{Trim, Stop}
 
 -- the point with those coordinates
 abbrev pub place : ℤ → ℤ → Point

@@ -2,11 +2,9 @@
 use Rattle.std.proofs.Common.{◌≡◌, ◌⊎◌, inl, inr, ℤ, suc, List, [], ◌∷◌, Option, Some, None, refl, subst, sym, arith, Contains}
 use Rattle.std.proofs.lemmas.Int.{fold-int_min_bounds, fold-int_min_reached, fold-int_max_bounds, fold-int_max_reached}
 use Rattle.std.proofs.lemmas.List.Elements.{All-cons}
-use Rattle.std.specs.Prelude.{◌≤ℤ◌, fold}
 use Rattle.std.specs.Int.{int_min, int_max}
+use Rattle.design_model.proofs.Names.{◌≤ℤ◌, fold, Point, IsExtentOrNone, IsMaximum, IsMinimum, x_coordinates, extent_of_points, y_coordinates}
 use Rattle.design_model.specs.declared.bounds.Extent.{Extent}
-use Rattle.design_model.specs.declared.point.Point.{Point}
-use Rattle.design_model.specs.Extents.{IsExtentOrNone, IsMaximum, IsMinimum, x_coordinates, extent_of_points, y_coordinates}
 
 -- a number that is the head or in the tail is in the list
 contains_from : (a r : ℤ) (xs : List ℤ) → (r ≡ a) ⊎ Contains xs r → Contains (a ∷ xs) r

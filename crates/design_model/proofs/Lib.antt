@@ -1,3 +1,4 @@
+pub mod Names
 pub mod CallerLemmas
 mod ActFacts
 mod LimitFacts

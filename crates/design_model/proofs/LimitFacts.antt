@@ -1,15 +1,11 @@
 -- The limits of designs, in numbers, and of the whole numbers that words spell. Points are in tenths
 -- of a millimetre, labels in bytes.
 use Rattle.std.proofs.Common.{◌≡◌, ◌≢◌, ℕ, ◌-◌, ◌≤◌, pos, negsuc, true, false, IsTrue, List, [], ◌∷◌, length, map, All, Some, None, slice_get, refl, arith}
-use Rattle.std.specs.List.{list_all}
-use Rattle.design_model.specs.declared.command.Command.TheVariants.{Stitch, Jump, Trim, Stop}
+use Rattle.design_model.proofs.Names.{list_all, Stitch, Jump, Point, is_command_in_range, command_with_point, command_accepts_point, target_of, DesignValue, KeepsLimits, thread_of, IsLabel, IsPrintable}
+use Rattle.design_model.specs.declared.command.Command.TheVariants.{Trim, Stop}
 use Rattle.design_model.specs.declared.design.TheConstants.{MAX_COMMANDS, MAX_LABEL, MAX_THREADS}
-use Rattle.design_model.specs.declared.point.Point.{Point}
 use Rattle.design_model.specs.declared.point.TheConstants.{JUMP_LIMIT, NEEDLE_LIMIT}
 use Rattle.lists_and_numbers.specs.declared.whole_number.TheConstants.{MAX_WHOLE}
-use Rattle.design_model.specs.Commands.{is_command_in_range, command_with_point, command_accepts_point, target_of}
-use Rattle.design_model.specs.Designs.{DesignValue, KeepsLimits, thread_of}
-use Rattle.design_model.specs.Labels.{IsLabel, IsPrintable}
 
 -- how far a needle and a jump may reach on each axis
 pub known_needle : NEEDLE_LIMIT ≡ 30000

@@ -1,8 +1,7 @@
 -- Worked values of points, and of where acts leave them.
 use Rattle.std.proofs.Common.{◌≡◌, pos, negsuc, true, false, [], ◌∷◌, map, refl}
+use Rattle.design_model.proofs.Names.{is_act_in_range, leaves_thread_loose, needle_position_after, is_same_point, is_point_within, move_between, move_size}
 use Rattle.design_model.specs.declared.act.Act.TheVariants.{Needle, Trim, Stop}
-use Rattle.design_model.specs.ActPositions.{is_act_in_range, leaves_thread_loose, needle_position_after}
-use Rattle.design_model.specs.Points.{is_same_point, is_point_within, move_between, move_size}
 use Rattle.design_model.proofs.ExtentFacts.{place}
 
 pub known_move : move_between (place (pos 3) (negsuc 3)) (place (negsuc 4) (pos 12)) ≡ place (negsuc 7) (pos 16)

@@ -1,14 +1,9 @@
 -- What each result of pushing a command excludes, and that a design at its limits keeps them.
 use Rattle.std.proofs.Common.{◌≡◌, ℕ, true, false, IsTrue, length, Ok, Err, arith}
-use Rattle.std.specs.List.{list_all}
-use Rattle.design_model.specs.declared.command.Command.{Command}
+use Rattle.design_model.proofs.Names.{list_all, Command, is_command_in_range, DesignValue, KeepsLimits, Pushes, with_command, IsLabel, Result}
 use Rattle.design_model.specs.declared.design.ModelFault.TheVariants as fault
 use Rattle.design_model.specs.declared.design.ModelFault.{ModelFault}
-use Rattle.design_model.specs.Commands.{is_command_in_range}
-use Rattle.design_model.specs.Designs.{DesignValue, KeepsLimits, Pushes, with_command}
-use Rattle.design_model.specs.Labels.{IsLabel}
 use Rattle.lists_and_numbers.specs.OutOfMemory.{IsSpecified}
-use Rattle.std.specs.Prelude.{Result}
 
 -- a refusal leaves the design as it was
 pub known_unchanged : (c : Command) (old new : DesignValue) → (f : ModelFault) → Pushes {T = ℕ} c old (Err f) new → new ≡ old

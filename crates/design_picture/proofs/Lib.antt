@@ -1,3 +1,4 @@
+pub mod Names
 mod StrokeLemmas
 mod ShownLemmas
 mod PictureFacts

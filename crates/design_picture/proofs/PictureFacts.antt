@@ -1,17 +1,14 @@
 -- Worked values of strokes and of what is drawn of them, by hand.
 use Rattle.std.proofs.Common.{◌≡◌, ℕ, ℤ, Bool, pos, negsuc, List, [], ◌∷◌, ◌++◌, true, false, Some, codes, map, refl}
 use Rattle.std.specs.Fmt.{digits}
+use Rattle.design_picture.proofs.Names.{DesignValue, Stroke, layer_text, pen_of, strokes_of}
 use Rattle.design_model.specs.declared.command.Command.TheVariants.{Stitch, Jump}
 use Rattle.design_model.specs.declared.command.Command.TheVariants as command
 use Rattle.design_model.specs.declared.point.Point.{Point}
-use Rattle.design_model.specs.Designs.{DesignValue}
 use Rattle.design_picture.specs.declared.layers.Layer.TheVariants as layer
-use Rattle.design_picture.specs.declared.strokes.Stroke.{Stroke}
 use Rattle.design_picture.specs.declared.strokes.Stroke.TheVariants.{Begin, Float, Sewn, Trim, Stop}
 use Rattle.design_picture.specs.Hoops.{hoop_as_fits, offset_text}
-use Rattle.design_picture.specs.Layers.{layer_text}
 use Rattle.design_picture.specs.Layouts.{area_of, sheet_of}
-use Rattle.design_picture.specs.Strokes.{pen_of, strokes_of}
 use Rattle.design_picture.specs.Threads.{arc_text, arrow_shape, hole_shape, travel_shape}
 use Rattle.hoop_check.specs.declared.fitting.Fit.TheVariants as fit
 use Rattle.picture_parts.specs.Colours.{colour_of_thread}

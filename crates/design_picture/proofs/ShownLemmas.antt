@@ -1,16 +1,10 @@
 -- The strokes of acts show the acts.
 use Rattle.std.proofs.Common.{◌≡◌, Bool, true, false, List, [], ◌∷◌, map, None, refl, if◌then◌else◌}
 use Rattle.std.proofs.Math.Path.{ap₂}
+use Rattle.design_picture.proofs.Names.{NumberedAct, acts_of, DesignValue, Pen, Stroke, first_pen, pen_after, StitchPasses, passes_after, stroke_of_act, strokes_from}
 use Rattle.design_model.specs.declared.act.Act.{Act}
 use Rattle.design_model.specs.declared.act.Act.TheVariants as act
-use Rattle.design_model.specs.declared.act.NumberedAct.{NumberedAct}
-use Rattle.design_model.specs.Acts.{acts_of}
-use Rattle.design_model.specs.Designs.{DesignValue}
-use Rattle.design_picture.specs.declared.pen.Pen.{Pen}
-use Rattle.design_picture.specs.declared.strokes.Stroke.{Stroke}
-use Rattle.design_picture.specs.Pens.{first_pen, pen_after}
 use Rattle.design_picture.specs.ShownActs.{StrokesShowActs, plain_act, shown_act}
-use Rattle.design_picture.specs.Strokes.{StitchPasses, passes_after, stroke_of_act, strokes_from}
 
 -- Each of the three strokes of a needle shows it.
 chosen : (loose float : Bool) (begin floated sewn : Stroke) (a : Act) → shown_act begin ≡ a → shown_act floated ≡ a → shown_act sewn ≡ a

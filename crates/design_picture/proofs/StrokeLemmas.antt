@@ -1,11 +1,6 @@
 -- The strokes of the acts that are left, and the pen after them, one act at a time.
 use Rattle.std.proofs.Common.{◌≡◌, List, ◌∷◌, ◌++◌, ap, sym, ◌∙◌}
-use Rattle.design_model.specs.declared.act.NumberedAct.{NumberedAct}
-use Rattle.design_model.specs.Designs.{DesignValue}
-use Rattle.design_picture.specs.declared.pen.Pen.{Pen}
-use Rattle.design_picture.specs.declared.strokes.Stroke.{Stroke}
-use Rattle.design_picture.specs.Pens.{pen_after}
-use Rattle.design_picture.specs.Strokes.{StitchPasses, pen_along, strokes_from}
+use Rattle.design_picture.proofs.Names.{NumberedAct, DesignValue, Pen, Stroke, pen_after, StitchPasses, pen_along, strokes_from}
 
 -- The stroke of the next act is added.
 pub shows_next : (d : DesignValue) (pen pen' : Pen) (passes passes' : StitchPasses) (a : NumberedAct) (acts rest : List NumberedAct)

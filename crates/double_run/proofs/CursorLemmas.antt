@@ -1,10 +1,6 @@
 -- Which lines are passed, and the cursors of a traversal.
 use Rattle.std.proofs.Common.{◌≡◌, ◌<◌, ℕ, zero, suc, ◌+◌, ◌/◌, ◌==◌, ◌||◌, Bool, true, false, not, List, [], ◌∷◌, length, get_or, set, slice_get, Some, arith, refl, sym, ap}
-use Rattle.std.proofs.lemmas.Bool.{and_from}
-use Rattle.double_run.proofs.Names.{nat_tests, Edge, AreCursors, IsLegFrom, WasPassed, is_exhausted, has_end_at, cursors_stay}
-use Rattle.line_graph.specs.PieceGraphs.{is_odd}
-use Rattle.euler_tour.proofs.CallerLemmas.{all_done}
-use Rattle.lists_and_numbers.proofs.CallerLemmas.{one_of}
+use Rattle.double_run.proofs.Names.{nat_tests, Edge, AreCursors, IsLegFrom, WasPassed, is_exhausted, has_end_at, cursors_stay, and_from, is_odd, all_done, one_of}
 
 -- ---- which lines are passed
 

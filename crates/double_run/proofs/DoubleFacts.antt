@@ -1,7 +1,6 @@
 -- Worked values of double walks.
 use Rattle.std.proofs.Common.{◌≡◌, ℕ, List, [], ◌∷◌, Option, None, Some, true, false, arith, pos, refl}
-use Rattle.std.proofs.lemmas.List.Elements.{All-cons, All-nil}
-use Rattle.double_run.proofs.Names.{All-get_or, Edge, Pass, PieceValue, is_fitting_walk, walk_cost, IsPassedBothWays, IsDouble, same_way, directed_passes, without_ends}
+use Rattle.double_run.proofs.Names.{All-get_or, Edge, Pass, PieceValue, is_fitting_walk, walk_cost, IsPassedBothWays, IsDouble, same_way, directed_passes, without_ends, All-cons, All-nil}
 use Rattle.design_model.specs.declared.point.Point.{Point}
 
 abbrev edge : (a b cost : ℕ) → Edge

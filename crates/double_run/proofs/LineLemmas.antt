@@ -1,9 +1,6 @@
 -- Lines that rise and their edges, and how often a walk passes a line in a direction.
 use Rattle.std.proofs.Common.{◌≡◌, ◌<◌, ℕ, zero, suc, ◌+◌, ◌==◌, ◌&&◌, Bool, true, false, not, List, [], ◌∷◌, ◌++◌, length, get_or, arith, refl, sym, ◌∙◌}
-use Rattle.double_run.proofs.Names.{nat_tests, Edge, Pass, one_if, edge_cost, edge_of, pass_sum, is_strictly_increasing, same_way, directed_passes, eq_self}
-use Rattle.line_graph.specs.PieceWalks.{edge_value}
-use Rattle.line_graph.proofs.CallerLemmas.{first_less, rest_rises}
-use Rattle.lists_and_numbers.proofs.CallerLemmas.{differs, differs_back, suc_zero}
+use Rattle.double_run.proofs.Names.{nat_tests, Edge, Pass, one_if, edge_cost, edge_of, pass_sum, is_strictly_increasing, same_way, directed_passes, eq_self, edge_value, first_less, rest_rises, differs, differs_back, suc_zero}
 
 pub suc_suc : (m n : ℕ) → (suc m == suc n) ≡ (m == n)
 suc_suc m n = grind (arith, nat_tests)

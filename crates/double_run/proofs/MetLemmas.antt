@@ -1,7 +1,6 @@
 -- Junctions that are visited, exhausted, or on the stack, when another line is passed.
 use Rattle.std.proofs.Common.{◌≡◌, ◌<◌, ◌⊎◌, ℕ, zero, suc, ◌+◌, ◌==◌, ◌||◌, Bool, true, false, not, List, [], ◌∷◌, ◌++◌, length, get_or, set, slice_get, Some, arith, refl, sym, ◌∙◌}
-use Rattle.double_run.proofs.Names.{nat_tests, and_parts, Edge, one_if, edge_cost, pass_end, pass_start, DirectedLeg, remaining_count, edge_at, is_visited, is_on_stack, is_exhausted, passed_cost, has_end_at, eq_self, some_same}
-use Rattle.line_graph.specs.PieceWalks.{edge_sum}
+use Rattle.double_run.proofs.Names.{nat_tests, and_parts, Edge, one_if, edge_cost, pass_end, pass_start, DirectedLeg, remaining_count, edge_at, is_visited, is_on_stack, is_exhausted, passed_cost, has_end_at, eq_self, some_same, edge_sum}
 use Rattle.double_run.proofs.LineLemmas.{suc_suc}
 
 -- exhausted junctions stay exhausted

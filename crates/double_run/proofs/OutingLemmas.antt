@@ -1,14 +1,9 @@
 -- Each step of a traversal preserves the invariant.
 use Rattle.std.proofs.Common.{◌≡◌, ◌<◌, ◌⊎◌, inl, inr, ℕ, ◌+◌, ◌*◌, ◌==◌, ◌&&◌, Bool, true, false, not, nat_lt, cond, List, [], ◌∷◌, ◌++◌, length, get_or, set, slice_get, Option, Some, None, arith, refl, sym, ap, ◌∙◌, subst, length-set, length-append}
-use Rattle.std.proofs.lemmas.Bool.{or_parts}
 use Rattle.std.proofs.lemmas.Option.{slice_get_within}
-use Rattle.double_run.proofs.Names.{nat_tests, and_parts, Edge, Pass, one_if, edge_cost, edge_of, pass_end, pass_sum, is_strictly_increasing, pass_start, walk_end_from, DirectedLeg, directed_passes, remaining_count, IsTraversalInvariant, legs_are_below, is_visited, is_on_stack, is_exhausted, leg_pass, leg_return, has_end_at, eq_self, same_number}
-use Rattle.line_graph.specs.PieceWalks.{after_edge}
-use Rattle.double_run.specs.Traversals.{return_walk}
+use Rattle.double_run.proofs.Names.{nat_tests, and_parts, Edge, Pass, one_if, edge_cost, edge_of, pass_end, pass_sum, is_strictly_increasing, pass_start, walk_end_from, DirectedLeg, directed_passes, remaining_count, IsTraversalInvariant, legs_are_below, is_visited, is_on_stack, is_exhausted, leg_pass, leg_return, has_end_at, eq_self, same_number, or_parts, after_edge, return_walk, edge_found, lost, walk_append, less_test}
 use Rattle.double_run.proofs.LineLemmas.{both_ways, one_line, sum_push, times_push}
 use Rattle.double_run.proofs.MetLemmas.{cost_more, found_at, less_left, marks, met_before, spent_on, touched, way_push}
-use Rattle.line_graph.proofs.CallerLemmas.{edge_found, lost, walk_append}
-use Rattle.lists_and_numbers.proofs.CallerLemmas.{less_test}
 
 -- a leg more is the first on the way home
 pub home_push : (lines : List ℕ) (out : List DirectedLeg) (leg : DirectedLeg)

@@ -1,19 +1,13 @@
 -- The steps of a traversal, and the double walk at its end.
 use Rattle.std.proofs.Common.{◌≡◌, ◌<◌, ℕ, ◌+◌, ◌*◌, ◌/◌, Bool, true, false, List, [], ◌∷◌, ◌++◌, length, get_or, set, slice_get, slice_index_or, replicate, Some, Vec, Global, arith, refl, sym, ap, ◌∙◌, subst}
-use Rattle.double_run.proofs.Names.{and_parts, nat_tests, Edge, Pass, IsValidPiece, PieceValue, first_line, pass_end, piece_cost, pass_start, walk_cost, DirectedLeg, IsDouble, AreCursors, IsTraversal, IsTraversalInvariant, WasPassed, IsLegFrom, legs_are_below, edge_at, is_exhausted, leg_pass, leg_return, root_junction, remaining_count, cursors_stay, ends_are_below, edge_there}
-use Rattle.line_graph.specs.ValidPieces.{ends_below}
+use Rattle.double_run.proofs.Names.{and_parts, nat_tests, Edge, Pass, IsValidPiece, PieceValue, first_line, pass_end, piece_cost, pass_start, walk_cost, DirectedLeg, IsDouble, AreCursors, IsTraversal, IsTraversalInvariant, WasPassed, IsLegFrom, legs_are_below, edge_at, is_exhausted, leg_pass, leg_return, root_junction, remaining_count, cursors_stay, ends_are_below, edge_there, ends_below, SkipsEnd, HasTraversalTables, KeepsTraversal, GoesOut, IsTraversalDone, IsTraversalStep, cursors_begin, cursors_skip, skipped_less, begins_on}
 use Rattle.double_run.specs.declared.traversal.Traversal.{Traversal}
-use Rattle.euler_tour.specs.Cursors.{SkipsEnd}
 use Rattle.euler_tour.specs.declared.line_ends.LineEnds.{LineEnds}
 use Rattle.euler_tour.specs.LineEnds.{AreBefore, AreLast}
-use Rattle.double_run.specs.Traversals.{HasTraversalTables, KeepsTraversal}
-use Rattle.double_run.specs.TraversalSteps.{GoesOut, IsTraversalDone, IsTraversalStep}
 use Rattle.double_run.proofs.CursorLemmas.{marked_at, marked_stays, out_ready}
 use Rattle.double_run.proofs.HomeLemmas.{begins_kept, home_double, home_passed}
 use Rattle.double_run.proofs.MetLemmas.{found_at, cost_all}
 use Rattle.double_run.proofs.OutingLemmas.{back_kept, back_less, out_kept, out_less, there_push}
-use Rattle.euler_tour.proofs.CallerLemmas.{cursors_begin, cursors_skip, skipped_less}
-use Rattle.line_graph.proofs.CallerLemmas.{begins_on}
 
 -- the first line begins at the root, which is a junction
 root_at : (edges : List Edge) → (slice_index_or edges 0 (record { a = 0; b = 0; cost = 0 })).a ≡ root_junction edges

@@ -1,22 +1,11 @@
 -- What is proved of each command: its plan decides, and the outputs of its products are the files that it writes.
 use Rattle.std.proofs.Common.{[], ◌∷◌, Ok, Err, Result}
-use Rattle.drawing_commands.proofs.Names.{DrawingValue, stitch_drawing, BadEdit, drawing_edit_read, edited_plan, edits_applied, look_read, DrawingOrder, editing, snap_made, snap_read, space_made, space_read}
+use Rattle.drawing_commands.proofs.Names.{DrawingValue, stitch_drawing, BadEdit, drawing_edit_read, edited_plan, edits_applied, look_read, DrawingOrder, editing, snap_made, snap_read, space_made, space_read, SnappedDrawing, snap_of, drawing_of, IsSoundPlan, accepts_sound, named, parses_sound, program_sound, refuses_sound, SpacedDrawing, drawing_outputs_of, drawing_plan_of, IsEdited, IsLook, looking, snapping, spacing, IsSnapProduct, IsSpaceProduct}
 use Rattle.drawing_inputs.specs.DrawingLines.{lines_read}
 use Rattle.drawing_model.specs.declared.draw_kind.DrawKind.{DrawKind}
 use Rattle.drawing_repairs.specs.declared.snap_fault.SnapFault.{SnapFault}
-use Rattle.drawing_repairs.specs.declared.snapping.SnappedDrawing.{SnappedDrawing}
-use Rattle.drawing_repairs.specs.Snaps.{snap_of}
-use Rattle.drawing_text.specs.DrawingText.{drawing_of}
-use Rattle.program_shell.proofs.CallerLemmas.{IsSoundPlan, accepts_sound, named, parses_sound, program_sound, refuses_sound}
 use Rattle.program_shell.specs.ExactPlans.{IsSoundProgram}
-use Rattle.spaced_lines.specs.declared.spaced_drawing.SpacedDrawing.{SpacedDrawing}
 use Rattle.spaced_lines.specs.SpacedDrawings.{space_of}
-use Rattle.drawing_commands.specs.Commands.{drawing_outputs_of, drawing_plan_of}
-use Rattle.drawing_commands.specs.DrawingEditing.{IsEdited}
-use Rattle.drawing_commands.specs.Looks.{IsLook}
-use Rattle.drawing_commands.specs.Requests.{looking, snapping, spacing}
-use Rattle.drawing_commands.specs.SnapOrders.{IsSnapProduct}
-use Rattle.drawing_commands.specs.SpaceOrders.{IsSpaceProduct}
 
 -- The plan of each order is sound.
 order_sound : (order : DrawingOrder) → IsSoundPlan (drawing_outputs_of order) (drawing_plan_of order)

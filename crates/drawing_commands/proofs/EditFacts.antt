@@ -1,14 +1,12 @@
 -- Worked values of the arguments of `edit`, and of edits in order.
 use Rattle.std.proofs.Common.{◌≡◌, ℕ, pos, negsuc, [], ◌∷◌, List, Some, None, Err, codes, refl}
 use Rattle.std.specs.Fmt.{digits}
-use Rattle.drawing_commands.proofs.Names.{DrawingValue, drawing_edit_order, edits_applied, parsed_drawing_edit, parsed_drawing_edits, editing}
+use Rattle.drawing_commands.proofs.Names.{DrawingValue, drawing_edit_order, edits_applied, parsed_drawing_edit, parsed_drawing_edits, editing, bad_edit_text, edit_fault_text, drawing_order_of}
 use Rattle.design_edits.specs.declared.axis.Axis.TheVariants as axis
 use Rattle.design_edits.specs.declared.motion.Motion.TheVariants as motion
 use Rattle.drawing_edits.specs.declared.drawing_edit.DrawingEdit.TheVariants as edit
 use Rattle.drawing_edits.specs.declared.edit_fault.EditFault.TheVariants as fault
 use Rattle.drawing_model.specs.declared.draw_kind.DrawKind.TheVariants as kind
-use Rattle.drawing_commands.specs.DrawingEditing.{bad_edit_text, edit_fault_text}
-use Rattle.drawing_commands.specs.Requests.{drawing_order_of}
 
 pub known_drawing_edits : parsed_drawing_edits (codes "shift=-5,70" ∷ codes "turn=3" ∷ codes "mirror=y" ∷ codes "centre"
     ∷ codes "step=2047" ∷ [])

@@ -1,19 +1,27 @@
 -- Names from elsewhere that several files of these proofs use.
-pub use Rattle.std.proofs.lemmas.List.{at_drop_more}
-pub use Rattle.std.specs.Prelude.{is_some, unwrap_or}
-pub use Rattle.command_words.proofs.CallerLemmas.{first_parsed, later_parsed}
+pub use Rattle.std.proofs.lemmas.List.{at_drop_more, length-map}
+pub use Rattle.std.specs.Prelude.{is_some, option_map, unwrap_or}
+pub use Rattle.command_words.proofs.CallerLemmas.{first_parsed, later_parsed, parsed_before}
 pub use Rattle.command_words.specs.Arguments.{with_first_edit}
-pub use Rattle.drawing_commands.specs.Commands.{stitch_drawing}
+pub use Rattle.drawing_commands.specs.Commands.{drawing_outputs_of, drawing_plan_of, stitch_drawing}
 pub use Rattle.drawing_commands.specs.DrawingEditWords.{drawing_edits_of, parsed_drawing_edit, parsed_drawing_edits}
-pub use Rattle.drawing_commands.specs.DrawingEditing.{bad_edit_is_out_of_memory, drawing_edit_order, drawing_edit_read, edited_plan}
-pub use Rattle.drawing_commands.specs.DrawingEditing.{edits_applied}
-pub use Rattle.drawing_commands.specs.Looks.{look_read}
-pub use Rattle.drawing_commands.specs.Requests.{DrawingOrder, edit_order_with, editing}
-pub use Rattle.drawing_commands.specs.SnapOrders.{snap_made, snap_order, snap_read}
-pub use Rattle.drawing_commands.specs.SpaceOrders.{space_made, space_order, space_read}
+pub use Rattle.drawing_commands.specs.DrawingEditing.{IsEdited, at_edit, bad_edit_is_out_of_memory, bad_edit_text, drawing_edit_order}
+pub use Rattle.drawing_commands.specs.DrawingEditing.{drawing_edit_read, edit_fault_text, edited_plan, edits_applied}
+pub use Rattle.drawing_commands.specs.LookTexts.{look_piece_line, look_piece_lines, look_totals_text, place_lines}
+pub use Rattle.drawing_commands.specs.Looks.{IsLook, look_order, look_read}
+pub use Rattle.drawing_commands.specs.Requests.{DrawingOrder, drawing_order_of, edit_order_with, editing, looking}
+pub use Rattle.drawing_commands.specs.Requests.{parsed_drawing_edit_request, snapping, spacing}
+pub use Rattle.drawing_commands.specs.SnapOrders.{IsSnapProduct, snap_made, snap_order, snap_read}
+pub use Rattle.drawing_commands.specs.SpaceOrders.{IsSpaceProduct, space_made, space_order, space_read, space_report}
 pub use Rattle.drawing_commands.specs.declared.bad_edit.BadEdit.{BadEdit}
 pub use Rattle.drawing_edits.specs.declared.drawing_edit.DrawingEdit.{DrawingEdit}
 pub use Rattle.drawing_model.specs.Drawings.{DrawingValue}
 pub use Rattle.drawing_model.specs.EndOrders.{AreInBlockOrder, HasOrderedEnds}
+pub use Rattle.drawing_model.specs.GrowingDrawings.{and_then, draw_is_out_of_memory, point_count}
+pub use Rattle.drawing_repairs.specs.Snaps.{snap_is_out_of_memory, snap_of}
+pub use Rattle.drawing_repairs.specs.declared.snapping.SnappedDrawing.{SnappedDrawing}
+pub use Rattle.drawing_text.specs.DrawingText.{drawing_of}
 pub use Rattle.line_sections.specs.declared.spot.Spot.{Spot}
-pub use Rattle.program_shell.proofs.CallerLemmas.{fault_refused, settles_taken}
+pub use Rattle.program_shell.proofs.CallerLemmas.{IsSoundPlan, accepts_sound, can_finish, ends, fault_refused, named, parses_sound}
+pub use Rattle.program_shell.proofs.CallerLemmas.{program_sound, refuses_sound, settles_taken}
+pub use Rattle.spaced_lines.specs.declared.spaced_drawing.SpacedDrawing.{SpacedDrawing}

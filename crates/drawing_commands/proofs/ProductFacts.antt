@@ -1,17 +1,12 @@
 -- What the products of `snap` and `space` state: each part needs a field of its own.
 use Rattle.std.proofs.Common.{◌≡◌, List, ℕ, Ok, length}
-use Rattle.drawing_model.specs.Drawings.{DrawingValue}
+use Rattle.drawing_commands.proofs.Names.{DrawingValue, SnappedDrawing, drawing_of, SpacedDrawing, IsSnapProduct, IsSpaceProduct, space_report}
 use Rattle.drawing_repairs.specs.SecondSnaps.{StaysSnapped}
-use Rattle.drawing_repairs.specs.declared.snapping.SnappedDrawing.{SnappedDrawing}
-use Rattle.drawing_text.specs.DrawingText.{drawing_of}
 use Rattle.drawing_text.specs.DrawnTexts.{drawing_as_drawn}
 use Rattle.line_graph.specs.declared.piece.Piece.{Piece}
 use Rattle.line_graph.specs.PiecesOfDrawings.{ArePiecesOf}
 use Rattle.program_shell.specs.Products.{ProductValue, one_file_product}
-use Rattle.spaced_lines.specs.declared.spaced_drawing.SpacedDrawing.{SpacedDrawing}
-use Rattle.drawing_commands.specs.SnapOrders.{IsSnapProduct}
 use Rattle.drawing_commands.specs.SnapTexts.{snap_report}
-use Rattle.drawing_commands.specs.SpaceOrders.{IsSpaceProduct, space_report}
 use Rattle.drawing_commands.specs.WholeProducts.{IsWholeProduct, whole_text}
 
 -- The one file is the text with that report; it is read as the joined drawing, and its lines as they are drawn.

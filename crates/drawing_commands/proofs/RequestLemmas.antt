@@ -1,7 +1,6 @@
 -- The order of `edit`, where its arguments are edits.
 use Rattle.std.proofs.Common.{◌≡◌, ◌≤◌, ℕ, List, [], ◌∷◌, Option, Some, None, IsSome, length, refl, arith}
-use Rattle.std.specs.Prelude.{option_map}
-use Rattle.drawing_commands.proofs.Names.{unwrap_or, with_first_edit, DrawingEdit, drawing_edit_order, drawing_edits_of, parsed_drawing_edit, parsed_drawing_edits, DrawingOrder, edit_order_with, editing}
+use Rattle.drawing_commands.proofs.Names.{unwrap_or, with_first_edit, DrawingEdit, drawing_edit_order, drawing_edits_of, parsed_drawing_edit, parsed_drawing_edits, DrawingOrder, edit_order_with, editing, option_map}
 
 -- The order of `edit` by names and edits.
 abbrev edit_order : Option (List ℕ × List ℕ) → List DrawingEdit → Option DrawingOrder

@@ -1,8 +1,7 @@
 -- Lines in the order of their blocks are the lines of one block after another.
 use Rattle.std.proofs.Common.{◌≡◌, ℕ, suc, ◌+◌, ◌<◌, ◌≤◌, ◌==◌, Bool, true, false, List, [], ◌∷◌, ◌++◌, length, map, filter, if◌then◌else◌, refl, ap, sym, ◌∙◌, arith}
 use Rattle.std.specs.List.{All}
-use Rattle.drawing_edits.proofs.Names.{Decides-eqb, nat_tests, IsNonDecreasing, LineValue}
-use Rattle.lists_and_numbers.proofs.CallerLemmas.{differs}
+use Rattle.drawing_edits.proofs.Names.{Decides-eqb, nat_tests, IsNonDecreasing, LineValue, differs}
 
 abbrev pub in_block : ℕ → List LineValue → List LineValue
 in_block block lines = filter (λ line. line.block == block) lines

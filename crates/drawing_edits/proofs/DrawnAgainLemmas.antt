@@ -1,9 +1,7 @@
 -- Lines that can be drawn again block by block, in the order of their blocks, are the same lines.
 use Rattle.std.proofs.Common.{◌≡◌, ℕ, ◌+◌, ◌-◌, ◌==◌, Bool, true, false, List, [], ◌∷◌, ◌++◌, length, Result, Ok, Err, if◌then◌else◌, refl, ap, sym, subst, ◌∙◌, arith, append_assoc, append-nil}
-use Rattle.drawing_edits.proofs.Names.{Decides-eqb, nat_tests, length-append, line_added_if, with_blocks, with_lines_of, DrawKind, DrawingValue, and_then, empty_drawing, finished_drawing, is_last_empty, with_new_block, with_new_line, MAX_BLOCKS, LineValue}
-use Rattle.drawing_edits.specs.ValidRedraws.{LinesInOrderAreDrawn}
+use Rattle.drawing_edits.proofs.Names.{Decides-eqb, nat_tests, length-append, line_added_if, with_blocks, with_lines_of, DrawKind, DrawingValue, and_then, empty_drawing, finished_drawing, is_last_empty, with_new_block, with_new_line, MAX_BLOCKS, LineValue, LinesInOrderAreDrawn, steps_with_line}
 use Rattle.drawing_edits.proofs.BlockGroupLemmas.{grouped, in_block, in_order, rise_all}
-use Rattle.drawing_model.specs.GrowingDrawings.{steps_with_line}
 
 line_put : (a b : Bool) (x y : DrawKind) (steps : Result ℕ DrawKind) (new : DrawingValue)
     (more : DrawingValue → Result DrawingValue DrawKind) (e : DrawingValue)

@@ -1,15 +1,7 @@
 -- Edits keep starts and ends in the order of their blocks.
 use Rattle.std.proofs.Common.{◌≡◌, ◌<◌, ◌≤◌, ℕ, Bool, true, false, not, nat_lt, List, [], ◌∷◌, ◌++◌, length, map, take, drop, get_or, Result, Ok, Err, arith, refl, sym, ◌∙◌, ap, subst}
-use Rattle.std.proofs.lemmas.Bool.{ltb-false, ltb-true}
-use Rattle.std.proofs.lemmas.List.{drop-map, get_or-map, length-map, map-append, take-map}
-use Rattle.std.proofs.lemmas.List.Sorted.{IsNonDecreasingBy-insert}
-use Rattle.std.proofs.lemmas.List.Sums.{fails_before_first, passes_at_first, prefix_len-le-length}
-use Rattle.std.specs.List.{insert}
-use Rattle.drawing_edits.proofs.Names.{nat_tests, position_or_len, IsNonDecreasing, motion_map, Point, origin, DrawingValue, and_then, Spot, LineValue, EditFault, HasEndsOf, AreInBlockOrder, HasOrderedEnds, centred_drawing, with_moved_spot, drawn_from, end_placed, with_end_at, with_spot}
+use Rattle.drawing_edits.proofs.Names.{nat_tests, position_or_len, IsNonDecreasing, motion_map, Point, origin, DrawingValue, and_then, Spot, LineValue, EditFault, HasEndsOf, AreInBlockOrder, HasOrderedEnds, centred_drawing, with_moved_spot, drawn_from, end_placed, with_end_at, with_spot, ltb-false, ltb-true, drop-map, get_or-map, length-map, map-append, take-map, IsNonDecreasingBy-insert, fails_before_first, passes_at_first, prefix_len-le-length, insert, EditsKeepEndsByBlock, moved_drawing, lines_in_order}
 use Rattle.drawing_edits.specs.declared.drawing_edit.DrawingEdit.TheVariants as edit
-use Rattle.drawing_edits.specs.KeptEnds.{EditsKeepEndsByBlock}
-use Rattle.drawing_edits.specs.MovedDrawings.{moved_drawing}
-use Rattle.drawing_edits.specs.PieceOrders.{lines_in_order}
 use Rattle.drawing_edits.proofs.KeptEndLemmas.{answer_kept, placed_kept}
 
 -- The block of a spot.

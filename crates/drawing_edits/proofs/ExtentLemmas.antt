@@ -1,12 +1,9 @@
 -- The extent of needle points has needle points as its corners.
 use Rattle.std.proofs.Common.{◌≡◌, All, IfSome, List, [], ◌∷◌, Option, arith, subst, sym}
 use Rattle.std.proofs.lemmas.Int.{ints}
-use Rattle.std.proofs.lemmas.List.Elements.{All-append}
-use Rattle.drawing_edits.proofs.Names.{nat_tests, All-head, All-nil, All-tail, Point, IsLine, LineValue, IsNeedlePoint}
+use Rattle.drawing_edits.proofs.Names.{nat_tests, All-head, All-nil, All-tail, Point, IsLine, LineValue, IsNeedlePoint, All-append, IsNeedleExtent, points_of_lines}
 use Rattle.design_model.specs.declared.bounds.Extent.{Extent}
 use Rattle.design_model.specs.Extents.{extent_at, extent_of_points, grown_extent}
-use Rattle.drawing_edits.specs.MovedDrawings.{IsNeedleExtent}
-use Rattle.line_sections.specs.Lines.{points_of_lines}
 
 -- one more needle point
 with_point : (e : Extent) (at : Point) → IsNeedleExtent e → IsNeedlePoint at → IsNeedleExtent (grown_extent e (at ∷ []))

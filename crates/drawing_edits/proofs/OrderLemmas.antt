@@ -1,14 +1,8 @@
 -- The lines with a piece moved before a line are the lines of the drawing in another order.
 use Rattle.std.proofs.Common.{◌≡◌, ◌<◌, ◌≤◌, ℕ, ◌+◌, ◌-◌, ◌==◌, Bool, true, false, not, ◌&&◌, ◌||◌, cond, List, [], ◌∷◌, ◌++◌, length, map, filter, get_or, slice_get, Option, Some, None, option_map, Ok, Err, nat_lt, All, IsPermutation, append_assoc, arith, refl, sym, ◌∙◌, ap, subst}
-use Rattle.std.proofs.lemmas.List.Elements.{filter-append}
-use Rattle.std.proofs.lemmas.List.FromFn.{fill_by_all}
-use Rattle.std.proofs.lemmas.List.Sorted.{IsPermutation-append, IsPermutation-append_comm, IsPermutation-filter_both, IsPermutation-map, IsPermutation-refl, IsPermutation-trans}
 use Rattle.std.proofs.lemmas.Map.Keys.{any_passes_from_place}
-use Rattle.std.proofs.lemmas.Option.{get_or_from_slice_get, slice_get_within}
-use Rattle.drawing_edits.proofs.Names.{nat_tests, All-filter, All-head, All-tail, filter_passes, get_or-range_with_len, length-range_with_len, slice_get-get_or, slice_get-map, list_any, range_with_len, DrawingValue, optional_line_points, and_then, first_line, LineValue, are_in_one_piece, found_piece, is_first_of_piece, line_numbered, lines_outside, order_with_piece, ordered_lines, piece_of_line, pieces_in_order}
-use Rattle.drawing_model.specs.Drawings.{block_of, optional_line_block}
+use Rattle.drawing_edits.proofs.Names.{nat_tests, All-filter, All-head, All-tail, filter_passes, get_or-range_with_len, length-range_with_len, slice_get-get_or, slice_get-map, list_any, range_with_len, DrawingValue, optional_line_points, and_then, first_line, LineValue, are_in_one_piece, found_piece, is_first_of_piece, line_numbered, lines_outside, order_with_piece, ordered_lines, piece_of_line, pieces_in_order, filter-append, fill_by_all, IsPermutation-append, IsPermutation-append_comm, IsPermutation-filter_both, IsPermutation-map, IsPermutation-refl, IsPermutation-trans, get_or_from_slice_get, slice_get_within, block_of, optional_line_block, OrdersKeepLines, lines_with_piece}
 use Rattle.drawing_edits.specs.declared.edit_fault.EditFault.TheVariants as fault
-use Rattle.drawing_edits.specs.PieceOrders.{OrdersKeepLines, lines_with_piece}
 use Rattle.drawing_edits.proofs.RangeLemmas.{range_below, range_parts}
 
 -- Tests that agree on a list keep the same items of it.

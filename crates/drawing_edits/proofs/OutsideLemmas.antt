@@ -1,8 +1,6 @@
 -- The lines that are not in a piece, one after another.
 use Rattle.std.proofs.Common.{◌≡◌, ◌<◌, ℕ, ◌+◌, ◌==◌, Bool, true, false, not, List, [], ◌∷◌, ◌++◌, map, append_assoc, ap, sym, ◌∙◌}
-use Rattle.drawing_edits.proofs.Names.{list_any, LineValue, lines_outside}
-use Rattle.drawing_edits.specs.PieceOrders.{PiecesComeBefore}
-use Rattle.lists_and_numbers.proofs.CallerLemmas.{filter_skips, filter_takes}
+use Rattle.drawing_edits.proofs.Names.{list_any, LineValue, lines_outside, PiecesComeBefore, filter_skips, filter_takes}
 
 -- A line is not in a piece.
 abbrev is_outside : List ℕ → ℕ → Bool

@@ -1,20 +1,13 @@
 -- The pieces in order are the pieces of a drawing.
 use Rattle.std.proofs.Common.{◌≡◌, ◌≢◌, ◌<◌, ◌≤◌, inl, ℕ, ◌==◌, true, List, [], ◌∷◌, length, map, filter, get_or, Some, unwrap_or, All, Contains, arith, refl, sym, ◌∙◌, ap, subst}
-use Rattle.std.proofs.lemmas.List.Elements.{All-map}
 use Rattle.std.proofs.lemmas.List.Kept.{IsStrictlyIncreasing-filter}
-use Rattle.std.specs.List.Sorted.{IsStrictlyIncreasing}
-use Rattle.drawing_edits.proofs.Names.{nat_tests, All-contains, All-filter, All-head, All-tail, filter_passes, slice_get-get_or, concat, range_with_len, Point, origin, DrawingValue, KeepsDrawingLimits, optional_line_points, first_line, Spot, LineValue, are_in_one_piece, is_first_of_piece, piece_of_line, pieces_in_order}
-use Rattle.drawing_model.specs.Drawings.{first_point, points_of}
+use Rattle.drawing_edits.proofs.Names.{nat_tests, All-contains, All-filter, All-head, All-tail, filter_passes, slice_get-get_or, concat, range_with_len, Point, origin, DrawingValue, KeepsDrawingLimits, optional_line_points, first_line, Spot, LineValue, are_in_one_piece, is_first_of_piece, piece_of_line, pieces_in_order, All-map, IsStrictlyIncreasing, first_point, points_of, ArePieces, AreConnected, representative, spot_of_line, all_concat, concat_has, filter_has, map_has, number_found, range_rises, same_number}
 use Rattle.line_graph.specs.FirstLines.{IsLineEnd}
-use Rattle.line_graph.specs.Pieces.{ArePieces, AreConnected}
-use Rattle.drawing_model.specs.WalkEnds.{representative}
 use Rattle.line_graph.specs.ConnectedSpots.{SpotsAreConnected}
 use Rattle.line_sections.specs.Spots.{is_same_spot}
-use Rattle.drawing_edits.specs.PieceOrders.{spot_of_line}
 use Rattle.drawing_edits.proofs.RangeLemmas.{range_below, range_has}
 use Rattle.line_graph.proofs.CallerLemmas.{firsts_rise}
 use Rattle.line_sections.proofs.CallerLemmas.{same_spot, spot_found}
-use Rattle.lists_and_numbers.proofs.CallerLemmas.{all_concat, concat_has, filter_has, map_has, number_found, range_rises, same_number}
 
 -- A list of points begins at its first point.
 begins : (ps : List Point) → 2 ≤ length ps → first_point ps ≡ Some (unwrap_or (first_point ps) origin)

@@ -1,13 +1,9 @@
 -- Lemmas that this crate and those above cite.
 use Rattle.std.proofs.Common.{All, AllPairs, Bool, Err, IfOk, List, Ok, Result, Some, [], ap, arith, false, get_or, if◌then◌else◌, length, not, refl, suc, true, ℕ, ◌++◌, ◌+◌, ◌-◌, ◌<◌, ◌∷◌, ◌≡◌, ◌≢◌, ◌≤◌}
-use Rattle.std.proofs.lemmas.Bool.{false_from_ne_true, or_from}
 use Rattle.std.proofs.lemmas.List.{length-append}
 use Rattle.std.proofs.lemmas.List.FromFn.{length-map-range_with_len}
-use Rattle.drawing_model.proofs.Names.{nat_tests, All-cons, All-head, All-nil, All-tail, list_any_none, slice_get-get_or, list_any, is_same_point, Point, DrawingValue, HasNoRepeat, IsLine, KeepsDrawingLimits, last_point, optional_line_points, points_of, finished_drawing, has_repeated_point, is_last_empty, is_used, repeats_after, joined_drawing, needles_of_line, steps_of_line, needle_points, segment_points, segment_steps, AreInDifferentPieces, HasNoEnds, are_connected_spots, is_junction, spot_added, DrawKind, LineValue, Spot, HasNoRepeatAfter, AreCloseAfter, last_point_or, split_points, steps_of}
+use Rattle.drawing_model.proofs.Names.{nat_tests, All-cons, All-head, All-nil, All-tail, list_any_none, slice_get-get_or, list_any, is_same_point, Point, DrawingValue, HasNoRepeat, IsLine, KeepsDrawingLimits, last_point, optional_line_points, points_of, finished_drawing, has_repeated_point, is_last_empty, is_used, repeats_after, joined_drawing, needles_of_line, steps_of_line, needle_points, segment_points, segment_steps, AreInDifferentPieces, HasNoEnds, are_connected_spots, is_junction, spot_added, DrawKind, LineValue, Spot, HasNoRepeatAfter, AreCloseAfter, last_point_or, split_points, steps_of, false_from_ne_true, or_from, endpoints, and_then, point_on_segment}
 use Rattle.design_model.proofs.CallerLemmas.{point_itself, same_is}
-use Rattle.drawing_model.specs.Drawings.{endpoints}
-use Rattle.drawing_model.specs.GrowingDrawings.{and_then}
-use Rattle.step_splitter.specs.Steps.{point_on_segment}
 
 -- Equal points are found to be equal.
 pub same_found : (p q : Point) → p ≡ q → is_same_point p q ≡ true

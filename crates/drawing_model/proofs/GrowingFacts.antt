@@ -1,9 +1,8 @@
 -- Worked values of drawings that grow: what comes before the first block, and lines that may not come.
 use Rattle.std.proofs.Common.{◌≡◌, pos, negsuc, true, false, [], ◌∷◌, Ok, Err, codes, replicate, refl}
-use Rattle.drawing_model.proofs.Names.{DrawingValue, all_in_needle_range, empty_drawing, finished_drawing, line_added, with_new_block, with_new_line}
+use Rattle.drawing_model.proofs.Names.{DrawingValue, all_in_needle_range, empty_drawing, finished_drawing, line_added, with_new_block, with_new_line, block_added}
 use Rattle.drawing_model.proofs.Places.{place}
 use Rattle.drawing_model.specs.declared.draw_kind.DrawKind.TheVariants as kind
-use Rattle.drawing_model.specs.GrowingDrawings.{block_added}
 
 -- a drawing of one block, which has no line yet
 abbrev blank : DrawingValue

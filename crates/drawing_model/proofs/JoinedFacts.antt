@@ -1,8 +1,6 @@
 -- Worked values of joined drawings, whose lines are the sections of the lines before.
 use Rattle.std.proofs.Common.{◌≡◌, true, false, List, [], ◌∷◌, Ok, refl}
-use Rattle.drawing_model.proofs.Names.{LineValue, DrawingValue, joined_drawing}
-use Rattle.line_sections.specs.Sections.{lines_through}
-use Rattle.drawing_model.specs.JoinedDrawings.{is_joined}
+use Rattle.drawing_model.proofs.Names.{LineValue, DrawingValue, joined_drawing, lines_through, is_joined}
 use Rattle.drawing_model.proofs.NeedleFacts.{at}
 
 -- a drawing of these lines, in blocks of threads 5 and 6

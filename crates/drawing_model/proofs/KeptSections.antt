@@ -1,10 +1,6 @@
 -- The drawing of all sections keeps the limits of drawings.
 use Rattle.std.proofs.Common.{◌≡◌, ℕ, zero, suc, ◌<◌, ◌≤◌, inl, inr, true, false, nat_lt, List, [], ◌∷◌, ◌++◌, length, map, All, Contains, ap, sym, subst, ◌∙◌, refl, arith}
-use Rattle.std.proofs.lemmas.List.{get_or-map, length-map}
-use Rattle.std.proofs.lemmas.List.Elements.{Contains-append_cases}
-use Rattle.drawing_model.proofs.Names.{nat_tests, map-append, flat_map-cons, All-append, All-head, All-map, All-nil, All-tail, All-weaker, Contains-append_left, Contains-append_right, flat_map, IsNonDecreasing, Point, LineValue, SectionsHaveSegments, SectionsKeepSegments, WholeLinesStay, all_sections, is_shared_point, line_sections, sections_of, DrawingValue, IsLine, KeepsDrawingLimits, point_count, IsValidDrawing, HasValidEnds}
-use Rattle.line_sections.specs.Sections.{are_whole_lines}
-use Rattle.drawing_model.specs.JoinedDrawings.{JoinedDrawingsStay}
+use Rattle.drawing_model.proofs.Names.{nat_tests, map-append, flat_map-cons, All-append, All-head, All-map, All-nil, All-tail, All-weaker, Contains-append_left, Contains-append_right, flat_map, IsNonDecreasing, Point, LineValue, SectionsHaveSegments, SectionsKeepSegments, WholeLinesStay, all_sections, is_shared_point, line_sections, sections_of, DrawingValue, IsLine, KeepsDrawingLimits, point_count, IsValidDrawing, HasValidEnds, get_or-map, length-map, Contains-append_cases, are_whole_lines, JoinedDrawingsStay}
 use Rattle.drawing_model.proofs.SectionCosts.{cost_kept, sections_sew, some_sections}
 
 -- what holds of all sections

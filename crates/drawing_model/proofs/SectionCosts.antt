@@ -1,10 +1,6 @@
 -- What sections have because they have the segments of their lines: they cost the same, and can be sewn.
 use Rattle.std.proofs.Common.{◌≡◌, ◌≢◌, ℕ, ◌≤◌, Bool, List, [], ◌∷◌, ◌++◌, length, All, sum_by, ap, sym, subst, ◌∙◌, refl, arith}
-use Rattle.std.proofs.lemmas.List.Concat.{flat_map-append}
-use Rattle.std.proofs.lemmas.List.Folds.{flat_map-map}
-use Rattle.std.proofs.lemmas.List.Sums.{sum_by-cons}
-use Rattle.drawing_model.proofs.Names.{nat_tests, flat_map-cons, All-cons, All-head, All-nil, All-tail, sum_by-append, flat_map, Point, IsNeedlePoint, HasNoRepeatAfter, steps_of, LineValue, SectionsHaveSegments, SectionsKeepSegments, all_sections, is_shared_point, line_sections, sections_of, IsLine, step_count, steps_of_line, segment_steps}
-use Rattle.line_sections.specs.Sections.{segments_from, segments_of}
+use Rattle.drawing_model.proofs.Names.{nat_tests, flat_map-cons, All-cons, All-head, All-nil, All-tail, sum_by-append, flat_map, Point, IsNeedlePoint, HasNoRepeatAfter, steps_of, LineValue, SectionsHaveSegments, SectionsKeepSegments, all_sections, is_shared_point, line_sections, sections_of, IsLine, step_count, steps_of_line, segment_steps, flat_map-append, flat_map-map, sum_by-cons, segments_from, segments_of}
 
 -- the steps of a segment
 abbrev steps_along : ℕ → Point × Point → ℕ

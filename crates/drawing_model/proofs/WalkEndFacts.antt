@@ -1,9 +1,8 @@
 -- Starts and ends, worked out by hand: an angle of two lines and a stroke in one block, a stroke at the angle's first
 -- point in the next one.
 use Rattle.std.proofs.Common.{◌≡◌, ℕ, pos, true, false, List, [], ◌∷◌, Ok, Err, refl}
-use Rattle.drawing_model.proofs.Names.{Point, Spot, LineValue, DrawingValue, are_connected_spots, is_junction}
+use Rattle.drawing_model.proofs.Names.{Point, Spot, LineValue, DrawingValue, are_connected_spots, is_junction, end_added, start_added, walk_end_added}
 use Rattle.drawing_model.specs.declared.draw_kind.DrawKind.TheVariants as kind
-use Rattle.drawing_model.specs.WalkEnds.{end_added, start_added, walk_end_added}
 
 abbrev at : ℕ → ℕ → Point
 at x y = record { x = pos x; y = pos y }

@@ -1,9 +1,9 @@
 -- Worked values of bands, by hand.
 use Rattle.std.proofs.Common.{◌≡◌, ℕ, ℤ, pos, negsuc, List, [], ◌∷◌, ◌++◌, codes, map, refl}
 use Rattle.std.specs.Fmt.{digits}
-use Rattle.drawing_picture.proofs.Names.{Point, band_length, Band, bands_from, band_text, Cut}
+use Rattle.drawing_picture.proofs.Names.{Point, band_length, Band, bands_from, band_text, Cut, colour_of_cut}
 use Rattle.drawing_picture.specs.Bands.{half_steps}
-use Rattle.drawing_picture.specs.BandTexts.{band_start, colour_of_cut, way_point}
+use Rattle.drawing_picture.specs.BandTexts.{band_start, way_point}
 use Rattle.picture_parts.specs.Parts.{around, filled}
 use Rattle.picture_parts.specs.Paths.{path_end}
 

@@ -1,17 +1,10 @@
 -- Certificates without a fault can be sewn, and what they sew is least redwork.
 use Rattle.std.proofs.Common.{◌≡◌, ◌≤◌, ◌<◌, ℕ, suc, ◌+◌, ◌*◌, List, [], ◌∷◌, None, length, map, All, Contains, sum_by, arith, refl, ap, subst, ◌∙◌}
-use Rattle.std.proofs.lemmas.List.{length-map}
-use Rattle.std.proofs.lemmas.List.Elements.{All-cons, All-contains, All-nil}
-use Rattle.std.specs.List.{AllZip, concat}
-use Rattle.drawing_picture.proofs.Names.{All-head, All-tail, sum_by-cons, PieceCert, DesignValue, IsFirstFault, bands_of_pieces, retraced_steps, Piece, DrawingValue, PieceValue, piece_graph, ArePiecesOf, graph_of, lines_of_pieces, IsValidPiece, count_reason, piece_reason, pieces_reason}
+use Rattle.drawing_picture.proofs.Names.{All-head, All-tail, sum_by-cons, PieceCert, DesignValue, IsFirstFault, bands_of_pieces, retraced_steps, Piece, DrawingValue, PieceValue, piece_graph, ArePiecesOf, graph_of, lines_of_pieces, IsValidPiece, count_reason, piece_reason, pieces_reason, length-map, All-cons, All-contains, All-nil, AllZip, concat, total_weight, AreSewn, IsShownProof, RightCertificatesAreSewn, certificate_reason, proof_of_design, KeepsDrawingLimits, IsCorrectPieceCert, IsCorrectRoute, commands_count}
 use Rattle.odd_cuts.specs.Certificates.{walks_of}
-use Rattle.odd_cuts.specs.Cuts.{total_weight}
 use Rattle.odd_cuts.specs.FaultTheorems.{CutFaultsAreExact, WalkFaultsAreExact}
 use Rattle.odd_cuts.specs.PackingBounds.{BoundsTotal, BoundsWalks}
-use Rattle.drawing_picture.specs.CheckedProofs.{AreSewn, IsShownProof, RightCertificatesAreSewn, certificate_reason}
-use Rattle.drawing_picture.specs.ProofPictures.{proof_of_design}
 use Rattle.line_graph.specs.declared.pass.Pass.{Pass}
-use Rattle.drawing_model.specs.Drawings.{KeepsDrawingLimits}
 use Rattle.line_graph.specs.DrawnWalks.{PiecesAreValid}
 use Rattle.line_graph.specs.PieceWalks.{piece_cost, walk_cost}
 use Rattle.line_graph.specs.Runs.{HasNeedle, Run, RunsAreSewn, run_of, runs_of, sewn_design}
@@ -19,9 +12,7 @@ use Rattle.line_graph.specs.SewnWalks.{ArePiecesWithin, FittingWalksAreSewable, 
 use Rattle.line_graph.specs.UniquePieces.{PiecesAreUnique}
 use Rattle.line_graph.specs.Walks.{needles_of_walk}
 use Rattle.route_verdict.specs.SewingSteps.{AllDrawn, AreDrawn}
-use Rattle.route_verdict.specs.Verdicts.{IsCorrectPieceCert, IsCorrectRoute}
 use Rattle.route_verdict.specs.VerdictTheorems.{CorrectRoutesAreAccepted, YesIsLeastRedwork}
-use Rattle.line_graph.proofs.CallerLemmas.{commands_count}
 use Rattle.lists_and_numbers.proofs.CallerLemmas.{below_left, below_right}
 use Rattle.odd_cuts.proofs.CallerLemmas.{both_none}
 use Rattle.route_verdict.proofs.CallerLemmas.{count_none, piece_correct}

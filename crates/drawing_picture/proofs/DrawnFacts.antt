@@ -1,12 +1,11 @@
 -- Worked values of the picture of a drawing, by hand.
 use Rattle.std.proofs.Common.{◌≡◌, pos, negsuc, true, false, [], ◌∷◌, ◌++◌, Some, None, codes, refl}
 use Rattle.std.specs.Fmt.{digits}
-use Rattle.drawing_picture.proofs.Names.{flat_map, junction_dot, thread_lines, loose_points, marks_of_piece, odd_marks, line_paths, PieceValue}
+use Rattle.drawing_picture.proofs.Names.{flat_map, junction_dot, thread_lines, loose_points, marks_of_piece, odd_marks, line_paths, PieceValue, points_of_lines}
 use Rattle.design_model.specs.Extents.{extent_of_points}
 use Rattle.design_picture.specs.Captions.{block_start}
 use Rattle.drawing_picture.specs.DrawingCaptions.{counts_text, thread_end}
 use Rattle.drawing_review.specs.declared.place.PlaceKind.TheVariants as place
-use Rattle.line_sections.specs.Lines.{points_of_lines}
 use Rattle.picture_parts.specs.Colours.{colour_of_thread}
 use Rattle.picture_parts.specs.Marks.{mark_text, shape_at}
 use Rattle.picture_parts.specs.Parts.{around, filled}

@@ -1,10 +1,9 @@
 -- The picture of the pieces that are found is that of the drawing.
 use Rattle.std.proofs.Common.{◌≡◌, ℕ, suc, List, [], ◌∷◌, length, map, ap, ◌∙◌, refl}
-use Rattle.drawing_picture.proofs.Names.{Point, JunctionMark, loose_points, marks_of_pieces, Piece, DrawingValue, PieceValue, piece_graph, ArePiecesOf, graph_of, lines_of_pieces}
+use Rattle.drawing_picture.proofs.Names.{Point, JunctionMark, loose_points, marks_of_pieces, Piece, DrawingValue, PieceValue, piece_graph, ArePiecesOf, graph_of, lines_of_pieces, LineValue}
 use Rattle.drawing_picture.specs.declared.loose_ends.TheConstants.{LOOSE_GAP}
 use Rattle.drawing_picture.specs.DrawingPictures.{IsDrawingPicture, drawing_with, picture_of_pieces}
 use Rattle.drawing_review.specs.Places.{places_of_lines}
-use Rattle.line_sections.specs.Lines.{LineValue}
 use Rattle.drawing_picture.proofs.CertificateLemmas.{graphs_are}
 
 counted : (pieces : List Piece) → length pieces ≡ length (map graph_of pieces)

@@ -1,11 +1,9 @@
 -- The verdict on a design without acts has the first fault of the certificate.
 use Rattle.std.proofs.Common.{◌≡◌, ℕ, ◌+◌, List, [], ◌∷◌, Option, Some, None, arith, length, refl, ap, sym, ◌∙◌, map}
-use Rattle.drawing_picture.proofs.Names.{nat_tests, PieceCert, DesignValue, IsFirstFault, DrawingValue, PieceValue, piece_graph, count_reason, piece_reason, pieces_reason}
+use Rattle.drawing_picture.proofs.Names.{nat_tests, PieceCert, DesignValue, IsFirstFault, DrawingValue, PieceValue, piece_graph, count_reason, piece_reason, pieces_reason, reason_before_acts, IsVerdict, acts_reason, difference_of, verdict_of_reason}
 use Rattle.odd_cuts.specs.Faults.{first_fault}
-use Rattle.drawing_picture.specs.CheckedProofs.{reason_before_acts}
 use Rattle.route_verdict.specs.declared.verdict.Reason.{Reason}
 use Rattle.route_verdict.specs.declared.verdict.Verdict.{Verdict}
-use Rattle.route_verdict.specs.Verdicts.{IsVerdict, acts_reason, difference_of, verdict_of_reason}
 
 -- a reason that is no act of the design, if any
 abbrev IsEarly : Option Reason → Type 0

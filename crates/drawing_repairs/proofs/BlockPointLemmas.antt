@@ -1,8 +1,7 @@
 -- What a test holds of, over the points of a block: the points that move, the ends of lines, and the points that lines list.
 use Rattle.std.proofs.Common.{◌≡◌, ℕ, zero, suc, ◌==◌, Bool, true, false, List, [], ◌∷◌, ◌++◌, map, filter, if◌then◌else◌, refl, ap, sym, subst, ◌∙◌, arith}
-use Rattle.std.proofs.lemmas.List.Folds.{list_all-map}
 use Rattle.std.specs.List.{All}
-use Rattle.drawing_repairs.proofs.Names.{Decides-eqb, nat_tests, list_all-append, flat_map, list_all, Point, is_same_point, LineValue, listed_in, last_point_or, endpoints, anchored, block_ends, listed_line, block_anchors, moved_line, unrepeated, unrepeated_after, first_true, second_true, and_from}
+use Rattle.drawing_repairs.proofs.Names.{Decides-eqb, nat_tests, list_all-append, flat_map, list_all, Point, is_same_point, LineValue, listed_in, last_point_or, endpoints, anchored, block_ends, listed_line, block_anchors, moved_line, unrepeated, unrepeated_after, first_true, second_true, and_from, list_all-map}
 use Rattle.drawing_repairs.specs.MovedLines.{moved_points}
 use Rattle.drawing_repairs.proofs.ListingLemmas.{ends_alone}
 

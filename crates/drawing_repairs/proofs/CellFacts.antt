@@ -1,7 +1,6 @@
 -- Worked values of cells: their sides, the cells of points, and the cells that a square reaches, with a gap of 2.
 use Rattle.std.proofs.Common.{◌≡◌, ℕ, pos, negsuc, true, false, List, [], ◌∷◌, Some, None, unsigned_abs, refl, ap}
-use Rattle.drawing_repairs.proofs.Names.{Point, Cell, AreInCells, cell_of, cell_side, is_same_cell, reaches_cell}
-use Rattle.drawing_repairs.specs.Cells.{AddsWhere}
+use Rattle.drawing_repairs.proofs.Names.{Point, Cell, AreInCells, cell_of, cell_side, is_same_cell, reaches_cell, AddsWhere}
 
 abbrev place : ℕ → ℕ → Point
 place x y = record { x = pos x; y = pos y }

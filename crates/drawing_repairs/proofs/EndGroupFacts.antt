@@ -1,7 +1,6 @@
 -- Worked values of bounds, for ends at 0 0 and 10 5: the origin is 30,000 from the least coordinates.
 use Rattle.std.proofs.Common.{◌≡◌, ℕ, pos, negsuc, true, false, [], ◌∷◌, refl, arith}
-use Rattle.drawing_repairs.proofs.Names.{Point, GridPoint, EndBounds, AreBetween, is_beyond_gap, widened_bounds, segment_between}
-use Rattle.drawing_repairs.specs.EndGroups.{frame_beyond}
+use Rattle.drawing_repairs.proofs.Names.{Point, GridPoint, EndBounds, AreBetween, is_beyond_gap, widened_bounds, segment_between, frame_beyond}
 
 abbrev spot_at : ℕ → ℕ → Point
 spot_at x y = record { x = pos x; y = pos y }

@@ -1,12 +1,11 @@
 -- A point that a block lists moves to a point that the block of the snapped lines lists, and starts and ends move once.
 use Rattle.std.proofs.Common.{◌≡◌, ℕ, zero, suc, ◌==◌, Bool, true, false, ◌||◌, List, [], ◌∷◌, ◌++◌, map, filter, Option, Some, None, Ok, if◌then◌else◌, refl, ap, sym, subst, ◌∙◌, arith}
 use Rattle.std.specs.List.{All}
-use Rattle.drawing_repairs.proofs.Names.{Decides-eqb, nat_tests, list_any-append, flat_map, list_any, Point, is_same_point, Spot, LineValue, listed_in, anchored_spots, anchored, FollowedLine, due_end, followed_by, followed_for, followed_on, followed_points, listed_line, listed_lines, segment_between, steps_to_follow, unfollowed_line, with_due_ends, block_anchors, moved_line, moved_lines, unrepeated, unrepeated_after, vanished_from, snapped_lines, point_itself, same_is}
+use Rattle.drawing_repairs.proofs.Names.{Decides-eqb, nat_tests, list_any-append, flat_map, list_any, Point, is_same_point, Spot, LineValue, listed_in, anchored_spots, anchored, FollowedLine, due_end, followed_by, followed_for, followed_on, followed_points, listed_line, listed_lines, segment_between, steps_to_follow, unfollowed_line, with_due_ends, block_anchors, moved_line, moved_lines, unrepeated, unrepeated_after, vanished_from, snapped_lines, point_itself, same_is, either_way}
 use Rattle.drawing_repairs.specs.MovedLines.{moved_points}
 use Rattle.drawing_repairs.proofs.BlockPointLemmas.{changed_block, points_by}
 use Rattle.drawing_repairs.proofs.ListedOnceLemmas.{joined_again}
 use Rattle.drawing_repairs.proofs.SnappedLinesLemmas.{snapped_points_stay, one_holds, taken}
-use Rattle.lists_and_numbers.proofs.CallerLemmas.{either_way}
 
 merged : (a b c : Bool) → b ≡ a → (a || (b || c)) ≡ true → (a || c) ≡ true
 merged a b c h1 h2 = grind (arith, nat_tests)

@@ -1,12 +1,9 @@
 -- No point of a line repeats the one before: after it was moved, and after ends were put into it.
 use Rattle.std.proofs.Common.{◌≡◌, ◌≢◌, ℕ, Bool, true, false, List, [], ◌∷◌, ◌++◌, map, Option, Some, None, if◌then◌else◌, refl, ap, sym, subst, ◌∙◌, arith}
-use Rattle.drawing_model.specs.GrowingDrawings.{repeats_after}
+use Rattle.drawing_repairs.proofs.Names.{nat_tests, list_any-append, list_any, Point, is_same_point, has_repeated_point, anchored, FollowedLine, due_end, followed_by, followed_points, segment_between, steps_to_follow, unfollowed_line, with_due_ends, unrepeated, unrepeated_after, same_is, or_parts, repeats_after, same_back, or_from}
 use Rattle.drawing_repairs.specs.MovedLines.{moved_points}
 use Rattle.drawing_repairs.proofs.DueLemmas.{due_is}
 use Rattle.drawing_repairs.proofs.ListedOnceLemmas.{HaveSamePoints, joined_again, same_after}
-use Rattle.design_model.proofs.CallerLemmas.{same_back}
-use Rattle.std.proofs.lemmas.Bool.{or_from}
-use Rattle.drawing_repairs.proofs.Names.{nat_tests, list_any-append, list_any, Point, is_same_point, has_repeated_point, anchored, FollowedLine, due_end, followed_by, followed_points, segment_between, steps_to_follow, unfollowed_line, with_due_ends, unrepeated, unrepeated_after, same_is, or_parts}
 use Rattle.drawing_repairs.proofs.FollowLemmas.{after_steps}
 
 differ : (p q : Point) (b : Bool) → is_same_point p q ≡ b → p ≢ q → b ≡ false

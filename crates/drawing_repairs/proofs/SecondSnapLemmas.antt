@@ -1,24 +1,16 @@
 -- A drawing that was snapped stays as it is when it is snapped again.
 use Rattle.std.proofs.Common.{◌≡◌, ℕ, ◌<◌, ◌==◌, ◌&&◌, Bool, true, false, cond, List, [], ◌∷◌, Option, Some, None, Result, Ok, Err, length, get_or, map, filter, All, refl, ap, sym, subst, ◌∙◌, arith, if◌then◌else◌}
 use Rattle.std.proofs.Math.Path.{ap₂}
-use Rattle.std.proofs.lemmas.Bool.{and_parts}
 use Rattle.std.proofs.lemmas.List.Concat.{flat_map-cons}
-use Rattle.std.proofs.lemmas.List.Elements.{All-append, All-cons, All-head, All-map, All-nil, All-tail, All-weaker}
-use Rattle.std.proofs.lemmas.List.Folds.{Any-from_list_any}
 use Rattle.std.specs.List.Sorted.{IsNonDecreasing}
-use Rattle.drawing_repairs.proofs.Names.{nat_tests, flat_map, list_any, Point, is_same_point, DrawingValue, endpoints, and_then, Spot, LineValue, listed_in, last_point_or, SnapFault, SnappedDrawing, VanishedLine, anchored_spots, anchored, listed_line, listed_lines, block_anchors, changed_in, moved_line, moved_lines, vanished_from, snap_of, snapped_lines, unless_vanished, same_is}
+use Rattle.drawing_repairs.proofs.Names.{nat_tests, flat_map, list_any, Point, is_same_point, DrawingValue, endpoints, and_then, Spot, LineValue, listed_in, last_point_or, SnapFault, SnappedDrawing, VanishedLine, anchored_spots, anchored, listed_line, listed_lines, block_anchors, changed_in, moved_line, moved_lines, vanished_from, snap_of, snapped_lines, unless_vanished, same_is, and_parts, All-append, All-cons, All-head, All-map, All-nil, All-tail, All-weaker, Any-from_list_any, KeepsDrawingLimits, all_sections, has_points, is_shared_point, line_sections, sections_from, sections_of, sections_with_first, SnappedDrawingsStay, joined_snap, kept_lines, snap_value, within_limits, all_left, all_right}
 use Rattle.drawing_edits.specs.RedrawnDrawings.{drawn_lines, with_starts_and_ends}
 use Rattle.drawing_model.specs.declared.draw_kind.DrawKind.{DrawKind}
-use Rattle.drawing_model.specs.Drawings.{KeepsDrawingLimits}
 use Rattle.drawing_model.specs.JoinedDrawings.{joined_drawing}
 use Rattle.drawing_model.specs.WalkEnds.{HasNoEnds, has_end_at_spot, is_junction}
-use Rattle.line_sections.specs.Sections.{all_sections, has_points, is_shared_point, line_sections, sections_from, sections_of, sections_with_first}
 use Rattle.drawing_edits.specs.ValidRedraws.{LinesInOrderAreDrawn}
-use Rattle.drawing_repairs.specs.SecondSnaps.{SnappedDrawingsStay}
-use Rattle.drawing_repairs.specs.Snaps.{joined_snap, kept_lines, snap_value, within_limits}
 use Rattle.drawing_edits.proofs.CallerLemmas.{joined_with}
 use Rattle.drawing_repairs.proofs.SnappedLinesLemmas.{none_moves, nothing_changes, snapped_points_stay, twice_is_once}
-use Rattle.lists_and_numbers.proofs.CallerLemmas.{all_left, all_right}
 
 -- a result of two steps has one of the first
 then_parts : {A B F : Type 0} (r : Result A F) (more : A → Result B F) (b : B) → and_then r more ≡ Ok b

@@ -1,8 +1,7 @@
 -- Points of a block that moved stay where they are when they move to the anchors of the moved points.
 use Rattle.std.proofs.Common.{◌≡◌, ℕ, ◌≤◌, suc, Bool, true, false, List, [], ◌∷◌, ◌++◌, Option, Some, None, if◌then◌else◌, refl, arith}
-use Rattle.std.proofs.lemmas.List.Elements.{All-push}
 use Rattle.std.specs.List.{All}
-use Rattle.drawing_repairs.proofs.Names.{list_any, Point, anchored, anchors_after, anchors_of, distance_between, is_within_gap, nearest_anchor, point_or, with_anchor}
+use Rattle.drawing_repairs.proofs.Names.{list_any, Point, anchored, anchors_after, anchors_of, distance_between, is_within_gap, nearest_anchor, point_or, with_anchor, All-push}
 use Rattle.drawing_repairs.proofs.MoveLemmas.{HoldsOfChoice, moves_within, nearest_holds}
 
 one_holds : (P : Point → Type 0) (anchors : List Point) (p : Point) (b : Bool) → All P anchors → P p

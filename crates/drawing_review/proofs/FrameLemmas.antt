@@ -1,8 +1,6 @@
 -- Frames that lie inside others.
 use Rattle.std.proofs.Common.{◌≡◌, ◌≤◌, ℕ, true, ◌||◌, nat_lt, arith}
-use Rattle.std.proofs.lemmas.Bool.{lt-ltb, ltb-true}
-use Rattle.drawing_review.specs.declared.frame.Frame.{Frame}
-use Rattle.drawing_review.specs.Frames.{IsInside, are_apart, united_frame}
+use Rattle.drawing_review.proofs.Names.{lt-ltb, ltb-true, Frame, IsInside, are_apart, united_frame}
 use Rattle.lists_and_numbers.proofs.CallerLemmas.{either_way}
 
 -- A frame that is apart from another is apart from what lies inside that.

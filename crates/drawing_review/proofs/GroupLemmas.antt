@@ -1,15 +1,9 @@
 -- Segments outside of the frame of a question don't match it.
 use Rattle.std.proofs.Common.{◌≡◌, ◌++◌, ℕ, Bool, true, false, ◌||◌, List, [], ◌∷◌, refl, sym, subst, ◌∙◌, ap}
-use Rattle.std.proofs.lemmas.Bool.{and_left, not_from_true, or_from}
 use Rattle.std.proofs.lemmas.List.Folds.{list_any-append}
-use Rattle.std.specs.List.{list_any}
-use Rattle.drawing_review.specs.declared.frame.Frame.{Frame}
+use Rattle.drawing_review.proofs.Names.{and_left, not_from_true, or_from, list_any, Frame, LineSegment, IsInside, are_apart, united_frame, AreInside, is_match, query_frame}
 use Rattle.drawing_review.specs.declared.query.Query.{Query}
 use Rattle.drawing_review.specs.declared.query.Query.TheVariants as query
-use Rattle.drawing_review.specs.declared.segment.LineSegment.{LineSegment}
-use Rattle.drawing_review.specs.Frames.{IsInside, are_apart, united_frame}
-use Rattle.drawing_review.specs.Groups.{AreInside}
-use Rattle.drawing_review.specs.Queries.{is_match, query_frame}
 use Rattle.drawing_review.proofs.FrameLemmas.{apart_inside, first_inside, inside_itself, second_inside}
 
 pub unmatched : (q : Query) (t : LineSegment) → are_apart (query_frame q) t.frame ≡ true → is_match q t ≡ false

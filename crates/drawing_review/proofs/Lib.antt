@@ -1,3 +1,4 @@
+pub mod Names
 mod ReviewFacts
 mod FrameLemmas
 mod GroupLemmas

@@ -1,17 +1,10 @@
 -- The places of lines are those of their segments, which may be looked through in any order.
 use Rattle.std.proofs.Common.{◌≡◌, ◌++◌, ℕ, Bool, List, [], ◌∷◌, ◌∙◌, ap, refl, sym, if◌then◌else◌}
-use Rattle.std.specs.List.{flat_map, list_any}
 use Rattle.std.specs.List.Sorted.{IsPermutation}
 use Rattle.std.proofs.lemmas.List.Sorted.{list_any-IsPermutation}
-use Rattle.design_model.specs.declared.point.Point.{Point}
-use Rattle.line_sections.specs.Lines.{LineValue}
+use Rattle.drawing_review.proofs.Names.{flat_map, list_any, Point, LineValue, Place, LineSegment, is_short_segment, place_if, places_at, places_inside, places_of_end, places_of_lines, crosses_earlier, is_missed, is_unlisted_at, repeats_earlier, segments_of_lines}
 use Rattle.drawing_review.specs.declared.grid_point.GridPoint.{GridPoint}
-use Rattle.drawing_review.specs.declared.place.Place.{Place}
 use Rattle.drawing_review.specs.declared.place.PlaceKind.TheVariants as place
-use Rattle.drawing_review.specs.declared.segment.LineSegment.{LineSegment}
-use Rattle.drawing_review.specs.Places.{is_short_segment, place_if, places_at, places_inside, places_of_end, places_of_lines}
-use Rattle.drawing_review.specs.Queries.{crosses_earlier, is_missed, is_unlisted_at, repeats_earlier}
-use Rattle.drawing_review.specs.Segments.{segments_of_lines}
 
 end_same : (gap : ℕ) (xs ys : List LineSegment) → IsPermutation xs ys → (s : LineSegment) (p : Point) (at : GridPoint)
     → places_of_end gap ys s p at ≡ places_of_end gap xs s p at

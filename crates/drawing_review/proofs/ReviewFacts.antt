@@ -1,18 +1,11 @@
 -- Worked values of places: small drawings with a step of 10 and a gap of 2.
 use Rattle.std.proofs.Common.{◌≡◌, ℕ, pos, negsuc, true, false, List, [], ◌∷◌, ◌++◌, refl}
-use Rattle.design_model.specs.declared.point.Point.{Point}
-use Rattle.line_sections.specs.Lines.{LineValue}
+use Rattle.drawing_review.proofs.Names.{Point, LineValue, Frame, Place, LineSegment, are_apart, frame_around, frame_between, grid_coordinate, grid_point, drawn_segment, is_short_segment, places_of_lines}
 use Rattle.line_sections.specs.Sections.{lines_through}
-use Rattle.drawing_review.specs.declared.frame.Frame.{Frame}
-use Rattle.drawing_review.specs.declared.place.Place.{Place}
 use Rattle.drawing_review.specs.declared.place.PlaceKind.{PlaceKind}
 use Rattle.drawing_review.specs.declared.place.PlaceKind.TheVariants as place
 use Rattle.drawing_review.specs.declared.segment.Position.{Position}
-use Rattle.drawing_review.specs.declared.segment.LineSegment.{LineSegment}
-use Rattle.drawing_review.specs.Frames.{are_apart, frame_around, frame_between, grid_coordinate, grid_point}
 use Rattle.drawing_review.specs.Meetings.{cross_inside, is_near, repeats_segment}
-use Rattle.drawing_review.specs.Segments.{drawn_segment}
-use Rattle.drawing_review.specs.Places.{is_short_segment, places_of_lines}
 
 abbrev at : ℕ → ℕ → Point
 at x y = record { x = pos x; y = pos y }

@@ -1,9 +1,8 @@
 -- A worked value of the canonical text.
 use Rattle.std.proofs.Common.{◌≡◌, ℤ, pos, negsuc, [], ◌∷◌, ◌++◌, map, codes, refl}
 use Rattle.std.specs.Fmt.{digits}
-use Rattle.drawing_text.proofs.Names.{Point, DrawingValue, header_text, canonical_text2}
+use Rattle.drawing_text.proofs.Names.{Point, DrawingValue, header_text, canonical_text2, canonical_text}
 use Rattle.drawing_text.specs.declared.version.Version.TheVariants as version
-use Rattle.drawing_text.specs.CanonicalTexts.{canonical_text}
 
 abbrev pub place : ℤ → ℤ → Point
 place x y = record { x = x; y = y }

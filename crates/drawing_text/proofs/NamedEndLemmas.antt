@@ -1,17 +1,9 @@
 -- The starts and ends that a canonical text names: those of the drawing, in order, and the drawing with them.
 use Rattle.std.proofs.Common.{◌≡◌, ℕ, suc, ◌+◌, ◌<◌, ◌==◌, Bool, true, false, not, List, [], ◌∷◌, ◌++◌, Result, Ok, length, map, All, ap, sym, subst, ◌∙◌, refl, append_assoc, append-nil, arith}
-use Rattle.std.proofs.lemmas.List.Folds.{Any-from_list_any}
-use Rattle.std.specs.List.{AllPairs}
-use Rattle.drawing_text.proofs.Names.{ap₂, and_parts, nat_tests, All-cons, All-head, All-nil, All-tail, list_any, Point, Spot, LineValue, DrawKind, DrawingValue, IsLine, and_then, AreInDifferentPieces, is_junction, walk_end_added, IsNeedlePoint, DrawFault, WalkEnd, at_line, drawing_with_ends, AreInBlockOrder}
-use Rattle.design_model.specs.Points.{is_same_point}
-use Rattle.drawing_model.specs.Drawings.{endpoints}
-use Rattle.drawing_model.specs.WalkEnds.{has_end_at_spot}
-use Rattle.step_splitter.specs.Chains.{last_point_or}
+use Rattle.drawing_text.proofs.Names.{ap₂, and_parts, nat_tests, All-cons, All-head, All-nil, All-tail, list_any, Point, Spot, LineValue, DrawKind, DrawingValue, IsLine, and_then, AreInDifferentPieces, is_junction, walk_end_added, IsNeedlePoint, DrawFault, WalkEnd, at_line, drawing_with_ends, AreInBlockOrder, Any-from_list_any, AllPairs, is_same_point, endpoints, has_end_at_spot, last_point_or, same_is, spot_comes}
 use Rattle.drawing_text.proofs.PrintedBlocks.{Rises, all_below, items_below, items_in, more_below, none_first, rises_of}
 use Rattle.drawing_text.proofs.PrintedDrawings.{ended, found_from, found_in}
 use Rattle.drawing_text.proofs.PrintedEnds.{end_at, unnumbered}
-use Rattle.design_model.proofs.CallerLemmas.{same_is}
-use Rattle.drawing_model.proofs.CallerLemmas.{spot_comes}
 use Rattle.step_splitter.proofs.CallerLemmas.{last_in_range}
 
 abbrev put_if : Bool → Spot → List Spot → List Spot

@@ -1,10 +1,7 @@
 -- Items of blocks, such as the lines, the starts and the ends of a drawing, block by block.
 use Rattle.std.proofs.Common.{◌≡◌, ℕ, suc, ◌+◌, ◌<◌, ◌≤◌, ◌==◌, Bool, true, false, nat_lt, List, [], ◌∷◌, ◌++◌, length, map, get_or, filter, All, Contains, inl, inr, ap, sym, ◌∙◌, refl, arith}
-use Rattle.std.proofs.lemmas.Bool.{cases_order, or_right}
-use Rattle.std.proofs.lemmas.List.{get_or-map, length-map}
-use Rattle.std.proofs.lemmas.List.Folds.{list_any-append, list_any_at}
 use Rattle.std.proofs.lemmas.Map.Views.{any-filter_same}
-use Rattle.drawing_text.proofs.Names.{nat_tests, All-head, All-tail, All-weaker, list_any, IsNonDecreasing, LineValue, DrawingValue, KeepsDrawingLimits, lines_of_block}
+use Rattle.drawing_text.proofs.Names.{nat_tests, All-head, All-tail, All-weaker, list_any, IsNonDecreasing, LineValue, DrawingValue, KeepsDrawingLimits, lines_of_block, cases_order, or_right, get_or-map, length-map, list_any-append, list_any_at}
 
 -- the items of the blocks before that one
 abbrev pub items_below : {A : Type 0} → (A → ℕ) → ℕ → List A → List A

@@ -1,16 +1,12 @@
 -- A canonical text is read line by line: what its draft means at the end is what the text means.
 use Rattle.std.proofs.Common.{◌≡◌, ◌≢◌, ℕ, zero, suc, ◌+◌, ◌-◌, ◌<◌, ◌≤◌, ◌==◌, Bool, true, false, not, nat_lt, List, [], ◌∷◌, ◌++◌, Result, Ok, length, map, codes, sum_by, All, ap, sym, subst, ◌∙◌, refl, append_assoc, append-nil, length-append, arith}
-use Rattle.std.proofs.lemmas.List.Elements.{All-filter, filter_passes}
 use Rattle.std.proofs.lemmas.List.Filters.{length-filter_both, sum_by-filter_both}
-use Rattle.std.proofs.lemmas.List.Sums.{sum_by-append, sum_by-cons}
-use Rattle.drawing_text.proofs.Names.{nat_tests, flat_map-cons, All-head, All-tail, All-weaker, decimal, flat_map, list_any, IsLabel, Spot, LineValue, DrawingValue, IsLine, KeepsDrawingLimits, finished_drawing, is_last_empty, point_count, step_count, with_new_block, with_new_line, steps_of_line, DrawingDraft, DrawFault, Version, WalkEnd, label_text, line_text, lines_of_block, number_line_text, points_text, blocks_text3, end_lines_text, default_drawing, empty_draft, words_by_line}
+use Rattle.drawing_text.proofs.Names.{nat_tests, flat_map-cons, All-head, All-tail, All-weaker, decimal, flat_map, list_any, IsLabel, Spot, LineValue, DrawingValue, IsLine, KeepsDrawingLimits, finished_drawing, is_last_empty, point_count, step_count, with_new_block, with_new_line, steps_of_line, DrawingDraft, DrawFault, Version, WalkEnd, label_text, line_text, lines_of_block, number_line_text, points_text, blocks_text3, end_lines_text, default_drawing, empty_draft, words_by_line, All-filter, filter_passes, sum_by-append, sum_by-cons, block_text3, last_by}
 use Rattle.drawing_text.proofs.PrintedBlocks.{all_below, found_used, items_in, last_found, lines_below, next_lines, none_first}
 use Rattle.drawing_text.proofs.PrintedEnds.{IsNamable, ReadsOn, end_at, ends_read, unnumbered}
 use Rattle.drawing_text.proofs.PrintedLines.{HasRoom, after_text, color_says, coordinates, coordinates_are, draft_of, is_color, is_line, is_name, is_step, label_word, line_judged, line_says, name_says, points_spelled, step_says}
 use Rattle.drawing_text.proofs.PrintedNumbers.{decimal_word}
 use Rattle.drawing_text.proofs.PrintedWords.{tail_of}
-use Rattle.drawing_text.specs.EndTexts.{block_text3}
-use Rattle.drawing_model.proofs.CallerLemmas.{last_by}
 
 -- the drawing has room for n more lines in the last block
 record MayFollow (d : DrawingValue) (lines : List LineValue) : Type 0 where

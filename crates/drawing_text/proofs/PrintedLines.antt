@@ -1,14 +1,8 @@
 -- The drafts after the lines of a canonical text.
 use Rattle.std.proofs.Common.{◌≡◌, ◌≢◌, ℕ, ◌+◌, ◌<◌, ◌≤◌, Bool, true, false, nat_le, unsigned_abs, List, [], ◌∷◌, ◌++◌, Result, Ok, length, codes, All, refl, append_assoc, arith}
-use Rattle.std.proofs.lemmas.List.Sums.{list_all-from_AllPass}
-use Rattle.std.specs.Char.{is_ascii_graphic}
-use Rattle.drawing_text.proofs.Names.{and_from, and_parts, nat_tests, All-head, All-tail, decimal, signed_decimal, list_all, Point, IsLabel, IsNeedlePoint, DrawingValue, IsLine, and_then, all_in_needle_range, is_last_empty, point_count, step_count, with_new_block, with_new_line, steps_of_line, DrawingDraft, DrawFault, WalkEnd, at_line, Version, points_text, default_drawing, empty_draft, draft_after_words, parsed_points, words_by_line, within_parts, signed_read}
-use Rattle.design_model.specs.Labels.{IsPrintable}
-use Rattle.design_model.specs.Points.{is_point_within}
+use Rattle.drawing_text.proofs.Names.{and_from, and_parts, nat_tests, All-head, All-tail, decimal, signed_decimal, list_all, Point, IsLabel, IsNeedlePoint, DrawingValue, IsLine, and_then, all_in_needle_range, is_last_empty, point_count, step_count, with_new_block, with_new_line, steps_of_line, DrawingDraft, DrawFault, WalkEnd, at_line, Version, points_text, default_drawing, empty_draft, draft_after_words, parsed_points, words_by_line, within_parts, signed_read, list_all-from_AllPass, is_ascii_graphic, IsPrintable, is_point_within, none_repeats, decimal_read}
 use Rattle.drawing_text.proofs.PrintedNumbers.{signed_word}
 use Rattle.drawing_text.proofs.PrintedWords.{AreWords, IsWord, is_printed_byte, line_read, tail_of}
-use Rattle.drawing_model.proofs.CallerLemmas.{none_repeats}
-use Rattle.lists_and_numbers.proofs.CallerLemmas.{decimal_read}
 
 -- The result for a draft and the text lines after it, from line `number` on: what `close` makes of the draft at the end.
 abbrev pub after_text : {A : Type 0} → (ℕ → DrawingDraft → Result A DrawFault) → Version → ℕ → DrawingDraft → List (List (List ℕ))

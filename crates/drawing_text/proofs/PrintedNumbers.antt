@@ -1,9 +1,8 @@
 -- Numbers as words: what is printed is read again.
 use Rattle.std.proofs.Common.{◌≡◌, ℕ, ℤ, pos, negsuc, suc, ◌<◌, ◌^◌, true, unsigned_abs, List, [], ◌∷◌, length, refl, arith}
 use Rattle.std.proofs.lemmas.Fmt.{decimal_nonempty, digits_decimal}
-use Rattle.drawing_text.proofs.Names.{and_from, and_parts, nat_tests, is_ascii_digit, decimal, signed_decimal, list_all, all_ascii_digits, is_filled}
+use Rattle.drawing_text.proofs.Names.{and_from, and_parts, nat_tests, is_ascii_digit, decimal, signed_decimal, list_all, all_ascii_digits, is_filled, decimal_model}
 use Rattle.drawing_text.proofs.PrintedWords.{IsWord, is_printed_byte}
-use Rattle.lists_and_numbers.proofs.CallerLemmas.{decimal_model}
 
 digits_printed : (ds : List ℕ) → all_ascii_digits ds ≡ true → list_all is_printed_byte ds ≡ true
 digits_printed [] digits = refl

@@ -1,11 +1,8 @@
 -- Words that stand one space apart, and the lines that they make.
 use Rattle.std.proofs.Common.{arith}
 use Rattle.std.proofs.Common.{◌≡◌, ℕ, Bool, true, false, not, ◌==◌, ◌||◌, ◌&&◌, List, [], ◌∷◌, ◌++◌, map, All, ap, sym, ◌∙◌, refl, append_assoc, append-nil}
-use Rattle.std.proofs.lemmas.Bool.{not-true}
-use Rattle.std.proofs.lemmas.List.Folds.{list_all-append}
 use Rattle.std.proofs.lemmas.List.Splits.{slice_split_at, slice_split_none}
-use Rattle.std.proofs.lemmas.List.Sums.{AllPass-from_list_all}
-use Rattle.drawing_text.proofs.Names.{nat_tests, and_from, and_parts, or_parts, All-weaker, list_all, is_blank_byte, is_filled, is_line_feed, text_lines, line_without_return, words_by_line, words_of_line}
+use Rattle.drawing_text.proofs.Names.{nat_tests, and_from, and_parts, or_parts, All-weaker, list_all, is_blank_byte, is_filled, is_line_feed, text_lines, line_without_return, words_by_line, words_of_line, not-true, list_all-append, AllPass-from_list_all}
 
 -- a byte that ends no line
 abbrev is_line_byte : ℕ → Bool

@@ -1,7 +1,6 @@
 -- Drawings that aren't valid, and that no text describes therefore.
 use Rattle.std.proofs.Common.{◌≡◌, pos, true, false, ◌⊎◌, inl, inr, [], ◌∷◌, arith}
-use Rattle.drawing_text.proofs.Names.{lines_through, DrawingValue, HasNoEnds, IsValidDrawing, are_connected_spots, default_drawing}
-use Rattle.drawing_model.specs.JoinedDrawings.{is_joined}
+use Rattle.drawing_text.proofs.Names.{lines_through, DrawingValue, HasNoEnds, IsValidDrawing, are_connected_spots, default_drawing, is_joined}
 use Rattle.drawing_text.proofs.CanonicalTextFacts.{place}
 use Rattle.drawing_text.proofs.EndTextFacts.{crossed, spot}
 

@@ -2,9 +2,7 @@
 use Rattle.std.proofs.Common.{◌≡◌, ◌≤◌, max, ℤ, List, [], ◌∷◌, map, refl, ◌∙◌, arith, if◌then◌else◌}
 use Rattle.std.proofs.Math.Nat.{zero-max}
 use Rattle.std.specs.Prelude.{◌≤ℤ◌, fold}
-use Rattle.std.specs.List.{cons_option}
-use Rattle.std.specs.Int.{int_max, int_min}
-use Rattle.dst_codec.proofs.Names.{nat_tests, ints, Act, NumberedAct, Point, Extents, size_above_zero, size_below_zero, extents_of, max_measure, needle_measure, extents_from_origin}
+use Rattle.dst_codec.proofs.Names.{nat_tests, ints, Act, NumberedAct, Point, Extents, size_above_zero, size_below_zero, extents_of, max_measure, needle_measure, extents_from_origin, cons_option, int_max, int_min}
 use Rattle.design_model.specs.declared.act.Act.TheVariants as act
 use Rattle.design_model.specs.ActKinds.{act_point}
 use Rattle.design_model.specs.Extents.{extent_of_points, needle_points_of_acts}

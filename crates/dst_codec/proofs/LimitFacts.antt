@@ -1,7 +1,6 @@
 -- The ending and the limits of the format. Moves are in tenths of a millimetre, the header in bytes.
 use Rattle.std.proofs.Common.{◌≡◌, codes, refl}
-use Rattle.dst_codec.proofs.Names.{LIMIT, MAX_STOPS, HEADER_LENGTH, dst_meaning}
-use Rattle.dst_codec.specs.declared.dst.TheConstants.{MAX_FLOAT_HOPS}
+use Rattle.dst_codec.proofs.Names.{LIMIT, MAX_STOPS, HEADER_LENGTH, dst_meaning, MAX_FLOAT_HOPS}
 
 pub known_format : (dst_meaning.ending ≡ codes "dst") × (dst_meaning.limit ≡ 121)
 known_format = (refl, refl)

@@ -1,8 +1,7 @@
 -- Worked values of records.
 use Rattle.std.proofs.Common.{◌≡◌, ℤ, pos, negsuc, [], ◌∷◌, refl}
-use Rattle.dst_codec.proofs.Names.{Point, dst_move_of, kind_of, dst_stitch_record, dst_jump_record, dst_end_record}
+use Rattle.dst_codec.proofs.Names.{Point, dst_move_of, kind_of, dst_stitch_record, dst_jump_record, dst_end_record, dst_trim_records, dst_stop_record}
 use Rattle.dst_codec.specs.declared.record_kind.RecordKind.TheVariants as kind
-use Rattle.dst_codec.specs.MoveEncoding.{dst_trim_records, dst_stop_record}
 
 abbrev pub point : ℤ → ℤ → Point
 point x y = record { x = x; y = y }

@@ -1,8 +1,7 @@
 -- Worked values of reading.
 use Rattle.std.proofs.Common.{◌≡◌, ℕ, zero, suc, ℤ, pos, negsuc, true, false, List, [], ◌∷◌, ◌++◌, map, replicate, Ok, Err, Result, refl, codes}
-use Rattle.dst_codec.proofs.Names.{Command, Stitch, Jump, Trim, Stop, Point, ReadFault, Loaded, dst_reads, dst_label_of}
+use Rattle.dst_codec.proofs.Names.{Command, Stitch, Jump, Trim, Stop, Point, ReadFault, Loaded, dst_reads, dst_label_of, dst_moves}
 use Rattle.format_traits.specs.declared.fault.ReadFault.TheVariants as fault
-use Rattle.dst_codec.specs.Reading.{dst_moves}
 
 abbrev pub point : ℤ → ℤ → Point
 point x y = record { x = x; y = y }

@@ -1,14 +1,11 @@
 -- A record has three bytes, and an act at most as many records as its room.
 use Rattle.std.proofs.Common.{◌≡◌, ℕ, zero, suc, ◌+◌, ◌-◌, ◌*◌, ◌≤◌, max, Bool, true, false, List, [], ◌∷◌, ◌++◌, length, map, ◌==◌, refl, ap, ◌∙◌, arith, length-append, if◌then◌else◌, nat_le}
-use Rattle.std.proofs.lemmas.List.{length-map}
 use Rattle.std.proofs.lemmas.List.Folds.{concat-append}
-use Rattle.dst_codec.proofs.Names.{nat_tests, concat, Act, NumberedAct, Point, origin, move_between, EncoderState, encoder_state_after, LIMIT, dst_jump_record, dst_stitch_record, dst_write_limits, dst_encoding}
+use Rattle.dst_codec.proofs.Names.{nat_tests, concat, Act, NumberedAct, Point, origin, move_between, EncoderState, encoder_state_after, LIMIT, dst_jump_record, dst_stitch_record, dst_write_limits, dst_encoding, length-map, part_end, part_moves, part_moves_from, loose_room}
 use Rattle.design_model.specs.declared.act.Act.TheVariants as act
 use Rattle.format_traits.specs.MoveHops.{hops_of}
-use Rattle.record_formats.specs.MoveParts.{part_end, part_moves, part_moves_from}
 use Rattle.format_traits.specs.Rooms.{room_of_act, room_of_needle, room_from}
 use Rattle.record_formats.specs.RecordEncodings.{records_of_acts_from, records_of_act, needle_records, hop_records, stitched_hop_records}
-use Rattle.format_traits.proofs.CallerLemmas.{loose_room}
 
 -- all bytes of records, three for each
 abbrev AreTriples : List (List ℕ) → Type 0

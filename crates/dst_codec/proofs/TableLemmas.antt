@@ -1,13 +1,10 @@
 -- The tables of the moves are those of the format.
 use Rattle.std.proofs.Common.{◌≡◌, ℕ, ◌+◌, ◌-◌, ◌*◌, ◌/◌, ◌%◌, ◌<◌, ◌≤◌, ℤ, List, map, get_or, refl, ap, ◌∙◌, arith}
 use Rattle.std.proofs.lemmas.List.FromFn.{get_or-map-range_with_len}
-use Rattle.std.specs.Int.{w8}
-use Rattle.std.specs.List.{range_with_len}
-use Rattle.dst_codec.proofs.Names.{nat_tests, ints, bit_of_byte, rightwards, leftwards, upwards, downwards, biased_number, plus_bit, minus_bit, x_signs, y_signs}
+use Rattle.dst_codec.proofs.Names.{nat_tests, ints, bit_of_byte, rightwards, leftwards, upwards, downwards, biased_number, plus_bit, minus_bit, x_signs, y_signs, w8, range_with_len, sum_along}
 use mir.Val.{Fits}
 use Rattle.dst_codec.specs.declared.reading_tables.TheConstants.{X_OF_FIRST, X_OF_SECOND, X_OF_THIRD, Y_OF_FIRST, Y_OF_SECOND, Y_OF_THIRD}
 use Rattle.dst_codec.specs.declared.writing_tables.TheConstants.{FIRST_OF_X, SECOND_OF_X, THIRD_OF_X, FIRST_OF_Y, SECOND_OF_Y, THIRD_OF_Y}
-use Rattle.dst_codec.specs.Bits.{sum_along}
 
 -- the entry of a table that holds a function's values
 entry : (f : ℕ → ℕ) (table : List ℕ) (count n : ℕ) → table ≡ map f (range_with_len 0 count) → n < count → get_or table n 0 ≡ f n

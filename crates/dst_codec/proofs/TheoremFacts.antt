@@ -1,8 +1,7 @@
 -- What the theorems on DST exclude, and the records that have one encoding.
 use Rattle.std.proofs.Common.{◌≡◌, ℕ, ◌<◌, ◌≤◌, List, [], ◌∷◌, Result, Ok, Err, IfOk, IsOkAnd, refl, arith, subst}
-use Rattle.dst_codec.proofs.Names.{DesignValue, KeepsLimits, ReadFault, WriteFault, Loaded, dst_move_of, LabelRoundTrips, ReadMovesAreWritable, dst_stitch_record, IsCanonicalByte, IsCanonicalThird, dst_reads, dst_writes}
+use Rattle.dst_codec.proofs.Names.{DesignValue, KeepsLimits, ReadFault, WriteFault, Loaded, dst_move_of, LabelRoundTrips, ReadMovesAreWritable, dst_stitch_record, IsCanonicalByte, IsCanonicalThird, dst_reads, dst_writes, MovesHaveOneEncoding}
 use Rattle.format_traits.specs.declared.fault.WriteFault.TheVariants as write
-use Rattle.dst_codec.specs.OneEncoding.{MovesHaveOneEncoding}
 
 -- each part forwards, or each backwards, is canonical, and no part in both directions
 pub known_forwards : IsCanonicalByte 85

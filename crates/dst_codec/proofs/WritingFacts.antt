@@ -1,9 +1,8 @@
 -- Worked values of writing.
 use Rattle.std.proofs.Common.{◌≡◌, ℕ, ℤ, pos, negsuc, List, [], ◌∷◌, ◌++◌, length, drop, replicate, Some, Ok, Err, refl, codes}
 use Rattle.std.specs.Fmt.{digits}
-use Rattle.dst_codec.proofs.Names.{concat, Command, Stitch, Jump, Stop, Point, acts_along, DesignValue, extents_of, extents_from_origin, dst_records_of, dst_writes}
+use Rattle.dst_codec.proofs.Names.{concat, Command, Stitch, Jump, Stop, Point, acts_along, DesignValue, extents_of, extents_from_origin, dst_records_of, dst_writes, header_fields}
 use Rattle.format_traits.specs.declared.fault.WriteFault.TheVariants as fault
-use Rattle.dst_codec.specs.Header.{header_fields}
 use Rattle.dst_codec.specs.Samples.{square_design, square_commands}
 
 abbrev pub point : ℤ → ℤ → Point

@@ -1,7 +1,6 @@
 -- What the theorems exclude.
 use Rattle.std.proofs.Common.{◌≡◌, ◌+◌, ℕ, ℤ, pos, negsuc, List, [], ◌∷◌, map, refl, arith}
-use Rattle.edit_laws.proofs.Names.{shift_point, turn_point, Point, DrawingValue, needle_points, cost_of_line, TurnKeepsCosts}
-use Rattle.drawing_edits.specs.MovedDrawings.{turned_drawing}
+use Rattle.edit_laws.proofs.Names.{shift_point, turn_point, Point, DrawingValue, needle_points, cost_of_line, TurnKeepsCosts, turned_drawing}
 
 -- the point with those numbers
 abbrev at : ℤ → ℤ → Point

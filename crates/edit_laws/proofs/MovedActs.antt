@@ -1,13 +1,11 @@
 -- The acts of a moved design, and the acts that sew a moved drawing.
 use Rattle.std.proofs.Common.{◌≡◌, ◌∙◌, ℕ, zero, suc, ◌+◌, ◌-◌, Bool, true, false, ◌&&◌, not, List, [], ◌∷◌, ◌++◌, map, replicate, refl, ap, sym}
-use Rattle.edit_laws.proofs.Names.{map-append, Point, moved_drawing, Pass, DrawingValue, needle_points, needles_of_walk, run_of, sewn_acts_after}
-use Rattle.design_edits.specs.Moves.{with_mapped_point}
+use Rattle.edit_laws.proofs.Names.{map-append, Point, moved_drawing, Pass, DrawingValue, needle_points, needles_of_walk, run_of, sewn_acts_after, with_mapped_point, Run, block_of_passes}
 use Rattle.design_model.specs.declared.act.Act.{Act}
 use Rattle.design_model.specs.declared.act.Act.TheVariants as act
 use Rattle.design_model.specs.declared.command.Command.{Command}
 use Rattle.design_model.specs.declared.command.Command.TheVariants.{Stitch, Jump, Trim, Stop}
 use Rattle.design_model.specs.Acts.{acts_from, acts_without_numbers}
-use Rattle.line_graph.specs.Runs.{Run, block_of_passes}
 use Rattle.edit_laws.proofs.MovedLines.{block_moved, joined_same, walk_moved}
 
 -- an act with its point mapped

@@ -1,9 +1,7 @@
 -- The costs of a moved drawing. The map of points keeps whether two points are equal, and the number of steps of a segment.
 use Rattle.std.proofs.Common.{◌≡◌, ◌∙◌, ℕ, suc, ◌+◌, ◌-◌, Bool, true, false, cond, List, [], ◌∷◌, ◌++◌, length, map, drop, reverse, refl, ap, sym}
-use Rattle.std.proofs.lemmas.List.{length-append, length-drop, length-reverse}
 use Rattle.std.proofs.lemmas.List.FromFn.{length-range_with_len}
-use Rattle.edit_laws.proofs.Names.{length-map, flat_map, range_with_len, Point, is_same_point, moved_drawing, Pass, DrawingValue, points_of, needle_points, segment_points, needles_of_pass, needles_of_walk, cost_of_line, needles_of_line, point_on_segment, split_points, steps_of}
-use Rattle.edit_laws.specs.CostLaws.{KeepsCosts}
+use Rattle.edit_laws.proofs.Names.{length-map, flat_map, range_with_len, Point, is_same_point, moved_drawing, Pass, DrawingValue, points_of, needle_points, segment_points, needles_of_pass, needles_of_walk, cost_of_line, needles_of_line, point_on_segment, split_points, steps_of, length-append, length-drop, length-reverse, KeepsCosts}
 use Rattle.edit_laws.proofs.MovedLines.{points_moved}
 use Rattle.edit_laws.proofs.MovedPieces.{pieces_moved}
 use Rattle.edit_laws.proofs.MovedWalks.{packing_moved}

@@ -1,14 +1,11 @@
 -- Whole lines, junctions and connected spots of a moved drawing. The map of points keeps whether two points are equal.
 use Rattle.std.proofs.Common.{◌≡◌, ◌∙◌, ℕ, ◌<◌, ◌+◌, ◌==◌, ◌&&◌, ◌||◌, not, nat_le, cond, Bool, true, false, AllPairs, List, [], ◌∷◌, ◌++◌, length, get_or, map, filter, inr, if◌then◌else◌, refl, ap, sym, subst, arith}
-use Rattle.std.proofs.lemmas.List.{get_or-map}
 use Rattle.std.proofs.lemmas.List.Elements.{All-map, All-weaker}
-use Rattle.std.specs.List.{count_by, fold, list_all}
-use Rattle.edit_laws.proofs.Names.{length-map, map-append, list_any, Point, is_same_point, moved_drawing, with_moved_line, with_moved_spot, DrawingValue, endpoints, Spot, LineValue}
-use Rattle.drawing_model.specs.Drawings.{KeepsDrawingLimits}
+use Rattle.std.specs.List.{count_by}
+use Rattle.edit_laws.proofs.Names.{length-map, map-append, list_any, Point, is_same_point, moved_drawing, with_moved_line, with_moved_spot, DrawingValue, endpoints, Spot, LineValue, get_or-map, fold, list_all, KeepsDrawingLimits, points_of_lines}
 use Rattle.drawing_model.specs.GrowingLimits.{IsValidJoinedDrawing}
 use Rattle.drawing_model.specs.JoinedDrawings.{is_joined}
 use Rattle.drawing_model.specs.WalkEnds.{AreInDifferentPieces, are_connected_spots, end_spots, has_end_at_spot, is_junction, merged_representative, representative}
-use Rattle.line_sections.specs.Lines.{points_of_lines}
 use Rattle.line_sections.specs.Sections.{but_last, inner_points, is_shared_point, is_whole_line, listed_in}
 use Rattle.line_sections.specs.Spots.{is_same_spot}
 use Rattle.edit_laws.proofs.MovedLines.{endpoints_moved, listed_moved}

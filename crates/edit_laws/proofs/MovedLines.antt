@@ -1,11 +1,7 @@
 -- Lines, needle points and junctions of a moved drawing. The map of points keeps whether two points are equal, and maps the
 -- needle points of a line to those of the mapped line.
 use Rattle.std.proofs.Common.{◌≡◌, ◌∙◌, ℕ, ◌+◌, ◌-◌, ◌||◌, Bool, true, false, cond, List, [], ◌∷◌, ◌++◌, Option, Some, None, length, map, drop, reverse, refl, ap, sym}
-use Rattle.std.proofs.lemmas.List.{drop-map, reverse-append}
-use Rattle.std.specs.List.{position_or_len}
-use Rattle.edit_laws.proofs.Names.{length-map, map-append, slice_get-map, option_map, slice_get, flat_map, list_any, Point, is_same_point, moved_drawing, with_moved_line, Pass, DrawingValue, block_of, first_point, last_point, points_of, endpoints, needle_points, junction_number, junctions_of, needles_of_pass, needles_of_walk, cost_of_line, needles_of_line, LineValue}
-use Rattle.drawing_model.specs.Drawings.{optional_line_block, optional_line_points}
-use Rattle.line_graph.specs.PieceGraphs.{with_point, with_points}
+use Rattle.edit_laws.proofs.Names.{length-map, map-append, slice_get-map, option_map, slice_get, flat_map, list_any, Point, is_same_point, moved_drawing, with_moved_line, Pass, DrawingValue, block_of, first_point, last_point, points_of, endpoints, needle_points, junction_number, junctions_of, needles_of_pass, needles_of_walk, cost_of_line, needles_of_line, LineValue, drop-map, reverse-append, position_or_len, optional_line_block, optional_line_points, with_point, with_points}
 use Rattle.step_splitter.specs.Chains.{last_point_or}
 
 -- functions with the same values are the same

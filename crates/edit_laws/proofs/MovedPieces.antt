@@ -1,8 +1,6 @@
 -- The pieces of a moved drawing.
 use Rattle.std.proofs.Common.{◌≡◌, ◌∙◌, ℕ, ◌<◌, ◌==◌, ◌&&◌, ◌||◌, Bool, All, List, [], ◌∷◌, Option, Some, None, map, refl, ap, sym, subst}
-use Rattle.std.specs.List.{concat}
-use Rattle.edit_laws.proofs.Names.{length-map, slice_get-map, option_map, slice_get, list_any, Point, is_same_point, moved_drawing, with_moved_line, DrawingValue, endpoints, LineValue}
-use Rattle.line_graph.specs.Pieces.{AreConnected, ArePieces, IsPathOfLines, LinesTouch, shares_point, touches}
+use Rattle.edit_laws.proofs.Names.{length-map, slice_get-map, option_map, slice_get, list_any, Point, is_same_point, moved_drawing, with_moved_line, DrawingValue, endpoints, LineValue, concat, AreConnected, ArePieces, IsPathOfLines, LinesTouch, shares_point, touches}
 use Rattle.edit_laws.proofs.MovedLines.{endpoints_moved, listed_moved}
 
 module _ (f : Point → Point) (same : (p q : Point) → is_same_point (f p) (f q) ≡ is_same_point p q) where

@@ -1,9 +1,6 @@
 -- Threads, cuts and packings over a moved drawing.
 use Rattle.std.proofs.Common.{◌≡◌, ◌∙◌, ℕ, ◌+◌, ◌*◌, ◌%◌, ◌<◌, ◌≤◌, ◌==◌, ◌&&◌, Bool, true, false, not, cond, All, List, [], ◌∷◌, Option, Some, None, length, map, sum_by, count_by, refl, ap, sym, subst}
-use Rattle.std.specs.List.{AllZip}
-use Rattle.edit_laws.proofs.Names.{length-map, option_map, list_any, Point, is_same_point, moved_drawing, with_moved_spot, Pass, DrawingValue, block_of, first_point, last_point, points_of, IsThreadOver, needle_points, junction_number, junctions_of, needles_of_pass, needles_of_walk, cost_of_line, Spot}
-use Rattle.line_graph.specs.DrawnWalks.{KeepsGivenEnds, Leads, given_point, is_junction_of}
-use Rattle.line_graph.specs.Pieces.{first_line}
+use Rattle.edit_laws.proofs.Names.{length-map, option_map, list_any, Point, is_same_point, moved_drawing, with_moved_spot, Pass, DrawingValue, block_of, first_point, last_point, points_of, IsThreadOver, needle_points, junction_number, junctions_of, needles_of_pass, needles_of_walk, cost_of_line, Spot, AllZip, KeepsGivenEnds, Leads, given_point, is_junction_of, first_line}
 use Rattle.odd_cuts.specs.declared.certificate.PieceCert.{PieceCert}
 use Rattle.odd_cuts.specs.declared.cut.Cut.{Cut}
 use Rattle.odd_cuts.specs.DrawnCuts.{IsOddOver, IsPackingOver, given_apart, holds_point, leads_out, parts}

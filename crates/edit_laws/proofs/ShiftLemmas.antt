@@ -1,17 +1,13 @@
 -- A shift keeps which points are equal, moves the needle points of a line, and is undone by the opposite shift.
 use Rattle.std.proofs.Common.{◌≡◌, ◌∙◌, ℕ, ℤ, pos, ◌+ℤ◌, ◌-ℤ◌, ◌*ℤ◌, neg_ℤ, Bool, true, false, ◌&&◌, List, [], ◌∷◌, map, refl, ap, sym, subst, arith}
-use Rattle.edit_laws.proofs.Names.{Decides-int_eq, nat_tests, ints, map-append, div_ceil, range_with_len, int_eq, shift_point, Point, is_same_point, move_between, move_size, with_moved_line, with_moved_spot, Pass, DrawingValue, IsThreadOver, segment_points, run_of, sewn_acts_after, Spot, LineValue, point_on_segment, split_points, steps_of, same_test}
-use Rattle.design_edits.specs.Moves.{shifted}
-use Rattle.drawing_edits.specs.MovedDrawings.{shifted_drawing}
+use Rattle.edit_laws.proofs.Names.{Decides-int_eq, nat_tests, ints, map-append, div_ceil, range_with_len, int_eq, shift_point, Point, is_same_point, move_between, move_size, with_moved_line, with_moved_spot, Pass, DrawingValue, IsThreadOver, segment_points, run_of, sewn_acts_after, Spot, LineValue, point_on_segment, split_points, steps_of, same_test, shifted, shifted_drawing, coordinate_on_segment, floor_quotient, back-there}
 use Rattle.odd_cuts.specs.Certificates.{walks_of}
 use Rattle.route_verdict.specs.VerdictTheorems.{YesIsLeastRedwork}
-use Rattle.step_splitter.specs.Steps.{coordinate_on_segment, floor_quotient}
 use Rattle.edit_laws.specs.ShiftLaws.{ShiftKeepsLeastRedwork, ShiftKeepsYes, ShiftMovesNeedles}
 use Rattle.edit_laws.proofs.MovedActs.{acts_moved, runs_moved, sewn_moved, with_mapped_act}
 use Rattle.edit_laws.proofs.MovedLines.{joined_same}
 use Rattle.edit_laws.proofs.MovedPieces.{pieces_moved}
 use Rattle.edit_laws.proofs.MovedWalks.{thread_moved, threads_moved}
-use Rattle.lists_and_numbers.proofs.CallerLemmas.{back-there}
 
 -- the point with those numbers
 abbrev at : ℤ → ℤ → Point

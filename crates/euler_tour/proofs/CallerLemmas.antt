@@ -1,10 +1,6 @@
 -- Lemmas that this crate and those above cite.
 use Rattle.std.proofs.Common.{Bool, List, None, Option, Some, [], ap, arith, false, get_or, get_or-set_other, get_or-set_same, inl, inr, length, length-set, nat_lt, refl, set, slice_get, subst, suc, sum_by, sym, true, zero, ℕ, ◌&&◌, ◌*◌, ◌+◌, ◌/◌, ◌<◌, ◌==◌, ◌∙◌, ◌∷◌, ◌≡◌, ◌≤◌, ◌⊎◌}
-use Rattle.std.proofs.lemmas.List.Sums.{sum_by-set}
-use Rattle.euler_tour.proofs.Names.{and_parts, cases_eq, nat_tests, get_or_default_zero, slice_get_within, AreBefore, AreLast, IsLast, junction_at, pass_start, pass_start_on, ends_below, Edge, same_number, some_same}
-use Rattle.euler_tour.specs.Cursors.{AreCursors, IsCursor}
-use Rattle.line_graph.proofs.CallerLemmas.{is_even, not_even}
-use Rattle.lists_and_numbers.proofs.CallerLemmas.{half, half_more}
+use Rattle.euler_tour.proofs.Names.{and_parts, cases_eq, nat_tests, get_or_default_zero, slice_get_within, AreBefore, AreLast, IsLast, junction_at, pass_start, pass_start_on, ends_below, Edge, same_number, some_same, sum_by-set, AreCursors, IsCursor, is_even, not_even, half, half_more}
 
 -- the two ends of the line at an index
 pub end_a : (edges : List Edge) (k : ℕ) (e : Edge) → slice_get edges k ≡ Some e → junction_at edges (2 * k) ≡ Some e.a

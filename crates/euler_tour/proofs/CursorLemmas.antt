@@ -1,7 +1,6 @@
 -- The tables of a partial tour.
 use Rattle.std.proofs.Common.{◌≡◌, ◌<◌, ◌⊎◌, inl, inr, ℕ, ◌+◌, ◌*◌, ◌/◌, ◌==◌, Bool, true, false, nat_lt, List, [], ◌∷◌, ◌++◌, length, get_or, set, slice_get, Some, arith, refl, ◌∙◌}
-use Rattle.euler_tour.proofs.Names.{and_from, and_parts, nat_tests, Edge, all_below, edge_ends_at, remaining_ends, decremented_at, AreBefore, AreLast}
-use Rattle.euler_tour.specs.PartialTours.{AreTourTables}
+use Rattle.euler_tour.proofs.Names.{and_from, and_parts, nat_tests, Edge, all_below, edge_ends_at, remaining_ends, decremented_at, AreBefore, AreLast, AreTourTables}
 use Rattle.euler_tour.proofs.LeftLemmas.{ends_none, less_length, less_none}
 use Rattle.euler_tour.proofs.CallerLemmas.{all_done, cursors_begin, cursors_skip, cursors_stay}
 

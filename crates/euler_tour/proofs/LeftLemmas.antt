@@ -1,10 +1,6 @@
 -- Lines that remain.
 use Rattle.std.proofs.Common.{◌≡◌, ◌≤◌, ◌<◌, ◌⊎◌, inl, inr, ℕ, zero, suc, ◌+◌, ◌-◌, ◌*◌, ◌^◌, ◌==◌, true, nat_lt, List, [], ◌∷◌, length, get_or, slice_get, slice_set, Some, arith, refl, sym, ◌∙◌, ap, subst}
-use Rattle.std.proofs.lemmas.List.Sums.{sum_by-cons}
-use Rattle.euler_tour.proofs.Names.{nat_tests, and_from, Edge, one_if, all_below, edge_cost, is_strictly_increasing, edge_ends_at, remaining_ends, remaining_sum, decremented_at, one_of, pass_counts, copies_cost, pass_count, pass_ends}
-use Rattle.line_graph.specs.PieceWalks.{edge_sum}
-use Rattle.line_graph.proofs.CallerLemmas.{first_less, rest_rises}
-use Rattle.lists_and_numbers.proofs.CallerLemmas.{differs, differs_back}
+use Rattle.euler_tour.proofs.Names.{nat_tests, and_from, Edge, one_if, all_below, edge_cost, is_strictly_increasing, edge_ends_at, remaining_ends, remaining_sum, decremented_at, one_of, pass_counts, copies_cost, pass_count, pass_ends, sum_by-cons, edge_sum, first_less, rest_rises, differs, differs_back}
 
 -- taking a line as the code does it
 pub less_is : (left : List ℕ) (place : ℕ) → slice_set left place (get_or left place 0 - 1) ≡ decremented_at left place

@@ -1,7 +1,6 @@
 -- Lines that rise and their edges, and walks that go on.
 use Rattle.std.proofs.Common.{◌≡◌, ◌≤◌, ◌<◌, ℕ, suc, ◌+◌, ◌==◌, Bool, true, false, ◌||◌, List, [], ◌∷◌, ◌++◌, length, get_or, arith, refl}
-use Rattle.euler_tour.proofs.Names.{nat_tests, Edge, Pass, one_if, edge_of, edge_value, pass_sum, passes}
-use Rattle.line_graph.specs.PieceWalks.{covers, is_line_passed}
+use Rattle.euler_tour.proofs.Names.{nat_tests, Edge, Pass, one_if, edge_of, edge_value, pass_sum, passes, covers, is_line_passed}
 
 -- how often a walk with one more pass passes a line
 pub passes_push : (n : ℕ) (xs : List Pass) (p : Pass) → passes n (xs ++ p ∷ []) ≡ passes n xs + one_if (p.line == n)

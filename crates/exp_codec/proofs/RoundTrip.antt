@@ -1,21 +1,14 @@
 -- What is written reads back.
 use Rattle.std.proofs.Common.{◌≡◌, ℕ, suc, ◌+◌, ◌-◌, ◌<◌, ◌≤◌, ◌≢◌, ℤ, pos, negsuc, neg_ℤ, unsigned_abs, nat_le, true, IsTrue, IsOkAnd, List, [], ◌∷◌, ◌++◌, None, refl, ap, sym, ◌∙◌, subst, arith}
-use Rattle.std.proofs.lemmas.Bool.{and_parts, leb-true, lt-ltb}
 use Rattle.std.proofs.lemmas.Int.{ints}
-use Rattle.std.proofs.lemmas.List.{append-nil}
-use Rattle.design_model.specs.Acts.{acts_of}
-use Rattle.design_model.specs.Designs.{KeepsLimits}
 use Rattle.record_formats.specs.declared.event.Event.TheVariants as event
 use Rattle.format_traits.specs.Laws.{HasSameActs, IsCodec}
-use Rattle.format_traits.specs.Refusals.{first_refusal}
 use Rattle.record_formats.specs.RoundTrip.{EncodedEvents, DecodesEncoding, DecodeToActs, EncodedActsRoundTrip}
 use Rattle.exp_codec.proofs.UnitLemmas.{reads_units}
-use Rattle.exp_codec.specs.Units.{signed_byte}
-use Rattle.exp_codec.specs.Writing.{byte_of_number, bytes_of_move, exp_encoding}
 use Rattle.design_model.proofs.CallerLemmas.{point_of_parts}
 use Rattle.lists_and_numbers.proofs.CallerLemmas.{neg-neg}
 use Rattle.std.proofs.lemmas.Bool.Decides.{nat_tests}
-use Rattle.exp_codec.proofs.Names.{le-ltb, ne_eqb, Point, DesignValue, is_point_within, origin, Loaded, loaded_with, next, LIMIT, exp_meaning, exp_move_of, units_from, exp_write_limits, exp_file_of}
+use Rattle.exp_codec.proofs.Names.{le-ltb, ne_eqb, Point, DesignValue, is_point_within, origin, Loaded, loaded_with, next, LIMIT, exp_meaning, exp_move_of, units_from, exp_write_limits, exp_file_of, and_parts, leb-true, lt-ltb, append-nil, acts_of, KeepsLimits, first_refusal, signed_byte, byte_of_number, bytes_of_move, exp_encoding}
 
 -- a number is decoded as it was encoded, and no encoded number is 80
 signed_byte-byte_of_number : (z : ℤ) → unsigned_abs z ≤ LIMIT → (signed_byte (byte_of_number z) ≡ z) × (byte_of_number z ≢ 0x80)

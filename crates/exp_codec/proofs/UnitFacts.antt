@@ -1,9 +1,8 @@
 -- Worked values of reading.
 use Rattle.std.proofs.Common.{◌≡◌, ℤ, pos, negsuc, Bool, true, false, List, [], ◌∷◌, map, Ok, Err, Result, refl}
-use Rattle.exp_codec.proofs.Names.{Command, Stitch, Jump, Trim, Stop, Point, Loaded, exp_reads}
+use Rattle.exp_codec.proofs.Names.{Command, Stitch, Jump, Trim, Stop, Point, Loaded, exp_reads, exp_moves, exp_shown}
 use Rattle.format_traits.specs.declared.fault.ReadFault.{ReadFault}
 use Rattle.format_traits.specs.declared.fault.ReadFault.TheVariants as fault
-use Rattle.exp_codec.specs.Reading.{exp_moves, exp_shown}
 
 abbrev pub point : ℤ → ℤ → Point
 point x y = record { x = x; y = y }

@@ -1,10 +1,7 @@
 -- The first unit of the bytes that are left.
 use Rattle.std.proofs.Common.{◌≡◌, ◌≢◌, ℕ, ◌+◌, ◌-◌, ◌≤◌, List, [], ◌∷◌, ◌++◌, length, get_or, take, drop, refl, sym, subst, arith}
-use Rattle.std.proofs.lemmas.Bool.{eq-eqb}
-use Rattle.std.proofs.lemmas.List.{take_all}
-use Rattle.exp_codec.proofs.Names.{ne_eqb, le-ltb, length-drop, loaded_with, next, exp_reads, units_from, record_or_refusal, event_of_control, exp_move_of}
+use Rattle.exp_codec.proofs.Names.{ne_eqb, le-ltb, length-drop, loaded_with, next, exp_reads, units_from, record_or_refusal, event_of_control, exp_move_of, eq-eqb, take_all, file_commands}
 use Rattle.record_formats.specs.declared.event.Event.TheVariants as event
-use Rattle.record_formats.specs.Records.{file_commands}
 
 -- a unit of two bytes, whatever stands after it
 two_at : (at a b : ℕ) (behind : List ℕ) → a ≢ 0x80

@@ -1,11 +1,8 @@
 -- Worked values of writing.
 use Rattle.std.proofs.Common.{◌≡◌, ℤ, pos, negsuc, List, [], ◌∷◌, true, codes, None, Ok, Err, refl}
-use Rattle.exp_codec.proofs.Names.{Command, Stitch, Jump, Trim, Stop, Point, DesignValue, origin, LIMIT, exp_meaning, exp_write_limits}
+use Rattle.exp_codec.proofs.Names.{Command, Stitch, Jump, Trim, Stop, Point, DesignValue, origin, LIMIT, exp_meaning, exp_write_limits, numbered, refusal_of_act, exp_writes}
 use Rattle.design_model.specs.declared.act.Act.TheVariants as act
-use Rattle.design_model.specs.Acts.{numbered}
 use Rattle.format_traits.specs.declared.fault.WriteFault.TheVariants as fault
-use Rattle.format_traits.specs.Refusals.{refusal_of_act}
-use Rattle.exp_codec.specs.Writing.{exp_writes}
 
 abbrev pub point : ℤ → ℤ → Point
 point x y = record { x = x; y = y }

@@ -1,11 +1,8 @@
 -- Lemmas that this crate and those above cite.
 use Rattle.std.proofs.Common.{Bool, IsTrue, List, [], ◌∷◌, None, Option, Some, ap, arith, false, true, not, refl, ◌&&◌, if◌then◌else◌, length, length-append, replicate, slice_get, ℕ, ◌+◌, ◌-◌, ◌∙◌, ◌≡◌, ◌≤◌}
-use Rattle.format_traits.proofs.Names.{nat_tests, ints, length-replicate, Act, NumberedAct, Command, Stitch, leaves_thread_loose, encoder_state_after_acts, Meaning, encoder_state_after, refusal_if, stops_of, EncoderState, WriteFault}
+use Rattle.format_traits.proofs.Names.{nat_tests, ints, length-replicate, Act, NumberedAct, Command, Stitch, leaves_thread_loose, encoder_state_after_acts, Meaning, encoder_state_after, refusal_if, stops_of, EncoderState, WriteFault, Jump, acts_from, padded_right, or_else}
 use Rattle.design_model.specs.declared.act.Act.TheVariants as act
-use Rattle.design_model.specs.declared.command.Command.TheVariants.{Jump, Trim, Stop}
-use Rattle.design_model.specs.Acts.{acts_from}
-use Rattle.format_traits.specs.LabelFields.{padded_right}
-use Rattle.format_traits.specs.Refusals.{or_else}
+use Rattle.design_model.specs.declared.command.Command.TheVariants.{Trim, Stop}
 
 pub not_refused : (b : Bool) (f : WriteFault) → refusal_if b f ≡ None → b ≡ false
 not_refused b f h1 = grind (arith, nat_tests, ints)

@@ -1,8 +1,6 @@
 -- The results of bytes that a decoder takes part by part.
 use Rattle.std.proofs.Common.{◌≡◌, ℕ, ◌+◌, ◌≤◌, List, ◌++◌, length, drop, ap, sym, ◌∙◌, arith, length-append, append_assoc}
-use Rattle.std.proofs.lemmas.List.{length-drop}
-use Rattle.format_traits.proofs.Names.{ContinuesAs, DecodedSoFar, DecoderState}
-use Rattle.format_traits.specs.DecoderStates.{TakesBytes}
+use Rattle.format_traits.proofs.Names.{ContinuesAs, DecodedSoFar, DecoderState, length-drop, TakesBytes}
 
 -- bytes are taken off those that are pending, and others stand after them
 pub passes_on : {old middle new : DecoderState} {so_far : DecodedSoFar} (start at size : ℕ) (whole pending rest left behind : List ℕ)

@@ -1,8 +1,6 @@
 -- Worked values of the lookup of a name's format.
 use Rattle.std.proofs.Common.{◌≡◌, ℕ, true, false, List, [], ◌∷◌, map, Some, None, Ok, refl, codes}
-use Rattle.format_traits.proofs.Names.{ending_in, Meaning}
-use Rattle.format_traits.specs.Endings.{format_index}
-use Rattle.format_traits.specs.Laws.{is_ending_byte}
+use Rattle.format_traits.proofs.Names.{ending_in, Meaning, format_index, is_ending_byte}
 
 -- a format with that ending, of no further interest
 abbrev pub named : List ℕ → Meaning

@@ -1,8 +1,7 @@
 -- The state of a feed after a chunk was passed on.
 use Rattle.std.proofs.Common.{◌≡◌, ℕ, ◌+◌, ◌-◌, ◌<◌, ◌≤◌, Bool, false, List, [], ◌∷◌, ◌++◌, length, refl, ap, sym, subst, ◌∙◌, arith, append_assoc, append-nil}
-use Rattle.format_traits.proofs.Names.{IsFed, DecodedSoFar, DecoderState}
+use Rattle.format_traits.proofs.Names.{IsFed, DecodedSoFar, DecoderState, IsSameDecoderState, PassesChunk}
 use Rattle.format_traits.specs.FeedStates.{feed_state_of, feed_decoded, feed_rest}
-use Rattle.format_traits.specs.DecoderStates.{IsSameDecoderState, PassesChunk}
 
 fed_on : (old new : DecoderState) (was now : DecodedSoFar) (start taken : ℕ) (before piece after : List ℕ) (whether then : Bool)
     → length before ≤ taken → 0 < length piece → PassesChunk old new now (start + (taken - length before)) before piece after

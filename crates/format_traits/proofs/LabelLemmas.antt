@@ -1,13 +1,10 @@
 -- A text without the spaces at its end, and what a label field holds.
 use Rattle.std.proofs.Common.{◌≡◌, ◌≢◌, ℕ, zero, suc, ◌+◌, ◌-◌, ◌<◌, ◌≤◌, Bool, true, false, List, [], ◌∷◌, ◌++◌, length, map, take, replicate, get_or, All, Some, slice_get, ◌==◌, if◌then◌else◌, refl, ap, sym, ◌∙◌, subst, arith, length-append}
 use Rattle.std.proofs.Math.Seq.{take-length}
-use Rattle.std.proofs.lemmas.Bool.{le-leb, ne_eqb}
-use Rattle.std.proofs.lemmas.List.{append-nil, append_assoc, take_all, take_more, length-map}
+use Rattle.std.proofs.lemmas.List.{append-nil, append_assoc}
 use Rattle.std.proofs.lemmas.List.Elements.{All-map, All-nil, All-cons, All-head, All-tail}
-use Rattle.format_traits.proofs.Names.{nat_tests, ints, length-replicate, printable_byte, without_end_spaces, label_in, label_field}
-use Rattle.design_model.specs.declared.design.TheConstants.{MAX_LABEL}
+use Rattle.format_traits.proofs.Names.{nat_tests, ints, length-replicate, printable_byte, without_end_spaces, label_in, label_field, le-leb, ne_eqb, take_all, take_more, length-map, MAX_LABEL, byte_unless_end_space, LabelFieldsRoundTrip}
 use Rattle.design_model.specs.Labels.{IsLabel, IsPrintable}
-use Rattle.format_traits.specs.LabelFields.{byte_unless_end_space, LabelFieldsRoundTrip}
 
 pub without_end_spaces-space : (xs : List ℕ) → without_end_spaces (xs ++ 32 ∷ []) ≡ without_end_spaces xs
 without_end_spaces-space [] = refl

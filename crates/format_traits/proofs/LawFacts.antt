@@ -1,12 +1,10 @@
 -- Violations of each law, and endings.
 use Rattle.std.proofs.Common.{◌≡◌, ℕ, pos, true, false, List, [], ◌∷◌, None, Result, Ok, Err, codes, refl, arith, sym, true≢false}
-use Rattle.format_traits.proofs.Names.{Stitch, DesignValue, origin, ReadFault, WriteFault, Loaded, HasSameActs, MovesWithin, DecodesTo, Meaning}
+use Rattle.format_traits.proofs.Names.{Stitch, DesignValue, origin, ReadFault, WriteFault, Loaded, HasSameActs, MovesWithin, DecodesTo, Meaning, IsFileEnding, EncodesTo, IsSpecifiedRefusal}
 use Rattle.design_model.specs.declared.act.Act.TheVariants as act
 use Rattle.design_model.specs.declared.command.Command.TheVariants.{Trim}
 use Rattle.format_traits.specs.declared.fault.ReadFault.TheVariants as read
 use Rattle.format_traits.specs.declared.fault.WriteFault.TheVariants as write
-use Rattle.format_traits.specs.Laws.{IsFileEnding, EncodesTo}
-use Rattle.format_traits.specs.Refusals.{IsSpecifiedRefusal}
 use Rattle.format_traits.proofs.EndingFacts.{named}
 
 -- an ending has a byte, and no capital

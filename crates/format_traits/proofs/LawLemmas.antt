@@ -1,7 +1,6 @@
 -- The laws of all formats.
 use Rattle.std.proofs.Common.{◌≡◌, ℕ, List, true, false, Option, None, IfOk, IsOk, refl, sym, subst, arith}
-use Rattle.format_traits.proofs.Names.{nat_tests, ints, acts_of, DesignValue, WriteLimits, WriteFault, AcceptedIsWithinLimits, RoundTrips, MovesWithin, CodecsKeepLaws, IsPlain, initial_encoder_state, first_refusal}
-use Rattle.format_traits.specs.Refusals.{unless_refused}
+use Rattle.format_traits.proofs.Names.{nat_tests, ints, acts_of, DesignValue, WriteLimits, WriteFault, AcceptedIsWithinLimits, RoundTrips, MovesWithin, CodecsKeepLaws, IsPlain, initial_encoder_state, first_refusal, unless_refused}
 use Rattle.format_traits.proofs.AcceptedLemmas.{plain_passes, few_stops, small_room}
 use Rattle.design_model.proofs.CallerLemmas.{acts_in_range}
 

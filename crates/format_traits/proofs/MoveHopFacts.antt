@@ -1,13 +1,11 @@
 -- Worked values of hops, parts, rooms and refusals.
 use Rattle.std.proofs.Common.{◌≡◌, ℕ, ◌+◌, ℤ, pos, negsuc, Bool, true, false, List, [], ◌∷◌, map, replicate, Some, None, refl, le_of_eq, lit≤}
-use Rattle.format_traits.proofs.Names.{NumberedAct, origin, WriteLimits, EncoderState, label_field, label_in, printable_byte, IsPlain, are_plain_from, first_refusal, refusal_of_act, room_of}
+use Rattle.format_traits.proofs.Names.{NumberedAct, origin, WriteLimits, EncoderState, label_field, label_in, printable_byte, IsPlain, are_plain_from, first_refusal, refusal_of_act, room_of, numbered, room_of_act, room_of_loose, room_of_needle}
 use Rattle.design_model.specs.declared.act.Act.TheVariants.{Needle, Trim, Stop}
 use Rattle.design_model.specs.declared.point.Point.{Point}
 use Rattle.design_model.specs.declared.command.Command.TheVariants as command
-use Rattle.design_model.specs.Acts.{numbered}
 use Rattle.format_traits.specs.declared.fault.WriteFault.TheVariants as fault
 use Rattle.format_traits.specs.MoveHops.{hops_of}
-use Rattle.format_traits.specs.Rooms.{room_of_act, room_of_loose, room_of_needle}
 
 abbrev pub point : ℤ → ℤ → Point
 point x y = record { x = x; y = y }

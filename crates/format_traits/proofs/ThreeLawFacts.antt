@@ -1,14 +1,9 @@
 -- The designs that every format encodes, at their limits, and what the laws of a format exclude.
 use Rattle.std.proofs.Common.{◌≡◌, ℕ, ◌+◌, true, false, Bool, IsTrue, IsOk, IsOkAnd, IfOk, List, [], ◌∷◌, ◌++◌, None, Some, Result, Ok, Err, arith, subst, sym, true≢false, ◌∙◌}
 use Rattle.std.specs.List.{list_all}
-use Rattle.format_traits.proofs.Names.{Command, acts_of, DesignValue, origin, WriteLimits, ReadFault, WriteFault, Loaded, AcceptedIsWithinLimits, IsFed, CodecsKeepLaws, HasSameActs, RoundTrips, Meaning, IsPlain, are_plain_from, first_refusal, stops_of, room_of}
+use Rattle.format_traits.proofs.Names.{Command, acts_of, DesignValue, origin, WriteLimits, ReadFault, WriteFault, Loaded, AcceptedIsWithinLimits, IsFed, CodecsKeepLaws, HasSameActs, RoundTrips, Meaning, IsPlain, are_plain_from, first_refusal, stops_of, room_of, acts_without_numbers, KeepsLimits, is_point_within, FeedState, Feeds, Finishes, HasNothingFed, IsCodec, KeepsAllLaws, KeepsLaws}
 use Rattle.lists_and_numbers.specs.declared.memory.Memory.{Memory}
-use Rattle.design_model.specs.Acts.{acts_without_numbers}
-use Rattle.design_model.specs.Designs.{KeepsLimits}
-use Rattle.design_model.specs.Points.{is_point_within}
 use Rattle.format_traits.specs.declared.fault.ReadFault.TheVariants as read
-use Rattle.format_traits.specs.Feeding.{FeedState, Feeds, Finishes, HasNothingFed}
-use Rattle.format_traits.specs.Laws.{IsCodec, KeepsAllLaws, KeepsLaws}
 
 -- a plain design has up to 254 stops and room for up to a million commands
 pub known_largest : (limit : ℕ) (d : DesignValue) → IsTrue (are_plain_from limit true origin (acts_of d))

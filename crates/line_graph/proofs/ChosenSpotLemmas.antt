@@ -1,17 +1,13 @@
 -- The choosing of starts and ends: labels decide which spots are connected.
 use Rattle.std.proofs.Common.{◌≡◌, ◌<◌, ◌≤◌, ◌⊎◌, ℕ, ◌==◌, Bool, true, false, ◌||◌, List, [], ◌∷◌, ◌++◌, length, get_or, set, Some, Ok, Err, ◌≢◌, All, arith, refl, sym, ◌∙◌, ap, subst}
-use Rattle.std.proofs.lemmas.List.{get_or_default}
 use Rattle.std.proofs.lemmas.List.Folds.{list_any-append}
-use Rattle.std.proofs.lemmas.List.Sums.{passes_at_first}
-use Rattle.line_graph.proofs.Names.{and_parts, eqb-false, or_parts, nat_tests, get_or-set_other, get_or-set_same, length-set, All-cons, All-head, All-nil, All-push, All-tail, all_pairs_push, slice_get-get_or, list_any, position_or_len, Point, is_same_point, Spot, LineValue, DrawingValue, optional_line_block, first_point, last_point, optional_line_points, endpoints, IsLineEnd, ArePieceLabels, AreConnected, IsPathOfLines, are_connected_spots, has_end_at_spot, same_is, same_number}
+use Rattle.line_graph.proofs.Names.{and_parts, eqb-false, or_parts, nat_tests, get_or-set_other, get_or-set_same, length-set, All-cons, All-head, All-nil, All-push, All-tail, all_pairs_push, slice_get-get_or, list_any, position_or_len, Point, is_same_point, Spot, LineValue, DrawingValue, optional_line_block, first_point, last_point, optional_line_points, endpoints, IsLineEnd, ArePieceLabels, AreConnected, IsPathOfLines, are_connected_spots, has_end_at_spot, same_is, same_number, get_or_default, passes_at_first, AreInDifferentPieces, is_junction, spot_added, same_test}
 use Rattle.line_graph.specs.declared.chosen_spots.ChosenSpots.{ChosenSpots}
 use Rattle.drawing_model.specs.declared.draw_kind.DrawKind.TheVariants as kind
 use Rattle.line_graph.specs.EndsMakerInvariants.{AreChosen, label_at}
-use Rattle.drawing_model.specs.WalkEnds.{AreInDifferentPieces, is_junction, spot_added}
 use Rattle.line_graph.proofs.ConnectedSpotLemmas.{spots_are_joined}
 use Rattle.line_graph.proofs.LabelLemmas.{joined_back, joined_on}
 use Rattle.line_graph.proofs.LinkLemmas.{from_ends}
-use Rattle.lists_and_numbers.proofs.CallerLemmas.{same_test}
 
 -- a test that one of them passes is passed below their count
 found_within : {X : Type 0} (test : X → Bool) (xs : List X) → list_any test xs ≡ true → position_or_len test xs < length xs

@@ -1,7 +1,6 @@
 -- Degrees of junctions, counted line end by line end.
 use Rattle.std.proofs.Common.{◌≡◌, ◌<◌, ◌≤◌, ℕ, zero, suc, ◌+◌, ◌*◌, ◌==◌, true, false, List, [], ◌∷◌, ◌++◌, length, get_or, set, take, replicate, nat_lt, ◌&&◌, All, arith, refl, sym, ◌∙◌, ap}
-use Rattle.std.proofs.lemmas.List.{length-take}
-use Rattle.line_graph.proofs.Names.{and_parts, eqb-false, nat_tests, get_or-set_other, get_or-set_same, take_more, All-cons, All-nil, Edge, ends_below, one_if, degree, degrees_from, same_number}
+use Rattle.line_graph.proofs.Names.{and_parts, eqb-false, nat_tests, get_or-set_other, get_or-set_same, take_more, All-cons, All-nil, Edge, ends_below, one_if, degree, degrees_from, same_number, length-take}
 
 -- an edge for a place where there is none
 abbrev pub no_edge : Edge

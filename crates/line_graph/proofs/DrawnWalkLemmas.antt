@@ -1,9 +1,6 @@
 -- The fitting walks over the graph of a piece are the threads over its lines.
 use Rattle.std.proofs.Common.{◌≡◌, ℕ, zero, suc, ◌<◌, ◌≤◌, ◌==◌, ◌&&◌, ◌||◌, Bool, true, false, cond, nat_lt, List, [], ◌∷◌, length, map, get_or, slice_get, Option, Some, None, option_map, position, All, AllPairs, Contains, arith, refl, sym, ◌∙◌, ap, subst}
-use Rattle.std.proofs.lemmas.Bool.{both_ways}
-use Rattle.line_graph.proofs.Names.{nat_tests, and_parts, All-cons, All-head, All-nil, All-tail, list_any, position_or_len, option_or, Point, is_same_point, Spot, Edge, Pass, DrawingValue, KeepsDrawingLimits, block_of, first_point, last_point, NeedlesLeadAlong, edge_between, first_junction_among, junction_number, junctions_of, piece_graph, first_line, after_edge, are_same_junction, covers, edge_of, is_fitting_walk, is_walk_start_to_end, pass_end, pass_start, walk_end_from, IsValidPiece, needles_of_pass, same_found, less_test, number_found, same_number}
-use Rattle.line_graph.specs.DrawnWalks.{FittingWalksAreThreads, GivenPointsAreJunctions, IsThreadOver, KeepsGivenEnds, Leads, given_point}
-use Rattle.line_graph.specs.PieceWalks.{is_line_passed, pass_start_on, walk_start}
+use Rattle.line_graph.proofs.Names.{nat_tests, and_parts, All-cons, All-head, All-nil, All-tail, list_any, position_or_len, option_or, Point, is_same_point, Spot, Edge, Pass, DrawingValue, KeepsDrawingLimits, block_of, first_point, last_point, NeedlesLeadAlong, edge_between, first_junction_among, junction_number, junctions_of, piece_graph, first_line, after_edge, are_same_junction, covers, edge_of, is_fitting_walk, is_walk_start_to_end, pass_end, pass_start, walk_end_from, IsValidPiece, needles_of_pass, same_found, less_test, number_found, same_number, both_ways, FittingWalksAreThreads, GivenPointsAreJunctions, IsThreadOver, KeepsGivenEnds, Leads, given_point, is_line_passed, pass_start_on, walk_start}
 use Rattle.line_graph.proofs.SewnWalkLemmas.{Passed, found, junction_at, passed}
 use Rattle.line_graph.proofs.TipLemmas.{found_below}
 use Rattle.line_graph.proofs.CallerLemmas.{lost}

@@ -1,7 +1,6 @@
 -- Every piece of a drawing is maximal, and so its graph is valid.
 use Rattle.std.proofs.Common.{◌≡◌, ◌≢◌, ◌<◌, ◌≤◌, ℕ, zero, suc, List, [], ◌∷◌, length, get_or, slice_get, Some, All, Contains, arith, refl, subst}
-use Rattle.line_graph.proofs.Names.{All-contains, concat, IsStrictlyIncreasing, SplitPointsLead, LineValue, DrawingValue, IsPiece, ArePieces, AreConnected, LinesTouch, first_line, concat_has}
-use Rattle.line_graph.specs.DrawnWalks.{PiecesAreValid}
+use Rattle.line_graph.proofs.Names.{All-contains, concat, IsStrictlyIncreasing, SplitPointsLead, LineValue, DrawingValue, IsPiece, ArePieces, AreConnected, LinesTouch, first_line, concat_has, PiecesAreValid}
 use Rattle.line_graph.proofs.LabelLemmas.{joined_back, joined_on}
 use Rattle.line_graph.proofs.UniquePieceLemmas.{alike, among}
 use Rattle.line_graph.proofs.ValidPieceLemmas.{part_kept}

@@ -1,8 +1,6 @@
 -- Numbers of junctions, in the order in which lines name them.
 use Rattle.std.proofs.Common.{◌≡◌, ◌<◌, ◌≤◌, ℕ, ◌+◌, ◌*◌, Bool, true, false, List, [], ◌∷◌, ◌++◌, length, map, drop, get_or, Some, arith, refl, sym, ◌∙◌, ap, inl, inr}
-use Rattle.std.proofs.lemmas.List.{at_drop_more}
-use Rattle.line_graph.proofs.Names.{nat_tests, or_cases, or_left, or_right, append_assoc, length-append, flat_map-cons, flat_map, list_any, position_or_len, Point, is_same_point, Edge, DrawingValue, first_point, last_point, points_of, endpoints, edge_between, junctions_of, junction_number, with_points, with_point, cost_of_line, same_found}
-use Rattle.line_graph.specs.PieceLabels.{AddsEdge}
+use Rattle.line_graph.proofs.Names.{nat_tests, or_cases, or_left, or_right, append_assoc, length-append, flat_map-cons, flat_map, list_any, position_or_len, Point, is_same_point, Edge, DrawingValue, first_point, last_point, points_of, endpoints, edge_between, junctions_of, junction_number, with_points, with_point, cost_of_line, same_found, at_drop_more, AddsEdge}
 
 -- a place that is found stays where more follow
 place_before : (test : Point → Bool) (xs ys : List Point) → list_any test xs ≡ true

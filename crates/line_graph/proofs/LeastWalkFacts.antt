@@ -1,7 +1,6 @@
 -- A walk that costs one step more than another fitting walk isn't least.
 use Rattle.std.proofs.Common.{◌≡◌, ℕ, ◌≤◌, true, false, List, [], ◌∷◌, None, Some, ap, refl, arith, true≢false}
-use Rattle.line_graph.proofs.Names.{Edge, Pass, PieceValue, BeginsWith, is_fitting_walk, walk_cost}
-use Rattle.line_graph.specs.PieceWalks.{IsLeastWalk}
+use Rattle.line_graph.proofs.Names.{Edge, Pass, PieceValue, BeginsWith, is_fitting_walk, walk_cost, IsLeastWalk}
 use Rattle.line_graph.proofs.WalkFacts.{at}
 
 abbrev edge : ℕ → ℕ → ℕ → Edge

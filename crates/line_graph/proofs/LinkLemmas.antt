@@ -1,9 +1,7 @@
 -- Lines that touch are linked with one line.
 use Rattle.std.proofs.Common.{◌≡◌, ◌<◌, ◌≤◌, ◌⊎◌, inl, inr, ℕ, zero, suc, ◌+◌, ◌==◌, Bool, true, false, cond, List, [], ◌∷◌, length, get_or, slice_get, Option, Some, None, All, Contains, arith, refl, sym, ◌∙◌, ap, subst}
 use Rattle.std.proofs.Math.Path.{ap₂}
-use Rattle.std.proofs.lemmas.List.Elements.{Contains-append_left, Contains-push}
-use Rattle.line_graph.proofs.Names.{and_parts, or_cases, or_left, or_right, nat_tests, All-contains, All-push, All-weaker, slice_get-get_or, list_any, Point, is_same_point, last_point_or, Spot, LineValue, is_same_spot, LineLink, DrawingValue, optional_line_block, block_of, first_point, last_point, optional_line_points, points_of, endpoints, AreLinks, IsLineEnd, AreLinkedBelow, LabelsAgree, AreConnected, LinesTouch, shares_point, same_found, same_is, same_spot, spot_found, same_number, some_same}
-use Rattle.line_graph.specs.FirstLines.{AddsLink, IsLinkedAt, SharesEnd, RecordsFirstLine}
+use Rattle.line_graph.proofs.Names.{and_parts, or_cases, or_left, or_right, nat_tests, All-contains, All-push, All-weaker, slice_get-get_or, list_any, Point, is_same_point, last_point_or, Spot, LineValue, is_same_spot, LineLink, DrawingValue, optional_line_block, block_of, first_point, last_point, optional_line_points, points_of, endpoints, AreLinks, IsLineEnd, AreLinkedBelow, LabelsAgree, AreConnected, LinesTouch, shares_point, same_found, same_is, same_spot, spot_found, same_number, some_same, Contains-append_left, Contains-push, AddsLink, IsLinkedAt, SharesEnd, RecordsFirstLine}
 
 -- a new one takes the line
 pub takes_new : (spot : Spot) (line : ℕ) (old new : Spot → Option ℕ) → old spot ≡ None

@@ -1,7 +1,6 @@
 -- Worked values of the graphs of pieces, and of walks that fit them. Costs count steps of at most 10.
 use Rattle.std.proofs.Common.{◌≡◌, ℕ, true, false, List, [], ◌∷◌, None, Some, refl, arith}
-use Rattle.line_graph.proofs.Names.{Point, LineValue, Edge, Pass, DrawingValue, degree, odd_junctions, piece_graph, IsFirstLabelled, lines_labelled_from, lines_labelled, pieces_by_label, all_below, all_costs_positive, ends_below, is_below, is_fitting_walk, piece_cost, is_strictly_increasing, walk_cost, block_of_passes}
-use Rattle.line_graph.specs.PieceWalks.{passes}
+use Rattle.line_graph.proofs.Names.{Point, LineValue, Edge, Pass, DrawingValue, degree, odd_junctions, piece_graph, IsFirstLabelled, lines_labelled_from, lines_labelled, pieces_by_label, all_below, all_costs_positive, ends_below, is_below, is_fitting_walk, piece_cost, is_strictly_increasing, walk_cost, block_of_passes, passes}
 use Rattle.line_graph.proofs.WalkFacts.{at}
 
 -- a line through these points in a block

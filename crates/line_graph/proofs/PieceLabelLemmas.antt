@@ -1,16 +1,9 @@
 -- Lines with one label are the pieces of a drawing.
 use Rattle.std.proofs.Common.{◌≡◌, ◌≢◌, ◌<◌, ◌≤◌, ℕ, ◌+◌, ◌-◌, true, List, [], ◌∷◌, ◌++◌, length, map, filter, get_or, All, Contains, arith, refl, sym, ◌∙◌, ap, subst}
-use Rattle.std.proofs.lemmas.List.{append-nil}
-use Rattle.std.proofs.lemmas.List.Elements.{All-filter, filter_passes}
 use Rattle.std.proofs.lemmas.List.FromFn.{get_or-range_with_len, length-range_with_len}
-use Rattle.std.proofs.lemmas.List.Kept.{IsStrictlyIncreasing-filter}
-use Rattle.std.specs.List.{range_with_len}
-use Rattle.line_graph.proofs.Names.{nat_tests, append_assoc, All-contains, All-head, All-map, All-push, All-tail, concat, IsStrictlyIncreasing, LineLink, Piece, graph_of, lines_of_pieces, DrawingValue, AreLinks, AreLabelsOfLinks, PieceValue, piece_graph, ArePieceLabels, IsPiece, has_label, lines_labelled, pieces_by_label, ArePieces, AreConnected, IsPathOfLines, first_line, concat_has, filter_skips, number_found, same_number}
-use Rattle.line_graph.specs.PiecesOfDrawings.{ArePiecesOf}
-use Rattle.line_graph.specs.PieceLabels.{is_own_label}
+use Rattle.line_graph.proofs.Names.{nat_tests, append_assoc, All-contains, All-head, All-map, All-push, All-tail, concat, IsStrictlyIncreasing, LineLink, Piece, graph_of, lines_of_pieces, DrawingValue, AreLinks, AreLabelsOfLinks, PieceValue, piece_graph, ArePieceLabels, IsPiece, has_label, lines_labelled, pieces_by_label, ArePieces, AreConnected, IsPathOfLines, first_line, concat_has, filter_skips, number_found, same_number, append-nil, All-filter, filter_passes, IsStrictlyIncreasing-filter, range_with_len, ArePiecesOf, is_own_label, all_concat, filter_has, filter_takes, map_has, range_rises, unequal}
 use Rattle.line_graph.proofs.LinkLemmas.{share_of}
 use Rattle.line_graph.proofs.CallerLemmas.{firsts_rise}
-use Rattle.lists_and_numbers.proofs.CallerLemmas.{all_concat, filter_has, filter_takes, map_has, range_rises, unequal}
 
 -- numbers of a range are in it
 range_has : (at count n : ℕ) → at ≤ n → n < at + count → Contains (range_with_len at count) n

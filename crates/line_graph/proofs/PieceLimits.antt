@@ -1,10 +1,8 @@
 -- The pieces of a drawing within its limits: each line is in one of them.
 use Rattle.std.proofs.Common.{◌≡◌, ◌≢◌, ◌≤◌, ◌<◌, ℕ, zero, suc, ◌+◌, ◌-◌, ◌*◌, ◌==◌, Bool, true, false, cond, List, [], ◌∷◌, ◌++◌, length, map, get_or, slice_get, Some, All, AllPairs, Contains, sum_by, arith, refl, sym, ◌∙◌, ap, subst}
-use Rattle.std.proofs.lemmas.Option.{slice_get_within}
-use Rattle.line_graph.proofs.Names.{nat_tests, and_parts, All-contains, All-head, All-tail, AllPairs-from_increasing, sum_by-cons, length-map, AllZip, concat, IsStrictlyIncreasing, LineValue, Pass, DrawingValue, KeepsDrawingLimits, optional_line_block, block_of, endpoints, steps_of_line, edge_between, junctions_of, piece_graph, AreConnected, IsPathOfLines, LinesTouch, first_line, shares_point, edge_cost, edge_sum, piece_cost, block_of_passes, runs_of, stops_after, GoesAlong, PiecesKeepLimits, cost_of_line, cost_is, same_number}
+use Rattle.line_graph.proofs.Names.{nat_tests, and_parts, All-contains, All-head, All-tail, AllPairs-from_increasing, sum_by-cons, length-map, AllZip, concat, IsStrictlyIncreasing, LineValue, Pass, DrawingValue, KeepsDrawingLimits, optional_line_block, block_of, endpoints, steps_of_line, edge_between, junctions_of, piece_graph, AreConnected, IsPathOfLines, LinesTouch, first_line, shares_point, edge_cost, edge_sum, piece_cost, block_of_passes, runs_of, stops_after, GoesAlong, PiecesKeepLimits, cost_of_line, cost_is, same_number, slice_get_within, sum_over}
 use Rattle.line_graph.proofs.PieceLemmas.{touch_turned}
 use Rattle.line_graph.proofs.CallerLemmas.{firsts_rise}
-use Rattle.lists_and_numbers.proofs.CallerLemmas.{sum_over}
 
 -- how often a number is in a list
 abbrev pub often : ℕ → List ℕ → ℕ

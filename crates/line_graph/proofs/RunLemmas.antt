@@ -1,11 +1,9 @@
 -- The acts of the commands that sew runs.
 use Rattle.std.proofs.Common.{arith}
 use Rattle.std.proofs.Common.{◌≡◌, ◌≢◌, ℕ, zero, suc, ◌+◌, ◌-◌, Bool, true, false, List, [], ◌∷◌, ◌++◌, map, replicate, All, ap, refl}
-use Rattle.line_graph.proofs.Names.{nat_tests, All-head, All-tail, Act, Stitch, Stop, Point, acts_without_numbers, HasNeedle, Run, commands_after}
+use Rattle.line_graph.proofs.Names.{nat_tests, All-head, All-tail, Act, Stitch, Stop, Point, acts_without_numbers, HasNeedle, Run, commands_after, acts_from, sewn_acts_after}
 use Rattle.design_model.specs.declared.act.Act.TheVariants as act
 use Rattle.design_model.specs.declared.command.Command.{Command}
-use Rattle.design_model.specs.Acts.{acts_from}
-use Rattle.line_graph.specs.Runs.{sewn_acts_after}
 
 -- with no jump so far the commands have these acts, whatever number they begin at
 abbrev Come : Bool → List Command → List Act → Type 0

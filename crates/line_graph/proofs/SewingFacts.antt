@@ -1,7 +1,6 @@
 -- Worked values of sewing in several blocks.
 use Rattle.std.proofs.Common.{◌≡◌, ℕ, ℤ, pos, negsuc, [], ◌∷◌, codes, false, refl}
-use Rattle.line_graph.proofs.Names.{Stitch, Stop, Trim, Point, DrawingValue, Run, stops_after}
-use Rattle.line_graph.specs.Runs.{sewn_design}
+use Rattle.line_graph.proofs.Names.{Stitch, Stop, Trim, Point, DrawingValue, Run, stops_after, sewn_design}
 
 abbrev place : ℤ → ℤ → Point
 place x y = record { x = x; y = y }

@@ -1,11 +1,7 @@
 -- Walks over a piece of a drawing as needle points.
 use Rattle.std.proofs.Common.{◌≡◌, ◌≢◌, ℕ, suc, ◌+◌, ◌<◌, ◌≤◌, ◌==◌, Bool, true, false, cond, ◌&&◌, nat_lt, List, [], ◌∷◌, ◌++◌, length, map, drop, reverse, slice_get, Option, Some, None, All, Contains, arith, refl, sym, ◌∙◌, ap, subst}
-use Rattle.std.proofs.lemmas.List.{length-reverse}
 use Rattle.std.proofs.lemmas.List.Recursion.{is_position_or_len}
-use Rattle.line_graph.proofs.Names.{nat_tests, and_parts, length-append, flat_map-cons, All-append, All-cons, All-contains, All-head, All-nil, All-tail, flat_map, Point, is_same_point, IsNeedlePoint, AreCloseAfter, Edge, Pass, DrawingValue, KeepsDrawingLimits, first_point, last_point, points_of, ends_below, NeedlesLeadAlong, edge_between, junctions_of, junction_number, piece_graph, after_edge, edge_cost, covers, edge_of, pass_end, is_walk_start_to_end, pass_start, walk_end_from, AreNear, FittingWalksAreSewable, IsSewable, needles_of_pass, needles_of_walk, same_is}
-use Rattle.drawing_model.specs.LineNeedles.{AreNeedlesOf, needles_of_line}
-use Rattle.line_graph.specs.PieceWalks.{required_start, required_end, edge_value, pass_sum}
-use Rattle.drawing_model.proofs.CallerLemmas.{close_on}
+use Rattle.line_graph.proofs.Names.{nat_tests, and_parts, length-append, flat_map-cons, All-append, All-cons, All-contains, All-head, All-nil, All-tail, flat_map, Point, is_same_point, IsNeedlePoint, AreCloseAfter, Edge, Pass, DrawingValue, KeepsDrawingLimits, first_point, last_point, points_of, ends_below, NeedlesLeadAlong, edge_between, junctions_of, junction_number, piece_graph, after_edge, edge_cost, covers, edge_of, pass_end, is_walk_start_to_end, pass_start, walk_end_from, AreNear, FittingWalksAreSewable, IsSewable, needles_of_pass, needles_of_walk, same_is, length-reverse, AreNeedlesOf, needles_of_line, required_start, required_end, edge_value, pass_sum, close_on}
 use Rattle.line_graph.proofs.TrailLemmas.{Trail, trail_back, trail_of}
 use Rattle.line_graph.proofs.CallerLemmas.{goes_from, lost}
 

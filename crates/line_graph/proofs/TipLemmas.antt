@@ -1,8 +1,6 @@
 -- The junctions of lines are the ends of these lines, each once.
 use Rattle.std.proofs.Common.{◌≡◌, ◌<◌, ◌≤◌, ◌⊎◌, inl, inr, ℕ, Bool, true, false, cond, List, [], ◌∷◌, ◌++◌, length, map, get_or, Option, Some, All, AllPairs, Contains, arith, refl, sym, ◌∙◌, ap, subst}
-use Rattle.std.proofs.lemmas.List.Elements.{All-contains_itself, Contains-get_or}
-use Rattle.std.proofs.lemmas.List.Sums.{position_or_len_is}
-use Rattle.line_graph.proofs.Names.{nat_tests, flat_map-cons, All-append, All-contains, All-cons, All-head, All-map, All-nil, All-push, All-tail, All-weaker, all_pairs_push, flat_map, list_any, position_or_len, Point, is_same_point, last_point_or, Edge, DrawingValue, KeepsDrawingLimits, first_point, last_point, points_of, endpoints, edge_between, junctions_of, junction_number, with_points, with_point, same_found, line_there, same_back}
+use Rattle.line_graph.proofs.Names.{nat_tests, flat_map-cons, All-append, All-contains, All-cons, All-head, All-map, All-nil, All-push, All-tail, All-weaker, all_pairs_push, flat_map, list_any, position_or_len, Point, is_same_point, last_point_or, Edge, DrawingValue, KeepsDrawingLimits, first_point, last_point, points_of, endpoints, edge_between, junctions_of, junction_number, with_points, with_point, same_found, line_there, same_back, All-contains_itself, Contains-get_or, position_or_len_is}
 use Rattle.line_graph.proofs.JunctionLemmas.{put_found, put_keeps, seen_keeps, seen_on}
 
 -- a point is the first of a list, or the last

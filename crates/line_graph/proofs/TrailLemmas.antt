@@ -1,10 +1,8 @@
 -- Needle points of passes and of walks, as trails of steps within the longest step.
 use Rattle.std.proofs.Common.{◌≡◌, ℕ, ℤ, ◌-ℤ◌, unsigned_abs, IsTrue, List, [], ◌∷◌, reverse, Some, All, arith, refl, sym, ◌∙◌, ap, subst}
 use Rattle.std.proofs.lemmas.Int.{ints}
-use Rattle.line_graph.proofs.Names.{nat_tests, All-cons, All-head, All-nil, All-tail, Point, IsNeedlePoint, AreCloseAfter, last_point_or, first_point, last_point, some_same}
+use Rattle.line_graph.proofs.Names.{nat_tests, All-cons, All-head, All-nil, All-tail, Point, IsNeedlePoint, AreCloseAfter, last_point_or, first_point, last_point, some_same, is_point_within, move_between, AreClose}
 use mathlib.Core.List.{reverse_aux}
-use Rattle.design_model.specs.Points.{is_point_within, move_between}
-use Rattle.drawing_model.specs.LineNeedles.{AreClose}
 use Rattle.line_graph.proofs.CallerLemmas.{range_back}
 
 -- points from one to another

@@ -1,10 +1,8 @@
 -- A drawing has one list of pieces.
 use Rattle.std.proofs.Common.{◌≡◌, ◌≢◌, ◌<◌, inl, inr, ℕ, zero, suc, List, [], ◌∷◌, length, All, AllPairs, Contains, arith, refl, sym, ◌∙◌, ap, subst}
-use Rattle.std.proofs.lemmas.List.Elements.{Contains-append_cases}
-use Rattle.line_graph.proofs.Names.{nat_tests, All-contains, AllPairs-from_increasing, concat, IsStrictlyIncreasing, DrawingValue, PiecesAreUnique, ArePieces, AreConnected, first_line, concat_has}
+use Rattle.line_graph.proofs.Names.{nat_tests, All-contains, AllPairs-from_increasing, concat, IsStrictlyIncreasing, DrawingValue, PiecesAreUnique, ArePieces, AreConnected, first_line, concat_has, Contains-append_cases, pairs_tail}
 use Rattle.line_graph.proofs.LabelLemmas.{joined_back, joined_on}
 use Rattle.line_graph.proofs.CallerLemmas.{firsts_rise}
-use Rattle.lists_and_numbers.proofs.CallerLemmas.{pairs_tail}
 
 -- what holds of all pairs holds of the first and each later one
 pairs_head : {X : Type 0} (P : X → X → Type 0) (x : X) (xs : List X) (y : X) → AllPairs P (x ∷ xs) → Contains xs y → P x y

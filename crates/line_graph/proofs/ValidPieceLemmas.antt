@@ -1,8 +1,6 @@
 -- The graph of a piece is valid: of lines that are connected, and that no other line touches.
 use Rattle.std.proofs.Common.{◌≡◌, ◌<◌, ◌≤◌, ◌⊎◌, inl, inr, ℕ, zero, suc, pos, Bool, true, nat_le, List, [], ◌∷◌, length, map, get_or, slice_get, Some, All, AllPairs, Contains, sum_by, arith, refl, sym, ◌∙◌, ap, subst}
-use Rattle.line_graph.proofs.Names.{nat_tests, length-map, All-contains, All-head, All-map, All-tail, AllPairs-from_increasing, sum_by-cons, position_or_len, Point, is_same_point, SplitPointsLead, Spot, Edge, DrawingValue, KeepsDrawingLimits, block_of, points_of, IsConnectedGraph, IsValidPiece, all_below, all_costs_positive, ends_below, is_below, steps_of_line, degree, edge_between, junctions_of, first_junction_among, junction_number, piece_graph, IsPiece, AreConnected, IsPathOfLines, LinesTouch, first_line, all_greater, is_strictly_increasing, cost_of_line, cost_is, line_there, less_test}
-use Rattle.drawing_model.specs.Drawings.{IsLine}
-use Rattle.line_graph.specs.ValidPieces.{NoEdgeLeaves}
+use Rattle.line_graph.proofs.Names.{nat_tests, length-map, All-contains, All-head, All-map, All-tail, AllPairs-from_increasing, sum_by-cons, position_or_len, Point, is_same_point, SplitPointsLead, Spot, Edge, DrawingValue, KeepsDrawingLimits, block_of, points_of, IsConnectedGraph, IsValidPiece, all_below, all_costs_positive, ends_below, is_below, steps_of_line, degree, edge_between, junctions_of, first_junction_among, junction_number, piece_graph, IsPiece, AreConnected, IsPathOfLines, LinesTouch, first_line, all_greater, is_strictly_increasing, cost_of_line, cost_is, line_there, less_test, IsLine, NoEdgeLeaves}
 use Rattle.line_graph.proofs.LinkLemmas.{share_of}
 use Rattle.line_graph.proofs.PieceLimits.{cost_of_piece, lines_cost, often, once, over_ones, sum_once}
 use Rattle.line_graph.proofs.TreeLemmas.{junctions_few}

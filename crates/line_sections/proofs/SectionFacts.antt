@@ -1,7 +1,6 @@
 -- Worked values of sections: where lines are cut, and where they aren't.
 use Rattle.std.proofs.Common.{◌≡◌, ℕ, ◌≤◌, pos, Bool, true, false, List, [], ◌∷◌, ◌++◌, length, map, All, None, Some, refl, arith}
-use Rattle.line_sections.proofs.Names.{Point, LineValue, is_listed_again, mark_of, all_sections, are_whole_lines, lines_through, sections_of, segments_of, is_same_spot}
-use Rattle.line_sections.specs.Sections.{SectionsHaveSegments, WholeLinesStay}
+use Rattle.line_sections.proofs.Names.{Point, LineValue, is_listed_again, mark_of, all_sections, are_whole_lines, lines_through, sections_of, segments_of, is_same_spot, SectionsHaveSegments, WholeLinesStay}
 
 abbrev at : ℕ → ℕ → Point
 at x y = record { x = pos x; y = pos y }

@@ -1,8 +1,6 @@
 -- The sections of one line: they begin where it begins, keep its segments, and are cut nowhere inside.
 use Rattle.std.proofs.Common.{◌≡◌, ◌≤◌, ℕ, Bool, true, false, ◌&&◌, cond, List, [], ◌∷◌, length, All, sum_by, ap, sym, subst, ◌∙◌, refl, arith}
-use Rattle.std.proofs.lemmas.List.Elements.{All-cons}
-use Rattle.line_sections.proofs.Names.{and_parts, both_ways, or_parts, flat_map-cons, All-head, All-nil, All-tail, sum_by-cons, count_by, flat_map, list_any, Point, but_last, has_points, inner_points, sections_from, sections_of, segments_of}
-use Rattle.line_sections.specs.Sections.{sections_with_first, segments_from}
+use Rattle.line_sections.proofs.Names.{and_parts, both_ways, or_parts, flat_map-cons, All-head, All-nil, All-tail, sum_by-cons, count_by, flat_map, list_any, Point, but_last, has_points, inner_points, sections_from, sections_of, segments_of, All-cons, sections_with_first, segments_from}
 
 -- sections the first of which begins at p
 record Begin (p : Point) (sections : List (List Point)) : Type 0 where

@@ -1,8 +1,6 @@
 -- The sections of all lines: they meet at ends alone, and lines that do so already are their own sections.
 use Rattle.std.proofs.Common.{◌≡◌, ◌≤◌, ℕ, ◌==◌, Bool, true, false, not, nat_le, cond, List, [], ◌∷◌, ◌++◌, length, filter, All, sum_by, ap, sym, subst, ◌∙◌, refl, arith}
-use Rattle.std.proofs.lemmas.List.Elements.{All-append, All-map, All-weaker}
-use Rattle.std.proofs.lemmas.List.Sums.{list_all-from_AllPass}
-use Rattle.line_sections.proofs.Names.{and_parts, both_ways, or_parts, flat_map-cons, All-head, All-nil, All-tail, sum_by-append, sum_by-cons, count_by, flat_map, list_all, list_any, Point, is_same_point, LineValue, all_sections, are_whole_lines, inner_points, is_shared_point, is_whole_line, line_sections, lines_through, listed_in, sections_of, same_is, same_number}
+use Rattle.line_sections.proofs.Names.{and_parts, both_ways, or_parts, flat_map-cons, All-head, All-nil, All-tail, sum_by-append, sum_by-cons, count_by, flat_map, list_all, list_any, Point, is_same_point, LineValue, all_sections, are_whole_lines, inner_points, is_shared_point, is_whole_line, line_sections, lines_through, listed_in, sections_of, same_is, same_number, All-append, All-map, All-weaker, list_all-from_AllPass}
 use Rattle.line_sections.proofs.SectionLemmas.{IsUncut, line_counts, line_uncut, line_whole}
 
 -- a line of a block

@@ -1,7 +1,6 @@
 -- A walk crosses the boundary of a set an odd number of times exactly where it has one of the walk's two ends.
 use Rattle.std.proofs.Common.{◌≡◌, ℕ, ◌+◌, ◌%◌, ◌==◌, Bool, true, false, cond, not, List, [], ◌∷◌, Option, Some, None, arith}
-use Rattle.odd_cuts.proofs.Names.{nat_tests, Edge, Pass, one_if, after_edge, edge_of, pass_end, edge_value, pass_sum, pass_start, walk_end_from}
-use Rattle.line_graph.proofs.CallerLemmas.{lost}
+use Rattle.odd_cuts.proofs.Names.{nat_tests, Edge, Pass, one_if, after_edge, edge_of, pass_end, edge_value, pass_sum, pass_start, walk_end_from, lost}
 
 -- 1 where the set has the junction
 abbrev pub inside : (ℕ → Bool) → ℕ → ℕ

@@ -1,8 +1,7 @@
 -- A set has an odd number of odd junctions exactly where an odd number of edges crosses its boundary.
 use Rattle.std.proofs.Common.{◌≡◌, ◌≤◌, ◌<◌, ℕ, zero, suc, ◌+◌, ◌%◌, ◌==◌, Bool, true, false, cond, not, ◌&&◌, nat_lt, List, [], ◌∷◌, filter, arith, refl, sym, ◌∙◌, ap}
 use Rattle.std.proofs.lemmas.List.Recursion.{is_count_by}
-use Rattle.std.specs.List.{range_with_len}
-use Rattle.odd_cuts.proofs.Names.{nat_tests, and_parts, count_by, Edge, ends_below, one_if, degree, degrees_from, is_odd, edge_sum}
+use Rattle.odd_cuts.proofs.Names.{nat_tests, and_parts, count_by, Edge, ends_below, one_if, degree, degrees_from, is_odd, edge_sum, range_with_len}
 use Rattle.odd_cuts.proofs.Crossing.{crossing, inside}
 
 -- the odd junctions in a set, from a number on

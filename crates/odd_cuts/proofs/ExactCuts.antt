@@ -1,9 +1,7 @@
 -- The check of cuts accepts exactly the packings with the total that is needed.
 use Rattle.std.proofs.Common.{◌≡◌, ◌<◌, ℕ, ◌+◌, ◌*◌, ◌==◌, Bool, true, false, cond, nat_lt, nat_le, List, [], ◌∷◌, length, All, Some, None, Result, Ok, Err, IsOk, arith, refl}
-use Rattle.odd_cuts.proofs.Names.{nat_tests, All-cons, All-head, All-nil, All-tail, Edge, IsValidPiece, PieceValue, Cut, CutFault, cut_fault, cut_faults, cuts_fault, load_faults, stranger_fault, total_fault, load_on, total_weight, ReportsFault, first_fault, IsOddCut, IsPacking}
+use Rattle.odd_cuts.proofs.Names.{nat_tests, All-cons, All-head, All-nil, All-tail, Edge, IsValidPiece, PieceValue, Cut, CutFault, cut_fault, cut_faults, cuts_fault, load_faults, stranger_fault, total_fault, load_on, total_weight, ReportsFault, first_fault, IsOddCut, IsPacking, load_fault, test_none}
 use Rattle.odd_cuts.specs.declared.faults.CutFault.TheVariants as fault
-use Rattle.odd_cuts.specs.CutFaults.{load_fault}
-use Rattle.lists_and_numbers.proofs.CallerLemmas.{test_none}
 use Rattle.odd_cuts.proofs.Duality.{Fits}
 use Rattle.odd_cuts.proofs.CallerLemmas.{both_none}
 

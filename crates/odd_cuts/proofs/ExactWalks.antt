@@ -1,12 +1,8 @@
 -- The check of a walk accepts exactly the fitting ones.
 use Rattle.std.proofs.Common.{◌≡◌, ◌≤◌, ℕ, ◌+◌, ◌==◌, Bool, true, false, cond, ◌&&◌, List, [], ◌∷◌, length, Option, Some, None, Result, Ok, Err, is_ok, arith, refl, sym, ◌∙◌, ap}
-use Rattle.odd_cuts.proofs.Names.{nat_tests, option_or, Edge, Pass, IsValidPiece, PieceValue, given_start, given_end, after_edge, are_same_junction, covers, edge_of, pass_end, walk_start, is_fitting_walk, is_walk_start_to_end, pass_start, walk_end_from, first_fault, faults_from, missing_fault, walk_fault}
-use Rattle.line_graph.specs.PieceWalks.{pass_start_on}
+use Rattle.odd_cuts.proofs.Names.{nat_tests, option_or, Edge, Pass, IsValidPiece, PieceValue, given_start, given_end, after_edge, are_same_junction, covers, edge_of, pass_end, walk_start, is_fitting_walk, is_walk_start_to_end, pass_start, walk_end_from, first_fault, faults_from, missing_fault, walk_fault, pass_start_on, ChecksWalk, ends_fault, faults_at, walk_ends_fault, pass_fault, pass_faults, stays_lost, eq_self}
 use Rattle.odd_cuts.specs.declared.faults.WalkFault.{WalkFault}
 use Rattle.odd_cuts.specs.declared.faults.WalkFault.TheVariants as fault
-use Rattle.odd_cuts.specs.WalkFaults.{ChecksWalk, ends_fault, faults_at, walk_ends_fault, pass_fault, pass_faults}
-use Rattle.line_graph.proofs.CallerLemmas.{stays_lost}
-use Rattle.lists_and_numbers.proofs.CallerLemmas.{eq_self}
 
 -- no fault is reported
 abbrev is_right : {F : Type 0} → Option F → Bool

@@ -1,11 +1,7 @@
 -- Loads and totals, as they are added up.
 use Rattle.std.proofs.Common.{◌≡◌, ◌≤◌, ◌<◌, ℕ, suc, ◌+◌, ◌*◌, ◌^◌, All, true, nat_le, List, [], ◌∷◌, Option, Some, None, Result, Ok, Err, length, get_or, replicate, set, slice_get, arith, refl, sym, ap, subst, ◌∙◌}
-use Rattle.std.proofs.lemmas.Bool.{cases_eq}
-use Rattle.std.proofs.lemmas.Option.{get_or_from_slice_get}
-use Rattle.std.specs.List.{fold}
 use Rattle.std.specs.Result.{IsErrAnd}
-use Rattle.odd_cuts.proofs.Names.{nat_tests, get_or-set_other, get_or-set_same, All-head, All-tail, Cut, share_of, table_load_faults, ReportsFault, HaveNumberedMembers, cut_fault, cut_faults, cuts_fault, load_faults, total_fault, CutFault, load_on, total_weight, PieceValue, Edge, MAX_LINES}
-use Rattle.odd_cuts.specs.CheckTables.{AddsShares, AreLoads}
+use Rattle.odd_cuts.proofs.Names.{nat_tests, get_or-set_other, get_or-set_same, All-head, All-tail, Cut, share_of, table_load_faults, ReportsFault, HaveNumberedMembers, cut_fault, cut_faults, cuts_fault, load_faults, total_fault, CutFault, load_on, total_weight, PieceValue, Edge, MAX_LINES, cases_eq, get_or_from_slice_get, fold, AddsShares, AreLoads}
 use Rattle.odd_cuts.proofs.TableLemmas.{blank}
 
 -- each member of the cut has a number

@@ -1,9 +1,8 @@
 -- Cuts that are no packing, walks that a packing bounds, and certificates without a canonical text.
 use Rattle.std.proofs.Common.{◌≡◌, ℕ, ◌+◌, ◌*◌, ◌<◌, ◌≤◌, true, false, List, [], ◌∷◌, All, None, refl, arith, sym, true≢false}
-use Rattle.odd_cuts.proofs.Names.{All-cons, All-nil, Pass, PieceValue, is_fitting_walk, piece_cost, walk_cost, IsValidPiece, PieceCert, Cut, cuts_fault, total_weight, BoundsTotal, BoundsWalks, ProvesLeast, IsOddCut, IsPacking, walk_fault}
+use Rattle.odd_cuts.proofs.Names.{All-cons, All-nil, Pass, PieceValue, is_fitting_walk, piece_cost, walk_cost, IsValidPiece, PieceCert, Cut, cuts_fault, total_weight, BoundsTotal, BoundsWalks, ProvesLeast, IsOddCut, IsPacking, walk_fault, IsPlainCut}
 use Rattle.odd_cuts.specs.Certificates.{HasCanonicalText}
 use Rattle.odd_cuts.specs.FaultTheorems.{CutFaultsAreExact, WalkFaultsAreExact}
-use Rattle.odd_cuts.specs.Packings.{IsPlainCut}
 use Rattle.odd_cuts.proofs.WalkFaultFacts.{closed}
 
 abbrev cut : ℕ → List ℕ → Cut

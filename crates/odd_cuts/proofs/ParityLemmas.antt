@@ -1,10 +1,8 @@
 -- The parities of junctions give the number of odd ones that a cut holds.
 use Rattle.std.proofs.Common.{◌≡◌, ◌≤◌, ℕ, zero, suc, ◌+◌, Bool, true, false, List, [], ◌∷◌, ◌++◌, Option, Some, None, length, get_or, arith, refl, sym, ◌∙◌, ap}
-use Rattle.odd_cuts.proofs.Names.{nat_tests, Cut, odd_among, parities_from, cut_fault, stranger_fault, has_member, odd_held, Edge, MAX_LINES, IsValidPiece, PieceValue, edges_with_closing, closing_edge, degree, degrees_from, given_start, is_odd, given_end, degrees_few}
+use Rattle.odd_cuts.proofs.Names.{nat_tests, Cut, odd_among, parities_from, cut_fault, stranger_fault, has_member, odd_held, Edge, MAX_LINES, IsValidPiece, PieceValue, edges_with_closing, closing_edge, degree, degrees_from, given_start, is_odd, given_end, degrees_few, AreMemberFlags, degree_closed}
 use Rattle.odd_cuts.specs.declared.faults.CutFault.TheVariants as fault
-use Rattle.odd_cuts.specs.CheckTables.{AreMemberFlags}
 use Rattle.odd_cuts.proofs.Degrees.{odd_counted, odd_in}
-use Rattle.line_graph.proofs.CallerLemmas.{degree_closed}
 
 odds_told : (set : ℕ → Bool) (from to : Option ℕ) (es : List Edge) (at n : ℕ)
     → odd_among set at (parities_from from to at (degrees_from es at n)) ≡ odd_in set at (degrees_from (closing_edge from to ++ es) at n)

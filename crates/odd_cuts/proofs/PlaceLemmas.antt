@@ -1,7 +1,6 @@
 -- The indexes of lines, as their table is computed.
 use Rattle.std.proofs.Common.{◌≡◌, ◌≤◌, ◌<◌, ℕ, ◌+◌, ◌==◌, Bool, true, false, cond, nat_lt, List, [], ◌∷◌, Option, Some, None, length, drop, get_or, replicate, slice_get, set, arith, refl}
-use Rattle.std.proofs.lemmas.Option.{slice_get-get_or, slice_get_past}
-use Rattle.odd_cuts.proofs.Names.{and_parts, nat_tests, get_or-set_other, get_or-set_same, Edge, MAX_LINES, all_greater, edge_of, is_strictly_increasing}
+use Rattle.odd_cuts.proofs.Names.{and_parts, nat_tests, get_or-set_other, get_or-set_same, Edge, MAX_LINES, all_greater, edge_of, is_strictly_increasing, slice_get-get_or, slice_get_past}
 use Rattle.odd_cuts.proofs.TableLemmas.{at_place, blank}
 
 -- the first of two edges, if there is one

@@ -1,7 +1,6 @@
 -- Sums over the lines, each with a number of times, and sums over the passes of a walk.
 use Rattle.std.proofs.Common.{◌≡◌, ◌≤◌, ℕ, ◌+◌, ◌-◌, ◌*◌, ◌==◌, Bool, true, false, cond, ◌||◌, nat_lt, List, [], ◌∷◌, length, Some, arith, refl, sym, ◌∙◌, ap}
-use Rattle.odd_cuts.proofs.Names.{nat_tests, and_parts, Edge, Pass, one_if, all_greater, covers, edge_of, edge_sum, edge_value, pass_sum, is_line_passed, is_strictly_increasing}
-use Rattle.line_graph.specs.PieceWalks.{passes}
+use Rattle.odd_cuts.proofs.Names.{nat_tests, and_parts, Edge, Pass, one_if, all_greater, covers, edge_of, edge_sum, edge_value, pass_sum, is_line_passed, is_strictly_increasing, passes}
 
 -- each line's number, y times
 abbrev pub weigh : List ℕ → List Edge → (ℕ → ℕ) → (Edge → ℕ) → ℕ

@@ -1,7 +1,6 @@
 -- The total of a packing is at most twice the cost of the lines, since each odd cut is crossed by a line.
 use Rattle.std.proofs.Common.{◌≡◌, ◌≤◌, ◌<◌, ℕ, zero, suc, ◌+◌, ◌%◌, Bool, true, false, List, [], ◌∷◌, length, arith, refl, ◌∙◌, ap}
-use Rattle.odd_cuts.proofs.Names.{nat_tests, Edge, IsValidPiece, PieceValue, edges_with_closing, degrees_from, edge_cost, edge_sum, Cut, BoundsTotal, has_member, IsOddCut, odd_held}
-use Rattle.line_graph.specs.ValidPieces.{NoEdgeLeaves}
+use Rattle.odd_cuts.proofs.Names.{nat_tests, Edge, IsValidPiece, PieceValue, edges_with_closing, degrees_from, edge_cost, edge_sum, Cut, BoundsTotal, has_member, IsOddCut, odd_held, NoEdgeLeaves}
 use Rattle.odd_cuts.proofs.Crossing.{crossing}
 use Rattle.odd_cuts.proofs.Degrees.{odd_counted, odd_crossing, odd_in}
 use Rattle.odd_cuts.proofs.Duality.{loads_cost, total_loads}

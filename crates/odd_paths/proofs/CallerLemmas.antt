@@ -1,12 +1,7 @@
 -- Lemmas that this crate and those above cite.
 use Rattle.std.proofs.Common.{List, Some, [], ap, arith, get_or, length, slice_get, subst, sym, ℕ, ◌<◌, ◌∙◌, ◌≡◌, ◌≢◌}
-use Rattle.std.proofs.lemmas.List.Elements.{All-filter, All-from_get_or}
-use Rattle.std.proofs.lemmas.List.FromFn.{get_or-range_with_len}
 use Rattle.std.proofs.lemmas.List.Kept.{AllPairs-filter}
-use Rattle.std.proofs.lemmas.Option.{slice_get-get_or}
-use Rattle.odd_paths.proofs.Names.{length-range_with_len, slice_get_within, range_with_len, PieceValue, odd_junctions, AreRows, AreTerminals, RowsValue}
-use Rattle.line_graph.specs.PieceGraphs.{is_odd_junction}
-use Rattle.odd_paths.specs.LeastRows.{length_in}
+use Rattle.odd_paths.proofs.Names.{length-range_with_len, slice_get_within, range_with_len, PieceValue, odd_junctions, AreRows, AreTerminals, RowsValue, All-filter, All-from_get_or, get_or-range_with_len, slice_get-get_or, is_odd_junction, length_in}
 
 -- a row has a number for each junction
 pub is_wide : (p : PieceValue) (rows : RowsValue) (a : ℕ) (row : List ℕ) → AreRows p rows → slice_get rows.table a ≡ Some row

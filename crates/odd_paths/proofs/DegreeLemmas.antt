@@ -1,14 +1,7 @@
 -- Degrees of junctions: the ends of the closing line, the sum of all degrees, and the number of odd ones.
 use Rattle.std.proofs.Common.{◌≡◌, ℕ, zero, suc, ◌+◌, ◌*◌, ◌%◌, ◌<◌, ◌≤◌, ◌==◌, Bool, true, false, ◌&&◌, List, [], ◌∷◌, ◌++◌, Option, length, inl, inr, refl, arith}
-use Rattle.std.proofs.lemmas.List.Sums.{count_by-le-length, length-filter}
-use Rattle.std.specs.List.{filter}
-use Rattle.std.specs.Prelude.{cond}
-use Rattle.odd_paths.proofs.Names.{and_parts, cases_eq, nat_tests, length-range_with_len, range_with_len, nat_lt, Edge, MAX_LINES, IsValidPiece, ends_below, PieceValue, one_if, odd_junctions, odds_from}
-use Rattle.line_graph.specs.PieceGraphs.{edges_with_closing, closing_edge, degree, degrees_from, given_start, is_odd, given_end}
+use Rattle.odd_paths.proofs.Names.{and_parts, cases_eq, nat_tests, length-range_with_len, range_with_len, nat_lt, Edge, MAX_LINES, IsValidPiece, ends_below, PieceValue, one_if, odd_junctions, odds_from, count_by-le-length, length-filter, filter, cond, edges_with_closing, closing_edge, degree, degrees_from, given_start, is_odd, given_end, singleton_if, degree_closed, ends_of_back, or_below, over_zero, sum_over}
 use Rattle.line_graph.specs.ClosedDegrees.{closing_ends}
-use Rattle.odd_paths.specs.OddDegrees.{singleton_if}
-use Rattle.line_graph.proofs.CallerLemmas.{degree_closed, ends_of_back, or_below}
-use Rattle.lists_and_numbers.proofs.CallerLemmas.{over_zero, sum_over}
 
 only_kept : (test : Bool) (at : ℕ) (rest : List ℕ) → singleton_if test at ++ rest ≡ cond test (at ∷ rest) rest
 only_kept true at rest = refl

@@ -1,11 +1,10 @@
 -- Least costs: home, back, along an edge, and through a third junction.
 use Rattle.std.proofs.Common.{◌≡◌, ◌≢◌, ℕ, ◌+◌, ◌≤◌, List, [], ◌∷◌, ◌++◌, true, Some, inl, inr, refl, arith}
 use Rattle.std.specs.Prelude.{slice_get}
-use Rattle.odd_paths.proofs.Names.{nat_tests, Edge, IsValidPiece, all_costs_positive, PieceValue, IsLeastEdgeCost, IsEdgeWalk, Connects, edge_walk_cost}
+use Rattle.odd_paths.proofs.Names.{nat_tests, Edge, IsValidPiece, all_costs_positive, PieceValue, IsLeastEdgeCost, IsEdgeWalk, Connects, edge_walk_cost, AreDistances}
 use Rattle.odd_paths.proofs.LastLemmas.{more_at}
 use Rattle.odd_paths.proofs.PassLemmas.{over_places}
 use Rattle.odd_paths.proofs.PlaceLemmas.{cost_append, cost_one, walk_append, walk_back, walk_one}
-use Rattle.odd_paths.specs.CostTheorems.{AreDistances}
 
 home : (es : List Edge) (i d : ℕ) → IsLeastEdgeCost es i i d → d ≡ 0
 home es i d least = let none : d ≤ 0 = least.least [] refl in omega arith

@@ -1,10 +1,7 @@
 -- A sweep that changes a row lowers the sum of its numbers.
 use Rattle.std.proofs.Common.{◌≡◌, ℕ, ◌+◌, ◌<◌, ◌≤◌, true, false, List, [], ◌∷◌, length, sum, inl, inr, refl, sym, ◌∙◌, arith}
-use Rattle.std.proofs.lemmas.Bool.{both_ways}
-use Rattle.std.proofs.lemmas.List.Sums.{sum_by-set}
-use Rattle.odd_paths.proofs.Names.{nat_tests, cases_Bool, ltb-true, length-set, slice_index, Edge, EndsAreBelow, changes, is_lower, lowered_row, relaxed, relaxes, swept}
+use Rattle.odd_paths.proofs.Names.{nat_tests, cases_Bool, ltb-true, length-set, slice_index, Edge, EndsAreBelow, changes, is_lower, lowered_row, relaxed, relaxes, swept, both_ways, sum_by-set, one_of}
 use Rattle.odd_paths.proofs.PlaceLemmas.{still_within}
-use Rattle.lists_and_numbers.proofs.CallerLemmas.{one_of}
 
 -- the length stays
 lowered_length : (row : List ℕ) (a b c : ℕ) → length (lowered_row row a b c) ≡ length row

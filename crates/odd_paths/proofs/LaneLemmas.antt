@@ -1,12 +1,9 @@
 -- Columns of tables of lanes.
 use Rattle.std.proofs.Common.{◌≡◌, Vec, Global, ◌≢◌, ℕ, zero, suc, ◌+◌, ◌<◌, ◌≤◌, List, [], ◌∷◌, All, length, min, replicate, map, get_or, inl, inr, refl, ap, ◌∙◌, subst, arith}
-use Rattle.std.proofs.lemmas.Bool.{ltb-false}
-use Rattle.std.proofs.lemmas.List.{length-map}
 use Rattle.std.proofs.Math.Seq.{map-set_same}
-use Rattle.odd_paths.proofs.Names.{nat_tests, cases_Bool, cases_eq, ltb-true, get_or-replicate, length-replicate, map-set, slice_index, slice_set, LANES, NO_WALK, Edge, AddsRows, IsCapped, KeepsCosts, lane_column, terminal_columns, AreLeastRows, IsGraph, IsLeastRow, IsFullyRelaxed, AreWalkCosts, is_lower, lowered_row}
+use Rattle.odd_paths.proofs.Names.{nat_tests, cases_Bool, cases_eq, ltb-true, get_or-replicate, length-replicate, map-set, slice_index, slice_set, LANES, NO_WALK, Edge, AddsRows, IsCapped, KeepsCosts, lane_column, terminal_columns, AreLeastRows, IsGraph, IsLeastRow, IsFullyRelaxed, AreWalkCosts, is_lower, lowered_row, ltb-false, length-map, AddsColumns, AreLeastColumns, HaveStarts}
 use Rattle.odd_paths.proofs.RowLemmas.{is_row}
 use Rattle.odd_paths.proofs.SoundLemmas.{at_other, at_same, begun, get_replicate, most_set}
-use Rattle.odd_paths.specs.Lanes.{AddsColumns, AreLeastColumns, HaveStarts}
 
 -- the number of a column
 pub column_at : (i j : ℕ) (table : List (List ℕ)) → slice_index (lane_column i table) j ≡ slice_index (get_or table j []) i

@@ -1,9 +1,7 @@
 -- A junction other than the start has a line that is the last of a least walk to it.
 use Rattle.std.proofs.Common.{◌≡◌, ◌≢◌, ℕ, ◌+◌, ◌^◌, ◌<◌, ◌≤◌, List, [], ◌∷◌, ◌++◌, length, Bool, true, false, Some, None, refl, sym, ◌∙◌, ap, arith, inl, inr, subst, zero, suc, reverse}
-use Rattle.std.proofs.lemmas.List.{reverse-append}
-use Rattle.std.specs.Prelude.{nat_le, slice_get}
-use Rattle.odd_paths.proofs.Names.{cases_eq, and_parts, slice_get_within, nat_tests, slice_index, if◌then◌else◌, Edge, MAX_LINES, all_costs_positive, edge_cost, edge_value, Connects, IsEdgeWalk, edge_walk_cost, IsLeastRow, EndsAreBelow, IsLeastEdgeWalk, last_edge_from, some_same}
-use Rattle.odd_paths.specs.LastEdges.{is_last_edge}
+use Rattle.std.specs.Prelude.{slice_get}
+use Rattle.odd_paths.proofs.Names.{cases_eq, and_parts, slice_get_within, nat_tests, slice_index, if◌then◌else◌, Edge, MAX_LINES, all_costs_positive, edge_cost, edge_value, Connects, IsEdgeWalk, edge_walk_cost, IsLeastRow, EndsAreBelow, IsLeastEdgeWalk, last_edge_from, some_same, reverse-append, nat_le, is_last_edge}
 use Rattle.odd_paths.proofs.PlaceLemmas.{below_at, cost_append, cost_one, none_is, walk_append, walk_one}
 
 -- the edge leads from m to j, and costs what their numbers differ by

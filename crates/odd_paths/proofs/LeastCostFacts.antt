@@ -1,8 +1,6 @@
 -- Costs that aren't least, rows and paths that aren't those of a piece, each for one reason.
 use Rattle.std.proofs.Common.{◌≡◌, ◌≢◌, ℕ, ◌+◌, ◌<◌, ◌≤◌, false, List, [], ◌∷◌, length, None, map, refl, arith, ap}
-use Rattle.odd_paths.proofs.Names.{Pass, PieceValue, piece_cost, walk_cost, IsValidPiece, AreRows, AreTerminals, IsLeastCost, IsPath, RowsValue, cost_at, terminal_of}
-use Rattle.odd_paths.specs.CostTheorems.{LeastCostsAreDistances}
-use Rattle.odd_paths.specs.LeastRows.{WalkLeads}
+use Rattle.odd_paths.proofs.Names.{Pass, PieceValue, piece_cost, walk_cost, IsValidPiece, AreRows, AreTerminals, IsLeastCost, IsPath, RowsValue, cost_at, terminal_of, LeastCostsAreDistances, WalkLeads}
 use Rattle.odd_paths.proofs.RowFacts.{path}
 
 -- a walk there and back and there again isn't least

@@ -1,11 +1,8 @@
 -- Walks of passes, and walks of edge indexes.
 use Rattle.std.proofs.Common.{◌≡◌, ℕ, zero, suc, ◌<◌, ◌==◌, Bool, true, false, List, [], ◌∷◌, Option, Some, None, length, map, get_or, All, inl, inr, refl, sym, ap, ◌∙◌, arith}
-use Rattle.std.proofs.lemmas.Bool.{eq-eqb, eqb-true}
 use Rattle.std.specs.Prelude.{slice_get}
-use Rattle.odd_paths.proofs.Names.{and_parts, nat_tests, All-cons, slice_get_within, if◌then◌else◌, Edge, Pass, IsValidPiece, PieceValue, edge_cost, edge_value, walk_end_from, IsLeastCost, IsLeastEdgeCost, IsEdgeWalk, Connects, edge_walk_cost, some_same}
-use Rattle.line_graph.specs.PieceWalks.{all_greater, after_edge, edge_of, pass_sum, is_strictly_increasing}
+use Rattle.odd_paths.proofs.Names.{and_parts, nat_tests, All-cons, slice_get_within, if◌then◌else◌, Edge, Pass, IsValidPiece, PieceValue, edge_cost, edge_value, walk_end_from, IsLeastCost, IsLeastEdgeCost, IsEdgeWalk, Connects, edge_walk_cost, some_same, eq-eqb, eqb-true, all_greater, after_edge, edge_of, pass_sum, is_strictly_increasing, above_at, stays_lost}
 use Rattle.odd_paths.proofs.PlaceLemmas.{none_is}
-use Rattle.line_graph.proofs.CallerLemmas.{above_at, stays_lost}
 
 -- the edge of a line is at some index
 placed : (lines : List ℕ) (es : List Edge) (line : ℕ) (e : Edge) → edge_of lines es line ≡ Some e

@@ -1,8 +1,7 @@
 -- Worked values of odd junctions, rows and paths.
 use Rattle.std.proofs.Common.{◌≡◌, ℕ, pos, ◌<◌, Bool, true, List, [], ◌∷◌, Option, Some, None, refl, arith}
-use Rattle.odd_paths.proofs.Names.{All-cons, All-nil, Edge, Pass, PieceValue, odd_junctions, piece_cost, walk_cost, walk_end_from, odds_from, IsPath, RowsValue, cost_at, terminal_of}
+use Rattle.odd_paths.proofs.Names.{All-cons, All-nil, Edge, Pass, PieceValue, odd_junctions, piece_cost, walk_cost, walk_end_from, odds_from, IsPath, RowsValue, cost_at, terminal_of, lines_at_indexes, row_length}
 use Rattle.design_model.specs.declared.point.Point.{Point}
-use Rattle.odd_paths.specs.LeastRows.{lines_at_indexes, row_length}
 
 abbrev place : ℕ → Point
 place x = record { x = pos x; y = pos 0 }

@@ -1,14 +1,10 @@
 -- A row of walk costs that no sweep changes has the least costs, since the edges connect all junctions.
 use Rattle.std.proofs.Common.{◌≡◌, ℕ, ◌+◌, ◌<◌, ◌≤◌, true, false, List, ◌++◌, length, take, drop, replicate, refl, sym, ap, ◌∙◌, subst, arith}
-use Rattle.std.proofs.lemmas.Bool.{lt-ltb}
-use Rattle.odd_paths.proofs.Names.{nat_tests, ltb-true, nat_lt, slice_index, slice_set, Edge, MAX_COST, edge_cost, edge_sum, NO_WALK, EndsAreBelow, IsGraph, IsLeastRow, IsFullyRelaxed, AreWalkCosts, changes, swept}
-use Rattle.line_graph.specs.ValidPieces.{NoEdgeLeaves}
+use Rattle.odd_paths.proofs.Names.{nat_tests, ltb-true, nat_lt, slice_index, slice_set, Edge, MAX_COST, edge_cost, edge_sum, NO_WALK, EndsAreBelow, IsGraph, IsLeastRow, IsFullyRelaxed, AreWalkCosts, changes, swept, lt-ltb, NoEdgeLeaves, KeepsWalkCosts, front_written, same_test}
 use Rattle.odd_paths.proofs.CoverLemmas.{rises_within}
 use Rattle.odd_paths.proofs.PlaceLemmas.{below_at, cost_within}
 use Rattle.odd_paths.proofs.SoundLemmas.{begun, swept_sound}
 use Rattle.odd_paths.proofs.SweepLemmas.{flat_at, no_less, settled}
-use Rattle.odd_paths.specs.Sweeps.{KeepsWalkCosts}
-use Rattle.lists_and_numbers.proofs.CallerLemmas.{front_written, same_test}
 
 near_most : (es : List Edge) (n from : ℕ) (row : List ℕ) → AreWalkCosts es n from row → IsFullyRelaxed row es
     → (i : ℕ) → i < n → slice_index row i < NO_WALK → slice_index row i ≤ edge_sum edge_cost es

@@ -1,10 +1,8 @@
 -- Each number below NO_WALK is the cost of a walk, and sweeps preserve this.
 use Rattle.std.proofs.Common.{◌≡◌, ◌≢◌, ℕ, suc, ◌+◌, ◌<◌, ◌≤◌, List, [], ◌∷◌, ◌++◌, Some, length, replicate, inl, inr, refl, ◌∙◌, get_or-set_same, get_or-set_other, arith}
-use Rattle.std.proofs.lemmas.List.{get_or_past}
 use Rattle.std.specs.Prelude.{slice_get}
-use Rattle.odd_paths.proofs.Names.{nat_tests, cases_eq, cases_lt, get_or-replicate, length-replicate, length-set, slice_index, slice_set, Edge, NO_WALK, EndsAreBelow, Connects, edge_walk_cost, AreWalkCosts, lowered_row, relaxed, swept}
+use Rattle.odd_paths.proofs.Names.{nat_tests, cases_eq, cases_lt, get_or-replicate, length-replicate, length-set, slice_index, slice_set, Edge, NO_WALK, EndsAreBelow, Connects, edge_walk_cost, AreWalkCosts, lowered_row, relaxed, swept, get_or_past, IsCost}
 use Rattle.odd_paths.proofs.PlaceLemmas.{cost_append, cost_one, walk_append, walk_one}
-use Rattle.odd_paths.specs.Sweeps.{IsCost}
 
 -- one more edge at the end of a walk
 longer : (es : List Edge) (i j m d k : ℕ) (e : Edge) → IsCost es i j d → slice_get es k ≡ Some e → Connects e j m

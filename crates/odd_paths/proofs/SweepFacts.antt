@@ -1,7 +1,6 @@
 -- Worked values of sweeps, last edges and columns.
 use Rattle.std.proofs.Common.{◌≡◌, ℕ, true, false, List, [], ◌∷◌, Some, None, refl}
-use Rattle.odd_paths.proofs.Names.{Edge, NO_WALK, lane_column, terminal_columns, weight, last_edge_from, edge_walk_cost, changes, lowered_row, swept}
-use Rattle.odd_paths.specs.Lanes.{relaxed_cost}
+use Rattle.odd_paths.proofs.Names.{Edge, NO_WALK, lane_column, terminal_columns, weight, last_edge_from, edge_walk_cost, changes, lowered_row, swept, relaxed_cost}
 
 abbrev edge : ℕ → ℕ → ℕ → Edge
 edge a b cost = record { a = a; b = b; cost = cost }

@@ -1,12 +1,9 @@
 -- The rows of a table.
 use Rattle.std.proofs.Common.{◌≡◌, Vec, Global, ℕ, zero, suc, ◌<◌, ◌≤◌, ◌==◌, true, List, [], ◌∷◌, ◌++◌, Some, length, get_or, All, refl, sym, ap, subst, append_assoc, arith}
-use Rattle.std.proofs.lemmas.List.{append-nil}
 use Rattle.std.specs.Prelude.{◌&&◌, Option, slice_get}
-use Rattle.odd_paths.proofs.Names.{and_parts, nat_tests, All-cons, All-nil, slice_get_within, nat_lt, slice_index, Edge, IsValidPiece, ends_below, PieceValue, piece_cost, IsLeastEdgeWalk, AreRows, AreTerminals, IsLeastCost, IsPath, RowsValue, cost_at, terminal_of, AddsRows, lists_of, EndsAreBelow, AreLeastRows, IsGraph, IsLeastRow, some_same}
+use Rattle.odd_paths.proofs.Names.{and_parts, nat_tests, All-cons, All-nil, slice_get_within, nat_lt, slice_index, Edge, IsValidPiece, ends_below, PieceValue, piece_cost, IsLeastEdgeWalk, AreRows, AreTerminals, IsLeastCost, IsPath, RowsValue, cost_at, terminal_of, AddsRows, lists_of, EndsAreBelow, AreLeastRows, IsGraph, IsLeastRow, some_same, append-nil, IsRowFrom, cost_in}
 use Rattle.odd_paths.proofs.PassLemmas.{over_passes, over_places, to_passes}
 use Rattle.odd_paths.proofs.PlaceLemmas.{none_is, still_within}
-use Rattle.odd_paths.specs.LastEdges.{IsRowFrom}
-use Rattle.odd_paths.specs.LeastRows.{cost_in}
 
 -- the ends of the edges of a piece
 pub within : (n : ℕ) (es : List Edge) → ends_below n es ≡ true → EndsAreBelow n es

@@ -1,7 +1,6 @@
 -- Augmenting, branch by branch from the newest.
 use Rattle.std.proofs.Common.{◌≡◌, ◌≤◌, List, [], ◌∷◌, ◌++◌, length, arith, sym, subst}
-use Rattle.odd_sets.proofs.Names.{OddSetValue, count, IsMatch, IsSoundBranch, IsSoundMatch, TightEdge, BranchValue, MatchValue}
-use Rattle.odd_sets.specs.Trees.{CanAugment, Augments, PairsBranch}
+use Rattle.odd_sets.proofs.Names.{OddSetValue, count, IsMatch, IsSoundBranch, IsSoundMatch, TightEdge, BranchValue, MatchValue, CanAugment, Augments, PairsBranch}
 use Rattle.odd_sets.proofs.ListLemmas.{each-left, each-last, each-push}
 use Rattle.odd_sets.proofs.TreeLemmas.{last_of}
 use Rattle.odd_sets.proofs.SumLemmas.{bands_push, members_push}

@@ -1,7 +1,6 @@
 -- The chain of the sets between the two ends of an edge.
 use Rattle.std.proofs.Common.{◌≡◌, ℕ, ◌+◌, ◌≤◌, List, [], ◌∷◌, ◌++◌, length, reverse, arith, sym, ap, subst, ◌∙◌, length-append}
-use Rattle.std.proofs.lemmas.List.{reverse-append}
-use Rattle.odd_sets.proofs.Names.{TableValue, Each, DualSet, OddSetValue, IsOddSet, dual_sets, count, reversed_edge, members_in, IsSoundBranch, IsSoundPart, IsSymmetric, IsTight, outer_with_both, one_if_both, branch_dual_sets, inner_dual_sets, outer_members, outer_sets, IsAlternatingTree, part_with_edge, IsOpenChain, TightEdge, BranchValue, PartValue}
+use Rattle.odd_sets.proofs.Names.{TableValue, Each, DualSet, OddSetValue, IsOddSet, dual_sets, count, reversed_edge, members_in, IsSoundBranch, IsSoundPart, IsSymmetric, IsTight, outer_with_both, one_if_both, branch_dual_sets, inner_dual_sets, outer_members, outer_sets, IsAlternatingTree, part_with_edge, IsOpenChain, TightEdge, BranchValue, PartValue, reverse-append}
 use Rattle.odd_sets.proofs.ListLemmas.{each-append, each-left, each-last}
 use Rattle.odd_sets.proofs.SumLemmas.{bands_push, count-append, members_push, sets-append, size-append}
 use Rattle.odd_sets.proofs.ClosingLemmas.{leads_on}

@@ -1,7 +1,6 @@
 -- An inner blossom that is expanded, between the branches before and after it.
 use Rattle.std.proofs.Common.{◌≡◌, ℕ, ◌+◌, ◌%◌, ◌≤◌, ◌<◌, suc, zero, List, [], ◌∷◌, ◌++◌, length, take, drop, arith, refl, sym, ap, subst, ◌∙◌, append_assoc, length-append}
-use Rattle.odd_sets.proofs.Names.{nat_tests, length-take, take-append-drop, TableValue, Each, IsAdditive, DualSet, OddSetValue, dual_sets, count, height, slack_rows_of, AreTightInside, IsTightInside, IsSlackRow, members_in, dual_sets_in, blossom_edges_in, odd_set_of, cycle_edges, slack_rows_in, AreOddSets, IsBlossom, IsMatch, IsSoundBranch, IsSoundMatch, IsSoundPart, IsSoundSet, IsTight, outer_members, inner_members, IsAlternatingTree, CanSplitBlossom, CanExpand, Expands, IsEvenlyOriented, SplitsBlossom, InsertsBranches, BranchValue, MatchValue, PartValue}
-use Rattle.odd_sets.specs.Expansions.{FirstCanExpand}
+use Rattle.odd_sets.proofs.Names.{nat_tests, length-take, take-append-drop, TableValue, Each, IsAdditive, DualSet, OddSetValue, dual_sets, count, height, slack_rows_of, AreTightInside, IsTightInside, IsSlackRow, members_in, dual_sets_in, blossom_edges_in, odd_set_of, cycle_edges, slack_rows_in, AreOddSets, IsBlossom, IsMatch, IsSoundBranch, IsSoundMatch, IsSoundPart, IsSoundSet, IsTight, outer_members, inner_members, IsAlternatingTree, CanSplitBlossom, CanExpand, Expands, IsEvenlyOriented, SplitsBlossom, InsertsBranches, BranchValue, MatchValue, PartValue, FirstCanExpand}
 use Rattle.odd_sets.proofs.ListLemmas.{each-append, each-left, each-right, each-last}
 use Rattle.odd_sets.proofs.SumLemmas.{dual_sets-append, bands_push, count-append, height-append, low, members-append, members_push, none_tall, size-append}
 use Rattle.odd_sets.proofs.BlossomLemmas.{none_in}

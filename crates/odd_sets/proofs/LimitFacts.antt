@@ -1,7 +1,6 @@
 -- The limits of tables.
 use Rattle.std.proofs.Common.{◌≡◌, refl}
-use Rattle.odd_sets.proofs.Names.{MAX_DISTANCE}
-use Rattle.odd_sets.specs.declared.table.TheConstants.{MAX_PLACES}
+use Rattle.odd_sets.proofs.Names.{MAX_DISTANCE, MAX_PLACES}
 
 -- the most places of a table
 pub known_places : MAX_PLACES ≡ 1024

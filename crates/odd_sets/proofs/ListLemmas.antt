@@ -1,10 +1,8 @@
 -- Facts of each item of joined lists.
 use Rattle.std.proofs.Common.{◌≡◌, ℕ, suc, zero, List, [], ◌∷◌, ◌++◌, take, drop, map, reverse, length, ◌+◌, ◌<◌, get_or, drop-cons, add-one, arith, refl, sym, ap, subst, ◌∙◌}
-use Rattle.std.proofs.lemmas.Grind.{reverse_onto}
 use Rattle.std.proofs.Math.ListN.{get_or-map}
 use Rattle.std.proofs.Math.Seq.{take-append_seam}
-use Rattle.odd_sets.proofs.Names.{nat_tests, length-map, map-append, flat_map, Each}
-use Rattle.odd_sets.specs.Lists.{EachPair}
+use Rattle.odd_sets.proofs.Names.{nat_tests, length-map, map-append, flat_map, Each, reverse_onto, EachPair}
 
 pub each-append : {X : Type 0} (P : X → Type 0) (xs ys : List X) → Each P xs → Each P ys → Each P (xs ++ ys)
 each-append P [] ys p q = q

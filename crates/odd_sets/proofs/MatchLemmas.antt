@@ -1,8 +1,6 @@
 -- One match of a list.
 use Rattle.std.proofs.Common.{◌≡◌, ℕ, ◌+◌, ◌≤◌, ◌<◌, suc, List, ◌∷◌, ◌++◌, length, take, drop, get_or, drop-cons, add-one, arith, sym, ap, subst, ◌∙◌}
-use Rattle.odd_sets.proofs.Names.{nat_tests, take-append-drop, count, match_members, MatchHolds, MatchValue}
-use Rattle.odd_sets.specs.MatchedSets.{FirstMatchHolds}
-use Rattle.odd_sets.specs.Trees.{RemovesMatch}
+use Rattle.odd_sets.proofs.Names.{nat_tests, take-append-drop, count, match_members, MatchHolds, MatchValue, FirstMatchHolds, RemovesMatch}
 use Rattle.odd_sets.proofs.SumLemmas.{count-append}
 
 -- the match at the index comes first among those that are left

@@ -1,7 +1,6 @@
 -- The blossom that the loop closes.
 use Rattle.std.proofs.Common.{◌≡◌, ℕ, ◌+◌, ◌%◌, ◌≤◌, List, [], ◌∷◌, ◌++◌, length, reverse, arith, refl, sym, ap, subst, ◌∙◌, ◌<◌}
-use Rattle.odd_sets.proofs.Names.{nat_tests, append-nil, TableValue, Each, IsAdditive, DualSet, OddSetValue, IsOddSet, dual_sets, count, members_in, dual_sets_in, IsBlossom, IsSoundBranch, IsSoundSet, IsSoundPart, one_if_both, outer_members, inner_members, outer_sets, IsAlternatingTree, part_with_edge, closed_blossom, CanClose, CanShrink, Shrinks, IsOpenChain, TightEdge, BranchValue, PartValue}
-use Rattle.odd_sets.specs.BlossomSlacks.{HaveSlacks}
+use Rattle.odd_sets.proofs.Names.{nat_tests, append-nil, TableValue, Each, IsAdditive, DualSet, OddSetValue, IsOddSet, dual_sets, count, members_in, dual_sets_in, IsBlossom, IsSoundBranch, IsSoundSet, IsSoundPart, one_if_both, outer_members, inner_members, outer_sets, IsAlternatingTree, part_with_edge, closed_blossom, CanClose, CanShrink, Shrinks, IsOpenChain, TightEdge, BranchValue, PartValue, HaveSlacks}
 use Rattle.odd_sets.proofs.ListLemmas.{each-append, each-left, each-last, each-map}
 use Rattle.odd_sets.proofs.SumLemmas.{adds_none, dual_sets-append, bands_push, count-append, members-append, members_push, size-append, some_member}
 use Rattle.odd_sets.proofs.ClosingLemmas.{chain_closes, blossom_sound, tree_even}

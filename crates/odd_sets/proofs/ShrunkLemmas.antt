@@ -1,7 +1,6 @@
 -- The slot of a blossom that closes.
 use Rattle.std.proofs.Common.{◌≡◌, ℕ, ◌+◌, List, [], ◌∷◌, ◌++◌, length, reverse, arith, length-append, refl, sym, ap, subst, ◌∙◌}
-use Rattle.odd_sets.proofs.Names.{nat_tests, length-map, map-append, Each, OddSetValue, IsOddSet, dual_sets, key_count, match_dual_sets, dual_sets_in, branch_of, part_with_edge, closed_blossom, IsOpenChain, CanClose, CanShrink, Shrinks, branch_in, branches_in, parts_in, set_in, AreSets, InsertsSet, Slots, IsSoundBranch, all_dual_sets, branch_dual_sets, BranchValue, MatchValue, PartValue, TightEdge, Handle, BlossomPart, Branch}
-use Rattle.odd_sets.specs.Trees.{branch_sets}
+use Rattle.odd_sets.proofs.Names.{nat_tests, length-map, map-append, Each, OddSetValue, IsOddSet, dual_sets, key_count, match_dual_sets, dual_sets_in, branch_of, part_with_edge, closed_blossom, IsOpenChain, CanClose, CanShrink, Shrinks, branch_in, branches_in, parts_in, set_in, AreSets, InsertsSet, Slots, IsSoundBranch, all_dual_sets, branch_dual_sets, BranchValue, MatchValue, PartValue, TightEdge, Handle, BlossomPart, Branch, branch_sets}
 use Rattle.odd_sets.proofs.ListLemmas.{each-last, mapped_reverse, none_left}
 use Rattle.odd_sets.proofs.SumLemmas.{bands_push, key_count-append}
 use Rattle.odd_sets.proofs.SlotLemmas.{inserted_keeps, keep_branches, keep_seat, sets_fewer}

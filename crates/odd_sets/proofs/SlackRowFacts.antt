@@ -1,7 +1,6 @@
 -- Worked values of slack rows.
 use Rattle.std.proofs.Common.{◌≡◌, ℕ, [], ◌∷◌, refl}
-use Rattle.odd_sets.proofs.Names.{blossom_slacks, vertex_slacks, TableValue, PartValue}
-use Rattle.odd_sets.specs.Blossoms.{vertex_set}
+use Rattle.odd_sets.proofs.Names.{blossom_slacks, vertex_slacks, TableValue, PartValue, vertex_set}
 
 -- 0, 1 and 2 are 2 from each other; 3 is 5 from 0, 4 from 1 and 6 from 2
 abbrev four : TableValue

@@ -1,13 +1,7 @@
 -- The slacks from sets to the vertices outside them.
 use Rattle.std.proofs.Common.{◌≡◌, ◌≢◌, ℕ, ◌+◌, ◌-◌, ◌*◌, ◌≤◌, ◌<◌, ◌⊎◌, inl, inr, List, [], ◌∷◌, ◌++◌, length, take, get_or, set, map, min, Bool, true, false, cond, eqb, arith, refl, ap, ◌∙◌, get_or-set_other, get_or-set_same}
-use Rattle.std.proofs.lemmas.Bool.{ltb-false}
-use Rattle.std.proofs.lemmas.Grind.{same_number_lists}
-use Rattle.std.proofs.lemmas.List.FromFn.{get_or-map-range_with_len, length-map-range_with_len}
-use Rattle.odd_sets.proofs.Names.{nat_tests, cases_lt, eqb-false, eqb-true, ltb-true, range_with_len, Each, OddSetValue, count, height, one_if_equal, lowered_slack, vertex_slack, vertex_slacks, IsSlackRow, dual_sets_in, members_in, least_part_slack, blossom_slacks, IsSoundPart, IsSoundSet, TableValue, entry, IsTable, MAX_DISTANCE, PartValue}
+use Rattle.odd_sets.proofs.Names.{nat_tests, cases_lt, eqb-false, eqb-true, ltb-true, range_with_len, Each, OddSetValue, count, height, one_if_equal, lowered_slack, vertex_slack, vertex_slacks, IsSlackRow, dual_sets_in, members_in, least_part_slack, blossom_slacks, IsSoundPart, IsSoundSet, TableValue, entry, IsTable, MAX_DISTANCE, PartValue, ltb-false, same_number_lists, get_or-map-range_with_len, length-map-range_with_len, MergesSlacks, blossom_slack, blossom_slacks_of, FAR}
 use Rattle.odd_sets.proofs.ListLemmas.{number_here, take_here}
-use Rattle.odd_sets.specs.SlackRows.{MergesSlacks}
-use Rattle.odd_sets.specs.BlossomSlacks.{blossom_slack, blossom_slacks_of}
-use Rattle.odd_sets.specs.declared.table.TheConstants.{FAR}
 use Rattle.odd_sets.proofs.SumLemmas.{by_count, count-append, hit_is, hit_same}
 
 pub far_is : FAR ≡ 2 * MAX_DISTANCE + 1

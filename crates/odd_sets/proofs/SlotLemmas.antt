@@ -1,7 +1,6 @@
 -- Sets in slots, after a slot is inserted or removed.
 use Rattle.std.proofs.Common.{◌≡◌, ℕ, zero, suc, ◌+◌, ◌≤◌, ◌<◌, List, [], ◌∷◌, ◌++◌, map, length, ltb, Option, Some, None, IsSome, arith, length-append, refl, sym, ap, subst, ◌∙◌}
-use Rattle.odd_sets.proofs.Names.{nat_tests, lt-ltb, get, ContainsKey, Updates, Each, DualSet, OddSetValue, dual_sets, one_if_equal, key_count, match_dual_sets, members_in, dual_sets_in, odd_set_of, AreOddSets, IsVertexOrBlossom, IsBlossom, blossom_set, blossom_slacks, branch_of, part_with_edge, branch_dual_sets, BranchValue, MatchValue, PartValue, branch_in, branches_in, match_in, matches_in, members_at, slot_members, slacks_at, part_in, parts_at, parts_in, slot_parts, set_in, AreSets, InsertsSet, Slots, TightEdge, Handle, BlossomPart, Slot, Match, Branch}
-use Rattle.odd_sets.specs.Slots.{slot_slacks, part_to_depth, part_with_inside, AreSlacksOf, IsSet, IsSetToDepth, KeepsOtherSlots}
+use Rattle.odd_sets.proofs.Names.{nat_tests, lt-ltb, get, ContainsKey, Updates, Each, DualSet, OddSetValue, dual_sets, one_if_equal, key_count, match_dual_sets, members_in, dual_sets_in, odd_set_of, AreOddSets, IsVertexOrBlossom, IsBlossom, blossom_set, blossom_slacks, branch_of, part_with_edge, branch_dual_sets, BranchValue, MatchValue, PartValue, branch_in, branches_in, match_in, matches_in, members_at, slot_members, slacks_at, part_in, parts_at, parts_in, slot_parts, set_in, AreSets, InsertsSet, Slots, TightEdge, Handle, BlossomPart, Slot, Match, Branch, slot_slacks, part_to_depth, part_with_inside, AreSlacksOf, IsSet, IsSetToDepth, KeepsOtherSlots}
 use Rattle.odd_sets.proofs.ListLemmas.{each-map, each-mapped}
 use Rattle.odd_sets.proofs.SumLemmas.{hit_is, hit_same, key_count-append}
 

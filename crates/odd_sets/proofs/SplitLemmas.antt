@@ -1,7 +1,6 @@
 -- The split of a path of parts, two at a time.
 use Rattle.std.proofs.Common.{◌≡◌, ℕ, ◌%◌, ◌≤◌, inl, inr, List, [], ◌∷◌, ◌++◌, length, arith, sym, ap, subst, ◌∙◌, append_assoc, refl}
-use Rattle.odd_sets.proofs.Names.{TableValue, Each, DualSet, OddSetValue, dual_sets, count, dual_sets_in, IsPartPath, matches_along, IsMatch, IsSoundBranch, IsSoundMatch, IsSoundPart, HoldsAtEvenIndex, CanSplitBlossom, SplitsBlossom, TightEdge, BranchValue, MatchValue, PartValue}
-use Rattle.odd_sets.specs.Expansions.{EdgeLeadsInto}
+use Rattle.odd_sets.proofs.Names.{TableValue, Each, DualSet, OddSetValue, dual_sets, count, dual_sets_in, IsPartPath, matches_along, IsMatch, IsSoundBranch, IsSoundMatch, IsSoundPart, HoldsAtEvenIndex, CanSplitBlossom, SplitsBlossom, TightEdge, BranchValue, MatchValue, PartValue, EdgeLeadsInto}
 use Rattle.odd_sets.proofs.ListLemmas.{each-push}
 use Rattle.odd_sets.proofs.SumLemmas.{bands_push, count-append, members_push, size-append}
 use Rattle.odd_sets.proofs.OpenLemmas.{members_matched, bands_matched}

@@ -1,8 +1,7 @@
 -- Counts, heights and loads of joined lists, and of the sets of items.
 use Rattle.std.proofs.Common.{◌≡◌, ℕ, zero, suc, ◌+◌, ◌-◌, ◌*◌, ◌≤◌, ◌⊎◌, inl, inr, List, [], ◌∷◌, ◌++◌, arith, refl, length, length-append, ap, ◌∙◌}
 use Rattle.std.proofs.lemmas.List.Concat.{flat_map-append}
-use Rattle.odd_sets.proofs.Names.{nat_tests, eqb-true, eq-eqb, flat_map, sum_over, DualSet, OddSetValue, IsAdditive, dual_sets, dual_sets_of, count, height, one_if_equal, dual_load, members_onto, total, key_count, NoneHold, IsOddSet}
-use Rattle.odd_sets.specs.DualSets.{apart}
+use Rattle.odd_sets.proofs.Names.{nat_tests, eqb-true, eq-eqb, flat_map, sum_over, DualSet, OddSetValue, IsAdditive, dual_sets, dual_sets_of, count, height, one_if_equal, dual_load, members_onto, total, key_count, NoneHold, IsOddSet, apart}
 
 -- what follows from a number that is 0 and from one that isn't
 pub by_count : {R : Type 0} (n : ℕ) → (n ≡ 0 → R) → (1 ≤ n → R) → R

@@ -2,8 +2,7 @@
 use Rattle.std.proofs.Common.{◌≡◌, ◌≢◌, ℕ, ◌+◌, ◌*◌, ◌<◌, ◌≤◌, ◌&&◌, ◌||◌, ◌⊎◌, inl, inr, Bool, true, false, cond, eqb, List, length, max, min, set, get_or, arith, refl, sym, ap, ◌∙◌, get_or-set_other, get_or-set_same, slice_index}
 use Rattle.std.proofs.Math.Nat.{mul-le-mul_right}
 use Rattle.std.proofs.lemmas.List.{length-set}
-use Rattle.odd_sets.proofs.Names.{nat_tests, cases_lt, eqb-true, eqb-false, eq-eqb, TableValue, IsTable, entry, after_set, MAX_DISTANCE}
-use Rattle.odd_sets.specs.Tables.{IsStored}
+use Rattle.odd_sets.proofs.Names.{nat_tests, cases_lt, eqb-true, eqb-false, eq-eqb, TableValue, IsTable, entry, after_set, MAX_DISTANCE, IsStored}
 
 -- a cell of a lower row comes first
 cell_before : (n a b x y : ℕ) → b < n → a < x → a * n + b < x * n + y

@@ -1,14 +1,10 @@
 -- Worked values of blamed calls, and of the results of calls.
 use Rattle.std.proofs.Common.{◌≡◌, ℕ, ◌<◌, ◌≤◌, List, [], ◌∷◌, length, Option, Some, None, Ok, Err, option_map, refl, sym, ap, arith, inr, ⊎_elim, true≢false}
-use Rattle.outside_io.proofs.Names.{Failed, Blame, with_failed_call, read_call, write_call, IsFileLonger, ReadCause, BufferMatches, ReadsWholeFile, TookBytes, WriteCause, Rose, ReadsNextPart, ChangesOnlyFile, Files, IsFileName, SinkView, StoreView, StreamPuts}
+use Rattle.outside_io.proofs.Names.{Failed, Blame, with_failed_call, read_call, write_call, IsFileLonger, ReadCause, BufferMatches, ReadsWholeFile, TookBytes, WriteCause, Rose, ReadsNextPart, ChangesOnlyFile, Files, IsFileName, SinkView, StoreView, StreamPuts, no_faults, PutCause, IsNextPart, LacksFile}
 use Rattle.outside_io.specs.declared.blame.CallKind.{CallKind}
 use Rattle.outside_io.specs.declared.blame.CallKind.TheVariants as kind
 use Rattle.outside_io.specs.declared.store.ReadStop.TheVariants as stop
 use Rattle.outside_io.specs.declared.whole_files.GetFault.TheVariants as get
-use Rattle.outside_io.specs.Blames.{no_faults}
-use Rattle.outside_io.specs.Causes.{PutCause}
-use Rattle.outside_io.specs.FileParts.{IsNextPart}
-use Rattle.outside_io.specs.Files.{LacksFile}
 
 -- the two numbers are not the same
 abbrev Differ : ℕ → ℕ → Type 0

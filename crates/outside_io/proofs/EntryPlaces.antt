@@ -1,10 +1,8 @@
 -- How far the entries of a store in memory were passed in the search for a name.
 use Rattle.std.proofs.Common.{◌≡◌, ℕ, ◌<◌, ◌++◌, List, ◌∷◌, length, take, drop, get_or, true, Some, sym, ◌∙◌, ap, suc}
-use Rattle.std.proofs.Math.Seq.{drop-cons}
-use Rattle.std.proofs.lemmas.List.{set_split}
 use Rattle.std.proofs.lemmas.Option.{slice_get-get_or}
 use Rattle.std.specs.List.{slice_get}
-use Rattle.outside_io.proofs.Names.{bytes_eq-Decides, bytes_eq, EntryValue, entry_in, with_entry}
+use Rattle.outside_io.proofs.Names.{bytes_eq-Decides, bytes_eq, EntryValue, entry_in, with_entry, drop-cons, set_split}
 use Rattle.outside_io.specs.EntryIndexes.{IsEntryIndex}
 
 -- none of the first entries has that name

@@ -1,8 +1,8 @@
 -- The limits of names and of files, in bytes.
 use Rattle.std.proofs.Common.{◌≡◌, true, false, [], ◌∷◌, codes, map, replicate, refl}
+use Rattle.outside_io.proofs.Names.{is_file_name}
 use Rattle.outside_io.specs.declared.limits.TheConstants.{MAX_FILE, MAX_NAME}
 use Rattle.outside_io.specs.declared.whole_files.TheConstants.{READ_SIZE}
-use Rattle.outside_io.specs.Files.{is_file_name}
 
 -- how long a file that is read may be: 64 times 2 to the 20th
 pub known_file : MAX_FILE ≡ 67108864

@@ -1,12 +1,8 @@
 -- What the results of calls on the outside exclude.
 use Rattle.std.proofs.Common.{◌≡◌, ◌≢◌, ℕ, ◌+◌, ◌<◌, ◌≤◌, List, [], ◌∷◌, ◌++◌, Option, None, Some, Ok, Err, length, take, arith, ap, ⊎_elim}
-use Rattle.outside_io.proofs.Names.{Failed, Blame, read_call, with_failed_call, write_call, BufferMatches, HasNoNewFault, ReadCause, ReadsWholeFile, TookBytes, WriteCause, with_bytes_taken, IsFaultless, MAX_COUNT, Rose, next_count, ReadsNextPart, ChangesOnlyFile, Files, IsFileName, MemPuts, MemSinkValue, MemCreates, MemReads, MemStoreValue, AddsPrefix, StreamPuts, SinkView, StoreView}
+use Rattle.outside_io.proofs.Names.{Failed, Blame, read_call, with_failed_call, write_call, BufferMatches, HasNoNewFault, ReadCause, ReadsWholeFile, TookBytes, WriteCause, with_bytes_taken, IsFaultless, MAX_COUNT, Rose, next_count, ReadsNextPart, ChangesOnlyFile, Files, IsFileName, MemPuts, MemSinkValue, MemCreates, MemReads, MemStoreValue, AddsPrefix, StreamPuts, SinkView, StoreView, FaultLogValue, LogsFailedCall, CallFailed, MemAppends, after_fault, StreamValue}
 use Rattle.outside_io.specs.declared.store.ReadStop.TheVariants as stop
 use Rattle.outside_io.specs.declared.whole_files.GetFault.TheVariants as fault
-use Rattle.outside_io.specs.Blames.{FaultLogValue, LogsFailedCall}
-use Rattle.outside_io.specs.Causes.{CallFailed}
-use Rattle.outside_io.specs.MemStores.{MemAppends, after_fault}
-use Rattle.outside_io.specs.Streams.{StreamValue}
 
 -- a store of these faults and this blame, whose files are hidden
 abbrev view : ℕ → Option Blame → StoreView

@@ -1,8 +1,7 @@
 -- Bytes that are added to a stream one part after another.
 use Rattle.std.proofs.Common.{◌≡◌, ℕ, List, [], ◌++◌, Option, refl, sym, ap, subst, ◌∙◌, append_assoc, append-nil, take, drop, take-append-drop}
 use Rattle.std.proofs.KnownBytes.{Appends-nil, Appends-trans, Appends-kept}
-use Rattle.std.specs.Io.KnownBytes.{Appends}
-use Rattle.outside_io.proofs.Names.{Keeps, AddsPrefix}
+use Rattle.outside_io.proofs.Names.{Keeps, AddsPrefix, Appends}
 
 -- at first nothing was added
 pub adds_none : (held : Option (List ℕ)) (bytes : List ℕ) → AddsPrefix held held bytes bytes

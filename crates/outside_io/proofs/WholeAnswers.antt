@@ -1,12 +1,10 @@
 -- If no fault is counted, the file determines the result of reading it.
-use Rattle.std.proofs.lemmas.Bool.Decides.{nat_tests}
 use Rattle.std.proofs.Common.{◌≡◌, ℕ, ◌≤◌, List, length, Some, None, Ok, Err, Option, Result, true, false, ◌∙◌, ap, arith}
 use Rattle.std.specs.Bool.{nat_le}
-use Rattle.outside_io.proofs.Names.{ReadsWholeFile, whole_file_result, IsFileLonger, IsFaultless, WhereVisible, StoreView}
+use Rattle.outside_io.proofs.Names.{ReadsWholeFile, whole_file_result, IsFileLonger, IsFaultless, WhereVisible, StoreView, nat_tests, get_is_out_of_memory}
 use Rattle.outside_io.specs.declared.whole_files.GetFault.{GetFault}
 use Rattle.outside_io.specs.declared.whole_files.GetFault.TheVariants as fault
 use Rattle.lists_and_numbers.specs.OutOfMemory.{IsSpecified}
-use Rattle.outside_io.specs.Causes.{get_is_out_of_memory}
 use Rattle.outside_io.proofs.CallerLemmas.{no_rise}
 
 -- a short file is given whole

@@ -1,9 +1,6 @@
 -- The relation between the bytes read so far and a visible file.
 use Rattle.std.proofs.Common.{◌≡◌, ℕ, ◌+◌, ◌<◌, ◌≤◌, ◌++◌, List, length, take, drop, min, Some, None, Option, refl, sym, ◌∙◌, ap, arith, length-append, length-drop}
-use Rattle.std.proofs.Math.Seq.{take-add}
-use Rattle.std.proofs.lemmas.List.{take_all, length-take}
-use Rattle.outside_io.proofs.Names.{length-take-le, IsFileLonger, HasNoNewFault, IsContentPrefix, StoreView}
-use Rattle.outside_io.specs.Causes.{BufferMatchesFile}
+use Rattle.outside_io.proofs.Names.{length-take-le, IsFileLonger, HasNoNewFault, IsContentPrefix, StoreView, take-add, take_all, length-take, BufferMatchesFile}
 
 -- what stayed twice stayed
 pub stays_on : {old mid new : StoreView} → HasNoNewFault old mid → HasNoNewFault mid new → HasNoNewFault old new

@@ -1,13 +1,7 @@
 -- The block of a design reads back, wherever in a file it stands.
 use Rattle.std.proofs.Common.{◌≡◌, ℕ, ◌+◌, ◌≤◌, true, IsTrue, false, nat_lt, List, [], ◌∷◌, ◌++◌, length, drop, Option, None, Ok, IfOk, IsOkAnd, refl, ap, sym, ◌∙◌, subst, arith, length-append}
-use Rattle.pec_codec.proofs.Names.{nat_tests, ints, le-ltb, append_assoc, drop_at, concat, list_all, acts_of, DesignValue, KeepsLimits, is_point_within, WriteFault, Loaded, AcceptedIsWithinLimits, loaded_with, file_commands, stops_of, HEADER_LENGTH, LIMIT, MAX_STOPS, pec_header_of, pec_label_of, threads_in, threads_of, BlocksKeepLaws, RestoresDesign, BlockRoundTrips, pec_block_moves, pec_block_reads, pec_block_records, pec_block_shown, pec_records, pec_block_of, pec_body_of, thumbnail_distance, pec_write_limits, pec_encoding, thumbnails_of, pec_block_writes}
-use Rattle.format_traits.specs.LabelFields.{LabelFieldsRoundTrip}
-use Rattle.format_traits.specs.Laws.{CodecsKeepLaws, IsCodec}
+use Rattle.pec_codec.proofs.Names.{nat_tests, ints, le-ltb, append_assoc, drop_at, concat, list_all, acts_of, DesignValue, KeepsLimits, is_point_within, WriteFault, Loaded, AcceptedIsWithinLimits, loaded_with, file_commands, stops_of, HEADER_LENGTH, LIMIT, MAX_STOPS, pec_header_of, pec_label_of, threads_in, threads_of, BlocksKeepLaws, RestoresDesign, BlockRoundTrips, pec_block_moves, pec_block_reads, pec_block_records, pec_block_shown, pec_records, pec_block_of, pec_body_of, thumbnail_distance, pec_write_limits, pec_encoding, thumbnails_of, pec_block_writes, LabelFieldsRoundTrip, CodecsKeepLaws, IsCodec, moves_of_records, first_refusal, unless_refused, EncodedActsRoundTrip, records_of_acts}
 use Rattle.format_traits.specs.Meanings.{Meaning}
-use Rattle.record_formats.specs.Records.{moves_of_records}
-use Rattle.format_traits.specs.Refusals.{first_refusal, unless_refused}
-use Rattle.record_formats.specs.RoundTrip.{EncodedActsRoundTrip}
-use Rattle.record_formats.specs.RecordEncodings.{records_of_acts}
 use Rattle.pec_codec.proofs.HeaderLemmas.{labels_fit, length-pec_header_of}
 use Rattle.pec_codec.proofs.LabelLemmas.{pec_label_of-block, thread_of-threads, threads_in-block}
 use Rattle.pec_codec.proofs.ReadingLemmas.{reads-long}

@@ -1,7 +1,6 @@
 -- Lemmas that this crate and those above cite.
 use Rattle.std.proofs.Common.{IsOkAnd, Result, arith}
-use Rattle.pec_codec.proofs.Names.{nat_tests, ints, DesignValue, ReadFault, Loaded, RestoresDesign}
-use Rattle.format_traits.specs.Laws.{HasSameActs}
+use Rattle.pec_codec.proofs.Names.{nat_tests, ints, DesignValue, ReadFault, Loaded, RestoresDesign, HasSameActs}
 
 pub again_from : (d : DesignValue) (result : Result Loaded ReadFault) → IsOkAnd result (λ loaded. RestoresDesign d loaded)
     → IsOkAnd result (λ loaded. HasSameActs d loaded)

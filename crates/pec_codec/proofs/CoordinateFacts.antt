@@ -1,8 +1,6 @@
 -- Worked values of coordinates: the ends of their ranges, their marks, and their encoding.
 use Rattle.std.proofs.Common.{◌≡◌, pos, negsuc, true, false, [], ◌∷◌, map, Some, None, refl}
-use Rattle.pec_codec.proofs.Names.{leading_coordinate, is_short_number, short_bytes, pec_jump_record, pec_stitch_record, pec_stop_record}
-use Rattle.pec_codec.specs.Coordinates.{long_bytes_of}
-use Rattle.pec_codec.specs.RecordBytes.{pec_trim_record}
+use Rattle.pec_codec.proofs.Names.{leading_coordinate, is_short_number, short_bytes, pec_jump_record, pec_stitch_record, pec_stop_record, long_bytes_of, pec_trim_record}
 use Rattle.pec_codec.proofs.RecordByteLemmas.{coordinate_at}
 
 pub known_short : map (λ byte. leading_coordinate (byte ∷ [])) (0x00 ∷ 0x1E ∷ 0x3F ∷ 0x40 ∷ 0x62 ∷ 0x7F ∷ [])

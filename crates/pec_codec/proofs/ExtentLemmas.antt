@@ -1,13 +1,11 @@
 -- A design is less than 2 ^ 16 wide and high.
 use Rattle.std.proofs.Common.{ℕ, ◌+◌, ◌<◌, ◌≤◌, ◌^◌, ℤ, ◌-ℤ◌, unsigned_abs, Bool, true, false, IsTrue, List, [], ◌∷◌, All, Contains, Option, subst, arith}
 use Rattle.std.proofs.lemmas.List.Elements.{All-nil}
-use Rattle.pec_codec.proofs.Names.{nat_tests, and_parts, ints, list_all, Command, Trim, Point, is_point_within}
+use Rattle.pec_codec.proofs.Names.{nat_tests, and_parts, ints, list_all, Command, Trim, Point, is_point_within, acts_from, IsExtentOrNone, x_coordinates, extent_height, needle_points_of_acts, y_coordinates, extent_width}
 use Rattle.design_model.specs.declared.bounds.Extent.{Extent}
 use Rattle.design_model.specs.declared.command.Command.TheVariants.{Stitch, Jump, Stop}
 use Rattle.design_model.specs.declared.point.TheConstants.{NEEDLE_LIMIT}
-use Rattle.design_model.specs.Acts.{acts_from}
 use Rattle.design_model.specs.Commands.{is_command_in_range}
-use Rattle.design_model.specs.Extents.{IsExtentOrNone, x_coordinates, extent_height, needle_points_of_acts, y_coordinates, extent_width}
 
 -- a coordinate of a needle
 abbrev IsNear : ℤ → Type 0

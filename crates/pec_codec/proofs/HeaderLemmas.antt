@@ -1,8 +1,6 @@
 -- The parts of a header.
 use Rattle.std.proofs.Common.{◌≡◌, ℕ, ◌+◌, ◌-◌, ◌≤◌, List, [], ◌∷◌, ◌++◌, length, ap, sym, ◌∙◌, arith, length-append}
-use Rattle.std.proofs.lemmas.List.FromFn.{map-range_with_len_more}
-use Rattle.pec_codec.proofs.Names.{nat_tests, append_assoc, length-map-range_with_len, MAX_LABEL, DesignValue, thread_of, extent_of, HEADER_LENGTH, LABELS_LENGTH, MAX_STOPS, distance_field, pec_header_of, labels_of, size_fields, threads_of, length-padded_right}
-use Rattle.format_traits.specs.LabelFields.{padded_right}
+use Rattle.pec_codec.proofs.Names.{nat_tests, append_assoc, length-map-range_with_len, MAX_LABEL, DesignValue, thread_of, extent_of, HEADER_LENGTH, LABELS_LENGTH, MAX_STOPS, distance_field, pec_header_of, labels_of, size_fields, threads_of, length-padded_right, map-range_with_len_more, padded_right}
 
 -- the threads of one block more
 pub threads_more : (d : DesignValue) (count thread : ℕ) (start out more : List ℕ) → thread ≡ thread_of d count

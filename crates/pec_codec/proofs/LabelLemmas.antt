@@ -1,8 +1,6 @@
 -- The label and the threads of a block are read back.
 use Rattle.std.proofs.Common.{◌≡◌, ℕ, zero, suc, ◌+◌, ◌-◌, ◌<◌, ◌≤◌, ◌%◌, List, [], ◌∷◌, ◌++◌, length, map, take, drop, replicate, codes, Some, unwrap_or, slice_get, slice_index, ap, sym, ◌∙◌, arith, length-append}
-use Rattle.std.proofs.lemmas.List.{get_or_at, take_at}
-use Rattle.pec_codec.proofs.Names.{nat_tests, ne_eqb, append_assoc, drop_at, length-map-range_with_len, range_with_len, MAX_LABEL, acts_of, DesignValue, thread_of, extent_of, stops_of, LABELS_LENGTH, MAX_STOPS, distance_field, pec_label_of, labels_of, size_fields, threads_after, threads_in, threads_of, pec_block_of, pec_body_of, thumbnail_distance, thumbnails_of, length-padded_right}
-use Rattle.format_traits.specs.LabelFields.{label_field, label_in}
+use Rattle.pec_codec.proofs.Names.{nat_tests, ne_eqb, append_assoc, drop_at, length-map-range_with_len, range_with_len, MAX_LABEL, acts_of, DesignValue, thread_of, extent_of, stops_of, LABELS_LENGTH, MAX_STOPS, distance_field, pec_label_of, labels_of, size_fields, threads_after, threads_in, threads_of, pec_block_of, pec_body_of, thumbnail_distance, thumbnails_of, length-padded_right, get_or_at, take_at, label_field, label_in}
 
 -- the bytes between the label and the number of blocks
 abbrev between : List ℕ

@@ -1,8 +1,7 @@
 -- What restores a design, and what does not.
 use Rattle.std.proofs.Common.{◌≡◌, ℕ, true, List, [], ◌∷◌, ◌++◌, length, Result, Ok, Err, IfOk, IsOk, IsOkAnd, codes, arith, subst, sym, true≢false}
-use Rattle.pec_codec.proofs.Names.{list_all, acts_of, DesignValue, KeepsLimits, is_point_within, origin, ReadFault, WriteFault, Loaded, BlockRoundTrips, BlocksKeepLaws, RestoresDesign, pec_block_moves, pec_block_reads, pec_block_writes}
+use Rattle.pec_codec.proofs.Names.{list_all, acts_of, DesignValue, KeepsLimits, is_point_within, origin, ReadFault, WriteFault, Loaded, BlockRoundTrips, BlocksKeepLaws, RestoresDesign, pec_block_moves, pec_block_reads, pec_block_writes, acts_without_numbers}
 use Rattle.design_model.specs.declared.command.Command.TheVariants.{Stitch, Stop}
-use Rattle.design_model.specs.Acts.{acts_without_numbers}
 use Rattle.format_traits.specs.PlainDesigns.{IsPlain}
 
 -- the two numbers are not the same

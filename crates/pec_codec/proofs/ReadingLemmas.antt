@@ -1,9 +1,7 @@
 -- What a block reads as.
 use Rattle.std.proofs.Common.{◌≡◌, ℕ, ◌+◌, ◌≤◌, List, length, drop, ap, arith}
-use Rattle.std.proofs.lemmas.List.{drop-drop}
-use Rattle.pec_codec.proofs.Names.{le-ltb, length-drop, loaded_with, file_commands, HEADER_LENGTH, pec_label_of, threads_in, pec_block_reads, pec_block_records, pec_records}
+use Rattle.pec_codec.proofs.Names.{le-ltb, length-drop, loaded_with, file_commands, HEADER_LENGTH, pec_label_of, threads_in, pec_block_reads, pec_block_records, pec_records, drop-drop, pec_block_layout}
 use Rattle.record_formats.specs.Layouts.{layout_reads}
-use Rattle.pec_codec.specs.Reading.{pec_block_layout}
 
 -- a file that reaches to the block
 pub reads_there : (at : ℕ) (bytes block : List ℕ) → block ≡ drop at bytes → at ≤ length bytes

@@ -1,14 +1,10 @@
 -- The record that is cut, and those after it, are all records.
 use Rattle.std.proofs.Common.{◌≡◌, ℕ, zero, suc, ◌+◌, ◌-◌, ◌<◌, ◌≤◌, Bool, true, false, ◌&&◌, ◌==◌, List, [], ◌∷◌, ◌++◌, length, drop, Option, Some, None, if◌then◌else◌, refl, ap, sym, ◌∙◌, arith, length-append}
-use Rattle.std.proofs.lemmas.Bool.{false≢true}
-use Rattle.pec_codec.proofs.Names.{nat_tests, ints, drop-append-le, next, over, Coordinate, next_record_in, pec_records}
+use Rattle.pec_codec.proofs.Names.{nat_tests, ints, drop-append-le, next, over, Coordinate, next_record_in, pec_records, false≢true, RecordFitsBytes, long_coordinate_in, coordinate_of_byte, with_next_record, length_after_first, records_after_skip}
 use Rattle.record_formats.specs.declared.event.Event.{Event}
 use Rattle.record_formats.specs.declared.record_reader.NextRecord.{NextRecord}
 use Rattle.record_formats.specs.declared.record_reader.NextRecord.TheVariants as cut
 use Rattle.record_formats.specs.RecordDecoding.{DecodesRecord}
-use Rattle.pec_codec.specs.Steps.{RecordFitsBytes}
-use Rattle.pec_codec.specs.Coordinates.{long_coordinate_in, coordinate_of_byte}
-use Rattle.pec_codec.specs.Records.{with_next_record, length_after_first, records_after_skip}
 
 -- the records after the bytes of the record before
 skipped : (behind at : ℕ) (bytes : List ℕ) → behind ≤ length bytes

@@ -1,7 +1,6 @@
 -- The threads in a header, whatever is after it.
 use Rattle.std.proofs.Common.{◌≡◌, ◌≢◌, ℕ, ◌+◌, ◌-◌, ◌<◌, ◌≤◌, List, [], ◌++◌, length, get_or, take, drop, if◌then◌else◌, ap, sym, ◌∙◌, arith}
-use Rattle.std.proofs.lemmas.List.{get_or_append_left, take-append-le}
-use Rattle.pec_codec.proofs.Names.{ne_eqb, drop-append-le, length-drop, HEADER_LENGTH, threads_after, threads_in}
+use Rattle.pec_codec.proofs.Names.{ne_eqb, drop-append-le, length-drop, HEADER_LENGTH, threads_after, threads_in, get_or_append_left, take-append-le}
 
 pub threads_told : (header more : List ℕ) → length header ≡ HEADER_LENGTH → get_or header 48 0 < 256 → get_or header 48 0 ≢ 255
     → take (50 + get_or header 48 0 - 49) (drop 49 header) ≡ threads_in (header ++ more)

@@ -1,15 +1,12 @@
 -- Worked values of files.
 use Rattle.std.proofs.Common.{◌≡◌, ℕ, pos, true, List, [], ◌∷◌, ◌++◌, length, take, replicate, codes, Err, IsOkAnd, refl}
-use Rattle.pes_codec.proofs.Names.{DesignValue, Pec, Pes}
+use Rattle.pes_codec.proofs.Names.{DesignValue, Pec, Pes, origin, pec_meaning, pes_meaning, file_writes}
 use Rattle.design_model.specs.declared.command.Command.TheVariants.{Stitch}
 use Rattle.design_model.specs.declared.point.Point.{Point}
-use Rattle.design_model.specs.Points.{origin}
 use Rattle.format_traits.specs.declared.fault.ReadFault.TheVariants as fault
 use Rattle.pes_codec.specs.declared.front.TheConstants.{OFFSET_END, PEC_BLOCK_OFFSET}
 use Rattle.pes_codec.specs.Files.{block_offset_in, pec_front, pes_front}
-use Rattle.pes_codec.specs.Formats.{pec_meaning, pes_meaning}
 use Rattle.pes_codec.specs.Reading.{file_moves, file_reads, file_shown}
-use Rattle.pes_codec.specs.Writing.{file_writes}
 
 -- one stitch at the origin
 abbrev stitch : DesignValue

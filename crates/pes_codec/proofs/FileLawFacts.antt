@@ -1,11 +1,9 @@
 -- What the theorems on PEC and PES files exclude.
 use Rattle.std.proofs.Common.{◌≡◌, ℕ, ◌≤◌, true, List, Result, Ok, Err, IfOk, IsOkAnd, subst}
-use Rattle.pes_codec.proofs.Names.{DesignValue, ReadFault, WriteFault, Meaning, RestoresDesign, RoundTripsWithThreads}
+use Rattle.pes_codec.proofs.Names.{DesignValue, ReadFault, WriteFault, Meaning, RestoresDesign, RoundTripsWithThreads, KeepsLimits, thread_of, KeepsLabelsAndThreads}
 use Rattle.design_model.specs.Acts.{acts_of, acts_without_numbers}
-use Rattle.design_model.specs.Designs.{KeepsLimits, thread_of}
 use Rattle.format_traits.specs.declared.loaded.Loaded.{Loaded}
 use Rattle.format_traits.specs.Refusals.{stops_of}
-use Rattle.pes_codec.specs.Laws.{KeepsLabelsAndThreads}
 
 -- the result of reading the file of a design
 back : (m : Meaning) (d : DesignValue) (bytes : List ℕ) → KeepsLabelsAndThreads m → KeepsLimits d → m.writes d ≡ Ok bytes

@@ -2,16 +2,13 @@
 use Rattle.std.proofs.lemmas.Bool.Decides.{nat_tests}
 use Rattle.std.proofs.Common.{◌≡◌, ℕ, ◌+◌, ◌-◌, ◌<◌, ◌≤◌, Bool, true, false, List, [], ◌++◌, length, drop, nat_lt, Result, Ok, Err, IfOk, refl, ap, sym, ◌∙◌, arith, length-append}
 use Rattle.std.proofs.Math.Seq.{drop-append-add}
-use Rattle.std.proofs.lemmas.Bool.{lt-ltb, ltb-false, ltb-true}
 use Rattle.std.proofs.lemmas.List.{drop-append-le, drop-drop, drop_all, length-drop}
-use Rattle.pes_codec.proofs.Names.{le-ltb, ReadFault, layout_reads, pec_block_layout}
+use Rattle.pes_codec.proofs.Names.{le-ltb, ReadFault, layout_reads, pec_block_layout, lt-ltb, ltb-false, ltb-true, layout_decoded, layout_state, FrontLayout, after_skip, front_fault, from_front}
 use Rattle.lists_and_numbers.specs.declared.memory.Memory.{Memory}
 use Rattle.format_traits.specs.declared.fault.ReadFault.TheVariants as fault
-use Rattle.record_formats.specs.Layouts.{layout_decoded, layout_state}
 use Rattle.format_traits.specs.DecoderStates.{IsSameDecoderState, DecodedSoFar, DecoderState, TakesBytes}
 use Rattle.pes_codec.specs.declared.file_stage.FileStage.TheVariants as stage
 use Rattle.pes_codec.specs.FileStates.{file_so_far_at, file_state_at, file_state_before_block, file_start_state}
-use Rattle.pes_codec.specs.Fronts.{FrontLayout, after_skip, front_fault, from_front}
 
 -- fewer bytes than stand before the block
 test_on : (l m skip : ℕ) → l < skip → nat_lt (l + m) skip ≡ nat_lt m (skip - l)

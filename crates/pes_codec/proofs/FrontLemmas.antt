@@ -1,16 +1,12 @@
 -- Formats whose files are a front and a block.
 use Rattle.std.proofs.Common.{◌≡◌, ℕ, ◌≤◌, true, false, drop, IsTrue, nat_lt, List, ◌++◌, length, Result, Ok, Err, IfOk, IsOk, IsOkAnd, refl, ap, sym, subst, arith, length-append}
 use Rattle.std.specs.List.{list_all}
-use Rattle.pes_codec.proofs.Names.{le-ltb, DesignValue, WriteFault, layout_reads, Meaning, RestoresDesign, pec_block_layout, Pec, Pes, file_meaning, RoundTripsWithThreads, front_layout_of, front_of}
-use Rattle.design_model.specs.Points.{is_point_within}
+use Rattle.pes_codec.proofs.Names.{le-ltb, DesignValue, WriteFault, layout_reads, Meaning, RestoresDesign, pec_block_layout, Pec, Pes, file_meaning, RoundTripsWithThreads, front_layout_of, front_of, is_point_within, KeepsBlockLaws, BlockRoundTrips, pec_block_moves, pec_block_reads, after_front}
 use Rattle.format_traits.specs.Laws.{KeepsLaws, MovesWithin, RoundTrips}
 use Rattle.format_traits.specs.PlainDesigns.{IsPlain}
 use Rattle.pec_codec.specs.declared.block.TheConstants.{LIMIT}
-use Rattle.pec_codec.specs.Laws.{KeepsBlockLaws, BlockRoundTrips}
-use Rattle.pec_codec.specs.Reading.{pec_block_moves, pec_block_reads}
 use Rattle.pec_codec.specs.Writing.{pec_block_writes}
 use Rattle.pes_codec.specs.declared.file_kind.FileKind.{FileKind}
-use Rattle.pes_codec.specs.Writing.{after_front}
 use Rattle.pec_codec.proofs.CallerLemmas.{again_from}
 
 -- the files of a format are a front and a block, and read as the block

@@ -1,9 +1,7 @@
 -- Lemmas for the crates of programs: plans that read files one after another, plans that decide, and the end of a run.
 use Rattle.std.proofs.Common.{◌≡◌, ℕ, Bool, false, List, Option, Result, Ok, Err, ap, refl, subst, sym, arith}
-use Rattle.program_shell.proofs.Names.{nat_tests, UnlessOutOfMemory, Files, SinkView, StoreView, Failure, Product, Status, IsExact, IsSoundProgram, IsInputContent, Makes, Plan, accepts, reads, refuses, satisfies, ProductValue, output_names, Program, RunEnds, Views, views_of, FinishesRun, IsFailureOf, RunsRequest}
-use Rattle.lists_and_numbers.specs.OutOfMemory.{IsSpecified}
+use Rattle.program_shell.proofs.Names.{nat_tests, UnlessOutOfMemory, Files, SinkView, StoreView, Failure, Product, Status, IsExact, IsSoundProgram, IsInputContent, Makes, Plan, accepts, reads, refuses, satisfies, ProductValue, output_names, Program, RunEnds, Views, views_of, FinishesRun, IsFailureOf, RunsRequest, IsSpecified, CanFinish, IsFaultFailure, IsParsedInput, ParsesInput, ReadsInput, RunsPlan, RunsPurePlan}
 use Rattle.program_shell.specs.declared.failure.Failure.TheVariants as failure
-use Rattle.program_shell.specs.StepOutcomes.{CanFinish, IsFaultFailure, IsParsedInput, ParsesInput, ReadsInput, RunsPlan, RunsPurePlan}
 use Rattle.program_shell.proofs.RunLemmas.{run_ends}
 use Rattle.program_shell.proofs.RunOutcomes.{finished}
 

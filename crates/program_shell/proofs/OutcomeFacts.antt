@@ -1,12 +1,7 @@
 -- What no run does: each word of the outcomes of a run is refuted by a wrong view.
 use Rattle.std.proofs.Common.{◌≡◌, ◌++◌, ◌∷◌, [], ℕ, suc, List, Option, Some, None, inl, inr, refl, codes, ap, ◌∙◌, sym, subst, arith}
-use Rattle.program_shell.proofs.Names.{Blame, Rose, Files, SinkView, StoreView, Status, PutFailed, with_bytes_put, LacksInput, Plan, accepts, refuses, ChangesOnlyFiles, OutputValue, ProductValue, WroteAll, WroteUpTo, output_names, Program, IsDecided, IsDone, IsFault, IsMemory, IsPlannedOutcome, IsRefused, IsUsage, KeepsOtherFiles, RunEnds, IsFaultlessRun, Views, views_of}
-use Rattle.outside_io.specs.Blames.{read_call}
+use Rattle.program_shell.proofs.Names.{Blame, Rose, Files, SinkView, StoreView, Status, PutFailed, with_bytes_put, LacksInput, Plan, accepts, refuses, ChangesOnlyFiles, OutputValue, ProductValue, WroteAll, WroteUpTo, output_names, Program, IsDecided, IsDone, IsFault, IsMemory, IsPlannedOutcome, IsRefused, IsUsage, KeepsOtherFiles, RunEnds, IsFaultlessRun, Views, views_of, read_call, AllFilesHold, IsMissingInput, IsOutsideFailure, IsPrintFailure, IsReadFailure, IsWriteFailure, IsFailed, IsReportLost, IsUntouched}
 use Rattle.program_shell.specs.declared.status.Status.TheVariants as status
-use Rattle.program_shell.specs.Products.{AllFilesHold}
-use Rattle.program_shell.specs.RunFailures.{IsMissingInput, IsOutsideFailure, IsPrintFailure, IsReadFailure, IsWriteFailure}
-use Rattle.program_shell.specs.Runs.{IsFailed, IsReportLost}
-use Rattle.program_shell.specs.RunViews.{IsUntouched}
 
 -- a sink that took these bytes
 abbrev took : List ℕ → SinkView

@@ -1,7 +1,6 @@
 -- Puts one after another.
 use Rattle.std.proofs.Common.{IsErrAnd, ◌≡◌, ◌++◌, ℕ, List, [], Option, Some, None, Result, Ok, Err, sym, ap, refl, subst, ◌∙◌, append_assoc, append-nil, take, drop}
-use Rattle.std.proofs.lemmas.List.{take-append-drop}
-use Rattle.program_shell.proofs.Names.{Failed, with_bytes_taken, Rose, PutFailed, Puts, with_bytes_put, SinkView}
+use Rattle.program_shell.proofs.Names.{Failed, with_bytes_taken, Rose, PutFailed, Puts, with_bytes_put, SinkView, take-append-drop}
 use Rattle.program_shell.specs.PutSteps.{Gathers}
 
 -- what a sink shows, by its parts

@@ -1,10 +1,8 @@
 -- The outcome of a run, told apart by status.
 use Rattle.std.proofs.Common.{◌≡◌, ◌∙◌, ℕ, inl, inr, List, Option, Some, None, refl, string_bytes, subst, sym}
-use Rattle.program_shell.proofs.Names.{Failure, Status, IsSoundProgram, cannot_print_line, cannot_read_line, cannot_write_line, message_line, out_of_memory_line, Makes, ProductValue, Program, ReportsLineWithStatus, IsPlannedOutcome, IsDone, IsFault, IsMemory, IsRefused, IsUsage, RunEnds, Views, Delivers, failure_line, all, but_report, up_to, IsFailureOf, status_of}
+use Rattle.program_shell.proofs.Names.{Failure, Status, IsSoundProgram, cannot_print_line, cannot_read_line, cannot_write_line, message_line, out_of_memory_line, Makes, ProductValue, Program, ReportsLineWithStatus, IsPlannedOutcome, IsDone, IsFault, IsMemory, IsRefused, IsUsage, RunEnds, Views, Delivers, failure_line, all, but_report, up_to, IsFailureOf, status_of, missing, not_read, not_written, unprinted, failed, memory, refused, usage}
 use Rattle.program_shell.specs.declared.failure.Failure.TheVariants as failure
 use Rattle.program_shell.specs.declared.status.Status.TheVariants as status
-use Rattle.program_shell.specs.RunFailures.{missing, not_read, not_written, unprinted}
-use Rattle.program_shell.specs.Runs.{failed, memory, refused, usage}
 use Rattle.program_shell.proofs.DecisionLemmas.{decided}
 use Rattle.program_shell.proofs.KeepLemmas.{keeps_others}
 use Rattle.program_shell.proofs.RunOutcomes.{IsRunOutcome, halted, made}

@@ -1,9 +1,7 @@
 -- The outcome of a run, before it is told apart by status.
 use Rattle.std.proofs.Common.{◌≡◌, ℕ, List, Option, Some, None, Ok, Err, Result, refl, subst, sym}
-use Rattle.program_shell.proofs.Names.{SinkView, StoreView, Failure, Product, Status, Makes, Plan, ProductValue, Program, ReportsLineWithStatus, Views, views_of, Delivers, FinishesRun, ReportsFailure, failure_line, IsFailureOf, RunsRequest, status_of}
+use Rattle.program_shell.proofs.Names.{SinkView, StoreView, Failure, Product, Status, Makes, Plan, ProductValue, Program, ReportsLineWithStatus, Views, views_of, Delivers, FinishesRun, ReportsFailure, failure_line, IsFailureOf, RunsRequest, status_of, product_value, IsPlanResult}
 use Rattle.program_shell.specs.declared.failure.Failure.TheVariants as failure
-use Rattle.program_shell.specs.Products.{product_value}
-use Rattle.program_shell.specs.StepOutcomes.{IsPlanResult}
 
 -- The outcome of a plan: a product of it is delivered, or a failure of it is reported.
 pub data IsPlanOutcome (program usage : List ℕ) (plan : Plan) (before after : Views) (s : Status) : Type 0 where

@@ -1,8 +1,7 @@
 -- The results of bytes before which a header is taken.
 use Rattle.std.proofs.Common.{◌≡◌, ℕ, ◌+◌, List, [], ◌++◌, length, drop, ap, sym, ◌∙◌, subst, arith, length-append, append_assoc}
 use Rattle.std.proofs.Math.Seq.{drop-append-add}
-use Rattle.record_formats.proofs.Names.{ContinuesAs}
-use Rattle.format_traits.specs.DecoderStates.{IsSameDecoderState, IsAtRecordBoundary, DecodedSoFar, DecoderState, TakesBytes}
+use Rattle.record_formats.proofs.Names.{ContinuesAs, IsSameDecoderState, IsAtRecordBoundary, DecodedSoFar, DecoderState, TakesBytes}
 
 -- after no header is the whole file
 pub same_behind : (fresh new : DecoderState) (header : ℕ) → header ≡ 0 → ((at : ℕ) → ContinuesAs fresh new at (at + header) [] [])

@@ -1,16 +1,13 @@
 -- Worked values of the parts of moves, of records, and of the encoding of acts.
 use Rattle.std.proofs.Common.{◌≡◌, ℕ, ℤ, pos, negsuc, true, false, [], ◌∷◌, length, map, take, drop, Some, None, Ok, Err, refl}
-use Rattle.record_formats.proofs.Names.{Stitch, Jump, Point, WriteLimits, part_moves, Records, moves_of_records_from, file_commands_from, over, next, RecordEncoding}
+use Rattle.record_formats.proofs.Names.{Stitch, Jump, Point, WriteLimits, part_moves, Records, moves_of_records_from, file_commands_from, over, next, RecordEncoding, numbered, file_commands, trims_or_stops, decoded_commands_from, decoded_commands, moves_of_records, refused, records_of_acts}
 use Rattle.design_model.specs.declared.act.Act.TheVariants.{Needle, Trim as TrimAct, Stop as StopAct}
 use Rattle.design_model.specs.declared.command.Command.TheVariants.{Trim, Stop}
-use Rattle.design_model.specs.Acts.{numbered}
 use Rattle.record_formats.specs.declared.event.Event.TheVariants as event
 use Rattle.format_traits.specs.declared.fault.ReadFault.TheVariants as fault
 use Rattle.record_formats.specs.declared.move_parts.TheConstants.{MAX_HOPS}
 use Rattle.record_formats.specs.declared.record_reader.TheConstants.{MAX_RECORD_MOVE}
 use Rattle.record_formats.specs.Layouts.{Layout, layout_decoded, layout_reads}
-use Rattle.record_formats.specs.Records.{file_commands, trims_or_stops, decoded_commands_from, decoded_commands, moves_of_records, refused}
-use Rattle.record_formats.specs.RecordEncodings.{records_of_acts}
 
 abbrev pub point : ℤ → ℤ → Point
 point x y = record { x = x; y = y }

@@ -1,8 +1,7 @@
 -- Worked values of what records are taken for.
 use Rattle.std.proofs.Common.{◌≡◌, ℤ, pos, negsuc, true, false, [], ◌∷◌, None, Some, refl}
-use Rattle.record_formats.proofs.Names.{Point, trims_once, is_stop_in_place, moves_of_events, position_after_moves, length_of_moves}
+use Rattle.record_formats.proofs.Names.{Point, trims_once, is_stop_in_place, moves_of_events, position_after_moves, length_of_moves, jump_event}
 use Rattle.record_formats.specs.declared.event.Event.TheVariants as event
-use Rattle.record_formats.specs.RoundTrip.{jump_event}
 
 abbrev pub point : ℤ → ℤ → Point
 point x y = record { x = x; y = y }

@@ -1,10 +1,9 @@
 -- The records of acts, one after the other.
 use Rattle.std.proofs.Common.{◌≡◌, ℕ, suc, ◌+◌, ◌-◌, ◌<◌, List, Result, Ok, Err, [], ◌∷◌, ◌++◌, map, refl, ap, sym, ◌∙◌, arith}
 use Rattle.std.proofs.lemmas.List.{append_assoc}
-use Rattle.record_formats.proofs.Names.{nat_tests, append-nil, concat, NumberedAct, Point, move_between, WriteLimits, EncoderState, part_end, part_moves_from, encoder_state_after, initial_encoder_state, RecordEncoding, records_of_act, records_of_acts_from}
+use Rattle.record_formats.proofs.Names.{nat_tests, append-nil, concat, NumberedAct, Point, move_between, WriteLimits, EncoderState, part_end, part_moves_from, encoder_state_after, initial_encoder_state, RecordEncoding, records_of_act, records_of_acts_from, AppendsRecords}
 use Rattle.format_traits.specs.declared.fault.WriteFault.{WriteFault}
 use Rattle.format_traits.specs.ActWriting.{AppendsActs, bytes_of_acts_from}
-use Rattle.record_formats.specs.RecordEncodings.{AppendsRecords}
 
 -- one jump more
 pub jump_more : (jump : Point → List ℕ) (out out' total : List ℕ) (m : Point) (n done wanted : ℕ) → done < wanted

@@ -1,9 +1,6 @@
 -- The double run of a drawing, from the double walks over its pieces.
 use Rattle.std.proofs.Common.{◌≡◌, ◌≤◌, ◌<◌, ◌^◌, ℕ, ◌+◌, List, [], ◌∷◌, length, All, Contains, arith, true, sym, ap, ◌∙◌, subst}
-use Rattle.route_core.proofs.Names.{nat_tests, All-cons, All-contains, All-head, All-nil, All-tail, PieceCert, Cut, HasCanonicalText, Pass, Piece, graph_of, DrawingValue, KeepsDrawingLimits, IsValidPiece, PieceValue, piece_graph, BeginsWith, is_fitting_walk, FittingWalksAreSewable, IsSewable, IsDoubled}
-use Rattle.odd_cuts.specs.Packings.{IsPlainCut}
-use Rattle.double_run.specs.DoubleWalks.{without_ends}
-use Rattle.route_core.specs.Doubles.{IsDoubleCert}
+use Rattle.route_core.proofs.Names.{nat_tests, All-cons, All-contains, All-head, All-nil, All-tail, PieceCert, Cut, HasCanonicalText, Pass, Piece, graph_of, DrawingValue, KeepsDrawingLimits, IsValidPiece, PieceValue, piece_graph, BeginsWith, is_fitting_walk, FittingWalksAreSewable, IsSewable, IsDoubled, IsPlainCut, without_ends, IsDoubleCert}
 use Rattle.route_core.proofs.SewnPieces.{Sewn}
 
 -- a double walk and no cuts can be printed

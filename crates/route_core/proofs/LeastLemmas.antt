@@ -1,11 +1,7 @@
 -- Least costs are the same both ways, and none is more than those of a way round.
 use Rattle.std.proofs.Common.{◌≡◌, ◌≤◌, ◌<◌, ℕ, ◌+◌, Bool, true, false, not, nat_lt, List, [], ◌∷◌, ◌++◌, Option, Some, None, arith, refl, sym, ◌∙◌, ap, subst}
-use Rattle.route_core.proofs.Names.{nat_tests, entry, TableValue, Edge, Pass, PieceValue, after_edge, edge_cost, edge_of, edge_value, pass_sum, walk_end_from, RowsValue, cost_at, terminal_of, IsTableOf, lost}
-use Rattle.odd_sets.specs.Tables.{HasTriangleInequality}
-use Rattle.line_graph.specs.PieceWalks.{after_pass}
-use Rattle.odd_paths.specs.LeastRows.{IsLeastCost}
+use Rattle.route_core.proofs.Names.{nat_tests, entry, TableValue, Edge, Pass, PieceValue, after_edge, edge_cost, edge_of, edge_value, pass_sum, walk_end_from, RowsValue, cost_at, terminal_of, IsTableOf, lost, HasTriangleInequality, after_pass, IsLeastCost, walk_append}
 use Rattle.odd_sets.proofs.CallerLemmas.{entry-comm}
-use Rattle.line_graph.proofs.CallerLemmas.{walk_append}
 
 sum_append : (ns : List ℕ) (es : List Edge) (f : Edge → ℕ) (xs ys : List Pass) → pass_sum ns es f (xs ++ ys)
     ≡ pass_sum ns es f xs + pass_sum ns es f ys

@@ -1,15 +1,9 @@
 -- A piece with copies for the pairs of its odd junctions can be passed, and its tours cost as much more.
 use Rattle.std.proofs.Common.{◌≡◌, ◌≢◌, ◌≤◌, ◌<◌, ℕ, zero, suc, ◌+◌, ◌%◌, ◌==◌, Bool, true, false, cond, ◌&&◌, nat_lt, List, [], ◌∷◌, ◌++◌, length, filter, get_or, replicate, Option, Some, None, All, arith, refl, sym, ◌∙◌, ap, subst}
-use Rattle.std.specs.List.{range_with_len}
-use Rattle.route_core.proofs.Names.{nat_tests, and_parts, All-head, All-tail, length-replicate, sum_by-cons, Pair, IsPerfectMatching, pair_ends_at, CanPass, IsTour, Edge, MAX_COST, Pass, IsValidPiece, PieceValue, one_if, given_start, edge_cost, AreTerminals, RowsValue, terminal_of, AddsPairs, IsPairOf, total_copies, copies_sum, edge_end_count, pair_costs, AreOddRows, IsWalkBy, eq_self}
-use Rattle.euler_tour.specs.Tours.{copies_cost, pass_count, pass_ends}
-use Rattle.line_graph.specs.ValidPieces.{ends_below, is_below}
-use Rattle.line_graph.specs.PieceGraphs.{edges_with_closing, closing_edge, degree, is_odd, is_odd_junction, given_end}
+use Rattle.route_core.proofs.Names.{nat_tests, and_parts, All-head, All-tail, length-replicate, sum_by-cons, Pair, IsPerfectMatching, pair_ends_at, CanPass, IsTour, Edge, MAX_COST, Pass, IsValidPiece, PieceValue, one_if, given_start, edge_cost, AreTerminals, RowsValue, terminal_of, AddsPairs, IsPairOf, total_copies, copies_sum, edge_end_count, pair_costs, AreOddRows, IsWalkBy, eq_self, range_with_len, copies_cost, pass_count, pass_ends, is_below, edges_with_closing, closing_edge, degree, is_odd, is_odd_junction, given_end, pair_ends, or_below, same_number, unequal}
+use Rattle.line_graph.specs.ValidPieces.{ends_below}
 use Rattle.route_core.proofs.PairLemmas.{none_cost}
 use Rattle.route_core.proofs.PathLemmas.{up_within}
-use Rattle.route_core.specs.Copies.{pair_ends}
-use Rattle.line_graph.proofs.CallerLemmas.{or_below}
-use Rattle.lists_and_numbers.proofs.CallerLemmas.{same_number, unequal}
 
 -- a number of a range that passes a test is among those that do
 found : (o : ℕ → Bool) (at n v : ℕ) → at ≤ v → v < at + n → o v ≡ true

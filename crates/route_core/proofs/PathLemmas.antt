@@ -1,12 +1,7 @@
 -- Paths by the places of their lines, and the ends of their passes.
 use Rattle.std.proofs.Common.{◌≡◌, ◌≤◌, ◌<◌, ℕ, zero, suc, ◌+◌, ◌*◌, ◌%◌, ◌^◌, ◌==◌, Bool, true, false, cond, nat_le, List, [], ◌∷◌, length, map, get_or, slice_get, Option, Some, None, All, arith, refl, sym, ◌∙◌, subst}
-use Rattle.route_core.proofs.Names.{nat_tests, and_parts, All-head, All-tail, Pair, Edge, Pass, IsValidPiece, PieceValue, one_if, after_edge, edge_cost, edge_of, edge_value, pass_sum, walk_end_from, RowsValue, cost_at, terminal_of, AddsPairs, AddsCopies, total_copies, copies_sum, edge_end_count, lost, eq_self}
+use Rattle.route_core.proofs.Names.{nat_tests, and_parts, All-head, All-tail, Pair, Edge, Pass, IsValidPiece, PieceValue, one_if, after_edge, edge_cost, edge_of, edge_value, pass_sum, walk_end_from, RowsValue, cost_at, terminal_of, AddsPairs, AddsCopies, total_copies, copies_sum, edge_end_count, lost, eq_self, all_costs_positive, pass_end, is_strictly_increasing, pass_start, IsPath, lines_at_indexes, index_sum, above_at}
 use native.Mathlib.Nat.{le-mul_of_pos_right}
-use Rattle.line_graph.specs.ValidPieces.{all_costs_positive}
-use Rattle.line_graph.specs.PieceWalks.{pass_end, is_strictly_increasing, pass_start}
-use Rattle.odd_paths.specs.LeastRows.{IsPath, lines_at_indexes}
-use Rattle.route_core.specs.Copies.{index_sum}
-use Rattle.line_graph.proofs.CallerLemmas.{above_at}
 
 -- the edge of the line at a place
 pub edge_at : (ns : List ℕ) (es : List Edge) (k : ℕ) → is_strictly_increasing ns ≡ true → length ns ≡ length es → k < length ns

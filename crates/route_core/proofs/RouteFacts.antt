@@ -1,14 +1,9 @@
 -- Certificates and double runs that aren't right, each for one reason, and what a route means.
 use Rattle.std.proofs.Common.{◌≡◌, ℕ, ◌+◌, ◌*◌, ◌≤◌, pos, true, false, List, [], ◌∷◌, All, None, Option, length, refl, arith, ap, sym, true≢false}
-use Rattle.route_core.proofs.Names.{AllZip, Edge, Pass, DrawingValue, PieceValue, given_start, piece_graph, ArePieces, BeginsWith, is_fitting_walk, piece_cost, walk_cost, AreWritable, runs_of, sewn_design, PieceCert, Cut, HasCanonicalText, walks_of, Routed, IsDoubled, CertifiesLeastWalk, IsLeastPieceRoute}
+use Rattle.route_core.proofs.Names.{AllZip, Edge, Pass, DrawingValue, PieceValue, given_start, piece_graph, ArePieces, BeginsWith, is_fitting_walk, piece_cost, walk_cost, AreWritable, runs_of, sewn_design, PieceCert, Cut, HasCanonicalText, walks_of, Routed, IsDoubled, CertifiesLeastWalk, IsLeastPieceRoute, first_line, IsPacking, IsDouble, IsDoubleOver, IsRoute}
 use Rattle.design_model.specs.declared.point.Point.{Point}
-use Rattle.line_graph.specs.Pieces.{first_line}
 use Rattle.line_graph.specs.Walks.{needles_of_walk}
 use Rattle.odd_cuts.specs.Cuts.{total_weight}
-use Rattle.odd_cuts.specs.Packings.{IsPacking}
-use Rattle.double_run.specs.DoubleWalks.{IsDouble}
-use Rattle.route_core.specs.Doubles.{IsDoubleOver}
-use Rattle.route_core.specs.Routes.{IsRoute}
 
 abbrev corner : ℕ → ℕ → Point
 corner x y = record { x = pos x; y = pos y }

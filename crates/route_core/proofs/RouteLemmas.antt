@@ -1,8 +1,6 @@
 -- The runs over a drawing, from the certificates of its pieces.
 use Rattle.std.proofs.Common.{◌≡◌, ◌≤◌, ◌<◌, ℕ, List, [], ◌++◌, length, All, arith, sym, ◌∙◌, ap, subst}
-use Rattle.std.proofs.lemmas.List.{append-nil}
-use Rattle.route_core.proofs.Names.{nat_tests, AllZip, PieceCert, BoundsTotal, HasCanonicalText, walks_of, Piece, graph_of, lines_of_pieces, DrawingValue, KeepsDrawingLimits, IsValidPiece, PieceValue, piece_graph, AreWritable, commands_after, runs_of, sewn_design, FittingWalksAreSewable, PiecesKeepLimits, Routed, CertifiesLeastWalk, IsLeastPieceRoute, AllDrawn}
-use Rattle.line_graph.specs.PiecesOfDrawings.{ArePiecesOf}
+use Rattle.route_core.proofs.Names.{nat_tests, AllZip, PieceCert, BoundsTotal, HasCanonicalText, walks_of, Piece, graph_of, lines_of_pieces, DrawingValue, KeepsDrawingLimits, IsValidPiece, PieceValue, piece_graph, AreWritable, commands_after, runs_of, sewn_design, FittingWalksAreSewable, PiecesKeepLimits, Routed, CertifiesLeastWalk, IsLeastPieceRoute, AllDrawn, append-nil, ArePiecesOf}
 use Rattle.route_core.specs.declared.runs.RunKind.{RunKind}
 use Rattle.route_core.specs.declared.runs.RunKind.TheVariants as kind
 use Rattle.route_core.specs.RoutedPieceCertificates.{IsRoutedPiece}

@@ -1,15 +1,7 @@
 -- Walks over pieces that can be sewn, and what is needed to sew them all.
 use Rattle.std.proofs.Common.{◌≡◌, ◌≢◌, ◌≤◌, ◌<◌, ℕ, ◌+◌, ◌*◌, List, [], ◌∷◌, length, All, Contains, sum_by, arith, refl}
-use Rattle.std.proofs.lemmas.List.{length-map}
-use Rattle.std.proofs.lemmas.List.Elements.{All-map}
 use Rattle.std.proofs.lemmas.Slice.Zip.{AllZip-long}
-use Rattle.std.specs.List.{concat}
-use Rattle.route_core.proofs.Names.{nat_tests, All-cons, All-contains, All-head, All-nil, All-tail, sum_by-cons, AllZip, PieceCert, HasCanonicalText, walks_of, Pass, Piece, graph_of, lines_of_pieces, DrawingValue, KeepsDrawingLimits, piece_graph, ArePieces, piece_cost, walk_cost, AreWritable, commands_after, runs_of, IsSewable, PiecesKeepLimits, AllDrawn}
-use Rattle.line_graph.specs.Runs.{AreNear, Run, run_of}
-use Rattle.line_graph.specs.SewnWalks.{ArePiecesWithin, GoesAlong}
-use Rattle.route_verdict.specs.SewingSteps.{AreDrawn}
-use Rattle.line_graph.proofs.CallerLemmas.{commands_count}
-use Rattle.lists_and_numbers.proofs.CallerLemmas.{below_left, below_right}
+use Rattle.route_core.proofs.Names.{nat_tests, All-cons, All-contains, All-head, All-nil, All-tail, sum_by-cons, AllZip, PieceCert, HasCanonicalText, walks_of, Pass, Piece, graph_of, lines_of_pieces, DrawingValue, KeepsDrawingLimits, piece_graph, ArePieces, piece_cost, walk_cost, AreWritable, commands_after, runs_of, IsSewable, PiecesKeepLimits, AllDrawn, length-map, All-map, concat, AreNear, Run, run_of, ArePiecesWithin, GoesAlong, AreDrawn, commands_count, below_left, below_right}
 
 -- what holds of the items of two lists, pair by pair, where it follows from what is known of each pair
 pub zip_weaker : {A B : Type 0} (P Q : A → B → Type 0) → ((x : A) (y : B) → P x y → Q x y) → (xs : List A) (ys : List B)

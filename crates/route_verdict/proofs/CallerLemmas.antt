@@ -1,8 +1,6 @@
 -- Lemmas that this crate and those above cite.
 use Rattle.std.proofs.Common.{None, Option, Some, arith, refl, true, ℕ, ◌==◌, ◌≡◌}
-use Rattle.route_verdict.proofs.Names.{PieceValue, is_fitting_walk, IsValidPiece, both_none, cuts_fault, CutFaultsAreExact, WalkFaultsAreExact, first_fault, BoundsWalks, walk_fault, PieceCert, IsCorrectPieceCert, cost_above, count_reason, cuts_reason, piece_reason, retraced_reason, walk_reason}
-use Rattle.lists_and_numbers.proofs.CallerLemmas.{same_number, test_none}
-use Rattle.odd_cuts.proofs.CallerLemmas.{costs_more}
+use Rattle.route_verdict.proofs.Names.{PieceValue, is_fitting_walk, IsValidPiece, both_none, cuts_fault, CutFaultsAreExact, WalkFaultsAreExact, first_fault, BoundsWalks, walk_fault, PieceCert, IsCorrectPieceCert, cost_above, count_reason, cuts_reason, piece_reason, retraced_reason, walk_reason, same_number, test_none, costs_more}
 use Rattle.odd_cuts.specs.declared.faults.CutFault.{CutFault}
 use Rattle.odd_cuts.specs.declared.faults.WalkFault.{WalkFault}
 use Rattle.route_verdict.specs.declared.verdict.Reason.TheVariants as reason

@@ -1,7 +1,6 @@
 -- Certificates and routes that aren't correct, each for one reason, and what a verdict means.
 use Rattle.std.proofs.Common.{◌≡◌, ℕ, ◌+◌, ◌*◌, ◌≤◌, pos, true, false, List, [], ◌∷◌, length, refl, arith, ap, sym, true≢false}
-use Rattle.route_verdict.proofs.Names.{AllZip, Act, Stitch, Point, acts_of, acts_without_numbers, DesignValue, Pass, DrawingValue, PieceValue, piece_graph, ArePieces, is_fitting_walk, walk_cost, runs_of, sewn_acts, PieceCert, Cut, walks_of, Verdict, HasShortLists, IsCorrectPieceCert, IsCorrectRoute, IsVerdict, verdict_of}
-use Rattle.line_graph.specs.PieceWalks.{piece_cost}
+use Rattle.route_verdict.proofs.Names.{AllZip, Act, Stitch, Point, acts_of, acts_without_numbers, DesignValue, Pass, DrawingValue, PieceValue, piece_graph, ArePieces, is_fitting_walk, walk_cost, runs_of, sewn_acts, PieceCert, Cut, walks_of, Verdict, HasShortLists, IsCorrectPieceCert, IsCorrectRoute, IsVerdict, verdict_of, piece_cost}
 use Rattle.odd_cuts.specs.Cuts.{total_weight}
 use Rattle.odd_cuts.specs.Packings.{IsPacking}
 use Rattle.route_verdict.specs.declared.verdict.Reason.TheVariants as reason

@@ -1,12 +1,7 @@
 -- What the headline takes and refuses. Three lines lead from one point to another in one, two and two steps. A closed thread sews one of
 -- them again, and the first is the shortest: by hand 5 + 1 steps, so 7 needle points. With the second again it is one more.
 use Rattle.std.proofs.Common.{◌≡◌, ◌≤◌, ℕ, ◌+◌, ◌*◌, pos, negsuc, true, false, List, [], ◌∷◌, Some, length, map, sum_by, Contains, IsTrue, arith, refl}
-use Rattle.std.specs.List.{list_all}
-use Rattle.route_verdict.proofs.Names.{All-cons, All-nil, AllZip, PieceCert, Cut, walks_of, Point, acts_of, acts_without_numbers, DesignValue, Pass, DrawingValue, piece_graph, is_fitting_walk, ArePieces, runs_of, sewn_acts, needles_of_walk, cost_of_line, IsLeastThread}
-use Rattle.odd_cuts.specs.DrawnCuts.{IsPackingOver}
-use Rattle.design_model.specs.Points.{is_point_within}
-use Rattle.line_graph.specs.DrawnWalks.{IsThreadOver}
-use Rattle.route_verdict.specs.LeastRedwork.{IsLeastRoute}
+use Rattle.route_verdict.proofs.Names.{All-cons, All-nil, AllZip, PieceCert, Cut, walks_of, Point, acts_of, acts_without_numbers, DesignValue, Pass, DrawingValue, piece_graph, is_fitting_walk, ArePieces, runs_of, sewn_acts, needles_of_walk, cost_of_line, IsLeastThread, list_all, IsPackingOver, is_point_within, IsThreadOver, IsLeastRoute}
 
 abbrev start_point : Point
 start_point = record { x = pos 0; y = pos 0 }

@@ -1,15 +1,8 @@
 -- A design and certificates are judged yes exactly where they are least redwork.
 use Rattle.std.proofs.Common.{◌≡◌, ◌≤◌, ◌<◌, ℕ, ◌+◌, true, List, [], ◌∷◌, ◌++◌, length, map, All, sum_by, arith, refl}
 use Rattle.std.proofs.lemmas.List.Sums.{sum_by-cons}
-use Rattle.route_verdict.proofs.Names.{All-cons, All-head, All-nil, All-tail, AllZip, concat, PieceCert, Point, Pass, DrawingValue, KeepsDrawingLimits, PiecesAreValid, piece_graph, IsLeastWalk, is_fitting_walk, walk_cost, FittingWalksAreSewable, IsValidPiece, needles_of_walk, cost_of_line, IsLeastThread, CorrectRoutesAreAccepted, IsCorrectPieceCert, IsVerdict}
-use Rattle.odd_cuts.specs.DrawnCuts.{PackingsAreOverLines}
-use Rattle.line_graph.specs.DrawnWalks.{FittingWalksAreThreads}
-use Rattle.line_graph.specs.PieceGraphs.{edge_between, junctions_of}
-use Rattle.line_graph.specs.PieceWalks.{edge_cost, edge_sum}
-use Rattle.line_graph.specs.SewnWalks.{IsSewable}
+use Rattle.route_verdict.proofs.Names.{All-cons, All-head, All-nil, All-tail, AllZip, concat, PieceCert, Point, Pass, DrawingValue, KeepsDrawingLimits, PiecesAreValid, piece_graph, IsLeastWalk, is_fitting_walk, walk_cost, FittingWalksAreSewable, IsValidPiece, needles_of_walk, cost_of_line, IsLeastThread, CorrectRoutesAreAccepted, IsCorrectPieceCert, IsVerdict, PackingsAreOverLines, FittingWalksAreThreads, edge_between, junctions_of, edge_cost, edge_sum, IsSewable, IsLeastRedwork, YesIsLeastRedwork}
 use Rattle.route_verdict.specs.declared.verdict.Verdict.TheVariants as verdict
-use Rattle.route_verdict.specs.LeastRedwork.{IsLeastRedwork}
-use Rattle.route_verdict.specs.VerdictTheorems.{YesIsLeastRedwork}
 
 -- the cost of a piece is that of its lines
 lines_cost : (d : DrawingValue) (js : List Point) (lines : List ℕ)

@@ -1,10 +1,8 @@
 -- Acts and lists of them are the same exactly where no difference is found.
 use Rattle.std.proofs.Common.{◌≡◌, ℕ, ◌+◌, Bool, true, false, cond, List, [], ◌∷◌, Some, None, refl, ◌∙◌, ap, arith}
 use Rattle.std.proofs.lemmas.Bool.{and_from}
-use Rattle.route_verdict.proofs.Names.{nat_tests, Act, first_differing_act}
+use Rattle.route_verdict.proofs.Names.{nat_tests, Act, first_differing_act, is_same_point, is_same_act, are_equal_bools}
 use Rattle.design_model.specs.declared.act.Act.TheVariants as act
-use Rattle.design_model.specs.Points.{is_same_point}
-use Rattle.route_verdict.specs.ActOrder.{is_same_act, are_equal_bools}
 use Rattle.design_model.proofs.CallerLemmas.{point_itself}
 
 answer_itself : (a : Bool) → are_equal_bools a a ≡ true

@@ -1,12 +1,8 @@
 -- Walks sewn one after another.
 use Rattle.std.proofs.Common.{◌≡◌, ◌≤◌, ◌<◌, ℕ, ◌+◌, Bool, true, false, cond, List, [], ◌∷◌, ◌++◌, length, drop, reverse, All, arith, sym, ◌∙◌, ap, subst}
 use Rattle.std.proofs.lemmas.List.Concat.{flat_map-cons}
-use Rattle.std.proofs.lemmas.List.Elements.{All-append}
-use Rattle.route_verdict.proofs.Names.{nat_tests, append_assoc, length-append, All-head, All-nil, All-tail, PieceCert, Command, Point, DesignValue, IsNeedlePoint, Pass, DrawingValue, KeepsDrawingLimits, block_of_passes, runs_of, needles_of_walk, walks_of, with_commands, AllDrawn, AreDrawn, later_needles, run_commands}
-use Rattle.line_graph.specs.Runs.{commands_after}
-use Rattle.drawing_model.specs.LineNeedles.{NeedlesLeadAlong, needles_of_line}
+use Rattle.route_verdict.proofs.Names.{nat_tests, append_assoc, length-append, All-head, All-nil, All-tail, PieceCert, Command, Point, DesignValue, IsNeedlePoint, Pass, DrawingValue, KeepsDrawingLimits, block_of_passes, runs_of, needles_of_walk, walks_of, with_commands, AllDrawn, AreDrawn, later_needles, run_commands, All-append, commands_after, NeedlesLeadAlong, needles_of_line, needles_of_pass}
 use Rattle.line_graph.proofs.CallerLemmas.{range_back}
-use Rattle.line_graph.specs.Walks.{needles_of_pass}
 
 -- the needles of further passes, one pass on
 pub later_more : (d : DrawingValue) (old points : List Point) (left after : List Pass) (pass : Pass) → left ≡ pass ∷ after

@@ -1,10 +1,9 @@
 -- Worked values of verdicts.
 use Rattle.std.proofs.Common.{◌≡◌, ℕ, pos, true, false, List, [], ◌∷◌, ◌++◌, Option, Some, None, map, replicate, refl}
-use Rattle.route_verdict.proofs.Names.{PieceCert, Cut, Act, Command, Stitch, Stop, Point, DesignValue, Pass, DrawingValue, Verdict, first_differing_act, verdict_of}
+use Rattle.route_verdict.proofs.Names.{PieceCert, Cut, Act, Command, Stitch, Stop, Point, DesignValue, Pass, DrawingValue, Verdict, first_differing_act, verdict_of, Jump, Trim}
 use Rattle.odd_cuts.specs.declared.faults.CutFault.TheVariants as cut_fault
 use Rattle.odd_cuts.specs.declared.faults.WalkFault.TheVariants as walk_fault
 use Rattle.design_model.specs.declared.act.Act.TheVariants as act
-use Rattle.design_model.specs.declared.command.Command.TheVariants.{Jump, Trim}
 use Rattle.route_verdict.specs.declared.verdict.Reason.TheVariants as reason
 use Rattle.route_verdict.specs.declared.verdict.Verdict.TheVariants as verdict
 

@@ -1,16 +1,9 @@
 -- Verdicts: no reason is found exactly where all is right, and then each walk is least.
 use Rattle.std.proofs.Common.{◌≡◌, ◌≤◌, ◌<◌, ℕ, ◌+◌, true, List, [], ◌∷◌, ◌++◌, Option, Some, None, length, map, All, Contains, arith, refl, sym, ◌∙◌, ap, subst}
-use Rattle.std.proofs.lemmas.List.{length-map}
-use Rattle.std.proofs.lemmas.List.Elements.{All-contains}
-use Rattle.route_verdict.proofs.Names.{nat_tests, All-cons, All-head, All-nil, All-tail, AllZip, concat, PieceCert, BoundsWalks, cuts_fault, CutFaultsAreExact, WalkFaultsAreExact, first_fault, walk_fault, acts_of, acts_without_numbers, DesignValue, Pass, Piece, graph_of, DrawingValue, KeepsDrawingLimits, PiecesAreValid, ArePieces, IsValidPiece, PieceValue, piece_graph, IsLeastWalk, is_fitting_walk, runs_of, sewn_acts, FittingWalksAreSewable, Verdict, CorrectRoutesAreAccepted, walks_of, AllDrawn, AreDrawn, IsCorrectRoute, IsCorrectPieceCert, HasShortLists, cost_above, count_reason, cuts_reason, piece_reason, pieces_reason, retraced_reason, verdict_of, walk_reason, both_none}
-use Rattle.odd_cuts.specs.PackingBounds.{ProvesLeast}
-use Rattle.line_graph.specs.PiecesOfDrawings.{ArePiecesOf, lines_of_pieces}
-use Rattle.line_graph.specs.SewnWalks.{ArePiecesWithin, PiecesKeepLimits}
+use Rattle.route_verdict.proofs.Names.{nat_tests, All-cons, All-head, All-nil, All-tail, AllZip, concat, PieceCert, BoundsWalks, cuts_fault, CutFaultsAreExact, WalkFaultsAreExact, first_fault, walk_fault, acts_of, acts_without_numbers, DesignValue, Pass, Piece, graph_of, DrawingValue, KeepsDrawingLimits, PiecesAreValid, ArePieces, IsValidPiece, PieceValue, piece_graph, IsLeastWalk, is_fitting_walk, runs_of, sewn_acts, FittingWalksAreSewable, Verdict, CorrectRoutesAreAccepted, walks_of, AllDrawn, AreDrawn, IsCorrectRoute, IsCorrectPieceCert, HasShortLists, cost_above, count_reason, cuts_reason, piece_reason, pieces_reason, retraced_reason, verdict_of, walk_reason, both_none, length-map, All-contains, ProvesLeast, ArePiecesOf, lines_of_pieces, ArePiecesWithin, PiecesKeepLimits, IsVerdictOver, acts_reason, difference_of, reason_of, verdict_of_reason, number_found}
 use Rattle.route_verdict.specs.declared.verdict.Reason.{Reason}
 use Rattle.route_verdict.specs.declared.verdict.Verdict.TheVariants as verdict
 use Rattle.route_verdict.proofs.SameActs.{no_difference, none_with_itself}
-use Rattle.route_verdict.specs.Verdicts.{IsVerdictOver, acts_reason, difference_of, reason_of, verdict_of_reason}
-use Rattle.lists_and_numbers.proofs.CallerLemmas.{number_found}
 use Rattle.route_verdict.proofs.CallerLemmas.{count_none, piece_correct, walk_none}
 
 -- one piece on

@@ -2,11 +2,7 @@
 use Rattle.std.proofs.Common.{◌≡◌, ℕ, ◌+◌, ◌*◌, ◌/◌, ◌%◌, ◌<◌, suc, List, [], ◌∷◌, ◌++◌, length, get_or, ap, sym, ◌∙◌, refl, arith}
 use Rattle.std.proofs.Math.Path.{ap₂}
 use Rattle.std.proofs.lemmas.List.FromFn.{get_or-map-range_with_len, length-map-range_with_len, map-range_with_len_more}
-use Rattle.std.proofs.lemmas.Nat.{div-add-mod', div-mul-add, mod-mul-add, mul-add-lt}
-use Rattle.design_model.specs.declared.point.Point.{Point}
-use Rattle.sample_drawings.specs.Draws.{next_state, state_after}
-use Rattle.sample_drawings.specs.Grids.{by_index, in_square, moved_junction}
-use Rattle.sample_drawings.specs.Samples.{cells_per_side, cell_kind, grid_junction, junctions_per_side, junction_draws}
+use Rattle.sample_drawings.proofs.Names.{div-add-mod', div-mul-add, mod-mul-add, mul-add-lt, Point, next_state, state_after, by_index, in_square, moved_junction, cells_per_side, cell_kind, grid_junction, junctions_per_side, junction_draws}
 
 -- the state after one draw more
 state_one : (number draws : ℕ) → state_after number (draws + 1) ≡ next_state (state_after number draws)

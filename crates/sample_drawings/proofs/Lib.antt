@@ -1,3 +1,4 @@
+pub mod Names
 pub mod SampleFacts
 pub mod DrawLemmas
 pub mod RowLemmas

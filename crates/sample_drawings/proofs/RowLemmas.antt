@@ -1,11 +1,7 @@
 -- Lists that are made column by column and row by row.
 use Rattle.std.proofs.Common.{◌≡◌, ℕ, ◌+◌, ◌*◌, ◌<◌, ◌≤◌, zero, suc, List, [], ◌∷◌, ◌++◌, length, flat_map, All, ap, sym, ◌∙◌, arith, length-append}
-use Rattle.std.proofs.Math.Nat.{suc-mul}
 use Rattle.std.proofs.lemmas.List.{flat_map_more}
-use Rattle.std.proofs.lemmas.List.Elements.{All-append, All-nil}
-use Rattle.std.proofs.lemmas.Nat.{mul-le}
-use Rattle.std.specs.List.{range_with_len}
-use Rattle.sample_drawings.specs.Samples.{row_by_row}
+use Rattle.sample_drawings.proofs.Names.{suc-mul, All-append, All-nil, mul-le, range_with_len, row_by_row}
 
 -- one number more
 range_more : (from n last : ℕ) → from + n ≡ last → range_with_len from (n + 1) ≡ range_with_len from n ++ last ∷ []

@@ -1,12 +1,8 @@
 -- Worked values of the sample drawings, from a small program that was written apart: of 75, which has one
 -- cell, of 1, which has four, and of 15, whose cell has no diagonal.
 use Rattle.std.proofs.Common.{◌≡◌, ◌+◌, ◌*◌, ◌∷◌, [], ℕ, codes, length, map, pos, refl}
-use Rattle.design_model.specs.declared.point.Point.{Point}
+use Rattle.sample_drawings.proofs.Names.{Point, steps_of_line, Segment, drawn_number, state_after, cells_per_side, cell_kind, grid_junction, row_by_row, sample_drawing_of, sample_segments}
 use Rattle.line_sections.specs.Lines.{LineValue}
-use Rattle.drawing_model.specs.Needles.{steps_of_line}
-use Rattle.sample_drawings.specs.declared.segment.Segment.{Segment}
-use Rattle.sample_drawings.specs.Draws.{drawn_number, state_after}
-use Rattle.sample_drawings.specs.Samples.{cells_per_side, cell_kind, grid_junction, row_by_row, sample_drawing_of, sample_segments}
 
 -- a place on the sheet
 abbrev at : ℕ → ℕ → Point

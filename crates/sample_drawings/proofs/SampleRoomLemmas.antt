@@ -1,17 +1,9 @@
 -- A growing drawing takes short lines as long as it has room.
 use Rattle.std.proofs.Common.{◌≡◌, ℕ, zero, suc, ◌+◌, ◌≤◌, ◌==◌, Bool, true, false, nat_lt, List, [], ◌∷◌, ◌++◌, length, map, Result, Ok, Err, ap, ◌∙◌, refl, arith}
-use Rattle.std.proofs.lemmas.Bool.Decides.{nat_tests}
-use Rattle.std.specs.List.{list_any}
-use Rattle.design_model.specs.declared.point.Point.{Point}
+use Rattle.sample_drawings.proofs.Names.{nat_tests, list_any, Point, DrawingValue, finished_drawing, line_added, point_count, step_count, draw_is_out_of_memory, steps_of_line, Segment, line_across, cells_per_side, diagonals, line_down, line_along, row_by_row, sample_segments, HasRoom, IsShortSegment, first_block, with_segments}
 use Rattle.lists_and_numbers.specs.OutOfMemory.{IsSpecified}
 use Rattle.drawing_model.specs.declared.draw_kind.DrawKind.{DrawKind}
 use Rattle.drawing_model.specs.declared.draw_kind.DrawKind.TheVariants as kind
-use Rattle.drawing_model.specs.Drawings.{DrawingValue}
-use Rattle.drawing_model.specs.GrowingDrawings.{finished_drawing, line_added, point_count, step_count, draw_is_out_of_memory}
-use Rattle.drawing_model.specs.Needles.{steps_of_line}
-use Rattle.sample_drawings.specs.declared.segment.Segment.{Segment}
-use Rattle.sample_drawings.specs.Samples.{line_across, cells_per_side, diagonals, line_down, line_along, row_by_row, sample_segments}
-use Rattle.sample_drawings.specs.SampleRoom.{HasRoom, IsShortSegment, first_block, with_segments}
 
 -- the drawing takes the two ends of a short line
 taken_so : (d : DrawingValue) (s : Segment) → HasRoom d 1 → IsShortSegment s

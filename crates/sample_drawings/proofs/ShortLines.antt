@@ -1,19 +1,12 @@
 -- The lines of a sample are short, and few.
 use Rattle.std.proofs.Common.{◌≡◌, ℕ, pos, ◌+◌, ◌*◌, ◌-ℤ◌, ◌%◌, ◌<◌, ◌≤◌, max, unsigned_abs, Bool, true, false, [], ◌∷◌, ◌++◌, length, All, refl, arith, length-append}
-use Rattle.std.proofs.Math.Nat.{max-le, mod-lt}
 use Rattle.std.proofs.lemmas.Bool.{and_parts}
-use Rattle.std.proofs.lemmas.Bool.Decides.{nat_tests, Decides-int_eq}
 use Rattle.std.proofs.lemmas.Grind.{div_ceil_times}
 use Rattle.std.proofs.lemmas.Int.{ints}
-use Rattle.std.proofs.lemmas.List.Elements.{All-append, All-cons, All-nil}
 use Rattle.std.specs.Int.{div_ceil}
 use Rattle.std.specs.Ordering.{int_eq}
-use Rattle.design_model.specs.declared.point.Point.{Point}
+use Rattle.sample_drawings.proofs.Names.{max-le, mod-lt, nat_tests, Decides-int_eq, All-append, All-cons, All-nil, Point, Segment, drawn_number, line_across, segment_between, cells_per_side, cell_kind, diagonals, line_down, falls_left, falls_right, junctions_per_side, segment_if, row_major_index, row_by_row, sample_segments, IsShortSegment}
 use Rattle.design_model.specs.Points.{is_same_point, is_point_within}
-use Rattle.sample_drawings.specs.declared.segment.Segment.{Segment}
-use Rattle.sample_drawings.specs.Draws.{drawn_number}
-use Rattle.sample_drawings.specs.Samples.{line_across, segment_between, cells_per_side, cell_kind, diagonals, line_down, falls_left, falls_right, junctions_per_side, segment_if, row_major_index, row_by_row, sample_segments}
-use Rattle.sample_drawings.specs.SampleRoom.{IsShortSegment}
 use Rattle.sample_drawings.proofs.RowLemmas.{all_rows, few_rows}
 
 -- a place on a sheet

@@ -1,7 +1,6 @@
 -- The spots at the ends of sections, in a set.
 use Rattle.std.proofs.Common.{◌≡◌, ◌∙◌, ℕ, ◌==◌, Bool, true, false, ◌&&◌, ◌||◌, cond, List, [], ◌∷◌, ap, sym, arith}
-use Rattle.spaced_lines.proofs.Names.{nat_tests, ap₂, list_any, Point, is_same_point, endpoints, has_end_at_spot, is_junction, Spot, LineValue, is_same_spot, last_point_or}
-use Rattle.design_model.proofs.CallerLemmas.{same_back}
+use Rattle.spaced_lines.proofs.Names.{nat_tests, ap₂, list_any, Point, is_same_point, endpoints, has_end_at_spot, is_junction, Spot, LineValue, is_same_spot, last_point_or, same_back}
 
 -- what is found after two spots of a block were put in
 either_end : (a b c found : Bool) → cond (a && c) true (cond (a && b) true found) ≡ ((a && (b || (c || false))) || found)

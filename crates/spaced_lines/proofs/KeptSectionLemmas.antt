@@ -1,7 +1,6 @@
 -- The sections of spaced lines have the ends of the sections of the lines.
 use Rattle.std.proofs.Common.{◌≡◌, ◌∙◌, ℕ, Bool, true, false, List, [], ◌∷◌, ◌++◌, map, All, refl, ap, sym, arith}
-use Rattle.std.proofs.lemmas.List.{map-append}
-use Rattle.spaced_lines.proofs.Names.{nat_tests, ap₂, All-head, All-tail, flat_map, Point, endpoints, end_spots, is_junction, Spot, LineValue, all_sections, inner_points, is_shared_point, line_sections, lines_through, sections_of, is_spot_of, spaced_line, spaced_lines, spaced_points, SectionsKeepEnds}
+use Rattle.spaced_lines.proofs.Names.{nat_tests, ap₂, All-head, All-tail, flat_map, Point, endpoints, end_spots, is_junction, Spot, LineValue, all_sections, inner_points, is_shared_point, line_sections, lines_through, sections_of, is_spot_of, spaced_line, spaced_lines, spaced_points, SectionsKeepEnds, map-append}
 use Rattle.spaced_lines.proofs.KeptCountLemmas.{shared_same, unshared_still}
 use Rattle.spaced_lines.proofs.KeptEndLemmas.{IsCutAlike, same_ends}
 use Rattle.spaced_lines.proofs.SharedLemmas.{shared_are_junctions}

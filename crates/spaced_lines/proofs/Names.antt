@@ -1,27 +1,34 @@
 -- Names from elsewhere that several files of these proofs use.
-pub use Rattle.std.proofs.Math.Path.{ap₂}
+pub use Rattle.std.proofs.Math.Path.{ap₂, fun_ext}
+pub use Rattle.std.proofs.lemmas.Bool.{eqb-true, leb-true, or_left, or_right}
 pub use Rattle.std.proofs.lemmas.Bool.Decides.{nat_tests}
-pub use Rattle.std.proofs.lemmas.List.{length-map}
-pub use Rattle.std.proofs.lemmas.List.Elements.{All-cons, All-head, All-nil, All-tail, All-weaker}
-pub use Rattle.std.proofs.lemmas.List.Sums.{sum_by-cons}
+pub use Rattle.std.proofs.lemmas.List.{drop_all, drop_more, length-append, length-map, map-append}
+pub use Rattle.std.proofs.lemmas.List.Elements.{All-cons, All-head, All-map, All-nil, All-tail, All-weaker}
+pub use Rattle.std.proofs.lemmas.List.Folds.{list_all-append, list_any-append}
+pub use Rattle.std.proofs.lemmas.List.Sums.{sum_by-append, sum_by-cons}
 pub use Rattle.std.specs.HashSet.{contains}
-pub use Rattle.std.specs.List.{flat_map, list_all, list_any}
+pub use Rattle.std.specs.List.{concat, count_by, flat_map, list_all, list_any, sum_by}
+pub use Rattle.design_model.proofs.CallerLemmas.{same_back, same_is}
 pub use Rattle.design_model.specs.Points.{is_same_point}
 pub use Rattle.design_model.specs.declared.point.Point.{Point}
-pub use Rattle.drawing_model.specs.Drawings.{DrawingValue, endpoints}
-pub use Rattle.drawing_model.specs.GrowingDrawings.{point_count}
-pub use Rattle.drawing_model.specs.Needles.{steps_of_line}
-pub use Rattle.drawing_model.specs.WalkEnds.{end_spots, has_end_at_spot, is_junction}
+pub use Rattle.drawing_model.specs.Drawings.{DrawingValue, IsLine, KeepsDrawingLimits, endpoints}
+pub use Rattle.drawing_model.specs.GrowingDrawings.{and_then, point_count}
+pub use Rattle.drawing_model.specs.Needles.{segment_steps, steps_of_line}
+pub use Rattle.drawing_model.specs.WalkEnds.{are_connected_spots, end_spots, has_end_at_spot, is_junction, merged_representative}
+pub use Rattle.drawing_model.specs.WalkEnds.{representative, spot_added}
 pub use Rattle.drawing_repairs.specs.Anchors.{distance_between}
 pub use Rattle.drawing_review.specs.Frames.{grid_point}
 pub use Rattle.drawing_review.specs.Meetings.{is_near}
 pub use Rattle.line_sections.specs.Lines.{LineValue}
 pub use Rattle.line_sections.specs.Sections.{all_sections, but_last, has_points, inner_points, is_shared_point, line_sections}
-pub use Rattle.line_sections.specs.Sections.{lines_through, sections_from, sections_of, sections_with_first}
+pub use Rattle.line_sections.specs.Sections.{lines_through, listed_in, sections_from, sections_of, sections_with_first}
 pub use Rattle.line_sections.specs.Spots.{is_same_spot}
 pub use Rattle.line_sections.specs.declared.spot.Spot.{Spot}
-pub use Rattle.lists_and_numbers.proofs.CallerLemmas.{first_true, second_true}
-pub use Rattle.spaced_lines.specs.SpacedAnswers.{SpacedLinesKeepLimits}
-pub use Rattle.spaced_lines.specs.SpacedLines.{is_spot_of, is_stitch_for, kept_after, leeway_of, spaced_line, spaced_lines, spaced_points}
-pub use Rattle.spaced_lines.specs.SpacingLaws.{EachPointSavesAStep, SectionsKeepEnds, SpacedLinesAreLines, StandFor}
-pub use Rattle.step_splitter.specs.Chains.{last_point_or}
+pub use Rattle.lists_and_numbers.proofs.CallerLemmas.{and_false, either_way, first_true, second_true}
+pub use Rattle.spaced_lines.specs.SpacedAnswers.{SpacedLinesKeepLimits, SpacingRefusesNone, with_lines_spaced}
+pub use Rattle.spaced_lines.specs.SpacedDrawings.{space_of, spaced_and_joined}
+pub use Rattle.spaced_lines.specs.SpacedLines.{comes_near_all, is_spot_of, is_stitch_for, kept_after, leeway_of, may_leave_out, spaced_line}
+pub use Rattle.spaced_lines.specs.SpacedLines.{spaced_lines, spaced_points}
+pub use Rattle.spaced_lines.specs.SpacingLaws.{EachPointSavesAStep, PiecesStay, SectionsKeepEnds, SharedPointsAreJunctions}
+pub use Rattle.spaced_lines.specs.SpacingLaws.{SpacedLinesAreLines, StandFor}
+pub use Rattle.step_splitter.specs.Chains.{HasNoRepeatAfter, IsNeedlePoint, SplitPointsLead, last_point_or}

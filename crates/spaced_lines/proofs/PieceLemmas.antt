@@ -1,11 +1,9 @@
 -- The pieces of a drawing depend on the blocks and the ends of its lines alone.
 use Rattle.std.proofs.Common.{◌≡◌, ◌∙◌, ℕ, ◌==◌, ◌<◌, Bool, false, ◌&&◌, List, [], ◌∷◌, Option, Some, length, map, slice_get, All, ap, sym, arith}
 use Rattle.std.proofs.lemmas.Option.{slice_get-map}
-use Rattle.std.specs.List.{concat}
 use Rattle.std.specs.Prelude.{option_map}
-use Rattle.spaced_lines.proofs.Names.{nat_tests, ap₂, length-map, All-weaker, Point, DrawingValue, end_spots, Spot, LineValue, all_sections, spaced_lines}
+use Rattle.spaced_lines.proofs.Names.{nat_tests, ap₂, length-map, All-weaker, Point, DrawingValue, end_spots, Spot, LineValue, all_sections, spaced_lines, concat, PiecesStay}
 use Rattle.line_graph.specs.Pieces.{AreConnected, ArePieces, IsPathOfLines, LinesTouch, first_line, shares_point, touches}
-use Rattle.spaced_lines.specs.SpacingLaws.{PiecesStay}
 use Rattle.spaced_lines.proofs.KeptSectionLemmas.{sections_keep_ends}
 
 -- a line of which the ends are known

@@ -1,13 +1,9 @@
 -- A spaced line can be sewn, and each point that is left out saves a step.
 use Rattle.std.proofs.Common.{◌≡◌, ◌≢◌, ◌∙◌, ℕ, ◌+◌, ◌≤◌, Bool, true, not, nat_le, List, [], ◌∷◌, ◌++◌, length, All, if◌then◌else◌, arith}
-use Rattle.std.proofs.lemmas.Bool.{leb-true}
 use Rattle.std.proofs.lemmas.Grind.{div_ceil_times}
 use Rattle.std.specs.Int.{div_ceil}
-use Rattle.spaced_lines.proofs.Names.{nat_tests, All-cons, All-head, All-nil, All-tail, Point, is_same_point, distance_between, is_stitch_for, kept_after, EachPointSavesAStep, SpacedLinesAreLines, first_true, second_true}
-use Rattle.drawing_model.specs.Needles.{segment_steps}
-use Rattle.step_splitter.specs.Chains.{HasNoRepeatAfter, IsNeedlePoint, SplitPointsLead}
+use Rattle.spaced_lines.proofs.Names.{nat_tests, All-cons, All-head, All-nil, All-tail, Point, is_same_point, distance_between, is_stitch_for, kept_after, EachPointSavesAStep, SpacedLinesAreLines, first_true, second_true, leb-true, segment_steps, HasNoRepeatAfter, IsNeedlePoint, SplitPointsLead, comes_near_all}
 use Rattle.step_splitter.specs.Steps.{steps_of}
-use Rattle.spaced_lines.specs.SpacedLines.{comes_near_all}
 use Rattle.spaced_lines.proofs.SpacingLemmas.{left_out_stitch, of_kept}
 
 -- a stitch is one step

@@ -1,10 +1,6 @@
 -- A shared point inside a line is the last point of a section.
 use Rattle.std.proofs.Common.{◌≡◌, ◌∙◌, ℕ, ◌==◌, Bool, true, false, ◌&&◌, ◌||◌, List, [], ◌∷◌, map, All, if◌then◌else◌, refl, arith}
-use Rattle.std.proofs.lemmas.Bool.{or_left, or_right}
-use Rattle.std.proofs.lemmas.List.Folds.{list_any-append}
-use Rattle.spaced_lines.proofs.Names.{nat_tests, All-cons, All-nil, flat_map, list_any, Point, is_same_point, has_end_at_spot, LineValue, but_last, inner_points, is_shared_point, line_sections, lines_through, sections_from, sections_of, sections_with_first, last_point_or}
-use Rattle.spaced_lines.specs.SpacingLaws.{SharedPointsAreJunctions}
-use Rattle.lists_and_numbers.proofs.CallerLemmas.{either_way}
+use Rattle.spaced_lines.proofs.Names.{nat_tests, All-cons, All-nil, flat_map, list_any, Point, is_same_point, has_end_at_spot, LineValue, but_last, inner_points, is_shared_point, line_sections, lines_through, sections_from, sections_of, sections_with_first, last_point_or, or_left, or_right, list_any-append, SharedPointsAreJunctions, either_way}
 
 -- a section ends at a point
 abbrev ends_last : Point → List Point → Bool

@@ -1,23 +1,14 @@
 -- A drawing that can be joined and get starts and ends can be spaced with them.
 use Rattle.std.proofs.Common.{◌≡◌, ◌∙◌, ℕ, suc, ◌+◌, ◌≤◌, ◌==◌, ◌&&◌, ◌||◌, not, nat_lt, Bool, true, false, List, [], ◌∷◌, ◌++◌, length, map, All, Result, Ok, Err, if◌then◌else◌, refl, ap, sym, arith}
-use Rattle.std.proofs.Math.Path.{fun_ext}
-use Rattle.std.proofs.lemmas.List.{length-append}
-use Rattle.std.proofs.lemmas.List.Sums.{sum_by-append}
 use Rattle.std.proofs.lemmas.Result.{IfOk-at_ok}
-use Rattle.spaced_lines.proofs.Names.{nat_tests, length-map, All-head, All-tail, sum_by-cons, flat_map, list_any, Point, is_same_point, DrawingValue, endpoints, point_count, end_spots, is_junction, Spot, LineValue, all_sections, has_points, is_shared_point, line_sections, lines_through, sections_from, sections_of, sections_with_first, is_same_spot, SpacedLinesKeepLimits, spaced_line, spaced_lines, SectionsKeepEnds}
+use Rattle.spaced_lines.proofs.Names.{nat_tests, length-map, All-head, All-tail, sum_by-cons, flat_map, list_any, Point, is_same_point, DrawingValue, endpoints, point_count, end_spots, is_junction, Spot, LineValue, all_sections, has_points, is_shared_point, line_sections, lines_through, sections_from, sections_of, sections_with_first, is_same_spot, SpacedLinesKeepLimits, spaced_line, spaced_lines, SectionsKeepEnds, fun_ext, length-append, sum_by-append, KeepsDrawingLimits, and_then, are_connected_spots, merged_representative, representative, spot_added, SpacingRefusesNone, with_lines_spaced, spaced_and_joined, and_false}
 use Rattle.drawing_edits.specs.RedrawnDrawings.{with_starts_and_ends, with_walk_ends}
 use Rattle.drawing_edits.specs.ValidRedraws.{LinesWithinLimitsAreDrawn}
 use Rattle.drawing_model.specs.declared.draw_kind.DrawKind.{DrawKind}
 use Rattle.drawing_model.specs.declared.draw_kind.DrawKind.TheVariants as kind
-use Rattle.drawing_model.specs.Drawings.{KeepsDrawingLimits}
-use Rattle.drawing_model.specs.GrowingDrawings.{and_then}
 use Rattle.drawing_model.specs.JoinedDrawings.{joined_drawing}
-use Rattle.drawing_model.specs.WalkEnds.{are_connected_spots, merged_representative, representative, spot_added}
-use Rattle.spaced_lines.specs.SpacedAnswers.{SpacingRefusesNone, with_lines_spaced}
-use Rattle.spaced_lines.specs.SpacedDrawings.{spaced_and_joined}
 use Rattle.drawing_edits.proofs.CallerLemmas.{HasSpots, spots_put}
 use Rattle.spaced_lines.proofs.SpacedLimitLemmas.{points_less}
-use Rattle.lists_and_numbers.proofs.CallerLemmas.{and_false}
 
 -- the number of points of sections is that of the segments and of the sections
 record HasSize (block segments : ℕ) (sections : List (List Point)) : Type 0 where

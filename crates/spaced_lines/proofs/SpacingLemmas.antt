@@ -1,9 +1,7 @@
 -- What spacing keeps of a line, by cases on whether a point is left out.
 use Rattle.std.proofs.Common.{◌≡◌, ◌∙◌, ℕ, ◌⊎◌, inl, inr, Bool, true, false, not, ◌&&◌, cond, nat_le, List, [], ◌∷◌, ◌++◌, filter, if◌then◌else◌, refl, ap, sym, subst, append_assoc, arith}
-use Rattle.std.proofs.lemmas.List.Folds.{list_all-append}
-use Rattle.spaced_lines.proofs.Names.{nat_tests, list_all, Point, is_same_point, grid_point, is_near, endpoints, last_point_or, distance_between, is_stitch_for, kept_after, leeway_of, spaced_points, StandFor, first_true, second_true}
+use Rattle.spaced_lines.proofs.Names.{nat_tests, list_all, Point, is_same_point, grid_point, is_near, endpoints, last_point_or, distance_between, is_stitch_for, kept_after, leeway_of, spaced_points, StandFor, first_true, second_true, list_all-append, may_leave_out}
 use Rattle.drawing_repairs.specs.Listings.{segment_between}
-use Rattle.spaced_lines.specs.SpacedLines.{may_leave_out}
 
 -- What holds of the last point alone, and passes from the points kept after a point that is left out, or kept, to all those with it,
 -- holds of the points that a line keeps.

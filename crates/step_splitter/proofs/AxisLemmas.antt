@@ -1,11 +1,8 @@
 -- The numbers on the way from one number to another.
 use Rattle.std.proofs.Common.{◌≡◌, ◌≢◌, ℕ, ℤ, pos, negsuc, ◌+◌, ◌-◌, ◌*◌, ◌/◌, ◌≤◌, ◌+ℤ◌, ◌-ℤ◌, ◌*ℤ◌, ◌<ℤ◌, ◌≤ℤ◌, unsigned_abs, zero, suc, refl, ap, sym, ◌∙◌, add-one, add-zero, arith}
 use Rattle.std.proofs.Math.IntN.{neg_ℤ}
-use Rattle.std.proofs.lemmas.Int.{by_lt_z}
-use Rattle.std.proofs.Math.Nat.{zero-div}
-use Rattle.step_splitter.proofs.Names.{nat_tests, ints, div-eq_of_lt, floor_quotient}
+use Rattle.step_splitter.proofs.Names.{nat_tests, ints, div-eq_of_lt, floor_quotient, by_lt_z, zero-div, coordinate_on_segment}
 use Rattle.step_splitter.proofs.QuotientLemmas.{div-more, part_last, part_rises, part_rises_little, part_within, next_part, div-mono}
-use Rattle.step_splitter.specs.Steps.{coordinate_on_segment}
 
 -- a product with a number that isn't negative, over n
 pub floor_up : (i n : ℕ) (z : ℤ) → pos 0 ≤ℤ z → floor_quotient (pos i *ℤ z) n ≡ pos (i * unsigned_abs z / n)

@@ -1,8 +1,7 @@
 -- Lemmas that this crate and those above cite.
 use Rattle.std.proofs.Common.{All, List, [], arith, unsigned_abs, ℕ, ℤ, ◌+◌, ◌-ℤ◌, ◌∷◌, ◌≤◌}
-use Rattle.std.proofs.Math.Nat.{max-le}
 use Rattle.std.proofs.lemmas.List.Elements.{All-head, All-tail}
-use Rattle.step_splitter.proofs.Names.{nat_tests, ints, within_parts, move_between, move_size, Point, IsNeedlePoint, last_point_or}
+use Rattle.step_splitter.proofs.Names.{nat_tests, ints, within_parts, move_between, move_size, Point, IsNeedlePoint, last_point_or, max-le}
 
 pub last_in_range : (p : Point) (rest : List Point) → IsNeedlePoint p → All IsNeedlePoint rest → IsNeedlePoint (last_point_or p rest)
 last_in_range p [] one all = one

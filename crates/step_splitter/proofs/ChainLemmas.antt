@@ -1,12 +1,9 @@
 -- The points on the way from p to q as a chain.
 use Rattle.std.proofs.Common.{◌≡◌, ◌≢◌, ℕ, zero, suc, ◌+◌, ◌*◌, ◌<◌, ◌≤◌, ◌-ℤ◌, map, All, unsigned_abs, IsTrue, ap, ◌∙◌, subst, arith}
-use Rattle.std.proofs.lemmas.List.FromFn.{get_or-map-range_with_len, length-map-range_with_len}
-use Rattle.step_splitter.proofs.Names.{nat_tests, range_with_len, le-max_left, le-max_right, Point, is_point_within, move_between, move_size, IsNeedlePoint, AreCloseAfter, LeadsBySteps, last_point_or, point_on_segment, split_points, steps_of, same_point, within_parts}
+use Rattle.step_splitter.proofs.Names.{nat_tests, range_with_len, le-max_left, le-max_right, Point, is_point_within, move_between, move_size, IsNeedlePoint, AreCloseAfter, LeadsBySteps, last_point_or, point_on_segment, split_points, steps_of, same_point, within_parts, get_or-map-range_with_len, length-map-range_with_len, HasNoRepeatAfter, within_from}
 use Rattle.step_splitter.proofs.AxisLemmas.{axis_close, axis_first, axis_last, axis_moves, axis_within}
 use Rattle.step_splitter.proofs.PointLemmas.{size_some}
 use Rattle.step_splitter.proofs.QuotientLemmas.{div_ceil_covers, div_ceil_few, div_ceil_some}
-use Rattle.step_splitter.specs.Chains.{HasNoRepeatAfter}
-use Rattle.design_model.proofs.CallerLemmas.{within_from}
 
 -- where each value of a function lies close to the next, its values in a row keep close
 close_along : (f : ℕ → Point) (limit a n : ℕ)

@@ -1,9 +1,8 @@
 -- Quotients of equal parts, as natural numbers: (i * d + c) / n for i from 0 to n.
 use Rattle.std.proofs.Common.{◌≡◌, ℕ, ◌+◌, ◌*◌, ◌/◌, ◌<◌, ◌≤◌, arith}
 use Rattle.std.proofs.lemmas.Nat.{le-div}
-use Rattle.std.proofs.Math.Nat.{add-mul-div_left, div-mul-le_self, mul-le-mul_right}
 use Rattle.std.specs.Int.{div_ceil}
-use Rattle.step_splitter.proofs.Names.{nat_tests, div_ceil_times, div-eq_of_lt}
+use Rattle.step_splitter.proofs.Names.{nat_tests, div_ceil_times, div-eq_of_lt, add-mul-div_left, div-mul-le_self, mul-le-mul_right}
 
 -- a number of at least 1 over another one, rounded up, is at least 1
 pub div_ceil_some : (s step : ℕ) → 1 ≤ s → 1 ≤ step → 1 ≤ div_ceil s step

@@ -1,10 +1,9 @@
 -- Worked values of refits.
 use Rattle.std.proofs.Common.{◌≡◌, ℤ, pos, negsuc, true, false, [], ◌∷◌, refl}
-use Rattle.step_splitter.proofs.Names.{Act, acts_along, origin, is_no_float, refitted_acts, refitted_commands}
+use Rattle.step_splitter.proofs.Names.{Act, acts_along, origin, is_no_float, refitted_acts, refitted_commands, is_near_act}
 use Rattle.design_model.specs.declared.act.Act.TheVariants as act
 use Rattle.design_model.specs.declared.command.Command.TheVariants as command
 use Rattle.step_splitter.specs.declared.refitting.RefitMode.TheVariants as mode
-use Rattle.step_splitter.specs.Refits.{is_near_act}
 use Rattle.step_splitter.proofs.SplitFacts.{at}
 
 -- a needle that is no float, and one that is

@@ -1,15 +1,12 @@
 -- Refitted acts and their commands, one act after the other.
 use Rattle.std.proofs.Common.{drop, get_or, add-one, Option, Some, Result, Ok, Err, IfErr, option_to_list, subst, ◌≡◌, ℕ, ◌+◌, ◌<◌, ◌≤◌, Bool, true, List, [], ◌∷◌, ◌++◌, length, map, refl, sym, ap, ◌∙◌, arith, append_assoc, append-nil}
-use Rattle.std.proofs.lemmas.List.{length-append}
 use Rattle.design_model.specs.declared.command.Command.TheVariants as command
 use Rattle.design_model.specs.ActPositions.{leaves_thread_loose, needle_position_after}
 use Rattle.design_model.specs.declared.act_scanner.ActScanner.{ActScanner}
 use Rattle.std.proofs.Math.Seq.{drop-cons}
-use Rattle.step_splitter.proofs.Names.{nat_tests, Act, NumberedAct, Command, MAX_COMMANDS, Point, acts_after, acts_without_numbers, origin, RefitMode, commands_of_acts, needles_at, refitted_acts, refitted_commands, refitted_from, IsFirstOverLimit, DesignValue, IsRefitState}
-use Rattle.step_splitter.specs.Refits.{commands_of_act, refitted_act}
+use Rattle.step_splitter.proofs.Names.{nat_tests, Act, NumberedAct, Command, MAX_COMMANDS, Point, acts_after, acts_without_numbers, origin, RefitMode, commands_of_acts, needles_at, refitted_acts, refitted_commands, refitted_from, IsFirstOverLimit, DesignValue, IsRefitState, length-append, commands_of_act, refitted_act, AddsRefitCommands, RefuseActs}
 use Rattle.step_splitter.specs.declared.refitting.RefitFault.{RefitFault}
 use Rattle.step_splitter.specs.declared.refitting.RefitFault.TheVariants as fault
-use Rattle.step_splitter.specs.RefitSteps.{AddsRefitCommands, RefuseActs}
 
 -- the commands of some acts, and then of others
 pub commands_of_acts-append : (xs ys : List Act) → commands_of_acts (xs ++ ys) ≡ commands_of_acts xs ++ commands_of_acts ys

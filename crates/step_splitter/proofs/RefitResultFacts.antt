@@ -1,11 +1,9 @@
 -- What the results of a refit exclude, and points that don't lead along a segment.
 use Rattle.std.proofs.Common.{◌≡◌, ℕ, pos, true, false, List, [], ◌∷◌, ◌++◌, Ok, Err, length, refl, arith, ap, sym, true≢false}
-use Rattle.step_splitter.proofs.Names.{NumberedAct, Point, DesignValue, RefitMode, LeadsBySteps, IsFirstOverLimit, MeetsRefitGoal, refitted_commands}
+use Rattle.step_splitter.proofs.Names.{NumberedAct, Point, DesignValue, RefitMode, LeadsBySteps, IsFirstOverLimit, MeetsRefitGoal, refitted_commands, acts_of, Refits, refitted_design}
 use Rattle.design_model.specs.declared.act.Act.TheVariants as act
-use Rattle.design_model.specs.Acts.{acts_of}
 use Rattle.step_splitter.specs.declared.refitting.RefitFault.TheVariants as fault
 use Rattle.step_splitter.specs.declared.refitting.RefitMode.TheVariants as mode
-use Rattle.step_splitter.specs.Refits.{Refits, refitted_design}
 
 abbrev at : ℕ → Point
 at x = record { x = pos x; y = pos 0 }

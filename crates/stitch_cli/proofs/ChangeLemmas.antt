@@ -1,7 +1,6 @@
 -- Changes decide: they make one design of another, or are refused.
 use Rattle.std.proofs.Common.{◌≡◌, ℕ, inl, inr, List, [], ◌∷◌, Result, Ok, Err, sym, ◌∙◌, subst, arith}
-use Rattle.stitch_cli.proofs.Names.{Change, cut, split, turn, DesignValue, Loaded, ProductValue, IsRewriteResult, RewriteOrder, not_changed, not_written}
-use Rattle.command_words.specs.Changes.{mirror, shift, thread}
+use Rattle.stitch_cli.proofs.Names.{Change, cut, split, turn, DesignValue, Loaded, ProductValue, IsRewriteResult, RewriteOrder, not_changed, not_written, mirror, shift, thread}
 use Rattle.step_splitter.specs.declared.refitting.RefitMode.{RefitMode}
 use Rattle.step_splitter.specs.declared.refitting.RefitMode.TheVariants as mode
 use Rattle.design_changes.specs.declared.change_faults.ChangeFault.{ChangeFault}

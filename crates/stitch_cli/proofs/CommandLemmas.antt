@@ -1,23 +1,15 @@
 -- What is proved of each command: its plan decides, and the outputs of its products are the files that it writes.
 use Rattle.std.proofs.Common.{◌≡◌, ◌∷◌, [], ℕ, Bool, true, false, List, Result, Ok, Err, ap, sym, ◌∙◌}
 use Rattle.std.specs.Prelude.{nat_lt}
-use Rattle.stitch_cli.proofs.Names.{PieceCert, cert_of, DesignValue, drawing_of, Loaded, Meaning, DrawingValue, ProductValue, CheckOrder, IsCheckFailed, IsCheckPassed, check_cert, check_design, check_drawing, check_plan, Order, outputs_of, plan_of, stitch, checking, hooping, migrating, rewriting, sampling, sewing, showing, tracing, hoop_fitted, hoop_read, IsMigrated, IsRewriteResult, rewrite_read, IsSampleProduct, IsSewnProduct, SewingOrder, SewnFiles, sewing_by_limit, sewing_read, IsSewnBy, show_read, trace_read}
-use Rattle.drawing_text.specs.DrawingText.{drawing_as2}
+use Rattle.stitch_cli.proofs.Names.{PieceCert, cert_of, DesignValue, drawing_of, Loaded, Meaning, DrawingValue, ProductValue, CheckOrder, IsCheckFailed, IsCheckPassed, check_cert, check_design, check_drawing, check_plan, Order, outputs_of, plan_of, stitch, checking, hooping, migrating, rewriting, sampling, sewing, showing, tracing, hoop_fitted, hoop_read, IsMigrated, IsRewriteResult, rewrite_read, IsSampleProduct, IsSewnProduct, SewingOrder, SewnFiles, sewing_by_limit, sewing_read, IsSewnBy, show_read, trace_read, drawing_as2, verdict_of, IsCheckResult, migrate_read, sewing_outputs, sewing_plan, IsTraced, trace_made, traced, IsSoundPlan, accepts_sound, named, parses_sound, program_sound, refuses_sound, satisfies_sound}
 use Rattle.hoop_check.specs.declared.fitting.Fit.{Fit}
 use Rattle.hoop_check.specs.declared.fitting.Fit.TheVariants as fit
 use Rattle.hoop_check.specs.Fits.{fit_of}
 use Rattle.line_graph.specs.UniquePieces.{PiecesAreUnique}
 use Rattle.program_shell.specs.ExactPlans.{IsSoundProgram}
 use Rattle.route_verdict.specs.declared.verdict.Verdict.TheVariants as verdict
-use Rattle.route_verdict.specs.Verdicts.{verdict_of}
-use Rattle.stitch_cli.specs.Checks.{IsCheckResult}
-use Rattle.stitch_cli.specs.Migrations.{migrate_read}
 use Rattle.sample_drawings.specs.Samples.{sample_drawing_of}
-use Rattle.stitch_cli.specs.Sewings.{sewing_outputs, sewing_plan}
-use Rattle.stitch_cli.specs.Tracings.{IsTraced, trace_made}
 use Rattle.stitch_trace.specs.declared.trace_fault.TraceFault.{TraceFault}
-use Rattle.stitch_trace.specs.Traces.{traced}
-use Rattle.program_shell.proofs.CallerLemmas.{IsSoundPlan, accepts_sound, named, parses_sound, program_sound, refuses_sound, satisfies_sound}
 use Rattle.stitch_cli.proofs.ChangeLemmas.{rewritten_not_both}
 
 -- a verdict is not both yes and no: there is one list of the pieces

@@ -1,11 +1,8 @@
 -- Formats at places of a list.
 use Rattle.std.proofs.Common.{◌≡◌, ℕ, zero, suc, ◌<◌, false, List, [], ◌∷◌, length, map, Some, Result, bytes_eq, slice_get, refl, ap, ◌∙◌, arith}
 use Rattle.std.specs.Option.{option_and_then}
-use Rattle.std.specs.Prelude.{option_map}
-use Rattle.stitch_cli.proofs.Names.{Change, Meaning, StoreView, Failure, Product, stitch, rewriting, RewriteOrder}
+use Rattle.stitch_cli.proofs.Names.{Change, Meaning, StoreView, Failure, Product, stitch, rewriting, RewriteOrder, option_map, RunsRequest, RunsPlan, complete_rewrite, rewrite_plan}
 use Rattle.format_traits.specs.Endings.{format_index, format_of}
-use Rattle.program_shell.specs.StepOutcomes.{RunsRequest, RunsPlan}
-use Rattle.stitch_cli.specs.Rewrites.{complete_rewrite, rewrite_plan}
 
 -- The element at an index of a list.
 at_place : {A : Type 0} (f : A → Meaning) (xs : List A) (place : ℕ) → place < length xs

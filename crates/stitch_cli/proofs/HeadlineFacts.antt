@@ -1,7 +1,6 @@
 -- The headline of files in other words: what is read of its two records.
 use Rattle.std.proofs.Common.{◌≡◌, ℕ, true, List, Option, Ok}
-use Rattle.stitch_cli.proofs.Names.{PieceCert, cert_of, drawing_of, Loaded, DrawingValue, Files, CheckOrder, IsRouteLeft, IsYesRight, SewingOrder}
-use Rattle.outside_io.specs.Files.{FileHolds}
+use Rattle.stitch_cli.proofs.Names.{PieceCert, cert_of, drawing_of, Loaded, DrawingValue, Files, CheckOrder, IsRouteLeft, IsYesRight, SewingOrder, FileHolds}
 use Rattle.route_verdict.specs.LeastRedwork.{IsLeastRedwork, IsLeastRoute}
 
 pub known_left : (order : SewingOrder) (before after : Option Files) → IsRouteLeft order before after

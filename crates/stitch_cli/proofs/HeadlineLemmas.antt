@@ -1,15 +1,10 @@
 -- The headline, of files.
 use Rattle.std.proofs.Common.{◌≡◌, ℕ, Bool, true, false, nat_lt, List, [], ◌∷◌, Option, Some, Result, Ok, Err, IsOkAnd, refl, sym, subst}
-use Rattle.stitch_cli.proofs.Names.{AllZip, PieceCert, walks_of, cert_of, acts_of, drawing_of, Loaded, DrawingValue, piece_graph, Sews, Files, Makes, ProductValue, IsLeastPieceRoute, CheckOrder, check_cert, check_design, check_drawing, Order, plan_of, stitch, checking, sewing, IsRouteLeft, IsYesRight, IsSewnProduct, SewingOrder, sewing_by_limit, sewing_read, IsSewnBy}
+use Rattle.stitch_cli.proofs.Names.{AllZip, PieceCert, walks_of, cert_of, acts_of, drawing_of, Loaded, DrawingValue, piece_graph, Sews, Files, Makes, ProductValue, IsLeastPieceRoute, CheckOrder, check_cert, check_design, check_drawing, Order, plan_of, stitch, checking, sewing, IsRouteLeft, IsYesRight, IsSewnProduct, SewingOrder, sewing_by_limit, sewing_read, IsSewnBy, AllFilesHold, IsDone, IsCorrectPieceCert, OutcomesMeanHeadline, IsParsedMade, parsed_made}
 use Rattle.drawing_text.specs.ValidTexts.{TextsDefineValidDrawings}
-use Rattle.program_shell.specs.Products.{AllFilesHold}
-use Rattle.program_shell.specs.Runs.{IsDone}
 use Rattle.program_shell.specs.RunViews.{Views}
 use Rattle.route_texts.specs.declared.sewing_reports.Sewing.TheVariants as ways
 use Rattle.route_verdict.specs.VerdictTheorems.{CorrectRoutesAreAccepted, YesIsLeastRedwork}
-use Rattle.route_verdict.specs.Verdicts.{IsCorrectPieceCert}
-use Rattle.stitch_cli.specs.Headline.{OutcomesMeanHeadline}
-use Rattle.program_shell.proofs.CallerLemmas.{IsParsedMade, parsed_made}
 
 -- the certificate of a routed piece is correct
 correct : (d : DrawingValue) (pieces : List (List ℕ)) (certs : List PieceCert) → AllZip (IsLeastPieceRoute d) pieces certs

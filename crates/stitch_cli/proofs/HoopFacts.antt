@@ -1,9 +1,8 @@
 -- Worked values of the results of `hoop`.
 use Rattle.std.proofs.Common.{◌++◌, None, refl}
 use Rattle.std.specs.Prelude.{codes}
-use Rattle.stitch_cli.proofs.Names.{newline, hoop_fitted, Makes, Refuses}
+use Rattle.stitch_cli.proofs.Names.{newline, hoop_fitted, Makes, Refuses, report_product}
 use Rattle.hoop_check.specs.declared.fitting.Fit.TheVariants as fit
-use Rattle.program_shell.specs.Products.{report_product}
 use Rattle.program_texts.specs.DesignTexts.{too_large_text}
 
 -- A design that fits is reported, and one that doesn't is refused with the excess.

@@ -1,9 +1,8 @@
 -- Worked values of complete requests.
 use Rattle.std.proofs.Common.{◌≡◌, ℕ, List, [], ◌∷◌, Some, None, refl}
 use Rattle.std.specs.Prelude.{codes}
-use Rattle.stitch_cli.proofs.Names.{cut, split, turn, Meaning, outputs_of, checking, hooping, migrating, rewriting, sampling, sewing, showing, tracing}
+use Rattle.stitch_cli.proofs.Names.{cut, split, turn, Meaning, outputs_of, checking, hooping, migrating, rewriting, sampling, sewing, showing, tracing, order_of}
 use Rattle.route_texts.specs.declared.sewing_reports.Sewing.TheVariants as ways
-use Rattle.stitch_cli.specs.Commands.{order_of}
 
 -- a format with another ending
 abbrev ending_as : Meaning → List ℕ → Meaning

@@ -1,9 +1,7 @@
 -- Worked values of plans: the file that each step reads, and a step of a drawing at the limit and above it.
 use Rattle.std.proofs.Common.{ℕ, inl, [], None, Ok, codes, refl}
-use Rattle.stitch_cli.proofs.Names.{Loaded, Meaning, DrawingValue, CheckOrder, check_design, check_drawing, check_plan, Refuses, Sewing, SewingOrder, IsSewnBy}
+use Rattle.stitch_cli.proofs.Names.{Loaded, Meaning, DrawingValue, CheckOrder, check_design, check_drawing, check_plan, Refuses, Sewing, SewingOrder, IsSewnBy, AttemptsRead, IsAccepted, sewing_drawing}
 use Rattle.program_texts.specs.DrawingTexts.{step_limit_text}
-use Rattle.program_shell.specs.Plans.{AttemptsRead, IsAccepted}
-use Rattle.stitch_cli.specs.Sewings.{sewing_drawing}
 
 -- a check of three files
 abbrev checked : Meaning → CheckOrder

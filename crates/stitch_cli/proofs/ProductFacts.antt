@@ -1,11 +1,9 @@
 -- What a product has, read of each record: its report, its verdict, what is sewn.
 use Rattle.std.proofs.Common.{◌≡◌, ℕ, List, Ok, Err, length, ap}
-use Rattle.stitch_cli.proofs.Names.{DesignValue, Meaning, DrawingValue, PieceCert, walks_of, ProductValue, Sewing, summary_text, IsCheckFailed, IsCheckPassed, IsMigrated, IsSampleProduct, SampleOrder, summary_of, IsSewnFile, IsSewnProduct, SewingOrder, SewnFiles, IsSewnBy}
+use Rattle.stitch_cli.proofs.Names.{DesignValue, Meaning, DrawingValue, PieceCert, walks_of, ProductValue, Sewing, summary_text, IsCheckFailed, IsCheckPassed, IsMigrated, IsSampleProduct, SampleOrder, summary_of, IsSewnFile, IsSewnProduct, SewingOrder, SewnFiles, IsSewnBy, step_count, IsVerdict}
 use Rattle.format_traits.specs.declared.fault.WriteFault.TheVariants as write
-use Rattle.drawing_model.specs.GrowingDrawings.{step_count}
 use Rattle.program_texts.specs.MigrationReports.{migrate_report}
 use Rattle.route_verdict.specs.declared.verdict.Verdict.TheVariants as verdict
-use Rattle.route_verdict.specs.Verdicts.{IsVerdict}
 
 -- the report of a migration has the numbers of lines and pieces, and the cost
 pub known_migrated_report : (output : List ℕ) (d : DrawingValue) (product : ProductValue) (is : IsMigrated output d product)

@@ -1,15 +1,11 @@
 -- What no command makes: each word of a product is refuted by a wrong one.
 use Rattle.std.proofs.Common.{◌≡◌, ◌++◌, ◌∷◌, [], ◌<◌, ℕ, pos, true, false, List, Ok, Err, codes, ap, length, refl, subst, arith}
-use Rattle.stitch_cli.proofs.Names.{AllZip, certificate_text, cert_of, acts_of, acts_without_numbers, DesignValue, newline, Meaning, DrawingValue, Sews, PieceCert, ProductValue, Sewing, sewing_report, PieceReport, IsCheckFailed, IsCheckPassed, IsMigrated, IsSampleProduct, SampleOrder, IsSewnFile, IsSewnProduct, SewingOrder, SewnFiles, IsSewnBy}
+use Rattle.stitch_cli.proofs.Names.{AllZip, certificate_text, cert_of, acts_of, acts_without_numbers, DesignValue, newline, Meaning, DrawingValue, Sews, PieceCert, ProductValue, Sewing, sewing_report, PieceReport, IsCheckFailed, IsCheckPassed, IsMigrated, IsSampleProduct, SampleOrder, IsSewnFile, IsSewnProduct, SewingOrder, SewnFiles, IsSewnBy, empty_design, OutputValue, IsDoubled, piece_lines}
 use Rattle.design_model.specs.declared.command.Command.TheVariants as command
-use Rattle.design_model.specs.Designs.{empty_design}
 use Rattle.format_traits.specs.declared.fault.WriteFault.TheVariants as write
 use Rattle.line_graph.specs.Pieces.{ArePieces}
-use Rattle.program_shell.specs.Products.{OutputValue}
-use Rattle.route_core.specs.Doubles.{IsDoubled}
 use Rattle.route_texts.specs.declared.sewing_reports.Sewing.TheVariants as ways
 use Rattle.route_texts.specs.Reasons.{reason_text}
-use Rattle.route_texts.specs.SewingReports.{piece_lines}
 use Rattle.route_verdict.specs.declared.verdict.Reason.{Reason}
 use Rattle.route_verdict.specs.declared.verdict.Reason.TheVariants as reason
 

@@ -1,12 +1,10 @@
 -- What a sample makes, from what its steps make.
 use Rattle.std.proofs.Common.{◌≡◌, ℕ, ◌+◌, ◌*◌, List, [], ◌∷◌, length, All, refl, ap, ◌∙◌, arith}
-use Rattle.stitch_cli.proofs.Names.{All-head, All-tail, sum_by-cons, AllZip, sum_by, PieceCert, Piece, ArePiecesOf, graph_of, lines_of_pieces, DrawingValue, PieceValue, piece_graph, piece_cost, Routed, IsLeastPieceRoute, IsRouteOver, PieceReport, ProductValue, reports_from, piece_report, piece_reports, IsSampleProduct, SampleOrder, summary_of, penetrations_of, summary_text}
+use Rattle.stitch_cli.proofs.Names.{All-head, All-tail, sum_by-cons, AllZip, sum_by, PieceCert, Piece, ArePiecesOf, graph_of, lines_of_pieces, DrawingValue, PieceValue, piece_graph, piece_cost, Routed, IsLeastPieceRoute, IsRouteOver, PieceReport, ProductValue, reports_from, piece_report, piece_reports, IsSampleProduct, SampleOrder, summary_of, penetrations_of, summary_text, one_file_product, cut_sum, sum_over_pieces, retraced_sum}
 use Rattle.odd_cuts.specs.Cuts.{total_weight}
 use Rattle.drawing_text.specs.CanonicalTexts.{canonical_text}
 use Rattle.route_texts.specs.declared.summary.Summary.{Summary}
-use Rattle.program_shell.specs.Products.{one_file_product}
 use Rattle.route_texts.specs.PieceSums.{junctions_of_piece, odd_junctions_of_piece, sample_summary}
-use Rattle.stitch_cli.specs.Samples.{cut_sum, sum_over_pieces, retraced_sum}
 use Rattle.stitch_cli.proofs.SewingLemmas.{reports_are}
 
 -- a sum over pieces that are cut from a drawing is one over their lines

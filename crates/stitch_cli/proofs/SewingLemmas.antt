@@ -1,13 +1,9 @@
 -- What sewing a drawing makes, from what its steps make.
 use Rattle.std.proofs.Common.{◌≡◌, ℕ, ◌+◌, ◌<◌, ◌≤◌, ◌^◌, List, [], ◌∷◌, length, All, refl, sym, ap, subst, ◌∙◌, arith}
-use Rattle.std.specs.Prelude.{Err, IfOk, Ok, Result}
-use Rattle.stitch_cli.proofs.Names.{All-head, All-tail, sum_by-cons, AllZip, sum_by, PieceCert, walks_of, certificate_text, cert_of, IsPlain, Piece, ArePiecesOf, graph_of, lines_of_pieces, DrawingValue, PieceValue, piece_graph, piece_cost, Run, runs_of, ProductValue, Routed, IsRouteOver, PieceReport, Sewing, reports_from, piece_report, penetrations_of, sewing_report, IsSewnProduct, IsSewnFile, SewingOrder, piece_reports, IsSewnBy}
-use Rattle.line_graph.specs.Runs.{block_of_passes}
+use Rattle.std.specs.Prelude.{Err, Ok, Result}
+use Rattle.stitch_cli.proofs.Names.{All-head, All-tail, sum_by-cons, AllZip, sum_by, PieceCert, walks_of, certificate_text, cert_of, IsPlain, Piece, ArePiecesOf, graph_of, lines_of_pieces, DrawingValue, PieceValue, piece_graph, piece_cost, Run, runs_of, ProductValue, Routed, IsRouteOver, PieceReport, Sewing, reports_from, piece_report, penetrations_of, sewing_report, IsSewnProduct, IsSewnFile, SewingOrder, piece_reports, IsSewnBy, IfOk, block_of_passes, two_file_product, IsDoubleOver, IsPieceSewn, IsSewnOver}
 use Rattle.line_graph.specs.Walks.{needles_of_walk}
-use Rattle.program_shell.specs.Products.{two_file_product}
-use Rattle.route_core.specs.Doubles.{IsDoubleOver}
 use Rattle.route_texts.specs.declared.sewing_reports.Sewing.TheVariants as ways
-use Rattle.stitch_cli.specs.SewingWays.{IsPieceSewn, IsSewnOver}
 use Rattle.stitch_cli.proofs.SewnDesigns.{runs_are_plain}
 use Rattle.line_graph.proofs.CallerLemmas.{length_of_lists}
 

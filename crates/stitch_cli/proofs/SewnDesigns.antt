@@ -3,20 +3,17 @@ use Rattle.std.proofs.Common.{◌≡◌, ℕ, zero, suc, ◌+◌, ◌-◌, ◌*�
 use Rattle.std.proofs.Math.Nat.{div-lt_iff_lt-mul}
 use Rattle.design_model.specs.declared.command.Command.TheVariants.{Stitch, Stop, Trim}
 use Rattle.design_model.specs.declared.command.Command.{Command}
-use Rattle.design_model.specs.Acts.{acts_from}
 use Rattle.design_model.specs.Points.{move_between, origin, move_size}
 use Rattle.format_traits.specs.declared.fault.ReadFault.{ReadFault}
 use Rattle.format_traits.specs.Laws.{HasSameActs}
-use Rattle.format_traits.specs.PlainDesigns.{are_plain_from}
 use Rattle.format_traits.specs.MoveHops.{hops_of}
 use Rattle.format_traits.specs.Refusals.{stops_of}
 use Rattle.format_traits.specs.Rooms.{room_of_loose, room_from}
 use Rattle.line_graph.specs.declared.pass.Pass.{Pass}
-use Rattle.line_graph.specs.Runs.{AreNear, AreWritable, RunsAreSewn, commands_after, design_of_runs, sewn_design, stops_after}
 use Rattle.step_splitter.specs.Chains.{IsNeedlePoint, AreCloseAfter}
 use Rattle.design_model.proofs.CallerLemmas.{within_more}
 use Rattle.std.proofs.lemmas.Bool.{and_from}
-use Rattle.stitch_cli.proofs.Names.{All-head, All-tail, sum_by-cons, sum_by, Point, acts_of, acts_without_numbers, DesignValue, Loaded, IsPlain, DrawingValue, Run, Sews, runs_of}
+use Rattle.stitch_cli.proofs.Names.{All-head, All-tail, sum_by-cons, sum_by, Point, acts_of, acts_without_numbers, DesignValue, Loaded, IsPlain, DrawingValue, Run, Sews, runs_of, acts_from, are_plain_from, AreNear, AreWritable, RunsAreSewn, commands_after, design_of_runs, sewn_design, stops_after}
 use Rattle.step_splitter.proofs.CallerLemmas.{size_few}
 
 -- At most 496 moves lead from one needle point to another, in any format.

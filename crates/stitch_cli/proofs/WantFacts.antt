@@ -1,12 +1,10 @@
 -- Out of memory is the only exception from the specification, in a run and in what it reads and makes.
 use Rattle.std.proofs.Common.{◌≡◌, [], ◌∷◌, true, false, map, refl}
-use Rattle.drawing_model.specs.GrowingDrawings.{draw_is_out_of_memory}
+use Rattle.stitch_cli.proofs.Names.{draw_is_out_of_memory, status_is_out_of_memory, IsOrOutOfMemory, trace_is_out_of_memory}
 use Rattle.drawing_model.specs.declared.draw_kind.DrawKind.TheVariants as kind
 use Rattle.outside_io.specs.Causes.{get_is_out_of_memory}
 use Rattle.outside_io.specs.declared.whole_files.GetFault.TheVariants as get
 use Rattle.program_shell.specs.declared.status.Status.TheVariants as status
-use Rattle.program_shell.specs.Runs.{status_is_out_of_memory, IsOrOutOfMemory}
-use Rattle.stitch_trace.specs.Traces.{trace_is_out_of_memory}
 use Rattle.stitch_trace.specs.declared.trace_fault.TraceFault.TheVariants as trace
 
 pub known_statuses : map status_is_out_of_memory (status.Done ∷ status.Refused ∷ status.Usage ∷ status.Fault ∷ status.Memory ∷ [])

@@ -1,6 +1,6 @@
 -- The lines of acts that are read are the lines of a design that goes on from what was read before.
 use Rattle.std.proofs.Common.{◌≡◌, ℕ, ◌+◌, ◌<◌, ◌≤◌, ◌%◌, Bool, true, false, IsTrue, List, [], ◌∷◌, ◌++◌, Option, Some, None, Err, codes, decimal, length, length-append, nat_lt, slice_get, unwrap_or, if◌then◌else◌, refl, ap, sym, ◌∙◌, subst, append-nil, append_assoc, arith}
-use Rattle.stitch_text.proofs.Names.{ints, and_from, nat_tests, list_all-append, join_with_byte, list_all, Act, Command, MAX_COMMANDS, NEEDLE_LIMIT, is_act_in_range, leaves_thread_loose, needle_position_after, acts_from, numbered, DesignValue, thread_of, is_point_within, ReadFault, EncoderState, refusal_before_room, is_above_max, refusal_of_act, first_refusal_from, refusal_if, encoder_state_after, stops_in, ListDraft, ListLine, LIMIT, parsed_list_line, fault_of_act, list_commands_of, draft_with_checked_act, unless_fault, with_act, with_block_thread, ParsedList, parsed_acts, ended_list, continued_with, parsed_end_or_line, refused_list, act_line, act_lines, list_block_line, list_write_limits, is_told, not_refused, or_else_none}
+use Rattle.stitch_text.proofs.Names.{ints, and_from, nat_tests, list_all-append, join_with_byte, list_all, Act, Command, MAX_COMMANDS, NEEDLE_LIMIT, is_act_in_range, leaves_thread_loose, needle_position_after, acts_from, numbered, DesignValue, thread_of, is_point_within, ReadFault, EncoderState, refusal_before_room, is_above_max, refusal_of_act, first_refusal_from, refusal_if, encoder_state_after, stops_in, ListDraft, ListLine, LIMIT, parsed_list_line, fault_of_act, list_commands_of, draft_with_checked_act, unless_fault, with_act, with_block_thread, ParsedList, parsed_acts, ended_list, continued_with, parsed_end_or_line, refused_list, act_line, act_lines, list_block_line, list_write_limits, is_told, not_refused, or_else_none, or_else_both}
 use Rattle.design_model.specs.declared.act.Act.TheVariants as act
 use Rattle.design_model.specs.Commands.{is_command_in_range}
 use Rattle.format_traits.specs.declared.fault.ReadFault.TheVariants as read
@@ -10,7 +10,6 @@ use Rattle.stitch_text.specs.declared.list_line.ListLine.TheVariants as line
 use Rattle.stitch_text.specs.Drafts.{IsSoundDraftLacking}
 use Rattle.stitch_text.proofs.ActLemmas.{no_refusal}
 use Rattle.stitch_text.proofs.LineLemmas.{line_is}
-use Rattle.format_traits.proofs.CallerLemmas.{or_else_both}
 
 -- an act has no more commands than room
 few_commands : (s : EncoderState) (a : Act) → IsTrue (is_told s.loose a) → length (list_commands_of a) ≤ room_of_act LIMIT s.loose s.place a

@@ -1,11 +1,8 @@
 -- Acts of designs, and acts that a list can have.
 use Rattle.std.proofs.Common.{◌≡◌, ℕ, ◌+◌, ◌≤◌, Bool, true, false, ◌&&◌, IsTrue, List, [], ◌∷◌, ◌++◌, None, nat_le, nat_lt, unsigned_abs, refl, ap, arith}
-use Rattle.stitch_text.proofs.Names.{ints, and_from, nat_tests, list_all, Act, NumberedAct, Command, MAX_COMMANDS, Point, leaves_thread_loose, needle_position_after, acts_from, acts_without_numbers, numbered, is_point_within, WriteFault, EncoderState, refusal_before_room, refusal_of_act, first_refusal_from, refusal_if, encoder_state_after, LIMIT, fault_of_act, list_commands_of, stitch_moves_of, list_write_limits, are_told, is_told, not_refused, or_else_none}
+use Rattle.stitch_text.proofs.Names.{ints, and_from, nat_tests, list_all, Act, NumberedAct, Command, MAX_COMMANDS, Point, leaves_thread_loose, needle_position_after, acts_from, acts_without_numbers, numbered, is_point_within, WriteFault, EncoderState, refusal_before_room, refusal_of_act, first_refusal_from, refusal_if, encoder_state_after, LIMIT, fault_of_act, list_commands_of, stitch_moves_of, list_write_limits, are_told, is_told, not_refused, or_else_none, move_between, move_size, refusal_of_needle, stitch_move_of}
 use Rattle.design_model.specs.declared.act.Act.TheVariants as act
-use Rattle.design_model.specs.Points.{move_between, move_size}
 use Rattle.format_traits.specs.declared.fault.WriteFault.TheVariants as fault
-use Rattle.format_traits.specs.Refusals.{refusal_of_needle}
-use Rattle.stitch_text.specs.Readings.{stitch_move_of}
 
 -- the commands of acts
 abbrev pub commands_along : List NumberedAct → List Command

@@ -1,10 +1,8 @@
 -- A text that reads as a design is what that design is written as.
 use Rattle.std.proofs.Common.{◌≡◌, ℕ, ◌+◌, ◌<◌, Bool, true, false, IfOk, IsOk, IsOkAnd, List, [], ◌∷◌, ◌++◌, Option, Some, None, Result, Ok, Err, bytes_eq, codes, decimal, length, refl, ap, sym, ◌∙◌, subst, arith}
-use Rattle.stitch_text.proofs.Names.{nat_tests, ints, join_with_byte-slice_split, bytes_eq-Decides, join_with_byte, acts_from, acts_of, DesignValue, empty_design, thread_of, with_label, IsLabel, ReadFault, WriteFault, Loaded, HasSameActs, initial_encoder_state, first_refusal_from, unless_refused, ListLine, list_meaning, IsTextOf, ReadsAsWritten, ReadsWhereWritten, parsed_label, parsed_list_line, ParsedList, begun_draft, parsed_from_block, after_block_line, after_label_line, after_signature_line, parsed_from_label, with_next_line, list_reads, parsed_text, parsed_thread, act_lines, list_block_line, signature_line, label_line, list_of, list_write_limits, parts_between}
+use Rattle.stitch_text.proofs.Names.{nat_tests, ints, join_with_byte-slice_split, bytes_eq-Decides, join_with_byte, acts_from, acts_of, DesignValue, empty_design, thread_of, with_label, IsLabel, ReadFault, WriteFault, Loaded, HasSameActs, initial_encoder_state, first_refusal_from, unless_refused, ListLine, list_meaning, IsTextOf, ReadsAsWritten, ReadsWhereWritten, parsed_label, parsed_list_line, ParsedList, begun_draft, parsed_from_block, after_block_line, after_label_line, after_signature_line, parsed_from_label, with_next_line, list_reads, parsed_text, parsed_thread, act_lines, list_block_line, signature_line, label_line, list_of, list_write_limits, parts_between, KeepsAllLaws, RoundTrips, loaded_unless_fault}
 use Rattle.format_traits.specs.declared.fault.ReadFault.TheVariants as read
-use Rattle.format_traits.specs.Laws.{KeepsAllLaws, RoundTrips}
 use Rattle.stitch_text.specs.declared.list_line.ListLine.TheVariants as line
-use Rattle.stitch_text.specs.Readings.{loaded_unless_fault}
 use Rattle.stitch_text.proofs.LabelLemmas.{label_from, label_is}
 use Rattle.stitch_text.proofs.LineLemmas.{line_is}
 use Rattle.stitch_text.proofs.ActContinuations.{Continues, Keeps, acts_written, block_text, not_over, over, thread_is}

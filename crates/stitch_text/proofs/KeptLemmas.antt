@@ -1,9 +1,7 @@
 -- The label and the threads of a design are read back.
 use Rattle.std.proofs.Common.{◌≡◌, ℕ, zero, suc, ◌+◌, ◌<◌, ◌≤◌, ◌%◌, true, List, [], ◌∷◌, ◌++◌, None, Some, Ok, All, IsOkAnd, slice_get, unwrap_or, refl, ap, sym, ◌∙◌, subst, arith}
-use Rattle.std.proofs.lemmas.List.Elements.{All-head, All-tail}
-use Rattle.stitch_text.proofs.Names.{nat_tests, ints, Act, NumberedAct, acts_of, DesignValue, thread_of, Loaded, AcceptedIsWithinLimits, first_refusal, stops_in, HasLabelAndThreads, LabelAndThreadsRoundTrip, loaded_of_parsed, list_reads, list_of, list_write_limits, list_writes}
+use Rattle.stitch_text.proofs.Names.{nat_tests, ints, Act, NumberedAct, acts_of, DesignValue, thread_of, Loaded, AcceptedIsWithinLimits, first_refusal, stops_in, HasLabelAndThreads, LabelAndThreadsRoundTrip, loaded_of_parsed, list_reads, list_of, list_write_limits, list_writes, All-head, All-tail, stops_of}
 use Rattle.design_model.specs.declared.act.Act.TheVariants as act
-use Rattle.format_traits.specs.Refusals.{stops_of}
 use Rattle.stitch_text.proofs.ActLemmas.{commands_along}
 use Rattle.stitch_text.proofs.RoundTrip.{list_said, threads_along, threads_in, threads_told}
 

@@ -1,7 +1,6 @@
 -- What keeps label and threads, and what does not.
 use Rattle.std.proofs.Common.{◌≡◌, ℕ, ◌<◌, ◌≤◌, true, List, [], ◌∷◌, All, Result, Ok, Err, IsOk, IsOkAnd, codes, refl, arith, subst, sym}
-use Rattle.std.proofs.lemmas.List.Elements.{All-cons, All-nil}
-use Rattle.stitch_text.proofs.Names.{Stitch, Stop, DesignValue, KeepsLimits, origin, ReadFault, Loaded, list_meaning, HasLabelAndThreads, IsTextOf, LabelAndThreadsRoundTrip, NoFloatIsTooLong, ReadsAsWritten, ReadsWhereWritten, list_reads, list_writes}
+use Rattle.stitch_text.proofs.Names.{Stitch, Stop, DesignValue, KeepsLimits, origin, ReadFault, Loaded, list_meaning, HasLabelAndThreads, IsTextOf, LabelAndThreadsRoundTrip, NoFloatIsTooLong, ReadsAsWritten, ReadsWhereWritten, list_reads, list_writes, All-cons, All-nil}
 use Rattle.format_traits.specs.declared.fault.WriteFault.TheVariants as fault
 
 -- the two numbers are not the same

@@ -1,10 +1,9 @@
 -- Worked values of writing.
 use Rattle.std.proofs.Common.{◌≡◌, ℕ, ℤ, pos, negsuc, true, List, [], ◌∷◌, ◌++◌, Ok, Err, Some, None, codes, refl}
 use Rattle.std.specs.Fmt.{digits}
-use Rattle.stitch_text.proofs.Names.{Command, Stitch, Jump, Trim, Stop, Point, numbered, DesignValue, EncoderState, refusal_of_act, LIMIT, list_write_limits, list_writes}
+use Rattle.stitch_text.proofs.Names.{Command, Stitch, Jump, Trim, Stop, Point, numbered, DesignValue, EncoderState, refusal_of_act, LIMIT, list_write_limits, list_writes, MAX_STOPS}
 use Rattle.design_model.specs.declared.act.Act.TheVariants as act
 use Rattle.format_traits.specs.declared.fault.WriteFault.TheVariants as fault
-use Rattle.stitch_text.specs.declared.stitch_list.TheConstants.{MAX_STOPS}
 
 abbrev pub point : ℤ → ℤ → Point
 point x y = record { x = x; y = y }

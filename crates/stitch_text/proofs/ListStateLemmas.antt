@@ -1,9 +1,6 @@
 -- The results of the bytes of a list that are taken line by line.
 use Rattle.std.proofs.Common.{◌≡◌, ◌≢◌, ℕ, ◌+◌, ◌-◌, ◌<◌, ◌≤◌, List, [], ◌∷◌, ◌++◌, length, drop, refl, ap, sym, ◌∙◌, arith}
-use Rattle.std.proofs.lemmas.List.{length-drop}
-use Rattle.stitch_text.proofs.Names.{nat_tests, drop-drop, drop_all, ContinuesAs, ListDraft, ListStage, stage_after_long_line, max_waiting_in, parsed_parts, list_state_at, ParsedList, loaded_of_parsed, parts_between, some_part}
-use Rattle.format_traits.specs.DecoderStates.{DecodedSoFar, DecoderState, TakesBytes}
-use Rattle.stitch_text.specs.ListStages.{TakesLine, TakesLines, list_so_far_at}
+use Rattle.stitch_text.proofs.Names.{nat_tests, drop-drop, drop_all, ContinuesAs, ListDraft, ListStage, stage_after_long_line, max_waiting_in, parsed_parts, list_state_at, ParsedList, loaded_of_parsed, parts_between, some_part, length-drop, DecodedSoFar, DecoderState, TakesBytes, TakesLine, TakesLines, list_so_far_at}
 use Rattle.stitch_text.proofs.PartLemmas.{open_part, parts_on}
 use Rattle.stitch_text.proofs.StageLemmas.{goes_beyond}
 

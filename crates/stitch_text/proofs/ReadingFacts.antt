@@ -1,9 +1,8 @@
 -- Worked values of reading.
 use Rattle.std.proofs.Common.{◌≡◌, ℕ, ℤ, pos, negsuc, Bool, true, false, List, [], ◌∷◌, ◌++◌, None, Some, Result, Ok, Err, codes, refl}
-use Rattle.stitch_text.proofs.Names.{Command, Stitch, Jump, Trim, Stop, Point, ReadFault, Loaded, EncoderState, fault_of_act, list_reads}
+use Rattle.stitch_text.proofs.Names.{Command, Stitch, Jump, Trim, Stop, Point, ReadFault, Loaded, EncoderState, fault_of_act, list_reads, list_moves, list_shown}
 use Rattle.design_model.specs.declared.act.Act.TheVariants as act
 use Rattle.format_traits.specs.declared.fault.ReadFault.TheVariants as fault
-use Rattle.stitch_text.specs.Readings.{list_moves, list_shown}
 
 abbrev pub point : ℤ → ℤ → Point
 point x y = record { x = x; y = y }

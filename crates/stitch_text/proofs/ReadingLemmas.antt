@@ -1,7 +1,6 @@
 -- The lines of a text, judged one after another.
 use Rattle.std.proofs.Common.{◌≡◌, ◌≢◌, ℕ, ◌+◌, List, [], ◌∷◌, Option, Bool, false, Result, bytes_eq, codes, length, if◌then◌else◌, ap, sym, ◌∙◌, arith}
-use Rattle.stitch_text.proofs.Names.{nat_tests, ints, DesignValue, ReadFault, ListDraft, ListLine, parsed_label, parsed_list_line, parsed_list_words, draft_after_line, ParsedList, parsed_acts, parsed_from_block, after_block_line, after_label_line, after_signature_line, ended_list, continued_with, is_end_line, parsed_from_label, with_next_line, parsed_end_or_line, parsed_thread, signature_line, parts_between, words_in, some_part}
-use Rattle.stitch_text.specs.Readings.{parsed_from_signature}
+use Rattle.stitch_text.proofs.Names.{nat_tests, ints, DesignValue, ReadFault, ListDraft, ListLine, parsed_label, parsed_list_line, parsed_list_words, draft_after_line, ParsedList, parsed_acts, parsed_from_block, after_block_line, after_label_line, after_signature_line, ended_list, continued_with, is_end_line, parsed_from_label, with_next_line, parsed_end_or_line, parsed_thread, signature_line, parts_between, words_in, some_part, parsed_from_signature}
 
 -- a line that has an end
 next_of_more : (at : ℕ) (d : DesignValue) (line : List ℕ) (rest : List (List ℕ)) (f : List ℕ → List (List ℕ) → ParsedList)

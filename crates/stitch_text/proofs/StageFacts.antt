@@ -1,9 +1,8 @@
 -- Worked values of what is still to come of a list.
 use Rattle.std.proofs.Common.{◌≡◌, pos, true, false, List, [], ◌∷◌, Option, None, Some, codes, refl}
-use Rattle.stitch_text.proofs.Names.{Command, Stitch, Trim, Point, DesignValue, ReadFault, ListDraft, stage_after_long_line, fault_at_end, max_waiting_in, parsed_parts, ParsedList}
+use Rattle.stitch_text.proofs.Names.{Command, Stitch, Trim, Point, DesignValue, ReadFault, ListDraft, stage_after_long_line, fault_at_end, max_waiting_in, parsed_parts, ParsedList, blank_draft, is_at_acts, is_before_acts}
 use Rattle.format_traits.specs.declared.fault.ReadFault.TheVariants as fault
 use Rattle.stitch_text.specs.declared.list_stage.ListStage.TheVariants as stage
-use Rattle.stitch_text.specs.ListStages.{blank_draft, is_at_acts, is_before_acts}
 
 abbrev pub place : Point
 place = record { x = pos 3; y = pos 4 }

@@ -1,10 +1,7 @@
 -- The new links of a block are its distinct links.
 use Rattle.std.proofs.Common.{arith}
 use Rattle.std.proofs.Common.{◌≡◌, Bool, true, false, ◌||◌, cond, List, [], ◌∷◌, subst, refl, inl, inr}
-use Rattle.std.proofs.lemmas.Bool.{or_cases, or_left, or_right}
-use Rattle.stitch_trace.proofs.Names.{nat_tests, ap₂, and_parts, or_parts, list_all, list_any, is_same_point, Link, NeedleMove, Stay, Gap, Sewn, is_sewn, new_moves, are_distinct, is_same_directed_link, is_same_link, links_in, needle_moves_of, reversed_link, same_is}
-use Rattle.stitch_trace.specs.TraceTheorems.{NewLinksAreDistinct}
-use Rattle.design_model.proofs.CallerLemmas.{point_itself}
+use Rattle.stitch_trace.proofs.Names.{nat_tests, ap₂, and_parts, or_parts, list_all, list_any, is_same_point, Link, NeedleMove, Stay, Gap, Sewn, is_sewn, new_moves, are_distinct, is_same_directed_link, is_same_link, links_in, needle_moves_of, reversed_link, same_is, or_cases, or_left, or_right, NewLinksAreDistinct, point_itself}
 
 -- a link has its own ends
 ends_found : (a : Link) → is_same_directed_link a a ≡ true

@@ -1,14 +1,10 @@
 -- The chains of a design can be lines of a drawing whose step is its greatest link.
 use Rattle.std.proofs.Common.{◌≡◌, ℕ, ◌+◌, ◌/◌, ◌%◌, ◌≤◌, min, Bool, true, false, cond, List, [], ◌∷◌, ◌++◌, length, Option, Some, None, sym, subst, ◌∙◌, refl, arith, length-append}
-use Rattle.stitch_trace.proofs.Names.{nat_tests, le-max_right, mul-le-mul_right, and_parts, or_parts, div_ceil_times, list_all-append, list_all, Act, NumberedAct, Command, Point, is_stop, needle_point, act_point, is_bare_stop, blocks_of, with_act_in_first_block, is_same_point, last_point, all_in_needle_range, steps_of_line, last_point_or, steps_of, Link, NeedleMove, Stay, Gap, Sewn, chains_of, new_moves, new_moves_of, link_size, links_in, move_to_act, needle_moves_of, needle_moves_from, chain_if_any, chains_after, extended_chain, some_same}
+use Rattle.stitch_trace.proofs.Names.{nat_tests, le-max_right, mul-le-mul_right, and_parts, or_parts, div_ceil_times, list_all-append, list_all, Act, NumberedAct, Command, Point, is_stop, needle_point, act_point, is_bare_stop, blocks_of, with_act_in_first_block, is_same_point, last_point, all_in_needle_range, steps_of_line, last_point_or, steps_of, Link, NeedleMove, Stay, Gap, Sewn, chains_of, new_moves, new_moves_of, link_size, links_in, move_to_act, needle_moves_of, needle_moves_from, chain_if_any, chains_after, extended_chain, some_same, acts_from, is_point_within, has_repeated_point, repeats_after, segment_steps}
 use Rattle.design_model.specs.declared.act.Act.TheVariants as act
 use Rattle.design_model.specs.declared.command.Command.TheVariants.{Stitch, Jump, Trim, Stop}
 use Rattle.design_model.specs.ActPositions.{is_act_in_range}
-use Rattle.design_model.specs.Acts.{acts_from}
 use Rattle.design_model.specs.Commands.{is_command_in_range}
-use Rattle.design_model.specs.Points.{is_point_within}
-use Rattle.drawing_model.specs.GrowingDrawings.{has_repeated_point, repeats_after}
-use Rattle.drawing_model.specs.Needles.{segment_steps}
 use Rattle.stitch_trace.proofs.LinkedLemmas.{Follows, Linked, led_ends, moves_linked, new_linked}
 use Rattle.stitch_trace.proofs.MeasureLemmas.{greatest, greatest_more}
 use Rattle.stitch_trace.proofs.MoveLemmas.{chains_are}

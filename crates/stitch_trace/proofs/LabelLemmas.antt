@@ -1,9 +1,8 @@
 -- Labels of one word.
 use Rattle.std.proofs.Common.{◌≡◌, ◌≢◌, ℕ, ◌+◌, ◌-◌, ◌≤◌, Bool, true, false, List, [], ◌∷◌, suc, take, length, All, Some, slice_get, ap, sym, subst, refl, arith}
 use Rattle.std.proofs.lemmas.List.Elements.{All-cons, All-nil, All-take}
-use Rattle.std.proofs.lemmas.List.{length-take}
 use Rattle.std.proofs.lemmas.Option.{get_or_from_slice_get, slice_get_within}
-use Rattle.stitch_trace.proofs.Names.{nat_tests, position_or_len, label_first_word, is_space}
+use Rattle.stitch_trace.proofs.Names.{nat_tests, position_or_len, label_first_word, is_space, length-take}
 use Rattle.design_model.specs.Labels.{IsLabel, IsPrintable}
 
 -- the first word of a label has no space

@@ -1,13 +1,10 @@
 -- What refuses a traced drawing is one of its counts.
 use Rattle.std.proofs.Common.{◌≡◌, ℕ, ◌+◌, ◌-◌, ◌==◌, ◌≤◌, true, false, not, List, [], ◌∷◌, length, Result, Ok, Err, ap, subst, refl, length-append, arith}
-use Rattle.std.proofs.lemmas.List.Folds.{list_any-append}
 use Rattle.std.proofs.lemmas.List.Sums.{sum_by-append}
-use Rattle.stitch_trace.proofs.Names.{nat_tests, Point, LineValue, DrawKind, DrawingValue, and_then, block_added, is_last_empty, line_added, point_count, with_new_block, with_new_line, steps_of_line, Strand, IsCountLimit, chains_added, strand_added, strands_added}
-use Rattle.drawing_model.specs.GrowingDrawings.{step_count}
+use Rattle.stitch_trace.proofs.Names.{nat_tests, Point, LineValue, DrawKind, DrawingValue, and_then, block_added, is_last_empty, line_added, point_count, with_new_block, with_new_line, steps_of_line, Strand, IsCountLimit, chains_added, strand_added, strands_added, list_any-append, step_count, and_false}
 use Rattle.stitch_trace.proofs.DrawnLemmas.{GoesOn, block_is, goes_on, line_is, ok_same}
 use Rattle.stitch_trace.proofs.FitLemmas.{AllFit, Fits}
 use Rattle.stitch_trace.proofs.LinkedLemmas.{has_chains}
-use Rattle.lists_and_numbers.proofs.CallerLemmas.{and_false}
 
 -- a count, where it is what refuses
 pub counted : {A : Type 0} (a b : DrawKind) → IsCountLimit a → ◌≡◌ {A = Result A DrawKind} (Err a) (Err b) → IsCountLimit b

@@ -1,14 +1,9 @@
 -- The greatest size of links.
 use Rattle.std.proofs.Common.{◌≡◌, ℕ, ◌≤◌, ◌==◌, ◌-ℤ◌, unsigned_abs, max, Bool, true, false, cond, List, [], ◌∷◌, fold, map, Option, Some, None, Result, Ok, Err, ◌∙◌, refl, arith}
-use Rattle.std.proofs.Math.Nat.{le-max_left}
-use Rattle.std.proofs.lemmas.Bool.Decides.{Decides-int_eq}
-use Rattle.std.proofs.lemmas.Bool.{both_ways}
 use Rattle.std.specs.Ordering.{int_eq}
-use Rattle.stitch_trace.proofs.Names.{le-max_right, nat_tests, Act, NumberedAct, Point, needle_point, is_same_point, Link, NeedleMove, Stay, Gap, Sewn, TraceFault, first_too_long, link_size, links_in, longest, move_to_act, needle_moves_of, needle_moves_from, trace_step, step_or_fault, max_size_after}
+use Rattle.stitch_trace.proofs.Names.{le-max_right, nat_tests, Act, NumberedAct, Point, needle_point, is_same_point, Link, NeedleMove, Stay, Gap, Sewn, TraceFault, first_too_long, link_size, links_in, longest, move_to_act, needle_moves_of, needle_moves_from, trace_step, step_or_fault, max_size_after, le-max_left, Decides-int_eq, both_ways, move_between, move_size, no_difference}
 use Rattle.design_model.specs.declared.act.Act.TheVariants as act
-use Rattle.design_model.specs.Points.{move_between, move_size}
 use Rattle.stitch_trace.specs.declared.trace_fault.TraceFault.TheVariants as fault
-use Rattle.lists_and_numbers.proofs.CallerLemmas.{no_difference}
 
 -- points that aren't found to be the same are apart
 pub size_apart : (p q : Point) → is_same_point p q ≡ false → 1 ≤ move_size (move_between p q)

@@ -1,7 +1,6 @@
 -- Blocks one after another.
 use Rattle.std.proofs.Common.{◌≡◌, ℕ, ◌+◌, ◌-◌, ◌<◌, ◌≤◌, suc, Bool, true, false, List, [], ◌∷◌, ◌++◌, take, drop, length, ap, sym, ◌∙◌, refl, append-nil, arith}
-use Rattle.std.proofs.lemmas.List.{take-append-drop, take_all}
-use Rattle.stitch_trace.proofs.Names.{nat_tests, ap₂, position_or_len, NumberedAct, is_stop, blocks_of, with_act_in_first_block}
+use Rattle.stitch_trace.proofs.Names.{nat_tests, ap₂, position_or_len, NumberedAct, is_stop, blocks_of, with_act_in_first_block, take-append-drop, take_all}
 
 -- the blocks after the first stop
 abbrev after_stop : List NumberedAct → List (List NumberedAct)

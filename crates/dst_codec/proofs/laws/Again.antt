@@ -1,9 +1,7 @@
 -- A written design reads back, with each move within the limit, and a plain design is written.
 use Rattle.std.proofs.Common.{◌≡◌, ℕ, true, IsTrue, List, [], ◌++◌, length, Option, None, Ok, IfOk, IsOkAnd, refl, ap, sym, ◌∙◌, subst, arith}
-use Rattle.std.specs.List.{list_all}
-use Rattle.dst_codec.proofs.Names.{nat_tests, ints, le-ltb, append_assoc, concat, acts_of, DesignValue, KeepsLimits, is_point_within, WriteFault, Loaded, AcceptedIsWithinLimits, loaded_with, first_refusal, unless_refused, EncodedActsRoundTrip, LIMIT, MAX_STOPS, HEADER_LENGTH, dst_meaning, dst_header_of, dst_reads, dst_records_in, dst_label_of, dst_end_record, dst_body_of, header_numbers_of, dst_encoding, dst_write_limits, dst_records_of, dst_file_of}
+use Rattle.dst_codec.proofs.Names.{nat_tests, ints, le-ltb, append_assoc, concat, acts_of, DesignValue, KeepsLimits, is_point_within, WriteFault, Loaded, AcceptedIsWithinLimits, loaded_with, first_refusal, unless_refused, EncodedActsRoundTrip, LIMIT, MAX_STOPS, HEADER_LENGTH, dst_meaning, dst_header_of, dst_reads, dst_records_in, dst_label_of, dst_end_record, dst_body_of, header_numbers_of, dst_encoding, dst_write_limits, dst_records_of, dst_file_of, list_all, moves_of_records}
 use Rattle.format_traits.specs.Laws.{HasSameActs, MovesWithin, IsCodec}
-use Rattle.record_formats.specs.Records.{moves_of_records}
 use Rattle.dst_codec.proofs.HeaderLemmas.{length-dst_header_of}
 use Rattle.dst_codec.proofs.ReadingLemmas.{dst_reads-file, dst_records_in-file}
 use Rattle.dst_codec.proofs.WritingLemmas.{accepted_fit}

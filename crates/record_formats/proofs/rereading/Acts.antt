@@ -1,24 +1,17 @@
 -- How reading goes on over the records of one act, and over those of all acts.
 use Rattle.std.proofs.Common.{◌≡◌, ◌≢◌, ℕ, zero, suc, ◌+◌, ◌-◌, ◌*◌, ◌<◌, ◌≤◌, max, Bool, true, false, not, ◌&&◌, IsTrue, List, [], ◌∷◌, ◌++◌, length, Option, Some, None, option_map, inl, inr, nat_lt, ◌==◌, if◌then◌else◌, refl, ap, sym, ◌∙◌, subst, arith}
-use Rattle.std.proofs.lemmas.Bool.{leb-true, ltb-false, eqb-false}
 use Rattle.std.proofs.lemmas.List.{append_assoc}
-use Rattle.std.proofs.Math.Nat.{le_refl, le_trans, mul-le-mul}
-use Rattle.record_formats.proofs.Names.{nat_tests, ints, and_parts, eqb-true, append-nil, concat, Act, NumberedAct, MAX_COMMANDS, Point, NEEDLE_LIMIT, acts_without_numbers, is_point_within, origin, move_between, move_size, WriteLimits, EncoderState, hops_of, position_after_move, Records, over, next, encoder_state_after, EncodedEvents, DecodesEncoding, RecordEncoding, is_at_max, hop_records, stitched_hop_records, records_of_act, records_of_acts_from, within_from}
+use Rattle.record_formats.proofs.Names.{nat_tests, ints, and_parts, eqb-true, append-nil, concat, Act, NumberedAct, MAX_COMMANDS, Point, NEEDLE_LIMIT, acts_without_numbers, is_point_within, origin, move_between, move_size, WriteLimits, EncoderState, hops_of, position_after_move, Records, over, next, encoder_state_after, EncodedEvents, DecodesEncoding, RecordEncoding, is_at_max, hop_records, stitched_hop_records, records_of_act, records_of_acts_from, within_from, leb-true, ltb-false, eqb-false, le_refl, le_trans, mul-le-mul, is_above_max, refusal_if, refusal_of_needle, refusal_before_room, refusal_of_act, first_refusal_from, AllowsTwoJumps, IsPastTrimmedJump, float_records, needle_records, are_in_range, are_told, is_told, not_refused, or_else_none}
 use Rattle.design_model.specs.declared.act.Act.TheVariants as act
 use Rattle.design_model.specs.ActPositions.{needle_position_after, leaves_thread_loose, is_act_in_range}
 use Rattle.record_formats.specs.declared.event.Event.TheVariants as event
 use Rattle.format_traits.specs.declared.fault.WriteFault.TheVariants as fault
-use Rattle.format_traits.specs.Refusals.{is_above_max, refusal_if, refusal_of_needle, refusal_before_room, refusal_of_act, first_refusal_from}
-use Rattle.record_formats.specs.RoundTrip.{AllowsTwoJumps, IsPastTrimmedJump}
 use Rattle.format_traits.specs.Rooms.{room_of_loose, room_of_needle, room_of_act}
-use Rattle.record_formats.specs.RecordEncodings.{float_records, needle_records}
 use Rattle.record_formats.proofs.PointLemmas.{within-size, position_after_move-none}
 use Rattle.record_formats.proofs.rereading.Parts.{Lies, lies_from, hops_enough, no_hops, moved-between}
 use Rattle.record_formats.proofs.rereading.Runs.{Spares, trims_in, trims_over, trims_none, trims_few, goes_as, goes_hops, goes_last_stitched}
 use Rattle.record_formats.proofs.rereading.Steps.{GoesOn, goes_end, goes_stitch, goes_stop}
 use Rattle.record_formats.proofs.rereading.Trims.{goes_trimmed}
-use Rattle.design_model.proofs.CallerLemmas.{are_in_range}
-use Rattle.format_traits.proofs.CallerLemmas.{are_told, is_told, not_refused, or_else_none}
 
 -- how a reader stands between acts: after a needle no jump came, after others the run is over or long
 abbrev pub Between : Option ℕ → Bool → ℕ → Bool → Type 0

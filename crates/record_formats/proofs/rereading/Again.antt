@@ -1,11 +1,7 @@
 -- The records of the acts of a design decode to these acts.
 use Rattle.std.proofs.Common.{true, false, refl, arith}
-use Rattle.record_formats.proofs.Names.{initial_encoder_state}
-use Rattle.design_model.specs.Acts.{acts_of}
-use Rattle.record_formats.specs.RoundTrip.{EncodedActsRoundTrip}
+use Rattle.record_formats.proofs.Names.{initial_encoder_state, acts_of, EncodedActsRoundTrip, acts_in_range, told}
 use Rattle.record_formats.proofs.rereading.Acts.{goes_acts, broken}
-use Rattle.design_model.proofs.CallerLemmas.{acts_in_range}
-use Rattle.format_traits.proofs.CallerLemmas.{told}
 
 -- the records of acts that are not refused decode to these acts
 pub spelled_acts_read_again : EncodedActsRoundTrip

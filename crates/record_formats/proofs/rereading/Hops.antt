@@ -1,8 +1,7 @@
 -- The parts of a move on one axis: how far each goes, and where each ends.
 use Rattle.std.proofs.Common.{◌≡◌, ℕ, zero, suc, ◌+◌, ◌-◌, ◌*◌, ◌/◌, ◌<◌, ◌≤◌, ℤ, pos, negsuc, neg_ℤ, ◌+ℤ◌, ◌-ℤ◌, ◌*ℤ◌, unsigned_abs, ap, sym, ◌∙◌, arith}
-use Rattle.std.proofs.Math.Nat.{zero-div}
 use Rattle.std.proofs.lemmas.Nat.{div_below, le-div}
-use Rattle.record_formats.proofs.Names.{ints, int_div_euclid, nat_tests}
+use Rattle.record_formats.proofs.Names.{ints, int_div_euclid, nat_tests, zero-div}
 
 -- where `count` of the n parts end
 abbrev pub axis_part : ℤ → ℕ → ℕ → ℤ

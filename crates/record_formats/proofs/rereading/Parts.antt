@@ -1,8 +1,7 @@
 -- The parts of a move between two needles: each is within the limit, and each ends between the two.
 use Rattle.std.proofs.Common.{◌≡◌, ℕ, ◌+◌, ◌*◌, ◌<◌, ◌≤◌, ℤ, ◌+ℤ◌, ◌-ℤ◌, unsigned_abs, IsTrue, arith}
-use Rattle.record_formats.proofs.Names.{ints, Point, NEEDLE_LIMIT, JUMP_LIMIT, is_point_within, move_between, move_size, hops_of, position_after_move, part_end, point_of_parts, within_from, nat_tests}
+use Rattle.record_formats.proofs.Names.{ints, Point, NEEDLE_LIMIT, JUMP_LIMIT, is_point_within, move_between, move_size, hops_of, position_after_move, part_end, point_of_parts, within_from, nat_tests, within_more, within_parts}
 use Rattle.record_formats.proofs.rereading.Hops.{axis_all, axis_step, axis_between}
-use Rattle.design_model.proofs.CallerLemmas.{within_more, within_parts}
 
 -- a move that n moves within the limit can make up
 pub record Splits (limit : ℕ) (m : Point) (n : ℕ) : Type 0 where

@@ -1,8 +1,7 @@
 -- How reading goes on over a run of jumps that make up a move, and a stitch after them.
 use Rattle.std.proofs.Common.{◌≡◌, ℕ, zero, suc, ◌+◌, ◌-◌, ◌<◌, ◌≤◌, Bool, true, false, not, ◌&&◌, IsTrue, List, [], ◌∷◌, ◌++◌, length, map, Option, Some, None, if◌then◌else◌, refl, ap, sym, ◌∙◌, subst, arith}
-use Rattle.std.proofs.lemmas.Bool.{ne_eqb}
 use Rattle.std.proofs.lemmas.List.{append_assoc}
-use Rattle.record_formats.proofs.Names.{nat_tests, ints, eqb-true, append-nil, concat, Act, MAX_COMMANDS, Point, NEEDLE_LIMIT, JUMP_LIMIT, is_point_within, origin, move_between, WriteLimits, position_after_move, part_end, part_moves_from, Records, next, EncodedEvents, DecodesEncoding, RecordEncoding, is_at_max, hop_records, stitched_hop_records, within_from}
+use Rattle.record_formats.proofs.Names.{nat_tests, ints, eqb-true, append-nil, concat, Act, MAX_COMMANDS, Point, NEEDLE_LIMIT, JUMP_LIMIT, is_point_within, origin, move_between, WriteLimits, position_after_move, part_end, part_moves_from, Records, next, EncodedEvents, DecodesEncoding, RecordEncoding, is_at_max, hop_records, stitched_hop_records, within_from, ne_eqb}
 use Rattle.design_model.specs.declared.act.Act.TheVariants as act
 use Rattle.record_formats.specs.declared.event.Event.TheVariants as event
 use Rattle.record_formats.proofs.PointLemmas.{position_after_move-none}

@@ -1,16 +1,13 @@
 -- How reading goes on over one record, whatever comes after it.
 use Rattle.std.proofs.Common.{◌≡◌, ℕ, ◌+◌, ◌<◌, ◌≤◌, Bool, true, false, not, ◌&&◌, IsTrue, List, [], ◌∷◌, length, Ok, Result, refl, ap, sym, ◌∙◌, subst, arith}
-use Rattle.std.proofs.lemmas.Bool.{and_from, lt-leb}
-use Rattle.record_formats.proofs.Names.{nat_tests, ints, list_all, Act, Stitch, Jump, MAX_COMMANDS, Point, NEEDLE_LIMIT, JUMP_LIMIT, acts_without_numbers, is_point_within, origin, Event, position_after_move, Records, file_commands_from, moves_of_records_from, over, next, is_stop_in_place, within_from}
+use Rattle.record_formats.proofs.Names.{nat_tests, ints, list_all, Act, Stitch, Jump, MAX_COMMANDS, Point, NEEDLE_LIMIT, JUMP_LIMIT, acts_without_numbers, is_point_within, origin, Event, position_after_move, Records, file_commands_from, moves_of_records_from, over, next, is_stop_in_place, within_from, and_from, lt-leb, acts_from, commands_of_event, position_after_event, moves_of_event}
 use Rattle.design_model.specs.declared.act.Act.TheVariants as act
 use Rattle.design_model.specs.declared.command.Command.{Command}
 use Rattle.design_model.specs.declared.command.Command.TheVariants.{Trim, Stop}
-use Rattle.design_model.specs.Acts.{acts_from}
 use Rattle.design_model.specs.Commands.{is_command_in_range}
 use Rattle.record_formats.specs.declared.event.Event.TheVariants as event
 use Rattle.format_traits.specs.declared.fault.ReadFault.{ReadFault}
 use Rattle.record_formats.specs.Readings.{FileCommands, with_commands_before, checked_command, checked_commands}
-use Rattle.record_formats.specs.Records.{commands_of_event, position_after_event, moves_of_event}
 use Rattle.record_formats.proofs.PointLemmas.{position_after_move-none}
 
 -- from that place on the records are read to an end as those acts, each move within the limit

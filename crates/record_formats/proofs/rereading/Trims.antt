@@ -1,9 +1,8 @@
 -- How reading goes on over the records of a trim.
 use Rattle.std.proofs.Common.{◌≡◌, ℕ, ◌+◌, ◌<◌, ◌≤◌, ℤ, ◌+ℤ◌, Bool, true, false, IsTrue, List, [], ◌∷◌, length, refl, ap, sym, ◌∙◌, subst, arith}
-use Rattle.record_formats.proofs.Names.{and_parts, ints, list_all, Act, MAX_COMMANDS, Point, NEEDLE_LIMIT, JUMP_LIMIT, is_point_within, origin, move_size, Event, position_after_move, Records, trims_once, position_after_moves, moves_of_events, length_of_moves, point_of_parts, nat_tests}
+use Rattle.record_formats.proofs.Names.{and_parts, ints, list_all, Act, MAX_COMMANDS, Point, NEEDLE_LIMIT, JUMP_LIMIT, is_point_within, origin, move_size, Event, position_after_move, Records, trims_once, position_after_moves, moves_of_events, length_of_moves, point_of_parts, nat_tests, BeginWithEvents, IsTrimSequence, are_jumps}
 use Rattle.design_model.specs.declared.act.Act.TheVariants as act
 use Rattle.record_formats.specs.declared.event.Event.TheVariants as event
-use Rattle.record_formats.specs.RoundTrip.{BeginWithEvents, IsTrimSequence, are_jumps}
 use Rattle.record_formats.proofs.PointLemmas.{position_after_move-none}
 use Rattle.record_formats.proofs.rereading.Runs.{goes_as}
 use Rattle.record_formats.proofs.rereading.Steps.{GoesOn, goes_jump, goes_trimmed_jump, goes_trim}

@@ -1,7 +1,5 @@
 use Rattle.std.proofs.Common.{List, ℕ, ◌+◌, arith, ap, length, map, refl, subst, sym, ◌∙◌}
-use Rattle.blossom_match.proofs.Names.{Each, branches_in, matches_in, set_in, changed_branch, CanChangeBranch, Branch}
-use Rattle.blossom_match.specs.Duals.{ChangesHeights}
-use Rattle.odd_sets.proofs.CallerLemmas.{written}
+use Rattle.blossom_match.proofs.Names.{Each, branches_in, matches_in, set_in, changed_branch, CanChangeBranch, Branch, ChangesHeights, written}
 use Rattle.blossom_match.proofs.DualLemmas.{all_resized, can_resize, changed_sets}
 use Rattle.blossom_match.proofs.adjustment.change_duals.Goals as goal
 

@@ -1,5 +1,4 @@
-use Rattle.blossom_match.proofs.Names.{search_value}
-use Rattle.blossom_match.specs.States.{partial_value}
+use Rattle.blossom_match.proofs.Names.{search_value, partial_value}
 use Rattle.blossom_match.proofs.InitialDualLemmas.{pair_step, paired}
 use Rattle.blossom_match.proofs.initial_duals.pair.Goals as goal
 

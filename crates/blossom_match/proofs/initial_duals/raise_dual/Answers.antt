@@ -1,6 +1,5 @@
 use Rattle.std.proofs.Common.{ℕ, List, get_or, refl, sym, subst}
-use Rattle.std.proofs.lemmas.List.{length-set}
-use Rattle.blossom_match.proofs.Names.{matches_in, KeepsSlack}
+use Rattle.blossom_match.proofs.Names.{matches_in, KeepsSlack, length-set}
 use Rattle.blossom_match.proofs.InitialDualLemmas.{free_lies, low_enough, risen}
 use Rattle.blossom_match.proofs.initial_duals.raise_dual.Goals as goal
 

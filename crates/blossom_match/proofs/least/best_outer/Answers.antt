@@ -1,8 +1,7 @@
 use Rattle.std.proofs.Common.{arith, [], List, ℕ, ap, subst}
-use Rattle.blossom_match.proofs.Names.{nat_tests, IsBestCandidate, count, outer_vertices, branches_in, search_value, outer_members, Branch, base_in}
+use Rattle.blossom_match.proofs.Names.{nat_tests, IsBestCandidate, count, outer_vertices, branches_in, search_value, outer_members, Branch, base_in, members_each}
 use Rattle.blossom_match.specs.declared.least.Kind.TheVariants as kind
 use Rattle.blossom_match.proofs.CandidateLemmas.{aims_join}
-use Rattle.odd_sets.proofs.CallerLemmas.{members_each}
 use Rattle.blossom_match.proofs.least.best_outer.Goals as goal
 
 pub best_target-rooted-requires-clause-within : goal.best_target-rooted-requires-clause-within

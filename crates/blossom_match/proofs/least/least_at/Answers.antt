@@ -1,6 +1,5 @@
 use Rattle.std.proofs.Common.{◌≡◌, ◌≤◌, ℕ, List, ap, get_or, length, subst, sym, ◌∙◌}
-use Rattle.blossom_match.proofs.Names.{count, match_members, stored_height, outer_vertices, CanSearch, IsLesserChange, AreOuterSlacks, AreSearchSlacks, IsBestCandidate, IsCandidateAmong, IsSearchMask, branches_in, search_value, TableValue, IsTable, SearchValue, Branch, Target}
-use Rattle.blossom_match.specs.Masks.{IsBestShown}
+use Rattle.blossom_match.proofs.Names.{count, match_members, stored_height, outer_vertices, CanSearch, IsLesserChange, AreOuterSlacks, AreSearchSlacks, IsBestCandidate, IsCandidateAmong, IsSearchMask, branches_in, search_value, TableValue, IsTable, SearchValue, Branch, Target, IsBestShown}
 use Rattle.blossom_match.specs.declared.least.Kind.TheVariants as kind
 use Rattle.blossom_match.proofs.BoundLemmas.{bounds_of, free_near, leads_on, IsAimedAt}
 use Rattle.blossom_match.proofs.least.least_at.Goals as goal

@@ -1,6 +1,5 @@
 use Rattle.std.proofs.Common.{arith, ap, get_or, List, ℕ, subst}
-use Rattle.blossom_match.proofs.Names.{count, SetsCells, match_in, matches_in, mapped_item, mapped_low}
-use Rattle.odd_sets.proofs.CallerLemmas.{no_match}
+use Rattle.blossom_match.proofs.Names.{count, SetsCells, match_in, matches_in, mapped_item, mapped_low, no_match}
 use Rattle.blossom_match.proofs.MaskLemmas.{match_within, puts_match}
 use Rattle.blossom_match.proofs.masks.show.Goals as goal
 

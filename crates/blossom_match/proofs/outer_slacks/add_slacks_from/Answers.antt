@@ -1,6 +1,5 @@
 use Rattle.std.proofs.Common.{arith, ap, drop, length, List, ℕ, ◌+◌, ◌-◌, ◌∙◌, subst, sym, take}
-use Rattle.blossom_match.proofs.Names.{Each, HasSlacks, AddsOuterSlacks, branch_in, branches_in, search_value, BranchValue, Branch, each-map, nat_tests}
-use Rattle.odd_sets.proofs.CallerLemmas.{each-drop, each-take, mapped_cut}
+use Rattle.blossom_match.proofs.Names.{Each, HasSlacks, AddsOuterSlacks, branch_in, branches_in, search_value, BranchValue, Branch, each-map, nat_tests, each-drop, each-take, mapped_cut}
 use Rattle.blossom_match.proofs.outer_slacks.add_slacks_from.Goals as goal
 
 pub add_branch_slacks-requires : goal.add_branch_slacks-requires

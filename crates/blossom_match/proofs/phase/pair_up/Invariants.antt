@@ -1,6 +1,5 @@
 use Rattle.std.proofs.Common.{◌≡◌}
-use Rattle.blossom_match.proofs.Names.{CanSearch, AreSearchSlacks, IsSearchMask, search_value}
-use Rattle.blossom_match.specs.Searches.{search_size}
+use Rattle.blossom_match.proofs.Names.{CanSearch, AreSearchSlacks, IsSearchMask, search_value, search_size}
 use Rattle.blossom_match.proofs.phase.pair_up.Given as goal
 
 -- a search that is not over, what its outer places leave, and its matched places

@@ -1,7 +1,5 @@
 use Rattle.std.proofs.Common.{arith, ap, length, List, ℕ, ◌≡◌, ◌++◌, ◌∙◌, subst, sym}
-use Rattle.blossom_match.proofs.Names.{length-map, into_iter_items, dual_sets, match_dual_sets, match_in, matches_in, set_in, AreSets, moat_of_set, Match, sets_fewer}
-use Rattle.odd_sets.specs.Slots.{core_in}
-use Rattle.odd_sets.proofs.CallerLemmas.{set_of, sets_left, sets_right}
+use Rattle.blossom_match.proofs.Names.{length-map, into_iter_items, dual_sets, match_dual_sets, match_in, matches_in, set_in, AreSets, moat_of_set, Match, sets_fewer, core_in, set_of, sets_left, sets_right}
 use Rattle.blossom_match.proofs.TakenLemmas.{core_of, core_uses, head_of, rest_of, rest_uses, taking_done, taking_more, taking_start, took_place, took_blossom}
 use Rattle.blossom_match.proofs.taking.+taking.Goals as goal
 

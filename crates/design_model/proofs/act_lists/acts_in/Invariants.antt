@@ -1,5 +1,5 @@
 use Rattle.std.proofs.Common.{◌≡◌, ◌++◌, ◌+◌, ◌≤◌, drop, length}
-use Rattle.design_model.specs.Acts.{acts_along, acts_from}
+use Rattle.design_model.proofs.Names.{acts_along, acts_from}
 use Rattle.design_model.proofs.act_lists.acts_in.Given as goal
 
 -- the acts so far, no more than their commands, and those of the commands that are left

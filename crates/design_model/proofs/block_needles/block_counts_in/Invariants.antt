@@ -1,6 +1,5 @@
 use Rattle.std.proofs.Common.{◌≡◌, ◌≤◌, ◌+◌, drop, length}
-use Rattle.design_model.specs.Acts.{acts_along, acts_from}
-use Rattle.design_model.specs.Blocks.{continued_block_counts, needles_by_block}
+use Rattle.design_model.proofs.Names.{acts_along, acts_from, continued_block_counts, needles_by_block}
 use Rattle.design_model.proofs.block_needles.block_counts_in.Given as goal
 
 -- the blocks that ended, the block that was begun, and those of the commands that are left

@@ -1,6 +1,5 @@
 use Rattle.std.proofs.Common.{◌≡◌, ◌≤◌, ◌+◌, drop}
-use Rattle.design_model.specs.Acts.{acts_from}
-use Rattle.design_model.specs.Counts.{total_of_counts, counts_of_commands, with_acts}
+use Rattle.design_model.proofs.Names.{acts_from, total_of_counts, counts_of_commands, with_acts}
 use Rattle.design_model.proofs.design_counts.counts_in.Given as goal
 
 -- the counts so far, and those of the acts of the commands that are left

@@ -1,6 +1,5 @@
 use Rattle.std.proofs.Common.{◌≡◌, ◌+◌, drop}
-use Rattle.design_model.specs.Acts.{acts_along, acts_from}
-use Rattle.design_model.specs.Extents.{grown_optional_extent, extent_of_points, needle_points_of_acts}
+use Rattle.design_model.proofs.Names.{acts_along, acts_from, grown_optional_extent, extent_of_points, needle_points_of_acts}
 use Rattle.design_model.proofs.design_extent.extent_in.Given as goal
 
 -- the extent so far, grown by the needle points of the commands that are left

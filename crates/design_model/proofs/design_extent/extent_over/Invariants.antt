@@ -1,5 +1,5 @@
 use Rattle.std.proofs.Common.{◌≡◌, length}
-use Rattle.design_model.specs.Extents.{grown_optional_extent}
+use Rattle.design_model.proofs.Names.{grown_optional_extent}
 use Rattle.design_model.proofs.design_extent.extent_over.Given as goal
 
 -- the extent so far, grown by the points that are left

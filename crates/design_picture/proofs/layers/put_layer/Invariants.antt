@@ -1,5 +1,5 @@
 use Rattle.std.proofs.Common.{◌≡◌, ◌++◌, drop}
-use Rattle.design_picture.specs.Layers.{layer_text}
+use Rattle.design_picture.proofs.Names.{layer_text}
 use Rattle.design_picture.proofs.layers.put_layer.Given as goal
 
 -- the text so far and the strokes that are left are all of the layer

@@ -1,7 +1,6 @@
 use Rattle.std.proofs.Common.{◌≡◌, ◌+◌, ◌-◌, ◌∷◌, ◌++◌, drop, option_to_list, arith, ap, subst, ◌∙◌}
 use Rattle.std.proofs.lemmas.List.{at_drop_more}
-use Rattle.design_model.specs.ActScanners.{acts_after}
-use Rattle.design_picture.specs.Pens.{HasCounted}
+use Rattle.design_picture.proofs.Names.{acts_after, HasCounted}
 use Rattle.design_picture.proofs.StrokeLemmas.{moves_next, shows_next}
 use Rattle.design_picture.proofs.strokes.put_along.Goals as goal
 

@@ -1,10 +1,7 @@
 use Rattle.std.proofs.Common.{◌≡◌, ◌++◌, None, drop}
 use Rattle.std.specs.HashMap.{get}
-use Rattle.design_model.specs.ActScanners.{acts_after}
-use Rattle.design_model.specs.Acts.{acts_along}
+use Rattle.design_picture.proofs.Names.{acts_after, acts_along, HasCounted, first_pen, pen_along, strokes_from}
 use Rattle.design_picture.specs.Passes.{is_same_stitch}
-use Rattle.design_picture.specs.Pens.{HasCounted, first_pen}
-use Rattle.design_picture.specs.Strokes.{pen_along, strokes_from}
 use Rattle.design_picture.proofs.strokes.put_along.Given as goal
 
 -- the strokes so far and those of the acts that are left are all of them, and so is the last pen

@@ -1,5 +1,4 @@
-use Rattle.double_run.proofs.Names.{graph_of, IsTraversal}
-use Rattle.double_run.specs.TraversalSteps.{traversal_rank}
+use Rattle.double_run.proofs.Names.{graph_of, IsTraversal, traversal_rank}
 use Rattle.double_run.proofs.double_walk.double.Given as goal
 
 -- the traversal is one over the piece

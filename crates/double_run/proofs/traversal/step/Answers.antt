@@ -1,10 +1,8 @@
 use Rattle.std.proofs.Common.{◌∙◌, arith, false, true}
-use Rattle.double_run.proofs.Names.{graph_of}
+use Rattle.double_run.proofs.Names.{graph_of, cursor_read, end_low, one_before}
 use Rattle.double_run.proofs.CursorLemmas.{cursor_leads, is_passed, read_passed, spent_at}
 use Rattle.double_run.proofs.StepLemmas.{over_step}
 use Rattle.double_run.proofs.traversal.step.Goals as goal
-use Rattle.euler_tour.proofs.CallerLemmas.{cursor_read, end_low}
-use Rattle.lists_and_numbers.proofs.CallerLemmas.{one_before}
 
 pub come_back-requires-clause-spent : goal.come_back-requires-clause-spent
 come_back-requires-clause-spent c =

@@ -1,6 +1,5 @@
 use Rattle.std.proofs.Common.{map, string_bytes, sym, ◌∙◌}
-use Rattle.drawing_commands.proofs.Names.{at_drop_more, is_some, parsed_drawing_edits}
-use Rattle.command_words.proofs.CallerLemmas.{parsed_before}
+use Rattle.drawing_commands.proofs.Names.{at_drop_more, is_some, parsed_drawing_edits, parsed_before}
 use Rattle.drawing_commands.proofs.drawing_edit_words.are_drawing_edits.Goals as goal
 
 pub loop-word-preserved : goal.loop-word-preserved

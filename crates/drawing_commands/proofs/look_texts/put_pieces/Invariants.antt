@@ -1,5 +1,5 @@
 use Rattle.std.proofs.Common.{◌≡◌, ◌++◌, ◌+◌, length}
-use Rattle.drawing_commands.specs.LookTexts.{look_piece_lines}
+use Rattle.drawing_commands.proofs.Names.{look_piece_lines}
 use Rattle.drawing_commands.proofs.look_texts.put_pieces.Given as goal
 
 -- the lines so far, and those of the pieces that are left

@@ -1,5 +1,5 @@
 use Rattle.std.proofs.Common.{◌≡◌, ◌++◌, length}
-use Rattle.drawing_commands.specs.LookTexts.{place_lines}
+use Rattle.drawing_commands.proofs.Names.{place_lines}
 use Rattle.drawing_commands.proofs.look_texts.put_places.Given as goal
 
 -- the lines so far, and those of the places that are left

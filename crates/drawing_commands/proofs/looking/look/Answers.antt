@@ -1,5 +1,4 @@
-use Rattle.drawing_commands.proofs.Names.{settles_taken, look_read}
-use Rattle.drawing_commands.specs.Looks.{look_order}
+use Rattle.drawing_commands.proofs.Names.{settles_taken, look_read, look_order}
 use Rattle.drawing_commands.proofs.looking.look.Goals as goal
 
 pub returns : goal.returns

@@ -1,8 +1,6 @@
 use Rattle.std.proofs.Common.{◌∙◌, List, ℕ, Option, Some, ap, map, rules, string_bytes}
-use Rattle.std.proofs.lemmas.List.{length-map}
-use Rattle.drawing_commands.proofs.Names.{parsed_drawing_edits, edit_order_with}
+use Rattle.drawing_commands.proofs.Names.{parsed_drawing_edits, edit_order_with, length-map, parsed_drawing_edit_request}
 use Rattle.drawing_commands.proofs.RequestLemmas.{edit_made}
-use Rattle.drawing_commands.specs.Requests.{parsed_drawing_edit_request}
 use Rattle.drawing_commands.proofs.requests.edit_request.Goals as goal
 
 pub returns-clause-value : goal.returns-clause-value

@@ -1,5 +1,4 @@
-use Rattle.program_shell.proofs.CallerLemmas.{can_finish, ends}
-use Rattle.drawing_commands.proofs.Names.{stitch_drawing}
+use Rattle.drawing_commands.proofs.Names.{stitch_drawing, can_finish, ends}
 use Rattle.drawing_commands.proofs.CommandLemmas.{drawing_sound}
 use Rattle.drawing_commands.proofs.running.run.Goals as goal
 

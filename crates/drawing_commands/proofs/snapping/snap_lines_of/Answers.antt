@@ -1,6 +1,5 @@
 use Rattle.std.proofs.Common.{rules}
-use Rattle.drawing_commands.proofs.Names.{fault_refused, snap_made, snap_order}
-use Rattle.drawing_repairs.specs.Snaps.{snap_is_out_of_memory}
+use Rattle.drawing_commands.proofs.Names.{fault_refused, snap_made, snap_order, snap_is_out_of_memory}
 use Rattle.drawing_commands.proofs.SnapLemmas.{snap_ordered}
 use Rattle.drawing_commands.proofs.snapping.snap_lines_of.Goals as goal
 

@@ -1,5 +1,5 @@
 use Rattle.std.proofs.Common.{◌≡◌, ◌+◌, length}
-use Rattle.drawing_model.specs.GrowingDrawings.{point_count}
+use Rattle.drawing_commands.proofs.Names.{point_count}
 use Rattle.drawing_commands.proofs.space_texts.point_total.Given as goal
 
 -- the points so far, and those of the lines that are left, are all

@@ -1,6 +1,5 @@
 use Rattle.std.proofs.Common.{rules}
-use Rattle.drawing_commands.proofs.Names.{fault_refused, space_made, space_order}
-use Rattle.drawing_model.specs.GrowingDrawings.{draw_is_out_of_memory}
+use Rattle.drawing_commands.proofs.Names.{fault_refused, space_made, space_order, draw_is_out_of_memory}
 use Rattle.drawing_commands.proofs.SpaceLemmas.{space_ordered}
 use Rattle.drawing_commands.proofs.spacing.space_lines_of.Goals as goal
 

@@ -1,6 +1,5 @@
 use Rattle.std.proofs.Common.{◌≡◌, ◌++◌, drop}
-use Rattle.std.specs.List.{flat_map}
-use Rattle.drawing_edits.specs.PlacedEnds.{line_cut_at}
+use Rattle.drawing_edits.proofs.Names.{flat_map, line_cut_at}
 use Rattle.drawing_edits.proofs.line_cuts.cut_lines.Given as goal
 
 -- The lines so far are cut: the result depends on them and on the others.

@@ -1,6 +1,5 @@
 use Rattle.std.proofs.Common.{◌≡◌, take, map}
-use Rattle.drawing_edits.proofs.Names.{motion_map}
-use Rattle.drawing_edits.specs.MovedDrawings.{with_moved_line}
+use Rattle.drawing_edits.proofs.Names.{motion_map, with_moved_line}
 use Rattle.drawing_edits.proofs.moved_lines.moved_lines.Given as goal
 
 -- the lines so far are moved

@@ -1,6 +1,5 @@
 use Rattle.std.proofs.Common.{◌≡◌, ◌==◌, length}
-use Rattle.std.specs.List.{list_all}
-use Rattle.drawing_edits.proofs.Names.{lines_listing}
+use Rattle.drawing_edits.proofs.Names.{lines_listing, list_all}
 use Rattle.drawing_edits.proofs.placed_ends.block_if_only.Given as goal
 
 -- The lines so far that list the point are in the block.

@@ -1,5 +1,5 @@
 use Rattle.std.proofs.Common.{◌≡◌, ◌++◌, drop}
-use Rattle.drawing_picture.specs.BandTexts.{way_points}
+use Rattle.drawing_picture.proofs.Names.{way_points}
 use Rattle.drawing_picture.proofs.band_texts.put_way.Given as goal
 
 -- the text so far and the points that are left are all of the way

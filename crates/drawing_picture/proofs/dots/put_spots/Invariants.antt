@@ -1,6 +1,5 @@
 use Rattle.std.proofs.Common.{◌++◌, ◌≡◌, drop}
-use Rattle.drawing_picture.proofs.Names.{flat_map}
-use Rattle.drawing_picture.specs.DrawingCaptions.{spot_mark}
+use Rattle.drawing_picture.proofs.Names.{flat_map, spot_mark}
 use Rattle.drawing_picture.proofs.dots.put_spots.Given as goal
 
 -- the marks so far, and those that are left, are all

@@ -1,6 +1,5 @@
 use Rattle.std.proofs.Common.{◌≡◌, ◌++◌, length, map}
-use Rattle.drawing_repairs.proofs.Names.{anchored}
-use Rattle.drawing_repairs.specs.MovedLines.{changed_points}
+use Rattle.drawing_repairs.proofs.Names.{anchored, changed_points}
 use Rattle.drawing_repairs.proofs.moving.found.Given as goal
 
 -- the anchors and changed points so far, with those that are left

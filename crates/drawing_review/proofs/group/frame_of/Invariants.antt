@@ -1,7 +1,5 @@
 use Rattle.std.proofs.Common.{length}
-use Rattle.drawing_review.specs.declared.frame.Frame.{Frame}
-use Rattle.drawing_review.specs.Frames.{IsInside}
-use Rattle.drawing_review.specs.Groups.{AreInside}
+use Rattle.drawing_review.proofs.Names.{Frame, IsInside, AreInside}
 use Rattle.drawing_review.proofs.group.frame_of.Given as goal
 
 -- a frame that has this one and the segments that are left inside has all inside

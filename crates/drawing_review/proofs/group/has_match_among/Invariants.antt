@@ -1,6 +1,5 @@
 use Rattle.std.proofs.Common.{◌≡◌, length}
-use Rattle.std.specs.List.{list_any}
-use Rattle.drawing_review.specs.Queries.{is_match}
+use Rattle.drawing_review.proofs.Names.{list_any, is_match}
 use Rattle.drawing_review.proofs.group.has_match_among.Given as goal
 
 -- no segment so far matches, and the result depends on those that are left

@@ -1,5 +1,5 @@
 use Rattle.std.proofs.Common.{◌≡◌, ◌++◌, length, true}
-use Rattle.drawing_review.specs.Segments.{segments_on}
+use Rattle.drawing_review.proofs.Names.{segments_on}
 use Rattle.drawing_review.proofs.line_segments.put_points.Given as goal
 
 -- the segments so far, and those of the points that are left, are all

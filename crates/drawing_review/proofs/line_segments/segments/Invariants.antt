@@ -1,5 +1,5 @@
 use Rattle.std.proofs.Common.{◌≡◌, ◌-◌, ◌≤◌, length, drop}
-use Rattle.drawing_review.specs.Segments.{segments_of_lines, with_line_segments}
+use Rattle.drawing_review.proofs.Names.{segments_of_lines, with_line_segments}
 use Rattle.drawing_review.proofs.line_segments.segments.Given as goal
 
 -- the segments so far are those of the lines so far

@@ -1,6 +1,5 @@
 use Rattle.std.proofs.Common.{◌≡◌, ◌++◌, length}
-use Rattle.std.specs.List.{flat_map}
-use Rattle.drawing_review.specs.Places.{places_at}
+use Rattle.drawing_review.proofs.Names.{flat_map, places_at}
 use Rattle.drawing_review.proofs.places.places_in.Given as goal
 
 -- the places so far, and those of the segments that are left, are all

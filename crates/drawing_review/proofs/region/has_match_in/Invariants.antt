@@ -1,6 +1,5 @@
 use Rattle.std.proofs.Common.{◌≡◌, length}
-use Rattle.std.specs.List.{flat_map, list_any}
-use Rattle.drawing_review.specs.Queries.{is_match}
+use Rattle.drawing_review.proofs.Names.{flat_map, list_any, is_match}
 use Rattle.drawing_review.proofs.region.has_match_in.Given as goal
 
 -- no segment so far matches, and the result depends on those that are left

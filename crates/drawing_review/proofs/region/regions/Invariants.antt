@@ -1,5 +1,5 @@
 use Rattle.std.proofs.Common.{◌≡◌, ◌++◌, length}
-use Rattle.std.specs.List.{flat_map}
+use Rattle.drawing_review.proofs.Names.{flat_map}
 use Rattle.drawing_review.proofs.region.regions.Given as goal
 
 -- the regions so far, and the segments that are left, are all

@@ -1,6 +1,5 @@
 use Rattle.std.proofs.Common.{◌≡◌, IsTrue, unsigned_abs, nat_le, ap, ◌∙◌, refl, rules}
-use Rattle.std.proofs.lemmas.Bool.{and_from, le-leb}
-use Rattle.dst_codec.proofs.Names.{Point, is_point_within, LIMIT, dst_move_in, dst_stitch_record}
+use Rattle.dst_codec.proofs.Names.{Point, is_point_within, LIMIT, dst_move_in, dst_stitch_record, and_from, le-leb}
 use Rattle.dst_codec.proofs.MoveEncodingLemmas.{dst_move_of-record}
 use Rattle.dst_codec.proofs.move_encoding.encode_move.Goals as goal
 

@@ -1,5 +1,4 @@
-use Rattle.euler_tour.proofs.Names.{graph_of, HasTourTables}
-use Rattle.euler_tour.specs.PartialTours.{IsPartialTour, tour_rank}
+use Rattle.euler_tour.proofs.Names.{graph_of, HasTourTables, IsPartialTour, tour_rank}
 use Rattle.euler_tour.proofs.closed_walk.tour.Given as goal
 
 abbrev pub invariant-loop-t : goal.invariant-loop-t

@@ -1,5 +1,5 @@
 use Rattle.std.proofs.Common.{◌+◌, ◌∙◌, length, length-set}
-use Rattle.std.proofs.lemmas.Option.{slice_get-get_or}
+use Rattle.euler_tour.proofs.Names.{slice_get-get_or}
 use Rattle.euler_tour.proofs.EndLemmas.{chain_step}
 use Rattle.euler_tour.proofs.line_ends.chain.Goals as goal
 use Rattle.euler_tour.proofs.CallerLemmas.{ends_are_below}

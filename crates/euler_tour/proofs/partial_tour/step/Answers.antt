@@ -1,10 +1,9 @@
 use Rattle.std.proofs.Common.{◌∙◌, arith, sym}
-use Rattle.euler_tour.proofs.Names.{get_or_default_zero, graph_of}
+use Rattle.euler_tour.proofs.Names.{get_or_default_zero, graph_of, one_before}
 use Rattle.euler_tour.proofs.CallerLemmas.{cursor_read, end_low}
 use Rattle.euler_tour.proofs.CursorLemmas.{none_remains}
 use Rattle.euler_tour.proofs.StepLemmas.{over_step}
 use Rattle.euler_tour.proofs.partial_tour.step.Goals as goal
-use Rattle.lists_and_numbers.proofs.CallerLemmas.{one_before}
 
 pub go_back-requires-clause-stuck : goal.go_back-requires-clause-stuck
 go_back-requires-clause-stuck c =

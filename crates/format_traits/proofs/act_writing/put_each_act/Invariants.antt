@@ -1,9 +1,6 @@
 use Rattle.std.proofs.Common.{◌≡◌, ◌++◌, drop}
-use Rattle.format_traits.proofs.Names.{encoder_state_after_acts, first_refusal_from, first_refusal, initial_encoder_state}
-use Rattle.design_model.specs.Acts.{acts_along}
+use Rattle.format_traits.proofs.Names.{encoder_state_after_acts, first_refusal_from, first_refusal, initial_encoder_state, acts_along, bytes_of_acts_from, IsEncoderStateInRange}
 use Rattle.design_model.specs.ActScanners.{acts_after}
-use Rattle.format_traits.specs.ActWriting.{bytes_of_acts_from}
-use Rattle.format_traits.specs.Refusals.{IsEncoderStateInRange}
 use Rattle.format_traits.proofs.act_writing.put_each_act.Given as goal
 
 -- the bytes so far and those of the acts that are left are all bytes; so with the refusals

@@ -1,6 +1,5 @@
 use Rattle.std.proofs.Common.{◌≡◌, drop, map}
-use Rattle.format_traits.proofs.Names.{str_to_ascii_lowercase}
-use Rattle.format_traits.specs.Endings.{ending_index_from}
+use Rattle.format_traits.proofs.Names.{str_to_ascii_lowercase, ending_index_from}
 use Rattle.format_traits.proofs.lookup.find_ending.Given as goal
 
 -- no format before the index has that ending

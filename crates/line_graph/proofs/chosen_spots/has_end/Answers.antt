@@ -1,6 +1,5 @@
 use Rattle.std.proofs.Common.{pos, ap, sym, ◌∙◌, arith}
-use Rattle.line_graph.proofs.Names.{nat_tests, list_any, is_same_point}
-use Rattle.drawing_model.proofs.CallerLemmas.{ends_are}
+use Rattle.line_graph.proofs.Names.{nat_tests, list_any, is_same_point, ends_are}
 use Rattle.line_graph.proofs.chosen_spots.has_end.Goals as goal
 
 pub returns : goal.returns

@@ -1,6 +1,5 @@
 use Rattle.std.proofs.Common.{◌≡◌, ℕ, ◌+◌, ◌-◌, ◌*◌, ◌^◌, length, get_or, slice_get, Some}
-use Rattle.odd_cuts.proofs.Names.{HaveNumberedMembers, cut_faults, load_on, Edge, graph_of}
-use Rattle.odd_cuts.specs.CheckTables.{AreAtMost}
+use Rattle.odd_cuts.proofs.Names.{HaveNumberedMembers, cut_faults, load_on, Edge, graph_of, AreAtMost}
 use Rattle.odd_cuts.proofs.LoadLemmas.{load_with}
 use Rattle.odd_cuts.proofs.cut_check.loads_of.Given as goal
 

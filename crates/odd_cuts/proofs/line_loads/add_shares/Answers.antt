@@ -1,10 +1,8 @@
 use Rattle.std.proofs.Common.{◌<◌, length, arith}
-use Rattle.std.proofs.lemmas.Option.{slice_get_within}
-use Rattle.odd_cuts.proofs.Names.{Edge}
+use Rattle.odd_cuts.proofs.Names.{Edge, slice_get_within, ends_at}
 use Rattle.odd_cuts.proofs.LoadLemmas.{before_next, behind_next, most_next}
 use Rattle.odd_cuts.proofs.TableLemmas.{length_set}
 use Rattle.odd_cuts.proofs.line_loads.add_shares.Goals as goal
-use Rattle.line_graph.proofs.CallerLemmas.{ends_at}
 
 abbrev no_edge : Edge
 no_edge = record { a = 0; b = 0; cost = 0 }

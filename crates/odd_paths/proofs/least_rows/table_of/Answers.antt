@@ -1,6 +1,5 @@
 use Rattle.std.proofs.Common.{◌≡◌, ◌∙◌, ◌<◌, ◌++◌, sym}
-use Rattle.std.proofs.lemmas.List.{take-append-drop}
-use Rattle.std.proofs.lemmas.List.Elements.{All-drop}
+use Rattle.odd_paths.proofs.Names.{take-append-drop, All-drop}
 use Rattle.odd_paths.proofs.TableLemmas.{goes_on, none_left}
 use Rattle.odd_paths.proofs.least_rows.table_of.Goals as goal
 

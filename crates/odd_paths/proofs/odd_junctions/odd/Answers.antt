@@ -1,8 +1,7 @@
 use Rattle.std.proofs.Common.{◌≡◌, arith}
-use Rattle.odd_paths.proofs.Names.{graph_of, odd_junctions, odds_from, nat_tests}
+use Rattle.odd_paths.proofs.Names.{graph_of, odd_junctions, odds_from, nat_tests, degrees_few}
 use Rattle.odd_paths.proofs.DegreeLemmas.{odds_kept}
 use Rattle.odd_paths.proofs.odd_junctions.odd.Goals as goal
-use Rattle.line_graph.proofs.CallerLemmas.{degrees_few}
 
 pub odds_in-requires : goal.odds_in-requires
 odds_in-requires c = rw c.as_slice.ensures (degrees_few (graph_of c.args.p.now) c.args.p.now.kept)

@@ -1,6 +1,5 @@
 use Rattle.std.proofs.Common.{◌∙◌, ◌++◌, ◌∷◌, [], List, ℕ, ap, replicate}
-use Rattle.std.proofs.lemmas.List.{replicate-append-replicate}
-use Rattle.odd_paths.proofs.Names.{LANES, NO_WALK}
+use Rattle.odd_paths.proofs.Names.{LANES, NO_WALK, replicate-append-replicate}
 use Rattle.odd_paths.proofs.terminal_blocks.blank.Goals as goal
 
 pub loop-lane-preserved : goal.loop-lane-preserved

@@ -1,6 +1,5 @@
 use Rattle.std.proofs.Common.{arith, ap, map, List, [], ◌∷◌, ◌++◌, ℕ, sym, ◌∙◌}
-use Rattle.std.proofs.lemmas.List.FromFn.{map-range_with_len_more}
-use Rattle.odd_sets.proofs.Names.{range_with_len, vertex_slack}
+use Rattle.odd_sets.proofs.Names.{range_with_len, vertex_slack, map-range_with_len_more}
 use Rattle.odd_sets.proofs.slack_rows.single_row.Goals as goal
 
 pub loop-x-preserved : goal.loop-x-preserved

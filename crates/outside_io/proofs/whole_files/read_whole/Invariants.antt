@@ -1,6 +1,5 @@
 use Rattle.std.proofs.Common.{◌≡◌, ℕ, ◌≤◌, List, Some, ◌+◌, ◌-◌, length, take}
-use Rattle.outside_io.proofs.Names.{HasNoNewFault}
-use Rattle.outside_io.specs.FileParts.{IsFilePrefix}
+use Rattle.outside_io.proofs.Names.{HasNoNewFault, IsFilePrefix}
 use Rattle.outside_io.proofs.whole_files.read_whole.Given as goal
 
 -- The bytes read so far are a prefix of the file, if it is visible.

@@ -1,6 +1,5 @@
-use Rattle.std.proofs.lemmas.Bool.Decides.{nat_tests}
 use Rattle.std.proofs.Common.{arith}
-use Rattle.std.proofs.lemmas.List.{take_rest}
+use Rattle.outside_io.proofs.Names.{nat_tests, take_rest}
 use Rattle.outside_io.proofs.StreamLemmas.{adds_more}
 use Rattle.outside_io.proofs.writing.write_all.Goals as goal
 

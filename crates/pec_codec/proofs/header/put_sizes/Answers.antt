@@ -1,5 +1,5 @@
 use Rattle.std.proofs.Common.{ℕ, ◌<◌, ◌^◌, true, false, subst, sym}
-use Rattle.design_model.specs.Extents.{needle_points_of_design}
+use Rattle.pec_codec.proofs.Names.{needle_points_of_design}
 use Rattle.pec_codec.proofs.ExtentLemmas.{low, narrow, needles_near}
 use Rattle.pec_codec.proofs.header.put_sizes.Goals as goal
 

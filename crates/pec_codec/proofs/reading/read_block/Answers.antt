@@ -1,5 +1,5 @@
 use Rattle.std.proofs.Common.{◌≡◌, drop, subst, rules}
-use Rattle.format_traits.specs.Laws.{DecodesTo}
+use Rattle.pec_codec.proofs.Names.{DecodesTo}
 use Rattle.pec_codec.proofs.ReadingLemmas.{reads_there}
 use Rattle.pec_codec.proofs.reading.read_block.Goals as goal
 

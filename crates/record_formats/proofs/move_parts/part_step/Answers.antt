@@ -1,6 +1,5 @@
 use Rattle.std.proofs.Common.{◌≡◌, ◌≤◌, ◌+◌, ◌-ℤ◌, ◌*ℤ◌, pos, unsigned_abs, subst, sym, ap, ◌∙◌, arith, rules}
-use Rattle.std.proofs.Math.Nat.{mul_comm}
-use Rattle.record_formats.proofs.Names.{to_z-of_z, w32, int_div_euclid}
+use Rattle.record_formats.proofs.Names.{to_z-of_z, w32, int_div_euclid, mul_comm}
 use mir.Val.{to_z, of_z, SFits}
 use Rattle.record_formats.proofs.rereading.Hops.{axis_step}
 use Rattle.record_formats.proofs.move_parts.part_step.Goals as goal

@@ -1,8 +1,7 @@
 use Rattle.std.proofs.Common.{◌<◌, ap, arith, length}
-use Rattle.route_core.proofs.Names.{nat_tests, graph_of}
+use Rattle.route_core.proofs.Names.{nat_tests, graph_of, is_wide}
 use Rattle.route_core.proofs.DistanceLemmas.{row_most, terminal_there}
 use Rattle.route_core.proofs.distances.fill.Goals as goal
-use Rattle.odd_paths.proofs.CallerLemmas.{is_wide}
 
 pub loop-b-init : goal.loop-b-init
 loop-b-init c = grind (arith, nat_tests)

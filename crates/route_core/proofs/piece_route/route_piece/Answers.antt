@@ -1,8 +1,7 @@
 use Rattle.std.proofs.Common.{◌≡◌, ◌∙◌, ◌<◌, ◌≤◌, ◌%◌, ◌^◌, List, ℕ, arith, length, subst, sym, ap}
-use Rattle.route_core.proofs.Names.{Pair, MAX_COST, MAX_LINES, graph_of, AreTerminals, pair_costs, IsWalkBy}
+use Rattle.route_core.proofs.Names.{Pair, MAX_COST, MAX_LINES, graph_of, AreTerminals, pair_costs, IsWalkBy, odds_are_terminals}
 use Rattle.route_core.proofs.LeastCertLemmas.{pairs_cost_few, proves, spelled}
 use Rattle.route_core.proofs.piece_route.route_piece.Goals as goal
-use Rattle.odd_paths.proofs.CallerLemmas.{odds_are_terminals}
 
 pub rows-requires : goal.rows-requires
 rows-requires c =

@@ -1,4 +1,4 @@
-use Rattle.sample_drawings.specs.Samples.{grid_junction, junctions_per_side}
+use Rattle.sample_drawings.proofs.Names.{grid_junction, junctions_per_side}
 use Rattle.sample_drawings.proofs.DrawLemmas.{junction_next, place_added, state_moved}
 use Rattle.sample_drawings.proofs.grid.junctions.Goals as goal
 

@@ -1,7 +1,5 @@
 use Rattle.std.proofs.Common.{◌≡◌, ◌*◌}
-use Rattle.sample_drawings.specs.Draws.{state_after}
-use Rattle.sample_drawings.specs.Grids.{by_index}
-use Rattle.sample_drawings.specs.Samples.{grid_junction, junctions_per_side}
+use Rattle.sample_drawings.proofs.Names.{state_after, by_index, grid_junction, junctions_per_side}
 use Rattle.sample_drawings.proofs.grid.junctions.Given as goal
 
 -- the junctions so far, each by two draws

@@ -1,4 +1,4 @@
-use Rattle.sample_drawings.specs.Samples.{cells_per_side, cell_kind}
+use Rattle.sample_drawings.proofs.Names.{cells_per_side, cell_kind}
 use Rattle.sample_drawings.proofs.DrawLemmas.{kind_next, place_added, state_told}
 use Rattle.sample_drawings.proofs.grid.kinds.Goals as goal
 

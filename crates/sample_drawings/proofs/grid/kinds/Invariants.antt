@@ -1,7 +1,5 @@
 use Rattle.std.proofs.Common.{◌≡◌, ◌+◌}
-use Rattle.sample_drawings.specs.Draws.{state_after}
-use Rattle.sample_drawings.specs.Grids.{by_index}
-use Rattle.sample_drawings.specs.Samples.{cells_per_side, cell_kind, junction_draws}
+use Rattle.sample_drawings.proofs.Names.{state_after, by_index, cells_per_side, cell_kind, junction_draws}
 use Rattle.sample_drawings.proofs.grid.kinds.Given as goal
 
 -- the kinds so far, each by one draw

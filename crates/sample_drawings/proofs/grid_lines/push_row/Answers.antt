@@ -1,4 +1,4 @@
-use Rattle.sample_drawings.specs.GridLines.{lines_at_cell}
+use Rattle.sample_drawings.proofs.Names.{lines_at_cell}
 use Rattle.sample_drawings.proofs.RowLemmas.{made_more}
 use Rattle.sample_drawings.proofs.grid_lines.push_row.Goals as goal
 

@@ -1,4 +1,4 @@
-use Rattle.sample_drawings.specs.GridLines.{lines_in_row}
+use Rattle.sample_drawings.proofs.Names.{lines_in_row}
 use Rattle.sample_drawings.proofs.RowLemmas.{made_more}
 use Rattle.sample_drawings.proofs.grid_lines.push_rows.Goals as goal
 

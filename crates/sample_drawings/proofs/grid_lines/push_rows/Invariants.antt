@@ -1,6 +1,5 @@
 use Rattle.std.proofs.Common.{◌≡◌, ◌++◌, flat_map}
-use Rattle.std.specs.List.{range_with_len}
-use Rattle.sample_drawings.specs.GridLines.{lines_in_row}
+use Rattle.sample_drawings.proofs.Names.{range_with_len, lines_in_row}
 use Rattle.sample_drawings.proofs.grid_lines.push_rows.Given as goal
 
 -- the lines of the rows so far

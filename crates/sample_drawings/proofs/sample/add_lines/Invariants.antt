@@ -1,5 +1,5 @@
 use Rattle.std.proofs.Common.{◌≡◌, drop, length}
-use Rattle.sample_drawings.specs.SampleRoom.{HasRoom, with_segments}
+use Rattle.sample_drawings.proofs.Names.{HasRoom, with_segments}
 use Rattle.sample_drawings.proofs.sample.add_lines.Given as goal
 
 -- there is room for the lines that are left, and with them the drawing has all

@@ -1,8 +1,5 @@
 use Rattle.std.proofs.Common.{◌∙◌, ap}
-use Rattle.drawing_model.specs.Drawings.{DrawingValue}
-use Rattle.drawing_model.specs.GrowingDrawings.{finished_drawing}
-use Rattle.sample_drawings.specs.Samples.{sample_segments}
-use Rattle.sample_drawings.specs.SampleRoom.{first_block, with_segments}
+use Rattle.sample_drawings.proofs.Names.{DrawingValue, finished_drawing, sample_segments, first_block, with_segments}
 use Rattle.sample_drawings.proofs.ShortLines.{all_short, few_lines}
 use Rattle.sample_drawings.proofs.SampleRoomLemmas.{first_room, never, sample_ends}
 use Rattle.sample_drawings.proofs.sample.sample_drawing.Goals as goal

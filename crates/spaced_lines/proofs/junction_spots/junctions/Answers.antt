@@ -1,6 +1,5 @@
 use Rattle.std.proofs.Common.{drop, arith}
-use Rattle.std.proofs.lemmas.List.{drop_all, drop_more}
-use Rattle.spaced_lines.proofs.Names.{contains, is_same_spot, nat_tests}
+use Rattle.spaced_lines.proofs.Names.{contains, is_same_spot, nat_tests, drop_all, drop_more}
 use Rattle.spaced_lines.proofs.JunctionLemmas.{junctions_go_on}
 use Rattle.spaced_lines.proofs.junction_spots.junctions.Goals as goal
 

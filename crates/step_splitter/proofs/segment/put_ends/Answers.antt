@@ -1,7 +1,6 @@
 use Rattle.std.proofs.Common.{◌+◌, ◌++◌, ◌≡◌, ◌∷◌, [], map, rules, arith}
 use Rattle.std.proofs.lemmas.List.{append_assoc}
-use Rattle.std.proofs.lemmas.List.FromFn.{map-range_with_len_more}
-use Rattle.step_splitter.proofs.Names.{range_with_len, point_on_segment}
+use Rattle.step_splitter.proofs.Names.{range_with_len, point_on_segment, map-range_with_len_more}
 use Rattle.step_splitter.proofs.segment.put_ends.Goals as goal
 
 pub loop-index-preserved : goal.loop-index-preserved

@@ -1,6 +1,5 @@
 use Rattle.std.proofs.Common.{◌≡◌, ◌-ℤ◌, ◌<ℤ◌, FitsSigned, w32, unsigned_abs, rules, arith}
-use Rattle.std.proofs.lemmas.Int.{to_z-of_z}
-use Rattle.step_splitter.proofs.Names.{ints}
+use Rattle.step_splitter.proofs.Names.{ints, to_z-of_z}
 use Rattle.step_splitter.proofs.AxisLemmas.{coordinate_on_segment-down}
 use Rattle.step_splitter.proofs.segment_points.number_on.Goals as goal
 

@@ -1,4 +1,4 @@
-use Rattle.program_shell.proofs.CallerLemmas.{settles_next}
+use Rattle.stitch_cli.proofs.Names.{settles_next}
 use Rattle.stitch_cli.proofs.checking.check_loaded.Goals as goal
 
 pub returns : goal.returns

@@ -1,5 +1,4 @@
-use Rattle.stitch_cli.proofs.Names.{hoop_read, settles_taken}
-use Rattle.stitch_cli.specs.Hoops.{hoop_order}
+use Rattle.stitch_cli.proofs.Names.{hoop_read, settles_taken, hoop_order}
 use Rattle.stitch_cli.proofs.hooping.hoop_by.Goals as goal
 
 pub returns-clause-prepares : goal.returns-clause-prepares

@@ -1,6 +1,5 @@
 use Rattle.std.proofs.Common.{subst}
-use Rattle.stitch_cli.proofs.Names.{Meaning, RunsPurePlan, satisfies, change_list, IsRewriteResult, rewrite_read, settles_taken, same_format}
-use Rattle.stitch_cli.specs.Rewrites.{rewrite_order}
+use Rattle.stitch_cli.proofs.Names.{Meaning, RunsPurePlan, satisfies, change_list, IsRewriteResult, rewrite_read, settles_taken, same_format, rewrite_order}
 use Rattle.stitch_cli.proofs.rewriting.rewrite_by.Goals as goal
 
 pub returns-clause-prepares : goal.returns-clause-prepares

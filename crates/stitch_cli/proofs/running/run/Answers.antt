@@ -1,5 +1,4 @@
-use Rattle.program_shell.proofs.CallerLemmas.{can_finish, ends}
-use Rattle.stitch_cli.proofs.Names.{stitch}
+use Rattle.stitch_cli.proofs.Names.{stitch, can_finish, ends}
 use Rattle.stitch_cli.proofs.CommandLemmas.{stitch_sound}
 use Rattle.stitch_cli.proofs.running.run.Goals as goal
 

@@ -1,5 +1,4 @@
-use Rattle.stitch_cli.proofs.Names.{settles_taken, IsSewnBy, sewing_read}
-use Rattle.stitch_cli.specs.Sewings.{sewing_order}
+use Rattle.stitch_cli.proofs.Names.{settles_taken, IsSewnBy, sewing_read, sewing_order}
 use Rattle.stitch_cli.proofs.sewing.sew_by.Goals as goal
 
 pub returns : goal.returns

@@ -1,6 +1,5 @@
 use Rattle.std.proofs.Common.{Ok, subst}
-use Rattle.stitch_cli.proofs.Names.{Meaning, RunsPurePlan, show_read, settles_taken, same_format}
-use Rattle.stitch_cli.specs.Shows.{show_order}
+use Rattle.stitch_cli.proofs.Names.{Meaning, RunsPurePlan, show_read, settles_taken, same_format, show_order}
 use Rattle.stitch_cli.proofs.showing.show_by.Goals as goal
 
 pub returns-clause-prepares : goal.returns-clause-prepares

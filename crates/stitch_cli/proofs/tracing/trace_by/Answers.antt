@@ -1,5 +1,4 @@
-use Rattle.stitch_cli.proofs.Names.{trace_read, settles_taken}
-use Rattle.stitch_cli.specs.Tracings.{trace_order}
+use Rattle.stitch_cli.proofs.Names.{trace_read, settles_taken, trace_order}
 use Rattle.stitch_cli.proofs.tracing.trace_by.Goals as goal
 
 pub returns-clause-prepares : goal.returns-clause-prepares

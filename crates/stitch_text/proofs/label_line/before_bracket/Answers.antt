@@ -1,7 +1,5 @@
 use Rattle.std.proofs.Common.{◌∷◌, [], arith}
-use Rattle.std.proofs.lemmas.Bool.Decides.{Decides-eqb}
-use Rattle.std.proofs.lemmas.Slice.Eq.{strip_suffix_is}
-use Rattle.stitch_text.proofs.Names.{nat_tests}
+use Rattle.stitch_text.proofs.Names.{nat_tests, Decides-eqb, strip_suffix_is}
 use Rattle.stitch_text.proofs.label_line.before_bracket.Goals as goal
 
 pub returns-clause-some : goal.returns-clause-some

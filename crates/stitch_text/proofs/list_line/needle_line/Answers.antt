@@ -1,5 +1,5 @@
 use Rattle.std.proofs.Common.{sym}
-use Rattle.stitch_text.specs.ListLines.{needle_word}
+use Rattle.stitch_text.proofs.Names.{needle_word}
 use Rattle.stitch_text.proofs.ReadingLemmas.{many_words}
 use Rattle.stitch_text.proofs.list_line.needle_line.Goals as goal
 

@@ -1,6 +1,5 @@
 use Rattle.std.proofs.Common.{◌≡◌, ◌+◌, ◌-◌, ◌++◌, drop, ap, arith, rules, to_z-of_z}
-use Rattle.std.proofs.lemmas.Fmt.{length-decimal-le}
-use Rattle.std.proofs.lemmas.List.{drop-set}
+use Rattle.stitch_text.proofs.Names.{length-decimal-le, drop-set}
 use Rattle.stitch_text.proofs.NumberLemmas.{minus_first}
 use Rattle.stitch_text.proofs.point_line.number_before.Goals as goal
 

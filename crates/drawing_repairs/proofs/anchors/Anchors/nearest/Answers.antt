@@ -1,6 +1,5 @@
 use Rattle.std.proofs.Common.{List, ap, ◌∙◌}
-use Rattle.drawing_repairs.proofs.Names.{get, Point, Cell, nearest_anchor, is_same_cell, points_in_cell}
-use Rattle.drawing_repairs.specs.Cells.{AnchorsValue}
+use Rattle.drawing_repairs.proofs.Names.{get, Point, Cell, nearest_anchor, is_same_cell, points_in_cell, AnchorsValue}
 use Rattle.drawing_repairs.proofs.CellLemmas.{nearest_in_cell}
 use Rattle.drawing_repairs.proofs.anchors.Anchors.nearest.Goals as goal
 

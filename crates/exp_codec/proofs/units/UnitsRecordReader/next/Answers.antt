@@ -1,6 +1,5 @@
 use Rattle.std.proofs.Common.{◌≤◌, ◌+◌, ◌++◌, true, length, get_or, drop, refl, sym, ap, ◌∙◌, subst, arith}
-use Rattle.std.proofs.lemmas.Bool.{and_from}
-use Rattle.exp_codec.proofs.Names.{length-drop, is_point_within, next, units_from, record_or_refusal, event_of_control}
+use Rattle.exp_codec.proofs.Names.{length-drop, is_point_within, next, units_from, record_or_refusal, event_of_control, and_from}
 use Rattle.record_formats.specs.declared.event.Event.TheVariants as event
 use Rattle.record_formats.specs.declared.record_reader.TheConstants.{MAX_RECORD_MOVE}
 use Rattle.exp_codec.proofs.UnitLemmas.{two_bytes, four_bytes, behind_two}

@@ -1,4 +1,4 @@
-use Rattle.design_model.specs.Acts.{acts_along}
+use Rattle.record_formats.proofs.Names.{acts_along}
 use Rattle.record_formats.proofs.WriterLemmas.{records_put}
 use Rattle.record_formats.proofs.act_writing.ActRecords.put_acts.Goals as goal
 

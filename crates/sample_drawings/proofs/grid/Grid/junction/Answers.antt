@@ -1,5 +1,5 @@
 use Rattle.std.proofs.Common.{◌∙◌}
-use Rattle.sample_drawings.specs.Samples.{grid_junction, junctions_per_side}
+use Rattle.sample_drawings.proofs.Names.{grid_junction, junctions_per_side}
 use Rattle.sample_drawings.proofs.DrawLemmas.{place_found, place_there}
 use Rattle.sample_drawings.proofs.grid.Grid.junction.Goals as goal
 

@@ -1,5 +1,5 @@
 use Rattle.std.proofs.Common.{◌∙◌}
-use Rattle.sample_drawings.specs.Samples.{cells_per_side, cell_kind}
+use Rattle.sample_drawings.proofs.Names.{cells_per_side, cell_kind}
 use Rattle.sample_drawings.proofs.DrawLemmas.{place_found, place_there}
 use Rattle.sample_drawings.proofs.grid.Grid.kind.Goals as goal
 
