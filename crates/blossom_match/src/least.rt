@@ -1,16 +1,16 @@
 ghost use Rattle.std.specs.Prelude.{◌≡◌, ◌≢◌, ◌≤◌, ◌<◌, ◌∷◌, [], ℕ, length, slice_index};
-ghost use Rattle.odd_sets.specs.DualSets.{count};
-ghost use Rattle.odd_sets.specs.Trees.{outer_members, count_holding_both};
-ghost use Rattle.odd_sets.specs.Heights.{HasCells};
-ghost use Rattle.odd_sets.specs.Tables.{IsTable};
-ghost use Rattle.blossom_match.specs.LeastChanges.{step_of, IsLeastChange, CanSearch, IsLesserChange, IsLesserChangeAt};
-ghost use Rattle.blossom_match.specs.Searches.{stored_height, outer_vertices};
-ghost use Rattle.blossom_match.specs.OuterSlacks.{slack_from, HasOuterCells, IsOuterSlack, AreSearchSlacks};
-ghost use Rattle.odd_sets.specs.Slots.{branch_in, branches_in, set_in};
-ghost use Rattle.blossom_match.specs.Masks.{masked_slack, IsBestShown, IsMaskedSlack, IsSearchMask};
-ghost use Rattle.blossom_match.specs.States.{search_value};
 ghost use Rattle.blossom_match.specs.Candidates.{change_of, IsBestCandidate, IsCandidateAmong, CanFindEdge, IsCandidateChange, FindsSlackInSet, FindsSlackIn};
+ghost use Rattle.blossom_match.specs.LeastChanges.{step_of, IsLeastChange, CanSearch, IsLesserChange, IsLesserChangeAt};
+ghost use Rattle.blossom_match.specs.Masks.{masked_slack, IsBestShown, IsMaskedSlack, IsSearchMask};
+ghost use Rattle.blossom_match.specs.OuterSlacks.{slack_from, HasOuterCells, IsOuterSlack, AreSearchSlacks};
+ghost use Rattle.blossom_match.specs.Searches.{stored_height, outer_vertices};
+ghost use Rattle.blossom_match.specs.States.{search_value};
 ghost use Rattle.blossom_match.specs.declared.least.Kind.TheVariants as kind;
+ghost use Rattle.odd_sets.specs.DualSets.{count};
+ghost use Rattle.odd_sets.specs.Heights.{HasCells};
+ghost use Rattle.odd_sets.specs.Slots.{branch_in, branches_in, set_in};
+ghost use Rattle.odd_sets.specs.Tables.{IsTable};
+ghost use Rattle.odd_sets.specs.Trees.{outer_members, count_holding_both};
 ghost use Rattle.odd_sets.specs.declared.table.TheConstants.{FAR, MAX_PLACES};
 
 use crate::search::SearchStep;

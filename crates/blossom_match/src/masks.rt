@@ -1,11 +1,11 @@
 ghost use Rattle.std.specs.Prelude.{◌≤◌, drop, length};
-ghost use Rattle.odd_sets.specs.DualSets.{count};
-ghost use Rattle.odd_sets.specs.MatchedSets.{match_members};
-ghost use Rattle.odd_sets.specs.Heights.{HasCells};
 ghost use Rattle.blossom_match.specs.Masks.{branch_members};
+ghost use Rattle.blossom_match.specs.States.{search_value};
+ghost use Rattle.odd_sets.specs.DualSets.{count};
+ghost use Rattle.odd_sets.specs.Heights.{HasCells};
+ghost use Rattle.odd_sets.specs.MatchedSets.{match_members};
 ghost use Rattle.odd_sets.specs.SlackRows.{SetsCells};
 ghost use Rattle.odd_sets.specs.Slots.{branch_in, matches_in};
-ghost use Rattle.blossom_match.specs.States.{search_value};
 ghost use Rattle.odd_sets.specs.declared.table.TheConstants.{FAR};
 
 use crate::state::Search;

@@ -1,12 +1,12 @@
 ghost use Rattle.std.specs.Prelude.{◌≡◌, ◌≤◌, ◌<◌, ◌+◌, ℕ, drop, length, slice_index, take};
-ghost use Rattle.odd_sets.specs.Lists.{Each};
+ghost use Rattle.blossom_match.specs.OuterSlacks.{HasSlacks, HasSlackCells, AddsOuterSlacks, ComputesRootSlacks};
+ghost use Rattle.blossom_match.specs.States.{search_value};
 ghost use Rattle.odd_sets.specs.DualSets.{count};
 ghost use Rattle.odd_sets.specs.Folds.{FoldsCells};
 ghost use Rattle.odd_sets.specs.Heights.{HasCells};
+ghost use Rattle.odd_sets.specs.Lists.{Each};
 ghost use Rattle.odd_sets.specs.SlackRows.{lowered_slack, MergesSlacks};
-ghost use Rattle.blossom_match.specs.OuterSlacks.{HasSlacks, HasSlackCells, AddsOuterSlacks, ComputesRootSlacks};
 ghost use Rattle.odd_sets.specs.Slots.{branches_in, set_in};
-ghost use Rattle.blossom_match.specs.States.{search_value};
 ghost use Rattle.odd_sets.specs.declared.table.TheConstants.{FAR};
 
 use crate::state::Search;

@@ -1,12 +1,12 @@
 ghost use Rattle.std.specs.Prelude.{◌≡◌, ◌≤◌, ◌<◌, ◌+◌, ◌++◌, ◌∷◌, [], length, IfOk};
-ghost use Rattle.odd_sets.specs.Tables.{IsMetric};
 ghost use Rattle.blossom_match.specs.LeastChanges.{CanSearch};
-ghost use Rattle.blossom_match.specs.Searches.{CanStepAt};
-ghost use Rattle.blossom_match.specs.OuterSlacks.{AreSearchSlacks};
 ghost use Rattle.blossom_match.specs.Masks.{IsSearchMask};
-ghost use Rattle.odd_sets.specs.Slots.{matches_in};
-ghost use Rattle.blossom_match.specs.States.{search_value};
+ghost use Rattle.blossom_match.specs.OuterSlacks.{AreSearchSlacks};
 ghost use Rattle.blossom_match.specs.Phases.{BeginsSearch, MakesProgress, IsStepResult, IsPartialWithHeights, IsPartialState, IsStepMask, AreStepSlacks};
+ghost use Rattle.blossom_match.specs.Searches.{CanStepAt};
+ghost use Rattle.blossom_match.specs.States.{search_value};
+ghost use Rattle.odd_sets.specs.Slots.{matches_in};
+ghost use Rattle.odd_sets.specs.Tables.{IsMetric};
 
 use crate::adjustment::adjust;
 use crate::least::least;

@@ -1,6 +1,6 @@
 ghost use Rattle.std.specs.Prelude.{◌≡◌};
-ghost use Rattle.design_files.specs.declared.loading.LoadFault.TheVariants as load;
 ghost use Rattle.design_files.specs.Loading.{FeedsFile, Loads};
+ghost use Rattle.design_files.specs.declared.loading.LoadFault.TheVariants as load;
 ghost use Rattle.format_traits.specs.Feeding.{HasNothingFed};
 ghost use Rattle.outside_io.specs.Files.{IsFileName};
 

@@ -3,8 +3,8 @@ ghost use Rattle.drawing_commands.specs.Commands.{drawing_usage_text, stitch_dra
 ghost use Rattle.drawing_commands.specs.Requests.{drawing_order_of};
 ghost use Rattle.program_shell.specs.Messages.{out_of_memory_line};
 ghost use Rattle.program_shell.specs.Puts.{ReportsLineWithStatus};
-ghost use Rattle.program_shell.specs.Runs.{RunEnds};
 ghost use Rattle.program_shell.specs.RunViews.{views_of};
+ghost use Rattle.program_shell.specs.Runs.{RunEnds};
 ghost use Rattle.program_shell.specs.declared.status.Status.TheVariants as status;
 
 use crate::commands::make_product;

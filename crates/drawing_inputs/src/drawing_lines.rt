@@ -1,9 +1,9 @@
 ghost use Rattle.std.specs.Prelude.{◌≤◌, IfOk, length};
-ghost use Rattle.lists_and_numbers.specs.OutOfMemory.{IsSpecified};
 ghost use Rattle.drawing_inputs.specs.DrawingLines.{lines_read};
 ghost use Rattle.drawing_model.specs.EndOrders.{HasOrderedEnds};
-ghost use Rattle.drawing_text.specs.declared.limits.TheConstants.{MAX_TEXT};
 ghost use Rattle.drawing_text.specs.DrawingText.{draw_fault_is_out_of_memory};
+ghost use Rattle.drawing_text.specs.declared.limits.TheConstants.{MAX_TEXT};
+ghost use Rattle.lists_and_numbers.specs.OutOfMemory.{IsSpecified};
 ghost use Rattle.outside_io.specs.Files.{IsFileName};
 ghost use Rattle.program_shell.specs.StepOutcomes.{ParsesInput};
 ghost use Rattle.program_texts.specs.DrawingTexts.{draw_fault_text};

@@ -1,7 +1,7 @@
+ghost use Rattle.std.specs.List.{flat_map};
 ghost use Rattle.std.specs.Prelude.{◌≡◌, ◌++◌, ◌<◌, All, OnOk, length, map, reverse};
 ghost use Rattle.drawing_picture.specs.BandTexts.{band_text, bands_of_lines, bands_of_pieces};
 ghost use Rattle.drawing_picture.specs.Bands.{bands_from};
-ghost use Rattle.std.specs.List.{flat_map};
 ghost use Rattle.line_graph.specs.PiecesOfDrawings.{graph_of};
 
 use crate::bands::{FreeWays, put_bands};

@@ -1,5 +1,5 @@
-ghost use Rattle.std.specs.Prelude.{◌≡◌, ◌++◌, OnOk};
 ghost use Rattle.std.specs.List.{flat_map};
+ghost use Rattle.std.specs.Prelude.{◌≡◌, ◌++◌, OnOk};
 ghost use Rattle.drawing_picture.specs.LinePaths.{block_colour, line_path, line_paths, path_text};
 ghost use Rattle.picture_parts.specs.Paths.{straight_text};
 

@@ -1,5 +1,5 @@
-ghost use Rattle.std.specs.Prelude.{◌≡◌, IfOk};
 ghost use Rattle.std.specs.List.{flat_map, list_any};
+ghost use Rattle.std.specs.Prelude.{◌≡◌, IfOk};
 ghost use Rattle.design_model.specs.Points.{is_same_point};
 ghost use Rattle.drawing_repairs.specs.EndGroups.{AreBetween, is_beyond_gap, widened_bounds};
 ghost use Rattle.drawing_repairs.specs.Listings.{due_end, is_due};

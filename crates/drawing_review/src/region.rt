@@ -1,5 +1,5 @@
-ghost use Rattle.std.specs.Prelude.{◌≡◌, IfOk};
 ghost use Rattle.std.specs.List.{flat_map, list_any};
+ghost use Rattle.std.specs.Prelude.{◌≡◌, IfOk};
 ghost use Rattle.drawing_review.specs.Groups.{AreInside};
 ghost use Rattle.drawing_review.specs.Queries.{is_match, query_frame};
 

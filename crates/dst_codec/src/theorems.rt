@@ -1,7 +1,7 @@
-ghost use Rattle.format_traits.specs.Laws.{KeepsAllLaws};
 ghost use Rattle.dst_codec.specs.Format.{dst_meaning};
 ghost use Rattle.dst_codec.specs.Laws.{LabelRoundTrips, ReadMovesAreWritable};
 ghost use Rattle.dst_codec.specs.OneEncoding.{MovesHaveOneEncoding};
+ghost use Rattle.format_traits.specs.Laws.{KeepsAllLaws};
 
 use format_traits::{accepted_designs_are_small, codecs_keep_the_laws, label_fields_round_trip};
 use record_formats::encoded_acts_round_trip;

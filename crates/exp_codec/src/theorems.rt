@@ -1,5 +1,5 @@
-ghost use Rattle.format_traits.specs.Laws.{KeepsAllLaws};
 ghost use Rattle.exp_codec.specs.Format.{exp_meaning};
+ghost use Rattle.format_traits.specs.Laws.{KeepsAllLaws};
 
 use format_traits::codecs_keep_the_laws;
 use record_formats::encoded_acts_round_trip;

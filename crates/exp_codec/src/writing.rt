@@ -1,6 +1,6 @@
-ghost use Rattle.format_traits.specs.Laws.{KeepsLaws, EncodesTo};
 ghost use Rattle.exp_codec.specs.Format.{exp_meaning};
 ghost use Rattle.exp_codec.specs.Writing.{exp_writes};
+ghost use Rattle.format_traits.specs.Laws.{KeepsLaws, EncodesTo};
 
 use crate::theorems::written_reads_again;
 use crate::unit_writer::UnitWriter;

@@ -1,8 +1,8 @@
-ghost use Rattle.std.specs.Prelude.{◌≡◌, ◌≤◌, length, IsTrue};
 ghost use Rattle.std.specs.List.{list_all};
-ghost use Rattle.design_model.specs.declared.design.TheConstants.{MAX_COMMANDS};
+ghost use Rattle.std.specs.Prelude.{◌≡◌, ◌≤◌, length, IsTrue};
 ghost use Rattle.design_model.specs.Acts.{acts_along};
 ghost use Rattle.design_model.specs.Commands.{is_command_in_range};
+ghost use Rattle.design_model.specs.declared.design.TheConstants.{MAX_COMMANDS};
 ghost use Rattle.format_traits.specs.ActWriting.{AppendsActs};
 
 use crate::encoder_state::{EncoderState, WriteLimits};

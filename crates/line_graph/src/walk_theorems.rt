@@ -1,8 +1,8 @@
+ghost use Rattle.line_graph.specs.ConnectedSpots.{SpotsAreConnected};
 ghost use Rattle.line_graph.specs.DrawnWalks.{FittingWalksAreThreads, GivenPointsAreJunctions, PiecesAreValid};
-ghost use Rattle.line_graph.specs.UniquePieces.{PiecesAreUnique};
 ghost use Rattle.line_graph.specs.Runs.{RunsAreSewn};
 ghost use Rattle.line_graph.specs.SewnWalks.{FittingWalksAreSewable, PiecesKeepLimits};
-ghost use Rattle.line_graph.specs.ConnectedSpots.{SpotsAreConnected};
+ghost use Rattle.line_graph.specs.UniquePieces.{PiecesAreUnique};
 
 use drawing_model::needles_lead_along;
 use step_splitter::split_points_lead;

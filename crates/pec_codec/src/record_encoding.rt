@@ -1,8 +1,8 @@
 ghost use Rattle.std.specs.Prelude.{◌≡◌, ◌<◌, ◌≤◌, ◌*◌, ◌++◌, OnOk, IsTrue, unsigned_abs};
 ghost use Rattle.design_model.specs.Points.{is_point_within};
-ghost use Rattle.pec_codec.specs.declared.block.TheConstants.{LIMIT};
 ghost use Rattle.pec_codec.specs.Coordinates.{is_short_number, long_bytes_of, to_twos_complement};
 ghost use Rattle.pec_codec.specs.RecordBytes.{pec_jump_record, long_record, pec_stitch_record, pec_stop_record, pec_trim_record, stop_byte_of};
+ghost use Rattle.pec_codec.specs.declared.block.TheConstants.{LIMIT};
 
 use crate::block::LIMIT;
 use design_model::Point;

@@ -1,5 +1,5 @@
-ghost use Rattle.program_shell.specs.RunViews.{views_of};
 ghost use Rattle.program_shell.specs.FinishedRuns.{FinishesRun};
+ghost use Rattle.program_shell.specs.RunViews.{views_of};
 ghost use Rattle.program_shell.specs.StepOutcomes.{CanFinish};
 
 use crate::delivery::deliver;

@@ -1,6 +1,6 @@
+ghost use Rattle.program_shell.specs.FinishedRuns.{failure_line};
 ghost use Rattle.program_shell.specs.Messages.{cannot_print_line, cannot_read_line, cannot_write_line, message_line, named_line, out_of_memory_line};
 ghost use Rattle.program_shell.specs.Puts.{ReportsLineWithStatus};
-ghost use Rattle.program_shell.specs.FinishedRuns.{failure_line};
 ghost use Rattle.program_shell.specs.StepOutcomes.{status_of};
 ghost use Rattle.program_shell.specs.declared.status.Status.TheVariants as status;
 

@@ -1,8 +1,8 @@
 ghost use Rattle.std.specs.Prelude.{◌≡◌, ◌-◌, ◌<◌, ◌^◌, All, IfOk, length, map};
 ghost use Rattle.line_graph.specs.PiecesOfDrawings.{ArePiecesOf, graph_of, lines_of_pieces};
 ghost use Rattle.route_verdict.specs.LeastRedwork.{IsLeastRedwork};
-ghost use Rattle.route_verdict.specs.Verdicts.{HasShortLists, IsVerdict, IsVerdictOver, reason_of, difference_of, acts_reason, verdict_of_reason};
 ghost use Rattle.route_verdict.specs.SewingSteps.{AllDrawn};
+ghost use Rattle.route_verdict.specs.Verdicts.{HasShortLists, IsVerdict, IsVerdictOver, reason_of, difference_of, acts_reason, verdict_of_reason};
 ghost use Rattle.route_verdict.specs.declared.verdict.Verdict.TheVariants as verdict;
 
 use crate::act_order::first_difference;

@@ -1,6 +1,6 @@
-ghost use Rattle.std.specs.Prelude.{◌≡◌, ◌++◌, ◌∷◌, [], List, IfOk, OnOk, map};
 ghost use Rattle.std.specs.HashSet.{contains};
 ghost use Rattle.std.specs.List.{list_all};
+ghost use Rattle.std.specs.Prelude.{◌≡◌, ◌++◌, ◌∷◌, [], List, IfOk, OnOk, map};
 ghost use Rattle.design_model.specs.declared.point.Point.{Point as PointValue};
 ghost use Rattle.drawing_review.specs.Frames.{grid_point};
 ghost use Rattle.drawing_review.specs.Meetings.{is_near};

@@ -1,14 +1,14 @@
 ghost use Rattle.std.specs.Prelude.{◌≡◌, ◌<◌, IfOk, Some, length, map, option_map, slice_get};
+ghost use Rattle.command_words.specs.ValidNames.{AreFileNames};
+ghost use Rattle.drawing_text.specs.DrawingText.{IsJoinedWithoutEnds};
 ghost use Rattle.format_traits.specs.Endings.{format_of};
 ghost use Rattle.format_traits.specs.Meanings.{Meaning};
-ghost use Rattle.drawing_text.specs.DrawingText.{IsJoinedWithoutEnds};
-ghost use Rattle.command_words.specs.ValidNames.{AreFileNames};
-ghost use Rattle.program_texts.specs.DrawingTexts.{trace_fault_text};
-ghost use Rattle.stitch_trace.specs.Traces.{traced};
-ghost use Rattle.program_shell.specs.StepOutcomes.{IsRefusalWith, RunsPlan, RunsPurePlan, RunsRequest};
-ghost use Rattle.stitch_cli.specs.Commands.{stitch, tracing};
 ghost use Rattle.program_shell.specs.Products.{product_value};
+ghost use Rattle.program_shell.specs.StepOutcomes.{IsRefusalWith, RunsPlan, RunsPurePlan, RunsRequest};
+ghost use Rattle.program_texts.specs.DrawingTexts.{trace_fault_text};
+ghost use Rattle.stitch_cli.specs.Commands.{stitch, tracing};
 ghost use Rattle.stitch_cli.specs.Tracings.{IsTraced, complete_trace, trace_made, trace_order, trace_plan};
+ghost use Rattle.stitch_trace.specs.Traces.{traced};
 
 use command_words::FileNames;
 use design_model::Design;

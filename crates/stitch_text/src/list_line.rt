@@ -1,7 +1,7 @@
 ghost use Rattle.std.specs.Prelude.{◌≡◌, ◌∷◌, ◌++◌, [], Some, codes, false, IfSome};
-ghost use Rattle.stitch_text.specs.declared.list_line.ListLine.TheVariants as line_of_list;
 ghost use Rattle.stitch_text.specs.ListLines.{parsed_block, parsed_list_line, parsed_needle, needle_word, parsed_list_word, parsed_list_words};
 ghost use Rattle.stitch_text.specs.Readings.{is_end_line, parsed_thread};
+ghost use Rattle.stitch_text.specs.declared.list_line.ListLine.TheVariants as line_of_list;
 ghost use Rattle.text_parts.specs.Parts.{words_in};
 
 use crate::words::number_in;

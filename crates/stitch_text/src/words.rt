@@ -1,5 +1,5 @@
-ghost use Rattle.std.specs.Prelude.{◌≡◌};
 ghost use Rattle.std.specs.List.{list_all};
+ghost use Rattle.std.specs.Prelude.{◌≡◌};
 ghost use Rattle.stitch_text.specs.Words.{has_leading_zero, has_trailing_space, is_valid_label, is_canonical_number, is_printable, canonical_number_of};
 
 use design_model::MAX_LABEL;

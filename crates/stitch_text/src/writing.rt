@@ -3,8 +3,8 @@ ghost use Rattle.design_model.specs.Acts.{acts_of};
 ghost use Rattle.design_model.specs.Designs.{thread_of};
 ghost use Rattle.format_traits.specs.Laws.{KeepsLaws, EncodesTo};
 ghost use Rattle.stitch_text.specs.Format.{list_meaning};
-ghost use Rattle.stitch_text.specs.StitchLists.{list_block_line, with_head_lines, list_writes};
 ghost use Rattle.stitch_text.specs.Steps.{PutsLines};
+ghost use Rattle.stitch_text.specs.StitchLists.{list_block_line, with_head_lines, list_writes};
 
 use crate::point_line::put_point;
 use crate::stitch_list::write_limits;

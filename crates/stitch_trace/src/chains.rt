@@ -1,7 +1,7 @@
 ghost use Rattle.std.specs.Prelude.{◌≡◌, ◌∷◌, ◌++◌, [], List, IfOk, OnOk};
-ghost use Rattle.stitch_trace.specs.declared.needle_moves.NeedleMove.{NeedleMove as MoveValue};
 ghost use Rattle.stitch_trace.specs.Chains.{chains_of};
 ghost use Rattle.stitch_trace.specs.Tracing.{chain_if_any, chains_after, extended_chain};
+ghost use Rattle.stitch_trace.specs.declared.needle_moves.NeedleMove.{NeedleMove as MoveValue};
 
 use crate::links::Link;
 use crate::needle_moves::{NeedleMove, move_to, needle_point};

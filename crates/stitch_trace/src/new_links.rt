@@ -1,9 +1,9 @@
-ghost use Rattle.std.specs.Prelude.{◌≡◌, ◌||◌, ◌∷◌, List, not, IfOk, OnOk};
 ghost use Rattle.std.specs.HashSet.{contains};
-ghost use Rattle.stitch_trace.specs.declared.links.Link.{Link as LinkValue};
-ghost use Rattle.stitch_trace.specs.declared.needle_moves.NeedleMove.{NeedleMove as MoveValue};
+ghost use Rattle.std.specs.Prelude.{◌≡◌, ◌||◌, ◌∷◌, List, not, IfOk, OnOk};
 ghost use Rattle.stitch_trace.specs.Links.{is_same_directed_link, is_same_link};
 ghost use Rattle.stitch_trace.specs.Tracing.{new_moves_by};
+ghost use Rattle.stitch_trace.specs.declared.links.Link.{Link as LinkValue};
+ghost use Rattle.stitch_trace.specs.declared.needle_moves.NeedleMove.{NeedleMove as MoveValue};
 
 use crate::links::Link;
 use crate::needle_moves::NeedleMove;

@@ -1,5 +1,5 @@
-ghost use Rattle.std.specs.Prelude.{◌≡◌, ◌∷◌, ◌++◌, ◌≤◌, ◌<◌, ◌+◌, [], length, IfOk, OnOk, IfSome, IfNone};
 ghost use Rattle.std.specs.List.{position_or_len};
+ghost use Rattle.std.specs.Prelude.{◌≡◌, ◌∷◌, ◌++◌, ◌≤◌, ◌<◌, ◌+◌, [], length, IfOk, OnOk, IfSome, IfNone};
 ghost use Rattle.design_model.specs.ActKinds.{is_stop as is_stop_act};
 ghost use Rattle.design_model.specs.Blocks.{blocks_of};
 ghost use Rattle.design_model.specs.declared.design.TheConstants.{MAX_COMMANDS};

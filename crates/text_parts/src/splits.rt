@@ -1,5 +1,5 @@
-ghost use Rattle.std.specs.Prelude.{◌≡◌, ◌≤◌, ◌∷◌, ◌+◌, ◌==◌, [], drop, length, IfNone, IfSome};
 ghost use Rattle.std.specs.List.{position_or_len};
+ghost use Rattle.std.specs.Prelude.{◌≡◌, ◌≤◌, ◌∷◌, ◌+◌, ◌==◌, [], drop, length, IfNone, IfSome};
 ghost use Rattle.text_parts.specs.Parts.{parts_between};
 
 use memchr::memchr;
