@@ -23,11 +23,9 @@ old = record { up = link 0 1; inner = place 1; pair = link 1 2; outer = place 2 
 abbrev blossom : OddSetValue
 blossom = blossom_set 9 (part 0 1 ∷ part 1 2 ∷ part 2 0 ∷ [])
 
-pub known_before : count_holding_both 2 2 (place 0) old ≡ 1
-known_before = refl
-
-pub known_after : count_holding_both 0 1 blossom [] ≡ 1
-known_after = refl
+pub known_count_holding_both : (count_holding_both 2 2 (place 0) old ≡ 1)
+    × (count_holding_both 0 1 blossom [] ≡ 1)
+known_count_holding_both = (refl, refl)
 
 -- the blossom must be outer
 pub none_outside : FoldsOuters blossom (place 0) (place 3) old [] → ⊥

@@ -19,15 +19,11 @@ abbrev four_moats : List Moat
 four_moats = alone 0 ∷ alone 1 ∷ alone 2 ∷ alone 3 ∷ []
 
 -- two pairs hold each of the four places once, and no fifth
-pub known_ends : pair_ends_at two_pairs 2 ≡ 1
-known_ends = refl
-
-pub known_no_end : pair_ends_at two_pairs 4 ≡ 0
-known_no_end = refl
-
--- one pair at a place twice has two ends there
-pub known_two_ends : pair_ends_at (pair 1 1 ∷ []) 1 ≡ 2
-known_two_ends = refl
+pub known_pair_ends_at : (pair_ends_at two_pairs 2 ≡ 1)
+    × (pair_ends_at two_pairs 4 ≡ 0)
+    -- one pair at a place twice has two ends there
+    × (pair_ends_at (pair 1 1 ∷ []) 1 ≡ 2)
+known_pair_ends_at = (refl, refl, refl)
 
 -- two steps in all, paid by four halves; two halves lie between any two places
 pub known_cost : pairs_cost star two_pairs ≡ 2
@@ -45,28 +41,22 @@ pub known_line : pairs_cost (record { places = 4; cells = 0 ∷ 2 ∷ 3 ∷ 6 �
 known_line = refl
 
 -- a moat of three places is crossed from inside to outside, and not inside
-pub known_crossing : crosses_moat 1 4 (record { members = 0 ∷ 1 ∷ 2 ∷ []; width = 5 }) ≡ true
-known_crossing = refl
-
-pub known_no_crossing : crosses_moat 1 2 (record { members = 0 ∷ 1 ∷ 2 ∷ []; width = 5 }) ≡ false
-known_no_crossing = refl
+pub known_crosses_moat : (crosses_moat 1 4 (record { members = 0 ∷ 1 ∷ 2 ∷ []; width = 5 }) ≡ true)
+    × (crosses_moat 1 2 (record { members = 0 ∷ 1 ∷ 2 ∷ []; width = 5 }) ≡ false)
+known_crosses_moat = (refl, refl)
 
 pub known_member : moat_holds (alone 3) 3 ≡ true
 known_member = refl
 
 -- the entry of two places is set both ways, and no other
-pub known_set : after_set star 1 2 7 2 1 ≡ 7
-known_set = refl
-
-pub known_unset : after_set star 1 2 7 2 3 ≡ 1
-known_unset = refl
+pub known_after_set : (after_set star 1 2 7 2 1 ≡ 7)
+    × (after_set star 1 2 7 2 3 ≡ 1)
+known_after_set = (refl, refl)
 
 -- the distance of two places does not depend on which is named first
-pub known_entry : entry star 2 1 ≡ 1
-known_entry = refl
-
-pub known_straight : entry star 2 2 ≡ 0
-known_straight = refl
+pub known_entry : (entry star 2 1 ≡ 1)
+    × (entry star 2 2 ≡ 0)
+known_entry = (refl, refl)
 
 pub known_set_straight : after_set star 1 2 7 1 2 ≡ 7
 known_set_straight = refl

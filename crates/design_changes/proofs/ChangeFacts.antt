@@ -16,11 +16,9 @@ abbrev two_blocks : DesignValue
 two_blocks = record empty_design { commands = Stitch (place (pos 0) (pos 0)) ∷ Stop ∷ Stitch (place (pos 5) (pos 0)) ∷ [] }
 
 -- places count from 1, and the blocks before keep the threads that they had
-pub known_second_thread : threaded_if_place 2 9 two_blocks ≡ Ok (record two_blocks { threads = 1 ∷ 9 ∷ [] })
-known_second_thread = refl
-
-pub known_no_third_place : threaded_if_place 3 9 two_blocks ≡ Err (reason.NoPlace 3 2)
-known_no_third_place = refl
+pub known_threaded_if_place : (threaded_if_place 2 9 two_blocks ≡ Ok (record two_blocks { threads = 1 ∷ 9 ∷ [] }))
+    × (threaded_if_place 3 9 two_blocks ≡ Err (reason.NoPlace 3 2))
+known_threaded_if_place = (refl, refl)
 
 -- a shift that leads a command out of range names it
 pub known_moved_out : shifted_if_in_range (Some 4) two_blocks ≡ Err (reason.MovedOut 4)

@@ -7,20 +7,14 @@ abbrev pub stopping : List ℕ → ℕ → DesignValue
 stopping threads stops = record { label = []; threads = threads; commands = replicate stops Stop }
 
 -- one place more than stops, and no more than 255
-pub known_places : colour_place_count (stopping [] 3) ≡ 4
-known_places = refl
-
-pub known_most_places : colour_place_count (stopping [] 260) ≡ 255
-known_most_places = refl
+pub known_colour_place_count : (colour_place_count (stopping [] 3) ≡ 4)
+    × (colour_place_count (stopping [] 260) ≡ 255)
+known_colour_place_count = (refl, refl)
 
 -- the threads before the place are kept as they are: those of the second and third block are 2 and 3
-pub known_filled : recoloured 3 7 (stopping (9 ∷ []) 3) ≡ stopping (9 ∷ 2 ∷ 3 ∷ 7 ∷ []) 3
-known_filled = refl
-
--- A stored number is changed, and those after it are unchanged.
-pub known_changed : recoloured 1 7 (stopping (9 ∷ 8 ∷ 6 ∷ []) 3) ≡ stopping (9 ∷ 7 ∷ 6 ∷ []) 3
-known_changed = refl
-
--- the thread of the 65th block is 1 again
-pub known_round : recoloured 65 7 (stopping (replicate 64 5) 65) ≡ stopping (replicate 64 5 ++ 1 ∷ 7 ∷ []) 65
-known_round = refl
+pub known_recoloured : (recoloured 3 7 (stopping (9 ∷ []) 3) ≡ stopping (9 ∷ 2 ∷ 3 ∷ 7 ∷ []) 3)
+    -- A stored number is changed, and those after it are unchanged.
+    × (recoloured 1 7 (stopping (9 ∷ 8 ∷ 6 ∷ []) 3) ≡ stopping (9 ∷ 7 ∷ 6 ∷ []) 3)
+    -- the thread of the 65th block is 1 again
+    × (recoloured 65 7 (stopping (replicate 64 5) 65) ≡ stopping (replicate 64 5 ++ 1 ∷ 7 ∷ []) 65)
+known_recoloured = (refl, refl, refl)

@@ -17,11 +17,9 @@ pub known_shift : shift_point (negsuc 4) (pos 70) (at (pos 1) (pos 2)) ≡ at (n
 known_shift = refl
 
 -- A quarter turn maps a point on the right to the bottom.
-pub known_quarter : turn_point 1 (at (pos 30) (pos 0)) ≡ at (pos 0) (pos 30)
-known_quarter = refl
-
-pub known_quarters : turn_point 3 (at (pos 3) (negsuc 4)) ≡ at (negsuc 4) (negsuc 2)
-known_quarters = refl
+pub known_turn_point : (turn_point 1 (at (pos 30) (pos 0)) ≡ at (pos 0) (pos 30))
+    × (turn_point 3 (at (pos 3) (negsuc 4)) ≡ at (negsuc 4) (negsuc 2))
+known_turn_point = (refl, refl)
 
 -- a mirroring changes one sign
 pub known_mirror : mirror_point axis.Y (at (pos 3) (pos 5)) ≡ at (pos 3) (negsuc 4)
@@ -41,11 +39,7 @@ pub known_mirrored : mirrored axis.X sample ≡ record sample {
 known_mirrored = refl
 
 -- at 1 a needle may be shifted by 29999 and not by 30000; a jump has its own range
-pub known_needle_outside : first_out_of_range (shifted (pos 30000) (pos 0) sample).commands ≡ Some 1
-known_needle_outside = refl
-
-pub known_jump_outside : first_out_of_range (shifted (pos 29999) (pos 0) sample).commands ≡ Some 2
-known_jump_outside = refl
-
-pub known_inside : first_out_of_range (shifted (negsuc 30000) (pos 29998) sample).commands ≡ None
-known_inside = refl
+pub known_first_out_of_range : (first_out_of_range (shifted (pos 30000) (pos 0) sample).commands ≡ Some 1)
+    × (first_out_of_range (shifted (pos 29999) (pos 0) sample).commands ≡ Some 2)
+    × (first_out_of_range (shifted (negsuc 30000) (pos 29998) sample).commands ≡ None)
+known_first_out_of_range = (refl, refl, refl)

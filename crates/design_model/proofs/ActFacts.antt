@@ -28,12 +28,10 @@ pub known_stops : acts_along (Stitch (at (pos 1)) ∷ Trim ∷ Stop ∷ Trim ∷
 known_stops = refl
 
 -- the needle after a float is none
-pub known_after_float :
-    acts_without_numbers (acts_along (Stitch (at (pos 1)) ∷ Jump (at (pos 2)) ∷ Stitch (at (pos 3)) ∷ Stitch (at (pos 4)) ∷ []))
-    ≡ act.Needle (at (pos 1)) false ∷ act.Needle (at (pos 3)) true ∷ act.Needle (at (pos 4)) false ∷ []
-known_after_float = refl
-
--- A jump after a stop makes no float.
-pub known_after_stop : acts_without_numbers (acts_along (Stitch (at (pos 1)) ∷ Stop ∷ Jump (at (pos 2)) ∷ Stitch (at (pos 3)) ∷ []))
-    ≡ act.Needle (at (pos 1)) false ∷ act.Stop ∷ act.Needle (at (pos 3)) false ∷ []
-known_after_stop = refl
+pub known_acts_without_numbers :
+    (acts_without_numbers (acts_along (Stitch (at (pos 1)) ∷ Jump (at (pos 2)) ∷ Stitch (at (pos 3)) ∷ Stitch (at (pos 4)) ∷ []))
+    ≡ act.Needle (at (pos 1)) false ∷ act.Needle (at (pos 3)) true ∷ act.Needle (at (pos 4)) false ∷ [])
+    -- A jump after a stop makes no float.
+    × (acts_without_numbers (acts_along (Stitch (at (pos 1)) ∷ Stop ∷ Jump (at (pos 2)) ∷ Stitch (at (pos 3)) ∷ []))
+    ≡ act.Needle (at (pos 1)) false ∷ act.Stop ∷ act.Needle (at (pos 3)) false ∷ [])
+known_acts_without_numbers = (refl, refl)

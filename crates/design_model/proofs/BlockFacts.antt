@@ -6,21 +6,15 @@ use Rattle.design_model.specs.declared.command.Command.TheVariants.{Trim, Stop}
 use Rattle.design_model.proofs.ActFacts.{at}
 
 -- a design without commands has one block, without needles
-pub known_nothing : needles_by_block (acts_along []) ≡ 0 ∷ []
-known_nothing = refl
-
--- Two needles before the stop, and one after it.
-pub known_blocks :
-    needles_by_block (acts_along (Jump (at (pos 9)) ∷ Stitch (at (pos 9)) ∷ Stitch (at (pos 7)) ∷ Trim
+pub known_needles_by_block : (needles_by_block (acts_along []) ≡ 0 ∷ [])
+    -- Two needles before the stop, and one after it.
+    × (needles_by_block (acts_along (Jump (at (pos 9)) ∷ Stitch (at (pos 9)) ∷ Stitch (at (pos 7)) ∷ Trim
     ∷ Stop ∷ Stitch (at (pos 5)) ∷ []))
-    ≡ 2 ∷ 1 ∷ []
-known_blocks = refl
-
--- stops at both ends and beside one another part blocks without needles
-pub known_bare_blocks :
-    needles_by_block (acts_along (Stop ∷ Stitch (at (pos 1)) ∷ Stop ∷ Trim ∷ Stop ∷ []))
-    ≡ 0 ∷ 1 ∷ 0 ∷ 0 ∷ []
-known_bare_blocks = refl
+    ≡ 2 ∷ 1 ∷ [])
+    -- stops at both ends and beside one another part blocks without needles
+    × (needles_by_block (acts_along (Stop ∷ Stitch (at (pos 1)) ∷ Stop ∷ Trim ∷ Stop ∷ []))
+    ≡ 0 ∷ 1 ∷ 0 ∷ 0 ∷ [])
+known_needles_by_block = (refl, refl, refl)
 
 -- the acts of blocks in order; the stops are in none
 pub known_acts : map acts_without_numbers (blocks_of

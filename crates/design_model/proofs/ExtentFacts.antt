@@ -8,24 +8,17 @@ abbrev pub place : ℤ → ℤ → Point
 place x y = record { x = x; y = y }
 
 -- without a needle there is no extent
-pub known_no_needle :
-    extent_of_points (needle_points_of_acts (acts_along (Jump (place (pos 9) (pos 9)) ∷ Trim ∷ Stop ∷ [])))
-    ≡ None
-known_no_needle = refl
-
--- one needle is its own extent, and the origin is not in it
-pub known_one_needle :
-    extent_of_points (needle_points_of_acts (acts_along (Stitch (place (pos 3) (negsuc 4)) ∷ [])))
-    ≡ Some (record { min = place (pos 3) (negsuc 4); max = place (pos 3) (negsuc 4) })
-known_one_needle = refl
-
--- needles at (-2, 7), (-9, -1) and (-4, 12), and a jump far away that does not count
-pub known_extent :
-    extent_of_points (needle_points_of_acts (acts_along (Stitch (place (negsuc 1) (pos 7))
+pub known_extent_of_points : (extent_of_points (needle_points_of_acts (acts_along (Jump (place (pos 9) (pos 9)) ∷ Trim ∷ Stop ∷ [])))
+    ≡ None)
+    -- one needle is its own extent, and the origin is not in it
+    × (extent_of_points (needle_points_of_acts (acts_along (Stitch (place (pos 3) (negsuc 4)) ∷ [])))
+    ≡ Some (record { min = place (pos 3) (negsuc 4); max = place (pos 3) (negsuc 4) }))
+    -- needles at (-2, 7), (-9, -1) and (-4, 12), and a jump far away that does not count
+    × (extent_of_points (needle_points_of_acts (acts_along (Stitch (place (negsuc 1) (pos 7))
     ∷ Jump (place (pos 500) (negsuc 499)) ∷ Stitch (place (negsuc 8) (negsuc 0)) ∷ Trim ∷ Stop
     ∷ Stitch (place (negsuc 3) (pos 12)) ∷ [])))
-    ≡ Some (record { min = place (negsuc 8) (negsuc 0); max = place (negsuc 1) (pos 12) })
-known_extent = refl
+    ≡ Some (record { min = place (negsuc 8) (negsuc 0); max = place (negsuc 1) (pos 12) }))
+known_extent_of_points = (refl, refl, refl)
 
 -- a width is measured from left to right, a height downwards
 pub known_width : extent_width (Some (record { min = place (negsuc 8) (negsuc 0); max = place (negsuc 1) (pos 12) })) ≡ 7

@@ -24,32 +24,24 @@ farther = record { x = pos 30001; y = pos 0 }
 abbrev too_far : Point
 too_far = record { x = pos 0; y = pos 32768 }
 
-pub known_stitch : map (command_accepts_point (Stitch farther)) (far ∷ farther ∷ []) ≡ true ∷ false ∷ []
-known_stitch = refl
-
-pub known_jump_point : map (command_accepts_point (Jump far)) (farther ∷ too_far ∷ []) ≡ true ∷ false ∷ []
-known_jump_point = refl
+pub known_stitch : (map (command_accepts_point (Stitch farther)) (far ∷ farther ∷ []) ≡ true ∷ false ∷ [])
+    × (map (command_accepts_point (Jump far)) (farther ∷ too_far ∷ []) ≡ true ∷ false ∷ [])
+known_stitch = (refl, refl)
 
 pub known_no_point : command_accepts_point Trim far ∷ command_accepts_point Stop far ∷ [] ≡ false ∷ false ∷ []
 known_no_point = refl
 
 -- The maximum distance of points.
-pub known_ranges : map is_command_in_range (Stitch far ∷ Stitch farther ∷ Jump farther ∷ Jump too_far ∷ Trim ∷ Stop ∷ [])
-    ≡ true ∷ false ∷ true ∷ false ∷ true ∷ true ∷ []
-known_ranges = refl
-
--- where they lead, and where they lead once they are moved
-pub known_targets : map target_of (Stitch far ∷ Jump farther ∷ Trim ∷ Stop ∷ []) ≡ Some far ∷ Some farther ∷ None ∷ None ∷ []
-known_targets = refl
-
-pub known_moved : map (λ command. command_with_point command far) (Stitch farther ∷ Jump farther ∷ Trim ∷ Stop ∷ [])
-    ≡ Stitch far ∷ Jump far ∷ Trim ∷ Stop ∷ []
-known_moved = refl
-
--- the threads of blocks: two that are kept, and from 1 to 64 by their places
-pub known_threads_of : map (thread_of (record { label = []; threads = 9 ∷ 200 ∷ []; commands = [] })) (0 ∷ 1 ∷ 2 ∷ 63 ∷ 64 ∷ [])
-    ≡ 9 ∷ 200 ∷ 3 ∷ 64 ∷ 1 ∷ []
-known_threads_of = refl
+pub known_ranges : (map is_command_in_range (Stitch far ∷ Stitch farther ∷ Jump farther ∷ Jump too_far ∷ Trim ∷ Stop ∷ [])
+    ≡ true ∷ false ∷ true ∷ false ∷ true ∷ true ∷ [])
+    -- where they lead, and where they lead once they are moved
+    × (map target_of (Stitch far ∷ Jump farther ∷ Trim ∷ Stop ∷ []) ≡ Some far ∷ Some farther ∷ None ∷ None ∷ [])
+    × (map (λ command. command_with_point command far) (Stitch farther ∷ Jump farther ∷ Trim ∷ Stop ∷ [])
+    ≡ Stitch far ∷ Jump far ∷ Trim ∷ Stop ∷ [])
+    -- the threads of blocks: two that are kept, and from 1 to 64 by their places
+    × (map (thread_of (record { label = []; threads = 9 ∷ 200 ∷ []; commands = [] })) (0 ∷ 1 ∷ 2 ∷ 63 ∷ 64 ∷ [])
+    ≡ 9 ∷ 200 ∷ 3 ∷ 64 ∷ 1 ∷ [])
+known_ranges = (refl, refl, refl, refl)
 
 -- The maximum numbers of a design.
 pub known_full : (d : DesignValue) → IsLabel d.label → length d.threads ≤ 255 → length d.commands ≤ 1000000

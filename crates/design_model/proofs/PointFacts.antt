@@ -8,26 +8,16 @@ pub known_move : move_between (place (pos 3) (negsuc 3)) (place (negsuc 4) (pos 
 known_move = refl
 
 -- the larger axis counts, either way
-pub known_sizes : map move_size (place (pos 3) (negsuc 4) ∷ place (negsuc 6) (pos 2) ∷ []) ≡ 5 ∷ 7 ∷ []
-known_sizes = refl
-
-pub known_within : map (is_point_within 5) (place (pos 5) (negsuc 4) ∷ place (pos 6) (pos 0) ∷ place (pos 0) (negsuc 5) ∷ [])
-    ≡ true ∷ false ∷ false ∷ []
-known_within = refl
-
-pub known_same : map (is_same_point (place (pos 3) (pos 4))) (place (pos 3) (pos 4) ∷ place (pos 4) (pos 3) ∷ place (pos 3) (negsuc 3)
-    ∷ place (negsuc 2) (pos 4) ∷ []) ≡ true ∷ false ∷ false ∷ false ∷ []
-known_same = refl
-
--- a needle leaves the thread where it is; a trim and a stop leave it loose where it was
-pub known_places : map (needle_position_after (place (pos 1) (pos 2))) (Needle (place (pos 3) (pos 4)) true ∷ Trim ∷ Stop ∷ [])
-    ≡ place (pos 3) (pos 4) ∷ place (pos 1) (pos 2) ∷ place (pos 1) (pos 2) ∷ []
-known_places = refl
-
-pub known_loose : map leaves_thread_loose (Needle (place (pos 3) (pos 4)) true ∷ Trim ∷ Stop ∷ []) ≡ false ∷ true ∷ true ∷ []
-known_loose = refl
-
-pub known_ranges : map is_act_in_range (Needle (place (pos 30000) (negsuc 29999)) false ∷ Needle (place (pos 0) (pos 30001)) false
+pub known_sizes : (map move_size (place (pos 3) (negsuc 4) ∷ place (negsuc 6) (pos 2) ∷ []) ≡ 5 ∷ 7 ∷ [])
+    × (map (is_point_within 5) (place (pos 5) (negsuc 4) ∷ place (pos 6) (pos 0) ∷ place (pos 0) (negsuc 5) ∷ [])
+    ≡ true ∷ false ∷ false ∷ [])
+    × (map (is_same_point (place (pos 3) (pos 4))) (place (pos 3) (pos 4) ∷ place (pos 4) (pos 3) ∷ place (pos 3) (negsuc 3)
+    ∷ place (negsuc 2) (pos 4) ∷ []) ≡ true ∷ false ∷ false ∷ false ∷ [])
+    -- a needle leaves the thread where it is; a trim and a stop leave it loose where it was
+    × (map (needle_position_after (place (pos 1) (pos 2))) (Needle (place (pos 3) (pos 4)) true ∷ Trim ∷ Stop ∷ [])
+    ≡ place (pos 3) (pos 4) ∷ place (pos 1) (pos 2) ∷ place (pos 1) (pos 2) ∷ [])
+    × (map leaves_thread_loose (Needle (place (pos 3) (pos 4)) true ∷ Trim ∷ Stop ∷ []) ≡ false ∷ true ∷ true ∷ [])
+    × (map is_act_in_range (Needle (place (pos 30000) (negsuc 29999)) false ∷ Needle (place (pos 0) (pos 30001)) false
     ∷ Trim ∷ Stop ∷ [])
-    ≡ true ∷ false ∷ true ∷ true ∷ []
-known_ranges = refl
+    ≡ true ∷ false ∷ true ∷ true ∷ [])
+known_sizes = (refl, refl, refl, refl, refl, refl)

@@ -32,11 +32,9 @@ abbrev there_and_back : List Pass
 there_and_back = forth 4 ∷ back 6 ∷ forth 9 ∷ back 9 ∷ forth 6 ∷ back 4 ∷ []
 
 -- passes of another line or in the other direction don't count
-pub known_forwards : directed_passes 4 false (forth 4 ∷ back 4 ∷ forth 6 ∷ forth 4 ∷ []) ≡ 2
-known_forwards = refl
-
-pub known_backwards : directed_passes 4 true (forth 4 ∷ back 4 ∷ back 6 ∷ forth 4 ∷ []) ≡ 1
-known_backwards = refl
+pub known_directed_passes : (directed_passes 4 false (forth 4 ∷ back 4 ∷ forth 6 ∷ forth 4 ∷ []) ≡ 2)
+    × (directed_passes 4 true (forth 4 ∷ back 4 ∷ back 6 ∷ forth 4 ∷ []) ≡ 1)
+known_directed_passes = (refl, refl)
 
 pub known_ways : same_way true false ≡ false
 known_ways = refl

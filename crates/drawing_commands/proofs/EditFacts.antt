@@ -8,16 +8,14 @@ use Rattle.drawing_edits.specs.declared.drawing_edit.DrawingEdit.TheVariants as 
 use Rattle.drawing_edits.specs.declared.edit_fault.EditFault.TheVariants as fault
 use Rattle.drawing_model.specs.declared.draw_kind.DrawKind.TheVariants as kind
 
-pub known_drawing_edits : parsed_drawing_edits (codes "shift=-5,70" ∷ codes "turn=3" ∷ codes "mirror=y" ∷ codes "centre"
+pub known_parsed_drawing_edits : (parsed_drawing_edits (codes "shift=-5,70" ∷ codes "turn=3" ∷ codes "mirror=y" ∷ codes "centre"
     ∷ codes "step=2047" ∷ [])
     ≡ Some (edit.Move (motion.Shift (negsuc 4) (pos 70)) ∷ edit.Move (motion.Turn 3) ∷ edit.Move (motion.Mirror axis.Y)
-    ∷ edit.Centre ∷ edit.Step 2047 ∷ [])
-known_drawing_edits = refl
-
-pub known_piece_edits : parsed_drawing_edits (codes "order=12,1" ∷ codes "start=-5,70" ∷ codes "end=30000,-30000" ∷ [])
+    ∷ edit.Centre ∷ edit.Step 2047 ∷ []))
+    × (parsed_drawing_edits (codes "order=12,1" ∷ codes "start=-5,70" ∷ codes "end=30000,-30000" ∷ [])
     ≡ Some (edit.Order 12 1 ∷ edit.Start (record { x = negsuc 4; y = pos 70 })
-    ∷ edit.End (record { x = pos 30000; y = negsuc 29999 }) ∷ [])
-known_piece_edits = refl
+    ∷ edit.End (record { x = pos 30000; y = negsuc 29999 }) ∷ []))
+known_parsed_drawing_edits = (refl, refl)
 
 -- no edits of a drawing
 abbrev IsNoEdit : List ℕ → Type 0

@@ -53,13 +53,9 @@ pub known_redrawn : redrawn sample ≡ Ok sample
 known_redrawn = refl
 
 -- a shift by one too far
-pub known_shift_out : edited_drawing (edit.Move (motion.Shift (pos 29961) (pos 0))) sample ≡ Err (fault.Draw kind.OutOfRange)
-known_shift_out = refl
-
-pub known_shift_in : edited_drawing (edit.Move (motion.Shift (pos 29960) (pos 0))) sample
-    ≡ Ok (shifted_drawing (pos 29960) (pos 0) sample)
-known_shift_in = refl
-
--- another longest step
-pub known_step_edit : edited_drawing (edit.Step 1) sample ≡ Ok (record sample { step = 1 })
-known_step_edit = refl
+pub known_edited_drawing : (edited_drawing (edit.Move (motion.Shift (pos 29961) (pos 0))) sample ≡ Err (fault.Draw kind.OutOfRange))
+    × (edited_drawing (edit.Move (motion.Shift (pos 29960) (pos 0))) sample
+    ≡ Ok (shifted_drawing (pos 29960) (pos 0) sample))
+    -- another longest step
+    × (edited_drawing (edit.Step 1) sample ≡ Ok (record sample { step = 1 }))
+known_edited_drawing = (refl, refl, refl)

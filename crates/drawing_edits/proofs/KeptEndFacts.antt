@@ -11,13 +11,11 @@ abbrev of_ends : List Spot → List Spot → DrawingValue
 of_ends starts ends = record { label = []; step = 25; threads = []; lines = []; starts = starts; ends = ends }
 
 -- a spot comes after those of its block, and before those of the next
-pub known_with_spot : with_spot (spot_of 1 5) (spot_of 0 1 ∷ spot_of 1 2 ∷ spot_of 2 3 ∷ [])
-    ≡ spot_of 0 1 ∷ spot_of 1 2 ∷ spot_of 1 5 ∷ spot_of 2 3 ∷ []
-known_with_spot = refl
-
--- a spot of the last block comes last
-pub known_spot_last : with_spot (spot_of 2 5) (spot_of 0 1 ∷ spot_of 2 3 ∷ []) ≡ spot_of 0 1 ∷ spot_of 2 3 ∷ spot_of 2 5 ∷ []
-known_spot_last = refl
+pub known_with_spot : (with_spot (spot_of 1 5) (spot_of 0 1 ∷ spot_of 1 2 ∷ spot_of 2 3 ∷ [])
+    ≡ spot_of 0 1 ∷ spot_of 1 2 ∷ spot_of 1 5 ∷ spot_of 2 3 ∷ [])
+    -- a spot of the last block comes last
+    × (with_spot (spot_of 2 5) (spot_of 0 1 ∷ spot_of 2 3 ∷ []) ≡ spot_of 0 1 ∷ spot_of 2 3 ∷ spot_of 2 5 ∷ [])
+known_with_spot = (refl, refl)
 
 -- a start that is lost isn't kept, nor is an end
 pub known_start_lost : HasEndsOf (of_ends (spot_of 0 1 ∷ []) []) (of_ends [] []) → ⊥

@@ -35,17 +35,15 @@ abbrev side : LineValue
 side = line_in 1 (spot_point 50 0 ∷ spot_point 50 9 ∷ [])
 
 -- an end of a line becomes a start, and nothing is cut
-pub known_start_at_end : end_placed true (spot_point 50 9) (of_lines (bar ∷ side ∷ []) [] [])
-    ≡ Ok (of_lines (bar ∷ side ∷ []) (spot_in 1 (spot_point 50 9) ∷ []) [])
-known_start_at_end = refl
-
--- a start inside a line cuts it in two, and comes before the start of a later block
-pub known_start_inside : end_placed true (spot_point 10 0)
+pub known_end_placed : (end_placed true (spot_point 50 9) (of_lines (bar ∷ side ∷ []) [] [])
+    ≡ Ok (of_lines (bar ∷ side ∷ []) (spot_in 1 (spot_point 50 9) ∷ []) []))
+    -- a start inside a line cuts it in two, and comes before the start of a later block
+    × (end_placed true (spot_point 10 0)
     (of_lines (bar ∷ side ∷ []) (spot_in 1 (spot_point 50 9) ∷ []) [])
     ≡ Ok (of_lines (line_in 0 (spot_point 0 0 ∷ spot_point 10 0 ∷ [])
     ∷ line_in 0 (spot_point 10 0 ∷ spot_point 20 0 ∷ []) ∷ side ∷ [])
-    (spot_in 0 (spot_point 10 0) ∷ spot_in 1 (spot_point 50 9) ∷ []) [])
-known_start_inside = refl
+    (spot_in 0 (spot_point 10 0) ∷ spot_in 1 (spot_point 50 9) ∷ []) []))
+known_end_placed = (refl, refl)
 
 -- an end that a line lists twice inside cuts it twice
 abbrev loop_line : LineValue
@@ -62,25 +60,19 @@ known_end_twice = refl
 abbrev stem : LineValue
 stem = line_in 0 (spot_point 10 0 ∷ spot_point 10 30 ∷ [])
 
-pub known_start_of_t : end_placed true (spot_point 10 30) (of_lines (bar ∷ stem ∷ side ∷ []) [] [])
+pub known_start_of_t : (end_placed true (spot_point 10 30) (of_lines (bar ∷ stem ∷ side ∷ []) [] [])
     ≡ Ok (of_lines (line_in 0 (spot_point 0 0 ∷ spot_point 10 0 ∷ [])
     ∷ line_in 0 (spot_point 10 0 ∷ spot_point 20 0 ∷ []) ∷ stem ∷ side ∷ [])
-    (spot_in 0 (spot_point 10 30) ∷ []) [])
-known_start_of_t = refl
-
--- no line lists the point, though one passes through it
-pub known_no_point : end_placed false (spot_point 5 0) (of_lines (bar ∷ side ∷ []) [] []) ≡ Err (fault.Draw kind.NoJunction)
-known_no_point = refl
-
--- two blocks list the point
-pub known_two_blocks : end_placed true (spot_point 0 0) (of_lines (bar
-    ∷ line_in 1 (spot_point 0 0 ∷ spot_point 0 9 ∷ []) ∷ []) [] []) ≡ Err fault.TwoBlocks
-known_two_blocks = refl
-
--- the piece has an end already
-pub known_end_repeated : end_placed false (spot_point 10 0)
-    (of_lines (bar ∷ side ∷ []) [] (spot_in 0 (spot_point 0 0) ∷ [])) ≡ Err (fault.Draw kind.EndRepeated)
-known_end_repeated = refl
+    (spot_in 0 (spot_point 10 30) ∷ []) []))
+    -- no line lists the point, though one passes through it
+    × (end_placed false (spot_point 5 0) (of_lines (bar ∷ side ∷ []) [] []) ≡ Err (fault.Draw kind.NoJunction))
+    -- two blocks list the point
+    × (end_placed true (spot_point 0 0) (of_lines (bar
+    ∷ line_in 1 (spot_point 0 0 ∷ spot_point 0 9 ∷ []) ∷ []) [] []) ≡ Err fault.TwoBlocks)
+    -- the piece has an end already
+    × (end_placed false (spot_point 10 0)
+    (of_lines (bar ∷ side ∷ []) [] (spot_in 0 (spot_point 0 0) ∷ [])) ≡ Err (fault.Draw kind.EndRepeated))
+known_start_of_t = (refl, refl, refl, refl)
 
 -- two squares of one block, and a line of another block
 abbrev square_at : ℕ → ℕ → LineValue
@@ -96,25 +88,15 @@ pub known_pieces_in_order : pieces_in_order (of_lines (square_at 0 5 ∷ line_in
 known_pieces_in_order = refl
 
 -- a piece of two lines moves to just before the first line of the piece between them
-pub known_order_with_piece : order_with_piece (1 ∷ 4 ∷ []) 0 5 ≡ 1 ∷ 4 ∷ 0 ∷ 2 ∷ 3 ∷ []
-known_order_with_piece = refl
-
-pub known_order_between : order_with_piece (3 ∷ []) 2 5 ≡ 0 ∷ 1 ∷ 3 ∷ 2 ∷ 4 ∷ []
-known_order_between = refl
+pub known_order_with_piece : (order_with_piece (1 ∷ 4 ∷ []) 0 5 ≡ 1 ∷ 4 ∷ 0 ∷ 2 ∷ 3 ∷ [])
+    × (order_with_piece (3 ∷ []) 2 5 ≡ 0 ∷ 1 ∷ 3 ∷ 2 ∷ 4 ∷ [])
+known_order_with_piece = (refl, refl)
 
 -- the second square before the first
-pub known_order : piece_put_before 2 1 squares ≡ Ok (of_lines (square_at 20 25 ∷ square_at 0 5 ∷ side ∷ []) [] [])
-known_order = refl
-
--- the first square is sewn before the second already
-pub known_order_there : piece_put_before 1 2 squares ≡ Ok squares
-known_order_there = refl
-
-pub known_no_piece : piece_put_before 4 1 squares ≡ Err (fault.NoPiece 4)
-known_no_piece = refl
-
-pub known_same_piece : piece_put_before 2 2 squares ≡ Err fault.SamePiece
-known_same_piece = refl
-
-pub known_other_block : piece_put_before 3 1 squares ≡ Err fault.OtherBlock
-known_other_block = refl
+pub known_piece_put_before : (piece_put_before 2 1 squares ≡ Ok (of_lines (square_at 20 25 ∷ square_at 0 5 ∷ side ∷ []) [] []))
+    -- the first square is sewn before the second already
+    × (piece_put_before 1 2 squares ≡ Ok squares)
+    × (piece_put_before 4 1 squares ≡ Err (fault.NoPiece 4))
+    × (piece_put_before 2 2 squares ≡ Err fault.SamePiece)
+    × (piece_put_before 3 1 squares ≡ Err fault.OtherBlock)
+known_piece_put_before = (refl, refl, refl, refl, refl)

@@ -23,21 +23,17 @@ abbrev in_order : List LineValue
 in_order = line_to 0 0 40 ∷ line_to 1 5 60 ∷ []
 
 -- lines in the order of their blocks are drawn as they are, without starts
-pub known_drawn : drawn_lines (of_lines in_order (spot_at 0 40 ∷ [])) ≡ Ok (of_lines in_order [])
-known_drawn = refl
-
--- lines in another order are drawn block by block
-pub known_mixed : drawn_lines (of_lines (line_to 1 5 60 ∷ line_to 0 0 40 ∷ []) []) ≡ Ok (of_lines in_order [])
-known_mixed = refl
+pub known_drawn_lines : (drawn_lines (of_lines in_order (spot_at 0 40 ∷ [])) ≡ Ok (of_lines in_order []))
+    -- lines in another order are drawn block by block
+    × (drawn_lines (of_lines (line_to 1 5 60 ∷ line_to 0 0 40 ∷ []) []) ≡ Ok (of_lines in_order []))
+known_drawn_lines = (refl, refl)
 
 -- starts stay in their order, also where it isn't that of the blocks
-pub known_starts : redrawn (of_lines in_order (spot_at 1 5 ∷ spot_at 0 40 ∷ []))
-    ≡ Ok (of_lines in_order (spot_at 1 5 ∷ spot_at 0 40 ∷ []))
-known_starts = refl
-
--- a second start of a piece is refused
-pub known_repeat : redrawn (of_lines in_order (spot_at 0 0 ∷ spot_at 0 40 ∷ [])) ≡ Err kind.EndRepeated
-known_repeat = refl
+pub known_redrawn : (redrawn (of_lines in_order (spot_at 1 5 ∷ spot_at 0 40 ∷ []))
+    ≡ Ok (of_lines in_order (spot_at 1 5 ∷ spot_at 0 40 ∷ [])))
+    -- a second start of a piece is refused
+    × (redrawn (of_lines in_order (spot_at 0 0 ∷ spot_at 0 40 ∷ [])) ≡ Err kind.EndRepeated)
+known_redrawn = (refl, refl)
 
 -- a block without a line is refused
 pub known_empty : drawn_lines (of_lines (line_to 0 0 40 ∷ []) []) ≡ Err kind.EmptyBlock

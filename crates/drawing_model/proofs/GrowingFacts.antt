@@ -12,11 +12,9 @@ abbrev begun : DrawingValue
 begun = with_new_block blank 3
 
 -- without a block there is no place for a line, whatever its points are
-pub known_no_block : line_added blank (place (pos 0) (pos 0) ∷ place (pos 5) (pos 1) ∷ []) ≡ Err kind.NoBlock
-known_no_block = refl
-
-pub known_no_block_first : line_added blank (place (pos 30001) (pos 0) ∷ []) ≡ Err kind.NoBlock
-known_no_block_first = refl
+pub known_line_added : (line_added blank (place (pos 0) (pos 0) ∷ place (pos 5) (pos 1) ∷ []) ≡ Err kind.NoBlock)
+    × (line_added blank (place (pos 30001) (pos 0) ∷ []) ≡ Err kind.NoBlock)
+known_line_added = (refl, refl)
 
 -- on each axis and to both sides 30,000 is the last place
 pub known_ranges : (all_in_needle_range (place (pos 30000) (negsuc 29999) ∷ place (negsuc 29999) (pos 30000) ∷ []) ≡ true)
@@ -27,18 +25,11 @@ pub known_ranges : (all_in_needle_range (place (pos 30000) (negsuc 29999) ∷ pl
 known_ranges = (refl, refl, refl, refl, refl)
 
 -- a point out of range is reported before the number of points, and the number before a repeated point
-pub known_out_of_range : line_added begun (place (pos 0) (negsuc 30000) ∷ []) ≡ Err kind.OutOfRange
-known_out_of_range = refl
-
-pub known_few_points : line_added begun (place (pos 0) (negsuc 29999) ∷ []) ≡ Err kind.FewPoints
-known_few_points = refl
-
-pub known_repeated_point :
-    line_added begun (place (pos 4) (pos 2) ∷ place (pos 4) (pos 2) ∷ []) ≡ Err kind.RepeatedPoint
-known_repeated_point = refl
-
--- else the line is the last of the last block
-pub known_line : line_added begun (place (pos 4) (pos 2) ∷ place (pos 4) (negsuc 0) ∷ [])
+pub known_out_of_range : (line_added begun (place (pos 0) (negsuc 30000) ∷ []) ≡ Err kind.OutOfRange)
+    × (line_added begun (place (pos 0) (negsuc 29999) ∷ []) ≡ Err kind.FewPoints)
+    × (line_added begun (place (pos 4) (pos 2) ∷ place (pos 4) (pos 2) ∷ []) ≡ Err kind.RepeatedPoint)
+    -- else the line is the last of the last block
+    × (line_added begun (place (pos 4) (pos 2) ∷ place (pos 4) (negsuc 0) ∷ [])
     ≡ Ok (record {
       label = codes "ab";
       step = 7;
@@ -46,8 +37,8 @@ pub known_line : line_added begun (place (pos 4) (pos 2) ∷ place (pos 4) (negs
       lines = record { block = 0; points = place (pos 4) (pos 2) ∷ place (pos 4) (negsuc 0) ∷ [] } ∷ [];
       starts = [];
       ends = [];
-    })
-known_line = refl
+    }))
+known_out_of_range = (refl, refl, refl, refl)
 
 -- the first line is in the first block, and the next one in the block that came last
 abbrev grown : DrawingValue

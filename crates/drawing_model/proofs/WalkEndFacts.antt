@@ -25,55 +25,37 @@ drawn starts ends = record {
 }
 
 -- only the ends of lines are junctions, in the block of the line
-pub known_junction : is_junction (drawn [] []).lines (spot 0 10 0) ≡ true
-known_junction = refl
-
-pub known_inside : is_junction (drawn [] []).lines (spot 0 5 5) ≡ false
-known_inside = refl
-
-pub known_other_block : is_junction (drawn [] []).lines (spot 1 30 0) ≡ false
-known_other_block = refl
+pub known_is_junction : (is_junction (drawn [] []).lines (spot 0 10 0) ≡ true)
+    × (is_junction (drawn [] []).lines (spot 0 5 5) ≡ false)
+    × (is_junction (drawn [] []).lines (spot 1 30 0) ≡ false)
+known_is_junction = (refl, refl, refl)
 
 -- the angle connects its three ends, and not the strokes
-pub known_joined : are_connected_spots (drawn [] []).lines (spot 0 10 10) (spot 0 0 0) ≡ true
-known_joined = refl
-
-pub known_apart : are_connected_spots (drawn [] []).lines (spot 0 10 10) (spot 0 40 0) ≡ false
-known_apart = refl
-
-pub known_blocks_apart : are_connected_spots (drawn [] []).lines (spot 0 10 0) (spot 1 10 0) ≡ false
-known_blocks_apart = refl
+pub known_are_connected_spots : (are_connected_spots (drawn [] []).lines (spot 0 10 10) (spot 0 0 0) ≡ true)
+    × (are_connected_spots (drawn [] []).lines (spot 0 10 10) (spot 0 40 0) ≡ false)
+    × (are_connected_spots (drawn [] []).lines (spot 0 10 0) (spot 1 10 0) ≡ false)
+known_are_connected_spots = (refl, refl, refl)
 
 -- a start at a junction, and none elsewhere
-pub known_start : start_added (drawn [] []) (spot 0 10 10) ≡ Ok (drawn (spot 0 10 10 ∷ []) [])
-known_start = refl
+pub known_start_added : (start_added (drawn [] []) (spot 0 10 10) ≡ Ok (drawn (spot 0 10 10 ∷ []) []))
+    × (start_added (drawn (spot 0 10 10 ∷ []) []) (spot 0 5 5) ≡ Err kind.NoJunction)
+    -- a piece has one start, and may have an end beside it, at the same junction too
+    × (start_added (drawn (spot 0 10 10 ∷ []) []) (spot 0 0 0) ≡ Err kind.EndRepeated)
+known_start_added = (refl, refl, refl)
 
-pub known_no_junction : start_added (drawn (spot 0 10 10 ∷ []) []) (spot 0 5 5) ≡ Err kind.NoJunction
-known_no_junction = refl
-
--- a piece has one start, and may have an end beside it, at the same junction too
-pub known_repeated : start_added (drawn (spot 0 10 10 ∷ []) []) (spot 0 0 0) ≡ Err kind.EndRepeated
-known_repeated = refl
-
-pub known_end : end_added (drawn (spot 0 10 10 ∷ []) []) (spot 0 10 10)
-    ≡ Ok (drawn (spot 0 10 10 ∷ []) (spot 0 10 10 ∷ []))
-known_end = refl
-
-pub known_end_repeated : end_added (drawn [] (spot 0 10 0 ∷ [])) (spot 0 10 0) ≡ Err kind.EndRepeated
-known_end_repeated = refl
+pub known_end_added : (end_added (drawn (spot 0 10 10 ∷ []) []) (spot 0 10 10)
+    ≡ Ok (drawn (spot 0 10 10 ∷ []) (spot 0 10 10 ∷ [])))
+    × (end_added (drawn [] (spot 0 10 0 ∷ [])) (spot 0 10 0) ≡ Err kind.EndRepeated)
+known_end_added = (refl, refl)
 
 -- other pieces have their own
-pub known_other_piece : start_added (drawn (spot 0 10 10 ∷ []) []) (spot 0 30 0)
-    ≡ Ok (drawn (spot 0 10 10 ∷ spot 0 30 0 ∷ []) [])
-known_other_piece = refl
-
-pub known_next_block : start_added (drawn (spot 0 0 0 ∷ []) []) (spot 1 0 0)
-    ≡ Ok (drawn (spot 0 0 0 ∷ spot 1 0 0 ∷ []) [])
-known_next_block = refl
+pub known_other_piece : (start_added (drawn (spot 0 10 10 ∷ []) []) (spot 0 30 0)
+    ≡ Ok (drawn (spot 0 10 10 ∷ spot 0 30 0 ∷ []) []))
+    × (start_added (drawn (spot 0 0 0 ∷ []) []) (spot 1 0 0)
+    ≡ Ok (drawn (spot 0 0 0 ∷ spot 1 0 0 ∷ []) []))
+known_other_piece = (refl, refl)
 
 -- a start is one, and an end the other
-pub known_which : walk_end_added true (drawn [] []) (spot 0 0 0) ≡ Ok (drawn (spot 0 0 0 ∷ []) [])
-known_which = refl
-
-pub known_which_end : walk_end_added false (drawn [] []) (spot 0 0 0) ≡ Ok (drawn [] (spot 0 0 0 ∷ []))
-known_which_end = refl
+pub known_walk_end_added : (walk_end_added true (drawn [] []) (spot 0 0 0) ≡ Ok (drawn (spot 0 0 0 ∷ []) []))
+    × (walk_end_added false (drawn [] []) (spot 0 0 0) ≡ Ok (drawn [] (spot 0 0 0 ∷ [])))
+known_walk_end_added = (refl, refl)

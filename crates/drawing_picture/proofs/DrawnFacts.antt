@@ -39,12 +39,10 @@ piece = record {
   end = None;
 }
 
-pub known_marks : marks_of_piece piece ≡ record { at = at 0; is_odd = true } ∷ record { at = at 20; is_odd = true } ∷ []
-known_marks = refl
-
-pub known_given : marks_of_piece (record piece { start = Some 0; end = Some 1 })
-    ≡ record { at = at 0; is_odd = false } ∷ record { at = at 20; is_odd = false } ∷ []
-known_given = refl
+pub known_marks_of_piece : (marks_of_piece piece ≡ record { at = at 0; is_odd = true } ∷ record { at = at 20; is_odd = true } ∷ [])
+    × (marks_of_piece (record piece { start = Some 0; end = Some 1 })
+    ≡ record { at = at 0; is_odd = false } ∷ record { at = at 20; is_odd = false } ∷ [])
+known_marks_of_piece = (refl, refl)
 
 pub known_odd : odd_marks (record { at = at 0; is_odd = true } ∷ record { at = at 1; is_odd = false }
     ∷ record { at = at 2; is_odd = true } ∷ []) ≡ 2

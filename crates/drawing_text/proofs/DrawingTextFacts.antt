@@ -14,11 +14,9 @@ abbrev text : List (List ℕ) → List ℕ
 text lines = flat_map (λ line. line ++ 10 ∷ []) lines
 
 -- bytes after the last line feed are a line, and an empty line is one
-pub known_lines : text_lines (codes "a" ++ 10 ∷ 10 ∷ codes "b") ≡ codes "a" ∷ [] ∷ codes "b" ∷ []
-known_lines = refl
-
-pub known_ended_lines : text_lines (codes "a" ++ 10 ∷ []) ≡ codes "a" ∷ []
-known_ended_lines = refl
+pub known_text_lines : (text_lines (codes "a" ++ 10 ∷ 10 ∷ codes "b") ≡ codes "a" ∷ [] ∷ codes "b" ∷ [])
+    × (text_lines (codes "a" ++ 10 ∷ []) ≡ codes "a" ∷ [])
+known_text_lines = (refl, refl)
 
 -- of two carriage returns one stays
 pub known_return : line_without_return (97 ∷ 13 ∷ 13 ∷ []) ≡ 97 ∷ 13 ∷ []
@@ -46,14 +44,12 @@ two_squares = record {
   ends = [];
 }
 
-pub known_drawing : drawing_of (text (codes "# squares" ∷ [] ∷ codes " redwork  1 " ∷ codes "step 030"
+pub known_drawing_of : (drawing_of (text (codes "# squares" ∷ [] ∷ codes " redwork  1 " ∷ codes "step 030"
     ∷ (codes "color 3" ++ 13 ∷ []) ∷ codes "line 0 0 30 0 30 30 0 30 0 -0" ∷ codes "color 9" ∷ [])
     ++ codes "line 300 0 -30 0 300 0")
-    ≡ Ok two_squares
-known_drawing = refl
-
--- the least and the greatest numbers, and the step 25 where none is given; letters may follow a comment's hash sign
-pub known_widest : drawing_of (text (codes "redwork 1" ∷ codes "color 255" ∷ codes "#wide" ∷ codes "line -30000 30000 0 0" ∷ codes "color 0"
+    ≡ Ok two_squares)
+    -- the least and the greatest numbers, and the step 25 where none is given; letters may follow a comment's hash sign
+    × (drawing_of (text (codes "redwork 1" ∷ codes "color 255" ∷ codes "#wide" ∷ codes "line -30000 30000 0 0" ∷ codes "color 0"
     ∷ codes "line 0 0 30000 -30000" ∷ []))
     ≡ Ok (record {
       label = [];
@@ -63,11 +59,9 @@ pub known_widest : drawing_of (text (codes "redwork 1" ∷ codes "color 255" ∷
           ∷ record { block = 1; points = place (pos 0) (pos 0) ∷ place (pos 30000) (negsuc 29999) ∷ [] } ∷ [];
       starts = [];
       ends = [];
-    })
-known_widest = refl
-
--- the longest step, and a name after it
-pub known_named : drawing_of (text (codes "redwork 1" ∷ codes "step 2047" ∷ codes "name ab" ∷ codes "color 1" ∷ codes "line 0 0 3 4" ∷ []))
+    }))
+    -- the longest step, and a name after it
+    × (drawing_of (text (codes "redwork 1" ∷ codes "step 2047" ∷ codes "name ab" ∷ codes "color 1" ∷ codes "line 0 0 3 4" ∷ []))
     ≡ Ok (record {
       label = codes "ab";
       step = 2047;
@@ -75,8 +69,8 @@ pub known_named : drawing_of (text (codes "redwork 1" ∷ codes "step 2047" ∷ 
       lines = record { block = 0; points = place (pos 0) (pos 0) ∷ place (pos 3) (pos 4) ∷ [] } ∷ [];
       starts = [];
       ends = [];
-    })
-known_named = refl
+    }))
+known_drawing_of = (refl, refl, refl)
 
 -- lines through one point, and their sections
 abbrev crossing : List (List ℕ)

@@ -25,13 +25,11 @@ crossed starts ends = record {
 }
 
 -- version 3 without starts and ends is version 2
-pub known_neither : drawing_of (text (codes "redwork 3") []) ≡ Ok (crossed [] [])
-known_neither = refl
-
--- a start and an end, in any order, at a junction that a section made too
-pub known_both : drawing_of (text (codes "redwork 3") (codes "end 10 0" ∷ codes "start 20 0" ∷ []))
-    ≡ Ok (crossed (spot 20 0 ∷ []) (spot 10 0 ∷ []))
-known_both = refl
+pub known_drawing_of : (drawing_of (text (codes "redwork 3") []) ≡ Ok (crossed [] []))
+    -- a start and an end, in any order, at a junction that a section made too
+    × (drawing_of (text (codes "redwork 3") (codes "end 10 0" ∷ codes "start 20 0" ∷ []))
+    ≡ Ok (crossed (spot 20 0 ∷ []) (spot 10 0 ∷ [])))
+known_drawing_of = (refl, refl)
 
 -- such a text has that fault
 abbrev Faults : List (List ℕ) → ℕ → DrawKind → Type 0

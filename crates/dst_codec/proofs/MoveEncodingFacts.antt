@@ -7,24 +7,14 @@ abbrev pub point : ℤ → ℤ → Point
 point x y = record { x = x; y = y }
 
 -- the greatest moves to the right and downwards
-pub known_right : dst_stitch_record (point (pos 121) (pos 0)) ≡ 0x05 ∷ 0x05 ∷ 0x07 ∷ []
-known_right = refl
-
-pub known_down : dst_stitch_record (point (pos 0) (pos 121)) ≡ 0x50 ∷ 0x50 ∷ 0x13 ∷ []
-known_down = refl
-
--- the moves round a square of 30
-pub known_square_right : dst_stitch_record (point (pos 30) (pos 0)) ≡ 0x00 ∷ 0x05 ∷ 0x03 ∷ []
-known_square_right = refl
-
-pub known_square_down : dst_stitch_record (point (pos 0) (pos 30)) ≡ 0x00 ∷ 0x50 ∷ 0x03 ∷ []
-known_square_down = refl
-
-pub known_square_left : dst_stitch_record (point (negsuc 29) (pos 0)) ≡ 0x00 ∷ 0x0A ∷ 0x03 ∷ []
-known_square_left = refl
-
-pub known_square_up : dst_stitch_record (point (pos 0) (negsuc 29)) ≡ 0x00 ∷ 0xA0 ∷ 0x03 ∷ []
-known_square_up = refl
+pub known_dst_stitch_record : (dst_stitch_record (point (pos 121) (pos 0)) ≡ 0x05 ∷ 0x05 ∷ 0x07 ∷ [])
+    × (dst_stitch_record (point (pos 0) (pos 121)) ≡ 0x50 ∷ 0x50 ∷ 0x13 ∷ [])
+    -- the moves round a square of 30
+    × (dst_stitch_record (point (pos 30) (pos 0)) ≡ 0x00 ∷ 0x05 ∷ 0x03 ∷ [])
+    × (dst_stitch_record (point (pos 0) (pos 30)) ≡ 0x00 ∷ 0x50 ∷ 0x03 ∷ [])
+    × (dst_stitch_record (point (negsuc 29) (pos 0)) ≡ 0x00 ∷ 0x0A ∷ 0x03 ∷ [])
+    × (dst_stitch_record (point (pos 0) (negsuc 29)) ≡ 0x00 ∷ 0xA0 ∷ 0x03 ∷ [])
+known_dst_stitch_record = (refl, refl, refl, refl, refl, refl)
 
 -- a jump of 100 to the right: 81 and 27 and 1, less 9
 pub known_jump : dst_jump_record (point (pos 100) (pos 0)) ≡ 0x09 ∷ 0x04 ∷ 0x87 ∷ []
@@ -40,21 +30,13 @@ pub known_end : dst_end_record ≡ 0x00 ∷ 0x00 ∷ 0xF3 ∷ []
 known_end = refl
 
 -- each bit of the table alone, by its byte: what it moves to the right and downwards
-pub known_first_x : dst_move_of 0x01 0 0 ≡ point (pos 1) (pos 0)
-known_first_x = refl
-
-pub known_moves : dst_move_of 0x82 0x82 0x83 ≡ point (negsuc 3) (negsuc 3)
-known_moves = refl
+pub known_dst_move_of : (dst_move_of 0x01 0 0 ≡ point (pos 1) (pos 0))
+    × (dst_move_of 0x82 0x82 0x83 ≡ point (negsuc 3) (negsuc 3))
+known_dst_move_of = (refl, refl)
 
 -- flags without both low bits have no meaning
-pub known_bare_flags : kind_of 0x80 ≡ kind.Stitch
-known_bare_flags = refl
-
-pub known_kinds : kind_of 0xC3 ≡ kind.Stop
-known_kinds = refl
-
-pub known_end_kind : kind_of 0xFF ≡ kind.End
-known_end_kind = refl
-
-pub known_sequin : kind_of 0x43 ≡ kind.Sequin
-known_sequin = refl
+pub known_kind_of : (kind_of 0x80 ≡ kind.Stitch)
+    × (kind_of 0xC3 ≡ kind.Stop)
+    × (kind_of 0xFF ≡ kind.End)
+    × (kind_of 0x43 ≡ kind.Sequin)
+known_kind_of = (refl, refl, refl, refl)

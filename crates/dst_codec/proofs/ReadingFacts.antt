@@ -18,31 +18,25 @@ plain commands = Ok (record {
 })
 
 -- three jumps in a run read as two jumps, a trim and a jump
-pub known_three_jumps : dst_reads (file (0 ∷ 0 ∷ 0x03 ∷ 0 ∷ 0 ∷ 0x83 ∷ 0 ∷ 0 ∷ 0x83 ∷ 0 ∷ 0 ∷ 0x83
+pub known_dst_reads : (dst_reads (file (0 ∷ 0 ∷ 0x03 ∷ 0 ∷ 0 ∷ 0x83 ∷ 0 ∷ 0 ∷ 0x83 ∷ 0 ∷ 0 ∷ 0x83
     ∷ 0 ∷ 0 ∷ 0x03 ∷ 0 ∷ 0 ∷ 0xF3 ∷ []))
     ≡ plain (Stitch (point (pos 0) (pos 0)) ∷ Jump (point (pos 0) (pos 0)) ∷ Jump (point (pos 0) (pos 0))
-    ∷ Trim ∷ Jump (point (pos 0) (pos 0)) ∷ Stitch (point (pos 0) (pos 0)) ∷ [])
-known_three_jumps = refl
-
--- two jumps read as two jumps
-pub known_two_jumps : dst_reads (file (0 ∷ 0 ∷ 0x03 ∷ 0 ∷ 0 ∷ 0x83 ∷ 0 ∷ 0 ∷ 0x83 ∷ 0 ∷ 0 ∷ 0x03 ∷ 0 ∷ 0 ∷ 0xF3 ∷ []))
+    ∷ Trim ∷ Jump (point (pos 0) (pos 0)) ∷ Stitch (point (pos 0) (pos 0)) ∷ []))
+    -- two jumps read as two jumps
+    × (dst_reads (file (0 ∷ 0 ∷ 0x03 ∷ 0 ∷ 0 ∷ 0x83 ∷ 0 ∷ 0 ∷ 0x83 ∷ 0 ∷ 0 ∷ 0x03 ∷ 0 ∷ 0 ∷ 0xF3 ∷ []))
     ≡ plain (Stitch (point (pos 0) (pos 0)) ∷ Jump (point (pos 0) (pos 0)) ∷ Jump (point (pos 0) (pos 0))
-    ∷ Stitch (point (pos 0) (pos 0)) ∷ [])
-known_two_jumps = refl
-
--- a stop with a move is a jump besides, which no run counts; the fourth jump of a run is a jump
-pub known_stop : dst_reads (file (0x01 ∷ 0 ∷ 0x83 ∷ 0 ∷ 0 ∷ 0xC3 ∷ 0x01 ∷ 0 ∷ 0xC3 ∷ 0x01 ∷ 0 ∷ 0x83 ∷ 0x01 ∷ 0 ∷ 0x83
+    ∷ Stitch (point (pos 0) (pos 0)) ∷ []))
+    -- a stop with a move is a jump besides, which no run counts; the fourth jump of a run is a jump
+    × (dst_reads (file (0x01 ∷ 0 ∷ 0x83 ∷ 0 ∷ 0 ∷ 0xC3 ∷ 0x01 ∷ 0 ∷ 0xC3 ∷ 0x01 ∷ 0 ∷ 0x83 ∷ 0x01 ∷ 0 ∷ 0x83
     ∷ 0x01 ∷ 0 ∷ 0x83 ∷ 0x01 ∷ 0 ∷ 0x83 ∷ 0 ∷ 0 ∷ 0xF3 ∷ 1 ∷ 2 ∷ 3 ∷ 4 ∷ []))
     ≡ plain (Jump (point (pos 1) (pos 0)) ∷ Stop ∷ Stop ∷ Jump (point (pos 2) (pos 0))
     ∷ Jump (point (pos 3) (pos 0)) ∷ Jump (point (pos 4) (pos 0)) ∷ Trim ∷ Jump (point (pos 5) (pos 0))
-    ∷ Jump (point (pos 6) (pos 0)) ∷ [])
-known_stop = refl
-
--- a stitch breaks a run of jumps
-pub known_broken_run : dst_reads (file (0 ∷ 0 ∷ 0x83 ∷ 0 ∷ 0 ∷ 0x83 ∷ 0x01 ∷ 0 ∷ 0x03 ∷ 0 ∷ 0 ∷ 0x83 ∷ 0 ∷ 0 ∷ 0x83 ∷ 0 ∷ 0 ∷ 0xF3 ∷ []))
+    ∷ Jump (point (pos 6) (pos 0)) ∷ []))
+    -- a stitch breaks a run of jumps
+    × (dst_reads (file (0 ∷ 0 ∷ 0x83 ∷ 0 ∷ 0 ∷ 0x83 ∷ 0x01 ∷ 0 ∷ 0x03 ∷ 0 ∷ 0 ∷ 0x83 ∷ 0 ∷ 0 ∷ 0x83 ∷ 0 ∷ 0 ∷ 0xF3 ∷ []))
     ≡ plain (Jump (point (pos 0) (pos 0)) ∷ Jump (point (pos 0) (pos 0)) ∷ Stitch (point (pos 1) (pos 0))
-    ∷ Jump (point (pos 1) (pos 0)) ∷ Jump (point (pos 1) (pos 0)) ∷ [])
-known_broken_run = refl
+    ∷ Jump (point (pos 1) (pos 0)) ∷ Jump (point (pos 1) (pos 0)) ∷ []))
+known_dst_reads = (refl, refl, refl, refl)
 
 -- what is loaded of a file without an end
 abbrev unended : List Command → Result Loaded ReadFault
@@ -61,11 +55,9 @@ pub known_no_end : map (λ bytes. dst_reads (file bytes)) ((0x00 ∷ 0x05 ∷ 0x
 known_no_end = refl
 
 -- a sequin is refused at its record, and a short file at its length
-pub known_sequin : dst_reads (file (0 ∷ 0 ∷ 0x03 ∷ 0 ∷ 0 ∷ 0x43 ∷ [])) ≡ Err (fault.Sequin 515)
-known_sequin = refl
-
-pub known_short : dst_reads (replicate 511 32) ≡ Err (fault.Short 511)
-known_short = refl
+pub known_sequin : (dst_reads (file (0 ∷ 0 ∷ 0x03 ∷ 0 ∷ 0 ∷ 0x43 ∷ [])) ≡ Err (fault.Sequin 515))
+    × (dst_reads (replicate 511 32) ≡ Err (fault.Short 511))
+known_sequin = (refl, refl)
 
 -- n records of a stitch by 121 to the right
 abbrev pub join : ℕ → List ℕ
@@ -77,12 +69,10 @@ pub known_range : dst_reads (file (join 248)) ≡ Err (fault.Range 1253)
 known_range = refl
 
 -- the moves before a refusal, and before the end
-pub known_moves : dst_moves (file (0x01 ∷ 0 ∷ 0x03 ∷ 0 ∷ 0 ∷ 0x43 ∷ [])) ≡ point (pos 1) (pos 0) ∷ []
-known_moves = refl
-
-pub known_moves_to_end : dst_moves (file (0x01 ∷ 0 ∷ 0x03 ∷ 0x02 ∷ 0 ∷ 0x83 ∷ 0 ∷ 0 ∷ 0xF3 ∷ 0x01 ∷ 0 ∷ 0x03 ∷ []))
-    ≡ point (pos 1) (pos 0) ∷ point (negsuc 0) (pos 0) ∷ []
-known_moves_to_end = refl
+pub known_dst_moves : (dst_moves (file (0x01 ∷ 0 ∷ 0x03 ∷ 0 ∷ 0 ∷ 0x43 ∷ [])) ≡ point (pos 1) (pos 0) ∷ [])
+    × (dst_moves (file (0x01 ∷ 0 ∷ 0x03 ∷ 0x02 ∷ 0 ∷ 0x83 ∷ 0 ∷ 0 ∷ 0xF3 ∷ 0x01 ∷ 0 ∷ 0x03 ∷ []))
+    ≡ point (pos 1) (pos 0) ∷ point (negsuc 0) (pos 0) ∷ [])
+known_dst_moves = (refl, refl)
 
 -- a label ends before its spaces, and stands only after its name
 pub known_label : dst_label_of (codes "LA:Rose 1          " ++ 13 ∷ []) ≡ codes "Rose 1"

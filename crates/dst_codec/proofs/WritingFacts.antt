@@ -65,13 +65,11 @@ pub known_one_side : extents_of (acts_along (Stitch (point (negsuc 11) (negsuc 3
 known_one_side = refl
 
 -- how far an extent reaches to each side of the origin; one to the right of it and below it reaches to two only
-pub known_reached : extents_from_origin (Some (record { min = point (negsuc 4) (negsuc 5); max = point (pos 12) (pos 34) }))
-    ≡ record { right = 12; left = 5; up = 6; down = 34 }
-known_reached = refl
-
-pub known_reached_beyond : extents_from_origin (Some (record { min = point (pos 3) (pos 4); max = point (pos 12) (pos 34) }))
-    ≡ record { right = 12; left = 0; up = 0; down = 34 }
-known_reached_beyond = refl
+pub known_extents_from_origin : (extents_from_origin (Some (record { min = point (negsuc 4) (negsuc 5); max = point (pos 12) (pos 34) }))
+    ≡ record { right = 12; left = 5; up = 6; down = 34 })
+    × (extents_from_origin (Some (record { min = point (pos 3) (pos 4); max = point (pos 12) (pos 34) }))
+    ≡ record { right = 12; left = 0; up = 0; down = 34 })
+known_extents_from_origin = (refl, refl)
 
 -- the whole file of the square has its header of 512 bytes, its records and the end
 pub known_square_file : dst_writes square_design
@@ -80,24 +78,20 @@ unfolding digits
 known_square_file = refl
 
 -- a needle of a new colour block is reached by jumps, and a stop has its record
-pub known_second_block : concat (dst_records_of (acts_along (Stitch (point (pos 0) (pos 0)) ∷ Stop
+pub known_concat : (concat (dst_records_of (acts_along (Stitch (point (pos 0) (pos 0)) ∷ Stop
     ∷ Stitch (point (pos 300) (pos 0)) ∷ [])))
     ≡ 0x00 ∷ 0x00 ∷ 0x03 ∷ 0x00 ∷ 0x00 ∷ 0xC3 ∷ 0x09 ∷ 0x04 ∷ 0x87 ∷ 0x09 ∷ 0x04 ∷ 0x87 ∷ 0x09 ∷ 0x04 ∷ 0x87
-    ∷ 0x00 ∷ 0x00 ∷ 0x03 ∷ []
-known_second_block = refl
-
--- a float of three hops is two jumps and a stitch; a float of no length is a jump without a move
-pub known_floats : concat (dst_records_of (acts_along (Stitch (point (pos 0) (pos 0)) ∷ Jump (point (pos 300) (pos 0))
+    ∷ 0x00 ∷ 0x00 ∷ 0x03 ∷ [])
+    -- a float of three hops is two jumps and a stitch; a float of no length is a jump without a move
+    × (concat (dst_records_of (acts_along (Stitch (point (pos 0) (pos 0)) ∷ Jump (point (pos 300) (pos 0))
     ∷ Stitch (point (pos 300) (pos 0)) ∷ Jump (point (pos 300) (pos 0)) ∷ Stitch (point (pos 300) (pos 0)) ∷ [])))
     ≡ 0x00 ∷ 0x00 ∷ 0x03 ∷ 0x09 ∷ 0x04 ∷ 0x87 ∷ 0x09 ∷ 0x04 ∷ 0x87 ∷ 0x09 ∷ 0x04 ∷ 0x07
-    ∷ 0x00 ∷ 0x00 ∷ 0x83 ∷ 0x00 ∷ 0x00 ∷ 0x03 ∷ []
-known_floats = refl
+    ∷ 0x00 ∷ 0x00 ∷ 0x83 ∷ 0x00 ∷ 0x00 ∷ 0x03 ∷ [])
+known_concat = (refl, refl)
 
 -- a stitch of 122 is refused, and so is a float of 400
-pub known_long_stitch : dst_writes (sewn (Stitch (point (pos 0) (pos 0)) ∷ Stitch (point (pos 122) (pos 0)) ∷ []))
-    ≡ Err (fault.StitchTooLong 2)
-known_long_stitch = refl
-
-pub known_long_float : dst_writes (sewn (Stitch (point (pos 0) (pos 0)) ∷ Jump (point (pos 400) (pos 0))
-    ∷ Stitch (point (pos 400) (pos 0)) ∷ [])) ≡ Err (fault.FloatTooLong 3)
-known_long_float = refl
+pub known_dst_writes : (dst_writes (sewn (Stitch (point (pos 0) (pos 0)) ∷ Stitch (point (pos 122) (pos 0)) ∷ []))
+    ≡ Err (fault.StitchTooLong 2))
+    × (dst_writes (sewn (Stitch (point (pos 0) (pos 0)) ∷ Jump (point (pos 400) (pos 0))
+    ∷ Stitch (point (pos 400) (pos 0)) ∷ [])) ≡ Err (fault.FloatTooLong 3))
+known_dst_writes = (refl, refl)

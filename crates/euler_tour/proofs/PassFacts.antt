@@ -9,20 +9,14 @@ abbrev pub path : List Edge
 path = edge 4 7 3 ∷ edge 7 5 10 ∷ []
 
 -- the ends of the first line have the indexes 0 and 1, those of the second 2 and 3
-pub known_first_end : junction_at path 0 ≡ Some 4
-known_first_end = refl
+pub known_junction_at : (junction_at path 0 ≡ Some 4)
+    × (junction_at path 3 ≡ Some 5)
+    × (junction_at path 4 ≡ None)
+known_junction_at = (refl, refl, refl)
 
-pub known_last_end : junction_at path 3 ≡ Some 5
-known_last_end = refl
-
-pub known_no_end : junction_at path 4 ≡ None
-known_no_end = refl
-
-pub known_other_end : junction_across path 0 ≡ Some 7
-known_other_end = refl
-
-pub known_other_end_back : junction_across path 3 ≡ Some 7
-known_other_end_back = refl
+pub known_junction_across : (junction_across path 0 ≡ Some 7)
+    × (junction_across path 3 ≡ Some 7)
+known_junction_across = (refl, refl)
 
 -- the pass that starts at the last end goes back along the second line, the one that ends there forth
 pub known_pass_from : pass_from (20 ∷ 31 ∷ []) 3 ≡ record { line = 31; back = true }
@@ -38,14 +32,10 @@ known_times = refl
 pub known_less : decremented_at (1 ∷ 4 ∷ 3 ∷ []) 1 ≡ 1 ∷ 3 ∷ 3 ∷ []
 known_less = refl
 
-pub known_ends_left : remaining_ends path (2 ∷ 1 ∷ []) 7 ≡ 3
-known_ends_left = refl
+pub known_remaining_ends : (remaining_ends path (2 ∷ 1 ∷ []) 7 ≡ 3)
+    × (remaining_ends path (2 ∷ 1 ∷ []) 4 ≡ 2)
+known_remaining_ends = (refl, refl)
 
-pub known_ends_left_at_one : remaining_ends path (2 ∷ 1 ∷ []) 4 ≡ 2
-known_ends_left_at_one = refl
-
-pub known_cost_left : remaining_sum edge_cost path (2 ∷ 1 ∷ []) ≡ 16
-known_cost_left = refl
-
-pub known_count_left : remaining_sum one_of path (2 ∷ 1 ∷ []) ≡ 3
-known_count_left = refl
+pub known_remaining_sum : (remaining_sum edge_cost path (2 ∷ 1 ∷ []) ≡ 16)
+    × (remaining_sum one_of path (2 ∷ 1 ∷ []) ≡ 3)
+known_remaining_sum = (refl, refl)

@@ -45,34 +45,22 @@ abbrev pub none_again : List ℕ
 none_again = 0 ∷ 0 ∷ 0 ∷ []
 
 -- four ends of passes are at each of the two junctions: two of the first line's passes, one of each other's
-pub known_ends : pass_ends lens first_again 0 ≡ 4
-known_ends = refl
-
-pub known_ends_beyond : pass_ends lens first_again 1 ≡ 4
-known_ends_beyond = refl
-
-pub known_ends_elsewhere : pass_ends lens first_again 2 ≡ 0
-known_ends_elsewhere = refl
-
-pub known_ends_of_others : pass_ends lens others_again 1 ≡ 8
-known_ends_of_others = refl
-
--- a line that ends where it begins has two ends there
-pub known_ends_of_a_loop : pass_ends (edge 0 1 1 ∷ edge 1 1 3 ∷ []) (0 ∷ 1 ∷ []) 1 ≡ 5
-known_ends_of_a_loop = refl
+pub known_pass_ends : (pass_ends lens first_again 0 ≡ 4)
+    × (pass_ends lens first_again 1 ≡ 4)
+    × (pass_ends lens first_again 2 ≡ 0)
+    × (pass_ends lens others_again 1 ≡ 8)
+    -- a line that ends where it begins has two ends there
+    × (pass_ends (edge 0 1 1 ∷ edge 1 1 3 ∷ []) (0 ∷ 1 ∷ []) 1 ≡ 5)
+known_pass_ends = (refl, refl, refl, refl, refl)
 
 -- copies alone, and not each line's first pass
-pub known_cost : copies_cost lens first_again ≡ 1
-known_cost = refl
+pub known_copies_cost : (copies_cost lens first_again ≡ 1)
+    × (copies_cost lens others_again ≡ 16)
+known_copies_cost = (refl, refl)
 
-pub known_cost_of_others : copies_cost lens others_again ≡ 16
-known_cost_of_others = refl
-
-pub known_count : pass_count first_again ≡ 4
-known_count = refl
-
-pub known_count_of_others : pass_count others_again ≡ 8
-known_count_of_others = refl
+pub known_pass_count : (pass_count first_again ≡ 4)
+    × (pass_count others_again ≡ 8)
+known_pass_count = (refl, refl)
 
 -- a closed walk can pass the lines so often, and these four passes are one
 pub known_can : CanPass closed first_again
@@ -125,21 +113,13 @@ known_cannot can = odd _ refl (can.even 0)
     odd : (n : ℕ) → n ≡ 1 → n ≡ 0 → ⊥
     odd n one none = omega (arith, one, none)
 
-pub known_open : is_walk_start_to_end closed (forth 0 ∷ back 1 ∷ forth 2 ∷ []) ≡ false
-known_open = refl
-
-pub known_way : is_walk_start_to_end (between (Some 0) (Some 1)) (forth 0 ∷ back 1 ∷ forth 2 ∷ []) ≡ true
-known_way = refl
-
-pub known_way_back : is_walk_start_to_end (between (Some 1) (Some 0)) (forth 0 ∷ back 1 ∷ forth 2 ∷ []) ≡ false
-known_way_back = refl
-
--- a single required junction is both start and end
-pub known_start : is_walk_start_to_end (between (Some 1) None) (back 0 ∷ forth 1 ∷ back 2 ∷ forth 0 ∷ []) ≡ true
-known_start = refl
-
-pub known_end : is_walk_start_to_end (between None (Some 1)) (forth 0 ∷ back 1 ∷ forth 2 ∷ back 0 ∷ []) ≡ false
-known_end = refl
+pub known_is_walk_start_to_end : (is_walk_start_to_end closed (forth 0 ∷ back 1 ∷ forth 2 ∷ []) ≡ false)
+    × (is_walk_start_to_end (between (Some 0) (Some 1)) (forth 0 ∷ back 1 ∷ forth 2 ∷ []) ≡ true)
+    × (is_walk_start_to_end (between (Some 1) (Some 0)) (forth 0 ∷ back 1 ∷ forth 2 ∷ []) ≡ false)
+    -- a single required junction is both start and end
+    × (is_walk_start_to_end (between (Some 1) None) (back 0 ∷ forth 1 ∷ back 2 ∷ forth 0 ∷ []) ≡ true)
+    × (is_walk_start_to_end (between None (Some 1)) (forth 0 ∷ back 1 ∷ forth 2 ∷ back 0 ∷ []) ≡ false)
+known_is_walk_start_to_end = (refl, refl, refl, refl, refl)
 
 -- a tour passes each line the given number of times, and begins with the first line, forwards
 pub known_no_tour : IsTour closed first_again (forth 0 ∷ back 2 ∷ forth 2 ∷ back 1 ∷ []) → ⊥

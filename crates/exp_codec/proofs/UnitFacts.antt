@@ -15,46 +15,34 @@ loaded commands ended = Ok (record {
 })
 
 -- a stitch of 122 to the right
-pub known_stitch : exp_reads (0x00 ∷ 0x00 ∷ 0x7A ∷ 0x00 ∷ [])
-    ≡ loaded (Stitch (point (pos 0) (pos 0)) ∷ Stitch (point (pos 122) (pos 0)) ∷ []) true
-known_stitch = refl
-
--- -128 turned downwards is 128
-pub known_lowest : exp_reads (0x00 ∷ 0x00 ∷ 0xFB ∷ 0x80 ∷ [])
-    ≡ loaded (Stitch (point (pos 0) (pos 0)) ∷ Stitch (point (negsuc 4) (pos 128)) ∷ []) true
-known_lowest = refl
-
--- a stop without a move and one with a move, a stitch of four bytes, a jump, and a trim that does not move
-pub known_controls : exp_reads (0x80 ∷ 0x01 ∷ 0x00 ∷ 0x00 ∷ 0x80 ∷ 0x01 ∷ 0x01 ∷ 0x02 ∷ 0x80 ∷ 0x02 ∷ 0x01 ∷ 0x00
+pub known_exp_reads : (exp_reads (0x00 ∷ 0x00 ∷ 0x7A ∷ 0x00 ∷ [])
+    ≡ loaded (Stitch (point (pos 0) (pos 0)) ∷ Stitch (point (pos 122) (pos 0)) ∷ []) true)
+    -- -128 turned downwards is 128
+    × (exp_reads (0x00 ∷ 0x00 ∷ 0xFB ∷ 0x80 ∷ [])
+    ≡ loaded (Stitch (point (pos 0) (pos 0)) ∷ Stitch (point (negsuc 4) (pos 128)) ∷ []) true)
+    -- a stop without a move and one with a move, a stitch of four bytes, a jump, and a trim that does not move
+    × (exp_reads (0x80 ∷ 0x01 ∷ 0x00 ∷ 0x00 ∷ 0x80 ∷ 0x01 ∷ 0x01 ∷ 0x02 ∷ 0x80 ∷ 0x02 ∷ 0x01 ∷ 0x00
     ∷ 0x80 ∷ 0x04 ∷ 0x00 ∷ 0xFF ∷ 0x80 ∷ 0x80 ∷ 0x07 ∷ 0x07 ∷ 0x01 ∷ 0x00 ∷ [])
     ≡ loaded (Stop ∷ Stop ∷ Jump (point (pos 1) (negsuc 1)) ∷ Stitch (point (pos 2) (negsuc 1))
-    ∷ Jump (point (pos 2) (negsuc 0)) ∷ Trim ∷ Stitch (point (pos 3) (negsuc 0)) ∷ []) true
-known_controls = refl
-
--- an uncut jump of 400
-pub known_jumps : exp_reads (0x00 ∷ 0x00 ∷ 0x80 ∷ 0x04 ∷ 0x64 ∷ 0x00 ∷ 0x80 ∷ 0x04 ∷ 0x64 ∷ 0x00 ∷ 0x80 ∷ 0x04 ∷ 0x64 ∷ 0x00
+    ∷ Jump (point (pos 2) (negsuc 0)) ∷ Trim ∷ Stitch (point (pos 3) (negsuc 0)) ∷ []) true)
+    -- an uncut jump of 400
+    × (exp_reads (0x00 ∷ 0x00 ∷ 0x80 ∷ 0x04 ∷ 0x64 ∷ 0x00 ∷ 0x80 ∷ 0x04 ∷ 0x64 ∷ 0x00 ∷ 0x80 ∷ 0x04 ∷ 0x64 ∷ 0x00
     ∷ 0x80 ∷ 0x04 ∷ 0x64 ∷ 0x00 ∷ 0x00 ∷ 0x00 ∷ [])
     ≡ loaded (Stitch (point (pos 0) (pos 0)) ∷ Jump (point (pos 100) (pos 0)) ∷ Jump (point (pos 200) (pos 0))
-    ∷ Jump (point (pos 300) (pos 0)) ∷ Jump (point (pos 400) (pos 0)) ∷ Stitch (point (pos 400) (pos 0)) ∷ []) true
-known_jumps = refl
-
--- an incomplete unit is ignored, whatever its control byte, and then the file has not ended
-pub known_odd : exp_reads (0x01 ∷ 0x00 ∷ 0x02 ∷ []) ≡ loaded (Stitch (point (pos 1) (pos 0)) ∷ []) false
-known_odd = refl
-
-pub known_cut_off : exp_reads (0x01 ∷ 0x00 ∷ 0x80 ∷ 0x03 ∷ 0x00 ∷ []) ≡ loaded (Stitch (point (pos 1) (pos 0)) ∷ []) false
-known_cut_off = refl
+    ∷ Jump (point (pos 300) (pos 0)) ∷ Jump (point (pos 400) (pos 0)) ∷ Stitch (point (pos 400) (pos 0)) ∷ []) true)
+    -- an incomplete unit is ignored, whatever its control byte, and then the file has not ended
+    × (exp_reads (0x01 ∷ 0x00 ∷ 0x02 ∷ []) ≡ loaded (Stitch (point (pos 1) (pos 0)) ∷ []) false)
+    × (exp_reads (0x01 ∷ 0x00 ∷ 0x80 ∷ 0x03 ∷ 0x00 ∷ []) ≡ loaded (Stitch (point (pos 1) (pos 0)) ∷ []) false)
+known_exp_reads = (refl, refl, refl, refl, refl, refl)
 
 -- the first byte of a unit of two or of four alone
 pub known_begun : map exp_reads ((0x01 ∷ []) ∷ (0x80 ∷ 0x01 ∷ []) ∷ []) ≡ loaded [] false ∷ loaded [] false ∷ []
 known_begun = refl
 
 -- any other control byte is refused at its unit, with the commands and the moves before it
-pub known_control : exp_reads (0x01 ∷ 0x00 ∷ 0x80 ∷ 0x03 ∷ 0x00 ∷ 0x00 ∷ []) ≡ Err (fault.Control 2)
-known_control = refl
-
-pub known_later_control : exp_reads (0x80 ∷ 0x80 ∷ 0x07 ∷ 0x00 ∷ 0x80 ∷ 0x03 ∷ 0x00 ∷ 0x00 ∷ []) ≡ Err (fault.Control 4)
-known_later_control = refl
+pub known_control : (exp_reads (0x01 ∷ 0x00 ∷ 0x80 ∷ 0x03 ∷ 0x00 ∷ 0x00 ∷ []) ≡ Err (fault.Control 2))
+    × (exp_reads (0x80 ∷ 0x80 ∷ 0x07 ∷ 0x00 ∷ 0x80 ∷ 0x03 ∷ 0x00 ∷ 0x00 ∷ []) ≡ Err (fault.Control 4))
+known_control = (refl, refl)
 
 pub known_shown : exp_shown (0x01 ∷ 0x00 ∷ 0x80 ∷ 0x03 ∷ 0x00 ∷ 0x00 ∷ []) ≡ Stitch (point (pos 1) (pos 0)) ∷ []
 known_shown = refl

@@ -19,37 +19,27 @@ pub known_limit : LIMIT ≡ 127
 known_limit = refl
 
 -- a jump downwards and to the left, as a stitch: y is written upwards
-pub known_jump_down : exp_writes (sewn (Stitch (point (negsuc 99) (pos 100)) ∷ []))
-    ≡ Ok (0x80 ∷ 0x04 ∷ 0x9C ∷ 0x9C ∷ 0x00 ∷ 0x00 ∷ [])
-known_jump_down = refl
-
--- the greatest move in both directions
-pub known_greatest : exp_writes (sewn (Stitch (point (pos 0) (pos 0)) ∷ Stitch (point (pos 127) (pos 127)) ∷ []))
-    ≡ Ok (0x00 ∷ 0x00 ∷ 0x7F ∷ 0x81 ∷ [])
-known_greatest = refl
-
--- a square of 30 and a trim
-pub known_square : exp_writes (sewn (Stitch (point (pos 0) (pos 0)) ∷ Stitch (point (pos 30) (pos 0))
+pub known_exp_writes : (exp_writes (sewn (Stitch (point (negsuc 99) (pos 100)) ∷ []))
+    ≡ Ok (0x80 ∷ 0x04 ∷ 0x9C ∷ 0x9C ∷ 0x00 ∷ 0x00 ∷ []))
+    -- the greatest move in both directions
+    × (exp_writes (sewn (Stitch (point (pos 0) (pos 0)) ∷ Stitch (point (pos 127) (pos 127)) ∷ []))
+    ≡ Ok (0x00 ∷ 0x00 ∷ 0x7F ∷ 0x81 ∷ []))
+    -- a square of 30 and a trim
+    × (exp_writes (sewn (Stitch (point (pos 0) (pos 0)) ∷ Stitch (point (pos 30) (pos 0))
     ∷ Stitch (point (pos 30) (pos 30)) ∷ Stitch (point (pos 0) (pos 30)) ∷ Stitch (point (pos 0) (pos 0)) ∷ Trim ∷ []))
-    ≡ Ok (0x00 ∷ 0x00 ∷ 0x1E ∷ 0x00 ∷ 0x00 ∷ 0xE2 ∷ 0xE2 ∷ 0x00 ∷ 0x00 ∷ 0x1E ∷ 0x80 ∷ 0x80 ∷ 0x07 ∷ 0x00 ∷ [])
-known_square = refl
-
--- the greatest move to the left
-pub known_left : exp_writes (sewn (Stitch (point (pos 0) (pos 0)) ∷ Stitch (point (negsuc 126) (pos 0)) ∷ []))
-    ≡ Ok (0x00 ∷ 0x00 ∷ 0x81 ∷ 0x00 ∷ [])
-known_left = refl
-
--- a float of 400 takes four jumps and a stitch without a move, and a stop has its unit
-pub known_float : exp_writes (sewn (Stitch (point (pos 0) (pos 0)) ∷ Jump (point (pos 400) (pos 0))
+    ≡ Ok (0x00 ∷ 0x00 ∷ 0x1E ∷ 0x00 ∷ 0x00 ∷ 0xE2 ∷ 0xE2 ∷ 0x00 ∷ 0x00 ∷ 0x1E ∷ 0x80 ∷ 0x80 ∷ 0x07 ∷ 0x00 ∷ []))
+    -- the greatest move to the left
+    × (exp_writes (sewn (Stitch (point (pos 0) (pos 0)) ∷ Stitch (point (negsuc 126) (pos 0)) ∷ []))
+    ≡ Ok (0x00 ∷ 0x00 ∷ 0x81 ∷ 0x00 ∷ []))
+    -- a float of 400 takes four jumps and a stitch without a move, and a stop has its unit
+    × (exp_writes (sewn (Stitch (point (pos 0) (pos 0)) ∷ Jump (point (pos 400) (pos 0))
     ∷ Stitch (point (pos 400) (pos 0)) ∷ Stop ∷ []))
     ≡ Ok (0x00 ∷ 0x00 ∷ 0x80 ∷ 0x04 ∷ 0x64 ∷ 0x00 ∷ 0x80 ∷ 0x04 ∷ 0x64 ∷ 0x00 ∷ 0x80 ∷ 0x04 ∷ 0x64 ∷ 0x00
-    ∷ 0x80 ∷ 0x04 ∷ 0x64 ∷ 0x00 ∷ 0x00 ∷ 0x00 ∷ 0x80 ∷ 0x01 ∷ 0x00 ∷ 0x00 ∷ [])
-known_float = refl
-
--- a stitch of 128 is refused
-pub known_long : exp_writes (sewn (Stitch (point (pos 0) (pos 0)) ∷ Stitch (point (negsuc 4) (pos 128)) ∷ []))
-    ≡ Err (fault.StitchTooLong 2)
-known_long = refl
+    ∷ 0x80 ∷ 0x04 ∷ 0x64 ∷ 0x00 ∷ 0x00 ∷ 0x00 ∷ 0x80 ∷ 0x01 ∷ 0x00 ∷ 0x00 ∷ []))
+    -- a stitch of 128 is refused
+    × (exp_writes (sewn (Stitch (point (pos 0) (pos 0)) ∷ Stitch (point (negsuc 4) (pos 128)) ∷ []))
+    ≡ Err (fault.StitchTooLong 2))
+known_exp_writes = (refl, refl, refl, refl, refl, refl)
 
 -- a design may have as many stops as commands
 pub known_stops : refusal_of_act exp_write_limits (record { loose = true; place = origin; stops = 999999; room = 999999 })

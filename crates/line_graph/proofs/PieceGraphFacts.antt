@@ -117,20 +117,14 @@ pub known_theta : piece_graph theta (0 ∷ 1 ∷ 2 ∷ []) ≡ record {
 known_theta = refl
 
 -- one line is passed twice, so that the walk comes home
-pub known_home : is_fitting_walk (piece_graph theta (0 ∷ 1 ∷ 2 ∷ [])) (forth 0 ∷ forth 1 ∷ forth 2 ∷ back 0 ∷ []) ≡ true
-known_home = refl
-
--- a walk that ends elsewhere doesn't fit
-pub known_open : is_fitting_walk (piece_graph theta (0 ∷ 1 ∷ 2 ∷ [])) (forth 0 ∷ forth 1 ∷ forth 2 ∷ []) ≡ false
-known_open = refl
-
--- nor one whose line does not start where the one before ended
-pub known_broken : is_fitting_walk (piece_graph theta (0 ∷ 1 ∷ 2 ∷ [])) (forth 0 ∷ back 1 ∷ forth 2 ∷ back 0 ∷ []) ≡ false
-known_broken = refl
-
--- nor one that omits a line
-pub known_uncovered : is_fitting_walk (piece_graph theta (0 ∷ 1 ∷ 2 ∷ [])) (forth 0 ∷ forth 1 ∷ []) ≡ false
-known_uncovered = refl
+pub known_is_fitting_walk : (is_fitting_walk (piece_graph theta (0 ∷ 1 ∷ 2 ∷ [])) (forth 0 ∷ forth 1 ∷ forth 2 ∷ back 0 ∷ []) ≡ true)
+    -- a walk that ends elsewhere doesn't fit
+    × (is_fitting_walk (piece_graph theta (0 ∷ 1 ∷ 2 ∷ [])) (forth 0 ∷ forth 1 ∷ forth 2 ∷ []) ≡ false)
+    -- nor one whose line does not start where the one before ended
+    × (is_fitting_walk (piece_graph theta (0 ∷ 1 ∷ 2 ∷ [])) (forth 0 ∷ back 1 ∷ forth 2 ∷ back 0 ∷ []) ≡ false)
+    -- nor one that omits a line
+    × (is_fitting_walk (piece_graph theta (0 ∷ 1 ∷ 2 ∷ [])) (forth 0 ∷ forth 1 ∷ []) ≡ false)
+known_is_fitting_walk = (refl, refl, refl, refl)
 
 -- numbers that rise repeat none
 pub known_rising : (is_strictly_increasing (1 ∷ 3 ∷ 4 ∷ []) ≡ true) × (is_strictly_increasing (1 ∷ 3 ∷ 3 ∷ []) ≡ false)

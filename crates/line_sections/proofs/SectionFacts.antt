@@ -67,17 +67,13 @@ pub known_point : AreCut (lines_through 3 ((at 1 1 ∷ []) ∷ [] ∷ [])) (line
 known_point = (refl, refl)
 
 -- an equal point in another block is another spot, and so is another point
-pub known_spots : map (is_same_spot (record { block = 1; at = at 3 4 })) (record { block = 1; at = at 3 4 }
+pub known_spots : (map (is_same_spot (record { block = 1; at = at 3 4 })) (record { block = 1; at = at 3 4 }
     ∷ record { block = 0; at = at 3 4 }
-    ∷ record { block = 1; at = at 4 3 } ∷ []) ≡ true ∷ false ∷ false ∷ []
-known_spots = refl
-
--- from the second time on a spot is listed again
-pub known_marks : map mark_of (0 ∷ 1 ∷ 2 ∷ 3 ∷ []) ≡ None ∷ Some false ∷ Some true ∷ Some true ∷ []
-known_marks = refl
-
-pub known_again : map is_listed_again (None ∷ Some false ∷ Some true ∷ []) ≡ false ∷ false ∷ true ∷ []
-known_again = refl
+    ∷ record { block = 1; at = at 4 3 } ∷ []) ≡ true ∷ false ∷ false ∷ [])
+    -- from the second time on a spot is listed again
+    × (map mark_of (0 ∷ 1 ∷ 2 ∷ 3 ∷ []) ≡ None ∷ Some false ∷ Some true ∷ Some true ∷ [])
+    × (map is_listed_again (None ∷ Some false ∷ Some true ∷ []) ≡ false ∷ false ∷ true ∷ [])
+known_spots = (refl, refl, refl)
 
 -- the theorem on segments is about lines of two points, and that on whole lines about lines of one point
 pub known_two_points : SectionsHaveSegments → (is_cut : Point → Bool) (p q : Point)

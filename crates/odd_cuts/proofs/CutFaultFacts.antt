@@ -11,63 +11,31 @@ cut weight members = record { weight = weight; members = members }
 abbrev ends : List Cut
 ends = cut 4 (1 ∷ []) ∷ cut 6 (2 ∷ []) ∷ cut 2 (3 ∷ []) ∷ []
 
-pub known_right : cuts_fault closed 6 ends ≡ None
-known_right = refl
-
--- weights of one cut add up, and a junction named twice counts once
-pub known_parts : cuts_fault closed 6 (cut 1 (1 ∷ []) ∷ cut 3 (1 ∷ 1 ∷ []) ∷ cut 6 (2 ∷ []) ∷ cut 2 (3 ∷ []) ∷ []) ≡ None
-known_parts = refl
-
--- the other side of a cut does as well
-pub known_outside : cuts_fault closed 6 (cut 4 (3 ∷ 0 ∷ 2 ∷ []) ∷ cut 6 (2 ∷ []) ∷ cut 2 (3 ∷ []) ∷ []) ≡ None
-known_outside = refl
-
-pub known_stranger : cuts_fault closed 6 (cut 4 (1 ∷ []) ∷ cut 6 (2 ∷ 4 ∷ 7 ∷ []) ∷ []) ≡ Some (fault.Stranger 2 5)
-known_stranger = refl
-
-pub known_even : cuts_fault closed 6 (cut 4 (1 ∷ []) ∷ cut 6 (2 ∷ 0 ∷ []) ∷ []) ≡ Some (fault.EvenCut 2 2)
-known_even = refl
-
-pub known_empty : cuts_fault closed 6 (cut 4 [] ∷ []) ≡ Some (fault.EvenCut 1 0)
-known_empty = refl
-
-pub known_twice : cuts_fault closed 6 (cut 4 (1 ∷ 1 ∷ 3 ∷ []) ∷ []) ≡ Some (fault.EvenCut 1 2)
-known_twice = refl
-
--- the first cut with a fault is reported, and of one cut the stranger
-pub known_order : cuts_fault closed 6 (cut 4 (1 ∷ 2 ∷ []) ∷ cut 6 (9 ∷ []) ∷ []) ≡ Some (fault.EvenCut 1 2)
-known_order = refl
-
-pub known_other_order : cuts_fault closed 6 (cut 4 (1 ∷ 2 ∷ 8 ∷ []) ∷ []) ≡ Some (fault.Stranger 1 9)
-known_other_order = refl
-
--- the third line is number 6 of the drawing; a load is what all cuts add up to
-pub known_overload : cuts_fault closed 6 (cut 4 (1 ∷ []) ∷ cut 2 (3 ∷ []) ∷ cut 1 (0 ∷ 1 ∷ 2 ∷ []) ∷ []) ≡ Some (fault.Overload 6 3 2)
-known_overload = refl
-
--- the first line that carries too much, whatever the total
-pub known_first_overload : cuts_fault closed 6 (cut 3 (3 ∷ []) ∷ cut 9 (2 ∷ []) ∷ []) ≡ Some (fault.Overload 3 9 6)
-known_first_overload = refl
-
-pub known_even_first : cuts_fault closed 6 (cut 9 (2 ∷ []) ∷ cut 1 (1 ∷ 2 ∷ []) ∷ []) ≡ Some (fault.EvenCut 2 2)
-known_even_first = refl
-
-pub known_total : cuts_fault closed 6 (cut 4 (1 ∷ []) ∷ cut 6 (2 ∷ []) ∷ cut 1 (3 ∷ []) ∷ []) ≡ Some (fault.Total 11 12)
-known_total = refl
-
-pub known_none : cuts_fault closed 6 [] ≡ Some (fault.Total 0 12)
-known_none = refl
-
--- between two different junctions these two are odd no more, and the walk retraces one line
-pub known_between : cuts_fault (star (Some 1) (Some 3)) 3 (cut 6 (2 ∷ []) ∷ []) ≡ None
-known_between = refl
-
-pub known_changed : cuts_fault (star (Some 1) (Some 3)) 3 (cut 6 (3 ∷ []) ∷ []) ≡ Some (fault.EvenCut 1 0)
-known_changed = refl
-
--- where a single junction is required, none changes
-pub known_unchanged : cuts_fault (star (Some 1) None) 6 ends ≡ None
-known_unchanged = refl
+pub known_cuts_fault : (cuts_fault closed 6 ends ≡ None)
+    -- weights of one cut add up, and a junction named twice counts once
+    × (cuts_fault closed 6 (cut 1 (1 ∷ []) ∷ cut 3 (1 ∷ 1 ∷ []) ∷ cut 6 (2 ∷ []) ∷ cut 2 (3 ∷ []) ∷ []) ≡ None)
+    -- the other side of a cut does as well
+    × (cuts_fault closed 6 (cut 4 (3 ∷ 0 ∷ 2 ∷ []) ∷ cut 6 (2 ∷ []) ∷ cut 2 (3 ∷ []) ∷ []) ≡ None)
+    × (cuts_fault closed 6 (cut 4 (1 ∷ []) ∷ cut 6 (2 ∷ 4 ∷ 7 ∷ []) ∷ []) ≡ Some (fault.Stranger 2 5))
+    × (cuts_fault closed 6 (cut 4 (1 ∷ []) ∷ cut 6 (2 ∷ 0 ∷ []) ∷ []) ≡ Some (fault.EvenCut 2 2))
+    × (cuts_fault closed 6 (cut 4 [] ∷ []) ≡ Some (fault.EvenCut 1 0))
+    × (cuts_fault closed 6 (cut 4 (1 ∷ 1 ∷ 3 ∷ []) ∷ []) ≡ Some (fault.EvenCut 1 2))
+    -- the first cut with a fault is reported, and of one cut the stranger
+    × (cuts_fault closed 6 (cut 4 (1 ∷ 2 ∷ []) ∷ cut 6 (9 ∷ []) ∷ []) ≡ Some (fault.EvenCut 1 2))
+    × (cuts_fault closed 6 (cut 4 (1 ∷ 2 ∷ 8 ∷ []) ∷ []) ≡ Some (fault.Stranger 1 9))
+    -- the third line is number 6 of the drawing; a load is what all cuts add up to
+    × (cuts_fault closed 6 (cut 4 (1 ∷ []) ∷ cut 2 (3 ∷ []) ∷ cut 1 (0 ∷ 1 ∷ 2 ∷ []) ∷ []) ≡ Some (fault.Overload 6 3 2))
+    -- the first line that carries too much, whatever the total
+    × (cuts_fault closed 6 (cut 3 (3 ∷ []) ∷ cut 9 (2 ∷ []) ∷ []) ≡ Some (fault.Overload 3 9 6))
+    × (cuts_fault closed 6 (cut 9 (2 ∷ []) ∷ cut 1 (1 ∷ 2 ∷ []) ∷ []) ≡ Some (fault.EvenCut 2 2))
+    × (cuts_fault closed 6 (cut 4 (1 ∷ []) ∷ cut 6 (2 ∷ []) ∷ cut 1 (3 ∷ []) ∷ []) ≡ Some (fault.Total 11 12))
+    × (cuts_fault closed 6 [] ≡ Some (fault.Total 0 12))
+    -- between two different junctions these two are odd no more, and the walk retraces one line
+    × (cuts_fault (star (Some 1) (Some 3)) 3 (cut 6 (2 ∷ []) ∷ []) ≡ None)
+    × (cuts_fault (star (Some 1) (Some 3)) 3 (cut 6 (3 ∷ []) ∷ []) ≡ Some (fault.EvenCut 1 0))
+    -- where a single junction is required, none changes
+    × (cuts_fault (star (Some 1) None) 6 ends ≡ None)
+known_cuts_fault = (refl, refl, refl, refl, refl, refl, refl, refl, refl, refl, refl, refl, refl, refl, refl, refl, refl)
 
 -- a walk from the middle to an end has a junction of even degree that is odd
 abbrev path : PieceValue
@@ -97,8 +65,6 @@ complete = record {
   end = None;
 }
 
-pub known_halves : cuts_fault complete 2 (cut 1 (0 ∷ []) ∷ cut 1 (1 ∷ []) ∷ cut 1 (2 ∷ []) ∷ cut 1 (3 ∷ []) ∷ []) ≡ None
-known_halves = refl
-
-pub known_too_much : cuts_fault complete 2 (cut 2 (0 ∷ []) ∷ cut 1 (1 ∷ []) ∷ cut 1 (2 ∷ []) ∷ []) ≡ Some (fault.Overload 1 3 2)
-known_too_much = refl
+pub known_halves : (cuts_fault complete 2 (cut 1 (0 ∷ []) ∷ cut 1 (1 ∷ []) ∷ cut 1 (2 ∷ []) ∷ cut 1 (3 ∷ []) ∷ []) ≡ None)
+    × (cuts_fault complete 2 (cut 2 (0 ∷ []) ∷ cut 1 (1 ∷ []) ∷ cut 1 (2 ∷ []) ∷ []) ≡ Some (fault.Overload 1 3 2))
+known_halves = (refl, refl)

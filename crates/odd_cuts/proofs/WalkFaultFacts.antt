@@ -47,56 +47,36 @@ pub known_fits : is_fitting_walk closed all_twice ≡ true
 known_fits = refl
 
 -- no line of the drawing but of the piece: the second line is none of it
-pub known_stranger : walk_fault closed (forth 0 ∷ back 0 ∷ forth 1 ∷ []) ≡ Some (fault.Stranger 3)
-known_stranger = refl
-
-pub known_first_stranger : walk_fault closed (forth 1 ∷ forth 2 ∷ []) ≡ Some (fault.Stranger 1)
-known_first_stranger = refl
-
--- the line towards the middle is passed forth where it is to be passed back
-pub known_broken : walk_fault closed (forth 0 ∷ back 0 ∷ forth 2 ∷ back 2 ∷ forth 5 ∷ back 5 ∷ []) ≡ Some (fault.Broken 5)
-known_broken = refl
-
--- the first pass with a fault is reported, and of one pass that it is along no line
-pub known_order : walk_fault closed (forth 0 ∷ forth 2 ∷ forth 1 ∷ []) ≡ Some (fault.Broken 2)
-known_order = refl
-
-pub known_other_order : walk_fault closed (forth 0 ∷ forth 1 ∷ forth 2 ∷ []) ≡ Some (fault.Stranger 2)
-known_other_order = refl
-
--- the last pass is missing, so the walk is open, though each line is passed
-pub known_open : walk_fault closed (forth 0 ∷ back 0 ∷ forth 2 ∷ back 2 ∷ back 5 ∷ []) ≡ Some fault.Open
-known_open = refl
+pub known_walk_fault : (walk_fault closed (forth 0 ∷ back 0 ∷ forth 1 ∷ []) ≡ Some (fault.Stranger 3))
+    × (walk_fault closed (forth 1 ∷ forth 2 ∷ []) ≡ Some (fault.Stranger 1))
+    -- the line towards the middle is passed forth where it is to be passed back
+    × (walk_fault closed (forth 0 ∷ back 0 ∷ forth 2 ∷ back 2 ∷ forth 5 ∷ back 5 ∷ []) ≡ Some (fault.Broken 5))
+    -- the first pass with a fault is reported, and of one pass that it is along no line
+    × (walk_fault closed (forth 0 ∷ forth 2 ∷ forth 1 ∷ []) ≡ Some (fault.Broken 2))
+    × (walk_fault closed (forth 0 ∷ forth 1 ∷ forth 2 ∷ []) ≡ Some (fault.Stranger 2))
+    -- the last pass is missing, so the walk is open, though each line is passed
+    × (walk_fault closed (forth 0 ∷ back 0 ∷ forth 2 ∷ back 2 ∷ back 5 ∷ []) ≡ Some fault.Open)
+known_walk_fault = (refl, refl, refl, refl, refl, refl)
 
 pub known_no_fit : is_fitting_walk closed (forth 0 ∷ back 0 ∷ forth 2 ∷ back 2 ∷ back 5 ∷ []) ≡ false
 known_no_fit = refl
 
-pub known_empty : walk_fault closed [] ≡ Some fault.Open
-known_empty = refl
-
--- the first line that isn't passed, by its number in the drawing
-pub known_missing : walk_fault closed (back 5 ∷ forth 5 ∷ []) ≡ Some (fault.Missing 1)
-known_missing = refl
-
-pub known_last_missing : walk_fault closed (forth 0 ∷ back 0 ∷ forth 2 ∷ back 2 ∷ []) ≡ Some (fault.Missing 6)
-known_last_missing = refl
-
--- an open walk that omits a line is reported as open
-pub known_open_first : walk_fault closed (forth 0 ∷ []) ≡ Some fault.Open
-known_open_first = refl
+pub known_empty : (walk_fault closed [] ≡ Some fault.Open)
+    -- the first line that isn't passed, by its number in the drawing
+    × (walk_fault closed (back 5 ∷ forth 5 ∷ []) ≡ Some (fault.Missing 1))
+    × (walk_fault closed (forth 0 ∷ back 0 ∷ forth 2 ∷ back 2 ∷ []) ≡ Some (fault.Missing 6))
+    -- an open walk that omits a line is reported as open
+    × (walk_fault closed (forth 0 ∷ []) ≡ Some fault.Open)
+known_empty = (refl, refl, refl, refl)
 
 -- from the end of one line to that of another
 abbrev way : List Pass
 way = back 0 ∷ forth 2 ∷ back 2 ∷ back 5 ∷ []
 
-pub known_way : walk_fault (star (Some 1) (Some 3)) way ≡ None
-known_way = refl
-
-pub known_wrong_start : walk_fault (star (Some 3) (Some 1)) way ≡ Some fault.WrongStart
-known_wrong_start = refl
-
-pub known_wrong_end : walk_fault (star (Some 1) (Some 2)) way ≡ Some fault.WrongEnd
-known_wrong_end = refl
+pub known_way : (walk_fault (star (Some 1) (Some 3)) way ≡ None)
+    × (walk_fault (star (Some 3) (Some 1)) way ≡ Some fault.WrongStart)
+    × (walk_fault (star (Some 1) (Some 2)) way ≡ Some fault.WrongEnd)
+known_way = (refl, refl, refl)
 
 -- the passes are judged before the ends
 pub known_passes_first : (walk_fault (star (Some 3) (Some 1)) (back 0 ∷ forth 1 ∷ []) ≡ Some (fault.Stranger 2))
@@ -105,19 +85,11 @@ pub known_passes_first : (walk_fault (star (Some 3) (Some 1)) (back 0 ∷ forth 
 known_passes_first = (refl, refl, refl)
 
 -- the start is judged before the end
-pub known_start_first : walk_fault (star (Some 3) (Some 3)) (back 0 ∷ forth 2 ∷ []) ≡ Some fault.WrongStart
-known_start_first = refl
-
--- a single required junction is both start and end
-pub known_wrong_return : walk_fault (star None (Some 1)) way ≡ Some fault.WrongEnd
-known_wrong_return = refl
-
-pub known_return : walk_fault (star (Some 0) None) all_twice ≡ None
-known_return = refl
-
-pub known_no_pass : walk_fault (star (Some 0) None) [] ≡ Some fault.WrongStart
-known_no_pass = refl
-
--- a wrong end is reported before a missing line
-pub known_end_first : walk_fault (star (Some 0) (Some 2)) (forth 0 ∷ []) ≡ Some fault.WrongEnd
-known_end_first = refl
+pub known_start_first : (walk_fault (star (Some 3) (Some 3)) (back 0 ∷ forth 2 ∷ []) ≡ Some fault.WrongStart)
+    -- a single required junction is both start and end
+    × (walk_fault (star None (Some 1)) way ≡ Some fault.WrongEnd)
+    × (walk_fault (star (Some 0) None) all_twice ≡ None)
+    × (walk_fault (star (Some 0) None) [] ≡ Some fault.WrongStart)
+    -- a wrong end is reported before a missing line
+    × (walk_fault (star (Some 0) (Some 2)) (forth 0 ∷ []) ≡ Some fault.WrongEnd)
+known_start_first = (refl, refl, refl, refl, refl)

@@ -48,38 +48,22 @@ star start end = record {
   end = end;
 }
 
-pub known_odd_path : odd_junctions (path None None) ≡ 0 ∷ 2 ∷ []
-known_odd_path = refl
-
-pub known_odd_theta : odd_junctions (theta None None) ≡ 0 ∷ 1 ∷ []
-known_odd_theta = refl
-
-pub known_odd_star : odd_junctions (star None None) ≡ 0 ∷ 1 ∷ 2 ∷ 3 ∷ []
-known_odd_star = refl
-
--- a start and an end that differ change from odd to even, or back
-pub known_odd_from_to : odd_junctions (path (Some 0) (Some 1)) ≡ 1 ∷ 2 ∷ []
-known_odd_from_to = refl
-
-pub known_odd_ends : odd_junctions (theta (Some 1) (Some 0)) ≡ []
-known_odd_ends = refl
-
-pub known_odd_leaves : odd_junctions (star (Some 1) (Some 2)) ≡ 0 ∷ 3 ∷ []
-known_odd_leaves = refl
-
--- a single required junction is both start and end, and nothing changes
-pub known_odd_start : odd_junctions (star (Some 1) None) ≡ 0 ∷ 1 ∷ 2 ∷ 3 ∷ []
-known_odd_start = refl
-
-pub known_odd_end : odd_junctions (theta None (Some 1)) ≡ 0 ∷ 1 ∷ []
-known_odd_end = refl
+pub known_odd_junctions : (odd_junctions (path None None) ≡ 0 ∷ 2 ∷ [])
+    × (odd_junctions (theta None None) ≡ 0 ∷ 1 ∷ [])
+    × (odd_junctions (star None None) ≡ 0 ∷ 1 ∷ 2 ∷ 3 ∷ [])
+    -- a start and an end that differ change from odd to even, or back
+    × (odd_junctions (path (Some 0) (Some 1)) ≡ 1 ∷ 2 ∷ [])
+    × (odd_junctions (theta (Some 1) (Some 0)) ≡ [])
+    × (odd_junctions (star (Some 1) (Some 2)) ≡ 0 ∷ 3 ∷ [])
+    -- a single required junction is both start and end, and nothing changes
+    × (odd_junctions (star (Some 1) None) ≡ 0 ∷ 1 ∷ 2 ∷ 3 ∷ [])
+    × (odd_junctions (theta None (Some 1)) ≡ 0 ∷ 1 ∷ [])
+known_odd_junctions = (refl, refl, refl, refl, refl, refl, refl, refl)
 
 -- the degrees give the same junctions
-pub known_told : odds_from (Some 0) (Some 1) 0 (1 ∷ 2 ∷ 1 ∷ []) ≡ 1 ∷ 2 ∷ []
-known_told = refl
-
-pub known_told_alone : odds_from None None 0 (3 ∷ 1 ∷ 1 ∷ 1 ∷ []) ≡ 0 ∷ 1 ∷ 2 ∷ 3 ∷ []
-known_told_alone = refl
+pub known_odds_from : (odds_from (Some 0) (Some 1) 0 (1 ∷ 2 ∷ 1 ∷ []) ≡ 1 ∷ 2 ∷ [])
+    × (odds_from None None 0 (3 ∷ 1 ∷ 1 ∷ 1 ∷ []) ≡ 0 ∷ 1 ∷ 2 ∷ 3 ∷ [])
+known_odds_from = (refl, refl)
 
 -- the rows of the path's odd junctions
 abbrev ends : RowsValue

@@ -37,20 +37,16 @@ known_outer_members = refl
 pub known_inner_members : inner_members tree ≡ 1 ∷ 2 ∷ 3 ∷ 5 ∷ []
 known_inner_members = refl
 
-pub known_inner_bands : keys (inner_dual_sets tree) ≡ 9 ∷ 1 ∷ 2 ∷ 3 ∷ 5 ∷ []
-known_inner_bands = refl
-
--- the root, the tree and the matches, in each the sets inside the blossom as well
-pub known_all_bands : keys (all_dual_sets (place 0 1) tree matches)
-    ≡ 0 ∷ 9 ∷ 1 ∷ 2 ∷ 3 ∷ 4 ∷ 5 ∷ 6 ∷ 4 ∷ 9 ∷ 1 ∷ 2 ∷ 3 ∷ 5 ∷ 6 ∷ []
-known_all_bands = refl
+pub known_keys : (keys (inner_dual_sets tree) ≡ 9 ∷ 1 ∷ 2 ∷ 3 ∷ 5 ∷ [])
+    -- the root, the tree and the matches, in each the sets inside the blossom as well
+    × (keys (all_dual_sets (place 0 1) tree matches)
+    ≡ 0 ∷ 9 ∷ 1 ∷ 2 ∷ 3 ∷ 4 ∷ 5 ∷ 6 ∷ 4 ∷ 9 ∷ 1 ∷ 2 ∷ 3 ∷ 5 ∷ 6 ∷ [])
+known_keys = (refl, refl)
 
 -- the outer set of the second branch alone holds place 6, and no outer set holds places 4 and 6
-pub known_around : outer_with_both 6 6 tree ≡ 1
-known_around = refl
-
-pub known_apart : outer_with_both 4 6 tree ≡ 0
-known_apart = refl
+pub known_outer_with_both : (outer_with_both 6 6 tree ≡ 1)
+    × (outer_with_both 4 6 tree ≡ 0)
+known_outer_with_both = (refl, refl)
 
 pub known_members_in : members_in (part (place 4 1) 4 1 ∷ part blossom 1 4 ∷ []) ≡ 4 ∷ 1 ∷ 2 ∷ 3 ∷ []
 known_members_in = refl

@@ -11,8 +11,6 @@ pub known_greatest : MAX_COUNT + 1 ≡ 2 ^ 64
 known_greatest = refl
 
 -- the greatest count is reached, and left no more
-pub known_end : next_count 18446744073709551614 ≡ MAX_COUNT
-known_end = refl
-
-pub known_still : next_count MAX_COUNT ≡ MAX_COUNT
-known_still = refl
+pub known_next_count : (next_count 18446744073709551614 ≡ MAX_COUNT)
+    × (next_count MAX_COUNT ≡ MAX_COUNT)
+known_next_count = (refl, refl)

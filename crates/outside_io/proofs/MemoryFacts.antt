@@ -73,11 +73,9 @@ unfolding two
 known_larger_room = refl
 
 -- calls are numbered from 1: after two, the next is the third
-pub known_listed : is_next_call_listed (3 ∷ []) 2 ≡ true
-known_listed = refl
-
-pub known_not_listed : is_next_call_listed (2 ∷ 4 ∷ []) 2 ≡ false
-known_not_listed = refl
+pub known_is_next_call_listed : (is_next_call_listed (3 ∷ []) 2 ≡ true)
+    × (is_next_call_listed (2 ∷ 4 ∷ []) 2 ≡ false)
+known_is_next_call_listed = (refl, refl)
 
 -- a sink of two bytes in a room of three, whose second put is to fail
 pub sink : ℕ → MemSinkValue

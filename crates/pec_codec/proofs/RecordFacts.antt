@@ -9,38 +9,26 @@ abbrev point : ℤ → ℤ → Point
 point x y = record { x = x; y = y }
 
 -- a stitch of 500, and the end; what follows is not looked at
-pub known_stitch : pec_records 0 (0x00 ∷ 0x00 ∷ 0x81 ∷ 0xF4 ∷ 0x80 ∷ 0x00 ∷ 0xFF ∷ 0x05 ∷ [])
-    ≡ next 0 (Stitch (point (pos 0) (pos 0))) (next 2 (Stitch (point (pos 500) (pos 0))) (over true))
-known_stitch = refl
-
--- either coordinate may be the long one
-pub known_mixed : pec_records 0 (0x05 ∷ 0x88 ∷ 0x00 ∷ 0x90 ∷ 0x07 ∷ 0x7F ∷ [])
-    ≡ next 0 (Stitch (point (pos 5) (negsuc 2047))) (next 3 (Jump (point (pos 7) (negsuc 0))) (over false))
-known_mixed = refl
-
--- the mark of a jump comes before that of a trim
-pub known_marks : pec_records 0 (0xA0 ∷ 0x01 ∷ 0x02 ∷ 0xA0 ∷ 0x01 ∷ 0x90 ∷ 0x02 ∷ 0xFF ∷ [])
-    ≡ next 0 (TrimmedJump (point (pos 1) (pos 2))) (next 3 (Jump (point (pos 1) (pos 2))) (over true))
-known_marks = refl
-
--- a mark of the second coordinate counts as one of the first does
-pub known_second_mark : pec_records 0 (0x02 ∷ 0xA0 ∷ 0x01 ∷ 0x02 ∷ 0x90 ∷ 0x01 ∷ 0xFF ∷ [])
-    ≡ next 0 (TrimmedJump (point (pos 2) (pos 1))) (next 3 (Jump (point (pos 2) (pos 1))) (over true))
-known_second_mark = refl
-
--- the third byte of a stop is not looked at
-pub known_stop : pec_records 0 (0xFE ∷ 0xB0 ∷ 0xFF ∷ 0x05 ∷ 0x06 ∷ 0xFF ∷ [])
-    ≡ next 0 Stop (next 3 (Stitch (point (pos 5) (pos 6))) (over true))
-known_stop = refl
-
--- without B0 after it FE is a coordinate, with both marks
-pub known_no_stop : pec_records 0 (0xFE ∷ 0x01 ∷ 0x00 ∷ []) ≡ next 0 (Jump (point (negsuc 510) (pos 0))) (over false)
-known_no_stop = refl
-
--- some writers begin with two words 9xxx, which read as a jump
-pub known_words : pec_records 0 (0x90 ∷ 0x1E ∷ 0x90 ∷ 0x1E ∷ 0xFF ∷ [])
-    ≡ next 0 (Jump (point (pos 30) (pos 30))) (over true)
-known_words = refl
+pub known_pec_records : (pec_records 0 (0x00 ∷ 0x00 ∷ 0x81 ∷ 0xF4 ∷ 0x80 ∷ 0x00 ∷ 0xFF ∷ 0x05 ∷ [])
+    ≡ next 0 (Stitch (point (pos 0) (pos 0))) (next 2 (Stitch (point (pos 500) (pos 0))) (over true)))
+    -- either coordinate may be the long one
+    × (pec_records 0 (0x05 ∷ 0x88 ∷ 0x00 ∷ 0x90 ∷ 0x07 ∷ 0x7F ∷ [])
+    ≡ next 0 (Stitch (point (pos 5) (negsuc 2047))) (next 3 (Jump (point (pos 7) (negsuc 0))) (over false)))
+    -- the mark of a jump comes before that of a trim
+    × (pec_records 0 (0xA0 ∷ 0x01 ∷ 0x02 ∷ 0xA0 ∷ 0x01 ∷ 0x90 ∷ 0x02 ∷ 0xFF ∷ [])
+    ≡ next 0 (TrimmedJump (point (pos 1) (pos 2))) (next 3 (Jump (point (pos 1) (pos 2))) (over true)))
+    -- a mark of the second coordinate counts as one of the first does
+    × (pec_records 0 (0x02 ∷ 0xA0 ∷ 0x01 ∷ 0x02 ∷ 0x90 ∷ 0x01 ∷ 0xFF ∷ [])
+    ≡ next 0 (TrimmedJump (point (pos 2) (pos 1))) (next 3 (Jump (point (pos 2) (pos 1))) (over true)))
+    -- the third byte of a stop is not looked at
+    × (pec_records 0 (0xFE ∷ 0xB0 ∷ 0xFF ∷ 0x05 ∷ 0x06 ∷ 0xFF ∷ [])
+    ≡ next 0 Stop (next 3 (Stitch (point (pos 5) (pos 6))) (over true)))
+    -- without B0 after it FE is a coordinate, with both marks
+    × (pec_records 0 (0xFE ∷ 0x01 ∷ 0x00 ∷ []) ≡ next 0 (Jump (point (negsuc 510) (pos 0))) (over false))
+    -- some writers begin with two words 9xxx, which read as a jump
+    × (pec_records 0 (0x90 ∷ 0x1E ∷ 0x90 ∷ 0x1E ∷ 0xFF ∷ [])
+    ≡ next 0 (Jump (point (pos 30) (pos 30))) (over true))
+known_pec_records = (refl, refl, refl, refl, refl, refl, refl)
 
 -- an incomplete record or stop is ignored
 pub known_incomplete : map (pec_records 0) ([] ∷ (0x05 ∷ []) ∷ (0x05 ∷ 0x80 ∷ []) ∷ (0xFE ∷ 0xB0 ∷ []) ∷ (0xFE ∷ []) ∷ [])

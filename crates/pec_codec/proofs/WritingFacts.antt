@@ -29,11 +29,9 @@ pub known_square_distance : distance_field (thumbnail_distance (pec_body_of squa
     ≡ 0x00 ∷ 0x00 ∷ 0x1F ∷ 0x00 ∷ 0x00 ∷ 0x31 ∷ 0xFF ∷ 0xF0 ∷ []
 known_square_distance = refl
 
-pub known_square_sizes : size_fields (extent_of square) ≡ 0x1E ∷ 0x00 ∷ 0x1E ∷ 0x00 ∷ 0xE0 ∷ 0x01 ∷ 0xB0 ∷ 0x01 ∷ []
-known_square_sizes = refl
-
-pub known_no_sizes : size_fields (extent_of (sewn [])) ≡ 0x00 ∷ 0x00 ∷ 0x00 ∷ 0x00 ∷ 0xE0 ∷ 0x01 ∷ 0xB0 ∷ 0x01 ∷ []
-known_no_sizes = refl
+pub known_size_fields : (size_fields (extent_of square) ≡ 0x1E ∷ 0x00 ∷ 0x1E ∷ 0x00 ∷ 0xE0 ∷ 0x01 ∷ 0xB0 ∷ 0x01 ∷ [])
+    × (size_fields (extent_of (sewn [])) ≡ 0x00 ∷ 0x00 ∷ 0x00 ∷ 0x00 ∷ 0xE0 ∷ 0x01 ∷ 0xB0 ∷ 0x01 ∷ [])
+known_size_fields = (refl, refl)
 
 pub known_blocks_body : pec_body_of blocks ≡ 0x00 ∷ 0x00 ∷ 0x3E ∷ 0x41 ∷ 0x80 ∷ 0x3F ∷ 0x80 ∷ 0x00 ∷ 0xFE ∷ 0xB0 ∷ 0x02
     ∷ 0x00 ∷ 0x00 ∷ 0xFE ∷ 0xB0 ∷ 0x01 ∷ 0x00 ∷ 0x00 ∷ 0xFF ∷ []
@@ -58,11 +56,9 @@ pub known_labels : labels_of (record { label = codes "Rose"; threads = 22 ∷ 5 
 known_labels = refl
 
 -- 255 stands for no thread, another number for one thread more
-pub known_no_threads : threads_in (codes "                                                " ++ 255 ∷ 7 ∷ 8 ∷ []) ≡ []
-known_no_threads = refl
-
-pub known_threads : threads_in (codes "                                                " ++ 1 ∷ 7 ∷ 8 ∷ 9 ∷ []) ≡ 7 ∷ 8 ∷ []
-known_threads = refl
+pub known_threads_in : (threads_in (codes "                                                " ++ 255 ∷ 7 ∷ 8 ∷ []) ≡ [])
+    × (threads_in (codes "                                                " ++ 1 ∷ 7 ∷ 8 ∷ 9 ∷ []) ≡ 7 ∷ 8 ∷ [])
+known_threads_in = (refl, refl)
 
 pub known_label : pec_label_of (codes "LA:Rose " ++ 1 ∷ codes "           ") ≡ codes "Rose ?"
 known_label = refl

@@ -42,47 +42,27 @@ pub known_offset_end : OFFSET_END ≡ 12
 known_offset_end = refl
 
 -- the four bytes after a signature are not looked at, whatever they are
-pub known_pec_version : file_reads Pec (codes "#PECxyz!") ≡ Err (fault.Short 8)
-known_pec_version = refl
-
-pub known_pec_alone : file_reads Pec (codes "#PEC") ≡ Err (fault.Short 4)
-known_pec_alone = refl
-
-pub known_pes_version : file_reads Pes (codes "#PESxyz!" ++ 0xFF ∷ 0x00 ∷ 0x00 ∷ 0x00 ∷ []) ≡ Err (fault.Short 12)
-known_pes_version = refl
-
-pub known_pes_alone : file_reads Pes (codes "#PES") ≡ Err (fault.Short 4)
-known_pes_alone = refl
-
--- neither signature stands for the other, nor do small letters
-pub known_pes_as_pec : file_reads Pec (codes "#PES0001") ≡ Err (fault.Signature 0)
-known_pes_as_pec = refl
-
-pub known_pec_as_pes : file_reads Pes (codes "#PEC0001") ≡ Err (fault.Signature 0)
-known_pec_as_pes = refl
-
-pub known_small : file_reads Pes (codes "#pes0001") ≡ Err (fault.Signature 0)
-known_small = refl
+pub known_file_reads : (file_reads Pec (codes "#PECxyz!") ≡ Err (fault.Short 8))
+    × (file_reads Pec (codes "#PEC") ≡ Err (fault.Short 4))
+    × (file_reads Pes (codes "#PESxyz!" ++ 0xFF ∷ 0x00 ∷ 0x00 ∷ 0x00 ∷ []) ≡ Err (fault.Short 12))
+    × (file_reads Pes (codes "#PES") ≡ Err (fault.Short 4))
+    -- neither signature stands for the other, nor do small letters
+    × (file_reads Pec (codes "#PES0001") ≡ Err (fault.Signature 0))
+    × (file_reads Pes (codes "#PEC0001") ≡ Err (fault.Signature 0))
+    × (file_reads Pes (codes "#pes0001") ≡ Err (fault.Signature 0))
+known_file_reads = (refl, refl, refl, refl, refl, refl, refl)
 
 -- the offset is a word of 32 bits, the low byte first
 pub known_offset : block_offset_in (codes "#PES0060" ++ 0x01 ∷ 0x02 ∷ 0x03 ∷ 0x80 ∷ []) ≡ 2147680769
 known_offset = refl
 
-pub known_signature : file_reads Pec (codes "#PAC0001") ≡ Err (fault.Signature 0)
-known_signature = refl
-
-pub known_short_pec : file_reads Pec (codes "#PEC0001") ≡ Err (fault.Short 8)
-known_short_pec = refl
-
--- fewer bytes than the signature has are not it
-pub known_no_signature : file_reads Pes (codes "#PE") ≡ Err (fault.Signature 0)
-known_no_signature = refl
-
-pub known_short_pes : file_reads Pes (codes "#PES0001" ++ 0x16 ∷ 0x00 ∷ 0x00 ∷ []) ≡ Err (fault.Short 11)
-known_short_pes = refl
-
-pub known_far_block : file_reads Pes (codes "#PES0001" ++ 0xFF ∷ 0xFF ∷ 0xFF ∷ 0xFF ∷ []) ≡ Err (fault.Short 12)
-known_far_block = refl
+pub known_signature : (file_reads Pec (codes "#PAC0001") ≡ Err (fault.Signature 0))
+    × (file_reads Pec (codes "#PEC0001") ≡ Err (fault.Short 8))
+    -- fewer bytes than the signature has are not it
+    × (file_reads Pes (codes "#PE") ≡ Err (fault.Signature 0))
+    × (file_reads Pes (codes "#PES0001" ++ 0x16 ∷ 0x00 ∷ 0x00 ∷ []) ≡ Err (fault.Short 11))
+    × (file_reads Pes (codes "#PES0001" ++ 0xFF ∷ 0xFF ∷ 0xFF ∷ 0xFF ∷ []) ≡ Err (fault.Short 12))
+known_signature = (refl, refl, refl, refl, refl)
 
 -- a block at the beginning of its own file: 33 threads of number 32, one stitch, and the end
 pub known_own_front : IsOkAnd (file_reads Pes (codes "#PES0001" ++ 0x00 ∷ 0x00 ∷ 0x00 ∷ 0x00 ∷ replicate 516 32 ++ 0x00 ∷ 0x00

@@ -11,12 +11,10 @@ abbrev at : ℤ → ℤ → Point
 at x y = record { x = x; y = y }
 
 -- three stitches, of which one is below 1 mm
-pub known_summary : summary_of_lengths (2500 ∷ 999 ∷ 1000 ∷ [])
-    ≡ record { stitches = 3; shortest = 999; longest = 2500; short = 1; thread = 4499 }
-known_summary = refl
-
-pub known_none : summary_of_lengths [] ≡ record { stitches = 0; shortest = 0; longest = 0; short = 0; thread = 0 }
-known_none = refl
+pub known_summary_of_lengths : (summary_of_lengths (2500 ∷ 999 ∷ 1000 ∷ [])
+    ≡ record { stitches = 3; shortest = 999; longest = 2500; short = 1; thread = 4499 })
+    × (summary_of_lengths [] ≡ record { stitches = 0; shortest = 0; longest = 0; short = 0; thread = 0 })
+known_summary_of_lengths = (refl, refl)
 
 pub known_short : (is_short 999 ≡ true) × (is_short 1000 ≡ false)
 known_short = (refl, refl)

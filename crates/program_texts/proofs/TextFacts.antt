@@ -23,48 +23,22 @@ pub known_many_chains : trace_fault_text (codes "a") (trace.Limit kind.TooManyLi
     ≡ codes "a: more than 1024 lines"
 known_many_chains = refl
 
-pub known_want : draw_kind_text kind.Memory ≡ codes "out of memory"
-known_want = refl
-
--- each fault of a drawing
-pub known_bad_header : draw_kind_text kind.BadHeader ≡ codes "not a redwork drawing"
-known_bad_header = refl
-
-pub known_bad_word : draw_kind_text kind.BadWord ≡ codes "word not understood"
-known_bad_word = refl
-
-pub known_bad_number : draw_kind_text kind.BadNumber ≡ codes "not a number"
-known_bad_number = refl
-
-pub known_out_of_range : draw_kind_text kind.OutOfRange ≡ codes "number out of range"
-known_out_of_range = refl
-
-pub known_few_points : draw_kind_text kind.FewPoints ≡ codes "too few points"
-known_few_points = refl
-
-pub known_repeated : draw_kind_text kind.RepeatedPoint ≡ codes "point repeated"
-known_repeated = refl
-
-pub known_no_block : draw_kind_text kind.NoBlock ≡ codes "no block"
-known_no_block = refl
-
-pub known_many_lines : draw_kind_text kind.TooManyLines ≡ codes "more than 1024 lines"
-known_many_lines = refl
-
-pub known_many_points : draw_kind_text kind.TooManyPoints ≡ codes "more than 65536 points"
-known_many_points = refl
-
-pub known_many_blocks : draw_kind_text kind.TooManyBlocks ≡ codes "more than 255 blocks"
-known_many_blocks = refl
-
-pub known_much_cost : draw_kind_text kind.TooMuchCost ≡ codes "more than 200000 steps"
-known_much_cost = refl
-
-pub known_no_junction : draw_kind_text kind.NoJunction ≡ codes "not a junction"
-known_no_junction = refl
-
-pub known_end_repeated : draw_kind_text kind.EndRepeated ≡ codes "start or end repeated"
-known_end_repeated = refl
+pub known_draw_kind_text : (draw_kind_text kind.Memory ≡ codes "out of memory")
+    -- each fault of a drawing
+    × (draw_kind_text kind.BadHeader ≡ codes "not a redwork drawing")
+    × (draw_kind_text kind.BadWord ≡ codes "word not understood")
+    × (draw_kind_text kind.BadNumber ≡ codes "not a number")
+    × (draw_kind_text kind.OutOfRange ≡ codes "number out of range")
+    × (draw_kind_text kind.FewPoints ≡ codes "too few points")
+    × (draw_kind_text kind.RepeatedPoint ≡ codes "point repeated")
+    × (draw_kind_text kind.NoBlock ≡ codes "no block")
+    × (draw_kind_text kind.TooManyLines ≡ codes "more than 1024 lines")
+    × (draw_kind_text kind.TooManyPoints ≡ codes "more than 65536 points")
+    × (draw_kind_text kind.TooManyBlocks ≡ codes "more than 255 blocks")
+    × (draw_kind_text kind.TooMuchCost ≡ codes "more than 200000 steps")
+    × (draw_kind_text kind.NoJunction ≡ codes "not a junction")
+    × (draw_kind_text kind.EndRepeated ≡ codes "start or end repeated")
+known_draw_kind_text = (refl, refl, refl, refl, refl, refl, refl, refl, refl, refl, refl, refl, refl, refl)
 
 -- A block without a line is reported at the line that opened it.
 pub known_draw_line : draw_fault_text (codes "a.rw") (record { number = 2; kind = kind.EmptyBlock })

@@ -57,29 +57,19 @@ known_moves_before = refl
 abbrev pub cut_to : ℤ → Records
 cut_to x = next 7 (event.TrimmedJump (point x (pos 0))) (over true)
 
-pub known_last : file_commands_from 999999 (point (pos 0) (pos 0)) (next 7 event.Trim (over true))
-    ≡ Ok (record { commands = Trim ∷ []; ended = true })
-known_last = refl
-
-pub known_too_many : file_commands_from 999999 (point (pos 0) (pos 0)) (cut_to (pos 32767)) ≡ Err (fault.TooMany 7)
-known_too_many = refl
-
-pub known_second_range : file_commands_from 999999 (point (pos 0) (pos 0)) (cut_to (pos 32768)) ≡ Err (fault.Range 7)
-known_second_range = refl
-
-pub known_first_too_many : file_commands_from 1000000 (point (pos 0) (pos 0)) (cut_to (pos 32768)) ≡ Err (fault.TooMany 7)
-known_first_too_many = refl
-
-pub known_range_first : file_commands_from 1000000 (point (pos 0) (pos 0)) (next 7 (event.Jump (point (pos 0) (negsuc 32767))) (over true))
-    ≡ Err (fault.Range 7)
-known_range_first = refl
+pub known_file_commands_from : (file_commands_from 999999 (point (pos 0) (pos 0)) (next 7 event.Trim (over true))
+    ≡ Ok (record { commands = Trim ∷ []; ended = true }))
+    × (file_commands_from 999999 (point (pos 0) (pos 0)) (cut_to (pos 32767)) ≡ Err (fault.TooMany 7))
+    × (file_commands_from 999999 (point (pos 0) (pos 0)) (cut_to (pos 32768)) ≡ Err (fault.Range 7))
+    × (file_commands_from 1000000 (point (pos 0) (pos 0)) (cut_to (pos 32768)) ≡ Err (fault.TooMany 7))
+    × (file_commands_from 1000000 (point (pos 0) (pos 0)) (next 7 (event.Jump (point (pos 0) (negsuc 32767))) (over true))
+    ≡ Err (fault.Range 7))
+known_file_commands_from = (refl, refl, refl, refl, refl)
 
 -- the move of a refused record is left out
-pub known_moves_kept : moves_of_records_from 999998 (point (pos 0) (pos 0)) (cut_to (pos 5)) ≡ point (pos 5) (pos 0) ∷ []
-known_moves_kept = refl
-
-pub known_moves_refused : moves_of_records_from 999999 (point (pos 0) (pos 0)) (cut_to (pos 5)) ≡ []
-known_moves_refused = refl
+pub known_moves_of_records_from : (moves_of_records_from 999998 (point (pos 0) (pos 0)) (cut_to (pos 5)) ≡ point (pos 5) (pos 0) ∷ [])
+    × (moves_of_records_from 999999 (point (pos 0) (pos 0)) (cut_to (pos 5)) ≡ [])
+known_moves_of_records_from = (refl, refl)
 
 -- the commands before a refusal are given, and of a record those before the one that is refused
 pub known_given : decoded_commands all_kinds ≡ Stitch (point (pos 1) (pos 0)) ∷ Jump (point (pos 1) (pos 2)) ∷ Trim
@@ -87,13 +77,11 @@ pub known_given : decoded_commands all_kinds ≡ Stitch (point (pos 1) (pos 0)) 
     ∷ Trim ∷ Stop ∷ Stop ∷ Stop ∷ Jump (point (pos 0) (pos 3)) ∷ []
 known_given = refl
 
-pub known_given_before : map decoded_commands (too_far ∷ cut_to (pos 32768) ∷ []) ≡ (Jump (point (pos 30001) (pos 0)) ∷ []) ∷ (Trim ∷ [])
-    ∷ []
-known_given_before = refl
-
-pub known_given_room : map (λ count. decoded_commands_from count (point (pos 0) (pos 0)) (cut_to (pos 5))) (999998 ∷ 999999 ∷ 1000000 ∷ [])
-    ≡ (Trim ∷ Jump (point (pos 5) (pos 0)) ∷ []) ∷ (Trim ∷ []) ∷ [] ∷ []
-known_given_room = refl
+pub known_given_before : (map decoded_commands (too_far ∷ cut_to (pos 32768) ∷ []) ≡ (Jump (point (pos 30001) (pos 0)) ∷ []) ∷ (Trim ∷ [])
+    ∷ [])
+    × (map (λ count. decoded_commands_from count (point (pos 0) (pos 0)) (cut_to (pos 5))) (999998 ∷ 999999 ∷ 1000000 ∷ [])
+    ≡ (Trim ∷ Jump (point (pos 5) (pos 0)) ∷ []) ∷ (Trim ∷ []) ∷ [] ∷ [])
+known_given_before = (refl, refl)
 
 -- the commands of records before are counted
 abbrev two_records : Records
@@ -148,15 +136,13 @@ abbrev pub with_most : ℕ → WriteLimits
 with_most most = record { limit = 121; float_hops = Some most; stops = None }
 
 -- two hops to a loose needle, a trim, two stops, a loose needle in place, a float of 300 and one of no length
-pub known_records : records_of_acts plain_spelling (with_most 4) (numbered 1 (Needle (point (pos 200) (pos 0)) false)
+pub known_records_of_acts : (records_of_acts plain_spelling (with_most 4) (numbered 1 (Needle (point (pos 200) (pos 0)) false)
     ∷ numbered 2 TrimAct ∷ numbered 3 StopAct ∷ numbered 4 StopAct ∷ numbered 5 (Needle (point (pos 200) (pos 0)) false)
     ∷ numbered 7 (Needle (point (pos 500) (pos 0)) true) ∷ numbered 9 (Needle (point (pos 500) (pos 0)) true) ∷ [])
     ≡ (2 ∷ []) ∷ (2 ∷ []) ∷ (1 ∷ []) ∷ (3 ∷ []) ∷ (3 ∷ []) ∷ (4 ∷ 0 ∷ []) ∷ (4 ∷ 1 ∷ []) ∷ (1 ∷ [])
-    ∷ (2 ∷ []) ∷ (2 ∷ []) ∷ (2 ∷ []) ∷ (1 ∷ []) ∷ (2 ∷ []) ∷ (1 ∷ []) ∷ []
-known_records = refl
-
--- the longest float that is allowed ends in a stitch in the place of its last jump
-pub known_longest_float : records_of_acts plain_spelling (with_most 3) (numbered 1 (Needle (point (pos 0) (pos 0)) false)
+    ∷ (2 ∷ []) ∷ (2 ∷ []) ∷ (2 ∷ []) ∷ (1 ∷ []) ∷ (2 ∷ []) ∷ (1 ∷ []) ∷ [])
+    -- the longest float that is allowed ends in a stitch in the place of its last jump
+    × (records_of_acts plain_spelling (with_most 3) (numbered 1 (Needle (point (pos 0) (pos 0)) false)
     ∷ numbered 3 (Needle (point (pos 300) (pos 0)) true) ∷ [])
-    ≡ (1 ∷ []) ∷ (2 ∷ []) ∷ (2 ∷ []) ∷ (1 ∷ []) ∷ []
-known_longest_float = refl
+    ≡ (1 ∷ []) ∷ (2 ∷ []) ∷ (2 ∷ []) ∷ (1 ∷ []) ∷ [])
+known_records_of_acts = (refl, refl)

@@ -7,27 +7,17 @@ abbrev pub point : ℤ → ℤ → Point
 point x y = record { x = x; y = y }
 
 -- the third jump record of a run is taken for a trim too where two are the most, and never where there is no most
-pub known_third : jump_event (Some 2) 2 (point (pos 1) (pos 0)) ≡ event.TrimmedJump (point (pos 1) (pos 0))
-known_third = refl
-
-pub known_fourth : jump_event (Some 2) 3 (point (pos 1) (pos 0)) ≡ event.Jump (point (pos 1) (pos 0))
-known_fourth = refl
-
-pub known_never : jump_event None 2 (point (pos 1) (pos 0)) ≡ event.Jump (point (pos 1) (pos 0))
-known_never = refl
+pub known_jump_event : (jump_event (Some 2) 2 (point (pos 1) (pos 0)) ≡ event.TrimmedJump (point (pos 1) (pos 0)))
+    × (jump_event (Some 2) 3 (point (pos 1) (pos 0)) ≡ event.Jump (point (pos 1) (pos 0)))
+    × (jump_event None 2 (point (pos 1) (pos 0)) ≡ event.Jump (point (pos 1) (pos 0)))
+known_jump_event = (refl, refl, refl)
 
 -- one cut among jumps is a trim, two are none, and neither is a stitch
-pub known_cut : trims_once (event.Jump (point (pos 2) (pos 2)) ∷ event.TrimmedJump (point (negsuc 1) (negsuc 1)) ∷ []) ≡ true
-known_cut = refl
-
-pub known_two_cuts : trims_once (event.Trim ∷ event.Trim ∷ []) ≡ false
-known_two_cuts = refl
-
-pub known_no_cut : trims_once (event.Jump (point (pos 0) (pos 0)) ∷ []) ≡ false
-known_no_cut = refl
-
-pub known_stitch : trims_once (event.Trim ∷ event.Stitch (point (pos 0) (pos 0)) ∷ []) ≡ false
-known_stitch = refl
+pub known_trims_once : (trims_once (event.Jump (point (pos 2) (pos 2)) ∷ event.TrimmedJump (point (negsuc 1) (negsuc 1)) ∷ []) ≡ true)
+    × (trims_once (event.Trim ∷ event.Trim ∷ []) ≡ false)
+    × (trims_once (event.Jump (point (pos 0) (pos 0)) ∷ []) ≡ false)
+    × (trims_once (event.Trim ∷ event.Stitch (point (pos 0) (pos 0)) ∷ []) ≡ false)
+known_trims_once = (refl, refl, refl, refl)
 
 -- there and back is twice the way
 pub known_way : length_of_moves (moves_of_events (event.Jump (point (pos 2) (negsuc 4)) ∷ event.Trim ∷ event.Jump (point (negsuc 1) (pos 5))
@@ -39,8 +29,6 @@ pub known_back : position_after_moves (point (pos 7) (pos 7)) (point (pos 2) (ne
 known_back = refl
 
 -- a stop with a move is not in place
-pub known_stop : is_stop_in_place (event.StopBy (point (pos 0) (pos 0))) ≡ true
-known_stop = refl
-
-pub known_moving_stop : is_stop_in_place (event.StopBy (point (pos 0) (pos 1))) ≡ false
-known_moving_stop = refl
+pub known_is_stop_in_place : (is_stop_in_place (event.StopBy (point (pos 0) (pos 0))) ≡ true)
+    × (is_stop_in_place (event.StopBy (point (pos 0) (pos 1))) ≡ false)
+known_is_stop_in_place = (refl, refl)

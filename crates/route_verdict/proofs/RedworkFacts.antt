@@ -38,11 +38,9 @@ shortest = there 0 ∷ home 1 ∷ there 2 ∷ home 0 ∷ []
 abbrev longer : List Pass
 longer = there 0 ∷ home 1 ∷ there 2 ∷ home 1 ∷ []
 
-pub known_needles : length (needles_of_walk three_lines shortest) ≡ 7
-known_needles = refl
-
-pub known_more : length (needles_of_walk three_lines longer) ≡ 8
-known_more = refl
+pub known_needles : (length (needles_of_walk three_lines shortest) ≡ 7)
+    × (length (needles_of_walk three_lines longer) ≡ 8)
+known_needles = (refl, refl)
 
 pub shortest_fits : is_fitting_walk (piece_graph three_lines lines) shortest ≡ true
 shortest_fits = refl

@@ -14,20 +14,12 @@ at x = record { x = pos x; y = pos 0 }
 abbrev needle : ℕ → Act
 needle x = act.Needle (at x) false
 
-pub known_same : first_differing_act 1 (needle 3 ∷ act.Trim ∷ act.Stop ∷ []) (needle 3 ∷ act.Trim ∷ act.Stop ∷ []) ≡ None
-known_same = refl
-
-pub known_point : first_differing_act 1 (needle 3 ∷ needle 4 ∷ []) (needle 3 ∷ needle 5 ∷ []) ≡ Some 2
-known_point = refl
-
-pub known_float : first_differing_act 1 (act.Needle (at 3) true ∷ []) (needle 3 ∷ []) ≡ Some 1
-known_float = refl
-
-pub known_sewn : first_differing_act 1 (needle 3 ∷ []) (act.Needle (at 3) true ∷ []) ≡ Some 1
-known_sewn = refl
-
-pub known_floats : first_differing_act 1 (act.Needle (at 3) true ∷ []) (act.Needle (at 3) true ∷ []) ≡ None
-known_floats = refl
+pub known_first_differing_act : (first_differing_act 1 (needle 3 ∷ act.Trim ∷ act.Stop ∷ []) (needle 3 ∷ act.Trim ∷ act.Stop ∷ []) ≡ None)
+    × (first_differing_act 1 (needle 3 ∷ needle 4 ∷ []) (needle 3 ∷ needle 5 ∷ []) ≡ Some 2)
+    × (first_differing_act 1 (act.Needle (at 3) true ∷ []) (needle 3 ∷ []) ≡ Some 1)
+    × (first_differing_act 1 (needle 3 ∷ []) (act.Needle (at 3) true ∷ []) ≡ Some 1)
+    × (first_differing_act 1 (act.Needle (at 3) true ∷ []) (act.Needle (at 3) true ∷ []) ≡ None)
+known_first_differing_act = (refl, refl, refl, refl, refl)
 
 -- no two of the three kinds are the same
 abbrev alone : Act → Act → Option ℕ
@@ -38,11 +30,9 @@ pub known_kinds : alone (needle 3) act.Trim ∷ alone (needle 3) act.Stop ∷ al
 known_kinds = refl
 
 -- the act after the shorter list
-pub known_short : first_differing_act 1 (needle 3 ∷ []) (needle 3 ∷ act.Trim ∷ []) ≡ Some 2
-known_short = refl
-
-pub known_long : first_differing_act 1 (needle 3 ∷ act.Trim ∷ act.Stop ∷ []) (needle 3 ∷ act.Trim ∷ []) ≡ Some 3
-known_long = refl
+pub known_short : (first_differing_act 1 (needle 3 ∷ []) (needle 3 ∷ act.Trim ∷ []) ≡ Some 2)
+    × (first_differing_act 1 (needle 3 ∷ act.Trim ∷ act.Stop ∷ []) (needle 3 ∷ act.Trim ∷ []) ≡ Some 3)
+known_short = (refl, refl)
 
 -- a stroke of four steps
 abbrev stroke : DrawingValue
@@ -86,65 +76,31 @@ on_stroke commands certs = verdict_of stroke ((0 ∷ []) ∷ []) (design command
 abbrev right : PieceCert
 right = said 4 both_ways (cut 8 (0 ∷ []))
 
-pub known_yes : on_stroke sewn (right ∷ []) ≡ verdict.Yes
-known_yes = refl
-
-pub known_open : on_stroke sewn (said 4 (forth 0 ∷ []) (cut 8 (0 ∷ [])) ∷ []) ≡ verdict.No (reason.Walk 1 walk_fault.Open)
-known_open = refl
-
-pub known_broken : on_stroke sewn (said 4 (forth 0 ∷ forth 0 ∷ []) (cut 8 (0 ∷ [])) ∷ []) ≡ verdict.No
-    (reason.Walk 1 (walk_fault.Broken 2))
-known_broken = refl
-
-pub known_retraced : on_stroke sewn (said 3 both_ways (cut 8 (0 ∷ [])) ∷ []) ≡ verdict.No (reason.Retraced 1 3 4)
-known_retraced = refl
-
-pub known_stranger : on_stroke sewn (said 4 both_ways (cut 8 (2 ∷ [])) ∷ []) ≡ verdict.No (reason.Cuts 1 (cut_fault.Stranger 1 3))
-known_stranger = refl
-
-pub known_even : on_stroke sewn (said 4 both_ways (cut 8 (0 ∷ 1 ∷ [])) ∷ []) ≡ verdict.No (reason.Cuts 1 (cut_fault.EvenCut 1 2))
-known_even = refl
-
-pub known_overload : on_stroke sewn (said 4 both_ways (cut 9 (0 ∷ [])) ∷ []) ≡ verdict.No (reason.Cuts 1 (cut_fault.Overload 1 9 8))
-known_overload = refl
-
-pub known_total : on_stroke sewn (said 4 both_ways (cut 7 (0 ∷ [])) ∷ []) ≡ verdict.No (reason.Cuts 1 (cut_fault.Total 7 8))
-known_total = refl
-
-pub known_none : on_stroke sewn [] ≡ verdict.No (reason.Pieces 0 1)
-known_none = refl
-
-pub known_more : on_stroke sewn (right ∷ right ∷ []) ≡ verdict.No (reason.Pieces 2 1)
-known_more = refl
-
--- of one piece the walk is tested first, then the retraced cost, then the cuts, and the acts last
-pub known_walk_first : on_stroke [] (said 3 (forth 0 ∷ []) (cut 9 (0 ∷ [])) ∷ []) ≡ verdict.No (reason.Walk 1 walk_fault.Open)
-known_walk_first = refl
-
-pub known_retraced_next : on_stroke [] (said 5 both_ways (cut 9 (0 ∷ [])) ∷ []) ≡ verdict.No (reason.Retraced 1 5 4)
-known_retraced_next = refl
-
-pub known_cuts_next : on_stroke [] (said 4 both_ways (cut 6 (0 ∷ [])) ∷ []) ≡ verdict.No (reason.Cuts 1 (cut_fault.Total 6 8))
-known_cuts_next = refl
-
-pub known_acts_last : on_stroke [] (right ∷ []) ≡ verdict.No (reason.Acts 1)
-known_acts_last = refl
-
--- a trim that is missing, a stop too many, a stitch elsewhere, and one that is a float
-pub known_no_trim : on_stroke (stitches (0 ∷ 10 ∷ 20 ∷ 30 ∷ 40 ∷ 30 ∷ 20 ∷ 10 ∷ 0 ∷ [])) (right ∷ []) ≡ verdict.No (reason.Acts 10)
-known_no_trim = refl
-
-pub known_stop : on_stroke (sewn ++ Stop ∷ []) (right ∷ []) ≡ verdict.No (reason.Acts 11)
-known_stop = refl
-
-pub known_elsewhere : on_stroke (stitches (0 ∷ 10 ∷ 20 ∷ 35 ∷ 40 ∷ 30 ∷ 20 ∷ 10 ∷ 0 ∷ []) ++ Trim ∷ []) (right ∷ []) ≡ verdict.No
-    (reason.Acts 4)
-known_elsewhere = refl
-
-pub known_carried : on_stroke (stitches (0 ∷ 10 ∷ []) ++ Jump (at 15) ∷ (stitches (20 ∷ 30 ∷ 40 ∷ 30 ∷ 20 ∷ 10 ∷ 0 ∷ []) ++ Trim ∷ []))
+pub known_on_stroke : (on_stroke sewn (right ∷ []) ≡ verdict.Yes)
+    × (on_stroke sewn (said 4 (forth 0 ∷ []) (cut 8 (0 ∷ [])) ∷ []) ≡ verdict.No (reason.Walk 1 walk_fault.Open))
+    × (on_stroke sewn (said 4 (forth 0 ∷ forth 0 ∷ []) (cut 8 (0 ∷ [])) ∷ []) ≡ verdict.No
+    (reason.Walk 1 (walk_fault.Broken 2)))
+    × (on_stroke sewn (said 3 both_ways (cut 8 (0 ∷ [])) ∷ []) ≡ verdict.No (reason.Retraced 1 3 4))
+    × (on_stroke sewn (said 4 both_ways (cut 8 (2 ∷ [])) ∷ []) ≡ verdict.No (reason.Cuts 1 (cut_fault.Stranger 1 3)))
+    × (on_stroke sewn (said 4 both_ways (cut 8 (0 ∷ 1 ∷ [])) ∷ []) ≡ verdict.No (reason.Cuts 1 (cut_fault.EvenCut 1 2)))
+    × (on_stroke sewn (said 4 both_ways (cut 9 (0 ∷ [])) ∷ []) ≡ verdict.No (reason.Cuts 1 (cut_fault.Overload 1 9 8)))
+    × (on_stroke sewn (said 4 both_ways (cut 7 (0 ∷ [])) ∷ []) ≡ verdict.No (reason.Cuts 1 (cut_fault.Total 7 8)))
+    × (on_stroke sewn [] ≡ verdict.No (reason.Pieces 0 1))
+    × (on_stroke sewn (right ∷ right ∷ []) ≡ verdict.No (reason.Pieces 2 1))
+    -- of one piece the walk is tested first, then the retraced cost, then the cuts, and the acts last
+    × (on_stroke [] (said 3 (forth 0 ∷ []) (cut 9 (0 ∷ [])) ∷ []) ≡ verdict.No (reason.Walk 1 walk_fault.Open))
+    × (on_stroke [] (said 5 both_ways (cut 9 (0 ∷ [])) ∷ []) ≡ verdict.No (reason.Retraced 1 5 4))
+    × (on_stroke [] (said 4 both_ways (cut 6 (0 ∷ [])) ∷ []) ≡ verdict.No (reason.Cuts 1 (cut_fault.Total 6 8)))
+    × (on_stroke [] (right ∷ []) ≡ verdict.No (reason.Acts 1))
+    -- a trim that is missing, a stop too many, a stitch elsewhere, and one that is a float
+    × (on_stroke (stitches (0 ∷ 10 ∷ 20 ∷ 30 ∷ 40 ∷ 30 ∷ 20 ∷ 10 ∷ 0 ∷ [])) (right ∷ []) ≡ verdict.No (reason.Acts 10))
+    × (on_stroke (sewn ++ Stop ∷ []) (right ∷ []) ≡ verdict.No (reason.Acts 11))
+    × (on_stroke (stitches (0 ∷ 10 ∷ 20 ∷ 35 ∷ 40 ∷ 30 ∷ 20 ∷ 10 ∷ 0 ∷ []) ++ Trim ∷ []) (right ∷ []) ≡ verdict.No
+    (reason.Acts 4))
+    × (on_stroke (stitches (0 ∷ 10 ∷ []) ++ Jump (at 15) ∷ (stitches (20 ∷ 30 ∷ 40 ∷ 30 ∷ 20 ∷ 10 ∷ 0 ∷ []) ++ Trim ∷ []))
     (right ∷ [])
-    ≡ verdict.No (reason.Acts 3)
-known_carried = refl
+    ≡ verdict.No (reason.Acts 3))
+known_on_stroke = (refl, refl, refl, refl, refl, refl, refl, refl, refl, refl, refl, refl, refl, refl, refl, refl, refl, refl)
 
 -- jumps while the thread is loose, and a trim of a loose thread, are no acts
 pub known_loose : on_stroke (Trim ∷ Jump (at 5) ∷ sewn) (right ∷ []) ≡ verdict.Yes
@@ -177,32 +133,20 @@ abbrev second_walk : List Pass
 second_walk = back 1 ∷ forth 1 ∷ []
 
 -- a walk may begin at the other end
-pub known_both : on_strokes (first_sewn ++ Stop ∷ second_sewn) first_right (said 3 second_walk (cut 6 (0 ∷ []))) ≡ verdict.Yes
-known_both = refl
-
--- the stop between them
-pub known_no_stop : on_strokes (first_sewn ++ second_sewn) first_right (said 3 second_walk (cut 6 (0 ∷ []))) ≡ verdict.No (reason.Acts 7)
-known_no_stop = refl
-
--- the second one is wrong, by its own lines
-pub known_second_walk : on_strokes (first_sewn ++ Stop ∷ second_sewn) first_right (said 3 both_ways (cut 6 (0 ∷ [])))
-    ≡ verdict.No (reason.Walk 2 (walk_fault.Stranger 1))
-known_second_walk = refl
-
-pub known_second_retraced : on_strokes (first_sewn ++ Stop ∷ second_sewn) first_right (said 2 second_walk (cut 4 (0 ∷ [])))
-    ≡ verdict.No (reason.Retraced 2 2 3)
-known_second_retraced = refl
-
-pub known_second_cuts : on_strokes (first_sewn ++ Stop ∷ second_sewn) first_right (said 3 second_walk (cut 4 (0 ∷ [])))
-    ≡ verdict.No (reason.Cuts 2 (cut_fault.Total 4 6))
-known_second_cuts = refl
-
--- a fault has the line's number in the drawing
-pub known_second_line : on_strokes (first_sewn ++ Stop ∷ second_sewn) first_right (said 3 second_walk (cut 7 (0 ∷ [])))
-    ≡ verdict.No (reason.Cuts 2 (cut_fault.Overload 2 7 6))
-known_second_line = refl
-
--- the first piece is tested before the second
-pub known_first_piece : on_strokes [] (said 1 both_ways (cut 4 (1 ∷ []))) (said 3 both_ways (cut 6 (0 ∷ []))) ≡ verdict.No
-    (reason.Retraced 1 1 2)
-known_first_piece = refl
+pub known_on_strokes : (on_strokes (first_sewn ++ Stop ∷ second_sewn) first_right (said 3 second_walk (cut 6 (0 ∷ []))) ≡ verdict.Yes)
+    -- the stop between them
+    × (on_strokes (first_sewn ++ second_sewn) first_right (said 3 second_walk (cut 6 (0 ∷ []))) ≡ verdict.No (reason.Acts 7))
+    -- the second one is wrong, by its own lines
+    × (on_strokes (first_sewn ++ Stop ∷ second_sewn) first_right (said 3 both_ways (cut 6 (0 ∷ [])))
+    ≡ verdict.No (reason.Walk 2 (walk_fault.Stranger 1)))
+    × (on_strokes (first_sewn ++ Stop ∷ second_sewn) first_right (said 2 second_walk (cut 4 (0 ∷ [])))
+    ≡ verdict.No (reason.Retraced 2 2 3))
+    × (on_strokes (first_sewn ++ Stop ∷ second_sewn) first_right (said 3 second_walk (cut 4 (0 ∷ [])))
+    ≡ verdict.No (reason.Cuts 2 (cut_fault.Total 4 6)))
+    -- a fault has the line's number in the drawing
+    × (on_strokes (first_sewn ++ Stop ∷ second_sewn) first_right (said 3 second_walk (cut 7 (0 ∷ [])))
+    ≡ verdict.No (reason.Cuts 2 (cut_fault.Overload 2 7 6)))
+    -- the first piece is tested before the second
+    × (on_strokes [] (said 1 both_ways (cut 4 (1 ∷ []))) (said 3 both_ways (cut 6 (0 ∷ []))) ≡ verdict.No
+    (reason.Retraced 1 1 2))
+known_on_strokes = (refl, refl, refl, refl, refl, refl, refl)

@@ -49,28 +49,24 @@ pub known_kinds : (cell_kind 75 0 0 ≡ 3) × (cell_kind 15 0 0 ≡ 0) × (cell_
 known_kinds = (refl, refl, refl, refl, refl, refl)
 
 -- a cell of kind 3 has both diagonals, the one that falls to the right first
-pub known_lines : sample_segments 75
+pub known_sample_segments : (sample_segments 75
     ≡ line (at 49 27) (at 106 45) ∷ line (at 1 141) (at 126 149)
     ∷ line (at 49 27) (at 1 141) ∷ line (at 106 45) (at 126 149)
-    ∷ line (at 49 27) (at 126 149) ∷ line (at 106 45) (at 1 141) ∷ []
-known_lines = refl
-
--- a cell of kind 0 has none
-pub known_bare_cell : sample_segments 15
+    ∷ line (at 49 27) (at 126 149) ∷ line (at 106 45) (at 1 141) ∷ [])
+    -- a cell of kind 0 has none
+    × (sample_segments 15
     ≡ line (at 49 12) (at 125 11) ∷ line (at 23 148) (at 100 145)
-    ∷ line (at 49 12) (at 23 148) ∷ line (at 125 11) (at 100 145) ∷ []
-known_bare_cell = refl
-
--- six lines across, six down, and the diagonals of cells of the kinds 2, 1, 2 and 1
-pub known_more_lines : sample_segments 1
+    ∷ line (at 49 12) (at 23 148) ∷ line (at 125 11) (at 100 145) ∷ [])
+    -- six lines across, six down, and the diagonals of cells of the kinds 2, 1, 2 and 1
+    × (sample_segments 1
     ≡ line (at 49 49) (at 105 44) ∷ line (at 105 44) (at 233 19)
     ∷ line (at 13 139) (at 122 101) ∷ line (at 122 101) (at 242 136)
     ∷ line (at 32 206) (at 128 244) ∷ line (at 128 244) (at 200 232)
     ∷ line (at 49 49) (at 13 139) ∷ line (at 105 44) (at 122 101) ∷ line (at 233 19) (at 242 136)
     ∷ line (at 13 139) (at 32 206) ∷ line (at 122 101) (at 128 244) ∷ line (at 242 136) (at 200 232)
     ∷ line (at 105 44) (at 13 139) ∷ line (at 105 44) (at 242 136)
-    ∷ line (at 122 101) (at 32 206) ∷ line (at 122 101) (at 200 232) ∷ []
-known_more_lines = refl
+    ∷ line (at 122 101) (at 32 206) ∷ line (at 122 101) (at 200 232) ∷ [])
+known_sample_segments = (refl, refl, refl)
 
 -- the line of a segment has its two ends
 abbrev drawn_line : Point → Point → LineValue

@@ -10,14 +10,12 @@ pub known_leeways : (leeway_of 9 ≡ 1) × (leeway_of 19 ≡ 1) × (leeway_of 20
 known_leeways = (refl, refl, refl, refl)
 
 -- points 10 apart, with a step of 30: stitches of 30, and a shorter one at the end
-pub known_straight : spaced_points (λ p. false) 30 (at 0 0 ∷ at 10 0 ∷ at 20 0 ∷ at 30 0 ∷ at 40 0 ∷ at 50 0 ∷ [])
-    ≡ at 0 0 ∷ at 30 0 ∷ at 50 0 ∷ []
-known_straight = refl
-
--- points 12 apart, with a step of 30: a stitch of 36 would be longer than the step, so they are of 24
-pub known_within : spaced_points (λ p. false) 30 (at 0 0 ∷ at 12 0 ∷ at 24 0 ∷ at 36 0 ∷ at 48 0 ∷ [])
-    ≡ at 0 0 ∷ at 24 0 ∷ at 48 0 ∷ []
-known_within = refl
+pub known_spaced_points : (spaced_points (λ p. false) 30 (at 0 0 ∷ at 10 0 ∷ at 20 0 ∷ at 30 0 ∷ at 40 0 ∷ at 50 0 ∷ [])
+    ≡ at 0 0 ∷ at 30 0 ∷ at 50 0 ∷ [])
+    -- points 12 apart, with a step of 30: a stitch of 36 would be longer than the step, so they are of 24
+    × (spaced_points (λ p. false) 30 (at 0 0 ∷ at 12 0 ∷ at 24 0 ∷ at 36 0 ∷ at 48 0 ∷ [])
+    ≡ at 0 0 ∷ at 24 0 ∷ at 48 0 ∷ [])
+known_spaced_points = (refl, refl)
 
 -- a stitch may be as long as the step on both axes, and no longer on either; and it has a length
 pub known_stitches : (is_stitch_for 30 (at 0 0) (at 30 30) [] ≡ true) × (is_stitch_for 30 (at 0 0) (at 31 0) [] ≡ false)
@@ -30,14 +28,12 @@ pub known_beside : (spaced_points (λ p. false) 30 (at 0 0 ∷ at 10 4 ∷ at 20
 known_beside = (refl, refl)
 
 -- a stitch stands for all points since the kept one: a stitch to the last point would be too far from the first one left out
-pub known_since : spaced_points (λ p. false) 30 (at 0 10 ∷ at 5 13 ∷ at 10 10 ∷ at 29 5 ∷ [])
-    ≡ at 0 10 ∷ at 10 10 ∷ at 29 5 ∷ []
-known_since = refl
-
--- a point that passes the test stays
-pub known_staying : spaced_points (is_same_point (at 10 0)) 30 (at 0 0 ∷ at 10 0 ∷ at 20 0 ∷ [])
-    ≡ at 0 0 ∷ at 10 0 ∷ at 20 0 ∷ []
-known_staying = refl
+pub known_since : (spaced_points (λ p. false) 30 (at 0 10 ∷ at 5 13 ∷ at 10 10 ∷ at 29 5 ∷ [])
+    ≡ at 0 10 ∷ at 10 10 ∷ at 29 5 ∷ [])
+    -- a point that passes the test stays
+    × (spaced_points (is_same_point (at 10 0)) 30 (at 0 0 ∷ at 10 0 ∷ at 20 0 ∷ [])
+    ≡ at 0 0 ∷ at 10 0 ∷ at 20 0 ∷ [])
+known_since = (refl, refl)
 
 -- a point that another line of the block lists stays, inside it or at its end; a block of its own changes nothing
 abbrev crossed : ℕ → List Point → List LineValue

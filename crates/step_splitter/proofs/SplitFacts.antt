@@ -8,11 +8,9 @@ abbrev pub at : ℤ → ℤ → Point
 at x y = record { x = x; y = y }
 
 -- -7 / 3 is -3, and -6 / 3 is -2
-pub known_floor : floor_quotient (negsuc 6) 3 ≡ negsuc 2
-known_floor = refl
-
-pub known_floor_whole : floor_quotient (negsuc 5) 3 ≡ negsuc 1
-known_floor_whole = refl
+pub known_floor_quotient : (floor_quotient (negsuc 6) 3 ≡ negsuc 2)
+    × (floor_quotient (negsuc 5) 3 ≡ negsuc 1)
+known_floor_quotient = (refl, refl)
 
 -- the greatest value of a longest step, in tenths of a millimetre
 pub known_most : MAX_STEP ≡ 2047
@@ -28,11 +26,9 @@ pub known_moved_split : split_points (at (pos 10) (negsuc 9)) (at (pos 16) (negs
 known_moved_split = refl
 
 -- a move of 30 is one step of at most 30, and a move of 31 is two
-pub known_one_step : steps_of origin (at (pos 30) (pos 0)) 30 ≡ 1
-known_one_step = refl
-
-pub known_two_steps : steps_of origin (at (pos 31) (pos 0)) 30 ≡ 2
-known_two_steps = refl
+pub known_steps_of : (steps_of origin (at (pos 30) (pos 0)) 30 ≡ 1)
+    × (steps_of origin (at (pos 31) (pos 0)) 30 ≡ 2)
+known_steps_of = (refl, refl)
 
 -- from the origin to (-7, 3) in three steps: -14 / 3 is rounded to -5
 pub known_split : split_points origin (at (negsuc 6) (pos 3)) 3

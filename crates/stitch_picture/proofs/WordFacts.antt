@@ -5,38 +5,30 @@ use Rattle.stitch_picture.specs.Orders.{picture_order, drawing, proving, showing
 use Rattle.stitch_picture.specs.Words.{has_svg_ending, request_words, side_word, picture, proof}
 
 -- A picture's name ends in `.svg`, in small letters.
-pub known_pictures : map has_svg_ending (codes "a.svg" ∷ codes "a.SVG" ∷ codes "svg" ∷ codes "a.svg.pes" ∷ codes "a.svgz" ∷ [])
-    ≡ true ∷ false ∷ false ∷ false ∷ false ∷ []
-known_pictures = refl
-
--- Two names request a picture, the input first; with two sides it has a hoop, the width first. Three names request a proof.
-pub known_requests : map request_words ((codes "a.pes" ∷ codes "b.svg" ∷ []) ∷
+pub known_pictures : (map has_svg_ending (codes "a.svg" ∷ codes "a.SVG" ∷ codes "svg" ∷ codes "a.svg.pes" ∷ codes "a.svgz" ∷ [])
+    ≡ true ∷ false ∷ false ∷ false ∷ false ∷ [])
+    -- Two names request a picture, the input first; with two sides it has a hoop, the width first. Three names request a proof.
+    × (map request_words ((codes "a.pes" ∷ codes "b.svg" ∷ []) ∷
     (codes "a.pes" ∷ codes "b.svg" ∷ codes "1" ∷ codes "20" ∷ []) ∷ (codes "a" ∷ codes "b" ∷ codes "c.svg" ∷ []) ∷ [])
     ≡ Some (picture (record { input = codes "a.pes"; output = codes "b.svg"; hoop = None }))
     ∷ Some (picture (record { input = codes "a.pes"; output = codes "b.svg"; hoop = Some (record { width = 1; height = 20 }) }))
-    ∷ Some (proof (record { drawing = codes "a"; cert = codes "b"; output = codes "c.svg" })) ∷ []
-known_requests = refl
-
--- No other number of arguments, no empty argument, no other ending and no repeated name requests a picture.
-pub known_no_requests : map request_words (
+    ∷ Some (proof (record { drawing = codes "a"; cert = codes "b"; output = codes "c.svg" })) ∷ [])
+    -- No other number of arguments, no empty argument, no other ending and no repeated name requests a picture.
+    × (map request_words (
     [] ∷ (codes "a.pes" ∷ []) ∷ (codes "a.pes" ∷ codes "b.svg" ∷ codes "9" ∷ []) ∷ ([] ∷ codes "b.svg" ∷ [])
     ∷ (codes "a.pes" ∷ [] ∷ []) ∷ (codes "a.svg" ∷ codes "b.pes" ∷ []) ∷ (codes "b.svg" ∷ codes "b.svg" ∷ [])
     ∷ (codes "a.pes" ∷ codes "b.svg" ∷ codes "9" ∷ codes "0" ∷ [])
     ∷ (codes "a.pes" ∷ codes "b.svg" ∷ codes "9" ∷ codes "9" ∷ codes "9" ∷ []) ∷ [])
-    ≡ replicate 9 None
-known_no_requests = refl
-
--- The picture of a proof differs from the drawing and from the certificate, and each of its names is a file name.
-pub known_no_proofs : map request_words (
+    ≡ replicate 9 None)
+    -- The picture of a proof differs from the drawing and from the certificate, and each of its names is a file name.
+    × (map request_words (
     (codes "c.svg" ∷ codes "b" ∷ codes "c.svg" ∷ []) ∷ (codes "a" ∷ codes "c.svg" ∷ codes "c.svg" ∷ [])
     ∷ ([] ∷ codes "b" ∷ codes "c.svg" ∷ []) ∷ (codes "a" ∷ [] ∷ codes "c.svg" ∷ []) ∷ (codes "a" ∷ codes "b" ∷ codes "c" ∷ []) ∷ [])
-    ≡ replicate 5 None
-known_no_proofs = refl
-
--- A side is a number from 1 to 100000.
-pub known_sides : map side_word (codes "1" ∷ codes "100000" ∷ codes "0" ∷ codes "100001" ∷ codes "-5" ∷ codes "x" ∷ codes "9999999999" ∷ [])
-    ≡ Some 1 ∷ Some 100000 ∷ None ∷ None ∷ None ∷ None ∷ None ∷ []
-known_sides = refl
+    ≡ replicate 5 None)
+    -- A side is a number from 1 to 100000.
+    × (map side_word (codes "1" ∷ codes "100000" ∷ codes "0" ∷ codes "100001" ∷ codes "-5" ∷ codes "x" ∷ codes "9999999999" ∷ [])
+    ≡ Some 1 ∷ Some 100000 ∷ None ∷ None ∷ None ∷ None ∷ None ∷ [])
+known_pictures = (refl, refl, refl, refl, refl)
 
 -- a format with another ending
 abbrev ending_as : Meaning → List ℕ → Meaning

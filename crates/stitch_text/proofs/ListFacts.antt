@@ -74,11 +74,7 @@ abbrev pub state : ℕ → ℕ → EncoderState
 state stops room = record { loose = true; place = point (pos 0) (pos 0); stops = stops; room = room }
 
 -- stop 254, stop 255, and a stop without room
-pub known_last_stop : refusal_of_act list_write_limits (state 253 999999) (numbered 7 act.Stop) ≡ None
-known_last_stop = refl
-
-pub known_many_stops : refusal_of_act list_write_limits (state 254 1000000) (numbered 7 act.Stop) ≡ Some (fault.TooManyStops 7)
-known_many_stops = refl
-
-pub known_no_room : refusal_of_act list_write_limits (state 253 1000000) (numbered 7 act.Stop) ≡ Some (fault.TooLong 7)
-known_no_room = refl
+pub known_refusal_of_act : (refusal_of_act list_write_limits (state 253 999999) (numbered 7 act.Stop) ≡ None)
+    × (refusal_of_act list_write_limits (state 254 1000000) (numbered 7 act.Stop) ≡ Some (fault.TooManyStops 7))
+    × (refusal_of_act list_write_limits (state 253 1000000) (numbered 7 act.Stop) ≡ Some (fault.TooLong 7))
+known_refusal_of_act = (refl, refl, refl)

@@ -18,43 +18,25 @@ abbrev pub parsed : List Command → Option ReadFault → ParsedList
 parsed commands f = record { design = design commands; fault = f }
 
 -- a list that begins at the offset 5, and one whose first line is another
-pub known_first : (parsed_parts blank_draft stage.First 5 (codes "stitch-list 1" ∷ codes "lab" ∷ [])).fault ≡ Some (fault.Short 22)
-known_first = refl
-
-pub known_signature : (parsed_parts blank_draft stage.First 5 (codes "stitch-list 2" ∷ codes "lab" ∷ [])).fault ≡ Some (fault.Signature 5)
-known_signature = refl
-
--- the label and the first block
-pub known_label : (parsed_parts blank_draft stage.Label 19 (codes "label [a]" ∷ codes "block 5" ∷ codes "end" ∷ [] ∷ [])) ≡ parsed [] None
-known_label = refl
-
-pub known_block : (parsed_parts blank_draft stage.Block 29 (codes "block 256" ∷ [] ∷ [])).fault ≡ Some (fault.Control 29)
-known_block = refl
-
--- acts after the needle
-pub known_acts : parsed_parts begun stage.Acts 50 (codes "trim" ∷ codes "trim" ∷ [] ∷ [])
-    ≡ parsed (Stitch place ∷ Trim ∷ []) (Some (fault.Control 55))
-known_acts = refl
-
--- in a line that is too long, which ends or doesn't
-pub known_long : parsed_parts begun (stage.Long (fault.Control 50)) 90 (codes "12" ∷ codes "end" ∷ [] ∷ [])
-    ≡ parsed (Stitch place ∷ []) (Some (fault.Control 50))
-known_long = refl
-
-pub known_long_open : parsed_parts begun (stage.Long (fault.Control 50)) 90 (codes "12" ∷ [])
-    ≡ parsed (Stitch place ∷ []) (Some (fault.Short 92))
-known_long_open = refl
-
--- after the last line, and after a refusal
-pub known_ended : parsed_parts begun stage.Ended 54 ([] ∷ []) ≡ parsed (Stitch place ∷ []) None
-known_ended = refl
-
-pub known_behind : parsed_parts begun stage.Ended 54 ([] ∷ [] ∷ []) ≡ parsed (Stitch place ∷ []) (Some (fault.Control 54))
-known_behind = refl
-
-pub known_refused : parsed_parts begun (stage.Refused (fault.Range 31)) 54 (codes "end" ∷ [] ∷ [])
-    ≡ parsed (Stitch place ∷ []) (Some (fault.Range 31))
-known_refused = refl
+pub known_parsed_parts : ((parsed_parts blank_draft stage.First 5 (codes "stitch-list 1" ∷ codes "lab" ∷ [])).fault ≡ Some (fault.Short 22))
+    × ((parsed_parts blank_draft stage.First 5 (codes "stitch-list 2" ∷ codes "lab" ∷ [])).fault ≡ Some (fault.Signature 5))
+    -- the label and the first block
+    × ((parsed_parts blank_draft stage.Label 19 (codes "label [a]" ∷ codes "block 5" ∷ codes "end" ∷ [] ∷ [])) ≡ parsed [] None)
+    × ((parsed_parts blank_draft stage.Block 29 (codes "block 256" ∷ [] ∷ [])).fault ≡ Some (fault.Control 29))
+    -- acts after the needle
+    × (parsed_parts begun stage.Acts 50 (codes "trim" ∷ codes "trim" ∷ [] ∷ [])
+    ≡ parsed (Stitch place ∷ Trim ∷ []) (Some (fault.Control 55)))
+    -- in a line that is too long, which ends or doesn't
+    × (parsed_parts begun (stage.Long (fault.Control 50)) 90 (codes "12" ∷ codes "end" ∷ [] ∷ [])
+    ≡ parsed (Stitch place ∷ []) (Some (fault.Control 50)))
+    × (parsed_parts begun (stage.Long (fault.Control 50)) 90 (codes "12" ∷ [])
+    ≡ parsed (Stitch place ∷ []) (Some (fault.Short 92)))
+    -- after the last line, and after a refusal
+    × (parsed_parts begun stage.Ended 54 ([] ∷ []) ≡ parsed (Stitch place ∷ []) None)
+    × (parsed_parts begun stage.Ended 54 ([] ∷ [] ∷ []) ≡ parsed (Stitch place ∷ []) (Some (fault.Control 54)))
+    × (parsed_parts begun (stage.Refused (fault.Range 31)) 54 (codes "end" ∷ [] ∷ [])
+    ≡ parsed (Stitch place ∷ []) (Some (fault.Range 31)))
+known_parsed_parts = (refl, refl, refl, refl, refl, refl, refl, refl, refl, refl)
 
 -- a list that ends at the offset 54
 pub known_faults : fault_at_end 54 stage.First ∷ fault_at_end 54 stage.Label ∷ fault_at_end 54 stage.Block ∷ fault_at_end 54 stage.Acts

@@ -25,31 +25,23 @@ abbrev line : ℕ → List Point → LineValue
 line block points = record { block = block; points = points }
 
 -- a square is one closed chain, and its greatest link is the step
-pub known_square : traced (sewing (stitch 0 0 ∷ stitch 30 0 ∷ stitch 30 20 ∷ stitch 0 20 ∷ stitch 0 0 ∷ command.Trim ∷ []))
-    ≡ Ok (drawn 30 (9 ∷ []) (line 0 (at 0 0 ∷ at 30 0 ∷ at 30 20 ∷ at 0 20 ∷ at 0 0 ∷ []) ∷ []))
-known_square = refl
-
--- a line there and back has each link once
-pub known_return : traced (sewing (stitch 0 0 ∷ stitch 10 0 ∷ stitch 20 0 ∷ stitch 10 0 ∷ stitch 0 0 ∷ command.Trim ∷ []))
-    ≡ Ok (drawn 10 (9 ∷ []) (line 0 (at 0 0 ∷ at 10 0 ∷ at 20 0 ∷ []) ∷ []))
-known_return = refl
-
--- so has one that is sewn twice the same way, after a trim
-pub known_again : traced (sewing (stitch 0 0 ∷ stitch 10 0 ∷ command.Trim ∷ stitch 0 0 ∷ stitch 10 0 ∷ stitch 20 0 ∷ []))
-    ≡ Ok (drawn 10 (9 ∷ []) (line 0 (at 0 0 ∷ at 10 0 ∷ []) ∷ line 0 (at 10 0 ∷ at 20 0 ∷ []) ∷ []))
-known_again = refl
-
--- a needle at the same point breaks no chain, and a link that was sewn before does; a chain is cut where its block has a
--- needle point again
-pub known_chains : traced (sewing (stitch 0 0 ∷ stitch 10 0 ∷ stitch 10 0 ∷ stitch 20 0 ∷ stitch 10 0 ∷ stitch 10 10 ∷ []))
+pub known_traced : (traced (sewing (stitch 0 0 ∷ stitch 30 0 ∷ stitch 30 20 ∷ stitch 0 20 ∷ stitch 0 0 ∷ command.Trim ∷ []))
+    ≡ Ok (drawn 30 (9 ∷ []) (line 0 (at 0 0 ∷ at 30 0 ∷ at 30 20 ∷ at 0 20 ∷ at 0 0 ∷ []) ∷ [])))
+    -- a line there and back has each link once
+    × (traced (sewing (stitch 0 0 ∷ stitch 10 0 ∷ stitch 20 0 ∷ stitch 10 0 ∷ stitch 0 0 ∷ command.Trim ∷ []))
+    ≡ Ok (drawn 10 (9 ∷ []) (line 0 (at 0 0 ∷ at 10 0 ∷ at 20 0 ∷ []) ∷ [])))
+    -- so has one that is sewn twice the same way, after a trim
+    × (traced (sewing (stitch 0 0 ∷ stitch 10 0 ∷ command.Trim ∷ stitch 0 0 ∷ stitch 10 0 ∷ stitch 20 0 ∷ []))
+    ≡ Ok (drawn 10 (9 ∷ []) (line 0 (at 0 0 ∷ at 10 0 ∷ []) ∷ line 0 (at 10 0 ∷ at 20 0 ∷ []) ∷ [])))
+    -- a needle at the same point breaks no chain, and a link that was sewn before does; a chain is cut where its block has a
+    -- needle point again
+    × (traced (sewing (stitch 0 0 ∷ stitch 10 0 ∷ stitch 10 0 ∷ stitch 20 0 ∷ stitch 10 0 ∷ stitch 10 10 ∷ []))
     ≡ Ok (drawn 10 (9 ∷ []) (line 0 (at 0 0 ∷ at 10 0 ∷ []) ∷ line 0 (at 10 0 ∷ at 20 0 ∷ [])
-    ∷ line 0 (at 10 0 ∷ at 10 10 ∷ []) ∷ []))
-known_chains = refl
-
--- links that cross where no needle goes down stay whole
-pub known_crossing : traced (sewing (stitch 0 0 ∷ stitch 10 10 ∷ command.Trim ∷ stitch 0 10 ∷ stitch 10 0 ∷ []))
-    ≡ Ok (drawn 10 (9 ∷ []) (line 0 (at 0 0 ∷ at 10 10 ∷ []) ∷ line 0 (at 0 10 ∷ at 10 0 ∷ []) ∷ []))
-known_crossing = refl
+    ∷ line 0 (at 10 0 ∷ at 10 10 ∷ []) ∷ [])))
+    -- links that cross where no needle goes down stay whole
+    × (traced (sewing (stitch 0 0 ∷ stitch 10 10 ∷ command.Trim ∷ stitch 0 10 ∷ stitch 10 0 ∷ []))
+    ≡ Ok (drawn 10 (9 ∷ []) (line 0 (at 0 0 ∷ at 10 10 ∷ []) ∷ line 0 (at 0 10 ∷ at 10 0 ∷ []) ∷ [])))
+known_traced = (refl, refl, refl, refl, refl)
 
 -- nothing is sewn to a float, but from it; where it stays at its point the chain continues
 pub known_floats : (traced (sewing (stitch 0 0 ∷ stitch 10 0 ∷ command.Jump (at 40 0) ∷ stitch 40 0 ∷ stitch 40 5 ∷ []))
@@ -59,13 +51,11 @@ pub known_floats : (traced (sewing (stitch 0 0 ∷ stitch 10 0 ∷ command.Jump 
 known_floats = (refl, refl)
 
 -- a block without a link has no block, and each block has its own links; block 2 has thread 3 by its place
-pub known_blocks : traced (sewing (stitch 0 0 ∷ stitch 7 0 ∷ command.Stop ∷ stitch 3 3 ∷ command.Stop ∷ stitch 7 0 ∷ stitch 0 0 ∷ []))
-    ≡ Ok (drawn 7 (9 ∷ 3 ∷ []) (line 0 (at 0 0 ∷ at 7 0 ∷ []) ∷ line 1 (at 7 0 ∷ at 0 0 ∷ []) ∷ []))
-known_blocks = refl
-
--- a needle that stays sews nothing
-pub known_nothing : traced (sewing (stitch 5 0 ∷ stitch 5 0 ∷ command.Trim ∷ stitch 9 0 ∷ [])) ≡ Err fault.NoLinks
-known_nothing = refl
+pub known_blocks : (traced (sewing (stitch 0 0 ∷ stitch 7 0 ∷ command.Stop ∷ stitch 3 3 ∷ command.Stop ∷ stitch 7 0 ∷ stitch 0 0 ∷ []))
+    ≡ Ok (drawn 7 (9 ∷ 3 ∷ []) (line 0 (at 0 0 ∷ at 7 0 ∷ []) ∷ line 1 (at 7 0 ∷ at 0 0 ∷ []) ∷ [])))
+    -- a needle that stays sews nothing
+    × (traced (sewing (stitch 5 0 ∷ stitch 5 0 ∷ command.Trim ∷ stitch 9 0 ∷ [])) ≡ Err fault.NoLinks)
+known_blocks = (refl, refl)
 
 -- the first link that is longer than the limit, down or across, has the command of its second needle
 pub known_long : (traced (sewing (stitch 0 0 ∷ stitch 0 2047 ∷ [])) ≡ Ok (drawn 2047 (9 ∷ []) (line 0 (at 0 0 ∷ at 0 2047 ∷ []) ∷ [])))

@@ -3,11 +3,9 @@ use Rattle.std.proofs.Common.{◌≡◌, [], ◌∷◌, codes, refl}
 use Rattle.text_parts.specs.Parts.{parts_between, words_in}
 
 -- one part more than marks, and an empty one beside a mark at an end
-pub known_parts : parts_between 44 (codes "12,,-7,") ≡ codes "12" ∷ [] ∷ codes "-7" ∷ [] ∷ []
-known_parts = refl
-
-pub known_nothing : parts_between 44 [] ≡ [] ∷ []
-known_nothing = refl
+pub known_parts_between : (parts_between 44 (codes "12,,-7,") ≡ codes "12" ∷ [] ∷ codes "-7" ∷ [] ∷ [])
+    × (parts_between 44 [] ≡ [] ∷ [])
+known_parts_between = (refl, refl)
 
 -- two spaces have an empty word between them, and a tab parts no words
 pub known_words : words_in (codes "cut 2  9\t10") ≡ codes "cut" ∷ codes "2" ∷ [] ∷ codes "9\t10" ∷ []
