@@ -1,16 +1,15 @@
 -- Words that stand one space apart, and the lines that they make.
-use Rattle.std.proofs.Common.{arith}
-use Rattle.std.proofs.Common.{◌≡◌, ℕ, Bool, true, false, not, ◌==◌, ◌||◌, ◌&&◌, List, [], ◌∷◌, ◌++◌, map, All, ap, sym, ◌∙◌, refl, append_assoc, append-nil}
+use Rattle.std.proofs.Common.{arith, ◌≡◌, ℕ, Bool, true, false, not, ◌==◌, ◌||◌, ◌&&◌, List, [], ◌∷◌, ◌++◌, map, All, ap, sym, ◌∙◌, refl, append_assoc, append-nil}
 use Rattle.std.proofs.lemmas.List.Splits.{slice_split_at, slice_split_none}
 use Rattle.drawing_text.proofs.Names.{nat_tests, and_from, and_parts, or_parts, All-weaker, list_all, is_blank_byte, is_filled, is_line_feed, text_lines, line_without_return, words_by_line, words_of_line, not-true, list_all-append, AllPass-from_list_all}
 
--- a byte that ends no line
-abbrev is_line_byte : ℕ → Bool
-is_line_byte b = not (is_line_feed b || b == 13)
+-- a byte that ends no line, and is no carriage return
+abbrev is_inner_byte : ℕ → Bool
+is_inner_byte b = not (is_line_feed b || b == 13)
 
 -- a byte that ends neither a line nor a word
 abbrev pub is_printed_byte : ℕ → Bool
-is_printed_byte b = not (is_blank_byte b) && is_line_byte b
+is_printed_byte b = not (is_blank_byte b) && is_inner_byte b
 
 -- a word that can be printed
 pub record IsWord (word : List ℕ) : Type 0 where
@@ -37,40 +36,40 @@ tail_parts (word ∷ words) rest =
     grind (arith, nat_tests, append_assoc word (tail_of words) rest, tail_parts words rest, append_assoc word (spaced words) (10 ∷ rest))
 
 -- bytes that end no line are on one line
-line_cut : (line rest : List ℕ) → list_all is_line_byte line ≡ true → text_lines (line ++ 10 ∷ rest) ≡ line ∷ text_lines rest
+line_cut : (line rest : List ℕ) → list_all is_inner_byte line ≡ true → text_lines (line ++ 10 ∷ rest) ≡ line ∷ text_lines rest
 line_cut [] rest kept = refl
 line_cut (b ∷ line) rest kept =
-    let both = and_parts (is_line_byte b) (list_all is_line_byte line) kept in
+    let both = and_parts (is_inner_byte b) (list_all is_inner_byte line) kept in
     let test = (or_parts (is_line_feed b) (b == 13) (not-true _ both.0)).0 in
     rw (test, line_cut line rest both.1)
 
-return_kept : (line : List ℕ) → list_all is_line_byte line ≡ true → line_without_return line ≡ line
+return_kept : (line : List ℕ) → list_all is_inner_byte line ≡ true → line_without_return line ≡ line
 return_kept [] kept = refl
-return_kept (b ∷ []) kept = grind (arith, nat_tests, and_parts (is_line_byte b) true kept, or_parts (is_line_feed b) (b == 13), not-true)
+return_kept (b ∷ []) kept = grind (arith, nat_tests, and_parts (is_inner_byte b) true kept, or_parts (is_line_feed b) (b == 13), not-true)
 return_kept (b ∷ c ∷ line) kept =
-    grind (arith, nat_tests, and_parts (is_line_byte b) (list_all is_line_byte (c ∷ line)) kept, return_kept (c ∷ line))
+    grind (arith, nat_tests, and_parts (is_inner_byte b) (list_all is_inner_byte (c ∷ line)) kept, return_kept (c ∷ line))
 
 -- the bytes of words end no line
-word_on_line : (word : List ℕ) → list_all is_printed_byte word ≡ true → list_all is_line_byte word ≡ true
+word_on_line : (word : List ℕ) → list_all is_printed_byte word ≡ true → list_all is_inner_byte word ≡ true
 word_on_line [] inner = refl
 word_on_line (b ∷ word) inner =
     let both = and_parts (is_printed_byte b) (list_all is_printed_byte word) inner in
-    and_from (is_line_byte b) (list_all is_line_byte word)
-    (and_parts (not (is_blank_byte b)) (is_line_byte b) both.0).1 (word_on_line word both.1)
+    and_from (is_inner_byte b) (list_all is_inner_byte word)
+    (and_parts (not (is_blank_byte b)) (is_inner_byte b) both.0).1 (word_on_line word both.1)
 
-kept_on : (first second : List ℕ) → list_all is_line_byte first ≡ true → list_all is_line_byte second ≡ true
-    → list_all is_line_byte (first ++ second) ≡ true
+kept_on : (first second : List ℕ) → list_all is_inner_byte first ≡ true → list_all is_inner_byte second ≡ true
+    → list_all is_inner_byte (first ++ second) ≡ true
 kept_on first second one other =
-    list_all-append is_line_byte first second ∙ and_from (list_all is_line_byte first) (list_all is_line_byte second) one other
+    list_all-append is_inner_byte first second ∙ and_from (list_all is_inner_byte first) (list_all is_inner_byte second) one other
 
-words_on_line : (words : List (List ℕ)) → AreWords words → list_all is_line_byte (spaced words) ≡ true
+words_on_line : (words : List (List ℕ)) → AreWords words → list_all is_inner_byte (spaced words) ≡ true
 words_on_line [] are = refl
 words_on_line (word ∷ words) are = kept_on word (spaced words) (word_on_line word are.0.inner) (words_on_line words are.1)
 
 -- no byte of a word is a blank
 no_blank : (word : List ℕ) → list_all is_printed_byte word ≡ true → All (λ b. is_blank_byte b ≡ false) word
 no_blank word inner = All-weaker (λ (b : ℕ). is_printed_byte b ≡ true) (λ (b : ℕ). is_blank_byte b ≡ false)
-    (λ b test. not-true (is_blank_byte b) (and_parts (not (is_blank_byte b)) (is_line_byte b) test).0) word
+    (λ b test. not-true (is_blank_byte b) (and_parts (not (is_blank_byte b)) (is_inner_byte b) test).0) word
     (AllPass-from_list_all is_printed_byte word inner)
 
 -- a word before a space, and a word before the end

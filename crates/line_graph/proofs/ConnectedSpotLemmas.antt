@@ -1,6 +1,5 @@
 -- Two spots are connected by lines exactly where lines at them are connected.
-use Rattle.std.proofs.Common.{arith}
-use Rattle.std.proofs.Common.{◌≡◌, ◌⊎◌, inl, inr, ℕ, zero, suc, Bool, true, false, cond, List, [], ◌∷◌, map, slice_get, Some, All, refl, sym, ◌∙◌, ap, subst}
+use Rattle.std.proofs.Common.{arith, ◌≡◌, ◌⊎◌, inl, inr, ℕ, zero, suc, Bool, true, false, cond, List, [], ◌∷◌, map, slice_get, Some, All, refl, sym, ◌∙◌, ap, subst}
 use Rattle.line_graph.proofs.Names.{nat_tests, All-head, All-tail, slice_get-get_or, Point, last_point_or, Spot, LineValue, is_same_spot, DrawingValue, optional_line_block, first_point, last_point, optional_line_points, endpoints, IsLineEnd, AreConnected, IsPathOfLines, are_connected_spots, SpotsAreConnected, same_spot, spot_found, some_same, end_spots, representative, merged_representative}
 use Rattle.line_graph.proofs.LabelLemmas.{joined_back, joined_on}
 use Rattle.line_graph.proofs.LinkLemmas.{below_get, share_of, touch_joins, touch_of}

@@ -1,6 +1,5 @@
 -- The acts of the commands that sew runs.
-use Rattle.std.proofs.Common.{arith}
-use Rattle.std.proofs.Common.{◌≡◌, ◌≢◌, ℕ, zero, suc, ◌+◌, ◌-◌, Bool, true, false, List, [], ◌∷◌, ◌++◌, map, replicate, All, ap, refl}
+use Rattle.std.proofs.Common.{arith, ◌≡◌, ◌≢◌, ℕ, zero, suc, ◌+◌, ◌-◌, Bool, true, false, List, [], ◌∷◌, ◌++◌, map, replicate, All, ap, refl}
 use Rattle.line_graph.proofs.Names.{nat_tests, All-head, All-tail, Act, Stitch, Stop, Point, acts_without_numbers, HasNeedle, Run, commands_after, acts_from, sewn_acts_after}
 use Rattle.design_model.specs.declared.act.Act.TheVariants as act
 use Rattle.design_model.specs.declared.command.Command.{Command}

@@ -7,8 +7,7 @@ use Rattle.stitch_text.specs.declared.list_line.ListLine.TheVariants as line
 use Rattle.stitch_text.proofs.ActLemmas.{acts_again, commands_along, moves_within}
 use Rattle.stitch_text.proofs.LabelLemmas.{label_to, label_yes}
 use Rattle.stitch_text.proofs.LineLemmas.{IsLine, Lacks, block_is, lacks_from, needle_is, trim_is}
-use Rattle.stitch_text.proofs.ReadingLemmas.{acts_judged, first_is, label_is}
-use Rattle.stitch_text.proofs.ReadingLemmas.{block_is as first_block_is}
+use Rattle.stitch_text.proofs.ReadingLemmas.{acts_judged, first_is, label_is, block_is as first_block_is}
 
 -- a line before others
 pub line_before : (bytes text : List ℕ) → Lacks bytes → parts_between 10 (bytes ++ 10 ∷ text) ≡ bytes ∷ parts_between 10 text

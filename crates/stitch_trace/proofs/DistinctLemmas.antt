@@ -1,6 +1,5 @@
 -- The new links of a block are its distinct links.
-use Rattle.std.proofs.Common.{arith}
-use Rattle.std.proofs.Common.{◌≡◌, Bool, true, false, ◌||◌, cond, List, [], ◌∷◌, subst, refl, inl, inr}
+use Rattle.std.proofs.Common.{arith, ◌≡◌, Bool, true, false, ◌||◌, cond, List, [], ◌∷◌, subst, refl, inl, inr}
 use Rattle.stitch_trace.proofs.Names.{nat_tests, ap₂, and_parts, or_parts, list_all, list_any, is_same_point, Link, NeedleMove, Stay, Gap, Sewn, is_sewn, new_moves, are_distinct, is_same_directed_link, is_same_link, links_in, needle_moves_of, reversed_link, same_is, or_cases, or_left, or_right, NewLinksAreDistinct, point_itself}
 
 -- a link has its own ends

@@ -1,6 +1,5 @@
 -- Links of a chain follow each other, so chains have the new links as their segments.
-use Rattle.std.proofs.Common.{arith}
-use Rattle.std.proofs.Common.{◌≡◌, ℕ, Bool, true, false, cond, List, [], ◌∷◌, ◌++◌, Option, Some, None, map, flat_map, ap, sym, subst, ◌∙◌, refl, append_assoc, append-nil}
+use Rattle.std.proofs.Common.{arith, ◌≡◌, ℕ, Bool, true, false, cond, List, [], ◌∷◌, ◌++◌, Option, Some, None, map, flat_map, ap, sym, subst, ◌∙◌, refl, append_assoc, append-nil}
 use Rattle.stitch_trace.proofs.Names.{nat_tests, ap₂, flat_map-append, Act, NumberedAct, Point, needle_point, act_point, is_same_point, last_point, last_point_or, Link, NeedleMove, Stay, Gap, Sewn, chains_of, has_links, new_links_of, new_moves, new_moves_of, link_between, links_along, links_in, move_to_act, needle_moves_of, needle_moves_from, chain_if_any, chains_after, extended_chain, same_is, some_same, segments_from}
 use Rattle.design_model.specs.declared.act.Act.TheVariants as act
 use Rattle.stitch_trace.proofs.MoveLemmas.{chains_are, chains_through, parts_of}

@@ -1,6 +1,5 @@
 -- New links by a test of what was sewn, and the chains of moves one after another.
-use Rattle.std.proofs.Common.{arith}
-use Rattle.std.proofs.Common.{◌≡◌, ℕ, Bool, true, false, ◌||◌, cond, List, [], ◌∷◌, ◌++◌, map, filter, ap, sym, ◌∙◌, refl, append_assoc, append-nil}
+use Rattle.std.proofs.Common.{arith, ◌≡◌, ℕ, Bool, true, false, ◌||◌, cond, List, [], ◌∷◌, ◌++◌, map, filter, ap, sym, ◌∙◌, refl, append_assoc, append-nil}
 use Rattle.stitch_trace.proofs.Names.{nat_tests, ap₂, map-append, contains, list_any, NumberedAct, Point, Link, NeedleMove, Stay, Gap, Sewn, chains_of, has_links, is_sewn, new_moves, new_moves_of, is_same_directed_link, is_same_link, links_in, needle_moves_of, reversed_link, chain_if_any, chains_after, extended_chain, new_moves_by, HashSet, onto_first, slice_split, is_gap, points_through}
 
 -- what is found after two keys were put in
