@@ -12,8 +12,8 @@ pub use Rattle.blossom_match.specs.Candidates.{IsCandidateChange, change_at, tar
 pub use Rattle.blossom_match.specs.Duals.{Adjusts, CanAdjust, CanChange, CanChangeBranch, CanChangeHeights, CanStepAfter, ChangesDuals}
 pub use Rattle.blossom_match.specs.Duals.{ChangesHeights, all_changed, changed_branch, changed_by}
 pub use Rattle.blossom_match.specs.InitialDuals.{AreWithinDistances, CanPair, FindsTight, HasFreeSlack, KeepsSlack, PairsFree}
-pub use Rattle.blossom_match.specs.LeastChanges.{AllowsChange, CanSearch, FirstHasDual, IsBlossomDual, IsBranchDual, IsLeastChange}
-pub use Rattle.blossom_match.specs.LeastChanges.{IsLesserChange, IsLesserChangeAt, IsReadyAfter, step_of}
+pub use Rattle.blossom_match.specs.LeastChanges.{AllowsChange, CanSearch, IsBlossomDual, IsLeastChange, IsLesserChange, IsLesserChangeAt}
+pub use Rattle.blossom_match.specs.LeastChanges.{IsReadyAfter, step_of}
 pub use Rattle.blossom_match.specs.Masks.{IsBestShown, IsMask, IsMaskedSlack, IsSearchMask, branch_members, masked_slack}
 pub use Rattle.blossom_match.specs.Matchings.{AreLaminar, IsOddMoat, IsOptimalMatching, IsPerfectMatching, KeepsMoatLoads, crosses_moat}
 pub use Rattle.blossom_match.specs.Matchings.{moat_holds, moat_load, pair_ends_at, pairs_cost, width_of}
@@ -52,7 +52,7 @@ pub use Rattle.odd_sets.specs.Expansions.{Expands, InsertsBranches}
 pub use Rattle.odd_sets.specs.Folds.{FoldsCells, FoldsOuters}
 pub use Rattle.odd_sets.specs.Lists.{Each, EachPair, sum_over}
 pub use Rattle.odd_sets.specs.MatchedSets.{IsMatch, IsTightMatch, match_dual_sets, match_members}
-pub use Rattle.odd_sets.specs.Shrinks.{CanShrink, Shrinks}
+pub use Rattle.odd_sets.specs.Shrinks.{Shrinks}
 pub use Rattle.odd_sets.specs.SlackRows.{MergesSlacks, SetsCells, lowered_slack, vertex_slacks}
 pub use Rattle.odd_sets.specs.Slots.{AreSets, InsertsSet, Slots, branch_in, branches_in, core_in, match_in, matches_in, set_in}
 pub use Rattle.odd_sets.specs.SoundSets.{IsSoundBranch, IsSoundMatch, IsSoundSet, IsSymmetric, IsTight}

@@ -1,6 +1,6 @@
 -- The least slack from the outer vertices to each vertex.
-use Rattle.std.proofs.Common.{◌≡◌, ◌≢◌, ℕ, ◌+◌, ◌-◌, ◌≤◌, ◌<◌, ◌⊎◌, inl, inr, suc, zero, List, [], ◌∷◌, ◌++◌, length, take, drop, get_or, arith, refl, sym, ap, subst, ◌∙◌, length-append, append_assoc}
-use Rattle.blossom_match.proofs.Names.{nat_tests, take-append-drop, drop-append_seam, Each, OddSetValue, count, one_if_equal, lowered_slack, IsSoundBranch, IsSoundSet, outer_with_both, one_if_both, outer_members, count_holding_both, slack_from, HasSoundOuters, HasSlacks, IsSlackFromOne, HasSlackCells, IsOuterSlack, AreOuterSlacks, AddsOuterSlacks, LowersBySet, ReachesEither, TableValue, FAR, BranchValue, SearchValue, each-map, take_here, each-left, each-right, count-append, members-append, members_push, outer_places, not_hit, lowered_far, around_append, base_in, around_first, by_count, by_either, cases_lt, take-append_seam, InsertsBranches, MergesSlacks, each_here, at_drop, near_least, near_is}
+use Rattle.std.proofs.Common.{◌≡◌, ◌≢◌, ℕ, ◌+◌, ◌-◌, ◌≤◌, ◌<◌, inl, inr, suc, zero, List, [], ◌∷◌, ◌++◌, length, take, drop, get_or, arith, refl, sym, ap, subst, ◌∙◌, length-append, append_assoc}
+use Rattle.blossom_match.proofs.Names.{nat_tests, take-append-drop, drop-append_seam, Each, OddSetValue, count, lowered_slack, IsSoundBranch, IsSoundSet, outer_with_both, one_if_both, outer_members, count_holding_both, slack_from, HasSoundOuters, HasSlacks, IsSlackFromOne, HasSlackCells, AreOuterSlacks, AddsOuterSlacks, LowersBySet, ReachesEither, TableValue, FAR, BranchValue, SearchValue, take_here, each-left, each-right, count-append, members-append, members_push, outer_places, not_hit, lowered_far, around_append, base_in, around_first, by_count, by_either, cases_lt, take-append_seam, InsertsBranches, MergesSlacks, each_here, at_drop, near_least, near_is}
 use Rattle.blossom_match.proofs.ScanLemmas.{split_here}
 
 -- a merged row takes the set in

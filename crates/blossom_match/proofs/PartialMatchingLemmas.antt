@@ -1,9 +1,7 @@
 -- The slots after a step.
-use Rattle.std.proofs.Common.{◌≡◌, ℕ, ◌+◌, ◌≤◌, List, [], ◌∷◌, ◌++◌, Bool, true, false, cond, ltb, None, arith, refl, sym, ap, subst}
-use Rattle.blossom_match.proofs.Names.{nat_tests, DualSet, OddSetValue, dual_sets, count, one_if_equal, key_count, match_dual_sets, reversed_edge, CanStepAt, Shrinks, branches_in, matches_in, set_in, AreSets, Slots, all_dual_sets, branch_dual_sets, branch_by_edge, Augments, RemovesMatch, TableValue, BranchValue, MatchValue, SearchValue, TightEdge, Match, Branch, Augment, dual_sets-append, bands_push, hit_is, hit_same, key_count-append, sets_fewer, all_uses, by_count, InsertsSet, CanAugment, inserted_keeps, keep_branches, keep_matches, keep_seat, no_slot, has_slot, set_more}
-use Rattle.slab.specs.Slab.{get}
+use Rattle.std.proofs.Common.{◌≡◌, ℕ, ◌+◌, ◌≤◌, List, [], ◌∷◌, ◌++◌, Bool, true, false, cond, ltb, arith, refl, sym, ap, subst}
+use Rattle.blossom_match.proofs.Names.{nat_tests, DualSet, OddSetValue, dual_sets, count, one_if_equal, key_count, match_dual_sets, reversed_edge, Shrinks, branches_in, matches_in, set_in, AreSets, Slots, all_dual_sets, branch_dual_sets, branch_by_edge, Augments, RemovesMatch, BranchValue, MatchValue, TightEdge, Match, Branch, dual_sets-append, bands_push, hit_is, hit_same, key_count-append, sets_fewer, all_uses, by_count, InsertsSet, CanAugment, inserted_keeps, keep_branches, keep_matches, keep_seat, no_slot, has_slot, set_more}
 use Rattle.odd_sets.specs.declared.odd_set.Handle.{Handle}
-use Rattle.blossom_match.proofs.SearchLemmas.{is_one}
 
 once_case : (n k key was now : ℕ) → one_if_equal k key ≡ n → now ≡ was + one_if_equal k key → was ≤ 1 → (k ≡ key → was ≡ 0) → now ≤ 1
 once_case n k key was now h1 h2 h3 h4 = grind (arith, nat_tests, hit_is, hit_same)

@@ -1,6 +1,6 @@
 -- The least of all changes, pair by pair and set by set.
-use Rattle.std.proofs.Common.{◌≡◌, ℕ, ◌+◌, ◌≤◌, ◌<◌, ◌⊎◌, inl, inr, List, [], ◌∷◌, ◌++◌, length, take, drop, get_or, arith, refl, sym, ap, subst, ◌∙◌}
-use Rattle.blossom_match.proofs.Names.{nat_tests, take-append-drop, Each, OddSetValue, count, outer_members, count_holding_both, IsBlossomDual, AllowsChange, BranchValue, DualChange, drop_here, each-map, each-push, take_here, count-append, members-append, around_append, base_in, around_none, FirstHasDual, IsBranchDual, IsLesserChangeAt}
+use Rattle.std.proofs.Common.{◌≡◌, ℕ, ◌+◌, ◌≤◌, ◌<◌, ◌⊎◌, inl, List, [], ◌∷◌, ◌++◌, length, take, drop, get_or, arith, refl, sym, ap, subst, ◌∙◌}
+use Rattle.blossom_match.proofs.Names.{nat_tests, take-append-drop, Each, OddSetValue, count, outer_members, count_holding_both, IsBlossomDual, AllowsChange, BranchValue, DualChange, drop_here, each-map, each-push, take_here, count-append, members-append, around_append, base_in, around_none, IsLesserChangeAt}
 
 -- no outer set holds a place of those before and a place of this one
 pub apart_from : (a b : ℕ) (root : OddSetValue) (bs : List BranchValue) (c : BranchValue) (after : List BranchValue)

@@ -1,6 +1,6 @@
 -- Each step leads from a search to a search.
 use Rattle.std.proofs.Common.{◌≡◌, ℕ, ◌+◌, ◌≤◌, ◌<◌, suc, List, [], ◌∷◌, ◌++◌, length, take, drop, Bool, true, false, cond, ltb, arith, refl, sym, ap, subst, ◌∙◌, drop-cons, get_or}
-use Rattle.blossom_match.proofs.Names.{nat_tests, lt-ltb, ltb-true, ltb-false, take-append-drop, Each, IsAdditive, DualSet, OddSetValue, dual_sets, count, height, one_if_equal, dual_load, reversed_edge, match_members, match_dual_sets, IsMatch, IsSoundBranch, IsSoundMatch, branch_dual_sets, branch_by_edge, inner_members, inner_sets, outer_members, RemovesMatch, Shrinks, is_place, outer_vertices, Advances, CanStep, TableValue, TightEdge, BranchValue, MatchValue, SearchValue, Shrink, Expand, each-append, each-left, each-right, each-push, dual_sets-append, bands_push, count-append, height-append, dual_load-append, members-append, members_push, none_hold, size-append, entry-comm, IsOutside, NoneHold, IsSymmetric, IsTight, branch_sets, CanShrink, Expands, Grow, none_tall, tight_back, grown_push}
+use Rattle.blossom_match.proofs.Names.{nat_tests, lt-ltb, ltb-true, ltb-false, take-append-drop, Each, IsAdditive, DualSet, OddSetValue, dual_sets, count, height, one_if_equal, dual_load, reversed_edge, match_members, match_dual_sets, IsMatch, IsSoundBranch, IsSoundMatch, branch_dual_sets, branch_by_edge, inner_members, inner_sets, outer_members, RemovesMatch, Shrinks, is_place, outer_vertices, Advances, TableValue, TightEdge, BranchValue, MatchValue, SearchValue, Shrink, Expand, each-append, each-left, each-right, each-push, dual_sets-append, bands_push, count-append, height-append, dual_load-append, members-append, members_push, none_hold, size-append, entry-comm, IsOutside, NoneHold, IsSymmetric, IsTight, branch_sets, Expands, Grow, none_tall, tight_back, grown_push}
 
 -- a search with other sets
 abbrev pub with_sets : SearchValue → OddSetValue → List BranchValue → List MatchValue → SearchValue

@@ -1,5 +1,5 @@
 -- The reported line is the first bad line.
-use Rattle.std.proofs.Common.{◌≡◌, ◌≢◌, ℕ, suc, ◌+◌, ◌-◌, ◌<◌, ◌==◌, Bool, true, false, List, [], ◌∷◌, ◌++◌, Option, None, Some, Result, Ok, Err, All, length, get_or, take, subst, ap, sym, refl, ◌∙◌, append_assoc, arith}
+use Rattle.std.proofs.Common.{◌≡◌, ◌≢◌, ℕ, suc, ◌+◌, ◌-◌, ◌<◌, ◌==◌, Bool, true, false, List, [], ◌∷◌, ◌++◌, Option, None, Some, Err, All, length, get_or, take, subst, ap, sym, refl, ◌∙◌, append_assoc, arith}
 use Rattle.certificate_text.proofs.Names.{nat_tests, All-cons, All-head, All-nil, All-tail, flat_map, option_and_then, Pass, PieceCert, CertDraft, CertLine, parts_between, IsCertificatePrefix, IsFirstBadLine, pieces_at_end, cert_of, draft_with_text_line, first_lines, draft_with_line, pieces_after_lines, some_part, flat_map_more, take_more, All-take, onto_first}
 use Rattle.certificate_text.specs.declared.draft.CertDraft.TheVariants as draft
 use Rattle.certificate_text.specs.declared.lines.CertLine.TheVariants as line

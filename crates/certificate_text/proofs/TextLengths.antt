@@ -1,6 +1,6 @@
 -- A text has more bytes than any list of its certificate has items.
 use Rattle.std.proofs.Common.{◌≡◌, ℕ, ◌+◌, ◌<◌, ◌≤◌, List, [], ◌∷◌, ◌++◌, length, get_or, codes, decimal, ap, arith}
-use Rattle.certificate_text.proofs.Names.{nat_tests, flat_map, Pass, PieceCert, Cut, certificate_text, cut_line_text, member_text, pass_text, passes_text, piece_text, newline, AreFew, HasFewItems, length-append, length-flat_map-take}
+use Rattle.certificate_text.proofs.Names.{nat_tests, flat_map, Pass, PieceCert, Cut, certificate_text, cut_line_text, pass_text, passes_text, piece_text, newline, AreFew, HasFewItems, length-append, length-flat_map-take}
 use Rattle.certificate_text.proofs.NumberWords.{pass_spaced}
 
 -- each item has a byte at least

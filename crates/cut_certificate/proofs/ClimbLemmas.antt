@@ -3,7 +3,7 @@ use Rattle.std.proofs.Common.{◌≡◌, ℕ, ◌+◌, ◌-◌, ◌*◌, ◌<◌
 use Rattle.cut_certificate.proofs.Names.{nat_tests, cases_lt, Moat, has_member, LiftInput, depth, level, width_sum}
 use Rattle.cut_certificate.proofs.LevelLemmas.{IsBest, best, inner_full, level_by, level_most}
 use Rattle.cut_certificate.proofs.MoatLemmas.{Apart, Disjoint, Fits, IsOf, not_in, parts, reach, related}
-use Rattle.cut_certificate.proofs.OverlapLemmas.{overlap, overlaps, overlaps_fit, part_at}
+use Rattle.cut_certificate.proofs.OverlapLemmas.{overlaps, overlaps_fit, part_at}
 
 -- how many halves of the cuts of these moats hold i and not j
 abbrev pub climb : LiftInput → (i j : ℕ) → List Moat → ℕ

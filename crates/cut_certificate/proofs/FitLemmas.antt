@@ -3,7 +3,7 @@ use Rattle.std.proofs.Common.{◌≡◌, ℕ, ◌+◌, ◌*◌, ◌%◌, ◌<◌
 use Rattle.cut_certificate.proofs.Names.{nat_tests, All-weaker, slice_get_read, if◌then◌else◌, count_by, Moat, IsOddMoat, moat_load, Edge, PieceValue, RowsValue, cost_at, length_in, terminal_of, Cut, has_member, load_on, LiftInput, lift_input, width_sum, AreLiftableMoats, IsLifted, AddsCuts, AreCutsTo, IsPlainCut, HasRowsForMoats, AreDistancesFrom, is_sum_by, slice_get-get_or, crosses_moat, MAX_LINES, IsOddCut, AreAllMoatDistances}
 use Rattle.line_graph.specs.ValidPieces.{IsValidPiece}
 use Rattle.odd_paths.specs.CostTheorems.{AreDistances}
-use Rattle.cut_certificate.proofs.ClimbLemmas.{IsLine, carries}
+use Rattle.cut_certificate.proofs.ClimbLemmas.{carries}
 use Rattle.cut_certificate.proofs.HeldLemmas.{as_many}
 use Rattle.cut_certificate.proofs.LaminarLemmas.{below, differ, held_below, laminar, of_all}
 use Rattle.cut_certificate.proofs.LiftLemmas.{AreCutsOf, AreLifted, IsMade, all_lifted, as_moat}

@@ -1,5 +1,5 @@
 -- What moves undo, point by point.
-use Rattle.std.proofs.Common.{◌≡◌, ℤ, ◌+ℤ◌, neg_ℤ, List, [], ◌∷◌, map, refl, ap, ◌∙◌}
+use Rattle.std.proofs.Common.{◌≡◌, ℤ, neg_ℤ, List, [], ◌∷◌, map, refl, ap, ◌∙◌}
 use Rattle.design_edits.proofs.Names.{ap₂, Command, Stitch, Jump, Trim, Stop, Point, DesignValue, FourQuarterTurnsRestore, OppositeShiftRestores, TwoMirroringsRestore, mirror_point, shift_point, turn_point, turned, with_mapped_point, with_mapped_points, back-there, neg-neg}
 use Rattle.design_edits.specs.declared.axis.Axis.TheVariants as axis
 

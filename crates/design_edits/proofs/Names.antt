@@ -7,8 +7,8 @@ pub use Rattle.std.specs.Prelude.{if◌then◌else◌, slice_get, ◌==◌, ◌�
 pub use Rattle.design_edits.specs.Colours.{IsRecolourResult, Recolours, colour_place_count, recoloured, threads_from, threads_up_to}
 pub use Rattle.design_edits.specs.Inverses.{FourQuarterTurnsRestore, OppositeShiftRestores, TwoMirroringsRestore}
 pub use Rattle.design_edits.specs.Motions.{motion_map}
-pub use Rattle.design_edits.specs.Moves.{first_out_of_range, mirror_point, mirrored, quarter_point, shift_point, shifted, turn_point}
-pub use Rattle.design_edits.specs.Moves.{turned, with_mapped_point, with_mapped_points}
+pub use Rattle.design_edits.specs.Moves.{first_out_of_range, mirror_point, mirrored, shift_point, shifted, turn_point, turned}
+pub use Rattle.design_edits.specs.Moves.{with_mapped_point, with_mapped_points}
 pub use Rattle.design_edits.specs.declared.axis.Axis.{Axis}
 pub use Rattle.design_model.specs.Commands.{is_command_in_range, target_of}
 pub use Rattle.design_model.specs.Designs.{DesignValue, KeepsLimits, thread_of, with_command_at, with_thread, with_thread_at}

@@ -1,5 +1,5 @@
 -- The bytes of a file that were fed, and the result at its end.
-use Rattle.std.proofs.Common.{◌≡◌, ℕ, ◌+◌, ◌≤◌, List, [], ◌++◌, length, take, Option, Result, ap, sym, subst, ◌∙◌, length-append, append_assoc}
+use Rattle.std.proofs.Common.{◌≡◌, ℕ, ◌+◌, ◌≤◌, List, ◌++◌, length, take, Option, Result, ap, sym, subst, ◌∙◌, length-append, append_assoc}
 use Rattle.std.proofs.lemmas.List.{length-take-le}
 use Rattle.outside_io.specs.FileParts.{IsContentPrefix, IsFilePrefix, IsNextPart}
 use Rattle.outside_io.specs.Files.{Files}

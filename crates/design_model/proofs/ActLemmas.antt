@@ -1,5 +1,5 @@
 -- The acts of commands in range are in range.
-use Rattle.std.proofs.Common.{◌≡◌, ℕ, ◌+◌, Bool, true, IsTrue, [], ◌∷◌, ◌++◌, Option, Some, None, IfSome, refl, arith}
+use Rattle.std.proofs.Common.{◌≡◌, ◌+◌, Bool, IsTrue, [], ◌∷◌, ◌++◌, Option, IfSome, arith}
 use Rattle.design_model.proofs.Names.{nat_tests, and_parts, and_from, Act, Command, acts_from, numbered_act_list, is_command_in_range, is_act_in_range}
 use Rattle.design_model.proofs.CallerLemmas.{acts_in_range, are_in_range}
 

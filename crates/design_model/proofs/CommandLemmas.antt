@@ -1,8 +1,7 @@
 -- Commands of which one is moved to another point.
-use Rattle.std.proofs.Common.{ap, ◌≡◌, ℕ, zero, suc, IsTrue, List, [], ◌∷◌, Option, Some, None, IfSome, IsSomeAnd, get_or, set, refl, arith}
+use Rattle.std.proofs.Common.{◌≡◌, ℕ, zero, suc, IsTrue, List, [], ◌∷◌, Option, IfSome, IsSomeAnd, get_or, set, arith}
 use Rattle.std.specs.Prelude.{slice_get}
-use Rattle.design_model.proofs.Names.{nat_tests, and_parts, and_from, list_all, Command, Stitch, Jump, Point, is_command_in_range, command_with_point, command_accepts_point}
-use Rattle.design_model.specs.declared.command.Command.TheVariants.{Trim, Stop}
+use Rattle.design_model.proofs.Names.{nat_tests, and_parts, and_from, list_all, Command, Point, is_command_in_range, command_with_point, command_accepts_point}
 
 -- A command that accepts a point is in range there.
 taken_in_range : (c : Command) (p : Point) → IsTrue (command_accepts_point c p) → IsTrue (is_command_in_range (command_with_point c p))

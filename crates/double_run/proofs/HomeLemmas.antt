@@ -1,8 +1,8 @@
 -- The first traversal, and the double walk of a finished one.
 use Rattle.std.proofs.Common.{◌≡◌, ◌≤◌, ◌<◌, ℕ, zero, suc, ◌+◌, ◌*◌, ◌==◌, Bool, true, false, List, [], ◌∷◌, length, get_or, replicate, slice_get, Some, arith, refl, sym, ap, ◌∙◌, subst}
 use Rattle.std.proofs.lemmas.List.{length-replicate}
-use Rattle.double_run.proofs.Names.{nat_tests, All-get_or, Edge, Pass, IsValidPiece, PieceValue, one_if, first_line, is_fitting_walk, piece_cost, walk_cost, walk_end_from, IsPassedBothWays, IsDouble, directed_passes, without_ends, IsTraversalInvariant, is_visited, is_exhausted, passed_cost, root_junction, ends_are_below, edge_there, same_number, some_same, All-from_get_or, BeginsWith, covers, walk_start, is_line_passed, same_test}
-use Rattle.double_run.proofs.MetLemmas.{cost_all, passed_meets, spent_passes, touches_a, touches_b}
+use Rattle.double_run.proofs.Names.{nat_tests, All-get_or, Edge, Pass, IsValidPiece, PieceValue, one_if, first_line, is_fitting_walk, walk_end_from, IsPassedBothWays, IsDouble, directed_passes, without_ends, IsTraversalInvariant, is_visited, is_exhausted, passed_cost, root_junction, ends_are_below, edge_there, same_number, some_same, All-from_get_or, BeginsWith, covers, walk_start, is_line_passed, same_test}
+use Rattle.double_run.proofs.MetLemmas.{passed_meets, spent_passes, touches_a, touches_b}
 
 -- no junction is visited where no line was passed
 none_met : (n : ℕ) (edges : List Edge) (j : ℕ) → is_visited (replicate n false) edges j ≡ false

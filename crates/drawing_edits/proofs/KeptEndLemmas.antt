@@ -1,6 +1,6 @@
 -- A drawing that is drawn again has the given starts and ends.
-use Rattle.std.proofs.Common.{◌≡◌, ℕ, ◌+◌, ◌==◌, Bool, List, [], ◌∷◌, Result, Ok, Err, IfOk, refl, ap, arith}
-use Rattle.drawing_edits.proofs.Names.{nat_tests, IfOk-at_ok, IfOk-weaker, Point, DrawKind, DrawingValue, and_then, block_added, empty_drawing, finished_drawing, joined_drawing, HasNoEnds, LineValue, EditFault, HasEndsOf, IsPlacedEnd, lines_listing, with_end_at, drawn_lines, line_added_if, redrawn, with_blocks, with_lines_of, with_starts_and_ends, after_both, edit_answer, PlacedEndsAreKept, RedrawnHasEnds, only_block, redrawn_lines, finished_none, joined_none}
+use Rattle.std.proofs.Common.{◌≡◌, ℕ, ◌+◌, ◌==◌, List, [], ◌∷◌, Result, Ok, Err, IfOk, refl, ap, arith}
+use Rattle.drawing_edits.proofs.Names.{nat_tests, IfOk-at_ok, IfOk-weaker, DrawKind, DrawingValue, and_then, block_added, empty_drawing, finished_drawing, joined_drawing, HasNoEnds, LineValue, EditFault, HasEndsOf, IsPlacedEnd, lines_listing, with_end_at, drawn_lines, line_added_if, redrawn, with_blocks, with_lines_of, with_starts_and_ends, after_both, edit_answer, PlacedEndsAreKept, RedrawnHasEnds, only_block, redrawn_lines, finished_none, joined_none}
 use Rattle.drawing_edits.proofs.CallerLemmas.{HasBoth, both_put}
 
 lines_keep : (block : ℕ) (d : DrawingValue) (lines : List LineValue) → HasNoEnds d → IfOk (with_lines_of block d lines) HasNoEnds

@@ -1,5 +1,5 @@
 -- The pieces in order are the pieces of a drawing.
-use Rattle.std.proofs.Common.{◌≡◌, ◌≢◌, ◌<◌, ◌≤◌, inl, ℕ, ◌==◌, true, List, [], ◌∷◌, length, map, filter, get_or, Some, unwrap_or, All, Contains, arith, refl, sym, ◌∙◌, ap, subst}
+use Rattle.std.proofs.Common.{◌≡◌, ◌≢◌, ◌<◌, ◌≤◌, inl, ℕ, true, List, [], ◌∷◌, length, map, filter, get_or, Some, unwrap_or, All, Contains, arith, refl, sym, ◌∙◌, ap, subst}
 use Rattle.std.proofs.lemmas.List.Kept.{IsStrictlyIncreasing-filter}
 use Rattle.drawing_edits.proofs.Names.{nat_tests, All-contains, All-filter, All-head, All-tail, filter_passes, slice_get-get_or, concat, range_with_len, Point, origin, DrawingValue, KeepsDrawingLimits, optional_line_points, first_line, Spot, LineValue, are_in_one_piece, is_first_of_piece, piece_of_line, pieces_in_order, All-map, IsStrictlyIncreasing, first_point, points_of, ArePieces, AreConnected, representative, spot_of_line, all_concat, concat_has, filter_has, map_has, number_found, range_rises, same_number}
 use Rattle.line_graph.specs.FirstLines.{IsLineEnd}

@@ -1,5 +1,5 @@
 -- Ranges of indexes of lines, and the indexes that pass a test.
-use Rattle.std.proofs.Common.{◌≡◌, ◌<◌, ℕ, zero, suc, ◌+◌, ◌-◌, List, [], ◌∷◌, ◌++◌, All, Contains, arith, ◌∙◌, ap}
+use Rattle.std.proofs.Common.{◌≡◌, ◌<◌, ℕ, zero, suc, ◌+◌, ◌-◌, List, ◌∷◌, ◌++◌, All, Contains, arith, ◌∙◌, ap}
 use Rattle.drawing_edits.proofs.Names.{get_or-range_with_len, length-range_with_len, range_with_len}
 
 -- A range from 0 has each number below its length.

@@ -1,5 +1,5 @@
 -- The starts and ends of a drawing are needle points, as they are ends of its lines.
-use Rattle.std.proofs.Common.{◌≡◌, ◌==◌, ◌||◌, Bool, true, false, ℤ, List, [], ◌∷◌, All, sym, subst, ◌∙◌, arith}
+use Rattle.std.proofs.Common.{◌≡◌, ◌==◌, ◌||◌, Bool, true, false, List, [], ◌∷◌, All, sym, subst, arith}
 use Rattle.drawing_edits.proofs.Names.{nat_tests, All-head, All-tail, list_any, Point, is_same_point, Spot, LineValue, IsLine, is_junction, IsNeedlePoint, and_parts, endpoints, has_end_at_spot, last_point_or}
 use Rattle.design_model.proofs.CallerLemmas.{same_is}
 use Rattle.step_splitter.proofs.CallerLemmas.{last_in_range}

@@ -1,6 +1,6 @@
 -- A valid joined drawing is drawn again as it is.
 use Rattle.std.proofs.Common.{◌≡◌, true, false, List, [], ◌∷◌, ◌++◌, Result, Ok, ap, sym, subst, ◌∙◌, append_assoc, append-nil, arith}
-use Rattle.drawing_edits.proofs.Names.{nat_tests, Spot, DrawKind, DrawingValue, KeepsDrawingLimits, and_then, joined_drawing, with_starts_and_ends, with_walk_ends, JoinedDrawingsStay, AreInDifferentPieces, ValidDrawingsAreRedrawn, spot_comes}
+use Rattle.drawing_edits.proofs.Names.{nat_tests, Spot, DrawKind, DrawingValue, and_then, joined_drawing, with_starts_and_ends, with_walk_ends, JoinedDrawingsStay, AreInDifferentPieces, ValidDrawingsAreRedrawn, spot_comes}
 use Rattle.drawing_edits.proofs.LineDrawnLemmas.{lines_drawn}
 
 starts_come : (spots : List Spot) (d : DrawingValue) → AreInDifferentPieces d.lines (d.starts ++ spots)

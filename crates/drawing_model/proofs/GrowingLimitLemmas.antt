@@ -1,5 +1,5 @@
 -- Growing drawings keep their limits. The finished ones are valid, and stay so when they are joined and get starts and ends.
-use Rattle.std.proofs.Common.{◌≡◌, ℕ, ◌<◌, ◌≤◌, ◌==◌, Bool, true, false, not, nat_lt, List, [], ◌∷◌, Ok, IfOk, length, All, refl, arith}
+use Rattle.std.proofs.Common.{◌≡◌, ℕ, ◌<◌, ◌==◌, Bool, true, false, not, List, [], ◌∷◌, Ok, IfOk, length, All, refl, arith}
 use Rattle.std.proofs.lemmas.List.Quantifiers.{all_pairs_push}
 use Rattle.drawing_model.proofs.Names.{or_parts, nat_tests, All-cons, All-nil, All-push, list_any, Point, IsNeedlePoint, Spot, LineValue, SectionsHaveSegments, SectionsKeepSegments, WholeLinesStay, DrawingValue, IsLine, KeepsDrawingLimits, IsMakerState, all_in_needle_range, is_last_empty, point_count, step_count, steps_with_line, with_new_block, with_new_line, IsGrowingDrawing, AreInDifferentPieces, IsValidDrawing, are_connected_spots, is_junction, spot_added, eqb-false, SectionsAreWhole, BlocksKeepGrowing, EmptyDrawingsGrow, FinishedDrawingsAreValid, IsValidJoinedDrawing, JoinedDrawingsAreValid, LabelsKeepGrowing, LinesKeepGrowing, StepsKeepGrowing, WalkEndsKeepValid}
 use Rattle.drawing_model.specs.declared.draw_kind.DrawKind.TheVariants as kind

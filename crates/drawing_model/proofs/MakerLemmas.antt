@@ -1,7 +1,7 @@
 -- Drawings that grow keep their limits.
 use Rattle.std.proofs.Common.{◌≡◌, ◌≢◌, ℕ, ◌+◌, ◌-◌, ◌<◌, ◌≤◌, ◌==◌, Bool, true, false, nat_le, nat_lt, List, [], ◌∷◌, ◌++◌, Result, Ok, Err, length, map, get_or, All, Contains, sym, subst, ◌∙◌, refl, arith, length-append, eq-eqb, if◌then◌else◌}
 use Rattle.std.proofs.lemmas.List.Sorted.{IsNonDecreasingBy-push}
-use Rattle.drawing_model.proofs.Names.{or_parts, nat_tests, map-append, All-head, All-map, All-nil, All-push, All-weaker, Contains-append_left, Contains-append_right, list_any_none, sum_by-append, is_ascii_graphic, list_all, list_any, IsNonDecreasing, Point, is_same_point, IsNeedlePoint, HasNoRepeatAfter, LineValue, DrawKind, DrawingValue, HasNoRepeat, IsLine, KeepsDrawingLimits, all_in_needle_range, has_repeated_point, is_last_empty, is_used, point_count, repeats_after, step_count, steps_with_line, with_new_block, with_new_line, IsMakerState, steps_of_line, HasNoEnds, IsValidDrawing, HasValidEnds, is_junction, and_parts, or_right, All-get_or, list_any-append, AllPass-from_list_all, get_or_from_slice_get, slice_get_within, is_point_within, is_drawing_label, AreBlocks}
+use Rattle.drawing_model.proofs.Names.{or_parts, nat_tests, map-append, All-head, All-map, All-nil, All-push, All-weaker, Contains-append_left, Contains-append_right, list_any_none, sum_by-append, is_ascii_graphic, list_all, list_any, IsNonDecreasing, Point, is_same_point, IsNeedlePoint, HasNoRepeatAfter, LineValue, DrawKind, DrawingValue, HasNoRepeat, IsLine, KeepsDrawingLimits, all_in_needle_range, has_repeated_point, is_last_empty, is_used, point_count, repeats_after, step_count, steps_with_line, with_new_block, with_new_line, IsMakerState, steps_of_line, IsValidDrawing, and_parts, or_right, All-get_or, list_any-append, AllPass-from_list_all, get_or_from_slice_get, slice_get_within, is_point_within, is_drawing_label, AreBlocks}
 use Rattle.design_model.specs.Labels.{IsLabel, IsPrintable}
 use Rattle.drawing_model.specs.declared.draw_kind.DrawKind.TheVariants as kind
 use Rattle.drawing_model.proofs.CallerLemmas.{last_by, same_found}

@@ -1,5 +1,5 @@
 -- Needle points that come along a line, segment by segment.
-use Rattle.std.proofs.Common.{◌≡◌, ◌≢◌, ℕ, ◌+◌, ◌<◌, ◌≤◌, List, [], ◌∷◌, ◌++◌, Option, Some, None, length, get_or, take, All, ap, sym, subst, ◌∙◌, refl, arith}
+use Rattle.std.proofs.Common.{◌≡◌, ◌≢◌, ℕ, ◌+◌, ◌<◌, ◌≤◌, List, [], ◌∷◌, ◌++◌, Option, Some, length, get_or, take, All, ap, sym, subst, ◌∙◌, refl, arith}
 use Rattle.drawing_model.proofs.Names.{nat_tests, All-append, All-cons, All-head, All-nil, All-tail, Point, IsNeedlePoint, AreCloseAfter, HasNoRepeatAfter, last_point_or, split_points, slice_get-get_or, LineValue, DrawingValue, HasNoRepeat, IsLine, KeepsDrawingLimits, last_point, optional_line_points, points_of, LeadAlong, cost_of_line, needles_of_line, step_count, steps_of_line, needle_points, segment_points, append_assoc, append-nil, get_or-le-sum_by, sum_by-take-le, sum_by_more, LeadsBySteps, SplitPointsLead, first_point, AreClose, AreNeedlesOf}
 use Rattle.drawing_model.proofs.CallerLemmas.{close_on, cost_is, line_there, no_line, points_are}
 

@@ -1,5 +1,5 @@
 -- The bands on a line show its load, and what is drawn of a cut.
-use Rattle.std.proofs.Common.{◌≡◌, ◌≤◌, ℕ, ◌+◌, ◌-◌, ◌*◌, Bool, true, false, if◌then◌else◌, List, [], ◌∷◌, ◌++◌, drop, length, map, reverse, sum_by, take, arith, refl, sym, ap, ◌∙◌}
+use Rattle.std.proofs.Common.{◌≡◌, ◌≤◌, ℕ, ◌+◌, ◌-◌, ◌*◌, Bool, true, false, if◌then◌else◌, List, [], ◌∷◌, ◌++◌, drop, length, map, reverse, sum_by, arith, refl, sym, ap, ◌∙◌}
 use Rattle.drawing_picture.proofs.Names.{sum_by-cons, filter, flat_map, Point, band_length, Band, bands_from, half_steps_from, band_text, bands_of_lines, bands_of_pieces, Piece, DrawingValue, graph_of, PieceCert, Cut, nat_tests, append_assoc, length-drop, length-reverse, length-take-le, BandsShowLoads, band_along, half_steps_of_line, middle_between, line_bands, crosses, has_member, load_on}
 use Rattle.drawing_picture.specs.Bands.{half_steps}
 use Rattle.line_graph.specs.declared.edge.Edge.{Edge}

@@ -1,10 +1,9 @@
 -- The marks of junctions by their degrees are those of the piece, and show its junctions.
-use Rattle.std.proofs.Common.{◌≡◌, ℕ, ◌+◌, ◌≤◌, Bool, true, false, List, [], ◌∷◌, ◌++◌, length, map, ap, ◌∙◌, refl, arith}
+use Rattle.std.proofs.Common.{◌≡◌, ℕ, ◌+◌, Bool, true, false, List, [], ◌∷◌, ◌++◌, length, map, ap, ◌∙◌, refl, arith}
 use Rattle.std.specs.Prelude.{cond}
 use Rattle.drawing_picture.proofs.Names.{filter, flat_map, Point, JunctionMark, marks_of_piece, odd_marks, tested_marks, PieceValue, IsValidPiece, range_with_len, marks_from, degrees_from, given_end, given_start, is_odd_junction, one_if, degree_closed}
 use Rattle.picture_parts.specs.Paths.{move_text, straight_text}
 use Rattle.drawing_picture.specs.DrawnLaws.{DrawnSegment, MarksShowJunctions, PathsShowSegments, segments_through}
-use Rattle.drawing_model.specs.declared.limits.TheConstants.{MAX_LINES}
 
 tested : (p : PieceValue) (j : ℕ) (points : List Point)
     → tested_marks (given_start p) (given_end p) j points (degrees_from p.edges j (length points)) ≡ marks_from p j points

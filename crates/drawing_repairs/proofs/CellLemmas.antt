@@ -1,7 +1,7 @@
 -- The points of a cell have all those that are within the gap of a point in it: the nearest of all is the nearest of these.
-use Rattle.std.proofs.Common.{◌≡◌, ℕ, ℤ, ◌+◌, ◌-◌, ◌*◌, ◌/◌, ◌-ℤ◌, ◌<◌, ◌≤◌, ◌==◌, unsigned_abs, Bool, ◌&&◌, ◌||◌, true, List, [], ◌∷◌, ◌++◌, Option, None, filter, if◌then◌else◌, refl, ap, ◌∙◌, arith}
+use Rattle.std.proofs.Common.{◌≡◌, ℕ, ℤ, ◌+◌, ◌-◌, ◌*◌, ◌/◌, ◌-ℤ◌, ◌<◌, ◌≤◌, ◌==◌, unsigned_abs, Bool, ◌||◌, true, List, [], ◌∷◌, ◌++◌, Option, None, filter, if◌then◌else◌, refl, ap, ◌∙◌, arith}
 use Rattle.std.proofs.lemmas.Nat.{div-add-mod', div_below, le-div, mod_below}
-use Rattle.drawing_repairs.proofs.Names.{nat_tests, leb-true, and_from, ints, list_any, Point, grid_point, distance_between, is_within_gap, nearer_anchor, nearest_after, nearest_anchor, with_anchor, AreInCells, cell_of, cell_side, points_in_cell, reaches_cell, grid_coordinate, CellPoints, first_reached, is_reached_at, last_reached}
+use Rattle.drawing_repairs.proofs.Names.{nat_tests, leb-true, and_from, list_any, Point, grid_point, distance_between, is_within_gap, nearest_after, nearest_anchor, with_anchor, AreInCells, cell_of, cell_side, points_in_cell, reaches_cell, grid_coordinate, CellPoints, first_reached, is_reached_at, last_reached}
 use Rattle.drawing_repairs.proofs.MoveLemmas.{IsNearChoice}
 
 -- coordinates that count from the least are no farther apart

@@ -1,5 +1,5 @@
 -- No end of a group is due in a segment beyond its bounds, and the first group with a due end has the first one of all.
-use Rattle.std.proofs.Common.{◌≡◌, ℕ, ◌+◌, ◌-◌, Bool, true, false, ◌&&◌, ◌||◌, List, [], ◌∷◌, ◌++◌, Option, Some, None, is_some, if◌then◌else◌, refl, ap, sym, ◌∙◌, arith}
+use Rattle.std.proofs.Common.{◌≡◌, ℕ, ◌+◌, Bool, true, false, List, [], ◌∷◌, ◌++◌, Option, Some, None, is_some, if◌then◌else◌, refl, ap, sym, ◌∙◌, arith}
 use Rattle.drawing_repairs.proofs.Names.{nat_tests, flat_map, Point, LineSegment, grid_point, EndBounds, AreAround, AreBetween, is_beyond_gap, widened_bounds, due_end, is_due}
 
 not_due : (gap : ℕ) (b : EndBounds) (listed : List Point) (s : LineSegment) (e : Point)

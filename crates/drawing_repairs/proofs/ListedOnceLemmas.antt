@@ -1,5 +1,5 @@
 -- A line that was followed stays as it is when it is followed again.
-use Rattle.std.proofs.Common.{◌≡◌, ℕ, zero, suc, Bool, false, ◌&&◌, ◌||◌, List, [], ◌∷◌, ◌++◌, Option, Some, None, if◌then◌else◌, refl, ap, sym, subst, ◌∙◌, arith}
+use Rattle.std.proofs.Common.{◌≡◌, ℕ, zero, suc, Bool, false, ◌||◌, List, [], ◌∷◌, ◌++◌, Option, Some, None, refl, ap, sym, subst, ◌∙◌, arith}
 use Rattle.drawing_repairs.proofs.Names.{nat_tests, list_any-append, list_any, Point, LineSegment, FollowedLine, due_end, due_ends, followed_by, followed_for, followed_line, followed_on, followed_points, segment_between, steps_to_follow, unfollowed_line, with_due_ends, IsSettledTo}
 use Rattle.drawing_repairs.proofs.FollowLemmas.{after_steps, followed_to_end}
 use Rattle.drawing_repairs.proofs.SettledLemmas.{none_due}

@@ -1,5 +1,5 @@
 -- What holds of the points of a line and of all ends holds of the points of the line with the ends that are due in it.
-use Rattle.std.proofs.Common.{◌≡◌, ℕ, Bool, true, false, ◌&&◌, List, [], ◌∷◌, Option, Some, None, if◌then◌else◌, refl, ap, sym, subst, ◌∙◌}
+use Rattle.std.proofs.Common.{◌≡◌, ℕ, Bool, true, false, List, [], ◌∷◌, Option, Some, None, if◌then◌else◌, refl, ap, sym, subst, ◌∙◌}
 use Rattle.drawing_repairs.proofs.Names.{list_all-append, list_all, Point, LineSegment, FollowedLine, due_end, followed_by, followed_for, followed_points, is_due, segment_between, steps_to_follow, unfollowed_line, with_due_ends, first_true, second_true, and_from}
 use Rattle.drawing_repairs.proofs.FollowLemmas.{after_steps}
 

@@ -1,5 +1,5 @@
 -- A point moves no farther than the gap, and anchors are farther apart.
-use Rattle.std.proofs.Common.{◌≡◌, ℕ, ℤ, ◌-ℤ◌, ◌<◌, ◌≤◌, unsigned_abs, zero, suc, length, get_or, Bool, ◌||◌, true, false, nat_le, nat_lt, List, [], ◌∷◌, ◌++◌, Option, Some, None, if◌then◌else◌, refl, ap, sym, subst, ◌∙◌, arith}
+use Rattle.std.proofs.Common.{◌≡◌, ℕ, ℤ, ◌-ℤ◌, ◌<◌, ◌≤◌, unsigned_abs, zero, suc, length, get_or, Bool, true, false, nat_le, nat_lt, List, [], ◌∷◌, ◌++◌, Option, Some, None, if◌then◌else◌, refl, ap, sym, subst, ◌∙◌, arith}
 use Rattle.std.proofs.lemmas.List.Quantifiers.{all_pairs_push}
 use Rattle.std.specs.List.{All}
 use Rattle.drawing_repairs.proofs.Names.{nat_tests, leb-true, or_parts, ints, list_any, Point, anchored, anchors_after, anchors_of, distance_between, is_within_gap, nearer_anchor, nearest_after, nearest_anchor, point_or, with_anchor, leb-false, ltb-true, AllPairs}

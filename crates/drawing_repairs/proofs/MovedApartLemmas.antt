@@ -1,5 +1,5 @@
 -- Points of a block that moved are the same or farther apart than the gap.
-use Rattle.std.proofs.Common.{◌≡◌, ℕ, ℤ, ◌-ℤ◌, unsigned_abs, ◌<◌, ◌≤◌, zero, suc, length, get_or, Bool, ◌||◌, true, false, nat_le, nat_lt, List, [], ◌∷◌, ◌++◌, Option, Some, None, if◌then◌else◌, refl, ap, sym, subst, ◌∙◌, arith}
+use Rattle.std.proofs.Common.{◌≡◌, ℕ, ℤ, ◌-ℤ◌, unsigned_abs, ◌<◌, ◌≤◌, zero, suc, length, get_or, Bool, ◌||◌, true, false, nat_lt, List, [], ◌∷◌, ◌++◌, Option, Some, None, if◌then◌else◌, refl, ap, sym, subst, ◌∙◌, arith}
 use Rattle.std.specs.List.{All}
 use Rattle.drawing_repairs.proofs.Names.{nat_tests, or_left, or_right, ints, list_any-append, list_any, Point, anchored, anchors_after, anchors_of, distance_between, is_within_gap, nearest_after, nearest_anchor, point_or, with_anchor}
 use Rattle.drawing_repairs.proofs.MoveLemmas.{HoldsOfChoice, far_apart, nearest_holds}

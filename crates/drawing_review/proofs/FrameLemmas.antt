@@ -1,5 +1,5 @@
 -- Frames that lie inside others.
-use Rattle.std.proofs.Common.{◌≡◌, ◌≤◌, ℕ, true, ◌||◌, nat_lt, arith}
+use Rattle.std.proofs.Common.{◌≡◌, true, nat_lt, arith}
 use Rattle.drawing_review.proofs.Names.{lt-ltb, ltb-true, Frame, IsInside, are_apart, united_frame}
 use Rattle.lists_and_numbers.proofs.CallerLemmas.{either_way}
 

@@ -1,6 +1,5 @@
 -- Segments outside of the frame of a question don't match it.
-use Rattle.std.proofs.Common.{◌≡◌, ◌++◌, ℕ, Bool, true, false, ◌||◌, List, [], ◌∷◌, refl, sym, subst, ◌∙◌, ap}
-use Rattle.std.proofs.lemmas.List.Folds.{list_any-append}
+use Rattle.std.proofs.Common.{◌≡◌, true, false, List, [], ◌∷◌, refl, sym, subst, ◌∙◌, ap}
 use Rattle.drawing_review.proofs.Names.{and_left, not_from_true, or_from, list_any, Frame, LineSegment, IsInside, are_apart, united_frame, AreInside, is_match, query_frame}
 use Rattle.drawing_review.specs.declared.query.Query.{Query}
 use Rattle.drawing_review.specs.declared.query.Query.TheVariants as query

@@ -4,7 +4,6 @@ use Rattle.drawing_review.proofs.Names.{Point, LineValue, Frame, Place, LineSegm
 use Rattle.line_sections.specs.Sections.{lines_through}
 use Rattle.drawing_review.specs.declared.place.PlaceKind.{PlaceKind}
 use Rattle.drawing_review.specs.declared.place.PlaceKind.TheVariants as place
-use Rattle.drawing_review.specs.declared.segment.Position.{Position}
 use Rattle.drawing_review.specs.Meetings.{cross_inside, is_near, repeats_segment}
 
 abbrev at : ℕ → ℕ → Point

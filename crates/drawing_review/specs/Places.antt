@@ -3,7 +3,7 @@
 -- unlisted meeting where it lies on a segment of another line and at none of its ends. A segment is
 -- a place where it crosses or repeats an earlier one of its block, and where it is shorter than
 -- half a step on both axes. Lengths are whole tenths of a millimetre.
-use Rattle.std.specs.Prelude.{ℕ, ◌*◌, Bool, ◌&&◌, max, nat_lt, List, [], ◌∷◌, ◌++◌, if◌then◌else◌}
+use Rattle.std.specs.Prelude.{ℕ, ◌*◌, Bool, max, nat_lt, List, [], ◌∷◌, ◌++◌, if◌then◌else◌}
 use Rattle.std.specs.Int.{abs_diff}
 use Rattle.std.specs.List.{flat_map, list_any}
 use Rattle.design_model.specs.declared.point.Point.{Point}

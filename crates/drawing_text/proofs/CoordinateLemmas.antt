@@ -2,7 +2,6 @@
 use Rattle.std.proofs.Common.{◌≡◌, ◌≢◌, ℕ, ℤ, zero, suc, ◌+◌, ◌*◌, ◌<◌, ◌≤◌, ◌==◌, Bool, true, false, List, [], ◌∷◌, Result, Ok, length, take, drop, get_or, sym, ◌∙◌, refl, arith, nat_le, unsigned_abs}
 use Rattle.std.proofs.lemmas.Int.Digits.{digits_value_more}
 use Rattle.drawing_text.proofs.Names.{and_parts, nat_tests, is_ascii_digit, position_or_len, all_ascii_digits, digits_value, NEEDLE_LIMIT, DrawKind, BeginsWithCoordinate, is_blank_byte, words_of_line, digit_value, is_digit_string, parsed_digits, signed_number, BeginsWithDigits, ends_word, parsed_coordinate}
-use Rattle.lists_and_numbers.specs.declared.whole_number.TheConstants.{MAX_WHOLE}
 use Rattle.drawing_text.proofs.WordLemmas.{word_until}
 
 -- one digit more is a digit

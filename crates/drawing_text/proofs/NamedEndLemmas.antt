@@ -1,6 +1,6 @@
 -- The starts and ends that a canonical text names: those of the drawing, in order, and the drawing with them.
-use Rattle.std.proofs.Common.{◌≡◌, ℕ, suc, ◌+◌, ◌<◌, ◌==◌, Bool, true, false, not, List, [], ◌∷◌, ◌++◌, Result, Ok, length, map, All, ap, sym, subst, ◌∙◌, refl, append_assoc, append-nil, arith}
-use Rattle.drawing_text.proofs.Names.{ap₂, and_parts, nat_tests, All-cons, All-head, All-nil, All-tail, list_any, Point, Spot, LineValue, DrawKind, DrawingValue, IsLine, and_then, AreInDifferentPieces, is_junction, walk_end_added, IsNeedlePoint, DrawFault, WalkEnd, at_line, drawing_with_ends, AreInBlockOrder, Any-from_list_any, AllPairs, is_same_point, endpoints, has_end_at_spot, last_point_or, same_is, spot_comes}
+use Rattle.std.proofs.Common.{◌≡◌, ℕ, ◌+◌, ◌<◌, ◌==◌, Bool, true, false, not, List, [], ◌∷◌, ◌++◌, Result, Ok, length, map, All, ap, sym, subst, ◌∙◌, refl, append_assoc, append-nil, arith}
+use Rattle.drawing_text.proofs.Names.{ap₂, and_parts, nat_tests, All-cons, All-head, All-nil, All-tail, list_any, Point, Spot, LineValue, DrawKind, DrawingValue, IsLine, and_then, AreInDifferentPieces, is_junction, IsNeedlePoint, WalkEnd, drawing_with_ends, AreInBlockOrder, Any-from_list_any, is_same_point, endpoints, has_end_at_spot, last_point_or, same_is, spot_comes}
 use Rattle.drawing_text.proofs.PrintedBlocks.{Rises, all_below, items_below, items_in, more_below, none_first, rises_of}
 use Rattle.drawing_text.proofs.PrintedDrawings.{ended, found_from, found_in}
 use Rattle.drawing_text.proofs.PrintedEnds.{end_at, unnumbered}

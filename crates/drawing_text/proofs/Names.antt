@@ -10,7 +10,7 @@ pub use Rattle.std.proofs.lemmas.List.Folds.{Any-from_list_any, list_all-append,
 pub use Rattle.std.proofs.lemmas.List.Sums.{AllPass-from_list_all, list_all-from_AllPass, sum_by-append, sum_by-cons}
 pub use Rattle.std.specs.Char.{digit_value, is_ascii_digit, is_ascii_graphic}
 pub use Rattle.std.specs.Fmt.{decimal, signed_decimal}
-pub use Rattle.std.specs.List.{AllPairs, flat_map, list_all, list_any, position_or_len, slice_split}
+pub use Rattle.std.specs.List.{flat_map, list_all, list_any, position_or_len, slice_split}
 pub use Rattle.std.specs.List.Sorted.{IsNonDecreasing}
 pub use Rattle.std.specs.Str.{all_ascii_digits}
 pub use Rattle.std.specs.Str.Parse.{digits_value}
@@ -51,7 +51,7 @@ pub use Rattle.drawing_text.specs.declared.draw_fault.DrawFault.{DrawFault}
 pub use Rattle.drawing_text.specs.declared.version.Version.{Version}
 pub use Rattle.drawing_text.specs.declared.walk_end.WalkEnd.{WalkEnd}
 pub use Rattle.line_sections.specs.Lines.{LineValue}
-pub use Rattle.line_sections.specs.Sections.{all_sections, lines_through}
+pub use Rattle.line_sections.specs.Sections.{lines_through}
 pub use Rattle.line_sections.specs.declared.spot.Spot.{Spot}
 pub use Rattle.lists_and_numbers.proofs.CallerLemmas.{decimal_model, decimal_read, signed_read, some_of}
 pub use Rattle.lists_and_numbers.specs.WholeNumbers.{is_digit_string, parsed_digits, parsed_whole, signed_number}

@@ -1,5 +1,5 @@
 -- The text lines of starts and ends: each is read as one more start or end of the draft.
-use Rattle.std.proofs.Common.{◌≡◌, ℕ, ◌+◌, ◌-◌, ◌≤◌, ◌==◌, Bool, true, false, nat_le, unsigned_abs, List, [], ◌∷◌, ◌++◌, Result, Ok, length, map, codes, All, ap, sym, ◌∙◌, refl, append_assoc, append-nil, arith}
+use Rattle.std.proofs.Common.{◌≡◌, ℕ, ◌+◌, ◌-◌, ◌≤◌, Bool, true, false, List, [], ◌∷◌, ◌++◌, Result, Ok, length, map, codes, All, ap, sym, ◌∙◌, refl, append_assoc, append-nil, arith}
 use Rattle.drawing_text.proofs.Names.{nat_tests, map-append, flat_map-cons, All-cons, All-head, All-nil, All-tail, flat_map, Spot, DrawingValue, IsNeedlePoint, DrawingDraft, DrawFault, Version, WalkEnd, points_text, allows_ends, draft_after_words, words_by_line, within_parts, signed_read, end_line_text}
 use Rattle.drawing_text.proofs.PrintedLines.{after_text, coordinates, coordinates_are, draft_of, line_judged, points_spelled}
 use Rattle.drawing_text.proofs.PrintedWords.{IsWord, tail_of}

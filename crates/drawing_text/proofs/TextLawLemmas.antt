@@ -1,6 +1,6 @@
 -- Canonical texts are read as the drawings whose texts they are.
-use Rattle.std.proofs.Common.{◌≡◌, ℕ, ◌+◌, ◌<◌, ◌==◌, ◌&&◌, Bool, true, false, nat_lt, List, [], ◌∷◌, ◌++◌, Result, Ok, Err, length, map, codes, All, ap, sym, subst, ◌∙◌, refl, append-nil, arith, if◌then◌else◌}
-use Rattle.drawing_text.proofs.Names.{ap₂, and_parts, nat_tests, All-nil, All-weaker, Spot, DrawKind, DrawingValue, KeepsDrawingLimits, and_then, finished_drawing, point_count, joined_drawing, AreInDifferentPieces, HasNoEnds, is_junction, DrawingDraft, DrawFault, Version, WalkEnd, blocks_text, canonical_text2, header_text, label_text, number_line_text, Body, at_line, body_from, drawing_after_lines, drawing_in_version, drawing_of, drawing_of_draft, drawing_with_ends, drawing_as_drawn, lines_after, blocks_text3, canonical_text3, with_ends_of, IsJoinedFrom, draft_after_words, empty_draft, words_by_line, all_sections, block_text, canonical_text_in, lines_of, lines_of_draft, CanonicalText2IsRead, CanonicalText2KeepsLines, CanonicalText3IsRead, CanonicalText3KeepsLines, CanonicalTextIsRead, DrawnTextIsRead, DrawnTextKeepsLines}
+use Rattle.std.proofs.Common.{◌≡◌, ℕ, ◌+◌, ◌<◌, ◌==◌, ◌&&◌, Bool, true, false, List, [], ◌∷◌, ◌++◌, Result, Ok, Err, length, map, codes, All, ap, sym, subst, ◌∙◌, refl, append-nil, arith, if◌then◌else◌}
+use Rattle.drawing_text.proofs.Names.{ap₂, and_parts, nat_tests, All-nil, All-weaker, Spot, DrawKind, DrawingValue, KeepsDrawingLimits, and_then, finished_drawing, joined_drawing, AreInDifferentPieces, HasNoEnds, is_junction, DrawingDraft, DrawFault, Version, WalkEnd, blocks_text, canonical_text2, header_text, label_text, number_line_text, Body, at_line, body_from, drawing_after_lines, drawing_in_version, drawing_of, drawing_of_draft, drawing_with_ends, drawing_as_drawn, lines_after, blocks_text3, canonical_text3, with_ends_of, IsJoinedFrom, draft_after_words, empty_draft, words_by_line, block_text, canonical_text_in, lines_of, lines_of_draft, CanonicalText2IsRead, CanonicalText2KeepsLines, CanonicalText3IsRead, CanonicalText3KeepsLines, CanonicalTextIsRead, DrawnTextIsRead, DrawnTextKeepsLines}
 use Rattle.drawing_text.proofs.NamedEndLemmas.{IsSpotBelow, all_named, junction_below, named_added, named_in, named_numbers}
 use Rattle.drawing_text.proofs.PrintedDrawings.{Means, body_read, ended, finished_whole, found_from}
 use Rattle.drawing_text.proofs.PrintedEnds.{IsNamable, unnumbered}

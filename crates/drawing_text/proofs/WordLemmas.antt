@@ -1,6 +1,6 @@
 -- The first line of a text, and the first word of a line.
-use Rattle.std.proofs.Common.{◌≡◌, ◌≢◌, ℕ, suc, ◌+◌, ◌<◌, ◌≤◌, Bool, true, false, List, [], ◌∷◌, length, take, drop, filter, ap, sym, ◌∙◌, refl, arith, one-add, length-drop, eq-eqb, subst, get_or, ◌-◌, ◌==◌}
-use Rattle.drawing_text.proofs.Names.{nat_tests, nil_from_length, position_or_len, is_blank_byte, is_filled, is_line_feed, is_word_byte, text_lines, line_without_return, words_of_line, slice_split}
+use Rattle.std.proofs.Common.{◌≡◌, ◌≢◌, ℕ, suc, ◌+◌, ◌<◌, ◌≤◌, Bool, true, false, List, [], ◌∷◌, length, take, drop, filter, ap, refl, arith, one-add, length-drop, eq-eqb, subst, get_or, ◌-◌, ◌==◌}
+use Rattle.drawing_text.proofs.Names.{nat_tests, position_or_len, is_blank_byte, is_filled, is_line_feed, is_word_byte, text_lines, line_without_return, words_of_line, slice_split}
 
 -- one place more takes and drops one byte more
 take_next : (n b : ℕ) (rest : List ℕ) → take (1 + n) (b ∷ rest) ≡ b ∷ take n rest

@@ -1,7 +1,7 @@
 -- How far needles reach from the origin is how far their extent does.
-use Rattle.std.proofs.Common.{◌≡◌, ◌≤◌, max, ℤ, List, [], ◌∷◌, map, refl, ◌∙◌, arith, if◌then◌else◌}
+use Rattle.std.proofs.Common.{◌≡◌, max, ℤ, List, [], ◌∷◌, map, refl, arith}
 use Rattle.std.proofs.Math.Nat.{zero-max}
-use Rattle.std.specs.Prelude.{◌≤ℤ◌, fold}
+use Rattle.std.specs.Prelude.{fold}
 use Rattle.dst_codec.proofs.Names.{nat_tests, ints, Act, NumberedAct, Point, Extents, size_above_zero, size_below_zero, extents_of, max_measure, needle_measure, extents_from_origin, cons_option, int_max, int_min}
 use Rattle.design_model.specs.declared.act.Act.TheVariants as act
 use Rattle.design_model.specs.ActKinds.{act_point}

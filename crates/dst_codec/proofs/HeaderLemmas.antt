@@ -1,7 +1,7 @@
 -- The fields of a header take 124 bytes and the header 512, where its numbers fit their places.
 use Rattle.std.proofs.Common.{◌≡◌, ℕ, ◌+◌, ◌-◌, ◌^◌, ◌<◌, ◌≤◌, ℤ, pos, neg_ℤ, suc, unsigned_abs, IsTrue, List, [], ◌∷◌, ◌++◌, length, decimal, codes, refl, ap, arith, length-append, lit<}
 use Rattle.std.proofs.lemmas.Fmt.{length-decimal-le}
-use Rattle.dst_codec.proofs.Names.{nat_tests, ints, Act, NumberedAct, MAX_LABEL, Point, is_point_within, origin, label_field, needle_position_along, HeaderNumbers, HEADER_LENGTH, FitsFields, size_above_zero, size_below_zero, max_measure, needle_measure, field, dst_header_of, within_parts, and_parts, length-replicate, padded_left, is_act_in_range, needle_position_after, stops_of, number_field, signed_field, sign_code, fields_of, numbers_of, are_in_range, length-padded_right}
+use Rattle.dst_codec.proofs.Names.{nat_tests, Act, NumberedAct, MAX_LABEL, Point, is_point_within, origin, label_field, needle_position_along, HeaderNumbers, HEADER_LENGTH, FitsFields, size_above_zero, size_below_zero, max_measure, needle_measure, field, dst_header_of, within_parts, and_parts, length-replicate, padded_left, is_act_in_range, needle_position_after, stops_of, number_field, signed_field, fields_of, numbers_of, are_in_range, length-padded_right}
 use Rattle.design_model.specs.declared.act.Act.TheVariants as act
 use Rattle.design_model.specs.declared.point.TheConstants.{NEEDLE_LIMIT}
 use Rattle.lists_and_numbers.proofs.CallerLemmas.{size-neg}

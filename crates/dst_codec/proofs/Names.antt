@@ -19,7 +19,7 @@ pub use Rattle.design_model.specs.declared.point.Point.{Point}
 pub use Rattle.dst_codec.specs.Bits.{bit_of_byte, downwards, dst_move_in, dst_move_of, kind_of, leftwards, rightwards, sum_along, upwards}
 pub use Rattle.dst_codec.specs.Format.{dst_meaning}
 pub use Rattle.dst_codec.specs.Header.{FitsFields, dst_header_of, extents_of, field, fields_of, header_fields, max_measure, needle_measure}
-pub use Rattle.dst_codec.specs.Header.{number_field, numbers_of, sign_code, signed_field, size_above_zero, size_below_zero}
+pub use Rattle.dst_codec.specs.Header.{number_field, numbers_of, signed_field, size_above_zero, size_below_zero}
 pub use Rattle.dst_codec.specs.Laws.{LabelRoundTrips, ReadMovesAreWritable}
 pub use Rattle.dst_codec.specs.MoveEncoding.{biased_number, dst_end_record, dst_jump_record, dst_stitch_record, dst_stop_record}
 pub use Rattle.dst_codec.specs.MoveEncoding.{dst_trim_records, minus_bit, plus_bit, x_signs, y_signs}
@@ -42,7 +42,7 @@ pub use Rattle.format_traits.specs.declared.encoder_state.EncoderState.{EncoderS
 pub use Rattle.format_traits.specs.declared.fault.ReadFault.{ReadFault}
 pub use Rattle.format_traits.specs.declared.fault.WriteFault.{WriteFault}
 pub use Rattle.format_traits.specs.declared.loaded.Loaded.{Loaded}
-pub use Rattle.record_formats.specs.MoveParts.{part_end, part_moves, part_moves_from, position_after_move}
+pub use Rattle.record_formats.specs.MoveParts.{part_moves, part_moves_from, position_after_move}
 pub use Rattle.record_formats.specs.Readings.{FileCommands, checked_command, checked_commands, loaded_with}
 pub use Rattle.record_formats.specs.Records.{Records, file_commands, file_commands_from, moves_of_records, next, over}
 pub use Rattle.record_formats.specs.RoundTrip.{DecodesEncoding, EncodedActsRoundTrip, EncodedEvents}

@@ -1,5 +1,5 @@
 -- A file after its header, and what was loaded of it.
-use Rattle.std.proofs.Common.{◌≡◌, ℕ, ◌≤◌, List, [], ◌++◌, length, drop, refl, ap, ◌∙◌, subst, arith, length-append}
+use Rattle.std.proofs.Common.{◌≡◌, ℕ, ◌≤◌, List, [], ◌++◌, length, drop, refl, ap, subst, arith, length-append}
 use Rattle.std.proofs.Math.Seq.{drop-append_seam}
 use Rattle.dst_codec.proofs.Names.{nat_tests, le-ltb, loaded_with, file_commands, HEADER_LENGTH, dst_reads, dst_records_from, dst_records_in, dst_label_of}
 

@@ -1,7 +1,7 @@
 -- A record has three bytes, and an act at most as many records as its room.
-use Rattle.std.proofs.Common.{◌≡◌, ℕ, zero, suc, ◌+◌, ◌-◌, ◌*◌, ◌≤◌, max, Bool, true, false, List, [], ◌∷◌, ◌++◌, length, map, ◌==◌, refl, ap, ◌∙◌, arith, length-append, if◌then◌else◌, nat_le}
+use Rattle.std.proofs.Common.{◌≡◌, ℕ, zero, suc, ◌+◌, ◌-◌, ◌*◌, ◌≤◌, max, Bool, true, false, List, [], ◌∷◌, length, map, ◌==◌, refl, ap, ◌∙◌, arith, length-append, if◌then◌else◌, nat_le}
 use Rattle.std.proofs.lemmas.List.Folds.{concat-append}
-use Rattle.dst_codec.proofs.Names.{nat_tests, concat, Act, NumberedAct, Point, origin, move_between, EncoderState, encoder_state_after, LIMIT, dst_jump_record, dst_stitch_record, dst_write_limits, dst_encoding, length-map, part_end, part_moves, part_moves_from, loose_room}
+use Rattle.dst_codec.proofs.Names.{nat_tests, concat, Act, NumberedAct, Point, origin, move_between, EncoderState, encoder_state_after, LIMIT, dst_jump_record, dst_stitch_record, dst_write_limits, dst_encoding, length-map, part_moves, part_moves_from, loose_room}
 use Rattle.design_model.specs.declared.act.Act.TheVariants as act
 use Rattle.format_traits.specs.MoveHops.{hops_of}
 use Rattle.format_traits.specs.Rooms.{room_of_act, room_of_needle, room_from}

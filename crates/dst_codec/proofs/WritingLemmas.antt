@@ -1,7 +1,7 @@
 -- What stands after the room of a header, and the numbers that the header has of it.
-use Rattle.std.proofs.Common.{◌≡◌, ℕ, ◌+◌, ◌-◌, ◌*◌, ◌/◌, ◌^◌, ◌<◌, List, [], ◌∷◌, length, None, refl, ◌∙◌, arith, length-append, lit<}
+use Rattle.std.proofs.Common.{◌≡◌, ℕ, ◌+◌, ◌-◌, ◌/◌, ◌^◌, ◌<◌, List, [], ◌∷◌, length, None, refl, arith, length-append}
 use Rattle.std.proofs.lemmas.Nat.{div-mul-add}
-use Rattle.dst_codec.proofs.Names.{nat_tests, NumberedAct, needle_position_along, acts_of, DesignValue, KeepsLimits, EncoderState, AcceptedIsWithinLimits, initial_encoder_state, first_refusal, encoder_state_after, stops_along, MAX_STOPS, Extents, HEADER_LENGTH, FitsFields, extents_of, dst_body_of, header_numbers_of, dst_write_limits, dst_records_of, IsWritten}
+use Rattle.dst_codec.proofs.Names.{nat_tests, NumberedAct, needle_position_along, acts_of, DesignValue, KeepsLimits, EncoderState, AcceptedIsWithinLimits, initial_encoder_state, first_refusal, encoder_state_after, MAX_STOPS, HEADER_LENGTH, FitsFields, header_numbers_of, dst_write_limits, dst_records_of, IsWritten}
 use Rattle.format_traits.specs.ActWriting.{encoder_state_after_acts}
 use Rattle.dst_codec.proofs.HeaderLemmas.{numbers_fit}
 use Rattle.dst_codec.proofs.RecordCountLemmas.{records_small, records_triples}

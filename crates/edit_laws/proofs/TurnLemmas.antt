@@ -1,6 +1,6 @@
 -- Turns and mirrorings keep which points are equal, and the number of steps of a segment.
 use Rattle.std.proofs.Common.{◌≡◌, ◌∙◌, ℕ, zero, suc, max, ℤ, ◌-ℤ◌, neg_ℤ, unsigned_abs, Bool, true, false, ◌&&◌, refl, ap, arith}
-use Rattle.edit_laws.proofs.Names.{Decides-int_eq, nat_tests, ints, div_ceil, int_eq, turn_point, Point, is_same_point, move_between, move_size, TurnKeepsCosts, same_test, mirror_point, quarter_point, MirrorKeepsCosts}
+use Rattle.edit_laws.proofs.Names.{Decides-int_eq, nat_tests, div_ceil, int_eq, turn_point, Point, is_same_point, move_between, move_size, TurnKeepsCosts, same_test, mirror_point, quarter_point, MirrorKeepsCosts}
 use Rattle.design_edits.specs.declared.axis.Axis.{Axis}
 use Rattle.design_edits.specs.declared.axis.Axis.TheVariants as axis
 use Rattle.edit_laws.proofs.MovedCosts.{costs_kept}

@@ -1,7 +1,7 @@
 -- The ends of lines: their linked lists and cursors.
-use Rattle.std.proofs.Common.{◌≡◌, ◌<◌, ◌⊎◌, inl, inr, ℕ, ◌+◌, ◌*◌, ◌/◌, true, not, List, [], ◌∷◌, ◌++◌, length, get_or, set, slice_get, Some, arith, sym, ◌∙◌, ap, subst, length-set, length-append, get_or-set_same, get_or-set_other}
-use Rattle.euler_tour.proofs.Names.{cases_eq, nat_tests, Edge, is_odd, ends_below, pass_start_on, AreBefore, AreLast, IsLast, junction_at, some_same, get_or_append_left, get_or_push}
-use Rattle.euler_tour.proofs.CallerLemmas.{end_a, end_b, ends_are_below, started}
+use Rattle.std.proofs.Common.{◌≡◌, ◌<◌, ◌⊎◌, inl, inr, ℕ, ◌+◌, ◌*◌, List, [], ◌∷◌, ◌++◌, length, get_or, set, slice_get, Some, arith, sym, ◌∙◌, ap, subst, length-set, length-append, get_or-set_same, get_or-set_other}
+use Rattle.euler_tour.proofs.Names.{cases_eq, nat_tests, Edge, AreBefore, AreLast, IsLast, junction_at, some_same, get_or_append_left, get_or_push}
+use Rattle.euler_tour.proofs.CallerLemmas.{end_a, end_b}
 
 -- ---- chains
 

@@ -1,7 +1,7 @@
 -- Worked values of the ends of lines, and of lines that remain.
 use Rattle.std.proofs.Common.{◌≡◌, true, false, [], ◌∷◌, None, Some, refl, List}
-use Rattle.euler_tour.proofs.TourFacts.{edge, others_again}
 use Rattle.euler_tour.proofs.Names.{remaining_ends, remaining_sum, decremented_at, one_of, pass_counts, junction_across, junction_at, pass_from, pass_to, Edge, edge_cost}
+use Rattle.euler_tour.proofs.TourFacts.{edge, others_again}
 
 -- a line from junction 4 to junction 7, one from there to junction 5
 abbrev pub path : List Edge

@@ -1,7 +1,7 @@
 -- The first partial tour, and the tour at the end.
 use Rattle.std.proofs.Common.{◌≡◌, ◌≤◌, ◌<◌, inl, inr, ℕ, suc, ◌+◌, ◌%◌, ◌==◌, Bool, true, false, List, [], ◌∷◌, ◌++◌, map, length, get_or, slice_get, Option, Some, None, arith, refl, sym, ◌∙◌, ap, subst}
 use Rattle.std.specs.Option.{option_or}
-use Rattle.euler_tour.proofs.Names.{nat_tests, slice_get_within, Edge, Pass, IsValidPiece, ends_below, PieceValue, one_if, given_start, first_line, after_edge, edge_cost, edge_of, is_walk_start_to_end, edge_value, pass_sum, passes, walk_end_from, edge_ends_at, remaining_ends, remaining_sum, one_of, pass_counts, pass_from, CanPass, IsTour, IsExhausted, IsTourInvariant, first_edge_start, first_edge_end, tour_end, tour_start, or_first_start, same_number, some_same, IsConnectedGraph, closing_edge, degree, BeginsWith, edge_there, lost, same_test}
+use Rattle.euler_tour.proofs.Names.{nat_tests, slice_get_within, Edge, Pass, IsValidPiece, ends_below, PieceValue, one_if, given_start, first_line, after_edge, edge_cost, edge_of, edge_value, pass_sum, passes, walk_end_from, edge_ends_at, remaining_ends, remaining_sum, one_of, pass_counts, pass_from, CanPass, IsTour, IsExhausted, IsTourInvariant, first_edge_start, first_edge_end, tour_end, tour_start, or_first_start, same_number, some_same, IsConnectedGraph, closing_edge, degree, BeginsWith, edge_there, lost, same_test}
 use Rattle.euler_tour.proofs.LeftLemmas.{none_left, sum_none, times_at, times_cost, times_count, times_ends}
 use Rattle.euler_tour.proofs.TripLemmas.{met}
 use Rattle.euler_tour.proofs.WalkLemmas.{all_covered}

@@ -1,6 +1,6 @@
 -- The invariant of a partial tour, at each step.
-use Rattle.std.proofs.Common.{◌≡◌, ◌≤◌, ◌<◌, inl, inr, ℕ, zero, suc, ◌+◌, ◌*◌, ◌/◌, ◌%◌, ◌==◌, Bool, true, false, not, List, [], ◌∷◌, ◌++◌, map, length, get_or, slice_get, Option, Some, None, arith, refl, sym, ◌∙◌, ap, subst, length-append}
-use Rattle.euler_tour.proofs.Names.{nat_tests, slice_get_within, Edge, Pass, one_if, is_odd, after_edge, edge_of, pass_start_on, edge_value, pass_sum, passes, is_strictly_increasing, pass_start, walk_end_from, edge_ends_at, remaining_ends, remaining_sum, decremented_at, one_of, junction_across, junction_at, pass_from, pass_to, IsExhausted, IsTourInvariant, same_number, some_same, map-append, after_pass, pass_end, edge_found, walk_append}
+use Rattle.std.proofs.Common.{◌≡◌, ◌≤◌, ◌<◌, inl, inr, ℕ, zero, suc, ◌+◌, ◌/◌, ◌%◌, ◌==◌, Bool, true, false, not, List, [], ◌∷◌, ◌++◌, map, length, get_or, slice_get, Option, Some, None, arith, refl, sym, ◌∙◌, ap, subst}
+use Rattle.euler_tour.proofs.Names.{nat_tests, slice_get_within, Edge, Pass, one_if, is_odd, after_edge, edge_of, pass_start_on, edge_value, pass_sum, passes, is_strictly_increasing, pass_start, walk_end_from, edge_ends_at, remaining_ends, remaining_sum, decremented_at, junction_across, junction_at, pass_from, pass_to, IsExhausted, IsTourInvariant, same_number, some_same, map-append, after_pass, pass_end, edge_found, walk_append}
 use Rattle.euler_tour.proofs.LeftLemmas.{count_step, left_less}
 use Rattle.euler_tour.proofs.WalkLemmas.{pass_sum_push, passes_push}
 use Rattle.euler_tour.proofs.CallerLemmas.{started}

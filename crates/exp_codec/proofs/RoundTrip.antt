@@ -1,6 +1,5 @@
 -- What is written reads back.
 use Rattle.std.proofs.Common.{◌≡◌, ℕ, suc, ◌+◌, ◌-◌, ◌<◌, ◌≤◌, ◌≢◌, ℤ, pos, negsuc, neg_ℤ, unsigned_abs, nat_le, true, IsTrue, IsOkAnd, List, [], ◌∷◌, ◌++◌, None, refl, ap, sym, ◌∙◌, subst, arith}
-use Rattle.std.proofs.lemmas.Int.{ints}
 use Rattle.record_formats.specs.declared.event.Event.TheVariants as event
 use Rattle.format_traits.specs.Laws.{HasSameActs, IsCodec}
 use Rattle.record_formats.specs.RoundTrip.{EncodedEvents, DecodesEncoding, DecodeToActs, EncodedActsRoundTrip}

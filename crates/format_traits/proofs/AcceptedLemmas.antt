@@ -1,6 +1,6 @@
 -- Plain acts are not refused, and acts that are not refused have little room and few stops.
 use Rattle.std.proofs.Common.{◌≡◌, ℕ, ◌+◌, ◌≤◌, false, IsTrue, List, [], ◌∷◌, Some, None, nat_lt, refl, subst, arith}
-use Rattle.format_traits.proofs.Names.{nat_tests, ints, Act, NumberedAct, leaves_thread_loose, WriteLimits, EncoderState, are_plain_from, stops_of, encoder_state_after, refusal_if, refusal_of_act, first_refusal_from, and_parts, ltb-false, le-ltb, MAX_COMMANDS, needle_position_after, is_plain_act, stops_in, is_above_max, refusal_before_room, room_from}
+use Rattle.format_traits.proofs.Names.{nat_tests, Act, NumberedAct, leaves_thread_loose, WriteLimits, EncoderState, are_plain_from, stops_of, encoder_state_after, refusal_if, refusal_of_act, first_refusal_from, and_parts, ltb-false, le-ltb, MAX_COMMANDS, needle_position_after, is_plain_act, stops_in, is_above_max, refusal_before_room, room_from}
 use Rattle.design_model.specs.declared.act.Act.TheVariants as act
 use Rattle.format_traits.specs.declared.fault.WriteFault.TheVariants as fault
 use Rattle.format_traits.proofs.CallerLemmas.{not_refused, or_else_both, or_else_none, refused_not}

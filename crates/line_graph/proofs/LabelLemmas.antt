@@ -1,6 +1,6 @@
 -- What lowering labels keeps.
 use Rattle.std.proofs.Common.{◌≡◌, ◌≤◌, ◌<◌, ◌⊎◌, inl, inr, ℕ, suc, ◌+◌, ◌==◌, Bool, true, false, ◌||◌, List, [], ◌∷◌, ◌++◌, length, get_or, set, take, min, All, sum_by, arith, refl, sym, ◌∙◌, ap, subst}
-use Rattle.line_graph.proofs.Names.{eqb-false, or_parts, nat_tests, get_or-set_other, get_or-set_same, length-set, take_more, All-append, All-cons, All-head, All-nil, LineLink, DrawingValue, LabelsAgree, AreAtMostIndex, AreOwnIndexes, AreLabelsOfLinks, LowersLabels, one_if, AreConnected, same_number, sum_by-set, LinkedAreConnected, AreConnectedToLabels, AreFinalLabels, LowersOneLabel}
+use Rattle.line_graph.proofs.Names.{eqb-false, or_parts, nat_tests, get_or-set_other, get_or-set_same, length-set, take_more, All-append, All-cons, All-head, All-nil, LineLink, DrawingValue, LabelsAgree, AreAtMostIndex, AreOwnIndexes, LowersLabels, one_if, AreConnected, same_number, sum_by-set, LinkedAreConnected, AreConnectedToLabels, LowersOneLabel}
 use Rattle.line_graph.proofs.PieceLimits.{leads_back, leads_on}
 
 -- labels that were lowered along links, so far

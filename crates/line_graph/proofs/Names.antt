@@ -31,8 +31,8 @@ pub use Rattle.line_graph.specs.ConnectedSpots.{SpotsAreConnected}
 pub use Rattle.line_graph.specs.DrawnWalks.{FittingWalksAreThreads, GivenPointsAreJunctions, IsThreadOver, KeepsGivenEnds, Leads}
 pub use Rattle.line_graph.specs.DrawnWalks.{PiecesAreValid, given_point}
 pub use Rattle.line_graph.specs.FirstLines.{AddsLink, AreLinkedBelow, AreLinks, IsLineEnd, IsLinkedAt, RecordsFirstLine, SharesEnd}
-pub use Rattle.line_graph.specs.LineLabels.{AreAtMostIndex, AreConnectedToLabels, AreFinalLabels, AreLabelsOfLinks, AreOwnIndexes}
-pub use Rattle.line_graph.specs.LineLabels.{LabelsAgree, LinkedAreConnected, LowersLabels, LowersOneLabel}
+pub use Rattle.line_graph.specs.LineLabels.{AreAtMostIndex, AreConnectedToLabels, AreLabelsOfLinks, AreOwnIndexes, LabelsAgree}
+pub use Rattle.line_graph.specs.LineLabels.{LinkedAreConnected, LowersLabels, LowersOneLabel}
 pub use Rattle.line_graph.specs.NextLines.{AreNextFrom, IsFirstLabelled, lines_labelled_from}
 pub use Rattle.line_graph.specs.PieceGraphs.{PieceValue, closing_edge, degree, degrees_from, edge_between, first_junction_among, is_odd}
 pub use Rattle.line_graph.specs.PieceGraphs.{junction_number, junctions_of, odd_junctions, one_if, piece_graph, with_point, with_points}

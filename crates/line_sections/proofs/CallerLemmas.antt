@@ -1,7 +1,6 @@
 -- Lemmas that this crate and those above cite.
-use Rattle.std.proofs.Common.{ap, arith, refl, true, ℕ, ◌==◌, ◌∙◌, ◌≡◌}
-use Rattle.std.specs.Ordering.{int_eq}
-use Rattle.line_sections.proofs.Names.{and_parts, nat_tests, same_is, is_same_point, Point, is_same_spot, Spot, same_number, Decides-int_eq}
+use Rattle.std.proofs.Common.{arith, true, ◌==◌, ◌≡◌}
+use Rattle.line_sections.proofs.Names.{and_parts, nat_tests, same_is, is_same_point, is_same_spot, Spot, same_number, Decides-int_eq}
 
 -- a spot is found to be equal to itself
 pub spot_found : (a : Spot) → is_same_spot a a ≡ true

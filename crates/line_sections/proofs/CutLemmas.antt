@@ -1,5 +1,5 @@
 -- Marks decide where lines are cut, and sections that are made point by point are those of the line.
-use Rattle.std.proofs.Common.{◌≡◌, ◌<◌, ℕ, zero, suc, ◌+◌, ◌==◌, Bool, true, false, ◌&&◌, nat_le, cond, List, [], ◌∷◌, ◌++◌, Option, Some, None, is_some, map, sum_by, ap, sym, subst, ◌∙◌, refl, append_assoc, append-nil, length, not, arith}
+use Rattle.std.proofs.Common.{◌≡◌, ◌<◌, ℕ, zero, suc, ◌+◌, ◌==◌, Bool, true, false, ◌&&◌, nat_le, cond, List, [], ◌∷◌, ◌++◌, Option, Some, is_some, map, sum_by, ap, sym, subst, ◌∙◌, refl, append_assoc, append-nil, length, not, arith}
 use Rattle.line_sections.proofs.Names.{nat_tests, flat_map-cons, sum_by-append, sum_by-cons, count_by, flat_map, list_any, Point, is_same_point, Spot, LineValue, is_same_spot, AreMarked, is_cut_by, is_listed_again, mark_of, sections_by, sections_continued, spot_at, spots_of, but_last, has_points, is_shared_point, line_sections, lines_through, sections_from, sections_of, Marks, MarksSpot, AreCutMarks, AreMarksOf, SetsMark}
 use Rattle.line_sections.proofs.WholeLemmas.{counted, listed_counts}
 use Rattle.line_sections.proofs.SectionLemmas.{along}

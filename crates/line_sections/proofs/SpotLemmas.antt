@@ -1,2 +1,1 @@
 -- Spots that are found to be equal.
-use Rattle.std.proofs.Common.{◌≡◌, ℕ, ℤ, ◌==◌}

@@ -1,7 +1,7 @@
 -- The bound: a walk crosses each cut once more than the lines do, and the loads bound the extra crossings.
 use Rattle.std.proofs.Common.{◌≡◌, ◌≤◌, ℕ, ◌+◌, ◌*◌, ◌%◌, Bool, true, cond, List, [], ◌∷◌, ◌++◌, length, Option, Some, None, All, arith, refl, sym, ◌∙◌, ap}
 use Rattle.std.proofs.lemmas.List.Sums.{sum_by-cons}
-use Rattle.odd_cuts.proofs.Names.{nat_tests, and_parts, All-head, All-tail, option_or, Edge, Pass, IsValidPiece, ends_below, PieceValue, edges_with_closing, closing_edge, are_same_junction, edge_cost, covers, edge_sum, walk_start, is_fitting_walk, is_walk_start_to_end, piece_cost, walk_cost, walk_end_from, Cut, BoundsWalks, ProvesLeast, has_member, load_on, total_weight, IsOddCut, odd_held, crosses}
+use Rattle.odd_cuts.proofs.Names.{nat_tests, and_parts, All-head, All-tail, option_or, Edge, Pass, IsValidPiece, PieceValue, edges_with_closing, closing_edge, are_same_junction, edge_cost, covers, edge_sum, walk_start, is_fitting_walk, is_walk_start_to_end, piece_cost, walk_cost, walk_end_from, Cut, BoundsWalks, ProvesLeast, has_member, load_on, total_weight, IsOddCut, odd_held, crosses}
 use native.Mathlib.Nat.{mul-le-mul_left, le-mul_of_pos_right}
 use Rattle.odd_cuts.proofs.Crossing.{crossing, inside, walk_even}
 use Rattle.odd_cuts.proofs.Degrees.{odd_counted, odd_crossing}

@@ -1,6 +1,6 @@
 -- Tables and lists by index.
 use Rattle.std.proofs.Common.{◌≡◌, ◌≤◌, ◌<◌, ℕ, zero, suc, ◌+◌, true, List, [], ◌∷◌, length, drop, get_or, replicate, set, arith, refl, ◌∙◌}
-use Rattle.odd_cuts.proofs.Names.{and_parts, nat_tests, Edge, MAX_LINES, IsValidPiece, all_below, ends_below, PieceValue, and_from, at_drop_more, length-set}
+use Rattle.odd_cuts.proofs.Names.{and_parts, nat_tests, Edge, all_below, ends_below, and_from, at_drop_more, length-set}
 
 -- each entry of a blank table is the same
 pub blank : {X : Type 0} (x : X) (count i : ℕ) → get_or (replicate count x) i x ≡ x

@@ -1,7 +1,7 @@
 -- Where a sweep changes nothing, no walk costs less than the number in the row.
 use Rattle.std.proofs.Common.{◌≡◌, ℕ, ◌+◌, ◌≤◌, List, [], ◌∷◌, false, Some, refl, ap, arith, inl, inr, subst, zero, suc}
 use Rattle.std.specs.Prelude.{slice_get}
-use Rattle.odd_paths.proofs.Names.{nat_tests, slice_index, Edge, Connects, IsEdgeWalk, edge_walk_cost, IsFullyRelaxed, relaxes, relaxed, changes, swept, some_same, or_parts, IsRelaxedAt}
+use Rattle.odd_paths.proofs.Names.{nat_tests, slice_index, Edge, Connects, IsEdgeWalk, edge_walk_cost, IsFullyRelaxed, changes, swept, some_same, or_parts, IsRelaxedAt}
 use Rattle.odd_paths.proofs.PlaceLemmas.{none_is}
 
 pub settled : (row : List ℕ) (es : List Edge) → changes row es ≡ false → (swept row es ≡ row) × IsFullyRelaxed row es

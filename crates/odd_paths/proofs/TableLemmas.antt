@@ -1,7 +1,7 @@
 -- The rows of a table.
 use Rattle.std.proofs.Common.{◌≡◌, Vec, Global, ℕ, zero, suc, ◌<◌, ◌≤◌, ◌==◌, true, List, [], ◌∷◌, ◌++◌, Some, length, get_or, All, refl, sym, ap, subst, append_assoc, arith}
 use Rattle.std.specs.Prelude.{◌&&◌, Option, slice_get}
-use Rattle.odd_paths.proofs.Names.{and_parts, nat_tests, All-cons, All-nil, slice_get_within, nat_lt, slice_index, Edge, IsValidPiece, ends_below, PieceValue, piece_cost, IsLeastEdgeWalk, AreRows, AreTerminals, IsLeastCost, IsPath, RowsValue, cost_at, terminal_of, AddsRows, lists_of, EndsAreBelow, AreLeastRows, IsGraph, IsLeastRow, some_same, append-nil, IsRowFrom, cost_in}
+use Rattle.odd_paths.proofs.Names.{and_parts, nat_tests, All-cons, All-nil, slice_get_within, nat_lt, slice_index, Edge, IsValidPiece, ends_below, PieceValue, piece_cost, IsLeastEdgeWalk, AreRows, AreTerminals, IsLeastCost, IsPath, RowsValue, cost_at, terminal_of, AddsRows, lists_of, EndsAreBelow, AreLeastRows, IsLeastRow, some_same, append-nil, IsRowFrom, cost_in}
 use Rattle.odd_paths.proofs.PassLemmas.{over_passes, over_places, to_passes}
 use Rattle.odd_paths.proofs.PlaceLemmas.{none_is, still_within}
 

@@ -1,5 +1,5 @@
 -- Blossoms rotated to another part.
-use Rattle.std.proofs.Common.{◌≡◌, ℕ, ◌+◌, ◌≤◌, ◌<◌, ◌%◌, suc, List, [], ◌∷◌, ◌++◌, length, map, take, drop, get_or, drop-cons, add-one, arith, refl, sym, ap, subst, ◌∙◌, append_assoc, length-append}
+use Rattle.std.proofs.Common.{◌≡◌, ℕ, ◌+◌, ◌≤◌, ◌<◌, ◌%◌, List, [], ◌∷◌, ◌++◌, length, map, take, drop, get_or, drop-cons, add-one, arith, refl, sym, ap, subst, ◌∙◌, append_assoc, length-append}
 use Rattle.odd_sets.proofs.Names.{nat_tests, append-nil, map-append, take-append-drop, TableValue, NoneHold, IsOddSet, dual_sets, count, AreTightInside, IsTightInside, FirstPartHolds, PartHoldsAt, IsRotated, members_in, dual_sets_in, part_sets, path_edges, IsPartPath, cycle_edges, IsPartCycle, AreOddSets, IsVertexOrBlossom, odd_set_of, PartValue, IsOutside, blossom_edge_of, EdgeLeadsTo}
 use Rattle.odd_sets.proofs.ListLemmas.{drop_here, each-append, mapped_drop, mapped_low, mapped_take}
 use Rattle.odd_sets.proofs.SumLemmas.{count-append, members-append, none_hold}

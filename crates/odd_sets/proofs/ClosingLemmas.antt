@@ -1,6 +1,6 @@
 -- Chains that close into blossoms, and the sets that they make.
 use Rattle.std.proofs.Common.{◌≡◌, ℕ, ◌+◌, ◌%◌, ◌≤◌, zero, suc, List, [], ◌∷◌, ◌++◌, arith, refl, sym, subst}
-use Rattle.odd_sets.proofs.Names.{nat_tests, TableValue, Each, dual_sets, count, height, slack_rows_of, AreTightInside, IsTightInside, IsSlackRow, members_in, dual_sets_in, blossom_edges_in, IsPartPath, cycle_edges, path_edges, IsPartCycle, IsBlossom, AreOddSets, slack_rows_in, blossom_set, blossom_slacks, IsSoundBranch, IsSoundPart, IsSoundSet, IsTight, outer_members, inner_members, IsAlternatingTree, TightEdge, BranchValue, PartValue, IsChainTo}
+use Rattle.odd_sets.proofs.Names.{nat_tests, TableValue, Each, dual_sets, count, height, AreTightInside, IsTightInside, IsSlackRow, members_in, dual_sets_in, blossom_edges_in, IsPartPath, cycle_edges, path_edges, IsPartCycle, IsBlossom, AreOddSets, slack_rows_in, blossom_set, blossom_slacks, IsSoundBranch, IsSoundPart, IsSoundSet, IsTight, outer_members, inner_members, IsAlternatingTree, TightEdge, BranchValue, PartValue, IsChainTo}
 use Rattle.odd_sets.proofs.ListLemmas.{each-append, each-map}
 use Rattle.odd_sets.proofs.SumLemmas.{count-append, height-append, low, none_tall}
 use Rattle.odd_sets.proofs.BlossomLemmas.{made_kept, none_in}

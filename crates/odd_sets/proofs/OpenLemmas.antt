@@ -1,5 +1,5 @@
 -- A set taken apart: sums over its parts.
-use Rattle.std.proofs.Common.{◌≡◌, ℕ, ◌+◌, ◌%◌, ◌≤◌, ◌<◌, List, [], ◌∷◌, ◌++◌, length, take, drop, arith, refl, sym, ap, subst, ◌∙◌, Some, None, length-append, eqb, cond, Bool, true, false}
+use Rattle.std.proofs.Common.{◌≡◌, ℕ, ◌+◌, ◌%◌, ◌≤◌, ◌<◌, List, [], ◌∷◌, ◌++◌, length, take, drop, arith, refl, sym, ap, subst, ◌∙◌, Some, None, length-append, eqb, cond}
 use Rattle.odd_sets.proofs.Names.{nat_tests, eqb-true, take-append-drop, flat_map, TableValue, Each, IsAdditive, DualSet, OddSetValue, dual_sets, dual_sets_of, count, height, one_if_equal, members_onto, AreTightInside, IsOddSet, IsTightInside, members_in, dual_sets_in, part_sets, blossom_edges_in, path_edges, IsPartPath, cycle_edges, IsPartCycle, AreOddSets, IsBlossom, IsRotated, FirstPartHolds, IsVertexOrBlossom, odd_set_of, matches_along, match_members, match_dual_sets, IsMatch, MatchValue, PartValue, match_sets, IsTightMatch}
 use Rattle.odd_sets.specs.Opens.{OpensAt}
 use Rattle.odd_sets.proofs.ListLemmas.{each-apart, each-flat_map, each-left, each-right, each-turned}

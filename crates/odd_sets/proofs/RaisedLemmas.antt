@@ -1,5 +1,5 @@
 -- Heights raised place by place.
-use Rattle.std.proofs.Common.{◌≡◌, ℕ, ◌+◌, ◌-◌, ◌*◌, ◌<◌, ◌≤◌, ◌≢◌, Bool, true, false, cond, eqb, zero, suc, List, [], ◌∷◌, length, drop, get_or, set, drop-cons, add-one, arith, refl, sym, ap, subst, ◌∙◌, get_or-set_other, get_or-set_same}
+use Rattle.std.proofs.Common.{◌≡◌, ℕ, ◌+◌, ◌-◌, ◌*◌, ◌<◌, ◌≤◌, Bool, true, false, cond, eqb, zero, suc, List, [], ◌∷◌, length, drop, get_or, set, drop-cons, add-one, arith, refl, sym, ap, ◌∙◌, get_or-set_other, get_or-set_same}
 use Rattle.odd_sets.proofs.Names.{nat_tests, eqb-true, eqb-false, eq-eqb, count, inner_members, outer_members, BranchValue, branch_in, branches_in, Slots, Branch}
 use Rattle.odd_sets.proofs.ListLemmas.{drop_here, mapped_item, mapped_low}
 use Rattle.odd_sets.proofs.SumLemmas.{count-append}

@@ -1,5 +1,5 @@
 -- If no fault is counted, the file determines the result of reading it.
-use Rattle.std.proofs.Common.{◌≡◌, ℕ, ◌≤◌, List, length, Some, None, Ok, Err, Option, Result, true, false, ◌∙◌, ap, arith}
+use Rattle.std.proofs.Common.{◌≡◌, ℕ, ◌≤◌, List, length, Some, Ok, Err, Option, Result, true, ◌∙◌, ap, arith}
 use Rattle.std.specs.Bool.{nat_le}
 use Rattle.outside_io.proofs.Names.{ReadsWholeFile, whole_file_result, IsFileLonger, IsFaultless, WhereVisible, StoreView, nat_tests, get_is_out_of_memory}
 use Rattle.outside_io.specs.declared.whole_files.GetFault.{GetFault}

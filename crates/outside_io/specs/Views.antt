@@ -1,5 +1,5 @@
 -- The views of a store and a sink: what contracts see of them at one moment.
-use Rattle.std.specs.Prelude.{ℕ, List, Option, Some, None}
+use Rattle.std.specs.Prelude.{ℕ, List, Option, None}
 use Rattle.outside_io.specs.Blames.{Blame, FaultLogValue}
 use Rattle.outside_io.specs.Files.{Files}
 

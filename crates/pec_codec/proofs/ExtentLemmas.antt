@@ -1,7 +1,7 @@
 -- A design is less than 2 ^ 16 wide and high.
 use Rattle.std.proofs.Common.{ℕ, ◌+◌, ◌<◌, ◌≤◌, ◌^◌, ℤ, ◌-ℤ◌, unsigned_abs, Bool, true, false, IsTrue, List, [], ◌∷◌, All, Contains, Option, subst, arith}
 use Rattle.std.proofs.lemmas.List.Elements.{All-nil}
-use Rattle.pec_codec.proofs.Names.{nat_tests, and_parts, ints, list_all, Command, Trim, Point, is_point_within, acts_from, IsExtentOrNone, x_coordinates, extent_height, needle_points_of_acts, y_coordinates, extent_width}
+use Rattle.pec_codec.proofs.Names.{nat_tests, and_parts, ints, list_all, Command, Trim, Point, acts_from, IsExtentOrNone, x_coordinates, extent_height, needle_points_of_acts, y_coordinates, extent_width}
 use Rattle.design_model.specs.declared.bounds.Extent.{Extent}
 use Rattle.design_model.specs.declared.command.Command.TheVariants.{Stitch, Jump, Stop}
 use Rattle.design_model.specs.declared.point.TheConstants.{NEEDLE_LIMIT}

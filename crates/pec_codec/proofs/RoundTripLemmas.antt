@@ -1,5 +1,5 @@
 -- Each record is decoded as it was encoded, whatever bytes follow.
-use Rattle.std.proofs.Common.{◌≡◌, ℕ, ◌+◌, ◌*◌, ◌/◌, ◌%◌, ◌<◌, ◌≤◌, ℤ, unsigned_abs, Bool, true, false, ◌&&◌, IsTrue, List, [], ◌∷◌, ◌++◌, length, drop, Some, None, ◌==◌, if◌then◌else◌, refl, sym, ◌∙◌, arith}
+use Rattle.std.proofs.Common.{◌≡◌, ℕ, ◌+◌, ◌*◌, ◌/◌, ◌%◌, ◌<◌, ◌≤◌, ℤ, unsigned_abs, Bool, true, false, ◌&&◌, IsTrue, List, [], ◌∷◌, ◌++◌, length, drop, Some, None, ◌==◌, if◌then◌else◌, refl, sym, arith}
 use Rattle.pec_codec.proofs.Names.{nat_tests, ints, and_parts, Point, is_point_within, origin, next, LIMIT, Coordinate, leading_coordinate, is_short_number, short_bytes, to_twos_complement, next_record_in, pec_records, long_record, pec_stop_record, pec_write_limits, pec_encoding, DecodesEncoding, EncodedEvents, event_of_pair}
 use Rattle.record_formats.specs.declared.event.Event.TheVariants as event
 use Rattle.record_formats.specs.declared.record_reader.NextRecord.TheVariants as cut

@@ -1,11 +1,10 @@
 -- How long what is written is.
-use Rattle.std.proofs.Common.{◌≡◌, ℕ, zero, suc, ◌+◌, ◌*◌, ◌≤◌, max, Bool, true, false, ◌&&◌, List, [], ◌∷◌, ◌++◌, length, map, replicate, Ok, if◌then◌else◌, refl, ap, ◌∙◌, arith, length-append}
-use Rattle.pec_codec.proofs.Names.{nat_tests, ints, append_assoc, concat, Command, Point, DesignValue, KeepsLimits, AcceptedIsWithinLimits, LIMIT, MAX_STOPS, THUMBNAIL_LENGTH, is_short_number, short_bytes, pec_jump_record, long_record, pec_stitch_record, pec_body_of, pec_write_limits, pec_encoding, replicate-append-replicate, MAX_COMMANDS, acts_along, move_between, encoder_state_after, AppendsRecords, hop_records, needle_records, records_of_acts_from, records_of_act, AppendsBody, loose_room, stops_along}
+use Rattle.std.proofs.Common.{◌≡◌, ℕ, zero, suc, ◌+◌, ◌*◌, ◌≤◌, Bool, true, false, List, [], ◌∷◌, ◌++◌, length, map, replicate, Ok, refl, ap, ◌∙◌, arith, length-append}
+use Rattle.pec_codec.proofs.Names.{nat_tests, ints, append_assoc, concat, Command, Point, DesignValue, KeepsLimits, AcceptedIsWithinLimits, LIMIT, MAX_STOPS, THUMBNAIL_LENGTH, pec_jump_record, pec_stitch_record, pec_body_of, pec_write_limits, pec_encoding, replicate-append-replicate, MAX_COMMANDS, acts_along, move_between, encoder_state_after, AppendsRecords, needle_records, records_of_acts_from, records_of_act, AppendsBody, loose_room, stops_along}
 use Rattle.design_model.specs.declared.act.Act.{Act}
 use Rattle.design_model.specs.declared.act.Act.TheVariants as act
 use Rattle.design_model.specs.declared.act.NumberedAct.{NumberedAct}
 use Rattle.format_traits.specs.declared.encoder_state.EncoderState.{EncoderState}
-use Rattle.format_traits.specs.MoveHops.{hops_of}
 use Rattle.record_formats.specs.MoveParts.{part_moves_from}
 use Rattle.format_traits.specs.Rooms.{room_of_act, room_of_needle, room_from}
 

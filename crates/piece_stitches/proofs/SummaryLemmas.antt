@@ -1,5 +1,5 @@
 -- Summaries of stitches of two lists, one after the other.
-use Rattle.std.proofs.Common.{◌≡◌, ◌∙◌, ℕ, suc, ◌+◌, ◌==◌, max, min, Bool, true, false, List, [], ◌∷◌, ◌++◌, filter, length, sum_by, if◌then◌else◌, refl, sym, ap}
+use Rattle.std.proofs.Common.{◌≡◌, ◌∙◌, ℕ, suc, ◌+◌, max, min, Bool, true, false, List, [], ◌∷◌, ◌++◌, filter, length, sum_by, if◌then◌else◌, refl, sym, ap}
 use native.Mathlib.Omega.{arith}
 use Rattle.std.proofs.lemmas.List.Sums.{sum_by-cons}
 use Rattle.drawing_model.specs.Drawings.{DrawingValue}

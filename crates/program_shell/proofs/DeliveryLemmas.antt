@@ -1,6 +1,6 @@
 -- Outputs written one after another.
 use Rattle.std.proofs.Common.{◌≡◌, ◌++◌, ◌∷◌, [], ℕ, List, Option, Some, None, refl, sym, ap, subst, arith}
-use Rattle.program_shell.proofs.Names.{nat_tests, Blame, Files, FileHolds, StoreView, ChangesOnlyFiles, IsNoneOf, OutputValue, WroteAll, WroteUpTo, output_names, write_call, CallFailed, HasNoNewFault, ChangesOnlyFile, HaveDistinctNames, HaveFileNames}
+use Rattle.program_shell.proofs.Names.{nat_tests, Files, FileHolds, StoreView, ChangesOnlyFiles, IsNoneOf, OutputValue, WroteAll, WroteUpTo, output_names, write_call, CallFailed, HasNoNewFault, ChangesOnlyFile, HaveDistinctNames, HaveFileNames}
 
 -- nothing is written where there are no outputs
 same_files : (files : Option Files) → ChangesOnlyFiles [] files files

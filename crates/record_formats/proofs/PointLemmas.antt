@@ -1,6 +1,6 @@
 -- Points and their ranges.
 use Rattle.std.proofs.Common.{◌≡◌, ℕ, ◌≤◌, IsTrue, arith}
-use Rattle.record_formats.proofs.Names.{ints, nat_tests, Point, is_point_within, origin, move_size, position_after_move, within_from, is_same_point}
+use Rattle.record_formats.proofs.Names.{ints, nat_tests, Point, is_point_within, origin, move_size, position_after_move, within_from}
 
 -- a move whose size is at most the limit is within it
 pub within-size : (limit : ℕ) (m : Point) → move_size m ≤ limit → IsTrue (is_point_within limit m)

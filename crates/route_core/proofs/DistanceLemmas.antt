@@ -1,6 +1,6 @@
 -- Tables of distances, as far as they are filled.
 use Rattle.std.proofs.Common.{◌≡◌, ◌<◌, ℕ, ◌+◌, false, arith, subst, List, length, get_or, Option, Some, slice_get, slice_index, ◌≤◌}
-use Rattle.route_core.proofs.Names.{nat_tests, entry, TableValue, PieceValue, piece_cost, RowsValue, cost_at, terminal_of, HasFilledEntries, AreRows, cost_in, is_filled_entry}
+use Rattle.route_core.proofs.Names.{nat_tests, entry, TableValue, PieceValue, piece_cost, RowsValue, cost_at, terminal_of, AreRows, cost_in, is_filled_entry}
 
 none_before : (a x y : ℕ) → x < y → is_filled_entry a (a + 1) x y ≡ false
 none_before a x y xy = grind (arith, nat_tests)

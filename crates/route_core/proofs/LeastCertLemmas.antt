@@ -1,5 +1,5 @@
 -- The certificate that is made for a piece proves its walk least, and can be printed.
-use Rattle.std.proofs.Common.{◌≡◌, ◌≢◌, ◌≤◌, ◌<◌, ℕ, ◌+◌, ◌^◌, ◌==◌, Bool, true, false, cond, nat_lt, List, [], ◌∷◌, length, get_or, Option, Some, None, All, arith, refl, ap}
+use Rattle.std.proofs.Common.{◌≡◌, ◌≢◌, ◌≤◌, ◌<◌, ℕ, ◌+◌, ◌^◌, ◌==◌, Bool, true, false, cond, nat_lt, List, [], ◌∷◌, length, get_or, Option, Some, None, All, arith, refl}
 use Rattle.route_core.proofs.Names.{nat_tests, and_parts, All-cons, All-from_get_or, Moat, Pair, PieceCert, Cut, BoundsTotal, HasCanonicalText, Edge, MAX_COST, MAX_LINES, Pass, IsValidPiece, PieceValue, after_edge, edge_of, walk_end_from, RowsValue, pair_costs, AreOddPairs, IsWalkBy, CertifiesLeastWalk, lost, All-get_or, ProvesLeast, IsOddCut, all_below, required_start, covers, required_end, is_walk_start_to_end, goes_from}
 use Rattle.cut_certificate.specs.Lifts.{IsLifted}
 

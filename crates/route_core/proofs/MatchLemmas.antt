@@ -1,6 +1,6 @@
 -- A matching of the odd junctions of a piece, from a matching of places.
 use Rattle.std.proofs.Common.{◌≡◌, ◌≤◌, ◌<◌, ℕ, zero, suc, ◌+◌, ◌*◌, ◌^◌, ◌==◌, Bool, true, false, cond, List, [], ◌∷◌, length, get_or, All, arith, refl, sym, ◌∙◌, ap, subst}
-use Rattle.route_core.proofs.Names.{nat_tests, All-from_get_or, All-head, All-tail, sum_by-cons, Moat, Pair, IsPerfectMatching, pair_ends_at, IsTable, entry, TableValue, PieceValue, RowsValue, IsPairOf, pair_costs, IsTableOf, AreOddRows, AreOddPairs, eq_self, get_or-le-sum_by, IsOptimalMatching, IsOddMoat, pairs_cost, moat_load, width_of, HasDistances, sum_over}
+use Rattle.route_core.proofs.Names.{nat_tests, All-from_get_or, All-head, All-tail, sum_by-cons, Moat, Pair, IsPerfectMatching, pair_ends_at, IsTable, entry, TableValue, PieceValue, RowsValue, IsPairOf, pair_costs, IsTableOf, AreOddRows, AreOddPairs, eq_self, get_or-le-sum_by, IsOptimalMatching, IsOddMoat, pairs_cost, moat_load, width_of, sum_over}
 use Rattle.odd_sets.specs.declared.table.TheConstants.{MAX_DISTANCE}
 use Rattle.route_core.proofs.LeastLemmas.{entry_is}
 use Rattle.blossom_match.proofs.CallerLemmas.{ends_below}

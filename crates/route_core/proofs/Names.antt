@@ -40,7 +40,7 @@ pub use Rattle.odd_sets.specs.TableValue.{TableValue}
 pub use Rattle.odd_sets.specs.Tables.{HasTriangleInequality, IsTable, entry}
 pub use Rattle.route_core.specs.Copies.{AddsCopies, AddsPairs, IsPairOf, copies_sum, edge_end_count, incremented_at, index_sum, pair_costs}
 pub use Rattle.route_core.specs.Copies.{pair_ends, total_copies}
-pub use Rattle.route_core.specs.Distances.{HasDistances, HasFilledEntries, IsTableOf, is_filled_entry}
+pub use Rattle.route_core.specs.Distances.{HasFilledEntries, IsTableOf, is_filled_entry}
 pub use Rattle.route_core.specs.Doubles.{IsDoubleCert, IsDoubleOver, IsDoubled}
 pub use Rattle.route_core.specs.OddPairs.{AreOddPairs, AreOddRows, IsWalkBy}
 pub use Rattle.route_core.specs.PieceCertificates.{CertifiesLeastWalk}

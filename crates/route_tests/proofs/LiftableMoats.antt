@@ -1,5 +1,5 @@
 -- Moats that pass all plain checks can be lifted.
-use Rattle.std.proofs.Common.{◌≡◌, ◌≢◌, ℕ, ◌<◌, List, length, All, AllPairs, sym, ◌∙◌, subst}
+use Rattle.std.proofs.Common.{◌≡◌, ℕ, List, length, All, AllPairs, sym, ◌∙◌, subst}
 use Rattle.blossom_match.specs.declared.matching.Moat.{Moat}
 use Rattle.blossom_match.specs.Matchings.{AreLaminar, IsOddMoat}
 use Rattle.line_graph.specs.PieceGraphs.{PieceValue, odd_junctions}

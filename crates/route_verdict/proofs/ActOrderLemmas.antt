@@ -1,6 +1,6 @@
 -- Where lists of acts begin to differ.
 use Rattle.std.proofs.Common.{◌≡◌, ◌≤◌, ◌<◌, ℕ, ◌+◌, ◌-◌, true, List, [], ◌∷◌, ◌++◌, Some, Result, Ok, Err, length, drop, arith, refl, sym, ◌∙◌, ap, subst}
-use Rattle.route_verdict.proofs.Names.{nat_tests, append_assoc, All-head, All-tail, PieceCert, Act, Point, acts_without_numbers, Pass, DrawingValue, block_of_passes, runs_of, needles_of_walk, first_differing_act, walks_of, AllDrawn, AreDrawn, at_drop_more, length-drop, sewn_acts_after}
+use Rattle.route_verdict.proofs.Names.{nat_tests, append_assoc, All-tail, PieceCert, Act, Point, acts_without_numbers, Pass, DrawingValue, block_of_passes, runs_of, needles_of_walk, first_differing_act, walks_of, AllDrawn, AreDrawn, at_drop_more, length-drop, sewn_acts_after}
 use Rattle.design_model.specs.declared.act.NumberedAct.{NumberedAct}
 use Rattle.route_verdict.specs.ActSteps.{ComparesActs, begins_with_act, run_acts}
 

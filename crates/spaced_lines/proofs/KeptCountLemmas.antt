@@ -1,5 +1,5 @@
 -- A block of spaced lines lists each junction as often as before, and each other point as often or less.
-use Rattle.std.proofs.Common.{◌≡◌, ◌∙◌, ℕ, ℤ, ◌+◌, ◌==◌, ◌≤◌, Bool, true, false, cond, nat_le, List, [], ◌∷◌, ◌++◌, map, filter, if◌then◌else◌, refl, ap, sym, arith}
+use Rattle.std.proofs.Common.{◌≡◌, ◌∙◌, ℕ, ◌+◌, ◌==◌, ◌≤◌, Bool, true, false, cond, nat_le, List, [], ◌∷◌, ◌++◌, map, filter, refl, ap, sym, arith}
 use Rattle.spaced_lines.proofs.Names.{nat_tests, ap₂, sum_by-cons, flat_map, Point, is_same_point, Spot, LineValue, is_shared_point, is_spot_of, kept_after, spaced_line, spaced_points, eqb-true, count_by, listed_in, same_is}
 use Rattle.spaced_lines.proofs.SpacingLemmas.{of_kept, tested_stay}
 

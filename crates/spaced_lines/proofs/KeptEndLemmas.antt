@@ -1,6 +1,6 @@
 -- The sections of a spaced line have the ends of the sections of the line, where both are cut alike.
-use Rattle.std.proofs.Common.{◌≡◌, ◌∙◌, ℕ, Bool, true, false, ◌&&◌, List, [], ◌∷◌, ◌++◌, map, All, if◌then◌else◌, refl, sym, arith}
-use Rattle.spaced_lines.proofs.Names.{nat_tests, ap₂, All-head, All-tail, Point, endpoints, but_last, has_points, inner_points, sections_from, sections_of, sections_with_first, kept_after, spaced_points}
+use Rattle.std.proofs.Common.{◌≡◌, ◌∙◌, ℕ, Bool, true, false, ◌&&◌, List, [], ◌∷◌, map, All, if◌then◌else◌, refl, sym, arith}
+use Rattle.spaced_lines.proofs.Names.{nat_tests, ap₂, All-head, All-tail, Point, endpoints, but_last, has_points, inner_points, sections_from, sections_of, kept_after, spaced_points}
 use Rattle.spaced_lines.proofs.SpacingLemmas.{of_kept, untested}
 
 -- the ends of the sections from the point a on

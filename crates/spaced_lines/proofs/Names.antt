@@ -11,7 +11,7 @@ pub use Rattle.std.specs.List.{concat, count_by, flat_map, list_all, list_any, s
 pub use Rattle.design_model.proofs.CallerLemmas.{same_back, same_is}
 pub use Rattle.design_model.specs.Points.{is_same_point}
 pub use Rattle.design_model.specs.declared.point.Point.{Point}
-pub use Rattle.drawing_model.specs.Drawings.{DrawingValue, IsLine, KeepsDrawingLimits, endpoints}
+pub use Rattle.drawing_model.specs.Drawings.{DrawingValue, IsLine, endpoints}
 pub use Rattle.drawing_model.specs.GrowingDrawings.{and_then, point_count}
 pub use Rattle.drawing_model.specs.Needles.{segment_steps, steps_of_line}
 pub use Rattle.drawing_model.specs.WalkEnds.{are_connected_spots, end_spots, has_end_at_spot, is_junction, merged_representative}

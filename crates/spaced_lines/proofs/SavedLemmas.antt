@@ -1,5 +1,5 @@
 -- A spaced line can be sewn, and each point that is left out saves a step.
-use Rattle.std.proofs.Common.{◌≡◌, ◌≢◌, ◌∙◌, ℕ, ◌+◌, ◌≤◌, Bool, true, not, nat_le, List, [], ◌∷◌, ◌++◌, length, All, if◌then◌else◌, arith}
+use Rattle.std.proofs.Common.{◌≡◌, ◌≢◌, ℕ, ◌+◌, ◌≤◌, Bool, true, not, nat_le, List, [], ◌∷◌, length, All, arith}
 use Rattle.std.proofs.lemmas.Grind.{div_ceil_times}
 use Rattle.std.specs.Int.{div_ceil}
 use Rattle.spaced_lines.proofs.Names.{nat_tests, All-cons, All-head, All-nil, All-tail, Point, is_same_point, distance_between, is_stitch_for, kept_after, EachPointSavesAStep, SpacedLinesAreLines, first_true, second_true, leb-true, segment_steps, HasNoRepeatAfter, IsNeedlePoint, SplitPointsLead, comes_near_all}

@@ -1,5 +1,5 @@
 -- A shared point inside a line is the last point of a section.
-use Rattle.std.proofs.Common.{◌≡◌, ◌∙◌, ℕ, ◌==◌, Bool, true, false, ◌&&◌, ◌||◌, List, [], ◌∷◌, map, All, if◌then◌else◌, refl, arith}
+use Rattle.std.proofs.Common.{◌≡◌, ◌∙◌, ℕ, Bool, true, false, List, [], ◌∷◌, map, All, if◌then◌else◌, refl, arith}
 use Rattle.spaced_lines.proofs.Names.{nat_tests, All-cons, All-nil, flat_map, list_any, Point, is_same_point, has_end_at_spot, LineValue, but_last, inner_points, is_shared_point, line_sections, lines_through, sections_from, sections_of, sections_with_first, last_point_or, or_left, or_right, list_any-append, SharedPointsAreJunctions, either_way}
 
 -- a section ends at a point

@@ -1,7 +1,7 @@
 -- A drawing that can be joined and get starts and ends can be spaced with them.
 use Rattle.std.proofs.Common.{◌≡◌, ◌∙◌, ℕ, suc, ◌+◌, ◌≤◌, ◌==◌, ◌&&◌, ◌||◌, not, nat_lt, Bool, true, false, List, [], ◌∷◌, ◌++◌, length, map, All, Result, Ok, Err, if◌then◌else◌, refl, ap, sym, arith}
 use Rattle.std.proofs.lemmas.Result.{IfOk-at_ok}
-use Rattle.spaced_lines.proofs.Names.{nat_tests, length-map, All-head, All-tail, sum_by-cons, flat_map, list_any, Point, is_same_point, DrawingValue, endpoints, point_count, end_spots, is_junction, Spot, LineValue, all_sections, has_points, is_shared_point, line_sections, lines_through, sections_from, sections_of, sections_with_first, is_same_spot, SpacedLinesKeepLimits, spaced_line, spaced_lines, SectionsKeepEnds, fun_ext, length-append, sum_by-append, KeepsDrawingLimits, and_then, are_connected_spots, merged_representative, representative, spot_added, SpacingRefusesNone, with_lines_spaced, spaced_and_joined, and_false}
+use Rattle.spaced_lines.proofs.Names.{nat_tests, length-map, All-head, All-tail, sum_by-cons, flat_map, list_any, Point, is_same_point, DrawingValue, endpoints, point_count, end_spots, is_junction, Spot, LineValue, all_sections, has_points, is_shared_point, line_sections, lines_through, sections_from, sections_of, sections_with_first, is_same_spot, SpacedLinesKeepLimits, spaced_line, spaced_lines, SectionsKeepEnds, fun_ext, length-append, sum_by-append, and_then, are_connected_spots, merged_representative, representative, spot_added, SpacingRefusesNone, with_lines_spaced, spaced_and_joined, and_false}
 use Rattle.drawing_edits.specs.RedrawnDrawings.{with_starts_and_ends, with_walk_ends}
 use Rattle.drawing_edits.specs.ValidRedraws.{LinesWithinLimitsAreDrawn}
 use Rattle.drawing_model.specs.declared.draw_kind.DrawKind.{DrawKind}

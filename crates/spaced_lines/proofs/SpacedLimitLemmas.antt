@@ -1,5 +1,5 @@
 -- The spaced lines of a drawing are within the limits of a drawing.
-use Rattle.std.proofs.Common.{◌≡◌, ◌∙◌, ℕ, ◌+◌, ◌<◌, ◌≤◌, Bool, List, [], ◌∷◌, ◌++◌, length, map, All, Contains, if◌then◌else◌, refl, ap, subst, arith}
+use Rattle.std.proofs.Common.{◌≡◌, ◌∙◌, ℕ, ◌+◌, ◌<◌, ◌≤◌, Bool, List, [], ◌∷◌, length, map, All, Contains, refl, ap, subst, arith}
 use Rattle.std.specs.List.Sorted.{IsNonDecreasing}
 use Rattle.spaced_lines.proofs.Names.{length-map, All-head, All-tail, All-weaker, sum_by-cons, Point, point_count, steps_of_line, is_junction, LineValue, all_sections, SpacedLinesKeepLimits, is_spot_of, kept_after, spaced_line, spaced_lines, spaced_points, EachPointSavesAStep, SpacedLinesAreLines, All-map, sum_by, IsLine}
 use Rattle.spaced_lines.proofs.SpacingLemmas.{of_kept}

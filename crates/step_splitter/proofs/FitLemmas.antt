@@ -1,6 +1,6 @@
 -- Refitted acts fit.
 use Rattle.std.proofs.Common.{◌≡◌, ℕ, ◌≤◌, Bool, true, false, not, ◌&&◌, IsTrue, List, [], ◌∷◌, ◌++◌, refl, arith}
-use Rattle.step_splitter.proofs.Names.{nat_tests, le-max_left, le-max_right, if◌then◌else◌, Act, Point, is_point_within, move_between, origin, move_size, RefitMode, AreCloseAfter, last_point_or, MeetsRefitGoal, is_no_float, needles_at, refitted_acts, refitted_from, split_points, list_all, AreNearActs}
+use Rattle.step_splitter.proofs.Names.{nat_tests, le-max_left, le-max_right, if◌then◌else◌, Act, Point, is_point_within, move_between, origin, RefitMode, AreCloseAfter, last_point_or, MeetsRefitGoal, is_no_float, needles_at, refitted_acts, refitted_from, split_points, list_all, AreNearActs}
 use Rattle.design_model.specs.declared.act.Act.TheVariants as act
 use Rattle.step_splitter.proofs.ChainLemmas.{comes_close}
 use Rattle.step_splitter.specs.declared.refitting.RefitMode.TheVariants as mode

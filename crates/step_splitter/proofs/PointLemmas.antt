@@ -1,5 +1,5 @@
 -- Sizes of moves, and needle points as limits on each axis.
-use Rattle.std.proofs.Common.{◌≡◌, ◌≢◌, ℕ, ℤ, ◌+◌, ◌≤◌, ◌-ℤ◌, arith}
+use Rattle.std.proofs.Common.{◌≢◌, ◌≤◌, arith}
 use Rattle.step_splitter.proofs.Names.{nat_tests, le-max_left, le-max_right, Point, move_between, move_size, same_point}
 use Rattle.lists_and_numbers.proofs.CallerLemmas.{no_difference}
 

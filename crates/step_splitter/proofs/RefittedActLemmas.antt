@@ -1,5 +1,5 @@
 -- The commands of refitted acts have these acts again.
-use Rattle.std.proofs.Common.{arith, ◌≡◌, ℕ, ◌+◌, Bool, true, false, not, ◌&&◌, List, [], ◌∷◌, ◌++◌, refl, ◌∙◌}
+use Rattle.std.proofs.Common.{arith, ◌≡◌, ℕ, ◌+◌, Bool, true, false, not, ◌&&◌, List, [], ◌∷◌, ◌++◌, refl}
 use Rattle.step_splitter.proofs.Names.{nat_tests, if◌then◌else◌, Act, Command, Point, acts_along, acts_without_numbers, origin, RefitMode, commands_of_acts, needles_at, refitted_acts, refitted_from, acts_from}
 use Rattle.design_model.specs.declared.act.Act.TheVariants as act
 use Rattle.design_model.specs.declared.command.Command.TheVariants as command

@@ -1,6 +1,6 @@
 -- Floats are never refused.
-use Rattle.std.proofs.Common.{◌≡◌, ℕ, Bool, true, false, List, [], ◌∷◌, Option, None, Some, Err, nat_lt, refl, arith}
-use Rattle.stitch_text.proofs.Names.{nat_tests, ints, Act, NumberedAct, MAX_COMMANDS, acts_of, WriteFault, EncoderState, initial_encoder_state, first_refusal, refusal_before_room, refusal_of_act, first_refusal_from, refusal_if, encoder_state_after, unless_refused, LIMIT, NoFloatIsTooLong, list_of, list_write_limits, or_else}
+use Rattle.std.proofs.Common.{◌≡◌, Bool, true, false, List, [], ◌∷◌, Option, None, Some, Err, nat_lt, refl, arith}
+use Rattle.stitch_text.proofs.Names.{nat_tests, ints, NumberedAct, MAX_COMMANDS, acts_of, WriteFault, EncoderState, initial_encoder_state, first_refusal, refusal_before_room, refusal_of_act, first_refusal_from, refusal_if, encoder_state_after, unless_refused, LIMIT, NoFloatIsTooLong, list_of, list_write_limits, or_else}
 use Rattle.format_traits.specs.declared.fault.WriteFault.TheVariants as fault
 
 -- the refusal is not that of a float

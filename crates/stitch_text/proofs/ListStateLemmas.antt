@@ -1,8 +1,7 @@
 -- The results of the bytes of a list that are taken line by line.
-use Rattle.std.proofs.Common.{◌≡◌, ◌≢◌, ℕ, ◌+◌, ◌-◌, ◌<◌, ◌≤◌, List, [], ◌∷◌, ◌++◌, length, drop, refl, ap, sym, ◌∙◌, arith}
-use Rattle.stitch_text.proofs.Names.{nat_tests, drop-drop, drop_all, ContinuesAs, ListDraft, ListStage, stage_after_long_line, max_waiting_in, parsed_parts, list_state_at, ParsedList, loaded_of_parsed, parts_between, some_part, length-drop, DecodedSoFar, DecoderState, TakesBytes, TakesLine, TakesLines, list_so_far_at}
-use Rattle.stitch_text.proofs.PartLemmas.{open_part, parts_on}
-use Rattle.stitch_text.proofs.StageLemmas.{goes_beyond}
+use Rattle.std.proofs.Common.{◌≡◌, ◌≢◌, ℕ, ◌+◌, ◌-◌, List, [], ◌∷◌, ◌++◌, length, drop, refl, ap, sym, ◌∙◌, arith}
+use Rattle.stitch_text.proofs.Names.{nat_tests, drop-drop, ContinuesAs, ListDraft, ListStage, parsed_parts, list_state_at, ParsedList, loaded_of_parsed, parts_between, some_part, length-drop, DecodedSoFar, DecoderState, TakesBytes, TakesLine, TakesLines}
+use Rattle.stitch_text.proofs.PartLemmas.{parts_on}
 
 -- a line that has ended is taken
 pub line_on : (old : DecoderState) (draft new : ListDraft) (was now : ListStage) (start at there : ℕ) (whole rest line after : List ℕ)

@@ -12,11 +12,11 @@ pub use Rattle.std.proofs.lemmas.List.Sums.{AllPass-from_list_all, list_all-from
 pub use Rattle.std.proofs.lemmas.Option.{get_or_from_slice_get, none-some, same_Some, slice_get-get_or}
 pub use Rattle.std.proofs.lemmas.Slice.Eq.{bytes_eq-Decides, strip_suffix_is}
 pub use Rattle.std.specs.Fmt.{signed_decimal}
-pub use Rattle.std.specs.List.{join_with_byte, list_all, onto_first}
+pub use Rattle.std.specs.List.{join_with_byte, list_all}
 pub use Rattle.design_model.specs.ActPositions.{is_act_in_range, leaves_thread_loose, needle_position_after}
 pub use Rattle.design_model.specs.Acts.{acts_along, acts_from, acts_of, acts_without_numbers, numbered}
 pub use Rattle.design_model.specs.Designs.{DesignValue, KeepsLimits, empty_design, thread_of, with_label}
-pub use Rattle.design_model.specs.Labels.{IsLabel, IsPrintable}
+pub use Rattle.design_model.specs.Labels.{IsLabel}
 pub use Rattle.design_model.specs.Points.{is_point_within, move_between, move_size, origin}
 pub use Rattle.design_model.specs.declared.act.Act.{Act}
 pub use Rattle.design_model.specs.declared.act.NumberedAct.{NumberedAct}
@@ -44,8 +44,8 @@ pub use Rattle.stitch_text.specs.Laws.{HasLabelAndThreads, IsTextOf, LabelAndThr
 pub use Rattle.stitch_text.specs.Laws.{ReadsWhereWritten}
 pub use Rattle.stitch_text.specs.ListLines.{in_brackets, needle_word, parsed_block, parsed_label, parsed_list_line, parsed_list_word}
 pub use Rattle.stitch_text.specs.ListLines.{parsed_list_words, parsed_needle}
-pub use Rattle.stitch_text.specs.ListStages.{TakesLine, TakesLines, blank_draft, fault_at_end, is_at_acts, is_before_acts, list_so_far_at}
-pub use Rattle.stitch_text.specs.ListStages.{list_state_at, max_waiting_in, parsed_parts, stage_after_long_line}
+pub use Rattle.stitch_text.specs.ListStages.{TakesLine, TakesLines, blank_draft, fault_at_end, is_at_acts, is_before_acts, list_state_at}
+pub use Rattle.stitch_text.specs.ListStages.{max_waiting_in, parsed_parts, stage_after_long_line}
 pub use Rattle.stitch_text.specs.Readings.{ParsedList, after_block_line, after_label_line, after_signature_line, begun_draft}
 pub use Rattle.stitch_text.specs.Readings.{continued_with, ended_list, is_end_line, list_moves, list_reads, list_shown, loaded_of_parsed}
 pub use Rattle.stitch_text.specs.Readings.{loaded_unless_fault, parsed_acts, parsed_end_or_line, parsed_from_block, parsed_from_label}

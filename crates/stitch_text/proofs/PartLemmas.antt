@@ -1,6 +1,6 @@
 -- The parts of bytes between marks, taken one after another.
-use Rattle.std.proofs.Common.{◌≡◌, ◌≢◌, ℕ, Bool, cond, List, [], ◌∷◌, ◌++◌, ap, ◌∙◌, arith}
-use Rattle.stitch_text.proofs.Names.{nat_tests, ints, parts_between, some_part, onto_first}
+use Rattle.std.proofs.Common.{◌≡◌, ℕ, List, [], ◌∷◌, ◌++◌, ap, ◌∙◌, arith}
+use Rattle.stitch_text.proofs.Names.{nat_tests, parts_between, some_part}
 
 -- the last part goes on
 abbrev pub onto_part : List ℕ → List (List ℕ) → List (List ℕ)

@@ -1,6 +1,6 @@
 -- What is written reads back.
-use Rattle.std.proofs.Common.{◌≡◌, ℕ, ◌+◌, ◌<◌, ◌≤◌, ◌%◌, ◌==◌, Bool, true, false, not, ◌&&◌, IsTrue, IsOkAnd, List, [], ◌∷◌, ◌++◌, Some, None, Result, Ok, Err, length, nat_le, if◌then◌else◌, refl, ap, sym, ◌∙◌, subst, append-nil, append_assoc, arith}
-use Rattle.stitch_text.proofs.Names.{ints, and_from, and_parts, nat_tests, list_all-append, slice_split_at, list_all, Act, NumberedAct, Command, is_act_in_range, leaves_thread_loose, acts_along, acts_of, acts_without_numbers, DesignValue, KeepsLimits, empty_design, thread_of, with_label, is_point_within, origin, ReadFault, Loaded, AcceptedIsWithinLimits, HasSameActs, initial_encoder_state, first_refusal, is_above_max, refusal_of_act, first_refusal_from, encoder_state_after, stops_in, ListDraft, ListLine, LIMIT, list_meaning, fault_of_act, list_commands_of, draft_after_line, draft_with_checked_act, unless_fault, with_act, with_block_thread, ParsedList, parsed_acts, begun_draft, is_end_line, loaded_of_parsed, stitch_moves_of, parsed_text, parsed_thread, act_line, act_lines, list_block_line, signature_line, label_line, list_of, list_write_limits, has_trailing_space, is_valid_label, is_printable, parts_between, are_told, is_told, or_else_none, is_line_byte, IsCodec, told}
+use Rattle.std.proofs.Common.{◌≡◌, ℕ, ◌+◌, ◌≤◌, ◌%◌, ◌==◌, Bool, true, false, not, ◌&&◌, IsTrue, IsOkAnd, List, [], ◌∷◌, ◌++◌, Some, None, Result, Ok, Err, length, nat_le, if◌then◌else◌, refl, ap, sym, ◌∙◌, subst, append-nil, append_assoc, arith}
+use Rattle.stitch_text.proofs.Names.{ints, and_from, and_parts, nat_tests, list_all-append, slice_split_at, list_all, Act, NumberedAct, Command, is_act_in_range, leaves_thread_loose, acts_along, acts_of, acts_without_numbers, DesignValue, KeepsLimits, empty_design, thread_of, with_label, is_point_within, origin, ReadFault, Loaded, AcceptedIsWithinLimits, HasSameActs, initial_encoder_state, first_refusal, is_above_max, refusal_of_act, first_refusal_from, encoder_state_after, stops_in, ListDraft, ListLine, LIMIT, list_meaning, fault_of_act, list_commands_of, draft_after_line, draft_with_checked_act, unless_fault, with_act, with_block_thread, ParsedList, parsed_acts, begun_draft, loaded_of_parsed, stitch_moves_of, parsed_text, parsed_thread, act_line, act_lines, list_block_line, signature_line, label_line, list_of, list_write_limits, has_trailing_space, is_valid_label, is_printable, parts_between, are_told, is_told, or_else_none, is_line_byte, IsCodec, told}
 use Rattle.design_model.specs.declared.act.Act.TheVariants as act
 use Rattle.format_traits.specs.declared.fault.ReadFault.TheVariants as read
 use Rattle.stitch_text.specs.declared.list_line.ListLine.TheVariants as line

@@ -1,6 +1,6 @@
 -- The parsed list from a stage on, where the first line is incomplete.
-use Rattle.std.proofs.Common.{◌≡◌, ◌≢◌, ℕ, ◌+◌, ◌<◌, ◌≤◌, Bool, false, List, [], ◌∷◌, ◌++◌, Option, None, Some, bytes_eq, length, length-append, if◌then◌else◌, refl, ap, arith}
-use Rattle.stitch_text.proofs.Names.{nat_tests, ints, bytes_eq-Decides, ListDraft, ListStage, parsed_label, parsed_list_line, parsed_list_words, stage_after_long_line, fault_at_end, max_waiting_in, parsed_parts, ended_list, refused_list, signature_line, words_in, lt-ltb}
+use Rattle.std.proofs.Common.{◌≡◌, ◌≢◌, ℕ, ◌+◌, ◌<◌, Bool, List, [], ◌∷◌, ◌++◌, Option, None, Some, bytes_eq, length, length-append, if◌then◌else◌, refl, ap, arith}
+use Rattle.stitch_text.proofs.Names.{nat_tests, bytes_eq-Decides, ListDraft, ListStage, parsed_label, parsed_list_line, parsed_list_words, stage_after_long_line, max_waiting_in, parsed_parts, ended_list, refused_list, words_in, lt-ltb}
 use Rattle.format_traits.specs.declared.fault.ReadFault.TheVariants as read
 use Rattle.stitch_text.specs.declared.list_stage.ListStage.TheVariants as stage
 use Rattle.stitch_text.proofs.LabelLemmas.{label_from, label_is}

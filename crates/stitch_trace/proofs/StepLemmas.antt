@@ -1,6 +1,6 @@
 -- Each segment of a traced drawing is one step.
 use Rattle.std.proofs.Common.{◌≡◌, ℕ, ◌+◌, ◌/◌, ◌%◌, ◌==◌, ◌≤◌, min, Bool, true, false, ◌&&◌, List, [], ◌∷◌, None, Result, Ok, Err, ap, sym, subst, ◌∙◌, refl, arith}
-use Rattle.stitch_trace.proofs.Names.{mul-le-mul_right, nat_tests, div_ceil_times, list_all-append, list_all, NumberedAct, Point, acts_of, blocks_of, DesignValue, SectionsKeepSegments, DrawKind, DrawingValue, block_added, line_added, joined_drawing, steps_of, Link, NeedleMove, Stay, Gap, Sewn, Strand, TraceFault, new_links_of, new_moves_of, drawn_block_count, in_block, is_one_step, sewn_links, first_too_long, link_size, links_in, needle_moves_of, chains_added, drawing_with_strands, with_limit_fault, and_then_trace, trace_step, strand_added, strands_added, strands_of, LinksAreSteps}
+use Rattle.stitch_trace.proofs.Names.{mul-le-mul_right, nat_tests, div_ceil_times, list_all-append, list_all, NumberedAct, Point, acts_of, blocks_of, SectionsKeepSegments, DrawKind, DrawingValue, block_added, line_added, steps_of, Link, NeedleMove, Stay, Gap, Sewn, Strand, TraceFault, new_links_of, new_moves_of, drawn_block_count, in_block, is_one_step, sewn_links, first_too_long, link_size, links_in, needle_moves_of, chains_added, drawing_with_strands, with_limit_fault, and_then_trace, trace_step, strand_added, strands_added, strands_of, LinksAreSteps}
 use Rattle.stitch_trace.proofs.CountLemmas.{least_step, step_parts}
 use Rattle.stitch_trace.proofs.DrawnLemmas.{block_is, finished_is, goes_on, line_is, links_drawn, ok_same}
 use Rattle.stitch_trace.proofs.FitLemmas.{AreSteps, BlockSteps, IsStep, acts_in_range, each_block_steps, moves_are_steps, new_are_steps, one_step}

@@ -1,6 +1,6 @@
 -- The events that written records are decoded as.
-use Rattle.std.proofs.Common.{◌≡◌, ◌≢◌, ℕ, ◌+◌, min, pos, negsuc, true, IsTrue, List, [], ◌∷◌, ◌++◌, Some, inr, ◌==◌, if◌then◌else◌, refl, ap, ◌∙◌, arith}
-use Rattle.dst_codec.proofs.Names.{nat_tests, ints, Point, is_point_within, origin, Records, next, LIMIT, dst_records_from, dst_stitch_record, dst_jump_record, dst_end_record, dst_encoding, dst_write_limits, over, EncodedEvents, DecodesEncoding}
+use Rattle.std.proofs.Common.{◌≡◌, ℕ, ◌+◌, min, pos, negsuc, true, IsTrue, List, [], ◌∷◌, ◌++◌, Some, inr, ◌==◌, if◌then◌else◌, refl, ap, ◌∙◌, arith}
+use Rattle.dst_codec.proofs.Names.{nat_tests, Point, is_point_within, origin, Records, next, LIMIT, dst_records_from, dst_stitch_record, dst_jump_record, dst_end_record, dst_encoding, dst_write_limits, over, EncodedEvents, DecodesEncoding}
 use Rattle.record_formats.specs.declared.event.Event.TheVariants as event
 use Rattle.dst_codec.specs.declared.record_kind.RecordKind.TheVariants as kind
 use Rattle.dst_codec.proofs.RunLemmas.{record_reads}

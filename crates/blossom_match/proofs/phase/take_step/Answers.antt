@@ -1,5 +1,5 @@
 use Rattle.blossom_match.specs.declared.search.SearchStep.TheVariants as step
-use Rattle.std.proofs.Common.{arith, [], ◌∷◌, ℕ, ◌-◌, drop, subst, sym, take, ◌∙◌}
+use Rattle.std.proofs.Common.{arith, ℕ, ◌-◌, drop, subst, sym, take, ◌∙◌}
 use Rattle.blossom_match.proofs.Names.{length-map, AddsOuterSlacks, branch_in, branches_in, match_in, search_value, stored_height, Advances, CanStepAt, SearchStep}
 use Rattle.blossom_match.proofs.OuterSlackLemmas.{grown_past, grown_size}
 use Rattle.blossom_match.proofs.LoweredLemmas.{apart_more, is_reachable, one_more, steps_at}

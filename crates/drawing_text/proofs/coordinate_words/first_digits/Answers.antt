@@ -1,4 +1,4 @@
-use Rattle.std.proofs.Common.{◌≡◌, true, ap, subst, sym, ◌∙◌}
+use Rattle.std.proofs.Common.{◌≡◌, true, ap, subst, ◌∙◌}
 use Rattle.drawing_text.proofs.Names.{all_ascii_digits, digits_value}
 use Rattle.drawing_text.proofs.CoordinateLemmas.{first_five}
 use Rattle.drawing_text.proofs.coordinate_words.first_digits.Goals as goal

@@ -1,5 +1,5 @@
 use Rattle.std.proofs.Common.{◌≡◌, arith, rules}
-use Rattle.dst_codec.proofs.Names.{plus_bit, minus_bit, biased_number, nat_tests}
+use Rattle.dst_codec.proofs.Names.{biased_number, nat_tests}
 use Rattle.dst_codec.proofs.TableLemmas.{fits_byte, third_shares}
 use Rattle.dst_codec.proofs.move_encoding.third_byte.Goals as goal
 

@@ -1,5 +1,5 @@
 use Rattle.std.proofs.Common.{◌∙◌, arith}
-use Rattle.euler_tour.proofs.Names.{graph_of, pass_counts, tour_end, tour_start, nat_tests}
+use Rattle.euler_tour.proofs.Names.{graph_of, nat_tests}
 use Rattle.euler_tour.proofs.LeftLemmas.{copies_fit}
 use Rattle.euler_tour.proofs.StepLemmas.{begins_fresh}
 use Rattle.euler_tour.proofs.TourLemmas.{begins_even}

@@ -1,4 +1,4 @@
-use Rattle.std.proofs.Common.{arith, ℕ}
+use Rattle.std.proofs.Common.{arith}
 use Rattle.odd_sets.proofs.Names.{parts_in}
 use Rattle.odd_sets.proofs.SlackRowLemmas.{row_is}
 use Rattle.odd_sets.proofs.blossom.fill.Goals as goal

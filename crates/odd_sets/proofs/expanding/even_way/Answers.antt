@@ -1,5 +1,5 @@
-use Rattle.std.proofs.Common.{arith, List, length, ◌<◌, ap, subst}
-use Rattle.odd_sets.proofs.Names.{nat_tests, count, members_in, PartHoldsAt, part_in, parts_in, BlossomPart}
+use Rattle.std.proofs.Common.{arith, List, length, ◌<◌, subst}
+use Rattle.odd_sets.proofs.Names.{nat_tests, PartHoldsAt, part_in, parts_in, BlossomPart}
 use Rattle.odd_sets.proofs.ListLemmas.{mapped_low}
 use Rattle.odd_sets.proofs.ReversalLemmas.{goes_on, goes_back, turned_places}
 use Rattle.odd_sets.proofs.expanding.even_way.Goals as goal

@@ -1,5 +1,5 @@
-use Rattle.std.proofs.Common.{arith, ap, length, List, ℕ, ◌++◌, ◌≡◌, ◌<◌, ◌∙◌, subst, sym}
-use Rattle.odd_sets.proofs.Names.{nat_tests, length-map, into_iter_items, count, members_in, IsRotated, matches_in, members_at, slacks_at, part_in, parts_at, parts_in, set_in, Match, BlossomPart}
+use Rattle.std.proofs.Common.{arith, ap, length, List, ◌++◌, ◌≡◌, ◌<◌, ◌∙◌, subst, sym}
+use Rattle.odd_sets.proofs.Names.{nat_tests, length-map, into_iter_items, IsRotated, matches_in, members_at, slacks_at, part_in, parts_at, parts_in, set_in, Match, BlossomPart}
 use Rattle.odd_sets.proofs.OpenLemmas.{made_blossom, opens_place, opens_blossom}
 use Rattle.odd_sets.proofs.SlotLemmas.{is_made, set_made}
 use Rattle.odd_sets.proofs.opening.open_at.Goals as goal

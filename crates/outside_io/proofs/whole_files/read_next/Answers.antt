@@ -1,4 +1,4 @@
-use Rattle.std.proofs.Common.{◌≡◌, ◌+◌, ◌<◌, ◌≤◌, ◌++◌, length, take, refl, sym, arith, length-append, rules}
+use Rattle.std.proofs.Common.{◌<◌, length, take, refl, sym, arith, length-append, rules}
 use Rattle.outside_io.proofs.Names.{length-take-le}
 use Rattle.outside_io.proofs.WholeFiles.{begins_more, longer_than, whole_at_end}
 use Rattle.outside_io.proofs.whole_files.read_next.Goals as goal

@@ -1,4 +1,4 @@
-use Rattle.std.proofs.Common.{◌≡◌, ◌≤◌, ◌+◌, ℕ, List, ◌++◌, ◌∙◌, length, take, ap, sym, subst, arith, length-append, rules}
+use Rattle.std.proofs.Common.{◌≡◌, ◌+◌, ℕ, List, ◌++◌, ◌∙◌, length, take, ap, sym, subst, arith, length-append, rules}
 use Rattle.outside_io.proofs.Names.{length-take-le, IsContentPrefix}
 use Rattle.outside_io.proofs.WholeAnswers.{decided}
 use Rattle.outside_io.proofs.WholeFiles.{stays_on}

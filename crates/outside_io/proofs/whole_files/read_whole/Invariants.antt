@@ -1,4 +1,4 @@
-use Rattle.std.proofs.Common.{◌≡◌, ℕ, ◌≤◌, List, Some, ◌+◌, ◌-◌, length, take}
+use Rattle.std.proofs.Common.{◌≡◌, ◌≤◌, ◌+◌, ◌-◌, length}
 use Rattle.outside_io.proofs.Names.{HasNoNewFault, IsFilePrefix}
 use Rattle.outside_io.proofs.whole_files.read_whole.Given as goal
 

@@ -1,4 +1,4 @@
-use Rattle.std.proofs.Common.{◌+◌, ◌++◌, ◌≡◌, ◌∷◌, [], map, rules, arith}
+use Rattle.std.proofs.Common.{◌+◌, ◌∷◌, [], map, rules, arith}
 use Rattle.std.proofs.lemmas.List.{append_assoc}
 use Rattle.step_splitter.proofs.Names.{range_with_len, point_on_segment, map-range_with_len_more}
 use Rattle.step_splitter.proofs.segment.put_ends.Goals as goal

@@ -1,5 +1,5 @@
 use Rattle.std.proofs.Common.{List, [], ◌∷◌, ◌++◌, ◌≡◌, ap, refl, ◌∙◌, arith}
-use Rattle.odd_sets.proofs.Names.{branch_in, part_in, parts_in, set_in, reversed_edge, TightEdge, BlossomPart, nat_tests}
+use Rattle.odd_sets.proofs.Names.{branch_in, part_in, parts_in, reversed_edge, TightEdge, BlossomPart, nat_tests}
 use Rattle.odd_sets.proofs.ChainLemmas.{chaining_left, chaining_right, chaining_aside, chaining_ends}
 use Rattle.odd_sets.proofs.ListLemmas.{mapped_last, mapped_two}
 use Rattle.odd_sets.proofs.ShrunkLemmas.{last_kept}

@@ -1,4 +1,4 @@
-use Rattle.std.proofs.Common.{◌≡◌, rules, arith}
+use Rattle.std.proofs.Common.{arith}
 use Rattle.outside_io.proofs.Names.{with_room, nat_tests}
 use Rattle.outside_io.proofs.EntryFiles.{file_in-with_room}
 use Rattle.outside_io.proofs.mem_store.MemStore.prepare.Goals as goal

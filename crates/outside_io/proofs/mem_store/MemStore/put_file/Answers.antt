@@ -1,4 +1,4 @@
-use Rattle.std.proofs.Common.{◌≡◌, rules, arith}
+use Rattle.std.proofs.Common.{arith}
 use Rattle.outside_io.proofs.Names.{with_file, nat_tests}
 use Rattle.outside_io.proofs.EntryFiles.{file_in-with_file, file_in-with_file_other}
 use Rattle.outside_io.proofs.mem_store.MemStore.put_file.Goals as goal

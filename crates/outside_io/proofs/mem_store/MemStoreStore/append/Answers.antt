@@ -1,5 +1,5 @@
-use Rattle.std.proofs.Common.{◌≡◌, ◌++◌, ◌∙◌, [], Some, ap, refl, rules, true, arith}
-use Rattle.std.specs.Option.{is_some, unwrap_or}
+use Rattle.std.proofs.Common.{◌≡◌, refl, rules, true, arith}
+use Rattle.std.specs.Option.{is_some}
 use Rattle.outside_io.proofs.Names.{file_in, with_content, nat_tests}
 use Rattle.outside_io.proofs.EntryFiles.{where_told, file_in-with_content, file_in-with_content_other}
 use Rattle.outside_io.proofs.mem_store.MemStoreStore.append.Goals as goal

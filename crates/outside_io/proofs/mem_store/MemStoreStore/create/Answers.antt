@@ -1,4 +1,4 @@
-use Rattle.std.proofs.Common.{◌≡◌, [], rules, arith}
+use Rattle.std.proofs.Common.{arith}
 use Rattle.outside_io.proofs.Names.{with_content, nat_tests}
 use Rattle.outside_io.proofs.EntryFiles.{where_told, file_in-with_content, file_in-with_content_other}
 use Rattle.outside_io.proofs.mem_store.MemStoreStore.create.Goals as goal
