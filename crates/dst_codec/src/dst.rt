@@ -26,7 +26,6 @@ pub const WRITE_LIMITS: WriteLimits = WriteLimits {
 };
 
 /// The parts of the DST format.
-#[derive(Clone, Copy)]
 pub struct DstCodec;
 
 impl Codec for DstCodec {

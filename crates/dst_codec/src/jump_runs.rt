@@ -13,7 +13,7 @@ use format_traits::ReadFault;
 use record_formats::{Event, NextRecord, RecordReader};
 
 /// The number of jump records in the unbroken run before the next record, counted up to three.
-#[derive(Clone, Copy)]
+#[derive(Drop)]
 pub struct JumpRun {
     pub jumps: u8,
 }

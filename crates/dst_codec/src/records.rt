@@ -17,7 +17,7 @@ const TRIM: [u8; 9] = [0x82, 0x41, 0x83, 0x82, 0x82, 0x83, 0x82, 0x41, 0x83];
 const STOP: [u8; 3] = [0, 0, 0xC3];
 
 /// The writer of the records of a file.
-#[derive(Clone, Copy)]
+#[derive(Drop)]
 pub struct DstWriter;
 
 impl RecordWriter for DstWriter {

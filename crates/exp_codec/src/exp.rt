@@ -13,7 +13,6 @@ use std::alloc::Global;
 pub const LIMIT: u32 = 127;
 
 /// The parts of the EXP format.
-#[derive(Clone, Copy)]
 pub struct ExpCodec;
 
 impl Codec for ExpCodec {

@@ -1,22 +1,16 @@
 ghost use Rattle.std.specs.Prelude.{◌≡◌, ◌≤◌, IsTrue, unsigned_abs};
 ghost use Rattle.design_model.specs.Points.{is_point_within};
-ghost use Rattle.exp_codec.specs.Writing.{byte_of_number, bytes_of_move};
+ghost use Rattle.exp_codec.specs.Writing.{byte_of_number, bytes_of_move, exp_encoding, exp_write_limits};
 ghost use Rattle.exp_codec.specs.declared.exp.TheConstants.{LIMIT};
 
 use crate::exp::LIMIT;
-use crate::units::{CONTROL, JUMP, STOP, TRIM, opposite};
+use crate::units::{CONTROL, JUMP, STOP, TRIM, Units, opposite};
 use design_model::Point;
 use format_traits::WriteLimits;
 use lists_and_numbers::{Bytes, Memory};
 use record_formats::RecordWriter;
 
-/// The writer of the units of a file.
-#[derive(Clone, Copy)]
-pub struct UnitWriter;
-
-impl RecordWriter for UnitWriter {
-    ghost use Rattle.exp_codec.specs.Writing.{exp_encoding, exp_write_limits};
-
+impl RecordWriter for Units {
     ghost encoding = { λ _. exp_encoding };
 
     ghost write_limits = { λ _. exp_write_limits };

@@ -1,7 +1,8 @@
 ghost use Rattle.std.specs.List.{list_all};
 ghost use Rattle.std.specs.Prelude.{◌≡◌, ◌≤◌, neg_ℤ, unsigned_abs, IsTrue, IfSome};
 ghost use Rattle.design_model.specs.Points.{is_point_within};
-ghost use Rattle.exp_codec.specs.Units.{event_of_control, signed_byte, exp_move_of};
+ghost use Rattle.exp_codec.specs.Reading.{exp_layout};
+ghost use Rattle.exp_codec.specs.Units.{event_of_control, signed_byte, exp_move_of, units_from};
 ghost use Rattle.record_formats.specs.Records.{moves_of_event};
 ghost use Rattle.record_formats.specs.declared.record_reader.TheConstants.{MAX_RECORD_MOVE};
 
@@ -24,14 +25,11 @@ pub const JUMP: u8 = 0x04;
 /// The second byte of a trim.
 pub const TRIM: u8 = 0x80;
 
-/// The reader of the units of a file.
-#[derive(Clone, Copy)]
+/// The reader and writer of the units of a file.
+#[derive(Drop)]
 pub struct Units;
 
 impl RecordReader for Units {
-    ghost use Rattle.exp_codec.specs.Reading.{exp_layout};
-    ghost use Rattle.exp_codec.specs.Units.{units_from};
-
     ghost layout = { exp_layout };
 
     ghost records = { λ _. units_from };

@@ -3,7 +3,7 @@ ghost use Rattle.exp_codec.specs.Writing.{exp_writes};
 ghost use Rattle.format_traits.specs.Laws.{KeepsLaws, EncodesTo};
 
 use crate::theorems::written_reads_again;
-use crate::unit_writer::UnitWriter;
+use crate::units::Units;
 use design_model::Design;
 use format_traits::WriteFault;
 use lists_and_numbers::Bytes;
@@ -17,6 +17,6 @@ pub fn write_file(alloc: Global, design: &Design) -> Result<Bytes, WriteFault>
 {
     written_reads_again();
     let mut file = Bytes::new(alloc);
-    ActRecords(UnitWriter).put_acts(&mut file, design.commands())?;
+    ActRecords(Units).put_acts(&mut file, design.commands())?;
     Ok(file)
 }

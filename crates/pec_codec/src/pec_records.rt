@@ -1,14 +1,11 @@
-use crate::block::{HEADER_LENGTH, LIMIT, MAX_STOPS};
+use crate::block::HEADER_LENGTH;
 use crate::header::read_header;
 use crate::record_decoding::decode_record;
-use crate::record_encoding::{put_jump, put_stitch, put_stop, put_trim};
-use design_model::{Design, Point};
-use format_traits::WriteLimits;
-use lists_and_numbers::{Bytes, Memory};
-use record_formats::{NextRecord, RecordReader, RecordWriter};
+use design_model::Design;
+use record_formats::{NextRecord, RecordReader};
 
 /// The reader and writer of the records of a block.
-#[derive(Clone, Copy)]
+#[derive(Drop)]
 pub struct PecRecords;
 
 impl RecordReader for PecRecords {
@@ -34,37 +31,5 @@ impl RecordReader for PecRecords {
     #[tactic(auto, using(crate::proofs::RecordLemmas::cuts_record))]
     fn next(&mut self, _at: u64, bytes: &[u8]) -> NextRecord {
         decode_record(bytes)
-    }
-}
-
-impl RecordWriter for PecRecords {
-    ghost use Rattle.pec_codec.specs.Writing.{pec_write_limits, pec_encoding};
-
-    ghost encoding = { λ _. pec_encoding };
-
-    ghost write_limits = { λ _. pec_write_limits };
-
-    fn write_limits(&self) -> WriteLimits {
-        WriteLimits {
-            limit: LIMIT,
-            float_hops: None,
-            stops: Some(MAX_STOPS),
-        }
-    }
-
-    fn put_stitch(&self, out: &mut Bytes, step: Point) -> Result<(), Memory> {
-        put_stitch(out, step)
-    }
-
-    fn put_jump(&self, out: &mut Bytes, step: Point) -> Result<(), Memory> {
-        put_jump(out, step)
-    }
-
-    fn put_trim(&self, out: &mut Bytes) -> Result<(), Memory> {
-        put_trim(out)
-    }
-
-    fn put_stop(&self, out: &mut Bytes, before: u32) -> Result<(), Memory> {
-        put_stop(out, before)
     }
 }

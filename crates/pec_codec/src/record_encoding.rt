@@ -1,12 +1,16 @@
 ghost use Rattle.std.specs.Prelude.{◌≡◌, ◌<◌, ◌≤◌, ◌*◌, ◌++◌, OnOk, IsTrue, unsigned_abs};
 ghost use Rattle.design_model.specs.Points.{is_point_within};
 ghost use Rattle.pec_codec.specs.Coordinates.{is_short_number, long_bytes_of, to_twos_complement};
-ghost use Rattle.pec_codec.specs.RecordBytes.{pec_jump_record, long_record, pec_stitch_record, pec_stop_record, pec_trim_record, stop_byte_of};
+ghost use Rattle.pec_codec.specs.RecordBytes.{long_record, stop_byte_of};
+ghost use Rattle.pec_codec.specs.Writing.{pec_encoding, pec_write_limits};
 ghost use Rattle.pec_codec.specs.declared.block.TheConstants.{LIMIT};
 
-use crate::block::LIMIT;
+use crate::block::WRITE_LIMITS;
+use crate::pec_records::PecRecords;
 use design_model::Point;
+use format_traits::WriteLimits;
 use lists_and_numbers::{Bytes, Memory};
+use record_formats::RecordWriter;
 
 /// The mark of a jump in the first byte of a coordinate.
 const JUMP: u8 = 0x10;
@@ -14,39 +18,35 @@ const JUMP: u8 = 0x10;
 /// The record of a trim: a move of (0, 0) with the mark of a trim.
 const TRIM: [u8; 4] = [0xA0, 0x00, 0xA0, 0x00];
 
-/// Appends the record of a stitch.
-pub fn put_stitch(out: &mut Bytes, step: Point) -> Result<(), Memory>
-    requires { IsTrue (is_point_within LIMIT step) }
-    ensures { OnOk result (out.new ≡ out.old ++ pec_stitch_record step) }
-{
-    if is_short(step.x) && is_short(step.y) {
-        out.append(&[short_byte(step.x), short_byte(step.y)])?;
-    } else {
-        put_long(out, 0, step)?;
+impl RecordWriter for PecRecords {
+    ghost encoding = { λ _. pec_encoding };
+
+    ghost write_limits = { λ _. pec_write_limits };
+
+    fn write_limits(&self) -> WriteLimits {
+        WRITE_LIMITS
     }
-    Ok(())
-}
 
-/// Appends the record of a jump.
-pub fn put_jump(out: &mut Bytes, step: Point) -> Result<(), Memory>
-    requires { IsTrue (is_point_within LIMIT step) }
-    ensures { OnOk result (out.new ≡ out.old ++ pec_jump_record step) }
-{
-    put_long(out, JUMP, step)
-}
+    fn put_stitch(&self, out: &mut Bytes, step: Point) -> Result<(), Memory> {
+        if is_short(step.x) && is_short(step.y) {
+            out.append(&[short_byte(step.x), short_byte(step.y)])?;
+        } else {
+            put_long(out, 0, step)?;
+        }
+        Ok(())
+    }
 
-/// Appends the record of a trim.
-pub fn put_trim(out: &mut Bytes) -> Result<(), Memory>
-    ensures { OnOk result (out.new ≡ out.old ++ pec_trim_record) }
-{
-    out.append(&TRIM)
-}
+    fn put_jump(&self, out: &mut Bytes, step: Point) -> Result<(), Memory> {
+        put_long(out, JUMP, step)
+    }
 
-/// Appends the record of a stop after `before` others.
-pub fn put_stop(out: &mut Bytes, before: u32) -> Result<(), Memory>
-    ensures { OnOk result (out.new ≡ out.old ++ pec_stop_record before) }
-{
-    out.append(&[0xFE, 0xB0, stop_byte(before)])
+    fn put_trim(&self, out: &mut Bytes) -> Result<(), Memory> {
+        out.append(&TRIM)
+    }
+
+    fn put_stop(&self, out: &mut Bytes, before: u32) -> Result<(), Memory> {
+        out.append(&[0xFE, 0xB0, stop_byte(before)])
+    }
 }
 
 /// Returns the last byte of a stop: 2 and 1 in turn.

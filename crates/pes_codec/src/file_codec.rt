@@ -15,7 +15,7 @@ use lists_and_numbers::Bytes;
 use pec_codec::LIMIT;
 use std::alloc::Global;
 
-impl<F: FileFormat + Drop> Codec for FileDecoder<F> {
+impl<F: FileFormat> Codec for FileDecoder<F> {
     type Decoder = FileDecoder<F>;
 
     ghost codec_meaning = { file_meaning F.kind };

@@ -10,13 +10,13 @@ use std::marker::PhantomData;
 
 /// The decoder of files whose block comes after a front.
 #[derive(Drop)]
-pub struct FileDecoder<F: FileFormat + Drop> {
+pub struct FileDecoder<F: FileFormat> {
     of: PhantomData<F>,
     block: RecordDecoder<PecRecords>,
     stage: FileStage,
 }
 
-impl<F: FileFormat + Drop> FileDecoder<F> {
+impl<F: FileFormat> FileDecoder<F> {
     ghost use Rattle.std.specs.Prelude.{◌≡◌, ◌+◌, ◌<◌, ◌^◌, IfOk, length};
     ghost use Rattle.format_traits.specs.DecoderStates.{TakesBytes};
     ghost use Rattle.pes_codec.specs.FileStates.{file_so_far_at, file_state_at, file_state_before_block, file_start_state};
@@ -91,7 +91,7 @@ impl<F: FileFormat + Drop> FileDecoder<F> {
     }
 }
 
-impl<F: FileFormat + Drop> Decoder for FileDecoder<F> {
+impl<F: FileFormat> Decoder for FileDecoder<F> {
     ghost use Rattle.pes_codec.specs.FileStates.{file_so_far_at, file_state_at, file_start_state};
     ghost use Rattle.pes_codec.specs.Fronts.{front_layout_of};
 

@@ -17,7 +17,6 @@ pub trait FileFormat {
 }
 
 /// PEC files.
-#[derive(Clone, Copy)]
 pub struct PecFiles;
 
 impl FileFormat for PecFiles {
@@ -29,7 +28,6 @@ impl FileFormat for PecFiles {
 }
 
 /// PES files.
-#[derive(Clone, Copy)]
 pub struct PesFiles;
 
 impl FileFormat for PesFiles {

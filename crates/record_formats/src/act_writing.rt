@@ -18,10 +18,10 @@ use format_traits::{
 use lists_and_numbers::{Bytes, Memory};
 
 /// The writer of acts as records.
-#[derive(Clone, Copy)]
-pub struct ActRecords<W: RecordWriter + Copy>(pub W);
+#[derive(Drop)]
+pub struct ActRecords<W: RecordWriter + Drop>(pub W);
 
-impl<W: RecordWriter + Copy> ActRecords<W> {
+impl<W: RecordWriter + Drop> ActRecords<W> {
     /// Appends the records of a design's acts, and returns the encoder's state after them. An act that the
     /// format cannot write is reported; the contents of `out` are not specified then.
     pub fn put_acts(
@@ -106,7 +106,7 @@ impl<W: RecordWriter + Copy> ActRecords<W> {
     }
 }
 
-impl<W: RecordWriter + Copy> ActWriter for ActRecords<W> {
+impl<W: RecordWriter + Drop> ActWriter for ActRecords<W> {
     ghost write_limits = { λ r. W.write_limits r.0 };
 
     ghost act_bytes = { λ r before act. concat
