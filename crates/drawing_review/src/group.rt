@@ -1,5 +1,5 @@
 ghost use Rattle.std.specs.List.{list_any};
-ghost use Rattle.std.specs.Prelude.{◌≡◌, ◌∷◌, [], IfOk, IfSome, IfNone};
+ghost use Rattle.std.specs.Prelude.{◌≡◌, IfOk};
 ghost use Rattle.drawing_review.specs.Groups.{AreInside};
 ghost use Rattle.drawing_review.specs.Queries.{is_match, query_frame};
 
@@ -69,34 +69,20 @@ pub fn frame_of(segments: &[LineSegment]) -> Frame
         top: 60_000,
         bottom: 0,
     };
-    let mut rest = segments;
-    while let Some((segment, after)) = first_segment(rest) {
+    for segment in segments {
         frame = frame.united(&segment.frame);
-        rest = after;
     }
     frame
-}
-
-fn first_segment(segments: &[LineSegment]) -> Option<(&LineSegment, &[LineSegment])>
-    ensures some { IfSome result (λ r. segments.now ≡ r.0.now ∷ r.1.now) }
-    ensures none { IfNone result (segments.now ≡ []) }
-{
-    match segments {
-        [first, after @ ..] => Some((first, after)),
-        [] => None,
-    }
 }
 
 fn has_match_among(segments: &[LineSegment], query: &Query, frame: &Frame) -> bool
     requires { frame.now ≡ query_frame query.now }
     ensures { result ≡ list_any (is_match query.now) segments.now }
 {
-    let mut rest = segments;
-    while let [segment, after @ ..] = rest {
+    for segment in segments {
         if is_matched(segment, query, frame) {
             return true;
         }
-        rest = after;
     }
     false
 }

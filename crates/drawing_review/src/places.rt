@@ -53,10 +53,8 @@ fn places_in(
         places ≡ flat_map (places_at step gap (flat_map (λ r. r) regions.now)) segments.now) }
 {
     let mut places = Places::new(alloc);
-    let mut rest = segments;
-    while let [segment, after @ ..] = rest {
+    for segment in segments {
         put_places(&mut places, step, gap, regions, segment)?;
-        rest = after;
     }
     Ok(places)
 }

@@ -71,12 +71,8 @@ fn groups(alloc: Global, some: &[LineSegment]) -> Result<Vec<Group>, Memory>
     ensures { IfOk result (λ groups. flat_map (λ g. g) groups.items ≡ some.now) }
 {
     let mut groups = Vec::new(alloc);
-    let mut rest = some;
-    while !rest.is_empty() {
-        let (next, after) = rest.split_at(rest.len().min(GROUP));
-        let group = Group::of(alloc, next)?;
-        groups.push(group)?;
-        rest = after;
+    for next in some.chunks(GROUP) {
+        groups.push(Group::of(alloc, next)?)?;
     }
     Ok(groups)
 }
@@ -86,12 +82,8 @@ pub fn regions(alloc: Global, some: &[LineSegment]) -> Result<Vec<Region>, Memor
     ensures { IfOk result (λ regions. flat_map (λ r. r) regions.items ≡ some.now) }
 {
     let mut regions = Vec::new(alloc);
-    let mut rest = some;
-    while !rest.is_empty() {
-        let (next, after) = rest.split_at(rest.len().min(REGION));
-        let region = Region::of(alloc, next)?;
-        regions.push(region)?;
-        rest = after;
+    for next in some.chunks(REGION) {
+        regions.push(Region::of(alloc, next)?)?;
     }
     Ok(regions)
 }
@@ -100,12 +92,10 @@ fn has_match_in(groups: &[Group], query: &Query, frame: &Frame) -> bool
     requires { frame.now ≡ query_frame query.now }
     ensures { result ≡ list_any (is_match query.now) (flat_map (λ g. g) groups.now) }
 {
-    let mut rest = groups;
-    while let [group, after @ ..] = rest {
+    for group in groups {
         if group.has_match(query, frame) {
             return true;
         }
-        rest = after;
     }
     false
 }
@@ -115,12 +105,10 @@ pub fn is_any(regions: &[Region], query: Query) -> bool
     ensures { result ≡ list_any (is_match query) (flat_map (λ r. r) regions.now) }
 {
     let frame = query.frame();
-    let mut rest = regions;
-    while let [region, after @ ..] = rest {
+    for region in regions {
         if region.has_match(&query, &frame) {
             return true;
         }
-        rest = after;
     }
     false
 }

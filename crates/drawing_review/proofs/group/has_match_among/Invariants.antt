@@ -1,10 +1,8 @@
-use Rattle.std.proofs.Common.{◌≡◌, length}
+use Rattle.std.proofs.Common.{◌≡◌, drop}
 use Rattle.drawing_review.proofs.Names.{list_any, is_match}
 use Rattle.drawing_review.proofs.group.has_match_among.Given as goal
 
 -- no segment so far matches, and the result depends on those that are left
-abbrev pub invariant-loop-rest : goal.invariant-loop-rest
-invariant-loop-rest l = list_any (is_match l.query) l.segments ≡ list_any (is_match l.query) l.rest
-
-abbrev pub decreases-loop-rest : goal.decreases-loop-rest
-decreases-loop-rest l = length l.rest
+abbrev pub invariant-loop-segment : goal.invariant-loop-segment
+invariant-loop-segment l = list_any (is_match l.query) l.segments
+    ≡ list_any (is_match l.query) (drop l.segment-index l.segments)

@@ -1,10 +1,8 @@
-use Rattle.std.proofs.Common.{◌≡◌, ◌++◌, length}
+use Rattle.std.proofs.Common.{◌≡◌, ◌++◌}
+use Rattle.std.specs.Slice.Iter.{chunks_rest}
 use Rattle.drawing_review.proofs.Names.{flat_map}
 use Rattle.drawing_review.proofs.region.regions.Given as goal
 
 -- the regions so far, and the segments that are left, are all
-abbrev pub invariant-loop-rest : goal.invariant-loop-rest
-invariant-loop-rest l = flat_map (λ g. g) l.regions.items ++ l.rest ≡ l.some
-
-abbrev pub decreases-loop-rest : goal.decreases-loop-rest
-decreases-loop-rest l = length l.rest
+abbrev pub invariant-loop-next : goal.invariant-loop-next
+invariant-loop-next l = flat_map (λ g. g) l.regions.items ++ chunks_rest l.next-iterator ≡ l.some
