@@ -26,14 +26,10 @@ pub known_pair_ends_at : (pair_ends_at two_pairs 2 ≡ 1)
 known_pair_ends_at = (refl, refl, refl)
 
 -- two steps in all, paid by four halves; two halves lie between any two places
-pub known_cost : pairs_cost star two_pairs ≡ 2
-known_cost = refl
-
-pub known_width : width_of four_moats ≡ 4
-known_width = refl
-
-pub known_load : moat_load four_moats 0 3 ≡ 2
-known_load = refl
+pub known_cost : (pairs_cost star two_pairs ≡ 2)
+    × (width_of four_moats ≡ 4)
+    × (moat_load four_moats 0 3 ≡ 2)
+known_cost = (refl, refl, refl)
 
 -- places 3, 5, 0 and 9 of one axis: the pairs from 3 to 0 and from 5 to 9 are 7 steps
 pub known_line : pairs_cost (record { places = 4; cells = 0 ∷ 2 ∷ 3 ∷ 6 ∷ 2 ∷ 0 ∷ 5 ∷ 4 ∷ 3 ∷ 5 ∷ 0 ∷ 9 ∷ 6 ∷ 4 ∷ 9 ∷ 0 ∷ [] })

@@ -21,14 +21,10 @@ pub known_extent_of_points : (extent_of_points (needle_points_of_acts (acts_alon
 known_extent_of_points = (refl, refl, refl)
 
 -- a width is measured from left to right, a height downwards
-pub known_width : extent_width (Some (record { min = place (negsuc 8) (negsuc 0); max = place (negsuc 1) (pos 12) })) ≡ 7
-known_width = refl
-
-pub known_height : extent_height (Some (record { min = place (negsuc 8) (negsuc 0); max = place (negsuc 1) (pos 12) })) ≡ 13
-known_height = refl
-
-pub known_none : extent_width None ≡ extent_height None
-known_none = refl
+pub known_width : (extent_width (Some (record { min = place (negsuc 8) (negsuc 0); max = place (negsuc 1) (pos 12) })) ≡ 7)
+    × (extent_height (Some (record { min = place (negsuc 8) (negsuc 0); max = place (negsuc 1) (pos 12) })) ≡ 13)
+    × (extent_width None ≡ extent_height None)
+known_width = (refl, refl, refl)
 
 -- a point has an extent
 pub known_some : IsExtentOrNone (place (pos 3) (pos 4) ∷ []) None → ⊥

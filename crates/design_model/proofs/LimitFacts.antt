@@ -8,11 +8,9 @@ use Rattle.design_model.specs.declared.point.TheConstants.{JUMP_LIMIT, NEEDLE_LI
 use Rattle.lists_and_numbers.specs.declared.whole_number.TheConstants.{MAX_WHOLE}
 
 -- how far a needle and a jump may reach on each axis
-pub known_needle : NEEDLE_LIMIT ≡ 30000
-known_needle = refl
-
-pub known_jump : JUMP_LIMIT ≡ 32767
-known_jump = refl
+pub known_coordinate_limits : (NEEDLE_LIMIT ≡ 30000)
+    × (JUMP_LIMIT ≡ 32767)
+known_coordinate_limits = (refl, refl)
 
 -- a stitch can be moved as far as a needle reaches and a jump farther, on each axis; a trim and a stop have no point
 abbrev far : Point
@@ -48,14 +46,10 @@ pub known_full : (d : DesignValue) → IsLabel d.label → length d.threads ≤ 
     → IsTrue (list_all is_command_in_range d.commands) → KeepsLimits d
 known_full d label threads count in_range = record { label = label; threads = threads; count = count; in_range = in_range }
 
-pub known_commands : MAX_COMMANDS ≡ 1000000
-known_commands = refl
-
-pub known_threads : MAX_THREADS ≡ 255
-known_threads = refl
-
-pub known_label : MAX_LABEL ≡ 16
-known_label = refl
+pub known_count_limits : (MAX_COMMANDS ≡ 1000000)
+    × (MAX_THREADS ≡ 255)
+    × (MAX_LABEL ≡ 16)
+known_count_limits = (refl, refl, refl)
 
 -- The maximum whole number of a text.
 pub known_whole : MAX_WHOLE ≡ 999999999

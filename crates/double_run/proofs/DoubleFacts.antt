@@ -54,11 +54,9 @@ pub known_unbound : without_ends (record tail { start = Some 1; end = Some 2 }) 
 known_unbound = refl
 
 -- it fits, and costs twice the 12 steps of the lines
-pub known_fit : is_fitting_walk (without_ends tail) there_and_back ≡ true
-known_fit = refl
-
-pub known_cost : walk_cost tail there_and_back ≡ 24
-known_cost = refl
+pub known_fit : (is_fitting_walk (without_ends tail) there_and_back ≡ true)
+    × (walk_cost tail there_and_back ≡ 24)
+known_fit = (refl, refl)
 
 -- a line that is passed twice forwards makes no double walk
 abbrev twice_forwards : List Pass

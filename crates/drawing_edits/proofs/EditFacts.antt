@@ -32,21 +32,17 @@ pub known_shifted_drawing : shifted_drawing (negsuc 9) (pos 100) sample
 known_shifted_drawing = refl
 
 -- a quarter turn, clockwise as seen
-pub known_turned_drawing : turned_drawing 1 sample
-    ≡ drawn (at (negsuc 2) (pos 0)) (at (pos 0) (pos 40)) (at (negsuc 8) (pos 40))
-known_turned_drawing = refl
-
-pub known_mirrored_drawing : mirrored_drawing axis.X sample
-    ≡ drawn (at (pos 0) (pos 3)) (at (negsuc 39) (pos 0)) (at (negsuc 39) (pos 9))
-known_mirrored_drawing = refl
+pub known_turned_drawing : (turned_drawing 1 sample
+    ≡ drawn (at (negsuc 2) (pos 0)) (at (pos 0) (pos 40)) (at (negsuc 8) (pos 40)))
+    × (mirrored_drawing axis.X sample
+    ≡ drawn (at (pos 0) (pos 3)) (at (negsuc 39) (pos 0)) (at (negsuc 39) (pos 9)))
+known_turned_drawing = (refl, refl)
 
 -- the middle of an extent: halves are rounded to the left and upwards
-pub known_middle : middle_of (Some (record { min = at (negsuc 6) (pos 2); max = at (pos 2) (pos 5) })) ≡ at (negsuc 2) (pos 3)
-known_middle = refl
-
-pub known_centred_drawing : centred_drawing sample
-    ≡ drawn (at (negsuc 19) (negsuc 0)) (at (pos 20) (negsuc 3)) (at (pos 20) (pos 5))
-known_centred_drawing = refl
+pub known_middle : (middle_of (Some (record { min = at (negsuc 6) (pos 2); max = at (pos 2) (pos 5) })) ≡ at (negsuc 2) (pos 3))
+    × (centred_drawing sample
+    ≡ drawn (at (negsuc 19) (negsuc 0)) (at (pos 20) (negsuc 3)) (at (pos 20) (pos 5)))
+known_middle = (refl, refl)
 
 -- what is drawn again as it is
 pub known_redrawn : redrawn sample ≡ Ok sample

@@ -21,11 +21,9 @@ abbrev square : DrawingValue
 square = drawn 30 (at 0 0 ∷ at 30 0 ∷ at 30 30 ∷ at 0 30 ∷ at 0 0 ∷ [])
 
 -- a side of the square is one step
-pub known_square : needles_of_line square 0 ≡ at 0 0 ∷ at 30 0 ∷ at 30 30 ∷ at 0 30 ∷ at 0 0 ∷ []
-known_square = refl
-
-pub known_square_cost : cost_of_line square 0 ≡ 4
-known_square_cost = refl
+pub known_square : (needles_of_line square 0 ≡ at 0 0 ∷ at 30 0 ∷ at 30 30 ∷ at 0 30 ∷ at 0 0 ∷ [])
+    × (cost_of_line square 0 ≡ 4)
+known_square = (refl, refl)
 
 -- three steps across and two down, each segment by itself
 pub known_steps : steps_of_line 10 (at 0 0 ∷ at 30 0 ∷ at 30 15 ∷ []) ≡ 5

@@ -10,11 +10,7 @@ pub known_move : LIMIT ≡ 121
 known_move = refl
 
 -- the jumps of a float, the stops of a file, and its header
-pub known_float : MAX_FLOAT_HOPS ≡ 3
-known_float = refl
-
-pub known_stops : MAX_STOPS ≡ 999
-known_stops = refl
-
-pub known_header : HEADER_LENGTH ≡ 512
-known_header = refl
+pub known_float : (MAX_FLOAT_HOPS ≡ 3)
+    × (MAX_STOPS ≡ 999)
+    × (HEADER_LENGTH ≡ 512)
+known_float = (refl, refl, refl)

@@ -17,17 +17,11 @@ pub known_dst_stitch_record : (dst_stitch_record (point (pos 121) (pos 0)) ≡ 0
 known_dst_stitch_record = (refl, refl, refl, refl, refl, refl)
 
 -- a jump of 100 to the right: 81 and 27 and 1, less 9
-pub known_jump : dst_jump_record (point (pos 100) (pos 0)) ≡ 0x09 ∷ 0x04 ∷ 0x87 ∷ []
-known_jump = refl
-
-pub known_trim : dst_trim_records ≡ (0x82 ∷ 0x41 ∷ 0x83 ∷ []) ∷ (0x82 ∷ 0x82 ∷ 0x83 ∷ []) ∷ (0x82 ∷ 0x41 ∷ 0x83 ∷ []) ∷ []
-known_trim = refl
-
-pub known_stop : dst_stop_record ≡ 0x00 ∷ 0x00 ∷ 0xC3 ∷ []
-known_stop = refl
-
-pub known_end : dst_end_record ≡ 0x00 ∷ 0x00 ∷ 0xF3 ∷ []
-known_end = refl
+pub known_jump : (dst_jump_record (point (pos 100) (pos 0)) ≡ 0x09 ∷ 0x04 ∷ 0x87 ∷ [])
+    × (dst_trim_records ≡ (0x82 ∷ 0x41 ∷ 0x83 ∷ []) ∷ (0x82 ∷ 0x82 ∷ 0x83 ∷ []) ∷ (0x82 ∷ 0x41 ∷ 0x83 ∷ []) ∷ [])
+    × (dst_stop_record ≡ 0x00 ∷ 0x00 ∷ 0xC3 ∷ [])
+    × (dst_end_record ≡ 0x00 ∷ 0x00 ∷ 0xF3 ∷ [])
+known_jump = (refl, refl, refl, refl)
 
 -- each bit of the table alone, by its byte: what it moves to the right and downwards
 pub known_dst_move_of : (dst_move_of 0x01 0 0 ≡ point (pos 1) (pos 0))

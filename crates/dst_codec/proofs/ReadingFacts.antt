@@ -75,12 +75,10 @@ pub known_dst_moves : (dst_moves (file (0x01 ∷ 0 ∷ 0x03 ∷ 0 ∷ 0 ∷ 0x43
 known_dst_moves = (refl, refl)
 
 -- a label ends before its spaces, and stands only after its name
-pub known_label : dst_label_of (codes "LA:Rose 1          " ++ 13 ∷ []) ≡ codes "Rose 1"
-known_label = refl
-
-pub known_no_label : map dst_label_of (codes "XX:Rose 1          " ∷ codes "LA;Rose 1          " ∷ codes "la:Rose 1          "
-    ∷ codes " LA:Rose 1         " ∷ []) ≡ [] ∷ [] ∷ [] ∷ [] ∷ []
-known_no_label = refl
+pub known_label : (dst_label_of (codes "LA:Rose 1          " ++ 13 ∷ []) ≡ codes "Rose 1")
+    × (map dst_label_of (codes "XX:Rose 1          " ∷ codes "LA;Rose 1          " ∷ codes "la:Rose 1          "
+    ∷ codes " LA:Rose 1         " ∷ []) ≡ [] ∷ [] ∷ [] ∷ [] ∷ [])
+known_label = (refl, refl)
 
 -- it has sixteen places
 pub known_long_label : dst_label_of (codes "LA:Roses of Damascus") ≡ codes "Roses of Damascu"

@@ -18,18 +18,14 @@ pub known_junction_across : (junction_across path 0 ≡ Some 7)
 known_junction_across = (refl, refl)
 
 -- the pass that starts at the last end goes back along the second line, the one that ends there forth
-pub known_pass_from : pass_from (20 ∷ 31 ∷ []) 3 ≡ record { line = 31; back = true }
-known_pass_from = refl
-
-pub known_pass_to : pass_to (20 ∷ 31 ∷ []) 3 ≡ record { line = 31; back = false }
-known_pass_to = refl
+pub known_pass_from : (pass_from (20 ∷ 31 ∷ []) 3 ≡ record { line = 31; back = true })
+    × (pass_to (20 ∷ 31 ∷ []) 3 ≡ record { line = 31; back = false })
+known_pass_from = (refl, refl)
 
 -- what is left of lines and ends
-pub known_times : pass_counts others_again ≡ 1 ∷ 4 ∷ 3 ∷ []
-known_times = refl
-
-pub known_less : decremented_at (1 ∷ 4 ∷ 3 ∷ []) 1 ≡ 1 ∷ 3 ∷ 3 ∷ []
-known_less = refl
+pub known_times : (pass_counts others_again ≡ 1 ∷ 4 ∷ 3 ∷ [])
+    × (decremented_at (1 ∷ 4 ∷ 3 ∷ []) 1 ≡ 1 ∷ 3 ∷ 3 ∷ [])
+known_times = (refl, refl)
 
 pub known_remaining_ends : (remaining_ends path (2 ∷ 1 ∷ []) 7 ≡ 3)
     × (remaining_ends path (2 ∷ 1 ∷ []) 4 ≡ 2)

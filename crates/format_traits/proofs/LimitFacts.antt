@@ -6,18 +6,14 @@ use Rattle.format_traits.specs.declared.format_object.TheConstants.{MIN_LIMIT, M
 use Rattle.format_traits.specs.declared.move_hops.TheConstants.{MAX_MOVE}
 
 -- the bytes that may wait for others, and those that may be fed
-pub known_pending : MAX_PENDING ≡ 528
-known_pending = refl
-
-pub known_fed : MAX_FED ≡ 67108864
-known_fed = refl
+pub known_pending : (MAX_PENDING ≡ 528)
+    × (MAX_FED ≡ 67108864)
+known_pending = (refl, refl)
 
 -- the least and the greatest limit that one move of a format may have
-pub known_least : MIN_LIMIT ≡ 121
-known_least = refl
-
-pub known_greatest : MAX_LIMIT ≡ 2047
-known_greatest = refl
+pub known_least : (MIN_LIMIT ≡ 121)
+    × (MAX_LIMIT ≡ 2047)
+known_least = (refl, refl)
 
 -- the greatest move between two needles
 pub known_move : MAX_MOVE ≡ 60000

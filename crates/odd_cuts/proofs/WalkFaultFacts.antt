@@ -37,14 +37,10 @@ back line = record { line = line; back = true }
 abbrev all_twice : List Pass
 all_twice = forth 0 ∷ back 0 ∷ forth 2 ∷ back 2 ∷ back 5 ∷ forth 5 ∷ []
 
-pub known_right : walk_fault closed all_twice ≡ None
-known_right = refl
-
-pub known_cost : walk_cost closed all_twice ≡ 12
-known_cost = refl
-
-pub known_fits : is_fitting_walk closed all_twice ≡ true
-known_fits = refl
+pub known_right : (walk_fault closed all_twice ≡ None)
+    × (walk_cost closed all_twice ≡ 12)
+    × (is_fitting_walk closed all_twice ≡ true)
+known_right = (refl, refl, refl)
 
 -- no line of the drawing but of the piece: the second line is none of it
 pub known_walk_fault : (walk_fault closed (forth 0 ∷ back 0 ∷ forth 1 ∷ []) ≡ Some (fault.Stranger 3))

@@ -79,11 +79,9 @@ known_no_costs = (refl, refl, refl, refl)
 pub known_terminals : (terminal_of ends 0 ≡ 0) × (terminal_of ends 1 ≡ 2)
 known_terminals = (refl, refl)
 
-pub known_piece_cost : piece_cost (theta None None) ≡ 19
-known_piece_cost = refl
-
-pub known_lines : lines_at_indexes (path None None) (1 ∷ 0 ∷ 1 ∷ []) ≡ 7 ∷ 4 ∷ 7 ∷ []
-known_lines = refl
+pub known_piece_cost : (piece_cost (theta None None) ≡ 19)
+    × (lines_at_indexes (path None None) (1 ∷ 0 ∷ 1 ∷ []) ≡ 7 ∷ 4 ∷ 7 ∷ [])
+known_piece_cost = (refl, refl)
 
 -- from the far end back to the first junction; the reversed indexes are no walk
 abbrev home : List Pass
@@ -98,8 +96,6 @@ known_path = record {
   costs = refl;
 }
 
-pub known_astray : walk_end_from (4 ∷ 7 ∷ []) (path None None).edges (Some 2) (pass 4 true ∷ pass 7 true ∷ []) ≡ None
-known_astray = refl
-
-pub known_walk_cost : walk_cost (star None None) (pass 1 true ∷ pass 5 true ∷ []) ≡ 4
-known_walk_cost = refl
+pub known_astray : (walk_end_from (4 ∷ 7 ∷ []) (path None None).edges (Some 2) (pass 4 true ∷ pass 7 true ∷ []) ≡ None)
+    × (walk_cost (star None None) (pass 1 true ∷ pass 5 true ∷ []) ≡ 4)
+known_astray = (refl, refl)

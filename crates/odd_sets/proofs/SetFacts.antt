@@ -28,14 +28,10 @@ matches = record { first = place 4 1; second = blossom; link = link 4 1 }
 abbrev keys : List DualSet → List ℕ
 keys bs = map (λ (b : DualSet). b.key) bs
 
-pub known_match_members : match_members matches ≡ 4 ∷ 1 ∷ 2 ∷ 3 ∷ 5 ∷ 6 ∷ []
-known_match_members = refl
-
-pub known_outer_members : outer_members (0 ∷ []) tree ≡ 4 ∷ 6 ∷ 0 ∷ []
-known_outer_members = refl
-
-pub known_inner_members : inner_members tree ≡ 1 ∷ 2 ∷ 3 ∷ 5 ∷ []
-known_inner_members = refl
+pub known_match_members : (match_members matches ≡ 4 ∷ 1 ∷ 2 ∷ 3 ∷ 5 ∷ 6 ∷ [])
+    × (outer_members (0 ∷ []) tree ≡ 4 ∷ 6 ∷ 0 ∷ [])
+    × (inner_members tree ≡ 1 ∷ 2 ∷ 3 ∷ 5 ∷ [])
+known_match_members = (refl, refl, refl)
 
 pub known_keys : (keys (inner_dual_sets tree) ≡ 9 ∷ 1 ∷ 2 ∷ 3 ∷ 5 ∷ [])
     -- the root, the tree and the matches, in each the sets inside the blossom as well
@@ -52,17 +48,11 @@ pub known_members_in : members_in (part (place 4 1) 4 1 ∷ part blossom 1 4 ∷
 known_members_in = refl
 
 -- what the blossom's sets add up to
-pub known_uses : key_count 2 (dual_sets blossom) ≡ 1
-known_uses = refl
-
-pub known_height : height 2 (dual_sets blossom) ≡ 12
-known_height = refl
-
-pub known_total : total (dual_sets blossom) ≡ 22
-known_total = refl
-
-pub known_load : dual_load 1 3 (dual_sets blossom) ≡ 10
-known_load = refl
+pub known_uses : (key_count 2 (dual_sets blossom) ≡ 1)
+    × (height 2 (dual_sets blossom) ≡ 12)
+    × (total (dual_sets blossom) ≡ 22)
+    × (dual_load 1 3 (dual_sets blossom) ≡ 10)
+known_uses = (refl, refl, refl, refl)
 
 -- a place of dual 2 under the key 7 is alone in a set of dual 3 under the key 8, that alone in the set of key 9
 abbrev inside : ℕ → ℕ → BlossomPart

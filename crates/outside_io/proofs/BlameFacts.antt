@@ -11,11 +11,9 @@ abbrev Differ : ℕ → ℕ → Type 0
 Differ m n = m ≡ n → ⊥
 
 -- a read and a write of the name `a` (97)
-pub known_read : read_call (97 ∷ []) ≡ record { kind = kind.Read; name = 97 ∷ [] }
-known_read = refl
-
-pub known_write : write_call (97 ∷ []) ≡ record { kind = kind.Write; name = 97 ∷ [] }
-known_write = refl
+pub known_read : (read_call (97 ∷ []) ≡ record { kind = kind.Read; name = 97 ∷ [] })
+    × (write_call (97 ∷ []) ≡ record { kind = kind.Write; name = 97 ∷ [] })
+known_read = (refl, refl)
 
 -- two calls failed; the blame is the last one's
 pub known_noted : with_failed_call (with_failed_call no_faults (read_call (97 ∷ []))) (write_call (98 ∷ []))

@@ -94,11 +94,9 @@ unfolding sink
 known_refused = refl
 
 -- the first call of a new store and the first put of a new sink have the number 1, and the sink has its room
-pub known_first : is_next_call_listed (1 ∷ []) empty_store.calls ≡ true
-known_first = refl
-
-pub known_first_put : put_fails (record (empty_sink 2) { failing = 1 ∷ [] }) [] ≡ true
-known_first_put = refl
+pub known_first : (is_next_call_listed (1 ∷ []) empty_store.calls ≡ true)
+    × (put_fails (record (empty_sink 2) { failing = 1 ∷ [] }) [] ≡ true)
+known_first = (refl, refl)
 
 pub known_room_of_sink : (put_fails (empty_sink 2) (5 ∷ 6 ∷ []) ≡ false) × (put_fails (empty_sink 2) (5 ∷ 6 ∷ 7 ∷ []) ≡ true)
 known_room_of_sink = (refl, refl)

@@ -25,12 +25,8 @@ pub known_short : (map (λ byte. leading_coordinate (byte ∷ [])) (0x00 ∷ 0x1
     ≡ (0x3E ∷ 0x41 ∷ []) ∷ (0x80 ∷ 0x3F ∷ 0x80 ∷ 0x00 ∷ []) ∷ [])
 known_short = (refl, refl, refl, refl, refl, refl, refl, refl)
 
-pub known_jump : pec_jump_record (record { x = pos 300; y = negsuc 0 }) ≡ 0x91 ∷ 0x2C ∷ 0x9F ∷ 0xFF ∷ []
-known_jump = refl
-
-pub known_trim : pec_trim_record ≡ 0xA0 ∷ 0x00 ∷ 0xA0 ∷ 0x00 ∷ []
-known_trim = refl
-
-pub known_stops : map pec_stop_record (0 ∷ 1 ∷ 2 ∷ [])
-    ≡ (0xFE ∷ 0xB0 ∷ 0x02 ∷ []) ∷ (0xFE ∷ 0xB0 ∷ 0x01 ∷ []) ∷ (0xFE ∷ 0xB0 ∷ 0x02 ∷ []) ∷ []
-known_stops = refl
+pub known_jump : (pec_jump_record (record { x = pos 300; y = negsuc 0 }) ≡ 0x91 ∷ 0x2C ∷ 0x9F ∷ 0xFF ∷ [])
+    × (pec_trim_record ≡ 0xA0 ∷ 0x00 ∷ 0xA0 ∷ 0x00 ∷ [])
+    × (map pec_stop_record (0 ∷ 1 ∷ 2 ∷ [])
+    ≡ (0xFE ∷ 0xB0 ∷ 0x02 ∷ []) ∷ (0xFE ∷ 0xB0 ∷ 0x01 ∷ []) ∷ (0xFE ∷ 0xB0 ∷ 0x02 ∷ []) ∷ [])
+known_jump = (refl, refl, refl)

@@ -21,24 +21,20 @@ abbrev blocks : DesignValue
 blocks = sewn (Stitch (point (pos 0) (pos 0)) ∷ Stitch (point (pos 62) (negsuc 62)) ∷ Stitch (point (pos 125) (negsuc 62))
     ∷ Stop ∷ Stitch (point (pos 125) (negsuc 62)) ∷ Stop ∷ Stitch (point (pos 125) (negsuc 62)) ∷ [])
 
-pub known_square_body : pec_body_of square ≡ 0x00 ∷ 0x00 ∷ 0x1E ∷ 0x00 ∷ 0x00 ∷ 0x1E ∷ 0x62 ∷ 0x00 ∷ 0x00 ∷ 0x62
-    ∷ 0xA0 ∷ 0x00 ∷ 0xA0 ∷ 0x00 ∷ 0xFF ∷ []
-known_square_body = refl
-
-pub known_square_distance : distance_field (thumbnail_distance (pec_body_of square))
-    ≡ 0x00 ∷ 0x00 ∷ 0x1F ∷ 0x00 ∷ 0x00 ∷ 0x31 ∷ 0xFF ∷ 0xF0 ∷ []
-known_square_distance = refl
+pub known_square_body : (pec_body_of square ≡ 0x00 ∷ 0x00 ∷ 0x1E ∷ 0x00 ∷ 0x00 ∷ 0x1E ∷ 0x62 ∷ 0x00 ∷ 0x00 ∷ 0x62
+    ∷ 0xA0 ∷ 0x00 ∷ 0xA0 ∷ 0x00 ∷ 0xFF ∷ [])
+    × (distance_field (thumbnail_distance (pec_body_of square))
+    ≡ 0x00 ∷ 0x00 ∷ 0x1F ∷ 0x00 ∷ 0x00 ∷ 0x31 ∷ 0xFF ∷ 0xF0 ∷ [])
+known_square_body = (refl, refl)
 
 pub known_size_fields : (size_fields (extent_of square) ≡ 0x1E ∷ 0x00 ∷ 0x1E ∷ 0x00 ∷ 0xE0 ∷ 0x01 ∷ 0xB0 ∷ 0x01 ∷ [])
     × (size_fields (extent_of (sewn [])) ≡ 0x00 ∷ 0x00 ∷ 0x00 ∷ 0x00 ∷ 0xE0 ∷ 0x01 ∷ 0xB0 ∷ 0x01 ∷ [])
 known_size_fields = (refl, refl)
 
-pub known_blocks_body : pec_body_of blocks ≡ 0x00 ∷ 0x00 ∷ 0x3E ∷ 0x41 ∷ 0x80 ∷ 0x3F ∷ 0x80 ∷ 0x00 ∷ 0xFE ∷ 0xB0 ∷ 0x02
-    ∷ 0x00 ∷ 0x00 ∷ 0xFE ∷ 0xB0 ∷ 0x01 ∷ 0x00 ∷ 0x00 ∷ 0xFF ∷ []
-known_blocks_body = refl
-
-pub known_blocks_distance : thumbnail_distance (pec_body_of blocks) ≡ 0x23
-known_blocks_distance = refl
+pub known_blocks_body : (pec_body_of blocks ≡ 0x00 ∷ 0x00 ∷ 0x3E ∷ 0x41 ∷ 0x80 ∷ 0x3F ∷ 0x80 ∷ 0x00 ∷ 0xFE ∷ 0xB0 ∷ 0x02
+    ∷ 0x00 ∷ 0x00 ∷ 0xFE ∷ 0xB0 ∷ 0x01 ∷ 0x00 ∷ 0x00 ∷ 0xFF ∷ [])
+    × (thumbnail_distance (pec_body_of blocks) ≡ 0x23)
+known_blocks_body = (refl, refl)
 
 -- from -5 to 7 the width is 12, and from -6 to 300 the height is 306
 pub known_other_sizes : size_fields (extent_of (sewn (Stitch (point (negsuc 4) (pos 300)) ∷ Stitch (point (pos 7) (negsuc 5)) ∷ [])))
@@ -60,12 +56,10 @@ pub known_threads_in : (threads_in (codes "                                     
     × (threads_in (codes "                                                " ++ 1 ∷ 7 ∷ 8 ∷ 9 ∷ []) ≡ 7 ∷ 8 ∷ [])
 known_threads_in = (refl, refl)
 
-pub known_label : pec_label_of (codes "LA:Rose " ++ 1 ∷ codes "           ") ≡ codes "Rose ?"
-known_label = refl
-
-pub known_no_label : map pec_label_of (codes "LB:Rose            " ∷ codes "LA;Rose            " ∷ codes "la:Rose            "
-    ∷ codes " LA:Rose           " ∷ []) ≡ [] ∷ [] ∷ [] ∷ [] ∷ []
-known_no_label = refl
+pub known_label : (pec_label_of (codes "LA:Rose " ++ 1 ∷ codes "           ") ≡ codes "Rose ?")
+    × (map pec_label_of (codes "LB:Rose            " ∷ codes "LA;Rose            " ∷ codes "la:Rose            "
+    ∷ codes " LA:Rose           " ∷ []) ≡ [] ∷ [] ∷ [] ∷ [] ∷ [])
+known_label = (refl, refl)
 
 -- it has sixteen places
 pub known_long_label : pec_label_of (codes "LA:Roses of Damascus") ≡ codes "Roses of Damascu"
@@ -76,12 +70,10 @@ pub known_thumbnails : thumbnails_of 1 ≡ replicate 684 0
 known_thumbnails = refl
 
 -- a whole block: its header, its records and its thumbnails
-pub known_length : length (pec_block_of blocks) ≡ 528 + 19 + 4 * 228
-known_length = refl
-
-pub known_square_block : pec_block_of square ≡ labels_of square 0 ++ (replicate 462 32
-    ++ (distance_field 31 ++ (size_fields (extent_of square) ++ (pec_body_of square ++ replicate 456 0))))
-known_square_block = refl
+pub known_length : (length (pec_block_of blocks) ≡ 528 + 19 + 4 * 228)
+    × (pec_block_of square ≡ labels_of square 0 ++ (replicate 462 32
+    ++ (distance_field 31 ++ (size_fields (extent_of square) ++ (pec_body_of square ++ replicate 456 0)))))
+known_length = (refl, refl)
 
 -- a stitch of 2048 is refused
 pub known_long_stitch : pec_block_writes (sewn (Stitch (point (pos 0) (pos 0)) ∷ Stitch (point (pos 2048) (pos 0)) ∷ []))

@@ -35,11 +35,9 @@ pub known_pec_front : pec_front ≡ 0x23 ∷ 0x50 ∷ 0x45 ∷ 0x43 ∷ 0x30 ∷
 known_pec_front = refl
 
 -- where the block of a PEC file stands, and where the offset of a PES file ends
-pub known_block : PEC_BLOCK_OFFSET ≡ 8
-known_block = refl
-
-pub known_offset_end : OFFSET_END ≡ 12
-known_offset_end = refl
+pub known_block : (PEC_BLOCK_OFFSET ≡ 8)
+    × (OFFSET_END ≡ 12)
+known_block = (refl, refl)
 
 -- the four bytes after a signature are not looked at, whatever they are
 pub known_file_reads : (file_reads Pec (codes "#PECxyz!") ≡ Err (fault.Short 8))
@@ -80,21 +78,13 @@ abbrev target : Point
 target = record { x = pos 5; y = pos 7 }
 
 -- it stands at offset 8 of a PEC file, and here at 14 of a PES file
-pub known_pec_moves : file_moves Pec (codes "#PEC0001" ++ block) ≡ target ∷ []
-known_pec_moves = refl
-
-pub known_pec_shown : file_shown Pec (codes "#PEC0001" ++ block) ≡ Stitch target ∷ []
-known_pec_shown = refl
-
-pub known_pes_moves : file_moves Pes (codes "#PES0001" ++ 0x0E ∷ 0x00 ∷ 0x00 ∷ 0x00 ∷ 0x00 ∷ 0x00 ∷ block) ≡ target ∷ []
-known_pes_moves = refl
-
-pub known_pes_shown : file_shown Pes (codes "#PES0001" ++ 0x0E ∷ 0x00 ∷ 0x00 ∷ 0x00 ∷ 0x00 ∷ 0x00 ∷ block) ≡ Stitch target ∷ []
-known_pes_shown = refl
+pub known_pec_moves : (file_moves Pec (codes "#PEC0001" ++ block) ≡ target ∷ [])
+    × (file_shown Pec (codes "#PEC0001" ++ block) ≡ Stitch target ∷ [])
+    × (file_moves Pes (codes "#PES0001" ++ 0x0E ∷ 0x00 ∷ 0x00 ∷ 0x00 ∷ 0x00 ∷ 0x00 ∷ block) ≡ target ∷ [])
+    × (file_shown Pes (codes "#PES0001" ++ 0x0E ∷ 0x00 ∷ 0x00 ∷ 0x00 ∷ 0x00 ∷ 0x00 ∷ block) ≡ Stitch target ∷ [])
+known_pec_moves = (refl, refl, refl, refl)
 
 -- a file that isn't known moves and shows nothing
-pub known_other_moves : file_moves Pec (codes "#PES0001" ++ block) ≡ []
-known_other_moves = refl
-
-pub known_other_shown : file_shown Pec (codes "#PES0001" ++ block) ≡ []
-known_other_shown = refl
+pub known_other_moves : (file_moves Pec (codes "#PES0001" ++ block) ≡ [])
+    × (file_shown Pec (codes "#PES0001" ++ block) ≡ [])
+known_other_moves = (refl, refl)

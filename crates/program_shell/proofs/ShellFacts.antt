@@ -8,17 +8,11 @@ use Rattle.format_traits.specs.declared.fault.ReadFault.TheVariants as read
 use Rattle.program_shell.specs.FileTexts.{read_fault_text, too_long_text}
 
 -- what the outside did not do
-pub known_unread : cannot_read_line (codes "stitch") (codes "a") ≡ codes "stitch: cannot read a" ++ newline
-known_unread = refl
-
-pub known_unwritten : cannot_write_line (codes "stitch") (codes "a") ≡ codes "stitch: cannot write a" ++ newline
-known_unwritten = refl
-
-pub known_unprinted : cannot_print_line (codes "stitch") ≡ codes "stitch: cannot print" ++ newline
-known_unprinted = refl
-
-pub known_memory : out_of_memory_line (codes "stitch") ≡ codes "stitch: out of memory" ++ newline
-known_memory = refl
+pub known_unread : (cannot_read_line (codes "stitch") (codes "a") ≡ codes "stitch: cannot read a" ++ newline)
+    × (cannot_write_line (codes "stitch") (codes "a") ≡ codes "stitch: cannot write a" ++ newline)
+    × (cannot_print_line (codes "stitch") ≡ codes "stitch: cannot print" ++ newline)
+    × (out_of_memory_line (codes "stitch") ≡ codes "stitch: out of memory" ++ newline)
+known_unread = (refl, refl, refl, refl)
 
 -- the line of a refusal, after the name of the program
 pub known_refusal : message_line (codes "stitch") (too_long_text (codes "a"))

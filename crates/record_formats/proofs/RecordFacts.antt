@@ -13,11 +13,9 @@ abbrev pub point : ℤ → ℤ → Point
 point x y = record { x = x; y = y }
 
 -- the greatest move of a record, and the hops of the greatest move between two needles
-pub known_step : MAX_RECORD_MOVE ≡ 2048
-known_step = refl
-
-pub known_most_hops : MAX_HOPS ≡ 496
-known_most_hops = refl
+pub known_step : (MAX_RECORD_MOVE ≡ 2048)
+    × (MAX_HOPS ≡ 496)
+known_step = (refl, refl)
 
 -- the parts of -5 in two end at -3 and at -5
 pub known_parts : part_moves (point (negsuc 4) (pos 128)) 2
@@ -46,11 +44,9 @@ known_moves = refl
 abbrev pub too_far : Records
 too_far = next 7 (event.Jump (point (pos 30001) (pos 0))) (next 9 (event.Stitch (point (pos 0) (pos 0))) (refused (fault.Sequin 11)))
 
-pub known_range : file_commands too_far ≡ Err (fault.Range 9)
-known_range = refl
-
-pub known_moves_before : moves_of_records too_far ≡ point (pos 30001) (pos 0) ∷ []
-known_moves_before = refl
+pub known_range : (file_commands too_far ≡ Err (fault.Range 9))
+    × (moves_of_records too_far ≡ point (pos 30001) (pos 0) ∷ [])
+known_range = (refl, refl)
 
 -- where 999,999 commands are kept one more is taken and no second; each command of a record is judged for its
 -- range and then for the number of commands, before the next one is

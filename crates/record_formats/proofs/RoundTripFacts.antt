@@ -20,13 +20,12 @@ pub known_trims_once : (trims_once (event.Jump (point (pos 2) (pos 2)) ∷ event
 known_trims_once = (refl, refl, refl, refl)
 
 -- there and back is twice the way
-pub known_way : length_of_moves (moves_of_events (event.Jump (point (pos 2) (negsuc 4)) ∷ event.Trim ∷ event.Jump (point (negsuc 1) (pos 5))
-    ∷ [])) ≡ 10
-known_way = refl
-
-pub known_back : position_after_moves (point (pos 7) (pos 7)) (point (pos 2) (negsuc 4) ∷ point (negsuc 1) (pos 5) ∷ [])
-    ≡ point (pos 7) (pos 7)
-known_back = refl
+pub known_way :
+    (length_of_moves (moves_of_events (event.Jump (point (pos 2) (negsuc 4)) ∷ event.Trim ∷ event.Jump (point (negsuc 1) (pos 5))
+    ∷ [])) ≡ 10)
+    × (position_after_moves (point (pos 7) (pos 7)) (point (pos 2) (negsuc 4) ∷ point (negsuc 1) (pos 5) ∷ [])
+    ≡ point (pos 7) (pos 7))
+known_way = (refl, refl)
 
 -- a stop with a move is not in place
 pub known_is_stop_in_place : (is_stop_in_place (event.StopBy (point (pos 0) (pos 0))) ≡ true)

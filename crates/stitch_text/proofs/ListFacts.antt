@@ -18,11 +18,9 @@ abbrev pub sewn : List ℕ → List Command → DesignValue
 sewn threads commands = record { label = []; threads = threads; commands = commands }
 
 -- how far a stitch goes on each axis, in tenths of a millimetre, and the stops that may be written
-pub known_limit : LIMIT ≡ 2047
-known_limit = refl
-
-pub known_stops : MAX_STOPS ≡ 254
-known_stops = refl
+pub known_limit : (LIMIT ≡ 2047)
+    × (MAX_STOPS ≡ 254)
+known_limit = (refl, refl)
 
 -- a square of 30 in thread 5, and a trim
 abbrev pub square : DesignValue
