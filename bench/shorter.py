@@ -7,9 +7,10 @@ For each proof of two lines or more it tries `grind (arith, nat_tests, LEMMAS)`,
 an equation of a lemma, for an equation below a `where`, and for a lemma of several equations that doesn't recurse. With
 --answers it tries the answers of functions instead. One check tries all of them; those that it refuses are put back, until
 the crate is proved. Commit first, read the diff, and run `rt fmt`: where the old proof said more than a list of lemmas,
-keep it.
+keep it. A list that fits no row gets a row for each lemma, so a proof of few rows stays.
 """
 import glob
+import os
 import re
 import subprocess
 import sys
@@ -18,7 +19,7 @@ NAME = re.compile(r"[A-Za-z_][\w'’]*(?:-[\w'’]+)*")
 PATH = re.compile(r"(?<![\w.'’-])[A-Za-z_][\w'’-]*(?:\.[A-Za-z_0-9][\w'’-]*)*")
 SIGNATURE = re.compile(r"^(?:pub )?([A-Za-z_][^\s:({]*)\s*:(?=\s|$)")
 OTHER_ITEM = re.compile(r"^(?:pub )?(?:use|record|data|module|abbrev|open|unfolding)\b")
-IMPORT = re.compile(r"^use (Rattle\.\S+?)\.\{([^}]*)\}$")
+IMPORT = re.compile(r"^(?:pub )?use (Rattle\.\S+?)\.\{([^}]*)\}$")
 TACTICS = {"arith", "nat_tests", "ints", "refl", "sym", "ap", "subst", "rw", "cc", "omega", "grind", "absurd", "simp", "let",
            "in", "where", "elim", "if", "then", "else", "cond", "true", "false", "zero", "suc"}
 NEEDED = {"arith": "Rattle.std.proofs.Common", "nat_tests": "Rattle.std.proofs.lemmas.Bool.Decides"}
@@ -69,6 +70,22 @@ def split_equation(rows):
     return None, None
 
 
+def homes(rows):
+    """The module of each name that rows import."""
+    found = {}
+    for row in rows:
+        match = IMPORT.match(row)
+        for name in match.group(2).split(",") if match else ():
+            found[name.strip()] = match.group(1)
+    return found
+
+
+def passed_on():
+    """The module of each name that the crate's proofs import through proofs/Names.antt."""
+    path = os.path.join("proofs", "Names.antt")
+    return homes(open(path, encoding="utf-8").read().split("\n")) if os.path.exists(path) else {}
+
+
 class Proofs:
     """A file of proofs, and the proofs in it that may become shorter."""
 
@@ -76,11 +93,8 @@ class Proofs:
         self.path = path
         self.text = open(path, encoding="utf-8").read()
         self.rows = self.text.split("\n")
-        self.home = {}
-        for row in self.rows:
-            match = IMPORT.match(row)
-            for name in match.group(2).split(",") if match else ():
-                self.home[name.strip()] = match.group(1)
+        self.home = homes(self.rows)
+        self.home.update((name, home) for name, home in passed_on().items() if name in self.home)
         self.lemmas = {match.group(1) for match in map(SIGNATURE.match, self.rows) if match}
 
     def candidates(self):
@@ -161,16 +175,12 @@ class Proofs:
         line = left + " = grind (" + ", ".join(words) + ")"
         if len(line) <= WIDTH:
             return line.split("\n")
-        rows, blanks = (left + " =").split("\n"), " " * (len(left) - len(left.lstrip()) + 4)
-        rows.append(blanks + "grind (" + words[0])
-        for word in words[1:]:
-            if len(rows[-1]) + len(word) + 3 > WIDTH:
-                rows[-1] += ","
-                rows.append(blanks + "  " + word)
-            else:
-                rows[-1] += ", " + word
-        rows[-1] += ")"
-        return rows
+        blanks = " " * (len(left) - len(left.lstrip()) + 4)
+        call = blanks + "grind (" + ", ".join(words) + ")"
+        if len(call) <= WIDTH:
+            return (left + " =").split("\n") + [call]
+        # As `rt fmt` lays it out: a row for each word of a list that fits no row.
+        return (left + " =").split("\n") + [blanks + "grind ("] + [blanks + "  " + word + "," for word in words] + [blanks + ")"]
 
     def write(self, chosen):
         """Writes the file with the chosen candidates shortened, and returns the rows where each stands."""
