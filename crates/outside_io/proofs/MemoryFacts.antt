@@ -2,6 +2,8 @@
 -- three, and the name `b` (98) has room for two bytes and no file.
 use Rattle.std.proofs.Common.{◌≡◌, ℕ, List, [], ◌∷◌, Some, None, Ok, Err, true, false, refl, ap, arith, true≢false}
 use Rattle.outside_io.proofs.Names.{Failed, MemPuts, MemSinkValue, EntryValue, file_in, with_content, with_file, with_room, MemCreates, MemReads, MemStoreValue, empty_sink, put_fails, room_in, exceeds_room, with_bytes_appended, empty_store, is_next_call_listed}
+use Rattle.outside_io.specs.MemSinks.{put_failure_added}
+use Rattle.outside_io.specs.MemStores.{failure_added}
 
 pub two : List EntryValue
 two =
@@ -76,6 +78,13 @@ known_larger_room = refl
 pub known_is_next_call_listed : (is_next_call_listed (3 ∷ []) 2 ≡ true)
     × (is_next_call_listed (2 ∷ 4 ∷ []) 2 ≡ false)
 known_is_next_call_listed = (refl, refl)
+
+-- a number is added to those of the calls that shall fail
+pub known_failure : (failure_added (failure_added empty_store 3) 5).failing ≡ 3 ∷ 5 ∷ []
+known_failure = refl
+
+pub known_put_failure : (put_failure_added (put_failure_added (empty_sink 2) 3) 5).failing ≡ 3 ∷ 5 ∷ []
+known_put_failure = refl
 
 -- a sink of two bytes in a room of three, whose second put is to fail
 pub sink : ℕ → MemSinkValue

@@ -1,6 +1,9 @@
 -- What the results of calls on the outside exclude.
-use Rattle.std.proofs.Common.{◌≡◌, ◌≢◌, ℕ, ◌+◌, ◌<◌, ◌≤◌, List, [], ◌∷◌, ◌++◌, Option, None, Some, Ok, Err, length, take, arith, ap, ⊎_elim}
+use Rattle.std.proofs.Common.{◌≡◌, ◌≢◌, ℕ, ◌+◌, ◌<◌, ◌≤◌, List, [], ◌∷◌, ◌++◌, Option, None, Some, Result, Ok, Err, IfOk, OnOk, length, take, arith, ap, ⊎_elim}
 use Rattle.outside_io.proofs.Names.{Failed, Blame, read_call, with_failed_call, write_call, BufferMatches, HasNoNewFault, ReadCause, ReadsWholeFile, TookBytes, WriteCause, with_bytes_taken, IsFaultless, MAX_COUNT, Rose, next_count, ReadsNextPart, ChangesOnlyFile, Files, IsFileName, MemPuts, MemSinkValue, MemCreates, MemReads, MemStoreValue, AddsPrefix, StreamPuts, SinkView, StoreView, FaultLogValue, LogsFailedCall, CallFailed, MemAppends, after_fault, StreamValue}
+use Rattle.outside_io.specs.Causes.{AppendsBytes, IsReadResult, ReadsAt, WritesFile}
+use Rattle.outside_io.specs.Files.{AppendsToFile, FileHolds}
+use Rattle.outside_io.specs.declared.store.ReadStop.{ReadStop}
 use Rattle.outside_io.specs.declared.store.ReadStop.TheVariants as stop
 use Rattle.outside_io.specs.declared.whole_files.GetFault.TheVariants as fault
 
@@ -49,6 +52,21 @@ known_rose before now rose same less = ⊎_elim (λ above. omega (arith, above, 
 
 pub known_faultless : (before now : ℕ) → IsFaultless before now → (now ≡ before) × (now ≢ 18446744073709551615)
 known_faultless before now is = (is.same, is.below)
+
+-- What a read and the two writes state: each part needs a field of its own.
+pub known_reads : (name buffer : List ℕ) (offset : ℕ) (old new : StoreView) (result : Result ℕ ReadStop)
+    → ReadsAt name offset old new buffer result → (new.files ≡ old.files) × IfOk result (λ count. count ≤ length buffer)
+    × IsReadResult old.files name offset buffer result × ReadCause name old new result
+known_reads name buffer offset old new result is = (is.same, is.bound, is.gives, is.cause)
+
+pub known_writes : (name content : List ℕ) (old new : StoreView) (result : Result ℕ Failed) → WritesFile name content old new result
+    → OnOk result (FileHolds new.files name content) × ChangesOnlyFile old.files new.files name × WriteCause name old new result
+known_writes name content old new result is = (is.holds, is.others, is.cause)
+
+pub known_appends : (name bytes : List ℕ) (old new : StoreView) (result : Result ℕ Failed) → AppendsBytes name bytes old new result
+    → OnOk result (AppendsToFile old.files new.files name bytes) × ChangesOnlyFile old.files new.files name
+    × WriteCause name old new result
+known_appends name bytes old new result is = (is.added, is.others, is.cause)
 
 -- a missing file is no fault; a failed read and a failed write are
 pub known_missing : (name : List ℕ) (old new : StoreView) → ReadCause {T = ℕ} name old new (Err stop.Missing) → new.faults ≡ old.faults

@@ -1,6 +1,6 @@
 -- The results of calls to a store or a sink, each with its cause. Each cause is exact by exclusion:
 -- if no fault is counted, only the results without a fault remain.
-use Rattle.std.specs.Prelude.{◌≡◌, ℕ, ◌<◌, ◌≤◌, Bool, true, false, List, ◌++◌, length, take, drop, Option, Some, None, Result, Ok, Err, if◌then◌else◌, nat_le}
+use Rattle.std.specs.Prelude.{◌≡◌, ℕ, ◌<◌, ◌≤◌, Bool, true, false, List, ◌++◌, length, take, drop, Option, Some, None, Result, Ok, Err, IfOk, OnOk, if◌then◌else◌, nat_le}
 use Rattle.outside_io.specs.declared.store.Failed.{Failed}
 use Rattle.outside_io.specs.declared.store.ReadStop.{ReadStop}
 use Rattle.outside_io.specs.declared.store.ReadStop.TheVariants as stop
@@ -8,7 +8,7 @@ use Rattle.outside_io.specs.declared.whole_files.GetFault.{GetFault}
 use Rattle.outside_io.specs.declared.whole_files.GetFault.TheVariants as fault
 use Rattle.outside_io.specs.Blames.{Blame, read_call, write_call}
 use Rattle.outside_io.specs.Counts.{Rose}
-use Rattle.outside_io.specs.Files.{Files, WhereVisible, FileHolds, LacksFile}
+use Rattle.outside_io.specs.Files.{AppendsToFile, ChangesOnlyFile, Files, WhereVisible, FileHolds, LacksFile}
 use Rattle.outside_io.specs.Views.{SinkView, StoreView}
 
 -- No new fault: the fault count and the blamed call are unchanged.
@@ -52,6 +52,28 @@ IsReadResult files name offset buffer (Ok count) =
     WhereVisible files (λ visible. BufferMatchesFile (visible name) offset buffer count)
 IsReadResult files name offset buffer (Err stop.Missing) = LacksFile files name
 IsReadResult files name offset buffer (Err stop.Failed) = Unit {0}
+
+-- A read at an offset: all files are unchanged, and the bytes read fit into the buffer.
+pub record ReadsAt (name : List ℕ) (offset : ℕ) (old new : StoreView) (buffer : List ℕ)
+    (result : Result ℕ ReadStop) : Type 0 where
+  pub same : new.files ≡ old.files
+  pub bound : IfOk result (λ count. count ≤ length buffer)
+  pub gives : IsReadResult old.files name offset buffer result
+  pub cause : ReadCause name old new result
+
+-- A write of an entire file: after success it contains these bytes. No other file changes.
+pub record WritesFile {T : Type 0} (name content : List ℕ) (old new : StoreView)
+    (result : Result T Failed) : Type 0 where
+  pub holds : OnOk result (FileHolds new.files name content)
+  pub others : ChangesOnlyFile old.files new.files name
+  pub cause : WriteCause name old new result
+
+-- A write at the end of a file: after success it ends with these bytes. No other file changes.
+pub record AppendsBytes {T : Type 0} (name bytes : List ℕ) (old new : StoreView)
+    (result : Result T Failed) : Type 0 where
+  pub added : OnOk result (AppendsToFile old.files new.files name bytes)
+  pub others : ChangesOnlyFile old.files new.files name
+  pub cause : WriteCause name old new result
 
 -- A content exists, and its length exceeds the limit.
 abbrev pub IsFileLonger : Option (List ℕ) → ℕ → Type 0

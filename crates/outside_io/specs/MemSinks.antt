@@ -1,6 +1,6 @@
 -- Sinks in memory: the bytes taken, the room for them, the numbers of the puts that shall fail, and
 -- the counts of puts and faults.
-use Rattle.std.specs.Prelude.{◌≡◌, ℕ, ◌+◌, Bool, true, false, ◌||◌, List, [], ◌++◌, length, Some, Result, Ok, Err, nat_lt}
+use Rattle.std.specs.Prelude.{◌≡◌, ℕ, ◌+◌, Bool, true, false, ◌||◌, List, [], ◌∷◌, ◌++◌, length, Some, Result, Ok, Err, nat_lt}
 use Rattle.outside_io.specs.declared.store.Failed.{Failed}
 use Rattle.outside_io.specs.Counts.{next_count}
 use Rattle.outside_io.specs.MemStores.{is_next_call_listed}
@@ -22,6 +22,10 @@ sink_view sink = record { taken = Some sink.bytes; faults = sink.faults }
 -- The sink without bytes, faults and puts that shall fail.
 abbrev pub empty_sink : ℕ → MemSinkValue
 empty_sink room = record { bytes = []; room = room; failing = []; calls = 0; faults = 0 }
+
+-- The sink after a number was added to those of the puts that shall fail.
+abbrev pub put_failure_added : MemSinkValue → ℕ → MemSinkValue
+put_failure_added sink call = record sink { failing = sink.failing ++ call ∷ [] }
 
 -- The test whether the next put fails: its number is listed, or the bytes exceed the room.
 abbrev pub put_fails : MemSinkValue → List ℕ → Bool

@@ -1,6 +1,6 @@
 -- Stores in memory. A store has an entry for each name with a file or room, the numbers of the
 -- calls that shall fail, and the counts of calls and faults.
-use Rattle.std.specs.Prelude.{◌≡◌, ℕ, ◌==◌, Bool, true, false, not, ◌||◌, List, [], ◌++◌, length, take, drop, Option, Some, None, Result, Ok, Err, is_some, min, unwrap_or}
+use Rattle.std.specs.Prelude.{◌≡◌, ℕ, ◌==◌, Bool, true, false, not, ◌||◌, List, [], ◌∷◌, ◌++◌, length, take, drop, Option, Some, None, Result, Ok, Err, is_some, min, unwrap_or}
 use Rattle.std.specs.List.{list_any}
 use Rattle.outside_io.specs.declared.store.Failed.{Failed}
 use Rattle.outside_io.specs.declared.store.ReadStop.{ReadStop}
@@ -55,6 +55,10 @@ file_set store name content = record store { entries = with_file store.entries n
 -- The store after the room of a name was raised.
 abbrev pub room_raised : MemStoreValue → List ℕ → ℕ → MemStoreValue
 room_raised store name room = record store { entries = with_room store.entries name room }
+
+-- The store after a number was added to those of the calls that shall fail.
+abbrev pub failure_added : MemStoreValue → ℕ → MemStoreValue
+failure_added store call = record store { failing = store.failing ++ call ∷ [] }
 
 -- The store after a successful call that resulted in these entries.
 abbrev pub after_call : MemStoreValue → List EntryValue → MemStoreValue

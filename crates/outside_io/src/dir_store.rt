@@ -1,7 +1,7 @@
-ghost use Rattle.std.specs.Prelude.{◌≡◌, ◌≤◌, [], length, IfOk, OnOk};
+ghost use Rattle.std.specs.Prelude.{◌≡◌, ◌≤◌, [], length, IfOk};
 ghost use Rattle.outside_io.specs.Blames.{LogsFailedCall, no_faults, read_call, write_call};
-ghost use Rattle.outside_io.specs.Causes.{ReadCause, IsReadResult, WriteCause};
-ghost use Rattle.outside_io.specs.Files.{AppendsToFile, ChangesOnlyFile, FileHolds, IsFileName, FileExists};
+ghost use Rattle.outside_io.specs.Causes.{AppendsBytes, ReadsAt, WritesFile};
+ghost use Rattle.outside_io.specs.Files.{FileExists, IsFileName};
 ghost use Rattle.outside_io.specs.Views.{hidden_files};
 
 use crate::blame::{CallKind, FaultLog};
@@ -59,23 +59,51 @@ impl<'a, R: Files> DirStore<'a, R> {
             log: FaultLog::new(),
         }
     }
+
+    /// Completes a pending file, then continues in the open file if it is at that offset, else opens the file.
+    fn read_next(&mut self, name: &str, at: u64, buf: &mut [u8]) -> io::Result<usize>
+        requires { length name.now ≤ MAX_NAME }
+        ensures same { self.new ≡ self.old }
+        ensures bound { IfOk result (λ count. count ≤ length buf.new) }
+    {
+        settle(self.rt, &mut self.begun)?;
+        if let Some(reading) = &mut self.opened {
+            if reading.at == at && reading.name.as_slice() == name.as_bytes() {
+                return read_on(reading, buf);
+            }
+        }
+        self.open_and_read(name, at, buf)
+    }
+
+    // A function of its own: inlined, the space for the name of the opened file would be cleared at each read.
+    /// Opens a file and reads from it at that offset. A file that returned bytes is kept open.
+    #[cold]
+    #[inline(never)]
+    fn open_and_read(&mut self, name: &str, at: u64, buf: &mut [u8]) -> io::Result<usize>
+        requires { length name.now ≤ MAX_NAME }
+        ensures same { self.new ≡ self.old }
+        ensures bound { IfOk result (λ count. count ≤ length buf.new) }
+    {
+        let mut reading = open_at(self.rt, name, at)?;
+        let count = read_on(&mut reading, buf)?;
+        if count > 0 {
+            self.opened = Some(reading);
+        }
+        Ok(count)
+    }
 }
 
 impl<'a, R: Files> Store for DirStore<'a, R> {
-    ghost use Rattle.outside_io.specs.Views.{hidden_files};
-
     ghost view = { hidden_files };
 
     fn read_at(&mut self, name: &str, at: u64, buf: &mut [u8]) -> Result<usize, ReadStop>
         requires name { IsFileName name.now }
         requires offset { at ≤ MAX_FILE }
-        ensures same { (hidden_files self.new).files ≡ (hidden_files self.old).files }
-        ensures bound { IfOk result (λ count. count ≤ length buf.new) }
-        ensures gives { IsReadResult (hidden_files self.old).files name.now at buf.new result }
-        ensures cause { ReadCause name.now (hidden_files self.old) (hidden_files self.new) result }
+        ensures reads { ReadsAt name.now at (hidden_files self.old) (hidden_files self.new)
+            buf.new result }
         ensures exact { LogsFailedCall (read_call name.now) self.old self.new result }
     {
-        match read_next(self.rt, &mut self.begun, &mut self.opened, name, at, buf) {
+        match self.read_next(name, at, buf) {
             Ok(count) => Ok(count),
             Err(_) => {
                 self.opened = None;
@@ -87,10 +115,8 @@ impl<'a, R: Files> Store for DirStore<'a, R> {
 
     fn create(&mut self, name: &str) -> Result<(), Failed>
         requires name { IsFileName name.now }
-        ensures empty { OnOk result (FileHolds (hidden_files self.new).files name.now []) }
-        ensures others { ChangesOnlyFile (hidden_files self.old).files
-            (hidden_files self.new).files name.now }
-        ensures cause { WriteCause name.now (hidden_files self.old) (hidden_files self.new) result }
+        ensures writes { WritesFile name.now [] (hidden_files self.old)
+            (hidden_files self.new) result }
         ensures exact { LogsFailedCall (write_call name.now) self.old self.new result }
     {
         self.opened = None;
@@ -106,11 +132,8 @@ impl<'a, R: Files> Store for DirStore<'a, R> {
     fn append(&mut self, name: &str, bytes: &[u8]) -> Result<(), Failed>
         requires name { IsFileName name.now }
         requires there { FileExists (hidden_files self.old).files name.now }
-        ensures added { OnOk result (AppendsToFile (hidden_files self.old).files
-            (hidden_files self.new).files name.now bytes.now) }
-        ensures others { ChangesOnlyFile (hidden_files self.old).files
-            (hidden_files self.new).files name.now }
-        ensures cause { WriteCause name.now (hidden_files self.old) (hidden_files self.new) result }
+        ensures appends { AppendsBytes name.now bytes.now (hidden_files self.old)
+            (hidden_files self.new) result }
         ensures exact { LogsFailedCall (write_call name.now) self.old self.new result }
     {
         self.opened = None;
@@ -122,49 +145,6 @@ impl<'a, R: Files> Store for DirStore<'a, R> {
             }
         }
     }
-}
-
-/// Completes a pending file, then continues in the open file if it is at that offset, else opens the file.
-fn read_next<R: Files>(
-    rt: &R,
-    begun: &mut Option<NewFile<R::File>>,
-    opened: &mut Option<OpenedFile<R::File>>,
-    name: &str,
-    at: u64,
-    buf: &mut [u8],
-) -> io::Result<usize>
-    requires { length name.now ≤ MAX_NAME }
-    ensures { IfOk result (λ count. count ≤ length buf.new) }
-{
-    settle(rt, begun)?;
-    if let Some(reading) = opened {
-        if reading.at == at && reading.name.as_slice() == name.as_bytes() {
-            return read_on(reading, buf);
-        }
-    }
-    open_and_read(rt, opened, name, at, buf)
-}
-
-// A function of its own: inlined, the space for the name of the opened file would be cleared at each read.
-/// Opens a file and reads from it at that offset. A file that returned bytes is kept open.
-#[cold]
-#[inline(never)]
-fn open_and_read<R: Files>(
-    rt: &R,
-    opened: &mut Option<OpenedFile<R::File>>,
-    name: &str,
-    at: u64,
-    buf: &mut [u8],
-) -> io::Result<usize>
-    requires { length name.now ≤ MAX_NAME }
-    ensures { IfOk result (λ count. count ≤ length buf.new) }
-{
-    let mut reading = open_at(rt, name, at)?;
-    let count = read_on(&mut reading, buf)?;
-    if count > 0 {
-        *opened = Some(reading);
-    }
-    Ok(count)
 }
 
 /// Completes a pending file, then begins the named one.

@@ -1,7 +1,7 @@
-ghost use Rattle.std.specs.Prelude.{◌≡◌, ◌∷◌, ◌++◌, [], OnOk, OnErr, IfOk};
+ghost use Rattle.std.specs.Prelude.{◌≡◌, OnOk, OnErr, IfOk};
 ghost use Rattle.outside_io.specs.Causes.{PutCause, TookBytes};
 ghost use Rattle.outside_io.specs.Counts.{next_count};
-ghost use Rattle.outside_io.specs.MemSinks.{MemPuts, empty_sink, put_fails, sink_view};
+ghost use Rattle.outside_io.specs.MemSinks.{MemPuts, empty_sink, put_failure_added, put_fails, sink_view};
 
 use crate::sink::Sink;
 use crate::store::Failed;
@@ -61,8 +61,7 @@ impl MemSink {
 
     /// Adds a number to those of the puts that shall fail. An error changes nothing.
     pub fn fail_at(&mut self, call: u64) -> Result<(), Memory>
-        ensures ok { OnOk result (self.new ≡ record self.old
-            { failing = self.old.failing ++ call ∷ [] }) }
+        ensures ok { OnOk result (self.new ≡ put_failure_added self.old call) }
         ensures err { OnErr result (self.new ≡ self.old) }
     {
         self.failing.push(call)?;
@@ -80,8 +79,6 @@ impl MemSink {
 }
 
 impl Sink for MemSink {
-    ghost use Rattle.outside_io.specs.MemSinks.{sink_view};
-
     ghost view = { sink_view };
 
     /// Adds the bytes, without allocating.

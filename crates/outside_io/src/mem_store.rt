@@ -1,8 +1,8 @@
-ghost use Rattle.std.specs.Prelude.{◌≡◌, ℕ, ◌≤◌, List, [], ◌∷◌, ◌++◌, length, IfOk, IfSome, IfNone, OnOk, OnErr, min, take, drop};
-ghost use Rattle.outside_io.specs.Causes.{ReadCause, IsReadResult, WriteCause};
+ghost use Rattle.std.specs.Prelude.{◌≡◌, ℕ, ◌≤◌, List, [], ◌++◌, length, IfSome, IfNone, OnOk, OnErr, min, take, drop};
+ghost use Rattle.outside_io.specs.Causes.{AppendsBytes, ReadsAt, WritesFile};
 ghost use Rattle.outside_io.specs.Counts.{next_count};
-ghost use Rattle.outside_io.specs.Files.{AppendsToFile, ChangesOnlyFile, FileHolds, IsFileName, FileExists};
-ghost use Rattle.outside_io.specs.MemStores.{MemAppends, MemCreates, MemReads, empty_store, file_set, files_of, is_next_call_listed, room_raised, store_view, visible_files};
+ghost use Rattle.outside_io.specs.Files.{ChangesOnlyFile, FileExists, IsFileName};
+ghost use Rattle.outside_io.specs.MemStores.{MemAppends, MemCreates, MemReads, empty_store, failure_added, file_set, files_of, is_next_call_listed, room_raised, store_view, visible_files};
 
 use crate::blame::{CallKind, FaultLog};
 use crate::entries::{add_to_file, content_of, make_file, raise_room, set_file};
@@ -90,8 +90,7 @@ impl MemStore {
 
     /// Adds a number to those of the calls that shall fail. An error changes nothing.
     pub fn fail_at(&mut self, call: u64) -> Result<(), Memory>
-        ensures ok { OnOk result (self.new ≡ record self.old
-            { failing = self.old.failing ++ call ∷ [] }) }
+        ensures ok { OnOk result (self.new ≡ failure_added self.old call) }
         ensures err { OnErr result (self.new ≡ self.old) }
     {
         self.failing.push(call)?;
@@ -109,18 +108,14 @@ impl MemStore {
 }
 
 impl Store for MemStore {
-    ghost use Rattle.outside_io.specs.MemStores.{store_view};
-
     ghost view = { store_view };
 
     /// Reads as many bytes as fit into the buffer or remain in the file, whichever is fewer.
     fn read_at(&mut self, name: &str, at: u64, buf: &mut [u8]) -> Result<usize, ReadStop>
         requires name { IsFileName name.now }
         requires offset { at ≤ MAX_FILE }
-        ensures same { (store_view self.new).files ≡ (store_view self.old).files }
-        ensures bound { IfOk result (λ count. count ≤ length buf.new) }
-        ensures gives { IsReadResult (store_view self.old).files name.now at buf.new result }
-        ensures cause { ReadCause name.now (store_view self.old) (store_view self.new) result }
+        ensures reads { ReadsAt name.now at (store_view self.old) (store_view self.new)
+            buf.new result }
         ensures exact { MemReads self.old self.new name.now at buf.old buf.new result }
     {
         if self.begins_to_fail() {
@@ -136,10 +131,7 @@ impl Store for MemStore {
     /// Makes the file empty, if the name has room.
     fn create(&mut self, name: &str) -> Result<(), Failed>
         requires name { IsFileName name.now }
-        ensures empty { OnOk result (FileHolds (store_view self.new).files name.now []) }
-        ensures others { ChangesOnlyFile (store_view self.old).files
-            (store_view self.new).files name.now }
-        ensures cause { WriteCause name.now (store_view self.old) (store_view self.new) result }
+        ensures writes { WritesFile name.now [] (store_view self.old) (store_view self.new) result }
         ensures exact { MemCreates self.old self.new name.now result }
     {
         if self.begins_to_fail() || !make_file(&mut self.entries, name.as_bytes()) {
@@ -153,11 +145,8 @@ impl Store for MemStore {
     fn append(&mut self, name: &str, bytes: &[u8]) -> Result<(), Failed>
         requires name { IsFileName name.now }
         requires there { FileExists (store_view self.old).files name.now }
-        ensures added { OnOk result (AppendsToFile (store_view self.old).files
-            (store_view self.new).files name.now bytes.now) }
-        ensures others { ChangesOnlyFile (store_view self.old).files
-            (store_view self.new).files name.now }
-        ensures cause { WriteCause name.now (store_view self.old) (store_view self.new) result }
+        ensures appends { AppendsBytes name.now bytes.now (store_view self.old)
+            (store_view self.new) result }
         ensures exact { MemAppends self.old self.new name.now bytes.now result }
     {
         if self.begins_to_fail() || !add_to_file(&mut self.entries, name.as_bytes(), bytes) {

@@ -35,8 +35,6 @@ impl<W: Write + Drop> StdSink<W> {
 }
 
 impl<W: Write + Drop> Sink for StdSink<W> {
-    ghost use Rattle.outside_io.specs.Views.{hidden_bytes};
-
     ghost view = { λ s. hidden_bytes s.faults };
 
     fn put(&mut self, bytes: &[u8]) -> Result<(), Failed>

@@ -1,9 +1,9 @@
-ghost use Rattle.std.specs.Prelude.{◌≡◌, ◌<◌, ◌≤◌, OnOk, length};
+ghost use Rattle.std.specs.Prelude.{◌≡◌, ◌<◌, ◌≤◌, length};
 ghost use Rattle.lists_and_numbers.specs.OutOfMemory.{IsSpecified};
-ghost use Rattle.outside_io.specs.Causes.{ReadsWholeFile, WriteCause, get_is_out_of_memory, whole_file_result};
+ghost use Rattle.outside_io.specs.Causes.{ReadsWholeFile, WritesFile, get_is_out_of_memory, whole_file_result};
 ghost use Rattle.outside_io.specs.Counts.{IsFaultless};
 ghost use Rattle.outside_io.specs.FileParts.{ReadsNextPart};
-ghost use Rattle.outside_io.specs.Files.{ChangesOnlyFile, FileHolds, IsFileName, WhereVisible};
+ghost use Rattle.outside_io.specs.Files.{IsFileName, WhereVisible};
 ghost use Rattle.outside_io.specs.declared.whole_files.GetFault.TheVariants as fault;
 
 use crate::limits::MAX_FILE;
@@ -94,9 +94,7 @@ pub fn read_next<S: Store>(
 /// Writes an entire file: makes it empty, and appends all the bytes at once.
 pub fn write_whole<S: Store>(store: &mut S, name: &str, bytes: &[u8]) -> Result<(), Failed>
     requires { IsFileName name.now }
-    ensures holds { OnOk result (FileHolds (S.view store.new).files name.now bytes.now) }
-    ensures others { ChangesOnlyFile (S.view store.old).files (S.view store.new).files name.now }
-    ensures cause { WriteCause name.now (S.view store.old) (S.view store.new) result }
+    ensures { WritesFile name.now bytes.now (S.view store.old) (S.view store.new) result }
 {
     store.create(name)?;
     store.append(name, bytes)?;

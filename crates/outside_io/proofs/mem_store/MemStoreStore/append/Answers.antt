@@ -9,8 +9,9 @@ add_to_file-requires c =
     let there : is_some (file_in c.args.self.now.entries c.args.name.now) ≡ true = c.requires.there _ refl in
     search rules
 
-pub returns-clause-added : goal.returns-clause-added
-returns-clause-added c = grind (arith, nat_tests, with_content, file_in, where_told, file_in-with_content)
-
-pub returns-clause-others : goal.returns-clause-others
-returns-clause-others c = grind (arith, nat_tests, with_content, file_in, file_in-with_content_other)
+pub returns-clause-appends : goal.returns-clause-appends
+returns-clause-appends c = record {
+  added = grind (arith, nat_tests, with_content, file_in, where_told, file_in-with_content);
+  others = grind (arith, nat_tests, with_content, file_in, file_in-with_content_other);
+  cause = search rules;
+}
