@@ -1,5 +1,5 @@
 -- Each step of a partial tour leads to a partial tour.
-use Rattle.std.proofs.Common.{◌≡◌, ◌≤◌, ℕ, ◌+◌, ◌*◌, ◌/◌, List, [], ◌∷◌, ◌++◌, length, get_or, slice_get, sum_by, false, Option, None, Some, Vec, Global, arith, ap, ◌∙◌, subst, sym, length-append}
+use Rattle.std.proofs.Common.{◌≡◌, ◌≤◌, ℕ, ◌+◌, ◌*◌, ◌/◌, List, [], ◌∷◌, ◌++◌, length, get_or, slice_get, false, Option, None, Some, Vec, Global, arith, ap, ◌∙◌, subst, sym, length-append}
 use Rattle.euler_tour.proofs.Names.{Edge, Pass, IsValidPiece, PieceValue, given_start, first_line, remaining_ends, remaining_sum, decremented_at, one_of, pass_counts, AreBefore, AreLast, junction_across, junction_at, pass_to, CanPass, HasTourTables, first_edge_start, first_edge_end, tour_end, tour_start, or_first_start, nat_tests, slice_get_within, SkipsEnd, BeginsTour, IsEmptyTour, IsTourStep, begins_on, first_is}
 use Rattle.euler_tour.specs.declared.line_ends.LineEnds.{LineEnds}
 use Rattle.euler_tour.specs.declared.partial_tour.PartialTour.{PartialTour}
@@ -8,10 +8,6 @@ use Rattle.euler_tour.proofs.LeftLemmas.{times_at, times_length, left_less}
 use Rattle.euler_tour.proofs.TourLemmas.{begins_with, first_edge, none_said}
 use Rattle.euler_tour.proofs.TripLemmas.{back_kept, first_kept, out_kept}
 use Rattle.euler_tour.proofs.CallerLemmas.{skipped_less, started, ends_are_below}
-
--- the sum of the cursors of a partial tour
-abbrev cursor_sum : PartialTour → ℕ
-cursor_sum t = sum_by (λ n. n) t.ends.last.items
 
 -- a step out along the line with an end
 pub out_step : (p : PieceValue) (t : PartialTour) (left out : Vec ℕ Global) (end next : ℕ) → IsValidPiece p → HasTourTables p t

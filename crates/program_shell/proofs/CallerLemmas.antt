@@ -1,15 +1,11 @@
 -- Lemmas for the crates of programs: plans that read files one after another, plans that decide, and the end of a run.
 use Rattle.std.proofs.Common.{◌≡◌, ℕ, Bool, false, List, Option, Result, Ok, Err, ap, refl, subst, sym, arith}
-use Rattle.program_shell.proofs.Names.{nat_tests, UnlessOutOfMemory, Files, SinkView, StoreView, Failure, Product, Status, IsExact, IsSoundProgram, IsInputContent, Makes, Plan, accepts, reads, refuses, satisfies, ProductValue, output_names, Program, RunEnds, Views, views_of, FinishesRun, IsFailureOf, RunsRequest, IsSpecified, CanFinish, IsFaultFailure, IsParsedInput, ParsesInput, ReadsInput, RunsPlan, RunsPurePlan}
+use Rattle.program_shell.proofs.Names.{nat_tests, UnlessOutOfMemory, Files, SinkView, StoreView, Failure, Product, Status, IsExact, IsSoundProgram, IsInputContent, Makes, Plan, accepts, reads, refuses, satisfies, ProductValue, output_names, Program, RunEnds, Views, views_of, FinishesRun, RunsRequest, IsSpecified, CanFinish, IsFaultFailure, IsParsedInput, ParsesInput, ReadsInput, RunsPlan, RunsPurePlan}
 use Rattle.program_shell.specs.declared.failure.Failure.TheVariants as failure
 use Rattle.program_shell.proofs.RunLemmas.{run_ends}
 use Rattle.program_shell.proofs.RunOutcomes.{finished}
 
--- A failure of the rest of a plan is one of the plan.
-halts_next : (name bytes : List ℕ) (next : List ℕ → Plan) (store store' : StoreView) (why : Failure)
-    → IsInputContent store.files name bytes → IsFailureOf (next bytes) store store' why → IsFailureOf (reads name next) store store' why
-halts_next name bytes next store store' why h1 h2 = grind (arith, nat_tests)
-
+-- What the rest of a plan results in is a result of the plan.
 pub prepares_next : (name bytes : List ℕ) (next : List ℕ → Plan) (store mid store' : StoreView) (result : Result Product Failure)
     → ReadsInput name store mid (Ok bytes) → RunsPlan (next bytes) mid store' result → RunsPlan (reads name next) store store' result
 prepares_next name bytes next store mid store' result h1 h2 = grind (arith, nat_tests)
