@@ -1,5 +1,4 @@
-ghost use Rattle.std.specs.List.{position_or_len};
-ghost use Rattle.std.specs.Prelude.{◌≡◌, ◌∷◌, ◌++◌, ◌≤◌, ◌<◌, ◌+◌, [], length, IfOk, OnOk, IfSome, IfNone};
+ghost use Rattle.std.specs.Prelude.{◌≡◌, ◌++◌, ◌≤◌, length, IfOk, OnOk};
 ghost use Rattle.design_model.specs.ActKinds.{is_stop as is_stop_act};
 ghost use Rattle.design_model.specs.Blocks.{blocks_of};
 ghost use Rattle.design_model.specs.declared.design.TheConstants.{MAX_COMMANDS};
@@ -31,13 +30,10 @@ pub fn strands(alloc: Global, design: &Design, acts: &[NumberedAct]) -> Result<V
 {
     let mut strands = Vec::new(alloc);
     let mut block: u32 = 0;
-    let mut rest = acts;
-    while let Some((first, after)) = ended_block(rest) {
-        put_strand(alloc, design.thread(block), first, &mut strands)?;
+    for some in acts.split(|a| is_stop(*a)) {
+        put_strand(alloc, design.thread(block), some, &mut strands)?;
         block += 1;
-        rest = after;
     }
-    put_strand(alloc, design.thread(block), rest, &mut strands)?;
     Ok(strands)
 }
 
@@ -57,33 +53,6 @@ fn put_strand(
     }
     strands.push(Strand { thread, chains })?;
     Ok(())
-}
-
-/// Returns the acts of the first block and those after the stop that ends it, if there is a stop.
-fn ended_block(acts: &[NumberedAct]) -> Option<(&[NumberedAct], &[NumberedAct])>
-    ensures ended { IfSome result (λ parts.
-        blocks_of acts.now ≡ parts.0.now ∷ blocks_of parts.1.now) }
-    ensures shorter { IfSome result (λ parts. length parts.1.now + 1 ≤ length acts.now) }
-    ensures last { IfNone result (blocks_of acts.now ≡ acts.now ∷ []) }
-{
-    let (first, behind) = acts.split_at(stop_at(acts));
-    match behind {
-        [_, after @ ..] => Some((first, after)),
-        [] => None,
-    }
-}
-
-/// Returns the index of the first stop, or the number of acts.
-fn stop_at(acts: &[NumberedAct]) -> usize
-    ensures value { result ≡ position_or_len is_stop_act acts.now }
-    ensures within { result ≤ length acts.now }
-{
-    for (index, a) in acts.iter().enumerate() {
-        if is_stop(*a) {
-            return index;
-        }
-    }
-    acts.len()
 }
 
 fn is_stop(a: NumberedAct) -> bool
