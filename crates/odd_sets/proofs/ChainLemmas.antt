@@ -133,10 +133,8 @@ chaining_aside link root tree left bs b chain aside next way to c e away off f =
       sums = λ F add. omega (arith, c.sums F add, bands_push F add, ap (λ (ks : List BranchValue). F (branch_dual_sets ks)) rev, add);
       fewer = omega (
         arith,
-        c.fewer,
         bands_push (λ (ks : List DualSet). length ks) size-append,
-        ap
-            (λ (ks : List BranchValue). length (inner_dual_sets ks)) rev,
+        ap (λ (ks : List BranchValue). length (inner_dual_sets ks)) rev,
         size-append (dual_sets b.inner) (inner_dual_sets (reverse aside)),
       );
       firm = λ d h sy w t. let r = c.firm d h sy w t in (

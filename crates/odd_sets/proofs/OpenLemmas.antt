@@ -139,10 +139,8 @@ opens_turned left key w ms near old p ps i e same blossom kept there first =
       tall = omega (
         arith,
         bands_turned (height left) (height-append left) i old,
-        ap
-            (λ (qs : List PartValue). height left (dual_sets_in qs)) e,
+        ap (λ (qs : List PartValue). height left (dual_sets_in qs)) e,
         height-append left (dual_sets p.odd_set) (dual_sets_in ps),
-        none,
       );
       places = λ x. at x ∙ places_turned x old p ps i e even;
       holds = (omega (arith, at left, places_turned left old p ps i e even), matched_some ps (omega (arith, turned.three)) turned.kept.1);

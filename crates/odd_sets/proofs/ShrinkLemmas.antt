@@ -21,11 +21,9 @@ folded_inside link root tree bs b c chain aside way to k all = record {
       omega (arith, k.once a, k.places a, members_push, all a, here) in
       omega (
         arith,
-        none,
         around_append,
         around_first a x root.members bs before,
         base_in a root.members bs,
-        before,
         around_first a x [] (reverse aside) (omega (arith, k.once a, k.places a, members_push, all a, here)),
       );
   sound = λ t h root_sound firm.
@@ -120,7 +118,6 @@ blossom_sums F add key top way chain blossom e =
       arith,
       add (record { key = key; members = members_in (part_with_edge top way ∷ chain); dual = 0 } ∷ [])
           (dual_sets_in (part_with_edge top way ∷ chain)),
-      add,
     ))
 
 -- the heights of two places in the tree are both even or both odd
@@ -158,14 +155,7 @@ closed_inside key link root blossom tree left bs mid new b chain aside way to sh
       grown = grown-append root.members (bs ++ b2 ∷ []) (reverse aside) made hung;
       places = λ x. omega (arith, members-append, members_push, r x, c.places x);
       folds = folded_inside link root tree bs b b2 chain aside way to c r;
-      sums = λ F add. omega (
-        arith,
-        dual_sets-append F add,
-        bands_push F add,
-        c.sums F add,
-        blossom_sums F add key b.outer way chain blossom
-            closes,
-      );
+      sums = λ F add. omega (arith, dual_sets-append F add, c.sums F add, blossom_sums F add key b.outer way chain blossom closes);
       fewer = omega (arith, dual_sets-append sizes size-append, bands_push sizes size-append, c.fewer, cl.some);
       firm = λ d h sy w s t. let u = c.firm d h sy w t in let f = each-last (IsSoundBranch d h) bs b u.0 in
           let sound = blossom_sound d h key (part_with_edge b.outer way) chain (blossom_from b.outer way chain to cl kb)

@@ -195,10 +195,8 @@ pub merge_next : (n : ℕ) (parts : List PartValue) (i : ℕ) (p : PartValue) (n
 merge_next n parts i p near dual cells new low is e f merged size so_far x lx =
     omega (
       arith,
-      merged x (omega (arith, lx, size)),
       ap (λ (k : List ℕ). lowered_slack dual (get_or k x 0)) e,
       ap (λ (w : ℕ). lowered_slack w (get_or p.odd_set.near x 0)) f,
-      so_far x lx,
       least_push (take i parts) p x,
       ap (λ (ks : List PartValue). least_part_slack ks x) (take_here parts i p low is),
     )

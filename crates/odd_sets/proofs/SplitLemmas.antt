@@ -68,10 +68,8 @@ does_more root now p q ps way pair outer new cs l =
       sums = λ F add. omega (arith, l.sums F add, bands_push F add, add);
       fewer = omega (
         arith,
-        l.fewer,
         bands_push (λ (ks : List DualSet). length ks) size-append,
-        size-append (dual_sets p.odd_set)
-            (dual_sets q.odd_set ++ dual_sets_in ps),
+        size-append (dual_sets p.odd_set) (dual_sets q.odd_set ++ dual_sets_in ps),
         size-append (dual_sets q.odd_set) (dual_sets_in ps),
       );
       firm = λ d h t w a parts o. l.firm d h

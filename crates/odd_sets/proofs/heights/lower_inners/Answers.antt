@@ -7,7 +7,6 @@ pub lower-requires-clause-within : goal.lower-requires-clause-within
 lower-requires-clause-within c = λ x here.
     c.loop-b.invariant.within x (omega (
       arith,
-      here,
       inners_at x c.args.sets.now c.args.tree.now c.loop-b.b-index c.loop-b-test.true,
       ap (λ (xs : List ℕ). count x xs) c.members.ensures,
     ))
@@ -17,7 +16,6 @@ lower-requires-clause-fits c = λ x.
     omega (
       arith,
       more_by c.args.by _ _ _ (inners_at x c.args.sets.now c.args.tree.now c.loop-b.b-index c.loop-b-test.true),
-      c.loop-b.invariant.sum x,
       c.requires.fits x,
       ap (λ (xs : List ℕ). c.args.by * count x xs) c.members.ensures,
     )
@@ -27,7 +25,6 @@ loop-b-preserved c = record {
   sum = λ x. omega (
     arith,
     more_by c.args.by _ _ _ (inners_at x c.args.sets.now c.args.tree.now c.loop-b.b-index c.loop-b-test.true),
-    c.loop-b.invariant.sum x,
     c.lower.ensures x,
     ap (λ (xs : List ℕ). c.args.by * count x xs) c.members.ensures,
   );

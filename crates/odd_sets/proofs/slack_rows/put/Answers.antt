@@ -7,7 +7,6 @@ use Rattle.odd_sets.proofs.slack_rows.put.Goals as goal
 pub bounds-cells-a : goal.bounds-cells-a
 bounds-cells-a c = omega (
   arith,
-  c.loop-a.invariant.size,
   c.requires (get_or c.args.places.now c.loop-a.a-index 0) (count_at c.args.places.now c.loop-a.a-index c.loop-a-test.true),
 )
 
@@ -15,7 +14,6 @@ pub loop-a-preserved : goal.loop-a-preserved
 loop-a-preserved c =
     let low : get_or c.args.places.now c.loop-a.a-index 0 < length c.loop-a.cells = omega (
       arith,
-      c.loop-a.invariant.size,
       c.requires (get_or c.args.places.now c.loop-a.a-index 0) (count_at c.args.places.now c.loop-a.a-index c.loop-a-test.true),
     ) in
     record {
