@@ -1,11 +1,11 @@
 ghost use Rattle.std.specs.Prelude.{◌≡◌, ◌≤◌, [], length, IfOk};
 ghost use Rattle.outside_io.specs.Blames.{LogsFailedCall, no_faults, read_call, write_call};
 ghost use Rattle.outside_io.specs.Causes.{AppendsBytes, ReadsAt, WritesFile};
-ghost use Rattle.outside_io.specs.Files.{FileExists, IsFileName};
+ghost use Rattle.outside_io.specs.Files.{IsFileName};
 ghost use Rattle.outside_io.specs.Views.{hidden_files};
 
 use crate::blame::{CallKind, FaultLog};
-use crate::limits::{MAX_FILE, MAX_NAME};
+use crate::limits::MAX_NAME;
 use crate::new_file::{NewFile, begin};
 use crate::store::{Failed, ReadStop, Store};
 use crate::turns::read_some;
@@ -97,8 +97,7 @@ impl<'a, R: Files> Store for DirStore<'a, R> {
     ghost view = { hidden_files };
 
     fn read_at(&mut self, name: &str, at: u64, buf: &mut [u8]) -> Result<usize, ReadStop>
-        requires name { IsFileName name.now }
-        requires offset { at ≤ MAX_FILE }
+        requires { IsFileName name.now }
         ensures reads { ReadsAt name.now at (hidden_files self.old) (hidden_files self.new)
             buf.new result }
         ensures exact { LogsFailedCall (read_call name.now) self.old self.new result }
@@ -114,7 +113,7 @@ impl<'a, R: Files> Store for DirStore<'a, R> {
     }
 
     fn create(&mut self, name: &str) -> Result<(), Failed>
-        requires name { IsFileName name.now }
+        requires { IsFileName name.now }
         ensures writes { WritesFile name.now [] (hidden_files self.old)
             (hidden_files self.new) result }
         ensures exact { LogsFailedCall (write_call name.now) self.old self.new result }
@@ -130,8 +129,7 @@ impl<'a, R: Files> Store for DirStore<'a, R> {
     }
 
     fn append(&mut self, name: &str, bytes: &[u8]) -> Result<(), Failed>
-        requires name { IsFileName name.now }
-        requires there { FileExists (hidden_files self.old).files name.now }
+        requires { IsFileName name.now }
         ensures appends { AppendsBytes name.now bytes.now (hidden_files self.old)
             (hidden_files self.new) result }
         ensures exact { LogsFailedCall (write_call name.now) self.old self.new result }
