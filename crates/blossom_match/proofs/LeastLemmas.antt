@@ -1,11 +1,8 @@
 -- Each perfect matching costs at least half of the total width of the moats.
 use Rattle.std.proofs.Common.{◌≡◌, ◌≢◌, ℕ, suc, ◌+◌, ◌-◌, ◌*◌, ◌%◌, ◌<◌, ◌≤◌, ◌⊎◌, inl, inr, List, [], ◌∷◌, length, Bool, true, false, cond, eqb, nat_lt, arith, refl, sym, subst, ◌∙◌}
 use Rattle.blossom_match.proofs.Names.{nat_tests, All, AllPairs, eqb-true, lt-ltb, ltb-true, sum_by-cons, count, one_if_equal, pairs_cost, crosses_moat, pair_ends_at, moat_load, width_of, IsOptimalMatching, IsOddMoat, KeepsMoatLoads, IsPerfectMatching, TableValue, entry, Moat, Pair, hit_same, eq-eqb, ne_eqb}
-use Rattle.blossom_match.proofs.MoatLemmas.{crossing}
+use Rattle.blossom_match.proofs.MoatLemmas.{crossing, true_false}
 use Rattle.blossom_match.proofs.CallerLemmas.{ends_below}
-
-true_false : true ≡ false → ⊥
-true_false e = cc
 
 abbrev one_if : Bool → ℕ
 one_if b = cond b 1 0

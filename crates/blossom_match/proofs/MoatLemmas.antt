@@ -2,7 +2,7 @@
 use Rattle.std.proofs.Common.{◌≡◌, ◌≢◌, ℕ, ◌+◌, ◌*◌, ◌%◌, ◌≤◌, inl, inr, zero, suc, List, [], ◌∷◌, ◌++◌, length, arith, refl, sym, subst, ◌∙◌, Bool, true, false, cond, eqb, ◌||◌}
 use Rattle.blossom_match.proofs.Names.{nat_tests, sum_by-cons, lt-ltb, Each, apart, count, one_if_equal, TableValue, entry, pairs_cost, crosses_moat, pair_ends_at, moat_holds, moat_load, width_of, AreLaminar, moat_of_set, IsOddMoatIn, AreMoatsIn, Moat, Pair, each-append, each-map, some_member, by_count, list_any, sum_by-append, pairs-append}
 
-true_false : true ≡ false → ⊥
+pub true_false : true ≡ false → ⊥
 true_false e = cc
 
 any_case : (b r : Bool) (x y : ℕ) (n : ℕ) → eqb x y ≡ b → 1 ≤ cond b 1 0 + n → (1 ≤ n → r ≡ true) → (b || r) ≡ true

@@ -2,6 +2,7 @@
 use Rattle.std.proofs.Common.{◌≡◌, ◌≢◌, ℕ, suc, ◌+◌, ◌<◌, ◌≤◌, ◌⊎◌, List, [], ◌∷◌, length, Bool, true, false, cond, ◌||◌, ◌==◌, arith, inl, inr, refl, sym, ◌∙◌, ap, subst}
 use Rattle.cut_certificate.proofs.Names.{nat_tests, both_ways, cases_Bool, cases_eq, cases_lt, eq-eqb, eqb-true, ne_eqb, or_cases, count_by, if◌then◌else◌, slice_index, Moat, has_member, is_count_by}
 use Rattle.cut_certificate.proofs.MoatLemmas.{Apart, Disjoint}
+use Rattle.cut_certificate.proofs.LevelLemmas.{at_front}
 
 -- no number is named twice
 abbrev pub Differ : List ℕ → Type 0
@@ -104,9 +105,6 @@ remove_other x t (y ∷ ys) ne h = elim (or_cases (t == y) (has_member ys t) h) 
     later : (a b : Bool) → b ≡ true → (a || b) ≡ true
     later true b h = refl
     later false b h = h
-
-at_front : (x : ℕ) (xs : List ℕ) → has_member (x ∷ xs) x ≡ true
-at_front x xs = rw (eq-eqb x x refl) refl
 
 behind : (x t : ℕ) (xs : List ℕ) → has_member xs t ≡ true → has_member (x ∷ xs) t ≡ true
 behind x t xs h = grind (arith, nat_tests)

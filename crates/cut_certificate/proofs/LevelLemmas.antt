@@ -16,7 +16,7 @@ lowest_by at limit t (x ∷ ts) h = elim (or_cases (t == x) (has_member ts t) h)
   | inr there ↦ omega (arith, lowest_by at limit t ts there)
 ]
 
-at_front : (x : ℕ) (ts : List ℕ) → has_member (x ∷ ts) x ≡ true
+pub at_front : (x : ℕ) (ts : List ℕ) → has_member (x ∷ ts) x ≡ true
 at_front x ts = rw (eq-eqb x x refl) refl
 
 -- a minimum below the limit is the number at one of the terminals

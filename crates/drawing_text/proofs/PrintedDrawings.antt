@@ -7,6 +7,7 @@ use Rattle.drawing_text.proofs.PrintedEnds.{IsNamable, ReadsOn, end_at, ends_rea
 use Rattle.drawing_text.proofs.PrintedLines.{HasRoom, after_text, color_says, coordinates, coordinates_are, draft_of, is_color, is_line, is_name, is_step, label_word, line_judged, line_says, name_says, points_spelled, step_says}
 use Rattle.drawing_text.proofs.PrintedNumbers.{decimal_word}
 use Rattle.drawing_text.proofs.PrintedWords.{tail_of}
+use Rattle.drawing_text.proofs.WordLemmas.{filled}
 
 -- the drawing has room for n more lines in the last block
 record MayFollow (d : DrawingValue) (lines : List LineValue) : Type 0 where
@@ -121,10 +122,6 @@ pub all_middle : {A : Type 0} (P : A → Type 0) (before : List A) (thread : A) 
 all_middle P [] thread left all = All-head P thread left all
 all_middle P (x ∷ before) thread left all =
     all_middle P before thread left (All-tail P x (before ++ thread ∷ left) all)
-
--- a list with an item is not empty
-filled : (b : ℕ) (rest : List ℕ) → b ∷ rest ≢ []
-filled b rest none = cc
 
 -- the last block of a drawing has a line
 last_filled : (d : DrawingValue) → KeepsDrawingLimits d → is_last_empty d ≡ false

@@ -10,7 +10,7 @@ drop_next : (n b : ℕ) (rest : List ℕ) → drop (1 + n) (b ∷ rest) ≡ drop
 drop_next n b rest = rw (one-add n)
 
 -- a list with an item is not empty
-filled : (b : ℕ) (rest : List ℕ) → b ∷ rest ≢ []
+pub filled : (b : ℕ) (rest : List ℕ) → b ∷ rest ≢ []
 filled b rest none = cc
 
 -- the first line of a text that isn't empty ends at the first line feed, or where the text ends

@@ -1,15 +1,10 @@
 -- Every piece of a drawing is maximal, and so its graph is valid.
-use Rattle.std.proofs.Common.{◌≡◌, ◌≢◌, ◌<◌, ◌≤◌, ℕ, zero, suc, List, [], ◌∷◌, length, get_or, slice_get, Some, All, Contains, arith, refl, subst}
-use Rattle.line_graph.proofs.Names.{All-contains, concat, IsStrictlyIncreasing, SplitPointsLead, LineValue, DrawingValue, IsPiece, ArePieces, AreConnected, LinesTouch, first_line, concat_has, PiecesAreValid}
+use Rattle.std.proofs.Common.{◌≡◌, ◌≢◌, ◌<◌, ◌≤◌, ℕ, zero, suc, List, [], ◌∷◌, length, get_or, All, Contains, arith, refl, subst}
+use Rattle.line_graph.proofs.Names.{All-contains, concat, IsStrictlyIncreasing, SplitPointsLead, DrawingValue, IsPiece, ArePieces, AreConnected, LinesTouch, first_line, concat_has, PiecesAreValid}
 use Rattle.line_graph.proofs.LabelLemmas.{joined_back, joined_on}
 use Rattle.line_graph.proofs.UniquePieceLemmas.{alike, among}
 use Rattle.line_graph.proofs.ValidPieceLemmas.{part_kept}
-
--- a line that there is has an index below their number
-index_below : (lines : List LineValue) (i : ℕ) (line : LineValue) → slice_get lines i ≡ Some line → i < length lines
-index_below [] i line is = absurd (cc)
-index_below (x ∷ lines) zero line is = omega arith
-index_below (x ∷ lines) (suc i) line is = omega (arith, index_below lines i line is)
+use Rattle.line_graph.proofs.LinkLemmas.{below_get}
 
 -- a list that isn't empty has a line
 some_line : (lines : List ℕ) → lines ≢ [] → 1 ≤ length lines
@@ -21,7 +16,7 @@ touched : (d : DrawingValue) (pieces : List (List ℕ)) → ArePieces d pieces �
     → Contains lines i → LinesTouch d i j → Contains lines j
 touched d pieces are lines in_pieces i j has touch =
     let Joins : List ℕ → Type 0 = λ piece. All (AreConnected d (first_line piece)) piece in
-    let is = among pieces j (are.covered j (index_below d.lines j touch.other touch.other_is)) in
+    let is = among pieces j (are.covered j (below_get d.lines j touch.other touch.other_is)) in
     let r : List ℕ = is.piece in
     let from : AreConnected d (first_line r) j =
     All-contains (AreConnected d (first_line r)) r j (All-contains Joins pieces r are.joined is.there) is.has in

@@ -54,7 +54,7 @@ chain_on : (d : TableValue) (h : ℕ → ℕ) (p top : PartValue) (qs : List Par
 chain_on d h p top [] t = (t.0, tt)
 chain_on d h p top (q ∷ qs) t = (t.0, chain_on d h q top qs t.1)
 
-AllLocal_on : (h : ℕ → ℕ) (qs : List PartValue) (p : PartValue) → AllLocal h qs → IsLocal h p → AllLocal h (qs ++ p ∷ [])
+pub AllLocal_on : (h : ℕ → ℕ) (qs : List PartValue) (p : PartValue) → AllLocal h qs → IsLocal h p → AllLocal h (qs ++ p ∷ [])
 AllLocal_on h [] p a b = (b, tt)
 AllLocal_on h (q ∷ qs) p a b = (a.0, AllLocal_on h qs p a.1 b)
 

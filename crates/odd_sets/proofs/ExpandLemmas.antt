@@ -4,7 +4,7 @@ use Rattle.odd_sets.proofs.Names.{nat_tests, length-take, take-append-drop, Tabl
 use Rattle.odd_sets.proofs.ListLemmas.{each-append, each-left, each-right, each-last}
 use Rattle.odd_sets.proofs.SumLemmas.{dual_sets-append, bands_push, count-append, height-append, low, members-append, members_push, none_tall, size-append}
 use Rattle.odd_sets.proofs.BlossomLemmas.{none_in}
-use Rattle.odd_sets.proofs.ClosingLemmas.{AllLocal, ChainTight, IsLocal, paid_is_tight}
+use Rattle.odd_sets.proofs.ClosingLemmas.{AllLocal, ChainTight, paid_is_tight, AllLocal_on}
 use Rattle.odd_sets.proofs.ReversalLemmas.{linked_left}
 use Rattle.odd_sets.proofs.TreeLemmas.{last_of, outer_members_base, grown_more, grown-append}
 
@@ -25,10 +25,6 @@ parts_local h (p ∷ ps) kept once at =
       parts_local h ps kept.1 (λ x. omega (arith, once x, c x))
           (λ x here. omega (arith, at x (omega (arith, c x, here)), s x, low x p.odd_set kept.0 (omega (arith, c x, once x, here)))),
     )
-
-AllLocal_on : (h : ℕ → ℕ) (qs : List PartValue) (p : PartValue) → AllLocal h qs → IsLocal h p → AllLocal h (qs ++ p ∷ [])
-AllLocal_on h [] p a b = (b, tt)
-AllLocal_on h (q ∷ qs) p a b = (a.0, AllLocal_on h qs p a.1 b)
 
 links_tight : (d : TableValue) (h : ℕ → ℕ) (p e : PartValue) (qs : List PartValue) → ChainTight d h p (qs ++ e ∷ [])
     → Each (λ (k : PartValue). IsTight d h k.next) (p ∷ qs)

@@ -1,11 +1,11 @@
 -- The strands of a design that sews a link make a drawing, or exceed one of its counts.
 use Rattle.std.proofs.Common.{◌≡◌, ℕ, ◌+◌, ◌==◌, ◌≤◌, max, Bool, true, false, cond, List, [], ◌∷◌, ◌++◌, length, Option, Some, None, Result, Ok, Err, ap, sym, subst, ◌∙◌, refl, append_assoc, arith}
-use Rattle.stitch_trace.proofs.Names.{le-max_right, ap₂, nat_tests, list_all, Act, NumberedAct, Point, is_stop, needle_point, act_point, is_bare_stop, acts_of, blocks_of, with_act_in_first_block, DesignValue, thread_of, DrawKind, DrawingValue, and_then, empty_drawing, finished_drawing, is_last_empty, joined_drawing, Link, NeedleMove, Stay, Gap, Sewn, Strand, TraceFault, chains_of, has_links, is_sewn, new_links_of, IsCountLimit, first_too_long, link_size, links_in, longest, move_to_act, needle_moves_of, needle_moves_from, drawing_with_strands, label_first_word, with_limit_fault, and_then_trace, trace_step, step_or_fault, strand_of, strands_added, strands_from, strands_of, CountsAreLimits}
+use Rattle.stitch_trace.proofs.Names.{le-max_right, ap₂, nat_tests, list_all, Act, NumberedAct, Point, is_stop, needle_point, is_bare_stop, acts_of, blocks_of, with_act_in_first_block, DesignValue, thread_of, DrawKind, DrawingValue, and_then, empty_drawing, finished_drawing, is_last_empty, joined_drawing, Link, NeedleMove, Stay, Gap, Sewn, Strand, TraceFault, chains_of, has_links, is_sewn, new_links_of, IsCountLimit, first_too_long, link_size, links_in, longest, move_to_act, needle_moves_of, needle_moves_from, drawing_with_strands, label_first_word, with_limit_fault, and_then_trace, trace_step, step_or_fault, strand_of, strands_added, strands_from, strands_of, CountsAreLimits}
 use Rattle.design_model.specs.declared.act.Act.TheVariants as act
 use Rattle.stitch_trace.specs.declared.trace_fault.TraceFault.TheVariants as fault
 use Rattle.stitch_trace.proofs.DistinctLemmas.{distinct_links}
 use Rattle.stitch_trace.proofs.DrawnLemmas.{ok_same}
-use Rattle.stitch_trace.proofs.FitLemmas.{AllFit, BlockSteps, acts_in_range, block_fits, each_block_steps, moves_are_steps}
+use Rattle.stitch_trace.proofs.FitLemmas.{AllFit, BlockSteps, acts_in_range, block_fits, each_block_steps, moves_are_steps, no_needle}
 use Rattle.stitch_trace.proofs.LimitLemmas.{IsReady, StrandsFit, counted, strands_end, strands_refused}
 use Rattle.stitch_trace.proofs.LinkedLemmas.{chains_where_links, has_chains}
 use Rattle.stitch_trace.proofs.MeasureLemmas.{FirstHasSize, first_has_size, greatest_more}
@@ -48,11 +48,6 @@ stop_sews_nothing None number what stop = refl
 stop_sews_nothing (Some p) number act.Trim stop = refl
 stop_sews_nothing (Some p) number act.Stop stop = refl
 stop_sews_nothing (Some p) number (act.Needle q float) stop = absurd cc
-
-no_needle : (what : Act) → is_bare_stop what ≡ true → act_point what ≡ None
-no_needle act.Trim stop = refl
-no_needle act.Stop stop = refl
-no_needle (act.Needle p float) stop = absurd cc
 
 first_more : (before : Option Point) (a : NumberedAct) (blocks : List (List NumberedAct))
     → links_in (move_to_act before a.number a.act ∷ []) ++ first_links (needle_point a) blocks

@@ -110,7 +110,7 @@ none_before : (step : ℕ) (blocks : List (List NumberedAct)) → FirstSteps ste
 none_before step [] are = tt
 none_before step (acts ∷ later) are = are
 
-no_needle : (what : Act) → is_bare_stop what ≡ true → act_point what ≡ None
+pub no_needle : (what : Act) → is_bare_stop what ≡ true → act_point what ≡ None
 no_needle act.Trim stop = refl
 no_needle act.Stop stop = refl
 no_needle (act.Needle p float) stop = absurd cc

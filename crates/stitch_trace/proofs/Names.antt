@@ -4,7 +4,7 @@ pub use Rattle.std.proofs.Math.Path.{ap₂}
 pub use Rattle.std.proofs.lemmas.Bool.{and_parts, both_ways, or_cases, or_left, or_parts, or_right}
 pub use Rattle.std.proofs.lemmas.Bool.Decides.{Decides-int_eq, nat_tests}
 pub use Rattle.std.proofs.lemmas.Grind.{div_ceil_times, flat_map-append}
-pub use Rattle.std.proofs.lemmas.List.{length-take, map-append}
+pub use Rattle.std.proofs.lemmas.List.{at_drop_all, at_drop_more, length-take, length_push, map-append}
 pub use Rattle.std.proofs.lemmas.List.Folds.{list_all-append, list_any-append}
 pub use Rattle.std.specs.HashSet.{HashSet, contains}
 pub use Rattle.std.specs.List.{list_all, list_any, onto_first, position_or_len, slice_split}

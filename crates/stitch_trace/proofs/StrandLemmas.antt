@@ -1,7 +1,6 @@
 -- Blocks one after another.
 use Rattle.std.proofs.Common.{◌≡◌, ℕ, ◌+◌, ◌<◌, List, [], ◌∷◌, ◌++◌, length, get_or, drop, refl, arith, append_assoc}
-use Rattle.std.proofs.lemmas.List.{at_drop_more}
-use Rattle.stitch_trace.proofs.Names.{nat_tests, DesignValue, NumberedAct, Strand, is_stop, blocks_of, with_act_in_first_block, onto_first, slice_split, chains_of, strand_of, strands_from, thread_of}
+use Rattle.stitch_trace.proofs.Names.{nat_tests, DesignValue, NumberedAct, Strand, is_stop, blocks_of, with_act_in_first_block, onto_first, slice_split, chains_of, strand_of, strands_from, thread_of, at_drop_more}
 
 onto_block : (a : NumberedAct) (blocks : List (List NumberedAct)) → onto_first a blocks ≡ with_act_in_first_block a blocks
 onto_block a [] = refl

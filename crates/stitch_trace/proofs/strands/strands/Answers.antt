@@ -1,8 +1,7 @@
 use Rattle.std.proofs.Common.{append-nil, arith, rules, tests}
 use Rattle.std.proofs.lemmas.Iterator.Consumers.{YieldsList-end, YieldsList-turn}
 use Rattle.std.proofs.lemmas.Iterator.Splits.{YieldsList-from_slice_split}
-use Rattle.std.proofs.lemmas.List.{at_drop_all, length_push}
-use Rattle.stitch_trace.proofs.Names.{blocks_of, is_stop, nat_tests, strands_from}
+use Rattle.stitch_trace.proofs.Names.{blocks_of, is_stop, nat_tests, strands_from, at_drop_all, length_push}
 use Rattle.stitch_trace.proofs.StrandLemmas.{blocks_split, strands_next}
 use Rattle.stitch_trace.proofs.strands.strands.Goals as goal
 
