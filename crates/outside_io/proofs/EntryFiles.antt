@@ -1,6 +1,6 @@
 -- What putting an entry changes: the file and the room of its name, and nothing else.
 use Rattle.std.proofs.Common.{◌≡◌, ◌≢◌, ℕ, ◌∷◌, [], List, Bool, true, false, Some, refl, sym, ◌∙◌, ap, subst, cond}
-use Rattle.outside_io.proofs.Names.{bytes_eq-Decides, bytes_eq, Files, WhereVisible, EntryValue, entry_in, file_in, with_entry, with_content, with_file, with_room}
+use Rattle.outside_io.proofs.Names.{bytes_eq-Decides, bytes_eq, Files, WhereVisible, EntryValue, entry_in, file_in, with_entry, with_room}
 
 -- A fact of visible files holds wherever they are visible.
 pub where_told : (P : Files → Type 0) (files : Files) → P files → WhereVisible (Some files) P
@@ -51,28 +51,6 @@ file_in-with_entry entries entry name same = rw (← same) (rw (entry_in-with_en
 pub file_in-put_in_other : (entries : List EntryValue) (entry : EntryValue) (other : List ℕ) → other ≢ entry.name →
     file_in (with_entry entries entry) other ≡ file_in entries other
 file_in-put_in_other entries entry other differs = rw (entry_in-put_in_other entries entry other differs)
-
--- The file whose content was set contains it.
-pub file_in-with_content : (entries before : List EntryValue) (name content : List ℕ) →
-    entries ≡ with_content before name content → file_in entries name ≡ Some content
-file_in-with_content entries before name content is = rw is (file_in-with_entry before _ name refl)
-
--- the other files stay where a content was set
-pub file_in-with_content_other : (entries before : List EntryValue) (name content other : List ℕ) →
-    entries ≡ with_content before name content → other ≢ name → file_in entries other ≡ file_in before other
-file_in-with_content_other entries before name content other is differs =
-    rw is (file_in-put_in_other before _ other differs)
-
--- the file that was put is there
-pub file_in-with_file : (entries before : List EntryValue) (name content : List ℕ) →
-    entries ≡ with_file before name content → file_in entries name ≡ Some content
-file_in-with_file entries before name content is = rw is (file_in-with_entry before _ name refl)
-
--- the other files stay where a file was put
-pub file_in-with_file_other : (entries before : List EntryValue) (name content other : List ℕ) →
-    entries ≡ with_file before name content → other ≢ name → file_in entries other ≡ file_in before other
-file_in-with_file_other entries before name content other is differs =
-    rw is (file_in-put_in_other before _ other differs)
 
 -- all files stay where room was raised
 pub file_in-with_room : (entries before : List EntryValue) (name : List ℕ) (room : ℕ) (other : List ℕ) →

@@ -1,9 +1,7 @@
 -- Worked values of stores and sinks in memory: the name `a` (97) has a file of two bytes in a room of
 -- three, and the name `b` (98) has room for two bytes and no file.
 use Rattle.std.proofs.Common.{◌≡◌, ℕ, List, [], ◌∷◌, Some, None, Ok, Err, true, false, refl, ap, arith, true≢false}
-use Rattle.outside_io.proofs.Names.{Failed, MemPuts, MemSinkValue, EntryValue, file_in, with_content, with_file, with_room, MemCreates, MemReads, MemStoreValue, empty_sink, put_fails, room_in, exceeds_room, with_bytes_appended, empty_store, is_next_call_listed}
-use Rattle.outside_io.specs.MemSinks.{put_failure_added}
-use Rattle.outside_io.specs.MemStores.{failure_added}
+use Rattle.outside_io.proofs.Names.{failure_added, put_failure_added, Failed, MemPuts, MemSinkValue, EntryValue, file_in, with_content, with_file, with_room, MemCreates, MemReads, MemStoreValue, empty_sink, put_fails, room_in, exceeds_room, with_bytes_appended, empty_store, is_next_call_listed}
 
 pub two : List EntryValue
 two =

@@ -1,8 +1,6 @@
 -- What the results of calls on the outside exclude.
 use Rattle.std.proofs.Common.{◌≡◌, ◌≢◌, ℕ, ◌+◌, ◌<◌, ◌≤◌, List, [], ◌∷◌, ◌++◌, Option, None, Some, Result, Ok, Err, IfOk, OnOk, length, take, arith, ap, ⊎_elim}
-use Rattle.outside_io.proofs.Names.{Failed, Blame, read_call, with_failed_call, write_call, BufferMatches, HasNoNewFault, ReadCause, ReadsWholeFile, TookBytes, WriteCause, with_bytes_taken, IsFaultless, MAX_COUNT, Rose, next_count, ReadsNextPart, ChangesOnlyFile, Files, IsFileName, MemPuts, MemSinkValue, MemCreates, MemReads, MemStoreValue, AddsPrefix, StreamPuts, SinkView, StoreView, FaultLogValue, LogsFailedCall, CallFailed, MemAppends, after_fault, StreamValue}
-use Rattle.outside_io.specs.Causes.{AppendsBytes, IsReadResult, ReadsAt, WritesFile}
-use Rattle.outside_io.specs.Files.{AppendsToFile, FileHolds}
+use Rattle.outside_io.proofs.Names.{AppendsBytes, AppendsToFile, FileHolds, IsReadResult, ReadsAt, WritesFile, Failed, Blame, read_call, with_failed_call, write_call, BufferMatches, HasNoNewFault, ReadCause, ReadsWholeFile, TookBytes, WriteCause, with_bytes_taken, IsFaultless, MAX_COUNT, Rose, next_count, ReadsNextPart, ChangesOnlyFile, Files, IsFileName, MemPuts, MemSinkValue, MemCreates, MemReads, MemStoreValue, AddsPrefix, StreamPuts, SinkView, StoreView, FaultLogValue, LogsFailedCall, CallFailed, MemAppends, after_fault, StreamValue}
 use Rattle.outside_io.specs.declared.store.ReadStop.{ReadStop}
 use Rattle.outside_io.specs.declared.store.ReadStop.TheVariants as stop
 use Rattle.outside_io.specs.declared.whole_files.GetFault.TheVariants as fault
