@@ -1,7 +1,6 @@
 -- Commands that are moved one after the other.
 use Rattle.std.proofs.Common.{◌≡◌, ℕ, zero, suc, ◌+◌, ◌<◌, Bool, not, cond, IsTrue, add-one, List, [], ◌∷◌, ◌++◌, Option, Some, None, IfSome, length, get_or, set, take, drop, map, refl, ap, ◌∙◌, subst, arith}
 use Rattle.design_edits.proofs.Names.{list_all, position_from, Command, Stitch, Jump, Trim, Stop, Point, is_command_in_range, DesignValue, is_point_within, Axis, first_out_of_range, mirror_point, turn_point, with_mapped_point, with_mapped_points, and_parts, nat_tests, slice_get, target_of, KeepsLimits, with_command_at, size-neg}
-use Rattle.design_edits.specs.declared.axis.Axis.TheVariants as axis
 
 -- whether a command's point is out of its range
 abbrev pub is_outside : Command → Bool

@@ -1,7 +1,6 @@
 -- The record of a move has that move, and its kind is that of its flags.
 use Rattle.std.proofs.Common.{◌≡◌, ℕ, ◌+◌, ◌-◌, ◌*◌, ◌/◌, ◌%◌, ◌<◌, ◌≤◌, ℤ, pos, ◌-ℤ◌, unsigned_abs, IsTrue, arith}
 use Rattle.dst_codec.proofs.Names.{nat_tests, ints, Point, is_point_within, LIMIT, bit_of_byte, dst_move_of, rightwards, leftwards, upwards, downwards, biased_number, plus_bit, minus_bit, x_signs, y_signs, within_parts, point_of_parts}
-use Rattle.dst_codec.specs.declared.record_kind.RecordKind.TheVariants as kind
 
 -- the third byte of a record with flags
 abbrev pub third_of : ℕ → Point → ℕ
