@@ -4,15 +4,6 @@ use Rattle.std.proofs.lemmas.List.Concat.{flat_map-cons}
 use Rattle.route_verdict.proofs.Names.{nat_tests, append_assoc, length-append, All-head, All-nil, All-tail, PieceCert, Command, Point, DesignValue, IsNeedlePoint, Pass, DrawingValue, KeepsDrawingLimits, block_of_passes, runs_of, needles_of_walk, walks_of, with_commands, AllDrawn, AreDrawn, later_needles, run_commands, All-append, commands_after, NeedlesLeadAlong, needles_of_line, needles_of_pass}
 use Rattle.line_graph.proofs.CallerLemmas.{range_back}
 
--- the needles of further passes, one pass on
-pub later_more : (d : DrawingValue) (old points : List Point) (left after : List Pass) (pass : Pass) → left ≡ pass ∷ after
-    → (needles : List Point) → needles ≡ needles_of_pass d pass → points ≡ old ++ drop 1 needles
-    → points ++ later_needles d after ≡ old ++ later_needles d left
-later_more d old points left after pass is needles are put = grind (arith, nat_tests, append_assoc, flat_map-cons)
-
-pub drawn_rest : (d : DrawingValue) (left after : List Pass) (pass : Pass) → left ≡ pass ∷ after → AreDrawn d left → AreDrawn d after
-drawn_rest d left after pass is drawn = All-tail (λ (p : Pass). p.line < length d.lines) pass after (subst (AreDrawn d) is drawn)
-
 either : (ps : List Point) (back : Bool) → All IsNeedlePoint ps → All IsNeedlePoint (cond back (reverse ps) ps)
 either ps true all = range_back ps [] all (All-nil IsNeedlePoint)
 either ps false all = all

@@ -1,20 +1,16 @@
 -- Verdicts: no reason is found exactly where all is right, and then each walk is least.
-use Rattle.std.proofs.Common.{◌≡◌, ◌≤◌, ◌<◌, ℕ, ◌+◌, true, List, [], ◌∷◌, ◌++◌, Option, Some, None, length, map, All, Contains, arith, refl, sym, ◌∙◌, ap, subst}
-use Rattle.route_verdict.proofs.Names.{nat_tests, All-cons, All-head, All-nil, All-tail, AllZip, concat, PieceCert, BoundsWalks, cuts_fault, CutFaultsAreExact, WalkFaultsAreExact, first_fault, walk_fault, acts_of, acts_without_numbers, DesignValue, Pass, Piece, graph_of, DrawingValue, KeepsDrawingLimits, PiecesAreValid, ArePieces, IsValidPiece, PieceValue, piece_graph, IsLeastWalk, is_fitting_walk, runs_of, sewn_acts, FittingWalksAreSewable, Verdict, CorrectRoutesAreAccepted, walks_of, AllDrawn, AreDrawn, IsCorrectRoute, IsCorrectPieceCert, HasShortLists, cost_above, count_reason, cuts_reason, piece_reason, pieces_reason, retraced_reason, verdict_of, walk_reason, both_none, length-map, All-contains, ProvesLeast, ArePiecesOf, lines_of_pieces, ArePiecesWithin, PiecesKeepLimits, IsVerdictOver, acts_reason, difference_of, reason_of, verdict_of_reason, number_found}
+use Rattle.std.proofs.Common.{◌≡◌, ◌⊎◌, ◌≤◌, ◌<◌, ℕ, ◌+◌, true, List, [], ◌∷◌, ◌++◌, Option, Some, None, length, map, All, Contains, arith, refl, sym, ◌∙◌, ap, subst}
+use Rattle.route_verdict.proofs.Names.{nat_tests, All-cons, All-head, All-nil, All-tail, AllZip, concat, PieceCert, BoundsWalks, cuts_fault, CutFaultsAreExact, WalkFaultsAreExact, first_fault, walk_fault, acts_of, acts_without_numbers, DesignValue, Pass, Piece, graph_of, DrawingValue, KeepsDrawingLimits, PiecesAreValid, ArePieces, IsValidPiece, PieceValue, piece_graph, IsLeastWalk, is_fitting_walk, runs_of, sewn_acts, FittingWalksAreSewable, Verdict, CorrectRoutesAreAccepted, walks_of, AllDrawn, AreDrawn, IsCorrectRoute, IsCorrectPieceCert, cost_above, count_reason, cuts_reason, piece_reason, pieces_reason, retraced_reason, verdict_of, walk_reason, both_none, length-map, All-contains, ProvesLeast, ArePiecesOf, lines_of_pieces, ArePiecesWithin, PiecesKeepLimits, IsVerdictOver, acts_reason, difference_of, reason_of, verdict_of_reason, number_found}
 use Rattle.route_verdict.specs.declared.verdict.Reason.{Reason}
 use Rattle.route_verdict.specs.declared.verdict.Verdict.TheVariants as verdict
 use Rattle.route_verdict.proofs.SameActs.{no_difference, none_with_itself}
 use Rattle.route_verdict.proofs.CallerLemmas.{count_none, piece_correct, walk_none}
 
--- one piece on
-pub reasons_next : (pieces rest : List Piece) (certs more : List PieceCert) (p : Piece) (cert : PieceCert) (number : ℕ)
-    (whole : Option Reason)
-    → pieces ≡ p ∷ rest → certs ≡ cert ∷ more → pieces_reason number (map graph_of pieces) certs ≡ whole
-    → piece_reason (graph_of p) number cert ≡ None → pieces_reason (number + 1) (map graph_of rest) more ≡ whole
-reasons_next pieces rest certs more p cert number whole is are told none = rw (is, are, none) at told
-
-pub short_rest : (certs more : List PieceCert) (cert : PieceCert) → certs ≡ cert ∷ more → All HasShortLists certs → All HasShortLists more
-short_rest certs more cert is all = All-tail HasShortLists cert more (subst (All HasShortLists) is all)
+-- where pieces or certificates end, no reason is left
+pub no_reason_left : (number : ℕ) (pieces : List Piece) (certs : List PieceCert) → (pieces ≡ []) ⊎ (certs ≡ [])
+    → None ≡ pieces_reason number (map graph_of pieces) certs
+no_reason_left number [] certs end = refl
+no_reason_left number (p ∷ pieces) certs end = grind (arith, nat_tests)
 
 acts_none : (found : Option ℕ) → acts_reason found ≡ None → found ≡ None
 acts_none None is = refl

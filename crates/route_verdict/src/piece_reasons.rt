@@ -6,7 +6,7 @@ ghost use Rattle.route_verdict.specs.Verdicts.{HasShortLists, count_reason, piec
 
 use crate::verdict::Reason;
 use line_graph::Piece;
-use odd_cuts::{PieceCert, check_cuts, check_walk, first_lent};
+use odd_cuts::{PieceCert, check_cuts, check_walk};
 
 /// Returns the reason that the certificate has another number of pieces than the drawing, if it has.
 pub fn wrong_count(certs: &[PieceCert], pieces: &[Piece]) -> Option<Reason>
@@ -30,18 +30,11 @@ pub fn wrong_piece(pieces: &[Piece], certs: &[PieceCert]) -> Option<Reason>
     ensures { result ≡ pieces_reason 1 (map graph_of pieces.now) certs.now }
 {
     let mut number = 1;
-    let mut left = pieces;
-    let mut said = certs;
-    while let (Some((piece, pieces_after)), Some((cert, certs_after))) = (
-        first_lent(left),
-        first_lent(said),
-    ) {
+    for (piece, cert) in pieces.iter().zip(certs) {
         if let Some(reason) = wrong_with(piece, number, cert) {
             return Some(reason);
         }
         number += 1;
-        left = pieces_after;
-        said = certs_after;
     }
     None
 }

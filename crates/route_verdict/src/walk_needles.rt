@@ -28,11 +28,9 @@ fn add_later(alloc: Global, points: &mut Points, d: &Drawing, walk: &[Pass]) -> 
     requires { AreDrawn d.now walk.now }
     ensures { OnOk result (points.new ≡ points.old ++ later_needles d.now walk.now) }
 {
-    let mut rest = walk;
-    while let Some((pass, after)) = first_and_rest(rest) {
-        let needles = pass_needles(alloc, d, pass)?;
+    for pass in walk {
+        let needles = pass_needles(alloc, d, *pass)?;
         points.append(after_first(needles.as_slice()))?;
-        rest = after;
     }
     Ok(())
 }
