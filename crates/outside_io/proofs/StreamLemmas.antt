@@ -1,7 +1,7 @@
 -- Bytes that are added to a stream one part after another.
-use Rattle.std.proofs.Common.{◌≡◌, ℕ, List, [], ◌++◌, Option, refl, sym, ap, subst, ◌∙◌, append_assoc, append-nil, take, drop, take-append-drop}
+use Rattle.std.proofs.Common.{arith, ◌≡◌, ℕ, List, [], ◌++◌, Option, refl, sym, subst, ◌∙◌, append_assoc, append-nil, take, drop, take-append-drop}
 use Rattle.std.proofs.KnownBytes.{Appends-nil, Appends-trans, Appends-kept}
-use Rattle.outside_io.proofs.Names.{Keeps, AddsPrefix, Appends}
+use Rattle.outside_io.proofs.Names.{nat_tests, Keeps, AddsPrefix, Appends}
 
 -- at first nothing was added
 pub adds_none : (held : Option (List ℕ)) (bytes : List ℕ) → AddsPrefix held held bytes bytes
@@ -12,11 +12,7 @@ pub adds_more : (old before new : Option (List ℕ)) (bytes left rest : List ℕ
     → Appends before new (take count left) → rest ≡ drop count left → AddsPrefix old new bytes rest
 adds_more old before new bytes left rest count so_far more is = record {
   first = so_far.first ++ take count left;
-  parts =
-      append_assoc so_far.first (take count left) rest
-      ∙ ap (λ l. so_far.first ++ (take count left ++ l)) is
-      ∙ ap (λ l. so_far.first ++ l) (take-append-drop count left)
-      ∙ so_far.parts;
+  parts = grind (arith, nat_tests, append_assoc, take-append-drop, so_far.parts);
   added = Appends-trans old before new so_far.first (take count left) so_far.added more;
 }
 

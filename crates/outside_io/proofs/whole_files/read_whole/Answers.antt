@@ -1,5 +1,5 @@
-use Rattle.std.proofs.Common.{◌≡◌, ◌+◌, ℕ, List, ◌++◌, ◌∙◌, length, take, ap, sym, subst, arith, length-append, rules}
-use Rattle.outside_io.proofs.Names.{length-take-le, IsContentPrefix}
+use Rattle.std.proofs.Common.{◌≡◌, ℕ, List, ◌++◌, ◌∙◌, take, sym, subst, arith, length-append, rules}
+use Rattle.outside_io.proofs.Names.{nat_tests, length-take-le, IsContentPrefix}
 use Rattle.outside_io.proofs.WholeAnswers.{decided}
 use Rattle.outside_io.proofs.WholeFiles.{stays_on}
 use Rattle.outside_io.proofs.whole_files.read_whole.Goals as goal
@@ -8,18 +8,12 @@ pub loop-bytes-preserved : goal.loop-bytes-preserved
 loop-bytes-preserved g c =
     let kept = c.loop-bytes.invariant in
     let reads = c.in_ok-count.ensures.reads in
-    let bytes = c.loop-bytes.bytes in
-    let buffer = c.read_next.new.buffer in
-    let place : length bytes ≡ c.len.result = sym c.len.ensures in
-    let added : c.append.new.self ≡ bytes ++ take c.in_ok-count.count buffer = search rules in
-    let both : length c.append.new.self ≡ length bytes + c.in_ok-count.count =
-    ap length added ∙ length-append bytes (take c.in_ok-count.count buffer)
-    ∙ ap (λ n. length bytes + n) (length-take-le c.in_ok-count.count buffer reads.2) in
-    let next = reads.3 bytes place (λ told is. kept.begins told (sym kept.same ∙ is)) in
+    let next = reads.3 c.loop-bytes.bytes (sym c.len.ensures) (λ told is. kept.begins told (sym kept.same ∙ is)) in
+    let added : c.append.new.self ≡ c.loop-bytes.bytes ++ take c.in_ok-count.count c.read_next.new.buffer = search rules in
     record {
       same = c.in_ok-count.ensures.same ∙ kept.same;
       stays = stays_on kept.stays reads.0;
-      short = omega (arith, both, place, reads.1);
+      short = grind (arith, nat_tests, added, length-append, length-take-le, c.len.ensures, reads.1, reads.2);
       room = search rules;
       begins = λ told is. subst (λ (b : List ℕ). IsContentPrefix (told c.args.name.now) b) (sym added) (next.on told (kept.same ∙ is));
     }
