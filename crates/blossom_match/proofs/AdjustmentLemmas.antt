@@ -12,9 +12,8 @@ none_below v [] e = refl
 none_below v (b ∷ bs) e = absurd (omega arith)
 
 narrow_case : (n : ℕ) (t : TableValue) (h : ℕ → ℕ) (by : ℕ) (b : BranchValue) → length b.inner.below ≡ n → AllowsChange by b
-    → IsSoundBranch t h b
-    → count b.up.to b.inner.members ≡ 1 → count b.pair.from b.inner.members ≡ 1 →
-    entry t b.up.from b.pair.to ≤ entry t b.up.from b.up.to + entry t b.up.to b.pair.to
+    → IsSoundBranch t h b → count b.up.to b.inner.members ≡ 1 → count b.pair.from b.inner.members ≡ 1
+    → entry t b.up.from b.pair.to ≤ entry t b.up.from b.up.to + entry t b.up.to b.pair.to
     → h b.up.from + h b.pair.to + 2 * by ≤ 2 * entry t b.up.from b.pair.to → by ≤ b.inner.dual
 narrow_case (suc n) t h by b e blossom f to from triangle slack = blossom (omega (arith, e))
 narrow_case zero t h by b e blossom f to from triangle slack =
@@ -28,8 +27,7 @@ narrow_case zero t h by b e blossom f to from triangle slack =
 
 -- each inner set has the dual of the change: a blossom by the bound on blossoms, a single place by the triangles
 can_change : (t : TableValue) (h : ℕ → ℕ) (s : SearchValue) (c : DualChange) → IsTable t → HasTriangleInequality t → IsSearch t h s
-    → IsLeastChange t h s c
-    → 1 ≤ length s.free → Each (CanChange c.by) s.tree
+    → IsLeastChange t h s c → 1 ≤ length s.free → Each (CanChange c.by) s.tree
 can_change t h s c is tri i b some =
     let f = some_member s.free some in
     each_split (CanChange c.by) s.tree s.tree [] refl (λ bs k after e.
@@ -72,8 +70,7 @@ fall_case (suc n) by w i e down = down (omega (arith, e))
 
 -- the cells of the places of the tree
 can_change_heights : (t : TableValue) (s : SearchValue) (c : DualChange) → IsMetric t → CanSearch t s
-    → IsLeastChange t (stored_height s) s c
-    → Each (CanChange c.by) s.tree → CanChangeHeights c.by s.root s.tree s.heights
+    → IsLeastChange t (stored_height s) s c → Each (CanChange c.by) s.tree → CanChangeHeights c.by s.root s.tree s.heights
 can_change_heights t s c m can b wide = record {
   cells = λ x here. omega (arith, can.size, place_in t x (omega (arith, can.search.places x, here)));
   rise = λ x.
@@ -120,9 +117,8 @@ moved by s r ch can x =
     )
 
 one_slack : (t : TableValue) (h : ℕ → ℕ) (s : SearchValue) (c : DualChange) (a b : ℕ) → IsSearch t h s → IsLeastChange t h s c
-    → b < t.places
-    → 1 ≤ count a (outer_vertices s) → count b (inner_members s.tree) ≡ 0 → search_holding_both a b s ≡ 0 →
-    h a + h b + c.by ≤ 2 * entry t a b
+    → b < t.places → 1 ≤ count a (outer_vertices s) → count b (inner_members s.tree) ≡ 0 → search_holding_both a b s ≡ 0
+    → h a + h b + c.by ≤ 2 * entry t a b
 one_slack t h s c a b i bd lb ha none apart = by_count (count b (outer_vertices s))
     (λ e. bd.one a b ha (omega (arith, i.places b, in_place t b lb, none, e)))
     (λ e. omega (arith, bd.two a b ha e apart))
@@ -132,9 +128,8 @@ apart_of a b n = apart (count a n.members) (count b n.members)
 
 -- the load between two places stays within its bound
 loads_stay : (t : TableValue) (h : ℕ → ℕ) (s r : SearchValue) (c : DualChange) → IsSearch t h s → IsLeastChange t h s c
-    → ChangesDuals c.by s r
-    → Each (CanChange c.by) s.tree → (a b : ℕ) → a < t.places → b < t.places → a ≢ b →
-    load_of r a b ≤ 2 * entry t a b
+    → ChangesDuals c.by s r → Each (CanChange c.by) s.tree → (a b : ℕ) → a < t.places → b < t.places → a ≢ b
+    → load_of r a b ≤ 2 * entry t a b
 loads_stay t h s r c i bd ch can a b la lb ne =
     let by = c.by in
     let tree = s.tree in
@@ -184,10 +179,9 @@ loads_stay t h s r c i bd ch can a b la lb ne =
     ))
 
 due_ready : (step : SearchStep) (t : TableValue) (h k : ℕ → ℕ) (s r : SearchValue) (by : ℕ) → ChangesDuals by s r
-    → ((x : ℕ) → 1 ≤ count x (outer_vertices s) → k x ≡ h x + by) →
-    ((x : ℕ) → 1 ≤ count x (match_members s.rest) + count x s.free → k x ≡ h x)
-    → ((x : ℕ) → count x (outer_vertices r) ≡ count x (outer_vertices s)) →
-    IsReadyAfter t h s by step → IsStepReady t k r step
+    → ((x : ℕ) → 1 ≤ count x (outer_vertices s) → k x ≡ h x + by)
+    → ((x : ℕ) → 1 ≤ count x (match_members s.rest) + count x s.free → k x ≡ h x)
+    → ((x : ℕ) → count x (outer_vertices r) ≡ count x (outer_vertices s)) → IsReadyAfter t h s by step → IsStepReady t k r step
 due_ready step t h k s r by h1 h2 h3 h4 h5 = grind (arith, nat_tests, around_same_all, drop_changed)
 
 rise : (by k h i o : ℕ) → k + by * i ≡ h + by * o → i ≡ 0 → o ≡ 1 → k ≡ h + by
@@ -206,8 +200,7 @@ at_most zero (suc m) P few out inn rest = inn (omega (arith, few))
 at_most (suc n) m P few out inn rest = out (omega (arith, few))
 
 steps_on : (t : TableValue) (s r : SearchValue) (c : DualChange) → ChangesDuals c.by s r → IsMetric t → CanSearch t s
-    → IsLeastChange t (stored_height s) s c
-    → CanStepAfter t c r
+    → IsLeastChange t (stored_height s) s c → CanStepAfter t c r
 steps_on t s r c ch m cs b =
     let by = c.by in
     let h = stored_height s in

@@ -12,9 +12,8 @@ load_either : (a b : ℕ) (s : OddSetValue) → IsOddSet s → one_if_both a b s
 load_either a b s h1 h2 = grind (arith, nat_tests, by_count, load_across, load_along)
 
 load_branches : (d : TableValue) (h : ℕ → ℕ) (a b : ℕ) (tree : List BranchValue) → Each (IsSoundBranch d h) tree
-    → count a (inner_members tree) ≡ 0
-    → outer_with_both a b tree ≡ 0 →
-    dual_load a b (branch_dual_sets tree) ≡ height a (branch_dual_sets tree) + height b (branch_dual_sets tree)
+    → count a (inner_members tree) ≡ 0 → outer_with_both a b tree ≡ 0
+    → dual_load a b (branch_dual_sets tree) ≡ height a (branch_dual_sets tree) + height b (branch_dual_sets tree)
 load_branches d h a b [] f none apart = refl
 load_branches d h a b (c ∷ cs) f none apart =
     let n = count-append a c.inner.members (inner_members cs) in
@@ -31,9 +30,8 @@ load_branches d h a b (c ∷ cs) f none apart =
       height-append b (dual_sets c.outer) (branch_dual_sets cs),
     )
 
-load_matches : (d : TableValue) (h : ℕ → ℕ) (a b : ℕ) (cs : List MatchValue) → Each (IsSoundMatch d h) cs → count a (match_members cs) ≡
-    0 →
-    dual_load a b (match_dual_sets cs) ≡ height a (match_dual_sets cs) + height b (match_dual_sets cs)
+load_matches : (d : TableValue) (h : ℕ → ℕ) (a b : ℕ) (cs : List MatchValue) → Each (IsSoundMatch d h) cs → count a (match_members cs) ≡ 0
+    → dual_load a b (match_dual_sets cs) ≡ height a (match_dual_sets cs) + height b (match_dual_sets cs)
 load_matches d h a b [] f none = refl
 load_matches d h a b (c ∷ cs) f none =
     let n = count-append a c.first.members (c.second.members ++ match_members cs) in
@@ -53,9 +51,7 @@ load_matches d h a b (c ∷ cs) f none =
 
 -- between an outer place and a place that no set holds with it, the heights are the load
 pub loads_apart : (t : TableValue) (h : ℕ → ℕ) (s : SearchValue) (a b : ℕ) → IsSearch t h s → 1 ≤ count a (outer_vertices s)
-    → search_holding_both a b s
-    ≡ 0
-    → load_of s a b ≡ dual_height s a + dual_height s b
+    → search_holding_both a b s ≡ 0 → load_of s a b ≡ dual_height s a + dual_height s b
 loads_apart t h s a b h1 h2 h3 = grind (arith, nat_tests, is_one, load_either, load_branches, load_matches)
 
 -- a place that is not free
@@ -71,8 +67,7 @@ differ_in a b xs ys once ha hb e = omega (arith, once b, hb, ha, ap (λ (x : ℕ
 
 -- an outer place and a free one
 pub free_slack : (t : TableValue) (h : ℕ → ℕ) (s : SearchValue) (a b : ℕ) → IsSearch t h s → 1 ≤ count a (outer_vertices s)
-    → 1 ≤ count b s.free
-    → h a + h b ≤ 2 * entry t a b
+    → 1 ≤ count b s.free → h a + h b ≤ 2 * entry t a b
 free_slack t h s a b h1 h2 h3 = grind (arith, nat_tests, place_in, differ_in, is_one)
 
 matched_slack : (t : TableValue) (h : ℕ → ℕ) (s : SearchValue) (a b : ℕ) → IsSearch t h s → 1 ≤ count a (outer_vertices s)
@@ -90,8 +85,7 @@ matched_slack t h s a b i ha hb =
     )
 
 outer_slack : (t : TableValue) (h : ℕ → ℕ) (s : SearchValue) (a b : ℕ) → IsSearch t h s → 1 ≤ count a (outer_vertices s)
-    → 1 ≤ count b (outer_vertices s)
-    → search_holding_both a b s ≡ 0 → h a + h b ≤ 2 * entry t a b
+    → 1 ≤ count b (outer_vertices s) → search_holding_both a b s ≡ 0 → h a + h b ≤ 2 * entry t a b
 outer_slack t h s a b i ha hb apart =
     let l = i.loads a b (place_in t a (omega (arith, i.places a, ha))) (place_in t b (omega (arith, i.places b, hb)))
     (grind (arith, nat_tests, around_same)) in
@@ -188,8 +182,7 @@ free_near t h s hs reach b is i r hb =
     (is_near t h s hs reach a.0 b is i r (set_in_root s a.0 a.1) (place_in t b (omega (arith, i.places b, hb)))
     (omega (arith, i.places b, is_one t b, hb))).0
 
-due_case : (k : Kind) (t : TableValue) (h : ℕ → ℕ) (s : SearchValue) (hs reach : List ℕ) (from to by : ℕ) → IsSearch t h s
-    → HeightsAre hs h
+due_case : (k : Kind) (t : TableValue) (h : ℕ → ℕ) (s : SearchValue) (hs reach : List ℕ) (from to by : ℕ) → IsSearch t h s → HeightsAre hs h
     → 1 ≤ count from (outer_vertices s) → search_holding_both from to s ≡ 0 → get_or reach to 0 ≡ 2 * entry t from to - get_or hs from 0
     → 1 ≤ count to (target_vertices s k) → by ≡ change_at hs reach k to
     → IsReadyAfter t h s by (step_of k (record { from = from; to = to }))
@@ -213,8 +206,7 @@ due_case kind.Shrink t h s hs reach from to by i at here apart exact there is = 
 )
 
 due_aimed : (t : TableValue) (h : ℕ → ℕ) (s : SearchValue) (hs reach : List ℕ) (aim : Target) (c : DualChange) → IsSearch t h s
-    → HeightsAre hs h
-    → IsCandidate s hs reach aim → IsCandidateChange t hs s.root s.tree reach aim c → IsReadyAfter t h s c.by c.step
+    → HeightsAre hs h → IsCandidate s hs reach aim → IsCandidateChange t hs s.root s.tree reach aim c → IsReadyAfter t h s c.by c.step
 due_aimed t h s hs reach aim c i at is l =
     subst (λ (st : SearchStep). IsReadyAfter t h s c.by st) (sym l.step)
     (due_case aim.kind t h s hs reach l.from aim.to c.by i at l.here l.apart l.exact is.there (l.by ∙ is.by))
@@ -224,10 +216,9 @@ due_now : (t : TableValue) (h : ℕ → ℕ) (s : SearchValue) (old new : DualCh
 due_now t h s old new h1 h2 = grind (arith, nat_tests)
 
 -- after the least of all changes no slack is negative, and its step can be made
-pub bounds_of : (t : TableValue) (h : ℕ → ℕ) (s : SearchValue) (hs reach : List ℕ) (first met grown crossed : Target)
-    (c new : DualChange)
-    → IsAimedAt t h s hs reach first met grown crossed → IsCandidateChange t hs s.root s.tree reach crossed c
-    → IsLesserChange s.tree c new → IsLeastChange t h s new
+pub bounds_of : (t : TableValue) (h : ℕ → ℕ) (s : SearchValue) (hs reach : List ℕ) (first met grown crossed : Target) (c new : DualChange)
+    → IsAimedAt t h s hs reach first met grown crossed → IsCandidateChange t hs s.root s.tree reach crossed c → IsLesserChange s.tree c new
+    → IsLeastChange t h s new
 bounds_of t h s hs reach first met grown crossed c new a l n =
     let i = a.search in
     let at = a.heights in

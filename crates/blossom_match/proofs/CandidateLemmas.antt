@@ -4,13 +4,11 @@ use Rattle.blossom_match.proofs.Names.{nat_tests, OddSetValue, count, outer_with
 use Rattle.blossom_match.proofs.ScanLemmas.{split_here}
 
 aims_in : (hs reach : List ℕ) (k : Kind) (xs zs : List ℕ) (aim : Target) → ((x : ℕ) → count x xs ≤ count x zs)
-    → IsCandidateAmong hs reach k xs aim
-    → IsCandidateAmong hs reach k zs aim
+    → IsCandidateAmong hs reach k xs aim → IsCandidateAmong hs reach k zs aim
 aims_in hs reach k xs zs aim more a = record { kind = a.kind; there = omega (arith, a.there, more aim.to); near = a.near; by = a.by }
 
 -- the places of two lists
-pub aims_join : (hs reach : List ℕ) (k : Kind) (xs ys zs : List ℕ) (o m n : Target)
-    → ((x : ℕ) → count x zs ≡ count x xs + count x ys)
+pub aims_join : (hs reach : List ℕ) (k : Kind) (xs ys zs : List ℕ) (o m n : Target) → ((x : ℕ) → count x zs ≡ count x xs + count x ys)
     → IsBestCandidate hs reach k xs o m → IsBestCandidate hs reach k ys m n → IsBestCandidate hs reach k zs o n
 aims_join hs reach k xs ys zs o m n h1 h2 h3 = grind (arith, nat_tests, either, aims_in)
 
@@ -43,8 +41,7 @@ pub record IsBelow (t : TableValue) (hs : List ℕ) (tree : List BranchValue) (x
 
 -- the root's places do not
 pub below_root : (t : TableValue) (hs : List ℕ) (root : OddSetValue) (tree : List BranchValue) (x left : ℕ)
-    → IsOuterSlack t hs root tree x left
-    → FindsSlackInSet t hs root x left None → IsBelow t hs tree x left
+    → IsOuterSlack t hs root tree x left → FindsSlackInSet t hs root x left None → IsBelow t hs tree x left
 below_root t hs root tree x left r none = by_count (count r.a root.members)
     (λ e. record {
       a = r.a;

@@ -58,8 +58,7 @@ branches_tall x by (b ∷ bs) can =
 
 -- a set of the outer sets, of the inner sets and of the others
 pub sound_up : (d : TableValue) (h k : ℕ → ℕ) (by : ℕ) (s : OddSetValue) → ((x : ℕ) → count x s.members ≤ 1)
-    → ((x : ℕ) → 1 ≤ count x s.members → k x ≡ h x + by) → IsSoundSet d h s →
-    IsSoundSet d k (with_dual (s.dual + by) s)
+    → ((x : ℕ) → 1 ≤ count x s.members → k x ≡ h x + by) → IsSoundSet d h s → IsSoundSet d k (with_dual (s.dual + by) s)
 sound_up d h k by s once up i = record {
   kept = record { odd = i.kept.odd; covered = i.kept.covered; single = i.kept.single };
   paid = i.paid;
@@ -71,8 +70,7 @@ sound_up d h k by s once up i = record {
 }
 
 sound_down : (d : TableValue) (h k : ℕ → ℕ) (by : ℕ) (s : OddSetValue) → by ≤ s.dual → ((x : ℕ) → count x s.members ≤ 1)
-    → ((x : ℕ) → 1 ≤ count x s.members → k x + by ≡ h x) → IsSoundSet d h s →
-    IsSoundSet d k (with_dual (s.dual - by) s)
+    → ((x : ℕ) → 1 ≤ count x s.members → k x + by ≡ h x) → IsSoundSet d h s → IsSoundSet d k (with_dual (s.dual - by) s)
 sound_down d h k by s low once down i = record {
   kept = record { odd = i.kept.odd; covered = i.kept.covered; single = i.kept.single };
   paid = i.paid;
@@ -94,12 +92,9 @@ sound_same d h k s same i = record {
 }
 
 pub firm_changed : (d : TableValue) (h k : ℕ → ℕ) (by : ℕ) (base : List ℕ) (bs : List BranchValue) → IsAlternatingTree base bs
-    → Each (CanChange by)
-    bs
-    → Each (IsSoundBranch d h) bs →
-    ((x : ℕ) → count x (outer_members base bs) + count x (inner_members bs) ≤ 1)
-    → ((x : ℕ) → 1 ≤ count x (outer_members base bs) → k x ≡ h x + by) →
-    ((x : ℕ) → 1 ≤ count x (inner_members bs) → k x + by ≡ h x) → Each (IsSoundBranch d k) (all_changed by bs)
+    → Each (CanChange by) bs → Each (IsSoundBranch d h) bs → ((x : ℕ) → count x (outer_members base bs) + count x (inner_members bs) ≤ 1)
+    → ((x : ℕ) → 1 ≤ count x (outer_members base bs) → k x ≡ h x + by) → ((x : ℕ) → 1 ≤ count x (inner_members bs) → k x + by ≡ h x)
+    → Each (IsSoundBranch d k) (all_changed by bs)
 firm_changed d h k by base [] g can f once up down = tt
 firm_changed d h k by base (b ∷ bs) g can f once up down =
     let more = λ (x : ℕ). outer_members_base x b.outer.members base bs in
@@ -160,9 +155,8 @@ more_wide w by k rest new old e f = omega arith
 less_wide : (w by k rest new old : ℕ) → by ≤ w → new ≡ (w - by) * k + rest → old ≡ w * k + rest → new + by * k ≡ old
 less_wide w by k rest new old low e f = omega (arith, narrowed w by k low)
 
-sum_up : (by n w r i o q ci co bi bo new old : ℕ) → new ≡ n + (w + r) → old ≡ i + (o + q) → n + by * ci ≡ i → w ≡ o + by * co → r + by * bi
-    ≡ q + by * bo →
-    new + by * (ci + bi) ≡ old + by * (co + bo)
+sum_up : (by n w r i o q ci co bi bo new old : ℕ) → new ≡ n + (w + r) → old ≡ i + (o + q) → n + by * ci ≡ i → w ≡ o + by * co
+    → r + by * bi ≡ q + by * bo → new + by * (ci + bi) ≡ old + by * (co + bo)
 sum_up by n w r i o q ci co bi bo new old e f g k m = omega arith
 
 pub branches_load : (a b by : ℕ) (bs : List BranchValue) → Each (CanChange by) bs →
@@ -215,8 +209,7 @@ each_split P all (b ∷ bs) before e f = (
 
 -- the height of a place of an outer set can rise, and so can the set's dual
 pub outer_limit : (t : TableValue) (h : ℕ → ℕ) (s : SearchValue) (c : DualChange) (x f : ℕ) → IsTable t → IsSearch t h s
-    → IsLeastChange t h s c
-    → 1 ≤ count f s.free → 1 ≤ count x (outer_vertices s) → h x + c.by ≤ 2 * MAX_DISTANCE
+    → IsLeastChange t h s c → 1 ≤ count f s.free → 1 ≤ count x (outer_vertices s) → h x + c.by ≤ 2 * MAX_DISTANCE
 outer_limit t h s c x f is i b hf hx =
     omega (
       arith,

@@ -39,21 +39,17 @@ begins t place matches free heights s st some b =
     }
 
 pub can_step : (t : TableValue) (s wide : SearchValue) (c : DualChange) → IsMetric t → CanSearch t s → IsLeastChange t (stored_height s) s c
-    → Adjusts s c
-    wide
-    → CanStepAt t wide c.step
+    → Adjusts s c wide → CanStepAt t wide c.step
 can_step t s wide c m can bounds w =
     let on = w.search t m can bounds in
     record { search = on.search; ready = on.ready; size = on.size }
 
 pub can_adjust_now : (t : TableValue) (s : SearchValue) (c : DualChange) → IsMetric t → CanSearch t s
-    → IsLeastChange t (stored_height s) s c
-    → CanAdjust s c
+    → IsLeastChange t (stored_height s) s c → CanAdjust s c
 can_adjust_now t s c m can bounds = record { t = t; metric = m; can = can; bounds = bounds }
 
 pub goes : (t : TableValue) (s wide : SearchValue) (c : DualChange) (next : StepResult) → IsMetric t → CanSearch t s
-    → IsLeastChange t (stored_height s) s c
-    → Adjusts s c wide → IsStepResult t wide c.step next → MakesProgress t s next
+    → IsLeastChange t (stored_height s) s c → Adjusts s c wide → IsStepResult t wide c.step next → MakesProgress t s next
 goes t s wide c (More r) m can bounds w l =
     let on = w.search t m can bounds in
     let free = l.free ∙ w.free in
@@ -129,8 +125,7 @@ load_same a (s ∷ bs) =
     grind (arith, nat_tests, load_same a bs)
 
 load_case : (p : Bool) (t : TableValue) (h : ℕ → ℕ) (cs : List MatchValue) (a b : ℕ) → eqb a b ≡ p → IsPartialMatching t h cs []
-    → a < t.places
-    → b < t.places → dual_load a b (match_dual_sets cs) ≤ 2 * entry t a b
+    → a < t.places → b < t.places → dual_load a b (match_dual_sets cs) ≤ 2 * entry t a b
 load_case p t h cs a b h1 h2 h3 h4 = grind (arith, nat_tests, eqb-true, load_same, eqb-false)
 
 -- what is taken out of matches that hold all places is a matching with moats

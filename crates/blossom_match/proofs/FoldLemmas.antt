@@ -118,8 +118,7 @@ module _ (t : TableValue) (hs : List ℕ) (set root new_root : OddSetValue) (tre
 -- the row of such a set is merged, and its own cells are far
 pub folded : (t : TableValue) (hs : List ℕ) (set root new_root : OddSetValue) (tree new_tree : List BranchValue) (reach new : List ℕ)
     → FoldsOuters set root new_root tree new_tree → IsSoundSet t (λ (a : ℕ). get_or hs a 0) set → ((x : ℕ) → count x set.members ≤ 1)
-    → length new ≡ length reach → FoldsCells set reach new → AreOuterSlacks t hs root tree reach
-    → AreOuterSlacks t hs new_root new_tree new
+    → length new ≡ length reach → FoldsCells set reach new → AreOuterSlacks t hs root tree reach → AreOuterSlacks t hs new_root new_tree new
 folded t hs set root new_root tree new_tree reach new f sound once size cells r =
     fold_merged t hs set root new_root tree new_tree reach cells.between new f
     (takes_near t hs set reach cells.between sound once cells.size r.short cells.merged) r size cells.cleared.on cells.cleared.off

@@ -38,8 +38,7 @@ single_sound key d h x is low =
     }
 
 load_case : (p q : Bool) (a b f w old top : ℕ) → eqb a f ≡ p → eqb b f ≡ q → a ≢ b → old ≤ top → (a ≡ f → old + w ≤ top)
-    → (b ≡ f → old + w ≤ top) →
-    old + w * apart (cond p 1 0 + 0) (cond q 1 0 + 0) ≤ top
+    → (b ≡ f → old + w ≤ top) → old + w * apart (cond p 1 0 + 0) (cond q 1 0 + 0) ≤ top
 load_case p q a b f w old top h1 h2 h3 h4 h5 h6 = grind (arith, nat_tests, eqb-true)
 
 -- the load with the set of one place more
@@ -49,8 +48,7 @@ single_load key t a b f w old top h1 h2 h3 h4 = grind (arith, nat_tests, eqb-tru
 
 -- the height with the set of one place more
 single_tall : (key : ℕ) (t : TableValue) (x f w top old left was : ℕ) → left + one_if_equal x f ≡ was → left ≡ 0 → (was ≡ 0 → top ≡ old)
-    → (x ≡ f → (top ≡ w) × (old ≡ 0))
-    → top ≡ old + height x (dual_sets (vertex_set key t f w))
+    → (x ≡ f → (top ≡ w) × (old ≡ 0)) → top ≡ old + height x (dual_sets (vertex_set key t f w))
 single_tall key t x f w top old left was h1 h2 h3 h4 = grind (arith, nat_tests, eqb-true)
 
 -- in a search the slack between a free place and any other isn't negative
@@ -59,10 +57,9 @@ load_slack : (t : TableValue) (h : ℕ → ℕ) (s : SearchValue) (x f : ℕ) �
 load_slack t h s x f i lx hf ne = omega (arith, load_free t h s x f i hf, under t h s x i, i.slack x f lx hf ne)
 
 met_standing : (t : TableValue) (h : ℕ → ℕ) (link : TightEdge) (s : SearchValue) (r : PartialMatchingValue) (m : OddSetValue)
-    → Augments s.root m link s.tree s.rest r.matches → IsTable t → m ≡ vertex_set m.key t link.to (h link.to) →
-    ((x : ℕ) → count x r.free + one_if_equal x link.to ≡ count x s.free) → IsSearch t h s → 1 ≤ count link.to s.free
-    → 2 * entry t link.from link.to ≡ h link.from + h link.to →
-    IsPartialMatching t h r.matches r.free
+    → Augments s.root m link s.tree s.rest r.matches → IsTable t → m ≡ vertex_set m.key t link.to (h link.to)
+    → ((x : ℕ) → count x r.free + one_if_equal x link.to ≡ count x s.free) → IsSearch t h s → 1 ≤ count link.to s.free
+    → 2 * entry t link.from link.to ≡ h link.from + h link.to → IsPartialMatching t h r.matches r.free
 met_standing t h link s r m aug is e counts i here tight =
     let f = link.to in
     let at = λ (F : List DualSet → ℕ). ap (λ (v : OddSetValue). F (dual_sets v)) e in
@@ -106,13 +103,11 @@ met t link s r m can aug is e counts fewer same = record {
 }
 
 low_standing : (t : TableValue) (h : ℕ → ℕ) (cs : List MatchValue) (free : List ℕ) (x : ℕ) → IsPartialMatching t h cs free
-    → 1 ≤ count x free
-    → height x (match_dual_sets cs) ≡ 0
+    → 1 ≤ count x free → height x (match_dual_sets cs) ≡ 0
 low_standing t h cs free x i some = low_matches t h x cs i.firm (omega (arith, i.places x, is_one t x, some))
 
 standing_slack : (t : TableValue) (h : ℕ → ℕ) (cs : List MatchValue) (free : List ℕ) (x f : ℕ) → IsPartialMatching t h cs free
-    → x < t.places
-    → 1 ≤ count f free → x ≢ f → dual_load x f (match_dual_sets cs) + h f ≤ 2 * entry t x f
+    → x < t.places → 1 ≤ count f free → x ≢ f → dual_load x f (match_dual_sets cs) + h f ≤ 2 * entry t x f
 standing_slack t h cs free x f h1 h2 h3 h4 = grind (arith, nat_tests, low, by_count, low_standing, load_alone, none_matches, is_one)
 
 -- a search from a free place

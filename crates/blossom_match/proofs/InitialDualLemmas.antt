@@ -11,16 +11,14 @@ place_case : (b : Bool) (x n : ℕ) → ltb x n ≡ b → cond b 1 0 ≤ 0 → n
 place_case b x n h1 h2 = grind (arith, nat_tests, ltb-false)
 
 -- all places free at half of their least distances
-pub half_free : (t : TableValue) (matches : List MatchValue) (free heights : List ℕ) → matches ≡ [] →
-    ((x : ℕ) → count x free ≡ is_place t x)
-    → AreWithinDistances t heights → length heights ≡ t.places →
-    IsPartialWithHeights t matches free heights
+pub half_free : (t : TableValue) (matches : List MatchValue) (free heights : List ℕ) → matches ≡ []
+    → ((x : ℕ) → count x free ≡ is_place t x) → AreWithinDistances t heights → length heights ≡ t.places
+    → IsPartialWithHeights t matches free heights
 half_free t matches free heights h1 h2 h3 h4 = grind (arith, nat_tests, get_or-eq_default, place_in, entry-comm, place_case)
 
 -- at its initial dual a free vertex has no negative slack to others
 pub free_lies : (t : TableValue) (matches : List MatchValue) (free heights : List ℕ) (place : ℕ)
-    → IsPartialWithHeights t matches free heights
-    → 1 ≤ count place free → HasFreeSlack t heights free place
+    → IsPartialWithHeights t matches free heights → 1 ≤ count place free → HasFreeSlack t heights free place
 free_lies t matches free heights place h1 h2 = grind (arith, nat_tests, place_in, entry-comm)
 
 pub low_enough : (t : TableValue) (heights : List ℕ) (place price : ℕ) → KeepsSlack t heights place price → KeepsSlack t heights place 0
@@ -28,9 +26,8 @@ low_enough t heights place price slack b lb ne = omega (arith, slack b lb ne)
 
 -- a free vertex may have any initial dual that makes no slack negative
 pub risen : (t : TableValue) (matches : List MatchValue) (free heights new : List ℕ) (place price : ℕ)
-    → IsPartialWithHeights t matches free heights
-    → 1 ≤ count place free → KeepsSlack t heights place price → new ≡ set heights place price →
-    length new ≡ length heights → IsPartialWithHeights t matches free new
+    → IsPartialWithHeights t matches free heights → 1 ≤ count place free → KeepsSlack t heights place price → new ≡ set heights place price
+    → length new ≡ length heights → IsPartialWithHeights t matches free new
 risen t matches free heights new place price h1 h2 h3 h4 h5 =
     grind (arith, nat_tests, place_in, get_or-set_other, matches_same, is_one, eqb-true, get_or-set_same, eqb-false, entry-comm)
 
@@ -75,17 +72,14 @@ can_meet t place other matches free left heights s counts st f b =
     }
 
 pub pair_step : (t : TableValue) (place other : ℕ) (from : PartialMatchingValue) (left : List ℕ) (s : SearchValue)
-    → CanPair t place other from
-    → ((x : ℕ) → count x left + one_if_equal x place ≡ count x from.free) →
-    BeginsSearch t place from.matches left from.heights s → CanStepAt t s (Augment (record { from = place; to = other }))
+    → CanPair t place other from → ((x : ℕ) → count x left + one_if_equal x place ≡ count x from.free)
+    → BeginsSearch t place from.matches left from.heights s → CanStepAt t s (Augment (record { from = place; to = other }))
 pair_step t place other from left s can counts b = can_meet t place other from.matches from.free left from.heights s counts can.stands
     can.found b
 
 pub paired : (t : TableValue) (place other : ℕ) (from : PartialMatchingValue) (left : List ℕ) (s : SearchValue) (r : PartialMatchingValue)
-    → CanPair t
-    place other from
-    → ((x : ℕ) → count x left + one_if_equal x place ≡ count x from.free) → length left + 1 ≡ length from.free →
-    BeginsSearch t place from.matches left from.heights s → EndsSearch t s (Augment (record { from = place; to = other })) r
+    → CanPair t place other from → ((x : ℕ) → count x left + one_if_equal x place ≡ count x from.free) → length left + 1 ≡ length from.free
+    → BeginsSearch t place from.matches left from.heights s → EndsSearch t s (Augment (record { from = place; to = other })) r
     → PairsFree t from r
 paired t place other from left s r k counts fewer b e = record {
   stands =

@@ -27,8 +27,7 @@ left_near : (t : TableValue) (by : ℕ) (s r : SearchValue) (a x : ℕ) → IsRa
 left_near t by s r a x k ha lx = omega (arith, far_is, k.table.short a x (k.places a ha) lx)
 
 least_lower : (t : TableValue) (by : ℕ) (s r : SearchValue) (a x old new : ℕ) → IsRaised t by s r → 1 ≤ count a (outer_vertices s)
-    → x < t.places
-    → old ≤ slack_from t s.heights a x → new ≡ lowered_slack by old → new ≤ slack_from t r.heights a x
+    → x < t.places → old ≤ slack_from t s.heights a x → new ≡ lowered_slack by old → new ≤ slack_from t r.heights a x
 least_lower t by s r a x old new h1 h2 h3 h4 h5 = grind (arith, nat_tests, lowered_near, left_near, left_lower)
 
 -- all slacks are less by the change
@@ -90,8 +89,7 @@ can_take_at t s r st now e k adv =
     (adv.search t (stored_height s) on.search on.ready))
 
 pub is_reachable : (t : TableValue) (s r : SearchValue) (st now : SearchStep) (reach : List ℕ) → st ≡ now → CanStepAt t s st
-    → Advances s now r
-    → AreSearchSlacks t s reach → HasSlackCells r reach
+    → Advances s now r → AreSearchSlacks t s reach → HasSlackCells r reach
 is_reachable t s r st now reach e k adv reaches = record { t = t; can = can_take_at t s r st now e k adv; size = reaches.size }
 
 -- what a set that is folded into a search is

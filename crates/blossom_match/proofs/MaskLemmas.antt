@@ -71,9 +71,7 @@ dropped_in x n cs =
 -- the places of a search's matches have cells
 pub have_cells : (t : TableValue) (h : ℕ → ℕ) (s : SearchValue) (n : ℕ) (mask : List ℕ) → IsSearch t h s → length mask ≡ t.places → (x : ℕ)
     → 1 ≤ count x (match_members (drop n s.rest)) → x < length mask
-have_cells t h s n mask i size x here =
-    let low = place_in t x (omega (arith, i.places x, here, dropped_in x n s.rest)) in
-    omega (arith, low, size)
+have_cells t h s n mask i size x here = omega (arith, place_in t x (omega (arith, i.places x, here, dropped_in x n s.rest)), size)
 
 -- the search that the step leads to
 pub next_search : (t : TableValue) (s r : SearchValue) (st now : SearchStep) → st ≡ now → CanStepAt t s st → Advances s now r
@@ -118,8 +116,7 @@ hides_there t s r st now b mask e k adv hangs is m x here =
 
 -- and is hidden then
 pub masks_hung : (t : TableValue) (s r : SearchValue) (st now : SearchStep) (b : BranchValue) (old new : List ℕ) → st ≡ now
-    → CanStepAt t s st
-    → Advances s now r → (hangs : GrowsBranch s r) → b ≡ hangs.branch → IsSearchMask t s old → length new ≡ length old
+    → CanStepAt t s st → Advances s now r → (hangs : GrowsBranch s r) → b ≡ hangs.branch → IsSearchMask t s old → length new ≡ length old
     → SetsCells FAR (branch_members b) old new → IsSearchMask t r new
 masks_hung t s r st now b old new e k adv hangs is m size puts =
     let out = hung_out t (stored_height s) s r k.search (next_search t s r st now e k adv) hangs adv.free in

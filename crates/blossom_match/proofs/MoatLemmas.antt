@@ -37,8 +37,7 @@ crossing_case a b w zero (suc (suc n)) ms ea eb pa pb = absurd (omega arith)
 crossing_case a b w (suc zero) (suc (suc n)) ms ea eb pa pb = absurd (omega arith)
 
 pub crossing : (a b w : ℕ) (ms : List ℕ) → count a ms ≤ 1 → count b ms ≤ 1
-    → cond (crosses_moat a b (record { members = ms; width = w })) w 0
-    ≡ w * apart (count a ms) (count b ms)
+    → cond (crosses_moat a b (record { members = ms; width = w })) w 0 ≡ w * apart (count a ms) (count b ms)
 crossing a b w ms pa pb = crossing_case a b w (count a ms) (count b ms) ms refl refl pa pb
 
 own_wide : (w : ℕ) (ms : List ℕ) → moat_of_set ms (suc w) ≡ record { members = ms; width = suc w } ∷ []
@@ -113,9 +112,8 @@ lie_both ps qs all ms ks l r once more =
 
 -- the set's own moat before those inside it, in two groups that each miss one of its places
 pub lie_own : (w : ℕ) (own ps qs : List ℕ) (ms ks : List Moat) (x y : ℕ) → length own % 2 ≡ 1 → AreMoatsIn ps ms → AreMoatsIn qs ks
-    → ((z : ℕ) → count z ps + count z qs ≤ 1) →
-    ((z : ℕ) → count z ps + count z qs ≤ count z own) → count x ps ≡ 0 → 1 ≤ count x own → count y qs ≡ 0 → 1 ≤ count y own
-    → AreMoatsIn own (moat_of_set own w ++ (ms ++ ks))
+    → ((z : ℕ) → count z ps + count z qs ≤ 1) → ((z : ℕ) → count z ps + count z qs ≤ count z own) → count x ps ≡ 0 → 1 ≤ count x own
+    → count y qs ≡ 0 → 1 ≤ count y own → AreMoatsIn own (moat_of_set own w ++ (ms ++ ks))
 lie_own zero own ps qs ms ks x y odd l r once more px ox qy oy = lie_both ps qs own ms ks l r once more
 lie_own (suc w) own ps qs ms ks x y odd l r once more px ox qy oy =
     let rest = lie_both ps qs own ms ks l r once more in

@@ -79,8 +79,7 @@ set_reached t hs root bs b reach new once r k = record {
 -- the row of the next branch has a cell for each place
 pub fits_row : (tree : List BranchValue) (i : ℕ) (b : BranchValue) (first cells : List ℕ)
     → Each (λ (k : BranchValue). HasSlacks (length first) k.outer) tree → i < length tree → b ≡ get_or tree i b
-    → length cells ≡ length first
-    → HasSlacks (length cells) b.outer
+    → length cells ≡ length first → HasSlacks (length cells) b.outer
 fits_row tree i b first cells h1 h2 h3 h4 = grind (arith, nat_tests, each_here)
 
 -- the branches so far and the next one, beside others

@@ -72,9 +72,8 @@ hung_uses true k up c h e = grind (arith, nat_tests)
 hung_uses false k up c h e = grind (arith, nat_tests)
 
 pub grown_sets : (sets : Slots) (place : ℕ) (up : TightEdge) (root : OddSetValue) (tree now : List BranchValue)
-    (rest left : List MatchValue)
-    (c : MatchValue) → RemovesMatch place rest left c → now ≡ tree ++ branch_by_edge up c ∷ [] → AreSets sets (all_dual_sets root tree rest)
-    → AreSets sets (all_dual_sets root now left)
+    (rest left : List MatchValue) (c : MatchValue) → RemovesMatch place rest left c → now ≡ tree ++ branch_by_edge up c ∷ []
+    → AreSets sets (all_dual_sets root tree rest) → AreSets sets (all_dual_sets root now left)
 grown_sets sets place up root tree now rest left c out e are =
     sets_fewer sets (all_dual_sets root tree rest) (all_dual_sets root now left) are (λ k. omega (
       arith,
@@ -92,9 +91,8 @@ grown_sets sets place up root tree now rest left c out e are =
 
 -- a blossom closes
 pub closed_sets : (old new : Slots) (blossom : OddSetValue) (link : TightEdge) (root top : OddSetValue) (tree now : List BranchValue)
-    (rest left : List MatchValue)
-    → InsertsSet old new blossom.key → Shrinks blossom link root top tree now → left ≡ rest → AreSets old (all_dual_sets root tree rest)
-    → AreSets new (all_dual_sets top now left)
+    (rest left : List MatchValue) → InsertsSet old new blossom.key → Shrinks blossom link root top tree now → left ≡ rest
+    → AreSets old (all_dual_sets root tree rest) → AreSets new (all_dual_sets top now left)
 closed_sets old new blossom link root top tree now rest left ins sh e are =
     more_sets old new blossom.key (all_dual_sets root tree rest) (all_dual_sets top now left) ins are
     (λ k. grind (arith, nat_tests, all_uses k root tree rest, all_uses k top now left, sh.sums (key_count k) (key_count-append k)))
@@ -109,8 +107,7 @@ met_sets old new link root m tree rest now ins alone aug are =
 
 -- a search of one place more
 pub begun_sets : (old new : Slots) (m : OddSetValue) (tree : List BranchValue) (rest left : List MatchValue) → InsertsSet old new m.key
-    → m.below ≡ [] → tree ≡ [] → left ≡ rest
-    → AreSets old (match_dual_sets rest) → AreSets new (all_dual_sets m tree left)
+    → m.below ≡ [] → tree ≡ [] → left ≡ rest → AreSets old (match_dual_sets rest) → AreSets new (all_dual_sets m tree left)
 begun_sets old new m tree rest left ins alone none e are =
     more_sets old new m.key (match_dual_sets rest) (all_dual_sets m tree left) ins are
     (λ k. grind (arith, nat_tests, all_uses k m tree left))

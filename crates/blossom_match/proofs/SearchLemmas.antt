@@ -182,12 +182,10 @@ none_matches d h x (c ∷ cs) f none =
 
 -- and has height 0
 pub low_branches : (d : TableValue) (h : ℕ → ℕ) (x : ℕ) (base : List ℕ) (tree : List BranchValue) → Each (IsSoundBranch d h) tree
-    → count x (outer_members base tree) ≡ 0 → count x (inner_members tree) ≡ 0 →
-    height x (branch_dual_sets tree) ≡ 0
+    → count x (outer_members base tree) ≡ 0 → count x (inner_members tree) ≡ 0 → height x (branch_dual_sets tree) ≡ 0
 low_branches d h x base tree f none empty = none_tall x (branch_dual_sets tree) (none_branches d h x base tree f none empty)
 
-pub low_matches : (d : TableValue) (h : ℕ → ℕ) (x : ℕ) (cs : List MatchValue) → Each (IsSoundMatch d h) cs → count x (match_members cs)
-    ≡ 0
+pub low_matches : (d : TableValue) (h : ℕ → ℕ) (x : ℕ) (cs : List MatchValue) → Each (IsSoundMatch d h) cs → count x (match_members cs) ≡ 0
     → height x (match_dual_sets cs) ≡ 0
 low_matches d h x cs f none = none_tall x (match_dual_sets cs) (none_matches d h x cs f none)
 

@@ -104,9 +104,8 @@ taking_start all left old was joined once e = subst (λ (cs : List MatchValue). 
   lie = lie_none [];
 })
 
-pub taking_done : (all left : List MatchValue) (old new : List Pair) (was now : List Moat) → IsTakingApart all left old new was now → length
-    left ≡ 0
-    → TakesApartMatches all old new was now
+pub taking_done : (all left : List MatchValue) (old new : List Pair) (was now : List Moat) → IsTakingApart all left old new was now
+    → length left ≡ 0 → TakesApartMatches all old new was now
 taking_done all [] old new was now t none = record {
   paid = λ tab p. omega (arith, t.paid tab p);
   places = λ x. omega (arith, t.places x);
@@ -123,9 +122,8 @@ whole w n one = rw one (omega arith)
 
 -- a single place
 takes_place : (left : ℕ) (s : OddSetValue) (cs : List MatchValue) (old new : List Pair) (was a now : List Moat)
-    → ((x : ℕ) → count x s.members ≤ 1) →
-    OpensAt left s None cs → a ≡ was ++ moat_of_set s.members s.dual → TakesApartMatches cs old new a now
-    → TakesApartSet left s old new was now
+    → ((x : ℕ) → count x s.members ≤ 1) → OpensAt left s None cs → a ≡ was ++ moat_of_set s.members s.dual
+    → TakesApartMatches cs old new a now → TakesApartSet left s old new was now
 takes_place left s cs old new was a now once o own t =
     let sum = o.sums total total-append in
     record {
@@ -150,10 +148,8 @@ takes_place left s cs old new was a now once o own t =
 
 -- a blossom
 takes_blossom : (left : ℕ) (s p : OddSetValue) (cs : List MatchValue) (old mid new : List Pair) (was a b now : List Moat)
-    → ((x : ℕ) → count x s.members ≤ 1) →
-    OpensAt left s (Some p) cs → a ≡ was ++ moat_of_set s.members s.dual → TakesApartSet left p old mid a b
-    → TakesApartMatches cs mid new b now
-    → TakesApartSet left s old new was now
+    → ((x : ℕ) → count x s.members ≤ 1) → OpensAt left s (Some p) cs → a ≡ was ++ moat_of_set s.members s.dual
+    → TakesApartSet left p old mid a b → TakesApartMatches cs mid new b now → TakesApartSet left s old new was now
 takes_blossom left s p cs old mid new was a b now once o own first t =
     let sum = o.sums total total-append in
     let other = o.holds.1 in
@@ -179,9 +175,8 @@ takes_blossom left s p cs old mid new was a b now once o own first t =
     }
 
 pub took_place : (left : ℕ) (s : OddSetValue) (core : Option OddSetValue) (cs : List MatchValue) (old new : List Pair)
-    (was a now : List Moat) → ((x : ℕ) → count x s.members ≤ 1) → core ≡ None →
-    OpensAt left s core cs → a ≡ was ++ moat_of_set s.members s.dual → TakesApartMatches cs old new a now
-    → TakesApartSet left s old new was now
+    (was a now : List Moat) → ((x : ℕ) → count x s.members ≤ 1) → core ≡ None → OpensAt left s core cs
+    → a ≡ was ++ moat_of_set s.members s.dual → TakesApartMatches cs old new a now → TakesApartSet left s old new was now
 took_place left s core cs old new was a now once e o own t =
     takes_place left s cs old new was a now once (subst (λ (k : Option OddSetValue). OpensAt left s k cs) e o) own t
 

@@ -114,8 +114,7 @@ stop_here said bytes next more number told none is = grind (arith, nat_tests)
 
 -- the number is one more after the next line
 stop_later : (said one : CertDraft) (bytes next : List ℕ) (more : List (List ℕ)) (number told : ℕ)
-    → draft_with_text_line said bytes ≡ Some one
-    → Stops one (next ∷ more) (number + 1) told → Stops said (bytes ∷ next ∷ more) number told
+    → draft_with_text_line said bytes ≡ Some one → Stops one (next ∷ more) (number + 1) told → Stops said (bytes ∷ next ∷ more) number told
 stop_later said one bytes next more number told first by = record {
   fit = suc by.fit;
   is = omega (arith, by.is);

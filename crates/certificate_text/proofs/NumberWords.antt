@@ -4,14 +4,12 @@ use Rattle.std.specs.Str.Parse.{digits_value}
 use Rattle.certificate_text.proofs.Names.{and_from, and_parts, nat_tests, decimal_nonempty, digits_decimal, none-some, same_Some, is_ascii_digit, flat_map, option_and_then, all_ascii_digits, Pass, parsed_number_above, parsed_cert_number, parsed_pass_along, parsed_pass, pass_text, decimal_model, cases_order, decimal-digits_value, decimal_digit, digits_value-decimal, first_decimal, cond_some, is_canonical_numeral, small_number, false_true}
 
 -- the parts of a result that is present
-pub if_some : {A : Type 0} (test : Bool) (o : Option A) (a : A) → (if test then o else None) ≡ Some a
-    → (test ≡ true) × (o ≡ Some a)
+pub if_some : {A : Type 0} (test : Bool) (o : Option A) (a : A) → (if test then o else None) ≡ Some a → (test ≡ true) × (o ≡ Some a)
 if_some true o a is = (refl, is)
 if_some false o a is = absurd (none-some a is)
 
 -- the same of a mapped answer
-pub map_some : {A B P : Type 0} (f : A → B) (o : Option A) (b : B) → option_map f o ≡ Some b
-    → ((a : A) → o ≡ Some a → f a ≡ b → P) → P
+pub map_some : {A B P : Type 0} (f : A → B) (o : Option A) (b : B) → option_map f o ≡ Some b → ((a : A) → o ≡ Some a → f a ≡ b → P) → P
 map_some f None b is next = absurd (none-some b is)
 map_some f (Some a) b is next = next a refl (same_Some (f a) b is)
 
@@ -34,8 +32,7 @@ plain_is (b ∷ []) is = record { digits = and_from (is_ascii_digit b) true is r
 plain_is (b ∷ c ∷ rest) is = grind (arith, nat_tests)
 
 -- digits after one that is no zero are such a numeral
-plain_from : (word : List ℕ) → all_ascii_digits word ≡ true → 0 < length word → 48 < get_or word 0 0
-    → is_canonical_numeral word ≡ true
+plain_from : (word : List ℕ) → all_ascii_digits word ≡ true → 0 < length word → 48 < get_or word 0 0 → is_canonical_numeral word ≡ true
 plain_from [] digits some lead = absurd (omega arith)
 plain_from (b ∷ []) digits some lead = (and_parts (is_ascii_digit b) true digits).0
 plain_from (b ∷ c ∷ rest) digits some lead = grind (arith, nat_tests)

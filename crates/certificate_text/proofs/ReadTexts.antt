@@ -179,9 +179,8 @@ cuts_have : (cuts : List Cut) → All IsPlainCut cuts → All (λ (cut : Cut). A
 cuts_have cuts plain members small = λ k d there. record { plain = plain k d there; small = small k d there; members = members k d there }
 
 -- a piece before them
-piece_before : (said : CertDraft) (done : List PieceCert) (piece : PieceCert) (text : List ℕ) (pieces : List PieceCert)
-    → Awaits said done → HasText piece → SayOn (draft.InPiece done piece) text pieces
-    → SayOn said (piece_text piece ++ text) pieces
+piece_before : (said : CertDraft) (done : List PieceCert) (piece : PieceCert) (text : List ℕ) (pieces : List PieceCert) → Awaits said done
+    → HasText piece → SayOn (draft.InPiece done piece) text pieces → SayOn said (piece_text piece ++ text) pieces
 piece_before said done piece text pieces awaits has rest =
     let cost : List ℕ = decimal piece.retraced in
     let passes : List ℕ = passes_text piece.walk in

@@ -10,8 +10,7 @@ count_most f (x ∷ xs) some =
     omega (arith, some x, count_most f xs some, length-append (f x) (flat_map f xs))
 
 -- no item has more bytes than all
-one_most : {X : Type 0} (f : X → List ℕ) (xs : List X) (i : ℕ) (d : X) → i < length xs
-    → length (f (get_or xs i d)) ≤ length (flat_map f xs)
+one_most : {X : Type 0} (f : X → List ℕ) (xs : List X) (i : ℕ) (d : X) → i < length xs → length (f (get_or xs i d)) ≤ length (flat_map f xs)
 one_most f xs i d there = omega (arith, length-flat_map-take f xs i d there)
 
 -- the text of a pass has a byte

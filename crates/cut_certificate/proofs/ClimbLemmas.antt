@@ -34,8 +34,7 @@ climb_fits g i j t y b (m ∷ ms) f top =
     )
 
 climb_below : (g : LiftInput) → Fits g → (i j t y : ℕ) → IsBest g i t
-    → ((m : Moat) → IsOf g.moats m → level g m i < level g m j → depth g m t + level g m j ≤ y)
-    → climb g i j g.moats ≤ y - 2 * g.least t i
+    → ((m : Moat) → IsOf g.moats m → level g m i < level g m j → depth g m t + level g m j ≤ y) → climb g i j g.moats ≤ y - 2 * g.least t i
 climb_below g f i j t y b top =
     omega (arith, climb_fits g i j t y b g.moats (λ z h. h) top, overlaps_fit g t (2 * g.least t i) y g.moats (λ z h. h) f.laminar)
 
@@ -44,9 +43,7 @@ no_climb : (g : LiftInput) (i j : ℕ) (ms : List Moat) → ((m : Moat) → IsOf
 no_climb g i j [] f = refl
 no_climb g i j (m ∷ ms) f =
     let here = f m (inl refl) in
-    let most : level g m j ≤ m.width = level_most g m j in
-    let more = no_climb g i j ms (λ z h. f z (inr h)) in
-    omega arith
+    omega (arith, no_climb g i j ms (λ z h. f z (inr h)), level_most g m j)
 
 -- the cuts that hold i and not j have two halves at most for each step
 half : (g : LiftInput) → Fits g → (i j c : ℕ) → i < g.size → ((t : ℕ) → t < g.places → g.least t j ≤ g.least t i + c)
@@ -61,9 +58,8 @@ half g f i j c in_i forth = elim (best g f i in_i) [
   where
     top : (t : ℕ) → IsBest g i t → (m : Moat) → IsOf g.moats m → level g m i < level g m j → depth g m t + level g m j ≤ 2 * g.least t j
     top t b m is less =
-        let most : level g m j ≤ m.width = level_most g m j in
         let low : level g m i < m.width = omega arith in
-        grind (arith, nat_tests, (level_by g m j t (b.inside m is low)))
+        grind (arith, nat_tests, (level_by g m j t (b.inside m is low)), level_most g m j)
 
 some_climb : (g : LiftInput) (i j : ℕ) (ms : List Moat) → 0 < climb g i j ms → (m : Moat) × IsOf ms m × (level g m i < level g m j)
 some_climb g i j [] h = absurd (omega arith)
@@ -89,14 +85,10 @@ one_side g f i j t u bi bj other = climb_below g f i j t (width_sum (parts t u) 
     top m is less =
         let p = some_climb g j i g.moats other in
         let down : level g p.0 j < level g p.0 i = p.2 in
-        let most : level g m j ≤ m.width = level_most g m j in
-        let most_p : level g p.0 i ≤ p.0.width = level_most g p.0 i in
         let d = crossed g i j m p.0 is p.1 less down (related g.moats m p.0 f.laminar is p.1) in
         let has_u : has_member p.0.members u ≡ true = bj.inside p.0 p.1 (omega arith) in
         let has_t : has_member m.members t ≡ true = bi.inside m is (omega arith) in
-        let r : depth g m t + m.width ≤ width_sum (parts t u) g.moats
-        = reach g f.laminar m t u is has_t (not_in p.0 m u (λ x y z. d x z y) has_u) in
-        omega arith
+        omega (arith, reach g f.laminar m t u is has_t (not_in p.0 m u (λ x y z. d x z y) has_u), level_most g p.0 i, level_most g m j)
 
 both_sides : (g : LiftInput) → Fits g → (i j c : ℕ) → j < g.size → IsLine g i j c → 0 < climb g i j g.moats → 0 < climb g j i g.moats
     → ((m : Moat) → IsOf g.moats m → m.width ≤ level g m i) ⊎ ((t : ℕ) × (t < g.places) × IsBest g i t)
@@ -105,12 +97,10 @@ both_sides : (g : LiftInput) → Fits g → (i j c : ℕ) → j < g.size → IsL
 both_sides g f i j c in_j l up down (inl none) q = absurd (omega (arith, no_climb g i j g.moats none))
 both_sides g f i j c in_j l up down (inr p) (inl none) = absurd (omega (arith, no_climb g j i g.moats none))
 both_sides g f i j c in_j l up down (inr p) (inr q) =
-    let one = one_side g f i j p.0 q.0 p.2 q.2 down in
-    let two = one_side g f j i q.0 p.0 q.2 p.2 up in
     let bounded = f.bounded p.0 q.0 p.1 q.1 in
     let joined = f.joined p.0 q.0 j p.1 q.1 in_j in
     let near = l.forth p.0 p.1 in
-    omega (arith, one, two, bounded, joined, near, up, down)
+    omega (arith, one_side g f i j p.0 q.0 p.2 q.2 down, one_side g f j i q.0 p.0 q.2 p.2 up, bounded, joined, near, up, down)
 
 -- the cuts that hold exactly one of i and j have two halves at most for each step
 pub carries : (g : LiftInput) → Fits g → (i j c : ℕ) → i < g.size → j < g.size → IsLine g i j c

@@ -32,8 +32,7 @@ between_is t u ms =
     ∙ is_sum_by (width_sum (crosses_moat t u)) (λ (m : Moat). if crosses_moat t u m then m.width else 0) refl (λ x xs. refl) ms
 
 terminal_below : (p : PieceValue) (rows : RowsValue) (moats : List Moat) → AreLiftableMoats p rows moats → (u : ℕ)
-    → u < length rows.terminals
-    → terminal_of rows u < length p.junctions
+    → u < length rows.terminals → terminal_of rows u < length p.junctions
 terminal_below p rows moats are u lt = are.rows_are.terminals.there u 0 lt
 
 -- such moats fit
@@ -56,8 +55,7 @@ abbrev Carries : List Cut → Edge → Type 0
 Carries cuts e = load_on cuts e ≤ 2 * e.cost
 
 loads : (p : PieceValue) (rows : RowsValue) (moats : List Moat) (cuts : List Cut) → IsValidPiece p → AreDistances p
-    → AreLiftableMoats p rows moats
-    → AreLifted (piece_site p rows moats) [] cuts → All (Carries cuts) p.edges
+    → AreLiftableMoats p rows moats → AreLifted (piece_site p rows moats) [] cuts → All (Carries cuts) p.edges
 loads p rows moats cuts kept law are l k d lt = carried (get_or p.edges k d) (slice_get-get_or p.edges k d lt)
     (ends_at (length p.junctions) p.edges k d kept.ends lt)
   where
@@ -82,8 +80,7 @@ odd_cut p rows moats law are c made =
 
 -- the cuts of all moats are what lifting is to bring out
 lifted : (p : PieceValue) (rows : RowsValue) (moats : List Moat) (cuts : List Cut) → IsValidPiece p → AreDistances p
-    → AreLiftableMoats p rows moats
-    → AreLifted (piece_site p rows moats) [] cuts → IsLifted p moats cuts
+    → AreLiftableMoats p rows moats → AreLifted (piece_site p rows moats) [] cuts → IsLifted p moats cuts
 lifted p rows moats cuts kept law are l = record {
   packing = record {
     odd = All-weaker (IsMade (piece_site p rows moats)) (IsOddCut p) (λ c made. odd_cut p rows moats law are c made) cuts l.each;
@@ -107,17 +104,14 @@ reaching p rows moats kept are = record {
 
 -- the distances can be computed
 pub can_reach : (p : PieceValue) (rows : RowsValue) (moats seen : List Moat) (size : ℕ) → IsValidPiece p → AreLiftableMoats p rows moats
-    → seen ≡ moats
-    → size ≡ length p.junctions → HasRowsForMoats rows size seen
+    → seen ≡ moats → size ≡ length p.junctions → HasRowsForMoats rows size seen
 can_reach p rows moats seen size kept are same sized = grind (arith, nat_tests, reaching p rows moats kept are)
 
 -- the distances at an index, as the code reads them
 pub reach_at : (p : PieceValue) (rows : RowsValue) (moats : List Moat) (size index : ℕ) (s : Moat) (reaches : List (Vec ℕ Global))
-    (v : Vec ℕ Global)
-    (read : List ℕ) → size ≡ length p.junctions → AreAllMoatDistances (lift_input rows size moats) reaches → index < length moats
-    → s ≡ get_or
-    moats index s
-    → v ≡ get_or reaches index v → read ≡ v.items → AreDistancesFrom (piece_site p rows moats) s read
+    (v : Vec ℕ Global) (read : List ℕ) → size ≡ length p.junctions → AreAllMoatDistances (lift_input rows size moats) reaches
+    → index < length moats → s ≡ get_or moats index s → v ≡ get_or reaches index v → read ≡ v.items
+    → AreDistancesFrom (piece_site p rows moats) s read
 reach_at p rows moats size index s reaches v read sized all lt at is same =
     subst (λ (n : ℕ). AreDistancesFrom (lift_input rows n moats) s read) sized
     (subst (AreDistancesFrom (lift_input rows size moats) s) (sym same)

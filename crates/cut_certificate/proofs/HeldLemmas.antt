@@ -29,8 +29,7 @@ tally k xs [] = 0
 tally k xs (t ∷ ts) = cond (has_member xs k) (1 + tally (k + 1) xs ts) (tally (k + 1) xs ts)
 
 held_is : (members xs : List ℕ) (k : ℕ) (ts : List ℕ)
-    → ((u : ℕ) → u < length ts → has_member members (slice_index ts u) ≡ has_member xs (k + u))
-    → held members ts ≡ tally k xs ts
+    → ((u : ℕ) → u < length ts → has_member members (slice_index ts u) ≡ has_member xs (k + u)) → held members ts ≡ tally k xs ts
 held_is members xs k [] f = refl
 held_is members xs k (t ∷ ts) f =
     let here : has_member members t ≡ has_member xs k = f 0 (omega arith) ∙ ap (has_member xs) (let e : k + 0 ≡ k = omega arith in e) in

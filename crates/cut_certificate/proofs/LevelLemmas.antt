@@ -55,19 +55,16 @@ no_share g f a b j in_j is_a is_b d in_a in_b =
     let joined = f.joined t u j (f.placed a is_a t p.1) (f.placed b is_b u q.1) in_j in
     let one : depth g a t + a.width ≤ width_sum (parts t u) g.moats = reach g f.laminar a t u is_a p.1
     (not_in b a u (λ x y z. d x z y) q.1) in
-    let two : depth g b u + b.width ≤ width_sum (parts u t) g.moats = reach g f.laminar b u t is_b q.1 (not_in a b t d p.1) in
     let e = p.2 in
     let h = q.2 in
-    omega arith
+    omega (arith, reach g f.laminar b u t is_b q.1 (not_in a b t d p.1))
 
 -- a cut of a moat lies inside each cut of a larger one around it
 pub inner_full : (g : LiftInput) (a b : Moat) (j : ℕ) → IsOf g.moats a → Inside a b → level g a j < a.width → level g b j ≡ 0
 inner_full g a b j is i in_a =
     let p = level_some g a j in_a in
-    let over : depth g a p.0 + a.width ≤ depth g b p.0 = above g a b p.0 is p.1 i.0 in
     let e = p.2 in
-    let most : level g b j ≤ 2 * g.least p.0 j - depth g b p.0 = level_by g b j p.0 (i.1 p.0 p.1) in
-    omega arith
+    omega (arith, level_by g b j p.0 (i.1 p.0 p.1), above g a b p.0 is p.1 i.0)
 
 -- the junction of a member is in all cuts of its moat
 pub insider : (g : LiftInput) → Fits g → (a : Moat) (u : ℕ) → u < g.places → has_member a.members u ≡ true → level g a (g.spot u) ≡ 0
@@ -120,8 +117,7 @@ smallest p (x ∷ xs) = one_more p x xs (cases_Bool (p x)) (smallest p xs)
 -- what puts a junction into the smallest moat of whose cuts one holds it puts it into all others
 inside_all : (g : LiftInput) → Fits g → (i t : ℕ) (s m : Moat) → i < g.size → IsOf g.moats s → IsOf g.moats m → level g s i < s.width
     → has_member s.members t ≡ true → level g s i ≡ 2 * g.least t i - depth g s t → length s.members ≤ length m.members
-    → level g m i < m.width → (m ≡ s) ⊎ Apart m s
-    → (has_member m.members t ≡ true) × (2 * g.least t i - depth g m t ≤ level g m i)
+    → level g m i < m.width → (m ≡ s) ⊎ Apart m s → (has_member m.members t ≡ true) × (2 * g.least t i - depth g m t ≤ level g m i)
 inside_all g f i t s m in_i is_s is_m low has e le h (inl same) = grind (arith, nat_tests)
 inside_all g f i t s m in_i is_s is_m low has e le h (inr (inl d)) = absurd (no_share g f m s i in_i is_m is_s d h low)
 inside_all g f i t s m in_i is_s is_m low has e le h (inr (inr (inl j))) = absurd (omega (arith, j.0))

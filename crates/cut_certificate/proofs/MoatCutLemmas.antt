@@ -57,12 +57,11 @@ step_load from next a b lt (inr p) (inl q) = grind (arith, nat_tests)
 step_load from next a b lt (inr p) (inr q) = grind (arith, nat_tests)
 
 -- the weight of a cut of the junctions up to a level, where the edge crosses it
-one_load : (e : Edge) (c : Cut) (from w : ℕ) (levels : List ℕ) → c.members ≡ members_from 0 from levels → c.weight ≡ w
-    → e.a < length levels → e.b < length levels
+one_load : (e : Edge) (c : Cut) (from w : ℕ) (levels : List ℕ) → c.members ≡ members_from 0 from levels → c.weight ≡ w → e.a < length levels
+    → e.b < length levels
     → (if crosses c.members e then c.weight else 0)
     ≡ (if (if nat_le (slice_index levels e.a) from then not (nat_le (slice_index levels e.b) from) else nat_le (slice_index levels e.b)
-    from)
-    then w else 0)
+    from) then w else 0)
 one_load e c from w levels is weight in_a in_b = grind (arith, nat_tests, member_at)
 
 one_load_on : (cs : List Cut) (c : Cut) (e : Edge) → load_on (cs ++ c ∷ []) e ≡ load_on cs e + (if crosses c.members e then c.weight else 0)
@@ -93,8 +92,7 @@ next_cut levels from next cs c made lt gap is weight = record {
 -- one more cut, up to the next level
 pub next_cuts : (levels : List ℕ) (from next : ℕ) (old now new : List Cut) (c : Cut) → AddsCuts (AreCutsTo levels from) old now
     → from < next → ((j : ℕ) → j < length levels → (slice_index levels j ≤ from) ⊎ (next ≤ slice_index levels j))
-    → c.members ≡ members_from 0 from levels → c.weight ≡ next - from → new ≡ now ++ c ∷ []
-    → AddsCuts (AreCutsTo levels next) old new
+    → c.members ≡ members_from 0 from levels → c.weight ≡ next - from → new ≡ now ++ c ∷ [] → AddsCuts (AreCutsTo levels next) old new
 next_cuts levels from next old now new c made lt gap is weight pushed = record {
   more = made.more ++ c ∷ [];
   kind = next_cut levels from next made.more c made.kind lt gap is weight;

@@ -122,9 +122,8 @@ depth_first g s index t h c l o = widths_but (is_inner o.moat t) (is_inner s t) 
 
 -- a processed moat that shares a terminal with the next one is inside
 inside_next : (g : LiftInput) (s : Moat) (index : ℕ) (stands : List TerminalState) (reaches : List (Vec ℕ Global))
-    → Finds g s index stands reaches
-    → (c : ℕ) (m : Moat) (t : ℕ) → slice_get g.moats c ≡ Some m → IsProcessed (length s.members) index c m → has_member m.members t ≡ true
-    → has_member s.members t ≡ true → Inside m s
+    → Finds g s index stands reaches → (c : ℕ) (m : Moat) (t : ℕ) → slice_get g.moats c ≡ Some m → IsProcessed (length s.members) index c m
+    → has_member m.members t ≡ true → has_member s.members t ≡ true → Inside m s
 inside_next g s index stands reaches f c m t at done in_m in_s = grind (arith, nat_tests, related, is_of)
 
 -- lowering doesn't raise
@@ -140,8 +139,7 @@ lowered_most g stands reaches j far (t ∷ ts) =
 
 -- each distance is also at most that from each of the terminals
 lowered_by : (g : LiftInput) (stands : List TerminalState) (reaches : List (Vec ℕ Global)) (j far : ℕ) (ts : List ℕ) (t x : ℕ)
-    → has_member ts t ≡ true
-    → distance_from g reaches t j (slice_get stands t) ≡ Some x → lowered_distance g stands reaches j far ts ≤ x
+    → has_member ts t ≡ true → distance_from g reaches t j (slice_get stands t) ≡ Some x → lowered_distance g stands reaches j far ts ≤ x
 lowered_by g stands reaches j far [] t x has is = absurd (both_ways false refl has)
 lowered_by g stands reaches j far (u ∷ ts) t x has is =
     elim (or_cases (t == u) (has_member ts t) has) [
@@ -165,8 +163,7 @@ lowered_by g stands reaches j far (u ∷ ts) t x has is =
 
 -- what is so of the start and of each way is so of what is left
 lowered_some : (g : LiftInput) (stands : List TerminalState) (reaches : List (Vec ℕ Global)) (j far : ℕ) (ts : List ℕ) (Good : ℕ → Type 0)
-    → Good far
-    → ((t x : ℕ) → has_member ts t ≡ true → distance_from g reaches t j (slice_get stands t) ≡ Some x → Good x)
+    → Good far → ((t x : ℕ) → has_member ts t ≡ true → distance_from g reaches t j (slice_get stands t) ≡ Some x → Good x)
     → Good (lowered_distance g stands reaches j far ts)
 lowered_some g stands reaches j far [] Good start step = start
 lowered_some g stands reaches j far (u ∷ ts) Good start step =
@@ -234,9 +231,8 @@ IsFrom g s j x = (t : ℕ) × (has_member s.members t ≡ true) × (distance_bey
 
 -- each way begins at a member
 from_some : (g : LiftInput) (s : Moat) (index : ℕ) (stands : List TerminalState) (reaches : List (Vec ℕ Global)) (j t x : ℕ)
-    (place : Option TerminalState)
-    → Finds g s index stands reaches → j < g.size → has_member s.members t ≡ true → slice_get stands t ≡ place
-    → distance_from g reaches t j place ≡ Some x → IsFrom g s j x
+    (place : Option TerminalState) → Finds g s index stands reaches → j < g.size → has_member s.members t ≡ true
+    → slice_get stands t ≡ place → distance_from g reaches t j place ≡ Some x → IsFrom g s j x
 from_some g s index stands reaches j t x None f in_j has at is = absurd (grind (arith, nat_tests))
 from_some g s index stands reaches j t x (Some stand.Inside) f in_j has at is = absurd (grind (arith, nat_tests))
 from_some g s index stands reaches j t x (Some stand.Free) f in_j has at is = grind (arith, nat_tests)
@@ -252,8 +248,7 @@ from_some g s index stands reaches j t x (Some (stand.First c)) f in_j has at is
 
 -- the distances from the next moat
 pub reach_found : (g : LiftInput) (s : Moat) (index : ℕ) (stands : List TerminalState) (reaches : List (Vec ℕ Global)) (reach : List ℕ)
-    (far : ℕ)
-    → Finds g s index stands reaches → length reach ≡ g.size → ((t j : ℕ) → t < g.places → j < g.size → 2 * g.least t j ≤ far)
+    (far : ℕ) → Finds g s index stands reaches → length reach ≡ g.size → ((t j : ℕ) → t < g.places → j < g.size → 2 * g.least t j ≤ far)
     → ((j : ℕ) → j < g.size → slice_index reach j ≡ lowered_distance g stands reaches j far s.members) → AreDistancesFrom g s reach
 reach_found g s index stands reaches reach far f sized low value = record {
   sized = sized;

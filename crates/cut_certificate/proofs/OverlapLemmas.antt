@@ -25,8 +25,7 @@ whole : (lo hi x y a b : ℕ) → lo ≤ hi → a ≤ min lo y - x → b ≤ y -
 whole lo hi x y a b h k l = omega arith
 
 beside : (g : LiftInput) (t : ℕ) (m s : Moat) → IsOf g.moats m → IsOf g.moats s → has_member m.members t ≡ true
-    → has_member s.members t ≡ true → Apart m s
-    → (depth g m t + m.width ≤ depth g s t) ⊎ (depth g s t + s.width ≤ depth g m t)
+    → has_member s.members t ≡ true → Apart m s → (depth g m t + m.width ≤ depth g s t) ⊎ (depth g s t + s.width ≤ depth g m t)
 beside g t m s is_m is_s in_m in_s (inl d) = absurd (d t in_m in_s)
 beside g t m s is_m is_s in_m in_s (inr (inl i)) = inl (above g m s t is_m in_m i.0)
 beside g t m s is_m is_s in_m in_s (inr (inr i)) = inr (above g s m t is_s in_s i.0)

@@ -29,8 +29,7 @@ smaller n ms index s odd l at c m t at_m (inr as_many) in_m in_s =
 
 -- what the next moat finds
 pub finds : (rows : RowsValue) (size : ℕ) (moats : List Moat) (s : Moat) (index : ℕ) (stands : List TerminalState)
-    (reaches : List (Vec ℕ Global))
-    → HasRowsForMoats rows size moats → slice_get moats index ≡ Some s
+    (reaches : List (Vec ℕ Global)) → HasRowsForMoats rows size moats → slice_get moats index ≡ Some s
     → IsProgress (lift_input rows size moats) (length s.members) index stands reaches
     → Finds (lift_input rows size moats) s index stands reaches
 finds rows size moats s index stands reaches can at progress =
@@ -46,8 +45,7 @@ finds rows size moats s index stands reaches can at progress =
 
 -- each moat has an odd number of members
 pub all_odd : (rows : RowsValue) (size : ℕ) (moats : List Moat) → HasRowsForMoats rows size moats → (i : ℕ) (m : Moat)
-    → slice_get moats i ≡ Some m
-    → length m.members % 2 ≡ 1
+    → slice_get moats i ≡ Some m → length m.members % 2 ≡ 1
 all_odd rows size moats can i m at = (of_all (IsOddMoat (length rows.terminals)) moats m can.odd (is_of moats i m at)).odd
 
 never : (i : ℕ) (m : Moat) → length m.members % 2 ≡ 1 → IsProcessed 1 0 i m → ⊥
@@ -83,8 +81,7 @@ all_stand_free g reaches odd beside = record {
 
 -- before the first moat
 pub none_yet : (rows : RowsValue) (size : ℕ) (moats : List Moat) (stands : List TerminalState) (reaches : List (Vec ℕ Global))
-    → HasRowsForMoats rows size moats
-    → stands ≡ replicate (length rows.terminals) stand.Free → length reaches ≡ length moats
+    → HasRowsForMoats rows size moats → stands ≡ replicate (length rows.terminals) stand.Free → length reaches ≡ length moats
     → IsProgress (lift_input rows size moats) 1 0 stands reaches
 none_yet rows size moats stands reaches can are beside =
     subst (λ (ss : List TerminalState). IsProgress (lift_input rows size moats) 1 0 ss reaches) (sym are)
@@ -225,10 +222,9 @@ is_next g s members index stands seen reaches read at size is are progress = gri
 -- after the next moat, as the code computes it
 pub progress_on : (rows : RowsValue) (size : ℕ) (moats : List Moat) (s : Moat) (members index : ℕ) (stands new : List TerminalState)
     (reaches : List (Vec ℕ Global)) (v : Vec ℕ Global) → HasRowsForMoats rows size moats → slice_get moats index ≡ Some s
-    → length s.members ≡
-    members
-    → IsProgress (lift_input rows size moats) members index stands reaches → AreDistancesFrom (lift_input rows size moats) s v.items
-    → new ≡ surrounded stands s.members index → IsProgress (lift_input rows size moats) members (index + 1) new (slice_set reaches index v)
+    → length s.members ≡ members → IsProgress (lift_input rows size moats) members index stands reaches
+    → AreDistancesFrom (lift_input rows size moats) s v.items → new ≡ surrounded stands s.members index
+    → IsProgress (lift_input rows size moats) members (index + 1) new (slice_set reaches index v)
 progress_on rows size moats s members index stands new reaches v can at many progress is are =
     let g = lift_input rows size moats in
     let found = finds rows size moats s index stands reaches can at

@@ -91,8 +91,7 @@ is_outermost ms index s t h at around first = grind (arith, nat_tests)
 -- no processed moat holds a terminal of the next one and another terminal besides
 not_across : (ms : List Moat) (index : ℕ) (s m : Moat) (i t h : ℕ) → Laminar ms → slice_get ms index ≡ Some s → slice_get ms i ≡ Some m
     → IsProcessed (length s.members) index i m → has_member m.members t ≡ true → has_member s.members t ≡ false
-    → has_member m.members h ≡ true
-    → has_member s.members h ≡ false
+    → has_member m.members h ≡ true → has_member s.members h ≡ false
 not_across ms index s m i t h l at at_m done has_t out has_h = grind (arith, nat_tests, cases_Bool, related, is_of)
 
 -- the first member is one

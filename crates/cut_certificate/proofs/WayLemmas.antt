@@ -10,18 +10,16 @@ use Rattle.cut_certificate.proofs.TerminalStateLemmas.{is_of}
 
 -- no number of a row is above the greatest cost
 pub row_low : (rows : RowsValue) (size : ℕ) (moats : List Moat) (t : ℕ) (row : List ℕ) (j : ℕ) → HasRowsForMoats rows size moats
-    → t < length rows.terminals
-    → slice_get rows.table t ≡ Some row → j < length row → slice_index row j ≤ MAX_COST
+    → t < length rows.terminals → slice_get rows.table t ≡ Some row → j < length row → slice_index row j ≤ MAX_COST
 row_low rows size moats t row j can in_t at lt =
     let long : length row ≡ size = ap length_in (sym at) ∙ can.wide t in_t in
     subst (λ (o : Option (List ℕ)). cost_in o j ≤ MAX_COST) at (can.low t j in_t (omega arith))
 
 -- the distances from a processed moat are as many as a row has
-pub reach_wide : (rows : RowsValue) (size : ℕ) (moats : List Moat) (stands : List TerminalState) (reaches : List (Vec ℕ Global)) (t c : ℕ)
-    (place : TerminalState)
-    (v : Vec ℕ Global) (seen : List ℕ) → HasDistance rows size moats stands reaches t → slice_get stands t ≡ Some place
-    → place ≡ stand.First c
-    → c < length reaches → v ≡ get_or reaches c v → seen ≡ v.items → length seen ≡ size
+pub reach_wide : (rows : RowsValue) (size : ℕ) (moats : List Moat) (stands : List TerminalState) (reaches : List (Vec ℕ Global))
+    (t c : ℕ) (place : TerminalState) (v : Vec ℕ Global) (seen : List ℕ) → HasDistance rows size moats stands reaches t
+    → slice_get stands t ≡ Some place → place ≡ stand.First c → c < length reaches → v ≡ get_or reaches c v → seen ≡ v.items
+    → length seen ≡ size
 reach_wide rows size moats stands reaches t c place v seen has at is lt read are = grind (arith, nat_tests, slice_get_read)
 
 -- lowered to the distances from the outermost moat whose first member is the terminal
@@ -52,14 +50,12 @@ have_ways rows size moats s stands reaches can next =
     }
 
 -- a list of MAX_REACH that is lowered to all distances has those from the next moat
-pub reach_made : (rows : RowsValue) (size : ℕ) (moats : List Moat) (s : Moat) (stands : List TerminalState) (reaches : List (Vec ℕ Global))
-    (len : ℕ)
-    (far now new members : List ℕ) → HasRowsForMoats rows size moats → IsNextMoat (lift_input rows size moats) s stands reaches
-    → far ≡ replicate size MAX_REACH
-    → now ≡ far → len ≡ size → length new ≡ length now → members ≡ s.members
+pub reach_made : (rows : RowsValue) (size : ℕ) (moats : List Moat) (s : Moat) (stands : List TerminalState)
+    (reaches : List (Vec ℕ Global)) (len : ℕ) (far now new members : List ℕ) → HasRowsForMoats rows size moats
+    → IsNextMoat (lift_input rows size moats) s stands reaches → far ≡ replicate size MAX_REACH → now ≡ far → len ≡ size
+    → length new ≡ length now → members ≡ s.members
     → ((j : ℕ) → j < length now → slice_index new j
-    ≡ lowered_distance (lift_input rows (length now) moats) stands reaches j (slice_index now j)
-    members)
+    ≡ lowered_distance (lift_input rows (length now) moats) stands reaches j (slice_index now j) members)
     → AreDistancesFrom (lift_input rows size moats) s (take len (new ++ drop (length new) far))
 reach_made rows size moats s stands reaches len far now new members can next is are sized long same value =
     let wide : length now ≡ size = ap (λ (l : List ℕ). length l) (are ∙ is) ∙ length-replicate size MAX_REACH in subst
@@ -87,11 +83,10 @@ pub most_all : (ms : List Moat) (i most : ℕ) → length ms ≤ i → All (λ (
 most_all ms i most le all = subst (λ (l : List Moat). All (λ (x : Moat). length x.members ≤ most) l) (take_all i ms le) all
 
 -- each terminal of the next moat has a distance, as the code reads terminals and numbers
-pub all_ways : (rows : RowsValue) (size : ℕ) (moats : List Moat) (s : Moat) (stands : List TerminalState) (reaches : List (Vec ℕ Global))
-    (far now members : List ℕ) → HasRowsForMoats rows size moats → IsNextMoat (lift_input rows size moats) s stands reaches
-    → far ≡ replicate size MAX_REACH
-    → now ≡ far
-    → members ≡ s.members → All (HasDistance rows (length now) moats stands reaches) members
+pub all_ways : (rows : RowsValue) (size : ℕ) (moats : List Moat) (s : Moat) (stands : List TerminalState)
+    (reaches : List (Vec ℕ Global)) (far now members : List ℕ) → HasRowsForMoats rows size moats
+    → IsNextMoat (lift_input rows size moats) s stands reaches → far ≡ replicate size MAX_REACH → now ≡ far → members ≡ s.members
+    → All (HasDistance rows (length now) moats stands reaches) members
 all_ways rows size moats s stands reaches far now members can next is are same =
     subst (λ (n : ℕ). All (HasDistance rows n moats stands reaches) members)
     (sym (ap (λ (l : List ℕ). length l) (are ∙ is) ∙ length-replicate size MAX_REACH))

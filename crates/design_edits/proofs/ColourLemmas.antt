@@ -25,16 +25,14 @@ threads_past d block (suc count) past =
     ap₂ (λ x xs. x ∷ xs) (thread_past d block past) (threads_past d (block + 1) count (omega (arith, past)))
 
 -- the number of threads up to a place
-length-threads_up_to : (d : DesignValue) (place : ℕ)
-    → length (threads_up_to d place) ≡ length d.threads + (place + 1 - length d.threads)
+length-threads_up_to : (d : DesignValue) (place : ℕ) → length (threads_up_to d place) ≡ length d.threads + (place + 1 - length d.threads)
 length-threads_up_to d place = grind (arith, nat_tests, d.threads, length-append, length-map-range_with_len)
 
 count_more : (place len : ℕ) → len ≤ place → place + 1 - len ≡ suc (place + 1 - (len + 1))
 count_more place len below = omega arith
 
 -- keeping the thread of the next block changes none of the threads up to a place
-up_to_next : (d new : DesignValue) (place : ℕ) → length d.threads ≤ place
-    → new ≡ with_thread d (thread_of d (length d.threads))
+up_to_next : (d new : DesignValue) (place : ℕ) → length d.threads ≤ place → new ≡ with_thread d (thread_of d (length d.threads))
     → threads_up_to new place ≡ threads_up_to d place
 up_to_next d new place below is =
     let len = length d.threads in
@@ -56,20 +54,17 @@ up_to_next d new place below is =
     (thread_past d len (omega arith))
     ∙ ap (λ xs. d.threads ++ xs) (sym before)
 
-pub keeps_on : (whole d new : DesignValue) (place : ℕ) → length d.threads ≤ place
-    → new ≡ with_thread d (thread_of d (length d.threads))
+pub keeps_on : (whole d new : DesignValue) (place : ℕ) → length d.threads ≤ place → new ≡ with_thread d (thread_of d (length d.threads))
     → record d { threads = threads_up_to d place } ≡ record whole { threads = threads_up_to whole place }
     → record new { threads = threads_up_to new place } ≡ record whole { threads = threads_up_to whole place }
 keeps_on whole d new place below is so_far = grind (arith, nat_tests, d.threads, threads_up_to, up_to_next)
 
 -- a place up to which threads are kept has one
-pub place_kept : (d new : DesignValue) (place : ℕ) → new ≡ record d { threads = threads_up_to d place }
-    → place < length new.threads
+pub place_kept : (d new : DesignValue) (place : ℕ) → new ≡ record d { threads = threads_up_to d place } → place < length new.threads
 place_kept d new place is = omega (arith, ap (λ x. length x.threads) is, length-threads_up_to d place)
 
 -- a thread up to a place is the one that its block has
-kept_thread : (d : DesignValue) (place block : ℕ)
-    → get_or (threads_up_to d place) block (thread_by_place block) ≡ thread_of d block
+kept_thread : (d : DesignValue) (place block : ℕ) → get_or (threads_up_to d place) block (thread_by_place block) ≡ thread_of d block
 kept_thread d place block = by_place (cases_lt block (length d.threads)) (cases_lt block (place + 1)) where
   by_place : (block < length d.threads) ⊎ (length d.threads ≤ block) → (block < place + 1) ⊎ (place + 1 ≤ block)
       → get_or (threads_up_to d place) block (thread_by_place block) ≡ thread_of d block
@@ -93,7 +88,6 @@ recolours place thread d block =
       by_test (inl (test, same)) = grind (arith, nat_tests, threads_up_to, get_or-set_same, length-threads_up_to)
       by_test (inr (test, differs)) = grind (arith, nat_tests, get_or-set_other, threads_up_to, kept_thread)
 
-pub recolours_by : (place thread : ℕ) (d kept new : DesignValue)
-    → kept ≡ record d { threads = threads_up_to d place } → new ≡ with_thread_at kept place thread
-    → Recolours place thread d new
+pub recolours_by : (place thread : ℕ) (d kept new : DesignValue) → kept ≡ record d { threads = threads_up_to d place }
+    → new ≡ with_thread_at kept place thread → Recolours place thread d new
 recolours_by place thread d kept new is put = grind (arith, nat_tests, recolours)

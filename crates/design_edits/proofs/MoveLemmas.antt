@@ -7,12 +7,10 @@ abbrev pub is_outside : Command → Bool
 is_outside c = not (is_command_in_range c)
 
 -- where the first is inside, the first outside is among the others
-go_on : (n : ℕ) (c : Command) (rest : Option ℕ) → IsTrue (is_command_in_range c) → rest ≡ None
-    → cond (is_outside c) (Some n) rest ≡ None
+go_on : (n : ℕ) (c : Command) (rest : Option ℕ) → IsTrue (is_command_in_range c) → rest ≡ None → cond (is_outside c) (Some n) rest ≡ None
 go_on n c rest inside none = rw inside none
 
-gone_on : (n : ℕ) (inside : Bool) (rest : Option ℕ) → cond (not inside) (Some n) rest ≡ None
-    → IsTrue inside × (rest ≡ None)
+gone_on : (n : ℕ) (inside : Bool) (rest : Option ℕ) → cond (not inside) (Some n) rest ≡ None → IsTrue inside × (rest ≡ None)
 gone_on n inside rest h1 = grind (arith, nat_tests)
 
 -- A map that keeps points within each limit keeps all commands in range.
@@ -32,13 +30,11 @@ module _ (f : Point → Point)
       go_on n (with_mapped_point f c) (position_from is_outside (n + 1) (map (with_mapped_point f) rest))
       (stays_in_range c both.0) (none_outside (n + 1) rest both.1)
 
-turn_stays : (quarters limit : ℕ) (p : Point) → IsTrue (is_point_within limit p)
-    → IsTrue (is_point_within limit (turn_point quarters p))
+turn_stays : (quarters limit : ℕ) (p : Point) → IsTrue (is_point_within limit p) → IsTrue (is_point_within limit (turn_point quarters p))
 turn_stays zero limit p within = within
 turn_stays (suc quarters) limit p within = grind (arith, nat_tests, size-neg, (turn_stays quarters limit p within))
 
-mirror_stays : (a : Axis) (limit : ℕ) (p : Point) → IsTrue (is_point_within limit p)
-    → IsTrue (is_point_within limit (mirror_point a p))
+mirror_stays : (a : Axis) (limit : ℕ) (p : Point) → IsTrue (is_point_within limit p) → IsTrue (is_point_within limit (mirror_point a p))
 mirror_stays a limit p h1 = grind (arith, nat_tests, size-neg)
 
 -- No point of a design leaves its range in a turn or a mirroring.

@@ -23,15 +23,13 @@ pub carried_first : (acts : List NumberedAct) → continued_block_counts [] 0 ac
 carried_first acts = none_more acts
 
 -- A stop appends the count of its block to the others, and starts the next block.
-pub carried_stop : (before after : List ℕ) (needles : ℕ) (a : Act)
-    → after ≡ before ++ needles ∷ [] → a ≡ act.Stop → (n : ℕ) (rest : List NumberedAct)
-    → continued_block_counts after 0 rest ≡ continued_block_counts before needles (numbered n a ∷ rest)
+pub carried_stop : (before after : List ℕ) (needles : ℕ) (a : Act) → after ≡ before ++ needles ∷ [] → a ≡ act.Stop
+    → (n : ℕ) (rest : List NumberedAct) → continued_block_counts after 0 rest ≡ continued_block_counts before needles (numbered n a ∷ rest)
 carried_stop before after needles a pushed stop n rest =
     rw (pushed, stop) (simp (append_assoc, none_more rest, add-zero))
 
 -- An act adds one block if it is a stop.
-length-parted : (a : NumberedAct) (stops : Bool) (later : List (List NumberedAct)) (count : ℕ)
-    → length later ≡ count + 1
+length-parted : (a : NumberedAct) (stops : Bool) (later : List (List NumberedAct)) (count : ℕ) → length later ≡ count + 1
     → length (if stops then [] ∷ later else with_act_in_first_block a later) ≡ (if stops then 1 else 0) + count + 1
 length-parted a stops later count h1 = grind (arith, nat_tests)
 

@@ -17,8 +17,7 @@ pub point_itself : (p : Point) → is_same_point p p ≡ true
 point_itself p = and_from (int_eq p.x p.x) (int_eq p.y p.y) ((Decides-int_eq p.x p.x).1 refl) ((Decides-int_eq p.y p.y).1 refl)
 
 -- a point is within a limit where both its coordinates are
-pub within_parts : (limit : ℕ) (p : Point) → IsTrue (is_point_within limit p)
-    → (unsigned_abs p.x ≤ limit) × (unsigned_abs p.y ≤ limit)
+pub within_parts : (limit : ℕ) (p : Point) → IsTrue (is_point_within limit p) → (unsigned_abs p.x ≤ limit) × (unsigned_abs p.y ≤ limit)
 within_parts limit p within = grind (arith, nat_tests)
 
 -- equal coordinates are those of equal points
@@ -30,8 +29,7 @@ pub point_of_parts : {x x' y y' : ℤ} → x ≡ x' → y ≡ y'
     → (let p : Point = record { x = x; y = y } in p) ≡ (let q : Point = record { x = x'; y = y' } in q)
 point_of_parts x y = cc
 
-pub within_from : (limit : ℕ) (p : Point) → unsigned_abs p.x ≤ limit → unsigned_abs p.y ≤ limit
-    → IsTrue (is_point_within limit p)
+pub within_from : (limit : ℕ) (p : Point) → unsigned_abs p.x ≤ limit → unsigned_abs p.y ≤ limit → IsTrue (is_point_within limit p)
 within_from limit p across down = grind (arith, nat_tests)
 
 -- the points of acts are in a needle's range

@@ -8,15 +8,13 @@ taken_in_range : (c : Command) (p : Point) → IsTrue (command_accepts_point c p
 taken_in_range c p h1 = grind (arith, nat_tests)
 
 -- the command that was found at the index is the one that is looked up there
-found_there : (cs : List Command) (i : ℕ) (found : Command) → found ≡ get_or cs i found
-    → IfSome (slice_get cs i) (λ c. found ≡ c)
+found_there : (cs : List Command) (i : ℕ) (found : Command) → found ≡ get_or cs i found → IfSome (slice_get cs i) (λ c. found ≡ c)
 found_there [] i found is = tt
 found_there (c ∷ rest) zero found is = is
 found_there (c ∷ rest) (suc i) found is = found_there rest i found is
 
 -- The replaced command can be computed from either of two equal ones.
-put_there : (cs : List Command) (i : ℕ) (found : Command) (p : Point) (looked_up : Option Command)
-    → IfSome looked_up (λ c. found ≡ c)
+put_there : (cs : List Command) (i : ℕ) (found : Command) (p : Point) (looked_up : Option Command) → IfSome looked_up (λ c. found ≡ c)
     → IfSome looked_up (λ c. set cs i (command_with_point found p) ≡ set cs i (command_with_point c p))
 put_there cs i found p looked_up h1 = grind (arith, nat_tests)
 

@@ -32,8 +32,7 @@ fold-greatest a xs =
     }
 
 -- the extent of points has their least and greatest x and y
-pub bounds_of_points : (points : List Point) (extent : Option Extent)
-    → extent ≡ extent_of_points points → IsExtentOrNone points extent
+pub bounds_of_points : (points : List Point) (extent : Option Extent) → extent ≡ extent_of_points points → IsExtentOrNone points extent
 bounds_of_points [] None is = refl
 bounds_of_points [] (Some extent) is = cc
 bounds_of_points (p ∷ rest) None is = cc

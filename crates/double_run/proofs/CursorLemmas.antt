@@ -53,8 +53,7 @@ spent_at edges count passed last before at ready none = all_spent passed edges a
 
 -- the cursors after a line is passed
 pub out_ready : (edges : List Edge) (count : ℕ) (passed : List Bool) (last before : List ℕ) (at m next : ℕ) → next < count
-    → AreCursors edges count (WasPassed passed) last before at
-    → AreCursors edges count (WasPassed (set passed m true)) last before next
+    → AreCursors edges count (WasPassed passed) last before at → AreCursors edges count (WasPassed (set passed m true)) last before next
 out_ready edges count passed last before at m next = cursors_stay edges count (WasPassed passed) last before at
     (WasPassed (set passed m true)) next (marked_stays passed m)
 

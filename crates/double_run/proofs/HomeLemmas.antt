@@ -84,8 +84,7 @@ home_passed p walk is_line_passed at kept k stuck first = all_passed
 -- the walk of a finished traversal
 pub home_double : (p : PieceValue) (walk : List Pass) (is_line_passed : List Bool) (at : ℕ) → IsValidPiece p
     → IsTraversalInvariant p.lines p.edges walk [] is_line_passed (root_junction p.edges) at → is_exhausted is_line_passed p.edges at ≡ true
-    → BeginsWith (first_line p.lines) walk → get_or is_line_passed 0 false ≡ true
-    → IsDouble p walk
+    → BeginsWith (first_line p.lines) walk → get_or is_line_passed 0 false ≡ true → IsDouble p walk
 home_double p walk is_line_passed at kept k stuck begins first = record {
   closed = closes walk begins k.led;
   each = All-from_get_or (IsPassedBothWays walk) p.lines 0 goes;

@@ -18,8 +18,7 @@ there_push n [] leg = grind (arith, nat_tests)
 there_push n (x ∷ out) leg = grind (arith, nat_tests, there_push n out leg)
 
 -- a pass along a line from where it starts, and home again
-goes : (found : Option Edge) (e : Edge) (back : Bool) → found ≡ Some e
-    → after_edge found back (pass_start e back) ≡ Some (pass_end e back)
+goes : (found : Option Edge) (e : Edge) (back : Bool) → found ≡ Some e → after_edge found back (pass_start e back) ≡ Some (pass_end e back)
 goes found e back is = rw (is, eq_self (pass_start e back)) refl
 
 homeward : (found : Option Edge) (e : Edge) (back : Bool) → found ≡ Some e
@@ -29,11 +28,8 @@ homeward found e false is = rw (is, eq_self e.b) refl
 
 -- the traversal after another leg
 pub out_kept : (lines : List ℕ) (edges : List Edge) (walk : List Pass) (out : List DirectedLeg) (passed : List Bool) (root : ℕ)
-    (leg : DirectedLeg)
-    (e : Edge)
-    → is_strictly_increasing lines ≡ true → length lines ≡ length edges → slice_get edges leg.place ≡ Some e
-    → slice_get passed leg.place ≡ Some false
-    → IsTraversalInvariant lines edges walk out passed root (pass_start e leg.back)
+    (leg : DirectedLeg) (e : Edge) → is_strictly_increasing lines ≡ true → length lines ≡ length edges → slice_get edges leg.place ≡ Some e
+    → slice_get passed leg.place ≡ Some false → IsTraversalInvariant lines edges walk out passed root (pass_start e leg.back)
     → IsTraversalInvariant lines edges (walk ++ leg_pass lines leg ∷ []) (out ++ leg ∷ []) (set passed leg.place true) root
     (pass_end e leg.back)
 out_kept lines edges walk out passed root leg e up beside there left k = record {
@@ -89,11 +85,8 @@ out_kept lines edges walk out passed root leg e up beside there left k = record 
 
 -- the traversal after it came back along its last leg
 pub back_kept : (lines : List ℕ) (edges : List Edge) (walk : List Pass) (out : List DirectedLeg) (passed : List Bool) (root at : ℕ)
-    (leg : DirectedLeg)
-    (e : Edge)
-    → is_strictly_increasing lines ≡ true → length lines ≡ length edges → slice_get edges leg.place ≡ Some e
-    → is_exhausted passed edges at ≡ true
-    → IsTraversalInvariant lines edges walk (out ++ leg ∷ []) passed root at
+    (leg : DirectedLeg) (e : Edge) → is_strictly_increasing lines ≡ true → length lines ≡ length edges → slice_get edges leg.place ≡ Some e
+    → is_exhausted passed edges at ≡ true → IsTraversalInvariant lines edges walk (out ++ leg ∷ []) passed root at
     → IsTraversalInvariant lines edges (walk ++ leg_return lines leg ∷ []) out passed root (pass_start e leg.back)
 back_kept lines edges walk out passed root at leg e up beside there spent k = record {
   beside = k.beside;

@@ -24,8 +24,7 @@ leg_below n edges k e back all is = grind (arith, nat_tests, ends_are_below n ed
 
 -- a traversal without a pass satisfies the invariant
 pub begins_all : (p : PieceValue) (walk : List Pass) (out : List DirectedLeg) (passed : List Bool) (edges : List Edge) → walk ≡ []
-    → out ≡ []
-    → passed ≡ replicate (length p.edges) false → edges ≡ p.edges
+    → out ≡ [] → passed ≡ replicate (length p.edges) false → edges ≡ p.edges
     → IsTraversalInvariant p.lines p.edges walk out passed (root_junction p.edges)
     (slice_index_or edges 0 (record { a = 0; b = 0; cost = 0 })).a
 begins_all p walk out passed edges is_walk is_out is_passed are =
@@ -43,8 +42,7 @@ begins_chains p passed last before edges kept are is_last is_before linked ends 
 
 -- a step out
 pub out_step : (p : PieceValue) (old : Traversal) (walk : List Pass) (out : Vec DirectedLeg Global) (passed : Vec Bool Global) (at : ℕ)
-    (leg : DirectedLeg)
-    → IsValidPiece p → KeepsTraversal p old → HasTraversalTables p old → IsLegFrom p.edges old.passed.items old.at leg
+    (leg : DirectedLeg) → IsValidPiece p → KeepsTraversal p old → HasTraversalTables p old → IsLegFrom p.edges old.passed.items old.at leg
     → walk ≡ old.walk ++ leg_pass p.lines leg ∷ [] → out.items ≡ old.out.items ++ leg ∷ []
     → passed.items ≡ set old.passed.items leg.place true → at ≡ pass_end (edge_at p.edges leg.place) leg.back
     → GoesOut p old (record { walk = walk; ends = old.ends; out = out; passed = passed; at = at }) leg
@@ -93,10 +91,9 @@ leg_edge edges out leg there = grind (arith, nat_tests, edge_there, and_parts, t
 
 -- a step back
 pub back_step : (p : PieceValue) (old : Traversal) (walk : List Pass) (out : Vec DirectedLeg Global) (at : ℕ) (leg : DirectedLeg)
-    → IsValidPiece p
-    → KeepsTraversal p old → HasTraversalTables p old
-    → is_exhausted old.passed.items p.edges old.at ≡ true → old.out.items ≡ out.items ++ leg ∷ []
-    → walk ≡ old.walk ++ leg_return p.lines leg ∷ [] → at ≡ pass_start (edge_at p.edges leg.place) leg.back
+    → IsValidPiece p → KeepsTraversal p old → HasTraversalTables p old → is_exhausted old.passed.items p.edges old.at ≡ true
+    → old.out.items ≡ out.items ++ leg ∷ [] → walk ≡ old.walk ++ leg_return p.lines leg ∷ []
+    → at ≡ pass_start (edge_at p.edges leg.place) leg.back
     → IsTraversalStep p old (record { walk = walk; ends = old.ends; out = out; passed = old.passed; at = at })
 back_step p old walk out at leg kept keeps ready spent is_out is_walk is_at = record {
   on = record {

@@ -38,11 +38,10 @@ none_in block from bound (line ∷ rest) less rise =
     (other_block_above line.block block (omega (arith, less, rise.0)))
     ∙ none_in block line.block bound rest (omega (arith, less, rise.0)) rise.2
 
-front_if : (block : ℕ) (more : List ℕ) (line : LineValue) (rest : List LineValue) (is : Bool)
-    → (is ≡ true → line.block < block + 1)
+front_if : (block : ℕ) (more : List ℕ) (line : LineValue) (rest : List LineValue) (is : Bool) → (is ≡ true → line.block < block + 1)
     → (is ≡ false → (in_block block rest ≡ []) × (grouped (block + 1) more (line ∷ rest) ≡ line ∷ grouped (block + 1) more rest))
-    → (if is then line ∷ in_block block rest else in_block block rest) ++ grouped (block + 1) more (line ∷ rest)
-    ≡ line ∷ in_block block rest ++ grouped (block + 1) more rest
+    → (if is then line ∷ in_block block rest else in_block block rest) ++ grouped (block + 1) more (line ∷ rest) ≡ line
+    ∷ in_block block rest ++ grouped (block + 1) more rest
 front_if block more line rest true here later =
     ap (λ (lines : List LineValue). line ∷ in_block block rest ++ lines) (skipped (block + 1) more line rest (here refl))
 front_if block more line rest false here later =

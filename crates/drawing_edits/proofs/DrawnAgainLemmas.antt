@@ -9,10 +9,9 @@ line_put : (a b : Bool) (x y : DrawKind) (steps : Result ℕ DrawKind) (new : Dr
 line_put a b x y steps new more e h1 = grind (arith, nat_tests)
 
 lines_if : (block : ℕ) (d : DrawingValue) (line : LineValue) (rest : List LineValue) (e : DrawingValue) → length d.threads ≡ block + 1
-    → (b : Bool) → (line.block == block) ≡ b
-    → and_then (line_added_if b d line.points) (λ next. with_lines_of block next rest) ≡ Ok e
-    → ((next : DrawingValue) → length next.threads ≡ block + 1 → with_lines_of block next rest ≡ Ok e
-    → e ≡ record next { lines = next.lines ++ in_block block rest })
+    → (b : Bool) → (line.block == block) ≡ b → and_then (line_added_if b d line.points) (λ next. with_lines_of block next rest) ≡ Ok e
+    → ((next : DrawingValue) → length next.threads ≡ block + 1 → with_lines_of block next rest ≡ Ok e → e
+    ≡ record next { lines = next.lines ++ in_block block rest })
     → e ≡ record d { lines = d.lines ++ (if b then line ∷ in_block block rest else in_block block rest) }
 lines_if block d line rest e last true same is later =
     later (with_new_line d line.points) last
@@ -32,9 +31,8 @@ lines_put block d [] e last is =
 lines_put block d (line ∷ rest) e last is =
     lines_if block d line rest e last (line.block == block) refl is (λ next own more. lines_put block next rest e own more)
 
-block_put : (a b : Bool) (x y : DrawKind) (new : DrawingValue) (more after : DrawingValue → Result DrawingValue DrawKind)
-    (e : DrawingValue) → and_then (and_then (if a then Err x else (if b then Err y else Ok new)) more) after ≡ Ok e
-    → and_then (more new) after ≡ Ok e
+block_put : (a b : Bool) (x y : DrawKind) (new : DrawingValue) (more after : DrawingValue → Result DrawingValue DrawKind) (e : DrawingValue)
+    → and_then (and_then (if a then Err x else (if b then Err y else Ok new)) more) after ≡ Ok e → and_then (more new) after ≡ Ok e
 block_put a b x y new more after e h1 = grind (arith, nat_tests)
 
 blocks_after : (r : Result DrawingValue DrawKind) (block : ℕ) (d : DrawingValue) (thread : ℕ) (rest : List ℕ) (lines : List LineValue)

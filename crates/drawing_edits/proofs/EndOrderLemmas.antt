@@ -41,16 +41,14 @@ spot_kept spot spots rise = subst IsNonDecreasing (sym shape)
     low k d before =
         let at : get_or blocks k d ≡ (get_or spots k none).block =
         get_or-map block_of_spot spots k none d (omega (arith, before, position_most later spots)) in
-        let less = ltb-false spot.block (get_or spots k none).block (fails_before_first later spots k none before) in
-        omega (arith, at, less)
+        omega (arith, at, ltb-false spot.block (get_or spots k none).block (fails_before_first later spots k none before))
 
     high : (k : ℕ) (d : ℕ) → index ≤ k → k < length blocks → spot.block ≤ get_or blocks k d
     high k d from below =
         let within : index < length spots = omega (arith, from, below, wide) in
         let at : get_or blocks index d ≡ (get_or spots index none).block = get_or-map block_of_spot spots index none d within in
-        let more = ltb-true spot.block (get_or spots index none).block (passes_at_first later spots none within) in
         let on = rise index k d from below in
-        omega (arith, at, more, on)
+        omega (arith, at, ltb-true spot.block (get_or spots index none).block (passes_at_first later spots none within), on)
 
     shape : map block_of_spot (with_spot spot spots) ≡ insert blocks index spot.block
     shape = map-append block_of_spot (take index spots) (spot ∷ drop index spots)
@@ -71,8 +69,7 @@ placed_order : (is_start : Bool) (spot : Spot) (d : DrawingValue) → HasOrdered
 placed_order true spot d ordered = record { starts = spot_kept spot d.starts ordered.starts; ends = ordered.ends }
 placed_order false spot d ordered = record { starts = ordered.starts; ends = spot_kept spot d.ends ordered.ends }
 
-end_order : (is_start : Bool) (p : Point) (d new : DrawingValue) → end_placed is_start p d ≡ Ok new → HasOrderedEnds d
-    → HasOrderedEnds new
+end_order : (is_start : Bool) (p : Point) (d new : DrawingValue) → end_placed is_start p d ≡ Ok new → HasOrderedEnds d → HasOrderedEnds new
 end_order is_start p d new is ordered =
     let placed = placed_kept is_start p d new is in
     order_of_same (with_end_at is_start (record { block = placed.block; at = p }) d) new placed.kept

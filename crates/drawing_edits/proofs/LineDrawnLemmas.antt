@@ -60,11 +60,10 @@ own_line : (block : ℕ) (d : DrawingValue) (line : LineValue) → length d.thre
     → with_new_line d line.points ≡ with_more d (line ∷ [])
 own_line block d line h1 h2 = grind (arith, nat_tests)
 
-lines_if : (block : ℕ) (d : DrawingValue) (line : LineValue) (rest after : List LineValue) → length d.threads ≡ block + 1
-    → (b : Bool) → (line.block == block) ≡ b
-    → HasRoom d ((if b then line ∷ in_block block rest else in_block block rest) ++ after)
-    → ((next : DrawingValue) → length next.threads ≡ block + 1 → HasRoom next (in_block block rest ++ after)
-    → with_lines_of block next rest ≡ Ok (with_more next (in_block block rest)))
+lines_if : (block : ℕ) (d : DrawingValue) (line : LineValue) (rest after : List LineValue) → length d.threads ≡ block + 1 → (b : Bool)
+    → (line.block == block) ≡ b → HasRoom d ((if b then line ∷ in_block block rest else in_block block rest) ++ after)
+    → ((next : DrawingValue) → length next.threads ≡ block + 1 → HasRoom next (in_block block rest ++ after) → with_lines_of block next rest
+    ≡ Ok (with_more next (in_block block rest)))
     → and_then (line_added_if b d line.points) (λ next. with_lines_of block next rest)
     ≡ Ok (with_more d (if b then line ∷ in_block block rest else in_block block rest))
 lines_if block d line rest after last true same room later =

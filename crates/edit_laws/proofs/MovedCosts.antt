@@ -16,8 +16,7 @@ both_counts : {A : Type 0} (a a' b b' : List A) → length a ≡ length a' → l
 both_counts a a' b b' one two = length-append a b ∙ (ap (λ (n : ℕ). n + length b) one ∙ (ap (λ (n : ℕ). length a' + n) two
     ∙ sym (length-append a' b')))
 
-back_count : (b : Bool) (ps qs : List Point) → length ps ≡ length qs
-    → length (cond b (reverse ps) ps) ≡ length (cond b (reverse qs) qs)
+back_count : (b : Bool) (ps qs : List Point) → length ps ≡ length qs → length (cond b (reverse ps) ps) ≡ length (cond b (reverse qs) qs)
 back_count true ps qs is = length-reverse ps ∙ (is ∙ sym (length-reverse qs))
 back_count false ps qs is = is
 

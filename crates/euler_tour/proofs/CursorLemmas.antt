@@ -42,9 +42,8 @@ below_parts n (y ∷ xs) x all =
 
 -- the tables to begin with
 pub begins_ready : (edges : List Edge) (count : ℕ) (left last before out : List ℕ) (at : ℕ) → length left ≡ length edges
-    → length last ≡ count
-    → length before ≡ 2 * length edges → out ≡ [] → at < count → AreBefore edges before → AreLast edges (2 * length edges) last
-    → AreTourTables edges count left last before out at
+    → length last ≡ count → length before ≡ 2 * length edges → out ≡ [] → at < count → AreBefore edges before
+    → AreLast edges (2 * length edges) last → AreTourTables edges count left last before out at
 begins_ready edges count left last before out at is_left is_last is_before is_out below linked are = record {
   left_beside = is_left;
   ends = rw is_out refl;
@@ -53,9 +52,8 @@ begins_ready edges count left last before out at is_left is_last is_before is_ou
 
 -- the tables after an end is skipped
 pub over_ready : (edges : List Edge) (count : ℕ) (left last last2 before out : List ℕ) (at end : ℕ)
-    → last2 ≡ set last at (get_or before end 0)
-    → get_or last at 0 ≡ end + 1 → get_or left (end / 2) 0 ≡ 0 → AreTourTables edges count left last before out at
-    → AreTourTables edges count left last2 before out at
+    → last2 ≡ set last at (get_or before end 0) → get_or last at 0 ≡ end + 1 → get_or left (end / 2) 0 ≡ 0
+    → AreTourTables edges count left last before out at → AreTourTables edges count left last2 before out at
 over_ready edges count left last last2 before out at end is_last here none ready = record {
   left_beside = ready.left_beside;
   ends = ready.ends;
@@ -64,9 +62,8 @@ over_ready edges count left last last2 before out at end is_last here none ready
 
 -- the tables after a step out
 pub out_ready : (edges : List Edge) (count : ℕ) (left left2 last before out out2 : List ℕ) (at end next : ℕ)
-    → left2 ≡ decremented_at left (end / 2)
-    → out2 ≡ out ++ end ∷ [] → end < 2 * length edges → next < count → AreTourTables edges count left last before out at
-    → AreTourTables edges count left2 last before out2 next
+    → left2 ≡ decremented_at left (end / 2) → out2 ≡ out ++ end ∷ [] → end < 2 * length edges → next < count
+    → AreTourTables edges count left last before out at → AreTourTables edges count left2 last before out2 next
 out_ready edges count left left2 last before out out2 at end next is_left is_out within below ready = rw (is_left, is_out) record {
   left_beside = less_length left (end / 2) ∙ ready.left_beside;
   ends = below_push (2 * length edges) out end ready.ends within;

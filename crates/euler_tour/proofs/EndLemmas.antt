@@ -16,8 +16,7 @@ last_of_old edges i j count number is other last = grind (arith, nat_tests)
 
 -- the last ends, with one more
 pub last_step : (edges : List Edge) (last : List ℕ) (j count : ℕ) → junction_at edges count ≡ Some j → j < length last
-    → AreLast edges count last
-    → AreLast edges (count + 1) (set last j (count + 1))
+    → AreLast edges count last → AreLast edges (count + 1) (set last j (count + 1))
 last_step edges last j count is there are i below = by_junction (cases_eq i j)
   where
     by_junction : (i ≡ j) ⊎ (i ≡ j → ⊥) → IsLast edges i (count + 1) (get_or (set last j (count + 1)) i 0)
@@ -49,9 +48,8 @@ before_step edges before j number is last are end i below there =
 
 -- the ends of one more line
 pub chain_step : (edges : List Edge) (k : ℕ) (e : Edge) (last last1 last2 before before1 before2 : List ℕ) → slice_get edges k ≡ Some e
-    → e.a < length last → e.b < length last → length before ≡ 2 * k
-    → last1 ≡ set last e.a (length before + 1) → before1 ≡ before ++ get_or last e.a 0 ∷ []
-    → last2 ≡ set last1 e.b (length before1 + 1) → before2 ≡ before1 ++ get_or last1 e.b 0 ∷ []
+    → e.a < length last → e.b < length last → length before ≡ 2 * k → last1 ≡ set last e.a (length before + 1)
+    → before1 ≡ before ++ get_or last e.a 0 ∷ [] → last2 ≡ set last1 e.b (length before1 + 1) → before2 ≡ before1 ++ get_or last1 e.b 0 ∷ []
     → AreLast edges (2 * k) last → AreBefore edges before
     → AreLast edges (2 * (k + 1)) last2 × AreBefore edges before2 × (length last2 ≡ length last) × (length before2 ≡ 2 * (k + 1))
 chain_step edges k e last last1 last2 before before1 before2 is has_a has_b sized is_last1 is_before1 is_last2 is_before2 are linked = (

@@ -24,8 +24,7 @@ less_none (n ∷ left) (suc place) (suc k) none = less_none left place k none
 
 -- a sum over the lines left, where one is taken
 pub left_less : (f : Edge → ℕ) (edges : List Edge) (left : List ℕ) (place : ℕ) (e : Edge) → slice_get edges place ≡ Some e
-    → 1 ≤ get_or left place 0
-    → remaining_sum f edges (decremented_at left place) + f e ≡ remaining_sum f edges left
+    → 1 ≤ get_or left place 0 → remaining_sum f edges (decremented_at left place) + f e ≡ remaining_sum f edges left
 left_less f [] left place e is some = absurd (cc)
 left_less f (x ∷ edges) [] place e is some = absurd (omega arith)
 left_less f (x ∷ edges) (n ∷ left) zero e is some =
@@ -71,8 +70,7 @@ ends_none (e ∷ edges) (n ∷ left) j each =
 
 -- what is left and what is passed, where one line is taken
 pub count_step : (lines left : List ℕ) (place k : ℕ) → is_strictly_increasing lines ≡ true → place < length lines → k < length lines
-    → 1 ≤ get_or left place 0
-    → one_if (get_or lines place 0 == get_or lines k 0) + get_or (decremented_at left place) k 0 ≡ get_or left k 0
+    → 1 ≤ get_or left place 0 → one_if (get_or lines place 0 == get_or lines k 0) + get_or (decremented_at left place) k 0 ≡ get_or left k 0
 count_step [] left place k up bp bk some = absurd (omega arith)
 count_step (n ∷ lines) [] place k up bp bk some = absurd (omega arith)
 count_step (n ∷ lines) (m ∷ left) zero zero up bp bk some = grind (arith, nat_tests)

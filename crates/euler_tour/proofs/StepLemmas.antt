@@ -31,9 +31,8 @@ out_step p t left out end next kept ready here some is_left is_out beyond = reco
 
 -- a step back to an end, and home along its line
 pub back_step : (p : PieceValue) (t : PartialTour) (out : Vec ℕ Global) (home : List Pass) (end from : ℕ) → IsValidPiece p
-    → HasTourTables p t
-    → remaining_ends p.edges t.left.items t.at ≡ 0 → t.out.items ≡ out.items ++ end ∷ [] → home ≡ t.home ++ pass_to p.lines end ∷ []
-    → junction_at p.edges end ≡ Some from
+    → HasTourTables p t → remaining_ends p.edges t.left.items t.at ≡ 0 → t.out.items ≡ out.items ++ end ∷ []
+    → home ≡ t.home ++ pass_to p.lines end ∷ [] → junction_at p.edges end ≡ Some from
     → IsTourStep p t (record { left = t.left; ends = t.ends; out = out; home = home; at = from; tail = from })
 back_step p t out home end from kept ready stuck is_out is_home starts = record {
   ready = back_ready p.edges (length p.junctions) t.left.items t.ends.last.items t.ends.before.items t.out.items out.items t.at end from
@@ -49,8 +48,7 @@ back_step p t out home end from kept ready stuck is_out is_home starts = record 
 
 -- an end whose line doesn't remain is skipped
 pub over_step : (p : PieceValue) (t : PartialTour) (ends : LineEnds) (end : ℕ) → HasTourTables p t
-    → get_or t.ends.last.items t.at 0 ≡ end + 1
-    → get_or t.left.items (end / 2) 0 ≡ 0 → SkipsEnd t.at end t.ends ends
+    → get_or t.ends.last.items t.at 0 ≡ end + 1 → get_or t.left.items (end / 2) 0 ≡ 0 → SkipsEnd t.at end t.ends ends
     → IsTourStep p t (record { left = t.left; ends = ends; out = t.out; home = t.home; at = t.at; tail = t.tail })
 over_step p t ends end ready here none skips = record {
   ready = rw skips.before (over_ready p.edges (length p.junctions) t.left.items t.ends.last.items ends.last.items t.ends.before.items

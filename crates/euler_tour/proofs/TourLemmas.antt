@@ -23,8 +23,7 @@ none_said (Some a) other is = absurd (cc)
 
 -- with the line back, each junction has an even number of ends
 said_even : (edges : List Edge) (one other : Option ℕ) (j n : ℕ)
-    → (degree (closing_edge (option_or one other) (option_or other one)) j + n) % 2
-    ≡ 0
+    → (degree (closing_edge (option_or one other) (option_or other one)) j + n) % 2 ≡ 0
     → ((n + one_if (or_first_start (option_or other one) edges == j)) + one_if (or_first_start (option_or one other) edges == j)) % 2 ≡ 0
 said_even edges (Some a) (Some b) j n even = omega arith
 said_even edges (Some a) None j n even = omega arith
@@ -50,8 +49,7 @@ bare n is = grind (arith, nat_tests)
 
 -- where nothing is left at the goal, nothing is left at what is done
 all_done : (edges : List Edge) (left : List ℕ) (goal tail j : ℕ) → remaining_ends edges left goal ≡ 0 → tail ≡ goal
-    → IsExhausted edges left goal tail j
-    → remaining_ends edges left j ≡ 0
+    → IsExhausted edges left goal tail j → remaining_ends edges left j ≡ 0
 all_done edges left goal tail j stuck meets (inl none) = none
 all_done edges left goal tail j stuck meets (inr (inl is)) = subst (λ (n : ℕ). remaining_ends edges left n ≡ 0) (sym is) stuck
 all_done edges left goal tail j stuck meets (inr (inr is)) = subst (λ (n : ℕ). remaining_ends edges left n ≡ 0) (sym (is ∙ meets)) stuck
@@ -66,12 +64,9 @@ meets_b e = grind (arith, nat_tests)
 -- a line of which nothing is left is passed, and so nothing is left at its ends; as lines join all junctions,
 -- nothing is left anywhere
 all_passed : (edges : List Edge) (left : List ℕ) (count goal tail : ℕ) → IsConnectedGraph edges count → ends_below count edges ≡ true
-    → goal < count
-    → remaining_ends edges left goal ≡ 0 → tail ≡ goal
+    → goal < count → remaining_ends edges left goal ≡ 0 → tail ≡ goal
     → ((k : ℕ) (e : Edge) → slice_get edges k ≡ Some e → get_or left k 0 ≡ 0 → IsExhausted edges left goal tail e.a
-    × IsExhausted edges left goal
-    tail e.b)
-    → (k : ℕ) (e : Edge) → slice_get edges k ≡ Some e → get_or left k 0 ≡ 0
+    × IsExhausted edges left goal tail e.b) → (k : ℕ) (e : Edge) → slice_get edges k ≡ Some e → get_or left k 0 ≡ 0
 all_passed edges left count goal tail joined ends below stuck meets over k e is =
     none_left edges left k e e.a is (meets_a e) (same_number (remaining_ends edges left e.a) 0
     (sym (joined is_bare leaves goal e.a below (ends_are_below count edges k e ends is).0) ∙ bare (remaining_ends edges left goal) stuck))

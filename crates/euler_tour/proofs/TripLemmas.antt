@@ -9,8 +9,7 @@ use Rattle.euler_tour.proofs.CallerLemmas.{started}
 
 -- the pass along an edge from where it starts
 led : (found : Option Edge) (e : Edge) (back : Bool) (at next : ℕ) → found ≡ Some e → pass_start e back ≡ at
-    → pass_start e (not back) ≡ next
-    → after_edge found back at ≡ Some next
+    → pass_start e (not back) ≡ next → after_edge found back at ≡ Some next
 led found e back at next is starts ends = grind (arith, nat_tests)
 
 -- what is done stays so where a line is taken
@@ -97,16 +96,14 @@ met u at tail none even = grind (arith, nat_tests)
 
 -- what was done stays so where the walk home goes on
 now_done : (edges : List Edge) (left : List ℕ) (goal tail from at j : ℕ) → tail ≡ at → remaining_ends edges left at ≡ 0
-    → IsExhausted edges left goal tail j
-    → IsExhausted edges left goal from j
+    → IsExhausted edges left goal tail j → IsExhausted edges left goal from j
 now_done edges left goal tail from at j meets stuck (inl none) = inl none
 now_done edges left goal tail from at j meets stuck (inr (inl is)) = inr (inl is)
 now_done edges left goal tail from at j meets stuck (inr (inr is)) = grind (arith, nat_tests)
 
 -- both ends of the line that was passed
 edge_done : (edges : List Edge) (left : List ℕ) (goal from at : ℕ) (e : Edge) (back : Bool) → remaining_ends edges left at ≡ 0
-    → pass_start e back ≡ from
-    → pass_end e back ≡ at → IsExhausted edges left goal from e.a × IsExhausted edges left goal from e.b
+    → pass_start e back ≡ from → pass_end e back ≡ at → IsExhausted edges left goal from e.a × IsExhausted edges left goal from e.b
 edge_done edges left goal from at e true stuck begins ends = grind (arith, nat_tests)
 edge_done edges left goal from at e false stuck begins ends = grind (arith, nat_tests)
 

@@ -93,9 +93,8 @@ table_tells d labels are spot here (s ∷ spots) all =
 -- one junction more
 pub one_chosen : (lines : List LineValue) (labels : List ℕ) (old new : ChosenSpots) (spot : Spot) → is_junction lines spot ≡ true
     → list_any (λ (s : Spot). are_connected_spots lines s spot) old.spots.items ≡ false
-    → label_at lines labels spot < length old.taken.items
-    → new.spots.items ≡ old.spots.items ++ spot ∷ [] → new.taken.items ≡ set old.taken.items (label_at lines labels spot) true
-    → AreChosen lines labels old → AreChosen lines labels new
+    → label_at lines labels spot < length old.taken.items → new.spots.items ≡ old.spots.items ++ spot ∷ []
+    → new.taken.items ≡ set old.taken.items (label_at lines labels spot) true → AreChosen lines labels old → AreChosen lines labels new
 one_chosen lines labels old new spot here apart below spots taken chosen = record {
   sized = ap length taken ∙ length-set old.taken.items (label_at lines labels spot) true ∙ chosen.sized;
   apart = subst (AreInDifferentPieces lines) (sym spots) (record {

@@ -70,9 +70,8 @@ ends_by (x ∷ rest) p q first last = grind (arith, nat_tests)
 
 -- the edge of a line whose ends were numbered
 pub edge_added : (d : DrawingValue) (line : ℕ) (p q : Point) (k0 k1 k2 : List Point) (a b cost : ℕ)
-    → first_point (points_of d line) ≡ Some p
-    → last_point (points_of d line) ≡ Some q → a ≡ position_or_len (is_same_point p) k0 → k1 ≡ with_point k0 p
-    → b ≡ position_or_len (is_same_point q) k1 → k2 ≡ with_point k1 q → cost ≡ cost_of_line d line
+    → first_point (points_of d line) ≡ Some p → last_point (points_of d line) ≡ Some q → a ≡ position_or_len (is_same_point p) k0
+    → k1 ≡ with_point k0 p → b ≡ position_or_len (is_same_point q) k1 → k2 ≡ with_point k1 q → cost ≡ cost_of_line d line
     → AddsEdge d line k0 k2 (record { a = a; b = b; cost = cost })
 edge_added d line p q k0 k1 k2 a b cost first last a_is k1_is b_is k2_is cost_is = record {
   seen = k2_is ∙ ap (λ (ks : List Point). with_point ks q) k1_is ∙ ap (with_points k0) (sym (ends_by (points_of d line) p q first last));

@@ -19,8 +19,7 @@ joined_on d i j k one two = (one.0 ++ two.0, leads_on d i j k one.0 two.0 one.1 
 
 -- one label lowered keeps what holds of each label, if it holds of the new one
 lowered_each : (P : ℕ → ℕ → Type 0) (line label : ℕ) (old new : List ℕ) (changed : Bool) → LowersOneLabel line label old new changed
-    → P line label
-    → ((i : ℕ) → i < length old → P i (get_or old i 0)) → (i : ℕ) → i < length new → P i (get_or new i 0)
+    → P line label → ((i : ℕ) → i < length old → P i (get_or old i 0)) → (i : ℕ) → i < length new → P i (get_or new i 0)
 lowered_each P line label old new false is new_one each i below = grind (arith, nat_tests)
 lowered_each P line label old new true is new_one each i below =
     subst (λ (ls : List ℕ). P i (get_or ls i 0)) (sym is.1) (by_test (i == line) refl)

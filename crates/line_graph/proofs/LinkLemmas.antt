@@ -10,8 +10,7 @@ takes_new spot line old new none updates = grind (arith, nat_tests, spot_found s
 
 -- what is linked stays linked, and the line is
 linked_more : (spot other : Spot) (line i : ℕ) (old new : Spot → Option ℕ) (before after : List LineLink)
-    → AddsLink spot line old new before after
-    → IsLinkedAt old before i other → IsLinkedAt new after i other
+    → AddsLink spot line old new before after → IsLinkedAt old before i other → IsLinkedAt new after i other
 linked_more spot other line i old new before after adds at = record {
   first = at.first;
   is = adds.takes.keeps other at.first at.is;
@@ -32,9 +31,8 @@ linked_here spot line old new before after adds = record {
 
 -- first lines stay lines with an end there
 sound_more : (d : DrawingValue) (spot : Spot) (line first : ℕ) (old new : Spot → Option ℕ) → RecordsFirstLine spot line old new first
-    → IsLineEnd d line spot
-    → ((other : Spot) (n : ℕ) → old other ≡ Some n → IsLineEnd d n other) → (other : Spot) (n : ℕ) → new other ≡ Some n
-    → IsLineEnd d n other
+    → IsLineEnd d line spot → ((other : Spot) (n : ℕ) → old other ≡ Some n → IsLineEnd d n other) → (other : Spot) (n : ℕ)
+    → new other ≡ Some n → IsLineEnd d n other
 sound_more d spot line first old new takes here sound other n is = elim (takes.only other n is) [
   | inl before ↦ sound other n before
   | inr now ↦ subst (λ (s : Spot). IsLineEnd d n s) (sym now.0) (subst (λ (k : ℕ). IsLineEnd d k spot) (sym now.1) here)
@@ -42,8 +40,7 @@ sound_more d spot line first old new takes here sound other n is = elim (takes.o
 
 -- one link more
 one_linked : (d : DrawingValue) (count : ℕ) (spot : Spot) (line : ℕ) (old new : Spot → Option ℕ) (before after : List LineLink)
-    → IsLineEnd d line spot
-    → AddsLink spot line old new before after → AreLinkedBelow d count old before → AreLinkedBelow d count new after
+    → IsLineEnd d line spot → AddsLink spot line old new before after → AreLinkedBelow d count old before → AreLinkedBelow d count new after
 one_linked d count spot line old new before after here adds linking =
     let sound = sound_more d spot line adds.first old new adds.takes here linking.sound in
     record {
@@ -57,11 +54,9 @@ one_linked d count spot line old new before after here adds linking =
 
 -- a line is linked at both ends
 pub line_linked : (d : DrawingValue) (line block : ℕ) (p q : Point) (f0 f1 f2 : Spot → Option ℕ) (l0 l1 l2 : List LineLink)
-    → line < length d.lines
-    → block ≡ block_of d line → first_point (points_of d line) ≡ Some p → last_point (points_of d line) ≡ Some q
-    → AreLinkedBelow d line f0 l0
-    → AddsLink (record { block = block; at = p }) line f0 f1 l0 l1 → AddsLink (record { block = block; at = q }) line f1 f2 l1 l2
-    → AreLinkedBelow d (line + 1) f2 l2
+    → line < length d.lines → block ≡ block_of d line → first_point (points_of d line) ≡ Some p → last_point (points_of d line) ≡ Some q
+    → AreLinkedBelow d line f0 l0 → AddsLink (record { block = block; at = p }) line f0 f1 l0 l1
+    → AddsLink (record { block = block; at = q }) line f1 f2 l1 l2 → AreLinkedBelow d (line + 1) f2 l2
 line_linked d line block p q f0 f1 f2 l0 l1 l2 there block_is first last linking one two =
     let here_p : IsLineEnd d line (record { block = block; at = p }) = record { there = there; block = sym block_is; at_end = inl first } in
     let here_q : IsLineEnd d line (record { block = block; at = q }) = record { there = there; block = sym block_is; at_end = inr last } in

@@ -172,9 +172,8 @@ pub record AreCut (d : DrawingValue) (labels : List ℕ) (line : ℕ) (pieces : 
 
 -- a line that is its own label begins one
 pub one_cut : (d : DrawingValue) (labels : List ℕ) (line : ℕ) (pieces more : List Piece) (p : Piece) → line < length labels
-    → get_or labels line 0 ≡ line
-    → graph_of p ≡ piece_graph d (lines_labelled labels line) → more ≡ pieces ++ p ∷ [] → AreCut d labels line pieces
-    → AreCut d labels (line + 1) more
+    → get_or labels line 0 ≡ line → graph_of p ≡ piece_graph d (lines_labelled labels line) → more ≡ pieces ++ p ∷ []
+    → AreCut d labels line pieces → AreCut d labels (line + 1) more
 one_cut d labels line pieces more p below test is more_is cut =
     let rest : List ℕ = filter (is_own_label labels) (range_with_len (line + 1) (length labels - (line + 1))) in
     let lines : p.lines ≡ lines_labelled labels line = ap (λ (v : PieceValue). v.lines) is in
@@ -212,6 +211,5 @@ all_cut d labels line pieces are all cut =
 
 -- labels that agree on links are those of the drawing's lines
 pub labels_are : (d : DrawingValue) (links : List LineLink) (labels : List ℕ) → AreLinks d links → AreLabelsOfLinks links labels
-    → length labels ≡ length d.lines
-    → ArePieceLabels d labels
+    → length labels ≡ length d.lines → ArePieceLabels d labels
 labels_are d links labels are lines_labelled sized = grind (arith, nat_tests)

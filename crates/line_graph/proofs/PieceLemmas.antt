@@ -3,8 +3,7 @@ use Rattle.std.proofs.Common.{◌≡◌, ◌==◌, Bool, true, ◌||◌, List, [
 use Rattle.line_graph.proofs.Names.{and_parts, or_cases, or_left, or_right, nat_tests, list_any, Point, is_same_point, LineValue, shares_point, touches, endpoints, same_back}
 
 -- a test that passes where another does
-any_more : {X : Type 0} (f g : X → Bool) → ((x : X) → f x ≡ true → g x ≡ true) → (xs : List X)
-    → list_any f xs ≡ true → list_any g xs ≡ true
+any_more : {X : Type 0} (f g : X → Bool) → ((x : X) → f x ≡ true → g x ≡ true) → (xs : List X) → list_any f xs ≡ true → list_any g xs ≡ true
 any_more f g more [] some = some
 any_more f g more (x ∷ xs) some = elim (or_cases (f x) (list_any f xs) some) [
   | inl here ↦ or_left (g x) (list_any g xs) (more x here)

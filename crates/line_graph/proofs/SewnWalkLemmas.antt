@@ -24,9 +24,8 @@ pub record IsFound (d : DrawingValue) (js : List Point) (lines : List ℕ) (line
   pub is : e ≡ edge_between d js line
   pub held : Contains lines line
 
-pub found : (d : DrawingValue) (js : List Point) (lines : List ℕ) (line : ℕ) (e : Edge) → edge_of lines (map (edge_between d js) lines) line
-    ≡ Some e
-    → IsFound d js lines line e
+pub found : (d : DrawingValue) (js : List Point) (lines : List ℕ) (line : ℕ) (e : Edge)
+    → edge_of lines (map (edge_between d js) lines) line ≡ Some e → IsFound d js lines line e
 found d js [] line e at = absurd (cc)
 found d js (n ∷ lines) line e at = by_test (line == n) refl at (λ h. found d js lines line e h)
   where
@@ -167,11 +166,8 @@ sewn_more d lines js pass rest e at held p more = record {
 
 -- a walk from a junction at a point on
 sewn : (d : DrawingValue) → KeepsDrawingLimits d → NeedlesLeadAlong d → (lines : List ℕ) → All (λ line. line < length d.lines) lines
-    → (js : List Point) → ends_below (length js) (map (edge_between d js) lines) ≡ true
-    → (walk : List Pass) (j to : ℕ) (at : Point) → slice_get js j ≡ Some at
-    → walk_end_from lines (map (edge_between d js) lines) (Some j) walk
-    ≡ Some to
-    → Sewn d lines js at walk
+    → (js : List Point) → ends_below (length js) (map (edge_between d js) lines) ≡ true → (walk : List Pass) (j to : ℕ) (at : Point)
+    → slice_get js j ≡ Some at → walk_end_from lines (map (edge_between d js) lines) (Some j) walk ≡ Some to → Sewn d lines js at walk
 sewn d keeps law lines there js ends [] j to at here is = grind (arith, nat_tests, All-nil)
 sewn d keeps law lines there js ends (pass ∷ rest) j to at here is =
     by_edge (edge_of lines (map (edge_between d js) lines) pass.line) refl is

@@ -197,8 +197,7 @@ module _ (test : Point → Bool) (at : Point) where
       so_far ∙ ap (λ (points : List Point). not (list_any test (but_last points))) is ∙ ap not (cut_missed after (sym here ∙ fails))
 
 -- of two marks of a spot, the later one stays
-later_stays : (same : Bool) (old : Option Bool)
-    → cond same (Some true) (cond same (Some false) old) ≡ cond same (Some true) old
+later_stays : (same : Bool) (old : Option Bool) → cond same (Some true) (cond same (Some false) old) ≡ cond same (Some true) old
 later_stays true old = refl
 later_stays false old = refl
 

@@ -88,8 +88,7 @@ pub half_more : (k : ℕ) → (2 * k + 1) / 2 ≡ k
 half_more k = omega arith
 
 -- each of some digits is one
-pub digit_among : (bs : List ℕ) (i : ℕ) → all_ascii_digits bs ≡ true → i < length bs
-    → is_ascii_digit (get_or bs i 0) ≡ true
+pub digit_among : (bs : List ℕ) (i : ℕ) → all_ascii_digits bs ≡ true → i < length bs → is_ascii_digit (get_or bs i 0) ≡ true
 digit_among [] i all there = absurd (omega arith)
 digit_among (b ∷ bs) zero all there = (and_parts (is_ascii_digit b) (all_ascii_digits bs) all).0
 digit_among (b ∷ bs) (suc i) all there =

@@ -20,11 +20,9 @@ twice : (k : ℕ) → ((0 + k) + k) % 2 ≡ 0
 twice k = omega arith
 
 step_even : (ns : List ℕ) (es : List Edge) (set : ℕ → Bool) (ps : List Pass) (e : Edge) (back : Bool) (at to : ℕ) (t : Bool)
-    → (pass_start e back == at) ≡ t
-    → walk_end_from ns es (cond t (Some (pass_end e back)) None) ps ≡ Some to
-    → (walk_end_from ns es (Some (pass_end e back)) ps ≡ Some to
-    → ((pass_sum ns es (crossing set) ps + inside set (pass_end e back)) + inside set to)
-    % 2 ≡ 0)
+    → (pass_start e back == at) ≡ t → walk_end_from ns es (cond t (Some (pass_end e back)) None) ps ≡ Some to
+    → (walk_end_from ns es (Some (pass_end e back)) ps
+    ≡ Some to → ((pass_sum ns es (crossing set) ps + inside set (pass_end e back)) + inside set to) % 2 ≡ 0)
     → (((crossing set e + pass_sum ns es (crossing set) ps) + inside set at) + inside set to) % 2 ≡ 0
 step_even ns es set ps e back at to true test is rest = grind (arith, nat_tests)
 step_even ns es set ps e back at to false test is rest = absurd (lost ns es ps to is)

@@ -27,8 +27,7 @@ load_step (n ∷ ns) (e ∷ es) y c cs = rw (load_step ns es y c cs, load_cons c
 
 -- where each cut is crossed, the total is at most the load that is crossed
 pub total_loads : (ns : List ℕ) (es : List Edge) (y : ℕ → ℕ) (p : PieceValue) (cuts : List Cut) → All (IsOddCut p) cuts
-    → ((c : Cut) → IsOddCut p c → 1 ≤ weigh ns es y (crossing (has_member c.members)))
-    → total_weight cuts ≤ weigh ns es y (load_on cuts)
+    → ((c : Cut) → IsOddCut p c → 1 ≤ weigh ns es y (crossing (has_member c.members))) → total_weight cuts ≤ weigh ns es y (load_on cuts)
 total_loads ns es y p [] odd each = omega arith
 total_loads ns es y p (c ∷ cs) odd each =
     rw (load_step ns es y c cs, total_cons c cs) (added c.weight (weigh ns es y (crossing (has_member c.members))) (total_weight cs)
@@ -121,8 +120,7 @@ bounds_walks p cuts walk kept packing fit =
     let cost : walk_cost p walk ≡ piece_cost p + weigh p.lines p.edges (more walk) edge_cost = exchange p.lines p.edges edge_cost walk
     kept.rising ∙ once_and_more p.lines p.edges edge_cost walk kept.beside parts.1 in
     let most = total_loads p.lines p.edges (more walk) p cuts packing.odd (crossed_more p walk kept parts.1 there) in
-    let most_cost = loads_cost p.lines p.edges (more walk) cuts packing.loads in
-    omega (arith, cost, most, most_cost)
+    omega (arith, cost, most, loads_cost p.lines p.edges (more walk) cuts packing.loads)
 
 pub proves_least : ProvesLeast
 proves_least p cuts walk kept packing full other fit = grind (arith, nat_tests, bounds_walks p cuts other kept packing fit)

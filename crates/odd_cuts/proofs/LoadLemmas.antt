@@ -32,11 +32,10 @@ next_numbered cuts cut rest is are =
     (All-head Numbered cut rest these, All-tail Numbered cut rest these)
 
 -- the loads with one cut more
-pub loads_next : (cuts : List Cut) (cut : Cut) (rest : List Cut) (edges : List Edge) (old new : List ℕ)
-    (whole : Edge → ℕ) → cuts ≡ cut ∷ rest
-    → AddsShares cut edges old new
-    → ((i : ℕ) (e : Edge) → slice_get edges i ≡ Some e → load_with (get_or old i 0) cuts e ≡ whole e)
-    → (i : ℕ) (e : Edge) → slice_get edges i ≡ Some e → load_with (get_or new i 0) rest e ≡ whole e
+pub loads_next : (cuts : List Cut) (cut : Cut) (rest : List Cut) (edges : List Edge) (old new : List ℕ) (whole : Edge → ℕ)
+    → cuts ≡ cut ∷ rest → AddsShares cut edges old new
+    → ((i : ℕ) (e : Edge) → slice_get edges i ≡ Some e → load_with (get_or old i 0) cuts e ≡ whole e) → (i : ℕ) (e : Edge)
+    → slice_get edges i ≡ Some e → load_with (get_or new i 0) rest e ≡ whole e
 loads_next cuts cut rest edges old new whole is adds told i e found = rw (adds i e found) (rw is at (told i e found))
 
 -- after a cut without a fault the first fault is that of the cuts after it
@@ -56,8 +55,7 @@ load_end cuts load whole e is told = rw is at told
 pub before_next : (cut : Cut) (edges : List Edge) (old now : List ℕ) (at share : ℕ) (d : Edge) → at < length edges → at < length now
     → share ≡ share_of cut (get_or edges at d)
     → ((i : ℕ) (e : Edge) → i < at → slice_get edges i ≡ Some e → get_or now i 0 ≡ get_or old i 0 + share_of cut e)
-    → ((i : ℕ) → at ≤ i → get_or now i 0 ≡ get_or old i 0)
-    → (i : ℕ) (e : Edge) → i < at + 1 → slice_get edges i ≡ Some e
+    → ((i : ℕ) → at ≤ i → get_or now i 0 ≡ get_or old i 0) → (i : ℕ) (e : Edge) → i < at + 1 → slice_get edges i ≡ Some e
     → get_or (set now at (get_or now at 0 + share)) i 0 ≡ get_or old i 0 + share_of cut e
 before_next cut edges old now at share d there sized is before behind i e less found =
     grind (arith, nat_tests, cases_eq, get_or-set_same, get_or_from_slice_get, get_or-set_other)

@@ -38,8 +38,7 @@ never_crossed (e ∷ es) = rw (never_crossed es) refl
 
 -- all or none of the odd junctions are an even number
 constant_even : (p : PieceValue) → IsValidPiece p → (t : Bool)
-    → odd_in (λ j. t) 0 (degrees_from (edges_with_closing p) 0 (length p.junctions)) % 2
-    ≡ 0
+    → odd_in (λ j. t) 0 (degrees_from (edges_with_closing p) 0 (length p.junctions)) % 2 ≡ 0
 constant_even p kept true = odd_crossing (λ j. true) (edges_with_closing p) (length p.junctions) (grind (arith, nat_tests))
     ∙ ap (λ (k : ℕ). k % 2) (never_crossed (edges_with_closing p))
 constant_even p kept false = ap (λ (k : ℕ). k % 2) (none_odd (degrees_from (edges_with_closing p) 0 (length p.junctions)) 0)
@@ -69,6 +68,4 @@ pub keeps_total : BoundsTotal
 keeps_total p cuts kept packing =
     let most = total_loads p.lines p.edges once p cuts packing.odd (λ c. λ odd. rw
     (weigh_once p.lines p.edges (crossing (has_member c.members)) kept.beside) (crossed_once p kept c odd)) in
-    let cost = loads_cost p.lines p.edges once cuts packing.loads in
-    let all = weigh_once p.lines p.edges edge_cost kept.beside in
-    omega (arith, most, cost, all)
+    omega (arith, most, loads_cost p.lines p.edges once cuts packing.loads, weigh_once p.lines p.edges edge_cost kept.beside)

@@ -58,8 +58,7 @@ covered row (e ∷ es) x y f =
     (λ h a b. let p = f h a (omega arith) in in_rest row e es h p.0 p.1 p.2 p.3 p.4 (inl (omega arith))) in
     let right : y - max (high row e) x ≤ spans row (max (high row e) x) y es = covered row es (max (high row e) x) y
     (λ h a b. let p = f h (omega arith) b in in_rest row e es h p.0 p.1 p.2 p.3 p.4 (inr (omega arith))) in
-    let both = spans_split row (low row e) (high row e) x y es (omega arith) in
-    grind (arith, nat_tests, left, right, both)
+    grind (arith, nat_tests, left, right, spans_split row (low row e) (high row e) x y es (omega arith))
 
 -- in a settled row the range of an edge is no more than its cost
 spans_fit : (row : List ℕ) (x y : ℕ) (es : List Edge) → IsFullyRelaxed row es → spans row x y es ≤ edge_sum edge_cost es
@@ -71,5 +70,4 @@ pub rises_within : (row : List ℕ) (es : List Edge) (i j : ℕ) (ks : List ℕ)
     → slice_index row j - slice_index row i ≤ edge_sum edge_cost es
 rises_within row es i j ks s w =
     let one = covered row es (slice_index row i) (slice_index row j) (λ h a b. crossed row es i j h ks w a b) in
-    let two = spans_fit row (slice_index row i) (slice_index row j) es s in
-    omega (arith, one, two)
+    omega (arith, one, spans_fit row (slice_index row i) (slice_index row j) es s)

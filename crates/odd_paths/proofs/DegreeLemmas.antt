@@ -8,15 +8,13 @@ only_kept true at rest = refl
 only_kept false at rest = refl
 
 pub odds_kept : (from to : Option ℕ) (es : List Edge) (at n : ℕ)
-    → odds_from from to at (degrees_from es at n)
-    ≡ filter (λ j. is_odd (degree (closing_edge from to ++ es) j)) (range_with_len at n)
+    → odds_from from to at (degrees_from es at n) ≡ filter (λ j. is_odd (degree (closing_edge from to ++ es) j)) (range_with_len at n)
 odds_kept from to es at zero = refl
 odds_kept from to es at (suc n) =
     rw (degree_closed from to es at, ← odds_kept from to es (at + 1) n)
     (only_kept (is_odd (closing_ends from to at + degree es at)) at (odds_from from to (at + 1) (degrees_from es (at + 1) n)))
 
-odd_count : (f : ℕ → ℕ) (at n : ℕ)
-    → length (filter (λ j. is_odd (f j)) (range_with_len at n)) % 2 ≡ sum_over f at n % 2
+odd_count : (f : ℕ → ℕ) (at n : ℕ) → length (filter (λ j. is_odd (f j)) (range_with_len at n)) % 2 ≡ sum_over f at n % 2
 odd_count f at zero = refl
 odd_count f at (suc n) = grind (arith, nat_tests, sum_over f (at + 1) n, odd_count f (at + 1) n)
 
@@ -54,12 +52,10 @@ degrees_sum (e ∷ es) n below =
     = sum_added (λ j. one_if (e.a == j) + one_if (e.b == j)) (degree es) 0 n in
     let line = sum_added (λ j. one_if (e.a == j)) (λ j. one_if (e.b == j)) 0 n in
     let a_once = end_once e.a 0 n (omega arith) (omega arith) in
-    let b_once = end_once e.b 0 n (omega arith) (omega arith) in
-    omega (arith, whole, line, a_once, b_once, degrees_sum es n both.1)
+    omega (arith, whole, line, a_once, end_once e.b 0 n (omega arith) (omega arith), degrees_sum es n both.1)
 
 -- the odd junctions are even in number, and few
-pub even_few : (p : PieceValue) → IsValidPiece p
-    → (length (odd_junctions p) % 2 ≡ 0) × (length (odd_junctions p) ≤ MAX_LINES)
+pub even_few : (p : PieceValue) → IsValidPiece p → (length (odd_junctions p) % 2 ≡ 0) × (length (odd_junctions p) ≤ MAX_LINES)
 even_few p keeps =
     let n = length p.junctions in
     let es = edges_with_closing p in

@@ -73,9 +73,8 @@ capped_blank n table blank i there j =
 
 -- a table that has begun and then settled has the rows of the terminals as its columns
 pub columns_settled : (es : List Edge) (n : ℕ) (ts : List ℕ) (old between new : List (List ℕ)) → old ≡ replicate n (replicate LANES NO_WALK)
-    → IsGraph es n → length ts ≤ LANES → All (λ t. t < n) ts
-    → length between ≡ length old → HaveStarts ts old between → KeepsCosts es between new
-    → ((i : ℕ) → i < LANES → IsFullyRelaxed (lane_column i new) es) → AreLeastColumns es n ts new
+    → IsGraph es n → length ts ≤ LANES → All (λ t. t < n) ts → length between ≡ length old → HaveStarts ts old between
+    → KeepsCosts es between new → ((i : ℕ) → i < LANES → IsFullyRelaxed (lane_column i new) es) → AreLeastColumns es n ts new
 columns_settled es n ts old between new blank graph few there size started keeps flat i in_i =
     let in_lanes : i < LANES = omega (arith, few, in_i) in
     let from : ℕ = slice_index ts i in
@@ -99,6 +98,5 @@ rows_from es n at (t ∷ ts) table each = (
 )
 
 pub are_added : (es : List Edge) (n : ℕ) (ts : List ℕ) (table : List (List ℕ)) (old new : List (Vec ℕ Global))
-    → AreLeastColumns es n ts table
-    → AddsColumns table ts old new → AddsRows es n ts old new
+    → AreLeastColumns es n ts table → AddsColumns table ts old new → AddsRows es n ts old new
 are_added es n ts table old new each is = grind (arith, nat_tests, rows_from)

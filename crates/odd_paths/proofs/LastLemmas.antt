@@ -80,8 +80,7 @@ start_of n m j e (inl p) in_n = omega (arith, p.0, in_n.0)
 start_of n m j e (inr p) in_n = omega (arith, p.0, in_n.1)
 
 comes_to : (es : List Edge) (row : List ℕ) (from j : ℕ) → IsLeastRow es (length row) from row → EndsAreBelow (length row) es
-    → j < length row
-    → from ≢ j → (k : ℕ) × (m : ℕ) × Comes es row j k m
+    → j < length row → from ≢ j → (k : ℕ) × (m : ℕ) × Comes es row j k m
 comes_to es row from j is ends in_n apart =
     let at_j = is.least j in_n in
     let there = at_j.there in
@@ -98,8 +97,7 @@ comes_to es row from j is ends in_n apart =
 
 -- so the search finds one
 pub never : (es : List Edge) (row : List ℕ) (from j : ℕ) → IsLeastRow es (length row) from row → EndsAreBelow (length row) es
-    → j < length row
-    → from ≢ j → last_edge_from row j 0 es ≡ None → ⊥
+    → j < length row → from ≢ j → last_edge_from row j 0 es ≡ None → ⊥
 never es row from j is ends in_n apart h = let p = comes_to es row from j is ends in_n apart in missed row j 0 p.0 p.1 es h p.2
 
 pub found : (es : List Edge) (row : List ℕ) (j k m : ℕ) → last_edge_from row j 0 es ≡ Some (k, m) → Comes es row j k m

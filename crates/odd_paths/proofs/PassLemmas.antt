@@ -5,8 +5,7 @@ use Rattle.odd_paths.proofs.Names.{and_parts, nat_tests, All-cons, slice_get_wit
 use Rattle.odd_paths.proofs.PlaceLemmas.{none_is}
 
 -- the edge of a line is at some index
-placed : (lines : List ℕ) (es : List Edge) (line : ℕ) (e : Edge) → edge_of lines es line ≡ Some e
-    → (k : ℕ) × (slice_get es k ≡ Some e)
+placed : (lines : List ℕ) (es : List Edge) (line : ℕ) (e : Edge) → edge_of lines es line ≡ Some e → (k : ℕ) × (slice_get es k ≡ Some e)
 placed [] es line e is = absurd (none_is e is)
 placed (n ∷ lines) [] line e is = absurd (none_is e is)
 placed (n ∷ lines) (x ∷ es) line e is = go (placed lines es line e) (line == n) is

@@ -3,8 +3,7 @@ use Rattle.std.proofs.Common.{◌≡◌, true, ℕ, zero, suc, ◌+◌, ◌<◌,
 use Rattle.std.specs.Prelude.{slice_get}
 use Rattle.odd_paths.proofs.Names.{ltb-true, nat_lt, Edge, edge_cost, edge_sum, EndsAreBelow, Connects, IsEdgeWalk, edge_walk_cost, some_same}
 
-pub walk_append : (es : List Edge) (i j m : ℕ) (ks ls : List ℕ) → IsEdgeWalk es i j ks → IsEdgeWalk es j m ls
-    → IsEdgeWalk es i m (ks ++ ls)
+pub walk_append : (es : List Edge) (i j m : ℕ) (ks ls : List ℕ) → IsEdgeWalk es i j ks → IsEdgeWalk es j m ls → IsEdgeWalk es i m (ks ++ ls)
 walk_append es i j m [] ls w v = subst (λ (x : ℕ). IsEdgeWalk es x m ls) (sym w) v
 walk_append es i j m (k ∷ ks) ls w v = (w.0, w.1, w.2, w.3, walk_append es w.1 j m ks ls w.4 v)
 

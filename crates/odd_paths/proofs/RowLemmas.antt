@@ -12,8 +12,7 @@ near_most es n from row s flat i there near = grind (arith, nat_tests, rises_wit
 
 -- an edge from such a junction leads to such a junction
 pass_on : (es : List Edge) (n from : ℕ) (row : List ℕ) → AreWalkCosts es n from row → IsFullyRelaxed row es
-    → edge_sum edge_cost es ≤ MAX_COST
-    → (i j c : ℕ) → i < n → c ≤ edge_sum edge_cost es → slice_index row j ≤ slice_index row i + c
+    → edge_sum edge_cost es ≤ MAX_COST → (i j c : ℕ) → i < n → c ≤ edge_sum edge_cost es → slice_index row j ≤ slice_index row i + c
     → nat_lt (slice_index row i) NO_WALK ≡ true → nat_lt (slice_index row j) NO_WALK ≡ true
 pass_on es n from row s flat small i j c there within rise near =
     let low = near_most es n from row s flat i there (ltb-true _ _ near) in

@@ -97,8 +97,7 @@ is_a_row p rows t row keeps all there got = record {
 
 -- likewise for the argument of a call
 pub is_this_row : (p : PieceValue) (rows : RowsValue) (t : ℕ) (row : List ℕ) (es : List Edge) (from : ℕ) → IsValidPiece p → AreRows p rows
-    → t < length rows.terminals → slice_get rows.table t ≡ Some row → es ≡ p.edges → from ≡ terminal_of rows t
-    → IsRowFrom es from row
+    → t < length rows.terminals → slice_get rows.table t ≡ Some row → es ≡ p.edges → from ≡ terminal_of rows t → IsRowFrom es from row
 is_this_row p rows t row es from keeps all there got edges terminal = grind (arith, nat_tests, is_a_row, still_within, within)
 
 -- the indexes of edges that lead there, at the cost in the row, are a path

@@ -62,10 +62,9 @@ keeps_hand hand way b none =
     }
 
 pub pairing_more : (root met : OddSetValue) (link : TightEdge) (tree : List BranchValue) (old now next : List MatchValue)
-    (hand : OddSetValue)
-    (way : TightEdge) (left bs : List BranchValue) (b : BranchValue) (c : MatchValue) (more : OddSetValue) (on : TightEdge) →
-    Pairing root met link tree old now hand way left → left ≡ bs ++ b ∷ [] → PairsBranch hand way b c more on →
-    next ≡ now ++ c ∷ [] → Pairing root met link tree old next more on bs
+    (hand : OddSetValue) (way : TightEdge) (left bs : List BranchValue) (b : BranchValue) (c : MatchValue) (more : OddSetValue)
+    (on : TightEdge) → Pairing root met link tree old now hand way left → left ≡ bs ++ b ∷ [] → PairsBranch hand way b c more on
+    → next ≡ now ++ c ∷ [] → Pairing root met link tree old next more on bs
 pairing_more root met link tree old now next hand way left bs b c more on p e s f =
     let can = subst (λ (ks : List BranchValue). CanAugment hand way root ks) e p.can in
     record {
@@ -87,11 +86,8 @@ at_root root hand way now can =
     }
 
 pub pairing_done : (root met : OddSetValue) (link : TightEdge) (tree : List BranchValue) (old now new : List MatchValue)
-    (hand : OddSetValue)
-    (way : TightEdge)
-    (left : List BranchValue) →
-    Pairing root met link tree old now hand way left → length left ≡ 0 → new ≡ now ++ match_of root hand way ∷ []
-    → Augments root met link tree old new
+    (hand : OddSetValue) (way : TightEdge) (left : List BranchValue) → Pairing root met link tree old now hand way left → length left ≡ 0
+    → new ≡ now ++ match_of root hand way ∷ [] → Augments root met link tree old new
 pairing_done root met link tree old now new hand way [] p none f =
     p.does new (subst (λ (ks : List MatchValue). Augments root hand way [] now ks) (sym f) (at_root root hand way now p.can))
 pairing_done root met link tree old now new hand way (b ∷ bs) p none f = absurd (omega arith)

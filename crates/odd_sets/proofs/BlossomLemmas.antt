@@ -10,9 +10,8 @@ Linked_on : (p a b : PartValue) (qs : List PartValue) → IsPartPath p (qs ++ a 
 Linked_on p a b [] l j = (l.0, (j, tt))
 Linked_on p a b (q ∷ qs) l j = (l.0, Linked_on q a b qs l.1 j)
 
-paid_on : (d : TableValue) (p a b : PartValue) (qs : List PartValue) →
-    AreTightInside d (path_edges p (qs ++ a ∷ [])) → IsTightInside d (blossom_edge_of a b)
-    → AreTightInside d (path_edges p ((qs ++ a ∷ []) ++ b ∷ []))
+paid_on : (d : TableValue) (p a b : PartValue) (qs : List PartValue) → AreTightInside d (path_edges p (qs ++ a ∷ []))
+    → IsTightInside d (blossom_edge_of a b) → AreTightInside d (path_edges p ((qs ++ a ∷ []) ++ b ∷ []))
 paid_on d p a b [] l j = (l.0, (j, tt))
 paid_on d p a b (q ∷ qs) l j = (l.0, paid_on d q a b qs l.1 j)
 

@@ -14,12 +14,9 @@ pub tight_back : (d : TableValue) (h : ℕ → ℕ) (l : TightEdge) → IsSymmet
 tight_back d h l sy t = omega (arith, sy l.from l.to, t)
 
 pub chaining_left : (link : TightEdge) (root : OddSetValue) (tree left bs : List BranchValue) (b : BranchValue)
-    (chain next : List PartValue)
-    (aside : List BranchValue) (way : TightEdge) (to : ℕ) →
-    IsOpenChain link root tree left chain aside way to → left ≡ bs ++ b ∷ [] → 1 ≤ count way.from b.outer.members → count to b.outer.members
-    ≡ 0 →
-    IsOddSet b.inner → IsOddSet b.outer → next ≡ part_with_edge b.inner b.pair ∷ part_with_edge b.outer way ∷ chain →
-    IsOpenChain link root tree bs next aside b.up to
+    (chain next : List PartValue) (aside : List BranchValue) (way : TightEdge) (to : ℕ) → IsOpenChain link root tree left chain aside way to
+    → left ≡ bs ++ b ∷ [] → 1 ≤ count way.from b.outer.members → count to b.outer.members ≡ 0 → IsOddSet b.inner → IsOddSet b.outer
+    → next ≡ part_with_edge b.inner b.pair ∷ part_with_edge b.outer way ∷ chain → IsOpenChain link root tree bs next aside b.up to
 chaining_left link root tree left bs b chain next aside way to c e here away ci co f =
     let c = subst (λ (ks : List BranchValue). IsOpenChain link root tree ks chain aside way to) e c in
     let l = last_of root.members bs b c.grown in
@@ -55,13 +52,10 @@ chaining_left link root tree left bs b chain next aside way to c e here away ci 
     })
 
 pub chaining_right : (link : TightEdge) (root : OddSetValue) (tree left bs : List BranchValue) (b : BranchValue)
-    (chain next : List PartValue)
-    (aside : List BranchValue) (way : TightEdge) (to : ℕ) →
-    IsOpenChain link root tree left chain aside way to → left ≡ bs ++ b ∷ [] → count way.from b.outer.members ≡ 0
-    → 1 ≤ count to b.outer.members →
-    IsOddSet b.inner → IsOddSet b.outer → next ≡ (chain ++ part_with_edge b.outer (reversed_edge b.pair) ∷ [])
-    ++ part_with_edge b.inner (reversed_edge b.up) ∷ [] →
-    IsOpenChain link root tree bs next aside way b.up.from
+    (chain next : List PartValue) (aside : List BranchValue) (way : TightEdge) (to : ℕ) → IsOpenChain link root tree left chain aside way to
+    → left ≡ bs ++ b ∷ [] → count way.from b.outer.members ≡ 0 → 1 ≤ count to b.outer.members → IsOddSet b.inner → IsOddSet b.outer
+    → next ≡ (chain ++ part_with_edge b.outer (reversed_edge b.pair) ∷ []) ++ part_with_edge b.inner (reversed_edge b.up) ∷ []
+    → IsOpenChain link root tree bs next aside way b.up.from
 chaining_right link root tree left bs b chain next aside way to c e away here ci co f =
     let c = subst (λ (ks : List BranchValue). IsOpenChain link root tree ks chain aside way to) e c in
     let l = last_of root.members bs b c.grown in
@@ -99,11 +93,10 @@ chaining_right link root tree left bs b chain next aside way to c e away here ci
       );
     })
 
-pub chaining_aside : (link : TightEdge) (root : OddSetValue) (tree left bs : List BranchValue) (b : BranchValue) (chain : List PartValue)
-    (aside next : List BranchValue) (way : TightEdge) (to : ℕ) →
-    IsOpenChain link root tree left chain aside way to → left ≡ bs ++ b ∷ [] → count way.from b.outer.members ≡ 0 → count to b.outer.members
-    ≡ 0 →
-    next ≡ aside ++ b ∷ [] → IsOpenChain link root tree bs chain next way to
+pub chaining_aside : (link : TightEdge) (root : OddSetValue) (tree left bs : List BranchValue) (b : BranchValue)
+    (chain : List PartValue) (aside next : List BranchValue) (way : TightEdge) (to : ℕ) → IsOpenChain link root tree left chain aside way to
+    → left ≡ bs ++ b ∷ [] → count way.from b.outer.members ≡ 0 → count to b.outer.members ≡ 0 → next ≡ aside ++ b ∷ []
+    → IsOpenChain link root tree bs chain next way to
 chaining_aside link root tree left bs b chain aside next way to c e away off f =
     let c = subst (λ (ks : List BranchValue). IsOpenChain link root tree ks chain aside way to) e c in
     let l = last_of root.members bs b c.grown in
@@ -148,8 +141,7 @@ chaining_aside link root tree left bs b chain aside next way to c e away off f =
 
 -- the same chain, its ends by other names
 pub chaining_ends : (link : TightEdge) (root : OddSetValue) (tree left : List BranchValue) (chain : List PartValue)
-    (aside : List BranchValue)
-    (way on : TightEdge) (to end : ℕ) → IsOpenChain link root tree left chain aside way to → on ≡ way → end ≡ to
+    (aside : List BranchValue) (way on : TightEdge) (to end : ℕ) → IsOpenChain link root tree left chain aside way to → on ≡ way → end ≡ to
     → IsOpenChain link root tree left chain aside on end
 chaining_ends link root tree left chain aside way on to end c e f =
     subst (λ (l : TightEdge). IsOpenChain link root tree left chain aside l end) (sym e)

@@ -8,21 +8,18 @@ use Rattle.odd_sets.proofs.SlackRowLemmas.{blossom_near}
 use Rattle.odd_sets.proofs.TreeLemmas.{outer_members_base}
 
 pub leads_on : (way : TightEdge) (ps : List PartValue) (to : ℕ) (p : PartValue) → IsChainTo way ps to → count to p.odd_set.members ≡ 1
-    → count p.next.from p.odd_set.members ≡ 1 →
-    IsChainTo way (ps ++ p ∷ []) p.next.to
+    → count p.next.from p.odd_set.members ≡ 1 → IsChainTo way (ps ++ p ∷ []) p.next.to
 leads_on way [] to p l here from = (subst (λ (x : ℕ). count x p.odd_set.members ≡ 1) (sym l) here, from, refl)
 leads_on way (q ∷ ps) to p l here from = (l.0, l.1, leads_on q.next ps to p l.2 here from)
 
 linked_to : (p : PartValue) (ps : List PartValue) (to : ℕ) (top : PartValue) → count p.next.from p.odd_set.members ≡ 1
-    → IsChainTo p.next ps to
-    → count to top.odd_set.members ≡ 1 → IsPartPath p (ps ++ top ∷ [])
+    → IsChainTo p.next ps to → count to top.odd_set.members ≡ 1 → IsPartPath p (ps ++ top ∷ [])
 linked_to p [] to top from l here = ((from, subst (λ (x : ℕ). count x top.odd_set.members ≡ 1) (sym l) here), tt)
 linked_to p (q ∷ ps) to top from l here = ((from, l.0), linked_to q ps to top l.1 l.2 here)
 
 -- the set at the top and the chain below it are a blossom
 pub chain_closes : (top : PartValue) (ps : List PartValue) (to : ℕ) → IsChainTo top.next ps to → count top.next.from top.odd_set.members ≡ 1
-    → count to top.odd_set.members ≡ 1 →
-    IsPartCycle (top ∷ ps)
+    → count to top.odd_set.members ≡ 1 → IsPartCycle (top ∷ ps)
 chain_closes top ps to l from here = linked_to top ps to top from l here
 
 -- in each part heights are those over all sets
@@ -72,17 +69,14 @@ near_inside d h [] f = tt
 near_inside d h (p ∷ ps) f = grind (arith, nat_tests, each-append, near_inside d h ps f.1)
 
 -- a member of the first part is in no other; a member of another is not in it
-local_case : (n : ℕ) (d : TableValue) (h : ℕ → ℕ) (x : ℕ) (p : PartValue) (ps : List PartValue) → count x p.odd_set.members ≡ n → AreOddSets
-    (p ∷ ps)
-    → IsSoundSet d h p.odd_set →
-    count x (members_in (p ∷ ps)) ≤ 1 → (count x p.odd_set.members ≡ 0 → height x (dual_sets_in ps) ≡ h x)
-    → height x (dual_sets_in (p ∷ ps)) ≡ h x
+local_case : (n : ℕ) (d : TableValue) (h : ℕ → ℕ) (x : ℕ) (p : PartValue) (ps : List PartValue) → count x p.odd_set.members ≡ n
+    → AreOddSets (p ∷ ps) → IsSoundSet d h p.odd_set → count x (members_in (p ∷ ps)) ≤ 1
+    → (count x p.odd_set.members ≡ 0 → height x (dual_sets_in ps) ≡ h x) → height x (dual_sets_in (p ∷ ps)) ≡ h x
 local_case n d h x p ps h1 h2 h3 h4 h5 = grind (arith, nat_tests, height-append, low, none_tall, none_in, count-append)
 
 -- a member of one of the parts has the height there that it has over all sets
 local_in : (d : TableValue) (h : ℕ → ℕ) (x : ℕ) (ps : List PartValue) → AreOddSets ps → Each (IsSoundPart d h) ps
-    → count x (members_in ps) ≤ 1
-    → 1 ≤ count x (members_in ps) → height x (dual_sets_in ps) ≡ h x
+    → count x (members_in ps) ≤ 1 → 1 ≤ count x (members_in ps) → height x (dual_sets_in ps) ≡ h x
 local_in d h x [] kept f once some = absurd (omega arith)
 local_in d h x (p ∷ ps) kept f once some =
     let c = count-append x p.odd_set.members (members_in ps) in
@@ -90,10 +84,9 @@ local_in d h x (p ∷ ps) kept f once some =
     (λ none. local_in d h x ps kept.1 f.1 (omega (arith, c)) (omega (arith, c, none)))
 
 -- the set that a blossom of firm parts makes is sound
-pub blossom_sound : (d : TableValue) (h : ℕ → ℕ) (key : ℕ) (p : PartValue) (ps : List PartValue) → IsBlossom (p ∷ ps) →
-    ((x : ℕ) → count x (members_in (p ∷ ps)) ≤ 1)
-    → Each (IsSoundPart d h) (p ∷ ps) →
-    ((x y : ℕ) → 1 ≤ count x (members_in (p ∷ ps)) → 1 ≤ count y (members_in (p ∷ ps)) → (h x + h y) % 2 ≡ 0)
+pub blossom_sound : (d : TableValue) (h : ℕ → ℕ) (key : ℕ) (p : PartValue) (ps : List PartValue) → IsBlossom (p ∷ ps)
+    → ((x : ℕ) → count x (members_in (p ∷ ps)) ≤ 1) → Each (IsSoundPart d h) (p ∷ ps)
+    → ((x y : ℕ) → 1 ≤ count x (members_in (p ∷ ps)) → 1 ≤ count y (members_in (p ∷ ps)) → (h x + h y) % 2 ≡ 0)
     → IsSoundSet d h (blossom_set key (p ∷ ps))
 blossom_sound d h key p ps blossom once firm even = record {
   kept = made_kept key (members_in (p ∷ ps)) 0 (blossom_slacks (p ∷ ps)) (p ∷ ps) (refl, blossom);
@@ -119,10 +112,8 @@ even_case (suc n) k m o one two some = one (omega arith)
 
 -- all members of the tree's sets have heights that are even or odd as that of r is
 pub tree_even : (d : TableValue) (h : ℕ → ℕ) (r : ℕ) (base : List ℕ) (tree : List BranchValue) → IsAlternatingTree base tree
-    → Each (IsSoundBranch d h)
-    tree →
-    ((x : ℕ) → 1 ≤ count x base → (h r + h x) % 2 ≡ 0) → (x : ℕ) → 1 ≤ count x (outer_members base tree) + count x (inner_members tree)
-    → (h r + h x) % 2 ≡ 0
+    → Each (IsSoundBranch d h) tree → ((x : ℕ) → 1 ≤ count x base → (h r + h x) % 2 ≡ 0) → (x : ℕ)
+    → 1 ≤ count x (outer_members base tree) + count x (inner_members tree) → (h r + h x) % 2 ≡ 0
 tree_even d h r base [] g f even x some = even x (omega (arith, some))
 tree_even d h r base (b ∷ bs) g f even x some =
     let up : (h r + h b.up.to) % 2 ≡ 0 = omega (arith, even b.up.from g.0, f.0.up) in

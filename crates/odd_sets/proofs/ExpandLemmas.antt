@@ -32,10 +32,8 @@ links_tight d h p e [] t = (t.0, tt)
 links_tight d h p e (q ∷ qs) t = (t.0, links_tight d h q e qs t.1)
 
 firm_each : (d : TableValue) (h : ℕ → ℕ) (ps : List PartValue) → AreOddSets ps → AllLocal h ps
-    → Each (λ (k : PartValue). IsTight d h k.next)
-    ps
-    → AreTightInside d (blossom_edges_in ps) → Each (IsSlackRow d) (slack_rows_in ps) →
-    ((x y : ℕ) → 1 ≤ count x (members_in ps) → 1 ≤ count y (members_in ps) → (h x + h y) % 2 ≡ 0) → Each (IsSoundPart d h) ps
+    → Each (λ (k : PartValue). IsTight d h k.next) ps → AreTightInside d (blossom_edges_in ps) → Each (IsSlackRow d) (slack_rows_in ps)
+    → ((x y : ℕ) → 1 ≤ count x (members_in ps) → 1 ≤ count y (members_in ps) → (h x + h y) % 2 ≡ 0) → Each (IsSoundPart d h) ps
 firm_each d h [] kept at t paid near even = tt
 firm_each d h (p ∷ ps) kept at t paid near even =
     let c = λ (x : ℕ). count-append x p.odd_set.members (members_in ps) in (
@@ -55,9 +53,8 @@ firm_each d h (p ∷ ps) kept at t paid near even =
     )
 
 -- the parts of a sound blossom of dual 0 are firm
-parts_firm : (d : TableValue) (h : ℕ → ℕ) (key : ℕ) (near : List ℕ) (ps : List PartValue) → IsBlossom ps →
-    ((x : ℕ) → count x (members_in ps) ≤ 1)
-    → IsSoundSet d h (odd_set_of key (members_in ps) 0 near ps) → Each (IsSoundPart d h) ps
+parts_firm : (d : TableValue) (h : ℕ → ℕ) (key : ℕ) (near : List ℕ) (ps : List PartValue) → IsBlossom ps
+    → ((x : ℕ) → count x (members_in ps) ≤ 1) → IsSoundSet d h (odd_set_of key (members_in ps) 0 near ps) → Each (IsSoundPart d h) ps
 parts_firm d h key near [] blossom once s = tt
 parts_firm d h key near (p ∷ ps) blossom once s =
     let at = parts_local h (p ∷ ps) blossom.kept once (λ x here. omega (arith, s.local x here)) in
@@ -99,16 +96,13 @@ pub record SplitAt (root : OddSetValue) (old bs : List BranchValue) (b : BranchV
   pub after : IsAlternatingTree (outer_members root.members (bs ++ b ∷ [])) later
   pub once : (x : ℕ) → count x b.inner.members ≤ 1
 
-split_size : (root : OddSetValue) (old kept bs : List BranchValue) (b : BranchValue) (at : ℕ) → CanExpand root old at → kept ≡ take (at + 1)
-    old
-    → kept ≡ bs ++ b ∷ [] → length bs ≡ at
+split_size : (root : OddSetValue) (old kept bs : List BranchValue) (b : BranchValue) (at : ℕ) → CanExpand root old at
+    → kept ≡ take (at + 1) old → kept ≡ bs ++ b ∷ [] → length bs ≡ at
 split_size root old kept bs b at ex e g =
     grind (arith, nat_tests, apart_within at old ex.apart, length-take (at + 1) old, length-append bs (b ∷ []))
 
-pub split_at : (root : OddSetValue) (old kept bs : List BranchValue) (b : BranchValue) (later : List BranchValue) (at : ℕ) → CanExpand root
-    old at → kept
-    ≡ take (at + 1) old → later ≡ drop (at + 1) old →
-    kept ≡ bs ++ b ∷ [] → SplitAt root old bs b later
+pub split_at : (root : OddSetValue) (old kept bs : List BranchValue) (b : BranchValue) (later : List BranchValue) (at : ℕ)
+    → CanExpand root old at → kept ≡ take (at + 1) old → later ≡ drop (at + 1) old → kept ≡ bs ++ b ∷ [] → SplitAt root old bs b later
 split_at root old kept bs b later at ex e f g =
     let is : old ≡ (bs ++ b ∷ []) ++ later =
     sym (take-append-drop (at + 1) old) ∙ ap (λ (ks : List BranchValue). ks ++ drop (at + 1) old) (sym e ∙ g)
@@ -133,19 +127,15 @@ split_at root old kept bs b later at ex e f g =
     }
 
 pub can_lay : (key : ℕ) (root : OddSetValue) (old bs : List BranchValue) (b : BranchValue) (later : List BranchValue)
-    (parts blossom : List PartValue)
-    → SplitAt root old bs b later →
-    b.inner ≡ odd_set_of key (members_in parts) b.inner.dual b.inner.near parts → IsEvenlyOriented b.up.to b.pair.from parts blossom
+    (parts blossom : List PartValue) → SplitAt root old bs b later
+    → b.inner ≡ odd_set_of key (members_in parts) b.inner.dual b.inner.near parts → IsEvenlyOriented b.up.to b.pair.from parts blossom
     → CanSplitBlossom root bs blossom b.up b.pair b.outer
 can_lay key root old bs b later parts blossom h1 h2 h3 = grind (arith, nat_tests, count-append, linked_left)
 
 pub expanded : (key : ℕ) (root : OddSetValue) (old bs : List BranchValue) (b : BranchValue) (later mid new : List BranchValue)
-    (parts blossom : List PartValue)
-    (was cs now : List MatchValue) → SplitAt root old bs b later →
-    IsBlossom parts → b.inner ≡ odd_set_of key (members_in parts) b.inner.dual b.inner.near parts
-    → IsEvenlyOriented b.up.to b.pair.from parts blossom
-    → SplitsBlossom root bs blossom b.up b.pair b.outer mid cs →
-    now ≡ was ++ cs → new ≡ mid ++ later → Expands key root old new was now
+    (parts blossom : List PartValue) (was cs now : List MatchValue) → SplitAt root old bs b later → IsBlossom parts
+    → b.inner ≡ odd_set_of key (members_in parts) b.inner.dual b.inner.near parts → IsEvenlyOriented b.up.to b.pair.from parts blossom
+    → SplitsBlossom root bs blossom b.up b.pair b.outer mid cs → now ≡ was ++ cs → new ≡ mid ++ later → Expands key root old new was now
 expanded key root old bs b later mid new parts blossom was cs now s is made g l e f =
     let flat : b.inner ≡ odd_set_of key (members_in parts) 0 b.inner.near parts =
     made ∙ ap (λ (w : ℕ). odd_set_of key (members_in parts) w b.inner.near parts) s.zero_wide in

@@ -42,8 +42,7 @@ pub each-flat_map : {X Y : Type 0} (P : Y → Type 0) (f : X → List Y) (xs : L
 each-flat_map P f [] p = tt
 each-flat_map P f (x ∷ xs) p = each-append P (f x) (flat_map f xs) p.0 (each-flat_map P f xs p.1)
 
-pub each-apart : {X Y : Type 0} (P : Y → Type 0) (f : X → List Y) (xs : List X) → Each P (flat_map f xs)
-    → Each (λ (x : X). Each P (f x)) xs
+pub each-apart : {X Y : Type 0} (P : Y → Type 0) (f : X → List Y) (xs : List X) → Each P (flat_map f xs) → Each (λ (x : X). Each P (f x)) xs
 each-apart P f [] p = tt
 each-apart P f (x ∷ xs) p = (each-left P (f x) (flat_map f xs) p, each-apart P f xs (each-right P (f x) (flat_map f xs) p))
 
@@ -120,8 +119,7 @@ get_or_self [] i d = refl
 get_or_self (x ∷ xs) zero d = refl
 get_or_self (x ∷ xs) (suc i) d = get_or_self xs i d
 
-pub mapped_item : {X Y : Type 0} (f : X → Y) (xs : List X) (i : ℕ) (d : X)
-    → f (get_or xs i d) ≡ get_or (map f xs) i (f (get_or xs i d))
+pub mapped_item : {X Y : Type 0} (f : X → Y) (xs : List X) (i : ℕ) (d : X) → f (get_or xs i d) ≡ get_or (map f xs) i (f (get_or xs i d))
 mapped_item f xs i d = mapped_at f xs i (get_or xs i d) (get_or_self xs i d)
 
 pub mapped_cut : {X Y : Type 0} (f : X → Y) (n at : ℕ) (xs : List X) → map f (take n (drop at xs)) ≡ take n (drop at (map f xs))

@@ -38,8 +38,7 @@ joined_along p e (q ∷ r ∷ ps) even l =
     (record { from = l.1.0.0; to = l.1.0.1 }, joined_along r e ps less l.1.1)
 
 paid_along : (d : TableValue) (p e : PartValue) (ps : List PartValue) → length ps % 2 ≡ 0 → AreTightInside d (path_edges p (ps ++ e ∷ []))
-    → AreTightInside d (blossom_edges_in ps) →
-    Each (IsTightMatch d) (matches_along ps)
+    → AreTightInside d (blossom_edges_in ps) → Each (IsTightMatch d) (matches_along ps)
 paid_along d p e [] even l all = tt
 paid_along d p e (q ∷ []) even l all = absurd (omega arith)
 paid_along d p e (q ∷ r ∷ ps) even l all =
@@ -76,9 +75,8 @@ length_turned i old = sum_turned (λ (qs : List PartValue). length qs) length-ap
 
 -- an additive quantity of a blossom is that of its first part and of the matches after it
 sums_turned : (F : List DualSet → ℕ) → IsAdditive F → (old : List PartValue) (p : PartValue) (ps : List PartValue) (i : ℕ)
-    → p ∷ ps ≡ drop i old ++
-    take i old →
-    length ps % 2 ≡ 0 → F (dual_sets_in old) ≡ F (dual_sets p.odd_set) + F (match_dual_sets (matches_along ps))
+    → p ∷ ps ≡ drop i old ++ take i old → length ps % 2 ≡ 0
+    → F (dual_sets_in old) ≡ F (dual_sets p.odd_set) + F (match_dual_sets (matches_along ps))
 sums_turned F add old p ps i e even =
     omega (arith, bands_turned F add i old, ap (λ (qs : List PartValue). F (dual_sets_in qs)) e, add, bands_matched F add ps even)
 
@@ -87,10 +85,9 @@ places_turned : (x : ℕ) (old : List PartValue) (p : PartValue) (ps : List Part
 places_turned x old p ps i e even =
     omega (arith, members_turned x i old, ap (λ (qs : List PartValue). count x (members_in qs)) e, count-append, members_matched x ps even)
 
-paid_turned_all : (d : TableValue) (old : List PartValue) (p : PartValue) (ps : List PartValue) (i : ℕ) → p ∷ ps ≡ drop i old ++ take i
-    old →
-    length ps % 2 ≡ 0 → AreTightInside d (cycle_edges old ++ blossom_edges_in old) → AreTightInside d p.odd_set.blossom_edges
-    × Each (IsTightMatch d) (matches_along ps)
+paid_turned_all : (d : TableValue) (old : List PartValue) (p : PartValue) (ps : List PartValue) (i : ℕ) → p ∷ ps ≡ drop i old ++ take i old
+    → length ps % 2 ≡ 0 → AreTightInside d (cycle_edges old ++ blossom_edges_in old)
+    → AreTightInside d p.odd_set.blossom_edges × Each (IsTightMatch d) (matches_along ps)
 paid_turned_all d old p ps i e even all =
     let around : AreTightInside d (cycle_edges (take i old ++ drop i old)) =
     subst (λ (qs : List PartValue). AreTightInside d (cycle_edges qs)) (sym (take-append-drop i old))
@@ -122,10 +119,9 @@ matched_some (p ∷ []) two kept = absurd (omega arith)
 matched_some (p ∷ q ∷ ps) two kept =
     grind (arith, nat_tests, some_member, count-append)
 
-opens_turned : (left key w : ℕ) (ms near : List ℕ) (old : List PartValue) (p : PartValue) (ps : List PartValue) (i : ℕ) → p ∷ ps ≡ drop i
-    old ++ take i old →
-    ms ≡ members_in old → IsBlossom old → IsOddSet (odd_set_of key ms w near old) → count left ms ≡ 1 → 1 ≤ count left p.odd_set.members →
-    OpensAt left (odd_set_of key ms w near old) (Some p.odd_set) (matches_along ps)
+opens_turned : (left key w : ℕ) (ms near : List ℕ) (old : List PartValue) (p : PartValue) (ps : List PartValue) (i : ℕ)
+    → p ∷ ps ≡ drop i old ++ take i old → ms ≡ members_in old → IsBlossom old → IsOddSet (odd_set_of key ms w near old) → count left ms ≡ 1
+    → 1 ≤ count left p.odd_set.members → OpensAt left (odd_set_of key ms w near old) (Some p.odd_set) (matches_along ps)
 opens_turned left key w ms near old p ps i e same blossom kept there first =
     let turned : IsBlossom (p ∷ ps) = subst IsBlossom (sym e) (turned_is_blossom old i blossom) in
     let even : length ps % 2 ≡ 0 = omega (arith, turned.odd) in
@@ -153,11 +149,8 @@ made_blossom ms [] some made = absurd (omega arith)
 made_blossom ms (p ∷ ps) some made = made
 
 pub opens_blossom : (left key w : ℕ) (s : OddSetValue) (ms near : List ℕ) (old blossom : List PartValue) (p : PartValue)
-    (ps : List PartValue)
-    (cs : List MatchValue) →
-    s ≡ odd_set_of key ms w near old → IsVertexOrBlossom ms old → count left s.members ≡ 1 → IsRotated old blossom
-    → FirstPartHolds left blossom →
-    blossom ≡ p ∷ ps → cs ≡ matches_along ps → OpensAt left s (Some p.odd_set) cs
+    (ps : List PartValue) (cs : List MatchValue) → s ≡ odd_set_of key ms w near old → IsVertexOrBlossom ms old → count left s.members ≡ 1
+    → IsRotated old blossom → FirstPartHolds left blossom → blossom ≡ p ∷ ps → cs ≡ matches_along ps → OpensAt left s (Some p.odd_set) cs
 opens_blossom left key w s ms near old blossom p ps cs is made there turned first e f =
     let all = made_blossom ms old (omega (arith, turned.within)) made in
     let here : count left ms ≡ 1 = subst (λ (u : OddSetValue). count left u.members ≡ 1) is there in
@@ -172,9 +165,8 @@ none_of left key w ms near [] none made there = opens_single left key w ms near 
 none_of left key w ms near (p ∷ ps) none made there = absurd (omega arith)
 
 pub opens_place : (left key w : ℕ) (s : OddSetValue) (ms near : List ℕ) (ps : List PartValue) (cs : List MatchValue)
-    → s ≡ odd_set_of key ms w near ps → IsVertexOrBlossom ms ps
-    → count left s.members ≡ 1 →
-    length ps ≡ 0 → cs ≡ [] → OpensAt left s None cs
+    → s ≡ odd_set_of key ms w near ps → IsVertexOrBlossom ms ps → count left s.members ≡ 1 → length ps ≡ 0 → cs ≡ []
+    → OpensAt left s None cs
 opens_place left key w s ms near ps cs is made there none f =
     let here : count left ms ≡ 1 = subst (λ (u : OddSetValue). count left u.members ≡ 1) is there in
     let moved = subst (λ (u : OddSetValue). OpensAt left u None []) (sym is) (none_of left key w ms near ps none made here) in

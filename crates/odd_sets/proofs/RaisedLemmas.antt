@@ -27,9 +27,8 @@ count_at [] i lt = absurd (omega arith)
 count_at (m ∷ ms) zero lt = rw (eq-eqb m m refl) (omega arith)
 count_at (m ∷ ms) (suc i) lt = omega (arith, count_at ms i (omega arith))
 
-lowered_by : (b : Bool) (x m w c rest top : ℕ) (hs : List ℕ) → eqb x m ≡ b → m < length hs → w ≤ get_or hs m 0 → get_or hs x 0 + rest
-    ≡ top + w * (cond b 1 0 + c) →
-    get_or (set hs m (get_or hs m 0 - w)) x 0 + rest ≡ top + w * c
+lowered_by : (b : Bool) (x m w c rest top : ℕ) (hs : List ℕ) → eqb x m ≡ b → m < length hs → w ≤ get_or hs m 0
+    → get_or hs x 0 + rest ≡ top + w * (cond b 1 0 + c) → get_or (set hs m (get_or hs m 0 - w)) x 0 + rest ≡ top + w * c
 lowered_by true x m w c rest top hs is lt low e =
     grind (arith, nat_tests, eqb-true, get_or, set, get_or-set_same, low)
 lowered_by false x m w c rest top hs is lt low e =

@@ -33,9 +33,7 @@ told_kept l [] told a b = b
 told_kept l (p ∷ ps) told a b = told_kept p.next ps (part_of p (reversed_edge l) ∷ told) a.1 (a.0, b)
 
 told_firm : (d : TableValue) (h : ℕ → ℕ) → IsSymmetric d → (l : TightEdge) (ps told : List PartValue) → IsTight d h l
-    → Each (IsSoundPart d h) ps
-    → Each (IsSoundPart d h) told →
-    Each (IsSoundPart d h) (reversed_onto l ps told)
+    → Each (IsSoundPart d h) ps → Each (IsSoundPart d h) told → Each (IsSoundPart d h) (reversed_onto l ps told)
 told_firm d h sy l [] told t a b = b
 told_firm d h sy l (p ∷ ps) told t a b =
     told_firm d h sy p.next ps (part_of p (reversed_edge l) ∷ told) a.0.next a.1
@@ -60,10 +58,8 @@ abbrev LeadsTo : PartValue → ℕ → List PartValue → Type 0
 LeadsTo e x [] = ⊥
 LeadsTo e x (z ∷ zs) = IsPartPath z (zs ++ e ∷ []) × (count x z.odd_set.members ≡ 1)
 
-told_linked : (e : PartValue) (x : ℕ) (p a : PartValue) (qs told : List PartValue) → a.odd_set ≡ p.odd_set → IsPartPath p qs → IsPartPath a
-    (told ++ e ∷ [])
-    → count x (last_part p qs).odd_set.members ≡ 1 →
-    LeadsTo e x (reversed_onto p.next qs (a ∷ told))
+told_linked : (e : PartValue) (x : ℕ) (p a : PartValue) (qs told : List PartValue) → a.odd_set ≡ p.odd_set → IsPartPath p qs
+    → IsPartPath a (told ++ e ∷ []) → count x (last_part p qs).odd_set.members ≡ 1 → LeadsTo e x (reversed_onto p.next qs (a ∷ told))
 told_linked e x p a [] told same l m here = (m, subst (λ (n : OddSetValue). count x n.members ≡ 1) (sym same) here)
 told_linked e x p a (q ∷ qs) told same l m here =
     told_linked e x q (part_of q (reversed_edge p.next)) qs (a ∷ told) refl l.1
@@ -118,8 +114,7 @@ record HeldAt (x : ℕ) (ps : List PartValue) (i : ℕ) : Type 0 where
   here : 1 ≤ count x part.odd_set.members
 
 held_case : (x : ℕ) (ps : List PartValue) (i : ℕ) (rest : List PartValue) → drop i ps ≡ rest → i < length ps → FirstPartHolds x rest
-    → HeldAt
-    x ps i
+    → HeldAt x ps i
 held_case x ps i [] e low holds = absurd holds
 held_case x ps i (p ∷ rest) e low holds = record {
   before = take i ps;
@@ -166,10 +161,9 @@ told_at l (a ∷ before) p after told =
     let t = told_at a.next before p after (part_of a (reversed_edge l) ∷ told) in
     record { link = t.link; rest = t.rest; is = t.is }
 
-mirror_held : (x : ℕ) (before : List PartValue) (p : PartValue) (after : List PartValue) → length before % 2 ≡ 1 →
-    (length before + (1 + length after)) % 2
-    ≡ 1 → 1 ≤ count x p.odd_set.members →
-    HoldsAtEvenIndex x (reversed_blossom (before ++ p ∷ after))
+mirror_held : (x : ℕ) (before : List PartValue) (p : PartValue) (after : List PartValue) → length before % 2 ≡ 1
+    → (length before + (1 + length after)) % 2 ≡ 1 → 1 ≤ count x p.odd_set.members
+    → HoldsAtEvenIndex x (reversed_blossom (before ++ p ∷ after))
 mirror_held x [] p after odd all here = absurd (omega arith)
 mirror_held x (a ∷ before) p after odd all here =
     let t = told_at a.next before p after [] in
@@ -186,10 +180,7 @@ mirror_evenly x ps i odd way h = subst (λ (qs : List PartValue). HoldsAtEvenInd
 
 -- a blossom rotated to the part that is entered, with the part that is left at an even index
 pub goes_on : (entry exit : ℕ) (old blossom : List PartValue) (i : ℕ) → IsBlossom old → IsRotated old blossom → FirstPartHolds entry blossom
-    → i < length
-    blossom
-    → PartHoldsAt exit blossom i → i % 2 ≡ 0 →
-    IsEvenlyOriented entry exit old blossom
+    → i < length blossom → PartHoldsAt exit blossom i → i % 2 ≡ 0 → IsEvenlyOriented entry exit old blossom
 goes_on entry exit old blossom i is turned first low holds even =
     let h = held_at exit blossom i low holds in
     record {
@@ -209,9 +200,8 @@ first_mirrored x (p ∷ ps) h = h
 
 -- and the other way round where that way is odd
 pub goes_back : (entry exit : ℕ) (old blossom back : List PartValue) (i : ℕ) → IsBlossom old → IsRotated old blossom
-    → FirstPartHolds entry blossom
-    → i < length blossom → PartHoldsAt exit blossom i → i % 2 ≡ 1 →
-    back ≡ reversed_blossom blossom → IsEvenlyOriented entry exit old back
+    → FirstPartHolds entry blossom → i < length blossom → PartHoldsAt exit blossom i → i % 2 ≡ 1 → back ≡ reversed_blossom blossom
+    → IsEvenlyOriented entry exit old back
 goes_back entry exit old blossom back i is turned first low holds odd e =
     let r : IsBlossom blossom = subst IsBlossom (sym turned.is) (turned_is_blossom old turned.at is) in
     subst (λ (qs : List PartValue). IsEvenlyOriented entry exit old qs) (sym e) (record {

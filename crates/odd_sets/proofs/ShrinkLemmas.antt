@@ -69,11 +69,8 @@ have_rows : (t : TableValue) (h : ℕ → ℕ) (top : OddSetValue) (way : TightE
 have_rows t h top way chain h1 h2 h3 = grind (arith, nat_tests, count-append, each-map)
 
 pub closable : (link : TightEdge) (root : OddSetValue) (tree left bs : List BranchValue) (b : BranchValue) (chain : List PartValue)
-    (aside : List BranchValue)
-    (way : TightEdge) (to : ℕ) → CanShrink link root tree →
-    IsOpenChain link root tree left chain aside way to → left ≡ bs ++ b ∷ [] → 1 ≤ count way.from b.outer.members
-    → 1 ≤ count to b.outer.members →
-    CanClose b.outer way chain to
+    (aside : List BranchValue) (way : TightEdge) (to : ℕ) → CanShrink link root tree → IsOpenChain link root tree left chain aside way to
+    → left ≡ bs ++ b ∷ [] → 1 ≤ count way.from b.outer.members → 1 ≤ count to b.outer.members → CanClose b.outer way chain to
 closable link root tree left bs b chain aside way to sh c e here there =
     let c = subst (λ (ks : List BranchValue). IsOpenChain link root tree ks chain aside way to) e c in
     let u = c.firm sh.t sh.h sh.symmetric sh.tight sh.firm in
@@ -89,10 +86,8 @@ closable link root tree left bs b chain aside way to sh c e here there =
     }
 
 pub closable_root : (link : TightEdge) (root : OddSetValue) (tree left : List BranchValue) (chain : List PartValue)
-    (aside : List BranchValue)
-    (way : TightEdge)
-    (to : ℕ) → CanShrink link root tree →
-    IsOpenChain link root tree left chain aside way to → length left ≡ 0 → CanClose root way chain to
+    (aside : List BranchValue) (way : TightEdge) (to : ℕ) → CanShrink link root tree → IsOpenChain link root tree left chain aside way to
+    → length left ≡ 0 → CanClose root way chain to
 closable_root link root tree [] chain aside way to sh c none = record {
   leads = c.leads;
   from = omega (arith, c.once way.from, c.places way.from, c.from);
@@ -122,9 +117,8 @@ blossom_sums F add key top way chain blossom e =
 
 -- the heights of two places in the tree are both even or both odd
 pub two_even : (d : TableValue) (h : ℕ → ℕ) (root : OddSetValue) (tree : List BranchValue) → IsAlternatingTree root.members tree
-    → IsSoundSet d h root
-    → Each (IsSoundBranch d h) tree → (x y : ℕ) →
-    1 ≤ count x (outer_members root.members tree) + count x (inner_members tree)
+    → IsSoundSet d h root → Each (IsSoundBranch d h) tree → (x y : ℕ)
+    → 1 ≤ count x (outer_members root.members tree) + count x (inner_members tree)
     → 1 ≤ count y (outer_members root.members tree) + count y (inner_members tree) → (h x + h y) % 2 ≡ 0
 two_even d h root tree g s f x y hx hy =
     let r = some_member root.members (omega (arith, s.kept.odd)) in
@@ -132,12 +126,11 @@ two_even d h root tree g s f x y hx hy =
     tree g f (λ k here. s.even r.0 k r.1 here) z hz in
     omega (arith, at x hx, at y hy)
 
-pub closed_inside : (key : ℕ) (link : TightEdge) (root blossom : OddSetValue) (tree left bs mid new : List BranchValue) (b : BranchValue)
-    (chain : List PartValue)
-    (aside : List BranchValue) (way : TightEdge) (to : ℕ) →
-    CanShrink link root tree → IsOpenChain link root tree left chain aside way to → left ≡ bs ++ b ∷ [] → CanClose b.outer way chain to
-    → IsOddSet b.outer → blossom ≡ closed_blossom key b.outer way chain →
-    mid ≡ bs ++ with_outer b blossom ∷ [] → new ≡ mid ++ reverse aside → Shrinks blossom link root root tree new
+pub closed_inside : (key : ℕ) (link : TightEdge) (root blossom : OddSetValue) (tree left bs mid new : List BranchValue)
+    (b : BranchValue) (chain : List PartValue) (aside : List BranchValue) (way : TightEdge) (to : ℕ) → CanShrink link root tree
+    → IsOpenChain link root tree left chain aside way to → left ≡ bs ++ b ∷ [] → CanClose b.outer way chain to → IsOddSet b.outer
+    → blossom ≡ closed_blossom key b.outer way chain → mid ≡ bs ++ with_outer b blossom ∷ [] → new ≡ mid ++ reverse aside
+    → Shrinks blossom link root root tree new
 closed_inside key link root blossom tree left bs mid new b chain aside way to sh c e cl kb closes m n =
     let c = subst (λ (ks : List BranchValue). IsOpenChain link root tree ks chain aside way to) e c in
     let l = last_of root.members bs b c.grown in
@@ -179,11 +172,9 @@ closed_inside key link root blossom tree left bs mid new b chain aside way to sh
     })
 
 at_the_root : (key : ℕ) (link : TightEdge) (root blossom : OddSetValue) (tree new : List BranchValue) (chain : List PartValue)
-    (aside : List BranchValue) (way : TightEdge) (to : ℕ)
-    →
-    CanShrink link root tree → IsOpenChain link root tree [] chain aside way to → CanClose root way chain to → IsOddSet root → blossom
-    ≡ closed_blossom key root way chain →
-    new ≡ reverse aside → Shrinks blossom link root blossom tree new
+    (aside : List BranchValue) (way : TightEdge) (to : ℕ) → CanShrink link root tree → IsOpenChain link root tree [] chain aside way to
+    → CanClose root way chain to → IsOddSet root → blossom ≡ closed_blossom key root way chain → new ≡ reverse aside
+    → Shrinks blossom link root blossom tree new
 at_the_root key link root blossom tree new chain aside way to sh c cl kr closes n =
     let q = λ (x : ℕ). count-append x root.members (members_in chain) in
     let r = λ (x : ℕ). ap (λ (s : OddSetValue). count x s.members) closes ∙ q x in
@@ -208,12 +199,10 @@ empty_left left [] none zero_left e = refl
 empty_left left (b ∷ bs) none zero_left e = absurd (omega (arith, ap (λ (ks : List BranchValue). length ks) e))
 
 pub closed_root : (key : ℕ) (link : TightEdge) (root blossom : OddSetValue) (tree left rest none : List BranchValue)
-    (new : List BranchValue)
-    (chain : List PartValue)
-    (aside : List BranchValue) (way : TightEdge) (to : ℕ) (top : OddSetValue) → top ≡ root →
-    CanShrink link root tree → IsOpenChain link root tree left chain aside way to → length left ≡ 0
-    → blossom ≡ closed_blossom key top way chain →
-    left ≡ rest ++ none → new ≡ rest ++ reverse aside → Shrinks blossom link root blossom tree new
+    (new : List BranchValue) (chain : List PartValue) (aside : List BranchValue) (way : TightEdge) (to : ℕ) (top : OddSetValue) → top ≡ root
+    → CanShrink link root tree → IsOpenChain link root tree left chain aside way to → length left ≡ 0
+    → blossom ≡ closed_blossom key top way chain → left ≡ rest ++ none → new ≡ rest ++ reverse aside
+    → Shrinks blossom link root blossom tree new
 closed_root key link root blossom tree [] rest none new chain aside way to top e sh c zero_left closes m n =
     at_the_root key link root blossom tree new chain aside way to sh c
     (closable_root link root tree [] chain aside way to sh c zero_left) sh.sound.kept

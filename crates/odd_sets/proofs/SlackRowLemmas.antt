@@ -157,8 +157,7 @@ least_short p ps x near = omega (arith, lowered_less p.odd_set.dual (get_or p.od
 
 -- the row of a blossom of firm parts
 pub blossom_near : (t : TableValue) (h : ℕ → ℕ) (p : PartValue) (ps : List PartValue) → Each (IsSoundPart t h) (p ∷ ps)
-    → ((x : ℕ) → count x (members_in (p ∷ ps)) ≤ 1)
-    → ((x : ℕ) → 1 ≤ count x (members_in (p ∷ ps)) → height x (dual_sets_in (p ∷ ps)) ≡ h x)
+    → ((x : ℕ) → count x (members_in (p ∷ ps)) ≤ 1) → ((x : ℕ) → 1 ≤ count x (members_in (p ∷ ps)) → height x (dual_sets_in (p ∷ ps)) ≡ h x)
     → IsSlackRow t (record { members = members_in (p ∷ ps); below = dual_sets_in (p ∷ ps); cells = blossom_slacks (p ∷ ps) })
 blossom_near t h p ps f once local =
     let n = length p.odd_set.near in
@@ -187,8 +186,7 @@ least_push [] p x = refl
 least_push (q ∷ ps) p x = omega (arith, least_push ps p x)
 
 -- so it is with the merged cells
-pub merge_next : (n : ℕ) (parts : List PartValue) (i : ℕ) (p : PartValue) (near : List ℕ) (dual : ℕ) (cells new : List ℕ) → i < length
-    parts
+pub merge_next : (n : ℕ) (parts : List PartValue) (i : ℕ) (p : PartValue) (near : List ℕ) (dual : ℕ) (cells new : List ℕ) → i < length parts
     → p ≡ get_or parts i p → near ≡ p.odd_set.near → dual ≡ p.odd_set.dual → MergesSlacks near dual cells new → length near ≡ n
     → ((x : ℕ) → x < n → get_or cells x 0 ≡ least_part_slack (take i parts) x) → (x : ℕ) → x < n
     → get_or new x 0 ≡ least_part_slack (take (i + 1) parts) x

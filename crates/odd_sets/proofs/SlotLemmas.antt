@@ -35,8 +35,7 @@ sizes sets ms (p ∷ ps) m made low =
 levels_list : (m : ℕ) (sets : Slots) (P : ℕ → Type 0)
     → ((n k : ℕ) → P k → length (members_at sets k) ≤ n → map (part_to_depth n sets) (parts_at sets k) ≡ parts_in sets (parts_at sets k))
     → (ps : List BlossomPart) → Each (λ (p : BlossomPart). P p.handle.key) ps
-    → Each (λ (p : BlossomPart). length (members_at sets p.handle.key) < m) ps
-    → map (part_to_depth m sets) ps ≡ parts_in sets ps
+    → Each (λ (p : BlossomPart). length (members_at sets p.handle.key) < m) ps → map (part_to_depth m sets) ps ≡ parts_in sets ps
 levels_list m sets P all [] are low = refl
 levels_list zero sets P all (p ∷ ps) are low = absurd (omega (arith, low.0))
 levels_list (suc m) sets P all (p ∷ ps) are low =
@@ -175,8 +174,7 @@ keeps_to (suc a) old new s is same =
     )
 
 pub set_kept : (old new : Slots) (s : Handle) → IsSet old s.key
-    → ((j : ℕ) → 1 ≤ key_count j (dual_sets (set_in old s)) → get new j ≡ get old j)
-    → IsKept old new s
+    → ((j : ℕ) → 1 ≤ key_count j (dual_sets (set_in old s)) → get new j ≡ get old j) → IsKept old new s
 set_kept old new s is same =
     let n = length (members_at old s.key) in
     let k = keeps_to n old new s (levels_of old s.key is) same in

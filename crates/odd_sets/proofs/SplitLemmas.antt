@@ -32,9 +32,8 @@ source_of q [] x e l = absurd e
 source_of q (r ∷ ps) x e l = l.0.0
 
 pub can_more : (root : OddSetValue) (now : List BranchValue) (p q : PartValue) (ps : List PartValue) (way pair : TightEdge)
-    (outer : OddSetValue)
-    → CanSplitBlossom root now (p ∷ q ∷ ps) way pair outer →
-    count pair.from p.odd_set.members ≡ 0 → CanSplitBlossom root (now ++ branch_of way p.odd_set p.next q.odd_set ∷ []) ps q.next pair outer
+    (outer : OddSetValue) → CanSplitBlossom root now (p ∷ q ∷ ps) way pair outer → count pair.from p.odd_set.members ≡ 0
+    → CanSplitBlossom root (now ++ branch_of way p.odd_set p.next q.odd_set ∷ []) ps q.next pair outer
 can_more root now p q ps way pair outer c none =
     let b = branch_of way p.odd_set p.next q.odd_set in
     let e = not_here pair.from p q ps c.exit none in
@@ -49,10 +48,8 @@ can_more root now p q ps way pair outer c none =
     }
 
 does_more : (root : OddSetValue) (now : List BranchValue) (p q : PartValue) (ps : List PartValue) (way pair : TightEdge)
-    (outer : OddSetValue)
-    (new : List BranchValue)
-    (cs : List MatchValue) →
-    SplitsBlossom root (now ++ branch_of way p.odd_set p.next q.odd_set ∷ []) ps q.next pair outer new cs
+    (outer : OddSetValue) (new : List BranchValue) (cs : List MatchValue)
+    → SplitsBlossom root (now ++ branch_of way p.odd_set p.next q.odd_set ∷ []) ps q.next pair outer new cs
     → SplitsBlossom root now (p ∷ q ∷ ps) way pair outer new cs
 does_more root now p q ps way pair outer new cs l =
     let b = branch_of way p.odd_set p.next q.odd_set in
@@ -79,10 +76,9 @@ does_more root now p q ps way pair outer new cs l =
     }
 
 pub laying_more : (root : OddSetValue) (old : List BranchValue) (blossom : List PartValue) (up pair : TightEdge) (outer : OddSetValue)
-    (now : List BranchValue)
-    (left after rest : List PartValue) (p q : PartValue) (way : TightEdge) (next : List BranchValue) →
-    Laying root old blossom up pair outer now left way → left ≡ p ∷ after → after ≡ q ∷ rest → count pair.from p.odd_set.members ≡ 0 →
-    next ≡ now ++ branch_of way p.odd_set p.next q.odd_set ∷ [] → Laying root old blossom up pair outer next rest q.next
+    (now : List BranchValue) (left after rest : List PartValue) (p q : PartValue) (way : TightEdge) (next : List BranchValue)
+    → Laying root old blossom up pair outer now left way → left ≡ p ∷ after → after ≡ q ∷ rest → count pair.from p.odd_set.members ≡ 0
+    → next ≡ now ++ branch_of way p.odd_set p.next q.odd_set ∷ [] → Laying root old blossom up pair outer next rest q.next
 laying_more root old blossom up pair outer now left after rest p q way next l e f none g =
     let is : left ≡ p ∷ q ∷ rest = e ∙ ap (λ (ps : List PartValue). p ∷ ps) f in
     let m = subst (λ (ps : List PartValue). Laying root old blossom up pair outer now ps way) is l in
@@ -104,9 +100,8 @@ matched_firm d h (q ∷ []) t = tt
 matched_firm d h (q ∷ r ∷ ps) t = (record { link = t.0.next; first = t.0.odd_set; second = t.1.0.odd_set }, matched_firm d h ps t.1.1)
 
 lays_last : (root : OddSetValue) (now : List BranchValue) (p : PartValue) (ps : List PartValue) (way pair : TightEdge) (outer : OddSetValue)
-    → CanSplitBlossom root now (p ∷ ps) way pair outer →
-    1 ≤ count pair.from p.odd_set.members → SplitsBlossom root now (p ∷ ps) way pair outer (now ++ branch_of way p.odd_set pair outer ∷ [])
-    (matches_along ps)
+    → CanSplitBlossom root now (p ∷ ps) way pair outer → 1 ≤ count pair.from p.odd_set.members
+    → SplitsBlossom root now (p ∷ ps) way pair outer (now ++ branch_of way p.odd_set pair outer ∷ []) (matches_along ps)
 lays_last root now p ps way pair outer c here =
     let b = branch_of way p.odd_set pair outer in
     let even : length ps % 2 ≡ 0 = omega (arith, c.odd) in
@@ -135,11 +130,10 @@ lays_last root now p ps way pair outer c here =
       );
     }
 
-pub laid : (root : OddSetValue) (old : List BranchValue) (blossom : List PartValue) (up pair : TightEdge) (outer : OddSetValue) (now : List
-    BranchValue)
-    (left rest : List PartValue) (p : PartValue) (way : TightEdge) (new : List BranchValue) (cs : List MatchValue) →
-    Laying root old blossom up pair outer now left way → left ≡ p ∷ rest → 1 ≤ count pair.from p.odd_set.members →
-    new ≡ now ++ branch_of way p.odd_set pair outer ∷ [] → cs ≡ matches_along rest → SplitsBlossom root old blossom up pair outer new cs
+pub laid : (root : OddSetValue) (old : List BranchValue) (blossom : List PartValue) (up pair : TightEdge) (outer : OddSetValue)
+    (now : List BranchValue) (left rest : List PartValue) (p : PartValue) (way : TightEdge) (new : List BranchValue) (cs : List MatchValue)
+    → Laying root old blossom up pair outer now left way → left ≡ p ∷ rest → 1 ≤ count pair.from p.odd_set.members
+    → new ≡ now ++ branch_of way p.odd_set pair outer ∷ [] → cs ≡ matches_along rest → SplitsBlossom root old blossom up pair outer new cs
 laid root old blossom up pair outer now left rest p way new cs l e here f g =
     let m = subst (λ (ps : List PartValue). Laying root old blossom up pair outer now ps way) e l in
     let done = m.does _ _ (lays_last root now p rest way pair outer m.can here) in

@@ -97,9 +97,8 @@ direct-set_cells t is a b d x y la lb lx ly =
 abbrev pub set_at : TableValue → ℕ → ℕ → ℕ → TableValue
 set_at t at back d = record { places = t.places; cells = set_both t.cells at back d }
 
-pub entry-set_at : (t : TableValue) → IsTable t → (a b d at back x y : ℕ) → at ≡ a * t.places + b → back ≡ b * t.places + a
-    → a < t.places → b < t.places → x < t.places → y < t.places →
-    entry (set_at t at back d) x y ≡ after_set t a b d x y
+pub entry-set_at : (t : TableValue) → IsTable t → (a b d at back x y : ℕ) → at ≡ a * t.places + b → back ≡ b * t.places + a → a < t.places
+    → b < t.places → x < t.places → y < t.places → entry (set_at t at back d) x y ≡ after_set t a b d x y
 entry-set_at t is a b d at back x y e f la lb lx ly =
     ap (λ (k : ℕ). entry (set_at t k back d) x y) e ∙ ap (λ (k : ℕ). entry (set_at t (a * t.places + b) k d) x y) f
     ∙ entry-set_cells t is a b d x y la lb lx ly

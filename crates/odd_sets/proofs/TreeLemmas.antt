@@ -32,8 +32,7 @@ grown_more ps qs (b ∷ bs) le g = (
 )
 
 pub grown-append : (base : List ℕ) (xs ys : List BranchValue) → IsAlternatingTree base xs → IsAlternatingTree (outer_members base xs) ys
-    → IsAlternatingTree base
-    (xs ++ ys)
+    → IsAlternatingTree base (xs ++ ys)
 grown-append base [] ys g h = h
 grown-append base (b ∷ xs) ys g h = (
   g.0,
@@ -47,9 +46,8 @@ grown-append base (b ∷ xs) ys g h = (
 
 -- one branch more at the end
 pub grown_push : (base : List ℕ) (bs : List BranchValue) (b : BranchValue) → IsAlternatingTree base bs
-    → 1 ≤ count b.up.from (outer_members base bs)
-    → count b.up.to b.inner.members ≡ 1 →
-    count b.pair.from b.inner.members ≡ 1 → count b.pair.to b.outer.members ≡ 1 → IsAlternatingTree base (bs ++ b ∷ [])
+    → 1 ≤ count b.up.from (outer_members base bs) → count b.up.to b.inner.members ≡ 1 → count b.pair.from b.inner.members ≡ 1
+    → count b.pair.to b.outer.members ≡ 1 → IsAlternatingTree base (bs ++ b ∷ [])
 grown_push base bs b g f u i o = grown-append base bs (b ∷ []) g (f, u, i, o, tt)
 
 -- the places at the start are among the outer ones

@@ -18,8 +18,7 @@ abbrev pub IsLineOf : DrawingValue → ℕ → Type 0
 IsLineOf d line = line < length d.lines
 
 -- the lines of pieces are lines of the drawing
-lines_there : (d : DrawingValue) (pieces : List Piece) → All (IsLineOf d) (concat (lines_of_pieces pieces))
-    → All (HasLinesOf d) pieces
+lines_there : (d : DrawingValue) (pieces : List Piece) → All (IsLineOf d) (concat (lines_of_pieces pieces)) → All (HasLinesOf d) pieces
 lines_there d [] all = All-nil (HasLinesOf d)
 lines_there d (p ∷ rest) all = All-cons (HasLinesOf d) p rest
     (record { there = all_left (IsLineOf d) p.lines (concat (lines_of_pieces rest)) all; few = p.kept.few })

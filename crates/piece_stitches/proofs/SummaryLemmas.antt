@@ -13,8 +13,7 @@ abbrev summary_with : (stitches shortest longest short thread : ℕ) → StitchS
 summary_with stitches shortest longest short thread =
     record { stitches = stitches; shortest = shortest; longest = longest; short = short; thread = thread }
 
-pub with_stitches_of_both : (s : StitchSummary) (xs ys : List ℕ)
-    → with_stitches s (xs ++ ys) ≡ with_stitches (with_stitches s xs) ys
+pub with_stitches_of_both : (s : StitchSummary) (xs ys : List ℕ) → with_stitches s (xs ++ ys) ≡ with_stitches (with_stitches s xs) ys
 with_stitches_of_both s [] ys = refl
 with_stitches_of_both s (x ∷ xs) ys = with_stitches_of_both (with_stitch s x) xs ys
 

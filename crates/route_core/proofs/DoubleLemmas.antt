@@ -35,8 +35,7 @@ unended d = record d { starts = []; ends = [] }
 -- a walk that fits a piece without them can be sewn
 sewable_so : (d : DrawingValue) (lines : List ℕ) (walk : List Pass) → KeepsDrawingLimits d → FittingWalksAreSewable
     → All (λ line. line < length d.lines) lines → IsValidPiece (piece_graph d lines)
-    → is_fitting_walk (without_ends (piece_graph d lines)) walk ≡ true
-    → IsSewable d lines walk
+    → is_fitting_walk (without_ends (piece_graph d lines)) walk ≡ true → IsSewable d lines walk
 sewable_so d lines walk keeps sews below kept fit =
     let s = sews (unended d) lines walk (grind (arith, nat_tests)) below (grind (arith, nat_tests)) fit in
     record { there = s.there; penetrations = s.penetrations; near = s.near }

@@ -32,8 +32,7 @@ line_below n (m ∷ ns) (x ∷ es) line e below is =
 
 -- the passes of a walk go along lines of the piece
 passes_below : (n : ℕ) (ns : List ℕ) (es : List Edge) → all_below n ns ≡ true → (at : Option ℕ) (ps : List Pass) (to : ℕ)
-    → walk_end_from ns es at ps ≡ Some to
-    → All (λ (pass : Pass). pass.line < n) ps
+    → walk_end_from ns es at ps ≡ Some to → All (λ (pass : Pass). pass.line < n) ps
 passes_below n ns es below at [] to is = λ i. λ d. λ none. absurd (omega (arith, none))
 passes_below n ns es below None (p ∷ ps) to is = absurd (lost ns es ps to is)
 passes_below n ns es below (Some at) (p ∷ ps) to is = by_edge (edge_of ns es p.line) refl is

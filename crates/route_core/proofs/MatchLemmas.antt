@@ -65,21 +65,18 @@ pairs_under n [] there = omega arith
 pairs_under n (q ∷ pairs) there =
     let one = over_at q.a 0 n (omega arith) (omega (arith, All-head (λ (q : Pair). q.a < n) q pairs there)) in
     let rest = pairs_under n pairs (All-tail (λ (q : Pair). q.a < n) q pairs there) in
-    let more = over_more q (pair_ends_at pairs) (pair_ends_at (q ∷ pairs)) (λ y. sum_by-cons (ends_in y) q pairs) 0 n in
-    omega (arith, one, rest, more)
+    omega (arith, one, rest, over_more q (pair_ends_at pairs) (pair_ends_at (q ∷ pairs)) (λ y. sum_by-cons (ends_in y) q pairs) 0 n)
 
 pairs_few : (n : ℕ) (pairs : List Pair) → IsPerfectMatching n pairs → All (λ (q : Pair). q.a < n) pairs → length pairs ≤ n
 pairs_few n pairs each there =
     let under = pairs_under n pairs there in
-    let few = over_few (pair_ends_at pairs) 0 n (λ y. subst (λ (k : ℕ). k ≤ 1) (sym (each y)) (grind (arith, nat_tests))) in
-    omega (arith, under, few)
+    omega (arith, under, over_few (pair_ends_at pairs) 0 n (λ y. subst (λ (k : ℕ). k ≤ 1) (sym (each y)) (grind (arith, nat_tests))))
 
 moats_under : (n : ℕ) (moats : List Moat) → All (IsOddMoat n) moats → length moats ≤ width_of moats
 moats_under n [] odd = omega arith
 moats_under n (m ∷ moats) odd =
     let one = All-head (IsOddMoat n) m moats odd in
-    let rest = moats_under n moats (All-tail (IsOddMoat n) m moats odd) in
-    omega (arith, one.wide, rest, sum_by-cons (λ (m : Moat). m.width) m moats)
+    omega (arith, one.wide, moats_under n moats (All-tail (IsOddMoat n) m moats odd), sum_by-cons (λ (m : Moat). m.width) m moats)
 
 -- the cost of all pairs is at most the greatest distance for each
 costs_few : (t : TableValue) → IsTable t → (pairs : List Pair) → All (λ (q : Pair). (q.a < t.places) × (q.b < t.places)) pairs

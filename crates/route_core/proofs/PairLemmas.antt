@@ -22,9 +22,8 @@ begun p rows pairs cs is there few = grind (arith, nat_tests, length-replicate, 
 pub first_pair : (rows : RowsValue) (pairs rest : List Pair) (q : Pair) → pairs ≡ q ∷ rest → All (IsPairOf rows) pairs → IsPairOf rows q
 first_pair rows pairs rest q is there = All-head (IsPairOf rows) q rest (subst (λ (qs : List Pair). All (IsPairOf rows) qs) is there)
 
-pub goes_on : (p : PieceValue) (rows : RowsValue) (pairs : List Pair) (cs next : List ℕ) (left rest : List Pair) (q : Pair) → left
-    ≡ q ∷ rest
-    → LeftPairs p rows pairs cs left → AddsPairs p rows (q ∷ []) cs next → LeftPairs p rows pairs next rest
+pub goes_on : (p : PieceValue) (rows : RowsValue) (pairs : List Pair) (cs next : List ℕ) (left rest : List Pair) (q : Pair)
+    → left ≡ q ∷ rest → LeftPairs p rows pairs cs left → AddsPairs p rows (q ∷ []) cs next → LeftPairs p rows pairs next rest
 goes_on p rows pairs cs next left rest q is l adds = record {
   there = All-tail (IsPairOf rows) q rest (subst (λ (qs : List Pair). All (IsPairOf rows) qs) is l.there);
   sized = adds.sized ∙ l.sized;

@@ -63,8 +63,7 @@ passes_test o at (suc n) a below = by_test (o at) refl a below (λ b. λ h. pass
 
 -- how often pairs end at a terminal
 ends_at_terminal : (p : PieceValue) (rows : RowsValue) → AreTerminals p rows.terminals → (x : ℕ) → x < length rows.terminals
-    → (pairs : List Pair)
-    → All (IsPairOf rows) pairs → pair_ends rows (terminal_of rows x) pairs ≡ pair_ends_at pairs x
+    → (pairs : List Pair) → All (IsPairOf rows) pairs → pair_ends rows (terminal_of rows x) pairs ≡ pair_ends_at pairs x
 ends_at_terminal p rows ts x x_in [] there = refl
 ends_at_terminal p rows ts x x_in (q ∷ pairs) there =
     let here = All-head (IsPairOf rows) q pairs there in

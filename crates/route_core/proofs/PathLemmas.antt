@@ -95,8 +95,7 @@ pub places_within : (es : List Edge) (places : List ℕ) → all_costs_positive 
 places_within es [] costs there = omega arith
 places_within es (k ∷ places) costs there =
     let one = cost_at_place es k costs (All-head (λ k. k < length es) k places there) in
-    let rest = places_within es places costs (All-tail (λ k. k < length es) k places there) in
-    omega (arith, one, rest)
+    omega (arith, one, places_within es places costs (All-tail (λ k. k < length es) k places there))
 
 -- and there is room for them
 pub path_room : (p : PieceValue) → IsValidPiece p → (i j cost : ℕ) (places cs : List ℕ) → length cs ≡ length p.edges
@@ -105,8 +104,7 @@ path_room p kept i j cost places cs sized path few =
     let there : All (λ k. k < length p.edges) places = subst (λ (n : ℕ). All (λ k. k < n) places) kept.beside path.there in
     let up = up_within p.edges cs kept.costs sized in
     let long = places_within p.edges places kept.costs there in
-    let sum = path_sum p kept edge_cost path.walk places path.along path.there in
-    omega (arith, up, long, sum, path.costs, few)
+    omega (arith, up, long, path_sum p kept edge_cost path.walk places path.along path.there, path.costs, few)
 
 -- copies for one pair
 pub adds_pair : (p : PieceValue) → IsValidPiece p → (rows : RowsValue) (q : Pair) (old new places : List ℕ) → length old ≡ length p.edges

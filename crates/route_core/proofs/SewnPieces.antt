@@ -21,9 +21,8 @@ zip_second P Q each (x ∷ xs) (y ∷ ys) all = All-cons Q y ys (each x y all.0)
 
 -- what is known of the lines of pieces and their certificates, from what is known of each piece
 pub each_piece : (d : DrawingValue) (R : Piece → PieceCert → Type 0) (P : List ℕ → PieceCert → Type 0)
-    → ((p : Piece) (cert : PieceCert) → All (λ line. line < length d.lines) p.lines → graph_of p ≡ piece_graph d p.lines → R p cert
-    → P p.lines cert)
-    → (pieces : List Piece) (certs : List PieceCert)
+    → ((p : Piece) (cert : PieceCert) → All (λ line. line < length d.lines) p.lines → graph_of p
+    ≡ piece_graph d p.lines → R p cert → P p.lines cert) → (pieces : List Piece) (certs : List PieceCert)
     → All (λ line. line < length d.lines) (concat (lines_of_pieces pieces)) → All (λ (p : Piece). graph_of p ≡ piece_graph d p.lines) pieces
     → AllZip R pieces certs → AllZip P (lines_of_pieces pieces) certs
 each_piece d R P one [] [] below each all = tt
@@ -91,8 +90,7 @@ needles_few d (p ∷ pieces) (c ∷ certs) all =
     )
 
 writable : (d : DrawingValue) → KeepsDrawingLimits d → (pieces : List (List ℕ)) (certs : List PieceCert) → ArePiecesWithin d pieces
-    → AllZip (Sewn d) pieces certs
-    → AreWritable d.step (runs_of d (walks_of certs))
+    → AllZip (Sewn d) pieces certs → AreWritable d.step (runs_of d (walks_of certs))
 writable d keeps pieces certs within all = grind (arith, nat_tests, near_of, length-map, AllZip-long, needles_few, along_of)
 
 -- what is needed to sew the certificates, and what is then known
@@ -103,8 +101,7 @@ pub record Able (d : DrawingValue) (certs : List PieceCert) : Type 0 where
   pub writable : AreWritable d.step (runs_of d (walks_of certs))
 
 pub able : (d : DrawingValue) → KeepsDrawingLimits d → PiecesKeepLimits → (pieces : List (List ℕ)) (certs : List PieceCert)
-    → ArePieces d pieces
-    → AllZip (Sewn d) pieces certs → Able d certs
+    → ArePieces d pieces → AllZip (Sewn d) pieces certs → Able d certs
 able d keeps limits pieces certs are all =
     let drawn = zip_second (Sewn d) (λ (c : PieceCert). AreDrawn d c.walk) (drawn_of d) pieces certs all in
     let canonical = zip_second (Sewn d) HasCanonicalText (λ p. λ c. λ sewn. sewn.canonical) pieces certs all in

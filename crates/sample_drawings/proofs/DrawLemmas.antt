@@ -48,9 +48,8 @@ pub junction_next : (number columns place state : ℕ) (p : Point) → columns �
 junction_next number columns place state p wide at is = rw (wide, at) at is ∙ junction_drawn number place
 
 -- and the kind that is drawn next
-pub kind_next : (number place state kind : ℕ)
-    → state ≡ state_after number (junction_draws number + place)
-    → kind ≡ next_state state % 4 → kind ≡ cell_kind number (place % cells_per_side number) (place / cells_per_side number)
+pub kind_next : (number place state kind : ℕ) → state ≡ state_after number (junction_draws number + place) → kind ≡ next_state state % 4
+    → kind ≡ cell_kind number (place % cells_per_side number) (place / cells_per_side number)
 kind_next number place state kind at is = rw at at is ∙ kind_drawn number place
 
 -- one place more

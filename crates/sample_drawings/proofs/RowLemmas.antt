@@ -45,9 +45,8 @@ few_made make most from (suc n) each =
     omega (arith, more, each from, few_made make most (from + 1) n each, suc-mul n most)
 
 -- so with columns and rows
-pub few_rows : {T : Type 0} (columns rows most wide high : ℕ) (make : ℕ → ℕ → List T)
-    → ((i j : ℕ) → length (make i j) ≤ most) → columns ≤ wide → rows ≤ high
-    → length (row_by_row columns rows make) ≤ high * (wide * most)
+pub few_rows : {T : Type 0} (columns rows most wide high : ℕ) (make : ℕ → ℕ → List T) → ((i j : ℕ) → length (make i j) ≤ most)
+    → columns ≤ wide → rows ≤ high → length (row_by_row columns rows make) ≤ high * (wide * most)
 few_rows columns rows most wide high make each narrow low =
     let made = few_made (λ j. flat_map (λ i. make i j) (range_with_len 0 columns)) (columns * most) 0 rows
     (λ j. few_made (λ i. make i j) most 0 columns (λ i. each i j)) in

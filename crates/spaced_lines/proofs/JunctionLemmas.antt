@@ -35,8 +35,7 @@ ends_put section block first last after old mid new in_block points is_last one 
 -- a spot is found after the ends of the next section were put in, or is an end of a later one
 pub junctions_go_on : (found new : Spot → Bool) (sections left rest : List LineValue) (section : LineValue)
     → ((q : Spot) → (found q || is_junction left q) ≡ is_junction sections q) → left ≡ section ∷ rest
-    → ((q : Spot) → new q ≡ (has_end_at_spot q section || found q)) → (q : Spot)
-    → (new q || is_junction rest q) ≡ is_junction sections q
+    → ((q : Spot) → new q ≡ (has_end_at_spot q section || found q)) → (q : Spot) → (new q || is_junction rest q) ≡ is_junction sections q
 junctions_go_on found new sections left rest section are is put q =
     ap (λ (b : Bool). b || is_junction rest q) (put q)
     ∙ (found_next (found q) (has_end_at_spot q section) (is_junction rest q)

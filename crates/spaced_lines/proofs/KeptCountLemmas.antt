@@ -44,8 +44,7 @@ abbrev points_along_lines : List LineValue → List Point
 points_along_lines lines = flat_map (λ (line : LineValue). line.points) lines
 
 listed_one : (t : Point → Bool) (line : LineValue) (others : List LineValue) (c : Bool)
-    → places t (points_along_lines (cond c (line ∷ others) others))
-    ≡ cond c (places t line.points) 0 + places t (points_along_lines others)
+    → places t (points_along_lines (cond c (line ∷ others) others)) ≡ cond c (places t line.points) 0 + places t (points_along_lines others)
 listed_one t line others true = places_append t line.points (points_along_lines others)
 listed_one t line others false = omega arith
 
@@ -53,8 +52,7 @@ where_fewer : (c : Bool) (m n : ℕ) → m ≤ n → cond c m 0 ≤ cond c n 0
 where_fewer c m n h1 = grind (arith, nat_tests)
 
 same_listed : (spots : Spot → Bool) (step block : ℕ) (t : Point → Bool) (lines : List LineValue)
-    → ((line : LineValue) → (line.block == block) ≡ true
-    → places t (spaced_line spots step line).points ≡ places t line.points)
+    → ((line : LineValue) → (line.block == block) ≡ true → places t (spaced_line spots step line).points ≡ places t line.points)
     → places t (listed_in (map (spaced_line spots step) lines) block) ≡ places t (listed_in lines block)
 same_listed spots step block t [] same = refl
 same_listed spots step block t (line ∷ rest) same =
@@ -82,8 +80,7 @@ fewer_listed spots step block t (line ∷ rest) =
     )
 
 -- a spot that stays is shared where it was
-pub shared_same : (spots : Spot → Bool) (step block : ℕ) (lines : List LineValue) (p : Point)
-    → is_spot_of spots block p ≡ true
+pub shared_same : (spots : Spot → Bool) (step block : ℕ) (lines : List LineValue) (p : Point) → is_spot_of spots block p ≡ true
     → is_shared_point (map (spaced_line spots step) lines) block p ≡ is_shared_point lines block p
 shared_same spots step block lines p stays =
     ap (λ (n : ℕ). nat_le 2 n)

@@ -61,8 +61,7 @@ same_ends_after cut again stays step =
     ∙ sym (ends_step cut a p (b ∷ rest))))
 
 -- The sections of a spaced line have the ends of those of the line.
-pub same_ends : (cut again stays : Point → Bool) (step : ℕ) (points : List Point)
-    → All (IsCutAlike cut again stays) (inner_points points)
+pub same_ends : (cut again stays : Point → Bool) (step : ℕ) (points : List Point) → All (IsCutAlike cut again stays) (inner_points points)
     → map (λ (s : List Point). endpoints s) (sections_of again (spaced_points stays step points))
     ≡ map (λ (s : List Point). endpoints s) (sections_of cut points)
 same_ends cut again stays step [] alike = refl

@@ -47,8 +47,7 @@ path_alike : (d e : DrawingValue) → map end_spots d.lines ≡ map end_spots e.
 path_alike d e same i [] j is = is
 path_alike d e same i (k ∷ rest) j (touch, later) = (touch_alike d e same i k touch, path_alike d e same k rest j later)
 
-connected_alike : (d e : DrawingValue) → map end_spots d.lines ≡ map end_spots e.lines → (i j : ℕ) → AreConnected d i j
-    → AreConnected e i j
+connected_alike : (d e : DrawingValue) → map end_spots d.lines ≡ map end_spots e.lines → (i j : ℕ) → AreConnected d i j → AreConnected e i j
 connected_alike d e same i j (chain, path) = (chain, path_alike d e same i chain j path)
 
 as_many : (xs ys : List LineValue) → map end_spots xs ≡ map end_spots ys → length xs ≡ length ys

@@ -10,8 +10,7 @@ use Rattle.spaced_lines.proofs.SpacingLemmas.{left_out_stitch, of_kept}
 one_step : (size step : ℕ) → 1 ≤ step → size ≤ step → div_ceil size step ≤ 1
 one_step size step low most = let t = div_ceil_times size step low in grind arith
 
-stitch_is_step : (step : ℕ) (a b : Point) (points : List Point) → 1 ≤ step → is_stitch_for step a b points ≡ true
-    → steps_of a b step ≤ 1
+stitch_is_step : (step : ℕ) (a b : Point) (points : List Point) → 1 ≤ step → is_stitch_for step a b points ≡ true → steps_of a b step ≤ 1
 stitch_is_step step a b points low is = one_step (distance_between a b) step low
     (leb-true (distance_between a b) step
     (first_true (nat_le (distance_between a b) step) (comes_near_all step a b points) (second_true (not (is_same_point a b)) _ is)))

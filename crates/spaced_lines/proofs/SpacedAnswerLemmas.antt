@@ -32,8 +32,7 @@ size_by block segments p q behind true size =
     record { points = omega (arith, after, size.points); some = omega arith }
 size_by block segments p q behind false size = first_size block segments p behind size
 
-size_from : (block : ℕ) (is_cut : Point → Bool) (p : Point) (rest : List Point)
-    → HasSize block (length rest) (sections_from is_cut p rest)
+size_from : (block : ℕ) (is_cut : Point → Bool) (p : Point) (rest : List Point) → HasSize block (length rest) (sections_from is_cut p rest)
 size_from block is_cut p [] = record { points = omega arith; some = omega arith }
 size_from block is_cut p (q ∷ rest) =
     size_by block (length rest) p q (sections_from is_cut q rest) (has_points rest && is_cut q) (size_from block is_cut q rest)
@@ -48,8 +47,7 @@ line_size block is_cut (p ∷ rest) some =
     omega (arith, size.points, as_many)
 
 all_size : (all lines : List LineValue) → All (λ line. 1 ≤ length line.points) lines
-    → point_count (flat_map (line_sections all) lines) + length lines
-    ≡ point_count lines + length (flat_map (line_sections all) lines)
+    → point_count (flat_map (line_sections all) lines) + length lines ≡ point_count lines + length (flat_map (line_sections all) lines)
 all_size all [] some = refl
 all_size all (line ∷ rest) some =
     let own : List LineValue = line_sections all line in
@@ -58,9 +56,7 @@ all_size all (line ∷ rest) some =
     (All-head (λ (l : LineValue). 1 ≤ length l.points) line rest some) in
     let more = all_size all rest (All-tail (λ (l : LineValue). 1 ≤ length l.points) line rest some) in
     let points_are = sum_by-append (λ (l : LineValue). length l.points) own others in
-    let lines_are = length-append own others in
-    let points_before = sum_by-cons (λ (l : LineValue). length l.points) line rest in
-    omega (arith, one, more, points_are, lines_are, points_before)
+    omega (arith, one, more, points_are, length-append own others, sum_by-cons (λ (l : LineValue). length l.points) line rest)
 
 -- a spot is among the ends of a line
 abbrev is_end_in : Spot → List Spot → Bool

@@ -17,15 +17,12 @@ fewer_points stays step (a ∷ p ∷ rest) = let most = fewer_after stays step a
 
 -- a sum of terms that are no more is no more
 sums_less : (weight : LineValue → ℕ) (change : LineValue → LineValue) (lines : List LineValue)
-    → All (λ line. weight (change line) ≤ weight line) lines
-    → sum_by weight (map change lines) ≤ sum_by weight lines
+    → All (λ line. weight (change line) ≤ weight line) lines → sum_by weight (map change lines) ≤ sum_by weight lines
 sums_less weight change [] less = omega arith
 sums_less weight change (line ∷ rest) less =
     let one = All-head (λ (l : LineValue). weight (change l) ≤ weight l) line rest less in
     let more = sums_less weight change rest (All-tail (λ (l : LineValue). weight (change l) ≤ weight l) line rest less) in
-    let after = sum_by-cons weight (change line) (map change rest) in
-    let before = sum_by-cons weight line rest in
-    omega (arith, one, more, after, before)
+    omega (arith, one, more, sum_by-cons weight (change line) (map change rest), sum_by-cons weight line rest)
 
 pub points_less : (step : ℕ) (lines : List LineValue) → All (λ line. 1 ≤ length line.points) lines
     → point_count (spaced_lines step lines) ≤ point_count lines

@@ -90,8 +90,7 @@ last_after stays step = of_kept stays step (λ a since p rest kept. (x : Point) 
     (λ a since p x. refl) (λ a since p b rest is left x. left x) (λ a since p b rest kept x. kept p)
 
 -- The ends of a line stay.
-pub ends_stay : (stays : Point → Bool) (step : ℕ) (points : List Point)
-    → endpoints (spaced_points stays step points) ≡ endpoints points
+pub ends_stay : (stays : Point → Bool) (step : ℕ) (points : List Point) → endpoints (spaced_points stays step points) ≡ endpoints points
 ends_stay stays step [] = refl
 ends_stay stays step (a ∷ []) = refl
 ends_stay stays step (a ∷ p ∷ rest) = ap (λ (l : Point). a ∷ l ∷ []) (last_after stays step a [] p rest a)

@@ -15,8 +15,7 @@ floor_negated zero n some = grind (arith, nat_tests, div-eq_of_lt {n = 0}, div-e
 floor_negated (suc m) n some = grind (arith, nat_tests, div-more m 1 n some, add-one (m / n))
 
 -- a product with a negative number, over n
-pub floor_down : (i n : ℕ) (z : ℤ) → 1 ≤ n → z <ℤ pos 0
-    → floor_quotient (pos i *ℤ z) n ≡ neg_ℤ (pos ((i * unsigned_abs z + (n - 1)) / n))
+pub floor_down : (i n : ℕ) (z : ℤ) → 1 ≤ n → z <ℤ pos 0 → floor_quotient (pos i *ℤ z) n ≡ neg_ℤ (pos ((i * unsigned_abs z + (n - 1)) / n))
 floor_down i n (pos d) some below = absurd (omega (arith, ints))
 floor_down i n (negsuc d) some below = floor_negated (i * suc d) n some
 
@@ -51,12 +50,10 @@ whole_last : (d n : ℕ) → 1 ≤ n → n * d / n ≡ d
 whole_last d n some = rw (whole (n * d) n) (part_last d 0 n some)
 
 -- two numbers above or below the same one lie as near as what is added or taken off
-between_up : (from : ℤ) (a b step : ℕ) → a ≤ b → b ≤ a + step
-    → unsigned_abs ((from +ℤ pos b) -ℤ (from +ℤ pos a)) ≤ step
+between_up : (from : ℤ) (a b step : ℕ) → a ≤ b → b ≤ a + step → unsigned_abs ((from +ℤ pos b) -ℤ (from +ℤ pos a)) ≤ step
 between_up from a b step low high = grind (arith, ints)
 
-between_down : (from : ℤ) (a b step : ℕ) → a ≤ b → b ≤ a + step
-    → unsigned_abs ((from -ℤ pos b) -ℤ (from -ℤ pos a)) ≤ step
+between_down : (from : ℤ) (a b step : ℕ) → a ≤ b → b ≤ a + step → unsigned_abs ((from -ℤ pos b) -ℤ (from -ℤ pos a)) ≤ step
 between_down from a b step low high = grind (arith, ints)
 
 apart_up : (from : ℤ) (a b : ℕ) → a + 1 ≤ b → (from +ℤ pos a) ≢ (from +ℤ pos b)

@@ -8,8 +8,7 @@ last_in_range p [] one all = one
 last_in_range p (q ∷ rest) one all = last_in_range q rest (All-head IsNeedlePoint q rest all) (All-tail IsNeedlePoint q rest all)
 
 -- numbers within a limit differ by at most twice the limit
-pub difference_few : (a b : ℤ) (limit : ℕ) → unsigned_abs a ≤ limit → unsigned_abs b ≤ limit
-    → unsigned_abs (b -ℤ a) ≤ limit + limit
+pub difference_few : (a b : ℤ) (limit : ℕ) → unsigned_abs a ≤ limit → unsigned_abs b ≤ limit → unsigned_abs (b -ℤ a) ≤ limit + limit
 difference_few a b limit from to = grind (arith, ints)
 
 -- the move between two needle points has a limited size

@@ -6,8 +6,7 @@ use Rattle.step_splitter.proofs.PointLemmas.{size_some}
 use Rattle.step_splitter.proofs.QuotientLemmas.{div_ceil_covers, div_ceil_few, div_ceil_some}
 
 -- where each value of a function lies close to the next, its values in a row keep close
-close_along : (f : ℕ → Point) (limit a n : ℕ)
-    → ((i : ℕ) → i < a + n → IsTrue (is_point_within limit (move_between (f i) (f (i + 1)))))
+close_along : (f : ℕ → Point) (limit a n : ℕ) → ((i : ℕ) → i < a + n → IsTrue (is_point_within limit (move_between (f i) (f (i + 1)))))
     → AreCloseAfter limit (f a) (map f (range_with_len (a + 1) n))
 close_along f limit a zero near = tt
 close_along f limit a (suc n) near = grind (arith, nat_tests, close_along f limit (a + 1) n (λ i h. near i (omega arith)))
@@ -24,8 +23,7 @@ last_along f a zero = ap f (omega arith)
 last_along f a (suc n) = last_along f (a + 1) n ∙ ap f (omega arith)
 
 -- what holds of each value holds of the values in a row
-all_along : (P : Point → Type 0) (f : ℕ → Point) (n : ℕ) → ((i : ℕ) → i ≤ n → P (f i))
-    → All P (map f (range_with_len 1 n))
+all_along : (P : Point → Type 0) (f : ℕ → Point) (n : ℕ) → ((i : ℕ) → i ≤ n → P (f i)) → All P (map f (range_with_len 1 n))
 all_along P f n each k d h = grind (arith, nat_tests, length-map-range_with_len f 1 n, get_or-map-range_with_len f 1 n k (k + 1) d)
 
 -- the way from p to q in that many steps
@@ -78,8 +76,7 @@ comes_close p q step sized low =
     )
 
 -- the split of a segment leads from its one end to the other
-pub leads : (p q : Point) (step : ℕ) → p ≢ q → IsNeedlePoint p → IsNeedlePoint q → 1 ≤ step
-    → LeadsBySteps p q step (split_points p q step)
+pub leads : (p q : Point) (step : ℕ) → p ≢ q → IsNeedlePoint p → IsNeedlePoint q → 1 ≤ step → LeadsBySteps p q step (split_points p q step)
 leads p q step differ from to low =
     let n : ℕ = steps_of p q step in
     let size : ℕ = move_size (move_between p q) in

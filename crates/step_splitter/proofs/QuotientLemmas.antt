@@ -29,8 +29,7 @@ pub next_part : (i d c : ℕ) → (i + 1) * d + c ≡ (i * d + c) + d
 next_part i d c = omega arith
 
 -- one part more adds at most the step
-pub part_rises_little : (i d c n step : ℕ) → 1 ≤ n → d ≤ n * step
-    → ((i + 1) * d + c) / n ≤ (i * d + c) / n + step
+pub part_rises_little : (i d c n step : ℕ) → 1 ≤ n → d ≤ n * step → ((i + 1) * d + c) / n ≤ (i * d + c) / n + step
 part_rises_little i d c n step some covers =
     rw (next_part i d c)
     (omega (

@@ -102,12 +102,10 @@ refused m limit a next old new loose place (Err (fault.TooMany number)) is fits 
 refused m limit a next old new loose place (Err fault.Memory) is fits adds = λ acts left g. tt
 
 -- the acts of the commands that are left begin with that of the next command, if it is one
-pub next_split : (m : RefitMode) (limit : ℕ) (acts : List NumberedAct) (out : List Command) (loose : Bool)
-    (place : Point) (commands : List Command) (i : ℕ) (walk walk_new : ActScanner) (next : Option NumberedAct)
-    → i < length commands
-    → ((rest : List Command) → acts_after walk (get_or commands i (command.Stitch origin) ∷ rest)
-    ≡ option_to_list next ++ acts_after walk_new rest)
-    → IsRefitState m limit acts out loose place (acts_after walk (drop i commands))
+pub next_split : (m : RefitMode) (limit : ℕ) (acts : List NumberedAct) (out : List Command) (loose : Bool) (place : Point)
+    (commands : List Command) (i : ℕ) (walk walk_new : ActScanner) (next : Option NumberedAct) → i < length commands
+    → ((rest : List Command) → acts_after walk (get_or commands i (command.Stitch origin) ∷ rest) ≡ option_to_list next
+    ++ acts_after walk_new rest) → IsRefitState m limit acts out loose place (acts_after walk (drop i commands))
     → IsRefitState m limit acts out loose place (option_to_list next ++ acts_after walk_new (drop (i + 1) commands))
 next_split m limit acts out loose place commands i walk walk_new next there gives g =
     grind (arith, nat_tests, add-one i, drop-cons commands i (command.Stitch origin) there)

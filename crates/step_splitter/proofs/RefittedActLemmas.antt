@@ -38,8 +38,7 @@ told_again n false (act.Trim ∷ rest) follows = grind (arith, nat_tests, told_a
 told_again n loose (act.Stop ∷ rest) follows = grind (arith, nat_tests, told_again (n + 1) true rest follows)
 
 -- after needle acts that are no floats the thread isn't loose
-follows_needles : (points : List Point) (rest : List Act) → Follows false rest
-    → Follows false (needles_at points ++ rest)
+follows_needles : (points : List Point) (rest : List Act) → Follows false rest → Follows false (needles_at points ++ rest)
 follows_needles [] rest follows = follows
 follows_needles (p ∷ points) rest follows = follows_needles points rest follows
 
