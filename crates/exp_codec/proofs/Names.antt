@@ -1,5 +1,5 @@
 -- Names from elsewhere that several files of these proofs use.
-pub use Rattle.std.proofs.lemmas.Bool.{and_from, and_parts, eq-eqb, le-ltb, leb-true, lt-ltb, ne_eqb}
+pub use Rattle.std.proofs.lemmas.Bool.Decides.{nat_tests}
 pub use Rattle.std.proofs.lemmas.List.{append-nil, length-drop, take_all}
 pub use Rattle.design_model.specs.Acts.{acts_of, numbered}
 pub use Rattle.design_model.specs.Designs.{DesignValue, KeepsLimits}

@@ -1,46 +1,33 @@
 -- What is written reads back.
-use Rattle.std.proofs.Common.{◌≡◌, ℕ, suc, ◌+◌, ◌-◌, ◌<◌, ◌≤◌, ◌≢◌, ℤ, pos, negsuc, neg_ℤ, unsigned_abs, nat_le, true, IsTrue, IsOkAnd, List, [], ◌∷◌, ◌++◌, None, refl, ap, sym, ◌∙◌, subst, arith}
+use Rattle.std.proofs.Common.{◌≡◌, ℕ, ◌+◌, ◌≤◌, ◌≢◌, ℤ, pos, negsuc, neg_ℤ, unsigned_abs, true, IsTrue, IsOkAnd, List, [], ◌∷◌, ◌++◌, None, refl, ap, sym, ◌∙◌, subst, arith}
 use Rattle.record_formats.specs.declared.event.Event.TheVariants as event
 use Rattle.format_traits.specs.Laws.{HasSameActs, IsCodec}
 use Rattle.record_formats.specs.RoundTrip.{EncodedEvents, DecodesEncoding, DecodeToActs, EncodedActsRoundTrip}
-use Rattle.exp_codec.proofs.UnitLemmas.{reads_units}
+use Rattle.exp_codec.proofs.UnitLemmas.{reads_units, two_at}
 use Rattle.design_model.proofs.CallerLemmas.{point_of_parts}
 use Rattle.lists_and_numbers.proofs.CallerLemmas.{neg-neg}
-use Rattle.std.proofs.lemmas.Bool.Decides.{nat_tests}
-use Rattle.exp_codec.proofs.Names.{le-ltb, ne_eqb, Point, DesignValue, is_point_within, origin, Loaded, loaded_with, next, LIMIT, exp_meaning, exp_move_of, units_from, exp_write_limits, exp_file_of, and_parts, leb-true, lt-ltb, append-nil, acts_of, KeepsLimits, first_refusal, signed_byte, byte_of_number, bytes_of_move, exp_encoding}
+use Rattle.exp_codec.proofs.Names.{nat_tests, Point, DesignValue, is_point_within, origin, Loaded, loaded_with, next, LIMIT, exp_meaning, exp_move_of, units_from, exp_write_limits, exp_file_of, append-nil, acts_of, KeepsLimits, first_refusal, signed_byte, byte_of_number, bytes_of_move, exp_encoding}
 
 -- a number is decoded as it was encoded, and no encoded number is 80
 signed_byte-byte_of_number : (z : ℤ) → unsigned_abs z ≤ LIMIT → (signed_byte (byte_of_number z) ≡ z) × (byte_of_number z ≢ 0x80)
-signed_byte-byte_of_number (pos n) small =
-    let low : n < 128 = omega (arith, small) in
-    (rw (lt-ltb n 128 low) refl, λ is. omega (arith, is, low))
-signed_byte-byte_of_number (negsuc n) small =
-    let high : 128 ≤ 255 - n = omega (arith, small) in
-    let back : 256 - (255 - n) ≡ suc n = omega (arith, small) in
-    (rw (le-ltb (255 - n) 128 high) (ap (λ k. neg_ℤ (pos k)) back), λ is. omega (arith, is, small))
+signed_byte-byte_of_number (pos n) small = grind (arith, nat_tests)
+signed_byte-byte_of_number (negsuc n) small = grind (arith, nat_tests)
 
 -- the bytes of a move have it, and the first of them is not 80
 exp_move_of-step : (m : Point) → IsTrue (is_point_within LIMIT m)
     → (exp_move_of (byte_of_number m.x) (byte_of_number (neg_ℤ m.y)) ≡ m) × (byte_of_number m.x ≢ 0x80)
 exp_move_of-step m near =
-    let parts = and_parts (nat_le (unsigned_abs m.x) LIMIT) (nat_le (unsigned_abs m.y) LIMIT) near in
-    let x = signed_byte-byte_of_number m.x (leb-true _ _ parts.0) in
-    let y = signed_byte-byte_of_number (neg_ℤ m.y) (grind (arith, nat_tests, (leb-true _ _ parts.1))) in
-    (point_of_parts x.0 (ap neg_ℤ y.0 ∙ neg-neg m.y), x.1)
+    let x = signed_byte-byte_of_number m.x in
+    let y = signed_byte-byte_of_number (neg_ℤ m.y) in
+    (point_of_parts (grind (arith, nat_tests, x)) (grind (arith, nat_tests, y, neg-neg)), grind (arith, nat_tests, x))
 
 -- a stitch and what stands after it
 stitch_reads : (at : ℕ) (m : Point) (rest : List ℕ) → IsTrue (is_point_within LIMIT m)
     → units_from at (bytes_of_move m ++ rest) ≡ next at (event.Stitch m) (units_from (at + 2) rest)
 stitch_reads at m rest near =
     let step = exp_move_of-step m near in
-    two_behind at (byte_of_number m.x) (byte_of_number (neg_ℤ m.y)) rest step.1
+    two_at at (byte_of_number m.x) (byte_of_number (neg_ℤ m.y)) rest step.1
     ∙ ap (λ m. next at (event.Stitch m) (units_from (at + 2) rest)) step.0
-  where
-    two_behind : (at a b : ℕ) (rest : List ℕ) → a ≢ 0x80
-        → units_from at (a ∷ b ∷ rest) ≡ next at (event.Stitch (exp_move_of a b)) (units_from (at + 2) rest)
-    two_behind at a b [] other = rw (ne_eqb a 0x80 other) refl
-    two_behind at a b (c ∷ []) other = rw (ne_eqb a 0x80 other) refl
-    two_behind at a b (c ∷ d ∷ rest) other = rw (ne_eqb a 0x80 other) refl
 
 -- what the units are taken for
 abbrev taken : EncodedEvents

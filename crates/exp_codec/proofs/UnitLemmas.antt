@@ -1,10 +1,11 @@
 -- The first unit of the bytes that are left.
-use Rattle.std.proofs.Common.{◌≡◌, ◌≢◌, ℕ, ◌+◌, ◌-◌, ◌≤◌, List, [], ◌∷◌, ◌++◌, length, get_or, take, drop, refl, sym, subst, arith}
-use Rattle.exp_codec.proofs.Names.{ne_eqb, le-ltb, length-drop, loaded_with, next, exp_reads, units_from, record_or_refusal, event_of_control, exp_move_of, eq-eqb, take_all, file_commands}
+use Rattle.std.proofs.Common.{◌≡◌, ◌≢◌, ℕ, ◌+◌, ◌-◌, ◌≤◌, List, [], ◌∷◌, ◌++◌, length, get_or, take, drop, refl, arith}
+use Rattle.std.proofs.lemmas.Bool.{ne_eqb}
+use Rattle.exp_codec.proofs.Names.{nat_tests, length-drop, loaded_with, next, exp_reads, units_from, record_or_refusal, event_of_control, exp_move_of, take_all, file_commands}
 use Rattle.record_formats.specs.declared.event.Event.TheVariants as event
 
 -- a unit of two bytes, whatever stands after it
-two_at : (at a b : ℕ) (behind : List ℕ) → a ≢ 0x80
+pub two_at : (at a b : ℕ) (behind : List ℕ) → a ≢ 0x80
     → units_from at (a ∷ b ∷ behind) ≡ next at (event.Stitch (exp_move_of a b)) (units_from (at + 2) behind)
 two_at at a b [] other = rw (ne_eqb a 0x80 other) refl
 two_at at a b (c ∷ []) other = rw (ne_eqb a 0x80 other) refl
@@ -13,8 +14,8 @@ two_at at a b (c ∷ d ∷ rest) other = rw (ne_eqb a 0x80 other) refl
 pub two_bytes : (at : ℕ) (bytes more : List ℕ) → 2 ≤ length bytes → get_or bytes 0 0 ≢ 0x80
     → units_from at (bytes ++ more)
     ≡ next at (event.Stitch (exp_move_of (get_or bytes 0 0) (get_or bytes 1 0))) (units_from (at + 2) (drop 2 bytes ++ more))
-two_bytes at [] more some other = absurd (let no : ⊥ = omega (arith, some) in no)
-two_bytes at (a ∷ []) more some other = absurd (let no : ⊥ = omega (arith, some) in no)
+two_bytes at [] more some other = absurd (omega (arith, some))
+two_bytes at (a ∷ []) more some other = absurd (omega (arith, some))
 two_bytes at (a ∷ b ∷ rest) more some other = two_at at a b (rest ++ more) other
 
 -- all bytes after the first two
@@ -27,20 +28,12 @@ pub four_bytes : (at : ℕ) (bytes behind more : List ℕ) → behind ≡ drop 2
     → units_from at (bytes ++ more) ≡ record_or_refusal at
     (event_of_control (get_or bytes 1 0) (exp_move_of (get_or behind 0 0) (get_or behind 1 0)))
     (units_from (at + 4) (drop 4 bytes ++ more))
-four_bytes at bytes behind more same some longer is =
-    subst (λ behind. units_from at (bytes ++ more) ≡ record_or_refusal at (event_of_control (get_or bytes 1 0)
-    (exp_move_of (get_or behind 0 0) (get_or behind 1 0))) (units_from (at + 4) (drop 4 bytes ++ more)))
-    (sym same) (by_bytes bytes some (subst (λ behind. 2 ≤ length behind) same longer) is)
-  where
-    by_bytes : (bytes : List ℕ) → 2 ≤ length bytes → 2 ≤ length (drop 2 bytes) → get_or bytes 0 0 ≡ 0x80
-        → units_from at (bytes ++ more) ≡ record_or_refusal at (event_of_control (get_or bytes 1 0)
-        (exp_move_of (get_or (drop 2 bytes) 0 0) (get_or (drop 2 bytes) 1 0))) (units_from (at + 4) (drop 4 bytes ++ more))
-    by_bytes [] some longer is = absurd (let no : ⊥ = omega (arith, some) in no)
-    by_bytes (a ∷ []) some longer is = absurd (let no : ⊥ = omega (arith, some) in no)
-    by_bytes (a ∷ b ∷ []) some longer is = absurd (let no : ⊥ = omega (arith, longer) in no)
-    by_bytes (a ∷ b ∷ c ∷ []) some longer is = absurd (let no : ⊥ = omega (arith, longer) in no)
-    by_bytes (a ∷ b ∷ c ∷ d ∷ rest) some longer is = rw (eq-eqb a 0x80 is) refl
+four_bytes at [] behind more same some longer is = absurd (omega (arith, some))
+four_bytes at (a ∷ []) behind more same some longer is = absurd (omega (arith, some))
+four_bytes at (a ∷ b ∷ []) behind more same some longer is = grind (arith, nat_tests)
+four_bytes at (a ∷ b ∷ c ∷ []) behind more same some longer is = grind (arith, nat_tests)
+four_bytes at (a ∷ b ∷ c ∷ d ∷ rest) behind more same some longer is = grind (arith, nat_tests)
 
 -- a file is its units
 pub reads_units : (bytes : List ℕ) → exp_reads bytes ≡ loaded_with [] [] (file_commands (units_from 0 bytes))
-reads_units bytes = rw (le-ltb (length bytes) 0 (let some : 0 ≤ length bytes = omega arith in some)) refl
+reads_units bytes = grind (arith, nat_tests)

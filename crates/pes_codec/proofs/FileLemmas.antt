@@ -1,22 +1,14 @@
 -- The results of the bytes of a file, up to its block and from there on.
 use Rattle.std.proofs.lemmas.Bool.Decides.{nat_tests}
-use Rattle.std.proofs.Common.{◌≡◌, ℕ, ◌+◌, ◌-◌, ◌<◌, ◌≤◌, Bool, true, false, List, [], ◌++◌, length, drop, nat_lt, Result, Ok, Err, IfOk, refl, ap, sym, ◌∙◌, arith, length-append}
+use Rattle.std.proofs.Common.{◌≡◌, ℕ, ◌+◌, ◌-◌, ◌<◌, ◌≤◌, true, List, [], ◌++◌, length, drop, Result, Ok, Err, IfOk, refl, sym, ◌∙◌, arith, length-append}
 use Rattle.std.proofs.Math.Seq.{drop-append-add}
 use Rattle.std.proofs.lemmas.List.{drop-append-le, drop-drop, drop_all, length-drop}
-use Rattle.pes_codec.proofs.Names.{le-ltb, ReadFault, layout_reads, pec_block_layout, lt-ltb, ltb-false, ltb-true, layout_decoded, layout_state, FrontLayout, after_skip, front_fault, from_front}
+use Rattle.pes_codec.proofs.Names.{ReadFault, layout_reads, pec_block_layout, layout_decoded, layout_state, FrontLayout, after_skip, front_fault, from_front}
 use Rattle.lists_and_numbers.specs.declared.memory.Memory.{Memory}
 use Rattle.format_traits.specs.declared.fault.ReadFault.TheVariants as fault
 use Rattle.format_traits.specs.DecoderStates.{IsSameDecoderState, DecodedSoFar, DecoderState, TakesBytes}
 use Rattle.pes_codec.specs.declared.file_stage.FileStage.TheVariants as stage
 use Rattle.pes_codec.specs.FileStates.{file_so_far_at, file_state_at, file_state_before_block, file_start_state}
-
--- fewer bytes than stand before the block
-test_on : (l m skip : ℕ) → l < skip → nat_lt (l + m) skip ≡ nat_lt m (skip - l)
-test_on l m skip less = by_test (nat_lt m (skip - l)) refl
-  where
-    by_test : (b : Bool) → nat_lt m (skip - l) ≡ b → nat_lt (l + m) skip ≡ nat_lt m (skip - l)
-    by_test true is = let below = ltb-true m (skip - l) is in lt-ltb (l + m) skip (omega (arith, below)) ∙ sym is
-    by_test false is = let above = ltb-false m (skip - l) is in le-ltb (l + m) skip (omega (arith, above, less)) ∙ sym is
 
 module _ {A : Type 0} (none : ReadFault → A) (block : ℕ → List ℕ → A) where
   -- the front is not whole
@@ -28,32 +20,22 @@ module _ {A : Type 0} (none : ReadFault → A) (block : ℕ → List ℕ → A) 
   known_front : (front_layout : FrontLayout) (at skip : ℕ) (bytes : List ℕ) → front_layout.known bytes ≡ true
       → front_layout.length ≤ length bytes → front_layout.block bytes ≡ skip
       → from_front none block front_layout at bytes ≡ after_skip none block skip at bytes
-  known_front front_layout at skip bytes known long is = rw (known, le-ltb (length bytes) front_layout.length long)
-      (ap (λ skip. after_skip none block skip at bytes) is)
+  known_front front_layout at skip bytes known long is = grind (arith, nat_tests)
 
   -- no byte before the block
   none_before : (at skip : ℕ) → 0 < skip → after_skip none block skip at [] ≡ none (fault.Short at)
-  none_before at skip some = rw (lt-ltb 0 skip some) (ap (λ n. none (fault.Short n)) (omega arith))
+  none_before at skip some = grind (arith, nat_tests)
 
   -- fewer bytes than are before the block
   before_on : (at skip : ℕ) (bytes more : List ℕ) → length bytes < skip
       → after_skip none block skip at (bytes ++ more) ≡ after_skip none block (skip - length bytes) (at + length bytes) more
   before_on at skip bytes more less =
-      let l = length bytes in
-      let both : length (bytes ++ more) ≡ l + length more = length-append bytes more in
-      let test : nat_lt (length (bytes ++ more)) skip ≡ nat_lt (length more) (skip - l) =
-      ap (λ n. nat_lt n skip) both ∙ test_on l (length more) skip less in
-      let end : at + length (bytes ++ more) ≡ (at + l) + length more = omega (arith, both) in
-      let parts : l + (skip - l) ≡ skip = omega (arith, less) in
-      let place : at + skip ≡ (at + l) + (skip - l) = omega (arith, less) in
-      let left : drop skip (bytes ++ more) ≡ drop (skip - l) more =
-      ap (λ n. drop n (bytes ++ more)) (sym parts) ∙ drop-append-add bytes more (skip - l) in
-      rw (test, end, place, left) refl
+      grind (arith, nat_tests, length-append, (drop-append-add bytes more (skip - length bytes)))
 
   -- all bytes before the block
   after_all : (at skip : ℕ) (bytes : List ℕ) → skip ≤ length bytes
       → after_skip none block skip at bytes ≡ block (at + skip) (drop skip bytes)
-  after_all at skip bytes there = rw (le-ltb (length bytes) skip there) refl
+  after_all at skip bytes there = grind (arith, nat_tests)
 
 pub front_short : (front_layout : FrontLayout) (block : DecoderState) (so_far : DecodedSoFar) (at told : ℕ) (bytes : List ℕ) (f : ReadFault)
     → length bytes < told → told ≡ front_layout.length → told < 528 → f ≡ front_fault front_layout at bytes
@@ -125,17 +107,14 @@ pub before_long : (front_layout : FrontLayout) (begun new : DecoderState) (so_fa
     → TakesBytes (file_state_before_block skip) (file_state_at front_layout new stage.Block) (file_so_far_at so_far stage.Block) at bytes
     (skip + size)
 before_long front_layout begun new so_far at skip size bytes back there of_back same takes =
-    let left : length back ≡ length bytes - skip = ap length of_back ∙ length-drop skip bytes in
-    let in_back = takes.there in
-    let few = takes.few in
     let far : at + (skip + size) ≡ (at + skip) + size = omega arith in
-    let gone : drop (skip + size) bytes ≡ drop size back = sym (ap (drop size) of_back ∙ drop-drop size skip bytes) in
+    let gone : drop (skip + size) bytes ≡ drop size back = grind (arith, nat_tests, drop-drop) in
     let longer : (more : List ℕ) → skip ≤ length (bytes ++ more) = λ more. omega (arith, there, length-append bytes more) in
     let behind : (more : List ℕ) → drop skip (bytes ++ more) ≡ back ++ more =
-    λ more. drop-append-le skip bytes more there ∙ ap (λ back. back ++ more) (sym of_back) in
+    λ more. grind (arith, nat_tests, drop-append-le) in
     record {
-      there = omega (arith, left, in_back, there);
-      few = omega (arith, left, few, there);
+      there = grind (arith, nat_tests, takes.there, length-drop);
+      few = grind (arith, nat_tests, takes.few, length-drop);
       on = record {
         rest = λ more. after_all Err (layout_reads pec_block_layout) at skip (bytes ++ more) (longer more)
             ∙ rw (behind more) (sym (same.rest (at + skip) (back ++ more)) ∙ rw (gone, far) (takes.on.rest more));

@@ -1,7 +1,8 @@
 -- Formats whose files are a front and a block.
 use Rattle.std.proofs.Common.{◌≡◌, ℕ, ◌≤◌, true, false, drop, IsTrue, nat_lt, List, ◌++◌, length, Result, Ok, Err, IfOk, IsOk, IsOkAnd, refl, ap, sym, subst, arith, length-append}
 use Rattle.std.specs.List.{list_all}
-use Rattle.pes_codec.proofs.Names.{le-ltb, DesignValue, WriteFault, layout_reads, Meaning, RestoresDesign, pec_block_layout, Pec, Pes, file_meaning, RoundTripsWithThreads, front_layout_of, front_of, is_point_within, KeepsBlockLaws, BlockRoundTrips, pec_block_moves, pec_block_reads, after_front}
+use Rattle.std.proofs.lemmas.Bool.{le-ltb}
+use Rattle.pes_codec.proofs.Names.{DesignValue, WriteFault, layout_reads, Meaning, RestoresDesign, pec_block_layout, Pec, Pes, file_meaning, RoundTripsWithThreads, front_layout_of, front_of, is_point_within, KeepsBlockLaws, BlockRoundTrips, pec_block_moves, pec_block_reads, after_front}
 use Rattle.format_traits.specs.Laws.{KeepsLaws, MovesWithin, RoundTrips}
 use Rattle.format_traits.specs.PlainDesigns.{IsPlain}
 use Rattle.pec_codec.specs.declared.block.TheConstants.{LIMIT}

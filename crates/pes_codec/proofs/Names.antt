@@ -1,5 +1,4 @@
 -- Names from elsewhere that several files of these proofs use.
-pub use Rattle.std.proofs.lemmas.Bool.{le-ltb, lt-ltb, ltb-false, ltb-true}
 pub use Rattle.design_model.specs.Designs.{DesignValue, KeepsLimits, thread_of}
 pub use Rattle.design_model.specs.Points.{is_point_within, origin}
 pub use Rattle.format_traits.specs.Meanings.{Meaning}
