@@ -1,10 +1,12 @@
 //! The commands of `stitch_drawing`: their arguments, their plans, what they print, and `run`.
 #![tactic(auto)]
 
+mod applied_edits;
 mod bad_edit;
 mod commands;
 mod drawing_edit_words;
 mod edit_failures;
+mod edited_files;
 mod editing;
 mod look_texts;
 mod looking;

@@ -2,7 +2,7 @@ use Rattle.std.proofs.Common.{◌≡◌, ◌+◌, true, drop, map, string_bytes}
 use Rattle.drawing_commands.proofs.Names.{HasOrderedEnds}
 use Rattle.drawing_model.specs.JoinedDrawings.{is_joined}
 use Rattle.drawing_commands.proofs.DrawingEditLemmas.{EditsGoOn}
-use Rattle.drawing_commands.proofs.editing.edited_on.Given as goal
+use Rattle.drawing_commands.proofs.applied_edits.edited_on.Given as goal
 
 -- The remaining edits lead on from the current drawing, which is joined, with its starts and ends in order.
 abbrev pub invariant-loop-word : goal.invariant-loop-word

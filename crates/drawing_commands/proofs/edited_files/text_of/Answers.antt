@@ -1,4 +1,4 @@
-use Rattle.drawing_commands.proofs.editing.text_of.Goals as goal
+use Rattle.drawing_commands.proofs.edited_files.text_of.Goals as goal
 
 pub returns-clause-value : goal.returns-clause-value
 returns-clause-value c = c.in_ok-text.ensures.value

@@ -1,7 +1,7 @@
 use Rattle.std.proofs.Common.{map, string_bytes, arith}
 use Rattle.drawing_commands.proofs.Names.{at_drop_more}
 use Rattle.drawing_commands.proofs.DrawingEditLemmas.{edits_go_on, edits_refused, next_parsed}
-use Rattle.drawing_commands.proofs.editing.edited_on.Goals as goal
+use Rattle.drawing_commands.proofs.applied_edits.edited_on.Goals as goal
 
 pub apply_word-requires-clause-edit : goal.apply_word-requires-clause-edit
 apply_word-requires-clause-edit c = rw (c.as_bytes.ensures.value, c.word-item.is) (next_parsed 2 _ _ _ _ _ _ _ c.loop-word.invariant.goes

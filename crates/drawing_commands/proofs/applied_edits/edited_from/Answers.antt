@@ -1,7 +1,7 @@
 use Rattle.std.proofs.Common.{map, string_bytes}
 use Rattle.drawing_commands.proofs.Names.{parsed_drawing_edit, parsed_drawing_edits, first_parsed, later_parsed}
 use Rattle.drawing_commands.proofs.DrawingEditLemmas.{edits_from, first_refused}
-use Rattle.drawing_commands.proofs.editing.edited_from.Goals as goal
+use Rattle.drawing_commands.proofs.applied_edits.edited_from.Goals as goal
 
 pub apply_word-requires-clause-edit : goal.apply_word-requires-clause-edit
 apply_word-requires-clause-edit c = first_parsed (parsed_drawing_edit c.args.first.now)

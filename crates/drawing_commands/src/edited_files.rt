@@ -1,0 +1,58 @@
+ghost use Rattle.std.specs.Prelude.{◌≡◌, Ok, IfOk, true};
+ghost use Rattle.drawing_commands.specs.DrawingEditing.{IsEdited};
+ghost use Rattle.drawing_model.specs.EndOrders.{HasOrderedEnds};
+ghost use Rattle.drawing_model.specs.JoinedDrawings.{is_joined};
+ghost use Rattle.drawing_text.specs.DrawingText.{drawing_of};
+ghost use Rattle.drawing_text.specs.EndTexts.{drawn_text};
+ghost use Rattle.outside_io.specs.Files.{IsFileName};
+ghost use Rattle.program_shell.specs.Plans.{accepts};
+ghost use Rattle.program_shell.specs.Products.{product_value};
+ghost use Rattle.program_shell.specs.StepOutcomes.{RunsPurePlan};
+
+use drawing_model::{Drawing, joined_drawings_stay};
+use drawing_text::print_drawn;
+use line_graph::pieces;
+use lists_and_numbers::{Bytes, Memory};
+use program_shell::{Made, Product, one_output};
+use program_texts::print_migration;
+use std::alloc::Global;
+
+/// Makes the file of an edited drawing, and the report on it.
+pub(crate) fn written<'a>(alloc: Global, output: &'a str, drawing: &Drawing) -> Made<'a>
+    requires output { IsFileName output.now }
+    requires joined { is_joined drawing.now ≡ true }
+    requires ordered { HasOrderedEnds drawing.now }
+    ensures { RunsPurePlan (accepts (IsEdited output.now drawing.now)) result }
+{
+    let product = edited_product(alloc, output, drawing)?;
+    Ok(product)
+}
+
+fn edited_product<'a>(
+    alloc: Global,
+    output: &'a str,
+    drawing: &Drawing,
+) -> Result<Product<'a>, Memory>
+    requires joined { is_joined drawing.now ≡ true }
+    requires ordered { HasOrderedEnds drawing.now }
+    ensures { IfOk result (λ product. IsEdited output.now drawing.now (product_value product)) }
+{
+    let pieces = pieces(alloc, drawing)?;
+    let report = print_migration(alloc, drawing, pieces.len())?;
+    let content = text_of(alloc, drawing)?;
+    let product = one_output(alloc, output, content, report)?;
+    Ok(product)
+}
+
+/// Returns the canonical text of a joined drawing, which is read as that drawing.
+fn text_of(alloc: Global, drawing: &Drawing) -> Result<Bytes, Memory>
+    requires joined { is_joined drawing.now ≡ true }
+    requires ordered { HasOrderedEnds drawing.now }
+    ensures value { IfOk result (λ text. text ≡ drawn_text drawing.now) }
+    ensures again { IfOk result (λ text. drawing_of (drawn_text drawing.now) ≡ Ok drawing.now) }
+{
+    drawing.keeps_limits();
+    joined_drawings_stay();
+    let text = print_drawn(alloc, drawing, drawing)?;
+    Ok(text)
+}
