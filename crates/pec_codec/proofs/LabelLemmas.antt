@@ -1,6 +1,6 @@
 -- The label and the threads of a block are read back.
-use Rattle.std.proofs.Common.{◌≡◌, ℕ, zero, suc, ◌+◌, ◌-◌, ◌<◌, ◌≤◌, ◌%◌, List, [], ◌∷◌, ◌++◌, length, map, take, drop, replicate, codes, Some, unwrap_or, slice_get, slice_index, ap, sym, ◌∙◌, arith, length-append}
-use Rattle.pec_codec.proofs.Names.{nat_tests, ne_eqb, append_assoc, drop_at, length-map-range_with_len, range_with_len, MAX_LABEL, acts_of, DesignValue, thread_of, extent_of, stops_of, LABELS_LENGTH, MAX_STOPS, distance_field, pec_label_of, labels_of, size_fields, threads_after, threads_in, threads_of, pec_block_of, pec_body_of, thumbnail_distance, thumbnails_of, length-padded_right, get_or_at, take_at, label_field, label_in}
+use Rattle.std.proofs.Common.{◌≡◌, ℕ, zero, suc, ◌+◌, ◌-◌, ◌<◌, ◌≤◌, ◌%◌, List, [], ◌∷◌, ◌++◌, length, map, take, replicate, codes, Some, unwrap_or, slice_get, ap, ◌∙◌, arith, length-append}
+use Rattle.pec_codec.proofs.Names.{nat_tests, append_assoc, drop_at, length-map-range_with_len, range_with_len, MAX_LABEL, acts_of, DesignValue, thread_of, extent_of, stops_of, LABELS_LENGTH, MAX_STOPS, distance_field, pec_label_of, labels_of, size_fields, threads_in, threads_of, pec_block_of, pec_body_of, thumbnail_distance, thumbnails_of, length-padded_right, get_or_at, take_at, label_field, label_in}
 
 -- the bytes between the label and the number of blocks
 abbrev between : List ℕ
@@ -39,16 +39,8 @@ pec_label_of-parts label rest is =
 threads_in-parts : (front threads rest : List ℕ) (stops : ℕ) → length front ≡ 48 → stops ≤ MAX_STOPS
     → length threads ≡ stops + 1 → threads_in (front ++ stops ∷ (threads ++ rest)) ≡ threads
 threads_in-parts front threads rest stops of_front few of_threads =
-    let number : slice_index (front ++ stops ∷ (threads ++ rest)) 48 ≡ stops =
-    get_or_at front stops (threads ++ rest) 0 48 of_front in
-    let long : length (front ++ stops ∷ []) ≡ 49 = omega (arith, length-append front (stops ∷ [])) in
-    let left : drop 49 (front ++ stops ∷ (threads ++ rest)) ≡ threads ++ rest =
-    ap (drop 49) (sym (append_assoc front (stops ∷ []) (threads ++ rest)))
-    ∙ drop_at (front ++ stops ∷ []) (threads ++ rest) 49 long in
-    let other : stops ≡ 255 → ⊥ = λ is. omega (arith, is, few) in
-    ap (λ n. threads_after n (drop 49 (front ++ stops ∷ (threads ++ rest)))) number
-    ∙ ap (threads_after stops) left
-    ∙ rw (ne_eqb stops 255 other) (take_at threads rest (stops + 1) of_threads)
+    let number = get_or_at front stops (threads ++ rest) 0 48 of_front in
+    grind (arith, nat_tests, append_assoc, length-append, number, (drop_at (front ++ stops ∷ []) (threads ++ rest) 49), take_at)
 
 length-label_field : (label : List ℕ) → length label ≤ MAX_LABEL → length (label_field label) ≡ MAX_LABEL
 length-label_field label short = length-padded_right MAX_LABEL label short

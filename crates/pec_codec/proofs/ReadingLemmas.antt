@@ -14,9 +14,8 @@ pub reads-long : (at : ℕ) (bytes : List ℕ) → at + HEADER_LENGTH ≤ length
     (file_commands (pec_block_records at bytes))
 reads-long at bytes there =
     let block = drop at bytes in
-    let left = length-drop at bytes in
     let begun : at ≤ length bytes = omega (arith, there) in
-    let long : HEADER_LENGTH ≤ length block = omega (arith, there, left) in
+    let long : HEADER_LENGTH ≤ length block = omega (arith, there, length-drop at bytes) in
     rw (le-ltb (length bytes) at begun, le-ltb (length block) HEADER_LENGTH long)
     (ap (λ rest. loaded_with (pec_label_of block) (threads_in block) (file_commands (pec_records (at + HEADER_LENGTH) rest)))
     (drop-drop HEADER_LENGTH at bytes))

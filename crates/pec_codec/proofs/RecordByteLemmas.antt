@@ -1,5 +1,5 @@
 -- Encoded coordinates are decoded as they were meant.
-use Rattle.std.proofs.Common.{◌≡◌, ℕ, ◌+◌, ◌-◌, ◌*◌, ◌/◌, ◌%◌, ◌<◌, ◌≤◌, ℤ, unsigned_abs, Bool, false, IsTrue, List, ◌∷◌, Some, ◌==◌, arith}
+use Rattle.std.proofs.Common.{◌≡◌, ℕ, ◌+◌, ◌*◌, ◌/◌, ◌%◌, ◌<◌, ◌≤◌, ℤ, unsigned_abs, Bool, false, IsTrue, List, ◌∷◌, Some, ◌==◌, arith}
 use Rattle.pec_codec.proofs.Names.{nat_tests, ints, LIMIT, Coordinate, leading_coordinate, is_short_number, to_twos_complement}
 
 pub unsigned_short : (z : ℤ) → to_twos_complement 64 z < 128

@@ -1,5 +1,5 @@
 -- The record that is cut, and those after it, are all records.
-use Rattle.std.proofs.Common.{◌≡◌, ℕ, zero, suc, ◌+◌, ◌-◌, ◌<◌, ◌≤◌, Bool, true, false, List, [], ◌∷◌, ◌++◌, length, drop, Option, Some, None, if◌then◌else◌, refl, ap, sym, ◌∙◌, arith, length-append}
+use Rattle.std.proofs.Common.{◌≡◌, ℕ, zero, suc, ◌+◌, ◌<◌, ◌≤◌, Bool, true, false, List, [], ◌∷◌, ◌++◌, length, drop, Option, Some, None, if◌then◌else◌, refl, ap, sym, ◌∙◌, arith, length-append}
 use Rattle.pec_codec.proofs.Names.{nat_tests, ints, drop-append-le, next, over, Coordinate, next_record_in, pec_records, false≢true, RecordFitsBytes, long_coordinate_in, coordinate_of_byte, with_next_record, length_after_first, records_after_skip}
 use Rattle.record_formats.specs.declared.event.Event.{Event}
 use Rattle.record_formats.specs.declared.record_reader.NextRecord.{NextRecord}

@@ -8,8 +8,7 @@ threads_told header more long small other =
     let number = get_or header 48 0 in
     let there : 48 < length header = omega (arith, long) in
     let write_limits : 49 ≤ length header = omega (arith, long) in
-    let left = length-drop 49 header in
-    let enough : number + 1 ≤ length (drop 49 header) = omega (arith, long, small, left) in
+    let enough : number + 1 ≤ length (drop 49 header) = omega (arith, long, small, length-drop 49 header) in
     let count : number + 1 ≡ 50 + number - 49 = omega arith in
     sym (ap (λ n. threads_after n (drop 49 (header ++ more))) (get_or_append_left header more 0 48 there)
     ∙ ap (λ b. if b then [] else take (number + 1) (drop 49 (header ++ more))) (ne_eqb number 255 other)

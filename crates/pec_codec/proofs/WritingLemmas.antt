@@ -1,5 +1,5 @@
 -- How long what is written is.
-use Rattle.std.proofs.Common.{◌≡◌, ℕ, zero, suc, ◌+◌, ◌*◌, ◌≤◌, Bool, true, false, List, [], ◌∷◌, ◌++◌, length, map, replicate, Ok, refl, ap, ◌∙◌, arith, length-append}
+use Rattle.std.proofs.Common.{◌≡◌, ℕ, zero, suc, ◌+◌, ◌*◌, ◌≤◌, Bool, true, false, List, [], ◌∷◌, ◌++◌, length, map, replicate, Ok, refl, arith, length-append}
 use Rattle.pec_codec.proofs.Names.{nat_tests, ints, append_assoc, concat, Command, Point, DesignValue, KeepsLimits, AcceptedIsWithinLimits, LIMIT, MAX_STOPS, THUMBNAIL_LENGTH, pec_jump_record, pec_stitch_record, pec_body_of, pec_write_limits, pec_encoding, replicate-append-replicate, MAX_COMMANDS, acts_along, move_between, encoder_state_after, AppendsRecords, needle_records, records_of_acts_from, records_of_act, AppendsBody, loose_room, stops_along}
 use Rattle.design_model.specs.declared.act.Act.{Act}
 use Rattle.design_model.specs.declared.act.Act.TheVariants as act
@@ -44,11 +44,7 @@ records_length before (a ∷ rest) =
 pub thumbnail_more : (start out more : List ℕ) (count : ℕ) → out ≡ start ++ replicate (THUMBNAIL_LENGTH * count) 0
     → more ≡ out ++ replicate THUMBNAIL_LENGTH 0 → more ≡ start ++ replicate (THUMBNAIL_LENGTH * (count + 1)) 0
 thumbnail_more start out more count of_out of_more =
-    let all : THUMBNAIL_LENGTH * count + THUMBNAIL_LENGTH ≡ THUMBNAIL_LENGTH * (count + 1) = omega arith in
-    of_more ∙ ap (λ bytes. bytes ++ replicate THUMBNAIL_LENGTH 0) of_out
-    ∙ append_assoc start (replicate (THUMBNAIL_LENGTH * count) 0) (replicate THUMBNAIL_LENGTH 0)
-    ∙ ap (λ bytes. start ++ bytes) (replicate-append-replicate {A = ℕ} (THUMBNAIL_LENGTH * count) THUMBNAIL_LENGTH 0)
-    ∙ ap (λ n. start ++ replicate n 0) all
+    grind (arith, nat_tests, append_assoc, (replicate-append-replicate {A = ℕ} (THUMBNAIL_LENGTH * count) THUMBNAIL_LENGTH 0))
 
 -- the records of all acts, and the end
 pub body_put : (d : DesignValue) (commands : List Command) (out middle new : List ℕ) (state : EncoderState)
