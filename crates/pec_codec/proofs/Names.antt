@@ -38,7 +38,6 @@ pub use Rattle.pec_codec.specs.Writing.{thumbnails_of}
 pub use Rattle.pec_codec.specs.declared.block.TheConstants.{HEADER_LENGTH, LABELS_LENGTH, LIMIT, MAX_STOPS, THUMBNAIL_LENGTH}
 pub use Rattle.pec_codec.specs.declared.coordinate.Coordinate.{Coordinate}
 pub use Rattle.record_formats.specs.Readings.{loaded_with}
-pub use Rattle.record_formats.specs.RecordEncodings.{AppendsRecords, needle_records, records_of_act, records_of_acts}
-pub use Rattle.record_formats.specs.RecordEncodings.{records_of_acts_from}
+pub use Rattle.record_formats.specs.RecordEncodings.{AppendsRecords, needle_records, records_of_act, records_of_acts, records_of_acts_from}
 pub use Rattle.record_formats.specs.Records.{file_commands, moves_of_records, next, over}
 pub use Rattle.record_formats.specs.RoundTrip.{DecodesEncoding, EncodedActsRoundTrip, EncodedEvents}
