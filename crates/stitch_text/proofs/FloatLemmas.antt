@@ -1,5 +1,5 @@
 -- Floats are never refused.
-use Rattle.std.proofs.Common.{◌≡◌, Bool, true, false, List, [], ◌∷◌, Option, None, Some, Err, nat_lt, refl, arith}
+use Rattle.std.proofs.Common.{◌≡◌, Bool, true, false, List, [], ◌∷◌, Option, Some, Err, nat_lt, refl, arith}
 use Rattle.stitch_text.proofs.Names.{nat_tests, ints, NumberedAct, MAX_COMMANDS, acts_of, WriteFault, EncoderState, initial_encoder_state, first_refusal, refusal_before_room, refusal_of_act, first_refusal_from, refusal_if, encoder_state_after, unless_refused, LIMIT, NoFloatIsTooLong, list_of, list_write_limits, or_else}
 use Rattle.format_traits.specs.declared.fault.WriteFault.TheVariants as fault
 
@@ -26,9 +26,4 @@ pub no_float_is_too_long : NoFloatIsTooLong
 no_float_is_too_long d number is = by_refusal (first_refusal list_write_limits (acts_of d)) (all_other (acts_of d) initial_encoder_state) is
   where
     by_refusal : (r : Option WriteFault) → is_other r ≡ true → unless_refused r (list_of d) ≡ Err (fault.FloatTooLong number) → ⊥
-    by_refusal None other is = cc
-    by_refusal (Some (fault.StitchTooLong n)) other is = cc
-    by_refusal (Some (fault.FloatTooLong n)) other is = cc
-    by_refusal (Some (fault.TooManyStops n)) other is = cc
-    by_refusal (Some (fault.TooLong n)) other is = cc
-    by_refusal (Some fault.Memory) other is = cc
+    by_refusal r other is = grind (arith, nat_tests)

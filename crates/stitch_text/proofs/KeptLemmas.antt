@@ -14,26 +14,15 @@ told_at thread (a ∷ rest) stops k there =
       by_act : ((stops k : ℕ) → k < stops_of rest → slice_get (threads_along thread stops rest) k ≡ Some (thread (stops + 1 + k) % 256))
           → (b : Act) (k : ℕ) → k < stops_in b + stops_of rest
           → slice_get (threads_in thread stops b ++ threads_along thread (stops + stops_in b) rest) k ≡ Some (thread (stops + 1 + k) % 256)
-      by_act again (act.Needle p float) k there =
-          let same : stops + 0 ≡ stops = omega arith in
-          subst (λ s. slice_get (threads_along thread s rest) k ≡ Some (thread (stops + 1 + k) % 256)) (sym same)
-          (again stops k (omega (arith, there)))
-      by_act again act.Trim k there =
-          let same : stops + 0 ≡ stops = omega arith in
-          subst (λ s. slice_get (threads_along thread s rest) k ≡ Some (thread (stops + 1 + k) % 256)) (sym same)
-          (again stops k (omega (arith, there)))
-      by_act again act.Stop zero there =
-          let same : stops + 1 ≡ stops + 1 + 0 = omega arith in ap (λ n. Some (thread n % 256)) same
-      by_act again act.Stop (suc k) there =
-          let same : stops + 1 + 1 + k ≡ stops + 1 + suc k = omega arith in
-          again (stops + 1) k (omega (arith, there)) ∙ ap (λ n. Some (thread n % 256)) same
+      by_act again (act.Needle p float) k there = grind (arith, nat_tests, (again stops k))
+      by_act again act.Trim k there = grind (arith, nat_tests, (again stops k))
+      by_act again act.Stop zero there = grind (arith, nat_tests)
+      by_act again act.Stop (suc k) there = grind (arith, nat_tests, (again (stops + 1) k))
 
 told_of : (d : DesignValue) (block : ℕ) → block ≤ stops_of (acts_of d)
     → slice_get (threads_told d) block ≡ Some (thread_of d block % 256)
 told_of d zero there = refl
-told_of d (suc k) there =
-    let same : 0 + 1 + k ≡ suc k = omega arith in
-    told_at (thread_of d) (acts_of d) 0 k (omega (arith, there)) ∙ ap (λ n. Some (thread_of d n % 256)) same
+told_of d (suc k) there = grind (arith, nat_tests, (told_at (thread_of d) (acts_of d) 0 k))
 
 -- a thread that is a byte
 byte_of : (threads : List ℕ) (block other : ℕ) → All (λ thread. thread < 256) threads → other < 256

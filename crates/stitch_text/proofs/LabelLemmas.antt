@@ -1,13 +1,12 @@
 -- Labels, and the lines that have them.
-use Rattle.std.proofs.Common.{◌≡◌, ℕ, ◌+◌, ◌-◌, ◌<◌, ◌&&◌, Bool, true, false, not, nat_le, List, [], ◌∷◌, ◌++◌, None, Some, length, length-append, get_or, slice_get, take, if◌then◌else◌, ap, sym, refl, ◌∙◌, arith}
+use Rattle.std.proofs.Common.{◌≡◌, ℕ, ◌-◌, ◌<◌, ◌&&◌, Bool, true, false, not, nat_le, List, [], ◌∷◌, ◌++◌, None, Some, length, length-append, get_or, slice_get, take, if◌then◌else◌, ap, sym, refl, ◌∙◌, arith}
 use Rattle.std.proofs.Math.Seq.{take-append_seam}
 use Rattle.stitch_text.proofs.Names.{and_from, and_parts, not-true, nat_tests, AllPass-from_list_all, same_Some, bytes_eq-Decides, list_all, IsLabel, parsed_label, label_line, has_trailing_space, is_valid_label, is_printable, list_all-from_AllPass, get_or_from_slice_get, slice_get-get_or, in_brackets, false_true}
 
 -- what stands between the brackets of a label's line is the label
 between : (label : List ℕ) → in_brackets (label_line label) ≡ label
 between label =
-    let size : length (label ++ 93 ∷ []) ≡ length label + 1 = length-append label (93 ∷ []) in
-    let count : length (label_line label) - 8 ≡ length label = omega (arith, size) in
+    let count : length (label_line label) - 8 ≡ length label = omega (arith, length-append label (93 ∷ [])) in
     ap (λ n. take n (label ++ 93 ∷ [])) count ∙ take-append_seam label (93 ∷ [])
 
 -- the line of a label is judged by the label

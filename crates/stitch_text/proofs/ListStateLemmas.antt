@@ -1,5 +1,5 @@
 -- The results of the bytes of a list that are taken line by line.
-use Rattle.std.proofs.Common.{◌≡◌, ◌≢◌, ℕ, ◌+◌, ◌-◌, List, [], ◌∷◌, ◌++◌, length, drop, refl, ap, sym, ◌∙◌, arith}
+use Rattle.std.proofs.Common.{◌≡◌, ◌≢◌, ℕ, ◌+◌, List, [], ◌∷◌, ◌++◌, length, drop, refl, ap, sym, ◌∙◌, arith}
 use Rattle.stitch_text.proofs.Names.{nat_tests, drop-drop, ContinuesAs, ListDraft, ListStage, parsed_parts, list_state_at, ParsedList, loaded_of_parsed, parts_between, some_part, length-drop, DecodedSoFar, DecoderState, TakesBytes, TakesLine, TakesLines}
 use Rattle.stitch_text.proofs.PartLemmas.{parts_on}
 

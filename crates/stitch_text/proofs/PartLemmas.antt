@@ -1,5 +1,5 @@
 -- The parts of bytes between marks, taken one after another.
-use Rattle.std.proofs.Common.{◌≡◌, ℕ, List, [], ◌∷◌, ◌++◌, ap, ◌∙◌, arith}
+use Rattle.std.proofs.Common.{◌≡◌, ℕ, List, [], ◌∷◌, ◌++◌, arith}
 use Rattle.stitch_text.proofs.Names.{nat_tests, parts_between, some_part}
 
 -- the last part goes on
@@ -21,4 +21,4 @@ parts_on mark (b ∷ bytes) more = grind (arith, nat_tests, some_part, (parts_on
 -- a part that hasn't ended goes on
 pub open_part : (mark : ℕ) (part more : List ℕ) → parts_between mark part ≡ part ∷ []
     → parts_between mark (part ++ more) ≡ onto_part part (parts_between mark more)
-open_part mark part more is = parts_on mark part more ∙ ap (λ parts. onto_last parts (parts_between mark more)) is
+open_part mark part more is = grind (arith, nat_tests, (parts_on mark part more))

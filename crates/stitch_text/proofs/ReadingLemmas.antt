@@ -1,40 +1,24 @@
 -- The lines of a text, judged one after another.
-use Rattle.std.proofs.Common.{◌≡◌, ◌≢◌, ℕ, ◌+◌, List, [], ◌∷◌, Option, Bool, false, Result, bytes_eq, codes, length, if◌then◌else◌, ap, sym, ◌∙◌, arith}
+use Rattle.std.proofs.Common.{◌≡◌, ◌≢◌, ℕ, ◌+◌, List, [], ◌∷◌, Option, Bool, false, Result, bytes_eq, codes, length, arith}
 use Rattle.stitch_text.proofs.Names.{nat_tests, ints, DesignValue, ReadFault, ListDraft, ListLine, parsed_label, parsed_list_line, parsed_list_words, draft_after_line, ParsedList, parsed_acts, parsed_from_block, after_block_line, after_label_line, after_signature_line, ended_list, continued_with, is_end_line, parsed_from_label, with_next_line, parsed_end_or_line, parsed_thread, signature_line, parts_between, words_in, some_part, parsed_from_signature}
 
 -- a line that has an end
-next_of_more : (at : ℕ) (d : DesignValue) (line : List ℕ) (rest : List (List ℕ)) (f : List ℕ → List (List ℕ) → ParsedList)
-    → rest ≢ [] → with_next_line at d (line ∷ rest) f ≡ f line rest
-next_of_more at d line rest f h1 = grind (arith, nat_tests, ints)
-
 pub next_is : (at : ℕ) (d : DesignValue) (text line after : List ℕ) (f : List ℕ → List (List ℕ) → ParsedList)
     → parts_between 10 text ≡ line ∷ parts_between 10 after
     → with_next_line at d (parts_between 10 text) f ≡ f line (parts_between 10 after)
-next_is at d text line after f are =
-    ap (λ parts. with_next_line at d parts f) are ∙ next_of_more at d line (parts_between 10 after) f (some_part 10 after)
+next_is at d text line after f are = grind (arith, nat_tests, some_part)
 
--- the same of a line of acts
-acts_of_more : (at : ℕ) (draft : ListDraft) (line : List ℕ) (rest : List (List ℕ)) → rest ≢ []
-    → parsed_acts at draft (line ∷ rest)
-    ≡ parsed_end_or_line at draft (parsed_list_line line) (ended_list (at + length line + 1) draft.design rest)
-    (λ new. parsed_acts (at + length line + 1) new rest)
-acts_of_more at draft line rest h1 = grind (arith, nat_tests, ints)
-
+-- a line of acts that has an end
 pub acts_are : (at : ℕ) (draft : ListDraft) (text line after : List ℕ) → parts_between 10 text ≡ line ∷ parts_between 10 after
     → parsed_acts at draft (parts_between 10 text)
     ≡ parsed_end_or_line at draft (parsed_list_line line) (ended_list (at + length line + 1) draft.design (parts_between 10 after))
     (λ new. parsed_acts (at + length line + 1) new (parts_between 10 after))
-acts_are at draft text line after are =
-    ap (parsed_acts at draft) are ∙ acts_of_more at draft line (parts_between 10 after) (some_part 10 after)
+acts_are at draft text line after are = grind (arith, nat_tests, some_part)
 
 -- four words and more are no line
-four_words : (word x y : List ℕ) (words : List (List ℕ)) → words ≢ [] → parsed_list_words (word ∷ x ∷ y ∷ words) ≡ parsed_list_words []
-four_words word x y words h1 = grind (arith, nat_tests, ints)
-
 pub many_words : (word x behind y rest : List ℕ) → words_in behind ≡ y ∷ words_in rest
     → parsed_list_words (word ∷ x ∷ words_in behind) ≡ parsed_list_words []
-many_words word x behind y rest are =
-    ap (λ words. parsed_list_words (word ∷ x ∷ words)) are ∙ four_words word x y (words_in rest) (some_part 32 rest)
+many_words word x behind y rest are = grind (arith, nat_tests, some_part)
 
 -- another word before two or more is no line
 pub other_word : (word x : List ℕ) (words : List (List ℕ)) → words ≢ [] → bytes_eq word (codes "needle") ≡ false
@@ -49,12 +33,7 @@ pub acts_judged : (at : ℕ) (draft : ListDraft) (text line after : List ℕ) (p
     → is_end_line parsed ≡ false → draft_after_line at draft parsed ≡ judgement
     → continued_with draft judgement (λ new. parsed_acts (at + length line + 1) new (parts_between 10 after)) ≡ total
 acts_judged at draft text line after parsed judgement total whole are is other so =
-    let more = λ (new : ListDraft). parsed_acts (at + length line + 1) new (parts_between 10 after) in
-    let over = ended_list (at + length line + 1) draft.design (parts_between 10 after) in
-    sym (acts_are at draft text line after are
-    ∙ ap (λ parsed. parsed_end_or_line at draft parsed over more) (sym is)
-    ∙ ap (λ (b : Bool). if b then over else continued_with draft (draft_after_line at draft parsed) more) other
-    ∙ ap (λ j. continued_with draft j more) so) ∙ whole
+    grind (arith, nat_tests, (acts_are at draft text line after are))
 
 -- the first block
 pub block_is : (at : ℕ) (d : DesignValue) (text line after : List ℕ) (thread : Option ℕ)

@@ -1,6 +1,6 @@
 -- The parsed list from a stage on, where the first line is incomplete.
-use Rattle.std.proofs.Common.{◌≡◌, ◌≢◌, ℕ, ◌+◌, ◌<◌, Bool, List, [], ◌∷◌, ◌++◌, Option, None, Some, bytes_eq, length, length-append, if◌then◌else◌, refl, ap, arith}
-use Rattle.stitch_text.proofs.Names.{nat_tests, bytes_eq-Decides, ListDraft, ListStage, parsed_label, parsed_list_line, parsed_list_words, stage_after_long_line, max_waiting_in, parsed_parts, ended_list, refused_list, words_in, lt-ltb}
+use Rattle.std.proofs.Common.{◌≡◌, ◌≢◌, ℕ, ◌+◌, ◌<◌, List, [], ◌∷◌, ◌++◌, Option, None, Some, length, length-append, refl, ap, arith}
+use Rattle.stitch_text.proofs.Names.{nat_tests, bytes_eq-Decides, ListDraft, ListStage, parsed_label, parsed_list_line, stage_after_long_line, max_waiting_in, parsed_parts, ended_list, refused_list}
 use Rattle.format_traits.specs.declared.fault.ReadFault.TheVariants as read
 use Rattle.stitch_text.specs.declared.list_stage.ListStage.TheVariants as stage
 use Rattle.stitch_text.proofs.LabelLemmas.{label_from, label_is}
@@ -13,12 +13,10 @@ long_label line long = by_label_said (parsed_label line) refl where
   by_label_said (Some label) is =
       let has = label_is line label is in
       let few = (label_from label has.good).short in
-      let size : length (label ++ 93 ∷ []) ≡ length label + 1 = length-append label (93 ∷ []) in
-      let same = ap length has.is in
-      absurd (omega (arith, size, same, few, long))
+      absurd (omega (arith, length-append label (93 ∷ []), ap length has.is, few, long))
 
 long_line : (line : List ℕ) → 32 < length line → parsed_list_line line ≡ None
-long_line line long = ap (λ (b : Bool). if b then None else parsed_list_words (words_in line)) (lt-ltb 32 (length line) long)
+long_line line long = grind (arith, nat_tests)
 
 -- a line that is too long to be right, with what may end it
 pub goes_beyond : (draft : ListDraft) (stage : ListStage) (at : ℕ) (part : List ℕ) (parts : List (List ℕ))
