@@ -96,13 +96,9 @@ fn edit_request(words: &[String]) -> Option<Request<'_>>
 fn are_edits(words: &[String]) -> bool
     ensures { result ≡ is_some (parsed_edits (map (λ word. string_bytes word) words.now)) }
 {
-    for word in words {
-        match parse_edit(word.as_bytes()) {
-            Some(_) => {}
-            None => return false,
-        }
-    }
-    true
+    words
+        .iter()
+        .all(|word| parse_edit(word.as_bytes()).is_some())
 }
 
 fn hoop_request(words: &[String]) -> Option<Request<'_>>

@@ -1,7 +1,7 @@
 -- Names from elsewhere that several files of these proofs use.
 pub use Rattle.std.proofs.lemmas.List.{at_drop_more, length-map}
 pub use Rattle.std.specs.Prelude.{is_some, option_map, unwrap_or}
-pub use Rattle.command_words.proofs.CallerLemmas.{first_parsed, later_parsed, parsed_before}
+pub use Rattle.command_words.proofs.CallerLemmas.{all_are_parsed, first_parsed, later_parsed}
 pub use Rattle.command_words.specs.Arguments.{with_first_edit}
 pub use Rattle.drawing_commands.specs.Commands.{drawing_outputs_of, drawing_plan_of, stitch_drawing}
 pub use Rattle.drawing_commands.specs.DrawingEditWords.{drawing_edits_of, parsed_drawing_edit, parsed_drawing_edits}

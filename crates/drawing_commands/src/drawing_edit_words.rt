@@ -73,11 +73,7 @@ fn moving(edit: Edit) -> Option<DrawingEdit>
 pub(crate) fn are_drawing_edits(words: &[String]) -> bool
     ensures { result ≡ is_some (parsed_drawing_edits (map (λ word. string_bytes word) words.now)) }
 {
-    for word in words {
-        match parse_drawing_edit(word.as_bytes()) {
-            Some(_) => {}
-            None => return false,
-        }
-    }
-    true
+    words
+        .iter()
+        .all(|word| parse_drawing_edit(word.as_bytes()).is_some())
 }

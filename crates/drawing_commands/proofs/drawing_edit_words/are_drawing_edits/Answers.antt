@@ -1,8 +1,12 @@
-use Rattle.std.proofs.Common.{map, string_bytes, sym, ◌∙◌}
-use Rattle.drawing_commands.proofs.Names.{at_drop_more, is_some, parsed_drawing_edits, parsed_before}
+use Rattle.std.proofs.Common.{◌∙◌, rules, string_bytes}
+use Rattle.std.proofs.lemmas.Iterator.{YieldsList-from_slice}
+use Rattle.std.proofs.lemmas.Iterator.Search.{all_from_yields_List}
+use borrow.Author.Tests.{tests}
+use Rattle.drawing_commands.proofs.Names.{all_are_parsed, is_some, parsed_drawing_edit}
 use Rattle.drawing_commands.proofs.drawing_edit_words.are_drawing_edits.Goals as goal
 
-pub loop-word-preserved : goal.loop-word-preserved
-loop-word-preserved c = parsed_before _ _ _ (rw (c.as_bytes.ensures.value, c.word-item.is) at c.in-Some.ensures.value)
-    ∙ (sym (at_drop_more (λ words. is_some (parsed_drawing_edits (map (λ word. string_bytes word) words))) c.args.words.now
-    c.loop-word.word-index _ c.loop-word-test.true) ∙ c.loop-word.invariant)
+pub returns : goal.returns
+returns c =
+    all_from_yields_List (λ word. is_some (parsed_drawing_edit (string_bytes word))) _ _ _ c.all.ensures.ran
+    (YieldsList-from_slice c.args.words.now cc) (λ word b q k. search (rules, tests))
+    ∙ all_are_parsed parsed_drawing_edit _ c.args.words.now
