@@ -1,6 +1,6 @@
 -- The bands on a line show its load, and what is drawn of a cut.
-use Rattle.std.proofs.Common.{◌≡◌, ◌≤◌, ℕ, ◌+◌, ◌-◌, ◌*◌, Bool, true, false, if◌then◌else◌, List, [], ◌∷◌, ◌++◌, drop, length, map, reverse, sum_by, arith, refl, sym, ap, ◌∙◌}
-use Rattle.drawing_picture.proofs.Names.{sum_by-cons, filter, flat_map, Point, band_length, Band, bands_from, half_steps_from, band_text, bands_of_lines, bands_of_pieces, Piece, DrawingValue, graph_of, PieceCert, Cut, nat_tests, append_assoc, length-drop, length-reverse, length-take-le, BandsShowLoads, band_along, half_steps_of_line, middle_between, line_bands, crosses, has_member, load_on}
+use Rattle.std.proofs.Common.{◌≡◌, ◌≤◌, ℕ, ◌+◌, ◌*◌, Bool, true, false, if◌then◌else◌, List, [], ◌∷◌, ◌++◌, drop, length, map, reverse, sum_by, arith, refl, ap, ◌∙◌}
+use Rattle.drawing_picture.proofs.Names.{sum_by-cons, filter, flat_map, Point, band_length, Band, bands_from, half_steps_from, band_text, DrawingValue, Cut, nat_tests, append_assoc, length-drop, length-reverse, length-take-le, BandsShowLoads, band_along, half_steps_of_line, crosses, has_member, load_on}
 use Rattle.drawing_picture.specs.Bands.{half_steps}
 use Rattle.line_graph.specs.declared.edge.Edge.{Edge}
 use Rattle.drawing_model.specs.LineNeedles.{NeedlesLeadAlong, cost_of_line, needles_of_line}
@@ -117,37 +117,6 @@ adds_band : (text text' : List ℕ) (band : Band) (bands : List Band) → text' 
     → text' ++ flat_map band_text bands ≡ text ++ flat_map band_text (band ∷ bands)
 adds_band text text' band bands is =
     ap (λ t. t ++ flat_map band_text bands) is ∙ append_assoc text (band_text band) (flat_map band_text bands)
-
--- two more half steps, and those of the needle points that are left
-pub half_steps_next : (points points' : List Point) (p q m n : Point) (left rest all : List Point) → left ≡ q ∷ rest
-    → points' ≡ (points ++ m ∷ []) ++ n ∷ [] → m ≡ middle_between p p → n ≡ middle_between p q → points ++ half_steps_from p left ≡ all
-    → points' ++ half_steps_from q rest ≡ all
-half_steps_next points points' p q m n left rest all is more first second before =
-    ap (λ (ps : List Point). ps ++ half_steps_from q rest) more
-    ∙ append_assoc (points ++ m ∷ []) (n ∷ []) (half_steps_from q rest)
-    ∙ append_assoc points (m ∷ []) (n ∷ half_steps_from q rest)
-    ∙ ap (λ (a : Point). points ++ a ∷ n ∷ half_steps_from q rest) first
-    ∙ ap (λ (a : Point). points ++ middle_between p p ∷ a ∷ half_steps_from q rest) second
-    ∙ ap (λ (ps : List Point). points ++ half_steps_from p ps) (sym is) ∙ before
-
--- one more line
-pub bands_next : (d : DrawingValue) (cuts : List Cut) (text text' whole : List ℕ) (line : ℕ) (lines lines' : List ℕ) (e : Edge)
-    (edges edges' : List Edge) → lines ≡ line ∷ lines' → edges ≡ e ∷ edges' → text' ≡ text ++ line_bands d cuts line e
-    → text ++ bands_of_lines d cuts lines edges ≡ whole → text' ++ bands_of_lines d cuts lines' edges' ≡ whole
-bands_next d cuts text text' whole line lines lines' e edges edges' is are added before =
-    ap (λ t. t ++ bands_of_lines d cuts lines' edges') added
-    ∙ append_assoc text (line_bands d cuts line e) (bands_of_lines d cuts lines' edges')
-    ∙ (rw (is, are) at before)
-
--- one more piece
-pub pieces_next : (d : DrawingValue) (text text' whole : List ℕ) (p : Piece) (pieces pieces' : List Piece) (cert : PieceCert)
-    (certs certs' : List PieceCert) → pieces ≡ p ∷ pieces' → certs ≡ cert ∷ certs'
-    → text' ≡ text ++ bands_of_lines d cert.cuts p.lines p.edges
-    → text ++ bands_of_pieces d (map graph_of pieces) certs ≡ whole → text' ++ bands_of_pieces d (map graph_of pieces') certs' ≡ whole
-pieces_next d text text' whole p pieces pieces' cert certs certs' is are added before =
-    ap (λ t. t ++ bands_of_pieces d (map graph_of pieces') certs') added
-    ∙ append_assoc text (bands_of_lines d cert.cuts p.lines p.edges) (bands_of_pieces d (map graph_of pieces') certs')
-    ∙ (rw (is, are) at before)
 
 -- the band of a cut that holds the first end alone, the last end alone, both or neither
 module _ (text : List ℕ) (number : ℕ) (cut : Cut) (e : Edge) (ahead back : List Point) where

@@ -1,4 +1,5 @@
 pub mod Names
+mod ZipLemmas
 mod BandFacts
 mod BandLemmas
 mod CertificateLemmas

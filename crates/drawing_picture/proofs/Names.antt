@@ -3,13 +3,16 @@ pub use Rattle.std.proofs.lemmas.Bool.Decides.{nat_tests}
 pub use Rattle.std.proofs.lemmas.List.{append_assoc, length-drop, length-map, length-reverse, length-take-le}
 pub use Rattle.std.proofs.lemmas.List.Elements.{All-cons, All-contains, All-head, All-nil, All-tail}
 pub use Rattle.std.proofs.lemmas.List.Sums.{sum_by-cons}
+pub use Rattle.std.proofs.lemmas.Slice.Zip.{Zip-more, either_empty_from_Zip}
+pub use Rattle.std.specs.Iterator.Adapters.{zip_first, zip_second}
 pub use Rattle.std.specs.List.{AllZip, concat, filter, flat_map, range_with_len}
+pub use Rattle.std.specs.Slice.Iter.{iter_rest}
 pub use Rattle.design_model.specs.Designs.{DesignValue}
 pub use Rattle.design_model.specs.declared.point.Point.{Point}
 pub use Rattle.drawing_model.specs.Drawings.{DrawingValue, KeepsDrawingLimits}
 pub use Rattle.drawing_picture.specs.BandLaws.{BandsShowLoads, band_length}
 pub use Rattle.drawing_picture.specs.BandTexts.{band_text, bands_of_lines, bands_of_pieces, colour_of_cut, line_bands, way_points}
-pub use Rattle.drawing_picture.specs.Bands.{Band, band_along, bands_from, half_steps_from, half_steps_of_line, middle_between}
+pub use Rattle.drawing_picture.specs.Bands.{Band, band_along, bands_from, half_steps_from, half_steps_of_line}
 pub use Rattle.drawing_picture.specs.CheckedProofs.{AreSewn, IsFirstFault, IsShownProof, RightCertificatesAreSewn, certificate_reason}
 pub use Rattle.drawing_picture.specs.CheckedProofs.{reason_before_acts}
 pub use Rattle.drawing_picture.specs.DrawingCaptions.{junction_dot, spot_mark, thread_lines}

@@ -9,7 +9,7 @@ use crate::band_texts::put_band;
 use design_model::Point;
 use line_graph::Edge;
 use lists_and_numbers::{Bytes, Memory};
-use odd_cuts::{Cut, first_lent};
+use odd_cuts::Cut;
 
 /// The half steps of an edge that have no band yet: ahead from its first junction, back from its last one.
 #[derive(Clone, Copy)]
@@ -29,12 +29,8 @@ pub(crate) fn put_bands(
         ++ flat_map band_text (bands_from 0 cuts.now e ways.entry.ahead.now ways.entry.back.now)) }
 {
     let mut free = ways;
-    let mut number = 0;
-    let mut rest = cuts;
-    while let Some((cut, after)) = first_lent(rest) {
+    for (number, cut) in cuts.iter().enumerate() {
         free = put_cut(text, number, cut, e, free)?;
-        number += 1;
-        rest = after;
     }
     Ok(())
 }

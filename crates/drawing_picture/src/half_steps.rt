@@ -27,12 +27,10 @@ fn half_steps(alloc: Global, needles: &[Point]) -> Result<Points, Memory>
         return Ok(points);
     };
     let mut before = first;
-    let mut rest = after;
-    while let Some((next, after)) = first_and_rest(rest) {
+    for next in after {
         points.push(middle(before, before))?;
-        points.push(middle(before, next))?;
-        before = next;
-        rest = after;
+        points.push(middle(before, *next))?;
+        before = *next;
     }
     points.push(middle(before, before))?;
     Ok(points)

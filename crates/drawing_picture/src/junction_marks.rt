@@ -7,7 +7,6 @@ ghost use Rattle.line_graph.specs.PiecesOfDrawings.{graph_of};
 use design_model::Point;
 use line_graph::{Piece, is_odd_at};
 use lists_and_numbers::{Items, Memory};
-use odd_cuts::first_and_rest;
 use std::alloc::Global;
 
 /// The mark of a junction: where it is, and whether it is odd.
@@ -56,19 +55,12 @@ fn put_tested(
     ensures { OnOk result (marks.new ≡ marks.old ++ tested_marks from to 0 junctions.now degrees.now) }
 {
     let mut number = 0;
-    let mut left = junctions;
-    let mut told = degrees;
-    while let (Some((at, points_after)), Some((degree, degrees_after))) = (
-        first_and_rest(left),
-        first_and_rest(told),
-    ) {
+    for (at, degree) in junctions.iter().zip(degrees) {
         marks.push(JunctionMark {
-            at,
-            is_odd: is_odd_at(number, degree, from, to),
+            at: *at,
+            is_odd: is_odd_at(number, *degree, from, to),
         })?;
         number += 1;
-        left = points_after;
-        told = degrees_after;
     }
     Ok(())
 }

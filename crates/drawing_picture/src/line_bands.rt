@@ -10,7 +10,7 @@ use design_model::Point;
 use drawing_model::Drawing;
 use line_graph::{Edge, Piece};
 use lists_and_numbers::{Bytes, Memory};
-use odd_cuts::{Cut, PieceCert, first_and_rest, first_lent};
+use odd_cuts::{Cut, PieceCert};
 use std::alloc::Global;
 
 /// Appends the bands of the certificates of pieces.
@@ -25,12 +25,7 @@ pub(crate) fn put_pieces(
     ensures { OnOk result (text.new
         ≡ text.old ++ bands_of_pieces d.now (map graph_of pieces.now) certs.now) }
 {
-    let mut left = pieces;
-    let mut said = certs;
-    while let (Some((piece, pieces_after)), Some((cert, certs_after))) = (
-        first_lent(left),
-        first_lent(said),
-    ) {
+    for (piece, cert) in pieces.iter().zip(certs) {
         put_lines(
             alloc,
             text,
@@ -39,8 +34,6 @@ pub(crate) fn put_pieces(
             piece.lines.as_slice(),
             piece.edges.as_slice(),
         )?;
-        left = pieces_after;
-        said = certs_after;
     }
     Ok(())
 }
@@ -57,16 +50,9 @@ fn put_lines(
     requires { All (λ line. line < length d.now.lines) lines.now }
     ensures { OnOk result (text.new ≡ text.old ++ bands_of_lines d.now cuts.now lines.now edges.now) }
 {
-    let mut left = lines;
-    let mut drawn = edges;
-    while let (Some((line, lines_after)), Some((edge, edges_after))) = (
-        first_and_rest(left),
-        first_and_rest(drawn),
-    ) {
-        let ahead = half_steps_of(alloc, d, line)?;
-        put_line(alloc, text, cuts, edge, ahead.as_slice())?;
-        left = lines_after;
-        drawn = edges_after;
+    for (line, edge) in lines.iter().zip(edges) {
+        let ahead = half_steps_of(alloc, d, *line)?;
+        put_line(alloc, text, cuts, *edge, ahead.as_slice())?;
     }
     Ok(())
 }

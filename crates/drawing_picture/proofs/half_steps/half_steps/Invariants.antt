@@ -1,4 +1,4 @@
-use Rattle.std.proofs.Common.{◌≡◌, ◌++◌, ◌∷◌, All, length}
+use Rattle.std.proofs.Common.{◌≡◌, ◌++◌, All, drop}
 use Rattle.drawing_picture.proofs.Names.{half_steps_from, IsNeedlePoint}
 use Rattle.drawing_picture.specs.Bands.{half_steps as half_steps_along}
 use Rattle.drawing_picture.proofs.half_steps.half_steps.Given as goal
@@ -6,9 +6,7 @@ use Rattle.drawing_picture.proofs.half_steps.half_steps.Given as goal
 -- the half steps so far and those of the needle points that are left
 abbrev pub invariant-loop-next : goal.invariant-loop-next
 invariant-loop-next l = record {
-  in_range : All IsNeedlePoint (l.before ∷ l.rest);
-  points : l.points ++ half_steps_from l.before l.rest ≡ half_steps_along l.needles;
+  first : IsNeedlePoint l.before;
+  later : All IsNeedlePoint l.after;
+  points : l.points ++ half_steps_from l.before (drop l.next-index l.after) ≡ half_steps_along l.needles;
 }
-
-abbrev pub decreases-loop-next : goal.decreases-loop-next
-decreases-loop-next l = length l.rest
