@@ -44,8 +44,8 @@ pub use Rattle.stitch_text.specs.Laws.{HasLabelAndThreads, IsTextOf, LabelAndThr
 pub use Rattle.stitch_text.specs.Laws.{ReadsWhereWritten}
 pub use Rattle.stitch_text.specs.ListLines.{in_brackets, needle_word, parsed_block, parsed_label, parsed_list_line, parsed_list_word}
 pub use Rattle.stitch_text.specs.ListLines.{parsed_list_words, parsed_needle}
-pub use Rattle.stitch_text.specs.ListStages.{TakesLine, TakesLines, blank_draft, fault_at_end, is_at_acts, is_before_acts}
-pub use Rattle.stitch_text.specs.ListStages.{list_state_at, max_waiting_in, parsed_parts, stage_after_long_line}
+pub use Rattle.stitch_text.specs.ListStages.{TakesLine, TakesLines, blank_draft, fault_at_end, is_at_acts, is_before_acts, list_state_at}
+pub use Rattle.stitch_text.specs.ListStages.{max_waiting_in, parsed_parts, stage_after_long_line}
 pub use Rattle.stitch_text.specs.Readings.{ParsedList, after_block_line, after_label_line, after_signature_line, begun_draft}
 pub use Rattle.stitch_text.specs.Readings.{continued_with, ended_list, is_end_line, list_moves, list_reads, list_shown, loaded_of_parsed}
 pub use Rattle.stitch_text.specs.Readings.{loaded_unless_fault, parsed_acts, parsed_end_or_line, parsed_from_block, parsed_from_label}
