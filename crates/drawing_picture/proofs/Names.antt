@@ -11,7 +11,7 @@ pub use Rattle.design_model.specs.Designs.{DesignValue}
 pub use Rattle.design_model.specs.declared.point.Point.{Point}
 pub use Rattle.drawing_model.specs.Drawings.{DrawingValue, KeepsDrawingLimits}
 pub use Rattle.drawing_picture.specs.BandLaws.{BandsShowLoads, band_length}
-pub use Rattle.drawing_picture.specs.BandTexts.{band_text, bands_of_lines, bands_of_pieces, colour_of_cut, line_bands, way_points}
+pub use Rattle.drawing_picture.specs.BandTexts.{band_text, bands_of_lines, bands_of_pieces, colour_of_cut, way_points}
 pub use Rattle.drawing_picture.specs.Bands.{Band, band_along, bands_from, half_steps_from, half_steps_of_line}
 pub use Rattle.drawing_picture.specs.CheckedProofs.{AreSewn, IsFirstFault, IsShownProof, RightCertificatesAreSewn, certificate_reason}
 pub use Rattle.drawing_picture.specs.CheckedProofs.{reason_before_acts}
