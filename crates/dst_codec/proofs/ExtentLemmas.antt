@@ -2,7 +2,8 @@
 use Rattle.std.proofs.Common.{◌≡◌, max, ℤ, List, [], ◌∷◌, map, refl, arith}
 use Rattle.std.proofs.Math.Nat.{zero-max}
 use Rattle.std.specs.Prelude.{fold}
-use Rattle.dst_codec.proofs.Names.{nat_tests, ints, Act, NumberedAct, Point, Extents, size_above_zero, size_below_zero, extents_of, max_measure, needle_measure, extents_from_origin, cons_option, int_max, int_min}
+use Rattle.dst_codec.proofs.Names.{nat_tests, ints, Act, NumberedAct, Point, size_above_zero, size_below_zero, extents_of, max_measure, needle_measure, extents_from_origin, cons_option, int_max, int_min}
+use Rattle.dst_codec.specs.declared.header.Extents.{Extents}
 use Rattle.design_model.specs.declared.act.Act.TheVariants as act
 use Rattle.design_model.specs.ActKinds.{act_point}
 use Rattle.design_model.specs.Extents.{extent_of_points, needle_points_of_acts}

@@ -1,8 +1,7 @@
 -- The fields of a header take 124 bytes and the header 512, where its numbers fit their places.
-use Rattle.std.proofs.Common.{◌≡◌, ℕ, ◌+◌, ◌-◌, ◌^◌, ◌<◌, ◌≤◌, ℤ, pos, neg_ℤ, suc, unsigned_abs, IsTrue, List, [], ◌∷◌, ◌++◌, length, decimal, codes, refl, ap, arith, length-append, lit<}
+use Rattle.std.proofs.Common.{◌≡◌, ℕ, ◌+◌, ◌^◌, ◌<◌, ◌≤◌, ℤ, pos, neg_ℤ, suc, unsigned_abs, IsTrue, List, [], ◌∷◌, ◌++◌, length, decimal, codes, refl, ap, arith, length-append, lit<}
 use Rattle.std.proofs.lemmas.Fmt.{length-decimal-le}
-use Rattle.dst_codec.proofs.Names.{nat_tests, Act, NumberedAct, MAX_LABEL, Point, is_point_within, origin, label_field, needle_position_along, HeaderNumbers, HEADER_LENGTH, FitsFields, size_above_zero, size_below_zero, max_measure, needle_measure, field, dst_header_of, within_parts, and_parts, length-replicate, padded_left, is_act_in_range, needle_position_after, stops_of, number_field, signed_field, fields_of, numbers_of, are_in_range, length-padded_right}
-use Rattle.design_model.specs.declared.act.Act.TheVariants as act
+use Rattle.dst_codec.proofs.Names.{nat_tests, NumberedAct, MAX_LABEL, Point, is_point_within, origin, label_field, needle_position_along, HeaderNumbers, HEADER_LENGTH, FitsFields, size_above_zero, size_below_zero, max_measure, field, dst_header_of, within_parts, length-replicate, padded_left, needle_position_after, stops_of, number_field, signed_field, fields_of, numbers_of, are_in_range, length-padded_right}
 use Rattle.design_model.specs.declared.point.TheConstants.{NEEDLE_LIMIT}
 use Rattle.lists_and_numbers.proofs.CallerLemmas.{size-neg}
 
@@ -65,32 +64,14 @@ greatest_small : (measure : Point → ℕ)
     → ((p : Point) → IsTrue (is_point_within NEEDLE_LIMIT p) → measure p ≤ NEEDLE_LIMIT)
     → (acts : List NumberedAct) → IsTrue (are_in_range acts) → max_measure measure acts ≤ NEEDLE_LIMIT
 greatest_small measure small [] all = omega arith
-greatest_small measure small (a ∷ rest) all =
-    let both = and_parts (is_act_in_range a.act) (are_in_range rest) all in
-    let one : needle_measure measure a.act ≤ NEEDLE_LIMIT = measured_small measure small a.act both.0 in
-    let more = greatest_small measure small rest both.1 in
-    omega (arith, one, more)
-  where
-    measured_small : (measure : Point → ℕ)
-        → ((p : Point) → IsTrue (is_point_within NEEDLE_LIMIT p) → measure p ≤ NEEDLE_LIMIT)
-        → (a : Act) → IsTrue (is_act_in_range a) → needle_measure measure a ≤ NEEDLE_LIMIT
-    measured_small measure small (act.Needle p float) here = small p here
-    measured_small measure small act.Trim here = omega arith
-    measured_small measure small act.Stop here = omega arith
+greatest_small measure small (a ∷ rest) all = grind (arith, nat_tests, a.act, small, (greatest_small measure small rest))
 
 -- the place after acts in range is in range
 place_in_range : (place : Point) (acts : List NumberedAct) → IsTrue (is_point_within NEEDLE_LIMIT place)
     → IsTrue (are_in_range acts) → IsTrue (is_point_within NEEDLE_LIMIT (needle_position_along place acts))
 place_in_range place [] here all = here
 place_in_range place (a ∷ rest) here all =
-    let both = and_parts (is_act_in_range a.act) (are_in_range rest) all in
-    place_in_range (needle_position_after place a.act) rest (after place a.act here both.0) both.1
-  where
-    after : (place : Point) (a : Act) → IsTrue (is_point_within NEEDLE_LIMIT place) → IsTrue (is_act_in_range a)
-        → IsTrue (is_point_within NEEDLE_LIMIT (needle_position_after place a))
-    after place (act.Needle p float) here there = there
-    after place act.Trim here there = here
-    after place act.Stop here there = here
+    grind (arith, nat_tests, a.act, (place_in_range (needle_position_after place a.act) rest))
 
 -- the numbers of acts in range fit, where there are not too many records and stops
 pub numbers_fit : (acts : List NumberedAct) (count : ℕ) → IsTrue (are_in_range acts)

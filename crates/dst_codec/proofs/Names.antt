@@ -1,12 +1,12 @@
 -- Names from elsewhere that several files of these proofs use.
-pub use Rattle.std.proofs.lemmas.Bool.{and_from, and_parts, eqb-false, le-leb, le-ltb}
+pub use Rattle.std.proofs.lemmas.Bool.{and_from, eqb-false, le-leb, le-ltb}
 pub use Rattle.std.proofs.lemmas.Bool.Decides.{nat_tests}
 pub use Rattle.std.proofs.lemmas.Int.{ints}
 pub use Rattle.std.proofs.lemmas.List.{append_assoc, length-map, length-replicate, take_at}
 pub use Rattle.std.specs.Int.{int_max, int_min, w8}
 pub use Rattle.std.specs.List.{concat, cons_option, list_all, range_with_len}
 pub use Rattle.design_model.proofs.CallerLemmas.{are_in_range, point_of_parts, within_parts}
-pub use Rattle.design_model.specs.ActPositions.{is_act_in_range, needle_position_after, needle_position_along}
+pub use Rattle.design_model.specs.ActPositions.{needle_position_after, needle_position_along}
 pub use Rattle.design_model.specs.Acts.{acts_along, acts_from, acts_of, numbered}
 pub use Rattle.design_model.specs.Designs.{DesignValue, KeepsLimits}
 pub use Rattle.design_model.specs.Points.{is_point_within, is_same_point, move_between, move_size, origin}
@@ -29,7 +29,6 @@ pub use Rattle.dst_codec.specs.Reading.{run_after_kind}
 pub use Rattle.dst_codec.specs.Steps.{IsWritten, dst_body_of, extents_from_origin, header_numbers_of}
 pub use Rattle.dst_codec.specs.Writing.{dst_encoding, dst_file_of, dst_records_of, dst_write_limits, dst_writes}
 pub use Rattle.dst_codec.specs.declared.dst.TheConstants.{LIMIT, MAX_FLOAT_HOPS, MAX_STOPS}
-pub use Rattle.dst_codec.specs.declared.header.Extents.{Extents}
 pub use Rattle.dst_codec.specs.declared.header.HeaderNumbers.{HeaderNumbers}
 pub use Rattle.dst_codec.specs.declared.header.TheConstants.{HEADER_LENGTH}
 pub use Rattle.dst_codec.specs.declared.record_kind.RecordKind.{RecordKind}
@@ -42,7 +41,7 @@ pub use Rattle.format_traits.specs.declared.encoder_state.EncoderState.{EncoderS
 pub use Rattle.format_traits.specs.declared.fault.ReadFault.{ReadFault}
 pub use Rattle.format_traits.specs.declared.fault.WriteFault.{WriteFault}
 pub use Rattle.format_traits.specs.declared.loaded.Loaded.{Loaded}
-pub use Rattle.record_formats.specs.MoveParts.{part_moves, part_moves_from, position_after_move}
+pub use Rattle.record_formats.specs.MoveParts.{part_moves_from, position_after_move}
 pub use Rattle.record_formats.specs.Readings.{FileCommands, checked_command, checked_commands, loaded_with}
 pub use Rattle.record_formats.specs.Records.{Records, file_commands, file_commands_from, moves_of_records, next, over}
 pub use Rattle.record_formats.specs.RoundTrip.{DecodesEncoding, EncodedActsRoundTrip, EncodedEvents}

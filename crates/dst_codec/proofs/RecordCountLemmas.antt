@@ -1,7 +1,7 @@
 -- A record has three bytes, and an act at most as many records as its room.
-use Rattle.std.proofs.Common.{◌≡◌, ℕ, zero, suc, ◌+◌, ◌-◌, ◌*◌, ◌≤◌, max, Bool, true, false, List, [], ◌∷◌, length, map, ◌==◌, refl, ap, ◌∙◌, arith, length-append, if◌then◌else◌, nat_le}
+use Rattle.std.proofs.Common.{◌≡◌, ℕ, zero, suc, ◌+◌, ◌*◌, ◌≤◌, max, Bool, true, false, List, [], ◌∷◌, length, map, ◌==◌, refl, ap, arith, length-append, if◌then◌else◌, nat_le}
 use Rattle.std.proofs.lemmas.List.Folds.{concat-append}
-use Rattle.dst_codec.proofs.Names.{nat_tests, concat, Act, NumberedAct, Point, origin, move_between, EncoderState, encoder_state_after, LIMIT, dst_jump_record, dst_stitch_record, dst_write_limits, dst_encoding, length-map, part_moves, part_moves_from, loose_room}
+use Rattle.dst_codec.proofs.Names.{nat_tests, concat, Act, NumberedAct, Point, move_between, EncoderState, encoder_state_after, LIMIT, dst_jump_record, dst_write_limits, dst_encoding, length-map, part_moves_from, loose_room}
 use Rattle.design_model.specs.declared.act.Act.TheVariants as act
 use Rattle.format_traits.specs.MoveHops.{hops_of}
 use Rattle.format_traits.specs.Rooms.{room_of_act, room_of_needle, room_from}
@@ -45,19 +45,14 @@ length-part_moves_from m n done zero = refl
 length-part_moves_from m n done (suc count) = ap suc (length-part_moves_from m n (done + 1) count)
 
 length-jumps : (m : Point) (n count : ℕ) → length (map dst_jump_record (part_moves_from m n 0 count)) ≡ count
-length-jumps m n count = length-map (part_moves_from m n 0 count) dst_jump_record ∙ length-part_moves_from m n 0 count
+length-jumps m n count = grind (arith, nat_tests, length-map, length-part_moves_from)
 
 length-hop_records : (count : ℕ) (m : Point) → length (hop_records dst_encoding count m) ≡ count + 1
-length-hop_records count m = length-append (map dst_jump_record (part_moves m count)) (dst_stitch_record origin ∷ [])
-    ∙ ap (λ n. n + 1) (length-jumps m count count)
-
-length-stitched_hop_records : (count : ℕ) (m : Point) → length (stitched_hop_records dst_encoding count m) ≡ count - 1 + 1
-length-stitched_hop_records count m = grind (arith, nat_tests, length-append, length-jumps)
+length-hop_records count m = grind (arith, nat_tests, length-append, length-jumps)
 
 float_small : (three : Bool) (count : ℕ) (m : Point)
     → length (if three then stitched_hop_records dst_encoding count m else hop_records dst_encoding count m) ≤ max 1 count + 1
-float_small true count m = omega (arith, length-stitched_hop_records count m)
-float_small false count m = omega (arith, length-hop_records count m)
+float_small three count m = grind (arith, nat_tests, length-append, length-jumps)
 
 needle_small : (loose float : Bool) (m : Point)
     → length (needle_records dst_encoding dst_write_limits loose float m) ≤ room_of_needle LIMIT loose float m
@@ -76,7 +71,4 @@ pub records_small : (s : EncoderState) (acts : List NumberedAct)
     → length (records_of_acts_from dst_encoding dst_write_limits s acts) ≤ room_from LIMIT s.loose s.place acts
 records_small s [] = omega arith
 records_small s (a ∷ rest) =
-    let after = encoder_state_after LIMIT s a.act in
-    let all = length-append (records_of_act dst_encoding dst_write_limits s a.act)
-    (records_of_acts_from dst_encoding dst_write_limits after rest) in
-    omega (arith, all, act_small s a.act, records_small after rest)
+    grind (arith, nat_tests, length-append, (act_small s a.act), (records_small (encoder_state_after LIMIT s a.act) rest))

@@ -1,6 +1,6 @@
 -- The label of a design is read back from its file.
-use Rattle.std.proofs.Common.{◌≡◌, ℕ, ◌-◌, List, ◌++◌, length, take, IsOkAnd, refl, sym, ◌∙◌, subst, arith}
-use Rattle.dst_codec.proofs.Names.{nat_tests, append_assoc, MAX_LABEL, acts_of, label_field, AcceptedIsWithinLimits, first_refusal, EncodedActsRoundTrip, HeaderNumbers, field, dst_header_of, LabelRoundTrips, dst_reads, dst_label_of, dst_body_of, header_numbers_of, dst_write_limits, take_at, label_in, LabelFieldsRoundTrip}
+use Rattle.std.proofs.Common.{◌≡◌, ℕ, List, ◌++◌, length, take, IsOkAnd, refl, sym, ◌∙◌, subst, arith}
+use Rattle.dst_codec.proofs.Names.{nat_tests, append_assoc, MAX_LABEL, acts_of, label_field, AcceptedIsWithinLimits, first_refusal, EncodedActsRoundTrip, HeaderNumbers, dst_header_of, LabelRoundTrips, dst_reads, dst_label_of, dst_body_of, header_numbers_of, dst_write_limits, take_at, label_in, LabelFieldsRoundTrip}
 use Rattle.dst_codec.proofs.laws.Again.{written, of_written}
 
 -- the first of many parts

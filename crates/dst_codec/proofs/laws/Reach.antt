@@ -1,6 +1,6 @@
 -- No stitch and no float that was read is too long to be written: a stitch is one record's move,
 -- and between a needle and a float's needle at most two jumps are read, since a third is a trim.
-use Rattle.std.proofs.Common.{◌≡◌, ◌≢◌, ℕ, ◌+◌, ◌-◌, ◌*◌, min, ◌≤◌, ℤ, ◌+ℤ◌, ◌-ℤ◌, unsigned_abs, Bool, true, false, not, ◌&&◌, List, [], ◌∷◌, length, drop, Option, Some, None, Result, Ok, Err, IfOk, nat_lt, ◌==◌, if◌then◌else◌, refl, sym, subst, arith}
+use Rattle.std.proofs.Common.{◌≡◌, ◌≢◌, ℕ, ◌+◌, ◌*◌, min, ◌≤◌, ℤ, ◌+ℤ◌, ◌-ℤ◌, unsigned_abs, Bool, true, false, not, ◌&&◌, List, [], ◌∷◌, length, drop, Option, Some, None, Result, Ok, Err, IfOk, nat_lt, ◌==◌, if◌then◌else◌, refl, sym, subst, arith}
 use Rattle.dst_codec.proofs.Names.{nat_tests, ints, NumberedAct, Command, Stitch, Jump, Trim, Stop, Point, acts_along, origin, move_between, ReadFault, WriteFault, EncoderState, loaded_with, Records, next, file_commands, initial_encoder_state, encoder_state_after, first_refusal, unless_refused, LIMIT, HEADER_LENGTH, RecordKind, dst_move_of, kind_of, ReadMovesAreWritable, record_of_kind, run_after_kind, dst_records_from, dst_records_in, dst_label_of, dst_write_limits, dst_file_of, dst_writes, eqb-false, acts_from, numbered, move_size, is_same_point, position_after_move, FileCommands, checked_command, checked_commands, file_commands_from, is_above_max, refusal_if, refusal_of_needle, refusal_before_room, first_refusal_from}
 use Rattle.design_model.specs.declared.act.Act.TheVariants as act
 use Rattle.record_formats.specs.declared.event.Event.TheVariants as event

@@ -3,21 +3,13 @@ use Rattle.dst_codec.proofs.TableLemmas.{fits_byte, x_sums}
 use Rattle.dst_codec.proofs.bits.counted_x.Goals as goal
 
 pub overflow_add-result : goal.overflow_add-result
-overflow_add-result c =
-    let sums = x_sums c.args.first c.args.second c.args.third c.ranges.first c.ranges.second c.ranges.third in
-    fits_byte _ 80 sums.two (omega arith)
+overflow_add-result c = fits_byte _ 80 (x_sums _ _ _ c.ranges.first c.ranges.second c.ranges.third).two (omega arith)
 
 pub overflow_add-result-2 : goal.overflow_add-result-2
-overflow_add-result-2 c =
-    let sums = x_sums c.args.first c.args.second c.args.third c.ranges.first c.ranges.second c.ranges.third in
-    fits_byte _ 242 sums.most (omega arith)
+overflow_add-result-2 c = fits_byte _ 242 (x_sums _ _ _ c.ranges.first c.ranges.second c.ranges.third).most (omega arith)
 
 pub returns-clause-value : goal.returns-clause-value
-returns-clause-value c =
-    let sums = x_sums c.args.first c.args.second c.args.third c.ranges.first c.ranges.second c.ranges.third in
-    sums.value
+returns-clause-value c = (x_sums _ _ _ c.ranges.first c.ranges.second c.ranges.third).value
 
 pub returns-clause-most : goal.returns-clause-most
-returns-clause-most c =
-    let sums = x_sums c.args.first c.args.second c.args.third c.ranges.first c.ranges.second c.ranges.third in
-    sums.most
+returns-clause-most c = (x_sums _ _ _ c.ranges.first c.ranges.second c.ranges.third).most
