@@ -1,7 +1,7 @@
 -- The results of bytes before which a header is taken.
 use Rattle.std.proofs.Common.{◌≡◌, ℕ, ◌+◌, List, [], ◌++◌, length, drop, ap, sym, ◌∙◌, subst, arith, length-append, append_assoc}
 use Rattle.std.proofs.Math.Seq.{drop-append-add}
-use Rattle.record_formats.proofs.Names.{ContinuesAs, IsSameDecoderState, IsAtRecordBoundary, DecodedSoFar, DecoderState, TakesBytes}
+use Rattle.record_formats.proofs.Names.{nat_tests, ContinuesAs, IsSameDecoderState, IsAtRecordBoundary, DecodedSoFar, DecoderState, TakesBytes}
 
 -- after no header is the whole file
 pub same_behind : (fresh new : DecoderState) (header : ℕ) → header ≡ 0 → ((at : ℕ) → ContinuesAs fresh new at (at + header) [] [])
@@ -20,16 +20,11 @@ pub takes_behind : (fresh middle new : DecoderState) (so_far : DecodedSoFar) (at
 takes_behind fresh middle new so_far at least header size bytes front back whole of_header of_least entered takes =
     let on : ContinuesAs fresh middle at (at + header) front [] =
     subst (λ n. ContinuesAs fresh middle at (at + n) front []) of_least entered in
-    let parts : length bytes ≡ header + length back =
-    ap length whole ∙ length-append front back ∙ ap (λ n. n + length back) of_header in
-    let there = takes.there in
-    let few = takes.few in
     let far : at + (header + size) ≡ (at + header) + size = omega arith in
-    let left : drop (header + size) bytes ≡ drop size back =
-    ap (drop (header + size)) whole ∙ ap (λ n. drop (n + size) (front ++ back)) (sym of_header) ∙ drop-append-add front back size in
+    let left : drop (header + size) bytes ≡ drop size back = grind (arith, nat_tests, drop-append-add) in
     record {
-      there = omega (arith, parts, there);
-      few = omega (arith, parts, few);
+      there = grind (arith, nat_tests, takes.there, length-append);
+      few = grind (arith, nat_tests, takes.few, length-append);
       on = record {
         rest = λ more. rw (left, far, whole, append_assoc front back more, on.rest (back ++ more)) (takes.on.rest more);
         decoded = λ more. rw (left, far, whole, append_assoc front back more, on.decoded (back ++ more)) (takes.on.decoded more);

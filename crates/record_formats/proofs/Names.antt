@@ -6,7 +6,7 @@ pub use Rattle.std.proofs.lemmas.Int.{ints, to_z-of_z}
 pub use Rattle.std.proofs.lemmas.List.{append-nil}
 pub use Rattle.std.specs.Int.{int_div_euclid, w32}
 pub use Rattle.std.specs.List.{concat, list_all}
-pub use Rattle.design_model.proofs.CallerLemmas.{acts_in_range, are_in_range, point_of_parts, within_from, within_more, within_parts}
+pub use Rattle.design_model.proofs.CallerLemmas.{acts_in_range, are_in_range, point_of_parts, within_from, within_more}
 pub use Rattle.design_model.specs.Acts.{acts_along, acts_from, acts_of, acts_without_numbers, numbered}
 pub use Rattle.design_model.specs.Points.{is_point_within, move_between, move_size, origin}
 pub use Rattle.design_model.specs.declared.act.Act.{Act}

@@ -11,11 +11,7 @@ pub jump_more : (jump : Point → List ℕ) (out out' total : List ℕ) (m : Poi
     → out ++ concat (map jump (part_moves_from m n done (wanted - done))) ≡ total
     → out' ++ concat (map jump (part_moves_from m n (done + 1) (wanted - (done + 1)))) ≡ total
 jump_more jump out out' total m n done wanted more is all =
-    let left : wanted - done ≡ suc (wanted - (done + 1)) = omega (arith, more) in
-    let one = jump (move_between (part_end m n done) (part_end m n (done + 1))) in
-    let others = concat (map jump (part_moves_from m n (done + 1) (wanted - (done + 1)))) in
-    ap (λ bytes. bytes ++ others) is ∙ append_assoc out one others
-    ∙ sym (ap (λ k. out ++ concat (map jump (part_moves_from m n done k))) left) ∙ all
+    let left : wanted - done ≡ suc (wanted - (done + 1)) = omega (arith, more) in grind (arith, nat_tests, append_assoc, left)
 
 pub concat-append : (xs ys : List (List ℕ)) → concat (xs ++ ys) ≡ concat xs ++ concat ys
 concat-append [] ys = refl
@@ -32,10 +28,7 @@ joined : (encoding : RecordEncoding) (write_limits : WriteLimits) (before : Enco
     ≡ concat (records_of_acts_from encoding write_limits before acts)
 joined encoding write_limits before [] = refl
 joined encoding write_limits before (a ∷ rest) =
-    let own = records_of_act encoding write_limits before a.act in
-    let after = encoder_state_after write_limits.limit before a.act in
-    ap (λ bytes. concat own ++ bytes) (joined encoding write_limits after rest)
-    ∙ sym (concat-append own (records_of_acts_from encoding write_limits after rest))
+    grind (arith, nat_tests, concat-append, (joined encoding write_limits (encoder_state_after write_limits.limit before a.act) rest))
 
 -- acts that are appended are their records
 pub records_put : (encoding : RecordEncoding) (write_limits : WriteLimits) (acts : List NumberedAct) (old new : List ℕ)

@@ -12,6 +12,7 @@ use Rattle.record_formats.proofs.rereading.Parts.{Lies, lies_from, hops_enough, 
 use Rattle.record_formats.proofs.rereading.Runs.{Spares, trims_in, trims_over, trims_none, trims_few, goes_as, goes_hops, goes_last_stitched}
 use Rattle.record_formats.proofs.rereading.Steps.{GoesOn, goes_end, goes_stitch, goes_stop}
 use Rattle.record_formats.proofs.rereading.Trims.{goes_trimmed}
+use Rattle.record_formats.proofs.WriterLemmas.{concat-append}
 
 -- how a reader stands between acts: after a needle no jump came, after others the run is over or long
 abbrev pub Between : Option ℕ → Bool → ℕ → Bool → Type 0
@@ -23,9 +24,7 @@ range_after : (place : Point) (a : Act) → IsTrue (is_point_within NEEDLE_LIMIT
 range_after place a h1 h2 = grind (arith, nat_tests, ints)
 
 concat_both : (xs ys : List (List ℕ)) (rest : List ℕ) → concat (xs ++ ys) ++ rest ≡ concat xs ++ (concat ys ++ rest)
-concat_both [] ys rest = refl
-concat_both (x ∷ xs) ys rest = append_assoc x (concat (xs ++ ys)) rest
-    ∙ ap (λ bytes. x ++ bytes) (concat_both xs ys rest) ∙ sym (append_assoc x (concat xs) (concat ys ++ rest))
+concat_both xs ys rest = grind (arith, nat_tests, append_assoc, concat-append)
 
 -- the commands of a loose needle's jumps, with the trim that they may be taken for
 loose_enough : (most : Option ℕ) (jumps run : ℕ) → AllowsTwoJumps most → IsPastTrimmedJump most run

@@ -70,18 +70,10 @@ axis_none z n h1 = grind (arith, nat_tests, ints)
 -- one part is at most l, where n times l are enough
 pub axis_step : (z : ℤ) (n count l : ℕ) → 0 < n → unsigned_abs z ≤ n * l
     → unsigned_abs (axis_part z n (count + 1) -ℤ axis_part z n count) ≤ l
-axis_step (pos a) n count l some near = size_right (floor a n count) (floor a n (count + 1)) l
-    (floor_step a n count l some near).0 (floor_step a n count l some near).1
-  where
-    size_right : (u v l : ℕ) → u ≤ v → v ≤ u + l → unsigned_abs (pos v -ℤ pos u) ≤ l
-    size_right u v l low high = omega (arith, ints)
+axis_step (pos a) n count l some near = grind (arith, nat_tests, ints, (floor_step a n count l some near))
 axis_step (negsuc a) n count l some near =
-    rw (part_left a n count some, part_left a n (count + 1) some)
-    (size_left (ceiling (suc a) n count) (ceiling (suc a) n (count + 1)) l
-    (ceiling_step (suc a) n count l some near).0 (ceiling_step (suc a) n count l some near).1)
-  where
-    size_left : (u v l : ℕ) → u ≤ v → v ≤ u + l → unsigned_abs (neg_ℤ (pos v) -ℤ neg_ℤ (pos u)) ≤ l
-    size_left u v l low high = omega (arith, ints)
+    let step = ceiling_step (suc a) n count l some near in
+    grind (arith, nat_tests, ints, (part_left a n count some), (part_left a n (count + 1) some), step)
 
 -- the place after some parts lies between those before and after the whole
 pub axis_between : (x z : ℤ) (n count l : ℕ) → 0 < n → count ≤ n → unsigned_abs x ≤ l → unsigned_abs (x +ℤ z) ≤ l

@@ -1,6 +1,6 @@
 -- The parts of a move between two needles: each is within the limit, and each ends between the two.
-use Rattle.std.proofs.Common.{◌≡◌, ℕ, ◌+◌, ◌*◌, ◌<◌, ◌≤◌, ℤ, ◌+ℤ◌, ◌-ℤ◌, unsigned_abs, IsTrue, arith}
-use Rattle.record_formats.proofs.Names.{ints, Point, NEEDLE_LIMIT, JUMP_LIMIT, is_point_within, move_between, move_size, hops_of, position_after_move, part_end, point_of_parts, within_from, nat_tests, within_more, within_parts}
+use Rattle.std.proofs.Common.{◌≡◌, ℕ, ◌+◌, ◌*◌, ◌<◌, ◌≤◌, unsigned_abs, IsTrue, arith}
+use Rattle.record_formats.proofs.Names.{ints, Point, NEEDLE_LIMIT, JUMP_LIMIT, is_point_within, move_between, move_size, hops_of, position_after_move, part_end, point_of_parts, within_from, nat_tests, within_more}
 use Rattle.record_formats.proofs.rereading.Hops.{axis_all, axis_step, axis_between}
 
 -- a move that n moves within the limit can make up
@@ -30,21 +30,14 @@ part_none place m n h1 = grind (arith, nat_tests, ints)
 
 -- a move on from a part
 pub moved-on : (place p q : Point) → position_after_move (position_after_move place p) (move_between p q) ≡ position_after_move place q
-moved-on place p q = point_of_parts (on place.x p.x q.x) (on place.y p.y q.y)
-  where
-    on : (x a b : ℤ) → (x +ℤ a) +ℤ (b -ℤ a) ≡ x +ℤ b
-    on x a b = omega (arith, ints)
+moved-on place p q = point_of_parts (omega (arith, ints)) (omega (arith, ints))
 
 -- a part ends between the places before and after the whole
 pub part_between : (place m : Point) (n count limit : ℕ) → 0 < n → count ≤ n → IsTrue (is_point_within limit place)
     → IsTrue (is_point_within limit (position_after_move place m))
     → IsTrue (is_point_within limit (position_after_move place (part_end m n count)))
 part_between place m n count limit some less here there =
-    let a = within_parts limit place here in
-    let b = within_parts limit (position_after_move place m) there in
-    within_from limit (position_after_move place (part_end m n count))
-    (axis_between place.x m.x n count limit some less a.0 b.0)
-    (axis_between place.y m.y n count limit some less a.1 b.1)
+    grind (arith, nat_tests, (axis_between place.x m.x n count limit), (axis_between place.y m.y n count limit))
 
 -- a move between two places leads from the one to the other
 pub moved-between : (place p : Point) → position_after_move place (move_between place p) ≡ p

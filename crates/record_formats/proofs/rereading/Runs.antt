@@ -7,6 +7,7 @@ use Rattle.record_formats.specs.declared.event.Event.TheVariants as event
 use Rattle.record_formats.proofs.PointLemmas.{position_after_move-none}
 use Rattle.record_formats.proofs.rereading.Parts.{Lies, part_within, part_all, part_none, part_in_range, moved-on}
 use Rattle.record_formats.proofs.rereading.Steps.{GoesOn, goes_stitch, goes_jump, goes_trimmed_jump}
+use Rattle.record_formats.proofs.WriterLemmas.{concat-append}
 
 -- the number of trims that n jump records are decoded as, after a run of jump records
 abbrev pub trims_in : Option ℕ → ℕ → ℕ → ℕ
@@ -77,9 +78,7 @@ spares_next : (most : Option ℕ) (run more : ℕ) → Spares most (run + suc mo
 spares_next most run more h1 = grind (arith, nat_tests, ints)
 
 pub concat_last : (xs : List (List ℕ)) (last rest : List ℕ) → concat (xs ++ last ∷ []) ++ rest ≡ concat xs ++ (last ++ rest)
-concat_last [] last rest = ap (λ bytes. bytes ++ rest) (append-nil last)
-concat_last (x ∷ xs) last rest = append_assoc x (concat (xs ++ last ∷ [])) rest
-    ∙ ap (λ bytes. x ++ bytes) (concat_last xs last rest) ∙ sym (append_assoc x (concat xs) (last ++ rest))
+concat_last xs last rest = grind (arith, nat_tests, append_assoc, concat-append, append-nil)
 
 -- what a reader that decodes each encoded record makes of the records of moves
 module _ (read : ℕ → ℕ → List ℕ → Records) (encoding : RecordEncoding) (write_limits : WriteLimits) (taken : EncodedEvents)
