@@ -57,11 +57,9 @@ fn put_blocks3(alloc: Global, text: &mut Bytes, d: &Drawing, other: &Drawing) ->
         ≡ text.old ++ blocks_text3 0 d.now.threads (with_ends_of d.now other.now)) }
 {
     let mut block: u32 = 0;
-    let mut rest = d.threads();
-    while let [thread, after @ ..] = rest {
+    for thread in d.threads() {
         put_block3(alloc, text, block, *thread, d, other)?;
         block += 1;
-        rest = after;
     }
     Ok(())
 }
@@ -93,12 +91,10 @@ fn put_ends_of(
 ) -> Result<(), Memory>
     ensures { OnOk result (text.new ≡ text.old ++ end_lines_text word.now block spots.now) }
 {
-    let mut rest = spots;
-    while let [spot, after @ ..] = rest {
+    for spot in spots {
         if spot.block == block {
             put_end(alloc, text, word, spot)?;
         }
-        rest = after;
     }
     Ok(())
 }

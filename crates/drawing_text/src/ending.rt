@@ -21,12 +21,10 @@ pub fn with_ends(alloc: Global, drawing: Drawing, ends: &[WalkEnd]) -> Result<Dr
         Ok(maker) => maker,
         Err(_) => return Err(fault_with_line(0, 0, DrawKind::Memory)),
     };
-    let mut rest = ends;
-    while let [end, after @ ..] = rest {
+    for end in ends {
         if let Err(kind) = add(&mut maker, *end) {
             return Err(fault_with_line(end.number, 0, kind));
         }
-        rest = after;
     }
     Ok(maker.finish())
 }

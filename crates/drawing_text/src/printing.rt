@@ -97,12 +97,10 @@ fn put_blocks(alloc: Global, text: &mut Bytes, threads: &[u8], lines: &[Line]) -
     ensures { OnOk result (text.new ≡ text.old ++ blocks_text 0 threads.now lines.now) }
 {
     let mut block: u32 = 0;
-    let mut rest = threads;
-    while let [thread, after @ ..] = rest {
+    for thread in threads {
         put_number(alloc, text, b"color ", *thread as u32)?;
         put_lines_of(alloc, text, block, lines)?;
         block += 1;
-        rest = after;
     }
     Ok(())
 }
@@ -116,12 +114,10 @@ pub(crate) fn put_lines_of(
 ) -> Result<(), Memory>
     ensures { OnOk result (text.new ≡ text.old ++ flat_map line_text (lines_of_block block lines.now)) }
 {
-    let mut rest = lines;
-    while let [line, after @ ..] = rest {
+    for line in lines {
         if line.block() == block {
             put_line(alloc, text, line)?;
         }
-        rest = after;
     }
     Ok(())
 }
@@ -137,10 +133,8 @@ fn put_line(alloc: Global, text: &mut Bytes, line: &Line) -> Result<(), Memory>
 fn put_points(alloc: Global, text: &mut Bytes, points: &[Point]) -> Result<(), Memory>
     ensures { OnOk result (text.new ≡ text.old ++ points_text points.now) }
 {
-    let mut rest = points;
-    while let [p, after @ ..] = rest {
+    for p in points {
         put_point(alloc, text, *p)?;
-        rest = after;
     }
     text.push(b'\n')?;
     Ok(())
