@@ -1,5 +1,5 @@
 ghost use Rattle.std.specs.Prelude.{◌≡◌, IfOk, string_bytes};
-ghost use Rattle.route_texts.specs.Summaries.{summary_counts, summary_costs, summary_odds, summary_text};
+ghost use Rattle.route_texts.specs.Summaries.{summary_counts, summary_costs, summary_text};
 
 use lists_and_numbers::{Bytes, Memory};
 use std::alloc::Global;
@@ -26,31 +26,26 @@ pub fn print_summary(alloc: Global, s: Summary) -> Result<Bytes, Memory>
 {
     let mut text = Bytes::new(alloc);
     text.append(counts_text(alloc, s)?.as_bytes())?;
-    text.append(odds_text(alloc, s)?.as_bytes())?;
     text.append(costs_text(alloc, s)?.as_bytes())?;
     Ok(text)
 }
 
+/// Returns the lines about a sample drawing.
 fn counts_text(alloc: Global, s: Summary) -> Result<String, Memory>
     ensures { IfOk result (λ text. string_bytes text ≡ summary_counts s) }
 {
     Ok(format!(in alloc;
-        "sample {}\nlines {}\njunctions {}\n",
-        s.number, s.lines, s.junctions
+        "sample {}\nlines {}\njunctions {}\nodd {}\npieces {}\n",
+        s.number, s.lines, s.junctions, s.odd, s.pieces
     )?)
 }
 
-fn odds_text(alloc: Global, s: Summary) -> Result<String, Memory>
-    ensures { IfOk result (λ text. string_bytes text ≡ summary_odds s) }
-{
-    Ok(format!(in alloc; "odd {}\npieces {}\ncost {}\n", s.odd, s.pieces, s.cost)?)
-}
-
+/// Returns the lines about the costs of a route.
 fn costs_text(alloc: Global, s: Summary) -> Result<String, Memory>
     ensures { IfOk result (λ text. string_bytes text ≡ summary_costs s) }
 {
     Ok(format!(in alloc;
-        "retraced {}\npenetrations {}\ncuts {}\n",
-        s.retraced, s.penetrations, s.cuts
+        "cost {}\nretraced {}\npenetrations {}\ncuts {}\n",
+        s.cost, s.retraced, s.penetrations, s.cuts
     )?)
 }
