@@ -24,8 +24,8 @@ pub use Rattle.program_shell.specs.RunViews.{IsFaultlessRun, IsUntouched, Views,
 pub use Rattle.program_shell.specs.Runs.{IsDecided, IsDone, IsFailed, IsFault, IsMemory, IsOrOutOfMemory, IsPlannedOutcome, IsRefused}
 pub use Rattle.program_shell.specs.Runs.{IsReportLost, IsRequested, IsUsage, KeepsOtherFiles, RunEnds, failed, memory, refused}
 pub use Rattle.program_shell.specs.Runs.{status_is_out_of_memory, usage}
-pub use Rattle.program_shell.specs.StepOutcomes.{CanFinish, IsFailureOf, IsFaultFailure, IsParsedInput, IsPlanResult, ParsesInput}
-pub use Rattle.program_shell.specs.StepOutcomes.{ReadsInput, RunsPlan, RunsPurePlan, RunsRequest, status_of}
+pub use Rattle.program_shell.specs.StepOutcomes.{CanFinish, IsFailureOf, IsFaultFailure, IsParsedInput, IsPlanResult, LoadsFound}
+pub use Rattle.program_shell.specs.StepOutcomes.{ParsesInput, ReadsInput, RunsPlan, RunsPurePlan, RunsRequest, status_of}
 pub use Rattle.program_shell.specs.declared.failure.Failure.{Failure}
 pub use Rattle.program_shell.specs.declared.product.Product.{Product}
 pub use Rattle.program_shell.specs.declared.status.Status.{Status}

@@ -1,14 +1,15 @@
-ghost use Rattle.std.specs.Prelude.{◌≡◌, ◌<◌, Some, length, map, slice_get};
+ghost use Rattle.std.specs.Prelude.{◌≡◌, ◌<◌, IfOk, Some, length, map, slice_get};
+ghost use Rattle.format_traits.specs.Endings.{format_of};
 ghost use Rattle.format_traits.specs.Meanings.{Meaning};
 ghost use Rattle.outside_io.specs.Files.{IsFileName};
 ghost use Rattle.program_shell.specs.FileTexts.{read_fault_text};
-ghost use Rattle.program_shell.specs.StepOutcomes.{IsRefusalWith, ParsesInput};
+ghost use Rattle.program_shell.specs.StepOutcomes.{IsRefusalWith, LoadsFound, ParsesInput};
 
 use crate::failure::{Failure, Step, refused};
 use crate::file_texts::describe_read_fault;
 use crate::reading::read_failure;
 use design_files::{LoadFault, load};
-use format_traits::{Format, Loaded, ReadFault};
+use format_traits::{Format, Loaded, ReadFault, find};
 use outside_io::Store;
 use std::alloc::Global;
 
@@ -35,6 +36,34 @@ pub fn load_at<'a, S: Store>(
     ensures same { map (λ f. meaning f) formats.new ≡ map (λ f. meaning f) formats.old }
 {
     load_input(alloc, &mut formats[place], store, name)
+}
+
+/// An input file that was decoded, and the index of its format.
+#[derive(Drop)]
+pub struct Found {
+    pub loaded: Loaded,
+    pub place: usize,
+}
+
+/// Reads and decodes an input file by the format of its name. No meaning of a format changes.
+pub fn load_found<'a, S: Store>(
+    alloc: Global,
+    formats: &mut [Box<dyn Format>],
+    store: &mut S,
+    name: &'a str,
+) -> Step<'a, Found>
+    requires { IsFileName name.now }
+    ensures loads { LoadsFound (map (λ f. meaning f) formats.old)
+        (format_of (map (λ f. meaning f) formats.old) name.now) name.now (S.view store.old)
+        (S.view store.new) result }
+    ensures place { IfOk result (λ found. found.place < length formats.new) }
+    ensures same { map (λ f. meaning f) formats.new ≡ map (λ f. meaning f) formats.old }
+{
+    let Some(place) = find(formats, name) else {
+        return Err(Failure::BadArguments);
+    };
+    let loaded = load_at(alloc, formats, place, store, name)?;
+    Ok(Found { loaded, place })
 }
 
 fn load_input<'a, S: Store>(

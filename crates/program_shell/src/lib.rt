@@ -16,7 +16,7 @@ mod status;
 pub use failure::{Failure, Step, refused};
 pub use file_texts::{describe_file, describe_part, describe_read_fault, refused_part};
 pub use finishing::finish;
-pub use format_indexes::{format_at, load_at};
+pub use format_indexes::{Found, format_at, load_at, load_found};
 pub use messages::report_out_of_memory;
 pub use product::{Made, Output, Product, bytes_of, one_output, only_report, two_outputs};
 pub use reading::read_input;

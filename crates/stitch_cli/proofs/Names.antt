@@ -29,8 +29,8 @@ pub use Rattle.odd_cuts.specs.declared.certificate.PieceCert.{PieceCert}
 pub use Rattle.outside_io.specs.Files.{FileHolds, Files}
 pub use Rattle.outside_io.specs.Views.{StoreView}
 pub use Rattle.program_shell.proofs.CallerLemmas.{IsParsedMade, IsSoundPlan, accepts_sound, can_finish, ends, named, parsed_made}
-pub use Rattle.program_shell.proofs.CallerLemmas.{parses_sound, program_sound, refuses_sound, satisfies_sound, settles_next, settles_taken}
-pub use Rattle.program_shell.proofs.CallerLemmas.{takes_next}
+pub use Rattle.program_shell.proofs.CallerLemmas.{parses_sound, program_sound, refuses_sound, satisfies_sound, settles_found, settles_next}
+pub use Rattle.program_shell.proofs.CallerLemmas.{settles_taken, takes_next}
 pub use Rattle.program_shell.specs.Plans.{AttemptsRead, IsAccepted, Makes, Refuses, satisfies}
 pub use Rattle.program_shell.specs.Products.{AllFilesHold, OutputValue, ProductValue, one_file_product, report_product, two_file_product}
 pub use Rattle.program_shell.specs.Runs.{IsDone, IsOrOutOfMemory, status_is_out_of_memory}
@@ -51,7 +51,7 @@ pub use Rattle.stitch_cli.specs.Checks.{check_drawing, check_order, check_plan}
 pub use Rattle.stitch_cli.specs.Commands.{Order, checking, hooping, migrating, order_of, outputs_of, plan_of, rewriting, sampling, sewing}
 pub use Rattle.stitch_cli.specs.Commands.{showing, stitch, tracing}
 pub use Rattle.stitch_cli.specs.Headline.{IsRouteLeft, IsYesRight, OutcomesMeanHeadline}
-pub use Rattle.stitch_cli.specs.Hoops.{hoop_fitted, hoop_order, hoop_read}
+pub use Rattle.stitch_cli.specs.Hoops.{complete_hoop, hoop_fitted, hoop_order, hoop_read}
 pub use Rattle.stitch_cli.specs.Migrations.{IsMigrated, migrate_read}
 pub use Rattle.stitch_cli.specs.Rewrites.{IsRewriteResult, RewriteOrder, change_text, complete_rewrite, not_changed, not_written}
 pub use Rattle.stitch_cli.specs.Rewrites.{rewrite_order, rewrite_plan, rewrite_read}
@@ -59,6 +59,6 @@ pub use Rattle.stitch_cli.specs.Samples.{IsSampleProduct, SampleOrder, cut_sum, 
 pub use Rattle.stitch_cli.specs.SewingWays.{IsPieceSewn, IsSewnBy, IsSewnOver}
 pub use Rattle.stitch_cli.specs.Sewings.{IsSewnFile, IsSewnProduct, SewingOrder, SewnFiles, piece_reports, sewing_by_limit, sewing_drawing}
 pub use Rattle.stitch_cli.specs.Sewings.{sewing_order, sewing_outputs, sewing_plan, sewing_read}
-pub use Rattle.stitch_cli.specs.Shows.{show_order, show_read}
-pub use Rattle.stitch_cli.specs.Tracings.{IsTraced, trace_made, trace_order, trace_read}
+pub use Rattle.stitch_cli.specs.Shows.{complete_show, show_order, show_read}
+pub use Rattle.stitch_cli.specs.Tracings.{IsTraced, complete_trace, trace_made, trace_order, trace_read}
 pub use Rattle.stitch_trace.specs.Traces.{trace_is_out_of_memory, traced}

@@ -1,23 +1,23 @@
-ghost use Rattle.std.specs.Prelude.{◌≡◌, ◌<◌, IfOk, Some, length, map, option_map, slice_get};
+ghost use Rattle.std.specs.Prelude.{◌≡◌, IfOk, map, option_map};
 ghost use Rattle.command_words.specs.ValidNames.{AreFileNames};
 ghost use Rattle.drawing_text.specs.DrawingText.{IsJoinedWithoutEnds};
 ghost use Rattle.format_traits.specs.Endings.{format_of};
 ghost use Rattle.format_traits.specs.Meanings.{Meaning};
 ghost use Rattle.program_shell.specs.Products.{product_value};
-ghost use Rattle.program_shell.specs.StepOutcomes.{IsRefusalWith, RunsPlan, RunsPurePlan, RunsRequest};
+ghost use Rattle.program_shell.specs.StepOutcomes.{IsRefusalWith, RunsPurePlan, RunsRequest};
 ghost use Rattle.program_texts.specs.DrawingTexts.{trace_fault_text};
 ghost use Rattle.stitch_cli.specs.Commands.{stitch, tracing};
-ghost use Rattle.stitch_cli.specs.Tracings.{IsTraced, complete_trace, trace_made, trace_order, trace_plan};
+ghost use Rattle.stitch_cli.specs.Tracings.{IsTraced, complete_trace, trace_made, trace_order};
 ghost use Rattle.stitch_trace.specs.Traces.{traced};
 
 use command_words::FileNames;
 use design_model::Design;
 use drawing_model::Drawing;
 use drawing_text::print_drawing2;
-use format_traits::{Format, find};
+use format_traits::Format;
 use lists_and_numbers::Memory;
 use outside_io::Store;
-use program_shell::{Failure, Made, Product, load_at, one_output, refused};
+use program_shell::{Failure, Made, Product, load_found, one_output, refused};
 use program_texts::{describe_trace_fault, print_tracing};
 use std::alloc::Global;
 use stitch_trace::{TraceFault, trace};
@@ -39,29 +39,8 @@ pub(crate) fn trace_file<'a, S: Store>(
     if names.input == names.output {
         return Err(Failure::BadArguments);
     }
-    match find(formats, names.input) {
-        Some(place) => trace_by(alloc, names, formats, place, store),
-        None => Err(Failure::BadArguments),
-    }
-}
-
-/// Traces a file by its format, given by its index.
-fn trace_by<'a, S: Store>(
-    alloc: Global,
-    names: FileNames<'a>,
-    formats: &mut [Box<dyn Format>],
-    place: usize,
-    store: &mut S,
-) -> Made<'a>
-    requires names { AreFileNames names }
-    requires place { place < length formats.old }
-    ensures prepares { (m : Meaning) → slice_get (map (λ f. meaning f) formats.old) place ≡ Some m
-        → RunsPlan (trace_plan (trace_order names.entry.input.now names.entry.output.now m)) (S.view store.old) (S.view store.new)
-        result }
-    ensures same { map (λ f. meaning f) formats.new ≡ map (λ f. meaning f) formats.old }
-{
-    let loaded = load_at(alloc, formats, place, store, names.input)?;
-    trace_design(alloc, names, &loaded.design)
+    let found = load_found(alloc, formats, store, names.input)?;
+    trace_design(alloc, names, &found.loaded.design)
 }
 
 fn trace_design<'a>(alloc: Global, names: FileNames<'a>, design: &Design) -> Made<'a>
