@@ -9,11 +9,7 @@ use Rattle.program_shell.specs.declared.format_indexes.Found.{Found}
 use Rattle.program_shell.proofs.RunLemmas.{run_ends}
 use Rattle.program_shell.proofs.RunOutcomes.{finished}
 
--- A failure of the rest of a plan is one of the plan.
-halts_next : (name bytes : List ℕ) (next : List ℕ → Plan) (store store' : StoreView) (why : Failure)
-    → IsInputContent store.files name bytes → IsFailureOf (next bytes) store store' why → IsFailureOf (reads name next) store store' why
-halts_next name bytes next store store' why h1 h2 = grind (arith, nat_tests)
-
+-- What the rest of a plan results in is a result of the plan.
 pub prepares_next : (name bytes : List ℕ) (next : List ℕ → Plan) (store mid store' : StoreView) (result : Result Product Failure)
     → ReadsInput name store mid (Ok bytes) → RunsPlan (next bytes) mid store' result → RunsPlan (reads name next) store store' result
 prepares_next name bytes next store mid store' result h1 h2 = grind (arith, nat_tests)
