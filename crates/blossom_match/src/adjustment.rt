@@ -1,8 +1,8 @@
-ghost use Rattle.std.specs.Prelude.{◌≡◌, ◌+◌, ◌^◌, ◌<◌, length, map};
 ghost use Rattle.blossom_match.specs.Duals.{changed_branch, CanChange, CanChangeHeights, CanChangeBranch, CanAdjust, ChangesDuals, ChangesHeights, Adjusts};
 ghost use Rattle.blossom_match.specs.States.{search_value};
 ghost use Rattle.odd_sets.specs.Lists.{Each};
 ghost use Rattle.odd_sets.specs.Slots.{branches_in, set_in};
+ghost use Rattle.std.specs.Prelude.{◌≡◌, ◌+◌, ◌^◌, ◌<◌, length, map};
 
 use crate::least::DualChange;
 use crate::state::Search;

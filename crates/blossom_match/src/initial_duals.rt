@@ -1,10 +1,10 @@
-ghost use Rattle.std.specs.Prelude.{◌≡◌, ◌≢◌, ◌≤◌, ◌<◌, ◌+◌, ◌*◌, ◌%◌, ℕ, IsTrue, length, nat_lt, slice_index, if◌then◌else◌, IfOk, IfSome};
 ghost use Rattle.blossom_match.specs.InitialDuals.{AreWithinDistances, CanPair, FindsTight, IsTightPair, KeepsSlack, HasFreeSlack, PairsFree};
 ghost use Rattle.blossom_match.specs.Phases.{IsPartialState};
 ghost use Rattle.blossom_match.specs.States.{partial_value};
 ghost use Rattle.odd_sets.specs.DualSets.{count};
 ghost use Rattle.odd_sets.specs.Tables.{entry};
 ghost use Rattle.odd_sets.specs.declared.table.TheConstants.{MAX_DISTANCE};
+ghost use Rattle.std.specs.Prelude.{◌≡◌, ◌≢◌, ◌≤◌, ◌<◌, ◌+◌, ◌*◌, ◌%◌, ℕ, IsTrue, length, nat_lt, slice_index, if◌then◌else◌, IfOk, IfSome};
 
 use crate::phase::begin;
 use crate::search::{finish, take_place};

@@ -1,4 +1,3 @@
-ghost use Rattle.std.specs.Prelude.{◌≡◌, ◌≢◌, ◌≤◌, ◌<◌, ◌∷◌, [], ℕ, length, slice_index};
 ghost use Rattle.blossom_match.specs.Candidates.{change_of, IsBestCandidate, IsCandidateAmong, CanFindEdge, IsCandidateChange, FindsSlackInSet, FindsSlackIn};
 ghost use Rattle.blossom_match.specs.LeastChanges.{step_of, IsLeastChange, CanSearch, IsLesserChange, IsLesserChangeAt};
 ghost use Rattle.blossom_match.specs.Masks.{masked_slack, IsBestShown, IsMaskedSlack, IsSearchMask};
@@ -12,6 +11,7 @@ ghost use Rattle.odd_sets.specs.Slots.{branch_in, branches_in, set_in};
 ghost use Rattle.odd_sets.specs.Tables.{IsTable};
 ghost use Rattle.odd_sets.specs.Trees.{outer_members, count_holding_both};
 ghost use Rattle.odd_sets.specs.declared.table.TheConstants.{FAR, MAX_PLACES};
+ghost use Rattle.std.specs.Prelude.{◌≡◌, ◌≢◌, ◌≤◌, ◌<◌, ◌∷◌, [], ℕ, length, slice_index};
 
 use crate::search::SearchStep;
 use crate::state::Search;

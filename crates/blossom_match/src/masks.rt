@@ -1,4 +1,3 @@
-ghost use Rattle.std.specs.Prelude.{◌≤◌, drop, length};
 ghost use Rattle.blossom_match.specs.Masks.{branch_members};
 ghost use Rattle.blossom_match.specs.States.{search_value};
 ghost use Rattle.odd_sets.specs.DualSets.{count};
@@ -7,6 +6,7 @@ ghost use Rattle.odd_sets.specs.MatchedSets.{match_members};
 ghost use Rattle.odd_sets.specs.SlackRows.{SetsCells};
 ghost use Rattle.odd_sets.specs.Slots.{branch_in, matches_in};
 ghost use Rattle.odd_sets.specs.declared.table.TheConstants.{FAR};
+ghost use Rattle.std.specs.Prelude.{◌≤◌, drop, length};
 
 use crate::state::Search;
 use odd_sets::{Branch, FAR, Match, Sets, put};

@@ -1,6 +1,6 @@
-ghost use Rattle.std.specs.Prelude.{◌≡◌, ◌%◌, IfOk};
 ghost use Rattle.blossom_match.specs.Matchings.{IsOptimalMatching};
 ghost use Rattle.odd_sets.specs.Tables.{HasTriangleInequality};
+ghost use Rattle.std.specs.Prelude.{◌≡◌, ◌%◌, IfOk};
 
 use crate::pairing::find_matches;
 use crate::taking::take_matches;

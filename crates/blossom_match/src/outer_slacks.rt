@@ -1,4 +1,3 @@
-ghost use Rattle.std.specs.Prelude.{◌≡◌, ◌≤◌, ◌<◌, ◌+◌, ℕ, drop, length, slice_index, take};
 ghost use Rattle.blossom_match.specs.OuterSlacks.{HasSlacks, HasSlackCells, AddsOuterSlacks, ComputesRootSlacks};
 ghost use Rattle.blossom_match.specs.States.{search_value};
 ghost use Rattle.odd_sets.specs.DualSets.{count};
@@ -8,6 +7,7 @@ ghost use Rattle.odd_sets.specs.Lists.{Each};
 ghost use Rattle.odd_sets.specs.SlackRows.{lowered_slack, MergesSlacks};
 ghost use Rattle.odd_sets.specs.Slots.{branches_in, set_in};
 ghost use Rattle.odd_sets.specs.declared.table.TheConstants.{FAR};
+ghost use Rattle.std.specs.Prelude.{◌≡◌, ◌≤◌, ◌<◌, ◌+◌, ℕ, drop, length, slice_index, take};
 
 use crate::state::Search;
 use odd_sets::{Branch, FAR, Handle, Sets, lower_slack, merge, put};

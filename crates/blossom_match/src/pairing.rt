@@ -1,7 +1,7 @@
-ghost use Rattle.std.specs.Prelude.{◌≡◌, ◌%◌, length, IfOk};
 ghost use Rattle.blossom_match.specs.Phases.{MatchesAll, IsPartialState};
 ghost use Rattle.odd_sets.specs.Slots.{matches_in};
 ghost use Rattle.odd_sets.specs.Tables.{IsMetric, HasTriangleInequality};
+ghost use Rattle.std.specs.Prelude.{◌≡◌, ◌%◌, length, IfOk};
 
 use crate::initial_duals::initial_matching;
 use crate::phase::pair_up;

@@ -1,4 +1,3 @@
-ghost use Rattle.std.specs.Prelude.{◌≡◌, ◌≤◌, ◌<◌, ◌+◌, ◌++◌, ◌∷◌, [], length, IfOk};
 ghost use Rattle.blossom_match.specs.LeastChanges.{CanSearch};
 ghost use Rattle.blossom_match.specs.Masks.{IsSearchMask};
 ghost use Rattle.blossom_match.specs.OuterSlacks.{AreSearchSlacks};
@@ -7,6 +6,7 @@ ghost use Rattle.blossom_match.specs.Searches.{CanStepAt};
 ghost use Rattle.blossom_match.specs.States.{search_value};
 ghost use Rattle.odd_sets.specs.Slots.{matches_in};
 ghost use Rattle.odd_sets.specs.Tables.{IsMetric};
+ghost use Rattle.std.specs.Prelude.{◌≡◌, ◌≤◌, ◌<◌, ◌+◌, ◌++◌, ◌∷◌, [], length, IfOk};
 
 use crate::adjustment::adjust;
 use crate::least::least;

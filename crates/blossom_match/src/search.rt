@@ -1,9 +1,9 @@
-ghost use Rattle.std.specs.Prelude.{◌≡◌, ◌≤◌, ◌<◌, ◌+◌, ℕ, length, slice_index, IfOk};
 ghost use Rattle.blossom_match.specs.OuterSlacks.{CarriesSlacks};
 ghost use Rattle.blossom_match.specs.Searches.{Advances, CanStep, CanStepAt, ExpandsBranch, EndsSearch, GrowsBranch};
 ghost use Rattle.blossom_match.specs.States.{search_value, partial_value};
 ghost use Rattle.blossom_match.specs.declared.search.SearchStep.TheVariants as step;
 ghost use Rattle.odd_sets.specs.DualSets.{count, one_if_equal};
+ghost use Rattle.std.specs.Prelude.{◌≡◌, ◌≤◌, ◌<◌, ◌+◌, ℕ, length, slice_index, IfOk};
 
 use crate::outer_slacks::fold_slacks;
 use crate::state::{Pairing, Search};

@@ -1,8 +1,8 @@
-ghost use Rattle.std.proofs.Props.{props};
 ghost use Rattle.odd_sets.specs.MatchedSets.{match_dual_sets};
 ghost use Rattle.odd_sets.specs.SlotProps.{set-prop};
 ghost use Rattle.odd_sets.specs.Slots.{branches_in, matches_in, set_in, AreSets};
 ghost use Rattle.odd_sets.specs.Trees.{all_dual_sets};
+ghost use Rattle.std.proofs.Props.{props};
 
 use odd_sets::{Branch, Handle, Match, Sets};
 

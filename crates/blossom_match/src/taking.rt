@@ -1,9 +1,9 @@
-ghost use Rattle.std.specs.Prelude.{◌≡◌, ◌≤◌, ◌++◌, ◌∷◌, [], ℕ, OnOk};
 ghost use Rattle.blossom_match.specs.Taken.{moat_of_set, TakesApartMatches, TakesApartSet};
 ghost use Rattle.odd_sets.specs.DualSets.{dual_sets, count};
 ghost use Rattle.odd_sets.specs.Lists.{Each};
 ghost use Rattle.odd_sets.specs.MatchedSets.{match_dual_sets, match_members, IsMatch};
 ghost use Rattle.odd_sets.specs.Slots.{matches_in, set_in, AreSets};
+ghost use Rattle.std.specs.Prelude.{◌≡◌, ◌≤◌, ◌++◌, ◌∷◌, [], ℕ, OnOk};
 
 use crate::matching::{Moat, Moats, Pair, Pairs};
 use lists_and_numbers::{Memory, Numbers};

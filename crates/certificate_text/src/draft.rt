@@ -1,6 +1,6 @@
-ghost use Rattle.std.specs.Prelude.{◌≡◌, ◌∷◌, ◌++◌, [], IfOk};
 ghost use Rattle.certificate_text.specs.ReadCertificates.{draft_with_text_line, draft_with_line};
 ghost use Rattle.certificate_text.specs.declared.lines.CertLine.TheVariants as line;
+ghost use Rattle.std.specs.Prelude.{◌≡◌, ◌∷◌, ◌++◌, [], IfOk};
 
 use crate::lines::{CertLine, line_of};
 use line_graph::Walk;

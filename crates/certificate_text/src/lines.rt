@@ -1,6 +1,6 @@
-ghost use Rattle.std.specs.Prelude.{◌≡◌, ◌∷◌, ◌<◌, IfOk, IfSome, option_map};
 ghost use Rattle.certificate_text.specs.CertificateLines.{parsed_cut, parsed_cert_line, parsed_members_after, parsed_number_above, only_number, parsed_pass_along, parsed_pass, parsed_passes, parsed_walk, parsed_cert_words};
 ghost use Rattle.certificate_text.specs.declared.lines.CertLine.TheVariants as line;
+ghost use Rattle.std.specs.Prelude.{◌≡◌, ◌∷◌, ◌<◌, IfOk, IfSome, option_map};
 ghost use Rattle.text_parts.specs.Parts.{words_in};
 
 use crate::words::number_in;

@@ -1,8 +1,8 @@
-ghost use Rattle.std.specs.List.{flat_map};
-ghost use Rattle.std.specs.Prelude.{◌≡◌, ◌+◌, ◌++◌, ◌<◌, ◌^◌, All, IfOk, Ok, OnOk, decimal};
 ghost use Rattle.certificate_text.specs.CertificateTexts.{certificate_text, cut_line_text, member_text, pass_text, passes_text, piece_text};
 ghost use Rattle.certificate_text.specs.ReadCertificates.{HasSmallNumbers, cert_of};
 ghost use Rattle.odd_cuts.specs.Certificates.{HasCanonicalText};
+ghost use Rattle.std.specs.List.{flat_map};
+ghost use Rattle.std.specs.Prelude.{◌≡◌, ◌+◌, ◌++◌, ◌<◌, ◌^◌, All, IfOk, Ok, OnOk, decimal};
 
 use itoa::Buffer;
 use line_graph::Pass;

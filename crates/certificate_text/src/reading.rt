@@ -1,8 +1,8 @@
-ghost use Rattle.std.specs.Prelude.{◌≡◌, ◌≤◌, All, IfOk, length};
 ghost use Rattle.certificate_text.specs.CertificateTexts.{certificate_text};
 ghost use Rattle.certificate_text.specs.ReadCertificates.{AreFew, ReadsCert, cert_of};
 ghost use Rattle.certificate_text.specs.declared.reading.CertFault.TheVariants as fault;
 ghost use Rattle.odd_cuts.specs.Certificates.{HasCanonicalText};
+ghost use Rattle.std.specs.Prelude.{◌≡◌, ◌≤◌, All, IfOk, length};
 
 use crate::draft::CertDraft;
 use lists_and_numbers::Memory;

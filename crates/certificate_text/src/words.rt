@@ -1,5 +1,5 @@
-ghost use Rattle.std.specs.Prelude.{◌≡◌};
 ghost use Rattle.certificate_text.specs.CertificateLines.{is_canonical_numeral, parsed_cert_number};
+ghost use Rattle.std.specs.Prelude.{◌≡◌};
 
 use lists_and_numbers::{are_digits, capped_value};
 

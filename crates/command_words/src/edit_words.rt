@@ -1,7 +1,7 @@
-ghost use Rattle.std.specs.Prelude.{◌≡◌, ◌≤◌, IfSome, option_map, unsigned_abs};
 ghost use Rattle.command_words.specs.Arguments.{natural_within, comma, parsed_named_edit, parsed_edit, parsed_mirror, split_at_byte, parsed_block_thread, point_within, turn_if_some};
 ghost use Rattle.command_words.specs.Edits.{IsEditInBounds, change_of_edit};
 ghost use Rattle.lists_and_numbers.specs.WholeNumbers.{parsed_whole};
+ghost use Rattle.std.specs.Prelude.{◌≡◌, ◌≤◌, IfSome, option_map, unsigned_abs};
 
 use crate::number_words::{parse_integer, parse_natural};
 use design_edits::{Axis, MAX_SHIFT};

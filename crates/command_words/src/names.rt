@@ -1,7 +1,7 @@
-ghost use Rattle.std.specs.Prelude.{◌≡◌, IfSome, map, option_map, string_bytes};
 ghost use Rattle.command_words.specs.Names.{if_named, names_and_rest, one_name, three_names, three_words, two_names};
 ghost use Rattle.command_words.specs.ValidNames.{AreFileNames, AreRouteNames, file_names_value, route_names_value};
 ghost use Rattle.outside_io.specs.Files.{IsFileName};
+ghost use Rattle.std.specs.Prelude.{◌≡◌, IfSome, map, option_map, string_bytes};
 
 use outside_io::is_name;
 

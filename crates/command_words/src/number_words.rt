@@ -1,6 +1,6 @@
-ghost use Rattle.std.specs.Prelude.{◌≡◌, ◌≤◌, IfSome, unsigned_abs};
 ghost use Rattle.command_words.specs.Arguments.{natural_within, natural_if_within, integer_within};
 ghost use Rattle.lists_and_numbers.specs.WholeNumbers.{parsed_whole};
+ghost use Rattle.std.specs.Prelude.{◌≡◌, ◌≤◌, IfSome, unsigned_abs};
 
 use lists_and_numbers::{Whole, parse_whole};
 

@@ -1,8 +1,8 @@
-ghost use Rattle.std.specs.Prelude.{◌≡◌, IfSome, codes, is_some, map, option_map, string_bytes};
 ghost use Rattle.command_words.specs.Arguments.{are_in_either_order, parsed_edits, parsed_refits};
 ghost use Rattle.command_words.specs.Names.{names_and_rest, three_words};
 ghost use Rattle.command_words.specs.Requests.{parsed_convert, parsed_edit_request, parsed_hoop, parsed_request, parsed_sample};
 ghost use Rattle.command_words.specs.ValidRequests.{IsValidRequest, request_value};
+ghost use Rattle.std.specs.Prelude.{◌≡◌, IfSome, codes, is_some, map, option_map, string_bytes};
 
 use crate::edit_words::parse_edit;
 use crate::names::{file_name, file_names, named_rest, only_name, route_names, three};

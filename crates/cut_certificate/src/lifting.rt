@@ -1,6 +1,6 @@
-ghost use Rattle.std.specs.Prelude.{◌<◌, ◌^◌, IfOk, length};
 ghost use Rattle.cut_certificate.specs.Lifts.{AreLiftableMoats, IsLifted};
 ghost use Rattle.line_graph.specs.PiecesOfDrawings.{graph_of};
+ghost use Rattle.std.specs.Prelude.{◌<◌, ◌^◌, IfOk, length};
 
 use crate::moat_cuts::add_cuts;
 use crate::moat_distances::reaches;

@@ -1,7 +1,7 @@
-ghost use Rattle.std.specs.Prelude.{◌≡◌, ◌+◌, ◌%◌, ◌<◌, ◌≤◌, All, IfOk, OnOk, length};
 ghost use Rattle.blossom_match.specs.declared.matching.Moat.{Moat as MoatValue};
 ghost use Rattle.cut_certificate.specs.Levels.{lift_input};
 ghost use Rattle.cut_certificate.specs.MoatDistances.{AreAllMoatDistances, HasRowsForMoats, HasProgress};
+ghost use Rattle.std.specs.Prelude.{◌≡◌, ◌+◌, ◌%◌, ◌<◌, ◌≤◌, All, IfOk, OnOk, length};
 
 use crate::single_moat::distances_of;
 use crate::terminal_state::{TerminalState, surround};

@@ -1,7 +1,7 @@
-ghost use Rattle.std.specs.Prelude.{ℕ, ◌≡◌, ◌-◌, ◌*◌, ◌<◌, ◌≤◌, ◌∷◌, [], IfOk, length, slice_index};
 ghost use Rattle.cut_certificate.specs.Levels.{lift_input};
 ghost use Rattle.cut_certificate.specs.MoatDistances.{AreLesser, AreLoweredDistances, HasRowsForMoats, HasDistance, HaveDistances, IsNextMoat, AreDistancesFrom};
 ghost use Rattle.drawing_model.specs.declared.limits.TheConstants.{MAX_COST};
+ghost use Rattle.std.specs.Prelude.{ℕ, ◌≡◌, ◌-◌, ◌*◌, ◌<◌, ◌≤◌, ◌∷◌, [], IfOk, length, slice_index};
 
 use crate::terminal_state::{TerminalState, state_at};
 use blossom_match::Moat;

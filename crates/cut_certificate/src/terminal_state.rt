@@ -1,5 +1,5 @@
-ghost use Rattle.std.specs.Prelude.{◌≡◌, ◌<◌, ◌≤◌, All, Some, length, slice_get};
 ghost use Rattle.cut_certificate.specs.TerminalStates.{covered, surrounded};
+ghost use Rattle.std.specs.Prelude.{◌≡◌, ◌<◌, ◌≤◌, All, Some, length, slice_get};
 
 /// The state of a terminal among the moats that were processed.
 #[derive(Clone, Copy)]

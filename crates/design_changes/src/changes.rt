@@ -1,5 +1,5 @@
-ghost use Rattle.std.specs.Prelude.{◌≤◌};
 ghost use Rattle.design_changes.specs.AppliedChanges.{AreValidChanges, IsChangesResult, change_list};
+ghost use Rattle.std.specs.Prelude.{◌≤◌};
 ghost use Rattle.step_splitter.specs.declared.segment.TheConstants.{MAX_STEP};
 
 use crate::change_faults::ChangeFailure;

@@ -1,4 +1,3 @@
-ghost use Rattle.std.specs.Prelude.{◌≡◌, ◌≤◌, ℕ, [], IfSome, IsSome, map, string_bytes, unsigned_abs, unwrap_or};
 ghost use Rattle.command_words.specs.Arguments.{parsed_edit, parsed_edits};
 ghost use Rattle.command_words.specs.Changes.{shift as shift_by, thread as thread_at};
 ghost use Rattle.command_words.specs.Edits.{IsEditInBounds, change_of_edit};
@@ -6,6 +5,7 @@ ghost use Rattle.command_words.specs.ValidRequests.{AreEdits};
 ghost use Rattle.design_changes.specs.AppliedChanges.{IsChangesResult};
 ghost use Rattle.design_changes.specs.ChangeSteps.{IsEditResult};
 ghost use Rattle.design_edits.specs.declared.motion.TheConstants.{MAX_SHIFT};
+ghost use Rattle.std.specs.Prelude.{◌≡◌, ◌≤◌, ℕ, [], IfSome, IsSome, map, string_bytes, unsigned_abs, unwrap_or};
 
 use crate::change_faults::{ChangeFailure, ChangeFault};
 use command_words::{Edit, parse_edit};

@@ -1,7 +1,7 @@
-ghost use Rattle.std.specs.Prelude.{◌∷◌, ◌≤◌, [], if◌then◌else◌};
 ghost use Rattle.command_words.specs.Arguments.{refit_changes};
 ghost use Rattle.design_changes.specs.AppliedChanges.{IsChangesResult};
 ghost use Rattle.design_changes.specs.ChangeSteps.{refit_change};
+ghost use Rattle.std.specs.Prelude.{◌∷◌, ◌≤◌, [], if◌then◌else◌};
 ghost use Rattle.step_splitter.specs.declared.segment.TheConstants.{MAX_STEP};
 
 use crate::change_faults::{ChangeFailure, ChangeFault};

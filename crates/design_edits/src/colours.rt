@@ -1,7 +1,7 @@
-ghost use Rattle.std.specs.Prelude.{◌≡◌, ◌<◌, length, OnOk};
 ghost use Rattle.design_edits.specs.Colours.{IsRecolourResult, Recolours, colour_place_count, threads_up_to};
 ghost use Rattle.design_model.specs.Designs.{thread_of, with_thread};
 ghost use Rattle.design_model.specs.declared.design.TheConstants.{MAX_THREADS};
+ghost use Rattle.std.specs.Prelude.{◌≡◌, ◌<◌, length, OnOk};
 
 use crate::edit_fault::EditFault;
 use design_model::{Design, MAX_THREADS, counts};

@@ -1,8 +1,8 @@
-ghost use Rattle.std.specs.Prelude.{◌≡◌, ◌≤◌, ◌+ℤ◌, neg_ℤ, unsigned_abs, IsTrue};
 ghost use Rattle.design_edits.specs.Motions.{is_small_motion, motion_map};
 ghost use Rattle.design_edits.specs.Moves.{mirror_point, quarter_point, shift_point, turn_point};
 ghost use Rattle.design_model.specs.Points.{is_point_within};
 ghost use Rattle.design_model.specs.declared.point.TheConstants.{JUMP_LIMIT};
+ghost use Rattle.std.specs.Prelude.{◌≡◌, ◌≤◌, ◌+ℤ◌, neg_ℤ, unsigned_abs, IsTrue};
 
 use crate::axis::Axis;
 use design_model::Point;

@@ -1,11 +1,11 @@
-ghost use Rattle.std.specs.List.{list_all};
-ghost use Rattle.std.specs.Prelude.{◌≡◌, ◌≤◌, ◌<◌, length, map, unsigned_abs, slice_get, IfSome, IsTrue, Some, None};
 ghost use Rattle.design_edits.specs.Motions.{is_small_motion, motion_map};
 ghost use Rattle.design_edits.specs.Moves.{first_out_of_range, mirrored, turned, with_mapped_point, with_mapped_points};
 ghost use Rattle.design_edits.specs.Shifts.{IsShiftResult};
 ghost use Rattle.design_model.specs.Commands.{is_command_in_range};
 ghost use Rattle.design_model.specs.Designs.{KeepsLimits, with_command_at};
 ghost use Rattle.design_model.specs.declared.design.TheConstants.{MAX_COMMANDS};
+ghost use Rattle.std.specs.List.{list_all};
+ghost use Rattle.std.specs.Prelude.{◌≡◌, ◌≤◌, ◌<◌, length, map, unsigned_abs, slice_get, IfSome, IsTrue, Some, None};
 
 use crate::axis::Axis;
 use crate::edit_fault::EditFault;

@@ -1,8 +1,8 @@
-ghost use Rattle.std.specs.Prelude.{◌≡◌};
 ghost use Rattle.design_files.specs.Loading.{FeedsFile, Loads};
 ghost use Rattle.design_files.specs.declared.loading.LoadFault.TheVariants as load;
 ghost use Rattle.format_traits.specs.Feeding.{HasNothingFed};
 ghost use Rattle.outside_io.specs.Files.{IsFileName};
+ghost use Rattle.std.specs.Prelude.{◌≡◌};
 
 use format_traits::{Format, Loaded, ReadFault, begin_by, feed_by, finish_by};
 use lists_and_numbers::Memory;

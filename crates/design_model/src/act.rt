@@ -1,5 +1,5 @@
-ghost use Rattle.std.specs.Prelude.{◌≡◌};
 ghost use Rattle.design_model.specs.ActPositions.{leaves_thread_loose, needle_position_after};
+ghost use Rattle.std.specs.Prelude.{◌≡◌};
 
 use crate::point::Point;
 

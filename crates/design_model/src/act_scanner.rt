@@ -1,9 +1,9 @@
-ghost use Rattle.std.specs.Prelude.{◌≡◌, ◌∷◌, ◌++◌, ◌+◌, ◌<◌, ◌^◌, List, IsTrue, IfSome, option_to_list};
 ghost use Rattle.design_model.specs.ActPositions.{is_act_in_range};
 ghost use Rattle.design_model.specs.ActScanners.{acts_after};
 ghost use Rattle.design_model.specs.Acts.{acts_along};
 ghost use Rattle.design_model.specs.Commands.{is_command_in_range};
 ghost use Rattle.design_model.specs.declared.command.Command.{Command as CommandValue};
+ghost use Rattle.std.specs.Prelude.{◌≡◌, ◌∷◌, ◌++◌, ◌+◌, ◌<◌, ◌^◌, List, IsTrue, IfSome, option_to_list};
 
 use crate::act::NumberedAct;
 use crate::command::Command;

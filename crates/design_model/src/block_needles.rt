@@ -1,10 +1,10 @@
-ghost use Rattle.std.specs.Prelude.{◌≡◌, ◌≤◌, ◌<◌, ◌+◌, ◌∷◌, ℕ, List, length, true, IfOk, OnOk};
 ghost use Rattle.design_model.specs.ActPositions.{leaves_thread_loose};
 ghost use Rattle.design_model.specs.Acts.{acts_along, numbered};
 ghost use Rattle.design_model.specs.Blocks.{continued_block_counts, needles_by_block, needles_of_blocks};
 ghost use Rattle.design_model.specs.Counts.{counts_of};
 ghost use Rattle.design_model.specs.declared.act.NumberedAct.{NumberedAct as NumberedActValue};
 ghost use Rattle.design_model.specs.declared.design.TheConstants.{MAX_COMMANDS};
+ghost use Rattle.std.specs.Prelude.{◌≡◌, ◌≤◌, ◌<◌, ◌+◌, ◌∷◌, ℕ, List, length, true, IfOk, OnOk};
 
 use crate::act::Act;
 use crate::command::Command;

@@ -1,5 +1,5 @@
-ghost use Rattle.std.specs.Prelude.{◌≡◌};
 ghost use Rattle.design_model.specs.Extents.{extent_height, extent_width};
+ghost use Rattle.std.specs.Prelude.{◌≡◌};
 
 use crate::point::Point;
 

@@ -1,5 +1,5 @@
-ghost use Rattle.std.specs.Prelude.{◌≡◌};
 ghost use Rattle.design_model.specs.Commands.{is_command_in_range, command_with_point, command_accepts_point, target_of};
+ghost use Rattle.std.specs.Prelude.{◌≡◌};
 
 use crate::point::{JUMP_LIMIT, NEEDLE_LIMIT, Point};
 

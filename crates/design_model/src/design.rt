@@ -1,8 +1,8 @@
-ghost use Rattle.std.specs.List.{list_all};
-ghost use Rattle.std.specs.Prelude.{◌≡◌, ◌<◌, ◌≤◌, ◌∷◌, ◌++◌, [], length, slice_get, slice_set, IfSome, IsSomeAnd, IsTrue};
 ghost use Rattle.design_model.specs.Commands.{is_command_in_range, command_with_point, command_accepts_point};
 ghost use Rattle.design_model.specs.Labels.{IsLabel};
 ghost use Rattle.design_model.specs.declared.design.ModelFault.TheVariants as fault;
+ghost use Rattle.std.specs.List.{list_all};
+ghost use Rattle.std.specs.Prelude.{◌≡◌, ◌<◌, ◌≤◌, ◌∷◌, ◌++◌, [], length, slice_get, slice_set, IfSome, IsSomeAnd, IsTrue};
 
 use crate::command::Command;
 use crate::point::Point;

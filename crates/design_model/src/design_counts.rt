@@ -1,8 +1,8 @@
-ghost use Rattle.std.specs.Prelude.{◌≡◌, ◌≤◌, ◌<◌, ◌+◌, ◌∷◌, [], ℕ, length, true};
 ghost use Rattle.design_model.specs.ActPositions.{leaves_thread_loose};
 ghost use Rattle.design_model.specs.Acts.{numbered_act_list, numbered};
 ghost use Rattle.design_model.specs.Counts.{counts_of, counts_of_commands, total_of_counts, with_acts};
 ghost use Rattle.design_model.specs.declared.design.TheConstants.{MAX_COMMANDS};
+ghost use Rattle.std.specs.Prelude.{◌≡◌, ◌≤◌, ◌<◌, ◌+◌, ◌∷◌, [], ℕ, length, true};
 
 use crate::act::Act;
 use crate::command::Command;

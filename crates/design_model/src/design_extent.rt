@@ -1,7 +1,7 @@
-ghost use Rattle.std.specs.Int.{int_min, int_max};
-ghost use Rattle.std.specs.Prelude.{◌≡◌, ◌∷◌, [], Some};
 ghost use Rattle.design_model.specs.Acts.{acts_along};
 ghost use Rattle.design_model.specs.Extents.{IsExtentOrNone, grown_optional_extent, extent_of, extent_of_points, needle_points_of_acts, needle_points_of_design};
+ghost use Rattle.std.specs.Int.{int_min, int_max};
+ghost use Rattle.std.specs.Prelude.{◌≡◌, ◌∷◌, [], Some};
 
 use crate::act::Act;
 use crate::bounds::Extent;

@@ -1,5 +1,5 @@
-ghost use Rattle.std.specs.Prelude.{◌≡◌};
 ghost use Rattle.design_model.specs.Points.{is_point_within};
+ghost use Rattle.std.specs.Prelude.{◌≡◌};
 
 /// The maximum absolute value of a needle coordinate, in tenths of a millimetre.
 pub const NEEDLE_LIMIT: u32 = 30_000;

@@ -1,7 +1,7 @@
-ghost use Rattle.std.specs.Prelude.{◌≡◌, ◌∷◌, ◌++◌, ◌+◌, ℕ, List, None, true, false};
 ghost use Rattle.design_model.specs.Acts.{acts_from, numbered_act_list};
 ghost use Rattle.design_model.specs.Commands.{target_of};
 ghost use Rattle.design_model.specs.declared.command.Command.{Command as CommandValue};
+ghost use Rattle.std.specs.Prelude.{◌≡◌, ◌∷◌, ◌++◌, ◌+◌, ℕ, List, None, true, false};
 
 use crate::act::Act;
 use crate::command::Command;

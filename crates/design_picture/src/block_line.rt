@@ -1,5 +1,5 @@
-ghost use Rattle.std.specs.Prelude.{◌≡◌, ◌++◌, OnOk};
 ghost use Rattle.design_picture.specs.Captions.{block_line, block_start, block_words, legend_text};
+ghost use Rattle.std.specs.Prelude.{◌≡◌, ◌++◌, OnOk};
 
 use crate::strokes::{BlockEnd, Stroke};
 use lists_and_numbers::{Bytes, Memory};

@@ -1,5 +1,5 @@
-ghost use Rattle.std.specs.Prelude.{◌≡◌, ◌++◌, OnOk};
 ghost use Rattle.design_picture.specs.Hoops.{hoop_as_fits, hoop_class, hoop_end, hoop_start, hoop_text, offset_text};
+ghost use Rattle.std.specs.Prelude.{◌≡◌, ◌++◌, OnOk};
 
 use design_model::{Extent, Point, height, width};
 use hoop_check::Fit;

@@ -1,6 +1,6 @@
-ghost use Rattle.std.specs.Prelude.{◌≡◌, ◌++◌, ◌<◌, ◌^◌, OnOk};
 ghost use Rattle.design_model.specs.Extents.{extent_height, extent_width};
 ghost use Rattle.design_picture.specs.Layouts.{area_of as area_around, below_start, corners, lower_left, side_of, sheet_of as sheet_around, title_text, top_text};
+ghost use Rattle.std.specs.Prelude.{◌≡◌, ◌++◌, ◌<◌, ◌^◌, OnOk};
 
 use crate::block_line::LINE_HEIGHT;
 use crate::hoop::Hoop;

@@ -1,6 +1,6 @@
+ghost use Rattle.design_picture.specs.Passes.{earlier_passes, is_same_stitch, passes_of, passes_with, turned_stitch};
 ghost use Rattle.std.specs.HashMap.{get};
 ghost use Rattle.std.specs.Prelude.{◌≡◌, ◌≤◌, IfOk, OnOk};
-ghost use Rattle.design_picture.specs.Passes.{earlier_passes, is_same_stitch, passes_of, passes_with, turned_stitch};
 
 use design_model::Point;
 use lists_and_numbers::Memory;

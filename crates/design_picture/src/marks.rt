@@ -1,7 +1,7 @@
-ghost use Rattle.std.specs.Prelude.{◌≡◌, ◌++◌, OnOk};
 ghost use Rattle.design_picture.specs.StrokeMarks.{begin_text, opening_text, piece_number, stroke_marks};
 ghost use Rattle.picture_parts.specs.Marks.{mark_text};
 ghost use Rattle.picture_parts.specs.declared.marks.Mark.TheVariants as mark;
+ghost use Rattle.std.specs.Prelude.{◌≡◌, ◌++◌, OnOk};
 
 use crate::strokes::{PieceStart, Stroke};
 use design_model::Point;

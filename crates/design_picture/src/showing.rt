@@ -1,7 +1,7 @@
-ghost use Rattle.std.specs.Prelude.{◌≡◌, ◌++◌, IfOk, OnOk, ◌<◌, ◌^◌};
 ghost use Rattle.design_model.specs.declared.design.TheConstants.{MAX_COMMANDS};
 ghost use Rattle.design_picture.specs.Pens.{HasCounted};
 ghost use Rattle.design_picture.specs.Pictures.{below_text, design_area, design_top, framed_text, hoop_if_given, last_mark, middle_mark, over_text, picture_of, picture_with, shown_hoop, threads_text};
+ghost use Rattle.std.specs.Prelude.{◌≡◌, ◌++◌, IfOk, OnOk, ◌<◌, ◌^◌};
 
 use crate::block_line::put_block;
 use crate::caption::{put_caption, put_group_end};

@@ -1,6 +1,3 @@
-ghost use Rattle.std.specs.HashMap.{get};
-ghost use Rattle.std.specs.List.{list_all};
-ghost use Rattle.std.specs.Prelude.{◌≡◌, ◌≤◌, ◌<◌, ◌+◌, ◌^◌, ◌∷◌, ◌++◌, ℕ, List, None, IfOk, IsTrue, OnOk, length};
 ghost use Rattle.design_model.specs.Acts.{acts_along, numbered};
 ghost use Rattle.design_model.specs.Commands.{is_command_in_range};
 ghost use Rattle.design_model.specs.declared.act.NumberedAct.{NumberedAct as NumberedActValue};
@@ -8,6 +5,9 @@ ghost use Rattle.design_model.specs.declared.design.TheConstants.{MAX_COMMANDS};
 ghost use Rattle.design_picture.specs.Passes.{is_same_stitch};
 ghost use Rattle.design_picture.specs.Pens.{HasCounted, first_pen, pen_after};
 ghost use Rattle.design_picture.specs.Strokes.{block_end, needle_passes, needle_stroke, passes_after, pen_along, pen_of, stop_stroke, stroke_of_act, strokes_from, strokes_of};
+ghost use Rattle.std.specs.HashMap.{get};
+ghost use Rattle.std.specs.List.{list_all};
+ghost use Rattle.std.specs.Prelude.{◌≡◌, ◌≤◌, ◌<◌, ◌+◌, ◌^◌, ◌∷◌, ◌++◌, ℕ, List, None, IfOk, IsTrue, OnOk, length};
 
 use crate::links::{PointPair, pass};
 use crate::pen::{ARROW_GAP, Pen};

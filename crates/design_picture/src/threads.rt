@@ -1,5 +1,5 @@
-ghost use Rattle.std.specs.Prelude.{◌≡◌, ◌++◌, OnOk};
 ghost use Rattle.design_picture.specs.Threads.{arc_text, arrow_shape, arrow_text, colour_change_text, hole_shape, hole_text, is_long, bow_of, second_shape, second_text, sewn_text, thread_text, travel_shape, travel_text, long_hole_text, arrow_if, way_text};
+ghost use Rattle.std.specs.Prelude.{◌≡◌, ◌++◌, OnOk};
 
 use crate::strokes::{PieceStart, SewnStitch, Stroke};
 use design_model::Point;

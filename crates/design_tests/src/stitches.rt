@@ -1,5 +1,5 @@
-ghost use Rattle.std.specs.Prelude.{◌≡◌};
 ghost use Rattle.design_model.specs.declared.command.Command.TheVariants.{Stitch};
+ghost use Rattle.std.specs.Prelude.{◌≡◌};
 
 use design_model::{Command, Point};
 

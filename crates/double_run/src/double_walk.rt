@@ -1,7 +1,7 @@
-ghost use Rattle.std.specs.Prelude.{◌≡◌, ◌*◌, IfOk, true};
 ghost use Rattle.double_run.specs.DoubleWalks.{IsDouble, without_ends};
 ghost use Rattle.line_graph.specs.PieceWalks.{is_fitting_walk, piece_cost, walk_cost};
 ghost use Rattle.line_graph.specs.PiecesOfDrawings.{graph_of};
+ghost use Rattle.std.specs.Prelude.{◌≡◌, ◌*◌, IfOk, true};
 
 use crate::traversal::{begin_traversal, step};
 use line_graph::{Piece, Walk};

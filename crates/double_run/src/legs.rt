@@ -1,7 +1,7 @@
-ghost use Rattle.std.specs.Prelude.{◌≡◌, ◌/◌, ◌<◌, length, not};
 ghost use Rattle.double_run.specs.Traversals.{leg_pass};
 ghost use Rattle.line_graph.specs.PieceGraphs.{is_odd};
 ghost use Rattle.line_graph.specs.PieceWalks.{pass_end, pass_start};
+ghost use Rattle.std.specs.Prelude.{◌≡◌, ◌/◌, ◌<◌, length, not};
 
 use line_graph::{Edge, Pass};
 

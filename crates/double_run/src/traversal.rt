@@ -1,7 +1,7 @@
-ghost use Rattle.std.specs.Prelude.{◌≡◌, ◌<◌, [], IfOk, OnOk, false, true};
 ghost use Rattle.double_run.specs.TraversalSteps.{GoesOut, StepsTraversal};
 ghost use Rattle.double_run.specs.Traversals.{IsTraversal, HasTraversalTables, KeepsTraversal, IsLegFrom, is_exhausted};
 ghost use Rattle.line_graph.specs.PiecesOfDrawings.{graph_of};
+ghost use Rattle.std.specs.Prelude.{◌≡◌, ◌<◌, [], IfOk, OnOk, false, true};
 
 use crate::legs::{DirectedLeg, end_of_leg, leg_from, start_of_leg};
 use euler_tour::{LineEnds, chain, skip_end};

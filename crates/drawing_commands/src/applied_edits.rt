@@ -1,4 +1,3 @@
-ghost use Rattle.std.specs.Prelude.{◌≡◌, ◌∷◌, ◌≤◌, IfOk, IfSome, IsSome, length, map, string_bytes, true};
 ghost use Rattle.drawing_commands.specs.DrawingEditWords.{drawing_edits_of, parsed_drawing_edit, parsed_drawing_edits};
 ghost use Rattle.drawing_commands.specs.DrawingEditing.{bad_edit_is_out_of_memory, edits_applied};
 ghost use Rattle.drawing_edits.specs.EditFaults.{edit_is_out_of_memory};
@@ -6,6 +5,7 @@ ghost use Rattle.drawing_edits.specs.EditedDrawings.{IsDrawingEdit, edited_drawi
 ghost use Rattle.drawing_model.specs.EndOrders.{HasOrderedEnds};
 ghost use Rattle.drawing_model.specs.JoinedDrawings.{is_joined};
 ghost use Rattle.lists_and_numbers.specs.OutOfMemory.{IsSpecified};
+ghost use Rattle.std.specs.Prelude.{◌≡◌, ◌∷◌, ◌≤◌, IfOk, IfSome, IsSome, length, map, string_bytes, true};
 
 use crate::bad_edit::BadEdit;
 use crate::drawing_edit_words::parse_drawing_edit;

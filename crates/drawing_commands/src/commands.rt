@@ -1,7 +1,7 @@
-ghost use Rattle.std.specs.Prelude.{map, string_bytes};
 ghost use Rattle.drawing_commands.specs.Commands.{stitch_drawing};
 ghost use Rattle.drawing_commands.specs.Requests.{drawing_order_of};
 ghost use Rattle.program_shell.specs.StepOutcomes.{RunsRequest};
+ghost use Rattle.std.specs.Prelude.{map, string_bytes};
 
 use crate::editing::edit;
 use crate::looking::look;

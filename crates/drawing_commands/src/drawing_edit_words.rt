@@ -1,8 +1,8 @@
-ghost use Rattle.std.specs.Prelude.{◌≡◌, IfSome, Some, is_some, map, string_bytes};
 ghost use Rattle.command_words.specs.Arguments.{comma, split_at_byte};
 ghost use Rattle.command_words.specs.Edits.{IsEditInBounds, change_of_edit};
 ghost use Rattle.drawing_commands.specs.DrawingEditWords.{moving_edit, parsed_drawing_edit, parsed_drawing_edits, parsed_named_drawing_edit, parsed_order};
 ghost use Rattle.drawing_edits.specs.EditedDrawings.{IsDrawingEdit};
+ghost use Rattle.std.specs.Prelude.{◌≡◌, IfSome, Some, is_some, map, string_bytes};
 
 use command_words::{Edit, parse_edit, parse_natural, parse_point, split_once};
 use design_edits::Motion;

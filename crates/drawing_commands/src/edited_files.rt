@@ -1,4 +1,3 @@
-ghost use Rattle.std.specs.Prelude.{◌≡◌, Ok, IfOk, true};
 ghost use Rattle.drawing_commands.specs.DrawingEditing.{IsEdited};
 ghost use Rattle.drawing_model.specs.EndOrders.{HasOrderedEnds};
 ghost use Rattle.drawing_model.specs.JoinedDrawings.{is_joined};
@@ -8,6 +7,7 @@ ghost use Rattle.outside_io.specs.Files.{IsFileName};
 ghost use Rattle.program_shell.specs.Plans.{accepts};
 ghost use Rattle.program_shell.specs.Products.{product_value};
 ghost use Rattle.program_shell.specs.StepOutcomes.{RunsPurePlan};
+ghost use Rattle.std.specs.Prelude.{◌≡◌, Ok, IfOk, true};
 
 use drawing_model::{Drawing, joined_drawings_stay};
 use drawing_text::print_drawn;

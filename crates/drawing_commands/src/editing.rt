@@ -1,9 +1,9 @@
-ghost use Rattle.std.specs.Prelude.{◌≤◌, IsSome, length, map, string_bytes};
 ghost use Rattle.command_words.specs.ValidNames.{AreFileNames};
 ghost use Rattle.drawing_commands.specs.DrawingEditWords.{drawing_edits_of, parsed_drawing_edits};
 ghost use Rattle.drawing_commands.specs.DrawingEditing.{drawing_edit_order, drawing_edit_plan, edited_plan, edits_applied};
 ghost use Rattle.drawing_model.specs.EndOrders.{HasOrderedEnds};
 ghost use Rattle.program_shell.specs.StepOutcomes.{RunsPlan, RunsPurePlan};
+ghost use Rattle.std.specs.Prelude.{◌≤◌, IsSome, length, map, string_bytes};
 
 use crate::applied_edits::edited;
 use crate::edit_failures::edit_failure;

@@ -1,8 +1,8 @@
-ghost use Rattle.std.specs.Prelude.{◌≡◌, ◌++◌, ◌+◌, IfOk, OnOk, codes, decimal, length, string_bytes};
 ghost use Rattle.drawing_commands.specs.LookTexts.{lengths_text, look_piece_line, look_piece_lines, look_report, piece_counts_text, piece_title, place_line_text, place_lines, place_name, place_point_text, stitches_text};
 ghost use Rattle.line_graph.specs.PieceGraphs.{odd_junctions};
 ghost use Rattle.line_graph.specs.PiecesOfDrawings.{graph_of};
 ghost use Rattle.piece_stitches.specs.PieceStitches.{HasSmallTotals};
+ghost use Rattle.std.specs.Prelude.{◌≡◌, ◌++◌, ◌+◌, IfOk, OnOk, codes, decimal, length, string_bytes};
 
 use drawing_review::{Place, PlaceKind};
 use line_graph::Piece;

@@ -1,9 +1,9 @@
-ghost use Rattle.std.specs.Prelude.{IfOk};
 ghost use Rattle.drawing_commands.specs.Looks.{IsLook, look_order, look_plan};
 ghost use Rattle.outside_io.specs.Files.{IsFileName};
 ghost use Rattle.program_shell.specs.Plans.{accepts};
 ghost use Rattle.program_shell.specs.Products.{product_value};
 ghost use Rattle.program_shell.specs.StepOutcomes.{RunsPlan, RunsPurePlan};
+ghost use Rattle.std.specs.Prelude.{IfOk};
 
 use crate::look_texts::print_look;
 use drawing_inputs::{LinesRead, lines_in};

@@ -1,4 +1,3 @@
-ghost use Rattle.std.specs.Prelude.{◌≡◌, codes, map, string_bytes};
 ghost use Rattle.drawing_commands.specs.Commands.{drawing_usage_text, stitch_drawing};
 ghost use Rattle.drawing_commands.specs.Requests.{drawing_order_of};
 ghost use Rattle.program_shell.specs.Messages.{out_of_memory_line};
@@ -6,6 +5,7 @@ ghost use Rattle.program_shell.specs.Puts.{ReportsLineWithStatus};
 ghost use Rattle.program_shell.specs.RunViews.{views_of};
 ghost use Rattle.program_shell.specs.Runs.{RunEnds};
 ghost use Rattle.program_shell.specs.declared.status.Status.TheVariants as status;
+ghost use Rattle.std.specs.Prelude.{◌≡◌, codes, map, string_bytes};
 
 use crate::commands::make_product;
 use outside_io::{Sink, Store};

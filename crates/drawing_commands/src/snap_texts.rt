@@ -1,7 +1,7 @@
-ghost use Rattle.std.specs.Prelude.{◌≡◌, IfOk, string_bytes};
 ghost use Rattle.drawing_commands.specs.SnapTexts.{snap_fault_text, snap_report, vanished_text};
 ghost use Rattle.drawing_repairs.specs.Snaps.{snap_is_out_of_memory};
 ghost use Rattle.program_shell.specs.StepOutcomes.{IsFaultFailure, IsRefusalWith};
+ghost use Rattle.std.specs.Prelude.{◌≡◌, IfOk, string_bytes};
 
 use drawing_model::DrawKind;
 use drawing_repairs::{SnapFault, VanishedLine};

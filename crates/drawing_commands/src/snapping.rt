@@ -1,4 +1,3 @@
-ghost use Rattle.std.specs.Prelude.{ℕ, IfOk};
 ghost use Rattle.command_words.specs.ValidNames.{AreFileNames};
 ghost use Rattle.drawing_commands.specs.SnapOrders.{IsSnapProduct, snap_lines, snap_order, snap_plan};
 ghost use Rattle.drawing_commands.specs.WholeProducts.{IsWhole};
@@ -6,6 +5,7 @@ ghost use Rattle.drawing_model.specs.EndOrders.{HasOrderedEnds};
 ghost use Rattle.drawing_repairs.specs.SecondSnaps.{StaysSnapped};
 ghost use Rattle.program_shell.specs.Products.{product_value};
 ghost use Rattle.program_shell.specs.StepOutcomes.{RunsPlan, RunsPurePlan};
+ghost use Rattle.std.specs.Prelude.{ℕ, IfOk};
 
 use crate::snap_texts::{print_snap, snap_failure};
 use crate::whole_files::whole_product;

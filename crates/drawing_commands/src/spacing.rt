@@ -1,10 +1,10 @@
-ghost use Rattle.std.specs.Prelude.{IfOk};
 ghost use Rattle.command_words.specs.ValidNames.{AreFileNames};
 ghost use Rattle.drawing_commands.specs.SpaceOrders.{IsSpaceProduct, space_lines, space_order, space_plan};
 ghost use Rattle.drawing_commands.specs.WholeProducts.{IsWhole};
 ghost use Rattle.drawing_model.specs.EndOrders.{HasOrderedEnds};
 ghost use Rattle.program_shell.specs.Products.{product_value};
 ghost use Rattle.program_shell.specs.StepOutcomes.{RunsPlan, RunsPurePlan};
+ghost use Rattle.std.specs.Prelude.{IfOk};
 
 use crate::space_texts::{print_space, space_failure};
 use crate::whole_files::whole_product;

@@ -1,6 +1,6 @@
-ghost use Rattle.std.specs.Prelude.{IfOk};
 ghost use Rattle.drawing_commands.specs.WholeProducts.{IsWholeProduct, IsWhole};
 ghost use Rattle.program_shell.specs.Products.{product_value};
+ghost use Rattle.std.specs.Prelude.{IfOk};
 
 use drawing_model::Drawing;
 use drawing_text::print_drawn;

@@ -1,11 +1,11 @@
-ghost use Rattle.std.specs.Int.{int_div_euclid};
-ghost use Rattle.std.specs.Prelude.{◌≡◌, ◌≤◌, IfSome, IsTrue, neg_ℤ, pos, unsigned_abs, ◌+ℤ◌};
 ghost use Rattle.design_edits.specs.Motions.{is_small_motion, motion_map};
 ghost use Rattle.design_edits.specs.Moves.{shift_point};
 ghost use Rattle.design_model.specs.Extents.{extent_of_points};
 ghost use Rattle.design_model.specs.declared.point.TheConstants.{NEEDLE_LIMIT};
 ghost use Rattle.drawing_edits.specs.MovedDrawings.{IsNeedleExtent, middle_of, middle_of_drawing};
 ghost use Rattle.line_sections.specs.Lines.{points_of_lines};
+ghost use Rattle.std.specs.Int.{int_div_euclid};
+ghost use Rattle.std.specs.Prelude.{◌≡◌, ◌≤◌, IfSome, IsTrue, neg_ℤ, pos, unsigned_abs, ◌+ℤ◌};
 
 use design_edits::Motion;
 use design_model::{Extent, Point};

@@ -1,7 +1,7 @@
-ghost use Rattle.std.specs.List.{flat_map, position_or_len};
-ghost use Rattle.std.specs.Prelude.{◌≡◌, ◌≤◌, ◌++◌, IfOk, OnOk, length};
 ghost use Rattle.design_model.specs.Points.{is_same_point};
 ghost use Rattle.drawing_edits.specs.PlacedEnds.{is_inner_index, line_cut_at};
+ghost use Rattle.std.specs.List.{flat_map, position_or_len};
+ghost use Rattle.std.specs.Prelude.{◌≡◌, ◌≤◌, ◌++◌, IfOk, OnOk, length};
 
 use crate::line_lists::put_line;
 use design_model::Point;

@@ -1,7 +1,7 @@
-ghost use Rattle.std.specs.Prelude.{◌≡◌, All, IfOk, IsTrue, map};
 ghost use Rattle.design_edits.specs.Motions.{is_small_motion, motion_map};
 ghost use Rattle.drawing_edits.specs.MovedDrawings.{with_moved_line, with_moved_spot};
 ghost use Rattle.drawing_model.specs.Drawings.{IsLine};
+ghost use Rattle.std.specs.Prelude.{◌≡◌, All, IfOk, IsTrue, map};
 ghost use Rattle.step_splitter.specs.Chains.{IsNeedlePoint};
 
 use design_edits::Motion;

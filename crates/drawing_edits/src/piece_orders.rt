@@ -1,4 +1,3 @@
-ghost use Rattle.std.specs.Prelude.{◌≡◌, ◌≤◌, ◌<◌, ◌-◌, ◌++◌, ◌∷◌, [], All, IfErr, IfOk, None, OnOk, Some, length, map, slice_get, true};
 ghost use Rattle.drawing_edits.specs.EditFaults.{edit_is_out_of_memory};
 ghost use Rattle.drawing_edits.specs.PieceOrders.{IsPieceOf, drawn_from, line_numbered, lines_outside, lines_with_piece, ordered_lines, piece_put_before, pieces_in_order};
 ghost use Rattle.drawing_edits.specs.declared.edit_fault.EditFault.TheVariants as fault;
@@ -7,6 +6,7 @@ ghost use Rattle.drawing_model.specs.JoinedDrawings.{is_joined};
 ghost use Rattle.line_graph.specs.Pieces.{first_line};
 ghost use Rattle.line_graph.specs.PiecesOfDrawings.{lines_of_pieces};
 ghost use Rattle.lists_and_numbers.specs.OutOfMemory.{IsSpecified};
+ghost use Rattle.std.specs.Prelude.{◌≡◌, ◌≤◌, ◌<◌, ◌-◌, ◌++◌, ◌∷◌, [], All, IfErr, IfOk, None, OnOk, Some, length, map, slice_get, true};
 
 use crate::edit_fault::EditFault;
 use crate::line_lists::put_line;

@@ -1,11 +1,11 @@
-ghost use Rattle.std.specs.List.{list_any, position_or_len};
-ghost use Rattle.std.specs.Prelude.{◌≡◌, ◌≤◌, IfOk, Some, length, nat_lt, true};
 ghost use Rattle.design_model.specs.Points.{is_same_point};
 ghost use Rattle.drawing_edits.specs.EditFaults.{edit_answer, edit_is_out_of_memory};
 ghost use Rattle.drawing_edits.specs.PlacedEnds.{block_if_all, end_placed, first_block, lines_listing, only_block, with_end_at, with_spot};
 ghost use Rattle.drawing_edits.specs.RedrawnDrawings.{redrawn};
 ghost use Rattle.drawing_model.specs.JoinedDrawings.{is_joined};
 ghost use Rattle.lists_and_numbers.specs.OutOfMemory.{IsSpecified};
+ghost use Rattle.std.specs.List.{list_any, position_or_len};
+ghost use Rattle.std.specs.Prelude.{◌≡◌, ◌≤◌, IfOk, Some, length, nat_lt, true};
 
 use crate::edit_fault::EditFault;
 use crate::line_cuts::cut_lines;

@@ -1,8 +1,8 @@
-ghost use Rattle.std.specs.Prelude.{IfOk};
 ghost use Rattle.drawing_text.specs.DrawingText.{IsJoinedWithoutEnds, drawing_as2, drawing_of};
 ghost use Rattle.outside_io.specs.Files.{IsFileName};
 ghost use Rattle.program_shell.specs.StepOutcomes.{ParsesInput};
 ghost use Rattle.program_texts.specs.DrawingTexts.{draw_fault_text};
+ghost use Rattle.std.specs.Prelude.{IfOk};
 
 use crate::fault_failures::drawing_failure;
 use drawing_model::Drawing;

@@ -1,4 +1,3 @@
-ghost use Rattle.std.specs.Prelude.{◌≤◌, IfOk, length};
 ghost use Rattle.drawing_inputs.specs.DrawingLines.{lines_read};
 ghost use Rattle.drawing_model.specs.EndOrders.{HasOrderedEnds};
 ghost use Rattle.drawing_text.specs.DrawingText.{draw_fault_is_out_of_memory};
@@ -7,6 +6,7 @@ ghost use Rattle.lists_and_numbers.specs.OutOfMemory.{IsSpecified};
 ghost use Rattle.outside_io.specs.Files.{IsFileName};
 ghost use Rattle.program_shell.specs.StepOutcomes.{ParsesInput};
 ghost use Rattle.program_texts.specs.DrawingTexts.{draw_fault_text};
+ghost use Rattle.std.specs.Prelude.{◌≤◌, IfOk, length};
 
 use crate::fault_failures::drawing_failure;
 use drawing_model::Drawing;

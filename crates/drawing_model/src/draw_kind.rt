@@ -1,5 +1,5 @@
-ghost use Rattle.std.specs.Prelude.{◌≡◌};
 ghost use Rattle.drawing_model.specs.declared.draw_kind.DrawKind.TheVariants as kind;
+ghost use Rattle.std.specs.Prelude.{◌≡◌};
 
 use lists_and_numbers::Memory;
 use std::alloc::AllocFailed;

@@ -1,9 +1,9 @@
-ghost use Rattle.std.specs.Prelude.{◌≡◌, ◌<◌, ◌≤◌, IfOk, length, slice_index};
 ghost use Rattle.design_model.specs.Labels.{IsLabel};
 ghost use Rattle.drawing_model.specs.Drawings.{DrawingValue, KeepsDrawingLimits, block_of, points_of};
 ghost use Rattle.drawing_model.specs.DrawingsOfParts.{drawing_of_parts};
 ghost use Rattle.drawing_model.specs.WalkEnds.{HasValidEnds, IsValidDrawing};
 ghost use Rattle.drawing_model.specs.declared.limits.TheConstants.{MAX_LINES};
+ghost use Rattle.std.specs.Prelude.{◌≡◌, ◌<◌, ◌≤◌, IfOk, length, slice_index};
 
 use crate::drawing_parts::DrawingParts;
 use crate::limits::MAX_BLOCKS;

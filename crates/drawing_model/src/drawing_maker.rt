@@ -1,11 +1,11 @@
-ghost use Rattle.std.specs.Char.{is_ascii_graphic};
-ghost use Rattle.std.specs.List.{list_all};
-ghost use Rattle.std.specs.Prelude.{◌≡◌, ◌≢◌, ◌≤◌, length, All, IfOk, IsErrOf, IsOk, true};
 ghost use Rattle.design_model.specs.Labels.{IsLabel};
 ghost use Rattle.drawing_model.specs.GrowingDrawings.{ChangesAsSpecified, block_added, empty_drawing, finished_drawing, is_drawing_label, line_added, steps_with_line};
 ghost use Rattle.drawing_model.specs.WalkEnds.{HasNoEnds};
 ghost use Rattle.drawing_model.specs.declared.draw_kind.DrawKind.TheVariants as kind;
 ghost use Rattle.drawing_model.specs.declared.limits.TheConstants.{MAX_BLOCKS as max_blocks};
+ghost use Rattle.std.specs.Char.{is_ascii_graphic};
+ghost use Rattle.std.specs.List.{list_all};
+ghost use Rattle.std.specs.Prelude.{◌≡◌, ◌≢◌, ◌≤◌, length, All, IfOk, IsErrOf, IsOk, true};
 ghost use Rattle.step_splitter.specs.Chains.{IsNeedlePoint};
 ghost use Rattle.step_splitter.specs.declared.segment.TheConstants.{MAX_STEP as max_step};
 

@@ -1,8 +1,8 @@
-ghost use Rattle.std.specs.Prelude.{◌≡◌, ◌<◌, ◌≤◌, Some, length};
 ghost use Rattle.drawing_model.specs.Drawings.{IsLine, first_point, last_point, points_of};
 ghost use Rattle.drawing_model.specs.GrowingDrawings.{step_count};
 ghost use Rattle.drawing_model.specs.LineNeedles.{cost_of_line};
 ghost use Rattle.drawing_model.specs.declared.limits.TheConstants.{MAX_POINTS};
+ghost use Rattle.std.specs.Prelude.{◌≡◌, ◌<◌, ◌≤◌, Some, length};
 
 use crate::drawing::Drawing;
 use crate::line_shape::line_steps;

@@ -1,8 +1,8 @@
-ghost use Rattle.std.specs.Prelude.{◌≡◌, IfOk, true, nat_lt};
 ghost use Rattle.drawing_model.specs.GrowingDrawings.{point_count, draw_is_out_of_memory};
 ghost use Rattle.drawing_model.specs.JoinedDrawings.{is_joined, joined_drawing};
 ghost use Rattle.drawing_model.specs.declared.limits.TheConstants.{MAX_POINTS as max_points};
 ghost use Rattle.lists_and_numbers.specs.OutOfMemory.{IsSpecified};
+ghost use Rattle.std.specs.Prelude.{◌≡◌, IfOk, true, nat_lt};
 
 use crate::draw_kind::DrawKind;
 use crate::drawing::Drawing;

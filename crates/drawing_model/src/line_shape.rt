@@ -1,8 +1,8 @@
-ghost use Rattle.std.specs.Prelude.{◌≡◌, ◌≤◌, length};
 ghost use Rattle.drawing_model.specs.Drawings.{IsLine};
 ghost use Rattle.drawing_model.specs.GrowingDrawings.{all_in_needle_range, has_repeated_point};
 ghost use Rattle.drawing_model.specs.Needles.{steps_of_line};
 ghost use Rattle.drawing_model.specs.declared.limits.TheConstants.{MAX_POINTS};
+ghost use Rattle.std.specs.Prelude.{◌≡◌, ◌≤◌, length};
 
 use design_model::{NEEDLE_LIMIT, Point};
 use step_splitter::{MAX_STEP, steps};

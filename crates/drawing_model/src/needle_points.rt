@@ -1,7 +1,7 @@
-ghost use Rattle.std.specs.Prelude.{◌≡◌, ◌<◌, ◌≤◌, length, IfOk};
 ghost use Rattle.drawing_model.specs.Drawings.{IsLine};
 ghost use Rattle.drawing_model.specs.LineNeedles.{AreNeedlesOf, LeadAlong, needles_of_line};
 ghost use Rattle.drawing_model.specs.Needles.{needle_points};
+ghost use Rattle.std.specs.Prelude.{◌≡◌, ◌<◌, ◌≤◌, length, IfOk};
 ghost use Rattle.step_splitter.specs.declared.segment.TheConstants.{MAX_STEP as max_step};
 
 use crate::drawing::Drawing;

@@ -1,6 +1,6 @@
-ghost use Rattle.std.specs.Prelude.{◌≡◌, ◌+◌, ◌++◌, OnOk, take};
 ghost use Rattle.drawing_picture.specs.BandTexts.{band_start, colour_of_cut, way_point, way_points};
 ghost use Rattle.picture_parts.specs.Paths.{path_end};
+ghost use Rattle.std.specs.Prelude.{◌≡◌, ◌+◌, ◌++◌, OnOk, take};
 
 use design_model::Point;
 use lists_and_numbers::{Bytes, Memory};

@@ -1,9 +1,9 @@
-ghost use Rattle.std.specs.List.{flat_map};
-ghost use Rattle.std.specs.Prelude.{◌≡◌, ◌+◌, ◌++◌, ◌∷◌, ◌<◌, ◌^◌, List, IfOk, OnOk, drop};
 ghost use Rattle.drawing_picture.specs.BandTexts.{band_text};
 ghost use Rattle.drawing_picture.specs.Bands.{bands_from};
 ghost use Rattle.odd_cuts.specs.Cuts.{has_member};
 ghost use Rattle.odd_cuts.specs.declared.cut.Cut.{Cut as CutValue};
+ghost use Rattle.std.specs.List.{flat_map};
+ghost use Rattle.std.specs.Prelude.{◌≡◌, ◌+◌, ◌++◌, ◌∷◌, ◌<◌, ◌^◌, List, IfOk, OnOk, drop};
 
 use crate::band_texts::put_band;
 use design_model::Point;

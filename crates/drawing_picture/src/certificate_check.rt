@@ -1,6 +1,6 @@
-ghost use Rattle.std.specs.Prelude.{◌≡◌, ◌-◌, ◌<◌, ◌^◌, All, IfOk, None, length};
 ghost use Rattle.drawing_picture.specs.CheckedProofs.{IsFirstFault, IsProofResult, IsShownProof, reason_before_acts};
 ghost use Rattle.route_verdict.specs.Verdicts.{HasShortLists};
+ghost use Rattle.std.specs.Prelude.{◌≡◌, ◌-◌, ◌<◌, ◌^◌, All, IfOk, None, length};
 
 use crate::proof_picture::proof_picture;
 use crate::theorems::right_certificates_are_sewn;

@@ -1,8 +1,8 @@
-ghost use Rattle.std.specs.List.{flat_map};
-ghost use Rattle.std.specs.Prelude.{◌≡◌, ◌++◌, OnOk};
 ghost use Rattle.drawing_picture.specs.DrawingCaptions.{junction_dot, spot_mark};
 ghost use Rattle.picture_parts.specs.Marks.{mark_text};
 ghost use Rattle.picture_parts.specs.declared.marks.Mark.TheVariants as mark;
+ghost use Rattle.std.specs.List.{flat_map};
+ghost use Rattle.std.specs.Prelude.{◌≡◌, ◌++◌, OnOk};
 
 use crate::junction_marks::JunctionMark;
 use design_model::Point;

@@ -1,6 +1,6 @@
-ghost use Rattle.std.specs.Prelude.{◌≡◌, ◌++◌, ◌≤◌, OnOk, length};
 ghost use Rattle.drawing_model.specs.declared.limits.TheConstants.{MAX_BLOCKS};
 ghost use Rattle.drawing_picture.specs.DrawingCaptions.{counts_text, mark_keys, thread_end, thread_line, thread_lines};
+ghost use Rattle.std.specs.Prelude.{◌≡◌, ◌++◌, ◌≤◌, OnOk, length};
 
 use design_model::Point;
 use design_picture::put_block_start;

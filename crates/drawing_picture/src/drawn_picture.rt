@@ -1,5 +1,5 @@
-ghost use Rattle.std.specs.Prelude.{◌≡◌, ◌++◌, ◌<◌, ◌^◌, IfOk, OnOk};
 ghost use Rattle.drawing_picture.specs.DrawingPictures.{IsDrawingPicture, drawing_area as area_of_drawing, drawing_below, drawing_marks, drawing_top, drawing_with};
+ghost use Rattle.std.specs.Prelude.{◌≡◌, ◌++◌, ◌<◌, ◌^◌, IfOk, OnOk};
 
 use crate::dots::{put_dots, put_loose_rings, put_spots};
 use crate::drawing_captions::{WORDS, put_counts, put_mark_keys, put_thread_lines};

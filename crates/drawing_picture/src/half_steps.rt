@@ -1,5 +1,5 @@
-ghost use Rattle.std.specs.Prelude.{◌≡◌, ◌<◌, All, IfOk, length, reverse};
 ghost use Rattle.drawing_picture.specs.Bands.{half_steps as half_steps_along, half_steps_of_line, middle_between};
+ghost use Rattle.std.specs.Prelude.{◌≡◌, ◌<◌, All, IfOk, length, reverse};
 ghost use Rattle.step_splitter.specs.Chains.{IsNeedlePoint};
 
 use design_model::{Point, Points};

@@ -1,8 +1,8 @@
-ghost use Rattle.std.specs.List.{flat_map};
-ghost use Rattle.std.specs.Prelude.{◌≡◌, ◌++◌, ◌<◌, All, OnOk, length, map, reverse};
 ghost use Rattle.drawing_picture.specs.BandTexts.{band_text, bands_of_lines, bands_of_pieces};
 ghost use Rattle.drawing_picture.specs.Bands.{bands_from};
 ghost use Rattle.line_graph.specs.PiecesOfDrawings.{graph_of};
+ghost use Rattle.std.specs.List.{flat_map};
+ghost use Rattle.std.specs.Prelude.{◌≡◌, ◌++◌, ◌<◌, All, OnOk, length, map, reverse};
 
 use crate::bands::{FreeWays, put_bands};
 use crate::half_steps::{half_steps_of, reversed};

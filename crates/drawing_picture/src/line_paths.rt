@@ -1,7 +1,7 @@
-ghost use Rattle.std.specs.List.{flat_map};
-ghost use Rattle.std.specs.Prelude.{◌≡◌, ◌++◌, OnOk};
 ghost use Rattle.drawing_picture.specs.LinePaths.{block_colour, line_path, line_paths, path_text};
 ghost use Rattle.picture_parts.specs.Paths.{straight_text};
+ghost use Rattle.std.specs.List.{flat_map};
+ghost use Rattle.std.specs.Prelude.{◌≡◌, ◌++◌, OnOk};
 
 use design_model::Point;
 use line_sections::Line;

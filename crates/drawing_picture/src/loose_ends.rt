@@ -1,6 +1,6 @@
-ghost use Rattle.std.specs.Prelude.{◌≡◌, ◌++◌, IfOk, OnOk};
 ghost use Rattle.drawing_picture.specs.JunctionMarks.{is_loose as is_loose_kind, loose_point, loose_points};
 ghost use Rattle.drawing_review.specs.Places.{places_of_lines};
+ghost use Rattle.std.specs.Prelude.{◌≡◌, ◌++◌, IfOk, OnOk};
 
 use design_model::Points;
 use drawing_review::{Place, PlaceKind, review};

@@ -1,9 +1,9 @@
-ghost use Rattle.std.specs.Prelude.{◌≡◌, ◌<◌, ◌-◌, ◌^◌, All, IfOk, length, map};
 ghost use Rattle.design_model.specs.declared.design.TheConstants.{MAX_COMMANDS};
 ghost use Rattle.design_picture.specs.Pens.{HasCounted};
 ghost use Rattle.drawing_picture.specs.BandTexts.{bands_of_pieces};
 ghost use Rattle.drawing_picture.specs.ProofPictures.{proof_area as area_of_proof, proof_of_design, proof_with, retraced_steps};
 ghost use Rattle.line_graph.specs.PiecesOfDrawings.{graph_of};
+ghost use Rattle.std.specs.Prelude.{◌≡◌, ◌<◌, ◌-◌, ◌^◌, All, IfOk, length, map};
 
 use crate::line_bands::put_pieces;
 use crate::proof_captions::{REASON_LINES, put_band_group, put_reason, steps_again};

@@ -1,6 +1,6 @@
-ghost use Rattle.std.specs.Prelude.{◌≡◌, ◌++◌, ◌∷◌, [], IfOk, OnOk};
 ghost use Rattle.drawing_repairs.specs.AnchoredSpots.{anchored_spot, anchored_spots};
 ghost use Rattle.drawing_repairs.specs.MovedLines.{block_anchors};
+ghost use Rattle.std.specs.Prelude.{◌≡◌, ◌++◌, ◌∷◌, [], IfOk, OnOk};
 
 use crate::anchors::Anchors;
 use crate::moving::{anchors_for, anchors_in};

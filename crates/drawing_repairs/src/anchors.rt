@@ -1,8 +1,8 @@
+ghost use Rattle.drawing_repairs.specs.Anchors.{anchored, anchors_of, distance_between, is_within_gap, nearer_anchor, nearer_point, nearest_after, nearest_anchor, with_anchor};
+ghost use Rattle.drawing_repairs.specs.Cells.{AreInCells, cell_of, is_same_cell, points_in_cell};
 ghost use Rattle.std.specs.HashMap.{get};
 ghost use Rattle.std.specs.List.{list_any};
 ghost use Rattle.std.specs.Prelude.{◌≡◌, IfOk, OnOk, None};
-ghost use Rattle.drawing_repairs.specs.Anchors.{anchored, anchors_of, distance_between, is_within_gap, nearer_anchor, nearer_point, nearest_after, nearest_anchor, with_anchor};
-ghost use Rattle.drawing_repairs.specs.Cells.{AreInCells, cell_of, is_same_cell, points_in_cell};
 
 use crate::cells::{Cell, cell_at, points_at, put_in_cells};
 use design_model::{Point, Points};

@@ -1,6 +1,6 @@
+ghost use Rattle.drawing_repairs.specs.Cells.{AddsWhere, cell_of, cell_side, first_reached, is_reached_in, is_same_cell, last_reached, points_in_cell, reaches_cell};
 ghost use Rattle.std.specs.HashMap.{get};
 ghost use Rattle.std.specs.Prelude.{◌≡◌, OnOk, false};
-ghost use Rattle.drawing_repairs.specs.Cells.{AddsWhere, cell_of, cell_side, first_reached, is_reached_in, is_same_cell, last_reached, points_in_cell, reaches_cell};
 
 use design_model::{Point, Points};
 use drawing_review::counted_from_least;

@@ -1,8 +1,8 @@
-ghost use Rattle.std.specs.List.{flat_map, list_any};
-ghost use Rattle.std.specs.Prelude.{◌≡◌, IfOk};
 ghost use Rattle.design_model.specs.Points.{is_same_point};
 ghost use Rattle.drawing_repairs.specs.EndGroups.{AreBetween, is_beyond_gap, widened_bounds};
 ghost use Rattle.drawing_repairs.specs.Listings.{due_end, is_due};
+ghost use Rattle.std.specs.List.{flat_map, list_any};
+ghost use Rattle.std.specs.Prelude.{◌≡◌, IfOk};
 
 use design_model::{Point, Points};
 use drawing_review::{GridPoint, LineSegment, comes_near, counted_from_least};

@@ -1,8 +1,8 @@
-ghost use Rattle.std.specs.Prelude.{◌≡◌, ◌++◌, ◌∷◌, [], IfOk, OnOk, if◌then◌else◌, map, not};
 ghost use Rattle.design_model.specs.Points.{is_same_point};
 ghost use Rattle.drawing_repairs.specs.Anchors.{anchored};
 ghost use Rattle.drawing_repairs.specs.MovedLines.{block_anchors, changed_in, changed_points, moved_line, moved_lines, unrepeated, unrepeated_after, vanished_from};
 ghost use Rattle.line_sections.specs.Sections.{listed_in};
+ghost use Rattle.std.specs.Prelude.{◌≡◌, ◌++◌, ◌∷◌, [], IfOk, OnOk, if◌then◌else◌, map, not};
 
 use crate::anchors::Anchors;
 use crate::snap_fault::VanishedLine;

@@ -1,6 +1,6 @@
-ghost use Rattle.std.specs.Prelude.{◌≡◌};
 ghost use Rattle.drawing_model.specs.declared.draw_kind.DrawKind.TheVariants as kind;
 ghost use Rattle.drawing_repairs.specs.declared.snap_fault.SnapFault.TheVariants as fault;
+ghost use Rattle.std.specs.Prelude.{◌≡◌};
 
 use drawing_model::DrawKind;
 use lists_and_numbers::Memory;

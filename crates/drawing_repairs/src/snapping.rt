@@ -1,4 +1,3 @@
-ghost use Rattle.std.specs.Prelude.{◌≡◌, ◌++◌, IfOk, OnOk, Ok};
 ghost use Rattle.drawing_model.specs.JoinedDrawings.{joined_drawing};
 ghost use Rattle.drawing_model.specs.WalkEnds.{HasNoEnds};
 ghost use Rattle.drawing_repairs.specs.AnchoredSpots.{anchored_spots};
@@ -6,6 +5,7 @@ ghost use Rattle.drawing_repairs.specs.MovedLines.{changed_in};
 ghost use Rattle.drawing_repairs.specs.SecondSnaps.{StaysSnapped};
 ghost use Rattle.drawing_repairs.specs.Snaps.{kept_lines, snap_is_out_of_memory, snap_of};
 ghost use Rattle.lists_and_numbers.specs.OutOfMemory.{IsSpecified};
+ghost use Rattle.std.specs.Prelude.{◌≡◌, ◌++◌, IfOk, OnOk, Ok};
 
 use crate::anchored_spots::anchor_spots;
 use crate::listing::listed as with_listings;

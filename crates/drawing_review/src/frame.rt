@@ -1,5 +1,5 @@
-ghost use Rattle.std.specs.Prelude.{◌≡◌};
 ghost use Rattle.drawing_review.specs.Frames.{are_apart, frame_around, frame_between, united_frame, IsInside};
+ghost use Rattle.std.specs.Prelude.{◌≡◌};
 
 use crate::grid_point::GridPoint;
 

@@ -1,5 +1,5 @@
-ghost use Rattle.std.specs.Prelude.{◌≡◌};
 ghost use Rattle.drawing_review.specs.Frames.{grid_coordinate, grid_point};
+ghost use Rattle.std.specs.Prelude.{◌≡◌};
 
 use design_model::Point;
 

@@ -1,6 +1,6 @@
-ghost use Rattle.std.specs.Prelude.{◌≡◌, ◌++◌, IfOk, OnOk, true, length};
 ghost use Rattle.drawing_review.specs.Segments.{segments_of_line, segments_of_lines, segments_on};
 ghost use Rattle.line_sections.specs.Sections.{has_points};
+ghost use Rattle.std.specs.Prelude.{◌≡◌, ◌++◌, IfOk, OnOk, true, length};
 
 use crate::segment::{LineSegment, Position, segment_at};
 use design_model::Point;

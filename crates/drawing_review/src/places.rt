@@ -1,7 +1,7 @@
+ghost use Rattle.drawing_review.specs.Places.{is_short_segment, place_if, places_at, places_inside, places_of_end, places_of_lines};
 ghost use Rattle.std.specs.List.Sorted.{IsPermutation};
 ghost use Rattle.std.specs.List.{flat_map};
 ghost use Rattle.std.specs.Prelude.{◌≡◌, ◌++◌, [], IfOk, OnOk, if◌then◌else◌};
-ghost use Rattle.drawing_review.specs.Places.{is_short_segment, place_if, places_at, places_inside, places_of_end, places_of_lines};
 
 use crate::grid_point::GridPoint;
 use crate::line_segments::segments;

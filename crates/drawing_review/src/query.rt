@@ -1,5 +1,5 @@
-ghost use Rattle.std.specs.Prelude.{◌≡◌};
 ghost use Rattle.drawing_review.specs.Queries.{is_earlier_segment, is_match, query_frame};
+ghost use Rattle.std.specs.Prelude.{◌≡◌};
 
 use crate::frame::Frame;
 use crate::grid_point::GridPoint;

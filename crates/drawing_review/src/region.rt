@@ -1,7 +1,7 @@
-ghost use Rattle.std.specs.List.{flat_map, list_any};
-ghost use Rattle.std.specs.Prelude.{◌≡◌, IfOk};
 ghost use Rattle.drawing_review.specs.Groups.{AreInside};
 ghost use Rattle.drawing_review.specs.Queries.{is_match, query_frame};
+ghost use Rattle.std.specs.List.{flat_map, list_any};
+ghost use Rattle.std.specs.Prelude.{◌≡◌, IfOk};
 
 use crate::frame::Frame;
 use crate::group::{Group, frame_of};

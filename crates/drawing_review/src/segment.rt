@@ -1,5 +1,5 @@
-ghost use Rattle.std.specs.Prelude.{◌≡◌};
 ghost use Rattle.drawing_review.specs.Segments.{drawn_segment};
+ghost use Rattle.std.specs.Prelude.{◌≡◌};
 
 use crate::frame::Frame;
 use crate::grid_point::{GridPoint, counted_from_least};

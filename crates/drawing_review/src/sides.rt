@@ -1,5 +1,5 @@
-ghost use Rattle.std.specs.Prelude.{◌≡◌, ◌*◌, ◌≤◌};
 ghost use Rattle.drawing_review.specs.Meetings.{clockwise_sum, counter_sum, is_near, reach_of, cross_inside, lies_between, repeats_segment};
+ghost use Rattle.std.specs.Prelude.{◌≡◌, ◌*◌, ◌≤◌};
 
 use crate::frame::Frame;
 use crate::grid_point::GridPoint;

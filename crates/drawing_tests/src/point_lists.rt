@@ -1,5 +1,5 @@
-ghost use Rattle.std.specs.Prelude.{◌≡◌, IfOk, map};
 ghost use Rattle.drawing_tests.specs.Places.{point_at};
+ghost use Rattle.std.specs.Prelude.{◌≡◌, IfOk, map};
 
 use design_model::{Point, Points};
 use lists_and_numbers::Memory;

@@ -1,11 +1,11 @@
-ghost use Rattle.std.specs.Char.{digit_value, is_ascii_digit};
-ghost use Rattle.std.specs.Prelude.{◌≡◌, ◌+◌, ◌*◌, ◌<◌, ◌≤◌, Ok, true, [], ◌∷◌, drop, length, take, unsigned_abs, IfNone, IfOk, IfSome};
-ghost use Rattle.std.specs.Str.Parse.{digits_value};
-ghost use Rattle.std.specs.Str.{all_ascii_digits};
 ghost use Rattle.design_model.specs.declared.point.TheConstants.{NEEDLE_LIMIT as needle_limit};
 ghost use Rattle.drawing_text.specs.CoordinateWords.{BeginsWithCoordinate, BeginsWithDigits, ends_word};
 ghost use Rattle.drawing_text.specs.Words.{words_of_line};
 ghost use Rattle.lists_and_numbers.specs.WholeNumbers.{signed_number};
+ghost use Rattle.std.specs.Char.{digit_value, is_ascii_digit};
+ghost use Rattle.std.specs.Prelude.{◌≡◌, ◌+◌, ◌*◌, ◌<◌, ◌≤◌, Ok, true, [], ◌∷◌, drop, length, take, unsigned_abs, IfNone, IfOk, IfSome};
+ghost use Rattle.std.specs.Str.Parse.{digits_value};
+ghost use Rattle.std.specs.Str.{all_ascii_digits};
 
 use crate::number_words::coordinate;
 use crate::text_words::{is_blank, next_word};

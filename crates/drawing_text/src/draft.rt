@@ -1,4 +1,3 @@
-ghost use Rattle.std.specs.Prelude.{◌≡◌, IfOk};
 ghost use Rattle.drawing_model.specs.GrowingDrawings.{ChangesAsSpecified, and_then, finished_drawing, draw_is_out_of_memory};
 ghost use Rattle.drawing_model.specs.JoinedDrawings.{joined_drawing};
 ghost use Rattle.drawing_text.specs.DrawingText.{IsDrawingOfVersion, IsJoinedWithoutEnds, ReadsDrawing, at_line, joined_at, drawing_of_draft};
@@ -6,6 +5,7 @@ ghost use Rattle.drawing_text.specs.TextLines.{with_color_line, with_walk_end_li
 ghost use Rattle.drawing_text.specs.Words.{single_word, words_of_line};
 ghost use Rattle.drawing_text.specs.declared.version.Version.TheVariants as version;
 ghost use Rattle.lists_and_numbers.specs.OutOfMemory.{IsSpecified};
+ghost use Rattle.std.specs.Prelude.{◌≡◌, IfOk};
 
 use crate::draw_fault::{DrawFault, fault_with_line};
 use crate::ending::with_ends;

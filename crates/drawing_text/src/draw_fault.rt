@@ -1,5 +1,5 @@
-ghost use Rattle.std.specs.Prelude.{◌≡◌};
 ghost use Rattle.drawing_text.specs.DrawingText.{located_fault};
+ghost use Rattle.std.specs.Prelude.{◌≡◌};
 
 use drawing_model::DrawKind;
 

@@ -1,7 +1,7 @@
-ghost use Rattle.std.specs.Prelude.{◌≡◌, ◌+◌, ◌≤◌, length};
 ghost use Rattle.drawing_text.specs.DrawnTexts.{ReadsLines, lines_after, lines_of, lines_of_draft};
 ghost use Rattle.drawing_text.specs.TextLines.{empty_draft};
 ghost use Rattle.drawing_text.specs.Words.{words_by_line};
+ghost use Rattle.std.specs.Prelude.{◌≡◌, ◌+◌, ◌≤◌, length};
 
 use crate::draft::DrawingDraft;
 use crate::draft_reading::draft_of_lines;

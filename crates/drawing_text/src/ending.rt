@@ -1,8 +1,8 @@
-ghost use Rattle.std.specs.Prelude.{◌≡◌, true};
 ghost use Rattle.drawing_model.specs.GrowingDrawings.{ChangesAsSpecified};
 ghost use Rattle.drawing_model.specs.JoinedDrawings.{is_joined};
 ghost use Rattle.drawing_model.specs.WalkEnds.{HasNoEnds, walk_end_added};
 ghost use Rattle.drawing_text.specs.DrawingText.{ReadsDrawing, drawing_with_ends};
+ghost use Rattle.std.specs.Prelude.{◌≡◌, true};
 
 use crate::draw_fault::{DrawFault, fault_with_line};
 use crate::walk_end::WalkEnd;

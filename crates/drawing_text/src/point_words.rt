@@ -1,8 +1,8 @@
-ghost use Rattle.std.specs.Prelude.{◌≡◌, All, IfOk};
 ghost use Rattle.drawing_model.specs.GrowingDrawings.{draw_is_out_of_memory};
 ghost use Rattle.drawing_text.specs.TextLines.{parsed_point, parsed_points};
 ghost use Rattle.drawing_text.specs.Words.{words_of_line};
 ghost use Rattle.lists_and_numbers.specs.OutOfMemory.{IsSpecified};
+ghost use Rattle.std.specs.Prelude.{◌≡◌, All, IfOk};
 ghost use Rattle.step_splitter.specs.Chains.{IsNeedlePoint};
 
 use crate::coordinate_words::next_coordinate;

@@ -1,6 +1,6 @@
+ghost use Rattle.drawing_text.specs.Words.{is_blank_byte, begins_comment, is_line_feed, is_word_byte, single_word, text_lines, line_without_return, words_of_line};
 ghost use Rattle.std.specs.List.{position_or_len};
 ghost use Rattle.std.specs.Prelude.{◌≡◌, ◌<◌, ◌≤◌, ◌∷◌, [], None, drop, length, IfSome, IfNone};
-ghost use Rattle.drawing_text.specs.Words.{is_blank_byte, begins_comment, is_line_feed, is_word_byte, single_word, text_lines, line_without_return, words_of_line};
 
 use text_parts::line_length;
 

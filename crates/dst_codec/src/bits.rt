@@ -1,7 +1,7 @@
-ghost use Rattle.std.specs.Prelude.{◌≡◌, ◌+◌, ◌%◌, ◌≤◌, ◌-ℤ◌, ℕ, IsTrue, pos, unsigned_abs};
 ghost use Rattle.design_model.specs.Points.{is_point_within};
 ghost use Rattle.dst_codec.specs.Bits.{kind_of, dst_move_in, rightwards, leftwards, upwards, downwards};
 ghost use Rattle.dst_codec.specs.declared.dst.TheConstants.{LIMIT};
+ghost use Rattle.std.specs.Prelude.{◌≡◌, ◌+◌, ◌%◌, ◌≤◌, ◌-ℤ◌, ℕ, IsTrue, pos, unsigned_abs};
 
 use crate::reading_tables::{
     X_OF_FIRST, X_OF_SECOND, X_OF_THIRD, Y_OF_FIRST, Y_OF_SECOND, Y_OF_THIRD,

@@ -1,5 +1,5 @@
-ghost use Rattle.std.specs.Prelude.{refl};
 ghost use Rattle.dst_codec.specs.Format.{dst_meaning};
+ghost use Rattle.std.specs.Prelude.{refl};
 
 use crate::jump_runs::JumpRun;
 use crate::writing::write_file;

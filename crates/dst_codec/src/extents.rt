@@ -1,7 +1,7 @@
-ghost use Rattle.std.specs.Prelude.{◌≡◌};
 ghost use Rattle.design_model.specs.Acts.{acts_of};
 ghost use Rattle.dst_codec.specs.Header.{size_above_zero, size_below_zero, extents_of};
 ghost use Rattle.dst_codec.specs.Steps.{extents_from_origin};
+ghost use Rattle.std.specs.Prelude.{◌≡◌};
 
 use crate::header::Extents;
 use design_model::{Design, Extent, extent};

@@ -1,8 +1,8 @@
-ghost use Rattle.std.specs.Prelude.{◌≡◌, ◌++◌, ◌<◌, ◌≤◌, ◌^◌, [], length, decimal, neg_ℤ, codes, OnOk, IfOk, unsigned_abs};
 ghost use Rattle.design_model.specs.declared.design.TheConstants.{MAX_LABEL};
 ghost use Rattle.dst_codec.specs.Header.{FitsFields, field, number_field, signed_field, fields_of, dst_header_of, sign_code};
 ghost use Rattle.dst_codec.specs.declared.header.TheConstants.{HEADER_LENGTH};
 ghost use Rattle.format_traits.specs.LabelFields.{padded_left, label_field};
+ghost use Rattle.std.specs.Prelude.{◌≡◌, ◌++◌, ◌<◌, ◌≤◌, ◌^◌, [], length, decimal, neg_ℤ, codes, OnOk, IfOk, unsigned_abs};
 
 use design_model::{MAX_LABEL, Point};
 use format_traits::{put_label, put_spaces};

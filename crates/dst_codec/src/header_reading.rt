@@ -1,7 +1,7 @@
-ghost use Rattle.std.specs.Prelude.{◌≡◌, ◌++◌, ℕ, List, [], length};
 ghost use Rattle.design_model.specs.Designs.{empty_design};
 ghost use Rattle.dst_codec.specs.Reading.{dst_label_of};
 ghost use Rattle.dst_codec.specs.declared.header.TheConstants.{HEADER_LENGTH};
+ghost use Rattle.std.specs.Prelude.{◌≡◌, ◌++◌, ℕ, List, [], length};
 
 use design_model::{Design, MAX_LABEL};
 use format_traits::read_label;

@@ -1,8 +1,8 @@
-ghost use Rattle.std.specs.Prelude.{◌≡◌, ℕ, true, IsTrue};
 ghost use Rattle.design_model.specs.Points.{is_point_within};
 ghost use Rattle.dst_codec.specs.KindDecoding.{DecodesRecordAs, is_stop_sequin_or_end};
 ghost use Rattle.dst_codec.specs.Reading.{jump_event_after, run_after_kind};
 ghost use Rattle.dst_codec.specs.declared.dst.TheConstants.{LIMIT};
+ghost use Rattle.std.specs.Prelude.{◌≡◌, ℕ, true, IsTrue};
 
 use crate::bits::{decode_move, record_kind};
 use crate::header::HEADER_LENGTH;

@@ -1,8 +1,8 @@
-ghost use Rattle.std.specs.Prelude.{◌≡◌, ◌≤◌, ◌+◌, ◌*◌, IsTrue, unsigned_abs};
 ghost use Rattle.design_model.specs.Points.{is_point_within};
 ghost use Rattle.dst_codec.specs.Bits.{dst_move_in};
 ghost use Rattle.dst_codec.specs.MoveEncoding.{biased_number, plus_bit, minus_bit, x_signs, y_signs, record_of, dst_stitch_record};
 ghost use Rattle.dst_codec.specs.declared.dst.TheConstants.{LIMIT};
+ghost use Rattle.std.specs.Prelude.{◌≡◌, ◌≤◌, ◌+◌, ◌*◌, IsTrue, unsigned_abs};
 
 use crate::dst::LIMIT;
 use crate::writing_tables::{

@@ -1,7 +1,7 @@
-ghost use Rattle.std.specs.Prelude.{◌≡◌, ◌≤◌, ◌++◌, IsTrue, OnOk};
 ghost use Rattle.design_model.specs.Points.{is_point_within};
 ghost use Rattle.dst_codec.specs.MoveEncoding.{record_of};
 ghost use Rattle.dst_codec.specs.declared.dst.TheConstants.{LIMIT};
+ghost use Rattle.std.specs.Prelude.{◌≡◌, ◌≤◌, ◌++◌, IsTrue, OnOk};
 
 use crate::dst::WRITE_LIMITS;
 use crate::move_encoding::{JUMP, encode_record};

@@ -1,10 +1,10 @@
-ghost use Rattle.std.specs.Prelude.{◌≡◌};
 ghost use Rattle.design_model.specs.Designs.{KeepsLimits};
 ghost use Rattle.dst_codec.specs.Format.{dst_meaning};
 ghost use Rattle.dst_codec.specs.Header.{FitsFields};
 ghost use Rattle.dst_codec.specs.Steps.{IsWritten, header_numbers_of};
 ghost use Rattle.dst_codec.specs.Writing.{dst_writes};
 ghost use Rattle.format_traits.specs.Laws.{KeepsLaws, EncodesTo};
+ghost use Rattle.std.specs.Prelude.{◌≡◌};
 
 use crate::extents::needle_extents;
 use crate::header::{HEADER_LENGTH, HeaderNumbers, new_header};

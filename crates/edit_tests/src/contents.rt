@@ -1,5 +1,5 @@
-ghost use Rattle.std.specs.Prelude.{◌≡◌, [], unwrap_or};
 ghost use Rattle.outside_io.specs.MemStores.{files_of};
+ghost use Rattle.std.specs.Prelude.{◌≡◌, [], unwrap_or};
 
 use outside_io::MemStore;
 

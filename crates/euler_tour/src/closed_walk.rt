@@ -1,6 +1,6 @@
-ghost use Rattle.std.specs.Prelude.{IfOk};
 ghost use Rattle.euler_tour.specs.Tours.{CanPass, IsTour};
 ghost use Rattle.line_graph.specs.PiecesOfDrawings.{graph_of};
+ghost use Rattle.std.specs.Prelude.{IfOk};
 
 use crate::partial_tour::{begin, step};
 use line_graph::{Piece, Walk};

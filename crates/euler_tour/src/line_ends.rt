@@ -1,8 +1,8 @@
-ghost use Rattle.std.specs.Prelude.{◌≡◌, ◌+◌, ◌*◌, ◌/◌, ◌<◌, true, Some, length, set, IfOk, OnOk};
 ghost use Rattle.euler_tour.specs.Cursors.{SkipsEnd};
 ghost use Rattle.euler_tour.specs.LineEnds.{AddsEnd, junction_at, junction_across, pass_to, AreBefore, AreLast};
 ghost use Rattle.line_graph.specs.PieceGraphs.{is_odd as odd};
 ghost use Rattle.line_graph.specs.ValidPieces.{ends_below};
+ghost use Rattle.std.specs.Prelude.{◌≡◌, ◌+◌, ◌*◌, ◌/◌, ◌<◌, true, Some, length, set, IfOk, OnOk};
 
 use line_graph::{Edge, Pass};
 use lists_and_numbers::Memory;

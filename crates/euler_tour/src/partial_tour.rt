@@ -1,10 +1,10 @@
-ghost use Rattle.std.specs.Prelude.{◌≡◌, ◌+◌, ◌/◌, ◌<◌, ◌≤◌, false, None, length, get_or, IfOk, OnOk};
 ghost use Rattle.euler_tour.specs.PartialTours.{BeginsTour, IsEmptyTour, HasTourTables, IsTourStep, IsTourInvariantOf, IsPartialTour, StepsTour, first_edge_end, tour_end, tour_start, or_first_start};
 ghost use Rattle.euler_tour.specs.RemainingLines.{remaining_ends};
 ghost use Rattle.euler_tour.specs.Tours.{CanPass};
 ghost use Rattle.line_graph.specs.PieceGraphs.{given_start};
 ghost use Rattle.line_graph.specs.Pieces.{first_line};
 ghost use Rattle.line_graph.specs.PiecesOfDrawings.{graph_of};
+ghost use Rattle.std.specs.Prelude.{◌≡◌, ◌+◌, ◌/◌, ◌<◌, ◌≤◌, false, None, length, get_or, IfOk, OnOk};
 
 use crate::line_ends::{
     LineEnds, chain, junction_beyond, junction_of, line_index_of, pass_back, skip_end,

@@ -1,6 +1,6 @@
-ghost use Rattle.std.specs.Prelude.{◌≡◌, ◌<◌, ◌≤◌, true, length, get_or, IfOk};
 ghost use Rattle.euler_tour.specs.RemainingLines.{decremented_at, pass_counts};
 ghost use Rattle.line_graph.specs.ValidPieces.{all_below};
+ghost use Rattle.std.specs.Prelude.{◌≡◌, ◌<◌, ◌≤◌, true, length, get_or, IfOk};
 
 use lists_and_numbers::Memory;
 use std::alloc::Global;

@@ -1,5 +1,5 @@
-ghost use Rattle.std.specs.Prelude.{refl};
 ghost use Rattle.exp_codec.specs.Format.{exp_meaning};
+ghost use Rattle.std.specs.Prelude.{refl};
 
 use crate::units::Units;
 use crate::writing::write_file;

@@ -1,7 +1,7 @@
-ghost use Rattle.std.specs.Prelude.{◌≡◌, ◌≤◌, IsTrue, unsigned_abs};
 ghost use Rattle.design_model.specs.Points.{is_point_within};
 ghost use Rattle.exp_codec.specs.Writing.{byte_of_number, bytes_of_move, exp_encoding, exp_write_limits};
 ghost use Rattle.exp_codec.specs.declared.exp.TheConstants.{LIMIT};
+ghost use Rattle.std.specs.Prelude.{◌≡◌, ◌≤◌, IsTrue, unsigned_abs};
 
 use crate::exp::LIMIT;
 use crate::units::{CONTROL, JUMP, STOP, TRIM, Units, opposite};

@@ -1,10 +1,10 @@
-ghost use Rattle.std.specs.List.{list_all};
-ghost use Rattle.std.specs.Prelude.{◌≡◌, ◌≤◌, neg_ℤ, unsigned_abs, IsTrue, IfSome};
 ghost use Rattle.design_model.specs.Points.{is_point_within};
 ghost use Rattle.exp_codec.specs.Reading.{exp_layout};
 ghost use Rattle.exp_codec.specs.Units.{event_of_control, signed_byte, exp_move_of, units_from};
 ghost use Rattle.record_formats.specs.Records.{moves_of_event};
 ghost use Rattle.record_formats.specs.declared.record_reader.TheConstants.{MAX_RECORD_MOVE};
+ghost use Rattle.std.specs.List.{list_all};
+ghost use Rattle.std.specs.Prelude.{◌≡◌, ◌≤◌, neg_ℤ, unsigned_abs, IsTrue, IfSome};
 
 use design_model::{Design, Point};
 use format_traits::ReadFault;

@@ -1,5 +1,5 @@
-ghost use Rattle.std.specs.Prelude.{◌≡◌, IfOk};
 ghost use Rattle.dst_codec.specs.Samples.{square_design};
+ghost use Rattle.std.specs.Prelude.{◌≡◌, IfOk};
 
 use design_model::{Command, Design, ModelFault, Point};
 use std::alloc::Global;

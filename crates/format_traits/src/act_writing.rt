@@ -1,9 +1,9 @@
-ghost use Rattle.std.specs.List.{list_all};
-ghost use Rattle.std.specs.Prelude.{◌≡◌, ◌≤◌, length, IsTrue};
 ghost use Rattle.design_model.specs.Acts.{acts_along};
 ghost use Rattle.design_model.specs.Commands.{is_command_in_range};
 ghost use Rattle.design_model.specs.declared.design.TheConstants.{MAX_COMMANDS};
 ghost use Rattle.format_traits.specs.ActWriting.{AppendsActs};
+ghost use Rattle.std.specs.List.{list_all};
+ghost use Rattle.std.specs.Prelude.{◌≡◌, ◌≤◌, length, IsTrue};
 
 use crate::encoder_state::{EncoderState, WriteLimits};
 use crate::fault::WriteFault;

@@ -1,9 +1,9 @@
-ghost use Rattle.std.specs.Prelude.{◌≡◌, ◌+◌, ◌≤◌, length, IfOk, IsOk};
 ghost use Rattle.format_traits.specs.Feeding.{Feeds, Finishes, HasNothingFed};
 ghost use Rattle.format_traits.specs.Laws.{IsFileEnding, EncodesTo, RoundTrips, MovesWithin};
 ghost use Rattle.format_traits.specs.PlainDesigns.{IsPlain};
 ghost use Rattle.format_traits.specs.declared.feed.TheConstants.{MAX_FED};
 ghost use Rattle.format_traits.specs.declared.format_object.TheConstants.{MIN_LIMIT, MAX_LIMIT};
+ghost use Rattle.std.specs.Prelude.{◌≡◌, ◌+◌, ◌≤◌, length, IfOk, IsOk};
 
 use crate::fault::{ReadFault, WriteFault};
 use crate::format_object::Format;

@@ -1,7 +1,7 @@
-ghost use Rattle.std.specs.Prelude.{◌≡◌, ◌+◌, ◌<◌, ◌≤◌, ◌^◌, ◌++◌, length, drop, IfOk, IsOk, OnOk};
 ghost use Rattle.format_traits.specs.DecoderStates.{PassesChunk, TakesBytes};
 ghost use Rattle.format_traits.specs.Laws.{DecodesTo};
 ghost use Rattle.format_traits.specs.declared.decoder.TheConstants.{MAX_PENDING};
+ghost use Rattle.std.specs.Prelude.{◌≡◌, ◌+◌, ◌<◌, ◌≤◌, ◌^◌, ◌++◌, length, drop, IfOk, IsOk, OnOk};
 
 use crate::decoder::{Decoder, MAX_PENDING};
 use crate::fault::ReadFault;

@@ -1,4 +1,3 @@
-ghost use Rattle.std.specs.Prelude.{◌≡◌, ◌<◌, ◌≤◌, IsTrue};
 ghost use Rattle.design_model.specs.ActPositions.{is_act_in_range};
 ghost use Rattle.design_model.specs.Acts.{numbered};
 ghost use Rattle.design_model.specs.Points.{is_point_within, move_size};
@@ -8,6 +7,7 @@ ghost use Rattle.format_traits.specs.Refusals.{initial_encoder_state, stops_in, 
 ghost use Rattle.format_traits.specs.Rooms.{room_of_loose, room_of_needle, room_of_act};
 ghost use Rattle.format_traits.specs.declared.format_object.TheConstants.{MIN_LIMIT, MAX_LIMIT};
 ghost use Rattle.format_traits.specs.declared.move_hops.TheConstants.{MAX_MOVE};
+ghost use Rattle.std.specs.Prelude.{◌≡◌, ◌<◌, ◌≤◌, IsTrue};
 
 use crate::fault::WriteFault;
 use crate::format_object::{MAX_LIMIT, MIN_LIMIT};

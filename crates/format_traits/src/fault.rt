@@ -1,6 +1,6 @@
-ghost use Rattle.std.specs.Prelude.{◌≡◌};
 ghost use Rattle.format_traits.specs.declared.fault.ReadFault.TheVariants as read;
 ghost use Rattle.format_traits.specs.declared.fault.WriteFault.TheVariants as write;
+ghost use Rattle.std.specs.Prelude.{◌≡◌};
 
 use lists_and_numbers::Memory;
 use thiserror::Error;

@@ -1,5 +1,5 @@
-ghost use Rattle.std.specs.Prelude.{◌≤◌, length};
 ghost use Rattle.format_traits.specs.declared.feed.TheConstants.{MAX_FED as most_fed};
+ghost use Rattle.std.specs.Prelude.{◌≤◌, length};
 
 use crate::chunk_passing::pass_on;
 use crate::decoder::{Decoder, MAX_PENDING};

@@ -1,7 +1,7 @@
-ghost use Rattle.std.specs.Prelude.{◌≡◌, ◌++◌, ◌≤◌, length, replicate, OnOk};
 ghost use Rattle.design_model.specs.Designs.{with_label};
 ghost use Rattle.design_model.specs.declared.design.TheConstants.{MAX_LABEL};
 ghost use Rattle.format_traits.specs.LabelFields.{label_field, label_in, printable_byte, without_end_spaces};
+ghost use Rattle.std.specs.Prelude.{◌≡◌, ◌++◌, ◌≤◌, length, replicate, OnOk};
 
 use arrayvec::ArrayVec;
 use design_model::{Design, MAX_LABEL};

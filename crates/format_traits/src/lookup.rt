@@ -1,6 +1,6 @@
+ghost use Rattle.format_traits.specs.Endings.{ending_index_from, format_index, ending_in};
 ghost use Rattle.std.specs.Prelude.{◌≡◌, ◌<◌, length, IfSome, map, option_map, bytes_eq};
 ghost use Rattle.std.specs.Str.{str_to_ascii_lowercase};
-ghost use Rattle.format_traits.specs.Endings.{ending_index_from, format_index, ending_in};
 
 use crate::boxed::ext_of;
 use crate::format_object::Format;

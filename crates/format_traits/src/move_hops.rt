@@ -1,8 +1,8 @@
-ghost use Rattle.std.specs.Prelude.{◌≡◌, ◌<◌, ◌≤◌, ◌-ℤ◌, IsTrue, unsigned_abs};
 ghost use Rattle.design_model.specs.Points.{is_point_within, move_between as move_of, move_size};
 ghost use Rattle.design_model.specs.declared.point.TheConstants.{NEEDLE_LIMIT};
 ghost use Rattle.format_traits.specs.MoveHops.{hops_of};
 ghost use Rattle.format_traits.specs.declared.format_object.TheConstants.{MAX_LIMIT};
+ghost use Rattle.std.specs.Prelude.{◌≡◌, ◌<◌, ◌≤◌, ◌-ℤ◌, IsTrue, unsigned_abs};
 
 use crate::format_object::MAX_LIMIT;
 use design_model::Point;

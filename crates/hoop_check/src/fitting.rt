@@ -1,5 +1,5 @@
-ghost use Rattle.std.specs.Prelude.{◌≡◌};
 ghost use Rattle.hoop_check.specs.Fits.{fit_of, fit_of_size};
+ghost use Rattle.std.specs.Prelude.{◌≡◌};
 
 use design_model::{Design, extent, height, width};
 

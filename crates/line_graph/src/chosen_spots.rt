@@ -1,11 +1,11 @@
-ghost use Rattle.std.specs.List.{list_any, position_or_len};
-ghost use Rattle.std.specs.Prelude.{◌≡◌, ◌≤◌, ◌∷◌, [], IfOk, length};
 ghost use Rattle.design_model.specs.Points.{is_same_point};
 ghost use Rattle.drawing_model.specs.Drawings.{endpoints};
 ghost use Rattle.drawing_model.specs.GrowingDrawings.{ChangesAsSpecified};
 ghost use Rattle.drawing_model.specs.WalkEnds.{has_end_at_spot, spot_added};
 ghost use Rattle.line_graph.specs.EndsMakerInvariants.{AreChosen};
 ghost use Rattle.line_graph.specs.PieceLabels.{ArePieceLabels};
+ghost use Rattle.std.specs.List.{list_any, position_or_len};
+ghost use Rattle.std.specs.Prelude.{◌≡◌, ◌≤◌, ◌∷◌, [], IfOk, length};
 
 use design_model::Point;
 use drawing_model::{DrawKind, Drawing};

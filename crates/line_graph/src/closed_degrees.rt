@@ -1,6 +1,6 @@
-ghost use Rattle.std.specs.Prelude.{◌≡◌, ◌+◌, ◌≤◌};
 ghost use Rattle.line_graph.specs.ClosedDegrees.{closing_ends};
 ghost use Rattle.line_graph.specs.PieceGraphs.{one_if, is_odd};
+ghost use Rattle.std.specs.Prelude.{◌≡◌, ◌+◌, ◌≤◌};
 
 /// Returns whether the junction at an index is odd, given its degree, where a closing line leads from `to` to
 /// `from`.

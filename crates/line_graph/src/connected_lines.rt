@@ -1,9 +1,9 @@
-ghost use Rattle.std.specs.Prelude.{◌≡◌, ◌<◌, All, IfOk, get_or, length};
 ghost use Rattle.drawing_model.specs.declared.limits.TheConstants.{MAX_BLOCKS};
 ghost use Rattle.line_graph.specs.NextLines.{AreNextFrom};
 ghost use Rattle.line_graph.specs.PieceGraphs.{piece_graph};
 ghost use Rattle.line_graph.specs.PieceLabels.{ArePieceLabels, lines_labelled};
 ghost use Rattle.line_graph.specs.PiecesOfDrawings.{ArePiecesOf, graph_of};
+ghost use Rattle.std.specs.Prelude.{◌≡◌, ◌<◌, All, IfOk, get_or, length};
 
 use crate::first_lines::links;
 use crate::line_labels::labels;

@@ -1,7 +1,7 @@
-ghost use Rattle.std.specs.Prelude.{◌≡◌, true, IfOk};
 ghost use Rattle.drawing_model.specs.GrowingDrawings.{ChangesAsSpecified};
 ghost use Rattle.drawing_model.specs.JoinedDrawings.{is_joined};
 ghost use Rattle.drawing_model.specs.WalkEnds.{HasNoEnds, end_added, start_added};
+ghost use Rattle.std.specs.Prelude.{◌≡◌, true, IfOk};
 
 use crate::chosen_spots::ChosenSpots;
 use crate::first_lines::links;

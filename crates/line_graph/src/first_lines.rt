@@ -1,7 +1,7 @@
-ghost use Rattle.std.specs.HashMap.{get};
-ghost use Rattle.std.specs.Prelude.{◌≡◌, ◌<◌, ◌+◌, IfOk, OnOk, length};
 ghost use Rattle.line_graph.specs.FirstLines.{AddsLink, AreLinks, AreLinkedBelow, RecordsFirstLine};
 ghost use Rattle.line_sections.specs.Spots.{is_same_spot};
+ghost use Rattle.std.specs.HashMap.{get};
+ghost use Rattle.std.specs.Prelude.{◌≡◌, ◌<◌, ◌+◌, IfOk, OnOk, length};
 
 use crate::line_labels::LineLink;
 use drawing_model::{Drawing, line_ends};

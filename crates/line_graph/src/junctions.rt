@@ -1,9 +1,9 @@
-ghost use Rattle.std.specs.List.{position_or_len};
-ghost use Rattle.std.specs.Prelude.{◌≡◌, ◌<◌, ◌≤◌, ◌+◌, [], All, IfOk, OnOk, length, map};
 ghost use Rattle.design_model.specs.Points.{is_same_point};
 ghost use Rattle.drawing_model.specs.declared.limits.TheConstants.{MAX_LINES};
 ghost use Rattle.line_graph.specs.PieceGraphs.{edge_between, junctions_of, with_point};
 ghost use Rattle.line_graph.specs.PieceLabels.{AddsEdge};
+ghost use Rattle.std.specs.List.{position_or_len};
+ghost use Rattle.std.specs.Prelude.{◌≡◌, ◌<◌, ◌≤◌, ◌+◌, [], All, IfOk, OnOk, length, map};
 
 use crate::edge::{Edge, Edges};
 use design_model::Point;

@@ -1,5 +1,5 @@
-ghost use Rattle.std.specs.Prelude.{◌≡◌, ◌≤◌, ◌<◌, ◌||◌, ◌∷◌, [], IfOk, get_or, length};
 ghost use Rattle.line_graph.specs.LineLabels.{AreAtMostIndex, AreOwnIndexes, AreFinalLabels, AreLinksBelow, AreLabelsOfLinks, LowersOneLabel, LowersLabels};
+ghost use Rattle.std.specs.Prelude.{◌≡◌, ◌≤◌, ◌<◌, ◌||◌, ◌∷◌, [], IfOk, get_or, length};
 
 use lists_and_numbers::Memory;
 use std::alloc::Global;

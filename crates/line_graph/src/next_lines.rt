@@ -1,7 +1,7 @@
-ghost use Rattle.std.specs.Prelude.{◌≡◌, ◌<◌, ◌≤◌, IfOk, get_or, length, set};
 ghost use Rattle.line_graph.specs.LineLabels.{AreAtMostIndex};
 ghost use Rattle.line_graph.specs.NextLines.{AreNextFrom};
 ghost use Rattle.line_graph.specs.PieceLabels.{lines_labelled};
+ghost use Rattle.std.specs.Prelude.{◌≡◌, ◌<◌, ◌≤◌, IfOk, get_or, length, set};
 
 use lists_and_numbers::{Memory, Numbers};
 use std::alloc::Global;

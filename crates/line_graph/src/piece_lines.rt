@@ -1,9 +1,9 @@
-ghost use Rattle.std.specs.Prelude.{◌≡◌, ◌<◌, ◌≤◌, IfOk, length};
 ghost use Rattle.line_graph.specs.PieceGraphs.{first_junction_among, junction_at_spot, piece_graph};
 ghost use Rattle.line_graph.specs.PieceLabels.{IsPiece, lines_labelled};
 ghost use Rattle.line_graph.specs.Pieces.{first_line};
 ghost use Rattle.line_graph.specs.PiecesOfDrawings.{graph_of};
 ghost use Rattle.line_graph.specs.ValidPieces.{IsValidPiece};
+ghost use Rattle.std.specs.Prelude.{◌≡◌, ◌<◌, ◌≤◌, IfOk, length};
 
 use crate::degrees::degrees;
 use crate::junctions::edges;

@@ -1,9 +1,9 @@
-ghost use Rattle.std.specs.HashMap.{get};
-ghost use Rattle.std.specs.List.{flat_map};
-ghost use Rattle.std.specs.Prelude.{◌≡◌, ◌&&◌, ◌++◌, ◌∷◌, [], IfOk, OnOk, true, if◌then◌else◌};
 ghost use Rattle.line_sections.specs.ListedPoints.{is_cut_by, sections_by};
 ghost use Rattle.line_sections.specs.Sections.{all_sections, are_whole_lines, has_points};
 ghost use Rattle.line_sections.specs.Spots.{is_same_spot};
+ghost use Rattle.std.specs.HashMap.{get};
+ghost use Rattle.std.specs.List.{flat_map};
+ghost use Rattle.std.specs.Prelude.{◌≡◌, ◌&&◌, ◌++◌, ◌∷◌, [], IfOk, OnOk, true, if◌then◌else◌};
 
 use crate::line::Line;
 use crate::listed_points::{is_cut, listed_points};

@@ -1,6 +1,6 @@
-ghost use Rattle.std.specs.Prelude.{◌≡◌};
 ghost use Rattle.design_model.specs.Extents.{extent_of_points};
 ghost use Rattle.line_sections.specs.Lines.{points_of_lines};
+ghost use Rattle.std.specs.Prelude.{◌≡◌};
 
 use crate::line::Line;
 use design_model::{Extent, extent_over};

@@ -1,7 +1,7 @@
-ghost use Rattle.std.specs.HashMap.{get};
-ghost use Rattle.std.specs.Prelude.{◌≡◌, IfOk, OnOk, is_some};
 ghost use Rattle.line_sections.specs.ListedPoints.{AreCutMarks, MarksLine, MarksSpot, SetsMark, is_cut_by, spot_at};
 ghost use Rattle.line_sections.specs.Spots.{is_same_spot};
+ghost use Rattle.std.specs.HashMap.{get};
+ghost use Rattle.std.specs.Prelude.{◌≡◌, IfOk, OnOk, is_some};
 
 use crate::line::Line;
 use crate::spot::Spot;

@@ -1,7 +1,7 @@
-ghost use Rattle.std.specs.List.{count_by, list_all};
-ghost use Rattle.std.specs.Prelude.{◌≡◌, ◌≤◌, ◌&&◌};
 ghost use Rattle.design_model.specs.Points.{is_same_point};
 ghost use Rattle.line_sections.specs.Sections.{are_whole_lines, has_points, is_shared_point, is_whole_line, listed_in};
+ghost use Rattle.std.specs.List.{count_by, list_all};
+ghost use Rattle.std.specs.Prelude.{◌≡◌, ◌≤◌, ◌&&◌};
 
 use crate::line::Line;
 use crate::points::first_point;

@@ -1,8 +1,8 @@
+ghost use Rattle.lists_and_numbers.specs.WholeNumbers.{is_digit_string, signed_number, parsed_digits, parsed_whole};
 ghost use Rattle.std.specs.Char.{digit_value, is_ascii_digit};
 ghost use Rattle.std.specs.Prelude.{◌≡◌, ◌+◌, ◌*◌, ◌≤◌, ◌∷◌, ◌^◌, min, true, false, IfSome, IfNone};
 ghost use Rattle.std.specs.Str.Parse.{digits_value};
 ghost use Rattle.std.specs.Str.{all_ascii_digits};
-ghost use Rattle.lists_and_numbers.specs.WholeNumbers.{is_digit_string, signed_number, parsed_digits, parsed_whole};
 
 /// The maximum absolute value of a whole number in a text.
 pub const MAX_WHOLE: u32 = 999_999_999;

@@ -1,6 +1,6 @@
-ghost use Rattle.std.specs.Prelude.{◌≡◌, ◌==◌, ◌↔◌, ◌+◌, ◌-◌, ◌^◌, IsTrue, if◌then◌else◌, min};
 ghost use Rattle.blossom_match.specs.Matchings.{pair_ends_at, IsPerfectMatching};
 ghost use Rattle.matching_checks.specs.Ends.{EndsBelow};
+ghost use Rattle.std.specs.Prelude.{◌≡◌, ◌==◌, ◌↔◌, ◌+◌, ◌-◌, ◌^◌, IsTrue, if◌then◌else◌, min};
 
 use blossom_match::Pair;
 

@@ -1,7 +1,7 @@
-ghost use Rattle.std.specs.List.{AllPairs};
-ghost use Rattle.std.specs.Prelude.{◌≡◌, ◌≢◌, ◌↔◌, ◌*◌, ◌-◌, ◌^◌, ◌<◌, ◌≤◌, ℕ, All, IsTrue, false, true, if◌then◌else◌, min};
 ghost use Rattle.blossom_match.specs.Matchings.{AreLaminar, crosses_moat, moat_holds, IsOddMoat, KeepsMoatLoads, IsDisjointFrom, IsNestedIn, moat_load, width_of};
 ghost use Rattle.odd_sets.specs.Tables.{entry};
+ghost use Rattle.std.specs.List.{AllPairs};
+ghost use Rattle.std.specs.Prelude.{◌≡◌, ◌≢◌, ◌↔◌, ◌*◌, ◌-◌, ◌^◌, ◌<◌, ◌≤◌, ℕ, All, IsTrue, false, true, if◌then◌else◌, min};
 
 use blossom_match::Moat;
 use odd_sets::DistTable;

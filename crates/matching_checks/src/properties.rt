@@ -1,6 +1,6 @@
-ghost use Rattle.std.specs.Prelude.{◌≡◌, ◌↔◌, ◌-◌, ◌^◌, ◌<◌, [], min};
 ghost use Rattle.blossom_match.specs.Matchings.{pairs_cost, IsOptimalMatching, IsPerfectMatching};
 ghost use Rattle.odd_sets.specs.Tables.{entry};
+ghost use Rattle.std.specs.Prelude.{◌≡◌, ◌↔◌, ◌-◌, ◌^◌, ◌<◌, [], min};
 
 use crate::ends::pairs_each;
 use crate::moats::{all_laminar, all_odd, keeps_loads, width};

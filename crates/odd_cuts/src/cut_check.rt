@@ -1,4 +1,3 @@
-ghost use Rattle.std.specs.Prelude.{◌≡◌, ◌+◌, ◌*◌, ◌-◌, ◌<◌, ◌≤◌, ◌^◌, ◌↔◌, All, IsOk, length};
 ghost use Rattle.line_graph.specs.PieceGraphs.{is_odd as is_odd_number};
 ghost use Rattle.line_graph.specs.PiecesOfDrawings.{graph_of};
 ghost use Rattle.odd_cuts.specs.CheckTables.{AreParities, ChecksCut, ChecksCuts};
@@ -6,6 +5,7 @@ ghost use Rattle.odd_cuts.specs.CutFaults.{HaveNumberedMembers, cuts_fault, stra
 ghost use Rattle.odd_cuts.specs.Cuts.{total_weight};
 ghost use Rattle.odd_cuts.specs.Faults.{ReportsFault};
 ghost use Rattle.odd_cuts.specs.Packings.{IsPacking};
+ghost use Rattle.std.specs.Prelude.{◌≡◌, ◌+◌, ◌*◌, ◌-◌, ◌<◌, ◌≤◌, ◌^◌, ◌↔◌, All, IsOk, length};
 
 use crate::cut::Cut;
 use crate::faults::CutFault;

@@ -1,6 +1,6 @@
-ghost use Rattle.std.specs.Prelude.{◌≡◌, get_or, slice_get};
 ghost use Rattle.line_graph.specs.PieceWalks.{edge_of};
 ghost use Rattle.odd_cuts.specs.CheckTables.{AreEdgeIndexes};
+ghost use Rattle.std.specs.Prelude.{◌≡◌, get_or, slice_get};
 
 use drawing_model::MAX_LINES;
 use line_graph::{Edge, Piece};

@@ -1,9 +1,9 @@
-ghost use Rattle.std.specs.Prelude.{◌≡◌, ℕ, ◌*◌, ◌+◌, ◌-◌, ◌<◌, ◌≤◌, ◌^◌, length, true};
 ghost use Rattle.drawing_model.specs.declared.limits.TheConstants.{MAX_LINES as most_lines};
 ghost use Rattle.line_graph.specs.ValidPieces.{ends_below};
 ghost use Rattle.odd_cuts.specs.CheckTables.{AddsShares, AreAtMost, AreMemberFlags, share_of, table_load_faults};
 ghost use Rattle.odd_cuts.specs.CutFaults.{load_fault};
 ghost use Rattle.odd_cuts.specs.Faults.{ReportsFault};
+ghost use Rattle.std.specs.Prelude.{◌≡◌, ℕ, ◌*◌, ◌+◌, ◌-◌, ◌<◌, ◌≤◌, ◌^◌, length, true};
 
 use crate::cut::Cut;
 use crate::faults::CutFault;

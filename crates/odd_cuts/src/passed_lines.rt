@@ -1,6 +1,6 @@
-ghost use Rattle.std.specs.Prelude.{◌≡◌, ℕ, ◌<◌, false, get_or};
 ghost use Rattle.drawing_model.specs.declared.limits.TheConstants.{MAX_LINES as most_lines};
 ghost use Rattle.line_graph.specs.PieceWalks.{is_line_passed};
+ghost use Rattle.std.specs.Prelude.{◌≡◌, ℕ, ◌<◌, false, get_or};
 
 use crate::flags::set_flag;
 use drawing_model::MAX_LINES;

@@ -1,4 +1,3 @@
-ghost use Rattle.std.specs.Prelude.{◌≡◌, ◌<◌, ◌-◌, ◌^◌, IfOk, Some, is_ok, length, true};
 ghost use Rattle.drawing_model.specs.declared.limits.TheConstants.{MAX_LINES as most_lines};
 ghost use Rattle.line_graph.specs.PieceGraphs.{given_start, given_end};
 ghost use Rattle.line_graph.specs.PieceWalks.{are_same_junction, pass_end, is_fitting_walk, pass_start, walk_cost};
@@ -7,6 +6,7 @@ ghost use Rattle.line_graph.specs.ValidPieces.{all_below};
 ghost use Rattle.odd_cuts.specs.CheckTables.{AreEdgeIndexes, IsSummaryFrom, IsWalkSummary};
 ghost use Rattle.odd_cuts.specs.Faults.{ReportsFault};
 ghost use Rattle.odd_cuts.specs.WalkFaults.{ChecksWalk, ends_fault, missing_fault};
+ghost use Rattle.std.specs.Prelude.{◌≡◌, ◌<◌, ◌-◌, ◌^◌, IfOk, Some, is_ok, length, true};
 
 use crate::faults::WalkFault;
 use crate::line_indexes::{edge_indexes, find_edge};

@@ -1,7 +1,7 @@
-ghost use Rattle.std.specs.Prelude.{◌≡◌, ◌<◌, ◌≤◌, IfOk, length};
 ghost use Rattle.drawing_model.specs.declared.limits.TheConstants.{MAX_LINES};
 ghost use Rattle.odd_paths.specs.EdgeWalks.{EndsAreBelow};
 ghost use Rattle.odd_paths.specs.declared.edge_order.TheConstants.{INDEXES};
+ghost use Rattle.std.specs.Prelude.{◌≡◌, ◌<◌, ◌≤◌, IfOk, length};
 
 use line_graph::Edge;
 use lists_and_numbers::Memory;

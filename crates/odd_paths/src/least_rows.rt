@@ -1,8 +1,8 @@
-ghost use Rattle.std.specs.Prelude.{◌≡◌, ◌<◌, ◌≤◌, All, IfOk, length};
 ghost use Rattle.line_graph.specs.PiecesOfDrawings.{graph_of};
 ghost use Rattle.odd_paths.specs.EdgeWalks.{AreLeastRows, IsGraph};
 ghost use Rattle.odd_paths.specs.Lanes.{lists_of};
 ghost use Rattle.odd_paths.specs.LeastRows.{AreRows, AreTerminals};
+ghost use Rattle.std.specs.Prelude.{◌≡◌, ◌<◌, ◌≤◌, All, IfOk, length};
 
 use crate::edge_order::order_by;
 use crate::lanes::LANES;

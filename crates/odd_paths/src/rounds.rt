@@ -1,7 +1,7 @@
-ghost use Rattle.std.specs.Prelude.{◌≡◌, ◌+◌, ◌≤◌, false};
 ghost use Rattle.line_graph.specs.PieceGraphs.{one_if};
 ghost use Rattle.odd_paths.specs.Lanes.{EachLane, KeepsCosts, CanRelax, lane_column, weight};
 ghost use Rattle.odd_paths.specs.Sweeps.{IsFullyRelaxed};
+ghost use Rattle.std.specs.Prelude.{◌≡◌, ◌+◌, ◌≤◌, false};
 
 use crate::edge_order::index_in;
 use crate::lanes::{LANES, relax, sweep};

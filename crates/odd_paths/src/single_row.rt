@@ -1,5 +1,5 @@
-ghost use Rattle.std.specs.Prelude.{◌<◌, IfOk};
 ghost use Rattle.odd_paths.specs.EdgeWalks.{IsGraph, IsLeastRow};
+ghost use Rattle.std.specs.Prelude.{◌<◌, IfOk};
 
 use crate::sweeps::{NO_WALK, settle};
 use line_graph::Edge;

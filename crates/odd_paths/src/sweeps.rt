@@ -1,6 +1,6 @@
-ghost use Rattle.std.specs.Prelude.{◌≡◌, ◌<◌, length};
 ghost use Rattle.odd_paths.specs.EdgeWalks.{EndsAreBelow};
 ghost use Rattle.odd_paths.specs.Sweeps.{IsFullyRelaxed, KeepsWalkCosts, changes, is_lower, lowered_row, relaxed, relaxes, swept};
+ghost use Rattle.std.specs.Prelude.{◌≡◌, ◌<◌, length};
 
 use line_graph::Edge;
 

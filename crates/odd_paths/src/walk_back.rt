@@ -1,6 +1,6 @@
-ghost use Rattle.std.specs.Prelude.{◌≡◌, ◌<◌, IfOk, length};
 ghost use Rattle.odd_paths.specs.EdgeWalks.{EndsAreBelow};
 ghost use Rattle.odd_paths.specs.LastEdges.{IsLeastEdgeWalk, IsRowFrom, is_last_edge, last_edge_from};
+ghost use Rattle.std.specs.Prelude.{◌≡◌, ◌<◌, IfOk, length};
 
 use line_graph::Edge;
 use lists_and_numbers::Memory;

@@ -1,10 +1,10 @@
-ghost use Rattle.std.specs.Prelude.{◌≡◌, ◌≤◌, ◌<◌, ℕ, length, slice_index, IfOk};
 ghost use Rattle.odd_sets.specs.BlossomSlacks.{least_part_slack, blossom_slacks, blossom_slacks_of, HaveSlacks, SlacksAgree};
 ghost use Rattle.odd_sets.specs.Blossoms.{members_in, FirstPartHolds, PartHoldsAt, IsRotated};
 ghost use Rattle.odd_sets.specs.DualSets.{count};
 ghost use Rattle.odd_sets.specs.Lists.{Each};
 ghost use Rattle.odd_sets.specs.Slots.{parts_in};
 ghost use Rattle.odd_sets.specs.declared.table.TheConstants.{FAR};
+ghost use Rattle.std.specs.Prelude.{◌≡◌, ◌≤◌, ◌<◌, ℕ, length, slice_index, IfOk};
 
 use crate::odd_set::{BlossomPart, Sets};
 use crate::slack_rows::{far_cells, merge, put};

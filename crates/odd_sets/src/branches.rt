@@ -1,6 +1,6 @@
-ghost use Rattle.std.specs.Prelude.{◌≡◌, ◌++◌, ◌∷◌, [], reverse, OnOk};
 ghost use Rattle.odd_sets.specs.Slots.{branch_in, branches_in, match_in, matches_in, set_in};
 ghost use Rattle.odd_sets.specs.Trees.{branch_by_edge, CanAugment, Augments, PairsBranch};
+ghost use Rattle.std.specs.Prelude.{◌≡◌, ◌++◌, ◌∷◌, [], reverse, OnOk};
 
 use crate::matches::Match;
 use crate::odd_set::{Handle, Sets, TightEdge};

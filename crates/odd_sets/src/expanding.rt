@@ -1,9 +1,9 @@
-ghost use Rattle.std.specs.Prelude.{◌≡◌, ◌≤◌, ℕ, IfOk, OnOk};
 ghost use Rattle.odd_sets.specs.Blossoms.{members_in, IsBlossom};
 ghost use Rattle.odd_sets.specs.DualSets.{count};
 ghost use Rattle.odd_sets.specs.Expansions.{reversed_blossom, CanSplitBlossom, CanExpand, Expands, IsEvenlyOriented, InsertsBranches, SplitsBlossom};
 ghost use Rattle.odd_sets.specs.Slots.{branches_in, matches_in, parts_in, set_in, AreSets, Slots};
 ghost use Rattle.odd_sets.specs.Trees.{all_dual_sets};
+ghost use Rattle.std.specs.Prelude.{◌≡◌, ◌≤◌, ℕ, IfOk, OnOk};
 
 use crate::blossom::{listed, part_with, turned_to};
 use crate::branches::{Branch, hang};

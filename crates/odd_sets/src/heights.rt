@@ -1,8 +1,8 @@
-ghost use Rattle.std.specs.Prelude.{◌*◌, []};
 ghost use Rattle.odd_sets.specs.DualSets.{count};
 ghost use Rattle.odd_sets.specs.Heights.{CanFall, CanRise, Falls, HasCells, Rises};
 ghost use Rattle.odd_sets.specs.Slots.{branches_in};
 ghost use Rattle.odd_sets.specs.Trees.{inner_members, outer_members};
+ghost use Rattle.std.specs.Prelude.{◌*◌, []};
 
 use crate::branches::Branch;
 use crate::odd_set::Sets;

@@ -1,9 +1,9 @@
-ghost use Rattle.std.specs.Prelude.{◌≡◌, ◌≤◌, ◌<◌, ◌+◌, length, false, IsTrue, IfOk, IfSome};
-ghost use Rattle.std.specs.Vec.Iter.{into_iter_items};
 ghost use Rattle.odd_sets.specs.DualSets.{count};
 ghost use Rattle.odd_sets.specs.MatchedSets.{match_members, matches_along, MatchHolds};
 ghost use Rattle.odd_sets.specs.Slots.{match_in, matches_in, parts_in, Slots};
 ghost use Rattle.odd_sets.specs.Trees.{RemovesMatch};
+ghost use Rattle.std.specs.Prelude.{◌≡◌, ◌≤◌, ◌<◌, ◌+◌, length, false, IsTrue, IfOk, IfSome};
+ghost use Rattle.std.specs.Vec.Iter.{into_iter_items};
 
 use crate::odd_set::{BlossomPart, Handle, Sets, TightEdge};
 use lists_and_numbers::Memory;

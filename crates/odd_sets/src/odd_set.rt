@@ -1,9 +1,9 @@
-ghost use Rattle.std.specs.Prelude.{◌≡◌, ◌≤◌, ◌+◌, ◌<◌, IsTrue, false, length, nat_lt, slice_index, IfOk};
 ghost use Rattle.odd_sets.specs.BlossomSlacks.{blossom_set, SlacksAgree};
 ghost use Rattle.odd_sets.specs.Blossoms.{reversed_edge, dual_sets_in, members_in, vertex_set, IsBlossom};
 ghost use Rattle.odd_sets.specs.DualSets.{count};
 ghost use Rattle.odd_sets.specs.Slots.{members_at, slacks_at, parts_at, parts_in, set_in, AreSets, InsertsSet};
 ghost use Rattle.odd_sets.specs.Tables.{IsTable};
+ghost use Rattle.std.specs.Prelude.{◌≡◌, ◌≤◌, ◌+◌, ◌<◌, IsTrue, false, length, nat_lt, slice_index, IfOk};
 
 use crate::blossom::row_of;
 use crate::slack_rows::single_row;

@@ -1,7 +1,7 @@
-ghost use Rattle.std.specs.Prelude.{◌≡◌, ◌≤◌, ℕ, IfOk};
 ghost use Rattle.odd_sets.specs.DualSets.{count};
 ghost use Rattle.odd_sets.specs.Opens.{OpensAt};
 ghost use Rattle.odd_sets.specs.Slots.{core_in, matches_in, set_in, IsSet};
+ghost use Rattle.std.specs.Prelude.{◌≡◌, ◌≤◌, ℕ, IfOk};
 
 use crate::blossom::turned_to;
 use crate::matches::{Match, pair_off};

@@ -1,10 +1,10 @@
-ghost use Rattle.std.specs.Prelude.{◌≡◌, ◌≤◌, ◌∷◌, ◌++◌, [], IsTrue, false, IfOk, OnOk};
 ghost use Rattle.odd_sets.specs.Blossoms.{dual_sets_in};
 ghost use Rattle.odd_sets.specs.ChainSteps.{ExtendsChain};
 ghost use Rattle.odd_sets.specs.DualSets.{count, IsOddSet};
 ghost use Rattle.odd_sets.specs.Shrinks.{part_with_edge, closed_blossom, CanClose, CanShrink, Shrinks};
 ghost use Rattle.odd_sets.specs.Slots.{branches_in, members_at, parts_in, set_in, AreSets, InsertsSet};
 ghost use Rattle.odd_sets.specs.Trees.{all_dual_sets, one_if_both};
+ghost use Rattle.std.specs.Prelude.{◌≡◌, ◌≤◌, ◌∷◌, ◌++◌, [], IsTrue, false, IfOk, OnOk};
 
 use crate::blossom::listed;
 use crate::branches::{Branch, put_back};

@@ -1,9 +1,9 @@
-ghost use Rattle.std.specs.Prelude.{◌≡◌, ◌<◌, ℕ, length, slice_index, IfOk};
 ghost use Rattle.odd_sets.specs.DualSets.{count};
 ghost use Rattle.odd_sets.specs.Heights.{HasCells};
 ghost use Rattle.odd_sets.specs.SlackRows.{lowered_slack, vertex_slack, vertex_slacks, MergesSlacks, SetsCells};
 ghost use Rattle.odd_sets.specs.Tables.{IsTable};
 ghost use Rattle.odd_sets.specs.declared.table.TheConstants.{FAR};
+ghost use Rattle.std.specs.Prelude.{◌≡◌, ◌<◌, ℕ, length, slice_index, IfOk};
 
 use crate::table::{DistTable, FAR};
 use lists_and_numbers::Memory;

@@ -1,7 +1,7 @@
-ghost use Rattle.std.specs.Prelude.{◌≡◌, ◌≤◌, length};
 ghost use Rattle.outside_io.specs.Blames.{store_call, no_faults, with_failed_call};
 ghost use Rattle.outside_io.specs.Causes.{CallFailed};
 ghost use Rattle.outside_io.specs.Views.{hidden_files};
+ghost use Rattle.std.specs.Prelude.{◌≡◌, ◌≤◌, length};
 
 use crate::limits::MAX_NAME;
 use arrayvec::ArrayVec;

@@ -1,8 +1,8 @@
-ghost use Rattle.std.specs.Prelude.{◌≡◌, ◌≤◌, [], length, IfOk};
 ghost use Rattle.outside_io.specs.Blames.{LogsFailedCall, no_faults, read_call, write_call};
 ghost use Rattle.outside_io.specs.Causes.{AppendsBytes, ReadsAt, WritesFile};
 ghost use Rattle.outside_io.specs.Files.{IsFileName};
 ghost use Rattle.outside_io.specs.Views.{hidden_files};
+ghost use Rattle.std.specs.Prelude.{◌≡◌, ◌≤◌, [], length, IfOk};
 
 use crate::blame::{CallKind, FaultLog};
 use crate::limits::MAX_NAME;

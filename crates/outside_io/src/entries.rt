@@ -1,7 +1,7 @@
-ghost use Rattle.std.specs.Bool.{OnTrue, OnFalse};
-ghost use Rattle.std.specs.Prelude.{◌≡◌, [], not, IfSome, IfNone, OnOk, OnErr, is_some, IsSome};
 ghost use Rattle.outside_io.specs.EntryIndexes.{HasNoEntry, IsEntryIndex};
 ghost use Rattle.outside_io.specs.MemEntries.{file_in, exceeds_room, room_in, with_bytes_appended, with_content, with_file, with_room};
+ghost use Rattle.std.specs.Bool.{OnTrue, OnFalse};
+ghost use Rattle.std.specs.Prelude.{◌≡◌, [], not, IfSome, IfNone, OnOk, OnErr, is_some, IsSome};
 
 use crate::entry::Entry;
 use lists_and_numbers::Memory;

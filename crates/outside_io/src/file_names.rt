@@ -1,5 +1,5 @@
-ghost use Rattle.std.specs.Prelude.{◌≡◌};
 ghost use Rattle.outside_io.specs.Files.{is_file_name};
+ghost use Rattle.std.specs.Prelude.{◌≡◌};
 
 use crate::limits::MAX_NAME;
 

@@ -1,7 +1,7 @@
-ghost use Rattle.std.specs.Prelude.{◌≡◌, OnOk, OnErr, IfOk};
 ghost use Rattle.outside_io.specs.Causes.{PutCause, TookBytes};
 ghost use Rattle.outside_io.specs.Counts.{next_count};
 ghost use Rattle.outside_io.specs.MemSinks.{MemPuts, empty_sink, put_failure_added, put_fails, sink_view};
+ghost use Rattle.std.specs.Prelude.{◌≡◌, OnOk, OnErr, IfOk};
 
 use crate::sink::Sink;
 use crate::store::Failed;

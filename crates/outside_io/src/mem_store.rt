@@ -1,8 +1,8 @@
-ghost use Rattle.std.specs.Prelude.{◌≡◌, ℕ, ◌≤◌, List, [], ◌++◌, length, IfSome, IfNone, OnOk, OnErr, min, take, drop};
 ghost use Rattle.outside_io.specs.Causes.{AppendsBytes, ReadsAt, WritesFile};
 ghost use Rattle.outside_io.specs.Counts.{next_count};
 ghost use Rattle.outside_io.specs.Files.{ChangesOnlyFile, FileExists, IsFileName};
 ghost use Rattle.outside_io.specs.MemStores.{MemAppends, MemCreates, MemReads, empty_store, failure_added, file_set, files_of, is_next_call_listed, room_raised, store_view, visible_files};
+ghost use Rattle.std.specs.Prelude.{◌≡◌, ℕ, ◌≤◌, List, [], ◌++◌, length, IfSome, IfNone, OnOk, OnErr, min, take, drop};
 
 use crate::blame::{CallKind, FaultLog};
 use crate::entries::{add_to_file, content_of, make_file, raise_room, set_file};

@@ -1,7 +1,7 @@
-ghost use Rattle.std.specs.Prelude.{◌≡◌};
 ghost use Rattle.outside_io.specs.Causes.{PutCause, TookBytes};
 ghost use Rattle.outside_io.specs.Streams.{StreamPuts};
 ghost use Rattle.outside_io.specs.Views.{hidden_bytes};
+ghost use Rattle.std.specs.Prelude.{◌≡◌};
 
 use crate::sink::Sink;
 use crate::store::Failed;

@@ -1,7 +1,7 @@
-ghost use Rattle.std.specs.Prelude.{◌≤◌, []};
 ghost use Rattle.outside_io.specs.Causes.{AppendsBytes, ReadsAt, WritesFile};
 ghost use Rattle.outside_io.specs.Files.{FileExists, IsFileName};
 ghost use Rattle.outside_io.specs.Views.{StoreView};
+ghost use Rattle.std.specs.Prelude.{◌≤◌, []};
 
 use crate::limits::MAX_FILE;
 

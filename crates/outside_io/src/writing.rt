@@ -1,7 +1,7 @@
+ghost use Rattle.outside_io.specs.Streams.{AddsPrefix};
 ghost use Rattle.std.specs.Bool.{OnFalse, OnTrue};
 ghost use Rattle.std.specs.Io.KnownBytes.{Appends};
 ghost use Rattle.std.specs.Prelude.{ℕ, List};
-ghost use Rattle.outside_io.specs.Streams.{AddsPrefix};
 
 use crate::turns::write_some;
 use std::io::Write;

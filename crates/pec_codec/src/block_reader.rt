@@ -1,8 +1,8 @@
-ghost use Rattle.std.specs.Prelude.{◌≡◌, ◌+◌, ◌<◌, ◌≤◌, ◌^◌, [], false, length};
 ghost use Rattle.format_traits.specs.Feeding.{Feeds, Finishes, HasNothingFed};
 ghost use Rattle.format_traits.specs.declared.feed.TheConstants.{MAX_FED};
 ghost use Rattle.pec_codec.specs.Reading.{pec_block_layout};
 ghost use Rattle.record_formats.specs.Layouts.{layout_decoded, layout_reads};
+ghost use Rattle.std.specs.Prelude.{◌≡◌, ◌+◌, ◌<◌, ◌≤◌, ◌^◌, [], false, length};
 
 use crate::pec_records::PecRecords;
 use design_model::Command;

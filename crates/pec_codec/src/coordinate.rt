@@ -1,6 +1,6 @@
-ghost use Rattle.std.specs.Prelude.{◌≡◌, ◌<◌, ◌≤◌, ◌*◌, length, unsigned_abs, IfNone, IfSome};
 ghost use Rattle.pec_codec.specs.Coordinates.{leading_coordinate, coordinate_of_two_bytes, coordinate_of_byte, from_twos_complement};
 ghost use Rattle.record_formats.specs.declared.record_reader.TheConstants.{MAX_RECORD_MOVE};
+ghost use Rattle.std.specs.Prelude.{◌≡◌, ◌<◌, ◌≤◌, ◌*◌, length, unsigned_abs, IfNone, IfSome};
 
 /// A coordinate of a record.
 #[derive(Clone, Copy)]

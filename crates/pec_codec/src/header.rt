@@ -1,10 +1,10 @@
-ghost use Rattle.std.specs.Prelude.{◌≡◌, ◌<◌, ◌≤◌, ◌^◌, ◌++◌, ℕ, List, [], length, OnOk, IfOk};
 ghost use Rattle.byteorder.specs.Endian.{little_bytes};
 ghost use Rattle.design_model.specs.Designs.{empty_design, with_label};
 ghost use Rattle.design_model.specs.Extents.{extent_of};
 ghost use Rattle.design_model.specs.declared.design.TheConstants.{MAX_THREADS};
 ghost use Rattle.pec_codec.specs.Header.{pec_header_of, pec_label_of, labels_of, distance_field, size_fields, threads_in, threads_of};
 ghost use Rattle.pec_codec.specs.declared.block.TheConstants.{HEADER_LENGTH, LABELS_LENGTH, MAX_STOPS};
+ghost use Rattle.std.specs.Prelude.{◌≡◌, ◌<◌, ◌≤◌, ◌^◌, ◌++◌, ℕ, List, [], length, OnOk, IfOk};
 
 use crate::block::{HEADER_LENGTH, LABELS_LENGTH, MAX_STOPS};
 use crate::theorems::designs_keep_limits;

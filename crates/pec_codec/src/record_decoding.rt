@@ -1,11 +1,11 @@
-ghost use Rattle.std.specs.List.{list_all};
-ghost use Rattle.std.specs.Prelude.{◌≡◌, ◌≤◌, IsTrue, unsigned_abs};
 ghost use Rattle.design_model.specs.Points.{is_point_within};
 ghost use Rattle.pec_codec.specs.Coordinates.{leading_coordinate};
 ghost use Rattle.pec_codec.specs.Records.{next_record_in, stop_record_in, move_record_in, event_of_pair};
 ghost use Rattle.pec_codec.specs.Steps.{RecordFitsBytes};
 ghost use Rattle.record_formats.specs.Records.{moves_of_event};
 ghost use Rattle.record_formats.specs.declared.record_reader.TheConstants.{MAX_RECORD_MOVE};
+ghost use Rattle.std.specs.List.{list_all};
+ghost use Rattle.std.specs.Prelude.{◌≡◌, ◌≤◌, IsTrue, unsigned_abs};
 
 use crate::coordinate::{Coordinate, coordinate_in};
 use design_model::Point;

@@ -1,9 +1,9 @@
-ghost use Rattle.std.specs.Prelude.{◌≡◌, ◌<◌, ◌≤◌, ◌*◌, ◌++◌, OnOk, IsTrue, unsigned_abs};
 ghost use Rattle.design_model.specs.Points.{is_point_within};
 ghost use Rattle.pec_codec.specs.Coordinates.{is_short_number, long_bytes_of, to_twos_complement};
 ghost use Rattle.pec_codec.specs.RecordBytes.{long_record, stop_byte_of};
 ghost use Rattle.pec_codec.specs.Writing.{pec_encoding, pec_write_limits};
 ghost use Rattle.pec_codec.specs.declared.block.TheConstants.{LIMIT};
+ghost use Rattle.std.specs.Prelude.{◌≡◌, ◌<◌, ◌≤◌, ◌*◌, ◌++◌, OnOk, IsTrue, unsigned_abs};
 
 use crate::block::WRITE_LIMITS;
 use crate::pec_records::PecRecords;

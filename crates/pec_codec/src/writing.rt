@@ -1,4 +1,3 @@
-ghost use Rattle.std.specs.Prelude.{◌≡◌, ◌<◌, ◌≤◌, ◌+◌, ◌-◌, ◌*◌, ◌^◌, ◌++◌, length, drop, OnOk, IfOk};
 ghost use Rattle.design_model.specs.declared.design.TheConstants.{MAX_COMMANDS};
 ghost use Rattle.format_traits.specs.Laws.{EncodesTo};
 ghost use Rattle.pec_codec.specs.Header.{pec_header_of};
@@ -6,6 +5,7 @@ ghost use Rattle.pec_codec.specs.Laws.{KeepsBlockLaws};
 ghost use Rattle.pec_codec.specs.Steps.{AppendsBody};
 ghost use Rattle.pec_codec.specs.Writing.{pec_body_of, thumbnails_of, pec_block_writes};
 ghost use Rattle.pec_codec.specs.declared.block.TheConstants.{HEADER_LENGTH, LABELS_LENGTH, MAX_STOPS};
+ghost use Rattle.std.specs.Prelude.{◌≡◌, ◌<◌, ◌≤◌, ◌+◌, ◌-◌, ◌*◌, ◌^◌, ◌++◌, length, drop, OnOk, IfOk};
 
 use crate::block::{HEADER_LENGTH, LABELS_LENGTH, THUMBNAIL_LENGTH};
 use crate::header::new_header;

@@ -1,9 +1,9 @@
-ghost use Rattle.std.specs.Prelude.{IfOk, IsOk, refl};
 ghost use Rattle.format_traits.specs.Laws.{EncodesTo, KeepsLaws, MovesWithin, RoundTrips};
 ghost use Rattle.format_traits.specs.PlainDesigns.{IsPlain};
 ghost use Rattle.pes_codec.specs.Formats.{file_meaning};
 ghost use Rattle.pes_codec.specs.Laws.{RoundTripsWithThreads};
 ghost use Rattle.pes_codec.specs.Writing.{file_writes};
+ghost use Rattle.std.specs.Prelude.{IfOk, IsOk, refl};
 
 use crate::file_decoder::FileDecoder;
 use crate::file_formats::FileFormat;

@@ -1,6 +1,6 @@
-ghost use Rattle.std.specs.Prelude.{◌≡◌};
 ghost use Rattle.pes_codec.specs.declared.file_kind.FileKind.TheVariants as kind;
 ghost use Rattle.pes_codec.specs.declared.file_kind.FileKind.{FileKind as Kind};
+ghost use Rattle.std.specs.Prelude.{◌≡◌};
 
 use crate::file_decoder::FileDecoder;
 use crate::file_kind::FileKind;

@@ -1,7 +1,7 @@
-ghost use Rattle.std.specs.Prelude.{◌≡◌, ◌<◌, ◌≤◌, ◌++◌, ℕ, List, length};
 ghost use Rattle.format_traits.specs.Laws.{IsFileEnding};
 ghost use Rattle.format_traits.specs.declared.decoder.TheConstants.{MAX_PENDING};
 ghost use Rattle.pes_codec.specs.Fronts.{ending_of, front_layout_of, front_of};
+ghost use Rattle.std.specs.Prelude.{◌≡◌, ◌<◌, ◌≤◌, ◌++◌, ℕ, List, length};
 
 use crate::front::{OFFSET_END, PEC_BLOCK_OFFSET};
 use byteorder::{ByteOrder, LittleEndian};

@@ -1,5 +1,5 @@
-ghost use Rattle.std.specs.Prelude.{◌≡◌};
 ghost use Rattle.picture_parts.specs.Colours.{colour_of_thread};
+ghost use Rattle.std.specs.Prelude.{◌≡◌};
 
 /// The colours of the threads 1 to 64 of the PEC format, seven characters each.
 const COLOURS: &[u8] =

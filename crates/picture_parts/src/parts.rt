@@ -1,6 +1,6 @@
+ghost use Rattle.picture_parts.specs.Parts.{around, filled, mm_text, part_text, point_text, text_after, text_before};
 ghost use Rattle.std.specs.Fmt.{decimal, signed_decimal};
 ghost use Rattle.std.specs.Prelude.{◌≡◌, ◌++◌, OnOk, map};
-ghost use Rattle.picture_parts.specs.Parts.{around, filled, mm_text, part_text, point_text, text_after, text_before};
 
 use crate::escapes::put_escaped;
 use design_model::Point;

@@ -1,5 +1,5 @@
-ghost use Rattle.std.specs.Prelude.{◌≡◌, ◌++◌, OnOk};
 ghost use Rattle.picture_parts.specs.Paths.{coloured_path, move_text, path_end, path_start, straight_text};
+ghost use Rattle.std.specs.Prelude.{◌≡◌, ◌++◌, OnOk};
 
 use crate::parts::{Part, put, put_around};
 use design_model::Point;

@@ -1,6 +1,6 @@
-ghost use Rattle.std.specs.Prelude.{◌≡◌, ◌<◌, ◌^◌, slice_get, unwrap_or};
 ghost use Rattle.line_graph.specs.PiecesOfDrawings.{graph_of};
 ghost use Rattle.piece_stitches.specs.Travels.{point_of_end, travel_between, way_between};
+ghost use Rattle.std.specs.Prelude.{◌≡◌, ◌<◌, ◌^◌, slice_get, unwrap_or};
 
 use design_model::Point;
 use line_graph::Piece;

@@ -1,8 +1,8 @@
-ghost use Rattle.std.specs.Prelude.{IfErr, OnOk};
 ghost use Rattle.program_shell.specs.FinishedRuns.{Delivers, PrintsReport};
 ghost use Rattle.program_shell.specs.Products.{HaveDistinctNames, HaveFileNames, WroteAll, WroteUpTo, output_values, product_value};
 ghost use Rattle.program_shell.specs.RunViews.{views_of};
 ghost use Rattle.program_shell.specs.StepOutcomes.{IsDeliverable};
+ghost use Rattle.std.specs.Prelude.{IfErr, OnOk};
 
 use crate::messages::{report_cannot_print, report_cannot_write};
 use crate::product::{Output, Product};

@@ -1,6 +1,6 @@
-ghost use Rattle.std.specs.Prelude.{◌≡◌, IfOk, codes, string_bytes};
 ghost use Rattle.program_shell.specs.FileTexts.{read_fault_text, text_about, text_at};
 ghost use Rattle.program_shell.specs.StepOutcomes.{IsRefusalWith};
+ghost use Rattle.std.specs.Prelude.{◌≡◌, IfOk, codes, string_bytes};
 
 use crate::failure::{Failure, refused};
 use format_traits::ReadFault;

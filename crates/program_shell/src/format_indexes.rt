@@ -1,9 +1,9 @@
-ghost use Rattle.std.specs.Prelude.{◌≡◌, ◌<◌, IfOk, Some, length, map, slice_get};
 ghost use Rattle.format_traits.specs.Endings.{format_of};
 ghost use Rattle.format_traits.specs.Meanings.{Meaning};
 ghost use Rattle.outside_io.specs.Files.{IsFileName};
 ghost use Rattle.program_shell.specs.FileTexts.{read_fault_text};
 ghost use Rattle.program_shell.specs.StepOutcomes.{IsRefusalWith, LoadsFound, ParsesInput};
+ghost use Rattle.std.specs.Prelude.{◌≡◌, ◌<◌, IfOk, Some, length, map, slice_get};
 
 use crate::failure::{Failure, Step, refused};
 use crate::file_texts::describe_read_fault;

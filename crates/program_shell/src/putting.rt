@@ -1,8 +1,8 @@
-ghost use Rattle.std.specs.List.{concat};
-ghost use Rattle.std.specs.Prelude.{◌≡◌, ◌++◌, OnErr, OnOk, map};
 ghost use Rattle.program_shell.specs.PutSteps.{Gathers};
 ghost use Rattle.program_shell.specs.Puts.{ReportsLineWithStatus, Puts};
 ghost use Rattle.program_shell.specs.declared.status.Status.TheVariants as status;
+ghost use Rattle.std.specs.List.{concat};
+ghost use Rattle.std.specs.Prelude.{◌≡◌, ◌++◌, OnErr, OnOk, map};
 
 use crate::status::Status;
 use arrayvec::ArrayVec;

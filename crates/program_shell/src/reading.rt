@@ -1,10 +1,10 @@
-ghost use Rattle.std.specs.Prelude.{◌≡◌, Err};
 ghost use Rattle.outside_io.specs.Causes.{ReadsWholeFile};
 ghost use Rattle.outside_io.specs.Files.{IsFileName};
 ghost use Rattle.outside_io.specs.Views.{StoreView};
 ghost use Rattle.outside_io.specs.declared.limits.TheConstants.{MAX_FILE as most};
 ghost use Rattle.program_shell.specs.FileTexts.{too_long_text};
 ghost use Rattle.program_shell.specs.StepOutcomes.{IsRefusalWith, ReadsInput};
+ghost use Rattle.std.specs.Prelude.{◌≡◌, Err};
 
 use crate::failure::{Failure, Step};
 use crate::file_texts::describe_file;

@@ -1,6 +1,6 @@
-ghost use Rattle.std.specs.Prelude.{◌≡◌, IfOk, string_bytes};
 ghost use Rattle.program_shell.specs.FileTexts.{text_at};
 ghost use Rattle.program_texts.specs.DrawingTexts.{draw_fault_text, draw_kind_text, step_limit_text, trace_fault_text};
+ghost use Rattle.std.specs.Prelude.{◌≡◌, IfOk, string_bytes};
 
 use crate::design_texts::describe_command;
 use drawing_model::DrawKind;

@@ -1,6 +1,6 @@
-ghost use Rattle.std.specs.Prelude.{◌≡◌, IfOk, length};
 ghost use Rattle.drawing_model.specs.GrowingDrawings.{step_count};
 ghost use Rattle.program_texts.specs.MigrationReports.{migrate_report};
+ghost use Rattle.std.specs.Prelude.{◌≡◌, IfOk, length};
 
 use drawing_model::{Drawing, drawing_cost};
 use lists_and_numbers::{Bytes, Memory};

@@ -1,6 +1,6 @@
-ghost use Rattle.std.specs.Prelude.{◌≡◌, ◌≤◌, IfOk, length};
 ghost use Rattle.line_sections.specs.Sections.{segments_of};
 ghost use Rattle.program_texts.specs.TracingReports.{segment_count, tracing_report};
+ghost use Rattle.std.specs.Prelude.{◌≡◌, ◌≤◌, IfOk, length};
 
 use design_model::Point;
 use drawing_model::Drawing;

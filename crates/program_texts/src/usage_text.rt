@@ -1,5 +1,5 @@
-ghost use Rattle.std.specs.Prelude.{◌≡◌};
 ghost use Rattle.program_texts.specs.UsageText.{usage_text};
+ghost use Rattle.std.specs.Prelude.{◌≡◌};
 
 /// The usage text, which is reported on standard error if the arguments request nothing that the program
 /// does.

@@ -1,5 +1,3 @@
-ghost use Rattle.std.specs.List.{concat, list_all};
-ghost use Rattle.std.specs.Prelude.{◌≡◌, ◌<◌, ◌≤◌, ◌*◌, ◌++◌, ◌||◌, map, length, IsTrue, OnOk};
 ghost use Rattle.design_model.specs.Acts.{acts_along};
 ghost use Rattle.design_model.specs.Commands.{is_command_in_range};
 ghost use Rattle.design_model.specs.Points.{is_point_within, move_size};
@@ -8,6 +6,8 @@ ghost use Rattle.format_traits.specs.declared.move_hops.TheConstants.{MAX_MOVE};
 ghost use Rattle.record_formats.specs.MoveParts.{part_moves_from};
 ghost use Rattle.record_formats.specs.RecordEncodings.{AppendsRecords, float_records, hop_records, is_at_max, needle_records, records_of_act};
 ghost use Rattle.record_formats.specs.declared.move_parts.TheConstants.{MAX_HOPS};
+ghost use Rattle.std.specs.List.{concat, list_all};
+ghost use Rattle.std.specs.Prelude.{◌≡◌, ◌<◌, ◌≤◌, ◌*◌, ◌++◌, ◌||◌, map, length, IsTrue, OnOk};
 
 use crate::move_parts::{MAX_HOPS, part_move};
 use crate::record_writer::RecordWriter;

@@ -1,6 +1,6 @@
-ghost use Rattle.std.specs.Prelude.{◌≡◌, ◌⊎◌, [], ◌∷◌, OnErr};
 ghost use Rattle.design_model.specs.Designs.{with_command};
 ghost use Rattle.record_formats.specs.CommandAdding.{AddsCommands, SameButCommands};
+ghost use Rattle.std.specs.Prelude.{◌≡◌, ◌⊎◌, [], ◌∷◌, OnErr};
 
 use design_model::{Command, Design, ModelFault};
 use format_traits::ReadFault;

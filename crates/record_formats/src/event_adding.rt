@@ -1,10 +1,10 @@
-ghost use Rattle.std.specs.List.{list_all};
-ghost use Rattle.std.specs.Prelude.{◌≡◌, true, IsTrue, IfOk};
 ghost use Rattle.design_model.specs.Points.{is_point_within};
 ghost use Rattle.design_model.specs.declared.point.TheConstants.{JUMP_LIMIT};
 ghost use Rattle.record_formats.specs.CommandAdding.{AddsCommands, SameButCommands};
 ghost use Rattle.record_formats.specs.Records.{event_commands_at, commands_of_event, trims_or_stops, moves_of_event, position_after_event};
 ghost use Rattle.record_formats.specs.declared.record_reader.TheConstants.{MAX_RECORD_MOVE};
+ghost use Rattle.std.specs.List.{list_all};
+ghost use Rattle.std.specs.Prelude.{◌≡◌, true, IsTrue, IfOk};
 
 use crate::command_adding::{keep, keep_both};
 use crate::event::Event;

@@ -1,9 +1,9 @@
-ghost use Rattle.std.specs.Int.{int_div_euclid};
-ghost use Rattle.std.specs.Prelude.{◌≡◌, ◌<◌, ◌≤◌, ◌+◌, ◌*◌, ℕ, ◌+ℤ◌, ◌-ℤ◌, ◌*ℤ◌, pos, IsTrue, unsigned_abs};
 ghost use Rattle.design_model.specs.Points.{is_point_within, move_between as move_of, move_size};
 ghost use Rattle.design_model.specs.declared.point.TheConstants.{JUMP_LIMIT};
 ghost use Rattle.format_traits.specs.declared.move_hops.TheConstants.{MAX_MOVE};
 ghost use Rattle.record_formats.specs.MoveParts.{position_after_move, part_end};
+ghost use Rattle.std.specs.Int.{int_div_euclid};
+ghost use Rattle.std.specs.Prelude.{◌≡◌, ◌<◌, ◌≤◌, ◌+◌, ◌*◌, ℕ, ◌+ℤ◌, ◌-ℤ◌, ◌*ℤ◌, pos, IsTrue, unsigned_abs};
 
 use design_model::Point;
 use format_traits::MAX_MOVE;

@@ -1,6 +1,6 @@
-ghost use Rattle.std.specs.Prelude.{◌≡◌, true};
 ghost use Rattle.design_model.specs.Points.{is_point_within};
 ghost use Rattle.design_model.specs.declared.point.TheConstants.{JUMP_LIMIT};
+ghost use Rattle.std.specs.Prelude.{◌≡◌, true};
 
 use crate::record_loop::read_records;
 use crate::record_reader::RecordReader;

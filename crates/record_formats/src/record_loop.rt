@@ -1,9 +1,9 @@
-ghost use Rattle.std.specs.Prelude.{◌≡◌, ◌+◌, ◌<◌, ◌^◌, IfOk, IsTrue, true, false, length};
 ghost use Rattle.design_model.specs.Points.{is_point_within};
 ghost use Rattle.design_model.specs.declared.point.TheConstants.{JUMP_LIMIT};
 ghost use Rattle.format_traits.specs.DecoderStates.{TakesBytes};
 ghost use Rattle.record_formats.specs.RecordStates.{record_so_far_at, record_state_at};
 ghost use Rattle.record_formats.specs.declared.record_stage.RecordStage.TheVariants as stage;
+ghost use Rattle.std.specs.Prelude.{◌≡◌, ◌+◌, ◌<◌, ◌^◌, IfOk, IsTrue, true, false, length};
 
 use crate::event_adding::keep_event;
 use crate::record_reader::{NextRecord, RecordReader};

@@ -1,9 +1,9 @@
-ghost use Rattle.std.specs.Prelude.{◌≡◌, ◌<◌, ◌+◌, ◌-◌, ◌∷◌, ◌^◌, All, IfOk, OnOk, [], get_or, length, replicate};
 ghost use Rattle.line_graph.specs.PieceWalks.{edge_cost};
 ghost use Rattle.line_graph.specs.PiecesOfDrawings.{graph_of};
 ghost use Rattle.odd_paths.specs.LeastRows.{AreRows, IsPath, cost_at, terminal_of};
 ghost use Rattle.route_core.specs.Copies.{AddsPairs, AddsCopies, IsPairOf, total_copies, incremented_at, pair_costs};
 ghost use Rattle.route_core.specs.Copies.{copies_sum};
+ghost use Rattle.std.specs.Prelude.{◌≡◌, ◌<◌, ◌+◌, ◌-◌, ◌∷◌, ◌^◌, All, IfOk, OnOk, [], get_or, length, replicate};
 
 use blossom_match::Pair;
 use line_graph::Piece;

@@ -1,6 +1,6 @@
-ghost use Rattle.std.specs.Prelude.{IfOk};
 ghost use Rattle.line_graph.specs.PiecesOfDrawings.{ArePiecesOf, graph_of, lines_of_pieces};
 ghost use Rattle.route_core.specs.Doubles.{IsDoubleCert, IsDoubleOver};
+ghost use Rattle.std.specs.Prelude.{IfOk};
 
 use crate::routed::Routed;
 use crate::runs::{RunKind, run_pieces};

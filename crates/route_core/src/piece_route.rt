@@ -1,5 +1,3 @@
-ghost use Rattle.std.specs.Prelude.{length};
-ghost use Rattle.std.specs.Prelude.{◌≡◌, ◌%◌, ◌<◌, ◌≤◌, ◌∷◌, ◌^◌, All, IfOk, []};
 ghost use Rattle.blossom_match.specs.Matchings.{IsPerfectMatching};
 ghost use Rattle.drawing_model.specs.declared.limits.TheConstants.{MAX_COST, MAX_LINES};
 ghost use Rattle.line_graph.specs.PiecesOfDrawings.{graph_of};
@@ -8,6 +6,8 @@ ghost use Rattle.odd_paths.specs.LeastRows.{AreRows};
 ghost use Rattle.route_core.specs.Copies.{IsPairOf, pair_costs};
 ghost use Rattle.route_core.specs.OddPairs.{AreOddRows, AreOddPairs, IsWalkBy};
 ghost use Rattle.route_core.specs.PieceCertificates.{CertifiesLeastWalk};
+ghost use Rattle.std.specs.Prelude.{length};
+ghost use Rattle.std.specs.Prelude.{◌≡◌, ◌%◌, ◌<◌, ◌≤◌, ◌∷◌, ◌^◌, All, IfOk, []};
 
 use crate::copies::copies_of;
 use crate::distances::{distance, distances};

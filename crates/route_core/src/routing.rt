@@ -1,6 +1,6 @@
-ghost use Rattle.std.specs.Prelude.{IfOk};
 ghost use Rattle.line_graph.specs.PiecesOfDrawings.{ArePiecesOf, lines_of_pieces};
 ghost use Rattle.route_core.specs.Routes.{IsRoute, IsRouteOver};
+ghost use Rattle.std.specs.Prelude.{IfOk};
 
 use crate::routed::Routed;
 use crate::runs::{RunKind, run_pieces};

@@ -1,6 +1,6 @@
-ghost use Rattle.std.specs.Prelude.{IfOk};
 ghost use Rattle.line_graph.specs.PiecesOfDrawings.{ArePiecesOf, lines_of_pieces};
 ghost use Rattle.route_core.specs.RunKinds.{AreCertsOf, IsCertOf, IsRunOver};
+ghost use Rattle.std.specs.Prelude.{IfOk};
 
 use crate::doubling::double_cert;
 use crate::piece_route::route_piece;

@@ -1,5 +1,5 @@
-ghost use Rattle.std.specs.Prelude.{◌≡◌, ◌<◌, IsTrue, length};
 ghost use Rattle.route_tests.specs.MoatLoads.{KeepsLoads, KeepsLoadsFrom};
+ghost use Rattle.std.specs.Prelude.{◌≡◌, ◌<◌, IsTrue, length};
 
 use blossom_match::Moat;
 use matching_checks::load;

@@ -1,8 +1,8 @@
-ghost use Rattle.std.specs.Prelude.{◌≡◌, ◌<◌, ◌≤◌, ◌^◌, All, IfOk, length, string_bytes, sum_by};
 ghost use Rattle.drawing_model.specs.declared.limits.TheConstants.{MAX_BLOCKS, MAX_LINES};
 ghost use Rattle.line_graph.specs.PiecesOfDrawings.{graph_of};
 ghost use Rattle.route_texts.specs.PieceReports.{AreReportable, piece_report, reports_from};
 ghost use Rattle.route_texts.specs.SewingReports.{cost_text, double_cost_text, penetrations_of, piece_position_text, route_cost_text, sewing_report, totals_text};
+ghost use Rattle.std.specs.Prelude.{◌≡◌, ◌<◌, ◌≤◌, ◌^◌, All, IfOk, length, string_bytes, sum_by};
 
 use line_graph::Piece;
 use lists_and_numbers::{Bytes, Items, Memory};

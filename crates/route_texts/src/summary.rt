@@ -1,5 +1,5 @@
-ghost use Rattle.std.specs.Prelude.{◌≡◌, IfOk, string_bytes};
 ghost use Rattle.route_texts.specs.Summaries.{summary_counts, summary_costs, summary_text};
+ghost use Rattle.std.specs.Prelude.{◌≡◌, IfOk, string_bytes};
 
 use lists_and_numbers::{Bytes, Memory};
 use std::alloc::Global;

@@ -1,4 +1,3 @@
-ghost use Rattle.std.specs.Prelude.{◌≡◌, ◌+◌, ◌≤◌, ◌∷◌, IfOk, [], drop, false, length, map, replicate};
 ghost use Rattle.design_model.specs.Acts.{acts_without_numbers};
 ghost use Rattle.design_model.specs.declared.act.Act.TheVariants as act;
 ghost use Rattle.design_model.specs.declared.design.TheConstants.{MAX_COMMANDS};
@@ -7,6 +6,7 @@ ghost use Rattle.odd_cuts.specs.Certificates.{walks_of};
 ghost use Rattle.route_verdict.specs.ActOrder.{first_differing_act, is_same_act};
 ghost use Rattle.route_verdict.specs.ActSteps.{ComparesActs, begins_with_act, run_acts};
 ghost use Rattle.route_verdict.specs.SewingSteps.{AllDrawn};
+ghost use Rattle.std.specs.Prelude.{◌≡◌, ◌+◌, ◌≤◌, ◌∷◌, IfOk, [], drop, false, length, map, replicate};
 
 use crate::sewing::block_of_walk;
 use crate::walk_needles::walk_needles;

@@ -1,9 +1,9 @@
-ghost use Rattle.std.specs.Prelude.{◌≡◌, ◌-◌, ◌<◌, ◌^◌, All, IfOk, length, map};
 ghost use Rattle.line_graph.specs.PiecesOfDrawings.{ArePiecesOf, graph_of, lines_of_pieces};
 ghost use Rattle.route_verdict.specs.LeastRedwork.{IsLeastRedwork};
 ghost use Rattle.route_verdict.specs.SewingSteps.{AllDrawn};
 ghost use Rattle.route_verdict.specs.Verdicts.{HasShortLists, IsVerdict, IsVerdictOver, reason_of, difference_of, acts_reason, verdict_of_reason};
 ghost use Rattle.route_verdict.specs.declared.verdict.Verdict.TheVariants as verdict;
+ghost use Rattle.std.specs.Prelude.{◌≡◌, ◌-◌, ◌<◌, ◌^◌, All, IfOk, length, map};
 
 use crate::act_order::first_difference;
 use crate::piece_reasons::{wrong_count, wrong_piece};

@@ -1,4 +1,3 @@
-ghost use Rattle.std.specs.Prelude.{◌≡◌, ◌<◌, ◌≤◌, ◌+◌, ◌-◌, All, IfOk, OnOk, [], length, map, replicate, true};
 ghost use Rattle.design_model.specs.Commands.{is_command_in_range};
 ghost use Rattle.design_model.specs.Designs.{with_command};
 ghost use Rattle.design_model.specs.LongerDesigns.{with_commands};
@@ -8,6 +7,7 @@ ghost use Rattle.line_graph.specs.Runs.{block_of_passes, commands_after, runs_of
 ghost use Rattle.line_graph.specs.Walks.{needles_of_walk};
 ghost use Rattle.odd_cuts.specs.Certificates.{walks_of};
 ghost use Rattle.route_verdict.specs.SewingSteps.{AllDrawn, AreDrawn, run_commands};
+ghost use Rattle.std.specs.Prelude.{◌≡◌, ◌<◌, ◌≤◌, ◌+◌, ◌-◌, All, IfOk, OnOk, [], length, map, replicate, true};
 ghost use Rattle.step_splitter.specs.Chains.{IsNeedlePoint};
 
 use crate::walk_needles::walk_needles;

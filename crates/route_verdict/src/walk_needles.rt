@@ -1,6 +1,6 @@
-ghost use Rattle.std.specs.Prelude.{◌≡◌, ◌<◌, ◌++◌, IfOk, OnOk, drop, if◌then◌else◌, length, reverse};
 ghost use Rattle.line_graph.specs.Walks.{needles_of_pass, needles_of_walk};
 ghost use Rattle.route_verdict.specs.SewingSteps.{AreDrawn, later_needles};
+ghost use Rattle.std.specs.Prelude.{◌≡◌, ◌<◌, ◌++◌, IfOk, OnOk, drop, if◌then◌else◌, length, reverse};
 
 use design_model::{Point, Points};
 use drawing_model::{Drawing, needles};

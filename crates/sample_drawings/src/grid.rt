@@ -1,9 +1,9 @@
-ghost use Rattle.std.specs.Prelude.{◌≡◌, ◌+◌, ◌*◌, ◌<◌, ◌≤◌, IfOk, OnOk};
 ghost use Rattle.sample_drawings.specs.Draws.{next_state, state_after};
 ghost use Rattle.sample_drawings.specs.Grids.{grid_junctions, kinds_of, moved_junction};
 ghost use Rattle.sample_drawings.specs.Samples.{segment_between, cells_per_side, cell_kind, grid_junction, junctions_per_side, junction_draws};
 ghost use Rattle.sample_drawings.specs.declared.draws.TheConstants.{MAX_NUMBER};
 ghost use Rattle.sample_drawings.specs.declared.grid.TheConstants.{SIZES};
+ghost use Rattle.std.specs.Prelude.{◌≡◌, ◌+◌, ◌*◌, ◌<◌, ◌≤◌, IfOk, OnOk};
 
 use crate::draws::Generator;
 use crate::segment::Segment;

@@ -1,6 +1,6 @@
-ghost use Rattle.std.specs.Prelude.{◌≡◌, ◌<◌, ◌++◌, IfOk, OnOk};
 ghost use Rattle.sample_drawings.specs.GridLines.{column_count, lines_in_row, row_count, lines_at_cell, lines_in_direction};
 ghost use Rattle.sample_drawings.specs.Samples.{cells_per_side, diagonals, segment_if, sample_segments};
+ghost use Rattle.std.specs.Prelude.{◌≡◌, ◌<◌, ◌++◌, IfOk, OnOk};
 
 use crate::grid::{Grid, cell_count, junction_count};
 use crate::segment::{Segment, Segments};

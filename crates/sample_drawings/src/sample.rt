@@ -1,9 +1,9 @@
-ghost use Rattle.std.specs.Prelude.{◌≡◌, ◌≤◌, ◌∷◌, [], All, IfOk, OnOk, length};
 ghost use Rattle.drawing_model.specs.WalkEnds.{HasNoEnds};
 ghost use Rattle.drawing_model.specs.declared.draw_kind.DrawKind.TheVariants as kind;
 ghost use Rattle.sample_drawings.specs.SampleRoom.{HasRoom, IsShortSegment, first_block, with_segments};
 ghost use Rattle.sample_drawings.specs.Samples.{sample_drawing_of};
 ghost use Rattle.sample_drawings.specs.declared.draws.TheConstants.{MAX_NUMBER};
+ghost use Rattle.std.specs.Prelude.{◌≡◌, ◌≤◌, ◌∷◌, [], All, IfOk, OnOk, length};
 
 use crate::grid::Grid;
 use crate::grid_lines::segments;

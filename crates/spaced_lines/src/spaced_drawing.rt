@@ -1,10 +1,10 @@
-ghost use Rattle.std.specs.Prelude.{◌≡◌, IfOk, Ok};
 ghost use Rattle.drawing_model.specs.GrowingDrawings.{draw_is_out_of_memory};
 ghost use Rattle.drawing_model.specs.JoinedDrawings.{joined_drawing};
 ghost use Rattle.drawing_model.specs.WalkEnds.{HasNoEnds};
 ghost use Rattle.lists_and_numbers.specs.OutOfMemory.{IsSpecified};
 ghost use Rattle.spaced_lines.specs.SpacedDrawings.{space_of, with_spaced_lines};
 ghost use Rattle.spaced_lines.specs.SpacedLines.{spaced_lines};
+ghost use Rattle.std.specs.Prelude.{◌≡◌, IfOk, Ok};
 
 use crate::junction_spots::junctions;
 use crate::spacing::spaced;

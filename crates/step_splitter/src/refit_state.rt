@@ -1,10 +1,10 @@
-ghost use Rattle.std.specs.Prelude.{◌≡◌, ◌≢◌, ◌≤◌, [], ◌∷◌, ◌++◌, List, option_to_list, length, map, true, All, IfErr, IfSome, OnOk, IsTrue};
 ghost use Rattle.design_model.specs.ActPositions.{is_act_in_range};
 ghost use Rattle.design_model.specs.Commands.{is_command_in_range};
 ghost use Rattle.design_model.specs.Points.{origin};
 ghost use Rattle.design_model.specs.declared.act.NumberedAct.{NumberedAct as NumberedActValue};
 ghost use Rattle.design_model.specs.declared.command.Command.TheVariants as command;
 ghost use Rattle.design_model.specs.declared.design.TheConstants.{MAX_COMMANDS};
+ghost use Rattle.std.specs.Prelude.{◌≡◌, ◌≢◌, ◌≤◌, [], ◌∷◌, ◌++◌, List, option_to_list, length, map, true, All, IfErr, IfSome, OnOk, IsTrue};
 ghost use Rattle.step_splitter.specs.Chains.{IsNeedlePoint};
 ghost use Rattle.step_splitter.specs.RefitSteps.{AddsRefitCommands, IsRefitState, RefuseActs};
 ghost use Rattle.step_splitter.specs.Refits.{commands_of_acts, cut_needle, is_beyond_limit, needles_at, refitted_act, split_needle};

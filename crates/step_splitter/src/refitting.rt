@@ -1,8 +1,8 @@
-ghost use Rattle.std.specs.List.{list_all};
-ghost use Rattle.std.specs.Prelude.{◌≡◌, ◌≤◌, [], length, IfOk, IsTrue};
 ghost use Rattle.design_model.specs.Acts.{acts_along, acts_of, acts_without_numbers};
 ghost use Rattle.design_model.specs.Commands.{is_command_in_range};
 ghost use Rattle.design_model.specs.declared.design.TheConstants.{MAX_COMMANDS};
+ghost use Rattle.std.specs.List.{list_all};
+ghost use Rattle.std.specs.Prelude.{◌≡◌, ◌≤◌, [], length, IfOk, IsTrue};
 ghost use Rattle.step_splitter.specs.RefitSteps.{RefitsAll};
 ghost use Rattle.step_splitter.specs.Refits.{MeetsRefitGoal, Refits, refitted_acts};
 ghost use Rattle.step_splitter.specs.declared.refitting.RefitFault.TheVariants as fault;

@@ -1,6 +1,6 @@
+ghost use Rattle.design_model.specs.declared.point.TheConstants.{NEEDLE_LIMIT};
 ghost use Rattle.std.specs.List.{range_with_len};
 ghost use Rattle.std.specs.Prelude.{◌≡◌, ◌≢◌, ◌++◌, ◌*◌, ◌≤◌, IfOk, OnOk, map};
-ghost use Rattle.design_model.specs.declared.point.TheConstants.{NEEDLE_LIMIT};
 ghost use Rattle.step_splitter.specs.Chains.{IsNeedlePoint, LeadsBySteps};
 ghost use Rattle.step_splitter.specs.Steps.{point_on_segment, split_points, steps_of};
 

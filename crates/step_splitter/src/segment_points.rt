@@ -1,5 +1,5 @@
-ghost use Rattle.std.specs.Prelude.{◌≡◌, ◌+◌, ◌-◌, ◌*◌, ◌/◌, ◌≤◌, unsigned_abs};
 ghost use Rattle.design_model.specs.declared.point.TheConstants.{NEEDLE_LIMIT};
+ghost use Rattle.std.specs.Prelude.{◌≡◌, ◌+◌, ◌-◌, ◌*◌, ◌/◌, ◌≤◌, unsigned_abs};
 ghost use Rattle.step_splitter.specs.Chains.{IsNeedlePoint};
 ghost use Rattle.step_splitter.specs.Steps.{coordinate_on_segment, point_on_segment};
 

@@ -1,4 +1,3 @@
-ghost use Rattle.std.specs.Prelude.{◌≡◌, ◌<◌, ◌-◌, ◌≤◌, ◌^◌, All, Ok, Some, length, map, option_map, slice_get};
 ghost use Rattle.certificate_text.specs.ReadCertificates.{cert_of};
 ghost use Rattle.command_words.specs.ValidNames.{AreRouteNames};
 ghost use Rattle.format_traits.specs.Endings.{format_of};
@@ -7,6 +6,7 @@ ghost use Rattle.outside_io.specs.declared.limits.TheConstants.{MAX_FILE};
 ghost use Rattle.program_shell.specs.Plans.{satisfies};
 ghost use Rattle.program_shell.specs.StepOutcomes.{IsRefusalWith, RunsPlan, RunsPurePlan, RunsRequest};
 ghost use Rattle.route_verdict.specs.Verdicts.{HasShortLists};
+ghost use Rattle.std.specs.Prelude.{◌≡◌, ◌<◌, ◌-◌, ◌≤◌, ◌^◌, All, Ok, Some, length, map, option_map, slice_get};
 ghost use Rattle.stitch_cli.specs.Checks.{IsCheckResult, bad_line_text, check_cert, check_design, check_drawing, check_order, check_plan, complete_check};
 ghost use Rattle.stitch_cli.specs.Commands.{stitch, checking};
 

@@ -1,5 +1,5 @@
-ghost use Rattle.std.specs.Prelude.{◌≡◌, map, string_bytes};
 ghost use Rattle.program_shell.specs.StepOutcomes.{RunsRequest};
+ghost use Rattle.std.specs.Prelude.{◌≡◌, map, string_bytes};
 ghost use Rattle.stitch_cli.specs.Commands.{order_of, stitch};
 
 use crate::checking::check;

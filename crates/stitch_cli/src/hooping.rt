@@ -1,7 +1,7 @@
-ghost use Rattle.std.specs.Prelude.{◌≡◌, map, option_map};
 ghost use Rattle.format_traits.specs.Endings.{format_of};
 ghost use Rattle.outside_io.specs.Files.{IsFileName};
 ghost use Rattle.program_shell.specs.StepOutcomes.{RunsPurePlan, RunsRequest};
+ghost use Rattle.std.specs.Prelude.{◌≡◌, map, option_map};
 ghost use Rattle.stitch_cli.specs.Commands.{stitch, hooping};
 ghost use Rattle.stitch_cli.specs.Hoops.{complete_hoop, hoop_fitted};
 

@@ -1,8 +1,8 @@
-ghost use Rattle.std.specs.Prelude.{IfOk, option_map};
 ghost use Rattle.command_words.specs.ValidNames.{AreFileNames};
 ghost use Rattle.drawing_text.specs.DrawingText.{IsJoinedWithoutEnds};
 ghost use Rattle.program_shell.specs.Products.{product_value};
 ghost use Rattle.program_shell.specs.StepOutcomes.{RunsPlan, RunsRequest};
+ghost use Rattle.std.specs.Prelude.{IfOk, option_map};
 ghost use Rattle.stitch_cli.specs.Commands.{stitch, migrating};
 ghost use Rattle.stitch_cli.specs.Migrations.{IsMigrated, complete_migrate, migrate_order, migrate_plan};
 

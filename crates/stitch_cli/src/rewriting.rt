@@ -1,4 +1,3 @@
-ghost use Rattle.std.specs.Prelude.{◌≡◌, ◌<◌, IfOk, Some, length, map, option_map, slice_get, string_bytes};
 ghost use Rattle.command_words.specs.ValidNames.{AreFileNames};
 ghost use Rattle.design_changes.specs.AppliedChanges.{AreValidChanges, change_list};
 ghost use Rattle.format_traits.specs.Endings.{format_of};
@@ -6,6 +5,7 @@ ghost use Rattle.format_traits.specs.Meanings.{Meaning};
 ghost use Rattle.outside_io.specs.Files.{IsFileName};
 ghost use Rattle.program_shell.specs.Plans.{satisfies};
 ghost use Rattle.program_shell.specs.StepOutcomes.{IsRefusalWith, RunsPlan, RunsPurePlan, RunsRequest};
+ghost use Rattle.std.specs.Prelude.{◌≡◌, ◌<◌, IfOk, Some, length, map, option_map, slice_get, string_bytes};
 ghost use Rattle.stitch_cli.specs.Commands.{stitch, rewriting};
 ghost use Rattle.stitch_cli.specs.RewriteSteps.{IsChangeFailure, IsEncodeResult};
 ghost use Rattle.stitch_cli.specs.Rewrites.{IsRewriteResult, change_text, complete_rewrite, rewrite_order, rewrite_plan};

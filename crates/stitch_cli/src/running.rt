@@ -1,9 +1,9 @@
-ghost use Rattle.std.specs.Prelude.{◌≡◌, codes, map, string_bytes};
 ghost use Rattle.program_shell.specs.Messages.{out_of_memory_line};
 ghost use Rattle.program_shell.specs.Puts.{ReportsLineWithStatus};
 ghost use Rattle.program_shell.specs.RunViews.{views_of};
 ghost use Rattle.program_shell.specs.Runs.{RunEnds};
 ghost use Rattle.program_shell.specs.declared.status.Status.TheVariants as status;
+ghost use Rattle.std.specs.Prelude.{◌≡◌, codes, map, string_bytes};
 ghost use Rattle.stitch_cli.specs.Commands.{order_of, stitch};
 ghost use Rattle.stitch_cli.specs.Headline.{ChecksRightly, RoutesLeast};
 

@@ -1,10 +1,10 @@
-ghost use Rattle.std.specs.Prelude.{◌≤◌, IfOk};
 ghost use Rattle.drawing_model.specs.WalkEnds.{HasNoEnds};
 ghost use Rattle.outside_io.specs.Files.{IsFileName};
 ghost use Rattle.program_shell.specs.Products.{product_value};
 ghost use Rattle.program_shell.specs.StepOutcomes.{RunsPurePlan};
 ghost use Rattle.sample_drawings.specs.Samples.{sample_drawing_of};
 ghost use Rattle.sample_drawings.specs.declared.draws.TheConstants.{MAX_NUMBER};
+ghost use Rattle.std.specs.Prelude.{◌≤◌, IfOk};
 ghost use Rattle.stitch_cli.specs.Samples.{IsSampleProduct, sample_order, sample_plan};
 
 use drawing_model::Drawing;

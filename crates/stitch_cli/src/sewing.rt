@@ -1,5 +1,3 @@
-ghost use Rattle.std.specs.Bool.{OnTrue};
-ghost use Rattle.std.specs.Prelude.{◌≡◌, ◌≢◌, ◌≤◌, IfOk, map, option_map};
 ghost use Rattle.command_words.specs.ValidNames.{AreRouteNames};
 ghost use Rattle.format_traits.specs.Endings.{format_of};
 ghost use Rattle.format_traits.specs.PlainDesigns.{IsPlain};
@@ -9,6 +7,8 @@ ghost use Rattle.line_graph.specs.Runs.{AreWritable, runs_of, sewn_design};
 ghost use Rattle.odd_cuts.specs.Certificates.{walks_of};
 ghost use Rattle.program_shell.specs.Products.{product_value, two_file_product};
 ghost use Rattle.program_shell.specs.StepOutcomes.{RunsPlan, RunsPurePlan, RunsRequest};
+ghost use Rattle.std.specs.Bool.{OnTrue};
+ghost use Rattle.std.specs.Prelude.{◌≡◌, ◌≢◌, ◌≤◌, IfOk, map, option_map};
 ghost use Rattle.stitch_cli.specs.Commands.{stitch, sewing};
 ghost use Rattle.stitch_cli.specs.SewingWays.{IsSewnBy, IsSewnOver};
 ghost use Rattle.stitch_cli.specs.Sewings.{IsSewnProduct, IsSewnFile, complete_sewing, names_differ, sewing_drawing, sewing_order, sewing_plan};

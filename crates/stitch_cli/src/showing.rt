@@ -1,7 +1,7 @@
-ghost use Rattle.std.specs.Prelude.{◌≡◌, Ok, map, option_map};
 ghost use Rattle.format_traits.specs.Endings.{format_of};
 ghost use Rattle.outside_io.specs.Files.{IsFileName};
 ghost use Rattle.program_shell.specs.StepOutcomes.{RunsPurePlan, RunsRequest};
+ghost use Rattle.std.specs.Prelude.{◌≡◌, Ok, map, option_map};
 ghost use Rattle.stitch_cli.specs.Commands.{stitch, showing};
 ghost use Rattle.stitch_cli.specs.Shows.{complete_show, show_order, show_read};
 

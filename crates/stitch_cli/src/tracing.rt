@@ -1,4 +1,3 @@
-ghost use Rattle.std.specs.Prelude.{◌≡◌, IfOk, map, option_map};
 ghost use Rattle.command_words.specs.ValidNames.{AreFileNames};
 ghost use Rattle.drawing_text.specs.DrawingText.{IsJoinedWithoutEnds};
 ghost use Rattle.format_traits.specs.Endings.{format_of};
@@ -6,6 +5,7 @@ ghost use Rattle.format_traits.specs.Meanings.{Meaning};
 ghost use Rattle.program_shell.specs.Products.{product_value};
 ghost use Rattle.program_shell.specs.StepOutcomes.{IsRefusalWith, RunsPurePlan, RunsRequest};
 ghost use Rattle.program_texts.specs.DrawingTexts.{trace_fault_text};
+ghost use Rattle.std.specs.Prelude.{◌≡◌, IfOk, map, option_map};
 ghost use Rattle.stitch_cli.specs.Commands.{stitch, tracing};
 ghost use Rattle.stitch_cli.specs.Tracings.{IsTraced, complete_trace, trace_made, trace_order};
 ghost use Rattle.stitch_trace.specs.Traces.{traced};

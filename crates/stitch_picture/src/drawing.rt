@@ -1,6 +1,6 @@
-ghost use Rattle.std.specs.Prelude.{◌≡◌, ◌<◌, Ok, Some, length, map, slice_get};
 ghost use Rattle.format_traits.specs.Meanings.{Meaning};
 ghost use Rattle.program_shell.specs.StepOutcomes.{RunsPlan, RunsPurePlan};
+ghost use Rattle.std.specs.Prelude.{◌≡◌, ◌<◌, Ok, Some, length, map, slice_get};
 ghost use Rattle.stitch_picture.specs.Orders.{order_made};
 ghost use Rattle.stitch_picture.specs.Pictures.{design_picture_plan, picture_read};
 ghost use Rattle.stitch_picture.specs.Words.{ArePictureNames, requested_file};

@@ -1,5 +1,5 @@
-ghost use Rattle.std.specs.Prelude.{Ok};
 ghost use Rattle.program_shell.specs.StepOutcomes.{RunsPlan, RunsPurePlan};
+ghost use Rattle.std.specs.Prelude.{Ok};
 ghost use Rattle.stitch_picture.specs.DrawnPictures.{drawn_plan, drawn_read};
 ghost use Rattle.stitch_picture.specs.Orders.{drawn_order};
 ghost use Rattle.stitch_picture.specs.Words.{ArePictureNames, requested_file};

@@ -1,10 +1,10 @@
-ghost use Rattle.std.specs.Prelude.{◌<◌, ◌≤◌, ◌-◌, ◌^◌, All, Ok, codes, length};
 ghost use Rattle.certificate_text.specs.ReadCertificates.{cert_of};
 ghost use Rattle.outside_io.specs.declared.limits.TheConstants.{MAX_FILE};
 ghost use Rattle.program_shell.specs.FileTexts.{text_at};
 ghost use Rattle.program_shell.specs.Plans.{satisfies};
 ghost use Rattle.program_shell.specs.StepOutcomes.{IsRefusalWith, RunsPlan, RunsPurePlan};
 ghost use Rattle.route_verdict.specs.Verdicts.{HasShortLists};
+ghost use Rattle.std.specs.Prelude.{◌<◌, ◌≤◌, ◌-◌, ◌^◌, All, Ok, codes, length};
 ghost use Rattle.stitch_picture.specs.Proofs.{IsProofShown, proof_cert, proof_drawing, proof_plan};
 ghost use Rattle.stitch_picture.specs.Words.{AreProofNames, proof_order};
 

@@ -1,8 +1,8 @@
-ghost use Rattle.std.specs.Prelude.{◌≡◌, map, option_map, string_bytes};
 ghost use Rattle.format_traits.specs.Endings.{format_of};
 ghost use Rattle.program_shell.specs.RunViews.{views_of};
 ghost use Rattle.program_shell.specs.Runs.{RunEnds};
 ghost use Rattle.program_shell.specs.StepOutcomes.{RunsRequest};
+ghost use Rattle.std.specs.Prelude.{◌≡◌, map, option_map, string_bytes};
 ghost use Rattle.stitch_picture.specs.Orders.{order_with, order_without_format, picture_order, picture_program};
 ghost use Rattle.stitch_picture.specs.Words.{ArePictureNames, requested_file};
 

@@ -1,5 +1,5 @@
-ghost use Rattle.std.specs.Prelude.{◌≡◌, ◌∷◌, ◌++◌, [], List, ℕ, None, Some, IfNone, IfSome};
 ghost use Rattle.design_model.specs.Labels.{IsLabel};
+ghost use Rattle.std.specs.Prelude.{◌≡◌, ◌∷◌, ◌++◌, [], List, ℕ, None, Some, IfNone, IfSome};
 ghost use Rattle.stitch_text.specs.ListLines.{parsed_label};
 ghost use Rattle.stitch_text.specs.StitchLists.{label_line};
 

@@ -1,4 +1,3 @@
-ghost use Rattle.std.specs.Prelude.{◌≡◌, ◌+◌, ◌<◌, ◌≤◌, length, None, Some, false, IfOk, IsTrue, OnOk};
 ghost use Rattle.design_model.specs.ActPositions.{is_act_in_range};
 ghost use Rattle.design_model.specs.Commands.{is_command_in_range};
 ghost use Rattle.design_model.specs.Designs.{with_command};
@@ -6,6 +5,7 @@ ghost use Rattle.design_model.specs.LongerDesigns.{with_commands};
 ghost use Rattle.design_model.specs.Points.{is_point_within};
 ghost use Rattle.design_model.specs.declared.design.TheConstants.{MAX_COMMANDS};
 ghost use Rattle.design_model.specs.declared.point.TheConstants.{NEEDLE_LIMIT as needle_limit};
+ghost use Rattle.std.specs.Prelude.{◌≡◌, ◌+◌, ◌<◌, ◌≤◌, length, None, Some, false, IfOk, IsTrue, OnOk};
 ghost use Rattle.stitch_text.specs.Drafts.{IsSoundDraft, IsSoundDraftLacking, JudgesAct, missing_threads_after};
 ghost use Rattle.stitch_text.specs.Judging.{JudgesLine, fault_of_act, list_commands_of, needs_held_thread};
 ghost use Rattle.stitch_text.specs.ListStages.{IsUnbegunDraft, blank_draft};

@@ -1,7 +1,7 @@
-ghost use Rattle.std.specs.Prelude.{◌≡◌, ◌++◌, [], OnOk};
 ghost use Rattle.design_model.specs.Acts.{acts_of};
 ghost use Rattle.design_model.specs.Designs.{thread_of};
 ghost use Rattle.format_traits.specs.Laws.{KeepsLaws, EncodesTo};
+ghost use Rattle.std.specs.Prelude.{◌≡◌, ◌++◌, [], OnOk};
 ghost use Rattle.stitch_text.specs.Format.{list_meaning};
 ghost use Rattle.stitch_text.specs.Steps.{PutsLines};
 ghost use Rattle.stitch_text.specs.StitchLists.{list_block_line, with_head_lines, list_writes};

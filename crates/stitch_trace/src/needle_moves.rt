@@ -1,6 +1,6 @@
-ghost use Rattle.std.specs.Prelude.{◌≡◌, Some};
 ghost use Rattle.design_model.specs.ActKinds.{needle_point as the_needle_point};
 ghost use Rattle.design_model.specs.declared.act.Act.TheVariants as act;
+ghost use Rattle.std.specs.Prelude.{◌≡◌, Some};
 ghost use Rattle.stitch_trace.specs.Links.{move_to_act};
 
 use crate::links::Link;

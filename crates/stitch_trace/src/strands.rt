@@ -1,7 +1,7 @@
-ghost use Rattle.std.specs.Prelude.{◌≡◌, ◌++◌, ◌≤◌, length, IfOk, OnOk};
 ghost use Rattle.design_model.specs.ActKinds.{is_stop as is_stop_act};
 ghost use Rattle.design_model.specs.Blocks.{blocks_of};
 ghost use Rattle.design_model.specs.declared.design.TheConstants.{MAX_COMMANDS};
+ghost use Rattle.std.specs.Prelude.{◌≡◌, ◌++◌, ◌≤◌, length, IfOk, OnOk};
 ghost use Rattle.stitch_trace.specs.Chains.{chains_of};
 ghost use Rattle.stitch_trace.specs.Traces.{strand_of, strands_from};
 

@@ -1,5 +1,5 @@
-ghost use Rattle.std.specs.Prelude.{◌≤◌, length};
 ghost use Rattle.design_model.specs.declared.design.TheConstants.{MAX_THREADS};
+ghost use Rattle.std.specs.Prelude.{◌≤◌, length};
 
 use design_model::{Command, Design, ModelFault};
 use std::alloc::Global;

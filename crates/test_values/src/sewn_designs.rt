@@ -1,5 +1,5 @@
-ghost use Rattle.std.specs.Prelude.{◌≡◌, IfOk};
 ghost use Rattle.design_model.specs.Designs.{empty_design};
+ghost use Rattle.std.specs.Prelude.{◌≡◌, IfOk};
 
 use design_model::{Command, Design, ModelFault};
 use std::alloc::Global;

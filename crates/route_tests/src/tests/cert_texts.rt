@@ -1,5 +1,5 @@
-ghost use Rattle.std.specs.Prelude.{All, IfOk};
 ghost use Rattle.odd_cuts.specs.Certificates.{HasCanonicalText};
+ghost use Rattle.std.specs.Prelude.{All, IfOk};
 
 use certificate_text::{CertFault, MAX_CERT, print_cert, read_cert};
 use line_graph::Pass;

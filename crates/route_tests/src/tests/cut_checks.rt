@@ -1,5 +1,5 @@
-ghost use Rattle.std.specs.Prelude.{◌+◌, ◌≤◌, IfOk, OnOk, length};
 ghost use Rattle.odd_cuts.specs.CutFaults.{HaveNumberedMembers};
+ghost use Rattle.std.specs.Prelude.{◌+◌, ◌≤◌, IfOk, OnOk, length};
 
 use super::cert_parts::{members_of, pass_of};
 use super::routes::drawing_of;

@@ -1,5 +1,5 @@
-ghost use Rattle.std.specs.Prelude.{◌≡◌, IfOk};
 ghost use Rattle.route_tests.specs.MoatLoads.{corner_points};
+ghost use Rattle.std.specs.Prelude.{◌≡◌, IfOk};
 
 use crate::keep_loads;
 use blossom_match::{Moat, Moats};

@@ -1,5 +1,5 @@
-ghost use Rattle.std.specs.Prelude.{◌≤◌, All, IfOk, length};
 ghost use Rattle.route_verdict.specs.Verdicts.{HasShortLists};
+ghost use Rattle.std.specs.Prelude.{◌≤◌, All, IfOk, length};
 
 use super::cert_parts::{members_of, pass_of};
 use design_model::{Command, Design, ModelFault, Point};
