@@ -38,10 +38,8 @@ impl Anchors {
     {
         let mut all = Points::new(alloc);
         let mut cells = HashMap::new(alloc);
-        let mut rest = points;
-        while let [p, after @ ..] = rest {
+        for p in points {
             put_anchor(alloc, gap, &mut all, &mut cells, *p)?;
-            rest = after;
         }
         Ok(Anchors { gap, all, cells })
     }
@@ -107,12 +105,10 @@ fn is_within(gap: u16, p: Point, q: Point) -> bool
 fn has_anchor(gap: u16, anchors: &[Point], p: Point) -> bool
     ensures { result ≡ list_any (is_within_gap gap p) anchors.now }
 {
-    let mut rest = anchors;
-    while let [anchor, after @ ..] = rest {
+    for anchor in anchors {
         if is_within(gap, p, *anchor) {
             return true;
         }
-        rest = after;
     }
     false
 }
@@ -121,10 +117,8 @@ fn nearest_of(gap: u16, anchors: &[Point], p: Point) -> Option<Point>
     ensures { result ≡ nearest_anchor gap anchors.now p }
 {
     let mut best = None;
-    let mut rest = anchors;
-    while let [anchor, after @ ..] = rest {
+    for anchor in anchors {
         best = nearer(gap, p, best, *anchor);
-        rest = after;
     }
     best
 }

@@ -6,7 +6,6 @@ ghost use Rattle.std.specs.Prelude.{◌≡◌, IfOk};
 
 use design_model::{Point, Points};
 use drawing_review::{GridPoint, LineSegment, comes_near, counted_from_least};
-use line_sections::first_point;
 use lists_and_numbers::Memory;
 use std::alloc::Global;
 use std::marker::Model;
@@ -39,12 +38,8 @@ impl BlockEnds {
         ensures { IfOk result (λ ends. ends ≡ all) }
     {
         let mut groups = Vec::new(alloc);
-        let mut rest = all.as_slice();
-        while !rest.is_empty() {
-            let (next, after) = rest.split_at(rest.len().min(GROUP));
-            let group = EndGroup::of(alloc, next)?;
-            groups.push(group)?;
-            rest = after;
+        for next in all.as_slice().chunks(GROUP) {
+            groups.push(EndGroup::of(alloc, next)?)?;
         }
         Ok(BlockEnds { all, groups })
     }
@@ -131,10 +126,8 @@ fn bounds_of(some: &[Point]) -> EndBounds
         },
         greatest: GridPoint { x: 0, y: 0 },
     };
-    let mut rest = some;
-    while let Some((end, after)) = first_point(rest) {
-        bounds = widened(bounds, counted_from_least(end));
-        rest = after;
+    for end in some {
+        bounds = widened(bounds, counted_from_least(*end));
     }
     bounds
 }
@@ -173,12 +166,10 @@ fn first_due_in(gap: u16, listed: &[Point], s: &LineSegment, groups: &[EndGroup]
 fn first_due(gap: u16, listed: &[Point], s: &LineSegment, ends: &[Point]) -> Option<Point>
     ensures { result ≡ due_end gap listed.now s.now ends.now }
 {
-    let mut rest = ends;
-    while let [end, after @ ..] = rest {
+    for end in ends {
         if is_due_in(gap, listed, s, *end) {
             return Some(*end);
         }
-        rest = after;
     }
     None
 }
@@ -192,12 +183,10 @@ fn is_due_in(gap: u16, listed: &[Point], s: &LineSegment, end: Point) -> bool
 fn is_listed(points: &[Point], end: Point) -> bool
     ensures { result ≡ list_any (is_same_point end) points.now }
 {
-    let mut rest = points;
-    while let [p, after @ ..] = rest {
+    for p in points {
         if end == *p {
             return true;
         }
-        rest = after;
     }
     false
 }

@@ -1,10 +1,8 @@
-use Rattle.std.proofs.Common.{◌≡◌, ◌++◌, length}
+use Rattle.std.proofs.Common.{◌≡◌, ◌++◌}
+use Rattle.std.specs.Slice.Iter.{chunks_rest}
 use Rattle.drawing_repairs.proofs.Names.{flat_map}
 use Rattle.drawing_repairs.proofs.end_groups.BlockEnds.of.Given as goal
 
 -- the groups so far, and the ends that are left, are all
-abbrev pub invariant-loop-rest : goal.invariant-loop-rest
-invariant-loop-rest l = flat_map (λ g. g) l.groups.items ++ l.rest ≡ l.fn.all
-
-abbrev pub decreases-loop-rest : goal.decreases-loop-rest
-decreases-loop-rest l = length l.rest
+abbrev pub invariant-loop-next : goal.invariant-loop-next
+invariant-loop-next l = flat_map (λ g. g) l.groups.items ++ chunks_rest l.next-iterator ≡ l.fn.all
