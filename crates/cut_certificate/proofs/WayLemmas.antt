@@ -50,10 +50,9 @@ have_ways rows size moats s stands reaches can next =
     }
 
 -- a list of MAX_REACH that is lowered to all distances has those from the next moat
-pub reach_made : (rows : RowsValue) (size : ℕ) (moats : List Moat) (s : Moat) (stands : List TerminalState)
-    (reaches : List (Vec ℕ Global)) (len : ℕ) (far now new members : List ℕ) → HasRowsForMoats rows size moats
-    → IsNextMoat (lift_input rows size moats) s stands reaches → far ≡ replicate size MAX_REACH → now ≡ far → len ≡ size
-    → length new ≡ length now → members ≡ s.members
+pub reach_made : (rows : RowsValue) (size : ℕ) (moats : List Moat) (s : Moat) (stands : List TerminalState) (reaches : List (Vec ℕ Global))
+    (len : ℕ) (far now new members : List ℕ) → HasRowsForMoats rows size moats → IsNextMoat (lift_input rows size moats) s stands reaches
+    → far ≡ replicate size MAX_REACH → now ≡ far → len ≡ size → length new ≡ length now → members ≡ s.members
     → ((j : ℕ) → j < length now → slice_index new j
     ≡ lowered_distance (lift_input rows (length now) moats) stands reaches j (slice_index now j) members)
     → AreDistancesFrom (lift_input rows size moats) s (take len (new ++ drop (length new) far))
@@ -83,10 +82,9 @@ pub most_all : (ms : List Moat) (i most : ℕ) → length ms ≤ i → All (λ (
 most_all ms i most le all = subst (λ (l : List Moat). All (λ (x : Moat). length x.members ≤ most) l) (take_all i ms le) all
 
 -- each terminal of the next moat has a distance, as the code reads terminals and numbers
-pub all_ways : (rows : RowsValue) (size : ℕ) (moats : List Moat) (s : Moat) (stands : List TerminalState)
-    (reaches : List (Vec ℕ Global)) (far now members : List ℕ) → HasRowsForMoats rows size moats
-    → IsNextMoat (lift_input rows size moats) s stands reaches → far ≡ replicate size MAX_REACH → now ≡ far → members ≡ s.members
-    → All (HasDistance rows (length now) moats stands reaches) members
+pub all_ways : (rows : RowsValue) (size : ℕ) (moats : List Moat) (s : Moat) (stands : List TerminalState) (reaches : List (Vec ℕ Global))
+    (far now members : List ℕ) → HasRowsForMoats rows size moats → IsNextMoat (lift_input rows size moats) s stands reaches
+    → far ≡ replicate size MAX_REACH → now ≡ far → members ≡ s.members → All (HasDistance rows (length now) moats stands reaches) members
 all_ways rows size moats s stands reaches far now members can next is are same =
     subst (λ (n : ℕ). All (HasDistance rows n moats stands reaches) members)
     (sym (ap (λ (l : List ℕ). length l) (are ∙ is) ∙ length-replicate size MAX_REACH))

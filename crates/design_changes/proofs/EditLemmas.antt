@@ -31,8 +31,7 @@ refused_first limit None later old why one more becomes = absurd (let no : ⊥ =
 
 pub goes_on : (words left : List (List ℕ)) (word : List ℕ) (more : List (List ℕ)) (first now next : DesignValue)
     → GoesOn words left first now → left ≡ word ∷ more
-    → ((limit : ℕ) → IfSome (parsed_edit word) (λ change. Becomes limit change now (Ok next)))
-    → GoesOn words more first next
+    → ((limit : ℕ) → IfSome (parsed_edit word) (λ change. Becomes limit change now (Ok next))) → GoesOn words more first next
 goes_on words left word more first now next goes is becomes =
     step (subst (λ (ws : List (List ℕ)). GoesOn words ws first now) is goes)
   where

@@ -11,8 +11,7 @@ tested p j [] = refl
 tested p j (at ∷ points) = rw (degree_closed (given_start p) (given_end p) p.edges j, tested p (j + 1) points) refl
 
 -- the degrees of a piece give the marks of its junctions
-pub piece_tested : (p : PieceValue) → IsValidPiece p
-    → tested_marks (given_start p) (given_end p) 0 p.junctions p.degrees ≡ marks_of_piece p
+pub piece_tested : (p : PieceValue) → IsValidPiece p → tested_marks (given_start p) (given_end p) 0 p.junctions p.degrees ≡ marks_of_piece p
 piece_tested p keeps =
     ap (λ degrees. tested_marks (given_start p) (given_end p) 0 p.junctions degrees) keeps.counted ∙ tested p 0 p.junctions
 

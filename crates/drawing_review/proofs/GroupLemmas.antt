@@ -22,9 +22,8 @@ none_matches q f g (s ∷ rest) is (first, more) apart =
 
 -- What has the united frame inside has the next segment inside, and those before it.
 pub grown : (f u : Frame) (s : LineSegment) (rest left all : List LineSegment)
-    → ((g : Frame) → IsInside g f → AreInside g left → AreInside g all)
-    → left ≡ s ∷ rest → u ≡ united_frame f s.frame
-    → (g : Frame) → IsInside g u → AreInside g rest → AreInside g all
+    → ((g : Frame) → IsInside g f → AreInside g left → AreInside g all) → left ≡ s ∷ rest → u ≡ united_frame f s.frame → (g : Frame)
+    → IsInside g u → AreInside g rest → AreInside g all
 grown f u s rest left all before is united g inside more =
     before g (first_inside g f s.frame both) (subst (AreInside g) (sym is) (second_inside g f s.frame both, more))
   where

@@ -50,9 +50,8 @@ all_same step gap xs ys moved (s ∷ rest) =
     ∙ ap (λ (ps : List Place). places_at step gap xs s ++ ps) (all_same step gap xs ys moved rest)
 
 pub reviewed : (step gap : ℕ) (lines : List LineValue) (all first placed third second : List LineSegment)
-    (regions lent : List (List LineSegment)) (places : List Place)
-    → all ≡ segments_of_lines lines → first ≡ all → IsPermutation first placed → third ≡ placed → second ≡ all
-    → lent ≡ regions → flat_map (λ r. r) regions ≡ third
+    (regions lent : List (List LineSegment)) (places : List Place) → all ≡ segments_of_lines lines → first ≡ all
+    → IsPermutation first placed → third ≡ placed → second ≡ all → lent ≡ regions → flat_map (λ r. r) regions ≡ third
     → places ≡ flat_map (places_at step gap (flat_map (λ r. r) lent)) second → places ≡ places_of_lines step gap lines
 reviewed step gap lines all first placed third second regions lent places of_lines one moved other two lends same are =
     are ∙ ap (λ (list : List (List LineSegment)). flat_map (places_at step gap (flat_map (λ r. r) list)) second) lends

@@ -63,8 +63,7 @@ alone (suc count) (b ∷ bytes) n rest few digits left ends value =
       value = rw (digit_no_minus b parts.0) (sym value);
     }
 
-pub digits_alone : (bytes : List ℕ) (n : ℤ) (rest : List ℕ) → BeginsWithDigits false bytes n rest
-    → BeginsWithCoordinate bytes (Ok n) rest
+pub digits_alone : (bytes : List ℕ) (n : ℤ) (rest : List ℕ) → BeginsWithDigits false bytes n rest → BeginsWithCoordinate bytes (Ok n) rest
 digits_alone bytes n rest is = alone is.count bytes n rest is.few is.digits is.left is.ends is.value
 
 -- and so are digits behind a minus sign
@@ -88,10 +87,9 @@ coordinate_of : (minus : Bool) (bytes : List ℕ) (size : ℕ) → is_digit_stri
     → size ≤ NEEDLE_LIMIT → parsed_coordinate (parsed_digits minus bytes) ≡ Ok (signed_number minus size)
 coordinate_of minus bytes size digits value within = grind (arith, nat_tests, within_signed minus size within)
 
-pub begins_with_digits : (minus : Bool) (bytes : List ℕ) (count size : ℕ) (n : ℤ) (rest : List ℕ) → count ≢ 0
-    → count ≤ length bytes → all_ascii_digits (take count bytes) ≡ true → size ≡ digits_value 10 (take count bytes)
-    → size ≤ NEEDLE_LIMIT → rest ≡ drop count bytes → ends_word rest ≡ true → n ≡ signed_number minus size
-    → BeginsWithDigits minus bytes n rest
+pub begins_with_digits : (minus : Bool) (bytes : List ℕ) (count size : ℕ) (n : ℤ) (rest : List ℕ) → count ≢ 0 → count ≤ length bytes
+    → all_ascii_digits (take count bytes) ≡ true → size ≡ digits_value 10 (take count bytes) → size ≤ NEEDLE_LIMIT → rest ≡ drop count bytes
+    → ends_word rest ≡ true → n ≡ signed_number minus size → BeginsWithDigits minus bytes n rest
 begins_with_digits minus bytes count size n rest some few digits value within left ends is =
     grind (arith, nat_tests, digit_string count bytes some few digits, coordinate_of minus (take count bytes) size)
 

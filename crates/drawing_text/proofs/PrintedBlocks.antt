@@ -25,8 +25,7 @@ rises_of of (item ∷ rest) ordered = (
 )
 
 -- no item is below a block that all of them reach
-none_below : {A : Type 0} (of : A → ℕ) (block : ℕ) (items : List A) → All (λ item. block ≤ of item) items
-    → items_below of block items ≡ []
+none_below : {A : Type 0} (of : A → ℕ) (block : ℕ) (items : List A) → All (λ item. block ≤ of item) items → items_below of block items ≡ []
 none_below of block [] reach = refl
 none_below {A} of block (item ∷ rest) reach =
     let here : block ≤ of item = All-head (λ (a : A). block ≤ of a) item rest reach in
@@ -76,8 +75,7 @@ abbrev pub lines_below : ℕ → List LineValue → List LineValue
 lines_below block lines = items_below (λ line. line.block) block lines
 
 -- a test finds among those that pass what it finds among all
-found_among : (test : LineValue → Bool) (lines : List LineValue) → list_any test lines ≡ true
-    → list_any test (filter test lines) ≡ true
+found_among : (test : LineValue → Bool) (lines : List LineValue) → list_any test lines ≡ true → list_any test (filter test lines) ≡ true
 found_among test lines some = any-filter_same test test true (λ line passes. passes) lines ∙ some
 
 -- a block with a line is found to have one

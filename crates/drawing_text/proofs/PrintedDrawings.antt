@@ -23,8 +23,7 @@ abbrev with_lines : DrawingValue → List LineValue → DrawingValue
 with_lines d lines = record d { lines = d.lines ++ lines }
 
 -- the first of them may come, and then the others
-first_room : (d : DrawingValue) (line : LineValue) (lines : List LineValue) → MayFollow d (line ∷ lines)
-    → HasRoom d line.points
+first_room : (d : DrawingValue) (line : LineValue) (lines : List LineValue) → MayFollow d (line ∷ lines) → HasRoom d line.points
 first_room d line lines may = record {
   block = may.block;
   lines = omega (arith, may.count);
@@ -117,8 +116,7 @@ passes block lines = All-weaker (λ (l : LineValue). (l.block == block) ≡ true
     (filter_passes (λ (l : LineValue). l.block == block) lines)
 
 -- what holds of all holds of one in the middle
-pub all_middle : {A : Type 0} (P : A → Type 0) (before : List A) (thread : A) (left : List A)
-    → All P (before ++ thread ∷ left) → P thread
+pub all_middle : {A : Type 0} (P : A → Type 0) (before : List A) (thread : A) (left : List A) → All P (before ++ thread ∷ left) → P thread
 all_middle P [] thread left all = All-head P thread left all
 all_middle P (x ∷ before) thread left all =
     all_middle P before thread left (All-tail P x (before ++ thread ∷ left) all)

@@ -13,10 +13,9 @@ after_text close version number draft (words ∷ rest) =
     after_text close version (number + 1) next rest)
 
 -- the next line is read, and then those after it
-pub line_judged : {A : Type 0} (close : ℕ → DrawingDraft → Result A DrawFault) (version : Version) (number : ℕ)
-    (draft next : DrawingDraft) (word : List ℕ) (words : List (List ℕ)) (rest : List ℕ)
-    → IsWord word
-    → AreWords words → draft_after_words version number draft (word ∷ words) ≡ Ok next
+pub line_judged : {A : Type 0} (close : ℕ → DrawingDraft → Result A DrawFault) (version : Version) (number : ℕ) (draft next : DrawingDraft)
+    (word : List ℕ) (words : List (List ℕ)) (rest : List ℕ) → IsWord word → AreWords words
+    → draft_after_words version number draft (word ∷ words) ≡ Ok next
     → after_text close version number draft (words_by_line (word ++ (tail_of words ++ rest)))
     ≡ after_text close version (number + 1) next (words_by_line rest)
 line_judged close version number draft next word words rest is are says = grind (arith, nat_tests, line_read word words rest is are)
@@ -83,9 +82,8 @@ pub record HasRoom (d : DrawingValue) (points : List Point) : Type 0 where
   pub steps_to : step_count d.step d.lines + steps_of_line d.step points ≤ 200000
 
 -- the line of a text line is added to the drawing
-pub line_says : (version : Version) (number opened : ℕ) (named : Bool) (ends : List WalkEnd) (d : DrawingValue)
-    (points : List Point) → IsLine points
-    → HasRoom d points
+pub line_says : (version : Version) (number opened : ℕ) (named : Bool) (ends : List WalkEnd) (d : DrawingValue) (points : List Point)
+    → IsLine points → HasRoom d points
     → draft_after_words version number (draft_of ends named opened d) (codes "line" ∷ coordinates points)
     ≡ Ok (draft_of ends named opened (with_new_line d points))
 line_says version number opened named ends d points able room =
@@ -93,10 +91,9 @@ line_says version number opened named ends d points able room =
 
 -- the block of a text is added to the drawing
 pub color_says : (version : Version) (number opened : ℕ) (named : Bool) (ends : List WalkEnd) (d : DrawingValue) (thread : ℕ) → thread < 256
-    → is_last_empty d ≡ false
-    → length d.threads < 255
-    → draft_after_words version number (draft_of ends named opened d) (codes "color" ∷ decimal thread ∷ []) ≡ Ok (draft_of ends named number
-    (with_new_block d thread))
+    → is_last_empty d ≡ false → length d.threads < 255
+    → draft_after_words version number (draft_of ends named opened d) (codes "color" ∷ decimal thread ∷ [])
+    ≡ Ok (draft_of ends named number (with_new_block d thread))
 color_says version number opened named ends d thread fits filled room = grind (arith, nat_tests, decimal_read thread (omega (arith, fits)))
 
 -- a label is a word that may be one
@@ -106,8 +103,7 @@ label_inner (b ∷ label) graphic =
     let both = and_parts (is_ascii_graphic b) (list_all is_ascii_graphic label) graphic in
     and_from (is_printed_byte b) (list_all is_printed_byte label) (grind (arith, nat_tests, both.0)) (label_inner label both.1)
 
-label_graphic : (label : List ℕ) → All IsPrintable label → All (λ byte. byte ≢ 32) label
-    → list_all is_ascii_graphic label ≡ true
+label_graphic : (label : List ℕ) → All IsPrintable label → All (λ byte. byte ≢ 32) label → list_all is_ascii_graphic label ≡ true
 label_graphic [] printable one_word = refl
 label_graphic (b ∷ label) printable one_word =
     let here : IsPrintable b = All-head IsPrintable b label printable in
@@ -133,6 +129,5 @@ name_says version label is one_word = grind (arith, nat_tests, label_graphic lab
 -- a step is set
 pub step_says : (version : Version) (number : ℕ) (named : Bool) (label : List ℕ) (step : ℕ) → 1 ≤ step → step ≤ 2047
     → draft_after_words version number (record empty_draft { named = named; drawing = record default_drawing { label = label } })
-    (codes "step" ∷ decimal step ∷ [])
-    ≡ Ok (draft_of [] named 0 (record default_drawing { label = label; step = step }))
+    (codes "step" ∷ decimal step ∷ []) ≡ Ok (draft_of [] named 0 (record default_drawing { label = label; step = step }))
 step_says version number named label step from to = grind (arith, nat_tests, decimal_read step (omega (arith, to)))

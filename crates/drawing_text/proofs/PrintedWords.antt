@@ -80,8 +80,7 @@ word_cut word rest is =
 last_word : (word : List ℕ) → IsWord word → words_of_line word ≡ word ∷ []
 last_word word is = grind (arith, nat_tests, slice_split_none is_blank_byte word (no_blank word is.inner), no_blank word is.inner)
 
-spaced_words : (word : List ℕ) (words : List (List ℕ)) → IsWord word → AreWords words
-    → words_of_line (word ++ spaced words) ≡ word ∷ words
+spaced_words : (word : List ℕ) (words : List (List ℕ)) → IsWord word → AreWords words → words_of_line (word ++ spaced words) ≡ word ∷ words
 spaced_words word [] is are = ap words_of_line (append-nil word) ∙ last_word word is
 spaced_words word (next ∷ words) is are =
     word_cut word (next ++ spaced words) is ∙ ap (λ more. word ∷ more) (spaced_words next words are.0 are.1)

@@ -15,8 +15,7 @@ where_true P true r why next = next refl
 where_true P false r why next = tt
 
 -- what holds both ways holds after the test
-pub either : {A : Type 0} (P : A → Type 0) (test : Bool) (r s : Result A DrawKind) → IfOk r P → IfOk s P
-    → IfOk (if test then r else s) P
+pub either : {A : Type 0} (P : A → Type 0) (test : Bool) (r s : Result A DrawKind) → IfOk r P → IfOk s P → IfOk (if test then r else s) P
 either P true r s one two = one
 either P false r s one two = two
 

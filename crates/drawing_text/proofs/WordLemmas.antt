@@ -19,8 +19,7 @@ FirstLine text = let end = position_or_len is_line_feed text in
     text_lines text ≡ take end text ∷ text_lines (drop 1 (drop end text))
 
 -- by the test of its first byte
-line_by : (t : Bool) (b : ℕ) (rest : List ℕ) → is_line_feed b ≡ t → (rest ≢ [] → FirstLine rest)
-    → FirstLine (b ∷ rest)
+line_by : (t : Bool) (b : ℕ) (rest : List ℕ) → is_line_feed b ≡ t → (rest ≢ [] → FirstLine rest) → FirstLine (b ∷ rest)
 line_by true b rest test first = rw test refl
 line_by false b [] test first = rw test refl
 line_by false b (c ∷ rest) test first = grind (arith, nat_tests, take_next, drop_next)
@@ -93,15 +92,13 @@ pub record Taken (line word rest : List ℕ) : Type 0 where
   pub words : words_of_line line ≡ word ∷ words_of_line rest
   pub shorter : length rest < length line
 
-pub word_taken : (line from word rest : List ℕ) (start end : ℕ) → start ≡ start_of line → from ≡ drop start line
-    → length from ≢ 0 → end ≡ position_or_len is_blank_byte from → word ≡ take end from → rest ≡ drop end from
-    → Taken line word rest
+pub word_taken : (line from word rest : List ℕ) (start end : ℕ) → start ≡ start_of line → from ≡ drop start line → length from ≢ 0
+    → end ≡ position_or_len is_blank_byte from → word ≡ take end from → rest ≡ drop end from → Taken line word rest
 word_taken line from word rest start end starts are some ends taken left =
     grind (arith, nat_tests, some_word line, words_skipped line, length-drop end from, length-drop start line)
 
 -- a line ends with a carriage return, or with another byte
-pub return_dropped : (line : List ℕ) → get_or line (length line - 1) 0 ≡ 13
-    → take (length line - 1) line ≡ line_without_return line
+pub return_dropped : (line : List ℕ) → get_or line (length line - 1) 0 ≡ 13 → take (length line - 1) line ≡ line_without_return line
 return_dropped [] ends = refl
 return_dropped (b ∷ []) ends = let test : (b == 13) ≡ true = eq-eqb b 13 ends in rw test refl
 return_dropped (b ∷ c ∷ rest) ends = grind (arith, nat_tests, return_dropped (c ∷ rest))

@@ -13,16 +13,14 @@ length-number_field : (name : List ℕ) (places n : ℕ) → length name ≡ 3 �
 length-number_field name places n is some fits small =
     grind (arith, nat_tests, length-append, (length-padded_left places (decimal n) (length-decimal-le places n some fits small)))
 
-length-signed_field : (name : List ℕ) (z : ℤ) → length name ≡ 3 → unsigned_abs z < 10 ^ 5
-    → length (signed_field name z) ≡ 10
+length-signed_field : (name : List ℕ) (z : ℤ) → length name ≡ 3 → unsigned_abs z < 10 ^ 5 → length (signed_field name z) ≡ 10
 length-signed_field name z is fits =
     let digits = length-padded_left 5 (decimal (unsigned_abs z))
     (length-decimal-le 5 (unsigned_abs z) (lit< tt) fits (omega (arith, fits))) in
     grind (arith, nat_tests, length-append, (ap suc digits))
 
-lengths : (a b c d e f g h i j k l : List ℕ) → length a ≡ 20 → length b ≡ 11 → length c ≡ 7
-    → length d ≡ 9 → length e ≡ 9 → length f ≡ 9 → length g ≡ 9
-    → length h ≡ 10 → length i ≡ 10 → length j ≡ 10 → length k ≡ 10 → length l ≡ 10
+lengths : (a b c d e f g h i j k l : List ℕ) → length a ≡ 20 → length b ≡ 11 → length c ≡ 7 → length d ≡ 9 → length e ≡ 9 → length f ≡ 9
+    → length g ≡ 9 → length h ≡ 10 → length i ≡ 10 → length j ≡ 10 → length k ≡ 10 → length l ≡ 10
     → length (a ++ b ++ c ++ d ++ e ++ f ++ g ++ h ++ i ++ j ++ k ++ l) ≡ 124
 lengths a b c d e f g h i j k l ha hb hc hd he hf hg hh hi hj hk hl = simp length-append
     (omega (arith, ha, hb, hc, hd, he, hf, hg, hh, hi, hj, hk, hl))
@@ -60,8 +58,7 @@ pub length-dst_header_of : (label : List ℕ) (numbers : HeaderNumbers) → leng
 length-dst_header_of label numbers short fits = grind (arith, nat_tests, length-fields_of, length-append, length-padded_right)
 
 -- a measure of needles in range is at most their limit
-greatest_small : (measure : Point → ℕ)
-    → ((p : Point) → IsTrue (is_point_within NEEDLE_LIMIT p) → measure p ≤ NEEDLE_LIMIT)
+greatest_small : (measure : Point → ℕ) → ((p : Point) → IsTrue (is_point_within NEEDLE_LIMIT p) → measure p ≤ NEEDLE_LIMIT)
     → (acts : List NumberedAct) → IsTrue (are_in_range acts) → max_measure measure acts ≤ NEEDLE_LIMIT
 greatest_small measure small [] all = omega arith
 greatest_small measure small (a ∷ rest) all = grind (arith, nat_tests, a.act, small, (greatest_small measure small rest))

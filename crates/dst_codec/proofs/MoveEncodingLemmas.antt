@@ -23,20 +23,16 @@ sums : (n : ℕ) → n < 243 → let t = λ (part : ℕ). n / part % 3 in
     ≡ (2 - t 1) / 2 + 3 * ((2 - t 3) / 2) + 9 * ((2 - t 9) / 2) + 27 * ((2 - t 27) / 2) + 81 * ((2 - t 81) / 2) + n
 sums n h1 = grind (arith, nat_tests, ints)
 
-x_move : (x : ℤ) (a b c : ℕ) → unsigned_abs x ≤ 121
-    → bit_of_byte a 1 ≡ plus_bit 1 x → bit_of_byte a 2 ≡ minus_bit 1 x → bit_of_byte a 4 ≡ plus_bit 9 x → bit_of_byte a 8 ≡ minus_bit 9 x
-    → bit_of_byte b 1 ≡ plus_bit 3 x → bit_of_byte b 2 ≡ minus_bit 3 x → bit_of_byte b 4 ≡ plus_bit 27 x → bit_of_byte b 8 ≡ minus_bit 27 x
-    → bit_of_byte c 4 ≡ plus_bit 81 x → bit_of_byte c 8 ≡ minus_bit 81 x
-    → pos (rightwards a b c) -ℤ pos (leftwards a b c) ≡ x
+x_move : (x : ℤ) (a b c : ℕ) → unsigned_abs x ≤ 121 → bit_of_byte a 1 ≡ plus_bit 1 x → bit_of_byte a 2 ≡ minus_bit 1 x
+    → bit_of_byte a 4 ≡ plus_bit 9 x → bit_of_byte a 8 ≡ minus_bit 9 x → bit_of_byte b 1 ≡ plus_bit 3 x → bit_of_byte b 2 ≡ minus_bit 3 x
+    → bit_of_byte b 4 ≡ plus_bit 27 x → bit_of_byte b 8 ≡ minus_bit 27 x → bit_of_byte c 4 ≡ plus_bit 81 x
+    → bit_of_byte c 8 ≡ minus_bit 81 x → pos (rightwards a b c) -ℤ pos (leftwards a b c) ≡ x
 x_move x a b c h1 h2 h3 h4 h5 h6 h7 h8 h9 h10 h11 = grind (arith, nat_tests, ints)
 
-y_move : (y : ℤ) (a b c : ℕ) → unsigned_abs y ≤ 121
-    → bit_of_byte a 64 ≡ plus_bit 1 y → bit_of_byte a 128 ≡ minus_bit 1 y → bit_of_byte a 16 ≡ plus_bit 9 y
-    → bit_of_byte a 32 ≡ minus_bit 9 y
-    → bit_of_byte b 64 ≡ plus_bit 3 y → bit_of_byte b 128 ≡ minus_bit 3 y → bit_of_byte b 16 ≡ plus_bit 27 y
-    → bit_of_byte b 32 ≡ minus_bit 27 y
-    → bit_of_byte c 16 ≡ plus_bit 81 y → bit_of_byte c 32 ≡ minus_bit 81 y
-    → pos (downwards a b c) -ℤ pos (upwards a b c) ≡ y
+y_move : (y : ℤ) (a b c : ℕ) → unsigned_abs y ≤ 121 → bit_of_byte a 64 ≡ plus_bit 1 y → bit_of_byte a 128 ≡ minus_bit 1 y
+    → bit_of_byte a 16 ≡ plus_bit 9 y → bit_of_byte a 32 ≡ minus_bit 9 y → bit_of_byte b 64 ≡ plus_bit 3 y
+    → bit_of_byte b 128 ≡ minus_bit 3 y → bit_of_byte b 16 ≡ plus_bit 27 y → bit_of_byte b 32 ≡ minus_bit 27 y
+    → bit_of_byte c 16 ≡ plus_bit 81 y → bit_of_byte c 32 ≡ minus_bit 81 y → pos (downwards a b c) -ℤ pos (upwards a b c) ≡ y
 y_move y a b c h1 h2 h3 h4 h5 h6 h7 h8 h9 h10 h11 = grind (arith, nat_tests, ints)
 
 -- the bits of a first or a second byte

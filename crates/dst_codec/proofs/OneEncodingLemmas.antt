@@ -14,8 +14,7 @@ pub record HasParts (z : ℤ) (p1 p3 p9 p27 p81 q1 q3 q9 q27 q81 : ℕ) : Type 0
   pub twenty_sevens : (plus_bit 27 z ≡ p27) × (minus_bit 27 z ≡ q27)
   pub eighty_ones : (plus_bit 81 z ≡ p81) × (minus_bit 81 z ≡ q81)
 
-parts_of : (z : ℤ) (p1 p3 p9 p27 p81 q1 q3 q9 q27 q81 : ℕ)
-    → p1 + q1 ≤ 1 → p3 + q3 ≤ 1 → p9 + q9 ≤ 1 → p27 + q27 ≤ 1 → p81 + q81 ≤ 1
+parts_of : (z : ℤ) (p1 p3 p9 p27 p81 q1 q3 q9 q27 q81 : ℕ) → p1 + q1 ≤ 1 → p3 + q3 ≤ 1 → p9 + q9 ≤ 1 → p27 + q27 ≤ 1 → p81 + q81 ≤ 1
     → pos (p1 + 3 * p3 + 9 * p9 + 27 * p27 + 81 * p81) -ℤ pos (q1 + 3 * q3 + 9 * q9 + 27 * q27 + 81 * q81) ≡ z
     → HasParts z p1 p3 p9 p27 p81 q1 q3 q9 q27 q81
 parts_of z p1 p3 p9 p27 p81 q1 q3 q9 q27 q81 h1 h2 h3 h4 h5 h6 = grind (arith, nat_tests, ints)

@@ -42,10 +42,8 @@ pub record Sums (a b c forth back : ℕ) : Type 0 where
   pub value : a + b + c + back ≡ 121 + forth
 
 -- three bytes' sums of one axis, by the worths of its bits
-axis : (one one' nine nine' a b c x y z : ℕ)
-    → x ≡ parts 10 1 9 one one' nine nine' a → y ≡ parts 30 3 27 one one' nine nine' b
-    → z ≡ parts 81 0 81 one one' nine nine' c
-    → Sums x y z (sum_along one nine a b c) (sum_along one' nine' a b c)
+axis : (one one' nine nine' a b c x y z : ℕ) → x ≡ parts 10 1 9 one one' nine nine' a → y ≡ parts 30 3 27 one one' nine nine' b
+    → z ≡ parts 81 0 81 one one' nine nine' c → Sums x y z (sum_along one nine a b c) (sum_along one' nine' a b c)
 axis one one' nine nine' a b c x y z h1 h2 h3 = grind (arith, nat_tests, ints)
 
 pub x_sums : (a b c : ℕ) → Fits w8 a → Fits w8 b → Fits w8 c

@@ -58,5 +58,4 @@ small_room write_limits (a ∷ rest) s passed small =
     (refusal_if (nat_lt MAX_COMMANDS after.room) (fault.TooLong a.number)) first.0 in
     let fits : after.room ≤ MAX_COMMANDS = ltb-false MAX_COMMANDS after.room
     (not_refused (nat_lt MAX_COMMANDS after.room) (fault.TooLong a.number) own.1) in
-    let more = small_room write_limits rest after first.1 fits in
-    omega (arith, more)
+    omega (arith, small_room write_limits rest after first.1 fits)

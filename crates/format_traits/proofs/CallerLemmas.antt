@@ -15,9 +15,7 @@ loose_room few count = grind (arith, nat_tests, ints)
 
 pub length-padded_right : (places : ℕ) (text : List ℕ) → length text ≤ places → length (padded_right places text) ≡ places
 length-padded_right places text fits =
-    let spaces = length-replicate {A = ℕ} (places - length text) 32 in
-    let all = length-append text (replicate (places - length text) 32) in
-    omega (arith, spaces, all, fits)
+    omega (arith, length-replicate {A = ℕ} (places - length text) 32, length-append text (replicate (places - length text) 32), fits)
 
 -- The format at an index is the requested one, also in another list of the same formats.
 pub same_format : (formats formats' : List Meaning) (place : ℕ) (here m : Meaning) → formats' ≡ formats
@@ -48,8 +46,7 @@ are_told loose [] = true
 are_told loose (a ∷ rest) = is_told loose a.act && are_told (leaves_thread_loose a.act) rest
 
 -- the fold over commands gives no other acts
-pub told : (n : ℕ) (loose jumped : Bool) (commands : List Command)
-    → IsTrue (are_told loose (acts_from n loose jumped commands))
+pub told : (n : ℕ) (loose jumped : Bool) (commands : List Command) → IsTrue (are_told loose (acts_from n loose jumped commands))
 told n loose jumped [] = refl
 told n true true (Stitch p ∷ rest) = told (n + 1) false false rest
 told n true false (Stitch p ∷ rest) = told (n + 1) false false rest

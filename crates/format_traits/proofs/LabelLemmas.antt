@@ -16,8 +16,7 @@ without_end_spaces-other (x ∷ []) c other = ap (byte_unless_end_space x) (with
 without_end_spaces-other (x ∷ y ∷ xs) c other = ap (byte_unless_end_space x) (without_end_spaces-other (y ∷ xs) c other)
 
 -- a text is what stands before its last byte, and that byte
-pub last_split : (xs : List ℕ) → 1 ≤ length xs
-    → xs ≡ take (length xs - 1) xs ++ get_or xs (length xs - 1) 0 ∷ []
+pub last_split : (xs : List ℕ) → 1 ≤ length xs → xs ≡ take (length xs - 1) xs ++ get_or xs (length xs - 1) 0 ∷ []
 last_split xs some =
     let here : length xs - 1 < length xs = omega (arith, some) in
     let whole : length xs - 1 + 1 ≡ length xs = omega (arith, some) in
@@ -41,10 +40,7 @@ length-byte_unless_end_space x rest = grind (arith, nat_tests, ints)
 
 length-without_end_spaces : (xs : List ℕ) → length (without_end_spaces xs) ≤ length xs
 length-without_end_spaces [] = omega arith
-length-without_end_spaces (x ∷ xs) =
-    let one = length-byte_unless_end_space x (without_end_spaces xs) in
-    let more = length-without_end_spaces xs in
-    omega (arith, one, more)
+length-without_end_spaces (x ∷ xs) = omega (arith, length-byte_unless_end_space x (without_end_spaces xs), length-without_end_spaces xs)
 
 All-byte_unless_end_space : (P : ℕ → Type 0) (x : ℕ) (rest : List ℕ) → P x → All P rest → All P (byte_unless_end_space x rest)
 All-byte_unless_end_space P x [] here all = by_test (x == 32)

@@ -6,8 +6,7 @@ use Rattle.design_model.proofs.CallerLemmas.{acts_in_range}
 
 -- what holds of the file of a design that is not refused, holds of what is written
 of_written : (write_limits : WriteLimits) (d : DesignValue) (file : List ℕ) (P : List ℕ → Type 0) → (r : Option WriteFault)
-    → first_refusal write_limits (acts_of d) ≡ r → (first_refusal write_limits (acts_of d) ≡ None → P file)
-    → IfOk (unless_refused r file) P
+    → first_refusal write_limits (acts_of d) ≡ r → (first_refusal write_limits (acts_of d) ≡ None → P file) → IfOk (unless_refused r file) P
 of_written write_limits d file P r h1 h2 = grind (arith, nat_tests, ints)
 
 -- a format whose files read back and move within the limit keeps the laws

@@ -7,8 +7,7 @@ pub where_told : (P : Files → Type 0) (files : Files) → P files → WhereVis
 where_told P files holds told is = let same : files ≡ told = cc in subst P same holds
 
 -- the entry that was put is the one of its name
-pub entry_in-with_entry : (entries : List EntryValue) (entry : EntryValue) →
-    entry_in (with_entry entries entry) entry.name ≡ Some entry
+pub entry_in-with_entry : (entries : List EntryValue) (entry : EntryValue) → entry_in (with_entry entries entry) entry.name ≡ Some entry
 entry_in-with_entry [] entry = grind (arith, nat_tests, bytes_eq-Decides)
 entry_in-with_entry (e ∷ rest) entry = grind (arith, nat_tests, bytes_eq-Decides, (entry_in-with_entry rest entry))
 

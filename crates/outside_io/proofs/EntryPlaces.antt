@@ -11,9 +11,8 @@ pub record Passed (entries : List EntryValue) (name : List ℕ) (place : ℕ) : 
       with_entry entries entry ≡ take place entries ++ with_entry (drop place entries) entry
 
 -- the search ends at the first entry of that name
-pub passed-here : (entries : List EntryValue) (name : List ℕ) (place : ℕ) (entry : EntryValue) →
-    Passed entries name place → place < length entries → entry ≡ get_or entries place entry →
-    bytes_eq entry.name name ≡ true → IsEntryIndex entries name place
+pub passed-here : (entries : List EntryValue) (name : List ℕ) (place : ℕ) (entry : EntryValue) → Passed entries name place
+    → place < length entries → entry ≡ get_or entries place entry → bytes_eq entry.name name ≡ true → IsEntryIndex entries name place
 passed-here entries name place entry passed within here is =
     let left = drop-cons entries place entry within in
     let got = slice_get-get_or entries place entry within in

@@ -14,9 +14,8 @@ whole_at_end (Some content) bytes buffer offset count begins place reads room no
     grind (arith, nat_tests, take_all, (begins content refl), reads.some)
 
 -- what the buffer adds continues the content
-pub begins_more : (file : Option (List ℕ)) (bytes buffer : List ℕ) (offset count : ℕ) → IsContentPrefix file bytes
-    → offset ≡ length bytes → BufferMatchesFile file offset buffer count → count ≤ length buffer
-    → IsContentPrefix file (bytes ++ take count buffer)
+pub begins_more : (file : Option (List ℕ)) (bytes buffer : List ℕ) (offset count : ℕ) → IsContentPrefix file bytes → offset ≡ length bytes
+    → BufferMatchesFile file offset buffer count → count ≤ length buffer → IsContentPrefix file (bytes ++ take count buffer)
 begins_more None bytes buffer offset count begins place reads within content is = absurd reads
 begins_more (Some whole) bytes buffer offset count begins place reads within content is =
     grind (arith, nat_tests, (begins content is), reads.bytes, length-append, length-take-le, take-add)

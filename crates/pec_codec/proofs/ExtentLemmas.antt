@@ -36,10 +36,8 @@ near_one z zs all (k, below, is) = subst IsNear is (all k z below)
 difference : (y z : ℤ) → IsNear y → IsNear z → unsigned_abs (y -ℤ z) < 2 ^ 16
 difference y z near_y near_z = omega (arith, ints, near_y, near_z)
 
-pub narrow : (points : List Point) (extent : Option Extent) → AreNear points → IsExtentOrNone points extent
-    → extent_width extent < 2 ^ 16
+pub narrow : (points : List Point) (extent : Option Extent) → AreNear points → IsExtentOrNone points extent → extent_width extent < 2 ^ 16
 narrow points extent h1 h2 = grind (arith, nat_tests, ints)
 
-pub low : (points : List Point) (extent : Option Extent) → AreNear points → IsExtentOrNone points extent
-    → extent_height extent < 2 ^ 16
+pub low : (points : List Point) (extent : Option Extent) → AreNear points → IsExtentOrNone points extent → extent_height extent < 2 ^ 16
 low points extent h1 h2 = grind (arith, nat_tests, ints)

@@ -9,8 +9,7 @@ threads_more d count thread start out more of_thread of_out of_more =
     grind (arith, nat_tests, append_assoc, (map-range_with_len_more (thread_of d) 0 count count))
 
 -- the label and the threads of as many blocks as there may be have room
-pub labels_fit : (d : DesignValue) (stops : ℕ) → length d.label ≤ MAX_LABEL → stops ≤ MAX_STOPS
-    → length (labels_of d stops) ≤ LABELS_LENGTH
+pub labels_fit : (d : DesignValue) (stops : ℕ) → length d.label ≤ MAX_LABEL → stops ≤ MAX_STOPS → length (labels_of d stops) ≤ LABELS_LENGTH
 labels_fit d stops short few = grind (arith, nat_tests, d.label, length-padded_right, length-map-range_with_len, length-append)
 
 -- a header has all its bytes

@@ -45,8 +45,7 @@ threads_in-parts front threads rest stops of_front few of_threads =
 length-label_field : (label : List ℕ) → length label ≤ MAX_LABEL → length (label_field label) ≡ MAX_LABEL
 length-label_field label short = length-padded_right MAX_LABEL label short
 
-pub pec_label_of-block : (d : DesignValue) → length d.label ≤ MAX_LABEL
-    → pec_label_of (pec_block_of d) ≡ label_in (label_field d.label)
+pub pec_label_of-block : (d : DesignValue) → length d.label ≤ MAX_LABEL → pec_label_of (pec_block_of d) ≡ label_in (label_field d.label)
 pec_label_of-block d short = ap pec_label_of (block_parts d)
     ∙ pec_label_of-parts (label_field d.label) _ (length-label_field d.label short)
 

@@ -58,8 +58,7 @@ front_short front_layout block so_far at told bytes f short is few of_fault =
     }
 
 pub front_known : (front_layout : FrontLayout) (new : DecoderState) (so_far : DecodedSoFar) (at skip : ℕ) (bytes : List ℕ)
-    (result : Result ℕ Memory)
-    → front_layout.length ≤ length bytes → ((more : List ℕ) → front_layout.known (bytes ++ more) ≡ true)
+    (result : Result ℕ Memory) → front_layout.length ≤ length bytes → ((more : List ℕ) → front_layout.known (bytes ++ more) ≡ true)
     → ((more : List ℕ) → front_layout.block (bytes ++ more) ≡ skip)
     → IfOk result (λ size. TakesBytes (file_state_before_block skip) new so_far at bytes size)
     → IfOk result (λ size. TakesBytes (file_start_state front_layout) new so_far at bytes size)

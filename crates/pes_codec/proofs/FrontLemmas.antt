@@ -29,8 +29,7 @@ ok_behind front (Err f) ok = ok
 
 -- what a block reads as, its file does
 whole_file : (m : Meaning) (front : List ℕ) → IsBehind m front → (d : DesignValue) (block : List ℕ)
-    → ((before : List ℕ) → BlockRoundTrips d block before)
-    → RoundTripsWithThreads m d (front ++ block)
+    → ((before : List ℕ) → BlockRoundTrips d block before) → RoundTripsWithThreads m d (front ++ block)
 whole_file m front is d block back =
     subst (λ result. IsOkAnd result (λ loaded. RestoresDesign d loaded)) (sym (is.reads block)) (back front).read
 

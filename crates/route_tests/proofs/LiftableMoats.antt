@@ -9,9 +9,8 @@ use Rattle.route_tests.specs.MoatLoads.{KeepsLoads}
 
 -- moats that pass all plain checks
 pub moats_are : (p : PieceValue) (rows : RowsValue) (moats seen : List Moat) (terminals : List ℕ) → AreRows p rows
-    → rows.terminals ≡ terminals
-    → terminals ≡ odd_junctions p → seen ≡ moats → All (IsOddMoat (length terminals)) seen → AllPairs AreLaminar seen
-    → KeepsLoads rows terminals seen → AreLiftableMoats p rows moats
+    → rows.terminals ≡ terminals → terminals ≡ odd_junctions p → seen ≡ moats → All (IsOddMoat (length terminals)) seen
+    → AllPairs AreLaminar seen → KeepsLoads rows terminals seen → AreLiftableMoats p rows moats
 moats_are p rows moats seen terminals are same odds is odd laminar loads = subst (λ (ms : List Moat). AreLiftableMoats p rows ms) is
     (record {
       rows_are = are;

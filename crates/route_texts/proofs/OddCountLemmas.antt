@@ -17,16 +17,14 @@ kept : (from to : Option ℕ) (es : List Edge) (at n : ℕ) → odd_number from 
     ≡ length (filter (λ j. is_odd (degree (closing_edge from to ++ es) j)) (range_with_len at n))
 kept from to es at zero = refl
 kept from to es at (suc n) =
-    let later = kept from to es (at + 1) n in
     let here = one_more (is_odd (degree (closing_edge from to ++ es) at)) at
     (filter (λ j. is_odd (degree (closing_edge from to ++ es) j)) (range_with_len (at + 1) n)) in
     let same : one_if (is_odd (closing_ends from to at + degree es at)) ≡ one_if (is_odd (degree (closing_edge from to ++ es) at)) =
     rw (degree_closed from to es at) refl in
-    omega (arith, later, here, same)
+    omega (arith, kept from to es (at + 1) n, here, same)
 
 -- The degrees of a piece give the number of its odd junctions.
-pub odds_counted : (p : PieceValue) → IsValidPiece p
-    → odd_number (given_start p) (given_end p) 0 p.degrees ≡ length (odd_junctions p)
+pub odds_counted : (p : PieceValue) → IsValidPiece p → odd_number (given_start p) (given_end p) 0 p.degrees ≡ length (odd_junctions p)
 odds_counted p keeps =
     ap (λ degrees. odd_number (given_start p) (given_end p) 0 degrees) keeps.counted
     ∙ kept (given_start p) (given_end p) p.edges 0 (length p.junctions)

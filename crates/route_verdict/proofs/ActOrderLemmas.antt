@@ -59,9 +59,8 @@ left_first d before left rest cert is = grind (arith, nat_tests, walk_first)
 
 -- a walk more is passed over
 pub runs_on : (d : DrawingValue) (acts : List NumberedAct) (certs : List PieceCert) (at before next : ℕ) (left rest : List PieceCert)
-    (cert : PieceCert)
-    → left ≡ cert ∷ rest → LeftRuns d acts certs at before left → ComparesActs acts at (walk_acts d before cert) (Ok next)
-    → LeftRuns d acts certs next (block_of_passes d cert.walk) rest
+    (cert : PieceCert) → left ≡ cert ∷ rest → LeftRuns d acts certs at before left
+    → ComparesActs acts at (walk_acts d before cert) (Ok next) → LeftRuns d acts certs next (block_of_passes d cert.walk) rest
 runs_on d acts certs at before next left rest cert is on passed = record {
   there = passed.0;
   drawn = All-tail (λ (c : PieceCert). AreDrawn d c.walk) cert rest (subst (AllDrawn d) is on.drawn);
@@ -91,10 +90,8 @@ more_left acts at less = by_rest (drop at acts) (length-drop at acts)
 
 -- the acts of a run, as the code has its block and its needles
 pub run_is : (d : DrawingValue) (acts : List NumberedAct) (at before block stops : ℕ) (walk seen other : List Pass)
-    (points needles : List Point) (r : Result ℕ ℕ)
-    → seen ≡ walk → other ≡ walk → block ≡ block_of_passes d seen → stops ≡ block - before → points ≡ needles
-    → needles ≡ needles_of_walk d other
-    → ComparesActs acts at (run_acts stops points) r
+    (points needles : List Point) (r : Result ℕ ℕ) → seen ≡ walk → other ≡ walk → block ≡ block_of_passes d seen → stops ≡ block - before
+    → points ≡ needles → needles ≡ needles_of_walk d other → ComparesActs acts at (run_acts stops points) r
     → ComparesActs acts at (run_acts (block_of_passes d walk - before) (needles_of_walk d walk)) r
 run_is d acts at before block stops walk seen other points needles r seen_is other_is block_is stops_is points_are needles_are passed =
     grind (arith, nat_tests)

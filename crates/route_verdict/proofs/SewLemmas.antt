@@ -50,8 +50,7 @@ pub walk_first : (d : DrawingValue) (before : ℕ) (piece : PieceCert) (rest : L
 walk_first d before piece rest = grind (arith, nat_tests, append_assoc)
 
 pub sews_on : (d : DrawingValue) (pieces : List PieceCert) (begun design next : DesignValue) (before block : ℕ) (left rest : List PieceCert)
-    (piece : PieceCert) → left ≡ piece ∷ rest
-    → block ≡ block_of_passes d piece.walk
+    (piece : PieceCert) → left ≡ piece ∷ rest → block ≡ block_of_passes d piece.walk
     → next ≡ with_commands design (run_commands before (block_of_passes d piece.walk) (needles_of_walk d piece.walk))
     → Left d pieces begun design before left → Left d pieces begun next block rest
 sews_on d pieces begun design next before block left rest piece is at put l =

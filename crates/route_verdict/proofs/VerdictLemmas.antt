@@ -45,8 +45,7 @@ pieces_told walks cuts (p ∷ graphs) (c ∷ certs) number kept right =
 
 -- each walk of right pieces is least
 least_of : ProvesLeast → (graphs : List PieceValue) (certs : List PieceCert) → All IsValidPiece graphs
-    → AllZip IsCorrectPieceCert graphs certs
-    → AllZip (λ p cert. IsLeastWalk p cert.walk) graphs certs
+    → AllZip IsCorrectPieceCert graphs certs → AllZip (λ p cert. IsLeastWalk p cert.walk) graphs certs
 least_of proves [] [] kept right = tt
 least_of proves [] (c ∷ certs) kept right = absurd right
 least_of proves (p ∷ graphs) [] kept right = absurd right
@@ -96,9 +95,8 @@ along d p (q ∷ walk) below there =
     (along d p walk below (All-tail (λ (pass : Pass). Contains p.lines pass.line) q walk there))
 
 all_along : (d : DrawingValue) → KeepsDrawingLimits d → FittingWalksAreSewable → WalkFaultsAreExact
-    → (pieces : List Piece) (certs : List PieceCert) (number : ℕ)
-    → All (λ line. line < length d.lines) (concat (lines_of_pieces pieces)) → All (IsCut d) pieces
-    → length certs ≡ length pieces → pieces_reason number (map graph_of pieces) certs ≡ None → AllDrawn d certs
+    → (pieces : List Piece) (certs : List PieceCert) (number : ℕ) → All (λ line. line < length d.lines) (concat (lines_of_pieces pieces))
+    → All (IsCut d) pieces → length certs ≡ length pieces → pieces_reason number (map graph_of pieces) certs ≡ None → AllDrawn d certs
 all_along d keeps sews walks [] [] number below each long none = All-nil (λ (piece : PieceCert). AreDrawn d piece.walk)
 all_along d keeps sews walks [] (c ∷ certs) number below each long none = absurd (omega (arith, long))
 all_along d keeps sews walks (p ∷ pieces) [] number below each long none = absurd (omega (arith, long))
@@ -129,9 +127,8 @@ all_along d keeps sews walks (p ∷ pieces) (c ∷ certs) number below each long
 
 -- certificates without a fault of a piece have walks along the drawing's lines
 pub drawn_right : (d : DrawingValue) (pieces : List Piece) (certs : List PieceCert) → KeepsDrawingLimits d → FittingWalksAreSewable
-    → WalkFaultsAreExact
-    → ArePiecesOf d pieces → count_reason (length certs) (length pieces) ≡ None → pieces_reason 1 (map graph_of pieces) certs ≡ None
-    → AllDrawn d certs
+    → WalkFaultsAreExact → ArePiecesOf d pieces → count_reason (length certs) (length pieces) ≡ None
+    → pieces_reason 1 (map graph_of pieces) certs ≡ None → AllDrawn d certs
 drawn_right d pieces certs keeps sews walks cut count none = grind (arith, nat_tests, all_along, count_none)
 
 -- a drawing has few pieces
@@ -191,8 +188,7 @@ module _ (walks : WalkFaultsAreExact) (cuts : CutFaultsAreExact) (bounds : Bound
 
 -- the verdict by the first reason is that over the pieces of the drawing
 pub verdict_right : (d : DrawingValue) (pieces : List Piece) (design : DesignValue) (certs : List PieceCert) (found : Option Reason)
-    (given : Verdict)
-    → WalkFaultsAreExact → CutFaultsAreExact → BoundsWalks → ProvesLeast → ArePiecesOf d pieces
+    (given : Verdict) → WalkFaultsAreExact → CutFaultsAreExact → BoundsWalks → ProvesLeast → ArePiecesOf d pieces
     → found ≡ reason_of d (map graph_of pieces) design certs → given ≡ verdict_of_reason found
     → IsVerdictOver d (lines_of_pieces pieces) design certs given
 verdict_right d pieces design certs found given walks cuts bounds proves cut found_is given_is =

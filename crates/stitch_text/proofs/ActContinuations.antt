@@ -52,8 +52,7 @@ act_keeps draft a keeps within told none =
       by_act (act.Needle p float) none = omega (arith, keeps.sound.stops)
       by_act act.Trim none = omega (arith, keeps.sound.stops)
       by_act act.Stop none =
-          let short = not_refused (is_above_max list_write_limits.stops (draft.state.stops + 1)) (fault.TooManyStops 0) none in
-          grind (arith, nat_tests, short)
+          grind (arith, nat_tests, not_refused (is_above_max list_write_limits.stops (draft.state.stops + 1)) (fault.TooManyStops 0) none)
 
 -- the number of the act that is computed from an act's commands
 abbrev number_at : ℕ → Act → ℕ
@@ -120,13 +119,11 @@ pub not_over : {P : Type 0} (e d : DesignValue) (f : ReadFault) → refused_list
 not_over e d f h1 = grind (arith, nat_tests, ints)
 
 -- the line of an act, and the lines that go on from there
-continues_act : (draft : ListDraft) (e : DesignValue) (a : Act) (extra bytes rest : List ℕ) (d : DesignValue)
-    → e.label ≡ draft.design.label → e.threads ≡ draft.design.threads ++ extra
-    → e.commands ≡ draft.design.commands ++ list_commands_of a → IsTrue (is_told draft.state.loose a)
-    → ((n : ℕ) → refusal_of_act list_write_limits draft.state (numbered n a) ≡ None)
+continues_act : (draft : ListDraft) (e : DesignValue) (a : Act) (extra bytes rest : List ℕ) (d : DesignValue) → e.label ≡ draft.design.label
+    → e.threads ≡ draft.design.threads ++ extra → e.commands ≡ draft.design.commands ++ list_commands_of a
+    → IsTrue (is_told draft.state.loose a) → ((n : ℕ) → refusal_of_act list_write_limits draft.state (numbered n a) ≡ None)
     → bytes ≡ act_line (thread_of d) draft.state.stops a
-    → Continues (record { design = e; state = encoder_state_after LIMIT draft.state a }) rest d
-    → Continues draft (bytes ++ 10 ∷ rest) d
+    → Continues (record { design = e; state = encoder_state_after LIMIT draft.state a }) rest d → Continues draft (bytes ++ 10 ∷ rest) d
 continues_act draft e a extra bytes rest d label threads commands told free is c =
     let s = draft.state in
     record {
@@ -185,11 +182,10 @@ pub block_text : (t u : ℕ) → t < 256 → u ≡ t → codes "block " ++ decim
 block_text t u h1 h2 = grind (arith, nat_tests, ints)
 
 -- a stop, whose line has a thread
-stop_written : (at behind : ℕ) (draft : ListDraft) (t : ℕ) (bytes : List ℕ) (rest : List (List ℕ)) (d : DesignValue)
-    → Keeps 0 draft → bytes ≡ codes "block " ++ decimal t → t < 256 → GoesOn behind rest d
+stop_written : (at behind : ℕ) (draft : ListDraft) (t : ℕ) (bytes : List ℕ) (rest : List (List ℕ)) (d : DesignValue) → Keeps 0 draft
+    → bytes ≡ codes "block " ++ decimal t → t < 256 → GoesOn behind rest d
     → continued_with draft (unless_fault (fault_of_act at draft.state act.Stop) (with_block_thread t (with_act draft act.Stop)))
-    (λ new. parsed_acts behind new rest) ≡ over d
-    → Continues draft (bytes ++ 10 ∷ join_with_byte 10 rest) d
+    (λ new. parsed_acts behind new rest) ≡ over d → Continues draft (bytes ++ 10 ∷ join_with_byte 10 rest) d
 stop_written at behind draft t bytes rest d keeps is small again says = by_fault (fault_of_act at draft.state act.Stop) refl says where
   by_fault : (f : Option ReadFault) → fault_of_act at draft.state act.Stop ≡ f
       → continued_with draft (unless_fault f (with_block_thread t (with_act draft act.Stop))) (λ new. parsed_acts behind new rest) ≡ over d

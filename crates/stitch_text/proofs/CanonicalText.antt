@@ -89,8 +89,7 @@ record FromFirst (text : List ℕ) (d : DesignValue) : Type 0 where
 
 first_written : (parts : List (List ℕ)) (d : DesignValue)
     → with_next_line 0 empty_design parts (λ bytes rest. after_signature_line 0 empty_design (bytes_eq bytes signature_line) bytes rest)
-    ≡ over d
-    → FromFirst (join_with_byte 10 parts) d
+    ≡ over d → FromFirst (join_with_byte 10 parts) d
 first_written parts d says =
     next_some 0 empty_design d parts (λ bytes rest. after_signature_line 0 empty_design (bytes_eq bytes signature_line) bytes rest) says
     (λ bytes rest joined parsed. by_line bytes rest joined (bytes_eq bytes signature_line) refl parsed) where

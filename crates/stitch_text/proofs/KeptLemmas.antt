@@ -19,8 +19,7 @@ told_at thread (a ∷ rest) stops k there =
       by_act again act.Stop zero there = grind (arith, nat_tests)
       by_act again act.Stop (suc k) there = grind (arith, nat_tests, (again (stops + 1) k))
 
-told_of : (d : DesignValue) (block : ℕ) → block ≤ stops_of (acts_of d)
-    → slice_get (threads_told d) block ≡ Some (thread_of d block % 256)
+told_of : (d : DesignValue) (block : ℕ) → block ≤ stops_of (acts_of d) → slice_get (threads_told d) block ≡ Some (thread_of d block % 256)
 told_of d zero there = refl
 told_of d (suc k) there = grind (arith, nat_tests, (told_at (thread_of d) (acts_of d) 0 k))
 

@@ -21,8 +21,7 @@ label_yes line label is good =
 
 -- the byte at the end
 last_space : (label : List ℕ) → slice_get label (length label - 1) ≡ Some 32 → has_trailing_space label ≡ true
-last_space label is =
-    let last = get_or_from_slice_get label (length label - 1) 32 0 is in grind (arith, nat_tests, last)
+last_space label is = grind (arith, nat_tests, get_or_from_slice_get label (length label - 1) 32 0 is)
 
 -- the meaning of the test of a label
 pub label_from : (label : List ℕ) → is_valid_label label ≡ true → IsLabel label

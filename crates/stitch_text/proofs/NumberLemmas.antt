@@ -84,8 +84,7 @@ minus_is ds z lead read =
           subst (λ z. Spells (45 ∷ ds) z) value (record { is = ap (λ (ds : List ℕ). 45 ∷ ds) is; small = small })
 
 -- a number without one
-plus_is : (b : ℕ) (ds : List ℕ) (z : ℤ) → (not (b == 48) || length ds == 0) ≡ true → AreRead false (b ∷ ds) z
-    → Spells (b ∷ ds) z
+plus_is : (b : ℕ) (ds : List ℕ) (z : ℤ) → (not (b == 48) || length ds == 0) ≡ true → AreRead false (b ∷ ds) z → Spells (b ∷ ds) z
 plus_is b ds z lead read =
     let text = digits_spelled (b ∷ ds) read.numeral (λ first. grind (arith, nat_tests, lead, first)) read.small in
     subst (λ z. Spells (b ∷ ds) z) read.value (record { is = text; small = read.small })

@@ -27,18 +27,16 @@ other_word word x words h1 h2 h3 = grind (arith, nat_tests, ints)
 
 -- a line that is judged
 pub acts_judged : (at : ℕ) (draft : ListDraft) (text line after : List ℕ) (parsed : Option ListLine)
-    (judgement : Result ListDraft ReadFault) (total : ParsedList)
-    → parsed_acts at draft (parts_between 10 text) ≡ total → parts_between 10 text ≡ line ∷ parts_between 10 after
-    → parsed ≡ parsed_list_line line
-    → is_end_line parsed ≡ false → draft_after_line at draft parsed ≡ judgement
+    (judgement : Result ListDraft ReadFault) (total : ParsedList) → parsed_acts at draft (parts_between 10 text) ≡ total
+    → parts_between 10 text ≡ line ∷ parts_between 10 after → parsed ≡ parsed_list_line line → is_end_line parsed ≡ false
+    → draft_after_line at draft parsed ≡ judgement
     → continued_with draft judgement (λ new. parsed_acts (at + length line + 1) new (parts_between 10 after)) ≡ total
 acts_judged at draft text line after parsed judgement total whole are is other so =
     grind (arith, nat_tests, (acts_are at draft text line after are))
 
 -- the first block
 pub block_is : (at : ℕ) (d : DesignValue) (text line after : List ℕ) (thread : Option ℕ)
-    → parts_between 10 text ≡ line ∷ parts_between 10 after
-    → thread ≡ parsed_thread (parsed_list_line line)
+    → parts_between 10 text ≡ line ∷ parts_between 10 after → thread ≡ parsed_thread (parsed_list_line line)
     → parsed_from_block at d (parts_between 10 text) ≡ after_block_line at d line thread (parts_between 10 after)
 block_is at d text line after thread are is = grind (arith, nat_tests, next_is)
 

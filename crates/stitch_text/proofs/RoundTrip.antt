@@ -67,15 +67,13 @@ same_taken : (draft : ListDraft) (a : Act) → taken_with draft a draft.design.t
 same_taken draft a = ap (λ (t : List ℕ). taken_with draft a t) (sym (append-nil draft.design.threads))
 
 -- the line of an act is parsed as the act
-act_is : (thread : ℕ → ℕ) (stops : ℕ) (a : Act) → IsTrue (is_act_in_range a)
-    → IsLine (act_line thread stops a) (said_by thread stops a)
+act_is : (thread : ℕ → ℕ) (stops : ℕ) (a : Act) → IsTrue (is_act_in_range a) → IsLine (act_line thread stops a) (said_by thread stops a)
 act_is thread stops (act.Needle p float) within = needle_is float p within
 act_is thread stops act.Trim within = trim_is
 act_is thread stops act.Stop within = block_is (thread (stops + 1) % 256) (grind (arith, nat_tests))
 
 -- and is taken
-act_judged : (thread : ℕ → ℕ) (at : ℕ) (draft : ListDraft) (a : Act) → IsTrue (is_act_in_range a)
-    → fault_of_act at draft.state a ≡ None
+act_judged : (thread : ℕ → ℕ) (at : ℕ) (draft : ListDraft) (a : Act) → IsTrue (is_act_in_range a) → fault_of_act at draft.state a ≡ None
     → draft_after_line at draft (Some (said_by thread draft.state.stops a)) ≡ Ok (drafted thread draft a)
 act_judged thread at draft (act.Needle p float) within none =
     ap (λ (b : Bool). if b then draft_with_checked_act at draft (act.Needle p float) else Err (read.Range at)) within
@@ -87,9 +85,8 @@ act_judged thread at draft act.Stop within none =
     ap (λ f. unless_fault f (with_block_thread (thread (draft.state.stops + 1) % 256) (with_act draft act.Stop))) none
 
 -- the lines of acts are read
-pub acts_read : (thread : ℕ → ℕ) (acts : List NumberedAct) (draft : ListDraft) (at : ℕ)
-    → IsTrue (are_told draft.state.loose acts) → IsTrue (list_all (λ a. is_act_in_range a.act) acts)
-    → first_refusal_from list_write_limits draft.state acts ≡ None
+pub acts_read : (thread : ℕ → ℕ) (acts : List NumberedAct) (draft : ListDraft) (at : ℕ) → IsTrue (are_told draft.state.loose acts)
+    → IsTrue (list_all (λ a. is_act_in_range a.act) acts) → first_refusal_from list_write_limits draft.state acts ≡ None
     → parsed_acts at draft (parts_between 10 (act_lines thread draft.state.stops acts))
     ≡ said_all draft.design.label (draft.design.threads ++ threads_along thread draft.state.stops acts)
     (draft.design.commands ++ commands_along acts)

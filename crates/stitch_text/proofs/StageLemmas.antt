@@ -20,9 +20,8 @@ long_line line long = grind (arith, nat_tests)
 
 -- a line that is too long to be right, with what may end it
 pub goes_beyond : (draft : ListDraft) (stage : ListStage) (at : ℕ) (part : List ℕ) (parts : List (List ℕ))
-    → max_waiting_in stage < length part
-    → parts ≢ [] → parsed_parts draft stage at (onto_part part parts)
-    ≡ parsed_parts draft (stage_after_long_line at stage) (at + length part) parts
+    → max_waiting_in stage < length part → parts ≢ []
+    → parsed_parts draft stage at (onto_part part parts) ≡ parsed_parts draft (stage_after_long_line at stage) (at + length part) parts
 goes_beyond draft s at part [] long some = absurd (some refl)
 goes_beyond draft s at part (end ∷ []) long some = by_stage s long where
   there : at + length (part ++ end) ≡ at + length part + length end

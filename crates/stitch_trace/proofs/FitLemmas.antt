@@ -53,8 +53,7 @@ point_in_range (act.Needle p float) within = within
 
 -- no link is greater than the greatest
 after_needle : (step least : ℕ) (p q : Point) (number : ℕ) (later : List NeedleMove) → is_point_within 30000 p ≡ true
-    → is_point_within 30000 q ≡ true
-    → (t : Bool) → is_same_point p q ≡ t → (float : Bool)
+    → is_point_within 30000 q ≡ true → (t : Bool) → is_same_point p q ≡ t → (float : Bool)
     → greatest least (links_in (cond t Stay (cond float Gap (Sewn number (record { from = p; to = q }))) ∷ later)) ≤ step
     → ((m : ℕ) → greatest m (links_in later) ≤ step → AreSteps step later)
     → AreSteps step (cond t Stay (cond float Gap (Sewn number (record { from = p; to = q }))) ∷ later)

@@ -23,8 +23,7 @@ freed before (Gap ∷ rest) linked = linked
 freed before (Sewn number link ∷ rest) linked = (tt, linked.1)
 
 after_needle : (p q : Point) (number : ℕ) (later : List NeedleMove) → Linked (Some q) later → (t : Bool) → is_same_point p q ≡ t
-    → (float : Bool)
-    → Linked (Some p) (cond t Stay (cond float Gap (Sewn number (record { from = p; to = q }))) ∷ later)
+    → (float : Bool) → Linked (Some p) (cond t Stay (cond float Gap (Sewn number (record { from = p; to = q }))) ∷ later)
 after_needle p q number later linked true same float = subst (λ (r : Point). Linked (Some r) later) (sym (same_is p q same)) linked
 after_needle p q number later linked false same true = freed (Some q) later linked
 after_needle p q number later linked false same false = (refl, linked)

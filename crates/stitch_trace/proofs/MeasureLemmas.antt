@@ -9,12 +9,11 @@ use Rattle.stitch_trace.specs.declared.trace_fault.TraceFault.TheVariants as fau
 pub size_apart : (p q : Point) → is_same_point p q ≡ false → 1 ≤ move_size (move_between p q)
 size_apart p q differ =
     let across = le-max_left (unsigned_abs (q.x -ℤ p.x)) (unsigned_abs (q.y -ℤ p.y)) in
-    let down = le-max_right (unsigned_abs (q.x -ℤ p.x)) (unsigned_abs (q.y -ℤ p.y)) in
     let not_none : move_size (move_between p q) ≤ 0 → ⊥ = λ none.
     let x : int_eq p.x q.x ≡ true = (Decides-int_eq p.x q.x).1 (no_difference p.x q.x (omega arith)) in
     let y : int_eq p.y q.y ≡ true = (Decides-int_eq p.y q.y).1 (no_difference p.y q.y (omega arith)) in
     both_ways (is_same_point p q) differ (rw (x, y) refl) in
-    omega (arith, not_none)
+    omega (arith, not_none, le-max_right (unsigned_abs (q.x -ℤ p.x)) (unsigned_abs (q.y -ℤ p.y)))
 
 -- the greatest size, from one on
 abbrev pub greatest : ℕ → List Link → ℕ
@@ -43,8 +42,7 @@ FirstHasSize [] = Unit {0}
 FirstHasSize (link ∷ rest) = 1 ≤ link_size link
 
 after_link : (p q : Point) (number : ℕ) (later : List NeedleMove) → FirstHasSize (links_in later) → (t : Bool) → is_same_point p q ≡ t
-    → (float : Bool)
-    → FirstHasSize (links_in (cond t Stay (cond float Gap (Sewn number (record { from = p; to = q }))) ∷ later))
+    → (float : Bool) → FirstHasSize (links_in (cond t Stay (cond float Gap (Sewn number (record { from = p; to = q }))) ∷ later))
 after_link p q number later first true same float = first
 after_link p q number later first false same true = first
 after_link p q number later first false same false = size_apart p q same

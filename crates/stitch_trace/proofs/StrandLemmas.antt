@@ -13,8 +13,7 @@ blocks_split (a ∷ rest) = grind (arith, nat_tests, blocks_split rest, onto_blo
 
 pub strands_next : (d : DesignValue) (acts block : List NumberedAct) (n : ℕ) (before after all : List Strand)
     → (n < length (slice_split is_stop acts)) × (block ≡ get_or (slice_split is_stop acts) n block)
-    → after ≡ before ++ strand_of (thread_of d n) (chains_of block)
-    → before ++ strands_from d n (drop n (blocks_of acts)) ≡ all
+    → after ≡ before ++ strand_of (thread_of d n) (chains_of block) → before ++ strands_from d n (drop n (blocks_of acts)) ≡ all
     → after ++ strands_from d (n + 1) (drop (n + 1) (blocks_of acts)) ≡ all
 strands_next d acts block n before after all turn put so_far =
     grind (arith, nat_tests, blocks_split acts, at_drop_more (strands_from d n) (blocks_of acts) n block, append_assoc)

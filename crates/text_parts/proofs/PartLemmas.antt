@@ -36,9 +36,8 @@ one_part mark bytes from place is within are none =
     (omega (arith, is, within, ap length are, none, length-drop place bytes)))
 
 -- the first part ends before the first mark
-pub first_part : (mark : ℕ) (bytes before from behind : List ℕ) (place : ℕ)
-    → place ≡ position_or_len (λ b. b == mark) bytes → before ≡ take place bytes
-    → from ≡ drop place bytes → length from ≢ 0 → behind ≡ drop 1 from
+pub first_part : (mark : ℕ) (bytes before from behind : List ℕ) (place : ℕ) → place ≡ position_or_len (λ b. b == mark) bytes
+    → before ≡ take place bytes → from ≡ drop place bytes → length from ≢ 0 → behind ≡ drop 1 from
     → parts_between mark bytes ≡ before ∷ parts_between mark behind
 first_part mark bytes before from behind place is front are some rest =
     let test : ℕ → Bool = λ b. b == mark in

@@ -53,8 +53,7 @@ long-needle loose jumped m run number h1 = grind (arith, nat_tests, ints)
 
 -- a stitch by a record's move
 within-stitch : (s : EncoderState) (jumped : Bool) (run : ℕ) (place m : Point) (commands : List Command)
-    → (s.loose ≡ false → IsNear s.place run place jumped)
-    → (unsigned_abs m.x ≤ LIMIT) × (unsigned_abs m.y ≤ LIMIT)
+    → (s.loose ≡ false → IsNear s.place run place jumped) → (unsigned_abs m.x ≤ LIMIT) × (unsigned_abs m.y ≤ LIMIT)
     → ((s' : EncoderState) → s'.loose ≡ false → s'.place ≡ position_after_move place m → IsWithin false s' commands)
     → IsWithin jumped s (Stitch (position_after_move place m) ∷ commands)
 within-stitch s jumped run place m commands near small more = λ n.
@@ -73,8 +72,7 @@ within-jump s jumped there commands more = λ n. more (n + 1)
 
 -- the third jump of a run
 within-third : (loose : Bool) (s : EncoderState) (jumped : Bool) (there : Point) (commands : List Command) → s.loose ≡ loose
-    → ((s' : EncoderState) → s'.loose ≡ true → IsWithin true s' commands)
-    → IsWithin jumped s (Trim ∷ Jump there ∷ commands)
+    → ((s' : EncoderState) → s'.loose ≡ true → IsWithin true s' commands) → IsWithin jumped s (Trim ∷ Jump there ∷ commands)
 within-third true s jumped there commands is more = λ n.
     subst (λ l. is_long (first_refusal_from dst_write_limits s (acts_from n l jumped (Trim ∷ Jump there ∷ commands))) ≡ false) (sym is)
     (subst (λ l. is_long (first_refusal_from dst_write_limits s (acts_from (n + 1 + 1) l true commands)) ≡ false) is
@@ -86,8 +84,7 @@ within-third false s jumped there commands is more = λ n.
 
 -- a stop
 within-stop : (s : EncoderState) (jumped : Bool) (commands : List Command)
-    → ((s' : EncoderState) → s'.loose ≡ true → IsWithin false s' commands)
-    → IsWithin jumped s (Stop ∷ commands)
+    → ((s' : EncoderState) → s'.loose ≡ true → IsWithin false s' commands) → IsWithin jumped s (Stop ∷ commands)
 within-stop s jumped commands more = λ n.
     one_more s (numbered n act.Stop) (acts_from (n + 1) true false commands)
     (long-stops (is_above_max dst_write_limits.stops (s.stops + 1)) n)
@@ -95,8 +92,7 @@ within-stop s jumped commands more = λ n.
 
 -- a command that is tried
 tried_ok : (at count : ℕ) (command : Command) (rest : Result FileCommands ReadFault) (P : List Command → Type 0)
-    → IfOk rest (λ course. P (command ∷ course.commands))
-    → IfOk (checked_command at count command rest) (λ course. P course.commands)
+    → IfOk rest (λ course. P (command ∷ course.commands)) → IfOk (checked_command at count command rest) (λ course. P course.commands)
 tried_ok at count command rest P h1 = grind (arith, nat_tests, ints)
 
 -- the result of the rest, whatever is before it
@@ -134,8 +130,7 @@ jump_ok s jumped run place m (Ok course) small other near on =
       y = farther place.y m.y s.place.y run is.y small.1;
     })))
 
-third_ok : (s : EncoderState) (jumped : Bool) (run : ℕ) (there : Point) (rest : Result FileCommands ReadFault)
-    → RestIsWithin run there rest
+third_ok : (s : EncoderState) (jumped : Bool) (run : ℕ) (there : Point) (rest : Result FileCommands ReadFault) → RestIsWithin run there rest
     → IfOk rest (λ course. IsWithin jumped s (Trim ∷ Jump there ∷ course.commands))
 third_ok s jumped run there (Err f) on = tt
 third_ok s jumped run there (Ok course) on = within-third s.loose s jumped there course.commands refl
@@ -175,8 +170,7 @@ jumps_ok false at count run place m s jumped rest is small near on =
     (jump_ok s jumped run place m after small (eqb-false run 2 is) near (on (count + 1)))
 
 -- a stop record, by whether it moves
-stops_ok : (still : Bool) (at count : ℕ) (there : Point) (s : EncoderState) (jumped : Bool) (rest : Records)
-    → RecordsAreWithin 0 there rest
+stops_ok : (still : Bool) (at count : ℕ) (there : Point) (s : EncoderState) (jumped : Bool) (rest : Records) → RecordsAreWithin 0 there rest
     → IfOk (checked_commands at count (if still then Stop ∷ [] else Stop ∷ Jump there ∷ [])
     (file_commands_from (count + length (if still then Stop ∷ [] else Stop ∷ Jump there ∷ [])) there rest))
     (λ course. IsWithin jumped s course.commands)
@@ -191,9 +185,8 @@ stops_ok false at count there s jumped rest on =
 
 -- a record of each kind
 record_ok : (k : RecordKind) (at count run : ℕ) (place m : Point) (s : EncoderState) (jumped : Bool)
-    → (unsigned_abs m.x ≤ LIMIT) × (unsigned_abs m.y ≤ LIMIT)
-    → (s.loose ≡ false → IsNear s.place run place jumped)
-    → (rest : Records) → RecordsAreWithin (run_after_kind k run) (position_after_move place m) rest
+    → (unsigned_abs m.x ≤ LIMIT) × (unsigned_abs m.y ≤ LIMIT) → (s.loose ≡ false → IsNear s.place run place jumped) → (rest : Records)
+    → RecordsAreWithin (run_after_kind k run) (position_after_move place m) rest
     → IfOk (file_commands_from count place (record_of_kind k at run m rest)) (λ course. IsWithin jumped s course.commands)
 record_ok kind.Stitch at count run place m s jumped small near rest on =
     let after = file_commands_from (count + 1) (position_after_move place m) rest in

@@ -17,8 +17,7 @@ ceiling a n count = (count * a + (n - 1)) / n
 quotient_step : (v w n l : ℕ) → 0 < n → v ≤ w + n * l → v / n ≤ w / n + l
 quotient_step v w n l some near =
     let below : v < (w / n + l + 1) * n = omega (arith, near) in
-    let small = div_below v n (w / n + l + 1) some below in
-    omega (arith, small)
+    omega (arith, div_below v n (w / n + l + 1) some below)
 
 floor_most : (a n count : ℕ) → 0 < n → count ≤ n → floor a n count ≤ a
 floor_most a n count h1 h2 = grind (arith, nat_tests, ints)
@@ -53,8 +52,7 @@ div_opposite (suc w) n some =
     one_more : (w n : ℕ) → 0 < n → (suc w + (n - 1)) / n ≡ suc (w / n)
     one_more w n some =
         let low = le-div (w / n + 1) (suc w + (n - 1)) n some (omega (arith, some)) in
-        let high = div_below (suc w + (n - 1)) n (w / n + 2) some (omega (arith, some)) in
-        omega (arith, low, high)
+        omega (arith, low, div_below (suc w + (n - 1)) n (w / n + 2) some (omega (arith, some)))
 
 part_left : (a n count : ℕ) → 0 < n → axis_part (negsuc a) n count ≡ neg_ℤ (pos (ceiling (suc a) n count))
 part_left a n count some = div_opposite (count * suc a) n some
@@ -72,8 +70,7 @@ pub axis_step : (z : ℤ) (n count l : ℕ) → 0 < n → unsigned_abs z ≤ n *
     → unsigned_abs (axis_part z n (count + 1) -ℤ axis_part z n count) ≤ l
 axis_step (pos a) n count l some near = grind (arith, nat_tests, ints, (floor_step a n count l some near))
 axis_step (negsuc a) n count l some near =
-    let step = ceiling_step (suc a) n count l some near in
-    grind (arith, nat_tests, ints, (part_left a n count some), (part_left a n (count + 1) some), step)
+    grind (arith, nat_tests, ints, (part_left a n count some), (part_left a n (count + 1) some), ceiling_step (suc a) n count l some near)
 
 -- the place after some parts lies between those before and after the whole
 pub axis_between : (x z : ℤ) (n count l : ℕ) → 0 < n → count ≤ n → unsigned_abs x ≤ l → unsigned_abs (x +ℤ z) ≤ l

@@ -18,9 +18,8 @@ pub record GoesOn (limit count : ℕ) (place : Point) (records : Records) (loose
   pub within : IsTrue (list_all (λ move. is_point_within limit move) (moves_of_records_from count place records))
 
 -- a command in range, with fewer commands before than a design may have, is kept
-tried-kept : (at count : ℕ) (command : Command) (rest : Result FileCommands ReadFault)
-    → IsTrue (is_command_in_range command) → count < MAX_COMMANDS
-    → checked_command at count command rest ≡ with_commands_before (command ∷ []) rest
+tried-kept : (at count : ℕ) (command : Command) (rest : Result FileCommands ReadFault) → IsTrue (is_command_in_range command)
+    → count < MAX_COMMANDS → checked_command at count command rest ≡ with_commands_before (command ∷ []) rest
 tried-kept at count command rest here few = rw (here, lt-leb MAX_COMMANDS count few) refl
 
 pub goes_end : (limit count : ℕ) (place : Point) (loose jumped : Bool) → GoesOn limit count place (over true) loose jumped []

@@ -88,10 +88,9 @@ goes_cut (event.Stop ∷ more) limit far count most place records rest jumped ac
 goes_cut (event.StopBy m ∷ more) limit far count most place records rest jumped acts cuts asks near here room few small on = cc
 
 -- the records of a trim
-pub goes_trimmed : (events : List Event) (limit count room : ℕ) (place : Point) (records rest : Records) (jumped : Bool)
-    (acts : List Act) → IsTrimSequence limit events → BeginWithEvents events records rest → IsTrue (is_point_within NEEDLE_LIMIT place)
-    → count ≤ room → room + 4 ≤ MAX_COMMANDS
-    → ((count' : ℕ) (jumped' : Bool) → count' ≤ room + 4 → GoesOn limit count' place rest true jumped' acts)
+pub goes_trimmed : (events : List Event) (limit count room : ℕ) (place : Point) (records rest : Records) (jumped : Bool) (acts : List Act)
+    → IsTrimSequence limit events → BeginWithEvents events records rest → IsTrue (is_point_within NEEDLE_LIMIT place) → count ≤ room
+    → room + 4 ≤ MAX_COMMANDS → ((count' : ℕ) (jumped' : Bool) → count' ≤ room + 4 → GoesOn limit count' place rest true jumped' acts)
     → GoesOn limit count place records false jumped (act.Trim ∷ acts)
 goes_trimmed events limit count room place records rest jumped acts trim asks here few small on =
     goes_cut events limit NEEDLE_LIMIT count (room + 4) place records rest jumped acts trim.cuts asks trim.within here
