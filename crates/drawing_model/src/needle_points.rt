@@ -36,11 +36,9 @@ fn needles_along(alloc: Global, points: &[Point], step: u32) -> Result<Points, M
     };
     needles.push(first)?;
     let mut before = first;
-    let mut rest = after;
-    while let Some((next, after)) = first_point(rest) {
-        split_into(&mut needles, before, next, step)?;
-        before = next;
-        rest = after;
+    for next in after {
+        split_into(&mut needles, before, *next, step)?;
+        before = *next;
     }
     Ok(needles)
 }

@@ -1,4 +1,5 @@
 use Rattle.std.proofs.Common.{◌≡◌, ◌∷◌, [], refl, rules}
+use Rattle.std.proofs.lemmas.List.{drop_more}
 use Rattle.drawing_model.proofs.NeedleLemmas.{first_sewn, next_segment, segment_sewn}
 use Rattle.drawing_model.proofs.needle_points.needles_along.Goals as goal
 
@@ -9,12 +10,11 @@ loop-next-init c =
 
 pub split_into-requires-clause-to : goal.split_into-requires-clause-to
 split_into-requires-clause-to c =
-    (next_segment c.args.step c.args.points.now c.loop-next.before c.in-Some-first_point.next c.loop-next.rest.now
-    c.in-Some-first_point.after.now c.loop-next.needles c.loop-next.invariant c.in-Some-first_point.ensures.some).1
+    (next_segment c.args.step c.args.points.now c.loop-next.before _ _ _ c.loop-next.needles c.loop-next.invariant
+    (drop_more c.in-Some.after.now c.loop-next.next-index _ c.loop-next-test.true)).1
 
 pub loop-next-preserved : goal.loop-next-preserved
 loop-next-preserved c =
     rw c.in_ok-split_into.ensures.value
-    (segment_sewn c.args.step c.args.points.now c.loop-next.before c.in-Some-first_point.next c.loop-next.rest.now
-    c.in-Some-first_point.after.now c.loop-next.needles _ c.loop-next.invariant
-    c.in-Some-first_point.ensures.some refl c.in_ok-split_into.ensures.leads)
+    (segment_sewn c.args.step c.args.points.now c.loop-next.before _ _ _ c.loop-next.needles _ c.loop-next.invariant
+    (drop_more c.in-Some.after.now c.loop-next.next-index _ c.loop-next-test.true) refl c.in_ok-split_into.ensures.leads)
