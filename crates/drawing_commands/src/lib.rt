@@ -20,4 +20,4 @@ mod whole_files;
 
 pub use program_shell::Status;
 pub use requests::{DrawingRequest, MAX_GAP, drawing_request};
-pub use running::{report_out_of_memory, run};
+pub use running::{name, run};

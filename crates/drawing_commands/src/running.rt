@@ -1,10 +1,7 @@
 ghost use Rattle.drawing_commands.specs.Commands.{drawing_usage_text, stitch_drawing};
 ghost use Rattle.drawing_commands.specs.Requests.{drawing_order_of};
-ghost use Rattle.program_shell.specs.Messages.{out_of_memory_line};
-ghost use Rattle.program_shell.specs.Puts.{ReportsLineWithStatus};
 ghost use Rattle.program_shell.specs.RunViews.{views_of};
 ghost use Rattle.program_shell.specs.Runs.{RunEnds};
-ghost use Rattle.program_shell.specs.declared.status.Status.TheVariants as status;
 ghost use Rattle.std.specs.Prelude.{◌≡◌, codes, map, string_bytes};
 
 use crate::commands::make_product;
@@ -30,16 +27,8 @@ pub fn run<S: Store, O: Sink, E: Sink>(
     finish(name(), usage(), made, store, out, err)
 }
 
-/// Reports out of memory on `err`, for a run that has not begun.
-pub fn report_out_of_memory<E: Sink>(err: &mut E) -> Status
-    ensures { ReportsLineWithStatus (out_of_memory_line (codes "stitch_drawing")) status.Memory
-        (E.view err.old) (E.view err.new) result }
-{
-    program_shell::report_out_of_memory(err, name())
-}
-
 /// Returns the name of the program, with which each line on the standard error begins.
-fn name() -> &'static [u8]
+pub fn name() -> &'static [u8]
     ensures { result.now ≡ codes "stitch_drawing" }
 {
     b"stitch_drawing"

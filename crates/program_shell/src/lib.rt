@@ -11,6 +11,7 @@ mod messages;
 mod product;
 mod putting;
 mod reading;
+mod starting;
 mod status;
 
 pub use failure::{Failure, Step, refused};
@@ -20,4 +21,5 @@ pub use format_indexes::{Found, format_at, load_at, load_found};
 pub use messages::report_out_of_memory;
 pub use product::{Made, Output, Product, bytes_of, one_output, only_report, two_outputs};
 pub use reading::read_input;
+pub use starting::start;
 pub use status::Status;
