@@ -29,8 +29,7 @@ refused_at number false said edits why is =
 refused_first : (number : ℕ) (first : Option DrawingEdit) (later : Option (List DrawingEdit)) (d : DrawingValue) (why : EditFault)
     → IsSome (with_first_edit first later)
     → IfSome first (λ one. IsSpecified {A = DrawingValue} edit_is_out_of_memory (edited_drawing one d) (Err why))
-    → IsSpecified bad_edit_is_out_of_memory (edits_applied number (unwrap_or (with_first_edit first later) []) d)
-    (Err (bad_at number why))
+    → IsSpecified bad_edit_is_out_of_memory (edits_applied number (unwrap_or (with_first_edit first later) []) d) (Err (bad_at number why))
 refused_first number (Some one) (Some edits) d why some is =
     refused_at number (edit_is_out_of_memory why) (edited_drawing one d) edits why is
 refused_first number (Some one) None d why some is = absurd (let no : ⊥ = cc in no)
@@ -49,8 +48,7 @@ next_parsed start number words left word more first now goes is = first_parsed (
 
 pub edits_go_on : (start number : ℕ) (words left : List (List ℕ)) (word : List ℕ) (more : List (List ℕ)) (first now next : DrawingValue)
     → EditsGoOn start number words left first now → left ≡ word ∷ more
-    → IfSome (parsed_drawing_edit word) (λ one. edited_drawing one now ≡ Ok next)
-    → EditsGoOn start (number + 1) words more first next
+    → IfSome (parsed_drawing_edit word) (λ one. edited_drawing one now ≡ Ok next) → EditsGoOn start (number + 1) words more first next
 edits_go_on start number words left word more first now next goes is applied =
     let on = subst (λ (ws : List (List ℕ)). EditsGoOn start number words ws first now) is goes in
     record {
@@ -80,6 +78,5 @@ edits_from word more d next r some is rest =
 pub first_refused : (word : List ℕ) (more : List (List ℕ)) (d : DrawingValue) (why : EditFault)
     → IsSome (parsed_drawing_edits (word ∷ more))
     → IfSome (parsed_drawing_edit word) (λ one. IsSpecified {A = DrawingValue} edit_is_out_of_memory (edited_drawing one d) (Err why))
-    → IsSpecified bad_edit_is_out_of_memory (edits_applied 1 (drawing_edits_of (word ∷ more)) d)
-    (Err (record { number = 1; fault = why }))
+    → IsSpecified bad_edit_is_out_of_memory (edits_applied 1 (drawing_edits_of (word ∷ more)) d) (Err (record { number = 1; fault = why }))
 first_refused word more d why some is = refused_first 1 (parsed_drawing_edit word) (parsed_drawing_edits more) d why some is

@@ -95,8 +95,7 @@ last_is [] d some = absurd (omega arith)
 last_is (p ∷ rest) d some = grind (arith, nat_tests, last_point_or-get_or p rest d)
 
 -- the needle points of segments are as many as their steps
-segment_count : (step : ℕ) (p : Point) (points : List Point)
-    → length (segment_points step p points) ≡ segment_steps step p points
+segment_count : (step : ℕ) (p : Point) (points : List Point) → length (segment_points step p points) ≡ segment_steps step p points
 segment_count step p [] = refl
 segment_count step p (q ∷ rest) =
     let n : ℕ = steps_of p q step in
@@ -109,8 +108,7 @@ segment_count step p (q ∷ rest) =
     )
 
 -- those of a line are one more
-pub needle_count : (step : ℕ) (points : List Point) → 1 ≤ length points
-    → length (needle_points step points) ≡ steps_of_line step points + 1
+pub needle_count : (step : ℕ) (points : List Point) → 1 ≤ length points → length (needle_points step points) ≡ steps_of_line step points + 1
 needle_count step [] some = omega arith
 needle_count step (p ∷ rest) some = omega (arith, segment_count step p rest)
 

@@ -74,9 +74,8 @@ put_rises block (part ∷ parts) rest same above rises =
     )
 
 -- sections rise where the lines do
-rises_flat : (of_line : LineValue → List LineValue)
-    → ((line : LineValue) → All (λ (l : LineValue). l.block ≡ line.block) (of_line line)) → (lines : List LineValue) → Rises lines
-    → Rises (flat_map of_line lines)
+rises_flat : (of_line : LineValue → List LineValue) → ((line : LineValue) → All (λ (l : LineValue). l.block ≡ line.block) (of_line line))
+    → (lines : List LineValue) → Rises lines → Rises (flat_map of_line lines)
 rises_flat of_line each [] rises = tt
 rises_flat of_line each (line ∷ rest) rises =
     let above : All (λ (l : LineValue). line.block ≤ l.block) (flat_map of_line rest) =
@@ -140,10 +139,9 @@ pub joined_stay : WholeLinesStay → JoinedDrawingsStay
 joined_stay stay d keeps joined = grind (arith, nat_tests, joined_same stay d.lines keeps.lines joined)
 
 -- so all is kept
-pub all_kept : SectionsKeepSegments → SectionsHaveSegments → WholeLinesStay → (d : DrawingValue)
-    (lines sections slice : List LineValue) → KeepsDrawingLimits d → HasValidEnds d → lines ≡ d.lines
-    → sections ≡ all_sections lines → slice ≡ sections → length sections ≤ 1024 → nat_lt 65536 (point_count slice) ≡ false
-    → IsValidDrawing (record d { lines = sections })
+pub all_kept : SectionsKeepSegments → SectionsHaveSegments → WholeLinesStay → (d : DrawingValue) (lines sections slice : List LineValue)
+    → KeepsDrawingLimits d → HasValidEnds d → lines ≡ d.lines → sections ≡ all_sections lines → slice ≡ sections → length sections ≤ 1024
+    → nat_lt 65536 (point_count slice) ≡ false → IsValidDrawing (record d { lines = sections })
 all_kept keep have stay d lines sections slice keeps ends same are slice_is few short = record {
   limits = grind (arith, nat_tests, keeps_joined);
   ends = grind (arith, nat_tests, joined_same);

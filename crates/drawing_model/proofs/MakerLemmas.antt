@@ -20,8 +20,7 @@ no_repeat (p ∷ rest) none = keeps_moving p rest none
 pub all_in_range : (points : List Point) → all_in_needle_range points ≡ true → All IsNeedlePoint points
 all_in_range points test = AllPass-from_list_all (is_point_within 30000) points test
 
-pub line_of : (points : List Point) → 2 ≤ length points → has_repeated_point points ≡ false → All IsNeedlePoint points
-    → IsLine points
+pub line_of : (points : List Point) → 2 ≤ length points → has_repeated_point points ≡ false → All IsNeedlePoint points → IsLine points
 line_of points long none in_range = record { long = long; moving = no_repeat points none; in_range = in_range }
 
 -- a byte of a label
@@ -59,8 +58,7 @@ pub label_set : (d : DrawingValue) (word : List ℕ) (empty : Bool) (points step
 label_set d word empty points steps made test = grind (arith, nat_tests, label_of word test)
 
 -- before any block there are no lines
-no_lines : (threads : List ℕ) (lines : List LineValue) → All (λ line. line.block < length threads) lines
-    → length threads ≡ 0 → lines ≡ []
+no_lines : (threads : List ℕ) (lines : List LineValue) → All (λ line. line.block < length threads) lines → length threads ≡ 0 → lines ≡ []
 no_lines threads [] there none = refl
 no_lines threads (line ∷ rest) there none = grind (arith, nat_tests, All-head (λ l. l.block < length threads) line rest there)
 
@@ -72,8 +70,7 @@ step_set d step empty points steps made low high none = grind (arith, nat_tests,
 -- a block that a line is found in has a line
 used_by : (found : Bool) (block : ℕ) (line : LineValue) (lines : List LineValue) → (line.block == block) ≡ found
     → (list_any (λ l. l.block == block) lines ≡ true → Contains (map (λ l. l.block) lines) block)
-    → list_any (λ l. l.block == block) (line ∷ lines) ≡ true
-    → Contains (map (λ l. l.block) (line ∷ lines)) block
+    → list_any (λ l. l.block == block) (line ∷ lines) ≡ true → Contains (map (λ l. l.block) (line ∷ lines)) block
 used_by true block line lines test later some = grind (arith, nat_tests)
 used_by false block line lines test later some =
     grind (arith, nat_tests, Contains-append_right (line.block ∷ []) (map (λ (l : LineValue). l.block) lines) block)
@@ -85,8 +82,7 @@ used_there block (line ∷ lines) some =
     used_by (line.block == block) block line lines refl (used_there block lines) some
 
 -- no line is in a block that isn't there
-unused : (block : ℕ) (lines : List LineValue) → All (λ line. line.block < block) lines
-    → list_any (λ l. l.block == block) lines ≡ false
+unused : (block : ℕ) (lines : List LineValue) → All (λ line. line.block < block) lines → list_any (λ l. l.block == block) lines ≡ false
 unused block lines there = list_any_none (λ (l : LineValue). l.block == block) lines
     (All-weaker (λ (l : LineValue). l.block < block) (λ (l : LineValue). (l.block == block) ≡ false)
     (λ (l : LineValue) (below : l.block < block). grind (arith, nat_tests)) lines there)
@@ -97,9 +93,8 @@ last_used : (d : DrawingValue) (block : ℕ) (used : Bool) → length d.threads 
 last_used d block true count is filled = refl
 last_used d block false count is filled = grind (arith, nat_tests, last_by d block false count is)
 
-used_at : (d : DrawingValue) (block : ℕ) (last : Bool) → AreBlocks d.threads d.lines → is_last_empty d ≡ false
-    → block < length d.threads → (block + 1 == length d.threads) ≡ last
-    → Contains (map (λ line. line.block) d.lines) block
+used_at : (d : DrawingValue) (block : ℕ) (last : Bool) → AreBlocks d.threads d.lines → is_last_empty d ≡ false → block < length d.threads
+    → (block + 1 == length d.threads) ≡ last → Contains (map (λ line. line.block) d.lines) block
 used_at d block true blocks filled there test =
     used_there block d.lines
     (last_used d block (is_used d block) (grind (arith, nat_tests, test)) refl filled)
@@ -134,8 +129,7 @@ block_put d thread points steps made fits few =
     }
 
 -- a line at the end is in its block
-found_last : (lines : List LineValue) (line : LineValue)
-    → list_any (λ l. l.block == line.block) (lines ++ line ∷ []) ≡ true
+found_last : (lines : List LineValue) (line : LineValue) → list_any (λ l. l.block == line.block) (lines ++ line ∷ []) ≡ true
 found_last lines line =
     let here : (line.block == line.block) ≡ true = eq-eqb line.block line.block refl in
     list_any-append (λ (l : LineValue). l.block == line.block) lines (line ∷ [])
@@ -180,8 +174,7 @@ may_come d points steps in_range is =
     }
 
 -- with one line more
-pub line_put : (d : DrawingValue) (line : List Point) (empty : Bool) (points steps more : ℕ)
-    → IsMakerState d empty points steps
+pub line_put : (d : DrawingValue) (line : List Point) (empty : Bool) (points steps more : ℕ) → IsMakerState d empty points steps
     → 1 ≤ length d.threads → MayCome d line more → IsMakerState (with_new_line d line) false (points + length line) more
 line_put d points empty count steps more made some comes =
     let line : LineValue = record { block = length d.threads - 1; points = points } in

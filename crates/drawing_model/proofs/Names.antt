@@ -1,7 +1,7 @@
 -- Names from elsewhere that several files of these proofs use.
 pub use Rattle.std.proofs.lemmas.Bool.{and_parts, eqb-false, false_from_ne_true, or_from, or_parts, or_right}
 pub use Rattle.std.proofs.lemmas.Bool.Decides.{nat_tests}
-pub use Rattle.std.proofs.lemmas.List.{append-nil, append_assoc, get_or-map, length-map, map-append}
+pub use Rattle.std.proofs.lemmas.List.{append-nil, append_assoc, drop_more, get_or-map, length-map, map-append}
 pub use Rattle.std.proofs.lemmas.List.Concat.{flat_map-append, flat_map-cons}
 pub use Rattle.std.proofs.lemmas.List.Elements.{All-append, All-cons, All-get_or, All-head, All-map, All-nil, All-push, All-tail}
 pub use Rattle.std.proofs.lemmas.List.Elements.{All-weaker, Contains-append_cases, Contains-append_left, Contains-append_right}

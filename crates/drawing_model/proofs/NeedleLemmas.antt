@@ -25,9 +25,8 @@ some_same : {p q : Point} → Some p ≡ Some q → p ≡ q
 some_same is = cc
 
 -- the ends of a segment's steps bring the points to the segment's end
-pub segment_comes : (step : ℕ) (first : Option Point) (before next : Point) (points ends : List Point)
-    → ComesTo step first before points → LeadsBySteps before next step ends
-    → ComesTo step first next (points ++ ends)
+pub segment_comes : (step : ℕ) (first : Option Point) (before next : Point) (points ends : List Point) → ComesTo step first before points
+    → LeadsBySteps before next step ends → ComesTo step first next (points ++ ends)
 segment_comes step first before next [] ends comes leads = absurd (grind (arith, nat_tests, comes.last))
 segment_comes step first before next (p ∷ points) ends comes leads =
     let at : last_point_or p points ≡ before = some_same comes.last in
@@ -98,9 +97,8 @@ next_segment step line before next rest after needles sewn is =
     ((subst Moving is sewn.moving).0, All-head IsNeedlePoint next after (subst Able is sewn.rest_in_range))
 
 -- with no segment left the needle points are those of the line
-pub all_sewn : (step : ℕ) (line : List Point) (before : Point) (rest needles : List Point)
-    → IsSewn step line before rest needles → rest ≡ []
-    → (needles ≡ needle_points step line) × LeadAlong step line needles
+pub all_sewn : (step : ℕ) (line : List Point) (before : Point) (rest needles : List Point) → IsSewn step line before rest needles
+    → rest ≡ [] → (needles ≡ needle_points step line) × LeadAlong step line needles
 all_sewn step line before rest needles sewn is = grind (arith, nat_tests, append-nil needles)
 
 -- a line of a drawing costs no more than the entire drawing may
@@ -116,9 +114,8 @@ module _ (d : DrawingValue) (line : ℕ) (there : line < length d.lines) (keeps 
   few_points = grind (arith, nat_tests, get_or-le-sum_by (λ l. length l.points) d.lines line no_line there, points_are d line there keeps)
 
 -- what holds of a line's needle points
-pub needles_sound : (d : DrawingValue) (line : ℕ) (points : List Point) → line < length d.lines
-    → KeepsDrawingLimits d → points ≡ needles_of_line d line → LeadAlong d.step (points_of d line) points
-    → AreNeedlesOf d line points
+pub needles_sound : (d : DrawingValue) (line : ℕ) (points : List Point) → line < length d.lines → KeepsDrawingLimits d
+    → points ≡ needles_of_line d line → LeadAlong d.step (points_of d line) points → AreNeedlesOf d line points
 needles_sound d line points there keeps is along = record {
   count = omega (arith, cost_is d line there keeps, ap length is);
   few = omega (arith, cost_is d line there keeps, cost_few d line there keeps);
@@ -126,8 +123,7 @@ needles_sound d line points there keeps is along = record {
 }
 
 -- the needle points of a line lead along it, segment by segment
-segments_lead : SplitPointsLead → (step : ℕ) → 1 ≤ step
-    → (line : List Point) (before : Point) (rest needles : List Point)
+segments_lead : SplitPointsLead → (step : ℕ) → 1 ≤ step → (line : List Point) (before : Point) (rest needles : List Point)
     → IsSewn step line before rest needles → LeadAlong step line (needle_points step line)
 segments_lead lead step low line before [] needles sewn = grind (arith, nat_tests, all_sewn step line before [] needles sewn refl)
 segments_lead lead step low line before (next ∷ rest) needles sewn =
@@ -136,8 +132,7 @@ segments_lead lead step low line before (next ∷ rest) needles sewn =
     segments_lead lead step low line next rest (needles ++ ends)
     (segment_sewn step line before next (next ∷ rest) rest needles ends sewn refl refl leads)
 
-line_leads : SplitPointsLead → (step : ℕ) → 1 ≤ step → (line : List Point) → IsLine line
-    → LeadAlong step line (needle_points step line)
+line_leads : SplitPointsLead → (step : ℕ) → 1 ≤ step → (line : List Point) → IsLine line → LeadAlong step line (needle_points step line)
 line_leads lead step low [] able = absurd (omega (arith, able.long))
 line_leads lead step low (p ∷ rest) able =
     segments_lead lead step low (p ∷ rest) p rest (p ∷ []) (first_sewn step (p ∷ rest) p rest refl able)

@@ -47,8 +47,7 @@ sections_along keep all (line ∷ rest) =
     ∙ sym (flat_map-cons segments_along line rest))))
 
 -- and so they cost what the lines cost
-pub cost_kept : SectionsKeepSegments → (step : ℕ) (lines : List LineValue)
-    → step_count step (all_sections lines) ≡ step_count step lines
+pub cost_kept : SectionsKeepSegments → (step : ℕ) (lines : List LineValue) → step_count step (all_sections lines) ≡ step_count step lines
 cost_kept keep step lines =
     grind (arith, nat_tests, steps_of_lines step (all_sections lines), sections_along keep lines lines, steps_of_lines step lines)
 

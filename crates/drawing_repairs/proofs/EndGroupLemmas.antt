@@ -16,9 +16,8 @@ none_beyond gap b listed s (e ∷ rest) (first, more) beyond =
 
 -- Bounds around the widened ones are around the others, and the next end lies between them.
 pub widened_on : (c u : EndBounds) (e : Point) (rest left all : List Point)
-    → ((b : EndBounds) → AreAround b c.least c.greatest → AreBetween b left → AreBetween b all)
-    → left ≡ e ∷ rest → u ≡ widened_bounds c (grid_point e)
-    → (b : EndBounds) → AreAround b u.least u.greatest → AreBetween b rest → AreBetween b all
+    → ((b : EndBounds) → AreAround b c.least c.greatest → AreBetween b left → AreBetween b all) → left ≡ e ∷ rest
+    → u ≡ widened_bounds c (grid_point e) → (b : EndBounds) → AreAround b u.least u.greatest → AreBetween b rest → AreBetween b all
 widened_on c u e rest left all h1 h2 h3 b h4 h5 = grind (arith, nat_tests)
 
 -- the first of two, if there is one

@@ -48,18 +48,15 @@ or_true false = refl
 due_unlisted : (near has : Bool) → (near && not has) ≡ true → one_unless has ≡ 1
 due_unlisted near has h1 = grind (arith, nat_tests)
 
-listed_then : (e : Point) (listed : List Point) → is_same_point e e ≡ true
-    → one_unless (list_any (is_same_point e) (listed ++ e ∷ [])) ≡ 0
+listed_then : (e : Point) (listed : List Point) → is_same_point e e ≡ true → one_unless (list_any (is_same_point e) (listed ++ e ∷ [])) ≡ 0
 listed_then e listed same =
     ap (λ (b : Bool). one_unless b) (list_any-append (is_same_point e) listed (e ∷ [])
     ∙ ap (λ (b : Bool). list_any (is_same_point e) listed || (b || false)) same ∙ or_true (list_any (is_same_point e) listed))
 
 -- an end that is due is listed one step later, and wasn't before
-fewer_at : (near : Bool) (e x : Point) (listed rest : List Point) (other : Option Point)
-    → ((y : Point) → is_same_point y y ≡ true)
+fewer_at : (near : Bool) (e x : Point) (listed rest : List Point) (other : Option Point) → ((y : Point) → is_same_point y y ≡ true)
     → (other ≡ Some e → unlisted (listed ++ e ∷ []) rest + 1 ≤ unlisted listed rest) → (due : Bool)
-    → (near && not (list_any (is_same_point x) listed)) ≡ due
-    → (if due then Some x else other) ≡ Some e
+    → (near && not (list_any (is_same_point x) listed)) ≡ due → (if due then Some x else other) ≡ Some e
     → unlisted (listed ++ e ∷ []) (x ∷ rest) + 1 ≤ unlisted listed (x ∷ rest)
 fewer_at near e x listed rest other same later true is found =
     subst (λ (y : Point). unlisted (listed ++ y ∷ []) (x ∷ rest) + 1 ≤ unlisted listed (x ∷ rest)) (some_same x e found)
@@ -98,9 +95,8 @@ no_left : (left : List Point) (more : ℕ) → length left + more ≤ 0 → left
 no_left [] more few = refl
 no_left (p ∷ rest) more few = absurd (omega (arith, few))
 
-ends_by : (n gap : ℕ) (ends : List Point) (f : FollowedLine) (left : List Point) → f.left ≡ left
-    → ((y : Point) → is_same_point y y ≡ true) → steps_left ends f ≤ suc n
-    → ((g : FollowedLine) → steps_left ends g ≤ n → (followed_for n gap ends g).left ≡ [])
+ends_by : (n gap : ℕ) (ends : List Point) (f : FollowedLine) (left : List Point) → f.left ≡ left → ((y : Point) → is_same_point y y ≡ true)
+    → steps_left ends f ≤ suc n → ((g : FollowedLine) → steps_left ends g ≤ n → (followed_for n gap ends g).left ≡ [])
     → (followed_for n gap ends (followed_on gap ends f left)).left ≡ []
 ends_by n gap ends f [] is same few later = stays_ended n gap ends f is
 ends_by n gap ends f (b ∷ rest) is same few later =

@@ -37,8 +37,7 @@ for_same n gap ends = after_steps gap ends (λ f. HaveSamePoints f.listed (follo
     (λ f b rest due is left same. same_after f b rest due left same) n
 
 -- the same ends are due where a line lists the same points
-due_same : (gap : ℕ) (s : LineSegment) (xs ys ends : List Point) → HaveSamePoints xs ys
-    → due_end gap xs s ends ≡ due_end gap ys s ends
+due_same : (gap : ℕ) (s : LineSegment) (xs ys ends : List Point) → HaveSamePoints xs ys → due_end gap xs s ends ≡ due_end gap ys s ends
 due_same gap s xs ys ends h1 = grind (arith, nat_tests)
 
 -- no end is due from a point on

@@ -9,8 +9,7 @@ abbrev pub IsNearChoice : ℕ → Point → Option Point → Type 0
 IsNearChoice gap p None = Unit {0}
 IsNearChoice gap p (Some a) = distance_between p a ≤ gap
 
-near_if : (gap : ℕ) (p a : Point) (b : Bool) → nat_le (distance_between p a) gap ≡ b
-    → IsNearChoice gap p (if b then Some a else None)
+near_if : (gap : ℕ) (p a : Point) (b : Bool) → nat_le (distance_between p a) gap ≡ b → IsNearChoice gap p (if b then Some a else None)
 near_if gap p a true is = leb-true _ _ is
 near_if gap p a false is = tt
 
@@ -83,8 +82,7 @@ pub far_apart : (gap : ℕ) (points : List Point) → AreFarApart gap (anchors_o
 far_apart gap points = far_after gap [] points (none_pair gap)
 
 -- an anchor at the point itself stays the nearest
-keeps_best : (gap : ℕ) (p best : Point) (rest : List Point) → distance_between p best ≡ 0
-    → nearest_after gap p (Some best) rest ≡ Some best
+keeps_best : (gap : ℕ) (p best : Point) (rest : List Point) → distance_between p best ≡ 0 → nearest_after gap p (Some best) rest ≡ Some best
 keeps_best gap p best [] here = refl
 keeps_best gap p best (a ∷ rest) here =
     ap (λ (b : Point). nearest_after gap p (Some b) rest)

@@ -47,10 +47,9 @@ found_after P gap p best [] holds = holds
 found_after P gap p best (a ∷ rest) holds =
     found_after P gap p (if nat_lt (distance_between p a) (distance_between p best) then a else best) rest holds
 
-found_by : (P : Point → Type 0) (gap : ℕ) (p a : Point) (rest : List Point) (b : Bool)
-    → (b || list_any (is_within_gap gap p) rest) ≡ true
-    → (list_any (is_within_gap gap p) rest ≡ true → HoldsOfChoice P (nearest_after gap p None rest)
-    → HoldsOfFound P (nearest_after gap p None rest))
+found_by : (P : Point → Type 0) (gap : ℕ) (p a : Point) (rest : List Point) (b : Bool) → (b || list_any (is_within_gap gap p) rest) ≡ true
+    → (list_any (is_within_gap gap p) rest
+    ≡ true → HoldsOfChoice P (nearest_after gap p None rest) → HoldsOfFound P (nearest_after gap p None rest))
     → HoldsOfChoice P (nearest_after gap p (if b then Some a else None) rest)
     → HoldsOfFound P (nearest_after gap p (if b then Some a else None) rest)
 found_by P gap p a rest true any later holds = found_after P gap p a rest holds
@@ -102,8 +101,7 @@ anchors_only gap points i j d low other near =
     (λ is. ap (λ (k : ℕ). get_or (anchors_of gap points) k d) (sym is))
 
 -- anchors are the same or farther apart than the gap
-pub all_only : (gap : ℕ) (points : List Point)
-    → All (λ a. All (λ b. IsOnlyNear gap a b) (anchors_of gap points)) (anchors_of gap points)
+pub all_only : (gap : ℕ) (points : List Point) → All (λ a. All (λ b. IsOnlyNear gap a b) (anchors_of gap points)) (anchors_of gap points)
 all_only gap points i d low j e other =
     subst (λ (b : Point). IsOnlyNear gap (get_or (anchors_of gap points) i d) b)
     (one_default (anchors_of gap points) j d e other) (anchors_only gap points i j d low other)

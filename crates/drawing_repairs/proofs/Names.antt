@@ -2,6 +2,7 @@
 pub use Rattle.std.proofs.lemmas.Bool.{and_from, and_parts, leb-false, leb-true, ltb-true, or_from, or_left, or_parts, or_right}
 pub use Rattle.std.proofs.lemmas.Bool.Decides.{Decides-eqb, nat_tests}
 pub use Rattle.std.proofs.lemmas.Int.{ints}
+pub use Rattle.std.proofs.lemmas.List.{drop_more, length-append}
 pub use Rattle.std.proofs.lemmas.List.Elements.{All-append, All-cons, All-head, All-map, All-nil, All-push, All-tail, All-weaker}
 pub use Rattle.std.proofs.lemmas.List.Folds.{Any-from_list_any, list_all-append, list_all-map, list_any-append, list_any_at}
 pub use Rattle.std.specs.HashMap.{get}

@@ -10,8 +10,7 @@ use Rattle.drawing_repairs.proofs.SnappedLinesLemmas.{snapped_points_stay, one_h
 merged : (a b c : Bool) → b ≡ a → (a || (b || c)) ≡ true → (a || c) ≡ true
 merged a b c h1 h2 = grind (arith, nat_tests)
 
-kept_one : (x p q : Point) (rest : List Point) (b : Bool) → is_same_point p q ≡ b
-    → list_any (is_same_point x) (p ∷ q ∷ rest) ≡ true
+kept_one : (x p q : Point) (rest : List Point) (b : Bool) → is_same_point p q ≡ b → list_any (is_same_point x) (p ∷ q ∷ rest) ≡ true
     → (list_any (is_same_point x) (p ∷ rest) ≡ true → list_any (is_same_point x) (p ∷ unrepeated_after p rest) ≡ true)
     → (list_any (is_same_point x) (q ∷ rest) ≡ true → list_any (is_same_point x) (q ∷ unrepeated_after q rest) ≡ true)
     → list_any (is_same_point x) (p ∷ (if b then unrepeated_after p rest else q ∷ unrepeated_after q rest)) ≡ true

@@ -50,9 +50,8 @@ between : (at e b : Point) (rest : List Point) → repeats_after at (b ∷ rest)
     → is_same_point e b ≡ false → repeats_after at (e ∷ b ∷ rest) ≡ false
 between at e b rest h1 h2 h3 = grind (arith, nat_tests)
 
-between_after : (a : Point) (more : List Point) (at e b : Point) (rest : List Point)
-    → repeats_after a (more ++ at ∷ b ∷ rest) ≡ false → is_same_point at e ≡ false → is_same_point e b ≡ false
-    → repeats_after a (more ++ at ∷ e ∷ b ∷ rest) ≡ false
+between_after : (a : Point) (more : List Point) (at e b : Point) (rest : List Point) → repeats_after a (more ++ at ∷ b ∷ rest) ≡ false
+    → is_same_point at e ≡ false → is_same_point e b ≡ false → repeats_after a (more ++ at ∷ e ∷ b ∷ rest) ≡ false
 between_after a [] at e b rest none before after =
     let parts = or_parts (is_same_point a at) _ none in
     or_from (is_same_point a at) _ parts.0 (between at e b rest parts.1 before after)
@@ -66,8 +65,7 @@ none_between [] at e b rest none before after = between at e b rest none before 
 none_between (a ∷ more) at e b rest none before after = between_after a more at e b rest none before after
 
 -- an end that isn't listed differs from the two points between which it is put
-unlisted_between : (passed : List Point) (at e b : Point) (rest : List Point)
-    → list_any (is_same_point e) (passed ++ at ∷ b ∷ rest) ≡ false
+unlisted_between : (passed : List Point) (at e b : Point) (rest : List Point) → list_any (is_same_point e) (passed ++ at ∷ b ∷ rest) ≡ false
     → (is_same_point at e ≡ false) × (is_same_point e b ≡ false)
 unlisted_between passed at e b rest none =
     let split = or_parts (list_any (is_same_point e) passed) _
@@ -77,8 +75,7 @@ unlisted_between passed at e b rest none =
 
 by_none : (gap : ℕ) (ends : List Point) (f : FollowedLine) (b : Point) (rest : List Point) (due : Option Point)
     → due_end gap f.listed (segment_between f.at b) ends ≡ due → HaveSamePoints f.listed (f.passed ++ f.at ∷ b ∷ rest)
-    → has_repeated_point (f.passed ++ f.at ∷ b ∷ rest) ≡ false
-    → has_repeated_point (followed_points (followed_by f b rest due)) ≡ false
+    → has_repeated_point (f.passed ++ f.at ∷ b ∷ rest) ≡ false → has_repeated_point (followed_points (followed_by f b rest due)) ≡ false
 by_none gap ends f b rest None is same none =
     ap (λ (points : List Point). has_repeated_point points) (joined_again f.passed f.at (b ∷ rest)) ∙ none
 by_none gap ends f b rest (Some e) is same none =

@@ -56,8 +56,7 @@ first_holds P p (section ∷ rest) one all =
     let Holds : List Point → Type 0 = λ s. All P s in
     All-cons Holds (p ∷ section) rest (All-cons P p section one (All-head Holds section rest all)) (All-tail Holds section rest all)
 
-cut_holds : (P : Point → Type 0) (cut : Bool) (p q : Point) (behind : List (List Point)) → P p → P q
-    → All (λ section. All P section) behind
+cut_holds : (P : Point → Type 0) (cut : Bool) (p q : Point) (behind : List (List Point)) → P p → P q → All (λ section. All P section) behind
     → All (λ section. All P section) (if cut then (p ∷ q ∷ []) ∷ behind else sections_with_first p behind)
 cut_holds P true p q behind one two all =
     All-cons (λ (s : List Point). All P s) (p ∷ q ∷ []) behind (All-cons P p (q ∷ []) one (All-cons P q [] two (All-nil P))) all
@@ -171,8 +170,7 @@ snap_by gap d starts ends moved drawn joined h1 h2 h3 = cc
 
 -- the second snap of lines that were drawn in the order of their blocks
 second_snap : LinesInOrderAreDrawn → (gap : ℕ) (d : DrawingValue) (starts ends : List Spot) (moved : List LineValue)
-    → (drawn joined : DrawingValue)
-    → KeepsDrawingLimits d → kept_lines gap d.lines ≡ Ok moved
+    → (drawn joined : DrawingValue) → KeepsDrawingLimits d → kept_lines gap d.lines ≡ Ok moved
     → drawn_lines (record d { lines = listed_lines gap moved }) ≡ Ok drawn
     → joined_snap drawn (anchored_spots gap d.lines starts) (anchored_spots gap d.lines ends) ≡ Ok joined
     → snap_of gap drawn joined.starts joined.ends ≡ Ok (record { drawn = drawn; joined = joined; moved = []; listed = [] })

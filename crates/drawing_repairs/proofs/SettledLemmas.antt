@@ -7,8 +7,7 @@ not_due : (near has more : Bool) → (near && not has) ≡ false → (near && no
 not_due near has more h1 = grind (arith, nat_tests)
 
 none_by : (gap : ℕ) (s : LineSegment) (e x : Point) (listed rest : List Point) (later : Option Point) (due : Bool)
-    → is_due gap listed s x ≡ due → (if due then Some x else later) ≡ None
-    → (is_due gap (listed ++ e ∷ []) s x ≡ false) × (later ≡ None)
+    → is_due gap listed s x ≡ due → (if due then Some x else later) ≡ None → (is_due gap (listed ++ e ∷ []) s x ≡ false) × (later ≡ None)
 none_by gap s e x listed rest later true is none = cc
 none_by gap s e x listed rest later false is none = (
   subst (λ (has : Bool). (is_near gap (grid_point x) s && not has) ≡ false) (sym (list_any-append (is_same_point x) listed (e ∷ [])))

@@ -1,8 +1,7 @@
 -- Snapped lines stay as they are when they are snapped again.
 use Rattle.std.proofs.Common.{◌≡◌, ℕ, zero, suc, ◌+◌, ◌≤◌, ◌==◌, Bool, true, false, not, ◌||◌, nat_lt, List, [], ◌∷◌, ◌++◌, length, get_or, map, filter, Option, Some, None, Ok, if◌then◌else◌, refl, ap, sym, subst, ◌∙◌, arith}
-use Rattle.std.proofs.lemmas.List.{length-append}
 use Rattle.std.specs.List.{All}
-use Rattle.drawing_repairs.proofs.Names.{Decides-eqb, nat_tests, list_all-append, flat_map, list_all, list_any, Point, is_same_point, LineValue, listed_in, and_then, has_repeated_point, VanishedLine, anchored, anchors_of, FollowedLine, added_ends, block_ends, due_ends, followed_by, followed_points, listed_line, listed_lines, steps_to_follow, unfollowed_line, with_due_ends, block_anchors, changed_in, moved_line, moved_lines, vanished_from, snapped_lines, unless_vanished, point_itself, same_is, first_true, second_true, list_any_at, HasNoRepeat}
+use Rattle.drawing_repairs.proofs.Names.{Decides-eqb, nat_tests, list_all-append, flat_map, list_all, list_any, Point, is_same_point, LineValue, listed_in, and_then, has_repeated_point, VanishedLine, anchored, anchors_of, FollowedLine, added_ends, block_ends, due_ends, followed_by, followed_points, listed_line, listed_lines, steps_to_follow, unfollowed_line, with_due_ends, block_anchors, changed_in, moved_line, moved_lines, vanished_from, snapped_lines, unless_vanished, point_itself, same_is, first_true, second_true, list_any_at, HasNoRepeat, length-append}
 use Rattle.drawing_repairs.specs.MovedLines.{moved_points}
 use Rattle.drawing_repairs.proofs.BlockPointLemmas.{all_pass, block_ends_pass, each_passes, listed_block_passes, moved_block_passes}
 use Rattle.drawing_repairs.proofs.ListedLinesLemmas.{all_listed_once, same_block_ends}
@@ -226,8 +225,7 @@ none_changed gap all (line ∷ rest) stay =
     (none_of (stays_in gap all line.block) line.points (first_stays gap all line rest stay))
     ∙ none_changed gap all rest (rest_stays gap all line rest stay)
 
-no_end_added : (gap : ℕ) (among lines : List LineValue)
-    → added_ends gap (listed_lines gap among) (map (listed_line gap among) lines) ≡ []
+no_end_added : (gap : ℕ) (among lines : List LineValue) → added_ends gap (listed_lines gap among) (map (listed_line gap among) lines) ≡ []
 no_end_added gap among [] = refl
 no_end_added gap among (line ∷ rest) =
     ap (λ (first : List Point). first ++ added_ends gap (listed_lines gap among) (map (listed_line gap among) rest))

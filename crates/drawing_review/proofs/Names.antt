@@ -1,6 +1,7 @@
 -- Names from elsewhere that several files of these proofs use.
 pub use Rattle.std.proofs.lemmas.Bool.{and_left, lt-ltb, ltb-true, not_from_true, or_from}
 pub use Rattle.std.specs.List.{flat_map, list_any}
+pub use Rattle.std.specs.Slice.Iter.{chunks_rest}
 pub use Rattle.design_model.specs.declared.point.Point.{Point}
 pub use Rattle.drawing_review.specs.Frames.{IsInside, are_apart, frame_around, frame_between, grid_coordinate, grid_point, united_frame}
 pub use Rattle.drawing_review.specs.Groups.{AreInside}

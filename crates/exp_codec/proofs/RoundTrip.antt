@@ -1,12 +1,12 @@
 -- What is written reads back.
 use Rattle.std.proofs.Common.{◌≡◌, ℕ, ◌+◌, ◌≤◌, ◌≢◌, ℤ, pos, negsuc, neg_ℤ, unsigned_abs, true, IsTrue, IsOkAnd, List, [], ◌∷◌, ◌++◌, None, refl, ap, sym, ◌∙◌, subst, arith}
+use Rattle.exp_codec.proofs.Names.{nat_tests, Point, DesignValue, is_point_within, origin, Loaded, loaded_with, next, LIMIT, exp_meaning, exp_move_of, units_from, exp_write_limits, exp_file_of, append-nil, acts_of, KeepsLimits, first_refusal, signed_byte, byte_of_number, bytes_of_move, exp_encoding}
 use Rattle.record_formats.specs.declared.event.Event.TheVariants as event
 use Rattle.format_traits.specs.Laws.{HasSameActs, IsCodec}
 use Rattle.record_formats.specs.RoundTrip.{EncodedEvents, DecodesEncoding, DecodeToActs, EncodedActsRoundTrip}
 use Rattle.exp_codec.proofs.UnitLemmas.{reads_units, two_at}
 use Rattle.design_model.proofs.CallerLemmas.{point_of_parts}
 use Rattle.lists_and_numbers.proofs.CallerLemmas.{neg-neg}
-use Rattle.exp_codec.proofs.Names.{nat_tests, Point, DesignValue, is_point_within, origin, Loaded, loaded_with, next, LIMIT, exp_meaning, exp_move_of, units_from, exp_write_limits, exp_file_of, append-nil, acts_of, KeepsLimits, first_refusal, signed_byte, byte_of_number, bytes_of_move, exp_encoding}
 
 -- a number is decoded as it was encoded, and no encoded number is 80
 signed_byte-byte_of_number : (z : ℤ) → unsigned_abs z ≤ LIMIT → (signed_byte (byte_of_number z) ≡ z) × (byte_of_number z ≢ 0x80)

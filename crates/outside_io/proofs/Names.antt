@@ -14,7 +14,7 @@ pub use Rattle.outside_io.specs.FileParts.{IsContentPrefix, IsFilePrefix, IsNext
 pub use Rattle.outside_io.specs.Files.{AppendsToFile, ChangesOnlyFile, FileHolds, Files, IsFileName, LacksFile, WhereVisible, is_file_name}
 pub use Rattle.outside_io.specs.MemEntries.{EntryValue, entry_in, exceeds_room, file_in, room_in, with_bytes_appended, with_content}
 pub use Rattle.outside_io.specs.MemEntries.{with_entry, with_file, with_room}
-pub use Rattle.outside_io.specs.MemSinks.{MemPuts, MemSinkValue, empty_sink, put_failure_added, put_fails}
+pub use Rattle.outside_io.specs.MemSinks.{MemPuts, MemSinkValue, empty_sink, put_fails, put_failure_added}
 pub use Rattle.outside_io.specs.MemStores.{MemAppends, MemCreates, MemReads, MemStoreValue, after_fault, empty_store, failure_added}
 pub use Rattle.outside_io.specs.MemStores.{is_next_call_listed}
 pub use Rattle.outside_io.specs.Streams.{AddsPrefix, StreamPuts, StreamValue}

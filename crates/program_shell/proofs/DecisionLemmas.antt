@@ -19,8 +19,7 @@ not_longer (Some files) name bytes told holds short longer = less (files name) (
         in omega (arith, count, more, short)
 
 -- a file that is too long is there
-longer_is_there : (files : Option Files) (name : List ℕ) → IsInputTooLong files name
-    → LacksFile files name → ⊥
+longer_is_there : (files : Option Files) (name : List ℕ) → IsInputTooLong files name → LacksFile files name → ⊥
 longer_is_there None name longer lacks = cc (lacks.visible)
 longer_is_there (Some files) name longer lacks = none (files name) (lacks.missing files refl) (longer files refl)
   where

@@ -68,8 +68,7 @@ pub record WritesOn (outputs left : List OutputValue) (before now : StoreView) :
 
 pub writes_on : (outputs left : List OutputValue) (o : OutputValue) (rest : List OutputValue) (before now next : StoreView)
     → WritesOn outputs left before now → left ≡ o ∷ rest → FileHolds next.files o.name o.content
-    → ChangesOnlyFile now.files next.files o.name → HasNoNewFault now next
-    → WritesOn outputs rest before next
+    → ChangesOnlyFile now.files next.files o.name → HasNoNewFault now next → WritesOn outputs rest before next
 writes_on outputs left o rest before now next writes is holds changes stays =
     step (subst (λ (ws : List OutputValue). WritesOn outputs ws before now) is writes)
   where

@@ -73,8 +73,7 @@ puts_broke whole left piece rest before now next on is broke =
     on.err next (subst (λ (xs : List ℕ). PutFailed now next xs) (sym is) (broke-more now next piece rest broke))
 
 -- a piece is gathered, and then what is left is
-pub gathers_on : (whole left piece rest line next_line first : List ℕ) (before now next : SinkView)
-    → PutsOn whole (line ++ left) before now
+pub gathers_on : (whole left piece rest line next_line first : List ℕ) (before now next : SinkView) → PutsOn whole (line ++ left) before now
     → left ≡ piece ++ rest → first ++ next_line ≡ line ++ piece → next ≡ with_bytes_put now first
     → PutsOn whole (next_line ++ rest) before next
 gathers_on whole left piece rest line next_line first before now next on is parts taken =

@@ -15,8 +15,7 @@ not_value : (r : Result DesignValue ChangeFault) (a : DesignValue) (why : Change
 not_value r a why one other = cc
 
 -- a change makes one design
-becomes_once : (limit : ℕ) (change : Change) (d a b : DesignValue) → Becomes limit change d (Ok a) → Becomes limit change d (Ok b)
-    → a ≡ b
+becomes_once : (limit : ℕ) (change : Change) (d a b : DesignValue) → Becomes limit change d (Ok a) → Becomes limit change d (Ok b) → a ≡ b
 becomes_once limit split d a b (short, one) (shorter, other) = one ∙ sym other
 becomes_once limit cut d a b (short, one) (shorter, other) = one ∙ sym other
 becomes_once limit (shift dx dy) d a b one other = same_value _ a b one other

@@ -13,8 +13,7 @@ use Rattle.stitch_trace.specs.declared.trace_fault.TraceFault.{TraceFault}
 use Rattle.stitch_cli.proofs.ChangeLemmas.{rewritten_not_both}
 
 -- a verdict is not both yes and no: there is one list of the pieces
-not_proved : PiecesAreUnique → (d : DrawingValue) (design : DesignValue) (certs : List PieceCert) (product : ProductValue)
-    (why : List ℕ)
+not_proved : PiecesAreUnique → (d : DrawingValue) (design : DesignValue) (certs : List PieceCert) (product : ProductValue) (why : List ℕ)
     → IsCheckPassed d design certs product → IsCheckFailed d design certs why → ⊥
 not_proved one d design certs product why proved check_failed =
     let yes = proved.verdict.is in

@@ -41,9 +41,8 @@ settles_written order loaded d limit result at becomes settles = record {
 }
 
 -- a design was not changed
-unchanged_of : (order : RewriteOrder) (loaded : Loaded) (fault : ChangeFailure) (store : StoreView)
-    (why : Failure) → IsChangesResult order.target.limit order.changes loaded.design (Err fault)
-    → IsChangeFailure order.input order.output fault why
+unchanged_of : (order : RewriteOrder) (loaded : Loaded) (fault : ChangeFailure) (store : StoreView) (why : Failure)
+    → IsChangesResult order.target.limit order.changes loaded.design (Err fault) → IsChangeFailure order.input order.output fault why
     → IsPlanResult (satisfies (IsRewriteResult order loaded)) store store (Err why)
 unchanged_of order loaded change_failure.Memory store why becomes is =
     subst (λ (w : Failure). IsPlanResult (satisfies (IsRewriteResult order loaded)) store store (Err w)) (sym is) refl
@@ -54,10 +53,9 @@ unchanged_of order loaded (change_failure.Refused fault) store (failure.Refused 
     (not_changed fault is becomes, refl)
 unchanged_of order loaded (change_failure.Refused fault) store failure.Memory becomes is = refl
 
-pub settles_unchanged : (order : RewriteOrder) (loaded : Loaded) (fault : ChangeFailure)
-    (limit : ℕ) (why : Failure) → limit ≡ order.target.limit → IsChangesResult limit order.changes loaded.design (Err fault)
-    → IsChangeFailure order.input order.output fault why
-    → RunsPurePlan (satisfies (IsRewriteResult order loaded)) (Err why)
+pub settles_unchanged : (order : RewriteOrder) (loaded : Loaded) (fault : ChangeFailure) (limit : ℕ) (why : Failure)
+    → limit ≡ order.target.limit → IsChangesResult limit order.changes loaded.design (Err fault)
+    → IsChangeFailure order.input order.output fault why → RunsPurePlan (satisfies (IsRewriteResult order loaded)) (Err why)
 settles_unchanged order loaded fault limit why at becomes is = record {
   at = λ store. unchanged_of order loaded fault store why
       (subst (λ (n : ℕ). IsChangesResult n order.changes loaded.design (Err fault)) at becomes) is;

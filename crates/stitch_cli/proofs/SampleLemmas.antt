@@ -73,9 +73,8 @@ summary_is number d pieces certs cut best =
 -- The product of a sample is the canonical text of its drawing and the summary.
 pub sample_makes : (order : SampleOrder) (d : DrawingValue) (pieces : List Piece) (routed : Routed) (s : Summary) (text report : List ℕ)
     (product : ProductValue) → ArePiecesOf d pieces → IsRouteOver d (lines_of_pieces pieces) routed
-    → s ≡ sample_summary order.number (length d.lines) pieces (reports_from 1 pieces routed.cert.pieces)
-    → text ≡ canonical_text d → report ≡ summary_text s → product ≡ one_file_product order.drawing text report
-    → IsSampleProduct order d product
+    → s ≡ sample_summary order.number (length d.lines) pieces (reports_from 1 pieces routed.cert.pieces) → text ≡ canonical_text d
+    → report ≡ summary_text s → product ≡ one_file_product order.drawing text report → IsSampleProduct order d product
 sample_makes order d pieces routed s text report product cut route told spelled reported made = record {
   pieces = lines_of_pieces pieces;
   certs = routed.cert.pieces;

@@ -48,8 +48,7 @@ walks_count : (way : Sewing) (d : DrawingValue) (lines : List (List ℕ)) (certs
 walks_count way d [] [] each = refl
 walks_count way d [] (cert ∷ certs) each = absurd each
 walks_count way d (one ∷ lines) [] each = absurd each
-walks_count way d (one ∷ lines) (cert ∷ certs) each =
-    let later = walks_count way d lines certs each.1 in omega (arith, later)
+walks_count way d (one ∷ lines) (cert ∷ certs) each = omega (arith, walks_count way d lines certs each.1)
 
 -- There are few pieces.
 pub pieces_few : (way : Sewing) (d : DrawingValue) (pieces slice : List Piece) (routed : Routed) → slice ≡ pieces
@@ -80,36 +79,30 @@ piece_penetrations ways.Double d lines cert doubled = omega (arith, doubled.pene
 -- as often as the needle goes down in the pieces, it goes down along their walks
 penetrations_are : (way : Sewing) (d : DrawingValue) (number : ℕ) (pieces : List (List ℕ)) (certs : List PieceCert)
     → AllZip (IsPieceSewn way d) pieces certs
-    → sum_by penetrations_of (piece_reports d number pieces certs)
-    ≡ sum_by (λ (run : Run). length run.needles) (runs_of d (walks_of certs))
+    → sum_by penetrations_of (piece_reports d number pieces certs) ≡ sum_by (λ (run : Run). length run.needles) (runs_of d (walks_of certs))
 penetrations_are way d number [] [] each = refl
 penetrations_are way d number [] (cert ∷ certs) each = absurd each
 penetrations_are way d number (lines ∷ pieces) [] each = absurd each
 penetrations_are way d number (lines ∷ pieces) (cert ∷ certs) each =
-    let later = penetrations_are way d (number + 1) pieces certs each.1 in
     let here = sum_by-cons penetrations_of (piece_report (piece_graph d lines) number cert) (piece_reports d (number + 1) pieces certs) in
     let there = sum_by-cons (λ (run : Run). length run.needles)
     (record { block = block_of_passes d cert.walk; needles = needles_of_walk d cert.walk }) (runs_of d (walks_of certs)) in
-    let one = piece_penetrations way d lines cert each.0 in
-    omega (arith, later, here, there, one)
+    omega (arith, penetrations_are way d (number + 1) pieces certs each.1, here, there, piece_penetrations way d lines cert each.0)
 
 -- and not too often for the report
 pub penetrations_few : (way : Sewing) (d : DrawingValue) (pieces : List Piece) (routed : Routed) → ArePiecesOf d pieces
-    → IsSewnOver way d (lines_of_pieces pieces) routed
-    → sum_by penetrations_of (reports_from 1 pieces routed.cert.pieces) < 2 ^ 32
+    → IsSewnOver way d (lines_of_pieces pieces) routed → sum_by penetrations_of (reports_from 1 pieces routed.cert.pieces) < 2 ^ 32
 penetrations_few way d pieces routed cut over =
     let same : sum_by penetrations_of (reports_from 1 pieces routed.cert.pieces)
     ≡ sum_by penetrations_of (piece_reports d 1 (lines_of_pieces pieces) routed.cert.pieces)
     = ap (sum_by penetrations_of) (reports_are d 1 pieces routed.cert.pieces cut.each) in
-    let count = penetrations_are way d 1 (lines_of_pieces pieces) routed.cert.pieces over.each in
-    omega (arith, same, count, over.writable.needles_to)
+    omega (arith, same, penetrations_are way d 1 (lines_of_pieces pieces) routed.cert.pieces over.each, over.writable.needles_to)
 
 -- Sewing makes the certificate, the design and the report.
 pub sewing_makes : (way : Sewing) (order : SewingOrder) (d : DrawingValue) (pieces : List Piece) (routed : Routed)
     (design cert report : List ℕ) (product : ProductValue) → ArePiecesOf d pieces → IsSewnOver way d (lines_of_pieces pieces) routed
     → IsSewnFile order.format d (walks_of routed.cert.pieces) design → cert ≡ certificate_text routed.cert.pieces
-    → cert_of cert ≡ Ok routed.cert.pieces
-    → report ≡ sewing_report way (reports_from 1 pieces routed.cert.pieces)
+    → cert_of cert ≡ Ok routed.cert.pieces → report ≡ sewing_report way (reports_from 1 pieces routed.cert.pieces)
     → product ≡ two_file_product (record { name = order.cert; content = cert }) (record { name = order.out; content = design }) report
     → IsSewnProduct (IsSewnBy way) order d product
 sewing_makes way order d pieces routed design cert report product cut over sewn certified again reported made = record {

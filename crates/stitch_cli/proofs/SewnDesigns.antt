@@ -24,8 +24,7 @@ quotient_few limit size least few =
     let is : (size + (limit - 1)) / limit < 497 = (div-lt_iff_lt-mul some).1 less in
     omega (arith, is)
 
-hops_few : (limit : ℕ) (p q : Point) → 121 ≤ limit → IsNeedlePoint p → IsNeedlePoint q
-    → hops_of limit (move_between p q) ≤ 496
+hops_few : (limit : ℕ) (p q : Point) → 121 ≤ limit → IsNeedlePoint p → IsNeedlePoint q → hops_of limit (move_between p q) ≤ 496
 hops_few limit p q least one other = quotient_few limit (move_size (move_between p q)) least (size_few p q one other)
 
 by_test : (b : Bool) (jumps : ℕ) → (if b then jumps + 1 else jumps + 2) ≤ jumps + 2
@@ -91,9 +90,8 @@ stitches_go step limit place (p ∷ points) rest stops room more in_range close 
     }
 
 -- The first stitch of a walk takes at most 498 commands, since the thread is loose.
-walk_goes : (step limit : ℕ) (points : List Point) (rest : List Command) (stops room : ℕ) → 121 ≤ limit → step ≤ limit
-    → AreNear step points → GoesOn limit rest stops room
-    → GoesOn limit (map (λ q. Stitch q) points ++ Trim ∷ rest) stops (length points + (501 + room))
+walk_goes : (step limit : ℕ) (points : List Point) (rest : List Command) (stops room : ℕ) → 121 ≤ limit → step ≤ limit → AreNear step points
+    → GoesOn limit rest stops room → GoesOn limit (map (λ q. Stitch q) points ++ Trim ∷ rest) stops (length points + (501 + room))
 walk_goes step limit [] rest stops room least more near on place in_range = absurd (near.some refl)
 walk_goes step limit (p ∷ points) rest stops room least more near on place in_range =
     let later = stitches_go step limit p points rest stops room more near.in_range near.close on in

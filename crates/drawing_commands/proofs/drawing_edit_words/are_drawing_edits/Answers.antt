@@ -1,8 +1,8 @@
 use Rattle.std.proofs.Common.{◌∙◌, rules, string_bytes}
 use Rattle.std.proofs.lemmas.Iterator.{YieldsList-from_slice}
 use Rattle.std.proofs.lemmas.Iterator.Search.{all_from_yields_List}
-use borrow.Author.Tests.{tests}
 use Rattle.drawing_commands.proofs.Names.{all_are_parsed, is_some, parsed_drawing_edit}
+use borrow.Author.Tests.{tests}
 use Rattle.drawing_commands.proofs.drawing_edit_words.are_drawing_edits.Goals as goal
 
 pub returns : goal.returns

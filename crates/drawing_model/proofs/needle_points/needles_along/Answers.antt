@@ -1,5 +1,5 @@
 use Rattle.std.proofs.Common.{◌≡◌, ◌∷◌, [], refl, rules}
-use Rattle.std.proofs.lemmas.List.{drop_more}
+use Rattle.drawing_model.proofs.Names.{drop_more}
 use Rattle.drawing_model.proofs.NeedleLemmas.{first_sewn, next_segment, segment_sewn}
 use Rattle.drawing_model.proofs.needle_points.needles_along.Goals as goal
 

@@ -1,6 +1,5 @@
 use Rattle.std.proofs.Common.{ap, ◌∙◌}
-use Rattle.std.proofs.lemmas.List.{drop_more}
-use Rattle.drawing_repairs.proofs.Names.{GridPoint, widened_bounds}
+use Rattle.drawing_repairs.proofs.Names.{GridPoint, widened_bounds, drop_more}
 use Rattle.drawing_repairs.proofs.EndGroupLemmas.{widened_on}
 use Rattle.drawing_repairs.proofs.end_groups.bounds_of.Goals as goal
 

@@ -1,6 +1,5 @@
 use Rattle.std.proofs.Common.{◌≡◌, ◌++◌}
-use Rattle.std.specs.Slice.Iter.{chunks_rest}
-use Rattle.drawing_review.proofs.Names.{flat_map}
+use Rattle.drawing_review.proofs.Names.{flat_map, chunks_rest}
 use Rattle.drawing_review.proofs.region.regions.Given as goal
 
 -- the regions so far, and the segments that are left, are all
