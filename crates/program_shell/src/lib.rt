@@ -18,7 +18,6 @@ pub use failure::{Failure, Step, refused};
 pub use file_texts::{describe_file, describe_part, describe_read_fault, refused_part};
 pub use finishing::finish;
 pub use format_indexes::{Found, format_at, load_at, load_found};
-pub use messages::report_out_of_memory;
 pub use product::{Made, Output, Product, bytes_of, one_output, only_report, two_outputs};
 pub use reading::read_input;
 pub use starting::start;

@@ -53,7 +53,7 @@ pub(crate) fn report_cannot_print<E: Sink>(err: &mut E, program: &[u8]) -> Statu
 }
 
 /// Reports out of memory, for the program of that name.
-pub fn report_out_of_memory<E: Sink>(err: &mut E, program: &[u8]) -> Status
+pub(crate) fn report_out_of_memory<E: Sink>(err: &mut E, program: &[u8]) -> Status
     ensures { ReportsLineWithStatus (out_of_memory_line program.now) status.Memory (E.view err.old)
         (E.view err.new) result }
 {

@@ -1,42 +1,23 @@
-//! The program: creates the real files, streams and formats, and passes them with the arguments to `run`.
+//! The program: creates the formats, and runs the commands over the real files and streams.
 #![tactic(auto)]
 
 use dst_codec::Dst;
 use exp_codec::Exp;
 use format_traits::Format;
-use outside_io::{DirStore, StdSink, program_words};
 use pes_codec::{Pec, Pes};
-use std::alloc::AllocError;
+use program_shell::start;
 use std::process::ExitCode;
-use stitch_cli::{Status, report_out_of_memory, run};
+use stitch_cli::{name, run};
 use stitch_text::List;
 
 fn main(rt: HostRuntime) -> ExitCode {
-    ExitCode::from(status_of(&rt) as u8)
-}
-
-fn status_of(rt: &HostRuntime) -> Status {
-    match start(rt) {
-        Ok(status) => status,
-        Err(_) => report_memory(rt),
-    }
-}
-
-fn start(rt: &HostRuntime) -> Result<Status, AllocError> {
-    let alloc = rt.alloc();
-    let words = program_words(rt)?;
-    let mut formats: Vec<Box<dyn Format>> = Vec::new(alloc);
-    formats.push(Box::new(alloc, Dst::new(alloc))?)?;
-    formats.push(Box::new(alloc, Exp::new(alloc))?)?;
-    formats.push(Box::new(alloc, Pec::new(alloc))?)?;
-    formats.push(Box::new(alloc, Pes::new(alloc))?)?;
-    formats.push(Box::new(alloc, List::new(alloc))?)?;
-    let mut store = DirStore::new(alloc, rt);
-    let mut out = StdSink::new(rt.stdout());
-    let mut err = StdSink::new(rt.stderr());
-    Ok(run(alloc, &words, &mut formats, &mut store, &mut out, &mut err))
-}
-
-fn report_memory(rt: &HostRuntime) -> Status {
-    report_out_of_memory(&mut StdSink::new(rt.stderr()))
+    start(&rt, name(), |alloc, words, store, out, err| {
+        let mut formats: Vec<Box<dyn Format>> = Vec::new(alloc);
+        formats.push(Box::new(alloc, Dst::new(alloc))?)?;
+        formats.push(Box::new(alloc, Exp::new(alloc))?)?;
+        formats.push(Box::new(alloc, Pec::new(alloc))?)?;
+        formats.push(Box::new(alloc, Pes::new(alloc))?)?;
+        formats.push(Box::new(alloc, List::new(alloc))?)?;
+        Ok(run(alloc, words, &mut formats, store, out, err))
+    })
 }

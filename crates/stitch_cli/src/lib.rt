@@ -17,5 +17,5 @@ pub use headline::outcomes_mean_headline;
 pub use program_shell::{Failure, Output, Product, Status};
 pub use program_texts::USAGE;
 pub use route_texts::{PieceReport, Summary};
-pub use running::{report_out_of_memory, run};
+pub use running::{name, run};
 pub use sample_drawings::sample_drawing;

@@ -1,8 +1,5 @@
-ghost use Rattle.program_shell.specs.Messages.{out_of_memory_line};
-ghost use Rattle.program_shell.specs.Puts.{ReportsLineWithStatus};
 ghost use Rattle.program_shell.specs.RunViews.{views_of};
 ghost use Rattle.program_shell.specs.Runs.{RunEnds};
-ghost use Rattle.program_shell.specs.declared.status.Status.TheVariants as status;
 ghost use Rattle.std.specs.Prelude.{◌≡◌, codes, map, string_bytes};
 ghost use Rattle.stitch_cli.specs.Commands.{order_of, stitch};
 ghost use Rattle.stitch_cli.specs.Headline.{ChecksRightly, RoutesLeast};
@@ -50,16 +47,8 @@ pub fn run<S: Store, O: Sink, E: Sink>(
     finish(name(), usage(), made, store, out, err)
 }
 
-/// Reports out of memory on `err`, for a run that has not begun.
-pub fn report_out_of_memory<E: Sink>(err: &mut E) -> Status
-    ensures { ReportsLineWithStatus (out_of_memory_line (codes "stitch")) status.Memory (E.view err.old)
-        (E.view err.new) result }
-{
-    program_shell::report_out_of_memory(err, name())
-}
-
 /// Returns the name of the program, with which each line on the standard error begins.
-fn name() -> &'static [u8]
+pub fn name() -> &'static [u8]
     ensures { result.now ≡ codes "stitch" }
 {
     b"stitch"
