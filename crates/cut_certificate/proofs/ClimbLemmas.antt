@@ -58,7 +58,7 @@ half g f i j c in_i forth = elim (best g f i in_i) [
   where
     top : (t : ℕ) → IsBest g i t → (m : Moat) → IsOf g.moats m → level g m i < level g m j → depth g m t + level g m j ≤ 2 * g.least t j
     top t b m is less =
-        let low : level g m i < m.width = omega arith in
+        let low : level g m i < m.width = omega (arith, level_most g m j) in
         grind (arith, nat_tests, (level_by g m j t (b.inside m is low)), level_most g m j)
 
 some_climb : (g : LiftInput) (i j : ℕ) (ms : List Moat) → 0 < climb g i j ms → (m : Moat) × IsOf ms m × (level g m i < level g m j)
@@ -86,8 +86,8 @@ one_side g f i j t u bi bj other = climb_below g f i j t (width_sum (parts t u) 
         let p = some_climb g j i g.moats other in
         let down : level g p.0 j < level g p.0 i = p.2 in
         let d = crossed g i j m p.0 is p.1 less down (related g.moats m p.0 f.laminar is p.1) in
-        let has_u : has_member p.0.members u ≡ true = bj.inside p.0 p.1 (omega arith) in
-        let has_t : has_member m.members t ≡ true = bi.inside m is (omega arith) in
+        let has_u : has_member p.0.members u ≡ true = bj.inside p.0 p.1 (omega (arith, level_most g p.0 i)) in
+        let has_t : has_member m.members t ≡ true = bi.inside m is (omega (arith, level_most g m j)) in
         omega (arith, reach g f.laminar m t u is has_t (not_in p.0 m u (λ x y z. d x z y) has_u), level_most g p.0 i, level_most g m j)
 
 both_sides : (g : LiftInput) → Fits g → (i j c : ℕ) → j < g.size → IsLine g i j c → 0 < climb g i j g.moats → 0 < climb g j i g.moats
