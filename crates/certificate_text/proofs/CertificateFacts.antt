@@ -2,11 +2,6 @@
 use Rattle.std.proofs.Common.{◌≡◌, ℕ, true, false, List, [], ◌∷◌, ◌++◌, None, Some, Ok, Err, codes, refl}
 use Rattle.std.specs.Fmt.{digits}
 use Rattle.certificate_text.proofs.Names.{flat_map, PieceCert, parsed_cert_number, parsed_pass, words_in, certificate_text, cert_of, first_lines}
-use Rattle.certificate_text.specs.declared.reading.TheConstants.{MAX_CERT}
-
--- the longest text that is read, in bytes
-pub known_limit : MAX_CERT ≡ 67108864
-known_limit = refl
 
 -- the text of these lines, each with its end
 abbrev ended : List (List ℕ) → List ℕ

@@ -1,6 +1,7 @@
 ghost use Rattle.certificate_text.specs.CertificateTexts.{certificate_text};
 ghost use Rattle.certificate_text.specs.ReadCertificates.{AreFew, ReadsCert, cert_of};
 ghost use Rattle.certificate_text.specs.declared.reading.CertFault.TheVariants as fault;
+ghost use Rattle.lists_and_numbers.specs.declared.limits.TheConstants.{MAX_FILE};
 ghost use Rattle.odd_cuts.specs.Certificates.{HasCanonicalText};
 ghost use Rattle.std.specs.Prelude.{◌≡◌, ◌≤◌, All, IfOk, length};
 
@@ -9,9 +10,6 @@ use lists_and_numbers::Memory;
 use odd_cuts::Cert;
 use std::alloc::Global;
 use text_parts::split_line;
-
-/// The greatest number of bytes of a certificate's text.
-pub const MAX_CERT: usize = 67_108_864;
 
 /// The reason why a text is no certificate. Lines of a text are numbered from 1.
 #[derive(Clone, Copy)]
@@ -33,7 +31,7 @@ impl From<Memory> for CertFault {
 
 /// Returns the certificate that a text denotes. Errors: `BadLine` at the first bad line; or `Memory`.
 pub fn read_cert(alloc: Global, bytes: &[u8]) -> Result<Cert, CertFault>
-    requires { length bytes.now ≤ MAX_CERT }
+    requires { length bytes.now ≤ MAX_FILE }
     ensures value { ReadsCert (cert_of bytes.now) result }
     ensures text { IfOk result (λ cert. bytes.now ≡ certificate_text cert.pieces) }
     ensures canonical { IfOk result (λ cert. All HasCanonicalText cert.pieces) }
@@ -44,7 +42,7 @@ pub fn read_cert(alloc: Global, bytes: &[u8]) -> Result<Cert, CertFault>
 }
 
 fn read_lines(alloc: Global, bytes: &[u8]) -> Result<Cert, CertFault>
-    requires { length bytes.now ≤ MAX_CERT }
+    requires { length bytes.now ≤ MAX_FILE }
     ensures { ReadsCert (cert_of bytes.now) result }
 {
     let mut draft = CertDraft::Empty;

@@ -1,6 +1,6 @@
 -- The meaning of loading the design of a file, and of feeding an entire file to a format.
 use Rattle.std.specs.Prelude.{◌≡◌, ℕ, false, List, ◌++◌, length, Result, Ok, Err}
-use Rattle.outside_io.specs.declared.limits.TheConstants.{MAX_FILE}
+use Rattle.lists_and_numbers.specs.declared.limits.TheConstants.{MAX_FILE}
 use Rattle.outside_io.specs.declared.whole_files.GetFault.{GetFault}
 use Rattle.outside_io.specs.Causes.{ReadsWholeFile}
 use Rattle.outside_io.specs.Views.{StoreView}

@@ -5,8 +5,8 @@ ghost use Rattle.outside_io.specs.Files.{IsFileName};
 ghost use Rattle.std.specs.Prelude.{◌≡◌};
 
 use format_traits::{Format, Loaded, ReadFault, begin_by, feed_by, finish_by};
-use lists_and_numbers::Memory;
-use outside_io::{GetFault, MAX_FILE, READ_SIZE, Store, read_next};
+use lists_and_numbers::{MAX_FILE, Memory};
+use outside_io::{GetFault, READ_SIZE, Store, read_next};
 
 /// Why no design was loaded.
 #[derive(Clone, Copy)]

@@ -1,8 +1,8 @@
 ghost use Rattle.drawing_inputs.specs.DrawingLines.{lines_read};
 ghost use Rattle.drawing_model.specs.EndOrders.{HasOrderedEnds};
 ghost use Rattle.drawing_text.specs.DrawingText.{draw_fault_is_out_of_memory};
-ghost use Rattle.drawing_text.specs.declared.limits.TheConstants.{MAX_TEXT};
 ghost use Rattle.lists_and_numbers.specs.OutOfMemory.{IsSpecified};
+ghost use Rattle.lists_and_numbers.specs.declared.limits.TheConstants.{MAX_FILE};
 ghost use Rattle.outside_io.specs.Files.{IsFileName};
 ghost use Rattle.program_shell.specs.StepOutcomes.{ParsesInput};
 ghost use Rattle.program_texts.specs.DrawingTexts.{draw_fault_text};
@@ -37,7 +37,7 @@ pub fn lines_in<'a, S: Store>(alloc: Global, store: &mut S, name: &'a str) -> St
 }
 
 fn parsed(alloc: Global, bytes: &[u8]) -> Result<LinesRead, DrawFault>
-    requires { length bytes.now ≤ MAX_TEXT }
+    requires { length bytes.now ≤ MAX_FILE }
     ensures answer { IsSpecified draw_fault_is_out_of_memory (lines_read bytes.now) result }
     ensures ordered { IfOk result (λ read. HasOrderedEnds read.drawing) }
 {

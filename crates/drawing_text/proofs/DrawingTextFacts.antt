@@ -2,12 +2,7 @@
 use Rattle.std.proofs.Common.{◌≡◌, ℕ, pos, negsuc, List, [], ◌∷◌, ◌++◌, Ok, Err, codes, refl}
 use Rattle.drawing_text.proofs.Names.{flat_map, LineValue, lines_through, DrawKind, DrawingValue, drawing_as2, drawing_of, text_lines, line_without_return, words_of_line, located_fault}
 use Rattle.drawing_model.specs.declared.draw_kind.DrawKind.TheVariants as kind
-use Rattle.drawing_text.specs.declared.limits.TheConstants.{MAX_TEXT}
 use Rattle.drawing_text.proofs.CanonicalTextFacts.{place}
-
--- the longest text that is read, in bytes
-pub known_limit : MAX_TEXT ≡ 67108864
-known_limit = refl
 
 -- lines with their ends
 abbrev text : List (List ℕ) → List ℕ

@@ -2,11 +2,11 @@ ghost use Rattle.drawing_text.specs.DrawingText.{ReadsDrawing, drawing_after_lin
 ghost use Rattle.drawing_text.specs.DrawnTexts.{ReadsLines, lines_after, lines_of_draft};
 ghost use Rattle.drawing_text.specs.TextLines.{empty_draft};
 ghost use Rattle.drawing_text.specs.Words.{words_by_line};
+ghost use Rattle.lists_and_numbers.specs.declared.limits.TheConstants.{MAX_FILE};
 ghost use Rattle.std.specs.Prelude.{◌≡◌, ◌+◌, ◌≤◌, Err, IfErr, IfOk, length};
 
 use crate::draft::DrawingDraft;
 use crate::draw_fault::{DrawFault, fault_with_line};
-use crate::limits::MAX_TEXT;
 use crate::text_words::{next_line, without_return};
 use crate::version::Version;
 use std::alloc::Global;
@@ -19,7 +19,7 @@ pub fn draft_of_lines(
     first: u32,
     text: &[u8],
 ) -> Result<(DrawingDraft, u32), DrawFault>
-    requires { first + length text.now ≤ MAX_TEXT + 1 }
+    requires { first + length text.now ≤ MAX_FILE + 1 }
     ensures drawing { IfOk result (λ r.
         drawing_after_lines version first empty_draft (words_by_line text.now)
         ≡ drawing_of_draft version r.1 r.0) }

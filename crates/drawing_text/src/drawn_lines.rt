@@ -1,12 +1,12 @@
 ghost use Rattle.drawing_text.specs.DrawnTexts.{ReadsLines, lines_after, lines_of, lines_of_draft};
 ghost use Rattle.drawing_text.specs.TextLines.{empty_draft};
 ghost use Rattle.drawing_text.specs.Words.{words_by_line};
+ghost use Rattle.lists_and_numbers.specs.declared.limits.TheConstants.{MAX_FILE};
 ghost use Rattle.std.specs.Prelude.{◌≡◌, ◌+◌, ◌≤◌, length};
 
 use crate::draft::DrawingDraft;
 use crate::draft_reading::draft_of_lines;
 use crate::draw_fault::{DrawFault, fault_with_line};
-use crate::limits::MAX_TEXT;
 use crate::reading::find_body;
 use crate::version::Version;
 use crate::walk_end::WalkEnds;
@@ -24,7 +24,7 @@ pub struct DrawnLines {
 
 /// Returns the lines that a text describes as they are drawn, or the first fault of its lines.
 pub fn read_lines(alloc: Global, bytes: &[u8]) -> Result<DrawnLines, DrawFault>
-    requires { length bytes.now ≤ MAX_TEXT }
+    requires { length bytes.now ≤ MAX_FILE }
     ensures { ReadsLines (lines_of bytes.now) result }
 {
     let (version, header, text) = find_body(bytes)?;
@@ -37,7 +37,7 @@ fn lines_in(
     first: u32,
     text: &[u8],
 ) -> Result<DrawnLines, DrawFault>
-    requires { first + length text.now ≤ MAX_TEXT + 1 }
+    requires { first + length text.now ≤ MAX_FILE + 1 }
     ensures { ReadsLines (lines_after version first empty_draft (words_by_line text.now)) result }
 {
     let (draft, number) = draft_of_lines(alloc, version, first, text)?;

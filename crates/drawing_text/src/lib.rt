@@ -9,7 +9,6 @@ mod draw_fault;
 mod drawn_lines;
 mod end_printing;
 mod ending;
-mod limits;
 mod number_words;
 mod point_words;
 mod printing;
@@ -22,7 +21,6 @@ mod walk_end;
 pub use draw_fault::DrawFault;
 pub use drawn_lines::{DrawnLines, read_lines};
 pub use end_printing::print_drawn;
-pub use limits::MAX_TEXT;
 pub use printing::{print_drawing, print_drawing2};
 pub use reading::{read_as2, read_drawing};
 pub use theorems::{

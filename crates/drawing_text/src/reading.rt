@@ -1,11 +1,11 @@
 ghost use Rattle.drawing_text.specs.DrawingText.{IsDrawingOfVersion, IsJoinedWithoutEnds, ReadsDrawing, body_of_text, drawing_as2, drawing_of, drawing_after_lines, parsed_header, parsed_version};
 ghost use Rattle.drawing_text.specs.TextLines.{empty_draft};
 ghost use Rattle.drawing_text.specs.Words.{is_ignored_line, words_by_line, words_of_line};
+ghost use Rattle.lists_and_numbers.specs.declared.limits.TheConstants.{MAX_FILE};
 ghost use Rattle.std.specs.Prelude.{◌≡◌, ◌+◌, ◌≤◌, Ok, Err, length, IfOk, IfErr};
 
 use crate::draft_reading::draft_of_lines;
 use crate::draw_fault::{DrawFault, fault_with_line};
-use crate::limits::MAX_TEXT;
 use crate::text_words::{is_comment, next_line, next_word, only_word, without_return};
 use crate::version::Version;
 use drawing_model::{DrawKind, Drawing};
@@ -15,7 +15,7 @@ use text_parts::equals_text;
 /// Returns the drawing that a text describes in the version that its header names, or the first fault in
 /// the order of its lines.
 pub fn read_drawing(alloc: Global, bytes: &[u8]) -> Result<Drawing, DrawFault>
-    requires { length bytes.now ≤ MAX_TEXT }
+    requires { length bytes.now ≤ MAX_FILE }
     ensures { ReadsDrawing (drawing_of bytes.now) result }
 {
     let (version, header, text) = find_body(bytes)?;
@@ -25,7 +25,7 @@ pub fn read_drawing(alloc: Global, bytes: &[u8]) -> Result<Drawing, DrawFault>
 /// Returns the drawing that a text of version 1 or 2 describes when it is read as version 2, or its first
 /// fault. A text of version 3 is rejected at its header, with `BadHeader`.
 pub fn read_as2(alloc: Global, bytes: &[u8]) -> Result<Drawing, DrawFault>
-    requires { length bytes.now ≤ MAX_TEXT }
+    requires { length bytes.now ≤ MAX_FILE }
     ensures answer { ReadsDrawing (drawing_as2 bytes.now) result }
     ensures whole { IfOk result IsJoinedWithoutEnds }
 {
@@ -37,11 +37,11 @@ pub fn read_as2(alloc: Global, bytes: &[u8]) -> Result<Drawing, DrawFault>
 
 /// Returns the version that the header names, the number of its line, and the text after it.
 pub fn find_body(bytes: &[u8]) -> Result<(Version, u32, &[u8]), DrawFault>
-    requires { length bytes.now ≤ MAX_TEXT }
+    requires { length bytes.now ≤ MAX_FILE }
     ensures ok { IfOk result (λ r.
         body_of_text bytes.now ≡ Ok
         (record { version = r.0; header = r.1; lines = words_by_line r.2.now })) }
-    ensures early { IfOk result (λ r. r.1 + length r.2.now ≤ MAX_TEXT) }
+    ensures early { IfOk result (λ r. r.1 + length r.2.now ≤ MAX_FILE) }
     ensures err { IfErr result (λ fault. body_of_text bytes.now ≡ Err fault) }
 {
     let mut passed: u32 = 0;
@@ -93,7 +93,7 @@ fn version_of_word(word: &[u8]) -> Option<Version>
 }
 
 fn read_body(alloc: Global, version: Version, first: u32, text: &[u8]) -> Result<Drawing, DrawFault>
-    requires { first + length text.now ≤ MAX_TEXT + 1 }
+    requires { first + length text.now ≤ MAX_FILE + 1 }
     ensures answer { ReadsDrawing (drawing_after_lines version first empty_draft
         (words_by_line text.now)) result }
     ensures meant { IfOk result (IsDrawingOfVersion version) }

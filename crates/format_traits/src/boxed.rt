@@ -1,8 +1,8 @@
 ghost use Rattle.format_traits.specs.Feeding.{Feeds, Finishes, HasNothingFed};
 ghost use Rattle.format_traits.specs.Laws.{IsFileEnding, EncodesTo, RoundTrips, MovesWithin};
 ghost use Rattle.format_traits.specs.PlainDesigns.{IsPlain};
-ghost use Rattle.format_traits.specs.declared.feed.TheConstants.{MAX_FED};
 ghost use Rattle.format_traits.specs.declared.format_object.TheConstants.{MIN_LIMIT, MAX_LIMIT};
+ghost use Rattle.lists_and_numbers.specs.declared.limits.TheConstants.{MAX_FILE};
 ghost use Rattle.std.specs.Prelude.{◌≡◌, ◌+◌, ◌≤◌, length, IfOk, IsOk};
 
 use crate::fault::{ReadFault, WriteFault};
@@ -55,7 +55,7 @@ pub fn begin_by(format: &mut Box<dyn Format>)
 
 /// Feeds the next chunk of a file to a boxed format.
 pub fn feed_by(format: &mut Box<dyn Format>, piece: &[u8]) -> Result<(), Memory>
-    requires { (feed_state format.old).taken + length piece.now ≤ MAX_FED }
+    requires { (feed_state format.old).taken + length piece.now ≤ MAX_FILE }
     ensures same { meaning format.new ≡ meaning format.old }
     ensures feeds { Feeds (feed_state format.old) piece.now result (feed_state format.new) }
 {

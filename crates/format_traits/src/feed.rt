@@ -1,4 +1,4 @@
-ghost use Rattle.format_traits.specs.declared.feed.TheConstants.{MAX_FED as most_fed};
+ghost use Rattle.lists_and_numbers.specs.declared.limits.TheConstants.{MAX_FILE};
 ghost use Rattle.std.specs.Prelude.{◌≤◌, length};
 
 use crate::chunk_passing::pass_on;
@@ -8,9 +8,6 @@ use crate::loaded::Loaded;
 use arrayvec::ArrayVec;
 use design_model::Command;
 use lists_and_numbers::Memory;
-
-/// The largest number of bytes that may be fed of one file.
-pub const MAX_FED: u64 = 67_108_864;
 
 /// A decoder that is fed a file in chunks, and the pending bytes, which the decoder has not taken yet.
 #[derive(Drop)]
@@ -44,7 +41,7 @@ impl<D: Decoder + Drop> Fed for Feed<D> {
 
 impl<D: Decoder + Drop> Feed<D> {
     ghost use Rattle.std.specs.Prelude.{◌≡◌, ◌+◌, ◌≤◌, [], false, length};
-    ghost use Rattle.format_traits.specs.declared.feed.TheConstants.{MAX_FED as most_fed};
+    ghost use Rattle.lists_and_numbers.specs.declared.limits.TheConstants.{MAX_FILE};
     ghost use Rattle.format_traits.specs.Feeding.{Feeds, Finishes, HasNothingFed};
 
     /// Returns a feed of a file whose first byte has the offset 0. Allocates nothing.
@@ -78,7 +75,7 @@ impl<D: Decoder + Drop> Feed<D> {
     /// Takes the next chunk of the file. Out of memory, it is spoiled: it counts the bytes, and reports out
     /// of memory until it begins again.
     pub fn feed(&mut self, piece: &[u8]) -> Result<(), Memory>
-        requires { self.old.taken + length piece.now ≤ most_fed }
+        requires { self.old.taken + length piece.now ≤ MAX_FILE }
         ensures { Feeds
             (⟦<Feed<D> as Fed>⟧.feed_state self.old) piece.now result
             (⟦<Feed<D> as Fed>⟧.feed_state self.new) }

@@ -21,7 +21,7 @@ pub const MAX_LIMIT: u32 = 2047;
 /// An object is spoiled once `feed` or `finish` reports out of memory, until it begins again. A new object is
 /// not spoiled.
 pub trait Format: Drop {
-    ghost use Rattle.format_traits.specs.declared.feed.TheConstants.{MAX_FED};
+    ghost use Rattle.lists_and_numbers.specs.declared.limits.TheConstants.{MAX_FILE};
     ghost use Rattle.format_traits.specs.declared.format_object.TheConstants.{MIN_LIMIT, MAX_LIMIT};
     ghost use Rattle.format_traits.specs.Feeding.{FeedState, Feeds, Finishes, HasNothingFed};
     ghost use Rattle.format_traits.specs.Meanings.{Meaning};
@@ -72,7 +72,7 @@ pub trait Format: Drop {
 
     /// Takes the next chunk of a file. A refusal of its bytes is reported by `finish`, not by this call.
     fn feed(&mut self, piece: &[u8]) -> Result<(), Memory>
-        requires { (feed_state self.old).taken + length piece.now ≤ MAX_FED }
+        requires { (feed_state self.old).taken + length piece.now ≤ MAX_FILE }
         ensures same { meaning self.new ≡ meaning self.old }
         ensures feeds { Feeds (feed_state self.old) piece.now result (feed_state self.new) };
 

@@ -25,7 +25,7 @@ pub use decoder::{Decoder, MAX_PENDING};
 pub use encoder_state::{EncoderState, WriteLimits};
 pub use fault::{ReadFault, WriteFault};
 pub use fed_format::{Codec, FedFormat};
-pub use feed::{Fed, Feed, MAX_FED};
+pub use feed::{Fed, Feed};
 pub use format_object::{Format, MAX_LIMIT, MIN_LIMIT};
 pub use front::with_front;
 pub use label_fields::{put_label, put_spaces, read_label};

@@ -1,3 +1,4 @@
 pub mod CallerLemmas
+mod LimitFacts
 mod WholeFacts
 pub mod WholeLemmas

@@ -1,12 +1,8 @@
--- The limits of names and of files, in bytes.
+-- The limits of names and of reads, in bytes.
 use Rattle.std.proofs.Common.{◌≡◌, true, false, [], ◌∷◌, codes, map, replicate, refl}
 use Rattle.outside_io.proofs.Names.{is_file_name}
-use Rattle.outside_io.specs.declared.limits.TheConstants.{MAX_FILE, MAX_NAME}
+use Rattle.outside_io.specs.declared.limits.TheConstants.{MAX_NAME}
 use Rattle.outside_io.specs.declared.whole_files.TheConstants.{READ_SIZE}
-
--- how long a file that is read may be: 64 times 2 to the 20th
-pub known_file : MAX_FILE ≡ 67108864
-known_file = refl
 
 -- how many bytes of a file are read at once
 pub known_read_size : READ_SIZE ≡ 16384

@@ -24,7 +24,7 @@ pub use arguments::program_words;
 pub use blame::CallKind;
 pub use dir_store::DirStore;
 pub use file_names::is_name;
-pub use limits::{MAX_FILE, MAX_NAME};
+pub use limits::MAX_NAME;
 pub use mem_sink::MemSink;
 pub use mem_store::MemStore;
 pub use sink::Sink;

@@ -1,3 +1,4 @@
+ghost use Rattle.lists_and_numbers.specs.declared.limits.TheConstants.{MAX_FILE};
 ghost use Rattle.outside_io.specs.Causes.{AppendsBytes, ReadsAt, WritesFile};
 ghost use Rattle.outside_io.specs.Counts.{next_count};
 ghost use Rattle.outside_io.specs.Files.{ChangesOnlyFile, FileExists, IsFileName};
@@ -7,7 +8,6 @@ ghost use Rattle.std.specs.Prelude.{◌≡◌, ℕ, ◌≤◌, List, [], ◌++�
 use crate::blame::{CallKind, FaultLog};
 use crate::entries::{add_to_file, content_of, make_file, raise_room, set_file};
 use crate::entry::Entry;
-use crate::limits::MAX_FILE;
 use crate::store::{Failed, ReadStop, Store};
 use lists_and_numbers::Memory;
 use std::alloc::Global;

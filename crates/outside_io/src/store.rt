@@ -1,9 +1,9 @@
+ghost use Rattle.lists_and_numbers.specs.declared.limits.TheConstants.{MAX_FILE};
 ghost use Rattle.outside_io.specs.Causes.{AppendsBytes, ReadsAt, WritesFile};
 ghost use Rattle.outside_io.specs.Files.{FileExists, IsFileName};
 ghost use Rattle.outside_io.specs.Views.{StoreView};
 ghost use Rattle.std.specs.Prelude.{◌≤◌, []};
 
-use crate::limits::MAX_FILE;
 
 /// A call to a store or a sink failed.
 #[derive(Clone, Copy, Debug, PartialEq)]

@@ -1,4 +1,5 @@
 ghost use Rattle.lists_and_numbers.specs.OutOfMemory.{IsSpecified};
+ghost use Rattle.lists_and_numbers.specs.declared.limits.TheConstants.{MAX_FILE};
 ghost use Rattle.outside_io.specs.Causes.{ReadsWholeFile, WritesFile, get_is_out_of_memory, whole_file_result};
 ghost use Rattle.outside_io.specs.Counts.{IsFaultless};
 ghost use Rattle.outside_io.specs.FileParts.{ReadsNextPart};
@@ -6,7 +7,6 @@ ghost use Rattle.outside_io.specs.Files.{IsFileName, WhereVisible};
 ghost use Rattle.outside_io.specs.declared.whole_files.GetFault.TheVariants as fault;
 ghost use Rattle.std.specs.Prelude.{◌≡◌, ◌<◌, ◌≤◌, length};
 
-use crate::limits::MAX_FILE;
 use crate::store::{Failed, ReadStop, Store};
 use lists_and_numbers::{Bytes, Memory};
 use std::alloc::Global;

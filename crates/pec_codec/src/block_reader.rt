@@ -1,5 +1,5 @@
 ghost use Rattle.format_traits.specs.Feeding.{Feeds, Finishes, HasNothingFed};
-ghost use Rattle.format_traits.specs.declared.feed.TheConstants.{MAX_FED};
+ghost use Rattle.lists_and_numbers.specs.declared.limits.TheConstants.{MAX_FILE};
 ghost use Rattle.pec_codec.specs.Reading.{pec_block_layout};
 ghost use Rattle.record_formats.specs.Layouts.{layout_decoded, layout_reads};
 ghost use Rattle.std.specs.Prelude.{◌≡◌, ◌+◌, ◌<◌, ◌≤◌, ◌^◌, [], false, length};
@@ -43,7 +43,7 @@ impl BlockReader {
 
     /// Takes the next chunk of the block.
     pub fn feed(&mut self, piece: &[u8]) -> Result<(), Memory>
-        requires { (⟦<BlockReader as Fed>⟧.feed_state self.old).taken + length piece.now ≤ MAX_FED }
+        requires { (⟦<BlockReader as Fed>⟧.feed_state self.old).taken + length piece.now ≤ MAX_FILE }
         ensures { Feeds (⟦<BlockReader as Fed>⟧.feed_state self.old) piece.now result
             (⟦<BlockReader as Fed>⟧.feed_state self.new) }
     {

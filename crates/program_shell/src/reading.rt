@@ -1,15 +1,15 @@
+ghost use Rattle.lists_and_numbers.specs.declared.limits.TheConstants.{MAX_FILE as most};
 ghost use Rattle.outside_io.specs.Causes.{ReadsWholeFile};
 ghost use Rattle.outside_io.specs.Files.{IsFileName};
 ghost use Rattle.outside_io.specs.Views.{StoreView};
-ghost use Rattle.outside_io.specs.declared.limits.TheConstants.{MAX_FILE as most};
 ghost use Rattle.program_shell.specs.FileTexts.{too_long_text};
 ghost use Rattle.program_shell.specs.StepOutcomes.{IsRefusalWith, ReadsInput};
 ghost use Rattle.std.specs.Prelude.{◌≡◌, Err};
 
 use crate::failure::{Failure, Step};
 use crate::file_texts::describe_file;
-use lists_and_numbers::{Bytes, Memory};
-use outside_io::{GetFault, MAX_FILE, Store, read_whole};
+use lists_and_numbers::{Bytes, MAX_FILE, Memory};
+use outside_io::{GetFault, Store, read_whole};
 use std::alloc::Global;
 
 /// Reads the bytes of an input file.

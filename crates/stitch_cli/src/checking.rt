@@ -2,7 +2,7 @@ ghost use Rattle.certificate_text.specs.ReadCertificates.{cert_of};
 ghost use Rattle.command_words.specs.ValidNames.{AreRouteNames};
 ghost use Rattle.format_traits.specs.Endings.{format_of};
 ghost use Rattle.format_traits.specs.Meanings.{Meaning};
-ghost use Rattle.outside_io.specs.declared.limits.TheConstants.{MAX_FILE};
+ghost use Rattle.lists_and_numbers.specs.declared.limits.TheConstants.{MAX_FILE};
 ghost use Rattle.program_shell.specs.Plans.{satisfies};
 ghost use Rattle.program_shell.specs.StepOutcomes.{IsRefusalWith, RunsPlan, RunsPurePlan, RunsRequest};
 ghost use Rattle.route_verdict.specs.Verdicts.{HasShortLists};

@@ -1,5 +1,5 @@
 ghost use Rattle.certificate_text.specs.ReadCertificates.{cert_of};
-ghost use Rattle.outside_io.specs.declared.limits.TheConstants.{MAX_FILE};
+ghost use Rattle.lists_and_numbers.specs.declared.limits.TheConstants.{MAX_FILE};
 ghost use Rattle.program_shell.specs.FileTexts.{text_at};
 ghost use Rattle.program_shell.specs.Plans.{satisfies};
 ghost use Rattle.program_shell.specs.StepOutcomes.{IsRefusalWith, RunsPlan, RunsPurePlan};

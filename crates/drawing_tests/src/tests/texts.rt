@@ -5,15 +5,15 @@ use drawing_model::DrawKind::{
 };
 use drawing_model::Drawing;
 use drawing_text::{
-    DrawFault, MAX_TEXT, print_drawing, print_drawing2, read_as2, read_drawing, read_lines,
+    DrawFault, print_drawing, print_drawing2, read_as2, read_drawing, read_lines,
 };
-use lists_and_numbers::Bytes;
+use lists_and_numbers::{Bytes, MAX_FILE};
 use std::alloc::Global;
 use std::test::Fail;
 use test_values::repeated;
 
 fn drawing(alloc: Global, text: &[u8]) -> Result<Drawing, DrawFault> {
-    if text.len() > MAX_TEXT {
+    if text.len() as u64 > MAX_FILE {
         let kind = DrawKind::Memory;
         return Err(DrawFault { number: 0, kind });
     }
@@ -98,7 +98,7 @@ fn lines_of_version_2_meet_at_shared_points(rt: HostRuntime) -> Result<(), Fail>
             .ok()
             .ok_or("a drawing")?;
         assert_eq!(rt; d.line_count(), lines);
-        if text.len() <= MAX_TEXT {
+        if text.len() as u64 <= MAX_FILE {
             let whole = read_as2(rt.alloc(), text.as_slice())
                 .ok()
                 .ok_or("a drawing")?;
@@ -180,7 +180,7 @@ fn the_longest_text_is_read_in_one_pass(rt: HostRuntime) -> Result<(), Fail> {
     let text = repeated(rt.alloc(), head, b"# sixteen bytes\n", 4_194_301, b"")
         .ok()
         .ok_or("no memory")?;
-    assert!(rt; text.len() > MAX_TEXT - 32);
+    assert!(rt; text.len() as u64 > MAX_FILE - 32);
     assert!(rt; fault(rt.alloc(), text.as_slice()) == (0, None));
     Ok(())
 }

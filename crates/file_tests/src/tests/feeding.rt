@@ -1,8 +1,8 @@
 ghost use Rattle.std.specs.Prelude.{◌≡◌, IsOk, false};
 
 use design_model::{Command, Design};
-use format_traits::{Format, Loaded, MAX_FED, ReadFault};
-use lists_and_numbers::{Bytes, Memory};
+use format_traits::{Format, Loaded, ReadFault};
+use lists_and_numbers::{Bytes, MAX_FILE, Memory};
 use std::alloc::Global;
 use std::process::Abort;
 
@@ -13,7 +13,7 @@ pub const SIZES: [usize; 9] = [1, 2, 3, 5, 511, 512, 513, 4_096, 1_000_000];
 pub fn feed<F: Format>(rt: &impl Abort, format: &mut F, piece: &[u8]) -> Result<(), Memory>
     ensures { IsOk result → (F.feed_state format.new).spoiled ≡ false }
 {
-    assert!(rt; format.taken().saturating_add(piece.len() as u64) <= MAX_FED);
+    assert!(rt; format.taken().saturating_add(piece.len() as u64) <= MAX_FILE);
     format.feed(piece)
 }
 

@@ -2,7 +2,8 @@ ghost use Rattle.std.specs.Prelude.{◌<◌};
 
 use super::lists::{HEAD, SQUARE};
 use format_traits::ReadFault::{self, Control, Range, Short, Signature};
-use format_traits::{Format, MAX_FED};
+use format_traits::Format;
+use lists_and_numbers::MAX_FILE;
 use std::test::Fail;
 use stitch_text::List;
 use test_values::repeated;
@@ -44,7 +45,7 @@ fn feed_pieces(list: &mut List, text: &[u8], size: usize) -> Result<usize, Fail>
     let mut count = 0;
     for piece in text.chunks(size) {
         let taken = list.taken();
-        if MAX_FED < taken || MAX_FED - taken < piece.len() as u64 {
+        if MAX_FILE < taken || MAX_FILE - taken < piece.len() as u64 {
             return Err("a text too long".into());
         }
         list.feed(piece)?;

@@ -4,8 +4,8 @@ use super::feeding::{SIZES, compare_parts};
 use super::large_designs::{compare_large, floating, stops};
 use design_model::{Command, Point};
 use format_traits::ReadFault::{self, Range, Short};
-use format_traits::{Fed, Loaded, MAX_FED, WriteFault};
-use lists_and_numbers::{Bytes, Memory};
+use format_traits::{Fed, Loaded, WriteFault};
+use lists_and_numbers::{Bytes, MAX_FILE, Memory};
 use pec_codec::{BlockReader, read_block, write_block};
 use std::alloc::Global;
 use std::process::Abort;
@@ -37,7 +37,7 @@ impl Counted {
         ensures { IsOk result → (⟦<BlockReader as Fed>⟧.feed_state self.new.reader).spoiled ≡ false }
     {
         let taken = self.taken.saturating_add(piece.len() as u64);
-        assert!(rt; taken <= MAX_FED);
+        assert!(rt; taken <= MAX_FILE);
         self.taken = taken;
         self.reader.feed(piece)
     }

@@ -1,9 +1,9 @@
 ghost use Rattle.odd_cuts.specs.Certificates.{HasCanonicalText};
 ghost use Rattle.std.specs.Prelude.{All, IfOk};
 
-use certificate_text::{CertFault, MAX_CERT, print_cert, read_cert};
+use certificate_text::{CertFault, print_cert, read_cert};
 use line_graph::Pass;
-use lists_and_numbers::{Bytes, Memory};
+use lists_and_numbers::{Bytes, MAX_FILE, Memory};
 use odd_cuts::Cert;
 use std::alloc::Global;
 use std::test::Fail;
@@ -12,7 +12,7 @@ use test_values::repeated;
 fn cert(alloc: Global, text: &[u8]) -> Result<Cert, CertFault>
     ensures { IfOk result (λ cert. All HasCanonicalText cert.pieces) }
 {
-    if text.len() > MAX_CERT {
+    if text.len() as u64 > MAX_FILE {
         return Err(CertFault::Memory);
     }
     read_cert(alloc, text)

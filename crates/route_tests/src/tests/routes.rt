@@ -1,6 +1,7 @@
 use design_model::counts;
 use drawing_model::Drawing;
-use drawing_text::{MAX_TEXT, read_drawing};
+use drawing_text::read_drawing;
+use lists_and_numbers::MAX_FILE;
 use odd_cuts::PieceCert;
 use route_core::route;
 use std::alloc::Global;
@@ -37,7 +38,7 @@ const TABLE: [(&str, u32, &[RoutedPiece]); 8] = [
 /// Returns the drawing of a text of two parts.
 pub fn drawing_of(alloc: Global, first: &str, last: &str) -> Result<Drawing, Fail> {
     let text = repeated(alloc, first.as_bytes(), b"", 0, last.as_bytes())?;
-    if text.len() > MAX_TEXT {
+    if text.len() as u64 > MAX_FILE {
         return Err("a long text".into());
     }
     let drawing = read_drawing(alloc, text.as_slice()).ok();
