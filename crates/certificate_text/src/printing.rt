@@ -2,11 +2,10 @@ ghost use Rattle.certificate_text.specs.CertificateTexts.{certificate_text, cut_
 ghost use Rattle.certificate_text.specs.ReadCertificates.{HasSmallNumbers, cert_of};
 ghost use Rattle.odd_cuts.specs.Certificates.{HasCanonicalText};
 ghost use Rattle.std.specs.List.{flat_map};
-ghost use Rattle.std.specs.Prelude.{◌≡◌, ◌+◌, ◌++◌, ◌<◌, ◌^◌, All, IfOk, Ok, OnOk, decimal};
+ghost use Rattle.std.specs.Prelude.{◌≡◌, ◌+◌, ◌++◌, ◌<◌, ◌^◌, All, IfOk, Ok, OnOk};
 
-use itoa::Buffer;
 use line_graph::Pass;
-use lists_and_numbers::{Bytes, Memory};
+use lists_and_numbers::{Bytes, Memory, put_decimal};
 use odd_cuts::{Cert, Cut, PieceCert};
 use std::alloc::Global;
 
@@ -41,7 +40,7 @@ fn put_piece(text: &mut Bytes, piece: &PieceCert) -> Result<(), Memory>
     ensures small { OnOk result (HasSmallNumbers piece.now) }
 {
     text.append(b"piece ")?;
-    put_number(text, piece.retraced)?;
+    put_decimal(text, piece.retraced)?;
     text.append(b"\n")?;
     text.append(b"walk")?;
     put_passes(text, piece.walk.as_slice())?;
@@ -69,7 +68,7 @@ fn put_pass(text: &mut Bytes, pass: Pass) -> Result<(), Memory>
     } else {
         text.append(b" ")?;
     }
-    put_number(text, pass.line + 1)?;
+    put_decimal(text, pass.line + 1)?;
     Ok(())
 }
 
@@ -90,7 +89,7 @@ fn put_cut(text: &mut Bytes, cut: &Cut) -> Result<(), Memory>
     ensures small { OnOk result (cut.now.weight < 2 ^ 32) }
 {
     text.append(b"cut ")?;
-    put_number(text, cut.weight)?;
+    put_decimal(text, cut.weight)?;
     put_members(text, cut.members.as_slice())?;
     text.append(b"\n")?;
     Ok(())
@@ -102,16 +101,7 @@ fn put_members(text: &mut Bytes, members: &[u32]) -> Result<(), Memory>
 {
     for member in members {
         text.append(b" ")?;
-        put_number(text, *member + 1)?;
+        put_decimal(text, *member + 1)?;
     }
-    Ok(())
-}
-
-fn put_number(text: &mut Bytes, number: u32) -> Result<(), Memory>
-    ensures value { OnOk result (text.new ≡ text.old ++ decimal number) }
-    ensures small { number < 2 ^ 32 }
-{
-    let mut buffer = Buffer::new();
-    text.append(buffer.format(number).as_bytes())?;
     Ok(())
 }

@@ -47,25 +47,24 @@ fn print_with_ends(alloc: Global, d: &Drawing, other: &Drawing) -> Result<Bytes,
     let mut text = Bytes::new(alloc);
     put_header(&mut text, Version::Three)?;
     put_label(&mut text, d.label())?;
-    put_number(alloc, &mut text, b"step ", d.step())?;
-    put_blocks3(alloc, &mut text, d, other)?;
+    put_number(&mut text, b"step ", d.step())?;
+    put_blocks3(&mut text, d, other)?;
     Ok(text)
 }
 
-fn put_blocks3(alloc: Global, text: &mut Bytes, d: &Drawing, other: &Drawing) -> Result<(), Memory>
+fn put_blocks3(text: &mut Bytes, d: &Drawing, other: &Drawing) -> Result<(), Memory>
     ensures { OnOk result (text.new
         ≡ text.old ++ blocks_text3 0 d.now.threads (with_ends_of d.now other.now)) }
 {
     let mut block: u32 = 0;
     for thread in d.threads() {
-        put_block3(alloc, text, block, *thread, d, other)?;
+        put_block3(text, block, *thread, d, other)?;
         block += 1;
     }
     Ok(())
 }
 
 fn put_block3(
-    alloc: Global,
     text: &mut Bytes,
     block: u32,
     thread: u8,
@@ -75,35 +74,29 @@ fn put_block3(
     ensures { OnOk result (text.new
         ≡ text.old ++ block_text3 block thread (with_ends_of d.now other.now)) }
 {
-    put_number(alloc, text, b"color ", thread as u32)?;
-    put_lines_of(alloc, text, block, d.lines())?;
-    put_ends_of(alloc, text, b"start", block, other.starts())?;
-    put_ends_of(alloc, text, b"end", block, other.ends())?;
+    put_number(text, b"color ", thread as u32)?;
+    put_lines_of(text, block, d.lines())?;
+    put_ends_of(text, b"start", block, other.starts())?;
+    put_ends_of(text, b"end", block, other.ends())?;
     Ok(())
 }
 
-fn put_ends_of(
-    alloc: Global,
-    text: &mut Bytes,
-    word: &[u8],
-    block: u32,
-    spots: &[Spot],
-) -> Result<(), Memory>
+fn put_ends_of(text: &mut Bytes, word: &[u8], block: u32, spots: &[Spot]) -> Result<(), Memory>
     ensures { OnOk result (text.new ≡ text.old ++ end_lines_text word.now block spots.now) }
 {
     for spot in spots {
         if spot.block == block {
-            put_end(alloc, text, word, spot)?;
+            put_end(text, word, spot)?;
         }
     }
     Ok(())
 }
 
-fn put_end(alloc: Global, text: &mut Bytes, word: &[u8], spot: &Spot) -> Result<(), Memory>
+fn put_end(text: &mut Bytes, word: &[u8], spot: &Spot) -> Result<(), Memory>
     ensures { OnOk result (text.new ≡ text.old ++ end_line_text word.now spot.now) }
 {
     text.append(word)?;
-    put_point(alloc, text, spot.at)?;
+    put_point(text, spot.at)?;
     text.push(b'\n')?;
     Ok(())
 }

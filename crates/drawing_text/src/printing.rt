@@ -8,7 +8,7 @@ use crate::theorems::{canonical_text_is_read, drawn_texts_are_read};
 use crate::version::Version;
 use design_model::Point;
 use drawing_model::{Drawing, Line, MAX_BLOCKS, joined_drawings_stay};
-use lists_and_numbers::{Bytes, Memory};
+use lists_and_numbers::{Bytes, Memory, put_decimal};
 use std::alloc::Global;
 
 /// Returns the canonical text, in version 1, of a drawing without starts and ends. Reading the text returns
@@ -45,8 +45,8 @@ pub(crate) fn spelled(alloc: Global, version: Version, d: &Drawing) -> Result<By
     let mut text = Bytes::new(alloc);
     put_header(&mut text, version)?;
     put_label(&mut text, d.label())?;
-    put_number(alloc, &mut text, b"step ", d.step())?;
-    put_blocks(alloc, &mut text, d.threads(), d.lines())?;
+    put_number(&mut text, b"step ", d.step())?;
+    put_blocks(&mut text, d.threads(), d.lines())?;
     Ok(text)
 }
 
@@ -77,78 +77,65 @@ pub(crate) fn put_label(text: &mut Bytes, label: &[u8]) -> Result<(), Memory>
 }
 
 /// Adds a line of a keyword, which includes its space, and a number.
-pub(crate) fn put_number(
-    alloc: Global,
-    text: &mut Bytes,
-    word: &[u8],
-    number: u32,
-) -> Result<(), Memory>
+pub(crate) fn put_number(text: &mut Bytes, word: &[u8], number: u32) -> Result<(), Memory>
     ensures { OnOk result (text.new ≡ text.old ++ number_line_text word.now number) }
 {
-    let numeral = number.to_string(alloc)?;
     text.append(word)?;
-    text.append(numeral.as_bytes())?;
+    put_decimal(text, number)?;
     text.push(b'\n')?;
     Ok(())
 }
 
-fn put_blocks(alloc: Global, text: &mut Bytes, threads: &[u8], lines: &[Line]) -> Result<(), Memory>
+fn put_blocks(text: &mut Bytes, threads: &[u8], lines: &[Line]) -> Result<(), Memory>
     requires { length threads.now ≤ MAX_BLOCKS }
     ensures { OnOk result (text.new ≡ text.old ++ blocks_text 0 threads.now lines.now) }
 {
     let mut block: u32 = 0;
     for thread in threads {
-        put_number(alloc, text, b"color ", *thread as u32)?;
-        put_lines_of(alloc, text, block, lines)?;
+        put_number(text, b"color ", *thread as u32)?;
+        put_lines_of(text, block, lines)?;
         block += 1;
     }
     Ok(())
 }
 
 /// Adds the lines of a block.
-pub(crate) fn put_lines_of(
-    alloc: Global,
-    text: &mut Bytes,
-    block: u32,
-    lines: &[Line],
-) -> Result<(), Memory>
+pub(crate) fn put_lines_of(text: &mut Bytes, block: u32, lines: &[Line]) -> Result<(), Memory>
     ensures { OnOk result (text.new ≡ text.old ++ flat_map line_text (lines_of_block block lines.now)) }
 {
     for line in lines {
         if line.block() == block {
-            put_line(alloc, text, line)?;
+            put_line(text, line)?;
         }
     }
     Ok(())
 }
 
-fn put_line(alloc: Global, text: &mut Bytes, line: &Line) -> Result<(), Memory>
+fn put_line(text: &mut Bytes, line: &Line) -> Result<(), Memory>
     ensures { OnOk result (text.new ≡ text.old ++ line_text line.now) }
 {
     text.append(b"line")?;
-    put_points(alloc, text, line.points())?;
+    put_points(text, line.points())?;
     Ok(())
 }
 
-fn put_points(alloc: Global, text: &mut Bytes, points: &[Point]) -> Result<(), Memory>
+fn put_points(text: &mut Bytes, points: &[Point]) -> Result<(), Memory>
     ensures { OnOk result (text.new ≡ text.old ++ points_text points.now) }
 {
     for p in points {
-        put_point(alloc, text, *p)?;
+        put_point(text, *p)?;
     }
     text.push(b'\n')?;
     Ok(())
 }
 
 /// Adds a point, with a space before each number.
-pub(crate) fn put_point(alloc: Global, text: &mut Bytes, p: Point) -> Result<(), Memory>
+pub(crate) fn put_point(text: &mut Bytes, p: Point) -> Result<(), Memory>
     ensures { OnOk result (text.new ≡ text.old ++ spaced_point_text p) }
 {
-    let across = p.x.to_string(alloc)?;
-    let down = p.y.to_string(alloc)?;
     text.push(b' ')?;
-    text.append(across.as_bytes())?;
+    put_decimal(text, p.x)?;
     text.push(b' ')?;
-    text.append(down.as_bytes())?;
+    put_decimal(text, p.y)?;
     Ok(())
 }

@@ -6,6 +6,7 @@ ghost use Rattle.std.specs.Prelude.{◌≡◌, ◌++◌, ◌<◌, ◌≤◌, ◌
 
 use design_model::{MAX_LABEL, Point};
 use format_traits::{put_label, put_spaces};
+use itoa::Buffer;
 use lists_and_numbers::{Bytes, Memory};
 use std::alloc::Global;
 
@@ -40,47 +41,42 @@ pub fn new_header(alloc: Global, label: &[u8], numbers: &HeaderNumbers) -> Resul
     ensures length { IfOk result (λ header. length header ≡ HEADER_LENGTH) }
 {
     let mut header = Bytes::new(alloc);
-    put_fields(alloc, &mut header, label, numbers)?;
+    put_fields(&mut header, label, numbers)?;
     header.push(0x1A)?;
     let length = header.len();
     put_spaces(&mut header, HEADER_LENGTH.saturating_sub(length))?;
     Ok(header)
 }
 
-fn put_fields(
-    alloc: Global,
-    out: &mut Bytes,
-    label: &[u8],
-    numbers: &HeaderNumbers,
-) -> Result<(), Memory>
+fn put_fields(out: &mut Bytes, label: &[u8], numbers: &HeaderNumbers) -> Result<(), Memory>
     requires start { out.old ≡ [] }
     requires label { length label.now ≤ MAX_LABEL }
     requires fits { FitsFields numbers.now }
     ensures { OnOk result (out.new ≡ fields_of label.now numbers.now) }
 {
     put_label_field(out, label)?;
-    put_number(alloc, out, b"ST:", 7, numbers.records)?;
-    put_number(alloc, out, b"CO:", 3, numbers.stops)?;
-    put_extents(alloc, out, &numbers.extents)?;
-    put_signed(alloc, out, b"AX:", numbers.last.x)?;
-    put_signed(alloc, out, b"AY:", opposite(numbers.last.y))?;
-    put_signed(alloc, out, b"MX:", 0)?;
-    put_signed(alloc, out, b"MY:", 0)?;
+    put_number(out, b"ST:", 7, numbers.records)?;
+    put_number(out, b"CO:", 3, numbers.stops)?;
+    put_extents(out, &numbers.extents)?;
+    put_signed(out, b"AX:", numbers.last.x)?;
+    put_signed(out, b"AY:", opposite(numbers.last.y))?;
+    put_signed(out, b"MX:", 0)?;
+    put_signed(out, b"MY:", 0)?;
     put_field(out, b"PD:", b"******")?;
     Ok(())
 }
 
-fn put_extents(alloc: Global, out: &mut Bytes, extents: &Extents) -> Result<(), Memory>
+fn put_extents(out: &mut Bytes, extents: &Extents) -> Result<(), Memory>
     ensures { OnOk result (out.new ≡ out.old
         ++ number_field (codes "+X:") 5 extents.now.right
         ++ number_field (codes "-X:") 5 extents.now.left
         ++ number_field (codes "+Y:") 5 extents.now.up
         ++ number_field (codes "-Y:") 5 extents.now.down) }
 {
-    put_number(alloc, out, b"+X:", 5, extents.right)?;
-    put_number(alloc, out, b"-X:", 5, extents.left)?;
-    put_number(alloc, out, b"+Y:", 5, extents.up)?;
-    put_number(alloc, out, b"-Y:", 5, extents.down)?;
+    put_number(out, b"+X:", 5, extents.right)?;
+    put_number(out, b"-X:", 5, extents.left)?;
+    put_number(out, b"+Y:", 5, extents.up)?;
+    put_number(out, b"-Y:", 5, extents.down)?;
     Ok(())
 }
 
@@ -104,37 +100,32 @@ fn put_field(out: &mut Bytes, name: &[u8], contents: &[u8]) -> Result<(), Memory
 }
 
 /// Appends a field of a number, padded with spaces at its left to `places` bytes.
-fn put_number(
-    alloc: Global,
-    out: &mut Bytes,
-    name: &[u8],
-    places: usize,
-    number: u32,
-) -> Result<(), Memory>
+fn put_number(out: &mut Bytes, name: &[u8], places: usize, number: u32) -> Result<(), Memory>
     ensures { OnOk result (out.new ≡ out.old ++ number_field name.now places number) }
 {
     out.append(name)?;
-    put_digits(alloc, out, places, number)?;
+    put_digits(out, places, number)?;
     out.push(b'\r')?;
     Ok(())
 }
 
-fn put_digits(alloc: Global, out: &mut Bytes, places: usize, number: u32) -> Result<(), Memory>
+fn put_digits(out: &mut Bytes, places: usize, number: u32) -> Result<(), Memory>
     ensures { OnOk result (out.new ≡ out.old ++ padded_left places (decimal number)) }
 {
-    let digits = number.to_string(alloc)?;
+    let mut buffer = Buffer::new();
+    let digits = buffer.format(number);
     put_spaces(out, places.saturating_sub(digits.len()))?;
     out.append(digits.as_bytes())?;
     Ok(())
 }
 
 /// Appends a field of a sign and of a number, padded to five bytes.
-fn put_signed(alloc: Global, out: &mut Bytes, name: &[u8], number: i32) -> Result<(), Memory>
+fn put_signed(out: &mut Bytes, name: &[u8], number: i32) -> Result<(), Memory>
     ensures { OnOk result (out.new ≡ out.old ++ signed_field name.now number) }
 {
     out.append(name)?;
     out.push(sign_of(number))?;
-    put_digits(alloc, out, 5, number.unsigned_abs())?;
+    put_digits(out, 5, number.unsigned_abs())?;
     out.push(b'\r')?;
     Ok(())
 }

@@ -1,7 +1,6 @@
 -- The limits of formats: moves in tenths of a millimetre, hops, and bytes.
 use Rattle.std.proofs.Common.{◌≡◌, refl}
 use Rattle.format_traits.specs.declared.decoder.TheConstants.{MAX_PENDING}
-use Rattle.format_traits.specs.declared.feed.TheConstants.{MAX_FILE}
 use Rattle.format_traits.specs.declared.format_object.TheConstants.{MIN_LIMIT, MAX_LIMIT}
 use Rattle.format_traits.specs.declared.move_hops.TheConstants.{MAX_MOVE}
 

@@ -2,11 +2,13 @@
 //! plain lists that several crates cite.
 #![tactic(auto)]
 
+mod decimals;
 mod items;
 mod limits;
 mod memory;
 mod whole_number;
 
+pub use decimals::put_decimal;
 pub use items::{Bytes, Items, Numbers};
 pub use limits::MAX_FILE;
 pub use memory::Memory;

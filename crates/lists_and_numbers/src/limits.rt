@@ -1,2 +1,2 @@
-/// The greatest length of a file that is read or written, in bytes: 64 MiB.
+/// The greatest length of a file that is read, in bytes: 64 MiB.
 pub const MAX_FILE: u64 = 67_108_864;

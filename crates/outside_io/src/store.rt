@@ -4,7 +4,6 @@ ghost use Rattle.outside_io.specs.Files.{FileExists, IsFileName};
 ghost use Rattle.outside_io.specs.Views.{StoreView};
 ghost use Rattle.std.specs.Prelude.{◌≤◌, []};
 
-
 /// A call to a store or a sink failed.
 #[derive(Clone, Copy, Debug, PartialEq)]
 pub struct Failed;

@@ -1,11 +1,9 @@
 ghost use Rattle.picture_parts.specs.Parts.{around, filled, mm_text, part_text, point_text, text_after, text_before};
-ghost use Rattle.std.specs.Fmt.{decimal, signed_decimal};
 ghost use Rattle.std.specs.Prelude.{◌≡◌, ◌++◌, OnOk, map};
 
 use crate::escapes::put_escaped;
 use design_model::Point;
-use itoa::Buffer;
-use lists_and_numbers::{Bytes, Memory};
+use lists_and_numbers::{Bytes, Memory, put_decimal};
 use text_parts::length_before;
 
 /// A part of an SVG text.
@@ -67,43 +65,27 @@ fn put_part(text: &mut Bytes, part: Part<'_>) -> Result<(), Memory>
     match part {
         Part::Text(bytes) => text.append(bytes)?,
         Part::Escaped(label) => put_escaped(text, label)?,
-        Part::Number(number) => put_number(text, number)?,
+        Part::Number(number) => put_decimal(text, number)?,
         Part::At(point) => put_point(text, point)?,
         Part::Mm(tenths) => put_mm(text, tenths)?,
     }
     Ok(())
 }
 
-fn put_number(text: &mut Bytes, number: u128) -> Result<(), Memory>
-    ensures { OnOk result (text.new ≡ text.old ++ decimal number) }
-{
-    let mut buffer = Buffer::new();
-    text.append(buffer.format(number).as_bytes())?;
-    Ok(())
-}
-
-fn put_signed(text: &mut Bytes, number: i32) -> Result<(), Memory>
-    ensures { OnOk result (text.new ≡ text.old ++ signed_decimal number) }
-{
-    let mut buffer = Buffer::new();
-    text.append(buffer.format(number).as_bytes())?;
-    Ok(())
-}
-
 fn put_point(text: &mut Bytes, at: Point) -> Result<(), Memory>
     ensures { OnOk result (text.new ≡ text.old ++ point_text at) }
 {
-    put_signed(text, at.x)?;
+    put_decimal(text, at.x)?;
     text.append(b",")?;
-    put_signed(text, at.y)?;
+    put_decimal(text, at.y)?;
     Ok(())
 }
 
 fn put_mm(text: &mut Bytes, tenths: u128) -> Result<(), Memory>
     ensures { OnOk result (text.new ≡ text.old ++ mm_text tenths) }
 {
-    put_number(text, tenths / 10)?;
+    put_decimal(text, tenths / 10)?;
     text.append(b".")?;
-    put_number(text, tenths % 10)?;
+    put_decimal(text, tenths % 10)?;
     Ok(())
 }

@@ -1,11 +1,10 @@
 ghost use Rattle.design_model.specs.declared.design.TheConstants.{MAX_COMMANDS};
 ghost use Rattle.program_texts.specs.DesignReports.{written_report, block_report_line, block_lines, count_lines, ended_line, extent_line, labelled_number_line, labelled_number, coordinates_text, show_report, title_lines};
-ghost use Rattle.std.specs.Prelude.{◌≡◌, ◌++◌, ◌+◌, ◌≤◌, ◌^◌, ◌<◌, IfOk, OnOk, decimal, length};
+ghost use Rattle.std.specs.Prelude.{◌≡◌, ◌++◌, ◌+◌, ◌≤◌, IfOk, OnOk, length};
 
 use design_model::{Counts, Design, Extent, Point, block_counts, counts, extent};
 use format_traits::Loaded;
-use itoa::Buffer;
-use lists_and_numbers::{Bytes, Memory};
+use lists_and_numbers::{Bytes, Memory, put_decimal};
 use std::alloc::Global;
 
 // A function of its own: inlined in a program's large function, its loops over commands would keep their counts in
@@ -110,11 +109,9 @@ fn put_block(text: &mut Bytes, number: u32, thread: u8, needles: u32) -> Result<
 fn put_point(text: &mut Bytes, point: Point) -> Result<(), Memory>
     ensures { OnOk result (text.new ≡ text.old ++ coordinates_text point) }
 {
-    let mut x = Buffer::new();
-    let mut y = Buffer::new();
-    text.append(x.format(point.x).as_bytes())?;
+    put_decimal(text, point.x)?;
     text.append(b" ")?;
-    text.append(y.format(point.y).as_bytes())?;
+    put_decimal(text, point.y)?;
     Ok(())
 }
 
@@ -130,8 +127,7 @@ fn put_number_line(text: &mut Bytes, word: &[u8], number: u32) -> Result<(), Mem
 fn put_number(text: &mut Bytes, word: &[u8], number: u32) -> Result<(), Memory>
     ensures { OnOk result (text.new ≡ text.old ++ labelled_number word.now number) }
 {
-    let mut buffer = Buffer::new();
     text.append(word)?;
-    text.append(buffer.format(number).as_bytes())?;
+    put_decimal(text, number)?;
     Ok(())
 }

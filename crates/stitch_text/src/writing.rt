@@ -11,8 +11,7 @@ use crate::stitch_list::write_limits;
 use crate::theorems::written_reads_again;
 use design_model::{Act, Design};
 use format_traits::{ActWriter, EncoderState, WriteFault, WriteLimits, put_each_act};
-use itoa::Buffer;
-use lists_and_numbers::{Bytes, Memory};
+use lists_and_numbers::{Bytes, Memory, put_decimal};
 use std::alloc::Global;
 
 /// Writes a design as a list.
@@ -101,8 +100,7 @@ impl ActWriter for LineWriter<'_> {
 fn put_block(text: &mut Bytes, thread: u8) -> Result<(), Memory>
     ensures { OnOk result (text.new ≡ text.old ++ list_block_line thread) }
 {
-    let mut buffer = Buffer::new();
     text.append(b"block ")?;
-    text.append(buffer.format(thread).as_bytes())?;
+    put_decimal(text, thread)?;
     Ok(())
 }

@@ -4,9 +4,7 @@ use drawing_model::DrawKind::{
     TooManyBlocks, TooManyLines, TooManyPoints, TooMuchCost,
 };
 use drawing_model::Drawing;
-use drawing_text::{
-    DrawFault, print_drawing, print_drawing2, read_as2, read_drawing, read_lines,
-};
+use drawing_text::{DrawFault, print_drawing, print_drawing2, read_as2, read_drawing, read_lines};
 use lists_and_numbers::{Bytes, MAX_FILE};
 use std::alloc::Global;
 use std::test::Fail;

@@ -1,8 +1,8 @@
 ghost use Rattle.std.specs.Prelude.{◌<◌};
 
 use super::lists::{HEAD, SQUARE};
-use format_traits::ReadFault::{self, Control, Range, Short, Signature};
 use format_traits::Format;
+use format_traits::ReadFault::{self, Control, Range, Short, Signature};
 use lists_and_numbers::MAX_FILE;
 use std::test::Fail;
 use stitch_text::List;
