@@ -2,13 +2,13 @@ ghost use Rattle.design_model.specs.Commands.{is_command_in_range, command_with_
 ghost use Rattle.design_model.specs.Labels.{IsLabel};
 ghost use Rattle.design_model.specs.declared.design.ModelFault.TheVariants as fault;
 ghost use Rattle.std.specs.List.{list_all};
-ghost use Rattle.std.specs.Prelude.{◌≡◌, ◌<◌, ◌≤◌, ◌∷◌, ◌++◌, [], length, slice_get, slice_set, IfSome, IsSomeAnd, IsTrue};
+ghost use Rattle.std.specs.Prelude.{◌≡◌, ◌<◌, ◌≤◌, ◌∷◌, ◌++◌, [], length, slice_get, slice_set, IfSome, IsSomeAnd, IsTrue, OnErr, OnOk};
 
 use crate::command::Command;
 use crate::point::Point;
 use arrayvec::ArrayVec;
 use lists_and_numbers::Memory;
-use std::alloc::{AllocFailed, Global};
+use std::alloc::Global;
 use std::marker::Model;
 
 /// The maximum length of a label in bytes.
@@ -60,7 +60,7 @@ impl Model for Design {
 }
 
 impl Design {
-    ghost use Rattle.design_model.specs.Designs.{KeepsLimits, Pushes, empty_design, with_command_at, with_label, with_thread, with_thread_at, without_commands, thread_of};
+    ghost use Rattle.design_model.specs.Designs.{KeepsLimits, Pushes, empty_design, with_command, with_command_at, with_label, with_thread, with_thread_at, without_commands, thread_of};
 
     /// Returns a design without label, threads and commands.
     pub fn new(alloc: Global) -> Self
@@ -147,6 +147,19 @@ impl Design {
         if self.commands.len() == MAX_COMMANDS {
             return Err(ModelFault::TooMany);
         }
+        self.add(command)?;
+        Ok(())
+    }
+
+    /// Adds a command in its range at the end of a design that has room for it. An error leaves the design
+    /// unchanged.
+    #[inline(always)]
+    pub fn add(&mut self, command: Command) -> Result<(), Memory>
+        requires in_range { IsTrue (is_command_in_range command) }
+        requires room { length self.old.commands < MAX_COMMANDS }
+        ensures added { OnOk result (self.new ≡ with_command self.old command) }
+        ensures kept { OnErr result (self.new ≡ self.old) }
+    {
         self.commands.push(command)?;
         Ok(())
     }
@@ -192,10 +205,10 @@ fn move_one(commands: &mut Vec<Command>, index: usize, point: Point)
     commands[index] = command.moved_to(point);
 }
 
-impl<T: Drop> From<AllocFailed<T>> for ModelFault {
+impl From<Memory> for ModelFault {
     ghost from_gives = { λ _ e. e ≡ fault.Memory };
 
-    fn from(_error: AllocFailed<T>) -> ModelFault {
+    fn from(_error: Memory) -> ModelFault {
         ModelFault::Memory
     }
 }

@@ -13,7 +13,7 @@ ghost use Rattle.step_splitter.specs.declared.segment.TheConstants.{MAX_STEP};
 
 use crate::refitting::{RefitFault, RefitMode};
 use crate::segment::split;
-use design_model::{Act, Command, Design, ModelFault, NumberedAct, Point};
+use design_model::{Act, Command, Design, MAX_COMMANDS, NumberedAct, Point};
 use std::alloc::Global;
 
 /// The state of a refit between two acts: whether the thread is loose, and where the last needle act was.
@@ -195,10 +195,9 @@ fn put(out: &mut Design, command: Command, number: u32) -> Result<(), RefitFault
     requires { IsTrue (is_command_in_range command) }
     ensures { AddsRefitCommands number (command ∷ []) out.old result out.new }
 {
-    match out.push(command) {
-        Ok(()) => Ok(()),
-        Err(ModelFault::TooMany) => Err(RefitFault::TooMany { number }),
-        Err(ModelFault::Memory) => Err(RefitFault::Memory),
-        Err(ModelFault::Range) => unreachable!(),
+    if out.commands().len() == MAX_COMMANDS {
+        return Err(RefitFault::TooMany { number });
     }
+    out.add(command)?;
+    Ok(())
 }

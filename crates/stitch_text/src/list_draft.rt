@@ -1,11 +1,9 @@
 ghost use Rattle.design_model.specs.ActPositions.{is_act_in_range};
-ghost use Rattle.design_model.specs.Commands.{is_command_in_range};
-ghost use Rattle.design_model.specs.Designs.{with_command};
 ghost use Rattle.design_model.specs.LongerDesigns.{with_commands};
 ghost use Rattle.design_model.specs.Points.{is_point_within};
 ghost use Rattle.design_model.specs.declared.design.TheConstants.{MAX_COMMANDS};
 ghost use Rattle.design_model.specs.declared.point.TheConstants.{NEEDLE_LIMIT as needle_limit};
-ghost use Rattle.std.specs.Prelude.{◌≡◌, ◌+◌, ◌<◌, ◌≤◌, length, None, Some, false, IfOk, IsTrue, OnOk};
+ghost use Rattle.std.specs.Prelude.{◌≡◌, ◌+◌, ◌≤◌, length, None, Some, false, IfOk, IsTrue, OnOk};
 ghost use Rattle.stitch_text.specs.Drafts.{IsSoundDraft, IsSoundDraftLacking, JudgesAct, missing_threads_after};
 ghost use Rattle.stitch_text.specs.Judging.{JudgesLine, fault_of_act, list_commands_of, needs_held_thread};
 ghost use Rattle.stitch_text.specs.ListStages.{IsUnbegunDraft, blank_draft};
@@ -14,7 +12,7 @@ ghost use Rattle.stitch_text.specs.declared.list_line.ListLine.TheVariants as li
 
 use crate::list_line::ListLine;
 use crate::stitch_list::{LIMIT, write_limits};
-use design_model::{Act, Command, Design, ModelFault, NEEDLE_LIMIT, Point};
+use design_model::{Act, Command, Design, NEEDLE_LIMIT, Point};
 use format_traits::{EncoderState, ReadFault, WriteFault};
 use lists_and_numbers::Memory;
 use std::alloc::Global;
@@ -155,23 +153,11 @@ fn push_act(design: &mut Design, act: Act) -> Result<(), Memory>
 {
     match act {
         Act::Needle { at, float: true } => {
-            push(design, Command::Jump(at))?;
-            push(design, Command::Stitch(at))
+            design.add(Command::Jump(at))?;
+            design.add(Command::Stitch(at))
         }
-        Act::Needle { at, float: false } => push(design, Command::Stitch(at)),
-        Act::Trim => push(design, Command::Trim),
-        Act::Stop => push(design, Command::Stop),
-    }
-}
-
-fn push(design: &mut Design, command: Command) -> Result<(), Memory>
-    requires room { length design.old.commands < MAX_COMMANDS }
-    requires in_range { IsTrue (is_command_in_range command) }
-    ensures { OnOk result (design.new ≡ with_command design.old command) }
-{
-    match design.push(command) {
-        Ok(()) => Ok(()),
-        Err(ModelFault::Memory) => Err(Memory),
-        Err(ModelFault::Range | ModelFault::TooMany) => unreachable!(),
+        Act::Needle { at, float: false } => design.add(Command::Stitch(at)),
+        Act::Trim => design.add(Command::Trim),
+        Act::Stop => design.add(Command::Stop),
     }
 }
