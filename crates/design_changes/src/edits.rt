@@ -9,7 +9,7 @@ ghost use Rattle.std.specs.Prelude.{◌≡◌, ◌≤◌, ℕ, [], IfSome, IsSom
 
 use crate::change_faults::{ChangeFailure, ChangeFault};
 use command_words::{Edit, parse_edit};
-use design_edits::{EditFault, mirror, recolour, shift, turn};
+use design_edits::{MovedOut, NoPlace, mirror, recolour, shift, turn};
 use design_model::{Design, Point};
 
 /// Returns the design after the edits that the arguments represent, in order.
@@ -65,8 +65,7 @@ fn apply_shift(design: &mut Design, by: Point) -> Result<(), ChangeFault>
 {
     match shift(design, by.x, by.y) {
         Ok(()) => Ok(()),
-        Err(EditFault::Range { number }) => Err(ChangeFault::MovedOut { number }),
-        Err(EditFault::NoPlace { count: _ }) => unreachable!(),
+        Err(MovedOut { number }) => Err(ChangeFault::MovedOut { number }),
     }
 }
 
@@ -77,7 +76,6 @@ fn apply_thread(design: &mut Design, place: u32, thread: u8) -> Result<(), Chang
 {
     match recolour(design, place - 1, thread) {
         Ok(()) => Ok(()),
-        Err(EditFault::NoPlace { count }) => Err(ChangeFault::NoPlace { place, count }),
-        Err(EditFault::Range { number: _ }) => unreachable!(),
+        Err(NoPlace { count }) => Err(ChangeFault::NoPlace { place, count }),
     }
 }

@@ -3,19 +3,19 @@ ghost use Rattle.design_model.specs.Designs.{thread_of, with_thread};
 ghost use Rattle.design_model.specs.declared.design.TheConstants.{MAX_THREADS};
 ghost use Rattle.std.specs.Prelude.{◌≡◌, ◌<◌, length, OnOk};
 
-use crate::edit_fault::EditFault;
+use crate::edit_faults::NoPlace;
 use design_model::{Design, MAX_THREADS, counts};
 
 /// Sets the thread of the block at `place`, which counts from 0. The threads of the blocks before it are
 /// stored too.
 #[tactic(auto, using(crate::proofs::ColourLemmas::place_kept, crate::proofs::ColourLemmas::recolours_by))]
-pub fn recolour(design: &mut Design, place: u32, thread: u8) -> Result<(), EditFault>
+pub fn recolour(design: &mut Design, place: u32, thread: u8) -> Result<(), NoPlace>
     ensures value { IsRecolourResult place thread design.old result design.new }
     ensures threads { OnOk result (Recolours place thread design.old design.new) }
 {
     let count = place_count(design);
     if place >= count {
-        return Err(EditFault::NoPlace { count });
+        return Err(NoPlace { count });
     }
     keep_threads(design, place);
     design.put_thread(place as usize, thread);
