@@ -59,9 +59,7 @@ pub fn put_each_act<W: ActWriter>(
         let Some(act) = walk.next(*command) else {
             continue;
         };
-        if let Err(fault) = Sorted::put(writer, out, &mut state, act) {
-            return Err(fault);
-        }
+        Sorted::put(writer, out, &mut state, act)?;
     }
     Ok(state)
 }

@@ -51,7 +51,7 @@ fn sweep(labels: &mut Vec<u32>, links: &[LineLink]) -> bool
 {
     let mut changed = false;
     for link in links {
-        changed = either(join(labels, *link), changed);
+        changed = join(labels, *link) | changed;
     }
     changed
 }
@@ -71,7 +71,7 @@ fn join(labels: &mut Vec<u32>, link: LineLink) -> bool
     let at_other_label = lower(labels, first, least);
     let at_line = lower(labels, link.line, least);
     let at_first = lower(labels, link.first, least);
-    either(either(at_first, at_line), either(at_other_label, at_label))
+    (at_first | at_line) | (at_other_label | at_label)
 }
 
 /// Lowers a line's label to the given one if that is less, and returns whether it did.
@@ -93,10 +93,4 @@ fn label_at(labels: &Vec<u32>, line: u32) -> u32
     ensures low { result ≤ line }
 {
     labels[line as usize]
-}
-
-fn either(one: bool, other: bool) -> bool
-    ensures { result ≡ (one || other) }
-{
-    one || other
 }

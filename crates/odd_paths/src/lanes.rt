@@ -23,7 +23,7 @@ pub fn sweep(table: &mut [[u32; LANES]], edges: &[Edge]) -> bool
     let mut rest = edges;
     while let [e, after @ ..] = rest {
         let now = relax(table, *e);
-        changed = either(changed, now);
+        changed |= now;
         rest = after;
     }
     changed
@@ -42,14 +42,7 @@ pub fn relax(table: &mut [[u32; LANES]], e: Edge) -> bool
 {
     let forth = lower(table, e.a, e.b, e.cost);
     let back = lower(table, e.b, e.a, e.cost);
-    either(forth, back)
-}
-
-/// Returns the disjunction, without a branch.
-fn either(one: bool, other: bool) -> bool
-    ensures { result ≡ one || other }
-{
-    one | other
+    forth | back
 }
 
 /// Relaxes the lane of `b` from that of `a`, and returns whether a number was lowered.

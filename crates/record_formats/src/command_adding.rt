@@ -33,8 +33,6 @@ pub fn keep_both(
         ((design.new ≡ design.old) ⊎ (design.new ≡ with_command design.old first)) }
     ensures others { SameButCommands design.old design.new }
 {
-    if let Err(fault) = keep(design, at, first) {
-        return Err(fault);
-    }
+    keep(design, at, first)?;
     keep(design, at, second)
 }

@@ -180,9 +180,11 @@ fn encoded(
     match encode_by(alloc, format, &routed.design) {
         Ok(bytes) => Ok(bytes),
         Err(WriteFault::Memory) => Err(Memory),
-        Err(WriteFault::StitchTooLong { number: _ }) => unreachable!(),
-        Err(WriteFault::FloatTooLong { number: _ }) => unreachable!(),
-        Err(WriteFault::TooManyStops { number: _ }) => unreachable!(),
-        Err(WriteFault::TooLong { number: _ }) => unreachable!(),
+        Err(
+            WriteFault::StitchTooLong { number: _ }
+            | WriteFault::FloatTooLong { number: _ }
+            | WriteFault::TooManyStops { number: _ }
+            | WriteFault::TooLong { number: _ },
+        ) => unreachable!(),
     }
 }
