@@ -1,5 +1,5 @@
 -- Blossoms rotated to another part.
-use Rattle.std.proofs.Common.{◌≡◌, ℕ, ◌+◌, ◌≤◌, ◌<◌, ◌%◌, List, [], ◌∷◌, ◌++◌, length, map, take, drop, get_or, drop-cons, add-one, arith, refl, sym, ap, subst, ◌∙◌, append_assoc, length-append}
+use Rattle.std.proofs.Common.{◌≡◌, ℕ, ◌+◌, ◌≤◌, ◌<◌, ◌%◌, List, [], ◌∷◌, ◌++◌, length, map, take, drop, get_or, arith, refl, sym, ap, subst, ◌∙◌, append_assoc, length-append}
 use Rattle.odd_sets.proofs.Names.{nat_tests, append-nil, map-append, take-append-drop, TableValue, NoneHold, IsOddSet, dual_sets, count, AreTightInside, IsTightInside, FirstPartHolds, PartHoldsAt, IsRotated, members_in, dual_sets_in, part_sets, path_edges, IsPartPath, cycle_edges, IsPartCycle, AreOddSets, IsVertexOrBlossom, odd_set_of, PartValue, IsOutside, blossom_edge_of, EdgeLeadsTo}
 use Rattle.odd_sets.proofs.ListLemmas.{drop_here, each-append, mapped_drop, mapped_low, mapped_take}
 use Rattle.odd_sets.proofs.SumLemmas.{count-append, members-append, none_hold}
@@ -41,11 +41,6 @@ paid_turned d (x ∷ xs) ys l =
     subst (λ (zs : List PartValue). AreTightInside d (cycle_edges zs)) (shifted xs ys x)
     (paid_turned d xs (ys ++ x ∷ []) (subst (λ (zs : List PartValue). AreTightInside d (cycle_edges zs)) (append_assoc xs ys (x ∷ []))
     (paid_by_one d x (xs ++ ys) l)))
-
--- the part at the index does not hold the place: a later one does
-pub held_later : (x : ℕ) (ps : List PartValue) (i : ℕ) (p : PartValue) → i < length ps → p ≡ get_or ps i p → count x p.odd_set.members ≡ 0 →
-    1 ≤ count x (members_in (drop i ps)) → 1 ≤ count x (members_in (drop (i + 1) ps))
-held_later x ps i p h1 h2 h3 h4 = grind (arith, nat_tests, drop-cons, add-one, count-append)
 
 -- an additive quantity of the parts doesn't change when they are rotated
 pub sum_turned : (G : List PartValue → ℕ) → ((ps qs : List PartValue) → G (ps ++ qs) ≡ G ps + G qs) → (i : ℕ) (ps : List PartValue)

@@ -3,6 +3,7 @@ pub use Rattle.odd_sets.proofs.BlossomLemmas.{made_kept}
 pub use Rattle.odd_sets.proofs.ChainLemmas.{around_append, tight_back}
 pub use Rattle.odd_sets.proofs.ExpandLemmas.{drop_past, grown-right}
 pub use Rattle.odd_sets.proofs.HandleLemmas.{no_branch, no_match}
+pub use Rattle.odd_sets.proofs.FirstLemmas.{IsFirst, first_or_last}
 pub use Rattle.odd_sets.proofs.ListLemmas.{drop_here, each-append, each-drop, each-left, each-map, each-push, each-right, each-take}
 pub use Rattle.odd_sets.proofs.ListLemmas.{each_here, get_or_self, mapped_at, mapped_cut, mapped_drop, mapped_item, mapped_low}
 pub use Rattle.odd_sets.proofs.ListLemmas.{number_here, pairs-append, take_here, written}

@@ -1,12 +1,12 @@
 -- The slot of a set that is expanded.
-use Rattle.std.proofs.Common.{◌≡◌, ℕ, ◌+◌, ◌≤◌, ◌<◌, List, [], ◌∷◌, ◌++◌, take, drop, length, ltb, Option, Some, None, arith, sym, ap, subst, ◌∙◌}
+use Rattle.std.proofs.Common.{◌≡◌, ℕ, suc, get_or, ◌+◌, ◌≤◌, ◌<◌, List, [], ◌∷◌, ◌++◌, take, drop, length, ltb, Option, Some, None, arith, sym, ap, subst, ◌∙◌}
 use Rattle.odd_sets.proofs.Names.{nat_tests, length-map, map-append, lt-ltb, ltb-true, get, ContainsKey, Updates, DualSet, OddSetValue, dual_sets, count, one_if_equal, key_count, match_dual_sets, dual_sets_in, members_in, odd_set_of, IsBlossom, CanSplitBlossom, CanExpand, Expands, IsEvenlyOriented, InsertsBranches, SplitsBlossom, branch_in, branches_in, match_in, matches_in, members_at, slot_members, slacks_at, part_in, parts_at, parts_in, slot_parts, set_in, AreSets, Slots, all_dual_sets, branch_dual_sets, BranchValue, MatchValue, PartValue, Handle, Slot, Match, Branch}
-use Rattle.odd_sets.proofs.ListLemmas.{mapped_drop, mapped_last, mapped_take}
+use Rattle.odd_sets.proofs.ListLemmas.{mapped_drop, mapped_last, mapped_take, parted}
 use Rattle.odd_sets.proofs.SumLemmas.{dual_sets-append, bands_push, hit_same, key_count-append}
 use Rattle.odd_sets.proofs.SlotLemmas.{can_left, can_right, has_slot, is_made, keep_branches, keep_matches, keep_parts, keep_seat, kept_append, parts_show, removed_keeps, set_made, set_of, sets_fewer, AreKept}
 use Rattle.odd_sets.proofs.OpenLemmas.{made_blossom}
 use Rattle.odd_sets.proofs.ShrunkLemmas.{all_uses}
-use Rattle.odd_sets.proofs.ExpandLemmas.{can_lay, expanded, grows_at, split_at, SplitAt}
+use Rattle.odd_sets.proofs.ExpandLemmas.{apart_within, can_lay, expanded, grows_at, split_at, SplitAt}
 
 -- the sets of a search without the one that comes apart: the root, the branches before, its parts,
 -- its partner, the branches after it, and the matches
@@ -59,14 +59,22 @@ module _ (old : Slots) (root : Handle) (tree bs later : List Branch) (b : Branch
   abbrev IsSplit : Type 0
   IsSplit = SplitAt (set_in old root) (branches_in old tree) (branches_in old bs) (branch_in old b) (branches_in old later)
 
-  pub split_slots : (kept : List Branch) (at : ℕ) → CanExpand (set_in old root) (branches_in old tree) at → kept ≡ take (at + 1) tree
-      → later ≡ drop (at + 1) tree → kept ≡ bs ++ b ∷ [] → IsSplit
-  split_slots kept at ex e f g =
-      split_at (set_in old root) (branches_in old tree) (branches_in old kept) (branches_in old bs) (branch_in old b)
+  -- the branch at the index is taken out, and the others are cut there
+  apart_at : (left : List Branch) (at : ℕ) → CanExpand (set_in old root) (branches_in old tree) at → b ≡ get_or tree at b
+      → left ≡ take at tree ++ drop (suc at) tree → bs ≡ take at left → later ≡ drop at left
+      → (later ≡ drop (at + 1) tree) × (take (at + 1) tree ≡ bs ++ b ∷ [])
+  apart_at left at ex =
+      parted tree left bs later at b (omega (arith, apart_within at (branches_in old tree) ex.apart, length-map tree (branch_in old)))
+
+  pub split_slots : (left : List Branch) (at : ℕ) → CanExpand (set_in old root) (branches_in old tree) at → b ≡ get_or tree at b
+      → left ≡ take at tree ++ drop (suc at) tree → bs ≡ take at left → later ≡ drop at left → IsSplit
+  split_slots left at ex e f g h =
+      let two = apart_at left at ex e f g h in
+      split_at (set_in old root) (branches_in old tree) (branches_in old (take (at + 1) tree)) (branches_in old bs) (branch_in old b)
       (branches_in old later)
-      at ex (ap (λ (ks : List Branch). branches_in old ks) e ∙ sym (mapped_take (branch_in old) (at + 1) tree))
-      (ap (λ (ks : List Branch). branches_in old ks) f ∙ sym (mapped_drop (branch_in old) (at + 1) tree))
-      (mapped_last (branch_in old) kept bs b g)
+      at ex (sym (mapped_take (branch_in old) (at + 1) tree))
+      (ap (λ (ks : List Branch). branches_in old ks) two.0 ∙ sym (mapped_drop (branch_in old) (at + 1) tree))
+      (mapped_last (branch_in old) (take (at + 1) tree) bs b two.1)
 
   abbrev Stand : Type 0
   Stand = AreSets old (all_dual_sets (set_in old root) (branches_in old tree) (matches_in old rest))
@@ -226,13 +234,15 @@ module _ {old new : Slots} {root : Handle} {tree bs later : List Branch} {b : Br
           once = λ k. omega (arith, now_uses k x, are.once k, f.split k);
         }
 
-    pub grows_freed : (kept : List Branch) (at : ℕ)
-        → CanExpand (set_in old root) (branches_in old tree) at → kept ≡ take (at + 1) tree → later ≡ drop (at + 1) tree
-        → kept ≡ bs ++ b ∷ [] → Laid blossom (branches_in new mid) (matches_in new cs) → now ≡ mid ++ later
+    pub grows_freed : (left : List Branch) (at : ℕ)
+        → CanExpand (set_in old root) (branches_in old tree) at → b ≡ get_or tree at b → left ≡ take at tree ++ drop (suc at) tree
+        → bs ≡ take at left → later ≡ drop at left → Laid blossom (branches_in new mid) (matches_in new cs) → now ≡ mid ++ later
         → InsertsBranches at (branches_in old tree) (branches_in new now)
-    grows_freed kept at ex e g h l m =
-        grows_at (set_in old root) (branches_in old tree) (branches_in old kept) (branches_in old bs) (branch_in old b)
+    grows_freed left at ex e f g h l m =
+        let two = apart_at old root tree bs later b rest left at ex e f g h in
+        grows_at (set_in old root) (branches_in old tree) (branches_in old (take (at + 1) tree)) (branches_in old bs) (branch_in old b)
         (branches_in old later) (branches_in new mid) (branches_in new now) blossom (matches_in new cs) at ex
-        (ap (λ (ks : List Branch). branches_in old ks) e ∙ sym (mapped_take (branch_in old) (at + 1) tree))
-        (ap (λ (ks : List Branch). branches_in old ks) g ∙ sym (mapped_drop (branch_in old) (at + 1) tree))
-        (mapped_last (branch_in old) kept bs b h) (laid_old blossom (branches_in new mid) (matches_in new cs) l) (mid_more m)
+        (sym (mapped_take (branch_in old) (at + 1) tree))
+        (ap (λ (ks : List Branch). branches_in old ks) two.0 ∙ sym (mapped_drop (branch_in old) (at + 1) tree))
+        (mapped_last (branch_in old) (take (at + 1) tree) bs b two.1) (laid_old blossom (branches_in new mid) (matches_in new cs) l)
+        (mid_more m)

@@ -19,6 +19,7 @@ pub mod ShrunkLemmas
 pub mod ReversalLemmas
 pub mod SplitLemmas
 pub mod ExpandLemmas
+pub mod FirstLemmas
 pub mod FreedLemmas
 pub mod RaisedLemmas
 pub mod SlackRowLemmas

@@ -1,7 +1,8 @@
 -- Facts of each item of joined lists.
 use Rattle.std.proofs.Common.{◌≡◌, ℕ, suc, zero, List, [], ◌∷◌, ◌++◌, take, drop, map, reverse, length, ◌+◌, ◌<◌, get_or, drop-cons, add-one, arith, refl, sym, ap, subst, ◌∙◌}
 use Rattle.std.proofs.Math.ListN.{get_or-map}
-use Rattle.std.proofs.Math.Seq.{take-append_seam}
+use Rattle.std.proofs.Math.Seq.{drop-append_seam, take-append_seam, take-suc}
+use Rattle.std.proofs.lemmas.List.{length-take-le}
 use Rattle.odd_sets.proofs.Names.{nat_tests, length-map, map-append, flat_map, Each, reverse_onto, EachPair}
 
 pub each-append : {X : Type 0} (P : X → Type 0) (xs ys : List X) → Each P xs → Each P ys → Each P (xs ++ ys)
@@ -136,3 +137,15 @@ none_left (x ∷ xs) none = absurd (omega (arith, none))
 pub mapped_two : {X Y : Type 0} (f : X → Y) (xs ys : List X) (x y : X) → xs ≡ (ys ++ x ∷ []) ++ y ∷ []
     → map f xs ≡ (map f ys ++ f x ∷ []) ++ f y ∷ []
 mapped_two f xs ys x y h1 = grind (arith, nat_tests, mapped_last, map-append)
+
+-- what stands before and after an item that was removed
+pub parted : {X : Type 0} (xs ys before after : List X) (i : ℕ) (x : X) → i < length xs → x ≡ get_or xs i x
+    → ys ≡ take i xs ++ drop (suc i) xs
+    → before ≡ take i ys → after ≡ drop i ys → (after ≡ drop (i + 1) xs) × (take (i + 1) xs ≡ before ++ x ∷ [])
+parted {X} xs ys before after i x low here removed first last =
+    let size : length (take i xs) ≡ i = length-take-le i xs (omega (arith, low)) in
+    let front : before ≡ take i xs = first ∙ ap (λ (zs : List X). take i zs) removed
+    ∙ ap (λ (n : ℕ). take n (take i xs ++ drop (suc i) xs)) (sym size) ∙ take-append_seam (take i xs) (drop (suc i) xs) in
+    let back : after ≡ drop (suc i) xs = last ∙ ap (λ (zs : List X). drop i zs) removed
+    ∙ ap (λ (n : ℕ). drop n (take i xs ++ drop (suc i) xs)) (sym size) ∙ drop-append_seam (take i xs) (drop (suc i) xs) in
+    (rw add-one back, rw (add-one, front) (take-suc xs i x low ∙ ap (λ (z : X). take i xs ++ z ∷ []) (sym here)))

@@ -13,18 +13,17 @@ use lists_and_numbers::Memory;
 use std::alloc::Global;
 use std::collections::VecDeque;
 
-/// Returns the index of the part that holds a vertex.
+/// Returns the index of the part that holds a vertex: the last part where no earlier one does.
 pub fn part_with(sets: &Sets, parts: &[BlossomPart], place: u32) -> usize
     requires { 1 ≤ count place (members_in (parts_in sets.now parts.now)) }
     ensures within { result < length parts.now }
     ensures there { PartHoldsAt place (parts_in sets.now parts.now) result }
 {
-    for (i, p) in parts.iter().enumerate() {
-        if p.handle.holds(sets, place) {
-            return i;
-        }
-    }
-    unreachable!()
+    let last = parts.len() - 1;
+    parts[..last]
+        .iter()
+        .position(|p| p.handle.holds(sets, place))
+        .unwrap_or(last)
 }
 
 /// Rotates a blossom so that the part that holds a vertex comes first.

@@ -34,18 +34,14 @@ pub fn expand(
     ensures sets { OnOk result (AreSets sets.new (all_dual_sets (set_in sets.new root)
         (branches_in sets.new tree.new.items) (matches_in sets.new rest.new.items))) }
 {
-    let mut later = tree.split_off(at + 1)?;
-    match tree.pop() {
-        None => unreachable!(),
-        Some(b) => {
-            let slot = sets.remove(b.inner.key);
-            let blossom = even_way(alloc, sets, slot.parts, b.up.to, b.pair.from)?;
-            let mut matches = split_blossom(alloc, sets, root, tree, blossom, b)?;
-            rest.append(&mut matches)?;
-            tree.append(&mut later)?;
-            Ok(())
-        }
-    }
+    let b = tree.remove(at);
+    let mut later = tree.split_off(at)?;
+    let slot = sets.remove(b.inner.key);
+    let blossom = even_way(alloc, sets, slot.parts, b.up.to, b.pair.from)?;
+    let mut matches = split_blossom(alloc, sets, root, tree, blossom, b)?;
+    rest.append(&mut matches)?;
+    tree.append(&mut later)?;
+    Ok(())
 }
 
 /// Rotates a blossom to the part that is entered, and orients it so that the part that is left has an even

@@ -48,7 +48,7 @@ pub fn pair_off(alloc: Global, parts: std::vec::IntoIter<BlossomPart>) -> Result
     Ok(out)
 }
 
-/// Returns the index of the match that holds a vertex.
+/// Returns the index of the match that holds a vertex: the last match where no earlier one does.
 fn match_with(sets: &Sets, matches: &[Match], place: u32) -> usize
     requires { 1 ≤ count place (match_members (matches_in sets.now matches.now)) }
     ensures within { result < length matches.now }
@@ -57,12 +57,11 @@ fn match_with(sets: &Sets, matches: &[Match], place: u32) -> usize
     if let Some(i) = match_from(sets, matches, place) {
         return i;
     }
-    for (i, c) in matches.iter().enumerate() {
-        if c.holds(sets, place) {
-            return i;
-        }
-    }
-    unreachable!()
+    let last = matches.len() - 1;
+    matches[..last]
+        .iter()
+        .position(|c| c.holds(sets, place))
+        .unwrap_or(last)
 }
 
 /// Returns the index of a match that holds a vertex, if its edge has the vertex: one of two vertices does.
@@ -70,13 +69,10 @@ fn match_from(sets: &Sets, matches: &[Match], place: u32) -> Option<usize>
     ensures { IfSome result (λ i. (i < length matches.now)
         × MatchHolds place (matches_in sets.now matches.now) i) }
 {
-    for (i, c) in matches.iter().enumerate() {
+    matches.iter().position(|c| {
         let ends = c.link.from == place || c.link.to == place;
-        if ends && c.holds(sets, place) {
-            return Some(i);
-        }
-    }
-    None
+        ends && c.holds(sets, place)
+    })
 }
 
 /// Removes the match that holds a vertex, and returns it.

@@ -32,15 +32,11 @@ pub fn open_at(alloc: Global, sets: &Sets, s: Handle, left: u32) -> Result<Opene
             matches: Vec::new(alloc),
         });
     }
-    let mut rest = turned_to(sets, parts, left).into_iter();
-    match rest.next() {
-        None => unreachable!(),
-        Some(p) => {
-            let matches = pair_off(alloc, rest)?;
-            Ok(OpenedSet {
-                core: Some(p.handle),
-                matches,
-            })
-        }
-    }
+    let mut rest = turned_to(sets, parts, left);
+    let core = rest.remove(0).handle;
+    let matches = pair_off(alloc, rest.into_iter())?;
+    Ok(OpenedSet {
+        core: Some(core),
+        matches,
+    })
 }

@@ -1,11 +1,12 @@
-use Rattle.std.proofs.Common.{arith, ap, length, List, ◌++◌, ◌≡◌, ◌<◌, ◌∙◌, subst, sym}
+use Rattle.std.proofs.Common.{arith, ap, length, List, ◌++◌, ◌∷◌, ◌≡◌, ◌<◌, ◌∙◌, subst, sym}
 use Rattle.odd_sets.proofs.Names.{nat_tests, length-map, into_iter_items, IsRotated, matches_in, members_at, slacks_at, part_in, parts_at, parts_in, set_in, Match, BlossomPart}
+use Rattle.odd_sets.proofs.ListLemmas.{drop_here}
 use Rattle.odd_sets.proofs.OpenLemmas.{made_blossom, opens_place, opens_blossom}
 use Rattle.odd_sets.proofs.SlotLemmas.{is_made, set_made}
 use Rattle.odd_sets.proofs.opening.open_at.Goals as goal
 
-pub turned_to-requires : goal.turned_to-requires
-turned_to-requires c =
+pub turned_to-rest-requires : goal.turned_to-rest-requires
+turned_to-rest-requires c =
     let sets = c.args.sets.now in
     let s = c.args.s in
     let copied = c.in_ok-extend_from_slice.ensures.items
@@ -37,12 +38,14 @@ returns c =
     let copied = c.in_ok-extend_from_slice.ensures.items
     ∙ ap (λ (ps : List BlossomPart). ps ++ c.parts.result.now) c.new-parts.ensures.items
     ∙ c.parts.ensures in
-    opens_blossom c.args.left s.key s.dual (set_in sets s) (members_at sets s.key) (slacks_at sets s.key) (parts_in sets (parts_at sets
-    s.key))
-    (parts_in sets c.turned_to.result.items) (part_in sets c.in-Some.p) (parts_in sets (into_iter_items c.next.new.self)) _
+    opens_blossom c.args.left s.key s.dual (set_in sets s) (members_at sets s.key) (slacks_at sets s.key)
+    (parts_in sets (parts_at sets s.key)) (parts_in sets c.turned_to-rest.result.items) (part_in sets c.remove.result)
+    (parts_in sets (into_iter_items c.into_iter.result)) _
     (set_made sets s c.requires.set) (is_made sets s.key c.requires.set) c.requires.there
-    (subst (λ (ps : List BlossomPart). IsRotated (parts_in sets ps) (parts_in sets c.turned_to.result.items)) copied
-    c.turned_to.ensures.turned)
-    c.turned_to.ensures.first
-    (ap (λ (ps : List BlossomPart). parts_in sets ps) (sym c.into_iter-rest.ensures.rest ∙ c.in-Some.ensures.items))
-    (c.in_ok-matches-in-Some.ensures sets)
+    (subst (λ (ps : List BlossomPart). IsRotated (parts_in sets ps) (parts_in sets c.turned_to-rest.result.items)) copied
+    c.turned_to-rest.ensures.turned)
+    c.turned_to-rest.ensures.first
+    (ap (λ (ps : List BlossomPart). parts_in sets ps)
+    (drop_here c.turned_to-rest.result.items 0 c.remove.result (omega (arith, c.remove.ensures.len)) c.remove.ensures.value
+    ∙ ap (λ (ps : List BlossomPart). c.remove.result ∷ ps) (sym (c.into_iter.ensures.rest ∙ c.remove.ensures.items))))
+    (c.in_ok-matches.ensures sets)
