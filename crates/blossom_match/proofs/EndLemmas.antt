@@ -2,7 +2,7 @@
 use Rattle.std.proofs.Common.{◌≡◌, ◌≢◌, ℕ, ◌+◌, ◌*◌, ◌≤◌, ◌<◌, List, [], ◌∷◌, ◌++◌, length, get_or, Bool, cond, eqb, ltb, arith, refl, sym, ap, subst, ◌∙◌}
 use Rattle.std.proofs.lemmas.List.Elements.{All-nil, All-cons}
 use Rattle.std.proofs.lemmas.List.Kept.{AllPairs-cons}
-use Rattle.blossom_match.proofs.Names.{nat_tests, All, AllPairs, eqb-true, eqb-false, ltb-true, ltb-false, Each, DualSet, apart, count, dual_load, match_members, match_dual_sets, IsMatch, IsSoundMatch, stored_height, IsSearch, IsPartialMatching, CanStepAt, IsLeastChange, CanSearch, vertex_set, CanAdjust, Adjusts, BeginsSearch, IsPartialWithHeights, IsOddMoatIn, AreMoatsIn, TakesApartMatches, AreLaminar, IsOptimalMatching, IsOddMoat, TableValue, entry, IsMetric, MatchValue, SearchValue, Moat, Pair, DualChange, matches_in, search_value, count-append, hit_same, EachPair, IsTightMatch, MakesProgress, MatchesAll, IsStepResult}
+use Rattle.blossom_match.proofs.Names.{nat_tests, All, AllPairs, eqb-true, eqb-false, ltb-true, ltb-false, Each, DualSet, count, dual_load, match_members, match_dual_sets, IsMatch, IsSoundMatch, stored_height, IsSearch, IsPartialMatching, CanStepAt, IsLeastChange, CanSearch, vertex_set, CanAdjust, Adjusts, BeginsSearch, IsPartialWithHeights, IsOddMoatIn, AreMoatsIn, TakesApartMatches, AreLaminar, IsOptimalMatching, IsOddMoat, TableValue, entry, IsMetric, MatchValue, SearchValue, Moat, Pair, DualChange, matches_in, search_value, count-append, hit_same, EachPair, IsTightMatch, MakesProgress, MatchesAll, IsStepResult}
 use Rattle.blossom_match.specs.declared.phase.StepResult.{StepResult}
 use Rattle.blossom_match.specs.declared.phase.StepResult.TheVariants.{More, Done}
 use Rattle.blossom_match.proofs.FreeLemmas.{begun}

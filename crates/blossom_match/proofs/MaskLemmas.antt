@@ -1,5 +1,8 @@
 -- Masks that show the places of matches.
-use Rattle.std.proofs.Common.{◌≡◌, ◌≢◌, ℕ, ◌+◌, ◌-◌, ◌≤◌, ◌<◌, List, [], ◌∷◌, ◌++◌, length, take, drop, map, get_or, min, arith, refl, sym, ap, subst, ◌∙◌, length-append}
+use Rattle.std.proofs.Common.{◌≡◌, ◌≢◌, ℕ, ◌+◌, ◌-◌, ◌≤◌, ◌<◌, List, [], ◌∷◌, ◌++◌, length, take, drop, map, get_or, min, Option, Some, None, ⊎_elim, arith, refl, sym, ap, subst, ◌∙◌, length-append}
+use Rattle.std.proofs.lemmas.List.FromFn.{get_or-range_with_len, length-range_with_len}
+use Rattle.std.specs.List.{AllWithin, HoldsAt, range_with_len}
+use Rattle.std.specs.Option.{MatchOption, unwrap_or}
 use Rattle.blossom_match.proofs.Names.{nat_tests, cases_lt, length-map, take-append-drop, drop-append_seam, count, match_members, stored_height, Advances, CanStepAt, ExpandsBranch, GrowsBranch, IsSearch, SetsCells, branch_members, masked_slack, IsMaskedSlack, IsSearchMask, TableValue, BranchValue, MatchValue, SearchValue, SearchStep, FAR, take_here, count-append, members-append, members_push, by_count, by_either, get_or-drop, get_or-take, IsMask, mapped_at, match_here}
 use Rattle.blossom_match.proofs.SearchLemmas.{is_one, place_in}
 
@@ -174,3 +177,28 @@ block_next hs reach mask at n least slack more low was x lx =
     let there : at + i ≡ x = omega (arith, past) in
     absurd (grind (arith, nat_tests, more, low i here, block_slack hs reach mask at n i here, same)))
     (cases_lt x at)
+
+-- the first place of a list that shows the slack is found, if there is one
+abbrev pub FindsShown : List ℕ → List ℕ → List ℕ → ℕ → List ℕ → Option ℕ → Type 0
+FindsShown hs reach mask slack places r = MatchOption r (AllWithin (λ x. slack ≢ masked_slack hs reach mask x) places 0 (length places))
+    (λ x. (slack ≡ masked_slack hs reach mask x)
+    × (i : ℕ) × (i < length places) × HoldsAt (λ y. y ≡ x) places i × AllWithin (λ y. slack ≢ masked_slack hs reach mask y) places 0 i)
+
+-- the first place from the start that shows the slack, or the last one where no place before it does
+pub shown_or_last : (hs reach mask : List ℕ) (slack start last at : ℕ) (r : Option ℕ) → last ≡ length reach - 1
+    → IsMaskedSlack hs reach mask slack → ((x : ℕ) → x < start → slack ≢ masked_slack hs reach mask x)
+    → FindsShown hs reach mask slack (range_with_len start (last - start)) r → at ≡ unwrap_or r last
+    → slack ≡ masked_slack hs reach mask at
+shown_or_last hs reach mask slack start last at (Some x) ends there before is found = rw found is.0
+shown_or_last hs reach mask slack start last at None ends there before is found =
+    ⊎_elim (λ low. absurd (before there.place low there.exact))
+    (λ high. ⊎_elim
+    (λ low.
+    let at_start : there.place ≡ start + (there.place - start) = omega (arith, high) in
+    absurd (is (there.place - start) 0 (omega arith) (omega (arith, high, low, length-range_with_len start (last - start)))
+    (rw (get_or-range_with_len start (last - start) (there.place - start) 0 (omega (arith, high, low)), sym at_start) there.exact)))
+    (λ more.
+    let at_last : there.place ≡ at = omega (arith, more, ends, found, there.within) in
+    subst (λ (x : ℕ). slack ≡ masked_slack hs reach mask x) at_last there.exact)
+    (cases_lt there.place last))
+    (cases_lt there.place start)

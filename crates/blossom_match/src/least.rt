@@ -182,12 +182,11 @@ fn place_shown(heights: &[u32], reach: &[u32], mask: &[u32], slack: u32) -> u32
     ensures within { result < length reach.now }
     ensures exact { slack ≡ masked_slack heights.now reach.now mask.now result }
 {
-    for x in block_shown(heights, reach, mask, slack)..reach.len() {
-        if lower_slack(heights[x], reach[x]).max(mask[x]) == slack {
-            return x as u32;
-        }
-    }
-    unreachable!()
+    let last = reach.len() - 1;
+    let place = (block_shown(heights, reach, mask, slack)..last)
+        .find(|x| lower_slack(heights[*x], reach[*x]).max(mask[*x]) == slack)
+        .unwrap_or(last);
+    place as u32
 }
 
 /// Returns the start of the first block that shows the slack or less, or the last block's end.

@@ -119,16 +119,15 @@ pub fn take_place(places: &mut Vec<u32>, place: u32)
     let _taken = places.remove(at);
 }
 
-/// Returns the index of a vertex in a list that has it.
+/// Returns the index of a vertex in a list that has it: the last index where the vertex is at no earlier one.
 fn index_of(places: &[u32], place: u32) -> usize
     requires { 1 ≤ count place places.now }
     ensures within { result < length places.now }
     ensures there { slice_index places.now result ≡ place }
 {
-    for (i, x) in places.iter().enumerate() {
-        if *x == place {
-            return i;
-        }
-    }
-    unreachable!()
+    let last = places.len() - 1;
+    places[..last]
+        .iter()
+        .position(|x| *x == place)
+        .unwrap_or(last)
 }

@@ -1,4 +1,4 @@
-use Rattle.std.proofs.Common.{arith, length-append, length, ◌∷◌, []}
+use Rattle.std.proofs.Common.{arith, length-append, ◌∷◌, []}
 use Rattle.blossom_match.proofs.Names.{nat_tests}
 use Rattle.blossom_match.proofs.EndLemmas.{places_more}
 use Rattle.blossom_match.proofs.initial_duals.all_places.Goals as goal
