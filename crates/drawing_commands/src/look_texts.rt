@@ -7,7 +7,6 @@ ghost use Rattle.std.specs.Prelude.{◌≡◌, ◌++◌, ◌+◌, IfOk, OnOk, co
 use drawing_review::{Place, PlaceKind};
 use line_graph::Piece;
 use lists_and_numbers::{Bytes, Memory};
-use odd_cuts::first_lent;
 use odd_paths::odd;
 use piece_stitches::{PieceStitches, StitchSummary, thread_of, travel_of};
 use std::alloc::Global;
@@ -58,7 +57,10 @@ fn put_pieces(
     let mut index: usize = 0;
     let mut rest = pieces;
     let mut left = stitches;
-    while let (Some((piece, more)), Some((its, others))) = (first_lent(rest), first_lent(left)) {
+    while let (Some((piece, more)), Some((its, others))) = (
+        rest.split_first(),
+        left.split_first(),
+    ) {
         put_piece(alloc, text, index, piece, its)?;
         index += 1;
         rest = more;

@@ -6,7 +6,6 @@ ghost use Rattle.step_splitter.specs.declared.segment.TheConstants.{MAX_STEP as 
 
 use crate::drawing::Drawing;
 use design_model::{Point, Points};
-use line_sections::first_point;
 use lists_and_numbers::Memory;
 use std::alloc::Global;
 use step_splitter::split_into;
@@ -31,11 +30,11 @@ fn needles_along(alloc: Global, points: &[Point], step: u32) -> Result<Points, M
     ensures along { IfOk result (LeadAlong step points.now) }
 {
     let mut needles = Points::new(alloc);
-    let Some((first, after)) = first_point(points) else {
+    let Some((first, after)) = points.split_first() else {
         return Ok(needles);
     };
-    needles.push(first)?;
-    let mut before = first;
+    needles.push(*first)?;
+    let mut before = *first;
     for next in after {
         split_into(&mut needles, before, *next, step)?;
         before = *next;

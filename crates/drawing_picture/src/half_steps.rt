@@ -5,7 +5,6 @@ ghost use Rattle.step_splitter.specs.Chains.{IsNeedlePoint};
 use design_model::{Point, Points};
 use drawing_model::{Drawing, needles};
 use lists_and_numbers::Memory;
-use odd_cuts::first_and_rest;
 use std::alloc::Global;
 
 /// Returns the half steps of a line from its first point, in half tenths of a millimetre.
@@ -23,10 +22,10 @@ fn half_steps(alloc: Global, needles: &[Point]) -> Result<Points, Memory>
     ensures { IfOk result (λ points. points ≡ half_steps_along needles.now) }
 {
     let mut points = Points::new(alloc);
-    let Some((first, after)) = first_and_rest(needles) else {
+    let Some((first, after)) = needles.split_first() else {
         return Ok(points);
     };
-    let mut before = first;
+    let mut before = *first;
     for next in after {
         points.push(middle(before, before))?;
         points.push(middle(before, *next))?;

@@ -6,7 +6,6 @@ ghost use Rattle.std.specs.Prelude.{◌≡◌, ◌++◌, OnOk};
 use design_model::Point;
 use line_sections::Line;
 use lists_and_numbers::{Bytes, Memory};
-use odd_cuts::first_and_rest;
 use picture_parts::{put_coloured_path, put_move, put_path_end, put_straight, thread_colour};
 
 /// Appends the paths of lines, where the blocks have the given threads.
@@ -42,10 +41,10 @@ fn colour_in(threads: &[u8], block: u32) -> &'static [u8]
 fn put_path(text: &mut Bytes, points: &[Point]) -> Result<(), Memory>
     ensures { OnOk result (text.new ≡ text.old ++ path_text points.now) }
 {
-    let Some((first, after)) = first_and_rest(points) else {
+    let Some((first, after)) = points.split_first() else {
         return Ok(());
     };
-    put_move(text, first)?;
+    put_move(text, *first)?;
     put_stitches(text, after)?;
     Ok(())
 }

@@ -6,7 +6,7 @@ ghost use Rattle.step_splitter.specs.Chains.{last_point_or};
 use crate::end_groups::BlockEnds;
 use design_model::{Point, Points};
 use drawing_review::{LineSegment, Position, segment_at};
-use line_sections::{Line, first_point};
+use line_sections::Line;
 use lists_and_numbers::Memory;
 use std::alloc::Global;
 use std::collections::VecDeque;
@@ -77,11 +77,11 @@ fn put_ends_if_in(ends: &mut Points, line: &Line, block: u32) -> Result<(), Memo
 fn put_ends(ends: &mut Points, points: &[Point]) -> Result<(), Memory>
     ensures { OnOk result (ends.new ≡ ends.old ++ endpoints points.now) }
 {
-    let Some((first, after)) = first_point(points) else {
+    let Some((first, after)) = points.split_first() else {
         return Ok(());
     };
-    ends.push(first)?;
-    ends.push(last_or(first, after))?;
+    ends.push(*first)?;
+    ends.push(last_or(*first, after))?;
     Ok(())
 }
 
@@ -128,10 +128,10 @@ fn with_due(
     ensures listed { IfOk result (λ listed. listed ≡ with_due_ends gap ends.now points.now) }
     ensures added { OnOk result (added.new ≡ added.old ++ due_ends gap ends.now points.now) }
 {
-    let Some((first, after)) = first_point(points) else {
+    let Some((first, after)) = points.split_first() else {
         return Ok(Points::new(alloc));
     };
-    let line = follow(alloc, gap, ends, first, after)?;
+    let line = follow(alloc, gap, ends, *first, after)?;
     added.append(line.added.as_slice())?;
     line.finish()
 }

@@ -7,7 +7,7 @@ ghost use Rattle.std.specs.Prelude.{◌≡◌, ◌++◌, ◌∷◌, [], IfOk, On
 use crate::anchors::Anchors;
 use crate::snap_fault::VanishedLine;
 use design_model::{Point, Points};
-use line_sections::{Line, first_point};
+use line_sections::Line;
 use lists_and_numbers::Memory;
 use std::alloc::Global;
 
@@ -146,11 +146,11 @@ fn without_repeats(alloc: Global, points: &[Point]) -> Result<Points, Memory>
     ensures { IfOk result (λ kept. kept ≡ unrepeated points.now) }
 {
     let mut kept = Points::new(alloc);
-    let Some((first, after)) = first_point(points) else {
+    let Some((first, after)) = points.split_first() else {
         return Ok(kept);
     };
-    kept.push(first)?;
-    let mut last = first;
+    kept.push(*first)?;
+    let mut last = *first;
     let mut rest = after;
     while let [p, after @ ..] = rest {
         last = put_unless_same(&mut kept, last, *p)?;

@@ -4,7 +4,7 @@ ghost use Rattle.std.specs.Prelude.{◌≡◌, ◌++◌, IfOk, OnOk, true, lengt
 
 use crate::segment::{LineSegment, Position, segment_at};
 use design_model::Point;
-use line_sections::{Line, first_point};
+use line_sections::Line;
 use lists_and_numbers::Memory;
 use std::alloc::Global;
 
@@ -26,10 +26,10 @@ fn put_line(index: usize, line: &Line, segments: &mut Vec<LineSegment>) -> Resul
     ensures { OnOk result (segments.new.items ≡ segments.old.items
         ++ segments_of_line index (length segments.old.items) line.now line.now.points) }
 {
-    let Some((first, after)) = first_point(line.points()) else {
+    let Some((first, after)) = line.points().split_first() else {
         return Ok(());
     };
-    put_points(line.block(), index, first, after, segments)?;
+    put_points(line.block(), index, *first, after, segments)?;
     Ok(())
 }
 

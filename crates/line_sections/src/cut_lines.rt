@@ -7,7 +7,6 @@ ghost use Rattle.std.specs.Prelude.{◌≡◌, ◌&&◌, ◌++◌, ◌∷◌, []
 
 use crate::line::Line;
 use crate::listed_points::{is_cut, listed_points};
-use crate::points::first_point;
 use crate::spot::Spot;
 use design_model::{Point, Points};
 use lists_and_numbers::Memory;
@@ -53,10 +52,10 @@ fn put_sections(
         ≡ sections.old.items ++ sections_by (get is_same_spot marks.now) line.now) }
 {
     let block = line.block();
-    let Some((first, after)) = first_point(line.points()) else {
+    let Some((first, after)) = line.points().split_first() else {
         return Ok(());
     };
-    let mut section = begun(alloc, first)?;
+    let mut section = begun(alloc, *first)?;
     let mut rest = after;
     while let [at, after @ ..] = rest {
         section.push(*at)?;

@@ -4,7 +4,6 @@ ghost use Rattle.std.specs.List.{count_by, list_all};
 ghost use Rattle.std.specs.Prelude.{◌≡◌, ◌≤◌, ◌&&◌};
 
 use crate::line::Line;
-use crate::points::first_point;
 use design_model::Point;
 
 /// Returns whether the lines meet only at their ends: no point inside a line is listed at another place of
@@ -32,12 +31,12 @@ fn is_whole(lines: &[Line], line: &Line) -> bool
     ensures { result ≡ is_whole_line lines.now line.now }
 {
     let block = line.block();
-    let Some((_, after)) = first_point(line.points()) else {
+    let Some((_, after)) = line.points().split_first() else {
         return true;
     };
     let mut rest = after;
-    while let Some((at, after)) = first_point(rest) {
-        if is_cut(lines, block, at, after) {
+    while let Some((at, after)) = rest.split_first() {
+        if is_cut(lines, block, *at, after) {
             return false;
         }
         rest = after;

@@ -11,7 +11,6 @@ use crate::cut::Cut;
 use crate::faults::CutFault;
 use crate::held_junctions::{MAX_JUNCTIONS, count_odd, held_by, parities_of};
 use crate::line_loads::{add_shares, check_loads};
-use crate::slices::first_lent;
 use drawing_model::MAX_LINES;
 use line_graph::Piece;
 
@@ -49,7 +48,7 @@ fn loads_of(p: &Piece, cuts: &[Cut]) -> Result<[u64; MAX_LINES], CutFault>
     let mut loads = [0; MAX_LINES];
     let mut number = 1;
     let mut rest = cuts;
-    while let Some((cut, after)) = first_lent(rest) {
+    while let Some((cut, after)) = rest.split_first() {
         let held = check_cut(p, parities.as_slice(), number, cut)?;
         add_shares(&mut loads, p.edges.as_slice(), &held, cut);
         number += 1;

@@ -11,7 +11,6 @@ mod held_junctions;
 mod line_indexes;
 mod line_loads;
 mod passed_lines;
-mod slices;
 mod theorems;
 mod walk_check;
 
@@ -20,7 +19,6 @@ pub use cut::{Cut, Cuts};
 pub use cut_check::check_cuts;
 pub use fault_theorems::{cut_faults_are_exact, walk_faults_are_exact};
 pub use faults::{CutFault, WalkFault};
-pub use slices::{first_and_rest, first_lent};
 pub use theorems::{
     packings_are_over_lines, packings_bound_walks, packings_keep_their_total, packings_prove_least,
 };

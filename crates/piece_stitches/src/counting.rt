@@ -9,7 +9,6 @@ use crate::travelling::travel;
 use drawing_model::Drawing;
 use line_graph::{Piece, pieces_keep_limits};
 use lists_and_numbers::{Items, Memory};
-use odd_cuts::first_lent;
 use std::alloc::Global;
 
 /// The stitches of a piece, each line sewn once, and the travel to it from the piece before, in thousandths of a
@@ -44,13 +43,13 @@ fn listed(alloc: Global, d: &Drawing, pieces: &[Piece]) -> Result<Items<PieceSti
     ensures few { IfOk result (λ all. length all ≤ MAX_LINES) }
 {
     let mut all = Items::new(alloc);
-    let Some((first, more)) = first_lent(pieces) else {
+    let Some((first, more)) = pieces.split_first() else {
         return Ok(all);
     };
     put_stitches(alloc, d, first, 0, &mut all)?;
     let mut before = first;
     let mut rest = more;
-    while let Some((piece, more)) = first_lent(rest) {
+    while let Some((piece, more)) = rest.split_first() {
         put_stitches(alloc, d, piece, travel(before, piece), &mut all)?;
         before = piece;
         rest = more;

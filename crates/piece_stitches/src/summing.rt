@@ -7,9 +7,7 @@ ghost use Rattle.std.specs.Prelude.{◌≡◌, ◌+◌, ◌*◌, ◌^◌, ◌<�
 use crate::stitch_summary::StitchSummary;
 use design_model::Point;
 use drawing_model::{Drawing, needles};
-use line_sections::first_point;
 use lists_and_numbers::Memory;
-use odd_cuts::first_and_rest;
 use picture_parts::length_between;
 use std::alloc::Global;
 
@@ -22,8 +20,8 @@ pub fn summary_of(alloc: Global, d: &Drawing, lines: &[u32]) -> Result<StitchSum
 {
     let mut summary = none();
     let mut rest = lines;
-    while let Some((line, after)) = first_and_rest(rest) {
-        summary = with_line(alloc, d, summary, line)?;
+    while let Some((line, after)) = rest.split_first() {
+        summary = with_line(alloc, d, summary, *line)?;
         rest = after;
     }
     Ok(summary)
@@ -69,10 +67,10 @@ fn with_needles(summary: StitchSummary, needles: &[Point]) -> StitchSummary
     ensures sound { IsSummary result }
     ensures few { result.stitches ≤ summary.stitches + length needles.now }
 {
-    let Some((first, after)) = first_point(needles) else {
+    let Some((first, after)) = needles.split_first() else {
         return summary;
     };
-    with_needles_after(summary, first, after)
+    with_needles_after(summary, *first, after)
 }
 
 fn with_needles_after(summary: StitchSummary, first: Point, needles: &[Point]) -> StitchSummary

@@ -8,7 +8,6 @@ ghost use Rattle.std.specs.Prelude.{◌≡◌, ◌<◌, ◌+◌, ◌-◌, ◌∷
 use blossom_match::Pair;
 use line_graph::Piece;
 use lists_and_numbers::{Memory, Numbers};
-use odd_cuts::first_and_rest;
 use odd_paths::Rows;
 use std::alloc::Global;
 
@@ -29,8 +28,8 @@ pub(crate) fn copies_of(
 {
     let mut copies = vec![in alloc; 0; p.edges.len()]?;
     let mut rest = pairs;
-    while let Some((pair, after)) = first_and_rest(rest) {
-        add_pair(alloc, &mut copies, p, rows, terminals, pair)?;
+    while let Some((pair, after)) = rest.split_first() {
+        add_pair(alloc, &mut copies, p, rows, terminals, *pair)?;
         rest = after;
     }
     Ok(copies)
@@ -85,8 +84,8 @@ fn add_places(copies: &mut Vec<u32>, places: &[u32])
     ensures { AddsCopies copies.old.items places.now copies.new.items }
 {
     let mut rest = places;
-    while let Some((k, after)) = first_and_rest(rest) {
-        add_one(copies, k as usize);
+    while let Some((k, after)) = rest.split_first() {
+        add_one(copies, *k as usize);
         rest = after;
     }
 }

@@ -16,7 +16,7 @@ use cut_certificate::lift;
 use euler_tour::tour;
 use line_graph::{Piece, Walk};
 use lists_and_numbers::Memory;
-use odd_cuts::{PieceCert, first_and_rest, packings_keep_their_total, packings_prove_least};
+use odd_cuts::{PieceCert, packings_keep_their_total, packings_prove_least};
 use odd_paths::{Rows, odd, odds_are_even, rows};
 use std::alloc::Global;
 
@@ -85,8 +85,8 @@ fn cost_of_pairs(p: &Piece, rows: &Rows, odds: &[u32], pairs: &[Pair]) -> u32
 {
     let mut cost = 0;
     let mut rest = pairs;
-    while let Some((pair, after)) = first_and_rest(rest) {
-        cost += cost_of_pair(p, rows, odds, pair);
+    while let Some((pair, after)) = rest.split_first() {
+        cost += cost_of_pair(p, rows, odds, *pair);
         rest = after;
     }
     cost

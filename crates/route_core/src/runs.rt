@@ -8,7 +8,7 @@ use crate::routed::Routed;
 use drawing_model::Drawing;
 use line_graph::{Piece, fitting_walks_are_sewable, pieces_keep_limits};
 use lists_and_numbers::Memory;
-use odd_cuts::{Cert, PieceCert, PieceCerts, first_lent, packings_keep_their_total};
+use odd_cuts::{Cert, PieceCert, PieceCerts, packings_keep_their_total};
 use route_verdict::sew;
 use std::alloc::Global;
 
@@ -48,7 +48,7 @@ fn certs_of(alloc: Global, kind: RunKind, pieces: &[Piece]) -> Result<PieceCerts
 {
     let mut certs = PieceCerts::new(alloc);
     let mut rest = pieces;
-    while let Some((piece, after)) = first_lent(rest) {
+    while let Some((piece, after)) = rest.split_first() {
         certs.push(cert_of(alloc, kind, piece)?)?;
         rest = after;
     }

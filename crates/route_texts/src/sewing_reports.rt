@@ -6,7 +6,7 @@ ghost use Rattle.std.specs.Prelude.{◌≡◌, ◌<◌, ◌≤◌, ◌^◌, All,
 
 use line_graph::Piece;
 use lists_and_numbers::{Bytes, Items, Memory};
-use odd_cuts::{PieceCert, first_lent};
+use odd_cuts::PieceCert;
 use std::alloc::Global;
 
 /// A way to sew the pieces of a drawing.
@@ -57,8 +57,8 @@ pub(crate) fn reports_of(
     let mut number = 1;
     let mut rest = pieces;
     let mut left = certs;
-    while let Some((piece, more)) = first_lent(rest) {
-        let Some((cert, after)) = first_lent(left) else {
+    while let Some((piece, more)) = rest.split_first() {
+        let Some((cert, after)) = left.split_first() else {
             return Ok(reports);
         };
         reports.push(report_of(piece, number, cert))?;

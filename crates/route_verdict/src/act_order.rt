@@ -13,7 +13,7 @@ use crate::walk_needles::walk_needles;
 use design_model::{Act, NumberedAct, Point};
 use drawing_model::Drawing;
 use lists_and_numbers::Memory;
-use odd_cuts::{PieceCert, first_and_rest, first_lent};
+use odd_cuts::PieceCert;
 use std::alloc::Global;
 
 /// Returns the number of the first act that isn't the one that sews the walks of the given certificates, if
@@ -33,7 +33,7 @@ pub(crate) fn first_difference(
     let mut at = 0;
     let mut before = 0;
     let mut rest = certs;
-    while let Some((cert, after)) = first_lent(rest) {
+    while let Some((cert, after)) = rest.split_first() {
         let points = walk_needles(alloc, d, cert.walk.as_slice())?;
         let block = block_of_walk(d, cert.walk.as_slice());
         match pass_run(acts, at, block.saturating_sub(before), points.as_slice()) {
@@ -91,12 +91,12 @@ fn pass_needles(acts: &[NumberedAct], at: u32, points: &[Point]) -> Result<u32, 
 {
     let mut next = at;
     let mut rest = points;
-    while let Some((point, after)) = first_and_rest(rest) {
+    while let Some((point, after)) = rest.split_first() {
         next = pass(
             acts,
             next,
             Act::Needle {
-                at: point,
+                at: *point,
                 float: false,
             },
         )?;

@@ -1,5 +1,3 @@
-ghost use Rattle.design_model.specs.Commands.{is_command_in_range};
-ghost use Rattle.design_model.specs.Designs.{with_command};
 ghost use Rattle.design_model.specs.LongerDesigns.{with_commands};
 ghost use Rattle.design_model.specs.declared.command.Command.TheVariants.{Stitch, Stop};
 ghost use Rattle.design_model.specs.declared.design.TheConstants.{MAX_COMMANDS};
@@ -7,15 +5,15 @@ ghost use Rattle.line_graph.specs.Runs.{block_of_passes, commands_after, runs_of
 ghost use Rattle.line_graph.specs.Walks.{needles_of_walk};
 ghost use Rattle.odd_cuts.specs.Certificates.{walks_of};
 ghost use Rattle.route_verdict.specs.SewingSteps.{AllDrawn, AreDrawn, run_commands};
-ghost use Rattle.std.specs.Prelude.{◌≡◌, ◌<◌, ◌≤◌, ◌+◌, ◌-◌, All, IfOk, OnOk, [], length, map, replicate, true};
+ghost use Rattle.std.specs.Prelude.{◌≡◌, ◌≤◌, ◌+◌, ◌-◌, All, IfOk, OnOk, [], length, map, replicate};
 ghost use Rattle.step_splitter.specs.Chains.{IsNeedlePoint};
 
 use crate::walk_needles::walk_needles;
-use design_model::{Command, Design, ModelFault, Point};
+use design_model::{Command, Design, Point};
 use drawing_model::{Drawing, needles_lead_along};
 use line_graph::Pass;
 use lists_and_numbers::Memory;
-use odd_cuts::{Cert, PieceCert, first_and_rest, first_lent};
+use odd_cuts::{Cert, PieceCert};
 use std::alloc::Global;
 
 /// Returns the design that sews a drawing by the walks of a certificate. The design has the drawing's label
@@ -63,7 +61,7 @@ fn sew_walks(
 {
     let mut before = 0;
     let mut rest = pieces;
-    while let Some((piece, after)) = first_lent(rest) {
+    while let Some((piece, after)) = rest.split_first() {
         before = sew_walk(alloc, design, d, before, piece.walk.as_slice())?;
         rest = after;
     }
@@ -99,7 +97,7 @@ pub(crate) fn block_of_walk(d: &Drawing, walk: &[Pass]) -> u32
     requires { AreDrawn d.now walk.now }
     ensures { result ≡ block_of_passes d.now walk.now }
 {
-    match first_and_rest(walk) {
+    match walk.split_first() {
         Some((pass, _)) => d.line_block(pass.line),
         None => 0,
     }
@@ -115,7 +113,7 @@ fn sew_run(design: &mut Design, before: u32, block: u32, points: &[Point]) -> Re
 {
     add_stops(design, before, block)?;
     add_stitches(design, points)?;
-    add(design, Command::Trim)?;
+    design.add(Command::Trim)?;
     Ok(())
 }
 
@@ -126,7 +124,7 @@ fn add_stops(design: &mut Design, before: u32, block: u32) -> Result<(), Memory>
         (replicate (block - before) Stop)) }
 {
     for _ in before..block {
-        add(design, Command::Stop)?;
+        design.add(Command::Stop)?;
     }
     Ok(())
 }
@@ -137,20 +135,7 @@ fn add_stitches(design: &mut Design, points: &[Point]) -> Result<(), Memory>
     ensures { OnOk result (design.new ≡ with_commands design.old (map (λ p. Stitch p) points.now)) }
 {
     for point in points {
-        add(design, Command::Stitch(*point))?;
+        design.add(Command::Stitch(*point))?;
     }
     Ok(())
-}
-
-fn add(design: &mut Design, command: Command) -> Result<(), Memory>
-    requires in_range { is_command_in_range command ≡ true }
-    requires room { length design.old.commands < MAX_COMMANDS }
-    ensures { OnOk result (design.new ≡ with_command design.old command) }
-{
-    match design.push(command) {
-        Ok(()) => Ok(()),
-        Err(ModelFault::Memory) => Err(Memory),
-        Err(ModelFault::Range) => unreachable!(),
-        Err(ModelFault::TooMany) => unreachable!(),
-    }
 }

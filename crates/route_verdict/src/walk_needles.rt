@@ -6,7 +6,6 @@ use design_model::{Point, Points};
 use drawing_model::{Drawing, needles};
 use line_graph::Pass;
 use lists_and_numbers::Memory;
-use odd_cuts::first_and_rest;
 use std::alloc::Global;
 
 /// Returns the needle points of a walk: those of its passes in order. A point that ends one pass and starts
@@ -15,10 +14,10 @@ pub(crate) fn walk_needles(alloc: Global, d: &Drawing, walk: &[Pass]) -> Result<
     requires { AreDrawn d.now walk.now }
     ensures { IfOk result (λ points. points ≡ needles_of_walk d.now walk.now) }
 {
-    let Some((first, after)) = first_and_rest(walk) else {
+    let Some((first, after)) = walk.split_first() else {
         return Ok(Points::new(alloc));
     };
-    let mut points = pass_needles(alloc, d, first)?;
+    let mut points = pass_needles(alloc, d, *first)?;
     add_later(alloc, &mut points, d, after)?;
     Ok(points)
 }

@@ -5,7 +5,7 @@ ghost use Rattle.std.specs.HashSet.{contains};
 ghost use Rattle.std.specs.Prelude.{◌≡◌, ◌||◌, IfOk, OnOk};
 
 use drawing_repairs::last_or;
-use line_sections::{Line, Spot, first_point};
+use line_sections::{Line, Spot};
 use lists_and_numbers::Memory;
 use std::alloc::Global;
 use std::collections::HashSet;
@@ -26,11 +26,11 @@ fn put_ends(junctions: &mut HashSet<Spot>, section: &Line) -> Result<(), Memory>
         ≡ (has_end_at_spot spot section.now || contains is_same_spot junctions.old spot)) }
 {
     let block = section.block();
-    let Some((first, after)) = first_point(section.points()) else {
+    let Some((first, after)) = section.points().split_first() else {
         return Ok(());
     };
-    let last = last_or(first, after);
-    junctions.insert(Spot { block, at: first })?;
+    let last = last_or(*first, after);
+    junctions.insert(Spot { block, at: *first })?;
     junctions.insert(Spot { block, at: last })?;
     Ok(())
 }

@@ -10,7 +10,7 @@ ghost use Rattle.std.specs.Prelude.{◌≡◌, ◌++◌, ◌∷◌, [], List, If
 use design_model::{Point, Points};
 use drawing_repairs::{distance, lone_segment};
 use drawing_review::{LineSegment, comes_near, counted_from_least};
-use line_sections::{Line, Spot, first_point};
+use line_sections::{Line, Spot};
 use lists_and_numbers::Memory;
 use std::alloc::Global;
 use std::collections::HashSet;
@@ -47,10 +47,10 @@ fn spaced_in(
     ensures { IfOk result (λ kept. kept ≡ spaced_points
         (is_spot_of (contains is_same_spot spots.now) block) step points.now) }
 {
-    let Some((first, after)) = first_point(points) else {
+    let Some((first, after)) = points.split_first() else {
         return Ok(Points::new(alloc));
     };
-    spaced_from(alloc, step, spots, block, first, after)
+    spaced_from(alloc, step, spots, block, *first, after)
 }
 
 /// Returns the points that a line keeps, from its first one and those after it.
@@ -67,14 +67,14 @@ fn spaced_from(
 {
     let mut kept = Points::new(alloc);
     kept.push(first)?;
-    let Some((second, rest)) = first_point(after) else {
+    let Some((second, rest)) = after.split_first() else {
         return Ok(kept);
     };
     let mut line = SpacedLine {
         kept,
         last: first,
         since: Points::new(alloc),
-        at: second,
+        at: *second,
     };
     line.pass_all(alloc, step, spots, block, rest)?;
     line.finish()

@@ -5,8 +5,8 @@ use Rattle.drawing_model.proofs.needle_points.needles_along.Goals as goal
 
 pub loop-next-init : goal.loop-next-init
 loop-next-init c =
-    let one : c.push.new.self ≡ c.in-Some.first ∷ [] = search rules in
-    rw one (first_sewn c.args.step c.args.points.now c.in-Some.first c.in-Some.after.now c.in-Some.ensures.some c.requires.line)
+    let one : c.push.new.self ≡ c.in-Some.first.now ∷ [] = search rules in
+    rw one (first_sewn c.args.step c.args.points.now c.in-Some.first.now c.in-Some.after.now c.in-Some.ensures.cases.0 c.requires.line)
 
 pub split_into-requires-clause-to : goal.split_into-requires-clause-to
 split_into-requires-clause-to c =

@@ -4,7 +4,7 @@ use Rattle.route_core.proofs.piece_route.cost_of_pairs.Goals as goal
 
 pub loop-pair-preserved : goal.loop-pair-preserved
 loop-pair-preserved c = record {
-  there = All-tail (IsPairOf c.args.rows.now) c.in-Some.pair c.in-Some.after.now
-      (subst (λ (qs : List Pair). All (IsPairOf c.args.rows.now) qs) c.in-Some.ensures.some c.loop-pair.invariant.there);
-  whole = grind (arith, nat_tests, ap, c.in-Some.ensures.some, c.cost_of_pair-cost.ensures, c.loop-pair.invariant.whole);
+  there = All-tail (IsPairOf c.args.rows.now) c.in-Some.pair.now c.in-Some.after.now
+      (subst (λ (qs : List Pair). All (IsPairOf c.args.rows.now) qs) c.in-Some.ensures.cases.0 c.loop-pair.invariant.there);
+  whole = grind (arith, nat_tests, ap, c.in-Some.ensures.cases.0, c.cost_of_pair-cost.ensures, c.loop-pair.invariant.whole);
 }
