@@ -14,7 +14,7 @@ use crate::running::{PROGRAM, run};
 use dst_codec::Dst;
 use exp_codec::Exp;
 use format_traits::Format;
-use pes_codec::{Pec, Pes};
+use pec_pes_codec::{Pec, Pes};
 use program_shell::start;
 use std::process::ExitCode;
 use stitch_text::List;

@@ -6,7 +6,7 @@ use design_model::{Command, Point};
 use format_traits::ReadFault::{self, Range, Short};
 use format_traits::{Fed, Loaded, WriteFault};
 use lists_and_numbers::{Bytes, MAX_FILE, Memory};
-use pec_codec::{BlockReader, read_block, write_block};
+use pec_block::{BlockReader, read_block, write_block};
 use std::alloc::Global;
 use std::process::Abort;
 use std::test::Fail;

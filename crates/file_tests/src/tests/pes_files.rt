@@ -5,7 +5,7 @@ use design_model::{Command, Design, ModelFault, Point};
 use format_traits::ReadFault::{self, Short, Signature};
 use format_traits::{Format, Loaded};
 use lists_and_numbers::{Bytes, Memory};
-use pes_codec::{Pec, Pes};
+use pec_pes_codec::{Pec, Pes};
 use std::alloc::Global;
 use std::process::Abort;
 use std::test::Fail;
