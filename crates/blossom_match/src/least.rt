@@ -182,6 +182,7 @@ fn place_shown(heights: &[u32], reach: &[u32], mask: &[u32], slack: u32) -> u32
     ensures within { result < length reach.now }
     ensures exact { slack ≡ masked_slack heights.now reach.now mask.now result }
 {
+    // If no earlier vertex shows the slack, the last one does.
     let last = reach.len() - 1;
     let place = (block_shown(heights, reach, mask, slack)..last)
         .find(|x| lower_slack(heights[*x], reach[*x]).max(mask[*x]) == slack)

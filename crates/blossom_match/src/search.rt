@@ -119,12 +119,13 @@ pub fn take_place(places: &mut Vec<u32>, place: u32)
     let _taken = places.remove(at);
 }
 
-/// Returns the index of a vertex in a list that has it: the last index where the vertex is at no earlier one.
+/// Returns the index of a vertex in a list that has it.
 fn index_of(places: &[u32], place: u32) -> usize
     requires { 1 ≤ count place places.now }
     ensures within { result < length places.now }
     ensures there { slice_index places.now result ≡ place }
 {
+    // If the vertex is at no earlier index, it is at the last one.
     let last = places.len() - 1;
     places[..last]
         .iter()

@@ -13,12 +13,13 @@ use lists_and_numbers::Memory;
 use std::alloc::Global;
 use std::collections::VecDeque;
 
-/// Returns the index of the part that holds a vertex: the last part where no earlier one does.
+/// Returns the index of the part that holds a vertex.
 pub fn part_with(sets: &Sets, parts: &[BlossomPart], place: u32) -> usize
     requires { 1 ≤ count place (members_in (parts_in sets.now parts.now)) }
     ensures within { result < length parts.now }
     ensures there { PartHoldsAt place (parts_in sets.now parts.now) result }
 {
+    // If no earlier part holds the vertex, the last one does.
     let last = parts.len() - 1;
     parts[..last]
         .iter()

@@ -48,7 +48,7 @@ pub fn pair_off(alloc: Global, parts: std::vec::IntoIter<BlossomPart>) -> Result
     Ok(out)
 }
 
-/// Returns the index of the match that holds a vertex: the last match where no earlier one does.
+/// Returns the index of the match that holds a vertex.
 fn match_with(sets: &Sets, matches: &[Match], place: u32) -> usize
     requires { 1 ≤ count place (match_members (matches_in sets.now matches.now)) }
     ensures within { result < length matches.now }
@@ -57,6 +57,7 @@ fn match_with(sets: &Sets, matches: &[Match], place: u32) -> usize
     if let Some(i) = match_from(sets, matches, place) {
         return i;
     }
+    // If no earlier match holds the vertex, the last one does.
     let last = matches.len() - 1;
     matches[..last]
         .iter()
